@@ -1,0 +1,4 @@
+pub mod Magnitude
+pub mod DataModel
+pub mod Bins
+pub mod Answers

@@ -23,6 +23,14 @@ finestBin w = howMany (λ b. ltb (2 ^ (b + 1)) (w ^ 1024)) (3 * 2 ^ 20)
 abbrev pub binAt : ℕ → ℕ → ℕ
 binAt level w = finestBin w / 2 ^ (finest - level)
 
+-- the bins of finite f64s at a level run from that of 2 ^ -1074 to that of the greatest f64, the last below `endBin`
+-- (the laws `lowest-is` and `highest-is`)
+abbrev pub lowestBin : ℕ → ℕ
+lowestBin level = 997375 / 2 ^ (finest - level)
+
+abbrev pub endBin : ℕ → ℕ
+endBin level = 3 * 2 ^ level
+
 -- the scale of a level, and the index of a bin
 abbrev pub scaleOf : ℕ → ℤ
 scaleOf level = pos level -ℤ pos 10

@@ -1,1 +1,2 @@
 pub mod Pick
+pub mod NoneOf

@@ -18,12 +18,12 @@ how-many : (p : ℕ → Bool) (k n : ℕ) → k ≤ n → ((b : ℕ) → b < k �
 unfolding howMany
 how-many p k zero h pass fail = omega (arith, h)
 how-many p k (suc n) h pass fail =
-    elim (le-or-lt k n)
-    [ inl g ↦ ap (λ (b : Bool). cond b 1 0 + howMany p n) (fail n g (omega arith)) ∙ zero-add (howMany p n) ∙ how-many p k n g pass (λ b l u. fail b l (omega (arith, u)))
-    | inr g ↦
-        ap (λ (b : Bool). cond b 1 0 + howMany p n) (pass n g)
-        ∙ ap (λ (m : ℕ). 1 + m) (how-many p n n (omega arith) (λ b l. pass b (omega (arith, l, g))) (λ b l u. absurd (not-le-of-lt u l)))
-        ∙ last k n h g
+    elim (le-or-lt k n) [
+      | inl g ↦ ap (λ (b : Bool). cond b 1 0 + howMany p n) (fail n g (omega arith)) ∙ zero-add (howMany p n) ∙ how-many p k n g pass (λ b l u. fail b l (omega (arith, u)))
+      | inr g ↦
+          ap (λ (b : Bool). cond b 1 0 + howMany p n) (pass n g)
+          ∙ ap (λ (m : ℕ). 1 + m) (how-many p n n (omega arith) (λ b l. pass b (omega (arith, l, g))) (λ b l u. absurd (not-le-of-lt u l)))
+          ∙ last k n h g
     ]
   where
     last : (k n : ℕ) → k ≤ suc n → n < k → 1 + n ≡ k
@@ -50,9 +50,9 @@ finest-is w b h i = how-many (λ c. ltb (2 ^ (c + 1)) (w ^ 1024)) b (3 * 2 ^ 20)
 between : (a n : ℕ) → 1 < a → a ≤ 2 ^ (n + 1) → (b : ℕ) × (b ≤ n) × (2 ^ (b * 1) < a) × (a ≤ 2 ^ ((b + 1) * 1))
 between a zero l h = (0, omega arith, l, h)
 between a (suc n) l h =
-    elim (le-or-lt a (2 ^ (n + 1)))
-    [ inl g ↦ let r = between a n l g in (r .0, weak (r .0) n (r .1), r .2, r .3)
-    | inr g ↦ (suc n, omega arith, subst (λ (k : ℕ). 2 ^ k < a) (low n) g, subst (λ (k : ℕ). a ≤ 2 ^ k) (high n) h)
+    elim (le-or-lt a (2 ^ (n + 1))) [
+      | inl g ↦ let r = between a n l g in (r .0, weak (r .0) n (r .1), r .2, r .3)
+      | inr g ↦ (suc n, omega arith, subst (λ (k : ℕ). 2 ^ k < a) (low n) g, subst (λ (k : ℕ). a ≤ 2 ^ k) (high n) h)
     ]
   where
     weak : (b n : ℕ) → b ≤ n → b ≤ suc n

@@ -4,3 +4,4 @@ pub mod Floats
 pub mod Buckets
 pub mod Finest
 pub mod Signed
+pub mod Cases

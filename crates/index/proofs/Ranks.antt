@@ -7,6 +7,9 @@ use lib.Dec.{lit<}
 use lib.Pow.{pow-add, pow-pos}
 use Rattle.laws.proofs.Powers.{mul-pow, pow-mul}
 use Rattle.index.specs.Bounds.{BoundAt, Ranked}
+use Rattle.index.specs.Bins.{finestBin}
+use Rattle.index.proofs.Buckets.{Between}
+use Rattle.index.proofs.Finest.{finest-is}
 
 -- no mantissa is below all bounds, and none is above the next power of two
 pub ranked-first : (m : ℕ) → 2 ^ 52 ≤ m → 2 ^ (0 + 53247) < m ^ 1024
@@ -28,23 +31,22 @@ ranked-up m k b i h = lt-of-lt-of-le (subst (λ (j : ℕ). 2 ^ j < suc b ^ 1024)
 pub ranked-down : (m k b : ℕ) → BoundAt k b → m ≤ b → m ^ 1024 ≤ 2 ^ (k + 53248)
 ranked-down m k b i h = le-trans (pow-le-pow-left h 1024) (i .reaches)
 
--- the bin of m * 2 ^ e at scale 10, from the rank of m
-abbrev pub finestFrom : ℕ → ℕ → ℕ
-finestFrom e r = (e + 52) * 1024 + r - 1
-
+-- the finest bin of m * 2 ^ e, from the rank of m
 raised : (m e : ℕ) → (m * 2 ^ e) ^ 1024 ≡ m ^ 1024 * 2 ^ (e * 1024)
 raised m e = mul-pow m (2 ^ e) 1024 ∙ ap (λ (k : ℕ). m ^ 1024 * k) (pow-mul 2 e 1024)
 
-pub bin-above : (m e r : ℕ) → Ranked m r → 2 ^ finestFrom e r < (m * 2 ^ e) ^ 1024
-bin-above m e r i =
-    lt-of-le-of-lt (le-of-eq (ap (λ (k : ℕ). 2 ^ k) (low e r) ∙ pow-add 2 (r + 53247) (e * 1024))) (lt-of-lt-of-le (mul-lt-mul-of-pos-right (i .above) (pow-pos (e * 1024))) (le-of-eq (sym (raised m e))))
+pub bucket : (m e r : ℕ) → Ranked m r → Between 10 0 (m * 2 ^ e) ((e + 52) * 1024 + r - 1)
+bucket m e r i =
+    record {
+      above = lt-of-le-of-lt (le-of-eq (ap (λ (k : ℕ). 2 ^ k) (low e r) ∙ pow-add 2 (r + 53247) (e * 1024))) (lt-of-lt-of-le (mul-lt-mul-of-pos-right (i .above) (pow-pos (e * 1024))) (le-of-eq (sym (raised m e))));
+      within = le-trans (le-of-eq (raised m e)) (le-trans (mul-le-mul-right (2 ^ (e * 1024)) (i .within)) (le-of-eq (sym (ap (λ (k : ℕ). 2 ^ k) (high e r) ∙ pow-add 2 (r + 53248) (e * 1024)))));
+    }
   where
-    low : (e r : ℕ) → (e + 52) * 1024 + r - 1 ≡ r + 53247 + e * 1024
+    low : (e r : ℕ) → ((e + 52) * 1024 + r - 1) * 1 ≡ r + 53247 + e * 1024
     low e r = omega arith
 
-pub bin-within : (m e r : ℕ) → Ranked m r → (m * 2 ^ e) ^ 1024 ≤ 2 ^ (finestFrom e r + 1)
-bin-within m e r i =
-    le-trans (le-of-eq (raised m e)) (le-trans (mul-le-mul-right (2 ^ (e * 1024)) (i .within)) (le-of-eq (sym (ap (λ (k : ℕ). 2 ^ k) (high e r) ∙ pow-add 2 (r + 53248) (e * 1024)))))
-  where
-    high : (e r : ℕ) → (e + 52) * 1024 + r - 1 + 1 ≡ r + 53248 + e * 1024
+    high : (e r : ℕ) → ((e + 52) * 1024 + r - 1 + 1) * 1 ≡ r + 53248 + e * 1024
     high e r = omega arith
+
+pub finest-from : (m e r : ℕ) → e ≤ 3019 → Ranked m r → finestBin (m * 2 ^ e) ≡ (e + 52) * 1024 + r - 1
+finest-from m e r h i = finest-is (m * 2 ^ e) ((e + 52) * 1024 + r - 1) (omega (arith, h, i .small)) (bucket m e r i)

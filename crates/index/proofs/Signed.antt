@@ -20,30 +20,30 @@ more-left d x y b e = ap (λ (k : ℕ). 2 ^ k * b) e ∙ ap (λ (k : ℕ). k * b
 module _ (x y a b : ℕ) where
   pub above-sub : 2 ^ x * b < 2 ^ y * a → Above (pos x -ℤ pos y) a b
   above-sub h =
-      elim (difference x y)
-      [ inl r ↦ subst (λ (z : ℤ). Above z a b) (sym (r .2)) (lt-of-mul-lt-mul-right (2 ^ y) (lt-of-le-of-lt (le-of-eq (sym (more-left (r .0) x y b (r .1)))) (lt-of-lt-of-le h (le-of-eq (mul-comm (2 ^ y) a)))))
-      | inr r ↦ subst (λ (z : ℤ). Above z a b) (sym (r .2)) (lt-of-mul-lt-mul-right (2 ^ x) (lt-of-le-of-lt (le-of-eq (mul-comm b (2 ^ x))) (lt-of-lt-of-le h (le-of-eq (more-left (suc (r .0)) y x a (r .1))))))
+      elim (difference x y) [
+        | inl r ↦ subst (λ (z : ℤ). Above z a b) (sym (r .2)) (lt-of-mul-lt-mul-right (2 ^ y) (lt-of-le-of-lt (le-of-eq (sym (more-left (r .0) x y b (r .1)))) (lt-of-lt-of-le h (le-of-eq (mul-comm (2 ^ y) a)))))
+        | inr r ↦ subst (λ (z : ℤ). Above z a b) (sym (r .2)) (lt-of-mul-lt-mul-right (2 ^ x) (lt-of-le-of-lt (le-of-eq (mul-comm b (2 ^ x))) (lt-of-lt-of-le h (le-of-eq (more-left (suc (r .0)) y x a (r .1))))))
       ]
 
   pub above-back : Above (pos x -ℤ pos y) a b → 2 ^ x * b < 2 ^ y * a
   above-back h =
-      elim (difference x y)
-      [ inl r ↦ lt-of-le-of-lt (le-of-eq (more-left (r .0) x y b (r .1))) (lt-of-lt-of-le (mul-lt-mul-of-pos-right (subst (λ (z : ℤ). Above z a b) (r .2) h) (pow-pos y)) (le-of-eq (mul-comm a (2 ^ y))))
-      | inr r ↦ lt-of-le-of-lt (le-of-eq (mul-comm (2 ^ x) b)) (lt-of-lt-of-le (mul-lt-mul-of-pos-right (subst (λ (z : ℤ). Above z a b) (r .2) h) (pow-pos x)) (le-of-eq (sym (more-left (suc (r .0)) y x a (r .1)))))
+      elim (difference x y) [
+        | inl r ↦ lt-of-le-of-lt (le-of-eq (more-left (r .0) x y b (r .1))) (lt-of-lt-of-le (mul-lt-mul-of-pos-right (subst (λ (z : ℤ). Above z a b) (r .2) h) (pow-pos y)) (le-of-eq (mul-comm a (2 ^ y))))
+        | inr r ↦ lt-of-le-of-lt (le-of-eq (mul-comm (2 ^ x) b)) (lt-of-lt-of-le (mul-lt-mul-of-pos-right (subst (λ (z : ℤ). Above z a b) (r .2) h) (pow-pos x)) (le-of-eq (sym (more-left (suc (r .0)) y x a (r .1)))))
       ]
 
   pub within-sub : 2 ^ y * a ≤ 2 ^ x * b → Within (pos x -ℤ pos y) a b
   within-sub h =
-      elim (difference x y)
-      [ inl r ↦ subst (λ (z : ℤ). Within z a b) (sym (r .2)) (le-of-mul-le-mul-right (le-trans (le-of-eq (mul-comm a (2 ^ y))) (le-trans h (le-of-eq (more-left (r .0) x y b (r .1))))) (pow-pos y))
-      | inr r ↦ subst (λ (z : ℤ). Within z a b) (sym (r .2)) (le-of-mul-le-mul-right (le-trans (le-of-eq (sym (more-left (suc (r .0)) y x a (r .1)))) (le-trans h (le-of-eq (mul-comm (2 ^ x) b)))) (pow-pos x))
+      elim (difference x y) [
+        | inl r ↦ subst (λ (z : ℤ). Within z a b) (sym (r .2)) (le-of-mul-le-mul-right (le-trans (le-of-eq (mul-comm a (2 ^ y))) (le-trans h (le-of-eq (more-left (r .0) x y b (r .1))))) (pow-pos y))
+        | inr r ↦ subst (λ (z : ℤ). Within z a b) (sym (r .2)) (le-of-mul-le-mul-right (le-trans (le-of-eq (sym (more-left (suc (r .0)) y x a (r .1)))) (le-trans h (le-of-eq (mul-comm (2 ^ x) b)))) (pow-pos x))
       ]
 
   pub within-back : Within (pos x -ℤ pos y) a b → 2 ^ y * a ≤ 2 ^ x * b
   within-back h =
-      elim (difference x y)
-      [ inl r ↦ le-trans (le-of-eq (mul-comm (2 ^ y) a)) (le-trans (mul-le-mul-right (2 ^ y) (subst (λ (z : ℤ). Within z a b) (r .2) h)) (le-of-eq (sym (more-left (r .0) x y b (r .1)))))
-      | inr r ↦ le-trans (le-of-eq (more-left (suc (r .0)) y x a (r .1))) (le-trans (mul-le-mul-right (2 ^ x) (subst (λ (z : ℤ). Within z a b) (r .2) h)) (le-of-eq (mul-comm b (2 ^ x))))
+      elim (difference x y) [
+        | inl r ↦ le-trans (le-of-eq (mul-comm (2 ^ y) a)) (le-trans (mul-le-mul-right (2 ^ y) (subst (λ (z : ℤ). Within z a b) (r .2) h)) (le-of-eq (sym (more-left (r .0) x y b (r .1)))))
+        | inr r ↦ le-trans (le-of-eq (more-left (suc (r .0)) y x a (r .1))) (le-trans (mul-le-mul-right (2 ^ x) (subst (λ (z : ℤ). Within z a b) (r .2) h)) (le-of-eq (mul-comm b (2 ^ x))))
       ]
 
 -- ---- the relation for an index that is a difference
@@ -58,8 +58,8 @@ into u t w x y h g =
     record {
       above = subst (λ (z : ℤ). Above z (w ^ (2 ^ u)) (unit u)) (sym (times-sub x y (2 ^ t))) (above-sub (x * 2 ^ t) (y * 2 ^ t) (w ^ (2 ^ u)) (unit u) h);
       within =
-        subst (λ (z : ℤ). Within z (w ^ (2 ^ u)) (unit u)) (sym (ap (λ (z : ℤ). z *ℤ pos (2 ^ t)) (suc-sub x y) ∙ times-sub (x + 1) y (2 ^ t)))
-        (within-sub ((x + 1) * 2 ^ t) (y * 2 ^ t) (w ^ (2 ^ u)) (unit u) g);
+          subst (λ (z : ℤ). Within z (w ^ (2 ^ u)) (unit u)) (sym (ap (λ (z : ℤ). z *ℤ pos (2 ^ t)) (suc-sub x y) ∙ times-sub (x + 1) y (2 ^ t)))
+          (within-sub ((x + 1) * 2 ^ t) (y * 2 ^ t) (w ^ (2 ^ u)) (unit u) g);
     }
 
 pub out-above : (u t w x y : ℕ) → InBucket u t w (pos x -ℤ pos y) → 2 ^ (x * 2 ^ t) * unit u < 2 ^ (y * 2 ^ t) * w ^ (2 ^ u)

@@ -2,6 +2,7 @@
 mod bounds;
 mod guess;
 mod rank;
+
 ghost use mathlib.Core.Path.{_≡_};
 ghost use Prim.Native.Nat.{_+_, _*_, _^_, _≤_, _<_};
 ghost use Rattle.index.specs.Answers.{binOf};
@@ -70,4 +71,34 @@ fn wide(x: u32) -> u64
     ensures { λ r. ⌜ r ≡ x ⌝ }
 {
     x as u64
+}
+
+// The bin at the finest level of mantissa * 2^exponent units of 2^-2048.
+fn finest_bin(mantissa: u64, exponent: u64) -> u32
+    requires { ⌜ (2 ^ 52 ≤ mantissa) × (mantissa < 2 ^ 53) × (922 ≤ exponent) × (exponent ≤ 3019) ⌝ }
+    ensures { λ r. ⌜ r ≡ finestBin (mantissa * 2 ^ exponent) ⌝ }
+{
+    ((exponent + 52) * 1024 + rank::rank(mantissa) - 1) as u32
+}
+
+// The bin of v at a level.
+pub fn get_bin(v: f64, level: u32) -> Bin
+    ensures { λ r. ⌜ r ≡ binOf v level ⌝ }
+{
+    if FINEST < level {
+        return Bin::NoLevel;
+    }
+    let parts = frexp(v);
+    match parts {
+        Parts::NotFinite => Bin::NotFinite,
+        Parts::Zero => Bin::Zero,
+        Parts::Number {
+            negative,
+            mantissa,
+            exponent,
+        } => {
+            let bin = finest_bin(mantissa, exponent) >> (FINEST - level);
+            Bin::At { negative, bin }
+        }
+    }
 }

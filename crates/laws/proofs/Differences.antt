@@ -22,9 +22,9 @@ Difference x y = ((d : ℕ) × (x ≡ d + y) × (pos x -ℤ pos y ≡ pos d)) �
 pub difference : (x y : ℕ) → Difference x y
 difference x zero = inl (x, sym (add-zero x), ap pos (add-zero x))
 difference x (suc y) =
-    elim (le-or-lt (suc y) x)
-    [ inl h ↦ inl (x - suc y, up x y h, ap (λ (b : Bool). cond b (negsuc (suc y - suc x)) (pos (x - suc y))) (le-ltb x (suc y) h))
-    | inr h ↦ inr (suc y - suc x, down x y h, ap (λ (b : Bool). cond b (negsuc (suc y - suc x)) (pos (x - suc y))) (lt-ltb x (suc y) h))
+    elim (le-or-lt (suc y) x) [
+      | inl h ↦ inl (x - suc y, up x y h, ap (λ (b : Bool). cond b (negsuc (suc y - suc x)) (pos (x - suc y))) (le-ltb x (suc y) h))
+      | inr h ↦ inr (suc y - suc x, down x y h, ap (λ (b : Bool). cond b (negsuc (suc y - suc x)) (pos (x - suc y))) (lt-ltb x (suc y) h))
     ]
   where
     up : (x y : ℕ) → suc y ≤ x → x ≡ x - suc y + suc y
@@ -35,9 +35,9 @@ difference x (suc y) =
 
 pub sub-add : (m n : ℕ) → pos (m + n) -ℤ pos n ≡ pos m
 sub-add m n =
-    elim (difference (m + n) n)
-    [ inl r ↦ r .2 ∙ ap pos (same (r .0) m n (r .1))
-    | inr r ↦ absurd (clash (r .0) m n (r .1))
+    elim (difference (m + n) n) [
+      | inl r ↦ r .2 ∙ ap pos (same (r .0) m n (r .1))
+      | inr r ↦ absurd (clash (r .0) m n (r .1))
     ]
   where
     same : (d m n : ℕ) → m + n ≡ d + n → d ≡ m
@@ -48,9 +48,9 @@ sub-add m n =
 
 pub sub-more : (m n : ℕ) → pos n -ℤ pos (m + n) ≡ negℤ (pos m)
 sub-more m n =
-    elim (difference n (m + n))
-    [ inl r ↦ r .2 ∙ ap pos (none (r .0) m n (r .1) .0) ∙ ap (λ (k : ℕ). negℤ (pos k)) (sym (none (r .0) m n (r .1) .1))
-    | inr r ↦ r .2 ∙ ap (λ (k : ℕ). negℤ (pos k)) (sym (same (r .0) m n (r .1)))
+    elim (difference n (m + n)) [
+      | inl r ↦ r .2 ∙ ap pos (none (r .0) m n (r .1) .0) ∙ ap (λ (k : ℕ). negℤ (pos k)) (sym (none (r .0) m n (r .1) .1))
+      | inr r ↦ r .2 ∙ ap (λ (k : ℕ). negℤ (pos k)) (sym (same (r .0) m n (r .1)))
     ]
   where
     none : (d m n : ℕ) → n ≡ d + (m + n) → (d ≡ 0) × (m ≡ 0)
@@ -61,22 +61,22 @@ sub-more m n =
 
 pub times-sub : (b B c : ℕ) → (pos b -ℤ pos B) *ℤ pos c ≡ pos (b * c) -ℤ pos (B * c)
 times-sub b B c =
-    elim (difference b B)
-    [ inl r ↦
-        ap (λ (z : ℤ). z *ℤ pos c) (r .2)
-        ∙ sym (sub-add (r .0 * c) (B * c))
-        ∙ ap (λ (k : ℕ). pos k -ℤ pos (B * c)) (sym (add-mul (r .0) B c) ∙ ap (λ (k : ℕ). k * c) (sym (r .1)))
-    | inr r ↦
-        ap (λ (z : ℤ). z *ℤ pos c) (r .2)
-        ∙ sym (sub-more (suc (r .0) * c) (b * c))
-        ∙ ap (λ (k : ℕ). pos (b * c) -ℤ pos k) (sym (add-mul (suc (r .0)) b c) ∙ ap (λ (k : ℕ). k * c) (sym (r .1)))
+    elim (difference b B) [
+      | inl r ↦
+          ap (λ (z : ℤ). z *ℤ pos c) (r .2)
+          ∙ sym (sub-add (r .0 * c) (B * c))
+          ∙ ap (λ (k : ℕ). pos k -ℤ pos (B * c)) (sym (add-mul (r .0) B c) ∙ ap (λ (k : ℕ). k * c) (sym (r .1)))
+      | inr r ↦
+          ap (λ (z : ℤ). z *ℤ pos c) (r .2)
+          ∙ sym (sub-more (suc (r .0) * c) (b * c))
+          ∙ ap (λ (k : ℕ). pos (b * c) -ℤ pos k) (sym (add-mul (suc (r .0)) b c) ∙ ap (λ (k : ℕ). k * c) (sym (r .1)))
     ]
 
 pub suc-sub : (b B : ℕ) → sucℤ (pos b -ℤ pos B) ≡ pos (b + 1) -ℤ pos B
 suc-sub b B =
-    elim (difference b B)
-    [ inl r ↦ ap sucℤ (r .2) ∙ sym (sub-add (suc (r .0)) B) ∙ ap (λ (k : ℕ). pos k -ℤ pos B) (more (r .0) b B (r .1))
-    | inr r ↦ ap sucℤ (r .2) ∙ fall (r .0) ∙ sym (sub-more (r .0) (b + 1)) ∙ ap (λ (k : ℕ). pos (b + 1) -ℤ pos k) (less (r .0) b B (r .1))
+    elim (difference b B) [
+      | inl r ↦ ap sucℤ (r .2) ∙ sym (sub-add (suc (r .0)) B) ∙ ap (λ (k : ℕ). pos k -ℤ pos B) (more (r .0) b B (r .1))
+      | inr r ↦ ap sucℤ (r .2) ∙ fall (r .0) ∙ sym (sub-more (r .0) (b + 1)) ∙ ap (λ (k : ℕ). pos (b + 1) -ℤ pos k) (less (r .0) b B (r .1))
     ]
   where
     more : (d b B : ℕ) → b ≡ d + B → suc d + B ≡ b + 1
@@ -92,9 +92,9 @@ suc-sub b B =
 -- equal differences
 pub same-sub : (x y v z : ℕ) → x + z ≡ v + y → pos x -ℤ pos y ≡ pos v -ℤ pos z
 same-sub x y v z e =
-    elim (difference x y)
-    [ inl r ↦ r .2 ∙ sym (sub-add (r .0) z) ∙ ap (λ (k : ℕ). pos k -ℤ pos z) (up (r .0) x y v z e (r .1))
-    | inr r ↦ r .2 ∙ sym (sub-more (suc (r .0)) v) ∙ ap (λ (k : ℕ). pos v -ℤ pos k) (down (r .0) x y v z e (r .1))
+    elim (difference x y) [
+      | inl r ↦ r .2 ∙ sym (sub-add (r .0) z) ∙ ap (λ (k : ℕ). pos k -ℤ pos z) (up (r .0) x y v z e (r .1))
+      | inr r ↦ r .2 ∙ sym (sub-more (suc (r .0)) v) ∙ ap (λ (k : ℕ). pos v -ℤ pos k) (down (r .0) x y v z e (r .1))
     ]
   where
     up : (d x y v z : ℕ) → x + z ≡ v + y → x ≡ d + y → d + z ≡ v
@@ -106,10 +106,11 @@ same-sub x y v z e =
 -- each integer is a difference, what is taken off being a whole number of 2 ^ k
 pub as-sub : (k : ℕ) (i : ℤ) → (x : ℕ) × (q : ℕ) × (i ≡ pos x -ℤ pos (q * 2 ^ k))
 as-sub k (pos n) = (n, 0, sym (ap (λ (m : ℕ). pos n -ℤ pos m) (zero-mul (2 ^ k)) ∙ ap pos (add-zero n)))
-as-sub k (negsuc n) =
-    (suc n * 2 ^ k - suc n,
-    suc n,
-    sym (ap (λ (m : ℕ). pos (suc n * 2 ^ k - suc n) -ℤ pos m) (whole (suc n) (suc n * 2 ^ k) (enough n)) ∙ sub-more (suc n) (suc n * 2 ^ k - suc n)))
+as-sub k (negsuc n) = (
+  suc n * 2 ^ k - suc n,
+  suc n,
+  sym (ap (λ (m : ℕ). pos (suc n * 2 ^ k - suc n) -ℤ pos m) (whole (suc n) (suc n * 2 ^ k) (enough n)) ∙ sub-more (suc n) (suc n * 2 ^ k - suc n)),
+)
   where
     enough : (n : ℕ) → suc n ≤ suc n * 2 ^ k
     enough n = le-trans (le-of-eq (sym (one (suc n)))) (mul-le-mul-left (suc n) (pow-pos k))
@@ -123,17 +124,17 @@ as-sub k (negsuc n) =
 -- a shift to the right rounds down
 pub shift-sub : (b q k : ℕ) → shrZ (pos b -ℤ pos (q * 2 ^ k)) (2 ^ k) ≡ pos (b / 2 ^ k) -ℤ pos q
 shift-sub b q k =
-    elim (difference b (q * 2 ^ k))
-    [ inl r ↦
-        ap (λ (z : ℤ). shrZ z (2 ^ k)) (r .2)
-        ∙ sym (sub-add (r .0 / 2 ^ k) q)
-        ∙ ap (λ (n : ℕ). pos n -ℤ pos q) (sym (ap (λ (n : ℕ). n / 2 ^ k) (r .1) ∙ add-mul-div-right (r .0) q (pow-pos k)))
-    | inr r ↦
-        ap (λ (z : ℤ). shrZ z (2 ^ k)) (r .2)
-        ∙ sym (sub-more (suc (r .0 / 2 ^ k)) (b / 2 ^ k))
-        ∙ ap (λ (n : ℕ). pos (b / 2 ^ k) -ℤ pos n)
-        (sym (whole q (r .0 / 2 ^ k) (b / 2 ^ k) (r .0 % 2 ^ k) (b % 2 ^ k) (2 ^ k) (mod-lt (r .0) (pow-pos k)) (mod-lt b (pow-pos k))
-        (r .1 ∙ parts (r .0 / 2 ^ k * 2 ^ k) (r .0 % 2 ^ k) (r .0) (b / 2 ^ k * 2 ^ k) (b % 2 ^ k) b (div-add-mod' (r .0) (2 ^ k)) (div-add-mod' b (2 ^ k)))))
+    elim (difference b (q * 2 ^ k)) [
+      | inl r ↦
+          ap (λ (z : ℤ). shrZ z (2 ^ k)) (r .2)
+          ∙ sym (sub-add (r .0 / 2 ^ k) q)
+          ∙ ap (λ (n : ℕ). pos n -ℤ pos q) (sym (ap (λ (n : ℕ). n / 2 ^ k) (r .1) ∙ add-mul-div-right (r .0) q (pow-pos k)))
+      | inr r ↦
+          ap (λ (z : ℤ). shrZ z (2 ^ k)) (r .2)
+          ∙ sym (sub-more (suc (r .0 / 2 ^ k)) (b / 2 ^ k))
+          ∙ ap (λ (n : ℕ). pos (b / 2 ^ k) -ℤ pos n)
+          (sym (whole q (r .0 / 2 ^ k) (b / 2 ^ k) (r .0 % 2 ^ k) (b % 2 ^ k) (2 ^ k) (mod-lt (r .0) (pow-pos k)) (mod-lt b (pow-pos k))
+          (r .1 ∙ parts (r .0 / 2 ^ k * 2 ^ k) (r .0 % 2 ^ k) (r .0) (b / 2 ^ k * 2 ^ k) (b % 2 ^ k) b (div-add-mod' (r .0) (2 ^ k)) (div-add-mod' b (2 ^ k)))))
     ]
   where
     parts : (p r d s t b : ℕ) → p + r ≡ d → s + t ≡ b → suc d + b ≡ p + s + suc (r + t)

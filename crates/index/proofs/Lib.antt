@@ -5,3 +5,5 @@ pub mod Buckets
 pub mod Finest
 pub mod Signed
 pub mod Cases
+pub mod Laws
+pub mod Indices

@@ -5,7 +5,7 @@ use Prim.Native.Nat.{ℕ, suc, _+_, _-_, _≤_, _<_}
 use native.Mathlib.Omega.{arith}
 use borrow.Author.Tests.{le-leb, ltb-false, le-ltb, eqb-true, eqb-false}
 use lib.Dec.{T, ltb, eqb}
-use lib.IntN.{ℤ, pos, negsuc, natAbs, _+ℤ_}
+use lib.IntN.{ℤ, pos, negsuc, natAbs, _+ℤ_, _-ℤ_}
 use lib.Signed.{ltZ}
 use lib.Ieee.{Float, binary64, fits}
 use lib.Ieee.Scale.{finite}
@@ -23,11 +23,17 @@ use Rattle.index.specs.declared.signed.Natural.the-variants as N
 use Rattle.index.specs.declared.signed.Index.the-variants as X
 use Rattle.index.proofs.Cases.{not-finite, zero, at}
 use Rattle.index.proofs.SignedCases.{index-is}
-use Rattle.index.proofs.Laws.{bin-range}
+use Rattle.index.proofs.Laws.{bin-range, held}
+use Rattle.index.proofs.Indices.{is-index}
+use Rattle.laws.proofs.Differences.{sub-add, sub-more}
 
 abbrev number : Natural → ℕ
 number N.OutOfRange = 0
 number (N.Is n) = n
+
+abbrev Found : Natural → Type 0
+Found N.OutOfRange = ⊥
+Found (N.Is n) = Unit
 
 -- every level that is answered is a level
 level-le : (scale : ℤ) → number (levelAnswer scale) ≤ finest
@@ -72,3 +78,39 @@ from-bin x scale level F e = ap (atLevel x) e ∙ go (finite x) (eqb (magnitude 
         let n = eqb-false (magnitude x) 0 q in
         ap (signedAt (isNegative x)) (sym (index-is level (binAt level (magnitude x)) h (bin-range level x h F p n .1)))
         ∙ ap (binIndex level) (sym (at x level h p n))
+
+-- ---- the index answered is the Data Model's
+
+level-scale : (scale : ℤ) (level : ℕ) → levelAnswer scale ≡ N.Is level → scaleOf level ≡ scale
+unfolding levelAnswer pick
+level-scale scale level e = go (ltZ scale (negsuc 9)) (ltZ (pos 10) scale) refl refl e
+  where
+    back : (z : ℤ) → ltZ z (negsuc 9) ≡ false → scaleOf (natAbs (z +ℤ pos 10)) ≡ z
+    back (pos n) h = sub-add n 10
+    back (negsuc n) h =
+        ap (λ (b : Bool). scaleOf (natAbs (cond b (negsuc (suc n - suc 10)) (pos (10 - suc n))))) (le-ltb 10 (suc n) (up n (ltb-false 9 n h)))
+        ∙ ap (λ (m : ℕ). pos (10 - suc n) -ℤ pos m) (sym (ten n (ltb-false 9 n h)))
+        ∙ sub-more (suc n) (10 - suc n)
+      where
+        up : (n : ℕ) → n ≤ 9 → suc n ≤ 10
+        up n h = omega (arith, h)
+
+        ten : (n : ℕ) → n ≤ 9 → suc n + (10 - suc n) ≡ 10
+        ten n h = omega (arith, h)
+
+    absent : {A : Type 0} → N.OutOfRange ≡ N.Is level → A
+    absent e = absurd (subst Found (sym e) tt)
+
+    go : (a b : Bool) → ltZ scale (negsuc 9) ≡ a → ltZ (pos 10) scale ≡ b → pick a N.OutOfRange (pick b N.OutOfRange (N.Is (natAbs (scale +ℤ pos 10)))) ≡ N.Is level → scaleOf level ≡ scale
+    go true b h g e = absent e
+    go false true h g e = absent e
+    go false false h g e = ap (λ (n : ℕ). scaleOf n) (sym (ap number e)) ∙ back scale h
+
+pub value-is : (x : Float) (scale : ℤ) (level : ℕ) → T (fits binary64 x) → finite x ≡ true → (magnitude x ≡ 0 → ⊥) → levelAnswer scale ≡ N.Is level
+    → (valueIndex x scale ≡ X.At (isNegative x) (indexOf level (binAt level (magnitude x)))) × IsIndex scale (magnitude x) (indexOf level (binAt level (magnitude x)))
+value-is x scale level F f z e =
+    let h : level ≤ finest = subst (λ (a : Natural). number a ≤ finest) e (level-le scale) in
+    (from-bin x scale level F e
+    ∙ ap (binIndex level) (at x level h f z)
+    ∙ ap (signedAt (isNegative x)) (index-is level (binAt level (magnitude x)) h (bin-range level x h F f z .1)),
+    subst (λ (s : ℤ). IsIndex s (magnitude x) (indexOf level (binAt level (magnitude x)))) (level-scale scale level e) (is-index level (magnitude x) h (held x F f z)))

@@ -109,8 +109,9 @@ level-scale scale level e = go (ltZ scale (negsuc 9)) (ltZ (pos 10) scale) refl 
 pub value-is : (x : Float) (scale : ℤ) (level : ℕ) → T (fits binary64 x) → finite x ≡ true → (magnitude x ≡ 0 → ⊥) → levelAnswer scale ≡ N.Is level
     → (valueIndex x scale ≡ X.At (isNegative x) (indexOf level (binAt level (magnitude x)))) × IsIndex scale (magnitude x) (indexOf level (binAt level (magnitude x)))
 value-is x scale level F f z e =
-    let h : level ≤ finest = subst (λ (a : Natural). number a ≤ finest) e (level-le scale) in
-    (from-bin x scale level F e
-    ∙ ap (binIndex level) (at x level h f z)
-    ∙ ap (signedAt (isNegative x)) (index-is level (binAt level (magnitude x)) h (bin-range level x h F f z .1)),
-    subst (λ (s : ℤ). IsIndex s (magnitude x) (indexOf level (binAt level (magnitude x)))) (level-scale scale level e) (is-index level (magnitude x) h (held x F f z)))
+    let h : level ≤ finest = subst (λ (a : Natural). number a ≤ finest) e (level-le scale) in (
+      from-bin x scale level F e
+          ∙ ap (binIndex level) (at x level h f z)
+          ∙ ap (signedAt (isNegative x)) (index-is level (binAt level (magnitude x)) h (bin-range level x h F f z .1)),
+      subst (λ (s : ℤ). IsIndex s (magnitude x) (indexOf level (binAt level (magnitude x)))) (level-scale scale level e) (is-index level (magnitude x) h (held x F f z)),
+    )

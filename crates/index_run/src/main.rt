@@ -165,36 +165,52 @@ fn print(line: Line) {
     }
 }
 
-// Goes on with a line through some bytes of the input, and prints each line that ends in them.
+// Goes on with a line by a byte; the line that ends with it is printed.
+fn go_on(line: Line, byte: u8) -> Line {
+    if byte == b'\n' {
+        print(line);
+        return empty();
+    }
+    step(line, byte)
+}
+
 fn take(line: Line, bytes: &[u8]) -> Line {
     let mut now = line;
     let mut i = 0;
     while i < bytes.len() {
-        if bytes[i] == b'\n' {
-            print(now);
-            now = empty();
-        } else {
-            now = step(now, bytes[i]);
-        }
+        now = go_on(now, bytes[i]);
         i += 1;
     }
     now
 }
 
+// A line as far as the input was read, and whether there was more to read.
+struct Read {
+    line: Line,
+    more: bool,
+}
+
+fn read_some(line: Line) -> Read {
+    let mut buf = io::large_buffer();
+    let n = io::read_full(STDIN_FILENO, &mut buf);
+    let next = take(line, &buf[..n]);
+    Read {
+        line: next,
+        more: n > 0,
+    }
+}
+
 // Reads to the input's end. A proved loop has to end, and nothing says that the input does: no run uses up the turns.
 fn main() {
-    let mut line = empty();
-    let mut buf = io::large_buffer();
+    let mut read = read_some(empty());
     let mut turns = u64::MAX;
-    while turns > 0 {
-        let n = io::read_full(STDIN_FILENO, &mut buf);
-        if n == 0 {
-            break;
-        }
-        line = take(line, &buf[..n]);
+    while turns > 0 && read.more {
+        let line = read.line;
+        read = read_some(line);
         turns -= 1;
     }
-    if line.part != START {
-        print(line);
+    let last = read.line;
+    if last.part != START {
+        print(last);
     }
 }

@@ -1,0 +1,84 @@
+-- A test for a finite float: `x - x == 0.0`. An infinity less itself is a NaN, which equals nothing. Assumes nothing.
+use mathlib.Core.Path.{_≡_, refl, sym, ap, _∙_, subst}
+use Prim.Native.Nat.{ℕ, zero, suc, _+_, _-_, _*_, _<_, _≤_}
+use native.Mathlib.Nat.{zero-mul, mul-pos, zero-lt-suc}
+use native.Mathlib.Omega.{arith}
+use mathlib.Core.Bool.{Bool, true, false, not, cond, _&&_, Bool·beq}
+use lib.IntN.{ℤ, pos, negsuc}
+use lib.Dec.{T, ltb, ltb→lt}
+use lib.Ieee.{Float, nan, inf, fin, Format, binary64, up, down, round, sum, sub, eq, lt, fits, isNan, nanBits, toBits}
+use lib.Ieee.Bits.{nanBits-is, ofBits-toBits}
+use lib.Ieee.Fits.{down-pos}
+use lib.Ieee.Scale.{round-same, finite}
+use Rattle.floats.specs.Key.{Ok}
+
+abbrev zeroF : Float
+zeroF = fin false 0 (pos 0)
+
+round-zero : (c : ℕ) → 0 < c → round binary64 false 0 c ≡ zeroF
+unfolding round
+round-zero c C = round-same binary64 false 0 c 0 1 C (zero-lt-suc 0) (zero-mul 1 ∙ sym (zero-mul c))
+
+not-self : (a : ℕ) → ltb a a ≡ false
+not-self a = go (ltb a a) (ltb→lt a a)
+  where
+    never : a < a → ⊥
+    never h = omega arith
+
+    go : (b : Bool) → (T b → a < a) → b ≡ false
+    go true h = absurd (never (h tt))
+    go false h = refl
+
+less-self : (a : ℕ) → a - a ≡ 0
+less-self a = omega arith
+
+sum-self : (s : Bool) (a c : ℕ) → 0 < c → sum binary64 s a (not s) a c ≡ zeroF
+unfolding sum
+sum-self true a c C =
+    ap (λ (b : Bool). cond b (round binary64 false (a - a) c) (round binary64 (true && b) (a - a) c)) (not-self a) ∙ ap (λ (n : ℕ). round binary64 false n c) (less-self a) ∙ round-zero c C
+sum-self false a c C =
+    ap (λ (b : Bool). cond b (round binary64 true (a - a) c) (round binary64 false (a - a) c)) (not-self a) ∙ ap (λ (n : ℕ). round binary64 false n c) (less-self a) ∙ round-zero c C
+
+sub-self : (s : Bool) (m : ℕ) (e : ℤ) → sub binary64 (fin s m e) (fin s m e) ≡ zeroF
+unfolding sub
+sub-self s m e = sum-self s (m * up e * down e) (down e * down e) (mul-pos (down-pos e) (down-pos e))
+
+-- THE TEST
+pub finite-test : (x : Float) → eq (sub binary64 x x) (fin false 0 (pos 0)) ≡ finite x
+unfolding eq sub
+finite-test nan = refl
+finite-test (inf true) = refl
+finite-test (inf false) = refl
+finite-test (fin s m e) = ap (λ (y : Float). eq y zeroF) (sub-self s m e)
+
+-- the other test: `-inf < x && x < inf`
+pub finite-between : (x : Float) → lt (inf true) x && lt x (inf false) ≡ finite x
+unfolding lt
+finite-between nan = refl
+finite-between (inf true) = refl
+finite-between (inf false) = refl
+finite-between (fin s m e) = refl
+
+pub finite-not-nan : (x : Float) → T (finite x) → T (not (isNan x))
+unfolding isNan
+finite-not-nan nan t = t
+finite-not-nan (inf s) t = tt
+finite-not-nan (fin s m e) t = tt
+
+pub finite-is : (x : Float) → T (finite x) → (s : Bool) × (m : ℕ) × (e : ℤ) × (x ≡ fin s m e)
+finite-is nan t = absurd t
+finite-is (inf s) t = absurd t
+finite-is (fin s m e) t = (s, m, e, refl)
+
+pub finite-ok : (f : Format) (x : Float) → T (finite x) → T (fits f x) → Ok f x
+finite-ok f nan t h = t
+finite-ok f (inf s) t h = absurd t
+finite-ok f (fin s m e) t h = h
+
+-- a finite float's bit pattern is no NaN's, so `from_bits` may be asked of it
+pub pattern-not-nan : (x : Float) → T (finite x) → T (fits binary64 x) → T (not (nanBits binary64 (toBits binary64 x)))
+pattern-not-nan x t h = subst (λ (b : Bool). T (not b)) (sym (nanBits-is binary64 (toBits binary64 x) ∙ ap isNan (ofBits-toBits binary64 x h))) (finite-not-nan x t)
+
+-- what the borrow checker knows of a float parameter is `fits binary64 x ≡ true`
+pub passes : (b : Bool) → b ≡ true → T b
+passes b h = subst T (sym h) tt

@@ -1,1 +1,3 @@
 pub mod Pick
+pub mod Counting
+pub mod Search

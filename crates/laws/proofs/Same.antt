@@ -6,7 +6,8 @@ use mathlib.Core.List.{List, [], _∷_, _++_, map}
 use native.Mathlib.Decide.{ℕ-discrete}
 use native.Mathlib.Omega.{arith}
 use borrow.Author.Tests.{eq-eqb, ne-eqb}
-use Rattle.points.specs.Points.{sum, hit, count, pick}
+use Rattle.laws.specs.Pick.{pick}
+use Rattle.laws.specs.Counting.{sum, hit, count}
 
 pub sum-append : (w : ℕ → ℕ) (xs ys : List ℕ) → sum w (xs ++ ys) ≡ sum w xs + sum w ys
 sum-append w [] ys = omega arith
@@ -21,12 +22,12 @@ abbrev pub Same : List ℕ → List ℕ → Type 0
 Same xs ys = (w : ℕ → ℕ) → sum w xs ≡ sum w ys
 
 pub hit-same : (i : ℕ) → hit i i ≡ 1
-unfolding hit
-hit-same i = ap (λ b. pick b 1 0) (eq-eqb i i refl)
+unfolding hit pick
+hit-same i = rw (eq-eqb i i refl)
 
 pub hit-other : (i x : ℕ) → x ≢ i → hit i x ≡ 0
-unfolding hit
-hit-other i x ne = ap (λ b. pick b 1 0) (ne-eqb x i ne)
+unfolding hit pick
+hit-other i x ne = rw (ne-eqb x i ne)
 
 -- a number of the list, taken out
 pull : (a : ℕ) (xs : List ℕ) → 0 < count a xs → (ys : List ℕ) × ((w : ℕ → ℕ) → sum w xs ≡ w a + sum w ys)

@@ -1,0 +1,4 @@
+pub mod Bools
+pub mod Same
+pub mod Counting
+pub mod Search

@@ -1,4 +1,4 @@
--- `eq` and `le` are `eqb` and `leb` of the keys. Assumes nothing.
+-- `eq` is `eqb` of the keys. Assumes nothing.
 use mathlib.Core.Path.{_≡_, refl, sym, ap, _∙_, subst}
 use Prim.Native.Nat.{ℕ, zero, suc, _+_, _-_, _*_, _^_, _≤_, _<_}
 use native.Mathlib.Nat.{mul-pos, zero-mul, eq-of-mul-eq-mul-right}
@@ -9,7 +9,7 @@ use lib.Dec.{T, ltb, leb, eqb, eqb-refl, ltb→lt, lt→ltb, eqb→eq, leb→le,
 use lib.Pow.{pow-pos}
 use lib.Ieee.{Float, nan, inf, fin, Format, low, up, down, level, eq, le, lt, fits}
 use lib.Ieee.Fits.{down-pos, and-i, and-l, and-r, eq→eqb}
-use Rattle.floats.specs.Key.{key, big, Ok, unitsOf, small, key-fin, left-units, right-units, key-above, key-below, lt-key, big-pos}
+use Rattle.floats.proofs.Order.{key, big, Ok, unitsOf, small, key-fin, left-units, right-units, key-above, key-below, lt-key, big-pos}
 
 both-ways : (a b : Bool) → (T a → T b) → (T b → T a) → a ≡ b
 both-ways true true f g = refl
@@ -78,27 +78,3 @@ eq-key f (fin s m e) (fin t n d) p q =
     signs (m * up e * down d) (n * up d * down e) (down e * down d) (unitsOf f m e) (unitsOf f n d) (2 ^ low f) (big f)
     (mul-pos (down-pos e) (down-pos d)) (pow-pos (low f)) (left-units f s m e d p) (right-units f t n d e q) (small f s m e p) (small f t n d q) s t
     ∙ sym (ap (λ (x : ℕ). eqb x (key f (fin t n d))) (key-fin f s m e) ∙ ap (eqb (cond s (big f - unitsOf f m e) (big f + unitsOf f m e))) (key-fin f t n d))
-
-lt-or-eq : (m n : ℕ) → ltb m n || eqb m n ≡ leb m n
-lt-or-eq m n = both-ways (ltb m n || eqb m n) (leb m n) (to (ltb m n) (ltb→lt m n)) (from (ltb m n) (lt→ltb m n))
-  where
-    lt-le : m < n → m ≤ n
-    lt-le h = omega arith
-
-    eq-le : m ≡ n → m ≤ n
-    eq-le h = omega arith
-
-    not-lt : (m < n → ⊥) → m ≤ n → m ≡ n
-    not-lt f h = omega arith
-
-    to : (b : Bool) → (T b → m < n) → T (b || eqb m n) → T (leb m n)
-    to true h t = le→leb m n (lt-le (h tt))
-    to false h t = le→leb m n (eq-le (eqb→eq m n t))
-
-    from : (b : Bool) → (m < n → T b) → T (leb m n) → T (b || eqb m n)
-    from true h t = tt
-    from false h t = eq→eqb (not-lt h (leb→le m n t))
-
-pub le-key : (f : Format) (x y : Float) → Ok f x → Ok f y → le x y ≡ leb (key f x) (key f y)
-unfolding le
-le-key f x y p q = ap (λ (b : Bool). b || eq x y) (lt-key f x y p q) ∙ ap (λ (b : Bool). ltb (key f x) (key f y) || b) (eq-key f x y p q) ∙ lt-or-eq (key f x) (key f y)

@@ -1,4 +1,5 @@
--- A test for a finite float: `x - x == 0.0`. An infinity less itself is a NaN, which equals nothing. Assumes nothing.
+-- Tests of a float: it is finite where `x - x == 0.0`, for an infinity less itself is a NaN, which equals nothing; it is a NaN where
+-- `x != x`. Assumes nothing.
 use mathlib.Core.Path.{_≡_, refl, sym, ap, _∙_, subst}
 use Prim.Native.Nat.{ℕ, zero, suc, _+_, _-_, _*_, _<_, _≤_}
 use native.Mathlib.Nat.{zero-mul, mul-pos, zero-lt-suc}
@@ -6,11 +7,10 @@ use native.Mathlib.Omega.{arith}
 use mathlib.Core.Bool.{Bool, true, false, not, cond, _&&_, Bool·beq}
 use lib.IntN.{ℤ, pos, negsuc}
 use lib.Dec.{T, ltb, ltb→lt}
-use lib.Ieee.{Float, nan, inf, fin, Format, binary64, up, down, round, sum, sub, eq, lt, fits, isNan, nanBits, toBits}
-use lib.Ieee.Bits.{nanBits-is, ofBits-toBits}
+use lib.Ieee.{Float, nan, inf, fin, binary64, up, down, round, sum, sub, eq, ne, isNan}
+use lib.Ieee.Compare.{differs-from-itself}
 use lib.Ieee.Fits.{down-pos}
 use lib.Ieee.Scale.{round-same, finite}
-use Rattle.floats.specs.Key.{Ok}
 
 abbrev zeroF : Float
 zeroF = fin false 0 (pos 0)
@@ -51,33 +51,17 @@ finite-test (inf true) = refl
 finite-test (inf false) = refl
 finite-test (fin s m e) = ap (λ (y : Float). eq y zeroF) (sub-self s m e)
 
--- the other test: `-inf < x && x < inf`
-pub finite-between : (x : Float) → lt (inf true) x && lt x (inf false) ≡ finite x
-unfolding lt
-finite-between nan = refl
-finite-between (inf true) = refl
-finite-between (inf false) = refl
-finite-between (fin s m e) = refl
-
-pub finite-not-nan : (x : Float) → T (finite x) → T (not (isNan x))
-unfolding isNan
-finite-not-nan nan t = t
-finite-not-nan (inf s) t = tt
-finite-not-nan (fin s m e) t = tt
-
-pub finite-is : (x : Float) → T (finite x) → (s : Bool) × (m : ℕ) × (e : ℤ) × (x ≡ fin s m e)
-finite-is nan t = absurd t
-finite-is (inf s) t = absurd t
-finite-is (fin s m e) t = (s, m, e, refl)
-
-pub finite-ok : (f : Format) (x : Float) → T (finite x) → T (fits f x) → Ok f x
-finite-ok f nan t h = t
-finite-ok f (inf s) t h = absurd t
-finite-ok f (fin s m e) t h = h
-
--- a finite float's bit pattern is no NaN's, so `from_bits` may be asked of it
-pub pattern-not-nan : (x : Float) → T (finite x) → T (fits binary64 x) → T (not (nanBits binary64 (toBits binary64 x)))
-pattern-not-nan x t h = subst (λ (b : Bool). T (not b)) (sym (nanBits-is binary64 (toBits binary64 x) ∙ ap isNan (ofBits-toBits binary64 x h))) (finite-not-nan x t)
+-- a NaN is what differs from itself
+pub nan-test : (x : Float) → ne x x ≡ isNan x
+unfolding ne isNan
+nan-test nan = refl
+nan-test (inf true) = refl
+nan-test (inf false) = refl
+nan-test (fin s m e) = go (ne (fin s m e) (fin s m e)) (differs-from-itself (fin s m e))
+  where
+    go : (b : Bool) → (T b → fin s m e ≡ nan) → b ≡ false
+    go true h = let n = h tt in let z : _≡_ {A = ℕ} 0 1 = cc in absurd (omega arith)
+    go false h = refl
 
 -- what the borrow checker knows of a float parameter is `fits binary64 x ≡ true`
 pub passes : (b : Bool) → b ≡ true → T b

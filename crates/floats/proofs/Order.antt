@@ -1,4 +1,5 @@
--- A natural number for each float that is no NaN, in the order of the floats: `lt` and `eq` are `ltb` and `eqb` of the keys. Assumes nothing.
+-- A natural number for each float that is no NaN, in the order of the floats: `lt` is `ltb` of the keys, and equal keys are of one
+-- float or of two zeros. Assumes nothing.
 use mathlib.Core.Path.{_≡_, refl, sym, ap, _∙_, subst}
 use Prim.Native.Nat.{ℕ, zero, suc, _+_, _-_, _*_, _/_, _%_, _^_, _≤_, _<_}
 use native.Mathlib.Nat.{lt-irrefl, zero-lt-suc, mul-assoc, mul-comm, mul-right-comm, mul-pos, zero-mul, zero-div, mul-div-cancel, mul-one, div-lt-iff-lt-mul, lt-of-mul-lt-mul-right, lt-of-not-le, not-le-of-lt, mul-lt-mul-of-pos-right, le-of-suc-le-suc}
@@ -12,8 +13,8 @@ use lib.Ieee.Fits.{up-pos, down-pos, and-l, and-r}
 use lib.Ieee.Digits.{back}
 use lib.Ieee.Exact.{HasValue}
 use mathlib.Core.Logic.{_⊎_, inl, inr}
-use Rattle.floats.specs.Same.{same-value}
-use Rattle.floats.specs.Grid.{ltb-iff, ltb-same, plus-same}
+use Rattle.floats.proofs.Same.{same-value}
+use Rattle.floats.proofs.Fractions.{ltb-iff, ltb-same, plus-same}
 
 -- a magnitude in units of the format's smallest value, and what is above all of them
 abbrev pub unitsOf : Format → ℕ → ℤ → ℕ
@@ -236,30 +237,6 @@ key-unique f (fin false m e) (fin true n d) p q h =
     inr (no-units f false m e p (none-left (big f) (unitsOf f m e) (unitsOf f n d) (small f true n d q) h), no-units f true n d q (none-right (big f) (unitsOf f m e) (unitsOf f n d) (small f true n d q) h))
 key-unique f (fin true m e) (fin false n d) p q h =
     inr (no-units f true m e p (none-right (big f) (unitsOf f n d) (unitsOf f m e) (small f true m e p) (sym h)), no-units f false n d q (none-left (big f) (unitsOf f n d) (unitsOf f m e) (small f true m e p) (sym h)))
-
--- ---- `lt` is a strict order, and two values neither of which is below the other are equal up to zero's sign
-lt-says : (f : Format) (x y : Float) → Ok f x → Ok f y → T (lt x y) → key f x < key f y
-lt-says f x y p q t = ltb→lt (key f x) (key f y) (subst T (lt-key f x y p q) t)
-
-key-says : (f : Format) (x y : Float) → Ok f x → Ok f y → key f x < key f y → T (lt x y)
-key-says f x y p q h = subst T (sym (lt-key f x y p q)) (lt→ltb (key f x) (key f y) h)
-
-pub lt-not-self : (f : Format) (x : Float) → Ok f x → T (lt x x) → ⊥
-lt-not-self f x p t = lt-irrefl (key f x) (lt-says f x x p p t)
-
-pub lt-through : (f : Format) (x y z : Float) → Ok f x → Ok f y → Ok f z → T (lt x y) → T (lt y z) → T (lt x z)
-lt-through f x y z p q r h k = key-says f x z p r (go (key f x) (key f y) (key f z) (lt-says f x y p q h) (lt-says f y z q r k))
-  where
-    go : (a b c : ℕ) → a < b → b < c → a < c
-    go a b c h k = omega arith
-
-pub lt-neither : (f : Format) (x y : Float) → Ok f x → Ok f y → T (not (lt x y)) → T (not (lt y x)) → (x ≡ y) ⊎ (isZero x × isZero y)
-lt-neither f x y p q h k =
-    key-unique f x y p q
-    (go (key f x) (key f y) (nltb→le (key f x) (key f y) (subst (λ (b : Bool). T (not b)) (lt-key f x y p q) h)) (nltb→le (key f y) (key f x) (subst (λ (b : Bool). T (not b)) (lt-key f y x q p) k)))
-  where
-    go : (a b : ℕ) → b ≤ a → a ≤ b → a ≡ b
-    go a b h k = omega arith
 
 -- no key is above +inf's
 pub key-le : (f : Format) (x : Float) → Ok f x → key f x ≤ big f + big f

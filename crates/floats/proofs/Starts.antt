@@ -2,6 +2,8 @@
 -- start and a value is the value. Assumes nothing.
 use mathlib.Core.Path.{_≡_, refl, sym, ap, _∙_, subst}
 use mathlib.Core.Logic.{_⊎_, inl, inr}
+use mathlib.Core.List.{List, [], _∷_, foldl}
+use Rattle.laws.specs.Lists.{All}
 use Prim.Native.Nat.{ℕ, zero, suc, _+_, _-_, _*_, _/_, _%_, _^_, _≤_, _<_}
 use native.Mathlib.Nat.{suc-mul, zero-add, zero-mul, zero-div, zero-lt-suc, mul-assoc, mul-one, one-mul, le-trans, le-of-eq, mul-le-mul-right, mul-le-mul-left, le-of-suc-le-suc, lt-of-not-le, not-le-of-lt, eq-of-mul-eq-mul-right, lt-of-mul-lt-mul-right}
 use native.Mathlib.Decide.{decLe}
@@ -154,3 +156,16 @@ start-first up x v = go (before up x (start up)) (unsaid up binary64 x (start up
     go : (b : Bool) → (T (not b) → rank up binary64 (start up) ≤ rank up binary64 x) → cond b x (start up) ≡ x
     go true h = refl
     go false h = start-only up x v (h tt)
+
+-- ---- choices of finite f64s
+pub chosen-finite : (up : Bool) (a x : Float) → FiniteF64 a → FiniteF64 x → FiniteF64 (chosen up a x)
+chosen-finite up a x p q = go (before up x a)
+  where
+    go : (b : Bool) → FiniteF64 (cond b x a)
+    go true = q
+    go false = p
+
+pub fold-finite : (up : Bool) (a : Float) (xs : List Float) → FiniteF64 a → All FiniteF64 xs → FiniteF64 (foldl (chosen up) a xs)
+unfolding All
+fold-finite up a [] p q = p
+fold-finite up a (x ∷ xs) p q = fold-finite up (chosen up a x) xs (chosen-finite up a x p (q .0)) (q .1)

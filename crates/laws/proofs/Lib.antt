@@ -3,3 +3,6 @@ pub mod Same
 pub mod Lists
 pub mod Counting
 pub mod Search
+pub mod Every
+pub mod Powers
+pub mod Differences

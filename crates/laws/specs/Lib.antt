@@ -2,3 +2,4 @@ pub mod Pick
 pub mod Lists
 pub mod Counting
 pub mod Search
+pub mod NoneOf

@@ -61,6 +61,9 @@ eq-rank up f x y p q h = go up (eqb-true (key f x) (key f y) (sym (eq-key f x y 
 pub eq-refl : (f : Format) (x : Float) → Ok f x → eq x x ≡ true
 eq-refl f x p = rank-eq true f x x p p refl
 
+pub eq-sym : (f : Format) (x y : Float) → Ok f x → Ok f y → eq x y ≡ true → eq y x ≡ true
+eq-sym f x y p q h = rank-eq true f y x q p (sym (eq-rank true f x y p q h))
+
 pub eq-trans : (f : Format) (x y z : Float) → Ok f x → Ok f y → Ok f z → eq x y ≡ true → eq y z ≡ true → eq x z ≡ true
 eq-trans f x y z p q r h k = rank-eq true f x z p r (eq-rank true f x y p q h ∙ eq-rank true f y z q r k)
 

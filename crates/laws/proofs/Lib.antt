@@ -1,6 +1,7 @@
 pub mod Bools
 pub mod Same
 pub mod Lists
+pub mod Trees
 pub mod Counting
 pub mod Search
 pub mod Every

@@ -2,17 +2,16 @@
 -- float the least, whatever the order. Assumes nothing.
 use mathlib.Core.Path.{_≡_, refl, sym, ap, _∙_, subst}
 use mathlib.Core.List.{List, [], _∷_, _++_, foldl, foldr, foldl-append, List·Permᴰ}
-use mathlib.Core.Logic.{_⊎_, inl, inr}
 use Prim.Native.Nat.{ℕ, _+_, _-_, _≤_, _<_, min}
 use native.Mathlib.Omega.{arith}
 use mathlib.Core.Bool.{Bool, true, false, not, cond}
-use lib.Dec.{T, ltb, ltb→lt, nltb→le, lt→ltb, eqb}
+use lib.Dec.{T, ltb, ltb→lt, nltb→le, lt→ltb}
 use lib.Ieee.{Float, Format, lt, eq}
 use borrow.Author.Tests.{eq-eqb, eqb-true}
 use Rattle.laws.specs.Lists.{All}
 use Rattle.laws.proofs.Lists.{all-perm, foldr-perm}
 use Rattle.floats.proofs.Fractions.{ltb-iff}
-use Rattle.floats.proofs.Order.{key, big, Ok, isZero, lt-key, key-unique, key-le}
+use Rattle.floats.proofs.Order.{key, big, Ok, lt-key, key-le}
 use Rattle.floats.proofs.Equal.{eq-key}
 
 -- ---- up: the lesser is wanted; otherwise the greater

@@ -1,6 +1,6 @@
 -- An operation that is commutative and associative, up to a relation and on some elements, gives the same by any grouping and order.
 -- Assumes nothing.
-use mathlib.Core.Path.{_≡_, refl, ap, sym, subst, _∙_}
+use mathlib.Core.Path.{_≡_, refl, ap, subst}
 use mathlib.Core.List.{List, [], _∷_, _++_, foldr, List·Permᴰ, List·Permᴰ·nil, List·Permᴰ·cons, List·Permᴰ·swap, List·Permᴰ·trans}
 use mathlib.Core.Option.{Option, none, some}
 use Rattle.laws.specs.Lists.{All}

@@ -1,13 +1,13 @@
 -- Classes of f64 values: their bins are in range, so that the point of finite values agrees; the rows of a list by its magnitudes.
 -- Assumes nothing.
-use Prim.Native.Nat.{ℕ, zero, suc, _+_, _-_, _/_, _^_, _≤_, _<_}
-use mathlib.Core.Path.{_≡_, refl, ap, sym, subst, _∙_}
-use mathlib.Core.Logic.{_⊎_, inl, inr}
+use Prim.Native.Nat.{ℕ, suc, _-_, _/_, _^_, _≤_, _<_}
+use mathlib.Core.Path.{_≡_, refl, ap, sym, _∙_}
+use mathlib.Core.Logic.{inl, inr}
 use mathlib.Core.Bool.{Bool, true, false, Bool·beq}
 use mathlib.Core.List.{List, [], _∷_, map}
 use native.Mathlib.Nat.{div-one, eq-zero-or-pos}
 use native.Mathlib.Omega.{arith}
-use lib.Dec.{T, leb, eqb}
+use lib.Dec.{leb, eqb}
 use lib.ListN.{length}
 use lib.Ieee.{Float, ofBits}
 use lib.Ieee.Bits.{is-true}
@@ -17,13 +17,12 @@ use borrow.Author.Tests.{leb-false, le-leb, lt-leb, eq-eqb, ne-eqb}
 use Rattle.laws.specs.Pick.{pick}
 use Rattle.laws.specs.Lists.{All}
 use Rattle.laws.specs.Counting.{lowest, highest}
-use Rattle.laws.proofs.Bools.{flag, pick-true, pick-false}
 use Rattle.laws.proofs.Counting.{Ends, ends-of, ends-map, ends-unique}
 use Rattle.index.specs.Magnitude.{magnitude, isNegative}
 use Rattle.index.specs.Bins.{finest, finestBin, lowestBin, endBin}
 use Rattle.index.proofs.Laws.{bin-range, larger-finest}
 use Rattle.floats.specs.Starts.{FiniteF64, zeroFloat}
-use Rattle.points.specs.Points.{Row, row, Bag, _⊕_, Point, build, Value, naught, plus, minus, one, bagOf, pointOf}
+use Rattle.points.specs.Points.{Row, row, Bag, _⊕_, Point, build, naught, plus, minus, one, bagOf, pointOf}
 use Rattle.points.specs.Values.{classOf, countsOf}
 use Rattle.points.proofs.Agreement.{Agreed}
 use Rattle.points.proofs.Kept.{ValueIn, ValuesIn, pointOf-agrees}

@@ -9,9 +9,10 @@ use Rattle.laws.specs.Lists.{All}
 use Rattle.laws.specs.Trees.{Tree, leaves, folded}
 use Rattle.laws.proofs.Trees.{Commutes, any-grouping}
 use Rattle.index.specs.Bins.{finest}
-use Rattle.points.specs.Points.{Point, merge}
+use Rattle.points.specs.Points.{merge}
 use Rattle.points.specs.Explicit.{mergeBuckets}
-use Rattle.points.specs.Handed.{Kind, exponential, explicit, Settings, Counts, scaled, bucketed, Handed, handed, kindCounts, mergeCounts, mergeHanded}
+use Rattle.points.specs.Figures.{Kind, exponential, explicit, Settings, Counts, scaled, bucketed, kindCounts}
+use Rattle.points.specs.Handed.{Handed, handed, mergeCounts, mergeHanded}
 use Rattle.points.specs.Stands.{SameExtreme}
 use Rattle.points.proofs.Merge.{merge-comm, merge-assoc}
 use Rattle.points.proofs.Agreement.{Agreed, fresh, fresh-neutral}

@@ -1,14 +1,13 @@
 -- Merging points: the order does not matter, and the point of values is what merging makes of them, also where it merges under a
 -- smaller size than they were built under. Assumes nothing.
-use Prim.Native.Nat.{ℕ, zero, _+_, _-_, _/_, _^_, _≤_, max}
+use Prim.Native.Nat.{ℕ, _-_, _/_, _^_, _≤_, max}
 use mathlib.Core.Path.{_≡_, refl, ap, sym, _∙_}
-use mathlib.Core.Bool.{Bool, true, false}
+use mathlib.Core.Bool.{true}
 use mathlib.Core.List.{List, [], _∷_, _++_, map, map-append, append-assoc}
 use native.Mathlib.Nat.{add-assoc, zero-add}
 use native.Mathlib.Omega.{arith}
 use lib.ListN.{length}
 use borrow.Author.Tests.{leb-true, le-leb}
-use Rattle.laws.specs.Pick.{_and_}
 use Rattle.laws.specs.Search.{least}
 use Rattle.laws.proofs.Bools.{and-left, and-right, and-intro}
 use Rattle.laws.proofs.Same.{Same, sum-append}

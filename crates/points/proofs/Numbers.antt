@@ -1,13 +1,13 @@
 -- Equal numbers, and extremes that are the same, a zero's sign aside. Assumes nothing.
 use mathlib.Core.Path.{_≡_, refl, ap, subst, _∙_}
 use mathlib.Core.Bool.{Bool, true, false}
-use lib.Ieee.{Float, binary64, eq}
+use lib.Ieee.{Float, binary64}
 use Rattle.floats.specs.Answers.{shownOf, smallerOf, largerOf}
 use Rattle.floats.specs.Starts.{FiniteF64}
 use Rattle.floats.specs.declared.Extreme.{Extreme}
 use Rattle.floats.specs.declared.Extreme.the-variants.{None, Value}
 use Rattle.floats.proofs.Choices.{chosen, eq-refl, eq-sym, eq-trans, chosen-cong, chosen-comm, chosen-assoc}
-use Rattle.floats.proofs.Starts.{start, start-finite, start-first, finite-ok, chosen-finite}
+use Rattle.floats.proofs.Starts.{start, start-first, finite-ok, chosen-finite}
 use Rattle.points.specs.Stands.{SameNumber, SameExtreme}
 
 -- ---- the same number

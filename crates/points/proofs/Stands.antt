@@ -1,11 +1,11 @@
 -- Points that stand for values: a point handed out stands for its values in any order, and merged points for the lists joined.
 -- Assumes nothing.
 use Prim.Native.Nat.{ℕ, _-_, _≤_, max}
-use mathlib.Core.Path.{_≡_, refl, ap, sym, subst, _∙_}
+use mathlib.Core.Path.{_≡_, refl, ap, sym, _∙_}
 use mathlib.Core.Bool.{Bool, true, false}
-use mathlib.Core.List.{List, [], _∷_, _++_, map, map-append, List·Permᴰ, Permᴰ·symm}
+use mathlib.Core.List.{List, _++_, map, map-append, List·Permᴰ, Permᴰ·symm}
 use native.Mathlib.Omega.{arith}
-use lib.Ieee.{Float, binary64, add, eq}
+use lib.Ieee.{Float, binary64, add}
 use lib.Ieee.Bits.{is-true}
 use lib.Ieee.Scale.{finite}
 use Rattle.laws.specs.Pick.{pick}
@@ -16,13 +16,14 @@ use Rattle.index.specs.Bins.{finest, lowestBin}
 use Rattle.floats.specs.Answers.{shownOf}
 use Rattle.floats.specs.declared.Extreme.{Extreme}
 use Rattle.floats.specs.declared.Extreme.the-variants.{None, Value}
-use Rattle.floats.specs.Grid.{grid, exactTotal, Gridded}
+use Rattle.floats.specs.Grid.{grid, exactTotal}
 use Rattle.floats.specs.Starts.{zeroFloat, FiniteF64}
 use Rattle.floats.proofs.Sums.{total-perm, gridded-perm, gridded-left, gridded-right, grid-parts, zeros-add}
-use Rattle.points.specs.Points.{pointOf, merge}
+use Rattle.points.specs.Points.{pointOf}
 use Rattle.points.specs.Values.{classOf, countsOf, summaryOf}
 use Rattle.points.specs.Explicit.{boundsPass, bucketsOf}
-use Rattle.points.specs.Handed.{Kind, exponential, explicit, Settings, Counts, scaled, bucketed, Handed, kindCounts, handed, resized, mergeCounts, mergeHanded, extremesAgree, countsAgree, handedAgrees}
+use Rattle.points.specs.Figures.{Kind, exponential, explicit, Settings, scaled, bucketed, kindCounts}
+use Rattle.points.specs.Handed.{Handed, handed, mergeCounts, mergeHanded, extremesAgree, countsAgree, handedAgrees}
 use Rattle.points.specs.Stands.{SameNumber, SameExtreme, Stands}
 use Rattle.points.proofs.Agreement.{agreed-agrees}
 use Rattle.points.proofs.Classes.{countsOf-agrees}
@@ -36,6 +37,11 @@ use Rattle.points.proofs.Summaries.{extreme, extreme-finite, extreme-pa
 counts-perm : (k : Kind) (t : Float) {vs ws : List Float} → List·Permᴰ vs ws → kindCounts k t vs ≡ kindCounts k t ws
 counts-perm (exponential size top) t h = ap scaled (pointOf-perm size (finest - top) (map-perm (classOf t) h))
 counts-perm (explicit bounds) t h = ap (bucketed bounds) (bucketsOf-perm bounds h)
+
+-- the kind under another max_size
+abbrev pub resized : ℕ → Kind → Kind
+resized size (exponential m top) = exponential size top
+resized size (explicit bounds) = explicit bounds
 
 -- the size that a kind was built under, where it has one, is no smaller
 abbrev pub Allows : ℕ → Kind → Type 0

@@ -18,7 +18,7 @@ use lib.Ieee.Digits.{back}
 use Rattle.floats.specs.Starts.{greatestFinite, leastFinite, FiniteF64}
 use Rattle.floats.proofs.Order.{unitsOf, big, key, Ok, isZero, exponent, exact, small, key-fin, key-unique}
 use lib.Ieee.Bits.{ofBits-fits}
-use Rattle.floats.proofs.Choices.{before, chosen, rank, rank-key, unsaid, chosen-stays}
+use Rattle.floats.proofs.Choices.{before, chosen, rank, rank-key, unsaid}
 
 pub finite-ok : (x : Float) → FiniteF64 x → Ok binary64 x
 finite-ok nan v = absurd (v .known)
@@ -129,11 +129,6 @@ unfolding ofBits
 start-finite true = record { known = tt; fits = ofBits-fits binary64 0x7fef_ffff_ffff_ffff }
 start-finite false = record { known = tt; fits = ofBits-fits binary64 0xffef_ffff_ffff_ffff }
 
--- THE START GIVES WAY to every value, and takes the place of none
-pub start-last : (up : Bool) (x : Float) → FiniteF64 x → chosen up x (start up) ≡ x
-start-last up x v =
-    chosen-stays up binary64 x (start up) (finite-ok x v) (finite-ok (start up) (start-finite up)) (rw (starts up) (key-start up x v))
-
 start-only : (up : Bool) (x : Float) → FiniteF64 x → rank up binary64 (start up) ≤ rank up binary64 x → start up ≡ x
 start-only up x v h =
     let k : rank up binary64 x ≡ rank up binary64 (start up) = same (rank up binary64 x) (rank up binary64 (start up)) (rw (starts up) (key-start up x v)) h in
@@ -150,6 +145,7 @@ start-only up x v h =
     not-zero : (up : Bool) → isZero (start up) → ⊥
     not-zero up z = let n : _≡_ {A = ℕ} 9007199254740991 0 = subst isZero (starts up) z in omega arith
 
+-- THE START GIVES WAY to every value
 pub start-first : (up : Bool) (x : Float) → FiniteF64 x → chosen up (start up) x ≡ x
 start-first up x v = go (before up x (start up)) (unsaid up binary64 x (start up) (finite-ok x v) (finite-ok (start up) (start-finite up)))
   where

@@ -1,5 +1,5 @@
 -- Figures: recorded one by one they are those of the list; their counts count the values. Assumes nothing.
-use Prim.Native.Nat.{ℕ, suc, _+_, _-_}
+use Prim.Native.Nat.{suc, _-_}
 use mathlib.Core.Path.{_≡_, refl, ap, sym, _∙_}
 use mathlib.Core.List.{List, [], _∷_, _++_, map, map-append, foldl, append-nil, append-assoc}
 use native.Mathlib.Omega.{arith}
@@ -7,9 +7,9 @@ use lib.ListN.{length}
 use lib.Ieee.{Float}
 use Rattle.index.specs.Bins.{finest}
 use Rattle.points.specs.Points.{Value, naught, plus, minus, bagOf, build, pointOf}
-use Rattle.points.specs.Values.{Summary, classOf, noted, summaryOf}
+use Rattle.points.specs.Values.{classOf}
 use Rattle.points.specs.Explicit.{bucketsOf}
-use Rattle.points.specs.Figures.{Kind, exponential, explicit, Settings, Counts, scaled, bucketed, Figures, kindCounts, figuresOf, recordCounts, recordFigures}
+use Rattle.points.specs.Figures.{Kind, exponential, explicit, Settings, scaled, bucketed, kindCounts, figuresOf, recordCounts, recordFigures}
 use Rattle.points.specs.Handed.{countOf}
 use Rattle.points.proofs.Orders.{record-pointOf}
 use Rattle.points.proofs.Explicit.{record-bucketsOf}

@@ -200,8 +200,3 @@ pub merge-points : (size m n d e : ℕ) (xs ys : List Value) → size ≤ m → 
 unfolding pointOf
 merge-points size m n d e xs ys g h =
     merge-builds size m n d e (bagOf xs) (bagOf ys) g h ∙ ap (λ b. build size (max d e) b) (sym (bagOf-append xs ys))
-
-pub merge-pointOf : (size d : ℕ) (xs ys : List Value) → merge size (pointOf size d xs) (pointOf size d ys) ≡ pointOf size d (xs ++ ys)
-merge-pointOf size d xs ys =
-    let e : max d d ≡ d = omega arith in
-    merge-points size size size d d xs ys (omega arith) (omega arith) ∙ ap (λ k. pointOf size k (xs ++ ys)) e

@@ -2,7 +2,7 @@
 -- Assumes nothing.
 use Prim.Native.Nat.{ℕ, _-_, _≤_, max}
 use mathlib.Core.Path.{_≡_, refl, ap, sym, _∙_}
-use mathlib.Core.Bool.{Bool, true, false}
+use mathlib.Core.Bool.{Bool, true, false, Bool·beq}
 use mathlib.Core.List.{List, _++_, map, map-append, List·Permᴰ, Permᴰ·symm}
 use native.Mathlib.Omega.{arith}
 use lib.Ieee.{Float, binary64, add}
@@ -23,14 +23,14 @@ use Rattle.points.specs.Points.{pointOf}
 use Rattle.points.specs.Values.{classOf, countsOf, summaryOf}
 use Rattle.points.specs.Explicit.{boundsPass, bucketsOf}
 use Rattle.points.specs.Figures.{Kind, exponential, explicit, Settings, scaled, bucketed, kindCounts}
-use Rattle.points.specs.Handed.{Handed, handed, mergeCounts, mergeHanded, extremesAgree, countsAgree, handedAgrees}
+use Rattle.points.specs.Handed.{Handed, handed, mergeCounts, mergeHanded, sameKind, mergeable, extremesAgree, countsAgree, handedAgrees}
 use Rattle.points.specs.Stands.{SameNumber, SameExtreme, Stands}
 use Rattle.points.proofs.Agreement.{agreed-agrees}
 use Rattle.points.proofs.Classes.{countsOf-agrees}
 use Rattle.points.proofs.Numbers.{number-refl, same-shown, shown-next, shown-merged}
 use Rattle.points.proofs.Merge.{merge-points}
 use Rattle.points.proofs.Orders.{pointOf-perm}
-use Rattle.points.proofs.Explicit.{merge-bucketsOf, bucketsOf-perm, bucketsOf-ok, buckets-agree}
+use Rattle.points.proofs.Explicit.{merge-bucketsOf, bucketsOf-perm, bucketsOf-ok, buckets-agree, same-bounds}
 use Rattle.points.proofs.Summaries.{extreme, extreme-finite, extreme-parts, extreme-perm, sum-of}
 
 -- ---- the counts of a list, of lists joined, and in another order
@@ -158,3 +158,19 @@ stands-agrees s p vs h k =
     and-intro (countsAgree (sizeOf (s .kind)) finest (lowestBin finest) (p .counts)) (extremesAgree (p .min) (p .max))
     (rw (k .counts) (counts-agree (s .kind) (s .threshold) vs h (k .values)))
     (extremes-agree (s .extremes) (p .min) (p .max) (summaryOf vs .min) (summaryOf vs .max) (k .min) (k .max))
+
+-- ---- AND TWO OF THEM MERGE
+kind-same : (k : Kind) (t : Float) (vs ws : List Float) → Sound k → sameKind (kindCounts k t vs) (kindCounts k t ws) ≡ true
+kind-same (exponential size top) t vs ws h = refl
+kind-same (explicit bounds) t vs ws h = same-bounds bounds h
+
+beq-self : (b : Bool) → Bool·beq b b ≡ true
+beq-self true = refl
+beq-self false = refl
+
+pub stands-mergeable : (s : Settings) (p q : Handed) (vs ws : List Float) → Sound (s .kind) → Stands s p vs → Stands s q ws → mergeable p q ≡ true
+unfolding mergeable
+stands-mergeable s p q vs ws h j k =
+    rw (j .counts, k .counts, j .extremes, k .extremes)
+    (and-intro (sameKind (kindCounts (s .kind) (s .threshold) vs) (kindCounts (s .kind) (s .threshold) ws)) (Bool·beq (s .extremes) (s .extremes))
+    (kind-same (s .kind) (s .threshold) vs ws h) (beq-self (s .extremes)))

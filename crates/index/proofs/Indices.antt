@@ -9,9 +9,9 @@ use lib.Pow.{pow-add}
 use Rattle.laws.proofs.Differences.{difference, shift-sub, sub-cancel}
 use Rattle.index.specs.DataModel.{InBucket, IsIndex}
 use Rattle.index.specs.Bins.{finest, finestBin, binAt, scaleOf, indexOf}
-use Rattle.index.proofs.Buckets.{Between, from-10}
+use Rattle.index.proofs.Buckets.{Between, from-10, only as one-bin}
 use Rattle.index.proofs.Finest.{Held, finest-in}
-use Rattle.index.proofs.Signed.{signed, only, shifted}
+use Rattle.index.proofs.Integers.{signed, only, shifted}
 use Rattle.index.proofs.Laws.{coarser}
 
 -- the index of scale 0, shifted right as document 01 says, meets the Data Model's inequality at a scale below 0 too
@@ -90,3 +90,17 @@ same-bin level v w i h a b p q =
 pub bin-is : (level w : ℕ) (b : ℕ) → level ≤ finest → Held w → IsIndex (scaleOf level) w (indexOf level b) → binAt level w ≡ b
 bin-is level w b h held p =
     sub-cancel (binAt level w) b (2 ^ (level + 1)) (one-index (scaleOf level) w (indexOf level (binAt level w)) (indexOf level b) (is-index level w h held) p)
+
+-- a bin whose bucket holds the magnitude is its bin
+pub bin-from : (level w b : ℕ) → level ≤ finest → Held w → Between (level - 10) (10 - level) w b → binAt level w ≡ b
+bin-from level w b h held i =
+    one-bin (level - 10) (10 - level) w (binAt level w) b
+    (subst (λ (n : ℕ). Between n (10 - level) w (binAt level w)) (up level h)
+    (subst (λ (n : ℕ). Between (10 - (finest - level)) n w (binAt level w)) (down level h) (from-10 (finest - level) w (finestBin w) (finest-in w held))))
+    i
+  where
+    up : (level : ℕ) → level ≤ 20 → 10 - (20 - level) ≡ level - 10
+    up level h = omega (arith, h)
+
+    down : (level : ℕ) → level ≤ 20 → 20 - level - 10 ≡ 10 - level
+    down level h = omega (arith, h)

@@ -21,7 +21,7 @@ use Rattle.index.specs.Bounds.{Ranked}
 use Rattle.index.proofs.Buckets.{Between, from-10}
 use Rattle.index.proofs.Finest.{Held, finest-in, finest-is}
 use Rattle.index.proofs.Ranks.{finest-from, ranked-last}
-use Rattle.index.proofs.Signed.{signed, only, shifted}
+use Rattle.index.proofs.Integers.{signed, only, shifted}
 use Rattle.index.proofs.Floats.{splits}
 
 -- ---- levels: coarser is division, and a larger magnitude has no smaller bin

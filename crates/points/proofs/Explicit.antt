@@ -172,7 +172,7 @@ total-added [] ys = omega arith
 total-added (x ∷ xs) [] = omega arith
 total-added (x ∷ xs) (y ∷ ys) = omega (arith, total-added xs ys)
 
-length-added : (xs ys : List ℕ) → length xs ≡ length ys → length (added xs ys) ≡ length xs
+pub length-added : (xs ys : List ℕ) → length xs ≡ length ys → length (added xs ys) ≡ length xs
 unfolding added
 length-added [] ys h = sym h
 length-added (x ∷ xs) [] h = refl

@@ -1,5 +1,4 @@
 -- Two points that compute: of a list, and of two points merged. Assumes nothing.
-use Prim.Native.Nat.{_/_, _^_}
 use mathlib.Core.Path.{_≡_, refl}
 use mathlib.Core.List.{[], _∷_}
 use Rattle.laws.specs.Pick.{pick, _and_}

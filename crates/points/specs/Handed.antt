@@ -1,0 +1,93 @@
+-- A point as it is handed out: of either kind, with its switch and zero threshold, extremes that it has or has not, and its sum; and
+-- merging such points. Assumes nothing.
+use Prim.Native.Nat.{ℕ}
+use mathlib.Core.Bool.{Bool, true, false, Bool·beq}
+use mathlib.Core.List.{List}
+use lib.Ieee.{Float, binary64, add}
+use lib.Ieee.Scale.{finite}
+use Rattle.laws.specs.Pick.{pick, _and_}
+use Rattle.floats.specs.Answers.{shownOf, smallerOf, largerOf}
+use Rattle.floats.specs.Starts.{zeroFloat}
+use Rattle.floats.specs.declared.Extreme.{Extreme}
+use Rattle.floats.specs.declared.Extreme.the-variants.{None, Value}
+use Rattle.points.specs.Points.{merge}
+use Rattle.points.specs.Agreement.{agrees}
+use Rattle.points.specs.Explicit.{sameBounds, mergeBuckets, bucketsAgree}
+use Rattle.points.specs.Figures.{Settings, Counts, scaled, bucketed, Figures, figuresOf}
+
+pub record Handed : Type 0 where
+  pub counts : Counts
+  pub extremes : Bool
+  pub threshold : Float
+  pub min : Extreme
+  pub max : Extreme
+  pub sum : Float
+
+-- "with min/max off a point has neither, with the sum off it hands out 0.0"
+abbrev pub handedOut : Settings → Figures → Handed
+handedOut s f =
+    record {
+      counts = f .counts;
+      extremes = s .extremes;
+      threshold = s .threshold;
+      min = shownOf (s .extremes) (f .summary .min);
+      max = shownOf (s .extremes) (f .summary .max);
+      sum = pick (s .sums) (f .summary .sum) zeroFloat;
+    }
+
+-- the point of a list of values
+unfoldable pub handed : Settings → List Float → Handed
+handed s vs = handedOut s (figuresOf s vs)
+
+-- ---- merging
+
+-- number 11 is given for "points of different kind, bounds (as numbers), or min/max switch"
+abbrev pub sameKind : Counts → Counts → Bool
+sameKind (scaled p) (scaled q) = true
+sameKind (scaled p) (bucketed c q) = false
+sameKind (bucketed b p) (scaled q) = false
+sameKind (bucketed b p) (bucketed c q) = sameBounds b c
+
+unfoldable pub mergeable : Handed → Handed → Bool
+mergeable p q = sameKind (p .counts) (q .counts) and Bool·beq (p .extremes) (q .extremes)
+
+-- under a max_size; the first's bounds stay. Points of unlike kinds are refused: their merge has no meaning
+abbrev pub mergeCounts : ℕ → Counts → Counts → Counts
+mergeCounts size (scaled p) (scaled q) = scaled (merge size p q)
+mergeCounts size (scaled p) (bucketed c q) = scaled p
+mergeCounts size (bucketed b p) (scaled q) = bucketed b p
+mergeCounts size (bucketed b p) (bucketed c q) = bucketed b (mergeBuckets p q)
+
+-- "takes the smaller min and larger max (equal: the first's), and adds the sums once"
+unfoldable pub mergeHanded : ℕ → Handed → Handed → Handed
+mergeHanded size p q =
+    record {
+      counts = mergeCounts size (p .counts) (q .counts);
+      extremes = p .extremes;
+      threshold = p .threshold;
+      min = smallerOf (p .min) (q .min);
+      max = largerOf (p .max) (q .max);
+      sum = add binary64 (p .sum) (q .sum);
+    }
+
+-- ---- agreement
+
+-- "Held extremes are finite, both or neither"
+abbrev pub extremesAgree : Extreme → Extreme → Bool
+extremesAgree None None = true
+extremesAgree None (Value y) = false
+extremesAgree (Value x) None = false
+extremesAgree (Value x) (Value y) = finite x and finite y
+
+-- under a max_size, a greatest level (the finest in a merge) and the lowest finest bin
+abbrev pub countsAgree : ℕ → ℕ → ℕ → Counts → Bool
+countsAgree size top low (scaled p) = agrees size top low p
+countsAgree size top low (bucketed b p) = bucketsAgree b p
+
+unfoldable pub handedAgrees : ℕ → ℕ → ℕ → Handed → Bool
+handedAgrees size top low p = countsAgree size top low (p .counts) and extremesAgree (p .min) (p .max)
+
+-- the count of values
+abbrev pub countOf : Counts → ℕ
+countOf (scaled p) = p .total
+countOf (bucketed b p) = p .total

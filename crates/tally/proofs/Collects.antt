@@ -11,10 +11,11 @@ use borrow.Author.Tests.{ne-eqb}
 use Rattle.laws.specs.Every.{all}
 use Rattle.laws.proofs.Cases.{some?, none-not-some}
 use Rattle.tally.specs.Sets.{Set, ascending}
-use Rattle.tally.specs.Kind.{Kind, Lawful}
+use Rattle.tally.specs.Kind.{Kind}
 use Rattle.tally.specs.Map.{Entry, Map, find, updated, sound, sweep, reset, swept, points, keys, plain}
 use Rattle.tally.specs.Tally.{Tally, valuesOf, gathered, due}
 use Rattle.tally.specs.Demand.{any}
+use Rattle.tally.proofs.Lawful.{Lawful}
 use Rattle.tally.proofs.Rising.{rising-ascending, mem-ascending, ext}
 use Rattle.tally.proofs.Entries.{only, rising-only, mem-only, mem-keys, rising-sweep, length-sweep, Shown, points-are, all-found}
 use Rattle.tally.proofs.Logs.{mem-values}
@@ -89,4 +90,5 @@ module _ (K : Kind) (L : Lawful K) (U : List Set) (top k : ℕ) (m : Map K) (t :
         long = omega arith;
         few = h .few;
         settings = h .settings;
+        valid = h .valid;
       }

@@ -122,16 +122,6 @@ module _ (K : Kind) where
   abbrev pub fitting : K .Point → Room → Merge
   fitting r room = cond (suffices K room (r ∷ [])) (merged r) (unmerged 10)
 
-  -- what is asked of merging
-  pub record Mergeable (M : Merging) : Type 0 where
-    pub parts : (vs ws : List (K .Value)) → M .Within (vs ++ ws) → M .Within vs × M .Within ws
-    pub shuffled : (vs ws : List (K .Value)) → List·Permᴰ vs ws → M .Within vs → M .Within ws
-    pub handed : (z : K .Settings) (vs : List (K .Value)) → all (K .finite) vs ≡ true → length vs < 2 ^ 64 → M .Within vs → M .Stands z (K .pointOf z vs) vs
-    pub order : (z : K .Settings) (p : K .Point) (vs ws : List (K .Value)) → List·Permᴰ vs ws → M .Stands z p vs → M .Stands z p ws
-    pub join : (z : K .Settings) (p q : K .Point) (vs ws : List (K .Value)) → all (K .finite) (vs ++ ws) ≡ true → length (vs ++ ws) < 2 ^ 64 → M .Within (vs ++ ws)
-        → M .Stands z p vs → M .Stands z q ws
-        → (r : K .Point) × M .Stands z r (vs ++ ws) × ((room : Room) → M .merge z p q room ≡ fitting r room)
-
   -- "Points enter merges as handed out; a lone one stays. A merge is refused only with 10, and repeated with longer output." The points
   -- qs merged into p one by one: each merge is answered, in all the room that suffices, and the last point stands for vs.
   abbrev pub Folds : Merging → K .Settings → K .Point → List (K .Point) → List (K .Value) → Type 0
@@ -150,42 +140,45 @@ module _ (K : Kind) where
   Pooled M c xs ans =
       (s : Set) → any (gained c xs ans s) ≡ true → M .Within (gained c xs ans s) → Merged M (c .settings) (pointsOf s ans) (gained c xs ans s)
 
-  -- CODE: its states with the lent stores, the map that each stands for, and what its calls do: 12 is shut out by Ok
+  -- CODE: its states with the lent stores, the map that each stands for, and its calls. Ok shuts out number 12.
   pub record Code : Type 1 where
     pub State : Type 0
     pub Ok : State → Type 0
     pub view : State → Map K
-    pub Does : Config K → State → Call K → Answer K → State → Type 0
+    pub call : Config K → State → Call K → Answer K × State
 
   -- a call does the map's step wherever the directory agrees
   abbrev pub Faithful : Config K → Code → Type 0
   Faithful c C =
-      (s r : C .State) (x : Call K) (a : Answer K) → C .Ok s → Agrees K c (C .view s) → C .Does c s x a r
-      → (a ≡ step K c (C .view s) x .answer) × (C .view r ≡ step K c (C .view s) x .map) × C .Ok r
+      (s : C .State) (x : Call K) → C .Ok s → Agrees K c (C .view s)
+      → C .Ok (C .call c s x .1) × (record { answer = C .call c s x .0; map = C .view (C .call c s x .1) } ≡ step K c (C .view s) x)
 
   -- "Take any list of these calls, refused ones included; each call is given the state and lent stores as the last one left them"
-  abbrev pub Runs : Config K → (C : Code) → C .State → List (Call K) → List (Answer K) → C .State → Type 0
-  Runs c C s [] [] e = s ≡ e
-  Runs c C s [] (a ∷ ans) e = ⊥
-  Runs c C s (x ∷ xs) [] e = ⊥
-  Runs c C s (x ∷ xs) (a ∷ ans) e = (r : C .State) × C .Does c s x a r × Runs c C r xs ans e
+  abbrev pub answers : Config K → (C : Code) → C .State → List (Call K) → List (Answer K)
+  answers c C s [] = []
+  answers c C s (x ∷ xs) = C .call c s x .0 ∷ answers c C (C .call c s x .1) xs
 
-  -- a run of faithful code "from a fresh start under one configuration"
-  pub record Run (c : Config K) (xs : List (Call K)) (ans : List (Answer K)) : Type 1 where
-    pub code : Code
-    pub faithful : Faithful c code
-    pub first : code .State
-    pub last : code .State
-    pub ok : code .Ok first
-    pub fresh : code .view first ≡ start K c
-    pub runs : Runs c code first xs ans last
+  abbrev pub left : Config K → (C : Code) → C .State → List (Call K) → C .State
+  left c C s [] = s
+  left c C s (x ∷ xs) = left c C (C .call c s x .1) xs
 
-  -- the directory agrees after any calls, with no premise: its number 8 is never met from a fresh start
+  -- faithful code, "from a fresh start under one configuration"
+  pub record Fresh (c : Config K) (C : Code) (s : C .State) : Type 0 where
+    pub faithful : Faithful c C
+    pub valid : K .valid (c .settings) ≡ true
+    pub ok : C .Ok s
+    pub fresh : C .view s ≡ start K c
+
+  -- with no premise, the directory agrees after any calls: its number 8 is never met
   abbrev pub Steady : Type 1
-  Steady = (c : Config K) (xs : List (Call K)) (ans : List (Answer K)) (r : Run c xs ans) → Agrees K c (r .code .view (r .last))
+  Steady =
+      (c : Config K) (C : Code) (s : C .State) → Fresh c C s → (xs : List (Call K)) → Agrees K c (C .view (left c C s xs))
 
-  -- DEMAND 3
+  -- DEMAND 3, for any kind and for kinds that merge
   abbrev pub Demand : Type 1
   Demand =
-      (c : Config K) (xs : List (Call K)) (ans : List (Answer K)) → Run c xs ans → Premise c xs ans
-      → Answered c xs ans × ((M : Merging) → Mergeable M → Pooled M c xs ans)
+      (c : Config K) (C : Code) (s : C .State) → Fresh c C s → (xs : List (Call K)) → Premise c xs (answers c C s xs) → Answered c xs (answers c C s xs)
+
+  abbrev pub MergedDemand : Merging → Type 1
+  MergedDemand M =
+      (c : Config K) (C : Code) (s : C .State) → Fresh c C s → (xs : List (Call K)) → Premise c xs (answers c C s xs) → Pooled M c xs (answers c C s xs)

@@ -1,10 +1,9 @@
--- A kind of series: what the map and the tally ask of it, and the laws that it owes. Assumes nothing.
+-- A kind of series: what the map and the tally ask of it. Assumes nothing.
 -- Kinds of document 01: the exponential and the explicit histogram over f64. Later kinds: sums and last values (L1, no count and
 -- no merge), histograms over i64 (L6, with their own refusal), a zero threshold (L7, one more of the settings).
-use Prim.Native.Nat.{ℕ, suc, _+_, _^_, _≤_, _<_}
-use mathlib.Core.Path.{_≡_}
+use Prim.Native.Nat.{ℕ, _+_}
 use mathlib.Core.Bool.{Bool, true, false, _&&_}
-use mathlib.Core.List.{List, [], _∷_, _++_}
+use mathlib.Core.List.{List, [], _∷_}
 use mathlib.Core.Option.{Option, none, some}
 use lib.Dec.{leb}
 use lib.ListN.{length}
@@ -23,6 +22,8 @@ firstOf (some n ∷ l) = some n
 pub record Kind : Type 1 where
   -- what is configured for a series; the map and the tally hold it, so that a call can change it in both (L10)
   pub Settings : Type 0
+  -- configuring accepts them (exponential: 1 and 2; explicit: 3)
+  pub valid : Settings → Bool
   pub Value : Type 0
   pub Series : Type 0
   pub Point : Type 0
@@ -46,18 +47,6 @@ pub record Kind : Type 1 where
   pub pointOf : Settings → List Value → Point
   -- `allows`, told from the values recorded before
   pub allowed : Settings → List Value → Value → Bool
-
--- what a kind owes: some relation `Has` between a series and the values recorded into it, in order, with these laws
-pub record Lawful (K : Kind) : Type 1 where
-  pub Has : K .Settings → K .Series → List (K .Value) → Type 0
-  pub fresh : (z : K .Settings) → Has z (K .fresh z) []
-  pub add : (z : K .Settings) (x : K .Series) (vs : List (K .Value)) (v : K .Value) → Has z x vs → K .finite v ≡ true
-      → suc (K .total x) < 2 ^ 64 → K .allows z x v ≡ true → Has z (K .add z x v) (vs ++ v ∷ [])
-  pub agrees : (z : K .Settings) (x : K .Series) (vs : List (K .Value)) → Has z x vs → K .agrees z x ≡ true
-  pub total : (z : K .Settings) (x : K .Series) (vs : List (K .Value)) → Has z x vs → K .total x ≤ length vs
-  pub allows : (z : K .Settings) (x : K .Series) (vs : List (K .Value)) (v : K .Value) → Has z x vs → K .finite v ≡ true
-      → K .allows z x v ≡ K .allowed z vs v
-  pub point : (z : K .Settings) (x : K .Series) (vs : List (K .Value)) → Has z x vs → K .point z x ≡ K .pointOf z vs
 
 -- lent output: places for points and places for counts
 pub record Room : Type 0 where

@@ -4,6 +4,7 @@ use mathlib.Core.Path.{_≡_, refl, ap, sym}
 use mathlib.Core.Bool.{Bool, true, false, _&&_}
 use mathlib.Core.Option.{Option, none, some}
 use native.Mathlib.Omega.{arith}
+use Rattle.laws.specs.Every.{some?}
 
 pub true-not-false : {A : Type 0} → true ≡ false → A
 true-not-false e = let z : _≡_ {A = ℕ} 0 1 = cc in absurd (omega arith)
@@ -11,10 +12,6 @@ true-not-false e = let z : _≡_ {A = ℕ} 0 1 = cc in absurd (omega arith)
 pub and-true : (a b : Bool) → (a && b) ≡ true → (a ≡ true) × (b ≡ true)
 and-true true b e = (refl, e)
 and-true false b e = true-not-false (sym e)
-
-abbrev pub some? : {A : Type 0} → Option A → Bool
-some? none = false
-some? (some a) = true
 
 pub some-inj : {A : Type 0} {a b : A} → some a ≡ some b → a ≡ b
 some-inj e = cc

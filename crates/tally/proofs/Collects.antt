@@ -8,11 +8,11 @@ use native.Mathlib.Omega.{arith}
 use lib.Dec.{eqb}
 use lib.ListN.{length}
 use borrow.Author.Tests.{ne-eqb}
-use Rattle.laws.specs.Every.{all}
-use Rattle.laws.proofs.Cases.{some?, none-not-some}
+use Rattle.laws.specs.Every.{all, some?}
+use Rattle.laws.proofs.Cases.{none-not-some}
 use Rattle.tally.specs.Sets.{Set, ascending}
 use Rattle.tally.specs.Kind.{Kind}
-use Rattle.tally.specs.Map.{Entry, Map, find, updated, sound, sweep, reset, swept, points, keys, plain}
+use Rattle.tally.specs.Map.{Entry, Map, find, sound, sweep, reset, swept, points, keys, plain}
 use Rattle.tally.specs.Tally.{Tally, valuesOf, gathered, due}
 use Rattle.tally.specs.Demand.{any}
 use Rattle.tally.proofs.Lawful.{Lawful}
@@ -66,7 +66,7 @@ module _ (K : Kind) (L : Lawful K) (U : List Set) (top k : ℕ) (m : Map K) (t :
       let a = h .bound b q in
       let e = a .0 in
       let n : eqb (e .bindings) 0 ≡ false = ne-eqb (e .bindings) 0 (λ z. omega (arith, h .here (e .set) e (a .1) .bindings, ap (λ i. t .bindings i) (a .2))) in
-      (reset K e, kept K (m .entries) (h .rising) (e .set) e (a .1) (stays-bound (not (updated K e)) (eqb (e .bindings) 0) (plain (e .set)) n), a .2)
+      (reset K e, kept K (m .entries) (h .rising) (e .set) e (a .1) (stays-bound (not (some? (e .series))) (eqb (e .bindings) 0) (plain (e .set)) n), a .2)
 
   held-length : (s : Set) (l : List (Entry K)) (e : Entry K) → find K s l ≡ some e → 0 < length l
   held-length s [] e f = none-not-some f

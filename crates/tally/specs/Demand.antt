@@ -158,21 +158,12 @@ module _ (K : Kind) where
   answers c C s [] = []
   answers c C s (x ∷ xs) = C .call c s x .0 ∷ answers c C (C .call c s x .1) xs
 
-  abbrev pub left : Config K → (C : Code) → C .State → List (Call K) → C .State
-  left c C s [] = s
-  left c C s (x ∷ xs) = left c C (C .call c s x .1) xs
-
   -- faithful code, "from a fresh start under one configuration"
   pub record Fresh (c : Config K) (C : Code) (s : C .State) : Type 0 where
     pub faithful : Faithful c C
     pub valid : K .valid (c .settings) ≡ true
     pub ok : C .Ok s
     pub fresh : C .view s ≡ start K c
-
-  -- with no premise, the directory agrees after any calls: its number 8 is never met
-  abbrev pub Steady : Type 1
-  Steady =
-      (c : Config K) (C : Code) (s : C .State) → Fresh c C s → (xs : List (Call K)) → Agrees K c (C .view (left c C s xs))
 
   -- DEMAND 3, for any kind and for kinds that merge
   abbrev pub Demand : Type 1

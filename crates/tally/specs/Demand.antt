@@ -2,6 +2,7 @@
 use Prim.Native.Nat.{ℕ, _+_, _^_, _≤_, _<_}
 use mathlib.Core.Path.{_≡_}
 use mathlib.Core.Bool.{Bool, true, false, cond}
+use mathlib.Core.Logic.{_⊎_, inl, inr}
 use mathlib.Core.List.{List, [], _∷_, _++_, map, flatten, List·Permᴰ}
 use mathlib.Core.Option.{some}
 use lib.Dec.{eqb}
@@ -20,11 +21,7 @@ ifNamed (x ∷ s) = (x ∷ s) ∷ []
 module _ (K : Kind) where
   -- THE PREMISE. "Recordings and bindings, refused ones counted, are fewer than 2^64"
   abbrev pub counted : Call K → ℕ
-  counted (measure v attrs) = 1
-  counted (measureBy h v) = 1
-  counted (bind attrs) = 1
-  counted (release h) = 0
-  counted (collect room) = 0
+  counted x = elim x [ measure v attrs ↦ 1 | measureBy h v ↦ 1 | bind attrs ↦ 1 | release h ↦ 0 | collect room ↦ 0 ]
 
   abbrev pub many : List (Call K) → ℕ
   many [] = 0
@@ -33,18 +30,13 @@ module _ (K : Kind) where
   -- answered 0. A value that is refused with 16 (L6) has come to a series like an accepted one: it may be that of overflow, where the
   -- tally knows of no 16, so the premise counts its set too.
   abbrev pub accepted : Answer K → Bool
-  accepted (refuse n) = eqb n 16
-  accepted done = true
-  accepted (handle b) = true
-  accepted (listed ps) = true
+  accepted a = elim a [ refuse n ↦ eqb n 16 | done ↦ true | handle b ↦ true | listed ps ↦ true ]
 
   -- the named set that a call is on; a handle's is that of a binding accepted before
   abbrev pub setOf : Config K → Call K → List Set
-  setOf c (measure v attrs) = ifNamed (canonical (c .filter) attrs)
-  setOf c (measureBy h v) = []
-  setOf c (bind attrs) = ifNamed (canonical (c .filter) attrs)
-  setOf c (release h) = []
-  setOf c (collect room) = []
+  setOf c x =
+      let on : Set → List Set = λ attrs. ifNamed (canonical (c .filter) attrs) in
+      elim x [ measure v attrs ↦ on attrs | measureBy h v ↦ [] | bind attrs ↦ on attrs | release h ↦ [] | collect room ↦ [] ]
 
   -- the named sets of the accepted calls
   abbrev pub sets : Config K → List (Call K) → List (Answer K) → List Set
@@ -80,14 +72,10 @@ module _ (K : Kind) where
 
   abbrev pub pointsOf : Set → List (Answer K) → List (K .Point)
   pointsOf s [] = []
-  pointsOf s (refuse n ∷ ans) = pointsOf s ans
-  pointsOf s (done ∷ ans) = pointsOf s ans
-  pointsOf s (handle b ∷ ans) = pointsOf s ans
-  pointsOf s (listed ps ∷ ans) = among s ps ++ pointsOf s ans
+  pointsOf s (a ∷ ans) = elim a [ refuse n ↦ [] | done ↦ [] | handle b ↦ [] | listed ps ↦ among s ps ] ++ pointsOf s ans
 
   abbrev pub any : List (K .Value) → Bool
-  any [] = false
-  any (v ∷ vs) = true
+  any vs = elim vs [ [] ↦ false | v ∷ l ↦ true ]
 
   -- the set's collected values
   abbrev pub gained : Config K → List (Call K) → List (Answer K) → Set → List (K .Value)
@@ -105,22 +93,17 @@ module _ (K : Kind) where
     pub right : Right c (empty K c) xs ans
     pub cut : (s : Set) → Cut (c .settings) (pointsOf s ans) (gained c xs ans s)
 
-  -- MERGING. A merge's answer: a refusal's number, or the merged point
-  pub data Merge : Type 0 where
-    unmerged : ℕ → Merge
-    merged : K .Point → Merge
-
-  -- Within: a premise on the values (none over f64; L6: the magnitudes total at most 2^63 - 1);
+  -- MERGING. Within: a premise on the values (none over f64; L6: the magnitudes total at most 2^63 - 1);
   -- Stands: the point has what demand 3 names as document 01 defines it from the values;
-  -- merge: two points merged under the settings into lent output
+  -- merge: two points merged under the settings into lent output, a refusal's number or the merged point
   pub record Merging : Type 1 where
     pub Within : List (K .Value) → Type 0
     pub Stands : K .Settings → K .Point → List (K .Value) → Type 0
-    pub merge : K .Settings → K .Point → K .Point → Room → Merge
+    pub merge : K .Settings → K .Point → K .Point → Room → ℕ ⊎ K .Point
 
   -- the point r, wherever there is room for it, and 10 wherever there is not
-  abbrev pub fitting : K .Point → Room → Merge
-  fitting r room = cond (suffices K room (r ∷ [])) (merged r) (unmerged 10)
+  abbrev pub fitting : K .Point → Room → ℕ ⊎ K .Point
+  fitting r room = cond (suffices K room (r ∷ [])) (inr r) (inl 10)
 
   -- "Points enter merges as handed out; a lone one stays. A merge is refused only with 10, and repeated with longer output." The points
   -- qs merged into p one by one: each merge is answered, in all the room that suffices, and the last point stands for vs.

@@ -15,8 +15,7 @@ use Rattle.tally.specs.Tally.{Tally, empty, tell, fed, after, valuesOf}
 
 -- a set, unless it is the empty one
 abbrev pub ifNamed : Set → List Set
-ifNamed [] = []
-ifNamed (x ∷ s) = (x ∷ s) ∷ []
+ifNamed s = elim s [ [] ↦ [] | x ∷ l ↦ (x ∷ l) ∷ [] ]
 
 module _ (K : Kind) where
   -- THE PREMISE. "Recordings and bindings, refused ones counted, are fewer than 2^64"
@@ -123,36 +122,32 @@ module _ (K : Kind) where
   Pooled M c xs ans =
       (s : Set) → any (gained c xs ans s) ≡ true → M .Within (gained c xs ans s) → Merged M (c .settings) (pointsOf s ans) (gained c xs ans s)
 
-  -- CODE: its states with the lent stores, the map that each stands for, and its calls. Ok shuts out number 12.
-  pub record Code : Type 1 where
+  -- CODE, as it stands after configuring: its states with the lent stores (Ok shuts out number 12), the map that each stands for, and
+  -- its calls. A call does the map's step wherever the directory agrees.
+  pub record Code (c : Config K) : Type 1 where
     pub State : Type 0
     pub Ok : State → Type 0
     pub view : State → Map K
-    pub call : Config K → State → Call K → Answer K × State
-
-  -- a call does the map's step wherever the directory agrees
-  abbrev pub Faithful : Config K → Code → Type 0
-  Faithful c C =
-      (s : C .State) (x : Call K) → C .Ok s → Agrees K c (C .view s)
-      → C .Ok (C .call c s x .1) × (record { answer = C .call c s x .0; map = C .view (C .call c s x .1) } ≡ step K c (C .view s) x)
-
-  -- "Take any list of these calls, refused ones included; each call is given the state and lent stores as the last one left them"
-  abbrev pub answers : Config K → (C : Code) → C .State → List (Call K) → List (Answer K)
-  answers c C s [] = []
-  answers c C s (x ∷ xs) = C .call c s x .0 ∷ answers c C (C .call c s x .1) xs
-
-  -- faithful code, "from a fresh start under one configuration"
-  pub record Fresh (c : Config K) (C : Code) (s : C .State) : Type 0 where
-    pub faithful : Faithful c C
+    pub call : State → Call K → Answer K × State
+    pub faithful : (s : State) (x : Call K) → Ok s → Agrees K c (view s)
+        → Ok (call s x .1) × (record { answer = call s x .0; map = view (call s x .1) } ≡ step K c (view s) x)
+    pub first : State
+    pub ok : Ok first
+    pub fresh : view first ≡ start K c
     pub valid : K .valid (c .settings) ≡ true
-    pub ok : C .Ok s
-    pub fresh : C .view s ≡ start K c
 
-  -- DEMAND 3, for any kind and for kinds that merge
+  -- "Take any list of these calls, refused ones included; each call is given the state and lent stores as the last one left them."
+  abbrev pub answers : (c : Config K) (C : Code c) → C .State → List (Call K) → List (Answer K)
+  answers c C s [] = []
+  answers c C s (x ∷ xs) = C .call s x .0 ∷ answers c C (C .call s x .1) xs
+
+  -- "It runs from a fresh start under one configuration"
+  abbrev pub ran : (c : Config K) → Code c → List (Call K) → List (Answer K)
+  ran c C xs = answers c C (C .first) xs
+
+  -- DEMAND 3, for any kind, and for kinds that merge
   abbrev pub Demand : Type 1
-  Demand =
-      (c : Config K) (C : Code) (s : C .State) → Fresh c C s → (xs : List (Call K)) → Premise c xs (answers c C s xs) → Answered c xs (answers c C s xs)
+  Demand = (c : Config K) (C : Code c) (xs : List (Call K)) → Premise c xs (ran c C xs) → Answered c xs (ran c C xs)
 
   abbrev pub MergedDemand : Merging → Type 1
-  MergedDemand M =
-      (c : Config K) (C : Code) (s : C .State) → Fresh c C s → (xs : List (Call K)) → Premise c xs (answers c C s xs) → Pooled M c xs (answers c C s xs)
+  MergedDemand M = (c : Config K) (C : Code c) (xs : List (Call K)) → Premise c xs (ran c C xs) → Pooled M c xs (ran c C xs)

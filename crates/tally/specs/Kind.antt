@@ -1,6 +1,6 @@
 -- A kind of series: what the map and the tally ask of it. Assumes nothing.
--- Kinds of document 01: the exponential and the explicit histogram over f64. Later kinds: sums and last values (L1, no count and
--- no merge), histograms over i64 (L6, with their own refusal), a zero threshold (L7, one more of the settings).
+-- Document 01 has two, the exponential and the explicit histogram over f64. Later: sums and last values (L1, no count and no merge),
+-- histograms over i64 (L6, with a refusal of their own), a zero threshold (L7, one more of the settings).
 use Prim.Native.Nat.{ℕ, _+_}
 use mathlib.Core.Bool.{Bool, true, false, _&&_}
 use mathlib.Core.List.{List, [], _∷_}
@@ -10,8 +10,7 @@ use lib.ListN.{length}
 
 -- refused with the number n unless the test passes
 abbrev pub unless : Bool → ℕ → Option ℕ
-unless true n = none
-unless false n = some n
+unless b n = elim b [ true ↦ none | false ↦ some n ]
 
 -- the order of refusals is the order of the list
 abbrev pub firstOf : List (Option ℕ) → Option ℕ

@@ -1,8 +1,8 @@
 -- What the tally holds after any calls: finite values, and no more of them than were recorded. Assumes nothing.
 use Prim.Native.Nat.{ℕ, _+_, _≤_}
-use mathlib.Core.Path.{_≡_, refl, ap, sym, _∙_}
+use mathlib.Core.Path.{_≡_, refl, sym}
 use mathlib.Core.Bool.{Bool, true, false}
-use mathlib.Core.List.{List, [], _∷_, _++_, map}
+use mathlib.Core.List.{List, [], _∷_, map}
 use mathlib.Core.Option.{Option, none, some, Option·getD}
 use native.Mathlib.Omega.{arith}
 use lib.Dec.{leb}
@@ -12,8 +12,8 @@ use Rattle.laws.proofs.Cases.{none-not-some}
 use Rattle.laws.proofs.Perms.{all-append}
 use Rattle.tally.specs.Sets.{Set, canonical}
 use Rattle.tally.specs.Kind.{Kind, unless, firstOf, suffices}
-use Rattle.tally.specs.Map.{Config, Call, measure, measureBy, bind, release, collect, Answer, refuse, handle, done, listed}
-use Rattle.tally.specs.Tally.{Tally, Told, orUntold, joined, standing, gathered, due, bound, beyond, tell, fed, after, valuesOf}
+use Rattle.tally.specs.Map.{Config, Call, measure, measureBy, bind, release, collect, Answer, listed}
+use Rattle.tally.specs.Tally.{Tally, Told, orUntold, joined, gathered, due, bound, beyond, tell, fed, after, valuesOf}
 use Rattle.tally.specs.Demand.{counted, many}
 use Rattle.tally.proofs.Logs.{values-append, finite-joined}
 

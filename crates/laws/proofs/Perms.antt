@@ -4,7 +4,7 @@ use mathlib.Core.Path.{_≡_, refl, ap, sym, _∙_}
 use mathlib.Core.Bool.{Bool, true, false, _&&_}
 use mathlib.Core.List.{List, [], _∷_, _++_, map, flatten, append-assoc, nil≢cons, head-eq-of-cons-eq, tail-eq-of-cons-eq, List·Permᴰ, List·Permᴰ·nil, List·Permᴰ·cons, List·Permᴰ·swap, List·Permᴰ·trans, Permᴰ·symm, Permᴰ·append-left, Permᴰ·append-right, Permᴰ·middle, Permᴰ·append-nil}
 use lib.ListN.{length}
-use Rattle.laws.specs.Every.{all}
+use Rattle.laws.specs.Tests.{all}
 use Rattle.laws.proofs.Cases.{and-true}
 
 and-swap : (a b c : Bool) → (a && (b && c)) ≡ (b && (a && c))

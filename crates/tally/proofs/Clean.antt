@@ -7,7 +7,7 @@ use mathlib.Core.Option.{Option, none, some, Option·getD}
 use native.Mathlib.Omega.{arith}
 use lib.Dec.{leb}
 use lib.ListN.{length, length-append}
-use Rattle.laws.specs.Every.{all}
+use Rattle.laws.specs.Tests.{all}
 use Rattle.laws.proofs.Cases.{none-not-some}
 use Rattle.laws.proofs.Perms.{all-append}
 use Rattle.tally.specs.Sets.{Set, canonical}

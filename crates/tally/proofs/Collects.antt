@@ -8,7 +8,7 @@ use native.Mathlib.Omega.{arith}
 use lib.Dec.{eqb}
 use lib.ListN.{length}
 use borrow.Author.Tests.{ne-eqb}
-use Rattle.laws.specs.Every.{all, some?}
+use Rattle.laws.specs.Tests.{all, some?}
 use Rattle.laws.proofs.Cases.{none-not-some}
 use Rattle.tally.specs.Sets.{Set, ascending}
 use Rattle.tally.specs.Kind.{Kind}

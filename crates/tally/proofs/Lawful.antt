@@ -4,7 +4,7 @@ use mathlib.Core.Path.{_≡_}
 use mathlib.Core.Bool.{true}
 use mathlib.Core.List.{List, [], _∷_, _++_, List·Permᴰ}
 use lib.ListN.{length}
-use Rattle.laws.specs.Every.{all}
+use Rattle.laws.specs.Tests.{all}
 use Rattle.tally.specs.Kind.{Kind, Room}
 use Rattle.tally.specs.Demand.{Merging, fitting}
 

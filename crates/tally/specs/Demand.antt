@@ -7,7 +7,7 @@ use mathlib.Core.List.{List, [], _∷_, _++_, map, flatten, List·Permᴰ}
 use mathlib.Core.Option.{some}
 use lib.Dec.{eqb}
 use lib.ListN.{length}
-use Rattle.laws.specs.Every.{all}
+use Rattle.laws.specs.Tests.{all}
 use Rattle.tally.specs.Sets.{Set, same, ascending, canonical}
 use Rattle.tally.specs.Kind.{Kind, Room, suffices}
 use Rattle.tally.specs.Map.{Config, Points, Call, measure, measureBy, bind, release, collect, Answer, refuse, done, handle, listed, Map, Agrees, start, step}

@@ -1,3 +1,11 @@
 pub mod Cases
 pub mod Compare
 pub mod Perms
+pub mod Bools
+pub mod Same
+pub mod Lists
+pub mod Counting
+pub mod Search
+pub mod Every
+pub mod Powers
+pub mod Differences

@@ -1,1 +1,6 @@
 pub mod Tests
+pub mod Pick
+pub mod Lists
+pub mod Counting
+pub mod Search
+pub mod NoneOf

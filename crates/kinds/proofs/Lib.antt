@@ -1,0 +1,4 @@
+pub mod Facts
+pub mod Recorded
+pub mod Merges
+pub mod Demand

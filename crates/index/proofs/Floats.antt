@@ -231,13 +231,17 @@ splits x F h z = go (eqb (f x F) 2047) (eqb (f x F) 0) refl refl
         let d = normalised (t x F) (positive (t x F) (i .size)) (mod-lt (toBits binary64 x) (pow-pos 52)) in
         (s x F, t x F * 2 ^ (leadingZeros 64 (t x F) - 11) % 2 ^ 64, 974 - (leadingZeros 64 (t x F) - 11), from-shifted x (s x F) (t x F) (leadingZeros 64 (t x F) - 11) i (d .1))
     go false false u v =
-        let i = normal x F (eqb-false (f x F) 2047 u) (eqb-false (f x F) 0 v) in
-        (s x F, t x F + 2 ^ 52, f x F + 973, record {
-          finite = i .finite;
-          sign = i .sign;
-          value = i .size;
-          least = omega arith;
-          most = most (t x F) (mod-lt (toBits binary64 x) (pow-pos 52));
-          lowest = lowest (f x F) (eqb-false (f x F) 0 v);
-          highest = highest (f x F) (mod-lt (toBits binary64 x / 2 ^ 52) (pow-pos 11)) (eqb-false (f x F) 2047 u);
-        })
+        let i = normal x F (eqb-false (f x F) 2047 u) (eqb-false (f x F) 0 v) in (
+          s x F,
+          t x F + 2 ^ 52,
+          f x F + 973,
+          record {
+            finite = i .finite;
+            sign = i .sign;
+            value = i .size;
+            least = omega arith;
+            most = most (t x F) (mod-lt (toBits binary64 x) (pow-pos 52));
+            lowest = lowest (f x F) (eqb-false (f x F) 0 v);
+            highest = highest (f x F) (mod-lt (toBits binary64 x / 2 ^ 52) (pow-pos 11)) (eqb-false (f x F) 2047 u);
+          },
+        )

@@ -41,15 +41,16 @@ in-bucket level u t w h e r held =
 -- the bin's index is the Data Model's
 pub is-index : (level w : ℕ) → level ≤ finest → Held w → IsIndex (scaleOf level) w (indexOf level (binAt level w))
 is-index level w h held =
-    elim (difference level 10)
-    [ inl r ↦
-        subst (λ (s : ℤ). IsIndex s w (indexOf level (binAt level w))) (sym (r .2))
-        (in-bucket level (r .0) 0 w h (up (r .0) level (r .1)) (fine (r .0) level h (r .1)) held)
-    | inr r ↦
-        subst (λ (s : ℤ). IsIndex s w (indexOf level (binAt level w))) (sym (r .2))
-        (indexOf 10 (binAt 10 w),
-        in-bucket 10 0 0 w (omega arith) refl (refl, refl) held,
-        coarse (suc (r .0)) level (r .1))
+    elim (difference level 10) [
+      | inl r ↦
+          subst (λ (s : ℤ). IsIndex s w (indexOf level (binAt level w))) (sym (r .2))
+          (in-bucket level (r .0) 0 w h (up (r .0) level (r .1)) (fine (r .0) level h (r .1)) held)
+      | inr r ↦
+          subst (λ (s : ℤ). IsIndex s w (indexOf level (binAt level w))) (sym (r .2)) (
+            indexOf 10 (binAt 10 w),
+            in-bucket 10 0 0 w (omega arith) refl (refl, refl) held,
+            coarse (suc (r .0)) level (r .1),
+          )
     ]
   where
     up : (u level : ℕ) → level ≡ u + 10 → level + 0 ≡ 10 + u

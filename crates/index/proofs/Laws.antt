@@ -98,9 +98,10 @@ highest-is level h =
 pub in-range : (x : Float) → T (fits binary64 x) → finite x ≡ true → (magnitude x ≡ 0 → ⊥) → (least ≤ magnitude x) × (magnitude x ≤ greatest)
 in-range x F f z =
     let r = splits x F f z in
-    let s = r .3 in
-    (le-trans (mul-le-mul (s .least) (pow-mono (s .lowest))) (le-of-eq (sym (s .value))),
-    le-trans (le-of-eq (s .value)) (mul-le-mul (under (r .1) (s .most)) (pow-mono (s .highest))))
+    let s = r .3 in (
+      le-trans (mul-le-mul (s .least) (pow-mono (s .lowest))) (le-of-eq (sym (s .value))),
+      le-trans (le-of-eq (s .value)) (mul-le-mul (under (r .1) (s .most)) (pow-mono (s .highest))),
+    )
   where
     under : (m : ℕ) → m < 2 ^ 53 → m ≤ 2 ^ 53 - 1
     under m h = omega (arith, h)
@@ -113,9 +114,10 @@ held x F f z =
 pub bin-range : (level : ℕ) (x : Float) → level ≤ finest → T (fits binary64 x) → finite x ≡ true → (magnitude x ≡ 0 → ⊥)
     → (lowestBin level ≤ binAt level (magnitude x)) × (binAt level (magnitude x) < endBin level)
 bin-range level x h F f z =
-    let r = in-range x F f z in
-    (le-trans (le-of-eq (sym (lowest-is level))) (larger level least (magnitude x) (r .0)),
-    le-trans (suc-le-suc (larger level (magnitude x) greatest (r .1))) (le-of-eq (highest-is level h)))
+    let r = in-range x F f z in (
+      le-trans (le-of-eq (sym (lowest-is level))) (larger level least (magnitude x) (r .0)),
+      le-trans (suc-le-suc (larger level (magnitude x) greatest (r .1))) (le-of-eq (highest-is level h)),
+    )
 
 -- ---- the sign plays no part in the bin
 

@@ -109,9 +109,9 @@ Whole (negsuc n) = ⊥
 
 pub sub-cancel : (x v y : ℕ) → pos x -ℤ pos y ≡ pos v -ℤ pos y → x ≡ v
 sub-cancel x v y e =
-    elim (difference x y)
-    [ inl r ↦ elim (difference v y) [ inl s ↦ up (r .0) (s .0) x v y (r .1) (s .1) (ap natAbs (sym (r .2) ∙ e ∙ s .2)) | inr s ↦ absurd (subst Whole (sym (r .2) ∙ e ∙ s .2) tt) ]
-    | inr r ↦ elim (difference v y) [ inl s ↦ absurd (subst Whole (sym (s .2) ∙ sym e ∙ r .2) tt) | inr s ↦ down (r .0) (s .0) x v y (r .1) (s .1) (ap natAbs (sym (r .2) ∙ e ∙ s .2)) ]
+    elim (difference x y) [
+      | inl r ↦ elim (difference v y) [ inl s ↦ up (r .0) (s .0) x v y (r .1) (s .1) (ap natAbs (sym (r .2) ∙ e ∙ s .2)) | inr s ↦ absurd (subst Whole (sym (r .2) ∙ e ∙ s .2) tt) ]
+      | inr r ↦ elim (difference v y) [ inl s ↦ absurd (subst Whole (sym (s .2) ∙ sym e ∙ r .2) tt) | inr s ↦ down (r .0) (s .0) x v y (r .1) (s .1) (ap natAbs (sym (r .2) ∙ e ∙ s .2)) ]
     ]
   where
     up : (d c x v y : ℕ) → x ≡ d + y → v ≡ c + y → d ≡ c → x ≡ v

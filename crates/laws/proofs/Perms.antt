@@ -1,4 +1,4 @@
--- Permutations of lists: what they leave as it is, lists of lists and images. Assumes nothing.
+-- Lists in another order: a test of every element, lists of lists, images. Assumes nothing.
 use Prim.Native.Nat.{suc}
 use mathlib.Core.Path.{_≡_, refl, ap, sym, _∙_}
 use mathlib.Core.Bool.{Bool, true, false, _&&_}
@@ -34,12 +34,6 @@ module _ {A : Type 0} where
   all-perm p (List·Permᴰ·swap {a = a} {b = b} {l = l} e g) = rw (← e, ← g) (and-swap (p a) (p b) (all p l))
   all-perm p (List·Permᴰ·trans h k) = all-perm p h ∙ all-perm p k
 
-  pub length-perm : {l m : List A} → List·Permᴰ l m → length l ≡ length m
-  length-perm List·Permᴰ·nil = refl
-  length-perm (List·Permᴰ·cons e h) = ap suc (length-perm h)
-  length-perm (List·Permᴰ·swap e g) = refl
-  length-perm (List·Permᴰ·trans h k) = length-perm h ∙ length-perm k
-
   append-swap : (l m : List A) → List·Permᴰ (l ++ m) (m ++ l)
   append-swap [] m = Permᴰ·symm (Permᴰ·append-nil m)
   append-swap (x ∷ l) m = List·Permᴰ·trans (List·Permᴰ·cons refl (append-swap l m)) (Permᴰ·symm (Permᴰ·middle x m l))
@@ -52,23 +46,23 @@ module _ {A : Type 0} where
       rw (← e, ← g, ← append-assoc a b (flatten l), ← append-assoc b a (flatten l)) (Permᴰ·append-right (flatten l) (append-swap a b))
   flatten-perm (List·Permᴰ·trans h k) = List·Permᴰ·trans (flatten-perm h) (flatten-perm k)
 
--- a permutation of the images is the image of a permutation
-pub map-perm : {A B : Type 0} (f : A → B) {l m : List B} → List·Permᴰ l m → (ws : List A) → l ≡ map f ws → (us : List A) × List·Permᴰ ws us × (m ≡ map f us)
-map-perm f List·Permᴰ·nil [] e = ([], List·Permᴰ·nil, refl)
-map-perm f List·Permᴰ·nil (w ∷ ws) e = absurd (nil≢cons e)
-map-perm f (List·Permᴰ·cons p h) [] e = absurd (nil≢cons (sym e))
-map-perm f (List·Permᴰ·cons {a = a} {b = b} p h) (w ∷ ws) e =
-    let r = map-perm f h ws (tail-eq-of-cons-eq e) in
+-- images in another order are the images of the list in another order
+pub unmap-perm : {A B : Type 0} (f : A → B) {l m : List B} → List·Permᴰ l m → (ws : List A) → l ≡ map f ws → (us : List A) × List·Permᴰ ws us × (m ≡ map f us)
+unmap-perm f List·Permᴰ·nil [] e = ([], List·Permᴰ·nil, refl)
+unmap-perm f List·Permᴰ·nil (w ∷ ws) e = absurd (nil≢cons e)
+unmap-perm f (List·Permᴰ·cons p h) [] e = absurd (nil≢cons (sym e))
+unmap-perm f (List·Permᴰ·cons {a = a} {b = b} p h) (w ∷ ws) e =
+    let r = unmap-perm f h ws (tail-eq-of-cons-eq e) in
     let q : b ≡ f w = sym p ∙ head-eq-of-cons-eq e in
     (w ∷ r .0, List·Permᴰ·cons refl (r .1), two q (r .2))
-map-perm f (List·Permᴰ·swap p g) [] e = absurd (nil≢cons (sym e))
-map-perm f (List·Permᴰ·swap p g) (w ∷ []) e = absurd (nil≢cons (sym (tail-eq-of-cons-eq e)))
-map-perm f (List·Permᴰ·swap {a = a} {b = b} {a′ = c} {b′ = d} {l = l} p g) (w ∷ u ∷ ws) e =
+unmap-perm f (List·Permᴰ·swap p g) [] e = absurd (nil≢cons (sym e))
+unmap-perm f (List·Permᴰ·swap p g) (w ∷ []) e = absurd (nil≢cons (sym (tail-eq-of-cons-eq e)))
+unmap-perm f (List·Permᴰ·swap {a = a} {b = b} {a′ = c} {b′ = d} {l = l} p g) (w ∷ u ∷ ws) e =
     let i : c ≡ f u = sym g ∙ head-eq-of-cons-eq (tail-eq-of-cons-eq e) in
     let j : d ≡ f w = sym p ∙ head-eq-of-cons-eq e in
     let n : l ≡ map f ws = tail-eq-of-cons-eq (tail-eq-of-cons-eq e) in
     (u ∷ w ∷ ws, List·Permᴰ·swap refl refl, rw (i, j, n))
-map-perm f (List·Permᴰ·trans h k) ws e =
-    let r = map-perm f h ws e in
-    let q = map-perm f k (r .0) (r .2) in
+unmap-perm f (List·Permᴰ·trans h k) ws e =
+    let r = unmap-perm f h ws e in
+    let q = unmap-perm f k (r .0) (r .2) in
     (q .0, List·Permᴰ·trans (r .1) (q .1), q .2)

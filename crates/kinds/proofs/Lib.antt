@@ -2,3 +2,4 @@ pub mod Facts
 pub mod Recorded
 pub mod Merges
 pub mod Demand
+pub mod Example

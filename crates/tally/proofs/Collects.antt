@@ -1,25 +1,23 @@
 -- A delta collection: the map's points are those that the tally has due, and what holds between the two holds after it. Assumes nothing.
 use Prim.Native.Nat.{ℕ, _<_}
 use mathlib.Core.Path.{_≡_, refl, ap, sym, subst, _∙_}
-use mathlib.Core.Bool.{true, false, not, _&&_}
+use mathlib.Core.Bool.{true, _&&_}
 use mathlib.Core.List.{List, [], _∷_, map}
 use mathlib.Core.Option.{Option, none, some}
 use native.Mathlib.Omega.{arith}
-use lib.Dec.{eqb}
 use lib.ListN.{length}
-use borrow.Author.Tests.{ne-eqb}
 use Rattle.laws.specs.Tests.{all, some?}
 use Rattle.laws.proofs.Cases.{none-not-some}
 use Rattle.tally.specs.Sets.{Set, ascending}
 use Rattle.tally.specs.Kind.{Kind}
-use Rattle.tally.specs.Map.{Entry, Map, find, sound, sweep, reset, swept, points, keys, plain}
+use Rattle.tally.specs.Map.{Entry, Map, find, sound, sweep, reset, swept, points, keys}
 use Rattle.tally.specs.Tally.{Tally, valuesOf, gathered, due}
 use Rattle.tally.specs.Demand.{any}
 use Rattle.tally.proofs.Lawful.{Lawful}
 use Rattle.tally.proofs.Rising.{rising-ascending, mem-ascending, ext}
 use Rattle.tally.proofs.Entries.{only, rising-only, mem-only, mem-keys, rising-sweep, length-sweep, Shown, points-are, all-found}
 use Rattle.tally.proofs.Logs.{mem-values}
-use Rattle.tally.proofs.Sweep.{from, kept, rooted-sweep, apart-sweep, stays-bound}
+use Rattle.tally.proofs.Sweep.{from, kept, rooted-sweep, apart-sweep, Idle, stays}
 use Rattle.tally.proofs.Holds.{Kept, At, Holds}
 use Rattle.tally.proofs.Places.{sound-now}
 
@@ -65,8 +63,8 @@ module _ (K : Kind) (L : Lawful K) (U : List Set) (top k : ℕ) (m : Map K) (t :
   bound b q =
       let a = h .bound b q in
       let e = a .0 in
-      let n : eqb (e .bindings) 0 ≡ false = ne-eqb (e .bindings) 0 (λ z. omega (arith, h .here (e .set) e (a .1) .bindings, ap (λ i. t .bindings i) (a .2))) in
-      (reset K e, kept K (m .entries) (h .rising) (e .set) e (a .1) (stays-bound (not (some? (e .series))) (eqb (e .bindings) 0) (plain (e .set)) n), a .2)
+      let n : Idle K e → ⊥ = λ i. omega (arith, i .unbound, h .here (e .set) e (a .1) .bindings, ap (λ i. t .bindings i) (a .2)) in
+      (reset K e, kept K (m .entries) (h .rising) (e .set) e (a .1) (stays K e n), a .2)
 
   held-length : (s : Set) (l : List (Entry K)) (e : Entry K) → find K s l ≡ some e → 0 < length l
   held-length s [] e f = none-not-some f

@@ -2,17 +2,16 @@
 -- float the least, whatever the order. Assumes nothing.
 use mathlib.Core.Path.{_≡_, refl, sym, ap, _∙_, subst}
 use mathlib.Core.List.{List, [], _∷_, _++_, foldl, foldr, foldl-append, List·Permᴰ}
-use mathlib.Core.Logic.{_⊎_, inl, inr}
 use Prim.Native.Nat.{ℕ, _+_, _-_, _≤_, _<_, min}
 use native.Mathlib.Omega.{arith}
 use mathlib.Core.Bool.{Bool, true, false, not, cond}
-use lib.Dec.{T, ltb, ltb→lt, nltb→le, lt→ltb, eqb}
+use lib.Dec.{T, ltb, ltb→lt, nltb→le, lt→ltb}
 use lib.Ieee.{Float, Format, lt, eq}
 use borrow.Author.Tests.{eq-eqb, eqb-true}
 use Rattle.laws.specs.Lists.{All}
 use Rattle.laws.proofs.Lists.{all-perm, foldr-perm}
 use Rattle.floats.proofs.Fractions.{ltb-iff}
-use Rattle.floats.proofs.Order.{key, big, Ok, isZero, lt-key, key-unique, key-le}
+use Rattle.floats.proofs.Order.{key, big, Ok, lt-key, key-le}
 use Rattle.floats.proofs.Equal.{eq-key}
 
 -- ---- up: the lesser is wanted; otherwise the greater
@@ -60,6 +59,9 @@ eq-rank up f x y p q h = go up (eqb-true (key f x) (key f y) (sym (eq-key f x y 
 -- equal numbers, and the ranks of them
 pub eq-refl : (f : Format) (x : Float) → Ok f x → eq x x ≡ true
 eq-refl f x p = rank-eq true f x x p p refl
+
+pub eq-sym : (f : Format) (x y : Float) → Ok f x → Ok f y → eq x y ≡ true → eq y x ≡ true
+eq-sym f x y p q h = rank-eq true f y x q p (sym (eq-rank true f x y p q h))
 
 pub eq-trans : (f : Format) (x y z : Float) → Ok f x → Ok f y → Ok f z → eq x y ≡ true → eq y z ≡ true → eq x z ≡ true
 eq-trans f x y z p q r h k = rank-eq true f x z p r (eq-rank true f x y p q h ∙ eq-rank true f y z q r k)

@@ -1,16 +1,16 @@
 -- The sum of whole numbers of 1/1024 whose magnitudes total at most 2 ^ 43 is exact: neither their order nor how they are cut into
 -- parts matters. Assumes nothing.
-use mathlib.Core.Path.{_≡_, refl, sym, ap, _∙_, subst}
-use mathlib.Core.List.{List, [], _∷_, _++_, foldl, foldr, List·Permᴰ}
-use Prim.Native.Nat.{ℕ, suc, _+_, _-_, _*_, _^_, _≤_, _<_}
+use mathlib.Core.Path.{_≡_, refl, sym, ap, _∙_}
+use mathlib.Core.List.{List, [], _∷_, _++_, foldl, List·Permᴰ}
+use Prim.Native.Nat.{ℕ, suc, _+_, _-_, _^_, _≤_, _<_}
 use native.Mathlib.Omega.{arith}
 use mathlib.Core.Bool.{Bool, true, false, cond}
 use lib.IntN.{ℤ, pos, negsuc, natAbs, subℕ, _+ℤ_, +ℤ-assoc, +ℤ-comm, +ℤ-idl, +ℤ-idr}
 use lib.Dec.{T, ltb, ltb→lt}
-use lib.Ieee.{Float, fin, binary64, add, ofBits, round}
+use lib.Ieee.{Float, binary64, add, ofBits, round}
 use Rattle.laws.specs.Lists.{All}
-use Rattle.laws.proofs.Lists.{all-append, all-left, all-right, all-perm, foldr-perm}
-use Rattle.floats.specs.Grid.{grid, OnGrid, steps, Whole, exactTotal, weight, Gridded}
+use Rattle.laws.proofs.Lists.{all-left, all-right, all-perm, foldr-perm}
+use Rattle.floats.specs.Grid.{grid, steps, Whole, exactTotal, weight, Gridded}
 use Rattle.floats.specs.Starts.{zeroFloat}
 use Rattle.floats.proofs.Exact.{grid-exact, add-grid}
 

@@ -1,7 +1,7 @@
 -- Counts in mapped lists, the ends of a list of numbers, tables. Assumes nothing.
-use Prim.Native.Nat.{ℕ, zero, suc, _+_, _-_, _≤_, _<_, min, max}
-use mathlib.Core.Path.{_≡_, refl, ap, sym, _∙_}
-use mathlib.Core.Logic.{_≢_, _⊎_, inl, inr}
+use Prim.Native.Nat.{ℕ, zero, suc, _+_, _≤_, _<_, min, max}
+use mathlib.Core.Path.{_≡_, refl, ap, _∙_}
+use mathlib.Core.Logic.{_≢_, inl, inr}
 use mathlib.Core.List.{List, [], _∷_, _++_, map}
 use native.Mathlib.Decide.{ℕ-discrete, decLe}
 use native.Mathlib.Nat.{eq-zero-or-pos, min-eq-left, min-eq-right, max-eq-left, max-eq-right}
@@ -135,22 +135,9 @@ table-set f lo (suc n) (suc k) =
     rw (e, ← z) (ap (λ l. f lo ∷ l) (table-set f (suc lo) n k))
 
 -- ---- totals
-pub total-tables : (f g : ℕ → ℕ) (lo n : ℕ) → total (table (λ j. f j + g j) lo n) ≡ total (table f lo n) + total (table g lo n)
-total-tables f g lo zero = refl
-total-tables f g lo (suc n) = omega (arith, total-tables f g (suc lo) n)
-
 pub total-none : (f : ℕ → ℕ) (lo n : ℕ) → ((j : ℕ) → lo ≤ j → f j ≡ 0) → total (table f lo n) ≡ 0
 total-none f lo zero h = refl
 total-none f lo (suc n) h = omega (arith, h lo (omega arith), total-none f (suc lo) n (λ j l. h j (omega arith)))
-
-pub total-hit : (i lo n : ℕ) → lo ≤ i → i < lo + n → total (table (λ j. hit j i) lo n) ≡ 1
-total-hit i lo zero h l = absurd (omega arith)
-total-hit i lo (suc n) h l =
-    elim (ℕ-discrete i lo) [
-      | yes e ↦
-          omega (arith, ap (hit lo) e, hit-same lo, total-none (λ j. hit j i) (suc lo) n (λ j k. hit-other j i (λ q. omega arith)))
-      | no ne ↦ omega (arith, hit-other lo i ne, total-hit i (suc lo) n (omega arith) (omega arith))
-    ]
 
 pub total-set : (cs : List ℕ) (k : ℕ) → k < length cs → total (set cs k (getD cs k 0 + 1)) ≡ total cs + 1
 total-set [] k h = absurd (omega arith)

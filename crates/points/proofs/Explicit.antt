@@ -2,21 +2,22 @@
 -- neutral; agreement is kept. Assumes nothing.
 use Prim.Native.Nat.{ℕ, zero, suc, _+_, _≤_, _<_}
 use mathlib.Core.Path.{_≡_, refl, ap, sym, subst, _∙_}
-use mathlib.Core.Logic.{_≢_, _⊎_, inl, inr}
-use mathlib.Core.Bool.{Bool, true, false}
+use mathlib.Core.Logic.{inl, inr}
+use mathlib.Core.Bool.{Bool, true, false, not}
 use mathlib.Core.List.{List, [], _∷_, _++_, map, foldl, map-append, append-nil, append-assoc, List·Permᴰ}
 use native.Mathlib.Omega.{arith}
-use lib.ListN.{length, getD, set, length-append, length-set}
-use lib.Dec.{eqb}
-use borrow.Author.Tests.{eqb-true, eqb-false, eq-eqb, ne-eqb}
-use lib.Ieee.{Float, lt}
+use lib.ListN.{length, getD, length-append, length-set}
+use lib.Dec.{leb, eqb}
+use borrow.Author.Tests.{eqb-true, eqb-false, eq-eqb, ne-eqb, not-true}
+use lib.Ieee.{Float, lt, eq, isNan}
+use Rattle.floats.proofs.Finite.{eq-self}
 use Rattle.laws.specs.Pick.{pick, _and_}
 use Rattle.laws.specs.Counting.{hit, count, table, total}
 use Rattle.laws.proofs.Same.{sum-append, same-perm}
 use Rattle.laws.proofs.Lists.{map-perm, length-perm}
 use Rattle.laws.proofs.Counting.{length-table, table-cong, table-set, total-none, total-set}
 use Rattle.laws.proofs.Bools.{flag, and-left, and-right, and-intro, pick-true, pick-false}
-use Rattle.points.specs.Explicit.{bucketOf, bucketCount, Buckets, bucketsOf, recordBucket, added, mergeBuckets, boundsPass, bucketsAgree}
+use Rattle.points.specs.Explicit.{bucketOf, bucketCount, Buckets, bucketsOf, recordBucket, added, mergeBuckets, mostBounds, noNan, rising, boundsPass, sameBounds, bucketsAgree}
 
 -- ---- MERGING IS COMMUTATIVE AND ASSOCIATIVE, of any points
 added-comm : (xs ys : List ℕ) → added xs ys ≡ added ys xs
@@ -198,3 +199,17 @@ bucketsOf-ok bounds vs h = subst (BucketsOk bounds) (recordBuckets-of bounds [] 
     go : (p : Buckets) (vs : List Float) → BucketsOk bounds p → BucketsOk bounds (recordBuckets bounds p vs)
     go p [] k = k
     go p (v ∷ vs) k = go (recordBucket bounds p v) vs (record-buckets-ok bounds p v k)
+
+-- ---- bounds that pass are the same as themselves
+same-self : (bs : List Float) → noNan bs ≡ true → sameBounds bs bs ≡ true
+unfolding noNan sameBounds
+same-self [] h = refl
+same-self (b ∷ bs) h =
+    and-intro (eq b b) (sameBounds bs bs) (eq-self b (not-true (isNan b) (and-left (not (isNan b)) (noNan bs) h)))
+    (same-self bs (and-right (not (isNan b)) (noNan bs) h))
+
+pub same-bounds : (bs : List Float) → boundsPass bs ≡ true → sameBounds bs bs ≡ true
+unfolding boundsPass
+same-bounds bs h =
+    let l = leb (length bs) mostBounds in
+    same-self bs (and-left (noNan bs) (rising bs) (and-right l (noNan bs and rising bs) h))

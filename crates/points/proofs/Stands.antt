@@ -1,83 +1,47 @@
 -- Points that stand for values: a point handed out stands for its values in any order, and merged points for the lists joined.
 -- Assumes nothing.
 use Prim.Native.Nat.{ℕ, _-_, _≤_, max}
-use mathlib.Core.Path.{_≡_, refl, ap, sym, subst, _∙_}
-use mathlib.Core.Bool.{Bool, true, false}
-use mathlib.Core.List.{List, [], _∷_, _++_, map, map-append, List·Permᴰ, Permᴰ·symm}
+use mathlib.Core.Path.{_≡_, refl, ap, sym, _∙_}
+use mathlib.Core.Bool.{Bool, true, false, Bool·beq}
+use mathlib.Core.List.{List, _++_, map, map-append, List·Permᴰ, Permᴰ·symm}
 use native.Mathlib.Omega.{arith}
-use lib.Ieee.{Float, binary64, add, eq}
+use lib.Ieee.{Float, binary64, add}
+use lib.Ieee.Bits.{is-true}
+use lib.Ieee.Scale.{finite}
 use Rattle.laws.specs.Pick.{pick}
 use Rattle.laws.specs.Lists.{All}
+use Rattle.laws.proofs.Bools.{and-intro}
 use Rattle.laws.proofs.Lists.{all-append, all-perm, map-perm}
-use Rattle.index.specs.Bins.{finest}
-use Rattle.floats.specs.Answers.{shownOf, smallerOf, largerOf}
-use Rattle.floats.specs.Grid.{grid, exactTotal, Gridded}
-use Rattle.floats.specs.Starts.{zeroFloat, FiniteF64}
+use Rattle.index.specs.Bins.{finest, lowestBin}
+use Rattle.floats.specs.Answers.{shownOf}
 use Rattle.floats.specs.declared.Extreme.{Extreme}
 use Rattle.floats.specs.declared.Extreme.the-variants.{None, Value}
-use Rattle.floats.proofs.Choices.{chosen, eq-refl, eq-trans, chosen-cong}
-use Rattle.floats.proofs.Starts.{finite-ok, chosen-finite}
+use Rattle.floats.specs.Grid.{grid, exactTotal}
+use Rattle.floats.specs.Starts.{zeroFloat, FiniteF64}
 use Rattle.floats.proofs.Sums.{total-perm, gridded-perm, gridded-left, gridded-right, grid-parts, zeros-add}
-use Rattle.points.specs.Points.{pointOf, merge}
-use Rattle.points.specs.Values.{classOf, summaryOf}
-use Rattle.points.specs.Explicit.{bucketsOf, mergeBuckets}
-use Rattle.points.specs.Handed.{Kind, exponential, explicit, Settings, Counts, scaled, bucketed, Handed, kindCounts, handed, resized, mergeCounts, mergeHanded}
+use Rattle.points.specs.Points.{pointOf}
+use Rattle.points.specs.Values.{classOf, countsOf, summaryOf}
+use Rattle.points.specs.Explicit.{boundsPass, bucketsOf}
+use Rattle.points.specs.Figures.{Kind, exponential, explicit, Settings, scaled, bucketed, kindCounts}
+use Rattle.points.specs.Handed.{Handed, handed, mergeCounts, mergeHanded, sameKind, mergeable, extremesAgree, countsAgree, handedAgrees}
 use Rattle.points.specs.Stands.{SameNumber, SameExtreme, Stands}
+use Rattle.points.proofs.Agreement.{agreed-agrees}
+use Rattle.points.proofs.Classes.{countsOf-agrees}
+use Rattle.points.proofs.Numbers.{number-refl, same-shown, shown-next, shown-merged}
 use Rattle.points.proofs.Merge.{merge-points}
 use Rattle.points.proofs.Orders.{pointOf-perm}
-use Rattle.points.proofs.Explicit.{merge-bucketsOf, bucketsOf-perm}
+use Rattle.points.proofs.Explicit.{merge-bucketsOf, bucketsOf-perm, bucketsOf-ok, buckets-agree, same-bounds}
 use Rattle.points.proofs.Summaries.{extreme, extreme-finite, extreme-parts, extreme-perm, sum-of}
-
--- ---- the same number
-number-refl : (x : Float) → FiniteF64 x → SameNumber x x
-number-refl x p = record { left = p; right = p; same = eq-refl binary64 x (finite-ok x p) }
-
-number-trans : (x y z : Float) → SameNumber x y → SameNumber y z → SameNumber x z
-number-trans x y z h k =
-    record {
-      left = h .left;
-      right = k .right;
-      same = eq-trans binary64 x y z (finite-ok x (h .left)) (finite-ok y (h .right)) (finite-ok z (k .right)) (h .same) (k .same);
-    }
-
-number-chosen : (up : Bool) (a b c d : Float) → SameNumber a c → SameNumber b d → SameNumber (chosen up a b) (chosen up c d)
-number-chosen up a b c d h k =
-    record {
-      left = chosen-finite up a b (h .left) (k .left);
-      right = chosen-finite up c d (h .right) (k .right);
-      same = chosen-cong up binary64 a b c d (finite-ok a (h .left)) (finite-ok b (k .left)) (finite-ok c (h .right)) (finite-ok d (k .right)) (h .same) (k .same);
-    }
-
--- ---- the same extreme, shown by a switch
-same-shown : (on : Bool) (x y : Float) → SameNumber x y → SameExtreme (shownOf on x) (shownOf on y)
-same-shown true x y h = h
-same-shown false x y h = tt
-
-shown-next : (on : Bool) (e : Extreme) (x y : Float) → SameExtreme e (shownOf on x) → SameNumber x y → SameExtreme e (shownOf on y)
-shown-next true (Value z) x y h k = number-trans z x y h k
-shown-next true None x y h k = absurd h
-shown-next false (Value z) x y h k = absurd h
-shown-next false None x y h k = tt
-
--- two extremes merged: the smaller where up, otherwise the larger
-abbrev nearer : Bool → Extreme → Extreme → Extreme
-nearer true a b = smallerOf a b
-nearer false a b = largerOf a b
-
-shown-merged : (up on : Bool) (a b : Extreme) (x y : Float) → SameExtreme a (shownOf on x) → SameExtreme b (shownOf on y) → SameExtreme (nearer up a b) (shownOf on (chosen up x y))
-shown-merged true true (Value a) (Value b) x y h k = number-chosen true a b x y h k
-shown-merged false true (Value a) (Value b) x y h k = number-chosen false a b x y h k
-shown-merged up true (Value a) None x y h k = absurd k
-shown-merged up true None b x y h k = absurd h
-shown-merged up false (Value a) b x y h k = absurd h
-shown-merged up false None (Value b) x y h k = absurd k
-shown-merged true false None None x y h k = tt
-shown-merged false false None None x y h k = tt
 
 -- ---- the counts of a list, of lists joined, and in another order
 counts-perm : (k : Kind) (t : Float) {vs ws : List Float} → List·Permᴰ vs ws → kindCounts k t vs ≡ kindCounts k t ws
 counts-perm (exponential size top) t h = ap scaled (pointOf-perm size (finest - top) (map-perm (classOf t) h))
 counts-perm (explicit bounds) t h = ap (bucketed bounds) (bucketsOf-perm bounds h)
+
+-- the kind under another max_size
+abbrev pub resized : ℕ → Kind → Kind
+resized size (exponential m top) = exponential size top
+resized size (explicit bounds) = explicit bounds
 
 -- the size that a kind was built under, where it has one, is no smaller
 abbrev pub Allows : ℕ → Kind → Type 0
@@ -162,3 +126,51 @@ stands-join size s p q vs ws a h k =
           rw (h .sum (gridded-left vs ws g), k .sum (gridded-right vs ws g))
           (sums-add (s .sums) (grid (exactTotal vs)) (grid (exactTotal ws)) (grid (exactTotal (vs ++ ws))) (grid-parts vs ws g));
     }
+
+-- ---- A POINT THAT STANDS FOR VALUES AGREES, where its settings could be configured
+abbrev pub Sound : Kind → Type 0
+Sound (exponential size top) = 3 ≤ size
+Sound (explicit bounds) = boundsPass bounds ≡ true
+
+-- the greatest level of a merge is the finest
+abbrev pub sizeOf : Kind → ℕ
+sizeOf (exponential size top) = size
+sizeOf (explicit bounds) = 0
+
+counts-agree : (k : Kind) (t : Float) (vs : List Float) → Sound k → All FiniteF64 vs → countsAgree (sizeOf k) finest (lowestBin finest) (kindCounts k t vs) ≡ true
+counts-agree (exponential size top) t vs h p =
+    let a = countsOf-agrees size top t vs h p in
+    agreed-agrees size finest (lowestBin finest) (countsOf size (finest - top) t vs)
+    (record { fine = omega arith; coarse = a .coarse; pos = a .pos; neg = a .neg; adds = a .adds })
+counts-agree (explicit bounds) t vs h p = buckets-agree bounds (bucketsOf bounds vs) (bucketsOf-ok bounds vs h)
+
+extremes-agree : (on : Bool) (a b : Extreme) (x y : Float) → SameExtreme a (shownOf on x) → SameExtreme b (shownOf on y) → extremesAgree a b ≡ true
+extremes-agree true (Value a) (Value b) x y h k = and-intro (finite a) (finite b) (is-true (finite a) (h .left .known)) (is-true (finite b) (k .left .known))
+extremes-agree true (Value a) None x y h k = absurd k
+extremes-agree true None b x y h k = absurd h
+extremes-agree false (Value a) b x y h k = absurd h
+extremes-agree false None (Value b) x y h k = absurd k
+extremes-agree false None None x y h k = refl
+
+pub stands-agrees : (s : Settings) (p : Handed) (vs : List Float) → Sound (s .kind) → Stands s p vs → handedAgrees (sizeOf (s .kind)) finest (lowestBin finest) p ≡ true
+unfolding handedAgrees
+stands-agrees s p vs h k =
+    and-intro (countsAgree (sizeOf (s .kind)) finest (lowestBin finest) (p .counts)) (extremesAgree (p .min) (p .max))
+    (rw (k .counts) (counts-agree (s .kind) (s .threshold) vs h (k .values)))
+    (extremes-agree (s .extremes) (p .min) (p .max) (summaryOf vs .min) (summaryOf vs .max) (k .min) (k .max))
+
+-- ---- AND TWO OF THEM MERGE
+kind-same : (k : Kind) (t : Float) (vs ws : List Float) → Sound k → sameKind (kindCounts k t vs) (kindCounts k t ws) ≡ true
+kind-same (exponential size top) t vs ws h = refl
+kind-same (explicit bounds) t vs ws h = same-bounds bounds h
+
+beq-self : (b : Bool) → Bool·beq b b ≡ true
+beq-self true = refl
+beq-self false = refl
+
+pub stands-mergeable : (s : Settings) (p q : Handed) (vs ws : List Float) → Sound (s .kind) → Stands s p vs → Stands s q ws → mergeable p q ≡ true
+unfolding mergeable
+stands-mergeable s p q vs ws h j k =
+    rw (j .counts, k .counts, j .extremes, k .extremes)
+    (and-intro (sameKind (kindCounts (s .kind) (s .threshold) vs) (kindCounts (s .kind) (s .threshold) ws)) (Bool·beq (s .extremes) (s .extremes))
+    (kind-same (s .kind) (s .threshold) vs ws h) (beq-self (s .extremes)))

@@ -13,7 +13,7 @@ use Rattle.floats.proofs.Choices.{chosen, fold-parts, fold-perm}
 use Rattle.floats.proofs.Starts as F
 use Rattle.floats.proofs.Starts.{finite-ok, start-finite, fold-finite}
 use Rattle.floats.proofs.Sums.{sum-is}
-use Rattle.points.specs.Values.{Summary, start, noted, summaryOf, joined}
+use Rattle.points.specs.Values.{Summary, start, noted, summaryOf}
 
 summary-from : (s : Summary) (vs : List Float)
     → foldl noted s vs ≡ record { min = foldl lesserOf (s .min) vs; max = foldl greaterOf (s .max) vs; sum = foldl (add binary64) (s .sum) vs }

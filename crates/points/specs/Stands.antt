@@ -12,7 +12,8 @@ use Rattle.floats.specs.Starts.{zeroFloat, FiniteF64}
 use Rattle.floats.specs.declared.Extreme.{Extreme}
 use Rattle.floats.specs.declared.Extreme.the-variants.{None, Value}
 use Rattle.points.specs.Values.{summaryOf}
-use Rattle.points.specs.Handed.{Settings, Handed, kindCounts}
+use Rattle.points.specs.Figures.{Settings, kindCounts}
+use Rattle.points.specs.Handed.{Handed}
 
 -- finite, and equal as numbers
 pub record SameNumber (x y : Float) : Type 0 where

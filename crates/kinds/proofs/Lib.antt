@@ -1,4 +1,3 @@
-pub mod Facts
 pub mod Recorded
 pub mod Merges
 pub mod Demand

@@ -1,3 +1,6 @@
+pub mod Cases
+pub mod Compare
+pub mod Perms
 pub mod Bools
 pub mod Same
 pub mod Lists

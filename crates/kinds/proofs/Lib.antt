@@ -1,0 +1,4 @@
+pub mod Recorded
+pub mod Merges
+pub mod Demand
+pub mod Example

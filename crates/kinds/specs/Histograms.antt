@@ -1,0 +1,94 @@
+-- The two histogram kinds of document 01 as one kind of series, and the merging of their points. Assumes nothing.
+use Prim.Native.Nat.{ℕ, _+_, _^_}
+use mathlib.Core.Path.{_≡_}
+use mathlib.Core.Bool.{Bool, true, false, _&&_, _||_}
+use mathlib.Core.List.{[], _∷_}
+use mathlib.Core.Logic.{_⊎_, inl}
+use mathlib.Core.Option.{Option, none, some}
+use lib.Dec.{leb, ltb}
+use lib.ListN.{length}
+use lib.Ieee.{Float, binary64, fits}
+use lib.Ieee.Scale.{finite}
+use Rattle.index.specs.Bins.{finest, lowestBin}
+use Rattle.points.specs.Agreement.{agrees}
+use Rattle.points.specs.Explicit.{boundsPass, bucketsAgree}
+use Rattle.points.specs.Figures.{Kind, exponential, explicit, Settings, Counts, scaled, bucketed, Figures, figuresOf, recordFigures}
+use Rattle.points.specs.Handed.{Handed, handedOut, handed, mergeable, mergeHanded, handedAgrees, countOf}
+use Rattle.points.specs.Stands.{Stands}
+use Rattle.tally.specs.Kind.{unless, firstOf, Room}
+use Rattle.tally.specs.Kind as Tally
+use Rattle.tally.specs.Demand.{Merging, fitting}
+
+-- "1: max_size outside 3 to 160"
+abbrev pub sizePasses : ℕ → Bool
+sizePasses size = leb 3 size && leb size 160
+
+-- what configuring accepts: 1; "2: max_scale outside -10 to 10", the level being the scale + 10; 3
+abbrev pub passes : Kind → Bool
+passes (exponential size top) = sizePasses size && leb top finest
+passes (explicit bounds) = boundsPass bounds
+
+-- "An exponential series agrees when ..; explicit bounds pass number 3, and with bounds the counts total count". Code may read a head
+-- that is out of shape (a level above the finest, a row longer than its part) as counts of the other kind: they never agree.
+abbrev pub countsHold : Kind → Counts → Bool
+countsHold (exponential size top) (scaled p) = agrees size top (lowestBin finest) p
+countsHold (exponential size top) (bucketed b p) = false
+countsHold (explicit bounds) (scaled p) = false
+countsHold (explicit bounds) (bucketed b p) = bucketsAgree bounds p
+
+-- how many counts a point takes in lent output
+abbrev pub placesOf : Counts → ℕ
+placesOf (scaled p) = length (p .pos .counts) + length (p .neg .counts)
+placesOf (bucketed b p) = length (p .counts)
+
+-- a value is an f64; "held extremes are finite"; nothing is refused after 9
+abbrev pub histograms : Tally.Kind
+histograms =
+    record {
+      Settings = Settings;
+      valid = λ z. passes (z .kind);
+      Value = Float;
+      Series = Figures;
+      Point = Handed;
+      finite = λ v. finite v && fits binary64 v;
+      fresh = λ z. figuresOf z [];
+      add = recordFigures;
+      agrees = λ z x. countsHold (z .kind) (x .counts) && (finite (x .summary .min) && finite (x .summary .max));
+      total = λ x. countOf (x .counts);
+      allows = λ z x v. true;
+      point = handedOut;
+      counts = λ p. placesOf (p .counts);
+      pointOf = handed;
+      allowed = λ z vs v. true;
+    }
+
+-- "A merge checks 1 unless both points are explicit."
+abbrev pub bothExplicit : Counts → Counts → Bool
+bothExplicit (scaled p) c = false
+bothExplicit (bucketed b p) (scaled q) = false
+bothExplicit (bucketed b p) (bucketed c q) = true
+
+-- "Merging: 1, 8, 11, 9", and 10 for want of room. The greatest level is the finest: "scale is -10 to max_scale (10 in a merge)"
+abbrev pub unmergeable : ℕ → Handed → Handed → Option ℕ
+unmergeable size p q =
+    let ok : Handed → Bool = handedAgrees size finest (lowestBin finest) in
+    firstOf (unless (bothExplicit (p .counts) (q .counts) || sizePasses size) 1
+    ∷ unless (ok p && ok q) 8
+    ∷ unless (mergeable p q) 11
+    ∷ unless (ltb (countOf (p .counts) + countOf (q .counts)) (2 ^ 64)) 9 ∷ [])
+
+abbrev pub merged : ℕ → Handed → Handed → Room → ℕ ⊎ Handed
+merged size p q room = elim (unmergeable size p q) [ none ↦ fitting histograms (mergeHanded size p q) room | some n ↦ inl n ]
+
+-- the configured max_size; no merge of explicit points asks for one
+abbrev pub sizeOf : Kind → ℕ
+sizeOf (exponential size top) = size
+sizeOf (explicit bounds) = 0
+
+abbrev pub merging : Merging histograms
+merging =
+    record {
+      Within = λ vs. Unit;
+      Stands = λ z p vs. (passes (z .kind) ≡ true) × Stands z p vs;
+      merge = λ z. merged (sizeOf (z .kind));
+    }

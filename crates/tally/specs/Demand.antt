@@ -1,0 +1,153 @@
+-- Demand 3: its premise, what it claims, and the claim for any code whose calls do the map's steps. Assumes nothing.
+use Prim.Native.Nat.{ℕ, _+_, _^_, _≤_, _<_}
+use mathlib.Core.Path.{_≡_}
+use mathlib.Core.Bool.{Bool, true, false, cond}
+use mathlib.Core.Logic.{_⊎_, inl, inr}
+use mathlib.Core.List.{List, [], _∷_, _++_, map, flatten, List·Permᴰ}
+use mathlib.Core.Option.{some}
+use lib.Dec.{eqb}
+use lib.ListN.{length}
+use Rattle.laws.specs.Tests.{all}
+use Rattle.tally.specs.Sets.{Set, same, ascending, canonical}
+use Rattle.tally.specs.Kind.{Kind, Room, suffices}
+use Rattle.tally.specs.Map.{Config, Points, Call, measure, measureBy, bind, release, collect, Answer, refuse, done, handle, listed, Map, Agrees, start, step}
+use Rattle.tally.specs.Tally.{Tally, empty, tell, fed, after, valuesOf}
+
+-- a set, unless it is the empty one
+abbrev pub ifNamed : Set → List Set
+ifNamed s = elim s [ [] ↦ [] | x ∷ l ↦ (x ∷ l) ∷ [] ]
+
+module _ (K : Kind) where
+  -- THE PREMISE. "Recordings and bindings, refused ones counted, are fewer than 2^64"
+  abbrev pub counted : Call K → ℕ
+  counted x = elim x [ measure v attrs ↦ 1 | measureBy h v ↦ 1 | bind attrs ↦ 1 | release h ↦ 0 | collect room ↦ 0 ]
+
+  abbrev pub many : List (Call K) → ℕ
+  many [] = 0
+  many (x ∷ xs) = counted x + many xs
+
+  -- answered 0. A value that is refused with 16 (L6) has come to a series like an accepted one: it may be that of overflow, where the
+  -- tally knows of no 16, so the premise counts its set too.
+  abbrev pub accepted : Answer K → Bool
+  accepted a = elim a [ refuse n ↦ eqb n 16 | done ↦ true | handle b ↦ true | listed ps ↦ true ]
+
+  -- the named set that a call is on; a handle's is that of a binding accepted before
+  abbrev pub setOf : Config K → Call K → List Set
+  setOf c x =
+      let on : Set → List Set = λ attrs. ifNamed (canonical (c .filter) attrs) in
+      elim x [ measure v attrs ↦ on attrs | measureBy h v ↦ [] | bind attrs ↦ on attrs | release h ↦ [] | collect room ↦ [] ]
+
+  -- the named sets of the accepted calls
+  abbrev pub sets : Config K → List (Call K) → List (Answer K) → List Set
+  sets c [] ans = []
+  sets c (x ∷ xs) [] = []
+  sets c (x ∷ xs) (a ∷ ans) = cond (accepted a) (setOf c x) [] ++ sets c xs ans
+
+  -- "the accepted ones on no more unlike named sets than the limit"
+  pub record Premise (c : Config K) (xs : List (Call K)) (ans : List (Answer K)) : Type 0 where
+    pub fewer : many xs < 2 ^ 64
+    pub unlike : length (ascending (sets c xs ans)) ≤ c .limit
+
+  -- THE ANSWERS. "No birth number gets two sets, and a set keeps its number while that has a binding."
+  pub record Own (t : Tally K) (s : Set) (b : ℕ) : Type 0 where
+    pub one : (r : Set) → t .owner b ≡ some r → r ≡ s
+    pub kept : (i : ℕ) → t .owner i ≡ some s → 0 < t .bindings i → b ≡ i
+
+  abbrev pub Owned : Config K → Tally K → Call K → Answer K → Type 0
+  Owned c t x a = (attrs : Set) (b : ℕ) → x ≡ bind attrs → a ≡ handle b → Own t (canonical (c .filter) attrs) b
+
+  -- "each call's number and each list of points collected is that of document 01's tally"
+  abbrev pub Right : Config K → Tally K → List (Call K) → List (Answer K) → Type 0
+  Right c t [] [] = Unit
+  Right c t [] (a ∷ ans) = ⊥
+  Right c t (x ∷ xs) [] = ⊥
+  Right c t (x ∷ xs) (a ∷ ans) =
+      (a ≡ tell K c t x (fed K a) .answer) × Owned c t x a × Right c (tell K c t x (fed K a) .tally) xs ans
+
+  -- THE POINTS. Those of the set s among the answers, in order
+  abbrev pub among : Set → Points K → List (K .Point)
+  among s [] = []
+  among s (p ∷ ps) = cond (same (p .0) s) (p .1 ∷ among s ps) (among s ps)
+
+  abbrev pub pointsOf : Set → List (Answer K) → List (K .Point)
+  pointsOf s [] = []
+  pointsOf s (a ∷ ans) = elim a [ refuse n ↦ [] | done ↦ [] | handle b ↦ [] | listed ps ↦ among s ps ] ++ pointsOf s ans
+
+  abbrev pub any : List (K .Value) → Bool
+  any vs = elim vs [ [] ↦ false | v ∷ l ↦ true ]
+
+  -- the set's collected values
+  abbrev pub gained : Config K → List (Call K) → List (Answer K) → Set → List (K .Value)
+  gained c xs ans s = valuesOf K s (after K c (empty K c) xs ans .collected)
+
+  -- "wherever collections cut": the points are those of the parts, none empty, of a cutting of the values
+  pub record Cut (z : K .Settings) (ps : List (K .Point)) (vs : List (K .Value)) : Type 0 where
+    pub parts : List (List (K .Value))
+    pub full : all any parts ≡ true
+    pub values : flatten parts ≡ vs
+    pub points : ps ≡ map (K .pointOf z) parts
+
+  -- demand 3's first part, for any kind
+  pub record Answered (c : Config K) (xs : List (Call K)) (ans : List (Answer K)) : Type 0 where
+    pub right : Right c (empty K c) xs ans
+    pub cut : (s : Set) → Cut (c .settings) (pointsOf s ans) (gained c xs ans s)
+
+  -- MERGING. Within: a premise on the values (none over f64; L6: the magnitudes total at most 2^63 - 1);
+  -- Stands: the point has what demand 3 names as document 01 defines it from the values;
+  -- merge: two points merged under the settings into lent output, a refusal's number or the merged point
+  pub record Merging : Type 1 where
+    pub Within : List (K .Value) → Type 0
+    pub Stands : K .Settings → K .Point → List (K .Value) → Type 0
+    pub merge : K .Settings → K .Point → K .Point → Room → ℕ ⊎ K .Point
+
+  -- the point r, wherever there is room for it, and 10 wherever there is not
+  abbrev pub fitting : K .Point → Room → ℕ ⊎ K .Point
+  fitting r room = cond (suffices K room (r ∷ [])) (inr r) (inl 10)
+
+  -- "Points enter merges as handed out; a lone one stays. A merge is refused only with 10, and repeated with longer output." The points
+  -- qs merged into p one by one: each merge is answered, in all the room that suffices, and the last point stands for vs.
+  abbrev pub Folds : Merging → K .Settings → K .Point → List (K .Point) → List (K .Value) → Type 0
+  Folds M z p [] vs = M .Stands z p vs
+  Folds M z p (q ∷ qs) vs =
+      (r : K .Point) × ((room : Room) → M .merge z p q room ≡ fitting r room) × Folds M z r qs vs
+
+  -- "its points merged one by one in any order"
+  pub record Merged (M : Merging) (z : K .Settings) (ps : List (K .Point)) (vs : List (K .Value)) : Type 0 where
+    pub there : 0 < length ps
+    pub folds : (q : K .Point) (qs : List (K .Point)) → List·Permᴰ ps (q ∷ qs) → Folds M z q qs vs
+
+  -- demand 3's second part, for kinds that merge: "each set with a collected value has a merged point". Under L10 the settings are the
+  -- last ones, and the points are carried over to them first.
+  abbrev pub Pooled : Merging → Config K → List (Call K) → List (Answer K) → Type 0
+  Pooled M c xs ans =
+      (s : Set) → any (gained c xs ans s) ≡ true → M .Within (gained c xs ans s) → Merged M (c .settings) (pointsOf s ans) (gained c xs ans s)
+
+  -- CODE, as it stands after configuring: its states with the lent stores (Ok shuts out number 12), the map that each stands for, and
+  -- its calls. A call does the map's step wherever the directory agrees.
+  pub record Code (c : Config K) : Type 1 where
+    pub State : Type 0
+    pub Ok : State → Type 0
+    pub view : State → Map K
+    pub call : State → Call K → Answer K × State
+    pub faithful : (s : State) (x : Call K) → Ok s → Agrees K c (view s)
+        → Ok (call s x .1) × (record { answer = call s x .0; map = view (call s x .1) } ≡ step K c (view s) x)
+    pub first : State
+    pub ok : Ok first
+    pub fresh : view first ≡ start K c
+    pub valid : K .valid (c .settings) ≡ true
+
+  -- "Take any list of these calls, refused ones included; each call is given the state and lent stores as the last one left them."
+  abbrev pub answers : (c : Config K) (C : Code c) → C .State → List (Call K) → List (Answer K)
+  answers c C s [] = []
+  answers c C s (x ∷ xs) = C .call s x .0 ∷ answers c C (C .call s x .1) xs
+
+  -- "It runs from a fresh start under one configuration"
+  abbrev pub ran : (c : Config K) → Code c → List (Call K) → List (Answer K)
+  ran c C xs = answers c C (C .first) xs
+
+  -- DEMAND 3, for any kind, and for kinds that merge
+  abbrev pub Demand : Type 1
+  Demand = (c : Config K) (C : Code c) (xs : List (Call K)) → Premise c xs (ran c C xs) → Answered c xs (ran c C xs)
+
+  abbrev pub MergedDemand : Merging → Type 1
+  MergedDemand M = (c : Config K) (C : Code c) (xs : List (Call K)) → Premise c xs (ran c C xs) → Pooled M c xs (ran c C xs)

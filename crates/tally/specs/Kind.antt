@@ -1,0 +1,62 @@
+-- A kind of series: what the map and the tally ask of it. Assumes nothing.
+-- Document 01 has two, the exponential and the explicit histogram over f64. Later: sums and last values (L1, no count and no merge),
+-- histograms over i64 (L6, with a refusal of their own), a zero threshold (L7, one more of the settings).
+use Prim.Native.Nat.{ℕ, _+_}
+use mathlib.Core.Bool.{Bool, true, false, _&&_}
+use mathlib.Core.List.{List, [], _∷_}
+use mathlib.Core.Option.{Option, none, some}
+use lib.Dec.{leb}
+use lib.ListN.{length}
+
+-- refused with the number n unless the test passes
+abbrev pub unless : Bool → ℕ → Option ℕ
+unless b n = elim b [ true ↦ none | false ↦ some n ]
+
+-- the order of refusals is the order of the list
+abbrev pub firstOf : List (Option ℕ) → Option ℕ
+firstOf [] = none
+firstOf (none ∷ l) = firstOf l
+firstOf (some n ∷ l) = some n
+
+pub record Kind : Type 1 where
+  -- what is configured for a series; the map and the tally hold it, so that a call can change it in both (L10)
+  pub Settings : Type 0
+  -- configuring accepts them (exponential: 1 and 2; explicit: 3)
+  pub valid : Settings → Bool
+  pub Value : Type 0
+  pub Series : Type 0
+  pub Point : Type 0
+  -- "6: value NaN or infinite"
+  pub finite : Value → Bool
+  -- the series without values
+  pub fresh : Settings → Series
+  -- the series with one value more
+  pub add : Settings → Series → Value → Series
+  -- "8: touched series disagrees with itself"
+  pub agrees : Settings → Series → Bool
+  -- "9: a count would pass 2^64 - 1"; 0 for a kind that keeps no count (L1)
+  pub total : Series → ℕ
+  -- 16, after 9, where this fails: it does not in document 01 (L6: "16 when the sum would leave i64")
+  pub allows : Settings → Series → Value → Bool
+  -- the point that a collection hands out, the switches applied
+  pub point : Settings → Series → Point
+  -- the counts that a point takes in lent output
+  pub counts : Point → ℕ
+  -- document 01's definition: the point of a list of values
+  pub pointOf : Settings → List Value → Point
+  -- `allows`, told from the values recorded before
+  pub allowed : Settings → List Value → Value → Bool
+
+-- lent output: places for points and places for counts
+pub record Room : Type 0 where
+  pub points : ℕ
+  pub counts : ℕ
+
+module _ (K : Kind) where
+  abbrev pub countsOf : List (K .Point) → ℕ
+  countsOf [] = 0
+  countsOf (p ∷ ps) = K .counts p + countsOf ps
+
+  -- "10: lent output too short for all points or counts"
+  abbrev pub suffices : Room → List (K .Point) → Bool
+  suffices room ps = leb (length ps) (room .points) && leb (countsOf ps) (room .counts)

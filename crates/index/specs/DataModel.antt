@@ -5,7 +5,7 @@
 use mathlib.Core.Path.{_≡_}
 use Prim.Native.Nat.{ℕ, suc, _*_, _^_, _≤_, _<_}
 use lib.IntN.{ℤ, pos, negsuc, sucℤ, _*ℤ_}
-use lib.Signed.{shrZ}
+use lib.Signed as Z
 
 -- 2 ^ z < a / b
 abbrev pub Above : ℤ → ℕ → ℕ → Type 0
@@ -26,4 +26,4 @@ pub record InBucket (u t w : ℕ) (i : ℤ) : Type 0 where
 -- the index is that of scale 0 shifted right, rounding down" (`shrZ j (2 ^ n)` is j / 2 ^ n, rounded down)
 abbrev pub IsIndex : ℤ → ℕ → ℤ → Type 0
 IsIndex (pos s) w i = InBucket s 0 w i
-IsIndex (negsuc n) w i = (j : ℤ) × InBucket 0 0 w j × (i ≡ shrZ j (2 ^ suc n))
+IsIndex (negsuc n) w i = (j : ℤ) × InBucket 0 0 w j × (i ≡ Z.shrZ j (2 ^ suc n))

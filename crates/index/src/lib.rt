@@ -6,7 +6,7 @@ pub mod signed;
 
 ghost use mathlib.Core.Path.{_≡_};
 ghost use Prim.Native.Nat.{_+_, _*_, _^_, _≤_, _<_};
-ghost use Rattle.index.specs.Answers.{binOf};
+ghost use Rattle.index.specs.Answers.{binOf, binOrZero};
 ghost use Rattle.index.specs.Bins.{finestBin};
 ghost use Rattle.index.specs.Frexp.{PartsOf};
 
@@ -101,5 +101,19 @@ pub fn get_bin(v: f64, level: u32) -> Bin
             let bin = finest_bin(mantissa, exponent) >> (FINEST - level);
             Bin::At { negative, bin }
         }
+    }
+}
+
+// For programs in other languages: the bin of v at a level, 0 where there is none (no f64 has the bin 0 at a level above 0).
+#[no_mangle]
+pub extern "C" fn index_bin(v: f64, level: u32) -> u32
+    ensures { λ r. ⌜ r ≡ binOrZero (binOf v level) ⌝ }
+{
+    let found = get_bin(v, level);
+    match found {
+        Bin::NoLevel => 0,
+        Bin::NotFinite => 0,
+        Bin::Zero => 0,
+        Bin::At { negative: _, bin } => bin,
     }
 }

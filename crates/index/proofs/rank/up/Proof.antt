@@ -21,7 +21,7 @@ bound-requires c κs = omega arith
 returns : tie.Need-returns Inv-loop μ-loop
 returns c =
     let i = c .before .before .before .loop .inv in
-    record { small = i .0; above = i .1; within = ranked-down _ _ _ (c .before .bound .ensures) (c .if1 .taken) }
+    record { small = i .0; above = i .1; within = ranked-down _ _ _ (c .before .bound .ensures) (omega (arith, c .if1 .taken)) }
 
 add-r : tie.Need-add-r Inv-loop μ-loop
 add-r c = omega arith

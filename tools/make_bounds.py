@@ -9,7 +9,7 @@ Run from the repository's root: python3 tools/make_bounds.py"""
 
 from math import log2
 
-ENTRIES, ROW, PIECES = 1024, 8, 32
+ENTRIES, ROW, PIECES = 1024, 4, 32
 
 
 def bound(k):
@@ -35,9 +35,9 @@ const BOUNDS: [u64; 1024] = [
 %s];
 
 %s
-// The entries from 8 * j on. A const array is rebuilt at each use, so the code reads rows that are cut from the table.
-pub fn row(j: u64) -> [u64; 8]
-    requires { ⌜ j < 128 ⌝ }
+// The entries from 4 * j on. A const array is rebuilt at each use, so the code reads rows that are cut from the table.
+pub fn row(j: u64) -> [u64; 4]
+    requires { ⌜ j < 256 ⌝ }
     ensures { λ r. ⌜ r ≡ rowOf j ⌝ }
 {
     match j {
@@ -45,12 +45,12 @@ pub fn row(j: u64) -> [u64; 8]
     }
 }
 
-fn last_row(j: u64) -> [u64; 8]
-    requires { ⌜ j < 128 ⌝ }
-    requires { ⌜ NoneOf j 127 ⌝ }
+fn last_row(j: u64) -> [u64; 4]
+    requires { ⌜ j < 256 ⌝ }
+    requires { ⌜ NoneOf j 255 ⌝ }
     ensures { λ r. ⌜ r ≡ rowOf j ⌝ }
 {
-    ROW_127
+    ROW_255
 }
 """
 
@@ -64,7 +64,7 @@ abbrev pub rows : List (List ℕ)
 rows =
 %s    []
 
--- the entries 8 * j to 8 * j + 7
+-- the entries 4 * j to 4 * j + 3
 abbrev pub rowOf : ℕ → List ℕ
 rowOf j = getD rows j []
 """

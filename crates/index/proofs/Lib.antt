@@ -7,6 +7,7 @@ pub mod Integers
 pub mod Cases
 pub mod Laws
 pub mod Indices
+pub mod Whole
 pub mod Casts
 pub mod SignedCases
 pub mod Values

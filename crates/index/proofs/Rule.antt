@@ -16,26 +16,26 @@ use Rattle.index.specs.Table.{rows, rowOf}
 right : ℕ → ℕ → Bool
 right k m = leb (m ^ 1024) (2 ^ (k + 53248)) && ltb (2 ^ (k + 53248)) (suc m ^ 1024)
 
--- the eight bounds of row j
+-- the four bounds of row j
 abbrev rowRight : ℕ → List ℕ → Bool
-rowRight j ms = eqb (length ms) 8 && every right (j * 8) ms
+rowRight j ms = eqb (length ms) 4 && every right (j * 4) ms
 
 -- the rows from part j on, and the test on them, and on part j
 rest : ℕ → List (List ℕ)
 rest zero = rows
-rest (suc j) = drop 8 (rest j)
+rest (suc j) = drop 16 (rest j)
 
 abbrev Rest : ℕ → Type 0
-Rest j = T (every rowRight (j * 8) (rest j))
+Rest j = T (every rowRight (j * 16) (rest j))
 
 abbrev Part : ℕ → Type 0
-Part j = T (every rowRight (j * 8) (take 8 (rest j)))
+Part j = T (every rowRight (j * 16) (take 16 (rest j)))
 
 join : (j : ℕ) → Part j → Rest (suc j) → Rest j
 unfolding rest
-join j p q = cut rowRight 8 (j * 8) (rest j) p (subst (λ (i : ℕ). T (every rowRight i (drop 8 (rest j)))) (step j) q)
+join j p q = cut rowRight 16 (j * 16) (rest j) p (subst (λ (i : ℕ). T (every rowRight i (drop 16 (rest j)))) (step j) q)
   where
-    step : (j : ℕ) → suc j * 8 ≡ j * 8 + 8
+    step : (j : ℕ) → suc j * 16 ≡ j * 16 + 16
     step j = omega arith
 
 part-0 : Part 0
@@ -120,26 +120,26 @@ as-bound k m t =
       next = ltb→lt (2 ^ (k + 53248)) (suc m ^ 1024) (both-right a b t);
     }
 
-row-right : (j : ℕ) → j < 128 → T (rowRight j (rowOf j))
+row-right : (j : ℕ) → j < 256 → T (rowRight j (rowOf j))
 row-right j h = subst (λ (i : ℕ). T (rowRight i (rowOf j))) (zero-add j) (at rowRight [] rows 0 whole j h)
 
-pub row-length : (j : ℕ) → j < 128 → length (rowOf j) ≡ 8
-row-length j h = eqb→eq (length (rowOf j)) 8 (both-left (eqb (length (rowOf j)) 8) (every right (j * 8) (rowOf j)) (row-right j h))
+pub row-length : (j : ℕ) → j < 256 → length (rowOf j) ≡ 4
+row-length j h = eqb→eq (length (rowOf j)) 4 (both-left (eqb (length (rowOf j)) 4) (every right (j * 4) (rowOf j)) (row-right j h))
 
-pub bounded : (k : ℕ) → k < 1024 → BoundAt k (getD (rowOf (k / 8)) (k % 8) 0)
+pub bounded : (k : ℕ) → k < 1024 → BoundAt k (getD (rowOf (k / 4)) (k % 4) 0)
 bounded k h =
-    subst (λ (i : ℕ). BoundAt i (getD (rowOf (k / 8)) (k % 8) 0)) place
-    (as-bound (k / 8 * 8 + k % 8) (getD (rowOf (k / 8)) (k % 8) 0)
-    (at right 0 (rowOf (k / 8)) (k / 8 * 8) (both-right (eqb (length (rowOf (k / 8))) 8) (every right (k / 8 * 8) (rowOf (k / 8))) (row-right (k / 8) small)) (k % 8) inside))
+    subst (λ (i : ℕ). BoundAt i (getD (rowOf (k / 4)) (k % 4) 0)) place
+    (as-bound (k / 4 * 4 + k % 4) (getD (rowOf (k / 4)) (k % 4) 0)
+    (at right 0 (rowOf (k / 4)) (k / 4 * 4) (both-right (eqb (length (rowOf (k / 4))) 4) (every right (k / 4 * 4) (rowOf (k / 4))) (row-right (k / 4) small)) (k % 4) inside))
   where
-    small : k / 8 < 128
+    small : k / 4 < 256
     small = omega (arith, h)
 
-    inside : k % 8 < length (rowOf (k / 8))
-    inside = subst (λ (n : ℕ). k % 8 < n) (sym (row-length (k / 8) small)) low
+    inside : k % 4 < length (rowOf (k / 4))
+    inside = subst (λ (n : ℕ). k % 4 < n) (sym (row-length (k / 4) small)) low
       where
-        low : k % 8 < 8
+        low : k % 4 < 4
         low = omega arith
 
-    place : k / 8 * 8 + k % 8 ≡ k
+    place : k / 4 * 4 + k % 4 ≡ k
     place = omega arith

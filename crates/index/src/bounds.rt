@@ -1032,1417 +1032,521 @@ const BOUNDS: [u64; 1024] = [
     9001104330727164,
 ];
 
-const ROW_0: [u64; 8] = [
-    BOUNDS[0],
-    BOUNDS[1],
-    BOUNDS[2],
-    BOUNDS[3],
-    BOUNDS[4],
-    BOUNDS[5],
-    BOUNDS[6],
-    BOUNDS[7],
-];
-
-const ROW_1: [u64; 8] = [
-    BOUNDS[8],
-    BOUNDS[9],
-    BOUNDS[10],
-    BOUNDS[11],
-    BOUNDS[12],
-    BOUNDS[13],
-    BOUNDS[14],
-    BOUNDS[15],
-];
-
-const ROW_2: [u64; 8] = [
-    BOUNDS[16],
-    BOUNDS[17],
-    BOUNDS[18],
-    BOUNDS[19],
-    BOUNDS[20],
-    BOUNDS[21],
-    BOUNDS[22],
-    BOUNDS[23],
-];
-
-const ROW_3: [u64; 8] = [
-    BOUNDS[24],
-    BOUNDS[25],
-    BOUNDS[26],
-    BOUNDS[27],
-    BOUNDS[28],
-    BOUNDS[29],
-    BOUNDS[30],
-    BOUNDS[31],
-];
-
-const ROW_4: [u64; 8] = [
-    BOUNDS[32],
-    BOUNDS[33],
-    BOUNDS[34],
-    BOUNDS[35],
-    BOUNDS[36],
-    BOUNDS[37],
-    BOUNDS[38],
-    BOUNDS[39],
-];
-
-const ROW_5: [u64; 8] = [
-    BOUNDS[40],
-    BOUNDS[41],
-    BOUNDS[42],
-    BOUNDS[43],
-    BOUNDS[44],
-    BOUNDS[45],
-    BOUNDS[46],
-    BOUNDS[47],
-];
-
-const ROW_6: [u64; 8] = [
-    BOUNDS[48],
-    BOUNDS[49],
-    BOUNDS[50],
-    BOUNDS[51],
-    BOUNDS[52],
-    BOUNDS[53],
-    BOUNDS[54],
-    BOUNDS[55],
-];
-
-const ROW_7: [u64; 8] = [
-    BOUNDS[56],
-    BOUNDS[57],
-    BOUNDS[58],
-    BOUNDS[59],
-    BOUNDS[60],
-    BOUNDS[61],
-    BOUNDS[62],
-    BOUNDS[63],
-];
-
-const ROW_8: [u64; 8] = [
-    BOUNDS[64],
-    BOUNDS[65],
-    BOUNDS[66],
-    BOUNDS[67],
-    BOUNDS[68],
-    BOUNDS[69],
-    BOUNDS[70],
-    BOUNDS[71],
-];
-
-const ROW_9: [u64; 8] = [
-    BOUNDS[72],
-    BOUNDS[73],
-    BOUNDS[74],
-    BOUNDS[75],
-    BOUNDS[76],
-    BOUNDS[77],
-    BOUNDS[78],
-    BOUNDS[79],
-];
-
-const ROW_10: [u64; 8] = [
-    BOUNDS[80],
-    BOUNDS[81],
-    BOUNDS[82],
-    BOUNDS[83],
-    BOUNDS[84],
-    BOUNDS[85],
-    BOUNDS[86],
-    BOUNDS[87],
-];
-
-const ROW_11: [u64; 8] = [
-    BOUNDS[88],
-    BOUNDS[89],
-    BOUNDS[90],
-    BOUNDS[91],
-    BOUNDS[92],
-    BOUNDS[93],
-    BOUNDS[94],
-    BOUNDS[95],
-];
-
-const ROW_12: [u64; 8] = [
-    BOUNDS[96],
-    BOUNDS[97],
-    BOUNDS[98],
-    BOUNDS[99],
-    BOUNDS[100],
-    BOUNDS[101],
-    BOUNDS[102],
-    BOUNDS[103],
-];
-
-const ROW_13: [u64; 8] = [
-    BOUNDS[104],
-    BOUNDS[105],
-    BOUNDS[106],
-    BOUNDS[107],
-    BOUNDS[108],
-    BOUNDS[109],
-    BOUNDS[110],
-    BOUNDS[111],
-];
-
-const ROW_14: [u64; 8] = [
-    BOUNDS[112],
-    BOUNDS[113],
-    BOUNDS[114],
-    BOUNDS[115],
-    BOUNDS[116],
-    BOUNDS[117],
-    BOUNDS[118],
-    BOUNDS[119],
-];
-
-const ROW_15: [u64; 8] = [
-    BOUNDS[120],
-    BOUNDS[121],
-    BOUNDS[122],
-    BOUNDS[123],
-    BOUNDS[124],
-    BOUNDS[125],
-    BOUNDS[126],
-    BOUNDS[127],
-];
-
-const ROW_16: [u64; 8] = [
-    BOUNDS[128],
-    BOUNDS[129],
-    BOUNDS[130],
-    BOUNDS[131],
-    BOUNDS[132],
-    BOUNDS[133],
-    BOUNDS[134],
-    BOUNDS[135],
-];
-
-const ROW_17: [u64; 8] = [
-    BOUNDS[136],
-    BOUNDS[137],
-    BOUNDS[138],
-    BOUNDS[139],
-    BOUNDS[140],
-    BOUNDS[141],
-    BOUNDS[142],
-    BOUNDS[143],
-];
-
-const ROW_18: [u64; 8] = [
-    BOUNDS[144],
-    BOUNDS[145],
-    BOUNDS[146],
-    BOUNDS[147],
-    BOUNDS[148],
-    BOUNDS[149],
-    BOUNDS[150],
-    BOUNDS[151],
-];
-
-const ROW_19: [u64; 8] = [
-    BOUNDS[152],
-    BOUNDS[153],
-    BOUNDS[154],
-    BOUNDS[155],
-    BOUNDS[156],
-    BOUNDS[157],
-    BOUNDS[158],
-    BOUNDS[159],
-];
-
-const ROW_20: [u64; 8] = [
-    BOUNDS[160],
-    BOUNDS[161],
-    BOUNDS[162],
-    BOUNDS[163],
-    BOUNDS[164],
-    BOUNDS[165],
-    BOUNDS[166],
-    BOUNDS[167],
-];
-
-const ROW_21: [u64; 8] = [
-    BOUNDS[168],
-    BOUNDS[169],
-    BOUNDS[170],
-    BOUNDS[171],
-    BOUNDS[172],
-    BOUNDS[173],
-    BOUNDS[174],
-    BOUNDS[175],
-];
-
-const ROW_22: [u64; 8] = [
-    BOUNDS[176],
-    BOUNDS[177],
-    BOUNDS[178],
-    BOUNDS[179],
-    BOUNDS[180],
-    BOUNDS[181],
-    BOUNDS[182],
-    BOUNDS[183],
-];
-
-const ROW_23: [u64; 8] = [
-    BOUNDS[184],
-    BOUNDS[185],
-    BOUNDS[186],
-    BOUNDS[187],
-    BOUNDS[188],
-    BOUNDS[189],
-    BOUNDS[190],
-    BOUNDS[191],
-];
-
-const ROW_24: [u64; 8] = [
-    BOUNDS[192],
-    BOUNDS[193],
-    BOUNDS[194],
-    BOUNDS[195],
-    BOUNDS[196],
-    BOUNDS[197],
-    BOUNDS[198],
-    BOUNDS[199],
-];
-
-const ROW_25: [u64; 8] = [
-    BOUNDS[200],
-    BOUNDS[201],
-    BOUNDS[202],
-    BOUNDS[203],
-    BOUNDS[204],
-    BOUNDS[205],
-    BOUNDS[206],
-    BOUNDS[207],
-];
-
-const ROW_26: [u64; 8] = [
-    BOUNDS[208],
-    BOUNDS[209],
-    BOUNDS[210],
-    BOUNDS[211],
-    BOUNDS[212],
-    BOUNDS[213],
-    BOUNDS[214],
-    BOUNDS[215],
-];
-
-const ROW_27: [u64; 8] = [
-    BOUNDS[216],
-    BOUNDS[217],
-    BOUNDS[218],
-    BOUNDS[219],
-    BOUNDS[220],
-    BOUNDS[221],
-    BOUNDS[222],
-    BOUNDS[223],
-];
-
-const ROW_28: [u64; 8] = [
-    BOUNDS[224],
-    BOUNDS[225],
-    BOUNDS[226],
-    BOUNDS[227],
-    BOUNDS[228],
-    BOUNDS[229],
-    BOUNDS[230],
-    BOUNDS[231],
-];
-
-const ROW_29: [u64; 8] = [
-    BOUNDS[232],
-    BOUNDS[233],
-    BOUNDS[234],
-    BOUNDS[235],
-    BOUNDS[236],
-    BOUNDS[237],
-    BOUNDS[238],
-    BOUNDS[239],
-];
-
-const ROW_30: [u64; 8] = [
-    BOUNDS[240],
-    BOUNDS[241],
-    BOUNDS[242],
-    BOUNDS[243],
-    BOUNDS[244],
-    BOUNDS[245],
-    BOUNDS[246],
-    BOUNDS[247],
-];
-
-const ROW_31: [u64; 8] = [
-    BOUNDS[248],
-    BOUNDS[249],
-    BOUNDS[250],
-    BOUNDS[251],
-    BOUNDS[252],
-    BOUNDS[253],
-    BOUNDS[254],
-    BOUNDS[255],
-];
-
-const ROW_32: [u64; 8] = [
-    BOUNDS[256],
-    BOUNDS[257],
-    BOUNDS[258],
-    BOUNDS[259],
-    BOUNDS[260],
-    BOUNDS[261],
-    BOUNDS[262],
-    BOUNDS[263],
-];
-
-const ROW_33: [u64; 8] = [
-    BOUNDS[264],
-    BOUNDS[265],
-    BOUNDS[266],
-    BOUNDS[267],
-    BOUNDS[268],
-    BOUNDS[269],
-    BOUNDS[270],
-    BOUNDS[271],
-];
-
-const ROW_34: [u64; 8] = [
-    BOUNDS[272],
-    BOUNDS[273],
-    BOUNDS[274],
-    BOUNDS[275],
-    BOUNDS[276],
-    BOUNDS[277],
-    BOUNDS[278],
-    BOUNDS[279],
-];
-
-const ROW_35: [u64; 8] = [
-    BOUNDS[280],
-    BOUNDS[281],
-    BOUNDS[282],
-    BOUNDS[283],
-    BOUNDS[284],
-    BOUNDS[285],
-    BOUNDS[286],
-    BOUNDS[287],
-];
-
-const ROW_36: [u64; 8] = [
-    BOUNDS[288],
-    BOUNDS[289],
-    BOUNDS[290],
-    BOUNDS[291],
-    BOUNDS[292],
-    BOUNDS[293],
-    BOUNDS[294],
-    BOUNDS[295],
-];
-
-const ROW_37: [u64; 8] = [
-    BOUNDS[296],
-    BOUNDS[297],
-    BOUNDS[298],
-    BOUNDS[299],
-    BOUNDS[300],
-    BOUNDS[301],
-    BOUNDS[302],
-    BOUNDS[303],
-];
-
-const ROW_38: [u64; 8] = [
-    BOUNDS[304],
-    BOUNDS[305],
-    BOUNDS[306],
-    BOUNDS[307],
-    BOUNDS[308],
-    BOUNDS[309],
-    BOUNDS[310],
-    BOUNDS[311],
-];
-
-const ROW_39: [u64; 8] = [
-    BOUNDS[312],
-    BOUNDS[313],
-    BOUNDS[314],
-    BOUNDS[315],
-    BOUNDS[316],
-    BOUNDS[317],
-    BOUNDS[318],
-    BOUNDS[319],
-];
-
-const ROW_40: [u64; 8] = [
-    BOUNDS[320],
-    BOUNDS[321],
-    BOUNDS[322],
-    BOUNDS[323],
-    BOUNDS[324],
-    BOUNDS[325],
-    BOUNDS[326],
-    BOUNDS[327],
-];
-
-const ROW_41: [u64; 8] = [
-    BOUNDS[328],
-    BOUNDS[329],
-    BOUNDS[330],
-    BOUNDS[331],
-    BOUNDS[332],
-    BOUNDS[333],
-    BOUNDS[334],
-    BOUNDS[335],
-];
-
-const ROW_42: [u64; 8] = [
-    BOUNDS[336],
-    BOUNDS[337],
-    BOUNDS[338],
-    BOUNDS[339],
-    BOUNDS[340],
-    BOUNDS[341],
-    BOUNDS[342],
-    BOUNDS[343],
-];
-
-const ROW_43: [u64; 8] = [
-    BOUNDS[344],
-    BOUNDS[345],
-    BOUNDS[346],
-    BOUNDS[347],
-    BOUNDS[348],
-    BOUNDS[349],
-    BOUNDS[350],
-    BOUNDS[351],
-];
-
-const ROW_44: [u64; 8] = [
-    BOUNDS[352],
-    BOUNDS[353],
-    BOUNDS[354],
-    BOUNDS[355],
-    BOUNDS[356],
-    BOUNDS[357],
-    BOUNDS[358],
-    BOUNDS[359],
-];
-
-const ROW_45: [u64; 8] = [
-    BOUNDS[360],
-    BOUNDS[361],
-    BOUNDS[362],
-    BOUNDS[363],
-    BOUNDS[364],
-    BOUNDS[365],
-    BOUNDS[366],
-    BOUNDS[367],
-];
-
-const ROW_46: [u64; 8] = [
-    BOUNDS[368],
-    BOUNDS[369],
-    BOUNDS[370],
-    BOUNDS[371],
-    BOUNDS[372],
-    BOUNDS[373],
-    BOUNDS[374],
-    BOUNDS[375],
-];
-
-const ROW_47: [u64; 8] = [
-    BOUNDS[376],
-    BOUNDS[377],
-    BOUNDS[378],
-    BOUNDS[379],
-    BOUNDS[380],
-    BOUNDS[381],
-    BOUNDS[382],
-    BOUNDS[383],
-];
-
-const ROW_48: [u64; 8] = [
-    BOUNDS[384],
-    BOUNDS[385],
-    BOUNDS[386],
-    BOUNDS[387],
-    BOUNDS[388],
-    BOUNDS[389],
-    BOUNDS[390],
-    BOUNDS[391],
-];
-
-const ROW_49: [u64; 8] = [
-    BOUNDS[392],
-    BOUNDS[393],
-    BOUNDS[394],
-    BOUNDS[395],
-    BOUNDS[396],
-    BOUNDS[397],
-    BOUNDS[398],
-    BOUNDS[399],
-];
-
-const ROW_50: [u64; 8] = [
-    BOUNDS[400],
-    BOUNDS[401],
-    BOUNDS[402],
-    BOUNDS[403],
-    BOUNDS[404],
-    BOUNDS[405],
-    BOUNDS[406],
-    BOUNDS[407],
-];
-
-const ROW_51: [u64; 8] = [
-    BOUNDS[408],
-    BOUNDS[409],
-    BOUNDS[410],
-    BOUNDS[411],
-    BOUNDS[412],
-    BOUNDS[413],
-    BOUNDS[414],
-    BOUNDS[415],
-];
-
-const ROW_52: [u64; 8] = [
-    BOUNDS[416],
-    BOUNDS[417],
-    BOUNDS[418],
-    BOUNDS[419],
-    BOUNDS[420],
-    BOUNDS[421],
-    BOUNDS[422],
-    BOUNDS[423],
-];
-
-const ROW_53: [u64; 8] = [
-    BOUNDS[424],
-    BOUNDS[425],
-    BOUNDS[426],
-    BOUNDS[427],
-    BOUNDS[428],
-    BOUNDS[429],
-    BOUNDS[430],
-    BOUNDS[431],
-];
-
-const ROW_54: [u64; 8] = [
-    BOUNDS[432],
-    BOUNDS[433],
-    BOUNDS[434],
-    BOUNDS[435],
-    BOUNDS[436],
-    BOUNDS[437],
-    BOUNDS[438],
-    BOUNDS[439],
-];
-
-const ROW_55: [u64; 8] = [
-    BOUNDS[440],
-    BOUNDS[441],
-    BOUNDS[442],
-    BOUNDS[443],
-    BOUNDS[444],
-    BOUNDS[445],
-    BOUNDS[446],
-    BOUNDS[447],
-];
-
-const ROW_56: [u64; 8] = [
-    BOUNDS[448],
-    BOUNDS[449],
-    BOUNDS[450],
-    BOUNDS[451],
-    BOUNDS[452],
-    BOUNDS[453],
-    BOUNDS[454],
-    BOUNDS[455],
-];
-
-const ROW_57: [u64; 8] = [
-    BOUNDS[456],
-    BOUNDS[457],
-    BOUNDS[458],
-    BOUNDS[459],
-    BOUNDS[460],
-    BOUNDS[461],
-    BOUNDS[462],
-    BOUNDS[463],
-];
-
-const ROW_58: [u64; 8] = [
-    BOUNDS[464],
-    BOUNDS[465],
-    BOUNDS[466],
-    BOUNDS[467],
-    BOUNDS[468],
-    BOUNDS[469],
-    BOUNDS[470],
-    BOUNDS[471],
-];
-
-const ROW_59: [u64; 8] = [
-    BOUNDS[472],
-    BOUNDS[473],
-    BOUNDS[474],
-    BOUNDS[475],
-    BOUNDS[476],
-    BOUNDS[477],
-    BOUNDS[478],
-    BOUNDS[479],
-];
-
-const ROW_60: [u64; 8] = [
-    BOUNDS[480],
-    BOUNDS[481],
-    BOUNDS[482],
-    BOUNDS[483],
-    BOUNDS[484],
-    BOUNDS[485],
-    BOUNDS[486],
-    BOUNDS[487],
-];
-
-const ROW_61: [u64; 8] = [
-    BOUNDS[488],
-    BOUNDS[489],
-    BOUNDS[490],
-    BOUNDS[491],
-    BOUNDS[492],
-    BOUNDS[493],
-    BOUNDS[494],
-    BOUNDS[495],
-];
-
-const ROW_62: [u64; 8] = [
-    BOUNDS[496],
-    BOUNDS[497],
-    BOUNDS[498],
-    BOUNDS[499],
-    BOUNDS[500],
-    BOUNDS[501],
-    BOUNDS[502],
-    BOUNDS[503],
-];
-
-const ROW_63: [u64; 8] = [
-    BOUNDS[504],
-    BOUNDS[505],
-    BOUNDS[506],
-    BOUNDS[507],
-    BOUNDS[508],
-    BOUNDS[509],
-    BOUNDS[510],
-    BOUNDS[511],
-];
-
-const ROW_64: [u64; 8] = [
-    BOUNDS[512],
-    BOUNDS[513],
-    BOUNDS[514],
-    BOUNDS[515],
-    BOUNDS[516],
-    BOUNDS[517],
-    BOUNDS[518],
-    BOUNDS[519],
-];
-
-const ROW_65: [u64; 8] = [
-    BOUNDS[520],
-    BOUNDS[521],
-    BOUNDS[522],
-    BOUNDS[523],
-    BOUNDS[524],
-    BOUNDS[525],
-    BOUNDS[526],
-    BOUNDS[527],
-];
-
-const ROW_66: [u64; 8] = [
-    BOUNDS[528],
-    BOUNDS[529],
-    BOUNDS[530],
-    BOUNDS[531],
-    BOUNDS[532],
-    BOUNDS[533],
-    BOUNDS[534],
-    BOUNDS[535],
-];
-
-const ROW_67: [u64; 8] = [
-    BOUNDS[536],
-    BOUNDS[537],
-    BOUNDS[538],
-    BOUNDS[539],
-    BOUNDS[540],
-    BOUNDS[541],
-    BOUNDS[542],
-    BOUNDS[543],
-];
-
-const ROW_68: [u64; 8] = [
-    BOUNDS[544],
-    BOUNDS[545],
-    BOUNDS[546],
-    BOUNDS[547],
-    BOUNDS[548],
-    BOUNDS[549],
-    BOUNDS[550],
-    BOUNDS[551],
-];
-
-const ROW_69: [u64; 8] = [
-    BOUNDS[552],
-    BOUNDS[553],
-    BOUNDS[554],
-    BOUNDS[555],
-    BOUNDS[556],
-    BOUNDS[557],
-    BOUNDS[558],
-    BOUNDS[559],
-];
-
-const ROW_70: [u64; 8] = [
-    BOUNDS[560],
-    BOUNDS[561],
-    BOUNDS[562],
-    BOUNDS[563],
-    BOUNDS[564],
-    BOUNDS[565],
-    BOUNDS[566],
-    BOUNDS[567],
-];
-
-const ROW_71: [u64; 8] = [
-    BOUNDS[568],
-    BOUNDS[569],
-    BOUNDS[570],
-    BOUNDS[571],
-    BOUNDS[572],
-    BOUNDS[573],
-    BOUNDS[574],
-    BOUNDS[575],
-];
-
-const ROW_72: [u64; 8] = [
-    BOUNDS[576],
-    BOUNDS[577],
-    BOUNDS[578],
-    BOUNDS[579],
-    BOUNDS[580],
-    BOUNDS[581],
-    BOUNDS[582],
-    BOUNDS[583],
-];
-
-const ROW_73: [u64; 8] = [
-    BOUNDS[584],
-    BOUNDS[585],
-    BOUNDS[586],
-    BOUNDS[587],
-    BOUNDS[588],
-    BOUNDS[589],
-    BOUNDS[590],
-    BOUNDS[591],
-];
-
-const ROW_74: [u64; 8] = [
-    BOUNDS[592],
-    BOUNDS[593],
-    BOUNDS[594],
-    BOUNDS[595],
-    BOUNDS[596],
-    BOUNDS[597],
-    BOUNDS[598],
-    BOUNDS[599],
-];
-
-const ROW_75: [u64; 8] = [
-    BOUNDS[600],
-    BOUNDS[601],
-    BOUNDS[602],
-    BOUNDS[603],
-    BOUNDS[604],
-    BOUNDS[605],
-    BOUNDS[606],
-    BOUNDS[607],
-];
-
-const ROW_76: [u64; 8] = [
-    BOUNDS[608],
-    BOUNDS[609],
-    BOUNDS[610],
-    BOUNDS[611],
-    BOUNDS[612],
-    BOUNDS[613],
-    BOUNDS[614],
-    BOUNDS[615],
-];
-
-const ROW_77: [u64; 8] = [
-    BOUNDS[616],
-    BOUNDS[617],
-    BOUNDS[618],
-    BOUNDS[619],
-    BOUNDS[620],
-    BOUNDS[621],
-    BOUNDS[622],
-    BOUNDS[623],
-];
-
-const ROW_78: [u64; 8] = [
-    BOUNDS[624],
-    BOUNDS[625],
-    BOUNDS[626],
-    BOUNDS[627],
-    BOUNDS[628],
-    BOUNDS[629],
-    BOUNDS[630],
-    BOUNDS[631],
-];
-
-const ROW_79: [u64; 8] = [
-    BOUNDS[632],
-    BOUNDS[633],
-    BOUNDS[634],
-    BOUNDS[635],
-    BOUNDS[636],
-    BOUNDS[637],
-    BOUNDS[638],
-    BOUNDS[639],
-];
-
-const ROW_80: [u64; 8] = [
-    BOUNDS[640],
-    BOUNDS[641],
-    BOUNDS[642],
-    BOUNDS[643],
-    BOUNDS[644],
-    BOUNDS[645],
-    BOUNDS[646],
-    BOUNDS[647],
-];
-
-const ROW_81: [u64; 8] = [
-    BOUNDS[648],
-    BOUNDS[649],
-    BOUNDS[650],
-    BOUNDS[651],
-    BOUNDS[652],
-    BOUNDS[653],
-    BOUNDS[654],
-    BOUNDS[655],
-];
-
-const ROW_82: [u64; 8] = [
-    BOUNDS[656],
-    BOUNDS[657],
-    BOUNDS[658],
-    BOUNDS[659],
-    BOUNDS[660],
-    BOUNDS[661],
-    BOUNDS[662],
-    BOUNDS[663],
-];
-
-const ROW_83: [u64; 8] = [
-    BOUNDS[664],
-    BOUNDS[665],
-    BOUNDS[666],
-    BOUNDS[667],
-    BOUNDS[668],
-    BOUNDS[669],
-    BOUNDS[670],
-    BOUNDS[671],
-];
-
-const ROW_84: [u64; 8] = [
-    BOUNDS[672],
-    BOUNDS[673],
-    BOUNDS[674],
-    BOUNDS[675],
-    BOUNDS[676],
-    BOUNDS[677],
-    BOUNDS[678],
-    BOUNDS[679],
-];
-
-const ROW_85: [u64; 8] = [
-    BOUNDS[680],
-    BOUNDS[681],
-    BOUNDS[682],
-    BOUNDS[683],
-    BOUNDS[684],
-    BOUNDS[685],
-    BOUNDS[686],
-    BOUNDS[687],
-];
-
-const ROW_86: [u64; 8] = [
-    BOUNDS[688],
-    BOUNDS[689],
-    BOUNDS[690],
-    BOUNDS[691],
-    BOUNDS[692],
-    BOUNDS[693],
-    BOUNDS[694],
-    BOUNDS[695],
-];
-
-const ROW_87: [u64; 8] = [
-    BOUNDS[696],
-    BOUNDS[697],
-    BOUNDS[698],
-    BOUNDS[699],
-    BOUNDS[700],
-    BOUNDS[701],
-    BOUNDS[702],
-    BOUNDS[703],
-];
-
-const ROW_88: [u64; 8] = [
-    BOUNDS[704],
-    BOUNDS[705],
-    BOUNDS[706],
-    BOUNDS[707],
-    BOUNDS[708],
-    BOUNDS[709],
-    BOUNDS[710],
-    BOUNDS[711],
-];
-
-const ROW_89: [u64; 8] = [
-    BOUNDS[712],
-    BOUNDS[713],
-    BOUNDS[714],
-    BOUNDS[715],
-    BOUNDS[716],
-    BOUNDS[717],
-    BOUNDS[718],
-    BOUNDS[719],
-];
-
-const ROW_90: [u64; 8] = [
-    BOUNDS[720],
-    BOUNDS[721],
-    BOUNDS[722],
-    BOUNDS[723],
-    BOUNDS[724],
-    BOUNDS[725],
-    BOUNDS[726],
-    BOUNDS[727],
-];
-
-const ROW_91: [u64; 8] = [
-    BOUNDS[728],
-    BOUNDS[729],
-    BOUNDS[730],
-    BOUNDS[731],
-    BOUNDS[732],
-    BOUNDS[733],
-    BOUNDS[734],
-    BOUNDS[735],
-];
-
-const ROW_92: [u64; 8] = [
-    BOUNDS[736],
-    BOUNDS[737],
-    BOUNDS[738],
-    BOUNDS[739],
-    BOUNDS[740],
-    BOUNDS[741],
-    BOUNDS[742],
-    BOUNDS[743],
-];
-
-const ROW_93: [u64; 8] = [
-    BOUNDS[744],
-    BOUNDS[745],
-    BOUNDS[746],
-    BOUNDS[747],
-    BOUNDS[748],
-    BOUNDS[749],
-    BOUNDS[750],
-    BOUNDS[751],
-];
-
-const ROW_94: [u64; 8] = [
-    BOUNDS[752],
-    BOUNDS[753],
-    BOUNDS[754],
-    BOUNDS[755],
-    BOUNDS[756],
-    BOUNDS[757],
-    BOUNDS[758],
-    BOUNDS[759],
-];
-
-const ROW_95: [u64; 8] = [
-    BOUNDS[760],
-    BOUNDS[761],
-    BOUNDS[762],
-    BOUNDS[763],
-    BOUNDS[764],
-    BOUNDS[765],
-    BOUNDS[766],
-    BOUNDS[767],
-];
-
-const ROW_96: [u64; 8] = [
-    BOUNDS[768],
-    BOUNDS[769],
-    BOUNDS[770],
-    BOUNDS[771],
-    BOUNDS[772],
-    BOUNDS[773],
-    BOUNDS[774],
-    BOUNDS[775],
-];
-
-const ROW_97: [u64; 8] = [
-    BOUNDS[776],
-    BOUNDS[777],
-    BOUNDS[778],
-    BOUNDS[779],
-    BOUNDS[780],
-    BOUNDS[781],
-    BOUNDS[782],
-    BOUNDS[783],
-];
-
-const ROW_98: [u64; 8] = [
-    BOUNDS[784],
-    BOUNDS[785],
-    BOUNDS[786],
-    BOUNDS[787],
-    BOUNDS[788],
-    BOUNDS[789],
-    BOUNDS[790],
-    BOUNDS[791],
-];
-
-const ROW_99: [u64; 8] = [
-    BOUNDS[792],
-    BOUNDS[793],
-    BOUNDS[794],
-    BOUNDS[795],
-    BOUNDS[796],
-    BOUNDS[797],
-    BOUNDS[798],
-    BOUNDS[799],
-];
-
-const ROW_100: [u64; 8] = [
-    BOUNDS[800],
-    BOUNDS[801],
-    BOUNDS[802],
-    BOUNDS[803],
-    BOUNDS[804],
-    BOUNDS[805],
-    BOUNDS[806],
-    BOUNDS[807],
-];
-
-const ROW_101: [u64; 8] = [
-    BOUNDS[808],
-    BOUNDS[809],
-    BOUNDS[810],
-    BOUNDS[811],
-    BOUNDS[812],
-    BOUNDS[813],
-    BOUNDS[814],
-    BOUNDS[815],
-];
-
-const ROW_102: [u64; 8] = [
-    BOUNDS[816],
-    BOUNDS[817],
-    BOUNDS[818],
-    BOUNDS[819],
-    BOUNDS[820],
-    BOUNDS[821],
-    BOUNDS[822],
-    BOUNDS[823],
-];
-
-const ROW_103: [u64; 8] = [
-    BOUNDS[824],
-    BOUNDS[825],
-    BOUNDS[826],
-    BOUNDS[827],
-    BOUNDS[828],
-    BOUNDS[829],
-    BOUNDS[830],
-    BOUNDS[831],
-];
-
-const ROW_104: [u64; 8] = [
-    BOUNDS[832],
-    BOUNDS[833],
-    BOUNDS[834],
-    BOUNDS[835],
-    BOUNDS[836],
-    BOUNDS[837],
-    BOUNDS[838],
-    BOUNDS[839],
-];
-
-const ROW_105: [u64; 8] = [
-    BOUNDS[840],
-    BOUNDS[841],
-    BOUNDS[842],
-    BOUNDS[843],
-    BOUNDS[844],
-    BOUNDS[845],
-    BOUNDS[846],
-    BOUNDS[847],
-];
-
-const ROW_106: [u64; 8] = [
-    BOUNDS[848],
-    BOUNDS[849],
-    BOUNDS[850],
-    BOUNDS[851],
-    BOUNDS[852],
-    BOUNDS[853],
-    BOUNDS[854],
-    BOUNDS[855],
-];
-
-const ROW_107: [u64; 8] = [
-    BOUNDS[856],
-    BOUNDS[857],
-    BOUNDS[858],
-    BOUNDS[859],
-    BOUNDS[860],
-    BOUNDS[861],
-    BOUNDS[862],
-    BOUNDS[863],
-];
-
-const ROW_108: [u64; 8] = [
-    BOUNDS[864],
-    BOUNDS[865],
-    BOUNDS[866],
-    BOUNDS[867],
-    BOUNDS[868],
-    BOUNDS[869],
-    BOUNDS[870],
-    BOUNDS[871],
-];
-
-const ROW_109: [u64; 8] = [
-    BOUNDS[872],
-    BOUNDS[873],
-    BOUNDS[874],
-    BOUNDS[875],
-    BOUNDS[876],
-    BOUNDS[877],
-    BOUNDS[878],
-    BOUNDS[879],
-];
-
-const ROW_110: [u64; 8] = [
-    BOUNDS[880],
-    BOUNDS[881],
-    BOUNDS[882],
-    BOUNDS[883],
-    BOUNDS[884],
-    BOUNDS[885],
-    BOUNDS[886],
-    BOUNDS[887],
-];
-
-const ROW_111: [u64; 8] = [
-    BOUNDS[888],
-    BOUNDS[889],
-    BOUNDS[890],
-    BOUNDS[891],
-    BOUNDS[892],
-    BOUNDS[893],
-    BOUNDS[894],
-    BOUNDS[895],
-];
-
-const ROW_112: [u64; 8] = [
-    BOUNDS[896],
-    BOUNDS[897],
-    BOUNDS[898],
-    BOUNDS[899],
-    BOUNDS[900],
-    BOUNDS[901],
-    BOUNDS[902],
-    BOUNDS[903],
-];
-
-const ROW_113: [u64; 8] = [
-    BOUNDS[904],
-    BOUNDS[905],
-    BOUNDS[906],
-    BOUNDS[907],
-    BOUNDS[908],
-    BOUNDS[909],
-    BOUNDS[910],
-    BOUNDS[911],
-];
-
-const ROW_114: [u64; 8] = [
-    BOUNDS[912],
-    BOUNDS[913],
-    BOUNDS[914],
-    BOUNDS[915],
-    BOUNDS[916],
-    BOUNDS[917],
-    BOUNDS[918],
-    BOUNDS[919],
-];
-
-const ROW_115: [u64; 8] = [
-    BOUNDS[920],
-    BOUNDS[921],
-    BOUNDS[922],
-    BOUNDS[923],
-    BOUNDS[924],
-    BOUNDS[925],
-    BOUNDS[926],
-    BOUNDS[927],
-];
-
-const ROW_116: [u64; 8] = [
-    BOUNDS[928],
-    BOUNDS[929],
-    BOUNDS[930],
-    BOUNDS[931],
-    BOUNDS[932],
-    BOUNDS[933],
-    BOUNDS[934],
-    BOUNDS[935],
-];
-
-const ROW_117: [u64; 8] = [
-    BOUNDS[936],
-    BOUNDS[937],
-    BOUNDS[938],
-    BOUNDS[939],
-    BOUNDS[940],
-    BOUNDS[941],
-    BOUNDS[942],
-    BOUNDS[943],
-];
-
-const ROW_118: [u64; 8] = [
-    BOUNDS[944],
-    BOUNDS[945],
-    BOUNDS[946],
-    BOUNDS[947],
-    BOUNDS[948],
-    BOUNDS[949],
-    BOUNDS[950],
-    BOUNDS[951],
-];
-
-const ROW_119: [u64; 8] = [
-    BOUNDS[952],
-    BOUNDS[953],
-    BOUNDS[954],
-    BOUNDS[955],
-    BOUNDS[956],
-    BOUNDS[957],
-    BOUNDS[958],
-    BOUNDS[959],
-];
-
-const ROW_120: [u64; 8] = [
-    BOUNDS[960],
-    BOUNDS[961],
-    BOUNDS[962],
-    BOUNDS[963],
-    BOUNDS[964],
-    BOUNDS[965],
-    BOUNDS[966],
-    BOUNDS[967],
-];
-
-const ROW_121: [u64; 8] = [
-    BOUNDS[968],
-    BOUNDS[969],
-    BOUNDS[970],
-    BOUNDS[971],
-    BOUNDS[972],
-    BOUNDS[973],
-    BOUNDS[974],
-    BOUNDS[975],
-];
-
-const ROW_122: [u64; 8] = [
-    BOUNDS[976],
-    BOUNDS[977],
-    BOUNDS[978],
-    BOUNDS[979],
-    BOUNDS[980],
-    BOUNDS[981],
-    BOUNDS[982],
-    BOUNDS[983],
-];
-
-const ROW_123: [u64; 8] = [
-    BOUNDS[984],
-    BOUNDS[985],
-    BOUNDS[986],
-    BOUNDS[987],
-    BOUNDS[988],
-    BOUNDS[989],
-    BOUNDS[990],
-    BOUNDS[991],
-];
-
-const ROW_124: [u64; 8] = [
-    BOUNDS[992],
-    BOUNDS[993],
-    BOUNDS[994],
-    BOUNDS[995],
-    BOUNDS[996],
-    BOUNDS[997],
-    BOUNDS[998],
-    BOUNDS[999],
-];
-
-const ROW_125: [u64; 8] = [
-    BOUNDS[1000],
-    BOUNDS[1001],
-    BOUNDS[1002],
-    BOUNDS[1003],
-    BOUNDS[1004],
-    BOUNDS[1005],
-    BOUNDS[1006],
-    BOUNDS[1007],
-];
-
-const ROW_126: [u64; 8] = [
-    BOUNDS[1008],
-    BOUNDS[1009],
-    BOUNDS[1010],
-    BOUNDS[1011],
-    BOUNDS[1012],
-    BOUNDS[1013],
-    BOUNDS[1014],
-    BOUNDS[1015],
-];
-
-const ROW_127: [u64; 8] = [
-    BOUNDS[1016],
-    BOUNDS[1017],
-    BOUNDS[1018],
-    BOUNDS[1019],
-    BOUNDS[1020],
-    BOUNDS[1021],
-    BOUNDS[1022],
-    BOUNDS[1023],
-];
-
-// The entries from 8 * j on. A const array is rebuilt at each use, so the code reads rows that are cut from the table.
-pub fn row(j: u64) -> [u64; 8]
-    requires { ⌜ j < 128 ⌝ }
+const ROW_0: [u64; 4] = [BOUNDS[0], BOUNDS[1], BOUNDS[2], BOUNDS[3]];
+
+const ROW_1: [u64; 4] = [BOUNDS[4], BOUNDS[5], BOUNDS[6], BOUNDS[7]];
+
+const ROW_2: [u64; 4] = [BOUNDS[8], BOUNDS[9], BOUNDS[10], BOUNDS[11]];
+
+const ROW_3: [u64; 4] = [BOUNDS[12], BOUNDS[13], BOUNDS[14], BOUNDS[15]];
+
+const ROW_4: [u64; 4] = [BOUNDS[16], BOUNDS[17], BOUNDS[18], BOUNDS[19]];
+
+const ROW_5: [u64; 4] = [BOUNDS[20], BOUNDS[21], BOUNDS[22], BOUNDS[23]];
+
+const ROW_6: [u64; 4] = [BOUNDS[24], BOUNDS[25], BOUNDS[26], BOUNDS[27]];
+
+const ROW_7: [u64; 4] = [BOUNDS[28], BOUNDS[29], BOUNDS[30], BOUNDS[31]];
+
+const ROW_8: [u64; 4] = [BOUNDS[32], BOUNDS[33], BOUNDS[34], BOUNDS[35]];
+
+const ROW_9: [u64; 4] = [BOUNDS[36], BOUNDS[37], BOUNDS[38], BOUNDS[39]];
+
+const ROW_10: [u64; 4] = [BOUNDS[40], BOUNDS[41], BOUNDS[42], BOUNDS[43]];
+
+const ROW_11: [u64; 4] = [BOUNDS[44], BOUNDS[45], BOUNDS[46], BOUNDS[47]];
+
+const ROW_12: [u64; 4] = [BOUNDS[48], BOUNDS[49], BOUNDS[50], BOUNDS[51]];
+
+const ROW_13: [u64; 4] = [BOUNDS[52], BOUNDS[53], BOUNDS[54], BOUNDS[55]];
+
+const ROW_14: [u64; 4] = [BOUNDS[56], BOUNDS[57], BOUNDS[58], BOUNDS[59]];
+
+const ROW_15: [u64; 4] = [BOUNDS[60], BOUNDS[61], BOUNDS[62], BOUNDS[63]];
+
+const ROW_16: [u64; 4] = [BOUNDS[64], BOUNDS[65], BOUNDS[66], BOUNDS[67]];
+
+const ROW_17: [u64; 4] = [BOUNDS[68], BOUNDS[69], BOUNDS[70], BOUNDS[71]];
+
+const ROW_18: [u64; 4] = [BOUNDS[72], BOUNDS[73], BOUNDS[74], BOUNDS[75]];
+
+const ROW_19: [u64; 4] = [BOUNDS[76], BOUNDS[77], BOUNDS[78], BOUNDS[79]];
+
+const ROW_20: [u64; 4] = [BOUNDS[80], BOUNDS[81], BOUNDS[82], BOUNDS[83]];
+
+const ROW_21: [u64; 4] = [BOUNDS[84], BOUNDS[85], BOUNDS[86], BOUNDS[87]];
+
+const ROW_22: [u64; 4] = [BOUNDS[88], BOUNDS[89], BOUNDS[90], BOUNDS[91]];
+
+const ROW_23: [u64; 4] = [BOUNDS[92], BOUNDS[93], BOUNDS[94], BOUNDS[95]];
+
+const ROW_24: [u64; 4] = [BOUNDS[96], BOUNDS[97], BOUNDS[98], BOUNDS[99]];
+
+const ROW_25: [u64; 4] = [BOUNDS[100], BOUNDS[101], BOUNDS[102], BOUNDS[103]];
+
+const ROW_26: [u64; 4] = [BOUNDS[104], BOUNDS[105], BOUNDS[106], BOUNDS[107]];
+
+const ROW_27: [u64; 4] = [BOUNDS[108], BOUNDS[109], BOUNDS[110], BOUNDS[111]];
+
+const ROW_28: [u64; 4] = [BOUNDS[112], BOUNDS[113], BOUNDS[114], BOUNDS[115]];
+
+const ROW_29: [u64; 4] = [BOUNDS[116], BOUNDS[117], BOUNDS[118], BOUNDS[119]];
+
+const ROW_30: [u64; 4] = [BOUNDS[120], BOUNDS[121], BOUNDS[122], BOUNDS[123]];
+
+const ROW_31: [u64; 4] = [BOUNDS[124], BOUNDS[125], BOUNDS[126], BOUNDS[127]];
+
+const ROW_32: [u64; 4] = [BOUNDS[128], BOUNDS[129], BOUNDS[130], BOUNDS[131]];
+
+const ROW_33: [u64; 4] = [BOUNDS[132], BOUNDS[133], BOUNDS[134], BOUNDS[135]];
+
+const ROW_34: [u64; 4] = [BOUNDS[136], BOUNDS[137], BOUNDS[138], BOUNDS[139]];
+
+const ROW_35: [u64; 4] = [BOUNDS[140], BOUNDS[141], BOUNDS[142], BOUNDS[143]];
+
+const ROW_36: [u64; 4] = [BOUNDS[144], BOUNDS[145], BOUNDS[146], BOUNDS[147]];
+
+const ROW_37: [u64; 4] = [BOUNDS[148], BOUNDS[149], BOUNDS[150], BOUNDS[151]];
+
+const ROW_38: [u64; 4] = [BOUNDS[152], BOUNDS[153], BOUNDS[154], BOUNDS[155]];
+
+const ROW_39: [u64; 4] = [BOUNDS[156], BOUNDS[157], BOUNDS[158], BOUNDS[159]];
+
+const ROW_40: [u64; 4] = [BOUNDS[160], BOUNDS[161], BOUNDS[162], BOUNDS[163]];
+
+const ROW_41: [u64; 4] = [BOUNDS[164], BOUNDS[165], BOUNDS[166], BOUNDS[167]];
+
+const ROW_42: [u64; 4] = [BOUNDS[168], BOUNDS[169], BOUNDS[170], BOUNDS[171]];
+
+const ROW_43: [u64; 4] = [BOUNDS[172], BOUNDS[173], BOUNDS[174], BOUNDS[175]];
+
+const ROW_44: [u64; 4] = [BOUNDS[176], BOUNDS[177], BOUNDS[178], BOUNDS[179]];
+
+const ROW_45: [u64; 4] = [BOUNDS[180], BOUNDS[181], BOUNDS[182], BOUNDS[183]];
+
+const ROW_46: [u64; 4] = [BOUNDS[184], BOUNDS[185], BOUNDS[186], BOUNDS[187]];
+
+const ROW_47: [u64; 4] = [BOUNDS[188], BOUNDS[189], BOUNDS[190], BOUNDS[191]];
+
+const ROW_48: [u64; 4] = [BOUNDS[192], BOUNDS[193], BOUNDS[194], BOUNDS[195]];
+
+const ROW_49: [u64; 4] = [BOUNDS[196], BOUNDS[197], BOUNDS[198], BOUNDS[199]];
+
+const ROW_50: [u64; 4] = [BOUNDS[200], BOUNDS[201], BOUNDS[202], BOUNDS[203]];
+
+const ROW_51: [u64; 4] = [BOUNDS[204], BOUNDS[205], BOUNDS[206], BOUNDS[207]];
+
+const ROW_52: [u64; 4] = [BOUNDS[208], BOUNDS[209], BOUNDS[210], BOUNDS[211]];
+
+const ROW_53: [u64; 4] = [BOUNDS[212], BOUNDS[213], BOUNDS[214], BOUNDS[215]];
+
+const ROW_54: [u64; 4] = [BOUNDS[216], BOUNDS[217], BOUNDS[218], BOUNDS[219]];
+
+const ROW_55: [u64; 4] = [BOUNDS[220], BOUNDS[221], BOUNDS[222], BOUNDS[223]];
+
+const ROW_56: [u64; 4] = [BOUNDS[224], BOUNDS[225], BOUNDS[226], BOUNDS[227]];
+
+const ROW_57: [u64; 4] = [BOUNDS[228], BOUNDS[229], BOUNDS[230], BOUNDS[231]];
+
+const ROW_58: [u64; 4] = [BOUNDS[232], BOUNDS[233], BOUNDS[234], BOUNDS[235]];
+
+const ROW_59: [u64; 4] = [BOUNDS[236], BOUNDS[237], BOUNDS[238], BOUNDS[239]];
+
+const ROW_60: [u64; 4] = [BOUNDS[240], BOUNDS[241], BOUNDS[242], BOUNDS[243]];
+
+const ROW_61: [u64; 4] = [BOUNDS[244], BOUNDS[245], BOUNDS[246], BOUNDS[247]];
+
+const ROW_62: [u64; 4] = [BOUNDS[248], BOUNDS[249], BOUNDS[250], BOUNDS[251]];
+
+const ROW_63: [u64; 4] = [BOUNDS[252], BOUNDS[253], BOUNDS[254], BOUNDS[255]];
+
+const ROW_64: [u64; 4] = [BOUNDS[256], BOUNDS[257], BOUNDS[258], BOUNDS[259]];
+
+const ROW_65: [u64; 4] = [BOUNDS[260], BOUNDS[261], BOUNDS[262], BOUNDS[263]];
+
+const ROW_66: [u64; 4] = [BOUNDS[264], BOUNDS[265], BOUNDS[266], BOUNDS[267]];
+
+const ROW_67: [u64; 4] = [BOUNDS[268], BOUNDS[269], BOUNDS[270], BOUNDS[271]];
+
+const ROW_68: [u64; 4] = [BOUNDS[272], BOUNDS[273], BOUNDS[274], BOUNDS[275]];
+
+const ROW_69: [u64; 4] = [BOUNDS[276], BOUNDS[277], BOUNDS[278], BOUNDS[279]];
+
+const ROW_70: [u64; 4] = [BOUNDS[280], BOUNDS[281], BOUNDS[282], BOUNDS[283]];
+
+const ROW_71: [u64; 4] = [BOUNDS[284], BOUNDS[285], BOUNDS[286], BOUNDS[287]];
+
+const ROW_72: [u64; 4] = [BOUNDS[288], BOUNDS[289], BOUNDS[290], BOUNDS[291]];
+
+const ROW_73: [u64; 4] = [BOUNDS[292], BOUNDS[293], BOUNDS[294], BOUNDS[295]];
+
+const ROW_74: [u64; 4] = [BOUNDS[296], BOUNDS[297], BOUNDS[298], BOUNDS[299]];
+
+const ROW_75: [u64; 4] = [BOUNDS[300], BOUNDS[301], BOUNDS[302], BOUNDS[303]];
+
+const ROW_76: [u64; 4] = [BOUNDS[304], BOUNDS[305], BOUNDS[306], BOUNDS[307]];
+
+const ROW_77: [u64; 4] = [BOUNDS[308], BOUNDS[309], BOUNDS[310], BOUNDS[311]];
+
+const ROW_78: [u64; 4] = [BOUNDS[312], BOUNDS[313], BOUNDS[314], BOUNDS[315]];
+
+const ROW_79: [u64; 4] = [BOUNDS[316], BOUNDS[317], BOUNDS[318], BOUNDS[319]];
+
+const ROW_80: [u64; 4] = [BOUNDS[320], BOUNDS[321], BOUNDS[322], BOUNDS[323]];
+
+const ROW_81: [u64; 4] = [BOUNDS[324], BOUNDS[325], BOUNDS[326], BOUNDS[327]];
+
+const ROW_82: [u64; 4] = [BOUNDS[328], BOUNDS[329], BOUNDS[330], BOUNDS[331]];
+
+const ROW_83: [u64; 4] = [BOUNDS[332], BOUNDS[333], BOUNDS[334], BOUNDS[335]];
+
+const ROW_84: [u64; 4] = [BOUNDS[336], BOUNDS[337], BOUNDS[338], BOUNDS[339]];
+
+const ROW_85: [u64; 4] = [BOUNDS[340], BOUNDS[341], BOUNDS[342], BOUNDS[343]];
+
+const ROW_86: [u64; 4] = [BOUNDS[344], BOUNDS[345], BOUNDS[346], BOUNDS[347]];
+
+const ROW_87: [u64; 4] = [BOUNDS[348], BOUNDS[349], BOUNDS[350], BOUNDS[351]];
+
+const ROW_88: [u64; 4] = [BOUNDS[352], BOUNDS[353], BOUNDS[354], BOUNDS[355]];
+
+const ROW_89: [u64; 4] = [BOUNDS[356], BOUNDS[357], BOUNDS[358], BOUNDS[359]];
+
+const ROW_90: [u64; 4] = [BOUNDS[360], BOUNDS[361], BOUNDS[362], BOUNDS[363]];
+
+const ROW_91: [u64; 4] = [BOUNDS[364], BOUNDS[365], BOUNDS[366], BOUNDS[367]];
+
+const ROW_92: [u64; 4] = [BOUNDS[368], BOUNDS[369], BOUNDS[370], BOUNDS[371]];
+
+const ROW_93: [u64; 4] = [BOUNDS[372], BOUNDS[373], BOUNDS[374], BOUNDS[375]];
+
+const ROW_94: [u64; 4] = [BOUNDS[376], BOUNDS[377], BOUNDS[378], BOUNDS[379]];
+
+const ROW_95: [u64; 4] = [BOUNDS[380], BOUNDS[381], BOUNDS[382], BOUNDS[383]];
+
+const ROW_96: [u64; 4] = [BOUNDS[384], BOUNDS[385], BOUNDS[386], BOUNDS[387]];
+
+const ROW_97: [u64; 4] = [BOUNDS[388], BOUNDS[389], BOUNDS[390], BOUNDS[391]];
+
+const ROW_98: [u64; 4] = [BOUNDS[392], BOUNDS[393], BOUNDS[394], BOUNDS[395]];
+
+const ROW_99: [u64; 4] = [BOUNDS[396], BOUNDS[397], BOUNDS[398], BOUNDS[399]];
+
+const ROW_100: [u64; 4] = [BOUNDS[400], BOUNDS[401], BOUNDS[402], BOUNDS[403]];
+
+const ROW_101: [u64; 4] = [BOUNDS[404], BOUNDS[405], BOUNDS[406], BOUNDS[407]];
+
+const ROW_102: [u64; 4] = [BOUNDS[408], BOUNDS[409], BOUNDS[410], BOUNDS[411]];
+
+const ROW_103: [u64; 4] = [BOUNDS[412], BOUNDS[413], BOUNDS[414], BOUNDS[415]];
+
+const ROW_104: [u64; 4] = [BOUNDS[416], BOUNDS[417], BOUNDS[418], BOUNDS[419]];
+
+const ROW_105: [u64; 4] = [BOUNDS[420], BOUNDS[421], BOUNDS[422], BOUNDS[423]];
+
+const ROW_106: [u64; 4] = [BOUNDS[424], BOUNDS[425], BOUNDS[426], BOUNDS[427]];
+
+const ROW_107: [u64; 4] = [BOUNDS[428], BOUNDS[429], BOUNDS[430], BOUNDS[431]];
+
+const ROW_108: [u64; 4] = [BOUNDS[432], BOUNDS[433], BOUNDS[434], BOUNDS[435]];
+
+const ROW_109: [u64; 4] = [BOUNDS[436], BOUNDS[437], BOUNDS[438], BOUNDS[439]];
+
+const ROW_110: [u64; 4] = [BOUNDS[440], BOUNDS[441], BOUNDS[442], BOUNDS[443]];
+
+const ROW_111: [u64; 4] = [BOUNDS[444], BOUNDS[445], BOUNDS[446], BOUNDS[447]];
+
+const ROW_112: [u64; 4] = [BOUNDS[448], BOUNDS[449], BOUNDS[450], BOUNDS[451]];
+
+const ROW_113: [u64; 4] = [BOUNDS[452], BOUNDS[453], BOUNDS[454], BOUNDS[455]];
+
+const ROW_114: [u64; 4] = [BOUNDS[456], BOUNDS[457], BOUNDS[458], BOUNDS[459]];
+
+const ROW_115: [u64; 4] = [BOUNDS[460], BOUNDS[461], BOUNDS[462], BOUNDS[463]];
+
+const ROW_116: [u64; 4] = [BOUNDS[464], BOUNDS[465], BOUNDS[466], BOUNDS[467]];
+
+const ROW_117: [u64; 4] = [BOUNDS[468], BOUNDS[469], BOUNDS[470], BOUNDS[471]];
+
+const ROW_118: [u64; 4] = [BOUNDS[472], BOUNDS[473], BOUNDS[474], BOUNDS[475]];
+
+const ROW_119: [u64; 4] = [BOUNDS[476], BOUNDS[477], BOUNDS[478], BOUNDS[479]];
+
+const ROW_120: [u64; 4] = [BOUNDS[480], BOUNDS[481], BOUNDS[482], BOUNDS[483]];
+
+const ROW_121: [u64; 4] = [BOUNDS[484], BOUNDS[485], BOUNDS[486], BOUNDS[487]];
+
+const ROW_122: [u64; 4] = [BOUNDS[488], BOUNDS[489], BOUNDS[490], BOUNDS[491]];
+
+const ROW_123: [u64; 4] = [BOUNDS[492], BOUNDS[493], BOUNDS[494], BOUNDS[495]];
+
+const ROW_124: [u64; 4] = [BOUNDS[496], BOUNDS[497], BOUNDS[498], BOUNDS[499]];
+
+const ROW_125: [u64; 4] = [BOUNDS[500], BOUNDS[501], BOUNDS[502], BOUNDS[503]];
+
+const ROW_126: [u64; 4] = [BOUNDS[504], BOUNDS[505], BOUNDS[506], BOUNDS[507]];
+
+const ROW_127: [u64; 4] = [BOUNDS[508], BOUNDS[509], BOUNDS[510], BOUNDS[511]];
+
+const ROW_128: [u64; 4] = [BOUNDS[512], BOUNDS[513], BOUNDS[514], BOUNDS[515]];
+
+const ROW_129: [u64; 4] = [BOUNDS[516], BOUNDS[517], BOUNDS[518], BOUNDS[519]];
+
+const ROW_130: [u64; 4] = [BOUNDS[520], BOUNDS[521], BOUNDS[522], BOUNDS[523]];
+
+const ROW_131: [u64; 4] = [BOUNDS[524], BOUNDS[525], BOUNDS[526], BOUNDS[527]];
+
+const ROW_132: [u64; 4] = [BOUNDS[528], BOUNDS[529], BOUNDS[530], BOUNDS[531]];
+
+const ROW_133: [u64; 4] = [BOUNDS[532], BOUNDS[533], BOUNDS[534], BOUNDS[535]];
+
+const ROW_134: [u64; 4] = [BOUNDS[536], BOUNDS[537], BOUNDS[538], BOUNDS[539]];
+
+const ROW_135: [u64; 4] = [BOUNDS[540], BOUNDS[541], BOUNDS[542], BOUNDS[543]];
+
+const ROW_136: [u64; 4] = [BOUNDS[544], BOUNDS[545], BOUNDS[546], BOUNDS[547]];
+
+const ROW_137: [u64; 4] = [BOUNDS[548], BOUNDS[549], BOUNDS[550], BOUNDS[551]];
+
+const ROW_138: [u64; 4] = [BOUNDS[552], BOUNDS[553], BOUNDS[554], BOUNDS[555]];
+
+const ROW_139: [u64; 4] = [BOUNDS[556], BOUNDS[557], BOUNDS[558], BOUNDS[559]];
+
+const ROW_140: [u64; 4] = [BOUNDS[560], BOUNDS[561], BOUNDS[562], BOUNDS[563]];
+
+const ROW_141: [u64; 4] = [BOUNDS[564], BOUNDS[565], BOUNDS[566], BOUNDS[567]];
+
+const ROW_142: [u64; 4] = [BOUNDS[568], BOUNDS[569], BOUNDS[570], BOUNDS[571]];
+
+const ROW_143: [u64; 4] = [BOUNDS[572], BOUNDS[573], BOUNDS[574], BOUNDS[575]];
+
+const ROW_144: [u64; 4] = [BOUNDS[576], BOUNDS[577], BOUNDS[578], BOUNDS[579]];
+
+const ROW_145: [u64; 4] = [BOUNDS[580], BOUNDS[581], BOUNDS[582], BOUNDS[583]];
+
+const ROW_146: [u64; 4] = [BOUNDS[584], BOUNDS[585], BOUNDS[586], BOUNDS[587]];
+
+const ROW_147: [u64; 4] = [BOUNDS[588], BOUNDS[589], BOUNDS[590], BOUNDS[591]];
+
+const ROW_148: [u64; 4] = [BOUNDS[592], BOUNDS[593], BOUNDS[594], BOUNDS[595]];
+
+const ROW_149: [u64; 4] = [BOUNDS[596], BOUNDS[597], BOUNDS[598], BOUNDS[599]];
+
+const ROW_150: [u64; 4] = [BOUNDS[600], BOUNDS[601], BOUNDS[602], BOUNDS[603]];
+
+const ROW_151: [u64; 4] = [BOUNDS[604], BOUNDS[605], BOUNDS[606], BOUNDS[607]];
+
+const ROW_152: [u64; 4] = [BOUNDS[608], BOUNDS[609], BOUNDS[610], BOUNDS[611]];
+
+const ROW_153: [u64; 4] = [BOUNDS[612], BOUNDS[613], BOUNDS[614], BOUNDS[615]];
+
+const ROW_154: [u64; 4] = [BOUNDS[616], BOUNDS[617], BOUNDS[618], BOUNDS[619]];
+
+const ROW_155: [u64; 4] = [BOUNDS[620], BOUNDS[621], BOUNDS[622], BOUNDS[623]];
+
+const ROW_156: [u64; 4] = [BOUNDS[624], BOUNDS[625], BOUNDS[626], BOUNDS[627]];
+
+const ROW_157: [u64; 4] = [BOUNDS[628], BOUNDS[629], BOUNDS[630], BOUNDS[631]];
+
+const ROW_158: [u64; 4] = [BOUNDS[632], BOUNDS[633], BOUNDS[634], BOUNDS[635]];
+
+const ROW_159: [u64; 4] = [BOUNDS[636], BOUNDS[637], BOUNDS[638], BOUNDS[639]];
+
+const ROW_160: [u64; 4] = [BOUNDS[640], BOUNDS[641], BOUNDS[642], BOUNDS[643]];
+
+const ROW_161: [u64; 4] = [BOUNDS[644], BOUNDS[645], BOUNDS[646], BOUNDS[647]];
+
+const ROW_162: [u64; 4] = [BOUNDS[648], BOUNDS[649], BOUNDS[650], BOUNDS[651]];
+
+const ROW_163: [u64; 4] = [BOUNDS[652], BOUNDS[653], BOUNDS[654], BOUNDS[655]];
+
+const ROW_164: [u64; 4] = [BOUNDS[656], BOUNDS[657], BOUNDS[658], BOUNDS[659]];
+
+const ROW_165: [u64; 4] = [BOUNDS[660], BOUNDS[661], BOUNDS[662], BOUNDS[663]];
+
+const ROW_166: [u64; 4] = [BOUNDS[664], BOUNDS[665], BOUNDS[666], BOUNDS[667]];
+
+const ROW_167: [u64; 4] = [BOUNDS[668], BOUNDS[669], BOUNDS[670], BOUNDS[671]];
+
+const ROW_168: [u64; 4] = [BOUNDS[672], BOUNDS[673], BOUNDS[674], BOUNDS[675]];
+
+const ROW_169: [u64; 4] = [BOUNDS[676], BOUNDS[677], BOUNDS[678], BOUNDS[679]];
+
+const ROW_170: [u64; 4] = [BOUNDS[680], BOUNDS[681], BOUNDS[682], BOUNDS[683]];
+
+const ROW_171: [u64; 4] = [BOUNDS[684], BOUNDS[685], BOUNDS[686], BOUNDS[687]];
+
+const ROW_172: [u64; 4] = [BOUNDS[688], BOUNDS[689], BOUNDS[690], BOUNDS[691]];
+
+const ROW_173: [u64; 4] = [BOUNDS[692], BOUNDS[693], BOUNDS[694], BOUNDS[695]];
+
+const ROW_174: [u64; 4] = [BOUNDS[696], BOUNDS[697], BOUNDS[698], BOUNDS[699]];
+
+const ROW_175: [u64; 4] = [BOUNDS[700], BOUNDS[701], BOUNDS[702], BOUNDS[703]];
+
+const ROW_176: [u64; 4] = [BOUNDS[704], BOUNDS[705], BOUNDS[706], BOUNDS[707]];
+
+const ROW_177: [u64; 4] = [BOUNDS[708], BOUNDS[709], BOUNDS[710], BOUNDS[711]];
+
+const ROW_178: [u64; 4] = [BOUNDS[712], BOUNDS[713], BOUNDS[714], BOUNDS[715]];
+
+const ROW_179: [u64; 4] = [BOUNDS[716], BOUNDS[717], BOUNDS[718], BOUNDS[719]];
+
+const ROW_180: [u64; 4] = [BOUNDS[720], BOUNDS[721], BOUNDS[722], BOUNDS[723]];
+
+const ROW_181: [u64; 4] = [BOUNDS[724], BOUNDS[725], BOUNDS[726], BOUNDS[727]];
+
+const ROW_182: [u64; 4] = [BOUNDS[728], BOUNDS[729], BOUNDS[730], BOUNDS[731]];
+
+const ROW_183: [u64; 4] = [BOUNDS[732], BOUNDS[733], BOUNDS[734], BOUNDS[735]];
+
+const ROW_184: [u64; 4] = [BOUNDS[736], BOUNDS[737], BOUNDS[738], BOUNDS[739]];
+
+const ROW_185: [u64; 4] = [BOUNDS[740], BOUNDS[741], BOUNDS[742], BOUNDS[743]];
+
+const ROW_186: [u64; 4] = [BOUNDS[744], BOUNDS[745], BOUNDS[746], BOUNDS[747]];
+
+const ROW_187: [u64; 4] = [BOUNDS[748], BOUNDS[749], BOUNDS[750], BOUNDS[751]];
+
+const ROW_188: [u64; 4] = [BOUNDS[752], BOUNDS[753], BOUNDS[754], BOUNDS[755]];
+
+const ROW_189: [u64; 4] = [BOUNDS[756], BOUNDS[757], BOUNDS[758], BOUNDS[759]];
+
+const ROW_190: [u64; 4] = [BOUNDS[760], BOUNDS[761], BOUNDS[762], BOUNDS[763]];
+
+const ROW_191: [u64; 4] = [BOUNDS[764], BOUNDS[765], BOUNDS[766], BOUNDS[767]];
+
+const ROW_192: [u64; 4] = [BOUNDS[768], BOUNDS[769], BOUNDS[770], BOUNDS[771]];
+
+const ROW_193: [u64; 4] = [BOUNDS[772], BOUNDS[773], BOUNDS[774], BOUNDS[775]];
+
+const ROW_194: [u64; 4] = [BOUNDS[776], BOUNDS[777], BOUNDS[778], BOUNDS[779]];
+
+const ROW_195: [u64; 4] = [BOUNDS[780], BOUNDS[781], BOUNDS[782], BOUNDS[783]];
+
+const ROW_196: [u64; 4] = [BOUNDS[784], BOUNDS[785], BOUNDS[786], BOUNDS[787]];
+
+const ROW_197: [u64; 4] = [BOUNDS[788], BOUNDS[789], BOUNDS[790], BOUNDS[791]];
+
+const ROW_198: [u64; 4] = [BOUNDS[792], BOUNDS[793], BOUNDS[794], BOUNDS[795]];
+
+const ROW_199: [u64; 4] = [BOUNDS[796], BOUNDS[797], BOUNDS[798], BOUNDS[799]];
+
+const ROW_200: [u64; 4] = [BOUNDS[800], BOUNDS[801], BOUNDS[802], BOUNDS[803]];
+
+const ROW_201: [u64; 4] = [BOUNDS[804], BOUNDS[805], BOUNDS[806], BOUNDS[807]];
+
+const ROW_202: [u64; 4] = [BOUNDS[808], BOUNDS[809], BOUNDS[810], BOUNDS[811]];
+
+const ROW_203: [u64; 4] = [BOUNDS[812], BOUNDS[813], BOUNDS[814], BOUNDS[815]];
+
+const ROW_204: [u64; 4] = [BOUNDS[816], BOUNDS[817], BOUNDS[818], BOUNDS[819]];
+
+const ROW_205: [u64; 4] = [BOUNDS[820], BOUNDS[821], BOUNDS[822], BOUNDS[823]];
+
+const ROW_206: [u64; 4] = [BOUNDS[824], BOUNDS[825], BOUNDS[826], BOUNDS[827]];
+
+const ROW_207: [u64; 4] = [BOUNDS[828], BOUNDS[829], BOUNDS[830], BOUNDS[831]];
+
+const ROW_208: [u64; 4] = [BOUNDS[832], BOUNDS[833], BOUNDS[834], BOUNDS[835]];
+
+const ROW_209: [u64; 4] = [BOUNDS[836], BOUNDS[837], BOUNDS[838], BOUNDS[839]];
+
+const ROW_210: [u64; 4] = [BOUNDS[840], BOUNDS[841], BOUNDS[842], BOUNDS[843]];
+
+const ROW_211: [u64; 4] = [BOUNDS[844], BOUNDS[845], BOUNDS[846], BOUNDS[847]];
+
+const ROW_212: [u64; 4] = [BOUNDS[848], BOUNDS[849], BOUNDS[850], BOUNDS[851]];
+
+const ROW_213: [u64; 4] = [BOUNDS[852], BOUNDS[853], BOUNDS[854], BOUNDS[855]];
+
+const ROW_214: [u64; 4] = [BOUNDS[856], BOUNDS[857], BOUNDS[858], BOUNDS[859]];
+
+const ROW_215: [u64; 4] = [BOUNDS[860], BOUNDS[861], BOUNDS[862], BOUNDS[863]];
+
+const ROW_216: [u64; 4] = [BOUNDS[864], BOUNDS[865], BOUNDS[866], BOUNDS[867]];
+
+const ROW_217: [u64; 4] = [BOUNDS[868], BOUNDS[869], BOUNDS[870], BOUNDS[871]];
+
+const ROW_218: [u64; 4] = [BOUNDS[872], BOUNDS[873], BOUNDS[874], BOUNDS[875]];
+
+const ROW_219: [u64; 4] = [BOUNDS[876], BOUNDS[877], BOUNDS[878], BOUNDS[879]];
+
+const ROW_220: [u64; 4] = [BOUNDS[880], BOUNDS[881], BOUNDS[882], BOUNDS[883]];
+
+const ROW_221: [u64; 4] = [BOUNDS[884], BOUNDS[885], BOUNDS[886], BOUNDS[887]];
+
+const ROW_222: [u64; 4] = [BOUNDS[888], BOUNDS[889], BOUNDS[890], BOUNDS[891]];
+
+const ROW_223: [u64; 4] = [BOUNDS[892], BOUNDS[893], BOUNDS[894], BOUNDS[895]];
+
+const ROW_224: [u64; 4] = [BOUNDS[896], BOUNDS[897], BOUNDS[898], BOUNDS[899]];
+
+const ROW_225: [u64; 4] = [BOUNDS[900], BOUNDS[901], BOUNDS[902], BOUNDS[903]];
+
+const ROW_226: [u64; 4] = [BOUNDS[904], BOUNDS[905], BOUNDS[906], BOUNDS[907]];
+
+const ROW_227: [u64; 4] = [BOUNDS[908], BOUNDS[909], BOUNDS[910], BOUNDS[911]];
+
+const ROW_228: [u64; 4] = [BOUNDS[912], BOUNDS[913], BOUNDS[914], BOUNDS[915]];
+
+const ROW_229: [u64; 4] = [BOUNDS[916], BOUNDS[917], BOUNDS[918], BOUNDS[919]];
+
+const ROW_230: [u64; 4] = [BOUNDS[920], BOUNDS[921], BOUNDS[922], BOUNDS[923]];
+
+const ROW_231: [u64; 4] = [BOUNDS[924], BOUNDS[925], BOUNDS[926], BOUNDS[927]];
+
+const ROW_232: [u64; 4] = [BOUNDS[928], BOUNDS[929], BOUNDS[930], BOUNDS[931]];
+
+const ROW_233: [u64; 4] = [BOUNDS[932], BOUNDS[933], BOUNDS[934], BOUNDS[935]];
+
+const ROW_234: [u64; 4] = [BOUNDS[936], BOUNDS[937], BOUNDS[938], BOUNDS[939]];
+
+const ROW_235: [u64; 4] = [BOUNDS[940], BOUNDS[941], BOUNDS[942], BOUNDS[943]];
+
+const ROW_236: [u64; 4] = [BOUNDS[944], BOUNDS[945], BOUNDS[946], BOUNDS[947]];
+
+const ROW_237: [u64; 4] = [BOUNDS[948], BOUNDS[949], BOUNDS[950], BOUNDS[951]];
+
+const ROW_238: [u64; 4] = [BOUNDS[952], BOUNDS[953], BOUNDS[954], BOUNDS[955]];
+
+const ROW_239: [u64; 4] = [BOUNDS[956], BOUNDS[957], BOUNDS[958], BOUNDS[959]];
+
+const ROW_240: [u64; 4] = [BOUNDS[960], BOUNDS[961], BOUNDS[962], BOUNDS[963]];
+
+const ROW_241: [u64; 4] = [BOUNDS[964], BOUNDS[965], BOUNDS[966], BOUNDS[967]];
+
+const ROW_242: [u64; 4] = [BOUNDS[968], BOUNDS[969], BOUNDS[970], BOUNDS[971]];
+
+const ROW_243: [u64; 4] = [BOUNDS[972], BOUNDS[973], BOUNDS[974], BOUNDS[975]];
+
+const ROW_244: [u64; 4] = [BOUNDS[976], BOUNDS[977], BOUNDS[978], BOUNDS[979]];
+
+const ROW_245: [u64; 4] = [BOUNDS[980], BOUNDS[981], BOUNDS[982], BOUNDS[983]];
+
+const ROW_246: [u64; 4] = [BOUNDS[984], BOUNDS[985], BOUNDS[986], BOUNDS[987]];
+
+const ROW_247: [u64; 4] = [BOUNDS[988], BOUNDS[989], BOUNDS[990], BOUNDS[991]];
+
+const ROW_248: [u64; 4] = [BOUNDS[992], BOUNDS[993], BOUNDS[994], BOUNDS[995]];
+
+const ROW_249: [u64; 4] = [BOUNDS[996], BOUNDS[997], BOUNDS[998], BOUNDS[999]];
+
+const ROW_250: [u64; 4] = [BOUNDS[1000], BOUNDS[1001], BOUNDS[1002], BOUNDS[1003]];
+
+const ROW_251: [u64; 4] = [BOUNDS[1004], BOUNDS[1005], BOUNDS[1006], BOUNDS[1007]];
+
+const ROW_252: [u64; 4] = [BOUNDS[1008], BOUNDS[1009], BOUNDS[1010], BOUNDS[1011]];
+
+const ROW_253: [u64; 4] = [BOUNDS[1012], BOUNDS[1013], BOUNDS[1014], BOUNDS[1015]];
+
+const ROW_254: [u64; 4] = [BOUNDS[1016], BOUNDS[1017], BOUNDS[1018], BOUNDS[1019]];
+
+const ROW_255: [u64; 4] = [BOUNDS[1020], BOUNDS[1021], BOUNDS[1022], BOUNDS[1023]];
+
+// The entries from 4 * j on. A const array is rebuilt at each use, so the code reads rows that are cut from the table.
+pub fn row(j: u64) -> [u64; 4]
+    requires { ⌜ j < 256 ⌝ }
     ensures { λ r. ⌜ r ≡ rowOf j ⌝ }
 {
     match j {
@@ -2573,14 +1677,142 @@ pub fn row(j: u64) -> [u64; 8]
         124 => ROW_124,
         125 => ROW_125,
         126 => ROW_126,
+        127 => ROW_127,
+        128 => ROW_128,
+        129 => ROW_129,
+        130 => ROW_130,
+        131 => ROW_131,
+        132 => ROW_132,
+        133 => ROW_133,
+        134 => ROW_134,
+        135 => ROW_135,
+        136 => ROW_136,
+        137 => ROW_137,
+        138 => ROW_138,
+        139 => ROW_139,
+        140 => ROW_140,
+        141 => ROW_141,
+        142 => ROW_142,
+        143 => ROW_143,
+        144 => ROW_144,
+        145 => ROW_145,
+        146 => ROW_146,
+        147 => ROW_147,
+        148 => ROW_148,
+        149 => ROW_149,
+        150 => ROW_150,
+        151 => ROW_151,
+        152 => ROW_152,
+        153 => ROW_153,
+        154 => ROW_154,
+        155 => ROW_155,
+        156 => ROW_156,
+        157 => ROW_157,
+        158 => ROW_158,
+        159 => ROW_159,
+        160 => ROW_160,
+        161 => ROW_161,
+        162 => ROW_162,
+        163 => ROW_163,
+        164 => ROW_164,
+        165 => ROW_165,
+        166 => ROW_166,
+        167 => ROW_167,
+        168 => ROW_168,
+        169 => ROW_169,
+        170 => ROW_170,
+        171 => ROW_171,
+        172 => ROW_172,
+        173 => ROW_173,
+        174 => ROW_174,
+        175 => ROW_175,
+        176 => ROW_176,
+        177 => ROW_177,
+        178 => ROW_178,
+        179 => ROW_179,
+        180 => ROW_180,
+        181 => ROW_181,
+        182 => ROW_182,
+        183 => ROW_183,
+        184 => ROW_184,
+        185 => ROW_185,
+        186 => ROW_186,
+        187 => ROW_187,
+        188 => ROW_188,
+        189 => ROW_189,
+        190 => ROW_190,
+        191 => ROW_191,
+        192 => ROW_192,
+        193 => ROW_193,
+        194 => ROW_194,
+        195 => ROW_195,
+        196 => ROW_196,
+        197 => ROW_197,
+        198 => ROW_198,
+        199 => ROW_199,
+        200 => ROW_200,
+        201 => ROW_201,
+        202 => ROW_202,
+        203 => ROW_203,
+        204 => ROW_204,
+        205 => ROW_205,
+        206 => ROW_206,
+        207 => ROW_207,
+        208 => ROW_208,
+        209 => ROW_209,
+        210 => ROW_210,
+        211 => ROW_211,
+        212 => ROW_212,
+        213 => ROW_213,
+        214 => ROW_214,
+        215 => ROW_215,
+        216 => ROW_216,
+        217 => ROW_217,
+        218 => ROW_218,
+        219 => ROW_219,
+        220 => ROW_220,
+        221 => ROW_221,
+        222 => ROW_222,
+        223 => ROW_223,
+        224 => ROW_224,
+        225 => ROW_225,
+        226 => ROW_226,
+        227 => ROW_227,
+        228 => ROW_228,
+        229 => ROW_229,
+        230 => ROW_230,
+        231 => ROW_231,
+        232 => ROW_232,
+        233 => ROW_233,
+        234 => ROW_234,
+        235 => ROW_235,
+        236 => ROW_236,
+        237 => ROW_237,
+        238 => ROW_238,
+        239 => ROW_239,
+        240 => ROW_240,
+        241 => ROW_241,
+        242 => ROW_242,
+        243 => ROW_243,
+        244 => ROW_244,
+        245 => ROW_245,
+        246 => ROW_246,
+        247 => ROW_247,
+        248 => ROW_248,
+        249 => ROW_249,
+        250 => ROW_250,
+        251 => ROW_251,
+        252 => ROW_252,
+        253 => ROW_253,
+        254 => ROW_254,
         _ => last_row(j),
     }
 }
 
-fn last_row(j: u64) -> [u64; 8]
-    requires { ⌜ j < 128 ⌝ }
-    requires { ⌜ NoneOf j 127 ⌝ }
+fn last_row(j: u64) -> [u64; 4]
+    requires { ⌜ j < 256 ⌝ }
+    requires { ⌜ NoneOf j 255 ⌝ }
     ensures { λ r. ⌜ r ≡ rowOf j ⌝ }
 {
-    ROW_127
+    ROW_255
 }

@@ -7,7 +7,7 @@ pub mod signed;
 ghost use mathlib.Core.Path.{_≡_};
 ghost use Prim.Native.Nat.{_+_, _*_, _^_, _≤_, _<_};
 ghost use Rattle.index.specs.Answers.{binOf, binOrZero};
-ghost use Rattle.index.specs.Bins.{finestBin};
+ghost use Rattle.index.specs.Bins.{finest, finestBin, binAt};
 ghost use Rattle.index.specs.Frexp.{PartsOf};
 
 // The greatest level, that of scale 10.
@@ -82,6 +82,28 @@ fn finest_bin(mantissa: u64, exponent: u64) -> u32
     ((exponent + 52) * 1024 + rank::rank(mantissa) - 1) as u32
 }
 
+// The bin at scale 0, which the exponent tells: a power of two is the upper bound of the bucket below.
+fn whole_bin(mantissa: u64, exponent: u64) -> u32
+    requires { ⌜ (2 ^ 52 ≤ mantissa) × (mantissa < 2 ^ 53) × (922 ≤ exponent) × (exponent ≤ 3019) ⌝ }
+    ensures { λ r. ⌜ r ≡ binAt 10 (mantissa * 2 ^ exponent) ⌝ }
+{
+    if mantissa == 0x10_0000_0000_0000 {
+        return (exponent + 51) as u32;
+    }
+    (exponent + 52) as u32
+}
+
+// The bin at a level: the table is read for scales above 0 only.
+fn bin_from(mantissa: u64, exponent: u64, level: u32) -> u32
+    requires { ⌜ (2 ^ 52 ≤ mantissa) × (mantissa < 2 ^ 53) × (922 ≤ exponent) × (exponent ≤ 3019) × (level ≤ finest) ⌝ }
+    ensures { λ r. ⌜ r ≡ binAt level (mantissa * 2 ^ exponent) ⌝ }
+{
+    if level <= 10 {
+        return whole_bin(mantissa, exponent) >> (10 - level);
+    }
+    finest_bin(mantissa, exponent) >> (FINEST - level)
+}
+
 // The bin of v at a level.
 pub fn get_bin(v: f64, level: u32) -> Bin
     ensures { λ r. ⌜ r ≡ binOf v level ⌝ }
@@ -98,7 +120,7 @@ pub fn get_bin(v: f64, level: u32) -> Bin
             mantissa,
             exponent,
         } => {
-            let bin = finest_bin(mantissa, exponent) >> (FINEST - level);
+            let bin = bin_from(mantissa, exponent, level);
             Bin::At { negative, bin }
         }
     }

@@ -7,8 +7,8 @@ fn bound(k: u64) -> u64
     requires { ⌜ k < 1024 ⌝ }
     ensures { λ r. ⌜ BoundAt k r ⌝ }
 {
-    let row = crate::bounds::row(k / 8);
-    row[(k % 8) as usize]
+    let row = crate::bounds::row(k / 4);
+    row[(k % 4) as usize]
 }
 
 // How many bounds lie below m: from the guess down past those that do not, then up past those that do.

@@ -1,6 +1,6 @@
 -- `index::get_bin` meets its contract: each test of the code is one of `binOf`. Assumes nothing.
 use mathlib.Core.Path.{_≡_, sym, ap, _∙_, subst}
-use Prim.Native.Nat.{ℕ, _-_, _/_, _^_, _≤_}
+use Prim.Native.Nat.{_≤_}
 use native.Mathlib.Omega.{arith}
 use borrow.Author.Needs.{needs}
 use Rattle.index.specs.Bins.{finest}
@@ -32,11 +32,8 @@ enum-known-parts c = search needs
 parts : (c : tie.After-parts) → Split (c .before .before .before .before .args .v) (c .parts .given .0 .0) (c .parts .given .0 .1 .0) (c .parts .given .0 .1 .1 .0)
 parts c = subst (λ (r : Parts). PartsOf (c .before .before .before .before .args .v) r) (c .parts .given .1) (c .before .before .frexp .ensures)
 
-finest-bin-requires : tie.Need-finest-bin-requires
-finest-bin-requires c κs = let p = parts (c .before) in (p .least, p .most, p .lowest, p .highest)
-
-shr-bin : tie.Need-shr-bin
-shr-bin c = search needs
+bin-from-requires : tie.Need-bin-from-requires
+bin-from-requires c κs = let p = parts (c .before) in (p .least, p .most, p .lowest, p .highest, held (c .before .before .before .before))
 
 returns-2 : tie.Need-returns-2
 returns-2 c =
@@ -54,7 +51,7 @@ returns-4 c =
     let a = c .before .before in
     let s = a .before .before .before in
     let level = s .before .args .level in
-    ap (λ (b : ℕ). At (a .parts .given .0 .0) (b / 2 ^ (finest - level))) (c .finest-bin .ensures)
+    ap (At (a .parts .given .0 .0)) (c .bin-from .ensures)
     ∙ sym (at-split (s .before .args .v) level (a .parts .given .0 .0) (a .parts .given .0 .1 .0) (a .parts .given .0 .1 .1 .0) (held s) (parts a))
 
 pub get-bin-spec : {M : Type 1} → statement M
@@ -66,8 +63,7 @@ get-bin-spec =
     enum-told
     enum-told-2
     enum-known-parts
-    finest-bin-requires
-    shr-bin
+    bin-from-requires
     returns-2
     returns-3
     returns-4)

@@ -21,7 +21,7 @@ array-read-result c = search needs
 returns : tie.Need-returns
 returns c =
     let k = c .before .args .k in
-    subst (λ (r : List ℕ). BoundAt k (getD r (k % 8) 0)) (sym (c .row .ensures)) (bounded k (c .before .pre))
+    subst (λ (r : List ℕ). BoundAt k (getD r (k % 4) 0)) (sym (c .row .ensures)) (bounded k (c .before .pre))
 
 pub bound-spec : {M : Type 1} → statement M
 bound-spec = tie.close (tie.spec row-requires mul-result array-read-result returns)

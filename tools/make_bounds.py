@@ -1,6 +1,6 @@
 #!/usr/bin/env python3
-"""Writes crates/index/src/bounds.rt, the 1024 bucket bounds of a power of two with the rows that the code reads,
-crates/index/specs/Table.antt, the same numbers for the proof, and crates/index/src/guess.rt, a first guess of a rank.
+"""Writes crates/bounds/src/lib.rt, the 1024 bucket bounds of a power of two with the rows that the code reads,
+crates/bounds/specs/Table.antt, the same numbers for the proof, and crates/index/src/guess.rt, a first guess of a rank.
 
 Entry k is the largest whole number m with m^1024 <= 2^(k + 53248): the upper bound 2^(k/1024) of a bucket at scale 10,
 in units of 2^-52, rounded down. It is found by halving an interval of whole numbers; no logarithm and no float plays a part.
@@ -28,7 +28,8 @@ CODE = """// The bounds of scale 10's buckets within a power of two. Made by too
 ghost use mathlib.Core.Path.{_≡_};
 ghost use Prim.Native.Nat.{_<_};
 ghost use Rattle.laws.specs.NoneOf.{NoneOf};
-ghost use Rattle.index.specs.Table.{rowOf};
+ghost use Rattle.bounds.specs.Bounds.{BoundAt};
+ghost use Rattle.bounds.specs.Table.{rowOf};
 
 // Entry k is the largest m with m^1024 <= 2^(k + 53248).
 const BOUNDS: [u64; 1024] = [
@@ -36,7 +37,7 @@ const BOUNDS: [u64; 1024] = [
 
 %s
 // The entries from 4 * j on. A const array is rebuilt at each use, so the code reads rows that are cut from the table.
-pub fn row(j: u64) -> [u64; 4]
+fn row(j: u64) -> [u64; 4]
     requires { ⌜ j < 256 ⌝ }
     ensures { λ r. ⌜ r ≡ rowOf j ⌝ }
 {
@@ -51,6 +52,15 @@ fn last_row(j: u64) -> [u64; 4]
     ensures { λ r. ⌜ r ≡ rowOf j ⌝ }
 {
     ROW_255
+}
+
+// Entry k of the table.
+pub fn bound(k: u64) -> u64
+    requires { ⌜ k < 1024 ⌝ }
+    ensures { λ r. ⌜ BoundAt k r ⌝ }
+{
+    let found = row(k / 4);
+    found[(k %% 4) as usize]
 }
 """
 
@@ -119,9 +129,9 @@ def main():
     cuts = [f"const ROW_{j}: [u64; {ROW}] = [{', '.join(f'BOUNDS[{k}]' for k in row)}];\n" for j, row in enumerate(rows)]
     arms = [f"        {j} => ROW_{j},\n" for j in range(len(rows) - 1)]
     lists = [f"    ({' ∷ '.join(str(entries[k]) for k in row)} ∷ []) ∷\n" for row in rows]
-    with open("crates/index/src/bounds.rt", "w") as out:
+    with open("crates/bounds/src/lib.rt", "w") as out:
         out.write(CODE % ("".join(f"    {m},\n" for m in entries), "".join(cuts), "".join(arms)))
-    with open("crates/index/specs/Table.antt", "w") as out:
+    with open("crates/bounds/specs/Table.antt", "w") as out:
         out.write(TABLE % "".join(lists))
     bases = [chord(i) for i in range(PIECES + 1)]
     with open("crates/index/src/guess.rt", "w") as out:

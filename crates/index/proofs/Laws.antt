@@ -17,7 +17,7 @@ use Rattle.laws.proofs.Differences.{difference, shift-sub, sub-add, sub-more}
 use Rattle.index.specs.Magnitude.{magnitude, isNegative}
 use Rattle.index.specs.DataModel.{InBucket, IsIndex}
 use Rattle.index.specs.Bins.{finest, howMany, finestBin, binAt, lowestBin, endBin, scaleOf, indexOf}
-use Rattle.index.specs.Bounds.{Ranked}
+use Rattle.index.specs.Ranked.{Ranked}
 use Rattle.index.proofs.Buckets.{Between, from-10}
 use Rattle.index.proofs.Finest.{Held, finest-in, finest-is}
 use Rattle.index.proofs.Ranks.{finest-from, ranked-last}

@@ -1,4 +1,3 @@
-pub mod Rule
 pub mod Ranks
 pub mod Floats
 pub mod Buckets

@@ -6,7 +6,8 @@ use native.Mathlib.Omega.{arith}
 use lib.Dec.{lit<}
 use lib.Pow.{pow-add, pow-pos}
 use Rattle.laws.proofs.Powers.{mul-pow, pow-mul}
-use Rattle.index.specs.Bounds.{BoundAt, Ranked}
+use Rattle.bounds.specs.Bounds.{BoundAt}
+use Rattle.index.specs.Ranked.{Ranked}
 use Rattle.index.specs.Bins.{finestBin}
 use Rattle.index.proofs.Buckets.{Between}
 use Rattle.index.proofs.Finest.{finest-is}

@@ -4,5 +4,4 @@ pub mod Bins
 pub mod Frexp
 pub mod Answers
 pub mod Signed
-pub mod Bounds
-pub mod Table
+pub mod Ranked

@@ -1,5 +1,4 @@
 // The exact bucket index of an f64: `frexp` and `get_bin` of exponential_histogram.rs.
-mod bounds;
 mod guess;
 mod rank;
 pub mod signed;

@@ -1,15 +1,6 @@
 // The rank of a mantissa among the bounds of scale 10's buckets.
 ghost use Prim.Native.Nat.{_+_, _≤_, _<_, _^_};
-ghost use Rattle.index.specs.Bounds.{BoundAt, Ranked};
-
-// Entry k of the table.
-fn bound(k: u64) -> u64
-    requires { ⌜ k < 1024 ⌝ }
-    ensures { λ r. ⌜ BoundAt k r ⌝ }
-{
-    let row = crate::bounds::row(k / 4);
-    row[(k % 4) as usize]
-}
+ghost use Rattle.index.specs.Ranked.{Ranked};
 
 // How many bounds lie below m: from the guess down past those that do not, then up past those that do.
 pub fn rank(m: u64) -> u64
@@ -25,7 +16,7 @@ fn down(m: u64, from: u64) -> u64
 {
     let mut r = from;
     while r > 0 {
-        if bound(r - 1) < m {
+        if bounds::bound(r - 1) < m {
             return r;
         }
         r -= 1;
@@ -39,7 +30,7 @@ fn up(m: u64, from: u64) -> u64
 {
     let mut r = from;
     while r < 1024 {
-        if m <= bound(r) {
+        if m <= bounds::bound(r) {
             return r;
         }
         r += 1;

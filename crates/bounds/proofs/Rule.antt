@@ -9,8 +9,8 @@ use native.Mathlib.Omega.{arith}
 use lib.Dec.{T, leb, ltb, eqb, leb→le, ltb→lt, eqb→eq}
 use lib.ListN.{length, getD, take, drop}
 use Rattle.laws.proofs.Every.{every, cut, at, both-left, both-right}
-use Rattle.index.specs.Bounds.{BoundAt}
-use Rattle.index.specs.Table.{rows, rowOf}
+use Rattle.bounds.specs.Bounds.{BoundAt}
+use Rattle.bounds.specs.Table.{rows, rowOf}
 
 -- m is the bound at place k
 right : ℕ → ℕ → Bool

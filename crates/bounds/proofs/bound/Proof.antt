@@ -1,13 +1,13 @@
--- `index::rank::bound` meets its contract: the table's rule. Assumes nothing.
+-- `bounds::bound` meets its contract: the table's rule. Assumes nothing.
 use mathlib.Core.Path.{sym, subst}
 use mathlib.Core.List.{List}
 use Prim.Native.Nat.{ℕ, _%_}
 use lib.ListN.{getD}
 use borrow.Author.Needs.{needs}
-use Rattle.index.specs.Bounds.{BoundAt}
-use Rattle.index.proofs.Rule.{bounded}
-use Rattle.index.proofs.rank.bound.Statement.{statement}
-use Rattle.index.proofs.rank.bound.Tie as tie
+use Rattle.bounds.specs.Bounds.{BoundAt}
+use Rattle.bounds.proofs.Rule.{bounded}
+use Rattle.bounds.proofs.bound.Statement.{statement}
+use Rattle.bounds.proofs.bound.Tie as tie
 
 row-requires : tie.Need-row-requires
 row-requires c κs = search needs

@@ -1,11 +1,11 @@
--- `index::bounds::last_row` meets its contract: a row that is none of the first 255 is the last. Assumes nothing.
+-- `bounds::last_row` meets its contract: a row that is none of the first 255 is the last. Assumes nothing.
 use mathlib.Core.Path.{_≡_, refl, subst}
 use Prim.Native.Nat.{ℕ}
 use native.Mathlib.Omega.{arith}
 use Rattle.laws.specs.NoneOf.{past}
-use Rattle.index.specs.Table.{rowOf}
-use Rattle.index.proofs.bounds.last_row.Statement.{statement}
-use Rattle.index.proofs.bounds.last_row.Tie as tie
+use Rattle.bounds.specs.Table.{rowOf}
+use Rattle.bounds.proofs.last_row.Statement.{statement}
+use Rattle.bounds.proofs.last_row.Tie as tie
 
 returns : tie.Need-returns
 returns c = subst (λ (j : ℕ). rowOf 255 ≡ rowOf j) last refl

@@ -2,7 +2,8 @@
 ghost use mathlib.Core.Path.{_≡_};
 ghost use Prim.Native.Nat.{_<_};
 ghost use Rattle.laws.specs.NoneOf.{NoneOf};
-ghost use Rattle.index.specs.Table.{rowOf};
+ghost use Rattle.bounds.specs.Bounds.{BoundAt};
+ghost use Rattle.bounds.specs.Table.{rowOf};
 
 // Entry k is the largest m with m^1024 <= 2^(k + 53248).
 const BOUNDS: [u64; 1024] = [
@@ -1545,7 +1546,7 @@ const ROW_254: [u64; 4] = [BOUNDS[1016], BOUNDS[1017], BOUNDS[1018], BOUNDS[1019
 const ROW_255: [u64; 4] = [BOUNDS[1020], BOUNDS[1021], BOUNDS[1022], BOUNDS[1023]];
 
 // The entries from 4 * j on. A const array is rebuilt at each use, so the code reads rows that are cut from the table.
-pub fn row(j: u64) -> [u64; 4]
+fn row(j: u64) -> [u64; 4]
     requires { ⌜ j < 256 ⌝ }
     ensures { λ r. ⌜ r ≡ rowOf j ⌝ }
 {
@@ -1815,4 +1816,13 @@ fn last_row(j: u64) -> [u64; 4]
     ensures { λ r. ⌜ r ≡ rowOf j ⌝ }
 {
     ROW_255
+}
+
+// Entry k of the table.
+pub fn bound(k: u64) -> u64
+    requires { ⌜ k < 1024 ⌝ }
+    ensures { λ r. ⌜ BoundAt k r ⌝ }
+{
+    let found = row(k / 4);
+    found[(k % 4) as usize]
 }

@@ -1,0 +1,8 @@
+-- The rank of a mantissa among the bounds. Assumes nothing.
+use Prim.Native.Nat.{ℕ, _+_, _^_, _≤_, _<_}
+
+-- r is how many of the 1024 bounds lie below m, for an m from 2 ^ 52 up to 2 ^ 53
+pub record Ranked (m r : ℕ) : Type 0 where
+  pub small : r ≤ 1024
+  pub above : 2 ^ (r + 53247) < m ^ 1024
+  pub within : m ^ 1024 ≤ 2 ^ (r + 53248)

@@ -143,7 +143,6 @@ impl<T: Written> Running<T> {
                 if self.bindings.insert(read::number(fields[1]), binding).is_some() {
                     panic!("the Rust's bindings are released before their number is used again");
                 }
-                writeln!(out, "b {} ?", fields[1])?;
             }
             "h" => self.binding(fields[1]).record(T::read(fields[2])),
             "u" => {

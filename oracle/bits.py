@@ -53,15 +53,28 @@ def bound(k):
 
 
 BOUNDS = [bound(k) for k in range(1 << FINEST)]
+INNER_BOUNDS = frozenset(BOUNDS[1:])
+
+
+def normalised(bits):
+    """(m, e) as `magnitude`, a subnormal's mantissa brought up to a leading bit of 2^52."""
+    m, e = magnitude(bits)
+    lift = 53 - m.bit_length()
+    return m << lift, e - lift
 
 
 @lru_cache(maxsize=1 << 20)
 def finest_index(bits):
     """The index at scale 10 of a finite f64 other than zero, of either sign."""
-    m, e = magnitude(bits)
-    lift = 53 - m.bit_length()  # a subnormal is brought up to a leading bit of 2^52
-    rank = bisect_left(BOUNDS, m << lift)  # how many bounds lie below
-    return ((e - lift + 52) << FINEST) + rank - 1
+    m, e = normalised(bits)
+    rank = bisect_left(BOUNDS, m)  # how many bounds lie below
+    return ((e + 52) << FINEST) + rank - 1
+
+
+def beside_bound(bits):
+    """Whether a value is a rounded bound other than a power of two, or the next value above one."""
+    m, _ = normalised(bits)
+    return m in INNER_BOUNDS or m - 1 in INNER_BOUNDS
 
 
 def index(bits, scale):

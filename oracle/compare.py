@@ -2,9 +2,10 @@
 
     compare.py COUNT [--seed WORD] [--kinds ef,xf,..]
 
-beside a bound: the answers differ, and are the same without the records whose index at the starting scale differs; these values
-are judged by the definition. key twice: likewise without the calls that give one key twice. Everything else is unexplained and is
-printed with the smallest script found. Exit status 1 if anything is unexplained.
+beside a bound: the answers differ, and are the same without the records of values that are a bound or the next value above it and
+whose index at the starting scale differs; these values are judged by the definition. key twice: likewise without the calls that
+give one key twice. Everything else is unexplained and is printed with the smallest script found. Exit status 1 if anything is
+unexplained.
 """
 
 import argparse
@@ -14,7 +15,7 @@ from collections import Counter
 
 import generate
 import script
-from bits import SIGN, index, is_finite
+from bits import SIGN, beside_bound, index, is_finite
 from reference import Rules
 from rust import asked, indices, replay
 
@@ -28,14 +29,12 @@ class Comparer:
         self.bins = {}  # (scale, bits) to whether the Rust's index differs
 
     def compare(self, scripts):
-        """The verdict of each script."""
+        """The name and the verdict of each script, one after another."""
         questions = {name: asked(lines, self.rules) for name, lines in scripts.items()}
         answers = replay({name: question.lines for name, question in questions.items()})
-        verdicts = {}
         for name, lines in scripts.items():
             same = answers[name] == questions[name].expected
-            verdicts[name] = SAME if same else self.explain(lines)
-        return verdicts
+            yield name, SAME if same else self.explain(lines)
 
     def same(self, lines):
         question = asked(lines, self.rules)
@@ -50,7 +49,7 @@ class Comparer:
         return BESIDE if both and self.same(without(lines, both)) else UNEXPLAINED
 
     def differing(self, lines):
-        """Places of the records whose index at the starting scale is another in the Rust."""
+        """Places of the records beside a bound whose index at the starting scale is another in the Rust."""
         found, scale = [], None
         for place, call in calls(lines):
             if isinstance(call, script.Configure):
@@ -62,7 +61,7 @@ class Comparer:
 
     def differs(self, scale, bits):
         pair = scale, bits & ~SIGN
-        if not is_finite(bits) or pair[1] == 0:
+        if not is_finite(bits) or pair[1] == 0 or not beside_bound(pair[1]):
             return False
         if pair not in self.bins:
             self.bins[pair] = indices([pair])[0] != index(pair[1], scale)
@@ -116,7 +115,7 @@ def run(names, options):
     began = time.monotonic()
     for start in range(0, len(names), BATCH):
         scripts = {name: generate.make(name, options) for name in names[start : start + BATCH]}
-        verdicts = comparer.compare(scripts)
+        verdicts = dict(comparer.compare(scripts))
         counts.update(verdicts.values())
         lines_seen += sum(map(len, scripts.values()))
         for name, verdict in verdicts.items():

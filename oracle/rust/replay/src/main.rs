@@ -1,8 +1,10 @@
-//! Replays call scripts (docs/REPLAY.md) on the Rust and prints its answers; `replay index` answers `SCALE BITS` lines by `get_bin`.
+//! Replays call scripts (docs/REPLAY.md) on the Rust and prints its answers; `replay index` answers `SCALE BITS` lines by
+//! `get_bin`, `replay sweep` compares it with the exact index beside all bounds.
 
 mod answers;
 mod read;
 mod session;
+mod sweep;
 
 use std::io::{self, BufRead, BufWriter, Write};
 
@@ -10,11 +12,12 @@ use opentelemetry_sdk::door::Bins;
 use session::Session;
 
 fn main() -> io::Result<()> {
-    let out = BufWriter::new(io::stdout().lock());
+    let mut out = BufWriter::new(io::stdout().lock());
     match std::env::args().nth(1).as_deref() {
         None => replay(out),
         Some("index") => index(out),
-        Some(other) => panic!("usage: replay [index], not {other}"),
+        Some("sweep") => sweep::run(&mut out),
+        Some(other) => panic!("usage: replay [index | sweep], not {other}"),
     }
 }
 

@@ -1,0 +1,85 @@
+"""Compares the bucket index alone beside all 1024 bounds at all scales.
+
+    compare_index.py            the Rust's `get_bin` against the exact index, every octave; prints the differing mantissas
+    compare_index.py PROGRAM    a program that answers `SCALE BITS` lines (crate index_run), against the exact index
+
+Exit status 1 if the Rust differs elsewhere than at a bound or the next mantissa above it, or the program anywhere.
+"""
+
+import random
+import subprocess
+import sys
+from collections import defaultdict
+
+from bits import BOUNDS, GREATEST, SIGN, index
+from rust import BUILT
+
+SCALES = range(-10, 11)
+NEIGHBOURS = range(-2, 4)
+OCTAVES = (1, 2, 511, 1022, 1023, 1024, 1025, 1500, 2045, 2046)
+NORMAL_OCTAVES = 2046
+HIDDEN = 1 << 52
+
+
+def sweep():
+    """The Rust's differences as (scale, mantissa, difference, octaves), and how many values were compared."""
+    table = "".join(f"{m}\n" for m in BOUNDS)
+    done = subprocess.run([BUILT / "release/replay", "sweep"], input=table, stdout=subprocess.PIPE, text=True, check=True)
+    *lines, compared = done.stdout.splitlines()
+    rows = [line.split() for line in lines]
+    return [(int(s), int(f, 16) + HIDDEN, int(d), int(o)) for s, f, d, o in rows], int(compared)
+
+
+def place(mantissa):
+    """(k, how far above bound k) of the nearest bound."""
+    return min(((k, mantissa - m) for k, m in enumerate(BOUNDS)), key=lambda found: abs(found[1]))
+
+
+def the_rust():
+    found, compared = sweep()
+    scales = defaultdict(list)
+    for scale, mantissa, difference, _ in found:
+        scales[mantissa, difference].append(scale)
+    everywhere = all(octaves >= NORMAL_OCTAVES for *_, octaves in found)
+    print(f"{compared} values compared, {len(scales)} mantissas differ, each in every normal octave: {everywhere}\n")
+    print("| mantissa | bound k | above it by | the Rust's index minus the exact one | at scales |")
+    print("|---|---|---|---|---|")
+    far = 0
+    for (mantissa, difference), at in sorted(scales.items()):
+        k, above = place(mantissa)
+        far += above not in (0, 1)
+        print(f"| {mantissa:014X} | {k} | {above} | {difference:+} | {', '.join(map(str, sorted(at)))} |")
+    return far == 0
+
+
+def questions(draw=random.Random("index")):
+    """Every neighbour of every bound at every scale, in some octaves, subnormal ones too; random values; what has no index."""
+    near = [(e << 52) + (m + d - HIDDEN) for e in OCTAVES for m in BOUNDS for d in NEIGHBOURS]
+    near += [(m >> lift) + d for lift in range(1, 53, 5) for m in BOUNDS[::7] for d in NEIGHBOURS]
+    values = [bits for bits in near if 0 < bits <= GREATEST]
+    for bits in values:
+        for scale in SCALES:
+            yield scale, bits
+    for _ in range(100_000):
+        yield draw.choice(SCALES), draw.randrange(1, GREATEST + 1) | draw.choice((0, SIGN))
+
+
+def the_program(program):
+    pairs = list(questions())
+    text = "".join(f"{scale} {bits:016X}\n" for scale, bits in pairs)
+    done = subprocess.run([program], input=text, stdout=subprocess.PIPE, text=True, check=True)
+    given = done.stdout.split()
+    wrong = [(s, b, g) for (s, b), g in zip(pairs, given) if g != str(index(b, s))]
+    print(f"{len(pairs)} values compared, {len(wrong)} differ from the exact index")
+    for scale, bits, got in wrong[:20]:
+        print(f"  {bits:016X} at {scale}: {got}, exact {index(bits, scale)}")
+    return not wrong and len(given) == len(pairs)
+
+
+def main():
+    holds = the_program(sys.argv[1]) if len(sys.argv) > 1 else the_rust()
+    raise SystemExit(0 if holds else 1)
+
+
+if __name__ == "__main__":
+    main()

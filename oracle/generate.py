@@ -114,12 +114,12 @@ def value_source(draw):
     return value
 
 
-def whole_source(draw):
-    """Whole numbers whose sums stay in i64 in any script of ours, and now and then one that may not."""
+def whole_source(draw, giants):
+    """Whole numbers whose sums stay in i64 in any script of ours; with `giants` now and then one whose sum may not."""
     width = draw.randint(1, 55)
 
     def value():
-        if draw.random() < 0.01:
+        if giants and draw.random() < 0.02:
             return draw.choice((2**63 - 1, -(2**63), 2**62))
         return draw.randint(-(2**width), 2**width)
 
@@ -217,15 +217,15 @@ def outside(draw, allowed):
     return draw.choice([n for n in (allowed[0] - 1, allowed[-1] + 1) if allowed[0] < 0 or n >= 0])
 
 
-def configure_line(draw, options, kind, limit):
-    """A configuration that is accepted."""
+def configure_line(draw, options, kind, limit, summed):
+    """A configuration that is accepted; `summed`: with the sum on."""
     size = scale = threshold = None
     if kind[0] == "e":
         size = draw.choice((3, 4, 8, 20, 160, within(draw, options.rules.sizes)))
         scale = draw.choice((options.rules.scales[-1], draw.choice(options.rules.scales)))
         if options.thresholds and draw.random() < 0.5:
             threshold = normal(draw, 0) & ~SIGN
-    switches = draw.random() < 0.85, draw.random() < 0.85
+    switches = draw.random() < 0.85, summed or draw.random() < 0.85
     return script.Configure(
         kind[0], kind[1], size, scale, threshold, limit, draw.choice("ddddcl"), *switches, draw.randrange(2**32)
     )
@@ -260,7 +260,8 @@ class Maker:
         self.kind = draw.choice(options.kinds)
         self.limit = within(draw, options.rules.limits) if draw.random() < 0.3 else draw.randint(0, 6)
         self.bits = value_source(draw)
-        self.whole = whole_source(draw)
+        self.giants = self.kind[1] == "i" and draw.random() < 0.5  # with the sum off the Rust still adds, and overflows
+        self.whole = whole_source(draw, self.giants)
         self.set = set_source(draw, self.limit)
         self.handles = draw.sample(range(script.HANDLES), 6)
         self.bound = []
@@ -280,7 +281,7 @@ class Maker:
         waiting = filter_lines(self.draw)
         if self.kind[0] == "x":
             waiting += in_pieces(script.Bounds, bounds_of(self.draw, self.bits), 12)
-        configure = configure_line(self.draw, self.options, self.kind, self.limit)
+        configure = configure_line(self.draw, self.options, self.kind, self.limit, self.giants)
         before = refused(self.draw, self.options, configure) if self.draw.random() < 0.1 else []
         return before + waiting + [configure]
 

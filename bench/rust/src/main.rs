@@ -1,1 +1,79 @@
-fn main() {}
+//! The Rust and ours on the same inputs, in one run.
+//!
+//!     bench                    prints `CASE OPERATIONS RUST OURS`, nanoseconds an operation, the least of all rounds
+//!     bench count CASE SIDE    runs one round of one side (rust, ours), for counting instructions in `bench_measured`
+//!
+//! A side that is not there yet is `-`.
+
+mod cases;
+mod inputs;
+#[cfg(feature = "ours")]
+mod ours;
+mod rust;
+
+use std::time::Instant;
+
+use cases::{Case, Side};
+
+const ROUNDS: u32 = 61;
+
+fn main() {
+    let words: Vec<String> = std::env::args().skip(1).collect();
+    let words: Vec<&str> = words.iter().map(String::as_str).collect();
+    match words[..] {
+        [] => time_all(),
+        ["count", case, side] => count(case, side),
+        _ => panic!("usage: bench [count CASE SIDE]"),
+    }
+}
+
+/// The measured part, under a name that a counter of instructions can find.
+#[no_mangle]
+#[inline(never)]
+pub extern "C" fn bench_measured(side: &mut Side) {
+    (side.run)();
+}
+
+/// Rounds of both sides alternate, so that a busy moment of the machine meets both.
+fn time_all() {
+    for mut case in cases::all() {
+        let mut least = [f64::INFINITY; 2];
+        for _ in 0..ROUNDS {
+            for (best, side) in least.iter_mut().zip([&mut case.rust, &mut case.ours]) {
+                if let Some(side) = side {
+                    *best = best.min(nanoseconds(side) / f64::from(case.operations));
+                }
+            }
+        }
+        println!("{} {} {} {}", case.name, case.operations, shown(least[0]), shown(least[1]));
+    }
+}
+
+fn nanoseconds(side: &mut Side) -> f64 {
+    (side.prepare)();
+    let began = Instant::now();
+    bench_measured(side);
+    began.elapsed().as_nanos() as f64
+}
+
+fn shown(nanoseconds: f64) -> String {
+    if nanoseconds.is_finite() {
+        format!("{nanoseconds:.1}")
+    } else {
+        "-".to_string()
+    }
+}
+
+fn count(name: &str, side: &str) {
+    let case: Case = cases::all()
+        .into_iter()
+        .find(|case| case.name == name)
+        .expect("a case of this name");
+    let side = match side {
+        "rust" => case.rust,
+        _ => case.ours,
+    };
+    let mut side = side.expect("this side is there");
+    (side.prepare)();
+    bench_measured(&mut side);
+}

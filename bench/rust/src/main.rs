@@ -1,7 +1,7 @@
 //! The Rust and ours on the same inputs, in one run.
 //!
 //!     bench                    prints `CASE OPERATIONS RUST OURS`, nanoseconds an operation, the least of all rounds
-//!     bench count CASE SIDE    runs one round of one side (rust, ours), for counting instructions in `bench_measured`
+//!     bench count CASE SIDE    runs one side (rust, ours), its third round for counting instructions in `bench_measured`
 //!
 //! A side that is not there yet is `-`.
 
@@ -74,6 +74,10 @@ fn count(name: &str, side: &str) {
         _ => case.ours,
     };
     let mut side = side.expect("this side is there");
+    for _ in 0..2 {
+        (side.prepare)();
+        (side.run)();
+    }
     (side.prepare)();
     bench_measured(&mut side);
 }

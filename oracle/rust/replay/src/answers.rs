@@ -88,9 +88,12 @@ fn single<T: Written>(set: Set, value: T) -> (Set, String) {
     (set, text)
 }
 
+/// A set given with one key twice is handed out either as it was given or without the repetition, by chance (whichever of the two
+/// the hash map shows first). So of equal keys the first is printed.
 fn set<'a>(attributes: impl Iterator<Item = &'a KeyValue>) -> Set {
     let mut set: Set = attributes.map(pair).collect();
-    set.sort();
+    set.sort_by_key(|(key, _)| *key);
+    set.dedup_by_key(|(key, _)| *key);
     set
 }
 

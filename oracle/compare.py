@@ -48,24 +48,25 @@ class Comparer:
         both = set(self.differing(lines)) | set(self.giving_twice(lines))
         return BESIDE if both and self.same(without(lines, both)) else UNEXPLAINED
 
-    def differing(self, lines):
-        """Places of the records beside a bound whose index at the starting scale is another in the Rust."""
-        found, scale = [], None
+    def near_bounds(self, lines):
+        """(place, starting scale, bits of the magnitude) of each record of an f64 beside a bound."""
+        scale = None
         for place, call in calls(lines):
             if isinstance(call, script.Configure):
                 scale = call.scale if call.kind == "e" and call.number == "f" else None
             elif isinstance(call, (script.Record, script.RecordBound)) and scale in self.rules.scales:
-                if self.differs(scale, int(call.value, 16)):
-                    found.append(place)
-        return found
+                bits = int(call.value, 16) & ~SIGN
+                if bits and is_finite(bits) and beside_bound(bits):
+                    yield place, scale, bits
+
+    def differing(self, lines):
+        """Places of the records beside a bound whose index at the starting scale is another in the Rust."""
+        return [place for place, scale, bits in self.near_bounds(lines) if self.differs(scale, bits)]
 
     def differs(self, scale, bits):
-        pair = scale, bits & ~SIGN
-        if not is_finite(bits) or pair[1] == 0 or not beside_bound(pair[1]):
-            return False
-        if pair not in self.bins:
-            self.bins[pair] = indices([pair])[0] != index(pair[1], scale)
-        return self.bins[pair]
+        if (scale, bits) not in self.bins:
+            self.bins[scale, bits] = indices([(scale, bits)])[0] != index(bits, scale)
+        return self.bins[scale, bits]
 
     def giving_twice(self, lines):
         sets = [(place, call.set) for place, call in calls(lines) if isinstance(call, (script.Record, script.Bind))]

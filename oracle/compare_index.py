@@ -1,9 +1,10 @@
 """Compares the bucket index alone beside all 1024 bounds at all scales.
 
-    compare_index.py            the Rust's `get_bin` against the exact index, every octave; prints the differing mantissas
+    compare_index.py rust       the Rust's `get_bin` against the exact index, every octave; prints the differing mantissas
+    compare_index.py library    likewise our static library, as bench/run built it in
     compare_index.py PROGRAM    a program that answers `SCALE BITS` lines (crate index_run), against the exact index
 
-Exit status 1 if the Rust differs elsewhere than at a bound or the next mantissa above it, or the program anywhere.
+Exit status 1 if the Rust differs elsewhere than at a bound or the next mantissa above it, or one of ours anywhere.
 """
 
 import random
@@ -21,10 +22,10 @@ NORMAL_OCTAVES = 2046
 HIDDEN = 1 << 52
 
 
-def sweep():
-    """The Rust's differences as (scale, mantissa, difference, octaves), and how many values were compared."""
+def sweep(program):
+    """A program's differences as (scale, mantissa, difference, octaves), and how many values were compared."""
     table = "".join(f"{m}\n" for m in BOUNDS)
-    done = subprocess.run([BUILT / "release/replay", "sweep"], input=table, stdout=subprocess.PIPE, text=True, check=True)
+    done = subprocess.run([BUILT / "release" / program, "sweep"], input=table, stdout=subprocess.PIPE, text=True, check=True)
     *lines, compared = done.stdout.splitlines()
     rows = [line.split() for line in lines]
     return [(int(s), int(f, 16) + HIDDEN, int(d), int(o)) for s, f, d, o in rows], int(compared)
@@ -36,7 +37,7 @@ def place(mantissa):
 
 
 def the_rust():
-    found, compared = sweep()
+    found, compared = sweep("replay")
     scales = defaultdict(list)
     for scale, mantissa, difference, _ in found:
         scales[mantissa, difference].append(scale)
@@ -50,6 +51,12 @@ def the_rust():
         far += above not in (0, 1)
         print(f"| {mantissa:014X} | {k} | {above} | {difference:+} | {', '.join(map(str, sorted(at)))} |")
     return far == 0
+
+
+def the_library():
+    found, compared = sweep("bench")
+    print(f"{compared} values compared, {len(found)} differ from the exact index")
+    return not found
 
 
 def questions(draw=random.Random("index")):
@@ -77,7 +84,15 @@ def the_program(program):
 
 
 def main():
-    holds = the_program(sys.argv[1]) if len(sys.argv) > 1 else the_rust()
+    match sys.argv[1:]:
+        case ["rust"]:
+            holds = the_rust()
+        case ["library"]:
+            holds = the_library()
+        case [program]:
+            holds = the_program(program)
+        case _:
+            raise SystemExit(__doc__)
     raise SystemExit(0 if holds else 1)
 
 

@@ -1,6 +1,7 @@
 //! The Rust and ours on the same inputs, in one run.
 //!
 //!     bench                    prints `CASE OPERATIONS RUST OURS`, nanoseconds an operation, the least of all rounds
+//!     bench sweep              our index against the exact one beside all bounds, see crate beside
 //!     bench count CASE SIDE    runs one side (rust, ours), its third round for counting instructions in `bench_measured`
 //!
 //! A side that is not there yet is `-`.
@@ -22,8 +23,10 @@ fn main() {
     let words: Vec<&str> = words.iter().map(String::as_str).collect();
     match words[..] {
         [] => time_all(),
+        #[cfg(feature = "ours")]
+        ["sweep"] => beside::sweep(ours::index_at).expect("a place to write to"),
         ["count", case, side] => count(case, side),
-        _ => panic!("usage: bench [count CASE SIDE]"),
+        _ => panic!("usage: bench [count CASE SIDE | sweep (with our half)]"),
     }
 }
 

@@ -6,12 +6,23 @@ use crate::cases::Side;
 use crate::inputs;
 
 extern "C" {
-    /// Crate index: the bin of a value at a level (scale + 10); see its contract.
+    /// Crate index: the bin of a value at a level; see its contract.
     fn index_bin(v: f64, level: u32) -> u32;
 }
 
+/// The level of a scale: 0 for scale -10.
+fn level_of(scale: i8) -> u32 {
+    (scale + 10) as u32
+}
+
+/// The signed index: the bin without its bias.
+pub fn index_at(scale: i8) -> impl Fn(f64) -> i64 {
+    let level = level_of(scale);
+    move |v| i64::from(unsafe { index_bin(v, level) }) - (2 << level)
+}
+
 pub fn index(scale: i8) -> Option<Side> {
-    let level = (scale + 10) as u32;
+    let level = level_of(scale);
     let magnitudes = inputs::magnitudes();
     Side::of(move || {
         for v in &magnitudes {

@@ -4,7 +4,6 @@
 mod answers;
 mod read;
 mod session;
-mod sweep;
 
 use std::io::{self, BufRead, BufWriter, Write};
 
@@ -12,11 +11,13 @@ use opentelemetry_sdk::door::Bins;
 use session::Session;
 
 fn main() -> io::Result<()> {
-    let mut out = BufWriter::new(io::stdout().lock());
     match std::env::args().nth(1).as_deref() {
-        None => replay(out),
-        Some("index") => index(out),
-        Some("sweep") => sweep::run(&mut out),
+        None => replay(BufWriter::new(io::stdout().lock())),
+        Some("index") => index(BufWriter::new(io::stdout().lock())),
+        Some("sweep") => beside::sweep(|scale| {
+            let bins = Bins::new(scale);
+            move |v| i64::from(bins.get_bin(v))
+        }),
         Some(other) => panic!("usage: replay [index | sweep], not {other}"),
     }
 }

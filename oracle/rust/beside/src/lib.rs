@@ -1,4 +1,4 @@
-//! `get_bin` against the exact index over the neighbours of all bounds, in every octave of f64 at every scale from -10 to 10.
+//! A bucket index against the exact one over the neighbours of all bounds, in every octave of f64 at every scale from -10 to 10.
 //!
 //! The bounds come from the reference (bits.py), one a line in decimal; the index here is that of bits.py again, for speed.
 //! Prints `SCALE FRACTION DIFFERENCE OCTAVES` for each fraction that differs, and last how many values were compared.
@@ -7,15 +7,14 @@ use std::collections::BTreeMap;
 use std::io::{self, BufRead, Write};
 use std::ops::RangeInclusive;
 
-use opentelemetry_sdk::door::Bins;
-
 const NEIGHBOURS: RangeInclusive<i64> = -4..=5;
 const FRACTION: u64 = (1 << 52) - 1;
 
-/// (scale, fraction of the normalised mantissa, the Rust's index minus the exact one) to how many octaves.
+/// (scale, fraction of the normalised mantissa, the index minus the exact one) to how many octaves.
 type Differences = BTreeMap<(i8, u64, i64), u32>;
 
-pub fn run(out: &mut impl Write) -> io::Result<()> {
+/// `at` gives the index to judge, at a scale. Bounds are read from standard input.
+pub fn sweep<F: Fn(f64) -> i64>(at: impl Fn(i8) -> F) -> io::Result<()> {
     let bounds: Vec<u64> = io::stdin()
         .lock()
         .lines()
@@ -24,18 +23,18 @@ pub fn run(out: &mut impl Write) -> io::Result<()> {
     let mut differences = Differences::new();
     let mut compared: u64 = 0;
     for scale in -10..=10 {
-        let bins = Bins::new(scale);
+        let index = at(scale);
         for bits in octaves().flat_map(|octave| bounds.iter().flat_map(move |b| beside(octave, *b))) {
             compared += 1;
             let (exact, fraction) = exact_index(&bounds, bits);
-            let got = i64::from(bins.get_bin(f64::from_bits(bits)));
-            let difference = got - (exact >> (10 - scale));
+            let difference = index(f64::from_bits(bits)) - (exact >> (10 - scale));
             if difference != 0 {
                 *differences.entry((scale, fraction, difference)).or_default() += 1;
             }
         }
         eprintln!("scale {scale}: {compared} values compared so far");
     }
+    let mut out = io::stdout().lock();
     for ((scale, fraction, difference), octaves) in differences {
         writeln!(out, "{scale} {fraction:013X} {difference} {octaves}")?;
     }

@@ -1,6 +1,6 @@
 """Compares the reference with the Rust over random scripts, and says for each script: same, beside a bound, key twice, unexplained.
 
-    compare.py COUNT [--seed WORD] [--kinds ef,xf,..]
+    compare.py COUNT [--seed WORD] [OPTIONS]        as generate.py
 
 beside a bound: the answers differ, and are the same without the records of values that are a bound or the next value above it and
 whose index at the starting scale differs; these values are judged by the definition. key twice: likewise without the calls that
@@ -8,7 +8,6 @@ give one key twice. Everything else is unexplained and is printed with the small
 unexplained.
 """
 
-import argparse
 import sys
 import time
 from collections import Counter
@@ -129,14 +128,9 @@ def run(names, options):
 
 
 def main():
-    parser = argparse.ArgumentParser(description=__doc__.splitlines()[0])
-    parser.add_argument("count", type=int)
-    parser.add_argument("--seed", default="a")
-    parser.add_argument("--kinds", default=",".join(generate.BASE_KINDS))
-    given = parser.parse_args()
-    options = generate.Options(kinds=tuple(given.kinds.split(",")))
-    counts, lines = run([f"{given.seed}.{i}" for i in range(given.count)], options)
-    print(f"{given.count} scripts, {lines} lines, seed {given.seed}, kinds {given.kinds}")
+    names, options = generate.read_arguments(__doc__.splitlines()[0])
+    counts, lines = run(names, options)
+    print(f"compare.py {' '.join(sys.argv[1:])}: {len(names)} scripts, {lines} lines")
     for verdict in (SAME, BESIDE, TWICE, UNEXPLAINED):
         print(f"  {verdict}: {counts[verdict]}")
     raise SystemExit(1 if counts[UNEXPLAINED] else 0)

@@ -20,6 +20,11 @@ NEIGHBOURS = range(-2, 4)
 OCTAVES = (1, 2, 511, 1022, 1023, 1024, 1025, 1500, 2045, 2046)
 NORMAL_OCTAVES = 2046
 HIDDEN = 1 << 52
+# Lines without an index: zeros, what is not finite, scales out of range, and what can't be read.
+NO_INDEX = ["0 0000000000000000", "0 8000000000000000", "0 7FF0000000000000", "0 FFF0000000000000", "0 7FF8000000000000"]
+NO_INDEX += ["11 3FF0000000000000", "-11 3FF0000000000000", "128 3FF0000000000000", "4294967306 3FF0000000000000"]
+NO_INDEX += ["", "0", "0 ", " 0 3FF0000000000000", "0  3FF0000000000000", "0 3FF0000000000000 ", "0 3FF00000000000000"]
+NO_INDEX += ["0 3FF000000000000", "0 3ff0000000000000", "00 3FF0000000000000", "-0 3FF0000000000000", "+1 3FF0000000000000"]
 
 
 def sweep(program):
@@ -59,28 +64,23 @@ def the_library():
     return not found
 
 
-def questions(draw=random.Random("index")):
-    """Every neighbour of every bound at every scale, in some octaves, subnormal ones too; random values; what has no index."""
+def values(draw=random.Random("index")):
+    """(scale, bits): every neighbour of every bound at every scale, in some octaves, subnormal ones too; random values."""
     near = [(e << 52) + (m + d - HIDDEN) for e in OCTAVES for m in BOUNDS for d in NEIGHBOURS]
     near += [(m >> lift) + d for lift in range(1, 53, 5) for m in BOUNDS[::7] for d in NEIGHBOURS]
-    values = [bits for bits in near if 0 < bits <= GREATEST]
-    for bits in values:
-        for scale in SCALES:
-            yield scale, bits
-    for _ in range(100_000):
-        yield draw.choice(SCALES), draw.randrange(1, GREATEST + 1) | draw.choice((0, SIGN))
+    yield from ((scale, bits) for bits in near if 0 < bits <= GREATEST for scale in SCALES)
+    yield from ((draw.choice(SCALES), draw.randrange(1, GREATEST + 1) | draw.choice((0, SIGN))) for _ in range(100_000))
 
 
 def the_program(program):
-    pairs = list(questions())
-    text = "".join(f"{scale} {bits:016X}\n" for scale, bits in pairs)
-    done = subprocess.run([program], input=text, stdout=subprocess.PIPE, text=True, check=True)
-    given = done.stdout.split()
-    wrong = [(s, b, g) for (s, b), g in zip(pairs, given) if g != str(index(b, s))]
-    print(f"{len(pairs)} values compared, {len(wrong)} differ from the exact index")
-    for scale, bits, got in wrong[:20]:
-        print(f"  {bits:016X} at {scale}: {got}, exact {index(bits, scale)}")
-    return not wrong and len(given) == len(pairs)
+    asked = [(f"{scale} {bits:016X}", str(index(bits, scale))) for scale, bits in values()] + [(line, "?") for line in NO_INDEX]
+    text = "".join(f"{line}\n" for line, _ in asked)
+    given = subprocess.run([program], input=text, stdout=subprocess.PIPE, text=True, check=True).stdout.split()
+    wrong = [(line, exact, got) for (line, exact), got in zip(asked, given) if got != exact]
+    print(f"{len(asked)} lines compared, {len(wrong)} differ from the exact index")
+    for line, exact, got in wrong[:20]:
+        print(f"  '{line}': {got}, exact {exact}")
+    return not wrong and len(given) == len(asked)
 
 
 def main():

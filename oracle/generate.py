@@ -1,8 +1,8 @@
 """Random call scripts.
 
-    generate.py COUNT [--seed WORD] [--kinds ef,xf,..]      prints scripts named WORD.0, WORD.1, ..
+    generate.py COUNT [--seed WORD] [OPTIONS]       prints scripts named WORD.0, WORD.1, ..; --help lists the options
 
-A script is settled by its name alone. Kinds: e, x, s, l (docs/REPLAY.md) with f or i.
+A script is settled by its name and the options alone. Kinds: e, x, s, l (docs/REPLAY.md) with f or i.
 """
 
 import argparse
@@ -341,14 +341,23 @@ def make(name, options=Options()):
     return Maker(name, options).script()
 
 
-def main():
-    parser = argparse.ArgumentParser(description=__doc__.splitlines()[0])
+def read_arguments(about):
+    """The names of the scripts wanted and the options they are made with."""
+    parser = argparse.ArgumentParser(description=about)
     parser.add_argument("count", type=int)
     parser.add_argument("--seed", default="a")
-    parser.add_argument("--kinds", default=",".join(BASE_KINDS))
+    parser.add_argument("--kinds", default=",".join(BASE_KINDS), help="of ef,xf,sf,lf,ei,xi,si,li")
+    parser.add_argument("--limit", type=int, default=Rules().limits[-1], help="the greatest limit (request L12)")
+    parser.add_argument("--thresholds", action="store_true", help="zero thresholds (request L7)")
+    parser.add_argument("--new-settings", action="store_true", help="new settings (request L10)")
     given = parser.parse_args()
-    options = Options(kinds=tuple(given.kinds.split(",")))
-    names = (f"{given.seed}.{i}" for i in range(given.count))
+    rules = Rules(limits=range(0, given.limit + 1))
+    options = Options(tuple(given.kinds.split(",")), rules, given.thresholds, given.new_settings)
+    return [f"{given.seed}.{i}" for i in range(given.count)], options
+
+
+def main():
+    names, options = read_arguments(__doc__.splitlines()[0])
     sys.stdout.write(script.join_scripts({name: make(name, options) for name in names}))
 
 

@@ -1,6 +1,6 @@
 """Shows that the comparison has teeth: wrong variants of the reference, each of which random scripts must tell from the Rust.
 
-    mutants.py [SCRIPTS]        compares each variant over up to SCRIPTS scripts, until the first that is unexplained
+    mutants.py [SCRIPTS]        compares each variant over up to SCRIPTS (2000) scripts, until the first that is unexplained
 """
 
 import sys
@@ -27,7 +27,9 @@ def toward_zero(counted, drop):
 
 
 def one_row_rescaled(counted, drop):
-    return row_of(counted, drop if drop_needed([counted], 20) == drop else 0)
+    """The last step is left out for a row that fits without it."""
+    spared = drop > 0 and drop_needed([counted], 3) < drop
+    return row_of(counted, drop - spared)
 
 
 def idle_bound_removed(self):

@@ -1,4 +1,4 @@
-"""Compares the reference with the Rust over random scripts, and says for each script: same, beside a bound, key twice, unexplained.
+"""Compares the reference with the Rust over random scripts: same, beside a bound, key twice or unexplained.
 
     compare.py COUNT [--seed WORD] [OPTIONS]        as generate.py
 

@@ -21,7 +21,7 @@ REFUSED_BOUNDS = ([NAN], [0, 0], [0, SIGN], [5, 4], [1, NAN, 2], range(160), [NA
 
 @dataclass(frozen=True)
 class Options:
-    """What later requests widen: kinds (L1, L6), limits (L12) and scales (L13) by `rules`, a zero threshold (L7), new settings (L10)."""
+    """What later requests widen: kinds (L1, L6), `rules` (limits L12, scales L13), thresholds (L7), new settings (L10)."""
 
     kinds: tuple = BASE_KINDS
     rules: Rules = Rules()
@@ -264,7 +264,7 @@ class Maker:
         self.whole = whole_source(draw, self.giants)
         self.set = set_source(draw, self.limit)
         self.handles = draw.sample(range(script.HANDLES), 6)
-        self.bound = []
+        self.bound, self.kept = [], set()
         self.time = draw.randrange(2**32)
 
     def value(self):
@@ -293,9 +293,9 @@ class Maker:
             return self.merging()
         if chance < 0.13:
             return self.short_stores()
-        if chance < 0.135:
+        if chance < 0.14:
             return self.configuration()
-        if chance < 0.145 and self.options.new_settings:
+        if chance < 0.15 and self.options.new_settings:
             return [script.NewSettings(self.draw.choice((3, 20, 160)), self.draw.randint(-10, 10))]
         if lively and chance < 0.45:
             return [self.binding()]
@@ -323,13 +323,15 @@ class Maker:
         return [call, call] if draw.random() < 0.3 else [call]
 
     def merging(self):
-        """Points of one collection and of those before it, each merged with another or with itself."""
+        """A point of a new collection merged with another one, with an earlier one or with itself."""
         draw = self.draw
-        keeps = [script.Keep(0, 0), script.Keep(draw.randrange(3), draw.randrange(2))]
+        new, other = draw.sample(range(3), 2)
+        keeps = [script.Keep(new, 0)] + ([script.Keep(other, draw.randrange(2))] if other not in self.kept else [])
+        self.kept |= {new, other}
         size = draw.choice((3, 20, 160, 160, 160, 2, 161))
         counts = draw.choice((None, None, None, 1, 4, 40))
-        merge = script.Merge(draw.randrange(3), 0, draw.randrange(3), size, counts)
-        return [script.Collect(self.time, None, None), *keeps, merge]
+        pair = draw.choice(((new, new), (new, other), (other, new), (other, new)))
+        return [script.Collect(self.time, None, None), *keeps, script.Merge(draw.randrange(3), *pair, size, counts)]
 
     def short_stores(self):
         """One call with stores of some length, perhaps too short."""

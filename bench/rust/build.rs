@@ -10,7 +10,10 @@ fn main() {
     }
     let directory = var("OURS_DIRECTORY").expect("the directory of the static libraries");
     println!("cargo:rustc-link-search=native={directory}");
-    for library in var("OURS_LIBRARIES").expect("their names").split_whitespace() {
+    for library in var("OURS_LIBRARIES")
+        .expect("their names")
+        .split_whitespace()
+    {
         println!("cargo:rerun-if-changed={directory}/lib{library}.a");
         println!("cargo:rustc-link-lib=static={library}");
     }

@@ -54,7 +54,12 @@ pub fn all() -> Vec<Case> {
     let values = inputs::VALUES as u32;
     let index = |name, scale| case(name, values, rust::index(scale), ours::index(scale));
     let by_set = |name, sets, attributes| {
-        case(name, values, rust::by_set(sets, attributes), ours::by_set(sets, attributes))
+        case(
+            name,
+            values,
+            rust::by_set(sets, attributes),
+            ours::by_set(sets, attributes),
+        )
     };
     vec![
         index("index_scale_10", 10),
@@ -62,8 +67,18 @@ pub fn all() -> Vec<Case> {
         index("index_scale_-2", -2),
         by_set("record_4_sets_of_2", 4, 2),
         by_set("record_62_sets_of_8", 62, 8),
-        case("record_by_handle", values, rust::by_handle(), ours::by_handle()),
-        case("delta_collection_62_full", 1, rust::delta_collection(), ours::delta_collection()),
+        case(
+            "record_by_handle",
+            values,
+            rust::by_handle(),
+            ours::by_handle(),
+        ),
+        case(
+            "delta_collection_62_full",
+            1,
+            rust::delta_collection(),
+            ours::delta_collection(),
+        ),
     ]
 }
 

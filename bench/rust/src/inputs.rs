@@ -47,7 +47,9 @@ pub fn values() -> Vec<f64> {
 /// Which set each value of a round is recorded under.
 pub fn order(sets: u32) -> Vec<usize> {
     let mut draw = Draw::new();
-    (0..VALUES).map(|_| (draw.next() >> 33) as usize % sets as usize).collect()
+    (0..VALUES)
+        .map(|_| (draw.next() >> 33) as usize % sets as usize)
+        .collect()
 }
 
 /// The attributes of set number `set`: keys 1, 2, .., of which the last tells the sets apart.
@@ -59,5 +61,7 @@ pub fn attributes(set: u32, count: u32) -> Vec<(u32, u32)> {
 
 /// Values that fill a row of 160 counts at scale 10: one in each bucket upward from 1.
 pub fn full_row() -> Vec<f64> {
-    (0..MAX_SIZE).map(|i| 2f64.powf((f64::from(i) + 0.5) / 1024.0)).collect()
+    (0..MAX_SIZE)
+        .map(|i| 2f64.powf((f64::from(i) + 0.5) / 1024.0))
+        .collect()
 }

@@ -48,7 +48,13 @@ fn time_all() {
                 }
             }
         }
-        println!("{} {} {} {}", case.name, case.operations, shown(least[0]), shown(least[1]));
+        println!(
+            "{} {} {} {}",
+            case.name,
+            case.operations,
+            shown(least[0]),
+            shown(least[1])
+        );
     }
 }
 

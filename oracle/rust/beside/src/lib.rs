@@ -24,12 +24,15 @@ pub fn sweep<F: Fn(f64) -> i64>(at: impl Fn(i8) -> F) -> io::Result<()> {
     let mut compared: u64 = 0;
     for scale in -10..=10 {
         let index = at(scale);
-        for bits in octaves().flat_map(|octave| bounds.iter().flat_map(move |b| beside(octave, *b))) {
+        for bits in octaves().flat_map(|octave| bounds.iter().flat_map(move |b| beside(octave, *b)))
+        {
             compared += 1;
             let (exact, fraction) = exact_index(&bounds, bits);
             let difference = index(f64::from_bits(bits)) - (exact >> (10 - scale));
             if difference != 0 {
-                *differences.entry((scale, fraction, difference)).or_default() += 1;
+                *differences
+                    .entry((scale, fraction, difference))
+                    .or_default() += 1;
             }
         }
         eprintln!("scale {scale}: {compared} values compared so far");

@@ -79,8 +79,7 @@ pub fn validate(kind: &Kind, min_max: bool) -> bool {
 
 impl<T: Measurement> Aggregate<T> {
     pub fn new(settings: Settings) -> Self {
-        let builder =
-            AggregateBuilder::new(settings.temporality, settings.filter, settings.limit);
+        let builder = AggregateBuilder::new(settings.temporality, settings.filter, settings.limit);
         let fns = match settings.kind {
             Kind::Exponential {
                 max_size,

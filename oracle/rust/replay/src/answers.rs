@@ -129,5 +129,7 @@ fn joined(items: impl Iterator<Item = String>, none: &str) -> String {
 }
 
 fn nanos(time: SystemTime) -> u128 {
-    time.duration_since(UNIX_EPOCH).expect("after the epoch").as_nanos()
+    time.duration_since(UNIX_EPOCH)
+        .expect("after the epoch")
+        .as_nanos()
 }

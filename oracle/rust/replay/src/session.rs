@@ -86,7 +86,13 @@ impl Session {
             "e" => {
                 let max_size = read::number(fields[2]);
                 let max_scale = read::number(fields[3]);
-                (Kind::Exponential { max_size, max_scale }, 2)
+                (
+                    Kind::Exponential {
+                        max_size,
+                        max_scale,
+                    },
+                    2,
+                )
             }
             "x" => (Kind::Explicit { bounds }, 3),
             "s" => (Kind::Sum, 0),
@@ -137,10 +143,16 @@ impl<T: Written> Running<T> {
 
     fn call(&mut self, keys: &mut Keys, fields: &[&str], out: &mut impl Write) -> io::Result<()> {
         match fields[0] {
-            "r" => self.aggregate.record(T::read(fields[1]), &keys.set(fields[2])),
+            "r" => self
+                .aggregate
+                .record(T::read(fields[1]), &keys.set(fields[2])),
             "b" => {
                 let binding = self.aggregate.bind(&keys.set(fields[2]));
-                if self.bindings.insert(read::number(fields[1]), binding).is_some() {
+                if self
+                    .bindings
+                    .insert(read::number(fields[1]), binding)
+                    .is_some()
+                {
                     panic!("the Rust's bindings are released before their number is used again");
                 }
             }

@@ -133,6 +133,25 @@ def check_examples():
     check("9, a count of 2^63 merged with itself", reference.answers(full)[-1] == "! 68 9")
 
 
+def check_requests():
+    """What the language has room for: totals and last values, whole numbers, a zero band, new settings."""
+    total = ["n s f - - - 2 d 1 1 0", f"r {ONE:016X} 1:1", f"r {TWO:016X} 1:1", "c 1 - -", "c 2 - -"]
+    check_answers("L1, a sum", total, ["c 0 1 1", f"v 1:1 {THREE:016X}", "c 1 2 0"])
+    last = ["n l f - - - 2 c 1 1 0", f"r {ONE:016X} 1:1", f"r {TWO:016X} 1:1", "c 1 - -"]
+    check_answers("L1, a last value", last, ["c 0 1 1", f"v 1:1 {TWO:016X}"])
+    whole = ["n e i 4 10 - 2 d 1 1 0", "r 9223372036854775807 -", "r 1 -", "r -3 -", "c 1 - -"]
+    point = "p - 2 0 10 -3 9223372036854775807 9223372036854775804 64511:1 1623:1"
+    check_answers("L6, whole numbers", whole, ["! 3 16", "c 0 1 1", point])
+    band = [f"n e f 4 10 {TWO:016X} 2 d 1 1 0", f"r {TWO:016X} -", f"r {TWO + 1:016X} -", "c 1 - -"]
+    point = f"p - 2 1 10 {TWO:016X} {TWO + 1:016X} 4010000000000000 1024:1 0: {TWO:016X}"
+    check_answers("L7, a zero band", band, ["c 0 1 1", point])
+    check_answers("L7, a negative threshold", ["n e f 4 10 C000000000000000 2 d 1 1 0"], ["! 1 17"])
+    values = [f"r {bits:016X} -" for bits in (ONE, TWO, THREE, ONE_AND_A_HALF)]
+    changed = reference.answers([exponential(size=160), *values, "t 3 4", "c 1 - -"])
+    check("L10, new settings give the point of the values under them", changed == reference.answers([exponential(3, 4), *values, "c 1 - -"]))
+    check_answers("L10, a setting that would rise", [exponential(), "t 5 10"], ["! 2 19"])
+
+
 def check_language():
     lines = ["g 3FF0000000000000", "f -", "m 7 -", "n e f 4 -10 - 2 l 0 1 0", "r -12 1:2,1:3", "b 99 -", "h 0 5", "u 3"]
     lines += ["c 18446744073709551615 0 -", "k 7 0", "j 0 1 2 160 4", "t 4 3"]
@@ -148,6 +167,7 @@ def main():
     check_worked_run()
     check_limits()
     check_examples()
+    check_requests()
     check_language()
 
 

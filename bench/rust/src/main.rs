@@ -16,7 +16,7 @@ use std::time::Instant;
 
 use cases::{Case, Side};
 
-const ROUNDS: u32 = 61;
+const ROUNDS: u32 = 400;
 
 fn main() {
     let words: Vec<String> = std::env::args().skip(1).collect();
@@ -37,23 +37,26 @@ pub extern "C" fn bench_measured(side: &mut Side) {
     (side.run)();
 }
 
-/// Rounds of both sides alternate, so that a busy moment of the machine meets both.
+/// Each round goes through all cases and both sides, so that a busy moment of the machine meets all and a quiet one too.
 fn time_all() {
-    for mut case in cases::all() {
-        let mut least = [f64::INFINITY; 2];
-        for _ in 0..ROUNDS {
+    let mut cases = cases::all();
+    let mut least = vec![[f64::INFINITY; 2]; cases.len()];
+    for _ in 0..ROUNDS {
+        for (case, least) in cases.iter_mut().zip(&mut least) {
             for (best, side) in least.iter_mut().zip([&mut case.rust, &mut case.ours]) {
                 if let Some(side) = side {
                     *best = best.min(nanoseconds(side) / f64::from(case.operations));
                 }
             }
         }
+    }
+    for (case, [rust, ours]) in cases.iter().zip(least) {
         println!(
             "{} {} {} {}",
             case.name,
             case.operations,
-            shown(least[0]),
-            shown(least[1])
+            shown(rust),
+            shown(ours)
         );
     }
 }

@@ -38,10 +38,13 @@ def run(lines):
         yield from answers if refusal == 0 else [unreadable(number)]
 
 
+def answer(text):
+    """All that the program prints for an input; bytes are read as Latin-1, so that each is one character."""
+    return "".join(f"{line}\n" for line in run(split_lines(text)))
+
+
 def main():
-    text = sys.stdin.buffer.read().decode("latin-1")
-    for answer in run(split_lines(text)):
-        print(answer)
+    sys.stdout.write(answer(sys.stdin.buffer.read().decode("latin-1")))
 
 
 if __name__ == "__main__":

@@ -80,8 +80,7 @@ def check_index(count=3000):
 
 
 def check_worked_run():
-    given = "".join(f"{line}\n" for line in gauge.run(script.split_lines(WORKED_RUN)))
-    check("the worked run prints exactly document 01's two lines", given == WORKED_ANSWER)
+    check("the worked run prints exactly document 01's two lines", gauge.answer(WORKED_RUN) == WORKED_ANSWER)
     bad = ["r 3FF0000000000000 1:5", "e 4 10 31 0", "e 4 10 30 0", "r 7FF0000000000000 -", "", "c 01", "c 1", "c 1 "]
     expected = ["? 1", "? 2", "? 4", "? 5", "? 6", "c 0 1 0", "? 8"]
     check("gauge lines that are refused or cannot be read give ? N", list(gauge.run(bad)) == expected)

@@ -1,0 +1,46 @@
+//! Our half: the static libraries that `rt staticlib` writes, called as C functions.
+
+use std::hint::black_box;
+
+use crate::cases::Side;
+use crate::inputs;
+
+extern "C" {
+    /// Crate index: the bin of a value at a level; see its contract.
+    fn index_bin(v: f64, level: u32) -> u32;
+}
+
+/// The level of a scale: 0 for scale -10.
+fn level_of(scale: i8) -> u32 {
+    (scale + 10) as u32
+}
+
+/// The signed index: the bin without its bias.
+pub fn index_at(scale: i8) -> impl Fn(f64) -> i64 {
+    let level = level_of(scale);
+    move |v| i64::from(unsafe { index_bin(v, level) }) - (2 << level)
+}
+
+pub fn index(scale: i8) -> Option<Side> {
+    let level = level_of(scale);
+    let magnitudes = inputs::magnitudes();
+    Side::of(move || {
+        for v in &magnitudes {
+            black_box(unsafe { index_bin(black_box(*v), level) });
+        }
+    })
+}
+
+// Not there yet: fill in as the crates land.
+
+pub fn by_set(_sets: u32, _attributes: u32) -> Option<Side> {
+    None
+}
+
+pub fn by_handle() -> Option<Side> {
+    None
+}
+
+pub fn delta_collection() -> Option<Side> {
+    None
+}

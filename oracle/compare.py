@@ -1,0 +1,140 @@
+"""Compares the reference with the Rust over random scripts: same, beside a bound, key twice or unexplained.
+
+    compare.py COUNT [--seed WORD] [OPTIONS]        as generate.py
+
+beside a bound: the answers differ, and are the same without the records of values that are a bound or the next value above it and
+whose index at the starting scale differs; these values are judged by the definition. key twice: likewise without the calls that
+give one key twice. Everything else is unexplained and is printed with the smallest script found. Exit status 1 if anything is
+unexplained.
+"""
+
+import sys
+import time
+from collections import Counter
+
+import generate
+import script
+from bits import SIGN, beside_bound, index, is_finite
+from reference import Rules
+from rust import asked, indices, replay
+
+BATCH = 250
+SAME, BESIDE, TWICE, UNEXPLAINED = "same", "beside a bound", "key twice", "unexplained"
+
+
+class Comparer:
+    def __init__(self, rules=Rules()):
+        self.rules = rules
+        self.bins = {}  # (scale, bits) to whether the Rust's index differs
+
+    def compare(self, scripts):
+        """The name and the verdict of each script, one after another."""
+        questions = {name: asked(lines, self.rules) for name, lines in scripts.items()}
+        answers = replay({name: question.lines for name, question in questions.items()})
+        for name, lines in scripts.items():
+            same = answers[name] == questions[name].expected
+            yield name, SAME if same else self.explain(lines)
+
+    def same(self, lines):
+        question = asked(lines, self.rules)
+        return replay({"one": question.lines})["one"] == question.expected
+
+    def explain(self, lines):
+        for verdict, excuse in ((BESIDE, self.differing), (TWICE, self.giving_twice)):
+            places = excuse(lines)
+            if places and self.same(without(lines, places)):
+                return verdict
+        both = set(self.differing(lines)) | set(self.giving_twice(lines))
+        return BESIDE if both and self.same(without(lines, both)) else UNEXPLAINED
+
+    def near_bounds(self, lines):
+        """(place, starting scale, bits of the magnitude) of each record of an f64 beside a bound."""
+        scale = None
+        for place, call in calls(lines):
+            if isinstance(call, script.Configure):
+                scale = call.scale if call.kind == "e" and call.number == "f" else None
+            elif isinstance(call, (script.Record, script.RecordBound)) and scale in self.rules.scales:
+                bits = int(call.value, 16) & ~SIGN
+                if bits and is_finite(bits) and beside_bound(bits):
+                    yield place, scale, bits
+
+    def differing(self, lines):
+        """Places of the records beside a bound whose index at the starting scale is another in the Rust."""
+        return [place for place, scale, bits in self.near_bounds(lines) if self.differs(scale, bits)]
+
+    def differs(self, scale, bits):
+        if (scale, bits) not in self.bins:
+            self.bins[scale, bits] = indices([(scale, bits)])[0] != index(bits, scale)
+        return self.bins[scale, bits]
+
+    def giving_twice(self, lines):
+        sets = [(place, call.set) for place, call in calls(lines) if isinstance(call, (script.Record, script.Bind))]
+        return [place for place, attributes in sets if len(dict(attributes)) < len(attributes)]
+
+    def smallest(self, lines):
+        """Fewer and fewer lines, as long as what is left is unexplained."""
+        step = len(lines) // 2
+        while step:
+            start = 0
+            while start < len(lines):
+                fewer = lines[:start] + lines[start + step :]
+                if not self.same(fewer) and self.explain(fewer) == UNEXPLAINED:
+                    lines = fewer
+                else:
+                    start += step
+            step //= 2
+        return lines
+
+
+def calls(lines):
+    """The readable calls with their places."""
+    for place, line in enumerate(lines):
+        try:
+            call = script.read_line(line)
+        except script.Unreadable:
+            continue
+        if call:
+            yield place, call
+
+
+def without(lines, places):
+    return ["#" if place in places else line for place, line in enumerate(lines)]
+
+
+def report(comparer, name, lines):
+    smallest = comparer.smallest(lines)
+    question = asked(smallest, comparer.rules)
+    print(f"UNEXPLAINED {name}, smallest script:")
+    print("\n".join(f"    {line}" for line in smallest))
+    print("  reference:", *question.expected, sep="\n    ")
+    print("  the Rust:", *(replay({"one": question.lines})["one"] or ["panicked"]), sep="\n    ", flush=True)
+
+
+def run(names, options):
+    comparer, counts, lines_seen = Comparer(options.rules), Counter(), 0
+    began = time.monotonic()
+    for start in range(0, len(names), BATCH):
+        scripts = {name: generate.make(name, options) for name in names[start : start + BATCH]}
+        verdicts = dict(comparer.compare(scripts))
+        counts.update(verdicts.values())
+        lines_seen += sum(map(len, scripts.values()))
+        for name, verdict in verdicts.items():
+            if verdict == UNEXPLAINED:
+                report(comparer, name, scripts[name])
+        done = start + len(scripts)
+        rate = done / (time.monotonic() - began)
+        print(f"{done}/{len(names)} scripts, {lines_seen} lines, {rate:.0f}/s: {dict(counts)}", file=sys.stderr, flush=True)
+    return counts, lines_seen
+
+
+def main():
+    names, options = generate.read_arguments(__doc__.splitlines()[0])
+    counts, lines = run(names, options)
+    print(f"compare.py {' '.join(sys.argv[1:])}: {len(names)} scripts, {lines} lines")
+    for verdict in (SAME, BESIDE, TWICE, UNEXPLAINED):
+        print(f"  {verdict}: {counts[verdict]}")
+    raise SystemExit(1 if counts[UNEXPLAINED] else 0)
+
+
+if __name__ == "__main__":
+    main()

@@ -1,0 +1,367 @@
+"""Random call scripts.
+
+    generate.py COUNT [--seed WORD] [OPTIONS]       prints scripts named WORD.0, WORD.1, ..; --help lists the options
+
+A script is settled by its name and the options alone. Kinds: e, x, s, l (docs/REPLAY.md) with f or i.
+"""
+
+import argparse
+import random
+import sys
+from dataclasses import dataclass, replace
+
+import script
+from bits import BOUNDS, GREATEST, INFINITY, SIGN, to_bits
+from reference import Rules
+
+BASE_KINDS = ("ef", "ef", "ef", "xf", "xf")
+NAN = 0x7FF8000000000001
+REFUSED_BOUNDS = ([NAN], [0, 0], [0, SIGN], [5, 4], [1, NAN, 2], range(160), [NAN, 5, 4])
+
+
+@dataclass(frozen=True)
+class Options:
+    """What later requests widen: kinds (L1, L6), `rules` (limits L12, scales L13), thresholds (L7), new settings (L10)."""
+
+    kinds: tuple = BASE_KINDS
+    rules: Rules = Rules()
+    thresholds: bool = False
+    new_settings: bool = False
+
+
+# Values. Each kind of value is a function of the source and of the script's middle exponent.
+
+
+def normal(draw, _middle):
+    return to_bits(draw.gauss(0, 10 ** draw.uniform(-3, 3)))
+
+
+def grid(draw, _middle):
+    return to_bits(draw.randint(-4096, 4096) / 1024)
+
+
+def octaves(draw, middle):
+    exponent = min(2046, max(0, middle + draw.randint(-12, 12)))
+    return signed(draw, (exponent << 52) + draw.getrandbits(52))
+
+
+def wide(draw, _middle):
+    return signed(draw, (draw.randrange(0, 2047) << 52) + draw.getrandbits(52))
+
+
+def random_bits(draw, _middle):
+    return draw.getrandbits(64)
+
+
+def subnormal(draw, _middle):
+    return signed(draw, draw.getrandbits(draw.randint(1, 52)))
+
+
+def power_of_two(draw, middle):
+    return signed(draw, (near(draw, middle) << 52) + draw.choice((-1, 0, 0, 1)))
+
+
+def subnormal_power(draw, _middle):
+    return signed(draw, (1 << draw.randrange(52)) + draw.choice((-1, 0, 0, 1)))
+
+
+def beside_bound(draw, middle):
+    """A bound of the finest scale or a neighbour of it: random values never hit these."""
+    mantissa = draw.choice(BOUNDS) + draw.choice((-1, 0, 0, 1, 1, 2))
+    return signed(draw, (near(draw, middle) << 52) + mantissa - (1 << 52))
+
+
+def zero(draw, _middle):
+    return draw.choice((0, SIGN))
+
+
+def greatest(draw, _middle):
+    return signed(draw, GREATEST - draw.choice((0, 0, 1, 1 << 40)))
+
+
+def not_finite(draw, _middle):
+    return draw.choice((INFINITY, INFINITY | SIGN, NAN, NAN | SIGN, INFINITY + 1))
+
+
+def near(draw, middle):
+    return min(2046, max(1, middle + draw.randint(-6, 6)))
+
+
+def signed(draw, bits):
+    return bits | SIGN if draw.random() < 0.3 else bits
+
+
+VALUES = [normal, grid, octaves, wide, random_bits, subnormal, power_of_two, subnormal_power, beside_bound, greatest]
+
+
+def value_source(draw):
+    """One to three kinds of value for a script, with zeros and values that are not finite among them."""
+    kinds = draw.sample(VALUES, draw.choice((1, 1, 2, 3)))
+    middle = draw.choice((1023, 1023, 1023, draw.randrange(1, 2047)))
+    pool = []
+
+    def value():
+        rare = draw.random()
+        if rare < 0.04:
+            return zero(draw, middle)
+        if rare < 0.06:
+            return not_finite(draw, middle)
+        if rare < 0.2 and pool:
+            return draw.choice(pool)
+        pool.append(draw.choice(kinds)(draw, middle))
+        return pool[-1]
+
+    return value
+
+
+def whole_source(draw, giants):
+    """Whole numbers whose sums stay in i64 in any script of ours; with `giants` now and then one whose sum may not."""
+    width = draw.randint(1, 55)
+
+    def value():
+        if giants and draw.random() < 0.02:
+            return draw.choice((2**63 - 1, -(2**63), 2**62))
+        return draw.randint(-(2**width), 2**width)
+
+    return value
+
+
+# Sets.
+
+
+def set_source(draw, limit):
+    """Sets from a small world, given in any order, now and then with a key twice, too long, or the overflow set."""
+    keys = draw.sample(range(1, 40), draw.randint(1, 9)) + [draw.randrange(2**32)]
+    values = draw.randint(1, 4)
+    known = [some_set(draw, keys, values) for _ in range(draw.randint(1, max(3, min(limit + 4, 40))))]
+
+    def attributes():
+        rare = draw.random()
+        if rare < 0.05:
+            return ()
+        if rare < 0.10:
+            return script.OVERFLOW
+        if rare < 0.13:
+            return shuffled(draw, script.OVERFLOW + draw.choice(known)[:6])
+        if rare < 0.15:
+            return ((script.OVERFLOW[0][0], 2),)
+        if rare < 0.16:
+            return tuple((key, 1) for key in range(100, 109 + draw.randint(0, 3)))
+        if rare < 0.18:
+            return twice(draw, draw.choice(known))
+        return shuffled(draw, draw.choice(known))
+
+    return attributes
+
+
+def some_set(draw, keys, values):
+    chosen = draw.sample(keys, min(len(keys), draw.choice((1, 1, 2, 2, 3, draw.randint(1, 8)))))
+    return tuple((key, draw.randint(1, values)) for key in chosen)
+
+
+def shuffled(draw, attributes):
+    return tuple(draw.sample(attributes, len(attributes)))
+
+
+def twice(draw, attributes):
+    """One key given twice: judged by the definition."""
+    if not 1 <= len(attributes) < 8:
+        return attributes
+    key, value = draw.choice(attributes)
+    return shuffled(draw, attributes + ((key, value + draw.randint(0, 1)),))
+
+
+# Configuration.
+
+
+def bounds_of(draw, value):
+    """Rising bounds from the script's own values, so that values lie on them; infinite ones."""
+    count = draw.choice((0, 1, 2, 5, 15, draw.randint(0, 40), 159 if draw.random() < 0.1 else 3))
+    finite = {bits for bits in (value() for _ in range(count)) if bits & ~SIGN < INFINITY}
+    if draw.random() < 0.2:
+        finite.add(INFINITY)
+    if draw.random() < 0.1:
+        finite.add(INFINITY | SIGN)
+    if {0, SIGN} <= finite:
+        finite.discard(SIGN)
+    return sorted(finite, key=order)[:159]
+
+
+def order(bits):
+    return -(bits & ~SIGN) if bits & SIGN else bits
+
+
+def in_pieces(made, items, most):
+    return [made(tuple(items[i : i + most])) for i in range(0, len(items), most)]
+
+
+def filter_lines(draw):
+    chance = draw.random()
+    if chance < 0.6:
+        return []
+    if chance < 0.7:
+        return [script.Filter(())]
+    keys = draw.sample(range(1, 40), draw.choice((1, 5, 12, 16)))
+    if draw.random() < 0.3:
+        keys[0] = script.OVERFLOW[0][0]
+    return in_pieces(script.Filter, keys, 12)
+
+
+def within(draw, allowed):
+    """A number of the range, often an end of it."""
+    return draw.choice((allowed[0], allowed[-1], draw.choice(allowed), draw.choice(allowed)))
+
+
+def outside(draw, allowed):
+    """A number next to the range; below 0 there is none for a size or a limit."""
+    return draw.choice([n for n in (allowed[0] - 1, allowed[-1] + 1) if allowed[0] < 0 or n >= 0])
+
+
+def configure_line(draw, options, kind, limit, summed):
+    """A configuration that is accepted; `summed`: with the sum on."""
+    size = scale = threshold = None
+    if kind[0] == "e":
+        size = draw.choice((3, 4, 8, 20, 160, within(draw, options.rules.sizes)))
+        scale = draw.choice((options.rules.scales[-1], draw.choice(options.rules.scales)))
+        if options.thresholds and draw.random() < 0.5:
+            threshold = normal(draw, 0) & ~SIGN
+    switches = draw.random() < 0.85, summed or draw.random() < 0.85
+    return script.Configure(
+        kind[0], kind[1], size, scale, threshold, limit, draw.choice("ddddcl"), *switches, draw.randrange(2**32)
+    )
+
+
+def refused(draw, options, configure):
+    """The lines of a configuration that is refused for one reason or for two."""
+    lines = []
+    for reason in draw.sample(("settings", "limit", "filter"), draw.choice((1, 1, 2))):
+        if reason == "limit":
+            configure = replace(configure, limit=outside(draw, options.rules.limits))
+        elif reason == "filter":
+            lines += [script.Filter((7,) * (options.rules.filter_most + 1))]
+        elif configure.kind == "x":
+            lines += in_pieces(script.Bounds, draw.choice(REFUSED_BOUNDS), 12)
+        elif configure.kind == "e" and draw.random() < 0.5:
+            configure = replace(configure, size=outside(draw, options.rules.sizes))
+        elif configure.kind == "e":
+            configure = replace(configure, scale=draw.choice((-128, 20, 21, 127, outside(draw, options.rules.scales))))
+    return lines + [configure]
+
+
+# Scripts.
+
+
+class Maker:
+    """Makes one script."""
+
+    def __init__(self, name, options=Options()):
+        self.draw = draw = random.Random(name)
+        self.options = options
+        self.kind = draw.choice(options.kinds)
+        self.limit = within(draw, options.rules.limits) if draw.random() < 0.3 else draw.randint(0, 6)
+        self.bits = value_source(draw)
+        self.giants = self.kind[1] == "i" and draw.random() < 0.5  # with the sum off the Rust still adds, and overflows
+        self.whole = whole_source(draw, self.giants)
+        self.set = set_source(draw, self.limit)
+        self.handles = draw.sample(range(script.HANDLES), 6)
+        self.bound, self.kept = [], set()
+        self.time = draw.randrange(2**32)
+
+    def value(self):
+        return script.write_bits(self.bits()) if self.kind[1] == "f" else str(self.whole())
+
+    def script(self):
+        calls = self.configuration()
+        lively = self.draw.random() < 0.5  # with bindings
+        for _ in range(self.draw.choice((2, 5, 10, 20, 40, 80))):
+            calls += self.step(lively)
+        return [script.write_line(call) for call in calls + self.collection()]
+
+    def configuration(self):
+        waiting = filter_lines(self.draw)
+        if self.kind[0] == "x":
+            waiting += in_pieces(script.Bounds, bounds_of(self.draw, self.bits), 12)
+        configure = configure_line(self.draw, self.options, self.kind, self.limit, self.giants)
+        before = refused(self.draw, self.options, configure) if self.draw.random() < 0.1 else []
+        return before + waiting + [configure]
+
+    def step(self, lively):
+        chance = self.draw.random()
+        if chance < 0.10:
+            return self.collection()
+        if chance < 0.12:
+            return self.merging()
+        if chance < 0.13:
+            return self.short_stores()
+        if chance < 0.14:
+            return self.configuration()
+        if chance < 0.15 and self.options.new_settings:
+            return [script.NewSettings(self.draw.choice((3, 20, 160)), self.draw.randint(-10, 10))]
+        if lively and chance < 0.45:
+            return [self.binding()]
+        return [script.Record(self.value(), self.set())]
+
+    def binding(self):
+        handle = self.draw.choice(self.handles)
+        chance = self.draw.random()
+        if chance < 0.3 or not self.bound:
+            self.bound.append(handle)
+            return script.Bind(handle, self.set())
+        if self.draw.random() < 0.9:
+            handle = self.draw.choice(self.bound)
+        if chance < 0.5:
+            return script.Release(handle)
+        return script.RecordBound(handle, self.value())
+
+    def collection(self):
+        """Mostly with room enough; times mostly rise. Two in a row, so that idle entries go."""
+        draw = self.draw
+        self.time = max(0, self.time + draw.randint(-10, 1000))
+        points = draw.choice((0, 1, 3, 64)) if draw.random() < 0.1 else None
+        counts = draw.choice((0, 5, 100, 20000)) if draw.random() < 0.1 else None
+        call = script.Collect(self.time, points, counts)
+        return [call, call] if draw.random() < 0.3 else [call]
+
+    def merging(self):
+        """A point of a new collection merged with another one, with an earlier one or with itself."""
+        draw = self.draw
+        new, other = draw.sample(range(3), 2)
+        keeps = [script.Keep(new, 0)] + ([script.Keep(other, draw.randrange(2))] if other not in self.kept else [])
+        self.kept |= {new, other}
+        size = draw.choice((3, 20, 160, 160, 160, 2, 161))
+        counts = draw.choice((None, None, None, 1, 4, 40))
+        pair = draw.choice(((new, new), (new, other), (other, new), (other, new)))
+        return [script.Collect(self.time, None, None), *keeps, script.Merge(draw.randrange(3), *pair, size, counts)]
+
+    def short_stores(self):
+        """One call with stores of some length, perhaps too short."""
+        lent = script.Stores(self.draw.choice((None, 0, 100)), self.draw.choice((None, 2, 8)))
+        return [lent, self.draw.choice((self.binding(), *self.collection())), script.Stores(None, None)]
+
+
+def make(name, options=Options()):
+    return Maker(name, options).script()
+
+
+def read_arguments(about):
+    """The names of the scripts wanted and the options they are made with."""
+    parser = argparse.ArgumentParser(description=about)
+    parser.add_argument("count", type=int)
+    parser.add_argument("--seed", default="a")
+    parser.add_argument("--kinds", default=",".join(BASE_KINDS), help="of ef,xf,sf,lf,ei,xi,si,li")
+    parser.add_argument("--limit", type=int, default=Rules().limits[-1], help="the greatest limit (request L12)")
+    parser.add_argument("--thresholds", action="store_true", help="zero thresholds (request L7)")
+    parser.add_argument("--new-settings", action="store_true", help="new settings (request L10)")
+    given = parser.parse_args()
+    rules = Rules(limits=range(0, given.limit + 1))
+    options = Options(tuple(given.kinds.split(",")), rules, given.thresholds, given.new_settings)
+    return [f"{given.seed}.{i}" for i in range(given.count)], options
+
+
+def main():
+    names, options = read_arguments(__doc__.splitlines()[0])
+    sys.stdout.write(script.join_scripts({name: make(name, options) for name in names}))
+
+
+if __name__ == "__main__":
+    main()

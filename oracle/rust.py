@@ -1,0 +1,123 @@
+"""Asking the Rust: which lines of a script it is asked about, in which words, and what it answers."""
+
+import subprocess
+from dataclasses import dataclass
+from pathlib import Path
+
+import script
+from bits import to_float
+from reference import Reference
+
+BUILT = Path(__file__).resolve().parent.parent / "target/oracle/build"
+REPLAY = BUILT / "checked/replay"
+ASKED_SCALES = range(11, 21)  # accepted by the Rust's `validate`, refused by document 01
+
+
+@dataclass
+class Asked:
+    """A script as the Rust is asked it, line for line, and what the reference answers to those lines."""
+
+    lines: list
+    expected: list
+
+
+class Asking:
+    """Turns a script into what the Rust is asked. A line that it is not asked becomes a comment."""
+
+    def __init__(self, rules):
+        self.reference = Reference(rules)
+        self.lines, self.expected = [], []
+        self.waiting = []  # places of the g and f lines since the last n
+        self.live = {}  # the Rust's own bindings: birth number to their numbers
+        self.bindings = 0
+        self.comparable = False  # between an accepted n and settings that the Rust does not know
+
+    def line(self, number, text):
+        waiting = self.reference.bounds
+        answers, refusal = self.reference.line(number, text)
+        self.lines.append("#")
+        if refusal is None or text.startswith("#"):
+            return
+        call = script.read_line(text)
+        if isinstance(call, (script.Bounds, script.Filter)):
+            self.waiting.append(len(self.lines) - 1)
+            self.lines[-1] = text
+        elif isinstance(call, script.Configure):
+            self.configure(call, text, waiting, answers, refusal)
+        elif isinstance(call, script.NewSettings):
+            self.comparable = self.comparable and refusal != 0
+        elif self.comparable:
+            self.call(call, text, answers, refusal)
+
+    def ask(self, text, answers=()):
+        self.lines[-1] = text
+        self.expected += answers
+
+    def configure(self, call, text, bounds, answers, refusal):
+        places, self.waiting = self.waiting, []
+        if refusal == 0:
+            self.live, self.bindings = {}, 0
+            self.comparable = not self.reference.config.threshold
+        if refusal == 0 and self.comparable or refused_by_both(call, bounds, refusal):
+            self.ask(text, answers)
+        else:
+            for place in places:
+                self.lines[place] = "#"
+
+    def call(self, call, text, answers, refusal):
+        if isinstance(call, script.Record) and refusal in (0, 6):
+            self.ask(text)
+        elif isinstance(call, script.Collect) and refusal == 0:
+            self.ask(text, answers)
+        elif isinstance(call, script.Bind) and refusal == 0:
+            self.live.setdefault(self.birth(call), []).append(self.bindings)
+            self.ask(f"b {self.bindings} {script.write_set(call.set)}")
+            self.bindings += 1
+        elif isinstance(call, (script.RecordBound, script.Release)):
+            self.by_handle(call, refusal)
+
+    def by_handle(self, call, refusal):
+        """Any live binding of the same birth number serves: they all stand for one entry."""
+        live = self.live.get(self.birth(call), [])
+        if isinstance(call, script.RecordBound) and live and refusal in (0, 6):
+            self.ask(f"h {live[-1]} {call.value}")
+        elif isinstance(call, script.Release) and refusal == 0:
+            self.ask(f"u {live.pop()}")
+
+    def birth(self, call):
+        return self.reference.handles[call.handle]
+
+
+def refused_by_both(call, bounds, refusal):
+    """Whether `validate` refuses what document 01 refuses with 2 or 3."""
+    if refusal == 2:
+        return call.scale not in ASKED_SCALES
+    numbers = [to_float(b) for b in bounds]
+    return refusal == 3 and any(a >= b for a, b in zip(numbers, numbers[1:]))
+
+
+def asked(lines, rules):
+    asking = Asking(rules)
+    for number, text in enumerate(lines, 1):
+        asking.line(number, text)
+    return Asked(asking.lines, asking.expected)
+
+
+def replay(scripts):
+    """The Rust's answers to scripts as asked: a dict from name to lines, None where it panicked."""
+    done = subprocess.run([REPLAY], input=script.join_scripts(scripts), capture_output=True, text=True)
+    if done.returncode == 0:
+        return script.split_scripts(done.stdout)
+    if len(scripts) == 1:
+        return dict.fromkeys(scripts)
+    answers = {}
+    for name, lines in scripts.items():
+        answers |= replay({name: lines})
+    return answers
+
+
+def indices(pairs):
+    """`get_bin` of (scale, bits) pairs, by magnitude."""
+    text = "".join(f"{scale} {bits:016X}\n" for scale, bits in pairs)
+    done = subprocess.run([REPLAY, "index"], input=text, capture_output=True, text=True, check=True)
+    return [int(line) for line in done.stdout.split()]

@@ -1,0 +1,174 @@
+"""Checks of the reference: document 01's worked run and marks, the index against its definition, the language.
+
+    selftest.py                 prints one line a check and fails on the first that does not hold
+"""
+
+import random
+
+import gauge
+import reference
+import script
+from bits import BOUNDS, GREATEST, has_index, index
+
+ONE, TWO, THREE, ONE_AND_A_HALF = 0x3FF0000000000000, 0x4000000000000000, 0x4008000000000000, 0x3FF8000000000000
+TINY, TWO_TO_MINUS_1024 = 1, 0x0004000000000000
+
+# Document 01, "Gauge marks": value, scale, index.
+INDEX_MARKS = [
+    (ONE, 10, -1),
+    (ONE, 0, -1),
+    (ONE, -10, -1),
+    (TWO, 10, 1023),
+    (TWO + 1, 10, 1024),
+    (THREE, 1, 3),
+    (THREE, 0, 1),
+    (ONE_AND_A_HALF, 2, 2),
+    (TINY, 10, -1099777),
+    (TINY, 0, -1075),
+    (TINY, -10, -2),
+    (GREATEST, 10, 1048575),
+    (GREATEST, -10, 0),
+    (TWO_TO_MINUS_1024, -10, -2),
+    (TWO_TO_MINUS_1024 + 1, -10, -1),
+]
+
+# Document 01, "A run of the gauge program".
+WORKED_RUN = """\
+e 4 10 2 100
+r 3FF0000000000000 1:5
+r 4000000000000000 1:5
+r 4008000000000000 1:5
+r 0000000000000000 1:5
+r BFF0000000000000 1:5
+c 200
+"""
+WORKED_ANSWER = """\
+c 100 200 1
+p 1:5 5 1 0 BFF0000000000000 4008000000000000 4014000000000000 -1:1,1,1 -1:1
+"""
+
+
+def check(what, holds):
+    print(("ok   " if holds else "FAIL ") + what)
+    if not holds:
+        raise SystemExit(1)
+
+
+def check_answers(what, lines, expected):
+    given = reference.answers(lines)
+    check(f"{what}: {expected[-1] if expected else 'accepted'}", given == expected)
+
+
+def check_marks():
+    for bits, scale, expected in INDEX_MARKS:
+        check(f"index of {bits:016X} at {scale} is {expected}", index(bits, scale) == expected)
+        check("  and by the definition", has_index(bits, scale, expected))
+
+
+def check_table():
+    rule = all(m**1024 <= 2 ** (k + 53248) < (m + 1) ** 1024 for k, m in enumerate(BOUNDS))
+    check("each of the 1024 bounds is the largest m with m^1024 <= 2^(k + 53248)", rule)
+
+
+def check_index(count=3000):
+    draw = random.Random("index")
+    near = [(draw.randrange(0, 2047) << 52) + (draw.choice(BOUNDS) + draw.randint(-1, 2)) % 2**52 for _ in range(count)]
+    values = [draw.randrange(1, GREATEST + 1) for _ in range(count)] + [max(1, bits) for bits in near]
+    scales = [draw.randint(-10, 10) for _ in values]
+    holds = all(has_index(bits, s, index(bits, s)) for bits, s in zip(values, scales))
+    check(f"the index of {len(values)} values, half of them beside bounds, is the definition's", holds)
+
+
+def check_worked_run():
+    check("the worked run prints exactly document 01's two lines", gauge.answer(WORKED_RUN) == WORKED_ANSWER)
+    bad = ["r 3FF0000000000000 1:5", "e 4 10 31 0", "e 4 10 30 0", "r 7FF0000000000000 -", "", "c 01", "c 1", "c 1 "]
+    expected = ["? 1", "? 2", "? 4", "? 5", "? 6", "c 0 1 0", "? 8"]
+    check("gauge lines that are refused or cannot be read give ? N", list(gauge.run(bad)) == expected)
+
+
+def exponential(size=4, scale=10, limit=2):
+    return f"n e f {size} {scale} - {limit} d 1 1 0"
+
+
+def explicit(bounds):
+    waiting = [f"g {','.join(f'{b:016X}' for b in bounds[i:i + 12])}" for i in range(0, len(bounds), 12)]
+    return [*waiting, "n x f - - - 2 d 1 1 0"]
+
+
+def check_limits():
+    """The marks that are run: both sides of each limit."""
+    for size, expected in [(2, ["! 1 1"]), (3, []), (160, []), (161, ["! 1 1"])]:
+        check_answers(f"max_size {size}", [exponential(size=size)], expected)
+    for scale, expected in [(-11, ["! 1 2"]), (-10, []), (10, []), (11, ["! 1 2"])]:
+        check_answers(f"max_scale {scale}", [exponential(scale=scale)], expected)
+    for limit, expected in [(0, []), (62, []), (63, ["! 1 4"])]:
+        check_answers(f"limit {limit}", [exponential(limit=limit)], expected)
+    for keys, expected in [(16, []), (17, ["! 2 4"])]:
+        check_answers(f"{keys} filter keys", [f"f {','.join(['7'] * keys)}", exponential()], expected)
+    for attributes, expected in [(8, []), (9, ["! 2 5"])]:
+        attributes_ = ",".join(f"{k}:1" for k in range(attributes))
+        check_answers(f"{attributes} attributes", [exponential(), f"r {ONE:016X} {attributes_}"], expected)
+    for count, expected in [(159, []), (160, ["! 15 3"])]:
+        check_answers(f"{count} bounds", explicit([ONE + k for k in range(count)]), expected)
+
+
+def check_examples():
+    """The example of each number of document 01's table that a script can reach."""
+    five = 0x4014000000000000
+    check_answers("3, bounds 5 and 5", explicit([five, five]), ["! 2 3"])
+    check_answers("6, infinity", [exponential(), "r 7FF0000000000000 -"], ["! 2 6"])
+    released = [exponential(), "b 1 1:1", "u 1", f"h 1 {ONE:016X}"]
+    check_answers("7, a released handle", released, ["b 1 1", "! 4 7"])
+    short = [exponential(), f"r {ONE:016X} 1:1", f"r {ONE:016X} 1:2", "c 1 1 -"]
+    check_answers("10, two points and place for one", short, ["! 4 10"])
+    check_answers("12, size 3 and no counts lent", ["m 0 -", exponential(size=3)], ["! 2 12"])
+    bucket = [*explicit([0, five]), f"r {five:016X} -", "c 1 - -"]
+    point = f"q - 1 {five:016X} {five:016X} {five:016X} 0,1,0 0000000000000000,{five:016X}"
+    check_answers("with bounds 0 and 5 the value 5 is in bucket 1", bucket, ["c 0 1 1", point])
+    unlike = [*explicit([0]), f"r {ONE:016X} -", "c 1 - -", "k 0 0"]
+    unlike += [*explicit([ONE]), f"r {ONE:016X} -", "c 1 - -", "k 1 0", "j 2 0 1 0 -"]
+    check("11, bounds 0 and bounds 1", reference.answers(unlike)[-1] == "! 11 11")
+    full = [exponential(), f"r {ONE:016X} -", "c 1 - -", "k 0 0"] + ["j 0 0 0 4 -"] * 64
+    check("9, a count of 2^63 merged with itself", reference.answers(full)[-1] == "! 68 9")
+
+
+def check_requests():
+    """What the language has room for: totals and last values, whole numbers, a zero band, new settings."""
+    total = ["n s f - - - 2 d 1 1 0", f"r {ONE:016X} 1:1", f"r {TWO:016X} 1:1", "c 1 - -", "c 2 - -"]
+    check_answers("L1, a sum", total, ["c 0 1 1", f"v 1:1 {THREE:016X}", "c 1 2 0"])
+    last = ["n l f - - - 2 c 1 1 0", f"r {ONE:016X} 1:1", f"r {TWO:016X} 1:1", "c 1 - -"]
+    check_answers("L1, a last value", last, ["c 0 1 1", f"v 1:1 {TWO:016X}"])
+    whole = ["n e i 4 10 - 2 d 1 1 0", "r 9223372036854775807 -", "r 1 -", "r -3 -", "c 1 - -"]
+    point = "p - 2 0 10 -3 9223372036854775807 9223372036854775804 64511:1 1623:1"
+    check_answers("L6, whole numbers", whole, ["! 3 16", "c 0 1 1", point])
+    band = [f"n e f 4 10 {TWO:016X} 2 d 1 1 0", f"r {TWO:016X} -", f"r {TWO + 1:016X} -", "c 1 - -"]
+    point = f"p - 2 1 10 {TWO:016X} {TWO + 1:016X} 4010000000000000 1024:1 0: {TWO:016X}"
+    check_answers("L7, a zero band", band, ["c 0 1 1", point])
+    check_answers("L7, a negative threshold", ["n e f 4 10 C000000000000000 2 d 1 1 0"], ["! 1 17"])
+    values = [f"r {bits:016X} -" for bits in (ONE, TWO, THREE, ONE_AND_A_HALF)]
+    changed = reference.answers([exponential(size=160), *values, "t 3 4", "c 1 - -"])
+    check("L10, new settings give the point of the values under them", changed == reference.answers([exponential(3, 4), *values, "c 1 - -"]))
+    check_answers("L10, a setting that would rise", [exponential(), "t 5 10"], ["! 2 19"])
+
+
+def check_language():
+    lines = ["g 3FF0000000000000", "f -", "m 7 -", "n e f 4 -10 - 2 l 0 1 0", "r -12 1:2,1:3", "b 99 -", "h 0 5", "u 3"]
+    lines += ["c 18446744073709551615 0 -", "k 7 0", "j 0 1 2 160 4", "t 4 3"]
+    check("each kind of line is written as it was read", [script.write_line(script.read_line(x)) for x in lines] == lines)
+    bad = ["x", "u", "u 100", "u 01", "u +1", "c -1 - -", "c 1  - -", "n x f 3 - - 2 d 1 1 0", "g 3ff0000000000000", ""]
+    check("lines that are not of the language", reference.answers(bad) == [f"? {n}" for n in range(1, len(bad) + 1)])
+
+
+def main():
+    check_table()
+    check_marks()
+    check_index()
+    check_worked_run()
+    check_limits()
+    check_examples()
+    check_requests()
+    check_language()
+
+
+if __name__ == "__main__":
+    main()

@@ -1,7 +1,7 @@
 -- What `binOf` is, by the tests of `get_bin`. Assumes nothing.
 use mathlib.Core.Path.{_≡_, refl, sym, ap, _∙_}
 use mathlib.Core.Bool.{Bool, true, false}
-use Prim.Native.Nat.{ℕ, suc, _*_, _/_, _-_, _^_, _≤_, _<_}
+use Prim.Native.Nat.{ℕ, _*_, _/_, _-_, _^_, _≤_, _<_}
 use native.Mathlib.Nat.{one-le-mul}
 use native.Mathlib.Omega.{arith}
 use borrow.Author.Tests.{le-leb, lt-leb, eq-eqb, ne-eqb}
@@ -13,7 +13,6 @@ use Rattle.index.specs.Magnitude.{magnitude, isNegative}
 use Rattle.index.specs.Bins.{finest, finestBin, binAt}
 use Rattle.index.specs.Frexp.{Split}
 use Rattle.index.specs.Answers.{binOf}
-use Rattle.index.specs.declared.Bin.{Bin}
 use Rattle.index.specs.declared.Bin.the-variants.{NoLevel, NotFinite, Zero, At}
 
 pub no-level : (x : Float) (level : ℕ) → finest < level → binOf x level ≡ NoLevel

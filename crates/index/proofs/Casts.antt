@@ -1,16 +1,16 @@
 -- Sums and differences of 32-bit integers that stay in their range. Assumes nothing.
 use mathlib.Core.Path.{_≡_, refl, sym, ap, _∙_, subst}
 use mathlib.Core.Bool.{Bool, true, false, cond}
-use Prim.Native.Nat.{ℕ, zero, suc, _+_, _-_, _*_, _/_, _%_, _^_, _≤_, _<_}
+use Prim.Native.Nat.{ℕ, zero, suc, _+_, _-_, _*_, _%_, _^_, _≤_, _<_}
 use native.Mathlib.Nat.{lt-of-le-of-lt, mod-eq-of-lt, mul-le-mul, mul-comm}
 use native.Mathlib.Omega.{arith}
-use borrow.Author.Tests.{ltb-true, ltb-false, leb-false, lt-ltb, le-ltb}
+use borrow.Author.Tests.{ltb-false, leb-false, le-ltb}
 use lib.Dec.{T, ltb, lit<, lit≤}
 use lib.Pow.{pow-mono, pow-add}
 use lib.IntN.{ℤ, pos, negsuc, natAbs, _+ℤ_, _-ℤ_}
 use lib.Signed.{mag, ltZ, leZ, nonNeg}
 use mir.Syntax.{w32}
-use mir.Val.{SFits, Fits, toZ, ofZ, hbits}
+use mir.Val.{SFits, Fits, toZ, ofZ}
 use mir.ValLaws.{toZ-pos, toZ-ofZ}
 use Rattle.index.specs.Bins.{finest}
 

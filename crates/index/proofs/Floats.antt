@@ -2,12 +2,12 @@
 use mathlib.Core.Path.{_≡_, refl, sym, ap, _∙_, subst}
 use mathlib.Core.Bool.{Bool, true, false, not, cond}
 use Prim.Native.Nat.{ℕ, zero, suc, _+_, _-_, _*_, _/_, _%_, _^_, _≤_, _<_}
-use native.Mathlib.Nat.{mod-lt, zero-mul, mul-assoc, mul-right-comm, mul-div-cancel, mod-eq-of-lt, lt-of-lt-of-le, lt-of-le-of-lt, lt-of-not-le, lt-irrefl, le-trans, le-of-eq, mul-le-mul-right, mul-lt-mul-of-pos-right, add-comm}
+use native.Mathlib.Nat.{mod-lt, zero-mul, mul-assoc, mul-right-comm, mul-div-cancel, mod-eq-of-lt, lt-of-lt-of-le, lt-of-le-of-lt, le-trans, le-of-eq, mul-le-mul-right, mul-lt-mul-of-pos-right, add-comm}
 use lib.Count.{leadingZeros, leading-top}
 use native.Mathlib.Omega.{arith}
 use borrow.Author.Tests.{eqb-true, eqb-false}
 use lib.Dec.{T, leb, eqb, eqb→eq, not-T, lit≤}
-use lib.Pow.{pow-add, field, pow-pos, pow-mono}
+use lib.Pow.{pow-add, field, pow-pos}
 use lib.Ieee.{Float, nan, inf, fin, binary64, up, down, odd, fits, ofFields, ofBits, toBits, isNan, ne}
 use lib.Ieee.Fits.{down-pos}
 use lib.Ieee.Bits.{ofBits-toBits, cond-no}

@@ -1,10 +1,10 @@
 -- The Data Model's relation for the signed index: from that for the bin, only one index, and coarser by a shift. Assumes nothing.
 use mathlib.Core.Path.{_≡_, sym, ap, _∙_, subst}
 use mathlib.Core.Logic.{inl, inr}
-use Prim.Native.Nat.{ℕ, zero, suc, _+_, _*_, _/_, _%_, _^_, _≤_, _<_}
-use native.Mathlib.Nat.{mul-assoc, mul-comm, mul-right-comm, add-mul, lt-of-mul-lt-mul-right, le-of-mul-le-mul-right, mul-lt-mul-of-pos-right, mul-le-mul-right, lt-of-lt-of-le, lt-of-le-of-lt, le-trans, le-of-eq, le-antisymm, pow-suc, div-mul-le-self, one-mul, div-add-mod', mod-lt}
+use Prim.Native.Nat.{ℕ, suc, _+_, _*_, _/_, _%_, _^_, _≤_, _<_}
+use native.Mathlib.Nat.{mul-comm, mul-right-comm, add-mul, lt-of-mul-lt-mul-right, le-of-mul-le-mul-right, mul-lt-mul-of-pos-right, mul-le-mul-right, lt-of-lt-of-le, lt-of-le-of-lt, le-trans, le-of-eq, le-antisymm, div-mul-le-self, one-mul, div-add-mod', mod-lt}
 use native.Mathlib.Omega.{arith}
-use lib.IntN.{ℤ, pos, negsuc, sucℤ, _-ℤ_, _*ℤ_}
+use lib.IntN.{ℤ, pos, _-ℤ_, _*ℤ_}
 use lib.Signed.{shrZ}
 use lib.Pow.{pow-add, pow-pos, pow-mono}
 use Rattle.laws.proofs.Powers.{pow-mul, pow-lt-back}

@@ -1,27 +1,18 @@
 -- The laws of the bucket index that the crates above rely on. Assumes nothing.
 use mathlib.Core.Path.{_≡_, refl, sym, ap, _∙_, subst}
-use mathlib.Core.Bool.{Bool, true, false, not, cond}
-use mathlib.Core.Logic.{inl, inr}
+use mathlib.Core.Bool.{Bool, true, false, cond}
 use Prim.Native.Nat.{ℕ, zero, suc, _+_, _-_, _*_, _/_, _^_, _≤_, _<_, suc-le-suc}
-use native.Mathlib.Nat.{pow-le-pow-left, lt-of-lt-of-le, lt-of-le-of-lt, le-trans, le-of-eq, le-of-lt, mul-le-mul, add-le-add, one-le-mul, mul-assoc, suc-mul}
+use native.Mathlib.Nat.{pow-le-pow-left, lt-of-lt-of-le, le-trans, le-of-eq, mul-le-mul, add-le-add, one-le-mul, mul-assoc, suc-mul}
 use native.Mathlib.Omega.{arith}
 use borrow.Author.Tests.{ltb-true, lt-ltb}
 use lib.Dec.{T, ltb, lit<, lit≤}
-use lib.IntN.{ℤ, pos, negsuc, _-ℤ_}
-use lib.Signed.{shrZ}
 use lib.Ieee.{Float, nan, inf, fin, neg, binary64, fits}
 use lib.Ieee.Scale.{finite}
 use lib.Pow.{pow-add, pow-pos, pow-mono, shr-shr, shr-mono, high, ones-lt}
-use Rattle.laws.proofs.Powers.{pow-mul}
-use Rattle.laws.proofs.Differences.{difference, shift-sub, sub-add, sub-more}
-use Rattle.index.specs.Magnitude.{magnitude, isNegative}
-use Rattle.index.specs.DataModel.{InBucket, IsIndex}
-use Rattle.index.specs.Bins.{finest, howMany, finestBin, binAt, lowestBin, endBin, scaleOf, indexOf}
-use Rattle.index.specs.Ranked.{Ranked}
-use Rattle.index.proofs.Buckets.{Between, from-10}
-use Rattle.index.proofs.Finest.{Held, finest-in, finest-is}
+use Rattle.index.specs.Magnitude.{magnitude}
+use Rattle.index.specs.Bins.{finest, howMany, finestBin, binAt, lowestBin, endBin}
+use Rattle.index.proofs.Finest.{Held}
 use Rattle.index.proofs.Ranks.{finest-from, ranked-last}
-use Rattle.index.proofs.Integers.{signed, only, shifted}
 use Rattle.index.proofs.Floats.{splits}
 
 -- ---- levels: coarser is division, and a larger magnitude has no smaller bin

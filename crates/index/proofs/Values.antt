@@ -1,10 +1,10 @@
 -- The index of an f64 at a scale, from its bin at the scale's level. Assumes nothing.
 use mathlib.Core.Path.{_≡_, refl, sym, ap, _∙_, subst}
 use mathlib.Core.Bool.{Bool, true, false, cond}
-use Prim.Native.Nat.{ℕ, suc, _+_, _-_, _≤_, _<_}
+use Prim.Native.Nat.{ℕ, suc, _+_, _-_, _≤_}
 use native.Mathlib.Omega.{arith}
-use borrow.Author.Tests.{le-leb, ltb-false, le-ltb, eqb-true, eqb-false}
-use lib.Dec.{T, ltb, eqb}
+use borrow.Author.Tests.{ltb-false, le-ltb, eqb-true, eqb-false}
+use lib.Dec.{T, eqb}
 use lib.IntN.{ℤ, pos, negsuc, natAbs, _+ℤ_, _-ℤ_}
 use lib.Signed.{ltZ}
 use lib.Ieee.{Float, binary64, fits}
@@ -15,10 +15,7 @@ use Rattle.index.specs.DataModel.{IsIndex}
 use Rattle.index.specs.Bins.{finest, binAt, indexOf, scaleOf}
 use Rattle.index.specs.Answers.{binOf}
 use Rattle.index.specs.Signed.{levelAnswer, atLevel, valueIndex, binIndex, signedAt}
-use Rattle.index.specs.declared.Bin.{Bin}
 use Rattle.index.specs.declared.signed.Natural.{Natural}
-use Rattle.index.specs.declared.signed.Integer.{Integer}
-use Rattle.index.specs.declared.signed.Index.{Index}
 use Rattle.index.specs.declared.signed.Natural.the-variants as N
 use Rattle.index.specs.declared.signed.Index.the-variants as X
 use Rattle.index.proofs.Cases.{not-finite, zero, at}

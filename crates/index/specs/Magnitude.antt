@@ -1,5 +1,5 @@
 -- The magnitude of an f64 as a whole number. Assumes nothing.
-use mathlib.Core.Bool.{Bool, true, false}
+use mathlib.Core.Bool.{Bool, false}
 use Prim.Native.Nat.{ℕ, _*_, _/_, _^_}
 use lib.Ieee.{Float, nan, inf, fin, up, down}
 

@@ -1,9 +1,7 @@
 -- Lists in another order: a test of every element, lists of lists, images. Assumes nothing.
-use Prim.Native.Nat.{suc}
-use mathlib.Core.Path.{_≡_, refl, ap, sym, _∙_}
+use mathlib.Core.Path.{_≡_, refl, sym, _∙_}
 use mathlib.Core.Bool.{Bool, true, false, _&&_}
 use mathlib.Core.List.{List, [], _∷_, _++_, map, flatten, append-assoc, nil≢cons, head-eq-of-cons-eq, tail-eq-of-cons-eq, List·Permᴰ, List·Permᴰ·nil, List·Permᴰ·cons, List·Permᴰ·swap, List·Permᴰ·trans, Permᴰ·symm, Permᴰ·append-left, Permᴰ·append-right, Permᴰ·middle, Permᴰ·append-nil}
-use lib.ListN.{length}
 use Rattle.laws.specs.Tests.{all}
 use Rattle.laws.proofs.Cases.{and-true}
 

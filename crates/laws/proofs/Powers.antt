@@ -1,6 +1,6 @@
 -- Laws of powers and products of whole numbers. Assumes nothing.
 use mathlib.Core.Path.{_≡_, sym, ap, _∙_}
-use Prim.Native.Nat.{ℕ, zero, suc, _+_, _*_, _/_, _%_, _^_, _≤_, _<_}
+use Prim.Native.Nat.{ℕ, zero, suc, _*_, _^_, _≤_, _<_}
 use native.Mathlib.Nat.{pow-zero, pow-suc, mul-zero, mul-suc, mul-assoc, mul-right-comm, mul-le-mul, le-trans, lt-of-lt-of-le, lt-of-not-le, not-le-of-lt, lt-irrefl, le-of-suc-le-suc, mul-le-mul-left, mul-lt-mul-of-pos-right, lt-of-le-of-lt, le-of-lt, le-refl, zero-lt-suc}
 use native.Mathlib.Omega.{arith}
 use lib.Pow.{pow-add, pow-mono}

@@ -1,8 +1,7 @@
 -- Every entry of the table of worked examples holds, by one test that antt computes. Assumes nothing.
-use mathlib.Core.Path.{_≡_, refl, sym, ap, _∙_, subst}
-use mathlib.Core.Bool.{Bool, true, false, _&&_}
-use mathlib.Core.List.{List}
-use Prim.Native.Nat.{ℕ, suc, _+_, _-_, _*_, _^_, _≤_, _<_}
+use mathlib.Core.Path.{_≡_, ap, subst}
+use mathlib.Core.Bool.{Bool, false, _&&_}
+use Prim.Native.Nat.{ℕ, _+_, _-_, _*_, _^_, _<_}
 use native.Mathlib.Nat.{zero-add}
 use lib.Dec.{T, leb, ltb, eqb, leb→le, ltb→lt, eqb→eq}
 use lib.IntN.{ℤ, pos, negsuc, natAbs, _+ℤ_}
@@ -11,7 +10,7 @@ use lib.ListN.{length, getD}
 use Rattle.laws.proofs.Every.{every, at, both-left, both-right}
 use Rattle.index.specs.Magnitude.{magnitude}
 use Rattle.index.specs.DataModel.{IsIndex}
-use Rattle.index.specs.Bins.{finest, binAt, scaleOf, indexOf}
+use Rattle.index.specs.Bins.{finest, scaleOf, indexOf}
 use Rattle.index.proofs.Buckets.{Between}
 use Rattle.index.proofs.Finest.{Held}
 use Rattle.index.proofs.Indices.{is-index, bin-from}

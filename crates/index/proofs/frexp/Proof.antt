@@ -1,6 +1,6 @@
 -- `index::frexp` meets its contract: `proofs/Floats.antt` says what the fields of the bit pattern are. Assumes nothing.
-use mathlib.Core.Path.{_≡_, refl, sym, ap, _∙_, subst}
-use Prim.Native.Nat.{ℕ, _%_, _<_, _≤_, _^_, _-_, _+_, _*_}
+use mathlib.Core.Path.{sym, ap, _∙_, subst}
+use Prim.Native.Nat.{ℕ, _%_, _<_, _≤_, _^_, _-_, _*_}
 use native.Mathlib.Nat.{mod-lt, zero-mul}
 use native.Mathlib.Omega.{arith}
 use lib.Dec.{T}

@@ -9,7 +9,7 @@ Run from the repository's root: python3 tools/make_bounds.py"""
 
 from math import log2
 
-ENTRIES, ROW, PIECES = 1024, 4, 32
+ENTRIES, ROW, PIECES = 1024, 4, 64
 
 
 def bound(k):
@@ -99,14 +99,14 @@ fn slope(piece: u64) -> u64
 %s    }
 }
 
-// A guess of the rank by one chord of the logarithm for each 32nd of the range. Nothing rests on it but the time that rank takes.
+// A guess of the rank by one chord of the logarithm for each 64th of the range. Nothing rests on it but the time that rank takes.
 pub fn guess(m: u64) -> u64
     requires { ⌜ 2 ^ 52 ≤ m ⌝ }
     ensures { λ r. ⌜ r ≤ 1024 ⌝ }
 {
     let above = m - 0x10_0000_0000_0000;
-    let piece = above / 0x8000_0000_0000;
-    let part = above / 0x8000 %% 0x1_0000_0000;
+    let piece = above / 0x4000_0000_0000;
+    let part = above / 0x4000 %% 0x1_0000_0000;
     let rank = (base(piece) + slope(piece) * part / 0x1_0000_0000) / 0x10_0000;
     if rank > 1024 { 1024 } else { rank }
 }
@@ -114,8 +114,8 @@ pub fn guess(m: u64) -> u64
 
 
 def chord(piece):
-    """2^20 * 1024 * log2(1 + piece / 32), and one rank and a little more: ranks are rounded up, a chord lies below its arc."""
-    return round(2**30 * log2(1 + piece / PIECES) + 2**20 * 1.09)
+    """2^20 * 1024 * log2(1 + piece / 64), and one rank and a little more: ranks are rounded up, a chord lies below its arc."""
+    return round(2**30 * log2(1 + piece / PIECES) + 2**20 * 1.005)
 
 
 def arms_of(numbers):

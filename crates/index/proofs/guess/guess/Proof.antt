@@ -19,10 +19,10 @@ slope-requires : tie.Need-slope-requires
 slope-requires c κs = search needs
 
 mul-rank : tie.Need-mul-rank
-mul-rank c = omega (arith, term (c .slope .result) ((c .before .before .args .m - 4503599627370496) / 32768) (c .slope .ensures))
+mul-rank c = omega (arith, term (c .slope .result) ((c .before .before .args .m - 4503599627370496) / 16384) (c .slope .ensures))
 
 add-rank : tie.Need-add-rank
-add-rank c = omega (arith, c .before .base .ensures, term (c .slope .result) ((c .before .before .args .m - 4503599627370496) / 32768) (c .slope .ensures))
+add-rank c = omega (arith, c .before .base .ensures, term (c .slope .result) ((c .before .before .args .m - 4503599627370496) / 16384) (c .slope .ensures))
 
 returns : tie.Need-returns
 returns c = search needs

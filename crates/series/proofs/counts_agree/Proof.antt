@@ -1,0 +1,103 @@
+use Prim.Native.Nat.{ℕ, suc, _+_, _-_, _*_, _/_, _%_, _^_, _≤_, _<_}
+use mathlib.Core.Path.{_≡_, refl, sym, ap, _∙_, subst}
+use mathlib.Core.List.{List}
+use native.Mathlib.Omega.{arith}
+use denote.Ref.{now}
+use lib.ListN.{length, take, getD}
+use Rattle.rows.specs.Rows.{over, total, downscaled, recorded, recordedFrom}
+use Rattle.series.proofs.Facts.{not-true, not-false, row-facts, small-size, large-size, high-top, high-level, bad-pos, bad-neg, by-sum}
+use borrow.Author.Needs.{needs}
+use Rattle.series.proofs.counts_agree.Statement.{statement}
+use Rattle.series.proofs.counts_agree.Tie as tie
+use Rattle.series.proofs.counts_agree.Reads as reads
+use Rattle.series.proofs.counts_agree.Lts as lts
+use Rattle.series.proofs.adds_up.Reads as adds-up-reads
+use Rattle.series.proofs.row_agrees.Reads as row-agrees-reads
+
+-- src/lib.rt:116:9
+returns : tie.Need-returns
+returns c =
+    let st = c .before .before .before in
+    let a = st .args in
+    sym (small-size (a .size) (a .top) (a .c) (now (a .pos)) (now (a .neg)) (c .if1 .taken))
+
+-- src/lib.rt:119:9
+returns-2 : tie.Need-returns-2
+returns-2 c =
+    let e = c .before in
+    let st = c .before .before .before .before in
+    let a = st .args in
+    sym (large-size (a .size) (a .top) (a .c) (now (a .pos)) (now (a .neg)) (omega (arith, e .if1 .left)) (c .if2 .taken))
+
+-- src/lib.rt:122:9
+returns-3 : tie.Need-returns-3
+returns-3 c =
+    let e = c .before in
+    let st = c .before .before .before .before .before in
+    let a = st .args in
+    sym (high-top (a .size) (a .top) (a .c) (now (a .pos)) (now (a .neg)) (omega (arith, e .before .if1 .left)) (omega (arith, e .if2 .left)) (c .if3 .taken))
+
+-- src/lib.rt:126:9
+returns-4 : tie.Need-returns-4
+returns-4 c =
+    let e = c .before in
+    let st = c .before .before .before .before .before .before in
+    let a = st .args in
+    sym (high-level (a .size) (a .top) (a .c) (now (a .pos)) (now (a .neg)) (omega (arith, e .before .before .if1 .left)) (omega (arith, e .before .if2 .left)) (omega (arith, e .if3 .left)) (c .if4 .taken))
+
+-- src/lib.rt:130:9
+row-agrees-requires : tie.Need-row-agrees-requires
+row-agrees-requires c κs = search needs
+
+-- src/lib.rt:131:9
+returns-5 : tie.Need-returns-5
+returns-5 c =
+    let e = c .before .before .before .before in
+    let st = c .before .before .before .before .before .before .before .before .before .before in
+    let a = st .args in
+    sym (bad-pos (a .size) (a .top) (a .c) (now (a .pos)) (now (a .neg)) (omega (arith, e .before .before .before .if1 .left)) (omega (arith, e .before .before .if2 .left)) (omega (arith, e .before .if3 .left)) (omega (arith, e .if4 .left)) (sym (c .before .row-agrees .ensures) ∙ not-true _ (c .if5 .taken)))
+
+-- src/lib.rt:133:9
+row-agrees-requires-2 : tie.Need-row-agrees-requires-2
+row-agrees-requires-2 c κs = search needs
+
+-- src/lib.rt:134:9
+returns-6 : tie.Need-returns-6
+returns-6 c =
+    let e = c .before .before .before .before .before .before in
+    let st = c .before .before .before .before .before .before .before .before .before .before .before .before in
+    let a = st .args in
+    sym (bad-neg (a .size) (a .top) (a .c) (now (a .pos)) (now (a .neg)) (omega (arith, e .before .before .before .if1 .left)) (omega (arith, e .before .before .if2 .left)) (omega (arith, e .before .if3 .left)) (omega (arith, e .if4 .left)) (sym (c .before .before .before .row-agrees .ensures) ∙ not-false _ (c .before .before .if5 .left)) (sym (c .before .row-agrees2 .ensures) ∙ not-true _ (c .if6 .taken)))
+
+-- src/lib.rt:136:5
+adds-up-requires : tie.Need-adds-up-requires
+adds-up-requires c κs =
+    let e = c .before .before .before .before .before .before in
+    let st = c .before .before .before .before .before .before .before .before .before .before .before .before in
+    let a = st .args in
+    let p = row-facts (a .size) (a .c .level) (a .c .pos) (now (a .pos)) (sym (c .before .before .before .row-agrees .ensures) ∙ not-false _ (c .before .before .if5 .left)) in
+    let n = row-facts (a .size) (a .c .level) (a .c .neg) (now (a .neg)) (sym (c .before .row-agrees2 .ensures) ∙ not-false _ (c .if6 .left)) in
+    ((p .there, omega (arith, p .short, e .before .before .if2 .left)), (n .there, omega (arith, n .short, e .before .before .if2 .left)))
+
+-- src/lib.rt:111:1
+returns-7 : tie.Need-returns-7
+returns-7 c =
+    let e = c .before .before .before .before .before .before .before in
+    let st = c .before .before .before .before .before .before .before .before .before .before .before .before .before in
+    let a = st .args in
+    c .adds-up .ensures ∙ sym (by-sum (a .size) (a .top) (a .c) (now (a .pos)) (now (a .neg)) (omega (arith, e .before .before .before .if1 .left)) (omega (arith, e .before .before .if2 .left)) (omega (arith, e .before .if3 .left)) (omega (arith, e .if4 .left)) (sym (c .before .before .before .before .row-agrees .ensures) ∙ not-false _ (c .before .before .before .if5 .left)) (sym (c .before .before .row-agrees2 .ensures) ∙ not-false _ (c .before .if6 .left)))
+
+pub counts-agree-spec : {M : Type 1} → statement M
+counts-agree-spec =
+    tie.close
+    (tie.spec
+    returns
+    returns-2
+    returns-3
+    returns-4
+    row-agrees-requires
+    returns-5
+    row-agrees-requires-2
+    returns-6
+    adds-up-requires
+    returns-7)

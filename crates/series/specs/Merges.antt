@@ -1,0 +1,60 @@
+-- Two points merged, step by step, as code can do it in place. Assumes nothing.
+use Prim.Native.Nat.{ℕ, zero, suc, _+_, _-_, _*_, _/_, _^_, _≤_, _<_, min, max, pred}
+use mathlib.Core.Bool.{Bool, true, false}
+use mathlib.Core.List.{List, [], _∷_, _++_}
+use lib.Dec.{leb, eqb}
+use lib.ListN.{length, replicate}
+use Rattle.points.specs.Points.{Row, Point}
+use Rattle.rows.specs.Rows.{addAt, addAll}
+use Rattle.series.specs.Steps.{lowered, lowering}
+use lib.ListN.{take}
+use Rattle.rows.specs.Rows.{total}
+use Rattle.rows.specs.declared.Row as C
+use Rattle.laws.specs.Pick.{pick}
+use Rattle.series.specs.Series.{rowIn}
+
+-- two rows of one level joined: counts added by bin
+unfoldable pub joined : Row → Row → Row
+joined a b =
+    pick (eqb (length (b .counts)) 0) a
+    (pick (eqb (length (a .counts)) 0) b
+    (record { start = min (a .start) (b .start); counts = addAll (b .start - a .start) (b .counts) (replicate (a .start - b .start) 0 ++ a .counts) }))
+
+-- the lowering at which a row is at most size counts
+abbrev pub span : ℕ → Row → ℕ
+span size r = lowering size (r .start) (r .start + pred (length (r .counts)))
+
+-- both points at the coarser's level; then as much lower as either sign needs; the rows joined there
+abbrev pub levelled : ℕ → Point → Row → Row
+levelled d p r = lowered (d - p .d) r
+
+unfoldable pub mergedLow : ℕ → Point → Point → ℕ
+mergedLow size p q =
+    let d = max (p .d) (q .d) in
+    max (span size (joined (levelled d p (p .pos)) (levelled d q (q .pos)))) (span size (joined (levelled d p (p .neg)) (levelled d q (q .neg))))
+
+unfoldable pub mergedSteps : ℕ → Point → Point → Point
+mergedSteps size p q =
+    let d = max (p .d) (q .d) in
+    let k = mergedLow size p q in
+    record {
+      d = d + k;
+      pos = joined (lowered k (levelled d p (p .pos))) (lowered k (levelled d q (q .pos)));
+      neg = joined (lowered k (levelled d p (p .neg))) (lowered k (levelled d q (q .neg)));
+      zeros = p .zeros + q .zeros;
+      total = p .total + q .total;
+    }
+
+-- the counts ys from bin t on, each added k levels lower to the row xs from bin s on
+unfoldable pub addLow : ℕ → ℕ → ℕ → List ℕ → List ℕ → List ℕ
+addLow k s t [] xs = xs
+addLow k s t (y ∷ ys) xs = addLow k s (suc t) ys (addAt (t / 2 ^ k - s) y xs)
+
+-- the row b of ys can be joined, kb levels lower, to the row a of xs, ka levels lower
+pub record Joinable (a : C.Row) (ka : ℕ) (xs : List ℕ) (b : C.Row) (kb : ℕ) (ys : List ℕ) : Type 0 where
+  pub short : a .len ≤ length xs
+  pub other : b .len ≤ length ys
+  pub few : ka < 32
+  pub fewOther : kb < 32
+  pub sums : total (take (a .len) xs) + total (take (b .len) ys) < 2 ^ 64
+  pub room : length (joined (lowered ka (rowIn a xs)) (lowered kb (rowIn b ys)) .counts) ≤ length xs

@@ -8,6 +8,3 @@ pub mod Write
 pub mod Call
 pub mod Stays
 pub mod Lists
-pub mod Joined
-pub mod Lowly
-pub mod Wide

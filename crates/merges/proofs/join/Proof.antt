@@ -8,18 +8,18 @@ use lib.Seq.{length-take-le}
 use Rattle.points.specs.Points as P
 use Rattle.rows.specs.Rows.{over, total, downscaled}
 use Rattle.rows.proofs.Laws.{length-downscaled, total-downscaled}
 use Rattle.series.specs.Steps.{lowered}
 use Rattle.series.specs.Series.{Laid, rowIn}
-use Rattle.series.specs.Merges.{Joinable, joined}
-use Rattle.series.proofs.Wide as wide
+use Rattle.merges.specs.Merges.{Joinable, joined}
+use Rattle.merges.proofs.Wide as wide
 use borrow.Author.Needs.{needs}
-use Rattle.series.proofs.join.Statement.{statement}
-use Rattle.series.proofs.join.Tie as tie
-use Rattle.series.proofs.join.Reads as reads
-use Rattle.series.proofs.join.Lts as lts
-use Rattle.series.proofs.add_low.Reads as add-low-reads
+use Rattle.merges.proofs.join.Statement.{statement}
+use Rattle.merges.proofs.join.Tie as tie
+use Rattle.merges.proofs.join.Reads as reads
+use Rattle.merges.proofs.join.Lts as lts
+use Rattle.merges.proofs.add_low.Reads as add-low-reads
 use Rattle.series.proofs.lower.Reads as lower-reads
-use Rattle.series.proofs.widen.Reads as widen-reads
+use Rattle.merges.proofs.widen.Reads as widen-reads
 
 -- the row at its lower level
 abbrev D : tie.Start → List ℕ

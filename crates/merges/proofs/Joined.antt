@@ -22,11 +22,11 @@ use Rattle.rows.specs.Rows as R
 use Rattle.rows.specs.Rows.{addAt, addAll, downscaled}
 use Rattle.rows.proofs.Laws.{length-addAt-in, length-addAt-out}
 use Rattle.rows.proofs.Algebra.{countAt, length-downscaled-is, le-or-lt}
 use Rattle.series.specs.Steps.{lowered, narrow, lowering}
 use Rattle.laws.specs.Pick.{pick}
-use Rattle.series.specs.Merges.{joined, span, levelled, mergedLow, mergedSteps}
+use Rattle.merges.specs.Merges.{joined, span, levelled, mergedLow, mergedSteps}
 use Rattle.series.proofs.Counted.{row-by-ends, at-is, countAt-addAt, countAt-zeros, length-replicate, lowered-rowOf}
 use Rattle.series.proofs.Joint.{map-shr, row-lower, fits-on, both-true}
 
 -- ---- counts added by bin
 
@@ -181,15 +181,9 @@ row-level d e r h c =
     ap (lowered (d - e)) (sym (row-indices e r c)) ∙ sym (row-lower e (d - e) (indices e r)) ∙ ap (λ n. row n (indices e r)) x
 
 -- rows of two points, at their common level d: xs and ys are what they stand for
-module _ (size d e f : ℕ) (a b : Row) (h : e ≤ d) (g : f ≤ d) (ca : Canonical a) (cb : Canonical b) where
+module _ (d e f : ℕ) (a b : Row) (h : e ≤ d) (g : f ≤ d) (ca : Canonical a) (cb : Canonical b) where
   pub rows-join : joined (lowered (d - e) a) (lowered (d - f) b) ≡ row d (indices e a ++ indices f b)
   rows-join = rw (row-level d e a h ca, row-level d f b g cb) (row-join d (indices e a) (indices f b))
-
-  pub rows-lower : (k : ℕ) → joined (lowered k (lowered (d - e) a)) (lowered k (lowered (d - f) b)) ≡ row (d + k) (indices e a ++ indices f b)
-  rows-lower k =
-      (λ j. joined (lowered k (row-level d e a h ca j)) (lowered k (row-level d f b g cb j)))
-      ∙ (λ j. joined (sym (row-lower d k (indices e a)) j) (sym (row-lower d k (indices f b)) j))
-      ∙ row-join (d + k) (indices e a) (indices f b)
 
 fits-20 : (size d : ℕ) (xs : List ℕ) → d ≤ finest → 3 ≤ size → Below (endBin finest) xs → fits size (d + (finest - d)) xs ≡ true
 unfolding fits
@@ -224,31 +218,45 @@ scale-two size d b h s bp bn =
     least-max : (d m j l : ℕ) → d ≤ m → j ≤ m - d → l ≤ m - d → d + max j l ≤ m
     least-max d m j l g a b = omega arith
 
--- THE JOINT OF MERGING
-pub merged-is : (size : ℕ) (p q : Point) → 3 ≤ size → Valid size p → Valid size q → mergedSteps size p q ≡ merge size p q
-unfolding mergedSteps mergedLow merge build bag
-merged-is size p q s v w =
-    let d = max (p .d) (q .d) in
-    let b = bag p ⊕ bag q in
-    let rp = rows-join size d (p .d) (q .d) (p .pos) (q .pos) (omega arith) (omega arith) (v .pos .canonical) (w .pos .canonical) in
-    let rn = rows-join size d (p .d) (q .d) (p .neg) (q .neg) (omega arith) (omega arith) (v .neg .canonical) (w .neg .canonical) in
-    let k = mergedLow size p q in
-    let e : d + mergedLow size p q ≡ scale size d b =
-    ap (λ n. d + n) (λ j. max (span size (rp j)) (span size (rn j)))
-    ∙ scale-two size d b (omega (arith, v .coarse, w .coarse)) s
-    (below-append (endBin finest) (b-pos p) (b-pos q) (below-indices size (p .d) (p .pos) (v .coarse) (v .pos)) (below-indices size (q .d) (q .pos) (w .coarse) (w .pos)))
-    (below-append (endBin finest) (b-neg p) (b-neg q) (below-indices size (p .d) (p .neg) (v .coarse) (v .neg)) (below-indices size (q .d) (q .neg) (w .coarse) (w .neg))) in
-    (λ j. record {
-      d = d + k;
-      pos = rows-lower size d (p .d) (q .d) (p .pos) (q .pos) (omega arith) (omega arith) (v .pos .canonical) (w .pos .canonical) k j;
-      neg = rows-lower size d (p .d) (q .d) (p .neg) (q .neg) (omega arith) (omega arith) (v .neg .canonical) (w .neg .canonical) k j;
-      zeros = p .zeros + q .zeros;
-      total = p .total + q .total;
-    })
-    ∙ ap (λ n. pointAt n b) e
-  where
-    b-pos : Point → List ℕ
-    b-pos p = indices (p .d) (p .pos)
+-- what two points stand for lies below the last bin
+below-both : (size : ℕ) (p q : Point) (r t : Row) → p .d ≤ finest → q .d ≤ finest → RowOk size (p .d) r → RowOk size (q .d) t
+    → Below (endBin finest) (indices (p .d) r ++ indices (q .d) t)
+below-both size p q r t h g v w =
+    below-append (endBin finest) (indices (p .d) r) (indices (q .d) t) (below-indices size (p .d) r h v) (below-indices size (q .d) t g w)
 
-    b-neg : Point → List ℕ
-    b-neg p = indices (p .d) (p .neg)
+module _ (size : ℕ) (p q : Point) (s : 3 ≤ size) (v : Valid size p) (w : Valid size q) where
+  abbrev both-bags : Bag
+  both-bags = bag p ⊕ bag q
+
+  -- the level that the steps find is that of the definition
+  pub level-is : max (p .d) (q .d) + mergedLow size p q ≡ scale size (max (p .d) (q .d)) both-bags
+  unfolding mergedLow bag
+  level-is =
+      let d = max (p .d) (q .d) in
+      ap (λ n. d + n)
+      (λ j. max (span size (rows-join d (p .d) (q .d) (p .pos) (q .pos) (omega arith) (omega arith) (v .pos .canonical) (w .pos .canonical) j))
+      (span size (rows-join d (p .d) (q .d) (p .neg) (q .neg) (omega arith) (omega arith) (v .neg .canonical) (w .neg .canonical) j)))
+      ∙ scale-two size d (bag p ⊕ bag q) (omega (arith, v .coarse, w .coarse)) s
+      (below-both size p q (p .pos) (q .pos) (v .coarse) (w .coarse) (v .pos) (w .pos))
+      (below-both size p q (p .neg) (q .neg) (v .coarse) (w .coarse) (v .neg) (w .neg))
+
+  -- and no level is below the coarsest
+  pub level-le : max (p .d) (q .d) + mergedLow size p q ≤ finest
+  unfolding scale
+  level-le =
+      let d = max (p .d) (q .d) in
+      omega (arith, level-is, least-spec (fitsBoth size both-bags) d (finest - d) .le, v .coarse, w .coarse)
+
+  -- THE JOINT OF MERGING
+  pub merged-is : mergedSteps size p q ≡ merge size p q
+  unfolding mergedSteps merge build bag
+  merged-is =
+      let e = max (p .d) (q .d) + mergedLow size p q in
+      (λ j. record {
+        d = e;
+        pos = rows-join e (p .d) (q .d) (p .pos) (q .pos) (omega arith) (omega arith) (v .pos .canonical) (w .pos .canonical) j;
+        neg = rows-join e (p .d) (q .d) (p .neg) (q .neg) (omega arith) (omega arith) (v .neg .canonical) (w .neg .canonical) j;
+        zeros = p .zeros + q .zeros;
+        total = p .total + q .total;
+      })
+      ∙ ap (λ n. pointAt n (bag p ⊕ bag q)) level-is

@@ -24,26 +24,36 @@ joined a b =
 abbrev pub span : ℕ → Row → ℕ
 span size r = lowering size (r .start) (r .start + pred (length (r .counts)))
 
--- both points at the coarser's level; then as much lower as either sign needs; the rows joined there
-abbrev pub levelled : ℕ → Point → Row → Row
-levelled d p r = lowered (d - p .d) r
+-- both points' rows of a sign at the level d steps below the finest, joined
+abbrev pub levelled : ℕ → Point → Row → Point → Row → Row
+levelled d p r q t = joined (lowered (d - p .d) r) (lowered (d - q .d) t)
 
+-- the coarser's level, and how much lower either sign's row then needs it
 unfoldable pub mergedLow : ℕ → Point → Point → ℕ
 mergedLow size p q =
     let d = max (p .d) (q .d) in
-    max (span size (joined (levelled d p (p .pos)) (levelled d q (q .pos)))) (span size (joined (levelled d p (p .neg)) (levelled d q (q .neg))))
+    max (span size (levelled d p (p .pos) q (q .pos))) (span size (levelled d p (p .neg) q (q .neg)))
 
 unfoldable pub mergedSteps : ℕ → Point → Point → Point
 mergedSteps size p q =
-    let d = max (p .d) (q .d) in
-    let k = mergedLow size p q in
+    let e = max (p .d) (q .d) + mergedLow size p q in
     record {
-      d = d + k;
-      pos = joined (lowered k (levelled d p (p .pos))) (lowered k (levelled d q (q .pos)));
-      neg = joined (lowered k (levelled d p (p .neg))) (lowered k (levelled d q (q .neg)));
+      d = e;
+      pos = levelled e p (p .pos) q (q .pos);
+      neg = levelled e p (p .neg) q (q .neg);
       zeros = p .zeros + q .zeros;
       total = p .total + q .total;
     }
+
+-- the ends of two rows joined, of n counts from bin s on, j levels lower, and of m counts from bin t on, k levels lower
+unfoldable pub lowEnd : C.Row → ℕ → C.Row → ℕ → ℕ
+lowEnd a j b k = pick (eqb (b .len) 0) (a .start / 2 ^ j) (pick (eqb (a .len) 0) (b .start / 2 ^ k) (min (a .start / 2 ^ j) (b .start / 2 ^ k)))
+
+unfoldable pub highEnd : C.Row → ℕ → C.Row → ℕ → ℕ
+highEnd a j b k =
+    pick (eqb (b .len) 0) ((a .start + pred (a .len)) / 2 ^ j)
+    (pick (eqb (a .len) 0) ((b .start + pred (b .len)) / 2 ^ k)
+    (max ((a .start + pred (a .len)) / 2 ^ j) ((b .start + pred (b .len)) / 2 ^ k)))
 
 -- the counts ys from bin t on, each added k levels lower to the row xs from bin s on
 unfoldable pub addLow : ℕ → ℕ → ℕ → List ℕ → List ℕ → List ℕ

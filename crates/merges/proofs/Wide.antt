@@ -12,14 +12,14 @@ use Rattle.points.specs.Points as P
 use Rattle.rows.specs.Rows.{over, total, addAt, addAll, shifted, zeroed, downscaled}
 use Rattle.rows.specs.declared.Row.{Row}
 use Rattle.rows.proofs.Laws.{take-over, over-over, length-over}
 use Rattle.series.specs.Steps.{lowered}
 use Rattle.series.specs.Series.{rowIn, Laid}
 use Rattle.laws.specs.Pick.{pick}
-use Rattle.series.specs.Merges.{joined, addLow}
+use Rattle.merges.specs.Merges.{joined, addLow}
 use Rattle.rows.proofs.Algebra.{length-downscaled-is, downscaled-some}
 use Rattle.rows.proofs.Adds.{length-addAt}
-use Rattle.series.proofs.Joined.{length-addAll}
-use Rattle.series.proofs.Lowly.{addLow-is}
+use Rattle.merges.proofs.Joined.{length-addAll}
+use Rattle.merges.proofs.Lowly.{addLow-is}
 
 drop-front : (xs ys : List ℕ) → drop (length xs) (xs ++ ys) ≡ ys
 drop-front [] ys = refl

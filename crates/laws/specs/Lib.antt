@@ -1,1 +1,4 @@
 pub mod Pick
+pub mod Lists
+pub mod Counting
+pub mod Search

@@ -1,16 +1,19 @@
--- Rows: canonical rows are equal where their counts are, and the row of a list of indices is canonical and counts them. Assumes nothing.
-use Prim.Native.Nat.{ℕ, zero, suc, _+_, _-_, _≤_, _<_, pred, min, max}
+-- Rows: canonical rows are equal where their counts are, and the row of a list of bins is canonical and counts them. Assumes nothing.
+use Prim.Native.Nat.{ℕ, zero, suc, _+_, _-_, _≤_, _<_, pred}
 use mathlib.Core.Path.{_≡_, refl, ap, sym, subst, _∙_}
-use mathlib.Core.Logic.{_≢_, _⊎_, inl, inr}
-use mathlib.Core.List.{List, [], _∷_, _++_, map}
-use native.Mathlib.Decide.{ℕ-discrete, decLe, decLt}
-use native.Mathlib.Nat.{eq-zero-or-pos, add-sub-cancel-left, add-zero, add-suc, suc-add, min-eq-left, min-eq-right, max-eq-left, max-eq-right}
+use mathlib.Core.Logic.{_⊎_, inl, inr}
+use mathlib.Core.List.{List, [], _∷_, _++_}
+use native.Mathlib.Decide.{decLt}
+use native.Mathlib.Nat.{eq-zero-or-pos, add-sub-cancel-left, add-zero}
 use native.Mathlib.Omega.{arith}
 use lib.ListN.{length, getD, replicate, List·getD-eq-default}
 use lib.Seq.{ext-getD}
 use borrow.Author.Tests.{le-leb, lt-leb}
-use Rattle.points.specs.Points.{sum, hit, count, pick, lowest, highest, table, Row, at, rowOf, expand}
-use Rattle.points.proofs.Bag.{sum-append, hit-same, hit-other, Same, same-of-count}
+use Rattle.laws.specs.Pick.{pick}
+use Rattle.laws.specs.Counting.{sum, hit, count, lowest, highest, table}
+use Rattle.laws.proofs.Same.{sum-append, Same, same-of-count}
+use Rattle.laws.proofs.Counting.{ends-of, length-table, getD-table, count-replicate, count-replicate-same}
+use Rattle.points.specs.Points.{Row, at, rowOf, expand}
 
 -- no zero at either end, and one empty row only
 pub record Canonical (r : Row) : Type 0 where
@@ -20,11 +23,11 @@ pub record Canonical (r : Row) : Type 0 where
 
 module _ (r : Row) where
   pub at-in : (k : ℕ) → at r (r .start + k) ≡ getD (r .counts) k 0
-  unfolding at
+  unfolding at pick
   at-in k = rw (le-leb (r .start) (r .start + k) (omega arith), add-sub-cancel-left)
 
   pub at-below : (i : ℕ) → i < r .start → at r i ≡ 0
-  unfolding at
+  unfolding at pick
   at-below i h = rw (lt-leb (r .start) i h)
 
   pub at-above : (k : ℕ) → length (r .counts) ≤ k → at r (r .start + k) ≡ 0
@@ -57,7 +60,7 @@ within r s c h p =
 pub row-path : (r s : Row) → r .start ≡ s .start → r .counts ≡ s .counts → r ≡ s
 row-path r s p q = λ i. record { start = p i; counts = q i }
 
--- THEOREM 1. Canonical rows with the same count at every index are the same data.
+-- Canonical rows with the same count at every index are the same data.
 pub canonical-unique : (r s : Row) → Canonical r → Canonical s → ((i : ℕ) → at r i ≡ at s i) → r ≡ s
 canonical-unique r s c d h =
     row-path r s (ends .0)
@@ -92,15 +95,6 @@ within-length r s c h =
       | inr p ↦ omega (arith, within r s c (λ i q. omega (arith, h i)) p)
     ]
 
-pub length-table : (f : ℕ → ℕ) (lo n : ℕ) → length (table f lo n) ≡ n
-length-table f lo zero = refl
-length-table f lo (suc n) = ap suc (length-table f (suc lo) n)
-
-getD-table : (f : ℕ → ℕ) (lo n k : ℕ) → k < n → getD (table f lo n) k 0 ≡ f (lo + k)
-getD-table f lo zero k h = absurd (omega arith)
-getD-table f lo (suc n) zero h = ap f (omega arith)
-getD-table f lo (suc n) (suc k) h = getD-table f (suc lo) n k (omega arith) ∙ ap f (omega arith)
-
 -- the counts f from lo on, n of them, where f counts nothing outside and something at both ends
 abbrev tabled : (ℕ → ℕ) → ℕ → ℕ → Row
 tabled f lo n = record { start = lo; counts = table f lo n }
@@ -131,43 +125,20 @@ tabled-canonical f lo n a b =
           (omega (arith, getD-table f lo (suc n) n (omega arith), b));
     }
 
--- what stands in the list lies between its lowest and its highest, and both stand in it
-pub range : (x : ℕ) (xs : List ℕ) (i : ℕ) → 0 < count i (x ∷ xs) → (lowest x xs ≤ i) × (i ≤ highest x xs)
-range x [] i h =
-    elim (ℕ-discrete x i) [ yes e ↦ omega arith | no ne ↦ absurd (omega (arith, hit-other i x ne)) ]
-range x (y ∷ ys) i h =
-    elim (ℕ-discrete x i) [ yes e ↦ omega arith | no ne ↦ omega (arith, range y ys i (omega (arith, hit-other i x ne))) ]
-
-pub low-in : (x : ℕ) (xs : List ℕ) → 0 < count (lowest x xs) (x ∷ xs)
-low-in x [] = omega (arith, hit-same x)
-low-in x (y ∷ ys) =
-    elim (decLe x (lowest y ys)) [
-      | yes h ↦ rw (min-eq-left h) (omega (arith, hit-same x))
-      | no h ↦ rw (min-eq-right {n = lowest y ys} {m = x} (omega arith)) (omega (arith, low-in y ys))
-    ]
-
-pub high-in : (x : ℕ) (xs : List ℕ) → 0 < count (highest x xs) (x ∷ xs)
-high-in x [] = omega (arith, hit-same x)
-high-in x (y ∷ ys) =
-    elim (decLe x (highest y ys)) [
-      | yes h ↦ rw (max-eq-right h) (omega (arith, high-in y ys))
-      | no h ↦ rw (max-eq-left {n = x} {m = highest y ys} (omega arith)) (omega (arith, hit-same x))
-    ]
-
 pub at-rowOf : (xs : List ℕ) (i : ℕ) → at (rowOf xs) i ≡ count i xs
 unfolding rowOf
 at-rowOf [] i = elim (eq-zero-or-pos (at (rowOf []) i)) [ inl z ↦ z | inr p ↦ absurd (omega (arith, at-pos (rowOf []) i p)) ]
 at-rowOf (x ∷ xs) i =
-    at-tabled (λ j. count j (x ∷ xs)) (lowest x xs) (suc (highest x xs - lowest x xs)) (λ j p. omega (arith, range x xs j p)) i
+    at-tabled (λ j. count j (x ∷ xs)) (lowest x xs) (suc (highest x xs - lowest x xs)) (λ j p. omega (arith, ends-of x xs .all j p)) i
 
 pub rowOf-canonical : (xs : List ℕ) → Canonical (rowOf xs)
 unfolding rowOf
 rowOf-canonical [] = record { empty = λ _. refl; first = λ h. absurd (omega arith); last = λ h. absurd (omega arith) }
 rowOf-canonical (x ∷ xs) =
-    let e : lowest x xs + (highest x xs - lowest x xs) ≡ highest x xs = omega (arith, range x xs (lowest x xs) (low-in x xs)) in
-    tabled-canonical (λ j. count j (x ∷ xs)) (lowest x xs) (highest x xs - lowest x xs) (low-in x xs) (rw e (high-in x xs))
+    let e : lowest x xs + (highest x xs - lowest x xs) ≡ highest x xs = omega (arith, ends-of x xs .all (lowest x xs) (ends-of x xs .low)) in
+    tabled-canonical (λ j. count j (x ∷ xs)) (lowest x xs) (highest x xs - lowest x xs) (ends-of x xs .low) (rw e (ends-of x xs .high))
 
--- a row is decided by the counts of its indices
+-- a row is decided by the counts of its bins
 pub rowOf-cong : (xs ys : List ℕ) → Same xs ys → rowOf xs ≡ rowOf ys
 rowOf-cong xs ys h =
     canonical-unique (rowOf xs) (rowOf ys) (rowOf-canonical xs) (rowOf-canonical ys)
@@ -178,15 +149,7 @@ rowOf-length xs ys =
     within-length (rowOf xs) (rowOf (xs ++ ys)) (rowOf-canonical xs)
     (λ i. omega (arith, at-rowOf xs i, at-rowOf (xs ++ ys) i, sum-append (hit i) xs ys))
 
--- the indices that a row stands for are counted as the row counts them
-count-replicate : (i c s : ℕ) → s ≢ i → count i (replicate c s) ≡ 0
-count-replicate i zero s h = refl
-count-replicate i (suc c) s h = omega (arith, hit-other i s h, count-replicate i c s h)
-
-count-replicate-same : (i c : ℕ) → count i (replicate c i) ≡ c
-count-replicate-same i zero = refl
-count-replicate-same i (suc c) = omega (arith, hit-same i, count-replicate-same i c)
-
+-- the bins that a row stands for are counted as the row counts them
 count-expand-below : (i s : ℕ) (cs : List ℕ) → i < s → count i (expand s cs) ≡ 0
 count-expand-below i s [] h = refl
 count-expand-below i s (c ∷ cs) h =
@@ -216,7 +179,7 @@ count-expand r i =
           rw e at (count-expand-at (i - r .start) (r .start) (r .counts) ∙ sym (at-in r (i - r .start)))
     ]
 
--- the row of the indices of a canonical row is that row, and the indices of a list's row are those of the list
+-- the row of the bins of a canonical row is that row, and the bins of a list's row are those of the list
 pub rowOf-expand : (r : Row) → Canonical r → rowOf (expand (r .start) (r .counts)) ≡ r
 rowOf-expand r c =
     canonical-unique (rowOf (expand (r .start) (r .counts))) r (rowOf-canonical (expand (r .start) (r .counts))) c

@@ -1,29 +1,26 @@
--- `hf::bits_of` meets its contract. Assumes nothing.
-use mathlib.Core.Path.{sym, subst, _∙_}
+-- `bits_of` meets its contract: only a NaN differs from itself. Assumes nothing.
+use mathlib.Core.Path.{sym, ap, subst, _∙_}
+use mathlib.Core.Bool.{Bool, cond, not}
 use lib.Dec.{T}
-use Rattle.floats.specs.Finite.{finite-not-nan}
-use borrow.Author.Needs.{needs}
+use lib.Ieee.{binary64, toBits}
+use Rattle.floats.proofs.Finite.{nan-test}
 use Rattle.floats.proofs.bits_of.Statement.{statement}
 use Rattle.floats.proofs.bits_of.Tie as tie
-use Rattle.floats.proofs.bits_of.Reads as reads
-use Rattle.floats.proofs.bits_of.Lts as lts
-use Rattle.floats.proofs.is_finite.Reads as is-finite-reads
 
--- src/lib.rt:99:8
-is-finite-requires : tie.Need-is-finite-requires
-is-finite-requires c κs = search needs
-
--- src/lib.rt:100:28
-float-to-bits-t3 : tie.Need-float-to-bits-t3
-float-to-bits-t3 c = finite-not-nan (c .before .before .args .x) (subst T (sym (sym (c .before .is-finite .ensures) ∙ c .if1 .taken)) tt)
-
--- src/lib.rt:100:9
 returns : tie.Need-returns
-returns c = cc
+returns c =
+    let x = c .before .args .x in
+    sym (ap (λ (b : Bool). cond b 0x7ff8_0000_0000_0000 (toBits binary64 x)) (sym (nan-test x) ∙ c .if1 .taken))
 
--- src/lib.rt:96:1
+float-to-bits-result : tie.Need-float-to-bits-result
+float-to-bits-result c =
+    let x = c .before .args .x in
+    subst (λ (b : Bool). T (not b)) (sym (sym (nan-test x) ∙ c .if1 .left)) tt
+
 returns-2 : tie.Need-returns-2
-returns-2 c = search needs
+returns-2 c =
+    let x = c .before .args .x in
+    sym (ap (λ (b : Bool). cond b 0x7ff8_0000_0000_0000 (toBits binary64 x)) (sym (nan-test x) ∙ c .if1 .left))
 
 pub bits-of-spec : {M : Type 1} → statement M
-bits-of-spec = tie.close (tie.spec is-finite-requires float-to-bits-t3 returns returns-2)
+bits-of-spec = tie.close (tie.spec returns float-to-bits-result returns-2)

@@ -1,4 +1,4 @@
--- `hf::greater` meets its contract: each arm returns what `cond` picks. Assumes nothing.
+-- `greater` meets its contract: each arm returns what `cond` picks. Assumes nothing.
 use mathlib.Core.Path.{sym, ap}
 use mathlib.Core.Bool.{Bool, cond}
 use Rattle.floats.proofs.greater.Statement.{statement}

@@ -1,12 +1,9 @@
--- `hf::is_finite` meets its contract. Assumes nothing.
+-- `is_finite` meets its contract. Assumes nothing.
 use lib.Ieee.{ofBits}
-use Rattle.floats.specs.Finite.{finite-test}
+use Rattle.floats.proofs.Finite.{finite-test}
 use Rattle.floats.proofs.is_finite.Statement.{statement}
 use Rattle.floats.proofs.is_finite.Tie as tie
-use Rattle.floats.proofs.is_finite.Reads as reads
-use Rattle.floats.proofs.is_finite.Lts as lts
 
--- src/lib.rt:90:1
 returns : tie.Need-returns
 unfolding ofBits
 returns c = finite-test (c .args .x)

@@ -1,4 +1,4 @@
--- `hf::lesser` meets its contract: each arm returns what `cond` picks. Assumes nothing.
+-- `lesser` meets its contract: each arm returns what `cond` picks. Assumes nothing.
 use Rattle.floats.proofs.lesser.Statement.{statement}
 use Rattle.floats.proofs.lesser.Tie as tie
 

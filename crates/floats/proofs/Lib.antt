@@ -1,0 +1,9 @@
+pub mod Finite
+pub mod Same
+pub mod Fractions
+pub mod Exact
+pub mod Order
+pub mod Equal
+pub mod Choices
+pub mod Starts
+pub mod Sums

@@ -1,0 +1,5 @@
+pub mod Bools
+pub mod Same
+pub mod Lists
+pub mod Counting
+pub mod Search

@@ -1,0 +1,46 @@
+-- Lists of numbers up to their order: `Same`, and that the count of each number decides it. Assumes nothing.
+use Prim.Native.Nat.{ℕ, zero, suc, _+_, _≤_, _<_}
+use mathlib.Core.Path.{_≡_, refl, ap, sym, _∙_}
+use mathlib.Core.Logic.{_≢_}
+use mathlib.Core.List.{List, [], _∷_, _++_, map}
+use native.Mathlib.Decide.{ℕ-discrete}
+use native.Mathlib.Omega.{arith}
+use borrow.Author.Tests.{eq-eqb, ne-eqb}
+use Rattle.laws.specs.Pick.{pick}
+use Rattle.laws.specs.Counting.{sum, hit, count}
+
+pub sum-append : (w : ℕ → ℕ) (xs ys : List ℕ) → sum w (xs ++ ys) ≡ sum w xs + sum w ys
+sum-append w [] ys = omega arith
+sum-append w (x ∷ xs) ys = omega (arith, sum-append w xs ys)
+
+pub sum-map : (w f : ℕ → ℕ) (xs : List ℕ) → sum w (map f xs) ≡ sum (λ x. w (f x)) xs
+sum-map w f [] = refl
+sum-map w f (x ∷ xs) = omega (arith, sum-map w f xs)
+
+-- the same numbers, each as often
+abbrev pub Same : List ℕ → List ℕ → Type 0
+Same xs ys = (w : ℕ → ℕ) → sum w xs ≡ sum w ys
+
+pub hit-same : (i : ℕ) → hit i i ≡ 1
+unfolding hit pick
+hit-same i = rw (eq-eqb i i refl)
+
+pub hit-other : (i x : ℕ) → x ≢ i → hit i x ≡ 0
+unfolding hit pick
+hit-other i x ne = rw (ne-eqb x i ne)
+
+-- a number of the list, taken out
+pull : (a : ℕ) (xs : List ℕ) → 0 < count a xs → (ys : List ℕ) × ((w : ℕ → ℕ) → sum w xs ≡ w a + sum w ys)
+pull a [] h = absurd (omega arith)
+pull a (x ∷ xs) h =
+    elim (ℕ-discrete x a) [
+      | yes e ↦ (xs, λ w. ap (λ n. w n + sum w xs) e)
+      | no ne ↦ let r = pull a xs (omega (arith, hit-other a x ne)) in (x ∷ r .0, λ w. omega (arith, r .1 w))
+    ]
+
+pub same-of-count : (xs ys : List ℕ) → ((i : ℕ) → count i xs ≡ count i ys) → Same xs ys
+same-of-count [] [] h w = refl
+same-of-count [] (y ∷ ys) h w = absurd (omega (arith, h y, hit-same y))
+same-of-count (x ∷ xs) ys h w =
+    let r = pull x ys (omega (arith, h x, hit-same x)) in
+    omega (arith, r .1 w, same-of-count xs (r .0) (λ i. omega (arith, h i, r .1 (hit i))) w)

@@ -1,0 +1,36 @@
+-- Lists of numbers: sums, counts, the least and the greatest, tables. Assumes nothing.
+use Prim.Native.Nat.{ℕ, zero, suc, _+_, min, max}
+use mathlib.Core.List.{List, [], _∷_}
+use lib.Dec.{eqb}
+use Rattle.laws.specs.Pick.{pick}
+
+-- the sum of w over the list
+abbrev pub sum : (ℕ → ℕ) → List ℕ → ℕ
+sum w [] = 0
+sum w (x ∷ xs) = w x + sum w xs
+
+-- the numbers of the list together
+abbrev pub total : List ℕ → ℕ
+total = sum (λ x. x)
+
+-- 1 where x is i
+unfoldable pub hit : ℕ → ℕ → ℕ
+hit i x = pick (eqb x i) 1 0
+
+-- how often i stands in the list
+abbrev pub count : ℕ → List ℕ → ℕ
+count i = sum (hit i)
+
+-- the least and the greatest of x ∷ xs
+abbrev pub lowest : ℕ → List ℕ → ℕ
+lowest x [] = x
+lowest x (y ∷ ys) = min x (lowest y ys)
+
+abbrev pub highest : ℕ → List ℕ → ℕ
+highest x [] = x
+highest x (y ∷ ys) = max x (highest y ys)
+
+-- f lo, f (lo + 1), .., n of them
+abbrev pub table : (ℕ → ℕ) → ℕ → ℕ → List ℕ
+table f lo zero = []
+table f lo (suc n) = f lo ∷ table f (suc lo) n

@@ -9,7 +9,8 @@ use lib.ListN.{length, take, drop, replicate, length-append, length-take, length
 use lib.Seq.{length-take-le, drop-append-add}
 use borrow.Author.Tests.{eq-eqb, ne-eqb}
 use Rattle.points.specs.Points as P
-use Rattle.rows.specs.Rows.{over, total, addAt, addAll, shifted, zeroed, downscaled}
+use Rattle.rows.specs.Rows.{over, addAt, addAll, shifted, zeroed, downscaled}
+use Rattle.laws.specs.Counting.{total}
 use Rattle.rows.specs.declared.Row.{Row}
 use Rattle.rows.proofs.Laws.{take-over, over-over, length-over}
 use Rattle.series.specs.Steps.{lowered}
@@ -82,7 +83,6 @@ grows k s t [] xs = omega arith
 grows k s t (y ∷ ys) xs = omega (arith, grows k s (suc t) ys (addAt (t / 2 ^ k - s) y xs), length-addAt (t / 2 ^ k - s) y xs)
 
 total-zeros : (n : ℕ) (xs : List ℕ) → total (replicate n 0 ++ xs) ≡ total xs
-unfolding total
 total-zeros zero xs = refl
 total-zeros (suc n) xs = omega (arith, total-zeros n xs)
 
@@ -113,7 +113,6 @@ module _ (D xs ys cs : List ℕ) (S t m k : ℕ) (some : 0 < m) (long : m ≤ le
     is-first = join-first (record { start = S; counts = D }) (record { start = t / 2 ^ k; counts = E }) some-E none
 
     pub first-requires : ((0 ≤ length cs) × (m ≤ length ys)) × (((k < 32) × (t / 2 ^ k ≤ t / 2 ^ k)) × (((t + (m - 1)) / 2 ^ k - t / 2 ^ k < length cs) × (total (take 0 cs) + total (take m ys) < 2 ^ 64)))
-    unfolding total
     first-requires =
         let r : length E ≤ length xs = subst (λ (q : P.Row). length (q .counts) ≤ length xs) is-first room in
         ((omega arith, long), ((few, omega arith), (omega (arith, r, long-E, len-cs, some-E), omega arith)))

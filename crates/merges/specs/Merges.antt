@@ -8,7 +8,7 @@ use Rattle.points.specs.Points.{Row, Point}
 use Rattle.rows.specs.Rows.{addAt, addAll}
 use Rattle.series.specs.Steps.{lowered, lowering}
 use lib.ListN.{take}
-use Rattle.rows.specs.Rows.{total}
+use Rattle.laws.specs.Counting.{total}
 use Rattle.rows.specs.declared.Row as C
 use Rattle.laws.specs.Pick.{pick}
 use Rattle.series.specs.Series.{rowIn}

@@ -7,7 +7,8 @@ use native.Mathlib.Numerals.{add-one}
 use native.Mathlib.Omega.{arith}
 use lib.ListN.{length, getD, take, set, replicate, length-append, length-take, length-replicate, List·getD-eq-default}
 use lib.Seq.{getD-take, length-take-le, take-suc}
-use Rattle.rows.specs.Rows.{over, total, addAt, addAll, zeroed, downscaled}
+use Rattle.rows.specs.Rows.{over, addAt, addAll, zeroed, downscaled}
+use Rattle.laws.specs.Counting.{total}
 use Rattle.rows.proofs.Laws.{over-behind, length-downscaled, downscaled-reach, downscaled-snoc, total-downscaled, over-addAt, length-addAt-in, length-addAt-out, take-over, over-over, length-over, total-addAt, total-append, total-mono, total-step, getD-le-total}
 use Rattle.rows.proofs.Adds.{over-self, over-zeroed, addAt-pad, length-addAt}
 

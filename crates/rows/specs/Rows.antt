@@ -9,11 +9,6 @@ use lib.ListN.{length, take, drop, replicate}
 unfoldable pub over : List ℕ → List ℕ → List ℕ
 over new old = new ++ drop (length new) old
 
--- the sum of the counts
-unfoldable pub total : List ℕ → ℕ
-total [] = 0
-total (x ∷ xs) = x + total xs
-
 -- v more at place k, with zeros before it where the list is shorter
 unfoldable pub addAt : ℕ → ℕ → List ℕ → List ℕ
 addAt zero v [] = v ∷ []

@@ -2,7 +2,8 @@
 ghost use mathlib.Core.Path.{_≡_};
 ghost use Prim.Native.Nat.{ℕ, _+_, _-_, _*_, _/_, _^_, _<_, _≤_};
 ghost use lib.ListN.{length, take, getD};
-ghost use Rattle.rows.specs.Rows.{over, total, addAt, downscaled, recorded, recordedFrom, zeroed, shifted};
+ghost use Rattle.rows.specs.Rows.{over, addAt, downscaled, recorded, recordedFrom, zeroed, shifted};
+ghost use Rattle.laws.specs.Counting.{total};
 
 // A row: the bin of its first count, and how many counts it has.
 pub struct Row {

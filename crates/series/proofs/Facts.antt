@@ -15,7 +15,7 @@ use Rattle.points.specs.Points as P
 use Rattle.points.specs.Points.{Point}
 use Rattle.points.proofs.Rows.{Canonical}
 use Rattle.points.proofs.Neutral.{RowOk, Valid}
-use Rattle.rows.specs.Rows.{total}
+use Rattle.laws.specs.Counting.{total}
 use Rattle.rows.specs.declared.Row.{Row}
 use Rattle.rows.proofs.Algebra.{le-or-lt}
 use Rattle.series.specs.declared.Counts.{Counts}

@@ -14,7 +14,8 @@ use Rattle.points.specs.Points.{Point, Value, naught, plus, minus, one, _⊕_, 
 use Rattle.points.proofs.Neutral.{RowOk, Valid}
 use Rattle.points.proofs.Orders.{recordAll, recordAll-pointOf}
 use Rattle.points.proofs.More.{fresh}
-use Rattle.rows.specs.Rows.{over, total}
+use Rattle.rows.specs.Rows.{over}
+use Rattle.laws.specs.Counting.{total}
 use Rattle.rows.proofs.Laws.{length-over}
 use Rattle.floats.specs.Least.{leastFrom, greatestFrom, lesser, greater}
 use Rattle.floats.specs.Sums.{sumFrom}
@@ -109,7 +110,7 @@ unfolding ofBits
 fin-max = refl
 
 none-adds : (c : Counts) (xs ys : List ℕ) → c .count ≡ 0 → c .zeros ≡ 0 → c .pos .len ≡ 0 → c .neg .len ≡ 0 → addsUp c xs ys ≡ true
-unfolding addsUp total
+unfolding addsUp
 none-adds c xs ys a b p n = rw (a, b, p, n) refl
 
 fresh-agrees : (size top : ℕ) (xs ys : List ℕ) → 3 ≤ size → size ≤ 160 → top ≤ finest → agrees size top (freshHead top .counts) xs ys ≡ true

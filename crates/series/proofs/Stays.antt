@@ -20,7 +20,8 @@ use Rattle.points.proofs.Scale.{least-spec}
 use Rattle.points.proofs.Merge.{scale-ge}
 use Rattle.points.proofs.Neutral.{RowOk, Valid, Below, map-count, below-append, below-indices, build-valid}
 use Rattle.points.proofs.More.{many, Counted, counted-⊕, counted-build}
-use Rattle.rows.specs.Rows.{over, total}
+use Rattle.rows.specs.Rows.{over}
+use Rattle.laws.specs.Counting.{total}
 use Rattle.rows.specs.declared.Row.{Row}
 use Rattle.rows.proofs.Laws.{over-front, take-over}
 use Rattle.series.specs.declared.Counts.{Counts}
@@ -125,7 +126,6 @@ many-replicate zero s = refl
 many-replicate (suc c) s = omega (arith, many-replicate c s)
 
 many-expand : (s : ℕ) (cs : List ℕ) → many (expand s cs) ≡ total cs
-unfolding total
 many-expand s [] = refl
 many-expand s (c ∷ cs) = omega (arith, sum-append (λ _. 1) (replicate c s) (expand (suc s) cs), many-replicate c s, many-expand (suc s) cs)
 

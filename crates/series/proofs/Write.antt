@@ -11,7 +11,8 @@ use lib.Seq.{length-take-le}
 use lib.Pow.{pow-lt, pow-add, pow-pos, shl-shr}
 use Rattle.points.specs.Points as P
 use Rattle.points.specs.Points.{Point, naught, plus, minus}
-use Rattle.rows.specs.Rows.{total, over}
+use Rattle.rows.specs.Rows.{over}
+use Rattle.laws.specs.Counting.{total}
 use Rattle.rows.specs.declared.Row.{Row}
 use Rattle.rows.proofs.Adds.{over-self}
 use Rattle.series.specs.declared.Counts.{Counts}

@@ -9,7 +9,8 @@ use lib.Ieee.{Float, binary64, add, lt}
 use lib.Ieee.Scale.{finite}
 use Rattle.points.specs.Points as P
 use Rattle.points.specs.Points.{Point, Value, naught, plus, minus, record1}
-use Rattle.rows.specs.Rows.{over, total}
+use Rattle.rows.specs.Rows.{over}
+use Rattle.laws.specs.Counting.{total}
 use Rattle.rows.specs.declared.Row.{Row}
 use Rattle.series.specs.declared.Counts.{Counts}
 use Rattle.series.specs.declared.Head.{Head}

@@ -6,7 +6,8 @@ use denote.Ref.{now}
 use lib.ListN.{length, take, getD, replicate}
 use lib.Seq.{length-take-le}
 use Rattle.points.specs.Points as P
-use Rattle.rows.specs.Rows.{over, total, downscaled}
+use Rattle.rows.specs.Rows.{over, downscaled}
+use Rattle.laws.specs.Counting.{total}
 use Rattle.rows.proofs.Laws.{length-downscaled, total-downscaled}
 use Rattle.series.specs.Steps.{lowered}
 use Rattle.series.specs.Series.{Laid, rowIn}

@@ -4,7 +4,8 @@ use mathlib.Core.List.{List}
 use native.Mathlib.Omega.{arith}
 use denote.Ref.{now}
 use lib.ListN.{length, take, getD}
-use Rattle.rows.specs.Rows.{over, total, downscaled, recorded, recordedFrom}
+use Rattle.rows.specs.Rows.{over, downscaled, recorded, recordedFrom}
+use Rattle.laws.specs.Counting.{total}
 use Rattle.series.proofs.Rowed.{change-is, bins-empty, bins-some}
 use borrow.Author.Needs.{needs}
 use Rattle.series.proofs.needed.Statement.{statement}

@@ -1,4 +1,7 @@
 pub mod Magnitude
 pub mod DataModel
 pub mod Bins
+pub mod Frexp
 pub mod Answers
+pub mod Bounds
+pub mod Table

@@ -1,3 +1,6 @@
+pub mod Every
+pub mod Powers
+pub mod Differences
 pub mod Bools
 pub mod Same
 pub mod Lists

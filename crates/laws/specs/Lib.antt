@@ -1,4 +1,5 @@
 pub mod Pick
+pub mod NoneOf
 pub mod Lists
 pub mod Counting
 pub mod Search

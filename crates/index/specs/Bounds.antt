@@ -1,0 +1,13 @@
+-- The bounds of scale 10's buckets within a power of two, in units of 2 ^ -52. Assumes nothing.
+use Prim.Native.Nat.{ℕ, suc, _+_, _*_, _^_, _≤_, _<_}
+
+-- m is the largest whole number with m ^ 1024 <= 2 ^ (k + 53248): the bound 2 ^ (k / 1024), rounded down
+pub record BoundAt (k m : ℕ) : Type 0 where
+  pub reaches : m ^ 1024 ≤ 2 ^ (k + 53248)
+  pub next : 2 ^ (k + 53248) < suc m ^ 1024
+
+-- r is how many of the 1024 bounds lie below m, for an m from 2 ^ 52 up to 2 ^ 53
+pub record Ranked (m r : ℕ) : Type 0 where
+  pub small : r ≤ 1024
+  pub above : 2 ^ (r + 53247) < m ^ 1024
+  pub within : m ^ 1024 ≤ 2 ^ (r + 53248)

@@ -1,0 +1,81 @@
+-- Points of an explicit-bucket histogram: bounds, buckets, the point of a list, recording, merging, agreement. Assumes nothing.
+-- Document 01: "Explicit kind: the bucket is the number of bounds below the value. No bounds, no buckets. Infinite bounds are
+-- allowed."
+use Prim.Native.Nat.{ℕ, suc, _+_}
+use mathlib.Core.Bool.{Bool, true, false, not}
+use mathlib.Core.List.{List, [], _∷_, map}
+use lib.Dec.{leb, eqb}
+use lib.ListN.{length, getD, set}
+use lib.Ieee.{Float, lt, eq, isNan}
+use Rattle.laws.specs.Pick.{pick, _and_}
+use Rattle.laws.specs.Counting.{count, table, total}
+
+-- ---- bounds
+
+-- number 3: "over 159 bounds, a NaN, or not strictly rising" (as numbers: -0.0 then 0.0 does not rise)
+abbrev pub mostBounds : ℕ
+mostBounds = 159
+
+unfoldable pub noNan : List Float → Bool
+noNan [] = true
+noNan (b ∷ bs) = not (isNan b) and noNan bs
+
+unfoldable pub rising : List Float → Bool
+rising [] = true
+rising (b ∷ []) = true
+rising (b ∷ c ∷ bs) = lt b c and rising (c ∷ bs)
+
+unfoldable pub boundsPass : List Float → Bool
+boundsPass bs = leb (length bs) mostBounds and noNan bs and rising bs
+
+-- the same bounds as numbers
+unfoldable pub sameBounds : List Float → List Float → Bool
+sameBounds [] [] = true
+sameBounds [] (c ∷ cs) = false
+sameBounds (b ∷ bs) [] = false
+sameBounds (b ∷ bs) (c ∷ cs) = eq b c and sameBounds bs cs
+
+-- ---- buckets
+
+-- how many of the bounds lie below v
+unfoldable pub bucketOf : List Float → Float → ℕ
+bucketOf [] v = 0
+bucketOf (b ∷ bs) v = pick (lt b v) 1 0 + bucketOf bs v
+
+-- how many buckets
+abbrev pub bucketCount : List Float → ℕ
+bucketCount [] = 0
+bucketCount (b ∷ bs) = suc (length (b ∷ bs))
+
+pub record Buckets : Type 0 where
+  pub counts : List ℕ
+  pub total : ℕ
+
+-- the point of a list
+unfoldable pub bucketsOf : List Float → List Float → Buckets
+bucketsOf bounds vs =
+    record { counts = table (λ j. count j (map (bucketOf bounds) vs)) 0 (bucketCount bounds); total = length vs }
+
+-- one value recorded: one more in its bucket, if there are buckets
+unfoldable pub recordBucket : List Float → Buckets → Float → Buckets
+recordBucket bounds p v =
+    record {
+      counts = set (p .counts) (bucketOf bounds v) (getD (p .counts) (bucketOf bounds v) 0 + 1);
+      total = p .total + 1;
+    }
+
+-- two points merged: counts added place by place
+unfoldable pub added : List ℕ → List ℕ → List ℕ
+added [] ys = ys
+added (x ∷ xs) [] = x ∷ xs
+added (x ∷ xs) (y ∷ ys) = (x + y) ∷ added xs ys
+
+unfoldable pub mergeBuckets : Buckets → Buckets → Buckets
+mergeBuckets p q = record { counts = added (p .counts) (q .counts); total = p .total + q .total }
+
+-- "Explicit bounds pass number 3, and with bounds the counts total count"
+unfoldable pub bucketsAgree : List Float → Buckets → Bool
+bucketsAgree bounds p =
+    boundsPass bounds
+    and eqb (length (p .counts)) (bucketCount bounds)
+    and pick (eqb (bucketCount bounds) 0) true (eqb (total (p .counts)) (p .total))

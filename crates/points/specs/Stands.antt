@@ -1,0 +1,30 @@
+-- A point that stands for a list of values: it has what document 01 defines from them, a zero's sign in its extremes aside, and the
+-- exact sum where there is one. Assumes nothing.
+use mathlib.Core.Path.{_≡_}
+use mathlib.Core.Bool.{true}
+use mathlib.Core.List.{List}
+use lib.Ieee.{Float, eq}
+use Rattle.laws.specs.Pick.{pick}
+use Rattle.floats.specs.Answers.{shownOf}
+use Rattle.floats.specs.Grid.{grid, exactTotal, Gridded}
+use Rattle.floats.specs.Starts.{zeroFloat}
+use Rattle.floats.specs.declared.Extreme.{Extreme}
+use Rattle.floats.specs.declared.Extreme.the-variants.{None, Value}
+use Rattle.points.specs.Values.{summaryOf}
+use Rattle.points.specs.Handed.{Settings, Handed, kindCounts}
+
+-- neither is there, or both are and equal as numbers
+abbrev pub SameExtreme : Extreme → Extreme → Type 0
+SameExtreme None None = Unit {0}
+SameExtreme None (Value y) = ⊥
+SameExtreme (Value x) None = ⊥
+SameExtreme (Value x) (Value y) = eq x y ≡ true
+
+-- "The sum under demand 3's premise is the exact total (switched off: 0.0)": `grid z` is z / 1024
+pub record Stands (s : Settings) (p : Handed) (vs : List Float) : Type 0 where
+  pub counts : p .counts ≡ kindCounts (s .kind) (s .threshold) vs
+  pub extremes : p .extremes ≡ s .extremes
+  pub threshold : p .threshold ≡ s .threshold
+  pub min : SameExtreme (p .min) (shownOf (s .extremes) (summaryOf vs .min))
+  pub max : SameExtreme (p .max) (shownOf (s .extremes) (summaryOf vs .max))
+  pub sum : Gridded vs → p .sum ≡ pick (s .sums) (grid (exactTotal vs)) zeroFloat

@@ -11,22 +11,25 @@ use lib.Dec.{leb, eqb, eqb·suc-zero}
 use lib.ListN.{length, replicate, length-append}
 use lib.Pow.{shr-mono}
 use borrow.Author.Tests.{leb-true, le-leb}
-use Rattle.points.specs.Points as P
-use Rattle.points.specs.Points.{least, both, Row, at, rowOf, row, sum, hit, count, lowest, highest, table, indices, fits, fitsBoth, scale, Bag, _⊕_, bag, Point, pointAt, build, merge}
-use Rattle.points.proofs.Bag.{sum-append}
-use Rattle.points.proofs.Rows.{Canonical, rowOf-canonical, at-rowOf, length-table}
-use Rattle.points.proofs.Scale.{Least, least-spec}
-use Rattle.points.proofs.Bridge.{Ends, ends-of, ends-append, least-is}
-use Rattle.points.proofs.Neutral.{RowOk, Valid, Below, row-ok, row-indices, below-append, below-indices, both-left, both-right}
+use Rattle.laws.specs.Pick.{pick, _and_}
+use Rattle.laws.specs.Counting.{sum, hit, count, lowest, highest, table}
+use Rattle.laws.specs.Search.{least}
+use Rattle.laws.proofs.Bools.{and-left, and-right, and-intro}
+use Rattle.laws.proofs.Same.{sum-append}
+use Rattle.laws.proofs.Counting.{Ends, ends-of, ends-append, length-table}
+use Rattle.laws.proofs.Search.{Least, least-spec, least-is}
+use Rattle.points.specs.Points.{Row, at, rowOf, row, indices, fits, fitsBoth, scale, Bag, _⊕_, bag, Point, pointAt, build, merge}
+use Rattle.points.proofs.Rows.{Canonical, rowOf-canonical, at-rowOf}
+use Rattle.points.proofs.Agreement.{RowOk, Agreed, row-indices}
+use Rattle.points.proofs.Kept.{InRange, range-coarser, row-ok, BagIn, ⊕-in, bag-in}
 use Rattle.rows.specs.Rows as R
 use Rattle.rows.specs.Rows.{addAt, addAll, downscaled}
 use Rattle.rows.proofs.Laws.{length-addAt-in, length-addAt-out}
 use Rattle.rows.proofs.Algebra.{countAt, length-downscaled-is, le-or-lt}
 use Rattle.series.specs.Steps.{lowered, narrow, lowering}
-use Rattle.laws.specs.Pick.{pick}
 use Rattle.merges.specs.Merges.{joined, span, levelled, mergedLow, mergedSteps}
 use Rattle.series.proofs.Counted.{row-by-ends, at-is, countAt-addAt, countAt-zeros, length-replicate, lowered-rowOf}
-use Rattle.series.proofs.Joint.{map-shr, row-lower, fits-on, both-true}
+use Rattle.series.proofs.Joint.{map-shr, row-lower, fits-on}
 
 -- ---- counts added by bin
 
@@ -185,48 +188,47 @@ module _ (d e f : ℕ) (a b : Row) (h : e ≤ d) (g : f ≤ d) (ca : Canonical a
   pub rows-join : joined (lowered (d - e) a) (lowered (d - f) b) ≡ row d (indices e a ++ indices f b)
   rows-join = rw (row-level d e a h ca, row-level d f b g cb) (row-join d (indices e a) (indices f b))
 
-fits-20 : (size d : ℕ) (xs : List ℕ) → d ≤ finest → 3 ≤ size → Below (endBin finest) xs → fits size (d + (finest - d)) xs ≡ true
+fits-last : (size low d : ℕ) (xs : List ℕ) → d ≤ finest → 3 ≤ size → InRange low d xs → fits size (d + (finest - d)) xs ≡ true
 unfolding fits
-fits-20 size d xs h s b =
+fits-last size low d xs h s b =
     let e : d + (finest - d) ≡ finest = omega arith in
-    rw e (le-leb (length (row finest xs .counts)) size (row-ok size finest xs (omega arith) s b (inr refl) .short))
+    rw e (le-leb (length (row finest xs .counts)) size (row-ok size low finest xs (omega arith) s (range-coarser low d finest xs h (omega arith) b) (inr refl) .short))
 
 fits-later : (size d j k : ℕ) (xs : List ℕ) → j ≤ k → fits size (d + j) xs ≡ true → fits size (d + k) xs ≡ true
 fits-later size d j k xs h f = let e : d + j + (k - j) ≡ d + k = omega arith in rw e at (fits-on size (d + j) xs (k - j) f)
 
-scale-two : (size d : ℕ) (b : Bag) → d ≤ finest → 3 ≤ size → Below (endBin finest) (b .pos) → Below (endBin finest) (b .neg)
+scale-two : (size low d : ℕ) (b : Bag) → d ≤ finest → 3 ≤ size → InRange low d (b .pos) → InRange low d (b .neg)
     → d + max (span size (row d (b .pos))) (span size (row d (b .neg))) ≡ scale size d b
 unfolding scale fitsBoth
-scale-two size d b h s bp bn =
+scale-two size low d b h s bp bn =
     let j = span size (row d (b .pos)) in
     let l = span size (row d (b .neg)) in
     let k = max j l in
-    let p = span-least size d (finest - d) (b .pos) (omega arith) (omega arith) (fits-20 size d (b .pos) h s bp) in
-    let n = span-least size d (finest - d) (b .neg) (omega arith) (omega arith) (fits-20 size d (b .neg) h s bn) in
+    let p = span-least size d (finest - d) (b .pos) (omega arith) (omega arith) (fits-last size low d (b .pos) h s bp) in
+    let n = span-least size d (finest - d) (b .neg) (omega arith) (omega arith) (fits-last size low d (b .neg) h s bn) in
     least-is (fitsBoth size b) d (finest - d) (d + k)
     (record {
       ge = omega arith;
       le = omega (arith, p .0, n .0);
-      stop = inl (both-true (fits size (d + k) (b .pos)) (fits size (d + k) (b .neg)) (fits-later size d j k (b .pos) (omega arith) (p .1)) (fits-later size d l k (b .neg) (omega arith) (n .1)));
+      stop = inl (and-intro (fits size (d + k) (b .pos)) (fits size (d + k) (b .neg)) (fits-later size d j k (b .pos) (omega arith) (p .1)) (fits-later size d l k (b .neg) (omega arith) (n .1)));
       first = λ m g q.
           let e : d + (m - d) ≡ m = omega arith in
-          let fp : fits size (d + (m - d)) (b .pos) ≡ true = rw e (both-left (fits size m (b .pos)) (fits size m (b .neg)) q) in
-          let fn : fits size (d + (m - d)) (b .neg) ≡ true = rw e (both-right (fits size m (b .pos)) (fits size m (b .neg)) q) in
+          let fp : fits size (d + (m - d)) (b .pos) ≡ true = rw e (and-left (fits size m (b .pos)) (fits size m (b .neg)) q) in
+          let fn : fits size (d + (m - d)) (b .neg) ≡ true = rw e (and-right (fits size m (b .pos)) (fits size m (b .neg)) q) in
           least-max d m j l g (span-first size d (m - d) (b .pos) (omega arith) fp) (span-first size d (m - d) (b .neg) (omega arith) fn);
     })
   where
     least-max : (d m j l : ℕ) → d ≤ m → j ≤ m - d → l ≤ m - d → d + max j l ≤ m
     least-max d m j l g a b = omega arith
 
--- what two points stand for lies below the last bin
-below-both : (size : ℕ) (p q : Point) (r t : Row) → p .d ≤ finest → q .d ≤ finest → RowOk size (p .d) r → RowOk size (q .d) t
-    → Below (endBin finest) (indices (p .d) r ++ indices (q .d) t)
-below-both size p q r t h g v w =
-    below-append (endBin finest) (indices (p .d) r) (indices (q .d) t) (below-indices size (p .d) r h v) (below-indices size (q .d) t g w)
-
-module _ (size : ℕ) (p q : Point) (s : 3 ≤ size) (v : Valid size p) (w : Valid size q) where
+module _ (size top low : ℕ) (p q : Point) (s : 3 ≤ size) (v : Agreed size top low p) (w : Agreed size top low q) where
   abbrev both-bags : Bag
   both-bags = bag p ⊕ bag q
+
+  in-both : BagIn low (max (p .d) (q .d)) both-bags
+  in-both =
+      let d = max (p .d) (q .d) in
+      ⊕-in low d (bag p) (bag q) (bag-in size top low d p (omega arith) (omega (arith, v .coarse, w .coarse)) v) (bag-in size top low d q (omega arith) (omega (arith, v .coarse, w .coarse)) w)
 
   -- the level that the steps find is that of the definition
   pub level-is : max (p .d) (q .d) + mergedLow size p q ≡ scale size (max (p .d) (q .d)) both-bags
@@ -236,9 +238,7 @@ module _ (size : ℕ) (p q : Point) (s : 3 ≤ size) (v : Valid size p) (w : Val
       ap (λ n. d + n)
       (λ j. max (span size (rows-join d (p .d) (q .d) (p .pos) (q .pos) (omega arith) (omega arith) (v .pos .canonical) (w .pos .canonical) j))
       (span size (rows-join d (p .d) (q .d) (p .neg) (q .neg) (omega arith) (omega arith) (v .neg .canonical) (w .neg .canonical) j)))
-      ∙ scale-two size d (bag p ⊕ bag q) (omega (arith, v .coarse, w .coarse)) s
-      (below-both size p q (p .pos) (q .pos) (v .coarse) (w .coarse) (v .pos) (w .pos))
-      (below-both size p q (p .neg) (q .neg) (v .coarse) (w .coarse) (v .neg) (w .neg))
+      ∙ scale-two size low d (bag p ⊕ bag q) (omega (arith, v .coarse, w .coarse)) s (in-both .pos) (in-both .neg)
 
   -- and no level is below the coarsest
   pub level-le : max (p .d) (q .d) + mergedLow size p q ≤ finest

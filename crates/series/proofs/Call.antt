@@ -18,11 +18,15 @@ use Rattle.series.specs.declared.Answer.the-variants.{Recorded, Refused}
 use Rattle.index.specs.Answers.{binOf}
 use Rattle.series.specs.declared.Class.{Class}
 use Rattle.series.specs.Steps.{coarse, placed}
-use Rattle.series.specs.Series.{agrees, read, countsOf, classAt, valueOf, classOf, Written, Ready, refusalOf, Outcome, outcome, headOf, accepted, recording}
+use Rattle.series.specs.Series.{mostCount, agrees, read, countsFor, classAt, valueOf, Written, Ready, refusalOf, Outcome, outcome, headOf, accepted, recording}
 use Rattle.laws.specs.Pick.{pick, _and_}
-use Rattle.series.proofs.Joint.{Known, placed-is}
-use Rattle.series.proofs.Classes.{class-is, Ranged, ranged-of, within-of}
-use Rattle.series.proofs.Facts.{no-both, first-of, second-of, agreed, valid}
+use Rattle.laws.proofs.Bools.{and-left, and-right}
+use Rattle.floats.specs.Answers.{lesserOf, greaterOf}
+use Rattle.floats.specs.Starts.{zeroFloat}
+use Rattle.points.specs.Values.{classOf}
+use Rattle.series.proofs.Joint.{placed-is}
+use Rattle.series.proofs.Classes.{class-is, ranged-of, within-of}
+use Rattle.series.proofs.Facts.{agreed, level-in}
 
 module _ (size top : ℕ) (h : Head) (xs ys : List ℕ) (v : Float) where
   pub short-pos : length xs < size → refusalOf size top h xs ys v ≡ 12
@@ -52,17 +56,17 @@ module _ (size top : ℕ) (h : Head) (xs ys : List ℕ) (v : Float) where
         unfolding refusalOf _and_ pick
         bad-max m n = rw (le-leb size (length xs) p, le-leb size (length ys) q, f, a, m, n)
 
-        pub by-count : finite (h .min) ≡ true → finite (h .max) ≡ true → refusalOf size top h xs ys v ≡ pick (eqb (h .counts .count) 18446744073709551615) 9 0
+        pub by-count : finite (h .min) ≡ true → finite (h .max) ≡ true → refusalOf size top h xs ys v ≡ pick (eqb (h .counts .count) mostCount) 9 0
         unfolding refusalOf _and_ pick
         by-count m n = rw (le-leb size (length xs) p, le-leb size (length ys) q, f, a, m, n)
 
-        pub full : finite (h .min) ≡ true → finite (h .max) ≡ true → h .counts .count ≡ 18446744073709551615 → refusalOf size top h xs ys v ≡ 9
+        pub full : finite (h .min) ≡ true → finite (h .max) ≡ true → h .counts .count ≡ mostCount → refusalOf size top h xs ys v ≡ 9
         unfolding pick
-        full m n e = by-count m n ∙ rw (eq-eqb (h .counts .count) 18446744073709551615 e)
+        full m n e = by-count m n ∙ rw (eq-eqb (h .counts .count) mostCount e)
 
-        pub none : finite (h .min) ≡ true → finite (h .max) ≡ true → (h .counts .count ≡ 18446744073709551615 → ⊥) → refusalOf size top h xs ys v ≡ 0
+        pub none : finite (h .min) ≡ true → finite (h .max) ≡ true → (h .counts .count ≡ mostCount → ⊥) → refusalOf size top h xs ys v ≡ 0
         unfolding pick
-        none m n e = by-count m n ∙ rw (ne-eqb (h .counts .count) 18446744073709551615 e)
+        none m n e = by-count m n ∙ rw (ne-eqb (h .counts .count) mostCount e)
 
 -- ---- where nothing is refused
 
@@ -90,27 +94,22 @@ ready size top h xs ys v e m g =
     let e₂ = pick-then _ _ 6 (omega arith) e₁ in
     let a = pick-left _ _ 8 (omega arith) e₂ in
     let e₃ = pick-then _ _ 8 (omega arith) e₂ in
-    let n = eqb-false (h .counts .count) 18446744073709551615 (pick-right _ 9 (omega arith) e₃) in
-    let t = agreed size top (h .counts) xs ys (first-of _ _ a) in
+    let n = eqb-false (h .counts .count) mostCount (pick-right _ 9 (omega arith) e₃) in
+    let t = agreed size top (h .counts) xs ys (and-left _ _ a) in
     record {
-      agree = first-of _ _ a;
-      pos = leb-true size (length xs) (first-of _ _ s);
-      neg = leb-true size (length ys) (second-of _ _ s);
+      agree = and-left _ _ a;
+      pos = leb-true size (length xs) (and-left _ _ s);
+      neg = leb-true size (length ys) (and-right _ _ s);
       count = below (h .counts .count) m n;
-      known = within-of v (h .counts .level) (omega (arith, t .level, t .greatest)) g (pick-left _ _ 6 (omega arith) e₁);
+      known = within-of v (h .counts .level) (level-in size top (h .counts) xs ys t) g (pick-left _ _ 6 (omega arith) e₁);
     }
   where
-    below : (c : ℕ) → c < 2 ^ 64 → (c ≡ 18446744073709551615 → ⊥) → c < 18446744073709551615
+    below : (c : ℕ) → c < 2 ^ 64 → (c ≡ mostCount → ⊥) → c < mostCount
     below c p q = omega (arith, q)
 
 pub finite-of : (size top : ℕ) (h : Head) (xs ys : List ℕ) (v : Float) → refusalOf size top h xs ys v ≡ 0 → finite v ≡ true
 unfolding refusalOf
 finite-of size top h xs ys v e = pick-left _ _ 6 (omega arith) (pick-then _ _ 12 (omega arith) e)
-
-known-of : (v : Value) → Ranged v → Known v
-known-of naught r = tt
-known-of (plus i) r = r .1
-known-of (minus i) r = r .1
 
 pub refused-law : (size top : ℕ) (h : Head) (xs ys : List ℕ) (v : Float) (n : ℕ) → n ≡ refusalOf size top h xs ys v → (n ≡ 0 → ⊥)
     → outcome (Refused n) xs ys ≡ recording size top h xs ys v
@@ -119,16 +118,16 @@ refused-law size top h xs ys v n e z = rw (← e, ne-eqb n 0 z)
 
 -- the point that the definition says
 pub written-is : (size top : ℕ) (c : Counts) (xs ys : List ℕ) (v : Float) → agrees size top c xs ys ≡ true → fits binary64 v ≡ true → finite v ≡ true
-    → placed size (read c xs ys) (valueOf (classAt (binOf v (c .level)))) ≡ record1 size (read c xs ys) (classOf v)
+    → placed size (read c xs ys) (valueOf (classAt (binOf v (c .level)))) ≡ record1 size (read c xs ys) (classOf zeroFloat v)
 written-is size top c xs ys v r g f =
     let a = agreed size top c xs ys r in
-    ap (placed size (read c xs ys)) (class-is v (c .level) (omega (arith, a .level, a .greatest)) f)
-    ∙ placed-is size (read c xs ys) (classOf v) (a .least) (valid size top c xs ys a) (known-of (classOf v) (ranged-of v g f))
+    ap (placed size (read c xs ys)) (class-is v (c .level) (level-in size top c xs ys a) f)
+    ∙ placed-is size (read c xs ys) (classOf zeroFloat v) (a .least) (a .point) (ranged-of v g f)
 
 pub accepted-law : (size top : ℕ) (h : Head) (xs ys : List ℕ) (v : Float) (k : Class) (c : Counts) (mn mx : Float) (xs' ys' : List ℕ)
     → refusalOf size top h xs ys v ≡ 0 → agrees size top (h .counts) xs ys ≡ true → fits binary64 v ≡ true → k ≡ classAt (binOf v (h .counts .level))
     → Written (placed size (read (h .counts) xs ys) (valueOf k)) xs ys c xs' ys'
-    → mn ≡ cond (lt v (h .min)) v (h .min) → mx ≡ cond (lt (h .max) v) v (h .max)
+    → mn ≡ lesserOf (h .min) v → mx ≡ greaterOf (h .max) v
     → outcome (Recorded (record { counts = c; min = mn; max = mx; sum = add binary64 (h .sum) v })) xs' ys' ≡ recording size top h xs ys v
 unfolding recording pick
 accepted-law size top h xs ys v k c mn mx xs' ys' e r g q w a b =

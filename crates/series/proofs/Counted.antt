@@ -11,11 +11,12 @@ use lib.Dec.{leb, eqb, eqb·suc-zero}
 use lib.ListN.{length, getD, replicate, length-append}
 use lib.Seq.{ext-getD}
 use lib.Pow.{shr-shr, shr-mono}
-use Rattle.points.specs.Points as P
-use Rattle.points.specs.Points.{Row, at, rowOf, row, sum, hit, count, lowest, highest, table, expand}
-use Rattle.points.proofs.Bag.{sum-append, sum-map, hit-same, hit-other}
-use Rattle.points.proofs.Rows.{at-in, at-rowOf, row-path, count-expand, expand-rowOf, length-table}
-use Rattle.points.proofs.Bridge.{Ends, ends-row, ends-map, ends-append, ends-of, bucket, sum-expand, sum-replicate}
+use Rattle.laws.specs.Counting.{sum, hit, count, lowest, highest, table}
+use Rattle.laws.proofs.Same.{sum-append, sum-map}
+use Rattle.laws.proofs.Counting.{Ends, ends-map, ends-append, ends-of, length-table}
+use Rattle.points.specs.Points.{Row, at, rowOf, row, expand}
+use Rattle.points.proofs.Rows.{at-in, at-rowOf, row-path, count-expand, expand-rowOf}
+use Rattle.points.proofs.Ends.{ends-row, bucket, sum-expand, sum-replicate}
 use Rattle.laws.specs.Pick.{pick}
 use Rattle.rows.specs.Rows.{addAt, downscaled, recorded, recordedFrom}
 use Rattle.rows.proofs.Laws.{length-addAt-in, length-addAt-out}
@@ -32,15 +33,10 @@ row-by-ends r lo hi xs e s l h =
     (ext-getD 0 (r .counts) (q .counts) (l ∙ sym (t .1))
     (λ i b. sym (at-in r i) ∙ ap (λ n. at r (n + i)) (s ∙ sym (t .0)) ∙ h (q .start + i) ∙ sym (at-rowOf xs (q .start + i)) ∙ at-in q i))
 
-pick-same : (b : Bool) (x y : ℕ) → pick b x y ≡ P.pick b x y
-unfolding pick
-pick-same true x y = refl
-pick-same false x y = refl
-
 counts-bucket : (k s : ℕ) (cs : List ℕ) (j : ℕ) → countsOf k s cs j ≡ bucket k s cs j
 unfolding countsOf
 counts-bucket k s [] j = refl
-counts-bucket k s (c ∷ cs) j = omega (arith, pick-same (eqb (s / 2 ^ k) j) c 0, counts-bucket k (suc s) cs j)
+counts-bucket k s (c ∷ cs) j = omega (arith, counts-bucket k (suc s) cs j)
 
 count-at-expand : (j s : ℕ) (cs : List ℕ) → count j (expand s cs) ≡ countAt s cs j
 unfolding hit countAt
@@ -50,7 +46,6 @@ count-at-expand j s (c ∷ cs) =
       arith,
       sum-append (hit j) (replicate c s) (expand (suc s) cs),
       sum-replicate (eqb s j) (hit j) c s refl,
-      pick-same (eqb s j) c 0,
       count-at-expand j (suc s) cs,
     )
 
@@ -114,13 +109,13 @@ countAt-zeros s (suc k) xs j =
 
 countAt-recorded : (s : ℕ) (xs : List ℕ) (i j : ℕ) → countAt (recordedFrom s xs i) (recorded s xs i) j ≡ countAt s xs j + hit j i
 unfolding countAt recorded recordedFrom hit
-countAt-recorded s [] i j = omega (arith, pick-same (eqb i j) 1 0)
+countAt-recorded s [] i j = omega arith
 countAt-recorded s (x ∷ xs) i j =
     let e₁ : min s i + (i - s) ≡ i = omega arith in
     let e₂ : min s i + (s - i) ≡ s = omega arith in
     countAt-addAt (min s i) (i - s) 1 (replicate (s - i) 0 ++ x ∷ xs) j
     ∙ ap (λ n. n + pick (eqb (min s i + (i - s)) j) 1 0) (countAt-zeros (min s i) (s - i) (x ∷ xs) j)
-    ∙ rw (e₁, e₂) (ap (λ n. countAt s (x ∷ xs) j + n) (pick-same (eqb i j) 1 0))
+    ∙ rw (e₁, e₂) refl
 
 pub length-replicate : (k : ℕ) → length (replicate {A = ℕ} k 0) ≡ k
 length-replicate zero = refl

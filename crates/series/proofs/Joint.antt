@@ -11,12 +11,16 @@ use lib.Dec.{leb, eqb}
 use lib.ListN.{length}
 use lib.Pow.{shr-shr, shr-mono, pow-pos, pow-add}
 use borrow.Author.Tests.{leb-true, le-leb, lt-leb}
-use Rattle.laws.specs.Pick.{pick}
-use Rattle.points.specs.Points.{least, both, Row, at, rowOf, row, indices, fits, fitsBoth, scale, Bag, _⊕_, one, bag, Point, pointAt, build, record1, Value, naught, plus, minus, count}
-use Rattle.points.proofs.Rows.{Canonical, row-path}
-use Rattle.points.proofs.Scale.{Least, least-spec}
-use Rattle.points.proofs.Bridge.{Ends, ends-row, ends-map, least-is, fits-coarser}
-use Rattle.points.proofs.Neutral.{RowOk, Valid, row-indices, fits-valid, both-left, both-right, Below}
+use Rattle.laws.specs.Pick.{pick, _and_}
+use Rattle.laws.specs.Search.{least}
+use Rattle.laws.proofs.Bools.{and-left, and-right, and-intro}
+use Rattle.laws.proofs.Counting.{Ends, ends-map}
+use Rattle.laws.proofs.Search.{Least, least-spec, least-is}
+use Rattle.points.specs.Points.{Row, rowOf, row, indices, fits, fitsBoth, scale, Bag, _⊕_, one, bag, Point, pointAt, build, record1, Value, naught, plus, minus}
+use Rattle.points.proofs.Rows.{Canonical}
+use Rattle.points.proofs.Ends.{ends-row, fits-coarser}
+use Rattle.points.proofs.Agreement.{RowOk, Agreed, row-indices, fits-valid}
+use Rattle.points.proofs.Kept.{ValueIn}
 use Rattle.series.specs.Steps.{lowered, with1, lowBin, highBin, narrow, lowering, needed, coarse, placed}
 use Rattle.series.proofs.Counted.{lowered-rowOf, with1-rowOf, lowered-with1, ends-with1}
 
@@ -64,7 +68,7 @@ module _ (size d i : ℕ) (r : Row) (c : Canonical r) where
       (ap (λ n. leb n size) (ends-row (lo / 2 ^ k) (hi / 2 ^ k) (map (λ i. i / 2 ^ k) (map f xs)) (ends-map (λ i. i / 2 ^ k) (λ a b. shr-mono k) lo hi (map f xs) (ends-one d i r c)) .1))
 
   -- at level 0 all fits
-  module _ (s : 3 ≤ size) (h : d ≤ finest) (top : i < endBin finest) (ok : RowOk size d r) where
+  module _ {low : ℕ} (s : 3 ≤ size) (h : d ≤ finest) (top : i < endBin finest) (ok : RowOk size low (endBin (finest - d)) r) where
     third : (x : ℕ) → x < endBin (finest - d) → x / 2 ^ (finest - d) < 3
     third x g = div-lt-iff-lt-mul (pow-pos (finest - d)) .1 g
 
@@ -81,7 +85,7 @@ module _ (size d i : ℕ) (r : Row) (c : Canonical r) where
         go : (n : ℕ) → length (r .counts) ≡ n → (b : Bool) → pick b (i / 2 ^ d) (max (r .start + pred (length (r .counts))) (i / 2 ^ d)) < endBin (finest - d)
         go n e true = bin-top
         go zero e false = omega (arith, bin-top, c .empty e)
-        go (suc n) e false = omega (arith, bin-top, ok .range)
+        go (suc n) e false = omega (arith, bin-top, ok .below)
 
     all-fits : narrow size lo hi (finest - d) ≡ true
     unfolding narrow
@@ -103,7 +107,7 @@ fits-on size d xs zero h = rw (add-zero d) h
 fits-on size d xs (suc k) h = let e : d + suc k ≡ suc (d + k) = omega arith in rw e (fits-coarser size (d + k) xs (fits-on size d xs k h))
 
 -- the level that a search finds: r is the row recorded into, p the test of both rows
-scale-one : (size d i : ℕ) (r : Row) (p : ℕ → Bool) → Canonical r → 3 ≤ size → d ≤ finest → i < endBin finest → RowOk size d r
+scale-one : (size d i : ℕ) (r : Row) (p : ℕ → Bool) {low : ℕ} → Canonical r → 3 ≤ size → d ≤ finest → i < endBin finest → RowOk size low (endBin (finest - d)) r
     → ((k : ℕ) → fits size (d + k) (indices d r ++ i ∷ []) ≡ true → p (d + k) ≡ true)
     → ((e : ℕ) → p e ≡ true → fits size e (indices d r ++ i ∷ []) ≡ true)
     → d + needed size r (i / 2 ^ d) ≡ least p d (finest - d)
@@ -121,26 +125,17 @@ scale-one size d i r p c s h t ok to fro =
           omega (arith, l .first (m - d) (omega arith) (sym (fits-one size d i r c (m - d)) ∙ f));
     })
 
--- a value of the finest level
-abbrev pub Known : Value → Type 0
-Known naught = Unit {0}
-Known (plus i) = i < endBin finest
-Known (minus i) = i < endBin finest
-
-pub both-true : (a b : Bool) → a ≡ true → b ≡ true → both a b ≡ true
-both-true a b p q = rw p q
-
 row-same : (d k : ℕ) (r : Row) → Canonical r → lowered k r ≡ row (d + k) (indices d r ++ [])
 row-same d k r c = ap (lowered k) (sym (row-indices d r c)) ∙ sym (row-lower d k (indices d r)) ∙ ap (row (d + k)) (sym (append-nil (indices d r)))
 
 row-more : (d k i : ℕ) (r : Row) → Canonical r → with1 (lowered k r) (i / 2 ^ d / 2 ^ k) ≡ row (d + k) (indices d r ++ i ∷ [])
 row-more d k i r c = sym (lowered-with1 k r (i / 2 ^ d)) ∙ ap (lowered k) (sym (row-one d i r c)) ∙ sym (row-lower d k (indices d r ++ i ∷ []))
 
-other-fits : (size d : ℕ) (r : Row) (k : ℕ) → RowOk size d r → fits size (d + k) (indices d r ++ []) ≡ true
+other-fits : (size d : ℕ) (r : Row) (k : ℕ) {low end : ℕ} → RowOk size low end r → fits size (d + k) (indices d r ++ []) ≡ true
 other-fits size d r k ok = rw (append-nil (indices d r)) (fits-on size d (indices d r) k (fits-valid size d r (ok .canonical) (ok .short)))
 
 -- the row with one more is no longer than size
-pub room-one : (size d i : ℕ) (r : Row) → 3 ≤ size → d ≤ finest → i < endBin finest → RowOk size d r
+pub room-one : (size d i : ℕ) (r : Row) {low : ℕ} → 3 ≤ size → d ≤ finest → i < endBin finest → RowOk size low (endBin (finest - d)) r
     → length (with1 (lowered (needed size r (i / 2 ^ d)) r) (i / 2 ^ d / 2 ^ needed size r (i / 2 ^ d)) .counts) ≤ size
 unfolding fits
 room-one size d i r s h t ok =
@@ -150,12 +145,12 @@ room-one size d i r s h t ok =
     (ap (λ q. leb (length (q .counts)) size) (row-more d k i r c) ∙ fits-one size d i r c k ∙ enough size d i r c s h t ok)
 
 -- THE JOINT
-pub placed-is : (size : ℕ) (p : Point) (v : Value) → 3 ≤ size → Valid size p → Known v → placed size p (coarse (p .d) v) ≡ record1 size p v
+pub placed-is : (size : ℕ) (p : Point) (v : Value) {top low : ℕ} → 3 ≤ size → Agreed size top low p → ValueIn low v → placed size p (coarse (p .d) v) ≡ record1 size p v
 unfolding placed record1 build scale bag fitsBoth
 placed-is size p naught s ok t =
     let d = p .d in
     let q = fitsBoth size (bag p ⊕ one naught) in
-    let f : fitsBoth size (bag p ⊕ one naught) d ≡ true = subst (λ e. fitsBoth size (bag p ⊕ one naught) e ≡ true) (add-zero d) (both-true _ _ (other-fits size d (p .pos) 0 (ok .pos)) (other-fits size d (p .neg) 0 (ok .neg))) in
+    let f : fitsBoth size (bag p ⊕ one naught) d ≡ true = subst (λ e. fitsBoth size (bag p ⊕ one naught) e ≡ true) (add-zero d) (and-intro _ _ (other-fits size d (p .pos) 0 (ok .pos)) (other-fits size d (p .neg) 0 (ok .neg))) in
     let e : d ≡ least q d (finest - d) = least-is q d (finest - d) d (record { ge = omega arith; le = omega arith; stop = inl f; first = λ m g _. g }) in
     (λ j. record {
       d = d;
@@ -170,9 +165,9 @@ placed-is size p (plus i) s ok t =
     let k = needed size (p .pos) (i / 2 ^ d) in
     let b = bag p ⊕ one (plus i) in
     let e : d + k ≡ least (fitsBoth size b) d (finest - d) =
-    scale-one size d i (p .pos) (fitsBoth size b) (ok .pos .canonical) s (ok .coarse) t (ok .pos)
-    (λ k h. both-true (fits size (d + k) (b .pos)) (fits size (d + k) (b .neg)) h (other-fits size d (p .neg) k (ok .neg)))
-    (λ e h. both-left (fits size e (b .pos)) (fits size e (b .neg)) h) in
+    scale-one size d i (p .pos) (fitsBoth size b) (ok .pos .canonical) s (ok .coarse) (t .1) (ok .pos)
+    (λ k h. and-intro (fits size (d + k) (b .pos)) (fits size (d + k) (b .neg)) h (other-fits size d (p .neg) k (ok .neg)))
+    (λ e h. and-left (fits size e (b .pos)) (fits size e (b .neg)) h) in
     (λ j. record {
       d = d + k;
       pos = row-more d k i (p .pos) (ok .pos .canonical) j;
@@ -186,9 +181,9 @@ placed-is size p (minus i) s ok t =
     let k = needed size (p .neg) (i / 2 ^ d) in
     let b = bag p ⊕ one (minus i) in
     let e : d + k ≡ least (fitsBoth size b) d (finest - d) =
-    scale-one size d i (p .neg) (fitsBoth size b) (ok .neg .canonical) s (ok .coarse) t (ok .neg)
-    (λ k h. both-true (fits size (d + k) (b .pos)) (fits size (d + k) (b .neg)) (other-fits size d (p .pos) k (ok .pos)) h)
-    (λ e h. both-right (fits size e (b .pos)) (fits size e (b .neg)) h) in
+    scale-one size d i (p .neg) (fitsBoth size b) (ok .neg .canonical) s (ok .coarse) (t .1) (ok .neg)
+    (λ k h. and-intro (fits size (d + k) (b .pos)) (fits size (d + k) (b .neg)) (other-fits size d (p .pos) k (ok .pos)) h)
+    (λ e h. and-right (fits size e (b .pos)) (fits size e (b .neg)) h) in
     (λ j. record {
       d = d + k;
       pos = row-same d k (p .pos) (ok .pos .canonical) j;

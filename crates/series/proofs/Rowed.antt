@@ -5,24 +5,23 @@ use mathlib.Core.Path.{_≡_, refl, ap, sym, subst, _∙_}
 use mathlib.Core.Logic.{⊎-elim, _⊎_, inl, inr}
 use mathlib.Core.Bool.{Bool, true, false, not}
 use mathlib.Core.List.{List, [], _∷_, _++_}
-use native.Mathlib.Nat.{div-one, lt-of-not-le}
-use native.Mathlib.Decide.{decLe}
+use native.Mathlib.Nat.{div-one, eq-zero-or-pos}
 use native.Mathlib.Omega.{arith}
 use lib.Dec.{leb, eqb}
 use lib.ListN.{length, take, getD}
-use lib.Seq.{length-take-le}
+use lib.Seq.{length-take-le, getD-take}
 use borrow.Author.Tests.{leb-true, le-leb, lt-leb, eq-eqb, ne-eqb}
-use Rattle.points.specs.Points as P
-use Rattle.points.specs.Points.{least}
-use Rattle.points.proofs.Scale.{Least}
-use Rattle.points.proofs.Bridge.{least-is}
+use Rattle.laws.proofs.Bools.{flag, not-both, and-left, and-right, and-intro}
+use Rattle.laws.proofs.Search.{least-is}
+use Rattle.points.specs.Agreement as A
+use Rattle.points.proofs.Agreement.{RowOk, row-says, row-agrees}
 use Rattle.rows.specs.Rows.{over, downscaled, onto}
 use Rattle.rows.specs.declared.Row.{Row}
 use Rattle.rows.proofs.Adds.{over-self}
 use Rattle.rows.proofs.Algebra.{le-or-lt}
 use Rattle.series.specs.Steps.{lowered, with1, lowBin, highBin, narrow, lowering}
 use Rattle.series.specs.Series.{rowIn, Laid, rowAgrees}
-use Rattle.laws.specs.Pick.{pick}
+use Rattle.laws.specs.Pick.{pick, _and_}
 
 -- ---- the change of level
 
@@ -69,39 +68,87 @@ laid-same r xs k e h =
       now = sym (ap (λ l. over l xs) (downscaled-zero (r .start) (take (r .len) xs)) ∙ over-self (r .len) xs h);
     })
 
--- ---- agreement of a row, case by case
+-- ---- agreement of a row
+
+-- what it says
+pub record RowFacts (size level : ℕ) (r : Row) (xs : List ℕ) : Type 0 where
+  pub there : r .len ≤ length xs
+  pub ok : RowOk size (lowestBin level) (endBin level) (rowIn r xs)
 
 module _ (size level : ℕ) (r : Row) (xs : List ℕ) where
-  pub empty-row : r .len ≡ 0 → rowAgrees size level r xs ≡ eqb (r .start) 0
-  unfolding rowAgrees pick
-  empty-row e = simp (eq-eqb (r .len) 0 e) refl
+  abbrev there? : Bool
+  there? = leb (r .len) (length xs)
 
-  pub long-row : 0 < r .len → size < r .len → rowAgrees size level r xs ≡ false
-  unfolding rowAgrees pick
-  long-row a b = simp (ne-eqb (r .len) 0 (omega arith), lt-leb (r .len) size b) refl
+  abbrev fine? : Bool
+  fine? = A.rowAgrees size (lowestBin level) (endBin level) (rowIn r xs)
 
-  pub short-slice : 0 < r .len → r .len ≤ size → length xs < r .len → rowAgrees size level r xs ≡ false
-  unfolding rowAgrees pick
-  short-slice a b l = simp (ne-eqb (r .len) 0 (omega arith), le-leb (r .len) size b, lt-leb (r .len) (length xs) l) refl
+  pub row-facts : rowAgrees size level r xs ≡ true → RowFacts size level r xs
+  row-facts h =
+      record {
+        there = leb-true (r .len) (length xs) (and-left there? fine? h);
+        ok = row-says size (lowestBin level) (endBin level) (rowIn r xs) (and-right there? fine? h);
+      }
 
-  module _ (a : 0 < r .len) (b : r .len ≤ size) (l : r .len ≤ length xs) where
-    pub low-row : r .start < lowestBin level → rowAgrees size level r xs ≡ false
-    unfolding rowAgrees pick
-    low-row d = simp (ne-eqb (r .len) 0 (omega arith), le-leb (r .len) size b, le-leb (r .len) (length xs) l, lt-leb (lowestBin level) (r .start) d) refl
+  pub facts-row : RowFacts size level r xs → rowAgrees size level r xs ≡ true
+  facts-row f =
+      and-intro there? fine? (le-leb (r .len) (length xs) (f .there)) (row-agrees size (lowestBin level) (endBin level) (rowIn r xs) (f .ok))
 
-    module _ (d : lowestBin level ≤ r .start) where
-      pub high-row : endBin level < r .start + r .len → rowAgrees size level r xs ≡ false
-      unfolding rowAgrees pick
-      high-row e = simp (ne-eqb (r .len) 0 (omega arith), le-leb (r .len) size b, le-leb (r .len) (length xs) l, le-leb (lowestBin level) (r .start) d, lt-leb (r .start + r .len) (endBin level) e) refl
+  pub refuse : (RowFacts size level r xs → ⊥) → false ≡ rowAgrees size level r xs
+  refuse n = ⊎-elim (λ (t : rowAgrees size level r xs ≡ true). absurd (n (row-facts t))) (λ (t : rowAgrees size level r xs ≡ false). sym t) (flag (rowAgrees size level r xs))
 
-      module _ (e : r .start + r .len ≤ endBin level) where
-        pub zero-first : getD xs 0 0 ≡ 0 → rowAgrees size level r xs ≡ false
-        unfolding rowAgrees pick
-        zero-first z = simp (ne-eqb (r .len) 0 (omega arith), le-leb (r .len) size b, le-leb (r .len) (length xs) l, le-leb (lowestBin level) (r .start) d, le-leb (r .start + r .len) (endBin level) e, eq-eqb (getD xs 0 0) 0 z) refl
+  -- in numbers
+  module _ (f : RowFacts size level r xs) where
+    long : length (take (r .len) xs) ≡ r .len
+    long = length-take-le (r .len) xs (f .there)
 
-        pub by-last : 0 < getD xs 0 0 → rowAgrees size level r xs ≡ not (eqb (getD xs (r .len - 1) 0) 0)
-        unfolding rowAgrees pick
-        by-last z = simp (ne-eqb (r .len) 0 (omega arith), le-leb (r .len) size b, le-leb (r .len) (length xs) l, le-leb (lowestBin level) (r .start) d, le-leb (r .start + r .len) (endBin level) e, ne-eqb (getD xs 0 0) 0 (omega arith)) refl
+    pub short : r .len ≤ size
+    short = omega (arith, long, f .ok .short)
+
+    pub low : 0 < r .len → lowestBin level ≤ r .start
+    low p = f .ok .above (omega (arith, long))
+
+    pub range : r .start + r .len ≤ endBin level
+    range = omega (arith, long, f .ok .below)
+
+    pub first : 0 < r .len → 0 < getD xs 0 0
+    first p = subst (λ (m : ℕ). 0 < m) (getD-take (r .len) xs 0 0 (omega arith)) (f .ok .canonical .first (omega (arith, long)))
+
+    pub last : 0 < r .len → 0 < getD xs (r .len - 1) 0
+    last p =
+        let q : pred (length (take (r .len) xs)) ≡ r .len - 1 = omega (arith, long) in
+        subst (λ (m : ℕ). 0 < m) (getD-take (r .len) xs (r .len - 1) 0 (omega arith))
+        (subst (λ (m : ℕ). 0 < getD (take (r .len) xs) m 0) q (f .ok .canonical .last (omega (arith, long))))
+
+  -- an empty row
+  pub empty-row : r .len ≡ 0 → eqb (r .start) 0 ≡ rowAgrees size level r xs
+  unfolding A.rowAgrees pick _and_
+  empty-row e = rw (e, le-leb 0 (length xs) (omega arith)) refl
+
+  -- the last test
+  pub by-last : 0 < r .len → r .len ≤ size → r .len ≤ length xs → lowestBin level ≤ r .start → r .start + r .len ≤ endBin level → 0 < getD xs 0 0
+      → not (eqb (getD xs (r .len - 1) 0) 0) ≡ rowAgrees size level r xs
+  by-last p a l d e z =
+      let n : length (take (r .len) xs) ≡ r .len = length-take-le (r .len) xs l in
+      ⊎-elim
+      (λ (t : getD xs (r .len - 1) 0 ≡ 0). ap not (eq-eqb (getD xs (r .len - 1) 0) 0 t) ∙ refuse (λ f. omega (arith, t, last f p)))
+      (λ (t : 0 < getD xs (r .len - 1) 0).
+      ap not (ne-eqb (getD xs (r .len - 1) 0) 0 (omega arith))
+      ∙ sym (facts-row (record {
+        there = l;
+        ok = record {
+          canonical = record {
+            empty = λ y. absurd (omega (arith, n));
+            first = λ _. subst (λ (m : ℕ). 0 < m) (sym (getD-take (r .len) xs 0 0 p)) z;
+            last = λ _.
+                let q : pred (length (take (r .len) xs)) ≡ r .len - 1 = omega (arith, n) in
+                subst (λ (m : ℕ). 0 < getD (take (r .len) xs) m 0) (sym q) (subst (λ (m : ℕ). 0 < m) (sym (getD-take (r .len) xs (r .len - 1) 0 (omega arith))) t);
+          };
+          short = omega (arith, n);
+          above = λ _. d;
+          below = omega (arith, n);
+        };
+      })))
+      (eq-zero-or-pos (getD xs (r .len - 1) 0))
 
 -- ---- the sum of the counts in halves
 

@@ -17,9 +17,11 @@ use Rattle.rows.specs.declared.Row.{Row}
 use Rattle.rows.proofs.Adds.{over-self}
 use Rattle.series.specs.declared.Counts.{Counts}
 use Rattle.series.specs.Steps.{lowered, with1, lowBin, highBin, lowering, needed, placed}
-use Rattle.series.specs.Series.{rowIn, Laid, read, countsOf, Written, lowerBy, rowTo, rowOther, Room}
+use Rattle.series.specs.Series.{rowIn, Laid, read, countsFor, Written, lowerBy, rowTo, rowOther, Room}
 use Rattle.series.proofs.Joint.{few, room-one}
-use Rattle.series.proofs.Facts.{RowFacts, Agreed, row-ok}
+use Rattle.points.proofs.Agreement.{RowOk}
+use Rattle.index.specs.Bins.{lowestBin}
+use Rattle.series.proofs.Rowed.{RowFacts, range}
 
 pub needed-in : (size : ℕ) (r : Row) (xs : List ℕ) (bin : ℕ) → r .len ≤ length xs
     → lowering size (lowBin (r .start) (r .len) bin) (highBin (r .start) (r .len) bin) ≡ lowerBy size r xs bin
@@ -41,24 +43,26 @@ top-of level bin h t =
     subst (λ (n : ℕ). bin * 2 ^ (finest - level) < n) e (mul-lt-mul-of-pos-right t (pow-pos (finest - level)))
 
 module _ (size level bin : ℕ) (a : Row) (xs : List ℕ) (s : 3 ≤ size) (h : level ≤ finest) (f : RowFacts size level a xs) (t : bin < endBin level) where
+  -- the row as one of the steps below the finest level
+  own : RowOk size (lowestBin level) (endBin (finest - (finest - level))) (rowIn a xs)
+  own = let e : level ≡ finest - (finest - level) = omega arith in subst (λ (n : ℕ). RowOk size (lowestBin level) (endBin n) (rowIn a xs)) e (f .ok)
+
   same : bin * 2 ^ (finest - level) / 2 ^ (finest - level) ≡ bin
   same = shl-shr bin (finest - level)
 
   -- at most as many levels lower as there are
   pub few-levels : lowerBy size a xs bin ≤ level
   few-levels =
-      let ok = row-ok size level a xs h f in
-      let g : lowerBy size a xs bin ≤ finest - (finest - level) = rw same at (few size (finest - level) (bin * 2 ^ (finest - level)) (rowIn a xs) (ok .canonical) s (omega arith) (top-of level bin h t) ok) in
+      let g : lowerBy size a xs bin ≤ finest - (finest - level) = rw same at (few size (finest - level) (bin * 2 ^ (finest - level)) (rowIn a xs) (own .canonical) s (omega arith) (top-of level bin h t) own) in
       omega arith
 
   pub room : (b : Row) (ys : List ℕ) → RowFacts size level b ys → size ≤ length xs
       → total (take (a .len) xs) + total (take (b .len) ys) < 18446744073709551615 → Room size a xs b ys bin
   room b ys g m n =
-      let ok = row-ok size level a xs h f in
-      let o = rw same at (room-one size (finest - level) (bin * 2 ^ (finest - level)) (rowIn a xs) s (omega arith) (top-of level bin h t) ok) in
+      let o = rw same at (room-one size (finest - level) (bin * 2 ^ (finest - level)) (rowIn a xs) s (omega arith) (top-of level bin h t) own) in
       record {
         some = omega arith;
-        bins = omega (arith, f .range, level-pow level h);
+        bins = omega (arith, range size level a xs f, level-pow level h);
         short = f .there;
         other = g .there;
         few = omega (arith, few-levels);

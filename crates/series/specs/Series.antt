@@ -1,24 +1,27 @@
 -- A series in a head and two lent rows: what it holds, when it agrees with itself, what recording does. Assumes nothing.
-use Prim.Native.Nat.{ℕ, zero, suc, _+_, _-_, _*_, _/_, _^_, _≤_, _<_, min, max, pred}
+use Prim.Native.Nat.{ℕ, _+_, _-_, _/_, _^_, _≤_, _<_}
 use mathlib.Core.Path.{_≡_}
-use mathlib.Core.Bool.{Bool, true, false, not, cond, _&&_}
-use mathlib.Core.List.{List, [], _∷_, _++_}
+use mathlib.Core.Bool.{Bool, true}
+use mathlib.Core.List.{List}
 use lib.Dec.{leb, eqb}
-use lib.ListN.{length, take, getD}
-use lib.Ieee.{Float, binary64, add, lt}
+use lib.ListN.{length, take}
+use lib.Ieee.{Float, binary64, add}
 use lib.Ieee.Scale.{finite}
+use Rattle.laws.specs.Pick.{pick, _and_}
+use Rattle.laws.specs.Counting.{total}
+use Rattle.index.specs.Bins.{finest, lowestBin, endBin}
+use Rattle.index.specs.declared.Bin.{Bin}
+use Rattle.index.specs.declared.Bin.the-variants.{NoLevel, NotFinite, Zero, At}
+use Rattle.floats.specs.Answers.{lesserOf, greaterOf}
+use Rattle.floats.specs.Starts.{zeroFloat}
 use Rattle.points.specs.Points as P
 use Rattle.points.specs.Points.{Point, Value, naught, plus, minus, record1}
+use Rattle.points.specs.Agreement as A
+use Rattle.points.specs.Values.{classOf}
 use Rattle.rows.specs.Rows.{over}
-use Rattle.laws.specs.Counting.{total}
 use Rattle.rows.specs.declared.Row.{Row}
 use Rattle.series.specs.declared.Counts.{Counts}
 use Rattle.series.specs.declared.Head.{Head}
-use Rattle.laws.specs.Pick.{pick, _and_}
-use Rattle.index.specs.Magnitude.{magnitude, isNegative}
-use Rattle.index.specs.Bins.{finest, finestBin, lowestBin, endBin}
-use Rattle.index.specs.declared.Bin.{Bin}
-use Rattle.index.specs.declared.Bin.the-variants.{NoLevel, NotFinite, Zero, At}
 use Rattle.series.specs.declared.Class.{Class}
 use Rattle.series.specs.declared.Class.the-variants.{Naught, Plus, Minus}
 use Rattle.series.specs.declared.Answer.{Answer}
@@ -35,40 +38,13 @@ pub record Laid (q : P.Row) (xs : List ℕ) (r : Row) (ys : List ℕ) : Type 0 w
   pub len : r .len ≡ length (q .counts)
   pub now : ys ≡ over (q .counts) xs
 
--- ---- agreement
-
--- a row agrees: empty with start 0; or at most size counts, all of them there, each bin one of the level's, first and last not zero
-unfoldable pub rowAgrees : ℕ → ℕ → Row → List ℕ → Bool
-rowAgrees size level r xs =
-    pick (eqb (r .len) 0)
-    (eqb (r .start) 0)
-    (pick (leb (r .len) size)
-    (pick (leb (r .len) (length xs))
-    (pick (leb (lowestBin level) (r .start))
-    (pick (leb (r .start + r .len) (endBin level))
-    (pick (eqb (getD xs 0 0) 0) false (not (eqb (getD xs (r .len - 1) 0) 0)))
-    false)
-    false)
-    false)
-    false)
-
--- the counts of a head agree with the rows
-unfoldable pub addsUp : Counts → List ℕ → List ℕ → Bool
-addsUp c xs ys = eqb (c .count) (c .zeros + (total (take (c .pos .len) xs) + total (take (c .neg .len) ys)))
-
--- size and level could come from an accepted configuring, both rows agree, and the count is that of zeros and rows
-unfoldable pub agrees : ℕ → ℕ → Counts → List ℕ → List ℕ → Bool
-agrees size top c xs ys =
-    leb 3 size and leb size 160 and leb top finest and leb (c .level) top
-    and rowAgrees size (c .level) (c .pos) xs and rowAgrees size (c .level) (c .neg) ys and addsUp c xs ys
-
 -- ---- what a head and its rows hold, and a point as a head
 
 abbrev pub read : Counts → List ℕ → List ℕ → Point
 read c xs ys = record { d = finest - c .level; pos = rowIn (c .pos) xs; neg = rowIn (c .neg) ys; zeros = c .zeros; total = c .count }
 
-abbrev pub countsOf : Point → Counts
-countsOf p =
+abbrev pub countsFor : Point → Counts
+countsFor p =
     record {
       count = p .total;
       zeros = p .zeros;
@@ -76,6 +52,39 @@ countsOf p =
       pos = record { start = p .pos .start; len = length (p .pos .counts) };
       neg = record { start = p .neg .start; len = length (p .neg .counts) };
     }
+
+-- ---- agreement
+
+-- number 1: "max_size outside 3 to 160"
+abbrev pub leastSize : ℕ
+leastSize = 3
+
+abbrev pub mostSize : ℕ
+mostSize = 160
+
+abbrev pub sizePasses : ℕ → Bool
+sizePasses size = leb leastSize size and leb size mostSize
+
+-- the lowest of all bins, that of 2 ^ -1074 at the finest level
+abbrev pub lowestOfAll : ℕ
+lowestOfAll = lowestBin finest
+
+-- a row's counts are there, and the row agrees
+abbrev pub rowAgrees : ℕ → ℕ → Row → List ℕ → Bool
+rowAgrees size level r xs = leb (r .len) (length xs) and A.rowAgrees size (lowestBin level) (endBin level) (rowIn r xs)
+
+-- the count is that of zeros and rows
+abbrev pub addsUp : Counts → List ℕ → List ℕ → Bool
+addsUp c xs ys = eqb (c .count) (c .zeros + (total (take (c .pos .len) xs) + total (take (c .neg .len) ys)))
+
+-- size and greatest level could come from an accepted configuring, the counts are there, and what they make up agrees
+unfoldable pub agrees : ℕ → ℕ → Counts → List ℕ → List ℕ → Bool
+agrees size top c xs ys =
+    sizePasses size and leb top finest and leb (c .level) top
+    and leb (c .pos .len) (length xs) and leb (c .neg .len) (length ys)
+    and A.agrees size top lowestOfAll (read c xs ys)
+
+-- ---- what is counted
 
 -- what is counted of a value, by what the index answers (a value that is not finite, or a level that is none, is never asked for)
 abbrev pub classAt : Bin → Class
@@ -89,14 +98,9 @@ valueOf Naught = naught
 valueOf (Plus bin) = plus bin
 valueOf (Minus bin) = minus bin
 
--- the same at the finest level: zero, or the sign and the bin of the magnitude
-abbrev pub classOf : Float → Value
-classOf v =
-    pick (eqb (magnitude v) 0) naught (pick (isNegative v) (minus (finestBin (magnitude v))) (plus (finestBin (magnitude v))))
-
 -- c, xs' and ys': the point p laid over the rows
 pub record Written (p : Point) (xs ys : List ℕ) (c : Counts) (xs' ys' : List ℕ) : Type 0 where
-  pub counts : c ≡ countsOf p
+  pub counts : c ≡ countsFor p
   pub pos : xs' ≡ over (p .pos .counts) xs
   pub neg : ys' ≡ over (p .neg .counts) ys
 
@@ -123,6 +127,10 @@ pub record Room (size : ℕ) (a : Row) (xs : List ℕ) (b : Row) (ys : List ℕ)
   pub counts : total (take (a .len) xs) + 1 < 2 ^ 64
   pub others : total (take (b .len) ys) < 2 ^ 64
 
+-- the greatest count
+abbrev pub mostCount : ℕ
+mostCount = 18446744073709551615
+
 -- a series that agrees and can take one more
 abbrev pub Within : ℕ → Class → Type 0
 Within level Naught = Unit {0}
@@ -133,7 +141,7 @@ pub record Ready (size top : ℕ) (c : Counts) (xs ys : List ℕ) (k : Class) : 
   pub agree : agrees size top c xs ys ≡ true
   pub pos : size ≤ length xs
   pub neg : size ≤ length ys
-  pub count : c .count < 18446744073709551615
+  pub count : c .count < mostCount
   pub known : Within (c .level) k
 
 -- ---- the call
@@ -144,7 +152,7 @@ refusalOf size top h xs ys v =
     pick (leb size (length xs) and leb size (length ys))
     (pick (finite v)
     (pick (agrees size top (h .counts) xs ys and finite (h .min) and finite (h .max))
-    (pick (eqb (h .counts .count) 18446744073709551615) 9 0)
+    (pick (eqb (h .counts .count) mostCount) 9 0)
     8)
     6)
     12
@@ -161,7 +169,7 @@ outcome r xs ys = record { answer = r; pos = xs; neg = ys }
 -- the head of the point p, one value after h
 abbrev pub headOf : Point → Head → Float → Head
 headOf p h v =
-    record { counts = countsOf p; min = cond (lt v (h .min)) v (h .min); max = cond (lt (h .max) v) v (h .max); sum = add binary64 (h .sum) v }
+    record { counts = countsFor p; min = lesserOf (h .min) v; max = greaterOf (h .max) v; sum = add binary64 (h .sum) v }
 
 abbrev pub accepted : Point → Head → List ℕ → List ℕ → Float → Outcome
 accepted p h xs ys v = outcome (Recorded (headOf p h v)) (over (p .pos .counts) xs) (over (p .neg .counts) ys)
@@ -170,5 +178,5 @@ accepted p h xs ys v = outcome (Recorded (headOf p h v)) (over (p .pos .counts) 
 unfoldable pub recording : ℕ → ℕ → Head → List ℕ → List ℕ → Float → Outcome
 recording size top h xs ys v =
     pick (eqb (refusalOf size top h xs ys v) 0)
-    (accepted (record1 size (read (h .counts) xs ys) (classOf v)) h xs ys v)
+    (accepted (record1 size (read (h .counts) xs ys) (classOf zeroFloat v)) h xs ys v)
     (outcome (Refused (refusalOf size top h xs ys v)) xs ys)

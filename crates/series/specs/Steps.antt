@@ -5,7 +5,8 @@ use mathlib.Core.List.{List, [], _∷_, _++_}
 use lib.Dec.{leb, eqb}
 use lib.ListN.{length}
 use Rattle.laws.specs.Pick.{pick}
-use Rattle.points.specs.Points.{least, Row, Point, Value, naught, plus, minus}
+use Rattle.laws.specs.Search.{least}
+use Rattle.points.specs.Points.{Row, Point, Value, naught, plus, minus}
 use Rattle.rows.specs.Rows.{downscaled, recorded, recordedFrom}
 
 -- a row k levels lower, and a row with one more at bin b

@@ -33,12 +33,15 @@ pub enum Answer {
 
 // ---- agreement
 
+// The bin of 2^-1074 at the finest level.
+const LOWEST: u32 = 997375;
+
 // The bins of a level run from this one ..
 fn lowest_bin(level: u32) -> u32
     requires { ⌜ level ≤ finest ⌝ }
     ensures { λ r. ⌜ r ≡ lowestBin level ⌝ }
 {
-    index::LOWEST >> (index::FINEST - level)
+    LOWEST >> (index::FINEST - level)
 }
 
 // .. to the one before this.

@@ -9,7 +9,7 @@ use Rattle.series.specs.declared.Class.{Class}
 use Rattle.series.specs.declared.Class.the-variants.{Naught, Plus, Minus}
 use Rattle.series.specs.Steps.{placed}
 use Rattle.series.specs.Series.{Within, Room, Written, read, valueOf}
-use Rattle.series.proofs.Facts.{Agreed, agreed}
+use Rattle.series.proofs.Facts.{Agreed, agreed, pos-facts, neg-facts}
 use Rattle.series.proofs.Write.{room, few-levels, written-zero, written-plus, written-minus}
 use borrow.Author.Needs.{needs}
 use Rattle.series.proofs.add.Statement.{statement}
@@ -44,7 +44,7 @@ add-t21 : tie.Need-add-t21
 add-t21 c = search needs
 
 add-t22 : tie.Need-add-t22
-add-t22 c = let st = c .before .before .before .before .before .before in omega (arith, at-start st .count, st .pre .count)
+add-t22 c = let st = c .before .before .before .before .before .before in omega (arith, at-start st .point .adds, st .pre .count)
 
 enum-known-class : tie.Need-enum-known-class
 enum-known-class c = search needs
@@ -55,7 +55,7 @@ put-requires c κs =
     let st = start-plus m in
     let a = st .args in
     let f = at-start st in
-    room (a .size) (a .c .level) (m .class .given .0 .0) (a .c .pos) (now (a .pos)) (f .least) (level-in st) (f .pos) (in-plus m) (a .c .neg) (now (a .neg)) (f .neg) (st .pre .pos) (omega (arith, f .count, st .pre .count))
+    room (a .size) (a .c .level) (m .class .given .0 .0) (a .c .pos) (now (a .pos)) (f .least) (level-in st) (pos-facts (a .size) (a .top) (a .c) (now (a .pos)) (now (a .neg)) f) (in-plus m) (a .c .neg) (now (a .neg)) (neg-facts (a .size) (a .top) (a .c) (now (a .pos)) (now (a .neg)) f) (st .pre .pos) (omega (arith, f .point .adds, st .pre .count))
 
 add-t27 : tie.Need-add-t27
 add-t27 c = search needs
@@ -67,7 +67,7 @@ sub-t28 c =
     let st = start-plus m in
     let a = st .args in
     let f = at-start st in
-    omega (arith, p .put .ensures .0, few-levels (a .size) (a .c .level) (m .class .given .0 .0) (a .c .pos) (now (a .pos)) (f .least) (level-in st) (f .pos) (in-plus m))
+    omega (arith, p .put .ensures .0, few-levels (a .size) (a .c .level) (m .class .given .0 .0) (a .c .pos) (now (a .pos)) (f .least) (level-in st) (pos-facts (a .size) (a .top) (a .c) (now (a .pos)) (now (a .neg)) f) (in-plus m))
 
 enum-known-class-2 : tie.Need-enum-known-class-2
 enum-known-class-2 c = search needs
@@ -78,7 +78,7 @@ put-requires-2 c κs =
     let st = start-minus m in
     let a = st .args in
     let f = at-start st in
-    room (a .size) (a .c .level) (m .class2 .given .0 .0) (a .c .neg) (now (a .neg)) (f .least) (level-in st) (f .neg) (in-minus m) (a .c .pos) (now (a .pos)) (f .pos) (st .pre .neg) (omega (arith, f .count, st .pre .count))
+    room (a .size) (a .c .level) (m .class2 .given .0 .0) (a .c .neg) (now (a .neg)) (f .least) (level-in st) (neg-facts (a .size) (a .top) (a .c) (now (a .pos)) (now (a .neg)) f) (in-minus m) (a .c .pos) (now (a .pos)) (pos-facts (a .size) (a .top) (a .c) (now (a .pos)) (now (a .neg)) f) (st .pre .neg) (omega (arith, f .point .adds, st .pre .count))
 
 add-t33 : tie.Need-add-t33
 add-t33 c = search needs
@@ -90,7 +90,7 @@ sub-t34 c =
     let st = start-minus m in
     let a = st .args in
     let f = at-start st in
-    omega (arith, p .put2 .ensures .0, few-levels (a .size) (a .c .level) (m .class2 .given .0 .0) (a .c .neg) (now (a .neg)) (f .least) (level-in st) (f .neg) (in-minus m))
+    omega (arith, p .put2 .ensures .0, few-levels (a .size) (a .c .level) (m .class2 .given .0 .0) (a .c .neg) (now (a .neg)) (f .least) (level-in st) (neg-facts (a .size) (a .top) (a .c) (now (a .pos)) (now (a .neg)) f) (in-minus m))
 
 returns : tie.Need-returns
 returns c =
@@ -101,7 +101,7 @@ returns c =
     let ys = now (a .neg) in
     subst (λ (k : Class). Written (placed (a .size) (read (a .c) xs ys) (valueOf k)) xs ys (record { count = a .c .count + 1; zeros = a .c .zeros + 1; level = a .c .level; pos = a .c .pos; neg = a .c .neg }) xs ys)
     (sym (c .enum-told .given .1))
-    (written-zero (a .size) (a .c) xs ys (level-in st) (f .pos .there) (f .neg .there))
+    (written-zero (a .size) (a .c) xs ys (level-in st) (f .posThere) (f .negThere))
 
 same-length : tie.Need-same-length
 same-length c = search needs
@@ -119,7 +119,7 @@ returns-2 c =
     let bin = m .class .given .0 .0 in
     let xs = now (a .pos) in
     let ys = now (a .neg) in
-    let h = few-levels (a .size) (a .c .level) bin (a .c .pos) xs (f .least) (level-in st) (f .pos) (in-plus m) in
+    let h = few-levels (a .size) (a .c .level) bin (a .c .pos) xs (f .least) (level-in st) (pos-facts (a .size) (a .top) (a .c) (now (a .pos)) (now (a .neg)) f) (in-plus m) in
     subst (λ (k : Class). Written (placed (a .size) (read (a .c) xs ys) (valueOf k)) xs ys (record { count = a .c .count + 1; zeros = a .c .zeros; level = a .c .level - p .result .k; pos = p .result .to; neg = p .result .other }) (p .last .1 .0) (p .last .1 .1 .1 .0))
     (sym (m .class .given .1))
     (written-plus (a .size) (a .c) xs ys (level-in st) bin (p .result .k) (p .result .to) (p .result .other) (p .last .1 .0) (p .last .1 .1 .1 .0) (omega (arith, h, p .ensures .0)) (p .ensures .0) (p .ensures .1 .0) (p .ensures .1 .1))
@@ -140,7 +140,7 @@ returns-3 c =
     let bin = m .class2 .given .0 .0 in
     let xs = now (a .pos) in
     let ys = now (a .neg) in
-    let h = few-levels (a .size) (a .c .level) bin (a .c .neg) ys (f .least) (level-in st) (f .neg) (in-minus m) in
+    let h = few-levels (a .size) (a .c .level) bin (a .c .neg) ys (f .least) (level-in st) (neg-facts (a .size) (a .top) (a .c) (now (a .pos)) (now (a .neg)) f) (in-minus m) in
     subst (λ (k : Class). Written (placed (a .size) (read (a .c) xs ys) (valueOf k)) xs ys (record { count = a .c .count + 1; zeros = a .c .zeros; level = a .c .level - p .result .k; pos = p .result .other; neg = p .result .to }) (p .last .1 .1 .1 .0) (p .last .1 .0))
     (sym (m .class2 .given .1))
     (written-minus (a .size) (a .c) xs ys (level-in st) bin (p .result .k) (p .result .to) (p .result .other) (p .last .1 .1 .1 .0) (p .last .1 .0) (omega (arith, h, p .ensures .0)) (p .ensures .0) (p .ensures .1 .0) (p .ensures .1 .1))

@@ -6,7 +6,9 @@ use denote.Ref.{now}
 use lib.ListN.{length, take, getD}
 use Rattle.rows.specs.Rows.{over, downscaled, recorded, recordedFrom}
 use Rattle.laws.specs.Counting.{total}
-use Rattle.series.proofs.Facts.{not-true, not-false, row-facts, small-size, large-size, high-top, high-level, bad-pos, bad-neg, by-sum}
+use Rattle.series.proofs.Facts.{not-true, not-false, refuse, pos-facts, neg-facts, by-sum}
+use Rattle.series.proofs.Rowed.{row-facts, facts-row, short}
+use Rattle.laws.proofs.Bools.{not-both}
 use borrow.Author.Needs.{needs}
 use Rattle.series.proofs.counts_agree.Statement.{statement}
 use Rattle.series.proofs.counts_agree.Tie as tie
@@ -20,7 +22,7 @@ returns : tie.Need-returns
 returns c =
     let st = c .before .before .before in
     let a = st .args in
-    sym (small-size (a .size) (a .top) (a .c) (now (a .pos)) (now (a .neg)) (c .if1 .taken))
+    refuse (a .size) (a .top) (a .c) (now (a .pos)) (now (a .neg)) (λ k. omega (arith, c .if1 .taken, k .least))
 
 -- src/lib.rt:119:9
 returns-2 : tie.Need-returns-2
@@ -28,7 +30,7 @@ returns-2 c =
     let e = c .before in
     let st = c .before .before .before .before in
     let a = st .args in
-    sym (large-size (a .size) (a .top) (a .c) (now (a .pos)) (now (a .neg)) (omega (arith, e .if1 .left)) (c .if2 .taken))
+    refuse (a .size) (a .top) (a .c) (now (a .pos)) (now (a .neg)) (λ k. omega (arith, c .if2 .taken, k .most))
 
 -- src/lib.rt:122:9
 returns-3 : tie.Need-returns-3
@@ -36,7 +38,7 @@ returns-3 c =
     let e = c .before in
     let st = c .before .before .before .before .before in
     let a = st .args in
-    sym (high-top (a .size) (a .top) (a .c) (now (a .pos)) (now (a .neg)) (omega (arith, e .before .if1 .left)) (omega (arith, e .if2 .left)) (c .if3 .taken))
+    refuse (a .size) (a .top) (a .c) (now (a .pos)) (now (a .neg)) (λ k. omega (arith, c .if3 .taken, k .greatest))
 
 -- src/lib.rt:126:9
 returns-4 : tie.Need-returns-4
@@ -44,7 +46,7 @@ returns-4 c =
     let e = c .before in
     let st = c .before .before .before .before .before .before in
     let a = st .args in
-    sym (high-level (a .size) (a .top) (a .c) (now (a .pos)) (now (a .neg)) (omega (arith, e .before .before .if1 .left)) (omega (arith, e .before .if2 .left)) (omega (arith, e .if3 .left)) (c .if4 .taken))
+    refuse (a .size) (a .top) (a .c) (now (a .pos)) (now (a .neg)) (λ k. omega (arith, c .if4 .taken, k .level))
 
 -- src/lib.rt:130:9
 row-agrees-requires : tie.Need-row-agrees-requires
@@ -56,7 +58,7 @@ returns-5 c =
     let e = c .before .before .before .before in
     let st = c .before .before .before .before .before .before .before .before .before .before in
     let a = st .args in
-    sym (bad-pos (a .size) (a .top) (a .c) (now (a .pos)) (now (a .neg)) (omega (arith, e .before .before .before .if1 .left)) (omega (arith, e .before .before .if2 .left)) (omega (arith, e .before .if3 .left)) (omega (arith, e .if4 .left)) (sym (c .before .row-agrees .ensures) ∙ not-true _ (c .if5 .taken)))
+    refuse (a .size) (a .top) (a .c) (now (a .pos)) (now (a .neg)) (λ k. not-both _ (c .before .row-agrees .ensures ∙ facts-row (a .size) (a .c .level) (a .c .pos) (now (a .pos)) (pos-facts (a .size) (a .top) (a .c) (now (a .pos)) (now (a .neg)) k)) (not-true _ (c .if5 .taken)))
 
 -- src/lib.rt:133:9
 row-agrees-requires-2 : tie.Need-row-agrees-requires-2
@@ -68,7 +70,7 @@ returns-6 c =
     let e = c .before .before .before .before .before .before in
     let st = c .before .before .before .before .before .before .before .before .before .before .before .before in
     let a = st .args in
-    sym (bad-neg (a .size) (a .top) (a .c) (now (a .pos)) (now (a .neg)) (omega (arith, e .before .before .before .if1 .left)) (omega (arith, e .before .before .if2 .left)) (omega (arith, e .before .if3 .left)) (omega (arith, e .if4 .left)) (sym (c .before .before .before .row-agrees .ensures) ∙ not-false _ (c .before .before .if5 .left)) (sym (c .before .row-agrees2 .ensures) ∙ not-true _ (c .if6 .taken)))
+    refuse (a .size) (a .top) (a .c) (now (a .pos)) (now (a .neg)) (λ k. not-both _ (c .before .row-agrees2 .ensures ∙ facts-row (a .size) (a .c .level) (a .c .neg) (now (a .neg)) (neg-facts (a .size) (a .top) (a .c) (now (a .pos)) (now (a .neg)) k)) (not-true _ (c .if6 .taken)))
 
 -- src/lib.rt:136:5
 adds-up-requires : tie.Need-adds-up-requires
@@ -78,7 +80,7 @@ adds-up-requires c κs =
     let a = st .args in
     let p = row-facts (a .size) (a .c .level) (a .c .pos) (now (a .pos)) (sym (c .before .before .before .row-agrees .ensures) ∙ not-false _ (c .before .before .if5 .left)) in
     let n = row-facts (a .size) (a .c .level) (a .c .neg) (now (a .neg)) (sym (c .before .row-agrees2 .ensures) ∙ not-false _ (c .if6 .left)) in
-    ((p .there, omega (arith, p .short, e .before .before .if2 .left)), (n .there, omega (arith, n .short, e .before .before .if2 .left)))
+    ((p .there, omega (arith, short (a .size) (a .c .level) (a .c .pos) (now (a .pos)) p, e .before .before .if2 .left)), (n .there, omega (arith, short (a .size) (a .c .level) (a .c .neg) (now (a .neg)) n, e .before .before .if2 .left)))
 
 -- src/lib.rt:111:1
 returns-7 : tie.Need-returns-7
@@ -86,7 +88,7 @@ returns-7 c =
     let e = c .before .before .before .before .before .before .before in
     let st = c .before .before .before .before .before .before .before .before .before .before .before .before .before in
     let a = st .args in
-    c .adds-up .ensures ∙ sym (by-sum (a .size) (a .top) (a .c) (now (a .pos)) (now (a .neg)) (omega (arith, e .before .before .before .if1 .left)) (omega (arith, e .before .before .if2 .left)) (omega (arith, e .before .if3 .left)) (omega (arith, e .if4 .left)) (sym (c .before .before .before .before .row-agrees .ensures) ∙ not-false _ (c .before .before .before .if5 .left)) (sym (c .before .before .row-agrees2 .ensures) ∙ not-false _ (c .before .if6 .left)))
+    c .adds-up .ensures ∙ (by-sum (a .size) (a .top) (a .c) (now (a .pos)) (now (a .neg)) (omega (arith, e .before .before .before .if1 .left)) (omega (arith, e .before .before .if2 .left)) (omega (arith, e .before .if3 .left)) (omega (arith, e .if4 .left)) (sym (c .before .before .before .before .row-agrees .ensures) ∙ not-false _ (c .before .before .before .if5 .left)) (sym (c .before .before .row-agrees2 .ensures) ∙ not-false _ (c .before .if6 .left)))
 
 pub counts-agree-spec : {M : Type 1} → statement M
 counts-agree-spec =

@@ -2,4 +2,6 @@
 pub mod Joined
 pub mod Lowly
 pub mod Wide
-pub mod Ends
+pub mod Spans
+pub mod Merging
+pub mod Laying

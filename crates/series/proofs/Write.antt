@@ -28,7 +28,7 @@ pub needed-in : (size : ℕ) (r : Row) (xs : List ℕ) (bin : ℕ) → r .len �
 needed-in size r xs bin h =
     ap (λ n. lowering size (lowBin (r .start) n bin) (highBin (r .start) n bin)) (sym (length-take-le (r .len) xs h))
 
-level-pow : (level : ℕ) → level ≤ finest → 2 ^ level ≤ 2 ^ finest
+pub level-pow : (level : ℕ) → level ≤ finest → 2 ^ level ≤ 2 ^ finest
 level-pow level h =
     ⊎-elim
     (λ (e : level ≡ finest). rw e (omega arith))

@@ -154,13 +154,13 @@ pub fn counts_agree(size: usize, top: u32, c: Counts, pos: &[u64], neg: &[u64]) 
 
 // ---- the change of level
 
-fn lesser(a: u32, b: u32) -> u32
+pub fn lesser(a: u32, b: u32) -> u32
     ensures { λ r. ⌜ r ≡ min a b ⌝ }
 {
     if a < b { a } else { b }
 }
 
-fn greater(a: u32, b: u32) -> u32
+pub fn greater(a: u32, b: u32) -> u32
     ensures { λ r. ⌜ r ≡ max a b ⌝ }
 {
     if a < b { b } else { a }

@@ -18,7 +18,7 @@ use Rattle.rows.proofs.Algebra.{le-or-lt, length-downscaled-is, downscaled-some
 use Rattle.series.specs.Steps.{lowered, lowering}
 use Rattle.series.specs.Series.{rowIn}
 use Rattle.series.proofs.Counted.{length-replicate}
-use Rattle.merges.specs.Merges.{joined, span, lowEnd, highEnd}
+use Rattle.merges.specs.Merges.{joined, span, lowEnd, highEnd, joinedLen}
 use Rattle.merges.proofs.Joined.{length-addAll}
 use Rattle.merges.proofs.Wide.{join-none, join-first, join-both}
 
@@ -47,7 +47,7 @@ module _ (k : ℕ) (r : C.Row) (xs : List ℕ) (h : r .len ≤ length xs) where
   lowered-some p = downscaled-some k (r .start) (take (r .len) xs) (omega (arith, len))
 
 -- of two rows joined
-long-add : (k : ℕ) (ys xs : List ℕ) → 0 < length ys → length (addAll k ys xs) ≡ max (length xs) (k + length ys)
+pub long-add : (k : ℕ) (ys xs : List ℕ) → 0 < length ys → length (addAll k ys xs) ≡ max (length xs) (k + length ys)
 long-add k [] xs h = absurd (omega arith)
 long-add k (y ∷ ys) xs h = length-addAll k y ys xs
 
@@ -97,21 +97,42 @@ module _ (a b : Row) (h : 0 < length (a .counts)) (g : 0 < length (b .counts)) w
 -- ---- by numbers
 
 module _ (a b : C.Row) (j k : ℕ) where
-  ends-first : b .len ≡ 0 → (lowEnd a j b k ≡ a .start / 2 ^ j) × (highEnd a j b k ≡ (a .start + pred (a .len)) / 2 ^ j)
+  pub ends-first : b .len ≡ 0 → (lowEnd a j b k ≡ a .start / 2 ^ j) × (highEnd a j b k ≡ (a .start + pred (a .len)) / 2 ^ j)
   unfolding lowEnd highEnd pick
   ends-first z = rw (eq-eqb (b .len) 0 z) (refl, refl)
 
-  ends-second : 0 < b .len → a .len ≡ 0 → (lowEnd a j b k ≡ b .start / 2 ^ k) × (highEnd a j b k ≡ (b .start + pred (b .len)) / 2 ^ k)
+  pub ends-second : 0 < b .len → a .len ≡ 0 → (lowEnd a j b k ≡ b .start / 2 ^ k) × (highEnd a j b k ≡ (b .start + pred (b .len)) / 2 ^ k)
   unfolding lowEnd highEnd pick
   ends-second p z = rw (ne-eqb (b .len) 0 (omega arith), eq-eqb (a .len) 0 z) (refl, refl)
 
-  ends-both : 0 < b .len → 0 < a .len
+  pub ends-both : 0 < b .len → 0 < a .len
       → (lowEnd a j b k ≡ min (a .start / 2 ^ j) (b .start / 2 ^ k)) × (highEnd a j b k ≡ max ((a .start + pred (a .len)) / 2 ^ j) ((b .start + pred (b .len)) / 2 ^ k))
   unfolding lowEnd highEnd pick
   ends-both p q = rw (ne-eqb (b .len) 0 (omega arith), ne-eqb (a .len) 0 (omega arith)) (refl, refl)
 
+  pub ends-le : lowEnd a j b k ≤ highEnd a j b k
+  ends-le =
+      let p = shr-mono {a = a .start} {b = a .start + pred (a .len)} j (omega arith) in
+      let q = shr-mono {a = b .start} {b = b .start + pred (b .len)} k (omega arith) in
+      ⊎-elim
+      (λ (z : b .len ≡ 0). rw (ends-first z .0, ends-first z .1) p)
+      (λ (m : 0 < b .len).
+      ⊎-elim
+      (λ (z : a .len ≡ 0). rw (ends-second m z .0, ends-second m z .1) q)
+      (λ (n : 0 < a .len). rw (ends-both m n .0, ends-both m n .1) (omega (arith, p, q)))
+      (eq-zero-or-pos (a .len)))
+      (eq-zero-or-pos (b .len))
+
+  pub len-none : a .len + b .len ≡ 0 → 0 ≡ joinedLen a j b k
+  unfolding joinedLen pick
+  len-none z = rw (eq-eqb (a .len + b .len) 0 z) refl
+
+  pub len-some : (a .len + b .len ≡ 0 → ⊥) → suc (highEnd a j b k - lowEnd a j b k) ≡ joinedLen a j b k
+  unfolding joinedLen pick
+  len-some z = rw (ne-eqb (a .len + b .len) 0 z) refl
+
 -- THE ENDS of what `join` makes, and how long it is
-pub record Spans (q : Row) (lo hi n m : ℕ) : Type 0 where
+pub record Spanning (q : Row) (lo hi n m : ℕ) : Type 0 where
   pub start : q .start ≡ lo
   pub last : end q ≡ hi
   pub none : n ≡ 0 → m ≡ 0 → length (q .counts) ≡ 0
@@ -124,7 +145,7 @@ module _ (a : C.Row) (xs : List ℕ) (j : ℕ) (b : C.Row) (ys : List ℕ) (k : 
   abbrev B : Row
   B = lowered k (rowIn b ys)
 
-  pub spans : Spans (joined A B) (lowEnd a j b k) (highEnd a j b k) (a .len) (b .len)
+  pub spans : Spanning (joined A B) (lowEnd a j b k) (highEnd a j b k) (a .len) (b .len)
   spans =
       ⊎-elim
       (λ (z : b .len ≡ 0).
@@ -162,3 +183,13 @@ module _ (a : C.Row) (xs : List ℕ) (j : ℕ) (b : C.Row) (ys : List ℕ) (k : 
 
   pub span-is : (size : ℕ) → span size (joined A B) ≡ lowering size (lowEnd a j b k) (highEnd a j b k)
   span-is size = λ i. lowering size (spans .start i) (spans .last i)
+
+  pub len-is : length (joined A B .counts) ≡ joinedLen a j b k
+  len-is =
+      ⊎-elim
+      (λ (z : a .len + b .len ≡ 0). spans .none (omega arith) (omega arith) ∙ len-none a b j k z)
+      (λ (p : 0 < a .len + b .len).
+      let s = spans .some p in
+      let e : length (joined A B .counts) ≡ suc (highEnd a j b k - lowEnd a j b k) = omega (arith, s, spans .start, spans .last) in
+      e ∙ len-some a b j k (λ z. omega arith))
+      (eq-zero-or-pos (a .len + b .len))

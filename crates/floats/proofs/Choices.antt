@@ -2,17 +2,16 @@
 -- float the least, whatever the order. Assumes nothing.
 use mathlib.Core.Path.{_≡_, refl, sym, ap, _∙_, subst}
 use mathlib.Core.List.{List, [], _∷_, _++_, foldl, foldr, foldl-append, List·Permᴰ}
-use mathlib.Core.Logic.{_⊎_, inl, inr}
 use Prim.Native.Nat.{ℕ, _+_, _-_, _≤_, _<_, min}
 use native.Mathlib.Omega.{arith}
 use mathlib.Core.Bool.{Bool, true, false, not, cond}
-use lib.Dec.{T, ltb, ltb→lt, nltb→le, lt→ltb, eqb}
+use lib.Dec.{T, ltb, ltb→lt, nltb→le, lt→ltb}
 use lib.Ieee.{Float, Format, lt, eq}
-use borrow.Author.Tests.{eq-eqb}
+use borrow.Author.Tests.{eq-eqb, eqb-true}
 use Rattle.laws.specs.Lists.{All}
 use Rattle.laws.proofs.Lists.{all-perm, foldr-perm}
 use Rattle.floats.proofs.Fractions.{ltb-iff}
-use Rattle.floats.proofs.Order.{key, big, Ok, isZero, lt-key, key-unique, key-le}
+use Rattle.floats.proofs.Order.{key, big, Ok, lt-key, key-le}
 use Rattle.floats.proofs.Equal.{eq-key}
 
 -- ---- up: the lesser is wanted; otherwise the greater
@@ -47,6 +46,25 @@ rank-key false f x y p q h = turned-inj (big f + big f) (key f x) (key f y) (key
 -- of one rank: the same number
 pub rank-eq : (up : Bool) (f : Format) (x y : Float) → Ok f x → Ok f y → rank up f x ≡ rank up f y → eq x y ≡ true
 rank-eq up f x y p q h = eq-key f x y p q ∙ eq-eqb (key f x) (key f y) (rank-key up f x y p q h)
+
+-- and equal numbers are of one rank
+pub eq-rank : (up : Bool) (f : Format) (x y : Float) → Ok f x → Ok f y → eq x y ≡ true → rank up f x ≡ rank up f y
+unfolding rank
+eq-rank up f x y p q h = go up (eqb-true (key f x) (key f y) (sym (eq-key f x y p q) ∙ h))
+  where
+    go : (up : Bool) → key f x ≡ key f y → rank up f x ≡ rank up f y
+    go true e = e
+    go false e = ap (λ (n : ℕ). big f + big f - n) e
+
+-- equal numbers, and the ranks of them
+pub eq-refl : (f : Format) (x : Float) → Ok f x → eq x x ≡ true
+eq-refl f x p = rank-eq true f x x p p refl
+
+pub eq-sym : (f : Format) (x y : Float) → Ok f x → Ok f y → eq x y ≡ true → eq y x ≡ true
+eq-sym f x y p q h = rank-eq true f y x q p (sym (eq-rank true f x y p q h))
+
+pub eq-trans : (f : Format) (x y z : Float) → Ok f x → Ok f y → Ok f z → eq x y ≡ true → eq y z ≡ true → eq x z ≡ true
+eq-trans f x y z p q r h k = rank-eq true f x z p r (eq-rank true f x y p q h ∙ eq-rank true f y z q r k)
 
 module _ (up : Bool) (f : Format) where
   said : (x y : Float) → Ok f x → Ok f y → T (before up x y) → rank up f x < rank up f y
@@ -96,6 +114,12 @@ module _ (up : Bool) (f : Format) where
       go : (b : Bool) → T (not b) → cond b x a ≡ a
       go true t = absurd t
       go false t = refl
+
+  -- of equal numbers, equal choices
+  pub chosen-cong : (a b c d : Float) → Ok f a → Ok f b → Ok f c → Ok f d → eq a c ≡ true → eq b d ≡ true → eq (chosen up a b) (chosen up c d) ≡ true
+  chosen-cong a b c d p q r s h k =
+      rank-eq up f (chosen up a b) (chosen up c d) (chosen-ok a b p q) (chosen-ok c d r s)
+      (chosen-rank a b p q ∙ ap (λ (n : ℕ). min n (rank up f b)) (eq-rank up f a c p r h) ∙ ap (min (rank up f c)) (eq-rank up f b d q s k) ∙ sym (chosen-rank c d r s))
 
   -- COMMUTATIVE, a zero's sign aside
   pub chosen-comm : (a b : Float) → Ok f a → Ok f b → eq (chosen up a b) (chosen up b a) ≡ true

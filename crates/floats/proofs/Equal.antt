@@ -1,15 +1,14 @@
 -- `eq` is `eqb` of the keys. Assumes nothing.
-use mathlib.Core.Path.{_≡_, refl, sym, ap, _∙_, subst}
-use Prim.Native.Nat.{ℕ, zero, suc, _+_, _-_, _*_, _^_, _≤_, _<_}
+use mathlib.Core.Path.{_≡_, refl, sym, ap, _∙_}
+use Prim.Native.Nat.{ℕ, _+_, _-_, _*_, _^_, _<_}
 use native.Mathlib.Nat.{mul-pos, zero-mul, eq-of-mul-eq-mul-right}
 use native.Mathlib.Omega.{arith}
-use mathlib.Core.Bool.{Bool, true, false, not, cond, _&&_, _||_, Bool·beq}
-use lib.IntN.{ℤ}
-use lib.Dec.{T, ltb, leb, eqb, eqb-refl, ltb→lt, lt→ltb, eqb→eq, leb→le, le→leb}
+use mathlib.Core.Bool.{Bool, true, false, cond, _&&_, _||_}
+use lib.Dec.{T, eqb, eqb-refl, eqb→eq}
 use lib.Pow.{pow-pos}
-use lib.Ieee.{Float, nan, inf, fin, Format, low, up, down, level, eq, le, lt, fits}
+use lib.Ieee.{Float, nan, inf, fin, Format, low, up, down, level, eq}
 use lib.Ieee.Fits.{down-pos, and-i, and-l, and-r, eq→eqb}
-use Rattle.floats.proofs.Order.{key, big, Ok, unitsOf, small, key-fin, left-units, right-units, key-above, key-below, lt-key, big-pos}
+use Rattle.floats.proofs.Order.{key, big, Ok, unitsOf, small, key-fin, left-units, right-units, key-above, key-below, big-pos}
 
 both-ways : (a b : Bool) → (T a → T b) → (T b → T a) → a ≡ b
 both-ways true true f g = refl

@@ -1,17 +1,15 @@
 -- Sums of multiples of 1/1024 that stay within 2 ^ 53 of them are exact. Assumes nothing.
 use mathlib.Core.Path.{_≡_, refl, sym, ap, _∙_, subst}
-use Prim.Native.Nat.{ℕ, zero, suc, _+_, _-_, _*_, _/_, _%_, _^_, _≤_, _<_}
-use native.Mathlib.Nat.{lt-irrefl, zero-mul, add-mul, mul-sub, eq-or-lt-of-le, mul-right-comm, mul-assoc, mul-comm, mul-pos, mul-one, one-mul, eq-of-mul-eq-mul-right, zero-lt-suc, lt-of-lt-of-le, mul-lt-mul-of-pos-right, mul-le-mul-right, lt-of-mul-lt-mul-right}
+use Prim.Native.Nat.{ℕ, zero, suc, _+_, _-_, _*_, _^_, _≤_, _<_}
+use native.Mathlib.Nat.{eq-or-lt-of-le, mul-assoc, zero-lt-suc, lt-of-lt-of-le}
 use native.Mathlib.Omega.{arith}
 use mathlib.Core.Logic.{_⊎_, inl, inr}
-use mathlib.Core.Bool.{Bool, true, false, not, cond, _&&_, Bool·beq, true≢false, false≢true}
-use lib.IntN.{pos-ne-negsuc, ℤ, pos, negsuc, natAbs, negℤ, subℕ, _+ℤ_}
-use lib.Dec.{T, eqb·suc-zero, eqb, eqb→eq, ltb, ltb→lt, nltb→le, lt→ltb, lit<, lit≤}
-use lib.Pow.{pow-add, pow-pos, pow-mono, pow-lt, shl-lt}
-use lib.Ieee.{Float, nan, inf, fin, Format, binary64, prec, emax, low, up, down, round, sum, add, fits}
-use lib.Ieee.Fits.{eq→eqb, up-pos, down-pos, round-fits}
+use mathlib.Core.Bool.{Bool, true, false, not, cond, true≢false, false≢true}
+use lib.IntN.{ℤ, pos, negsuc, natAbs, _+ℤ_}
+use lib.Dec.{T, ltb, ltb→lt, nltb→le, lit<, lit≤}
+use lib.Pow.{pow-add, pow-mono, shl-lt}
+use lib.Ieee.{Float, nan, inf, fin, binary64, round, sum, add}
 use lib.Ieee.Exact.{HasValue, round-exact}
-use lib.Ieee.Scale.{round-same}
 use Rattle.floats.specs.Grid.{grid, signed, OnGrid}
 use Rattle.floats.proofs.Fractions.{add-at}
 

@@ -1,13 +1,14 @@
 -- Tests of a float: it is finite where `x - x == 0.0`, for an infinity less itself is a NaN, which equals nothing; it is a NaN where
 -- `x != x`. Assumes nothing.
-use mathlib.Core.Path.{_≡_, refl, sym, ap, _∙_, subst}
-use Prim.Native.Nat.{ℕ, zero, suc, _+_, _-_, _*_, _<_, _≤_}
+use mathlib.Core.Path.{_≡_, refl, sym, ap, _∙_}
+use Prim.Native.Nat.{ℕ, _-_, _*_, _<_}
 use native.Mathlib.Nat.{zero-mul, mul-pos, zero-lt-suc}
 use native.Mathlib.Omega.{arith}
-use mathlib.Core.Bool.{Bool, true, false, not, cond, _&&_, Bool·beq}
-use lib.IntN.{ℤ, pos, negsuc}
+use mathlib.Core.Bool.{Bool, true, false, not, cond, _&&_}
+use lib.IntN.{ℤ, pos}
 use lib.Dec.{T, ltb, ltb→lt}
 use lib.Ieee.{Float, nan, inf, fin, binary64, up, down, round, sum, sub, eq, ne, isNan}
+use borrow.Author.Tests.{not-false}
 use lib.Ieee.Compare.{differs-from-itself}
 use lib.Ieee.Fits.{down-pos}
 use lib.Ieee.Scale.{round-same, finite}
@@ -63,6 +64,7 @@ nan-test (fin s m e) = go (ne (fin s m e) (fin s m e)) (differs-from-itself (fin
     go true h = let n = h tt in let z : _≡_ {A = ℕ} 0 1 = cc in absurd (omega arith)
     go false h = refl
 
--- what the borrow checker knows of a float parameter is `fits binary64 x ≡ true`
-pub passes : (b : Bool) → b ≡ true → T b
-passes b h = subst T (sym h) tt
+-- so every other float equals itself
+pub eq-self : (x : Float) → isNan x ≡ false → eq x x ≡ true
+unfolding ne
+eq-self x h = not-false (eq x x) (nan-test x ∙ h)

@@ -2,13 +2,13 @@
 -- float or of two zeros. Assumes nothing.
 use mathlib.Core.Path.{_≡_, refl, sym, ap, _∙_, subst}
 use Prim.Native.Nat.{ℕ, zero, suc, _+_, _-_, _*_, _/_, _%_, _^_, _≤_, _<_}
-use native.Mathlib.Nat.{lt-irrefl, zero-lt-suc, mul-assoc, mul-comm, mul-right-comm, mul-pos, zero-mul, zero-div, mul-div-cancel, mul-one, div-lt-iff-lt-mul, lt-of-mul-lt-mul-right, lt-of-not-le, not-le-of-lt, mul-lt-mul-of-pos-right, le-of-suc-le-suc}
+use native.Mathlib.Nat.{lt-irrefl, zero-lt-suc, mul-assoc, mul-comm, mul-right-comm, mul-pos, zero-mul, zero-div, mul-div-cancel, mul-one, div-lt-iff-lt-mul, lt-of-not-le, not-le-of-lt, mul-lt-mul-of-pos-right, le-of-suc-le-suc}
 use native.Mathlib.Omega.{arith}
-use mathlib.Core.Bool.{Bool, true, false, not, cond, _&&_, _||_, Bool·beq}
+use mathlib.Core.Bool.{Bool, true, false, cond, _&&_}
 use lib.IntN.{ℤ, pos, negsuc}
-use lib.Dec.{T, nltb→le, ltb, leb, eqb, ltb→lt, leb→le, lt→ltb}
+use lib.Dec.{T, ltb, leb, eqb, ltb→lt, leb→le, lt→ltb}
 use lib.Pow.{pow-add, pow-pos, pow-lt}
-use lib.Ieee.{Float, nan, inf, fin, Format, prec, emax, low, up, down, below, lt, eq, fits}
+use lib.Ieee.{Float, nan, inf, fin, Format, prec, emax, low, up, down, below, lt, fits}
 use lib.Ieee.Fits.{up-pos, down-pos, and-l, and-r}
 use lib.Ieee.Digits.{back}
 use lib.Ieee.Exact.{HasValue}

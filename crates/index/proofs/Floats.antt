@@ -2,9 +2,10 @@
 use mathlib.Core.Path.{_≡_, refl, sym, ap, _∙_, subst}
 use mathlib.Core.Bool.{Bool, true, false, not, cond}
 use Prim.Native.Nat.{ℕ, zero, suc, _+_, _-_, _*_, _/_, _%_, _^_, _≤_, _<_}
-use native.Mathlib.Nat.{mul-assoc, mul-right-comm, mul-div-cancel, mod-eq-of-lt, lt-of-lt-of-le, lt-of-le-of-lt, lt-of-not-le, lt-irrefl, le-trans, le-of-eq, mul-le-mul-right, mul-lt-mul-of-pos-right, add-comm}
+use native.Mathlib.Nat.{mod-lt, zero-mul, mul-assoc, mul-right-comm, mul-div-cancel, mod-eq-of-lt, lt-of-lt-of-le, lt-of-le-of-lt, lt-of-not-le, lt-irrefl, le-trans, le-of-eq, mul-le-mul-right, mul-lt-mul-of-pos-right, add-comm}
 use lib.Count.{leadingZeros, leading-top}
 use native.Mathlib.Omega.{arith}
+use borrow.Author.Tests.{eqb-true, eqb-false}
 use lib.Dec.{T, leb, eqb, eqb→eq, not-T, lit≤}
 use lib.Pow.{pow-add, field, pow-pos, pow-mono}
 use lib.Ieee.{Float, nan, inf, fin, binary64, up, down, odd, fits, ofFields, ofBits, toBits, isNan, ne}
@@ -204,3 +205,43 @@ pub exact : (x : Float) (F : T (fits binary64 x)) → finite x ≡ true → HasV
 exact x F h =
     let r = exact-fields (s x F) (f x F) (t x F) (subst (λ (k : Float). finite k ≡ true) (as-fields x F) h) in
     exact-at x (s x F) (r .0) (subst (λ (k : Float). HasValue k (s x F) (r .0) (2 ^ 1074)) (sym (as-fields x F)) (r .1))
+
+-- ---- a finite f64 that is not zero has a mantissa of 53 digits and an exponent
+
+pub splits : (x : Float) → T (fits binary64 x) → finite x ≡ true → (magnitude x ≡ 0 → ⊥) → (s : Bool) × (m : ℕ) × (e : ℕ) × Split x s m e
+splits x F h z = go (eqb (f x F) 2047) (eqb (f x F) 0) refl refl
+  where
+    positive : (t : ℕ) → magnitude x ≡ t * 2 ^ 974 → 0 < t
+    positive zero e = absurd (z (e ∙ zero-mul (2 ^ 974)))
+    positive (suc t) e = omega arith
+
+    most : (t : ℕ) → t < 2 ^ 52 → t + 2 ^ 52 < 2 ^ 53
+    most t h = omega (arith, h)
+
+    lowest : (f : ℕ) → (f ≡ 0 → ⊥) → 922 ≤ f + 973
+    lowest f g = omega (arith, g)
+
+    highest : (f : ℕ) → f < 2 ^ 11 → (f ≡ 2047 → ⊥) → f + 973 ≤ 3019
+    highest f h g = omega (arith, h, g)
+
+    go : (p q : Bool) → eqb (f x F) 2047 ≡ p → eqb (f x F) 0 ≡ q → (s : Bool) × (m : ℕ) × (e : ℕ) × Split x s m e
+    go true q u v = absurd (subst T (sym h ∙ not-finite x F (eqb-true (f x F) 2047 u)) tt)
+    go false true u v =
+        let i = subnormal x F (eqb-true (f x F) 0 v) in
+        let d = normalised (t x F) (positive (t x F) (i .size)) (mod-lt (toBits binary64 x) (pow-pos 52)) in
+        (s x F, t x F * 2 ^ (leadingZeros 64 (t x F) - 11) % 2 ^ 64, 974 - (leadingZeros 64 (t x F) - 11), from-shifted x (s x F) (t x F) (leadingZeros 64 (t x F) - 11) i (d .1))
+    go false false u v =
+        let i = normal x F (eqb-false (f x F) 2047 u) (eqb-false (f x F) 0 v) in (
+          s x F,
+          t x F + 2 ^ 52,
+          f x F + 973,
+          record {
+            finite = i .finite;
+            sign = i .sign;
+            value = i .size;
+            least = omega arith;
+            most = most (t x F) (mod-lt (toBits binary64 x) (pow-pos 52));
+            lowest = lowest (f x F) (eqb-false (f x F) 0 v);
+            highest = highest (f x F) (mod-lt (toBits binary64 x / 2 ^ 52) (pow-pos 11)) (eqb-false (f x F) 2047 u);
+          },
+        )

@@ -3,5 +3,10 @@ pub mod Ranks
 pub mod Floats
 pub mod Buckets
 pub mod Finest
-pub mod Signed
+pub mod Integers
 pub mod Cases
+pub mod Laws
+pub mod Indices
+pub mod Casts
+pub mod SignedCases
+pub mod Values

@@ -3,5 +3,6 @@ pub mod DataModel
 pub mod Bins
 pub mod Frexp
 pub mod Answers
+pub mod Signed
 pub mod Bounds
 pub mod Table

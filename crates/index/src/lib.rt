@@ -2,6 +2,7 @@
 mod bounds;
 mod guess;
 mod rank;
+pub mod signed;
 
 ghost use mathlib.Core.Path.{_≡_};
 ghost use Prim.Native.Nat.{_+_, _*_, _^_, _≤_, _<_};

@@ -1,13 +1,13 @@
 -- Counts in mapped lists, the ends of a list of numbers, tables. Assumes nothing.
-use Prim.Native.Nat.{ℕ, zero, suc, _+_, _-_, _≤_, _<_, min, max}
-use mathlib.Core.Path.{_≡_, refl, ap, sym, _∙_}
-use mathlib.Core.Logic.{_≢_, _⊎_, inl, inr}
+use Prim.Native.Nat.{ℕ, zero, suc, _+_, _≤_, _<_, min, max}
+use mathlib.Core.Path.{_≡_, refl, ap, _∙_}
+use mathlib.Core.Logic.{_≢_, inl, inr}
 use mathlib.Core.List.{List, [], _∷_, _++_, map}
 use native.Mathlib.Decide.{ℕ-discrete, decLe}
 use native.Mathlib.Nat.{eq-zero-or-pos, min-eq-left, min-eq-right, max-eq-left, max-eq-right}
 use native.Mathlib.Omega.{arith}
-use lib.ListN.{length, getD, replicate}
-use Rattle.laws.specs.Counting.{sum, hit, count, lowest, highest, table}
+use lib.ListN.{length, getD, set, replicate}
+use Rattle.laws.specs.Counting.{sum, total, hit, count, lowest, highest, table}
 use Rattle.laws.proofs.Same.{sum-append, hit-same, hit-other}
 
 -- ---- mapped lists
@@ -118,3 +118,28 @@ pub getD-table : (f : ℕ → ℕ) (lo n k : ℕ) → k < n → getD (table f lo
 getD-table f lo zero k h = absurd (omega arith)
 getD-table f lo (suc n) zero h = ap f (omega arith)
 getD-table f lo (suc n) (suc k) h = getD-table f (suc lo) n k (omega arith) ∙ ap f (omega arith)
+
+pub table-cong : (f g : ℕ → ℕ) (lo n : ℕ) → ((j : ℕ) → lo ≤ j → f j ≡ g j) → table f lo n ≡ table g lo n
+table-cong f g lo zero h = refl
+table-cong f g lo (suc n) h = rw (h lo (omega arith), table-cong f g (suc lo) n (λ j l. h j (omega arith)))
+
+-- one more at one place
+pub table-set : (f : ℕ → ℕ) (lo n k : ℕ) → set (table f lo n) k (getD (table f lo n) k 0 + 1) ≡ table (λ j. f j + hit j (lo + k)) lo n
+table-set f lo zero k = refl
+table-set f lo (suc n) zero =
+    let e : lo + 0 ≡ lo = omega arith in
+    rw (e, hit-same lo) (ap (λ l. (f lo + 1) ∷ l) (table-cong f (λ j. f j + hit j lo) (suc lo) n (λ j l. omega (arith, hit-other j lo (λ q. omega arith)))))
+table-set f lo (suc n) (suc k) =
+    let e : lo + suc k ≡ suc lo + k = omega arith in
+    let z : f lo ≡ f lo + hit lo (suc lo + k) = omega (arith, hit-other lo (suc lo + k) (λ q. omega arith)) in
+    rw (e, ← z) (ap (λ l. f lo ∷ l) (table-set f (suc lo) n k))
+
+-- ---- totals
+pub total-none : (f : ℕ → ℕ) (lo n : ℕ) → ((j : ℕ) → lo ≤ j → f j ≡ 0) → total (table f lo n) ≡ 0
+total-none f lo zero h = refl
+total-none f lo (suc n) h = omega (arith, h lo (omega arith), total-none f (suc lo) n (λ j l. h j (omega arith)))
+
+pub total-set : (cs : List ℕ) (k : ℕ) → k < length cs → total (set cs k (getD cs k 0 + 1)) ≡ total cs + 1
+total-set [] k h = absurd (omega arith)
+total-set (c ∷ cs) zero h = omega arith
+total-set (c ∷ cs) (suc k) h = omega (arith, total-set cs k (omega arith))

@@ -1,12 +1,12 @@
 -- Differences of whole numbers as integers. Assumes nothing.
-use mathlib.Core.Path.{_≡_, refl, sym, ap, _∙_}
+use mathlib.Core.Path.{_≡_, refl, sym, ap, _∙_, subst}
 use mathlib.Core.Bool.{Bool, cond}
 use mathlib.Core.Logic.{_⊎_, inl, inr}
 use Prim.Native.Nat.{ℕ, zero, suc, _+_, _-_, _*_, _/_, _%_, _^_, _≤_, _<_}
 use native.Mathlib.Nat.{add-zero, add-mul, mul-le-mul-left, mul-le-mul-right, lt-of-not-le, mod-lt, div-add-mod', add-mul-div-right, zero-mul, le-trans, le-of-eq}
 use native.Mathlib.Omega.{arith}
 use borrow.Author.Tests.{lt-ltb, le-ltb}
-use lib.IntN.{ℤ, pos, negsuc, negℤ, sucℤ, _-ℤ_, _*ℤ_}
+use lib.IntN.{ℤ, pos, negsuc, negℤ, natAbs, sucℤ, _-ℤ_, _*ℤ_}
 use lib.Signed.{shrZ}
 use lib.Pow.{pow-pos}
 
@@ -102,6 +102,23 @@ same-sub x y v z e =
 
     down : (d x y v z : ℕ) → x + z ≡ v + y → y ≡ suc d + x → suc d + v ≡ z
     down d x y v z e f = omega (arith, e, f)
+
+abbrev Whole : ℤ → Type 0
+Whole (pos n) = Unit
+Whole (negsuc n) = ⊥
+
+pub sub-cancel : (x v y : ℕ) → pos x -ℤ pos y ≡ pos v -ℤ pos y → x ≡ v
+sub-cancel x v y e =
+    elim (difference x y) [
+      | inl r ↦ elim (difference v y) [ inl s ↦ up (r .0) (s .0) x v y (r .1) (s .1) (ap natAbs (sym (r .2) ∙ e ∙ s .2)) | inr s ↦ absurd (subst Whole (sym (r .2) ∙ e ∙ s .2) tt) ]
+      | inr r ↦ elim (difference v y) [ inl s ↦ absurd (subst Whole (sym (s .2) ∙ sym e ∙ r .2) tt) | inr s ↦ down (r .0) (s .0) x v y (r .1) (s .1) (ap natAbs (sym (r .2) ∙ e ∙ s .2)) ]
+    ]
+  where
+    up : (d c x v y : ℕ) → x ≡ d + y → v ≡ c + y → d ≡ c → x ≡ v
+    up d c x v y e f g = omega (arith, e, f, g)
+
+    down : (d c x v y : ℕ) → y ≡ suc d + x → y ≡ suc c + v → suc d ≡ suc c → x ≡ v
+    down d c x v y e f g = omega (arith, e, f, g)
 
 -- each integer is a difference, what is taken off being a whole number of 2 ^ k
 pub as-sub : (k : ℕ) (i : ℤ) → (x : ℕ) × (q : ℕ) × (i ≡ pos x -ℤ pos (q * 2 ^ k))

@@ -1,8 +1,9 @@
-pub mod Every
-pub mod Powers
-pub mod Differences
 pub mod Bools
 pub mod Same
 pub mod Lists
+pub mod Trees
 pub mod Counting
 pub mod Search
+pub mod Every
+pub mod Powers
+pub mod Differences

@@ -1,6 +1,8 @@
 -- Lists: properties of every element, and lists in another order. Assumes nothing.
-use mathlib.Core.Path.{_≡_, refl, ap, sym, subst, _∙_}
+use mathlib.Core.Path.{_≡_, refl, ap, subst, _∙_}
 use mathlib.Core.List.{List, [], _∷_, _++_, map, foldr, List·Permᴰ, List·Permᴰ·nil, List·Permᴰ·cons, List·Permᴰ·swap, List·Permᴰ·trans}
+use Prim.Native.Nat.{suc}
+use lib.ListN.{length}
 use Rattle.laws.specs.Lists.{All}
 
 -- ---- of every element
@@ -43,3 +45,9 @@ map-perm f List·Permᴰ·nil = List·Permᴰ·nil
 map-perm f (List·Permᴰ·cons e p) = List·Permᴰ·cons (ap f e) (map-perm f p)
 map-perm f (List·Permᴰ·swap e g) = List·Permᴰ·swap (ap f e) (ap f g)
 map-perm f (List·Permᴰ·trans p q) = List·Permᴰ·trans (map-perm f p) (map-perm f q)
+
+pub length-perm : {A : Type 0} {xs ys : List A} → List·Permᴰ xs ys → length xs ≡ length ys
+length-perm List·Permᴰ·nil = refl
+length-perm (List·Permᴰ·cons e p) = ap suc (length-perm p)
+length-perm (List·Permᴰ·swap e d) = refl
+length-perm (List·Permᴰ·trans p q) = length-perm p ∙ length-perm q

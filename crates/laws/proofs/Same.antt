@@ -1,8 +1,8 @@
 -- Lists of numbers up to their order: `Same`, and that the count of each number decides it. Assumes nothing.
-use Prim.Native.Nat.{ℕ, zero, suc, _+_, _≤_, _<_}
-use mathlib.Core.Path.{_≡_, refl, ap, sym, _∙_}
+use Prim.Native.Nat.{ℕ, _+_, _<_}
+use mathlib.Core.Path.{_≡_, refl, ap, _∙_}
 use mathlib.Core.Logic.{_≢_}
-use mathlib.Core.List.{List, [], _∷_, _++_, map}
+use mathlib.Core.List.{List, [], _∷_, _++_, map, List·Permᴰ, List·Permᴰ·nil, List·Permᴰ·cons, List·Permᴰ·swap, List·Permᴰ·trans}
 use native.Mathlib.Decide.{ℕ-discrete}
 use native.Mathlib.Omega.{arith}
 use borrow.Author.Tests.{eq-eqb, ne-eqb}
@@ -44,3 +44,10 @@ same-of-count [] (y ∷ ys) h w = absurd (omega (arith, h y, hit-same y))
 same-of-count (x ∷ xs) ys h w =
     let r = pull x ys (omega (arith, h x, hit-same x)) in
     omega (arith, r .1 w, same-of-count xs (r .0) (λ i. omega (arith, h i, r .1 (hit i))) w)
+
+-- lists in another order are the same numbers
+pub same-perm : {xs ys : List ℕ} → List·Permᴰ xs ys → Same xs ys
+same-perm List·Permᴰ·nil w = refl
+same-perm (List·Permᴰ·cons {a = a} {b = b} {l₁ = l} e p) w = omega (arith, ap w e, same-perm p w)
+same-perm (List·Permᴰ·swap {a = a} {b = b} {a′ = c} {b′ = d} {l = l} e g) w = omega (arith, ap w e, ap w g)
+same-perm (List·Permᴰ·trans p q) w = same-perm p w ∙ same-perm q w

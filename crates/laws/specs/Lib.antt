@@ -1,5 +1,6 @@
 pub mod Pick
-pub mod NoneOf
 pub mod Lists
+pub mod Trees
 pub mod Counting
 pub mod Search
+pub mod NoneOf

@@ -1,24 +1,23 @@
 -- What agreement says, and that a point that agrees is the point of what it stands for. Assumes nothing.
-use Prim.Native.Nat.{ℕ, zero, suc, _+_, _-_, _*_, _/_, _^_, _≤_, _<_, max, pred}
-use mathlib.Core.Path.{_≡_, refl, ap, sym, subst, _∙_}
-use mathlib.Core.Logic.{_⊎_, inl, inr}
-use mathlib.Core.Bool.{Bool, true, false, not}
-use mathlib.Core.List.{List, [], _∷_, _++_, map}
-use native.Mathlib.Nat.{eq-zero-or-pos}
+use Prim.Native.Nat.{ℕ, _+_, _-_, _*_, _/_, _^_, _≤_, _<_, max, pred}
+use mathlib.Core.Path.{_≡_, ap, sym, _∙_}
+use mathlib.Core.Logic.{inl, inr}
+use mathlib.Core.Bool.{true, not}
+use mathlib.Core.List.{[], map}
 use native.Mathlib.Omega.{arith}
 use lib.Dec.{leb, leb·zero, eqb}
 use lib.ListN.{length, getD}
 use borrow.Author.Tests.{leb-true, le-leb, eqb-true, eqb-false, eq-eqb, ne-eqb, not-true}
-use Rattle.laws.specs.Pick.{pick, _and_}
+use Rattle.laws.specs.Pick.{_and_}
 use Rattle.laws.specs.Counting.{total}
-use Rattle.laws.proofs.Bools.{flag, not-both, and-left, and-right, and-intro, pick-true, pick-false}
+use Rattle.laws.proofs.Bools.{flag, and-left, and-right, and-intro, pick-true, pick-false}
 use Rattle.laws.proofs.Search.{least-spec}
 use Rattle.index.specs.Bins.{finest, endBin}
 use Rattle.points.specs.Points.{Row, row, rowOf, expand, indices, fits, fitsBoth, scale, none, Point, pointAt, build, pointOf, bag, merge}
 use Rattle.points.specs.Agreement.{rowAgrees, agrees}
 use Rattle.points.proofs.Rows.{Canonical, rowOf-cong, rowOf-expand}
 use Rattle.points.proofs.Alike.{up-down}
-use Rattle.points.proofs.Merge.{merge-build, none-⊕, scale-ge}
+use Rattle.points.proofs.Merge.{merge-build, none-⊕}
 
 -- ---- the tests, and the facts that they stand for
 pub record RowOk (size low end : ℕ) (r : Row) : Type 0 where

@@ -6,7 +6,7 @@ use native.Mathlib.Omega.{arith}
 use lib.Pow.{shr-shr, shl-shr}
 use Rattle.laws.specs.Counting.{sum}
 use Rattle.laws.proofs.Same.{Same, sum-map}
-use Rattle.points.specs.Points.{row, rowOf, expand, indices}
+use Rattle.points.specs.Points.{row, expand, indices}
 use Rattle.points.proofs.Rows.{rowOf-cong, expand-rowOf}
 
 -- lists of finest bins that cannot be told apart k steps below

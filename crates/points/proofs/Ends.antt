@@ -1,25 +1,24 @@
 -- The ends of a row and the level: a row runs from the least bin to the greatest, and below the greatest level one sign does not fit
 -- one level finer. Assumes nothing.
-use Prim.Native.Nat.{ℕ, zero, suc, _+_, _-_, _*_, _/_, _^_, _≤_, _<_, pred}
+use Prim.Native.Nat.{ℕ, zero, suc, _+_, _-_, _/_, _^_, _≤_, _<_, pred}
 use mathlib.Core.Path.{_≡_, refl, ap, sym, _∙_}
 use mathlib.Core.Logic.{_⊎_, inl, inr}
 use mathlib.Core.Bool.{Bool, true, false}
-use mathlib.Core.List.{List, [], _∷_, _++_, map}
+use mathlib.Core.List.{List, [], _∷_, map}
 use native.Mathlib.Numerals.{add-one}
 use native.Mathlib.Omega.{arith}
 use lib.Dec.{leb, leb·zero, eqb}
 use lib.ListN.{length, replicate}
 use lib.Pow.{shr-shr, shr-mono}
 use borrow.Author.Tests.{leb-true, leb-false, le-leb}
-use Rattle.laws.specs.Pick.{pick, _and_}
-use Rattle.laws.specs.Counting.{sum, hit, count, lowest, highest}
-use Rattle.laws.specs.Search.{least}
+use Rattle.laws.specs.Pick.{pick}
+use Rattle.laws.specs.Counting.{sum, hit, lowest, highest}
 use Rattle.laws.proofs.Bools.{flag, not-both, and-intro}
 use Rattle.laws.proofs.Same.{sum-append}
-use Rattle.laws.proofs.Counting.{Ends, ends-of, ends-map, ends-unique}
+use Rattle.laws.proofs.Counting.{Ends, ends-of, ends-map}
 use Rattle.laws.proofs.Search.{least-spec}
 use Rattle.index.specs.Bins.{finest}
-use Rattle.points.specs.Points.{row, rowOf, expand, fits, fitsBoth, scale, Bag, Point, build}
+use Rattle.points.specs.Points.{row, rowOf, expand, fits, fitsBoth, scale, Bag, build}
 use Rattle.points.proofs.Rows.{rowOf-canonical, at-rowOf, at-in, at-pos}
 
 -- ---- THE ENDS OF A ROW

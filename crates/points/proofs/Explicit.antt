@@ -1,19 +1,23 @@
 -- Explicit buckets: recording one by one, joined lists, another order, and merging: commutative, associative, with the fresh point
 -- neutral; agreement is kept. Assumes nothing.
 use Prim.Native.Nat.{ℕ, zero, suc, _+_, _≤_, _<_}
-use mathlib.Core.Path.{_≡_, refl, ap, sym, _∙_}
-use mathlib.Core.Logic.{_≢_, _⊎_, inl, inr}
-use mathlib.Core.Bool.{Bool, true, false}
+use mathlib.Core.Path.{_≡_, refl, ap, sym, subst, _∙_}
+use mathlib.Core.Logic.{inl, inr}
+use mathlib.Core.Bool.{Bool, true, false, not}
 use mathlib.Core.List.{List, [], _∷_, _++_, map, foldl, map-append, append-nil, append-assoc, List·Permᴰ}
 use native.Mathlib.Omega.{arith}
-use lib.ListN.{length, getD, set, length-append, length-set}
-use lib.Ieee.{Float, lt}
+use lib.ListN.{length, getD, length-append, length-set}
+use lib.Dec.{leb, eqb}
+use borrow.Author.Tests.{eqb-true, eqb-false, eq-eqb, ne-eqb, not-true}
+use lib.Ieee.{Float, lt, eq, isNan}
+use Rattle.floats.proofs.Finite.{eq-self}
 use Rattle.laws.specs.Pick.{pick, _and_}
 use Rattle.laws.specs.Counting.{hit, count, table, total}
 use Rattle.laws.proofs.Same.{sum-append, same-perm}
 use Rattle.laws.proofs.Lists.{map-perm, length-perm}
-use Rattle.laws.proofs.Counting.{table-cong, table-set}
-use Rattle.points.specs.Explicit.{bucketOf, bucketCount, Buckets, bucketsOf, recordBucket, added, mergeBuckets, boundsPass, bucketsAgree}
+use Rattle.laws.proofs.Counting.{length-table, table-cong, table-set, total-none, total-set}
+use Rattle.laws.proofs.Bools.{flag, and-left, and-right, and-intro, pick-true, pick-false}
+use Rattle.points.specs.Explicit.{bucketOf, bucketCount, Buckets, bucketsOf, recordBucket, added, mergeBuckets, mostBounds, noNan, rising, boundsPass, sameBounds, bucketsAgree}
 
 -- ---- MERGING IS COMMUTATIVE AND ASSOCIATIVE, of any points
 added-comm : (xs ys : List ℕ) → added xs ys ≡ added ys xs
@@ -71,7 +75,7 @@ record-bucketsOf bounds xs v =
     ∙ table-cong (λ j. f xs j + hit j (0 + k)) (f (xs ++ v ∷ [])) 0 n
     (λ j _.
     let e : 0 + k ≡ k = omega arith in
-    rw (e, map-append (bucketOf bounds) xs (v ∷ [])) (sym (sum-append (hit j) (map (bucketOf bounds) xs) (k ∷ [])))))
+    rw (e, map-append (bucketOf bounds) xs (v ∷ [])) (omega (arith, sum-append (hit j) (map (bucketOf bounds) xs) (k ∷ [])))))
     (sym (length-append xs (v ∷ [])))
 
 abbrev pub recordBuckets : List Float → Buckets → List Float → Buckets
@@ -99,3 +103,113 @@ added-none lo (y ∷ ys) = let e : 0 + y ≡ y = omega arith in rw (e, added-non
 pub fresh-buckets : (bounds : List Float) (p : Buckets) → length (p .counts) ≡ bucketCount bounds → mergeBuckets (bucketsOf bounds []) p ≡ p
 unfolding mergeBuckets bucketsOf
 fresh-buckets bounds p h = buckets-path (mergeBuckets (bucketsOf bounds []) p) p (rw (← h) (added-none 0 (p .counts))) (omega arith)
+
+-- ---- AGREEMENT IS KEPT
+pub record BucketsOk (bounds : List Float) (p : Buckets) : Type 0 where
+  pub passes : boundsPass bounds ≡ true
+  pub whole : length (p .counts) ≡ bucketCount bounds
+  pub adds : 0 < bucketCount bounds → total (p .counts) ≡ p .total
+
+pub buckets-say : (bounds : List Float) (p : Buckets) → bucketsAgree bounds p ≡ true → BucketsOk bounds p
+unfolding bucketsAgree
+buckets-say bounds p h =
+    let n = bucketCount bounds in
+    let a = boundsPass bounds in
+    let b = eqb (length (p .counts)) n in
+    let t = eqb (total (p .counts)) (p .total) in
+    let c = pick (eqb n 0) true t in
+    let k = and-right a (b and c) h in
+    record {
+      passes = and-left a (b and c) h;
+      whole = eqb-true (length (p .counts)) n (and-left b c k);
+      adds = λ l. eqb-true (total (p .counts)) (p .total) (sym (pick-false (eqb n 0) true t (ne-eqb n 0 (λ e. omega arith))) ∙ and-right b c k);
+    }
+
+pub buckets-agree : (bounds : List Float) (p : Buckets) → BucketsOk bounds p → bucketsAgree bounds p ≡ true
+unfolding bucketsAgree
+buckets-agree bounds p k =
+    let n = bucketCount bounds in
+    let b = eqb (length (p .counts)) n in
+    let t = eqb (total (p .counts)) (p .total) in
+    let c = pick (eqb n 0) true t in
+    and-intro (boundsPass bounds) (b and c) (k .passes)
+    (and-intro b c (eq-eqb (length (p .counts)) n (k .whole))
+    (elim (flag (eqb n 0)) [
+      | inl e ↦ pick-true (eqb n 0) true t e
+      | inr e ↦
+          let ne = eqb-false n 0 e in
+          pick-false (eqb n 0) true t e ∙ eq-eqb (total (p .counts)) (p .total) (k .adds (omega arith))
+    ]))
+
+pick-le : (b : Bool) → pick b 1 0 ≤ 1
+unfolding pick
+pick-le true = omega arith
+pick-le false = omega arith
+
+pub bucket-le : (bounds : List Float) (v : Float) → bucketOf bounds v ≤ length bounds
+unfolding bucketOf
+bucket-le [] v = omega arith
+bucket-le (b ∷ bs) v = omega (arith, pick-le (lt b v), bucket-le bs v)
+
+-- with bounds, each value has a bucket
+bucket-in : (bounds : List Float) (v : Float) → 0 < bucketCount bounds → bucketOf bounds v < bucketCount bounds
+bucket-in [] v h = absurd (omega arith)
+bucket-in (b ∷ bs) v h = let l = bucket-le (b ∷ bs) v in omega arith
+
+pub record-buckets-ok : (bounds : List Float) (p : Buckets) (v : Float) → BucketsOk bounds p → BucketsOk bounds (recordBucket bounds p v)
+unfolding recordBucket
+record-buckets-ok bounds p v k =
+    let j = bucketOf bounds v in
+    record {
+      passes = k .passes;
+      whole = length-set (p .counts) j (getD (p .counts) j 0 + 1) ∙ k .whole;
+      adds = λ h. omega (arith, k .adds h, total-set (p .counts) j (omega (arith, k .whole, bucket-in bounds v h)));
+    }
+
+total-added : (xs ys : List ℕ) → total (added xs ys) ≡ total xs + total ys
+unfolding added
+total-added [] ys = omega arith
+total-added (x ∷ xs) [] = omega arith
+total-added (x ∷ xs) (y ∷ ys) = omega (arith, total-added xs ys)
+
+pub length-added : (xs ys : List ℕ) → length xs ≡ length ys → length (added xs ys) ≡ length xs
+unfolding added
+length-added [] ys h = sym h
+length-added (x ∷ xs) [] h = refl
+length-added (x ∷ xs) (y ∷ ys) h = ap suc (length-added xs ys (omega arith))
+
+-- the first's bounds stay; the second's are as many
+pub merge-buckets-ok : (bounds cs : List Float) (p q : Buckets) → bucketCount bounds ≡ bucketCount cs → BucketsOk bounds p → BucketsOk cs q → BucketsOk bounds (mergeBuckets p q)
+unfolding mergeBuckets
+merge-buckets-ok bounds cs p q e k l =
+    record {
+      passes = k .passes;
+      whole = length-added (p .counts) (q .counts) (k .whole ∙ e ∙ sym (l .whole)) ∙ k .whole;
+      adds = λ h. omega (arith, total-added (p .counts) (q .counts), k .adds h, l .adds (omega arith));
+    }
+
+pub fresh-buckets-ok : (bounds : List Float) → boundsPass bounds ≡ true → BucketsOk bounds (bucketsOf bounds [])
+unfolding bucketsOf
+fresh-buckets-ok bounds h =
+    record { passes = h; whole = length-table (λ _. 0) 0 (bucketCount bounds); adds = λ _. total-none (λ _. 0) 0 (bucketCount bounds) (λ _ _. refl) }
+
+pub bucketsOf-ok : (bounds vs : List Float) → boundsPass bounds ≡ true → BucketsOk bounds (bucketsOf bounds vs)
+bucketsOf-ok bounds vs h = subst (BucketsOk bounds) (recordBuckets-of bounds [] vs) (go (bucketsOf bounds []) vs (fresh-buckets-ok bounds h))
+  where
+    go : (p : Buckets) (vs : List Float) → BucketsOk bounds p → BucketsOk bounds (recordBuckets bounds p vs)
+    go p [] k = k
+    go p (v ∷ vs) k = go (recordBucket bounds p v) vs (record-buckets-ok bounds p v k)
+
+-- ---- bounds that pass are the same as themselves
+same-self : (bs : List Float) → noNan bs ≡ true → sameBounds bs bs ≡ true
+unfolding noNan sameBounds
+same-self [] h = refl
+same-self (b ∷ bs) h =
+    and-intro (eq b b) (sameBounds bs bs) (eq-self b (not-true (isNan b) (and-left (not (isNan b)) (noNan bs) h)))
+    (same-self bs (and-right (not (isNan b)) (noNan bs) h))
+
+pub same-bounds : (bs : List Float) → boundsPass bs ≡ true → sameBounds bs bs ≡ true
+unfolding boundsPass
+same-bounds bs h =
+    let l = leb (length bs) mostBounds in
+    same-self bs (and-left (noNan bs) (rising bs) (and-right l (noNan bs and rising bs) h))

@@ -1,9 +1,9 @@
 -- Agreement is kept: the point of a bag whose bins are in range agrees, and so do merged points and a point with one value more.
 -- Assumes nothing.
-use Prim.Native.Nat.{ℕ, zero, suc, _+_, _-_, _*_, _/_, _^_, _≤_, _<_, max, pred}
+use Prim.Native.Nat.{ℕ, suc, _+_, _-_, _*_, _/_, _^_, _≤_, _<_, max, pred}
 use mathlib.Core.Path.{_≡_, refl, ap, sym, subst, _∙_}
 use mathlib.Core.Logic.{_⊎_, inl, inr}
-use mathlib.Core.Bool.{Bool, true}
+use mathlib.Core.Bool.{true}
 use mathlib.Core.List.{List, [], _∷_, _++_, map, map-append}
 use native.Mathlib.Nat.{eq-zero-or-pos, add-zero, div-one, div-lt-iff-lt-mul, mul-assoc}
 use native.Mathlib.Decide.{ℕ-discrete}
@@ -11,13 +11,13 @@ use native.Mathlib.Omega.{arith}
 use lib.Pow.{pow-pos, pow-add, shr-shr, shl-shr, shr-mono}
 use lib.ListN.{length, replicate}
 use borrow.Author.Tests.{leb-true}
-use Rattle.laws.specs.Counting.{sum, hit, count, total}
+use Rattle.laws.specs.Counting.{hit, count, total}
 use Rattle.laws.proofs.Bools.{and-left, and-right}
 use Rattle.laws.proofs.Same.{sum-append, sum-map, hit-other}
 use Rattle.laws.proofs.Counting.{map-count, count-map-pos, many, many-replicate}
 use Rattle.laws.proofs.Search.{least-spec}
 use Rattle.index.specs.Bins.{finest, endBin}
-use Rattle.points.specs.Points.{Row, at, row, rowOf, expand, indices, fits, fitsBoth, scale, Bag, _⊕_, none, one, bagOf, Point, build, pointOf, bag, merge, record1, Value, naught, plus, minus}
+use Rattle.points.specs.Points.{Row, at, row, rowOf, expand, indices, fits, fitsBoth, scale, Bag, _⊕_, one, bagOf, Point, build, pointOf, bag, merge, record1, Value, naught, plus, minus}
 use Rattle.points.proofs.Rows.{Canonical, rowOf-canonical, at-rowOf, at-in, at-pos, count-expand, expand-rowOf}
 use Rattle.points.proofs.Agreement.{RowOk, Agreed}
 

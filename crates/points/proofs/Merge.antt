@@ -1,14 +1,13 @@
 -- Merging points: the order does not matter, and the point of values is what merging makes of them, also where it merges under a
 -- smaller size than they were built under. Assumes nothing.
-use Prim.Native.Nat.{ℕ, zero, _+_, _-_, _/_, _^_, _≤_, max}
+use Prim.Native.Nat.{ℕ, _-_, _/_, _^_, _≤_, max}
 use mathlib.Core.Path.{_≡_, refl, ap, sym, _∙_}
-use mathlib.Core.Bool.{Bool, true, false}
+use mathlib.Core.Bool.{true}
 use mathlib.Core.List.{List, [], _∷_, _++_, map, map-append, append-assoc}
 use native.Mathlib.Nat.{add-assoc, zero-add}
 use native.Mathlib.Omega.{arith}
 use lib.ListN.{length}
 use borrow.Author.Tests.{leb-true, le-leb}
-use Rattle.laws.specs.Pick.{_and_}
 use Rattle.laws.specs.Search.{least}
 use Rattle.laws.proofs.Bools.{and-left, and-right, and-intro}
 use Rattle.laws.proofs.Same.{Same, sum-append}
@@ -201,8 +200,3 @@ pub merge-points : (size m n d e : ℕ) (xs ys : List Value) → size ≤ m → 
 unfolding pointOf
 merge-points size m n d e xs ys g h =
     merge-builds size m n d e (bagOf xs) (bagOf ys) g h ∙ ap (λ b. build size (max d e) b) (sym (bagOf-append xs ys))
-
-pub merge-pointOf : (size d : ℕ) (xs ys : List Value) → merge size (pointOf size d xs) (pointOf size d ys) ≡ pointOf size d (xs ++ ys)
-merge-pointOf size d xs ys =
-    let e : max d d ≡ d = omega arith in
-    merge-points size size size d d xs ys (omega arith) (omega arith) ∙ ap (λ k. pointOf size k (xs ++ ys)) e

@@ -4,8 +4,8 @@ use mathlib.Core.Path.{_≡_, refl, ap, sym, subst, _∙_}
 use mathlib.Core.List.{List, [], _∷_, _++_, append-nil, append-assoc, List·Permᴰ, List·Permᴰ·nil, List·Permᴰ·cons, List·Permᴰ·swap, List·Permᴰ·trans}
 use native.Mathlib.Omega.{arith}
 use Rattle.laws.proofs.Same.{sum-append}
-use Rattle.points.specs.Points.{Bag, _⊕_, none, one, bagOf, Point, scale, build, pointOf, bag, merge, record1, Value, naught, plus, minus}
-use Rattle.points.proofs.Merge.{Equal, build-equal, build-absorb, merge-build, bagOf-append, ⊕-assoc, equal-comm}
+use Rattle.points.specs.Points.{Bag, _⊕_, none, one, bagOf, Point, scale, build, pointOf, record1, Value, naught, plus, minus}
+use Rattle.points.proofs.Merge.{Equal, build-equal, build-absorb, bagOf-append, ⊕-assoc, equal-comm}
 
 -- ---- the order of the values
 equal-refl : (b : Bag) → Equal b b
@@ -67,11 +67,3 @@ pub recordAll-pointOf : (size d : ℕ) (xs vs : List Value) → recordAll size (
 recordAll-pointOf size d xs [] = ap (λ l. pointOf size d l) (sym (append-nil xs))
 recordAll-pointOf size d xs (v ∷ vs) =
     rw (record-pointOf size d xs v) (recordAll-pointOf size d (xs ++ v ∷ []) vs ∙ ap (λ l. pointOf size d l) (append-assoc xs (v ∷ []) vs))
-
--- a value recorded is its point merged
-pub record-merge : (size : ℕ) (p : Point) (v : Value) → record1 size p v ≡ merge size (pointOf size 0 (v ∷ [])) p
-unfolding record1 pointOf
-record-merge size p v =
-    build-equal size (p .d) (max 0 (p .d)) (bag p ⊕ one v) (one v ⊕ bag p) (omega arith) (equal-comm (bag p) (one v))
-    ∙ sym (merge-build size size 0 (one v) p (omega arith))
-    ∙ ap (λ b. merge size (build size 0 b) p) (sym (one-none v))

@@ -1,7 +1,7 @@
 -- Rows: canonical rows are equal where their counts are, and the row of a list of bins is canonical and counts them. Assumes nothing.
 use Prim.Native.Nat.{ℕ, zero, suc, _+_, _-_, _≤_, _<_, pred}
 use mathlib.Core.Path.{_≡_, refl, ap, sym, subst, _∙_}
-use mathlib.Core.Logic.{_⊎_, inl, inr}
+use mathlib.Core.Logic.{inl, inr}
 use mathlib.Core.List.{List, [], _∷_, _++_}
 use native.Mathlib.Decide.{decLt}
 use native.Mathlib.Nat.{eq-zero-or-pos, add-sub-cancel-left, add-zero}
@@ -10,7 +10,7 @@ use lib.ListN.{length, getD, replicate, List·getD-eq-default}
 use lib.Seq.{ext-getD}
 use borrow.Author.Tests.{le-leb, lt-leb}
 use Rattle.laws.specs.Pick.{pick}
-use Rattle.laws.specs.Counting.{sum, hit, count, lowest, highest, table}
+use Rattle.laws.specs.Counting.{hit, count, lowest, highest, table}
 use Rattle.laws.proofs.Same.{sum-append, Same, same-of-count}
 use Rattle.laws.proofs.Counting.{ends-of, length-table, getD-table, count-replicate, count-replicate-same}
 use Rattle.points.specs.Points.{Row, at, rowOf, expand}

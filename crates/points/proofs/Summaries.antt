@@ -9,11 +9,11 @@ use Rattle.floats.specs.Answers.{lesserOf, greaterOf}
 use Rattle.floats.specs.Starts.{greatestFinite, leastFinite, zeroFloat, FiniteF64}
 use Rattle.floats.specs.Grid.{grid, exactTotal, Gridded}
 use Rattle.floats.proofs.Order.{Ok}
-use Rattle.floats.proofs.Choices.{chosen, fold-ok, fold-parts, fold-perm}
+use Rattle.floats.proofs.Choices.{chosen, fold-parts, fold-perm}
 use Rattle.floats.proofs.Starts as F
-use Rattle.floats.proofs.Starts.{finite-ok, start-finite}
+use Rattle.floats.proofs.Starts.{finite-ok, start-finite, fold-finite}
 use Rattle.floats.proofs.Sums.{sum-is}
-use Rattle.points.specs.Values.{Summary, start, noted, summaryOf, joined}
+use Rattle.points.specs.Values.{Summary, start, noted, summaryOf}
 
 summary-from : (s : Summary) (vs : List Float)
     → foldl noted s vs ≡ record { min = foldl lesserOf (s .min) vs; max = foldl greaterOf (s .max) vs; sum = foldl (add binary64) (s .sum) vs }
@@ -41,9 +41,8 @@ extreme-is : (up : Bool) (vs : List Float) → extreme up (summaryOf vs) ≡ fol
 extreme-is true vs = ap (λ s. s .min) (summary-is vs)
 extreme-is false vs = ap (λ s. s .max) (summary-is vs)
 
-pub extreme-ok : (up : Bool) (vs : List Float) → All FiniteF64 vs → Ok binary64 (extreme up (summaryOf vs))
-extreme-ok up vs h =
-    subst (Ok binary64) (sym (extreme-is up vs)) (fold-ok up binary64 (F.start up) vs (finite-ok (F.start up) (start-finite up)) (ok-all vs h))
+pub extreme-finite : (up : Bool) (vs : List Float) → All FiniteF64 vs → FiniteF64 (extreme up (summaryOf vs))
+extreme-finite up vs h = subst FiniteF64 (sym (extreme-is up vs)) (fold-finite up (F.start up) vs (start-finite up) h)
 
 -- PARTS IN THEIR ORDER: the very float
 pub extreme-parts : (up : Bool) (xs ys : List Float) → All FiniteF64 xs → All FiniteF64 ys

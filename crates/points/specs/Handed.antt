@@ -1,36 +1,19 @@
 -- A point as it is handed out: of either kind, with its switch and zero threshold, extremes that it has or has not, and its sum; and
 -- merging such points. Assumes nothing.
-use Prim.Native.Nat.{ℕ, _-_}
-use mathlib.Core.Bool.{Bool, true, false}
+use Prim.Native.Nat.{ℕ}
+use mathlib.Core.Bool.{Bool, true, false, Bool·beq}
 use mathlib.Core.List.{List}
 use lib.Ieee.{Float, binary64, add}
 use lib.Ieee.Scale.{finite}
 use Rattle.laws.specs.Pick.{pick, _and_}
-use Rattle.index.specs.Bins.{finest}
 use Rattle.floats.specs.Answers.{shownOf, smallerOf, largerOf}
 use Rattle.floats.specs.Starts.{zeroFloat}
 use Rattle.floats.specs.declared.Extreme.{Extreme}
 use Rattle.floats.specs.declared.Extreme.the-variants.{None, Value}
-use Rattle.points.specs.Points.{Point, merge}
+use Rattle.points.specs.Points.{merge}
 use Rattle.points.specs.Agreement.{agrees}
-use Rattle.points.specs.Values.{Summary, countsOf, summaryOf}
-use Rattle.points.specs.Explicit.{Buckets, bucketsOf, mergeBuckets, bucketsAgree}
-
--- what is configured: the kind with its max_size and greatest level, or its bounds; the two switches; the zero threshold
-pub data Kind : Type 0 where
-  exponential : ℕ → ℕ → Kind
-  explicit : List Float → Kind
-
-pub record Settings : Type 0 where
-  pub kind : Kind
-  pub extremes : Bool
-  pub sums : Bool
-  pub threshold : Float
-
--- the counts of either kind; the case is the kind's tag
-pub data Counts : Type 0 where
-  scaled : Point → Counts
-  bucketed : List Float → Buckets → Counts
+use Rattle.points.specs.Explicit.{sameBounds, mergeBuckets, bucketsAgree}
+use Rattle.points.specs.Figures.{Settings, Counts, scaled, bucketed, Figures, figuresOf}
 
 pub record Handed : Type 0 where
   pub counts : Counts
@@ -41,32 +24,41 @@ pub record Handed : Type 0 where
   pub sum : Float
 
 -- "with min/max off a point has neither, with the sum off it hands out 0.0"
-abbrev pub handedOut : Settings → Counts → Summary → Handed
-handedOut s c m =
+abbrev pub handedOut : Settings → Figures → Handed
+handedOut s f =
     record {
-      counts = c;
+      counts = f .counts;
       extremes = s .extremes;
       threshold = s .threshold;
-      min = shownOf (s .extremes) (m .min);
-      max = shownOf (s .extremes) (m .max);
-      sum = pick (s .sums) (m .sum) zeroFloat;
+      min = shownOf (s .extremes) (f .summary .min);
+      max = shownOf (s .extremes) (f .summary .max);
+      sum = pick (s .sums) (f .summary .sum) zeroFloat;
     }
 
 -- the point of a list of values
-abbrev pub kindCounts : Kind → Float → List Float → Counts
-kindCounts (exponential size top) threshold vs = scaled (countsOf size (finest - top) threshold vs)
-kindCounts (explicit bounds) threshold vs = bucketed bounds (bucketsOf bounds vs)
-
 unfoldable pub handed : Settings → List Float → Handed
-handed s vs = handedOut s (kindCounts (s .kind) (s .threshold) vs) (summaryOf vs)
+handed s vs = handedOut s (figuresOf s vs)
 
--- merging under a max_size; the first's bounds stay. Points of unlike kinds are refused: their merge is of no meaning
+-- ---- merging
+
+-- number 11 is given for "points of different kind, bounds (as numbers), or min/max switch"
+abbrev pub sameKind : Counts → Counts → Bool
+sameKind (scaled p) (scaled q) = true
+sameKind (scaled p) (bucketed c q) = false
+sameKind (bucketed b p) (scaled q) = false
+sameKind (bucketed b p) (bucketed c q) = sameBounds b c
+
+unfoldable pub mergeable : Handed → Handed → Bool
+mergeable p q = sameKind (p .counts) (q .counts) and Bool·beq (p .extremes) (q .extremes)
+
+-- under a max_size; the first's bounds stay. Points of unlike kinds are refused: their merge has no meaning
 abbrev pub mergeCounts : ℕ → Counts → Counts → Counts
 mergeCounts size (scaled p) (scaled q) = scaled (merge size p q)
-mergeCounts size (scaled p) (bucketed b q) = scaled p
+mergeCounts size (scaled p) (bucketed c q) = scaled p
 mergeCounts size (bucketed b p) (scaled q) = bucketed b p
 mergeCounts size (bucketed b p) (bucketed c q) = bucketed b (mergeBuckets p q)
 
+-- "takes the smaller min and larger max (equal: the first's), and adds the sums once"
 unfoldable pub mergeHanded : ℕ → Handed → Handed → Handed
 mergeHanded size p q =
     record {
@@ -78,6 +70,8 @@ mergeHanded size p q =
       sum = add binary64 (p .sum) (q .sum);
     }
 
+-- ---- agreement
+
 -- "Held extremes are finite, both or neither"
 abbrev pub extremesAgree : Extreme → Extreme → Bool
 extremesAgree None None = true
@@ -85,10 +79,15 @@ extremesAgree None (Value y) = false
 extremesAgree (Value x) None = false
 extremesAgree (Value x) (Value y) = finite x and finite y
 
--- a point handed out agrees with itself, under a max_size and a greatest level (the greatest of all in a merge)
+-- under a max_size, a greatest level (the finest in a merge) and the lowest finest bin
 abbrev pub countsAgree : ℕ → ℕ → ℕ → Counts → Bool
 countsAgree size top low (scaled p) = agrees size top low p
 countsAgree size top low (bucketed b p) = bucketsAgree b p
 
 unfoldable pub handedAgrees : ℕ → ℕ → ℕ → Handed → Bool
 handedAgrees size top low p = countsAgree size top low (p .counts) and extremesAgree (p .min) (p .max)
+
+-- the count of values
+abbrev pub countOf : Counts → ℕ
+countOf (scaled p) = p .total
+countOf (bucketed b p) = p .total

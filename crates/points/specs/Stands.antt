@@ -5,23 +5,32 @@ use mathlib.Core.Bool.{true}
 use mathlib.Core.List.{List}
 use lib.Ieee.{Float, eq}
 use Rattle.laws.specs.Pick.{pick}
+use Rattle.laws.specs.Lists.{All}
 use Rattle.floats.specs.Answers.{shownOf}
 use Rattle.floats.specs.Grid.{grid, exactTotal, Gridded}
-use Rattle.floats.specs.Starts.{zeroFloat}
+use Rattle.floats.specs.Starts.{zeroFloat, FiniteF64}
 use Rattle.floats.specs.declared.Extreme.{Extreme}
 use Rattle.floats.specs.declared.Extreme.the-variants.{None, Value}
 use Rattle.points.specs.Values.{summaryOf}
-use Rattle.points.specs.Handed.{Settings, Handed, kindCounts}
+use Rattle.points.specs.Figures.{Settings, kindCounts}
+use Rattle.points.specs.Handed.{Handed}
 
--- neither is there, or both are and equal as numbers
+-- finite, and equal as numbers
+pub record SameNumber (x y : Float) : Type 0 where
+  pub left : FiniteF64 x
+  pub right : FiniteF64 y
+  pub same : eq x y ≡ true
+
+-- neither is there, or both are and are the same number
 abbrev pub SameExtreme : Extreme → Extreme → Type 0
 SameExtreme None None = Unit {0}
 SameExtreme None (Value y) = ⊥
 SameExtreme (Value x) None = ⊥
-SameExtreme (Value x) (Value y) = eq x y ≡ true
+SameExtreme (Value x) (Value y) = SameNumber x y
 
 -- "The sum under demand 3's premise is the exact total (switched off: 0.0)": `grid z` is z / 1024
 pub record Stands (s : Settings) (p : Handed) (vs : List Float) : Type 0 where
+  pub values : All FiniteF64 vs
   pub counts : p .counts ≡ kindCounts (s .kind) (s .threshold) vs
   pub extremes : p .extremes ≡ s .extremes
   pub threshold : p .threshold ≡ s .threshold

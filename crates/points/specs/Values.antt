@@ -19,7 +19,7 @@ classOf threshold v =
     naught
     (pick (isNegative v) (minus (finestBin (magnitude v))) (plus (finestBin (magnitude v))))
 
--- the counts of a list of values: at most d steps below the finest level
+-- the scale, rows and counts of a list of values, no finer than d steps below the finest level
 abbrev pub countsOf : ℕ → ℕ → Float → List Float → Point
 countsOf size d threshold vs = pointOf size d (map (classOf threshold) vs)
 

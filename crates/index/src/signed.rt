@@ -1,0 +1,106 @@
+// Scales and signed bucket indices, as callers and points hold them, beside levels and bins.
+ghost use mathlib.Core.Path.{_≡_};
+ghost use Rattle.index.specs.Signed.{levelAnswer, scaleAnswer, indexAnswer, binAnswer, valueIndex, binIndex, signedAt};
+
+// A whole number, or none where what was asked for is out of range.
+pub enum Natural {
+    OutOfRange,
+    Is(u32),
+}
+
+pub enum Integer {
+    OutOfRange,
+    Is(i32),
+}
+
+// What an f64 has at a scale: no such scale, not a finite number, zero, or the Data Model's index.
+pub enum Index {
+    NoScale,
+    NotFinite,
+    Zero,
+    At { negative: bool, index: i32 },
+}
+
+// The level of a scale.
+pub fn level_of(scale: i32) -> Natural
+    ensures { λ r. ⌜ r ≡ levelAnswer scale ⌝ }
+{
+    if scale < -10 {
+        return Natural::OutOfRange;
+    }
+    if 10 < scale {
+        return Natural::OutOfRange;
+    }
+    Natural::Is((scale + 10) as u32)
+}
+
+// The scale of a level.
+pub fn scale_of(level: u32) -> Integer
+    ensures { λ r. ⌜ r ≡ scaleAnswer level ⌝ }
+{
+    if crate::FINEST < level {
+        return Integer::OutOfRange;
+    }
+    Integer::Is((level as i32) - 10)
+}
+
+// The index of a bin at a level.
+pub fn index_of(level: u32, bin: u32) -> Integer
+    ensures { λ r. ⌜ r ≡ indexAnswer level bin ⌝ }
+{
+    if crate::FINEST < level {
+        return Integer::OutOfRange;
+    }
+    if 3u32 << level <= bin {
+        return Integer::OutOfRange;
+    }
+    Integer::Is((bin as i32) - ((2u32 << level) as i32))
+}
+
+// The bin of an index at a level.
+pub fn bin_of(level: u32, index: i32) -> Natural
+    ensures { λ r. ⌜ r ≡ binAnswer level index ⌝ }
+{
+    if crate::FINEST < level {
+        return Natural::OutOfRange;
+    }
+    if ((1u32 << level) as i32) <= index {
+        return Natural::OutOfRange;
+    }
+    let bin = index + ((2u32 << level) as i32);
+    if bin < 0 {
+        return Natural::OutOfRange;
+    }
+    Natural::Is(bin as u32)
+}
+
+// The index of v at a scale.
+pub fn get_index(v: f64, scale: i32) -> Index
+    ensures { λ r. ⌜ r ≡ valueIndex v scale ⌝ }
+{
+    let found = level_of(scale);
+    match found {
+        Natural::OutOfRange => Index::NoScale,
+        Natural::Is(level) => signed_bin(level, crate::get_bin(v, level)),
+    }
+}
+
+fn signed_bin(level: u32, bin: crate::Bin) -> Index
+    ensures { λ r. ⌜ r ≡ binIndex level bin ⌝ }
+{
+    match bin {
+        crate::Bin::NoLevel => Index::NoScale,
+        crate::Bin::NotFinite => Index::NotFinite,
+        crate::Bin::Zero => Index::Zero,
+        crate::Bin::At { negative, bin: at } => signed_at(negative, index_of(level, at)),
+    }
+}
+
+fn signed_at(negative: bool, found: Integer) -> Index
+    ensures { λ r. ⌜ r ≡ signedAt negative found ⌝ }
+{
+    match found {
+        Integer::OutOfRange => Index::NoScale,
+        Integer::Is(index) => Index::At { negative, index },
+    }
+}

@@ -1,0 +1,152 @@
+-- Merging by any grouping and order, of any points of one kind, switch and zero threshold: the same scale, rows, counts and extremes,
+-- a zero's sign aside; the fresh point changes none of these. Assumes nothing.
+use Prim.Native.Nat.{ℕ, _-_}
+use mathlib.Core.Path.{_≡_, refl, ap, sym, _∙_}
+use mathlib.Core.Bool.{Bool, true, false}
+use mathlib.Core.List.{[], List·Permᴰ}
+use lib.Ieee.{Float}
+use Rattle.laws.specs.Lists.{All}
+use Rattle.laws.specs.Trees.{Tree, leaves, folded}
+use Rattle.laws.proofs.Trees.{Commutes, any-grouping}
+use Rattle.index.specs.Bins.{finest}
+use Rattle.points.specs.Points.{merge}
+use Rattle.points.specs.Explicit.{mergeBuckets}
+use Rattle.points.specs.Figures.{Kind, exponential, explicit, Settings, Counts, scaled, bucketed, kindCounts}
+use Rattle.points.specs.Handed.{Handed, handed, mergeCounts, mergeHanded}
+use Rattle.points.specs.Stands.{SameExtreme}
+use Rattle.points.proofs.Merge.{merge-comm, merge-assoc}
+use Rattle.points.proofs.Agreement.{Agreed, fresh, fresh-neutral}
+use Rattle.points.proofs.Explicit.{BucketsOk, buckets-comm, buckets-assoc, fresh-buckets}
+use Rattle.points.proofs.Numbers.{Shown, shown-self, shown-nearer, extreme-turn, extreme-trans, nearer-cong, nearer-comm, nearer-assoc-same, start-same}
+
+-- counts of the kind, with its bounds
+abbrev pub Shape : Kind → Counts → Type 0
+Shape (exponential size top) (scaled p) = Unit {0}
+Shape (exponential size top) (bucketed bounds p) = ⊥
+Shape (explicit b) (scaled p) = ⊥
+Shape (explicit b) (bucketed bounds p) = bounds ≡ b
+
+-- a point of the settings: its kind and bounds, switch and zero threshold, and extremes as the switch has them
+pub record Of (s : Settings) (p : Handed) : Type 0 where
+  pub shape : Shape (s .kind) (p .counts)
+  pub extremes : p .extremes ≡ s .extremes
+  pub threshold : p .threshold ≡ s .threshold
+  pub min : Shown (s .extremes) (p .min)
+  pub max : Shown (s .extremes) (p .max)
+
+-- the same in all but the sum, a zero's sign in the extremes aside
+pub record Same (p q : Handed) : Type 0 where
+  pub counts : p .counts ≡ q .counts
+  pub extremes : p .extremes ≡ q .extremes
+  pub threshold : p .threshold ≡ q .threshold
+  pub min : SameExtreme (p .min) (q .min)
+  pub max : SameExtreme (p .max) (q .max)
+
+shape-kept : (size : ℕ) (k : Kind) (a b : Counts) → Shape k a → Shape k b → Shape k (mergeCounts size a b)
+shape-kept size (exponential m top) (scaled p) (scaled q) h k = tt
+shape-kept size (exponential m top) (scaled p) (bucketed b q) h k = absurd k
+shape-kept size (exponential m top) (bucketed b p) c h k = absurd h
+shape-kept size (explicit b) (scaled p) c h k = absurd h
+shape-kept size (explicit b) (bucketed c p) (scaled q) h k = absurd k
+shape-kept size (explicit b) (bucketed c p) (bucketed d q) h k = h
+
+counts-comm : (size : ℕ) (k : Kind) (a b : Counts) → Shape k a → Shape k b → mergeCounts size a b ≡ mergeCounts size b a
+counts-comm size (exponential m top) (scaled p) (scaled q) h k = ap scaled (merge-comm size p q)
+counts-comm size (exponential m top) (scaled p) (bucketed b q) h k = absurd k
+counts-comm size (exponential m top) (bucketed b p) c h k = absurd h
+counts-comm size (explicit b) (scaled p) c h k = absurd h
+counts-comm size (explicit b) (bucketed c p) (scaled q) h k = absurd k
+counts-comm size (explicit b) (bucketed c p) (bucketed d q) h k = ap (λ x. bucketed x (mergeBuckets p q)) (h ∙ sym k) ∙ ap (bucketed d) (buckets-comm p q)
+
+counts-assoc : (size : ℕ) (k : Kind) (a b c : Counts) → Shape k a → Shape k b → Shape k c → mergeCounts size (mergeCounts size a b) c ≡ mergeCounts size a (mergeCounts size b c)
+counts-assoc size (exponential m top) (scaled p) (scaled q) (scaled r) h k l = ap scaled (merge-assoc size p q r)
+counts-assoc size (exponential m top) (scaled p) (scaled q) (bucketed b r) h k l = absurd l
+counts-assoc size (exponential m top) (scaled p) (bucketed b q) c h k l = absurd k
+counts-assoc size (exponential m top) (bucketed b p) q c h k l = absurd h
+counts-assoc size (explicit b) (scaled p) q c h k l = absurd h
+counts-assoc size (explicit b) (bucketed d p) (scaled q) c h k l = absurd k
+counts-assoc size (explicit b) (bucketed d p) (bucketed e q) (scaled r) h k l = absurd l
+counts-assoc size (explicit b) (bucketed d p) (bucketed e q) (bucketed f r) h k l = ap (bucketed d) (buckets-assoc p q r)
+
+-- ---- COMMUTATIVE AND ASSOCIATIVE
+pub handed-commutes : (size : ℕ) (s : Settings) → Commutes (mergeHanded size) (Of s) Same
+unfolding mergeHanded
+handed-commutes size s =
+    record {
+      kept = λ a b p q. record {
+        shape = shape-kept size (s .kind) (a .counts) (b .counts) (p .shape) (q .shape);
+        extremes = p .extremes;
+        threshold = p .threshold;
+        min = shown-nearer true on (a .min) (b .min) (p .min) (q .min);
+        max = shown-nearer false on (a .max) (b .max) (p .max) (q .max);
+      };
+      self = λ a p. record { counts = refl; extremes = refl; threshold = refl; min = shown-self on (a .min) (p .min); max = shown-self on (a .max) (p .max) };
+      turn = λ a b h. record {
+        counts = sym (h .counts);
+        extremes = sym (h .extremes);
+        threshold = sym (h .threshold);
+        min = extreme-turn (a .min) (b .min) (h .min);
+        max = extreme-turn (a .max) (b .max) (h .max);
+      };
+      then = λ a b c h k. record {
+        counts = h .counts ∙ k .counts;
+        extremes = h .extremes ∙ k .extremes;
+        threshold = h .threshold ∙ k .threshold;
+        min = extreme-trans (a .min) (b .min) (c .min) (h .min) (k .min);
+        max = extreme-trans (a .max) (b .max) (c .max) (h .max) (k .max);
+      };
+      cong = λ a b c d p q r t h k. record {
+        counts = ap (λ x. mergeCounts size x (b .counts)) (h .counts) ∙ ap (mergeCounts size (c .counts)) (k .counts);
+        extremes = h .extremes;
+        threshold = h .threshold;
+        min = nearer-cong true on (a .min) (b .min) (c .min) (d .min) (r .min) (t .min) (h .min) (k .min);
+        max = nearer-cong false on (a .max) (b .max) (c .max) (d .max) (r .max) (t .max) (h .max) (k .max);
+      };
+      comm = λ a b p q. record {
+        counts = counts-comm size (s .kind) (a .counts) (b .counts) (p .shape) (q .shape);
+        extremes = p .extremes ∙ sym (q .extremes);
+        threshold = p .threshold ∙ sym (q .threshold);
+        min = nearer-comm true on (a .min) (b .min) (p .min) (q .min);
+        max = nearer-comm false on (a .max) (b .max) (p .max) (q .max);
+      };
+      assoc = λ a b c p q r. record {
+        counts = counts-assoc size (s .kind) (a .counts) (b .counts) (c .counts) (p .shape) (q .shape) (r .shape);
+        extremes = refl;
+        threshold = refl;
+        min = nearer-assoc-same true on (a .min) (b .min) (c .min) (p .min) (q .min) (r .min);
+        max = nearer-assoc-same false on (a .max) (b .max) (c .max) (p .max) (q .max) (r .max);
+      };
+    }
+  where
+    on : Bool
+    on = s .extremes
+
+-- BY ANY GROUPING AND ORDER
+pub merge-any : (size : ℕ) (s : Settings) (t u : Tree Handed) → List·Permᴰ (leaves t) (leaves u) → All (Of s) (leaves t)
+    → Same (folded (mergeHanded size) t) (folded (mergeHanded size) u)
+merge-any size s t u h p = any-grouping (mergeHanded size) (Of s) Same (handed-commutes size s) t u h p
+
+-- ---- THE FRESH POINT CHANGES NONE OF THESE in a point that agrees
+abbrev pub Agreeing : ℕ → ℕ → Kind → Counts → Type 0
+Agreeing size low (exponential m top) (scaled p) = Agreed size top low p
+Agreeing size low (exponential m top) (bucketed b p) = ⊥
+Agreeing size low (explicit b) (scaled p) = ⊥
+Agreeing size low (explicit b) (bucketed c p) = BucketsOk b p
+
+counts-fresh : (size low : ℕ) (k : Kind) (t : Float) (c : Counts) → Shape k c → Agreeing size low k c → mergeCounts size (kindCounts k t []) c ≡ c
+counts-fresh size low (exponential m top) t (scaled p) h a =
+    ap scaled (ap (λ q. merge size q p) (fresh m (finest - top)) ∙ fresh-neutral size top low (finest - top) p (a .fine) a)
+counts-fresh size low (exponential m top) t (bucketed b p) h a = absurd h
+counts-fresh size low (explicit b) t (scaled p) h a = absurd h
+counts-fresh size low (explicit b) t (bucketed c p) h a = ap (bucketed b) (fresh-buckets b p (a .whole)) ∙ ap (λ x. bucketed x p) (sym h)
+
+pub fresh-same : (size low : ℕ) (s : Settings) (p : Handed) → Of s p → Agreeing size low (s .kind) (p .counts) → Same (mergeHanded size (handed s []) p) p
+unfolding mergeHanded handed
+fresh-same size low s p o a =
+    record {
+      counts = counts-fresh size low (s .kind) (s .threshold) (p .counts) (o .shape) a;
+      extremes = sym (o .extremes);
+      threshold = sym (o .threshold);
+      min = start-same true (s .extremes) (p .min) (o .min);
+      max = start-same false (s .extremes) (p .max) (o .max);
+    }

@@ -1,0 +1,176 @@
+-- Points that stand for values: a point handed out stands for its values in any order, and merged points for the lists joined.
+-- Assumes nothing.
+use Prim.Native.Nat.{ℕ, _-_, _≤_, max}
+use mathlib.Core.Path.{_≡_, refl, ap, sym, _∙_}
+use mathlib.Core.Bool.{Bool, true, false, Bool·beq}
+use mathlib.Core.List.{List, _++_, map, map-append, List·Permᴰ, Permᴰ·symm}
+use native.Mathlib.Omega.{arith}
+use lib.Ieee.{Float, binary64, add}
+use lib.Ieee.Bits.{is-true}
+use lib.Ieee.Scale.{finite}
+use Rattle.laws.specs.Pick.{pick}
+use Rattle.laws.specs.Lists.{All}
+use Rattle.laws.proofs.Bools.{and-intro}
+use Rattle.laws.proofs.Lists.{all-append, all-perm, map-perm}
+use Rattle.index.specs.Bins.{finest, lowestBin}
+use Rattle.floats.specs.Answers.{shownOf}
+use Rattle.floats.specs.declared.Extreme.{Extreme}
+use Rattle.floats.specs.declared.Extreme.the-variants.{None, Value}
+use Rattle.floats.specs.Grid.{grid, exactTotal}
+use Rattle.floats.specs.Starts.{zeroFloat, FiniteF64}
+use Rattle.floats.proofs.Sums.{total-perm, gridded-perm, gridded-left, gridded-right, grid-parts, zeros-add}
+use Rattle.points.specs.Points.{pointOf}
+use Rattle.points.specs.Values.{classOf, countsOf, summaryOf}
+use Rattle.points.specs.Explicit.{boundsPass, bucketsOf}
+use Rattle.points.specs.Figures.{Kind, exponential, explicit, Settings, scaled, bucketed, kindCounts}
+use Rattle.points.specs.Handed.{Handed, handed, mergeCounts, mergeHanded, sameKind, mergeable, extremesAgree, countsAgree, handedAgrees}
+use Rattle.points.specs.Stands.{SameNumber, SameExtreme, Stands}
+use Rattle.points.proofs.Agreement.{agreed-agrees}
+use Rattle.points.proofs.Classes.{countsOf-agrees}
+use Rattle.points.proofs.Numbers.{number-refl, same-shown, shown-next, shown-merged}
+use Rattle.points.proofs.Merge.{merge-points}
+use Rattle.points.proofs.Orders.{pointOf-perm}
+use Rattle.points.proofs.Explicit.{merge-bucketsOf, bucketsOf-perm, bucketsOf-ok, buckets-agree, same-bounds}
+use Rattle.points.proofs.Summaries.{extreme, extreme-finite, extreme-parts, extreme-perm, sum-of}
+
+-- ---- the counts of a list, of lists joined, and in another order
+counts-perm : (k : Kind) (t : Float) {vs ws : List Float} → List·Permᴰ vs ws → kindCounts k t vs ≡ kindCounts k t ws
+counts-perm (exponential size top) t h = ap scaled (pointOf-perm size (finest - top) (map-perm (classOf t) h))
+counts-perm (explicit bounds) t h = ap (bucketed bounds) (bucketsOf-perm bounds h)
+
+-- the kind under another max_size
+abbrev pub resized : ℕ → Kind → Kind
+resized size (exponential m top) = exponential size top
+resized size (explicit bounds) = explicit bounds
+
+-- the size that a kind was built under, where it has one, is no smaller
+abbrev pub Allows : ℕ → Kind → Type 0
+Allows size (exponential m top) = size ≤ m
+Allows size (explicit bounds) = Unit {0}
+
+counts-parts : (size : ℕ) (k : Kind) (t : Float) (vs ws : List Float) → Allows size k
+    → mergeCounts size (kindCounts k t vs) (kindCounts k t ws) ≡ kindCounts (resized size k) t (vs ++ ws)
+counts-parts size (exponential m top) t vs ws h =
+    let d = finest - top in
+    let e : max d d ≡ d = omega arith in
+    ap scaled
+    (merge-points size m m d d (map (classOf t) vs) (map (classOf t) ws) h h
+    ∙ ap (λ n. pointOf size n (map (classOf t) vs ++ map (classOf t) ws)) e
+    ∙ ap (pointOf size d) (sym (map-append (classOf t) vs ws)))
+counts-parts size (explicit bounds) t vs ws h = ap (bucketed bounds) (merge-bucketsOf bounds vs ws)
+
+-- ---- A POINT HANDED OUT STANDS FOR ITS VALUES
+pick-cong : (b : Bool) (x y z : Float) → x ≡ y → pick b x z ≡ pick b y z
+pick-cong b x y z h = ap (λ v. pick b v z) h
+
+pub handed-stands : (s : Settings) (vs : List Float) → All FiniteF64 vs → Stands s (handed s vs) vs
+unfolding handed
+handed-stands s vs h =
+    record {
+      values = h;
+      counts = refl;
+      extremes = refl;
+      threshold = refl;
+      min = shown true;
+      max = shown false;
+      sum = λ g. pick-cong (s .sums) (summaryOf vs .sum) (grid (exactTotal vs)) zeroFloat (sum-of vs g);
+    }
+  where
+    shown : (up : Bool) → SameExtreme (shownOf (s .extremes) (extreme up (summaryOf vs))) (shownOf (s .extremes) (extreme up (summaryOf vs)))
+    shown up =
+        let x = extreme up (summaryOf vs) in
+        same-shown (s .extremes) x x (number-refl x (extreme-finite up vs h))
+
+-- ---- IN ANY ORDER
+pub stands-order : (s : Settings) (p : Handed) {vs ws : List Float} → List·Permᴰ vs ws → Stands s p vs → Stands s p ws
+stands-order s p {vs} {ws} h k =
+    record {
+      values = all-perm FiniteF64 h (k .values);
+      counts = k .counts ∙ counts-perm (s .kind) (s .threshold) h;
+      extremes = k .extremes;
+      threshold = k .threshold;
+      min = shown-next (s .extremes) (p .min) (summaryOf vs .min) (summaryOf ws .min) (k .min) (moved true);
+      max = shown-next (s .extremes) (p .max) (summaryOf vs .max) (summaryOf ws .max) (k .max) (moved false);
+      sum = λ g. k .sum (gridded-perm (Permᴰ·symm h) g) ∙ pick-cong (s .sums) (grid (exactTotal vs)) (grid (exactTotal ws)) zeroFloat (ap grid (total-perm h));
+    }
+  where
+    moved : (up : Bool) → SameNumber (extreme up (summaryOf vs)) (extreme up (summaryOf ws))
+    moved up =
+        record {
+          left = extreme-finite up vs (k .values);
+          right = extreme-finite up ws (all-perm FiniteF64 h (k .values));
+          same = extreme-perm up h (k .values);
+        }
+
+-- ---- MERGED POINTS STAND FOR THE LISTS JOINED, under the size of the merge
+abbrev pub under : ℕ → Settings → Settings
+under size s = record { kind = resized size (s .kind); extremes = s .extremes; sums = s .sums; threshold = s .threshold }
+
+sums-add : (b : Bool) (x y z : Float) → add binary64 x y ≡ z → add binary64 (pick b x zeroFloat) (pick b y zeroFloat) ≡ pick b z zeroFloat
+unfolding pick
+sums-add true x y z h = h
+sums-add false x y z h = zeros-add
+
+pub stands-join : (size : ℕ) (s : Settings) (p q : Handed) (vs ws : List Float) → Allows size (s .kind)
+    → Stands s p vs → Stands s q ws → Stands (under size s) (mergeHanded size p q) (vs ++ ws)
+unfolding mergeHanded
+stands-join size s p q vs ws a h k =
+    record {
+      values = all-append FiniteF64 vs ws (h .values) (k .values);
+      counts = rw (h .counts, k .counts) (counts-parts size (s .kind) (s .threshold) vs ws a);
+      extremes = h .extremes;
+      threshold = h .threshold;
+      min = rw (← extreme-parts true vs ws (h .values) (k .values)) (shown-merged true (s .extremes) (p .min) (q .min) (summaryOf vs .min) (summaryOf ws .min) (h .min) (k .min));
+      max = rw (← extreme-parts false vs ws (h .values) (k .values)) (shown-merged false (s .extremes) (p .max) (q .max) (summaryOf vs .max) (summaryOf ws .max) (h .max) (k .max));
+      sum = λ g.
+          rw (h .sum (gridded-left vs ws g), k .sum (gridded-right vs ws g))
+          (sums-add (s .sums) (grid (exactTotal vs)) (grid (exactTotal ws)) (grid (exactTotal (vs ++ ws))) (grid-parts vs ws g));
+    }
+
+-- ---- A POINT THAT STANDS FOR VALUES AGREES, where its settings could be configured
+abbrev pub Sound : Kind → Type 0
+Sound (exponential size top) = 3 ≤ size
+Sound (explicit bounds) = boundsPass bounds ≡ true
+
+-- the greatest level of a merge is the finest
+abbrev pub sizeOf : Kind → ℕ
+sizeOf (exponential size top) = size
+sizeOf (explicit bounds) = 0
+
+counts-agree : (k : Kind) (t : Float) (vs : List Float) → Sound k → All FiniteF64 vs → countsAgree (sizeOf k) finest (lowestBin finest) (kindCounts k t vs) ≡ true
+counts-agree (exponential size top) t vs h p =
+    let a = countsOf-agrees size top t vs h p in
+    agreed-agrees size finest (lowestBin finest) (countsOf size (finest - top) t vs)
+    (record { fine = omega arith; coarse = a .coarse; pos = a .pos; neg = a .neg; adds = a .adds })
+counts-agree (explicit bounds) t vs h p = buckets-agree bounds (bucketsOf bounds vs) (bucketsOf-ok bounds vs h)
+
+extremes-agree : (on : Bool) (a b : Extreme) (x y : Float) → SameExtreme a (shownOf on x) → SameExtreme b (shownOf on y) → extremesAgree a b ≡ true
+extremes-agree true (Value a) (Value b) x y h k = and-intro (finite a) (finite b) (is-true (finite a) (h .left .known)) (is-true (finite b) (k .left .known))
+extremes-agree true (Value a) None x y h k = absurd k
+extremes-agree true None b x y h k = absurd h
+extremes-agree false (Value a) b x y h k = absurd h
+extremes-agree false None (Value b) x y h k = absurd k
+extremes-agree false None None x y h k = refl
+
+pub stands-agrees : (s : Settings) (p : Handed) (vs : List Float) → Sound (s .kind) → Stands s p vs → handedAgrees (sizeOf (s .kind)) finest (lowestBin finest) p ≡ true
+unfolding handedAgrees
+stands-agrees s p vs h k =
+    and-intro (countsAgree (sizeOf (s .kind)) finest (lowestBin finest) (p .counts)) (extremesAgree (p .min) (p .max))
+    (rw (k .counts) (counts-agree (s .kind) (s .threshold) vs h (k .values)))
+    (extremes-agree (s .extremes) (p .min) (p .max) (summaryOf vs .min) (summaryOf vs .max) (k .min) (k .max))
+
+-- ---- AND TWO OF THEM MERGE
+kind-same : (k : Kind) (t : Float) (vs ws : List Float) → Sound k → sameKind (kindCounts k t vs) (kindCounts k t ws) ≡ true
+kind-same (exponential size top) t vs ws h = refl
+kind-same (explicit bounds) t vs ws h = same-bounds bounds h
+
+beq-self : (b : Bool) → Bool·beq b b ≡ true
+beq-self true = refl
+beq-self false = refl
+
+pub stands-mergeable : (s : Settings) (p q : Handed) (vs ws : List Float) → Sound (s .kind) → Stands s p vs → Stands s q ws → mergeable p q ≡ true
+unfolding mergeable
+stands-mergeable s p q vs ws h j k =
+    rw (j .counts, k .counts, j .extremes, k .extremes)
+    (and-intro (sameKind (kindCounts (s .kind) (s .threshold) vs) (kindCounts (s .kind) (s .threshold) ws)) (Bool·beq (s .extremes) (s .extremes))
+    (kind-same (s .kind) (s .threshold) vs ws h) (beq-self (s .extremes)))

@@ -1,0 +1,49 @@
+-- What a series of either kind holds of its values: its counts beside minimum, maximum and sum. Assumes nothing.
+use Prim.Native.Nat.{ℕ, _-_}
+use mathlib.Core.Bool.{Bool}
+use mathlib.Core.List.{List}
+use lib.Ieee.{Float}
+use Rattle.index.specs.Bins.{finest}
+use Rattle.points.specs.Points.{Point, record1}
+use Rattle.points.specs.Values.{Summary, classOf, countsOf, noted, summaryOf}
+use Rattle.points.specs.Explicit.{Buckets, bucketsOf, recordBucket}
+
+-- what is configured: the kind with its max_size and greatest level, or with its bounds; the two switches; the zero threshold
+pub data Kind : Type 0 where
+  exponential : ℕ → ℕ → Kind
+  explicit : List Float → Kind
+
+pub record Settings : Type 0 where
+  pub kind : Kind
+  pub extremes : Bool
+  pub sums : Bool
+  pub threshold : Float
+
+-- the counts of either kind; the case is the kind's tag
+pub data Counts : Type 0 where
+  scaled : Point → Counts
+  bucketed : List Float → Buckets → Counts
+
+-- a series holds minimum, maximum and sum whatever the switches say: they act where a point is handed out
+pub record Figures : Type 0 where
+  pub counts : Counts
+  pub summary : Summary
+
+-- of a list of values
+abbrev pub kindCounts : Kind → Float → List Float → Counts
+kindCounts (exponential size top) threshold vs = scaled (countsOf size (finest - top) threshold vs)
+kindCounts (explicit bounds) threshold vs = bucketed bounds (bucketsOf bounds vs)
+
+abbrev pub figuresOf : Settings → List Float → Figures
+figuresOf s vs = record { counts = kindCounts (s .kind) (s .threshold) vs; summary = summaryOf vs }
+
+-- one value recorded; counts of the other kind are never met, and stay
+abbrev pub recordCounts : Kind → Float → Counts → Float → Counts
+recordCounts (exponential size top) threshold (scaled p) v = scaled (record1 size p (classOf threshold v))
+recordCounts (exponential size top) threshold (bucketed b p) v = bucketed b p
+recordCounts (explicit bounds) threshold (scaled p) v = scaled p
+recordCounts (explicit bounds) threshold (bucketed b p) v = bucketed b (recordBucket b p v)
+
+abbrev pub recordFigures : Settings → Figures → Float → Figures
+recordFigures s f v =
+    record { counts = recordCounts (s .kind) (s .threshold) (f .counts) v; summary = noted (f .summary) v }

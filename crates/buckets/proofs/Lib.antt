@@ -1,0 +1,1 @@
+-- The laws of the explicit kind.

@@ -1,1 +1,4 @@
 -- The laws of the explicit kind.
+pub mod Turns
+pub mod Cases
+pub mod Writes

@@ -182,10 +182,13 @@ module _ (size : ℕ) (a : Counts) (xs ys : List ℕ) (b : Counts) (zs ws : List
       × (((a .neg .start + a .neg .len < 2 ^ 32) × (b .neg .start + b .neg .len < 2 ^ 32)) × (rowsLow size a b ≤ common a b)))
   plannable =
       let pa = level-pow (a .level) la in
-      let pb = level-pow (b .level) lb in
-      ((omega (arith, ka .least), la, lb),
-      ((omega (arith, pa, range size (a .level) (a .pos) xs (pos-facts size finest a xs ys ka)), omega (arith, pb, range size (b .level) (b .pos) zs (pos-facts size finest b zs ws kb))),
-      ((omega (arith, pa, range size (a .level) (a .neg) ys (neg-facts size finest a xs ys ka)), omega (arith, pb, range size (b .level) (b .neg) ws (neg-facts size finest b zs ws kb))), low-le)))
+      let pb = level-pow (b .level) lb in (
+        (omega (arith, ka .least), la, lb),
+        (
+          (omega (arith, pa, range size (a .level) (a .pos) xs (pos-facts size finest a xs ys ka)), omega (arith, pb, range size (b .level) (b .pos) zs (pos-facts size finest b zs ws kb))),
+          ((omega (arith, pa, range size (a .level) (a .neg) ys (neg-facts size finest a xs ys ka)), omega (arith, pb, range size (b .level) (b .neg) ws (neg-facts size finest b zs ws kb))), low-le),
+        ),
+      )
 
   -- in place
   module _ (r : Roomy (mergedPoint size a xs ys b zs ws) xs ys) where

@@ -206,7 +206,15 @@ fn join_to(out: &mut [u64], a: &[u64], row: Row, j: u32, b: &[u64], other: Row, 
 // ---- two series
 
 // The second series merged into the first.
-pub fn merge_into(size: usize, a: Counts, pos: &mut [u64], neg: &mut [u64], b: Counts, bpos: &[u64], bneg: &[u64]) -> Counts
+pub fn merge_into(
+    size: usize,
+    a: Counts,
+    pos: &mut [u64],
+    neg: &mut [u64],
+    b: Counts,
+    bpos: &[u64],
+    bneg: &[u64],
+) -> Counts
     requires { ⌜ Agreeing size a (now pos) (now neg) b (now bpos) (now bneg) ⌝ }
     requires { ⌜ Roomy (mergedPoint size a (now pos) (now neg) b (now bpos) (now bneg)) (now pos) (now neg) ⌝ }
     ensures { λ r. ⌜ Written (mergedPoint size a (now (pos .entry)) (now (neg .entry)) b (now (bpos .entry)) (now (bneg .entry))) (now (pos .entry)) (now (neg .entry)) r (now (pos .exit)) (now (neg .exit)) ⌝ }

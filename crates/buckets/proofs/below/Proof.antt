@@ -1,15 +1,24 @@
+use Prim.Native.Nat.{ℕ, suc, _+_, _-_, _*_, _/_, _%_, _^_, _≤_, _<_}
+use mathlib.Core.Path.{_≡_, refl, sym, ap, _∙_, subst}
+use native.Mathlib.Omega.{arith}
+use denote.Ref.{now}
+use lib.ListN.{length, take, getD}
+use lib.Seq.{take-all}
+use lib.Ieee.{Float, nan, lt, eq, isNan}
+use borrow.Author.Needs.{needs}
+use Rattle.laws.specs.Pick.{pick}
 use Rattle.buckets.proofs.below.Statement.{statement}
 use Rattle.buckets.proofs.below.Tie as tie
 use Rattle.buckets.proofs.below.Reads as reads
 use Rattle.buckets.proofs.below.Lts as lts
 
--- src/lib.rt:142:9
 returns : tie.Need-returns
-returns c = ?
+unfolding pick
+returns c = rw (c .if1 .taken) refl
 
--- src/lib.rt:138:1
 returns-2 : tie.Need-returns-2
-returns-2 c = ?
+unfolding pick
+returns-2 c = rw (c .if1 .left) refl
 
 pub below-spec : {M : Type 1} → statement M
 below-spec = tie.close (tie.spec returns returns-2)

@@ -1,3 +1,13 @@
+use Prim.Native.Nat.{ℕ, suc, _+_, _-_, _*_, _/_, _%_, _^_, _≤_, _<_}
+use mathlib.Core.Path.{_≡_, refl, sym, ap, _∙_, subst}
+use native.Mathlib.Omega.{arith}
+use denote.Ref.{now}
+use lib.ListN.{length, take, getD}
+use lib.Seq.{take-all}
+use lib.Ieee.{Float, nan, lt, eq, isNan}
+use borrow.Author.Needs.{needs}
+use Rattle.points.specs.Explicit.{rising}
+use Rattle.buckets.proofs.Turns.{rising-turn, rising-one}
 use Rattle.buckets.proofs.rises.Statement.{statement}
 use Rattle.buckets.proofs.rises.Tie as tie
 use Rattle.buckets.proofs.rises.Reads as reads
@@ -5,54 +15,47 @@ use Rattle.buckets.proofs.rises.Lts as lts
 use Rattle.buckets.proofs.and_below.Reads as and-below-reads
 
 abbrev Inv-loop : tie.InvT-loop
-Inv-loop bounds ok₀ i₀ ok i = ?
+Inv-loop bounds ok₀ i₀ ok i = (1 ≤ i) × (i ≤ length bounds + 1) × (ok ≡ rising (take i bounds))
 
 abbrev μ-loop : tie.MeasureT-loop
-μ-loop bounds ok₀ i₀ ok i = ?
+μ-loop bounds ok₀ i₀ ok i = length bounds - i
 
--- src/lib.rt:86:5
 loop-holds : tie.Need-loop-holds Inv-loop μ-loop
-loop-holds c = ?
+loop-holds c = (omega arith, omega arith, rising-one (now (c .before .args .bounds)))
 
--- src/lib.rt:87:35
 sub-and-below : tie.Need-sub-and-below Inv-loop μ-loop
-sub-and-below c = ?
+sub-and-below c = search needs
 
--- src/lib.rt:87:28
 mul-and-below : tie.Need-mul-and-below Inv-loop μ-loop
-mul-and-below c = ?
+mul-and-below c = search needs
 
--- src/lib.rt:87:28
 shared-slice-read-and-below : tie.Need-shared-slice-read-and-below Inv-loop μ-loop
-shared-slice-read-and-below c = ?
+shared-slice-read-and-below c = search needs
 
--- src/lib.rt:87:43
 mul-and-below-2 : tie.Need-mul-and-below-2 Inv-loop μ-loop
-mul-and-below-2 c = ?
+mul-and-below-2 c = search needs
 
--- src/lib.rt:87:43
 shared-slice-read-and-below-2 : tie.Need-shared-slice-read-and-below-2 Inv-loop μ-loop
-shared-slice-read-and-below-2 c = ?
+shared-slice-read-and-below-2 c = search needs
 
--- src/lib.rt:87:9
 and-below-requires : tie.Need-and-below-requires Inv-loop μ-loop
-and-below-requires c κs = ?
+and-below-requires c κs = search needs
 
--- src/lib.rt:88:9
 add-i : tie.Need-add-i Inv-loop μ-loop
-add-i c = ?
+add-i c = search needs
 
--- src/lib.rt:86:5
 loop-less : tie.Need-loop-less Inv-loop μ-loop
-loop-less c = ?
+loop-less c = search needs
 
--- src/lib.rt:86:5
 loop-again : tie.Need-loop-again Inv-loop μ-loop
-loop-again c = ?
+loop-again c =
+    let t = c .before .before .before in
+    let l = t .before in
+    let bs = now (l .before .before .args .bounds) in
+    (omega arith, omega arith, rising-turn bs (l .loop .i) (l .loop .ok) (c .and-below .result) (l .loop .inv .0) (t .loop-test .taken) (l .loop .inv .2) (c .and-below .ensures))
 
--- src/lib.rt:81:1
 returns : tie.Need-returns Inv-loop μ-loop
-returns c = ?
+returns c = c .before .loop .inv .2 ∙ ap rising (take-all (c .before .loop .i) (now (c .before .before .before .args .bounds)) (c .loop-test .left))
 
 pub rises-spec : {M : Type 1} → statement M
 rises-spec =

@@ -1,0 +1,42 @@
+use borrow.Author.Needs.{needs}
+use Rattle.point.proofs.figures_agree.Statement.{statement}
+use Rattle.point.proofs.figures_agree.Tie as tie
+use Rattle.point.proofs.figures_agree.Reads as reads
+use Rattle.point.proofs.figures_agree.Lts as lts
+use Rattle.buckets.proofs.buckets_agree.Reads as buckets-agree-reads
+use Rattle.series.proofs.counts_agree.Reads as counts-agree-reads
+
+-- src/lib.rt:103:30
+enum-known-f : tie.Need-enum-known-f
+enum-known-f c = search needs
+
+-- src/lib.rt:103:36
+counts-agree-requires : tie.Need-counts-agree-requires
+counts-agree-requires c κs = search needs
+
+-- src/lib.rt:104:27
+enum-known-f-2 : tie.Need-enum-known-f-2
+enum-known-f-2 c = search needs
+
+-- src/lib.rt:104:37
+buckets-agree-requires : tie.Need-buckets-agree-requires
+buckets-agree-requires c κs = search needs
+
+-- src/lib.rt:99:1
+returns : tie.Need-returns
+returns c = ?
+
+-- src/lib.rt:99:1
+returns-2 : tie.Need-returns-2
+returns-2 c = ?
+
+pub figures-agree-spec : {M : Type 1} → statement M
+figures-agree-spec =
+    tie.close
+    (tie.spec
+    enum-known-f
+    counts-agree-requires
+    enum-known-f-2
+    buckets-agree-requires
+    returns
+    returns-2)

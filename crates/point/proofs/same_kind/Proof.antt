@@ -1,0 +1,66 @@
+use borrow.Author.Needs.{needs}
+use Rattle.point.proofs.same_kind.Statement.{statement}
+use Rattle.point.proofs.same_kind.Tie as tie
+use Rattle.point.proofs.same_kind.Reads as reads
+use Rattle.point.proofs.same_kind.Lts as lts
+use Rattle.buckets.proofs.same_bounds.Reads as same-bounds-reads
+
+-- src/lib.rt:145:30
+enum-known-f : tie.Need-enum-known-f
+enum-known-f c = search needs
+
+-- src/lib.rt:146:34
+enum-known-g : tie.Need-enum-known-g
+enum-known-g c = search needs
+
+-- src/lib.rt:147:31
+enum-known-g-2 : tie.Need-enum-known-g-2
+enum-known-g-2 c = search needs
+
+-- src/lib.rt:149:27
+enum-known-f-2 : tie.Need-enum-known-f-2
+enum-known-f-2 c = search needs
+
+-- src/lib.rt:150:34
+enum-known-g-3 : tie.Need-enum-known-g-3
+enum-known-g-3 c = search needs
+
+-- src/lib.rt:151:31
+enum-known-g-4 : tie.Need-enum-known-g-4
+enum-known-g-4 c = search needs
+
+-- src/lib.rt:151:37
+same-bounds-requires : tie.Need-same-bounds-requires
+same-bounds-requires c κs = search needs
+
+-- src/lib.rt:141:1
+returns : tie.Need-returns
+returns c = ?
+
+-- src/lib.rt:141:1
+returns-2 : tie.Need-returns-2
+returns-2 c = ?
+
+-- src/lib.rt:141:1
+returns-3 : tie.Need-returns-3
+returns-3 c = ?
+
+-- src/lib.rt:141:1
+returns-4 : tie.Need-returns-4
+returns-4 c = ?
+
+pub same-kind-spec : {M : Type 1} → statement M
+same-kind-spec =
+    tie.close
+    (tie.spec
+    enum-known-f
+    enum-known-g
+    enum-known-g-2
+    enum-known-f-2
+    enum-known-g-3
+    enum-known-g-4
+    same-bounds-requires
+    returns
+    returns-2
+    returns-3
+    returns-4)

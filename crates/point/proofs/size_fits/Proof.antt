@@ -1,0 +1,47 @@
+use borrow.Author.Needs.{needs}
+use Rattle.point.proofs.size_fits.Statement.{statement}
+use Rattle.point.proofs.size_fits.Tie as tie
+use Rattle.point.proofs.size_fits.Reads as reads
+use Rattle.point.proofs.size_fits.Lts as lts
+use Rattle.point.proofs.is_explicit.Reads as is-explicit-reads
+use Rattle.point.proofs.size_passes.Reads as size-passes-reads
+
+-- src/lib.rt:169:8
+is-explicit-requires : tie.Need-is-explicit-requires
+is-explicit-requires c κs = search needs
+
+-- src/lib.rt:170:12
+is-explicit-requires-2 : tie.Need-is-explicit-requires-2
+is-explicit-requires-2 c κs = search needs
+
+-- src/lib.rt:171:13
+returns : tie.Need-returns
+returns c = ?
+
+-- src/lib.rt:173:9
+size-passes-requires : tie.Need-size-passes-requires
+size-passes-requires c κs = search needs
+
+-- src/lib.rt:173:9
+returns-2 : tie.Need-returns-2
+returns-2 c = ?
+
+-- src/lib.rt:175:5
+size-passes-requires-2 : tie.Need-size-passes-requires-2
+size-passes-requires-2 c κs = search needs
+
+-- src/lib.rt:166:1
+returns-3 : tie.Need-returns-3
+returns-3 c = ?
+
+pub size-fits-spec : {M : Type 1} → statement M
+size-fits-spec =
+    tie.close
+    (tie.spec
+    is-explicit-requires
+    is-explicit-requires-2
+    returns
+    size-passes-requires
+    returns-2
+    size-passes-requires-2
+    returns-3)

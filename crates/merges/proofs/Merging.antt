@@ -162,10 +162,10 @@ module _ (size : ℕ) (a : Counts) (xs ys : List ℕ) (b : Counts) (zs ws : List
 
   -- ---- what the code needs
 
-  first-few : planOf size a b .first < 32
+  pub first-few : planOf size a b .first < 32
   first-few = omega (arith, first-is, J.level-le size finest lowestOfAll p q (ka .least) (ka .point) (kb .point), e-is)
 
-  second-few : planOf size a b .second < 32
+  pub second-few : planOf size a b .second < 32
   second-few = omega (arith, second-is, J.level-le size finest lowestOfAll p q (ka .least) (ka .point) (kb .point), e-is)
 
   sums-pos : total (take (a .pos .len) xs) + total (take (b .pos .len) zs) < 2 ^ 64

@@ -6,7 +6,13 @@ ghost use lib.ListN.{length};
 ghost use Rattle.points.specs.Handed.{extremesAgree};
 ghost use Rattle.laws.specs.Pick.{pick, _and_};
 ghost use lib.Ieee.Scale.{finite};
-ghost use Rattle.point.specs.Handing.{shownSum, exponentialPoint, explicitPoint, figuresAgree, pointAgrees, isExplicit, countIn, sameFigures, sizeFits};
+ghost use Rattle.point.specs.Handing.{shownSum, exponentialPoint, explicitPoint, figuresAgree, pointAgrees, isExplicit, countIn, sameFigures, sizeFits, refusalBefore, madeOver, laidOver, madeOne, laidOne, Addable, finished, outcome, merging};
+ghost use lib.Dec.{leb};
+ghost use mathlib.Core.Bool.{Bool·beq};
+ghost use Rattle.points.specs.Explicit.{bucketCount};
+ghost use Rattle.points.specs.Figures.{scaled};
+ghost use Rattle.merges.specs.Merges.{Agreeing, mergedPoint};
+ghost use Rattle.buckets.specs.Series.{mostCount};
 ghost use Rattle.series.specs.Series.{sizePasses};
 use floats::Extreme;
 use series::Counts;
@@ -173,4 +179,175 @@ fn size_fits(size: u32, f: Figures, g: Figures) -> bool
         return size_passes(size);
     }
     size_passes(size)
+}
+
+fn same_switch(a: bool, b: bool) -> bool
+    ensures { λ r. ⌜ r ≡ Bool·beq a b ⌝ }
+{
+    if a {
+        return b;
+    }
+    !b
+}
+
+fn counts_fit(f: Figures, g: Figures) -> bool
+    ensures { λ r. ⌜ r ≡ leb (countIn f + countIn g) mostCount ⌝ }
+{
+    let x = count_in(f);
+    let y = count_in(g);
+    y <= 18446744073709551615 - x
+}
+
+fn refusal(
+    size: u32,
+    a: Point,
+    abounds: &[f64],
+    apos: &[u64],
+    aneg: &[u64],
+    b: Point,
+    bbounds: &[f64],
+    bpos: &[u64],
+    bneg: &[u64],
+) -> u8
+    ensures { λ r. ⌜ r ≡ refusalBefore size a (now (abounds .entry)) (now (apos .entry)) (now (aneg .entry)) b (now (bbounds .entry)) (now (bpos .entry)) (now (bneg .entry)) ⌝ }
+{
+    let f = a.figures;
+    let g = b.figures;
+    if !size_fits(size, f, g) {
+        return 1;
+    }
+    if !point_agrees(size as usize, a, abounds, apos, aneg) {
+        return 8;
+    }
+    if !point_agrees(size as usize, b, bbounds, bpos, bneg) {
+        return 8;
+    }
+    if !same_kind(f, abounds, g, bbounds) {
+        return 11;
+    }
+    if !same_switch(a.extremes, b.extremes) {
+        return 11;
+    }
+    if !counts_fit(f, g) {
+        return 9;
+    }
+    0
+}
+
+// ---- merging
+
+// What a merge makes: figures, or none for want of room.
+pub enum Made {
+    Of(Figures),
+    NoRoom,
+}
+
+pub enum Answer {
+    Merged(Point),
+    Refused(u8),
+}
+
+fn merge_scaled(
+    size: usize,
+    c: Counts,
+    apos: &[u64],
+    aneg: &[u64],
+    d: Counts,
+    bpos: &[u64],
+    bneg: &[u64],
+    pos: &mut [u64],
+    neg: &mut [u64],
+) -> Made
+    requires { ⌜ Agreeing size c (now apos) (now aneg) d (now bpos) (now bneg) ⌝ }
+    ensures { λ r. ⌜ madeOver r (now (pos .exit)) (now (neg .exit)) ≡ laidOver (scaled (mergedPoint size c (now (apos .entry)) (now (aneg .entry)) d (now (bpos .entry)) (now (bneg .entry)))) (now (pos .entry)) (now (neg .entry)) ⌝ }
+{
+    let to = merges::plan_of(size, c, d);
+    let cp = c.pos;
+    let cn = c.neg;
+    let dp = d.pos;
+    let dn = d.neg;
+    if pos.len() < merges::joined_len(cp, to.first, dp, to.second) {
+        return Made::NoRoom;
+    }
+    if neg.len() < merges::joined_len(cn, to.first, dn, to.second) {
+        return Made::NoRoom;
+    }
+    let r = merges::merge_to(size, to, c, apos, aneg, d, bpos, bneg, pos, neg);
+    Made::Of(Figures::Exponential(r))
+}
+
+fn merge_bucketed(bounds: &[f64], n: u64, apos: &[u64], m: u64, bpos: &[u64], pos: &mut [u64]) -> Made
+    requires { ⌜ Addable (bucketCount (now bounds)) n (now apos) m (now bpos) ⌝ }
+    ensures { λ r. ⌜ madeOne r (now (pos .exit)) ≡ laidOne (bucketCount (now (bounds .entry))) n (now (apos .entry)) m (now (bpos .entry)) (now (pos .entry)) ⌝ }
+{
+    let k = buckets::bucket_count(bounds);
+    if pos.len() < k {
+        return Made::NoRoom;
+    }
+    buckets::add_counts(apos, bpos, k, pos);
+    Made::Of(Figures::Explicit(n + m))
+}
+
+fn finish(a: Point, b: Point, made: Made) -> Answer
+    ensures { λ r. ⌜ r ≡ finished a b made ⌝ }
+{
+    match made {
+        Made::NoRoom => Answer::Refused(10),
+        Made::Of(f) => {
+            let low = a.min;
+            let lower = b.min;
+            let high = a.max;
+            let higher = b.max;
+            let min = floats::smaller(low, lower);
+            let max = floats::larger(high, higher);
+            Answer::Merged(Point {
+                figures: f,
+                extremes: a.extremes,
+                threshold: a.threshold,
+                min,
+                max,
+                sum: a.sum + b.sum,
+            })
+        }
+    }
+}
+
+// Two points merged into lent rows, or refused with document 01's number.
+pub fn merge(
+    size: u32,
+    a: Point,
+    abounds: &[f64],
+    apos: &[u64],
+    aneg: &[u64],
+    b: Point,
+    bbounds: &[f64],
+    bpos: &[u64],
+    bneg: &[u64],
+    pos: &mut [u64],
+    neg: &mut [u64],
+) -> Answer
+    ensures { λ r. ⌜ outcome r (now (pos .exit)) (now (neg .exit)) ≡ merging size a (now (abounds .entry)) (now (apos .entry)) (now (aneg .entry)) b (now (bbounds .entry)) (now (bpos .entry)) (now (bneg .entry)) (now (pos .entry)) (now (neg .entry)) ⌝ }
+{
+    let no = refusal(size, a, abounds, apos, aneg, b, bbounds, bpos, bneg);
+    if no != 0 {
+        return Answer::Refused(no);
+    }
+    let f = a.figures;
+    let g = b.figures;
+    match f {
+        Figures::Exponential(c) => match g {
+            Figures::Exponential(d) => {
+                let made = merge_scaled(size as usize, c, apos, aneg, d, bpos, bneg, pos, neg);
+                finish(a, b, made)
+            }
+            Figures::Explicit(m) => Answer::Refused(11),
+        },
+        Figures::Explicit(n) => match g {
+            Figures::Exponential(d) => Answer::Refused(11),
+            Figures::Explicit(m) => {
+                let made = merge_bucketed(abounds, n, apos, m, bpos, pos);
+                finish(a, b, made)
+            }
+        },
+    }
 }

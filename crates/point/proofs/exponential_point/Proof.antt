@@ -1,3 +1,12 @@
+use Prim.Native.Nat.{ℕ, suc, _+_, _-_, _*_, _/_, _%_, _^_, _≤_, _<_}
+use mathlib.Core.Path.{_≡_, refl, sym, ap, _∙_, subst}
+use mathlib.Core.Bool.{Bool, true, false, not}
+use mathlib.Core.List.{List}
+use native.Mathlib.Omega.{arith}
+use denote.Ref.{now}
+use lib.ListN.{length, take}
+use Rattle.floats.specs.Starts.{zeroFloat}
+use Rattle.point.specs.declared.Figures.the-variants.{Exponential, Explicit}
 use borrow.Author.Needs.{needs}
 use Rattle.point.proofs.exponential_point.Statement.{statement}
 use Rattle.point.proofs.exponential_point.Tie as tie
@@ -20,7 +29,9 @@ shown-sum-requires c κs = search needs
 
 -- src/lib.rt:40:1
 returns : tie.Need-returns
-returns c = ?
+returns c =
+    let a = c .before .before .before .before .args in
+    λ j. record { figures = Exponential (a .head .counts); extremes = a .extremes; threshold = zeroFloat; min = c .before .before .shown .ensures j; max = c .before .shown2 .ensures j; sum = c .shown-sum .ensures j }
 
 pub exponential-point-spec : {M : Type 1} → statement M
 exponential-point-spec =

@@ -1,3 +1,11 @@
+use Prim.Native.Nat.{ℕ, suc, _+_, _-_, _*_, _/_, _%_, _^_, _≤_, _<_}
+use mathlib.Core.Path.{_≡_, refl, sym, ap, _∙_, subst}
+use mathlib.Core.Bool.{Bool, true, false, not}
+use mathlib.Core.List.{List}
+use native.Mathlib.Omega.{arith}
+use denote.Ref.{now}
+use lib.ListN.{length, take}
+use Rattle.points.specs.Handed.{extremesAgree}
 use borrow.Author.Needs.{needs}
 use Rattle.point.proofs.extremes_agree.Statement.{statement}
 use Rattle.point.proofs.extremes_agree.Tie as tie
@@ -47,7 +55,7 @@ returns-3 c = search needs
 
 -- src/lib.rt:75:1
 returns-4 : tie.Need-returns-4
-returns-4 c = ?
+returns-4 c = c .both-finite .ensures ∙ sym (λ j. extremesAgree (c .before .before .before .before .before .min .given .1 j) (c .before .before .max2 .given .1 j))
 
 pub extremes-agree-spec : {M : Type 1} → statement M
 extremes-agree-spec =

@@ -1,3 +1,12 @@
+use Prim.Native.Nat.{ℕ, suc, _+_, _-_, _*_, _/_, _%_, _^_, _≤_, _<_}
+use mathlib.Core.Path.{_≡_, refl, sym, ap, _∙_, subst}
+use mathlib.Core.Bool.{Bool, true, false, not}
+use mathlib.Core.List.{List}
+use native.Mathlib.Omega.{arith}
+use denote.Ref.{now}
+use lib.ListN.{length, take}
+use Rattle.point.specs.declared.Figures.{Figures}
+use Rattle.point.specs.Handing.{figuresAgree}
 use borrow.Author.Needs.{needs}
 use Rattle.point.proofs.figures_agree.Statement.{statement}
 use Rattle.point.proofs.figures_agree.Tie as tie
@@ -24,11 +33,17 @@ buckets-agree-requires c κs = search needs
 
 -- src/lib.rt:99:1
 returns : tie.Need-returns
-returns c = ?
+returns c =
+    let f = c .before .before in
+    let a = f .before .before .before .before .before .args in
+    c .counts-agree .ensures ∙ sym (ap (λ (g : Figures). figuresAgree (a .size) g (now (a .bounds)) (now (a .pos)) (now (a .neg))) (f .f .given .1))
 
 -- src/lib.rt:99:1
 returns-2 : tie.Need-returns-2
-returns-2 c = ?
+returns-2 c =
+    let f = c .before .before in
+    let a = f .before .before .before .before .before .args in
+    c .buckets-agree .ensures ∙ sym (ap (λ (g : Figures). figuresAgree (a .size) g (now (a .bounds)) (now (a .pos)) (now (a .neg))) (f .f2 .given .1))
 
 pub figures-agree-spec : {M : Type 1} → statement M
 figures-agree-spec =

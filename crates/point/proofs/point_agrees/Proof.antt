@@ -1,3 +1,14 @@
+use Prim.Native.Nat.{ℕ, suc, _+_, _-_, _*_, _/_, _%_, _^_, _≤_, _<_}
+use mathlib.Core.Path.{_≡_, refl, sym, ap, _∙_, subst}
+use mathlib.Core.Bool.{Bool, true, false, not}
+use mathlib.Core.List.{List}
+use native.Mathlib.Omega.{arith}
+use denote.Ref.{now}
+use lib.ListN.{length, take}
+use Rattle.laws.specs.Pick.{_and_}
+use Rattle.points.specs.Handed.{extremesAgree}
+use Rattle.point.specs.Handing.{pointAgrees}
+use Rattle.series.proofs.Facts.{not-true, not-false}
 use borrow.Author.Needs.{needs}
 use Rattle.point.proofs.point_agrees.Statement.{statement}
 use Rattle.point.proofs.point_agrees.Tie as tie
@@ -12,7 +23,10 @@ figures-agree-requires c κs = search needs
 
 -- src/lib.rt:116:9
 returns : tie.Need-returns
-returns c = ?
+unfolding pointAgrees _and_
+returns c =
+    let a = c .before .before .before .before .before .args in
+    sym (ap (λ (t : Bool). t and extremesAgree (a .p .min) (a .p .max)) (sym (c .before .figures-agree .ensures) ∙ not-true _ (c .if1 .taken)))
 
 -- src/lib.rt:118:5
 extremes-agree-requires : tie.Need-extremes-agree-requires
@@ -20,7 +34,11 @@ extremes-agree-requires c κs = search needs
 
 -- src/lib.rt:109:1
 returns-2 : tie.Need-returns-2
-returns-2 c = ?
+unfolding pointAgrees _and_
+returns-2 c =
+    let e = c .before in
+    let a = e .before .before .before .before .before .args in
+    c .extremes-agree .ensures ∙ sym (ap (λ (t : Bool). t and extremesAgree (a .p .min) (a .p .max)) (sym (e .before .figures-agree .ensures) ∙ not-false _ (e .if1 .left)))
 
 pub point-agrees-spec : {M : Type 1} → statement M
 point-agrees-spec =

@@ -1,3 +1,11 @@
+use Prim.Native.Nat.{ℕ, suc, _+_, _-_, _*_, _/_, _%_, _^_, _≤_, _<_}
+use mathlib.Core.Path.{_≡_, refl, sym, ap, _∙_, subst}
+use mathlib.Core.Bool.{Bool, true, false, not}
+use mathlib.Core.List.{List}
+use native.Mathlib.Omega.{arith}
+use denote.Ref.{now}
+use lib.ListN.{length, take}
+use Rattle.point.specs.Handing.{sameFigures}
 use borrow.Author.Needs.{needs}
 use Rattle.point.proofs.same_kind.Statement.{statement}
 use Rattle.point.proofs.same_kind.Tie as tie
@@ -35,19 +43,32 @@ same-bounds-requires c κs = search needs
 
 -- src/lib.rt:141:1
 returns : tie.Need-returns
-returns c = ?
+returns c =
+    let f = c .before .before .before .before in
+    let st = f .before .before .before .before in
+    sym (λ j. sameFigures (f .f .given .1 j) (now (st .args .bounds)) (c .before .g .given .1 j) (now (st .args .others)))
 
 -- src/lib.rt:141:1
 returns-2 : tie.Need-returns-2
-returns-2 c = ?
+returns-2 c =
+    let f = c .before .before .before .before in
+    let st = f .before .before .before .before in
+    sym (λ j. sameFigures (f .f .given .1 j) (now (st .args .bounds)) (c .before .g2 .given .1 j) (now (st .args .others)))
 
 -- src/lib.rt:141:1
 returns-3 : tie.Need-returns-3
-returns-3 c = ?
+returns-3 c =
+    let f = c .before .before .before .before in
+    let st = f .before .before .before .before in
+    sym (λ j. sameFigures (f .f2 .given .1 j) (now (st .args .bounds)) (c .before .g3 .given .1 j) (now (st .args .others)))
 
 -- src/lib.rt:141:1
 returns-4 : tie.Need-returns-4
-returns-4 c = ?
+returns-4 c =
+    let g = c .before .before in
+    let f = g .before .before .before in
+    let st = f .before .before .before .before in
+    c .same-bounds .ensures ∙ sym (λ j. sameFigures (f .f2 .given .1 j) (now (st .args .bounds)) (g .g4 .given .1 j) (now (st .args .others)))
 
 pub same-kind-spec : {M : Type 1} → statement M
 same-kind-spec =

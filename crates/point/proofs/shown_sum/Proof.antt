@@ -1,3 +1,13 @@
+use Prim.Native.Nat.{ℕ, suc, _+_, _-_, _*_, _/_, _%_, _^_, _≤_, _<_}
+use mathlib.Core.Path.{_≡_, refl, sym, ap, _∙_, subst}
+use mathlib.Core.Bool.{Bool, true, false, not}
+use mathlib.Core.List.{List}
+use native.Mathlib.Omega.{arith}
+use denote.Ref.{now}
+use lib.ListN.{length, take}
+use borrow.Author.Needs.{needs}
+use Rattle.laws.specs.Pick.{pick}
+use Rattle.floats.specs.Starts.{zeroFloat}
 use Rattle.point.proofs.shown_sum.Statement.{statement}
 use Rattle.point.proofs.shown_sum.Tie as tie
 use Rattle.point.proofs.shown_sum.Reads as reads
@@ -5,11 +15,13 @@ use Rattle.point.proofs.shown_sum.Lts as lts
 
 -- src/lib.rt:35:9
 returns : tie.Need-returns
-returns c = ?
+unfolding pick
+returns c = sym (ap (λ (b : Bool). pick b (c .before .args .sum) zeroFloat) (c .if1 .taken))
 
 -- src/lib.rt:31:1
 returns-2 : tie.Need-returns-2
-returns-2 c = ?
+unfolding pick
+returns-2 c = sym (ap (λ (b : Bool). pick b (c .before .args .sum) zeroFloat) (c .if1 .left))
 
 pub shown-sum-spec : {M : Type 1} → statement M
 shown-sum-spec = tie.close (tie.spec returns returns-2)

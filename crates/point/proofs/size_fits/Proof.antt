@@ -1,3 +1,11 @@
+use Prim.Native.Nat.{ℕ, suc, _+_, _-_, _*_, _/_, _%_, _^_, _≤_, _<_}
+use mathlib.Core.Path.{_≡_, refl, sym, ap, _∙_, subst}
+use mathlib.Core.Bool.{Bool, true, false, not}
+use mathlib.Core.List.{List}
+use native.Mathlib.Omega.{arith}
+use denote.Ref.{now}
+use lib.ListN.{length, take}
+use Rattle.laws.specs.Pick.{pick}
 use borrow.Author.Needs.{needs}
 use Rattle.point.proofs.size_fits.Statement.{statement}
 use Rattle.point.proofs.size_fits.Tie as tie
@@ -16,7 +24,10 @@ is-explicit-requires-2 c κs = search needs
 
 -- src/lib.rt:171:13
 returns : tie.Need-returns
-returns c = ?
+unfolding pick
+returns c =
+    let e = c .before .before in
+    sym (rw (sym (e .before .is-explicit .ensures) ∙ e .if1 .taken, sym (c .before .is-explicit2 .ensures) ∙ c .if2 .taken) refl)
 
 -- src/lib.rt:173:9
 size-passes-requires : tie.Need-size-passes-requires
@@ -24,7 +35,11 @@ size-passes-requires c κs = search needs
 
 -- src/lib.rt:173:9
 returns-2 : tie.Need-returns-2
-returns-2 c = ?
+unfolding pick
+returns-2 c =
+    let d = c .before in
+    let e = d .before .before in
+    c .size-passes .ensures ∙ sym (rw (sym (e .before .is-explicit .ensures) ∙ e .if1 .taken, sym (d .before .is-explicit2 .ensures) ∙ d .if2 .left) refl)
 
 -- src/lib.rt:175:5
 size-passes-requires-2 : tie.Need-size-passes-requires-2
@@ -32,7 +47,10 @@ size-passes-requires-2 c κs = search needs
 
 -- src/lib.rt:166:1
 returns-3 : tie.Need-returns-3
-returns-3 c = ?
+unfolding pick
+returns-3 c =
+    let e = c .before in
+    c .size-passes2 .ensures ∙ sym (rw (sym (e .before .is-explicit .ensures) ∙ e .if1 .left) refl)
 
 pub size-fits-spec : {M : Type 1} → statement M
 size-fits-spec =

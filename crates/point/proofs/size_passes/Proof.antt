@@ -1,3 +1,13 @@
+use Prim.Native.Nat.{ℕ, suc, _+_, _-_, _*_, _/_, _%_, _^_, _≤_, _<_}
+use mathlib.Core.Path.{_≡_, refl, sym, ap, _∙_, subst}
+use mathlib.Core.Bool.{Bool, true, false, not}
+use mathlib.Core.List.{List}
+use native.Mathlib.Omega.{arith}
+use denote.Ref.{now}
+use lib.ListN.{length, take}
+use borrow.Author.Needs.{needs}
+use Rattle.laws.specs.Pick.{_and_}
+use borrow.Author.Tests.{le-leb, lt-leb}
 use Rattle.point.proofs.size_passes.Statement.{statement}
 use Rattle.point.proofs.size_passes.Tie as tie
 use Rattle.point.proofs.size_passes.Reads as reads
@@ -5,11 +15,13 @@ use Rattle.point.proofs.size_passes.Lts as lts
 
 -- src/lib.rt:160:9
 returns : tie.Need-returns
-returns c = ?
+unfolding _and_
+returns c = sym (rw (lt-leb 3 (c .before .args .size) (c .if1 .taken)) refl)
 
 -- src/lib.rt:156:1
 returns-2 : tie.Need-returns-2
-returns-2 c = ?
+unfolding _and_
+returns-2 c = sym (rw (le-leb 3 (c .before .args .size) (omega (arith, c .if1 .left))) refl)
 
 pub size-passes-spec : {M : Type 1} → statement M
 size-passes-spec = tie.close (tie.spec returns returns-2)

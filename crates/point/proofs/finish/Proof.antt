@@ -1,0 +1,36 @@
+use borrow.Author.Needs.{needs}
+use Rattle.point.proofs.finish.Statement.{statement}
+use Rattle.point.proofs.finish.Tie as tie
+use Rattle.point.proofs.finish.Reads as reads
+use Rattle.point.proofs.finish.Lts as lts
+use Rattle.floats.proofs.larger.Reads as larger-reads
+use Rattle.floats.proofs.smaller.Reads as smaller-reads
+
+-- src/lib.rt:295:25
+enum-told : tie.Need-enum-told
+enum-told c = search needs
+
+-- src/lib.rt:296:18
+enum-known-made : tie.Need-enum-known-made
+enum-known-made c = search needs
+
+-- src/lib.rt:301:17
+smaller-requires : tie.Need-smaller-requires
+smaller-requires c κs = search needs
+
+-- src/lib.rt:302:17
+larger-requires : tie.Need-larger-requires
+larger-requires c κs = search needs
+
+-- src/lib.rt:291:1
+returns : tie.Need-returns
+returns c = search needs
+
+-- src/lib.rt:291:1
+returns-2 : tie.Need-returns-2
+returns-2 c = ?
+
+pub finish-spec : {M : Type 1} → statement M
+finish-spec =
+    tie.close
+    (tie.spec enum-told enum-known-made smaller-requires larger-requires returns returns-2)

@@ -276,7 +276,14 @@ fn merge_scaled(
     Made::Of(Figures::Exponential(r))
 }
 
-fn merge_bucketed(bounds: &[f64], n: u64, apos: &[u64], m: u64, bpos: &[u64], pos: &mut [u64]) -> Made
+fn merge_bucketed(
+    bounds: &[f64],
+    n: u64,
+    apos: &[u64],
+    m: u64,
+    bpos: &[u64],
+    pos: &mut [u64],
+) -> Made
     requires { ⌜ Addable (bucketCount (now bounds)) n (now apos) m (now bpos) ⌝ }
     ensures { λ r. ⌜ madeOne r (now (pos .exit)) ≡ laidOne (bucketCount (now (bounds .entry))) n (now (apos .entry)) m (now (bpos .entry)) (now (pos .entry)) ⌝ }
 {

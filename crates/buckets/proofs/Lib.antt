@@ -2,3 +2,4 @@
 pub mod Turns
 pub mod Cases
 pub mod Writes
+pub mod Listed

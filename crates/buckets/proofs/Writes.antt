@@ -7,23 +7,25 @@ use mathlib.Core.List.{List, [], _∷_, _++_}
 use native.Mathlib.Nat.{eq-zero-or-pos}
 use native.Mathlib.Omega.{arith}
 use lib.Dec.{leb, eqb}
-use lib.ListN.{length, take, drop, getD, set, length-set}
+use lib.ListN.{length, take, drop, getD, set, replicate, length-set}
 use lib.Seq.{length-take-le, getD-take}
 use lib.Ieee.{Float, binary64, add}
 use lib.Ieee.Scale.{finite}
-use borrow.Author.Tests.{leb-true, eq-eqb, ne-eqb, eqb-false}
+use borrow.Author.Tests.{leb-true, le-leb, lt-leb, eq-eqb, ne-eqb, eqb-false}
 use Rattle.laws.specs.Pick.{pick, _and_}
 use Rattle.laws.specs.Counting.{total}
 use Rattle.laws.proofs.Bools.{and-left}
 use Rattle.floats.specs.Answers.{lesserOf, greaterOf}
 use Rattle.rows.specs.Rows.{over}
-use Rattle.rows.proofs.Laws.{getD-le-total, length-over}
+use Rattle.rows.specs.Rows.{zeroed}
+use Rattle.rows.proofs.Laws.{getD-le-total}
+use Rattle.rows.proofs.Adds.{over-zeroed}
 use Rattle.points.specs.Explicit.{bucketOf, bucketCount, Buckets, recordBucket, added, bucketsAgree}
 use Rattle.points.specs.Values.{noted}
 use Rattle.points.proofs.Explicit.{BucketsOk, buckets-say, bucket-le, length-added}
 use Rattle.buckets.specs.declared.Head.{Head}
 use Rattle.buckets.specs.declared.Answer.the-variants.{Recorded, Refused}
-use Rattle.buckets.specs.Series.{mostCount, bucketsIn, headOf, summary, refusalOf, outcome, accepted, recording}
+use Rattle.buckets.specs.Series.{mostCount, bucketsIn, headOf, summary, refusalOf, outcome, accepted, recording, freshHead, freshening}
 use Rattle.buckets.proofs.Turns.{take-next}
 
 -- ---- one more in a bucket
@@ -176,3 +178,19 @@ module _ (xs ys us : List ℕ) (n i : ℕ) (more : i < n) (lx : n ≤ length xs)
 pub added-none : (xs ys us : List ℕ) → us ≡ over (added (take 0 xs) (take 0 ys)) us
 unfolding added over
 added-none xs ys us = refl
+
+-- ---- a fresh series
+
+zero-front : (k : ℕ) (xs : List ℕ) → k ≤ length xs → zeroed 0 k xs ≡ over (replicate k 0) xs
+zero-front k xs h = let z : k - 0 ≡ k = omega arith in sym (rw z at (over-zeroed 0 k xs (omega arith) h))
+
+pub fresh-short : (bs : List Float) (xs : List ℕ) → length xs < bucketCount bs → outcome (Refused 12) xs ≡ freshening bs xs
+unfolding freshening pick
+fresh-short bs xs h = rw (lt-leb (bucketCount bs) (length xs) h) refl
+
+pub fresh-made : (bs : List Float) (xs : List ℕ) (k : ℕ) (ys : List ℕ) → k ≡ bucketCount bs → bucketCount bs ≤ length xs → ys ≡ zeroed 0 k xs
+    → outcome (Recorded freshHead) ys ≡ freshening bs xs
+unfolding freshening pick
+fresh-made bs xs k ys e h f =
+    ap (λ l. outcome (Recorded freshHead) l) (f ∙ ap (λ (k : ℕ). zeroed 0 k xs) e ∙ zero-front (bucketCount bs) xs h)
+    ∙ rw (le-leb (bucketCount bs) (length xs) h) refl

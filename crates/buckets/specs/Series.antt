@@ -3,7 +3,7 @@ use Prim.Native.Nat.{ℕ, _+_}
 use mathlib.Core.Bool.{Bool}
 use mathlib.Core.List.{List}
 use lib.Dec.{leb, eqb}
-use lib.ListN.{length, take}
+use lib.ListN.{length, take, replicate}
 use lib.Ieee.{Float, binary64, add}
 use lib.Ieee.Scale.{finite}
 use Rattle.laws.specs.Pick.{pick, _and_}
@@ -60,3 +60,10 @@ recording bounds h xs v =
     pick (eqb (refusalOf bounds h xs v) 0)
     (accepted (recordBucket bounds (bucketsIn bounds (h .count) xs) v) h xs v)
     (outcome (Refused (refusalOf bounds h xs v)) xs)
+
+-- a fresh series: zeros in its row, or 12 where the row is too short
+unfoldable pub freshening : List Float → List ℕ → Outcome
+freshening bounds xs =
+    pick (leb (bucketCount bounds) (length xs))
+    (outcome (Recorded freshHead) (over (replicate (bucketCount bounds) 0) xs))
+    (outcome (Refused 12) xs)

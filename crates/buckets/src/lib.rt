@@ -9,7 +9,7 @@ ghost use Rattle.laws.specs.Counting.{total};
 ghost use Rattle.rows.specs.Rows.{over};
 ghost use Rattle.points.specs.Explicit.{noNan, rising, boundsPass, sameBounds, bucketOf, bucketCount, recordBucket, added, bucketsAgree};
 ghost use lib.Dec.{eqb};
-ghost use Rattle.buckets.specs.Series.{bucketsIn, freshHead, mostCount, refusalOf, outcome, recording};
+ghost use Rattle.buckets.specs.Series.{bucketsIn, freshening, mostCount, refusalOf, outcome, recording};
 use series::Halves;
 
 pub struct Head {
@@ -22,18 +22,6 @@ pub struct Head {
 pub enum Answer {
     Recorded(Head),
     Refused(u8),
-}
-
-// The head of a series that has counted nothing; its counts are zeros.
-pub fn fresh() -> Head
-    ensures { λ r. ⌜ r ≡ freshHead ⌝ }
-{
-    Head {
-        count: 0,
-        min: 1.7976931348623157e308,
-        max: -1.7976931348623157e308,
-        sum: 0.0,
-    }
 }
 
 // ---- bounds
@@ -156,6 +144,25 @@ pub fn bucket_of(bounds: &[f64], v: f64) -> usize
         i += 1;
     }
     k
+}
+
+// ---- a fresh series
+
+// A series that has counted nothing: zeros in its row, or 12 where the row lent is too short.
+pub fn fresh(bounds: &[f64], counts: &mut [u64]) -> Answer
+    ensures { λ r. ⌜ outcome r (now (counts .exit)) ≡ freshening (now (bounds .entry)) (now (counts .entry)) ⌝ }
+{
+    let n = bucket_count(bounds);
+    if counts.len() < n {
+        return Answer::Refused(12);
+    }
+    rows::zero(counts, 0, n);
+    Answer::Recorded(Head {
+        count: 0,
+        min: 1.7976931348623157e308,
+        max: -1.7976931348623157e308,
+        sum: 0.0,
+    })
 }
 
 // ---- agreement

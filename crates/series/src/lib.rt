@@ -8,6 +8,8 @@ ghost use Rattle.index.specs.Answers.{binOf};
 ghost use Rattle.rows.specs.Rows.{over};
 ghost use Rattle.laws.specs.Counting.{total};
 ghost use Rattle.series.specs.Steps.{lowered, with1, lowBin, highBin, lowering, placed};
+ghost use Rattle.laws.specs.Pick.{pick};
+ghost use Rattle.series.specs.Runs.{freshHead};
 ghost use Rattle.series.specs.Series.{rowIn, Laid, rowAgrees, addsUp, agrees, classAt, valueOf, lowerBy, rowTo, rowOther, Room, Ready, Written, read, refusalOf, outcome, recording};
 use rows::Row;
 
@@ -29,6 +31,41 @@ pub struct Head {
 pub enum Answer {
     Recorded(Head),
     Refused(u8),
+}
+
+// The head of a series that has counted nothing.
+pub fn fresh(top: u32) -> Head
+    ensures { λ r. ⌜ r ≡ freshHead top ⌝ }
+{
+    Head {
+        counts: Counts {
+            count: 0,
+            zeros: 0,
+            level: top,
+            pos: Row { start: 0, len: 0 },
+            neg: Row { start: 0, len: 0 },
+        },
+        min: 1.7976931348623157e308,
+        max: -1.7976931348623157e308,
+        sum: 0.0,
+    }
+}
+
+fn shorter(a: usize, b: usize) -> usize
+    ensures { λ r. ⌜ r ≡ min a b ⌝ }
+{
+    if a < b { a } else { b }
+}
+
+// The row of a sign: a part of the one lent slice or of the other.
+pub fn row_of<'a>(c: Counts, negative: bool, pos: &'a [u64], neg: &'a [u64]) -> &'a [u64]
+    ensures { λ r. ⌜ now r ≡ pick negative (take (c .neg .len) (now (neg .entry))) (take (c .pos .len) (now (pos .entry))) ⌝ }
+{
+    let p = c.pos;
+    let n = c.neg;
+    let i = shorter(p.len, pos.len());
+    let j = shorter(n.len, neg.len());
+    if negative { &neg[0..j] } else { &pos[0..i] }
 }
 
 // ---- agreement

@@ -13,12 +13,17 @@ use lib.IntN.{ℤ, pos, negsuc}
 use lib.Dec.{T, ltb, leb, eqb, ltb→lt}
 use lib.Pow.{pow-add, pow-mono, pow-lt}
 use lib.Ieee.{Float, nan, inf, fin, Format, binary64, prec, emax, low, up, down, fits, ofBits}
+use lib.Ieee.Scale.{finite}
 use lib.Ieee.Fits.{down-pos, and-l, and-r}
 use lib.Ieee.Digits.{back}
 use Rattle.floats.specs.Starts.{greatestFinite, leastFinite, FiniteF64}
 use Rattle.floats.proofs.Order.{unitsOf, big, key, Ok, isZero, exponent, exact, small, key-fin, key-unique}
 use lib.Ieee.Bits.{ofBits-fits}
 use Rattle.floats.proofs.Choices.{before, chosen, rank, rank-key, unsaid}
+
+-- as tests give it
+pub finite-f64 : (x : Float) → finite x ≡ true → fits binary64 x ≡ true → FiniteF64 x
+finite-f64 x h k = record { known = subst T (sym h) tt; fits = subst T (sym k) tt }
 
 pub finite-ok : (x : Float) → FiniteF64 x → Ok binary64 x
 finite-ok nan v = absurd (v .known)

@@ -1,10 +1,12 @@
--- Two points that compute: of a list, and of two points merged. Assumes nothing.
-use Prim.Native.Nat.{_/_, _^_}
+-- Points that compute: of a list, of two points merged, of explicit bounds. Assumes nothing.
 use mathlib.Core.Path.{_≡_, refl}
 use mathlib.Core.List.{[], _∷_}
+use mathlib.Core.Bool.{true, false}
+use lib.Ieee.{inf, binary64, ofBits, isNan, lt}
 use Rattle.laws.specs.Pick.{pick, _and_}
 use Rattle.laws.specs.Counting.{hit}
 use Rattle.points.specs.Points.{row, rowOf, indices, fits, fitsBoth, scale, build, pointOf, bag, merge, naught, plus, minus}
+use Rattle.points.specs.Explicit.{noNan, rising, boundsPass, bucketOf, bucketsOf}
 
 -- at size 3 the bins 40 to 47 lie too far apart, and 20 to 23 as well; 10 and 11 fit
 of-a-list : pointOf 3 0 (plus 40 ∷ minus 7 ∷ naught ∷ plus 47 ∷ plus 41 ∷ [])
@@ -19,3 +21,19 @@ of-two-points : merge 3
     ≡ record { d = 2; pos = record { start = 10; counts = 2 ∷ 5 ∷ 3 ∷ [] }; neg = record { start = 750000; counts = 1 ∷ [] }; zeros = 2; total = 13 }
 unfolding merge bag indices build scale fitsBoth fits row rowOf hit pick _and_
 of-two-points = refl
+
+-- bounds: infinite ones are allowed, and -0.0 then 0.0 does not rise
+infinite-bounds : boundsPass (inf true ∷ inf false ∷ []) ≡ true
+unfolding boundsPass noNan rising isNan lt _and_
+infinite-bounds = refl
+
+zeros-do-not-rise : boundsPass (ofBits binary64 0x8000_0000_0000_0000 ∷ ofBits binary64 0 ∷ []) ≡ false
+unfolding boundsPass noNan rising isNan lt _and_ ofBits
+zeros-do-not-rise = refl
+
+-- with the bounds 0.0 and 5.0 the value 5.0 is in bucket 1, and 5.1 in bucket 2
+in-buckets : bucketsOf (ofBits binary64 0 ∷ ofBits binary64 0x4014_0000_0000_0000 ∷ [])
+    (ofBits binary64 0x4014_0000_0000_0000 ∷ ofBits binary64 0x4014_6666_6666_6666 ∷ [])
+    ≡ record { counts = 0 ∷ 1 ∷ 1 ∷ []; total = 2 }
+unfolding bucketsOf bucketOf hit lt pick ofBits
+in-buckets = refl

@@ -1,7 +1,7 @@
 -- Points that stand for values: a point handed out stands for its values in any order, and merged points for the lists joined.
 -- Assumes nothing.
 use Prim.Native.Nat.{ℕ, _-_, _≤_, max}
-use mathlib.Core.Path.{_≡_, refl, ap, sym, _∙_}
+use mathlib.Core.Path.{_≡_, refl, ap, sym, subst, _∙_}
 use mathlib.Core.Bool.{Bool, true, false, Bool·beq}
 use mathlib.Core.List.{List, _++_, map, map-append, List·Permᴰ, Permᴰ·symm}
 use native.Mathlib.Omega.{arith}
@@ -42,6 +42,11 @@ counts-perm (explicit bounds) t h = ap (bucketed bounds) (bucketsOf-perm bounds 
 abbrev pub resized : ℕ → Kind → Kind
 resized size (exponential m top) = exponential size top
 resized size (explicit bounds) = explicit bounds
+
+-- the max_size of a kind; for a kind without one any will do
+abbrev pub sizeOf : Kind → ℕ
+sizeOf (exponential size top) = size
+sizeOf (explicit bounds) = 0
 
 -- the size that a kind was built under, where it has one, is no smaller
 abbrev pub Allows : ℕ → Kind → Type 0
@@ -127,15 +132,25 @@ stands-join size s p q vs ws a h k =
           (sums-add (s .sums) (grid (exactTotal vs)) (grid (exactTotal ws)) (grid (exactTotal (vs ++ ws))) (grid-parts vs ws g));
     }
 
--- ---- A POINT THAT STANDS FOR VALUES AGREES, where its settings could be configured
+-- under the size that both were built under
+own-size : (k : Kind) → resized (sizeOf k) k ≡ k
+own-size (exponential size top) = refl
+own-size (explicit bounds) = refl
+
+allows-own : (k : Kind) → Allows (sizeOf k) k
+allows-own (exponential size top) = omega arith
+allows-own (explicit bounds) = tt
+
+pub stands-merge : (s : Settings) (p q : Handed) (vs ws : List Float) → Stands s p vs → Stands s q ws → Stands s (mergeHanded (sizeOf (s .kind)) p q) (vs ++ ws)
+stands-merge s p q vs ws h k =
+    subst (λ z. Stands z (mergeHanded (sizeOf (s .kind)) p q) (vs ++ ws))
+    (λ i. record { kind = own-size (s .kind) i; extremes = s .extremes; sums = s .sums; threshold = s .threshold })
+    (stands-join (sizeOf (s .kind)) s p q vs ws (allows-own (s .kind)) h k)
+
+-- ---- A POINT THAT STANDS FOR VALUES AGREES, in a merge (whose greatest level is the finest), where its settings could be configured
 abbrev pub Sound : Kind → Type 0
 Sound (exponential size top) = 3 ≤ size
 Sound (explicit bounds) = boundsPass bounds ≡ true
-
--- the greatest level of a merge is the finest
-abbrev pub sizeOf : Kind → ℕ
-sizeOf (exponential size top) = size
-sizeOf (explicit bounds) = 0
 
 counts-agree : (k : Kind) (t : Float) (vs : List Float) → Sound k → All FiniteF64 vs → countsAgree (sizeOf k) finest (lowestBin finest) (kindCounts k t vs) ≡ true
 counts-agree (exponential size top) t vs h p =

@@ -40,8 +40,3 @@ noted s v = record { min = lesserOf (s .min) v; max = greaterOf (s .max) v; sum 
 -- of a list, "in order of recording"
 abbrev pub summaryOf : List Float → Summary
 summaryOf = foldl noted start
-
--- merging "takes the smaller min and larger max (equal: the first's), and adds the sums once"
-abbrev pub joined : Summary → Summary → Summary
-joined s t =
-    record { min = lesserOf (s .min) (t .min); max = greaterOf (s .max) (t .max); sum = add binary64 (s .sum) (t .sum) }

@@ -48,15 +48,12 @@ widened-to w =
     let a = w .before .before .before .before .before .before .before .before .before .before .before .args in
     w .widen .ensures ∙ (λ j. over (replicate (l .lower .ensures .start j - a .other .start / 2 ^ a .kb) 0 ++ take (l .lower .ensures .len j) (l .lower .last .0)) (l .lower .last .0))
 
--- src/lib.rt:352:9
 lower-requires : tie.Need-lower-requires
 lower-requires c κs = search needs
 
--- src/lib.rt:356:9
 same-length : tie.Need-same-length
 same-length c = search needs
 
--- src/lib.rt:356:9
 returns : tie.Need-returns
 returns c =
     let l = c .before .before .before in
@@ -64,11 +61,9 @@ returns c =
     let a = st .args in
     subst (λ (q : P.Row). Laid q (now (a .a)) (l .lower .result) (l .lower .last .0)) (sym (none-other (lowered (a .ka) (rowIn (a .row) (now (a .a)))) (a .kb) (a .other .start) (a .other .len) (now (a .b)) (c .if1 .taken))) (l .lower .ensures)
 
--- src/lib.rt:358:17
 shr-first : tie.Need-shr-first
 shr-first c = search needs
 
--- src/lib.rt:362:13
 add-low-requires : tie.Need-add-low-requires
 add-low-requires c κs =
     let l = c .before .before .before .before .before in
@@ -77,11 +72,9 @@ add-low-requires c κs =
     let some : 0 < a .other .len = omega (arith, c .before .before .if1 .left) in
     wide.first-requires (D st) (now (a .a)) (now (a .b)) (l .lower .last .0) (S st) (a .other .start) (a .other .len) (a .kb) some (st .pre .other) (st .pre .fewOther) (sums st) (short st) (l .lower .ensures .now) (st .pre .room) (sym (l .lower .ensures .len) ∙ c .before .if2 .taken)
 
--- src/lib.rt:363:9
 same-length-2 : tie.Need-same-length-2
 same-length-2 c = search needs
 
--- src/lib.rt:363:9
 returns-2 : tie.Need-returns-2
 returns-2 c =
     let l = c .before .before .before .before .before .before .before .before in
@@ -91,15 +84,12 @@ returns-2 c =
     let w = c .before .before .add-low in
     wide.first-laid (D st) (now (a .a)) (now (a .b)) (l .lower .last .0) (S st) (a .other .start) (a .other .len) (a .kb) some (st .pre .other) (st .pre .fewOther) (sums st) (short st) (l .lower .ensures .now) (st .pre .room) (sym (l .lower .ensures .len) ∙ c .before .before .before .before .if2 .taken) (w .result) (w .last .0) (w .ensures .0) (w .ensures .1)
 
--- src/lib.rt:366:18
 sub-k : tie.Need-sub-k
 sub-k c = search needs
 
--- src/lib.rt:366:17
 cast-k : tie.Need-cast-k
 cast-k c = search needs
 
--- src/lib.rt:367:9
 widen-requires : tie.Need-widen-requires
 widen-requires c κs =
     let l = c .before .before .before .before .before .before in
@@ -108,7 +98,6 @@ widen-requires c κs =
     let some : 0 < a .other .len = omega (arith, c .before .before .before .if1 .left) in
     omega (arith, wide.room-before (D st) (now (a .a)) (now (a .b)) (l .lower .last .0) (S st) (a .other .start) (a .other .len) (a .kb) some (st .pre .other) (st .pre .fewOther) (sums st) (short st) (l .lower .ensures .now) (st .pre .room) (omega (arith, l .lower .ensures .len, c .before .before .if2 .left)) (omega (arith, l .lower .ensures .start, c .before .if3 .taken)), l .lower .ensures .start, l .lower .ensures .len)
 
--- src/lib.rt:368:30
 add-add-low : tie.Need-add-add-low
 add-add-low c =
     let l = c .before .before .before .before .before .before .before .before .before .before in
@@ -117,7 +106,6 @@ add-add-low c =
     let some : 0 < a .other .len = omega (arith, c .before .before .before .before .before .before .before .if1 .left) in
     omega (arith, wide.room-before (D st) (now (a .a)) (now (a .b)) (l .lower .last .0) (S st) (a .other .start) (a .other .len) (a .kb) some (st .pre .other) (st .pre .fewOther) (sums st) (short st) (l .lower .ensures .now) (st .pre .room) (omega (arith, l .lower .ensures .len, c .before .before .before .before .before .before .if2 .left)) (omega (arith, l .lower .ensures .start, c .before .before .before .before .before .if3 .taken)), l .lower .ensures .start, l .lower .ensures .len, l .lower .kept .0)
 
--- src/lib.rt:368:13
 add-low-requires-2 : tie.Need-add-low-requires-2
 add-low-requires-2 c κs =
     let l = c .before .before .before .before .before .before .before .before .before .before in
@@ -126,11 +114,9 @@ add-low-requires-2 c κs =
     let some : 0 < a .other .len = omega (arith, c .before .before .before .before .before .before .before .if1 .left) in
     wide.before-requires' (D st) (now (a .a)) (now (a .b)) (l .lower .last .0) (S st) (a .other .start) (a .other .len) (a .kb) some (st .pre .other) (st .pre .fewOther) (sums st) (short st) (l .lower .ensures .now) (st .pre .room) (omega (arith, l .lower .ensures .len, c .before .before .before .before .before .before .if2 .left)) (omega (arith, l .lower .ensures .start, c .before .before .before .before .before .if3 .taken)) (c .before .before .before .widen .last .0) (widened-to (c .before .before .before)) (l .lower .result .start) (l .lower .result .len) (l .lower .ensures .start) (l .lower .ensures .len)
 
--- src/lib.rt:369:9
 same-length-3 : tie.Need-same-length-3
 same-length-3 c = search needs
 
--- src/lib.rt:369:9
 returns-3 : tie.Need-returns-3
 returns-3 c =
     let l = c .before .before .before .before .before .before .before .before .before .before .before .before .before in
@@ -140,7 +126,6 @@ returns-3 c =
     let w = c .before .before .add-low2 in
     wide.before-laid' (D st) (now (a .a)) (now (a .b)) (l .lower .last .0) (S st) (a .other .start) (a .other .len) (a .kb) some (st .pre .other) (st .pre .fewOther) (sums st) (short st) (l .lower .ensures .now) (st .pre .room) (omega (arith, l .lower .ensures .len, c .before .before .before .before .before .before .before .before .before .if2 .left)) (omega (arith, l .lower .ensures .start, c .before .before .before .before .before .before .before .before .if3 .taken)) (c .before .before .before .before .before .before .widen .last .0) (widened-to (c .before .before .before .before .before .before)) (l .lower .result .start) (l .lower .result .len) (l .lower .ensures .start) (l .lower .ensures .len) (w .result) (w .last .0) (w .ensures .0) (w .ensures .1)
 
--- src/lib.rt:371:9
 add-low-requires-3 : tie.Need-add-low-requires-3
 add-low-requires-3 c κs =
     let l = c .before .before .before .before .before .before in
@@ -149,11 +134,9 @@ add-low-requires-3 c κs =
     let some : 0 < a .other .len = omega (arith, c .before .before .before .if1 .left) in
     wide.after-requires' (D st) (now (a .a)) (now (a .b)) (l .lower .last .0) (S st) (a .other .start) (a .other .len) (a .kb) some (st .pre .other) (st .pre .fewOther) (sums st) (short st) (l .lower .ensures .now) (st .pre .room) (omega (arith, l .lower .ensures .len, c .before .before .if2 .left)) (omega (arith, l .lower .ensures .start, c .before .if3 .left)) (l .lower .result .start) (l .lower .result .len) (l .lower .ensures .start) (l .lower .ensures .len)
 
--- src/lib.rt:348:1
 same-length-4 : tie.Need-same-length-4
 same-length-4 c = search needs
 
--- src/lib.rt:348:1
 returns-4 : tie.Need-returns-4
 returns-4 c =
     let l = c .before .before .before .before .before .before .before .before .before in

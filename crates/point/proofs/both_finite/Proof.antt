@@ -15,20 +15,16 @@ use Rattle.point.proofs.both_finite.Reads as reads
 use Rattle.point.proofs.both_finite.Lts as lts
 use Rattle.floats.proofs.is_finite.Reads as is-finite-reads
 
--- src/lib.rt:93:9
 is-finite-requires : tie.Need-is-finite-requires
 is-finite-requires c κs = search needs
 
--- src/lib.rt:94:9
 returns : tie.Need-returns
 unfolding _and_
 returns c = sym (ap (λ (t : Bool). t and finite (c .before .before .args .y)) (sym (c .before .is-finite .ensures) ∙ not-true _ (c .if1 .taken)))
 
--- src/lib.rt:96:5
 is-finite-requires-2 : tie.Need-is-finite-requires-2
 is-finite-requires-2 c κs = search needs
 
--- src/lib.rt:90:1
 returns-2 : tie.Need-returns-2
 unfolding _and_
 returns-2 c = c .is-finite2 .ensures ∙ sym (ap (λ (t : Bool). t and finite (c .before .before .before .args .y)) (sym (c .before .before .is-finite .ensures) ∙ not-false _ (c .before .if1 .left)))

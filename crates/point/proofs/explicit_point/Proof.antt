@@ -15,19 +15,15 @@ use Rattle.point.proofs.explicit_point.Lts as lts
 use Rattle.floats.proofs.shown.Reads as shown-reads
 use Rattle.point.proofs.shown_sum.Reads as shown-sum-reads
 
--- src/lib.rt:60:9
 shown-requires : tie.Need-shown-requires
 shown-requires c κs = search needs
 
--- src/lib.rt:61:9
 shown-requires-2 : tie.Need-shown-requires-2
 shown-requires-2 c κs = search needs
 
--- src/lib.rt:62:9
 shown-sum-requires : tie.Need-shown-sum-requires
 shown-sum-requires c κs = search needs
 
--- src/lib.rt:57:1
 returns : tie.Need-returns
 returns c =
     let a = c .before .before .before .args in

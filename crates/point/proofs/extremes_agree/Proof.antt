@@ -13,47 +13,36 @@ use Rattle.point.proofs.extremes_agree.Reads as reads
 use Rattle.point.proofs.extremes_agree.Lts as lts
 use Rattle.point.proofs.both_finite.Reads as both-finite-reads
 
--- src/lib.rt:79:26
 enum-told : tie.Need-enum-told
 enum-told c = search needs
 
--- src/lib.rt:80:30
 enum-told-2 : tie.Need-enum-told-2
 enum-told-2 c = search needs
 
--- src/lib.rt:81:28
 enum-known-max : tie.Need-enum-known-max
 enum-known-max c = search needs
 
--- src/lib.rt:83:24
 enum-known-min : tie.Need-enum-known-min
 enum-known-min c = search needs
 
--- src/lib.rt:84:30
 enum-told-3 : tie.Need-enum-told-3
 enum-told-3 c = search needs
 
--- src/lib.rt:85:28
 enum-known-max-2 : tie.Need-enum-known-max-2
 enum-known-max-2 c = search needs
 
--- src/lib.rt:85:34
 both-finite-requires : tie.Need-both-finite-requires
 both-finite-requires c κs = search needs
 
--- src/lib.rt:75:1
 returns : tie.Need-returns
 returns c = search needs
 
--- src/lib.rt:75:1
 returns-2 : tie.Need-returns-2
 returns-2 c = search needs
 
--- src/lib.rt:75:1
 returns-3 : tie.Need-returns-3
 returns-3 c = search needs
 
--- src/lib.rt:75:1
 returns-4 : tie.Need-returns-4
 returns-4 c = c .both-finite .ensures ∙ sym (λ j. extremesAgree (c .before .before .before .before .before .min .given .1 j) (c .before .before .max2 .given .1 j))
 

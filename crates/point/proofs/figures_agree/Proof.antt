@@ -15,30 +15,24 @@ use Rattle.point.proofs.figures_agree.Lts as lts
 use Rattle.buckets.proofs.buckets_agree.Reads as buckets-agree-reads
 use Rattle.series.proofs.counts_agree.Reads as counts-agree-reads
 
--- src/lib.rt:103:30
 enum-known-f : tie.Need-enum-known-f
 enum-known-f c = search needs
 
--- src/lib.rt:103:36
 counts-agree-requires : tie.Need-counts-agree-requires
 counts-agree-requires c κs = search needs
 
--- src/lib.rt:104:27
 enum-known-f-2 : tie.Need-enum-known-f-2
 enum-known-f-2 c = search needs
 
--- src/lib.rt:104:37
 buckets-agree-requires : tie.Need-buckets-agree-requires
 buckets-agree-requires c κs = search needs
 
--- src/lib.rt:99:1
 returns : tie.Need-returns
 returns c =
     let f = c .before .before in
     let a = f .before .before .before .before .before .args in
     c .counts-agree .ensures ∙ sym (ap (λ (g : Figures). figuresAgree (a .size) g (now (a .bounds)) (now (a .pos)) (now (a .neg))) (f .f .given .1))
 
--- src/lib.rt:99:1
 returns-2 : tie.Need-returns-2
 returns-2 c =
     let f = c .before .before in

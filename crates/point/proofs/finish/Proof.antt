@@ -16,27 +16,21 @@ use Rattle.point.proofs.finish.Lts as lts
 use Rattle.floats.proofs.larger.Reads as larger-reads
 use Rattle.floats.proofs.smaller.Reads as smaller-reads
 
--- src/lib.rt:295:25
 enum-told : tie.Need-enum-told
 enum-told c = search needs
 
--- src/lib.rt:296:18
 enum-known-made : tie.Need-enum-known-made
 enum-known-made c = search needs
 
--- src/lib.rt:301:17
 smaller-requires : tie.Need-smaller-requires
 smaller-requires c κs = search needs
 
--- src/lib.rt:302:17
 larger-requires : tie.Need-larger-requires
 larger-requires c κs = search needs
 
--- src/lib.rt:291:1
 returns : tie.Need-returns
 returns c = search needs
 
--- src/lib.rt:291:1
 returns-2 : tie.Need-returns-2
 returns-2 c =
     let l = c .before .before in

@@ -17,22 +17,18 @@ use Rattle.point.proofs.point_agrees.Lts as lts
 use Rattle.point.proofs.extremes_agree.Reads as extremes-agree-reads
 use Rattle.point.proofs.figures_agree.Reads as figures-agree-reads
 
--- src/lib.rt:115:9
 figures-agree-requires : tie.Need-figures-agree-requires
 figures-agree-requires c κs = search needs
 
--- src/lib.rt:116:9
 returns : tie.Need-returns
 unfolding pointAgrees _and_
 returns c =
     let a = c .before .before .before .before .before .args in
     sym (ap (λ (t : Bool). t and extremesAgree (a .p .min) (a .p .max)) (sym (c .before .figures-agree .ensures) ∙ not-true _ (c .if1 .taken)))
 
--- src/lib.rt:118:5
 extremes-agree-requires : tie.Need-extremes-agree-requires
 extremes-agree-requires c κs = search needs
 
--- src/lib.rt:109:1
 returns-2 : tie.Need-returns-2
 unfolding pointAgrees _and_
 returns-2 c =

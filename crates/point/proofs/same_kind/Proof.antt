@@ -13,56 +13,45 @@ use Rattle.point.proofs.same_kind.Reads as reads
 use Rattle.point.proofs.same_kind.Lts as lts
 use Rattle.buckets.proofs.same_bounds.Reads as same-bounds-reads
 
--- src/lib.rt:145:30
 enum-known-f : tie.Need-enum-known-f
 enum-known-f c = search needs
 
--- src/lib.rt:146:34
 enum-known-g : tie.Need-enum-known-g
 enum-known-g c = search needs
 
--- src/lib.rt:147:31
 enum-known-g-2 : tie.Need-enum-known-g-2
 enum-known-g-2 c = search needs
 
--- src/lib.rt:149:27
 enum-known-f-2 : tie.Need-enum-known-f-2
 enum-known-f-2 c = search needs
 
--- src/lib.rt:150:34
 enum-known-g-3 : tie.Need-enum-known-g-3
 enum-known-g-3 c = search needs
 
--- src/lib.rt:151:31
 enum-known-g-4 : tie.Need-enum-known-g-4
 enum-known-g-4 c = search needs
 
--- src/lib.rt:151:37
 same-bounds-requires : tie.Need-same-bounds-requires
 same-bounds-requires c κs = search needs
 
--- src/lib.rt:141:1
 returns : tie.Need-returns
 returns c =
     let f = c .before .before .before .before in
     let st = f .before .before .before .before in
     sym (λ j. sameFigures (f .f .given .1 j) (now (st .args .bounds)) (c .before .g .given .1 j) (now (st .args .others)))
 
--- src/lib.rt:141:1
 returns-2 : tie.Need-returns-2
 returns-2 c =
     let f = c .before .before .before .before in
     let st = f .before .before .before .before in
     sym (λ j. sameFigures (f .f .given .1 j) (now (st .args .bounds)) (c .before .g2 .given .1 j) (now (st .args .others)))
 
--- src/lib.rt:141:1
 returns-3 : tie.Need-returns-3
 returns-3 c =
     let f = c .before .before .before .before in
     let st = f .before .before .before .before in
     sym (λ j. sameFigures (f .f2 .given .1 j) (now (st .args .bounds)) (c .before .g3 .given .1 j) (now (st .args .others)))
 
--- src/lib.rt:141:1
 returns-4 : tie.Need-returns-4
 returns-4 c =
     let g = c .before .before in

@@ -13,12 +13,10 @@ use Rattle.point.proofs.shown_sum.Tie as tie
 use Rattle.point.proofs.shown_sum.Reads as reads
 use Rattle.point.proofs.shown_sum.Lts as lts
 
--- src/lib.rt:35:9
 returns : tie.Need-returns
 unfolding pick
 returns c = sym (ap (λ (b : Bool). pick b (c .before .args .sum) zeroFloat) (c .if1 .taken))
 
--- src/lib.rt:31:1
 returns-2 : tie.Need-returns-2
 unfolding pick
 returns-2 c = sym (ap (λ (b : Bool). pick b (c .before .args .sum) zeroFloat) (c .if1 .left))

@@ -14,26 +14,21 @@ use Rattle.point.proofs.size_fits.Lts as lts
 use Rattle.point.proofs.is_explicit.Reads as is-explicit-reads
 use Rattle.point.proofs.size_passes.Reads as size-passes-reads
 
--- src/lib.rt:169:8
 is-explicit-requires : tie.Need-is-explicit-requires
 is-explicit-requires c κs = search needs
 
--- src/lib.rt:170:12
 is-explicit-requires-2 : tie.Need-is-explicit-requires-2
 is-explicit-requires-2 c κs = search needs
 
--- src/lib.rt:171:13
 returns : tie.Need-returns
 unfolding pick
 returns c =
     let e = c .before .before in
     sym (rw (sym (e .before .is-explicit .ensures) ∙ e .if1 .taken, sym (c .before .is-explicit2 .ensures) ∙ c .if2 .taken) refl)
 
--- src/lib.rt:173:9
 size-passes-requires : tie.Need-size-passes-requires
 size-passes-requires c κs = search needs
 
--- src/lib.rt:173:9
 returns-2 : tie.Need-returns-2
 unfolding pick
 returns-2 c =
@@ -41,11 +36,9 @@ returns-2 c =
     let e = d .before .before in
     c .size-passes .ensures ∙ sym (rw (sym (e .before .is-explicit .ensures) ∙ e .if1 .taken, sym (d .before .is-explicit2 .ensures) ∙ d .if2 .left) refl)
 
--- src/lib.rt:175:5
 size-passes-requires-2 : tie.Need-size-passes-requires-2
 size-passes-requires-2 c κs = search needs
 
--- src/lib.rt:166:1
 returns-3 : tie.Need-returns-3
 unfolding pick
 returns-3 c =

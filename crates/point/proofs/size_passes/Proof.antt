@@ -13,12 +13,10 @@ use Rattle.point.proofs.size_passes.Tie as tie
 use Rattle.point.proofs.size_passes.Reads as reads
 use Rattle.point.proofs.size_passes.Lts as lts
 
--- src/lib.rt:160:9
 returns : tie.Need-returns
 unfolding _and_
 returns c = sym (rw (lt-leb 3 (c .before .args .size) (c .if1 .taken)) refl)
 
--- src/lib.rt:156:1
 returns-2 : tie.Need-returns-2
 unfolding _and_
 returns-2 c = sym (rw (le-leb 3 (c .before .args .size) (omega (arith, c .if1 .left))) refl)

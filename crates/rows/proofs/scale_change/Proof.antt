@@ -21,23 +21,18 @@ abbrev μ-loop : tie.MeasureT-loop
 few : (x d : ℕ) → x < 2 ^ 32 → 0 < x / 2 ^ d → d < 32
 few x d h p = lt-of-not-le (λ (l : 32 ≤ d). let e : x / 2 ^ d ≡ 0 = div-eq-of-lt (lt-of-lt-of-le h (pow-mono l)) in omega arith)
 
--- src/lib.rt:173:5
 loop-holds : tie.Need-loop-holds Inv-loop μ-loop
 loop-holds c = (sym (div-one (c .args .lo)), sym (div-one (c .args .hi)), below-none (λ (d : ℕ). c .args .size ≤ c .args .hi / 2 ^ d - c .args .lo / 2 ^ d), search needs)
 
--- src/lib.rt:173:26
 sub-loop : tie.Need-sub-loop Inv-loop μ-loop
 sub-loop c = omega (arith, shr-mono (c .loop .delta) (c .before .pre .0))
 
--- src/lib.rt:176:9
 add-delta : tie.Need-add-delta Inv-loop μ-loop
 add-delta c = omega (arith, few (c .before .before .args .hi) (c .before .loop .delta) (c .before .before .fits .hi .fits) (omega arith))
 
--- src/lib.rt:173:5
 loop-less : tie.Need-loop-less Inv-loop μ-loop
 loop-less c = omega arith
 
--- src/lib.rt:173:5
 loop-again : tie.Need-loop-again Inv-loop μ-loop
 loop-again c =
     let l = c .before .loop in (
@@ -48,7 +43,6 @@ loop-again c =
       omega (arith, few (c .before .before .args .hi) (l .delta) (c .before .before .fits .hi .fits) (omega arith)),
     )
 
--- src/lib.rt:165:1
 returns : tie.Need-returns Inv-loop μ-loop
 returns c =
     let l = c .before .loop in

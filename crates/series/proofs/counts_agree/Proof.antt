@@ -17,14 +17,12 @@ use Rattle.series.proofs.counts_agree.Lts as lts
 use Rattle.series.proofs.adds_up.Reads as adds-up-reads
 use Rattle.series.proofs.row_agrees.Reads as row-agrees-reads
 
--- src/lib.rt:116:9
 returns : tie.Need-returns
 returns c =
     let st = c .before .before .before in
     let a = st .args in
     refuse (a .size) (a .top) (a .c) (now (a .pos)) (now (a .neg)) (λ k. omega (arith, c .if1 .taken, k .least))
 
--- src/lib.rt:119:9
 returns-2 : tie.Need-returns-2
 returns-2 c =
     let e = c .before in
@@ -32,7 +30,6 @@ returns-2 c =
     let a = st .args in
     refuse (a .size) (a .top) (a .c) (now (a .pos)) (now (a .neg)) (λ k. omega (arith, c .if2 .taken, k .most))
 
--- src/lib.rt:122:9
 returns-3 : tie.Need-returns-3
 returns-3 c =
     let e = c .before in
@@ -40,7 +37,6 @@ returns-3 c =
     let a = st .args in
     refuse (a .size) (a .top) (a .c) (now (a .pos)) (now (a .neg)) (λ k. omega (arith, c .if3 .taken, k .greatest))
 
--- src/lib.rt:126:9
 returns-4 : tie.Need-returns-4
 returns-4 c =
     let e = c .before in
@@ -48,11 +44,9 @@ returns-4 c =
     let a = st .args in
     refuse (a .size) (a .top) (a .c) (now (a .pos)) (now (a .neg)) (λ k. omega (arith, c .if4 .taken, k .level))
 
--- src/lib.rt:130:9
 row-agrees-requires : tie.Need-row-agrees-requires
 row-agrees-requires c κs = search needs
 
--- src/lib.rt:131:9
 returns-5 : tie.Need-returns-5
 returns-5 c =
     let e = c .before .before .before .before in
@@ -60,11 +54,9 @@ returns-5 c =
     let a = st .args in
     refuse (a .size) (a .top) (a .c) (now (a .pos)) (now (a .neg)) (λ k. not-both _ (c .before .row-agrees .ensures ∙ facts-row (a .size) (a .c .level) (a .c .pos) (now (a .pos)) (pos-facts (a .size) (a .top) (a .c) (now (a .pos)) (now (a .neg)) k)) (not-true _ (c .if5 .taken)))
 
--- src/lib.rt:133:9
 row-agrees-requires-2 : tie.Need-row-agrees-requires-2
 row-agrees-requires-2 c κs = search needs
 
--- src/lib.rt:134:9
 returns-6 : tie.Need-returns-6
 returns-6 c =
     let e = c .before .before .before .before .before .before in
@@ -72,7 +64,6 @@ returns-6 c =
     let a = st .args in
     refuse (a .size) (a .top) (a .c) (now (a .pos)) (now (a .neg)) (λ k. not-both _ (c .before .row-agrees2 .ensures ∙ facts-row (a .size) (a .c .level) (a .c .neg) (now (a .neg)) (neg-facts (a .size) (a .top) (a .c) (now (a .pos)) (now (a .neg)) k)) (not-true _ (c .if6 .taken)))
 
--- src/lib.rt:136:5
 adds-up-requires : tie.Need-adds-up-requires
 adds-up-requires c κs =
     let e = c .before .before .before .before .before .before in
@@ -82,7 +73,6 @@ adds-up-requires c κs =
     let n = row-facts (a .size) (a .c .level) (a .c .neg) (now (a .neg)) (sym (c .before .row-agrees2 .ensures) ∙ not-false _ (c .if6 .left)) in
     ((p .there, omega (arith, short (a .size) (a .c .level) (a .c .pos) (now (a .pos)) p, e .before .before .if2 .left)), (n .there, omega (arith, short (a .size) (a .c .level) (a .c .neg) (now (a .neg)) n, e .before .before .if2 .left)))
 
--- src/lib.rt:111:1
 returns-7 : tie.Need-returns-7
 returns-7 c =
     let e = c .before .before .before .before .before .before .before in

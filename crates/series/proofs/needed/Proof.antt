@@ -16,42 +16,33 @@ use Rattle.rows.proofs.scale_change.Reads as scale-change-reads
 use Rattle.series.proofs.greater.Reads as greater-reads
 use Rattle.series.proofs.lesser.Reads as lesser-reads
 
--- src/lib.rt:111:9
 scale-change-requires : tie.Need-scale-change-requires
 scale-change-requires c κs = search needs
 
--- src/lib.rt:111:9
 returns : tie.Need-returns
 returns c =
     let st = c .before .before in
     let e = bins-empty (st .args .row .start) (st .args .row .len) (st .args .bin) (c .before .if1 .taken) in
     rw (e .0, e .1) (change-is (st .args .size) (st .args .bin) (st .args .bin) (c .scale-change .result) (c .scale-change .ensures .0 .0) (c .scale-change .ensures .0 .1) (c .scale-change .ensures .1))
 
--- src/lib.rt:113:25
 sub-last : tie.Need-sub-last
 sub-last c = search needs
 
--- src/lib.rt:113:24
 cast-last : tie.Need-cast-last
 cast-last c = search needs
 
--- src/lib.rt:113:16
 add-last : tie.Need-add-last
 add-last c = search needs
 
--- src/lib.rt:114:9
 lesser-requires : tie.Need-lesser-requires
 lesser-requires c κs = search needs
 
--- src/lib.rt:115:9
 greater-requires : tie.Need-greater-requires
 greater-requires c κs = search needs
 
--- src/lib.rt:116:5
 scale-change-requires-2 : tie.Need-scale-change-requires-2
 scale-change-requires-2 c κs = search needs
 
--- src/lib.rt:104:1
 returns-2 : tie.Need-returns-2
 returns-2 c =
     let g = c .before in

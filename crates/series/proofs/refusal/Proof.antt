@@ -16,65 +16,53 @@ use Rattle.series.proofs.refusal.Lts as lts
 use Rattle.floats.proofs.is_finite.Reads as is-finite-reads
 use Rattle.series.proofs.counts_agree.Reads as counts-agree-reads
 
--- src/lib.rt:273:9
 returns : tie.Need-returns
 returns c =
     let a = c .before .before .before .args in
     sym (short-pos (a .size) (a .top) (a .head) (now (a .pos)) (now (a .neg)) (a .v) (c .if1 .taken))
 
--- src/lib.rt:276:9
 returns-2 : tie.Need-returns-2
 returns-2 c =
     let a = c .before .before .before .before .args in
     sym (short-neg (a .size) (a .top) (a .head) (now (a .pos)) (now (a .neg)) (a .v) (omega (arith, c .before .if1 .left)) (c .if2 .taken))
 
--- src/lib.rt:278:9
 is-finite-requires : tie.Need-is-finite-requires
 is-finite-requires c κs = search needs
 
--- src/lib.rt:279:9
 returns-3 : tie.Need-returns-3
 returns-3 c =
     let a = c .before .before .before .before .before .before .args in
     sym (not-finite (a .size) (a .top) (a .head) (now (a .pos)) (now (a .neg)) (a .v) (omega (arith, c .before .before .before .if1 .left)) (omega (arith, c .before .before .if2 .left)) (sym (c .before .is-finite .ensures) ∙ not-true _ (c .if3 .taken)))
 
--- src/lib.rt:282:9
 counts-agree-requires : tie.Need-counts-agree-requires
 counts-agree-requires c κs = search needs
 
--- src/lib.rt:283:9
 returns-4 : tie.Need-returns-4
 returns-4 c =
     let a = c .before .before .before .before .before .before .before .before .before .args in
     sym (disagrees (a .size) (a .top) (a .head) (now (a .pos)) (now (a .neg)) (a .v) (omega (arith, c .before .before .before .before .before .before .if1 .left)) (omega (arith, c .before .before .before .before .before .if2 .left)) (sym (c .before .before .before .before .is-finite .ensures) ∙ not-false _ (c .before .before .before .if3 .left)) (sym (c .before .counts-agree .ensures) ∙ not-true _ (c .if4 .taken)))
 
--- src/lib.rt:285:9
 is-finite-requires-2 : tie.Need-is-finite-requires-2
 is-finite-requires-2 c κs = search needs
 
--- src/lib.rt:286:9
 returns-5 : tie.Need-returns-5
 returns-5 c =
     let a = c .before .before .before .before .before .before .before .before .before .before .before .args in
     sym (bad-min (a .size) (a .top) (a .head) (now (a .pos)) (now (a .neg)) (a .v) (omega (arith, c .before .before .before .before .before .before .before .before .if1 .left)) (omega (arith, c .before .before .before .before .before .before .before .if2 .left)) (sym (c .before .before .before .before .before .before .is-finite .ensures) ∙ not-false _ (c .before .before .before .before .before .if3 .left)) (sym (c .before .before .before .counts-agree .ensures) ∙ not-false _ (c .before .before .if4 .left)) (sym (c .before .is-finite2 .ensures) ∙ not-true _ (c .if5 .taken)))
 
--- src/lib.rt:288:9
 is-finite-requires-3 : tie.Need-is-finite-requires-3
 is-finite-requires-3 c κs = search needs
 
--- src/lib.rt:289:9
 returns-6 : tie.Need-returns-6
 returns-6 c =
     let a = c .before .before .before .before .before .before .before .before .before .before .before .before .before .args in
     sym (bad-max (a .size) (a .top) (a .head) (now (a .pos)) (now (a .neg)) (a .v) (omega (arith, c .before .before .before .before .before .before .before .before .before .before .if1 .left)) (omega (arith, c .before .before .before .before .before .before .before .before .before .if2 .left)) (sym (c .before .before .before .before .before .before .before .before .is-finite .ensures) ∙ not-false _ (c .before .before .before .before .before .before .before .if3 .left)) (sym (c .before .before .before .before .before .counts-agree .ensures) ∙ not-false _ (c .before .before .before .before .if4 .left)) (sym (c .before .before .before .is-finite2 .ensures) ∙ not-false _ (c .before .before .if5 .left)) (sym (c .before .is-finite3 .ensures) ∙ not-true _ (c .if6 .taken)))
 
--- src/lib.rt:292:9
 returns-7 : tie.Need-returns-7
 returns-7 c =
     let a = c .before .before .before .before .before .before .before .before .before .before .before .before .before .before .before .args in
     sym (full (a .size) (a .top) (a .head) (now (a .pos)) (now (a .neg)) (a .v) (omega (arith, c .before .before .before .before .before .before .before .before .before .before .before .before .if1 .left)) (omega (arith, c .before .before .before .before .before .before .before .before .before .before .before .if2 .left)) (sym (c .before .before .before .before .before .before .before .before .before .before .is-finite .ensures) ∙ not-false _ (c .before .before .before .before .before .before .before .before .before .if3 .left)) (sym (c .before .before .before .before .before .before .before .counts-agree .ensures) ∙ not-false _ (c .before .before .before .before .before .before .if4 .left)) (sym (c .before .before .before .before .before .is-finite2 .ensures) ∙ not-false _ (c .before .before .before .before .if5 .left)) (sym (c .before .before .before .is-finite3 .ensures) ∙ not-false _ (c .before .before .if6 .left)) (c .if7 .taken))
 
--- src/lib.rt:268:1
 returns-8 : tie.Need-returns-8
 returns-8 c =
     let a = c .before .before .before .before .before .before .before .before .before .before .before .before .before .before .before .args in

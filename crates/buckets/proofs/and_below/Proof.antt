@@ -1,0 +1,28 @@
+use Prim.Native.Nat.{ℕ, suc, _+_, _-_, _*_, _/_, _%_, _^_, _≤_, _<_}
+use mathlib.Core.Path.{_≡_, refl, sym, ap, _∙_, subst}
+use native.Mathlib.Omega.{arith}
+use denote.Ref.{now}
+use lib.ListN.{length, take, getD}
+use lib.Seq.{take-all}
+use lib.Ieee.{Float, nan, lt, eq, isNan}
+use borrow.Author.Needs.{needs}
+use mathlib.Core.Bool.{Bool}
+use Rattle.laws.specs.Pick.{_and_}
+use Rattle.buckets.proofs.Turns.{and-true, and-false}
+use Rattle.buckets.proofs.and_below.Statement.{statement}
+use Rattle.buckets.proofs.and_below.Tie as tie
+use Rattle.buckets.proofs.and_below.Reads as reads
+use Rattle.buckets.proofs.and_below.Lts as lts
+
+returns : tie.Need-returns
+returns c =
+    let a = c .before .args in
+    sym (ap (λ (b : Bool). a .ok and b) (c .if1 .taken) ∙ and-true (a .ok))
+
+returns-2 : tie.Need-returns-2
+returns-2 c =
+    let a = c .before .args in
+    sym (ap (λ (b : Bool). a .ok and b) (c .if1 .left) ∙ and-false (a .ok))
+
+pub and-below-spec : {M : Type 1} → statement M
+and-below-spec = tie.close (tie.spec returns returns-2)

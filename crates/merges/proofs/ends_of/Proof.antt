@@ -1,0 +1,61 @@
+use Prim.Native.Nat.{ℕ, suc, _+_, _-_, _*_, _/_, _%_, _^_, _≤_, _<_, min, max, pred}
+use mathlib.Core.Path.{_≡_, refl, sym, ap, _∙_, subst}
+use native.Mathlib.Omega.{arith}
+use borrow.Author.Needs.{needs}
+use Rattle.merges.proofs.Spans.{ends-first, ends-second, ends-both}
+use Rattle.merges.proofs.ends_of.Statement.{statement}
+use Rattle.merges.proofs.ends_of.Tie as tie
+use Rattle.merges.proofs.ends_of.Reads as reads
+use Rattle.merges.proofs.ends_of.Lts as lts
+use Rattle.merges.proofs.last_bin.Reads as last-bin-reads
+use Rattle.series.proofs.lesser.Reads as lesser-reads
+use Rattle.series.proofs.greater.Reads as greater-reads
+
+shr-lo : tie.Need-shr-lo
+shr-lo c = search needs
+
+last-bin-requires : tie.Need-last-bin-requires
+last-bin-requires c κs = search needs
+
+shr-hi : tie.Need-shr-hi
+shr-hi c = search needs
+
+returns : tie.Need-returns
+returns c =
+    let a = c .before .before .before .args in
+    let f = ends-first (a .a) (a .b) (a .j) (a .k) (c .if1 .taken) in
+    (sym (f .0), ap (λ (n : ℕ). n / 2 ^ a .j) (c .before .last-bin .ensures) ∙ sym (f .1))
+
+shr-least : tie.Need-shr-least
+shr-least c = search needs
+
+last-bin-requires-2 : tie.Need-last-bin-requires-2
+last-bin-requires-2 c κs = search needs
+
+shr-most : tie.Need-shr-most
+shr-most c = search needs
+
+returns-2 : tie.Need-returns-2
+returns-2 c =
+    let e = c .before .before .before in
+    let a = e .before .before .before .args in
+    let f = ends-second (a .a) (a .b) (a .j) (a .k) (omega (arith, e .if1 .left)) (c .if2 .taken) in
+    (sym (f .0), ap (λ (n : ℕ). n / 2 ^ a .k) (c .before .last-bin2 .ensures) ∙ sym (f .1))
+
+lesser-requires : tie.Need-lesser-requires
+lesser-requires c κs = search needs
+
+greater-requires : tie.Need-greater-requires
+greater-requires c κs = search needs
+
+returns-3 : tie.Need-returns-3
+returns-3 c =
+    let d = c .before .before in
+    let e = d .before .before .before in
+    let a = e .before .before .before .args in
+    let f = ends-both (a .a) (a .b) (a .j) (a .k) (omega (arith, e .if1 .left)) (omega (arith, d .if2 .left)) in
+    (c .before .lesser .ensures ∙ sym (f .0), c .greater .ensures ∙ (λ i. max (e .before .last-bin .ensures i / 2 ^ a .j) (d .before .last-bin2 .ensures i / 2 ^ a .k)) ∙ sym (f .1))
+
+pub ends-of-spec : {M : Type 1} → statement M
+ends-of-spec =
+    tie.close (tie.spec shr-lo last-bin-requires shr-hi returns shr-least last-bin-requires-2 shr-most returns-2 lesser-requires greater-requires returns-3)

@@ -1,0 +1,32 @@
+use Prim.Native.Nat.{ℕ, suc, _+_, _-_, _*_, _/_, _%_, _^_, _≤_, _<_, min, max, pred}
+use mathlib.Core.Path.{_≡_, refl, sym, ap, _∙_, subst}
+use native.Mathlib.Omega.{arith}
+use borrow.Author.Needs.{needs}
+use Rattle.series.specs.Steps.{lowering}
+use Rattle.series.proofs.Rowed.{change-is}
+use Rattle.merges.proofs.Spans.{ends-le}
+use Rattle.merges.proofs.span.Statement.{statement}
+use Rattle.merges.proofs.span.Tie as tie
+use Rattle.merges.proofs.span.Reads as reads
+use Rattle.merges.proofs.span.Lts as lts
+use Rattle.merges.proofs.ends_of.Reads as ends-of-reads
+use Rattle.rows.proofs.scale_change.Reads as scale-change-reads
+
+ends-of-requires : tie.Need-ends-of-requires
+ends-of-requires c κs = search needs
+
+scale-change-requires : tie.Need-scale-change-requires
+scale-change-requires c κs =
+    let a = c .before .args in
+    (omega (arith, c .ends-of .ensures, ends-le (a .a) (a .b) (a .j) (a .k)), c .before .pre .0)
+
+returns : tie.Need-returns
+returns c =
+    let a = c .before .before .args in
+    let e = c .before .ends-of in
+    let s = c .scale-change in
+    change-is (a .size) (e .result .lo) (e .result .hi) (s .result) (s .ensures .0 .0) (s .ensures .0 .1) (s .ensures .1)
+    ∙ (λ i. lowering (a .size) (e .ensures .0 i) (e .ensures .1 i))
+
+pub span-spec : {M : Type 1} → statement M
+span-spec = tie.close (tie.spec ends-of-requires scale-change-requires returns)

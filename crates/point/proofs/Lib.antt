@@ -1,0 +1,3 @@
+-- The laws of points.
+pub mod Calls
+pub mod Laid

@@ -1,0 +1,42 @@
+use Prim.Native.Nat.{ℕ, suc, _+_, _-_, _*_, _/_, _%_, _^_, _≤_, _<_}
+use mathlib.Core.Path.{_≡_, refl, sym, ap, _∙_, subst}
+use mathlib.Core.Bool.{Bool, true, false, not, Bool·beq}
+use mathlib.Core.List.{List}
+use native.Mathlib.Omega.{arith}
+use denote.Ref.{now}
+use lib.ListN.{length, take}
+use lib.Dec.{leb}
+use mathlib.Core.Logic.{⊎-elim, _⊎_, inl, inr}
+use borrow.Author.Tests.{leb-true, leb-false, le-leb, lt-leb}
+use Rattle.laws.proofs.Bools.{flag}
+use Rattle.point.specs.Handing.{countIn}
+use borrow.Author.Needs.{needs}
+use Rattle.point.proofs.counts_fit.Statement.{statement}
+use Rattle.point.proofs.counts_fit.Tie as tie
+use Rattle.point.proofs.counts_fit.Reads as reads
+use Rattle.point.proofs.counts_fit.Lts as lts
+use Rattle.point.proofs.count_in.Reads as count-in-reads
+
+by-diff : (x y : ℕ) → x < 2 ^ 64 → leb y (18446744073709551615 - x) ≡ leb (x + y) 18446744073709551615
+by-diff x y h =
+    ⊎-elim
+    (λ (t : leb y (18446744073709551615 - x) ≡ true). t ∙ sym (le-leb (x + y) 18446744073709551615 (omega (arith, leb-true y (18446744073709551615 - x) t))))
+    (λ (t : leb y (18446744073709551615 - x) ≡ false). t ∙ sym (lt-leb (x + y) 18446744073709551615 (omega (arith, leb-false y (18446744073709551615 - x) t))))
+    (flag (leb y (18446744073709551615 - x)))
+
+count-in-requires : tie.Need-count-in-requires
+count-in-requires c κs = search needs
+
+count-in-requires-2 : tie.Need-count-in-requires-2
+count-in-requires-2 c κs = search needs
+
+sub-result : tie.Need-sub-result
+sub-result c = search needs
+
+returns : tie.Need-returns
+returns c =
+    by-diff (c .before .count-in .result) (c .count-in2 .result) (omega (arith, c))
+    ∙ (λ j. leb (c .before .count-in .ensures j + c .count-in2 .ensures j) 18446744073709551615)
+
+pub counts-fit-spec : {M : Type 1} → statement M
+counts-fit-spec = tie.close (tie.spec count-in-requires count-in-requires-2 sub-result returns)

@@ -1,0 +1,51 @@
+use Prim.Native.Nat.{ℕ, suc, _+_, _-_, _*_, _/_, _%_, _^_, _≤_, _<_}
+use mathlib.Core.Path.{_≡_, refl, sym, ap, _∙_, subst}
+use mathlib.Core.Bool.{Bool, true, false, not}
+use mathlib.Core.List.{List}
+use native.Mathlib.Omega.{arith}
+use denote.Ref.{now}
+use lib.ListN.{length, take}
+use Rattle.point.specs.declared.Figures.{Figures}
+use Rattle.point.specs.Handing.{figuresAgree}
+use borrow.Author.Needs.{needs}
+use Rattle.point.proofs.figures_agree.Statement.{statement}
+use Rattle.point.proofs.figures_agree.Tie as tie
+use Rattle.point.proofs.figures_agree.Reads as reads
+use Rattle.point.proofs.figures_agree.Lts as lts
+use Rattle.buckets.proofs.buckets_agree.Reads as buckets-agree-reads
+use Rattle.series.proofs.counts_agree.Reads as counts-agree-reads
+
+enum-known-f : tie.Need-enum-known-f
+enum-known-f c = search needs
+
+counts-agree-requires : tie.Need-counts-agree-requires
+counts-agree-requires c κs = search needs
+
+enum-known-f-2 : tie.Need-enum-known-f-2
+enum-known-f-2 c = search needs
+
+buckets-agree-requires : tie.Need-buckets-agree-requires
+buckets-agree-requires c κs = search needs
+
+returns : tie.Need-returns
+returns c =
+    let f = c .before .before in
+    let a = f .before .before .before .before .before .args in
+    c .counts-agree .ensures ∙ sym (ap (λ (g : Figures). figuresAgree (a .size) g (now (a .bounds)) (now (a .pos)) (now (a .neg))) (f .f .given .1))
+
+returns-2 : tie.Need-returns-2
+returns-2 c =
+    let f = c .before .before in
+    let a = f .before .before .before .before .before .args in
+    c .buckets-agree .ensures ∙ sym (ap (λ (g : Figures). figuresAgree (a .size) g (now (a .bounds)) (now (a .pos)) (now (a .neg))) (f .f2 .given .1))
+
+pub figures-agree-spec : {M : Type 1} → statement M
+figures-agree-spec =
+    tie.close
+    (tie.spec
+    enum-known-f
+    counts-agree-requires
+    enum-known-f-2
+    buckets-agree-requires
+    returns
+    returns-2)

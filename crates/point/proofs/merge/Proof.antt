@@ -1,0 +1,141 @@
+use Prim.Native.Nat.{ℕ, suc, _+_, _-_, _*_, _/_, _%_, _^_, _≤_, _<_}
+use mathlib.Core.Path.{_≡_, refl, sym, ap, _∙_, subst}
+use mathlib.Core.Bool.{Bool, true, false, not, Bool·beq}
+use mathlib.Core.List.{List}
+use native.Mathlib.Omega.{arith}
+use denote.Ref.{now}
+use lib.ListN.{length, take}
+use Rattle.point.specs.Handing.{refusalBefore}
+use Rattle.point.proofs.Calls as calls
+use borrow.Author.Needs.{needs}
+use Rattle.point.proofs.merge.Statement.{statement}
+use Rattle.point.proofs.merge.Tie as tie
+use Rattle.point.proofs.merge.Reads as reads
+use Rattle.point.proofs.merge.Lts as lts
+use Rattle.point.proofs.refusal.Reads as refusal-reads
+use Rattle.point.proofs.merge_scaled.Reads as merge-scaled-reads
+use Rattle.point.proofs.merge_bucketed.Reads as merge-bucketed-reads
+use Rattle.point.proofs.finish.Reads as finish-reads
+
+abbrev start : tie.Else1 → tie.Start
+start e = e .before .before .before .before .before .before .before .before .before .before
+
+free : (e : tie.Else1) → refusalBefore (start e .args .size) (start e .args .a) (now (start e .args .abounds)) (now (start e .args .apos)) (now (start e .args .aneg)) (start e .args .b) (now (start e .args .bbounds)) (now (start e .args .bpos)) (now (start e .args .bneg)) ≡ 0
+free e = sym (e .before .refusal .ensures) ∙ e .if1 .left
+
+refusal-requires : tie.Need-refusal-requires
+refusal-requires c κs = search needs
+
+returns : tie.Need-returns
+returns c =
+    let a = c .before .before .before .before .before .before .before .before .before .before .args in
+    calls.refused-law (a .size) (a .a) (now (a .abounds)) (now (a .apos)) (now (a .aneg)) (a .b) (now (a .bbounds)) (now (a .bpos)) (now (a .bneg)) (now (a .pos)) (now (a .neg)) (c .before .refusal .result) (c .before .refusal .ensures) (c .if1 .taken)
+
+enum-known-f : tie.Need-enum-known-f
+enum-known-f c = search needs
+
+enum-known-g : tie.Need-enum-known-g
+enum-known-g c = search needs
+
+merge-scaled-requires : tie.Need-merge-scaled-requires
+merge-scaled-requires c κs =
+    let g = c .before .before .before in
+    let f = g .before .before .before in
+    let e = f .before .before in
+    let a = start e .args in
+    calls.agreeing (a .size) (a .a) (now (a .abounds)) (now (a .apos)) (now (a .aneg)) (a .b) (now (a .bbounds)) (now (a .bpos)) (now (a .bneg)) (free e) (f .f .given .0 .0) (g .g .given .0 .0) (f .f .given .1) (g .g .given .1)
+
+finish-requires : tie.Need-finish-requires
+finish-requires c κs = search needs
+
+enum-known-g-2 : tie.Need-enum-known-g-2
+enum-known-g-2 c = search needs
+
+enum-known-f-2 : tie.Need-enum-known-f-2
+enum-known-f-2 c = search needs
+
+enum-known-g-3 : tie.Need-enum-known-g-3
+enum-known-g-3 c = search needs
+
+enum-known-g-4 : tie.Need-enum-known-g-4
+enum-known-g-4 c = search needs
+
+merge-bucketed-requires : tie.Need-merge-bucketed-requires
+merge-bucketed-requires c κs =
+    let g = c .before .before in
+    let f = g .before .before .before in
+    let e = f .before .before in
+    let a = start e .args in
+    calls.can-add (a .size) (a .a) (now (a .abounds)) (now (a .apos)) (now (a .aneg)) (a .b) (now (a .bbounds)) (now (a .bpos)) (now (a .bneg)) (free e) (f .f2 .given .0 .0) (g .g4 .given .0 .0) (f .f2 .given .1) (g .g4 .given .1)
+
+finish-requires-2 : tie.Need-finish-requires-2
+finish-requires-2 c κs = search needs
+
+same-length : tie.Need-same-length
+same-length c = search needs
+
+same-length-2 : tie.Need-same-length-2
+same-length-2 c = search needs
+
+returns-2 : tie.Need-returns-2
+returns-2 c =
+    let s = c .before .before .before .before .before in
+    let g = s .before .before .before .before in
+    let f = g .before .before .before in
+    let e = f .before .before in
+    let a = start e .args in
+    calls.scaled-law (a .size) (a .a) (now (a .abounds)) (now (a .apos)) (now (a .aneg)) (a .b) (now (a .bbounds)) (now (a .bpos)) (now (a .bneg)) (now (a .pos)) (now (a .neg)) (f .f .given .0 .0) (g .g .given .0 .0) (s .merge-scaled .result) (c .finish .result) (s .merge-scaled .last .1 .1 .1 .1 .1 .1 .1 .0) (s .merge-scaled .last .1 .1 .1 .1 .1 .1 .1 .1 .0)
+    (free e) (f .f .given .1) (g .g .given .1) (s .merge-scaled .ensures) (c .finish .ensures)
+
+returns-3 : tie.Need-returns-3
+returns-3 c =
+    let g = c .before in
+    let f = g .before .before .before in
+    let e = f .before .before in
+    let a = start e .args in
+    absurd (calls.not-mixed (a .size) (a .a) (now (a .abounds)) (now (a .apos)) (now (a .aneg)) (a .b) (now (a .bbounds)) (now (a .bpos)) (now (a .bneg)) (free e) (f .f .given .0 .0) (g .g2 .given .0 .0) (f .f .given .1) (g .g2 .given .1))
+
+returns-4 : tie.Need-returns-4
+returns-4 c =
+    let g = c .before in
+    let f = g .before .before .before in
+    let e = f .before .before in
+    let a = start e .args in
+    absurd (calls.not-mixed-2 (a .size) (a .a) (now (a .abounds)) (now (a .apos)) (now (a .aneg)) (a .b) (now (a .bbounds)) (now (a .bpos)) (now (a .bneg)) (free e) (f .f2 .given .0 .0) (g .g3 .given .0 .0) (f .f2 .given .1) (g .g3 .given .1))
+
+same-length-3 : tie.Need-same-length-3
+same-length-3 c = search needs
+
+returns-5 : tie.Need-returns-5
+returns-5 c =
+    let s = c .before .before .before in
+    let g = s .before .before .before in
+    let f = g .before .before .before in
+    let e = f .before .before in
+    let a = start e .args in
+    calls.bucketed-law (a .size) (a .a) (now (a .abounds)) (now (a .apos)) (now (a .aneg)) (a .b) (now (a .bbounds)) (now (a .bpos)) (now (a .bneg)) (now (a .pos)) (now (a .neg)) (f .f2 .given .0 .0) (g .g4 .given .0 .0) (s .merge-bucketed .result) (c .finish2 .result) (s .merge-bucketed .last .1 .1 .1 .1 .1 .0)
+    (free e) (f .f2 .given .1) (g .g4 .given .1) (s .merge-bucketed .ensures) (c .finish2 .ensures)
+
+pub merge-spec : {M : Type 1} → statement M
+merge-spec =
+    tie.close
+    (tie.spec
+    refusal-requires
+    returns
+    enum-known-f
+    enum-known-g
+    merge-scaled-requires
+    finish-requires
+    enum-known-g-2
+    enum-known-f-2
+    enum-known-g-3
+    enum-known-g-4
+    merge-bucketed-requires
+    finish-requires-2
+    same-length
+    same-length-2
+    returns-2
+    returns-3
+    returns-4
+    same-length-3
+    returns-5)

@@ -1,0 +1,41 @@
+use Prim.Native.Nat.{ℕ, suc, _+_, _-_, _*_, _/_, _%_, _^_, _≤_, _<_}
+use mathlib.Core.Path.{_≡_, refl, sym, ap, _∙_, subst}
+use mathlib.Core.Bool.{Bool, true, false, not}
+use mathlib.Core.List.{List}
+use native.Mathlib.Omega.{arith}
+use denote.Ref.{now}
+use lib.ListN.{length, take}
+use Rattle.laws.specs.Pick.{_and_}
+use Rattle.points.specs.Handed.{extremesAgree}
+use Rattle.point.specs.Handing.{pointAgrees}
+use Rattle.series.proofs.Facts.{not-true, not-false}
+use borrow.Author.Needs.{needs}
+use Rattle.point.proofs.point_agrees.Statement.{statement}
+use Rattle.point.proofs.point_agrees.Tie as tie
+use Rattle.point.proofs.point_agrees.Reads as reads
+use Rattle.point.proofs.point_agrees.Lts as lts
+use Rattle.point.proofs.extremes_agree.Reads as extremes-agree-reads
+use Rattle.point.proofs.figures_agree.Reads as figures-agree-reads
+
+figures-agree-requires : tie.Need-figures-agree-requires
+figures-agree-requires c κs = search needs
+
+returns : tie.Need-returns
+unfolding pointAgrees _and_
+returns c =
+    let a = c .before .before .before .before .before .args in
+    sym (ap (λ (t : Bool). t and extremesAgree (a .p .min) (a .p .max)) (sym (c .before .figures-agree .ensures) ∙ not-true _ (c .if1 .taken)))
+
+extremes-agree-requires : tie.Need-extremes-agree-requires
+extremes-agree-requires c κs = search needs
+
+returns-2 : tie.Need-returns-2
+unfolding pointAgrees _and_
+returns-2 c =
+    let e = c .before in
+    let a = e .before .before .before .before .before .args in
+    c .extremes-agree .ensures ∙ sym (ap (λ (t : Bool). t and extremesAgree (a .p .min) (a .p .max)) (sym (e .before .figures-agree .ensures) ∙ not-false _ (e .if1 .left)))
+
+pub point-agrees-spec : {M : Type 1} → statement M
+point-agrees-spec =
+    tie.close (tie.spec figures-agree-requires returns extremes-agree-requires returns-2)

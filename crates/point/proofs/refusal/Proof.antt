@@ -1,0 +1,113 @@
+use Prim.Native.Nat.{ℕ, suc, _+_, _-_, _*_, _/_, _%_, _^_, _≤_, _<_}
+use mathlib.Core.Path.{_≡_, refl, sym, ap, _∙_, subst}
+use mathlib.Core.Bool.{Bool, true, false, not, Bool·beq}
+use mathlib.Core.List.{List}
+use native.Mathlib.Omega.{arith}
+use denote.Ref.{now}
+use lib.ListN.{length, take}
+use Rattle.series.proofs.Facts.{not-true, not-false}
+use Rattle.point.proofs.Calls as calls
+use borrow.Author.Needs.{needs}
+use Rattle.point.proofs.refusal.Statement.{statement}
+use Rattle.point.proofs.refusal.Tie as tie
+use Rattle.point.proofs.refusal.Reads as reads
+use Rattle.point.proofs.refusal.Lts as lts
+use Rattle.point.proofs.size_fits.Reads as size-fits-reads
+use Rattle.point.proofs.point_agrees.Reads as point-agrees-reads
+use Rattle.point.proofs.same_kind.Reads as same-kind-reads
+use Rattle.point.proofs.same_switch.Reads as same-switch-reads
+use Rattle.point.proofs.counts_fit.Reads as counts-fit-reads
+
+abbrev start : tie.Else1 → tie.Start
+start e = e .before .before .before .before .before .before .before .before
+
+size-fits-requires : tie.Need-size-fits-requires
+size-fits-requires c κs = search needs
+
+returns : tie.Need-returns
+returns c =
+    let a = c .before .before .before .before .before .before .before .before .args in
+    calls.bad-size (a .size) (a .a) (now (a .abounds)) (now (a .apos)) (now (a .aneg)) (a .b) (now (a .bbounds)) (now (a .bpos)) (now (a .bneg)) (sym (c .before .size-fits .ensures) ∙ not-true _ (c .if1 .taken))
+
+point-agrees-requires : tie.Need-point-agrees-requires
+point-agrees-requires c κs = search needs
+
+returns-2 : tie.Need-returns-2
+returns-2 c =
+    let e1 = c .before .before in
+    let a = start e1 .args in
+    calls.bad-first (a .size) (a .a) (now (a .abounds)) (now (a .apos)) (now (a .aneg)) (a .b) (now (a .bbounds)) (now (a .bpos)) (now (a .bneg)) (sym (e1 .before .size-fits .ensures) ∙ not-false _ (e1 .if1 .left)) (sym (c .before .point-agrees .ensures) ∙ not-true _ (c .if2 .taken))
+
+point-agrees-requires-2 : tie.Need-point-agrees-requires-2
+point-agrees-requires-2 c κs = search needs
+
+returns-3 : tie.Need-returns-3
+returns-3 c =
+    let e2 = c .before .before in
+    let e1 = e2 .before .before in
+    let a = start e1 .args in
+    calls.bad-second (a .size) (a .a) (now (a .abounds)) (now (a .apos)) (now (a .aneg)) (a .b) (now (a .bbounds)) (now (a .bpos)) (now (a .bneg)) (sym (e1 .before .size-fits .ensures) ∙ not-false _ (e1 .if1 .left)) (sym (e2 .before .point-agrees .ensures) ∙ not-false _ (e2 .if2 .left)) (sym (c .before .point-agrees2 .ensures) ∙ not-true _ (c .if3 .taken))
+
+same-kind-requires : tie.Need-same-kind-requires
+same-kind-requires c κs = search needs
+
+returns-4 : tie.Need-returns-4
+returns-4 c =
+    let e3 = c .before .before in
+    let e2 = e3 .before .before in
+    let e1 = e2 .before .before in
+    let a = start e1 .args in
+    calls.unlike (a .size) (a .a) (now (a .abounds)) (now (a .apos)) (now (a .aneg)) (a .b) (now (a .bbounds)) (now (a .bpos)) (now (a .bneg)) (sym (e1 .before .size-fits .ensures) ∙ not-false _ (e1 .if1 .left)) (sym (e2 .before .point-agrees .ensures) ∙ not-false _ (e2 .if2 .left)) (sym (e3 .before .point-agrees2 .ensures) ∙ not-false _ (e3 .if3 .left)) (sym (c .before .same-kind .ensures) ∙ not-true _ (c .if4 .taken))
+
+same-switch-requires : tie.Need-same-switch-requires
+same-switch-requires c κs = search needs
+
+returns-5 : tie.Need-returns-5
+returns-5 c =
+    let e4 = c .before .before in
+    let e3 = e4 .before .before in
+    let e2 = e3 .before .before in
+    let e1 = e2 .before .before in
+    let a = start e1 .args in
+    calls.unlike-switch (a .size) (a .a) (now (a .abounds)) (now (a .apos)) (now (a .aneg)) (a .b) (now (a .bbounds)) (now (a .bpos)) (now (a .bneg)) (sym (e1 .before .size-fits .ensures) ∙ not-false _ (e1 .if1 .left)) (sym (e2 .before .point-agrees .ensures) ∙ not-false _ (e2 .if2 .left)) (sym (e3 .before .point-agrees2 .ensures) ∙ not-false _ (e3 .if3 .left)) (sym (e4 .before .same-kind .ensures) ∙ not-false _ (e4 .if4 .left)) (sym (c .before .same-switch .ensures) ∙ not-true _ (c .if5 .taken))
+
+counts-fit-requires : tie.Need-counts-fit-requires
+counts-fit-requires c κs = search needs
+
+returns-6 : tie.Need-returns-6
+returns-6 c =
+    let e5 = c .before .before in
+    let e4 = e5 .before .before in
+    let e3 = e4 .before .before in
+    let e2 = e3 .before .before in
+    let e1 = e2 .before .before in
+    let a = start e1 .args in
+    calls.too-many (a .size) (a .a) (now (a .abounds)) (now (a .apos)) (now (a .aneg)) (a .b) (now (a .bbounds)) (now (a .bpos)) (now (a .bneg)) (sym (e1 .before .size-fits .ensures) ∙ not-false _ (e1 .if1 .left)) (sym (e2 .before .point-agrees .ensures) ∙ not-false _ (e2 .if2 .left)) (sym (e3 .before .point-agrees2 .ensures) ∙ not-false _ (e3 .if3 .left)) (sym (e4 .before .same-kind .ensures) ∙ not-false _ (e4 .if4 .left)) (sym (e5 .before .same-switch .ensures) ∙ not-false _ (e5 .if5 .left)) (sym (c .before .counts-fit .ensures) ∙ not-true _ (c .if6 .taken))
+
+returns-7 : tie.Need-returns-7
+returns-7 c =
+    let e5 = c .before .before in
+    let e4 = e5 .before .before in
+    let e3 = e4 .before .before in
+    let e2 = e3 .before .before in
+    let e1 = e2 .before .before in
+    let a = start e1 .args in
+    calls.none (a .size) (a .a) (now (a .abounds)) (now (a .apos)) (now (a .aneg)) (a .b) (now (a .bbounds)) (now (a .bpos)) (now (a .bneg)) (sym (e1 .before .size-fits .ensures) ∙ not-false _ (e1 .if1 .left)) (sym (e2 .before .point-agrees .ensures) ∙ not-false _ (e2 .if2 .left)) (sym (e3 .before .point-agrees2 .ensures) ∙ not-false _ (e3 .if3 .left)) (sym (e4 .before .same-kind .ensures) ∙ not-false _ (e4 .if4 .left)) (sym (e5 .before .same-switch .ensures) ∙ not-false _ (e5 .if5 .left)) (sym (c .before .counts-fit .ensures) ∙ not-false _ (c .if6 .left))
+
+pub refusal-spec : {M : Type 1} → statement M
+refusal-spec =
+    tie.close
+    (tie.spec
+    size-fits-requires
+    returns
+    point-agrees-requires
+    returns-2
+    point-agrees-requires-2
+    returns-3
+    same-kind-requires
+    returns-4
+    same-switch-requires
+    returns-5
+    counts-fit-requires
+    returns-6
+    returns-7)

@@ -1,0 +1,25 @@
+use Prim.Native.Nat.{ℕ, suc, _+_, _-_, _*_, _/_, _%_, _^_, _≤_, _<_}
+use mathlib.Core.Path.{_≡_, refl, sym, ap, _∙_, subst}
+use mathlib.Core.Bool.{Bool, true, false, not}
+use mathlib.Core.List.{List}
+use native.Mathlib.Omega.{arith}
+use denote.Ref.{now}
+use lib.ListN.{length, take}
+use borrow.Author.Needs.{needs}
+use Rattle.laws.specs.Pick.{_and_}
+use borrow.Author.Tests.{le-leb, lt-leb}
+use Rattle.point.proofs.size_passes.Statement.{statement}
+use Rattle.point.proofs.size_passes.Tie as tie
+use Rattle.point.proofs.size_passes.Reads as reads
+use Rattle.point.proofs.size_passes.Lts as lts
+
+returns : tie.Need-returns
+unfolding _and_
+returns c = sym (rw (lt-leb 3 (c .before .args .size) (c .if1 .taken)) refl)
+
+returns-2 : tie.Need-returns-2
+unfolding _and_
+returns-2 c = sym (rw (le-leb 3 (c .before .args .size) (omega (arith, c .if1 .left))) refl)
+
+pub size-passes-spec : {M : Type 1} → statement M
+size-passes-spec = tie.close (tie.spec returns returns-2)

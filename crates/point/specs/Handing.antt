@@ -1,0 +1,193 @@
+-- Points as code holds them, read as the points of crate `points`; and what merging two of them answers. Assumes nothing.
+use Prim.Native.Nat.{ℕ, _+_, _^_, _≤_, _<_}
+use mathlib.Core.Bool.{Bool, true, false, Bool·beq}
+use mathlib.Core.List.{List, []}
+use lib.Dec.{leb, eqb}
+use lib.ListN.{length, take}
+use lib.Ieee.{Float, binary64, add}
+use Rattle.laws.specs.Pick.{pick, _and_}
+use Rattle.index.specs.Bins.{finest}
+use Rattle.floats.specs.Answers.{shownOf, smallerOf, largerOf}
+use Rattle.floats.specs.Starts.{zeroFloat}
+use Rattle.laws.specs.Counting.{total}
+use Rattle.points.specs.Explicit.{sameBounds, bucketsAgree, bucketCount, added}
+use Rattle.points.specs.Figures as F
+use Rattle.points.specs.Figures.{scaled, bucketed}
+use Rattle.points.specs.Handed.{Handed, extremesAgree, mergeCounts}
+use Rattle.rows.specs.Rows.{over}
+use Rattle.series.specs.declared.Head as SH
+use Rattle.series.specs.Series.{sizePasses, read, countsFor, agrees}
+use Rattle.buckets.specs.declared.Head as BH
+use Rattle.buckets.specs.Series.{mostCount, bucketsIn}
+use Rattle.point.specs.declared.Point.{Point}
+use Rattle.point.specs.declared.Figures.{Figures}
+use Rattle.point.specs.declared.Figures.the-variants.{Exponential, Explicit}
+use Rattle.point.specs.declared.Made.{Made}
+use Rattle.point.specs.declared.Made.the-variants.{Of, NoRoom}
+use Rattle.point.specs.declared.Answer.{Answer}
+use Rattle.point.specs.declared.Answer.the-variants.{Merged, Refused}
+
+-- ---- a point with its bounds and rows
+
+abbrev pub countsAs : Figures → List Float → List ℕ → List ℕ → F.Counts
+countsAs (Exponential c) bs xs ys = scaled (read c xs ys)
+countsAs (Explicit n) bs xs ys = bucketed bs (bucketsIn bs n xs)
+
+abbrev pub handedAs : Point → List Float → List ℕ → List ℕ → Handed
+handedAs p bs xs ys =
+    record {
+      counts = countsAs (p .figures) bs xs ys;
+      extremes = p .extremes;
+      threshold = p .threshold;
+      min = p .min;
+      max = p .max;
+      sum = p .sum;
+    }
+
+-- ---- the point of a series: "with min/max off a point has neither, with the sum off it hands out 0.0"
+
+abbrev pub shownSum : Bool → Float → Float
+shownSum on sum = pick on sum zeroFloat
+
+abbrev pub exponentialPoint : SH.Head → Bool → Bool → Point
+exponentialPoint h extremes sums =
+    record {
+      figures = Exponential (h .counts);
+      extremes = extremes;
+      threshold = zeroFloat;
+      min = shownOf extremes (h .min);
+      max = shownOf extremes (h .max);
+      sum = shownSum sums (h .sum);
+    }
+
+abbrev pub explicitPoint : BH.Head → Bool → Bool → Point
+explicitPoint h extremes sums =
+    record {
+      figures = Explicit (h .count);
+      extremes = extremes;
+      threshold = zeroFloat;
+      min = shownOf extremes (h .min);
+      max = shownOf extremes (h .max);
+      sum = shownSum sums (h .sum);
+    }
+
+-- ---- agreement, under a max_size; the greatest level of a merge is the finest
+
+abbrev pub figuresAgree : ℕ → Figures → List Float → List ℕ → List ℕ → Bool
+figuresAgree size (Exponential c) bs xs ys = agrees size finest c xs ys
+figuresAgree size (Explicit n) bs xs ys = bucketsAgree bs (bucketsIn bs n xs)
+
+unfoldable pub pointAgrees : ℕ → Point → List Float → List ℕ → List ℕ → Bool
+pointAgrees size p bs xs ys = figuresAgree size (p .figures) bs xs ys and extremesAgree (p .min) (p .max)
+
+-- ---- merging
+
+abbrev pub isExplicit : Figures → Bool
+isExplicit (Exponential c) = false
+isExplicit (Explicit n) = true
+
+abbrev pub countIn : Figures → ℕ
+countIn (Exponential c) = c .count
+countIn (Explicit n) = n
+
+abbrev pub sameFigures : Figures → List Float → Figures → List Float → Bool
+sameFigures (Exponential c) bs (Exponential d) cs = true
+sameFigures (Exponential c) bs (Explicit m) cs = false
+sameFigures (Explicit n) bs (Exponential d) cs = false
+sameFigures (Explicit n) bs (Explicit m) cs = sameBounds bs cs
+
+-- "A merge checks 1 unless both points are explicit"
+abbrev pub sizeFits : ℕ → Figures → Figures → Bool
+sizeFits size f g = pick (isExplicit f) (pick (isExplicit g) true (sizePasses size)) (sizePasses size)
+
+-- document 01's number, but for 10: 1 the size, 8 a point disagrees, 11 unlike kind, bounds or switch, 9 the count; 0 none
+unfoldable pub refusalBefore : ℕ → Point → List Float → List ℕ → List ℕ → Point → List Float → List ℕ → List ℕ → ℕ
+refusalBefore size a bs xs ys b cs zs ws =
+    pick (sizeFits size (a .figures) (b .figures))
+    (pick (pointAgrees size a bs xs ys and pointAgrees size b cs zs ws)
+    (pick (sameFigures (a .figures) bs (b .figures) cs and Bool·beq (a .extremes) (b .extremes))
+    (pick (leb (countIn (a .figures) + countIn (b .figures)) mostCount) 0 9)
+    11)
+    8)
+    1
+
+-- ---- counts laid over lent rows, where there is room for them
+
+abbrev pub figuresFor : F.Counts → Figures
+figuresFor (scaled p) = Exponential (countsFor p)
+figuresFor (bucketed b p) = Explicit (p .total)
+
+abbrev pub posOf : F.Counts → List ℕ
+posOf (scaled p) = p .pos .counts
+posOf (bucketed b p) = p .counts
+
+abbrev pub negOf : F.Counts → List ℕ
+negOf (scaled p) = p .neg .counts
+negOf (bucketed b p) = []
+
+pub record Over : Type 0 where
+  pub made : Made
+  pub pos : List ℕ
+  pub neg : List ℕ
+
+abbrev pub madeOver : Made → List ℕ → List ℕ → Over
+madeOver m us vs = record { made = m; pos = us; neg = vs }
+
+unfoldable pub laidOver : F.Counts → List ℕ → List ℕ → Over
+laidOver c us vs =
+    pick (leb (length (posOf c)) (length us) and leb (length (negOf c)) (length vs))
+    (madeOver (Of (figuresFor c)) (over (posOf c) us) (over (negOf c) vs))
+    (madeOver NoRoom us vs)
+
+-- the explicit kind, whose counts need one row
+pub record One : Type 0 where
+  pub made : Made
+  pub counts : List ℕ
+
+abbrev pub madeOne : Made → List ℕ → One
+madeOne m us = record { made = m; counts = us }
+
+unfoldable pub laidOne : ℕ → ℕ → List ℕ → ℕ → List ℕ → List ℕ → One
+laidOne k n xs m zs us =
+    pick (leb k (length us)) (madeOne (Of (Explicit (n + m))) (over (added (take k xs) (take k zs)) us)) (madeOne NoRoom us)
+
+-- k counts of each can be added
+pub record Addable (k n : ℕ) (xs : List ℕ) (m : ℕ) (zs : List ℕ) : Type 0 where
+  pub first : k ≤ length xs
+  pub second : k ≤ length zs
+  pub sums : total (take k xs) + total (take k zs) < 2 ^ 64
+  pub counts : n + m < 2 ^ 64
+
+-- ---- the call
+
+-- the smaller min and the larger max (equal: the first's), the sums added once; 10 where there is no room
+abbrev pub finished : Point → Point → Made → Answer
+finished a b NoRoom = Refused 10
+finished a b (Of f) =
+    Merged (record {
+      figures = f;
+      extremes = a .extremes;
+      threshold = a .threshold;
+      min = smallerOf (a .min) (b .min);
+      max = largerOf (a .max) (b .max);
+      sum = add binary64 (a .sum) (b .sum);
+    })
+
+-- the answer, and both lent rows afterwards
+pub record Outcome : Type 0 where
+  pub answer : Answer
+  pub pos : List ℕ
+  pub neg : List ℕ
+
+abbrev pub outcome : Answer → List ℕ → List ℕ → Outcome
+outcome r us vs = record { answer = r; pos = us; neg = vs }
+
+abbrev pub ended : Point → Point → Over → Outcome
+ended a b o = outcome (finished a b (o .made)) (o .pos) (o .neg)
+
+-- refused with a number, all as it was; or the merged counts laid over the lent rows
+unfoldable pub merging : ℕ → Point → List Float → List ℕ → List ℕ → Point → List Float → List ℕ → List ℕ → List ℕ → List ℕ → Outcome
+merging size a bs xs ys b cs zs ws us vs =
+    pick (eqb (refusalBefore size a bs xs ys b cs zs ws) 0)
+    (ended a b (laidOver (mergeCounts size (countsAs (a .figures) bs xs ys) (countsAs (b .figures) cs zs ws)) us vs))
+    (outcome (Refused (refusalBefore size a bs xs ys b cs zs ws)) us vs)

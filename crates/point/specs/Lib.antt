@@ -1,0 +1,2 @@
+-- The definitions that the contracts of `point` cite.
+pub mod Handing

@@ -1,0 +1,360 @@
+// A point as it is handed out, of either kind, and two such points merged.
+ghost use mathlib.Core.Path.{_≡_};
+ghost use mathlib.Core.Bool.{Bool};
+ghost use Prim.Native.Nat.{ℕ, _+_, _-_, _*_, _/_, _^_, _<_, _≤_};
+ghost use lib.ListN.{length};
+ghost use Rattle.points.specs.Handed.{extremesAgree};
+ghost use Rattle.laws.specs.Pick.{pick, _and_};
+ghost use lib.Ieee.Scale.{finite};
+ghost use Rattle.point.specs.Handing.{shownSum, exponentialPoint, explicitPoint, figuresAgree, pointAgrees, isExplicit, countIn, sameFigures, sizeFits, refusalBefore, madeOver, laidOver, madeOne, laidOne, Addable, finished, outcome, merging};
+ghost use lib.Dec.{leb};
+ghost use mathlib.Core.Bool.{Bool·beq};
+ghost use Rattle.points.specs.Explicit.{bucketCount};
+ghost use Rattle.points.specs.Figures.{scaled};
+ghost use Rattle.merges.specs.Merges.{Agreeing, mergedPoint};
+ghost use Rattle.buckets.specs.Series.{mostCount};
+ghost use Rattle.series.specs.Series.{sizePasses};
+use floats::Extreme;
+use series::Counts;
+
+// The counts of either kind; the case is the kind's tag.
+pub enum Figures {
+    Exponential(Counts),
+    Explicit(u64),
+}
+
+pub struct Point {
+    pub figures: Figures,
+    pub extremes: bool,
+    pub threshold: f64,
+    pub min: Extreme,
+    pub max: Extreme,
+    pub sum: f64,
+}
+
+// ---- the point of a series, by its two switches
+
+fn shown_sum(on: bool, sum: f64) -> f64
+    ensures { λ r. ⌜ r ≡ shownSum on sum ⌝ }
+{
+    if on {
+        return sum;
+    }
+    0.0
+}
+
+pub fn exponential_point(head: series::Head, extremes: bool, sums: bool) -> Point
+    ensures { λ r. ⌜ r ≡ exponentialPoint head extremes sums ⌝ }
+{
+    let c = head.counts;
+    let min = floats::shown(extremes, head.min);
+    let max = floats::shown(extremes, head.max);
+    let sum = shown_sum(sums, head.sum);
+    Point {
+        figures: Figures::Exponential(c),
+        extremes,
+        threshold: 0.0,
+        min,
+        max,
+        sum,
+    }
+}
+
+pub fn explicit_point(head: buckets::Head, extremes: bool, sums: bool) -> Point
+    ensures { λ r. ⌜ r ≡ explicitPoint head extremes sums ⌝ }
+{
+    let min = floats::shown(extremes, head.min);
+    let max = floats::shown(extremes, head.max);
+    let sum = shown_sum(sums, head.sum);
+    Point {
+        figures: Figures::Explicit(head.count),
+        extremes,
+        threshold: 0.0,
+        min,
+        max,
+        sum,
+    }
+}
+
+// ---- agreement
+
+fn extremes_agree(min: Extreme, max: Extreme) -> bool
+    ensures { λ r. ⌜ r ≡ extremesAgree min max ⌝ }
+{
+    match min {
+        Extreme::None => match max {
+            Extreme::None => true,
+            Extreme::Value(y) => false,
+        },
+        Extreme::Value(x) => match max {
+            Extreme::None => false,
+            Extreme::Value(y) => both_finite(x, y),
+        },
+    }
+}
+
+fn both_finite(x: f64, y: f64) -> bool
+    ensures { λ r. ⌜ r ≡ (finite x and finite y) ⌝ }
+{
+    if !floats::is_finite(x) {
+        return false;
+    }
+    floats::is_finite(y)
+}
+
+fn figures_agree(size: usize, f: Figures, bounds: &[f64], pos: &[u64], neg: &[u64]) -> bool
+    ensures { λ r. ⌜ r ≡ figuresAgree size f (now (bounds .entry)) (now (pos .entry)) (now (neg .entry)) ⌝ }
+{
+    match f {
+        Figures::Exponential(c) => series::counts_agree(size, index::FINEST, c, pos, neg),
+        Figures::Explicit(count) => buckets::buckets_agree(bounds, count, pos),
+    }
+}
+
+// A point agrees with itself, under a max_size.
+pub fn point_agrees(size: usize, p: Point, bounds: &[f64], pos: &[u64], neg: &[u64]) -> bool
+    ensures { λ r. ⌜ r ≡ pointAgrees size p (now (bounds .entry)) (now (pos .entry)) (now (neg .entry)) ⌝ }
+{
+    let f = p.figures;
+    let min = p.min;
+    let max = p.max;
+    if !figures_agree(size, f, bounds, pos, neg) {
+        return false;
+    }
+    extremes_agree(min, max)
+}
+
+// ---- the refusals of a merge that need no room
+
+fn is_explicit(f: Figures) -> bool
+    ensures { λ r. ⌜ r ≡ isExplicit f ⌝ }
+{
+    match f {
+        Figures::Exponential(c) => false,
+        Figures::Explicit(count) => true,
+    }
+}
+
+fn count_in(f: Figures) -> u64
+    ensures { λ r. ⌜ r ≡ countIn f ⌝ }
+{
+    match f {
+        Figures::Exponential(c) => c.count,
+        Figures::Explicit(count) => count,
+    }
+}
+
+fn same_kind(f: Figures, bounds: &[f64], g: Figures, others: &[f64]) -> bool
+    ensures { λ r. ⌜ r ≡ sameFigures f (now (bounds .entry)) g (now (others .entry)) ⌝ }
+{
+    match f {
+        Figures::Exponential(c) => match g {
+            Figures::Exponential(d) => true,
+            Figures::Explicit(m) => false,
+        },
+        Figures::Explicit(n) => match g {
+            Figures::Exponential(d) => false,
+            Figures::Explicit(m) => buckets::same_bounds(bounds, others),
+        },
+    }
+}
+
+fn size_passes(size: u32) -> bool
+    ensures { λ r. ⌜ r ≡ sizePasses size ⌝ }
+{
+    if size < 3 {
+        return false;
+    }
+    size <= 160
+}
+
+// Whether a max_size is asked of two points: unless both are explicit.
+fn size_fits(size: u32, f: Figures, g: Figures) -> bool
+    ensures { λ r. ⌜ r ≡ sizeFits size f g ⌝ }
+{
+    if is_explicit(f) {
+        if is_explicit(g) {
+            return true;
+        }
+        return size_passes(size);
+    }
+    size_passes(size)
+}
+
+fn same_switch(a: bool, b: bool) -> bool
+    ensures { λ r. ⌜ r ≡ Bool·beq a b ⌝ }
+{
+    if a {
+        return b;
+    }
+    !b
+}
+
+fn counts_fit(f: Figures, g: Figures) -> bool
+    ensures { λ r. ⌜ r ≡ leb (countIn f + countIn g) mostCount ⌝ }
+{
+    let x = count_in(f);
+    let y = count_in(g);
+    y <= 18446744073709551615 - x
+}
+
+fn refusal(
+    size: u32,
+    a: Point,
+    abounds: &[f64],
+    apos: &[u64],
+    aneg: &[u64],
+    b: Point,
+    bbounds: &[f64],
+    bpos: &[u64],
+    bneg: &[u64],
+) -> u8
+    ensures { λ r. ⌜ r ≡ refusalBefore size a (now (abounds .entry)) (now (apos .entry)) (now (aneg .entry)) b (now (bbounds .entry)) (now (bpos .entry)) (now (bneg .entry)) ⌝ }
+{
+    let f = a.figures;
+    let g = b.figures;
+    if !size_fits(size, f, g) {
+        return 1;
+    }
+    if !point_agrees(size as usize, a, abounds, apos, aneg) {
+        return 8;
+    }
+    if !point_agrees(size as usize, b, bbounds, bpos, bneg) {
+        return 8;
+    }
+    if !same_kind(f, abounds, g, bbounds) {
+        return 11;
+    }
+    if !same_switch(a.extremes, b.extremes) {
+        return 11;
+    }
+    if !counts_fit(f, g) {
+        return 9;
+    }
+    0
+}
+
+// ---- merging
+
+// What a merge makes: figures, or none for want of room.
+pub enum Made {
+    Of(Figures),
+    NoRoom,
+}
+
+pub enum Answer {
+    Merged(Point),
+    Refused(u8),
+}
+
+fn merge_scaled(
+    size: usize,
+    c: Counts,
+    apos: &[u64],
+    aneg: &[u64],
+    d: Counts,
+    bpos: &[u64],
+    bneg: &[u64],
+    pos: &mut [u64],
+    neg: &mut [u64],
+) -> Made
+    requires { ⌜ Agreeing size c (now apos) (now aneg) d (now bpos) (now bneg) ⌝ }
+    ensures { λ r. ⌜ madeOver r (now (pos .exit)) (now (neg .exit)) ≡ laidOver (scaled (mergedPoint size c (now (apos .entry)) (now (aneg .entry)) d (now (bpos .entry)) (now (bneg .entry)))) (now (pos .entry)) (now (neg .entry)) ⌝ }
+{
+    let to = merges::plan_of(size, c, d);
+    let cp = c.pos;
+    let cn = c.neg;
+    let dp = d.pos;
+    let dn = d.neg;
+    if pos.len() < merges::joined_len(cp, to.first, dp, to.second) {
+        return Made::NoRoom;
+    }
+    if neg.len() < merges::joined_len(cn, to.first, dn, to.second) {
+        return Made::NoRoom;
+    }
+    let r = merges::merge_to(size, to, c, apos, aneg, d, bpos, bneg, pos, neg);
+    Made::Of(Figures::Exponential(r))
+}
+
+fn merge_bucketed(
+    bounds: &[f64],
+    n: u64,
+    apos: &[u64],
+    m: u64,
+    bpos: &[u64],
+    pos: &mut [u64],
+) -> Made
+    requires { ⌜ Addable (bucketCount (now bounds)) n (now apos) m (now bpos) ⌝ }
+    ensures { λ r. ⌜ madeOne r (now (pos .exit)) ≡ laidOne (bucketCount (now (bounds .entry))) n (now (apos .entry)) m (now (bpos .entry)) (now (pos .entry)) ⌝ }
+{
+    let k = buckets::bucket_count(bounds);
+    if pos.len() < k {
+        return Made::NoRoom;
+    }
+    buckets::add_counts(apos, bpos, k, pos);
+    Made::Of(Figures::Explicit(n + m))
+}
+
+fn finish(a: Point, b: Point, made: Made) -> Answer
+    ensures { λ r. ⌜ r ≡ finished a b made ⌝ }
+{
+    match made {
+        Made::NoRoom => Answer::Refused(10),
+        Made::Of(f) => {
+            let low = a.min;
+            let lower = b.min;
+            let high = a.max;
+            let higher = b.max;
+            let min = floats::smaller(low, lower);
+            let max = floats::larger(high, higher);
+            Answer::Merged(Point {
+                figures: f,
+                extremes: a.extremes,
+                threshold: a.threshold,
+                min,
+                max,
+                sum: a.sum + b.sum,
+            })
+        }
+    }
+}
+
+// Two points merged into lent rows, or refused with document 01's number.
+pub fn merge(
+    size: u32,
+    a: Point,
+    abounds: &[f64],
+    apos: &[u64],
+    aneg: &[u64],
+    b: Point,
+    bbounds: &[f64],
+    bpos: &[u64],
+    bneg: &[u64],
+    pos: &mut [u64],
+    neg: &mut [u64],
+) -> Answer
+    ensures { λ r. ⌜ outcome r (now (pos .exit)) (now (neg .exit)) ≡ merging size a (now (abounds .entry)) (now (apos .entry)) (now (aneg .entry)) b (now (bbounds .entry)) (now (bpos .entry)) (now (bneg .entry)) (now (pos .entry)) (now (neg .entry)) ⌝ }
+{
+    let no = refusal(size, a, abounds, apos, aneg, b, bbounds, bpos, bneg);
+    if no != 0 {
+        return Answer::Refused(no);
+    }
+    let f = a.figures;
+    let g = b.figures;
+    match f {
+        Figures::Exponential(c) => match g {
+            Figures::Exponential(d) => {
+                let made = merge_scaled(size as usize, c, apos, aneg, d, bpos, bneg, pos, neg);
+                finish(a, b, made)
+            }
+            Figures::Explicit(m) => Answer::Refused(11),
+        },
+        Figures::Explicit(n) => match g {
+            Figures::Exponential(d) => Answer::Refused(11),
+            Figures::Explicit(m) => {
+                let made = merge_bucketed(abounds, n, apos, m, bpos, pos);
+                finish(a, b, made)
+            }
+        },
+    }
+}

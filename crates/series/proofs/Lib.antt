@@ -1,0 +1,10 @@
+-- The laws.
+pub mod Counted
+pub mod Joint
+pub mod Rowed
+pub mod Facts
+pub mod Classes
+pub mod Write
+pub mod Call
+pub mod Stays
+pub mod Lists

@@ -92,9 +92,11 @@ module _ (K : Kind) (f : ℕ → K .Series) (z : K .Settings) (limit : ℕ) (d :
       let S = span (s .order) 0 (d .used) in
       let q = seek-room K f s w S 0 r (ascends limit d s g .1) (p .1) in
       let n : same [] w ≡ false = same-flip w [] ∙ p .0 in
-      let k : rank w (map (setAt (s .sets)) S) ≡ r = omega (arith, q .1) in
-      (rw n (q .0), rw (not-empty w (p .0), keys-map K f s S) (ap suc k),
-        omega (arith, rank-le w (map (setAt (s .sets)) S), length-span (setAt (s .sets)) (s .order) 0 (d .used)))
+      let k : rank w (map (setAt (s .sets)) S) ≡ r = omega (arith, q .1) in (
+        rw n (q .0),
+        rw (not-empty w (p .0), keys-map K f s S) (ap suc k),
+        omega (arith, rank-le w (map (setAt (s .sets)) S), length-span (setAt (s .sets)) (s .order) 0 (d .used)),
+      )
 
   module _ (row : List ℕ) (r more b : ℕ) (ls : d .used + 1 < length (s .sets)) (le : d .used + 1 < length (s .entries)) (lo : d .used < length (s .order)) where
     abbrev sets′ : List (List ℕ)
@@ -131,10 +133,10 @@ module _ (K : Kind) (f : ℕ → K .Series) (z : K .Settings) (limit : ℕ) (d :
         let n : entryAt K f t (d .used + 1) ≡ made = subst (λ (y : ℕ). entryAt K f t y ≡ made) u (new-entry (d .used) u) in
         let same-old : map (entryAt K f t) (0 ∷ S) ≡ map (entryAt K f s) (0 ∷ S) = map-same (entryAt K f t) (entryAt K f s) (0 ∷ S) (λ y m. old-entry y (slot-used limit d s g y m)) in
         let a : map (entryAt K f t) (0 ∷ span (t .order) 0 (d .used + 1)) ≡ take (suc r) (map (entryAt K f s) (0 ∷ S)) ++ (made ∷ drop (suc r) (map (entryAt K f s) (0 ∷ S))) =
-            ap (λ l. map (entryAt K f t) (0 ∷ l)) o
-            ∙ map-around (entryAt K f t) (0 ∷ S) (suc r) (d .used + 1)
-            ∙ ap (λ l. take (suc r) l ++ (entryAt K f t (d .used + 1) ∷ drop (suc r) l)) same-old
-            ∙ ap (λ y. take (suc r) (map (entryAt K f s) (0 ∷ S)) ++ (y ∷ drop (suc r) (map (entryAt K f s) (0 ∷ S)))) n in
+        ap (λ l. map (entryAt K f t) (0 ∷ l)) o
+        ∙ map-around (entryAt K f t) (0 ∷ S) (suc r) (d .used + 1)
+        ∙ ap (λ l. take (suc r) l ++ (entryAt K f t (d .used + 1) ∷ drop (suc r) l)) same-old
+        ∙ ap (λ y. take (suc r) (map (entryAt K f s) (0 ∷ S)) ++ (y ∷ drop (suc r) (map (entryAt K f s) (0 ∷ S)))) n in
         let p : put K made (map (entryAt K f s) (0 ∷ S)) ≡ take (suc r) (map (entryAt K f s) (0 ∷ S)) ++ (made ∷ drop (suc r) (map (entryAt K f s) (0 ∷ S))) =
-            put-new K made (map (entryAt K f s) (0 ∷ S)) (q .0) ∙ ap (λ (k : ℕ). take k (map (entryAt K f s) (0 ∷ S)) ++ (made ∷ drop k (map (entryAt K f s) (0 ∷ S)))) (q .1) in
+        put-new K made (map (entryAt K f s) (0 ∷ S)) (q .0) ∙ ap (λ (k : ℕ). take k (map (entryAt K f s) (0 ∷ S)) ++ (made ∷ drop k (map (entryAt K f s) (0 ∷ S)))) (q .1) in
         ap (λ l. record { settings = z; count = d .count + more; last = d .last + 1; entries = l }) (a ∙ sym p)

@@ -21,7 +21,7 @@ use Rattle.directory.specs.All.{allb}
 use Rattle.directory.specs.Rows.{size, span, setOf}
 use Rattle.directory.specs.View.{Stores, setAt, birthAt, placeAt, slotsb, agreesb, countsb, plainly, seek, sought, entryAt, view}
 use Rattle.laws.specs.Pick.{pick}
-use Rattle.directory.specs.Calls.{overRow, orOver, targetOf, located, boundTo, refused, Kept, Outcome, admitted, boundAt, bornBound, bound}
+use Rattle.directory.specs.Calls.{overRow, orOver, targetOf, located, boundTo, refused, Kept, Outcome, admitted, boundAt, bornBound, boundIn}
 use Rattle.directory.specs.declared.Directory.{Directory}
 use Rattle.directory.specs.declared.Found.{Found}
 use Rattle.directory.specs.declared.Found.the-variants.{Held, Room}
@@ -115,10 +115,11 @@ module _ (limit : ℕ) (d : Directory) (s : Stores) (g : agreesb limit d s ≡ t
 
   pub counted : (d .count ≤ limit) × ((d .count ≡ plainly (s .sets) (s .order) (d .used)) ⊎ ((d .count ≡ plainly (s .sets) (s .order) (d .used) + 1) × (plainly (s .sets) (s .order) (d .used) < d .used)))
   counted =
-      let p = and-true (leb (d .count) limit) _ counts-right in
-      (leb-true _ _ (p .0),
+      let p = and-true (leb (d .count) limit) _ counts-right in (
+        leb-true _ _ (p .0),
         ⊎-elim (λ e. inl (eqb-true _ _ e)) (λ e. let q = and-true (eqb (d .count) (plainly (s .sets) (s .order) (d .used) + 1)) _ e in inr (eqb-true _ _ (q .0), ltb-true _ _ (q .1)))
-        (or-true (eqb (d .count) (plainly (s .sets) (s .order) (d .used))) _ (p .1)))
+            (or-true (eqb (d .count) (plainly (s .sets) (s .order) (d .used))) _ (p .1)),
+      )
 
   near : d .used ≤ plainly (s .sets) (s .order) (d .used) + 1
   near =
@@ -279,8 +280,8 @@ module _ (K : Kind) (f : ℕ → K .Series) (z : K .Settings) where
         (born-is g overRow q 0 (d .count) (omega arith) (e .3) (room-over (c .limit) d s g q (e .3))))
 
     pub bind-faithful : (attrs : Set) → length attrs ≤ 8 → setOf row ≡ canonical (c .filter) attrs → agreesb (c .limit) d s ≡ true
-        → Steps K f z c (view K f z d s) (bind attrs) (bound (c .limit) d s row)
-    unfolding upfront act bound
+        → Steps K f z c (view K f z d s) (bind attrs) (boundIn (c .limit) d s row)
+    unfolding upfront act boundIn
     bind-faithful attrs h w g =
         let b : leb (length attrs) 8 ≡ true = le-leb (length attrs) 8 h in
         rw (b, ← w) (target-is g (located (c .limit) d s row) (facts (c .limit) d s row))
@@ -310,8 +311,8 @@ module _ (limit : ℕ) (d : Directory) (s : Stores) (row : List ℕ) where
   told : (t : Target) → located limit d s row ≡ t → Facts limit d s row t
   told t e = subst (λ (o : Target). Facts limit d s row o) e (facts limit d s row)
 
-  pub bound-no : located limit d s row ≡ Disagrees → bound limit d s row ≡ refused 8 d s
-  unfolding bound
+  pub bound-no : located limit d s row ≡ Disagrees → boundIn limit d s row ≡ refused 8 d s
+  unfolding boundIn
   bound-no e = rw e
 
   module _ (x : ℕ) (e : located limit d s row ≡ Old x) where
@@ -322,13 +323,13 @@ module _ (limit : ℕ) (d : Directory) (s : Stores) (row : List ℕ) where
         let i : In x (slotsOf d s) = ⊎-elim (λ h. sought-held blank (λ k. tt) tt d s (setOf row) x h .0) (λ h. sought-held blank (λ k. tt) tt d s (setOf overRow) x (h .3) .0) (z .1) in
         omega (arith, slot-used limit d s g x i, few limit d s g)
 
-    pub bound-full : 18446744073709551615 ≤ getD (getD (s .entries) x []) 1 0 → bound limit d s row ≡ refused 9 d s
-    unfolding bound pick
+    pub bound-full : 18446744073709551615 ≤ getD (getD (s .entries) x []) 1 0 → boundIn limit d s row ≡ refused 9 d s
+    unfolding boundIn pick
     bound-full h = rw (e, le-leb 18446744073709551615 (getD (getD (s .entries) x []) 1 0) h)
 
-    pub bound-old : getD (getD (s .entries) x []) 1 0 < 18446744073709551615 → bound limit d s row
+    pub bound-old : getD (getD (s .entries) x []) 1 0 < 18446744073709551615 → boundIn limit d s row
         ≡ record { answer = Handle (birthAt (s .entries) x); kept = record { dir = d; stores = record { sets = s .sets; entries = boundTo (s .entries) x (getD (getD (s .entries) x []) 1 0 + 1); order = s .order } } }
-    unfolding bound pick
+    unfolding boundIn pick
     bound-old h = rw (e, lt-leb 18446744073709551615 (getD (getD (s .entries) x []) 1 0) h)
 
   module _ (r : ℕ) (e : located limit d s row ≡ New r) where
@@ -338,12 +339,12 @@ module _ (limit : ℕ) (d : Directory) (s : Stores) (row : List ℕ) where
         let h : d .count < limit = ltb-true _ _ (z .2) in
         (room-rank blank (λ k. tt) tt limit d s (z .0) (setOf row) r (z .1) .2, room-new limit d s (z .0) h, h)
 
-    pub bound-new-spent : 18446744073709551615 ≤ d .last → bound limit d s row ≡ refused 9 d s
-    unfolding bound pick
+    pub bound-new-spent : 18446744073709551615 ≤ d .last → boundIn limit d s row ≡ refused 9 d s
+    unfolding boundIn pick
     bound-new-spent h = rw (e, le-leb 18446744073709551615 (d .last) h)
 
-    pub bound-new : d .last < 18446744073709551615 → bound limit d s row ≡ record { answer = Handle (d .last + 1); kept = admitted d s row r 1 1 }
-    unfolding bound pick
+    pub bound-new : d .last < 18446744073709551615 → boundIn limit d s row ≡ record { answer = Handle (d .last + 1); kept = admitted d s row r 1 1 }
+    unfolding boundIn pick
     bound-new h = rw (e, lt-leb 18446744073709551615 (d .last) h)
 
   module _ (q : ℕ) (e : located limit d s row ≡ Over q) where
@@ -352,12 +353,12 @@ module _ (limit : ℕ) (d : Directory) (s : Stores) (row : List ℕ) where
         let z = told (Over q) e in
         (room-rank blank (λ k. tt) tt limit d s (z .0) (setOf overRow) q (z .1 .3) .2, room-over limit d s (z .0) q (z .1 .3))
 
-    pub bound-over-spent : 18446744073709551615 ≤ d .last → bound limit d s row ≡ refused 9 d s
-    unfolding bound pick
+    pub bound-over-spent : 18446744073709551615 ≤ d .last → boundIn limit d s row ≡ refused 9 d s
+    unfolding boundIn pick
     bound-over-spent h = rw (e, le-leb 18446744073709551615 (d .last) h)
 
-    pub bound-over : d .last < 18446744073709551615 → bound limit d s row ≡ record { answer = Handle (d .last + 1); kept = admitted d s overRow q 0 1 }
-    unfolding bound pick
+    pub bound-over : d .last < 18446744073709551615 → boundIn limit d s row ≡ record { answer = Handle (d .last + 1); kept = admitted d s overRow q 0 1 }
+    unfolding boundIn pick
     bound-over h = rw (e, lt-leb 18446744073709551615 (d .last) h)
 
 -- the answer that is read off a new state

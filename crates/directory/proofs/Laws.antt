@@ -22,7 +22,7 @@ use Rattle.directory.specs.All.{allb}
 use Rattle.directory.specs.Rows.{pair, size, span, setOf, soundb}
 use Rattle.directory.specs.View.{Stores, setAt, birthAt, placeAt, slotsb, agreesb, countsb, plainly, seek, sought, entryAt, view}
 use Rattle.laws.specs.Pick.{pick}
-use Rattle.directory.specs.Calls.{boundTo, scan, released, releasedAt, refused, Kept, Outcome, admitted, inserted}
+use Rattle.directory.specs.Calls.{boundTo, scan, releasedIn, releasedAt, refused, Kept, Outcome, admitted, inserted}
 use Rattle.directory.specs.declared.Directory.{Directory}
 use Rattle.directory.specs.declared.Found.{Found}
 use Rattle.directory.specs.declared.Found.the-variants.{Held, Room}
@@ -52,14 +52,25 @@ module _ (limit : ℕ) (d : Directory) (s : Stores) (g : agreesb limit d s ≡ t
 
   -- its sets ascend
   pub ascends : Rising (map (setAt (s .sets)) (slotsOf d s))
-  ascends =
-      (above-span (setAt (s .sets)) [] (s .order) 0 (d .used) (λ j a b. first j (omega arith)),
-        rising-span (setAt (s .sets)) (s .order) 0 (d .used) (λ j a b. place-rise (d .used) (s .sets) (s .order) places-right j (omega arith)))
+  ascends = (
+    above-span (setAt (s .sets)) [] (s .order) 0 (d .used) (λ j a b. first j (omega arith)),
+    rising-span (setAt (s .sets)) (s .order) 0 (d .used) (λ j a b. place-rise (d .used) (s .sets) (s .order) places-right j (omega arith)),
+  )
     where
       first : (j : ℕ) → j < d .used → cmp [] (setAt (s .sets) (getD (s .order) j 0)) ≡ Ordering·lt
       first j h =
           let p = place-slot (d .used) (s .sets) (s .order) places-right j h in
           rw (set-named (s .sets) (getD (s .order) j 0) (p .0)) (after-empty (getD (s .sets) (getD (s .order) j 0) []) (slot-sizes (d .used) (d .last) (s .sets) (s .entries) slots-right (getD (s .order) j 0) (p .0) (p .1) .0))
+
+-- the sets at the places, as rows
+pub place-climb : (used : ℕ) (sets : List (List ℕ)) (order : List ℕ) → allb used (placeAt sets order used) ≡ true → (k : ℕ) → suc k < used
+    → cmp (setOf (getD sets (getD order k 0) [])) (setOf (getD sets (getD order (suc k) 0) [])) ≡ Ordering·lt
+place-climb used sets order e k h =
+    let a = set-named sets (getD order k 0) (place-slot used sets order e k (omega arith) .0) in
+    let b = set-named sets (getD order (suc k) 0) (place-slot used sets order e (suc k) h .0) in
+    ap (λ r. cmp r (setOf (getD sets (getD order (suc k) 0) []))) (sym a)
+    ∙ ap (λ r. cmp (setAt sets (getD order k 0)) r) (sym b)
+    ∙ place-rise used sets order e k h
 
 -- what holds at each place holds of each slot
 pub span-in : (P : ℕ → Type 0) (l : List ℕ) (i k : ℕ) → ((j : ℕ) → i ≤ j → j < i + k → P (getD l j 0)) → (x : ℕ) → In x (span l i k) → P x
@@ -171,8 +182,8 @@ module _ (K : Kind) (f : ℕ → K .Series) (z : K .Settings) where
       let p = rebind-put K f s x (getD (getD (s .entries) x []) 1 0 - 1) (slotsOf d s) (ascends (c .limit) d s g) m (omega arith) in
       rw n (refl, ap (λ l. record { settings = z; count = d .count; last = d .last; entries = l }) p)
 
-  released-right : (limit : ℕ) (d : Directory) (s : Stores) (h : ℕ) → agreesb limit d s ≡ true → released limit d s h ≡ releasedAt d s (scan h (s .entries) (slotsOf d s))
-  unfolding released pick
+  released-right : (limit : ℕ) (d : Directory) (s : Stores) (h : ℕ) → agreesb limit d s ≡ true → releasedIn limit d s h ≡ releasedAt d s (scan h (s .entries) (slotsOf d s))
+  unfolding releasedIn pick
   released-right limit d s h g = rw g
 
   -- an outcome is the map's step: its answer, and the map that is then held
@@ -181,21 +192,21 @@ module _ (K : Kind) (f : ℕ → K .Series) (z : K .Settings) where
 
   -- releasing is the map's step, where the directory agrees
   pub release-faithful : (c : Config K) (d : Directory) (s : Stores) (h : ℕ) → agreesb (c .limit) d s ≡ true → c .limit + 2 ≤ length (s .entries)
-      → Steps c (view K f z d s) (release h) (released (c .limit) d s h)
+      → Steps c (view K f z d s) (release h) (releasedIn (c .limit) d s h)
   release-faithful c d s h g r =
       subst (λ o. Steps c (view K f z d s) (release h) o) (sym (released-right (c .limit) d s h g)) (release-step c d s h g r (scan h (s .entries) (slotsOf d s)) refl)
 
 -- the cases of a release
 module _ (limit : ℕ) (d : Directory) (s : Stores) (h : ℕ) where
-  pub release-no : agreesb limit d s ≡ false → released limit d s h ≡ refused 8 d s
-  unfolding released pick
+  pub release-no : agreesb limit d s ≡ false → releasedIn limit d s h ≡ refused 8 d s
+  unfolding releasedIn pick
   release-no g = rw g
 
   module _ (g : agreesb limit d s ≡ true) where
-    pub release-none : (r : ℕ) → scan h (s .entries) (slotsOf d s) ≡ Room r → released limit d s h ≡ refused 7 d s
-    unfolding released pick
+    pub release-none : (r : ℕ) → scan h (s .entries) (slotsOf d s) ≡ Room r → releasedIn limit d s h ≡ refused 7 d s
+    unfolding releasedIn pick
     release-none r e = rw (g, e)
 
-    pub release-one : (x : ℕ) → scan h (s .entries) (slotsOf d s) ≡ Held x → released limit d s h ≡ releasedAt d s (Held x)
-    unfolding released pick
+    pub release-one : (x : ℕ) → scan h (s .entries) (slotsOf d s) ≡ Held x → releasedIn limit d s h ≡ releasedAt d s (Held x)
+    unfolding releasedIn pick
     release-one x e = rw (g, e)

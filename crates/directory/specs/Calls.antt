@@ -2,11 +2,12 @@
 use Prim.Native.Nat.{ℕ, zero, suc, _+_, _-_}
 use mathlib.Core.Bool.{Bool, true, false, _&&_}
 use mathlib.Core.List.{List, [], _∷_, _++_}
+use mathlib.Core.Option.{Option, none, some}
 use lib.Dec.{ltb, leb, eqb}
-use lib.ListN.{getD, set, take, drop}
+use lib.ListN.{length, getD, set, take, drop}
 use Rattle.laws.specs.Pick.{pick}
-use Rattle.tally.specs.Sets.{Set, overflow}
-use Rattle.directory.specs.Rows.{span, setOf}
+use Rattle.tally.specs.Sets.{Set, overflow, canonical}
+use Rattle.directory.specs.Rows.{span, setOf, rowOf}
 use Rattle.directory.specs.View.{Stores, birthAt, agreesb, sought}
 use Rattle.directory.specs.declared.Directory.{Directory}
 use Rattle.directory.specs.declared.Found.{Found}
@@ -87,9 +88,9 @@ releasedAt d s (Held x) =
       };
     }
 
--- releasing: 8, 7, or one binding less
-unfoldable pub released : ℕ → Directory → Stores → ℕ → Outcome
-released limit d s h =
+-- releasing in stores that suffice: 8, 7, or one binding less
+unfoldable pub releasedIn : ℕ → Directory → Stores → ℕ → Outcome
+releasedIn limit d s h =
     pick (agreesb limit d s) (releasedAt d s (scan h (s .entries) (0 ∷ span (s .order) 0 (d .used)))) (refused 8 d s)
 
 -- a new entry with one binding, unless the birth numbers are spent
@@ -112,6 +113,63 @@ boundAt d s row (Old x) =
 boundAt d s row (New r) = bornBound d s row r 1
 boundAt d s row (Over r) = bornBound d s overRow r 0
 
--- binding: 8, 9, or one binding more, with the birth number for a handle
-unfoldable pub bound : ℕ → Directory → Stores → List ℕ → Outcome
-bound limit d s row = boundAt d s row (located limit d s row)
+-- binding the set of a row in stores that suffice: 8, 9, or one binding more, with the birth number for a handle
+unfoldable pub boundIn : ℕ → Directory → Stores → List ℕ → Outcome
+boundIn limit d s row = boundAt d s row (located limit d s row)
+
+-- "4: cardinality limit over 62, or filter over 16 keys" (L12: 2000)
+abbrev pub mostSets : ℕ
+mostSets = 62
+
+abbrev pub mostKeys : ℕ
+mostKeys = 16
+
+-- "5: over 8 attributes"
+abbrev pub mostAttributes : ℕ
+mostAttributes = 8
+
+-- configuring accepts the limit and the filter
+abbrev pub fewKeys : Option (List ℕ) → Bool
+fewKeys none = true
+fewKeys (some keys) = leb (length keys) mostKeys
+
+abbrev pub accepts : ℕ → Option (List ℕ) → Bool
+accepts limit filter = leb limit mostSets && fewKeys filter
+
+-- "12: any other lent store under limit + 2 entries"
+abbrev pub enough : ℕ → Stores → Bool
+enough limit s =
+    leb (limit + 2) (length (s .sets)) && (leb (limit + 2) (length (s .entries)) && leb (limit + 2) (length (s .order)))
+
+-- a directory without named sets; the empty set has no bindings and was not updated
+abbrev pub fresh : Directory
+fresh = record { used = 0; count = 0; last = 0 }
+
+-- "Configuring: 4, 12"
+unfoldable pub started : ℕ → Option (List ℕ) → Stores → Outcome
+started limit filter s =
+    pick (accepts limit filter)
+    (pick (enough limit s)
+    (record {
+      answer = Done;
+      kept = record {
+        dir = fresh;
+        stores = record { sets = s .sets; entries = set (s .entries) 0 (0 ∷ 0 ∷ 0 ∷ []); order = s .order };
+      };
+    })
+    (refused 12 fresh s))
+    (refused 4 fresh s)
+
+-- "Binding: 12, 5, 8, 9". 8 also where configuring could not have accepted the limit and the filter.
+unfoldable pub bound : ℕ → Option (List ℕ) → Directory → Stores → Set → Outcome
+bound limit filter d s attrs =
+    pick (enough limit s)
+    (pick (leb (length attrs) mostAttributes)
+    (pick (accepts limit filter) (boundIn limit d s (rowOf (canonical filter attrs))) (refused 8 d s))
+    (refused 5 d s))
+    (refused 12 d s)
+
+-- "Releasing: 12, 8, 7"
+unfoldable pub released : ℕ → Directory → Stores → ℕ → Outcome
+released limit d s h =
+    pick (enough limit s) (pick (leb limit mostSets) (releasedIn limit d s h) (refused 8 d s)) (refused 12 d s)

@@ -287,7 +287,7 @@ module _ (K : Kind) (f : ℕ → K .Series) (z : K .Settings) where
         rw (b, ← w) (target-is g (located (c .limit) d s row) (facts (c .limit) d s row))
 
 -- the cases of a binding, and that each place that it touches is there
-abbrev blank : Kind
+abbrev pub blank : Kind
 blank =
     record {
       Settings = Unit;
@@ -308,7 +308,7 @@ blank =
     }
 
 module _ (limit : ℕ) (d : Directory) (s : Stores) (row : List ℕ) where
-  told : (t : Target) → located limit d s row ≡ t → Facts limit d s row t
+  pub told : (t : Target) → located limit d s row ≡ t → Facts limit d s row t
   told t e = subst (λ (o : Target). Facts limit d s row o) e (facts limit d s row)
 
   pub bound-no : located limit d s row ≡ Disagrees → boundIn limit d s row ≡ refused 8 d s

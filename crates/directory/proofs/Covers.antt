@@ -98,7 +98,7 @@ module _ (limit : ℕ) (d : Directory) (s : Stores) (g : agreesb limit d s ≡ t
       no n =
           let f = setAt (s .sets) in
           let p = pigeon (map f S) (map f (others x (d .used))) (ascends limit d s g .1)
-              (λ w e. let r = mem-in f S w e in
-              let k = slot (r .slot) (r .there) in
-              subst (λ v. mem v (map f (others x (d .used))) ≡ true) (r .set) (in-mem f (others x (d .used)) (r .slot) (others-in x (d .used) (r .slot) (k .0) (k .1) (λ q. n (subst (λ (y : ℕ). In y S) q (r .there)))))) in
+          (λ w e. let r = mem-in f S w e in
+          let k = slot (r .slot) (r .there) in
+          subst (λ v. mem v (map f (others x (d .used))) ≡ true) (r .set) (in-mem f (others x (d .used)) (r .slot) (others-in x (d .used) (r .slot) (k .0) (k .1) (λ q. n (subst (λ (y : ℕ). In y S) q (r .there)))))) in
           omega (arith, p, length-span f (s .order) 0 (d .used), length-map (others x (d .used)) f, others-few x (d .used) a b)

@@ -50,14 +50,14 @@ abbrev pub AgreesIn : ℕ → Outcome → Type 0
 AgreesIn limit o = agreesb limit (o .kept .dir) (o .kept .stores) ≡ true
 
 -- a new set has an attribute
-some-words : (row : List ℕ) (used : ℕ) (sets : List (List ℕ)) (order : List ℕ) (r : ℕ) → sought (setOf row) used sets order ≡ Room r → 1 ≤ size row
+pub some-words : (row : List ℕ) (used : ℕ) (sets : List (List ℕ)) (order : List ℕ) (r : ℕ) → sought (setOf row) used sets order ≡ Room r → 1 ≤ size row
 some-words row used sets order r e = go (size row) refl
   where
     go : (n : ℕ) → size row ≡ n → 1 ≤ n
     go zero p = true-not-false (sym (empty-row row p) ∙ sought-room (setOf row) used sets order r e .0)
     go (suc n) p = omega arith
 
-sound-over : soundb overRow ≡ true
+pub sound-over : soundb overRow ≡ true
 unfolding soundb allb
 sound-over = refl
 
@@ -119,13 +119,13 @@ module _ (filter : Option (List ℕ)) (attrs : Set) (small : Small attrs) (h : l
   short : length (canonical filter attrs) ≤ 8
   short = omega (arith, canonical-length filter attrs)
 
-  row-set : setOf (rowOf (canonical filter attrs)) ≡ canonical filter attrs
+  pub row-set : setOf (rowOf (canonical filter attrs)) ≡ canonical filter attrs
   row-set = set-own (canonical filter attrs) short (small-canonical filter attrs small)
 
-  row-short : size (rowOf (canonical filter attrs)) ≤ 8
+  pub row-short : size (rowOf (canonical filter attrs)) ≤ 8
   row-short = omega (arith, size-row (canonical filter attrs) short, short)
 
-  row-keyed : Keyed (setOf (rowOf (canonical filter attrs)))
+  pub row-keyed : Keyed (setOf (rowOf (canonical filter attrs)))
   row-keyed = subst Keyed (sym row-set) (canonical-keyed filter attrs)
 
 module _ (limit : ℕ) (filter : Option (List ℕ)) (d : Directory) (s : Stores) (attrs : Set) where
@@ -206,10 +206,10 @@ module _ (limit : ℕ) (d : Directory) (s : Stores) (g : agreesb limit d s ≡ t
 
 -- FRESH. A fresh start is the map's, and agrees
 module _ (limit : ℕ) (filter : Option (List ℕ)) (s : Stores) (a : accepts limit filter ≡ true) (e : enough limit s ≡ true) where
-  abbrev wiped : Stores
+  abbrev pub wiped : Stores
   wiped = record { sets = s .sets; entries = set (s .entries) 0 (0 ∷ 0 ∷ 0 ∷ []); order = s .order }
 
-  start-is : started limit filter s .kept ≡ record { dir = fresh; stores = wiped }
+  pub start-is : started limit filter s .kept ≡ record { dir = fresh; stores = wiped }
   unfolding started pick
   start-is = rw (a, e)
 

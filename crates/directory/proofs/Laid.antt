@@ -133,7 +133,7 @@ module _ (K : Kind) (f : ℕ → K .Series) (z : K .Settings) (c : Config K) (d 
       rw (le-leb (d .used) (c .limit + 1) used-few, slots-ok, p, counts-ok)
 
 -- other bindings leave the layout
-birth-kept : (entries : List (List ℕ)) (x n y : ℕ) → x < length entries → birthAt (boundTo entries x n) y ≡ birthAt entries y
+pub birth-kept : (entries : List (List ℕ)) (x n y : ℕ) → x < length entries → birthAt (boundTo entries x n) y ≡ birthAt entries y
 unfolding boundTo
 birth-kept entries x n zero h = refl
 birth-kept entries x n (suc y) h = go (eqb (suc y) x) refl
@@ -167,16 +167,21 @@ in-around [] (suc r) x y m = m
 in-around (a ∷ l) zero x y m = m
 in-around (a ∷ l) (suc r) x y m = ⊎-elim (λ e. inr (inl e)) (λ n. ⊎-elim (λ e. inl e) (λ q. inr (inr q)) (in-around l r x y n)) m
 
-module _ (d : Directory) (s : Stores) (row : List ℕ) (r more b : ℕ) (ls : d .used + 1 < length (s .sets)) (le : d .used + 1 < length (s .entries)) (lo : d .used < length (s .order)) (rank : r ≤ d .used) (good : soundb row ≡ true) (a : Laid d s) where
-  abbrev entries′ : List (List ℕ)
-  entries′ = set (s .entries) (d .used + 1) ((d .last + 1) ∷ b ∷ 0 ∷ [])
+-- the birth numbers then
+module _ (d : Directory) (s : Stores) (b : ℕ) where
+  abbrev pub entered : List (List ℕ)
+  entered = set (s .entries) (d .used + 1) ((d .last + 1) ∷ b ∷ 0 ∷ [])
 
-  old-birth : (y : ℕ) → y ≤ d .used → birthAt entries′ y ≡ birthAt (s .entries) y
+  pub old-birth : (y : ℕ) → y ≤ d .used → birthAt entered y ≡ birthAt (s .entries) y
   old-birth zero h = refl
   old-birth (suc y) h = ap (λ t. getD t 0 0) (getD-set-other (s .entries) (d .used + 1) (suc y) ((d .last + 1) ∷ b ∷ 0 ∷ []) [] (λ e. omega arith))
 
-  new-birth : birthAt entries′ (d .used + 1) ≡ d .last + 1
-  new-birth = birth-next (s .sets) entries′ (d .used) ∙ ap (λ t. getD t 0 0) (getD-set-same (s .entries) (d .used + 1) ((d .last + 1) ∷ b ∷ 0 ∷ []) [] le)
+  pub new-birth : d .used + 1 < length (s .entries) → birthAt entered (d .used + 1) ≡ d .last + 1
+  new-birth le = birth-next (s .sets) entered (d .used) ∙ ap (λ t. getD t 0 0) (getD-set-same (s .entries) (d .used + 1) ((d .last + 1) ∷ b ∷ 0 ∷ []) [] le)
+
+module _ (d : Directory) (s : Stores) (row : List ℕ) (r more b : ℕ) (ls : d .used + 1 < length (s .sets)) (le : d .used + 1 < length (s .entries)) (lo : d .used < length (s .order)) (rank : r ≤ d .used) (good : soundb row ≡ true) (a : Laid d s) where
+  abbrev entries′ : List (List ℕ)
+  entries′ = entered d s b
 
   pub laid-admit : Laid (admitted d s row r more b .dir) (admitted d s row r more b .stores)
   unfolding admitted
@@ -190,12 +195,12 @@ module _ (d : Directory) (s : Stores) (row : List ℕ) (r more b : ℕ) (ls : d 
 
       birth : (x : ℕ) → x < d .used + 1 → birthAt entries′ x < birthAt entries′ (x + 1)
       birth x h =
-          ⊎-elim (λ e. subst (λ (i : ℕ). birthAt entries′ i < birthAt entries′ (i + 1)) (sym e) (omega (arith, old-birth (d .used) (omega arith), new-birth, a .last)))
-          (λ u. omega (arith, old-birth x (omega arith), old-birth (x + 1) (omega arith), a .birth x u))
+          ⊎-elim (λ e. subst (λ (i : ℕ). birthAt entries′ i < birthAt entries′ (i + 1)) (sym e) (omega (arith, old-birth d s b (d .used) (omega arith), new-birth d s b le, a .last)))
+          (λ u. omega (arith, old-birth d s b x (omega arith), old-birth d s b (x + 1) (omega arith), a .birth x u))
           (eq-or-lt-of-le (let w : x ≤ d .used = omega arith in w))
 
       last : birthAt entries′ (d .used + 1) ≤ d .last + 1
-      last = omega (arith, new-birth)
+      last = omega (arith, new-birth d s b le)
 
       slots : (k : ℕ) → k < d .used + 1 → (1 ≤ getD (inserted (s .order) (d .used) r (d .used + 1)) k 0) × (getD (inserted (s .order) (d .used) r (d .used + 1)) k 0 ≤ d .used + 1)
       slots k h =

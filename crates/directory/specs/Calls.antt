@@ -46,6 +46,12 @@ pub record Outcome : Type 0 where
   pub answer : Answer
   pub kept : Kept
 
+-- document 01's number of an answer
+abbrev pub number : Answer → ℕ
+number (Refused n) = n
+number Done = 0
+number (Handle b) = 0
+
 -- x at place `at`, with the places from there up to `used` moved up by one
 abbrev pub rest : List ℕ → ℕ → ℕ → List ℕ
 rest l used i = drop i (take used l) ++ drop (used + 1) l

@@ -1,0 +1,128 @@
+-- The cases of the directory's agreement, and what it says of each slot and place. Assumes nothing.
+use Prim.Native.Nat.{ℕ, zero, suc, _+_, _-_, _≤_, _<_, Ordering, Ordering·lt, Ordering·eq, Ordering·gt}
+use mathlib.Core.Path.{_≡_, refl, ap, sym, _∙_}
+use mathlib.Core.Bool.{Bool, true, false, cond, not, _&&_, _||_}
+use mathlib.Core.List.{List, [], _∷_, map}
+use native.Mathlib.Omega.{arith}
+use borrow.Author.Tests.{le-leb, lt-leb, lt-ltb, le-ltb, eq-eqb, ne-eqb, leb-true, ltb-true, eqb-false}
+use lib.Dec.{eqb, leb, ltb}
+use lib.ListN.{getD}
+use Rattle.tally.specs.Sets.{Set, cmp}
+use Rattle.laws.proofs.Cases.{true-not-false}
+use Rattle.laws.proofs.Cases.{and-true}
+use Rattle.directory.specs.All.{allb, allb-at}
+use Rattle.directory.specs.Rows.{size, setOf, soundb}
+use Rattle.directory.specs.View.{Stores, setAt, birthAt, below, slotAt, placeAt, plainly, slotsb, placed, countsb, agreesb}
+use Rattle.directory.specs.declared.Directory.{Directory}
+use Rattle.directory.specs.declared.Placed.{Placed}
+use Rattle.directory.specs.declared.Placed.the-variants.{Broken, Plain}
+
+-- the count
+module _ (limit count used plain : ℕ) where
+  pub count-over : limit < count → countsb limit count used plain ≡ false
+  count-over h = rw (lt-leb count limit h)
+
+  pub count-plain : count ≤ limit → count ≡ plain → countsb limit count used plain ≡ true
+  count-plain h e = rw (le-leb count limit h, eq-eqb count plain e)
+
+  pub count-none : count ≤ limit → (count ≡ plain → ⊥) → used ≤ plain → countsb limit count used plain ≡ false
+  count-none h n k = rw (le-leb count limit h, ne-eqb count plain n, le-ltb plain used k) (and-no (eqb count (plain + 1)))
+    where
+      and-no : (b : Bool) → (b && false) ≡ false
+      and-no true = refl
+      and-no false = refl
+
+  pub count-more : count ≤ limit → (count ≡ plain → ⊥) → plain < used → count ≡ plain + 1 → countsb limit count used plain ≡ true
+  count-more h n k e = rw (le-leb count limit h, ne-eqb count plain n, lt-ltb plain used k, eq-eqb count (plain + 1) e)
+
+  pub count-wrong : count ≤ limit → (count ≡ plain → ⊥) → (count ≡ plain + 1 → ⊥) → countsb limit count used plain ≡ false
+  count-wrong h n e = rw (le-leb count limit h, ne-eqb count plain n, ne-eqb count (plain + 1) e)
+
+-- the places' answer
+broken-inv : (b : Bool) (n : ℕ) → cond b (Plain n) Broken ≡ Broken → b ≡ false
+broken-inv true n e = cc
+broken-inv false n e = refl
+
+plain-inv : (b : Bool) (n m : ℕ) → cond b (Plain n) Broken ≡ Plain m → (b ≡ true) × (n ≡ m)
+plain-inv true n m e = (refl, cc)
+plain-inv false n m e = (cc, cc)
+
+module _ (used : ℕ) (sets : List (List ℕ)) (order : List ℕ) where
+  pub placed-broken : placed used sets order ≡ Broken → allb used (placeAt sets order used) ≡ false
+  unfolding placed
+  placed-broken e = broken-inv _ (plainly sets order used) e
+
+  pub placed-plain : (n : ℕ) → placed used sets order ≡ Plain n → (allb used (placeAt sets order used) ≡ true) × (plainly sets order used ≡ n)
+  unfolding placed
+  placed-plain n e = plain-inv _ (plainly sets order used) n e
+
+-- the cases of the whole
+module _ (limit : ℕ) (d : Directory) (s : Stores) where
+  pub agree-far : limit + 1 < d .used → agreesb limit d s ≡ false
+  unfolding agreesb
+  agree-far h = rw (lt-leb (d .used) (limit + 1) h)
+
+  module _ (h : d .used ≤ limit + 1) where
+    pub agree-slots : slotsb (d .used) (d .last) (s .sets) (s .entries) ≡ false → agreesb limit d s ≡ false
+    unfolding agreesb
+    agree-slots e = rw (le-leb (d .used) (limit + 1) h, e)
+
+    module _ (k : slotsb (d .used) (d .last) (s .sets) (s .entries) ≡ true) where
+      pub agree-places : allb (d .used) (placeAt (s .sets) (s .order) (d .used)) ≡ false → agreesb limit d s ≡ false
+      unfolding agreesb
+      agree-places e = rw (le-leb (d .used) (limit + 1) h, k, e)
+
+      pub agree-counts : (n : ℕ) → (allb (d .used) (placeAt (s .sets) (s .order) (d .used)) ≡ true) × (plainly (s .sets) (s .order) (d .used) ≡ n) → agreesb limit d s ≡ countsb limit (d .count) (d .used) n
+      unfolding agreesb
+      agree-counts n e = rw (le-leb (d .used) (limit + 1) h, k, e .0, e .1)
+
+-- what a sound row has
+pub sound-some : (row : List ℕ) → soundb row ≡ true → 1 ≤ size row
+unfolding soundb
+sound-some row e = leb-true 1 (size row) (and-true _ _ e .0)
+
+pub sound-few : (row : List ℕ) → soundb row ≡ true → size row ≤ 8
+unfolding soundb
+sound-few row e = leb-true (size row) 8 (and-true (leb (size row) 8) _ (and-true (leb 1 (size row)) _ e .1) .0)
+
+-- what right slots say
+module _ (used last : ℕ) (sets entries : List (List ℕ)) (e : slotsb used last sets entries ≡ true) where
+  all-slots : allb used (slotAt sets entries) ≡ true
+  unfolding slotsb
+  all-slots = and-true (allb used (slotAt sets entries)) _ e .0
+
+  pub last-birth : birthAt entries used ≤ last
+  unfolding slotsb
+  last-birth = leb-true _ _ (and-true (allb used (slotAt sets entries)) _ e .1)
+
+  pub slot-sound : (x : ℕ) → 1 ≤ x → x ≤ used → soundb (getD sets x []) ≡ true
+  slot-sound x h k =
+      let y : x - 1 + 1 ≡ x = omega arith in
+      ap (λ (i : ℕ). soundb (getD sets i [])) (sym y) ∙ and-true (soundb (getD sets (x - 1 + 1) [])) _ (allb-at _ _ all-slots (x - 1) (omega arith)) .0
+
+  pub birth-rise : (x : ℕ) → x < used → birthAt entries x < birthAt entries (x + 1)
+  birth-rise x h = ltb-true _ _ (and-true (soundb (getD sets (x + 1) [])) _ (allb-at _ _ all-slots x h) .1)
+
+  pub slot-sizes : (x : ℕ) → 1 ≤ x → x ≤ used → (1 ≤ size (getD sets x [])) × (size (getD sets x []) ≤ 8)
+  slot-sizes x h k = (sound-some (getD sets x []) (slot-sound x h k), sound-few (getD sets x []) (slot-sound x h k))
+
+-- what right places say
+below-lt : (o : Ordering) → below o ≡ true → o ≡ Ordering·lt
+below-lt Ordering·lt e = refl
+below-lt Ordering·eq e = cc
+below-lt Ordering·gt e = cc
+
+module _ (used : ℕ) (sets : List (List ℕ)) (order : List ℕ) (e : allb used (placeAt sets order used) ≡ true) where
+  halves : (k : ℕ) → k < used → ((leb 1 (getD order k 0) && leb (getD order k 0) used) ≡ true) × ((eqb k 0 || below (cmp (setAt sets (getD order (k - 1) 0)) (setAt sets (getD order k 0)))) ≡ true)
+  halves k h = and-true (leb 1 (getD order k 0) && leb (getD order k 0) used) _ (allb-at _ _ e k h)
+
+  pub place-slot : (k : ℕ) → k < used → (1 ≤ getD order k 0) × (getD order k 0 ≤ used)
+  place-slot k h =
+      let p = and-true (leb 1 (getD order k 0)) (leb (getD order k 0) used) (halves k h .0) in
+      (leb-true _ _ (p .0), leb-true _ _ (p .1))
+
+  pub place-rise : (k : ℕ) → suc k < used → cmp (setAt sets (getD order k 0)) (setAt sets (getD order (suc k) 0)) ≡ Ordering·lt
+  place-rise k h = below-lt _ (later (halves (suc k) h .1))
+    where
+      later : (eqb (suc k) 0 || below (cmp (setAt sets (getD order (suc k - 1) 0)) (setAt sets (getD order (suc k) 0)))) ≡ true → below (cmp (setAt sets (getD order k 0)) (setAt sets (getD order (suc k) 0))) ≡ true
+      later p = let a : eqb (suc k) 0 ≡ false = ne-eqb (suc k) 0 (λ q. omega arith) in let b : suc k - 1 ≡ k = omega arith in rw (a, b) at p

@@ -1,0 +1,367 @@
+-- Binding is the map's step, for any kind of series; and there is room for what it makes. Assumes nothing.
+use Prim.Native.Nat.{ℕ, zero, suc, _+_, _-_, _^_, _≤_, _<_, Ordering, Ordering·lt, Ordering·eq, Ordering·gt}
+use mathlib.Core.Path.{_≡_, refl, ap, sym, subst, _∙_}
+use mathlib.Core.Logic.{_⊎_, inl, inr, ⊎-elim}
+use mathlib.Core.Bool.{Bool, true, false, cond, not, _&&_, _||_}
+use mathlib.Core.List.{List, [], _∷_, _++_, map}
+use mathlib.Core.Option.{Option, none, some}
+use native.Mathlib.Omega.{arith}
+use native.Mathlib.Numerals.{add-one}
+use borrow.Author.Tests.{leb-true, leb-false, ltb-true, ltb-false, lt-ltb, le-ltb, le-leb, lt-leb, eqb-true}
+use lib.Dec.{isEq, eqb, ltb, leb}
+use lib.ListN.{length, getD, set}
+use Rattle.tally.specs.Sets.{Set, overflow, three, cmp, same, mem, Rising, Above, canonical}
+use Rattle.tally.specs.Kind.{Kind}
+use Rattle.tally.specs.Map.{Config, Entry, Map, Call, bind, Answer, done, refuse, handle, Out, Place, find, put, rebound, new, held, place, bindAt, step, upfront, act, plain, plains, bit, keys}
+use Rattle.tally.proofs.Order.{gt-lt, lt-gt, same-flip, same-eq}
+use Rattle.laws.proofs.Cases.{true-not-false}
+use Rattle.tally.proofs.Rising.{above-trans, above-mem}
+use Rattle.laws.proofs.Cases.{and-true}
+use Rattle.directory.specs.All.{allb}
+use Rattle.directory.specs.Rows.{size, span, setOf}
+use Rattle.directory.specs.View.{Stores, setAt, birthAt, placeAt, slotsb, agreesb, countsb, plainly, seek, sought, entryAt, view}
+use Rattle.laws.specs.Pick.{pick}
+use Rattle.directory.specs.Calls.{overRow, orOver, targetOf, located, boundTo, refused, Kept, Outcome, admitted, boundAt, bornBound, boundIn}
+use Rattle.directory.specs.declared.Directory.{Directory}
+use Rattle.directory.specs.declared.Found.{Found}
+use Rattle.directory.specs.declared.Found.the-variants.{Held, Room}
+use Rattle.directory.specs.declared.Target.{Target}
+use Rattle.directory.specs.declared.Target.the-variants.{Disagrees, Old, New, Over}
+use Rattle.directory.specs.declared.Answer.the-variants.{Refused, Done, Handle}
+use Rattle.directory.proofs.Rises.{In, seek-held}
+use Rattle.directory.proofs.Laws.{slotsOf, few, slot-used, ascends, rebind-put, said, Steps}
+use Rattle.directory.proofs.Admits.{sought-room, room-rank, admit-put, length-span}
+
+pub over-set : setOf overRow ≡ overflow
+unfolding setOf
+over-set = refl
+
+-- what each target says
+abbrev pub Facts : ℕ → Directory → Stores → List ℕ → Target → Type 0
+Facts limit d s row Disagrees = agreesb limit d s ≡ false
+Facts limit d s row (Old x) =
+    (agreesb limit d s ≡ true)
+    × ((sought (setOf row) (d .used) (s .sets) (s .order) ≡ Held x)
+    ⊎ ((r : ℕ) × (sought (setOf row) (d .used) (s .sets) (s .order) ≡ Room r) × (ltb (d .count) limit ≡ false) × (sought (setOf overRow) (d .used) (s .sets) (s .order) ≡ Held x)))
+Facts limit d s row (New r) =
+    (agreesb limit d s ≡ true) × (sought (setOf row) (d .used) (s .sets) (s .order) ≡ Room r) × (ltb (d .count) limit ≡ true)
+Facts limit d s row (Over q) =
+    (agreesb limit d s ≡ true) × ((r : ℕ) × (sought (setOf row) (d .used) (s .sets) (s .order) ≡ Room r) × (ltb (d .count) limit ≡ false) × (sought (setOf overRow) (d .used) (s .sets) (s .order) ≡ Room q))
+
+module _ (limit : ℕ) (d : Directory) (s : Stores) (row : List ℕ) where
+  facts-of : (g : Bool) → agreesb limit d s ≡ g → (o : Found) → sought (setOf row) (d .used) (s .sets) (s .order) ≡ o → (b : Bool) → ltb (d .count) limit ≡ b
+      → (v : Found) → sought (setOf overRow) (d .used) (s .sets) (s .order) ≡ v → Facts limit d s row (pick g (targetOf o b v) Disagrees)
+  unfolding pick
+  facts-of false g o e b h v k = g
+  facts-of true g (Held x) e b h v k = (g, inl e)
+  facts-of true g (Room r) e true h v k = (g, e, h)
+  facts-of true g (Room r) e false h (Held x) k = (g, inr (r, e, h, k))
+  facts-of true g (Room r) e false h (Room q) k = (g, (r, e, h, k))
+
+  pub facts : Facts limit d s row (located limit d s row)
+  unfolding located
+  facts = facts-of (agreesb limit d s) refl (sought (setOf row) (d .used) (s .sets) (s .order)) refl (ltb (d .count) limit) refl (sought (setOf overRow) (d .used) (s .sets) (s .order)) refl
+
+-- room: at most one set is overflow
+not-plain : (x : Set) → cmp [] x ≡ Ordering·lt → plain x ≡ false → x ≡ overflow
+not-plain x e p = same-eq x overflow (go (same x []) refl (same x overflow) refl p)
+  where
+    go : (a : Bool) → same x [] ≡ a → (b : Bool) → same x overflow ≡ b → not (a || b) ≡ false → b ≡ true
+    go true i b j q = true-not-false (sym i ∙ ap isEq (lt-gt [] x e))
+    go false i true j q = refl
+    go false i false j q = true-not-false q
+
+plain-other : (x : Set) → cmp [] x ≡ Ordering·lt → same x overflow ≡ false → plain x ≡ true
+plain-other x e n = let i : same x [] ≡ false = ap isEq (lt-gt [] x e) in rw (i, n)
+
+or-false : (a b : Bool) → (a || b) ≡ false → (a ≡ false) × (b ≡ false)
+or-false true b e = true-not-false e
+or-false false b e = (refl, e)
+
+pub plains-all : (l : List Set) → Above [] l → mem overflow l ≡ false → plains l ≡ length l
+plains-all [] a m = refl
+plains-all (x ∷ l) a m =
+    let n = or-false (same x overflow) (mem overflow l) m in
+    rw (plain-other x (a .0) (n .0)) (omega (arith, plains-all l (a .1) (n .1)))
+
+pub plains-near : (l : List Set) → Rising l → Above [] l → length l ≤ plains l + 1
+plains-near [] r a = omega arith
+plains-near (x ∷ l) r a = go (plain x) refl (plains-near l (r .1) (a .1))
+  where
+    go : (b : Bool) → plain x ≡ b → length l ≤ plains l + 1 → suc (length l) ≤ bit b + plains l + 1
+    go true e k = omega arith
+    go false e k =
+        let o = not-plain x (a .0) e in
+        omega (arith, plains-all l (a .1) (subst (λ (y : Set). mem y l ≡ false) o (above-mem x l (r .0))))
+
+seek-none : (s : Set) (sets : List (List ℕ)) (l : List ℕ) (i r : ℕ) → Rising (map (setAt sets) l) → seek s sets l i ≡ Room r → mem s (map (setAt sets) l) ≡ false
+seek-none s sets [] i r g e = refl
+seek-none s sets (y ∷ l) i r g e = go (cmp s (setAt sets y)) refl e (seek-none s sets l (suc i) r (g .1))
+  where
+    go : (o : Ordering) → cmp s (setAt sets y) ≡ o → three o (Room i) (Held y) (seek s sets l (suc i)) ≡ Room r → (seek s sets l (suc i) ≡ Room r → mem s (map (setAt sets) l) ≡ false) → (same (setAt sets y) s || mem s (map (setAt sets) l)) ≡ false
+    go Ordering·lt d q ih = rw (ap isEq (lt-gt s (setAt sets y) d)) (above-mem s (map (setAt sets) l) (above-trans s (setAt sets y) (map (setAt sets) l) d (g .0)))
+    go Ordering·eq d q ih = let z : _≡_ {A = ℕ} 0 1 = cc in absurd (omega arith)
+    go Ordering·gt d q ih = rw (ap isEq (gt-lt s (setAt sets y) d)) (ih q)
+
+or-true : (a b : Bool) → (a || b) ≡ true → (a ≡ true) ⊎ (b ≡ true)
+or-true true b e = inl refl
+or-true false b e = inr e
+
+module _ (limit : ℕ) (d : Directory) (s : Stores) (g : agreesb limit d s ≡ true) where
+  counts-right : countsb limit (d .count) (d .used) (plainly (s .sets) (s .order) (d .used)) ≡ true
+  unfolding agreesb
+  counts-right =
+      and-true (allb (d .used) (placeAt (s .sets) (s .order) (d .used))) _ (and-true (slotsb (d .used) (d .last) (s .sets) (s .entries)) _ (and-true (leb (d .used) (limit + 1)) _ g .1) .1) .1
+
+  pub counted : (d .count ≤ limit) × ((d .count ≡ plainly (s .sets) (s .order) (d .used)) ⊎ ((d .count ≡ plainly (s .sets) (s .order) (d .used) + 1) × (plainly (s .sets) (s .order) (d .used) < d .used)))
+  counted =
+      let p = and-true (leb (d .count) limit) _ counts-right in (
+        leb-true _ _ (p .0),
+        ⊎-elim (λ e. inl (eqb-true _ _ e)) (λ e. let q = and-true (eqb (d .count) (plainly (s .sets) (s .order) (d .used) + 1)) _ e in inr (eqb-true _ _ (q .0), ltb-true _ _ (q .1)))
+            (or-true (eqb (d .count) (plainly (s .sets) (s .order) (d .used))) _ (p .1)),
+      )
+
+  near : d .used ≤ plainly (s .sets) (s .order) (d .used) + 1
+  near =
+      omega (arith, plains-near (map (setAt (s .sets)) (span (s .order) 0 (d .used))) (ascends limit d s g .1) (ascends limit d s g .0), length-span (setAt (s .sets)) (s .order) 0 (d .used))
+
+  pub room-new : d .count < limit → d .used ≤ limit
+  room-new h = ⊎-elim (λ e. omega (arith, near)) (λ e. omega (arith, near, e .0)) (counted .1)
+
+  pub room-over : (q : ℕ) → sought (setOf overRow) (d .used) (s .sets) (s .order) ≡ Room q → d .used ≤ limit
+  room-over q e =
+      let m = seek-none (setOf overRow) (s .sets) (span (s .order) 0 (d .used)) 0 q (ascends limit d s g .1) (sought-room (setOf overRow) (d .used) (s .sets) (s .order) q e .1) in
+      let n : mem overflow (map (setAt (s .sets)) (span (s .order) 0 (d .used))) ≡ false = subst (λ (w : Set). mem w (map (setAt (s .sets)) (span (s .order) 0 (d .used))) ≡ false) over-set m in
+      let p = plains-all (map (setAt (s .sets)) (span (s .order) 0 (d .used))) (ascends limit d s g .0) n in
+      let l = length-span (setAt (s .sets)) (s .order) 0 (d .used) in
+      ⊎-elim (λ c. omega (arith, p, l, counted .0, c)) (λ c. omega (arith, p, l, c .1)) (counted .1)
+
+-- what a search finds of the whole map
+split-held : (b : Bool) (o : Found) (x : ℕ) → cond b (Held 0) o ≡ Held x → ((b ≡ true) × (0 ≡ x)) ⊎ ((b ≡ false) × (o ≡ Held x))
+split-held true o x e = inl (refl, cc)
+split-held false o x e = inr (refl, e)
+
+module _ (w : Set) (used : ℕ) (sets : List (List ℕ)) (order : List ℕ) (x : ℕ) where
+  sought-split : sought w used sets order ≡ Held x → ((same w [] ≡ true) × (0 ≡ x)) ⊎ ((same w [] ≡ false) × (seek w sets (span order 0 used) 0 ≡ Held x))
+  unfolding sought
+  sought-split e = split-held (same w []) (seek w sets (span order 0 used) 0) x e
+
+module _ (K : Kind) (f : ℕ → K .Series) (z : K .Settings) (d : Directory) (s : Stores) (w : Set) (x : ℕ) where
+  pub sought-held : sought w (d .used) (s .sets) (s .order) ≡ Held x → (In x (slotsOf d s)) × (find K w (view K f z d s .entries) ≡ some (entryAt K f s x))
+  sought-held e = ⊎-elim first later (sought-split w (d .used) (s .sets) (s .order) x e)
+    where
+      first : (same w [] ≡ true) × (0 ≡ x) → (In x (slotsOf d s)) × (find K w (view K f z d s .entries) ≡ some (entryAt K f s x))
+      first p =
+          let n : same [] w ≡ true = same-flip w [] ∙ p .0 in
+          (inl (sym (p .1)), rw n (ap (λ k. some (entryAt K f s k)) (p .1)))
+
+      later : (same w [] ≡ false) × (seek w (s .sets) (span (s .order) 0 (d .used)) 0 ≡ Held x) → (In x (slotsOf d s)) × (find K w (view K f z d s .entries) ≡ some (entryAt K f s x))
+      later p =
+          let n : same [] w ≡ false = same-flip w [] ∙ p .0 in
+          let q = seek-held K f s w (span (s .order) 0 (d .used)) 0 x (p .1) in
+          (inr (q .0), rw n (q .1))
+
+-- the places that a call comes to
+module _ (K : Kind) (limit : ℕ) (m : Map K) (w : Set) where
+  place-held : (e : Entry K) → find K w (m .entries) ≡ some e → place K limit m w ≡ held K m e
+  unfolding place
+  place-held e h = rw h
+
+  place-over-held : (e : Entry K) → find K w (m .entries) ≡ none → ltb (m .count) limit ≡ false → find K overflow (m .entries) ≡ some e → place K limit m w ≡ held K m e
+  unfolding place
+  place-over-held e h b o = rw (h, b, o)
+
+  place-new : find K w (m .entries) ≡ none → ltb (m .count) limit ≡ true → place K limit m w ≡ record { entry = new K w (suc (m .last)); count = suc (m .count); last = suc (m .last) }
+  unfolding place
+  place-new h b = rw (h, b)
+
+  place-over : find K w (m .entries) ≡ none → ltb (m .count) limit ≡ false → find K overflow (m .entries) ≡ none → place K limit m w ≡ record { entry = new K overflow (suc (m .last)); count = m .count; last = suc (m .last) }
+  unfolding place
+  place-over h b o = rw (h, b, o)
+
+-- and what binding is there
+module _ (K : Kind) (f : ℕ → K .Series) (z : K .Settings) where
+  -- an outcome is this one of the map
+  abbrev Is : Outcome → Out K → Type 0
+  Is o p = (said K f z (o .answer) ≡ p .answer) × (view K f z (o .kept .dir) (o .kept .stores) ≡ p .map)
+
+  module _ (limit : ℕ) (d : Directory) (s : Stores) (row : List ℕ) (g : agreesb limit d s ≡ true) (small : d .last < 2 ^ 64) where
+    old-full : (x : ℕ) → 18446744073709551615 ≤ getD (getD (s .entries) x []) 1 0 → Is (boundAt d s row (Old x)) (bindAt K (view K f z d s) (held K (view K f z d s) (entryAt K f s x)))
+    unfolding bindAt pick
+    old-full x h =
+        let a : leb 18446744073709551615 (getD (getD (s .entries) x []) 1 0) ≡ true = le-leb _ _ h in
+        let b : ltb (suc (getD (getD (s .entries) x []) 1 0)) (2 ^ 64) ≡ false = le-ltb (suc (getD (getD (s .entries) x []) 1 0)) (2 ^ 64) (omega arith) in
+        let l : ltb (d .last) (2 ^ 64) ≡ true = lt-ltb _ _ small in
+        rw (a, l, b) (refl, refl)
+
+    old-more : (x : ℕ) → In x (slotsOf d s) → limit + 2 ≤ length (s .entries) → getD (getD (s .entries) x []) 1 0 < 18446744073709551615 → Is (boundAt d s row (Old x)) (bindAt K (view K f z d s) (held K (view K f z d s) (entryAt K f s x)))
+    unfolding bindAt pick
+    old-more x m r h =
+        let a : leb 18446744073709551615 (getD (getD (s .entries) x []) 1 0) ≡ false = lt-leb _ _ h in
+        let b : ltb (suc (getD (getD (s .entries) x []) 1 0)) (2 ^ 64) ≡ true = lt-ltb (suc (getD (getD (s .entries) x []) 1 0)) (2 ^ 64) (omega arith) in
+        let l : ltb (d .last) (2 ^ 64) ≡ true = lt-ltb _ _ small in
+        let u = slot-used limit d s g x m in
+        let v = few limit d s g in
+        let p = rebind-put K f s x (getD (getD (s .entries) x []) 1 0 + 1) (slotsOf d s) (ascends limit d s g) m (omega arith) in
+        let q = ap (λ (k : ℕ). put K (rebound K (entryAt K f s x) k) (map (entryAt K f s) (slotsOf d s))) (add-one (getD (getD (s .entries) x []) 1 0)) in
+        rw (a, l, b) (refl, ap (λ t. record { settings = z; count = d .count; last = d .last; entries = t }) (p ∙ q))
+
+    -- a new entry, for the set of a row, with the count then
+    module _ (new-row : List ℕ) (r more count : ℕ) (c : d .count + more ≡ count) where
+      abbrev newly : Place K
+      newly = record { entry = new K (setOf new-row) (suc (d .last)); count = count; last = suc (d .last) }
+
+      born-spent : 18446744073709551615 ≤ d .last → Is (bornBound d s new-row r more) (bindAt K (view K f z d s) newly)
+      unfolding bindAt pick
+      born-spent h =
+          let a : leb 18446744073709551615 (d .last) ≡ true = le-leb _ _ h in
+          let b : ltb (suc (d .last)) (2 ^ 64) ≡ false = le-ltb (suc (d .last)) (2 ^ 64) (omega arith) in
+          rw (a, b) (refl, refl)
+
+      born-made : sought (setOf new-row) (d .used) (s .sets) (s .order) ≡ Room r → d .used + 1 < length (s .sets) → d .used + 1 < length (s .entries) → d .used < length (s .order)
+          → d .last < 18446744073709551615 → Is (bornBound d s new-row r more) (bindAt K (view K f z d s) newly)
+      unfolding bindAt pick
+      born-made e ls le lo h =
+          let a : leb 18446744073709551615 (d .last) ≡ false = lt-leb _ _ h in
+          let b : ltb (suc (d .last)) (2 ^ 64) ≡ true = lt-ltb (suc (d .last)) (2 ^ 64) (omega arith) in
+          let p = admit-put K f z limit d s g new-row r more 1 ls le lo e in
+          let F : ℕ → ℕ → Map K = λ k l. record { settings = z; count = k; last = l; entries = put K (rebound K (new K (setOf new-row) l) 1) (view K f z d s .entries) } in
+          rw (a, b) (ap handle (add-one (d .last)), p ∙ ap (λ k. F k (d .last + 1)) c ∙ ap (λ l. F count l) (add-one (d .last)))
+
+  at-least : (a b : ℕ) → (a ≤ b) ⊎ (b < a)
+  at-least a b = go (leb a b) refl
+    where
+      go : (t : Bool) → leb a b ≡ t → (a ≤ b) ⊎ (b < a)
+      go true e = inl (leb-true a b e)
+      go false e = inr (leb-false a b e)
+
+  -- binding is the map's step, where the directory agrees and the stores have room for limit + 2 entries
+  module _ (c : Config K) (d : Directory) (s : Stores) (row : List ℕ) (small : d .last < 2 ^ 64)
+      (ls : c .limit + 2 ≤ length (s .sets)) (le : c .limit + 2 ≤ length (s .entries)) (lo : c .limit + 2 ≤ length (s .order)) where
+    abbrev m : Map K
+    m = view K f z d s
+
+    old-is : (x : ℕ) → agreesb (c .limit) d s ≡ true → In x (slotsOf d s) → Is (boundAt d s row (Old x)) (bindAt K m (held K m (entryAt K f s x)))
+    old-is x g i =
+        ⊎-elim (λ h. old-full (c .limit) d s row g small x h) (λ h. old-more (c .limit) d s row g small x i le h) (at-least 18446744073709551615 (getD (getD (s .entries) x []) 1 0))
+
+    born-is : agreesb (c .limit) d s ≡ true → (new-row : List ℕ) (r more count : ℕ) → d .count + more ≡ count → sought (setOf new-row) (d .used) (s .sets) (s .order) ≡ Room r → d .used ≤ c .limit
+        → Is (bornBound d s new-row r more) (bindAt K m (record { entry = new K (setOf new-row) (suc (d .last)); count = count; last = suc (d .last) }))
+    born-is g new-row r more count e q u =
+        ⊎-elim (λ h. born-spent (c .limit) d s row g small new-row r more count e h)
+        (λ h. born-made (c .limit) d s row g small new-row r more count e q (omega arith) (omega arith) (omega arith) h) (at-least 18446744073709551615 (d .last))
+
+    over-find : (x : ℕ) → sought (setOf overRow) (d .used) (s .sets) (s .order) ≡ Held x → find K overflow (m .entries) ≡ some (entryAt K f s x)
+    over-find x e = sought-held K f z d s overflow x (ap (λ w. sought w (d .used) (s .sets) (s .order)) (sym over-set) ∙ e) .1
+
+    over-none : (q : ℕ) → agreesb (c .limit) d s ≡ true → sought (setOf overRow) (d .used) (s .sets) (s .order) ≡ Room q → find K overflow (m .entries) ≡ none
+    over-none q g e = room-rank K f z (c .limit) d s g overflow q (ap (λ w. sought w (d .used) (s .sets) (s .order)) (sym over-set) ∙ e) .0
+
+    target-is : agreesb (c .limit) d s ≡ true → (t : Target) → Facts (c .limit) d s row t → Is (boundAt d s row t) (bindAt K m (place K (c .limit) m (setOf row)))
+    target-is g Disagrees y = true-not-false (sym g ∙ y)
+    target-is g (Old x) y = ⊎-elim own over (y .1)
+      where
+        own : sought (setOf row) (d .used) (s .sets) (s .order) ≡ Held x → Is (boundAt d s row (Old x)) (bindAt K m (place K (c .limit) m (setOf row)))
+        own e =
+            let h = sought-held K f z d s (setOf row) x e in
+            rw (place-held K (c .limit) m (setOf row) (entryAt K f s x) (h .1)) (old-is x g (h .0))
+
+        over : (r : ℕ) × (sought (setOf row) (d .used) (s .sets) (s .order) ≡ Room r) × (ltb (d .count) (c .limit) ≡ false) × (sought (setOf overRow) (d .used) (s .sets) (s .order) ≡ Held x) → Is (boundAt d s row (Old x)) (bindAt K m (place K (c .limit) m (setOf row)))
+        over e =
+            let h = sought-held K f z d s (setOf overRow) x (e .3) in
+            rw (place-over-held K (c .limit) m (setOf row) (entryAt K f s x) (room-rank K f z (c .limit) d s g (setOf row) (e .0) (e .1) .0) (e .2) (over-find x (e .3))) (old-is x g (h .0))
+    target-is g (New r) y =
+        rw (place-new K (c .limit) m (setOf row) (room-rank K f z (c .limit) d s g (setOf row) r (y .1) .0) (y .2))
+        (born-is g row r 1 (suc (d .count)) (add-one (d .count)) (y .1) (room-new (c .limit) d s g (ltb-true _ _ (y .2))))
+    target-is g (Over q) y =
+        let e = y .1 in
+        rw (place-over K (c .limit) m (setOf row) (room-rank K f z (c .limit) d s g (setOf row) (e .0) (e .1) .0) (e .2) (over-none q g (e .3)))
+        (subst (λ (w : Set). Is (bornBound d s overRow q 0) (bindAt K m (record { entry = new K w (suc (d .last)); count = d .count; last = suc (d .last) }))) over-set
+        (born-is g overRow q 0 (d .count) (omega arith) (e .3) (room-over (c .limit) d s g q (e .3))))
+
+    pub bind-faithful : (attrs : Set) → length attrs ≤ 8 → setOf row ≡ canonical (c .filter) attrs → agreesb (c .limit) d s ≡ true
+        → Steps K f z c (view K f z d s) (bind attrs) (boundIn (c .limit) d s row)
+    unfolding upfront act boundIn
+    bind-faithful attrs h w g =
+        let b : leb (length attrs) 8 ≡ true = le-leb (length attrs) 8 h in
+        rw (b, ← w) (target-is g (located (c .limit) d s row) (facts (c .limit) d s row))
+
+-- the cases of a binding, and that each place that it touches is there
+abbrev pub blank : Kind
+blank =
+    record {
+      Settings = Unit;
+      valid = λ z. true;
+      Value = Unit;
+      Series = Unit;
+      Point = Unit;
+      finite = λ v. true;
+      fresh = λ z. tt;
+      add = λ z a v. tt;
+      agrees = λ z a. true;
+      total = λ a. 0;
+      allows = λ z a v. true;
+      point = λ z a. tt;
+      counts = λ p. 0;
+      pointOf = λ z l. tt;
+      allowed = λ z l v. true;
+    }
+
+module _ (limit : ℕ) (d : Directory) (s : Stores) (row : List ℕ) where
+  pub told : (t : Target) → located limit d s row ≡ t → Facts limit d s row t
+  told t e = subst (λ (o : Target). Facts limit d s row o) e (facts limit d s row)
+
+  pub bound-no : located limit d s row ≡ Disagrees → boundIn limit d s row ≡ refused 8 d s
+  unfolding boundIn
+  bound-no e = rw e
+
+  module _ (x : ℕ) (e : located limit d s row ≡ Old x) where
+    pub old-there : limit + 2 ≤ length (s .entries) → x < length (s .entries)
+    old-there l =
+        let z = told (Old x) e in
+        let g = z .0 in
+        let i : In x (slotsOf d s) = ⊎-elim (λ h. sought-held blank (λ k. tt) tt d s (setOf row) x h .0) (λ h. sought-held blank (λ k. tt) tt d s (setOf overRow) x (h .3) .0) (z .1) in
+        omega (arith, slot-used limit d s g x i, few limit d s g)
+
+    pub bound-full : 18446744073709551615 ≤ getD (getD (s .entries) x []) 1 0 → boundIn limit d s row ≡ refused 9 d s
+    unfolding boundIn pick
+    bound-full h = rw (e, le-leb 18446744073709551615 (getD (getD (s .entries) x []) 1 0) h)
+
+    pub bound-old : getD (getD (s .entries) x []) 1 0 < 18446744073709551615 → boundIn limit d s row
+        ≡ record { answer = Handle (birthAt (s .entries) x); kept = record { dir = d; stores = record { sets = s .sets; entries = boundTo (s .entries) x (getD (getD (s .entries) x []) 1 0 + 1); order = s .order } } }
+    unfolding boundIn pick
+    bound-old h = rw (e, lt-leb 18446744073709551615 (getD (getD (s .entries) x []) 1 0) h)
+
+  module _ (r : ℕ) (e : located limit d s row ≡ New r) where
+    pub new-there : (r ≤ d .used) × (d .used ≤ limit) × (d .count < limit)
+    new-there =
+        let z = told (New r) e in
+        let h : d .count < limit = ltb-true _ _ (z .2) in
+        (room-rank blank (λ k. tt) tt limit d s (z .0) (setOf row) r (z .1) .2, room-new limit d s (z .0) h, h)
+
+    pub bound-new-spent : 18446744073709551615 ≤ d .last → boundIn limit d s row ≡ refused 9 d s
+    unfolding boundIn pick
+    bound-new-spent h = rw (e, le-leb 18446744073709551615 (d .last) h)
+
+    pub bound-new : d .last < 18446744073709551615 → boundIn limit d s row ≡ record { answer = Handle (d .last + 1); kept = admitted d s row r 1 1 }
+    unfolding boundIn pick
+    bound-new h = rw (e, lt-leb 18446744073709551615 (d .last) h)
+
+  module _ (q : ℕ) (e : located limit d s row ≡ Over q) where
+    pub over-there : (q ≤ d .used) × (d .used ≤ limit)
+    over-there =
+        let z = told (Over q) e in
+        (room-rank blank (λ k. tt) tt limit d s (z .0) (setOf overRow) q (z .1 .3) .2, room-over limit d s (z .0) q (z .1 .3))
+
+    pub bound-over-spent : 18446744073709551615 ≤ d .last → boundIn limit d s row ≡ refused 9 d s
+    unfolding boundIn pick
+    bound-over-spent h = rw (e, le-leb 18446744073709551615 (d .last) h)
+
+    pub bound-over : d .last < 18446744073709551615 → boundIn limit d s row ≡ record { answer = Handle (d .last + 1); kept = admitted d s overRow q 0 1 }
+    unfolding boundIn pick
+    bound-over h = rw (e, lt-leb 18446744073709551615 (d .last) h)
+
+-- the answer that is read off a new state
+pub as-made : (k : Kept) (d : Directory) (s : Stores) (row : List ℕ) (r more b : ℕ) → k ≡ admitted d s row r more b → k .dir .last ≡ d .last + 1
+unfolding admitted
+as-made k d s row r more b e = ap (λ (o : Kept). o .dir .last) e

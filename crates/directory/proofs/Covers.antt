@@ -1,0 +1,104 @@
+-- The order names every named slot, each once. Assumes nothing.
+use Prim.Native.Nat.{ℕ, zero, suc, _+_, _≤_, _<_}
+use mathlib.Core.Path.{_≡_, refl, ap, sym, subst, _∙_}
+use mathlib.Core.Logic.{_⊎_, inl, inr, ⊎-elim}
+use mathlib.Core.Bool.{Bool, true, false, cond, _||_}
+use mathlib.Core.List.{List, [], _∷_, map}
+use native.Mathlib.Omega.{arith}
+use native.Mathlib.Nat.{eq-or-lt-of-le}
+use borrow.Author.Tests.{eqb-true, eqb-false, eq-eqb, ne-eqb}
+use lib.Dec.{eqb}
+use lib.ListN.{length, length-map}
+use Rattle.laws.proofs.Cases.{true-not-false}
+use Rattle.tally.specs.Sets.{Set, same, mem}
+use Rattle.tally.proofs.Order.{same-self, same-eq}
+use Rattle.tally.proofs.Rising.{pigeon}
+use Rattle.directory.specs.Rows.{span}
+use Rattle.directory.specs.View.{Stores, setAt, agreesb}
+use Rattle.directory.specs.declared.Directory.{Directory}
+use Rattle.directory.proofs.Agreed.{place-slot}
+use Rattle.directory.proofs.Rises.{In}
+use Rattle.directory.proofs.Laws.{places-right, ascends, span-in}
+use Rattle.directory.proofs.Admits.{length-span}
+
+-- the slots 1 to n without x
+abbrev others : ℕ → ℕ → List ℕ
+others x zero = []
+others x (suc n) = cond (eqb (suc n) x) (others x n) (suc n ∷ others x n)
+
+others-le : (x n : ℕ) → length (others x n) ≤ n
+others-le x zero = omega arith
+others-le x (suc n) = go (eqb (suc n) x) (others-le x n)
+  where
+    go : (b : Bool) → length (others x n) ≤ n → length (cond b (others x n) (suc n ∷ others x n)) ≤ suc n
+    go true h = omega arith
+    go false h = omega arith
+
+others-few : (x n : ℕ) → 1 ≤ x → x ≤ n → length (others x n) < n
+others-few x zero a b = absurd (omega arith)
+others-few x (suc n) a b = go (others-few x n a) (eqb (suc n) x) refl
+  where
+    go : (x ≤ n → length (others x n) < n) → (t : Bool) → eqb (suc n) x ≡ t → length (cond t (others x n) (suc n ∷ others x n)) < suc n
+    go f true e = omega (arith, others-le x n)
+    go f false e =
+        ⊎-elim (λ q. absurd (eqb-false (suc n) x e (sym q))) (λ l. let h = f (omega arith) in omega arith) (eq-or-lt-of-le b)
+
+others-in : (x n y : ℕ) → 1 ≤ y → y ≤ n → (y ≡ x → ⊥) → In y (others x n)
+others-in x zero y a b c = absurd (omega arith)
+others-in x (suc n) y a b c = go (λ h. others-in x n y a h c) (eqb (suc n) x) refl (eq-or-lt-of-le b)
+  where
+    go : (y ≤ n → In y (others x n)) → (t : Bool) → eqb (suc n) x ≡ t → (y ≡ suc n) ⊎ (y < suc n) → In y (cond t (others x n) (suc n ∷ others x n))
+    go f true e (inl q) = absurd (c (q ∙ eqb-true (suc n) x e))
+    go f true e (inr l) = f (omega arith)
+    go f false e (inl q) = inl q
+    go f false e (inr l) = inr (f (omega arith))
+
+-- membership, among slots and among their sets
+in-mem : (f : ℕ → Set) (l : List ℕ) (y : ℕ) → In y l → mem (f y) (map f l) ≡ true
+in-mem f [] y m = absurd m
+in-mem f (a ∷ l) y m = ⊎-elim (λ e. let q : same (f a) (f y) ≡ true = ap (λ (k : ℕ). same (f k) (f y)) (sym e) ∙ same-self (f y) in rw q) (λ n. or-right (same (f a) (f y)) (mem (f y) (map f l)) (in-mem f l y n)) m
+  where
+    or-right : (b c : Bool) → c ≡ true → (b || c) ≡ true
+    or-right true c e = refl
+    or-right false c e = e
+
+pub record From (f : ℕ → Set) (l : List ℕ) (s : Set) : Type 0 where
+  pub slot : ℕ
+  pub there : In slot l
+  pub set : f slot ≡ s
+
+mem-in : (f : ℕ → Set) (l : List ℕ) (s : Set) → mem s (map f l) ≡ true → From f l s
+mem-in f [] s e = true-not-false (sym e)
+mem-in f (a ∷ l) s e = go (same (f a) s) refl e (mem-in f l s)
+  where
+    go : (b : Bool) → same (f a) s ≡ b → (b || mem s (map f l)) ≡ true → (mem s (map f l) ≡ true → From f l s) → From f (a ∷ l) s
+    go true p q ih = record { slot = a; there = inl refl; set = same-eq (f a) s p }
+    go false p q ih = let r = ih q in record { slot = r .slot; there = inr (r .there); set = r .set }
+
+in? : (x : ℕ) (l : List ℕ) → In x l ⊎ (In x l → ⊥)
+in? x [] = inr (λ m. m)
+in? x (y ∷ l) = go (eqb x y) refl (in? x l)
+  where
+    go : (b : Bool) → eqb x y ≡ b → In x l ⊎ (In x l → ⊥) → In x (y ∷ l) ⊎ (In x (y ∷ l) → ⊥)
+    go true e k = inl (inl (eqb-true x y e))
+    go false e (inl m) = inl (inr m)
+    go false e (inr n) = inr (λ m. ⊎-elim (eqb-false x y e) n m)
+
+module _ (limit : ℕ) (d : Directory) (s : Stores) (g : agreesb limit d s ≡ true) where
+  abbrev S : List ℕ
+  S = span (s .order) 0 (d .used)
+
+  pub covers : (x : ℕ) → 1 ≤ x → x ≤ d .used → In x S
+  covers x a b = ⊎-elim (λ m. m) (λ n. absurd (no n)) (in? x S)
+    where
+      slot : (y : ℕ) → In y S → (1 ≤ y) × (y ≤ d .used)
+      slot y m = span-in (λ (k : ℕ). (1 ≤ k) × (k ≤ d .used)) (s .order) 0 (d .used) (λ j u v. place-slot (d .used) (s .sets) (s .order) (places-right limit d s g) j (omega arith)) y m
+
+      no : (In x S → ⊥) → ⊥
+      no n =
+          let f = setAt (s .sets) in
+          let p = pigeon (map f S) (map f (others x (d .used))) (ascends limit d s g .1)
+          (λ w e. let r = mem-in f S w e in
+          let k = slot (r .slot) (r .there) in
+          subst (λ v. mem v (map f (others x (d .used))) ≡ true) (r .set) (in-mem f (others x (d .used)) (r .slot) (others-in x (d .used) (r .slot) (k .0) (k .1) (λ q. n (subst (λ (y : ℕ). In y S) q (r .there)))))) in
+          omega (arith, p, length-span f (s .order) 0 (d .used), length-map (others x (d .used)) f, others-few x (d .used) a b)

@@ -1,0 +1,212 @@
+-- The directory's calls are the map's steps, for any kind of series. Assumes nothing.
+use Prim.Native.Nat.{ℕ, zero, suc, _+_, _-_, _≤_, _<_, Ordering, Ordering·lt, Ordering·eq, Ordering·gt}
+use mathlib.Core.Path.{_≡_, refl, ap, sym, subst, _∙_}
+use mathlib.Core.Logic.{_⊎_, inl, inr, ⊎-elim}
+use mathlib.Core.Bool.{Bool, true, false, cond, not, _&&_, _||_}
+use mathlib.Core.List.{List, [], _∷_, _++_, map}
+use mathlib.Core.Option.{Option, none, some}
+use native.Mathlib.Omega.{arith}
+use native.Mathlib.Numerals.{add-one}
+use borrow.Author.Tests.{leb-true}
+use lib.Dec.{isEq, eqb, ltb, leb}
+use lib.ListN.{length, getD, set, take, drop}
+use lib.Seq.{getD-set-same, getD-set-other, take-append-le, length-take-le, take-take}
+use Rattle.tally.specs.Sets.{Set, three, cmp, same, Rising, Above}
+use Rattle.tally.specs.Kind.{Kind}
+use Rattle.tally.specs.Map.{Config, Entry, Map, Call, release, Answer, done, refuse, handle, Out, find, named, put, rebound, new, step, upfront, act, releaseAt, keys}
+use Rattle.laws.proofs.Cases.{none-not-some, lt-not-eq, gt-not-lt, gt-not-eq}
+use Rattle.tally.proofs.Order.{gt-lt, lt-gt, same-flip, cmp-self}
+use Rattle.laws.proofs.Cases.{and-true}
+use Rattle.tally.proofs.Ranks.{rank, put-new}
+use Rattle.directory.specs.All.{allb}
+use Rattle.directory.specs.Rows.{pair, size, span, setOf, soundb}
+use Rattle.directory.specs.View.{Stores, setAt, birthAt, placeAt, slotsb, agreesb, countsb, plainly, seek, sought, entryAt, view}
+use Rattle.laws.specs.Pick.{pick}
+use Rattle.directory.specs.Calls.{boundTo, scan, releasedIn, releasedAt, refused, Kept, Outcome, admitted, inserted}
+use Rattle.directory.specs.declared.Directory.{Directory}
+use Rattle.directory.specs.declared.Found.{Found}
+use Rattle.directory.specs.declared.Found.the-variants.{Held, Room}
+use Rattle.directory.specs.declared.Answer.the-variants.{Refused, Done, Handle}
+use Rattle.directory.specs.declared.Answer as ours
+use Rattle.directory.proofs.Agreed.{slot-sizes, place-slot, place-rise}
+use Rattle.directory.proofs.Checks.{set-named}
+use Rattle.directory.proofs.Rises.{In, keys-map, rising-span, above-span, after-empty}
+
+-- the slots of a directory, ascending by set
+abbrev pub slotsOf : Directory → Stores → List ℕ
+slotsOf d s = 0 ∷ span (s .order) 0 (d .used)
+
+-- agreement's parts
+module _ (limit : ℕ) (d : Directory) (s : Stores) (g : agreesb limit d s ≡ true) where
+  pub few : d .used ≤ limit + 1
+  unfolding agreesb
+  few = leb-true _ _ (and-true (leb (d .used) (limit + 1)) _ g .0)
+
+  pub slots-right : slotsb (d .used) (d .last) (s .sets) (s .entries) ≡ true
+  unfolding agreesb
+  slots-right = and-true (slotsb (d .used) (d .last) (s .sets) (s .entries)) _ (and-true (leb (d .used) (limit + 1)) _ g .1) .0
+
+  pub places-right : allb (d .used) (placeAt (s .sets) (s .order) (d .used)) ≡ true
+  unfolding agreesb
+  places-right = and-true (allb (d .used) (placeAt (s .sets) (s .order) (d .used))) _ (and-true (slotsb (d .used) (d .last) (s .sets) (s .entries)) _ (and-true (leb (d .used) (limit + 1)) _ g .1) .1) .0
+
+  -- its sets ascend
+  pub ascends : Rising (map (setAt (s .sets)) (slotsOf d s))
+  ascends = (
+    above-span (setAt (s .sets)) [] (s .order) 0 (d .used) (λ j a b. first j (omega arith)),
+    rising-span (setAt (s .sets)) (s .order) 0 (d .used) (λ j a b. place-rise (d .used) (s .sets) (s .order) places-right j (omega arith)),
+  )
+    where
+      first : (j : ℕ) → j < d .used → cmp [] (setAt (s .sets) (getD (s .order) j 0)) ≡ Ordering·lt
+      first j h =
+          let p = place-slot (d .used) (s .sets) (s .order) places-right j h in
+          rw (set-named (s .sets) (getD (s .order) j 0) (p .0)) (after-empty (getD (s .sets) (getD (s .order) j 0) []) (slot-sizes (d .used) (d .last) (s .sets) (s .entries) slots-right (getD (s .order) j 0) (p .0) (p .1) .0))
+
+-- the sets at the places, as rows
+pub place-climb : (used : ℕ) (sets : List (List ℕ)) (order : List ℕ) → allb used (placeAt sets order used) ≡ true → (k : ℕ) → suc k < used
+    → cmp (setOf (getD sets (getD order k 0) [])) (setOf (getD sets (getD order (suc k) 0) [])) ≡ Ordering·lt
+place-climb used sets order e k h =
+    let a = set-named sets (getD order k 0) (place-slot used sets order e k (omega arith) .0) in
+    let b = set-named sets (getD order (suc k) 0) (place-slot used sets order e (suc k) h .0) in
+    ap (λ r. cmp r (setOf (getD sets (getD order (suc k) 0) []))) (sym a)
+    ∙ ap (λ r. cmp (setAt sets (getD order k 0)) r) (sym b)
+    ∙ place-rise used sets order e k h
+
+-- what holds at each place holds of each slot
+pub span-in : (P : ℕ → Type 0) (l : List ℕ) (i k : ℕ) → ((j : ℕ) → i ≤ j → j < i + k → P (getD l j 0)) → (x : ℕ) → In x (span l i k) → P x
+span-in P l i zero h x m = absurd m
+span-in P l i (suc k) h x m =
+    ⊎-elim (λ e. subst P (sym e) (h i (omega arith) (omega arith))) (λ n. span-in P l (suc i) k (λ j a b. h j (omega arith) (omega arith)) x n) m
+
+-- a slot of the list is not below what all are above
+above-in : (g : ℕ → Set) (s : Set) (l : List ℕ) (x : ℕ) → Above s (map g l) → In x l → cmp s (g x) ≡ Ordering·lt
+above-in g s [] x a m = absurd m
+above-in g s (y ∷ l) x a m = ⊎-elim (λ e. rw e (a .0)) (λ n. above-in g s l x (a .1) n) m
+
+module _ (K : Kind) (f : ℕ → K .Series) (s : Stores) (x n : ℕ) where
+  abbrev s′ : Stores
+  s′ = record { sets = s .sets; entries = boundTo (s .entries) x n; order = s .order }
+
+  -- other slots' entries stay
+  rebind-other : (y : ℕ) → (y ≡ x → ⊥) → entryAt K f s′ y ≡ entryAt K f s y
+  unfolding boundTo
+  rebind-other zero h = rw (getD-set-other (s .entries) x zero (getD (getD (s .entries) x []) 0 0 ∷ n ∷ getD (getD (s .entries) x []) 2 0 ∷ []) [] h)
+  rebind-other (suc y) h = rw (getD-set-other (s .entries) x (suc y) (getD (getD (s .entries) x []) 0 0 ∷ n ∷ getD (getD (s .entries) x []) 2 0 ∷ []) [] h)
+
+  rebind-same : (y : ℕ) → y ≡ x → x < length (s .entries) → entryAt K f s′ y ≡ rebound K (entryAt K f s y) n
+  unfolding boundTo
+  rebind-same zero e h = rw (← e, getD-set-same (s .entries) zero (getD (getD (s .entries) zero []) 0 0 ∷ n ∷ getD (getD (s .entries) zero []) 2 0 ∷ []) [] (rw (← e) at h))
+  rebind-same (suc y) e h = rw (← e, getD-set-same (s .entries) (suc y) (getD (getD (s .entries) (suc y) []) 0 0 ∷ n ∷ getD (getD (s .entries) (suc y) []) 2 0 ∷ []) [] (rw (← e) at h))
+
+  keep-map : (l : List ℕ) → (In x l → ⊥) → map (entryAt K f s′) l ≡ map (entryAt K f s) l
+  keep-map [] h = refl
+  keep-map (y ∷ l) h = rw (rebind-other y (λ e. h (inl (sym e))), keep-map l (λ m. h (inr m)))
+
+  -- changing the bindings of a slot that is held is putting its entry
+  pub rebind-put : (l : List ℕ) → Rising (map (setAt (s .sets)) l) → In x l → x < length (s .entries) → map (entryAt K f s′) l ≡ put K (rebound K (entryAt K f s x) n) (map (entryAt K f s) l)
+  rebind-put [] g m h = absurd m
+  rebind-put (y ∷ l) g m h = ⊎-elim here (there (λ i. rebind-put l (g .1) i h)) m
+    where
+      self : (z : ℕ) → z ≡ y → In z l → ⊥
+      self z e i = lt-not-eq (sym (above-in (setAt (s .sets)) (setAt (s .sets) y) l z (g .0) i) ∙ rw e (cmp-self (setAt (s .sets) y)))
+
+      here : x ≡ y → map (entryAt K f s′) (y ∷ l) ≡ put K (rebound K (entryAt K f s x) n) (map (entryAt K f s) (y ∷ l))
+      here e =
+          let c : cmp (setAt (s .sets) x) (setAt (s .sets) y) ≡ Ordering·eq = rw e (cmp-self (setAt (s .sets) y)) in
+          let p : rebound K (entryAt K f s y) n ≡ rebound K (entryAt K f s x) n = ap (λ k. rebound K (entryAt K f s k) n) (sym e) in
+          rw (c, rebind-same y (sym e) h, keep-map l (self x e)) (ap (λ r. r ∷ map (entryAt K f s) l) p)
+
+      there : (In x l → map (entryAt K f s′) l ≡ put K (rebound K (entryAt K f s x) n) (map (entryAt K f s) l)) → In x l → map (entryAt K f s′) (y ∷ l) ≡ put K (rebound K (entryAt K f s x) n) (map (entryAt K f s) (y ∷ l))
+      there k i =
+          let c : cmp (setAt (s .sets) x) (setAt (s .sets) y) ≡ Ordering·gt = lt-gt (setAt (s .sets) y) (setAt (s .sets) x) (above-in (setAt (s .sets)) (setAt (s .sets) y) l x (g .0) i) in
+          rw (c, rebind-other y (λ e. self x (sym e) i)) (ap (λ r. entryAt K f s y ∷ r) (k i))
+
+-- the scan for a handle
+module _ (K : Kind) (f : ℕ → K .Series) (s : Stores) (h : ℕ) where
+  abbrev entryOf : Found → Option (Entry K)
+  entryOf (Held x) = some (entryAt K f s x)
+  entryOf (Room r) = none
+
+  named-step : (b : Bool) (y : ℕ) (l : List ℕ) → named K h (map (entryAt K f s) l) ≡ entryOf (scan h (s .entries) l)
+      → cond b (some (entryAt K f s y)) (named K h (map (entryAt K f s) l)) ≡ entryOf (pick b (Held y) (scan h (s .entries) l))
+  unfolding pick
+  named-step true y l e = refl
+  named-step false y l e = e
+
+  pub named-scan : (l : List ℕ) → named K h (map (entryAt K f s) l) ≡ entryOf (scan h (s .entries) l)
+  named-scan [] = refl
+  named-scan (y ∷ l) = named-step (eqb (birthAt (s .entries) y) h && ltb 0 (getD (getD (s .entries) y []) 1 0)) y l (named-scan l)
+
+held-is : (x y : ℕ) → Held x ≡ Held y → x ≡ y
+held-is x y e = cc
+
+room-no : {A : Type 0} (r x : ℕ) → Room r ≡ Held x → A
+room-no r x e = let z : _≡_ {A = ℕ} 0 1 = cc in absurd (omega arith)
+
+module _ (h : ℕ) (entries : List (List ℕ)) (x : ℕ) where
+  in-step : (b : Bool) (y : ℕ) (l : List ℕ) → (scan h entries l ≡ Held x → In x l) → pick b (Held y) (scan h entries l) ≡ Held x → In x (y ∷ l)
+  unfolding pick
+  in-step true y l k e = inl (sym (held-is y x e))
+  in-step false y l k e = inr (k e)
+
+  pub scan-in : (l : List ℕ) → scan h entries l ≡ Held x → In x l
+  scan-in [] e = room-no 0 x e
+  scan-in (y ∷ l) e = in-step (eqb (birthAt entries y) h && ltb 0 (getD (getD entries y []) 1 0)) y l (scan-in l) e
+
+-- a slot of the directory is one of those used
+pub slot-used : (limit : ℕ) (d : Directory) (s : Stores) → agreesb limit d s ≡ true → (x : ℕ) → In x (slotsOf d s) → x ≤ d .used
+slot-used limit d s g x m =
+    ⊎-elim (λ e. omega arith)
+    (λ i. span-in (λ (y : ℕ). y ≤ d .used) (s .order) 0 (d .used) (λ j a b. place-slot (d .used) (s .sets) (s .order) (places-right limit d s g) j (omega arith) .1) x i) m
+
+module _ (K : Kind) (f : ℕ → K .Series) (z : K .Settings) where
+  -- our answers as the map's
+  abbrev pub said : ours.Answer → Answer K
+  said (Refused n) = refuse n
+  said Done = done
+  said (Handle b) = handle b
+
+  release-step : (c : Config K) (d : Directory) (s : Stores) (h : ℕ) → agreesb (c .limit) d s ≡ true → c .limit + 2 ≤ length (s .entries)
+      → (o : Found) → scan h (s .entries) (slotsOf d s) ≡ o
+      → (said (releasedAt d s o .answer) ≡ step K c (view K f z d s) (release h) .answer)
+      × (view K f z (releasedAt d s o .kept .dir) (releasedAt d s o .kept .stores) ≡ step K c (view K f z d s) (release h) .map)
+  unfolding upfront act releaseAt
+  release-step c d s h g r (Room i) e =
+      let n : named K h (map (entryAt K f s) (slotsOf d s)) ≡ none = named-scan K f s h (slotsOf d s) ∙ ap (entryOf K f s h) e in
+      rw n (refl, refl)
+  release-step c d s h g r (Held x) e =
+      let n : named K h (map (entryAt K f s) (slotsOf d s)) ≡ some (entryAt K f s x) = named-scan K f s h (slotsOf d s) ∙ ap (entryOf K f s h) e in
+      let m = scan-in h (s .entries) x (slotsOf d s) e in
+      let u = slot-used (c .limit) d s g x m in
+      let w = few (c .limit) d s g in
+      let p = rebind-put K f s x (getD (getD (s .entries) x []) 1 0 - 1) (slotsOf d s) (ascends (c .limit) d s g) m (omega arith) in
+      rw n (refl, ap (λ l. record { settings = z; count = d .count; last = d .last; entries = l }) p)
+
+  released-right : (limit : ℕ) (d : Directory) (s : Stores) (h : ℕ) → agreesb limit d s ≡ true → releasedIn limit d s h ≡ releasedAt d s (scan h (s .entries) (slotsOf d s))
+  unfolding releasedIn pick
+  released-right limit d s h g = rw g
+
+  -- an outcome is the map's step: its answer, and the map that is then held
+  abbrev pub Steps : Config K → Map K → Call K → Outcome → Type 0
+  Steps c m x o = (said (o .answer) ≡ step K c m x .answer) × (view K f z (o .kept .dir) (o .kept .stores) ≡ step K c m x .map)
+
+  -- releasing is the map's step, where the directory agrees
+  pub release-faithful : (c : Config K) (d : Directory) (s : Stores) (h : ℕ) → agreesb (c .limit) d s ≡ true → c .limit + 2 ≤ length (s .entries)
+      → Steps c (view K f z d s) (release h) (releasedIn (c .limit) d s h)
+  release-faithful c d s h g r =
+      subst (λ o. Steps c (view K f z d s) (release h) o) (sym (released-right (c .limit) d s h g)) (release-step c d s h g r (scan h (s .entries) (slotsOf d s)) refl)
+
+-- the cases of a release
+module _ (limit : ℕ) (d : Directory) (s : Stores) (h : ℕ) where
+  pub release-no : agreesb limit d s ≡ false → releasedIn limit d s h ≡ refused 8 d s
+  unfolding releasedIn pick
+  release-no g = rw g
+
+  module _ (g : agreesb limit d s ≡ true) where
+    pub release-none : (r : ℕ) → scan h (s .entries) (slotsOf d s) ≡ Room r → releasedIn limit d s h ≡ refused 7 d s
+    unfolding releasedIn pick
+    release-none r e = rw (g, e)
+
+    pub release-one : (x : ℕ) → scan h (s .entries) (slotsOf d s) ≡ Held x → releasedIn limit d s h ≡ releasedAt d s (Held x)
+    unfolding releasedIn pick
+    release-one x e = rw (g, e)

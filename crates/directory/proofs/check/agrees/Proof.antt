@@ -1,0 +1,81 @@
+use borrow.Author.Needs.{needs}
+use mathlib.Core.Path.{_≡_, sym, _∙_}
+use mathlib.Core.Bool.{Bool, true, false}
+use borrow.Author.Tests.{not-true, not-false}
+use native.Mathlib.Omega.{arith}
+use Rattle.directory.specs.View.{Stores, slotsb}
+use Rattle.directory.proofs.Agreed.{agree-far, agree-slots, agree-places, agree-counts, slot-sizes, placed-broken, placed-plain}
+use borrow.Author.Needs.{needs}
+use Rattle.directory.proofs.check.agrees.Statement.{statement}
+use Rattle.directory.proofs.check.agrees.Tie as tie
+use Rattle.directory.proofs.check.agrees.Reads as reads
+use Rattle.directory.proofs.check.agrees.Lts as lts
+use Rattle.directory.proofs.check.counts.Reads as counts-reads
+use Rattle.directory.proofs.check.places.Reads as places-reads
+use Rattle.directory.proofs.check.slots.Reads as slots-reads
+
+abbrev stores : tie.Start → Stores
+stores s = record { sets = s .args .sets .now; entries = s .args .entries .now; order = s .args .order .now }
+
+-- the slots are right
+right : (e : tie.Else2) → slotsb (e .before .before .before .before .args .d .used) (e .before .before .before .before .args .d .last) (e .before .before .before .before .args .sets .now) (e .before .before .before .before .args .entries .now) ≡ true
+right e = sym (e .before .slots .ensures) ∙ not-false _ (e .if2 .left)
+
+add-if1 : tie.Need-add-if1
+add-if1 c = search needs
+
+returns : tie.Need-returns
+returns c = let s = c .before .before in sym (agree-far (s .args .limit) (s .args .d) (stores s) (c .if1 .taken))
+
+slots-requires : tie.Need-slots-requires
+slots-requires c κs = search needs
+
+returns-2 : tie.Need-returns-2
+returns-2 c =
+    let e = c .before .before in
+    let s = e .before .before in
+    sym (agree-slots (s .args .limit) (s .args .d) (stores s) (e .if1 .left) (sym (c .before .slots .ensures) ∙ not-true _ (c .if2 .taken)))
+
+places-requires : tie.Need-places-requires
+places-requires c κs =
+    let s = c .before .before .before .before in
+    (search needs, search needs, slot-sizes (s .args .d .used) (s .args .d .last) (s .args .sets .now) (s .args .entries .now) (right c))
+
+enum-told : tie.Need-enum-told
+enum-told c = search needs
+
+enum-known-n : tie.Need-enum-known-n
+enum-known-n c = search needs
+
+counts-requires : tie.Need-counts-requires
+counts-requires c κs = search needs
+
+returns-3 : tie.Need-returns-3
+returns-3 c =
+    let p = c .before .before in
+    let e = p .before in
+    let s = e .before .before .before .before in
+    sym (agree-places (s .args .limit) (s .args .d) (stores s) (e .before .before .if1 .left) (right e) (placed-broken (s .args .d .used) (s .args .sets .now) (s .args .order .now) (sym (p .places .ensures) ∙ c .enum-told .given .1)))
+
+returns-4 : tie.Need-returns-4
+returns-4 c =
+    let p = c .before .before .before .before in
+    let e = p .before in
+    let s = e .before .before .before .before in
+    c .counts .ensures
+    ∙ sym (agree-counts (s .args .limit) (s .args .d) (stores s) (e .before .before .if1 .left) (right e) _ (placed-plain (s .args .d .used) (s .args .sets .now) (s .args .order .now) _ (sym (p .places .ensures) ∙ c .before .before .n .given .1)))
+
+pub agrees-spec : {M : Type 1} → statement M
+agrees-spec =
+    tie.close
+    (tie.spec
+    add-if1
+    returns
+    slots-requires
+    returns-2
+    places-requires
+    enum-told
+    enum-known-n
+    counts-requires
+    returns-3
+    returns-4)

@@ -1,0 +1,23 @@
+-- `directory::holds` meets its contract. Assumes nothing.
+use Prim.Native.Nat.{ℕ, _+_, _-_, _≤_, _<_}
+use mathlib.Core.Path.{_≡_, refl, ap, sym, _∙_}
+use mathlib.Core.Bool.{Bool, true, false}
+use borrow.Author.Tests.{not-true, not-false}
+use native.Mathlib.Omega.{arith}
+use Rattle.directory.proofs.Refusals.{under-two, too-few, as-many}
+use Rattle.directory.proofs.holds.Statement.{statement}
+use Rattle.directory.proofs.holds.Tie as tie
+use Rattle.directory.proofs.holds.Reads as reads
+use Rattle.directory.proofs.holds.Lts as lts
+
+returns : tie.Need-returns
+returns c = under-two (c .before .args .limit) (c .before .args .n) (c .if1 .taken)
+
+returns-2 : tie.Need-returns-2
+returns-2 c = let s = c .before .before in too-few (s .args .limit) (s .args .n) (c .before .if1 .left) (c .if2 .taken)
+
+returns-3 : tie.Need-returns-3
+returns-3 c = let s = c .before .before in as-many (s .args .limit) (s .args .n) (c .before .if1 .left) (c .if2 .left)
+
+pub holds-spec : {M : Type 1} → statement M
+holds-spec = tie.close (tie.spec returns returns-2 returns-3)

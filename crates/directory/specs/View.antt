@@ -1,0 +1,94 @@
+-- The directory in its stores: when it agrees with itself, and what map it is. Assumes nothing.
+use Prim.Native.Nat.{ℕ, zero, suc, _+_, _-_, Ordering, Ordering·lt, Ordering·eq, Ordering·gt}
+use mathlib.Core.Bool.{Bool, true, false, cond, not, _&&_, _||_}
+use mathlib.Core.List.{List, [], _∷_, _++_, map}
+use mathlib.Core.Option.{none, some}
+use lib.Dec.{ltb, leb, eqb}
+use lib.ListN.{getD, set, take, drop}
+use Rattle.tally.specs.Sets.{Set, three, cmp, same}
+use Rattle.tally.specs.Kind.{Kind}
+use Rattle.tally.specs.Map.{Entry, Map, plains}
+use Rattle.directory.specs.All.{allb}
+use Rattle.directory.specs.Rows.{span, setOf, soundb}
+use Rattle.directory.specs.declared.Directory.{Directory}
+use Rattle.directory.specs.declared.Placed.{Placed}
+use Rattle.directory.specs.declared.Placed.the-variants.{Broken, Plain}
+use Rattle.directory.specs.declared.Found.{Found}
+use Rattle.directory.specs.declared.Found.the-variants.{Held, Room}
+
+pub record Stores : Type 0 where
+  pub sets : List (List ℕ)
+  pub entries : List (List ℕ)
+  pub order : List ℕ
+
+-- slot 0 is the empty set, with the birth number 0
+abbrev pub setAt : List (List ℕ) → ℕ → Set
+setAt sets zero = []
+setAt sets (suc x) = setOf (getD sets (suc x) [])
+
+abbrev pub birthAt : List (List ℕ) → ℕ → ℕ
+birthAt entries zero = 0
+birthAt entries (suc x) = getD (getD entries (suc x) []) 0 0
+
+abbrev pub below : Ordering → Bool
+below Ordering·lt = true
+below Ordering·eq = false
+below Ordering·gt = false
+
+-- the slot after x has 1 to 8 attributes with rising keys, and a later birth number than x
+abbrev pub slotAt : List (List ℕ) → List (List ℕ) → ℕ → Bool
+slotAt sets entries x = soundb (getD sets (x + 1) []) && ltb (birthAt entries x) (birthAt entries (x + 1))
+
+-- place k names a slot of those used, whose set comes after that of the place before
+abbrev pub placeAt : List (List ℕ) → List ℕ → ℕ → ℕ → Bool
+placeAt sets order used k =
+    (leb 1 (getD order k 0) && leb (getD order k 0) used) && (eqb k 0 || below (cmp (setAt sets (getD order (k - 1) 0)) (setAt sets (getD order k 0))))
+
+-- the sets that are neither empty nor overflow
+abbrev pub plainly : List (List ℕ) → List ℕ → ℕ → ℕ
+plainly sets order used = plains (map (setAt sets) (span order 0 used))
+
+unfoldable pub slotsb : ℕ → ℕ → List (List ℕ) → List (List ℕ) → Bool
+slotsb used last sets entries = allb used (slotAt sets entries) && leb (birthAt entries used) last
+
+unfoldable pub placed : ℕ → List (List ℕ) → List ℕ → Placed
+placed used sets order = cond (allb used (placeAt sets order used)) (Plain (plainly sets order used)) Broken
+
+-- the stored count is that of the plain sets, or one more if overflow is held, and at most the limit
+abbrev pub countsb : ℕ → ℕ → ℕ → ℕ → Bool
+countsb limit count used plain = leb count limit && (eqb count plain || (eqb count (plain + 1) && ltb plain used))
+
+-- the directory agrees with itself
+unfoldable pub agreesb : ℕ → Directory → Stores → Bool
+agreesb limit d s =
+    leb (d .used) (limit + 1)
+    && (slotsb (d .used) (d .last) (s .sets) (s .entries)
+    && (allb (d .used) (placeAt (s .sets) (s .order) (d .used))
+    && countsb limit (d .count) (d .used) (plainly (s .sets) (s .order) (d .used))))
+
+-- a scan of slots that ascend by set, from place i
+abbrev pub seek : Set → List (List ℕ) → List ℕ → ℕ → Found
+seek s sets [] i = Room i
+seek s sets (x ∷ l) i = three (cmp s (setAt sets x)) (Room i) (Held x) (seek s sets l (suc i))
+
+-- the slot that holds the set, or the place where it would stand among those named
+unfoldable pub sought : Set → ℕ → List (List ℕ) → List ℕ → Found
+sought s used sets order = cond (same s []) (Held 0) (seek s sets (span order 0 used) 0)
+
+-- the map that the stores hold: an entry that is not updated has no series; f gives the others', by slot
+module _ (K : Kind) (f : ℕ → K .Series) where
+  abbrev pub updatedAt : List (List ℕ) → ℕ → Bool
+  updatedAt entries x = not (eqb (getD (getD entries x []) 2 0) 0)
+
+  abbrev pub entryAt : Stores → ℕ → Entry K
+  entryAt s x =
+      record {
+        set = setAt (s .sets) x;
+        birth = birthAt (s .entries) x;
+        bindings = getD (getD (s .entries) x []) 1 0;
+        series = cond (updatedAt (s .entries) x) (some (f x)) none;
+      }
+
+  abbrev pub view : K .Settings → Directory → Stores → Map K
+  view z d s =
+      record { settings = z; count = d .count; last = d .last; entries = map (entryAt s) (0 ∷ span (s .order) 0 (d .used)) }

@@ -1,0 +1,97 @@
+// Where a set, or a handle, stands in the directory.
+ghost use mathlib.Core.Path.{_≡_};
+ghost use mathlib.Core.Bool.{_&&_};
+ghost use mathlib.Core.List.{[], _∷_};
+ghost use Prim.Native.Nat.{ℕ, suc, _+_, _<_, _≤_, Ordering·lt};
+ghost use lib.Dec.{eqb, ltb};
+ghost use lib.ListN.{length, getD};
+ghost use Rattle.tally.specs.Sets.{cmp};
+ghost use Rattle.directory.specs.Rows.{span, size, setOf};
+ghost use Rattle.directory.specs.View.{sought};
+ghost use Rattle.directory.specs.Calls.{located, scan};
+
+// Where a set stands in a directory whose places are right, by halving.
+pub fn find(used: usize, sets: &[[u64; 9]], order: &[u32], wanted: &[u64; 9]) -> crate::Found
+    requires { ⌜ (used < length (now sets)) × (used ≤ length (now order)) × (size (now wanted) ≤ 8) × ((k : ℕ) → k < used → (1 ≤ getD (now order) k 0) × (getD (now order) k 0 ≤ used)) × ((x : ℕ) → 1 ≤ x → x ≤ used → size (getD (now sets) x []) ≤ 8) × ((k : ℕ) → suc k < used → cmp (setOf (getD (now sets) (getD (now order) k 0) [])) (setOf (getD (now sets) (getD (now order) (suc k) 0) [])) ≡ Ordering·lt) ⌝ }
+    ensures { λ r. ⌜ r ≡ sought (setOf (now (wanted .entry))) used (now (sets .entry)) (now (order .entry)) ⌝ }
+{
+    if wanted[8] == 0 {
+        return crate::Found::Held(0);
+    }
+    let mut low: usize = 0;
+    let mut high: usize = used;
+    while low < high {
+        let mid = low + (high - low) / 2;
+        let q = order[mid] as usize;
+        let w = crate::rows::compare(wanted, &sets[q]);
+        match w {
+            crate::Way::Before => high = mid,
+            crate::Way::Same => return crate::Found::Held(q),
+            crate::Way::After => low = mid + 1,
+        }
+    }
+    crate::Found::Room(low)
+}
+
+// Whether an entry is the one that a handle names, with bindings.
+pub fn names(birth: u64, bindings: u64, h: u64) -> bool
+    ensures { λ r. ⌜ r ≡ (eqb birth h && ltb 0 bindings) ⌝ }
+{
+    if birth == h {
+        if bindings > 0 {
+            return true;
+        }
+        return false;
+    }
+    false
+}
+
+// The slot that a handle names, if it has bindings.
+pub fn by_handle(used: usize, entries: &[[u64; 3]], order: &[u32], h: u64) -> crate::Found
+    requires { ⌜ (used < length (now entries)) × (used ≤ length (now order)) × ((k : ℕ) → k < used → (1 ≤ getD (now order) k 0) × (getD (now order) k 0 ≤ used)) ⌝ }
+    ensures { λ r. ⌜ r ≡ scan h (now (entries .entry)) (0 ∷ span (now (order .entry)) 0 used) ⌝ }
+{
+    if names(0, entries[0][1], h) {
+        return crate::Found::Held(0);
+    }
+    let mut i: usize = 0;
+    while i < used {
+        let q = order[i] as usize;
+        if names(entries[q][0], entries[q][1], h) {
+            return crate::Found::Held(q);
+        }
+        i += 1;
+    }
+    crate::Found::Room(0)
+}
+
+// Where a call with a set goes.
+pub fn locate(
+    limit: u64,
+    d: crate::Directory,
+    sets: &[[u64; 9]],
+    entries: &[[u64; 3]],
+    order: &[u32],
+    row: &[u64; 9],
+) -> crate::Target
+    requires { ⌜ (limit + 2 ≤ length (now sets)) × (limit + 2 ≤ length (now entries)) × (limit + 2 ≤ length (now order)) × (size (now row) ≤ 8) ⌝ }
+    ensures { λ r. ⌜ r ≡ located limit d (record { sets = now (sets .entry); entries = now (entries .entry); order = now (order .entry) }) (now (row .entry)) ⌝ }
+{
+    if !crate::check::agrees(limit, d, sets, entries, order) {
+        return crate::Target::Disagrees;
+    }
+    let used = d.used;
+    match find(used, sets, order, row) {
+        crate::Found::Held(x) => crate::Target::Old(x),
+        crate::Found::Room(r) => {
+            if d.count < limit {
+                return crate::Target::New(r);
+            }
+            let over: [u64; 9] = [18446744069414584321, 0, 0, 0, 0, 0, 0, 0, 1];
+            match find(used, sets, order, &over) {
+                crate::Found::Held(x) => crate::Target::Old(x),
+                crate::Found::Room(q) => crate::Target::Over(q),
+            }
+        }
+    }
+}

@@ -6,7 +6,7 @@ pub mod signed;
 ghost use mathlib.Core.Path.{_≡_};
 ghost use Prim.Native.Nat.{_+_, _*_, _^_, _≤_, _<_};
 ghost use Rattle.index.specs.Answers.{binOf, binOrZero};
-ghost use Rattle.index.specs.Bins.{finest, finestBin, binAt};
+ghost use Rattle.index.specs.Bins.{finest, finestBin, binAt, lowestBin, endBin};
 ghost use Rattle.index.specs.Frexp.{PartsOf};
 
 // The greatest level, that of scale 10.
@@ -123,6 +123,25 @@ pub fn get_bin(v: f64, level: u32) -> Bin
             Bin::At { negative, bin }
         }
     }
+}
+
+// The bin of 2^-1074 at the finest level.
+const LOWEST: u32 = 997375;
+
+// The bins of a level run from this one ..
+pub fn lowest_bin(level: u32) -> u32
+    requires { ⌜ level ≤ finest ⌝ }
+    ensures { λ r. ⌜ r ≡ lowestBin level ⌝ }
+{
+    LOWEST >> (FINEST - level)
+}
+
+// .. to the one before this.
+pub fn end_bin(level: u32) -> u64
+    requires { ⌜ level ≤ finest ⌝ }
+    ensures { λ r. ⌜ r ≡ endBin level ⌝ }
+{
+    3u64 << level
 }
 
 // For programs in other languages: the bin of v at a level, 0 where there is none (no f64 has the bin 0 at a level above 0).

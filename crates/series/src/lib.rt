@@ -70,25 +70,6 @@ pub fn row_of<'a>(c: Counts, negative: bool, pos: &'a [u64], neg: &'a [u64]) -> 
 
 // ---- agreement
 
-// The bin of 2^-1074 at the finest level.
-const LOWEST: u32 = 997375;
-
-// The bins of a level run from this one ..
-fn lowest_bin(level: u32) -> u32
-    requires { ⌜ level ≤ finest ⌝ }
-    ensures { λ r. ⌜ r ≡ lowestBin level ⌝ }
-{
-    LOWEST >> (index::FINEST - level)
-}
-
-// .. to the one before this.
-fn end_bin(level: u32) -> u64
-    requires { ⌜ level ≤ finest ⌝ }
-    ensures { λ r. ⌜ r ≡ endBin level ⌝ }
-{
-    3u64 << level
-}
-
 fn row_agrees(counts: &[u64], row: Row, size: usize, level: u32) -> bool
     requires { ⌜ level ≤ finest ⌝ }
     ensures { λ r. ⌜ r ≡ rowAgrees size level row (now (counts .entry)) ⌝ }
@@ -104,10 +85,10 @@ fn row_agrees(counts: &[u64], row: Row, size: usize, level: u32) -> bool
     if counts.len() < n {
         return false;
     }
-    if start < lowest_bin(level) {
+    if start < index::lowest_bin(level) {
         return false;
     }
-    if end_bin(level) < start as u64 + n as u64 {
+    if index::end_bin(level) < start as u64 + n as u64 {
         return false;
     }
     if counts[0] == 0 {

@@ -9,8 +9,6 @@ use Rattle.series.proofs.row_agrees.Statement.{statement}
 use Rattle.series.proofs.row_agrees.Tie as tie
 use Rattle.series.proofs.row_agrees.Reads as reads
 use Rattle.series.proofs.row_agrees.Lts as lts
-use Rattle.series.proofs.lowest_bin.Reads as lowest-bin-reads
-use Rattle.series.proofs.end_bin.Reads as end-bin-reads
 
 returns : tie.Need-returns
 returns c =

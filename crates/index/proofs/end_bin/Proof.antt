@@ -1,12 +1,9 @@
-use Prim.Native.Nat.{ℕ, suc, _+_, _-_, _*_, _/_, _%_, _^_, _≤_, _<_}
-use mathlib.Core.Path.{_≡_, refl, sym, ap, _∙_, subst}
+-- `index::end_bin` meets its contract. Assumes nothing.
 use native.Mathlib.Omega.{arith}
 use borrow.Author.Needs.{needs}
 use lib.Pow.{shl-exact}
-use Rattle.series.proofs.end_bin.Statement.{statement}
-use Rattle.series.proofs.end_bin.Tie as tie
-use Rattle.series.proofs.end_bin.Reads as reads
-use Rattle.series.proofs.end_bin.Lts as lts
+use Rattle.index.proofs.end_bin.Statement.{statement}
+use Rattle.index.proofs.end_bin.Tie as tie
 
 shl-result : tie.Need-shl-result
 shl-result c = search needs

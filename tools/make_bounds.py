@@ -5,7 +5,7 @@ crates/bounds/specs/Table.antt, the same numbers for the proof, and crates/index
 Entry k is the largest whole number m with m^1024 <= 2^(k + 53248): the upper bound 2^(k/1024) of a bucket at scale 10,
 in units of 2^-52, rounded down. It is found by halving an interval of whole numbers; no logarithm and no float plays a part.
 The guess is made of logarithms in floats: nothing rests on it but the time that the exact rank takes.
-Run from the repository's root: python3 tools/make_bounds.py"""
+Run from the repository's root: python3 tools/make_bounds.py && rt fmt"""
 
 from math import log2
 

@@ -103,18 +103,18 @@ shifted t j u e l h =
     back : (j u : ℕ) → j + u ≡ 52 → 974 ≡ u + (974 - u)
     back j u e = omega arith
 
-pub normalised : (t : ℕ) → 0 < t → t < 2 ^ 52 → (11 ≤ leadingZeros 64 t) × Shifted t (leadingZeros 64 t - 11)
+pub normalised : (t : ℕ) → 0 < t → t < 2 ^ 52 → (12 ≤ leadingZeros 64 t) × Shifted t (leadingZeros 64 t - 11)
 normalised t p h =
     let w : 2 ^ 52 ≤ 2 ^ 64 = lit≤ tt in
     go (leadingZeros 64 t) (leading-top 64 t p (lt-of-lt-of-le h w))
   where
-    enough : (z j : ℕ) → z + suc j ≡ 64 → j < 52 → 11 ≤ z
+    enough : (z j : ℕ) → z + suc j ≡ 64 → j < 52 → 12 ≤ z
     enough z j e g = omega arith
 
     sum : (z j : ℕ) → z + suc j ≡ 64 → j < 52 → j + (z - 11) ≡ 52
     sum z j e g = omega arith
 
-    go : (z : ℕ) → ((j : ℕ) × (z + suc j ≡ 64) × (2 ^ j ≤ t) × (t < 2 ^ suc j)) → (11 ≤ z) × Shifted t (z - 11)
+    go : (z : ℕ) → ((j : ℕ) × (z + suc j ≡ 64) × (2 ^ j ≤ t) × (t < 2 ^ suc j)) → (12 ≤ z) × Shifted t (z - 11)
     go z r =
         let j = r .0 in
         let g : j < 52 = pow-lt-back j 52 (lt-of-le-of-lt (r .2) h) in

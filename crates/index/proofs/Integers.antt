@@ -86,9 +86,6 @@ signed u t w b B e i =
 
 -- ---- a magnitude has one index
 
-unit-pos : (u : ℕ) → 0 < unit u
-unit-pos u = subst (λ (k : ℕ). 0 < k) (sym (pow-mul 2 2048 (2 ^ u))) (pow-pos (2048 * 2 ^ u))
-
 -- x - y is no more than v - z
 ordered : (u t w x y v z : ℕ) → InBucket u t w (pos x -ℤ pos y) → InBucket u t w (pos v -ℤ pos z) → x + z ≤ v + y
 ordered u t w x y v z i j =

@@ -6,7 +6,7 @@ use native.Mathlib.Nat.{pow-le-pow-left, lt-of-lt-of-le, le-trans, le-of-eq, mul
 use native.Mathlib.Omega.{arith}
 use borrow.Author.Tests.{ltb-true, lt-ltb}
 use lib.Dec.{T, ltb, lit<, lit≤}
-use lib.Ieee.{Float, nan, inf, fin, neg, binary64, fits}
+use lib.Ieee.{Float, nan, inf, fin, neg, binary64, fits, ofBits, ofFields}
 use lib.Ieee.Scale.{finite}
 use lib.Pow.{pow-add, pow-pos, pow-mono, shr-shr, shr-mono, high, ones-lt}
 use Rattle.index.specs.Magnitude.{magnitude}
@@ -49,6 +49,14 @@ least = 2 ^ 52 * 2 ^ 922
 
 abbrev pub greatest : ℕ
 greatest = (2 ^ 53 - 1) * 2 ^ 3019
+
+pub least-is : magnitude (ofBits binary64 1) ≡ least
+unfolding magnitude ofBits ofFields
+least-is = refl
+
+pub greatest-is : magnitude (ofBits binary64 0x7fef_ffff_ffff_ffff) ≡ greatest
+unfolding magnitude ofBits ofFields
+greatest-is = refl
 
 pub lowest-is : (level : ℕ) → binAt level least ≡ lowestBin level
 lowest-is level = ap (λ (b : ℕ). b / 2 ^ (finest - level)) (finest-from (2 ^ 52) 922 0 (lit≤ tt) (record { small = lit≤ tt; above = lit< tt; within = lit≤ tt }))

@@ -9,7 +9,7 @@ const START: u32 = 0;
 
 const SIGN: u32 = 1;
 
-const NAUGHT: u32 = 2;
+const ZERO: u32 = 2;
 
 const SCALE: u32 = 3;
 
@@ -44,7 +44,7 @@ fn at(line: Line, part: u32) -> Line {
 
 // A digit of the scale: no leading zero, no -0, and at most three digits, which is more than any scale has.
 fn scale_digit(line: Line, digit: u32) -> Line {
-    if line.part == NAUGHT || 99 < line.size {
+    if line.part == ZERO || 99 < line.size {
         return at(line, BAD);
     }
     let mut next = line;
@@ -53,7 +53,7 @@ fn scale_digit(line: Line, digit: u32) -> Line {
         return at(next, SCALE);
     }
     if line.part == START {
-        at(next, NAUGHT)
+        at(next, ZERO)
     } else {
         at(next, BAD)
     }
@@ -64,7 +64,7 @@ fn scale_byte(line: Line, byte: u8) -> Line {
         return scale_digit(line, (byte - b'0') as u32);
     }
     if byte == b' ' {
-        return if line.part == NAUGHT || line.part == SCALE {
+        return if line.part == ZERO || line.part == SCALE {
             at(line, BITS)
         } else {
             at(line, BAD)

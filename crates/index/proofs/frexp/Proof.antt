@@ -27,7 +27,7 @@ digits c = toBits binary64 (x c) % 2 ^ 52
 digits-lt : (c : tie.Start) → digits c < 2 ^ 52
 digits-lt c = mod-lt (toBits binary64 (x c)) (pow-pos 52)
 
-shift : (c : tie.Else4) → (11 ≤ leadingZeros 64 (digits (c .before .before .before .before))) × Shifted (digits (c .before .before .before .before)) (leadingZeros 64 (digits (c .before .before .before .before)) - 11)
+shift : (c : tie.Else4) → (12 ≤ leadingZeros 64 (digits (c .before .before .before .before))) × Shifted (digits (c .before .before .before .before)) (leadingZeros 64 (digits (c .before .before .before .before)) - 11)
 shift c = normalised (digits (c .before .before .before .before)) (search needs) (digits-lt (c .before .before .before .before))
 
 returns : tie.Need-returns
@@ -46,7 +46,7 @@ returns-3 c =
     (i .finite, i .size ∙ ap (λ (k : ℕ). k * 2 ^ 974) (c .if4 .taken) ∙ zero-mul (2 ^ 974))
 
 sub-up : tie.Need-sub-up
-sub-up c = shift c .0
+sub-up c = omega (arith, shift c .0)
 
 cast-mantissa : tie.Need-cast-mantissa
 cast-mantissa c = record { fits = omega (arith, shift c .1 .by) }

@@ -1,10 +1,9 @@
 -- The tests of bounds, counts and calls, case by case. Assumes nothing.
-use Prim.Native.Nat.{ℕ, zero, suc, _+_, _-_, _*_, _/_, _%_, _^_, _≤_, _<_}
-use mathlib.Core.Path.{_≡_, refl, ap, sym, subst, _∙_}
-use mathlib.Core.Logic.{⊎-elim, _⊎_, inl, inr}
-use mathlib.Core.Bool.{Bool, true, false, not}
+use Prim.Native.Nat.{ℕ, _+_, _-_, _*_, _/_, _%_, _≤_, _<_}
+use mathlib.Core.Path.{_≡_, refl, sym, _∙_}
+use mathlib.Core.Logic.{⊎-elim, _⊎_}
+use mathlib.Core.Bool.{Bool, true, false}
 use mathlib.Core.List.{List, [], _∷_}
-use native.Mathlib.Nat.{eq-zero-or-pos}
 use native.Mathlib.Omega.{arith}
 use lib.Dec.{leb, eqb}
 use lib.ListN.{length, take, length-take}
@@ -14,7 +13,7 @@ use lib.Ieee.Scale.{finite}
 use borrow.Author.Tests.{leb-true, le-leb, lt-leb, eq-eqb, ne-eqb, eqb-true, eqb-false}
 use Rattle.laws.specs.Pick.{pick, _and_}
 use Rattle.laws.specs.Counting.{total}
-use Rattle.laws.proofs.Bools.{flag, and-left, and-right}
+use Rattle.laws.proofs.Bools.{flag, and-left}
 use Rattle.points.specs.Explicit.{noNan, rising, boundsPass, bucketCount, Buckets, bucketsAgree}
 use Rattle.points.proofs.Explicit.{BucketsOk, buckets-say, buckets-agree}
 use Rattle.series.proofs.Facts.{halves-same, halves-low, halves-high, eqb-iff}

@@ -2,10 +2,10 @@
 use Prim.Native.Nat.{ℕ, zero, suc, _+_, _-_, _^_, _≤_, _<_}
 use mathlib.Core.Path.{_≡_, refl, ap, sym, subst, _∙_}
 use mathlib.Core.Bool.{Bool, true, false, cond}
-use mathlib.Core.List.{List, [], _∷_, _++_, map, foldl}
+use mathlib.Core.List.{List, [], _∷_, foldl}
 use native.Mathlib.Omega.{arith}
-use lib.Dec.{T, eqb}
-use lib.ListN.{length, take, drop, replicate, length-set, length-replicate}
+use lib.Dec.{T}
+use lib.ListN.{length, take, replicate, length-set, length-replicate}
 use lib.Seq.{length-take-le}
 use lib.Ieee.{Float, lt, ofBits}
 use lib.Ieee.Scale.{finite}
@@ -14,7 +14,7 @@ use Rattle.laws.specs.Pick.{pick}
 use Rattle.laws.specs.Lists.{All}
 use Rattle.laws.specs.Counting.{count, table}
 use Rattle.floats.specs.Starts.{FiniteF64}
-use Rattle.points.specs.Explicit.{Buckets, bucketOf, bucketCount, boundsPass, bucketsOf, recordBucket, bucketsAgree}
+use Rattle.points.specs.Explicit.{Buckets, bucketCount, boundsPass, bucketsOf, recordBucket, bucketsAgree}
 use Rattle.points.specs.Values.{Summary, start, noted, summaryOf}
 use Rattle.points.proofs.Explicit.{recordBuckets, buckets-say, buckets-agree, record-buckets-ok, recordBuckets-of, bucketsOf-ok}
 use Rattle.rows.specs.Rows.{over}

@@ -1,16 +1,14 @@
 -- What recording and merging write. Assumes nothing.
-use Prim.Native.Nat.{ℕ, zero, suc, _+_, _-_, _*_, _/_, _^_, _≤_, _<_}
-use mathlib.Core.Path.{_≡_, refl, ap, sym, subst, _∙_}
-use mathlib.Core.Logic.{⊎-elim, _⊎_, inl, inr}
-use mathlib.Core.Bool.{Bool, true, false, cond}
+use Prim.Native.Nat.{ℕ, zero, suc, _+_, _-_, _^_, _≤_, _<_}
+use mathlib.Core.Path.{_≡_, refl, ap, sym, _∙_}
+use mathlib.Core.Logic.{⊎-elim, _⊎_}
+use mathlib.Core.Bool.{Bool, true, false}
 use mathlib.Core.List.{List, [], _∷_, _++_}
 use native.Mathlib.Nat.{eq-zero-or-pos}
 use native.Mathlib.Omega.{arith}
-use lib.Dec.{leb, eqb}
 use lib.ListN.{length, take, drop, getD, set, replicate, length-set}
 use lib.Seq.{length-take-le, getD-take}
 use lib.Ieee.{Float, binary64, add}
-use lib.Ieee.Scale.{finite}
 use borrow.Author.Tests.{leb-true, le-leb, lt-leb, eq-eqb, ne-eqb, eqb-false}
 use Rattle.laws.specs.Pick.{pick, _and_}
 use Rattle.laws.specs.Counting.{total}
@@ -20,12 +18,11 @@ use Rattle.rows.specs.Rows.{over}
 use Rattle.rows.specs.Rows.{zeroed}
 use Rattle.rows.proofs.Laws.{getD-le-total}
 use Rattle.rows.proofs.Adds.{over-zeroed}
-use Rattle.points.specs.Explicit.{bucketOf, bucketCount, Buckets, recordBucket, added, bucketsAgree}
-use Rattle.points.specs.Values.{noted}
-use Rattle.points.proofs.Explicit.{BucketsOk, buckets-say, bucket-le, length-added}
+use Rattle.points.specs.Explicit.{bucketOf, bucketCount, recordBucket, added, bucketsAgree}
+use Rattle.points.proofs.Explicit.{buckets-say, bucket-le, length-added}
 use Rattle.buckets.specs.declared.Head.{Head}
 use Rattle.buckets.specs.declared.Answer.the-variants.{Recorded, Refused}
-use Rattle.buckets.specs.Series.{mostCount, bucketsIn, headOf, summary, refusalOf, outcome, accepted, recording, freshHead, freshening}
+use Rattle.buckets.specs.Series.{mostCount, bucketsIn, refusalOf, outcome, recording, freshHead, freshening}
 use Rattle.buckets.proofs.Turns.{take-next}
 
 -- ---- one more in a bucket

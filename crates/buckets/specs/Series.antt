@@ -1,10 +1,9 @@
 -- A series of the explicit kind in a head and a lent row: what it holds, what recording does. Assumes nothing.
-use Prim.Native.Nat.{ℕ, _+_}
-use mathlib.Core.Bool.{Bool}
+use Prim.Native.Nat.{ℕ}
 use mathlib.Core.List.{List}
 use lib.Dec.{leb, eqb}
 use lib.ListN.{length, take, replicate}
-use lib.Ieee.{Float, binary64, add}
+use lib.Ieee.{Float}
 use lib.Ieee.Scale.{finite}
 use Rattle.laws.specs.Pick.{pick, _and_}
 use Rattle.rows.specs.Rows.{over}

@@ -1,35 +1,33 @@
 -- Rows joined, and points merged step by step, are what the definitions say. Assumes nothing.
-use Prim.Native.Nat.{ℕ, zero, suc, _+_, _-_, _*_, _/_, _^_, _≤_, _<_, min, max, pred}
-use Rattle.index.specs.Bins.{finest, endBin}
-use mathlib.Core.Path.{_≡_, refl, ap, sym, subst, _∙_}
+use Prim.Native.Nat.{ℕ, suc, _+_, _-_, _/_, _^_, _≤_, _<_, min, max, pred}
+use Rattle.index.specs.Bins.{finest}
+use mathlib.Core.Path.{_≡_, refl, ap, sym, _∙_}
 use mathlib.Core.Logic.{⊎-elim, _⊎_, inl, inr}
-use mathlib.Core.Bool.{Bool, true, false}
+use mathlib.Core.Bool.{true}
 use mathlib.Core.List.{List, [], _∷_, _++_, map, map-append, append-nil}
-use native.Mathlib.Nat.{add-zero, zero-add, eq-zero-or-pos}
 use native.Mathlib.Omega.{arith}
-use lib.Dec.{leb, eqb, eqb·suc-zero}
+use lib.Dec.{leb, eqb·suc-zero}
 use lib.ListN.{length, replicate, length-append}
 use lib.Pow.{shr-mono}
-use borrow.Author.Tests.{leb-true, le-leb}
+use borrow.Author.Tests.{le-leb}
 use Rattle.laws.specs.Pick.{pick, _and_}
-use Rattle.laws.specs.Counting.{sum, hit, count, lowest, highest, table}
+use Rattle.laws.specs.Counting.{hit, count, lowest, highest, table}
 use Rattle.laws.specs.Search.{least}
 use Rattle.laws.proofs.Bools.{and-left, and-right, and-intro}
 use Rattle.laws.proofs.Same.{sum-append}
-use Rattle.laws.proofs.Counting.{Ends, ends-of, ends-append, length-table}
-use Rattle.laws.proofs.Search.{Least, least-spec, least-is}
+use Rattle.laws.proofs.Counting.{ends-of, ends-append, length-table}
+use Rattle.laws.proofs.Search.{least-spec, least-is}
 use Rattle.points.specs.Points.{Row, at, rowOf, row, indices, fits, fitsBoth, scale, Bag, _⊕_, bag, Point, pointAt, build, merge}
 use Rattle.points.proofs.Rows.{Canonical, rowOf-canonical, at-rowOf}
-use Rattle.points.proofs.Agreement.{RowOk, Agreed, row-indices}
+use Rattle.points.proofs.Agreement.{Agreed, row-indices}
 use Rattle.points.proofs.Kept.{InRange, range-coarser, row-ok, BagIn, ⊕-in, bag-in}
-use Rattle.rows.specs.Rows as R
 use Rattle.rows.specs.Rows.{addAt, addAll, downscaled}
 use Rattle.rows.proofs.Laws.{length-addAt-in, length-addAt-out}
 use Rattle.rows.proofs.Algebra.{countAt, length-downscaled-is, le-or-lt}
 use Rattle.series.specs.Steps.{lowered, narrow, lowering}
-use Rattle.merges.specs.Merges.{joined, span, levelled, mergedLow, mergedSteps}
+use Rattle.merges.specs.Merges.{joined, span, mergedLow, mergedSteps}
 use Rattle.series.proofs.Counted.{row-by-ends, at-is, countAt-addAt, countAt-zeros, length-replicate, lowered-rowOf}
-use Rattle.series.proofs.Joint.{map-shr, row-lower, fits-on}
+use Rattle.series.proofs.Joint.{row-lower, fits-on}
 
 -- ---- counts added by bin
 

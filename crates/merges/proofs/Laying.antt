@@ -1,15 +1,15 @@
 -- Rows joined over what is lent: one is laid there first, then the other joined to it. Assumes nothing.
-use Prim.Native.Nat.{ℕ, zero, suc, _+_, _-_, _*_, _/_, _^_, _≤_, _<_, max}
+use Prim.Native.Nat.{ℕ, _+_, _-_, _/_, _^_, _≤_, _<_, max}
 use mathlib.Core.Path.{_≡_, refl, ap, sym, subst, _∙_}
-use mathlib.Core.Logic.{⊎-elim, _⊎_, inl, inr}
-use mathlib.Core.List.{List, [], _∷_, _++_}
+use mathlib.Core.Logic.{⊎-elim, _⊎_}
+use mathlib.Core.List.{List, _++_}
 use native.Mathlib.Nat.{eq-zero-or-pos, zero-div, div-one}
 use native.Mathlib.Omega.{arith}
 use lib.ListN.{length, take, replicate, length-append}
 use Rattle.laws.specs.Counting.{total}
 use Rattle.points.specs.Points as P
 use Rattle.points.proofs.Rows.{row-path}
-use Rattle.rows.specs.Rows.{over, addAll, downscaled}
+use Rattle.rows.specs.Rows.{over, downscaled}
 use Rattle.rows.specs.declared.Row.{Row}
 use Rattle.rows.proofs.Laws.{take-over, over-over, length-over, total-downscaled}
 use Rattle.series.specs.Steps.{lowered}

@@ -1,27 +1,25 @@
 -- Two series merged by their plan are what the definition says. Assumes nothing.
-use Prim.Native.Nat.{ℕ, zero, suc, _+_, _-_, _*_, _/_, _^_, _≤_, _<_, min, max, pred}
-use mathlib.Core.Path.{_≡_, refl, ap, sym, subst, _∙_}
-use mathlib.Core.Logic.{⊎-elim, _⊎_, inl, inr}
-use mathlib.Core.Bool.{Bool, true, false}
-use mathlib.Core.List.{List, [], _∷_, _++_}
+use Prim.Native.Nat.{ℕ, _+_, _-_, _^_, _≤_, _<_, min, max}
+use mathlib.Core.Path.{_≡_, ap, sym, subst, _∙_}
+use mathlib.Core.Logic.{⊎-elim, _⊎_}
+use mathlib.Core.List.{List}
 use native.Mathlib.Omega.{arith}
 use lib.ListN.{length, take}
 use lib.Seq.{length-take-le}
 use Rattle.laws.specs.Counting.{total}
 use Rattle.index.specs.Bins.{finest}
 use Rattle.points.specs.Points as P
-use Rattle.points.specs.Points.{Point, merge}
-use Rattle.points.proofs.Agreement as PA
+use Rattle.points.specs.Points.{Point}
 use Rattle.rows.specs.Rows.{over}
 use Rattle.rows.specs.declared.Row.{Row}
 use Rattle.rows.proofs.Algebra.{le-or-lt}
 use Rattle.series.specs.declared.Counts.{Counts}
-use Rattle.series.specs.Steps.{lowered, lowering}
-use Rattle.series.specs.Series.{lowestOfAll, rowIn, Laid, Written, read, countsFor}
+use Rattle.series.specs.Steps.{lowered}
+use Rattle.series.specs.Series.{lowestOfAll, rowIn, Laid, Written, read}
 use Rattle.series.proofs.Facts.{Agreed, agreed, pos-facts, neg-facts, level-in}
 use Rattle.series.proofs.Write.{level-pow}
 use Rattle.series.proofs.Rowed.{range}
-use Rattle.merges.specs.Merges.{joined, levelled, span, lowEnd, highEnd, joinedLen, common, spanOf, rowsLow, planOf, mergedLow, mergedSteps, Joinable, Lendable, Agreeing, mergedPoint, Roomy}
+use Rattle.merges.specs.Merges.{joined, levelled, span, joinedLen, common, spanOf, rowsLow, planOf, mergedLow, mergedSteps, Joinable, Lendable, Agreeing, mergedPoint, Roomy}
 use Rattle.merges.specs.declared.Plan.{Plan}
 use Rattle.merges.proofs.Joined as J
 use Rattle.merges.proofs.Spans.{span-is, len-is}

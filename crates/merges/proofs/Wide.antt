@@ -1,20 +1,17 @@
 -- Zeros in front of a row, and rows joined in place. Assumes nothing.
-use Prim.Native.Nat.{ℕ, zero, suc, _+_, _-_, _*_, _/_, _^_, _≤_, _<_, min, max, pred}
+use Prim.Native.Nat.{ℕ, zero, suc, _+_, _-_, _/_, _^_, _≤_, _<_, min, max}
 use mathlib.Core.Path.{_≡_, refl, ap, sym, subst, _∙_}
 use mathlib.Core.List.{List, [], _∷_, _++_, append-assoc, append-nil}
-use native.Mathlib.Nat.{add-zero, zero-add, sub-zero}
 use native.Mathlib.Omega.{arith}
-use lib.Dec.{leb, eqb}
-use lib.ListN.{length, take, drop, replicate, length-append, length-take, length-replicate}
-use lib.Seq.{length-take-le, drop-append-add}
+use lib.ListN.{length, take, drop, replicate, length-append, length-replicate}
+use lib.Seq.{length-take-le}
 use borrow.Author.Tests.{eq-eqb, ne-eqb}
 use Rattle.points.specs.Points as P
 use Rattle.rows.specs.Rows.{over, addAt, addAll, shifted, zeroed, downscaled}
 use Rattle.laws.specs.Counting.{total}
 use Rattle.rows.specs.declared.Row.{Row}
 use Rattle.rows.proofs.Laws.{take-over, over-over, length-over}
-use Rattle.series.specs.Steps.{lowered}
-use Rattle.series.specs.Series.{rowIn, Laid}
+use Rattle.series.specs.Series.{Laid}
 use Rattle.laws.specs.Pick.{pick}
 use Rattle.merges.specs.Merges.{joined, addLow}
 use Rattle.rows.proofs.Algebra.{length-downscaled-is, downscaled-some}

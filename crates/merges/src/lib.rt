@@ -1,13 +1,12 @@
 // Two series of the exponential kind merged, in place or into lent rows.
 ghost use mathlib.Core.Path.{_≡_};
-ghost use Prim.Native.Nat.{ℕ, _+_, _-_, _*_, _/_, _^_, _<_, _≤_, min, max, pred};
+ghost use Prim.Native.Nat.{_+_, _-_, _/_, _^_, _<_, _≤_, pred};
 ghost use lib.ListN.{length, take, replicate};
 ghost use mathlib.Core.List.{_++_};
 ghost use Rattle.rows.specs.Rows.{over};
 ghost use Rattle.laws.specs.Counting.{total};
 ghost use Rattle.series.specs.Steps.{lowered};
 ghost use Rattle.series.specs.Series.{rowIn, Laid, Written};
-ghost use Rattle.points.specs.Points.{merge};
 ghost use Rattle.index.specs.Bins.{finest};
 ghost use Rattle.merges.specs.Merges.{addLow, joined, Joinable, Lendable, Layable, lowEnd, highEnd, joinedLen, spanOf, common, rowsLow, planOf, Agreeing, mergedPoint, Roomy};
 use rows::Row;

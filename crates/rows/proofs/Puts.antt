@@ -1,16 +1,15 @@
 -- The laws of `add_at`. Assumes nothing.
-use mathlib.Core.Path.{_≡_, refl, sym, ap, _∙_, subst}
-use mathlib.Core.List.{List, [], _∷_, _++_}
-use Prim.Native.Nat.{ℕ, zero, suc, _+_, _-_, _/_, _^_, _≤_, _<_, zero-le, suc-le-suc}
-use native.Mathlib.Nat.{not-suc-le-zero, le-of-suc-le-suc, zero-add, add-zero, add-suc, suc-add}
+use mathlib.Core.Path.{_≡_, sym, ap, _∙_}
+use mathlib.Core.List.{List, _++_}
+use Prim.Native.Nat.{ℕ, _+_, _-_, _≤_, _<_}
+use native.Mathlib.Nat.{zero-add}
 use native.Mathlib.Numerals.{add-one}
 use native.Mathlib.Omega.{arith}
 use lib.ListN.{length, getD, take, set, replicate, length-append, length-take, length-replicate, List·getD-eq-default}
-use lib.Seq.{getD-take, length-take-le, take-suc}
-use Rattle.rows.specs.Rows.{over, addAt, addAll, zeroed, downscaled}
-use Rattle.laws.specs.Counting.{total}
-use Rattle.rows.proofs.Laws.{over-behind, length-downscaled, downscaled-reach, downscaled-snoc, total-downscaled, over-addAt, length-addAt-in, length-addAt-out, take-over, over-over, length-over, total-addAt, total-append, total-mono, total-step, getD-le-total}
-use Rattle.rows.proofs.Adds.{over-self, over-zeroed, addAt-pad, length-addAt}
+use lib.Seq.{getD-take, length-take-le}
+use Rattle.rows.specs.Rows.{over, addAt, zeroed}
+use Rattle.rows.proofs.Laws.{over-addAt, length-addAt-in, length-addAt-out}
+use Rattle.rows.proofs.Adds.{over-self, over-zeroed, addAt-pad}
 
 -- what `add_at` owes
 abbrev pub Put : (xs : List ℕ) (n k v r : ℕ) (ys : List ℕ) → Type 0

@@ -1,6 +1,6 @@
 // Rows of bucket counts of an exponential histogram, each at the front of a slice that is lent: `ExpoBuckets` of exponential_histogram.rs.
 ghost use mathlib.Core.Path.{_≡_};
-ghost use Prim.Native.Nat.{ℕ, _+_, _-_, _*_, _/_, _^_, _<_, _≤_};
+ghost use Prim.Native.Nat.{ℕ, _+_, _-_, _/_, _^_, _<_, _≤_};
 ghost use lib.ListN.{length, take, getD};
 ghost use Rattle.rows.specs.Rows.{over, addAt, downscaled, recorded, recordedFrom, zeroed, shifted};
 ghost use Rattle.laws.specs.Counting.{total};

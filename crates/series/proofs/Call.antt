@@ -1,24 +1,22 @@
 -- The call: its refusals in order, and that an accepted value makes the point that the definition says. Assumes nothing.
-use Prim.Native.Nat.{ℕ, zero, suc, _+_, _-_, _*_, _/_, _%_, _^_, _≤_, _<_}
-use Rattle.index.specs.Bins.{finest, endBin}
-use mathlib.Core.Path.{_≡_, refl, ap, sym, subst, _∙_}
-use mathlib.Core.Bool.{Bool, true, false, not, cond}
-use mathlib.Core.List.{List, [], _∷_, _++_}
+use Prim.Native.Nat.{ℕ, _-_, _^_, _≤_, _<_}
+use mathlib.Core.Path.{_≡_, refl, ap, _∙_}
+use mathlib.Core.Bool.{Bool, true, false}
+use mathlib.Core.List.{List}
 use native.Mathlib.Omega.{arith}
-use lib.Dec.{leb, eqb}
+use lib.Dec.{eqb}
 use lib.ListN.{length}
-use lib.Ieee.{Float, binary64, add, lt, fits}
+use lib.Ieee.{Float, binary64, add, fits}
 use lib.Ieee.Scale.{finite}
 use borrow.Author.Tests.{leb-true, le-leb, lt-leb, eq-eqb, ne-eqb, eqb-false}
-use Rattle.points.specs.Points.{Point, Value, naught, plus, minus, record1}
+use Rattle.points.specs.Points.{record1}
 use Rattle.series.specs.declared.Counts.{Counts}
 use Rattle.series.specs.declared.Head.{Head}
-use Rattle.series.specs.declared.Answer.{Answer}
 use Rattle.series.specs.declared.Answer.the-variants.{Recorded, Refused}
 use Rattle.index.specs.Answers.{binOf}
 use Rattle.series.specs.declared.Class.{Class}
-use Rattle.series.specs.Steps.{coarse, placed}
-use Rattle.series.specs.Series.{mostCount, agrees, read, countsFor, classAt, valueOf, Written, Ready, refusalOf, Outcome, outcome, headOf, accepted, recording}
+use Rattle.series.specs.Steps.{placed}
+use Rattle.series.specs.Series.{mostCount, agrees, read, classAt, valueOf, Written, Ready, refusalOf, outcome, accepted, recording}
 use Rattle.laws.specs.Pick.{pick, _and_}
 use Rattle.laws.proofs.Bools.{and-left, and-right}
 use Rattle.floats.specs.Answers.{lesserOf, greaterOf}

@@ -11,16 +11,14 @@ use lib.Pow.{pow-pos, pow-add}
 use borrow.Author.Tests.{le-leb, lt-leb, ne-eqb, eqb-false}
 use Rattle.laws.specs.Pick.{pick}
 use Rattle.floats.specs.Starts.{zeroFloat}
-use Rattle.points.specs.Points.{Value, naught, plus, minus}
+use Rattle.points.specs.Points.{naught, plus, minus}
 use Rattle.points.specs.Values.{classOf}
 use Rattle.points.proofs.Kept.{ValueIn}
 use Rattle.index.specs.Magnitude.{magnitude, isNegative}
-use Rattle.index.specs.Bins.{finest, finestBin, binAt, lowestBin, endBin}
+use Rattle.index.specs.Bins.{finest, finestBin, endBin}
 use Rattle.index.specs.Answers.{binOf}
-use Rattle.index.specs.declared.Bin.the-variants.{NoLevel, NotFinite, Zero, At}
+use Rattle.index.specs.declared.Bin.the-variants.{Zero, At}
 use Rattle.index.proofs.Laws.{bin-range}
-use Rattle.series.specs.declared.Class.{Class}
-use Rattle.series.specs.declared.Class.the-variants.{Naught, Plus, Minus}
 use Rattle.series.specs.Steps.{coarse}
 use Rattle.series.specs.Series.{lowestOfAll, classAt, valueOf, Within}
 

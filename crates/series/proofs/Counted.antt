@@ -1,20 +1,19 @@
 -- What each bin of a row counts, and that lowering and adding one are what the definition of a row says. Assumes nothing.
-use Prim.Native.Nat.{ℕ, zero, suc, _+_, _-_, _*_, _/_, _^_, _≤_, _<_, min, max, pred}
-use mathlib.Core.Path.{_≡_, refl, ap, sym, subst, _∙_}
-use mathlib.Core.Logic.{⊎-elim, _⊎_, inl, inr}
+use Prim.Native.Nat.{ℕ, zero, suc, _+_, _-_, _/_, _^_, _≤_, _<_, min, max}
+use mathlib.Core.Path.{_≡_, refl, ap, sym, _∙_}
+use mathlib.Core.Logic.{⊎-elim, _⊎_}
 use mathlib.Core.Bool.{Bool, true, false}
-use mathlib.Core.List.{List, [], _∷_, _++_, map, map-append}
-use native.Mathlib.Nat.{zero-div, add-zero, zero-add, add-suc, suc-add, add-assoc, min-eq-left, min-eq-right, max-eq-left, max-eq-right}
-use native.Mathlib.Decide.{ℕ-discrete, decLe}
+use mathlib.Core.List.{List, [], _∷_, _++_, map}
+use native.Mathlib.Nat.{zero-div, add-zero, min-eq-left, min-eq-right}
 use native.Mathlib.Omega.{arith}
-use lib.Dec.{leb, eqb, eqb·suc-zero}
-use lib.ListN.{length, getD, replicate, length-append}
+use lib.Dec.{eqb, eqb·suc-zero}
+use lib.ListN.{length, replicate, length-append}
 use lib.Seq.{ext-getD}
-use lib.Pow.{shr-shr, shr-mono}
-use Rattle.laws.specs.Counting.{sum, hit, count, lowest, highest, table}
+use lib.Pow.{shr-mono}
+use Rattle.laws.specs.Counting.{hit, count, lowest, highest, table}
 use Rattle.laws.proofs.Same.{sum-append, sum-map}
 use Rattle.laws.proofs.Counting.{Ends, ends-map, ends-append, ends-of, length-table}
-use Rattle.points.specs.Points.{Row, at, rowOf, row, expand}
+use Rattle.points.specs.Points.{Row, at, rowOf, expand}
 use Rattle.points.proofs.Rows.{at-in, at-rowOf, row-path, count-expand, expand-rowOf}
 use Rattle.points.proofs.Ends.{ends-row, bucket, sum-expand, sum-replicate}
 use Rattle.laws.specs.Pick.{pick}

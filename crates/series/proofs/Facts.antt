@@ -1,21 +1,20 @@
 -- What an agreeing series is known to be. Assumes nothing.
 use Prim.Native.Nat.{ℕ, _+_, _-_, _*_, _/_, _%_, _^_, _≤_, _<_}
-use mathlib.Core.Path.{_≡_, refl, ap, sym, subst, _∙_}
-use mathlib.Core.Logic.{⊎-elim, _⊎_, inl, inr}
+use mathlib.Core.Path.{_≡_, refl, sym, subst, _∙_}
+use mathlib.Core.Logic.{⊎-elim, _⊎_}
 use mathlib.Core.Bool.{Bool, true, false, not}
 use mathlib.Core.List.{List}
 use native.Mathlib.Omega.{arith}
 use lib.Dec.{leb, eqb}
 use lib.ListN.{length, take}
 use borrow.Author.Tests.{leb-true, le-leb, eq-eqb, ne-eqb, eqb-true, eqb-false}
-use Rattle.laws.specs.Pick.{pick, _and_}
+use Rattle.laws.specs.Pick.{_and_}
 use Rattle.laws.specs.Counting.{total}
 use Rattle.laws.proofs.Bools.{flag, not-both, and-left, and-right, and-intro}
 use Rattle.index.specs.Bins.{finest, lowestBin, endBin}
 use Rattle.points.specs.Agreement as A
 use Rattle.points.proofs.Agreement as PA
 use Rattle.points.proofs.Agreement.{RowOk}
-use Rattle.rows.specs.declared.Row.{Row}
 use Rattle.series.specs.declared.Counts.{Counts}
 use Rattle.series.specs.Series.{leastSize, mostSize, sizePasses, lowestOfAll, rowIn, rowAgrees, addsUp, agrees, read}
 use Rattle.series.proofs.Rowed.{RowFacts, row-facts}

@@ -1,22 +1,22 @@
 -- One value recorded, as the code does it, is what the definition of a point says. Assumes nothing.
-use Prim.Native.Nat.{ℕ, zero, suc, _+_, _-_, _*_, _/_, _^_, _≤_, _<_, min, max, pred}
+use Prim.Native.Nat.{ℕ, zero, suc, _+_, _-_, _*_, _/_, _^_, _≤_, _<_, max, pred}
 use Rattle.index.specs.Bins.{finest, endBin}
 use mathlib.Core.Path.{_≡_, refl, ap, sym, subst, _∙_}
-use mathlib.Core.Logic.{⊎-elim, _⊎_, inl, inr}
+use mathlib.Core.Logic.{⊎-elim, _⊎_, inl}
 use mathlib.Core.Bool.{Bool, true, false}
 use mathlib.Core.List.{List, [], _∷_, _++_, map, map-append, append-nil}
-use native.Mathlib.Nat.{add-zero, zero-add, div-lt-iff-lt-mul, mul-assoc}
+use native.Mathlib.Nat.{add-zero, div-lt-iff-lt-mul, mul-assoc}
 use native.Mathlib.Omega.{arith}
 use lib.Dec.{leb, eqb}
 use lib.ListN.{length}
 use lib.Pow.{shr-shr, shr-mono, pow-pos, pow-add}
-use borrow.Author.Tests.{leb-true, le-leb, lt-leb}
+use borrow.Author.Tests.{leb-true, le-leb}
 use Rattle.laws.specs.Pick.{pick, _and_}
 use Rattle.laws.specs.Search.{least}
 use Rattle.laws.proofs.Bools.{and-left, and-right, and-intro}
 use Rattle.laws.proofs.Counting.{Ends, ends-map}
 use Rattle.laws.proofs.Search.{Least, least-spec, least-is}
-use Rattle.points.specs.Points.{Row, rowOf, row, indices, fits, fitsBoth, scale, Bag, _⊕_, one, bag, Point, pointAt, build, record1, Value, naught, plus, minus}
+use Rattle.points.specs.Points.{Row, rowOf, row, indices, fits, fitsBoth, scale, _⊕_, one, bag, Point, pointAt, build, record1, Value, naught, plus, minus}
 use Rattle.points.proofs.Rows.{Canonical}
 use Rattle.points.proofs.Ends.{ends-row, fits-coarser}
 use Rattle.points.proofs.Agreement.{RowOk, Agreed, row-indices, fits-valid}

@@ -1,10 +1,10 @@
 -- Recording the values of a list one by one from the fresh series gives the point of the list. Assumes nothing.
-use Prim.Native.Nat.{ℕ, zero, suc, _+_, _-_, _*_, _/_, _^_, _≤_, _<_}
+use Prim.Native.Nat.{ℕ, _+_, _-_, _^_, _≤_, _<_}
 use mathlib.Core.Path.{_≡_, refl, ap, sym, subst, _∙_}
 use mathlib.Core.Bool.{Bool, true, false, cond}
-use mathlib.Core.List.{List, [], _∷_, _++_, map, foldl}
+use mathlib.Core.List.{List, [], _∷_, map, foldl}
 use native.Mathlib.Omega.{arith}
-use lib.Dec.{T, leb, eqb}
+use lib.Dec.{T}
 use lib.ListN.{length}
 use lib.Ieee.{Float, binary64, fits, lt, ofBits}
 use lib.Ieee.Scale.{finite}
@@ -18,12 +18,11 @@ use Rattle.points.specs.Values.{classOf, countsOf, Summary, start, noted, summa
 use Rattle.points.proofs.Agreement as PA
 use Rattle.points.proofs.Kept.{pointOf-agrees}
 use Rattle.points.proofs.Orders.{recordAll, recordAll-pointOf}
-use Rattle.rows.specs.Rows.{over}
 use Rattle.rows.proofs.Laws.{length-over}
 use Rattle.series.specs.declared.Head.{Head}
 use Rattle.series.specs.Series.{leastSize, mostSize, lowestOfAll, agrees, read, countsFor, refusalOf, accepted, recording}
 use Rattle.series.specs.Runs.{Series, after, runAll, summary, freshHead}
-use Rattle.series.proofs.Facts.{agreed, agreed-agrees}
+use Rattle.series.proofs.Facts.{agreed-agrees}
 use Rattle.series.proofs.Call.{none}
 use Rattle.series.proofs.Classes.{ranged-of}
 use Rattle.series.proofs.Stays.{next-ok, stays, reads}

@@ -1,17 +1,17 @@
 -- What the functions on one row need. Assumes nothing.
-use Prim.Native.Nat.{ℕ, zero, suc, _+_, _-_, _*_, _/_, _%_, _^_, _≤_, _<_, min, max, pred}
+use Prim.Native.Nat.{ℕ, suc, _+_, _-_, _*_, _/_, _%_, _^_, _≤_, _<_, min, max, pred}
 use Rattle.index.specs.Bins.{lowestBin, endBin}
 use mathlib.Core.Path.{_≡_, refl, ap, sym, subst, _∙_}
-use mathlib.Core.Logic.{⊎-elim, _⊎_, inl, inr}
+use mathlib.Core.Logic.{⊎-elim, _⊎_, inl}
 use mathlib.Core.Bool.{Bool, true, false, not}
-use mathlib.Core.List.{List, [], _∷_, _++_}
+use mathlib.Core.List.{List, [], _∷_}
 use native.Mathlib.Nat.{div-one, eq-zero-or-pos}
 use native.Mathlib.Omega.{arith}
 use lib.Dec.{leb, eqb}
 use lib.ListN.{length, take, getD}
 use lib.Seq.{length-take-le, getD-take}
-use borrow.Author.Tests.{leb-true, le-leb, lt-leb, eq-eqb, ne-eqb}
-use Rattle.laws.proofs.Bools.{flag, not-both, and-left, and-right, and-intro}
+use borrow.Author.Tests.{leb-true, le-leb, eq-eqb, ne-eqb}
+use Rattle.laws.proofs.Bools.{flag, and-left, and-right, and-intro}
 use Rattle.laws.proofs.Search.{least-is}
 use Rattle.points.specs.Agreement as A
 use Rattle.points.proofs.Agreement.{RowOk, row-says, row-agrees}
@@ -19,7 +19,7 @@ use Rattle.rows.specs.Rows.{over, downscaled, onto}
 use Rattle.rows.specs.declared.Row.{Row}
 use Rattle.rows.proofs.Adds.{over-self}
 use Rattle.rows.proofs.Algebra.{le-or-lt}
-use Rattle.series.specs.Steps.{lowered, with1, lowBin, highBin, narrow, lowering}
+use Rattle.series.specs.Steps.{lowered, lowBin, highBin, narrow, lowering}
 use Rattle.series.specs.Series.{rowIn, Laid, rowAgrees}
 use Rattle.laws.specs.Pick.{pick, _and_}
 

@@ -1,23 +1,21 @@
 -- What adding a value needs and leaves. Assumes nothing.
-use Prim.Native.Nat.{ℕ, zero, suc, _+_, _-_, _*_, _/_, _%_, _^_, _≤_, _<_, min, max, pred}
+use Prim.Native.Nat.{ℕ, _+_, _-_, _*_, _/_, _^_, _≤_, _<_}
 use Rattle.index.specs.Bins.{finest, endBin}
-use mathlib.Core.Path.{_≡_, refl, ap, sym, subst, _∙_}
-use mathlib.Core.Logic.{⊎-elim, _⊎_, inl, inr}
-use mathlib.Core.List.{List, [], _∷_, _++_}
+use mathlib.Core.Path.{_≡_, ap, sym, subst, _∙_}
+use mathlib.Core.Logic.{⊎-elim, _⊎_}
+use mathlib.Core.List.{List}
 use native.Mathlib.Nat.{eq-or-lt-of-le, mul-assoc, mul-lt-mul-of-pos-right}
 use native.Mathlib.Omega.{arith}
-use lib.ListN.{length, take, getD}
+use lib.ListN.{length, take}
 use lib.Seq.{length-take-le}
 use lib.Pow.{pow-lt, pow-add, pow-pos, shl-shr}
-use Rattle.points.specs.Points as P
-use Rattle.points.specs.Points.{Point, naught, plus, minus}
-use Rattle.rows.specs.Rows.{over}
+use Rattle.points.specs.Points.{naught, plus, minus}
 use Rattle.laws.specs.Counting.{total}
 use Rattle.rows.specs.declared.Row.{Row}
 use Rattle.rows.proofs.Adds.{over-self}
 use Rattle.series.specs.declared.Counts.{Counts}
-use Rattle.series.specs.Steps.{lowered, with1, lowBin, highBin, lowering, needed, placed}
-use Rattle.series.specs.Series.{rowIn, Laid, read, countsFor, Written, lowerBy, rowTo, rowOther, Room}
+use Rattle.series.specs.Steps.{lowBin, highBin, lowering, placed}
+use Rattle.series.specs.Series.{rowIn, Laid, read, Written, lowerBy, rowTo, rowOther, Room}
 use Rattle.series.proofs.Joint.{few, room-one}
 use Rattle.points.proofs.Agreement.{RowOk}
 use Rattle.index.specs.Bins.{lowestBin}

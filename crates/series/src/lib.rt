@@ -1,11 +1,10 @@
 // One series of the exponential kind, `ExpoHistogramDataPoint` of exponential_histogram.rs: a head by value, and its rows of
 // counts at the front of two lent slices.
 ghost use mathlib.Core.Path.{_≡_};
-ghost use Prim.Native.Nat.{ℕ, _+_, _-_, _*_, _/_, _^_, _<_, _≤_, min, max};
+ghost use Prim.Native.Nat.{_+_, _-_, _*_, _/_, _^_, _<_, _≤_, min, max};
 ghost use lib.ListN.{length, take};
-ghost use Rattle.index.specs.Bins.{finest, lowestBin, endBin};
+ghost use Rattle.index.specs.Bins.{finest};
 ghost use Rattle.index.specs.Answers.{binOf};
-ghost use Rattle.rows.specs.Rows.{over};
 ghost use Rattle.laws.specs.Counting.{total};
 ghost use Rattle.series.specs.Steps.{lowered, with1, lowBin, highBin, lowering, placed};
 ghost use Rattle.laws.specs.Pick.{pick};

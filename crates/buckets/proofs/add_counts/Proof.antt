@@ -1,19 +1,14 @@
-use Prim.Native.Nat.{ℕ, suc, _+_, _-_, _*_, _/_, _%_, _^_, _≤_, _<_}
-use mathlib.Core.Path.{_≡_, refl, sym, ap, _∙_, subst}
-use mathlib.Core.Bool.{Bool, true, false}
-use mathlib.Core.List.{List}
+use Prim.Native.Nat.{_-_, _≤_}
+use mathlib.Core.Path.{_≡_, refl}
 use native.Mathlib.Omega.{arith}
 use denote.Ref.{now}
-use lib.ListN.{length, take, getD}
-use borrow.Author.Needs.{needs}
+use lib.ListN.{length, take}
 use lib.ListN.{length-set}
 use Rattle.points.specs.Explicit.{added}
 use Rattle.rows.specs.Rows.{over}
 use Rattle.buckets.proofs.Writes.{added-turn, added-fits, added-none}
 use Rattle.buckets.proofs.add_counts.Statement.{statement}
 use Rattle.buckets.proofs.add_counts.Tie as tie
-use Rattle.buckets.proofs.add_counts.Reads as reads
-use Rattle.buckets.proofs.add_counts.Lts as lts
 
 abbrev Inv-loop : tie.InvT-loop
 Inv-loop a b n out₀ i₀ out i = (i ≤ n) × (out ≡ over (added (take i a) (take i b)) out₀) × (length out ≡ length out₀)

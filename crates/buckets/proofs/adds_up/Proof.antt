@@ -1,19 +1,13 @@
-use Prim.Native.Nat.{ℕ, suc, _+_, _-_, _*_, _/_, _%_, _^_, _≤_, _<_}
-use mathlib.Core.Path.{_≡_, refl, sym, ap, _∙_, subst}
-use mathlib.Core.Bool.{Bool, true, false}
-use mathlib.Core.List.{List}
+use Prim.Native.Nat.{_+_, _-_, _*_}
+use mathlib.Core.Path.{_≡_}
 use native.Mathlib.Omega.{arith}
 use denote.Ref.{now}
-use lib.ListN.{length, take, getD}
-use borrow.Author.Needs.{needs}
+use lib.ListN.{take}
 use Rattle.laws.specs.Counting.{total}
 use Rattle.series.proofs.Facts.{last-fits}
 use Rattle.buckets.proofs.Cases.{adds-no, adds-by}
 use Rattle.buckets.proofs.adds_up.Statement.{statement}
 use Rattle.buckets.proofs.adds_up.Tie as tie
-use Rattle.buckets.proofs.adds_up.Reads as reads
-use Rattle.buckets.proofs.adds_up.Lts as lts
-use Rattle.series.proofs.sum_halves.Reads as sum-halves-reads
 
 sum-halves-requires : tie.Need-sum-halves-requires
 sum-halves-requires c κs = let st = c .before in (st .pre, (omega arith, omega arith))

@@ -1,18 +1,10 @@
-use Prim.Native.Nat.{ℕ, suc, _+_, _-_, _*_, _/_, _%_, _^_, _≤_, _<_}
-use mathlib.Core.Path.{_≡_, refl, sym, ap, _∙_, subst}
-use native.Mathlib.Omega.{arith}
-use denote.Ref.{now}
-use lib.ListN.{length, take, getD}
-use lib.Seq.{take-all}
-use lib.Ieee.{Float, nan, lt, eq, isNan}
-use borrow.Author.Needs.{needs}
+use Prim.Native.Nat.{_-_}
+use mathlib.Core.Path.{sym, ap, _∙_}
 use mathlib.Core.Bool.{Bool}
 use Rattle.laws.specs.Pick.{_and_}
 use Rattle.buckets.proofs.Turns.{and-true, and-false}
 use Rattle.buckets.proofs.and_equal.Statement.{statement}
 use Rattle.buckets.proofs.and_equal.Tie as tie
-use Rattle.buckets.proofs.and_equal.Reads as reads
-use Rattle.buckets.proofs.and_equal.Lts as lts
 
 returns : tie.Need-returns
 returns c =

@@ -1,19 +1,12 @@
-use Prim.Native.Nat.{ℕ, suc, _+_, _-_, _*_, _/_, _%_, _^_, _≤_, _<_}
-use mathlib.Core.Path.{_≡_, refl, sym, ap, _∙_, subst}
-use mathlib.Core.Bool.{Bool, true, false}
-use mathlib.Core.List.{List}
+use Prim.Native.Nat.{_-_}
+use mathlib.Core.Path.{sym, _∙_}
 use native.Mathlib.Omega.{arith}
 use denote.Ref.{now}
-use lib.ListN.{length, take, getD}
 use borrow.Author.Needs.{needs}
 use Rattle.series.proofs.Facts.{not-true, not-false}
 use Rattle.buckets.proofs.Cases.{too-many, with-nan, by-rising}
 use Rattle.buckets.proofs.bounds_pass.Statement.{statement}
 use Rattle.buckets.proofs.bounds_pass.Tie as tie
-use Rattle.buckets.proofs.bounds_pass.Reads as reads
-use Rattle.buckets.proofs.bounds_pass.Lts as lts
-use Rattle.buckets.proofs.no_nan.Reads as no-nan-reads
-use Rattle.buckets.proofs.rises.Reads as rises-reads
 
 returns : tie.Need-returns
 returns c = too-many (now (c .before .before .args .bounds)) (c .if1 .taken)

@@ -1,16 +1,9 @@
-use Prim.Native.Nat.{ℕ, suc, _+_, _-_, _*_, _/_, _%_, _^_, _≤_, _<_}
-use mathlib.Core.Path.{_≡_, refl, sym, ap, _∙_, subst}
-use native.Mathlib.Omega.{arith}
+use Prim.Native.Nat.{_-_}
 use denote.Ref.{now}
-use lib.ListN.{length, take, getD}
-use lib.Seq.{take-all}
-use lib.Ieee.{Float, nan, lt, eq, isNan}
 use borrow.Author.Needs.{needs}
 use Rattle.buckets.proofs.Turns.{count-none, count-some}
 use Rattle.buckets.proofs.bucket_count.Statement.{statement}
 use Rattle.buckets.proofs.bucket_count.Tie as tie
-use Rattle.buckets.proofs.bucket_count.Reads as reads
-use Rattle.buckets.proofs.bucket_count.Lts as lts
 
 returns : tie.Need-returns
 returns c = count-none (now (c .before .args .bounds)) (c .if1 .taken)

@@ -1,18 +1,15 @@
-use Prim.Native.Nat.{ℕ, suc, _+_, _-_, _*_, _/_, _%_, _^_, _≤_, _<_}
-use mathlib.Core.Path.{_≡_, refl, sym, ap, _∙_, subst}
+use Prim.Native.Nat.{_-_, _≤_}
+use mathlib.Core.Path.{_≡_, refl, ap, _∙_}
 use native.Mathlib.Omega.{arith}
 use denote.Ref.{now}
 use lib.ListN.{length, take, getD}
 use lib.Seq.{take-all}
-use lib.Ieee.{Float, nan, lt, eq, isNan}
+use lib.Ieee.{nan, lt}
 use borrow.Author.Needs.{needs}
 use Rattle.points.specs.Explicit.{bucketOf}
 use Rattle.buckets.proofs.Turns.{bucket-turn, pick-le}
 use Rattle.buckets.proofs.bucket_of.Statement.{statement}
 use Rattle.buckets.proofs.bucket_of.Tie as tie
-use Rattle.buckets.proofs.bucket_of.Reads as reads
-use Rattle.buckets.proofs.bucket_of.Lts as lts
-use Rattle.buckets.proofs.below.Reads as below-reads
 
 abbrev Inv-loop : tie.InvT-loop
 Inv-loop bounds v k₀ i₀ k i = (i ≤ length bounds) × (k ≤ i) × (k ≡ bucketOf (take i bounds) v)

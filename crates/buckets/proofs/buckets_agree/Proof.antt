@@ -1,10 +1,9 @@
-use Prim.Native.Nat.{ℕ, suc, _+_, _-_, _*_, _/_, _%_, _^_, _≤_, _<_}
-use mathlib.Core.Path.{_≡_, refl, sym, ap, _∙_, subst}
-use mathlib.Core.Bool.{Bool, true, false}
-use mathlib.Core.List.{List}
+use Prim.Native.Nat.{ℕ, _-_}
+use mathlib.Core.Path.{_≡_, sym, ap, _∙_}
+use mathlib.Core.Bool.{true}
 use native.Mathlib.Omega.{arith}
 use denote.Ref.{now}
-use lib.ListN.{length, take, getD}
+use lib.ListN.{take}
 use borrow.Author.Needs.{needs}
 use lib.Dec.{eqb}
 use Rattle.laws.specs.Counting.{total}
@@ -14,11 +13,6 @@ use Rattle.points.specs.Explicit.{boundsPass}
 use Rattle.buckets.proofs.Cases.{refuse, too-short, no-buckets, by-total, count-few}
 use Rattle.buckets.proofs.buckets_agree.Statement.{statement}
 use Rattle.buckets.proofs.buckets_agree.Tie as tie
-use Rattle.buckets.proofs.buckets_agree.Reads as reads
-use Rattle.buckets.proofs.buckets_agree.Lts as lts
-use Rattle.buckets.proofs.bounds_pass.Reads as bounds-pass-reads
-use Rattle.buckets.proofs.bucket_count.Reads as bucket-count-reads
-use Rattle.buckets.proofs.adds_up.Reads as adds-up-reads
 
 bounds-pass-requires : tie.Need-bounds-pass-requires
 bounds-pass-requires c κs = search needs

@@ -1,17 +1,11 @@
-use Prim.Native.Nat.{ℕ, suc, _+_, _-_, _*_, _/_, _%_, _^_, _≤_, _<_}
-use mathlib.Core.Path.{_≡_, refl, sym, ap, _∙_, subst}
-use mathlib.Core.Bool.{Bool, true, false}
-use mathlib.Core.List.{List}
+use Prim.Native.Nat.{_-_, _<_}
 use native.Mathlib.Omega.{arith}
 use denote.Ref.{now}
-use lib.ListN.{length, take, getD}
+use lib.ListN.{length}
 use borrow.Author.Needs.{needs}
 use Rattle.buckets.proofs.Writes.{no-bucket, bucket-in, one-more, one-fits}
 use Rattle.buckets.proofs.count_in.Statement.{statement}
 use Rattle.buckets.proofs.count_in.Tie as tie
-use Rattle.buckets.proofs.count_in.Reads as reads
-use Rattle.buckets.proofs.count_in.Lts as lts
-use Rattle.buckets.proofs.bucket_of.Reads as bucket-of-reads
 
 returns : tie.Need-returns
 returns c =

@@ -1,17 +1,11 @@
-use Prim.Native.Nat.{ℕ, _-_, _≤_, _<_}
-use mathlib.Core.Path.{_≡_, refl, sym, ap, _∙_}
+use Prim.Native.Nat.{_-_}
 use native.Mathlib.Omega.{arith}
 use denote.Ref.{now}
-use lib.ListN.{length}
 use lib.Ieee.{ofBits, neg}
 use borrow.Author.Needs.{needs}
 use Rattle.buckets.proofs.Writes.{fresh-short, fresh-made}
 use Rattle.buckets.proofs.fresh.Statement.{statement}
 use Rattle.buckets.proofs.fresh.Tie as tie
-use Rattle.buckets.proofs.fresh.Reads as reads
-use Rattle.buckets.proofs.fresh.Lts as lts
-use Rattle.buckets.proofs.bucket_count.Reads as bucket-count-reads
-use Rattle.rows.proofs.zero.Reads as zero-reads
 
 bucket-count-requires : tie.Need-bucket-count-requires
 bucket-count-requires c κs = search needs

@@ -1,18 +1,14 @@
-use Prim.Native.Nat.{ℕ, suc, _+_, _-_, _*_, _/_, _%_, _^_, _≤_, _<_}
-use mathlib.Core.Path.{_≡_, refl, sym, ap, _∙_, subst}
+use Prim.Native.Nat.{_-_, _≤_}
+use mathlib.Core.Path.{_≡_, refl, ap, _∙_}
 use native.Mathlib.Omega.{arith}
 use denote.Ref.{now}
-use lib.ListN.{length, take, getD}
+use lib.ListN.{length, take}
 use lib.Seq.{take-all}
-use lib.Ieee.{Float, nan, lt, eq, isNan}
 use borrow.Author.Needs.{needs}
 use Rattle.points.specs.Explicit.{noNan}
 use Rattle.buckets.proofs.Turns.{number-turn}
 use Rattle.buckets.proofs.no_nan.Statement.{statement}
 use Rattle.buckets.proofs.no_nan.Tie as tie
-use Rattle.buckets.proofs.no_nan.Reads as reads
-use Rattle.buckets.proofs.no_nan.Lts as lts
-use Rattle.buckets.proofs.and_number.Reads as and-number-reads
 
 abbrev Inv-loop : tie.InvT-loop
 Inv-loop bounds ok₀ i₀ ok i = (i ≤ length bounds) × (ok ≡ noNan (take i bounds))

@@ -1,20 +1,11 @@
-use Prim.Native.Nat.{ℕ, suc, _+_, _-_, _*_, _/_, _%_, _^_, _≤_, _<_}
-use mathlib.Core.Path.{_≡_, refl, sym, ap, _∙_, subst}
-use mathlib.Core.Bool.{Bool, true, false}
-use mathlib.Core.List.{List}
+use Prim.Native.Nat.{_-_}
+use mathlib.Core.Path.{sym, _∙_}
 use native.Mathlib.Omega.{arith}
 use denote.Ref.{now}
-use lib.ListN.{length, take, getD}
 use borrow.Author.Needs.{needs}
 use Rattle.buckets.proofs.Writes.{Ready, ready, total-below, refused-law, accepted-law}
 use Rattle.buckets.proofs.record.Statement.{statement}
 use Rattle.buckets.proofs.record.Tie as tie
-use Rattle.buckets.proofs.record.Reads as reads
-use Rattle.buckets.proofs.record.Lts as lts
-use Rattle.buckets.proofs.refusal.Reads as refusal-reads
-use Rattle.buckets.proofs.count_in.Reads as count-in-reads
-use Rattle.floats.proofs.lesser.Reads as lesser-reads
-use Rattle.floats.proofs.greater.Reads as greater-reads
 
 abbrev start : tie.Else1 → tie.Start
 start e = e .before .before .before .before .before

@@ -1,20 +1,12 @@
-use Prim.Native.Nat.{ℕ, suc, _+_, _-_, _*_, _/_, _%_, _^_, _≤_, _<_}
-use mathlib.Core.Path.{_≡_, refl, sym, ap, _∙_, subst}
-use mathlib.Core.Bool.{Bool, true, false}
-use mathlib.Core.List.{List}
+use Prim.Native.Nat.{_-_}
+use mathlib.Core.Path.{sym, _∙_}
 use native.Mathlib.Omega.{arith}
 use denote.Ref.{now}
-use lib.ListN.{length, take, getD}
 use borrow.Author.Needs.{needs}
 use Rattle.series.proofs.Facts.{not-true, not-false}
 use Rattle.buckets.proofs.Cases.{short-row, not-finite, disagrees, bad-min, bad-max, full, none}
 use Rattle.buckets.proofs.refusal.Statement.{statement}
 use Rattle.buckets.proofs.refusal.Tie as tie
-use Rattle.buckets.proofs.refusal.Reads as reads
-use Rattle.buckets.proofs.refusal.Lts as lts
-use Rattle.buckets.proofs.bucket_count.Reads as bucket-count-reads
-use Rattle.buckets.proofs.buckets_agree.Reads as buckets-agree-reads
-use Rattle.floats.proofs.is_finite.Reads as is-finite-reads
 
 abbrev start : tie.Else1 → tie.Start
 start e = e .before .before .before .before

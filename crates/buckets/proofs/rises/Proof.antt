@@ -1,18 +1,14 @@
-use Prim.Native.Nat.{ℕ, suc, _+_, _-_, _*_, _/_, _%_, _^_, _≤_, _<_}
-use mathlib.Core.Path.{_≡_, refl, sym, ap, _∙_, subst}
+use Prim.Native.Nat.{_+_, _-_, _≤_}
+use mathlib.Core.Path.{_≡_, ap, _∙_}
 use native.Mathlib.Omega.{arith}
 use denote.Ref.{now}
-use lib.ListN.{length, take, getD}
+use lib.ListN.{length, take}
 use lib.Seq.{take-all}
-use lib.Ieee.{Float, nan, lt, eq, isNan}
 use borrow.Author.Needs.{needs}
 use Rattle.points.specs.Explicit.{rising}
 use Rattle.buckets.proofs.Turns.{rising-turn, rising-one}
 use Rattle.buckets.proofs.rises.Statement.{statement}
 use Rattle.buckets.proofs.rises.Tie as tie
-use Rattle.buckets.proofs.rises.Reads as reads
-use Rattle.buckets.proofs.rises.Lts as lts
-use Rattle.buckets.proofs.and_below.Reads as and-below-reads
 
 abbrev Inv-loop : tie.InvT-loop
 Inv-loop bounds ok₀ i₀ ok i = (1 ≤ i) × (i ≤ length bounds + 1) × (ok ≡ rising (take i bounds))

@@ -1,18 +1,14 @@
-use Prim.Native.Nat.{ℕ, suc, _+_, _-_, _*_, _/_, _%_, _^_, _≤_, _<_}
-use mathlib.Core.Path.{_≡_, refl, sym, ap, _∙_, subst}
+use Prim.Native.Nat.{_-_, _≤_}
+use mathlib.Core.Path.{_≡_, _∙_}
 use native.Mathlib.Omega.{arith}
 use denote.Ref.{now}
-use lib.ListN.{length, take, getD}
+use lib.ListN.{take}
 use lib.Seq.{take-all}
-use lib.Ieee.{Float, nan, lt, eq, isNan}
 use borrow.Author.Needs.{needs}
 use Rattle.points.specs.Explicit.{sameBounds}
 use Rattle.buckets.proofs.Turns.{same-turn, same-other, same-none}
 use Rattle.buckets.proofs.same_bounds.Statement.{statement}
 use Rattle.buckets.proofs.same_bounds.Tie as tie
-use Rattle.buckets.proofs.same_bounds.Reads as reads
-use Rattle.buckets.proofs.same_bounds.Lts as lts
-use Rattle.buckets.proofs.and_equal.Reads as and-equal-reads
 
 abbrev Inv-loop : tie.InvT-loop
 Inv-loop a b n ok₀ i₀ ok i = (i ≤ n) × (ok ≡ sameBounds (take i a) (take i b))

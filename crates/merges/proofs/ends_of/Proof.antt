@@ -1,15 +1,10 @@
-use Prim.Native.Nat.{ℕ, suc, _+_, _-_, _*_, _/_, _%_, _^_, _≤_, _<_, min, max, pred}
-use mathlib.Core.Path.{_≡_, refl, sym, ap, _∙_, subst}
+use Prim.Native.Nat.{ℕ, _-_, _/_, _^_, max}
+use mathlib.Core.Path.{sym, ap, _∙_}
 use native.Mathlib.Omega.{arith}
 use borrow.Author.Needs.{needs}
 use Rattle.merges.proofs.Spans.{ends-first, ends-second, ends-both}
 use Rattle.merges.proofs.ends_of.Statement.{statement}
 use Rattle.merges.proofs.ends_of.Tie as tie
-use Rattle.merges.proofs.ends_of.Reads as reads
-use Rattle.merges.proofs.ends_of.Lts as lts
-use Rattle.merges.proofs.last_bin.Reads as last-bin-reads
-use Rattle.series.proofs.lesser.Reads as lesser-reads
-use Rattle.series.proofs.greater.Reads as greater-reads
 
 shr-lo : tie.Need-shr-lo
 shr-lo c = search needs

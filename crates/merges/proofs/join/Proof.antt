@@ -1,9 +1,9 @@
-use Prim.Native.Nat.{ℕ, suc, _+_, _-_, _*_, _/_, _%_, _^_, _≤_, _<_}
-use mathlib.Core.Path.{_≡_, refl, sym, ap, _∙_, subst}
+use Prim.Native.Nat.{ℕ, _+_, _-_, _/_, _^_, _≤_, _<_}
+use mathlib.Core.Path.{_≡_, refl, sym, _∙_, subst}
 use mathlib.Core.List.{List, _++_}
 use native.Mathlib.Omega.{arith}
 use denote.Ref.{now}
-use lib.ListN.{length, take, getD, replicate}
+use lib.ListN.{length, take, replicate}
 use lib.Seq.{length-take-le}
 use Rattle.points.specs.Points as P
 use Rattle.rows.specs.Rows.{over, downscaled}
@@ -11,16 +11,11 @@ use Rattle.laws.specs.Counting.{total}
 use Rattle.rows.proofs.Laws.{length-downscaled, total-downscaled}
 use Rattle.series.specs.Steps.{lowered}
 use Rattle.series.specs.Series.{Laid, rowIn}
-use Rattle.merges.specs.Merges.{Joinable, joined}
+use Rattle.merges.specs.Merges.{joined}
 use Rattle.merges.proofs.Wide as wide
 use borrow.Author.Needs.{needs}
 use Rattle.merges.proofs.join.Statement.{statement}
 use Rattle.merges.proofs.join.Tie as tie
-use Rattle.merges.proofs.join.Reads as reads
-use Rattle.merges.proofs.join.Lts as lts
-use Rattle.merges.proofs.add_low.Reads as add-low-reads
-use Rattle.series.proofs.lower.Reads as lower-reads
-use Rattle.merges.proofs.widen.Reads as widen-reads
 
 -- the row at its lower level
 abbrev D : tie.Start → List ℕ

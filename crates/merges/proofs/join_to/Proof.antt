@@ -1,17 +1,9 @@
-use Prim.Native.Nat.{ℕ, suc, _+_, _-_, _*_, _/_, _%_, _^_, _≤_, _<_}
-use mathlib.Core.Path.{_≡_, refl, sym, ap, _∙_, subst}
-use mathlib.Core.List.{List}
-use native.Mathlib.Omega.{arith}
+use Prim.Native.Nat.{_-_}
 use denote.Ref.{now}
-use lib.ListN.{length}
 use borrow.Author.Needs.{needs}
 use Rattle.merges.proofs.Laying as laying
 use Rattle.merges.proofs.join_to.Statement.{statement}
 use Rattle.merges.proofs.join_to.Tie as tie
-use Rattle.merges.proofs.join_to.Reads as reads
-use Rattle.merges.proofs.join_to.Lts as lts
-use Rattle.merges.proofs.join.Reads as join-reads
-use Rattle.merges.proofs.lay.Reads as lay-reads
 
 lay-requires : tie.Need-lay-requires
 lay-requires c κs =

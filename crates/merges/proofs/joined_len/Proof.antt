@@ -1,15 +1,11 @@
-use Prim.Native.Nat.{ℕ, suc, _+_, _-_, _*_, _/_, _%_, _^_, _≤_, _<_, min, max, pred}
-use mathlib.Core.Path.{_≡_, refl, sym, ap, _∙_, subst}
+use Prim.Native.Nat.{suc, _-_}
+use mathlib.Core.Path.{_∙_}
 use native.Mathlib.Omega.{arith}
 use borrow.Author.Needs.{needs}
 use native.Mathlib.Numerals.{add-one}
-use Rattle.merges.specs.Merges.{lowEnd, highEnd}
 use Rattle.merges.proofs.Spans.{ends-le, len-none, len-some}
 use Rattle.merges.proofs.joined_len.Statement.{statement}
 use Rattle.merges.proofs.joined_len.Tie as tie
-use Rattle.merges.proofs.joined_len.Reads as reads
-use Rattle.merges.proofs.joined_len.Lts as lts
-use Rattle.merges.proofs.ends_of.Reads as ends-of-reads
 
 add-if1 : tie.Need-add-if1
 add-if1 c = search needs

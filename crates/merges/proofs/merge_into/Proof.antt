@@ -1,19 +1,13 @@
-use Prim.Native.Nat.{ℕ, suc, _+_, _-_, _*_, _/_, _%_, _^_, _≤_, _<_}
-use mathlib.Core.Path.{_≡_, refl, sym, ap, _∙_, subst}
-use mathlib.Core.List.{List}
+use Prim.Native.Nat.{_-_}
+use mathlib.Core.Path.{sym, subst}
 use native.Mathlib.Omega.{arith}
 use denote.Ref.{now}
-use lib.ListN.{length}
 use borrow.Author.Needs.{needs}
 use Rattle.merges.specs.declared.Plan.{Plan}
 use Rattle.merges.specs.Merges.{Joinable}
 use Rattle.merges.proofs.Merging as merging
 use Rattle.merges.proofs.merge_into.Statement.{statement}
 use Rattle.merges.proofs.merge_into.Tie as tie
-use Rattle.merges.proofs.merge_into.Reads as reads
-use Rattle.merges.proofs.merge_into.Lts as lts
-use Rattle.merges.proofs.plan_of.Reads as plan-of-reads
-use Rattle.merges.proofs.join.Reads as join-reads
 
 abbrev start : tie.After-plan-of → tie.Start
 start c = c .before .before .before .before .before

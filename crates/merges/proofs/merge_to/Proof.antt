@@ -1,18 +1,13 @@
-use Prim.Native.Nat.{ℕ, suc, _+_, _-_, _*_, _/_, _%_, _^_, _≤_, _<_}
-use mathlib.Core.Path.{_≡_, refl, sym, ap, _∙_, subst}
-use mathlib.Core.List.{List}
+use Prim.Native.Nat.{_-_}
+use mathlib.Core.Path.{sym, subst}
 use native.Mathlib.Omega.{arith}
 use denote.Ref.{now}
-use lib.ListN.{length}
 use borrow.Author.Needs.{needs}
 use Rattle.merges.specs.declared.Plan.{Plan}
 use Rattle.merges.specs.Merges.{Lendable}
 use Rattle.merges.proofs.Merging as merging
 use Rattle.merges.proofs.merge_to.Statement.{statement}
 use Rattle.merges.proofs.merge_to.Tie as tie
-use Rattle.merges.proofs.merge_to.Reads as reads
-use Rattle.merges.proofs.merge_to.Lts as lts
-use Rattle.merges.proofs.join_to.Reads as join-to-reads
 
 abbrev start : tie.After-bn → tie.Start
 start c = c .before .before .before .before .before .before .before .before .before .before

@@ -1,16 +1,11 @@
-use Prim.Native.Nat.{ℕ, suc, _+_, _-_, _*_, _/_, _%_, _^_, _≤_, _<_, min, max, pred}
-use mathlib.Core.Path.{_≡_, refl, sym, ap, _∙_, subst}
+use Prim.Native.Nat.{_-_}
+use mathlib.Core.Path.{_≡_}
 use native.Mathlib.Omega.{arith}
 use borrow.Author.Needs.{needs}
-use Rattle.merges.specs.Merges.{common, rowsLow}
+use Rattle.merges.specs.Merges.{rowsLow}
 use Rattle.merges.proofs.Merging.{plan-law, plan-made}
 use Rattle.merges.proofs.plan_of.Statement.{statement}
 use Rattle.merges.proofs.plan_of.Tie as tie
-use Rattle.merges.proofs.plan_of.Reads as reads
-use Rattle.merges.proofs.plan_of.Lts as lts
-use Rattle.merges.proofs.span.Reads as span-reads
-use Rattle.series.proofs.lesser.Reads as lesser-reads
-use Rattle.series.proofs.greater.Reads as greater-reads
 
 low : (c : tie.After-greater) → c .greater .result ≡ rowsLow (c .before .before .before .before .before .before .before .before .args .size) (c .before .before .before .before .before .before .before .before .args .a) (c .before .before .before .before .before .before .before .before .args .b)
 low c =

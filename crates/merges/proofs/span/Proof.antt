@@ -1,5 +1,5 @@
-use Prim.Native.Nat.{ℕ, suc, _+_, _-_, _*_, _/_, _%_, _^_, _≤_, _<_, min, max, pred}
-use mathlib.Core.Path.{_≡_, refl, sym, ap, _∙_, subst}
+use Prim.Native.Nat.{_-_}
+use mathlib.Core.Path.{_∙_}
 use native.Mathlib.Omega.{arith}
 use borrow.Author.Needs.{needs}
 use Rattle.series.specs.Steps.{lowering}
@@ -7,10 +7,6 @@ use Rattle.series.proofs.Rowed.{change-is}
 use Rattle.merges.proofs.Spans.{ends-le}
 use Rattle.merges.proofs.span.Statement.{statement}
 use Rattle.merges.proofs.span.Tie as tie
-use Rattle.merges.proofs.span.Reads as reads
-use Rattle.merges.proofs.span.Lts as lts
-use Rattle.merges.proofs.ends_of.Reads as ends-of-reads
-use Rattle.rows.proofs.scale_change.Reads as scale-change-reads
 
 ends-of-requires : tie.Need-ends-of-requires
 ends-of-requires c κs = search needs

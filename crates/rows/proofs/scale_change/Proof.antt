@@ -1,5 +1,5 @@
-use mathlib.Core.Path.{_≡_, refl, sym, ap, _∙_, subst}
-use Prim.Native.Nat.{ℕ, _+_, _-_, _/_, _^_, _≤_, _<_}
+use mathlib.Core.Path.{_≡_, sym, ap, _∙_}
+use Prim.Native.Nat.{ℕ, _-_, _/_, _^_, _≤_, _<_}
 use native.Mathlib.Nat.{div-one, div-eq-of-lt, lt-of-lt-of-le, lt-of-not-le}
 use native.Mathlib.Omega.{arith}
 use borrow.Author.Needs.{needs}
@@ -7,8 +7,6 @@ use borrow.Author.Count.{below-none, below-more}
 use lib.Pow.{shr-mono, shr-shr, pow-mono}
 use Rattle.rows.proofs.scale_change.Statement.{statement}
 use Rattle.rows.proofs.scale_change.Tie as tie
-use Rattle.rows.proofs.scale_change.Reads as reads
-use Rattle.rows.proofs.scale_change.Lts as lts
 
 abbrev Inv-loop : tie.InvT-loop
 Inv-loop lo hi size a₀ b₀ delta₀ a b delta =

@@ -1,22 +1,16 @@
-use Prim.Native.Nat.{ℕ, suc, _+_, _-_, _*_, _/_, _%_, _^_, _≤_, _<_}
-use mathlib.Core.Path.{_≡_, refl, sym, ap, _∙_, subst}
-use mathlib.Core.List.{List}
+use Prim.Native.Nat.{_+_, _-_, _≤_, _<_}
+use mathlib.Core.Path.{sym, subst}
 use native.Mathlib.Omega.{arith}
 use denote.Ref.{now}
-use lib.ListN.{length, take}
 use Rattle.index.specs.Bins.{finest, endBin}
 use Rattle.series.specs.declared.Class.{Class}
-use Rattle.series.specs.declared.Class.the-variants.{Naught, Plus, Minus}
 use Rattle.series.specs.Steps.{placed}
-use Rattle.series.specs.Series.{Within, Room, Written, read, valueOf}
+use Rattle.series.specs.Series.{Within, Written, read, valueOf}
 use Rattle.series.proofs.Facts.{Agreed, agreed, pos-facts, neg-facts}
 use Rattle.series.proofs.Write.{room, few-levels, written-zero, written-plus, written-minus}
 use borrow.Author.Needs.{needs}
 use Rattle.series.proofs.add.Statement.{statement}
 use Rattle.series.proofs.add.Tie as tie
-use Rattle.series.proofs.add.Reads as reads
-use Rattle.series.proofs.add.Lts as lts
-use Rattle.series.proofs.put.Reads as put-reads
 
 at-start : (st : tie.Start) → Agreed (st .args .size) (st .args .top) (st .args .c) (now (st .args .pos)) (now (st .args .neg))
 at-start st = agreed (st .args .size) (st .args .top) (st .args .c) (now (st .args .pos)) (now (st .args .neg)) (st .pre .agree)

@@ -1,14 +1,10 @@
-use Prim.Native.Nat.{ℕ, suc, _+_, _-_, _*_, _/_, _%_, _^_, _≤_, _<_}
-use mathlib.Core.Path.{_≡_, refl, sym, ap, _∙_, subst}
-use native.Mathlib.Omega.{arith}
+use Prim.Native.Nat.{_-_}
+use mathlib.Core.Path.{refl, sym, ap, _∙_}
 use borrow.Author.Needs.{needs}
 use Rattle.series.specs.Series.{classAt}
 use Rattle.laws.specs.Pick.{pick}
 use Rattle.series.proofs.class_of.Statement.{statement}
 use Rattle.series.proofs.class_of.Tie as tie
-use Rattle.series.proofs.class_of.Reads as reads
-use Rattle.series.proofs.class_of.Lts as lts
-use Rattle.index.proofs.get_bin.Reads as get-bin-reads
 
 get-bin-requires : tie.Need-get-bin-requires
 get-bin-requires c κs = search needs

@@ -1,21 +1,13 @@
-use Prim.Native.Nat.{ℕ, suc, _+_, _-_, _*_, _/_, _%_, _^_, _≤_, _<_}
-use mathlib.Core.Path.{_≡_, refl, sym, ap, _∙_, subst}
-use mathlib.Core.List.{List}
+use Prim.Native.Nat.{_-_}
+use mathlib.Core.Path.{sym, _∙_}
 use native.Mathlib.Omega.{arith}
 use denote.Ref.{now}
-use lib.ListN.{length, take, getD}
-use Rattle.rows.specs.Rows.{over, downscaled, recorded, recordedFrom}
-use Rattle.laws.specs.Counting.{total}
 use Rattle.series.proofs.Facts.{not-true, not-false, refuse, pos-facts, neg-facts, by-sum}
 use Rattle.series.proofs.Rowed.{row-facts, facts-row, short}
 use Rattle.laws.proofs.Bools.{not-both}
 use borrow.Author.Needs.{needs}
 use Rattle.series.proofs.counts_agree.Statement.{statement}
 use Rattle.series.proofs.counts_agree.Tie as tie
-use Rattle.series.proofs.counts_agree.Reads as reads
-use Rattle.series.proofs.counts_agree.Lts as lts
-use Rattle.series.proofs.adds_up.Reads as adds-up-reads
-use Rattle.series.proofs.row_agrees.Reads as row-agrees-reads
 
 returns : tie.Need-returns
 returns c =

@@ -1,20 +1,9 @@
-use Prim.Native.Nat.{ℕ, suc, _+_, _-_, _*_, _/_, _%_, _^_, _≤_, _<_}
-use mathlib.Core.Path.{_≡_, refl, sym, ap, _∙_, subst}
-use mathlib.Core.List.{List}
+use Prim.Native.Nat.{_-_}
 use native.Mathlib.Omega.{arith}
-use denote.Ref.{now}
-use lib.ListN.{length, take, getD}
-use Rattle.rows.specs.Rows.{over, downscaled, recorded, recordedFrom}
-use Rattle.laws.specs.Counting.{total}
 use Rattle.series.proofs.Rowed.{change-is, bins-empty, bins-some}
 use borrow.Author.Needs.{needs}
 use Rattle.series.proofs.needed.Statement.{statement}
 use Rattle.series.proofs.needed.Tie as tie
-use Rattle.series.proofs.needed.Reads as reads
-use Rattle.series.proofs.needed.Lts as lts
-use Rattle.rows.proofs.scale_change.Reads as scale-change-reads
-use Rattle.series.proofs.greater.Reads as greater-reads
-use Rattle.series.proofs.lesser.Reads as lesser-reads
 
 scale-change-requires : tie.Need-scale-change-requires
 scale-change-requires c κs = search needs

@@ -1,25 +1,15 @@
-use Prim.Native.Nat.{ℕ, suc, _+_, _-_, _*_, _/_, _%_, _^_, _≤_, _<_}
-use mathlib.Core.Path.{_≡_, refl, sym, ap, _∙_, subst}
-use mathlib.Core.Bool.{true, false}
-use mathlib.Core.List.{List}
+use Prim.Native.Nat.{_-_}
+use mathlib.Core.Path.{_≡_, sym, _∙_, subst}
+use mathlib.Core.Bool.{true}
 use native.Mathlib.Omega.{arith}
 use denote.Ref.{now}
-use lib.ListN.{length, take, getD}
 use lib.Ieee.{binary64, fits}
-use lib.Ieee.Scale.{finite}
 use Rattle.index.specs.Answers.{binOf}
 use Rattle.series.specs.Series.{Ready, classAt}
 use Rattle.series.proofs.Call.{ready, refused-law, accepted-law}
 use borrow.Author.Needs.{needs}
 use Rattle.series.proofs.record.Statement.{statement}
 use Rattle.series.proofs.record.Tie as tie
-use Rattle.series.proofs.record.Reads as reads
-use Rattle.series.proofs.record.Lts as lts
-use Rattle.floats.proofs.greater.Reads as greater-reads
-use Rattle.floats.proofs.lesser.Reads as lesser-reads
-use Rattle.series.proofs.add.Reads as add-reads
-use Rattle.series.proofs.class_of.Reads as class-of-reads
-use Rattle.series.proofs.refusal.Reads as refusal-reads
 
 abbrev start : tie.Else1 → tie.Start
 start e = e .before .before .before .before .before .before

@@ -1,20 +1,12 @@
-use Prim.Native.Nat.{ℕ, suc, _+_, _-_, _*_, _/_, _%_, _^_, _≤_, _<_}
-use mathlib.Core.Path.{_≡_, refl, sym, ap, _∙_, subst}
-use mathlib.Core.Bool.{true, false}
-use mathlib.Core.List.{List}
+use Prim.Native.Nat.{_-_}
+use mathlib.Core.Path.{sym, _∙_}
 use native.Mathlib.Omega.{arith}
 use denote.Ref.{now}
-use lib.ListN.{length, take, getD}
-use lib.Ieee.Scale.{finite}
 use Rattle.series.proofs.Facts.{not-true, not-false}
 use Rattle.series.proofs.Call.{short-pos, short-neg, not-finite, disagrees, bad-min, bad-max, full, none}
 use borrow.Author.Needs.{needs}
 use Rattle.series.proofs.refusal.Statement.{statement}
 use Rattle.series.proofs.refusal.Tie as tie
-use Rattle.series.proofs.refusal.Reads as reads
-use Rattle.series.proofs.refusal.Lts as lts
-use Rattle.floats.proofs.is_finite.Reads as is-finite-reads
-use Rattle.series.proofs.counts_agree.Reads as counts-agree-reads
 
 returns : tie.Need-returns
 returns c =

@@ -1,14 +1,10 @@
-use Prim.Native.Nat.{ℕ, suc, _+_, _-_, _*_, _/_, _%_, _^_, _≤_, _<_}
-use mathlib.Core.Path.{_≡_, refl, sym, ap, _∙_, subst}
+use Prim.Native.Nat.{_-_}
 use native.Mathlib.Omega.{arith}
 use borrow.Author.Needs.{needs}
 use denote.Ref.{now}
-use lib.ListN.{length}
-use Rattle.series.proofs.Rowed.{RowFacts, refuse, short, low, range, first, empty-row, by-last}
+use Rattle.series.proofs.Rowed.{refuse, short, low, range, first, empty-row, by-last}
 use Rattle.series.proofs.row_agrees.Statement.{statement}
 use Rattle.series.proofs.row_agrees.Tie as tie
-use Rattle.series.proofs.row_agrees.Reads as reads
-use Rattle.series.proofs.row_agrees.Lts as lts
 
 returns : tie.Need-returns
 returns c =

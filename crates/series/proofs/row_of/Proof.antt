@@ -1,5 +1,5 @@
 use Prim.Native.Nat.{ℕ, _-_, _≤_, _<_, min}
-use mathlib.Core.Path.{_≡_, refl, sym, ap, _∙_}
+use mathlib.Core.Path.{_≡_, sym, ap, _∙_}
 use mathlib.Core.Logic.{⊎-elim}
 use mathlib.Core.Bool.{Bool}
 use mathlib.Core.List.{List}
@@ -12,9 +12,6 @@ use Rattle.rows.proofs.Algebra.{le-or-lt}
 use borrow.Author.Needs.{needs}
 use Rattle.series.proofs.row_of.Statement.{statement}
 use Rattle.series.proofs.row_of.Tie as tie
-use Rattle.series.proofs.row_of.Reads as reads
-use Rattle.series.proofs.row_of.Lts as lts
-use Rattle.series.proofs.shorter.Reads as shorter-reads
 
 -- the part from 0 up to the shorter of k and the length
 part-is : (k j : ℕ) (xs : List ℕ) → j ≡ min k (length xs) → take (j - 0) (drop 0 xs) ≡ take k xs

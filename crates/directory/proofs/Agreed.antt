@@ -10,7 +10,8 @@ use lib.ListN.{getD}
 use Rattle.tally.specs.Sets.{Set, cmp}
 use Rattle.laws.proofs.Cases.{true-not-false}
 use Rattle.laws.proofs.Cases.{and-true}
-use Rattle.directory.specs.All.{allb, allb-at}
+use Rattle.directory.specs.All.{allb}
+use Rattle.directory.proofs.Alls.{allb-at}
 use Rattle.directory.specs.Rows.{size, setOf, soundb}
 use Rattle.directory.specs.View.{Stores, setAt, birthAt, below, slotAt, placeAt, plainly, slotsb, placed, countsb, agreesb}
 use Rattle.directory.specs.declared.Directory.{Directory}

@@ -11,7 +11,8 @@ use lib.ListN.{getD}
 use Rattle.tally.specs.Sets.{Set, overflow, three, cmp, same}
 use Rattle.tally.specs.Map.{plain, plains, bit}
 use Rattle.laws.proofs.Compare.{compare-eq, compare-self}
-use Rattle.directory.specs.All.{allb, and-no}
+use Rattle.directory.specs.All.{allb}
+use Rattle.directory.proofs.Alls.{and-no}
 use Rattle.directory.specs.Rows.{pair, size, span, words, setOf, way, soundb}
 use Rattle.directory.specs.declared.Way.{Way}
 use Rattle.directory.specs.declared.Way.the-variants.{Before, Same, After}

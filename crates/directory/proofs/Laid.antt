@@ -15,7 +15,8 @@ use Rattle.tally.specs.Sets.{Set, overflow, cmp, same, mem, Rising}
 use Rattle.tally.specs.Kind.{Kind}
 use Rattle.tally.specs.Map.{plain, bit, plains, Config, Map, keys, Agrees}
 use Rattle.tally.proofs.Ranks.{entries-fit}
-use Rattle.directory.specs.All.{allb, allb-yes}
+use Rattle.directory.specs.All.{allb}
+use Rattle.directory.proofs.Alls.{allb-yes}
 use Rattle.directory.specs.Rows.{size, span, setOf, soundb}
 use Rattle.directory.specs.View.{Stores, setAt, birthAt, below, slotAt, placeAt, plainly, slotsb, countsb, agreesb, entryAt, view}
 use Rattle.directory.specs.Calls.{inserted, admitted, boundTo}
@@ -55,7 +56,7 @@ rising-at f l i (suc (suc k)) h j a b =
     (eq-or-lt-of-le a)
 
 -- overflow is not plain
-plains-le : (l : List Set) → plains l ≤ length l
+pub plains-le : (l : List Set) → plains l ≤ length l
 plains-le [] = omega arith
 plains-le (x ∷ l) = go (plain x) (plains-le l)
   where

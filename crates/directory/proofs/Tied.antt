@@ -16,7 +16,8 @@ use Rattle.tally.specs.Sets.{Set, overflow, same, mem, Rising, Over, Keyed}
 use Rattle.tally.specs.Kind.{Kind}
 use Rattle.tally.specs.Map.{bit, plains, Config, Entry, Map, find, Agrees}
 use Rattle.tally.proofs.Order.{same-eq}
-use Rattle.directory.specs.All.{allb, allb-at, allb-yes}
+use Rattle.directory.specs.All.{allb}
+use Rattle.directory.proofs.Alls.{allb-at, allb-yes}
 use Rattle.directory.specs.Rows.{pair, size, span, setOf, keyAt, soundb}
 use Rattle.directory.specs.View.{Stores, setAt, birthAt, agreesb, entryAt, view}
 use Rattle.directory.specs.declared.Directory.{Directory}

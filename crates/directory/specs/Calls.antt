@@ -30,7 +30,7 @@ abbrev pub targetOf : Found → Bool → Found → Target
 targetOf (Held x) roomy over = Old x
 targetOf (Room r) roomy over = pick roomy (New r) (orOver over)
 
--- where a call with this set goes: the slot that holds it; a new one at a place, under the limit; else that of overflow, held or new
+-- "A new set is made while the map's count is below the limit; otherwise the value goes to the overflow series": the slot that holds it; a new one at a place, under the limit; else that of overflow, held or new
 unfoldable pub located : ℕ → Directory → Stores → List ℕ → Target
 located limit d s row =
     pick (agreesb limit d s)

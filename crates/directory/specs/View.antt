@@ -21,7 +21,8 @@ pub record Stores : Type 0 where
   pub entries : List (List ℕ)
   pub order : List ℕ
 
--- slot 0 is the empty set, with the birth number 0
+-- THE LAYOUT, our meaning of a set's "own place in the stores". Slot 0 is the empty set's, with the birth number 0; its set and birth cells
+-- are never read. The named slots, from 1 on, stand in the order of birth; `order` has their numbers ascending by set.
 abbrev pub setAt : List (List ℕ) → ℕ → Set
 setAt sets zero = []
 setAt sets (suc x) = setOf (getD sets (suc x) [])
@@ -35,11 +36,11 @@ below Ordering·lt = true
 below Ordering·eq = false
 below Ordering·gt = false
 
--- the slot after x has 1 to 8 attributes with rising keys, and a later birth number than x
+-- "each has 1 to 8 attributes with rising keys ... and its own birth number among those spent": the slot after x has 1 to 8 attributes with rising keys, and a later birth number than x
 abbrev pub slotAt : List (List ℕ) → List (List ℕ) → ℕ → Bool
 slotAt sets entries x = soundb (getD sets (x + 1) []) && ltb (birthAt entries x) (birthAt entries (x + 1))
 
--- place k names a slot of those used, whose set comes after that of the place before
+-- "its sets are strictly ascending": place k names a slot of those used, whose set comes after that of the place before
 abbrev pub placeAt : List (List ℕ) → List ℕ → ℕ → ℕ → Bool
 placeAt sets order used k =
     (leb 1 (getD order k 0) && leb (getD order k 0) used) && (eqb k 0 || below (cmp (setAt sets (getD order (k - 1) 0)) (setAt sets (getD order k 0))))
@@ -54,11 +55,12 @@ slotsb used last sets entries = allb used (slotAt sets entries) && leb (birthAt 
 unfoldable pub placed : ℕ → List (List ℕ) → List ℕ → Placed
 placed used sets order = cond (allb used (placeAt sets order used)) (Plain (plainly sets order used)) Broken
 
--- the stored count is that of the plain sets, or one more if overflow is held, and at most the limit
+-- "its stored count is that of the sets other than overflow, or one more if overflow is held, and is at most the limit": with the sets as
+-- many as the slots used, overflow is held where the plain ones are fewer. The stored count is that of the plain sets, or one more if overflow is held, and at most the limit
 abbrev pub countsb : ℕ → ℕ → ℕ → ℕ → Bool
 countsb limit count used plain = leb count limit && (eqb count plain || (eqb count (plain + 1) && ltb plain used))
 
--- the directory agrees with itself
+-- "The directory agrees", else number 8. `used` comes first: it makes every other test safe.
 unfoldable pub agreesb : ℕ → Directory → Stores → Bool
 agreesb limit d s =
     leb (d .used) (limit + 1)

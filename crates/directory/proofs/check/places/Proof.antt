@@ -8,7 +8,8 @@ use borrow.Author.Tests.{not-true, not-false}
 use borrow.Author.Needs.{scaled-fits}
 use lib.ListN.{length, getD}
 use Rattle.tally.specs.Map.{bit, plain}
-use Rattle.directory.specs.All.{allb, allb-none, allb-more, allb-no}
+use Rattle.directory.specs.All.{allb}
+use Rattle.directory.proofs.Alls.{allb-none, allb-more, allb-no}
 use Rattle.directory.specs.Rows.{setOf}
 use Rattle.directory.specs.View.{placeAt, plainly}
 use Rattle.directory.specs.declared.Placed.the-variants.{Plain}

@@ -4,7 +4,8 @@ use mathlib.Core.Bool.{Bool, true, false}
 use Prim.Native.Nat.{ℕ, _+_, _-_, _≤_, _<_}
 use native.Mathlib.Omega.{arith}
 use borrow.Author.Tests.{not-true, not-false}
-use Rattle.directory.specs.All.{allb, allb-none, allb-more, allb-no}
+use Rattle.directory.specs.All.{allb}
+use Rattle.directory.proofs.Alls.{allb-none, allb-more, allb-no}
 use Rattle.directory.specs.View.{slotAt, birthAt}
 use Rattle.directory.proofs.Checks.{birth-next, slot-unsound, slot-late, slot-yes, slots-no, slots-late, slots-yes}
 use Rattle.directory.proofs.check.slots.Statement.{statement}

@@ -6,7 +6,8 @@ use Prim.Native.Nat.{ℕ, _+_, _-_, _≤_, _<_}
 use native.Mathlib.Omega.{arith}
 use borrow.Author.Tests.{le-leb, lt-leb, lt-ltb, le-ltb}
 use lib.ListN.{length, getD}
-use Rattle.directory.specs.All.{allb, allb-none, allb-more, allb-no}
+use Rattle.directory.specs.All.{allb}
+use Rattle.directory.proofs.Alls.{allb-none, allb-more, allb-no}
 use Rattle.directory.specs.Rows.{size, keyAt, soundb}
 use Rattle.directory.proofs.rows.sound.Statement.{statement}
 use Rattle.directory.proofs.rows.sound.Tie as tie

@@ -10,7 +10,8 @@ use lib.ListN.{length}
 use Rattle.laws.specs.Tests.{all}
 use Rattle.tally.specs.Sets.{Set, same, ascending, canonical}
 use Rattle.tally.specs.Kind.{Kind, Room, suffices}
-use Rattle.tally.specs.Map.{Config, Points, Call, measure, measureBy, bind, release, collect, Answer, refuse, done, handle, listed, Map, Agrees, start, step}
+use Rattle.tally.specs.Calls.{Config, Points, Call, measure, measureBy, bind, release, collect, Answer, refuse, done, handle, listed}
+use Rattle.tally.specs.Map.{Map, Agrees, start, step}
 use Rattle.tally.specs.Tally.{Tally, empty, tell, fed, after, valuesOf}
 
 -- a set, unless it is the empty one

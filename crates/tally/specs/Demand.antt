@@ -123,8 +123,9 @@ module _ (K : Kind) where
   Pooled M c xs ans =
       (s : Set) → any (gained c xs ans s) ≡ true → M .Within (gained c xs ans s) → Merged M (c .settings) (pointsOf s ans) (gained c xs ans s)
 
-  -- CODE, as it stands after configuring: its states with the lent stores (Ok shuts out number 12), the map that each stands for, and
-  -- its calls. A call does the map's step wherever the directory agrees.
+  -- CODE, as it stands after configuring: its states with the lent stores (Ok shuts out number 12), the map that each stands for, what
+  -- its calls are given (arguments in their types' ranges, times, lent output) with the call of demand 3 that this asks for, and its
+  -- calls. A call does the map's step wherever the directory agrees.
   pub record Code (c : Config K) : Type 1 where
     pub State : Type 0
     pub Ok : State → Type 0
@@ -139,7 +140,7 @@ module _ (K : Kind) where
     pub fresh : view first ≡ start K c
     pub valid : K .valid (c .settings) ≡ true
 
-  -- "Take any list of these calls, refused ones included; each call is given the state and lent stores as the last one left them."
+  -- "Take any list of these calls, refused ones included .. each call is given the state and lent stores as the last one left them."
   abbrev pub answers : (c : Config K) (C : Code c) → C .State → List (C .Input) → List (Answer K)
   answers c C s [] = []
   answers c C s (x ∷ xs) = C .call s x .0 ∷ answers c C (C .call s x .1) xs

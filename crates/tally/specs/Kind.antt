@@ -32,9 +32,9 @@ pub record Kind : Type 1 where
   pub fresh : Settings → Series
   -- the series with one value more
   pub add : Settings → Series → Value → Series
-  -- "8: touched series disagrees with itself"
+  -- "8: directory or touched series disagrees with itself"
   pub agrees : Settings → Series → Bool
-  -- "9: a count would pass 2^64 - 1"; 0 for a kind that keeps no count (L1)
+  -- "9: a count .. would pass 2^64 - 1"; 0 for a kind that keeps no count (L1)
   pub total : Series → ℕ
   -- 16, after 9, where this fails: it does not in document 01 (L6: "16 when the sum would leave i64")
   pub allows : Settings → Series → Value → Bool

@@ -43,7 +43,7 @@ abbrev A : Set
 A = (1, 5) ∷ []
 
 abbrev room : ℕ → Room
-room n = record { points = 1; counts = n }
+room n = record { points = 1; pos = n; neg = 0 }
 
 -- a point with these counts, minimum, maximum and sum
 abbrev point : List ℕ → ℕ → Float → Float → Float → Handed

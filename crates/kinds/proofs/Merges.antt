@@ -1,6 +1,6 @@
 -- Points of the histogram kinds merge, wherever there is room, to the point of the lists joined. Assumes nothing.
 use Prim.Native.Nat.{ℕ, _+_, _^_, _<_}
-use mathlib.Core.Path.{_≡_, refl, ap, subst}
+use mathlib.Core.Path.{_≡_, refl}
 use mathlib.Core.Bool.{true, _||_}
 use mathlib.Core.List.{List, _++_}
 use mathlib.Core.Logic.{inl}
@@ -12,15 +12,15 @@ use lib.Ieee.{Float}
 use borrow.Author.Tests.{lt-ltb}
 use Rattle.laws.proofs.Cases.{and-true}
 use Rattle.index.specs.Bins.{finest}
-use Rattle.points.specs.Figures.{Kind, exponential, explicit, Settings, kindCounts}
+use Rattle.points.specs.Figures.{Kind, exponential, explicit, sizePasses, sizeOf, Settings, kindCounts}
 use Rattle.points.specs.Handed.{Handed, mergeHanded}
 use Rattle.points.specs.Stands.{Stands}
 use Rattle.points.proofs.Figures.{count-is}
-use Rattle.points.proofs.Stands.{Allows, handed-stands, stands-order, under, resized, stands-join, stands-agrees, stands-mergeable}
+use Rattle.points.proofs.Stands.{handed-stands, stands-order, stands-merge, stands-agrees, stands-mergeable}
 use Rattle.tally.specs.Kind.{Room}
 use Rattle.tally.specs.Demand.{fitting}
 use Rattle.tally.proofs.Lawful.{Mergeable}
-use Rattle.kinds.specs.Histograms.{sizePasses, passes, histograms, bothExplicit, unmergeable, sizeOf, merging}
+use Rattle.kinds.specs.Histograms.{passes, histograms, bothExplicit, unmergeable, merging}
 use Rattle.kinds.proofs.Recorded.{all-f64, sound-kind}
 
 -- ---- no refusal but 10
@@ -48,22 +48,6 @@ unrefused z p q vs ws e l h k =
 answered : (n : Option ℕ) (r : Handed) (room : Room) → n ≡ none → elim n [ none ↦ fitting histograms r room | some i ↦ inl i ] ≡ fitting histograms r room
 answered n r room e = rw e
 
--- ---- under the configured size the settings are the same
-same-kind : (k : Kind) → resized (sizeOf k) k ≡ k
-same-kind (exponential size top) = refl
-same-kind (explicit bounds) = refl
-
-same-settings : (z : Settings) → under (sizeOf (z .kind)) z ≡ z
-same-settings z = ap (λ k. record { kind = k; extremes = z .extremes; sums = z .sums; threshold = z .threshold }) (same-kind (z .kind))
-
-own-size : (k : Kind) → Allows (sizeOf k) k
-own-size (exponential size top) = omega arith
-own-size (explicit bounds) = tt
-
-joined : (z : Settings) (p q : Handed) (vs ws : List Float) → Stands z p vs → Stands z q ws → Stands z (mergeHanded (sizeOf (z .kind)) p q) (vs ++ ws)
-joined z p q vs ws h k =
-    subst (λ y. Stands y (mergeHanded (sizeOf (z .kind)) p q) (vs ++ ws)) (same-settings z) (stands-join (sizeOf (z .kind)) z p q vs ws (own-size (z .kind)) h k)
-
 pub mergeable : Mergeable histograms merging
 mergeable =
     record {
@@ -73,7 +57,7 @@ mergeable =
       order = λ z p vs ws h s. (s .0, stands-order z p h (s .1));
       join = λ z p q vs ws f l w s r. (
         mergeHanded (sizeOf (z .kind)) p q,
-        (s .0, joined z p q vs ws (s .1) (r .1)),
+        (s .0, stands-merge z p q vs ws (s .1) (r .1)),
         λ room. answered (unmergeable (sizeOf (z .kind)) p q) (mergeHanded (sizeOf (z .kind)) p q) room (unrefused z p q vs ws (s .0) l (s .1) (r .1)),
       );
     }

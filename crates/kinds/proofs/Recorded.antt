@@ -1,10 +1,10 @@
 -- The histogram kinds are lawful: a series has the values recorded into it. Assumes nothing.
 use Prim.Native.Nat.{_-_}
-use mathlib.Core.Path.{_≡_, refl, ap, sym, subst, _∙_}
-use mathlib.Core.Bool.{Bool, true, false}
+use mathlib.Core.Path.{_≡_, refl, ap, _∙_}
+use mathlib.Core.Bool.{true, false}
 use mathlib.Core.List.{List, [], _∷_}
 use native.Mathlib.Omega.{arith}
-use lib.Dec.{T, leb}
+use lib.Dec.{leb}
 use lib.Ieee.{Float, binary64, fits}
 use lib.Ieee.Bits.{is-true}
 use lib.Ieee.Scale.{finite}
@@ -15,9 +15,10 @@ use Rattle.laws.proofs.Cases.{and-true}
 use Rattle.laws.proofs.Lists.{all-append}
 use Rattle.index.specs.Bins.{finest, lowestBin}
 use Rattle.floats.specs.Starts.{FiniteF64}
+use Rattle.floats.proofs.Starts.{finite-f64}
 use Rattle.points.specs.Values.{countsOf, summaryOf}
 use Rattle.points.specs.Explicit.{bucketsOf}
-use Rattle.points.specs.Figures.{Kind, exponential, explicit, Settings, Figures, kindCounts, figuresOf, recordFigures}
+use Rattle.points.specs.Figures.{Kind, exponential, explicit, sizePasses, Settings, Figures, kindCounts, figuresOf, recordFigures}
 use Rattle.points.specs.Handed.{handedOut, handed, countOf}
 use Rattle.points.proofs.Agreement.{agreed-agrees}
 use Rattle.points.proofs.Classes.{countsOf-agrees}
@@ -26,16 +27,13 @@ use Rattle.points.proofs.Figures.{figures-append, count-is}
 use Rattle.points.proofs.Summaries.{extreme-finite}
 use Rattle.points.proofs.Stands.{Sound}
 use Rattle.tally.proofs.Lawful.{Lawful}
-use Rattle.kinds.specs.Histograms.{sizePasses, passes, countsHold, histograms}
+use Rattle.kinds.specs.Histograms.{passes, countsHold, histograms}
 
 -- ---- values that are accepted are finite f64s
-told : (b : Bool) → b ≡ true → T b
-told b e = subst T (sym e) tt
-
-f64 : (v : Float) → histograms .finite v ≡ true → FiniteF64 v
+pub f64 : (v : Float) → histograms .finite v ≡ true → FiniteF64 v
 f64 v e =
     let a = and-true (finite v) (fits binary64 v) e in
-    record { known = told (finite v) (a .0); fits = told (fits binary64 v) (a .1) }
+    finite-f64 v (a .0) (a .1)
 
 pub all-f64 : (vs : List Float) → all (histograms .finite) vs ≡ true → All FiniteF64 vs
 unfolding All

@@ -12,16 +12,12 @@ use lib.Ieee.Scale.{finite}
 use Rattle.index.specs.Bins.{finest, lowestBin}
 use Rattle.points.specs.Agreement.{agrees}
 use Rattle.points.specs.Explicit.{boundsPass, bucketsAgree}
-use Rattle.points.specs.Figures.{Kind, exponential, explicit, Settings, Counts, scaled, bucketed, Figures, figuresOf, recordFigures}
+use Rattle.points.specs.Figures.{Kind, exponential, explicit, sizePasses, sizeOf, Settings, Counts, scaled, bucketed, Figures, figuresOf, recordFigures}
 use Rattle.points.specs.Handed.{Handed, handedOut, handed, mergeable, mergeHanded, handedAgrees, countOf}
 use Rattle.points.specs.Stands.{Stands}
 use Rattle.tally.specs.Kind.{unless, firstOf, Room}
 use Rattle.tally.specs.Kind as Tally
 use Rattle.tally.specs.Demand.{Merging, fitting}
-
--- "1: max_size outside 3 to 160"
-abbrev pub sizePasses : ℕ → Bool
-sizePasses size = leb 3 size && leb size 160
 
 -- what configuring accepts: 1; "2: max_scale outside -10 to 10", the level being the scale + 10; 3
 abbrev pub passes : Kind → Bool
@@ -36,10 +32,14 @@ countsHold (exponential size top) (bucketed b p) = false
 countsHold (explicit bounds) (scaled p) = false
 countsHold (explicit bounds) (bucketed b p) = bucketsAgree bounds p
 
--- how many counts a point takes in lent output
-abbrev pub placesOf : Counts → ℕ
-placesOf (scaled p) = length (p .pos .counts) + length (p .neg .counts)
-placesOf (bucketed b p) = length (p .counts)
+-- how many counts a point takes in each lent store: "Explicit points have bucket counts", all in the first
+abbrev pub posPlaces : Counts → ℕ
+posPlaces (scaled p) = length (p .pos .counts)
+posPlaces (bucketed b p) = length (p .counts)
+
+abbrev pub negPlaces : Counts → ℕ
+negPlaces (scaled p) = length (p .neg .counts)
+negPlaces (bucketed b p) = 0
 
 -- a value is an f64; "held extremes are finite"; nothing is refused after 9
 abbrev pub histograms : Tally.Kind
@@ -57,7 +57,8 @@ histograms =
       total = λ x. countOf (x .counts);
       allows = λ z x v. true;
       point = handedOut;
-      counts = λ p. placesOf (p .counts);
+      pos = λ p. posPlaces (p .counts);
+      neg = λ p. negPlaces (p .counts);
       pointOf = handed;
       allowed = λ z vs v. true;
     }
@@ -68,7 +69,8 @@ bothExplicit (scaled p) c = false
 bothExplicit (bucketed b p) (scaled q) = false
 bothExplicit (bucketed b p) (bucketed c q) = true
 
--- "Merging: 1, 8, 11, 9", and 10 for want of room. The greatest level is the finest: "scale is -10 to max_scale (10 in a merge)"
+-- "Merging: 1, 8, 11, 9, 10", the last where a row is longer than its lent store. The greatest level is the finest: "scale is -10 to
+-- max_scale (10 in a merge)"
 abbrev pub unmergeable : ℕ → Handed → Handed → Option ℕ
 unmergeable size p q =
     let ok : Handed → Bool = handedAgrees size finest (lowestBin finest) in
@@ -79,11 +81,6 @@ unmergeable size p q =
 
 abbrev pub merged : ℕ → Handed → Handed → Room → ℕ ⊎ Handed
 merged size p q room = elim (unmergeable size p q) [ none ↦ fitting histograms (mergeHanded size p q) room | some n ↦ inl n ]
-
--- the configured max_size; no merge of explicit points asks for one
-abbrev pub sizeOf : Kind → ℕ
-sizeOf (exponential size top) = size
-sizeOf (explicit bounds) = 0
 
 abbrev pub merging : Merging histograms
 merging =

@@ -22,7 +22,7 @@ use Rattle.floats.proofs.Sums.{total-perm, gridded-perm, gridded-left, gridded-
 use Rattle.points.specs.Points.{pointOf}
 use Rattle.points.specs.Values.{classOf, countsOf, summaryOf}
 use Rattle.points.specs.Explicit.{boundsPass, bucketsOf}
-use Rattle.points.specs.Figures.{Kind, exponential, explicit, Settings, scaled, bucketed, kindCounts}
+use Rattle.points.specs.Figures.{Kind, exponential, explicit, sizeOf, Settings, scaled, bucketed, kindCounts}
 use Rattle.points.specs.Handed.{Handed, handed, mergeCounts, mergeHanded, sameKind, mergeable, extremesAgree, countsAgree, handedAgrees}
 use Rattle.points.specs.Stands.{SameNumber, SameExtreme, Stands}
 use Rattle.points.proofs.Agreement.{agreed-agrees}
@@ -42,11 +42,6 @@ counts-perm (explicit bounds) t h = ap (bucketed bounds) (bucketsOf-perm bounds 
 abbrev pub resized : ℕ → Kind → Kind
 resized size (exponential m top) = exponential size top
 resized size (explicit bounds) = explicit bounds
-
--- the max_size of a kind; for a kind without one any will do
-abbrev pub sizeOf : Kind → ℕ
-sizeOf (exponential size top) = size
-sizeOf (explicit bounds) = 0
 
 -- the size that a kind was built under, where it has one, is no smaller
 abbrev pub Allows : ℕ → Kind → Type 0

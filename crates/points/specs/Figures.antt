@@ -1,7 +1,8 @@
 -- What a series of either kind holds of its values: its counts beside minimum, maximum and sum. Assumes nothing.
 use Prim.Native.Nat.{ℕ, _-_}
-use mathlib.Core.Bool.{Bool}
+use mathlib.Core.Bool.{Bool, _&&_}
 use mathlib.Core.List.{List}
+use lib.Dec.{leb}
 use lib.Ieee.{Float}
 use Rattle.index.specs.Bins.{finest}
 use Rattle.points.specs.Points.{Point, record1}
@@ -12,6 +13,15 @@ use Rattle.points.specs.Explicit.{Buckets, bucketsOf, recordBucket}
 pub data Kind : Type 0 where
   exponential : ℕ → ℕ → Kind
   explicit : List Float → Kind
+
+-- "1: max_size outside 3 to 160"
+abbrev pub sizePasses : ℕ → Bool
+sizePasses size = leb 3 size && leb size 160
+
+-- the configured max_size; no merge of explicit points asks for one
+abbrev pub sizeOf : Kind → ℕ
+sizeOf (exponential size top) = size
+sizeOf (explicit bounds) = 0
 
 pub record Settings : Type 0 where
   pub kind : Kind
@@ -37,12 +47,12 @@ kindCounts (explicit bounds) threshold vs = bucketed bounds (bucketsOf bounds vs
 abbrev pub figuresOf : Settings → List Float → Figures
 figuresOf s vs = record { counts = kindCounts (s .kind) (s .threshold) vs; summary = summaryOf vs }
 
--- one value recorded; counts of the other kind are never met, and stay
+-- one value recorded, under the configured bounds; counts of the other kind are never met, and stay
 abbrev pub recordCounts : Kind → Float → Counts → Float → Counts
 recordCounts (exponential size top) threshold (scaled p) v = scaled (record1 size p (classOf threshold v))
 recordCounts (exponential size top) threshold (bucketed b p) v = bucketed b p
 recordCounts (explicit bounds) threshold (scaled p) v = scaled p
-recordCounts (explicit bounds) threshold (bucketed b p) v = bucketed b (recordBucket b p v)
+recordCounts (explicit bounds) threshold (bucketed b p) v = bucketed bounds (recordBucket bounds p v)
 
 abbrev pub recordFigures : Settings → Figures → Float → Figures
 recordFigures s f v =

@@ -29,11 +29,12 @@ pub record Summary : Type 0 where
   pub max : Float
   pub sum : Float
 
--- "Min starts at the greatest finite f64 and max at the least"; the sum starts "from 0.0"
+-- "Min starts at the greatest finite f64 and max at the least"
 abbrev pub start : Summary
 start = record { min = greatestFinite; max = leastFinite; sum = zeroFloat }
 
--- a value more: "Zeros compare equal, so the zero held first stays. The sum is f64 addition, one rounding each"
+-- a value more: "Zeros compare equal, so the zero held first stays"; "The sum is f64 addition in order of recording, one rounding
+-- each, from 0.0"
 abbrev pub noted : Summary → Float → Summary
 noted s v = record { min = lesserOf (s .min) v; max = greaterOf (s .max) v; sum = add binary64 (s .sum) v }
 

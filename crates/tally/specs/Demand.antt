@@ -10,7 +10,8 @@ use lib.ListN.{length}
 use Rattle.laws.specs.Tests.{all}
 use Rattle.tally.specs.Sets.{Set, same, ascending, canonical}
 use Rattle.tally.specs.Kind.{Kind, Room, suffices}
-use Rattle.tally.specs.Map.{Config, Points, Call, measure, measureBy, bind, release, collect, Answer, refuse, done, handle, listed, Map, Agrees, start, step}
+use Rattle.tally.specs.Calls.{Config, Points, Call, measure, measureBy, bind, release, collect, Answer, refuse, done, handle, listed}
+use Rattle.tally.specs.Map.{Map, Agrees, start, step}
 use Rattle.tally.specs.Tally.{Tally, empty, tell, fed, after, valuesOf}
 
 -- a set, unless it is the empty one
@@ -122,32 +123,35 @@ module _ (K : Kind) where
   Pooled M c xs ans =
       (s : Set) → any (gained c xs ans s) ≡ true → M .Within (gained c xs ans s) → Merged M (c .settings) (pointsOf s ans) (gained c xs ans s)
 
-  -- CODE, as it stands after configuring: its states with the lent stores (Ok shuts out number 12), the map that each stands for, and
-  -- its calls. A call does the map's step wherever the directory agrees.
+  -- CODE, as it stands after configuring: its states with the lent stores (Ok shuts out number 12), the map that each stands for, what
+  -- its calls are given (arguments in their types' ranges, times, lent output) with the call of demand 3 that this asks for, and its
+  -- calls. A call does the map's step wherever the directory agrees.
   pub record Code (c : Config K) : Type 1 where
     pub State : Type 0
     pub Ok : State → Type 0
     pub view : State → Map K
-    pub call : State → Call K → Answer K × State
-    pub faithful : (s : State) (x : Call K) → Ok s → Agrees K c (view s)
-        → Ok (call s x .1) × (record { answer = call s x .0; map = view (call s x .1) } ≡ step K c (view s) x)
+    pub Input : Type 0
+    pub asks : Input → Call K
+    pub call : State → Input → Answer K × State
+    pub faithful : (s : State) (x : Input) → Ok s → Agrees K c (view s)
+        → Ok (call s x .1) × (record { answer = call s x .0; map = view (call s x .1) } ≡ step K c (view s) (asks x))
     pub first : State
     pub ok : Ok first
     pub fresh : view first ≡ start K c
     pub valid : K .valid (c .settings) ≡ true
 
-  -- "Take any list of these calls, refused ones included; each call is given the state and lent stores as the last one left them."
-  abbrev pub answers : (c : Config K) (C : Code c) → C .State → List (Call K) → List (Answer K)
+  -- "Take any list of these calls, refused ones included .. each call is given the state and lent stores as the last one left them."
+  abbrev pub answers : (c : Config K) (C : Code c) → C .State → List (C .Input) → List (Answer K)
   answers c C s [] = []
   answers c C s (x ∷ xs) = C .call s x .0 ∷ answers c C (C .call s x .1) xs
 
   -- "It runs from a fresh start under one configuration"
-  abbrev pub ran : (c : Config K) → Code c → List (Call K) → List (Answer K)
+  abbrev pub ran : (c : Config K) (C : Code c) → List (C .Input) → List (Answer K)
   ran c C xs = answers c C (C .first) xs
 
   -- DEMAND 3, for any kind, and for kinds that merge
   abbrev pub Demand : Type 1
-  Demand = (c : Config K) (C : Code c) (xs : List (Call K)) → Premise c xs (ran c C xs) → Answered c xs (ran c C xs)
+  Demand = (c : Config K) (C : Code c) (xs : List (C .Input)) → Premise c (map (C .asks) xs) (ran c C xs) → Answered c (map (C .asks) xs) (ran c C xs)
 
   abbrev pub MergedDemand : Merging → Type 1
-  MergedDemand M = (c : Config K) (C : Code c) (xs : List (Call K)) → Premise c xs (ran c C xs) → Pooled M c xs (ran c C xs)
+  MergedDemand M = (c : Config K) (C : Code c) (xs : List (C .Input)) → Premise c (map (C .asks) xs) (ran c C xs) → Pooled M c (map (C .asks) xs) (ran c C xs)

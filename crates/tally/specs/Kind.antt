@@ -32,31 +32,35 @@ pub record Kind : Type 1 where
   pub fresh : Settings → Series
   -- the series with one value more
   pub add : Settings → Series → Value → Series
-  -- "8: touched series disagrees with itself"
+  -- "8: directory or touched series disagrees with itself"
   pub agrees : Settings → Series → Bool
-  -- "9: a count would pass 2^64 - 1"; 0 for a kind that keeps no count (L1)
+  -- "9: a count .. would pass 2^64 - 1"; 0 for a kind that keeps no count (L1)
   pub total : Series → ℕ
   -- 16, after 9, where this fails: it does not in document 01 (L6: "16 when the sum would leave i64")
   pub allows : Settings → Series → Value → Bool
   -- the point that a collection hands out, the switches applied
   pub point : Settings → Series → Point
-  -- the counts that a point takes in lent output
-  pub counts : Point → ℕ
+  -- the counts that a point takes in the positive and in the negative count store of lent output (explicit: all in the first)
+  pub pos : Point → ℕ
+  pub neg : Point → ℕ
   -- document 01's definition: the point of a list of values
   pub pointOf : Settings → List Value → Point
   -- `allows`, told from the values recorded before
   pub allowed : Settings → List Value → Value → Bool
 
--- lent output: places for points and places for counts
+-- lent output: places for points, and for counts in each of "two lent stores of u64, positive and negative"
 pub record Room : Type 0 where
   pub points : ℕ
-  pub counts : ℕ
+  pub pos : ℕ
+  pub neg : ℕ
 
 module _ (K : Kind) where
-  abbrev pub countsOf : List (K .Point) → ℕ
-  countsOf [] = 0
-  countsOf (p ∷ ps) = K .counts p + countsOf ps
+  -- the counts of all the points in one of the stores
+  abbrev pub countsIn : (K .Point → ℕ) → List (K .Point) → ℕ
+  countsIn f [] = 0
+  countsIn f (p ∷ ps) = f p + countsIn f ps
 
   -- "10: lent output too short for all points or counts"
   abbrev pub suffices : Room → List (K .Point) → Bool
-  suffices room ps = leb (length ps) (room .points) && leb (countsOf ps) (room .counts)
+  suffices room ps =
+      leb (length ps) (room .points) && (leb (countsIn (K .pos) ps) (room .pos) && leb (countsIn (K .neg) ps) (room .neg))

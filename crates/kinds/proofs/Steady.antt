@@ -1,0 +1,99 @@
+-- Agreement is kept: by a series that gets a value, and by two points that merge. Assumes nothing.
+use Prim.Native.Nat.{ℕ}
+use mathlib.Core.Path.{_≡_, sym}
+use mathlib.Core.Bool.{Bool, true, false, cond, Bool·beq, _&&_, _||_}
+use lib.Dec.{leb}
+use lib.Ieee.{Float, binary64, fits}
+use lib.Ieee.Scale.{finite}
+use borrow.Author.Tests.{leb-true}
+use Rattle.laws.proofs.Bools.{and-left, and-right, and-intro}
+use Rattle.laws.proofs.Cases.{and-true, true-not-false}
+use Rattle.index.specs.Bins.{finest, lowestBin}
+use Rattle.floats.specs.Answers.{lesserOf, greaterOf, smallerOf, largerOf}
+use Rattle.floats.specs.Starts.{FiniteF64}
+use Rattle.floats.specs.declared.Extreme.{Extreme}
+use Rattle.floats.specs.declared.Extreme.the-variants.{None, Value}
+use Rattle.floats.proofs.Choices.{before, chosen}
+use Rattle.points.specs.Points.{merge, record1}
+use Rattle.points.specs.Values.{classOf}
+use Rattle.points.specs.Explicit.{recordBucket, mergeBuckets}
+use Rattle.points.specs.Figures.{Kind, exponential, explicit, sizePasses, Settings, Counts, scaled, bucketed, Figures, recordCounts, recordFigures}
+use Rattle.points.specs.Handed.{Handed, sameKind, mergeable, mergeCounts, mergeHanded, extremesAgree, countsAgree, handedAgrees}
+use Rattle.points.proofs.Agreement.{agrees-says, agreed-agrees}
+use Rattle.points.proofs.Kept.{record-agrees, merge-agrees}
+use Rattle.points.proofs.Classes.{class-in}
+use Rattle.points.proofs.Explicit.{buckets-say, buckets-agree, record-buckets-ok, merge-buckets-ok}
+use Rattle.points.proofs.Bounds.{same-count}
+use Rattle.kinds.specs.Histograms.{passes, countsHold, histograms, bothExplicit}
+use Rattle.kinds.proofs.Recorded.{f64, sound-kind}
+
+abbrev low : ℕ
+low = lowestBin finest
+
+both : (a b : Bool) → a ≡ true → b ≡ true → (a && b) ≡ true
+both a b p q = rw (p, q)
+
+-- an extreme is one of two finite numbers
+finite-chosen : (up : Bool) (a v : Float) → finite a ≡ true → finite v ≡ true → finite (chosen up a v) ≡ true
+finite-chosen up a v h k = go (before up v a)
+  where
+    go : (b : Bool) → finite (cond b v a) ≡ true
+    go true = k
+    go false = h
+
+-- ---- A SERIES THAT AGREES STAYS AGREEING
+counts-kept : (k : Kind) (t : Float) (c : Counts) (v : Float) → passes k ≡ true → FiniteF64 v → countsHold k c ≡ true → countsHold k (recordCounts k t c v) ≡ true
+counts-kept (exponential size top) t (scaled p) v e f h =
+    agreed-agrees size top low (record1 size p (classOf t v))
+    (record-agrees size size top low p (classOf t v) (sound-kind (exponential size top) e) (agrees-says size top low p h) (class-in t v f))
+counts-kept (exponential size top) t (bucketed b p) v e f h = h
+counts-kept (explicit bounds) t (scaled p) v e f h = h
+counts-kept (explicit bounds) t (bucketed b p) v e f h =
+    buckets-agree bounds (recordBucket bounds p v) (record-buckets-ok bounds p v (buckets-say bounds p h))
+
+pub stays-agreeing : (z : Settings) (x : Figures) (v : Float) → histograms .valid z ≡ true → histograms .finite v ≡ true
+    → histograms .agrees z x ≡ true → histograms .agrees z (recordFigures z x v) ≡ true
+stays-agreeing z x v e f h =
+    let a = and-true (countsHold (z .kind) (x .counts)) (finite (x .summary .min) && finite (x .summary .max)) h in
+    let b = and-true (finite (x .summary .min)) (finite (x .summary .max)) (a .1) in
+    let k = and-true (finite v) (fits binary64 v) f .0 in
+    both (countsHold (z .kind) (recordCounts (z .kind) (z .threshold) (x .counts) v)) (finite (lesserOf (x .summary .min) v) && finite (greaterOf (x .summary .max) v))
+    (counts-kept (z .kind) (z .threshold) (x .counts) v e (f64 v f) (a .0))
+    (both (finite (lesserOf (x .summary .min) v)) (finite (greaterOf (x .summary .max) v))
+    (finite-chosen true (x .summary .min) v (b .0) k) (finite-chosen false (x .summary .max) v (b .1) k))
+
+-- ---- POINTS THAT AGREE AND MERGE MAKE ONE THAT AGREES
+counts-merged : (size : ℕ) (c d : Counts) → (bothExplicit c d || sizePasses size) ≡ true → sameKind c d ≡ true
+    → countsAgree size finest low c ≡ true → countsAgree size finest low d ≡ true → countsAgree size finest low (mergeCounts size c d) ≡ true
+counts-merged size (scaled p) (scaled q) s e h k =
+    agreed-agrees size finest low (merge size p q)
+    (merge-agrees size size size finest finest low p q (leb-true 3 size (and-true (leb 3 size) (leb size 160) s .0))
+    (agrees-says size finest low p h) (agrees-says size finest low q k))
+counts-merged size (scaled p) (bucketed c q) s e h k = h
+counts-merged size (bucketed b p) (scaled q) s e h k = h
+counts-merged size (bucketed b p) (bucketed c q) s e h k =
+    buckets-agree b (mergeBuckets p q) (merge-buckets-ok b c p q (same-count b c e) (buckets-say b p h) (buckets-say c q k))
+
+extremes-merged : (a b c d : Extreme) → extremesAgree a b ≡ true → extremesAgree c d ≡ true → extremesAgree (smallerOf a c) (largerOf b d) ≡ true
+extremes-merged None None c d h k = k
+extremes-merged None (Value y) c d h k = true-not-false (sym h)
+extremes-merged (Value x) None c d h k = true-not-false (sym h)
+extremes-merged (Value x) (Value y) None None h k = h
+extremes-merged (Value x) (Value y) None (Value w) h k = true-not-false (sym k)
+extremes-merged (Value x) (Value y) (Value z) None h k = true-not-false (sym k)
+extremes-merged (Value x) (Value y) (Value z) (Value w) h k =
+    and-intro (finite (lesserOf x z)) (finite (greaterOf y w))
+    (finite-chosen true x z (and-left (finite x) (finite y) h) (and-left (finite z) (finite w) k))
+    (finite-chosen false y w (and-right (finite x) (finite y) h) (and-right (finite z) (finite w) k))
+
+pub merged-agrees : (size : ℕ) (p q : Handed) → (bothExplicit (p .counts) (q .counts) || sizePasses size) ≡ true → mergeable p q ≡ true
+    → handedAgrees size finest low p ≡ true → handedAgrees size finest low q ≡ true → handedAgrees size finest low (mergeHanded size p q) ≡ true
+unfolding mergeable handedAgrees mergeHanded
+merged-agrees size p q s e h k =
+    let a = countsAgree size finest low (p .counts) in
+    let b = countsAgree size finest low (q .counts) in
+    let x = extremesAgree (p .min) (p .max) in
+    let y = extremesAgree (q .min) (q .max) in
+    and-intro (countsAgree size finest low (mergeCounts size (p .counts) (q .counts))) (extremesAgree (smallerOf (p .min) (q .min)) (largerOf (p .max) (q .max)))
+    (counts-merged size (p .counts) (q .counts) s (and-left (sameKind (p .counts) (q .counts)) (Bool·beq (p .extremes) (q .extremes)) e) (and-left a x h) (and-left b y k))
+    (extremes-merged (p .min) (p .max) (q .min) (q .max) (and-right a x h) (and-right b y k))

@@ -135,13 +135,13 @@ module _ (size : ℕ) (a : Point) (bs : List Float) (xs ys : List ℕ) (b : Poin
 
     -- the explicit kind
     module _ (n m : ℕ) (f : a .figures ≡ Explicit n) (g : b .figures ≡ Explicit m) where
-      same : sameBounds bs cs ≡ true
+      pub same : sameBounds bs cs ≡ true
       same = (λ j. sameFigures (sym f j) bs (sym g j) cs) ∙ alike
 
-      ok-first : bucketsAgree bs (bucketsIn bs n xs) ≡ true
+      pub ok-first : bucketsAgree bs (bucketsIn bs n xs) ≡ true
       ok-first = ap (λ h. figuresAgree size h bs xs ys) (sym f) ∙ first-agrees
 
-      ok-second : bucketsAgree cs (bucketsIn cs m zs) ≡ true
+      pub ok-second : bucketsAgree cs (bucketsIn cs m zs) ≡ true
       ok-second = ap (λ h. figuresAgree size h cs zs ws) (sym g) ∙ second-agrees
 
       pub can-add : Addable (bucketCount bs) n xs m zs
@@ -165,7 +165,7 @@ module _ (size : ℕ) (a : Point) (bs : List Float) (xs ys : List ℕ) (b : Poin
     unfolding merging pick
     refused-law n e z = rw (← e, ne-eqb n 0 z)
 
-    accepted : refusalBefore size a bs xs ys b cs zs ws ≡ 0
+    pub accepted : refusalBefore size a bs xs ys b cs zs ws ≡ 0
         → ended a b (laidOver (mergeCounts size (countsAs (a .figures) bs xs ys) (countsAs (b .figures) cs zs ws)) us vs) ≡ merging size a bs xs ys b cs zs ws us vs
     unfolding merging pick
     accepted e = rw (eq-eqb (refusalBefore size a bs xs ys b cs zs ws) 0 e) refl

@@ -1,3 +1,5 @@
 -- The laws of points.
 pub mod Calls
 pub mod Laid
+pub mod Means
+pub mod Answers

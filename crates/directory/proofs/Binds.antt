@@ -302,7 +302,8 @@ blank =
       total = λ a. 0;
       allows = λ z a v. true;
       point = λ z a. tt;
-      counts = λ p. 0;
+      pos = λ p. 0;
+      neg = λ p. 0;
       pointOf = λ z l. tt;
       allowed = λ z l v. true;
     }

@@ -15,12 +15,12 @@ use Rattle.rows.specs.Rows.{over}
 use Rattle.rows.proofs.Laws.{take-over}
 use Rattle.points.specs.Explicit.{boundsPass, bucketCount, added, mergeBuckets}
 use Rattle.points.specs.Figures as F
-use Rattle.points.specs.Figures.{Kind, exponential, explicit, Settings, scaled, bucketed, kindCounts}
+use Rattle.points.specs.Figures.{Kind, exponential, explicit, sizeOf, Settings, scaled, bucketed, kindCounts}
 use Rattle.points.specs.Handed.{Handed, mergeCounts, mergeHanded, countOf}
 use Rattle.points.specs.Stands.{Stands}
 use Rattle.points.proofs.Kept.{merge-agrees}
 use Rattle.points.proofs.Explicit.{buckets-say, merge-buckets-ok}
-use Rattle.points.proofs.Stands.{sizeOf, Sound, stands-merge, stands-agrees, stands-mergeable}
+use Rattle.points.proofs.Stands.{Sound, stands-merge, stands-agrees, stands-mergeable}
 use Rattle.series.specs.declared.Counts.{Counts}
 use Rattle.series.specs.Series.{sizePasses, lowestOfAll, read}
 use Rattle.series.proofs.Facts as Facts

@@ -3,3 +3,4 @@ pub mod Merges
 pub mod Steady
 pub mod Demand
 pub mod Example
+pub mod Exponential

@@ -10,8 +10,7 @@ use lib.ListN.{length}
 use Rattle.laws.specs.Tests.{all}
 use Rattle.tally.specs.Sets.{Set, same, ascending, canonical}
 use Rattle.tally.specs.Kind.{Kind, Room, suffices}
-use Rattle.tally.specs.Calls.{Config, Points, Call, measure, measureBy, bind, release, collect, Answer, refuse, done, handle, listed}
-use Rattle.tally.specs.Map.{Map, Agrees, start, step}
+use Rattle.tally.specs.Map.{Config, Points, Call, measure, measureBy, bind, release, collect, Answer, refuse, done, handle, listed, Map, Agrees, start, step}
 use Rattle.tally.specs.Tally.{Tally, empty, tell, fed, after, valuesOf}
 
 -- a set, unless it is the empty one
@@ -123,9 +122,8 @@ module _ (K : Kind) where
   Pooled M c xs ans =
       (s : Set) → any (gained c xs ans s) ≡ true → M .Within (gained c xs ans s) → Merged M (c .settings) (pointsOf s ans) (gained c xs ans s)
 
-  -- CODE, as it stands after configuring: its states with the lent stores (Ok shuts out number 12), the map that each stands for, what
-  -- its calls are given (arguments in their types' ranges, times, lent output) with the call of demand 3 that this asks for, and its
-  -- calls. A call does the map's step wherever the directory agrees.
+  -- CODE, after configuring: its states with the lent stores (Ok shuts out number 12), the map that each stands for, what its calls are
+  -- given (arguments in range, times, lent output), which asks for a call of demand 3, and its calls: the map's steps where the directory agrees.
   pub record Code (c : Config K) : Type 1 where
     pub State : Type 0
     pub Ok : State → Type 0

@@ -1,4 +1,4 @@
--- A kind of series: what the map and the tally ask of it. Assumes nothing.
+-- A kind of series: what the map and the tally ask of it; and, for any kind, configuration, calls and answers. Assumes nothing.
 -- Document 01 has two, the exponential and the explicit histogram over f64. Later: sums and last values (L1, no count and no merge),
 -- histograms over i64 (L6, with a refusal of their own), a zero threshold (L7, one more of the settings).
 use Prim.Native.Nat.{ℕ, _+_}
@@ -7,6 +7,7 @@ use mathlib.Core.List.{List, [], _∷_}
 use mathlib.Core.Option.{Option, none, some}
 use lib.Dec.{leb}
 use lib.ListN.{length}
+use Rattle.tally.specs.Sets.{Set}
 
 -- refused with the number n unless the test passes
 abbrev pub unless : Bool → ℕ → Option ℕ
@@ -56,11 +57,34 @@ pub record Room : Type 0 where
 
 module _ (K : Kind) where
   -- the counts of all the points in one of the stores
-  abbrev pub countsIn : (K .Point → ℕ) → List (K .Point) → ℕ
-  countsIn f [] = 0
-  countsIn f (p ∷ ps) = f p + countsIn f ps
+  abbrev pub inAll : (K .Point → ℕ) → List (K .Point) → ℕ
+  inAll f [] = 0
+  inAll f (p ∷ ps) = f p + inAll f ps
 
   -- "10: lent output too short for all points or counts"
   abbrev pub suffices : Room → List (K .Point) → Bool
-  suffices room ps =
-      leb (length ps) (room .points) && (leb (countsIn (K .pos) ps) (room .pos) && leb (countsIn (K .neg) ps) (room .neg))
+  suffices room ps = leb (length ps) (room .points) && (leb (inAll (K .pos) ps) (room .pos) && leb (inAll (K .neg) ps) (room .neg))
+
+  pub record Config : Type 0 where
+    pub settings : K .Settings
+    pub limit : ℕ
+    pub filter : Option (List ℕ)
+
+  -- what a collection hands out: each listed set with its point
+  abbrev pub Points : Type 0
+  Points = List (Set × K .Point)
+
+  -- the calls of demand 3: recording by set or handle, binding, releasing, delta collection (L10: a change of settings)
+  pub data Call : Type 0 where
+    measure : K .Value → Set → Call
+    measureBy : ℕ → K .Value → Call
+    bind : Set → Call
+    release : ℕ → Call
+    collect : Room → Call
+
+  -- a refusal's number; success, which is 0, with its result
+  pub data Answer : Type 0 where
+    refuse : ℕ → Answer
+    done : Answer
+    handle : ℕ → Answer
+    listed : Points → Answer

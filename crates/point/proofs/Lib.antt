@@ -3,3 +3,4 @@ pub mod Calls
 pub mod Laid
 pub mod Means
 pub mod Answers
+pub mod Offsets

@@ -1,4 +1,6 @@
 // A point as it is handed out, of either kind, and two such points merged.
+pub mod signed;
+
 ghost use mathlib.Core.Path.{_≡_};
 ghost use mathlib.Core.Bool.{Bool};
 ghost use Prim.Native.Nat.{ℕ, _+_, _-_, _*_, _/_, _^_, _<_, _≤_};

@@ -1,29 +1,27 @@
 -- A new entry in the next slot is the map with that entry put. Assumes nothing.
-use Prim.Native.Nat.{ℕ, zero, suc, _+_, _-_, _≤_, _<_, Ordering, Ordering·lt, Ordering·eq, Ordering·gt}
+use Prim.Native.Nat.{ℕ, zero, suc, _+_, _-_, _≤_, _<_, Ordering·gt}
 use mathlib.Core.Path.{_≡_, refl, ap, sym, subst, _∙_}
-use mathlib.Core.Logic.{_⊎_, inl, inr, ⊎-elim}
+use mathlib.Core.Logic.{inl, inr}
 use mathlib.Core.Bool.{Bool, true, false, cond}
 use mathlib.Core.List.{List, [], _∷_, _++_, map, append-assoc}
-use mathlib.Core.Option.{Option, none, some}
+use mathlib.Core.Option.{none}
 use native.Mathlib.Omega.{arith}
-use native.Mathlib.Numerals.{add-one}
-use lib.Dec.{isEq}
 use lib.ListN.{length, getD, set, take, drop, length-append, length-drop}
 use lib.Seq.{getD-set-same, getD-set-other, length-take-le, take-take, take-at, drop-cons}
-use Rattle.tally.specs.Sets.{Set, three, cmp, same, Rising}
+use Rattle.tally.specs.Sets.{Set, cmp, same}
 use Rattle.tally.specs.Kind.{Kind}
-use Rattle.tally.specs.Map.{Entry, Map, find, put, rebound, new, keys}
+use Rattle.tally.specs.Map.{Entry, find, put, rebound, new, keys}
 use Rattle.tally.proofs.Order.{same-flip}
 use Rattle.laws.proofs.Cases.{true-not-false}
 use Rattle.tally.proofs.Ranks.{rank, rank-le, put-new}
-use Rattle.directory.specs.Rows.{size, span, setOf}
-use Rattle.directory.specs.View.{Stores, setAt, birthAt, agreesb, seek, sought, entryAt, view}
-use Rattle.directory.specs.Calls.{Kept, admitted, inserted, rest}
+use Rattle.directory.specs.Rows.{span, setOf}
+use Rattle.directory.specs.View.{Stores, setAt, agreesb, seek, sought, entryAt, view}
+use Rattle.directory.specs.Calls.{admitted, inserted}
 use Rattle.directory.specs.declared.Directory.{Directory}
 use Rattle.directory.specs.declared.Found.{Found}
 use Rattle.directory.specs.declared.Found.the-variants.{Held, Room}
 use Rattle.directory.proofs.Rises.{In, keys-map, seek-room}
-use Rattle.directory.proofs.Laws.{slotsOf, slot-used, ascends}
+use Rattle.directory.proofs.Laws.{slot-used, ascends}
 
 -- places as a part of the order
 pub span-part : (l : List ℕ) (i k : ℕ) → i + k ≤ length l → span l i k ≡ take k (drop i l)

@@ -1,21 +1,19 @@
 -- The cases of the directory's agreement, and what it says of each slot and place. Assumes nothing.
-use Prim.Native.Nat.{ℕ, zero, suc, _+_, _-_, _≤_, _<_, Ordering, Ordering·lt, Ordering·eq, Ordering·gt}
+use Prim.Native.Nat.{ℕ, suc, _+_, _-_, _≤_, _<_, Ordering, Ordering·lt, Ordering·eq, Ordering·gt}
 use mathlib.Core.Path.{_≡_, refl, ap, sym, _∙_}
-use mathlib.Core.Bool.{Bool, true, false, cond, not, _&&_, _||_}
-use mathlib.Core.List.{List, [], _∷_, map}
+use mathlib.Core.Bool.{Bool, true, false, cond, _&&_, _||_}
+use mathlib.Core.List.{List, []}
 use native.Mathlib.Omega.{arith}
-use borrow.Author.Tests.{le-leb, lt-leb, lt-ltb, le-ltb, eq-eqb, ne-eqb, leb-true, ltb-true, eqb-false}
-use lib.Dec.{eqb, leb, ltb}
+use borrow.Author.Tests.{le-leb, lt-leb, lt-ltb, le-ltb, eq-eqb, ne-eqb, leb-true, ltb-true}
+use lib.Dec.{eqb, leb}
 use lib.ListN.{getD}
-use Rattle.tally.specs.Sets.{Set, cmp}
-use Rattle.laws.proofs.Cases.{true-not-false}
+use Rattle.tally.specs.Sets.{cmp}
 use Rattle.laws.proofs.Cases.{and-true}
 use Rattle.directory.specs.All.{allb}
 use Rattle.directory.proofs.Alls.{allb-at}
-use Rattle.directory.specs.Rows.{size, setOf, soundb}
+use Rattle.directory.specs.Rows.{size, soundb}
 use Rattle.directory.specs.View.{Stores, setAt, birthAt, below, slotAt, placeAt, plainly, slotsb, placed, countsb, agreesb}
 use Rattle.directory.specs.declared.Directory.{Directory}
-use Rattle.directory.specs.declared.Placed.{Placed}
 use Rattle.directory.specs.declared.Placed.the-variants.{Broken, Plain}
 
 -- the count

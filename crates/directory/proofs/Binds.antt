@@ -1,33 +1,33 @@
 -- Binding is the map's step, for any kind of series; and there is room for what it makes. Assumes nothing.
-use Prim.Native.Nat.{ℕ, zero, suc, _+_, _-_, _^_, _≤_, _<_, Ordering, Ordering·lt, Ordering·eq, Ordering·gt}
+use Prim.Native.Nat.{ℕ, suc, _+_, _-_, _^_, _≤_, _<_, Ordering, Ordering·lt, Ordering·eq, Ordering·gt}
 use mathlib.Core.Path.{_≡_, refl, ap, sym, subst, _∙_}
 use mathlib.Core.Logic.{_⊎_, inl, inr, ⊎-elim}
-use mathlib.Core.Bool.{Bool, true, false, cond, not, _&&_, _||_}
-use mathlib.Core.List.{List, [], _∷_, _++_, map}
-use mathlib.Core.Option.{Option, none, some}
+use mathlib.Core.Bool.{Bool, true, false, cond, not, _||_}
+use mathlib.Core.List.{List, [], _∷_, map}
+use mathlib.Core.Option.{none, some}
 use native.Mathlib.Omega.{arith}
 use native.Mathlib.Numerals.{add-one}
-use borrow.Author.Tests.{leb-true, leb-false, ltb-true, ltb-false, lt-ltb, le-ltb, le-leb, lt-leb, eqb-true}
+use borrow.Author.Tests.{leb-true, leb-false, ltb-true, lt-ltb, le-ltb, le-leb, lt-leb, eqb-true}
 use lib.Dec.{isEq, eqb, ltb, leb}
-use lib.ListN.{length, getD, set}
+use lib.ListN.{length, getD}
 use Rattle.tally.specs.Sets.{Set, overflow, three, cmp, same, mem, Rising, Above, canonical}
 use Rattle.tally.specs.Kind.{Kind}
-use Rattle.tally.specs.Map.{Config, Entry, Map, Call, bind, Answer, done, refuse, handle, Out, Place, find, put, rebound, new, held, place, bindAt, step, upfront, act, plain, plains, bit, keys}
+use Rattle.tally.specs.Map.{Config, Entry, Map, bind, handle, Out, Place, find, put, rebound, new, held, place, bindAt, upfront, act, plain, plains, bit}
 use Rattle.tally.proofs.Order.{gt-lt, lt-gt, same-flip, same-eq}
 use Rattle.laws.proofs.Cases.{true-not-false}
 use Rattle.tally.proofs.Rising.{above-trans, above-mem}
 use Rattle.laws.proofs.Cases.{and-true}
 use Rattle.directory.specs.All.{allb}
-use Rattle.directory.specs.Rows.{size, span, setOf}
+use Rattle.directory.specs.Rows.{span, setOf}
 use Rattle.directory.specs.View.{Stores, setAt, birthAt, placeAt, slotsb, agreesb, countsb, plainly, seek, sought, entryAt, view}
 use Rattle.laws.specs.Pick.{pick}
-use Rattle.directory.specs.Calls.{overRow, orOver, targetOf, located, boundTo, refused, Kept, Outcome, admitted, boundAt, bornBound, boundIn}
+use Rattle.directory.specs.Calls.{overRow, targetOf, located, boundTo, refused, Kept, Outcome, admitted, boundAt, bornBound, boundIn}
 use Rattle.directory.specs.declared.Directory.{Directory}
 use Rattle.directory.specs.declared.Found.{Found}
 use Rattle.directory.specs.declared.Found.the-variants.{Held, Room}
 use Rattle.directory.specs.declared.Target.{Target}
 use Rattle.directory.specs.declared.Target.the-variants.{Disagrees, Old, New, Over}
-use Rattle.directory.specs.declared.Answer.the-variants.{Refused, Done, Handle}
+use Rattle.directory.specs.declared.Answer.the-variants.{Handle}
 use Rattle.directory.proofs.Rises.{In, seek-held}
 use Rattle.directory.proofs.Laws.{slotsOf, few, slot-used, ascends, rebind-put, said, Steps}
 use Rattle.directory.proofs.Admits.{sought-room, room-rank, admit-put, length-span}

@@ -1,23 +1,20 @@
 -- Turns of the loops that check the directory and search in it. Assumes nothing.
 use Prim.Native.Nat.{ℕ, zero, suc, _+_, _-_, _≤_, _<_, compare, Ordering, Ordering·lt, Ordering·eq, Ordering·gt}
 use mathlib.Core.Path.{_≡_, refl, ap, sym, _∙_}
-use mathlib.Core.Bool.{Bool, true, false, cond, not, _&&_, _||_}
+use mathlib.Core.Bool.{Bool, true, false, not, _||_}
 use mathlib.Core.List.{List, [], _∷_, _++_, map}
 use native.Mathlib.Omega.{arith}
 use native.Mathlib.Numerals.{add-one}
 use borrow.Author.Tests.{le-leb, lt-leb, lt-ltb, le-ltb, eq-eqb, ne-eqb, eqb-false}
-use lib.Dec.{isEq, eqb, leb, ltb}
+use lib.Dec.{isEq, eqb}
 use lib.ListN.{getD}
 use Rattle.tally.specs.Sets.{Set, overflow, three, cmp, same}
 use Rattle.tally.specs.Map.{plain, plains, bit}
 use Rattle.laws.proofs.Compare.{compare-eq, compare-self}
 use Rattle.directory.specs.All.{allb}
-use Rattle.directory.proofs.Alls.{and-no}
-use Rattle.directory.specs.Rows.{pair, size, span, words, setOf, way, soundb}
-use Rattle.directory.specs.declared.Way.{Way}
+use Rattle.directory.specs.Rows.{pair, size, span, setOf, way, soundb}
 use Rattle.directory.specs.declared.Way.the-variants.{Before, Same, After}
 use Rattle.directory.specs.View.{setAt, birthAt, below, slotAt, placeAt, plainly, slotsb, placed, seek, sought}
-use Rattle.directory.specs.declared.Placed.{Placed}
 use Rattle.directory.specs.declared.Placed.the-variants.{Broken, Plain}
 use Rattle.directory.specs.declared.Found.{Found}
 use Rattle.directory.specs.declared.Found.the-variants.{Held, Room}

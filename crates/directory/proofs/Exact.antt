@@ -1,13 +1,12 @@
 -- The row that is written for a set, to its last word: one row for each set. Assumes nothing.
 use Prim.Native.Nat.{ℕ, zero, suc, _+_, _-_, _*_, _/_, _%_, _≤_, _<_}
-use mathlib.Core.Path.{_≡_, refl, ap, sym, subst, _∙_}
+use mathlib.Core.Path.{_≡_, refl, ap, sym, _∙_}
 use mathlib.Core.List.{List, [], _∷_, _++_, map, append-assoc}
 use native.Mathlib.Omega.{arith}
-use native.Mathlib.Numerals.{add-one}
 use lib.ListN.{length, getD, set, take, drop, replicate, length-set, length-map, length-append, length-drop, length-replicate, getD-replicate}
-use lib.Seq.{getD-set-other, getD-set-same, getD-append-add, getD-drop, length-take-le, take-append-seam, take-at}
+use lib.Seq.{getD-set-other, getD-set-same, getD-append-add, getD-drop, length-take-le, take-append-seam}
 use Rattle.tally.specs.Sets.{Set}
-use Rattle.directory.specs.Rows.{pair, size, span, words, setOf, wordOf, rowOf, Clean}
+use Rattle.directory.specs.Rows.{pair, size, span, setOf, wordOf, rowOf, Clean}
 use Rattle.directory.specs.Calls.{inserted}
 use Rattle.directory.proofs.Admits.{span-take, length-inserted}
 use Rattle.directory.proofs.Spots.{span-whole, span-length}

@@ -1,7 +1,7 @@
 -- Turns of the scan for a handle, and the cases of where a call goes. Assumes nothing.
 use Prim.Native.Nat.{ℕ, zero, suc, _+_, _-_, _≤_, _<_}
-use mathlib.Core.Path.{_≡_, refl, ap, sym, subst, _∙_}
-use mathlib.Core.Bool.{Bool, true, false, cond, _&&_}
+use mathlib.Core.Path.{_≡_, refl, sym, subst}
+use mathlib.Core.Bool.{Bool, true, false, _&&_}
 use mathlib.Core.List.{List, [], _∷_}
 use native.Mathlib.Omega.{arith}
 use borrow.Author.Tests.{lt-ltb, le-ltb, eq-eqb, ne-eqb, ltb-true}
@@ -11,11 +11,9 @@ use Rattle.laws.proofs.Cases.{and-true}
 use Rattle.directory.specs.Rows.{span, setOf}
 use Rattle.directory.specs.View.{Stores, birthAt, agreesb, sought}
 use Rattle.laws.specs.Pick.{pick}
-use Rattle.directory.specs.Calls.{overRow, scan, targetOf, located}
+use Rattle.directory.specs.Calls.{overRow, scan, located}
 use Rattle.directory.specs.declared.Directory.{Directory}
-use Rattle.directory.specs.declared.Found.{Found}
 use Rattle.directory.specs.declared.Found.the-variants.{Held, Room}
-use Rattle.directory.specs.declared.Target.{Target}
 use Rattle.directory.specs.declared.Target.the-variants.{Disagrees, Old, New, Over}
 use Rattle.directory.proofs.Words.{span-more, span-none, span-all}
 

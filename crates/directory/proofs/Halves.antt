@@ -1,5 +1,5 @@
 -- Halving the places between which a set stands. Assumes nothing.
-use Prim.Native.Nat.{ℕ, zero, suc, _+_, _-_, _≤_, _<_, Ordering, Ordering·lt, Ordering·eq, Ordering·gt}
+use Prim.Native.Nat.{ℕ, zero, suc, _+_, _-_, _≤_, _<_, Ordering·lt, Ordering·eq, Ordering·gt}
 use mathlib.Core.Path.{_≡_, refl, ap, sym, subst, _∙_}
 use mathlib.Core.Logic.{⊎-elim}
 use mathlib.Core.List.{List, []}
@@ -11,7 +11,6 @@ use Rattle.tally.specs.Sets.{Set, cmp}
 use Rattle.tally.proofs.Order.{cmp-trans, cmp-eq, gt-lt, lt-gt}
 use Rattle.directory.specs.Rows.{span, setOf}
 use Rattle.directory.specs.View.{seek}
-use Rattle.directory.specs.declared.Found.{Found}
 use Rattle.directory.specs.declared.Found.the-variants.{Held, Room}
 use Rattle.directory.proofs.Checks.{seek-over, seek-low, seek-here, seek-on}
 

@@ -2,25 +2,24 @@
 -- Assumes nothing.
 use Prim.Native.Nat.{ℕ, zero, suc, _+_, _-_, _^_, _≤_, _<_, compare, Ordering, Ordering·lt, Ordering·eq, Ordering·gt}
 use mathlib.Core.Path.{_≡_, refl, ap, sym, subst, _∙_}
-use mathlib.Core.Logic.{⊎-elim}
-use mathlib.Core.Bool.{Bool, true, false, cond, _&&_}
+use mathlib.Core.Bool.{Bool, true, false, cond}
 use mathlib.Core.List.{List, [], _∷_}
-use mathlib.Core.Option.{Option, none, some}
+use mathlib.Core.Option.{Option, none}
 use native.Mathlib.Omega.{arith}
-use borrow.Author.Tests.{le-leb, leb-true, ltb-true}
-use lib.Dec.{leb, ltb}
+use borrow.Author.Tests.{le-leb, leb-true}
+use lib.Dec.{leb}
 use lib.ListN.{length, getD, set}
 use lib.Seq.{getD-set-same}
 use Rattle.laws.specs.Pick.{pick}
 use Rattle.laws.proofs.Cases.{true-not-false}
-use Rattle.tally.specs.Sets.{Set, three, same, kept, before, canonical, Keyed}
-use Rattle.tally.specs.Kind.{Kind, unless}
-use Rattle.tally.specs.Map.{Config, Entry, Map, bind, release, start, step, upfront, act, orRefused, Agrees}
+use Rattle.tally.specs.Sets.{Set, three, kept, before, canonical, Keyed}
+use Rattle.tally.specs.Kind.{Kind}
+use Rattle.tally.specs.Map.{Config, bind, release, start, upfront, act, Agrees}
 use Rattle.tally.proofs.Canon.{canonical-keyed, canonical-length}
 use Rattle.tally.proofs.Agree.{step-agrees}
 use Rattle.directory.specs.All.{allb}
-use Rattle.directory.specs.Rows.{size, span, setOf, rowOf, soundb}
-use Rattle.directory.specs.View.{Stores, birthAt, slotsb, agreesb, sought, entryAt, view}
+use Rattle.directory.specs.Rows.{size, setOf, rowOf, soundb}
+use Rattle.directory.specs.View.{Stores, slotsb, agreesb, sought, view}
 use Rattle.directory.specs.Calls.{Kept, Outcome, overRow, located, scan, refused, releasedAt, releasedIn, boundAt, boundIn, mostSets, mostAttributes, accepts, enough, fresh, started, bound, released}
 use Rattle.directory.specs.declared.Directory.{Directory}
 use Rattle.directory.specs.declared.Found.{Found}
@@ -33,7 +32,7 @@ use Rattle.directory.proofs.Laws.{slotsOf, few, slot-used, scan-in, Ste
 use Rattle.directory.proofs.Binds.{blank, told, old-there, new-there, over-there, bind-faithful}
 use Rattle.directory.proofs.Exact.{Small, size-row, set-own}
 use Rattle.directory.proofs.Refusals.{suffices}
-use Rattle.directory.proofs.Tied.{agreed, keyed-sound, length-set-of}
+use Rattle.directory.proofs.Tied.{agreed, keyed-sound}
 use Rattle.directory.proofs.Laid.{Laid, laid, laid-agrees, laid-rebind, laid-admit}
 
 -- what holds of both outcomes holds of the one picked

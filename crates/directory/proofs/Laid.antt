@@ -1,24 +1,23 @@
 -- The layout of the directory's stores, and that agreement is the layout with the map's own agreement. Assumes nothing.
-use Prim.Native.Nat.{ℕ, zero, suc, _+_, _-_, _≤_, _<_, Ordering, Ordering·lt, Ordering·eq, Ordering·gt}
+use Prim.Native.Nat.{ℕ, zero, suc, _+_, _-_, _≤_, _<_, Ordering·lt}
 use mathlib.Core.Path.{_≡_, refl, ap, sym, subst, _∙_}
 use mathlib.Core.Logic.{_⊎_, inl, inr, ⊎-elim}
-use mathlib.Core.Bool.{Bool, true, false, cond, not, _&&_, _||_}
+use mathlib.Core.Bool.{Bool, true, false, not, _||_}
 use mathlib.Core.List.{List, [], _∷_, _++_, map}
 use native.Mathlib.Omega.{arith}
 use native.Mathlib.Nat.{eq-or-lt-of-le}
-use native.Mathlib.Numerals.{add-one}
-use borrow.Author.Tests.{leb-true, ltb-true, lt-ltb, le-leb, eq-eqb, ne-eqb, eqb-true, eqb-false}
-use lib.Dec.{eqb, leb, ltb}
+use borrow.Author.Tests.{lt-ltb, le-leb, eq-eqb, ne-eqb, eqb-true, eqb-false}
+use lib.Dec.{eqb}
 use lib.ListN.{length, getD, set, take, drop, length-map}
 use lib.Seq.{getD-set-same, getD-set-other}
 use Rattle.tally.specs.Sets.{Set, overflow, cmp, same, mem, Rising}
 use Rattle.tally.specs.Kind.{Kind}
-use Rattle.tally.specs.Map.{plain, bit, plains, Config, Map, keys, Agrees}
+use Rattle.tally.specs.Map.{plain, bit, plains, Config, keys, Agrees}
 use Rattle.tally.proofs.Ranks.{entries-fit}
 use Rattle.directory.specs.All.{allb}
 use Rattle.directory.proofs.Alls.{allb-yes}
-use Rattle.directory.specs.Rows.{size, span, setOf, soundb}
-use Rattle.directory.specs.View.{Stores, setAt, birthAt, below, slotAt, placeAt, plainly, slotsb, countsb, agreesb, entryAt, view}
+use Rattle.directory.specs.Rows.{span, soundb}
+use Rattle.directory.specs.View.{Stores, setAt, birthAt, slotAt, placeAt, plainly, slotsb, countsb, agreesb, entryAt, view}
 use Rattle.directory.specs.Calls.{inserted, admitted, boundTo}
 use Rattle.directory.specs.declared.Directory.{Directory}
 use Rattle.directory.proofs.Agreed.{slot-sound, birth-rise, last-birth, place-slot}

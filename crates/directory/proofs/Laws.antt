@@ -1,28 +1,26 @@
 -- The directory's calls are the map's steps, for any kind of series. Assumes nothing.
-use Prim.Native.Nat.{ℕ, zero, suc, _+_, _-_, _≤_, _<_, Ordering, Ordering·lt, Ordering·eq, Ordering·gt}
+use Prim.Native.Nat.{ℕ, zero, suc, _+_, _-_, _≤_, _<_, Ordering·lt, Ordering·eq, Ordering·gt}
 use mathlib.Core.Path.{_≡_, refl, ap, sym, subst, _∙_}
 use mathlib.Core.Logic.{_⊎_, inl, inr, ⊎-elim}
-use mathlib.Core.Bool.{Bool, true, false, cond, not, _&&_, _||_}
-use mathlib.Core.List.{List, [], _∷_, _++_, map}
+use mathlib.Core.Bool.{Bool, true, false, cond, _&&_}
+use mathlib.Core.List.{List, [], _∷_, map}
 use mathlib.Core.Option.{Option, none, some}
 use native.Mathlib.Omega.{arith}
-use native.Mathlib.Numerals.{add-one}
 use borrow.Author.Tests.{leb-true}
-use lib.Dec.{isEq, eqb, ltb, leb}
-use lib.ListN.{length, getD, set, take, drop}
-use lib.Seq.{getD-set-same, getD-set-other, take-append-le, length-take-le, take-take}
-use Rattle.tally.specs.Sets.{Set, three, cmp, same, Rising, Above}
+use lib.Dec.{eqb, ltb, leb}
+use lib.ListN.{length, getD}
+use lib.Seq.{getD-set-same, getD-set-other}
+use Rattle.tally.specs.Sets.{Set, cmp, Rising, Above}
 use Rattle.tally.specs.Kind.{Kind}
-use Rattle.tally.specs.Map.{Config, Entry, Map, Call, release, Answer, done, refuse, handle, Out, find, named, put, rebound, new, step, upfront, act, releaseAt, keys}
-use Rattle.laws.proofs.Cases.{none-not-some, lt-not-eq, gt-not-lt, gt-not-eq}
-use Rattle.tally.proofs.Order.{gt-lt, lt-gt, same-flip, cmp-self}
+use Rattle.tally.specs.Map.{Config, Entry, Map, Call, release, Answer, done, refuse, handle, named, put, rebound, step, upfront, act, releaseAt}
+use Rattle.laws.proofs.Cases.{lt-not-eq}
+use Rattle.tally.proofs.Order.{lt-gt, cmp-self}
 use Rattle.laws.proofs.Cases.{and-true}
-use Rattle.tally.proofs.Ranks.{rank, put-new}
 use Rattle.directory.specs.All.{allb}
-use Rattle.directory.specs.Rows.{pair, size, span, setOf, soundb}
-use Rattle.directory.specs.View.{Stores, setAt, birthAt, placeAt, slotsb, agreesb, countsb, plainly, seek, sought, entryAt, view}
+use Rattle.directory.specs.Rows.{span, setOf}
+use Rattle.directory.specs.View.{Stores, setAt, birthAt, placeAt, slotsb, agreesb, entryAt, view}
 use Rattle.laws.specs.Pick.{pick}
-use Rattle.directory.specs.Calls.{boundTo, scan, releasedIn, releasedAt, refused, Kept, Outcome, admitted, inserted}
+use Rattle.directory.specs.Calls.{boundTo, scan, releasedIn, releasedAt, refused, Outcome}
 use Rattle.directory.specs.declared.Directory.{Directory}
 use Rattle.directory.specs.declared.Found.{Found}
 use Rattle.directory.specs.declared.Found.the-variants.{Held, Room}
@@ -30,7 +28,7 @@ use Rattle.directory.specs.declared.Answer.the-variants.{Refused, Done, 
 use Rattle.directory.specs.declared.Answer as ours
 use Rattle.directory.proofs.Agreed.{slot-sizes, place-slot, place-rise}
 use Rattle.directory.proofs.Checks.{set-named}
-use Rattle.directory.proofs.Rises.{In, keys-map, rising-span, above-span, after-empty}
+use Rattle.directory.proofs.Rises.{In, rising-span, above-span, after-empty}
 
 -- the slots of a directory, ascending by set
 abbrev pub slotsOf : Directory → Stores → List ℕ

@@ -1,22 +1,20 @@
 -- A call comes to its own set's entry while the named sets, its own among them, are at most the limit: demand 3's premise, read off the
 -- directory. Assumes nothing.
-use Prim.Native.Nat.{ℕ, _+_, _≤_, _<_}
-use mathlib.Core.Path.{_≡_, refl, sym, _∙_}
-use mathlib.Core.Logic.{_⊎_, inl, inr, ⊎-elim}
-use mathlib.Core.Bool.{Bool, true, false}
+use Prim.Native.Nat.{ℕ, _≤_, _<_}
+use mathlib.Core.Path.{_≡_}
+use mathlib.Core.Logic.{_⊎_, ⊎-elim}
+use mathlib.Core.Bool.{true, false}
 use mathlib.Core.List.{List, map}
 use native.Mathlib.Omega.{arith}
 use borrow.Author.Tests.{ltb-false}
 use lib.Dec.{ltb}
-use lib.ListN.{length}
-use Rattle.tally.specs.Map.{plains}
 use Rattle.tally.proofs.Entries.{find-set}
 use Rattle.directory.specs.Rows.{span, setOf}
-use Rattle.directory.specs.View.{Stores, setAt, agreesb, plainly, sought, entryAt, view}
-use Rattle.directory.specs.Calls.{overRow, located}
+use Rattle.directory.specs.View.{Stores, setAt, agreesb, sought, entryAt, view}
+use Rattle.directory.specs.Calls.{located}
 use Rattle.directory.specs.declared.Directory.{Directory}
-use Rattle.directory.specs.declared.Found.the-variants.{Held, Room}
-use Rattle.directory.specs.declared.Target.the-variants.{Old, New, Over}
+use Rattle.directory.specs.declared.Found.the-variants.{Held}
+use Rattle.directory.specs.declared.Target.the-variants.{Old, Over}
 use Rattle.directory.proofs.Admits.{length-span}
 use Rattle.directory.proofs.Binds.{blank, counted, sought-held, told}
 use Rattle.directory.proofs.Laid.{plains-le}

@@ -1,8 +1,8 @@
 -- The cases of the public calls: their refusals in order. Assumes nothing.
-use Prim.Native.Nat.{ℕ, _+_, _-_, _^_, _≤_, _<_}
-use mathlib.Core.Path.{_≡_, refl, ap, sym, _∙_}
+use Prim.Native.Nat.{ℕ, _+_, _-_, _≤_, _<_}
+use mathlib.Core.Path.{_≡_, sym, _∙_}
 use mathlib.Core.Bool.{Bool, true, false, not, _&&_}
-use mathlib.Core.List.{List, [], _∷_, map}
+use mathlib.Core.List.{List, [], _∷_}
 use mathlib.Core.Option.{Option}
 use native.Mathlib.Omega.{arith}
 use borrow.Author.Tests.{le-leb, lt-leb, leb-true, not-true, not-false}
@@ -10,11 +10,11 @@ use lib.Dec.{leb}
 use lib.ListN.{length, length-map, set}
 use Rattle.laws.specs.Pick.{pick}
 use Rattle.laws.proofs.Cases.{and-true}
-use Rattle.tally.specs.Sets.{Set, canonical}
+use Rattle.tally.specs.Sets.{canonical}
 use Rattle.directory.specs.Rows.{rowOf}
 use Rattle.directory.specs.Sorted.{attribute, given, filterOf}
 use Rattle.directory.specs.View.{Stores}
-use Rattle.directory.specs.Calls.{Outcome, refused, releasedIn, boundIn, mostSets, mostKeys, mostAttributes, fewKeys, accepts, enough, fresh, started, bound, released}
+use Rattle.directory.specs.Calls.{refused, releasedIn, boundIn, mostSets, mostKeys, mostAttributes, fewKeys, accepts, enough, fresh, started, bound, released}
 use Rattle.directory.specs.declared.Directory.{Directory}
 use Rattle.directory.specs.declared.Answer.the-variants.{Done}
 

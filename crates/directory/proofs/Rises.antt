@@ -1,24 +1,22 @@
 -- A directory that agrees is a map whose sets ascend. Assumes nothing.
 use Prim.Native.Nat.{ℕ, zero, suc, _+_, _-_, _≤_, _<_, Ordering, Ordering·lt, Ordering·eq, Ordering·gt}
-use mathlib.Core.Path.{_≡_, refl, ap, sym, subst, _∙_}
-use mathlib.Core.Logic.{_⊎_, inl, inr, ⊎-elim}
-use mathlib.Core.Bool.{Bool, true, false, cond, not, _&&_, _||_}
-use mathlib.Core.List.{List, [], _∷_, _++_, map}
-use mathlib.Core.Option.{Option, none, some}
+use mathlib.Core.Path.{_≡_, refl, ap, sym, _∙_}
+use mathlib.Core.Logic.{_⊎_, inl, inr}
+use mathlib.Core.Bool.{true, false}
+use mathlib.Core.List.{List, [], _∷_, map}
+use mathlib.Core.Option.{none, some}
 use native.Mathlib.Omega.{arith}
 use lib.Dec.{isEq}
 use lib.ListN.{getD}
 use Rattle.tally.specs.Sets.{Set, three, cmp, same, Rising, Above}
 use Rattle.tally.specs.Kind.{Kind}
-use Rattle.tally.specs.Map.{Entry, Map, find, keys}
-use Rattle.laws.proofs.Cases.{none-not-some, lt-not-eq, gt-not-lt}
+use Rattle.tally.specs.Map.{Entry, find, keys}
 use Rattle.tally.proofs.Order.{gt-lt, lt-gt, same-flip}
 use Rattle.tally.proofs.Rising.{above-trans, above-mem}
 use Rattle.tally.proofs.Entries.{find-none}
 use Rattle.tally.proofs.Ranks.{rank}
 use Rattle.directory.specs.Rows.{pair, size, span, setOf}
-use Rattle.directory.specs.View.{Stores, setAt, seek, sought, entryAt}
-use Rattle.directory.specs.declared.Found.{Found}
+use Rattle.directory.specs.View.{Stores, setAt, seek, entryAt}
 use Rattle.directory.specs.declared.Found.the-variants.{Held, Room}
 
 -- sets that rise from each place to the next, rise

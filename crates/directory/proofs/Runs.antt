@@ -2,21 +2,19 @@
 -- Assumes nothing.
 use Prim.Native.Nat.{ℕ, zero, suc, _+_, _-_, _^_, _≤_, _<_}
 use mathlib.Core.Path.{_≡_, refl, ap, sym, subst, _∙_}
-use mathlib.Core.Bool.{Bool, true, false, _&&_}
+use mathlib.Core.Bool.{true}
 use mathlib.Core.List.{List, [], _∷_}
 use mathlib.Core.Option.{Option}
 use native.Mathlib.Omega.{arith}
-use native.Mathlib.Numerals.{add-one}
-use borrow.Author.Tests.{le-leb, leb-true, leb-false}
+use borrow.Author.Tests.{le-leb, leb-false}
 use lib.Dec.{leb}
 use lib.ListN.{length, getD, set, length-set}
 use lib.Seq.{getD-set-other}
-use Rattle.laws.specs.Pick.{pick}
 use Rattle.laws.proofs.Cases.{true-not-false, and-true}
 use Rattle.tally.specs.Sets.{Set, canonical}
-use Rattle.directory.specs.Rows.{span, setOf, rowOf}
+use Rattle.directory.specs.Rows.{setOf, rowOf}
 use Rattle.directory.specs.View.{Stores, setAt, birthAt, agreesb}
-use Rattle.directory.specs.Calls.{Kept, Outcome, number, overRow, located, inserted, admitted, boundTo, scan, refused, releasedAt, releasedIn, boundAt, boundIn, mostSets, mostAttributes, accepts, fewKeys, enough, fresh, started, bound, released}
+use Rattle.directory.specs.Calls.{Kept, Outcome, number, overRow, located, admitted, boundTo, scan, refused, releasedAt, releasedIn, boundAt, boundIn, mostSets, mostAttributes, accepts, fewKeys, enough, started, bound, released}
 use Rattle.directory.specs.declared.Directory.{Directory}
 use Rattle.directory.specs.declared.Answer.{Answer}
 use Rattle.directory.specs.declared.Answer.the-variants.{Refused, Done, Handle}

@@ -2,24 +2,24 @@
 use Prim.Native.Nat.{ℕ, zero, suc, _+_, _-_, _/_, _≤_, _<_}
 use mathlib.Core.Path.{_≡_, refl, ap, sym, subst, _∙_}
 use mathlib.Core.Logic.{_⊎_, inl, inr, ⊎-elim}
-use mathlib.Core.Bool.{Bool, true, false, cond, _&&_}
+use mathlib.Core.Bool.{Bool, true, false, cond}
 use mathlib.Core.List.{List, [], _∷_, map}
-use mathlib.Core.Option.{Option, none, some}
+use mathlib.Core.Option.{some}
 use native.Mathlib.Omega.{arith}
 use native.Mathlib.Nat.{eq-or-lt-of-le}
 use native.Mathlib.Numerals.{add-one}
-use borrow.Author.Tests.{leb-true, ltb-true, lt-ltb, le-leb}
-use lib.Dec.{leb, ltb}
+use borrow.Author.Tests.{ltb-true, lt-ltb, le-leb}
+use lib.Dec.{leb}
 use lib.ListN.{length, getD, length-map}
 use Rattle.laws.proofs.Cases.{and-true, some-inj, none-not-some}
 use Rattle.tally.specs.Sets.{Set, overflow, same, mem, Rising, Over, Keyed}
 use Rattle.tally.specs.Kind.{Kind}
-use Rattle.tally.specs.Map.{bit, plains, Config, Entry, Map, find, Agrees}
+use Rattle.tally.specs.Map.{bit, plains, Config, Entry, find, Agrees}
 use Rattle.tally.proofs.Order.{same-eq}
 use Rattle.directory.specs.All.{allb}
 use Rattle.directory.proofs.Alls.{allb-at, allb-yes}
 use Rattle.directory.specs.Rows.{pair, size, span, setOf, keyAt, soundb}
-use Rattle.directory.specs.View.{Stores, setAt, birthAt, agreesb, entryAt, view}
+use Rattle.directory.specs.View.{Stores, setAt, agreesb, entryAt, view}
 use Rattle.directory.specs.declared.Directory.{Directory}
 use Rattle.directory.proofs.Agreed.{sound-few, slot-sound}
 use Rattle.directory.proofs.Rises.{In, keys-map}

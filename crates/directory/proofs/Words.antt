@@ -1,14 +1,13 @@
 -- Sets compare as their words do. Assumes nothing.
-use Prim.Native.Nat.{ℕ, zero, suc, _+_, _-_, _*_, _/_, _%_, _≤_, _<_, compare, Ordering, Ordering·lt, Ordering·eq, Ordering·gt}
-use mathlib.Core.Path.{_≡_, refl, ap, sym, _∙_}
-use mathlib.Core.Bool.{Bool, true, false}
+use Prim.Native.Nat.{ℕ, suc, _+_, _-_, _/_, _%_, _≤_, _<_, compare, Ordering, Ordering·lt, Ordering·eq, Ordering·gt}
+use mathlib.Core.Path.{_≡_, refl, ap, _∙_}
 use mathlib.Core.List.{List, [], _∷_, map}
 use native.Mathlib.Omega.{arith}
 use native.Mathlib.Numerals.{add-one}
 use lib.ListN.{getD}
-use Rattle.tally.specs.Sets.{Set, three, cmp}
+use Rattle.tally.specs.Sets.{three, cmp}
 use Rattle.laws.proofs.Compare.{compare-lt, compare-eq, lt-compare, compare-self, compare-flip, flip}
-use Rattle.directory.specs.Rows.{pair, size, span, words, setOf, way}
+use Rattle.directory.specs.Rows.{pair, size, span, words, setOf}
 
 -- word by word, then the shorter first
 abbrev pub cmpWords : List ℕ → List ℕ → Ordering

@@ -1,12 +1,12 @@
 -- What the calls make of the directory: exactly, in its stores. Assumes nothing.
-use Prim.Native.Nat.{ℕ, zero, suc, _+_, _-_}
-use mathlib.Core.Bool.{Bool, true, false, _&&_}
+use Prim.Native.Nat.{ℕ, _+_, _-_}
+use mathlib.Core.Bool.{Bool, true, _&&_}
 use mathlib.Core.List.{List, [], _∷_, _++_}
 use mathlib.Core.Option.{Option, none, some}
 use lib.Dec.{ltb, leb, eqb}
 use lib.ListN.{length, getD, set, take, drop}
 use Rattle.laws.specs.Pick.{pick}
-use Rattle.tally.specs.Sets.{Set, overflow, canonical}
+use Rattle.tally.specs.Sets.{Set, canonical}
 use Rattle.directory.specs.Rows.{span, setOf, rowOf}
 use Rattle.directory.specs.View.{Stores, birthAt, agreesb, sought}
 use Rattle.directory.specs.declared.Directory.{Directory}

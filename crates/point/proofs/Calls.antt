@@ -1,31 +1,27 @@
 -- The call of a merge: its refusals in order, and what it answers otherwise. Assumes nothing.
-use Prim.Native.Nat.{ℕ, zero, suc, _+_, _-_, _^_, _≤_, _<_}
+use Prim.Native.Nat.{ℕ, _+_, _-_, _≤_, _<_}
 use mathlib.Core.Path.{_≡_, refl, ap, sym, subst, _∙_}
 use mathlib.Core.Bool.{Bool, true, false, Bool·beq}
 use mathlib.Core.List.{List}
 use native.Mathlib.Omega.{arith}
-use lib.Dec.{leb, eqb}
-use lib.ListN.{length}
+use lib.Dec.{leb}
 use lib.Ieee.{Float}
 use borrow.Author.Tests.{leb-true, eq-eqb, ne-eqb}
 use Rattle.laws.specs.Pick.{pick, _and_}
 use Rattle.laws.proofs.Bools.{not-both, and-left, and-right}
-use Rattle.index.specs.Bins.{finest}
 use Rattle.points.specs.Explicit.{sameBounds, bucketCount, bucketsAgree, mergeBuckets}
 use Rattle.points.specs.Figures.{scaled, bucketed}
 use Rattle.points.specs.Handed.{extremesAgree, mergeCounts}
 use Rattle.points.proofs.Explicit.{buckets-say}
 use Rattle.series.specs.declared.Counts.{Counts}
-use Rattle.series.specs.Series.{agrees}
 use Rattle.merges.specs.Merges.{Agreeing, mergedPoint}
 use Rattle.buckets.specs.Series.{mostCount, bucketsIn}
 use Rattle.point.specs.declared.Point.{Point}
-use Rattle.point.specs.declared.Figures.{Figures}
 use Rattle.point.specs.declared.Figures.the-variants.{Exponential, Explicit}
 use Rattle.point.specs.declared.Made.{Made}
 use Rattle.point.specs.declared.Answer.{Answer}
-use Rattle.point.specs.declared.Answer.the-variants.{Merged, Refused}
-use Rattle.point.specs.Handing.{countsAs, sizeFits, countIn, sameFigures, figuresAgree, pointAgrees, refusalBefore, Over, madeOver, laidOver, madeOne, laidOne, Addable, finished, outcome, ended, merging}
+use Rattle.point.specs.declared.Answer.the-variants.{Refused}
+use Rattle.point.specs.Handing.{countsAs, sizeFits, countIn, sameFigures, figuresAgree, pointAgrees, refusalBefore, madeOver, laidOver, madeOne, laidOne, Addable, finished, outcome, ended, merging}
 use Rattle.point.proofs.Laid.{addable, over-one}
 
 -- the tests in their order

@@ -1,12 +1,12 @@
 -- Merged counts laid over lent rows, case by case. Assumes nothing.
-use Prim.Native.Nat.{ℕ, zero, suc, _+_, _-_, _^_, _≤_, _<_}
+use Prim.Native.Nat.{ℕ, suc, _+_, _-_, _^_, _≤_, _<_}
 use mathlib.Core.Path.{_≡_, refl, ap, sym, subst, _∙_}
-use mathlib.Core.Logic.{⊎-elim, _⊎_, inl, inr}
-use mathlib.Core.Bool.{Bool, true, false}
-use mathlib.Core.List.{List, [], _∷_, _++_}
+use mathlib.Core.Logic.{⊎-elim, _⊎_}
+use mathlib.Core.Bool.{true, false}
+use mathlib.Core.List.{List, [], _∷_}
 use native.Mathlib.Nat.{eq-zero-or-pos}
 use native.Mathlib.Omega.{arith}
-use lib.Dec.{leb, eqb}
+use lib.Dec.{leb}
 use lib.ListN.{length, take, length-take}
 use lib.Seq.{length-take-le}
 use lib.Ieee.{Float, eq}
@@ -20,12 +20,11 @@ use Rattle.points.specs.Explicit.{sameBounds, bucketCount, added, mergeBuckets}
 use Rattle.points.specs.Figures.{scaled, bucketed}
 use Rattle.points.proofs.Explicit.{BucketsOk, length-added}
 use Rattle.series.specs.declared.Counts.{Counts}
-use Rattle.series.specs.Series.{Written, countsFor}
+use Rattle.series.specs.Series.{Written}
 use Rattle.buckets.specs.Series.{bucketsIn}
 use Rattle.point.specs.declared.Figures.the-variants.{Exponential, Explicit}
-use Rattle.point.specs.declared.Made.{Made}
 use Rattle.point.specs.declared.Made.the-variants.{Of, NoRoom}
-use Rattle.point.specs.Handing.{Over, madeOver, laidOver, One, madeOne, laidOne, Addable}
+use Rattle.point.specs.Handing.{madeOver, laidOver, madeOne, laidOne, Addable}
 
 -- ---- the exponential kind
 

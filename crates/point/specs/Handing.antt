@@ -10,7 +10,7 @@ use Rattle.index.specs.Bins.{finest}
 use Rattle.floats.specs.Answers.{shownOf, smallerOf, largerOf}
 use Rattle.floats.specs.Starts.{zeroFloat}
 use Rattle.laws.specs.Counting.{total}
-use Rattle.points.specs.Explicit.{sameBounds, bucketsAgree, bucketCount, added}
+use Rattle.points.specs.Explicit.{sameBounds, bucketsAgree, added}
 use Rattle.points.specs.Figures as F
 use Rattle.points.specs.Figures.{scaled, bucketed}
 use Rattle.points.specs.Handed.{Handed, extremesAgree, mergeCounts}

@@ -2,11 +2,9 @@
 pub mod signed;
 
 ghost use mathlib.Core.Path.{_≡_};
-ghost use mathlib.Core.Bool.{Bool};
-ghost use Prim.Native.Nat.{ℕ, _+_, _-_, _*_, _/_, _^_, _<_, _≤_};
-ghost use lib.ListN.{length};
+ghost use Prim.Native.Nat.{_+_, _-_, _<_};
 ghost use Rattle.points.specs.Handed.{extremesAgree};
-ghost use Rattle.laws.specs.Pick.{pick, _and_};
+ghost use Rattle.laws.specs.Pick.{_and_};
 ghost use lib.Ieee.Scale.{finite};
 ghost use Rattle.point.specs.Handing.{shownSum, exponentialPoint, explicitPoint, figuresAgree, pointAgrees, isExplicit, countIn, sameFigures, sizeFits, refusalBefore, madeOver, laidOver, madeOne, laidOne, Addable, finished, outcome, merging};
 ghost use lib.Dec.{leb};

@@ -22,8 +22,7 @@ use Rattle.floats.proofs.Sums.{total-perm, gridded-perm, gridded-left, gridded-
 use Rattle.points.specs.Points.{pointOf}
 use Rattle.points.specs.Values.{classOf, countsOf, summaryOf}
 use Rattle.points.specs.Explicit.{boundsPass, bucketsOf}
-use Rattle.points.specs.Figures.{Kind, exponential, explicit, Settings, scaled, bucketed, kindCounts}
-pub use Rattle.points.specs.Figures.{sizeOf}
+use Rattle.points.specs.Figures.{Kind, exponential, explicit, sizeOf, Settings, scaled, bucketed, kindCounts}
 use Rattle.points.specs.Handed.{Handed, handed, mergeCounts, mergeHanded, sameKind, mergeable, extremesAgree, countsAgree, handedAgrees}
 use Rattle.points.specs.Stands.{SameNumber, SameExtreme, Stands}
 use Rattle.points.proofs.Agreement.{agreed-agrees}

@@ -1,14 +1,9 @@
 -- `directory::accepted` meets its contract. Assumes nothing.
-use Prim.Native.Nat.{ℕ, _+_, _-_, _≤_, _<_}
-use mathlib.Core.Path.{_≡_, refl, ap, sym, _∙_}
-use mathlib.Core.Bool.{Bool, true, false}
+use Prim.Native.Nat.{_-_}
 use borrow.Author.Tests.{not-true, not-false}
-use native.Mathlib.Omega.{arith}
 use Rattle.directory.proofs.Refusals.{over-limit, no-filter, many-keys, few-keys}
 use Rattle.directory.proofs.accepted.Statement.{statement}
 use Rattle.directory.proofs.accepted.Tie as tie
-use Rattle.directory.proofs.accepted.Reads as reads
-use Rattle.directory.proofs.accepted.Lts as lts
 
 returns : tie.Need-returns
 returns c = let s = c .before in over-limit (s .args .limit) (s .args .present) (s .args .filter .now) (c .if1 .taken)

@@ -1,17 +1,11 @@
 -- `directory::enough` meets its contract. Assumes nothing.
-use Prim.Native.Nat.{ℕ, _+_, _-_, _≤_, _<_}
-use mathlib.Core.Path.{_≡_, refl, ap, sym, _∙_}
-use mathlib.Core.Bool.{Bool, true, false}
-use borrow.Author.Tests.{not-true, not-false}
-use native.Mathlib.Omega.{arith}
+use Prim.Native.Nat.{_+_, _-_}
+use mathlib.Core.Bool.{false}
 use lib.Dec.{leb}
 use Rattle.directory.proofs.Refusals.{first-no, second-no, third}
 use borrow.Author.Needs.{needs}
 use Rattle.directory.proofs.enough.Statement.{statement}
 use Rattle.directory.proofs.enough.Tie as tie
-use Rattle.directory.proofs.enough.Reads as reads
-use Rattle.directory.proofs.enough.Lts as lts
-use Rattle.directory.proofs.holds.Reads as holds-reads
 
 holds-requires : tie.Need-holds-requires
 holds-requires c κs = search needs

@@ -1,14 +1,8 @@
 -- `directory::holds` meets its contract. Assumes nothing.
-use Prim.Native.Nat.{ℕ, _+_, _-_, _≤_, _<_}
-use mathlib.Core.Path.{_≡_, refl, ap, sym, _∙_}
-use mathlib.Core.Bool.{Bool, true, false}
-use borrow.Author.Tests.{not-true, not-false}
-use native.Mathlib.Omega.{arith}
+use Prim.Native.Nat.{_-_}
 use Rattle.directory.proofs.Refusals.{under-two, too-few, as-many}
 use Rattle.directory.proofs.holds.Statement.{statement}
 use Rattle.directory.proofs.holds.Tie as tie
-use Rattle.directory.proofs.holds.Reads as reads
-use Rattle.directory.proofs.holds.Lts as lts
 
 returns : tie.Need-returns
 returns c = under-two (c .before .args .limit) (c .before .args .n) (c .if1 .taken)

@@ -1,7 +1,7 @@
 -- `directory::start` meets its contract. Assumes nothing.
-use Prim.Native.Nat.{ℕ, _+_, _-_, _≤_, _<_}
-use mathlib.Core.Path.{_≡_, refl, ap, sym, _∙_}
-use mathlib.Core.Bool.{Bool, true, false}
+use Prim.Native.Nat.{ℕ, _-_}
+use mathlib.Core.Path.{_≡_, sym, _∙_}
+use mathlib.Core.Bool.{true}
 use borrow.Author.Tests.{not-true, not-false}
 use native.Mathlib.Omega.{arith}
 use Rattle.directory.specs.Sorted.{filterOf}
@@ -13,10 +13,6 @@ use Rattle.directory.proofs.Refusals.{suffices, start-4, start-12, star
 use borrow.Author.Needs.{needs}
 use Rattle.directory.proofs.start.Statement.{statement}
 use Rattle.directory.proofs.start.Tie as tie
-use Rattle.directory.proofs.start.Reads as reads
-use Rattle.directory.proofs.start.Lts as lts
-use Rattle.directory.proofs.accepted.Reads as accepted-reads
-use Rattle.directory.proofs.enough.Reads as enough-reads
 
 abbrev stores : tie.Start → Stores
 stores s = record { sets = s .args .sets .now; entries = s .args .entries .now; order = s .args .order .now }

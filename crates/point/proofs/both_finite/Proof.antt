@@ -1,19 +1,12 @@
-use Prim.Native.Nat.{ℕ, suc, _+_, _-_, _*_, _/_, _%_, _^_, _≤_, _<_}
-use mathlib.Core.Path.{_≡_, refl, sym, ap, _∙_, subst}
-use mathlib.Core.Bool.{Bool, true, false, not}
-use mathlib.Core.List.{List}
-use native.Mathlib.Omega.{arith}
-use denote.Ref.{now}
-use lib.ListN.{length, take}
+use Prim.Native.Nat.{_-_}
+use mathlib.Core.Path.{sym, ap, _∙_}
+use mathlib.Core.Bool.{Bool}
 use lib.Ieee.Scale.{finite}
 use Rattle.laws.specs.Pick.{_and_}
 use Rattle.series.proofs.Facts.{not-true, not-false}
 use borrow.Author.Needs.{needs}
 use Rattle.point.proofs.both_finite.Statement.{statement}
 use Rattle.point.proofs.both_finite.Tie as tie
-use Rattle.point.proofs.both_finite.Reads as reads
-use Rattle.point.proofs.both_finite.Lts as lts
-use Rattle.floats.proofs.is_finite.Reads as is-finite-reads
 
 is-finite-requires : tie.Need-is-finite-requires
 is-finite-requires c κs = search needs

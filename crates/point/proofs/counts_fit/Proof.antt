@@ -1,21 +1,14 @@
-use Prim.Native.Nat.{ℕ, suc, _+_, _-_, _*_, _/_, _%_, _^_, _≤_, _<_}
-use mathlib.Core.Path.{_≡_, refl, sym, ap, _∙_, subst}
-use mathlib.Core.Bool.{Bool, true, false, not, Bool·beq}
-use mathlib.Core.List.{List}
+use Prim.Native.Nat.{ℕ, _+_, _-_, _^_, _<_}
+use mathlib.Core.Path.{_≡_, sym, _∙_}
+use mathlib.Core.Bool.{true, false}
 use native.Mathlib.Omega.{arith}
-use denote.Ref.{now}
-use lib.ListN.{length, take}
 use lib.Dec.{leb}
-use mathlib.Core.Logic.{⊎-elim, _⊎_, inl, inr}
+use mathlib.Core.Logic.{⊎-elim, _⊎_}
 use borrow.Author.Tests.{leb-true, leb-false, le-leb, lt-leb}
 use Rattle.laws.proofs.Bools.{flag}
-use Rattle.point.specs.Handing.{countIn}
 use borrow.Author.Needs.{needs}
 use Rattle.point.proofs.counts_fit.Statement.{statement}
 use Rattle.point.proofs.counts_fit.Tie as tie
-use Rattle.point.proofs.counts_fit.Reads as reads
-use Rattle.point.proofs.counts_fit.Lts as lts
-use Rattle.point.proofs.count_in.Reads as count-in-reads
 
 by-diff : (x y : ℕ) → x < 2 ^ 64 → leb y (18446744073709551615 - x) ≡ leb (x + y) 18446744073709551615
 by-diff x y h =

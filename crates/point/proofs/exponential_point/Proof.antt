@@ -1,19 +1,9 @@
-use Prim.Native.Nat.{ℕ, suc, _+_, _-_, _*_, _/_, _%_, _^_, _≤_, _<_}
-use mathlib.Core.Path.{_≡_, refl, sym, ap, _∙_, subst}
-use mathlib.Core.Bool.{Bool, true, false, not}
-use mathlib.Core.List.{List}
-use native.Mathlib.Omega.{arith}
-use denote.Ref.{now}
-use lib.ListN.{length, take}
+use Prim.Native.Nat.{_-_}
 use Rattle.floats.specs.Starts.{zeroFloat}
-use Rattle.point.specs.declared.Figures.the-variants.{Exponential, Explicit}
+use Rattle.point.specs.declared.Figures.the-variants.{Exponential}
 use borrow.Author.Needs.{needs}
 use Rattle.point.proofs.exponential_point.Statement.{statement}
 use Rattle.point.proofs.exponential_point.Tie as tie
-use Rattle.point.proofs.exponential_point.Reads as reads
-use Rattle.point.proofs.exponential_point.Lts as lts
-use Rattle.floats.proofs.shown.Reads as shown-reads
-use Rattle.point.proofs.shown_sum.Reads as shown-sum-reads
 
 shown-requires : tie.Need-shown-requires
 shown-requires c κs = search needs

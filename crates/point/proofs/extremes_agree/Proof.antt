@@ -1,17 +1,9 @@
-use Prim.Native.Nat.{ℕ, suc, _+_, _-_, _*_, _/_, _%_, _^_, _≤_, _<_}
-use mathlib.Core.Path.{_≡_, refl, sym, ap, _∙_, subst}
-use mathlib.Core.Bool.{Bool, true, false, not}
-use mathlib.Core.List.{List}
-use native.Mathlib.Omega.{arith}
-use denote.Ref.{now}
-use lib.ListN.{length, take}
+use Prim.Native.Nat.{_-_}
+use mathlib.Core.Path.{sym, _∙_}
 use Rattle.points.specs.Handed.{extremesAgree}
 use borrow.Author.Needs.{needs}
 use Rattle.point.proofs.extremes_agree.Statement.{statement}
 use Rattle.point.proofs.extremes_agree.Tie as tie
-use Rattle.point.proofs.extremes_agree.Reads as reads
-use Rattle.point.proofs.extremes_agree.Lts as lts
-use Rattle.point.proofs.both_finite.Reads as both-finite-reads
 
 enum-told : tie.Need-enum-told
 enum-told c = search needs

@@ -1,19 +1,11 @@
-use Prim.Native.Nat.{ℕ, suc, _+_, _-_, _*_, _/_, _%_, _^_, _≤_, _<_}
-use mathlib.Core.Path.{_≡_, refl, sym, ap, _∙_, subst}
-use mathlib.Core.Bool.{Bool, true, false, not}
-use mathlib.Core.List.{List}
-use native.Mathlib.Omega.{arith}
+use Prim.Native.Nat.{_-_}
+use mathlib.Core.Path.{sym, ap, _∙_}
 use denote.Ref.{now}
-use lib.ListN.{length, take}
 use Rattle.point.specs.declared.Figures.{Figures}
 use Rattle.point.specs.Handing.{figuresAgree}
 use borrow.Author.Needs.{needs}
 use Rattle.point.proofs.figures_agree.Statement.{statement}
 use Rattle.point.proofs.figures_agree.Tie as tie
-use Rattle.point.proofs.figures_agree.Reads as reads
-use Rattle.point.proofs.figures_agree.Lts as lts
-use Rattle.buckets.proofs.buckets_agree.Reads as buckets-agree-reads
-use Rattle.series.proofs.counts_agree.Reads as counts-agree-reads
 
 enum-known-f : tie.Need-enum-known-f
 enum-known-f c = search needs

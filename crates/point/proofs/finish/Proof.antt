@@ -1,20 +1,11 @@
-use Prim.Native.Nat.{ℕ, suc, _+_, _-_, _*_, _/_, _%_, _^_, _≤_, _<_}
-use mathlib.Core.Path.{_≡_, refl, sym, ap, _∙_, subst}
-use mathlib.Core.Bool.{Bool, true, false, not, Bool·beq}
-use mathlib.Core.List.{List}
-use native.Mathlib.Omega.{arith}
-use denote.Ref.{now}
-use lib.ListN.{length, take}
+use Prim.Native.Nat.{_-_}
+use mathlib.Core.Path.{sym, ap, _∙_}
 use lib.Ieee.{binary64, add}
 use Rattle.point.specs.declared.Answer.the-variants.{Merged}
 use Rattle.point.specs.Handing.{finished}
 use borrow.Author.Needs.{needs}
 use Rattle.point.proofs.finish.Statement.{statement}
 use Rattle.point.proofs.finish.Tie as tie
-use Rattle.point.proofs.finish.Reads as reads
-use Rattle.point.proofs.finish.Lts as lts
-use Rattle.floats.proofs.larger.Reads as larger-reads
-use Rattle.floats.proofs.smaller.Reads as smaller-reads
 
 enum-told : tie.Need-enum-told
 enum-told c = search needs

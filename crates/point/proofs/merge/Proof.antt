@@ -1,21 +1,11 @@
-use Prim.Native.Nat.{ℕ, suc, _+_, _-_, _*_, _/_, _%_, _^_, _≤_, _<_}
-use mathlib.Core.Path.{_≡_, refl, sym, ap, _∙_, subst}
-use mathlib.Core.Bool.{Bool, true, false, not, Bool·beq}
-use mathlib.Core.List.{List}
-use native.Mathlib.Omega.{arith}
+use Prim.Native.Nat.{_-_}
+use mathlib.Core.Path.{_≡_, sym, _∙_}
 use denote.Ref.{now}
-use lib.ListN.{length, take}
 use Rattle.point.specs.Handing.{refusalBefore}
 use Rattle.point.proofs.Calls as calls
 use borrow.Author.Needs.{needs}
 use Rattle.point.proofs.merge.Statement.{statement}
 use Rattle.point.proofs.merge.Tie as tie
-use Rattle.point.proofs.merge.Reads as reads
-use Rattle.point.proofs.merge.Lts as lts
-use Rattle.point.proofs.refusal.Reads as refusal-reads
-use Rattle.point.proofs.merge_scaled.Reads as merge-scaled-reads
-use Rattle.point.proofs.merge_bucketed.Reads as merge-bucketed-reads
-use Rattle.point.proofs.finish.Reads as finish-reads
 
 abbrev start : tie.Else1 → tie.Start
 start e = e .before .before .before .before .before .before .before .before .before .before

@@ -1,10 +1,8 @@
-use Prim.Native.Nat.{ℕ, suc, _+_, _-_, _*_, _/_, _%_, _^_, _≤_, _<_}
-use mathlib.Core.Path.{_≡_, refl, sym, ap, _∙_, subst}
-use mathlib.Core.Bool.{Bool, true, false, not, Bool·beq}
-use mathlib.Core.List.{List}
+use Prim.Native.Nat.{ℕ, _+_, _-_, _^_, _<_}
+use mathlib.Core.Path.{sym, ap, _∙_, subst}
 use native.Mathlib.Omega.{arith}
 use denote.Ref.{now}
-use lib.ListN.{length, take}
+use lib.ListN.{take}
 use Rattle.points.specs.Explicit.{bucketCount, added}
 use Rattle.rows.specs.Rows.{over}
 use Rattle.laws.specs.Counting.{total}
@@ -12,10 +10,6 @@ use Rattle.point.proofs.Laid.{no-one, laid-one}
 use borrow.Author.Needs.{needs}
 use Rattle.point.proofs.merge_bucketed.Statement.{statement}
 use Rattle.point.proofs.merge_bucketed.Tie as tie
-use Rattle.point.proofs.merge_bucketed.Reads as reads
-use Rattle.point.proofs.merge_bucketed.Lts as lts
-use Rattle.buckets.proofs.bucket_count.Reads as bucket-count-reads
-use Rattle.buckets.proofs.add_counts.Reads as add-counts-reads
 
 bucket-count-requires : tie.Need-bucket-count-requires
 bucket-count-requires c κs = search needs

@@ -1,10 +1,8 @@
-use Prim.Native.Nat.{ℕ, suc, _+_, _-_, _*_, _/_, _%_, _^_, _≤_, _<_}
-use mathlib.Core.Path.{_≡_, refl, sym, ap, _∙_, subst}
-use mathlib.Core.Bool.{Bool, true, false, not, Bool·beq}
-use mathlib.Core.List.{List}
+use Prim.Native.Nat.{_-_, _<_}
+use mathlib.Core.Path.{_≡_, sym, ap, _∙_, subst}
 use native.Mathlib.Omega.{arith}
 use denote.Ref.{now}
-use lib.ListN.{length, take}
+use lib.ListN.{length}
 use Rattle.merges.specs.declared.Plan.{Plan}
 use Rattle.merges.specs.Merges.{mergedPoint, joinedLen}
 use Rattle.merges.proofs.Merging as merging
@@ -12,11 +10,6 @@ use Rattle.point.proofs.Laid.{no-pos, no-neg, laid}
 use borrow.Author.Needs.{needs}
 use Rattle.point.proofs.merge_scaled.Statement.{statement}
 use Rattle.point.proofs.merge_scaled.Tie as tie
-use Rattle.point.proofs.merge_scaled.Reads as reads
-use Rattle.point.proofs.merge_scaled.Lts as lts
-use Rattle.merges.proofs.plan_of.Reads as plan-of-reads
-use Rattle.merges.proofs.joined_len.Reads as joined-len-reads
-use Rattle.merges.proofs.merge_to.Reads as merge-to-reads
 
 abbrev start : tie.After-plan-of → tie.Start
 start c = c .before .before .before .before .before .before .before

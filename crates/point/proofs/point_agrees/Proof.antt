@@ -1,10 +1,6 @@
-use Prim.Native.Nat.{ℕ, suc, _+_, _-_, _*_, _/_, _%_, _^_, _≤_, _<_}
-use mathlib.Core.Path.{_≡_, refl, sym, ap, _∙_, subst}
-use mathlib.Core.Bool.{Bool, true, false, not}
-use mathlib.Core.List.{List}
-use native.Mathlib.Omega.{arith}
-use denote.Ref.{now}
-use lib.ListN.{length, take}
+use Prim.Native.Nat.{_-_}
+use mathlib.Core.Path.{sym, ap, _∙_}
+use mathlib.Core.Bool.{Bool}
 use Rattle.laws.specs.Pick.{_and_}
 use Rattle.points.specs.Handed.{extremesAgree}
 use Rattle.point.specs.Handing.{pointAgrees}
@@ -12,10 +8,6 @@ use Rattle.series.proofs.Facts.{not-true, not-false}
 use borrow.Author.Needs.{needs}
 use Rattle.point.proofs.point_agrees.Statement.{statement}
 use Rattle.point.proofs.point_agrees.Tie as tie
-use Rattle.point.proofs.point_agrees.Reads as reads
-use Rattle.point.proofs.point_agrees.Lts as lts
-use Rattle.point.proofs.extremes_agree.Reads as extremes-agree-reads
-use Rattle.point.proofs.figures_agree.Reads as figures-agree-reads
 
 figures-agree-requires : tie.Need-figures-agree-requires
 figures-agree-requires c κs = search needs

@@ -1,22 +1,11 @@
-use Prim.Native.Nat.{ℕ, suc, _+_, _-_, _*_, _/_, _%_, _^_, _≤_, _<_}
-use mathlib.Core.Path.{_≡_, refl, sym, ap, _∙_, subst}
-use mathlib.Core.Bool.{Bool, true, false, not, Bool·beq}
-use mathlib.Core.List.{List}
-use native.Mathlib.Omega.{arith}
+use Prim.Native.Nat.{_-_}
+use mathlib.Core.Path.{sym, _∙_}
 use denote.Ref.{now}
-use lib.ListN.{length, take}
 use Rattle.series.proofs.Facts.{not-true, not-false}
 use Rattle.point.proofs.Calls as calls
 use borrow.Author.Needs.{needs}
 use Rattle.point.proofs.refusal.Statement.{statement}
 use Rattle.point.proofs.refusal.Tie as tie
-use Rattle.point.proofs.refusal.Reads as reads
-use Rattle.point.proofs.refusal.Lts as lts
-use Rattle.point.proofs.size_fits.Reads as size-fits-reads
-use Rattle.point.proofs.point_agrees.Reads as point-agrees-reads
-use Rattle.point.proofs.same_kind.Reads as same-kind-reads
-use Rattle.point.proofs.same_switch.Reads as same-switch-reads
-use Rattle.point.proofs.counts_fit.Reads as counts-fit-reads
 
 abbrev start : tie.Else1 → tie.Start
 start e = e .before .before .before .before .before .before .before .before

@@ -1,17 +1,10 @@
-use Prim.Native.Nat.{ℕ, suc, _+_, _-_, _*_, _/_, _%_, _^_, _≤_, _<_}
-use mathlib.Core.Path.{_≡_, refl, sym, ap, _∙_, subst}
-use mathlib.Core.Bool.{Bool, true, false, not}
-use mathlib.Core.List.{List}
-use native.Mathlib.Omega.{arith}
+use Prim.Native.Nat.{_-_}
+use mathlib.Core.Path.{sym, _∙_}
 use denote.Ref.{now}
-use lib.ListN.{length, take}
 use Rattle.point.specs.Handing.{sameFigures}
 use borrow.Author.Needs.{needs}
 use Rattle.point.proofs.same_kind.Statement.{statement}
 use Rattle.point.proofs.same_kind.Tie as tie
-use Rattle.point.proofs.same_kind.Reads as reads
-use Rattle.point.proofs.same_kind.Lts as lts
-use Rattle.buckets.proofs.same_bounds.Reads as same-bounds-reads
 
 enum-known-f : tie.Need-enum-known-f
 enum-known-f c = search needs

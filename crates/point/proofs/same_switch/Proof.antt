@@ -1,15 +1,8 @@
-use Prim.Native.Nat.{ℕ, suc, _+_, _-_, _*_, _/_, _%_, _^_, _≤_, _<_}
-use mathlib.Core.Path.{_≡_, refl, sym, ap, _∙_, subst}
+use Prim.Native.Nat.{_-_}
+use mathlib.Core.Path.{_≡_, refl, sym}
 use mathlib.Core.Bool.{Bool, true, false, not, Bool·beq}
-use mathlib.Core.List.{List}
-use native.Mathlib.Omega.{arith}
-use denote.Ref.{now}
-use lib.ListN.{length, take}
-use borrow.Author.Needs.{needs}
 use Rattle.point.proofs.same_switch.Statement.{statement}
 use Rattle.point.proofs.same_switch.Tie as tie
-use Rattle.point.proofs.same_switch.Reads as reads
-use Rattle.point.proofs.same_switch.Lts as lts
 
 returns : tie.Need-returns
 returns c = go (c .before .args .a) (c .before .args .b) (c .if1 .taken)

@@ -1,17 +1,10 @@
-use Prim.Native.Nat.{ℕ, suc, _+_, _-_, _*_, _/_, _%_, _^_, _≤_, _<_}
-use mathlib.Core.Path.{_≡_, refl, sym, ap, _∙_, subst}
-use mathlib.Core.Bool.{Bool, true, false, not}
-use mathlib.Core.List.{List}
-use native.Mathlib.Omega.{arith}
-use denote.Ref.{now}
-use lib.ListN.{length, take}
-use borrow.Author.Needs.{needs}
+use Prim.Native.Nat.{_-_}
+use mathlib.Core.Path.{sym, ap}
+use mathlib.Core.Bool.{Bool}
 use Rattle.laws.specs.Pick.{pick}
 use Rattle.floats.specs.Starts.{zeroFloat}
 use Rattle.point.proofs.shown_sum.Statement.{statement}
 use Rattle.point.proofs.shown_sum.Tie as tie
-use Rattle.point.proofs.shown_sum.Reads as reads
-use Rattle.point.proofs.shown_sum.Lts as lts
 
 returns : tie.Need-returns
 unfolding pick

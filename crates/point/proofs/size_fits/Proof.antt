@@ -1,18 +1,9 @@
-use Prim.Native.Nat.{ℕ, suc, _+_, _-_, _*_, _/_, _%_, _^_, _≤_, _<_}
-use mathlib.Core.Path.{_≡_, refl, sym, ap, _∙_, subst}
-use mathlib.Core.Bool.{Bool, true, false, not}
-use mathlib.Core.List.{List}
-use native.Mathlib.Omega.{arith}
-use denote.Ref.{now}
-use lib.ListN.{length, take}
+use Prim.Native.Nat.{_-_}
+use mathlib.Core.Path.{refl, sym, _∙_}
 use Rattle.laws.specs.Pick.{pick}
 use borrow.Author.Needs.{needs}
 use Rattle.point.proofs.size_fits.Statement.{statement}
 use Rattle.point.proofs.size_fits.Tie as tie
-use Rattle.point.proofs.size_fits.Reads as reads
-use Rattle.point.proofs.size_fits.Lts as lts
-use Rattle.point.proofs.is_explicit.Reads as is-explicit-reads
-use Rattle.point.proofs.size_passes.Reads as size-passes-reads
 
 is-explicit-requires : tie.Need-is-explicit-requires
 is-explicit-requires c κs = search needs

@@ -1,17 +1,10 @@
-use Prim.Native.Nat.{ℕ, suc, _+_, _-_, _*_, _/_, _%_, _^_, _≤_, _<_}
-use mathlib.Core.Path.{_≡_, refl, sym, ap, _∙_, subst}
-use mathlib.Core.Bool.{Bool, true, false, not}
-use mathlib.Core.List.{List}
+use Prim.Native.Nat.{_-_}
+use mathlib.Core.Path.{refl, sym}
 use native.Mathlib.Omega.{arith}
-use denote.Ref.{now}
-use lib.ListN.{length, take}
-use borrow.Author.Needs.{needs}
 use Rattle.laws.specs.Pick.{_and_}
 use borrow.Author.Tests.{le-leb, lt-leb}
 use Rattle.point.proofs.size_passes.Statement.{statement}
 use Rattle.point.proofs.size_passes.Tie as tie
-use Rattle.point.proofs.size_passes.Reads as reads
-use Rattle.point.proofs.size_passes.Lts as lts
 
 returns : tie.Need-returns
 unfolding _and_

@@ -1,24 +1,18 @@
 use borrow.Author.Needs.{needs}
-use Prim.Native.Nat.{ℕ, _+_, _-_, _≤_, _<_}
+use Prim.Native.Nat.{ℕ, _+_, _-_, _<_}
 use mathlib.Core.Path.{_≡_, refl, ap, sym, _∙_}
 use borrow.Author.Needs.{scaled-fits}
 use native.Mathlib.Omega.{arith}
 use lib.ListN.{length, getD}
 use Rattle.directory.specs.View.{Stores}
-use Rattle.directory.specs.Calls.{Kept, Outcome, overRow, located, admitted, boundTo}
+use Rattle.directory.specs.Calls.{Kept, overRow, located, admitted, boundTo}
 use mathlib.Core.List.{[]}
 use Rattle.directory.specs.declared.Answer.the-variants.{Handle}
-use Rattle.directory.specs.declared.Target.the-variants.{Disagrees, Old, New, Over}
+use Rattle.directory.specs.declared.Target.the-variants.{Old, New, Over}
 use Rattle.directory.proofs.Binds.{old-there, new-there, over-there, bound-no, bound-full, bound-old, bound-new-spent, bound-new, bound-over-spent, bound-over, as-made}
 use borrow.Author.Needs.{needs}
 use Rattle.directory.proofs.bindings.bind_in.Statement.{statement}
 use Rattle.directory.proofs.bindings.bind_in.Tie as tie
-use Rattle.directory.proofs.bindings.bind_in.Reads as reads
-use Rattle.directory.proofs.bindings.bind_in.Lts as lts
-use Rattle.directory.proofs.write.admit.Reads as admit-reads
-use Rattle.directory.proofs.write.birth_of.Reads as birth-of-reads
-use Rattle.directory.proofs.find.locate.Reads as locate-reads
-use Rattle.directory.proofs.write.rebind.Reads as rebind-reads
 
 abbrev stores : tie.Start → Stores
 stores s = record { sets = s .args .sets .now; entries = s .args .entries .now; order = s .args .order .now }

@@ -1,29 +1,21 @@
 use borrow.Author.Needs.{needs}
-use Prim.Native.Nat.{ℕ, _+_, _-_, _≤_, _<_}
-use mathlib.Core.Path.{_≡_, refl, ap, sym, _∙_}
-use mathlib.Core.Bool.{Bool, true, false}
-use mathlib.Core.List.{[], _∷_}
+use Prim.Native.Nat.{_+_, _-_, _≤_, _<_}
+use mathlib.Core.Path.{_≡_, ap, sym, _∙_}
+use mathlib.Core.Bool.{true}
 use borrow.Author.Tests.{not-true, not-false}
 use borrow.Author.Needs.{scaled-fits}
 use native.Mathlib.Omega.{arith}
-use lib.ListN.{length, getD}
-use Rattle.directory.specs.Rows.{span}
+use lib.ListN.{length}
 use Rattle.directory.specs.View.{Stores, agreesb}
 use Rattle.directory.specs.Calls.{scan}
-use Rattle.directory.specs.declared.Found.the-variants.{Held, Room}
+use Rattle.directory.specs.declared.Found.the-variants.{Held}
 use Rattle.directory.proofs.Agreed.{place-slot}
 use Rattle.directory.proofs.Laws.{few, places-right, slot-used, scan-in, slotsOf, release-no, release-none, release-one}
 use Rattle.directory.proofs.Finds.{scan-bound}
-use Rattle.directory.specs.Calls.{Outcome}
 use Rattle.directory.specs.declared.Answer.the-variants.{Done}
 use borrow.Author.Needs.{needs}
 use Rattle.directory.proofs.bindings.release_in.Statement.{statement}
 use Rattle.directory.proofs.bindings.release_in.Tie as tie
-use Rattle.directory.proofs.bindings.release_in.Reads as reads
-use Rattle.directory.proofs.bindings.release_in.Lts as lts
-use Rattle.directory.proofs.check.agrees.Reads as agrees-reads
-use Rattle.directory.proofs.find.by_handle.Reads as by-handle-reads
-use Rattle.directory.proofs.write.rebind.Reads as rebind-reads
 
 abbrev stores : tie.Start → Stores
 stores s = record { sets = s .args .sets .now; entries = s .args .entries .now; order = s .args .order .now }

@@ -1,18 +1,12 @@
 use borrow.Author.Needs.{needs}
 use mathlib.Core.Path.{_≡_, sym, _∙_}
-use mathlib.Core.Bool.{Bool, true, false}
+use mathlib.Core.Bool.{true}
 use borrow.Author.Tests.{not-true, not-false}
-use native.Mathlib.Omega.{arith}
 use Rattle.directory.specs.View.{Stores, slotsb}
 use Rattle.directory.proofs.Agreed.{agree-far, agree-slots, agree-places, agree-counts, slot-sizes, placed-broken, placed-plain}
 use borrow.Author.Needs.{needs}
 use Rattle.directory.proofs.check.agrees.Statement.{statement}
 use Rattle.directory.proofs.check.agrees.Tie as tie
-use Rattle.directory.proofs.check.agrees.Reads as reads
-use Rattle.directory.proofs.check.agrees.Lts as lts
-use Rattle.directory.proofs.check.counts.Reads as counts-reads
-use Rattle.directory.proofs.check.places.Reads as places-reads
-use Rattle.directory.proofs.check.slots.Reads as slots-reads
 
 abbrev stores : tie.Start → Stores
 stores s = record { sets = s .args .sets .now; entries = s .args .entries .now; order = s .args .order .now }

@@ -4,8 +4,6 @@ use Rattle.directory.proofs.Agreed.{count-over, count-plain, count-none
 use borrow.Author.Needs.{needs}
 use Rattle.directory.proofs.check.counts.Statement.{statement}
 use Rattle.directory.proofs.check.counts.Tie as tie
-use Rattle.directory.proofs.check.counts.Reads as reads
-use Rattle.directory.proofs.check.counts.Lts as lts
 
 returns : tie.Need-returns
 returns c = let s = c .before in sym (count-over (s .args .limit) (s .args .count) (s .args .used) (s .args .plain) (c .if1 .taken))

@@ -1,25 +1,21 @@
 use borrow.Author.Needs.{needs}
 use mathlib.Core.Path.{_≡_, refl, sym, ap, subst, _∙_}
-use mathlib.Core.Bool.{Bool, true, false}
+use mathlib.Core.Bool.{true, false}
 use mathlib.Core.List.{[]}
 use Prim.Native.Nat.{ℕ, _+_, _-_, _≤_, _<_}
 use native.Mathlib.Omega.{arith}
 use borrow.Author.Tests.{not-true, not-false}
 use borrow.Author.Needs.{scaled-fits}
 use lib.ListN.{length, getD}
-use Rattle.tally.specs.Map.{bit, plain}
+use Rattle.tally.specs.Map.{plain}
 use Rattle.directory.specs.All.{allb}
 use Rattle.directory.proofs.Alls.{allb-none, allb-more, allb-no}
 use Rattle.directory.specs.Rows.{setOf}
 use Rattle.directory.specs.View.{placeAt, plainly}
 use Rattle.directory.specs.declared.Placed.the-variants.{Plain}
-use Rattle.directory.proofs.Checks.{place-low, place-high, place-test, plainly-more, placed-no, placed-yes, bit-one, no-zero}
+use Rattle.directory.proofs.Checks.{place-low, place-high, place-test, plainly-more, placed-no, placed-yes, bit-one}
 use Rattle.directory.proofs.check.places.Statement.{statement}
 use Rattle.directory.proofs.check.places.Tie as tie
-use Rattle.directory.proofs.check.places.Reads as reads
-use Rattle.directory.proofs.check.places.Lts as lts
-use Rattle.directory.proofs.rows.follows.Reads as follows-reads
-use Rattle.directory.proofs.rows.plain_row.Reads as plain-row-reads
 
 abbrev Inv-loop : tie.InvT-loop
 Inv-loop used sets order plain₀ p₀ i₀ plain p i =

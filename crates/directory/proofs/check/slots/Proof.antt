@@ -1,7 +1,7 @@
 use borrow.Author.Needs.{needs}
 use mathlib.Core.Path.{_≡_, refl, sym, ap, subst, _∙_}
-use mathlib.Core.Bool.{Bool, true, false}
-use Prim.Native.Nat.{ℕ, _+_, _-_, _≤_, _<_}
+use mathlib.Core.Bool.{true}
+use Prim.Native.Nat.{ℕ, _-_, _≤_}
 use native.Mathlib.Omega.{arith}
 use borrow.Author.Tests.{not-true, not-false}
 use Rattle.directory.specs.All.{allb}
@@ -10,9 +10,6 @@ use Rattle.directory.specs.View.{slotAt, birthAt}
 use Rattle.directory.proofs.Checks.{birth-next, slot-unsound, slot-late, slot-yes, slots-no, slots-late, slots-yes}
 use Rattle.directory.proofs.check.slots.Statement.{statement}
 use Rattle.directory.proofs.check.slots.Tie as tie
-use Rattle.directory.proofs.check.slots.Reads as reads
-use Rattle.directory.proofs.check.slots.Lts as lts
-use Rattle.directory.proofs.rows.sound.Reads as sound-reads
 
 abbrev Inv-loop : tie.InvT-loop
 Inv-loop used last sets entries prev₀ i₀ prev i = (i ≤ used) × (prev ≡ birthAt entries i) × (allb i (slotAt sets entries) ≡ true)

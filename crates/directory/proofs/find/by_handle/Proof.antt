@@ -1,8 +1,7 @@
 use borrow.Author.Needs.{needs}
-use mathlib.Core.Path.{_≡_, refl, sym, ap, subst, _∙_}
-use mathlib.Core.Bool.{Bool, true, false}
-use mathlib.Core.List.{[], _∷_}
-use Prim.Native.Nat.{ℕ, _+_, _-_, _≤_, _<_}
+use mathlib.Core.Path.{_≡_, sym, _∙_}
+use mathlib.Core.List.{_∷_}
+use Prim.Native.Nat.{_-_, _≤_, _<_}
 use native.Mathlib.Omega.{arith}
 use borrow.Author.Needs.{scaled-fits}
 use lib.ListN.{length, getD}
@@ -11,9 +10,6 @@ use Rattle.directory.specs.Calls.{scan}
 use Rattle.directory.proofs.Finds.{scan-first, scan-skip, scan-over, scan-here, scan-on}
 use Rattle.directory.proofs.find.by_handle.Statement.{statement}
 use Rattle.directory.proofs.find.by_handle.Tie as tie
-use Rattle.directory.proofs.find.by_handle.Reads as reads
-use Rattle.directory.proofs.find.by_handle.Lts as lts
-use Rattle.directory.proofs.find.names.Reads as names-reads
 
 abbrev Inv-loop : tie.InvT-loop
 Inv-loop used entries order h i₀ i = (i ≤ used) × (scan h entries (0 ∷ span order 0 used) ≡ scan h entries (span order i (used - i)))

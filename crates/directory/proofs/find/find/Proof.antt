@@ -1,20 +1,17 @@
 -- `directory::find::find` meets its contract: the scan's answer, found by halving. Assumes nothing.
 use borrow.Author.Needs.{needs, scaled-fits}
-use mathlib.Core.Path.{_≡_, refl, sym, ap, subst, _∙_}
-use mathlib.Core.List.{List, []}
-use Prim.Native.Nat.{ℕ, suc, Ordering, Ordering·lt, Ordering·eq, Ordering·gt, _+_, _-_, _/_, _≤_, _<_}
+use mathlib.Core.Path.{_≡_, sym, _∙_}
+use mathlib.Core.List.{[]}
+use Prim.Native.Nat.{ℕ, Ordering, Ordering·lt, Ordering·gt, _+_, _-_, _/_, _≤_, _<_}
 use native.Mathlib.Omega.{arith}
 use lib.ListN.{length, getD}
-use Rattle.tally.specs.Sets.{Set, cmp}
-use Rattle.directory.specs.Rows.{span, size, setOf}
+use Rattle.tally.specs.Sets.{cmp}
+use Rattle.directory.specs.Rows.{span, setOf}
 use Rattle.directory.specs.View.{seek, sought}
 use Rattle.directory.proofs.Checks.{empty-row, named-row, sought-empty, sought-named, way-lt, way-eq, way-gt}
-use Rattle.directory.proofs.Halves.{at, beneath, beyond, held-at, seek-room-at}
+use Rattle.directory.proofs.Halves.{beneath, beyond, held-at, seek-room-at}
 use Rattle.directory.proofs.find.find.Statement.{statement}
 use Rattle.directory.proofs.find.find.Tie as tie
-use Rattle.directory.proofs.find.find.Reads as reads
-use Rattle.directory.proofs.find.find.Lts as lts
-use Rattle.directory.proofs.rows.compare.Reads as compare-reads
 
 -- the set is after those at places below `low`, and before those from `high` on
 abbrev Inv-loop : tie.InvT-loop

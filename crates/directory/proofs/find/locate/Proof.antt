@@ -1,7 +1,7 @@
 use borrow.Author.Needs.{needs}
-use Prim.Native.Nat.{ℕ, suc, _+_, _≤_, _<_, Ordering·lt}
+use Prim.Native.Nat.{ℕ, suc, _≤_, _<_, Ordering·lt}
 use mathlib.Core.Path.{_≡_, sym, _∙_}
-use mathlib.Core.Bool.{Bool, true, false}
+use mathlib.Core.Bool.{true}
 use mathlib.Core.List.{[]}
 use borrow.Author.Tests.{not-true, not-false}
 use native.Mathlib.Omega.{arith}
@@ -16,10 +16,6 @@ use Rattle.directory.proofs.Finds.{located-no, located-old, located-new
 use borrow.Author.Needs.{needs}
 use Rattle.directory.proofs.find.locate.Statement.{statement}
 use Rattle.directory.proofs.find.locate.Tie as tie
-use Rattle.directory.proofs.find.locate.Reads as reads
-use Rattle.directory.proofs.find.locate.Lts as lts
-use Rattle.directory.proofs.check.agrees.Reads as agrees-reads
-use Rattle.directory.proofs.find.find.Reads as find-reads
 
 abbrev stores : tie.Start → Stores
 stores s = record { sets = s .args .sets .now; entries = s .args .entries .now; order = s .args .order .now }

@@ -1,9 +1,6 @@
-use borrow.Author.Needs.{needs}
 use Rattle.directory.proofs.Finds.{names-yes, names-unbound, names-other}
 use Rattle.directory.proofs.find.names.Statement.{statement}
 use Rattle.directory.proofs.find.names.Tie as tie
-use Rattle.directory.proofs.find.names.Reads as reads
-use Rattle.directory.proofs.find.names.Lts as lts
 
 returns : tie.Need-returns
 returns c = let s = c .before .before in names-yes (s .args .birth) (s .args .bindings) (s .args .h) (c .before .if1 .taken) (c .if2 .taken)

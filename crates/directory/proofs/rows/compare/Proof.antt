@@ -1,14 +1,12 @@
 use borrow.Author.Needs.{needs}
-use mathlib.Core.Path.{_≡_, refl, sym, ap, _∙_}
-use Prim.Native.Nat.{ℕ, _+_, _-_, _≤_, _<_}
+use mathlib.Core.Path.{_≡_, sym, ap, _∙_}
+use Prim.Native.Nat.{_-_, _≤_}
 use native.Mathlib.Omega.{arith}
 use Rattle.tally.specs.Sets.{cmp}
 use Rattle.directory.specs.Rows.{span, setOf, way}
 use Rattle.directory.proofs.Words.{cmpWords, at-start, longer, shorter, ended, low, high, alike}
 use Rattle.directory.proofs.rows.compare.Statement.{statement}
 use Rattle.directory.proofs.rows.compare.Tie as tie
-use Rattle.directory.proofs.rows.compare.Reads as reads
-use Rattle.directory.proofs.rows.compare.Lts as lts
 
 abbrev Inv-loop : tie.InvT-loop
 Inv-loop a b n m i₀ i = (i ≤ n) × (i ≤ m) × (n ≤ 8) × (m ≤ 8) × (cmp (setOf a) (setOf b) ≡ cmpWords (span a i (n - i)) (span b i (m - i)))

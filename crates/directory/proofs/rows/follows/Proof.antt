@@ -1,6 +1,6 @@
 use borrow.Author.Needs.{needs}
 use Prim.Native.Nat.{Ordering}
-use mathlib.Core.Path.{_≡_, sym, _∙_}
+use mathlib.Core.Path.{sym, _∙_}
 use Rattle.tally.specs.Sets.{cmp}
 use Rattle.directory.specs.Rows.{setOf}
 use Rattle.directory.specs.View.{below}
@@ -8,9 +8,6 @@ use Rattle.directory.proofs.Checks.{follow-first, follow-low, follow-sa
 use borrow.Author.Needs.{needs}
 use Rattle.directory.proofs.rows.follows.Statement.{statement}
 use Rattle.directory.proofs.rows.follows.Tie as tie
-use Rattle.directory.proofs.rows.follows.Reads as reads
-use Rattle.directory.proofs.rows.follows.Lts as lts
-use Rattle.directory.proofs.rows.compare.Reads as compare-reads
 
 abbrev lie : tie.Start → Ordering
 lie s = cmp (setOf (s .args .a .now)) (setOf (s .args .b .now))

@@ -4,8 +4,6 @@ use Rattle.directory.proofs.Checks.{plain-over, plain-one, plain-many}
 use borrow.Author.Needs.{needs}
 use Rattle.directory.proofs.rows.plain_row.Statement.{statement}
 use Rattle.directory.proofs.rows.plain_row.Tie as tie
-use Rattle.directory.proofs.rows.plain_row.Reads as reads
-use Rattle.directory.proofs.rows.plain_row.Lts as lts
 
 element-copy-out-if1 : tie.Need-element-copy-out-if1
 element-copy-out-if1 c = search needs

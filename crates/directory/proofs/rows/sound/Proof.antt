@@ -1,18 +1,15 @@
 use borrow.Author.Needs.{needs}
-use mathlib.Core.Path.{_≡_, refl, sym, ap, subst, _∙_}
-use mathlib.Core.Bool.{Bool, true, false}
+use mathlib.Core.Path.{_≡_, refl, sym, subst, _∙_}
+use mathlib.Core.Bool.{true, false}
 use mathlib.Core.List.{List}
-use Prim.Native.Nat.{ℕ, _+_, _-_, _≤_, _<_}
+use Prim.Native.Nat.{ℕ, _-_, _≤_, _<_}
 use native.Mathlib.Omega.{arith}
 use borrow.Author.Tests.{le-leb, lt-leb, lt-ltb, le-ltb}
-use lib.ListN.{length, getD}
 use Rattle.directory.specs.All.{allb}
 use Rattle.directory.proofs.Alls.{allb-none, allb-more, allb-no}
 use Rattle.directory.specs.Rows.{size, keyAt, soundb}
 use Rattle.directory.proofs.rows.sound.Statement.{statement}
 use Rattle.directory.proofs.rows.sound.Tie as tie
-use Rattle.directory.proofs.rows.sound.Reads as reads
-use Rattle.directory.proofs.rows.sound.Lts as lts
 
 abbrev Inv-loop : tie.InvT-loop
 Inv-loop row n i₀ i = (1 ≤ n) × (n ≤ 8) × (i ≤ n - 1) × (n ≡ size row) × (allb i (keyAt row) ≡ true)

@@ -2,9 +2,6 @@ use Rattle.directory.specs.Calls.{admitted}
 use borrow.Author.Needs.{needs}
 use Rattle.directory.proofs.write.admit.Statement.{statement}
 use Rattle.directory.proofs.write.admit.Tie as tie
-use Rattle.directory.proofs.write.admit.Reads as reads
-use Rattle.directory.proofs.write.admit.Lts as lts
-use Rattle.directory.proofs.write.insert.Reads as insert-reads
 
 add-slot : tie.Need-add-slot
 add-slot c = search needs

@@ -4,8 +4,6 @@ use Rattle.directory.proofs.Finds.{birth-at}
 use borrow.Author.Needs.{needs}
 use Rattle.directory.proofs.write.birth_of.Statement.{statement}
 use Rattle.directory.proofs.write.birth_of.Tie as tie
-use Rattle.directory.proofs.write.birth_of.Reads as reads
-use Rattle.directory.proofs.write.birth_of.Lts as lts
 
 returns : tie.Need-returns
 returns c = search needs

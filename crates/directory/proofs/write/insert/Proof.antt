@@ -1,14 +1,12 @@
-use mathlib.Core.Path.{_≡_, refl, sym, ap, _∙_}
+use mathlib.Core.Path.{_≡_, refl, ap, _∙_}
 use mathlib.Core.List.{List}
-use Prim.Native.Nat.{ℕ, _+_, _-_, _≤_, _<_}
+use Prim.Native.Nat.{ℕ, _-_, _≤_}
 use native.Mathlib.Omega.{arith}
 use borrow.Author.Needs.{needs}
 use lib.ListN.{length, getD, set, length-set}
 use Rattle.directory.proofs.Moved.{moved, start, turn, finish}
 use Rattle.directory.proofs.write.insert.Statement.{statement}
 use Rattle.directory.proofs.write.insert.Tie as tie
-use Rattle.directory.proofs.write.insert.Reads as reads
-use Rattle.directory.proofs.write.insert.Lts as lts
 
 abbrev Inv-loop : tie.InvT-loop
 Inv-loop order₀ used at slot i₀ order i = (at ≤ i) × (i ≤ used) × (length order ≡ length order₀) × (order ≡ moved order₀ used i)

@@ -1,11 +1,8 @@
 use borrow.Author.Needs.{needs}
-use mathlib.Core.Path.{refl}
 use Rattle.directory.specs.Calls.{boundTo}
 use borrow.Author.Needs.{needs}
 use Rattle.directory.proofs.write.rebind.Statement.{statement}
 use Rattle.directory.proofs.write.rebind.Tie as tie
-use Rattle.directory.proofs.write.rebind.Reads as reads
-use Rattle.directory.proofs.write.rebind.Lts as lts
 
 mul-b : tie.Need-mul-b
 mul-b c = search needs

@@ -69,7 +69,8 @@ class ExponentialPoint:
         return head + held + [write_row(self.positive), write_row(self.negative)] + band
 
     def counts(self):
-        return len(self.positive[1]) + len(self.negative[1])
+        """The counts in the positive and in the negative store."""
+        return len(self.positive[1]), len(self.negative[1])
 
 
 @dataclass(frozen=True)
@@ -94,7 +95,7 @@ class ExplicitPoint:
         return [str(self.count)] + held + lists
 
     def counts(self):
-        return len(self.buckets)
+        return len(self.buckets), 0
 
 
 @dataclass(frozen=True)
@@ -110,7 +111,7 @@ class SinglePoint:
         return [write_held(self.value)]
 
     def counts(self):
-        return 0
+        return 0, 0
 
 
 # The point of a list of values.
@@ -203,7 +204,7 @@ def merged(a, b, size, room, sizes):
     check_merge(a, b, size, sizes)
     join = join_explicit if a.kind == "x" else join_exponential
     point = replace(a, count=a.count + b.count, **join_held(a, b), **join(a, b, size))
-    if room is not None and point.counts() > room:
+    if room is not None and max(point.counts()) > room:
         raise Refused(10)
     return point
 

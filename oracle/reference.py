@@ -312,11 +312,10 @@ def rising(bounds, most):
 
 
 def check_room(points, call):
-    """Number 10: places for points, and for all their counts together."""
-    counts = sum(point.counts() for point in points)
+    """Number 10: places for points, and in each of the two count stores for the counts of all points."""
     if call.points is not None and len(points) > call.points:
         raise Refused(10)
-    if call.counts is not None and counts > call.counts:
+    if call.counts is not None and any(sum(store) > call.counts for store in zip(*(point.counts() for point in points))):
         raise Refused(10)
 
 

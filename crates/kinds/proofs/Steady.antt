@@ -1,6 +1,7 @@
 -- Agreement is kept: by a series that gets a value, and by two points that merge. Assumes nothing.
 use Prim.Native.Nat.{ℕ}
 use mathlib.Core.Path.{_≡_, sym}
+use mathlib.Core.List.{[]}
 use mathlib.Core.Bool.{Bool, true, false, cond, Bool·beq, _&&_, _||_}
 use lib.Dec.{leb}
 use lib.Ieee.{Float, binary64, fits}
@@ -24,8 +25,9 @@ use Rattle.points.proofs.Kept.{record-agrees, merge-agrees}
 use Rattle.points.proofs.Classes.{class-in}
 use Rattle.points.proofs.Explicit.{buckets-say, buckets-agree, record-buckets-ok, merge-buckets-ok}
 use Rattle.points.proofs.Bounds.{same-count}
+use Rattle.tally.proofs.Sound.{Steady}
 use Rattle.kinds.specs.Histograms.{passes, countsHold, histograms, bothExplicit}
-use Rattle.kinds.proofs.Recorded.{f64, sound-kind}
+use Rattle.kinds.proofs.Recorded.{f64, sound-kind, lawful}
 
 abbrev low : ℕ
 low = lowestBin finest
@@ -61,6 +63,14 @@ stays-agreeing z x v e f h =
     (counts-kept (z .kind) (z .threshold) (x .counts) v e (f64 v f) (a .0))
     (both (finite (lesserOf (x .summary .min) v)) (finite (greaterOf (x .summary .max) v))
     (finite-chosen true (x .summary .min) v (b .0) k) (finite-chosen false (x .summary .max) v (b .1) k))
+
+-- the empty series agrees too: so number 8 never comes up of a map in which each series agrees
+pub histograms-steady : Steady histograms
+histograms-steady =
+    record {
+      fresh = λ z ok. lawful .agrees z (histograms .fresh z) [] (lawful .fresh z ok);
+      add = λ z x v ok f h. stays-agreeing z x v ok f h;
+    }
 
 -- ---- POINTS THAT AGREE AND MERGE MAKE ONE THAT AGREES
 counts-merged : (size : ℕ) (c d : Counts) → (bothExplicit c d || sizePasses size) ≡ true → sameKind c d ≡ true

@@ -1,7 +1,7 @@
--- Number 8 never comes of a map whose series agree, and they agree after every call. Assumes nothing.
+-- Numbers 8 and 12 never come up in a run from a fresh start: series that agree do so after every call. Assumes nothing.
 use Prim.Native.Nat.{ℕ, suc, _-_, Ordering, Ordering·lt, Ordering·eq, Ordering·gt}
 use mathlib.Core.Path.{_≡_, refl, ap, sym, subst, _∙_}
-use mathlib.Core.Bool.{Bool, true, false, cond, _&&_}
+use mathlib.Core.Bool.{Bool, true, false, cond, not, _&&_, _||_}
 use mathlib.Core.List.{List, [], _∷_, map}
 use mathlib.Core.Option.{Option, none, some}
 use lib.Dec.{eqb, ltb, leb}
@@ -10,7 +10,9 @@ use Rattle.laws.specs.Tests.{all}
 use Rattle.laws.proofs.Cases.{and-true, true-not-false, some-inj, none-not-some}
 use Rattle.tally.specs.Sets.{Set, overflow, three, cmp, same, canonical}
 use Rattle.tally.specs.Kind.{Kind, unless, firstOf, suffices}
-use Rattle.tally.specs.Map.{Config, Entry, Map, Call, measure, measureBy, bind, release, collect, Answer, refuse, done, handle, listed, Out, orRefused, byHandle, named, find, put, Place, place, held, write, current, sound, recorded, rebound, idle, reset, sweep, swept, points, fits, Points, measureAt, bindAt, releaseAt, upfront, act, step, start}
+use Rattle.tally.specs.Map.{Config, Entry, Map, Call, measure, measureBy, bind, release, collect, Answer, refuse, done, handle, listed, Out, orRefused, byHandle, named, find, put, Place, place, held, write, current, sound, recorded, rebound, idle, reset, sweep, swept, points, fits, Points, measureAt, bindAt, releaseAt, upfront, act, step, Agrees}
+use Rattle.tally.specs.Demand.{Code, answers, ran}
+use Rattle.tally.proofs.Agree.{begins, step-agrees}
 use Rattle.tally.proofs.Placed.{Placed, heldOwn, madeOwn, heldOver, madeOver, placed}
 
 both : (a b : Bool) → a ≡ true → b ≡ true → (a && b) ≡ true
@@ -52,27 +54,25 @@ module _ (K : Kind) where
         let a = and-true (p x) (all p l) k in
         of-found x e (eqb (x .birth) h && ltb 0 (x .bindings)) (named K h l) (a .0) (all-named h e l (a .1)) q
 
-  -- not number 8, and the series agree
-  pub record Steadily (o : Out K) : Type 0 where
-    pub quiet : o .answer ≡ refuse 8 → ⊥
+  -- "8: directory or touched series disagrees with itself", "12: a lent .. store under .."
+  abbrev pub quiet : Answer K → Bool
+  quiet a = elim a [ refuse n ↦ not (eqb n 8 || eqb n 12) | done ↦ true | handle b ↦ true | listed ps ↦ true ]
+
+  -- neither number; the settings as they were, and the series agree
+  pub record Steadily (z : K .Settings) (o : Out K) : Type 0 where
+    pub quiet : quiet (o .answer) ≡ true
+    pub settings : o .map .settings ≡ z
     pub sound : Sound (o .map)
-
-  eight : Answer K → Bool
-  eight (refuse n) = eqb n 8
-  eight done = false
-  eight (handle b) = false
-  eight (listed ps) = false
-
-  not-eight : (a : Answer K) → eight a ≡ false → a ≡ refuse 8 → ⊥
-  unfolding eight
-  not-eight a e q = true-not-false (sym (ap eight q) ∙ e)
 
 module _ (K : Kind) (S : Steady K) (m : Map K) (z : K .valid (m .settings) ≡ true) (h : Sound K m) where
   fine : Entry K → Bool
   fine e = sound K (m .settings) (e .series)
 
-  told : (a : Answer K) → eight K a ≡ false → (r : Map K) → Sound K r → Steadily K (record { answer = a; map = r })
-  told a e r s = record { quiet = not-eight K a e; sound = s }
+  abbrev After : Out K → Type 0
+  After o = Steadily K (m .settings) o
+
+  told : (a : Answer K) → quiet K a ≡ true → (r : Map K) → r .settings ≡ m .settings → Sound K r → After (record { answer = a; map = r })
+  told a e r q s = record { quiet = e; settings = q; sound = s }
 
   entry-fine : (c : Config K) (s : Set) → sound K (m .settings) (place K (c .limit) m s .entry .series) ≡ true
   unfolding fine
@@ -88,24 +88,23 @@ module _ (K : Kind) (S : Steady K) (m : Map K) (z : K .valid (m .settings) ≡ t
   current-agrees none e q a = rw q (S .fresh (m .settings) z)
   current-agrees (some x) e q a = rw q a
 
-  measured : (v : K .Value) (p : Place K) → K .finite v ≡ true → fine (p .entry) ≡ true → Steadily K (measureAt K m v p)
-  unfolding measureAt fine eight
+  measured : (v : K .Value) (p : Place K) → K .finite v ≡ true → fine (p .entry) ≡ true → After (measureAt K m v p)
+  unfolding measureAt fine
   measured v p f a =
       let x = current K (m .settings) (p .entry) in
       go (sound K (m .settings) (p .entry .series)) a (fits (p .last) && fits (suc (K .total x))) (K .allows (m .settings) x v)
     where
-      go : (b : Bool) → b ≡ true → (u w : Bool) → Steadily K (orRefused K m (firstOf (unless b 8 ∷ unless u 9 ∷ unless w 16 ∷ [])) (record { answer = done; map = write K m p (recorded K (m .settings) (p .entry) v) }))
+      go : (b : Bool) → b ≡ true → (u w : Bool) → After (orRefused K m (firstOf (unless b 8 ∷ unless u 9 ∷ unless w 16 ∷ [])) (record { answer = done; map = write K m p (recorded K (m .settings) (p .entry) v) }))
       go true q true true =
-          told done refl (write K m p (recorded K (m .settings) (p .entry) v))
+          told done refl (write K m p (recorded K (m .settings) (p .entry) v)) refl
           (all-put K fine (recorded K (m .settings) (p .entry) v) (m .entries)
           (S .add (m .settings) (current K (m .settings) (p .entry)) v z f (current-agrees (p .entry .series) (p .entry) refl a)) h)
-      go true q true false = told (refuse 16) refl m h
-      go true q false w = told (refuse 9) refl m h
+      go true q true false = told (refuse 16) refl m refl h
+      go true q false w = told (refuse 9) refl m refl h
       go false q u w = true-not-false (sym q)
 
-  by : (o : Option (Entry K)) → ((e : Entry K) → o ≡ some e → fine e ≡ true) → (f : Entry K → Out K) → ((e : Entry K) → fine e ≡ true → Steadily K (f e)) → Steadily K (byHandle K m o f)
-  unfolding eight
-  by none s f g = told (refuse 7) refl m h
+  by : (o : Option (Entry K)) → ((e : Entry K) → o ≡ some e → fine e ≡ true) → (f : Entry K → Out K) → ((e : Entry K) → fine e ≡ true → After (f e)) → After (byHandle K m o f)
+  by none s f g = told (refuse 7) refl m refl h
   by (some e) s f g = g e (s e refl)
 
   all-sweep : (l : List (Entry K)) → all fine (sweep K l) ≡ true
@@ -121,8 +120,8 @@ module _ (K : Kind) (S : Steady K) (m : Map K) (z : K .valid (m .settings) ≡ t
   abbrev Finite : Call K → Type 0
   Finite x = elim x [ measure v attrs ↦ K .finite v ≡ true | measureBy i v ↦ K .finite v ≡ true | bind attrs ↦ Unit | release i ↦ Unit | collect room ↦ Unit ]
 
-  acted : (c : Config K) (x : Call K) → Finite x → Steadily K (act K c m x)
-  unfolding act bindAt releaseAt fine eight
+  acted : (c : Config K) (x : Call K) → Finite x → After (act K c m x)
+  unfolding act bindAt releaseAt fine
   acted c (measure v attrs) f =
       measured v (place K (c .limit) m (canonical (c .filter) attrs)) f (entry-fine c (canonical (c .filter) attrs))
   acted c (measureBy i v) f =
@@ -132,43 +131,60 @@ module _ (K : Kind) (S : Steady K) (m : Map K) (z : K .valid (m .settings) ≡ t
       p : Place K
       p = place K (c .limit) m (canonical (c .filter) attrs)
 
-      go : (b : Bool) → Steadily K (orRefused K m (unless b 9) (record { answer = handle (p .entry .birth); map = write K m p (rebound K (p .entry) (suc (p .entry .bindings))) }))
-      go true = told (handle (p .entry .birth)) refl (write K m p (rebound K (p .entry) (suc (p .entry .bindings)))) (all-put K fine (rebound K (p .entry) (suc (p .entry .bindings))) (m .entries) (entry-fine c (canonical (c .filter) attrs)) h)
-      go false = told (refuse 9) refl m h
+      go : (b : Bool) → After (orRefused K m (unless b 9) (record { answer = handle (p .entry .birth); map = write K m p (rebound K (p .entry) (suc (p .entry .bindings))) }))
+      go true = told (handle (p .entry .birth)) refl (write K m p (rebound K (p .entry) (suc (p .entry .bindings)))) refl (all-put K fine (rebound K (p .entry) (suc (p .entry .bindings))) (m .entries) (entry-fine c (canonical (c .filter) attrs)) h)
+      go false = told (refuse 9) refl m refl h
   acted c (release i) f =
       by (named K i (m .entries)) (λ e q. all-named K fine i e (m .entries) h q) (λ e. releaseAt K m e)
-      (λ e q. told done refl (releaseAt K m e .map) (all-put K fine (rebound K e (e .bindings - 1)) (m .entries) q h))
+      (λ e q. told done refl (releaseAt K m e .map) refl (all-put K fine (rebound K e (e .bindings - 1)) (m .entries) q h))
   acted c (collect room) f = go (all fine (m .entries)) h (suffices K room (map (λ p. p .1) ps))
     where
       ps : Points K
       ps = points K (m .settings) (m .entries)
 
-      go : (b : Bool) → b ≡ true → (u : Bool) → Steadily K (orRefused K m (firstOf (unless b 8 ∷ unless u 10 ∷ [])) (record { answer = listed ps; map = swept K m }))
-      go true q true = told (listed ps) refl (swept K m) (all-sweep (m .entries))
-      go true q false = told (refuse 10) refl m h
+      go : (b : Bool) → b ≡ true → (u : Bool) → After (orRefused K m (firstOf (unless b 8 ∷ unless u 10 ∷ [])) (record { answer = listed ps; map = swept K m }))
+      go true q true = told (listed ps) refl (swept K m) refl (all-sweep (m .entries))
+      go true q false = told (refuse 10) refl m refl h
       go false q u = true-not-false (sym q)
 
-  pub steps-steadily : (c : Config K) (x : Call K) → Steadily K (step K c m x)
-  unfolding upfront eight
+  pub steps-steadily : (c : Config K) (x : Call K) → After (step K c m x)
+  unfolding upfront
   steps-steadily c (measure v attrs) = go (K .finite v) refl (leb (length attrs) 8)
     where
-      go : (b : Bool) → K .finite v ≡ b → (u : Bool) → Steadily K (orRefused K m (firstOf (unless b 6 ∷ unless u 5 ∷ [])) (act K c m (measure v attrs)))
+      go : (b : Bool) → K .finite v ≡ b → (u : Bool) → After (orRefused K m (firstOf (unless b 6 ∷ unless u 5 ∷ [])) (act K c m (measure v attrs)))
       go true f true = acted c (measure v attrs) f
-      go true f false = told (refuse 5) refl m h
-      go false f u = told (refuse 6) refl m h
+      go true f false = told (refuse 5) refl m refl h
+      go false f u = told (refuse 6) refl m refl h
   steps-steadily c (measureBy i v) = go (K .finite v) refl
     where
-      go : (b : Bool) → K .finite v ≡ b → Steadily K (orRefused K m (unless b 6) (act K c m (measureBy i v)))
+      go : (b : Bool) → K .finite v ≡ b → After (orRefused K m (unless b 6) (act K c m (measureBy i v)))
       go true f = acted c (measureBy i v) f
-      go false f = told (refuse 6) refl m h
+      go false f = told (refuse 6) refl m refl h
   steps-steadily c (bind attrs) = go (leb (length attrs) 8)
     where
-      go : (u : Bool) → Steadily K (orRefused K m (unless u 5) (act K c m (bind attrs)))
+      go : (u : Bool) → After (orRefused K m (unless u 5) (act K c m (bind attrs)))
       go true = acted c (bind attrs) tt
-      go false = told (refuse 5) refl m h
+      go false = told (refuse 5) refl m refl h
   steps-steadily c (release i) = acted c (release i) tt
   steps-steadily c (collect room) = acted c (collect room) tt
 
--- a map just configured has no series
-pub starts-sound : (K : Kind) (c : Config K) → Sound K (start K c)
-starts-sound K c = refl
+module _ (K : Kind) (S : Steady K) (c : Config K) (C : Code K c) where
+  run-quiet : (xs : List (C .Input)) (s : C .State) → C .Ok s → Agrees K c (C .view s) → K .valid (C .view s .settings) ≡ true → Sound K (C .view s)
+      → all (quiet K) (answers K c C s xs) ≡ true
+  run-quiet [] s o y v h = refl
+  run-quiet (x ∷ xs) s o y v h =
+      let d = C .faithful s x o y in
+      let m = C .view s in
+      let a = steps-steadily K S m v h c (C .asks x) in
+      both (quiet K (C .call s x .0)) (all (quiet K) (answers K c C (C .call s x .1) xs))
+      (ap (λ q. quiet K (q .answer)) (d .1) ∙ a .quiet)
+      (run-quiet xs (C .call s x .1) (d .0)
+      (subst (λ q. Agrees K c (q .map)) (sym (d .1)) (step-agrees K c m y (C .asks x)))
+      (subst (λ q. K .valid (q .map .settings) ≡ true) (sym (d .1)) (ap (K .valid) (a .settings) ∙ v))
+      (subst (λ q. Sound K (q .map)) (sym (d .1)) (a .sound)))
+
+  -- with no premise: whatever the calls, from a fresh start none is answered 8 or 12
+  pub never-damaged : (xs : List (C .Input)) → all (quiet K) (ran K c C xs) ≡ true
+  never-damaged xs =
+      run-quiet xs (C .first) (C .ok) (subst (λ m. Agrees K c m) (sym (C .fresh)) (begins K c))
+      (subst (λ m. K .valid (m .settings) ≡ true) (sym (C .fresh)) (C .valid)) (subst (λ m. Sound K m) (sym (C .fresh)) refl)

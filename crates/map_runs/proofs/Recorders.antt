@@ -1,0 +1,107 @@
+-- Any run of recordings, bindings and releases from a fresh start, for a kind that records into its own cells beside the directory: the
+-- code that tally's Demand speaks of. Assumes nothing.
+use Prim.Native.Nat.{ℕ}
+use mathlib.Core.Path.{_≡_, refl, ap, sym, subst, _∙_}
+use mathlib.Core.Bool.{true}
+use mathlib.Core.List.{List}
+use Rattle.laws.specs.Tests.{all}
+use Rattle.tally.specs.Sets.{Set}
+use Rattle.tally.specs.Kind.{Kind}
+use Rattle.tally.specs.Map.{Config, Call, measure, measureBy, bind, release, Answer, Out, Map, Agrees, step}
+use Rattle.tally.specs.Demand.{Code, ran}
+use Rattle.tally.proofs.Sound.{Steady, quiet, never-damaged}
+use Rattle.directory.specs.View.{Stores, view}
+use Rattle.directory.specs.Calls.{Kept, Outcome, enough, accepts, bound, released, started}
+use Rattle.directory.proofs.Exact.{Small}
+use Rattle.directory.proofs.Laws.{said, Steps}
+use Rattle.directory.proofs.Refusals.{within}
+use Rattle.directory.proofs.Keeps.{bind-steps, release-steps, start-map}
+use Rattle.directory.proofs.Runs as moves
+use Rattle.directory.proofs.Runs.{Good, move-good}
+
+-- a state of the map: the directory, and the kind's cells beside it
+pub record Held (Cells : Type 0) : Type 0 where
+  pub kept : Kept
+  pub cells : Cells
+
+-- a call's outcome in the directory, and the kind's cells then
+pub record Ended (Cells : Type 0) : Type 0 where
+  pub outcome : Outcome
+  pub cells : Cells
+
+module _ (K : Kind) (c : Config K) where
+  -- the map that a state is, each slot's series read from the cells
+  abbrev pub mapOf : {Cells : Type 0} → (Cells → ℕ → K .Series) → Kept → Cells → Map K
+  mapOf at k x = view K (at x) (c .settings) (k .dir) (k .stores)
+
+  -- the outcome is the map's step, and leaves a state like the one before
+  pub record Does {Cells : Type 0} (Enough : Cells → Type 0) (at : Cells → ℕ → K .Series) (k : Kept) (x : Cells) (call : Call K) (o : Ended Cells) : Type 0 where
+    pub good : Good (c .limit) (o .outcome .kept)
+    pub lent : Enough (o .cells)
+    pub answer : said K (at (o .cells)) (c .settings) (o .outcome .answer) ≡ step K c (mapOf at k x) call .answer
+    pub map : mapOf at (o .outcome .kept) (o .cells) ≡ step K c (mapOf at k x) call .map
+
+  -- a kind's two recording calls, each the map's step wherever the directory agrees and the lent stores suffice
+  pub record Recorders : Type 1 where
+    pub Cells : Type 0
+    pub Enough : Cells → Type 0
+    pub at : Cells → ℕ → K .Series
+    pub bySet : Kept → Cells → K .Value → Set → Ended Cells
+    pub byHandle : Kept → Cells → K .Value → ℕ → Ended Cells
+    pub set-does : (k : Kept) (x : Cells) → Good (c .limit) k → Enough x → (v : K .Value) (attrs : Set) → Small attrs → Does Enough at k x (measure v attrs) (bySet k x v attrs)
+    pub handle-does : (k : Kept) (x : Cells) → Good (c .limit) k → Enough x → (v : K .Value) (h : ℕ) → Does Enough at k x (measureBy h v) (byHandle k x v h)
+
+  -- what the calls are given: attributes are pairs of u32
+  pub data Asked : Type 0 where
+    recording : K .Value → (attrs : Set) → Small attrs → Asked
+    recordingBy : ℕ → K .Value → Asked
+    binding : (attrs : Set) → Small attrs → Asked
+    releasing : ℕ → Asked
+
+  abbrev pub asks : Asked → Call K
+  asks (recording v attrs small) = measure v attrs
+  asks (recordingBy h v) = measureBy h v
+  asks (binding attrs small) = bind attrs
+  asks (releasing h) = release h
+
+  module _ (R : Recorders) where
+    -- a binding or a release leaves the cells alone
+    abbrev alone : R .Cells → Outcome → Ended (R .Cells)
+    alone x o = record { outcome = o; cells = x }
+
+    abbrev pub ended : Held (R .Cells) → Asked → Ended (R .Cells)
+    ended s (recording v attrs small) = R .bySet (s .kept) (s .cells) v attrs
+    ended s (recordingBy h v) = R .byHandle (s .kept) (s .cells) v h
+    ended s (binding attrs small) = alone (s .cells) (bound (c .limit) (c .filter) (s .kept .dir) (s .kept .stores) attrs)
+    ended s (releasing h) = alone (s .cells) (released (c .limit) (s .kept .dir) (s .kept .stores) h)
+
+    module _ (a : accepts (c .limit) (c .filter) ≡ true) where
+      stepped : (s : Held (R .Cells)) → Good (c .limit) (s .kept) → R .Enough (s .cells) → (x : Asked) → Does (R .Enough) (R .at) (s .kept) (s .cells) (asks x) (ended s x)
+      stepped s g e (recording v attrs small) = R .set-does (s .kept) (s .cells) g e v attrs small
+      stepped s g e (recordingBy h v) = R .handle-does (s .kept) (s .cells) g e v h
+      stepped s g e (binding attrs small) =
+          let k = s .kept in
+          let p = bind-steps K (R .at (s .cells)) (c .settings) c (k .dir) (k .stores) (g .agrees) (g .lent) attrs small (g .last) a in
+          record { good = move-good (c .limit) (c .filter) a k g (moves.binding attrs small); lent = e; answer = p .0; map = p .1 }
+      stepped s g e (releasing h) =
+          let k = s .kept in
+          let p = release-steps K (R .at (s .cells)) (c .settings) c (k .dir) (k .stores) (g .agrees) (g .lent) h (within (c .limit) (c .filter) a) in
+          record { good = move-good (c .limit) (c .filter) a k g (moves.releasing h); lent = e; answer = p .0; map = p .1 }
+
+      -- the calls as code, from a fresh start in stores that suffice
+      pub code : K .valid (c .settings) ≡ true → (s : Stores) → enough (c .limit) s ≡ true → (x : R .Cells) → R .Enough x → Good (c .limit) (started (c .limit) (c .filter) s .kept) → Code K c
+      code ok s e x f good =
+          record {
+            State = Held (R .Cells);
+            Ok = λ h. Good (c .limit) (h .kept) × R .Enough (h .cells);
+            view = λ h. mapOf (R .at) (h .kept) (h .cells);
+            Input = Asked;
+            asks = asks;
+            call = λ h y. (said K (R .at (h .cells)) (c .settings) (ended h y .outcome .answer), record { kept = ended h y .outcome .kept; cells = ended h y .cells });
+            faithful = λ h y o g. let d = stepped h (o .0) (o .1) y in
+                ((d .good, d .lent), (λ i. record { answer = d .answer i; map = d .map i }));
+            first = record { kept = started (c .limit) (c .filter) s .kept; cells = x };
+            ok = (good, f);
+            fresh = start-map (c .limit) (c .filter) s a e K (R .at x) (c .settings);
+            valid = ok;
+          }

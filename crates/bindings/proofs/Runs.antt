@@ -182,17 +182,17 @@ module _ (limit : ℕ) (filter : Option (List ℕ)) where
     run-quiet k g [] = tt
     run-quiet k g (x ∷ xs) = (move-leaves k g x .quiet, run-quiet (made k x .kept) (move-good k g x) xs)
 
+    pub start-good : (s : Stores) → enough limit s ≡ true → Good limit (started limit filter s .kept)
+    start-good s e =
+        let r = suffices limit s e in
+        let q : length (set (s .entries) 0 (0 ∷ 0 ∷ 0 ∷ [])) ≡ length (s .entries) = length-set (s .entries) 0 (0 ∷ 0 ∷ 0 ∷ []) in
+        let p = start-is limit filter s a e in
+        record {
+          agrees = start-keeps limit filter s a e;
+          lent = subst (λ (k : Kept). enough limit (k .stores) ≡ true) (sym p)
+              (rw (le-leb (limit + 2) (length (s .sets)) (r .sets), le-leb (limit + 2) (length (set (s .entries) 0 (0 ∷ 0 ∷ 0 ∷ []))) (omega (arith, q, r .entries)), le-leb (limit + 2) (length (s .order)) (r .order)));
+          last = subst (λ (k : Kept). k .dir .last < 2 ^ 64) (sym p) (omega arith);
+        }
+
     pub never-8 : (s : Stores) → enough limit s ≡ true → (xs : List Move) → AllQuiet (started limit filter s .kept) xs
-    never-8 s e xs = run-quiet (started limit filter s .kept) (first s e) xs
-      where
-        first : (s : Stores) → enough limit s ≡ true → Good limit (started limit filter s .kept)
-        first s e =
-            let r = suffices limit s e in
-            let q : length (set (s .entries) 0 (0 ∷ 0 ∷ 0 ∷ [])) ≡ length (s .entries) = length-set (s .entries) 0 (0 ∷ 0 ∷ 0 ∷ []) in
-            let p = start-is limit filter s a e in
-            record {
-              agrees = start-keeps limit filter s a e;
-              lent = subst (λ (k : Kept). enough limit (k .stores) ≡ true) (sym p)
-                  (rw (le-leb (limit + 2) (length (s .sets)) (r .sets), le-leb (limit + 2) (length (set (s .entries) 0 (0 ∷ 0 ∷ 0 ∷ []))) (omega (arith, q, r .entries)), le-leb (limit + 2) (length (s .order)) (r .order)));
-              last = subst (λ (k : Kept). k .dir .last < 2 ^ 64) (sym p) (omega arith);
-            }
+    never-8 s e xs = run-quiet (started limit filter s .kept) (start-good s e) xs

@@ -11,13 +11,14 @@ use Rattle.tally.specs.Map.{Config, Call, measure, measureBy, bind, release, An
 use Rattle.tally.specs.Demand.{Code, ran}
 use Rattle.tally.proofs.Sound.{Steady, quiet, never-damaged}
 use Rattle.directory.specs.View.{Stores, view}
-use Rattle.directory.specs.Calls.{Kept, Outcome, enough, accepts, bound, released, started}
-use Rattle.directory.proofs.Exact.{Small}
-use Rattle.directory.proofs.Laws.{said, Steps}
+use Rattle.directory.specs.Calls.{Kept, enough, accepts}
+use Rattle.bindings.specs.Calls.{Outcome, bound, released, started}
+use Rattle.sets.proofs.Exact.{Small}
+use Rattle.bindings.proofs.Releases.{said}
 use Rattle.directory.proofs.Refusals.{within}
-use Rattle.directory.proofs.Keeps.{bind-steps, release-steps, start-map}
-use Rattle.directory.proofs.Runs as moves
-use Rattle.directory.proofs.Runs.{Good, move-good}
+use Rattle.bindings.proofs.Keeps.{bind-steps, release-steps, start-map}
+use Rattle.bindings.proofs.Runs as moves
+use Rattle.bindings.proofs.Runs.{Good, move-good, start-good}
 
 -- a state of the map: the directory, and the kind's cells beside it
 pub record Held (Cells : Type 0) : Type 0 where
@@ -89,8 +90,8 @@ module _ (K : Kind) (c : Config K) where
           record { good = move-good (c .limit) (c .filter) a k g (moves.releasing h); lent = e; answer = p .0; map = p .1 }
 
       -- the calls as code, from a fresh start in stores that suffice
-      pub code : K .valid (c .settings) ≡ true → (s : Stores) → enough (c .limit) s ≡ true → (x : R .Cells) → R .Enough x → Good (c .limit) (started (c .limit) (c .filter) s .kept) → Code K c
-      code ok s e x f good =
+      pub code : K .valid (c .settings) ≡ true → (s : Stores) → enough (c .limit) s ≡ true → (x : R .Cells) → R .Enough x → Code K c
+      code ok s e x f =
           record {
             State = Held (R .Cells);
             Ok = λ h. Good (c .limit) (h .kept) × R .Enough (h .cells);
@@ -101,7 +102,7 @@ module _ (K : Kind) (c : Config K) where
             faithful = λ h y o g. let d = stepped h (o .0) (o .1) y in
                 ((d .good, d .lent), (λ i. record { answer = d .answer i; map = d .map i }));
             first = record { kept = started (c .limit) (c .filter) s .kept; cells = x };
-            ok = (good, f);
+            ok = (start-good (c .limit) (c .filter) a s e, f);
             fresh = start-map (c .limit) (c .filter) s a e K (R .at x) (c .settings);
             valid = ok;
           }

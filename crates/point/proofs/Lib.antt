@@ -6,3 +6,4 @@ pub mod Answers
 pub mod Offsets
 pub mod Shown
 pub mod Lists
+pub mod Told

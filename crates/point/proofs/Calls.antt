@@ -15,13 +15,14 @@ use Rattle.points.specs.Handed.{extremesAgree, mergeCounts}
 use Rattle.points.proofs.Explicit.{buckets-say}
 use Rattle.series.specs.declared.Counts.{Counts}
 use Rattle.merges.specs.Merges.{Agreeing, mergedPoint}
+use Rattle.heads.specs.Heads.{Addable}
 use Rattle.buckets.specs.Series.{mostCount, bucketsIn}
 use Rattle.point.specs.declared.Point.{Point}
 use Rattle.point.specs.declared.Figures.the-variants.{Exponential, Explicit}
 use Rattle.point.specs.declared.Made.{Made}
 use Rattle.point.specs.declared.Answer.{Answer}
 use Rattle.point.specs.declared.Answer.the-variants.{Refused}
-use Rattle.point.specs.Handing.{countsAs, sizeFits, countIn, sameFigures, figuresAgree, pointAgrees, refusalBefore, madeOver, laidOver, madeOne, laidOne, Addable, finished, outcome, ended, merging}
+use Rattle.point.specs.Handing.{countsAs, sizeFits, countIn, sameFigures, figuresAgree, pointAgrees, refusalBefore, madeOver, laidOver, madeOne, laidOne, finished, outcome, ended, merging}
 use Rattle.point.proofs.Laid.{addable, over-one}
 
 -- the tests in their order

@@ -21,10 +21,11 @@ use Rattle.points.specs.Figures.{scaled, bucketed}
 use Rattle.points.proofs.Explicit.{BucketsOk, length-added}
 use Rattle.series.specs.declared.Counts.{Counts}
 use Rattle.series.specs.Series.{Written}
+use Rattle.heads.specs.Heads.{Addable}
 use Rattle.buckets.specs.Series.{bucketsIn}
 use Rattle.point.specs.declared.Figures.the-variants.{Exponential, Explicit}
 use Rattle.point.specs.declared.Made.the-variants.{Of, NoRoom}
-use Rattle.point.specs.Handing.{madeOver, laidOver, madeOne, laidOne, Addable}
+use Rattle.point.specs.Handing.{madeOver, laidOver, madeOne, laidOne}
 
 -- ---- the exponential kind
 

@@ -4,3 +4,6 @@ pub mod Laid
 pub mod Means
 pub mod Answers
 pub mod Offsets
+pub mod Shown
+pub mod Lists
+pub mod Told

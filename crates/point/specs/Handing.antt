@@ -1,5 +1,5 @@
 -- Points as code holds them, read as the points of crate `points`; and what merging two of them answers. Assumes nothing.
-use Prim.Native.Nat.{ℕ, _+_, _^_, _≤_, _<_}
+use Prim.Native.Nat.{ℕ, _+_}
 use mathlib.Core.Bool.{Bool, true, false, Bool·beq}
 use mathlib.Core.List.{List, []}
 use lib.Dec.{leb, eqb}
@@ -9,7 +9,6 @@ use Rattle.laws.specs.Pick.{pick, _and_}
 use Rattle.index.specs.Bins.{finest}
 use Rattle.floats.specs.Answers.{shownOf, smallerOf, largerOf}
 use Rattle.floats.specs.Starts.{zeroFloat}
-use Rattle.laws.specs.Counting.{total}
 use Rattle.points.specs.Explicit.{sameBounds, bucketsAgree, added}
 use Rattle.points.specs.Figures as F
 use Rattle.points.specs.Figures.{scaled, bucketed}
@@ -150,13 +149,6 @@ madeOne m us = record { made = m; counts = us }
 unfoldable pub laidOne : ℕ → ℕ → List ℕ → ℕ → List ℕ → List ℕ → One
 laidOne k n xs m zs us =
     pick (leb k (length us)) (madeOne (Of (Explicit (n + m))) (over (added (take k xs) (take k zs)) us)) (madeOne NoRoom us)
-
--- k counts of each can be added
-pub record Addable (k n : ℕ) (xs : List ℕ) (m : ℕ) (zs : List ℕ) : Type 0 where
-  pub first : k ≤ length xs
-  pub second : k ≤ length zs
-  pub sums : total (take k xs) + total (take k zs) < 2 ^ 64
-  pub counts : n + m < 2 ^ 64
 
 -- ---- the call
 

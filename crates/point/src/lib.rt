@@ -1,4 +1,5 @@
 // A point as it is handed out, of either kind, and two such points merged.
+pub mod in_place;
 pub mod signed;
 
 ghost use mathlib.Core.Path.{_≡_};
@@ -6,11 +7,12 @@ ghost use Prim.Native.Nat.{_+_, _-_, _<_};
 ghost use Rattle.points.specs.Handed.{extremesAgree};
 ghost use Rattle.laws.specs.Pick.{_and_};
 ghost use lib.Ieee.Scale.{finite};
-ghost use Rattle.point.specs.Handing.{shownSum, exponentialPoint, explicitPoint, figuresAgree, pointAgrees, isExplicit, countIn, sameFigures, sizeFits, refusalBefore, madeOver, laidOver, madeOne, laidOne, Addable, finished, outcome, merging};
+ghost use Rattle.point.specs.Handing.{shownSum, exponentialPoint, explicitPoint, figuresAgree, pointAgrees, isExplicit, countIn, sameFigures, sizeFits, refusalBefore, madeOver, laidOver, madeOne, laidOne, finished, outcome, merging};
 ghost use lib.Dec.{leb};
 ghost use mathlib.Core.Bool.{Bool·beq};
 ghost use Rattle.points.specs.Explicit.{bucketCount};
 ghost use Rattle.points.specs.Figures.{scaled};
+ghost use Rattle.heads.specs.Heads.{Addable};
 ghost use Rattle.merges.specs.Merges.{Agreeing, mergedPoint};
 ghost use Rattle.buckets.specs.Series.{mostCount};
 ghost use Rattle.series.specs.Series.{sizePasses};

@@ -1,0 +1,2 @@
+-- The laws of heads merged in place.
+pub mod Places

@@ -1,0 +1,2 @@
+-- The definitions that the contracts of `heads` cite.
+pub mod Heads

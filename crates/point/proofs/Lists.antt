@@ -1,0 +1,121 @@
+-- A list of values recorded one by one from the fresh series and handed out is document 01's point of the list, of either kind; and two
+-- such points merge to the point of the lists joined. Assumes nothing.
+use Prim.Native.Nat.{ℕ, _+_, _-_, _^_, _≤_, _<_}
+use mathlib.Core.Path.{_≡_, refl, ap, sym, subst, _∙_}
+use mathlib.Core.Bool.{Bool, true}
+use mathlib.Core.List.{List, _++_}
+use native.Mathlib.Omega.{arith}
+use lib.Dec.{leb}
+use lib.ListN.{length, replicate}
+use lib.Ieee.{Float}
+use borrow.Author.Tests.{leb-true, le-leb}
+use Rattle.laws.specs.Pick.{_and_}
+use Rattle.laws.specs.Lists.{All}
+use Rattle.laws.proofs.Bools.{and-left, and-intro}
+use Rattle.index.specs.Bins.{finest}
+use Rattle.floats.specs.Starts.{FiniteF64}
+use Rattle.rows.specs.Rows.{over}
+use Rattle.points.specs.Explicit.{boundsPass, bucketCount, bucketsOf}
+use Rattle.points.specs.Values.{countsOf}
+use Rattle.points.specs.Figures.{Kind, exponential, explicit, sizeOf, Settings, scaled, bucketed, kindCounts}
+use Rattle.points.specs.Handed.{handed, mergeCounts, mergeHanded, countOf}
+use Rattle.points.specs.Stands.{Stands}
+use Rattle.points.proofs.Figures as PF
+use Rattle.points.proofs.Classes.{countsOf-agrees}
+use Rattle.points.proofs.Explicit.{bucketsOf-ok}
+use Rattle.points.proofs.Stands.{handed-stands, stands-merge}
+use Rattle.series.specs.Series.{leastSize, mostSize}
+use Rattle.series.specs.Runs as SR
+use Rattle.series.proofs.Facts as Facts
+use Rattle.series.proofs.Lists as SL
+use Rattle.buckets.specs.Series.{freshHead}
+use Rattle.buckets.specs.Runs as BR
+use Rattle.buckets.proofs.Listed as BL
+use Rattle.point.specs.declared.Point.{Point}
+use Rattle.point.specs.Handing.{handedAs, exponentialPoint, explicitPoint, countIn, merging}
+use Rattle.point.proofs.Means.{settingsOf, inShape, exponential-list, explicit-list, count-is}
+use Rattle.point.proofs.Answers.{hasRoom, Configured, AnswersFor, merging-stands}
+
+-- p with its bounds and rows is document 01's point of the values under the settings, and in shape
+pub record PointOf (s : Settings) (vs : List Float) (p : Point) (bs : List Float) (xs ys : List ℕ) : Type 0 where
+  pub is : handedAs p bs xs ys ≡ handed s vs
+  pub shape : inShape (p .figures) xs ys ≡ true
+  pub values : All FiniteF64 vs
+
+-- ---- THE EXPONENTIAL KIND
+module _ (size top : ℕ) (least : leastSize ≤ size) (most : size ≤ mostSize) (known : top ≤ finest)
+    (xs ys : List ℕ) (long : size ≤ length xs) (long' : size ≤ length ys) (vs : List Float) (values : All FiniteF64 vs) (few : length vs < 2 ^ 64) where
+  -- the series after all values
+  abbrev scaledRun : SR.Series
+  scaledRun = SR.runAll size top (record { head = SR.freshHead top; pos = xs; neg = ys }) vs
+
+  pub exponential-recorded : (bs : List Float) (extremes sums : Bool)
+      → PointOf (settingsOf (exponential size top) extremes sums) vs (exponentialPoint (scaledRun .head) extremes sums) bs (scaledRun .pos) (scaledRun .neg)
+  unfolding _and_
+  exponential-recorded bs extremes sums =
+      let h = SL.run-is size top xs ys vs least most known long long' values few in
+      let c = scaledRun .head .counts in
+      let a = Facts.agreed size top c (scaledRun .pos) (scaledRun .neg) (h .agree) in
+      record {
+        is = exponential-list (exponential size top) extremes sums bs (scaledRun .pos) (scaledRun .neg) vs (scaledRun .head) (λ j. record { counts = scaled (h .rows j); summary = h .summary j });
+        shape = λ j. le-leb (c .level) finest (omega (arith, a .level)) j and le-leb (c .pos .len) (length (scaledRun .pos)) (a .posThere) j and le-leb (c .neg .len) (length (scaledRun .neg)) (a .negThere) j;
+        values = values;
+      }
+
+-- ---- THE EXPLICIT KIND, from zeros in its row
+module _ (bounds : List Float) (passes : boundsPass bounds ≡ true) (xs : List ℕ) (long : bucketCount bounds ≤ length xs) (vs : List Float) (values : All FiniteF64 vs) (few : length vs < 2 ^ 64) where
+  abbrev bucketedRun : BR.Series
+  bucketedRun = BR.runAll bounds (record { head = freshHead; counts = over (replicate (bucketCount bounds) 0) xs }) vs
+
+  pub explicit-recorded : (ys : List ℕ) (extremes sums : Bool)
+      → PointOf (settingsOf (explicit bounds) extremes sums) vs (explicitPoint (bucketedRun .head) extremes sums) bounds (bucketedRun .counts) ys
+  explicit-recorded ys extremes sums =
+      let h = BL.run-is bounds xs vs passes long values few in
+      record {
+        is = explicit-list (explicit bounds) extremes sums bounds (bucketedRun .counts) ys vs (bucketedRun .head) (λ j. record { counts = bucketed bounds (h .rows j); summary = h .summary j });
+        shape = refl;
+        values = values;
+      }
+
+-- ---- ROOM for any list: max_size counts for each sign, or a count for each bucket
+abbrev pub Long : Kind → List ℕ → List ℕ → Type 0
+Long (exponential size top) us vs = (size ≤ length us) × (size ≤ length vs)
+Long (explicit bounds) us vs = bucketCount bounds ≤ length us
+
+pub long-enough : (k : Kind) (t : Float) (v : List Float) (us vs : List ℕ) → Configured k → All FiniteF64 v → Long k us vs → hasRoom (kindCounts k t v) us vs ≡ true
+long-enough (exponential size top) t v us vs k f l =
+    let p = countsOf size (finest - top) t v in
+    let a = countsOf-agrees size top t v (leb-true leastSize size (and-left (leb leastSize size) (leb size mostSize) k)) f in
+    and-intro (leb (length (p .pos .counts)) (length us)) (leb (length (p .neg .counts)) (length vs))
+    (le-leb (length (p .pos .counts)) (length us) (omega (arith, a .pos .short, l .0)))
+    (le-leb (length (p .neg .counts)) (length vs) (omega (arith, a .neg .short, l .1)))
+long-enough (explicit bounds) t v us vs k f l =
+    let p = bucketsOf bounds v in
+    and-intro (leb (length (p .counts)) (length us)) (leb 0 (length vs))
+    (le-leb (length (p .counts)) (length us) (omega (arith, bucketsOf-ok bounds v k .whole, l)))
+    (le-leb 0 (length vs) (omega arith))
+
+-- ---- TWO SUCH POINTS MERGED: the point of the lists joined, wherever that has room
+module _ (s : Settings) (k : Configured (s .kind)) (v w : List Float) (few : length v + length w < 2 ^ 64)
+    (a : Point) (bs : List Float) (xs ys : List ℕ) (p : PointOf s v a bs xs ys) (b : Point) (cs : List Float) (zs ws : List ℕ) (q : PointOf s w b cs zs ws) where
+  first : Stands s (handedAs a bs xs ys) v
+  first = subst (λ h. Stands s h v) (sym (p .is)) (handed-stands s v (p .values))
+
+  second : Stands s (handedAs b cs zs ws) w
+  second = subst (λ h. Stands s h w) (sym (q .is)) (handed-stands s w (q .values))
+
+  count-first : countIn (a .figures) ≡ length v
+  count-first = count-is (a .figures) bs xs ys ∙ ap countOf (first .counts) ∙ PF.count-is (s .kind) (s .threshold) v
+
+  count-second : countIn (b .figures) ≡ length w
+  count-second = count-is (b .figures) cs zs ws ∙ ap countOf (second .counts) ∙ PF.count-is (s .kind) (s .threshold) w
+
+  joined : mergeCounts (sizeOf (s .kind)) (handedAs a bs xs ys .counts) (handedAs b cs zs ws .counts) ≡ kindCounts (s .kind) (s .threshold) (v ++ w)
+  unfolding mergeHanded
+  joined = stands-merge s (handedAs a bs xs ys) (handedAs b cs zs ws) v w first second .counts
+
+  pub recorded-merged : (us vs : List ℕ) → hasRoom (kindCounts (s .kind) (s .threshold) (v ++ w)) us vs ≡ true
+      → AnswersFor s (merging (sizeOf (s .kind)) a bs xs ys b cs zs ws us vs) bs (v ++ w)
+  recorded-merged us vs r =
+      merging-stands s a bs xs ys b cs zs ws v w k (p .shape) (q .shape) first second (omega (arith, few, count-first, count-second)) us vs
+      (ap (λ c. hasRoom c us vs) joined ∙ r)

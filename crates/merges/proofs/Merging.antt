@@ -7,7 +7,7 @@ use native.Mathlib.Omega.{arith}
 use lib.ListN.{length, take}
 use lib.Seq.{length-take-le}
 use Rattle.laws.specs.Counting.{total}
-use Rattle.index.specs.Bins.{finest}
+use Rattle.index.specs.Bins.{finest, lowestBin, endBin}
 use Rattle.points.specs.Points as P
 use Rattle.points.specs.Points.{Point}
 use Rattle.rows.specs.Rows.{over}
@@ -183,8 +183,8 @@ module _ (size : ℕ) (a : Counts) (xs ys : List ℕ) (b : Counts) (zs ws : List
       let pb = level-pow (b .level) lb in (
         (omega (arith, ka .least), la, lb),
         (
-          (omega (arith, pa, range size (a .level) (a .pos) xs (pos-facts size finest a xs ys ka)), omega (arith, pb, range size (b .level) (b .pos) zs (pos-facts size finest b zs ws kb))),
-          ((omega (arith, pa, range size (a .level) (a .neg) ys (neg-facts size finest a xs ys ka)), omega (arith, pb, range size (b .level) (b .neg) ws (neg-facts size finest b zs ws kb))), low-le),
+          (omega (arith, pa, range size (lowestBin (a .level)) (endBin (a .level)) (a .pos) xs (pos-facts size finest a xs ys ka)), omega (arith, pb, range size (lowestBin (b .level)) (endBin (b .level)) (b .pos) zs (pos-facts size finest b zs ws kb))),
+          ((omega (arith, pa, range size (lowestBin (a .level)) (endBin (a .level)) (a .neg) ys (neg-facts size finest a xs ys ka)), omega (arith, pb, range size (lowestBin (b .level)) (endBin (b .level)) (b .neg) ws (neg-facts size finest b zs ws kb))), low-le),
         ),
       )
 

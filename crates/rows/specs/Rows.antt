@@ -2,8 +2,9 @@
 use Prim.Native.Nat.{ℕ, zero, suc, _+_, _-_, _/_, _^_, min}
 use mathlib.Core.List.{List, [], _∷_, _++_}
 use mathlib.Core.Bool.{Bool, true, false}
-use lib.Dec.{eqb}
+use lib.Dec.{leb, eqb}
 use lib.ListN.{length, take, drop, replicate}
+use Rattle.laws.specs.Pick.{_and_}
 
 -- `new` laid over the front of `old`
 unfoldable pub over : List ℕ → List ℕ → List ℕ
@@ -40,6 +41,10 @@ recordedFrom s (x ∷ xs) i = min s i
 unfoldable pub recorded : ℕ → List ℕ → ℕ → List ℕ
 recorded s [] i = 1 ∷ []
 recorded s (x ∷ xs) i = addAt (i - s) 1 (replicate (s - i) 0 ++ x ∷ xs)
+
+-- whether the row of n counts from s on has the index i
+unfoldable pub holds : ℕ → ℕ → ℕ → Bool
+holds s n i = leb s i and leb (suc i) (s + n)
 
 -- zeros from a up to e
 unfoldable pub zeroed : ℕ → ℕ → List ℕ → List ℕ

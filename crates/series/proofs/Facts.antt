@@ -89,10 +89,10 @@ module _ (size top : ℕ) (c : Counts) (xs ys : List ℕ) where
     own : finest - (finest - c .level) ≡ c .level
     own = omega (arith, k .level, k .greatest)
 
-    pub pos-facts : RowFacts size (c .level) (c .pos) xs
+    pub pos-facts : RowFacts size (lowestBin (c .level)) (endBin (c .level)) (c .pos) xs
     pos-facts = record { there = k .posThere; ok = subst (λ (n : ℕ). RowOk size (lowestBin (c .level)) (endBin n) (rowIn (c .pos) xs)) own (k .point .pos) }
 
-    pub neg-facts : RowFacts size (c .level) (c .neg) ys
+    pub neg-facts : RowFacts size (lowestBin (c .level)) (endBin (c .level)) (c .neg) ys
     neg-facts = record { there = k .negThere; ok = subst (λ (n : ℕ). RowOk size (lowestBin (c .level)) (endBin n) (rowIn (c .neg) ys)) own (k .point .neg) }
 
     pub level-in : c .level ≤ finest
@@ -103,11 +103,11 @@ module _ (size top : ℕ) (c : Counts) (xs ys : List ℕ) where
   pub refuse : (Agreed size top c xs ys → ⊥) → false ≡ agrees size top c xs ys
   refuse n = ⊎-elim (λ (t : agrees size top c xs ys ≡ true). absurd (n (agreed t))) (λ (t : agrees size top c xs ys ≡ false). sym t) (flag (agrees size top c xs ys))
 
-  pub by-sum : leastSize ≤ size → size ≤ mostSize → top ≤ finest → c .level ≤ top → rowAgrees size (c .level) (c .pos) xs ≡ true → rowAgrees size (c .level) (c .neg) ys ≡ true
+  pub by-sum : leastSize ≤ size → size ≤ mostSize → top ≤ finest → c .level ≤ top → rowAgrees size (lowestBin (c .level)) (endBin (c .level)) (c .pos) xs ≡ true → rowAgrees size (lowestBin (c .level)) (endBin (c .level)) (c .neg) ys ≡ true
       → addsUp c xs ys ≡ agrees size top c xs ys
   by-sum a b t l p n =
-      let f = row-facts size (c .level) (c .pos) xs p in
-      let g = row-facts size (c .level) (c .neg) ys n in
+      let f = row-facts size (lowestBin (c .level)) (endBin (c .level)) (c .pos) xs p in
+      let g = row-facts size (lowestBin (c .level)) (endBin (c .level)) (c .neg) ys n in
       let w : c .level ≡ finest - (finest - c .level) = omega arith in
       ⊎-elim
       (λ (e : addsUp c xs ys ≡ true).

@@ -5,6 +5,8 @@ pub mod Rowed
 pub mod Facts
 pub mod Classes
 pub mod Write
+pub mod Warm
+pub mod Wraps
 pub mod Call
 pub mod Stays
 pub mod Lists

@@ -1,6 +1,5 @@
 -- What the functions on one row need. Assumes nothing.
 use Prim.Native.Nat.{ℕ, suc, _+_, _-_, _*_, _/_, _%_, _^_, _≤_, _<_, min, max, pred}
-use Rattle.index.specs.Bins.{lowestBin, endBin}
 use mathlib.Core.Path.{_≡_, refl, ap, sym, subst, _∙_}
 use mathlib.Core.Logic.{⊎-elim, _⊎_, inl}
 use mathlib.Core.Bool.{Bool, true, false, not}
@@ -71,43 +70,43 @@ laid-same r xs k e h =
 -- ---- agreement of a row
 
 -- what it says
-pub record RowFacts (size level : ℕ) (r : Row) (xs : List ℕ) : Type 0 where
+pub record RowFacts (size lo hi : ℕ) (r : Row) (xs : List ℕ) : Type 0 where
   pub there : r .len ≤ length xs
-  pub ok : RowOk size (lowestBin level) (endBin level) (rowIn r xs)
+  pub ok : RowOk size lo hi (rowIn r xs)
 
-module _ (size level : ℕ) (r : Row) (xs : List ℕ) where
+module _ (size lo hi : ℕ) (r : Row) (xs : List ℕ) where
   abbrev there? : Bool
   there? = leb (r .len) (length xs)
 
   abbrev fine? : Bool
-  fine? = A.rowAgrees size (lowestBin level) (endBin level) (rowIn r xs)
+  fine? = A.rowAgrees size lo hi (rowIn r xs)
 
-  pub row-facts : rowAgrees size level r xs ≡ true → RowFacts size level r xs
+  pub row-facts : rowAgrees size lo hi r xs ≡ true → RowFacts size lo hi r xs
   row-facts h =
       record {
         there = leb-true (r .len) (length xs) (and-left there? fine? h);
-        ok = row-says size (lowestBin level) (endBin level) (rowIn r xs) (and-right there? fine? h);
+        ok = row-says size lo hi (rowIn r xs) (and-right there? fine? h);
       }
 
-  pub facts-row : RowFacts size level r xs → rowAgrees size level r xs ≡ true
+  pub facts-row : RowFacts size lo hi r xs → rowAgrees size lo hi r xs ≡ true
   facts-row f =
-      and-intro there? fine? (le-leb (r .len) (length xs) (f .there)) (row-agrees size (lowestBin level) (endBin level) (rowIn r xs) (f .ok))
+      and-intro there? fine? (le-leb (r .len) (length xs) (f .there)) (row-agrees size lo hi (rowIn r xs) (f .ok))
 
-  pub refuse : (RowFacts size level r xs → ⊥) → false ≡ rowAgrees size level r xs
-  refuse n = ⊎-elim (λ (t : rowAgrees size level r xs ≡ true). absurd (n (row-facts t))) (λ (t : rowAgrees size level r xs ≡ false). sym t) (flag (rowAgrees size level r xs))
+  pub refuse : (RowFacts size lo hi r xs → ⊥) → false ≡ rowAgrees size lo hi r xs
+  refuse n = ⊎-elim (λ (t : rowAgrees size lo hi r xs ≡ true). absurd (n (row-facts t))) (λ (t : rowAgrees size lo hi r xs ≡ false). sym t) (flag (rowAgrees size lo hi r xs))
 
   -- in numbers
-  module _ (f : RowFacts size level r xs) where
+  module _ (f : RowFacts size lo hi r xs) where
     long : length (take (r .len) xs) ≡ r .len
     long = length-take-le (r .len) xs (f .there)
 
     pub short : r .len ≤ size
     short = omega (arith, long, f .ok .short)
 
-    pub low : 0 < r .len → lowestBin level ≤ r .start
+    pub low : 0 < r .len → lo ≤ r .start
     low p = f .ok .above (omega (arith, long))
 
-    pub range : r .start + r .len ≤ endBin level
+    pub range : r .start + r .len ≤ hi
     range = omega (arith, long, f .ok .below)
 
     pub first : 0 < r .len → 0 < getD xs 0 0
@@ -120,13 +119,13 @@ module _ (size level : ℕ) (r : Row) (xs : List ℕ) where
         (subst (λ (m : ℕ). 0 < getD (take (r .len) xs) m 0) q (f .ok .canonical .last (omega (arith, long))))
 
   -- an empty row
-  pub empty-row : r .len ≡ 0 → eqb (r .start) 0 ≡ rowAgrees size level r xs
+  pub empty-row : r .len ≡ 0 → eqb (r .start) 0 ≡ rowAgrees size lo hi r xs
   unfolding A.rowAgrees pick _and_
   empty-row e = rw (e, le-leb 0 (length xs) (omega arith)) refl
 
   -- the last test
-  pub by-last : 0 < r .len → r .len ≤ size → r .len ≤ length xs → lowestBin level ≤ r .start → r .start + r .len ≤ endBin level → 0 < getD xs 0 0
-      → not (eqb (getD xs (r .len - 1) 0) 0) ≡ rowAgrees size level r xs
+  pub by-last : 0 < r .len → r .len ≤ size → r .len ≤ length xs → lo ≤ r .start → r .start + r .len ≤ hi → 0 < getD xs 0 0
+      → not (eqb (getD xs (r .len - 1) 0) 0) ≡ rowAgrees size lo hi r xs
   by-last p a l d e z =
       let n : length (take (r .len) xs) ≡ r .len = length-take-le (r .len) xs l in
       ⊎-elim

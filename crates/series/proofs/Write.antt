@@ -40,7 +40,7 @@ top-of level bin h t =
     let e : endBin level * 2 ^ (finest - level) ≡ endBin finest = mul-assoc 3 (2 ^ level) (2 ^ (finest - level)) ∙ ap (λ n. 3 * n) (sym (pow-add 2 level (finest - level)) ∙ ap (λ n. 2 ^ n) q) in
     subst (λ (n : ℕ). bin * 2 ^ (finest - level) < n) e (mul-lt-mul-of-pos-right t (pow-pos (finest - level)))
 
-module _ (size level bin : ℕ) (a : Row) (xs : List ℕ) (s : 3 ≤ size) (h : level ≤ finest) (f : RowFacts size level a xs) (t : bin < endBin level) where
+module _ (size level bin : ℕ) (a : Row) (xs : List ℕ) (s : 3 ≤ size) (h : level ≤ finest) (f : RowFacts size (lowestBin level) (endBin level) a xs) (t : bin < endBin level) where
   -- the row as one of the steps below the finest level
   own : RowOk size (lowestBin level) (endBin (finest - (finest - level))) (rowIn a xs)
   own = let e : level ≡ finest - (finest - level) = omega arith in subst (λ (n : ℕ). RowOk size (lowestBin level) (endBin n) (rowIn a xs)) e (f .ok)
@@ -54,13 +54,13 @@ module _ (size level bin : ℕ) (a : Row) (xs : List ℕ) (s : 3 ≤ size) (h : 
       let g : lowerBy size a xs bin ≤ finest - (finest - level) = rw same at (few size (finest - level) (bin * 2 ^ (finest - level)) (rowIn a xs) (own .canonical) s (omega arith) (top-of level bin h t) own) in
       omega arith
 
-  pub room : (b : Row) (ys : List ℕ) → RowFacts size level b ys → size ≤ length xs
+  pub room : (b : Row) (ys : List ℕ) → RowFacts size (lowestBin level) (endBin level) b ys → size ≤ length xs
       → total (take (a .len) xs) + total (take (b .len) ys) < 18446744073709551615 → Room size a xs b ys bin
   room b ys g m n =
       let o = rw same at (room-one size (finest - level) (bin * 2 ^ (finest - level)) (rowIn a xs) s (omega arith) (top-of level bin h t) own) in
       record {
         some = omega arith;
-        bins = omega (arith, range size level a xs f, level-pow level h);
+        bins = omega (arith, range size (lowestBin level) (endBin level) a xs f, level-pow level h);
         short = f .there;
         other = g .there;
         few = omega (arith, few-levels);

@@ -70,8 +70,8 @@ abbrev pub lowestOfAll : ℕ
 lowestOfAll = lowestBin finest
 
 -- a row's counts are there, and the row agrees
-abbrev pub rowAgrees : ℕ → ℕ → Row → List ℕ → Bool
-rowAgrees size level r xs = leb (r .len) (length xs) and A.rowAgrees size (lowestBin level) (endBin level) (rowIn r xs)
+abbrev pub rowAgrees : ℕ → ℕ → ℕ → Row → List ℕ → Bool
+rowAgrees size low end r xs = leb (r .len) (length xs) and A.rowAgrees size low end (rowIn r xs)
 
 -- the count is that of zeros and rows
 abbrev pub addsUp : Counts → List ℕ → List ℕ → Bool
@@ -130,6 +130,10 @@ pub record Room (size : ℕ) (a : Row) (xs : List ℕ) (b : Row) (ys : List ℕ)
 -- the greatest count
 abbrev pub mostCount : ℕ
 mostCount = 18446744073709551615
+
+-- the head with one more that is not zero, k levels lower, over these rows
+abbrev pub oneMore : Counts → ℕ → Row → Row → Counts
+oneMore c k p n = record { count = c .count + 1; zeros = c .zeros; level = c .level - k; pos = p; neg = n }
 
 -- a series that agrees and can take one more
 abbrev pub Within : ℕ → Class → Type 0

@@ -1,5 +1,7 @@
 // One series of the exponential kind, `ExpoHistogramDataPoint` of exponential_histogram.rs: a head by value, and its rows of
 // counts at the front of two lent slices.
+mod sums;
+
 ghost use mathlib.Core.Path.{_≡_};
 ghost use Prim.Native.Nat.{_+_, _-_, _*_, _/_, _^_, _<_, _≤_, min, max};
 ghost use lib.ListN.{length, take};
@@ -9,7 +11,7 @@ ghost use Rattle.laws.specs.Counting.{total};
 ghost use Rattle.series.specs.Steps.{lowered, with1, lowBin, highBin, lowering, placed};
 ghost use Rattle.laws.specs.Pick.{pick};
 ghost use Rattle.series.specs.Runs.{freshHead};
-ghost use Rattle.series.specs.Series.{rowIn, Laid, rowAgrees, addsUp, agrees, classAt, valueOf, lowerBy, rowTo, rowOther, Room, Ready, Written, read, refusalOf, outcome, recording};
+ghost use Rattle.series.specs.Series.{rowIn, Laid, rowAgrees, addsUp, agrees, classAt, valueOf, lowerBy, rowTo, rowOther, Room, mostCount, oneMore, Ready, Written, read, refusalOf, outcome, recording};
 use rows::Row;
 
 pub struct Counts {
@@ -69,9 +71,9 @@ pub fn row_of<'a>(c: Counts, negative: bool, pos: &'a [u64], neg: &'a [u64]) -> 
 
 // ---- agreement
 
-fn row_agrees(counts: &[u64], row: Row, size: usize, level: u32) -> bool
-    requires { ⌜ level ≤ finest ⌝ }
-    ensures { λ r. ⌜ r ≡ rowAgrees size level row (now (counts .entry)) ⌝ }
+// A row at a level whose bins run from low to the one before end.
+fn row_agrees(counts: &[u64], row: Row, size: usize, low: u32, end: u64) -> bool
+    ensures { λ r. ⌜ r ≡ rowAgrees size low end row (now (counts .entry)) ⌝ }
 {
     let n = row.len;
     let start = row.start;
@@ -84,10 +86,10 @@ fn row_agrees(counts: &[u64], row: Row, size: usize, level: u32) -> bool
     if counts.len() < n {
         return false;
     }
-    if start < index::lowest_bin(level) {
+    if start < low {
         return false;
     }
-    if index::end_bin(level) < start as u64 + n as u64 {
+    if end < start as u64 + n as u64 {
         return false;
     }
     if counts[0] == 0 {
@@ -120,8 +122,8 @@ pub fn sum_halves(counts: &[u64], n: usize, from: Halves) -> Halves
     Halves { low, high }
 }
 
-// Whether count is zeros and the counts of both rows.
-fn adds_up(c: Counts, pos: &[u64], neg: &[u64]) -> bool
+// Whether count is zeros and the counts of both rows, whatever they are.
+fn halves_add_up(c: Counts, pos: &[u64], neg: &[u64]) -> bool
     requires { ⌜ (c .pos .len ≤ length (now pos)) × (c .pos .len ≤ 160) ⌝ }
     requires { ⌜ (c .neg .len ≤ length (now neg)) × (c .neg .len ≤ 160) ⌝ }
     ensures { λ r. ⌜ r ≡ addsUp c (now (pos .entry)) (now (neg .entry)) ⌝ }
@@ -142,6 +144,28 @@ fn adds_up(c: Counts, pos: &[u64], neg: &[u64]) -> bool
     count / 4294967296 == s.high + s.low / 4294967296
 }
 
+// The same. A number that no count is above and that is below 2^55 leaves 320 counts and zeros below 2^64.
+fn adds_up(c: Counts, pos: &[u64], neg: &[u64]) -> bool
+    requires { ⌜ (c .pos .len ≤ length (now pos)) × (c .pos .len ≤ 160) ⌝ }
+    requires { ⌜ (c .neg .len ≤ length (now neg)) × (c .neg .len ≤ 160) ⌝ }
+    ensures { λ r. ⌜ r ≡ addsUp c (now (pos .entry)) (now (neg .entry)) ⌝ }
+{
+    let p = c.pos;
+    let n = c.neg;
+    let zeros = c.zeros;
+    let count = c.count;
+    let z = sums::Wrapped {
+        sum: zeros,
+        most: zeros,
+    };
+    let a = sums::add_row(pos, p.len, z);
+    let s = sums::add_row(neg, n.len, a);
+    if s.most < 36028797018963968 {
+        return count == s.sum;
+    }
+    halves_add_up(c, pos, neg)
+}
+
 pub fn counts_agree(size: usize, top: u32, c: Counts, pos: &[u64], neg: &[u64]) -> bool
     ensures { λ r. ⌜ r ≡ agrees size top c (now (pos .entry)) (now (neg .entry)) ⌝ }
 {
@@ -158,12 +182,14 @@ pub fn counts_agree(size: usize, top: u32, c: Counts, pos: &[u64], neg: &[u64]) 
     if top < level {
         return false;
     }
+    let low = index::lowest_bin(level);
+    let end = index::end_bin(level);
     let p = c.pos;
     let n = c.neg;
-    if !row_agrees(pos, p, size, level) {
+    if !row_agrees(pos, p, size, low, end) {
         return false;
     }
-    if !row_agrees(neg, n, size, level) {
+    if !row_agrees(neg, n, size, low, end) {
         return false;
     }
     adds_up(c, pos, neg)
@@ -274,47 +300,52 @@ fn class_of(v: f64, level: u32) -> Class
     }
 }
 
-// One value more.
+// One value more that is not zero, the rows k levels lower.
+fn one_more(c: Counts, k: u32, pos: Row, neg: Row) -> Counts
+    requires { ⌜ (c .count < mostCount) × (k ≤ c .level) ⌝ }
+    ensures { λ r. ⌜ r ≡ oneMore c k pos neg ⌝ }
+{
+    Counts {
+        count: c.count + 1,
+        zeros: c.zeros,
+        level: c.level - k,
+        pos,
+        neg,
+    }
+}
+
+// One value more: a row that has its bin stays where it is, and so does the other.
 fn add(size: usize, top: u32, c: Counts, pos: &mut [u64], neg: &mut [u64], class: Class) -> Counts
     requires { ⌜ Ready size top c (now pos) (now neg) class ⌝ }
     ensures { λ r. ⌜ Written (placed size (read c (now (pos .entry)) (now (neg .entry))) (valueOf class)) (now (pos .entry)) (now (neg .entry)) r (now (pos .exit)) (now (neg .exit)) ⌝ }
 {
-    let count = c.count;
-    let zeros = c.zeros;
-    let level = c.level;
     let p = c.pos;
     let n = c.neg;
     match class {
         Class::Naught => Counts {
-            count: count + 1,
-            zeros: zeros + 1,
-            level,
+            count: c.count + 1,
+            zeros: c.zeros + 1,
+            level: c.level,
             pos: p,
             neg: n,
         },
         Class::Plus(bin) => {
+            if rows::raise(pos, p, bin) {
+                return one_more(c, 0, p, n);
+            }
             let w = put(size, pos, p, neg, n, bin);
             let to = w.to;
             let other = w.other;
-            Counts {
-                count: count + 1,
-                zeros,
-                level: level - w.k,
-                pos: to,
-                neg: other,
-            }
+            one_more(c, w.k, to, other)
         }
         Class::Minus(bin) => {
+            if rows::raise(neg, n, bin) {
+                return one_more(c, 0, p, n);
+            }
             let w = put(size, neg, n, pos, p, bin);
             let to = w.to;
             let other = w.other;
-            Counts {
-                count: count + 1,
-                zeros,
-                level: level - w.k,
-                pos: other,
-                neg: to,
-            }
+            one_more(c, w.k, other, to)
         }
     }
 }

@@ -1,0 +1,2 @@
+-- The laws of merging by code.
+pub mod Tied

@@ -2,3 +2,4 @@ pub mod Seatings
 pub mod Commits
 pub mod Marked
 pub mod Sits
+pub mod Faithful

@@ -1,3 +1,4 @@
+-- The laws of `seats`.
 pub mod Seatings
 pub mod Commits
 pub mod Marked

@@ -17,17 +17,19 @@ use Rattle.tally.specs.Kind.{Kind}
 use Rattle.tally.specs.Map.{fits, Entry, Map, find, put, keys, new, Place, held, place, write}
 use Rattle.tally.proofs.Rising.{rising-insert}
 use Rattle.tally.proofs.Entries.{keys-put, put-put}
-use Rattle.directory.specs.Rows.{span, setOf}
+use Rattle.sets.specs.Rows.{span, setOf}
+use Rattle.sets.specs.Inserted.{inserted}
 use Rattle.directory.specs.View.{Stores, setAt, agreesb, sought, entryAt, view}
-use Rattle.directory.specs.Calls.{Kept, overRow, located, inserted, admitted}
+use Rattle.directory.specs.Calls.{Kept, overRow, located, admitted}
 use Rattle.directory.specs.declared.Directory.{Directory}
 use Rattle.directory.specs.declared.Found.the-variants.{Held, Room}
 use Rattle.directory.specs.declared.Target.{Target}
 use Rattle.directory.specs.declared.Target.the-variants.{Disagrees, Old, New, Over}
 use Rattle.directory.proofs.Rises.{In, keys-map}
 use Rattle.directory.proofs.Laws.{slotsOf, few, slot-used, ascends}
-use Rattle.directory.proofs.Admits.{span-inserted, room-rank, new-entry, admit-put}
-use Rattle.directory.proofs.Binds.{Facts, facts, over-set, sought-held, room-new, room-over, place-held, place-over-held, place-new, place-over}
+use Rattle.sets.proofs.Spans.{span-inserted}
+use Rattle.directory.proofs.Admits.{room-rank, new-entry, admit-put}
+use Rattle.directory.proofs.Located.{Facts, facts, over-set, sought-held, room-new, room-over, place-held, place-over-held, place-new, place-over}
 use Rattle.directory.proofs.Laid.{in-around}
 use Rattle.seats.specs.Seats.{heldSeat, newSeat, seatAt, seated, markedIn, committed}
 use Rattle.seats.specs.Recording.{heldAt, Others, served}

@@ -1,7 +1,7 @@
 -- What is put into one slot's part is there, and nowhere else. Assumes nothing.
 use Prim.Native.Nat.{ℕ, _+_, _-_, _*_, _≤_, _<_}
 use mathlib.Core.Path.{_≡_, sym, ap, subst, _∙_}
-use mathlib.Core.Logic.{_⊎_, inl, inr, ⊎-elim}
+use mathlib.Core.Logic.{⊎-elim}
 use mathlib.Core.List.{List, _++_}
 use native.Mathlib.Nat.{suc-mul, mul-le-mul-right, le-trans}
 use native.Mathlib.Omega.{arith}
@@ -9,7 +9,7 @@ use lib.ListN.{length, take, drop, length-drop, take-append-drop}
 use lib.Seq.{length-take-le, take-append-le, drop-append-le, drop-drop, take-at, drop-at}
 use borrow.Rule.Slice.PartMut as Mid
 use Rattle.laws.proofs.Differences.{le-or-lt}
-use Rattle.parts.specs.Parts.{part, splice, partAt, putAt}
+use Rattle.parts.specs.Parts.{part, partAt, putAt}
 
 -- a slot's part ends where the next one's begins
 pub slot-end : (x y n : ℕ) → x < y → x * n + n ≤ y * n

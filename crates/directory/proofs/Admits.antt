@@ -114,7 +114,7 @@ module _ (K : Kind) (f : ℕ → K .Series) (z : K .Settings) (limit : ℕ) (d :
     abbrev made : Entry K
     made = rebound K (new K (setOf row) (d .last + 1)) b
 
-    new-entry : (y : ℕ) → suc y ≡ d .used + 1 → entryAt K f t (suc y) ≡ made
+    pub new-entry : (y : ℕ) → suc y ≡ d .used + 1 → entryAt K f t (suc y) ≡ made
     new-entry y e =
         rw (← e, getD-set-same (s .entries) (suc y) ((d .last + 1) ∷ b ∷ 0 ∷ []) [] (rw (← e) at le), getD-set-same (s .sets) (suc y) row [] (rw (← e) at ls))
 

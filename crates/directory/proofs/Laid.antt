@@ -161,7 +161,7 @@ in-span l i zero k h = absurd (omega arith)
 in-span l i (suc n) zero h = let e : i + 0 ≡ i = omega arith in inl (ap (λ (j : ℕ). getD l j 0) e)
 in-span l i (suc n) (suc k) h = let e : suc i + k ≡ i + suc k = omega arith in inr (subst (λ (j : ℕ). In (getD l j 0) (span l (suc i) n)) e (in-span l (suc i) n k (omega arith)))
 
-in-around : (l : List ℕ) (r x y : ℕ) → In y (take r l ++ (x ∷ drop r l)) → (y ≡ x) ⊎ In y l
+pub in-around : (l : List ℕ) (r x y : ℕ) → In y (take r l ++ (x ∷ drop r l)) → (y ≡ x) ⊎ In y l
 in-around [] zero x y m = m
 in-around [] (suc r) x y m = m
 in-around (a ∷ l) zero x y m = m

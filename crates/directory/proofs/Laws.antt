@@ -77,7 +77,7 @@ span-in P l i (suc k) h x m =
     ⊎-elim (λ e. subst P (sym e) (h i (omega arith) (omega arith))) (λ n. span-in P l (suc i) k (λ j a b. h j (omega arith) (omega arith)) x n) m
 
 -- a slot of the list is not below what all are above
-above-in : (g : ℕ → Set) (s : Set) (l : List ℕ) (x : ℕ) → Above s (map g l) → In x l → cmp s (g x) ≡ Ordering·lt
+pub above-in : (g : ℕ → Set) (s : Set) (l : List ℕ) (x : ℕ) → Above s (map g l) → In x l → cmp s (g x) ≡ Ordering·lt
 above-in g s [] x a m = absurd m
 above-in g s (y ∷ l) x a m = ⊎-elim (λ e. rw e (a .0)) (λ n. above-in g s l x (a .1) n) m
 

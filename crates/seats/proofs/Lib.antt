@@ -1,0 +1,4 @@
+pub mod Seatings
+pub mod Commits
+pub mod Marked
+pub mod Sits

@@ -15,7 +15,7 @@ use Rattle.laws.specs.Pick.{pick}
 use Rattle.laws.proofs.Bools.{flag, not-both, pick-true, pick-false}
 use Rattle.rows.specs.Rows.{over}
 use Rattle.rows.proofs.Laws.{length-over}
-use Rattle.points.specs.Explicit.{Buckets, bucketCount, boundsPass, bucketsOf, recordBucket, bucketsAgree}
+use Rattle.points.specs.Explicit.{bucketCount, boundsPass, bucketsOf, recordBucket, bucketsAgree}
 use Rattle.points.proofs.Explicit.{buckets-agree, fresh-buckets-ok}
 use Rattle.buckets.specs.declared.Head.{Head}
 use Rattle.buckets.specs.declared.Answer.{Answer}
@@ -23,7 +23,7 @@ use Rattle.buckets.specs.declared.Answer.the-variants.{Recorded, Refused}
 use Rattle.buckets.specs.Series.{Outcome, outcome, bucketsIn, freshHead, freshening, refusalOf, accepted, recording}
 use Rattle.buckets.proofs.Cases.{none}
 use Rattle.buckets.proofs.Listed.{accepted-is, fresh-is, fin-min, fin-max}
-use Rattle.bucket_slots.specs.Slots.{Stores, Recording, part, splice, rowAt, headAt, begun, entering, written, recordedAt}
+use Rattle.bucket_slots.specs.Slots.{Stores, Recording, part, splice, headAt, begun, entering, written, recordedAt}
 
 -- ---- answers
 
@@ -41,7 +41,7 @@ not-refused a n r e = not-both (recorded? a) r (ap recorded? e)
 -- ---- a first value
 
 module _ (bs : List Float) (xs : List ℕ) (long : bucketCount bs ≤ length xs) where
-  abbrev zeros : List ℕ
+  abbrev pub zeros : List ℕ
   zeros = over (replicate (bucketCount bs) 0) xs
 
   fresh-made : freshening bs xs ≡ outcome (Recorded freshHead) zeros
@@ -119,7 +119,7 @@ module _ (bs : List Float) (x : ℕ) (u : Bool) (s : Stores) (v : Float) where
   abbrev back : ℕ → List ℕ → List ℕ
   back k ys = splice (s .counts) (x * k) (x * k + k) ys
 
-  call : (a : Answer) (ys : List ℕ) → outcome a ys ≡ entering bs u (headAt s x) (row (bucketCount bs)) v → written bs x s a ys ≡ recordedAt bs x u s v
+  pub call : (a : Answer) (ys : List ℕ) → outcome a ys ≡ entering bs u (headAt s x) (row (bucketCount bs)) v → written bs x s a ys ≡ recordedAt bs x u s v
   unfolding recordedAt
   call a ys e = ap (λ (o : Outcome). written bs x s (o .answer) (o .counts)) e
 

@@ -1,12 +1,11 @@
 -- Parts of a list, one of them put in anew: what it then has, and what the parts beside it have. Assumes nothing.
 use Prim.Native.Nat.{ℕ, zero, suc, _+_, _-_, _*_, _≤_, _<_}
-use mathlib.Core.Path.{_≡_, refl, ap, sym, _∙_}
-use mathlib.Core.Logic.{⊎-elim, _⊎_}
+use mathlib.Core.Path.{_≡_, ap, sym, _∙_}
 use mathlib.Core.List.{List, [], _∷_, _++_}
-use native.Mathlib.Nat.{suc-mul, mul-le-mul-right, le-trans}
+use native.Mathlib.Nat.{suc-mul, mul-le-mul-right}
 use native.Mathlib.Omega.{arith}
 use lib.ListN.{length, take, drop}
-use lib.Seq.{length-take-le, take-take, drop-drop, take-at, drop-at, drop-nil, take-nil}
+use lib.Seq.{length-take-le, take-take, drop-drop, take-at, drop-at, take-nil}
 use borrow.Rule.Slice.PartMut.{take-put, drop-put}
 use Rattle.bucket_slots.specs.Slots.{part, splice}
 

@@ -1,3 +1,4 @@
+-- `bucket_slots::enter` meets its contract. Assumes nothing.
 use mathlib.Core.Path.{sym, _∙_}
 use denote.Ref.{now}
 use borrow.Author.Tests.{not-true, not-false}
@@ -5,21 +6,13 @@ use borrow.Author.Needs.{needs}
 use Rattle.bucket_slots.proofs.Enters.{enters-held, enters-bad, enters-first}
 use Rattle.bucket_slots.proofs.enter.Statement.{statement}
 use Rattle.bucket_slots.proofs.enter.Tie as tie
-use Rattle.bucket_slots.proofs.enter.Reads as reads
-use Rattle.bucket_slots.proofs.enter.Lts as lts
-use Rattle.bucket_slots.proofs.first.Reads as first-reads
-use Rattle.buckets.proofs.bounds_pass.Reads as bounds-pass-reads
-use Rattle.buckets.proofs.record.Reads as record-reads
 
--- src/lib.rt:31:9
 record-requires : tie.Need-record-requires
 record-requires c κs = search needs
 
--- src/lib.rt:31:9
 same-length : tie.Need-same-length
 same-length c = search needs
 
--- src/lib.rt:31:9
 returns : tie.Need-returns
 returns c =
     let r = c .before .before in
@@ -27,11 +20,9 @@ returns c =
     let a = t .before .before .before .args in
     r .«record» .ensures ∙ sym (enters-held (now (a .bounds)) (a .updated) (a .head) (now (a .counts)) (a .v) (t .if1 .taken))
 
--- src/lib.rt:33:9
 bounds-pass-requires : tie.Need-bounds-pass-requires
 bounds-pass-requires c κs = search needs
 
--- src/lib.rt:34:9
 returns-2 : tie.Need-returns-2
 returns-2 c =
     let b = c .before in
@@ -39,15 +30,12 @@ returns-2 c =
     let a = e .before .before .before .args in
     sym (enters-bad (now (a .bounds)) (a .updated) (a .head) (now (a .counts)) (a .v) (e .if1 .left) (sym (b .bounds-pass .ensures) ∙ not-true _ (c .if2 .taken)))
 
--- src/lib.rt:36:5
 first-requires : tie.Need-first-requires
 first-requires c κs = search needs
 
--- src/lib.rt:26:1
 same-length-2 : tie.Need-same-length-2
 same-length-2 c = search needs
 
--- src/lib.rt:26:1
 returns-3 : tie.Need-returns-3
 returns-3 c =
     let r = c .before .before in

@@ -1,35 +1,26 @@
+-- `bucket_slots::first` meets its contract. Assumes nothing.
 use mathlib.Core.Path.{_∙_}
 use denote.Ref.{now}
 use borrow.Author.Needs.{needs}
 use Rattle.bucket_slots.proofs.Enters.{first-never, first-law}
 use Rattle.bucket_slots.proofs.first.Statement.{statement}
 use Rattle.bucket_slots.proofs.first.Tie as tie
-use Rattle.bucket_slots.proofs.first.Reads as reads
-use Rattle.bucket_slots.proofs.first.Lts as lts
-use Rattle.buckets.proofs.fresh.Reads as fresh-reads
-use Rattle.buckets.proofs.record.Reads as record-reads
 
--- src/lib.rt:18:9
 fresh-requires : tie.Need-fresh-requires
 fresh-requires c κs = search needs
 
--- src/lib.rt:20:25
 enum-known-empty : tie.Need-enum-known-empty
 enum-known-empty c = search needs
 
--- src/lib.rt:21:26
 enum-known-empty-2 : tie.Need-enum-known-empty-2
 enum-known-empty-2 c = search needs
 
--- src/lib.rt:21:35
 record-requires : tie.Need-record-requires
 record-requires c κs = search needs
 
--- src/lib.rt:14:1
 same-length : tie.Need-same-length
 same-length c = search needs
 
--- src/lib.rt:14:1
 returns : tie.Need-returns
 returns c =
     let m = c .before .before .before .before in
@@ -37,11 +28,9 @@ returns c =
     let a = f .before .before .before .before .args in
     absurd (first-never (now (a .bounds)) (now (a .counts)) (f .before .before .before .before .pre) (f .fresh .result) (f .fresh .last .1 .0) (f .fresh .ensures) _ (c .before .empty .given .1))
 
--- src/lib.rt:14:1
 same-length-2 : tie.Need-same-length-2
 same-length-2 c = search needs
 
--- src/lib.rt:14:1
 returns-2 : tie.Need-returns-2
 returns-2 c =
     let r = c .before .before in

@@ -1,3 +1,4 @@
+-- `bucket_slots::record` meets its contract. Assumes nothing.
 use Prim.Native.Nat.{ℕ, _+_, _-_, _*_, _≤_}
 use mathlib.Core.Path.{_≡_, sym, subst}
 use native.Mathlib.Omega.{arith}
@@ -10,10 +11,6 @@ use Rattle.bucket_slots.specs.Slots.{Stores, part}
 use Rattle.bucket_slots.proofs.Enters.{call-refused, call-recorded}
 use Rattle.bucket_slots.proofs.record.Statement.{statement}
 use Rattle.bucket_slots.proofs.record.Tie as tie
-use Rattle.bucket_slots.proofs.record.Reads as reads
-use Rattle.bucket_slots.proofs.record.Lts as lts
-use Rattle.bucket_slots.proofs.enter.Reads as enter-reads
-use Rattle.buckets.proofs.bucket_count.Reads as bucket-count-reads
 
 abbrev start : tie.After-bucket-count → tie.Start
 start c = c .before .before .before .before
@@ -35,111 +32,84 @@ long c =
     let i : n ≡ bucketCount (now (a .bounds)) = c .bucket-count .ensures in
     omega (arith, i, mid-len (a .x * n) (a .x * n + n) (now (a .counts)) (end c))
 
--- src/lib.rt:52:9
 bucket-count-requires : tie.Need-bucket-count-requires
 bucket-count-requires c κs = search needs
 
--- src/lib.rt:53:13
 mul-a : tie.Need-mul-a
 mul-a c = omega (arith, end c, start c .good .1 .1 .1 .1 .1 .0 .0)
 
--- src/lib.rt:54:13
 add-e : tie.Need-add-e
 add-e c = omega (arith, end c, start c .good .1 .1 .1 .1 .1 .0 .0)
 
--- src/lib.rt:56:16
 mul-t15 : tie.Need-mul-t15
 mul-t15 c = search needs
 
--- src/lib.rt:56:16
 slice-read-t17 : tie.Need-slice-read-t17
 slice-read-t17 c = search needs
 
--- src/lib.rt:57:14
 mul-t18 : tie.Need-mul-t18
 mul-t18 c = search needs
 
--- src/lib.rt:57:14
 index-1-t22 : tie.Need-index-1-t22
 index-1-t22 c = search needs
 
--- src/lib.rt:57:14
 index-2-t22 : tie.Need-index-2-t22
 index-2-t22 c = search needs
 
--- src/lib.rt:58:14
 mul-t23 : tie.Need-mul-t23
 mul-t23 c = search needs
 
--- src/lib.rt:58:14
 index-1-t27 : tie.Need-index-1-t27
 index-1-t27 c = search needs
 
--- src/lib.rt:58:14
 index-2-t27 : tie.Need-index-2-t27
 index-2-t27 c = search needs
 
--- src/lib.rt:59:14
 mul-t28 : tie.Need-mul-t28
 mul-t28 c = search needs
 
--- src/lib.rt:59:14
 index-1-t32 : tie.Need-index-1-t32
 index-1-t32 c = search needs
 
--- src/lib.rt:59:14
 index-2-t32 : tie.Need-index-2-t32
 index-2-t32 c = search needs
 
--- src/lib.rt:61:44
 mul-enter : tie.Need-mul-enter
 mul-enter c = let b = c .before .before .before .before in omega (arith, end b, start b .good .1 .1 .1 .1 .1 .0 .1)
 
--- src/lib.rt:61:44
 sub-enter : tie.Need-sub-enter
 sub-enter c = search needs
 
--- src/lib.rt:61:44
 part-enter-start : tie.Need-part-enter-start
 part-enter-start c = search needs
 
--- src/lib.rt:61:44
 part-enter-end : tie.Need-part-enter-end
 part-enter-end c = end (c .before .before .before .before)
 
--- src/lib.rt:61:9
 enter-requires : tie.Need-enter-requires
 enter-requires c κs = search needs
 
--- src/lib.rt:63:25
 enum-known-got : tie.Need-enum-known-got
 enum-known-got c = search needs
 
--- src/lib.rt:64:26
 enum-known-got-2 : tie.Need-enum-known-got-2
 enum-known-got-2 c = search needs
 
--- src/lib.rt:65:13
 mul-totals : tie.Need-mul-totals
 mul-totals c = search needs
 
--- src/lib.rt:65:13
 slice-write-totals : tie.Need-slice-write-totals
 slice-write-totals c = search needs
 
--- src/lib.rt:66:13
 mul-t37 : tie.Need-mul-t37
 mul-t37 c = search needs
 
--- src/lib.rt:66:13
 slice-set-from-extremes : tie.Need-slice-set-from-extremes
 slice-set-from-extremes c = search needs
 
--- src/lib.rt:40:1
 same-length : tie.Need-same-length
 same-length c = search needs
 
--- src/lib.rt:40:1
 returns : tie.Need-returns
 returns c =
     let r = c .before .before .before .before .before in
@@ -147,19 +117,15 @@ returns c =
     let a = start b .args in
     call-refused (now (a .bounds)) (a .x) (a .updated) (stores b) (a .v) (b .bucket-count .result) (b .bucket-count .ensures) (r .enter .result) (r .enter .last .1 .1 .1 .0) (r .enter .ensures) _ (c .before .got .given .1) (long b) (start b .pre .3)
 
--- src/lib.rt:40:1
 same-length-2 : tie.Need-same-length-2
 same-length-2 c = search needs
 
--- src/lib.rt:40:1
 same-length-3 : tie.Need-same-length-3
 same-length-3 c = search needs
 
--- src/lib.rt:40:1
 same-length-4 : tie.Need-same-length-4
 same-length-4 c = search needs
 
--- src/lib.rt:40:1
 returns-2 : tie.Need-returns-2
 returns-2 c =
     let r = c .before .before .before .before .before in

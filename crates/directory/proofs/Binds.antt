@@ -163,19 +163,19 @@ module _ (K : Kind) (f : ℕ → K .Series) (z : K .Settings) (d : Directory) (s
 
 -- the places that a call comes to
 module _ (K : Kind) (limit : ℕ) (m : Map K) (w : Set) where
-  place-held : (e : Entry K) → find K w (m .entries) ≡ some e → place K limit m w ≡ held K m e
+  pub place-held : (e : Entry K) → find K w (m .entries) ≡ some e → place K limit m w ≡ held K m e
   unfolding place
   place-held e h = rw h
 
-  place-over-held : (e : Entry K) → find K w (m .entries) ≡ none → ltb (m .count) limit ≡ false → find K overflow (m .entries) ≡ some e → place K limit m w ≡ held K m e
+  pub place-over-held : (e : Entry K) → find K w (m .entries) ≡ none → ltb (m .count) limit ≡ false → find K overflow (m .entries) ≡ some e → place K limit m w ≡ held K m e
   unfolding place
   place-over-held e h b o = rw (h, b, o)
 
-  place-new : find K w (m .entries) ≡ none → ltb (m .count) limit ≡ true → place K limit m w ≡ record { entry = new K w (suc (m .last)); count = suc (m .count); last = suc (m .last) }
+  pub place-new : find K w (m .entries) ≡ none → ltb (m .count) limit ≡ true → place K limit m w ≡ record { entry = new K w (suc (m .last)); count = suc (m .count); last = suc (m .last) }
   unfolding place
   place-new h b = rw (h, b)
 
-  place-over : find K w (m .entries) ≡ none → ltb (m .count) limit ≡ false → find K overflow (m .entries) ≡ none → place K limit m w ≡ record { entry = new K overflow (suc (m .last)); count = m .count; last = suc (m .last) }
+  pub place-over : find K w (m .entries) ≡ none → ltb (m .count) limit ≡ false → find K overflow (m .entries) ≡ none → place K limit m w ≡ record { entry = new K overflow (suc (m .last)); count = m .count; last = suc (m .last) }
   unfolding place
   place-over h b o = rw (h, b, o)
 

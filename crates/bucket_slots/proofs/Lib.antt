@@ -1,0 +1,4 @@
+-- The laws of the explicit kind's slots.
+pub mod Enters
+pub mod Parts
+pub mod Series

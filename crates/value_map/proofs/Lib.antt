@@ -1,0 +1,3 @@
+-- The laws.
+pub mod Bars
+pub mod ExponentialCases

@@ -17,24 +17,26 @@ use Rattle.tally.specs.Kind.{Kind}
 use Rattle.tally.specs.Map.{fits, Entry, Map, find, put, keys, new, Place, held, place, write}
 use Rattle.tally.proofs.Rising.{rising-insert}
 use Rattle.tally.proofs.Entries.{keys-put, put-put}
-use Rattle.directory.specs.Rows.{span, setOf}
+use Rattle.sets.specs.Rows.{span, setOf}
+use Rattle.sets.specs.Inserted.{inserted}
 use Rattle.directory.specs.View.{Stores, setAt, agreesb, sought, entryAt, view}
-use Rattle.directory.specs.Calls.{Kept, overRow, located, inserted, admitted}
+use Rattle.directory.specs.Calls.{Kept, overRow, located, admitted}
 use Rattle.directory.specs.declared.Directory.{Directory}
 use Rattle.directory.specs.declared.Found.the-variants.{Held, Room}
 use Rattle.directory.specs.declared.Target.{Target}
 use Rattle.directory.specs.declared.Target.the-variants.{Disagrees, Old, New, Over}
 use Rattle.directory.proofs.Rises.{In, keys-map}
 use Rattle.directory.proofs.Laws.{slotsOf, few, slot-used, ascends}
-use Rattle.directory.proofs.Admits.{span-inserted, room-rank, new-entry, admit-put}
-use Rattle.directory.proofs.Binds.{Facts, facts, over-set, sought-held, room-new, room-over, place-held, place-over-held, place-new, place-over}
+use Rattle.sets.proofs.Spans.{span-inserted}
+use Rattle.directory.proofs.Admits.{room-rank, new-entry, admit-put}
+use Rattle.directory.proofs.Located.{Facts, facts, over-set, sought-held, room-new, room-over, place-held, place-over-held, place-new, place-over}
 use Rattle.directory.proofs.Laid.{in-around}
 use Rattle.seats.specs.Seats.{heldSeat, newSeat, seatAt, seated, markedIn, committed}
 use Rattle.seats.specs.Recording.{heldAt, Others, served}
 use Rattle.seats.specs.declared.Seating.{Seating}
 use Rattle.seats.proofs.Commits.{commit-old, commit-new, commit-over}
 use Rattle.seats.proofs.Marked.{mark-put}
-use Rattle.seats.proofs.Seatings.{new-either}
+use Rattle.seats.proofs.Seatings.{new-either, old-in}
 
 in-mid : (a b : List ℕ) (x : ℕ) → In x (a ++ (x ∷ b))
 in-mid [] b x = inl refl
@@ -152,9 +154,6 @@ module _ (K : Kind) (f : ℕ → K .Series) (z : K .Settings) (limit : ℕ) (d :
     known : (a : Seating) (k : Kept) (w : Place K) → committed d s row (a .target) ≡ k → p ≡ w → Sits K f z d s a k w → Sits K f z d s a (committed d s row (a .target)) p
     known a k w i j h = subst (λ o. Sits K f z d s a o p) (sym i) (subst (λ v. Sits K f z d s a k v) (sym j) h)
 
-    old-sat : (x : ℕ) → In x (slotsOf d s) → p ≡ held K m (entryAt K f s x) → Sat (heldSeat (s .entries) x)
-    old-sat x i e n = known (heldSeat (s .entries) x) _ _ (commit-old d s row x) e (old-sits small x i)
-
     new-sat : (q : Target) (new-row : List ℕ) (r more count : ℕ) → committed d s row q ≡ markedIn (admitted d s new-row r more 0) (d .used + 1) → d .count + more ≡ count
         → sought (setOf new-row) (d .used) (s .sets) (s .order) ≡ Room r → d .used ≤ limit
         → p ≡ record { entry = new K (setOf new-row) (suc (d .last)); count = count; last = suc (d .last) } → Sat (newSeat d q)
@@ -171,23 +170,32 @@ module _ (K : Kind) (f : ℕ → K .Series) (z : K .Settings) (limit : ℕ) (d :
     none-of : (r : ℕ) → sought (setOf row) (d .used) (s .sets) (s .order) ≡ Room r → find K (setOf row) (m .entries) ≡ none
     none-of r e = room-rank K f z limit d s g (setOf row) r e .0
 
-    target-sat : (t : Target) → Facts limit d s row t → Sat (seatAt d s t)
-    target-sat Disagrees y = true-not-false (sym g ∙ y)
-    target-sat (Old x) y =
-        ⊎-elim
-        (λ e. let h = sought-held K f z d s (setOf row) x e in old-sat x (h .0) (place-held K limit m (setOf row) (entryAt K f s x) (h .1)))
-        (λ e. old-sat x (sought-held K f z d s (setOf overRow) x (e .3) .0) (place-over-held K limit m (setOf row) (entryAt K f s x) (none-of (e .0) (e .1)) (e .2) (over-is x (e .3))))
-        (y .1)
-    target-sat (New r) y =
-        new-sat (New r) row r 1 (suc (d .count)) (commit-new d s row r) (add-one (d .count)) (y .1) (room-new limit d s g (ltb-true _ _ (y .2)))
-        (place-new K limit m (setOf row) (none-of r (y .1)) (y .2))
-    target-sat (Over q) y =
+    -- the place, by where the call goes
+    abbrev pub placeOf : Target → Place K
+    placeOf Disagrees = p
+    placeOf (Old x) = held K m (entryAt K f s x)
+    placeOf (New r) = record { entry = new K (setOf row) (suc (d .last)); count = suc (d .count); last = suc (d .last) }
+    placeOf (Over q) = record { entry = new K overflow (suc (d .last)); count = d .count; last = suc (d .last) }
+
+    pub place-is : (t : Target) → Facts limit d s row t → p ≡ placeOf t
+    place-is Disagrees y = refl
+    place-is (Old x) y =
+        ⊎-elim (λ e. place-held K limit m (setOf row) (entryAt K f s x) (sought-held K f z d s (setOf row) x e .1))
+        (λ e. place-over-held K limit m (setOf row) (entryAt K f s x) (none-of (e .0) (e .1)) (e .2) (over-is x (e .3))) (y .1)
+    place-is (New r) y = place-new K limit m (setOf row) (none-of r (y .1)) (y .2)
+    place-is (Over q) y = let e = y .1 in place-over K limit m (setOf row) (none-of (e .0) (e .1)) (e .2) (over-none q (e .3))
+
+    target-sat : (t : Target) → located limit d s row ≡ t → Facts limit d s row t → Sat (seatAt d s t)
+    target-sat Disagrees i y = true-not-false (sym g ∙ y)
+    target-sat (Old x) i y = λ n. known (heldSeat (s .entries) x) _ _ (commit-old d s row x) (place-is (Old x) y) (old-sits small x (old-in limit d s row x i))
+    target-sat (New r) i y =
+        new-sat (New r) row r 1 (suc (d .count)) (commit-new d s row r) (add-one (d .count)) (y .1) (room-new limit d s g (ltb-true _ _ (y .2))) (place-is (New r) y)
+    target-sat (Over q) i y =
         let e = y .1 in
         new-sat (Over q) overRow q 0 (d .count) (commit-over d s row q) (omega arith) (e .3) (room-over limit d s g q (e .3))
-        (subst (λ w. p ≡ record { entry = new K w (suc (d .last)); count = d .count; last = suc (d .last) }) (sym over-set)
-        (place-over K limit m (setOf row) (none-of (e .0) (e .1)) (e .2) (over-none q (e .3))))
+        (subst (λ w. p ≡ record { entry = new K w (suc (d .last)); count = d .count; last = suc (d .last) }) (sym over-set) (place-is (Over q) y))
 
     -- a seating that is not refused is the place that the set's recording comes to
     pub seat-sits : seated limit d s row .no ≡ 0 → Sits K f z d s (seated limit d s row) (committed d s row (seated limit d s row .target)) p
     unfolding seated
-    seat-sits = target-sat (located limit d s row) (facts limit d s row)
+    seat-sits = target-sat (located limit d s row) refl (facts limit d s row)

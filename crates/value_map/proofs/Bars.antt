@@ -11,7 +11,7 @@ use lib.Ieee.Scale.{finite}
 use borrow.Author.Tests.{le-leb, lt-leb, leb-true, leb-false}
 use Rattle.laws.specs.Pick.{pick}
 use Rattle.laws.proofs.Bools.{flag}
-use Rattle.directory.specs.Calls.{mostAttributes}
+use Rattle.sets.specs.Sorted.{mostAttributes}
 use Rattle.value_map.specs.First.{barredBy}
 
 -- ---- number 12 of a count store, without the product

@@ -16,11 +16,12 @@ use Rattle.index.specs.Bins.{finest}
 use Rattle.points.specs.Figures.{exponential, sizePasses}
 use Rattle.kinds.specs.Histograms.{passes}
 use Rattle.tally.specs.Sets.{Set, canonical}
-use Rattle.directory.specs.declared.Answer.the-variants.{Refused, Done}
-use Rattle.directory.specs.Rows.{rowOf}
+use Rattle.bindings.specs.declared.Answer.the-variants.{Refused, Done}
+use Rattle.sets.specs.Rows.{rowOf}
 use Rattle.directory.specs.View.{Stores}
-use Rattle.directory.specs.Calls as Directory
-use Rattle.directory.specs.Calls.{Kept, mostSets, accepts, fresh}
+use Rattle.bindings.specs.Calls as Bindings
+use Rattle.directory.specs.Calls.{Kept, mostSets, accepts}
+use Rattle.bindings.specs.Calls.{fresh}
 use Rattle.seats.specs.declared.Seating.{Seating}
 use Rattle.seats.specs.Seats.{seated, seatedBy, committed}
 use Rattle.seats.proofs.Seatings.{Safe}
@@ -199,7 +200,7 @@ module _ (size top limit : ℕ) (filter : Option (List ℕ)) (s : Stores) (x : S
         unfolding started pick
         started-12 e = rw (a, le-leb top finest t, b, e)
 
-        pub started-on : slotsLent size limit x ≡ true → (o : Directory.Outcome) → o ≡ Directory.started limit filter s
+        pub started-on : slotsLent size limit x ≡ true → (o : Bindings.Outcome) → o ≡ Bindings.started limit filter s
             → record { answer = o .answer; held = record { kept = o .kept; slots = x } } ≡ started size top limit filter s x
         unfolding started pick
-        started-on e o q = ap (λ (o : Directory.Outcome). record { answer = o .answer; held = record { kept = o .kept; slots = x } }) q ∙ rw (a, le-leb top finest t, b, e)
+        started-on e o q = ap (λ (o : Bindings.Outcome). record { answer = o .answer; held = record { kept = o .kept; slots = x } }) q ∙ rw (a, le-leb top finest t, b, e)

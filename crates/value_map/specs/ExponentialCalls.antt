@@ -12,13 +12,14 @@ use Rattle.index.specs.Bins.{finest}
 use Rattle.points.specs.Figures.{exponential, sizePasses}
 use Rattle.kinds.specs.Histograms.{passes}
 use Rattle.tally.specs.Sets.{Set, canonical}
-use Rattle.directory.specs.declared.Answer.{Answer}
-use Rattle.directory.specs.declared.Answer.the-variants.{Refused, Done}
+use Rattle.bindings.specs.declared.Answer.{Answer}
+use Rattle.bindings.specs.declared.Answer.the-variants.{Refused, Done}
 use Rattle.directory.specs.declared.Target.{Target}
-use Rattle.directory.specs.Rows.{rowOf}
+use Rattle.sets.specs.Rows.{rowOf}
 use Rattle.directory.specs.View.{Stores}
-use Rattle.directory.specs.Calls as Directory
-use Rattle.directory.specs.Calls.{Kept, mostSets, accepts, enough, fresh}
+use Rattle.bindings.specs.Calls as Bindings
+use Rattle.directory.specs.Calls.{Kept, mostSets, accepts, enough}
+use Rattle.bindings.specs.Calls.{fresh}
 use Rattle.seats.specs.declared.Seating.{Seating}
 use Rattle.seats.specs.Seats.{seated, seatedBy, committed, Fits}
 use Rattle.expo_slots.specs.Slots as Slots
@@ -97,7 +98,7 @@ started size top limit filter s x =
     (pick (leb top finest)
     (pick (accepts limit filter)
     (pick (slotsLent size limit x)
-    (let o = Directory.started limit filter s in record { answer = o .answer; held = record { kept = o .kept; slots = x } })
+    (let o = Bindings.started limit filter s in record { answer = o .answer; held = record { kept = o .kept; slots = x } })
     (refused 12 none))
     (refused 4 none))
     (refused 2 none))

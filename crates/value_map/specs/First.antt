@@ -5,7 +5,7 @@ use lib.Dec.{leb}
 use lib.Ieee.{Float}
 use lib.Ieee.Scale.{finite}
 use Rattle.laws.specs.Pick.{pick}
-use Rattle.directory.specs.Calls.{mostAttributes}
+use Rattle.sets.specs.Sorted.{mostAttributes}
 
 -- "Recording: 12, 6, 5, 8": of stores that suffice or not, a value, a number of attributes, a configuration that was accepted or not
 unfoldable pub barredBy : Bool → Float → ℕ → Bool → ℕ

@@ -4,11 +4,11 @@ ghost use mathlib.Core.Path.{_≡_};
 ghost use mathlib.Core.Bool.{_&&_};
 ghost use Rattle.points.specs.Figures.{exponential, sizePasses};
 ghost use Rattle.kinds.specs.Histograms.{passes};
-ghost use Rattle.directory.specs.Sorted.{given, filterOf};
+ghost use Rattle.sets.specs.Sorted.{given, filterOf};
 ghost use Rattle.value_map.specs.ExponentialCalls.{slotsHold, Seatable, entered, started, measured, measuredBy};
-use directory::Answer;
+use bindings::Answer;
+use bindings::Reply;
 use directory::Directory;
-use directory::Reply;
 use seats::Seating;
 
 // Whether configuring accepts a max_size.
@@ -127,7 +127,7 @@ pub fn start(
     ) {
         return refused(12, d);
     }
-    directory::start(limit, present, filter, sets, entries, order)
+    bindings::start(limit, present, filter, sets, entries, order)
 }
 
 // Records a value at a seating, unless that or the series there refuses it.
@@ -209,7 +209,7 @@ pub fn measure(
     if no != 0 {
         return refused(no, d);
     }
-    let row = directory::canon::sorted(attrs, present, filter);
+    let row = sets::canon::sorted(attrs, present, filter);
     let seat = seats::seat(limit, d, sets, entries, order, &row);
     enter(
         size,

@@ -2,7 +2,7 @@ use borrow.Author.Needs.{needs}
 use Rattle.value_map.proofs.exponential.enter.Statement.{statement}
 use Rattle.value_map.proofs.exponential.enter.Tie as tie
 use mathlib.Core.Path.{sym, ap, _∙_}
-use Rattle.directory.specs.declared.Reply.{Reply}
+use Rattle.bindings.specs.declared.Reply.{Reply}
 use Rattle.expo_slots.specs.Slots.{Outcome}
 use Rattle.value_map.specs.ExponentialCalls.{Held, Seated}
 use Rattle.value_map.proofs.ExponentialCases.{entered-away, entered-refused, entered-done}

@@ -11,8 +11,8 @@ use lib.ListN.{length, length-map}
 use Rattle.laws.proofs.Cases.{and-true}
 use Rattle.points.specs.Figures.{exponential}
 use Rattle.kinds.specs.Histograms.{passes}
-use Rattle.directory.specs.declared.Reply.{Reply}
-use Rattle.directory.specs.Sorted.{attribute, given, filterOf}
+use Rattle.bindings.specs.declared.Reply.{Reply}
+use Rattle.sets.specs.Sorted.{attribute, given, filterOf}
 use Rattle.directory.specs.Calls.{accepts, enough}
 use Rattle.directory.proofs.Refusals.{Suffice, suffices, within}
 use Rattle.seats.proofs.Seatings.{seat-safe}

@@ -7,7 +7,7 @@ use lib.Dec.{leb}
 use Rattle.laws.proofs.Cases.{and-true}
 use Rattle.points.specs.Figures.{exponential}
 use Rattle.kinds.specs.Histograms.{passes}
-use Rattle.directory.specs.declared.Reply.{Reply}
+use Rattle.bindings.specs.declared.Reply.{Reply}
 use Rattle.directory.specs.Calls.{mostSets, enough}
 use Rattle.directory.proofs.Refusals.{Suffice, suffices}
 use Rattle.seats.proofs.Seatings.{by-safe}

@@ -8,8 +8,8 @@ use mathlib.Core.List.{List}
 use mathlib.Core.Option.{Option}
 use borrow.Author.Tests.{not-true, not-false}
 use Rattle.points.specs.Figures.{sizePasses}
-use Rattle.directory.specs.declared.Reply.{Reply}
-use Rattle.directory.specs.Sorted.{filterOf}
+use Rattle.bindings.specs.declared.Reply.{Reply}
+use Rattle.sets.specs.Sorted.{filterOf}
 use Rattle.directory.specs.View.{Stores}
 use Rattle.directory.specs.Calls.{accepts}
 use Rattle.expo_slots.specs.Slots.{Slots}

@@ -1,0 +1,2 @@
+-- The definitions that the contracts of `value_map` cite.
+pub mod ExplicitCalls

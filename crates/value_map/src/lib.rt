@@ -1,0 +1,2 @@
+// The map from sets to series: `ValueMap`, `measure` and the handles of internal/mod.rs, a module for each kind of series.
+pub mod explicit;

@@ -14,18 +14,18 @@ use Rattle.tally.specs.Sets.{Set, overflow, cmp, same, mem, Rising}
 use Rattle.tally.specs.Kind.{Kind}
 use Rattle.tally.specs.Map.{plain, bit, plains, Config, keys, Agrees}
 use Rattle.tally.proofs.Ranks.{entries-fit}
-use Rattle.directory.specs.All.{allb}
-use Rattle.directory.proofs.Alls.{allb-yes}
-use Rattle.directory.specs.Rows.{span, soundb}
+use Rattle.sets.specs.All.{allb}
+use Rattle.sets.specs.Inserted.{inserted}
+use Rattle.sets.specs.Rows.{span, soundb}
+use Rattle.sets.proofs.Alls.{allb-yes}
+use Rattle.sets.proofs.Spans.{span-inserted, span-length}
+use Rattle.directory.specs.Calls.{admitted, boundTo}
 use Rattle.directory.specs.View.{Stores, setAt, birthAt, slotAt, placeAt, plainly, slotsb, countsb, agreesb, entryAt, view}
-use Rattle.directory.specs.Calls.{inserted, admitted, boundTo}
 use Rattle.directory.specs.declared.Directory.{Directory}
 use Rattle.directory.proofs.Agreed.{slot-sound, birth-rise, last-birth, place-slot}
 use Rattle.directory.proofs.Checks.{birth-next}
-use Rattle.directory.proofs.Rises.{In, keys-map}
 use Rattle.directory.proofs.Laws.{slotsOf, slots-right, places-right, span-in}
-use Rattle.directory.proofs.Admits.{span-inserted}
-use Rattle.directory.proofs.Spots.{span-length}
+use Rattle.directory.proofs.Rises.{In, keys-map}
 
 -- "its own place in the stores and its own birth number among those spent": named slots stand in the order of birth, and each place of
 -- the order names one of them
@@ -161,7 +161,7 @@ in-span l i zero k h = absurd (omega arith)
 in-span l i (suc n) zero h = let e : i + 0 ≡ i = omega arith in inl (ap (λ (j : ℕ). getD l j 0) e)
 in-span l i (suc n) (suc k) h = let e : suc i + k ≡ i + suc k = omega arith in inr (subst (λ (j : ℕ). In (getD l j 0) (span l (suc i) n)) e (in-span l (suc i) n k (omega arith)))
 
-in-around : (l : List ℕ) (r x y : ℕ) → In y (take r l ++ (x ∷ drop r l)) → (y ≡ x) ⊎ In y l
+pub in-around : (l : List ℕ) (r x y : ℕ) → In y (take r l ++ (x ∷ drop r l)) → (y ≡ x) ⊎ In y l
 in-around [] zero x y m = m
 in-around [] (suc r) x y m = m
 in-around (a ∷ l) zero x y m = m

@@ -1,2 +1,6 @@
+-- The laws of `seats`.
 pub mod Seatings
 pub mod Commits
+pub mod Marked
+pub mod Sits
+pub mod Faithful

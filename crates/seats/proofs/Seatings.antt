@@ -9,7 +9,7 @@ use borrow.Author.Tests.{leb-true, leb-false, le-leb, lt-leb}
 use lib.Dec.{leb}
 use lib.ListN.{length}
 use Rattle.laws.specs.Pick.{pick}
-use Rattle.directory.specs.Rows.{setOf}
+use Rattle.sets.specs.Rows.{setOf}
 use Rattle.directory.specs.View.{Stores, agreesb}
 use Rattle.directory.specs.Calls.{overRow, located, scan}
 use Rattle.directory.specs.declared.Directory.{Directory}
@@ -19,7 +19,7 @@ use Rattle.directory.specs.declared.Target.{Target}
 use Rattle.directory.specs.declared.Target.the-variants.{Disagrees, Old, New, Over}
 use Rattle.directory.proofs.Laws.{slotsOf, few, slot-used, scan-in}
 use Rattle.directory.proofs.Rises.{In}
-use Rattle.directory.proofs.Binds.{blank, counted, sought-held, told, new-there, over-there}
+use Rattle.directory.proofs.Located.{blank, counted, sought-held, told, new-there, over-there}
 use Rattle.seats.specs.Seats.{away, newSeat, seatAt, seated, seatBy, seatedBy, Roomy, Fits}
 use Rattle.seats.specs.declared.Seating.{Seating}
 

@@ -5,7 +5,7 @@ use mathlib.Core.List.{List, [], _∷_}
 use lib.Dec.{eqb, leb}
 use lib.ListN.{length, getD, set}
 use Rattle.laws.specs.Pick.{pick}
-use Rattle.directory.specs.Rows.{span}
+use Rattle.sets.specs.Rows.{span}
 use Rattle.directory.specs.View.{Stores, agreesb}
 use Rattle.directory.specs.Calls.{Kept, overRow, located, scan, admitted}
 use Rattle.directory.specs.declared.Directory.{Directory}

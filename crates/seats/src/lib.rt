@@ -3,7 +3,7 @@
 ghost use mathlib.Core.Path.{_≡_};
 ghost use Prim.Native.Nat.{_+_, _<_, _≤_};
 ghost use lib.ListN.{length};
-ghost use Rattle.directory.specs.Rows.{size};
+ghost use Rattle.sets.specs.Rows.{size};
 ghost use Rattle.seats.specs.Seats.{updatedIn, heldSeat, newSeat, seated, seatedBy, marked, Fits, committed};
 
 // Where a recording goes. no: document 01's number of the refusal, 0 if none; slot: the slot that it goes to; updated: whether that slot

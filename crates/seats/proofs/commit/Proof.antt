@@ -1,3 +1,4 @@
+-- `seats::commit` meets its contract. Assumes nothing.
 use borrow.Author.Needs.{needs}
 use Prim.Native.Nat.{_+_, _<_}
 use mathlib.Core.Path.{_≡_, ap, sym, subst, _∙_}

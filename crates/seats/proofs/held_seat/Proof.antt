@@ -1,3 +1,4 @@
+-- `seats::held_seat` meets its contract. Assumes nothing.
 use borrow.Author.Needs.{needs}
 use mathlib.Core.Path.{ap}
 use Rattle.directory.specs.declared.Target.the-variants.{Old}

@@ -1,3 +1,4 @@
+-- `seats::mark` meets its contract. Assumes nothing.
 use borrow.Author.Needs.{needs}
 use Rattle.seats.specs.Seats.{marked}
 use Rattle.seats.proofs.mark.Statement.{statement}

@@ -1,3 +1,4 @@
+-- `seats::new_seat` meets its contract. Assumes nothing.
 use borrow.Author.Needs.{needs}
 use mathlib.Core.Path.{sym}
 use Rattle.seats.proofs.Seatings.{new-spent, new-made}

@@ -1,3 +1,4 @@
+-- `seats::seat` meets its contract. Assumes nothing.
 use borrow.Author.Needs.{needs}
 use Prim.Native.Nat.{_+_, _<_}
 use mathlib.Core.Path.{_≡_, sym, _∙_}
@@ -5,7 +6,7 @@ use native.Mathlib.Omega.{arith}
 use Rattle.directory.specs.View.{Stores}
 use Rattle.directory.specs.Calls.{located}
 use Rattle.directory.specs.declared.Target.the-variants.{Disagrees, Old, New, Over}
-use Rattle.directory.proofs.Binds.{new-there, over-there}
+use Rattle.directory.proofs.Located.{new-there, over-there}
 use Rattle.seats.proofs.Seatings.{seat-is, old-safe}
 use Rattle.seats.proofs.seat.Statement.{statement}
 use Rattle.seats.proofs.seat.Tie as tie

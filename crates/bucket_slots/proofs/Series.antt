@@ -14,7 +14,7 @@ use lib.Ieee.Scale.{finite}
 use borrow.Author.Tests.{le-leb, eq-eqb, ne-eqb, ltb-true, ltb-false}
 use borrow.Rule.Slice.PartMut.{mid-len, same-len-mid}
 use Rattle.laws.specs.Pick.{pick, _and_}
-use Rattle.laws.proofs.Bools.{pick-true, pick-false}
+use Rattle.laws.proofs.Bools.{flag, not-both, pick-true, pick-false}
 use Rattle.rows.specs.Rows.{over}
 use Rattle.rows.proofs.Algebra.{le-or-lt}
 use Rattle.rows.proofs.Laws.{length-over}
@@ -24,12 +24,14 @@ use Rattle.points.specs.Figures.{Settings, explicit, Figures, bucketed}
 use Rattle.tally.specs.Map.{fits}
 use Rattle.kinds.specs.Histograms.{histograms}
 use Rattle.buckets.specs.declared.Head.{Head}
+use Rattle.buckets.specs.declared.Answer.{Answer}
 use Rattle.buckets.specs.declared.Answer.the-variants.{Recorded, Refused}
-use Rattle.buckets.specs.Series.{mostCount, bucketsIn, headOf, summary, freshHead, refusalOf, accepted}
+use Rattle.buckets.specs.Series.{mostCount, bucketsIn, headOf, summary, freshHead, refusalOf, outcome, accepted}
+use Rattle.buckets.proofs.Cases.{refuse, disagrees}
 use Rattle.buckets.proofs.Writes.{refused-law}
 use Rattle.buckets.proofs.Listed.{accepted-is, fresh-is, reads, stays-long}
 use Rattle.bucket_slots.specs.Slots.{Stores, Recording, rowAt, headAt, seriesAt, entering, written, recordedAt}
-use Rattle.bucket_slots.proofs.Enters.{zeros, begun-taken, enters-held, enters-first, call}
+use Rattle.bucket_slots.proofs.Enters.{zeros, begun-taken, enters-held, enters-bad, enters-first, call}
 use Rattle.bucket_slots.proofs.Parts.{rows-apart, part-same, part-before, part-behind}
 
 -- slot x lies in the stores
@@ -99,6 +101,33 @@ module _ (bounds : List Float) (s : Stores) (x : ℕ) (r : Room bounds s x) wher
           extremes = length-set (s .extremes) x (h .min ∷ h .max ∷ h .sum ∷ []);
           counts = same-len-mid (x * n) (x * n + n - x * n) (s .counts) ys (l ∙ sym long);
         }
+
+-- ---- refusals
+
+module _ (bounds : List Float) (x : ℕ) (u : Bool) (s : Stores) (v : Float) where
+  -- a number other than 0 leaves the stores
+  pub refused-same : recordedAt bounds x u s v .no ≢ 0 → recordedAt bounds x u s v .stores ≡ s
+  unfolding recordedAt
+  refused-same = let o = entering bounds u (headAt s x) (rowAt bounds (s .counts) x) v in go (o .answer) (o .counts)
+    where
+      go : (a : Answer) (xs : List ℕ) → written bounds x s a xs .no ≢ 0 → written bounds x s a xs .stores ≡ s
+      go (Refused n) xs d = refl
+      go (Recorded h) xs d = absurd (d refl)
+
+  -- 8 under bounds that do not pass
+  pub bad-bounds : Room bounds s x → finite v ≡ true → boundsPass bounds ≡ false → recordedAt bounds x u s v ≡ record { no = 8; stores = s }
+  bad-bounds r f b =
+      let h = headAt s x in
+      let xs = rowAt bounds (s .counts) x in
+      let no : bucketsAgree bounds (bucketsIn bounds (h .count) xs) ≡ false = sym (refuse bounds (h .count) xs (λ k. not-both (boundsPass bounds) (k .passes) b)) in
+      let eight : 8 ≡ refusalOf bounds h xs v = disagrees bounds h xs v (omega (arith, long bounds s x r)) f no in
+      let o : outcome (Refused 8) xs ≡ entering bounds u h xs v =
+      ⊎-elim
+      (λ (t : u ≡ true). refused-law bounds h xs v 8 eight (λ z. omega (arith, z)) ∙ sym (enters-held bounds u h xs v t))
+      (λ (t : u ≡ false). sym (enters-bad bounds u h xs v t b))
+      (flag u)
+      in
+      sym (call bounds x u s v (Refused 8) xs o)
 
 -- ---- numbers
 

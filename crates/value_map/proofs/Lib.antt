@@ -1,4 +1,5 @@
--- The laws.
+-- The laws of the map.
 pub mod Bars
 pub mod ExponentialCases
 pub mod ExponentialSteps
+pub mod ExplicitCases

@@ -1,2 +1,3 @@
 -- The laws of merging by code.
 pub mod Tied
+pub mod Groups

@@ -1,2 +1,4 @@
 -- The laws of merging by code.
 pub mod Tied
+pub mod Groups
+pub mod Accepted

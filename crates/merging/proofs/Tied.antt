@@ -33,7 +33,7 @@ and-is true b = refl
 and-is false b = refl
 
 -- ---- 1
-size-is : (size : ℕ) (c d : F.Counts) → sizeAsked size c d ≡ (bothExplicit c d || F.sizePasses size)
+pub size-is : (size : ℕ) (c d : F.Counts) → sizeAsked size c d ≡ (bothExplicit c d || F.sizePasses size)
 size-is size (scaled p) d = and-is (leb 3 size) (leb size 160)
 size-is size (bucketed b p) (scaled q) = and-is (leb 3 size) (leb size 160)
 size-is size (bucketed b p) (bucketed c q) = refl

@@ -1,5 +1,6 @@
 -- A point with its bounds and the lent rows that hold its counts, and such points merged by `point::merge`. Assumes nothing.
 use Prim.Native.Nat.{ℕ}
+use mathlib.Core.Path.{_≡_}
 use mathlib.Core.List.{List}
 use mathlib.Core.Logic.{_⊎_, inl, inr}
 use lib.ListN.{length}
@@ -39,12 +40,8 @@ mergedStored size us vs x y =
 abbrev pub roomOf : List ℕ → List ℕ → Room
 roomOf us vs = record { points = 1; pos = length us; neg = length vs }
 
--- ---- any grouping: each merge is lent rows of its own, us and vs; the first refusal ends it
-abbrev pub either : (Stored → Stored → ℕ ⊎ Stored) → ℕ ⊎ Stored → ℕ ⊎ Stored → ℕ ⊎ Stored
-either f (inl n) y = inl n
-either f (inr x) (inl n) = inl n
-either f (inr x) (inr y) = f x y
-
-abbrev pub grouped : ℕ → List ℕ → List ℕ → Tree Stored → ℕ ⊎ Stored
-grouped size us vs (leaf x) = inr x
-grouped size us vs (node s t) = either (mergedStored size us vs) (grouped size us vs s) (grouped size us vs t)
+-- ---- by any grouping: z is what merging the leaves two by two has left, whatever rows were lent to each merge
+abbrev pub Groups : ℕ → Tree Stored → Stored → Type 0
+Groups size (leaf a) z = a ≡ z
+Groups size (node s t) z =
+    (x : Stored) × (y : Stored) × (us : List ℕ) × (vs : List ℕ) × Groups size s x × Groups size t y × (mergedStored size us vs x y ≡ inr z)

@@ -1,10 +1,11 @@
 -- What a merge answers is the merge of the points read, and merged points of values stand for the values joined. Assumes nothing.
-use Prim.Native.Nat.{ℕ, _+_, _≤_}
+use Prim.Native.Nat.{ℕ, _+_, _-_, _≤_}
 use mathlib.Core.Path.{_≡_, refl, ap, sym, subst, _∙_}
 use mathlib.Core.Bool.{Bool, true, false}
 use mathlib.Core.List.{List, _++_}
+use native.Mathlib.Omega.{arith}
 use lib.Dec.{leb}
-use lib.ListN.{length, take}
+use lib.ListN.{length, take, drop, length-append}
 use lib.Ieee.{Float, binary64, add}
 use borrow.Author.Tests.{leb-true, le-leb}
 use Rattle.laws.specs.Pick.{pick, _and_}
@@ -40,6 +41,18 @@ use Rattle.point.proofs.Means.{inShape, agreesRead, sizeAsked, refusalR
 abbrev pub hasRoom : F.Counts → List ℕ → List ℕ → Bool
 hasRoom c us vs = leb (length (posOf c)) (length us) and leb (length (negOf c)) (length vs)
 
+in-over : (new old : List ℕ) → length new ≤ length (over new old)
+unfolding over
+in-over new old = rw (length-append new (drop (length new) old)) (omega arith)
+
+-- counts laid over rows are in shape
+laid-shape : (c : F.Counts) (us vs : List ℕ) → inShape (figuresFor c) (over (posOf c) us) (over (negOf c) vs) ≡ true
+unfolding _and_
+laid-shape (scaled p) us vs =
+    λ j. le-leb (finest - p .d) finest (omega arith) j and le-leb (length (p .pos .counts)) (length (over (p .pos .counts) us)) (in-over (p .pos .counts) us) j
+    and le-leb (length (p .neg .counts)) (length (over (p .neg .counts) vs)) (in-over (p .neg .counts) vs) j
+laid-shape (bucketed b p) us vs = refl
+
 -- the outcome is a point that reads, with the lent rows, as h
 pub record Answers (o : Outcome) (bs : List Float) (h : Handed) : Type 0 where
   pub point : Point
@@ -47,6 +60,7 @@ pub record Answers (o : Outcome) (bs : List Float) (h : Handed) : Type 0 where
   pub neg : List ℕ
   pub is : o ≡ outcome (Merged point) pos neg
   pub reads : handedAs point bs pos neg ≡ h
+  pub shape : inShape (point .figures) pos neg ≡ true
 
 module _ (c : F.Counts) (us vs : List ℕ) where
   laid-room : hasRoom c us vs ≡ true → laidOver c us vs ≡ madeOver (Of (figuresFor c)) (over (posOf c) us) (over (negOf c) vs)
@@ -104,6 +118,7 @@ module _ (size : ℕ) (a : Point) (bs : List Float) (xs ys : List ℕ) (b : Poin
         neg = over (negOf countsMade) vs;
         is = sym (calls.accepted size a bs xs ys b cs zs ws us vs e) ∙ ap (ended a b) (laid-room countsMade us vs r);
         reads = λ j. record { counts = k j; extremes = a .extremes; threshold = a .threshold; min = smallerOf (a .min) (b .min); max = largerOf (a .max) (b .max); sum = add binary64 (a .sum) (b .sum) };
+        shape = laid-shape countsMade us vs;
       }
 
   -- ---- WITHOUT ROOM 10, and all as it was

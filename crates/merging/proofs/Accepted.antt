@@ -1,0 +1,198 @@
+-- Points that agree, of one kind, switch and threshold, are merged by code wherever there is room and their counts together are no more
+-- than a count can be; and what is left agrees. Assumes nothing.
+use Prim.Native.Nat.{ℕ, _+_, _≤_}
+use mathlib.Core.Path.{_≡_, refl, ap, sym, subst, _∙_}
+use mathlib.Core.Logic.{_⊎_, inl, inr}
+use mathlib.Core.Bool.{Bool, true, false, Bool·beq}
+use mathlib.Core.List.{List, [], _∷_, _++_, foldr}
+use native.Mathlib.Omega.{arith}
+use lib.Dec.{leb, eqb}
+use lib.ListN.{length}
+use lib.Ieee.{Float}
+use borrow.Author.Tests.{le-leb}
+use Rattle.laws.specs.Pick.{pick, _and_}
+use Rattle.laws.proofs.Bools.{not-both, and-left, and-right, and-intro}
+use Rattle.index.specs.Bins.{finest, lowestBin}
+use Rattle.points.specs.Points.{build, bag, merge}
+use Rattle.points.specs.Explicit.{sameBounds, bucketCount, mergeBuckets}
+use Rattle.points.specs.Figures as F
+use Rattle.points.specs.Figures.{Kind, exponential, explicit, Settings, scaled, bucketed}
+use Rattle.points.specs.Handed.{Handed, sameKind, mergeable, mergeCounts, mergeHanded, extremesAgree, countsAgree, handedAgrees, countOf}
+use Rattle.points.proofs.Agreement.{agrees-says}
+use Rattle.points.proofs.Explicit.{buckets-say, same-bounds}
+use Rattle.points.proofs.Grouping.{Shape, Of, handed-commutes}
+use Rattle.points.proofs.Stands.{resized}
+use Rattle.buckets.specs.Series.{mostCount}
+use Rattle.kinds.proofs.Steady.{merged-agrees}
+use Rattle.point.specs.declared.Figures.{Figures}
+use Rattle.point.specs.declared.Figures.the-variants.{Exponential, Explicit}
+use Rattle.point.specs.Handing.{countsAs, countIn, posOf, negOf, pointAgrees, refusalBefore, merging}
+use Rattle.point.proofs.Means.{inShape, sizeFor, agreesRead, agrees-is, agrees-whole, sizeAsked, refusalRead, count-is, refusal-is}
+use Rattle.point.proofs.Answers.{hasRoom, answers}
+use Rattle.point.proofs.Lists.{Long}
+use Rattle.merging.specs.Stored.{Stored, handedIn, stored, mergedStored}
+use Rattle.merging.proofs.Tied.{size-is}
+
+abbrev low : ℕ
+low = lowestBin finest
+
+-- a point of the settings that agrees under the max_size
+pub record Good (size : ℕ) (s : Settings) (x : Stored) : Type 0 where
+  pub agree : pointAgrees size (x .point) (x .bounds) (x .pos) (x .neg) ≡ true
+  pub of : Of s (handedIn x)
+
+abbrev pub counted : Stored → ℕ
+counted x = countIn (x .point .figures)
+
+-- ---- over counts of one kind
+same-kind : (size : ℕ) (k : Kind) (c d : F.Counts) → Shape k c → Shape k d → countsAgree size finest low c ≡ true → sameKind c d ≡ true
+same-kind size (exponential m top) (scaled p) (scaled q) h k a = refl
+same-kind size (exponential m top) (scaled p) (bucketed b q) h k a = absurd k
+same-kind size (exponential m top) (bucketed b p) d h k a = absurd h
+same-kind size (explicit b) (scaled p) d h k a = absurd h
+same-kind size (explicit b) (bucketed c p) (scaled q) h k a = absurd k
+same-kind size (explicit b) (bucketed c p) (bucketed d q) h k a =
+    subst (λ e. sameBounds c e ≡ true) (h ∙ sym k) (same-bounds c (buckets-say c p a .passes))
+
+merged-count : (size : ℕ) (c d : F.Counts) → sameKind c d ≡ true → countOf (mergeCounts size c d) ≡ countOf c + countOf d
+unfolding merge build bag mergeBuckets
+merged-count size (scaled p) (scaled q) e = refl
+merged-count size (scaled p) (bucketed c q) e = absurd (not-both false e refl)
+merged-count size (bucketed b p) (scaled q) e = absurd (not-both false e refl)
+merged-count size (bucketed b p) (bucketed c q) e = refl
+
+roomy : (size : ℕ) (k : Kind) (c : F.Counts) (us vs : List ℕ) → Shape k c → countsAgree size finest low c ≡ true → Long (resized size k) us vs → hasRoom c us vs ≡ true
+roomy size (exponential m top) (scaled p) us vs h a l =
+    let k = agrees-says size finest low p a in
+    and-intro (leb (length (p .pos .counts)) (length us)) (leb (length (p .neg .counts)) (length vs))
+    (le-leb (length (p .pos .counts)) (length us) (omega (arith, k .pos .short, l .0)))
+    (le-leb (length (p .neg .counts)) (length vs) (omega (arith, k .neg .short, l .1)))
+roomy size (exponential m top) (bucketed b p) us vs h a l = absurd h
+roomy size (explicit b) (scaled p) us vs h a l = absurd h
+roomy size (explicit b) (bucketed c p) us vs h a l =
+    and-intro (leb (length (p .counts)) (length us)) (leb 0 (length vs))
+    (le-leb (length (p .counts)) (length us) (omega (arith, buckets-say c p a .whole, ap bucketCount h, l)))
+    (le-leb 0 (length vs) (omega arith))
+
+-- ---- the size, by the kind
+module _ (size : ℕ) (k : Kind) (bs : List Float) (xs ys : List ℕ) (cs : List Float) (zs ws : List ℕ) where
+  size-asked : (f g : Figures) → Shape k (countsAs f bs xs ys) → Shape k (countsAs g cs zs ws) → sizeFor size f ≡ true
+      → sizeAsked size (countsAs f bs xs ys) (countsAs g cs zs ws) ≡ true
+  size-asked (Exponential c) g h j e = e
+  size-asked (Explicit n) (Explicit m) h j e = refl
+  size-asked (Explicit n) (Exponential d) h j e = absurd (mixed k h j)
+    where
+      mixed : (k : Kind) → Shape k (countsAs (Explicit n) bs xs ys) → Shape k (countsAs (Exponential d) cs zs ws) → ⊥
+      mixed (exponential m top) h j = h
+      mixed (explicit b) h j = j
+
+  size-same : (f g : Figures) → Shape k (countsAs f bs xs ys) → Shape k (countsAs g cs zs ws) → sizeFor size f ≡ true → sizeFor size g ≡ true
+  size-same (Exponential c) (Exponential d) h j e = e
+  size-same (Exponential c) (Explicit m) h j e = refl
+  size-same (Explicit n) (Explicit m) h j e = refl
+  size-same (Explicit n) (Exponential d) h j e = absurd (mixed k h j)
+    where
+      mixed : (k : Kind) → Shape k (countsAs (Explicit n) bs xs ys) → Shape k (countsAs (Exponential d) cs zs ws) → ⊥
+      mixed (exponential m top) h j = h
+      mixed (explicit b) h j = j
+
+beq-same : (a b : Bool) → a ≡ b → Bool·beq a b ≡ true
+beq-same true b e = ap (Bool·beq true) (sym e)
+beq-same false b e = ap (Bool·beq false) (sym e)
+
+-- ---- what a good point is known to be
+module _ (size : ℕ) (s : Settings) (x : Stored) (g : Good size s x) where
+  both : (sizeFor size (x .point .figures) and inShape (x .point .figures) (x .pos) (x .neg)) and agreesRead size (handedIn x) ≡ true
+  both = sym (agrees-is size (x .bounds) (x .pos) (x .neg) (x .point)) ∙ g .agree
+
+  front : sizeFor size (x .point .figures) and inShape (x .point .figures) (x .pos) (x .neg) ≡ true
+  front = and-left (sizeFor size (x .point .figures) and inShape (x .point .figures) (x .pos) (x .neg)) (agreesRead size (handedIn x)) both
+
+  size-ok : sizeFor size (x .point .figures) ≡ true
+  size-ok = and-left (sizeFor size (x .point .figures)) (inShape (x .point .figures) (x .pos) (x .neg)) front
+
+  shape-ok : inShape (x .point .figures) (x .pos) (x .neg) ≡ true
+  shape-ok = and-right (sizeFor size (x .point .figures)) (inShape (x .point .figures) (x .pos) (x .neg)) front
+
+  pub reads-ok : agreesRead size (handedIn x) ≡ true
+  reads-ok = and-right (sizeFor size (x .point .figures) and inShape (x .point .figures) (x .pos) (x .neg)) (agreesRead size (handedIn x)) both
+
+  pub counts-ok : countsAgree size finest low (handedIn x .counts) ≡ true
+  unfolding handedAgrees
+  counts-ok = and-left (countsAgree size finest low (handedIn x .counts)) (extremesAgree (x .point .min) (x .point .max)) reads-ok
+
+-- what a merge leaves: a good point of both counts
+pub record Left (size : ℕ) (s : Settings) (n : ℕ) (o : ℕ ⊎ Stored) : Type 0 where
+  pub left : Stored
+  pub is : o ≡ inr left
+  pub good : Good size s left
+  pub count : counted left ≡ n
+
+module _ (size : ℕ) (s : Settings) (x y : Stored) (g : Good size s x) (h : Good size s y) (few : counted x + counted y ≤ mostCount) (us vs : List ℕ) (long : Long (resized size (s .kind)) us vs) where
+  abbrev p : Handed
+  p = handedIn x
+
+  abbrev q : Handed
+  q = handedIn y
+
+  alike : sameKind (p .counts) (q .counts) ≡ true
+  alike = same-kind size (s .kind) (p .counts) (q .counts) (g .of .shape) (h .of .shape) (counts-ok size s x g)
+
+  can : mergeable p q ≡ true
+  unfolding mergeable
+  can =
+      and-intro (sameKind (p .counts) (q .counts)) (Bool·beq (p .extremes) (q .extremes)) alike
+      (beq-same (p .extremes) (q .extremes) (g .of .extremes ∙ sym (h .of .extremes)))
+
+  asked : sizeAsked size (p .counts) (q .counts) ≡ true
+  asked =
+      size-asked size (s .kind) (x .bounds) (x .pos) (x .neg) (y .bounds) (y .pos) (y .neg) (x .point .figures) (y .point .figures)
+      (g .of .shape) (h .of .shape) (size-ok size s x g)
+
+  agree : handedAgrees size finest low (mergeHanded size p q) ≡ true
+  agree =
+      merged-agrees size p q (sym (size-is size (p .counts) (q .counts)) ∙ asked) can (reads-ok size s x g) (reads-ok size s y h)
+
+  of : Of s (mergeHanded size p q)
+  of = handed-commutes size s .kept p q (g .of) (h .of)
+
+  room : hasRoom (mergeCounts size (p .counts) (q .counts)) us vs ≡ true
+  unfolding mergeHanded handedAgrees
+  room =
+      roomy size (s .kind) (mergeCounts size (p .counts) (q .counts)) us vs (of .shape)
+      (and-left (countsAgree size finest low (mergeCounts size (p .counts) (q .counts))) (extremesAgree (mergeHanded size p q .min) (mergeHanded size p q .max)) agree) long
+
+  fit : leb (countOf (p .counts) + countOf (q .counts)) mostCount ≡ true
+  fit =
+      (λ t. leb (sym (count-is (x .point .figures) (x .bounds) (x .pos) (x .neg)) t + sym (count-is (y .point .figures) (y .bounds) (y .pos) (y .neg)) t) mostCount)
+      ∙ le-leb (counted x + counted y) mostCount few
+
+  free : refusalBefore size (x .point) (x .bounds) (x .pos) (x .neg) (y .point) (y .bounds) (y .pos) (y .neg) ≡ 0
+  unfolding refusalRead pick _and_
+  free =
+      refusal-is size (x .bounds) (x .pos) (x .neg) (y .bounds) (y .pos) (y .neg) (x .point) (y .point)
+      ∙ (λ t. pick (asked t) (pick ((shape-ok size s x g t and shape-ok size s y h t) and reads-ok size s x g t and reads-ok size s y h t) (pick (can t) (pick (fit t) 0 9) 11) 8) 1)
+
+  sum-is : countOf (mergeHanded size p q .counts) ≡ counted x + counted y
+  unfolding mergeHanded
+  sum-is =
+      merged-count size (p .counts) (q .counts) alike
+      ∙ (λ t. sym (count-is (x .point .figures) (x .bounds) (x .pos) (x .neg)) t + sym (count-is (y .point .figures) (y .bounds) (y .pos) (y .neg)) t)
+
+  pub merges : Left size s (counted x + counted y) (mergedStored size us vs x y)
+  merges =
+      let m = answers size (x .point) (x .bounds) (x .pos) (x .neg) (y .point) (y .bounds) (y .pos) (y .neg) free us vs room in
+      let z : Stored = record { point = m .point; bounds = x .bounds; pos = m .pos; neg = m .neg } in
+      let o : Of s (handedIn z) = subst (Of s) (sym (m .reads)) of in
+      record {
+        left = z;
+        is = ap (λ r. stored r (x .bounds)) (m .is);
+        good = record {
+          agree = agrees-whole size (x .bounds) (m .pos) (m .neg) (m .point)
+              (size-same size (s .kind) (x .bounds) (x .pos) (x .neg) (x .bounds) (m .pos) (m .neg) (x .point .figures) (m .point .figures) (g .of .shape) (o .shape) (size-ok size s x g))
+              (m .shape)
+              ∙ subst (λ r. agreesRead size r ≡ true) (sym (m .reads)) agree;
+          of = o;
+        };
+        count = count-is (m .point .figures) (x .bounds) (m .pos) (m .neg) ∙ ap (λ r. countOf (r .counts)) (m .reads) ∙ sum-is;
+      }

@@ -1,19 +1,20 @@
 -- Recording the values of a list one by one from the fresh series gives the point of the list. Assumes nothing.
 use Prim.Native.Nat.{ℕ, zero, suc, _+_, _-_, _^_, _≤_, _<_}
 use mathlib.Core.Path.{_≡_, refl, ap, sym, subst, _∙_}
-use mathlib.Core.Bool.{Bool, true, false, cond}
+use mathlib.Core.Bool.{true, false}
 use mathlib.Core.List.{List, [], _∷_, foldl}
 use native.Mathlib.Omega.{arith}
-use lib.Dec.{T}
 use lib.ListN.{length, take, replicate, length-set, length-replicate}
 use lib.Seq.{length-take-le}
-use lib.Ieee.{Float, lt, ofBits}
+use lib.Ieee.{Float, ofBits}
+use lib.Ieee.Bits.{is-true}
 use lib.Ieee.Scale.{finite}
 use borrow.Author.Tests.{eq-eqb}
 use Rattle.laws.specs.Pick.{pick}
 use Rattle.laws.specs.Lists.{All}
 use Rattle.laws.specs.Counting.{count, table}
 use Rattle.floats.specs.Starts.{FiniteF64}
+use Rattle.floats.proofs.Choices.{finite-chosen}
 use Rattle.points.specs.Explicit.{Buckets, bucketCount, boundsPass, bucketsOf, recordBucket, bucketsAgree}
 use Rattle.points.specs.Values.{Summary, start, noted, summaryOf}
 use Rattle.points.proofs.Explicit.{recordBuckets, buckets-say, buckets-agree, record-buckets-ok, recordBuckets-of, bucketsOf-ok}
@@ -32,14 +33,6 @@ pub record Holds (bounds : List Float) (p : Buckets) (m : Summary) (s : Series) 
   pub finMin : finite (s .head .min) ≡ true
   pub finMax : finite (s .head .max) ≡ true
   pub long : bucketCount bounds ≤ length (s .counts)
-
-cond-finite : (b : Bool) (x y : Float) → finite x ≡ true → finite y ≡ true → finite (cond b x y) ≡ true
-cond-finite true x y p q = p
-cond-finite false x y p q = q
-
-is-true : (b : Bool) → T b → b ≡ true
-is-true true t = refl
-is-true false t = absurd t
 
 pub accepted-is : (bounds : List Float) (h : Head) (xs : List ℕ) (v : Float) → refusalOf bounds h xs v ≡ 0
     → recording bounds h xs v ≡ accepted (recordBucket bounds (bucketsIn bounds (h .count) xs) v) h xs v
@@ -81,8 +74,8 @@ step bounds p m s v h f n =
       rows = r ∙ e;
       summary = ap (λ m. noted m v) (h .summary);
       agree = ap (bucketsAgree bounds) r ∙ buckets-agree bounds (recordBucket bounds (bucketsIn bounds c xs) v) ok;
-      finMin = cond-finite (lt v (s .head .min)) v (s .head .min) k (h .finMin);
-      finMax = cond-finite (lt (s .head .max) v) v (s .head .max) k (h .finMax);
+      finMin = finite-chosen true (s .head .min) v (h .finMin) k;
+      finMax = finite-chosen false (s .head .max) v (h .finMax) k;
       long = omega (arith, h .long, stays-long bounds c xs v (h .long));
     })
 

@@ -2,7 +2,7 @@
 use Prim.Native.Nat.{ℕ, zero, suc, _+_, _-_, _^_, _≤_, _<_}
 use mathlib.Core.Path.{_≡_, refl, ap, sym, _∙_}
 use mathlib.Core.Logic.{⊎-elim, _⊎_}
-use mathlib.Core.Bool.{Bool, true, false}
+use mathlib.Core.Bool.{true}
 use mathlib.Core.List.{List, [], _∷_, _++_}
 use native.Mathlib.Nat.{eq-zero-or-pos}
 use native.Mathlib.Omega.{arith}
@@ -12,7 +12,7 @@ use lib.Ieee.{Float, binary64, add}
 use borrow.Author.Tests.{leb-true, le-leb, lt-leb, eq-eqb, ne-eqb, eqb-false}
 use Rattle.laws.specs.Pick.{pick, _and_}
 use Rattle.laws.specs.Counting.{total}
-use Rattle.laws.proofs.Bools.{and-left}
+use Rattle.laws.proofs.Bools.{and-left, pick-left, pick-then, pick-right}
 use Rattle.floats.specs.Answers.{lesserOf, greaterOf}
 use Rattle.rows.specs.Rows.{over}
 use Rattle.rows.specs.Rows.{zeroed}
@@ -78,21 +78,6 @@ module _ (bs : List Float) (xs : List ℕ) (v : Float) (h : bucketCount bs ≤ l
       omega (arith, t, getD-le-total (take n xs) k, getD-take n xs k 0 q)
 
 -- ---- the call
-
-pick-left : (b : Bool) (x y : ℕ) → 0 < y → pick b x y ≡ 0 → b ≡ true
-unfolding pick
-pick-left true x y p e = refl
-pick-left false x y p e = absurd (omega arith)
-
-pick-then : (b : Bool) (x y : ℕ) → 0 < y → pick b x y ≡ 0 → x ≡ 0
-unfolding pick
-pick-then true x y p e = e
-pick-then false x y p e = absurd (omega arith)
-
-pick-right : (b : Bool) (x : ℕ) → 0 < x → pick b x 0 ≡ 0 → b ≡ false
-unfolding pick
-pick-right true x p e = absurd (omega arith)
-pick-right false x p e = refl
 
 pub record Ready (bs : List Float) (h : Head) (xs : List ℕ) : Type 0 where
   pub long : bucketCount bs ≤ length xs

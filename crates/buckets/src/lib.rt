@@ -8,6 +8,7 @@ ghost use Rattle.laws.specs.Pick.{pick, _and_};
 ghost use Rattle.laws.specs.Counting.{total};
 ghost use Rattle.rows.specs.Rows.{over};
 ghost use Rattle.points.specs.Explicit.{noNan, rising, boundsPass, sameBounds, bucketOf, bucketCount, recordBucket, added, bucketsAgree};
+ghost use Rattle.points.specs.Figures.{mostSize};
 ghost use lib.Dec.{eqb};
 ghost use Rattle.buckets.specs.Series.{bucketsIn, freshening, mostCount, refusalOf, outcome, recording};
 use series::Halves;
@@ -169,7 +170,7 @@ pub fn fresh(bounds: &[f64], counts: &mut [u64]) -> Answer
 
 // Whether the first n counts total count.
 fn adds_up(count: u64, counts: &[u64], n: usize) -> bool
-    requires { ⌜ (n ≤ length (now counts)) × (n ≤ 160) ⌝ }
+    requires { ⌜ (n ≤ length (now counts)) × (n ≤ mostSize) ⌝ }
     ensures { λ r. ⌜ r ≡ eqb (total (take n (now (counts .entry)))) count ⌝ }
 {
     let none = Halves { low: 0, high: 0 };

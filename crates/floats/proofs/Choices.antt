@@ -7,6 +7,7 @@ use native.Mathlib.Omega.{arith}
 use mathlib.Core.Bool.{Bool, true, false, not, cond}
 use lib.Dec.{T, ltb, ltb→lt, nltb→le, lt→ltb}
 use lib.Ieee.{Float, Format, lt, eq}
+use lib.Ieee.Scale.{finite}
 use borrow.Author.Tests.{eq-eqb, eqb-true}
 use Rattle.laws.specs.Lists.{All}
 use Rattle.laws.proofs.Lists.{all-perm, foldr-perm}
@@ -21,6 +22,14 @@ before false x y = lt y x
 
 abbrev pub chosen : Bool → Float → Float → Float
 chosen up a x = cond (before up x a) x a
+
+-- of two finite numbers it is finite
+pub finite-chosen : (up : Bool) (a v : Float) → finite a ≡ true → finite v ≡ true → finite (chosen up a v) ≡ true
+finite-chosen up a v h k = go (before up v a)
+  where
+    go : (b : Bool) → finite (cond b v a) ≡ true
+    go true = k
+    go false = h
 
 -- the lower, the more wanted
 unfoldable pub rank : Bool → Format → Float → ℕ

@@ -2,7 +2,7 @@
 use Prim.Native.Nat.{ℕ}
 use mathlib.Core.Path.{_≡_, sym}
 use mathlib.Core.List.{[]}
-use mathlib.Core.Bool.{Bool, true, false, cond, Bool·beq, _&&_, _||_}
+use mathlib.Core.Bool.{Bool, true, false, Bool·beq, _&&_, _||_}
 use lib.Dec.{leb}
 use lib.Ieee.{Float, binary64, fits}
 use lib.Ieee.Scale.{finite}
@@ -14,7 +14,7 @@ use Rattle.floats.specs.Answers.{lesserOf, greaterOf, smallerOf, largerOf}
 use Rattle.floats.specs.Starts.{FiniteF64}
 use Rattle.floats.specs.declared.Extreme.{Extreme}
 use Rattle.floats.specs.declared.Extreme.the-variants.{None, Value}
-use Rattle.floats.proofs.Choices.{before, chosen}
+use Rattle.floats.proofs.Choices.{finite-chosen}
 use Rattle.points.specs.Points.{merge, record1}
 use Rattle.points.specs.Values.{classOf}
 use Rattle.points.specs.Explicit.{recordBucket, mergeBuckets}
@@ -34,14 +34,6 @@ low = lowestBin finest
 
 both : (a b : Bool) → a ≡ true → b ≡ true → (a && b) ≡ true
 both a b p q = rw (p, q)
-
--- an extreme is one of two finite numbers
-finite-chosen : (up : Bool) (a v : Float) → finite a ≡ true → finite v ≡ true → finite (chosen up a v) ≡ true
-finite-chosen up a v h k = go (before up v a)
-  where
-    go : (b : Bool) → finite (cond b v a) ≡ true
-    go true = k
-    go false = h
 
 -- ---- A SERIES THAT AGREES STAYS AGREEING
 counts-kept : (k : Kind) (t : Float) (c : Counts) (v : Float) → passes k ≡ true → FiniteF64 v → countsHold k c ≡ true → countsHold k (recordCounts k t c v) ≡ true

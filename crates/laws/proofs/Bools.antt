@@ -1,5 +1,5 @@
 -- Tests: cases by a test, and what `_and_` and `pick` say. Assumes nothing.
-use Prim.Native.Nat.{ℕ}
+use Prim.Native.Nat.{ℕ, _<_}
 use mathlib.Core.Path.{_≡_, refl}
 use mathlib.Core.Logic.{_⊎_, inl, inr}
 use mathlib.Core.Bool.{Bool, true, false}
@@ -34,3 +34,19 @@ pick-true b x y h = rw h
 pub pick-false : {A : Type 0} (b : Bool) (x y : A) → b ≡ false → pick b x y ≡ y
 unfolding pick
 pick-false b x y h = rw h
+
+-- a chain of refusals that ends at 0: each test before its end held
+pub pick-left : (b : Bool) (x y : ℕ) → 0 < y → pick b x y ≡ 0 → b ≡ true
+unfolding pick
+pick-left true x y p e = refl
+pick-left false x y p e = absurd (omega arith)
+
+pub pick-then : (b : Bool) (x y : ℕ) → 0 < y → pick b x y ≡ 0 → x ≡ 0
+unfolding pick
+pick-then true x y p e = e
+pick-then false x y p e = absurd (omega arith)
+
+pub pick-right : (b : Bool) (x : ℕ) → 0 < x → pick b x 0 ≡ 0 → b ≡ false
+unfolding pick
+pick-right true x p e = absurd (omega arith)
+pick-right false x p e = refl

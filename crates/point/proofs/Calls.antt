@@ -1,5 +1,5 @@
 -- The call of a merge: its refusals in order, and what it answers otherwise. Assumes nothing.
-use Prim.Native.Nat.{ℕ, _+_, _-_, _≤_, _<_}
+use Prim.Native.Nat.{ℕ, _+_, _-_, _≤_}
 use mathlib.Core.Path.{_≡_, refl, ap, sym, subst, _∙_}
 use mathlib.Core.Bool.{Bool, true, false, Bool·beq}
 use mathlib.Core.List.{List}
@@ -8,7 +8,7 @@ use lib.Dec.{leb}
 use lib.Ieee.{Float}
 use borrow.Author.Tests.{leb-true, eq-eqb, ne-eqb}
 use Rattle.laws.specs.Pick.{pick, _and_}
-use Rattle.laws.proofs.Bools.{not-both, and-left, and-right}
+use Rattle.laws.proofs.Bools.{not-both, and-left, and-right, pick-left, pick-then}
 use Rattle.points.specs.Explicit.{sameBounds, bucketCount, bucketsAgree, mergeBuckets}
 use Rattle.points.specs.Figures.{scaled, bucketed}
 use Rattle.points.specs.Handed.{extremesAgree, mergeCounts}
@@ -28,16 +28,6 @@ use Rattle.point.proofs.Laid.{addable, over-one}
 -- the tests in their order
 abbrev chain : Bool → Bool → Bool → Bool → Bool → Bool → ℕ
 chain t u v w x y = pick t (pick (u and v) (pick (w and x) (pick y 0 9) 11) 8) 1
-
-pick-left : (b : Bool) (x y : ℕ) → 0 < y → pick b x y ≡ 0 → b ≡ true
-unfolding pick
-pick-left true x y p e = refl
-pick-left false x y p e = absurd (omega arith)
-
-pick-then : (b : Bool) (x y : ℕ) → 0 < y → pick b x y ≡ 0 → x ≡ 0
-unfolding pick
-pick-then true x y p e = e
-pick-then false x y p e = absurd (omega arith)
 
 module _ (size : ℕ) (a : Point) (bs : List Float) (xs ys : List ℕ) (b : Point) (cs : List Float) (zs ws : List ℕ) where
   abbrev sizeOk : Bool

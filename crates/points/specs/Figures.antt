@@ -15,8 +15,14 @@ pub data Kind : Type 0 where
   explicit : List Float → Kind
 
 -- "1: max_size outside 3 to 160"
+abbrev pub leastSize : ℕ
+leastSize = 3
+
+abbrev pub mostSize : ℕ
+mostSize = 160
+
 abbrev pub sizePasses : ℕ → Bool
-sizePasses size = leb 3 size && leb size 160
+sizePasses size = leb leastSize size && leb size mostSize
 
 -- the configured max_size; no merge of explicit points asks for one
 abbrev pub sizeOf : Kind → ℕ

@@ -1,7 +1,7 @@
 -- The call: its refusals in order, and that an accepted value makes the point that the definition says. Assumes nothing.
 use Prim.Native.Nat.{ℕ, _-_, _^_, _≤_, _<_}
-use mathlib.Core.Path.{_≡_, refl, ap, _∙_}
-use mathlib.Core.Bool.{Bool, true, false}
+use mathlib.Core.Path.{_≡_, ap, _∙_}
+use mathlib.Core.Bool.{true, false}
 use mathlib.Core.List.{List}
 use native.Mathlib.Omega.{arith}
 use lib.Dec.{eqb}
@@ -18,7 +18,7 @@ use Rattle.series.specs.declared.Class.{Class}
 use Rattle.series.specs.Steps.{placed}
 use Rattle.series.specs.Series.{mostCount, agrees, read, classAt, valueOf, Written, Ready, refusalOf, outcome, accepted, recording}
 use Rattle.laws.specs.Pick.{pick, _and_}
-use Rattle.laws.proofs.Bools.{and-left, and-right}
+use Rattle.laws.proofs.Bools.{and-left, and-right, pick-left, pick-then, pick-right}
 use Rattle.floats.specs.Answers.{lesserOf, greaterOf}
 use Rattle.floats.specs.Starts.{zeroFloat}
 use Rattle.points.specs.Values.{classOf}
@@ -67,21 +67,6 @@ module _ (size top : ℕ) (h : Head) (xs ys : List ℕ) (v : Float) where
         none m n e = by-count m n ∙ rw (ne-eqb (h .counts .count) mostCount e)
 
 -- ---- where nothing is refused
-
-pick-left : (b : Bool) (x y : ℕ) → 0 < y → pick b x y ≡ 0 → b ≡ true
-unfolding pick
-pick-left true x y p e = refl
-pick-left false x y p e = absurd (omega arith)
-
-pick-then : (b : Bool) (x y : ℕ) → 0 < y → pick b x y ≡ 0 → x ≡ 0
-unfolding pick
-pick-then true x y p e = e
-pick-then false x y p e = absurd (omega arith)
-
-pick-right : (b : Bool) (x : ℕ) → 0 < x → pick b x 0 ≡ 0 → b ≡ false
-unfolding pick
-pick-right true x p e = absurd (omega arith)
-pick-right false x p e = refl
 
 pub ready : (size top : ℕ) (h : Head) (xs ys : List ℕ) (v : Float) → refusalOf size top h xs ys v ≡ 0 → h .counts .count < 2 ^ 64 → fits binary64 v ≡ true
     → Ready size top (h .counts) xs ys (classAt (binOf v (h .counts .level)))

@@ -1,18 +1,19 @@
 -- Recording the values of a list one by one from the fresh series gives the point of the list. Assumes nothing.
 use Prim.Native.Nat.{ℕ, _+_, _-_, _^_, _≤_, _<_}
 use mathlib.Core.Path.{_≡_, refl, ap, sym, subst, _∙_}
-use mathlib.Core.Bool.{Bool, true, false, cond}
+use mathlib.Core.Bool.{true, false}
 use mathlib.Core.List.{List, [], _∷_, map, foldl}
 use native.Mathlib.Omega.{arith}
-use lib.Dec.{T}
 use lib.ListN.{length}
-use lib.Ieee.{Float, binary64, fits, lt, ofBits}
+use lib.Ieee.{Float, binary64, fits, ofBits}
+use lib.Ieee.Bits.{is-true}
 use lib.Ieee.Scale.{finite}
 use borrow.Author.Tests.{eq-eqb}
 use Rattle.laws.specs.Pick.{pick}
 use Rattle.laws.specs.Lists.{All}
 use Rattle.index.specs.Bins.{finest}
 use Rattle.floats.specs.Starts.{FiniteF64, zeroFloat}
+use Rattle.floats.proofs.Choices.{finite-chosen}
 use Rattle.points.specs.Points.{Point, row, rowOf, Value, naught, plus, minus, one, bag, build, record1, pointOf}
 use Rattle.points.specs.Values.{classOf, countsOf, Summary, start, noted, summaryOf}
 use Rattle.points.proofs.Agreement as PA
@@ -38,10 +39,6 @@ pub record Holds (size top : ℕ) (p : Point) (m : Summary) (s : Series) : Type 
   pub longPos : size ≤ length (s .pos)
   pub longNeg : size ≤ length (s .neg)
 
-cond-finite : (b : Bool) (x y : Float) → finite x ≡ true → finite y ≡ true → finite (cond b x y) ≡ true
-cond-finite true x y p q = p
-cond-finite false x y p q = q
-
 one-total : (v : Value) → one v .total ≡ 1
 one-total naught = refl
 one-total (plus i) = refl
@@ -56,10 +53,6 @@ pub accepted-is : (size top : ℕ) (h : Head) (xs ys : List ℕ) (v : Float) →
     → recording size top h xs ys v ≡ accepted (record1 size (read (h .counts) xs ys) (classOf zeroFloat v)) h xs ys v
 unfolding recording pick
 accepted-is size top h xs ys v e = rw (eq-eqb (refusalOf size top h xs ys v) 0 e)
-
-is-true : (b : Bool) → T b → b ≡ true
-is-true true t = refl
-is-true false t = absurd t
 
 step : (size top : ℕ) (p : Point) (m : Summary) (s : Series) (v : Float) → Holds size top p m s → FiniteF64 v → p .total + 1 < 2 ^ 64
     → Holds size top (record1 size p (classOf zeroFloat v)) (noted m v) (after (recording size top (s .head) (s .pos) (s .neg) v) s)
@@ -81,8 +74,8 @@ step size top p m s v h f n =
       rows = reads size top c xs ys (classOf zeroFloat v) (h .agree) w ∙ e;
       summary = ap (λ m. noted m v) (h .summary);
       agree = stays size top c xs ys (classOf zeroFloat v) (h .agree) w;
-      finMin = cond-finite (lt v (s .head .min)) v (s .head .min) k (h .finMin);
-      finMax = cond-finite (lt (s .head .max) v) v (s .head .max) k (h .finMax);
+      finMin = finite-chosen true (s .head .min) v (h .finMin) k;
+      finMax = finite-chosen false (s .head .max) v (h .finMax) k;
       longPos = omega (arith, h .longPos, length-over (q .pos .counts) xs (omega (arith, ok .pos .short, h .longPos)));
       longNeg = omega (arith, h .longNeg, length-over (q .neg .counts) ys (omega (arith, ok .neg .short, h .longNeg)));
     })

@@ -17,6 +17,7 @@ use Rattle.floats.specs.Starts.{zeroFloat}
 use Rattle.points.specs.Points as P
 use Rattle.points.specs.Points.{Point, Value, naught, plus, minus, record1}
 use Rattle.points.specs.Agreement as A
+pub use Rattle.points.specs.Figures.{leastSize, mostSize}
 use Rattle.points.specs.Values.{classOf}
 use Rattle.rows.specs.Rows.{over}
 use Rattle.rows.specs.declared.Row.{Row}
@@ -56,12 +57,6 @@ countsFor p =
 -- ---- agreement
 
 -- number 1: "max_size outside 3 to 160"
-abbrev pub leastSize : ℕ
-leastSize = 3
-
-abbrev pub mostSize : ℕ
-mostSize = 160
-
 abbrev pub sizePasses : ℕ → Bool
 sizePasses size = leb leastSize size and leb size mostSize
 

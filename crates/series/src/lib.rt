@@ -5,13 +5,12 @@ mod sums;
 ghost use mathlib.Core.Path.{_≡_};
 ghost use Prim.Native.Nat.{_+_, _-_, _*_, _/_, _^_, _<_, _≤_, min, max};
 ghost use lib.ListN.{length, take};
-ghost use Rattle.index.specs.Bins.{finest};
 ghost use Rattle.index.specs.Answers.{binOf};
 ghost use Rattle.laws.specs.Counting.{total};
 ghost use Rattle.series.specs.Steps.{lowered, with1, lowBin, highBin, lowering, placed};
 ghost use Rattle.laws.specs.Pick.{pick};
 ghost use Rattle.series.specs.Runs.{freshHead};
-ghost use Rattle.series.specs.Series.{rowIn, Laid, rowAgrees, addsUp, agrees, classAt, valueOf, lowerBy, rowTo, rowOther, Room, mostCount, oneMore, Ready, Written, read, refusalOf, outcome, recording};
+ghost use Rattle.series.specs.Series.{mostSize, rowIn, Laid, rowAgrees, addsUp, agrees, classAt, valueOf, lowerBy, rowTo, rowOther, Room, mostCount, oneMore, Ready, Written, read, refusalOf, outcome, recording};
 use rows::Row;
 
 pub struct Counts {
@@ -105,7 +104,7 @@ pub struct Halves {
 }
 
 pub fn sum_halves(counts: &[u64], n: usize, from: Halves) -> Halves
-    requires { ⌜ (n ≤ length (now counts)) × (n ≤ 160) ⌝ }
+    requires { ⌜ (n ≤ length (now counts)) × (n ≤ mostSize) ⌝ }
     requires { ⌜ (from .low ≤ 200 * 4294967295) × (from .high ≤ 200 * 4294967295) ⌝ }
     ensures { λ r. ⌜ r .low + r .high * 4294967296 ≡ from .low + from .high * 4294967296 + total (take n (now (counts .entry))) ⌝ }
     ensures { λ r. ⌜ (r .low ≤ from .low + n * 4294967295) × (r .high ≤ from .high + n * 4294967295) ⌝ }
@@ -124,8 +123,8 @@ pub fn sum_halves(counts: &[u64], n: usize, from: Halves) -> Halves
 
 // Whether count is zeros and the counts of both rows, whatever they are.
 fn halves_add_up(c: Counts, pos: &[u64], neg: &[u64]) -> bool
-    requires { ⌜ (c .pos .len ≤ length (now pos)) × (c .pos .len ≤ 160) ⌝ }
-    requires { ⌜ (c .neg .len ≤ length (now neg)) × (c .neg .len ≤ 160) ⌝ }
+    requires { ⌜ (c .pos .len ≤ length (now pos)) × (c .pos .len ≤ mostSize) ⌝ }
+    requires { ⌜ (c .neg .len ≤ length (now neg)) × (c .neg .len ≤ mostSize) ⌝ }
     ensures { λ r. ⌜ r ≡ addsUp c (now (pos .entry)) (now (neg .entry)) ⌝ }
 {
     let p = c.pos;
@@ -146,8 +145,8 @@ fn halves_add_up(c: Counts, pos: &[u64], neg: &[u64]) -> bool
 
 // The same. A number that no count is above and that is below 2^55 leaves 320 counts and zeros below 2^64.
 fn adds_up(c: Counts, pos: &[u64], neg: &[u64]) -> bool
-    requires { ⌜ (c .pos .len ≤ length (now pos)) × (c .pos .len ≤ 160) ⌝ }
-    requires { ⌜ (c .neg .len ≤ length (now neg)) × (c .neg .len ≤ 160) ⌝ }
+    requires { ⌜ (c .pos .len ≤ length (now pos)) × (c .pos .len ≤ mostSize) ⌝ }
+    requires { ⌜ (c .neg .len ≤ length (now neg)) × (c .neg .len ≤ mostSize) ⌝ }
     ensures { λ r. ⌜ r ≡ addsUp c (now (pos .entry)) (now (neg .entry)) ⌝ }
 {
     let p = c.pos;

@@ -3,6 +3,7 @@ ghost use mathlib.Core.Path.{_≡_};
 ghost use Prim.Native.Nat.{_+_, _*_, _%_, _^_, _≤_};
 ghost use lib.ListN.{length, take};
 ghost use Rattle.laws.specs.Counting.{total};
+ghost use Rattle.series.specs.Series.{mostSize};
 
 pub struct Wrapped {
     pub sum: u64,
@@ -11,7 +12,7 @@ pub struct Wrapped {
 
 // The first n counts added to what is there. No test and no carry: two vector instructions for two counts.
 pub fn add_row(counts: &[u64], n: usize, from: Wrapped) -> Wrapped
-    requires { ⌜ (n ≤ length (now counts)) × (n ≤ 160) ⌝ }
+    requires { ⌜ (n ≤ length (now counts)) × (n ≤ mostSize) ⌝ }
     ensures { λ r. ⌜ r .sum ≡ (from .sum + total (take n (now (counts .entry)))) % 2 ^ 64 ⌝ }
     ensures { λ r. ⌜ (from .most ≤ r .most) × (total (take n (now (counts .entry))) ≤ n * r .most) ⌝ }
 {

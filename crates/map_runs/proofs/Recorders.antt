@@ -1,15 +1,12 @@
 -- Any run of recordings, bindings and releases from a fresh start, for a kind that records into its own cells beside the directory: the
 -- code that tally's Demand speaks of. Assumes nothing.
 use Prim.Native.Nat.{ℕ}
-use mathlib.Core.Path.{_≡_, refl, ap, sym, subst, _∙_}
+use mathlib.Core.Path.{_≡_}
 use mathlib.Core.Bool.{true}
-use mathlib.Core.List.{List}
-use Rattle.laws.specs.Tests.{all}
 use Rattle.tally.specs.Sets.{Set}
 use Rattle.tally.specs.Kind.{Kind}
-use Rattle.tally.specs.Map.{Config, Call, measure, measureBy, bind, release, Answer, Out, Map, Agrees, step}
-use Rattle.tally.specs.Demand.{Code, ran}
-use Rattle.tally.proofs.Sound.{Steady, quiet, never-damaged}
+use Rattle.tally.specs.Map.{Config, Call, measure, measureBy, bind, release, Map, step}
+use Rattle.tally.specs.Demand.{Code}
 use Rattle.directory.specs.View.{Stores, view}
 use Rattle.directory.specs.Calls.{Kept, enough, accepts}
 use Rattle.bindings.specs.Calls.{Outcome, bound, released, started}
@@ -18,7 +15,8 @@ use Rattle.bindings.proofs.Releases.{said}
 use Rattle.directory.proofs.Refusals.{within}
 use Rattle.bindings.proofs.Keeps.{bind-steps, release-steps, start-map}
 use Rattle.bindings.proofs.Runs as moves
-use Rattle.bindings.proofs.Runs.{Good, move-good, start-good}
+use Rattle.directory.proofs.Leaves.{Good}
+use Rattle.bindings.proofs.Runs.{move-good, start-good}
 
 -- a state of the map: the directory, and the kind's cells beside it
 pub record Held (Cells : Type 0) : Type 0 where

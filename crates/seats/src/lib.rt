@@ -4,7 +4,7 @@ ghost use mathlib.Core.Path.{_≡_};
 ghost use Prim.Native.Nat.{_+_, _<_, _≤_};
 ghost use lib.ListN.{length};
 ghost use Rattle.sets.specs.Rows.{size};
-ghost use Rattle.seats.specs.Seats.{updatedIn, heldSeat, newSeat, seated, seatedBy, marked, Fits, committed};
+ghost use Rattle.seats.specs.Seats.{updatedIn, away, heldSeat, newSeat, seated, seatedBy, marked, Fits, committed};
 
 // Where a recording goes. no: document 01's number of the refusal, 0 if none; slot: the slot that it goes to; updated: whether that slot
 // holds a series; target: what the directory is to write.
@@ -24,6 +24,18 @@ fn updated(entries: &[[u64; 3]], x: usize) -> bool
         return false;
     }
     true
+}
+
+// Refused with a number: nothing is to be written.
+fn refused(no: u8) -> Seating
+    ensures { λ r. ⌜ r ≡ away no ⌝ }
+{
+    Seating {
+        no: no,
+        slot: 0,
+        updated: false,
+        target: directory::Target::Disagrees,
+    }
 }
 
 // The seat at a slot that is held.
@@ -46,12 +58,7 @@ fn new_seat(d: directory::Directory, target: directory::Target) -> Seating
     ensures { λ r. ⌜ r ≡ newSeat d target ⌝ }
 {
     if d.last >= 18446744073709551615 {
-        return Seating {
-            no: 9,
-            slot: 0,
-            updated: false,
-            target: directory::Target::Disagrees,
-        };
+        return refused(9);
     }
     Seating {
         no: 0,
@@ -75,12 +82,7 @@ pub fn seat(
 {
     let t = directory::find::locate(limit, d, sets, entries, order, row);
     match t {
-        directory::Target::Disagrees => Seating {
-            no: 8,
-            slot: 0,
-            updated: false,
-            target: directory::Target::Disagrees,
-        },
+        directory::Target::Disagrees => refused(8),
         directory::Target::Old(x) => held_seat(entries, x),
         directory::Target::New(r) => new_seat(d, directory::Target::New(r)),
         directory::Target::Over(r) => new_seat(d, directory::Target::Over(r)),
@@ -100,21 +102,11 @@ pub fn seat_by(
     ensures { λ r. ⌜ r ≡ seatedBy limit d (record { sets = now (sets .entry); entries = now (entries .entry); order = now (order .entry) }) h ⌝ }
 {
     if !directory::check::agrees(limit, d, sets, entries, order) {
-        return Seating {
-            no: 8,
-            slot: 0,
-            updated: false,
-            target: directory::Target::Disagrees,
-        };
+        return refused(8);
     }
     let used = d.used;
     match directory::find::by_handle(used, entries, order, h) {
-        directory::Found::Room(_) => Seating {
-            no: 7,
-            slot: 0,
-            updated: false,
-            target: directory::Target::Disagrees,
-        },
+        directory::Found::Room(_) => refused(7),
         directory::Found::Held(x) => held_seat(entries, x),
     }
 }

@@ -40,6 +40,9 @@ locate-requires c κs = search needs
 enum-told : tie.Need-enum-told
 enum-told c = search needs
 
+refused-requires : tie.Need-refused-requires
+refused-requires c κs = search needs
+
 enum-known-t : tie.Need-enum-known-t
 enum-known-t c = search needs
 
@@ -71,9 +74,9 @@ new-seat-requires-2 c κs =
 
 returns : tie.Need-returns
 returns c =
-    let l = c .before .before in
+    let l = c .before .before .before in
     let s = start l in
-    sym (seat-is (s .args .limit) (s .args .d) (stores s) (s .args .row .now) Disagrees (sym (l .locate .ensures) ∙ c .enum-told .given .1))
+    c .refused .ensures ∙ sym (seat-is (s .args .limit) (s .args .d) (stores s) (s .args .row .now) Disagrees (sym (l .locate .ensures) ∙ c .before .enum-told .given .1))
 
 returns-2 : tie.Need-returns-2
 returns-2 c =
@@ -99,6 +102,7 @@ seat-spec =
     (tie.spec
     locate-requires
     enum-told
+    refused-requires
     enum-known-t
     held-seat-requires
     enum-known-t-2

@@ -35,8 +35,14 @@ found x = sym (x .before .before .by-handle .ensures) ∙ x .x .given .1
 agrees-requires : tie.Need-agrees-requires
 agrees-requires c κs = search needs
 
+refused-requires : tie.Need-refused-requires
+refused-requires c κs = search needs
+
 returns : tie.Need-returns
-returns c = let s = c .before .before .before in sym (by-no (s .args .limit) (s .args .d) (stores s) (s .args .h) (sym (c .before .agrees .ensures) ∙ not-true _ (c .if1 .taken)))
+returns c =
+    let b = c .before in
+    let s = b .before .before .before in
+    c .refused .ensures ∙ sym (by-no (s .args .limit) (s .args .d) (stores s) (s .args .h) (sym (b .before .agrees .ensures) ∙ not-true _ (b .if1 .taken)))
 
 by-handle-requires : tie.Need-by-handle-requires
 by-handle-requires c κs =
@@ -45,6 +51,9 @@ by-handle-requires c κs =
 
 enum-told : tie.Need-enum-told
 enum-told c = search needs
+
+refused-requires-2 : tie.Need-refused-requires-2
+refused-requires-2 c κs = search needs
 
 enum-known-x : tie.Need-enum-known-x
 enum-known-x c = search needs
@@ -57,9 +66,9 @@ held-seat-requires c κs =
 
 returns-2 : tie.Need-returns-2
 returns-2 c =
-    let b = c .before .before in
+    let b = c .before .before .before in
     let s = start (b .before) in
-    sym (by-is (s .args .limit) (s .args .d) (stores s) (s .args .h) (right (b .before)) _ (sym (b .by-handle .ensures) ∙ c .enum-told .given .1))
+    c .refused2 .ensures ∙ sym (by-is (s .args .limit) (s .args .d) (stores s) (s .args .h) (right (b .before)) _ (sym (b .by-handle .ensures) ∙ c .before .enum-told .given .1))
 
 returns-3 : tie.Need-returns-3
 returns-3 c =
@@ -72,9 +81,11 @@ seat-by-spec =
     tie.close
     (tie.spec
     agrees-requires
+    refused-requires
     returns
     by-handle-requires
     enum-told
+    refused-requires-2
     enum-known-x
     held-seat-requires
     returns-2

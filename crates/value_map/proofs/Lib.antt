@@ -2,3 +2,4 @@
 pub mod Bars
 pub mod ExponentialCases
 pub mod ExponentialSteps
+pub mod Quiet

@@ -1,5 +1,6 @@
 -- The laws.
 pub mod Bars
+pub mod Quiet
 pub mod ExponentialCases
 pub mod ExponentialSteps
-pub mod Quiet
+pub mod ExponentialRuns

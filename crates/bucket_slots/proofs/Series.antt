@@ -12,11 +12,10 @@ use lib.Seq.{getD-set-same, getD-set-other}
 use lib.Ieee.{Float, nan}
 use lib.Ieee.Scale.{finite}
 use borrow.Author.Tests.{le-leb, eq-eqb, ne-eqb, ltb-true, ltb-false}
-use borrow.Rule.Slice.PartMut.{mid-len, same-len-mid}
 use Rattle.laws.specs.Pick.{pick, _and_}
 use Rattle.laws.proofs.Bools.{flag, not-both, pick-true, pick-false}
+use Rattle.parts.proofs.Laws.{part-length, put-length, put-own, put-other}
 use Rattle.rows.specs.Rows.{over}
-use Rattle.rows.proofs.Algebra.{le-or-lt}
 use Rattle.rows.proofs.Laws.{length-over}
 use Rattle.points.specs.Explicit.{bucketCount, boundsPass, recordBucket, bucketsAgree}
 use Rattle.points.specs.Values.{noted}
@@ -30,24 +29,14 @@ use Rattle.buckets.specs.Series.{mostCount, bucketsIn, headOf, summary, freshHe
 use Rattle.buckets.proofs.Cases.{refuse, disagrees}
 use Rattle.buckets.proofs.Writes.{refused-law}
 use Rattle.buckets.proofs.Listed.{accepted-is, fresh-is, reads, stays-long}
-use Rattle.bucket_slots.specs.Slots.{Stores, Recording, rowAt, headAt, seriesAt, entering, written, recordedAt}
+use Rattle.bucket_slots.specs.Slots.{Stores, Room, Recording, rowAt, headAt, seriesAt, entering, written, recordedAt}
 use Rattle.bucket_slots.proofs.Enters.{zeros, begun-taken, enters-held, enters-bad, enters-first, call}
-use Rattle.bucket_slots.proofs.Parts.{rows-apart, part-same, part-before, part-behind}
-
--- slot x lies in the stores
-pub record Room (bounds : List Float) (s : Stores) (x : ℕ) : Type 0 where
-  pub totals : x < length (s .totals)
-  pub extremes : x < length (s .extremes)
-  pub counts : x * bucketCount bounds + bucketCount bounds ≤ length (s .counts)
 
 -- stores as long as they were
 pub record Long (s after : Stores) : Type 0 where
   pub totals : length (after .totals) ≡ length (s .totals)
   pub extremes : length (after .extremes) ≡ length (s .extremes)
   pub counts : length (after .counts) ≡ length (s .counts)
-
-later : (x y : ℕ) → x < suc y → y ≢ x → x < y
-later x y q d = omega (arith, q, d)
 
 -- ---- a slot's cells written
 
@@ -59,20 +48,17 @@ module _ (bounds : List Float) (s : Stores) (x : ℕ) (r : Room bounds s x) wher
   row = rowAt bounds (s .counts) x
 
   long : length row ≡ n
-  long = mid-len (x * n) (x * n + n) (s .counts) (r .counts) ∙ (let e : x * n + n - x * n ≡ n = omega arith in e)
+  long = part-length n (s .counts) x (r .counts)
 
   module _ (h : Head) (ys : List ℕ) (l : length ys ≡ n) where
     abbrev after : Stores
     after = written bounds x s (Recorded h) ys .stores
 
-    fills : length ys ≡ x * n + n - x * n
-    fills = omega (arith, l)
-
     at-slot : seriesAt bounds after x ≡ record { counts = bucketed bounds (bucketsIn bounds (h .count) ys); summary = summary h }
     at-slot =
         let a = getD-set-same (s .totals) x (h .count) 0 (r .totals) in
         let b = getD-set-same (s .extremes) x (h .min ∷ h .max ∷ h .sum ∷ []) [] (r .extremes) in
-        let c = part-same (s .counts) ys (x * n) (x * n + n) (omega arith) (r .counts) fills in
+        let c = put-own n (s .counts) x (r .counts) ys l in
         λ j. record {
           counts = bucketed bounds (bucketsIn bounds (a j) (c j));
           summary = record { min = getD (b j) 0 nan; max = getD (b j) 1 nan; sum = getD (b j) 2 nan };
@@ -82,13 +68,7 @@ module _ (bounds : List Float) (s : Stores) (x : ℕ) (r : Room bounds s x) wher
     beside y d =
         let a = getD-set-other (s .totals) x y (h .count) 0 d in
         let b = getD-set-other (s .extremes) x y (h .min ∷ h .max ∷ h .sum ∷ []) [] d in
-        let after-it : x < suc y → x < y = λ q. later x y q d in
-        let c : rowAt bounds (after .counts) y ≡ rowAt bounds (s .counts) y =
-        ⊎-elim
-        (λ (q : suc y ≤ x). part-before (s .counts) ys (x * n) (x * n + n) (omega arith) (r .counts) fills (y * n) (y * n + n) (omega arith) (rows-apart y x n q))
-        (λ (q : x < suc y). part-behind (s .counts) ys (x * n) (x * n + n) (omega arith) (r .counts) fills (y * n) (y * n + n) (rows-apart x y n (after-it q)))
-        (le-or-lt (suc y) x)
-        in
+        let c = put-other n (s .counts) x (r .counts) ys l y d in
         λ j. record {
           counts = bucketed bounds (bucketsIn bounds (a j) (c j));
           summary = record { min = getD (b j) 0 nan; max = getD (b j) 1 nan; sum = getD (b j) 2 nan };
@@ -99,7 +79,7 @@ module _ (bounds : List Float) (s : Stores) (x : ℕ) (r : Room bounds s x) wher
         record {
           totals = length-set (s .totals) x (h .count);
           extremes = length-set (s .extremes) x (h .min ∷ h .max ∷ h .sum ∷ []);
-          counts = same-len-mid (x * n) (x * n + n - x * n) (s .counts) ys (l ∙ sym long);
+          counts = put-length n (s .counts) x (r .counts) ys l;
         }
 
 -- ---- refusals

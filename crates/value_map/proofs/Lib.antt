@@ -1,2 +1,3 @@
 -- The laws of the map.
+pub mod Bars
 pub mod ExplicitCases

@@ -1,7 +1,7 @@
 -- Any run of bindings and releases from a fresh start: numbers 8 and 12 never come up, and birth numbers keep their sets.
 -- Assumes nothing.
-use Prim.Native.Nat.{ℕ, zero, suc, _+_, _-_, _^_, _≤_, _<_}
-use mathlib.Core.Path.{_≡_, refl, ap, sym, subst, _∙_}
+use Prim.Native.Nat.{ℕ, _+_, _-_, _^_, _<_}
+use mathlib.Core.Path.{_≡_, refl, sym, subst, _∙_}
 use mathlib.Core.Bool.{true}
 use mathlib.Core.List.{List, [], _∷_}
 use mathlib.Core.Option.{Option}
@@ -9,88 +9,38 @@ use native.Mathlib.Omega.{arith}
 use borrow.Author.Tests.{le-leb, leb-false}
 use lib.Dec.{leb}
 use lib.ListN.{length, getD, set, length-set}
-use lib.Seq.{getD-set-other}
 use Rattle.laws.proofs.Cases.{true-not-false, and-true}
 use Rattle.tally.specs.Sets.{Set, canonical}
-use Rattle.sets.specs.Rows.{setOf, rowOf}
+use Rattle.sets.specs.Rows.{rowOf}
 use Rattle.sets.specs.Sorted.{mostAttributes}
 use Rattle.sets.proofs.Exact.{Small}
-use Rattle.sets.proofs.Spans.{length-inserted}
-use Rattle.directory.specs.Calls.{Kept, overRow, located, admitted, boundTo, scan, mostSets, accepts, fewKeys, enough}
-use Rattle.directory.specs.View.{Stores, setAt, birthAt, agreesb}
+use Rattle.directory.specs.Calls.{Kept, overRow, located, scan, mostSets, accepts, fewKeys, enough}
+use Rattle.directory.specs.View.{Stores, agreesb}
 use Rattle.directory.specs.declared.Directory.{Directory}
 use Rattle.directory.specs.declared.Found.{Found}
 use Rattle.directory.specs.declared.Found.the-variants.{Held, Room}
 use Rattle.directory.specs.declared.Target.{Target}
 use Rattle.directory.specs.declared.Target.the-variants.{Disagrees, Old, New, Over}
-use Rattle.directory.proofs.Laid.{birth-kept, entered, old-birth, new-birth}
 use Rattle.directory.proofs.Laws.{slotsOf, few, slot-used, scan-in}
+use Rattle.directory.proofs.Leaves as lv
+use Rattle.directory.proofs.Leaves.{same-leaves, rebind-leaves, admit-leaves, Good, lasts}
 use Rattle.directory.proofs.Located.{told, old-there, new-there, over-there}
 use Rattle.directory.proofs.Refusals.{Suffice, suffices}
 use Rattle.bindings.specs.Calls.{Outcome, number, refused, releasedAt, releasedIn, boundAt, boundIn, started, bound, released}
 use Rattle.bindings.specs.declared.Answer.{Answer}
-use Rattle.bindings.specs.declared.Answer.the-variants.{Refused, Done, Handle}
-use Rattle.bindings.proofs.Keeps.{either, AgreesIn, bind-keeps, release-keeps, start-keeps, start-is}
+use Rattle.bindings.proofs.Keeps.{either, bind-keeps, release-keeps, start-keeps, start-is}
 
 -- neither 8 nor 12
 abbrev pub Quiet : Answer → Type 0
 Quiet a = (number a ≡ 8 → ⊥) × (number a ≡ 12 → ⊥)
 
--- what an outcome leaves: the stores as long, each slot its set and its birth number; a new slot has a number that was not spent
-pub record Leaves (d : Directory) (s : Stores) (o : Outcome) : Type 0 where
-  pub quiet : Quiet (o .answer)
-  pub sets : length (o .kept .stores .sets) ≡ length (s .sets)
-  pub entries : length (o .kept .stores .entries) ≡ length (s .entries)
-  pub order : length (o .kept .stores .order) ≡ length (s .order)
-  pub last : o .kept .dir .last < 2 ^ 64
-  pub own : (x : ℕ) → x ≤ d .used → setAt (o .kept .stores .sets) x ≡ setAt (s .sets) x
-  pub birth : (x : ℕ) → x ≤ d .used → birthAt (o .kept .stores .entries) x ≡ birthAt (s .entries) x
-  pub newborn : (x : ℕ) → d .used < x → x ≤ o .kept .dir .used → d .last < birthAt (o .kept .stores .entries) x
-
-long-bound : (entries : List (List ℕ)) (x n : ℕ) → length (boundTo entries x n) ≡ length entries
-unfolding boundTo
-long-bound entries x n = length-set entries x _
+-- what an outcome leaves: one of these numbers it is not, and the directory as directory's `Leaves` says
+abbrev pub Leaves : Directory → Stores → Outcome → Type 0
+Leaves d s o = Quiet (o .answer) × lv.Leaves d s (o .kept)
 
 module _ (d : Directory) (s : Stores) (small : d .last < 2 ^ 64) where
-  same-leaves : (a : Answer) → Quiet a → Leaves d s (record { answer = a; kept = record { dir = d; stores = s } })
-  same-leaves a q =
-      record { quiet = q; sets = refl; entries = refl; order = refl; last = small; own = λ x h. refl; birth = λ x h. refl; newborn = λ x h k. absurd (omega arith) }
-
   other-number : (n : ℕ) → (n ≡ 8 → ⊥) → (n ≡ 12 → ⊥) → Leaves d s (refused n d s)
-  other-number n p q = same-leaves (Refused n) (p, q)
-
-  rebind-leaves : (a : Answer) → Quiet a → (x n : ℕ) → x < length (s .entries)
-      → Leaves d s (record { answer = a; kept = record { dir = d; stores = record { sets = s .sets; entries = boundTo (s .entries) x n; order = s .order } } })
-  rebind-leaves a q x n h =
-      record {
-        quiet = q;
-        sets = refl;
-        entries = long-bound (s .entries) x n;
-        order = refl;
-        last = small;
-        own = λ y k. refl;
-        birth = λ y k. birth-kept (s .entries) x n y h;
-        newborn = λ y k l. absurd (omega arith);
-      }
-
-  module _ (row : List ℕ) (r more b : ℕ) (ls : d .used + 1 < length (s .sets)) (le : d .used + 1 < length (s .entries)) (lo : d .used < length (s .order)) (rank : r ≤ d .used) (room : d .last < 18446744073709551615) where
-    old-set : (x : ℕ) → x ≤ d .used → setAt (set (s .sets) (d .used + 1) row) x ≡ setAt (s .sets) x
-    old-set zero h = refl
-    old-set (suc x) h = ap setOf (getD-set-other (s .sets) (d .used + 1) (suc x) row [] (λ e. omega arith))
-
-    admit-leaves : (k : ℕ) → Leaves d s (record { answer = Handle k; kept = admitted d s row r more b })
-    unfolding admitted
-    admit-leaves k =
-        record {
-          quiet = ((λ e. absurd (omega arith)), (λ e. absurd (omega arith)));
-          sets = length-set (s .sets) (d .used + 1) row;
-          entries = length-set (s .entries) (d .used + 1) ((d .last + 1) ∷ b ∷ 0 ∷ []);
-          order = length-inserted (s .order) (d .used) r (d .used + 1) rank lo;
-          last = omega arith;
-          own = old-set;
-          birth = old-birth d s b;
-          newborn = λ x h l. let e : d .used + 1 ≡ x = omega arith in subst (λ (y : ℕ). d .last < birthAt (entered d s b) y) e (omega (arith, new-birth d s b le));
-        }
+  other-number n p q = ((p, q), same-leaves d s small)
 
 -- binding and releasing, where the directory agrees
 module _ (limit : ℕ) (d : Directory) (s : Stores) (g : agreesb limit d s ≡ true) (small : d .last < 2 ^ 64) (e : Suffice limit s) where
@@ -98,28 +48,23 @@ module _ (limit : ℕ) (d : Directory) (s : Stores) (g : agreesb limit d s ≡ t
   bound-leaves row Disagrees p = true-not-false (sym g ∙ told limit d s row Disagrees p)
   bound-leaves row (Old x) p =
       either (Leaves d s) (leb 18446744073709551615 (getD (getD (s .entries) x []) 1 0)) _ _ (λ b. other-number d s small 9 (λ q. omega arith) (λ q. omega arith))
-      (λ b. rebind-leaves d s small (Handle (birthAt (s .entries) x)) ((λ q. omega arith), (λ q. omega arith)) x (getD (getD (s .entries) x []) 1 0 + 1) (old-there limit d s row x p (e .entries)))
+      (λ b. (((λ q. omega arith), (λ q. omega arith)), rebind-leaves d s small x (getD (getD (s .entries) x []) 1 0 + 1) (old-there limit d s row x p (e .entries))))
   bound-leaves row (New r) p =
       let n = new-there limit d s row r p in
       either (Leaves d s) (leb 18446744073709551615 (d .last)) _ _ (λ b. other-number d s small 9 (λ q. omega arith) (λ q. omega arith))
-      (λ b. admit-leaves d s small row r 1 1 (omega (arith, n .1, e .sets)) (omega (arith, n .1, e .entries)) (omega (arith, n .1, e .order)) (n .0) (leb-false 18446744073709551615 (d .last) b) (d .last + 1))
+      (λ b. (((λ q. omega arith), (λ q. omega arith)), admit-leaves d s row r 1 1 (omega (arith, n .1, e .sets)) (omega (arith, n .1, e .entries)) (omega (arith, n .1, e .order)) (n .0) (leb-false 18446744073709551615 (d .last) b)))
   bound-leaves row (Over r) p =
       let n = over-there limit d s row r p in
       either (Leaves d s) (leb 18446744073709551615 (d .last)) _ _ (λ b. other-number d s small 9 (λ q. omega arith) (λ q. omega arith))
-      (λ b. admit-leaves d s small overRow r 0 1 (omega (arith, n .1, e .sets)) (omega (arith, n .1, e .entries)) (omega (arith, n .1, e .order)) (n .0) (leb-false 18446744073709551615 (d .last) b) (d .last + 1))
+      (λ b. (((λ q. omega arith), (λ q. omega arith)), admit-leaves d s overRow r 0 1 (omega (arith, n .1, e .sets)) (omega (arith, n .1, e .entries)) (omega (arith, n .1, e .order)) (n .0) (leb-false 18446744073709551615 (d .last) b)))
 
   freed-leaves : (h : ℕ) (o : Found) → scan h (s .entries) (slotsOf d s) ≡ o → Leaves d s (releasedAt d s o)
   freed-leaves h (Room r) p = other-number d s small 7 (λ q. omega arith) (λ q. omega arith)
   freed-leaves h (Held x) p =
       let u = slot-used limit d s g x (scan-in h (s .entries) x (slotsOf d s) p) in
-      rebind-leaves d s small Done ((λ q. omega arith), (λ q. omega arith)) x (getD (getD (s .entries) x []) 1 0 - 1) (omega (arith, few limit d s g, e .entries))
+      (((λ q. omega arith), (λ q. omega arith)), rebind-leaves d s small x (getD (getD (s .entries) x []) 1 0 - 1) (omega (arith, few limit d s g, e .entries)))
 
--- a state that a run comes by
-pub record Good (limit : ℕ) (k : Kept) : Type 0 where
-  pub agrees : agreesb limit (k .dir) (k .stores) ≡ true
-  pub lent : enough limit (k .stores) ≡ true
-  pub last : k .dir .last < 2 ^ 64
-
+-- in a state that a run comes by
 module _ (limit : ℕ) (filter : Option (List ℕ)) (a : accepts limit filter ≡ true) (k : Kept) (g : Good limit k) where
   pub bind-leaves : (attrs : Set) → Leaves (k .dir) (k .stores) (bound limit filter (k .dir) (k .stores) attrs)
   unfolding bound boundIn
@@ -154,24 +99,15 @@ module _ (limit : ℕ) (filter : Option (List ℕ)) where
   made k (releasing h) = released limit (k .dir) (k .stores) h
 
   module _ (a : accepts limit filter ≡ true) where
-    lasts : (k : Kept) → Good limit k → (o : Outcome) → Leaves (k .dir) (k .stores) o → AgreesIn limit o → Good limit (o .kept)
-    lasts k g o l b =
-        let r = suffices limit (k .stores) (g .lent) in
-        record {
-          agrees = b;
-          lent = rw (le-leb (limit + 2) (length (o .kept .stores .sets)) (omega (arith, l .sets, r .sets)), le-leb (limit + 2) (length (o .kept .stores .entries)) (omega (arith, l .entries, r .entries)), le-leb (limit + 2) (length (o .kept .stores .order)) (omega (arith, l .order, r .order)));
-          last = l .last;
-        }
-
     pub move-leaves : (k : Kept) → Good limit k → (x : Move) → Leaves (k .dir) (k .stores) (made k x)
     move-leaves k g (binding attrs small) = bind-leaves limit filter a k g attrs
     move-leaves k g (releasing h) = release-leaves limit filter a k g h
 
     pub move-good : (k : Kept) → Good limit k → (x : Move) → Good limit (made k x .kept)
     move-good k g (binding attrs small) =
-        lasts k g (made k (binding attrs small)) (move-leaves k g (binding attrs small)) (bind-keeps limit (k .dir) (k .stores) (g .agrees) filter attrs small (g .last))
+        lasts limit k g (made k (binding attrs small) .kept) (move-leaves k g (binding attrs small) .1) (bind-keeps limit (k .dir) (k .stores) (g .agrees) filter attrs small (g .last))
     move-good k g (releasing h) =
-        lasts k g (made k (releasing h)) (move-leaves k g (releasing h)) (release-keeps limit (k .dir) (k .stores) (g .agrees) h)
+        lasts limit k g (made k (releasing h) .kept) (move-leaves k g (releasing h) .1) (release-keeps limit (k .dir) (k .stores) (g .agrees) h)
 
     -- each call of a run, given the state and the stores as the last one left them
     abbrev pub AllQuiet : Kept → List Move → Type 0
@@ -180,7 +116,7 @@ module _ (limit : ℕ) (filter : Option (List ℕ)) where
 
     run-quiet : (k : Kept) → Good limit k → (xs : List Move) → AllQuiet k xs
     run-quiet k g [] = tt
-    run-quiet k g (x ∷ xs) = (move-leaves k g x .quiet, run-quiet (made k x .kept) (move-good k g x) xs)
+    run-quiet k g (x ∷ xs) = (move-leaves k g x .0, run-quiet (made k x .kept) (move-good k g x) xs)
 
     pub never-8 : (s : Stores) → enough limit s ≡ true → (xs : List Move) → AllQuiet (started limit filter s .kept) xs
     never-8 s e xs = run-quiet (started limit filter s .kept) (first s e) xs

@@ -132,28 +132,34 @@ module _ (K : Kind) (f : ℕ → K .Series) (z : K .Settings) (c : Config K) (d 
       let p : allb (d .used) (placeAt (s .sets) (s .order) (d .used)) ≡ true = allb-yes (placeAt (s .sets) (s .order) (d .used)) (d .used) place-ok in
       rw (le-leb (d .used) (c .limit + 1) used-few, slots-ok, p, counts-ok)
 
--- other bindings leave the layout
-pub birth-kept : (entries : List (List ℕ)) (x n y : ℕ) → x < length entries → birthAt (boundTo entries x n) y ≡ birthAt entries y
-unfolding boundTo
-birth-kept entries x n zero h = refl
-birth-kept entries x n (suc y) h = go (eqb (suc y) x) refl
+-- another row in a slot, with its birth number, leaves them all
+pub birth-set : (entries : List (List ℕ)) (x y : ℕ) (new : List ℕ) → x < length entries → getD new 0 0 ≡ getD (getD entries x []) 0 0
+    → birthAt (set entries x new) y ≡ birthAt entries y
+birth-set entries x zero new h b = refl
+birth-set entries x (suc y) new h b = go (eqb (suc y) x) refl
   where
-    new : List ℕ
-    new = getD (getD entries x []) 0 0 ∷ n ∷ getD (getD entries x []) 2 0 ∷ []
-
-    go : (b : Bool) → eqb (suc y) x ≡ b → getD (getD (set entries x new) (suc y) []) 0 0 ≡ getD (getD entries (suc y) []) 0 0
-    go true e = let q : suc y ≡ x = eqb-true (suc y) x e in subst (λ (i : ℕ). getD (getD (set entries x new) i []) 0 0 ≡ getD (getD entries i []) 0 0) (sym q) (ap (λ r. getD r 0 0) (getD-set-same entries x new [] h))
+    go : (t : Bool) → eqb (suc y) x ≡ t → getD (getD (set entries x new) (suc y) []) 0 0 ≡ getD (getD entries (suc y) []) 0 0
+    go true e = let q : suc y ≡ x = eqb-true (suc y) x e in subst (λ (i : ℕ). getD (getD (set entries x new) i []) 0 0 ≡ getD (getD entries i []) 0 0) (sym q) (ap (λ r. getD r 0 0) (getD-set-same entries x new [] h) ∙ b)
     go false e = ap (λ r. getD r 0 0) (getD-set-other entries x (suc y) new [] (eqb-false (suc y) x e))
 
-pub laid-rebind : (d : Directory) (s : Stores) (x n : ℕ) → x < length (s .entries) → Laid d s → Laid d (record { sets = s .sets; entries = boundTo (s .entries) x n; order = s .order })
-laid-rebind d s x n h a =
-    let k : ((y : ℕ) → birthAt (boundTo (s .entries) x n) y ≡ birthAt (s .entries) y) = λ y. birth-kept (s .entries) x n y h in
+-- and where they stay, the layout does
+pub laid-births : (d : Directory) (s : Stores) (entries : List (List ℕ)) → ((y : ℕ) → birthAt entries y ≡ birthAt (s .entries) y) → Laid d s
+    → Laid d (record { sets = s .sets; entries = entries; order = s .order })
+laid-births d s entries k a =
     record {
       sound = a .sound;
       birth = λ y u. rw (k y, k (y + 1)) (a .birth y u);
       last = rw (k (d .used)) (a .last);
       slots = a .slots;
     }
+
+-- other bindings
+pub birth-kept : (entries : List (List ℕ)) (x n y : ℕ) → x < length entries → birthAt (boundTo entries x n) y ≡ birthAt entries y
+unfolding boundTo
+birth-kept entries x n y h = birth-set entries x y (getD (getD entries x []) 0 0 ∷ n ∷ getD (getD entries x []) 2 0 ∷ []) h refl
+
+pub laid-rebind : (d : Directory) (s : Stores) (x n : ℕ) → x < length (s .entries) → Laid d s → Laid d (record { sets = s .sets; entries = boundTo (s .entries) x n; order = s .order })
+laid-rebind d s x n h a = laid-births d s (boundTo (s .entries) x n) (λ y. birth-kept (s .entries) x n y h) a
 
 -- a new entry extends it
 in-span : (l : List ℕ) (i n k : ℕ) → k < n → In (getD l (i + k) 0) (span l i n)

@@ -80,6 +80,32 @@ pub above-in : (g : ℕ → Set) (s : Set) (l : List ℕ) (x : ℕ) → Above s 
 above-in g s [] x a m = absurd m
 above-in g s (y ∷ l) x a m = ⊎-elim (λ e. rw e (a .0)) (λ n. above-in g s l x (a .1) n) m
 
+-- entries E of slots that ascend by set g, and F that differ from them in slot x alone, where the set is the same: the new one put
+module _ (K : Kind) (g : ℕ → Set) (E F : ℕ → Entry K) (own : (y : ℕ) → E y .set ≡ g y) (x : ℕ) (same : F x .set ≡ g x) where
+  abbrev Off : List ℕ → Type 0
+  Off l = (y : ℕ) → In y l → (y ≡ x → ⊥) → F y ≡ E y
+
+  keep-map : (l : List ℕ) → Off l → (In x l → ⊥) → map F l ≡ map E l
+  keep-map [] o h = refl
+  keep-map (y ∷ l) o h = rw (o y (inl refl) (λ e. h (inl (sym e))), keep-map l (λ z m. o z (inr m)) (λ m. h (inr m)))
+
+  pub put-at : (l : List ℕ) → Off l → Rising (map g l) → In x l → map F l ≡ put K (F x) (map E l)
+  put-at [] o r m = absurd m
+  put-at (y ∷ l) o r m = ⊎-elim here (there (λ i. put-at l (λ z n. o z (inr n)) (r .1) i)) m
+    where
+      self : (z : ℕ) → z ≡ y → In z l → ⊥
+      self z e i = lt-not-eq (sym (above-in g (g y) l z (r .0) i) ∙ rw e (cmp-self (g y)))
+
+      here : x ≡ y → map F (y ∷ l) ≡ put K (F x) (map E (y ∷ l))
+      here e =
+          let c : cmp (F x .set) (E y .set) ≡ Ordering·eq = ap (λ w. cmp w (E y .set)) (same ∙ ap g e) ∙ ap (cmp (g y)) (own y) ∙ cmp-self (g y) in
+          rw (c, keep-map l (λ z m. o z (inr m)) (self x e)) (ap (λ t. F t ∷ map E l) (sym e))
+
+      there : (In x l → map F l ≡ put K (F x) (map E l)) → In x l → map F (y ∷ l) ≡ put K (F x) (map E (y ∷ l))
+      there k i =
+          let c : cmp (F x .set) (E y .set) ≡ Ordering·gt = ap (λ w. cmp w (E y .set)) same ∙ ap (cmp (g x)) (own y) ∙ lt-gt (g y) (g x) (above-in g (g y) l x (r .0) i) in
+          rw (c, o y (inl refl) (λ e. self x (sym e) i)) (ap (λ t. E y ∷ t) (k i))
+
 module _ (K : Kind) (f : ℕ → K .Series) (s : Stores) (x n : ℕ) where
   abbrev s′ : Stores
   s′ = record { sets = s .sets; entries = boundTo (s .entries) x n; order = s .order }
@@ -95,28 +121,11 @@ module _ (K : Kind) (f : ℕ → K .Series) (s : Stores) (x n : ℕ) where
   rebind-same zero e h = rw (← e, getD-set-same (s .entries) zero (getD (getD (s .entries) zero []) 0 0 ∷ n ∷ getD (getD (s .entries) zero []) 2 0 ∷ []) [] (rw (← e) at h))
   rebind-same (suc y) e h = rw (← e, getD-set-same (s .entries) (suc y) (getD (getD (s .entries) (suc y) []) 0 0 ∷ n ∷ getD (getD (s .entries) (suc y) []) 2 0 ∷ []) [] (rw (← e) at h))
 
-  keep-map : (l : List ℕ) → (In x l → ⊥) → map (entryAt K f s′) l ≡ map (entryAt K f s) l
-  keep-map [] h = refl
-  keep-map (y ∷ l) h = rw (rebind-other y (λ e. h (inl (sym e))), keep-map l (λ m. h (inr m)))
-
   -- changing the bindings of a slot that is held is putting its entry
   pub rebind-put : (l : List ℕ) → Rising (map (setAt (s .sets)) l) → In x l → x < length (s .entries) → map (entryAt K f s′) l ≡ put K (rebound K (entryAt K f s x) n) (map (entryAt K f s) l)
-  rebind-put [] g m h = absurd m
-  rebind-put (y ∷ l) g m h = ⊎-elim here (there (λ i. rebind-put l (g .1) i h)) m
-    where
-      self : (z : ℕ) → z ≡ y → In z l → ⊥
-      self z e i = lt-not-eq (sym (above-in (setAt (s .sets)) (setAt (s .sets) y) l z (g .0) i) ∙ rw e (cmp-self (setAt (s .sets) y)))
-
-      here : x ≡ y → map (entryAt K f s′) (y ∷ l) ≡ put K (rebound K (entryAt K f s x) n) (map (entryAt K f s) (y ∷ l))
-      here e =
-          let c : cmp (setAt (s .sets) x) (setAt (s .sets) y) ≡ Ordering·eq = rw e (cmp-self (setAt (s .sets) y)) in
-          let p : rebound K (entryAt K f s y) n ≡ rebound K (entryAt K f s x) n = ap (λ k. rebound K (entryAt K f s k) n) (sym e) in
-          rw (c, rebind-same y (sym e) h, keep-map l (self x e)) (ap (λ r. r ∷ map (entryAt K f s) l) p)
-
-      there : (In x l → map (entryAt K f s′) l ≡ put K (rebound K (entryAt K f s x) n) (map (entryAt K f s) l)) → In x l → map (entryAt K f s′) (y ∷ l) ≡ put K (rebound K (entryAt K f s x) n) (map (entryAt K f s) (y ∷ l))
-      there k i =
-          let c : cmp (setAt (s .sets) x) (setAt (s .sets) y) ≡ Ordering·gt = lt-gt (setAt (s .sets) y) (setAt (s .sets) x) (above-in (setAt (s .sets)) (setAt (s .sets) y) l x (g .0) i) in
-          rw (c, rebind-other y (λ e. self x (sym e) i)) (ap (λ r. entryAt K f s y ∷ r) (k i))
+  rebind-put l g m h =
+      put-at K (setAt (s .sets)) (entryAt K f s) (entryAt K f s′) (λ y. refl) x refl l (λ y i q. rebind-other y q) g m
+      ∙ ap (λ e. put K e (map (entryAt K f s) l)) (rebind-same x refl h)
 
 -- the scan for a handle
 module _ (K : Kind) (f : ℕ → K .Series) (s : Stores) (h : ℕ) where

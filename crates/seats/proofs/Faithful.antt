@@ -12,7 +12,7 @@ use lib.ListN.{length}
 use Rattle.laws.proofs.Cases.{true-not-false}
 use Rattle.tally.specs.Sets.{Set, overflow, canonical}
 use Rattle.tally.specs.Kind.{Kind, unless, firstOf}
-use Rattle.tally.specs.Map.{Config, fits, Entry, Map, new, Place, held, place, sound, recorded, write, unfit, orRefused, measureAt, named, byHandle, Out, measure, measureBy, refuse, done, act}
+use Rattle.tally.specs.Map.{Config, fits, Entry, Map, new, Place, held, place, sound, recorded, write, unfit, orRefused, measureAt, named, measure, measureBy, refuse, done, act}
 use Rattle.sets.specs.Rows.{setOf}
 use Rattle.directory.specs.View.{Stores, agreesb, entryAt, view}
 use Rattle.directory.specs.Calls.{Kept, located, scan}
@@ -23,7 +23,7 @@ use Rattle.directory.specs.declared.Target.{Target}
 use Rattle.directory.specs.declared.Target.the-variants.{Disagrees, Old, New, Over}
 use Rattle.directory.proofs.Laws.{slotsOf, named-scan, scan-in}
 use Rattle.directory.proofs.Located.{Facts, facts}
-use Rattle.seats.specs.Seats.{away, heldSeat, newSeat, seatAt, seated, seatBy, seatedBy, markedIn, committed}
+use Rattle.seats.specs.Seats.{heldSeat, seatAt, seated, seatBy, seatedBy, committed}
 use Rattle.seats.specs.Recording.{heldAt, orFresh, refusal, Others, served}
 use Rattle.seats.specs.declared.Seating.{Seating}
 use Rattle.seats.proofs.Commits.{commit-old}

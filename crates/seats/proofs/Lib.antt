@@ -4,3 +4,5 @@ pub mod Commits
 pub mod Marked
 pub mod Sits
 pub mod Faithful
+pub mod Keeps
+pub mod Owns

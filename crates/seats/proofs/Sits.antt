@@ -9,10 +9,9 @@ use mathlib.Core.Option.{none, some}
 use native.Mathlib.Omega.{arith}
 use native.Mathlib.Numerals.{add-one}
 use borrow.Author.Tests.{ltb-true, lt-ltb}
-use lib.Dec.{ltb}
 use lib.ListN.{length, set, take, drop, length-set}
 use Rattle.laws.proofs.Cases.{true-not-false}
-use Rattle.tally.specs.Sets.{Set, overflow, Rising, insert}
+use Rattle.tally.specs.Sets.{overflow, Rising}
 use Rattle.tally.specs.Kind.{Kind}
 use Rattle.tally.specs.Map.{fits, Entry, Map, find, put, keys, new, Place, held, place, write}
 use Rattle.tally.proofs.Rising.{rising-insert}

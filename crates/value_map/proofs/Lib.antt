@@ -1,3 +1,6 @@
 -- The laws of the map.
 pub mod Bars
+pub mod Quiet
+pub mod ExponentialCases
+pub mod ExponentialSteps
 pub mod ExplicitCases

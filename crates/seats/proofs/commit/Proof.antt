@@ -1,12 +1,10 @@
 -- `seats::commit` meets its contract. Assumes nothing.
 use borrow.Author.Needs.{needs}
-use Prim.Native.Nat.{_+_, _<_}
-use mathlib.Core.Path.{_≡_, ap, sym, subst, _∙_}
+use Prim.Native.Nat.{_<_}
+use mathlib.Core.Path.{ap, sym, subst, _∙_}
 use lib.ListN.{length}
 use Rattle.directory.specs.View.{Stores}
 use Rattle.directory.specs.Calls.{overRow}
-use Rattle.directory.specs.declared.Target.{Target}
-use Rattle.directory.specs.declared.Target.the-variants.{Disagrees, Old, New, Over}
 use Rattle.seats.specs.Seats.{Roomy, Fits, committed}
 use Rattle.seats.proofs.Commits.{made-there, made-marked, commit-none, commit-old, commit-new, commit-over}
 use Rattle.seats.proofs.commit.Statement.{statement}

@@ -70,7 +70,7 @@ module _ (bs : List Float) (xs : List ℕ) (long : bucketCount bs ≤ length xs)
   begun-taken v p f =
       let agree : bucketsAgree bs (bucketsIn bs 0 zeros) ≡ true = ap (bucketsAgree bs) (fresh-is bs xs) ∙ buckets-agree bs (bucketsOf bs []) (fresh-buckets-ok bs p) in
       let l : bucketCount bs ≤ length zeros = omega (arith, long, length-over (replicate (bucketCount bs) 0) xs (omega (arith, length-replicate {A = ℕ} (bucketCount bs) 0))) in
-      accepted-is bs freshHead zeros v (sym (none bs freshHead zeros v l f agree fin-min fin-max (λ e. absurd (omega (arith, e)))))
+      accepted-is bs freshHead zeros v (sym (none bs freshHead zeros v l f agree fin-min fin-max (omega arith)))
 
 -- ---- the cases of entering
 

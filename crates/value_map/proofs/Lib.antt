@@ -4,3 +4,4 @@ pub mod Quiet
 pub mod ExponentialCases
 pub mod ExponentialSteps
 pub mod ExplicitCases
+pub mod ExplicitSteps

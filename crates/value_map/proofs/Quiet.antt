@@ -1,20 +1,13 @@
 -- Numbers 8 and 12 never come up in a run of the map's steps from a fresh start: each series has values that were recorded into it, so it
 -- agrees. For any kind that is lawful. Assumes nothing.
-use Prim.Native.Nat.{ℕ, suc, _^_, _<_, Ordering, Ordering·lt, Ordering·eq, Ordering·gt}
-use mathlib.Core.Path.{_≡_, refl, sym, _∙_}
-use mathlib.Core.Bool.{Bool, true, false, cond, _&&_}
-use mathlib.Core.List.{List, [], _∷_, _++_, map}
+use mathlib.Core.Path.{_≡_, refl}
+use mathlib.Core.Bool.{true}
+use mathlib.Core.List.{List, [], map}
 use mathlib.Core.Option.{Option, none, some}
-use native.Mathlib.Omega.{arith}
-use lib.Dec.{leb, ltb}
-use lib.ListN.{length}
-use borrow.Author.Tests.{ltb-true}
 use Rattle.laws.specs.Lists.{All}
 use Rattle.laws.specs.Tests.{all}
-use Rattle.laws.proofs.Cases.{true-not-false, and-true}
-use Rattle.tally.specs.Sets.{Set, overflow, three, cmp, same, canonical}
-use Rattle.tally.specs.Kind.{Kind, unless, firstOf, suffices}
-use Rattle.tally.specs.Map.{Config, Entry, Map, Out, Call, measure, measureBy, bind, release, collect, Answer, refuse, done, handle, listed, fits, orRefused, new, start, find, put, Place, place, heldOr, held, write, current, sound, recorded, rebound, unfit, measureAt, bindAt, releaseAt, named, byHandle, points, unlisted, idle, reset, sweep, swept, upfront, act, step}
+use Rattle.tally.specs.Kind.{Kind}
+use Rattle.tally.specs.Map.{Entry, Map, current, sound}
 use Rattle.tally.proofs.Lawful.{Lawful}
 
 module _ (K : Kind) (L : Lawful K) (z : K .Settings) (ok : K .valid z ≡ true) where

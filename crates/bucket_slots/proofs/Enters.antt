@@ -1,5 +1,5 @@
 -- A value that enters a series or a fresh one: case by case, and what a refusal leaves. Assumes nothing.
-use Prim.Native.Nat.{ℕ, _+_, _-_, _*_, _≤_}
+use Prim.Native.Nat.{ℕ, _-_, _≤_}
 use mathlib.Core.Path.{_≡_, refl, ap, sym, subst, _∙_}
 use mathlib.Core.Logic.{⊎-elim, _⊎_}
 use mathlib.Core.Bool.{Bool, true, false}
@@ -10,9 +10,10 @@ use lib.ListN.{length, replicate, set, length-replicate}
 use lib.Ieee.{Float}
 use lib.Ieee.Scale.{finite}
 use borrow.Author.Tests.{le-leb}
-use borrow.Rule.Slice.PartMut.{put-same}
 use Rattle.laws.specs.Pick.{pick}
 use Rattle.laws.proofs.Bools.{flag, not-both, pick-true, pick-false}
+use Rattle.parts.specs.Parts.{partAt, putAt}
+use Rattle.parts.proofs.Laws.{put-same}
 use Rattle.rows.specs.Rows.{over}
 use Rattle.rows.proofs.Laws.{length-over}
 use Rattle.points.specs.Explicit.{bucketCount, boundsPass, bucketsOf, recordBucket, bucketsAgree}
@@ -23,7 +24,7 @@ use Rattle.buckets.specs.declared.Answer.the-variants.{Recorded, Refused}
 use Rattle.buckets.specs.Series.{Outcome, outcome, bucketsIn, freshHead, freshening, refusalOf, accepted, recording}
 use Rattle.buckets.proofs.Cases.{none}
 use Rattle.buckets.proofs.Listed.{accepted-is, fresh-is, fin-min, fin-max}
-use Rattle.bucket_slots.specs.Slots.{Stores, Recording, part, splice, headAt, begun, entering, written, recordedAt}
+use Rattle.bucket_slots.specs.Slots.{Stores, Recording, headAt, begun, entering, written, recordedAt}
 
 -- ---- answers
 
@@ -69,7 +70,7 @@ module _ (bs : List Float) (xs : List ℕ) (long : bucketCount bs ≤ length xs)
   begun-taken v p f =
       let agree : bucketsAgree bs (bucketsIn bs 0 zeros) ≡ true = ap (bucketsAgree bs) (fresh-is bs xs) ∙ buckets-agree bs (bucketsOf bs []) (fresh-buckets-ok bs p) in
       let l : bucketCount bs ≤ length zeros = omega (arith, long, length-over (replicate (bucketCount bs) 0) xs (omega (arith, length-replicate {A = ℕ} (bucketCount bs) 0))) in
-      accepted-is bs freshHead zeros v (sym (none bs freshHead zeros v l f agree fin-min fin-max (λ e. absurd (omega (arith, e)))))
+      accepted-is bs freshHead zeros v (sym (none bs freshHead zeros v l f agree fin-min fin-max (omega arith)))
 
 -- ---- the cases of entering
 
@@ -114,10 +115,10 @@ module _ (bs : List Float) (u : Bool) (h : Head) (xs : List ℕ) (v : Float) whe
 
 module _ (bs : List Float) (x : ℕ) (u : Bool) (s : Stores) (v : Float) where
   abbrev row : ℕ → List ℕ
-  row k = part (s .counts) (x * k) (x * k + k)
+  row k = partAt k (s .counts) x
 
   abbrev back : ℕ → List ℕ → List ℕ
-  back k ys = splice (s .counts) (x * k) (x * k + k) ys
+  back k ys = putAt k (s .counts) x ys
 
   pub call : (a : Answer) (ys : List ℕ) → outcome a ys ≡ entering bs u (headAt s x) (row (bucketCount bs)) v → written bs x s a ys ≡ recordedAt bs x u s v
   unfolding recordedAt
@@ -131,7 +132,7 @@ module _ (bs : List Float) (x : ℕ) (u : Bool) (s : Stores) (v : Float) where
         → record { no = n; stores = record { totals = s .totals; extremes = s .extremes; counts = back k ys } } ≡ recordedAt bs x u s v
     call-refused n r l f =
         let q : entering bs u (headAt s x) (row k) v .counts ≡ row k = entering-kept bs u (headAt s x) (row k) v l f n (sym (ap (λ (o : Outcome). o .answer) e) ∙ r) in
-        let same : back k ys ≡ s .counts = ap (back k) (ap (λ (o : Outcome). o .counts) e ∙ q) ∙ put-same (x * k) (x * k + k - x * k) (s .counts) in
+        let same : back k ys ≡ s .counts = ap (back k) (ap (λ (o : Outcome). o .counts) e ∙ q) ∙ put-same k (s .counts) x in
         (λ j. record { no = n; stores = record { totals = s .totals; extremes = s .extremes; counts = same j } })
         ∙ ap (λ (b : Answer). written bs x s b ys) (sym r)
         ∙ call a ys there

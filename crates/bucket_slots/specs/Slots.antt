@@ -1,10 +1,11 @@
 -- The explicit kind's stores: where a slot's series lies in them, and what recording into it leaves. Assumes nothing.
-use Prim.Native.Nat.{ℕ, _+_, _-_, _*_}
+use Prim.Native.Nat.{ℕ, _+_, _*_, _≤_, _<_}
 use mathlib.Core.Bool.{Bool}
-use mathlib.Core.List.{List, [], _∷_, _++_}
-use lib.ListN.{take, drop, getD, set, replicate}
+use mathlib.Core.List.{List, [], _∷_}
+use lib.ListN.{length, getD, set, replicate}
 use lib.Ieee.{Float, nan}
 use Rattle.laws.specs.Pick.{pick}
+use Rattle.parts.specs.Parts.{partAt, putAt}
 use Rattle.rows.specs.Rows.{over}
 use Rattle.points.specs.Explicit.{bucketCount, boundsPass}
 use Rattle.points.specs.Figures.{Figures, bucketed}
@@ -19,16 +20,15 @@ pub record Stores : Type 0 where
   pub extremes : List (List Float)
   pub counts : List ℕ
 
--- the elements from a up to e, and the list with others in their place
-abbrev pub part : List ℕ → ℕ → ℕ → List ℕ
-part xs a e = take (e - a) (drop a xs)
-
-abbrev pub splice : List ℕ → ℕ → ℕ → List ℕ → List ℕ
-splice xs a e ys = take a xs ++ (ys ++ drop (e - a) (drop a xs))
-
 -- THE LAYOUT: with n buckets, slot x has the counts from x * n up to x * n + n
 abbrev pub rowAt : List Float → List ℕ → ℕ → List ℕ
-rowAt bounds counts x = part counts (x * bucketCount bounds) (x * bucketCount bounds + bucketCount bounds)
+rowAt bounds counts x = partAt (bucketCount bounds) counts x
+
+-- slot x lies in the stores
+pub record Room (bounds : List Float) (s : Stores) (x : ℕ) : Type 0 where
+  pub totals : x < length (s .totals)
+  pub extremes : x < length (s .extremes)
+  pub counts : x * bucketCount bounds + bucketCount bounds ≤ length (s .counts)
 
 abbrev pub headAt : Stores → ℕ → Head
 headAt s x =
@@ -67,7 +67,7 @@ written bounds x s (Recorded h) xs =
       stores = record {
         totals = set (s .totals) x (h .count);
         extremes = set (s .extremes) x (h .min ∷ h .max ∷ h .sum ∷ []);
-        counts = splice (s .counts) (x * bucketCount bounds) (x * bucketCount bounds + bucketCount bounds) xs;
+        counts = putAt (bucketCount bounds) (s .counts) x xs;
       };
     }
 

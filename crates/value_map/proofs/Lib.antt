@@ -5,3 +5,4 @@ pub mod ExponentialCases
 pub mod ExponentialSteps
 pub mod ExponentialRuns
 pub mod ExplicitCases
+pub mod ExplicitSteps

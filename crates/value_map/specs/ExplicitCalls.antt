@@ -1,26 +1,28 @@
 -- What the calls of the explicit kind make of the map: answer, state and every lent store. Assumes nothing.
 use Prim.Native.Nat.{ℕ, _+_, _*_}
+use mathlib.Core.Path.{_≡_}
 use mathlib.Core.Bool.{Bool, _&&_}
 use mathlib.Core.List.{List}
 use mathlib.Core.Option.{Option}
 use lib.Dec.{leb, eqb}
 use lib.ListN.{length, replicate}
 use lib.Ieee.{Float}
-use lib.Ieee.Scale.{finite}
 use Rattle.laws.specs.Pick.{pick}
 use Rattle.points.specs.Explicit.{boundsPass, bucketCount}
 use Rattle.tally.specs.Sets.{Set, canonical}
-use Rattle.directory.specs.declared.Answer.{Answer}
-use Rattle.directory.specs.declared.Answer.the-variants.{Refused, Done}
+use Rattle.bindings.specs.declared.Answer.{Answer}
+use Rattle.bindings.specs.declared.Answer.the-variants.{Refused, Done}
 use Rattle.directory.specs.declared.Target.{Target}
-use Rattle.directory.specs.Rows.{rowOf}
+use Rattle.sets.specs.Rows.{rowOf}
 use Rattle.directory.specs.View.{Stores}
-use Rattle.directory.specs.Calls as Directory
-use Rattle.directory.specs.Calls.{Kept, mostSets, mostAttributes, accepts, enough, fresh}
+use Rattle.directory.specs.Calls.{Kept, mostSets, accepts, enough}
+use Rattle.bindings.specs.Calls as Bindings
+use Rattle.bindings.specs.Calls.{fresh}
 use Rattle.seats.specs.declared.Seating.{Seating}
-use Rattle.seats.specs.Seats.{seated, seatedBy, committed}
+use Rattle.seats.specs.Seats.{seated, seatedBy, committed, Fits}
 use Rattle.bucket_slots.specs.Slots as Slots
-use Rattle.bucket_slots.specs.Slots.{Recording, recordedAt}
+use Rattle.bucket_slots.specs.Slots.{Room, Recording, recordedAt}
+use Rattle.value_map.specs.First.{barredBy}
 
 -- the map as it is lent: the directory with its stores, and the series' stores
 pub record Held : Type 0 where
@@ -50,32 +52,33 @@ cellsLent bounds limit c = cellsHold (bucketCount bounds) limit (length (c .tota
 abbrev pub lent : List Float → ℕ → Held → Bool
 lent bounds limit h = enough limit (h .kept .stores) && cellsLent bounds limit (h .cells)
 
--- "Recording: 12, 6, 5, 8": of stores that suffice or not, a value, a number of attributes, a configuration that was accepted or not
-unfoldable pub barredBy : Bool → Float → ℕ → Bool → ℕ
-barredBy room v n ok = pick room (pick (finite v) (pick (leb n mostAttributes) (pick ok 0 8) 5) 6) 12
-
 -- the series took the value, or refused it with its number; then the directory is written
 abbrev pub wrote : Held → List ℕ → Target → Recording → Outcome
 wrote h row target r =
     unlessRefused h (r .no)
     (record { answer = Done; held = record { kept = committed (h .kept .dir) (h .kept .stores) row target; cells = r .stores } })
 
--- the directory refused with its number, or named a slot
+-- the directory refused with its number, or named a slot. 8 before either where configuring could not have accepted the bounds.
 unfoldable pub entered : List Float → Held → Float → List ℕ → Seating → Outcome
 entered bounds h v row a =
-    unlessRefused h (a .no) (wrote h row (a .target) (recordedAt bounds (a .slot) (a .updated) (h .cells) v))
+    unlessRefused h (pick (boundsPass bounds) (a .no) 8)
+    (wrote h row (a .target) (recordedAt bounds (a .slot) (a .updated) (h .cells) v))
 
--- "Recording: 12, 6, 5, 8, 9". 8 also where configuring could not have accepted bounds, limit and filter.
+-- a slot that is named has its cells, and what the directory is to write has its place
+abbrev pub Seatable : List Float → Held → Seating → Type 0
+Seatable bounds h a = a .no ≡ 0 → Room bounds (h .cells) (a .slot) × Fits (h .kept .dir) (h .kept .stores) (a .target)
+
+-- "Recording: 12, 6, 5, 8, 9". 8 also where configuring could not have accepted limit, filter and bounds.
 unfoldable pub measured : List Float → ℕ → Option (List ℕ) → Held → Float → Set → Outcome
 measured bounds limit filter h v attrs =
     let row = rowOf (canonical filter attrs) in
-    unlessRefused h (barredBy (lent bounds limit h) v (length attrs) (accepts limit filter && boundsPass bounds))
+    unlessRefused h (barredBy (lent bounds limit h) v (length attrs) (accepts limit filter))
     (entered bounds h v row (seated limit (h .kept .dir) (h .kept .stores) row))
 
 -- "Recording by handle: 12, 6, 8, 7, 9". No set is named: no row is written.
 unfoldable pub measuredBy : List Float → ℕ → Held → Float → ℕ → Outcome
 measuredBy bounds limit h v handle =
-    unlessRefused h (barredBy (lent bounds limit h) v 0 (leb limit mostSets && boundsPass bounds))
+    unlessRefused h (barredBy (lent bounds limit h) v 0 (leb limit mostSets))
     (entered bounds h v (replicate 9 0) (seatedBy limit (h .kept .dir) (h .kept .stores) handle))
 
 -- "Configuring: 3, 4, 12". The series' stores are left as they are: no entry is updated, so nobody reads them.
@@ -85,7 +88,7 @@ started bounds limit filter s cells =
     pick (boundsPass bounds)
     (pick (accepts limit filter)
     (pick (cellsLent bounds limit cells)
-    (let o = Directory.started limit filter s in record { answer = o .answer; held = record { kept = o .kept; cells = cells } })
+    (let o = Bindings.started limit filter s in record { answer = o .answer; held = record { kept = o .kept; cells = cells } })
     (refused 12 none))
     (refused 4 none))
     (refused 3 none)

@@ -5,9 +5,10 @@ use native.Mathlib.Omega.{arith}
 use denote.Ref.{now}
 use lib.ListN.{length}
 use borrow.Author.Needs.{needs}
-use borrow.Rule.Slice.PartMut.{mid-len}
+use Rattle.parts.specs.Parts.{partAt}
+use Rattle.parts.proofs.Laws.{part-length}
 use Rattle.points.specs.Explicit.{bucketCount}
-use Rattle.bucket_slots.specs.Slots.{Stores, part}
+use Rattle.bucket_slots.specs.Slots.{Stores}
 use Rattle.bucket_slots.proofs.Enters.{call-refused, call-recorded}
 use Rattle.bucket_slots.proofs.record.Statement.{statement}
 use Rattle.bucket_slots.proofs.record.Tie as tie
@@ -25,12 +26,12 @@ counted r = r .before .before .before .before .before .before
 abbrev stores : tie.After-bucket-count → Stores
 stores c = let a = start c .args in record { totals = now (a .totals); extremes = now (a .extremes); counts = now (a .counts) }
 
-long : (c : tie.After-bucket-count) → bucketCount (now (start c .args .bounds)) ≤ length (part (now (start c .args .counts)) (start c .args .x * c .bucket-count .result) (start c .args .x * c .bucket-count .result + c .bucket-count .result))
+long : (c : tie.After-bucket-count) → bucketCount (now (start c .args .bounds)) ≤ length (partAt (c .bucket-count .result) (now (start c .args .counts)) (start c .args .x))
 long c =
     let a = start c .args in
     let n = c .bucket-count .result in
     let i : n ≡ bucketCount (now (a .bounds)) = c .bucket-count .ensures in
-    omega (arith, i, mid-len (a .x * n) (a .x * n + n) (now (a .counts)) (end c))
+    omega (arith, i, part-length n (now (a .counts)) (a .x) (end c))
 
 bucket-count-requires : tie.Need-bucket-count-requires
 bucket-count-requires c κs = search needs

@@ -1,23 +1,20 @@
 -- `value_map::explicit::measure` meets its contract. Assumes nothing.
 use borrow.Author.Needs.{needs}
-use Prim.Native.Nat.{ℕ, _+_, _^_, _≤_, _<_}
-use mathlib.Core.Path.{_≡_, refl, sym, subst, _∙_}
+use mathlib.Core.Path.{_≡_, sym, _∙_}
 use mathlib.Core.Bool.{_&&_}
 use mathlib.Core.List.{List}
 use mathlib.Core.Option.{Option}
+use Prim.Native.Nat.{ℕ}
 use native.Mathlib.Omega.{arith}
 use denote.Ref.{now}
 use lib.ListN.{length, length-map}
-use Rattle.laws.proofs.Cases.{and-true}
-use Rattle.directory.specs.Sorted.{attribute, given, filterOf}
+use Rattle.sets.specs.Sorted.{attribute, given, filterOf}
 use Rattle.directory.specs.Calls.{accepts, enough}
-use Rattle.directory.proofs.Refusals.{Suffice, suffices, within}
-use Rattle.seats.specs.declared.Seating.{Seating}
-use Rattle.seats.specs.Seats.{Fits, seated}
-use Rattle.seats.proofs.Seatings.{Safe, seat-safe}
-use Rattle.bucket_slots.proofs.Series.{Room}
-use Rattle.value_map.specs.ExplicitCalls.{Held, cellsLent, lent, barredBy, measured}
-use Rattle.value_map.proofs.ExplicitCases.{room, Free, free, call, call-barred, call-away, call-refused, call-done, by-set}
+use Rattle.directory.proofs.Refusals.{Suffice}
+use Rattle.value_map.specs.First.{barredBy}
+use Rattle.value_map.specs.ExplicitCalls.{Held, lent, cellsLent}
+use Rattle.value_map.proofs.Bars.{Clear, clear}
+use Rattle.value_map.proofs.ExplicitCases.{lent-dir, set-seatable, set-barred, set-on}
 use Rattle.value_map.proofs.explicit.measure.Statement.{statement}
 use Rattle.value_map.proofs.explicit.measure.Tie as tie
 
@@ -38,11 +35,12 @@ filter s = filterOf (s .args .present) (now (s .args .filter))
 -- the number that bars the call
 bar-is : (b : tie.After-barred) → b .barred .result ≡ barredBy (lent (now (at b .args .bounds)) (at b .args .limit) (held (at b))) (at b .args .v) (length (given (now (at b .args .attrs)))) (accepts (at b .args .limit) (filter (at b)))
 bar-is b =
+    let s = at b in
     let k = b .before in
     let c = k .before in
-    let e = c .before in
+    let l = c .before in
     b .barred .ensures
-    ∙ (λ j. barredBy (e .enough .ensures j && c .holds-cells .ensures j) (at b .args .v) (sym (length-map (now (at b .args .attrs)) attribute) j) (k .accepted .ensures j))
+    ∙ (λ j. barredBy ((c .all-hold .ensures ∙ (λ i. l .enough .ensures i && cellsLent (now (s .args .bounds)) (s .args .limit) (held s .cells))) j) (s .args .v) (sym (length-map (now (s .args .attrs)) attribute) j) (k .accepted .ensures j))
 
 -- what is known of a call that is not barred
 abbrev begun : tie.Else1 → tie.Start
@@ -51,52 +49,17 @@ begun e = at (e .before)
 none : (e : tie.Else1) → barredBy (lent (now (begun e .args .bounds)) (begun e .args .limit) (held (begun e))) (begun e .args .v) (length (given (now (begun e .args .attrs)))) (accepts (begun e .args .limit) (filter (begun e))) ≡ 0
 none e = sym (bar-is (e .before)) ∙ e .if1 .left
 
-known : (e : tie.Else1) → Free (lent (now (begun e .args .bounds)) (begun e .args .limit) (held (begun e))) (begun e .args .v) (length (given (now (begun e .args .attrs)))) (accepts (begun e .args .limit) (filter (begun e)))
-known e = let s = begun e in free (lent (now (s .args .bounds)) (s .args .limit) (held s)) (s .args .v) (length (given (now (s .args .attrs)))) (accepts (s .args .limit) (filter s)) (none e)
+known : (e : tie.Else1) → Clear (lent (now (begun e .args .bounds)) (begun e .args .limit) (held (begun e))) (begun e .args .v) (length (given (now (begun e .args .attrs)))) (accepts (begun e .args .limit) (filter (begun e)))
+known e = let s = begun e in clear (lent (now (s .args .bounds)) (s .args .limit) (held s)) (s .args .v) ((length (given (now (s .args .attrs))))) (accepts (s .args .limit) (filter (s))) (none e)
 
 long : (e : tie.Else1) → Suffice (begun e .args .limit) (held (begun e) .kept .stores)
-long e = let s = begun e in suffices (s .args .limit) (held s .kept .stores) (and-true (enough (s .args .limit) (held s .kept .stores)) _ (known e .lent) .0)
-
--- what is known of a seat that is not refused
-abbrev sought : tie.Else2 → tie.After-seat
-sought g = g .before .before
-
-abbrev let-in : tie.Else2 → tie.Else1
-let-in g = sought g .before .before .before .before .before .before
-
-safe : (g : tie.Else2) → (sought g .seat .result .slot ≤ begun (let-in g) .args .limit + 1) × Fits (begun (let-in g) .args .d) (held (begun (let-in g)) .kept .stores) (sought g .seat .result .target)
-safe g =
-    let e = let-in g in
-    let s = begun e in
-    let l = long e in
-    let small : s .args .limit + 2 < 2 ^ 32 = omega (arith, within (s .args .limit) (filter s) (known e .accepted)) in
-    subst (Safe (s .args .limit) (s .args .d) (held s .kept .stores)) (sym (sought g .seat .ensures))
-    (seat-safe (s .args .limit) (s .args .d) (held s .kept .stores) _ (l .sets) (l .entries) (l .order) small)
-    (g .if2 .left)
-
-slot : (g : tie.Else2) → Room (now (begun (let-in g) .args .bounds)) (held (begun (let-in g)) .cells) (sought g .seat .result .slot)
-slot g =
-    let e = let-in g in
-    let s = begun e in
-    room (now (s .args .bounds)) (s .args .limit) (held s .cells) (sought g .seat .result .slot)
-    (and-true (enough (s .args .limit) (held s .kept .stores)) (cellsLent (now (s .args .bounds)) (s .args .limit) (held s .cells)) (known e .lent) .1) (safe g .0)
-
-abbrev stood : tie.Else3 → tie.Else2
-stood f = f .before .before .before .before .before .before .before .before .before .before
-
--- the call by its row and its seat
-joined : (r : tie.After-sorted) (a : Seating) → a ≡ seated (begun (r .before) .args .limit) (begun (r .before) .args .d) (held (begun (r .before)) .kept .stores) (r .sorted .result)
-    → let s = begun (r .before) in call (now (s .args .bounds)) (held s) (s .args .v) (lent (now (s .args .bounds)) (s .args .limit) (held s)) (length (given (now (s .args .attrs)))) (accepts (s .args .limit) (filter s)) (r .sorted .result) a
-    ≡ measured (now (s .args .bounds)) (s .args .limit) (filter s) (held s) (s .args .v) (given (now (s .args .attrs)))
-joined r a e =
-    let s = begun (r .before) in
-    by-set (now (s .args .bounds)) (s .args .limit) (held s) (s .args .v) (filter s) (given (now (s .args .attrs))) (r .sorted .result) a (r .sorted .ensures .0) e
+long e = let s = begun e in lent-dir (now (s .args .bounds)) (s .args .limit) (held s) (known e .room-is)
 
 enough-requires : tie.Need-enough-requires
 enough-requires c κs = search needs
 
-holds-cells-requires : tie.Need-holds-cells-requires
-holds-cells-requires c κs = search needs
+all-hold-requires : tie.Need-all-hold-requires
+all-hold-requires c κs = search needs
 
 accepted-requires : tie.Need-accepted-requires
 accepted-requires c κs = search needs
@@ -105,20 +68,21 @@ barred-requires : tie.Need-barred-requires
 barred-requires c κs = search needs
 
 returns : tie.Need-returns
-returns c =
-    let b = c .before in
-    let s = at b in
-    call-barred (now (s .args .bounds)) (held s) (s .args .v) (lent (now (s .args .bounds)) (s .args .limit) (held s)) (length (given (now (s .args .attrs)))) (accepts (s .args .limit) (filter s)) _ _ _ (bar-is b) (c .if1 .taken)
-    ∙ by-set (now (s .args .bounds)) (s .args .limit) (held s) (s .args .v) (filter s) (given (now (s .args .attrs))) _ _ refl refl
+returns c = let b = c .before in let s = at b in set-barred (now (s .args .bounds)) (s .args .limit) (held s) (s .args .v) (filter s) (given (now (s .args .attrs))) (b .barred .result) (bar-is b) (c .if1 .taken)
 
 sorted-requires : tie.Need-sorted-requires
 sorted-requires c κs = omega (arith, known c .few, length-map (now (begun c .args .attrs)) attribute)
 
 seat-requires : tie.Need-seat-requires
-seat-requires c κs = let k = c .before .before .before .before in let l = long (k .before) in (l .sets, l .entries, l .order, k .sorted .ensures .1)
+seat-requires c κs = let r = c .before .before .before .before in let l = long (r .before) in (l .sets, l .entries, l .order, r .sorted .ensures .1)
 
-turned-requires : tie.Need-turned-requires
-turned-requires c κs = search needs
+enter-requires : tie.Need-enter-requires
+enter-requires c κs =
+    let q = c .before .before .before .before .before .before in
+    let r = q .before .before .before .before .before in
+    let e = r .before in
+    let s = begun e in
+    (set-seatable (now (s .args .bounds)) (s .args .limit) (held s) (known e .room-is) (filter s) (known e .ok-is) (r .sorted .result) (q .seat .result) (q .seat .ensures), known e .value)
 
 same-length : tie.Need-same-length
 same-length c = search needs
@@ -129,19 +93,6 @@ same-length-2 c = search needs
 same-length-3 : tie.Need-same-length-3
 same-length-3 c = search needs
 
-returns-2 : tie.Need-returns-2
-returns-2 c =
-    let t = c .before in
-    let q = t .before .before in
-    let r = q .before .before .before .before .before in
-    let e = r .before in
-    let s = begun e in
-    call-away (now (s .args .bounds)) (held s) (s .args .v) (lent (now (s .args .bounds)) (s .args .limit) (held s)) (length (given (now (s .args .attrs)))) (accepts (s .args .limit) (filter s)) (r .sorted .result) (q .seat .result) (none e) (c .turned .result) (t .if2 .taken) (c .turned .ensures)
-    ∙ joined r (q .seat .result) (q .seat .ensures)
-
-record-requires : tie.Need-record-requires
-record-requires c κs = let g = c .before .before .before in let r = slot g in (r .totals, r .extremes, r .counts, known (let-in g) .finite)
-
 same-length-4 : tie.Need-same-length-4
 same-length-4 c = search needs
 
@@ -151,89 +102,32 @@ same-length-5 c = search needs
 same-length-6 : tie.Need-same-length-6
 same-length-6 c = search needs
 
-same-length-7 : tie.Need-same-length-7
-same-length-7 c = search needs
-
-same-length-8 : tie.Need-same-length-8
-same-length-8 c = search needs
-
-same-length-9 : tie.Need-same-length-9
-same-length-9 c = search needs
-
-returns-3 : tie.Need-returns-3
-returns-3 c =
-    let p = c .before .before .before .before .before .before in
-    let g = p .before .before .before .before in
-    let q = sought g in
+returns-2 : tie.Need-returns-2
+returns-2 c =
+    let t = c .before .before .before .before .before .before .before .before .before in
+    let q = t .before .before .before .before .before .before .before in
     let r = q .before .before .before .before .before in
-    let e = let-in g in
+    let e = r .before in
     let s = begun e in
-    call-refused (now (s .args .bounds)) (held s) (s .args .v) (lent (now (s .args .bounds)) (s .args .limit) (held s)) (length (given (now (s .args .attrs)))) (accepts (s .args .limit) (filter s)) (r .sorted .result) (q .seat .result) (none e) (g .if2 .left) (slot g) _ (p .«record» .ensures) (c .if3 .taken)
-    ∙ joined r (q .seat .result) (q .seat .ensures)
-
-commit-requires : tie.Need-commit-requires
-commit-requires c κs = safe (stood (c .before .before .before)) .1
-
-same-length-10 : tie.Need-same-length-10
-same-length-10 c = search needs
-
-same-length-11 : tie.Need-same-length-11
-same-length-11 c = search needs
-
-same-length-12 : tie.Need-same-length-12
-same-length-12 c = search needs
-
-same-length-13 : tie.Need-same-length-13
-same-length-13 c = search needs
-
-same-length-14 : tie.Need-same-length-14
-same-length-14 c = search needs
-
-same-length-15 : tie.Need-same-length-15
-same-length-15 c = search needs
-
-returns-4 : tie.Need-returns-4
-returns-4 c =
-    let k = c .before .before .before .before in
-    let f = k .before .before .before .before in
-    let p = f .before .before .before .before .before .before in
-    let g = stood f in
-    let q = sought g in
-    let r = q .before .before .before .before .before in
-    let e = let-in g in
-    let s = begun e in
-    call-done (now (s .args .bounds)) (held s) (s .args .v) (lent (now (s .args .bounds)) (s .args .limit) (held s)) (length (given (now (s .args .attrs)))) (accepts (s .args .limit) (filter s)) (r .sorted .result) (q .seat .result) (none e) (g .if2 .left) (slot g) _ (p .«record» .ensures) (f .if3 .left) _ (k .commit .ensures)
-    ∙ joined r (q .seat .result) (q .seat .ensures)
+    t .enter .ensures
+    ∙ set-on (now (s .args .bounds)) (s .args .limit) (held s) (s .args .v) (filter s) (given (now (s .args .attrs))) (none e) (r .sorted .result) (q .seat .result) (r .sorted .ensures .0) (q .seat .ensures)
 
 pub measure-spec : {M : Type 1} → statement M
 measure-spec =
     tie.close
     (tie.spec
     enough-requires
-    holds-cells-requires
+    all-hold-requires
     accepted-requires
     barred-requires
     returns
     sorted-requires
     seat-requires
-    turned-requires
+    enter-requires
     same-length
     same-length-2
     same-length-3
-    returns-2
-    record-requires
     same-length-4
     same-length-5
     same-length-6
-    same-length-7
-    same-length-8
-    same-length-9
-    returns-3
-    commit-requires
-    same-length-10
-    same-length-11
-    same-length-12
-    same-length-13
-    same-length-14
-    same-length-15
-    returns-4)
+    returns-2)

@@ -8,7 +8,7 @@ use mathlib.Core.Option.{Option}
 use denote.Ref.{now}
 use borrow.Author.Tests.{not-true, not-false}
 use Rattle.points.specs.Explicit.{boundsPass}
-use Rattle.directory.specs.Sorted.{filterOf}
+use Rattle.sets.specs.Sorted.{filterOf}
 use Rattle.directory.specs.View.{Stores}
 use Rattle.directory.specs.Calls.{accepts}
 use Rattle.bucket_slots.specs.Slots as Slots
@@ -49,15 +49,15 @@ returns-2 c =
     let s = at (e .before) in
     start-4 (now (s .args .bounds)) (s .args .limit) (filter s) (stores s) (cells s) (passes e) (sym (c .before .accepted .ensures) ∙ not-true _ (c .if2 .taken))
 
-holds-cells-requires : tie.Need-holds-cells-requires
-holds-cells-requires c κs = search needs
+cells-hold-requires : tie.Need-cells-hold-requires
+cells-hold-requires c κs = search needs
 
 returns-3 : tie.Need-returns-3
 returns-3 c =
     let d = c .before .before in
     let e = d .before .before in
     let s = at (e .before) in
-    start-12 (now (s .args .bounds)) (s .args .limit) (filter s) (stores s) (cells s) (passes e) (accept d) (sym (c .before .holds-cells .ensures) ∙ not-true _ (c .if3 .taken))
+    start-12 (now (s .args .bounds)) (s .args .limit) (filter s) (stores s) (cells s) (passes e) (accept d) (sym (c .before .cells-hold .ensures) ∙ not-true _ (c .if3 .taken))
 
 start-requires : tie.Need-start-requires
 start-requires c κs = search needs
@@ -72,7 +72,7 @@ returns-4 c =
     let d = f .before .before in
     let e = d .before .before in
     let s = at (e .before) in
-    start-on (now (s .args .bounds)) (s .args .limit) (filter s) (stores s) (cells s) (passes e) (accept d) (sym (f .before .holds-cells .ensures) ∙ not-false _ (f .if3 .left)) _ (r .start .ensures)
+    start-on (now (s .args .bounds)) (s .args .limit) (filter s) (stores s) (cells s) (passes e) (accept d) (sym (f .before .cells-hold .ensures) ∙ not-false _ (f .if3 .left)) _ (r .start .ensures)
 
 pub start-spec : {M : Type 1} → statement M
 start-spec =
@@ -82,7 +82,7 @@ start-spec =
     returns
     accepted-requires
     returns-2
-    holds-cells-requires
+    cells-hold-requires
     returns-3
     start-requires
     same-length

@@ -1,4 +1,4 @@
--- `value_map::explicit::holds_cells` meets its contract. Assumes nothing.
+-- `value_map::explicit::cells_hold` meets its contract. Assumes nothing.
 use borrow.Author.Needs.{needs}
 use Prim.Native.Nat.{ℕ, _+_, _*_}
 use mathlib.Core.Path.{ap, _∙_}
@@ -7,8 +7,8 @@ use denote.Ref.{now}
 use Rattle.points.specs.Explicit.{bucketCount}
 use lib.Dec.{leb}
 use Rattle.directory.proofs.Refusals.{first-no, second-no, third}
-use Rattle.value_map.proofs.explicit.holds_cells.Statement.{statement}
-use Rattle.value_map.proofs.explicit.holds_cells.Tie as tie
+use Rattle.value_map.proofs.explicit.cells_hold.Statement.{statement}
+use Rattle.value_map.proofs.explicit.cells_hold.Tie as tie
 
 abbrev at : tie.After-holds → tie.Start
 at c = c .before .before
@@ -55,8 +55,8 @@ returns-3 c =
     third (e .before .holds .result) (g .before .holds2 .result) (c .holds-rows .result) (one a) (two a) (three a) (e .before .holds .ensures) (e .if1 .left) (g .before .holds2 .ensures) (g .if2 .left)
     (c .holds-rows .ensures ∙ ap (λ (n : ℕ). leb ((a .args .limit + 2) * n) (a .args .counts)) (k .bucket-count .ensures))
 
-pub holds-cells-spec : {M : Type 1} → statement M
-holds-cells-spec =
+pub cells-hold-spec : {M : Type 1} → statement M
+cells-hold-spec =
     tie.close
     (tie.spec
     holds-requires

@@ -1,0 +1,49 @@
+-- `text::lines::spaces` meets its contract. Assumes nothing.
+use Prim.Native.Nat.{ℕ, _+_, _-_, _≤_}
+use mathlib.Core.Path.{_≡_, refl, sym, ap, _∙_}
+use native.Mathlib.Omega.{arith}
+use denote.Ref.{now}
+use lib.ListN.{length, drop, drop-of-length-le}
+use Rattle.text.specs.Lines.{spacesOf}
+use Rattle.text.proofs.Splitting.{spaces-turn, spaces-none}
+use Rattle.text.proofs.lines.spaces.Statement.{statement}
+use Rattle.text.proofs.lines.spaces.Tie as tie
+
+abbrev Inv-loop : tie.InvT-loop
+Inv-loop line n₀ i₀ n i = (i ≤ length line) × (n ≤ i) × (n + spacesOf (drop i line) ≡ spacesOf line)
+
+abbrev μ-loop : tie.MeasureT-loop
+μ-loop line n₀ i₀ n i = length line - i
+
+loop-holds : tie.Need-loop-holds Inv-loop μ-loop
+loop-holds c = (omega arith, omega arith, omega arith)
+
+shared-slice-read-is-space : tie.Need-shared-slice-read-is-space Inv-loop μ-loop
+shared-slice-read-is-space c = omega arith
+
+is-space-requires : tie.Need-is-space-requires Inv-loop μ-loop
+is-space-requires c κs = tt
+
+add-n : tie.Need-add-n Inv-loop μ-loop
+add-n c = omega (arith, c .is-space .ensures .1)
+
+add-i : tie.Need-add-i Inv-loop μ-loop
+add-i c = omega arith
+
+loop-less : tie.Need-loop-less Inv-loop μ-loop
+loop-less c = omega arith
+
+loop-again : tie.Need-loop-again Inv-loop μ-loop
+loop-again c =
+    let t = c .before .before in
+    let l = t .before .loop in
+    let xs = now (t .before .before .before .args .line) in
+    (omega arith, omega (arith, c .is-space .ensures .1), omega (arith, spaces-turn xs (l .i) (t .loop-test .taken), c .is-space .ensures .0, l .inv .2))
+
+returns : tie.Need-returns Inv-loop μ-loop
+returns c =
+    let l = c .before .loop in
+    omega (arith, l .inv .2, spaces-none (now (c .before .before .before .args .line)) (l .i) (c .loop-test .left))
+
+pub spaces-spec : {M : Type 1} → statement M
+spaces-spec = tie.close (tie.spec Inv-loop μ-loop loop-holds shared-slice-read-is-space is-space-requires add-n add-i loop-less loop-again returns)

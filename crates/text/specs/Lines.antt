@@ -1,0 +1,25 @@
+-- The fields of a line. Document 01: 'One space parts fields.' A space is the byte 32. Assumes nothing.
+use Prim.Native.Nat.{ℕ, zero, suc, _+_, _-_}
+use mathlib.Core.List.{List, [], _∷_}
+use lib.Dec.{eqb}
+use Rattle.laws.specs.Pick.{pick}
+
+-- 1 for a space
+unfoldable pub space : ℕ → ℕ
+space b = pick (eqb b 32) 1 0
+
+-- how many spaces a line has: it has one field more
+unfoldable pub spacesOf : List ℕ → ℕ
+spacesOf [] = 0
+spacesOf (b ∷ bs) = space b + spacesOf bs
+
+-- the bytes before the first space
+unfoldable pub untilSpace : List ℕ → List ℕ
+untilSpace [] = []
+untilSpace (b ∷ bs) = pick (eqb b 32) [] (b ∷ untilSpace bs)
+
+-- the field that stands behind k spaces; an empty one where there are fewer
+unfoldable pub fieldOf : List ℕ → ℕ → List ℕ
+fieldOf [] k = []
+fieldOf (b ∷ bs) zero = untilSpace (b ∷ bs)
+fieldOf (b ∷ bs) (suc k) = fieldOf bs (suc k - space b)

@@ -1,0 +1,122 @@
+// A line's fields, and lines made byte by byte.
+ghost use mathlib.Core.Path.{_≡_};
+ghost use Prim.Native.Nat.{_+_, _-_, _≤_};
+ghost use lib.Dec.{ltb};
+ghost use lib.ListN.{length, getD, take, drop, set};
+ghost use Rattle.laws.specs.Pick.{pick};
+ghost use Rattle.text.specs.Numbers.{decimalOf, bitsOf, signedOf};
+ghost use Rattle.text.specs.Lines.{space, spacesOf, untilSpace, fieldOf};
+use crate::numbers::Integer;
+use crate::numbers::Natural;
+
+// Where a field starts and ends.
+pub struct Part {
+    pub from: usize,
+    pub to: usize,
+}
+
+pub fn byte_at(bytes: &[u8], i: usize) -> u8
+    ensures { λ r. ⌜ r ≡ getD (now (bytes .entry)) i 0 ⌝ }
+{
+    if i < bytes.len() {
+        return bytes[i];
+    }
+    0
+}
+
+fn is_space(byte: u8) -> usize
+    ensures { λ r. ⌜ r ≡ space byte ⌝ }
+    ensures { λ r. ⌜ r ≤ 1 ⌝ }
+{
+    if byte == b' ' { 1 } else { 0 }
+}
+
+// How many spaces a line has.
+pub fn spaces(line: &[u8]) -> usize
+    ensures { λ r. ⌜ r ≡ spacesOf (now (line .entry)) ⌝ }
+{
+    let mut n: usize = 0;
+    let mut i: usize = 0;
+    while i < line.len() {
+        n += is_space(line[i]);
+        i += 1;
+    }
+    n
+}
+
+// Where the field that comes after k spaces starts; the line's end where there is none.
+fn start(line: &[u8], k: usize) -> usize
+    ensures { λ r. ⌜ (r ≤ length (now (line .entry))) × (fieldOf (now (line .entry)) k ≡ untilSpace (drop r (now (line .entry)))) ⌝ }
+{
+    let mut left = k;
+    let mut i: usize = 0;
+    while i < line.len() && 0 < left {
+        left -= is_space(line[i]);
+        i += 1;
+    }
+    i
+}
+
+// Where the field that starts there ends.
+fn end(line: &[u8], from: usize) -> usize
+    requires { ⌜ from ≤ length (now line) ⌝ }
+    ensures { λ r. ⌜ (r ≤ length (now (line .entry))) × (r ≡ from + length (untilSpace (drop from (now (line .entry))))) ⌝ }
+{
+    let mut i = from;
+    while i < line.len() {
+        if line[i] == b' ' {
+            return i;
+        }
+        i += 1;
+    }
+    i
+}
+
+// The field that comes after k spaces; an empty one where there is none.
+pub fn field(line: &[u8], k: usize) -> Part
+    ensures { λ r. ⌜ (r .from ≤ r .to) × (r .to ≤ length (now (line .entry))) ⌝ }
+    ensures { λ r. ⌜ take (r .to - r .from) (drop (r .from) (now (line .entry))) ≡ fieldOf (now (line .entry)) k ⌝ }
+{
+    let from = start(line, k);
+    let to = end(line, from);
+    Part { from, to }
+}
+
+pub fn decimal_at(line: &[u8], k: usize) -> Natural
+    ensures { λ r. ⌜ r ≡ decimalOf (fieldOf (now (line .entry)) k) ⌝ }
+{
+    let p = field(line, k);
+    let a = p.from;
+    let e = p.to;
+    crate::numbers::decimal(&line[a..e])
+}
+
+pub fn bits_at(line: &[u8], k: usize) -> Natural
+    ensures { λ r. ⌜ r ≡ bitsOf (fieldOf (now (line .entry)) k) ⌝ }
+{
+    let p = field(line, k);
+    let a = p.from;
+    let e = p.to;
+    crate::numbers::bits(&line[a..e])
+}
+
+pub fn signed_at(line: &[u8], k: usize) -> Integer
+    ensures { λ r. ⌜ r ≡ signedOf (fieldOf (now (line .entry)) k) ⌝ }
+{
+    let p = field(line, k);
+    let a = p.from;
+    let e = p.to;
+    crate::numbers::signed(&line[a..e])
+}
+
+// A byte put behind the first len bytes, if there is room. Returns how many there are then: a full line may have been longer.
+pub fn push(line: &mut [u8], len: usize, byte: u8) -> usize
+    ensures { λ r. ⌜ r ≡ pick (ltb len (length (now (line .entry)))) (len + 1) len ⌝ }
+    ensures { λ _. ⌜ now (line .exit) ≡ set (now (line .entry)) len byte ⌝ }
+{
+    if len < line.len() {
+        line[len] = byte;
+        return len + 1;
+    }
+    len
+}

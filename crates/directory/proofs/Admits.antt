@@ -1,62 +1,33 @@
 -- A new entry in the next slot is the map with that entry put. Assumes nothing.
-use Prim.Native.Nat.{ℕ, zero, suc, _+_, _-_, _≤_, _<_, Ordering·gt}
+use Prim.Native.Nat.{ℕ, zero, suc, _+_, _≤_, _<_, Ordering·gt}
 use mathlib.Core.Path.{_≡_, refl, ap, sym, subst, _∙_}
 use mathlib.Core.Logic.{inl, inr}
 use mathlib.Core.Bool.{Bool, true, false, cond}
-use mathlib.Core.List.{List, [], _∷_, _++_, map, append-assoc}
+use mathlib.Core.List.{List, [], _∷_, _++_, map}
 use mathlib.Core.Option.{none}
 use native.Mathlib.Omega.{arith}
-use lib.ListN.{length, getD, set, take, drop, length-append, length-drop}
-use lib.Seq.{getD-set-same, getD-set-other, length-take-le, take-take, take-at, drop-cons}
+use lib.ListN.{length, set, take, drop}
+use lib.Seq.{getD-set-same, getD-set-other}
 use Rattle.tally.specs.Sets.{Set, cmp, same}
 use Rattle.tally.specs.Kind.{Kind}
 use Rattle.tally.specs.Map.{Entry, find, put, rebound, new, keys}
 use Rattle.tally.proofs.Order.{same-flip}
 use Rattle.laws.proofs.Cases.{true-not-false}
 use Rattle.tally.proofs.Ranks.{rank, rank-le, put-new}
-use Rattle.directory.specs.Rows.{span, setOf}
+use Rattle.sets.specs.Inserted.{inserted}
+use Rattle.sets.specs.Rows.{span, setOf}
+use Rattle.sets.proofs.Spans.{span-inserted}
+use Rattle.directory.specs.Calls.{admitted, Kept}
 use Rattle.directory.specs.View.{Stores, setAt, agreesb, seek, sought, entryAt, view}
-use Rattle.directory.specs.Calls.{admitted, inserted}
 use Rattle.directory.specs.declared.Directory.{Directory}
 use Rattle.directory.specs.declared.Found.{Found}
 use Rattle.directory.specs.declared.Found.the-variants.{Held, Room}
-use Rattle.directory.proofs.Rises.{In, keys-map, seek-room}
 use Rattle.directory.proofs.Laws.{slot-used, ascends}
-
--- places as a part of the order
-pub span-part : (l : List ℕ) (i k : ℕ) → i + k ≤ length l → span l i k ≡ take k (drop i l)
-span-part l i zero h = refl
-span-part l i (suc k) h = rw (drop-cons l i 0 (omega arith)) (ap (λ r. getD l i 0 ∷ r) (span-part l (suc i) k (omega arith)))
-
-pub span-take : (l : List ℕ) (n : ℕ) → n ≤ length l → span l 0 n ≡ take n l
-span-take l n h = span-part l 0 n (omega arith)
+use Rattle.directory.proofs.Rises.{In, keys-map, seek-room}
 
 pub length-span : (g : ℕ → Set) (l : List ℕ) (i k : ℕ) → length (map g (span l i k)) ≡ k
 length-span g l i zero = refl
 length-span g l i (suc k) = ap suc (length-span g l (suc i) k)
-
--- the places after an insertion
-pub span-inserted : (l : List ℕ) (used r x : ℕ) → r ≤ used → used < length l → span (inserted l used r x) 0 (used + 1) ≡ take r (span l 0 used) ++ (x ∷ drop r (span l 0 used))
-unfolding inserted
-span-inserted l used r x h k =
-    let t : length (take used l) ≡ used = length-take-le used l (omega arith) in
-    let a : length (take r l) ≡ r = length-take-le r l (omega arith) in
-    let b : length (drop r (take used l)) ≡ used - r = length-drop r (take used l) ∙ ap (λ (n : ℕ). n - r) t in
-    let j : length (take r l ++ (x ∷ drop r (take used l))) ≡ used + 1 = length-append (take r l) (x ∷ drop r (take used l)) ∙ omega (arith, a, b) in
-    let q : take r l ++ (x ∷ (drop r (take used l) ++ drop (used + 1) l)) ≡ (take r l ++ (x ∷ drop r (take used l))) ++ drop (used + 1) l = sym (append-assoc (take r l) (x ∷ drop r (take used l)) (drop (used + 1) l)) in
-    let w : used + 1 ≤ length (take r l ++ (x ∷ (drop r (take used l) ++ drop (used + 1) l))) = rw q (omega (arith, length-append (take r l ++ (x ∷ drop r (take used l))) (drop (used + 1) l), j)) in
-    span-take (take r l ++ (x ∷ (drop r (take used l) ++ drop (used + 1) l))) (used + 1) w
-    ∙ ap (take (used + 1)) q
-    ∙ take-at (take r l ++ (x ∷ drop r (take used l))) (drop (used + 1) l) (used + 1) j
-    ∙ ap (λ p. p ++ (x ∷ drop r (take used l))) (sym (take-take r used l h))
-    ∙ ap (λ p. take r p ++ (x ∷ drop r p)) (sym (span-take l used (omega arith)))
-
-pub length-inserted : (l : List ℕ) (used r x : ℕ) → r ≤ used → used < length l → length (inserted l used r x) ≡ length l
-unfolding inserted
-length-inserted l used r x h k =
-    let t : length (take used l) ≡ used = length-take-le used l (omega arith) in
-    let a : length (take r l) ≡ r = length-take-le r l (omega arith) in
-    omega (arith, length-append (take r l) (x ∷ (drop r (take used l) ++ drop (used + 1) l)), length-append (drop r (take used l)) (drop (used + 1) l), length-drop r (take used l), length-drop (used + 1) l)
 
 map-around : {A : Type 0} (g : ℕ → A) (l : List ℕ) (n x : ℕ) → map g (take n l ++ (x ∷ drop n l)) ≡ take n (map g l) ++ (g x ∷ drop n (map g l))
 map-around g [] zero x = refl
@@ -114,7 +85,7 @@ module _ (K : Kind) (f : ℕ → K .Series) (z : K .Settings) (limit : ℕ) (d :
     abbrev made : Entry K
     made = rebound K (new K (setOf row) (d .last + 1)) b
 
-    new-entry : (y : ℕ) → suc y ≡ d .used + 1 → entryAt K f t (suc y) ≡ made
+    pub new-entry : (y : ℕ) → suc y ≡ d .used + 1 → entryAt K f t (suc y) ≡ made
     new-entry y e =
         rw (← e, getD-set-same (s .entries) (suc y) ((d .last + 1) ∷ b ∷ 0 ∷ []) [] (rw (← e) at le), getD-set-same (s .sets) (suc y) row [] (rw (← e) at ls))
 
@@ -138,3 +109,8 @@ module _ (K : Kind) (f : ℕ → K .Series) (z : K .Settings) (limit : ℕ) (d :
         let p : put K made (map (entryAt K f s) (0 ∷ S)) ≡ take (suc r) (map (entryAt K f s) (0 ∷ S)) ++ (made ∷ drop (suc r) (map (entryAt K f s) (0 ∷ S))) =
         put-new K made (map (entryAt K f s) (0 ∷ S)) (q .0) ∙ ap (λ (k : ℕ). take k (map (entryAt K f s) (0 ∷ S)) ++ (made ∷ drop k (map (entryAt K f s) (0 ∷ S)))) (q .1) in
         ap (λ l. record { settings = z; count = d .count + more; last = d .last + 1; entries = l }) (a ∙ sym p)
+
+-- the birth number that is read off a new state
+pub as-made : (k : Kept) (d : Directory) (s : Stores) (row : List ℕ) (r more b : ℕ) → k ≡ admitted d s row r more b → k .dir .last ≡ d .last + 1
+unfolding admitted
+as-made k d s row r more b e = ap (λ (o : Kept). o .dir .last) e

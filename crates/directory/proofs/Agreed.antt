@@ -1,5 +1,5 @@
 -- The cases of the directory's agreement, and what it says of each slot and place. Assumes nothing.
-use Prim.Native.Nat.{ℕ, suc, _+_, _-_, _≤_, _<_, Ordering, Ordering·lt, Ordering·eq, Ordering·gt}
+use Prim.Native.Nat.{ℕ, suc, _+_, _-_, _≤_, _<_, Ordering·lt}
 use mathlib.Core.Path.{_≡_, refl, ap, sym, _∙_}
 use mathlib.Core.Bool.{Bool, true, false, cond, _&&_, _||_}
 use mathlib.Core.List.{List, []}
@@ -9,10 +9,12 @@ use lib.Dec.{eqb, leb}
 use lib.ListN.{getD}
 use Rattle.tally.specs.Sets.{cmp}
 use Rattle.laws.proofs.Cases.{and-true}
-use Rattle.directory.specs.All.{allb}
-use Rattle.directory.proofs.Alls.{allb-at}
-use Rattle.directory.specs.Rows.{size, soundb}
-use Rattle.directory.specs.View.{Stores, setAt, birthAt, below, slotAt, placeAt, plainly, slotsb, placed, countsb, agreesb}
+use Rattle.sets.specs.All.{allb}
+use Rattle.sets.specs.Rows.{size, soundb, below}
+use Rattle.sets.proofs.Alls.{allb-at}
+use Rattle.sets.proofs.Keyed.{sound-some, sound-few}
+use Rattle.sets.proofs.Ways.{below-lt}
+use Rattle.directory.specs.View.{Stores, setAt, birthAt, slotAt, placeAt, plainly, slotsb, placed, countsb, agreesb}
 use Rattle.directory.specs.declared.Directory.{Directory}
 use Rattle.directory.specs.declared.Placed.the-variants.{Broken, Plain}
 
@@ -75,15 +77,6 @@ module _ (limit : ℕ) (d : Directory) (s : Stores) where
       unfolding agreesb
       agree-counts n e = rw (le-leb (d .used) (limit + 1) h, k, e .0, e .1)
 
--- what a sound row has
-pub sound-some : (row : List ℕ) → soundb row ≡ true → 1 ≤ size row
-unfolding soundb
-sound-some row e = leb-true 1 (size row) (and-true _ _ e .0)
-
-pub sound-few : (row : List ℕ) → soundb row ≡ true → size row ≤ 8
-unfolding soundb
-sound-few row e = leb-true (size row) 8 (and-true (leb (size row) 8) _ (and-true (leb 1 (size row)) _ e .1) .0)
-
 -- what right slots say
 module _ (used last : ℕ) (sets entries : List (List ℕ)) (e : slotsb used last sets entries ≡ true) where
   all-slots : allb used (slotAt sets entries) ≡ true
@@ -106,11 +99,6 @@ module _ (used last : ℕ) (sets entries : List (List ℕ)) (e : slotsb used las
   slot-sizes x h k = (sound-some (getD sets x []) (slot-sound x h k), sound-few (getD sets x []) (slot-sound x h k))
 
 -- what right places say
-below-lt : (o : Ordering) → below o ≡ true → o ≡ Ordering·lt
-below-lt Ordering·lt e = refl
-below-lt Ordering·eq e = cc
-below-lt Ordering·gt e = cc
-
 module _ (used : ℕ) (sets : List (List ℕ)) (order : List ℕ) (e : allb used (placeAt sets order used) ≡ true) where
   halves : (k : ℕ) → k < used → ((leb 1 (getD order k 0) && leb (getD order k 0) used) ≡ true) × ((eqb k 0 || below (cmp (setAt sets (getD order (k - 1) 0)) (setAt sets (getD order k 0)))) ≡ true)
   halves k h = and-true (leb 1 (getD order k 0) && leb (getD order k 0) used) _ (allb-at _ _ e k h)

@@ -13,13 +13,13 @@ use Rattle.laws.proofs.Cases.{true-not-false}
 use Rattle.tally.specs.Sets.{Set, same, mem}
 use Rattle.tally.proofs.Order.{same-self, same-eq}
 use Rattle.tally.proofs.Rising.{pigeon}
-use Rattle.directory.specs.Rows.{span}
+use Rattle.sets.specs.Rows.{span}
 use Rattle.directory.specs.View.{Stores, setAt, agreesb}
 use Rattle.directory.specs.declared.Directory.{Directory}
-use Rattle.directory.proofs.Agreed.{place-slot}
-use Rattle.directory.proofs.Rises.{In}
-use Rattle.directory.proofs.Laws.{places-right, ascends, span-in}
 use Rattle.directory.proofs.Admits.{length-span}
+use Rattle.directory.proofs.Agreed.{place-slot}
+use Rattle.directory.proofs.Laws.{places-right, ascends, span-in}
+use Rattle.directory.proofs.Rises.{In}
 
 -- the slots 1 to n without x
 abbrev others : ℕ → ℕ → List ℕ

@@ -8,14 +8,14 @@ use borrow.Author.Tests.{lt-ltb, le-ltb, eq-eqb, ne-eqb, ltb-true}
 use lib.Dec.{eqb, ltb}
 use lib.ListN.{getD}
 use Rattle.laws.proofs.Cases.{and-true}
-use Rattle.directory.specs.Rows.{span, setOf}
-use Rattle.directory.specs.View.{Stores, birthAt, agreesb, sought}
-use Rattle.laws.specs.Pick.{pick}
+use Rattle.sets.specs.Rows.{span, setOf}
+use Rattle.sets.proofs.Spans.{span-more, span-none, span-all}
 use Rattle.directory.specs.Calls.{overRow, scan, located}
+use Rattle.directory.specs.View.{Stores, birthAt, agreesb, sought}
 use Rattle.directory.specs.declared.Directory.{Directory}
 use Rattle.directory.specs.declared.Found.the-variants.{Held, Room}
 use Rattle.directory.specs.declared.Target.the-variants.{Disagrees, Old, New, Over}
-use Rattle.directory.proofs.Words.{span-more, span-none, span-all}
+use Rattle.laws.specs.Pick.{pick}
 
 module _ (birth bindings h : ℕ) where
   pub names-yes : birth ≡ h → 0 < bindings → true ≡ (eqb birth h && ltb 0 bindings)

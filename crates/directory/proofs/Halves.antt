@@ -9,7 +9,7 @@ use native.Mathlib.Numerals.{add-one}
 use lib.ListN.{getD}
 use Rattle.tally.specs.Sets.{Set, cmp}
 use Rattle.tally.proofs.Order.{cmp-trans, cmp-eq, gt-lt, lt-gt}
-use Rattle.directory.specs.Rows.{span, setOf}
+use Rattle.sets.specs.Rows.{span, setOf}
 use Rattle.directory.specs.View.{seek}
 use Rattle.directory.specs.declared.Found.the-variants.{Held, Room}
 use Rattle.directory.proofs.Checks.{seek-over, seek-low, seek-here, seek-on}

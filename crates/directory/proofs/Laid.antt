@@ -14,18 +14,18 @@ use Rattle.tally.specs.Sets.{Set, overflow, cmp, same, mem, Rising}
 use Rattle.tally.specs.Kind.{Kind}
 use Rattle.tally.specs.Map.{plain, bit, plains, Config, keys, Agrees}
 use Rattle.tally.proofs.Ranks.{entries-fit}
-use Rattle.directory.specs.All.{allb}
-use Rattle.directory.proofs.Alls.{allb-yes}
-use Rattle.directory.specs.Rows.{span, soundb}
+use Rattle.sets.specs.All.{allb}
+use Rattle.sets.specs.Inserted.{inserted}
+use Rattle.sets.specs.Rows.{span, soundb}
+use Rattle.sets.proofs.Alls.{allb-yes}
+use Rattle.sets.proofs.Spans.{span-inserted, span-length}
+use Rattle.directory.specs.Calls.{admitted, boundTo}
 use Rattle.directory.specs.View.{Stores, setAt, birthAt, slotAt, placeAt, plainly, slotsb, countsb, agreesb, entryAt, view}
-use Rattle.directory.specs.Calls.{inserted, admitted, boundTo}
 use Rattle.directory.specs.declared.Directory.{Directory}
 use Rattle.directory.proofs.Agreed.{slot-sound, birth-rise, last-birth, place-slot}
 use Rattle.directory.proofs.Checks.{birth-next}
-use Rattle.directory.proofs.Rises.{In, keys-map}
 use Rattle.directory.proofs.Laws.{slotsOf, slots-right, places-right, span-in}
-use Rattle.directory.proofs.Admits.{span-inserted}
-use Rattle.directory.proofs.Spots.{span-length}
+use Rattle.directory.proofs.Rises.{In, keys-map}
 
 -- "its own place in the stores and its own birth number among those spent": named slots stand in the order of birth, and each place of
 -- the order names one of them
@@ -132,22 +132,20 @@ module _ (K : Kind) (f : ℕ → K .Series) (z : K .Settings) (c : Config K) (d 
       let p : allb (d .used) (placeAt (s .sets) (s .order) (d .used)) ≡ true = allb-yes (placeAt (s .sets) (s .order) (d .used)) (d .used) place-ok in
       rw (le-leb (d .used) (c .limit + 1) used-few, slots-ok, p, counts-ok)
 
--- other bindings leave the layout
-pub birth-kept : (entries : List (List ℕ)) (x n y : ℕ) → x < length entries → birthAt (boundTo entries x n) y ≡ birthAt entries y
-unfolding boundTo
-birth-kept entries x n zero h = refl
-birth-kept entries x n (suc y) h = go (eqb (suc y) x) refl
+-- another row in a slot, with its birth number, leaves them all
+pub birth-set : (entries : List (List ℕ)) (x y : ℕ) (new : List ℕ) → x < length entries → getD new 0 0 ≡ getD (getD entries x []) 0 0
+    → birthAt (set entries x new) y ≡ birthAt entries y
+birth-set entries x zero new h b = refl
+birth-set entries x (suc y) new h b = go (eqb (suc y) x) refl
   where
-    new : List ℕ
-    new = getD (getD entries x []) 0 0 ∷ n ∷ getD (getD entries x []) 2 0 ∷ []
-
-    go : (b : Bool) → eqb (suc y) x ≡ b → getD (getD (set entries x new) (suc y) []) 0 0 ≡ getD (getD entries (suc y) []) 0 0
-    go true e = let q : suc y ≡ x = eqb-true (suc y) x e in subst (λ (i : ℕ). getD (getD (set entries x new) i []) 0 0 ≡ getD (getD entries i []) 0 0) (sym q) (ap (λ r. getD r 0 0) (getD-set-same entries x new [] h))
+    go : (t : Bool) → eqb (suc y) x ≡ t → getD (getD (set entries x new) (suc y) []) 0 0 ≡ getD (getD entries (suc y) []) 0 0
+    go true e = let q : suc y ≡ x = eqb-true (suc y) x e in subst (λ (i : ℕ). getD (getD (set entries x new) i []) 0 0 ≡ getD (getD entries i []) 0 0) (sym q) (ap (λ r. getD r 0 0) (getD-set-same entries x new [] h) ∙ b)
     go false e = ap (λ r. getD r 0 0) (getD-set-other entries x (suc y) new [] (eqb-false (suc y) x e))
 
-pub laid-rebind : (d : Directory) (s : Stores) (x n : ℕ) → x < length (s .entries) → Laid d s → Laid d (record { sets = s .sets; entries = boundTo (s .entries) x n; order = s .order })
-laid-rebind d s x n h a =
-    let k : ((y : ℕ) → birthAt (boundTo (s .entries) x n) y ≡ birthAt (s .entries) y) = λ y. birth-kept (s .entries) x n y h in
+-- and where they stay, the layout does
+pub laid-births : (d : Directory) (s : Stores) (entries : List (List ℕ)) → ((y : ℕ) → birthAt entries y ≡ birthAt (s .entries) y) → Laid d s
+    → Laid d (record { sets = s .sets; entries = entries; order = s .order })
+laid-births d s entries k a =
     record {
       sound = a .sound;
       birth = λ y u. rw (k y, k (y + 1)) (a .birth y u);
@@ -155,13 +153,21 @@ laid-rebind d s x n h a =
       slots = a .slots;
     }
 
+-- other bindings
+pub birth-kept : (entries : List (List ℕ)) (x n y : ℕ) → x < length entries → birthAt (boundTo entries x n) y ≡ birthAt entries y
+unfolding boundTo
+birth-kept entries x n y h = birth-set entries x y (getD (getD entries x []) 0 0 ∷ n ∷ getD (getD entries x []) 2 0 ∷ []) h refl
+
+pub laid-rebind : (d : Directory) (s : Stores) (x n : ℕ) → x < length (s .entries) → Laid d s → Laid d (record { sets = s .sets; entries = boundTo (s .entries) x n; order = s .order })
+laid-rebind d s x n h a = laid-births d s (boundTo (s .entries) x n) (λ y. birth-kept (s .entries) x n y h) a
+
 -- a new entry extends it
 in-span : (l : List ℕ) (i n k : ℕ) → k < n → In (getD l (i + k) 0) (span l i n)
 in-span l i zero k h = absurd (omega arith)
 in-span l i (suc n) zero h = let e : i + 0 ≡ i = omega arith in inl (ap (λ (j : ℕ). getD l j 0) e)
 in-span l i (suc n) (suc k) h = let e : suc i + k ≡ i + suc k = omega arith in inr (subst (λ (j : ℕ). In (getD l j 0) (span l (suc i) n)) e (in-span l (suc i) n k (omega arith)))
 
-in-around : (l : List ℕ) (r x y : ℕ) → In y (take r l ++ (x ∷ drop r l)) → (y ≡ x) ⊎ In y l
+pub in-around : (l : List ℕ) (r x y : ℕ) → In y (take r l ++ (x ∷ drop r l)) → (y ≡ x) ⊎ In y l
 in-around [] zero x y m = m
 in-around [] (suc r) x y m = m
 in-around (a ∷ l) zero x y m = m

@@ -1,7 +1,7 @@
 -- The directory's calls are the map's steps, for any kind of series. Assumes nothing.
-use Prim.Native.Nat.{ℕ, zero, suc, _+_, _-_, _≤_, _<_, Ordering·lt, Ordering·eq, Ordering·gt}
+use Prim.Native.Nat.{ℕ, zero, suc, _+_, _≤_, _<_, Ordering·lt, Ordering·eq, Ordering·gt}
 use mathlib.Core.Path.{_≡_, refl, ap, sym, subst, _∙_}
-use mathlib.Core.Logic.{_⊎_, inl, inr, ⊎-elim}
+use mathlib.Core.Logic.{inl, inr, ⊎-elim}
 use mathlib.Core.Bool.{Bool, true, false, cond, _&&_}
 use mathlib.Core.List.{List, [], _∷_, map}
 use mathlib.Core.Option.{Option, none, some}
@@ -12,23 +12,22 @@ use lib.ListN.{length, getD}
 use lib.Seq.{getD-set-same, getD-set-other}
 use Rattle.tally.specs.Sets.{Set, cmp, Rising, Above}
 use Rattle.tally.specs.Kind.{Kind}
-use Rattle.tally.specs.Map.{Config, Entry, Map, Call, release, Answer, done, refuse, handle, named, put, rebound, step, upfront, act, releaseAt}
+use Rattle.tally.specs.Map.{Entry, named, put, rebound}
 use Rattle.laws.proofs.Cases.{lt-not-eq}
 use Rattle.tally.proofs.Order.{lt-gt, cmp-self}
 use Rattle.laws.proofs.Cases.{and-true}
-use Rattle.directory.specs.All.{allb}
-use Rattle.directory.specs.Rows.{span, setOf}
-use Rattle.directory.specs.View.{Stores, setAt, birthAt, placeAt, slotsb, agreesb, entryAt, view}
-use Rattle.laws.specs.Pick.{pick}
-use Rattle.directory.specs.Calls.{boundTo, scan, releasedIn, releasedAt, refused, Outcome}
+use Rattle.sets.specs.All.{allb}
+use Rattle.sets.specs.Rows.{span, setOf}
+use Rattle.sets.proofs.Keyed.{after-empty}
+use Rattle.directory.specs.Calls.{boundTo, scan}
+use Rattle.directory.specs.View.{Stores, setAt, birthAt, placeAt, slotsb, agreesb, entryAt}
 use Rattle.directory.specs.declared.Directory.{Directory}
 use Rattle.directory.specs.declared.Found.{Found}
 use Rattle.directory.specs.declared.Found.the-variants.{Held, Room}
-use Rattle.directory.specs.declared.Answer.the-variants.{Refused, Done, Handle}
-use Rattle.directory.specs.declared.Answer as ours
 use Rattle.directory.proofs.Agreed.{slot-sizes, place-slot, place-rise}
 use Rattle.directory.proofs.Checks.{set-named}
-use Rattle.directory.proofs.Rises.{In, rising-span, above-span, after-empty}
+use Rattle.directory.proofs.Rises.{In, rising-span, above-span}
+use Rattle.laws.specs.Pick.{pick}
 
 -- the slots of a directory, ascending by set
 abbrev pub slotsOf : Directory → Stores → List ℕ
@@ -77,9 +76,35 @@ span-in P l i (suc k) h x m =
     ⊎-elim (λ e. subst P (sym e) (h i (omega arith) (omega arith))) (λ n. span-in P l (suc i) k (λ j a b. h j (omega arith) (omega arith)) x n) m
 
 -- a slot of the list is not below what all are above
-above-in : (g : ℕ → Set) (s : Set) (l : List ℕ) (x : ℕ) → Above s (map g l) → In x l → cmp s (g x) ≡ Ordering·lt
+pub above-in : (g : ℕ → Set) (s : Set) (l : List ℕ) (x : ℕ) → Above s (map g l) → In x l → cmp s (g x) ≡ Ordering·lt
 above-in g s [] x a m = absurd m
 above-in g s (y ∷ l) x a m = ⊎-elim (λ e. rw e (a .0)) (λ n. above-in g s l x (a .1) n) m
+
+-- entries E of slots that ascend by set g, and F that differ from them in slot x alone, where the set is the same: the new one put
+module _ (K : Kind) (g : ℕ → Set) (E F : ℕ → Entry K) (own : (y : ℕ) → E y .set ≡ g y) (x : ℕ) (same : F x .set ≡ g x) where
+  abbrev Off : List ℕ → Type 0
+  Off l = (y : ℕ) → In y l → (y ≡ x → ⊥) → F y ≡ E y
+
+  keep-map : (l : List ℕ) → Off l → (In x l → ⊥) → map F l ≡ map E l
+  keep-map [] o h = refl
+  keep-map (y ∷ l) o h = rw (o y (inl refl) (λ e. h (inl (sym e))), keep-map l (λ z m. o z (inr m)) (λ m. h (inr m)))
+
+  pub put-at : (l : List ℕ) → Off l → Rising (map g l) → In x l → map F l ≡ put K (F x) (map E l)
+  put-at [] o r m = absurd m
+  put-at (y ∷ l) o r m = ⊎-elim here (there (λ i. put-at l (λ z n. o z (inr n)) (r .1) i)) m
+    where
+      self : (z : ℕ) → z ≡ y → In z l → ⊥
+      self z e i = lt-not-eq (sym (above-in g (g y) l z (r .0) i) ∙ rw e (cmp-self (g y)))
+
+      here : x ≡ y → map F (y ∷ l) ≡ put K (F x) (map E (y ∷ l))
+      here e =
+          let c : cmp (F x .set) (E y .set) ≡ Ordering·eq = ap (λ w. cmp w (E y .set)) (same ∙ ap g e) ∙ ap (cmp (g y)) (own y) ∙ cmp-self (g y) in
+          rw (c, keep-map l (λ z m. o z (inr m)) (self x e)) (ap (λ t. F t ∷ map E l) (sym e))
+
+      there : (In x l → map F l ≡ put K (F x) (map E l)) → In x l → map F (y ∷ l) ≡ put K (F x) (map E (y ∷ l))
+      there k i =
+          let c : cmp (F x .set) (E y .set) ≡ Ordering·gt = ap (λ w. cmp w (E y .set)) same ∙ ap (cmp (g x)) (own y) ∙ lt-gt (g y) (g x) (above-in g (g y) l x (r .0) i) in
+          rw (c, o y (inl refl) (λ e. self x (sym e) i)) (ap (λ t. E y ∷ t) (k i))
 
 module _ (K : Kind) (f : ℕ → K .Series) (s : Stores) (x n : ℕ) where
   abbrev s′ : Stores
@@ -96,32 +121,15 @@ module _ (K : Kind) (f : ℕ → K .Series) (s : Stores) (x n : ℕ) where
   rebind-same zero e h = rw (← e, getD-set-same (s .entries) zero (getD (getD (s .entries) zero []) 0 0 ∷ n ∷ getD (getD (s .entries) zero []) 2 0 ∷ []) [] (rw (← e) at h))
   rebind-same (suc y) e h = rw (← e, getD-set-same (s .entries) (suc y) (getD (getD (s .entries) (suc y) []) 0 0 ∷ n ∷ getD (getD (s .entries) (suc y) []) 2 0 ∷ []) [] (rw (← e) at h))
 
-  keep-map : (l : List ℕ) → (In x l → ⊥) → map (entryAt K f s′) l ≡ map (entryAt K f s) l
-  keep-map [] h = refl
-  keep-map (y ∷ l) h = rw (rebind-other y (λ e. h (inl (sym e))), keep-map l (λ m. h (inr m)))
-
   -- changing the bindings of a slot that is held is putting its entry
   pub rebind-put : (l : List ℕ) → Rising (map (setAt (s .sets)) l) → In x l → x < length (s .entries) → map (entryAt K f s′) l ≡ put K (rebound K (entryAt K f s x) n) (map (entryAt K f s) l)
-  rebind-put [] g m h = absurd m
-  rebind-put (y ∷ l) g m h = ⊎-elim here (there (λ i. rebind-put l (g .1) i h)) m
-    where
-      self : (z : ℕ) → z ≡ y → In z l → ⊥
-      self z e i = lt-not-eq (sym (above-in (setAt (s .sets)) (setAt (s .sets) y) l z (g .0) i) ∙ rw e (cmp-self (setAt (s .sets) y)))
-
-      here : x ≡ y → map (entryAt K f s′) (y ∷ l) ≡ put K (rebound K (entryAt K f s x) n) (map (entryAt K f s) (y ∷ l))
-      here e =
-          let c : cmp (setAt (s .sets) x) (setAt (s .sets) y) ≡ Ordering·eq = rw e (cmp-self (setAt (s .sets) y)) in
-          let p : rebound K (entryAt K f s y) n ≡ rebound K (entryAt K f s x) n = ap (λ k. rebound K (entryAt K f s k) n) (sym e) in
-          rw (c, rebind-same y (sym e) h, keep-map l (self x e)) (ap (λ r. r ∷ map (entryAt K f s) l) p)
-
-      there : (In x l → map (entryAt K f s′) l ≡ put K (rebound K (entryAt K f s x) n) (map (entryAt K f s) l)) → In x l → map (entryAt K f s′) (y ∷ l) ≡ put K (rebound K (entryAt K f s x) n) (map (entryAt K f s) (y ∷ l))
-      there k i =
-          let c : cmp (setAt (s .sets) x) (setAt (s .sets) y) ≡ Ordering·gt = lt-gt (setAt (s .sets) y) (setAt (s .sets) x) (above-in (setAt (s .sets)) (setAt (s .sets) y) l x (g .0) i) in
-          rw (c, rebind-other y (λ e. self x (sym e) i)) (ap (λ r. entryAt K f s y ∷ r) (k i))
+  rebind-put l g m h =
+      put-at K (setAt (s .sets)) (entryAt K f s) (entryAt K f s′) (λ y. refl) x refl l (λ y i q. rebind-other y q) g m
+      ∙ ap (λ e. put K e (map (entryAt K f s) l)) (rebind-same x refl h)
 
 -- the scan for a handle
 module _ (K : Kind) (f : ℕ → K .Series) (s : Stores) (h : ℕ) where
-  abbrev entryOf : Found → Option (Entry K)
+  abbrev pub entryOf : Found → Option (Entry K)
   entryOf (Held x) = some (entryAt K f s x)
   entryOf (Room r) = none
 
@@ -156,55 +164,3 @@ pub slot-used : (limit : ℕ) (d : Directory) (s : Stores) → agreesb limit d s
 slot-used limit d s g x m =
     ⊎-elim (λ e. omega arith)
     (λ i. span-in (λ (y : ℕ). y ≤ d .used) (s .order) 0 (d .used) (λ j a b. place-slot (d .used) (s .sets) (s .order) (places-right limit d s g) j (omega arith) .1) x i) m
-
-module _ (K : Kind) (f : ℕ → K .Series) (z : K .Settings) where
-  -- our answers as the map's
-  abbrev pub said : ours.Answer → Answer K
-  said (Refused n) = refuse n
-  said Done = done
-  said (Handle b) = handle b
-
-  release-step : (c : Config K) (d : Directory) (s : Stores) (h : ℕ) → agreesb (c .limit) d s ≡ true → c .limit + 2 ≤ length (s .entries)
-      → (o : Found) → scan h (s .entries) (slotsOf d s) ≡ o
-      → (said (releasedAt d s o .answer) ≡ step K c (view K f z d s) (release h) .answer)
-      × (view K f z (releasedAt d s o .kept .dir) (releasedAt d s o .kept .stores) ≡ step K c (view K f z d s) (release h) .map)
-  unfolding upfront act releaseAt
-  release-step c d s h g r (Room i) e =
-      let n : named K h (map (entryAt K f s) (slotsOf d s)) ≡ none = named-scan K f s h (slotsOf d s) ∙ ap (entryOf K f s h) e in
-      rw n (refl, refl)
-  release-step c d s h g r (Held x) e =
-      let n : named K h (map (entryAt K f s) (slotsOf d s)) ≡ some (entryAt K f s x) = named-scan K f s h (slotsOf d s) ∙ ap (entryOf K f s h) e in
-      let m = scan-in h (s .entries) x (slotsOf d s) e in
-      let u = slot-used (c .limit) d s g x m in
-      let w = few (c .limit) d s g in
-      let p = rebind-put K f s x (getD (getD (s .entries) x []) 1 0 - 1) (slotsOf d s) (ascends (c .limit) d s g) m (omega arith) in
-      rw n (refl, ap (λ l. record { settings = z; count = d .count; last = d .last; entries = l }) p)
-
-  released-right : (limit : ℕ) (d : Directory) (s : Stores) (h : ℕ) → agreesb limit d s ≡ true → releasedIn limit d s h ≡ releasedAt d s (scan h (s .entries) (slotsOf d s))
-  unfolding releasedIn pick
-  released-right limit d s h g = rw g
-
-  -- an outcome is the map's step: its answer, and the map that is then held
-  abbrev pub Steps : Config K → Map K → Call K → Outcome → Type 0
-  Steps c m x o = (said (o .answer) ≡ step K c m x .answer) × (view K f z (o .kept .dir) (o .kept .stores) ≡ step K c m x .map)
-
-  -- releasing is the map's step, where the directory agrees
-  pub release-faithful : (c : Config K) (d : Directory) (s : Stores) (h : ℕ) → agreesb (c .limit) d s ≡ true → c .limit + 2 ≤ length (s .entries)
-      → Steps c (view K f z d s) (release h) (releasedIn (c .limit) d s h)
-  release-faithful c d s h g r =
-      subst (λ o. Steps c (view K f z d s) (release h) o) (sym (released-right (c .limit) d s h g)) (release-step c d s h g r (scan h (s .entries) (slotsOf d s)) refl)
-
--- the cases of a release
-module _ (limit : ℕ) (d : Directory) (s : Stores) (h : ℕ) where
-  pub release-no : agreesb limit d s ≡ false → releasedIn limit d s h ≡ refused 8 d s
-  unfolding releasedIn pick
-  release-no g = rw g
-
-  module _ (g : agreesb limit d s ≡ true) where
-    pub release-none : (r : ℕ) → scan h (s .entries) (slotsOf d s) ≡ Room r → releasedIn limit d s h ≡ refused 7 d s
-    unfolding releasedIn pick
-    release-none r e = rw (g, e)
-
-    pub release-one : (x : ℕ) → scan h (s .entries) (slotsOf d s) ≡ Held x → releasedIn limit d s h ≡ releasedAt d s (Held x)
-    unfolding releasedIn pick
-    release-one x e = rw (g, e)

@@ -2,22 +2,22 @@
 -- directory. Assumes nothing.
 use Prim.Native.Nat.{ℕ, _≤_, _<_}
 use mathlib.Core.Path.{_≡_}
-use mathlib.Core.Logic.{_⊎_, ⊎-elim}
+use mathlib.Core.Logic.{⊎-elim}
 use mathlib.Core.Bool.{true, false}
 use mathlib.Core.List.{List, map}
 use native.Mathlib.Omega.{arith}
 use borrow.Author.Tests.{ltb-false}
 use lib.Dec.{ltb}
 use Rattle.tally.proofs.Entries.{find-set}
-use Rattle.directory.specs.Rows.{span, setOf}
-use Rattle.directory.specs.View.{Stores, setAt, agreesb, sought, entryAt, view}
+use Rattle.sets.specs.Rows.{span, setOf}
 use Rattle.directory.specs.Calls.{located}
+use Rattle.directory.specs.View.{Stores, setAt, agreesb, sought, entryAt, view}
 use Rattle.directory.specs.declared.Directory.{Directory}
 use Rattle.directory.specs.declared.Found.the-variants.{Held}
 use Rattle.directory.specs.declared.Target.the-variants.{Old, Over}
 use Rattle.directory.proofs.Admits.{length-span}
-use Rattle.directory.proofs.Binds.{blank, counted, sought-held, told}
 use Rattle.directory.proofs.Laid.{plains-le}
+use Rattle.directory.proofs.Located.{blank, counted, sought-held, told}
 
 module _ (limit : ℕ) (d : Directory) (s : Stores) (g : agreesb limit d s ≡ true) where
   -- the count is at most the named sets held

@@ -1,5 +1,5 @@
 -- A directory that agrees is a map whose sets ascend. Assumes nothing.
-use Prim.Native.Nat.{ℕ, zero, suc, _+_, _-_, _≤_, _<_, Ordering, Ordering·lt, Ordering·eq, Ordering·gt}
+use Prim.Native.Nat.{ℕ, zero, suc, _+_, _≤_, _<_, Ordering, Ordering·lt, Ordering·eq, Ordering·gt}
 use mathlib.Core.Path.{_≡_, refl, ap, sym, _∙_}
 use mathlib.Core.Logic.{_⊎_, inl, inr}
 use mathlib.Core.Bool.{true, false}
@@ -15,7 +15,7 @@ use Rattle.tally.proofs.Order.{gt-lt, lt-gt, same-flip}
 use Rattle.tally.proofs.Rising.{above-trans, above-mem}
 use Rattle.tally.proofs.Entries.{find-none}
 use Rattle.tally.proofs.Ranks.{rank}
-use Rattle.directory.specs.Rows.{pair, size, span, setOf}
+use Rattle.sets.specs.Rows.{span}
 use Rattle.directory.specs.View.{Stores, setAt, seek, entryAt}
 use Rattle.directory.specs.declared.Found.the-variants.{Held, Room}
 
@@ -31,11 +31,6 @@ rising-span f l i (suc (suc k)) h =
 pub above-span : (f : ℕ → Set) (s : Set) (l : List ℕ) (i k : ℕ) → ((j : ℕ) → i ≤ j → j < i + k → cmp s (f (getD l j 0)) ≡ Ordering·lt) → Above s (map f (span l i k))
 above-span f s l i zero h = tt
 above-span f s l i (suc k) h = (h i (omega arith) (omega arith), above-span f s l (suc i) k (λ j a b. h j (omega arith) (omega arith)))
-
--- a set with an attribute comes after the empty one
-pub after-empty : (row : List ℕ) → 1 ≤ size row → cmp [] (setOf row) ≡ Ordering·lt
-unfolding setOf
-after-empty row h = let e : size row ≡ suc (size row - 1) = omega arith in ap (λ (k : ℕ). cmp [] (map pair (span row 0 k))) e
 
 -- membership
 abbrev pub In : ℕ → List ℕ → Type 0

@@ -1,6 +1,6 @@
 -- The directory in its stores: when it agrees with itself, and what map it is. Assumes nothing.
-use Prim.Native.Nat.{ℕ, zero, suc, _+_, _-_, Ordering, Ordering·lt, Ordering·eq, Ordering·gt}
-use mathlib.Core.Bool.{Bool, true, false, cond, not, _&&_, _||_}
+use Prim.Native.Nat.{ℕ, zero, suc, _+_, _-_}
+use mathlib.Core.Bool.{Bool, cond, not, _&&_, _||_}
 use mathlib.Core.List.{List, [], _∷_, map}
 use mathlib.Core.Option.{none, some}
 use lib.Dec.{ltb, leb, eqb}
@@ -8,13 +8,13 @@ use lib.ListN.{getD, set}
 use Rattle.tally.specs.Sets.{Set, three, cmp, same}
 use Rattle.tally.specs.Kind.{Kind}
 use Rattle.tally.specs.Map.{Entry, Map, plains}
-use Rattle.directory.specs.All.{allb}
-use Rattle.directory.specs.Rows.{span, setOf, soundb}
+use Rattle.sets.specs.All.{allb}
+use Rattle.sets.specs.Rows.{span, setOf, soundb, below}
 use Rattle.directory.specs.declared.Directory.{Directory}
-use Rattle.directory.specs.declared.Placed.{Placed}
-use Rattle.directory.specs.declared.Placed.the-variants.{Broken, Plain}
 use Rattle.directory.specs.declared.Found.{Found}
 use Rattle.directory.specs.declared.Found.the-variants.{Held, Room}
+use Rattle.directory.specs.declared.Placed.{Placed}
+use Rattle.directory.specs.declared.Placed.the-variants.{Broken, Plain}
 
 pub record Stores : Type 0 where
   pub sets : List (List ℕ)
@@ -30,11 +30,6 @@ setAt sets (suc x) = setOf (getD sets (suc x) [])
 abbrev pub birthAt : List (List ℕ) → ℕ → ℕ
 birthAt entries zero = 0
 birthAt entries (suc x) = getD (getD entries (suc x) []) 0 0
-
-abbrev pub below : Ordering → Bool
-below Ordering·lt = true
-below Ordering·eq = false
-below Ordering·gt = false
 
 -- "each has 1 to 8 attributes with rising keys ... and its own birth number among those spent": the slot after x has 1 to 8 attributes with rising keys, and a later birth number than x
 abbrev pub slotAt : List (List ℕ) → List (List ℕ) → ℕ → Bool

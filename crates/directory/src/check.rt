@@ -3,18 +3,18 @@ ghost use mathlib.Core.Path.{_≡_};
 ghost use mathlib.Core.List.{[]};
 ghost use Prim.Native.Nat.{ℕ, _+_, _<_, _≤_};
 ghost use lib.ListN.{length, getD};
-ghost use Rattle.directory.specs.Rows.{size};
+ghost use Rattle.sets.specs.Rows.{size};
 ghost use Rattle.directory.specs.View.{slotsb, placed, countsb, agreesb};
 
 // Whether each slot holds a sound set and birth numbers rise.
-pub fn slots(used: usize, last: u64, sets: &[[u64; 9]], entries: &[[u64; 3]]) -> bool
+fn slots(used: usize, last: u64, sets: &[[u64; 9]], entries: &[[u64; 3]]) -> bool
     requires { ⌜ (used < length (now sets)) × (used < length (now entries)) ⌝ }
     ensures { λ r. ⌜ r ≡ slotsb used last (now (sets .entry)) (now (entries .entry)) ⌝ }
 {
     let mut prev: u64 = 0;
     let mut i: usize = 0;
     while i < used {
-        if !crate::rows::sound(&sets[i + 1]) {
+        if !sets::rows::sound(&sets[i + 1]) {
             return false;
         }
         let b = entries[i + 1][0];
@@ -31,7 +31,7 @@ pub fn slots(used: usize, last: u64, sets: &[[u64; 9]], entries: &[[u64; 3]]) ->
 }
 
 // Whether the places name slots ascending by set, and how many of these are plain.
-pub fn places(used: usize, sets: &[[u64; 9]], order: &[u32]) -> crate::Placed
+fn places(used: usize, sets: &[[u64; 9]], order: &[u32]) -> crate::Placed
     requires { ⌜ (used < length (now sets)) × (used ≤ length (now order)) × ((x : ℕ) → 1 ≤ x → x ≤ used → (1 ≤ size (getD (now sets) x [])) × (size (getD (now sets) x []) ≤ 8)) ⌝ }
     ensures { λ r. ⌜ r ≡ placed used (now (sets .entry)) (now (order .entry)) ⌝ }
 {
@@ -46,10 +46,10 @@ pub fn places(used: usize, sets: &[[u64; 9]], order: &[u32]) -> crate::Placed
         if q > used {
             return crate::Placed::Broken;
         }
-        if !crate::rows::follows(i, &sets[p], &sets[q]) {
+        if !sets::rows::follows(i, &sets[p], &sets[q]) {
             return crate::Placed::Broken;
         }
-        plain += crate::rows::plain_row(&sets[q]);
+        plain += sets::rows::plain_row(&sets[q]);
         p = q;
         i += 1;
     }
@@ -57,7 +57,7 @@ pub fn places(used: usize, sets: &[[u64; 9]], order: &[u32]) -> crate::Placed
 }
 
 // Whether the stored count is right.
-pub fn counts(limit: u64, count: u64, used: usize, plain: usize) -> bool
+fn counts(limit: u64, count: u64, used: usize, plain: usize) -> bool
     ensures { λ r. ⌜ r ≡ countsb limit count used plain ⌝ }
 {
     if count > limit {

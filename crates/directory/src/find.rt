@@ -6,12 +6,12 @@ ghost use Prim.Native.Nat.{ℕ, suc, _+_, _<_, _≤_, Ordering·lt};
 ghost use lib.Dec.{eqb, ltb};
 ghost use lib.ListN.{length, getD};
 ghost use Rattle.tally.specs.Sets.{cmp};
-ghost use Rattle.directory.specs.Rows.{span, size, setOf};
-ghost use Rattle.directory.specs.View.{sought};
+ghost use Rattle.sets.specs.Rows.{span, size, setOf};
 ghost use Rattle.directory.specs.Calls.{located, scan};
+ghost use Rattle.directory.specs.View.{sought};
 
 // Where a set stands in a directory whose places are right, by halving.
-pub fn find(used: usize, sets: &[[u64; 9]], order: &[u32], wanted: &[u64; 9]) -> crate::Found
+fn find(used: usize, sets: &[[u64; 9]], order: &[u32], wanted: &[u64; 9]) -> crate::Found
     requires { ⌜ (used < length (now sets)) × (used ≤ length (now order)) × (size (now wanted) ≤ 8) × ((k : ℕ) → k < used → (1 ≤ getD (now order) k 0) × (getD (now order) k 0 ≤ used)) × ((x : ℕ) → 1 ≤ x → x ≤ used → size (getD (now sets) x []) ≤ 8) × ((k : ℕ) → suc k < used → cmp (setOf (getD (now sets) (getD (now order) k 0) [])) (setOf (getD (now sets) (getD (now order) (suc k) 0) [])) ≡ Ordering·lt) ⌝ }
     ensures { λ r. ⌜ r ≡ sought (setOf (now (wanted .entry))) used (now (sets .entry)) (now (order .entry)) ⌝ }
 {
@@ -23,18 +23,18 @@ pub fn find(used: usize, sets: &[[u64; 9]], order: &[u32], wanted: &[u64; 9]) ->
     while low < high {
         let mid = low + (high - low) / 2;
         let q = order[mid] as usize;
-        let w = crate::rows::compare(wanted, &sets[q]);
+        let w = sets::rows::compare(wanted, &sets[q]);
         match w {
-            crate::Way::Before => high = mid,
-            crate::Way::Same => return crate::Found::Held(q),
-            crate::Way::After => low = mid + 1,
+            sets::Way::Before => high = mid,
+            sets::Way::Same => return crate::Found::Held(q),
+            sets::Way::After => low = mid + 1,
         }
     }
     crate::Found::Room(low)
 }
 
 // Whether an entry is the one that a handle names, with bindings.
-pub fn names(birth: u64, bindings: u64, h: u64) -> bool
+fn names(birth: u64, bindings: u64, h: u64) -> bool
     ensures { λ r. ⌜ r ≡ (eqb birth h && ltb 0 bindings) ⌝ }
 {
     if birth == h {

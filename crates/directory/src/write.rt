@@ -2,11 +2,12 @@
 ghost use mathlib.Core.Path.{_≡_};
 ghost use Prim.Native.Nat.{_+_, _^_, _<_, _≤_};
 ghost use lib.ListN.{length};
+ghost use Rattle.sets.specs.Inserted.{inserted};
+ghost use Rattle.directory.specs.Calls.{admitted, boundTo};
 ghost use Rattle.directory.specs.View.{birthAt};
-ghost use Rattle.directory.specs.Calls.{inserted, admitted, boundTo};
 
 // Moves the places from `at` up and puts the slot there.
-pub fn insert(order: &mut [u32], used: usize, at: usize, slot: u32)
+fn insert(order: &mut [u32], used: usize, at: usize, slot: u32)
     requires { ⌜ (at ≤ used) × (used < length (now order)) ⌝ }
     ensures { λ _. ⌜ now (order .exit) ≡ inserted (now (order .entry)) used at slot ⌝ }
 {

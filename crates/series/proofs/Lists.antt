@@ -47,12 +47,12 @@ one-total naught = refl
 one-total (plus i) = refl
 one-total (minus i) = refl
 
-total-one : (size : ℕ) (p : Point) (v : Value) → record1 size p v .total ≡ p .total + 1
+pub total-one : (size : ℕ) (p : Point) (v : Value) → record1 size p v .total ≡ p .total + 1
 unfolding record1 build bag
 total-one size p v = ap (λ n. p .total + n) (one-total v)
 
 -- an accepted call
-accepted-is : (size top : ℕ) (h : Head) (xs ys : List ℕ) (v : Float) → refusalOf size top h xs ys v ≡ 0
+pub accepted-is : (size top : ℕ) (h : Head) (xs ys : List ℕ) (v : Float) → refusalOf size top h xs ys v ≡ 0
     → recording size top h xs ys v ≡ accepted (record1 size (read (h .counts) xs ys) (classOf zeroFloat v)) h xs ys v
 unfolding recording pick
 accepted-is size top h xs ys v e = rw (eq-eqb (refusalOf size top h xs ys v) 0 e)

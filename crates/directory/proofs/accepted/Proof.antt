@@ -1,5 +1,4 @@
 -- `directory::accepted` meets its contract. Assumes nothing.
-use Prim.Native.Nat.{_-_}
 use borrow.Author.Tests.{not-true, not-false}
 use Rattle.directory.proofs.Refusals.{over-limit, no-filter, many-keys, few-keys}
 use Rattle.directory.proofs.accepted.Statement.{statement}

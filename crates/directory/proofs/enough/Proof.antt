@@ -1,10 +1,10 @@
 -- `directory::enough` meets its contract. Assumes nothing.
-use Prim.Native.Nat.{_+_, _-_}
+use Prim.Native.Nat.{_+_}
 use mathlib.Core.Bool.{false}
 use lib.Dec.{leb}
 use Rattle.directory.proofs.Refusals.{first-no, second-no, third}
-use borrow.Author.Needs.{needs}
 use Rattle.directory.proofs.enough.Statement.{statement}
+use borrow.Author.Needs.{needs}
 use Rattle.directory.proofs.enough.Tie as tie
 
 holds-requires : tie.Need-holds-requires

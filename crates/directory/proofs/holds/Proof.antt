@@ -1,5 +1,4 @@
 -- `directory::holds` meets its contract. Assumes nothing.
-use Prim.Native.Nat.{_-_}
 use Rattle.directory.proofs.Refusals.{under-two, too-few, as-many}
 use Rattle.directory.proofs.holds.Statement.{statement}
 use Rattle.directory.proofs.holds.Tie as tie

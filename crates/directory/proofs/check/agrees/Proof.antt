@@ -1,11 +1,12 @@
+-- `directory::check::agrees` meets its contract. Assumes nothing.
 use borrow.Author.Needs.{needs}
 use mathlib.Core.Path.{_≡_, sym, _∙_}
 use mathlib.Core.Bool.{true}
 use borrow.Author.Tests.{not-true, not-false}
 use Rattle.directory.specs.View.{Stores, slotsb}
 use Rattle.directory.proofs.Agreed.{agree-far, agree-slots, agree-places, agree-counts, slot-sizes, placed-broken, placed-plain}
-use borrow.Author.Needs.{needs}
 use Rattle.directory.proofs.check.agrees.Statement.{statement}
+use borrow.Author.Needs.{needs}
 use Rattle.directory.proofs.check.agrees.Tie as tie
 
 abbrev stores : tie.Start → Stores

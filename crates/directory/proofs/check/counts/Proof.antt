@@ -1,8 +1,9 @@
+-- `directory::check::counts` meets its contract. Assumes nothing.
 use borrow.Author.Needs.{needs}
 use mathlib.Core.Path.{sym}
 use Rattle.directory.proofs.Agreed.{count-over, count-plain, count-none, count-more, count-wrong}
-use borrow.Author.Needs.{needs}
 use Rattle.directory.proofs.check.counts.Statement.{statement}
+use borrow.Author.Needs.{needs}
 use Rattle.directory.proofs.check.counts.Tie as tie
 
 returns : tie.Need-returns

@@ -1,3 +1,4 @@
+-- `directory::check::places` meets its contract. Assumes nothing.
 use borrow.Author.Needs.{needs}
 use mathlib.Core.Path.{_≡_, refl, sym, ap, subst, _∙_}
 use mathlib.Core.Bool.{true, false}
@@ -8,9 +9,9 @@ use borrow.Author.Tests.{not-true, not-false}
 use borrow.Author.Needs.{scaled-fits}
 use lib.ListN.{length, getD}
 use Rattle.tally.specs.Map.{plain}
-use Rattle.directory.specs.All.{allb}
-use Rattle.directory.proofs.Alls.{allb-none, allb-more, allb-no}
-use Rattle.directory.specs.Rows.{setOf}
+use Rattle.sets.specs.All.{allb}
+use Rattle.sets.specs.Rows.{setOf}
+use Rattle.sets.proofs.Alls.{allb-none, allb-more, allb-no}
 use Rattle.directory.specs.View.{placeAt, plainly}
 use Rattle.directory.specs.declared.Placed.the-variants.{Plain}
 use Rattle.directory.proofs.Checks.{place-low, place-high, place-test, plainly-more, placed-no, placed-yes, bit-one}

@@ -1,11 +1,12 @@
+-- `directory::check::slots` meets its contract. Assumes nothing.
 use borrow.Author.Needs.{needs}
 use mathlib.Core.Path.{_≡_, refl, sym, ap, subst, _∙_}
 use mathlib.Core.Bool.{true}
 use Prim.Native.Nat.{ℕ, _-_, _≤_}
 use native.Mathlib.Omega.{arith}
 use borrow.Author.Tests.{not-true, not-false}
-use Rattle.directory.specs.All.{allb}
-use Rattle.directory.proofs.Alls.{allb-none, allb-more, allb-no}
+use Rattle.sets.specs.All.{allb}
+use Rattle.sets.proofs.Alls.{allb-none, allb-more, allb-no}
 use Rattle.directory.specs.View.{slotAt, birthAt}
 use Rattle.directory.proofs.Checks.{birth-next, slot-unsound, slot-late, slot-yes, slots-no, slots-late, slots-yes}
 use Rattle.directory.proofs.check.slots.Statement.{statement}

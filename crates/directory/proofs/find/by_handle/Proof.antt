@@ -1,3 +1,4 @@
+-- `directory::find::by_handle` meets its contract. Assumes nothing.
 use borrow.Author.Needs.{needs}
 use mathlib.Core.Path.{_≡_, sym, _∙_}
 use mathlib.Core.List.{_∷_}
@@ -5,7 +6,7 @@ use Prim.Native.Nat.{_-_, _≤_, _<_}
 use native.Mathlib.Omega.{arith}
 use borrow.Author.Needs.{scaled-fits}
 use lib.ListN.{length, getD}
-use Rattle.directory.specs.Rows.{span}
+use Rattle.sets.specs.Rows.{span}
 use Rattle.directory.specs.Calls.{scan}
 use Rattle.directory.proofs.Finds.{scan-first, scan-skip, scan-over, scan-here, scan-on}
 use Rattle.directory.proofs.find.by_handle.Statement.{statement}

@@ -6,9 +6,11 @@ use Prim.Native.Nat.{ℕ, Ordering, Ordering·lt, Ordering·gt, _+_, _-_, _/_, _
 use native.Mathlib.Omega.{arith}
 use lib.ListN.{length, getD}
 use Rattle.tally.specs.Sets.{cmp}
-use Rattle.directory.specs.Rows.{span, setOf}
+use Rattle.sets.specs.Rows.{span, setOf}
+use Rattle.sets.proofs.Keyed.{empty-row, named-row}
+use Rattle.sets.proofs.Ways.{way-lt, way-eq, way-gt}
 use Rattle.directory.specs.View.{seek, sought}
-use Rattle.directory.proofs.Checks.{empty-row, named-row, sought-empty, sought-named, way-lt, way-eq, way-gt}
+use Rattle.directory.proofs.Checks.{sought-empty, sought-named}
 use Rattle.directory.proofs.Halves.{beneath, beyond, held-at, seek-room-at}
 use Rattle.directory.proofs.find.find.Statement.{statement}
 use Rattle.directory.proofs.find.find.Tie as tie

@@ -1,3 +1,4 @@
+-- `directory::find::locate` meets its contract. Assumes nothing.
 use borrow.Author.Needs.{needs}
 use Prim.Native.Nat.{ℕ, suc, _≤_, _<_, Ordering·lt}
 use mathlib.Core.Path.{_≡_, sym, _∙_}
@@ -6,15 +7,14 @@ use mathlib.Core.List.{[]}
 use borrow.Author.Tests.{not-true, not-false}
 use native.Mathlib.Omega.{arith}
 use lib.ListN.{length, getD}
-use Rattle.directory.specs.Rows.{size, setOf}
+use Rattle.sets.specs.Rows.{size, setOf}
 use Rattle.directory.specs.View.{Stores, agreesb}
 use Rattle.directory.proofs.Agreed.{slot-sizes, place-slot}
-use Rattle.directory.proofs.Laws.{place-climb}
-use Rattle.tally.specs.Sets.{cmp}
-use Rattle.directory.proofs.Laws.{few, slots-right, places-right}
 use Rattle.directory.proofs.Finds.{located-no, located-old, located-new, located-over-old, located-over}
-use borrow.Author.Needs.{needs}
+use Rattle.directory.proofs.Laws.{place-climb, few, slots-right, places-right}
 use Rattle.directory.proofs.find.locate.Statement.{statement}
+use Rattle.tally.specs.Sets.{cmp}
+use borrow.Author.Needs.{needs}
 use Rattle.directory.proofs.find.locate.Tie as tie
 
 abbrev stores : tie.Start → Stores

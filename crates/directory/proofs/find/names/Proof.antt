@@ -1,3 +1,4 @@
+-- `directory::find::names` meets its contract. Assumes nothing.
 use Rattle.directory.proofs.Finds.{names-yes, names-unbound, names-other}
 use Rattle.directory.proofs.find.names.Statement.{statement}
 use Rattle.directory.proofs.find.names.Tie as tie

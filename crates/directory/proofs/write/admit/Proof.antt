@@ -1,6 +1,7 @@
+-- `directory::write::admit` meets its contract. Assumes nothing.
 use Rattle.directory.specs.Calls.{admitted}
-use borrow.Author.Needs.{needs}
 use Rattle.directory.proofs.write.admit.Statement.{statement}
+use borrow.Author.Needs.{needs}
 use Rattle.directory.proofs.write.admit.Tie as tie
 
 add-slot : tie.Need-add-slot

@@ -1,8 +1,9 @@
+-- `directory::write::birth_of` meets its contract. Assumes nothing.
 use borrow.Author.Needs.{needs}
 use mathlib.Core.Path.{sym}
 use Rattle.directory.proofs.Finds.{birth-at}
-use borrow.Author.Needs.{needs}
 use Rattle.directory.proofs.write.birth_of.Statement.{statement}
+use borrow.Author.Needs.{needs}
 use Rattle.directory.proofs.write.birth_of.Tie as tie
 
 returns : tie.Need-returns

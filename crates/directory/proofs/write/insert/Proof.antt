@@ -1,10 +1,11 @@
+-- `directory::write::insert` meets its contract. Assumes nothing.
 use mathlib.Core.Path.{_≡_, refl, ap, _∙_}
 use mathlib.Core.List.{List}
 use Prim.Native.Nat.{ℕ, _-_, _≤_}
 use native.Mathlib.Omega.{arith}
 use borrow.Author.Needs.{needs}
 use lib.ListN.{length, getD, set, length-set}
-use Rattle.directory.proofs.Moved.{moved, start, turn, finish}
+use Rattle.sets.proofs.Moved.{moved, start, turn, finish}
 use Rattle.directory.proofs.write.insert.Statement.{statement}
 use Rattle.directory.proofs.write.insert.Tie as tie
 

@@ -1,7 +1,8 @@
+-- `directory::write::rebind` meets its contract. Assumes nothing.
 use borrow.Author.Needs.{needs}
 use Rattle.directory.specs.Calls.{boundTo}
-use borrow.Author.Needs.{needs}
 use Rattle.directory.proofs.write.rebind.Statement.{statement}
+use borrow.Author.Needs.{needs}
 use Rattle.directory.proofs.write.rebind.Tie as tie
 
 mul-b : tie.Need-mul-b

@@ -1,0 +1,2 @@
+-- The definitions that the contracts of `bindings` cite.
+pub mod Calls

@@ -1,0 +1,115 @@
+// Binding a set to a handle and releasing it, in the directory of the map: `bind` of internal/mod.rs.
+mod calls;
+
+ghost use mathlib.Core.Path.{_≡_};
+ghost use Rattle.sets.specs.Sorted.{given, filterOf};
+ghost use Rattle.bindings.specs.Calls.{started, bound, released};
+use directory::Directory;
+
+// A refusal's number, or success.
+pub enum Answer {
+    Refused(u8),
+    Done,
+    Handle(u64),
+}
+
+pub struct Reply {
+    pub answer: Answer,
+    pub dir: Directory,
+}
+
+// A fresh start: a directory that holds the empty set only.
+pub fn start(
+    limit: u64,
+    present: bool,
+    filter: &[u32],
+    sets: &[[u64; 9]],
+    entries: &mut [[u64; 3]],
+    order: &[u32],
+) -> Reply
+    ensures { λ r. ⌜ record { answer = r .answer; kept = record { dir = r .dir; stores = record { sets = now (sets .entry); entries = now (entries .exit); order = now (order .entry) } } } ≡ started limit (filterOf present (now (filter .entry))) (record { sets = now (sets .entry); entries = now (entries .entry); order = now (order .entry) }) ⌝ }
+{
+    let dir = Directory {
+        used: 0,
+        count: 0,
+        last: 0,
+    };
+    if !directory::accepted(limit, present, filter) {
+        return Reply {
+            answer: Answer::Refused(4),
+            dir: dir,
+        };
+    }
+    if !directory::enough(limit, sets.len(), entries.len(), order.len()) {
+        return Reply {
+            answer: Answer::Refused(12),
+            dir: dir,
+        };
+    }
+    entries[0] = [0, 0, 0];
+    Reply {
+        answer: Answer::Done,
+        dir: dir,
+    }
+}
+
+// Binds the attributes' set: its own entry, held or new, or that of overflow.
+pub fn bind(
+    limit: u64,
+    d: Directory,
+    sets: &mut [[u64; 9]],
+    entries: &mut [[u64; 3]],
+    order: &mut [u32],
+    attrs: &[[u32; 2]],
+    present: bool,
+    filter: &[u32],
+) -> Reply
+    ensures { λ r. ⌜ record { answer = r .answer; kept = record { dir = r .dir; stores = record { sets = now (sets .exit); entries = now (entries .exit); order = now (order .exit) } } } ≡ bound limit (filterOf present (now (filter .entry))) d (record { sets = now (sets .entry); entries = now (entries .entry); order = now (order .entry) }) (given (now (attrs .entry))) ⌝ }
+{
+    if !directory::enough(limit, sets.len(), entries.len(), order.len()) {
+        return Reply {
+            answer: Answer::Refused(12),
+            dir: d,
+        };
+    }
+    if !sets::canon::few(attrs) {
+        return Reply {
+            answer: Answer::Refused(5),
+            dir: d,
+        };
+    }
+    if !directory::accepted(limit, present, filter) {
+        return Reply {
+            answer: Answer::Refused(8),
+            dir: d,
+        };
+    }
+    let row = sets::canon::sorted(attrs, present, filter);
+    calls::bind_in(limit, d, sets, entries, order, row)
+}
+
+// Takes one binding off the entry that the handle names.
+pub fn release(
+    limit: u64,
+    d: Directory,
+    sets: &[[u64; 9]],
+    entries: &mut [[u64; 3]],
+    order: &[u32],
+    h: u64,
+) -> Reply
+    ensures { λ r. ⌜ record { answer = r .answer; kept = record { dir = r .dir; stores = record { sets = now (sets .entry); entries = now (entries .exit); order = now (order .entry) } } } ≡ released limit d (record { sets = now (sets .entry); entries = now (entries .entry); order = now (order .entry) }) h ⌝ }
+{
+    if !directory::enough(limit, sets.len(), entries.len(), order.len()) {
+        return Reply {
+            answer: Answer::Refused(12),
+            dir: d,
+        };
+    }
+    if limit > directory::MOST_SETS {
+        return Reply {
+            answer: Answer::Refused(8),
+            dir: d,
+        };
+    }
+    calls::release_in(limit, d, sets, entries, order, h)
+}

@@ -1,0 +1,8 @@
+-- The laws of `seats`.
+pub mod Seatings
+pub mod Commits
+pub mod Marked
+pub mod Sits
+pub mod Faithful
+pub mod Keeps
+pub mod Owns

@@ -1,0 +1,5 @@
+-- The definitions that the contracts of `sets` cite.
+pub mod All
+pub mod Rows
+pub mod Inserted
+pub mod Sorted

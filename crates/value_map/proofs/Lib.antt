@@ -1,0 +1,4 @@
+-- The laws.
+pub mod Bars
+pub mod ExponentialCases
+pub mod ExponentialSteps

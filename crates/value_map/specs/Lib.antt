@@ -1,0 +1,3 @@
+-- The definitions that the contracts of `value_map` cite.
+pub mod First
+pub mod ExponentialCalls

@@ -1,0 +1,3 @@
+// The map from sets to series: `ValueMap`, `measure` and the handles of internal/mod.rs, a module for each kind of series.
+pub mod exponential;
+mod first;

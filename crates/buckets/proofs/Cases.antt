@@ -10,7 +10,7 @@ use lib.ListN.{length, take, length-take}
 use lib.Seq.{length-take-le}
 use lib.Ieee.{Float}
 use lib.Ieee.Scale.{finite}
-use borrow.Author.Tests.{leb-true, le-leb, lt-leb, eq-eqb, ne-eqb, eqb-true, eqb-false}
+use borrow.Author.Tests.{leb-true, le-leb, lt-leb, ne-eqb, eqb-true, eqb-false}
 use Rattle.laws.specs.Pick.{pick, _and_}
 use Rattle.laws.specs.Counting.{total}
 use Rattle.laws.proofs.Bools.{flag, and-left}
@@ -108,14 +108,14 @@ module _ (bs : List Float) (h : Head) (xs : List ℕ) (v : Float) where
           bad-max n = rw (le-leb (bucketCount bs) (length xs) p, f, a, m, n) refl
 
           module _ (n : finite (h .max) ≡ true) where
-            by-count : pick (eqb (h .count) mostCount) 9 0 ≡ refusalOf bs h xs v
+            by-count : pick (leb mostCount (h .count)) 9 0 ≡ refusalOf bs h xs v
             unfolding refusalOf pick _and_
             by-count = rw (le-leb (bucketCount bs) (length xs) p, f, a, m, n) refl
 
-            pub full : h .count ≡ mostCount → 9 ≡ refusalOf bs h xs v
+            pub full : mostCount ≤ h .count → 9 ≡ refusalOf bs h xs v
             unfolding pick
-            full e = rw (eq-eqb (h .count) mostCount e) at by-count
+            full e = rw (le-leb mostCount (h .count) e) at by-count
 
-            pub none : (h .count ≡ mostCount → ⊥) → 0 ≡ refusalOf bs h xs v
+            pub none : h .count < mostCount → 0 ≡ refusalOf bs h xs v
             unfolding pick
-            none e = rw (ne-eqb (h .count) mostCount e) at by-count
+            none e = rw (lt-leb mostCount (h .count) e) at by-count

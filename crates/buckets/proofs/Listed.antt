@@ -41,7 +41,7 @@ is-true : (b : Bool) → T b → b ≡ true
 is-true true t = refl
 is-true false t = absurd t
 
-accepted-is : (bounds : List Float) (h : Head) (xs : List ℕ) (v : Float) → refusalOf bounds h xs v ≡ 0
+pub accepted-is : (bounds : List Float) (h : Head) (xs : List ℕ) (v : Float) → refusalOf bounds h xs v ≡ 0
     → recording bounds h xs v ≡ accepted (recordBucket bounds (bucketsIn bounds (h .count) xs) v) h xs v
 unfolding recording pick
 accepted-is bounds h xs v e = rw (eq-eqb (refusalOf bounds h xs v) 0 e)
@@ -51,14 +51,14 @@ module _ (bounds : List Float) (c : ℕ) (xs : List ℕ) (v : Float) (l : bucket
   abbrev q : Buckets
   q = recordBucket bounds (bucketsIn bounds c xs) v
 
-  long-q : length (q .counts) ≡ bucketCount bounds
+  pub long-q : length (q .counts) ≡ bucketCount bounds
   unfolding recordBucket
   long-q = simp length-set (length-take-le (bucketCount bounds) xs l)
 
-  reads : bucketsIn bounds (q .total) (over (q .counts) xs) ≡ q
+  pub reads : bucketsIn bounds (q .total) (over (q .counts) xs) ≡ q
   reads = λ j. record { counts = (ap (λ n. take n (over (q .counts) xs)) (sym long-q) ∙ take-over (q .counts) xs) j; total = q .total }
 
-  stays-long : length (over (q .counts) xs) ≡ length xs
+  pub stays-long : length (over (q .counts) xs) ≡ length xs
   stays-long = length-over (q .counts) xs (omega (arith, long-q))
 
 total-one : (bounds : List Float) (p : Buckets) (v : Float) → recordBucket bounds p v .total ≡ p .total + 1
@@ -72,7 +72,7 @@ step bounds p m s v h f n =
     let c = s .head .count in
     let k : finite v ≡ true = is-true (finite v) (f .known) in
     let t : c ≡ p .total = ap (λ (o : Buckets). o .total) (h .rows) in
-    let z : refusalOf bounds (s .head) xs v ≡ 0 = sym (none bounds (s .head) xs v (h .long) k (h .agree) (h .finMin) (h .finMax) (λ e. omega (arith, t, e))) in
+    let z : refusalOf bounds (s .head) xs v ≡ 0 = sym (none bounds (s .head) xs v (h .long) k (h .agree) (h .finMin) (h .finMax) (omega (arith, t))) in
     let e : recordBucket bounds (bucketsIn bounds c xs) v ≡ recordBucket bounds p v = ap (λ o. recordBucket bounds o v) (h .rows) in
     let ok = record-buckets-ok bounds (bucketsIn bounds c xs) v (buckets-say bounds (bucketsIn bounds c xs) (h .agree)) in
     let r = reads bounds c xs v (h .long) in
@@ -96,11 +96,11 @@ run-holds bounds (v ∷ vs) p m s h g n =
 
 -- ---- from the fresh series
 
-fin-min : finite (start .min) ≡ true
+pub fin-min : finite (start .min) ≡ true
 unfolding ofBits
 fin-min = refl
 
-fin-max : finite (start .max) ≡ true
+pub fin-max : finite (start .max) ≡ true
 unfolding ofBits
 fin-max = refl
 
@@ -108,7 +108,7 @@ zeros-table : (lo n : ℕ) → replicate n 0 ≡ table (λ j. 0) lo n
 zeros-table lo zero = refl
 zeros-table lo (suc n) = ap (λ (l : List ℕ). 0 ∷ l) (zeros-table (suc lo) n)
 
-fresh-is : (bounds : List Float) (xs : List ℕ) → bucketsIn bounds 0 (over (replicate (bucketCount bounds) 0) xs) ≡ bucketsOf bounds []
+pub fresh-is : (bounds : List Float) (xs : List ℕ) → bucketsIn bounds 0 (over (replicate (bucketCount bounds) 0) xs) ≡ bucketsOf bounds []
 unfolding bucketsOf
 fresh-is bounds xs =
     let n = bucketCount bounds in

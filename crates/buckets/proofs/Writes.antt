@@ -9,7 +9,7 @@ use native.Mathlib.Omega.{arith}
 use lib.ListN.{length, take, drop, getD, set, replicate, length-set}
 use lib.Seq.{length-take-le, getD-take}
 use lib.Ieee.{Float, binary64, add}
-use borrow.Author.Tests.{leb-true, le-leb, lt-leb, eq-eqb, ne-eqb, eqb-false}
+use borrow.Author.Tests.{leb-true, leb-false, le-leb, lt-leb, eq-eqb, ne-eqb}
 use Rattle.laws.specs.Pick.{pick, _and_}
 use Rattle.laws.specs.Counting.{total}
 use Rattle.laws.proofs.Bools.{and-left}
@@ -100,19 +100,16 @@ pub record Ready (bs : List Float) (h : Head) (xs : List ℕ) : Type 0 where
   pub count : h .count < mostCount
 
 module _ (bs : List Float) (h : Head) (xs : List ℕ) (v : Float) where
-  pub ready : refusalOf bs h xs v ≡ 0 → h .count < 2 ^ 64 → Ready bs h xs
+  pub ready : refusalOf bs h xs v ≡ 0 → Ready bs h xs
   unfolding refusalOf
-  ready e m =
+  ready e =
       let s = pick-left _ _ 12 (omega arith) e in
       let e₁ = pick-then _ _ 12 (omega arith) e in
       let e₂ = pick-then _ _ 6 (omega arith) e₁ in
       let a = pick-left _ _ 8 (omega arith) e₂ in
       let e₃ = pick-then _ _ 8 (omega arith) e₂ in
-      let n = eqb-false (h .count) mostCount (pick-right _ 9 (omega arith) e₃) in
-      record { long = leb-true (bucketCount bs) (length xs) s; agree = and-left _ _ a; count = below (h .count) m n }
-    where
-      below : (c : ℕ) → c < 2 ^ 64 → (c ≡ mostCount → ⊥) → c < mostCount
-      below c p q = omega (arith, q)
+      let n = leb-false mostCount (h .count) (pick-right _ 9 (omega arith) e₃) in
+      record { long = leb-true (bucketCount bs) (length xs) s; agree = and-left _ _ a; count = n }
 
   pub total-below : Ready bs h xs → total (take (bucketCount bs) xs) < mostCount
   total-below r =

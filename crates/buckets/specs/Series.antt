@@ -37,7 +37,7 @@ refusalOf bounds h xs v =
     pick (leb (bucketCount bounds) (length xs))
     (pick (finite v)
     (pick (bucketsAgree bounds (bucketsIn bounds (h .count) xs) and finite (h .min) and finite (h .max))
-    (pick (eqb (h .count) mostCount) 9 0)
+    (pick (leb mostCount (h .count)) 9 0)
     8)
     6)
     12

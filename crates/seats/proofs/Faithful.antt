@@ -6,37 +6,38 @@ use mathlib.Core.Bool.{Bool, true, false, _&&_}
 use mathlib.Core.List.{List, [], _∷_, map}
 use mathlib.Core.Option.{Option, none, some}
 use native.Mathlib.Omega.{arith}
-use borrow.Author.Tests.{le-ltb}
-use lib.Dec.{ltb}
 use lib.ListN.{length}
-use Rattle.laws.proofs.Cases.{true-not-false}
-use Rattle.tally.specs.Sets.{Set, overflow, canonical}
+use Rattle.tally.specs.Sets.{Set, canonical}
 use Rattle.tally.specs.Kind.{Kind, unless, firstOf}
-use Rattle.tally.specs.Map.{Config, fits, Entry, Map, new, Place, held, place, sound, recorded, write, unfit, orRefused, measureAt, named, measure, measureBy, refuse, done, act}
+use Rattle.tally.specs.Map.{Config, fits, Entry, Map, Place, held, place, sound, recorded, write, unfit, orRefused, measureAt, named, measure, measureBy, refuse, done, act}
 use Rattle.sets.specs.Rows.{setOf}
 use Rattle.directory.specs.View.{Stores, agreesb, entryAt, view}
-use Rattle.directory.specs.Calls.{Kept, located, scan}
+use Rattle.directory.specs.Calls.{Kept, scan}
 use Rattle.directory.specs.declared.Directory.{Directory}
 use Rattle.directory.specs.declared.Found.{Found}
 use Rattle.directory.specs.declared.Found.the-variants.{Held, Room}
-use Rattle.directory.specs.declared.Target.{Target}
-use Rattle.directory.specs.declared.Target.the-variants.{Disagrees, Old, New, Over}
 use Rattle.directory.proofs.Laws.{slotsOf, named-scan, scan-in}
-use Rattle.directory.proofs.Located.{Facts, facts}
-use Rattle.seats.specs.Seats.{heldSeat, seatAt, seated, seatBy, seatedBy, committed}
+use Rattle.seats.specs.Seats.{heldSeat, seated, seatBy, seatedBy, committed}
 use Rattle.seats.specs.Recording.{heldAt, orFresh, refusal, Others, served}
 use Rattle.seats.specs.declared.Seating.{Seating}
 use Rattle.seats.proofs.Commits.{commit-old}
-use Rattle.seats.proofs.Seatings.{new-either, by-is}
-use Rattle.seats.proofs.Sits.{Sits, old-sits, placeOf, place-is, seat-sits}
+use Rattle.seats.proofs.Seatings.{by-is}
+use Rattle.seats.proofs.Sits.{Sits, Spent, old-sits, seat-sits, seat-spent}
 
--- recording at a place where a seating sits
+-- the map's refusal at a place: by whether the birth number there fits, and by the series
+module _ (K : Kind) (m : Map K) (v : K .Value) (p : Place K) where
+  abbrev by : Bool → Option (K .Series) → Option ℕ
+  by b o =
+      firstOf (unless (sound K (m .settings) o) 8 ∷ unless (b && fits (suc (K .total (orFresh K (m .settings) o)))) 9
+      ∷ unless (K .allows (m .settings) (orFresh K (m .settings) o) v) 16 ∷ [])
+
+  unfit-by : (b : Bool) (o : Option (K .Series)) → fits (p .last) ≡ b → p .entry .series ≡ o → unfit K m v p ≡ by b o
+  unfit-by b o e i = ap (λ c. by c (p .entry .series)) e ∙ ap (by b) i
+
+-- recording at a place where a seating sits: the refusal is the series' own
 module _ (K : Kind) (f : ℕ → K .Series) (z : K .Settings) (d : Directory) (s : Stores) (a : Seating) (k : Kept) (p : Place K) (t : Sits K f z d s a k p) (v : K .Value) where
-  -- the map's refusal is the series' own
   unfit-is : unfit K (view K f z d s) v p ≡ refusal K z (heldAt K f a) v
-  unfit-is =
-      let U : Bool → Option (K .Series) → Option ℕ = λ b o. firstOf (unless (sound K z o) 8 ∷ unless (b && fits (suc (K .total (orFresh K z o)))) 9 ∷ unless (K .allows z (orFresh K z o) v) 16 ∷ []) in
-      ap (λ b. U b (p .entry .series)) (t .fit) ∙ ap (U true) (t .series)
+  unfit-is = unfit-by K (view K f z d s) v p true (heldAt K f a) (t .fit) (t .series)
 
   pub at-refused : (n : ℕ) → refusal K z (heldAt K f a) v ≡ some n → measureAt K (view K f z d s) v p ≡ record { answer = refuse n; map = view K f z d s }
   unfolding measureAt
@@ -52,11 +53,13 @@ module _ (K : Kind) (f : ℕ → K .Series) (z : K .Settings) (d : Directory) (s
       ∙ ap (λ y. record { answer = done; map = write K (view K f z d s) p (served K (p .entry) y) }) (ap (λ x. K .add z (orFresh K z x) v) (t .series) ∙ sym q)
       ∙ ap (λ w. record { answer = done; map = w }) (sym (t .kept h o))
 
--- where the birth numbers are spent
-module _ (K : Kind) (m : Map K) (v : K .Value) (w : Set) (count last : ℕ) where
-  spent : 18446744073709551615 ≤ last → measureAt K m v (record { entry = new K w (suc last); count = count; last = suc last }) ≡ record { answer = refuse 9; map = m }
+-- and at one where the birth numbers are spent
+module _ (K : Kind) (m : Map K) (a : Seating) (p : Place K) (t : Spent K a p) (v : K .Value) where
+  at-spent : measureAt K m v p ≡ record { answer = refuse (a .no); map = m }
   unfolding measureAt
-  spent h = let b : ltb (suc last) (2 ^ 64) ≡ false = le-ltb (suc last) (2 ^ 64) (omega arith) in rw b
+  at-spent =
+      ap (λ u. orRefused K m u (record { answer = done; map = write K m p (recorded K (m .settings) (p .entry) v) })) (unfit-by K m v p false none (t .full) (t .series))
+      ∙ ap (λ i. record { answer = refuse i; map = m }) (sym (t .no))
 
 module _ (K : Kind) (f : ℕ → K .Series) (z : K .Settings) (c : Config K) (d : Directory) (s : Stores) (g : agreesb (c .limit) d s ≡ true) (small : d .last < 2 ^ 64)
     (ls : c .limit + 2 ≤ length (s .sets)) (le : c .limit + 2 ≤ length (s .entries)) (lo : c .limit + 2 ≤ length (s .order)) where
@@ -76,21 +79,8 @@ module _ (K : Kind) (f : ℕ → K .Series) (z : K .Settings) (c : Config K) (d 
     comes = rw is
 
     -- the directory's own refusal
-    abbrev Away : Seating → Type 0
-    Away a = (a .no ≡ 0 → ⊥) → measureAt K m v p ≡ record { answer = refuse (a .no); map = m }
-
-    away-at : (t : Target) → Facts (c .limit) d s row t → p ≡ placeOf K f z (c .limit) d s g ls le lo row small t → Away (seatAt d s t)
-    away-at Disagrees y e = true-not-false (sym g ∙ y)
-    away-at (Old x) y e = λ n. absurd (n refl)
-    away-at (New r) y e = new-either d (New r) Away (λ h n. ap (measureAt K m v) e ∙ spent K m v (setOf row) (suc (d .count)) (d .last) h) (λ h n. absurd (n refl))
-    away-at (Over r) y e = new-either d (Over r) Away (λ h n. ap (measureAt K m v) e ∙ spent K m v overflow (d .count) (d .last) h) (λ h n. absurd (n refl))
-
-    away-is : Away here
-    unfolding seated
-    away-is = away-at (located (c .limit) d s row) (facts (c .limit) d s row) (place-is K f z (c .limit) d s g ls le lo row small (located (c .limit) d s row) (facts (c .limit) d s row))
-
     pub measure-away : (here .no ≡ 0 → ⊥) → act K c m (measure v attrs) ≡ record { answer = refuse (here .no); map = m }
-    measure-away n = comes ∙ away-is n
+    measure-away n = comes ∙ at-spent K m here p (seat-spent K f z (c .limit) d s g ls le lo row small n) v
 
     module _ (n : here .no ≡ 0) where
       abbrev kept : Kept

@@ -2,12 +2,14 @@
 -- not spent: the promises of bindings' runs hold of recordings too. Assumes nothing.
 use Prim.Native.Nat.{ℕ, _+_, _^_, _≤_, _<_}
 use mathlib.Core.Path.{_≡_, refl, ap, sym, subst, _∙_}
-use mathlib.Core.Bool.{true}
+use mathlib.Core.Bool.{Bool, true, false}
 use mathlib.Core.List.{List, [], _∷_}
 use mathlib.Core.Option.{Option, none, some}
 use native.Mathlib.Omega.{arith}
-use borrow.Author.Tests.{le-leb}
-use lib.ListN.{length, getD, length-set}
+use borrow.Author.Tests.{le-leb, eqb-true, eqb-false}
+use lib.Dec.{eqb}
+use lib.ListN.{length, getD, set, length-set}
+use lib.Seq.{getD-set-same, getD-set-other}
 use Rattle.tally.specs.Sets.{Set, canonical, Keyed}
 use Rattle.tally.specs.Map.{Config, Map, Call, Out, orRefused, measure, measureBy, done, upfront, act, Agrees}
 use Rattle.tally.proofs.Agree.{step-agrees}
@@ -44,6 +46,17 @@ module _ (entries : List (List ℕ)) (x : ℕ) where
   unfolding marked
   marked-births h y = birth-set entries x y (getD (getD entries x []) 0 0 ∷ getD (getD entries x []) 1 0 ∷ 1 ∷ []) h refl
 
+  marked-bindings : x < length entries → (y : ℕ) → getD (getD (marked entries x) y []) 1 0 ≡ getD (getD entries y []) 1 0
+  unfolding marked
+  marked-bindings h y = go (eqb y x) refl
+    where
+      new : List ℕ
+      new = getD (getD entries x []) 0 0 ∷ getD (getD entries x []) 1 0 ∷ 1 ∷ []
+
+      go : (t : Bool) → eqb y x ≡ t → getD (getD (set entries x new) y []) 1 0 ≡ getD (getD entries y []) 1 0
+      go true e = subst (λ (i : ℕ). getD (getD (set entries x new) i []) 1 0 ≡ getD (getD entries i []) 1 0) (sym (eqb-true y x e)) (ap (λ r. getD r 1 0) (getD-set-same entries x new [] h))
+      go false e = ap (λ r. getD r 1 0) (getD-set-other entries x y new [] (eqb-false y x e))
+
 module _ (k : Kept) (x : ℕ) (h : x < length (k .stores .entries)) where
   mark-laid : Laid (k .dir) (k .stores) → Laid (markedIn k x .dir) (markedIn k x .stores)
   mark-laid a = laid-births (k .dir) (k .stores) (marked (k .stores .entries) x) (marked-births (k .stores .entries) x h) a
@@ -51,26 +64,36 @@ module _ (k : Kept) (x : ℕ) (h : x < length (k .stores .entries)) where
   mark-leaves : (d : Directory) (s : Stores) → Leaves d s k → Leaves d s (markedIn k x)
   mark-leaves d s v = births-leave d s k (marked (k .stores .entries) x) (marked-long (k .stores .entries) x) (marked-births (k .stores .entries) x h) v
 
--- what is left of a directory, and its layout
+-- what is left of a directory: sets and birth numbers, each used slot's bindings, and the layout
 module _ (d : Directory) (s : Stores) where
   pub record Stays (k : Kept) : Type 0 where
     pub leaves : Leaves d s k
+    pub bindings : (y : ℕ) → y ≤ d .used → getD (getD (k .stores .entries) y []) 1 0 ≡ getD (getD (s .entries) y []) 1 0
     pub laid : Laid (k .dir) (k .stores)
 
   old-stays : (row : List ℕ) (x : ℕ) → d .last < 2 ^ 64 → x < length (s .entries) → Laid d s → Stays (committed d s row (Old x))
   old-stays row x small h a =
       subst Stays (sym (commit-old d s row x))
-      (record { leaves = mark-leaves (record { dir = d; stores = s }) x h d s (same-leaves d s small); laid = mark-laid (record { dir = d; stores = s }) x h a })
+      (record {
+        leaves = mark-leaves (record { dir = d; stores = s }) x h d s (same-leaves d s small);
+        bindings = λ y u. marked-bindings (s .entries) x h y;
+        laid = mark-laid (record { dir = d; stores = s }) x h a;
+      })
 
   module _ (new-row : List ℕ) (r more : ℕ) (ls : d .used + 1 < length (s .sets)) (le : d .used + 1 < length (s .entries)) (lo : d .used < length (s .order)) (rank : r ≤ d .used) where
     made-in : d .used + 1 < length (admitted d s new-row r more 0 .stores .entries)
     unfolding admitted
     made-in = omega (arith, length-set (s .entries) (d .used + 1) ((d .last + 1) ∷ 0 ∷ 0 ∷ []))
 
+    other-bindings : (y : ℕ) → y ≤ d .used → getD (getD (admitted d s new-row r more 0 .stores .entries) y []) 1 0 ≡ getD (getD (s .entries) y []) 1 0
+    unfolding admitted
+    other-bindings y u = ap (λ w. getD w 1 0) (getD-set-other (s .entries) (d .used + 1) y ((d .last + 1) ∷ 0 ∷ 0 ∷ []) [] (λ e. omega arith))
+
     new-stays : d .last < 18446744073709551615 → Laid (admitted d s new-row r more 0 .dir) (admitted d s new-row r more 0 .stores) → Stays (markedIn (admitted d s new-row r more 0) (d .used + 1))
     new-stays room a =
         record {
           leaves = mark-leaves (admitted d s new-row r more 0) (d .used + 1) made-in d s (admit-leaves d s new-row r more 0 ls le lo rank room);
+          bindings = λ y u. marked-bindings (admitted d s new-row r more 0 .stores .entries) (d .used + 1) made-in y ∙ other-bindings y u;
           laid = mark-laid (admitted d s new-row r more 0) (d .used + 1) made-in a;
         }
 

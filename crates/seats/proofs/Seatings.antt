@@ -108,3 +108,11 @@ module _ (limit : ℕ) (d : Directory) (s : Stores) (h : ℕ) where
         agreed : (b : Bool) → agreesb limit d s ≡ b → Safe limit d s (seatedBy limit d s h)
         agreed false g = subst (Safe limit d s) (sym (by-no g)) (λ n. absurd (omega arith))
         agreed true g = subst (Safe limit d s) (sym (by-is g (scan h (s .entries) (slotsOf d s)) refl)) (found g (scan h (s .entries) (slotsOf d s)) refl)
+
+  -- where the directory agrees, one that is refused is so with 7
+  pub by-seven : agreesb limit d s ≡ true → (seatedBy limit d s h .no ≡ 0 → ⊥) → seatedBy limit d s h .no ≡ 7
+  by-seven g = subst (λ (a : Seating). (a .no ≡ 0 → ⊥) → a .no ≡ 7) (sym (by-is g (scan h (s .entries) (slotsOf d s)) refl)) (go (scan h (s .entries) (slotsOf d s)))
+    where
+      go : (o : Found) → (seatBy s o .no ≡ 0 → ⊥) → seatBy s o .no ≡ 7
+      go (Room r) = λ n. refl
+      go (Held x) = λ n. absurd (n refl)

@@ -8,10 +8,10 @@ use mathlib.Core.List.{List, [], _∷_, _++_, map}
 use mathlib.Core.Option.{none, some}
 use native.Mathlib.Omega.{arith}
 use native.Mathlib.Numerals.{add-one}
-use borrow.Author.Tests.{ltb-true, lt-ltb}
+use borrow.Author.Tests.{ltb-true, lt-ltb, le-ltb}
 use lib.ListN.{length, set, take, drop, length-set}
 use Rattle.laws.proofs.Cases.{true-not-false}
-use Rattle.tally.specs.Sets.{overflow, Rising}
+use Rattle.tally.specs.Sets.{Set, overflow, Rising}
 use Rattle.tally.specs.Kind.{Kind}
 use Rattle.tally.specs.Map.{fits, Entry, Map, find, put, keys, new, Place, held, place, write}
 use Rattle.tally.proofs.Rising.{rising-insert}
@@ -30,7 +30,7 @@ use Rattle.sets.proofs.Spans.{span-inserted}
 use Rattle.directory.proofs.Admits.{room-rank, new-entry, admit-put}
 use Rattle.directory.proofs.Located.{Facts, facts, over-set, sought-held, room-new, room-over, place-held, place-over-held, place-new, place-over}
 use Rattle.directory.proofs.Laid.{in-around}
-use Rattle.seats.specs.Seats.{heldSeat, newSeat, seatAt, seated, markedIn, committed}
+use Rattle.seats.specs.Seats.{away, heldSeat, newSeat, seatAt, seated, markedIn, committed}
 use Rattle.seats.specs.Recording.{heldAt, Others, served}
 use Rattle.seats.specs.declared.Seating.{Seating}
 use Rattle.seats.proofs.Commits.{commit-old, commit-new, commit-over}
@@ -49,6 +49,12 @@ module _ (K : Kind) (f : ℕ → K .Series) (z : K .Settings) (d : Directory) (s
     pub series : p .entry .series ≡ heldAt K f a
     pub kept : (h : ℕ → K .Series) → Others K f h d (a .slot)
         → view K h z (k .dir) (k .stores) ≡ write K (view K f z d s) p (served K (p .entry) (h (a .slot)))
+
+-- the seating is refused because the birth number of a new entry at the place p does not fit
+pub record Spent (K : Kind) (a : Seating) (p : Place K) : Type 0 where
+  pub no : a .no ≡ 9
+  pub full : fits (p .last) ≡ false
+  pub series : p .entry .series ≡ none
 
 module _ (K : Kind) (f : ℕ → K .Series) (z : K .Settings) (limit : ℕ) (d : Directory) (s : Stores) (g : agreesb limit d s ≡ true)
     (ls : limit + 2 ≤ length (s .sets)) (le : limit + 2 ≤ length (s .entries)) (lo : limit + 2 ≤ length (s .order)) where
@@ -170,13 +176,13 @@ module _ (K : Kind) (f : ℕ → K .Series) (z : K .Settings) (limit : ℕ) (d :
     none-of r e = room-rank K f z limit d s g (setOf row) r e .0
 
     -- the place, by where the call goes
-    abbrev pub placeOf : Target → Place K
+    abbrev placeOf : Target → Place K
     placeOf Disagrees = p
     placeOf (Old x) = held K m (entryAt K f s x)
     placeOf (New r) = record { entry = new K (setOf row) (suc (d .last)); count = suc (d .count); last = suc (d .last) }
     placeOf (Over q) = record { entry = new K overflow (suc (d .last)); count = d .count; last = suc (d .last) }
 
-    pub place-is : (t : Target) → Facts limit d s row t → p ≡ placeOf t
+    place-is : (t : Target) → Facts limit d s row t → p ≡ placeOf t
     place-is Disagrees y = refl
     place-is (Old x) y =
         ⊎-elim (λ e. place-held K limit m (setOf row) (entryAt K f s x) (sought-held K f z d s (setOf row) x e .1))
@@ -198,3 +204,23 @@ module _ (K : Kind) (f : ℕ → K .Series) (z : K .Settings) (limit : ℕ) (d :
     pub seat-sits : seated limit d s row .no ≡ 0 → Sits K f z d s (seated limit d s row) (committed d s row (seated limit d s row .target)) p
     unfolding seated
     seat-sits = target-sat (located limit d s row) refl (facts limit d s row)
+
+    -- and one that is refused is so with 9, exactly because the place's birth number does not fit
+    abbrev Out : Seating → Type 0
+    Out a = (a .no ≡ 0 → ⊥) → Spent K a p
+
+    born-spent : (q : Target) (w : Set) (count : ℕ) → p ≡ record { entry = new K w (suc (d .last)); count = count; last = suc (d .last) } → Out (newSeat d q)
+    born-spent q w count e =
+        new-either d q Out
+        (λ h n. subst (Spent K (away 9)) (sym e) (record { no = refl; full = le-ltb (suc (d .last)) (2 ^ 64) (omega arith); series = refl }))
+        (λ h n. absurd (n refl))
+
+    target-spent : (t : Target) → Facts limit d s row t → Out (seatAt d s t)
+    target-spent Disagrees y = true-not-false (sym g ∙ y)
+    target-spent (Old x) y = λ n. absurd (n refl)
+    target-spent (New r) y = born-spent (New r) (setOf row) (suc (d .count)) (place-is (New r) y)
+    target-spent (Over q) y = born-spent (Over q) overflow (d .count) (place-is (Over q) y)
+
+    pub seat-spent : (seated limit d s row .no ≡ 0 → ⊥) → Spent K (seated limit d s row) p
+    unfolding seated
+    seat-spent = target-spent (located limit d s row) (facts limit d s row)

@@ -80,7 +80,7 @@ pub record Roomy (d : Directory) (s : Stores) (r : ℕ) : Type 0 where
   pub last : d .last + 1 < 2 ^ 64
   pub count : d .count + 1 < 2 ^ 64
 
--- what is to be written has its place in the stores: a seat that is not refused guarantees it (proofs/Seats.antt)
+-- what is to be written has its place in the stores: a seat that is not refused guarantees it (proofs/Seatings.antt, `Safe`)
 abbrev pub Fits : Directory → Stores → Target → Type 0
 Fits d s Disagrees = Unit
 Fits d s (Old x) = x < length (s .entries)

@@ -1,7 +1,7 @@
 -- FAITHFUL. Recording by set and by handle is the map's step, wherever the directory agrees, in stores that suffice and under settings that
 -- configuring accepts. The map's series are those that lie in the slots. Assumes nothing.
 use Prim.Native.Nat.{ℕ, suc, _^_, _≤_, _<_}
-use mathlib.Core.Path.{_≡_, refl, sym, ap, _∙_}
+use mathlib.Core.Path.{_≡_, refl, sym, ap, subst, _∙_}
 use mathlib.Core.Logic.{⊎-elim}
 use mathlib.Core.Bool.{Bool, true, false, _&&_}
 use mathlib.Core.List.{List}
@@ -25,6 +25,7 @@ use Rattle.sets.proofs.CallRow.{row-set}
 use Rattle.directory.specs.View.{agreesb, view}
 use Rattle.directory.specs.Calls.{Kept, mostSets, fewKeys, accepts, enough}
 use Rattle.directory.proofs.Refusals.{Suffice, suffices, within}
+use Rattle.bindings.specs.declared.Answer.the-variants.{Done}
 use Rattle.bindings.proofs.Releases.{said}
 use Rattle.seats.specs.declared.Seating.{Seating}
 use Rattle.seats.specs.Seats.{seated, seatedBy, committed}
@@ -56,9 +57,8 @@ module _ (size top limit : ℕ) (filter : Option (List ℕ)) (e m : Bool) where
   abbrev pub told : Outcome → Out histograms
   told o = record { answer = said histograms (λ x. histograms .fresh z) z (o .answer); map = mapOf (o .held) }
 
-  -- ---- at a seating: x is what the map does there
-  module _ (h : Held) (v : Float) (row : List ℕ) (a : Seating) (x : Out histograms) (ok : passes (exponential size top) ≡ true) (fin : histograms .finite v ≡ true)
-      (sit : Seatable size h a) where
+  -- ---- at a seating: refused by the directory, refused by the series, or taken
+  module _ (h : Held) (v : Float) (row : List ℕ) (a : Seating) (ok : passes (exponential size top) ≡ true) (fin : histograms .finite v ≡ true) (sit : Seatable size h a) where
     abbrev f : ℕ → Figures
     f = seriesAt size (h .slots)
 
@@ -68,42 +68,48 @@ module _ (size top limit : ℕ) (filter : Option (List ℕ)) (e m : Bool) where
     abbrev kept : Kept
     kept = committed (h .kept .dir) (h .kept .stores) row (a .target)
 
-    module _ (away : (a .no ≡ 0 → ⊥) → x ≡ record { answer = refuse (a .no); map = mapOf h })
-        (refd : a .no ≡ 0 → (i : ℕ) → refusal histograms z (heldAt histograms f a) v ≡ some i → x ≡ record { answer = refuse i; map = mapOf h })
-        (doned : a .no ≡ 0 → refusal histograms z (heldAt histograms f a) v ≡ none → (g : ℕ → Figures)
-        → g (a .slot) ≡ histograms .add z (orFresh histograms z (heldAt histograms f a)) v → Others histograms f g (h .kept .dir) (a .slot)
-        → x ≡ record { answer = done; map = view histograms g z (kept .dir) (kept .stores) }) where
+    abbrev next : Figures
+    next = histograms .add z (orFresh histograms z (heldAt histograms f a)) v
+
+    -- what holds of each case holds of the outcome
+    module _ (P : Outcome → Type 0) (away : (a .no ≡ 0 → ⊥) → P (refused (a .no) h))
+        (refd : a .no ≡ 0 → (i : ℕ) → refusal histograms z (heldAt histograms f a) v ≡ some i → P (refused i h))
+        (doned : a .no ≡ 0 → refusal histograms z (heldAt histograms f a) v ≡ none → Took size (a .slot) (h .slots) o next
+        → P (record { answer = Done; held = record { kept = kept; slots = o .slots } })) where
       module _ (n : a .no ≡ 0) where
         fit : Fit size top (a .slot) (h .slots) v
         fit =
             let w = sit n in
             record { valid = ok; figures = w .figures; extremes = w .extremes; pos = w .pos; neg = w .neg; value = fin }
 
-        -- the series refuses with i
-        at-refused : (i : ℕ) → (i ≡ 0 → ⊥) → refusal histograms z (heldAt histograms f a) v ≡ some i → o ≡ Slots.refused i (h .slots) → x ≡ told (entered size top h v row a)
-        at-refused i d r q =
-            refd n i r ∙ ap told (entered-refused size top h v row a n (Slots.refused i (h .slots)) (sym q) d)
+        at-refused : (i : ℕ) → (i ≡ 0 → ⊥) → refusal histograms z (heldAt histograms f a) v ≡ some i → o ≡ Slots.refused i (h .slots) → P (entered size top h v row a)
+        at-refused i d r q = subst P (entered-refused size top h v row a n (Slots.refused i (h .slots)) (sym q) d) (refd n i r)
 
-        at-took : refusal histograms z (heldAt histograms f a) v ≡ none → Took size (a .slot) (h .slots) o (histograms .add z (orFresh histograms z (heldAt histograms f a)) v)
-            → x ≡ told (entered size top h v row a)
-        at-took r t =
-            doned n r (seriesAt size (o .slots)) (t .own) (λ y l d. t .others y d)
-            ∙ ap told (entered-done size top h v row a n o refl kept (t .number) refl)
-
-        at-sound : (b : Bool) → sound histograms z (heldAt histograms f a) ≡ b → x ≡ told (entered size top h v row a)
+        at-sound : (b : Bool) → sound histograms z (heldAt histograms f a) ≡ b → P (entered size top h v row a)
         at-sound false s = at-refused 8 (λ w. omega arith) (rw s) (disagreeing size top (a .slot) (h .slots) v e m fit (a .updated) s)
         at-sound true s = at-count (Map.fits (suc (histograms .total (orFresh histograms z (heldAt histograms f a))))) refl
           where
-            at-count : (b : Bool) → Map.fits (suc (histograms .total (orFresh histograms z (heldAt histograms f a)))) ≡ b → x ≡ told (entered size top h v row a)
+            at-count : (b : Bool) → Map.fits (suc (histograms .total (orFresh histograms z (heldAt histograms f a)))) ≡ b → P (entered size top h v row a)
             at-count false c = at-refused 9 (λ w. omega arith) (rw (s, c)) (full size top (a .slot) (h .slots) v e m fit (a .updated) s c)
-            at-count true c = at-took (rw (s, c)) (took size top (a .slot) (h .slots) v e m fit (a .updated) s c)
+            at-count true c =
+                let t = took size top (a .slot) (h .slots) v e m fit (a .updated) s c in
+                subst P (entered-done size top h v row a n o refl kept (t .number) refl) (doned n (rw (s, c)) t)
 
-      pub entered-steps : x ≡ told (entered size top h v row a)
-      entered-steps =
+      pub entered-cases : P (entered size top h v row a)
+      entered-cases =
           ⊎-elim
-          (λ (n : eqb (a .no) 0 ≡ true). let k = eqb-true (a .no) 0 n in at-sound k (sound histograms z (heldAt histograms f a)) refl)
-          (λ (n : eqb (a .no) 0 ≡ false). let k = eqb-false (a .no) 0 n in away k ∙ ap told (sym (entered-away size top h v row a k)))
+          (λ (n : eqb (a .no) 0 ≡ true). at-sound (eqb-true (a .no) 0 n) (sound histograms z (heldAt histograms f a)) refl)
+          (λ (n : eqb (a .no) 0 ≡ false). let k = eqb-false (a .no) 0 n in subst P (sym (entered-away size top h v row a k)) (away k))
           (flag (eqb (a .no) 0))
+
+    -- x is what the map does there
+    entered-steps : (x : Out histograms) → ((a .no ≡ 0 → ⊥) → x ≡ record { answer = refuse (a .no); map = mapOf h })
+        → (a .no ≡ 0 → (i : ℕ) → refusal histograms z (heldAt histograms f a) v ≡ some i → x ≡ record { answer = refuse i; map = mapOf h })
+        → (a .no ≡ 0 → refusal histograms z (heldAt histograms f a) v ≡ none → (g : ℕ → Figures) → g (a .slot) ≡ next → Others histograms f g (h .kept .dir) (a .slot)
+        → x ≡ record { answer = done; map = view histograms g z (kept .dir) (kept .stores) })
+        → x ≡ told (entered size top h v row a)
+    entered-steps x away refd doned =
+        entered-cases (λ (p : Outcome). x ≡ told p) away refd (λ n r t. doned n r (seriesAt size (o .slots)) (t .own) (λ y l d. t .others y d))
 
   -- ---- a state that agrees, and its calls
   pub record Fair (h : Held) : Type 0 where
@@ -136,8 +142,9 @@ module _ (size top limit : ℕ) (filter : Option (List ℕ)) (e m : Bool) where
           let le = enoughly .entries in
           let lo = enoughly .order in
           let fs = seriesAt size (h .slots) in
-          entered-steps h v row (seated limit d s row) (act histograms config (mapOf h) (measure v attrs)) (w .valid) fin-is
+          entered-steps h v row (seated limit d s row) (w .valid) fin-is
           (sits (seated limit d s row) (seat-safe limit d s row ls le lo (omega (arith, within limit filter (w .accepted)))))
+          (act histograms config (mapOf h) (measure v attrs))
           (λ n. measure-away histograms fs z config d s (w .agrees) (w .last) ls le lo row attrs r v n)
           (λ n i q. measure-refused histograms fs z config d s (w .agrees) (w .last) ls le lo row attrs r v n i q)
           (λ n q g p k. measure-done histograms fs z config d s (w .agrees) (w .last) ls le lo row attrs r v n q g p k)
@@ -153,8 +160,8 @@ module _ (size top limit : ℕ) (filter : Option (List ℕ)) (e m : Bool) where
           let le = enoughly .entries in
           let lo = enoughly .order in
           let fs = seriesAt size (h .slots) in
-          entered-steps h v row (seatedBy limit d s b) (act histograms config (mapOf h) (measureBy b v)) (w .valid) fin-is
-          (sits (seatedBy limit d s b) (by-safe limit d s b le))
+          entered-steps h v row (seatedBy limit d s b) (w .valid) fin-is (sits (seatedBy limit d s b) (by-safe limit d s b le))
+          (act histograms config (mapOf h) (measureBy b v))
           (λ n. by-away histograms fs z config d s (w .agrees) (w .last) ls le lo b row v n)
           (λ n i q. by-refused histograms fs z config d s (w .agrees) (w .last) ls le lo b row v n i q)
           (λ n q g p k. by-done histograms fs z config d s (w .agrees) (w .last) ls le lo b row v n q g p k)

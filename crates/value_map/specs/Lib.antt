@@ -1,3 +1,4 @@
 -- The definitions that the contracts of `value_map` cite.
 pub mod First
 pub mod ExponentialCalls
+pub mod ExplicitCalls

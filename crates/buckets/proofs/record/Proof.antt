@@ -11,7 +11,7 @@ abbrev start : tie.Else1 → tie.Start
 start e = e .before .before .before .before .before
 
 good : (e : tie.Else1) → Ready (now (start e .args .bounds)) (start e .args .head) (now (start e .args .counts))
-good e = let st = start e in let a = st .args in ready (now (a .bounds)) (a .head) (now (a .counts)) (a .v) (sym (e .before .refusal .ensures) ∙ e .if1 .left) (omega (arith, st))
+good e = let a = start e .args in ready (now (a .bounds)) (a .head) (now (a .counts)) (a .v) (sym (e .before .refusal .ensures) ∙ e .if1 .left)
 
 refusal-requires : tie.Need-refusal-requires
 refusal-requires c κs = search needs

@@ -33,7 +33,7 @@ use Rattle.point.proofs.Lists.{Long}
 use Rattle.merging.specs.Stored.{Stored, handedIn, stored, mergedStored}
 use Rattle.merging.proofs.Tied.{size-is}
 
-abbrev low : ℕ
+abbrev pub low : ℕ
 low = lowestBin finest
 
 -- a point of the settings that agrees under the max_size

@@ -2,3 +2,5 @@
 pub mod Tied
 pub mod Groups
 pub mod Accepted
+pub mod Orders
+pub mod Fresh

@@ -131,7 +131,7 @@ abbrev pub Configured : Kind → Type 0
 Configured (exponential size top) = sizePasses size ≡ true
 Configured (explicit bounds) = boundsPass bounds ≡ true
 
-sound : (k : Kind) → Configured k → Sound k
+pub sound : (k : Kind) → Configured k → Sound k
 sound (exponential size top) h = leb-true 3 size (and-left (leb 3 size) (leb size 160) h)
 sound (explicit bounds) h = h
 

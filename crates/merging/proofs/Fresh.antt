@@ -1,0 +1,89 @@
+-- The point of a list is good, so points of lists merge by any grouping; and the fresh point of the greatest scale, merged by code, changes
+-- no scale, row, count or extreme, a zero's sign aside. Assumes nothing.
+use Prim.Native.Nat.{ℕ}
+use mathlib.Core.Path.{_≡_, refl, ap, sym, subst, _∙_}
+use mathlib.Core.Logic.{inr}
+use mathlib.Core.Bool.{Bool, true, false}
+use mathlib.Core.List.{List, []}
+use lib.Ieee.{Float}
+use Rattle.laws.specs.Lists.{All}
+use Rattle.index.specs.Bins.{finest}
+use Rattle.floats.specs.Starts.{FiniteF64}
+use Rattle.points.specs.Values.{summaryOf}
+use Rattle.points.specs.Figures as F
+use Rattle.points.specs.Figures.{Kind, exponential, explicit, sizeOf, Settings, scaled, bucketed, kindCounts}
+use Rattle.points.specs.Handed.{handed, mergeHanded, countsAgree}
+use Rattle.points.proofs.Agreement.{agrees-says}
+use Rattle.points.proofs.Explicit.{buckets-say}
+use Rattle.points.proofs.Grouping.{Shape, Of, Same, Agreeing, handed-commutes, fresh-same}
+use Rattle.points.proofs.Stands.{handed-stands, stands-agrees}
+use Rattle.points.proofs.Summaries.{extreme-finite}
+use Rattle.point.specs.declared.Figures.{Figures}
+use Rattle.point.specs.declared.Figures.the-variants.{Exponential, Explicit}
+use Rattle.point.specs.Handing.{countsAs}
+use Rattle.point.proofs.Means.{sizeFor, agreesRead, agrees-whole}
+use Rattle.point.proofs.Answers.{Configured, sound}
+use Rattle.point.proofs.Lists.{PointOf}
+use Rattle.merging.specs.Stored.{Stored, handedIn, mergedStored}
+use Rattle.merging.proofs.Groups.{merged-reads}
+use Rattle.merging.proofs.Accepted.{low, Good, counts-ok}
+
+-- ---- POINTS OF LISTS ARE GOOD
+shape-of : (k : Kind) (t : Float) (vs : List Float) → Shape k (kindCounts k t vs)
+shape-of (exponential size top) t vs = tt
+shape-of (explicit bounds) t vs = refl
+
+pub of-list : (s : Settings) (vs : List Float) → All FiniteF64 vs → Of s (handed s vs)
+unfolding handed
+of-list s vs f =
+    record {
+      shape = shape-of (s .kind) (s .threshold) vs;
+      extremes = refl;
+      threshold = refl;
+      min = record { of = summaryOf vs .min; known = extreme-finite true vs f; is = refl };
+      max = record { of = summaryOf vs .max; known = extreme-finite false vs f; is = refl };
+    }
+
+size-for : (k : Kind) (f : Figures) (bs : List Float) (xs ys : List ℕ) → Configured k → Shape k (countsAs f bs xs ys) → sizeFor (sizeOf k) f ≡ true
+size-for (exponential size top) (Exponential c) bs xs ys h k = h
+size-for (exponential size top) (Explicit n) bs xs ys h k = refl
+size-for (explicit bounds) (Exponential c) bs xs ys h k = absurd k
+size-for (explicit bounds) (Explicit n) bs xs ys h k = refl
+
+pub list-good : (s : Settings) (vs : List Float) (x : Stored) → Configured (s .kind) → PointOf s vs (x .point) (x .bounds) (x .pos) (x .neg) → Good (sizeOf (s .kind)) s x
+list-good s vs x k p =
+    let size = sizeOf (s .kind) in
+    let o : Of s (handedIn x) = subst (Of s) (sym (p .is)) (of-list s vs (p .values)) in
+    record {
+      agree = agrees-whole size (x .bounds) (x .pos) (x .neg) (x .point) (size-for (s .kind) (x .point .figures) (x .bounds) (x .pos) (x .neg) k (o .shape)) (p .shape)
+          ∙ ap (agreesRead size) (p .is) ∙ stands-agrees s (handed s vs) vs (sound (s .kind) k) (handed-stands s vs (p .values));
+      of = o;
+    }
+
+-- ---- THE FRESH POINT, "at the greatest allowed scale"
+abbrev pub AtTop : Kind → Type 0
+AtTop (exponential size top) = top ≡ finest
+AtTop (explicit bounds) = Unit {0}
+
+agreeing : (size : ℕ) (k : Kind) (c : F.Counts) → AtTop k → Shape k c → countsAgree size finest low c ≡ true → Agreeing size low k c
+agreeing size (exponential m top) (scaled p) t h a = agrees-says size top low p (rw t a)
+agreeing size (exponential m top) (bucketed b p) t h a = absurd h
+agreeing size (explicit b) (scaled p) t h a = absurd h
+agreeing size (explicit b) (bucketed c p) t h a = rw (sym h) (buckets-say c p a)
+
+module _ (size : ℕ) (s : Settings) (top : AtTop (s .kind)) (f y : Stored) (none : PointOf s [] (f .point) (f .bounds) (f .pos) (f .neg)) (g : Good size s y) where
+  same : Same (mergeHanded size (handedIn f) (handedIn y)) (handedIn y)
+  same =
+      subst (λ h. Same (mergeHanded size h (handedIn y)) (handedIn y)) (sym (none .is))
+      (fresh-same size low s (handedIn y) (g .of) (agreeing size (s .kind) (handedIn y .counts) top (g .of .shape) (counts-ok size s y g)))
+
+  -- merged with another, and another with it
+  pub fresh-first : (z : Stored) (us vs : List ℕ) → mergedStored size us vs f y ≡ inr z → Same (handedIn z) (handedIn y)
+  fresh-first z us vs e = subst (λ h. Same h (handedIn y)) (sym (merged-reads size f y z us vs e)) same
+
+  pub fresh-second : (z : Stored) (us vs : List ℕ) → mergedStored size us vs y f ≡ inr z → Same (handedIn z) (handedIn y)
+  fresh-second z us vs e =
+      let c = handed-commutes size s in
+      let o : Of s (handedIn f) = subst (Of s) (sym (none .is)) (of-list s [] (none .values)) in
+      subst (λ h. Same h (handedIn y)) (sym (merged-reads size y f z us vs e))
+      (c .then (mergeHanded size (handedIn y) (handedIn f)) (mergeHanded size (handedIn f) (handedIn y)) (handedIn y) (c .comm (handedIn y) (handedIn f) (g .of) o) same)

@@ -1,0 +1,77 @@
+-- Any order and bracketing of merges by code is accepted where there is room, and all give the same but for the sum; so merging is commutative
+-- and associative. Request L14 asks this. Assumes nothing.
+use Prim.Native.Nat.{ℕ, _+_, _≤_}
+use mathlib.Core.Path.{_≡_, refl, ap, sym, subst, _∙_}
+use mathlib.Core.Logic.{inr}
+use mathlib.Core.List.{List, [], _∷_, _++_, foldr, List·Permᴰ, Permᴰ·refl, List·Permᴰ·swap}
+use native.Mathlib.Omega.{arith}
+use Rattle.laws.specs.Lists.{All}
+use Rattle.laws.specs.Trees.{Tree, leaf, node, leaves}
+use Rattle.laws.proofs.Lists.{all-left, all-right, all-map, all-perm, foldr-perm}
+use Rattle.points.specs.Figures.{Settings}
+use Rattle.points.proofs.Grouping.{Of, Same}
+use Rattle.points.proofs.Stands.{resized}
+use Rattle.buckets.specs.Series.{mostCount}
+use Rattle.point.proofs.Lists.{Long}
+use Rattle.merging.specs.Stored.{Stored, handedIn, mergedStored, Groups}
+use Rattle.merging.proofs.Groups.{any-grouping}
+use Rattle.merging.proofs.Accepted.{Good, counted, merges}
+
+-- the counts together
+abbrev pub allCounted : List Stored → ℕ
+allCounted xs = foldr (λ x n. counted x + n) 0 xs
+
+counted-append : (xs ys : List Stored) → allCounted (xs ++ ys) ≡ allCounted xs + allCounted ys
+counted-append [] ys = omega arith
+counted-append (x ∷ xs) ys = omega (arith, counted-append xs ys)
+
+counted-perm : {xs ys : List Stored} → List·Permᴰ xs ys → allCounted xs ≡ allCounted ys
+counted-perm h = foldr-perm (λ x n. counted x + n) (λ a b z. omega arith) 0 h
+
+module _ (size : ℕ) (s : Settings) (us vs : List ℕ) (long : Long (resized size (s .kind)) us vs) where
+  -- what merging the leaves leaves
+  record Pooled (t : Tree Stored) : Type 0 where
+    pub left : Stored
+    pub is : Groups size t left
+    pub good : Good size s left
+    pub count : counted left ≡ allCounted (leaves t)
+
+  pooled : (t : Tree Stored) → All (Good size s) (leaves t) → allCounted (leaves t) ≤ mostCount → Pooled t
+  unfolding All
+  pooled (leaf x) g n = record { left = x; is = refl; good = g .0; count = omega arith }
+  pooled (node a b) g n =
+      let e = counted-append (leaves a) (leaves b) in
+      let p = pooled a (all-left (Good size s) (leaves a) (leaves b) g) (omega (arith, e)) in
+      let q = pooled b (all-right (Good size s) (leaves a) (leaves b) g) (omega (arith, e)) in
+      let m = merges size s (p .left) (q .left) (p .good) (q .good) (omega (arith, e, p .count, q .count)) us vs long in
+      record {
+        left = m .left;
+        is = (p .left, q .left, us, vs, p .is, q .is, m .is);
+        good = m .good;
+        count = omega (arith, m .count, e, p .count, q .count);
+      }
+
+  -- THE LAW. Every bracketing and order is accepted in rows that suffice, and the points left are the same
+  pub all-alike : (t u : Tree Stored) → List·Permᴰ (leaves t) (leaves u) → All (Good size s) (leaves t) → allCounted (leaves t) ≤ mostCount
+      → (x : Stored) × (y : Stored) × Groups size t x × Groups size u y × Same (handedIn x) (handedIn y)
+  all-alike t u h g n =
+      let p = pooled t g n in
+      let q = pooled u (all-perm (Good size s) h g) (omega (arith, counted-perm h)) in
+      (p .left, q .left, p .is, q .is, any-grouping size s t u (p .left) (q .left) h (all-map (Good size s) (λ x. Of s (handedIn x)) (λ x k. k .of) (leaves t) g) (p .is) (q .is))
+
+-- ---- OF TWO AND OF THREE, whatever rows were lent
+module _ (size : ℕ) (s : Settings) (x y : Stored) (p : Of s (handedIn x)) (q : Of s (handedIn y)) where
+  pub commutative : (z w : Stored) (us vs us' vs' : List ℕ) → mergedStored size us vs x y ≡ inr z → mergedStored size us' vs' y x ≡ inr w → Same (handedIn z) (handedIn w)
+  unfolding All
+  commutative z w us vs us' vs' e f =
+      any-grouping size s (node (leaf x) (leaf y)) (node (leaf y) (leaf x)) z w (List·Permᴰ·swap refl refl) (p, (q, tt))
+      (x, y, us, vs, refl, refl, e) (y, x, us', vs', refl, refl, f)
+
+  module _ (r : Stored) (o : Of s (handedIn r)) where
+    pub associative : (xy yr z w : Stored) (a b c d e f g h : List ℕ)
+        → mergedStored size a b x y ≡ inr xy → mergedStored size c d xy r ≡ inr z
+        → mergedStored size e f y r ≡ inr yr → mergedStored size g h x yr ≡ inr w → Same (handedIn z) (handedIn w)
+    unfolding All
+    associative xy yr z w a b c d e f g h i j k l =
+        any-grouping size s (node (node (leaf x) (leaf y)) (leaf r)) (node (leaf x) (node (leaf y) (leaf r))) z w (Permᴰ·refl _) (p, (q, (o, tt)))
+        (xy, r, c, d, (x, y, a, b, refl, refl, i), refl, j) (x, yr, g, h, refl, (y, r, e, f, refl, refl, k), l)

@@ -8,7 +8,7 @@ use native.Mathlib.Numerals.{add-one}
 use lib.ListN.{length, getD, take, drop, drop-of-length-le}
 use lib.Seq.{drop-cons, take-nil}
 use lib.Ieee.{Float, nan}
-use Rattle.rows.proofs.Algebra.{le-or-lt}
+use Rattle.laws.proofs.Differences.{le-or-lt}
 use Rattle.series.specs.declared.Head.{Head}
 use Rattle.series.specs.Series.{Outcome, recording}
 use Rattle.series.specs.Runs.{Series, after, headAfter, runAll}

@@ -1,5 +1,4 @@
 // Cells: numbers as they were read, and one cell of a head set to any number.
-use rows::Row;
 use series::Counts;
 use series::Head;
 use text::Natural;
@@ -17,15 +16,6 @@ pub fn read(n: Natural) -> u64 {
         Natural::None => 0,
         Natural::Is(x) => x,
     }
-}
-
-// The f64 of bits; any NaN is the difference of two infinities.
-pub fn float_of(bits: u64) -> f64 {
-    if 0x7FF0_0000_0000_0000 < bits % 0x8000_0000_0000_0000 {
-        let infinite = 1.0e308 * 10.0;
-        return infinite - infinite;
-    }
-    f64::from_bits(bits)
 }
 
 pub fn cut(n: u64) -> u32 {
@@ -57,9 +47,9 @@ fn counts_set(c: Counts, cell: u64, n: u64) -> Counts {
 pub fn head_set(h: Head, cell: u64, n: u64) -> Head {
     let c = h.counts;
     let counts = if cell < 7 { counts_set(c, cell, n) } else { c };
-    let min = if cell == 7 { float_of(n) } else { h.min };
-    let max = if cell == 8 { float_of(n) } else { h.max };
-    let sum = if cell == 9 { float_of(n) } else { h.sum };
+    let min = if cell == 7 { text::float_of(n) } else { h.min };
+    let max = if cell == 8 { text::float_of(n) } else { h.max };
+    let sum = if cell == 9 { text::float_of(n) } else { h.sum };
     Head {
         counts,
         min,
@@ -70,9 +60,9 @@ pub fn head_set(h: Head, cell: u64, n: u64) -> Head {
 
 pub fn buckets_set(h: buckets::Head, cell: u64, n: u64) -> buckets::Head {
     let count = if cell == 0 { n } else { h.count };
-    let min = if cell == 7 { float_of(n) } else { h.min };
-    let max = if cell == 8 { float_of(n) } else { h.max };
-    let sum = if cell == 9 { float_of(n) } else { h.sum };
+    let min = if cell == 7 { text::float_of(n) } else { h.min };
+    let max = if cell == 8 { text::float_of(n) } else { h.max };
+    let sum = if cell == 9 { text::float_of(n) } else { h.sum };
     buckets::Head {
         count,
         min,

@@ -59,7 +59,7 @@ fn record(
     let Natural::Is(x) = bits else {
         return state::unread(s);
     };
-    let v = cells::float_of(x);
+    let v = text::float_of(x);
     let now = s.current;
     match now {
         Current::Exponential(h) => record_scaled(s, h, v, pos, neg),
@@ -115,7 +115,7 @@ fn put_count(pos: &mut [u64], neg: &mut [u64], sign: u64, place: u64, n: u64) {
 
 fn put_bound(bounds: &mut [f64], place: u64, n: u64) {
     if place < 164 {
-        stores::put_bound(bounds, place as usize, cells::float_of(n));
+        stores::put_bound(bounds, place as usize, text::float_of(n));
     }
 }
 

@@ -66,7 +66,7 @@ fn take_bounds(line: &[u8], bounds: &mut [f64]) {
     let mut i: usize = 0;
     while i < 164 {
         let x = text::bits_at(line, i + 1);
-        stores::put_bound(bounds, i, cells::float_of(cells::read(x)));
+        stores::put_bound(bounds, i, text::float_of(cells::read(x)));
         i += 1;
     }
 }

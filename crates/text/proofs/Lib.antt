@@ -1,2 +1,3 @@
+-- The laws.
 pub mod Spelling
 pub mod Splitting

@@ -1,10 +1,12 @@
-// Lines of text: their fields, the numbers that fields spell, and numbers written. What the programs share.
+// Lines of text: their fields, the numbers and f64s that fields spell, and numbers written. What the programs share.
 //
 // One space parts fields. Decimals have no plus sign, no leading zero and no -0; bits are 16 digits 0-9 and A-F.
+mod floating;
 mod lines;
 mod numbers;
 mod written;
 
+pub use floating::float_of;
 pub use lines::Part;
 pub use lines::bits_at;
 pub use lines::byte_at;

@@ -4,22 +4,16 @@ use Rattle.index_run.proofs.main.Statement.{statement}
 use Rattle.index_run.proofs.main.Tie as tie
 
 abbrev Inv-loop : tie.InvT-loop
-Inv-loop read₀ turns₀ read turns = Unit {0}
+Inv-loop line₀ read₀ turns₀ line read turns = Unit {0}
 
 abbrev μ-loop : tie.MeasureT-loop
-μ-loop read₀ turns₀ read turns = turns
-
-empty-requires : tie.Need-empty-requires Inv-loop μ-loop
-empty-requires c κs = tt
-
-read-some-requires : tie.Need-read-some-requires Inv-loop μ-loop
-read-some-requires c κs = tt
+μ-loop line₀ read₀ turns₀ line read turns = turns
 
 loop-holds : tie.Need-loop-holds Inv-loop μ-loop
 loop-holds c = tt
 
-read-some-requires-2 : tie.Need-read-some-requires-2 Inv-loop μ-loop
-read-some-requires-2 c κs = tt
+read-some-requires : tie.Need-read-some-requires Inv-loop μ-loop
+read-some-requires c κs = tt
 
 sub-turns : tie.Need-sub-turns Inv-loop μ-loop
 sub-turns c = omega arith
@@ -30,14 +24,11 @@ loop-less c = omega arith
 loop-again : tie.Need-loop-again Inv-loop μ-loop
 loop-again c = tt
 
-print-requires : tie.Need-print-requires Inv-loop μ-loop
-print-requires c κs = tt
+print-last-requires : tie.Need-print-last-requires Inv-loop μ-loop
+print-last-requires c κs = tt
 
 returns : tie.Need-returns Inv-loop μ-loop
 returns c = tt
-
-returns-2 : tie.Need-returns-2 Inv-loop μ-loop
-returns-2 c = tt
 
 pub main-spec : {M : Type 1} → statement M
 main-spec =
@@ -45,13 +36,10 @@ main-spec =
     (tie.spec
     Inv-loop
     μ-loop
-    empty-requires
-    read-some-requires
     loop-holds
-    read-some-requires-2
+    read-some-requires
     sub-turns
     loop-less
     loop-again
-    print-requires
-    returns
-    returns-2)
+    print-last-requires
+    returns)

@@ -1,21 +1,21 @@
 -- `index_run::take` is safe and ends. Assumes nothing.
-use Prim.Native.Nat.{_-_, _≤_}
 use native.Mathlib.Omega.{arith}
+use Prim.Native.Nat.{_-_, _≤_}
 use lib.ListN.{length}
 use Rattle.index_run.proofs.take.Statement.{statement}
 use Rattle.index_run.proofs.take.Tie as tie
 
 abbrev Inv-loop : tie.InvT-loop
-Inv-loop bytes now₀ i₀ now i = i ≤ length bytes
+Inv-loop line₀ len bytes now₀ i₀ line now i = i ≤ length bytes
 
 abbrev μ-loop : tie.MeasureT-loop
-μ-loop bytes now₀ i₀ now i = length bytes - i
+μ-loop line₀ len bytes now₀ i₀ line now i = length bytes - i
 
 loop-holds : tie.Need-loop-holds Inv-loop μ-loop
 loop-holds c = omega arith
 
-shared-slice-read-go-on : tie.Need-shared-slice-read-go-on Inv-loop μ-loop
-shared-slice-read-go-on c = omega arith
+byte-at-requires : tie.Need-byte-at-requires Inv-loop μ-loop
+byte-at-requires c κs = tt
 
 go-on-requires : tie.Need-go-on-requires Inv-loop μ-loop
 go-on-requires c κs = tt
@@ -39,7 +39,7 @@ take-spec =
     Inv-loop
     μ-loop
     loop-holds
-    shared-slice-read-go-on
+    byte-at-requires
     go-on-requires
     add-i
     loop-less

@@ -1,6 +1,5 @@
 -- `text::lines::push` meets its contract. Assumes nothing.
 use mathlib.Core.Path.{refl, sym}
-use native.Mathlib.Omega.{arith}
 use denote.Ref.{now}
 use lib.ListN.{length}
 use lib.Seq.{set-out}

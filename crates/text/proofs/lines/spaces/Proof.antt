@@ -1,9 +1,9 @@
 -- `text::lines::spaces` meets its contract. Assumes nothing.
-use Prim.Native.Nat.{ℕ, _+_, _-_, _≤_}
-use mathlib.Core.Path.{_≡_, refl, sym, ap, _∙_}
+use Prim.Native.Nat.{_+_, _-_, _≤_}
+use mathlib.Core.Path.{_≡_}
 use native.Mathlib.Omega.{arith}
 use denote.Ref.{now}
-use lib.ListN.{length, drop, drop-of-length-le}
+use lib.ListN.{length, drop}
 use Rattle.text.specs.Lines.{spacesOf}
 use Rattle.text.proofs.Splitting.{spaces-turn, spaces-none}
 use Rattle.text.proofs.lines.spaces.Statement.{statement}

@@ -1,13 +1,13 @@
 -- `text::numbers::signed` meets its contract. Assumes nothing.
 use Prim.Native.Nat.{_-_, _≤_}
-use mathlib.Core.Path.{_≡_, sym, ap, _∙_}
+use mathlib.Core.Path.{sym, ap, _∙_}
 use native.Mathlib.Omega.{arith}
 use denote.Ref.{now}
 use lib.ListN.{length, drop, length-drop}
 use lib.Seq.{take-all}
 use Rattle.laws.proofs.Bools.{pick-true, pick-false}
 use borrow.Author.Needs.{needs}
-use Rattle.text.specs.Numbers.{hasMinus, decimalOf, withMinus, withoutMinus, signedOf}
+use Rattle.text.specs.Numbers.{decimalOf, withMinus, withoutMinus, signedOf}
 use Rattle.text.proofs.Spelling.{minus-length}
 use Rattle.text.proofs.numbers.signed.Statement.{statement}
 use Rattle.text.proofs.numbers.signed.Tie as tie

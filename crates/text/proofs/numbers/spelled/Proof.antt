@@ -3,8 +3,8 @@ use Prim.Native.Nat.{ℕ, _-_, _*_, _+_, _^_, _≤_, _<_}
 use mathlib.Core.Path.{_≡_, refl, sym, ap, _∙_, subst}
 use native.Mathlib.Omega.{arith}
 use denote.Ref.{now}
-use lib.ListN.{length, getD, drop, drop-of-length-le}
-use Rattle.text.specs.Numbers.{digitOf, spelledFrom}
+use lib.ListN.{length, drop, drop-of-length-le}
+use Rattle.text.specs.Numbers.{spelledFrom}
 use Rattle.text.proofs.Spelling.{no-digit, too-large, next-digit, step-fits, step-passes}
 use Rattle.text.proofs.numbers.spelled.Statement.{statement}
 use Rattle.text.proofs.numbers.spelled.Tie as tie

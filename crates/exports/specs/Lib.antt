@@ -1,0 +1,2 @@
+-- The definitions that the contracts of `exports` cite.
+pub mod Exports

@@ -1,5 +1,5 @@
 #!/usr/bin/env python3
-"""Writes crates/bounds/src/lib.rt, the 1024 bucket bounds of a power of two with the rows that the code reads,
+"""Writes crates/bounds/src/lib.rt, the 1024 bucket bounds of a power of two as the code reads them,
 crates/bounds/specs/Table.antt, the same numbers for the proof, and crates/index/src/guess.rt, a first guess of a rank.
 
 Entry k is the largest whole number m with m^1024 <= 2^(k + 53248): the upper bound 2^(k/1024) of a bucket at scale 10,
@@ -9,7 +9,7 @@ Run from the repository's root: python3 tools/make_bounds.py && rt fmt"""
 
 from math import log2
 
-ENTRIES, ROW, PIECES = 1024, 4, 64
+ENTRIES, PIECES = 1024, 64
 
 
 def bound(k):
@@ -27,31 +27,51 @@ def bound(k):
 CODE = """// The bounds of scale 10's buckets within a power of two. Made by tools/make_bounds.py.
 ghost use mathlib.Core.Path.{_≡_};
 ghost use Prim.Native.Nat.{_<_};
+ghost use lib.ListN.{getD};
 ghost use Rattle.laws.specs.NoneOf.{NoneOf};
 ghost use Rattle.bounds.specs.Bounds.{BoundAt};
-ghost use Rattle.bounds.specs.Table.{rowOf};
+ghost use Rattle.bounds.specs.Table.{lower, upper};
 
 // Entry k is the largest m with m^1024 <= 2^(k + 53248).
 const BOUNDS: [u64; 1024] = [
 %s];
 
 %s
-// The entries from 4 * j on. A const array is rebuilt at each use, so the code reads rows that are cut from the table.
-fn row(j: u64) -> [u64; 4]
-    requires { ⌜ j < 256 ⌝ }
-    ensures { λ r. ⌜ r ≡ rowOf j ⌝ }
+// The first half of the table. A const array is rebuilt at each use; a match whose arms are numbers becomes one load, and no
+// function may have 1024 arms.
+fn lower_half(k: u64) -> u64
+    requires { ⌜ k < 512 ⌝ }
+    ensures { λ r. ⌜ r ≡ getD lower k 0 ⌝ }
 {
-    match j {
-%s        _ => last_row(j),
+    match k {
+%s        _ => end_of_lower(k),
     }
 }
 
-fn last_row(j: u64) -> [u64; 4]
-    requires { ⌜ j < 256 ⌝ }
-    requires { ⌜ NoneOf j 255 ⌝ }
-    ensures { λ r. ⌜ r ≡ rowOf j ⌝ }
+fn end_of_lower(k: u64) -> u64
+    requires { ⌜ k < 512 ⌝ }
+    requires { ⌜ NoneOf k 511 ⌝ }
+    ensures { λ r. ⌜ r ≡ getD lower k 0 ⌝ }
 {
-    ROW_255
+    ENTRY_511
+}
+
+// The second half.
+fn upper_half(j: u64) -> u64
+    requires { ⌜ j < 512 ⌝ }
+    ensures { λ r. ⌜ r ≡ getD upper j 0 ⌝ }
+{
+    match j {
+%s        _ => end_of_upper(j),
+    }
+}
+
+fn end_of_upper(j: u64) -> u64
+    requires { ⌜ j < 512 ⌝ }
+    requires { ⌜ NoneOf j 511 ⌝ }
+    ensures { λ r. ⌜ r ≡ getD upper j 0 ⌝ }
+{
+    ENTRY_1023
 }
 
 // Entry k of the table.
@@ -59,24 +79,27 @@ pub fn bound(k: u64) -> u64
     requires { ⌜ k < 1024 ⌝ }
     ensures { λ r. ⌜ BoundAt k r ⌝ }
 {
-    let found = row(k / 4);
-    found[(k %% 4) as usize]
+    if k < 512 {
+        return lower_half(k);
+    }
+    upper_half(k - 512)
 }
 """
 
-TABLE = """-- The table of bounds as a list of rows, made by tools/make_bounds.py: what `row` returns, and nothing else, is read off it.
--- That its entries are the bounds is proved (proofs/Rule.antt). Assumes nothing.
+TABLE = """-- The table of bounds as two lists, made by tools/make_bounds.py: what the code returns, and nothing else, is read off them.
+-- That their entries are the bounds is proved (proofs/Rule.antt). Assumes nothing.
 use mathlib.Core.List.{List, [], _∷_}
 use Prim.Native.Nat.{ℕ}
-use lib.ListN.{getD}
 
-abbrev pub rows : List (List ℕ)
-rows =
+-- the entries 0 to 511
+abbrev pub lower : List ℕ
+lower =
 %s    []
 
--- the entries 4 * j to 4 * j + 3
-abbrev pub rowOf : ℕ → List ℕ
-rowOf j = getD rows j []
+-- the entries 512 to 1023
+abbrev pub upper : List ℕ
+upper =
+%s    []
 """
 
 
@@ -125,14 +148,14 @@ def arms_of(numbers):
 
 def main():
     entries = [bound(k) for k in range(ENTRIES)]
-    rows = [range(j, j + ROW) for j in range(0, ENTRIES, ROW)]
-    cuts = [f"const ROW_{j}: [u64; {ROW}] = [{', '.join(f'BOUNDS[{k}]' for k in row)}];\n" for j, row in enumerate(rows)]
-    arms = [f"        {j} => ROW_{j},\n" for j in range(len(rows) - 1)]
-    lists = [f"    ({' ∷ '.join(str(entries[k]) for k in row)} ∷ []) ∷\n" for row in rows]
+    names = "".join(f"const ENTRY_{k}: u64 = BOUNDS[{k}];\n" for k in range(ENTRIES))
+    half = ENTRIES // 2
+    lower, upper = ("".join(f"        {j} => ENTRY_{first + j},\n" for j in range(half - 1)) for first in (0, half))
+    lists = ["".join(f"    {m} ∷\n" for m in part) for part in (entries[:half], entries[half:])]
     with open("crates/bounds/src/lib.rt", "w") as out:
-        out.write(CODE % ("".join(f"    {m},\n" for m in entries), "".join(cuts), "".join(arms)))
+        out.write(CODE % ("".join(f"    {m},\n" for m in entries), names, lower, upper))
     with open("crates/bounds/specs/Table.antt", "w") as out:
-        out.write(TABLE % "".join(lists))
+        out.write(TABLE % tuple(lists))
     bases = [chord(i) for i in range(PIECES + 1)]
     with open("crates/index/src/guess.rt", "w") as out:
         out.write(GUESS % (arms_of(bases[:-1]), arms_of([b - a for a, b in zip(bases, bases[1:])])))

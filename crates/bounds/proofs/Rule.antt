@@ -1,114 +1,118 @@
 -- The table's rule, at every entry, by one test that antt computes: in sixteen parts, since a declaration has a limit of steps.
 -- Assumes nothing.
 use mathlib.Core.Bool.{Bool, _&&_}
-use mathlib.Core.Path.{_≡_, sym, subst}
-use mathlib.Core.List.{List, []}
-use Prim.Native.Nat.{ℕ, zero, suc, _+_, _*_, _/_, _%_, _^_, _<_}
+use mathlib.Core.Path.{_≡_, subst}
+use mathlib.Core.List.{List}
+use Prim.Native.Nat.{ℕ, zero, suc, _+_, _-_, _*_, _^_, _≤_, _<_}
 use native.Mathlib.Nat.{zero-add}
 use native.Mathlib.Omega.{arith}
-use lib.Dec.{T, leb, ltb, eqb, leb→le, ltb→lt, eqb→eq}
-use lib.ListN.{length, getD, take, drop}
+use lib.Dec.{T, leb, ltb, leb→le, ltb→lt}
+use lib.ListN.{getD, take, drop}
 use Rattle.laws.proofs.Every.{every, cut, at, both-left, both-right}
 use Rattle.bounds.specs.Bounds.{BoundAt}
-use Rattle.bounds.specs.Table.{rows, rowOf}
+use Rattle.bounds.specs.Table.{lower, upper}
 
 -- m is the bound at place k
 right : ℕ → ℕ → Bool
 right k m = leb (m ^ 1024) (2 ^ (k + 53248)) && ltb (2 ^ (k + 53248)) (suc m ^ 1024)
 
--- the four bounds of row j
-abbrev rowRight : ℕ → List ℕ → Bool
-rowRight j ms = eqb (length ms) 4 && every right (j * 4) ms
+-- the entries of a half from part j on, and the test on them, and on part j, the half's first entry being at place b
+rest : List ℕ → ℕ → List ℕ
+rest l zero = l
+rest l (suc j) = drop 64 (rest l j)
 
--- the rows from part j on, and the test on them, and on part j
-rest : ℕ → List (List ℕ)
-rest zero = rows
-rest (suc j) = drop 16 (rest j)
+abbrev Rest : List ℕ → ℕ → ℕ → Type 0
+Rest l b j = T (every right (b + j * 64) (rest l j))
 
-abbrev Rest : ℕ → Type 0
-Rest j = T (every rowRight (j * 16) (rest j))
+abbrev Part : List ℕ → ℕ → ℕ → Type 0
+Part l b j = T (every right (b + j * 64) (take 64 (rest l j)))
 
-abbrev Part : ℕ → Type 0
-Part j = T (every rowRight (j * 16) (take 16 (rest j)))
-
-join : (j : ℕ) → Part j → Rest (suc j) → Rest j
+join : (l : List ℕ) (b j : ℕ) → Part l b j → Rest l b (suc j) → Rest l b j
 unfolding rest
-join j p q = cut rowRight 16 (j * 16) (rest j) p (subst (λ (i : ℕ). T (every rowRight i (drop 16 (rest j)))) (step j) q)
+join l b j p q = cut right 64 (b + j * 64) (rest l j) p (subst (λ (i : ℕ). T (every right i (drop 64 (rest l j)))) (step b j) q)
   where
-    step : (j : ℕ) → suc j * 16 ≡ j * 16 + 16
-    step j = omega arith
+    step : (b j : ℕ) → b + suc j * 64 ≡ b + j * 64 + 64
+    step b j = omega arith
 
-part-0 : Part 0
+lower-0 : Part lower 0 0
 unfolding right rest
-part-0 = tt
+lower-0 = tt
 
-part-1 : Part 1
+lower-1 : Part lower 0 1
 unfolding right rest
-part-1 = tt
+lower-1 = tt
 
-part-2 : Part 2
+lower-2 : Part lower 0 2
 unfolding right rest
-part-2 = tt
+lower-2 = tt
 
-part-3 : Part 3
+lower-3 : Part lower 0 3
 unfolding right rest
-part-3 = tt
+lower-3 = tt
 
-part-4 : Part 4
+lower-4 : Part lower 0 4
 unfolding right rest
-part-4 = tt
+lower-4 = tt
 
-part-5 : Part 5
+lower-5 : Part lower 0 5
 unfolding right rest
-part-5 = tt
+lower-5 = tt
 
-part-6 : Part 6
+lower-6 : Part lower 0 6
 unfolding right rest
-part-6 = tt
+lower-6 = tt
 
-part-7 : Part 7
+lower-7 : Part lower 0 7
 unfolding right rest
-part-7 = tt
+lower-7 = tt
 
-part-8 : Part 8
+lower-end : Rest lower 0 8
 unfolding right rest
-part-8 = tt
+lower-end = tt
 
-part-9 : Part 9
-unfolding right rest
-part-9 = tt
-
-part-10 : Part 10
-unfolding right rest
-part-10 = tt
-
-part-11 : Part 11
-unfolding right rest
-part-11 = tt
-
-part-12 : Part 12
-unfolding right rest
-part-12 = tt
-
-part-13 : Part 13
-unfolding right rest
-part-13 = tt
-
-part-14 : Part 14
-unfolding right rest
-part-14 = tt
-
-part-15 : Part 15
-unfolding right rest
-part-15 = tt
-
-end : Rest 16
-unfolding right rest
-end = tt
-
-whole : T (every rowRight 0 rows)
+lower-right : T (every right 0 lower)
 unfolding rest
-whole = join 0 part-0 (join 1 part-1 (join 2 part-2 (join 3 part-3 (join 4 part-4 (join 5 part-5 (join 6 part-6 (join 7 part-7 (join 8 part-8 (join 9 part-9 (join 10 part-10 (join 11 part-11 (join 12 part-12 (join 13 part-13 (join 14 part-14 (join 15 part-15 end)))))))))))))))
+lower-right = join lower 0 0 lower-0 (join lower 0 1 lower-1 (join lower 0 2 lower-2 (join lower 0 3 lower-3 (join lower 0 4 lower-4 (join lower 0 5 lower-5 (join lower 0 6 lower-6 (join lower 0 7 lower-7 lower-end)))))))
+
+upper-0 : Part upper 512 0
+unfolding right rest
+upper-0 = tt
+
+upper-1 : Part upper 512 1
+unfolding right rest
+upper-1 = tt
+
+upper-2 : Part upper 512 2
+unfolding right rest
+upper-2 = tt
+
+upper-3 : Part upper 512 3
+unfolding right rest
+upper-3 = tt
+
+upper-4 : Part upper 512 4
+unfolding right rest
+upper-4 = tt
+
+upper-5 : Part upper 512 5
+unfolding right rest
+upper-5 = tt
+
+upper-6 : Part upper 512 6
+unfolding right rest
+upper-6 = tt
+
+upper-7 : Part upper 512 7
+unfolding right rest
+upper-7 = tt
+
+upper-end : Rest upper 512 8
+unfolding right rest
+upper-end = tt
+
+upper-right : T (every right 512 upper)
+unfolding rest
+upper-right = join upper 512 0 upper-0 (join upper 512 1 upper-1 (join upper 512 2 upper-2 (join upper 512 3 upper-3 (join upper 512 4 upper-4 (join upper 512 5 upper-5 (join upper 512 6 upper-6 (join upper 512 7 upper-7 upper-end)))))))
 
 as-bound : (k m : ℕ) → T (right k m) → BoundAt k m
 unfolding right
@@ -120,26 +124,15 @@ as-bound k m t =
       next = ltb→lt (2 ^ (k + 53248)) (suc m ^ 1024) (both-right a b t);
     }
 
-row-right : (j : ℕ) → j < 256 → T (rowRight j (rowOf j))
-row-right j h = subst (λ (i : ℕ). T (rowRight i (rowOf j))) (zero-add j) (at rowRight [] rows 0 whole j h)
+pub lower-bounded : (k : ℕ) → k < 512 → BoundAt k (getD lower k 0)
+lower-bounded k h = subst (λ (i : ℕ). BoundAt i (getD lower k 0)) (zero-add k) (as-bound (0 + k) (getD lower k 0) (at right 0 lower 0 lower-right k h))
 
-pub row-length : (j : ℕ) → j < 256 → length (rowOf j) ≡ 4
-row-length j h = eqb→eq (length (rowOf j)) 4 (both-left (eqb (length (rowOf j)) 4) (every right (j * 4) (rowOf j)) (row-right j h))
-
-pub bounded : (k : ℕ) → k < 1024 → BoundAt k (getD (rowOf (k / 4)) (k % 4) 0)
-bounded k h =
-    subst (λ (i : ℕ). BoundAt i (getD (rowOf (k / 4)) (k % 4) 0)) place
-    (as-bound (k / 4 * 4 + k % 4) (getD (rowOf (k / 4)) (k % 4) 0)
-    (at right 0 (rowOf (k / 4)) (k / 4 * 4) (both-right (eqb (length (rowOf (k / 4))) 4) (every right (k / 4 * 4) (rowOf (k / 4))) (row-right (k / 4) small)) (k % 4) inside))
+pub upper-bounded : (k : ℕ) → 512 ≤ k → k < 1024 → BoundAt k (getD upper (k - 512) 0)
+upper-bounded k g h =
+    subst (λ (i : ℕ). BoundAt i (getD upper (k - 512) 0)) place (as-bound (512 + (k - 512)) (getD upper (k - 512) 0) (at right 0 upper 512 upper-right (k - 512) inside))
   where
-    small : k / 4 < 256
-    small = omega (arith, h)
+    place : 512 + (k - 512) ≡ k
+    place = omega (arith, g)
 
-    inside : k % 4 < length (rowOf (k / 4))
-    inside = subst (λ (n : ℕ). k % 4 < n) (sym (row-length (k / 4) small)) low
-      where
-        low : k % 4 < 4
-        low = omega arith
-
-    place : k / 4 * 4 + k % 4 ≡ k
-    place = omega arith
+    inside : k - 512 < 512
+    inside = omega (arith, g, h)

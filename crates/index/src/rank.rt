@@ -1,39 +1,35 @@
 // The rank of a mantissa among the bounds of scale 10's buckets.
-ghost use Prim.Native.Nat.{_+_, _≤_, _<_, _^_};
+ghost use mathlib.Core.Path.{_≡_};
+ghost use Prim.Native.Nat.{_-_, _≤_, _<_, _^_};
 ghost use Rattle.index.specs.Ranked.{Ranked};
 
-// How many bounds lie below m: from the guess down past those that do not, then up past those that do.
+// One less, but not below 0.
+fn one_less(x: u64) -> u64
+    ensures { λ r. ⌜ r ≡ x - 1 ⌝ }
+{
+    if x == 0 {
+        return 0;
+    }
+    x - 1
+}
+
+// How many bounds lie below m: from low to high, each bound that is asked moving one of them to it, from the guess on step by
+// step. The table is read at one place only, so that its load is compiled into the loop.
 pub fn rank(m: u64) -> u64
     requires { ⌜ (2 ^ 52 ≤ m) × (m < 2 ^ 53) ⌝ }
     ensures { λ r. ⌜ Ranked m r ⌝ }
 {
-    up(m, down(m, crate::guess::guess(m)))
-}
-
-fn down(m: u64, from: u64) -> u64
-    requires { ⌜ (2 ^ 52 ≤ m) × (from ≤ 1024) ⌝ }
-    ensures { λ r. ⌜ (r ≤ 1024) × (2 ^ (r + 53247) < m ^ 1024) ⌝ }
-{
-    let mut r = from;
-    while r > 0 {
-        if bounds::bound(r - 1) < m {
-            return r;
+    let mut low: u64 = 0;
+    let mut high: u64 = 1024;
+    let mut at = one_less(crate::guess::guess(m));
+    while low < high {
+        if bounds::bound(at) < m {
+            low = at + 1;
+            at = low;
+        } else {
+            high = at;
+            at = one_less(high);
         }
-        r -= 1;
     }
-    r
-}
-
-fn up(m: u64, from: u64) -> u64
-    requires { ⌜ (m < 2 ^ 53) × (from ≤ 1024) × (2 ^ (from + 53247) < m ^ 1024) ⌝ }
-    ensures { λ r. ⌜ Ranked m r ⌝ }
-{
-    let mut r = from;
-    while r < 1024 {
-        if m <= bounds::bound(r) {
-            return r;
-        }
-        r += 1;
-    }
-    r
+    low
 }

@@ -25,16 +25,16 @@ use Rattle.directory.proofs.Admits.{room-rank, admit-put}
 use Rattle.directory.proofs.Laws.{slotsOf, few, slot-used, ascends, rebind-put}
 use Rattle.directory.proofs.Located.{Facts, facts, over-set, room-new, room-over, sought-held, place-held, place-over-held, place-new, place-over}
 use Rattle.directory.proofs.Rises.{In}
-use Rattle.bindings.specs.Calls.{refused, Outcome, boundAt, bornBound, boundIn, heldBound}
+use Rattle.bindings.specs.Calls.{said, refused, Outcome, boundAt, bornBound, boundIn, heldBound}
 use Rattle.bindings.specs.declared.Answer.the-variants.{Handle}
-use Rattle.bindings.proofs.Releases.{said, Steps}
+use Rattle.bindings.proofs.Releases.{Steps}
 use Rattle.laws.specs.Pick.{pick}
 
 -- and what binding is there
 module _ (K : Kind) (f : ℕ → K .Series) (z : K .Settings) where
   -- an outcome is this one of the map
   abbrev Is : Outcome → Out K → Type 0
-  Is o p = (said K f z (o .answer) ≡ p .answer) × (view K f z (o .kept .dir) (o .kept .stores) ≡ p .map)
+  Is o p = (said K (o .answer) ≡ p .answer) × (view K f z (o .kept .dir) (o .kept .stores) ≡ p .map)
 
   module _ (limit : ℕ) (d : Directory) (s : Stores) (row : List ℕ) (g : agreesb limit d s ≡ true) (small : d .last < 2 ^ 64) where
     old-full : (x : ℕ) → 18446744073709551615 ≤ getD (getD (s .entries) x []) 1 0 → Is (boundAt d s row (Old x)) (bindAt K (view K f z d s) (held K (view K f z d s) (entryAt K f s x)))

@@ -6,6 +6,7 @@ use lib.Dec.{leb}
 use lib.ListN.{length, getD, set}
 use Rattle.laws.specs.Pick.{pick}
 use Rattle.tally.specs.Sets.{Set, canonical}
+use Rattle.tally.specs.Kind as Map
 use Rattle.sets.specs.Rows.{span, rowOf}
 use Rattle.sets.specs.Sorted.{mostAttributes}
 use Rattle.directory.specs.Calls.{Kept, overRow, located, admitted, boundTo, scan, mostSets, accepts, enough}
@@ -28,6 +29,12 @@ abbrev pub number : Answer → ℕ
 number (Refused n) = n
 number Done = 0
 number (Handle b) = 0
+
+-- our answers as the abstract map's
+abbrev pub said : (K : Map.Kind) → Answer → Map.Answer K
+said K (Refused n) = Map.refuse n
+said K Done = Map.done
+said K (Handle b) = Map.handle b
 
 abbrev pub refused : ℕ → Directory → Stores → Outcome
 refused n d s = record { answer = Refused n; kept = record { dir = d; stores = s } }

@@ -9,9 +9,8 @@ use Rattle.tally.specs.Map.{Config, Call, measure, measureBy, bind, release, Ma
 use Rattle.tally.specs.Demand.{Code}
 use Rattle.directory.specs.View.{Stores, view}
 use Rattle.directory.specs.Calls.{Kept, enough, accepts}
-use Rattle.bindings.specs.Calls.{Outcome, bound, released, started}
+use Rattle.bindings.specs.Calls.{Outcome, said, bound, released, started}
 use Rattle.sets.proofs.Exact.{Small}
-use Rattle.bindings.proofs.Releases.{said}
 use Rattle.directory.proofs.Refusals.{within}
 use Rattle.bindings.proofs.Keeps.{bind-steps, release-steps, start-map}
 use Rattle.bindings.proofs.Runs as moves
@@ -37,7 +36,7 @@ module _ (K : Kind) (c : Config K) where
   pub record Does {Cells : Type 0} (Enough : Cells → Type 0) (at : Cells → ℕ → K .Series) (k : Kept) (x : Cells) (call : Call K) (o : Ended Cells) : Type 0 where
     pub good : Good (c .limit) (o .outcome .kept)
     pub lent : Enough (o .cells)
-    pub answer : said K (at (o .cells)) (c .settings) (o .outcome .answer) ≡ step K c (mapOf at k x) call .answer
+    pub answer : said K (o .outcome .answer) ≡ step K c (mapOf at k x) call .answer
     pub map : mapOf at (o .outcome .kept) (o .cells) ≡ step K c (mapOf at k x) call .map
 
   -- a kind's two recording calls, each the map's step wherever the directory agrees and the lent stores suffice
@@ -45,39 +44,41 @@ module _ (K : Kind) (c : Config K) where
     pub Cells : Type 0
     pub Enough : Cells → Type 0
     pub at : Cells → ℕ → K .Series
+    -- a value that can be given
+    pub Known : K .Value → Type 0
     pub bySet : Kept → Cells → K .Value → Set → Ended Cells
     pub byHandle : Kept → Cells → K .Value → ℕ → Ended Cells
-    pub set-does : (k : Kept) (x : Cells) → Good (c .limit) k → Enough x → (v : K .Value) (attrs : Set) → Small attrs → Does Enough at k x (measure v attrs) (bySet k x v attrs)
-    pub handle-does : (k : Kept) (x : Cells) → Good (c .limit) k → Enough x → (v : K .Value) (h : ℕ) → Does Enough at k x (measureBy h v) (byHandle k x v h)
-
-  -- what the calls are given: attributes are pairs of u32
-  pub data Asked : Type 0 where
-    recording : K .Value → (attrs : Set) → Small attrs → Asked
-    recordingBy : ℕ → K .Value → Asked
-    binding : (attrs : Set) → Small attrs → Asked
-    releasing : ℕ → Asked
-
-  abbrev pub asks : Asked → Call K
-  asks (recording v attrs small) = measure v attrs
-  asks (recordingBy h v) = measureBy h v
-  asks (binding attrs small) = bind attrs
-  asks (releasing h) = release h
+    pub set-does : (k : Kept) (x : Cells) → Good (c .limit) k → Enough x → (v : K .Value) → Known v → (attrs : Set) → Small attrs → Does Enough at k x (measure v attrs) (bySet k x v attrs)
+    pub handle-does : (k : Kept) (x : Cells) → Good (c .limit) k → Enough x → (v : K .Value) → Known v → (h : ℕ) → Does Enough at k x (measureBy h v) (byHandle k x v h)
 
   module _ (R : Recorders) where
+    -- what the calls are given: values and attributes that can be lent
+    pub data Asked : Type 0 where
+      recording : (v : K .Value) → R .Known v → (attrs : Set) → Small attrs → Asked
+      recordingBy : ℕ → (v : K .Value) → R .Known v → Asked
+      binding : (attrs : Set) → Small attrs → Asked
+      releasing : ℕ → Asked
+
+    abbrev pub asks : Asked → Call K
+    asks (recording v known attrs small) = measure v attrs
+    asks (recordingBy h v known) = measureBy h v
+    asks (binding attrs small) = bind attrs
+    asks (releasing h) = release h
+
     -- a binding or a release leaves the cells alone
     abbrev alone : R .Cells → Outcome → Ended (R .Cells)
     alone x o = record { outcome = o; cells = x }
 
     abbrev pub ended : Held (R .Cells) → Asked → Ended (R .Cells)
-    ended s (recording v attrs small) = R .bySet (s .kept) (s .cells) v attrs
-    ended s (recordingBy h v) = R .byHandle (s .kept) (s .cells) v h
+    ended s (recording v known attrs small) = R .bySet (s .kept) (s .cells) v attrs
+    ended s (recordingBy h v known) = R .byHandle (s .kept) (s .cells) v h
     ended s (binding attrs small) = alone (s .cells) (bound (c .limit) (c .filter) (s .kept .dir) (s .kept .stores) attrs)
     ended s (releasing h) = alone (s .cells) (released (c .limit) (s .kept .dir) (s .kept .stores) h)
 
     module _ (a : accepts (c .limit) (c .filter) ≡ true) where
       stepped : (s : Held (R .Cells)) → Good (c .limit) (s .kept) → R .Enough (s .cells) → (x : Asked) → Does (R .Enough) (R .at) (s .kept) (s .cells) (asks x) (ended s x)
-      stepped s g e (recording v attrs small) = R .set-does (s .kept) (s .cells) g e v attrs small
-      stepped s g e (recordingBy h v) = R .handle-does (s .kept) (s .cells) g e v h
+      stepped s g e (recording v known attrs small) = R .set-does (s .kept) (s .cells) g e v known attrs small
+      stepped s g e (recordingBy h v known) = R .handle-does (s .kept) (s .cells) g e v known h
       stepped s g e (binding attrs small) =
           let k = s .kept in
           let p = bind-steps K (R .at (s .cells)) (c .settings) c (k .dir) (k .stores) (g .agrees) (g .lent) attrs small (g .last) a in
@@ -96,7 +97,7 @@ module _ (K : Kind) (c : Config K) where
             view = λ h. mapOf (R .at) (h .kept) (h .cells);
             Input = Asked;
             asks = asks;
-            call = λ h y. (said K (R .at (h .cells)) (c .settings) (ended h y .outcome .answer), record { kept = ended h y .outcome .kept; cells = ended h y .cells });
+            call = λ h y. (said K (ended h y .outcome .answer), record { kept = ended h y .outcome .kept; cells = ended h y .cells });
             faithful = λ h y o g. let d = stepped h (o .0) (o .1) y in
                 ((d .good, d .lent), (λ i. record { answer = d .answer i; map = d .map i }));
             first = record { kept = started (c .limit) (c .filter) s .kept; cells = x };

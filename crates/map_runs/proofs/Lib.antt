@@ -1,1 +1,2 @@
 pub mod Recorders
+pub mod Exponential

@@ -1,8 +1,7 @@
 -- The laws of the map.
 pub mod Bars
-pub mod Quiet
 pub mod ExponentialCases
 pub mod ExponentialSteps
-pub mod ExponentialRuns
+pub mod ExponentialKept
 pub mod ExplicitCases
 pub mod ExplicitSteps

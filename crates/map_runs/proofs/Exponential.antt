@@ -1,0 +1,73 @@
+-- The exponential kind's map: any run of recordings, bindings and releases from a fresh start. Assumes nothing.
+use Prim.Native.Nat.{ℕ}
+use mathlib.Core.Path.{_≡_, sym, ap}
+use mathlib.Core.Bool.{Bool, true}
+use mathlib.Core.List.{List}
+use mathlib.Core.Option.{Option}
+use lib.Ieee.{binary64, fits}
+use Rattle.laws.specs.Tests.{all}
+use Rattle.points.specs.Figures.{exponential}
+use Rattle.tally.specs.Map.{Call, measure, measureBy, step}
+use Rattle.tally.specs.Demand.{Code, ran}
+use Rattle.tally.proofs.Sound.{quiet}
+use Rattle.kinds.specs.Histograms.{passes, histograms}
+use Rattle.kinds.proofs.Demand.{histograms-quiet}
+use Rattle.directory.specs.View.{Stores}
+use Rattle.directory.specs.Calls.{Kept, accepts, enough}
+use Rattle.directory.proofs.Leaves.{Good}
+use Rattle.expo_slots.specs.Slots.{Slots}
+use Rattle.expo_slots.specs.Meaning.{seriesAt}
+use Rattle.value_map.specs.ExponentialCalls as Calls
+use Rattle.value_map.specs.ExponentialCalls.{slotsLent, measured, measuredBy}
+use Rattle.value_map.proofs.ExponentialSteps.{config, mapOf, told, Fair, measure-steps, handle-steps}
+use Rattle.value_map.proofs.ExponentialKept.{good, lent-slots, measure-fair, handle-fair}
+use Rattle.map_runs.proofs.Recorders.{Ended, Does, Recorders, Asked, code}
+
+-- the switches e and m act where a point is handed out: no call here reads them
+module _ (size top limit : ℕ) (filter : Option (List ℕ)) (e m : Bool) (ok : passes (exponential size top) ≡ true) (a : accepts limit filter ≡ true) where
+  abbrev c = config size top limit filter e m
+
+  abbrev ended : Calls.Outcome → Ended Slots
+  ended o = record { outcome = record { answer = o .answer; kept = o .held .kept }; cells = o .held .slots }
+
+  fair : (k : Kept) (x : Slots) → Good limit k → slotsLent size limit x ≡ true → Fair size top limit filter e m (record { kept = k; slots = x })
+  fair k x g l = record { agrees = g .agrees; lent-is = rw (g .lent) l; last = g .last; valid = ok; accepted = a }
+
+  does : (k : Kept) (x : Slots) (call : Call histograms) (o : Calls.Outcome) → Fair size top limit filter e m (o .held)
+      → step histograms c (mapOf size top limit filter e m (record { kept = k; slots = x })) call ≡ told size top limit filter e m o
+      → Does histograms c (λ y. slotsLent size limit y ≡ true) (seriesAt size) k x call (ended o)
+  does k x call o w q =
+      record {
+        good = good size top limit filter e m (o .held) w;
+        lent = lent-slots size top limit filter e m (o .held) w;
+        answer = sym (ap (λ p. p .answer) q);
+        map = sym (ap (λ p. p .map) q);
+      }
+
+  abbrev pub recorders : Recorders histograms c
+  recorders =
+      record {
+        Cells = Slots;
+        Enough = λ x. slotsLent size limit x ≡ true;
+        at = seriesAt size;
+        Known = λ v. fits binary64 v ≡ true;
+        bySet = λ k x v attrs. ended (measured size top limit filter (record { kept = k; slots = x }) v attrs);
+        byHandle = λ k x v h. ended (measuredBy size top limit (record { kept = k; slots = x }) v h);
+        set-does = λ k x g l v known attrs small.
+            let h : Calls.Held = record { kept = k; slots = x } in
+            let w = fair k x g l in
+            does k x (measure v attrs) (measured size top limit filter h v attrs) (measure-fair size top limit filter e m h w v known attrs small) (measure-steps size top limit filter e m h w v known attrs small);
+        handle-does = λ k x g l v known b.
+            let h : Calls.Held = record { kept = k; slots = x } in
+            let w = fair k x g l in
+            does k x (measureBy b v) (measuredBy size top limit h v b) (handle-fair size top limit filter e m h w v known b) (handle-steps size top limit filter e m h w v known b);
+      }
+
+  -- from a fresh start in stores that suffice
+  module _ (s : Stores) (n : enough limit s ≡ true) (x : Slots) (l : slotsLent size limit x ≡ true) (calls : List (Asked histograms c recorders)) where
+    abbrev pub run : Code histograms c
+    run = code histograms c recorders a ok s n x l
+
+    -- with no premise: none is answered 8 or 12
+    pub quietly : all (quiet histograms) (ran histograms c run calls) ≡ true
+    quietly = histograms-quiet c run calls

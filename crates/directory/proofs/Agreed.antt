@@ -1,4 +1,4 @@
--- The cases of the directory's agreement, and what it says of each slot and place. Assumes nothing.
+-- The cases of the count and of the places, and what agreement says of each slot and place. Assumes nothing.
 use Prim.Native.Nat.{ℕ, suc, _+_, _-_, _≤_, _<_, Ordering·lt}
 use mathlib.Core.Path.{_≡_, refl, ap, sym, _∙_}
 use mathlib.Core.Bool.{Bool, true, false, cond, _&&_, _||_}
@@ -14,8 +14,7 @@ use Rattle.sets.specs.Rows.{size, soundb, below}
 use Rattle.sets.proofs.Alls.{allb-at}
 use Rattle.sets.proofs.Keyed.{sound-some, sound-few}
 use Rattle.sets.proofs.Ways.{below-lt}
-use Rattle.directory.specs.View.{Stores, setAt, birthAt, slotAt, placeAt, plainly, slotsb, placed, countsb, agreesb}
-use Rattle.directory.specs.declared.Directory.{Directory}
+use Rattle.directory.specs.View.{setAt, birthAt, slotAt, placeAt, plainly, slotsb, placed, countsb, stepAt}
 use Rattle.directory.specs.declared.Placed.the-variants.{Broken, Plain}
 
 -- the count
@@ -49,33 +48,13 @@ plain-inv true n m e = (refl, cc)
 plain-inv false n m e = (cc, cc)
 
 module _ (used : ℕ) (sets : List (List ℕ)) (order : List ℕ) where
-  pub placed-broken : placed used sets order ≡ Broken → allb used (placeAt sets order used) ≡ false
+  pub placed-broken : placed used sets order ≡ Broken → allb used (stepAt sets order used) ≡ false
   unfolding placed
   placed-broken e = broken-inv _ (plainly sets order used) e
 
-  pub placed-plain : (n : ℕ) → placed used sets order ≡ Plain n → (allb used (placeAt sets order used) ≡ true) × (plainly sets order used ≡ n)
+  pub placed-plain : (n : ℕ) → placed used sets order ≡ Plain n → (allb used (stepAt sets order used) ≡ true) × (plainly sets order used ≡ n)
   unfolding placed
   placed-plain n e = plain-inv _ (plainly sets order used) n e
-
--- the cases of the whole
-module _ (limit : ℕ) (d : Directory) (s : Stores) where
-  pub agree-far : limit + 1 < d .used → agreesb limit d s ≡ false
-  unfolding agreesb
-  agree-far h = rw (lt-leb (d .used) (limit + 1) h)
-
-  module _ (h : d .used ≤ limit + 1) where
-    pub agree-slots : slotsb (d .used) (d .last) (s .sets) (s .entries) ≡ false → agreesb limit d s ≡ false
-    unfolding agreesb
-    agree-slots e = rw (le-leb (d .used) (limit + 1) h, e)
-
-    module _ (k : slotsb (d .used) (d .last) (s .sets) (s .entries) ≡ true) where
-      pub agree-places : allb (d .used) (placeAt (s .sets) (s .order) (d .used)) ≡ false → agreesb limit d s ≡ false
-      unfolding agreesb
-      agree-places e = rw (le-leb (d .used) (limit + 1) h, k, e)
-
-      pub agree-counts : (n : ℕ) → (allb (d .used) (placeAt (s .sets) (s .order) (d .used)) ≡ true) × (plainly (s .sets) (s .order) (d .used) ≡ n) → agreesb limit d s ≡ countsb limit (d .count) (d .used) n
-      unfolding agreesb
-      agree-counts n e = rw (le-leb (d .used) (limit + 1) h, k, e .0, e .1)
 
 -- what right slots say
 module _ (used last : ℕ) (sets entries : List (List ℕ)) (e : slotsb used last sets entries ≡ true) where

@@ -1,7 +1,7 @@
 -- Turns of the loops that check the directory and search in it. Assumes nothing.
 use Prim.Native.Nat.{ℕ, zero, suc, _+_, _-_, _≤_, _<_, Ordering·lt, Ordering·eq, Ordering·gt}
 use mathlib.Core.Path.{_≡_, refl, ap, sym, _∙_}
-use mathlib.Core.Bool.{Bool, true, false, _||_}
+use mathlib.Core.Bool.{Bool, true, false, _&&_, _||_}
 use mathlib.Core.List.{List, [], _∷_, _++_, map}
 use native.Mathlib.Omega.{arith}
 use native.Mathlib.Numerals.{add-one}
@@ -13,37 +13,34 @@ use Rattle.tally.specs.Map.{plain, plains, bit}
 use Rattle.sets.specs.All.{allb}
 use Rattle.sets.specs.Rows.{span, setOf, soundb, below}
 use Rattle.sets.proofs.Spans.{span-more, span-none, span-all, span-snoc}
-use Rattle.directory.specs.View.{setAt, birthAt, slotAt, placeAt, plainly, slotsb, placed, seek, sought}
+use Rattle.directory.specs.View.{setAt, birthAt, placeAt, plainly, placed, seek, sought, bornAt, bornb, stepAt}
 use Rattle.directory.specs.declared.Found.{Found}
 use Rattle.directory.specs.declared.Found.the-variants.{Held, Room}
 use Rattle.directory.specs.declared.Placed.the-variants.{Broken, Plain}
 
--- slots
-module _ (sets entries : List (List ℕ)) where
+-- birth numbers
+module _ (entries : List (List ℕ)) where
   pub birth-next : (i : ℕ) → birthAt entries (i + 1) ≡ getD (getD entries (i + 1) []) 0 0
   birth-next i = rw add-one
 
-  pub slot-unsound : (i : ℕ) → soundb (getD sets (i + 1) []) ≡ false → slotAt sets entries i ≡ false
-  slot-unsound i e = rw e
+  pub born-late : (i : ℕ) (b : ℕ) → b ≡ birthAt entries i → getD (getD entries (i + 1) []) 0 0 ≤ b → bornAt entries i ≡ false
+  born-late i b p h = rw (birth-next i, ← p, le-ltb _ _ h)
 
-  pub slot-late : (i : ℕ) (b : ℕ) → b ≡ birthAt entries i → soundb (getD sets (i + 1) []) ≡ true → getD (getD entries (i + 1) []) 0 0 ≤ b → slotAt sets entries i ≡ false
-  slot-late i b p e h = rw (e, birth-next i, ← p, le-ltb _ _ h)
-
-  pub slot-yes : (i : ℕ) (b : ℕ) → b ≡ birthAt entries i → soundb (getD sets (i + 1) []) ≡ true → b < getD (getD entries (i + 1) []) 0 0 → slotAt sets entries i ≡ true
-  slot-yes i b p e h = rw (e, birth-next i, ← p, lt-ltb _ _ h)
+  pub born-yes : (i : ℕ) (b : ℕ) → b ≡ birthAt entries i → b < getD (getD entries (i + 1) []) 0 0 → bornAt entries i ≡ true
+  born-yes i b p h = rw (birth-next i, ← p, lt-ltb _ _ h)
 
   module _ (used last : ℕ) where
-    pub slots-no : allb used (slotAt sets entries) ≡ false → slotsb used last sets entries ≡ false
-    unfolding slotsb
-    slots-no e = rw e
+    pub births-no : allb used (bornAt entries) ≡ false → bornb used last entries ≡ false
+    unfolding bornb
+    births-no e = rw e
 
-    pub slots-late : (b : ℕ) → b ≡ birthAt entries used → allb used (slotAt sets entries) ≡ true → last < b → slotsb used last sets entries ≡ false
-    unfolding slotsb
-    slots-late b p e h = rw (e, ← p, lt-leb _ _ h)
+    pub births-late : (b : ℕ) → b ≡ birthAt entries used → allb used (bornAt entries) ≡ true → last < b → bornb used last entries ≡ false
+    unfolding bornb
+    births-late b p e h = rw (e, ← p, lt-leb _ _ h)
 
-    pub slots-yes : (b : ℕ) → b ≡ birthAt entries used → allb used (slotAt sets entries) ≡ true → b ≤ last → slotsb used last sets entries ≡ true
-    unfolding slotsb
-    slots-yes b p e h = rw (e, ← p, le-leb _ _ h)
+    pub births-yes : (b : ℕ) → b ≡ birthAt entries used → allb used (bornAt entries) ≡ true → b ≤ last → bornb used last entries ≡ true
+    unfolding bornb
+    births-yes b p e h = rw (e, ← p, le-leb _ _ h)
 
 -- places
 pub set-named : (sets : List (List ℕ)) (x : ℕ) → 1 ≤ x → setAt sets x ≡ setOf (getD sets x [])
@@ -51,11 +48,11 @@ set-named sets zero h = absurd (omega arith)
 set-named sets (suc x) h = refl
 
 module _ (sets : List (List ℕ)) (order : List ℕ) (used i : ℕ) where
-  pub place-low : getD order i 0 < 1 → placeAt sets order used i ≡ false
-  place-low h = rw (lt-leb 1 (getD order i 0) h)
+  pub step-low : getD order i 0 < 1 → stepAt sets order used i ≡ false
+  step-low h = rw (lt-leb 1 (getD order i 0) h)
 
-  pub place-high : 1 ≤ getD order i 0 → used < getD order i 0 → placeAt sets order used i ≡ false
-  place-high h k = rw (le-leb 1 (getD order i 0) h, lt-leb _ _ k)
+  pub step-high : 1 ≤ getD order i 0 → used < getD order i 0 → stepAt sets order used i ≡ false
+  step-high h k = rw (le-leb 1 (getD order i 0) h, lt-leb _ _ k)
 
   -- p is the slot at the place before
   module _ (p : ℕ) (h : 1 ≤ getD order i 0) (k : getD order i 0 ≤ used) (before : (i ≡ 0 → ⊥) → (p ≡ getD order (i - 1) 0) × (1 ≤ p)) where
@@ -69,8 +66,14 @@ module _ (sets : List (List ℕ)) (order : List ℕ) (used i : ℕ) where
             let a : setAt sets (getD order (i - 1) 0) ≡ setOf (getD sets p []) = ap (setAt sets) (sym (q .0)) ∙ set-named sets p (q .1) in
             rw (a, set-named sets (getD order i 0) h)
 
-    pub place-test : (b : Bool) → b ≡ (eqb i 0 || below (cmp (setOf (getD sets p [])) (setOf (getD sets (getD order i 0) [])))) → placeAt sets order used i ≡ b
-    place-test b e = test ∙ sym e
+    pub step-test : (b : Bool) → b ≡ (soundb (getD sets (getD order i 0) []) && (eqb i 0 || below (cmp (setOf (getD sets p [])) (setOf (getD sets (getD order i 0) []))))) → stepAt sets order used i ≡ b
+    step-test b e = ap (λ (x : Bool). x && soundb (getD sets (getD order i 0) [])) test ∙ and-swap _ (soundb (getD sets (getD order i 0) [])) ∙ sym e
+      where
+        and-swap : (x y : Bool) → (x && y) ≡ (y && x)
+        and-swap true true = refl
+        and-swap true false = refl
+        and-swap false true = refl
+        and-swap false false = refl
 
 plains-snoc : (f : ℕ → Set) (l : List ℕ) (x : ℕ) → plains (map f (l ++ (x ∷ []))) ≡ plains (map f l) + bit (plain (f x))
 plains-snoc f [] x = omega arith
@@ -85,11 +88,11 @@ plainly-more sets order i h =
     ∙ ap (λ (x : Set). plainly sets order i + bit (plain x)) (ap (λ (k : ℕ). setAt sets (getD order k 0)) e ∙ set-named sets (getD order i 0) h)
 
 module _ (used : ℕ) (sets : List (List ℕ)) (order : List ℕ) where
-  pub placed-no : allb used (placeAt sets order used) ≡ false → placed used sets order ≡ Broken
+  pub placed-no : allb used (stepAt sets order used) ≡ false → placed used sets order ≡ Broken
   unfolding placed
   placed-no e = rw e
 
-  pub placed-yes : allb used (placeAt sets order used) ≡ true → placed used sets order ≡ Plain (plainly sets order used)
+  pub placed-yes : allb used (stepAt sets order used) ≡ true → placed used sets order ≡ Plain (plainly sets order used)
   unfolding placed
   placed-yes e = rw e
 

@@ -13,13 +13,14 @@ use Rattle.laws.proofs.Cases.{true-not-false}
 use Rattle.tally.specs.Sets.{Set, same, mem}
 use Rattle.tally.proofs.Order.{same-self, same-eq}
 use Rattle.tally.proofs.Rising.{pigeon}
+use Rattle.sets.specs.All.{allb}
 use Rattle.sets.specs.Rows.{span}
-use Rattle.directory.specs.View.{Stores, setAt, agreesb}
+use Rattle.sets.proofs.Spans.{span-length}
+use Rattle.directory.specs.View.{Stores, setAt, agreesb, placeAt}
 use Rattle.directory.specs.declared.Directory.{Directory}
-use Rattle.directory.proofs.Admits.{length-span}
-use Rattle.directory.proofs.Agreed.{place-slot}
-use Rattle.directory.proofs.Laws.{places-right, ascends, span-in}
-use Rattle.directory.proofs.Rises.{In}
+use Rattle.directory.proofs.Agreed.{place-slot, place-rise}
+use Rattle.directory.proofs.Laws.{places-right}
+use Rattle.directory.proofs.Rises.{span-in, In, rising-span}
 
 -- the slots 1 to n without x
 abbrev others : ℕ → ℕ → List ℕ
@@ -84,21 +85,25 @@ in? x (y ∷ l) = go (eqb x y) refl (in? x l)
     go false e (inl m) = inl (inr m)
     go false e (inr n) = inr (λ m. ⊎-elim (eqb-false x y e) n m)
 
-module _ (limit : ℕ) (d : Directory) (s : Stores) (g : agreesb limit d s ≡ true) where
+-- places that are right name every slot: as many sets, strictly ascending, as there are slots
+module _ (used : ℕ) (sets : List (List ℕ)) (order : List ℕ) (e : allb used (placeAt sets order used) ≡ true) where
   abbrev S : List ℕ
-  S = span (s .order) 0 (d .used)
+  S = span order 0 used
 
-  pub covers : (x : ℕ) → 1 ≤ x → x ≤ d .used → In x S
-  covers x a b = ⊎-elim (λ m. m) (λ n. absurd (no n)) (in? x S)
+  pub named : (x : ℕ) → 1 ≤ x → x ≤ used → In x S
+  named x a b = ⊎-elim (λ m. m) (λ n. absurd (no n)) (in? x S)
     where
-      slot : (y : ℕ) → In y S → (1 ≤ y) × (y ≤ d .used)
-      slot y m = span-in (λ (k : ℕ). (1 ≤ k) × (k ≤ d .used)) (s .order) 0 (d .used) (λ j u v. place-slot (d .used) (s .sets) (s .order) (places-right limit d s g) j (omega arith)) y m
+      slot : (y : ℕ) → In y S → (1 ≤ y) × (y ≤ used)
+      slot y m = span-in (λ (k : ℕ). (1 ≤ k) × (k ≤ used)) order 0 used (λ j u v. place-slot used sets order e j (omega arith)) y m
 
       no : (In x S → ⊥) → ⊥
       no n =
-          let f = setAt (s .sets) in
-          let p = pigeon (map f S) (map f (others x (d .used))) (ascends limit d s g .1)
-          (λ w e. let r = mem-in f S w e in
+          let f = setAt sets in
+          let p = pigeon (map f S) (map f (others x used)) (rising-span f order 0 used (λ j u v. place-rise used sets order e j (omega arith)))
+          (λ w q. let r = mem-in f S w q in
           let k = slot (r .slot) (r .there) in
-          subst (λ v. mem v (map f (others x (d .used))) ≡ true) (r .set) (in-mem f (others x (d .used)) (r .slot) (others-in x (d .used) (r .slot) (k .0) (k .1) (λ q. n (subst (λ (y : ℕ). In y S) q (r .there)))))) in
-          omega (arith, p, length-span f (s .order) 0 (d .used), length-map (others x (d .used)) f, others-few x (d .used) a b)
+          subst (λ v. mem v (map f (others x used)) ≡ true) (r .set) (in-mem f (others x used) (r .slot) (others-in x used (r .slot) (k .0) (k .1) (λ q. n (subst (λ (y : ℕ). In y S) q (r .there)))))) in
+          omega (arith, p, length-map S f, span-length order 0 used, length-map (others x used) f, others-few x used a b)
+
+pub covers : (limit : ℕ) (d : Directory) (s : Stores) → agreesb limit d s ≡ true → (x : ℕ) → 1 ≤ x → x ≤ d .used → In x (span (s .order) 0 (d .used))
+covers limit d s g = named (d .used) (s .sets) (s .order) (places-right limit d s g)

@@ -24,8 +24,8 @@ use Rattle.directory.specs.View.{Stores, setAt, birthAt, slotAt, placeAt
 use Rattle.directory.specs.declared.Directory.{Directory}
 use Rattle.directory.proofs.Agreed.{slot-sound, birth-rise, last-birth, place-slot}
 use Rattle.directory.proofs.Checks.{birth-next}
-use Rattle.directory.proofs.Laws.{slotsOf, slots-right, places-right, span-in}
-use Rattle.directory.proofs.Rises.{In, keys-map}
+use Rattle.directory.proofs.Laws.{slotsOf, slots-right, places-right}
+use Rattle.directory.proofs.Rises.{span-in, In, keys-map}
 
 -- "its own place in the stores and its own birth number among those spent": named slots stand in the order of birth, and each place of
 -- the order names one of them
@@ -183,7 +183,7 @@ module _ (d : Directory) (s : Stores) (b : ℕ) where
   old-birth (suc y) h = ap (λ t. getD t 0 0) (getD-set-other (s .entries) (d .used + 1) (suc y) ((d .last + 1) ∷ b ∷ 0 ∷ []) [] (λ e. omega arith))
 
   pub new-birth : d .used + 1 < length (s .entries) → birthAt entered (d .used + 1) ≡ d .last + 1
-  new-birth le = birth-next (s .sets) entered (d .used) ∙ ap (λ t. getD t 0 0) (getD-set-same (s .entries) (d .used + 1) ((d .last + 1) ∷ b ∷ 0 ∷ []) [] le)
+  new-birth le = birth-next entered (d .used) ∙ ap (λ t. getD t 0 0) (getD-set-same (s .entries) (d .used + 1) ((d .last + 1) ∷ b ∷ 0 ∷ []) [] le)
 
 module _ (d : Directory) (s : Stores) (row : List ℕ) (r more b : ℕ) (ls : d .used + 1 < length (s .sets)) (le : d .used + 1 < length (s .entries)) (lo : d .used < length (s .order)) (rank : r ≤ d .used) (good : soundb row ≡ true) (a : Laid d s) where
   abbrev entries′ : List (List ℕ)

@@ -1,6 +1,6 @@
 -- The directory's calls are the map's steps, for any kind of series. Assumes nothing.
 use Prim.Native.Nat.{ℕ, zero, suc, _+_, _≤_, _<_, Ordering·lt, Ordering·eq, Ordering·gt}
-use mathlib.Core.Path.{_≡_, refl, ap, sym, subst, _∙_}
+use mathlib.Core.Path.{_≡_, refl, ap, sym, _∙_}
 use mathlib.Core.Logic.{inl, inr, ⊎-elim}
 use mathlib.Core.Bool.{Bool, true, false, cond, _&&_}
 use mathlib.Core.List.{List, [], _∷_, map}
@@ -26,7 +26,7 @@ use Rattle.directory.specs.declared.Found.{Found}
 use Rattle.directory.specs.declared.Found.the-variants.{Held, Room}
 use Rattle.directory.proofs.Agreed.{slot-sizes, place-slot, place-rise}
 use Rattle.directory.proofs.Checks.{set-named}
-use Rattle.directory.proofs.Rises.{In, rising-span, above-span}
+use Rattle.directory.proofs.Rises.{In, rising-span, above-span, span-in}
 use Rattle.laws.specs.Pick.{pick}
 
 -- the slots of a directory, ascending by set
@@ -68,12 +68,6 @@ place-climb used sets order e k h =
     ap (λ r. cmp r (setOf (getD sets (getD order (suc k) 0) []))) (sym a)
     ∙ ap (λ r. cmp (setAt sets (getD order k 0)) r) (sym b)
     ∙ place-rise used sets order e k h
-
--- what holds at each place holds of each slot
-pub span-in : (P : ℕ → Type 0) (l : List ℕ) (i k : ℕ) → ((j : ℕ) → i ≤ j → j < i + k → P (getD l j 0)) → (x : ℕ) → In x (span l i k) → P x
-span-in P l i zero h x m = absurd m
-span-in P l i (suc k) h x m =
-    ⊎-elim (λ e. subst P (sym e) (h i (omega arith) (omega arith))) (λ n. span-in P l (suc i) k (λ j a b. h j (omega arith) (omega arith)) x n) m
 
 -- a slot of the list is not below what all are above
 pub above-in : (g : ℕ → Set) (s : Set) (l : List ℕ) (x : ℕ) → Above s (map g l) → In x l → cmp s (g x) ≡ Ordering·lt

@@ -1,7 +1,7 @@
 -- A directory that agrees is a map whose sets ascend. Assumes nothing.
 use Prim.Native.Nat.{ℕ, zero, suc, _+_, _≤_, _<_, Ordering, Ordering·lt, Ordering·eq, Ordering·gt}
-use mathlib.Core.Path.{_≡_, refl, ap, sym, _∙_}
-use mathlib.Core.Logic.{_⊎_, inl, inr}
+use mathlib.Core.Path.{_≡_, refl, ap, sym, subst, _∙_}
+use mathlib.Core.Logic.{_⊎_, inl, inr, ⊎-elim}
 use mathlib.Core.Bool.{true, false}
 use mathlib.Core.List.{List, [], _∷_, map}
 use mathlib.Core.Option.{none, some}
@@ -36,6 +36,12 @@ above-span f s l i (suc k) h = (h i (omega arith) (omega arith), above-span f s 
 abbrev pub In : ℕ → List ℕ → Type 0
 In x [] = ⊥
 In x (y ∷ l) = (x ≡ y) ⊎ In x l
+
+-- what holds at each place holds of each slot
+pub span-in : (P : ℕ → Type 0) (l : List ℕ) (i k : ℕ) → ((j : ℕ) → i ≤ j → j < i + k → P (getD l j 0)) → (x : ℕ) → In x (span l i k) → P x
+span-in P l i zero h x m = absurd m
+span-in P l i (suc k) h x m =
+    ⊎-elim (λ e. subst P (sym e) (h i (omega arith) (omega arith))) (λ n. span-in P l (suc i) k (λ j a b. h j (omega arith) (omega arith)) x n) m
 
 module _ (K : Kind) (f : ℕ → K .Series) (st : Stores) where
   abbrev E : ℕ → Entry K

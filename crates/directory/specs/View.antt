@@ -31,9 +31,13 @@ abbrev pub birthAt : List (List ℕ) → ℕ → ℕ
 birthAt entries zero = 0
 birthAt entries (suc x) = getD (getD entries (suc x) []) 0 0
 
+-- the slot after x has a later birth number
+abbrev pub bornAt : List (List ℕ) → ℕ → Bool
+bornAt entries x = ltb (birthAt entries x) (birthAt entries (x + 1))
+
 -- "each has 1 to 8 attributes with rising keys ... and its own birth number among those spent": the slot after x has 1 to 8 attributes with rising keys, and a later birth number than x
 abbrev pub slotAt : List (List ℕ) → List (List ℕ) → ℕ → Bool
-slotAt sets entries x = soundb (getD sets (x + 1) []) && ltb (birthAt entries x) (birthAt entries (x + 1))
+slotAt sets entries x = soundb (getD sets (x + 1) []) && bornAt entries x
 
 -- "its sets are strictly ascending": place k names a slot of those used, whose set comes after that of the place before
 abbrev pub placeAt : List (List ℕ) → List ℕ → ℕ → ℕ → Bool
@@ -47,9 +51,6 @@ plainly sets order used = plains (map (setAt sets) (span order 0 used))
 unfoldable pub slotsb : ℕ → ℕ → List (List ℕ) → List (List ℕ) → Bool
 slotsb used last sets entries = allb used (slotAt sets entries) && leb (birthAt entries used) last
 
-unfoldable pub placed : ℕ → List (List ℕ) → List ℕ → Placed
-placed used sets order = cond (allb used (placeAt sets order used)) (Plain (plainly sets order used)) Broken
-
 -- "its stored count is that of the sets other than overflow, or one more if overflow is held, and is at most the limit": with the sets as
 -- many as the slots used, overflow is held where the plain ones are fewer. The stored count is that of the plain sets, or one more if overflow is held, and at most the limit
 abbrev pub countsb : ℕ → ℕ → ℕ → ℕ → Bool
@@ -62,6 +63,16 @@ agreesb limit d s =
     && (slotsb (d .used) (d .last) (s .sets) (s .entries)
     && (allb (d .used) (placeAt (s .sets) (s .order) (d .used))
     && countsb limit (d .count) (d .used) (plainly (s .sets) (s .order) (d .used))))
+
+-- How agreement is tested: birth numbers along the slots, and the rest along the places, which name every slot (proofs/Covers)
+unfoldable pub bornb : ℕ → ℕ → List (List ℕ) → Bool
+bornb used last entries = allb used (bornAt entries) && leb (birthAt entries used) last
+
+abbrev pub stepAt : List (List ℕ) → List ℕ → ℕ → ℕ → Bool
+stepAt sets order used k = placeAt sets order used k && soundb (getD sets (getD order k 0) [])
+
+unfoldable pub placed : ℕ → List (List ℕ) → List ℕ → Placed
+placed used sets order = cond (allb used (stepAt sets order used)) (Plain (plainly sets order used)) Broken
 
 -- a scan of slots that ascend by set, from place i
 abbrev pub seek : Set → List (List ℕ) → List ℕ → ℕ → Found

@@ -1,22 +1,17 @@
-// Whether the directory agrees with itself, in one pass over its slots and one over its places.
+// Whether the directory agrees with itself, in one pass over its birth numbers and one over its places.
 ghost use mathlib.Core.Path.{_≡_};
-ghost use mathlib.Core.List.{[]};
-ghost use Prim.Native.Nat.{ℕ, _+_, _<_, _≤_};
-ghost use lib.ListN.{length, getD};
-ghost use Rattle.sets.specs.Rows.{size};
-ghost use Rattle.directory.specs.View.{slotsb, placed, countsb, agreesb};
+ghost use Prim.Native.Nat.{_+_, _<_, _≤_};
+ghost use lib.ListN.{length};
+ghost use Rattle.directory.specs.View.{bornb, placed, countsb, agreesb};
 
-// Whether each slot holds a sound set and birth numbers rise.
-fn slots(used: usize, last: u64, sets: &[[u64; 9]], entries: &[[u64; 3]]) -> bool
-    requires { ⌜ (used < length (now sets)) × (used < length (now entries)) ⌝ }
-    ensures { λ r. ⌜ r ≡ slotsb used last (now (sets .entry)) (now (entries .entry)) ⌝ }
+// Whether birth numbers rise along the slots, among those spent.
+fn births(used: usize, last: u64, entries: &[[u64; 3]]) -> bool
+    requires { ⌜ used < length (now entries) ⌝ }
+    ensures { λ r. ⌜ r ≡ bornb used last (now (entries .entry)) ⌝ }
 {
     let mut prev: u64 = 0;
     let mut i: usize = 0;
     while i < used {
-        if !sets::rows::sound(&sets[i + 1]) {
-            return false;
-        }
         let b = entries[i + 1][0];
         if b <= prev {
             return false;
@@ -30,9 +25,9 @@ fn slots(used: usize, last: u64, sets: &[[u64; 9]], entries: &[[u64; 3]]) -> boo
     true
 }
 
-// Whether the places name slots ascending by set, and how many of these are plain.
+// Whether the places name sound slots ascending by set, and how many of these are plain.
 fn places(used: usize, sets: &[[u64; 9]], order: &[u32]) -> crate::Placed
-    requires { ⌜ (used < length (now sets)) × (used ≤ length (now order)) × ((x : ℕ) → 1 ≤ x → x ≤ used → (1 ≤ size (getD (now sets) x [])) × (size (getD (now sets) x []) ≤ 8)) ⌝ }
+    requires { ⌜ (used < length (now sets)) × (used ≤ length (now order)) ⌝ }
     ensures { λ r. ⌜ r ≡ placed used (now (sets .entry)) (now (order .entry)) ⌝ }
 {
     let mut plain: usize = 0;
@@ -91,7 +86,7 @@ pub fn agrees(
     if used > limit as usize + 1 {
         return false;
     }
-    if !slots(used, d.last, sets, entries) {
+    if !births(used, d.last, entries) {
         return false;
     }
     match places(used, sets, order) {

@@ -7,7 +7,7 @@ use mathlib.Core.List.{List, [], map}
 use native.Mathlib.Omega.{arith}
 use native.Mathlib.Nat.{eq-or-lt-of-le}
 use native.Mathlib.Numerals.{add-one}
-use borrow.Author.Tests.{leb-true, ltb-true, lt-ltb, le-leb}
+use borrow.Author.Tests.{leb-true, ltb-true, lt-ltb, le-leb, lt-leb}
 use lib.Dec.{leb}
 use lib.ListN.{length, getD, length-map}
 use Rattle.laws.proofs.Cases.{and-true}
@@ -71,6 +71,21 @@ module _ (row : List ℕ) (n : ℕ) (up : (j : ℕ) → suc j < n → keyOf row 
   keyed-span i zero h = tt
   keyed-span i (suc k) h =
       (over-span (keyOf row i) (suc i) k (λ j p q. later i j (omega arith) (omega arith)), keyed-span (suc i) k (omega arith))
+
+pub unsound-none : (row : List ℕ) → size row < 1 → soundb row ≡ false
+unfolding soundb
+unsound-none row h = simp (lt-leb _ _ h)
+
+pub unsound-many : (row : List ℕ) → 8 < size row → soundb row ≡ false
+unfolding soundb
+unsound-many row h = simp (le-leb 1 (size row) (omega arith), lt-leb _ _ h)
+
+pub sound-keys : (row : List ℕ) → 1 ≤ size row → size row ≤ 8 → soundb row ≡ allb (size row - 1) (keyAt row)
+unfolding soundb
+sound-keys row h k = simp (le-leb _ _ h, le-leb _ _ k)
+
+pub key-rise : (row : List ℕ) → soundb row ≡ true → (k : ℕ) → k + 1 < size row → keyAt row k ≡ true
+key-rise row e k h = allb-at (keyAt row) (size row - 1) (sym (sound-keys row (sound-some row e) (sound-few row e)) ∙ e) k (omega arith)
 
 pub sound-keyed : (row : List ℕ) → soundb row ≡ true → Keyed (setOf row)
 unfolding setOf soundb

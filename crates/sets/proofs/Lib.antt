@@ -5,6 +5,7 @@ pub mod Words
 pub mod Ways
 pub mod Plains
 pub mod Keyed
+pub mod Partings
 pub mod Moved
 pub mod Attributes
 pub mod Exact

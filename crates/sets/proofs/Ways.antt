@@ -1,7 +1,7 @@
 -- What a comparison's answer tells of two sets. Assumes nothing.
 use Prim.Native.Nat.{ℕ, Ordering, Ordering·lt, Ordering·eq, Ordering·gt}
-use mathlib.Core.Path.{_≡_, refl}
-use mathlib.Core.Bool.{Bool, true, false, _||_}
+use mathlib.Core.Path.{_≡_, refl, sym, _∙_}
+use mathlib.Core.Bool.{Bool, true, false, _&&_, _||_}
 use borrow.Author.Tests.{eq-eqb, ne-eqb}
 use lib.Dec.{eqb}
 use Rattle.sets.specs.Rows.{way, below}
@@ -27,16 +27,14 @@ below-lt Ordering·lt e = refl
 below-lt Ordering·eq e = cc
 below-lt Ordering·gt e = cc
 
--- whether one may follow another
-pub follow-first : (i : ℕ) (x : Bool) → i ≡ 0 → true ≡ (eqb i 0 || x)
-follow-first i x e = rw (eq-eqb i 0 e)
+-- whether one may follow another, at place 0 and behind it
+and-yes : (b : Bool) → (b && true) ≡ b
+and-yes true = refl
+and-yes false = refl
 
-module _ (i : ℕ) (o : Ordering) (n : i ≡ 0 → ⊥) where
-  pub follow-low : way o ≡ Before → true ≡ (eqb i 0 || below o)
-  follow-low e = rw (ne-eqb i 0 n, way-lt o e)
+module _ (i : ℕ) (s o : Bool) where
+  pub follow-first : i ≡ 0 → (x : Bool) → x ≡ s → x ≡ (s && (eqb i 0 || o))
+  follow-first e x q = rw (eq-eqb i 0 e) (q ∙ sym (and-yes s))
 
-  pub follow-same : way o ≡ Same → false ≡ (eqb i 0 || below o)
-  follow-same e = rw (ne-eqb i 0 n, way-eq o e)
-
-  pub follow-high : way o ≡ After → false ≡ (eqb i 0 || below o)
-  follow-high e = rw (ne-eqb i 0 n, way-gt o e)
+  pub follow-next : (i ≡ 0 → ⊥) → (x : Bool) → x ≡ (s && o) → x ≡ (s && (eqb i 0 || o))
+  follow-next n x q = rw (ne-eqb i 0 n) q

@@ -1,11 +1,26 @@
 // Rows that hold a set: how two lie to each other, and whether one is sound.
 ghost use mathlib.Core.Path.{_≡_};
-ghost use mathlib.Core.Bool.{_||_};
-ghost use Prim.Native.Nat.{_≤_};
+ghost use mathlib.Core.Bool.{true, _&&_, _||_};
+ghost use Prim.Native.Nat.{ℕ, _-_, _<_, _≤_};
 ghost use lib.Dec.{eqb};
 ghost use Rattle.tally.specs.Sets.{cmp};
 ghost use Rattle.tally.specs.Map.{plain, bit};
-ghost use Rattle.sets.specs.Rows.{size, setOf, way, soundb, below};
+ghost use Rattle.sets.specs.All.{allb};
+ghost use Rattle.sets.specs.Rows.{size, setOf, way, below, keyAt, soundb, Parted};
+
+// The first word in which two rows differ, 8 if none does: at most 8 steps, which the compiler writes out.
+fn parting(a: &[u64; 9], b: &[u64; 9]) -> usize
+    ensures { λ r. ⌜ Parted (now (a .entry)) (now (b .entry)) r ⌝ }
+{
+    let mut i: usize = 0;
+    while i < 8 {
+        if a[i] != b[i] {
+            return i;
+        }
+        i += 1;
+    }
+    8
+}
 
 // How two sets lie.
 pub fn compare(a: &[u64; 9], b: &[u64; 9]) -> crate::Way
@@ -14,27 +29,42 @@ pub fn compare(a: &[u64; 9], b: &[u64; 9]) -> crate::Way
 {
     let n = a[8] as usize;
     let m = b[8] as usize;
-    let mut i: usize = 0;
-    while i < n {
+    let i = parting(a, b);
+    if i < n {
         if i >= m {
             return crate::Way::After;
         }
         if a[i] < b[i] {
             return crate::Way::Before;
         }
-        if b[i] < a[i] {
-            return crate::Way::After;
-        }
-        i += 1;
+        return crate::Way::After;
     }
     if n < m {
         return crate::Way::Before;
     }
+    if m < n {
+        return crate::Way::After;
+    }
     crate::Way::Same
 }
 
+// Whether the keys of n words rise, where those up to word `from` do.
+fn rises(row: &[u64; 9], from: usize, n: usize) -> bool
+    requires { ⌜ (from < n) × (n ≤ 8) × ((k : ℕ) → k < from → keyAt (now row) k ≡ true) ⌝ }
+    ensures { λ r. ⌜ r ≡ allb (n - 1) (keyAt (now (row .entry))) ⌝ }
+{
+    let mut i: usize = from;
+    while i < n - 1 {
+        if row[i] / 4294967296 >= row[i + 1] / 4294967296 {
+            return false;
+        }
+        i += 1;
+    }
+    true
+}
+
 // Whether a row holds 1 to 8 attributes with rising keys.
-pub fn sound(row: &[u64; 9]) -> bool
+fn sound(row: &[u64; 9]) -> bool
     ensures { λ r. ⌜ r ≡ soundb (now (row .entry)) ⌝ }
 {
     let n = row[8] as usize;
@@ -44,14 +74,44 @@ pub fn sound(row: &[u64; 9]) -> bool
     if n > 8 {
         return false;
     }
-    let mut i: usize = 0;
-    while i < n - 1 {
-        if row[i] / 4294967296 >= row[i + 1] / 4294967296 {
+    rises(row, 0, n)
+}
+
+// Whether b is sound and its set comes after that of a, which is sound: up to the word in which they part b's keys rise as a's do.
+fn after(a: &[u64; 9], b: &[u64; 9]) -> bool
+    requires { ⌜ soundb (now a) ≡ true ⌝ }
+    ensures { λ r. ⌜ r ≡ (soundb (now (b .entry)) && below (cmp (setOf (now (a .entry))) (setOf (now (b .entry))))) ⌝ }
+{
+    let n = a[8] as usize;
+    let m = b[8] as usize;
+    if m > 8 {
+        return false;
+    }
+    let i = parting(a, b);
+    if i < n {
+        if i >= m {
             return false;
         }
-        i += 1;
+        if a[i] >= b[i] {
+            return false;
+        }
+        return rises(b, i, m);
     }
-    true
+    if n >= m {
+        return false;
+    }
+    rises(b, n - 1, m)
+}
+
+// Whether b is sound and may follow a at place i: at place 0 whatever a is.
+pub fn follows(i: usize, a: &[u64; 9], b: &[u64; 9]) -> bool
+    requires { ⌜ ((i ≡ 0 → ⊥) → soundb (now a) ≡ true) ⌝ }
+    ensures { λ r. ⌜ r ≡ (soundb (now (b .entry)) && (eqb i 0 || below (cmp (setOf (now (a .entry))) (setOf (now (b .entry)))))) ⌝ }
+{
+    if i == 0 {
+        return sound(b);
+    }
+    after(a, b)
 }
 
 // 0 for the overflow set, else 1.
@@ -66,19 +126,4 @@ pub fn plain_row(row: &[u64; 9]) -> usize
         return 1;
     }
     1
-}
-
-// Whether b may follow a at place i: at place 0 whatever a is.
-pub fn follows(i: usize, a: &[u64; 9], b: &[u64; 9]) -> bool
-    requires { ⌜ ((i ≡ 0 → ⊥) → size (now a) ≤ 8) × (size (now b) ≤ 8) ⌝ }
-    ensures { λ r. ⌜ r ≡ (eqb i 0 || below (cmp (setOf (now (a .entry))) (setOf (now (b .entry))))) ⌝ }
-{
-    if i == 0 {
-        return true;
-    }
-    match compare(a, b) {
-        crate::Way::Before => true,
-        crate::Way::Same => false,
-        crate::Way::After => false,
-    }
 }

@@ -3,8 +3,9 @@ use borrow.Author.Needs.{needs}
 use mathlib.Core.Path.{_≡_, sym, _∙_}
 use mathlib.Core.Bool.{true}
 use borrow.Author.Tests.{not-true, not-false}
-use Rattle.directory.specs.View.{Stores, slotsb}
-use Rattle.directory.proofs.Agreed.{agree-far, agree-slots, agree-places, agree-counts, slot-sizes, placed-broken, placed-plain}
+use Rattle.directory.specs.View.{Stores, bornb}
+use Rattle.directory.proofs.Agreed.{placed-broken, placed-plain}
+use Rattle.directory.proofs.Walks.{agree-far, agree-births, agree-places, agree-counts}
 use Rattle.directory.proofs.check.agrees.Statement.{statement}
 use borrow.Author.Needs.{needs}
 use Rattle.directory.proofs.check.agrees.Tie as tie
@@ -12,9 +13,9 @@ use Rattle.directory.proofs.check.agrees.Tie as tie
 abbrev stores : tie.Start → Stores
 stores s = record { sets = s .args .sets .now; entries = s .args .entries .now; order = s .args .order .now }
 
--- the slots are right
-right : (e : tie.Else2) → slotsb (e .before .before .before .before .args .d .used) (e .before .before .before .before .args .d .last) (e .before .before .before .before .args .sets .now) (e .before .before .before .before .args .entries .now) ≡ true
-right e = sym (e .before .slots .ensures) ∙ not-false _ (e .if2 .left)
+-- the birth numbers are right
+right : (e : tie.Else2) → bornb (e .before .before .before .before .args .d .used) (e .before .before .before .before .args .d .last) (e .before .before .before .before .args .entries .now) ≡ true
+right e = sym (e .before .births .ensures) ∙ not-false _ (e .if2 .left)
 
 add-if1 : tie.Need-add-if1
 add-if1 c = search needs
@@ -22,19 +23,16 @@ add-if1 c = search needs
 returns : tie.Need-returns
 returns c = let s = c .before .before in sym (agree-far (s .args .limit) (s .args .d) (stores s) (c .if1 .taken))
 
-slots-requires : tie.Need-slots-requires
-slots-requires c κs = search needs
+births-requires : tie.Need-births-requires
+births-requires c κs = search needs
 
 returns-2 : tie.Need-returns-2
 returns-2 c =
-    let e = c .before .before in
-    let s = e .before .before in
-    sym (agree-slots (s .args .limit) (s .args .d) (stores s) (e .if1 .left) (sym (c .before .slots .ensures) ∙ not-true _ (c .if2 .taken)))
+    let s = c .before .before .before .before in
+    sym (agree-births (s .args .limit) (s .args .d) (stores s) (sym (c .before .births .ensures) ∙ not-true _ (c .if2 .taken)))
 
 places-requires : tie.Need-places-requires
-places-requires c κs =
-    let s = c .before .before .before .before in
-    (search needs, search needs, slot-sizes (s .args .d .used) (s .args .d .last) (s .args .sets .now) (s .args .entries .now) (right c))
+places-requires c κs = search needs
 
 enum-told : tie.Need-enum-told
 enum-told c = search needs
@@ -50,7 +48,7 @@ returns-3 c =
     let p = c .before .before in
     let e = p .before in
     let s = e .before .before .before .before in
-    sym (agree-places (s .args .limit) (s .args .d) (stores s) (e .before .before .if1 .left) (right e) (placed-broken (s .args .d .used) (s .args .sets .now) (s .args .order .now) (sym (p .places .ensures) ∙ c .enum-told .given .1)))
+    sym (agree-places (s .args .limit) (s .args .d) (stores s) (placed-broken (s .args .d .used) (s .args .sets .now) (s .args .order .now) (sym (p .places .ensures) ∙ c .enum-told .given .1)))
 
 returns-4 : tie.Need-returns-4
 returns-4 c =
@@ -66,7 +64,7 @@ agrees-spec =
     (tie.spec
     add-if1
     returns
-    slots-requires
+    births-requires
     returns-2
     places-requires
     enum-told

@@ -1,112 +1,90 @@
 -- `sets::rows::compare` meets its contract. Assumes nothing.
 use borrow.Author.Needs.{needs}
-use mathlib.Core.Path.{_≡_, sym, ap, _∙_}
-use Prim.Native.Nat.{_-_, _≤_}
+use mathlib.Core.Path.{sym, ap}
 use native.Mathlib.Omega.{arith}
-use Rattle.tally.specs.Sets.{cmp}
-use Rattle.sets.specs.Rows.{span, setOf, way}
-use Rattle.sets.proofs.Words.{cmpWords, at-start, longer, shorter, ended, low, high, alike}
+use Rattle.sets.specs.Rows.{way}
+use Rattle.sets.proofs.Partings.{part-shorter, part-longer, part-same, part-low, part-high}
 use Rattle.sets.proofs.rows.compare.Statement.{statement}
 use Rattle.sets.proofs.rows.compare.Tie as tie
 
-abbrev Inv-loop : tie.InvT-loop
-Inv-loop a b n m i₀ i = (i ≤ n) × (i ≤ m) × (n ≤ 8) × (m ≤ 8) × (cmp (setOf a) (setOf b) ≡ cmpWords (span a i (n - i)) (span b i (m - i)))
+abbrev at : tie.After-parting → tie.Start
+at q = q .before .before .before
 
-abbrev μ-loop : tie.MeasureT-loop
-μ-loop a b n m i₀ i = n - i
-
-element-copy-out-n : tie.Need-element-copy-out-n Inv-loop μ-loop
+element-copy-out-n : tie.Need-element-copy-out-n
 element-copy-out-n c = search needs
 
-element-copy-out-m : tie.Need-element-copy-out-m Inv-loop μ-loop
+element-copy-out-m : tie.Need-element-copy-out-m
 element-copy-out-m c = search needs
 
-loop-holds : tie.Need-loop-holds Inv-loop μ-loop
-loop-holds c = (omega arith, omega arith, search needs, search needs, at-start (c .before .before .args .a .now) (c .before .before .args .b .now))
+parting-requires : tie.Need-parting-requires
+parting-requires c κs = search needs
 
-returns : tie.Need-returns Inv-loop μ-loop
+returns : tie.Need-returns
 returns c =
-    sym (ap way (c .before .before .loop .inv .4 ∙ longer _ _ _ _ _ (c .before .loop-test .taken) (c .if1 .taken)))
+    let q = c .before .before in
+    let s = at q in
+    sym (ap way (part-shorter (s .args .a .now) (s .args .b .now) (q .parting .result) (q .parting .ensures) (c .if2 .taken) (omega (arith, c .before .if1 .taken, c .if2 .taken))))
 
-mul-if2 : tie.Need-mul-if2 Inv-loop μ-loop
-mul-if2 c = search needs
-
-element-copy-out-if2 : tie.Need-element-copy-out-if2 Inv-loop μ-loop
-element-copy-out-if2 c = search needs
-
-mul-if2-2 : tie.Need-mul-if2-2 Inv-loop μ-loop
-mul-if2-2 c = search needs
-
-element-copy-out-if2-2 : tie.Need-element-copy-out-if2-2 Inv-loop μ-loop
-element-copy-out-if2-2 c = search needs
-
-returns-2 : tie.Need-returns-2 Inv-loop μ-loop
-returns-2 c =
-    let e = c .before .before .before in
-    sym (ap way (e .before .before .loop .inv .4 ∙ low _ _ _ _ _ (e .before .loop-test .taken) (e .if1 .left) (c .if2 .taken)))
-
-mul-if3 : tie.Need-mul-if3 Inv-loop μ-loop
+mul-if3 : tie.Need-mul-if3
 mul-if3 c = search needs
 
-element-copy-out-if3 : tie.Need-element-copy-out-if3 Inv-loop μ-loop
+element-copy-out-if3 : tie.Need-element-copy-out-if3
 element-copy-out-if3 c = search needs
 
-mul-if3-2 : tie.Need-mul-if3-2 Inv-loop μ-loop
+mul-if3-2 : tie.Need-mul-if3-2
 mul-if3-2 c = search needs
 
-element-copy-out-if3-2 : tie.Need-element-copy-out-if3-2 Inv-loop μ-loop
+element-copy-out-if3-2 : tie.Need-element-copy-out-if3-2
 element-copy-out-if3-2 c = search needs
 
-returns-3 : tie.Need-returns-3 Inv-loop μ-loop
+returns-2 : tie.Need-returns-2
+returns-2 c =
+    let e = c .before .before .before in
+    let q = e .before .before in
+    let s = at q in
+    sym (ap way (part-low (s .args .a .now) (s .args .b .now) (q .parting .result) (q .parting .ensures) (e .before .if1 .taken) (e .if2 .left) (c .if3 .taken)))
+
+returns-3 : tie.Need-returns-3
 returns-3 c =
-    let e = c .before .before .before .before .before .before in
-    sym (ap way (e .before .before .loop .inv .4 ∙ high _ _ _ _ _ (e .before .loop-test .taken) (e .if1 .left) (c .if3 .taken)))
+    let e = c .before .before .before in
+    let q = e .before .before in
+    let s = at q in
+    sym (ap way (part-high (s .args .a .now) (s .args .b .now) (q .parting .result) (q .parting .ensures) (e .before .if1 .taken) (e .if2 .left) (s .pre .0) (c .if3 .left)))
 
-add-i : tie.Need-add-i Inv-loop μ-loop
-add-i c = search needs
-
-loop-less : tie.Need-loop-less Inv-loop μ-loop
-loop-less c = search needs
-
-loop-again : tie.Need-loop-again Inv-loop μ-loop
-loop-again c =
-    let d = c .before .before .before in
-    let e = d .before .before .before in
-    let v = e .before .before .loop .inv in
-    (omega arith, omega arith, v .2, v .3, v .4 ∙ alike _ _ _ _ _ (e .before .loop-test .taken) (e .if1 .left) (d .if2 .left) (c .if3 .left))
-
-returns-4 : tie.Need-returns-4 Inv-loop μ-loop
+returns-4 : tie.Need-returns-4
 returns-4 c =
-    let v = c .before .before .loop .inv in
-    sym (ap way (v .4 ∙ shorter _ _ _ _ _ (c .before .loop-test .left) (omega arith)))
+    let q = c .before .before in
+    let s = at q in
+    sym (ap way (part-longer (s .args .a .now) (s .args .b .now) (q .parting .result) (q .parting .ensures) (c .before .if1 .left) (c .if4 .taken)))
 
-returns-5 : tie.Need-returns-5 Inv-loop μ-loop
+returns-5 : tie.Need-returns-5
 returns-5 c =
-    let v = c .before .before .loop .inv in
-    sym (ap way (v .4 ∙ ended _ _ _ _ _ (c .before .loop-test .left) (omega arith)))
+    let e = c .before .before in
+    let q = e .before in
+    let s = at q in
+    sym (ap way (part-shorter (s .args .a .now) (s .args .b .now) (q .parting .result) (q .parting .ensures) (omega (arith, e .if1 .left, c .if5 .taken)) (c .if5 .taken)))
+
+returns-6 : tie.Need-returns-6
+returns-6 c =
+    let e = c .before .before in
+    let q = e .before in
+    let s = at q in
+    sym (ap way (part-same (s .args .a .now) (s .args .b .now) (q .parting .result) (q .parting .ensures) (e .if1 .left) (c .before .if4 .left) (c .if5 .left)))
 
 pub compare-spec : {M : Type 1} → statement M
 compare-spec =
     tie.close
     (tie.spec
-    Inv-loop
-    μ-loop
     element-copy-out-n
     element-copy-out-m
-    loop-holds
+    parting-requires
     returns
-    mul-if2
-    element-copy-out-if2
-    mul-if2-2
-    element-copy-out-if2-2
-    returns-2
     mul-if3
     element-copy-out-if3
     mul-if3-2
     element-copy-out-if3-2
+    returns-2
     returns-3
-    add-i
-    loop-less
-    loop-again
     returns-4
-    returns-5)
+    returns-5
+    returns-6)

@@ -1,0 +1,73 @@
+-- `sets::rows::parting` meets its contract. Assumes nothing.
+use borrow.Author.Needs.{needs}
+use Prim.Native.Nat.{ℕ, _-_, _≤_, _<_}
+use mathlib.Core.Path.{_≡_, sym, subst}
+use mathlib.Core.Logic.{⊎-elim}
+use native.Mathlib.Nat.{eq-or-lt-of-le}
+use native.Mathlib.Omega.{arith}
+use lib.ListN.{getD}
+use Rattle.sets.proofs.rows.parting.Statement.{statement}
+use Rattle.sets.proofs.rows.parting.Tie as tie
+
+abbrev Inv-loop : tie.InvT-loop
+Inv-loop a b i₀ i = (i ≤ 8) × ((j : ℕ) → j < i → getD a j 0 ≡ getD b j 0)
+
+abbrev μ-loop : tie.MeasureT-loop
+μ-loop a b i₀ i = 8 - i
+
+loop-holds : tie.Need-loop-holds Inv-loop μ-loop
+loop-holds c = (omega arith, (λ j h. absurd (omega arith)))
+
+mul-if1 : tie.Need-mul-if1 Inv-loop μ-loop
+mul-if1 c = search needs
+
+element-copy-out-if1 : tie.Need-element-copy-out-if1 Inv-loop μ-loop
+element-copy-out-if1 c = search needs
+
+mul-if1-2 : tie.Need-mul-if1-2 Inv-loop μ-loop
+mul-if1-2 c = search needs
+
+element-copy-out-if1-2 : tie.Need-element-copy-out-if1-2 Inv-loop μ-loop
+element-copy-out-if1-2 c = search needs
+
+returns : tie.Need-returns Inv-loop μ-loop
+returns c =
+    let l = c .before .before .before .before in
+    record { most = l .loop .inv .0; alike = l .loop .inv .1; apart = λ h. c .if1 .taken }
+
+add-i : tie.Need-add-i Inv-loop μ-loop
+add-i c = search needs
+
+loop-less : tie.Need-loop-less Inv-loop μ-loop
+loop-less c = search needs
+
+loop-again : tie.Need-loop-again Inv-loop μ-loop
+loop-again c =
+    let t = c .before .before .before in
+    let l = t .before in
+    let s = l .before in
+    let a = s .args .a .now in
+    let b = s .args .b .now in
+    (omega arith, (λ j h. ⊎-elim (λ e. subst (λ (k : ℕ). getD a k 0 ≡ getD b k 0) (sym e) (c .if1 .left)) (λ u. l .loop .inv .1 j u) (eq-or-lt-of-le (let w : j ≤ l .loop .i = omega arith in w))))
+
+returns-2 : tie.Need-returns-2 Inv-loop μ-loop
+returns-2 c =
+    let l = c .before in
+    record { most = omega arith; alike = λ j h. l .loop .inv .1 j (omega arith); apart = λ h. absurd (omega arith) }
+
+pub parting-spec : {M : Type 1} → statement M
+parting-spec =
+    tie.close
+    (tie.spec
+    Inv-loop
+    μ-loop
+    loop-holds
+    mul-if1
+    element-copy-out-if1
+    mul-if1-2
+    element-copy-out-if1-2
+    returns
+    add-i
+    loop-less
+    loop-again
+    returns-2)

@@ -54,7 +54,7 @@ fn rises(row: &[u64; 9], from: usize, n: usize) -> bool
     ensures { λ r. ⌜ r ≡ allb (n - 1) (keyAt (now (row .entry))) ⌝ }
 {
     let mut i: usize = from;
-    while i < n - 1 {
+    while i + 1 < n {
         if row[i] / 4294967296 >= row[i + 1] / 4294967296 {
             return false;
         }
@@ -87,15 +87,15 @@ fn after(a: &[u64; 9], b: &[u64; 9]) -> bool
     if m > 8 {
         return false;
     }
-    let i = parting(a, b);
-    if i < n {
-        if i >= m {
+    let j = parting(a, b);
+    if j < n {
+        if j >= m {
             return false;
         }
-        if a[i] >= b[i] {
+        if a[j] >= b[j] {
             return false;
         }
-        return rises(b, i, m);
+        return rises(b, j, m);
     }
     if n >= m {
         return false;

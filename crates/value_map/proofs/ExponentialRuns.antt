@@ -2,7 +2,7 @@
 -- releases in any order, numbers 8 and 12 never come up. Assumes nothing.
 use Prim.Native.Nat.{ℕ, _+_, _^_, _≤_, _<_}
 use mathlib.Core.Path.{_≡_, refl, sym, ap, subst, _∙_}
-use mathlib.Core.Logic.{⊎-elim}
+use mathlib.Core.Logic.{_⊎_, ⊎-elim}
 use mathlib.Core.Bool.{Bool, true, false, _&&_}
 use mathlib.Core.List.{List, [], _∷_}
 use mathlib.Core.Option.{Option}
@@ -13,20 +13,21 @@ use lib.Ieee.{Float, binary64, fits}
 use lib.Ieee.Scale.{finite}
 use borrow.Author.Tests.{eqb-true, eqb-false, le-leb, leb-true}
 use Rattle.laws.proofs.Bools.{flag}
-use Rattle.laws.proofs.Cases.{and-true}
+use Rattle.laws.proofs.Cases.{and-true, true-not-false}
 use Rattle.points.specs.Figures.{exponential, Figures, sizePasses}
 use Rattle.index.specs.Bins.{finest}
 use Rattle.kinds.specs.Histograms.{passes, histograms}
 use Rattle.kinds.proofs.Recorded.{lawful}
 use Rattle.tally.specs.Sets.{Set, canonical}
 use Rattle.tally.specs.Map.{Call, measure, measureBy, bind, release, step, start}
-use Rattle.sets.specs.Rows.{rowOf}
+use Rattle.sets.specs.Rows.{setOf, rowOf}
 use Rattle.sets.proofs.Exact.{Small}
-use Rattle.sets.proofs.CallRow.{row-set, row-short}
-use Rattle.directory.specs.View.{Stores}
+use Rattle.sets.proofs.CallRow.{row-set, row-short, row-keyed}
+use Rattle.directory.specs.View.{Stores, setAt, sought}
+use Rattle.directory.specs.declared.Found.the-variants as Found
 use Rattle.directory.specs.Calls.{Kept, mostSets, accepts, enough}
 use Rattle.directory.proofs.Refusals.{suffices, within}
-use Rattle.directory.proofs.Leaves.{Good}
+use Rattle.directory.proofs.Leaves.{Leaves, same-leaves, Good}
 use Rattle.bindings.specs.declared.Answer.{Answer}
 use Rattle.bindings.specs.declared.Answer.the-variants.{Refused, Done, Handle}
 use Rattle.bindings.specs.Calls as Bindings
@@ -37,7 +38,8 @@ use Rattle.bindings.proofs.Runs as Runs
 use Rattle.bindings.proofs.Runs.{Quiet}
 use Rattle.seats.specs.Seats.{seated, seatedBy}
 use Rattle.seats.proofs.Seatings.{seat-safe, by-safe}
-use Rattle.seats.proofs.Keeps.{seat-good, by-good}
+use Rattle.seats.proofs.Keeps.{seat-stays, by-stays, seat-good, by-good}
+use Rattle.seats.proofs.Owns.{seat-owns}
 use Rattle.expo_slots.specs.Slots as Slots
 use Rattle.expo_slots.specs.Slots.{Slots}
 use Rattle.expo_slots.specs.Meaning.{seriesAt}
@@ -48,6 +50,27 @@ use Rattle.value_map.proofs.Bars.{clear}
 use Rattle.value_map.proofs.ExponentialCases.{roomy, seatable, measured-no, measured-on, by-no, by-on, started-on}
 use Rattle.value_map.proofs.ExponentialSteps.{z, config, mapOf, told, entered-cases, Fair, measure-steps, handle-steps}
 use Rattle.value_map.proofs.Quiet.{Lively, Calm, Fine, fresh-lively, step-fine}
+
+-- the calls, with arguments that can be lent
+pub data Move : Type 0 where
+  recording : (v : Float) → fits binary64 v ≡ true → (attrs : Set) → Small attrs → Move
+  recordingBy : ℕ → (v : Float) → fits binary64 v ≡ true → Move
+  binding : (attrs : Set) → Small attrs → Move
+  releasing : ℕ → Move
+
+abbrev pub callOf : Move → Call histograms
+callOf (recording v known attrs small) = measure v attrs
+callOf (recordingBy b v known) = measureBy b v
+callOf (binding attrs small) = bind attrs
+callOf (releasing b) = release b
+
+refused-not-done : {A : Type 0} (n : ℕ) → Refused n ≡ Done → A
+refused-not-done n q = true-not-false (ap refused? q)
+  where
+    refused? : Answer → Bool
+    refused? (Refused n) = true
+    refused? Done = false
+    refused? (Handle b) = false
 
 module _ (size top limit : ℕ) (filter : Option (List ℕ)) (e m : Bool) where
   abbrev Fit : Held → Type 0
@@ -139,14 +162,41 @@ module _ (size top limit : ℕ) (filter : Option (List ℕ)) (e m : Bool) where
           (λ q few. entered-cases size top limit filter e m h v row (seated limit (h .kept .dir) (h .kept .stores) row) (w .valid) (fin-is q) (set-sits row) P (λ n. refl) (λ n i r. refl)
           (λ n r t. t .others y d))
 
-  -- ---- runs
+      -- OWN. An accepted recording goes to its own set's slot, never to overflow, where the set is held or the named sets are fewer than the
+      -- limit: demand 3's premise
+      pub measure-owns : (attrs : Set) → Small attrs
+          → ((x : ℕ) × (sought (setOf (rowOf (canonical filter attrs))) (h .kept .dir .used) (h .kept .stores .sets) (h .kept .stores .order) ≡ Found.Held x)) ⊎ (h .kept .dir .used < limit)
+          → measured size top limit filter h v attrs .answer ≡ Done
+          → setAt (measured size top limit filter h v attrs .held .kept .stores .sets) (seated limit (h .kept .dir) (h .kept .stores) (rowOf (canonical filter attrs)) .slot) ≡ canonical filter attrs
+      measure-owns attrs small held =
+          let row = rowOf (canonical filter attrs) in
+          let a = seated limit (h .kept .dir) (h .kept .stores) row in
+          let P : Outcome → Type 0 = λ o. o .answer ≡ Done → setAt (o .held .kept .stores .sets) (a .slot) ≡ canonical filter attrs in
+          set-cases P (λ n q. refused-not-done n q) attrs
+          (λ q few. entered-cases size top limit filter e m h v row a (w .valid) (fin-is q) (set-sits row) P (λ n q. refused-not-done (a .no) q) (λ n i r q. refused-not-done i q)
+          (λ n r t q. seat-owns limit (h .kept .dir) (h .kept .stores) (w .agrees) (suffices limit (h .kept .stores) (good .lent) .sets) row held n ∙ row-set filter attrs small few))
 
-  -- the calls, with arguments that can be lent
-  pub data Move : Type 0 where
-    recording : (v : Float) → fits binary64 v ≡ true → (attrs : Set) → Small attrs → Move
-    recordingBy : ℕ → (v : Float) → fits binary64 v ≡ true → Move
-    binding : (attrs : Set) → Small attrs → Move
-    releasing : ℕ → Move
+      -- STAY. A used slot keeps its set and its birth number, and a new slot's number was not spent before
+      pub measure-leaves : (attrs : Set) → Small attrs → Leaves (h .kept .dir) (h .kept .stores) (measured size top limit filter h v attrs .held .kept)
+      measure-leaves attrs small =
+          let P : Outcome → Type 0 = λ o. Leaves (h .kept .dir) (h .kept .stores) (o .held .kept) in
+          let same = same-leaves (h .kept .dir) (h .kept .stores) (w .last) in
+          let row = rowOf (canonical filter attrs) in
+          let u = suffices limit (h .kept .stores) (good .lent) in
+          set-cases P (λ n. same) attrs
+          (λ q few. entered-cases size top limit filter e m h v row (seated limit (h .kept .dir) (h .kept .stores) row) (w .valid) (fin-is q) (set-sits row) P (λ n. same) (λ n i r. same)
+          (λ n r t. seat-stays limit (h .kept .dir) (h .kept .stores) (w .agrees) (w .last) (u .sets) (u .entries) (u .order) row (row-keyed filter attrs small few) (row-short filter attrs small few) n .leaves))
+
+      pub handle-leaves : (b : ℕ) → Leaves (h .kept .dir) (h .kept .stores) (measuredBy size top limit h v b .held .kept)
+      handle-leaves b =
+          let P : Outcome → Type 0 = λ o. Leaves (h .kept .dir) (h .kept .stores) (o .held .kept) in
+          let same = same-leaves (h .kept .dir) (h .kept .stores) (w .last) in
+          let u = suffices limit (h .kept .stores) (good .lent) in
+          handle-cases P (λ n. same) b
+          (λ q. entered-cases size top limit filter e m h v (replicate 9 0) (seatedBy limit (h .kept .dir) (h .kept .stores) b) (w .valid) (fin-is q) (handle-sits b) P (λ n. same) (λ n i r. same)
+          (λ n r t. by-stays limit (h .kept .dir) (h .kept .stores) (w .agrees) (w .last) (u .sets) (u .entries) (u .order) b (replicate 9 0) n .leaves))
+
+  -- ---- runs
 
   -- the series' stores are not lent to binding and releasing
   abbrev pub beside : Held → Bindings.Outcome → Outcome
@@ -157,12 +207,6 @@ module _ (size top limit : ℕ) (filter : Option (List ℕ)) (e m : Bool) where
   made h (recordingBy b v known) = measuredBy size top limit h v b
   made h (binding attrs small) = beside h (bound limit filter (h .kept .dir) (h .kept .stores) attrs)
   made h (releasing b) = beside h (released limit (h .kept .dir) (h .kept .stores) b)
-
-  abbrev pub callOf : Move → Call histograms
-  callOf (recording v known attrs small) = measure v attrs
-  callOf (recordingBy b v known) = measureBy b v
-  callOf (binding attrs small) = bind attrs
-  callOf (releasing b) = release b
 
   said-any : (f g : ℕ → Figures) (a : Answer) → said histograms f (z size top limit filter e m) a ≡ said histograms g (z size top limit filter e m) a
   said-any f g (Refused n) = refl
@@ -194,6 +238,12 @@ module _ (size top limit : ℕ) (filter : Option (List ℕ)) (e m : Bool) where
         fair-on h w (bound limit filter (h .kept .dir) (h .kept .stores) attrs .kept) (Runs.move-good limit filter (w .accepted) (h .kept) (good h w) (Runs.binding attrs small)) (h .slots) (lent-slots h w)
     move-fair (releasing b) =
         fair-on h w (released limit (h .kept .dir) (h .kept .stores) b .kept) (Runs.move-good limit filter (w .accepted) (h .kept) (good h w) (Runs.releasing b)) (h .slots) (lent-slots h w)
+
+    pub move-leaves : (x : Move) → Leaves (h .kept .dir) (h .kept .stores) (made h x .held .kept)
+    move-leaves (recording v known attrs small) = measure-leaves h w v known attrs small
+    move-leaves (recordingBy b v known) = handle-leaves h w v known b
+    move-leaves (binding attrs small) = Runs.move-leaves limit filter (w .accepted) (h .kept) (good h w) (Runs.binding attrs small) .1
+    move-leaves (releasing b) = Runs.move-leaves limit filter (w .accepted) (h .kept) (good h w) (Runs.releasing b) .1
 
     -- where every series has values that were recorded into it
     move-fine : Lively histograms lawful (mapOf size top limit filter e m h) → (x : Move) → Fine histograms lawful (told size top limit filter e m (made h x))

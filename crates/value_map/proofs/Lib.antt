@@ -1,4 +1,4 @@
--- The laws.
+-- The laws of `value_map`.
 pub mod Bars
 pub mod Quiet
 pub mod ExponentialCases

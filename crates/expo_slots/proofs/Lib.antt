@@ -1,4 +1,4 @@
--- The laws.
+-- The laws of `expo_slots`.
 pub mod Cases
 pub mod Agreeing
 pub mod Written

@@ -1,4 +1,4 @@
--- The laws of the map.
+-- The laws of `value_map`.
 pub mod Bars
 pub mod ExponentialCases
 pub mod ExponentialSteps

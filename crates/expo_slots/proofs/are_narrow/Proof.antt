@@ -1,3 +1,4 @@
+-- `expo_slots::are_narrow` meets its contract. Assumes nothing.
 use borrow.Author.Needs.{needs}
 use Rattle.expo_slots.proofs.are_narrow.Statement.{statement}
 use Rattle.expo_slots.proofs.are_narrow.Tie as tie

@@ -1,3 +1,4 @@
+-- `expo_slots::can_read` meets its contract. Assumes nothing.
 use borrow.Author.Needs.{needs}
 use Rattle.expo_slots.proofs.can_read.Statement.{statement}
 use Rattle.expo_slots.proofs.can_read.Tie as tie

@@ -1,3 +1,4 @@
+-- `expo_slots::head_in` meets its contract. Assumes nothing.
 use borrow.Author.Needs.{needs}
 use Rattle.expo_slots.proofs.head_in.Statement.{statement}
 use Rattle.expo_slots.proofs.head_in.Tie as tie

@@ -1,3 +1,4 @@
+-- `expo_slots::head_of` meets its contract. Assumes nothing.
 use borrow.Author.Needs.{needs}
 use Rattle.expo_slots.proofs.head_of.Statement.{statement}
 use Rattle.expo_slots.proofs.head_of.Tie as tie

@@ -1,3 +1,4 @@
+-- `expo_slots::keep` meets its contract. Assumes nothing.
 use borrow.Author.Needs.{needs}
 use Rattle.expo_slots.proofs.keep.Statement.{statement}
 use Rattle.expo_slots.proofs.keep.Tie as tie

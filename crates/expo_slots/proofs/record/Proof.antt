@@ -1,3 +1,4 @@
+-- `expo_slots::record` meets its contract. Assumes nothing.
 use borrow.Author.Needs.{needs}
 use Rattle.expo_slots.proofs.record.Statement.{statement}
 use Rattle.expo_slots.proofs.record.Tie as tie

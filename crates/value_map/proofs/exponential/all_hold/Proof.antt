@@ -1,3 +1,4 @@
+-- `value_map::exponential::all_hold` meets its contract. Assumes nothing.
 use borrow.Author.Needs.{needs}
 use Rattle.value_map.proofs.exponential.all_hold.Statement.{statement}
 use Rattle.value_map.proofs.exponential.all_hold.Tie as tie

@@ -1,3 +1,4 @@
+-- `value_map::exponential::configured` meets its contract. Assumes nothing.
 use borrow.Author.Needs.{needs}
 use Rattle.value_map.proofs.exponential.configured.Statement.{statement}
 use Rattle.value_map.proofs.exponential.configured.Tie as tie

@@ -1,3 +1,4 @@
+-- `value_map::exponential::enter` meets its contract. Assumes nothing.
 use borrow.Author.Needs.{needs}
 use Rattle.value_map.proofs.exponential.enter.Statement.{statement}
 use Rattle.value_map.proofs.exponential.enter.Tie as tie

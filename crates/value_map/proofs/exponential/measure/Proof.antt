@@ -1,3 +1,4 @@
+-- `value_map::exponential::measure` meets its contract. Assumes nothing.
 use borrow.Author.Needs.{needs}
 use Rattle.value_map.proofs.exponential.measure.Statement.{statement}
 use Rattle.value_map.proofs.exponential.measure.Tie as tie

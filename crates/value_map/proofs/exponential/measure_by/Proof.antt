@@ -1,3 +1,4 @@
+-- `value_map::exponential::measure_by` meets its contract. Assumes nothing.
 use borrow.Author.Needs.{needs}
 use Rattle.value_map.proofs.exponential.measure_by.Statement.{statement}
 use Rattle.value_map.proofs.exponential.measure_by.Tie as tie

@@ -1,3 +1,4 @@
+-- `value_map::exponential::size_passes` meets its contract. Assumes nothing.
 use Rattle.value_map.proofs.exponential.size_passes.Statement.{statement}
 use Rattle.value_map.proofs.exponential.size_passes.Tie as tie
 use Rattle.value_map.proofs.ExponentialCases.{small-size, by-most}

@@ -1,3 +1,4 @@
+-- `value_map::exponential::slots_hold` meets its contract. Assumes nothing.
 use borrow.Author.Needs.{needs}
 use Rattle.value_map.proofs.exponential.slots_hold.Statement.{statement}
 use Rattle.value_map.proofs.exponential.slots_hold.Tie as tie

@@ -1,3 +1,4 @@
+-- `value_map::exponential::start` meets its contract. Assumes nothing.
 use borrow.Author.Needs.{needs}
 use Rattle.value_map.proofs.exponential.start.Statement.{statement}
 use Rattle.value_map.proofs.exponential.start.Tie as tie

@@ -1,3 +1,4 @@
+-- `value_map::first::barred` meets its contract. Assumes nothing.
 use borrow.Author.Needs.{needs}
 use Rattle.value_map.proofs.first.barred.Statement.{statement}
 use Rattle.value_map.proofs.first.barred.Tie as tie

@@ -1,3 +1,4 @@
+-- `value_map::first::holds_rows` meets its contract. Assumes nothing.
 use borrow.Author.Needs.{needs}
 use Rattle.value_map.proofs.first.holds_rows.Statement.{statement}
 use Rattle.value_map.proofs.first.holds_rows.Tie as tie

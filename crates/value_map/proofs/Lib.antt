@@ -6,3 +6,4 @@ pub mod ExponentialSteps
 pub mod ExponentialRuns
 pub mod ExplicitCases
 pub mod ExplicitSteps
+pub mod ExplicitRuns

@@ -1,0 +1,32 @@
+-- A call's outcome as it is handed to programs in other languages. Assumes nothing.
+use Prim.Native.Nat.{ℕ}
+use mathlib.Core.List.{List, [], _∷_}
+use lib.ListN.{getD, set}
+use Rattle.bindings.specs.Calls.{number}
+use Rattle.directory.specs.declared.Directory.{Directory}
+use Rattle.directory.specs.View.{Stores}
+use Rattle.expo_slots.specs.Slots.{Slots}
+use Rattle.value_map.specs.ExponentialCalls.{Outcome}
+
+-- the directory's state as three words: slots used, the map's count, the last birth number spent
+abbrev pub stateOf : List ℕ → Directory
+stateOf l = record { used = getD l 0 0; count = getD l 1 0; last = getD l 2 0 }
+
+abbrev pub wordsOf : Directory → List ℕ
+wordsOf d = d .used ∷ d .count ∷ d .last ∷ []
+
+-- document 01's number of the answer, the lent state, and the lent stores
+pub record Handed : Type 0 where
+  pub number : ℕ
+  pub state : List (List ℕ)
+  pub stores : Stores
+  pub slots : Slots
+
+abbrev pub handedOut : List (List ℕ) → Outcome → Handed
+handedOut state o =
+    record {
+      number = number (o .answer);
+      state = set state 0 (wordsOf (o .held .kept .dir));
+      stores = o .held .kept .stores;
+      slots = o .held .slots;
+    }

@@ -1,0 +1,82 @@
+// Calls for programs in other languages: a value recorded by set into the map of the exponential kind.
+ghost use mathlib.Core.Path.{_≡_};
+ghost use mathlib.Core.List.{[]};
+ghost use mathlib.Core.Option.{none};
+ghost use lib.ListN.{getD};
+ghost use Rattle.sets.specs.Sorted.{given};
+ghost use Rattle.bindings.specs.Calls.{number};
+ghost use Rattle.value_map.specs.ExponentialCalls.{measured};
+ghost use Rattle.map_exports.specs.Words.{stateOf, wordsOf, handedOut};
+use bindings::Answer;
+use directory::Directory;
+
+fn state_of(words: [u64; 3]) -> Directory
+    ensures { λ r. ⌜ r ≡ stateOf words ⌝ }
+{
+    Directory {
+        used: words[0] as usize,
+        count: words[1],
+        last: words[2],
+    }
+}
+
+fn words_of(d: Directory) -> [u64; 3]
+    ensures { λ r. ⌜ r ≡ wordsOf d ⌝ }
+{
+    [d.used as u64, d.count, d.last]
+}
+
+// Document 01's number of an answer.
+fn number_of(answer: Answer) -> u64
+    ensures { λ r. ⌜ r ≡ number answer ⌝ }
+{
+    match answer {
+        Answer::Refused(no) => no as u64,
+        Answer::Done => 0,
+        Answer::Handle(_) => 0,
+    }
+}
+
+// Records a value into the series of the attributes' set. The state is one entry of three words. Returns document 01's number.
+#[no_mangle]
+pub extern "C" fn map_measure(
+    size: u32,
+    top: u32,
+    limit: u64,
+    state: &mut [[u64; 3]; 1],
+    sets: &mut [[u64; 9]],
+    entries: &mut [[u64; 3]],
+    order: &mut [u32],
+    figures: &mut [[u64; 8]],
+    extremes: &mut [[f64; 3]],
+    pos: &mut [u64],
+    neg: &mut [u64],
+    v: f64,
+    attrs: &[[u32; 2]],
+) -> u64
+    ensures { λ r. ⌜ record { number = r; state = now (state .exit); stores = record { sets = now (sets .exit); entries = now (entries .exit); order = now (order .exit) }; slots = record { figures = now (figures .exit); extremes = now (extremes .exit); pos = now (pos .exit); neg = now (neg .exit) } } ≡ handedOut (now (state .entry)) (measured size top limit none (record { kept = record { dir = stateOf (getD (now (state .entry)) 0 []); stores = record { sets = now (sets .entry); entries = now (entries .entry); order = now (order .entry) } }; slots = record { figures = now (figures .entry); extremes = now (extremes .entry); pos = now (pos .entry); neg = now (neg .entry) } }) v (given (now (attrs .entry)))) ⌝ }
+{
+    let d = state_of(state[0]);
+    let no_keys = [0u32; 1];
+    let reply = value_map::exponential::measure(
+        size,
+        top,
+        limit,
+        d,
+        sets,
+        entries,
+        order,
+        figures,
+        extremes,
+        pos,
+        neg,
+        v,
+        attrs,
+        false,
+        &no_keys,
+    );
+    let answer = reply.answer;
+    let next = reply.dir;
+    state[0] = words_of(next);
+    number_of(answer)
+}

@@ -1,0 +1,66 @@
+-- `map_run::print::set` is safe and ends. Assumes nothing.
+use Prim.Native.Nat.{_-_, _≤_}
+use native.Mathlib.Omega.{arith}
+use Rattle.map_run.proofs.print.set.Statement.{statement}
+use Rattle.map_run.proofs.print.set.Tie as tie
+
+abbrev Inv-loop : tie.InvT-loop
+Inv-loop row n i₀ i = i ≤ 8
+
+abbrev μ-loop : tie.MeasureT-loop
+μ-loop row n i₀ i = 8 - i
+
+array-read-within : tie.Need-array-read-within Inv-loop μ-loop
+array-read-within c = omega arith
+
+within-requires : tie.Need-within-requires Inv-loop μ-loop
+within-requires c κs = tt
+
+dash-requires : tie.Need-dash-requires Inv-loop μ-loop
+dash-requires c κs = tt
+
+loop-holds : tie.Need-loop-holds Inv-loop μ-loop
+loop-holds c = omega arith
+
+comma-requires : tie.Need-comma-requires Inv-loop μ-loop
+comma-requires c κs = tt
+
+mul-attribute : tie.Need-mul-attribute Inv-loop μ-loop
+mul-attribute c = omega arith
+
+array-read-attribute : tie.Need-array-read-attribute Inv-loop μ-loop
+array-read-attribute c = omega arith
+
+attribute-requires : tie.Need-attribute-requires Inv-loop μ-loop
+attribute-requires c κs = tt
+
+add-i : tie.Need-add-i Inv-loop μ-loop
+add-i c = omega arith
+
+loop-less : tie.Need-loop-less Inv-loop μ-loop
+loop-less c = omega arith
+
+loop-again : tie.Need-loop-again Inv-loop μ-loop
+loop-again c = omega arith
+
+returns : tie.Need-returns Inv-loop μ-loop
+returns c = tt
+
+pub set-spec : {M : Type 1} → statement M
+set-spec =
+    tie.close
+    (tie.spec
+    Inv-loop
+    μ-loop
+    array-read-within
+    within-requires
+    dash-requires
+    loop-holds
+    comma-requires
+    mul-attribute
+    array-read-attribute
+    attribute-requires
+    add-i
+    loop-less
+    loop-again
+    returns)

@@ -1,6 +1,6 @@
 // The second of two series merged into the first, head and rows, of either kind.
 ghost use mathlib.Core.Path.{_≡_};
-ghost use Prim.Native.Nat.{_+_, _-_, _^_, _≤_, _<_};
+ghost use Prim.Native.Nat.{_+_, _^_, _≤_, _<_};
 ghost use lib.ListN.{length, take};
 ghost use Rattle.laws.specs.Counting.{total};
 ghost use Rattle.rows.specs.Rows.{over};

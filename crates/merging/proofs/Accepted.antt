@@ -2,11 +2,11 @@
 -- than a count can be; and what is left agrees. Assumes nothing.
 use Prim.Native.Nat.{ℕ, _+_, _≤_}
 use mathlib.Core.Path.{_≡_, refl, ap, sym, subst, _∙_}
-use mathlib.Core.Logic.{_⊎_, inl, inr}
+use mathlib.Core.Logic.{_⊎_, inr}
 use mathlib.Core.Bool.{Bool, true, false, Bool·beq}
-use mathlib.Core.List.{List, [], _∷_, _++_, foldr}
+use mathlib.Core.List.{List}
 use native.Mathlib.Omega.{arith}
-use lib.Dec.{leb, eqb}
+use lib.Dec.{leb}
 use lib.ListN.{length}
 use lib.Ieee.{Float}
 use borrow.Author.Tests.{le-leb}
@@ -26,7 +26,7 @@ use Rattle.buckets.specs.Series.{mostCount}
 use Rattle.kinds.proofs.Steady.{merged-agrees}
 use Rattle.point.specs.declared.Figures.{Figures}
 use Rattle.point.specs.declared.Figures.the-variants.{Exponential, Explicit}
-use Rattle.point.specs.Handing.{countsAs, countIn, posOf, negOf, pointAgrees, refusalBefore, merging}
+use Rattle.point.specs.Handing.{countsAs, countIn, pointAgrees, refusalBefore}
 use Rattle.point.proofs.Means.{inShape, sizeFor, agreesRead, agrees-is, agrees-whole, sizeAsked, refusalRead, count-is, refusal-is}
 use Rattle.point.proofs.Answers.{hasRoom, answers}
 use Rattle.point.proofs.Lists.{Long}

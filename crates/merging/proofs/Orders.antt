@@ -1,7 +1,7 @@
 -- Any order and bracketing of merges by code is accepted where there is room, and all give the same but for the sum; so merging is commutative
 -- and associative. Request L14 asks this. Assumes nothing.
 use Prim.Native.Nat.{ℕ, _+_, _≤_}
-use mathlib.Core.Path.{_≡_, refl, ap, sym, subst, _∙_}
+use mathlib.Core.Path.{_≡_, refl}
 use mathlib.Core.Logic.{inr}
 use mathlib.Core.List.{List, [], _∷_, _++_, foldr, List·Permᴰ, Permᴰ·refl, List·Permᴰ·swap}
 use native.Mathlib.Omega.{arith}

@@ -18,8 +18,7 @@ use Rattle.rows.proofs.Algebra.{le-or-lt}
 use Rattle.series.specs.Series.{sizePasses}
 use Rattle.buckets.specs.Series.{mostCount}
 use Rattle.tally.specs.Kind.{unless, firstOf}
-use Rattle.tally.specs.Demand.{fitting}
-use Rattle.kinds.specs.Histograms.{posPlaces, negPlaces, histograms, bothExplicit, unmergeable, merged}
+use Rattle.kinds.specs.Histograms.{posPlaces, negPlaces, bothExplicit, merged}
 use Rattle.point.specs.declared.Point.{Point}
 use Rattle.point.specs.Handing.{handedAs, posOf, negOf, merging}
 use Rattle.point.proofs.Means.{inShape, agreesRead, sizeAsked, refusalRead}

@@ -62,14 +62,22 @@ pub fn exponential_point(head: series::Head, extremes: bool, sums: bool) -> Poin
     }
 }
 
+// The count that is handed out.
+fn count_out(head: buckets::Head) -> u64
+    ensures { λ r. ⌜ r ≡ head .count ⌝ }
+{
+    head.count
+}
+
 pub fn explicit_point(head: buckets::Head, extremes: bool, sums: bool) -> Point
     ensures { λ r. ⌜ r ≡ explicitPoint head extremes sums ⌝ }
 {
+    let count = count_out(head);
     let min = floats::shown(extremes, head.min);
     let max = floats::shown(extremes, head.max);
     let sum = shown_sum(sums, head.sum);
     Point {
-        figures: Figures::Explicit(head.count),
+        figures: Figures::Explicit(count),
         extremes,
         threshold: 0.0,
         min,

@@ -1,3 +1,4 @@
+-- `series::sums::add_row` meets its contract. Assumes nothing.
 use Prim.Native.Nat.{_+_, _-_, _*_, _%_, _≤_}
 use mathlib.Core.Path.{_≡_}
 use native.Mathlib.Nat.{le-trans}

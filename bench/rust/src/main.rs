@@ -9,6 +9,8 @@
 mod cases;
 mod inputs;
 #[cfg(feature = "ours")]
+mod map;
+#[cfg(feature = "ours")]
 mod ours;
 mod rust;
 

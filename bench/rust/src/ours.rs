@@ -4,6 +4,7 @@ use std::hint::black_box;
 
 use crate::cases::Side;
 use crate::inputs;
+use crate::map::Map;
 
 extern "C" {
     /// Crate index: the bin of a value at a level; see its contract.
@@ -31,11 +32,26 @@ pub fn index(scale: i8) -> Option<Side> {
     })
 }
 
-// Not there yet: fill in as the crates land.
-
-pub fn by_set(_sets: u32, _attributes: u32) -> Option<Side> {
-    None
+pub fn by_set(sets: u32, attributes: u32) -> Option<Side> {
+    let mut map = Map::new();
+    let sets: Vec<Vec<[u32; 2]>> = (0..sets)
+        .map(|set| {
+            inputs::attributes(set, attributes)
+                .into_iter()
+                .map(|(key, value)| [key, value])
+                .collect()
+        })
+        .collect();
+    let order = inputs::order(sets.len() as u32);
+    let values = inputs::values();
+    Side::of(move || {
+        for (v, set) in values.iter().zip(&order) {
+            map.record(black_box(*v), black_box(&sets[*set]));
+        }
+    })
 }
+
+// Not there yet: fill in as the crates land.
 
 pub fn by_handle() -> Option<Side> {
     None

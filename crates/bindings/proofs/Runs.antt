@@ -1,4 +1,4 @@
--- Any run of bindings and releases from a fresh start: numbers 8 and 12 never come up, and birth numbers keep their sets.
+-- Bindings and releases from a fresh start on: the directory agrees after each, and birth numbers keep their sets.
 -- Assumes nothing.
 use Prim.Native.Nat.{ℕ, _+_, _-_, _^_, _<_}
 use mathlib.Core.Path.{_≡_, refl, sym, subst, _∙_}
@@ -109,15 +109,6 @@ module _ (limit : ℕ) (filter : Option (List ℕ)) where
     move-good k g (releasing h) =
         lasts limit k g (made k (releasing h) .kept) (move-leaves k g (releasing h) .1) (release-keeps limit (k .dir) (k .stores) (g .agrees) h)
 
-    -- each call of a run, given the state and the stores as the last one left them
-    abbrev pub AllQuiet : Kept → List Move → Type 0
-    AllQuiet k [] = Unit
-    AllQuiet k (x ∷ xs) = Quiet (made k x .answer) × AllQuiet (made k x .kept) xs
-
-    run-quiet : (k : Kept) → Good limit k → (xs : List Move) → AllQuiet k xs
-    run-quiet k g [] = tt
-    run-quiet k g (x ∷ xs) = (move-leaves k g x .0, run-quiet (made k x .kept) (move-good k g x) xs)
-
     pub start-good : (s : Stores) → enough limit s ≡ true → Good limit (started limit filter s .kept)
     start-good s e =
         let r = suffices limit s e in
@@ -129,6 +120,3 @@ module _ (limit : ℕ) (filter : Option (List ℕ)) where
               (rw (le-leb (limit + 2) (length (s .sets)) (r .sets), le-leb (limit + 2) (length (set (s .entries) 0 (0 ∷ 0 ∷ 0 ∷ []))) (omega (arith, q, r .entries)), le-leb (limit + 2) (length (s .order)) (r .order)));
           last = subst (λ (k : Kept). k .dir .last < 2 ^ 64) (sym p) (omega arith);
         }
-
-    pub never-8 : (s : Stores) → enough limit s ≡ true → (xs : List Move) → AllQuiet (started limit filter s .kept) xs
-    never-8 s e xs = run-quiet (started limit filter s .kept) (start-good s e) xs

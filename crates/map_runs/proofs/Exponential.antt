@@ -2,44 +2,46 @@
 use Prim.Native.Nat.{ℕ}
 use mathlib.Core.Path.{_≡_, sym, ap}
 use mathlib.Core.Bool.{Bool, true}
-use mathlib.Core.List.{List}
+use mathlib.Core.List.{List, map}
 use mathlib.Core.Option.{Option}
 use lib.Ieee.{binary64, fits}
 use Rattle.laws.specs.Tests.{all}
 use Rattle.points.specs.Figures.{exponential}
-use Rattle.tally.specs.Map.{Call, measure, measureBy, step}
-use Rattle.tally.specs.Demand.{Code, ran}
+use Rattle.tally.specs.Map.{Config, Call, measure, measureBy, step}
+use Rattle.tally.specs.Demand.{Code, Premise, Answered, ran}
 use Rattle.tally.proofs.Sound.{quiet}
 use Rattle.kinds.specs.Histograms.{passes, histograms}
-use Rattle.kinds.proofs.Demand.{histograms-quiet}
+use Rattle.kinds.proofs.Demand.{histograms-demand, histograms-quiet}
 use Rattle.directory.specs.View.{Stores}
 use Rattle.directory.specs.Calls.{Kept, accepts, enough}
-use Rattle.directory.proofs.Leaves.{Good}
+use Rattle.directory.proofs.Leaves.{Good, Leaves}
 use Rattle.expo_slots.specs.Slots.{Slots}
 use Rattle.expo_slots.specs.Meaning.{seriesAt}
 use Rattle.value_map.specs.ExponentialCalls as Calls
 use Rattle.value_map.specs.ExponentialCalls.{slotsLent, measured, measuredBy}
 use Rattle.value_map.proofs.ExponentialSteps.{config, mapOf, told, Fair, measure-steps, handle-steps}
-use Rattle.value_map.proofs.ExponentialKept.{good, lent-slots, measure-fair, handle-fair}
+use Rattle.value_map.proofs.ExponentialKept.{good, lent-slots, measure-fair, handle-fair, measure-leaves, handle-leaves}
 use Rattle.map_runs.proofs.Recorders.{Ended, Does, Recorders, Asked, code}
 
 -- the switches e and m act where a point is handed out: no call here reads them
 module _ (size top limit : ℕ) (filter : Option (List ℕ)) (e m : Bool) (ok : passes (exponential size top) ≡ true) (a : accepts limit filter ≡ true) where
-  abbrev c = config size top limit filter e m
+  abbrev pub c : Config histograms
+  c = config size top limit filter e m
 
-  abbrev ended : Calls.Outcome → Ended Slots
+  abbrev pub ended : Calls.Outcome → Ended Slots
   ended o = record { outcome = record { answer = o .answer; kept = o .held .kept }; cells = o .held .slots }
 
-  fair : (k : Kept) (x : Slots) → Good limit k → slotsLent size limit x ≡ true → Fair size top limit filter e m (record { kept = k; slots = x })
+  pub fair : (k : Kept) (x : Slots) → Good limit k → slotsLent size limit x ≡ true → Fair size top limit filter e m (record { kept = k; slots = x })
   fair k x g l = record { agrees = g .agrees; lent-is = rw (g .lent) l; last = g .last; valid = ok; accepted = a }
 
-  does : (k : Kept) (x : Slots) (call : Call histograms) (o : Calls.Outcome) → Fair size top limit filter e m (o .held)
+  pub does : (k : Kept) (x : Slots) (call : Call histograms) (o : Calls.Outcome) → Fair size top limit filter e m (o .held) → Leaves (k .dir) (k .stores) (o .held .kept)
       → step histograms c (mapOf size top limit filter e m (record { kept = k; slots = x })) call ≡ told size top limit filter e m o
       → Does histograms c (λ y. slotsLent size limit y ≡ true) (seriesAt size) k x call (ended o)
-  does k x call o w q =
+  does k x call o w y q =
       record {
         good = good size top limit filter e m (o .held) w;
         lent = lent-slots size top limit filter e m (o .held) w;
+        stays = y;
         answer = sym (ap (λ p. p .answer) q);
         map = sym (ap (λ p. p .map) q);
       }
@@ -56,11 +58,13 @@ module _ (size top limit : ℕ) (filter : Option (List ℕ)) (e m : Bool) (ok : 
         set-does = λ k x g l v known attrs small.
             let h : Calls.Held = record { kept = k; slots = x } in
             let w = fair k x g l in
-            does k x (measure v attrs) (measured size top limit filter h v attrs) (measure-fair size top limit filter e m h w v known attrs small) (measure-steps size top limit filter e m h w v known attrs small);
+            does k x (measure v attrs) (measured size top limit filter h v attrs) (measure-fair size top limit filter e m h w v known attrs small) (measure-leaves size top limit filter e m h w v known attrs small)
+            (measure-steps size top limit filter e m h w v known attrs small);
         handle-does = λ k x g l v known b.
             let h : Calls.Held = record { kept = k; slots = x } in
             let w = fair k x g l in
-            does k x (measureBy b v) (measuredBy size top limit h v b) (handle-fair size top limit filter e m h w v known b) (handle-steps size top limit filter e m h w v known b);
+            does k x (measureBy b v) (measuredBy size top limit h v b) (handle-fair size top limit filter e m h w v known b) (handle-leaves size top limit filter e m h w v known b)
+            (handle-steps size top limit filter e m h w v known b);
       }
 
   -- from a fresh start in stores that suffice
@@ -71,3 +75,7 @@ module _ (size top limit : ℕ) (filter : Option (List ℕ)) (e m : Bool) (ok : 
     -- with no premise: none is answered 8 or 12
     pub quietly : all (quiet histograms) (ran histograms c run calls) ≡ true
     quietly = histograms-quiet c run calls
+
+    -- under demand 3's premise the answers are the tally's, and birth numbers keep their sets
+    pub rightly : Premise histograms c (map (run .asks) calls) (ran histograms c run calls) → Answered histograms c (map (run .asks) calls) (ran histograms c run calls)
+    rightly = histograms-demand c run calls

@@ -14,8 +14,8 @@ use Rattle.sets.proofs.Exact.{Small}
 use Rattle.directory.proofs.Refusals.{within}
 use Rattle.bindings.proofs.Keeps.{bind-steps, release-steps, start-map}
 use Rattle.bindings.proofs.Runs as moves
-use Rattle.directory.proofs.Leaves.{Good}
-use Rattle.bindings.proofs.Runs.{move-good, start-good}
+use Rattle.directory.proofs.Leaves.{Good, Leaves}
+use Rattle.bindings.proofs.Runs.{move-good, move-leaves, start-good}
 
 -- a state of the map: the directory, and the kind's cells beside it
 pub record Held (Cells : Type 0) : Type 0 where
@@ -36,6 +36,8 @@ module _ (K : Kind) (c : Config K) where
   pub record Does {Cells : Type 0} (Enough : Cells → Type 0) (at : Cells → ℕ → K .Series) (k : Kept) (x : Cells) (call : Call K) (o : Ended Cells) : Type 0 where
     pub good : Good (c .limit) (o .outcome .kept)
     pub lent : Enough (o .cells)
+    -- a used slot keeps its set and its birth number, and a new slot's number was not spent before
+    pub stays : Leaves (k .dir) (k .stores) (o .outcome .kept)
     pub answer : said K (o .outcome .answer) ≡ step K c (mapOf at k x) call .answer
     pub map : mapOf at (o .outcome .kept) (o .cells) ≡ step K c (mapOf at k x) call .map
 
@@ -76,20 +78,21 @@ module _ (K : Kind) (c : Config K) where
     ended s (releasing h) = alone (s .cells) (released (c .limit) (s .kept .dir) (s .kept .stores) h)
 
     module _ (a : accepts (c .limit) (c .filter) ≡ true) where
-      stepped : (s : Held (R .Cells)) → Good (c .limit) (s .kept) → R .Enough (s .cells) → (x : Asked) → Does (R .Enough) (R .at) (s .kept) (s .cells) (asks x) (ended s x)
+      -- each call of a run
+      pub stepped : (s : Held (R .Cells)) → Good (c .limit) (s .kept) → R .Enough (s .cells) → (x : Asked) → Does (R .Enough) (R .at) (s .kept) (s .cells) (asks x) (ended s x)
       stepped s g e (recording v known attrs small) = R .set-does (s .kept) (s .cells) g e v known attrs small
       stepped s g e (recordingBy h v known) = R .handle-does (s .kept) (s .cells) g e v known h
       stepped s g e (binding attrs small) =
           let k = s .kept in
           let p = bind-steps K (R .at (s .cells)) (c .settings) c (k .dir) (k .stores) (g .agrees) (g .lent) attrs small (g .last) a in
-          record { good = move-good (c .limit) (c .filter) a k g (moves.binding attrs small); lent = e; answer = p .0; map = p .1 }
+          record { good = move-good (c .limit) (c .filter) a k g (moves.binding attrs small); lent = e; stays = move-leaves (c .limit) (c .filter) a k g (moves.binding attrs small) .1; answer = p .0; map = p .1 }
       stepped s g e (releasing h) =
           let k = s .kept in
           let p = release-steps K (R .at (s .cells)) (c .settings) c (k .dir) (k .stores) (g .agrees) (g .lent) h (within (c .limit) (c .filter) a) in
-          record { good = move-good (c .limit) (c .filter) a k g (moves.releasing h); lent = e; answer = p .0; map = p .1 }
+          record { good = move-good (c .limit) (c .filter) a k g (moves.releasing h); lent = e; stays = move-leaves (c .limit) (c .filter) a k g (moves.releasing h) .1; answer = p .0; map = p .1 }
 
       -- the calls as code, from a fresh start in stores that suffice
-      pub code : K .valid (c .settings) ≡ true → (s : Stores) → enough (c .limit) s ≡ true → (x : R .Cells) → R .Enough x → Code K c
+      abbrev pub code : K .valid (c .settings) ≡ true → (s : Stores) → enough (c .limit) s ≡ true → (x : R .Cells) → R .Enough x → Code K c
       code ok s e x f =
           record {
             State = Held (R .Cells);

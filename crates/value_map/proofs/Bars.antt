@@ -1,6 +1,6 @@
 -- The tests that come first, case by case. Assumes nothing.
 use Prim.Native.Nat.{ℕ, _+_, _*_, _/_, _≤_, _<_}
-use mathlib.Core.Path.{_≡_, refl, sym, _∙_}
+use mathlib.Core.Path.{_≡_, refl, ap, sym, _∙_}
 use mathlib.Core.Logic.{⊎-elim}
 use mathlib.Core.Bool.{Bool, true, false}
 use native.Mathlib.Nat.{le-div-iff-mul-le}
@@ -11,7 +11,10 @@ use lib.Ieee.Scale.{finite}
 use borrow.Author.Tests.{le-leb, lt-leb, leb-true, leb-false}
 use Rattle.laws.specs.Pick.{pick}
 use Rattle.laws.proofs.Bools.{flag}
+use Rattle.laws.proofs.Cases.{true-not-false}
 use Rattle.sets.specs.Sorted.{mostAttributes}
+use Rattle.bindings.specs.declared.Answer.{Answer}
+use Rattle.bindings.specs.declared.Answer.the-variants.{Refused, Done, Handle}
 use Rattle.value_map.specs.First.{barredBy}
 
 -- ---- number 12 of a count store, without the product
@@ -81,3 +84,12 @@ unfolding barredBy numbered
 clear room v n ok e =
     let p = passed room (finite v) (leb n mostAttributes) ok e in
     record { room-is = p .0; value = p .1; few = leb-true n mostAttributes (p .2); ok-is = p .3 }
+
+-- a refusal is not done
+pub refused-not-done : {A : Type 0} (n : ℕ) → Refused n ≡ Done → A
+refused-not-done n q = true-not-false (ap refused? q)
+  where
+    refused? : Answer → Bool
+    refused? (Refused n) = true
+    refused? Done = false
+    refused? (Handle b) = false

@@ -1,7 +1,7 @@
 -- KEPT. A recording of the exponential kind leaves the map agreeing as it found it, goes to its own set's slot under demand 3's premise, and
 -- leaves every other series, set and birth number as it was. Assumes nothing.
 use Prim.Native.Nat.{ℕ, _≤_, _<_}
-use mathlib.Core.Path.{_≡_, refl, sym, ap, subst, _∙_}
+use mathlib.Core.Path.{_≡_, refl, sym, subst, _∙_}
 use mathlib.Core.Logic.{_⊎_, ⊎-elim}
 use mathlib.Core.Bool.{Bool, true, false, _&&_}
 use mathlib.Core.List.{List}
@@ -13,7 +13,7 @@ use lib.Ieee.{Float, binary64, fits}
 use lib.Ieee.Scale.{finite}
 use borrow.Author.Tests.{eqb-true, eqb-false}
 use Rattle.laws.proofs.Bools.{flag}
-use Rattle.laws.proofs.Cases.{and-true, true-not-false}
+use Rattle.laws.proofs.Cases.{and-true}
 use Rattle.points.specs.Figures.{exponential, Figures}
 use Rattle.kinds.specs.Histograms.{passes, histograms}
 use Rattle.tally.specs.Sets.{Set, canonical}
@@ -25,8 +25,7 @@ use Rattle.directory.specs.declared.Found.the-variants as Found
 use Rattle.directory.specs.Calls.{Kept, mostSets, accepts, enough}
 use Rattle.directory.proofs.Refusals.{suffices, within}
 use Rattle.directory.proofs.Leaves.{Leaves, same-leaves, Good}
-use Rattle.bindings.specs.declared.Answer.{Answer}
-use Rattle.bindings.specs.declared.Answer.the-variants.{Refused, Done, Handle}
+use Rattle.bindings.specs.declared.Answer.the-variants.{Done}
 use Rattle.bindings.specs.Calls as Bindings
 use Rattle.bindings.proofs.Runs as Runs
 use Rattle.seats.specs.Seats.{seated, seatedBy}
@@ -39,17 +38,9 @@ use Rattle.expo_slots.specs.Meaning.{seriesAt}
 use Rattle.expo_slots.proofs.Written.{Took}
 use Rattle.value_map.specs.First.{barredBy}
 use Rattle.value_map.specs.ExponentialCalls.{Held, Outcome, refused, slotsHold, slotsLent, lent, entered, Seatable, measured, measuredBy}
-use Rattle.value_map.proofs.Bars.{clear}
+use Rattle.value_map.proofs.Bars.{clear, refused-not-done}
 use Rattle.value_map.proofs.ExponentialCases.{roomy, seatable, measured-no, measured-on, by-no, by-on}
 use Rattle.value_map.proofs.ExponentialSteps.{entered-cases, Fair}
-
-refused-not-done : {A : Type 0} (n : ℕ) → Refused n ≡ Done → A
-refused-not-done n q = true-not-false (ap refused? q)
-  where
-    refused? : Answer → Bool
-    refused? (Refused n) = true
-    refused? Done = false
-    refused? (Handle b) = false
 
 module _ (size top limit : ℕ) (filter : Option (List ℕ)) (e m : Bool) where
   abbrev Fit : Held → Type 0

@@ -5,4 +5,4 @@ pub mod ExponentialSteps
 pub mod ExponentialKept
 pub mod ExplicitCases
 pub mod ExplicitSteps
-pub mod ExplicitRuns
+pub mod ExplicitKept

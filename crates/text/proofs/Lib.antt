@@ -1,3 +1,4 @@
 -- The laws.
 pub mod Spelling
 pub mod Splitting
+pub mod Returned

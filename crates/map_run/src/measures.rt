@@ -20,11 +20,88 @@ use crate::cells::float_of;
 use crate::cells::within;
 use bindings::Reply;
 
+// What is recorded, and where: under the first of the given attributes, or at a handle.
+pub struct Call {
+    pub value: f64,
+    pub given: usize,
+    pub by_handle: bool,
+    pub handle: u64,
+}
+
+// The call of a line `r BITS SET` or `h BITS HANDLE` with n fields.
+fn call_of(letter: u8, n: usize, words: &Words) -> Call {
+    Call {
+        value: float_of(words[0]),
+        given: n / 2,
+        by_handle: letter == b'h',
+        handle: words[1],
+    }
+}
+
+fn is_call(letter: u8, n: usize) -> bool {
+    if letter == b'r' {
+        return are_attributes(n, 1);
+    }
+    letter == b'h' && n == 2
+}
+
 // ---- the exponential kind
 
-fn scaled_in(
-    n: usize,
-    v: f64,
+fn scaled(
+    call: Call,
+    regs: &Registers,
+    filter: &[u32],
+    sets: &mut [[u64; 9]],
+    entries: &mut [[u64; 3]],
+    order: &mut [u32],
+    figures: &mut [[u64; 8]],
+    extremes: &mut [[f64; 3]],
+    pos: &mut [u64],
+    neg: &mut [u64],
+    attrs: &[[u32; 2]],
+) -> Reply {
+    let v = call.value;
+    let size = cut(regs[4]);
+    let top = cut(regs[5]);
+    let d = held(regs);
+    if call.by_handle {
+        return value_map::exponential::measure_by(
+            size,
+            top,
+            regs[3],
+            d,
+            sets,
+            entries,
+            order,
+            figures,
+            extremes,
+            pos,
+            neg,
+            v,
+            call.handle,
+        );
+    }
+    value_map::exponential::measure(
+        size,
+        top,
+        regs[3],
+        d,
+        sets,
+        entries,
+        order,
+        figures,
+        extremes,
+        pos,
+        neg,
+        v,
+        attrs,
+        regs[7] != 0,
+        filter,
+    )
+}
+
+fn scaled_directory(
+    call: Call,
     regs: &Registers,
     filter: &[u32],
     sets: &mut [[u64; 9]],
@@ -39,13 +116,12 @@ fn scaled_in(
     let a = within(regs[10], sets.len());
     let b = within(regs[11], entries.len());
     let c = within(regs[12], order.len());
-    let m = within(n as u64 / 2, attrs.len());
+    let m = within(call.given as u64, attrs.len());
     let k = within(regs[8], filter.len());
-    value_map::exponential::measure(
-        cut(regs[4]),
-        cut(regs[5]),
-        regs[3],
-        held(regs),
+    scaled(
+        call,
+        regs,
+        &filter[0..k],
         &mut sets[0..a],
         &mut entries[0..b],
         &mut order[0..c],
@@ -53,21 +129,17 @@ fn scaled_in(
         extremes,
         pos,
         neg,
-        v,
         &attrs[0..m],
-        regs[7] != 0,
-        &filter[0..k],
     )
 }
 
-fn scaled(
-    n: usize,
-    v: f64,
+fn scaled_series(
+    call: Call,
     regs: &Registers,
-    filter: &[u32],
-    sets: &mut [[u64; 9]],
-    entries: &mut [[u64; 3]],
-    order: &mut [u32],
+    filter: &Filter,
+    sets: &mut Sets,
+    entries: &mut Entries,
+    order: &mut Order,
     figures: &mut [[u64; 8]],
     extremes: &mut [[f64; 3]],
     pos: &mut [u64],
@@ -78,9 +150,8 @@ fn scaled(
     let e = within(regs[14], extremes.len());
     let f = within(regs[15], pos.len());
     let g = within(regs[16], neg.len());
-    scaled_in(
-        n,
-        v,
+    scaled_directory(
+        call,
         regs,
         filter,
         sets,
@@ -91,68 +162,6 @@ fn scaled(
         &mut pos[0..f],
         &mut neg[0..g],
         attrs,
-    )
-}
-
-fn scaled_by_in(
-    v: f64,
-    h: u64,
-    regs: &Registers,
-    sets: &mut [[u64; 9]],
-    entries: &mut [[u64; 3]],
-    order: &mut [u32],
-    figures: &mut [[u64; 8]],
-    extremes: &mut [[f64; 3]],
-    pos: &mut [u64],
-    neg: &mut [u64],
-) -> Reply {
-    let a = within(regs[10], sets.len());
-    let b = within(regs[11], entries.len());
-    let c = within(regs[12], order.len());
-    value_map::exponential::measure_by(
-        cut(regs[4]),
-        cut(regs[5]),
-        regs[3],
-        held(regs),
-        &mut sets[0..a],
-        &mut entries[0..b],
-        &mut order[0..c],
-        figures,
-        extremes,
-        pos,
-        neg,
-        v,
-        h,
-    )
-}
-
-fn scaled_by(
-    v: f64,
-    h: u64,
-    regs: &Registers,
-    sets: &mut [[u64; 9]],
-    entries: &mut [[u64; 3]],
-    order: &mut [u32],
-    figures: &mut [[u64; 8]],
-    extremes: &mut [[f64; 3]],
-    pos: &mut [u64],
-    neg: &mut [u64],
-) -> Reply {
-    let d = within(regs[13], figures.len());
-    let e = within(regs[14], extremes.len());
-    let f = within(regs[15], pos.len());
-    let g = within(regs[16], neg.len());
-    scaled_by_in(
-        v,
-        h,
-        regs,
-        sets,
-        entries,
-        order,
-        &mut figures[0..d],
-        &mut extremes[0..e],
-        &mut pos[0..f],
-        &mut neg[0..g],
     )
 }
 
@@ -170,36 +179,16 @@ pub fn record_scaled(
     pos: &mut Counts,
     neg: &mut Counts,
 ) -> bool {
-    let v = float_of(words[0]);
-    if letter == b'r' {
-        if !are_attributes(n, 1) {
-            return false;
-        }
-        let mut attrs = [[0u32; 2]; 12];
-        take_attributes(words, 1, &mut attrs);
-        let reply = scaled(
-            n,
-            v,
-            regs,
-            filter,
-            sets,
-            entries,
-            order,
-            figures,
-            extremes,
-            pos,
-            neg,
-            &attrs,
-        );
-        return answered(reply, regs);
-    }
-    if letter != b'h' || n != 2 {
+    if !is_call(letter, n) {
         return false;
     }
-    let reply = scaled_by(
-        v,
-        words[1],
+    let mut attrs = [[0u32; 2]; 12];
+    take_attributes(words, 1, &mut attrs);
+    let call = call_of(letter, n, words);
+    let reply = scaled_series(
+        call,
         regs,
+        filter,
         sets,
         entries,
         order,
@@ -207,15 +196,62 @@ pub fn record_scaled(
         extremes,
         pos,
         neg,
+        &attrs,
     );
     answered(reply, regs)
 }
 
 // ---- the explicit kind
 
-fn bucketed_in(
-    n: usize,
-    v: f64,
+fn bucketed(
+    call: Call,
+    regs: &Registers,
+    filter: &[u32],
+    bounds: &[f64],
+    sets: &mut [[u64; 9]],
+    entries: &mut [[u64; 3]],
+    order: &mut [u32],
+    extremes: &mut [[f64; 3]],
+    pos: &mut [u64],
+    totals: &mut [u64],
+    attrs: &[[u32; 2]],
+) -> Reply {
+    let v = call.value;
+    let d = held(regs);
+    if call.by_handle {
+        return value_map::explicit::measure_by(
+            bounds,
+            regs[3],
+            d,
+            sets,
+            entries,
+            order,
+            totals,
+            extremes,
+            pos,
+            v,
+            call.handle,
+        );
+    }
+    value_map::explicit::measure(
+        bounds,
+        regs[3],
+        d,
+        sets,
+        entries,
+        order,
+        totals,
+        extremes,
+        pos,
+        v,
+        attrs,
+        regs[7] != 0,
+        filter,
+    )
+}
+
+fn bucketed_directory(
+    call: Call,
     regs: &Registers,
     filter: &[u32],
     bounds: &[f64],
@@ -230,34 +266,31 @@ fn bucketed_in(
     let a = within(regs[10], sets.len());
     let b = within(regs[11], entries.len());
     let c = within(regs[12], order.len());
-    let m = within(n as u64 / 2, attrs.len());
+    let m = within(call.given as u64, attrs.len());
     let k = within(regs[8], filter.len());
-    value_map::explicit::measure(
+    bucketed(
+        call,
+        regs,
+        &filter[0..k],
         bounds,
-        regs[3],
-        held(regs),
         &mut sets[0..a],
         &mut entries[0..b],
         &mut order[0..c],
-        totals,
         extremes,
         pos,
-        v,
+        totals,
         &attrs[0..m],
-        regs[7] != 0,
-        &filter[0..k],
     )
 }
 
-fn bucketed(
-    n: usize,
-    v: f64,
+fn bucketed_series(
+    call: Call,
     regs: &Registers,
-    filter: &[u32],
+    filter: &Filter,
     bounds: &[f64],
-    sets: &mut [[u64; 9]],
-    entries: &mut [[u64; 3]],
-    order: &mut [u32],
+    sets: &mut Sets,
+    entries: &mut Entries,
+    order: &mut Order,
     extremes: &mut [[f64; 3]],
     pos: &mut [u64],
     totals: &mut [u64],
@@ -267,9 +300,8 @@ fn bucketed(
     let f = within(regs[15], pos.len());
     let g = within(regs[17], totals.len());
     let h = within(regs[6], bounds.len());
-    bucketed_in(
-        n,
-        v,
+    bucketed_directory(
+        call,
         regs,
         filter,
         &bounds[0..h],
@@ -280,66 +312,6 @@ fn bucketed(
         &mut pos[0..f],
         &mut totals[0..g],
         attrs,
-    )
-}
-
-fn bucketed_by_in(
-    v: f64,
-    handle: u64,
-    regs: &Registers,
-    bounds: &[f64],
-    sets: &mut [[u64; 9]],
-    entries: &mut [[u64; 3]],
-    order: &mut [u32],
-    extremes: &mut [[f64; 3]],
-    pos: &mut [u64],
-    totals: &mut [u64],
-) -> Reply {
-    let a = within(regs[10], sets.len());
-    let b = within(regs[11], entries.len());
-    let c = within(regs[12], order.len());
-    value_map::explicit::measure_by(
-        bounds,
-        regs[3],
-        held(regs),
-        &mut sets[0..a],
-        &mut entries[0..b],
-        &mut order[0..c],
-        totals,
-        extremes,
-        pos,
-        v,
-        handle,
-    )
-}
-
-fn bucketed_by(
-    v: f64,
-    handle: u64,
-    regs: &Registers,
-    bounds: &[f64],
-    sets: &mut [[u64; 9]],
-    entries: &mut [[u64; 3]],
-    order: &mut [u32],
-    extremes: &mut [[f64; 3]],
-    pos: &mut [u64],
-    totals: &mut [u64],
-) -> Reply {
-    let e = within(regs[14], extremes.len());
-    let f = within(regs[15], pos.len());
-    let g = within(regs[17], totals.len());
-    let h = within(regs[6], bounds.len());
-    bucketed_by_in(
-        v,
-        handle,
-        regs,
-        &bounds[0..h],
-        sets,
-        entries,
-        order,
-        &mut extremes[0..e],
-        &mut pos[0..f],
-        &mut totals[0..g],
     )
 }
 
@@ -357,36 +329,16 @@ pub fn record_bucketed(
     pos: &mut Counts,
     totals: &mut Totals,
 ) -> bool {
-    let v = float_of(words[0]);
-    if letter == b'r' {
-        if !are_attributes(n, 1) {
-            return false;
-        }
-        let mut attrs = [[0u32; 2]; 12];
-        take_attributes(words, 1, &mut attrs);
-        let reply = bucketed(
-            n,
-            v,
-            regs,
-            filter,
-            bounds,
-            sets,
-            entries,
-            order,
-            extremes,
-            pos,
-            totals,
-            &attrs,
-        );
-        return answered(reply, regs);
-    }
-    if letter != b'h' || n != 2 {
+    if !is_call(letter, n) {
         return false;
     }
-    let reply = bucketed_by(
-        v,
-        words[1],
+    let mut attrs = [[0u32; 2]; 12];
+    take_attributes(words, 1, &mut attrs);
+    let call = call_of(letter, n, words);
+    let reply = bucketed_series(
+        call,
         regs,
+        filter,
         bounds,
         sets,
         entries,
@@ -394,6 +346,7 @@ pub fn record_bucketed(
         extremes,
         pos,
         totals,
+        &attrs,
     );
     answered(reply, regs)
 }

@@ -87,7 +87,7 @@ boundIn limit d s row = boundAt d s row (located limit d s row)
 abbrev pub fresh : Directory
 fresh = record { used = 0; count = 0; last = 0 }
 
--- "Configuring: 4, 12"
+-- Configuring, of "1, 2, 3, 4, 12" those that are the same for every kind: 4, 12
 unfoldable pub started : ℕ → Option (List ℕ) → Stores → Outcome
 started limit filter s =
     pick (accepts limit filter)

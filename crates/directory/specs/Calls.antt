@@ -56,7 +56,7 @@ admitted d s row rank more bound =
 unfoldable pub boundTo : List (List ℕ) → ℕ → ℕ → List (List ℕ)
 boundTo entries x n = set entries x (getD (getD entries x []) 0 0 ∷ n ∷ getD (getD entries x []) 2 0 ∷ [])
 
--- the slot that the handle names, if it has bindings
+-- "7: handle names no entry, or one without bindings": the slot that the handle names, if it has bindings
 abbrev pub scan : ℕ → List (List ℕ) → List ℕ → Found
 scan h entries [] = Room 0
 scan h entries (x ∷ l) = pick (eqb (birthAt entries x) h && ltb 0 (getD (getD entries x []) 1 0)) (Held x) (scan h entries l)

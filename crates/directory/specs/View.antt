@@ -21,8 +21,8 @@ pub record Stores : Type 0 where
   pub entries : List (List ℕ)
   pub order : List ℕ
 
--- THE LAYOUT, our meaning of a set's "own place in the stores". Slot 0 is the empty set's, with the birth number 0; its set and birth cells
--- are never read. The named slots, from 1 on, stand in the order of birth; `order` has their numbers ascending by set.
+-- THE LAYOUT, our meaning of a set's "own place in the stores". Slot 0 is the empty set's, with the birth number 0; its set cell is
+-- never read, nor its birth cell but to write it back. The named slots, from 1 on, stand in the order of birth; `order` has their numbers ascending by set.
 abbrev pub setAt : List (List ℕ) → ℕ → Set
 setAt sets zero = []
 setAt sets (suc x) = setOf (getD sets (suc x) [])

@@ -14,7 +14,7 @@ use Rattle.points.specs.Figures.{exponential, Settings, Counts, scaled, buckete
 use Rattle.series.specs.Series.{mostCount, read}
 use Rattle.expo_slots.specs.Slots.{Slots, countsIn}
 
--- The settings of the kind. The zero threshold is 0.0, "as in the Rust".
+-- The settings of the kind. The zero threshold is 0.0 (DESIGN.md: as in the Rust).
 abbrev pub settings : ℕ → ℕ → Bool → Bool → Settings
 settings size top extremes sums = record { kind = exponential size top; extremes = extremes; sums = sums; threshold = zeroFloat }
 

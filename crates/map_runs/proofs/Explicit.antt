@@ -9,9 +9,12 @@ use Rattle.laws.specs.Tests.{all}
 use Rattle.points.specs.Explicit.{boundsPass}
 use Rattle.tally.specs.Map.{Config, Call, measure, measureBy, step}
 use Rattle.tally.specs.Demand.{Code, Premise, Answered, ran}
+use Rattle.tally.specs.Tally.{empty, after}
+use Rattle.tally.proofs.Cumulative.{Listed}
+use Rattle.tally.proofs.Demand.{left}
 use Rattle.tally.proofs.Sound.{quiet}
 use Rattle.kinds.specs.Histograms.{histograms}
-use Rattle.kinds.proofs.Demand.{histograms-demand, histograms-quiet}
+use Rattle.kinds.proofs.Demand.{histograms-demand, histograms-quiet, histograms-listed}
 use Rattle.directory.specs.View.{Stores}
 use Rattle.directory.specs.Calls.{Kept, accepts, enough}
 use Rattle.directory.proofs.Leaves.{Good, Leaves}
@@ -78,3 +81,8 @@ module _ (bounds : List Float) (limit : ℕ) (filter : Option (List ℕ)) (e m :
     -- under demand 3's premise the answers are the tally's, and birth numbers keep their sets
     pub rightly : Premise histograms c (map (run .asks) calls) (ran histograms c run calls) → Answered histograms c (map (run .asks) calls) (ran histograms c run calls)
     rightly = histograms-demand c run calls
+
+    -- and each value is in its own set's series, never in overflow's: a cumulative collection would list the point of each named set's values
+    pub owned : Premise histograms c (map (run .asks) calls) (ran histograms c run calls)
+        → Listed histograms (run .view (left histograms c run (run .first) calls)) (after histograms c (empty histograms c) (map (run .asks) calls) (ran histograms c run calls))
+    owned = histograms-listed c run calls

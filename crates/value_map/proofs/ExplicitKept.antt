@@ -1,4 +1,4 @@
--- KEPT. A recording of the explicit kind leaves the map agreeing as it found it, goes to its own set's slot under demand 3's premise, and
+-- KEPT. A recording of the explicit kind leaves the map agreeing as it found it, goes to its own set's slot while there is room, and
 -- leaves every other series, set and birth number as it was. Assumes nothing.
 use Prim.Native.Nat.{ℕ, _≤_, _<_}
 use mathlib.Core.Path.{_≡_, refl, subst, _∙_}
@@ -119,8 +119,16 @@ module _ (bounds : List Float) (limit : ℕ) (filter : Option (List ℕ)) (e m :
           (λ q few. entered-cases bounds limit filter e m t h v row (seated limit (h .kept .dir) (h .kept .stores) row) (w .valid) q (set-sits row) P (λ n. refl) (λ n i r. refl)
           (λ n r k. k .1 .others y d))
 
+      pub handle-elsewhere : (b y : ℕ) → (y ≡ seatedBy limit (h .kept .dir) (h .kept .stores) b .slot → ⊥)
+          → seriesAt bounds (measuredBy bounds limit h v b .held .cells) y ≡ seriesAt bounds (h .cells) y
+      handle-elsewhere b y d =
+          let P : Outcome → Type 0 = λ o. seriesAt bounds (o .held .cells) y ≡ seriesAt bounds (h .cells) y in
+          handle-cases P (λ n. refl) b
+          (λ q. entered-cases bounds limit filter e m t h v (replicate 9 0) (seatedBy limit (h .kept .dir) (h .kept .stores) b) (w .valid) q (handle-sits b) P (λ n. refl) (λ n i r. refl)
+          (λ n r k. k .1 .others y d))
+
       -- OWN. An accepted recording goes to its own set's slot, never to overflow, where the set is held or the named sets are fewer than the
-      -- limit: demand 3's premise
+      -- limit (under demand 3's premise, over a run: map_runs' `owned`)
       pub measure-owns : (attrs : Set) → Small attrs
           → ((x : ℕ) × (sought (setOf (rowOf (canonical filter attrs))) (h .kept .dir .used) (h .kept .stores .sets) (h .kept .stores .order) ≡ Found.Held x)) ⊎ (h .kept .dir .used < limit)
           → measured bounds limit filter h v attrs .answer ≡ Done

@@ -1,4 +1,4 @@
--- KEPT. A recording of the exponential kind leaves the map agreeing as it found it, goes to its own set's slot under demand 3's premise, and
+-- KEPT. A recording of the exponential kind leaves the map agreeing as it found it, goes to its own set's slot while there is room, and
 -- leaves every other series, set and birth number as it was. Assumes nothing.
 use Prim.Native.Nat.{ℕ, _≤_, _<_}
 use mathlib.Core.Path.{_≡_, refl, sym, subst, _∙_}
@@ -132,8 +132,16 @@ module _ (size top limit : ℕ) (filter : Option (List ℕ)) (e m : Bool) where
           (λ q few. entered-cases size top limit filter e m h v row (seated limit (h .kept .dir) (h .kept .stores) row) (w .valid) (fin-is q) (set-sits row) P (λ n. refl) (λ n i r. refl)
           (λ n r t. t .others y d))
 
+      pub handle-elsewhere : (b y : ℕ) → (y ≡ seatedBy limit (h .kept .dir) (h .kept .stores) b .slot → ⊥)
+          → seriesAt size (measuredBy size top limit h v b .held .slots) y ≡ seriesAt size (h .slots) y
+      handle-elsewhere b y d =
+          let P : Outcome → Type 0 = λ o. seriesAt size (o .held .slots) y ≡ seriesAt size (h .slots) y in
+          handle-cases P (λ n. refl) b
+          (λ q. entered-cases size top limit filter e m h v (replicate 9 0) (seatedBy limit (h .kept .dir) (h .kept .stores) b) (w .valid) (fin-is q) (handle-sits b) P (λ n. refl) (λ n i r. refl)
+          (λ n r t. t .others y d))
+
       -- OWN. An accepted recording goes to its own set's slot, never to overflow, where the set is held or the named sets are fewer than the
-      -- limit: demand 3's premise
+      -- limit (under demand 3's premise, over a run: map_runs' `owned`)
       pub measure-owns : (attrs : Set) → Small attrs
           → ((x : ℕ) × (sought (setOf (rowOf (canonical filter attrs))) (h .kept .dir .used) (h .kept .stores .sets) (h .kept .stores .order) ≡ Found.Held x)) ⊎ (h .kept .dir .used < limit)
           → measured size top limit filter h v attrs .answer ≡ Done

@@ -81,7 +81,7 @@ measuredBy bounds limit h v handle =
     unlessRefused h (barredBy (lent bounds limit h) v 0 (leb limit mostSets))
     (entered bounds h v (replicate 9 0) (seatedBy limit (h .kept .dir) (h .kept .stores) handle))
 
--- "Configuring: 3, 4, 12". The series' stores are left as they are: no entry is updated, so nobody reads them.
+-- Configuring, of "1, 2, 3, 4, 12" those of this kind: 3, 4, 12. The series' stores are left as they are: no entry is updated, so nobody reads them.
 unfoldable pub started : List Float → ℕ → Option (List ℕ) → Stores → Slots.Stores → Outcome
 started bounds limit filter s cells =
     let none : Held = record { kept = record { dir = fresh; stores = s }; cells = cells } in

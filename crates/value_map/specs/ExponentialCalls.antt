@@ -90,7 +90,7 @@ measuredBy size top limit h v handle =
     unlessRefused h (barredBy (lent size limit h) v 0 (passes (exponential size top) && leb limit mostSets))
     (entered size top h v (replicate 9 0) (seatedBy limit (h .kept .dir) (h .kept .stores) handle))
 
--- "Configuring: 1, 2, 4, 12". The series' stores are left as they are: no entry is updated, so nobody reads them.
+-- Configuring, of "1, 2, 3, 4, 12" those of this kind: 1, 2, 4, 12. The series' stores are left as they are: no entry is updated, so nobody reads them.
 unfoldable pub started : ℕ → ℕ → ℕ → Option (List ℕ) → Stores → Slots → Outcome
 started size top limit filter s x =
     let none : Held = record { kept = record { dir = fresh; stores = s }; slots = x } in

@@ -205,6 +205,11 @@ module _ (limit : ℕ) (d : Directory) (s : Stores) (row : List ℕ) where
   pub told : (t : Target) → located limit d s row ≡ t → Facts limit d s row t
   told t e = subst (λ (o : Target). Facts limit d s row o) e (facts limit d s row)
 
+  -- a directory that disagrees names no place
+  pub located-no : agreesb limit d s ≡ false → located limit d s row ≡ Disagrees
+  unfolding located pick
+  located-no g = rw g
+
   pub old-there : (x : ℕ) → located limit d s row ≡ Old x → limit + 2 ≤ length (s .entries) → x < length (s .entries)
   old-there x e l =
       let z = told (Old x) e in

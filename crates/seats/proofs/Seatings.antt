@@ -19,7 +19,7 @@ use Rattle.directory.specs.declared.Target.{Target}
 use Rattle.directory.specs.declared.Target.the-variants.{Disagrees, Old, New, Over}
 use Rattle.directory.proofs.Laws.{slotsOf, few, slot-used, scan-in}
 use Rattle.directory.proofs.Rises.{In}
-use Rattle.directory.proofs.Located.{blank, counted, sought-held, told, new-there, over-there}
+use Rattle.directory.proofs.Located.{located-no, blank, counted, sought-held, told, new-there, over-there}
 use Rattle.seats.specs.Seats.{away, newSeat, seatAt, seated, seatBy, seatedBy, Roomy, Fits}
 use Rattle.seats.specs.declared.Seating.{Seating}
 
@@ -51,6 +51,9 @@ module _ (limit : ℕ) (d : Directory) (s : Stores) (row : List ℕ) where
   pub seat-is : (t : Target) → located limit d s row ≡ t → seated limit d s row ≡ seatAt d s t
   unfolding seated
   seat-is t e = ap (seatAt d s) e
+
+  pub seat-no : agreesb limit d s ≡ false → seated limit d s row ≡ away 8
+  seat-no g = seat-is Disagrees (located-no limit d s row g)
 
   -- a slot that is held is one of those used
   pub old-in : (x : ℕ) → located limit d s row ≡ Old x → In x (slotsOf d s)

@@ -6,3 +6,4 @@ pub mod ExponentialKept
 pub mod ExplicitCases
 pub mod ExplicitSteps
 pub mod ExplicitKept
+pub mod Damaged

@@ -12,11 +12,11 @@ use Rattle.value_map.specs.ExponentialCalls.{Held, Outcome}
 use Rattle.map_exports.specs.Words.{Handed, wordsOf, handedOut}
 
 abbrev pub with : Stores → Slots → Directory → Held
-with s x d = record { kept = record { dir = d; stores = s }; slots = x }
+with s x d = record { kept = record { dir = d; stores = s }; cells = x }
 
 pub handed : (state : List (List ℕ)) (s : Stores) (x : Slots) (r : Reply) (o : Outcome) (n : ℕ) (w : List ℕ)
     → record { answer = r .answer; held = with s x (r .dir) } ≡ o → n ≡ number (r .answer) → w ≡ wordsOf (r .dir)
-    → record { number = n; state = set state 0 w; stores = s; slots = x } ≡ handedOut state o
+    → record { number = n; state = set state 0 w; stores = s; cells = x } ≡ handedOut state o
 handed state s x r o n w e p q =
-    let f : ℕ → List ℕ → Handed = λ m l. record { number = m; state = set state 0 l; stores = s; slots = x } in
+    let f : ℕ → List ℕ → Handed = λ m l. record { number = m; state = set state 0 l; stores = s; cells = x } in
     ap (λ (m : ℕ). f m w) p ∙ (ap (λ (l : List ℕ). f (number (r .answer)) l) q ∙ ap (handedOut state) e)

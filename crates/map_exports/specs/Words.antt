@@ -20,7 +20,7 @@ pub record Handed : Type 0 where
   pub number : ℕ
   pub state : List (List ℕ)
   pub stores : Stores
-  pub slots : Slots
+  pub cells : Slots
 
 abbrev pub handedOut : List (List ℕ) → Outcome → Handed
 handedOut state o =
@@ -28,5 +28,5 @@ handedOut state o =
       number = number (o .answer);
       state = set state 0 (wordsOf (o .held .kept .dir));
       stores = o .held .kept .stores;
-      slots = o .held .slots;
+      cells = o .held .cells;
     }

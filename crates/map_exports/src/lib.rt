@@ -54,7 +54,7 @@ pub extern "C" fn map_measure(
     v: f64,
     attrs: &[[u32; 2]],
 ) -> u64
-    ensures { λ r. ⌜ record { number = r; state = now (state .exit); stores = record { sets = now (sets .exit); entries = now (entries .exit); order = now (order .exit) }; slots = record { figures = now (figures .exit); extremes = now (extremes .exit); pos = now (pos .exit); neg = now (neg .exit) } } ≡ handedOut (now (state .entry)) (measured size top limit none (record { kept = record { dir = stateOf (getD (now (state .entry)) 0 []); stores = record { sets = now (sets .entry); entries = now (entries .entry); order = now (order .entry) } }; slots = record { figures = now (figures .entry); extremes = now (extremes .entry); pos = now (pos .entry); neg = now (neg .entry) } }) v (given (now (attrs .entry)))) ⌝ }
+    ensures { λ r. ⌜ record { number = r; state = now (state .exit); stores = record { sets = now (sets .exit); entries = now (entries .exit); order = now (order .exit) }; cells = record { figures = now (figures .exit); extremes = now (extremes .exit); pos = now (pos .exit); neg = now (neg .exit) } } ≡ handedOut (now (state .entry)) (measured size top limit none (record { kept = record { dir = stateOf (getD (now (state .entry)) 0 []); stores = record { sets = now (sets .entry); entries = now (entries .entry); order = now (order .entry) } }; cells = record { figures = now (figures .entry); extremes = now (extremes .entry); pos = now (pos .entry); neg = now (neg .entry) } }) v (given (now (attrs .entry)))) ⌝ }
 {
     let d = state_of(state[0]);
     let no_keys = [0u32; 1];

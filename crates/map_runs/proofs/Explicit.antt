@@ -23,22 +23,19 @@ use Rattle.value_map.specs.ExplicitCalls as Calls
 use Rattle.value_map.specs.ExplicitCalls.{cellsLent, measured, measuredBy}
 use Rattle.value_map.proofs.ExplicitSteps.{config, mapOf, told, Fair, measure-steps, handle-steps}
 use Rattle.value_map.proofs.ExplicitKept.{good, lent-cells, measure-fair, handle-fair, measure-leaves, handle-leaves}
-use Rattle.map_runs.proofs.Recorders.{Ended, Does, Recorders, Asked, code}
+use Rattle.map_runs.proofs.Recorders.{Does, Recorders, Asked, code}
 
 -- the switches e and m act where a point is handed out: no call here reads them
 module _ (bounds : List Float) (limit : ℕ) (filter : Option (List ℕ)) (e m : Bool) (t : Float) (ok : boundsPass bounds ≡ true) (a : accepts limit filter ≡ true) where
   abbrev pub c : Config histograms
   c = config bounds limit filter e m t
 
-  abbrev pub ended : Calls.Outcome → Ended Cells
-  ended o = record { outcome = record { answer = o .answer; kept = o .held .kept }; cells = o .held .cells }
-
   pub fair : (k : Kept) (x : Cells) → Good limit k → cellsLent bounds limit x ≡ true → Fair bounds limit filter e m t (record { kept = k; cells = x })
   fair k x g l = record { agrees = g .agrees; lent-is = rw (g .lent) l; last = g .last; valid = ok; accepted = a }
 
   pub does : (k : Kept) (x : Cells) (call : Call histograms) (o : Calls.Outcome) → Fair bounds limit filter e m t (o .held) → Leaves (k .dir) (k .stores) (o .held .kept)
       → step histograms c (mapOf bounds limit filter e m t (record { kept = k; cells = x })) call ≡ told bounds limit filter e m t o
-      → Does histograms c (λ y. cellsLent bounds limit y ≡ true) (seriesAt bounds) k x call (ended o)
+      → Does histograms c (λ y. cellsLent bounds limit y ≡ true) (seriesAt bounds) k x call o
   does k x call o w y q =
       record {
         good = good bounds limit filter e m t (o .held) w;
@@ -55,8 +52,8 @@ module _ (bounds : List Float) (limit : ℕ) (filter : Option (List ℕ)) (e m :
         Enough = λ x. cellsLent bounds limit x ≡ true;
         at = seriesAt bounds;
         Known = λ v. fits binary64 v ≡ true;
-        bySet = λ k x v attrs. ended (measured bounds limit filter (record { kept = k; cells = x }) v attrs);
-        byHandle = λ k x v h. ended (measuredBy bounds limit (record { kept = k; cells = x }) v h);
+        bySet = λ k x v attrs. measured bounds limit filter (record { kept = k; cells = x }) v attrs;
+        byHandle = λ k x v h. measuredBy bounds limit (record { kept = k; cells = x }) v h;
         set-does = λ k x g l v known attrs small.
             let h : Calls.Held = record { kept = k; cells = x } in
             let w = fair k x g l in

@@ -24,22 +24,19 @@ use Rattle.value_map.specs.ExponentialCalls as Calls
 use Rattle.value_map.specs.ExponentialCalls.{slotsLent, measured, measuredBy}
 use Rattle.value_map.proofs.ExponentialSteps.{config, mapOf, told, Fair, measure-steps, handle-steps}
 use Rattle.value_map.proofs.ExponentialKept.{good, lent-slots, measure-fair, handle-fair, measure-leaves, handle-leaves}
-use Rattle.map_runs.proofs.Recorders.{Ended, Does, Recorders, Asked, code}
+use Rattle.map_runs.proofs.Recorders.{Does, Recorders, Asked, code}
 
 -- the switches e and m act where a point is handed out: no call here reads them
 module _ (size top limit : ℕ) (filter : Option (List ℕ)) (e m : Bool) (ok : passes (exponential size top) ≡ true) (a : accepts limit filter ≡ true) where
   abbrev pub c : Config histograms
   c = config size top limit filter e m
 
-  abbrev pub ended : Calls.Outcome → Ended Slots
-  ended o = record { outcome = record { answer = o .answer; kept = o .held .kept }; cells = o .held .slots }
-
-  pub fair : (k : Kept) (x : Slots) → Good limit k → slotsLent size limit x ≡ true → Fair size top limit filter e m (record { kept = k; slots = x })
+  pub fair : (k : Kept) (x : Slots) → Good limit k → slotsLent size limit x ≡ true → Fair size top limit filter e m (record { kept = k; cells = x })
   fair k x g l = record { agrees = g .agrees; lent-is = rw (g .lent) l; last = g .last; valid = ok; accepted = a }
 
   pub does : (k : Kept) (x : Slots) (call : Call histograms) (o : Calls.Outcome) → Fair size top limit filter e m (o .held) → Leaves (k .dir) (k .stores) (o .held .kept)
-      → step histograms c (mapOf size top limit filter e m (record { kept = k; slots = x })) call ≡ told size top limit filter e m o
-      → Does histograms c (λ y. slotsLent size limit y ≡ true) (seriesAt size) k x call (ended o)
+      → step histograms c (mapOf size top limit filter e m (record { kept = k; cells = x })) call ≡ told size top limit filter e m o
+      → Does histograms c (λ y. slotsLent size limit y ≡ true) (seriesAt size) k x call o
   does k x call o w y q =
       record {
         good = good size top limit filter e m (o .held) w;
@@ -56,15 +53,15 @@ module _ (size top limit : ℕ) (filter : Option (List ℕ)) (e m : Bool) (ok : 
         Enough = λ x. slotsLent size limit x ≡ true;
         at = seriesAt size;
         Known = λ v. fits binary64 v ≡ true;
-        bySet = λ k x v attrs. ended (measured size top limit filter (record { kept = k; slots = x }) v attrs);
-        byHandle = λ k x v h. ended (measuredBy size top limit (record { kept = k; slots = x }) v h);
+        bySet = λ k x v attrs. measured size top limit filter (record { kept = k; cells = x }) v attrs;
+        byHandle = λ k x v h. measuredBy size top limit (record { kept = k; cells = x }) v h;
         set-does = λ k x g l v known attrs small.
-            let h : Calls.Held = record { kept = k; slots = x } in
+            let h : Calls.Held = record { kept = k; cells = x } in
             let w = fair k x g l in
             does k x (measure v attrs) (measured size top limit filter h v attrs) (measure-fair size top limit filter e m h w v known attrs small) (measure-leaves size top limit filter e m h w v known attrs small)
             (measure-steps size top limit filter e m h w v known attrs small);
         handle-does = λ k x g l v known b.
-            let h : Calls.Held = record { kept = k; slots = x } in
+            let h : Calls.Held = record { kept = k; cells = x } in
             let w = fair k x g l in
             does k x (measureBy b v) (measuredBy size top limit h v b) (handle-fair size top limit filter e m h w v known b) (handle-leaves size top limit filter e m h w v known b)
             (handle-steps size top limit filter e m h w v known b);

@@ -14,18 +14,9 @@ use Rattle.sets.proofs.Exact.{Small}
 use Rattle.directory.proofs.Refusals.{within}
 use Rattle.bindings.proofs.Keeps.{bind-steps, release-steps, start-map}
 use Rattle.bindings.proofs.Runs as moves
+use Rattle.value_map.specs.First as Map
 use Rattle.directory.proofs.Leaves.{Good, Leaves}
 use Rattle.bindings.proofs.Runs.{move-good, move-leaves, start-good}
-
--- a state of the map: the directory, and the kind's cells beside it
-pub record Held (Cells : Type 0) : Type 0 where
-  pub kept : Kept
-  pub cells : Cells
-
--- a call's outcome in the directory, and the kind's cells then
-pub record Ended (Cells : Type 0) : Type 0 where
-  pub outcome : Outcome
-  pub cells : Cells
 
 module _ (K : Kind) (c : Config K) where
   -- the map that a state is, each slot's series read from the cells
@@ -33,13 +24,13 @@ module _ (K : Kind) (c : Config K) where
   mapOf at k x = view K (at x) (c .settings) (k .dir) (k .stores)
 
   -- the outcome is the map's step, and leaves a state like the one before
-  pub record Does {Cells : Type 0} (Enough : Cells → Type 0) (at : Cells → ℕ → K .Series) (k : Kept) (x : Cells) (call : Call K) (o : Ended Cells) : Type 0 where
-    pub good : Good (c .limit) (o .outcome .kept)
-    pub lent : Enough (o .cells)
+  pub record Does {Cells : Type 0} (Enough : Cells → Type 0) (at : Cells → ℕ → K .Series) (k : Kept) (x : Cells) (call : Call K) (o : Map.Outcome Cells) : Type 0 where
+    pub good : Good (c .limit) (o .held .kept)
+    pub lent : Enough (o .held .cells)
     -- a used slot keeps its set and its birth number, and a new slot's number was not spent before
-    pub stays : Leaves (k .dir) (k .stores) (o .outcome .kept)
-    pub answer : said K (o .outcome .answer) ≡ step K c (mapOf at k x) call .answer
-    pub map : mapOf at (o .outcome .kept) (o .cells) ≡ step K c (mapOf at k x) call .map
+    pub stays : Leaves (k .dir) (k .stores) (o .held .kept)
+    pub answer : said K (o .answer) ≡ step K c (mapOf at k x) call .answer
+    pub map : mapOf at (o .held .kept) (o .held .cells) ≡ step K c (mapOf at k x) call .map
 
   -- a kind's two recording calls, each the map's step wherever the directory agrees and the lent stores suffice
   pub record Recorders : Type 1 where
@@ -48,8 +39,8 @@ module _ (K : Kind) (c : Config K) where
     pub at : Cells → ℕ → K .Series
     -- a value that can be given
     pub Known : K .Value → Type 0
-    pub bySet : Kept → Cells → K .Value → Set → Ended Cells
-    pub byHandle : Kept → Cells → K .Value → ℕ → Ended Cells
+    pub bySet : Kept → Cells → K .Value → Set → Map.Outcome Cells
+    pub byHandle : Kept → Cells → K .Value → ℕ → Map.Outcome Cells
     pub set-does : (k : Kept) (x : Cells) → Good (c .limit) k → Enough x → (v : K .Value) → Known v → (attrs : Set) → Small attrs → Does Enough at k x (measure v attrs) (bySet k x v attrs)
     pub handle-does : (k : Kept) (x : Cells) → Good (c .limit) k → Enough x → (v : K .Value) → Known v → (h : ℕ) → Does Enough at k x (measureBy h v) (byHandle k x v h)
 
@@ -68,10 +59,10 @@ module _ (K : Kind) (c : Config K) where
     asks (releasing h) = release h
 
     -- a binding or a release leaves the cells alone
-    abbrev alone : R .Cells → Outcome → Ended (R .Cells)
-    alone x o = record { outcome = o; cells = x }
+    abbrev alone : R .Cells → Outcome → Map.Outcome (R .Cells)
+    alone x o = record { answer = o .answer; held = record { kept = o .kept; cells = x } }
 
-    abbrev pub ended : Held (R .Cells) → Asked → Ended (R .Cells)
+    abbrev pub ended : Map.Held (R .Cells) → Asked → Map.Outcome (R .Cells)
     ended s (recording v known attrs small) = R .bySet (s .kept) (s .cells) v attrs
     ended s (recordingBy h v known) = R .byHandle (s .kept) (s .cells) v h
     ended s (binding attrs small) = alone (s .cells) (bound (c .limit) (c .filter) (s .kept .dir) (s .kept .stores) attrs)
@@ -79,7 +70,7 @@ module _ (K : Kind) (c : Config K) where
 
     module _ (a : accepts (c .limit) (c .filter) ≡ true) where
       -- each call of a run
-      pub stepped : (s : Held (R .Cells)) → Good (c .limit) (s .kept) → R .Enough (s .cells) → (x : Asked) → Does (R .Enough) (R .at) (s .kept) (s .cells) (asks x) (ended s x)
+      pub stepped : (s : Map.Held (R .Cells)) → Good (c .limit) (s .kept) → R .Enough (s .cells) → (x : Asked) → Does (R .Enough) (R .at) (s .kept) (s .cells) (asks x) (ended s x)
       stepped s g e (recording v known attrs small) = R .set-does (s .kept) (s .cells) g e v known attrs small
       stepped s g e (recordingBy h v known) = R .handle-does (s .kept) (s .cells) g e v known h
       stepped s g e (binding attrs small) =
@@ -95,12 +86,12 @@ module _ (K : Kind) (c : Config K) where
       abbrev pub code : K .valid (c .settings) ≡ true → (s : Stores) → enough (c .limit) s ≡ true → (x : R .Cells) → R .Enough x → Code K c
       code ok s e x f =
           record {
-            State = Held (R .Cells);
+            State = Map.Held (R .Cells);
             Ok = λ h. Good (c .limit) (h .kept) × R .Enough (h .cells);
             view = λ h. mapOf (R .at) (h .kept) (h .cells);
             Input = Asked;
             asks = asks;
-            call = λ h y. (said K (ended h y .outcome .answer), record { kept = ended h y .outcome .kept; cells = ended h y .cells });
+            call = λ h y. (said K (ended h y .answer), ended h y .held);
             faithful = λ h y o g. let d = stepped h (o .0) (o .1) y in
                 ((d .good, d .lent), (λ i. record { answer = d .answer i; map = d .map i }));
             first = record { kept = started (c .limit) (c .filter) s .kept; cells = x };

@@ -40,7 +40,7 @@ module _ (size top limit : ℕ) (filter : Option (List ℕ)) (h : X.Held) (v : F
       ∙ XC.entered-away size top h v (replicate 9 0) (away 8) (λ q. omega arith)
 
 -- 8 whether the bounds pass or not
-either : (b : Bool) → 8 ≡ pick b 8 8
+either : (b : Bool) → _≡_ {A = ℕ} 8 (pick b 8 8)
 unfolding pick
 either true = refl
 either false = refl

@@ -94,15 +94,15 @@ roomy size limit x e =
     }
 
 -- a seating that is safe in the directory's stores is so in the series'
-pub seatable : (size limit : ℕ) (h : Held) (a : Seating) → Roomy size limit (h .slots) → Safe limit (h .kept .dir) (h .kept .stores) a → Seatable size h a
+pub seatable : (size limit : ℕ) (h : Held) (a : Seating) → Roomy size limit (h .cells) → Safe limit (h .kept .dir) (h .kept .stores) a → Seatable size h a
 seatable size limit h a r safe n =
     let w = safe n in
     let b : a .slot < limit + 2 = omega (arith, w .0) in
     record {
       figures = omega (arith, r .figures);
       extremes = omega (arith, r .extremes);
-      pos = within (a .slot) (limit + 2) size (length (h .slots .pos)) b (r .pos);
-      neg = within (a .slot) (limit + 2) size (length (h .slots .neg)) b (r .neg);
+      pos = within (a .slot) (limit + 2) size (length (h .cells .pos)) b (r .pos);
+      neg = within (a .slot) (limit + 2) size (length (h .cells .neg)) b (r .neg);
       target = w .1;
     }
 
@@ -119,26 +119,26 @@ on h n o e = rw (eq-eqb n 0 e)
 module _ (size top : ℕ) (h : Held) (v : Float) (row : List ℕ) (a : Seating) where
   pub entered-away : (a .no ≡ 0 → ⊥) → entered size top h v row a ≡ refused (a .no) h
   unfolding entered
-  entered-away d = stop h (a .no) (wrote h row (a .target) (recordedAt size top (a .slot) (a .updated) (h .slots) v)) d
+  entered-away d = stop h (a .no) (wrote h row (a .target) (recordedAt size top (a .slot) (a .updated) (h .cells) v)) d
 
-  module _ (n : a .no ≡ 0) (o : Slots.Outcome) (e : o ≡ recordedAt size top (a .slot) (a .updated) (h .slots) v) where
+  module _ (n : a .no ≡ 0) (o : Slots.Outcome) (e : o ≡ recordedAt size top (a .slot) (a .updated) (h .cells) v) where
     entered-is : entered size top h v row a ≡ wrote h row (a .target) o
     unfolding entered
     entered-is =
-        on h (a .no) (wrote h row (a .target) (recordedAt size top (a .slot) (a .updated) (h .slots) v)) n ∙ ap (wrote h row (a .target)) (sym e)
+        on h (a .no) (wrote h row (a .target) (recordedAt size top (a .slot) (a .updated) (h .cells) v)) n ∙ ap (wrote h row (a .target)) (sym e)
 
     -- the series refused it, and is as it was
-    pub entered-refused : (o .number ≡ 0 → ⊥) → record { answer = Refused (o .number); held = record { kept = h .kept; slots = o .slots } } ≡ entered size top h v row a
+    pub entered-refused : (o .number ≡ 0 → ⊥) → record { answer = Refused (o .number); held = record { kept = h .kept; cells = o .slots } } ≡ entered size top h v row a
     entered-refused d =
-        let q : o .slots ≡ h .slots = ap (λ (p : Slots.Outcome). p .slots) e ∙ unchanged size top (a .slot) (a .updated) (h .slots) v (λ z. d (ap (λ (p : Slots.Outcome). p .number) e ∙ z)) in
-        ap (λ (x : Slots). record { answer = Refused (o .number); held = record { kept = h .kept; slots = x } }) q
-        ∙ sym (entered-is ∙ stop h (o .number) (record { answer = Done; held = record { kept = committed (h .kept .dir) (h .kept .stores) row (a .target); slots = o .slots } }) d)
+        let q : o .slots ≡ h .cells = ap (λ (p : Slots.Outcome). p .slots) e ∙ unchanged size top (a .slot) (a .updated) (h .cells) v (λ z. d (ap (λ (p : Slots.Outcome). p .number) e ∙ z)) in
+        ap (λ (x : Slots). record { answer = Refused (o .number); held = record { kept = h .kept; cells = x } }) q
+        ∙ sym (entered-is ∙ stop h (o .number) (record { answer = Done; held = record { kept = committed (h .kept .dir) (h .kept .stores) row (a .target); cells = o .slots } }) d)
 
     pub entered-done : (k : Kept) → o .number ≡ 0 → k ≡ committed (h .kept .dir) (h .kept .stores) row (a .target)
-        → record { answer = Done; held = record { kept = k; slots = o .slots } } ≡ entered size top h v row a
+        → record { answer = Done; held = record { kept = k; cells = o .slots } } ≡ entered size top h v row a
     entered-done k z p =
-        ap (λ (k : Kept). record { answer = Done; held = record { kept = k; slots = o .slots } }) p
-        ∙ sym (entered-is ∙ on h (o .number) (record { answer = Done; held = record { kept = committed (h .kept .dir) (h .kept .stores) row (a .target); slots = o .slots } }) z)
+        ap (λ (k : Kept). record { answer = Done; held = record { kept = k; cells = o .slots } }) p
+        ∙ sym (entered-is ∙ on h (o .number) (record { answer = Done; held = record { kept = committed (h .kept .dir) (h .kept .stores) row (a .target); cells = o .slots } }) z)
 
 -- ---- recording by set and by handle: n is the number of the refusal that came first
 
@@ -179,7 +179,7 @@ module _ (size top limit : ℕ) (h : Held) (v : Float) (n : ℕ) where
 
 module _ (size top limit : ℕ) (filter : Option (List ℕ)) (s : Stores) (x : Slots) where
   abbrev none : Held
-  none = record { kept = record { dir = fresh; stores = s }; slots = x }
+  none = record { kept = record { dir = fresh; stores = s }; cells = x }
 
   pub started-1 : sizePasses size ≡ false → started size top limit filter s x ≡ refused 1 none
   unfolding started pick
@@ -201,6 +201,6 @@ module _ (size top limit : ℕ) (filter : Option (List ℕ)) (s : Stores) (x : S
         started-12 e = rw (a, le-leb top finest t, b, e)
 
         pub started-on : slotsLent size limit x ≡ true → (o : Bindings.Outcome) → o ≡ Bindings.started limit filter s
-            → record { answer = o .answer; held = record { kept = o .kept; slots = x } } ≡ started size top limit filter s x
+            → record { answer = o .answer; held = record { kept = o .kept; cells = x } } ≡ started size top limit filter s x
         unfolding started pick
-        started-on e o q = ap (λ (o : Bindings.Outcome). record { answer = o .answer; held = record { kept = o .kept; slots = x } }) q ∙ rw (a, le-leb top finest t, b, e)
+        started-on e o q = ap (λ (o : Bindings.Outcome). record { answer = o .answer; held = record { kept = o .kept; cells = x } }) q ∙ rw (a, le-leb top finest t, b, e)

@@ -51,19 +51,19 @@ module _ (size top limit : ℕ) (filter : Option (List ℕ)) (e m : Bool) where
     good =
         record {
           agrees = w .agrees;
-          lent = and-true (enough limit (h .kept .stores)) (slotsLent size limit (h .slots)) (w .lent-is) .0;
+          lent = and-true (enough limit (h .kept .stores)) (slotsLent size limit (h .cells)) (w .lent-is) .0;
           last = w .last;
         }
 
-    pub lent-slots : slotsLent size limit (h .slots) ≡ true
-    lent-slots = and-true (enough limit (h .kept .stores)) (slotsLent size limit (h .slots)) (w .lent-is) .1
+    pub lent-slots : slotsLent size limit (h .cells) ≡ true
+    lent-slots = and-true (enough limit (h .kept .stores)) (slotsLent size limit (h .cells)) (w .lent-is) .1
 
     -- another directory that agrees, and slots' stores as long
-    fair-on : (k : Kept) → Good limit k → (x : Slots) → slotsLent size limit x ≡ true → Fit (record { kept = k; slots = x })
+    fair-on : (k : Kept) → Good limit k → (x : Slots) → slotsLent size limit x ≡ true → Fit (record { kept = k; cells = x })
     fair-on k g x l =
         record { agrees = g .agrees; lent-is = rw (g .lent) l; last = g .last; valid = w .valid; accepted = w .accepted }
 
-    took-lent : (x : ℕ) (o : Slots.Outcome) (y : Figures) → Took size x (h .slots) o y → slotsLent size limit (o .slots) ≡ true
+    took-lent : (x : ℕ) (o : Slots.Outcome) (y : Figures) → Took size x (h .cells) o y → slotsLent size limit (o .slots) ≡ true
     took-lent x o y t = (λ j. slotsHold size limit (t .figures j) (t .extremes j) (t .pos j) (t .neg j)) ∙ lent-slots
 
     module _ (v : Float) (known : fits binary64 v ≡ true) where
@@ -99,12 +99,12 @@ module _ (size top limit : ℕ) (filter : Option (List ℕ)) (e m : Bool) where
       set-sits : (row : List ℕ) → Seatable size h (seated limit (h .kept .dir) (h .kept .stores) row)
       set-sits row =
           let r = suffices limit (h .kept .stores) (good .lent) in
-          seatable size limit h (seated limit (h .kept .dir) (h .kept .stores) row) (roomy size limit (h .slots) lent-slots)
+          seatable size limit h (seated limit (h .kept .dir) (h .kept .stores) row) (roomy size limit (h .cells) lent-slots)
           (seat-safe limit (h .kept .dir) (h .kept .stores) row (r .sets) (r .entries) (r .order) (omega (arith, within limit filter (w .accepted))))
 
       handle-sits : (b : ℕ) → Seatable size h (seatedBy limit (h .kept .dir) (h .kept .stores) b)
       handle-sits b =
-          seatable size limit h (seatedBy limit (h .kept .dir) (h .kept .stores) b) (roomy size limit (h .slots) lent-slots)
+          seatable size limit h (seatedBy limit (h .kept .dir) (h .kept .stores) b) (roomy size limit (h .cells) lent-slots)
           (by-safe limit (h .kept .dir) (h .kept .stores) b (suffices limit (h .kept .stores) (good .lent) .entries))
 
       pub measure-fair : (attrs : Set) → Small attrs → Fit (measured size top limit filter h v attrs .held)
@@ -124,18 +124,18 @@ module _ (size top limit : ℕ) (filter : Option (List ℕ)) (e m : Bool) where
 
       -- ELSEWHERE. A series that the call does not come to is as it was, damaged or not; nor is it asked for: `Fair` asks nothing of series
       pub measure-elsewhere : (attrs : Set) (y : ℕ) → (y ≡ seated limit (h .kept .dir) (h .kept .stores) (rowOf (canonical filter attrs)) .slot → ⊥)
-          → seriesAt size (measured size top limit filter h v attrs .held .slots) y ≡ seriesAt size (h .slots) y
+          → seriesAt size (measured size top limit filter h v attrs .held .cells) y ≡ seriesAt size (h .cells) y
       measure-elsewhere attrs y d =
-          let P : Outcome → Type 0 = λ o. seriesAt size (o .held .slots) y ≡ seriesAt size (h .slots) y in
+          let P : Outcome → Type 0 = λ o. seriesAt size (o .held .cells) y ≡ seriesAt size (h .cells) y in
           let row = rowOf (canonical filter attrs) in
           set-cases P (λ n. refl) attrs
           (λ q few. entered-cases size top limit filter e m h v row (seated limit (h .kept .dir) (h .kept .stores) row) (w .valid) (fin-is q) (set-sits row) P (λ n. refl) (λ n i r. refl)
           (λ n r t. t .others y d))
 
       pub handle-elsewhere : (b y : ℕ) → (y ≡ seatedBy limit (h .kept .dir) (h .kept .stores) b .slot → ⊥)
-          → seriesAt size (measuredBy size top limit h v b .held .slots) y ≡ seriesAt size (h .slots) y
+          → seriesAt size (measuredBy size top limit h v b .held .cells) y ≡ seriesAt size (h .cells) y
       handle-elsewhere b y d =
-          let P : Outcome → Type 0 = λ o. seriesAt size (o .held .slots) y ≡ seriesAt size (h .slots) y in
+          let P : Outcome → Type 0 = λ o. seriesAt size (o .held .cells) y ≡ seriesAt size (h .cells) y in
           handle-cases P (λ n. refl) b
           (λ q. entered-cases size top limit filter e m h v (replicate 9 0) (seatedBy limit (h .kept .dir) (h .kept .stores) b) (w .valid) (fin-is q) (handle-sits b) P (λ n. refl) (λ n i r. refl)
           (λ n r t. t .others y d))

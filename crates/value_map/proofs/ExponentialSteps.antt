@@ -51,7 +51,7 @@ module _ (size top limit : ℕ) (filter : Option (List ℕ)) (e m : Bool) where
 
   -- the map that is held: the slots' series, where their entries were updated
   abbrev pub mapOf : Held → Map histograms
-  mapOf h = view histograms (seriesAt size (h .slots)) z (h .kept .dir) (h .kept .stores)
+  mapOf h = view histograms (seriesAt size (h .cells)) z (h .kept .dir) (h .kept .stores)
 
   -- an outcome as the map's
   abbrev pub told : Outcome → Out histograms
@@ -60,10 +60,10 @@ module _ (size top limit : ℕ) (filter : Option (List ℕ)) (e m : Bool) where
   -- ---- at a seating: refused by the directory, refused by the series, or taken
   module _ (h : Held) (v : Float) (row : List ℕ) (a : Seating) (ok : passes (exponential size top) ≡ true) (fin : histograms .finite v ≡ true) (sit : Seatable size h a) where
     abbrev f : ℕ → Figures
-    f = seriesAt size (h .slots)
+    f = seriesAt size (h .cells)
 
     abbrev o : Slots.Outcome
-    o = recordedAt size top (a .slot) (a .updated) (h .slots) v
+    o = recordedAt size top (a .slot) (a .updated) (h .cells) v
 
     abbrev kept : Kept
     kept = committed (h .kept .dir) (h .kept .stores) row (a .target)
@@ -74,25 +74,25 @@ module _ (size top limit : ℕ) (filter : Option (List ℕ)) (e m : Bool) where
     -- what holds of each case holds of the outcome
     module _ (P : Outcome → Type 0) (away : (a .no ≡ 0 → ⊥) → P (refused (a .no) h))
         (refd : a .no ≡ 0 → (i : ℕ) → refusal histograms z (heldAt histograms f a) v ≡ some i → P (refused i h))
-        (doned : a .no ≡ 0 → refusal histograms z (heldAt histograms f a) v ≡ none → Took size (a .slot) (h .slots) o next
-        → P (record { answer = Done; held = record { kept = kept; slots = o .slots } })) where
+        (doned : a .no ≡ 0 → refusal histograms z (heldAt histograms f a) v ≡ none → Took size (a .slot) (h .cells) o next
+        → P (record { answer = Done; held = record { kept = kept; cells = o .slots } })) where
       module _ (n : a .no ≡ 0) where
-        fit : Fit size top (a .slot) (h .slots) v
+        fit : Fit size top (a .slot) (h .cells) v
         fit =
             let w = sit n in
             record { valid = ok; figures = w .figures; extremes = w .extremes; pos = w .pos; neg = w .neg; value = fin }
 
-        at-refused : (i : ℕ) → (i ≡ 0 → ⊥) → refusal histograms z (heldAt histograms f a) v ≡ some i → o ≡ Slots.refused i (h .slots) → P (entered size top h v row a)
-        at-refused i d r q = subst P (entered-refused size top h v row a n (Slots.refused i (h .slots)) (sym q) d) (refd n i r)
+        at-refused : (i : ℕ) → (i ≡ 0 → ⊥) → refusal histograms z (heldAt histograms f a) v ≡ some i → o ≡ Slots.refused i (h .cells) → P (entered size top h v row a)
+        at-refused i d r q = subst P (entered-refused size top h v row a n (Slots.refused i (h .cells)) (sym q) d) (refd n i r)
 
         at-sound : (b : Bool) → sound histograms z (heldAt histograms f a) ≡ b → P (entered size top h v row a)
-        at-sound false s = at-refused 8 (λ w. omega arith) (rw s) (disagreeing size top (a .slot) (h .slots) v e m fit (a .updated) s)
+        at-sound false s = at-refused 8 (λ w. omega arith) (rw s) (disagreeing size top (a .slot) (h .cells) v e m fit (a .updated) s)
         at-sound true s = at-count (Map.fits (suc (histograms .total (orFresh histograms z (heldAt histograms f a))))) refl
           where
             at-count : (b : Bool) → Map.fits (suc (histograms .total (orFresh histograms z (heldAt histograms f a)))) ≡ b → P (entered size top h v row a)
-            at-count false c = at-refused 9 (λ w. omega arith) (rw (s, c)) (full size top (a .slot) (h .slots) v e m fit (a .updated) s c)
+            at-count false c = at-refused 9 (λ w. omega arith) (rw (s, c)) (full size top (a .slot) (h .cells) v e m fit (a .updated) s c)
             at-count true c =
-                let t = took size top (a .slot) (h .slots) v e m fit (a .updated) s c in
+                let t = took size top (a .slot) (h .cells) v e m fit (a .updated) s c in
                 subst P (entered-done size top h v row a n o refl kept (t .number) refl) (doned n (rw (s, c)) t)
 
       pub entered-cases : P (entered size top h v row a)
@@ -121,10 +121,10 @@ module _ (size top limit : ℕ) (filter : Option (List ℕ)) (e m : Bool) where
 
   module _ (h : Held) (w : Fair h) (v : Float) (known : fits binary64 v ≡ true) where
     enoughly : Suffice limit (h .kept .stores)
-    enoughly = suffices limit (h .kept .stores) (and-true (enough limit (h .kept .stores)) (slotsLent size limit (h .slots)) (w .lent-is) .0)
+    enoughly = suffices limit (h .kept .stores) (and-true (enough limit (h .kept .stores)) (slotsLent size limit (h .cells)) (w .lent-is) .0)
 
     sits : (a : Seating) → Safe limit (h .kept .dir) (h .kept .stores) a → Seatable size h a
-    sits a safe = seatable size limit h a (roomy size limit (h .slots) (and-true (enough limit (h .kept .stores)) (slotsLent size limit (h .slots)) (w .lent-is) .1)) safe
+    sits a safe = seatable size limit h a (roomy size limit (h .cells) (and-true (enough limit (h .kept .stores)) (slotsLent size limit (h .cells)) (w .lent-is) .1)) safe
 
     module _ (fin : finite v ≡ true) where
       fin-is : histograms .finite v ≡ true
@@ -141,7 +141,7 @@ module _ (size top limit : ℕ) (filter : Option (List ℕ)) (e m : Bool) where
           let ls = enoughly .sets in
           let le = enoughly .entries in
           let lo = enoughly .order in
-          let fs = seriesAt size (h .slots) in
+          let fs = seriesAt size (h .cells) in
           entered-steps h v row (seated limit d s row) (w .valid) fin-is
           (sits (seated limit d s row) (seat-safe limit d s row ls le lo (omega (arith, within limit filter (w .accepted)))))
           (act histograms config (mapOf h) (measure v attrs))
@@ -159,7 +159,7 @@ module _ (size top limit : ℕ) (filter : Option (List ℕ)) (e m : Bool) where
           let ls = enoughly .sets in
           let le = enoughly .entries in
           let lo = enoughly .order in
-          let fs = seriesAt size (h .slots) in
+          let fs = seriesAt size (h .cells) in
           entered-steps h v row (seatedBy limit d s b) (w .valid) fin-is (sits (seatedBy limit d s b) (by-safe limit d s b le))
           (act histograms config (mapOf h) (measureBy b v))
           (λ n. by-away histograms fs z config d s (w .agrees) (w .last) ls le lo b row v n)

@@ -4,42 +4,32 @@ use mathlib.Core.Path.{_≡_}
 use mathlib.Core.Bool.{Bool, _&&_}
 use mathlib.Core.List.{List}
 use mathlib.Core.Option.{Option}
-use lib.Dec.{leb, eqb}
+use lib.Dec.{leb}
 use lib.ListN.{length, replicate}
 use lib.Ieee.{Float}
 use Rattle.laws.specs.Pick.{pick}
 use Rattle.points.specs.Explicit.{boundsPass, bucketCount}
 use Rattle.tally.specs.Sets.{Set, canonical}
-use Rattle.bindings.specs.declared.Answer.{Answer}
-use Rattle.bindings.specs.declared.Answer.the-variants.{Refused, Done}
 use Rattle.directory.specs.declared.Target.{Target}
 use Rattle.sets.specs.Rows.{rowOf}
 use Rattle.directory.specs.View.{Stores}
-use Rattle.directory.specs.Calls.{Kept, mostSets, accepts, enough}
+use Rattle.directory.specs.Calls.{mostSets, accepts, enough}
 use Rattle.bindings.specs.Calls as Bindings
 use Rattle.bindings.specs.Calls.{fresh}
 use Rattle.seats.specs.declared.Seating.{Seating}
-use Rattle.seats.specs.Seats.{seated, seatedBy, committed, Fits}
+use Rattle.seats.specs.Seats.{seated, seatedBy, Fits}
 use Rattle.bucket_slots.specs.Slots as Slots
 use Rattle.bucket_slots.specs.Slots.{Room, Recording, recordedAt}
-use Rattle.value_map.specs.First.{barredBy}
+use Rattle.value_map.specs.First as First
+use Rattle.value_map.specs.First.{barredBy, wroteIn}
+unfoldable pub use Rattle.value_map.specs.First.{unlessRefused}
+pub use Rattle.value_map.specs.First.{refused}
 
--- the map as it is lent: the directory with its stores, and the series' stores
-pub record Held : Type 0 where
-  pub kept : Kept
-  pub cells : Slots.Stores
+abbrev pub Held : Type 0
+Held = First.Held Slots.Stores
 
-pub record Outcome : Type 0 where
-  pub answer : Answer
-  pub held : Held
-
--- "Every refusal changes nothing."
-abbrev pub refused : ℕ → Held → Outcome
-refused n h = record { answer = Refused n; held = h }
-
--- what is done unless the number refuses it
-unfoldable pub unlessRefused : Held → ℕ → Outcome → Outcome
-unlessRefused h n o = pick (eqb n 0) o (refused n h)
+abbrev pub Outcome : Type 0
+Outcome = First.Outcome Slots.Stores
 
 -- "12: a lent count store under (limit + 2) × max_size counts (explicit: × buckets, one store), or any other lent store under limit + 2
 -- entries": of the series' stores, by their lengths, with n buckets
@@ -52,11 +42,8 @@ cellsLent bounds limit c = cellsHold (bucketCount bounds) limit (length (c .tota
 abbrev pub lent : List Float → ℕ → Held → Bool
 lent bounds limit h = enough limit (h .kept .stores) && cellsLent bounds limit (h .cells)
 
--- the series took the value, or refused it with its number; then the directory is written
 abbrev pub wrote : Held → List ℕ → Target → Recording → Outcome
-wrote h row target r =
-    unlessRefused h (r .no)
-    (record { answer = Done; held = record { kept = committed (h .kept .dir) (h .kept .stores) row target; cells = r .stores } })
+wrote h row target r = wroteIn h row target (r .no) (r .stores)
 
 -- the directory refused with its number, or named a slot. 8 before either where configuring could not have accepted the bounds.
 unfoldable pub entered : List Float → Held → Float → List ℕ → Seating → Outcome

@@ -4,7 +4,7 @@ use mathlib.Core.Path.{_≡_}
 use mathlib.Core.Bool.{Bool, _&&_}
 use mathlib.Core.List.{List}
 use mathlib.Core.Option.{Option}
-use lib.Dec.{leb, eqb}
+use lib.Dec.{leb}
 use lib.ListN.{length, replicate}
 use lib.Ieee.{Float}
 use Rattle.laws.specs.Pick.{pick}
@@ -12,36 +12,26 @@ use Rattle.index.specs.Bins.{finest}
 use Rattle.points.specs.Figures.{exponential, sizePasses}
 use Rattle.kinds.specs.Histograms.{passes}
 use Rattle.tally.specs.Sets.{Set, canonical}
-use Rattle.bindings.specs.declared.Answer.{Answer}
-use Rattle.bindings.specs.declared.Answer.the-variants.{Refused, Done}
 use Rattle.directory.specs.declared.Target.{Target}
 use Rattle.sets.specs.Rows.{rowOf}
 use Rattle.directory.specs.View.{Stores}
 use Rattle.bindings.specs.Calls as Bindings
-use Rattle.directory.specs.Calls.{Kept, mostSets, accepts, enough}
+use Rattle.directory.specs.Calls.{mostSets, accepts, enough}
 use Rattle.bindings.specs.Calls.{fresh}
 use Rattle.seats.specs.declared.Seating.{Seating}
-use Rattle.seats.specs.Seats.{seated, seatedBy, committed, Fits}
+use Rattle.seats.specs.Seats.{seated, seatedBy, Fits}
 use Rattle.expo_slots.specs.Slots as Slots
 use Rattle.expo_slots.specs.Slots.{Slots, recordedAt}
-use Rattle.value_map.specs.First.{barredBy}
+use Rattle.value_map.specs.First as First
+use Rattle.value_map.specs.First.{barredBy, wroteIn}
+unfoldable pub use Rattle.value_map.specs.First.{unlessRefused}
+pub use Rattle.value_map.specs.First.{refused}
 
--- the map as it is lent: the directory with its stores, and the series' stores
-pub record Held : Type 0 where
-  pub kept : Kept
-  pub slots : Slots
+abbrev pub Held : Type 0
+Held = First.Held Slots
 
-pub record Outcome : Type 0 where
-  pub answer : Answer
-  pub held : Held
-
--- "Every refusal changes nothing."
-abbrev pub refused : ℕ → Held → Outcome
-refused n h = record { answer = Refused n; held = h }
-
--- what is done unless the number refuses it
-unfoldable pub unlessRefused : Held → ℕ → Outcome → Outcome
-unlessRefused h n o = pick (eqb n 0) o (refused n h)
+abbrev pub Outcome : Type 0
+Outcome = First.Outcome Slots
 
 -- "12: a lent count store under (limit + 2) × max_size counts .., or any other lent store under limit + 2 entries": of the series'
 -- stores, by their lengths
@@ -53,25 +43,22 @@ abbrev pub slotsLent : ℕ → ℕ → Slots → Bool
 slotsLent size limit x = slotsHold size limit (length (x .figures)) (length (x .extremes)) (length (x .pos)) (length (x .neg))
 
 abbrev pub lent : ℕ → ℕ → Held → Bool
-lent size limit h = enough limit (h .kept .stores) && slotsLent size limit (h .slots)
+lent size limit h = enough limit (h .kept .stores) && slotsLent size limit (h .cells)
 
--- the series took the value, or refused it with its number; then the directory is written
 abbrev pub wrote : Held → List ℕ → Target → Slots.Outcome → Outcome
-wrote h row target o =
-    unlessRefused h (o .number)
-    (record { answer = Done; held = record { kept = committed (h .kept .dir) (h .kept .stores) row target; slots = o .slots } })
+wrote h row target o = wroteIn h row target (o .number) (o .slots)
 
 -- the directory refused with its number, or named a slot
 unfoldable pub entered : ℕ → ℕ → Held → Float → List ℕ → Seating → Outcome
 entered size top h v row a =
-    unlessRefused h (a .no) (wrote h row (a .target) (recordedAt size top (a .slot) (a .updated) (h .slots) v))
+    unlessRefused h (a .no) (wrote h row (a .target) (recordedAt size top (a .slot) (a .updated) (h .cells) v))
 
 -- a slot that is named is there, and so is the place for what the directory is to write
 pub record Seated (size : ℕ) (h : Held) (a : Seating) : Type 0 where
-  pub figures : a .slot < length (h .slots .figures)
-  pub extremes : a .slot < length (h .slots .extremes)
-  pub pos : a .slot * size + size ≤ length (h .slots .pos)
-  pub neg : a .slot * size + size ≤ length (h .slots .neg)
+  pub figures : a .slot < length (h .cells .figures)
+  pub extremes : a .slot < length (h .cells .extremes)
+  pub pos : a .slot * size + size ≤ length (h .cells .pos)
+  pub neg : a .slot * size + size ≤ length (h .cells .neg)
   pub target : Fits (h .kept .dir) (h .kept .stores) (a .target)
 
 abbrev pub Seatable : ℕ → Held → Seating → Type 0
@@ -93,12 +80,12 @@ measuredBy size top limit h v handle =
 -- Configuring, of "1, 2, 3, 4, 12" those of this kind: 1, 2, 4, 12. The series' stores are left as they are: no entry is updated, so nobody reads them.
 unfoldable pub started : ℕ → ℕ → ℕ → Option (List ℕ) → Stores → Slots → Outcome
 started size top limit filter s x =
-    let none : Held = record { kept = record { dir = fresh; stores = s }; slots = x } in
+    let none : Held = record { kept = record { dir = fresh; stores = s }; cells = x } in
     pick (sizePasses size)
     (pick (leb top finest)
     (pick (accepts limit filter)
     (pick (slotsLent size limit x)
-    (let o = Bindings.started limit filter s in record { answer = o .answer; held = record { kept = o .kept; slots = x } })
+    (let o = Bindings.started limit filter s in record { answer = o .answer; held = record { kept = o .kept; cells = x } })
     (refused 12 none))
     (refused 4 none))
     (refused 2 none))

@@ -101,7 +101,7 @@ pub fn start(
     pos: &[u64],
     neg: &[u64],
 ) -> Reply
-    ensures { λ r. ⌜ record { answer = r .answer; held = record { kept = record { dir = r .dir; stores = record { sets = now (sets .entry); entries = now (entries .exit); order = now (order .entry) } }; slots = record { figures = now (figures .entry); extremes = now (extremes .entry); pos = now (pos .entry); neg = now (neg .entry) } } } ≡ started size top limit (filterOf present (now (filter .entry))) (record { sets = now (sets .entry); entries = now (entries .entry); order = now (order .entry) }) (record { figures = now (figures .entry); extremes = now (extremes .entry); pos = now (pos .entry); neg = now (neg .entry) }) ⌝ }
+    ensures { λ r. ⌜ record { answer = r .answer; held = record { kept = record { dir = r .dir; stores = record { sets = now (sets .entry); entries = now (entries .exit); order = now (order .entry) } }; cells = record { figures = now (figures .entry); extremes = now (extremes .entry); pos = now (pos .entry); neg = now (neg .entry) } } } ≡ started size top limit (filterOf present (now (filter .entry))) (record { sets = now (sets .entry); entries = now (entries .entry); order = now (order .entry) }) (record { figures = now (figures .entry); extremes = now (extremes .entry); pos = now (pos .entry); neg = now (neg .entry) }) ⌝ }
 {
     let d = Directory {
         used: 0,
@@ -146,8 +146,8 @@ fn enter(
     row: [u64; 9],
     seat: Seating,
 ) -> Reply
-    requires { ⌜ Seatable size (record { kept = record { dir = d; stores = record { sets = now sets; entries = now entries; order = now order } }; slots = record { figures = now figures; extremes = now extremes; pos = now pos; neg = now neg } }) seat ⌝ }
-    ensures { λ r. ⌜ record { answer = r .answer; held = record { kept = record { dir = r .dir; stores = record { sets = now (sets .exit); entries = now (entries .exit); order = now (order .exit) } }; slots = record { figures = now (figures .exit); extremes = now (extremes .exit); pos = now (pos .exit); neg = now (neg .exit) } } } ≡ entered size top (record { kept = record { dir = d; stores = record { sets = now (sets .entry); entries = now (entries .entry); order = now (order .entry) } }; slots = record { figures = now (figures .entry); extremes = now (extremes .entry); pos = now (pos .entry); neg = now (neg .entry) } }) v row seat ⌝ }
+    requires { ⌜ Seatable size (record { kept = record { dir = d; stores = record { sets = now sets; entries = now entries; order = now order } }; cells = record { figures = now figures; extremes = now extremes; pos = now pos; neg = now neg } }) seat ⌝ }
+    ensures { λ r. ⌜ record { answer = r .answer; held = record { kept = record { dir = r .dir; stores = record { sets = now (sets .exit); entries = now (entries .exit); order = now (order .exit) } }; cells = record { figures = now (figures .exit); extremes = now (extremes .exit); pos = now (pos .exit); neg = now (neg .exit) } } } ≡ entered size top (record { kept = record { dir = d; stores = record { sets = now (sets .entry); entries = now (entries .entry); order = now (order .entry) } }; cells = record { figures = now (figures .entry); extremes = now (extremes .entry); pos = now (pos .entry); neg = now (neg .entry) } }) v row seat ⌝ }
 {
     if seat.no != 0 {
         return refused(seat.no, d);
@@ -192,7 +192,7 @@ pub fn measure(
     present: bool,
     filter: &[u32],
 ) -> Reply
-    ensures { λ r. ⌜ record { answer = r .answer; held = record { kept = record { dir = r .dir; stores = record { sets = now (sets .exit); entries = now (entries .exit); order = now (order .exit) } }; slots = record { figures = now (figures .exit); extremes = now (extremes .exit); pos = now (pos .exit); neg = now (neg .exit) } } } ≡ measured size top limit (filterOf present (now (filter .entry))) (record { kept = record { dir = d; stores = record { sets = now (sets .entry); entries = now (entries .entry); order = now (order .entry) } }; slots = record { figures = now (figures .entry); extremes = now (extremes .entry); pos = now (pos .entry); neg = now (neg .entry) } }) v (given (now (attrs .entry))) ⌝ }
+    ensures { λ r. ⌜ record { answer = r .answer; held = record { kept = record { dir = r .dir; stores = record { sets = now (sets .exit); entries = now (entries .exit); order = now (order .exit) } }; cells = record { figures = now (figures .exit); extremes = now (extremes .exit); pos = now (pos .exit); neg = now (neg .exit) } } } ≡ measured size top limit (filterOf present (now (filter .entry))) (record { kept = record { dir = d; stores = record { sets = now (sets .entry); entries = now (entries .entry); order = now (order .entry) } }; cells = record { figures = now (figures .entry); extremes = now (extremes .entry); pos = now (pos .entry); neg = now (neg .entry) } }) v (given (now (attrs .entry))) ⌝ }
 {
     let lent = directory::enough(limit, sets.len(), entries.len(), order.len());
     let room = all_hold(
@@ -244,7 +244,7 @@ pub fn measure_by(
     v: f64,
     h: u64,
 ) -> Reply
-    ensures { λ r. ⌜ record { answer = r .answer; held = record { kept = record { dir = r .dir; stores = record { sets = now (sets .exit); entries = now (entries .exit); order = now (order .exit) } }; slots = record { figures = now (figures .exit); extremes = now (extremes .exit); pos = now (pos .exit); neg = now (neg .exit) } } } ≡ measuredBy size top limit (record { kept = record { dir = d; stores = record { sets = now (sets .entry); entries = now (entries .entry); order = now (order .entry) } }; slots = record { figures = now (figures .entry); extremes = now (extremes .entry); pos = now (pos .entry); neg = now (neg .entry) } }) v h ⌝ }
+    ensures { λ r. ⌜ record { answer = r .answer; held = record { kept = record { dir = r .dir; stores = record { sets = now (sets .exit); entries = now (entries .exit); order = now (order .exit) } }; cells = record { figures = now (figures .exit); extremes = now (extremes .exit); pos = now (pos .exit); neg = now (neg .exit) } } } ≡ measuredBy size top limit (record { kept = record { dir = d; stores = record { sets = now (sets .entry); entries = now (entries .entry); order = now (order .entry) } }; cells = record { figures = now (figures .entry); extremes = now (extremes .entry); pos = now (pos .entry); neg = now (neg .entry) } }) v h ⌝ }
 {
     let lent = directory::enough(limit, sets.len(), entries.len(), order.len());
     let room = all_hold(

@@ -15,7 +15,7 @@ abbrev held : tie.Start → Held
 held s =
     record {
       kept = record { dir = s .args .d; stores = record { sets = s .args .sets .now; entries = s .args .entries .now; order = s .args .order .now } };
-      slots = record { figures = s .args .figures .now; extremes = s .args .extremes .now; pos = s .args .pos .now; neg = s .args .neg .now };
+      cells = record { figures = s .args .figures .now; extremes = s .args .extremes .now; pos = s .args .pos .now; neg = s .args .neg .now };
     }
 
 -- the seating is not refused
@@ -44,7 +44,7 @@ refused-requires c κs = search needs
 returns : tie.Need-returns
 returns c = let s = at (c .before .before) in
     let a = s .args in
-    ap (λ (r : Reply). record { answer = r .answer; held = record { kept = record { dir = r .dir; stores = held s .kept .stores }; slots = held s .slots } }) (c .refused .ensures)
+    ap (λ (r : Reply). record { answer = r .answer; held = record { kept = record { dir = r .dir; stores = held s .kept .stores }; cells = held s .cells } }) (c .refused .ensures)
     ∙ sym (entered-away (a .size) (a .top) (held s) (a .v) (a .row) (a .seat) (c .before .if1 .taken))
 
 record-requires : tie.Need-record-requires
@@ -70,7 +70,7 @@ returns-2 c = let t = c .before in
     let r = t .before .before .before .before .before .before .before in
     let s = at (else1 r .before) in
     let a = s .args in
-    ap (λ (q : Reply). record { answer = q .answer; held = record { kept = record { dir = q .dir; stores = held s .kept .stores }; slots = left r .slots } }) (c .refused2 .ensures)
+    ap (λ (q : Reply). record { answer = q .answer; held = record { kept = record { dir = q .dir; stores = held s .kept .stores }; cells = left r .slots } }) (c .refused2 .ensures)
     ∙ entered-refused (a .size) (a .top) (held s) (a .v) (a .row) (a .seat) (else1 r .if1 .left) (left r) (r .«record» .ensures) (t .if2 .taken)
 
 commit-requires : tie.Need-commit-requires

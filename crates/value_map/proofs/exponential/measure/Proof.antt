@@ -29,7 +29,7 @@ abbrev held : tie.Start → Held
 held s =
     record {
       kept = record { dir = s .args .d; stores = record { sets = s .args .sets .now; entries = s .args .entries .now; order = s .args .order .now } };
-      slots = record { figures = s .args .figures .now; extremes = s .args .extremes .now; pos = s .args .pos .now; neg = s .args .neg .now };
+      cells = record { figures = s .args .figures .now; extremes = s .args .extremes .now; pos = s .args .pos .now; neg = s .args .neg .now };
     }
 
 abbrev filter : tie.Start → Option (List ℕ)
@@ -50,7 +50,7 @@ number b =
     let h = g .before .before in
     b .barred .ensures
     ∙ ap (λ (r : Bool). barredBy r (a .v) (length (a .attrs .now)) (g .configured .result))
-    (h .all-hold .ensures ∙ ap (λ (l : Bool). l && slotsLent (a .size) (a .limit) (held s .slots)) (h .before .enough .ensures))
+    (h .all-hold .ensures ∙ ap (λ (l : Bool). l && slotsLent (a .size) (a .limit) (held s .cells)) (h .before .enough .ensures))
     ∙ ap (barredBy (room s) (a .v) (length (a .attrs .now)))
     (g .configured .ensures ∙ ap (λ (o : Bool). passes (exponential (a .size) (a .top)) && o) (g .before .accepted .ensures))
     ∙ ap (λ (n : ℕ). barredBy (room s) (a .v) n (accepted s)) (sym (length-map (a .attrs .now) attribute))
@@ -64,7 +64,7 @@ on e =
 enoughly : (e : tie.Else1) → Suffice (at (e .before) .args .limit) (held (at (e .before)) .kept .stores)
 enoughly e =
     let s = at (e .before) in
-    suffices (s .args .limit) (held s .kept .stores) (and-true (enough (s .args .limit) (held s .kept .stores)) (slotsLent (s .args .size) (s .args .limit) (held s .slots)) (on e .room-is) .0)
+    suffices (s .args .limit) (held s .kept .stores) (and-true (enough (s .args .limit) (held s .kept .stores)) (slotsLent (s .args .size) (s .args .limit) (held s .cells)) (on e .room-is) .0)
 
 abbrev else1 : tie.After-seat → tie.Else1
 else1 t = t .before .before .before .before .before .before
@@ -78,7 +78,7 @@ can-sit t =
     let m = within (a .limit) (filter s) (and-true (passes (exponential (a .size) (a .top))) (accepts (a .limit) (filter s)) (on e .ok-is) .1) in
     subst (Seatable (a .size) (held s)) (sym (t .seat .ensures))
     (seatable (a .size) (a .limit) (held s) _
-    (roomy (a .size) (a .limit) (held s .slots) (and-true (enough (a .limit) (held s .kept .stores)) (slotsLent (a .size) (a .limit) (held s .slots)) (on e .room-is) .1))
+    (roomy (a .size) (a .limit) (held s .cells) (and-true (enough (a .limit) (held s .kept .stores)) (slotsLent (a .size) (a .limit) (held s .cells)) (on e .room-is) .1))
     (seat-safe (a .limit) (a .d) (held s .kept .stores) _ (w .sets) (w .entries) (w .order) (omega (arith, m))))
 
 enough-requires : tie.Need-enough-requires
@@ -103,7 +103,7 @@ returns : tie.Need-returns
 returns c = let b = c .before .before in
     let s = at b in
     let a = s .args in
-    ap (λ (r : Reply). record { answer = r .answer; held = record { kept = record { dir = r .dir; stores = held s .kept .stores }; slots = held s .slots } }) (c .refused .ensures)
+    ap (λ (r : Reply). record { answer = r .answer; held = record { kept = record { dir = r .dir; stores = held s .kept .stores }; cells = held s .cells } }) (c .refused .ensures)
     ∙ sym (measured-no (a .size) (a .top) (a .limit) (held s) (a .v) (b .barred .result) (filter s) (given (a .attrs .now)) (number b) (c .before .if1 .taken))
 
 sorted-requires : tie.Need-sorted-requires

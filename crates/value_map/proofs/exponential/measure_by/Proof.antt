@@ -24,7 +24,7 @@ abbrev held : tie.Start → Held
 held s =
     record {
       kept = record { dir = s .args .d; stores = record { sets = s .args .sets .now; entries = s .args .entries .now; order = s .args .order .now } };
-      slots = record { figures = s .args .figures .now; extremes = s .args .extremes .now; pos = s .args .pos .now; neg = s .args .neg .now };
+      cells = record { figures = s .args .figures .now; extremes = s .args .extremes .now; pos = s .args .pos .now; neg = s .args .neg .now };
     }
 
 abbrev accepted : tie.Start → Bool
@@ -42,7 +42,7 @@ number b =
     let h = g .before in
     b .barred .ensures
     ∙ ap (λ (r : Bool). barredBy r (a .v) 0 (g .configured .result))
-    (h .all-hold .ensures ∙ ap (λ (l : Bool). l && slotsLent (a .size) (a .limit) (held s .slots)) (h .before .enough .ensures))
+    (h .all-hold .ensures ∙ ap (λ (l : Bool). l && slotsLent (a .size) (a .limit) (held s .cells)) (h .before .enough .ensures))
     ∙ ap (barredBy (room s) (a .v) 0) (g .configured .ensures)
 
 -- what is known where nothing is refused first
@@ -52,7 +52,7 @@ on e = let s = at (e .before) in clear (room s) (s .args .v) 0 (accepted s) (sym
 enoughly : (e : tie.Else1) → Suffice (at (e .before) .args .limit) (held (at (e .before)) .kept .stores)
 enoughly e =
     let s = at (e .before) in
-    suffices (s .args .limit) (held s .kept .stores) (and-true (enough (s .args .limit) (held s .kept .stores)) (slotsLent (s .args .size) (s .args .limit) (held s .slots)) (on e .room-is) .0)
+    suffices (s .args .limit) (held s .kept .stores) (and-true (enough (s .args .limit) (held s .kept .stores)) (slotsLent (s .args .size) (s .args .limit) (held s .cells)) (on e .room-is) .0)
 
 abbrev else1 : tie.After-seat-by → tie.Else1
 else1 t = t .before .before .before .before
@@ -64,7 +64,7 @@ can-sit t =
     let a = s .args in
     subst (Seatable (a .size) (held s)) (sym (t .seat-by .ensures))
     (seatable (a .size) (a .limit) (held s) _
-    (roomy (a .size) (a .limit) (held s .slots) (and-true (enough (a .limit) (held s .kept .stores)) (slotsLent (a .size) (a .limit) (held s .slots)) (on e .room-is) .1))
+    (roomy (a .size) (a .limit) (held s .cells) (and-true (enough (a .limit) (held s .kept .stores)) (slotsLent (a .size) (a .limit) (held s .cells)) (on e .room-is) .1))
     (by-safe (a .limit) (a .d) (held s .kept .stores) (a .h) (enoughly e .entries)))
 
 enough-requires : tie.Need-enough-requires
@@ -86,7 +86,7 @@ returns : tie.Need-returns
 returns c = let b = c .before .before in
     let s = at b in
     let a = s .args in
-    ap (λ (r : Reply). record { answer = r .answer; held = record { kept = record { dir = r .dir; stores = held s .kept .stores }; slots = held s .slots } }) (c .refused .ensures)
+    ap (λ (r : Reply). record { answer = r .answer; held = record { kept = record { dir = r .dir; stores = held s .kept .stores }; cells = held s .cells } }) (c .refused .ensures)
     ∙ sym (by-no (a .size) (a .top) (a .limit) (held s) (a .v) (b .barred .result) (a .h) (number b) (c .before .if1 .taken))
 
 seat-by-requires : tie.Need-seat-by-requires

@@ -31,7 +31,7 @@ filter s = filterOf (s .args .present) (s .args .filter .now)
 
 -- a reply that leaves the stores
 abbrev said : tie.Start → Reply → Outcome
-said s r = record { answer = r .answer; held = record { kept = record { dir = r .dir; stores = stores s }; slots = slots s } }
+said s r = record { answer = r .answer; held = record { kept = record { dir = r .dir; stores = stores s }; cells = slots s } }
 
 sized : (e : tie.Else1) → sizePasses (at (e .before) .args .size) ≡ true
 sized e = sym (e .before .size-passes .ensures) ∙ not-false (e .before .size-passes .result) (e .if1 .left)

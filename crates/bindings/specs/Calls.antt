@@ -9,7 +9,7 @@ use Rattle.tally.specs.Sets.{Set, canonical}
 use Rattle.tally.specs.Kind as Map
 use Rattle.sets.specs.Rows.{span, rowOf}
 use Rattle.sets.specs.Sorted.{mostAttributes}
-use Rattle.directory.specs.Calls.{Kept, overRow, located, admitted, boundTo, scan, mostSets, accepts, enough}
+use Rattle.directory.specs.Calls.{Kept, kept, overRow, located, admitted, boundTo, scan, mostSets, accepts, enough}
 use Rattle.directory.specs.View.{Stores, birthAt, agreesb}
 use Rattle.directory.specs.declared.Directory.{Directory}
 use Rattle.directory.specs.declared.Found.{Found}
@@ -18,11 +18,16 @@ use Rattle.directory.specs.declared.Target.{Target}
 use Rattle.directory.specs.declared.Target.the-variants.{Disagrees, Old, New, Over}
 use Rattle.bindings.specs.declared.Answer.{Answer}
 use Rattle.bindings.specs.declared.Answer.the-variants.{Refused, Done, Handle}
+use Rattle.bindings.specs.declared.Reply.{Reply}
 
 -- a call's answer, with the directory's state and stores after it
 pub record Outcome : Type 0 where
   pub answer : Answer
   pub kept : Kept
+
+-- as a contract writes it: what a call replied, with the stores that it left
+abbrev pub gave : Reply → Stores → Outcome
+gave r s = record { answer = r .answer; kept = kept (r .dir) s }
 
 -- document 01's number of an answer
 abbrev pub number : Answer → ℕ

@@ -3,8 +3,9 @@ ghost use mathlib.Core.Path.{_≡_};
 ghost use Prim.Native.Nat.{ℕ, _+_, _^_, _<_, _≤_};
 ghost use lib.ListN.{length};
 ghost use Rattle.sets.specs.Rows.{size};
-ghost use Rattle.bindings.specs.Calls.{releasedIn, heldBound, bornBound, boundIn};
+ghost use Rattle.bindings.specs.Calls.{gave, releasedIn, heldBound, bornBound, boundIn};
 ghost use mathlib.Core.List.{List};
+ghost use Rattle.directory.specs.View.{stores};
 
 // Takes one binding off.
 pub fn release_in(
@@ -16,7 +17,8 @@ pub fn release_in(
     h: u64,
 ) -> crate::Reply
     requires { ⌜ (limit + 2 ≤ length (now sets)) × (limit + 2 ≤ length (now entries)) × (limit + 2 ≤ length (now order)) ⌝ }
-    ensures { λ r. ⌜ record { answer = r .answer; kept = record { dir = r .dir; stores = record { sets = now (sets .entry); entries = now (entries .exit); order = now (order .entry) } } } ≡ releasedIn limit d (record { sets = now (sets .entry); entries = now (entries .entry); order = now (order .entry) }) h ⌝ }
+    ensures { λ r. ⌜ gave r (stores (sets .entry) (entries .exit) (order .entry))
+        ≡ releasedIn limit d (stores (sets .entry) (entries .entry) (order .entry)) h ⌝ }
 {
     if !directory::check::agrees(limit, d, sets, entries, order) {
         return crate::Reply {
@@ -44,7 +46,8 @@ pub fn release_in(
 // One binding more on a slot that is held. The other stores play no part.
 fn bind_held(d: directory::Directory, entries: &mut [[u64; 3]], x: usize) -> crate::Reply
     requires { ⌜ x < length (now entries) ⌝ }
-    ensures { λ r. ⌜ ((sets : List (List ℕ)) → ((order : List ℕ) → record { answer = r .answer; kept = record { dir = r .dir; stores = record { sets = sets; entries = now (entries .exit); order = order } } } ≡ heldBound d (record { sets = sets; entries = now (entries .entry); order = order }) x)) ⌝ }
+    ensures { λ r. ⌜ ((sets : List (List ℕ)) → ((order : List ℕ) → gave r (record { sets = sets; entries = now (entries .exit); order = order })
+        ≡ heldBound d (record { sets = sets; entries = now (entries .entry); order = order }) x)) ⌝ }
 {
     let n = entries[x][1];
     if n >= 18446744073709551615 {
@@ -71,8 +74,10 @@ fn bind_new(
     rank: usize,
     more: u64,
 ) -> crate::Reply
-    requires { ⌜ (d .used + 1 < length (now sets)) × (d .used + 1 < length (now entries)) × (d .used < length (now order)) × (rank ≤ d .used) × (d .used + 1 < 2 ^ 32) × (d .count + more < 2 ^ 64) ⌝ }
-    ensures { λ r. ⌜ record { answer = r .answer; kept = record { dir = r .dir; stores = record { sets = now (sets .exit); entries = now (entries .exit); order = now (order .exit) } } } ≡ bornBound d (record { sets = now (sets .entry); entries = now (entries .entry); order = now (order .entry) }) row rank more ⌝ }
+    requires { ⌜ (d .used + 1 < length (now sets)) × (d .used + 1 < length (now entries)) × (d .used < length (now order))
+        × (rank ≤ d .used) × (d .used + 1 < 2 ^ 32) × (d .count + more < 2 ^ 64) ⌝ }
+    ensures { λ r. ⌜ gave r (stores (sets .exit) (entries .exit) (order .exit))
+        ≡ bornBound d (stores (sets .entry) (entries .entry) (order .entry)) row rank more ⌝ }
 {
     if d.last >= 18446744073709551615 {
         return crate::Reply {
@@ -96,8 +101,10 @@ pub fn bind_in(
     order: &mut [u32],
     row: [u64; 9],
 ) -> crate::Reply
-    requires { ⌜ (limit + 2 ≤ length (now sets)) × (limit + 2 ≤ length (now entries)) × (limit + 2 ≤ length (now order)) × (size row ≤ 8) × (limit + 2 < 2 ^ 32) ⌝ }
-    ensures { λ r. ⌜ record { answer = r .answer; kept = record { dir = r .dir; stores = record { sets = now (sets .exit); entries = now (entries .exit); order = now (order .exit) } } } ≡ boundIn limit d (record { sets = now (sets .entry); entries = now (entries .entry); order = now (order .entry) }) row ⌝ }
+    requires { ⌜ (limit + 2 ≤ length (now sets)) × (limit + 2 ≤ length (now entries)) × (limit + 2 ≤ length (now order))
+        × (size row ≤ 8) × (limit + 2 < 2 ^ 32) ⌝ }
+    ensures { λ r. ⌜ gave r (stores (sets .exit) (entries .exit) (order .exit))
+        ≡ boundIn limit d (stores (sets .entry) (entries .entry) (order .entry)) row ⌝ }
 {
     let t = directory::find::locate(limit, d, sets, entries, order, &row);
     match t {

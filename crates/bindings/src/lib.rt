@@ -3,7 +3,8 @@ mod calls;
 
 ghost use mathlib.Core.Path.{_≡_};
 ghost use Rattle.sets.specs.Sorted.{given, filterOf};
-ghost use Rattle.bindings.specs.Calls.{started, bound, released};
+ghost use Rattle.bindings.specs.Calls.{gave, started, bound, released};
+ghost use Rattle.directory.specs.View.{stores};
 use directory::Directory;
 
 // A refusal's number, or success.
@@ -27,7 +28,8 @@ pub fn start(
     entries: &mut [[u64; 3]],
     order: &[u32],
 ) -> Reply
-    ensures { λ r. ⌜ record { answer = r .answer; kept = record { dir = r .dir; stores = record { sets = now (sets .entry); entries = now (entries .exit); order = now (order .entry) } } } ≡ started limit (filterOf present (now (filter .entry))) (record { sets = now (sets .entry); entries = now (entries .entry); order = now (order .entry) }) ⌝ }
+    ensures { λ r. ⌜ gave r (stores (sets .entry) (entries .exit) (order .entry))
+        ≡ started limit (filterOf present (now (filter .entry))) (stores (sets .entry) (entries .entry) (order .entry)) ⌝ }
 {
     let dir = Directory {
         used: 0,
@@ -64,7 +66,8 @@ pub fn bind(
     present: bool,
     filter: &[u32],
 ) -> Reply
-    ensures { λ r. ⌜ record { answer = r .answer; kept = record { dir = r .dir; stores = record { sets = now (sets .exit); entries = now (entries .exit); order = now (order .exit) } } } ≡ bound limit (filterOf present (now (filter .entry))) d (record { sets = now (sets .entry); entries = now (entries .entry); order = now (order .entry) }) (given (now (attrs .entry))) ⌝ }
+    ensures { λ r. ⌜ gave r (stores (sets .exit) (entries .exit) (order .exit))
+        ≡ bound limit (filterOf present (now (filter .entry))) d (stores (sets .entry) (entries .entry) (order .entry)) (given (now (attrs .entry))) ⌝ }
 {
     if !directory::enough(limit, sets.len(), entries.len(), order.len()) {
         return Reply {
@@ -97,7 +100,8 @@ pub fn release(
     order: &[u32],
     h: u64,
 ) -> Reply
-    ensures { λ r. ⌜ record { answer = r .answer; kept = record { dir = r .dir; stores = record { sets = now (sets .entry); entries = now (entries .exit); order = now (order .entry) } } } ≡ released limit d (record { sets = now (sets .entry); entries = now (entries .entry); order = now (order .entry) }) h ⌝ }
+    ensures { λ r. ⌜ gave r (stores (sets .entry) (entries .exit) (order .entry))
+        ≡ released limit d (stores (sets .entry) (entries .entry) (order .entry)) h ⌝ }
 {
     if !directory::enough(limit, sets.len(), entries.len(), order.len()) {
         return Reply {

@@ -4,6 +4,7 @@ use mathlib.Core.Bool.{Bool}
 use mathlib.Core.List.{List, [], _∷_}
 use lib.ListN.{length, getD, set, replicate}
 use lib.Ieee.{Float, nan}
+use denote.Ref.{RefT, now}
 use Rattle.laws.specs.Pick.{pick}
 use Rattle.parts.specs.Parts.{partAt, putAt}
 use Rattle.rows.specs.Rows.{over}
@@ -19,6 +20,10 @@ pub record Stores : Type 0 where
   pub totals : List ℕ
   pub extremes : List (List Float)
   pub counts : List ℕ
+
+-- as a contract writes them: the three lent slices, at entry or at exit
+abbrev pub cells : RefT (List ℕ) → RefT (List (List Float)) → RefT (List ℕ) → Stores
+cells totals extremes counts = record { totals = now totals; extremes = now extremes; counts = now counts }
 
 -- THE LAYOUT: with n buckets, slot x has the counts from x * n up to x * n + n
 abbrev pub rowAt : List Float → List ℕ → ℕ → List ℕ
@@ -57,6 +62,9 @@ entering bounds updated h xs v =
 pub record Recording : Type 0 where
   pub no : ℕ
   pub stores : Stores
+
+abbrev pub after : ℕ → Stores → Recording
+after n s = record { no = n; stores = s }
 
 -- "Every refusal changes nothing"; else the slot's cells, and no others
 abbrev pub written : List Float → ℕ → Stores → Answer → List ℕ → Recording

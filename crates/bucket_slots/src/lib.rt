@@ -6,7 +6,7 @@ ghost use lib.ListN.{length};
 ghost use lib.Ieee.Scale.{finite};
 ghost use Rattle.points.specs.Explicit.{bucketCount};
 ghost use Rattle.buckets.specs.Series.{outcome};
-ghost use Rattle.bucket_slots.specs.Slots.{begun, entering, recordedAt};
+ghost use Rattle.bucket_slots.specs.Slots.{begun, entering, cells, after, recordedAt};
 use buckets::Answer;
 use buckets::Head;
 
@@ -46,8 +46,10 @@ pub fn record(
     counts: &mut [u64],
     v: f64,
 ) -> u8
-    requires { ⌜ (x < length (now totals)) × (x < length (now extremes)) × (x * bucketCount (now bounds) + bucketCount (now bounds) ≤ length (now counts)) × (finite v ≡ true) ⌝ }
-    ensures { λ r. ⌜ record { no = r; stores = record { totals = now (totals .exit); extremes = now (extremes .exit); counts = now (counts .exit) } } ≡ recordedAt (now (bounds .entry)) x updated (record { totals = now (totals .entry); extremes = now (extremes .entry); counts = now (counts .entry) }) v ⌝ }
+    requires { ⌜ (x < length (now totals)) × (x < length (now extremes))
+        × (x * bucketCount (now bounds) + bucketCount (now bounds) ≤ length (now counts)) × (finite v ≡ true) ⌝ }
+    ensures { λ r. ⌜ after r (cells (totals .exit) (extremes .exit) (counts .exit))
+        ≡ recordedAt (now (bounds .entry)) x updated (cells (totals .entry) (extremes .entry) (counts .entry)) v ⌝ }
 {
     let n = buckets::bucket_count(bounds);
     let a = x * n;

@@ -40,6 +40,9 @@ pub record Kept : Type 0 where
   pub dir : Directory
   pub stores : Stores
 
+abbrev pub kept : Directory → Stores → Kept
+kept d s = record { dir = d; stores = s }
+
 -- a new entry in the next slot, with so many bindings, and its place in the order
 unfoldable pub admitted : Directory → Stores → List ℕ → ℕ → ℕ → ℕ → Kept
 admitted d s row rank more bound =

@@ -5,6 +5,7 @@ use mathlib.Core.List.{List, [], _∷_, map}
 use mathlib.Core.Option.{none, some}
 use lib.Dec.{ltb, leb, eqb}
 use lib.ListN.{getD, set}
+use denote.Ref.{RefT, now}
 use Rattle.tally.specs.Sets.{Set, three, cmp, same}
 use Rattle.tally.specs.Kind.{Kind}
 use Rattle.tally.specs.Map.{Entry, Map, plains}
@@ -20,6 +21,10 @@ pub record Stores : Type 0 where
   pub sets : List (List ℕ)
   pub entries : List (List ℕ)
   pub order : List ℕ
+
+-- as a contract writes them: the three lent slices, at entry or at exit
+abbrev pub stores : RefT (List (List ℕ)) → RefT (List (List ℕ)) → RefT (List ℕ) → Stores
+stores sets entries order = record { sets = now sets; entries = now entries; order = now order }
 
 -- THE LAYOUT, our meaning of a set's "own place in the stores". Slot 0 is the empty set's, with the birth number 0; its set cell is
 -- never read, nor its birth cell but to write it back. The named slots, from 1 on, stand in the order of birth; `order` has their numbers ascending by set.

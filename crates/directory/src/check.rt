@@ -2,7 +2,7 @@
 ghost use mathlib.Core.Path.{_≡_};
 ghost use Prim.Native.Nat.{_+_, _<_, _≤_};
 ghost use lib.ListN.{length};
-ghost use Rattle.directory.specs.View.{bornb, placed, countsb, agreesb};
+ghost use Rattle.directory.specs.View.{stores, bornb, placed, countsb, agreesb};
 
 // Whether birth numbers rise along the slots, among those spent.
 fn births(used: usize, last: u64, entries: &[[u64; 3]]) -> bool
@@ -80,7 +80,7 @@ pub fn agrees(
     order: &[u32],
 ) -> bool
     requires { ⌜ (limit + 2 ≤ length (now sets)) × (limit + 2 ≤ length (now entries)) × (limit + 2 ≤ length (now order)) ⌝ }
-    ensures { λ r. ⌜ r ≡ agreesb limit d (record { sets = now (sets .entry); entries = now (entries .entry); order = now (order .entry) }) ⌝ }
+    ensures { λ r. ⌜ r ≡ agreesb limit d (stores (sets .entry) (entries .entry) (order .entry)) ⌝ }
 {
     let used = d.used;
     if used > limit as usize + 1 {

@@ -8,11 +8,15 @@ ghost use lib.ListN.{length, getD};
 ghost use Rattle.tally.specs.Sets.{cmp};
 ghost use Rattle.sets.specs.Rows.{span, size, setOf};
 ghost use Rattle.directory.specs.Calls.{located, scan};
-ghost use Rattle.directory.specs.View.{sought};
+ghost use Rattle.directory.specs.View.{stores, sought};
 
 // Where a set stands in a directory whose places are right, by halving.
 fn find(used: usize, sets: &[[u64; 9]], order: &[u32], wanted: &[u64; 9]) -> crate::Found
-    requires { ⌜ (used < length (now sets)) × (used ≤ length (now order)) × (size (now wanted) ≤ 8) × ((k : ℕ) → k < used → (1 ≤ getD (now order) k 0) × (getD (now order) k 0 ≤ used)) × ((x : ℕ) → 1 ≤ x → x ≤ used → size (getD (now sets) x []) ≤ 8) × ((k : ℕ) → suc k < used → cmp (setOf (getD (now sets) (getD (now order) k 0) [])) (setOf (getD (now sets) (getD (now order) (suc k) 0) [])) ≡ Ordering·lt) ⌝ }
+    requires { ⌜ (used < length (now sets)) × (used ≤ length (now order)) × (size (now wanted) ≤ 8)
+        × ((k : ℕ) → k < used → (1 ≤ getD (now order) k 0) × (getD (now order) k 0 ≤ used))
+        × ((x : ℕ) → 1 ≤ x → x ≤ used → size (getD (now sets) x []) ≤ 8)
+        × ((k : ℕ) → suc k < used → cmp (setOf (getD (now sets) (getD (now order) k 0) []))
+        (setOf (getD (now sets) (getD (now order) (suc k) 0) [])) ≡ Ordering·lt) ⌝ }
     ensures { λ r. ⌜ r ≡ sought (setOf (now (wanted .entry))) used (now (sets .entry)) (now (order .entry)) ⌝ }
 {
     if wanted[8] == 0 {
@@ -48,7 +52,8 @@ fn names(birth: u64, bindings: u64, h: u64) -> bool
 
 // The slot that a handle names, if it has bindings.
 pub fn by_handle(used: usize, entries: &[[u64; 3]], order: &[u32], h: u64) -> crate::Found
-    requires { ⌜ (used < length (now entries)) × (used ≤ length (now order)) × ((k : ℕ) → k < used → (1 ≤ getD (now order) k 0) × (getD (now order) k 0 ≤ used)) ⌝ }
+    requires { ⌜ (used < length (now entries)) × (used ≤ length (now order))
+        × ((k : ℕ) → k < used → (1 ≤ getD (now order) k 0) × (getD (now order) k 0 ≤ used)) ⌝ }
     ensures { λ r. ⌜ r ≡ scan h (now (entries .entry)) (0 ∷ span (now (order .entry)) 0 used) ⌝ }
 {
     if names(0, entries[0][1], h) {
@@ -75,7 +80,7 @@ pub fn locate(
     row: &[u64; 9],
 ) -> crate::Target
     requires { ⌜ (limit + 2 ≤ length (now sets)) × (limit + 2 ≤ length (now entries)) × (limit + 2 ≤ length (now order)) × (size (now row) ≤ 8) ⌝ }
-    ensures { λ r. ⌜ r ≡ located limit d (record { sets = now (sets .entry); entries = now (entries .entry); order = now (order .entry) }) (now (row .entry)) ⌝ }
+    ensures { λ r. ⌜ r ≡ located limit d (stores (sets .entry) (entries .entry) (order .entry)) (now (row .entry)) ⌝ }
 {
     if !crate::check::agrees(limit, d, sets, entries, order) {
         return crate::Target::Disagrees;

@@ -3,8 +3,8 @@ ghost use mathlib.Core.Path.{_≡_};
 ghost use Prim.Native.Nat.{_+_, _^_, _<_, _≤_};
 ghost use lib.ListN.{length};
 ghost use Rattle.sets.specs.Inserted.{inserted};
-ghost use Rattle.directory.specs.Calls.{admitted, boundTo};
-ghost use Rattle.directory.specs.View.{birthAt};
+ghost use Rattle.directory.specs.Calls.{kept, admitted, boundTo};
+ghost use Rattle.directory.specs.View.{stores, birthAt};
 
 // Moves the places from `at` up and puts the slot there.
 fn insert(order: &mut [u32], used: usize, at: usize, slot: u32)
@@ -30,8 +30,10 @@ pub fn admit(
     more: u64,
     bound: u64,
 ) -> crate::Directory
-    requires { ⌜ (d .used + 1 < length (now sets)) × (d .used + 1 < length (now entries)) × (d .used < length (now order)) × (rank ≤ d .used) × (d .used + 1 < 2 ^ 32) × (d .last + 1 < 2 ^ 64) × (d .count + more < 2 ^ 64) ⌝ }
-    ensures { λ r. ⌜ record { dir = r; stores = record { sets = now (sets .exit); entries = now (entries .exit); order = now (order .exit) } } ≡ admitted d (record { sets = now (sets .entry); entries = now (entries .entry); order = now (order .entry) }) row rank more bound ⌝ }
+    requires { ⌜ (d .used + 1 < length (now sets)) × (d .used + 1 < length (now entries)) × (d .used < length (now order))
+        × (rank ≤ d .used) × (d .used + 1 < 2 ^ 32) × (d .last + 1 < 2 ^ 64) × (d .count + more < 2 ^ 64) ⌝ }
+    ensures { λ r. ⌜ kept r (stores (sets .exit) (entries .exit) (order .exit))
+        ≡ admitted d (stores (sets .entry) (entries .entry) (order .entry)) row rank more bound ⌝ }
 {
     let used = d.used;
     let slot = used + 1;

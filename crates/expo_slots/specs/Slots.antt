@@ -1,10 +1,11 @@
 -- A series of the exponential kind in one slot of the map's stores, and one value recorded into it. Assumes nothing.
-use Prim.Native.Nat.{ℕ}
+use Prim.Native.Nat.{ℕ, _+_, _*_, _≤_, _<_}
 use mathlib.Core.Bool.{Bool, true}
 use mathlib.Core.List.{List, [], _∷_}
 use lib.Dec.{leb}
-use lib.ListN.{getD, set}
+use lib.ListN.{length, getD, set}
 use lib.Ieee.{Float, nan}
+use denote.Ref.{RefT, now}
 use Rattle.laws.specs.Pick.{pick, _and_}
 use Rattle.parts.specs.Parts.{partAt, putAt}
 use Rattle.series.specs.declared.Counts.{Counts}
@@ -22,6 +23,17 @@ pub record Slots : Type 0 where
   pub extremes : List (List Float)
   pub pos : List ℕ
   pub neg : List ℕ
+
+-- as a contract writes them: the four lent slices, at entry or at exit
+abbrev pub slots : RefT (List (List ℕ)) → RefT (List (List Float)) → RefT (List ℕ) → RefT (List ℕ) → Slots
+slots figures extremes pos neg = record { figures = now figures; extremes = now extremes; pos = now pos; neg = now neg }
+
+-- slot x lies in the stores
+pub record Room (size : ℕ) (s : Slots) (x : ℕ) : Type 0 where
+  pub figures : x < length (s .figures)
+  pub extremes : x < length (s .extremes)
+  pub pos : x * size + size ≤ length (s .pos)
+  pub neg : x * size + size ≤ length (s .neg)
 
 -- ---- a head as it lies in a slot
 
@@ -73,8 +85,11 @@ pub record Outcome : Type 0 where
   pub number : ℕ
   pub slots : Slots
 
+abbrev pub outcome : ℕ → Slots → Outcome
+outcome n s = record { number = n; slots = s }
+
 abbrev pub refused : ℕ → Slots → Outcome
-refused n s = record { number = n; slots = s }
+refused n s = outcome n s
 
 -- what the series' call leaves, laid into the slot
 unfoldable pub laid : ℕ → ℕ → Slots → S.Outcome → Outcome

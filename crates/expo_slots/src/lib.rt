@@ -3,7 +3,7 @@ ghost use mathlib.Core.Path.{_≡_};
 ghost use mathlib.Core.Bool.{true};
 ghost use Prim.Native.Nat.{_+_, _*_, _<_, _≤_};
 ghost use lib.ListN.{length};
-ghost use Rattle.expo_slots.specs.Slots.{narrow, readable, headIn, headOf, wordsOf, numberOf, figuresAfter, extremesAfter, recordedAt};
+ghost use Rattle.expo_slots.specs.Slots.{narrow, readable, headIn, headOf, wordsOf, numberOf, figuresAfter, extremesAfter, slots, outcome, recordedAt};
 use rows::Row;
 use series::Answer;
 use series::Counts;
@@ -121,7 +121,8 @@ pub fn record(
 ) -> u8
     requires { ⌜ (x < length (now figures)) × (x < length (now extremes)) ⌝ }
     requires { ⌜ (x * size + size ≤ length (now pos)) × (x * size + size ≤ length (now neg)) ⌝ }
-    ensures { λ r. ⌜ record { number = r; slots = record { figures = now (figures .exit); extremes = now (extremes .exit); pos = now (pos .exit); neg = now (neg .exit) } } ≡ recordedAt size top x updated (record { figures = now (figures .entry); extremes = now (extremes .entry); pos = now (pos .entry); neg = now (neg .entry) }) v ⌝ }
+    ensures { λ r. ⌜ outcome r (slots (figures .exit) (extremes .exit) (pos .exit) (neg .exit))
+        ≡ recordedAt size top x updated (slots (figures .entry) (extremes .entry) (pos .entry) (neg .entry)) v ⌝ }
 {
     let f = figures[x];
     if !can_read(updated, f) {

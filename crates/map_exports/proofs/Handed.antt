@@ -5,17 +5,13 @@ use mathlib.Core.List.{List}
 use lib.ListN.{set}
 use Rattle.bindings.specs.Calls.{number}
 use Rattle.bindings.specs.declared.Reply.{Reply}
-use Rattle.directory.specs.declared.Directory.{Directory}
 use Rattle.directory.specs.View.{Stores}
 use Rattle.expo_slots.specs.Slots.{Slots}
-use Rattle.value_map.specs.ExponentialCalls.{Held, Outcome}
+use Rattle.value_map.specs.Calls.{Outcome, gave}
 use Rattle.map_exports.specs.Words.{Handed, wordsOf, handedOut}
 
-abbrev pub with : Stores → Slots → Directory → Held
-with s x d = record { kept = record { dir = d; stores = s }; cells = x }
-
-pub handed : (state : List (List ℕ)) (s : Stores) (x : Slots) (r : Reply) (o : Outcome) (n : ℕ) (w : List ℕ)
-    → record { answer = r .answer; held = with s x (r .dir) } ≡ o → n ≡ number (r .answer) → w ≡ wordsOf (r .dir)
+pub handed : (state : List (List ℕ)) (s : Stores) (x : Slots) (r : Reply) (o : Outcome Slots) (n : ℕ) (w : List ℕ)
+    → gave r s x ≡ o → n ≡ number (r .answer) → w ≡ wordsOf (r .dir)
     → record { number = n; state = set state 0 w; stores = s; cells = x } ≡ handedOut state o
 handed state s x r o n w e p q =
     let f : ℕ → List ℕ → Handed = λ m l. record { number = m; state = set state 0 l; stores = s; cells = x } in

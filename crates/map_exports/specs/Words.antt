@@ -2,11 +2,12 @@
 use Prim.Native.Nat.{ℕ}
 use mathlib.Core.List.{List, [], _∷_}
 use lib.ListN.{getD, set}
+use denote.Ref.{RefT, now}
 use Rattle.bindings.specs.Calls.{number}
 use Rattle.directory.specs.declared.Directory.{Directory}
 use Rattle.directory.specs.View.{Stores}
 use Rattle.expo_slots.specs.Slots.{Slots}
-use Rattle.value_map.specs.ExponentialCalls.{Outcome}
+use Rattle.value_map.specs.Calls.{Outcome}
 
 -- the directory's state as three words: slots used, the map's count, the last birth number spent
 abbrev pub stateOf : List ℕ → Directory
@@ -22,7 +23,11 @@ pub record Handed : Type 0 where
   pub stores : Stores
   pub cells : Slots
 
-abbrev pub handedOut : List (List ℕ) → Outcome → Handed
+-- as a contract writes it
+abbrev pub handed : ℕ → RefT (List (List ℕ)) → Stores → Slots → Handed
+handed n state s x = record { number = n; state = now state; stores = s; cells = x }
+
+abbrev pub handedOut : List (List ℕ) → Outcome Slots → Handed
 handedOut state o =
     record {
       number = number (o .answer);

@@ -5,8 +5,11 @@ ghost use mathlib.Core.Option.{none};
 ghost use lib.ListN.{getD};
 ghost use Rattle.sets.specs.Sorted.{given};
 ghost use Rattle.bindings.specs.Calls.{number};
-ghost use Rattle.value_map.specs.ExponentialCalls.{measured};
-ghost use Rattle.map_exports.specs.Words.{stateOf, wordsOf, handedOut};
+ghost use Rattle.directory.specs.View.{stores};
+ghost use Rattle.expo_slots.specs.Slots.{slots};
+ghost use Rattle.value_map.specs.Calls.{held, measured};
+ghost use Rattle.value_map.specs.Exponential.{expoStore};
+ghost use Rattle.map_exports.specs.Words.{stateOf, wordsOf, handed, handedOut};
 use bindings::Answer;
 use directory::Directory;
 
@@ -54,7 +57,10 @@ pub extern "C" fn map_measure(
     v: f64,
     attrs: &[[u32; 2]],
 ) -> u64
-    ensures { λ r. ⌜ record { number = r; state = now (state .exit); stores = record { sets = now (sets .exit); entries = now (entries .exit); order = now (order .exit) }; cells = record { figures = now (figures .exit); extremes = now (extremes .exit); pos = now (pos .exit); neg = now (neg .exit) } } ≡ handedOut (now (state .entry)) (measured size top limit none (record { kept = record { dir = stateOf (getD (now (state .entry)) 0 []); stores = record { sets = now (sets .entry); entries = now (entries .entry); order = now (order .entry) } }; cells = record { figures = now (figures .entry); extremes = now (extremes .entry); pos = now (pos .entry); neg = now (neg .entry) } }) v (given (now (attrs .entry)))) ⌝ }
+    ensures { λ r. ⌜ handed r (state .exit) (stores (sets .exit) (entries .exit) (order .exit)) (slots (figures .exit) (extremes .exit) (pos .exit) (neg .exit))
+        ≡ handedOut (now (state .entry)) (measured (expoStore size top) limit none
+        (held (stateOf (getD (now (state .entry)) 0 [])) (stores (sets .entry) (entries .entry) (order .entry))
+        (slots (figures .entry) (extremes .entry) (pos .entry) (neg .entry))) v (given (now (attrs .entry)))) ⌝ }
 {
     let d = state_of(state[0]);
     let no_keys = [0u32; 1];

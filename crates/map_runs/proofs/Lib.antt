@@ -1,4 +1,3 @@
 -- The laws of runs of the map's calls.
-pub mod Recorders
-pub mod Exponential
-pub mod Explicit
+pub mod Runs
+pub mod Histograms

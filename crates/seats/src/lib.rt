@@ -5,6 +5,8 @@ ghost use Prim.Native.Nat.{_+_, _<_, _≤_};
 ghost use lib.ListN.{length};
 ghost use Rattle.sets.specs.Rows.{size};
 ghost use Rattle.seats.specs.Seats.{updatedIn, away, heldSeat, newSeat, seated, seatedBy, marked, Fits, committed};
+ghost use Rattle.directory.specs.View.{stores};
+ghost use Rattle.directory.specs.Calls.{kept};
 
 // Where a recording goes. no: document 01's number of the refusal, 0 if none; slot: the slot that it goes to; updated: whether that slot
 // holds a series; target: what the directory is to write.
@@ -78,7 +80,7 @@ pub fn seat(
     row: &[u64; 9],
 ) -> Seating
     requires { ⌜ (limit + 2 ≤ length (now sets)) × (limit + 2 ≤ length (now entries)) × (limit + 2 ≤ length (now order)) × (size (now row) ≤ 8) ⌝ }
-    ensures { λ r. ⌜ r ≡ seated limit d (record { sets = now (sets .entry); entries = now (entries .entry); order = now (order .entry) }) (now (row .entry)) ⌝ }
+    ensures { λ r. ⌜ r ≡ seated limit d (stores (sets .entry) (entries .entry) (order .entry)) (now (row .entry)) ⌝ }
 {
     let t = directory::find::locate(limit, d, sets, entries, order, row);
     match t {
@@ -99,7 +101,7 @@ pub fn seat_by(
     h: u64,
 ) -> Seating
     requires { ⌜ (limit + 2 ≤ length (now sets)) × (limit + 2 ≤ length (now entries)) × (limit + 2 ≤ length (now order)) ⌝ }
-    ensures { λ r. ⌜ r ≡ seatedBy limit d (record { sets = now (sets .entry); entries = now (entries .entry); order = now (order .entry) }) h ⌝ }
+    ensures { λ r. ⌜ r ≡ seatedBy limit d (stores (sets .entry) (entries .entry) (order .entry)) h ⌝ }
 {
     if !directory::check::agrees(limit, d, sets, entries, order) {
         return refused(8);
@@ -130,8 +132,9 @@ pub fn commit(
     row: [u64; 9],
     target: directory::Target,
 ) -> directory::Directory
-    requires { ⌜ Fits d (record { sets = now sets; entries = now entries; order = now order }) target ⌝ }
-    ensures { λ r. ⌜ record { dir = r; stores = record { sets = now (sets .exit); entries = now (entries .exit); order = now (order .exit) } } ≡ committed d (record { sets = now (sets .entry); entries = now (entries .entry); order = now (order .entry) }) row target ⌝ }
+    requires { ⌜ Fits d (stores sets entries order) target ⌝ }
+    ensures { λ r. ⌜ kept r (stores (sets .exit) (entries .exit) (order .exit))
+        ≡ committed d (stores (sets .entry) (entries .entry) (order .entry)) row target ⌝ }
 {
     match target {
         directory::Target::Disagrees => d,

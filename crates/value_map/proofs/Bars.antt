@@ -6,8 +6,6 @@ use mathlib.Core.Bool.{Bool, true, false}
 use native.Mathlib.Nat.{le-div-iff-mul-le}
 use native.Mathlib.Omega.{arith}
 use lib.Dec.{leb}
-use lib.Ieee.{Float}
-use lib.Ieee.Scale.{finite}
 use borrow.Author.Tests.{le-leb, lt-leb, leb-true, leb-false}
 use Rattle.laws.specs.Pick.{pick}
 use Rattle.laws.proofs.Bools.{flag}
@@ -15,7 +13,7 @@ use Rattle.laws.proofs.Cases.{true-not-false}
 use Rattle.sets.specs.Sorted.{mostAttributes}
 use Rattle.bindings.specs.declared.Answer.{Answer}
 use Rattle.bindings.specs.declared.Answer.the-variants.{Refused, Done, Handle}
-use Rattle.value_map.specs.First.{barredBy}
+use Rattle.value_map.specs.Calls.{barredBy}
 
 -- ---- number 12 of a count store, without the product
 
@@ -37,34 +35,34 @@ rows-many limit n length d =
 
 -- ---- the refusals
 
-module _ (room : Bool) (v : Float) (n : ℕ) (ok : Bool) where
-  pub bar-12 : room ≡ false → barredBy room v n ok ≡ 12
+module _ (room fin : Bool) (n : ℕ) (ok : Bool) where
+  pub bar-12 : room ≡ false → barredBy room fin n ok ≡ 12
   unfolding barredBy pick
   bar-12 e = rw e
 
   module _ (r : room ≡ true) where
-    pub bar-6 : finite v ≡ false → barredBy room v n ok ≡ 6
+    pub bar-6 : fin ≡ false → barredBy room fin n ok ≡ 6
     unfolding barredBy pick
     bar-6 e = rw (r, e)
 
-    module _ (f : finite v ≡ true) where
-      pub bar-5 : mostAttributes < n → barredBy room v n ok ≡ 5
+    module _ (f : fin ≡ true) where
+      pub bar-5 : mostAttributes < n → barredBy room fin n ok ≡ 5
       unfolding barredBy pick
       bar-5 h = rw (r, f, lt-leb n mostAttributes h)
 
       module _ (h : n ≤ mostAttributes) where
-        pub bar-8 : ok ≡ false → barredBy room v n ok ≡ 8
+        pub bar-8 : ok ≡ false → barredBy room fin n ok ≡ 8
         unfolding barredBy pick
         bar-8 e = rw (r, f, le-leb n mostAttributes h, e)
 
-        pub bar-0 : ok ≡ true → barredBy room v n ok ≡ 0
+        pub bar-0 : ok ≡ true → barredBy room fin n ok ≡ 0
         unfolding barredBy pick
         bar-0 e = rw (r, f, le-leb n mostAttributes h, e)
 
 -- what is known where nothing is refused
-pub record Clear (room : Bool) (v : Float) (n : ℕ) (ok : Bool) : Type 0 where
+pub record Clear (room fin : Bool) (n : ℕ) (ok : Bool) : Type 0 where
   pub room-is : room ≡ true
-  pub value : finite v ≡ true
+  pub value : fin ≡ true
   pub few : n ≤ mostAttributes
   pub ok-is : ok ≡ true
 
@@ -79,10 +77,10 @@ passed true true false d e = absurd (omega arith)
 passed true true true false e = absurd (omega arith)
 passed true true true true e = (refl, refl, refl, refl)
 
-pub clear : (room : Bool) (v : Float) (n : ℕ) (ok : Bool) → barredBy room v n ok ≡ 0 → Clear room v n ok
+pub clear : (room fin : Bool) (n : ℕ) (ok : Bool) → barredBy room fin n ok ≡ 0 → Clear room fin n ok
 unfolding barredBy numbered
-clear room v n ok e =
-    let p = passed room (finite v) (leb n mostAttributes) ok e in
+clear room fin n ok e =
+    let p = passed room fin (leb n mostAttributes) ok e in
     record { room-is = p .0; value = p .1; few = leb-true n mostAttributes (p .2); ok-is = p .3 }
 
 -- a refusal is not done

@@ -1,9 +1,10 @@
 -- The laws of `value_map`.
 pub mod Bars
-pub mod ExponentialCases
-pub mod ExponentialSteps
-pub mod ExponentialKept
-pub mod ExplicitCases
-pub mod ExplicitSteps
-pub mod ExplicitKept
+pub mod Owed
+pub mod Cases
+pub mod Late
+pub mod Steps
+pub mod Kept
 pub mod Damaged
+pub mod ExponentialOwes
+pub mod ExplicitOwes

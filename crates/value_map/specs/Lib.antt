@@ -1,4 +1,5 @@
 -- The definitions that the contracts of `value_map` cite.
-pub mod First
-pub mod ExponentialCalls
-pub mod ExplicitCalls
+pub mod Store
+pub mod Calls
+pub mod Exponential
+pub mod Explicit

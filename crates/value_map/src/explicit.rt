@@ -6,7 +6,10 @@ ghost use lib.Ieee.Scale.{finite};
 ghost use Rattle.laws.specs.Pick.{pick};
 ghost use Rattle.points.specs.Explicit.{boundsPass, bucketCount};
 ghost use Rattle.sets.specs.Sorted.{given, filterOf};
-ghost use Rattle.value_map.specs.ExplicitCalls.{cellsHold, Seatable, entered, started, measured, measuredBy};
+ghost use Rattle.directory.specs.View.{stores};
+ghost use Rattle.bucket_slots.specs.Slots.{cells};
+ghost use Rattle.value_map.specs.Calls.{held, gave, Seatable, started, measured, measuredBy};
+ghost use Rattle.value_map.specs.Explicit.{cellsHold, explicitStore, enteredIn};
 use bindings::Answer;
 use bindings::Reply;
 use directory::Directory;
@@ -66,7 +69,9 @@ pub fn start(
     extremes: &[[f64; 3]],
     counts: &[u64],
 ) -> Reply
-    ensures { λ r. ⌜ record { answer = r .answer; held = record { kept = record { dir = r .dir; stores = record { sets = now (sets .entry); entries = now (entries .exit); order = now (order .entry) } }; cells = record { totals = now (totals .entry); extremes = now (extremes .entry); counts = now (counts .entry) } } } ≡ started (now (bounds .entry)) limit (filterOf present (now (filter .entry))) (record { sets = now (sets .entry); entries = now (entries .entry); order = now (order .entry) }) (record { totals = now (totals .entry); extremes = now (extremes .entry); counts = now (counts .entry) }) ⌝ }
+    ensures { λ r. ⌜ gave r (stores (sets .entry) (entries .exit) (order .entry)) (cells (totals .entry) (extremes .entry) (counts .entry))
+        ≡ started (explicitStore (now (bounds .entry))) limit (filterOf present (now (filter .entry)))
+        (stores (sets .entry) (entries .entry) (order .entry)) (cells (totals .entry) (extremes .entry) (counts .entry)) ⌝ }
 {
     let d = Directory {
         used: 0,
@@ -108,8 +113,11 @@ fn enter(
     row: [u64; 9],
     seat: Seating,
 ) -> Reply
-    requires { ⌜ Seatable (now bounds) (record { kept = record { dir = d; stores = record { sets = now sets; entries = now entries; order = now order } }; cells = record { totals = now totals; extremes = now extremes; counts = now counts } }) seat × (finite v ≡ true) ⌝ }
-    ensures { λ r. ⌜ record { answer = r .answer; held = record { kept = record { dir = r .dir; stores = record { sets = now (sets .exit); entries = now (entries .exit); order = now (order .exit) } }; cells = record { totals = now (totals .exit); extremes = now (extremes .exit); counts = now (counts .exit) } } } ≡ entered (now (bounds .entry)) (record { kept = record { dir = d; stores = record { sets = now (sets .entry); entries = now (entries .entry); order = now (order .entry) } }; cells = record { totals = now (totals .entry); extremes = now (extremes .entry); counts = now (counts .entry) } }) v row seat ⌝ }
+    requires { ⌜ Seatable (explicitStore (now bounds)) (held d (stores sets entries order) (cells totals extremes counts)) seat × (finite v ≡ true) ⌝ }
+    ensures { λ r. ⌜ gave r (stores (sets .exit) (entries .exit) (order .exit)) (cells (totals .exit) (extremes .exit) (counts .exit))
+        ≡ enteredIn (now (bounds .entry))
+        (held d (stores (sets .entry) (entries .entry) (order .entry)) (cells (totals .entry) (extremes .entry) (counts .entry)))
+        v row seat ⌝ }
 {
     if seat.no != 0 {
         let no = turned(bounds, seat.no);
@@ -149,7 +157,10 @@ pub fn measure(
     present: bool,
     filter: &[u32],
 ) -> Reply
-    ensures { λ r. ⌜ record { answer = r .answer; held = record { kept = record { dir = r .dir; stores = record { sets = now (sets .exit); entries = now (entries .exit); order = now (order .exit) } }; cells = record { totals = now (totals .exit); extremes = now (extremes .exit); counts = now (counts .exit) } } } ≡ measured (now (bounds .entry)) limit (filterOf present (now (filter .entry))) (record { kept = record { dir = d; stores = record { sets = now (sets .entry); entries = now (entries .entry); order = now (order .entry) } }; cells = record { totals = now (totals .entry); extremes = now (extremes .entry); counts = now (counts .entry) } }) v (given (now (attrs .entry))) ⌝ }
+    ensures { λ r. ⌜ gave r (stores (sets .exit) (entries .exit) (order .exit)) (cells (totals .exit) (extremes .exit) (counts .exit))
+        ≡ measured (explicitStore (now (bounds .entry))) limit (filterOf present (now (filter .entry)))
+        (held d (stores (sets .entry) (entries .entry) (order .entry)) (cells (totals .entry) (extremes .entry) (counts .entry)))
+        v (given (now (attrs .entry))) ⌝ }
 {
     let lent = directory::enough(limit, sets.len(), entries.len(), order.len());
     let room = all_hold(
@@ -199,7 +210,10 @@ pub fn measure_by(
     v: f64,
     h: u64,
 ) -> Reply
-    ensures { λ r. ⌜ record { answer = r .answer; held = record { kept = record { dir = r .dir; stores = record { sets = now (sets .exit); entries = now (entries .exit); order = now (order .exit) } }; cells = record { totals = now (totals .exit); extremes = now (extremes .exit); counts = now (counts .exit) } } } ≡ measuredBy (now (bounds .entry)) limit (record { kept = record { dir = d; stores = record { sets = now (sets .entry); entries = now (entries .entry); order = now (order .entry) } }; cells = record { totals = now (totals .entry); extremes = now (extremes .entry); counts = now (counts .entry) } }) v h ⌝ }
+    ensures { λ r. ⌜ gave r (stores (sets .exit) (entries .exit) (order .exit)) (cells (totals .exit) (extremes .exit) (counts .exit))
+        ≡ measuredBy (explicitStore (now (bounds .entry))) limit
+        (held d (stores (sets .entry) (entries .entry) (order .entry)) (cells (totals .entry) (extremes .entry) (counts .entry)))
+        v h ⌝ }
 {
     let lent = directory::enough(limit, sets.len(), entries.len(), order.len());
     let room = all_hold(

@@ -2,10 +2,12 @@
 // and each slot's figures, extremes and rows of counts.
 ghost use mathlib.Core.Path.{_≡_};
 ghost use mathlib.Core.Bool.{_&&_};
-ghost use Rattle.points.specs.Figures.{exponential, sizePasses};
-ghost use Rattle.kinds.specs.Histograms.{passes};
+ghost use Rattle.points.specs.Figures.{sizePasses};
 ghost use Rattle.sets.specs.Sorted.{given, filterOf};
-ghost use Rattle.value_map.specs.ExponentialCalls.{slotsHold, Seatable, entered, started, measured, measuredBy};
+ghost use Rattle.directory.specs.View.{stores};
+ghost use Rattle.expo_slots.specs.Slots.{slots};
+ghost use Rattle.value_map.specs.Calls.{held, gave, passes, Seatable, entered, started, measured, measuredBy};
+ghost use Rattle.value_map.specs.Exponential.{slotsHold, expoStore};
 use bindings::Answer;
 use bindings::Reply;
 use directory::Directory;
@@ -23,7 +25,7 @@ fn size_passes(size: u32) -> bool
 
 // Whether configuring accepts max_size and the greatest level, and accepted the rest.
 fn configured(size: u32, top: u32, rest: bool) -> bool
-    ensures { λ r. ⌜ r ≡ (passes (exponential size top) && rest) ⌝ }
+    ensures { λ r. ⌜ r ≡ (passes (expoStore size top) && rest) ⌝ }
 {
     if !size_passes(size) {
         return false;
@@ -101,7 +103,9 @@ pub fn start(
     pos: &[u64],
     neg: &[u64],
 ) -> Reply
-    ensures { λ r. ⌜ record { answer = r .answer; held = record { kept = record { dir = r .dir; stores = record { sets = now (sets .entry); entries = now (entries .exit); order = now (order .entry) } }; cells = record { figures = now (figures .entry); extremes = now (extremes .entry); pos = now (pos .entry); neg = now (neg .entry) } } } ≡ started size top limit (filterOf present (now (filter .entry))) (record { sets = now (sets .entry); entries = now (entries .entry); order = now (order .entry) }) (record { figures = now (figures .entry); extremes = now (extremes .entry); pos = now (pos .entry); neg = now (neg .entry) }) ⌝ }
+    ensures { λ r. ⌜ gave r (stores (sets .entry) (entries .exit) (order .entry)) (slots (figures .entry) (extremes .entry) (pos .entry) (neg .entry))
+        ≡ started (expoStore size top) limit (filterOf present (now (filter .entry)))
+        (stores (sets .entry) (entries .entry) (order .entry)) (slots (figures .entry) (extremes .entry) (pos .entry) (neg .entry)) ⌝ }
 {
     let d = Directory {
         used: 0,
@@ -146,8 +150,11 @@ fn enter(
     row: [u64; 9],
     seat: Seating,
 ) -> Reply
-    requires { ⌜ Seatable size (record { kept = record { dir = d; stores = record { sets = now sets; entries = now entries; order = now order } }; cells = record { figures = now figures; extremes = now extremes; pos = now pos; neg = now neg } }) seat ⌝ }
-    ensures { λ r. ⌜ record { answer = r .answer; held = record { kept = record { dir = r .dir; stores = record { sets = now (sets .exit); entries = now (entries .exit); order = now (order .exit) } }; cells = record { figures = now (figures .exit); extremes = now (extremes .exit); pos = now (pos .exit); neg = now (neg .exit) } } } ≡ entered size top (record { kept = record { dir = d; stores = record { sets = now (sets .entry); entries = now (entries .entry); order = now (order .entry) } }; cells = record { figures = now (figures .entry); extremes = now (extremes .entry); pos = now (pos .entry); neg = now (neg .entry) } }) v row seat ⌝ }
+    requires { ⌜ Seatable (expoStore size top) (held d (stores sets entries order) (slots figures extremes pos neg)) seat ⌝ }
+    ensures { λ r. ⌜ gave r (stores (sets .exit) (entries .exit) (order .exit)) (slots (figures .exit) (extremes .exit) (pos .exit) (neg .exit))
+        ≡ entered (expoStore size top)
+        (held d (stores (sets .entry) (entries .entry) (order .entry)) (slots (figures .entry) (extremes .entry) (pos .entry) (neg .entry)))
+        v row seat ⌝ }
 {
     if seat.no != 0 {
         return refused(seat.no, d);
@@ -192,7 +199,10 @@ pub fn measure(
     present: bool,
     filter: &[u32],
 ) -> Reply
-    ensures { λ r. ⌜ record { answer = r .answer; held = record { kept = record { dir = r .dir; stores = record { sets = now (sets .exit); entries = now (entries .exit); order = now (order .exit) } }; cells = record { figures = now (figures .exit); extremes = now (extremes .exit); pos = now (pos .exit); neg = now (neg .exit) } } } ≡ measured size top limit (filterOf present (now (filter .entry))) (record { kept = record { dir = d; stores = record { sets = now (sets .entry); entries = now (entries .entry); order = now (order .entry) } }; cells = record { figures = now (figures .entry); extremes = now (extremes .entry); pos = now (pos .entry); neg = now (neg .entry) } }) v (given (now (attrs .entry))) ⌝ }
+    ensures { λ r. ⌜ gave r (stores (sets .exit) (entries .exit) (order .exit)) (slots (figures .exit) (extremes .exit) (pos .exit) (neg .exit))
+        ≡ measured (expoStore size top) limit (filterOf present (now (filter .entry)))
+        (held d (stores (sets .entry) (entries .entry) (order .entry)) (slots (figures .entry) (extremes .entry) (pos .entry) (neg .entry)))
+        v (given (now (attrs .entry))) ⌝ }
 {
     let lent = directory::enough(limit, sets.len(), entries.len(), order.len());
     let room = all_hold(
@@ -244,7 +254,10 @@ pub fn measure_by(
     v: f64,
     h: u64,
 ) -> Reply
-    ensures { λ r. ⌜ record { answer = r .answer; held = record { kept = record { dir = r .dir; stores = record { sets = now (sets .exit); entries = now (entries .exit); order = now (order .exit) } }; cells = record { figures = now (figures .exit); extremes = now (extremes .exit); pos = now (pos .exit); neg = now (neg .exit) } } } ≡ measuredBy size top limit (record { kept = record { dir = d; stores = record { sets = now (sets .entry); entries = now (entries .entry); order = now (order .entry) } }; cells = record { figures = now (figures .entry); extremes = now (extremes .entry); pos = now (pos .entry); neg = now (neg .entry) } }) v h ⌝ }
+    ensures { λ r. ⌜ gave r (stores (sets .exit) (entries .exit) (order .exit)) (slots (figures .exit) (extremes .exit) (pos .exit) (neg .exit))
+        ≡ measuredBy (expoStore size top) limit
+        (held d (stores (sets .entry) (entries .entry) (order .entry)) (slots (figures .entry) (extremes .entry) (pos .entry) (neg .entry)))
+        v h ⌝ }
 {
     let lent = directory::enough(limit, sets.len(), entries.len(), order.len());
     let room = all_hold(

@@ -2,7 +2,8 @@
 ghost use mathlib.Core.Path.{_≡_};
 ghost use Prim.Native.Nat.{_+_, _*_};
 ghost use lib.Dec.{leb};
-ghost use Rattle.value_map.specs.First.{barredBy};
+ghost use Rattle.kinds.specs.Histograms.{histograms};
+ghost use Rattle.value_map.specs.Calls.{barredBy};
 
 // The most attributes of a call.
 const MOST_ATTRIBUTES: usize = 8;
@@ -19,7 +20,7 @@ pub fn holds_rows(limit: u64, n: usize, length: usize) -> bool
 
 // The number of the refusal, 0 if none: whether the stores suffice, the value, the number of attributes, whether the configuration was accepted.
 pub fn barred(lent: bool, v: f64, attributes: usize, accepted: bool) -> u8
-    ensures { λ r. ⌜ r ≡ barredBy lent v attributes accepted ⌝ }
+    ensures { λ r. ⌜ r ≡ barredBy lent (histograms .finite v) attributes accepted ⌝ }
 {
     if !lent {
         return 12;

@@ -4,10 +4,11 @@ use mathlib.Core.Option.{none}
 use denote.Ref.{now}
 use Rattle.sets.specs.Sorted.{given}
 use Rattle.directory.specs.declared.Directory.{Directory}
-use Rattle.directory.specs.View.{Stores}
-use Rattle.expo_slots.specs.Slots.{Slots}
-use Rattle.value_map.specs.ExponentialCalls.{measured}
-use Rattle.map_exports.proofs.Handed.{with, handed}
+use Rattle.directory.specs.View.{stores}
+use Rattle.expo_slots.specs.Slots.{slots}
+use Rattle.value_map.specs.Calls.{held, measured}
+use Rattle.value_map.specs.Exponential.{expoStore}
+use Rattle.map_exports.proofs.Handed.{handed}
 use borrow.Author.Needs.{needs}
 use Rattle.map_exports.proofs.map_measure.Statement.{statement}
 use Rattle.map_exports.proofs.map_measure.Tie as tie
@@ -59,9 +60,9 @@ returns c =
     let m = c .before .before .before .before .before .before .before .before .before .before .before .before .before in
     let t = m .before .before .before .before .before .before .before .before .before in
     let a = t .before .before .before .before .before .args in
-    let s : Stores = record { sets = now (a .sets); entries = now (a .entries); order = now (a .order) } in
-    let x : Slots = record { figures = now (a .figures); extremes = now (a .extremes); pos = now (a .pos); neg = now (a .neg) } in
-    let e = m .measure .ensures ∙ ap (λ (d : Directory). measured (a .size) (a .top) (a .limit) none (with s x d) (a .v) (given (now (a .attrs)))) (t .state-of .ensures) in
+    let s = stores (a .sets) (a .entries) (a .order) in
+    let x = slots (a .figures) (a .extremes) (a .pos) (a .neg) in
+    let e = m .measure .ensures ∙ ap (λ (d : Directory). measured (expoStore (a .size) (a .top)) (a .limit) none (held d s x) (a .v) (given (now (a .attrs)))) (t .state-of .ensures) in
     handed (now (a .state)) _ _ (m .measure .result) _ (c .number-of .result) _ e (c .number-of .ensures) (c .before .words-of .ensures)
 
 pub map-measure-spec : {M : Type 1} → statement M

@@ -5,7 +5,7 @@ use mathlib.Core.Bool.{Bool, _&&_}
 use denote.Ref.{now}
 use borrow.Author.Tests.{not-true, not-false}
 use Rattle.points.specs.Explicit.{bucketCount}
-use Rattle.value_map.specs.ExplicitCalls.{cellsHold}
+use Rattle.value_map.specs.Explicit.{cellsHold}
 use Rattle.value_map.proofs.explicit.all_hold.Statement.{statement}
 use Rattle.value_map.proofs.explicit.all_hold.Tie as tie
 

@@ -1,59 +1,66 @@
 -- `value_map::explicit::measure` meets its contract. Assumes nothing.
 use borrow.Author.Needs.{needs}
+use Prim.Native.Nat.{ℕ}
 use mathlib.Core.Path.{_≡_, sym, _∙_}
 use mathlib.Core.Bool.{_&&_}
 use mathlib.Core.List.{List}
 use mathlib.Core.Option.{Option}
-use Prim.Native.Nat.{ℕ}
 use native.Mathlib.Omega.{arith}
 use denote.Ref.{now}
 use lib.ListN.{length, length-map}
+use lib.Ieee.{binary64, fits}
+use lib.Ieee.Scale.{finite}
+use Rattle.laws.proofs.Cases.{and-true}
+use Rattle.points.specs.Explicit.{boundsPass}
+use Rattle.kinds.specs.Histograms.{histograms}
 use Rattle.sets.specs.Sorted.{attribute, given, filterOf}
-use Rattle.directory.specs.Calls.{accepts, enough}
+use Rattle.directory.specs.View.{stores}
+use Rattle.directory.specs.Calls.{accepts}
 use Rattle.directory.proofs.Refusals.{Suffice}
-use Rattle.value_map.specs.First.{barredBy}
-use Rattle.value_map.specs.ExplicitCalls.{Held, lent, cellsLent}
+use Rattle.bucket_slots.specs.Slots.{Stores, cells}
+use Rattle.value_map.specs.Store.{Store}
+use Rattle.value_map.specs.Calls.{Held, held, barredBy, lent}
+use Rattle.value_map.specs.Explicit.{cellsLent, explicitStore}
 use Rattle.value_map.proofs.Bars.{Clear, clear}
-use Rattle.value_map.proofs.ExplicitCases.{lent-dir, set-seatable, set-barred, set-on}
+use Rattle.value_map.proofs.Cases.{lent-dir, set-seatable, set-is, set-here}
+use Rattle.value_map.proofs.Late.{late-barred, late-on}
+use Rattle.value_map.proofs.ExplicitOwes.{passes-is, owed}
 use Rattle.value_map.proofs.explicit.measure.Statement.{statement}
 use Rattle.value_map.proofs.explicit.measure.Tie as tie
 
 abbrev at : tie.After-barred → tie.Start
 at b = b .before .before .before .before .before .before .before .before .before
 
-abbrev held : tie.Start → Held
-held s =
-    let a = s .args in
-    record {
-      kept = record { dir = a .d; stores = record { sets = now (a .sets); entries = now (a .entries); order = now (a .order) } };
-      cells = record { totals = now (a .totals); extremes = now (a .extremes); counts = now (a .counts) };
-    }
+abbrev kind : tie.Start → Store histograms
+kind s = explicitStore (now (s .args .bounds))
+
+abbrev lentMap : tie.Start → Held Stores
+lentMap s = let a = s .args in held (a .d) (stores (a .sets) (a .entries) (a .order)) (cells (a .totals) (a .extremes) (a .counts))
 
 abbrev filter : tie.Start → Option (List ℕ)
 filter s = filterOf (s .args .present) (now (s .args .filter))
 
--- the number that bars the call
-bar-is : (b : tie.After-barred) → b .barred .result ≡ barredBy (lent (now (at b .args .bounds)) (at b .args .limit) (held (at b))) (at b .args .v) (length (given (now (at b .args .attrs)))) (accepts (at b .args .limit) (filter (at b)))
-bar-is b =
+abbrev attrs : tie.Start → List (ℕ × ℕ)
+attrs s = given (now (s .args .attrs))
+
+-- the number that comes first, and what is known where it is none
+abbrev first : tie.Start → ℕ
+first s = barredBy (lent (kind s) (s .args .limit) (lentMap s)) (histograms .finite (s .args .v)) (length (attrs s)) (accepts (s .args .limit) (filter s))
+
+number : (b : tie.After-barred) → b .barred .result ≡ first (at b)
+number b =
     let s = at b in
     let k = b .before in
     let c = k .before in
-    let l = c .before in
     b .barred .ensures
-    ∙ (λ j. barredBy ((c .all-hold .ensures ∙ (λ i. l .enough .ensures i && cellsLent (now (s .args .bounds)) (s .args .limit) (held s .cells))) j) (s .args .v) (sym (length-map (now (s .args .attrs)) attribute) j) (k .accepted .ensures j))
+    ∙ (λ j. barredBy ((c .all-hold .ensures ∙ (λ i. c .before .enough .ensures i && cellsLent (now (s .args .bounds)) (s .args .limit) (lentMap s .cells))) j)
+    (histograms .finite (s .args .v)) (sym (length-map (now (s .args .attrs)) attribute) j) (k .accepted .ensures j))
 
--- what is known of a call that is not barred
-abbrev begun : tie.Else1 → tie.Start
-begun e = at (e .before)
+known : (e : tie.Else1) → let s = at (e .before) in Clear (lent (kind s) (s .args .limit) (lentMap s)) (histograms .finite (s .args .v)) (length (attrs s)) (accepts (s .args .limit) (filter s))
+known e = let s = at (e .before) in clear (lent (kind s) (s .args .limit) (lentMap s)) (histograms .finite (s .args .v)) (length (attrs s)) (accepts (s .args .limit) (filter s)) (sym (number (e .before)) ∙ e .if1 .left)
 
-none : (e : tie.Else1) → barredBy (lent (now (begun e .args .bounds)) (begun e .args .limit) (held (begun e))) (begun e .args .v) (length (given (now (begun e .args .attrs)))) (accepts (begun e .args .limit) (filter (begun e))) ≡ 0
-none e = sym (bar-is (e .before)) ∙ e .if1 .left
-
-known : (e : tie.Else1) → Clear (lent (now (begun e .args .bounds)) (begun e .args .limit) (held (begun e))) (begun e .args .v) (length (given (now (begun e .args .attrs)))) (accepts (begun e .args .limit) (filter (begun e)))
-known e = let s = begun e in clear (lent (now (s .args .bounds)) (s .args .limit) (held s)) (s .args .v) ((length (given (now (s .args .attrs))))) (accepts (s .args .limit) (filter (s))) (none e)
-
-long : (e : tie.Else1) → Suffice (begun e .args .limit) (held (begun e) .kept .stores)
-long e = let s = begun e in lent-dir (now (s .args .bounds)) (s .args .limit) (held s) (known e .room-is)
+long : (e : tie.Else1) → Suffice (at (e .before) .args .limit) (lentMap (at (e .before)) .kept .stores)
+long e = let s = at (e .before) in lent-dir (owed (now (s .args .bounds))) (s .args .limit) (lentMap s) (known e .room-is)
 
 enough-requires : tie.Need-enough-requires
 enough-requires c κs = search needs
@@ -68,10 +75,13 @@ barred-requires : tie.Need-barred-requires
 barred-requires c κs = search needs
 
 returns : tie.Need-returns
-returns c = let b = c .before in let s = at b in set-barred (now (s .args .bounds)) (s .args .limit) (held s) (s .args .v) (filter s) (given (now (s .args .attrs))) (b .barred .result) (bar-is b) (c .if1 .taken)
+returns c =
+    let b = c .before in
+    let s = at b in
+    late-barred (kind s) (s .args .limit) (lentMap s) (s .args .v) (length (attrs s)) (accepts (s .args .limit) (filter s)) _ _ (b .barred .result) (number b) (c .if1 .taken) ∙ set-here (kind s) (s .args .limit) (lentMap s) (s .args .v) (filter s) (attrs s)
 
 sorted-requires : tie.Need-sorted-requires
-sorted-requires c κs = omega (arith, known c .few, length-map (now (begun c .args .attrs)) attribute)
+sorted-requires c κs = omega (arith, known c .few, length-map (now (at (c .before) .args .attrs)) attribute)
 
 seat-requires : tie.Need-seat-requires
 seat-requires c κs = let r = c .before .before .before .before in let l = long (r .before) in (l .sets, l .entries, l .order, r .sorted .ensures .1)
@@ -81,8 +91,10 @@ enter-requires c κs =
     let q = c .before .before .before .before .before .before in
     let r = q .before .before .before .before .before in
     let e = r .before in
-    let s = begun e in
-    (set-seatable (now (s .args .bounds)) (s .args .limit) (held s) (known e .room-is) (filter s) (known e .ok-is) (r .sorted .result) (q .seat .result) (q .seat .ensures), known e .value)
+    let s = at (e .before) in (
+      set-seatable (owed (now (s .args .bounds))) (s .args .limit) (lentMap s) (known e .room-is) (filter s) (known e .ok-is) (r .sorted .result) (q .seat .result) (q .seat .ensures),
+      and-true (finite (s .args .v)) (fits binary64 (s .args .v)) (known e .value) .0,
+    )
 
 same-length : tie.Need-same-length
 same-length c = search needs
@@ -107,10 +119,11 @@ returns-2 c =
     let t = c .before .before .before .before .before .before .before .before .before in
     let q = t .before .before .before .before .before .before .before in
     let r = q .before .before .before .before .before in
-    let e = r .before in
-    let s = begun e in
+    let b = r .before .before in
+    let s = at b in
     t .enter .ensures
-    ∙ set-on (now (s .args .bounds)) (s .args .limit) (held s) (s .args .v) (filter s) (given (now (s .args .attrs))) (none e) (r .sorted .result) (q .seat .result) (r .sorted .ensures .0) (q .seat .ensures)
+    ∙ late-on (kind s) (s .args .limit) (lentMap s) (s .args .v) (length (attrs s)) (accepts (s .args .limit) (filter s)) (r .sorted .result) (q .seat .result) (b .barred .result) (number b) (r .before .if1 .left) (boundsPass (now (s .args .bounds))) (passes-is (now (s .args .bounds)))
+    ∙ set-is (kind s) (s .args .limit) (lentMap s) (s .args .v) (filter s) (attrs s) (r .sorted .result) (q .seat .result) (r .sorted .ensures .0) (q .seat .ensures)
 
 pub measure-spec : {M : Type 1} → statement M
 measure-spec =

@@ -1,50 +1,55 @@
 -- `value_map::explicit::measure_by` meets its contract. Assumes nothing.
 use borrow.Author.Needs.{needs}
+use Prim.Native.Nat.{ℕ}
 use mathlib.Core.Path.{_≡_, sym, _∙_}
 use mathlib.Core.Bool.{_&&_}
 use denote.Ref.{now}
 use lib.Dec.{leb}
-use Rattle.directory.specs.Calls.{mostSets, enough}
+use lib.Ieee.{binary64, fits}
+use lib.Ieee.Scale.{finite}
+use Rattle.laws.proofs.Cases.{and-true}
+use Rattle.points.specs.Explicit.{boundsPass}
+use Rattle.kinds.specs.Histograms.{histograms}
+use Rattle.directory.specs.View.{stores}
+use Rattle.directory.specs.Calls.{mostSets}
 use Rattle.directory.proofs.Refusals.{Suffice}
-use Rattle.value_map.specs.First.{barredBy}
-use Rattle.value_map.specs.ExplicitCalls.{Held, lent, cellsLent}
+use Rattle.bucket_slots.specs.Slots.{Stores, cells}
+use Rattle.value_map.specs.Store.{Store}
+use Rattle.value_map.specs.Calls.{Held, held, barredBy, lent}
+use Rattle.value_map.specs.Explicit.{cellsLent, explicitStore}
 use Rattle.value_map.proofs.Bars.{Clear, clear}
-use Rattle.value_map.proofs.ExplicitCases.{lent-dir, by-seatable, by-barred, by-on}
+use Rattle.value_map.proofs.Cases.{lent-dir, by-seatable, by-is, by-here}
+use Rattle.value_map.proofs.Late.{late-barred, late-on}
+use Rattle.value_map.proofs.ExplicitOwes.{passes-is, owed}
 use Rattle.value_map.proofs.explicit.measure_by.Statement.{statement}
 use Rattle.value_map.proofs.explicit.measure_by.Tie as tie
 
 abbrev at : tie.After-barred → tie.Start
 at b = b .before .before .before .before .before .before .before
 
-abbrev held : tie.Start → Held
-held s =
-    let a = s .args in
-    record {
-      kept = record { dir = a .d; stores = record { sets = now (a .sets); entries = now (a .entries); order = now (a .order) } };
-      cells = record { totals = now (a .totals); extremes = now (a .extremes); counts = now (a .counts) };
-    }
+abbrev kind : tie.Start → Store histograms
+kind s = explicitStore (now (s .args .bounds))
 
--- the number that bars the call
-bar-is : (b : tie.After-barred) → b .barred .result ≡ barredBy (lent (now (at b .args .bounds)) (at b .args .limit) (held (at b))) (at b .args .v) 0 (leb (at b .args .limit) mostSets)
-bar-is b =
+abbrev lentMap : tie.Start → Held Stores
+lentMap s = let a = s .args in held (a .d) (stores (a .sets) (a .entries) (a .order)) (cells (a .totals) (a .extremes) (a .counts))
+
+-- the number that comes first, and what is known where it is none
+abbrev first : tie.Start → ℕ
+first s = barredBy (lent (kind s) (s .args .limit) (lentMap s)) (histograms .finite (s .args .v)) 0 (leb (s .args .limit) mostSets)
+
+number : (b : tie.After-barred) → b .barred .result ≡ first (at b)
+number b =
     let s = at b in
     let c = b .before in
-    let l = c .before in
     b .barred .ensures
-    ∙ (λ j. barredBy ((c .all-hold .ensures ∙ (λ i. l .enough .ensures i && cellsLent (now (s .args .bounds)) (s .args .limit) (held s .cells))) j) (s .args .v) 0 (leb (s .args .limit) mostSets))
+    ∙ (λ j. barredBy ((c .all-hold .ensures ∙ (λ i. c .before .enough .ensures i && cellsLent (now (s .args .bounds)) (s .args .limit) (lentMap s .cells))) j)
+    (histograms .finite (s .args .v)) 0 (leb (s .args .limit) mostSets))
 
--- what is known of a call that is not barred
-abbrev begun : tie.Else1 → tie.Start
-begun e = at (e .before)
+known : (e : tie.Else1) → let s = at (e .before) in Clear (lent (kind s) (s .args .limit) (lentMap s)) (histograms .finite (s .args .v)) 0 (leb (s .args .limit) mostSets)
+known e = let s = at (e .before) in clear (lent (kind s) (s .args .limit) (lentMap s)) (histograms .finite (s .args .v)) 0 (leb (s .args .limit) mostSets) (sym (number (e .before)) ∙ e .if1 .left)
 
-none : (e : tie.Else1) → barredBy (lent (now (begun e .args .bounds)) (begun e .args .limit) (held (begun e))) (begun e .args .v) 0 (leb (begun e .args .limit) mostSets) ≡ 0
-none e = sym (bar-is (e .before)) ∙ e .if1 .left
-
-known : (e : tie.Else1) → Clear (lent (now (begun e .args .bounds)) (begun e .args .limit) (held (begun e))) (begun e .args .v) 0 (leb (begun e .args .limit) mostSets)
-known e = let s = begun e in clear (lent (now (s .args .bounds)) (s .args .limit) (held s)) (s .args .v) (0) (leb (s .args .limit) mostSets) (none e)
-
-long : (e : tie.Else1) → Suffice (begun e .args .limit) (held (begun e) .kept .stores)
-long e = let s = begun e in lent-dir (now (s .args .bounds)) (s .args .limit) (held s) (known e .room-is)
+long : (e : tie.Else1) → Suffice (at (e .before) .args .limit) (lentMap (at (e .before)) .kept .stores)
+long e = let s = at (e .before) in lent-dir (owed (now (s .args .bounds))) (s .args .limit) (lentMap s) (known e .room-is)
 
 enough-requires : tie.Need-enough-requires
 enough-requires c κs = search needs
@@ -56,7 +61,10 @@ barred-requires : tie.Need-barred-requires
 barred-requires c κs = search needs
 
 returns : tie.Need-returns
-returns c = let b = c .before in let s = at b in by-barred (now (s .args .bounds)) (s .args .limit) (held s) (s .args .v) (s .args .h) (b .barred .result) (bar-is b) (c .if1 .taken)
+returns c =
+    let b = c .before in
+    let s = at b in
+    late-barred (kind s) (s .args .limit) (lentMap s) (s .args .v) 0 (leb (s .args .limit) mostSets) _ _ (b .barred .result) (number b) (c .if1 .taken) ∙ by-here (kind s) (s .args .limit) (lentMap s) (s .args .v) (s .args .h)
 
 seat-by-requires : tie.Need-seat-by-requires
 seat-by-requires c κs = let l = long (c .before .before .before) in (l .sets, l .entries, l .order)
@@ -65,8 +73,10 @@ enter-requires : tie.Need-enter-requires
 enter-requires c κs =
     let q = c .before .before .before .before .before .before in
     let e = q .before .before .before .before in
-    let s = begun e in
-    (by-seatable (now (s .args .bounds)) (s .args .limit) (held s) (known e .room-is) (s .args .h) (q .seat-by .result) (q .seat-by .ensures), known e .value)
+    let s = at (e .before) in (
+      by-seatable (owed (now (s .args .bounds))) (s .args .limit) (lentMap s) (known e .room-is) (s .args .h) (q .seat-by .result) (q .seat-by .ensures),
+      and-true (finite (s .args .v)) (fits binary64 (s .args .v)) (known e .value) .0,
+    )
 
 same-length : tie.Need-same-length
 same-length c = search needs
@@ -91,8 +101,11 @@ returns-2 c =
     let t = c .before .before .before .before .before .before .before .before .before in
     let q = t .before .before .before .before .before .before .before in
     let e = q .before .before .before .before in
-    let s = begun e in
-    t .enter .ensures ∙ by-on (now (s .args .bounds)) (s .args .limit) (held s) (s .args .v) (s .args .h) (none e) (q .seat-by .result) (q .seat-by .ensures)
+    let b = e .before in
+    let s = at b in
+    t .enter .ensures
+    ∙ late-on (kind s) (s .args .limit) (lentMap s) (s .args .v) 0 (leb (s .args .limit) mostSets) _ (q .seat-by .result) (b .barred .result) (number b) (e .if1 .left) (boundsPass (now (s .args .bounds))) (passes-is (now (s .args .bounds)))
+    ∙ by-is (kind s) (s .args .limit) (lentMap s) (s .args .v) (s .args .h) (q .seat-by .result) (q .seat-by .ensures)
 
 pub measure-by-spec : {M : Type 1} → statement M
 measure-by-spec =

@@ -5,7 +5,7 @@ use Rattle.value_map.proofs.exponential.all_hold.Tie as tie
 use mathlib.Core.Path.{sym, ap, _∙_}
 use mathlib.Core.Bool.{Bool, _&&_}
 use borrow.Author.Tests.{not-true, not-false}
-use Rattle.value_map.specs.ExponentialCalls.{slotsHold}
+use Rattle.value_map.specs.Exponential.{slotsHold}
 
 returns : tie.Need-returns
 returns c = let a = c .before .args in

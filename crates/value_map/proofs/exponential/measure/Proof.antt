@@ -1,85 +1,67 @@
 -- `value_map::exponential::measure` meets its contract. Assumes nothing.
 use borrow.Author.Needs.{needs}
-use Rattle.value_map.proofs.exponential.measure.Statement.{statement}
-use Rattle.value_map.proofs.exponential.measure.Tie as tie
 use Prim.Native.Nat.{ℕ}
-use mathlib.Core.Path.{_≡_, sym, ap, subst, _∙_}
-use mathlib.Core.Bool.{Bool, _&&_}
+use mathlib.Core.Path.{_≡_, sym, ap, _∙_}
+use mathlib.Core.Bool.{_&&_}
 use mathlib.Core.List.{List}
 use mathlib.Core.Option.{Option}
 use native.Mathlib.Omega.{arith}
+use denote.Ref.{now}
 use lib.ListN.{length, length-map}
 use Rattle.laws.proofs.Cases.{and-true}
-use Rattle.points.specs.Figures.{exponential}
-use Rattle.kinds.specs.Histograms.{passes}
-use Rattle.bindings.specs.declared.Reply.{Reply}
+use Rattle.kinds.specs.Histograms.{histograms}
 use Rattle.sets.specs.Sorted.{attribute, given, filterOf}
-use Rattle.directory.specs.Calls.{accepts, enough}
-use Rattle.directory.proofs.Refusals.{Suffice, suffices, within}
-use Rattle.seats.proofs.Seatings.{seat-safe}
-use Rattle.value_map.specs.First.{barredBy}
-use Rattle.value_map.specs.ExponentialCalls.{Held, slotsLent, lent, Seatable}
+use Rattle.directory.specs.View.{stores}
+use Rattle.directory.specs.Calls.{accepts}
+use Rattle.directory.proofs.Refusals.{Suffice}
+use Rattle.bindings.specs.declared.Reply.{Reply}
+use Rattle.expo_slots.specs.Slots.{Slots, slots}
+use Rattle.value_map.specs.Store.{Store}
+use Rattle.value_map.specs.Calls.{Held, Outcome, held, gave, barredBy, passes, lent}
+use Rattle.value_map.specs.Exponential.{slotsLent, expoStore}
 use Rattle.value_map.proofs.Bars.{Clear, clear}
-use Rattle.value_map.proofs.ExponentialCases.{roomy, seatable, measured-no, measured-on}
+use Rattle.value_map.proofs.Cases.{lent-dir, set-seatable, called-barred, called-on, set-is, set-here}
+use Rattle.value_map.proofs.ExponentialOwes.{owed}
+use Rattle.value_map.proofs.exponential.measure.Statement.{statement}
+use Rattle.value_map.proofs.exponential.measure.Tie as tie
 
 abbrev at : tie.After-barred → tie.Start
 at c = c .before .before .before .before .before .before .before .before .before
 
-abbrev held : tie.Start → Held
-held s =
-    record {
-      kept = record { dir = s .args .d; stores = record { sets = s .args .sets .now; entries = s .args .entries .now; order = s .args .order .now } };
-      cells = record { figures = s .args .figures .now; extremes = s .args .extremes .now; pos = s .args .pos .now; neg = s .args .neg .now };
-    }
+abbrev kind : tie.Start → Store histograms
+kind s = expoStore (s .args .size) (s .args .top)
+
+abbrev lentMap : tie.Start → Held Slots
+lentMap s = let a = s .args in held (a .d) (stores (a .sets) (a .entries) (a .order)) (slots (a .figures) (a .extremes) (a .pos) (a .neg))
+
+-- a reply that leaves the map as it was lent
+abbrev same : tie.Start → Reply → Outcome Slots
+same s r = gave r (lentMap s .kept .stores) (lentMap s .cells)
 
 abbrev filter : tie.Start → Option (List ℕ)
-filter s = filterOf (s .args .present) (s .args .filter .now)
+filter s = filterOf (s .args .present) (now (s .args .filter))
 
-abbrev accepted : tie.Start → Bool
-accepted s = passes (exponential (s .args .size) (s .args .top)) && accepts (s .args .limit) (filter s)
+abbrev attrs : tie.Start → List (ℕ × ℕ)
+attrs s = given (now (s .args .attrs))
 
-abbrev room : tie.Start → Bool
-room s = lent (s .args .size) (s .args .limit) (held s)
+-- the number that comes first, and what is known where it is none
+abbrev first : tie.Start → ℕ
+first s = barredBy (lent (kind s) (s .args .limit) (lentMap s)) (histograms .finite (s .args .v)) (length (attrs s)) (passes (kind s) && accepts (s .args .limit) (filter s))
 
--- the number of the refusal that comes first
-number : (b : tie.After-barred) → b .barred .result ≡ barredBy (room (at b)) (at b .args .v) (length (given (at b .args .attrs .now))) (accepted (at b))
+number : (b : tie.After-barred) → b .barred .result ≡ first (at b)
 number b =
     let s = at b in
-    let a = s .args in
     let g = b .before in
-    let h = g .before .before in
+    let k = g .before .before in
     b .barred .ensures
-    ∙ ap (λ (r : Bool). barredBy r (a .v) (length (a .attrs .now)) (g .configured .result))
-    (h .all-hold .ensures ∙ ap (λ (l : Bool). l && slotsLent (a .size) (a .limit) (held s .cells)) (h .before .enough .ensures))
-    ∙ ap (barredBy (room s) (a .v) (length (a .attrs .now)))
-    (g .configured .ensures ∙ ap (λ (o : Bool). passes (exponential (a .size) (a .top)) && o) (g .before .accepted .ensures))
-    ∙ ap (λ (n : ℕ). barredBy (room s) (a .v) n (accepted s)) (sym (length-map (a .attrs .now) attribute))
+    ∙ (λ j. barredBy ((k .all-hold .ensures ∙ (λ i. k .before .enough .ensures i && slotsLent (s .args .size) (s .args .limit) (lentMap s .cells))) j)
+    (histograms .finite (s .args .v)) (sym (length-map (now (s .args .attrs)) attribute) j) ((g .configured .ensures ∙ (λ i. passes (kind s) && g .before .accepted .ensures i)) j))
 
--- what is known where nothing is refused first
-on : (e : tie.Else1) → Clear (room (at (e .before))) (at (e .before) .args .v) (length (given (at (e .before) .args .attrs .now))) (accepted (at (e .before)))
-on e =
-    let s = at (e .before) in
-    clear (room s) (s .args .v) (length (given (s .args .attrs .now))) (accepted s) (sym (number (e .before)) ∙ e .if1 .left)
+known : (e : tie.Else1) → let s = at (e .before) in Clear (lent (kind s) (s .args .limit) (lentMap s)) (histograms .finite (s .args .v)) (length (attrs s)) (passes (kind s) && accepts (s .args .limit) (filter s))
+known e = let s = at (e .before) in clear (lent (kind s) (s .args .limit) (lentMap s)) (histograms .finite (s .args .v)) (length (attrs s)) (passes (kind s) && accepts (s .args .limit) (filter s)) (sym (number (e .before)) ∙ e .if1 .left)
 
-enoughly : (e : tie.Else1) → Suffice (at (e .before) .args .limit) (held (at (e .before)) .kept .stores)
-enoughly e =
-    let s = at (e .before) in
-    suffices (s .args .limit) (held s .kept .stores) (and-true (enough (s .args .limit) (held s .kept .stores)) (slotsLent (s .args .size) (s .args .limit) (held s .cells)) (on e .room-is) .0)
-
-abbrev else1 : tie.After-seat → tie.Else1
-else1 t = t .before .before .before .before .before .before
-
-can-sit : (t : tie.After-seat) → Seatable (at (else1 t .before) .args .size) (held (at (else1 t .before))) (t .seat .result)
-can-sit t =
-    let e = else1 t in
-    let s = at (e .before) in
-    let a = s .args in
-    let w = enoughly e in
-    let m = within (a .limit) (filter s) (and-true (passes (exponential (a .size) (a .top))) (accepts (a .limit) (filter s)) (on e .ok-is) .1) in
-    subst (Seatable (a .size) (held s)) (sym (t .seat .ensures))
-    (seatable (a .size) (a .limit) (held s) _
-    (roomy (a .size) (a .limit) (held s .cells) (and-true (enough (a .limit) (held s .kept .stores)) (slotsLent (a .size) (a .limit) (held s .cells)) (on e .room-is) .1))
-    (seat-safe (a .limit) (a .d) (held s .kept .stores) _ (w .sets) (w .entries) (w .order) (omega (arith, m))))
+long : (e : tie.Else1) → Suffice (at (e .before) .args .limit) (lentMap (at (e .before)) .kept .stores)
+long e = let s = at (e .before) in lent-dir (owed (s .args .size) (s .args .top)) (s .args .limit) (lentMap s) (known e .room-is)
 
 enough-requires : tie.Need-enough-requires
 enough-requires c κs = search needs
@@ -100,22 +82,26 @@ refused-requires : tie.Need-refused-requires
 refused-requires c κs = search needs
 
 returns : tie.Need-returns
-returns c = let b = c .before .before in
+returns c =
+    let b = c .before .before in
     let s = at b in
-    let a = s .args in
-    ap (λ (r : Reply). record { answer = r .answer; held = record { kept = record { dir = r .dir; stores = held s .kept .stores }; cells = held s .cells } }) (c .refused .ensures)
-    ∙ sym (measured-no (a .size) (a .top) (a .limit) (held s) (a .v) (b .barred .result) (filter s) (given (a .attrs .now)) (number b) (c .before .if1 .taken))
+    ap (same s) (c .refused .ensures) ∙ called-barred (kind s) (s .args .limit) (lentMap s) (s .args .v) (length (attrs s)) (accepts (s .args .limit) (filter s)) _ _ (b .barred .result) (number b) (c .before .if1 .taken)
+    ∙ set-here (kind s) (s .args .limit) (lentMap s) (s .args .v) (filter s) (attrs s)
 
 sorted-requires : tie.Need-sorted-requires
-sorted-requires c κs = omega (arith, on c .few, length-map (at (c .before) .args .attrs .now) attribute)
+sorted-requires c κs = omega (arith, known c .few, length-map (now (at (c .before) .args .attrs)) attribute)
 
 seat-requires : tie.Need-seat-requires
-seat-requires c κs = let o = c .before .before .before .before in
-    let w = enoughly (o .before) in
-    (w .sets, w .entries, w .order, o .sorted .ensures .1)
+seat-requires c κs = let o = c .before .before .before .before in let l = long (o .before) in (l .sets, l .entries, l .order, o .sorted .ensures .1)
 
 enter-requires : tie.Need-enter-requires
-enter-requires c κs = can-sit (c .before .before .before .before .before .before .before)
+enter-requires c κs =
+    let t = c .before .before .before .before .before .before .before in
+    let o = t .before .before .before .before .before in
+    let e = o .before in
+    let s = at (e .before) in
+    let ok = and-true (passes (kind s)) (accepts (s .args .limit) (filter s)) (known e .ok-is) .1 in
+    set-seatable (owed (s .args .size) (s .args .top)) (s .args .limit) (lentMap s) (known e .room-is) (filter s) ok (o .sorted .result) (t .seat .result) (t .seat .ensures)
 
 same-length : tie.Need-same-length
 same-length c = search needs
@@ -139,15 +125,15 @@ same-length-7 : tie.Need-same-length-7
 same-length-7 c = search needs
 
 returns-2 : tie.Need-returns-2
-returns-2 c = let n = c .before .before .before .before .before .before .before .before .before .before in
+returns-2 c =
+    let n = c .before .before .before .before .before .before .before .before .before .before in
     let t = n .before .before .before .before .before .before .before .before in
     let o = t .before .before .before .before .before in
     let b = o .before .before in
     let s = at b in
-    let a = s .args in
     n .enter .ensures
-    ∙ measured-on (a .size) (a .top) (a .limit) (held s) (a .v) (b .barred .result) (filter s) (given (a .attrs .now)) (number b) (o .before .if1 .left)
-    (o .sorted .result) (t .seat .result) (o .sorted .ensures .0) (t .seat .ensures)
+    ∙ called-on (kind s) (s .args .limit) (lentMap s) (s .args .v) (length (attrs s)) (accepts (s .args .limit) (filter s)) (o .sorted .result) (t .seat .result) (b .barred .result) (number b) (o .before .if1 .left)
+    ∙ set-is (kind s) (s .args .limit) (lentMap s) (s .args .v) (filter s) (attrs s) (o .sorted .result) (t .seat .result) (o .sorted .ensures .0) (t .seat .ensures)
 
 pub measure-spec : {M : Type 1} → statement M
 measure-spec =

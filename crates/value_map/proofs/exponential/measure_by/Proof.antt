@@ -1,71 +1,55 @@
 -- `value_map::exponential::measure_by` meets its contract. Assumes nothing.
 use borrow.Author.Needs.{needs}
+use Prim.Native.Nat.{ℕ}
+use mathlib.Core.Path.{_≡_, sym, ap, _∙_}
+use mathlib.Core.Bool.{_&&_}
+use lib.Dec.{leb}
+use Rattle.kinds.specs.Histograms.{histograms}
+use Rattle.directory.specs.View.{stores}
+use Rattle.directory.specs.Calls.{mostSets}
+use Rattle.directory.proofs.Refusals.{Suffice}
+use Rattle.bindings.specs.declared.Reply.{Reply}
+use Rattle.expo_slots.specs.Slots.{Slots, slots}
+use Rattle.value_map.specs.Store.{Store}
+use Rattle.value_map.specs.Calls.{Held, Outcome, held, gave, barredBy, passes, lent}
+use Rattle.value_map.specs.Exponential.{slotsLent, expoStore}
+use Rattle.value_map.proofs.Bars.{Clear, clear}
+use Rattle.value_map.proofs.Cases.{lent-dir, by-seatable, called-barred, called-on, by-is, by-here}
+use Rattle.value_map.proofs.ExponentialOwes.{owed}
 use Rattle.value_map.proofs.exponential.measure_by.Statement.{statement}
 use Rattle.value_map.proofs.exponential.measure_by.Tie as tie
-use mathlib.Core.Path.{_≡_, sym, ap, subst, _∙_}
-use mathlib.Core.Bool.{Bool, _&&_}
-use lib.Dec.{leb}
-use Rattle.laws.proofs.Cases.{and-true}
-use Rattle.points.specs.Figures.{exponential}
-use Rattle.kinds.specs.Histograms.{passes}
-use Rattle.bindings.specs.declared.Reply.{Reply}
-use Rattle.directory.specs.Calls.{mostSets, enough}
-use Rattle.directory.proofs.Refusals.{Suffice, suffices}
-use Rattle.seats.proofs.Seatings.{by-safe}
-use Rattle.value_map.specs.First.{barredBy}
-use Rattle.value_map.specs.ExponentialCalls.{Held, slotsLent, lent, Seatable}
-use Rattle.value_map.proofs.Bars.{Clear, clear}
-use Rattle.value_map.proofs.ExponentialCases.{roomy, seatable, by-no, by-on}
 
 abbrev at : tie.After-barred → tie.Start
 at c = c .before .before .before .before .before .before .before
 
-abbrev held : tie.Start → Held
-held s =
-    record {
-      kept = record { dir = s .args .d; stores = record { sets = s .args .sets .now; entries = s .args .entries .now; order = s .args .order .now } };
-      cells = record { figures = s .args .figures .now; extremes = s .args .extremes .now; pos = s .args .pos .now; neg = s .args .neg .now };
-    }
+abbrev kind : tie.Start → Store histograms
+kind s = expoStore (s .args .size) (s .args .top)
 
-abbrev accepted : tie.Start → Bool
-accepted s = passes (exponential (s .args .size) (s .args .top)) && leb (s .args .limit) mostSets
+abbrev lentMap : tie.Start → Held Slots
+lentMap s = let a = s .args in held (a .d) (stores (a .sets) (a .entries) (a .order)) (slots (a .figures) (a .extremes) (a .pos) (a .neg))
 
-abbrev room : tie.Start → Bool
-room s = lent (s .args .size) (s .args .limit) (held s)
+-- a reply that leaves the map as it was lent
+abbrev same : tie.Start → Reply → Outcome Slots
+same s r = gave r (lentMap s .kept .stores) (lentMap s .cells)
 
--- the number of the refusal that comes first
-number : (b : tie.After-barred) → b .barred .result ≡ barredBy (room (at b)) (at b .args .v) 0 (accepted (at b))
+-- the number that comes first, and what is known where it is none
+abbrev first : tie.Start → ℕ
+first s = barredBy (lent (kind s) (s .args .limit) (lentMap s)) (histograms .finite (s .args .v)) 0 (passes (kind s) && leb (s .args .limit) mostSets)
+
+number : (b : tie.After-barred) → b .barred .result ≡ first (at b)
 number b =
     let s = at b in
-    let a = s .args in
     let g = b .before in
-    let h = g .before in
+    let k = g .before in
     b .barred .ensures
-    ∙ ap (λ (r : Bool). barredBy r (a .v) 0 (g .configured .result))
-    (h .all-hold .ensures ∙ ap (λ (l : Bool). l && slotsLent (a .size) (a .limit) (held s .cells)) (h .before .enough .ensures))
-    ∙ ap (barredBy (room s) (a .v) 0) (g .configured .ensures)
+    ∙ (λ j. barredBy ((k .all-hold .ensures ∙ (λ i. k .before .enough .ensures i && slotsLent (s .args .size) (s .args .limit) (lentMap s .cells))) j)
+    (histograms .finite (s .args .v)) 0 (g .configured .ensures j))
 
--- what is known where nothing is refused first
-on : (e : tie.Else1) → Clear (room (at (e .before))) (at (e .before) .args .v) 0 (accepted (at (e .before)))
-on e = let s = at (e .before) in clear (room s) (s .args .v) 0 (accepted s) (sym (number (e .before)) ∙ e .if1 .left)
+known : (e : tie.Else1) → let s = at (e .before) in Clear (lent (kind s) (s .args .limit) (lentMap s)) (histograms .finite (s .args .v)) 0 (passes (kind s) && leb (s .args .limit) mostSets)
+known e = let s = at (e .before) in clear (lent (kind s) (s .args .limit) (lentMap s)) (histograms .finite (s .args .v)) 0 (passes (kind s) && leb (s .args .limit) mostSets) (sym (number (e .before)) ∙ e .if1 .left)
 
-enoughly : (e : tie.Else1) → Suffice (at (e .before) .args .limit) (held (at (e .before)) .kept .stores)
-enoughly e =
-    let s = at (e .before) in
-    suffices (s .args .limit) (held s .kept .stores) (and-true (enough (s .args .limit) (held s .kept .stores)) (slotsLent (s .args .size) (s .args .limit) (held s .cells)) (on e .room-is) .0)
-
-abbrev else1 : tie.After-seat-by → tie.Else1
-else1 t = t .before .before .before .before
-
-can-sit : (t : tie.After-seat-by) → Seatable (at (else1 t .before) .args .size) (held (at (else1 t .before))) (t .seat-by .result)
-can-sit t =
-    let e = else1 t in
-    let s = at (e .before) in
-    let a = s .args in
-    subst (Seatable (a .size) (held s)) (sym (t .seat-by .ensures))
-    (seatable (a .size) (a .limit) (held s) _
-    (roomy (a .size) (a .limit) (held s .cells) (and-true (enough (a .limit) (held s .kept .stores)) (slotsLent (a .size) (a .limit) (held s .cells)) (on e .room-is) .1))
-    (by-safe (a .limit) (a .d) (held s .kept .stores) (a .h) (enoughly e .entries)))
+long : (e : tie.Else1) → Suffice (at (e .before) .args .limit) (lentMap (at (e .before)) .kept .stores)
+long e = let s = at (e .before) in lent-dir (owed (s .args .size) (s .args .top)) (s .args .limit) (lentMap s) (known e .room-is)
 
 enough-requires : tie.Need-enough-requires
 enough-requires c κs = search needs
@@ -83,17 +67,21 @@ refused-requires : tie.Need-refused-requires
 refused-requires c κs = search needs
 
 returns : tie.Need-returns
-returns c = let b = c .before .before in
+returns c =
+    let b = c .before .before in
     let s = at b in
-    let a = s .args in
-    ap (λ (r : Reply). record { answer = r .answer; held = record { kept = record { dir = r .dir; stores = held s .kept .stores }; cells = held s .cells } }) (c .refused .ensures)
-    ∙ sym (by-no (a .size) (a .top) (a .limit) (held s) (a .v) (b .barred .result) (a .h) (number b) (c .before .if1 .taken))
+    ap (same s) (c .refused .ensures) ∙ called-barred (kind s) (s .args .limit) (lentMap s) (s .args .v) 0 (leb (s .args .limit) mostSets) _ _ (b .barred .result) (number b) (c .before .if1 .taken)
+    ∙ by-here (kind s) (s .args .limit) (lentMap s) (s .args .v) (s .args .h)
 
 seat-by-requires : tie.Need-seat-by-requires
-seat-by-requires c κs = let w = enoughly (c .before .before .before) in (w .sets, w .entries, w .order)
+seat-by-requires c κs = let l = long (c .before .before .before) in (l .sets, l .entries, l .order)
 
 enter-requires : tie.Need-enter-requires
-enter-requires c κs = can-sit (c .before .before .before .before .before .before .before)
+enter-requires c κs =
+    let t = c .before .before .before .before .before .before .before in
+    let e = t .before .before .before .before in
+    let s = at (e .before) in
+    by-seatable (owed (s .args .size) (s .args .top)) (s .args .limit) (lentMap s) (known e .room-is) (s .args .h) (t .seat-by .result) (t .seat-by .ensures)
 
 same-length : tie.Need-same-length
 same-length c = search needs
@@ -117,13 +105,15 @@ same-length-7 : tie.Need-same-length-7
 same-length-7 c = search needs
 
 returns-2 : tie.Need-returns-2
-returns-2 c = let n = c .before .before .before .before .before .before .before .before .before .before in
+returns-2 c =
+    let n = c .before .before .before .before .before .before .before .before .before .before in
     let t = n .before .before .before .before .before .before .before .before in
-    let b = else1 t .before in
+    let e = t .before .before .before .before in
+    let b = e .before in
     let s = at b in
-    let a = s .args in
     n .enter .ensures
-    ∙ by-on (a .size) (a .top) (a .limit) (held s) (a .v) (b .barred .result) (a .h) (number b) (else1 t .if1 .left) (t .seat-by .result) (t .seat-by .ensures)
+    ∙ called-on (kind s) (s .args .limit) (lentMap s) (s .args .v) 0 (leb (s .args .limit) mostSets) _ (t .seat-by .result) (b .barred .result) (number b) (e .if1 .left)
+    ∙ by-is (kind s) (s .args .limit) (lentMap s) (s .args .v) (s .args .h) (t .seat-by .result) (t .seat-by .ensures)
 
 pub measure-by-spec : {M : Type 1} → statement M
 measure-by-spec =

@@ -1,7 +1,7 @@
 -- `value_map::exponential::size_passes` meets its contract. Assumes nothing.
 use Rattle.value_map.proofs.exponential.size_passes.Statement.{statement}
 use Rattle.value_map.proofs.exponential.size_passes.Tie as tie
-use Rattle.value_map.proofs.ExponentialCases.{small-size, by-most}
+use Rattle.value_map.proofs.ExponentialOwes.{small-size, by-most}
 
 returns : tie.Need-returns
 returns c = small-size (c .before .args .size) (c .if1 .taken)

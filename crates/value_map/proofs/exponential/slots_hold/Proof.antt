@@ -7,7 +7,7 @@ use mathlib.Core.Path.{_≡_, sym, _∙_}
 use mathlib.Core.Bool.{true}
 use borrow.Author.Tests.{not-true, not-false}
 use lib.Dec.{leb}
-use Rattle.value_map.proofs.ExponentialCases.{few-figures, few-extremes, few-pos, by-neg}
+use Rattle.value_map.proofs.ExponentialOwes.{few-figures, few-extremes, few-pos, by-neg}
 
 one : (c : tie.Else1) → leb (c .before .before .args .limit + 2) (c .before .before .args .figures) ≡ true
 one c = sym (c .before .holds .ensures) ∙ not-false _ (c .if1 .left)

@@ -1,0 +1,79 @@
+-- The explicit kind pays what it owes, by the laws of `bucket_slots`. Assumes nothing.
+use Prim.Native.Nat.{ℕ, _+_, _*_, _≤_}
+use mathlib.Core.Path.{_≡_, refl, ap, _∙_}
+use mathlib.Core.Bool.{Bool, true, false, _&&_}
+use mathlib.Core.List.{List}
+use native.Mathlib.Omega.{arith}
+use lib.Dec.{leb, eqb}
+use lib.ListN.{length}
+use lib.Ieee.{Float, binary64, fits}
+use lib.Ieee.Scale.{finite}
+use borrow.Author.Tests.{leb-true}
+use Rattle.laws.specs.Pick.{pick}
+use Rattle.laws.proofs.Bools.{pick-left}
+use Rattle.laws.proofs.Cases.{and-true, true-not-false}
+use Rattle.parts.proofs.Laws.{within}
+use Rattle.points.specs.Explicit.{boundsPass, bucketCount}
+use Rattle.bucket_slots.specs.Slots as Slots
+use Rattle.bucket_slots.specs.Slots.{Stores, Room}
+use Rattle.bucket_slots.proofs.Series as Laws
+use Rattle.value_map.specs.Store.{Recording}
+use Rattle.value_map.specs.Calls.{passes}
+use Rattle.value_map.specs.Explicit.{cellsHold, cellsLent, explicitStore}
+use Rattle.value_map.proofs.Owed.{Owed}
+
+-- the bounds are all that configuring asks of the settings
+either : (b : Bool) → b ≡ eqb (pick b 0 3) 0
+unfolding pick
+either true = refl
+either false = refl
+
+pub passes-is : (bounds : List Float) → boundsPass bounds ≡ passes (explicitStore bounds)
+passes-is bounds = either (boundsPass bounds)
+
+bounds-pass : (bounds : List Float) → explicitStore bounds .unset ≡ 0 → boundsPass bounds ≡ true
+bounds-pass bounds e = pick-left (boundsPass bounds) 0 3 (omega arith) e
+
+-- each of limit + 2 slots lies in stores that suffice
+room : (bounds : List Float) (limit : ℕ) (c : Stores) (x : ℕ) → cellsLent bounds limit c ≡ true → x ≤ limit + 1 → Room bounds c x
+room bounds limit c x e h =
+    let n = bucketCount bounds in
+    let a = and-true (leb (limit + 2) (length (c .totals))) _ e in
+    let b = and-true (leb (limit + 2) (length (c .extremes))) _ (a .1) in
+    record {
+      totals = omega (arith, h, leb-true (limit + 2) (length (c .totals)) (a .0));
+      extremes = omega (arith, h, leb-true (limit + 2) (length (c .extremes)) (b .0));
+      counts = within x (limit + 2) n (length (c .counts)) (omega (arith, h)) (leb-true ((limit + 2) * n) (length (c .counts)) (b .1));
+    }
+
+finite-is : (v : Float) → (finite v && fits binary64 v) ≡ true → finite v ≡ true
+finite-is v e = and-true (finite v) (fits binary64 v) e .0
+
+-- a recording of `bucket_slots` as the store has it
+abbrev pub left : Slots.Recording → Recording Stores
+left o = record { no = o .no; cells = o .stores }
+
+pub owed : (bounds : List Float) → Owed (explicitStore bounds)
+owed bounds =
+    record {
+      valid = λ e w. bounds-pass bounds e;
+      room = room bounds;
+      unchanged = λ c x u v d. Laws.refused-same bounds x u c v d;
+      disagreeing = λ w c x u v f s. ap left (Laws.disagreeing bounds (w .0) (w .1) (w .2) c x (f .room) v (finite-is v (f .value)) u s);
+      full = λ w c x u v f s n. ap left (Laws.full bounds (w .0) (w .1) (w .2) c x (f .room) v (finite-is v (f .value)) u s n);
+      barred = λ w c x u v f s n b. true-not-false b;
+      took = λ w c x u v f s n b.
+          let t = Laws.took bounds (w .0) (w .1) (w .2) c x (f .room) v (finite-is v (f .value)) (bounds-pass bounds (f .set)) u s n in
+          let k = t .1 .lengths in
+          record {
+            no = t .0;
+            own = t .1 .series;
+            others = t .1 .others;
+            lent = λ limit l. (λ j. cellsHold (bucketCount bounds) limit (k .totals j) (k .extremes j) (k .counts j)) ∙ l;
+          };
+    }
+
+-- and 8 is what its slots say under bounds that configuring does not accept
+pub bad-8 : (bounds : List Float) (c : Stores) (x : ℕ) (u : Bool) (v : Float) → Room bounds c x → finite v ≡ true → boundsPass bounds ≡ false
+    → explicitStore bounds .recorded x u c v .no ≡ 8
+bad-8 bounds c x u v r f b = ap (λ (o : Slots.Recording). o .no) (Laws.bad-bounds bounds x u c v r f b)

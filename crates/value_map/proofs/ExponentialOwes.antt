@@ -1,0 +1,124 @@
+-- The exponential kind pays what it owes, by the laws of `expo_slots`. Assumes nothing.
+use Prim.Native.Nat.{ℕ, _+_, _*_, _≤_, _<_}
+use mathlib.Core.Path.{_≡_, ap, _∙_}
+use mathlib.Core.Bool.{true, false, _&&_}
+use native.Mathlib.Omega.{arith}
+use lib.Dec.{leb}
+use lib.ListN.{length}
+use lib.Ieee.{Float}
+use borrow.Author.Tests.{le-leb, lt-leb, leb-true}
+use Rattle.laws.specs.Pick.{pick}
+use Rattle.laws.proofs.Bools.{pick-left, pick-then}
+use Rattle.laws.proofs.Cases.{and-true, true-not-false}
+use Rattle.parts.proofs.Laws.{within}
+use Rattle.index.specs.Bins.{finest}
+use Rattle.points.specs.Figures.{exponential, sizePasses}
+use Rattle.kinds.specs.Histograms as Kinds
+use Rattle.expo_slots.specs.Slots as Slots
+use Rattle.expo_slots.specs.Slots.{Slots, Room}
+use Rattle.expo_slots.proofs.Written as Written
+use Rattle.expo_slots.proofs.Recording as Laws
+use Rattle.value_map.specs.Store.{Recording}
+use Rattle.value_map.specs.Calls.{passes}
+use Rattle.value_map.specs.Exponential.{slotsHold, slotsLent, unset, expoStore}
+use Rattle.value_map.proofs.Owed.{Fit, Owed}
+
+-- ---- max_size and the greatest level
+
+pub small-size : (size : ℕ) → size < 3 → false ≡ sizePasses size
+small-size size h = rw (lt-leb 3 size h)
+
+pub by-most : (size : ℕ) → 3 ≤ size → leb size 160 ≡ sizePasses size
+by-most size h = rw (le-leb 3 size h)
+
+module _ (size top : ℕ) where
+  pub unset-1 : sizePasses size ≡ false → 1 ≡ unset size top
+  unfolding unset pick
+  unset-1 e = rw e
+
+  module _ (e : sizePasses size ≡ true) where
+    pub unset-2 : finest < top → 2 ≡ unset size top
+    unfolding unset pick
+    unset-2 h = rw (e, lt-leb top finest h)
+
+    pub unset-0 : top ≤ finest → unset size top ≡ 0
+    unfolding unset pick
+    unset-0 h = rw (e, le-leb top finest h)
+
+  unset-valid : unset size top ≡ 0 → Kinds.passes (exponential size top) ≡ true
+  unfolding unset
+  unset-valid e =
+      let b = leb top finest in
+      let p = pick-left (sizePasses size) (pick b 0 2) 1 (omega arith) e in
+      let q = pick-left b 0 2 (omega arith) (pick-then (sizePasses size) (pick b 0 2) 1 (omega arith) e) in
+      rw (p, q)
+
+-- ---- number 12
+
+module _ (size limit figures extremes pos neg : ℕ) where
+  pub few-figures : leb (limit + 2) figures ≡ false → false ≡ slotsHold size limit figures extremes pos neg
+  unfolding slotsHold
+  few-figures e = rw e
+
+  module _ (a : leb (limit + 2) figures ≡ true) where
+    pub few-extremes : leb (limit + 2) extremes ≡ false → false ≡ slotsHold size limit figures extremes pos neg
+    unfolding slotsHold
+    few-extremes e = rw (a, e)
+
+    module _ (b : leb (limit + 2) extremes ≡ true) where
+      pub few-pos : leb ((limit + 2) * size) pos ≡ false → false ≡ slotsHold size limit figures extremes pos neg
+      unfolding slotsHold
+      few-pos e = rw (a, b, e)
+
+      pub by-neg : leb ((limit + 2) * size) pos ≡ true → leb ((limit + 2) * size) neg ≡ slotsHold size limit figures extremes pos neg
+      unfolding slotsHold
+      by-neg e = rw (a, b, e)
+
+-- each of limit + 2 slots lies in stores that suffice
+room : (size limit : ℕ) (c : Slots) (x : ℕ) → slotsLent size limit c ≡ true → x ≤ limit + 1 → Room size c x
+unfolding slotsHold
+room size limit c x e h =
+    let t₁ = leb (limit + 2) (length (c .figures)) in
+    let t₂ = leb (limit + 2) (length (c .extremes)) in
+    let t₃ = leb ((limit + 2) * size) (length (c .pos)) in
+    let t₄ = leb ((limit + 2) * size) (length (c .neg)) in
+    let p = and-true t₁ (t₂ && (t₃ && t₄)) e in
+    let q = and-true t₂ (t₃ && t₄) (p .1) in
+    let r = and-true t₃ t₄ (q .1) in
+    let b : x < limit + 2 = omega (arith, h) in
+    record {
+      figures = omega (arith, h, leb-true (limit + 2) (length (c .figures)) (p .0));
+      extremes = omega (arith, h, leb-true (limit + 2) (length (c .extremes)) (q .0));
+      pos = within x (limit + 2) size (length (c .pos)) b (leb-true ((limit + 2) * size) (length (c .pos)) (r .0));
+      neg = within x (limit + 2) size (length (c .neg)) b (leb-true ((limit + 2) * size) (length (c .neg)) (r .1));
+    }
+
+-- ---- what is owed
+
+fit : (size top : ℕ) (c : Slots) (x : ℕ) (v : Float) → Fit (expoStore size top) c x v → Written.Fit size top x c v
+fit size top c x v f =
+    let r = f .room in
+    record { valid = unset-valid size top (f .set); figures = r .figures; extremes = r .extremes; pos = r .pos; neg = r .neg; value = f .value }
+
+-- an outcome of `expo_slots` as the store has it
+abbrev pub left : Slots.Outcome → Recording Slots
+left o = record { no = o .number; cells = o .slots }
+
+pub owed : (size top : ℕ) → Owed (expoStore size top)
+owed size top =
+    record {
+      valid = λ e w. unset-valid size top e;
+      room = room size;
+      unchanged = λ c x u v d. Laws.unchanged size top x u c v d;
+      disagreeing = λ w c x u v f s. ap left (Laws.disagreeing size top x c v (w .0) (w .1) (fit size top c x v f) u s);
+      full = λ w c x u v f s n. ap left (Laws.full size top x c v (w .0) (w .1) (fit size top c x v f) u s n);
+      barred = λ w c x u v f s n b. true-not-false b;
+      took = λ w c x u v f s n b.
+          let t = Laws.took size top x c v (w .0) (w .1) (fit size top c x v f) u s n in
+          record {
+            no = t .number;
+            own = t .own;
+            others = t .others;
+            lent = λ limit l. (λ j. slotsHold size limit (t .figures j) (t .extremes j) (t .pos j) (t .neg j)) ∙ l;
+          };
+    }

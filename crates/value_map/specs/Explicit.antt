@@ -1,0 +1,41 @@
+-- The explicit kind's store. Assumes nothing.
+use Prim.Native.Nat.{ℕ, _+_, _*_}
+use mathlib.Core.Bool.{Bool, _&&_}
+use mathlib.Core.List.{List}
+use lib.Dec.{leb}
+use lib.ListN.{length}
+use lib.Ieee.{Float}
+use Rattle.laws.specs.Pick.{pick}
+use Rattle.points.specs.Explicit.{boundsPass, bucketCount}
+use Rattle.points.specs.Figures.{explicit}
+use Rattle.kinds.specs.Histograms.{histograms}
+use Rattle.seats.specs.declared.Seating.{Seating}
+use Rattle.bucket_slots.specs.Slots.{Stores, Room, seriesAt, recordedAt}
+use Rattle.value_map.specs.Store.{Store}
+use Rattle.value_map.specs.Calls.{Held, Outcome, unlessRefused, entered}
+
+-- "12: a lent count store under (limit + 2) × max_size counts (explicit: × buckets, one store), or any other lent store under limit + 2
+-- entries", by lengths, with n buckets
+abbrev pub cellsHold : ℕ → ℕ → ℕ → ℕ → ℕ → Bool
+cellsHold n limit totals extremes counts = leb (limit + 2) totals && (leb (limit + 2) extremes && leb ((limit + 2) * n) counts)
+
+abbrev pub cellsLent : List Float → ℕ → Stores → Bool
+cellsLent bounds limit c = cellsHold (bucketCount bounds) limit (length (c .totals)) (length (c .extremes)) (length (c .counts))
+
+-- the switches: extremes and sums; and a threshold, which this kind has no use for
+abbrev pub explicitStore : List Float → Store histograms
+explicitStore bounds =
+    record {
+      Switches = Bool × Bool × Float;
+      settings = λ w. record { kind = explicit bounds; extremes = w .0; sums = w .1; threshold = w .2 };
+      unset = pick (boundsPass bounds) 0 3;
+      Cells = Stores;
+      suffices = cellsLent bounds;
+      Room = Room bounds;
+      at = seriesAt bounds;
+      recorded = λ x updated c v. let o = recordedAt bounds x updated c v in record { no = o .no; cells = o .stores };
+    }
+
+-- at a seating, the bounds asked last: 8 where configuring could not have accepted them
+abbrev pub enteredIn : List Float → Held Stores → Float → List ℕ → Seating → Outcome Stores
+enteredIn bounds h v row a = unlessRefused h (pick (boundsPass bounds) 0 8) (entered (explicitStore bounds) h v row a)

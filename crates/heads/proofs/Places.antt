@@ -35,7 +35,7 @@ module _ (xs ys : List ℕ) (n i : ℕ) (more : i < n) (lx : n ≤ length xs) (l
       let a = length-take-le i xs (omega arith) in
       let b = length-take-le i ys (omega arith) in
       ap (λ (l : List ℕ). getD l i 0) e
-      ∙ over-behind (added (take i xs) (take i ys)) xs i (omega (arith, length-added (take i xs) (take i ys) (a ∙ sym b), a))
+      ∙ over-behind (added (take i xs) (take i ys)) xs i 0 (omega (arith, length-added (take i xs) (take i ys) (a ∙ sym b), a))
 
   pub into-turn : set cs i (getD cs i 0 + getD ys i 0) ≡ over (added (take (i + 1) xs) (take (i + 1) ys)) xs
   into-turn = ap (λ (x : ℕ). set cs i (x + getD ys i 0)) still ∙ added-turn xs ys xs n i more lx ly lx cs e

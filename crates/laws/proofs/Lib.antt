@@ -4,6 +4,7 @@ pub mod Perms
 pub mod Bools
 pub mod Same
 pub mod Lists
+pub mod Over
 pub mod Trees
 pub mod Counting
 pub mod Search

@@ -1,5 +1,7 @@
 pub mod Tests
 pub mod Pick
+pub mod Said
+pub mod Over
 pub mod Lists
 pub mod Trees
 pub mod Counting

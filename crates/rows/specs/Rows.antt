@@ -5,10 +5,7 @@ use mathlib.Core.Bool.{Bool, true, false}
 use lib.Dec.{leb, eqb}
 use lib.ListN.{length, take, drop, replicate}
 use Rattle.laws.specs.Pick.{_and_}
-
--- `new` laid over the front of `old`
-unfoldable pub over : List ℕ → List ℕ → List ℕ
-over new old = new ++ drop (length new) old
+unfoldable pub use Rattle.laws.specs.Over.{over}
 
 -- v more at place k, with zeros before it where the list is shorter
 unfoldable pub addAt : ℕ → ℕ → List ℕ → List ℕ

@@ -21,7 +21,7 @@ use Rattle.sets.specs.Sorted.{mostAttributes}
 use Rattle.sets.proofs.CallRow.{row-set, row-keyed, row-short}
 use Rattle.sets.proofs.Exact.{Small}
 use Rattle.sets.proofs.Keyed.{keyed-sound}
-use Rattle.directory.specs.Calls.{Kept, overRow, located, scan, mostSets, accepts, enough}
+use Rattle.directory.specs.Calls.{Kept, overRow, located, scan, mostSets, accepts, storesSuffice}
 use Rattle.directory.specs.View.{Stores, slotsb, agreesb, view}
 use Rattle.directory.specs.declared.Directory.{Directory}
 use Rattle.directory.specs.declared.Found.{Found}
@@ -86,22 +86,22 @@ module _ (limit : ℕ) (d : Directory) (s : Stores) (h : ℕ) (g : agreesb limit
   released-laid = either LaidIn (agreesb limit d s) _ _ (λ b. freed-laid (scan h (s .entries) (slotsOf d s)) refl) (λ b. laid limit d s g)
 
 module _ (limit : ℕ) (filter : Option (List ℕ)) (d : Directory) (s : Stores) (attrs : Set) where
-  bound-is : enough limit s ≡ true → leb (length attrs) mostAttributes ≡ true → accepts limit filter ≡ true → bound limit filter d s attrs ≡ boundIn limit d s (rowOf (canonical filter attrs))
+  bound-is : storesSuffice limit s ≡ true → leb (length attrs) mostAttributes ≡ true → accepts limit filter ≡ true → bound limit filter d s attrs ≡ boundIn limit d s (rowOf (canonical filter attrs))
   unfolding bound pick
   bound-is e h a = rw (e, h, a)
 
-  bound-many : enough limit s ≡ true → leb (length attrs) mostAttributes ≡ false → bound limit filter d s attrs ≡ refused 5 d s
+  bound-many : storesSuffice limit s ≡ true → leb (length attrs) mostAttributes ≡ false → bound limit filter d s attrs ≡ refused 5 d s
   unfolding bound pick
   bound-many e h = rw (e, h)
 
   -- a directory that disagrees: 8, after 12 and 5
-  pub bound-damaged : enough limit s ≡ true → leb (length attrs) mostAttributes ≡ true → accepts limit filter ≡ true → agreesb limit d s ≡ false → bound limit filter d s attrs ≡ refused 8 d s
+  pub bound-damaged : storesSuffice limit s ≡ true → leb (length attrs) mostAttributes ≡ true → accepts limit filter ≡ true → agreesb limit d s ≡ false → bound limit filter d s attrs ≡ refused 8 d s
   unfolding boundIn
   bound-damaged e h a g =
       let l = located-no limit d s (rowOf (canonical filter attrs)) g in bound-is e h a ∙ rw l
 
 -- FAITHFUL. Each call is the map's step, wherever the directory agrees, in stores that suffice
-module _ (K : Kind) (f : ℕ → K .Series) (z : K .Settings) (c : Config K) (d : Directory) (s : Stores) (g : agreesb (c .limit) d s ≡ true) (e : enough (c .limit) s ≡ true) where
+module _ (K : Kind) (f : ℕ → K .Series) (z : K .Settings) (c : Config K) (d : Directory) (s : Stores) (g : agreesb (c .limit) d s ≡ true) (e : storesSuffice (c .limit) s ≡ true) where
   too-many : (attrs : Set) → leb (length attrs) 8 ≡ false → Steps K f z c (view K f z d s) (bind attrs) (refused 5 d s)
   unfolding upfront act
   too-many attrs h = rw h (refl, refl)
@@ -138,13 +138,13 @@ module _ (limit : ℕ) (d : Directory) (s : Stores) (g : agreesb limit d s ≡ t
   pub bind-keeps : (filter : Option (List ℕ)) (attrs : Set) → Small attrs → d .last < 2 ^ 64 → AgreesIn limit (bound limit filter d s attrs)
   unfolding bound
   bind-keeps filter attrs small last =
-      either (AgreesIn limit) (enough limit s) _ _
+      either (AgreesIn limit) (storesSuffice limit s) _ _
       (λ e. either (AgreesIn limit) (leb (length attrs) mostAttributes) _ _
       (λ h. either (AgreesIn limit) (accepts limit filter) _ _ (λ a. on e (leb-true (length attrs) 8 h)) (λ a. g))
       (λ h. g))
       (λ e. g)
     where
-      on : enough limit s ≡ true → length attrs ≤ 8 → AgreesIn limit (boundIn limit d s (rowOf (canonical filter attrs)))
+      on : storesSuffice limit s ≡ true → length attrs ≤ 8 → AgreesIn limit (boundIn limit d s (rowOf (canonical filter attrs)))
       on e n =
           let r = suffices limit s e in
           let row = rowOf (canonical filter attrs) in
@@ -157,9 +157,9 @@ module _ (limit : ℕ) (d : Directory) (s : Stores) (g : agreesb limit d s ≡ t
   pub release-keeps : (h : ℕ) → AgreesIn limit (released limit d s h)
   unfolding released
   release-keeps h =
-      either (AgreesIn limit) (enough limit s) _ _ (λ e. either (AgreesIn limit) (leb limit mostSets) _ _ (λ k. on e) (λ k. g)) (λ e. g)
+      either (AgreesIn limit) (storesSuffice limit s) _ _ (λ e. either (AgreesIn limit) (leb limit mostSets) _ _ (λ k. on e) (λ k. g)) (λ e. g)
     where
-      on : enough limit s ≡ true → AgreesIn limit (releasedIn limit d s h)
+      on : storesSuffice limit s ≡ true → AgreesIn limit (releasedIn limit d s h)
       on e =
           let r = suffices limit s e in
           let o = releasedIn limit d s h in
@@ -168,7 +168,7 @@ module _ (limit : ℕ) (d : Directory) (s : Stores) (g : agreesb limit d s ≡ t
           (subst (Agrees blank (config none)) (sym (p .1)) (step-agrees blank (config none) (view blank (λ k. tt) tt d s) (before-it none) (release h)))
 
 -- FRESH. A fresh start is the map's, and agrees
-module _ (limit : ℕ) (filter : Option (List ℕ)) (s : Stores) (a : accepts limit filter ≡ true) (e : enough limit s ≡ true) where
+module _ (limit : ℕ) (filter : Option (List ℕ)) (s : Stores) (a : accepts limit filter ≡ true) (e : storesSuffice limit s ≡ true) where
   abbrev pub wiped : Stores
   wiped = record { sets = s .sets; entries = set (s .entries) 0 (0 ∷ 0 ∷ 0 ∷ []); order = s .order }
 

@@ -11,7 +11,7 @@ use Rattle.laws.specs.Pick.{pick}
 use Rattle.tally.specs.Sets.{canonical}
 use Rattle.sets.specs.Rows.{rowOf}
 use Rattle.sets.specs.Sorted.{attribute, given, mostAttributes}
-use Rattle.directory.specs.Calls.{mostSets, accepts, enough}
+use Rattle.directory.specs.Calls.{mostSets, accepts, storesSuffice}
 use Rattle.directory.specs.View.{Stores}
 use Rattle.directory.specs.declared.Directory.{Directory}
 use Rattle.bindings.specs.Calls.{refused, releasedIn, boundIn, fresh, started, bound, released}
@@ -24,11 +24,11 @@ module _ (limit : ℕ) (filter : Option (List ℕ)) (s : Stores) where
   start-4 e = rw e
 
   module _ (a : accepts limit filter ≡ true) where
-    pub start-12 : enough limit s ≡ false → started limit filter s ≡ refused 12 fresh s
+    pub start-12 : storesSuffice limit s ≡ false → started limit filter s ≡ refused 12 fresh s
     unfolding started pick
     start-12 e = rw (a, e)
 
-    pub start-0 : enough limit s ≡ true → started limit filter s
+    pub start-0 : storesSuffice limit s ≡ true → started limit filter s
         ≡ record { answer = Done; kept = record { dir = fresh; stores = record { sets = s .sets; entries = set (s .entries) 0 (0 ∷ 0 ∷ 0 ∷ []); order = s .order } } }
     unfolding started pick
     start-0 e = rw (a, e)
@@ -38,7 +38,7 @@ module _ (limit : ℕ) (filter : Option (List ℕ)) (d : Directory) (s : Stores)
   long : length (given l) ≡ length l
   long = length-map l attribute
 
-  pub bound-12 : enough limit s ≡ false → bound limit filter d s (given l) ≡ refused 12 d s
+  pub bound-12 : storesSuffice limit s ≡ false → bound limit filter d s (given l) ≡ refused 12 d s
   unfolding bound pick
   bound-12 e = rw e
 
@@ -46,7 +46,7 @@ module _ (limit : ℕ) (filter : Option (List ℕ)) (d : Directory) (s : Stores)
   counted : (b : Bool) → leb (length l) mostAttributes ≡ b → leb (length (given l)) mostAttributes ≡ b
   counted b h = ap (λ (n : ℕ). leb n mostAttributes) long ∙ h
 
-  module _ (e : enough limit s ≡ true) where
+  module _ (e : storesSuffice limit s ≡ true) where
     pub bound-5 : leb (length l) mostAttributes ≡ false → bound limit filter d s (given l) ≡ refused 5 d s
     unfolding bound pick
     bound-5 h = rw (e, counted false h)
@@ -62,11 +62,11 @@ module _ (limit : ℕ) (filter : Option (List ℕ)) (d : Directory) (s : Stores)
 
 -- releasing
 module _ (limit : ℕ) (d : Directory) (s : Stores) (h : ℕ) where
-  pub released-12 : enough limit s ≡ false → released limit d s h ≡ refused 12 d s
+  pub released-12 : storesSuffice limit s ≡ false → released limit d s h ≡ refused 12 d s
   unfolding released pick
   released-12 e = rw e
 
-  module _ (e : enough limit s ≡ true) where
+  module _ (e : storesSuffice limit s ≡ true) where
     pub released-8 : mostSets < limit → released limit d s h ≡ refused 8 d s
     unfolding released pick
     released-8 k = rw (e, lt-leb limit mostSets k)

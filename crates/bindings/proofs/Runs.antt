@@ -14,7 +14,7 @@ use Rattle.tally.specs.Sets.{Set, canonical}
 use Rattle.sets.specs.Rows.{rowOf}
 use Rattle.sets.specs.Sorted.{mostAttributes}
 use Rattle.sets.proofs.Exact.{Small}
-use Rattle.directory.specs.Calls.{Kept, overRow, located, scan, mostSets, accepts, fewKeys, enough}
+use Rattle.directory.specs.Calls.{Kept, overRow, located, scan, mostSets, accepts, fewKeys, storesSuffice}
 use Rattle.directory.specs.View.{Stores, agreesb}
 use Rattle.directory.specs.declared.Directory.{Directory}
 use Rattle.directory.specs.declared.Found.{Found}
@@ -69,7 +69,7 @@ module _ (limit : ℕ) (filter : Option (List ℕ)) (a : accepts limit filter �
   pub bind-leaves : (attrs : Set) → Leaves (k .dir) (k .stores) (bound limit filter (k .dir) (k .stores) attrs)
   unfolding bound boundIn
   bind-leaves attrs =
-      either (Leaves (k .dir) (k .stores)) (enough limit (k .stores)) _ _
+      either (Leaves (k .dir) (k .stores)) (storesSuffice limit (k .stores)) _ _
       (λ e. either (Leaves (k .dir) (k .stores)) (leb (length attrs) mostAttributes) _ _
       (λ h. either (Leaves (k .dir) (k .stores)) (accepts limit filter) _ _
       (λ b. bound-leaves limit (k .dir) (k .stores) (g .agrees) (g .last) (suffices limit (k .stores) e) (rowOf (canonical filter attrs)) (located limit (k .dir) (k .stores) (rowOf (canonical filter attrs))) refl)
@@ -80,7 +80,7 @@ module _ (limit : ℕ) (filter : Option (List ℕ)) (a : accepts limit filter �
   pub release-leaves : (h : ℕ) → Leaves (k .dir) (k .stores) (released limit (k .dir) (k .stores) h)
   unfolding released releasedIn
   release-leaves h =
-      either (Leaves (k .dir) (k .stores)) (enough limit (k .stores)) _ _
+      either (Leaves (k .dir) (k .stores)) (storesSuffice limit (k .stores)) _ _
       (λ e. either (Leaves (k .dir) (k .stores)) (leb limit mostSets) _ _
       (λ l. either (Leaves (k .dir) (k .stores)) (agreesb limit (k .dir) (k .stores)) _ _
       (λ b. freed-leaves limit (k .dir) (k .stores) (g .agrees) (g .last) (suffices limit (k .stores) e) h (scan h (k .stores .entries) (slotsOf (k .dir) (k .stores))) refl)
@@ -109,14 +109,14 @@ module _ (limit : ℕ) (filter : Option (List ℕ)) where
     move-good k g (releasing h) =
         lasts limit k g (made k (releasing h) .kept) (move-leaves k g (releasing h) .1) (release-keeps limit (k .dir) (k .stores) (g .agrees) h)
 
-    pub start-good : (s : Stores) → enough limit s ≡ true → Good limit (started limit filter s .kept)
+    pub start-good : (s : Stores) → storesSuffice limit s ≡ true → Good limit (started limit filter s .kept)
     start-good s e =
         let r = suffices limit s e in
         let q : length (set (s .entries) 0 (0 ∷ 0 ∷ 0 ∷ [])) ≡ length (s .entries) = length-set (s .entries) 0 (0 ∷ 0 ∷ 0 ∷ []) in
         let p = start-is limit filter s a e in
         record {
           agrees = start-keeps limit filter s a e;
-          lent = subst (λ (k : Kept). enough limit (k .stores) ≡ true) (sym p)
+          lent = subst (λ (k : Kept). storesSuffice limit (k .stores) ≡ true) (sym p)
               (rw (le-leb (limit + 2) (length (s .sets)) (r .sets), le-leb (limit + 2) (length (set (s .entries) 0 (0 ∷ 0 ∷ 0 ∷ []))) (omega (arith, q, r .entries)), le-leb (limit + 2) (length (s .order)) (r .order)));
           last = subst (λ (k : Kept). k .dir .last < 2 ^ 64) (sym p) (omega arith);
         }

@@ -9,7 +9,7 @@ use Rattle.tally.specs.Sets.{Set, canonical}
 use Rattle.tally.specs.Kind as Map
 use Rattle.sets.specs.Rows.{span, rowOf}
 use Rattle.sets.specs.Sorted.{mostAttributes}
-use Rattle.directory.specs.Calls.{Kept, kept, overRow, located, admitted, boundTo, scan, mostSets, accepts, enough}
+use Rattle.directory.specs.Calls.{Kept, kept, overRow, located, admitted, boundTo, scan, mostSets, accepts, storesSuffice}
 use Rattle.directory.specs.View.{Stores, birthAt, agreesb}
 use Rattle.directory.specs.declared.Directory.{Directory}
 use Rattle.directory.specs.declared.Found.{Found}
@@ -96,7 +96,7 @@ fresh = record { used = 0; count = 0; last = 0 }
 unfoldable pub started : ℕ → Option (List ℕ) → Stores → Outcome
 started limit filter s =
     pick (accepts limit filter)
-    (pick (enough limit s)
+    (pick (storesSuffice limit s)
     (record {
       answer = Done;
       kept = record {
@@ -110,7 +110,7 @@ started limit filter s =
 -- "Binding: 12, 5, 8, 9". 8 also where configuring could not have accepted the limit and the filter.
 unfoldable pub bound : ℕ → Option (List ℕ) → Directory → Stores → Set → Outcome
 bound limit filter d s attrs =
-    pick (enough limit s)
+    pick (storesSuffice limit s)
     (pick (leb (length attrs) mostAttributes)
     (pick (accepts limit filter) (boundIn limit d s (rowOf (canonical filter attrs))) (refused 8 d s))
     (refused 5 d s))
@@ -119,4 +119,4 @@ bound limit filter d s attrs =
 -- "Releasing: 12, 8, 7"
 unfoldable pub released : ℕ → Directory → Stores → ℕ → Outcome
 released limit d s h =
-    pick (enough limit s) (pick (leb limit mostSets) (releasedIn limit d s h) (refused 8 d s)) (refused 12 d s)
+    pick (storesSuffice limit s) (pick (leb limit mostSets) (releasedIn limit d s h) (refused 8 d s)) (refused 12 d s)

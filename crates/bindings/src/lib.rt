@@ -42,7 +42,7 @@ pub fn start(
             dir: dir,
         };
     }
-    if !directory::enough(limit, sets.len(), entries.len(), order.len()) {
+    if !directory::stores_suffice(limit, sets.len(), entries.len(), order.len()) {
         return Reply {
             answer: Answer::Refused(12),
             dir: dir,
@@ -69,7 +69,7 @@ pub fn bind(
     ensures { λ r. ⌜ gave r (stores (sets .exit) (entries .exit) (order .exit))
         ≡ bound limit (filterOf present (now (filter .entry))) d (stores (sets .entry) (entries .entry) (order .entry)) (given (now (attrs .entry))) ⌝ }
 {
-    if !directory::enough(limit, sets.len(), entries.len(), order.len()) {
+    if !directory::stores_suffice(limit, sets.len(), entries.len(), order.len()) {
         return Reply {
             answer: Answer::Refused(12),
             dir: d,
@@ -103,7 +103,7 @@ pub fn release(
     ensures { λ r. ⌜ gave r (stores (sets .entry) (entries .exit) (order .entry))
         ≡ released limit d (stores (sets .entry) (entries .entry) (order .entry)) h ⌝ }
 {
-    if !directory::enough(limit, sets.len(), entries.len(), order.len()) {
+    if !directory::stores_suffice(limit, sets.len(), entries.len(), order.len()) {
         return Reply {
             answer: Answer::Refused(12),
             dir: d,

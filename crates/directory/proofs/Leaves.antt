@@ -10,7 +10,7 @@ use lib.ListN.{length, set, length-set}
 use lib.Seq.{getD-set-other}
 use Rattle.sets.specs.Rows.{setOf}
 use Rattle.sets.proofs.Spans.{length-inserted}
-use Rattle.directory.specs.Calls.{Kept, admitted, boundTo, enough}
+use Rattle.directory.specs.Calls.{Kept, admitted, boundTo, storesSuffice}
 use Rattle.directory.specs.View.{Stores, setAt, birthAt, agreesb}
 use Rattle.directory.specs.declared.Directory.{Directory}
 use Rattle.directory.proofs.Laid.{birth-kept, entered, old-birth, new-birth}
@@ -76,7 +76,7 @@ module _ (d : Directory) (s : Stores) where
 -- a state that a run comes by
 pub record Good (limit : ℕ) (k : Kept) : Type 0 where
   pub agrees : agreesb limit (k .dir) (k .stores) ≡ true
-  pub lent : enough limit (k .stores) ≡ true
+  pub lent : storesSuffice limit (k .stores) ≡ true
   pub last : k .dir .last < 2 ^ 64
 
 -- and the next one

@@ -10,7 +10,7 @@ use lib.Dec.{leb}
 use lib.ListN.{length}
 use Rattle.laws.proofs.Cases.{and-true}
 use Rattle.sets.specs.Sorted.{filterOf}
-use Rattle.directory.specs.Calls.{mostSets, mostKeys, fewKeys, accepts, enough}
+use Rattle.directory.specs.Calls.{mostSets, mostKeys, fewKeys, accepts, storesSuffice}
 use Rattle.directory.specs.View.{Stores}
 
 -- limit + 2, without the sum
@@ -60,7 +60,7 @@ pub record Suffice (limit : ℕ) (s : Stores) : Type 0 where
   pub entries : limit + 2 ≤ length (s .entries)
   pub order : limit + 2 ≤ length (s .order)
 
-pub suffices : (limit : ℕ) (s : Stores) → enough limit s ≡ true → Suffice limit s
+pub suffices : (limit : ℕ) (s : Stores) → storesSuffice limit s ≡ true → Suffice limit s
 suffices limit s e =
     let a = and-true (leb (limit + 2) (length (s .sets))) _ e in
     let b = and-true (leb (limit + 2) (length (s .entries))) _ (a .1) in

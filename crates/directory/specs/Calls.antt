@@ -80,6 +80,6 @@ abbrev pub accepts : ℕ → Option (List ℕ) → Bool
 accepts limit filter = leb limit mostSets && fewKeys filter
 
 -- "12: any other lent store under limit + 2 entries"
-abbrev pub enough : ℕ → Stores → Bool
-enough limit s =
+abbrev pub storesSuffice : ℕ → Stores → Bool
+storesSuffice limit s =
     leb (limit + 2) (length (s .sets)) && (leb (limit + 2) (length (s .entries)) && leb (limit + 2) (length (s .order)))

@@ -9,9 +9,9 @@ use lib.ListN.{length, getD, take, drop, drop-of-length-le}
 use lib.Seq.{drop-cons, take-nil}
 use lib.Ieee.{Float, nan}
 use Rattle.laws.proofs.Differences.{le-or-lt}
-use Rattle.series.specs.declared.Head.{Head}
-use Rattle.series.specs.Series.{Outcome, recording}
-use Rattle.series.specs.Runs.{Series, after, headAfter, runAll}
+use Rattle.exponential.specs.declared.Head.{Head}
+use Rattle.exponential.specs.Series.{Outcome, recording}
+use Rattle.exponential.specs.Runs.{Series, after, headAfter, runAll}
 
 module _ (size top : ℕ) (s : Series) (vs : List Float) (i : ℕ) where
   pub turn : (o : Outcome) (h : Head) → i < 1000000 → i < length vs → o ≡ recording size top (s .head) (s .pos) (s .neg) (getD vs i nan) → h ≡ headAfter (o .answer) (s .head)

@@ -1,10 +1,10 @@
 // Calls for programs in other languages: a list of values recorded into one exponential series.
 ghost use mathlib.Core.Path.{_≡_};
 ghost use Prim.Native.Nat.{min};
-ghost use Rattle.series.specs.Runs.{headAfter};
+ghost use Rattle.exponential.specs.Runs.{headAfter};
 ghost use Rattle.exports.specs.Exports.{recorded};
-use series::Answer;
-use series::Head;
+use exponential::Answer;
+use exponential::Head;
 
 // The head that a call leaves: a refused one leaves the old.
 fn head_after(answer: Answer, old: Head) -> Head
@@ -43,11 +43,11 @@ pub extern "C" fn record_all(
     ensures { λ _. ⌜ now (pos .exit) ≡ recorded size top (now (pos .entry)) (now (neg .entry)) (now (values .entry)) .pos ⌝ }
     ensures { λ _. ⌜ now (neg .exit) ≡ recorded size top (now (pos .entry)) (now (neg .entry)) (now (values .entry)) .neg ⌝ }
 {
-    let mut head = series::fresh(top);
+    let mut head = exponential::fresh(top);
     let n = most(values.len());
     let mut i: usize = 0;
     while i < n {
-        let answer = series::record(size, top, head, pos, neg, values[i]);
+        let answer = exponential::record(size, top, head, pos, neg, values[i]);
         head = head_after(answer, head);
         i += 1;
     }

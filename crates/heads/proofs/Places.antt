@@ -12,21 +12,21 @@ use Rattle.rows.specs.Rows.{over}
 use Rattle.rows.proofs.Laws.{over-behind}
 use Rattle.points.specs.Explicit.{bucketCount, added, mergeBuckets}
 use Rattle.points.proofs.Explicit.{length-added}
-use Rattle.series.specs.declared.Head as SH
-use Rattle.series.specs.declared.Counts.{Counts}
-use Rattle.series.specs.Series.{Written}
+use Rattle.exponential.specs.declared.Head as SH
+use Rattle.exponential.specs.declared.Counts.{Counts}
+use Rattle.exponential.specs.Series.{Written}
 use Rattle.merges.specs.Merges.{mergedPoint}
-use Rattle.buckets.specs.declared.Head as BH
-use Rattle.buckets.proofs.Writes.{added-turn, added-fits}
-use Rattle.heads.specs.Heads.{scaledIn, mergedScaled, bucketedIn, mergedBucketed}
+use Rattle.explicit.specs.declared.Head as BH
+use Rattle.explicit.proofs.Writes.{added-turn, added-fits}
+use Rattle.heads.specs.Heads.{exponentialIn, mergedExponential, explicitIn, mergedExplicit}
 
 -- ---- the exponential kind
 module _ (size : ℕ) (a : SH.Head) (xs ys : List ℕ) (b : SH.Head) (zs ws : List ℕ) where
-  pub scaled-is : (r : Counts) (low high : Float) (us vs : List ℕ) → Written (mergedPoint size (a .counts) xs ys (b .counts) zs ws) xs ys r us vs
+  pub exponential-is : (r : Counts) (low high : Float) (us vs : List ℕ) → Written (mergedPoint size (a .counts) xs ys (b .counts) zs ws) xs ys r us vs
       → low ≡ lesserOf (a .min) (b .min) → high ≡ greaterOf (a .max) (b .max)
-      → scaledIn (record { counts = r; min = low; max = high; sum = add binary64 (a .sum) (b .sum) }) us vs ≡ mergedScaled size (scaledIn a xs ys) (scaledIn b zs ws)
-  scaled-is r low high us vs w l h =
-      λ j. scaledIn (record { counts = w .counts j; min = l j; max = h j; sum = add binary64 (a .sum) (b .sum) }) (w .pos j) (w .neg j)
+      → exponentialIn (record { counts = r; min = low; max = high; sum = add binary64 (a .sum) (b .sum) }) us vs ≡ mergedExponential size (exponentialIn a xs ys) (exponentialIn b zs ws)
+  exponential-is r low high us vs w l h =
+      λ j. exponentialIn (record { counts = w .counts j; min = l j; max = h j; sum = add binary64 (a .sum) (b .sum) }) (w .pos j) (w .neg j)
 
 -- ---- the explicit kind: at the turn i the count there is still what it was
 module _ (xs ys : List ℕ) (n i : ℕ) (more : i < n) (lx : n ≤ length xs) (ly : n ≤ length ys) (cs : List ℕ) (e : cs ≡ over (added (take i xs) (take i ys)) xs) where
@@ -44,10 +44,10 @@ module _ (xs ys : List ℕ) (n i : ℕ) (more : i < n) (lx : n ≤ length xs) (l
   into-fits t = omega (arith, still, added-fits xs ys xs n i more lx ly lx t)
 
 module _ (bounds : List Float) (a : BH.Head) (xs : List ℕ) (b : BH.Head) (zs : List ℕ) where
-  pub bucketed-is : (n : ℕ) (low high : Float) (us : List ℕ) → n ≡ bucketCount bounds → us ≡ over (added (take n xs) (take n zs)) xs
+  pub explicit-is : (n : ℕ) (low high : Float) (us : List ℕ) → n ≡ bucketCount bounds → us ≡ over (added (take n xs) (take n zs)) xs
       → low ≡ lesserOf (a .min) (b .min) → high ≡ greaterOf (a .max) (b .max)
-      → bucketedIn (record { count = a .count + b .count; min = low; max = high; sum = add binary64 (a .sum) (b .sum) }) us ≡ mergedBucketed bounds (bucketedIn a xs) (bucketedIn b zs)
+      → explicitIn (record { count = a .count + b .count; min = low; max = high; sum = add binary64 (a .sum) (b .sum) }) us ≡ mergedExplicit bounds (explicitIn a xs) (explicitIn b zs)
   unfolding mergeBuckets
-  bucketed-is n low high us e w l h =
-      λ j. bucketedIn (record { count = a .count + b .count; min = l j; max = h j; sum = add binary64 (a .sum) (b .sum) })
+  explicit-is n low high us e w l h =
+      λ j. explicitIn (record { count = a .count + b .count; min = l j; max = h j; sum = add binary64 (a .sum) (b .sum) })
       ((w ∙ ap (λ (k : ℕ). over (added (take k xs) (take k zs)) xs) e) j)

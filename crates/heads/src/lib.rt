@@ -6,29 +6,29 @@ ghost use Rattle.laws.specs.Counting.{total};
 ghost use Rattle.rows.specs.Rows.{over};
 ghost use Rattle.points.specs.Explicit.{added, bucketCount};
 ghost use Rattle.merges.specs.Merges.{Agreeing, Roomy, mergedPoint};
-ghost use Rattle.heads.specs.Heads.{Addable, scaledIn, mergedScaled, bucketedIn, mergedBucketed};
+ghost use Rattle.heads.specs.Heads.{Addable, exponentialIn, mergedExponential, explicitIn, mergedExplicit};
 
 // ---- the exponential kind
 
-pub fn merge_scaled(
+pub fn merge_exponential(
     size: usize,
-    a: series::Head,
+    a: exponential::Head,
     pos: &mut [u64],
     neg: &mut [u64],
-    b: series::Head,
+    b: exponential::Head,
     bpos: &[u64],
     bneg: &[u64],
-) -> series::Head
+) -> exponential::Head
     requires { ⌜ Agreeing size (a .counts) (now pos) (now neg) (b .counts) (now bpos) (now bneg) ⌝ }
     requires { ⌜ Roomy (mergedPoint size (a .counts) (now pos) (now neg) (b .counts) (now bpos) (now bneg)) (now pos) (now neg) ⌝ }
-    ensures { λ r. ⌜ scaledIn r (now (pos .exit)) (now (neg .exit)) ≡ mergedScaled size (scaledIn a (now (pos .entry)) (now (neg .entry))) (scaledIn b (now (bpos .entry)) (now (bneg .entry))) ⌝ }
+    ensures { λ r. ⌜ exponentialIn r (now (pos .exit)) (now (neg .exit)) ≡ mergedExponential size (exponentialIn a (now (pos .entry)) (now (neg .entry))) (exponentialIn b (now (bpos .entry)) (now (bneg .entry))) ⌝ }
 {
     let c = a.counts;
     let d = b.counts;
     let counts = merges::merge_into(size, c, pos, neg, d, bpos, bneg);
     let min = floats::lesser(a.min, b.min);
     let max = floats::greater(a.max, b.max);
-    series::Head {
+    exponential::Head {
         counts,
         min,
         max,
@@ -51,21 +51,21 @@ pub fn add_into(counts: &mut [u64], other: &[u64], n: usize)
     }
 }
 
-pub fn merge_bucketed(
+pub fn merge_explicit(
     bounds: &[f64],
-    a: buckets::Head,
+    a: explicit::Head,
     counts: &mut [u64],
-    b: buckets::Head,
+    b: explicit::Head,
     others: &[u64],
-) -> buckets::Head
+) -> explicit::Head
     requires { ⌜ Addable (bucketCount (now bounds)) (a .count) (now counts) (b .count) (now others) ⌝ }
-    ensures { λ r. ⌜ bucketedIn r (now (counts .exit)) ≡ mergedBucketed (now (bounds .entry)) (bucketedIn a (now (counts .entry))) (bucketedIn b (now (others .entry))) ⌝ }
+    ensures { λ r. ⌜ explicitIn r (now (counts .exit)) ≡ mergedExplicit (now (bounds .entry)) (explicitIn a (now (counts .entry))) (explicitIn b (now (others .entry))) ⌝ }
 {
-    let n = buckets::bucket_count(bounds);
+    let n = explicit::bucket_count(bounds);
     add_into(counts, others, n);
     let min = floats::lesser(a.min, b.min);
     let max = floats::greater(a.max, b.max);
-    buckets::Head {
+    explicit::Head {
         count: a.count + b.count,
         min,
         max,

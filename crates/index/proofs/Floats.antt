@@ -108,8 +108,8 @@ normalised t p h =
     let w : 2 ^ 52 ≤ 2 ^ 64 = lit≤ tt in
     go (leadingZeros 64 t) (leading-top 64 t p (lt-of-lt-of-le h w))
   where
-    enough : (z j : ℕ) → z + suc j ≡ 64 → j < 52 → 12 ≤ z
-    enough z j e g = omega arith
+    storesSuffice : (z j : ℕ) → z + suc j ≡ 64 → j < 52 → 12 ≤ z
+    storesSuffice z j e g = omega arith
 
     sum : (z j : ℕ) → z + suc j ≡ 64 → j < 52 → j + (z - 11) ≡ 52
     sum z j e g = omega arith
@@ -118,7 +118,7 @@ normalised t p h =
     go z r =
         let j = r .0 in
         let g : j < 52 = pow-lt-back j 52 (lt-of-le-of-lt (r .2) h) in
-        (enough z j (r .1) g, shifted t j (z - 11) (sum z j (r .1) g) (r .2) (r .3))
+        (storesSuffice z j (r .1) g, shifted t j (z - 11) (sum z j (r .1) g) (r .2) (r .3))
 
 -- ---- what the code's tests of a pattern's fields tell
 

@@ -10,7 +10,7 @@ use Rattle.laws.specs.Pick.{pick, _and_}
 use Rattle.floats.specs.Starts.{zeroFloat}
 use Rattle.floats.specs.declared.Extreme.the-variants.{None, Value}
 use Rattle.points.specs.Explicit.{bucketOf, bucketsOf, recordBucket, bucketsAgree, boundsPass, noNan, rising, mergeBuckets, added, sameBounds}
-use Rattle.points.specs.Figures.{explicit, bucketed}
+use Rattle.points.specs.Figures.{explicit, explicitCounts}
 use Rattle.points.specs.Handed.{Handed, mergeable, mergeHanded, handedAgrees}
 use Rattle.tally.specs.Sets.{Set}
 use Rattle.tally.specs.Kind.{Room}
@@ -48,7 +48,7 @@ room n = record { points = 1; pos = n; neg = 0 }
 -- a point with these counts, minimum, maximum and sum
 abbrev point : List ℕ → ℕ → Float → Float → Float → Handed
 point cs n low high sum =
-    record { counts = bucketed bounds (record { counts = cs; total = n }); extremes = true; threshold = zeroFloat; min = Value low; max = Value high; sum = sum }
+    record { counts = explicitCounts bounds (record { counts = cs; total = n }); extremes = true; threshold = zeroFloat; min = Value low; max = Value high; sum = sum }
 
 abbrev first : Handed
 first = point (0 ∷ 1 ∷ 1 ∷ []) 2 five seven (f 0x4028_0000_0000_0000)

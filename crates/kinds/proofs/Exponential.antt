@@ -15,7 +15,7 @@ use Rattle.points.specs.Points as P
 use Rattle.points.specs.Points.{Point, Row, row, rowOf, indices, fitsBoth, scale, build, pointOf, bag, merge, record1}
 use Rattle.points.specs.Values.{classOf}
 use Rattle.points.specs.Agreement.{rowAgrees, agrees}
-use Rattle.points.specs.Figures.{exponential, scaled}
+use Rattle.points.specs.Figures.{exponential, exponentialCounts}
 use Rattle.points.specs.Handed.{Handed, mergeable, mergeHanded, handedAgrees}
 use Rattle.tally.specs.Sets.{Set}
 use Rattle.tally.specs.Kind.{Room}
@@ -38,7 +38,7 @@ no-row = record { start = 0; counts = [] }
 
 abbrev point : Point → Float → Float → Float → Handed
 point p low high sum =
-    record { counts = scaled p; extremes = true; threshold = zeroFloat; min = Value low; max = Value high; sum = sum }
+    record { counts = exponentialCounts p; extremes = true; threshold = zeroFloat; min = Value low; max = Value high; sum = sum }
 
 -- max_size 4 and max_scale 10
 abbrev config : Config histograms

@@ -18,7 +18,7 @@ use Rattle.floats.proofs.Choices.{finite-chosen}
 use Rattle.points.specs.Points.{merge, record1}
 use Rattle.points.specs.Values.{classOf}
 use Rattle.points.specs.Explicit.{recordBucket, mergeBuckets}
-use Rattle.points.specs.Figures.{Kind, exponential, explicit, sizePasses, Settings, Counts, scaled, bucketed, Figures, recordCounts, recordFigures}
+use Rattle.points.specs.Figures.{Kind, exponential, explicit, sizePasses, Settings, Counts, exponentialCounts, explicitCounts, Figures, recordCounts, recordFigures}
 use Rattle.points.specs.Handed.{Handed, sameKind, mergeable, mergeCounts, mergeHanded, extremesAgree, countsAgree, handedAgrees}
 use Rattle.points.proofs.Agreement.{agrees-says, agreed-agrees}
 use Rattle.points.proofs.Kept.{record-agrees, merge-agrees}
@@ -37,12 +37,12 @@ both a b p q = rw (p, q)
 
 -- ---- A SERIES THAT AGREES STAYS AGREEING
 counts-kept : (k : Kind) (t : Float) (c : Counts) (v : Float) → passes k ≡ true → FiniteF64 v → countsHold k c ≡ true → countsHold k (recordCounts k t c v) ≡ true
-counts-kept (exponential size top) t (scaled p) v e f h =
+counts-kept (exponential size top) t (exponentialCounts p) v e f h =
     agreed-agrees size top low (record1 size p (classOf t v))
     (record-agrees size size top low p (classOf t v) (sound-kind (exponential size top) e) (agrees-says size top low p h) (class-in t v f))
-counts-kept (exponential size top) t (bucketed b p) v e f h = h
-counts-kept (explicit bounds) t (scaled p) v e f h = h
-counts-kept (explicit bounds) t (bucketed b p) v e f h =
+counts-kept (exponential size top) t (explicitCounts b p) v e f h = h
+counts-kept (explicit bounds) t (exponentialCounts p) v e f h = h
+counts-kept (explicit bounds) t (explicitCounts b p) v e f h =
     buckets-agree bounds (recordBucket bounds p v) (record-buckets-ok bounds p v (buckets-say bounds p h))
 
 pub stays-agreeing : (z : Settings) (x : Figures) (v : Float) → histograms .valid z ≡ true → histograms .finite v ≡ true
@@ -67,13 +67,13 @@ histograms-steady =
 -- ---- POINTS THAT AGREE AND MERGE MAKE ONE THAT AGREES
 counts-merged : (size : ℕ) (c d : Counts) → (bothExplicit c d || sizePasses size) ≡ true → sameKind c d ≡ true
     → countsAgree size finest low c ≡ true → countsAgree size finest low d ≡ true → countsAgree size finest low (mergeCounts size c d) ≡ true
-counts-merged size (scaled p) (scaled q) s e h k =
+counts-merged size (exponentialCounts p) (exponentialCounts q) s e h k =
     agreed-agrees size finest low (merge size p q)
     (merge-agrees size size size finest finest low p q (leb-true 3 size (and-true (leb 3 size) (leb size 160) s .0))
     (agrees-says size finest low p h) (agrees-says size finest low q k))
-counts-merged size (scaled p) (bucketed c q) s e h k = h
-counts-merged size (bucketed b p) (scaled q) s e h k = h
-counts-merged size (bucketed b p) (bucketed c q) s e h k =
+counts-merged size (exponentialCounts p) (explicitCounts c q) s e h k = h
+counts-merged size (explicitCounts b p) (exponentialCounts q) s e h k = h
+counts-merged size (explicitCounts b p) (explicitCounts c q) s e h k =
     buckets-agree b (mergeBuckets p q) (merge-buckets-ok b c p q (same-count b c e) (buckets-say b p h) (buckets-say c q k))
 
 extremes-merged : (a b c d : Extreme) → extremesAgree a b ≡ true → extremesAgree c d ≡ true → extremesAgree (smallerOf a c) (largerOf b d) ≡ true

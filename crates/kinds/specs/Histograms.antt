@@ -12,7 +12,7 @@ use lib.Ieee.Scale.{finite}
 use Rattle.index.specs.Bins.{finest, lowestBin}
 use Rattle.points.specs.Agreement.{agrees}
 use Rattle.points.specs.Explicit.{boundsPass, bucketsAgree}
-use Rattle.points.specs.Figures.{Kind, exponential, explicit, sizePasses, sizeOf, Settings, Counts, scaled, bucketed, Figures, figuresOf, recordFigures}
+use Rattle.points.specs.Figures.{Kind, exponential, explicit, sizePasses, sizeOf, Settings, Counts, exponentialCounts, explicitCounts, Figures, figuresOf, recordFigures}
 use Rattle.points.specs.Handed.{Handed, handedOut, handed, mergeable, mergeHanded, handedAgrees, countOf}
 use Rattle.points.specs.Stands.{Stands}
 use Rattle.tally.specs.Kind.{unless, firstOf, Room}
@@ -27,19 +27,19 @@ passes (explicit bounds) = boundsPass bounds
 -- "An exponential series agrees when ..; explicit bounds pass number 3, and with bounds the counts total count". Code may read a head
 -- that is out of shape (a level above the finest, a row longer than its part) as counts of the other kind: they never agree.
 abbrev pub countsHold : Kind → Counts → Bool
-countsHold (exponential size top) (scaled p) = agrees size top (lowestBin finest) p
-countsHold (exponential size top) (bucketed b p) = false
-countsHold (explicit bounds) (scaled p) = false
-countsHold (explicit bounds) (bucketed b p) = bucketsAgree bounds p
+countsHold (exponential size top) (exponentialCounts p) = agrees size top (lowestBin finest) p
+countsHold (exponential size top) (explicitCounts b p) = false
+countsHold (explicit bounds) (exponentialCounts p) = false
+countsHold (explicit bounds) (explicitCounts b p) = bucketsAgree bounds p
 
 -- how many counts a point takes in each lent store: "Explicit points have bucket counts", all in the first
 abbrev pub posPlaces : Counts → ℕ
-posPlaces (scaled p) = length (p .pos .counts)
-posPlaces (bucketed b p) = length (p .counts)
+posPlaces (exponentialCounts p) = length (p .pos .counts)
+posPlaces (explicitCounts b p) = length (p .counts)
 
 abbrev pub negPlaces : Counts → ℕ
-negPlaces (scaled p) = length (p .neg .counts)
-negPlaces (bucketed b p) = 0
+negPlaces (exponentialCounts p) = length (p .neg .counts)
+negPlaces (explicitCounts b p) = 0
 
 -- a value is an f64; "held extremes are finite"; nothing is refused after 9
 abbrev pub histograms : Tally.Kind
@@ -65,9 +65,9 @@ histograms =
 
 -- "A merge checks 1 unless both points are explicit."
 abbrev pub bothExplicit : Counts → Counts → Bool
-bothExplicit (scaled p) c = false
-bothExplicit (bucketed b p) (scaled q) = false
-bothExplicit (bucketed b p) (bucketed c q) = true
+bothExplicit (exponentialCounts p) c = false
+bothExplicit (explicitCounts b p) (exponentialCounts q) = false
+bothExplicit (explicitCounts b p) (explicitCounts c q) = true
 
 -- "Merging: 1, 8, 11, 9, 10", the last where a row is longer than its lent store. The greatest level is the finest: "scale is -10 to
 -- max_scale (10 in a merge)"

@@ -126,11 +126,11 @@ as-sub k (pos n) = (n, 0, sym (ap (λ (m : ℕ). pos n -ℤ pos m) (zero-mul (2 
 as-sub k (negsuc n) = (
   suc n * 2 ^ k - suc n,
   suc n,
-  sym (ap (λ (m : ℕ). pos (suc n * 2 ^ k - suc n) -ℤ pos m) (whole (suc n) (suc n * 2 ^ k) (enough n)) ∙ sub-more (suc n) (suc n * 2 ^ k - suc n)),
+  sym (ap (λ (m : ℕ). pos (suc n * 2 ^ k - suc n) -ℤ pos m) (whole (suc n) (suc n * 2 ^ k) (storesSuffice n)) ∙ sub-more (suc n) (suc n * 2 ^ k - suc n)),
 )
   where
-    enough : (n : ℕ) → suc n ≤ suc n * 2 ^ k
-    enough n = le-trans (le-of-eq (sym (one (suc n)))) (mul-le-mul-left (suc n) (pow-pos k))
+    storesSuffice : (n : ℕ) → suc n ≤ suc n * 2 ^ k
+    storesSuffice n = le-trans (le-of-eq (sym (one (suc n)))) (mul-le-mul-left (suc n) (pow-pos k))
       where
         one : (m : ℕ) → m * 1 ≡ m
         one m = omega arith

@@ -6,7 +6,7 @@ use lib.ListN.{set}
 use Rattle.bindings.specs.Calls.{number}
 use Rattle.bindings.specs.declared.Reply.{Reply}
 use Rattle.directory.specs.View.{Stores}
-use Rattle.expo_slots.specs.Slots.{Slots}
+use Rattle.exponential_slots.specs.Slots.{Slots}
 use Rattle.value_map.specs.Calls.{Outcome, gave}
 use Rattle.map_exports.specs.Words.{Handed, wordsOf, handedOut}
 

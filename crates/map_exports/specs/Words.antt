@@ -6,7 +6,7 @@ use denote.Ref.{RefT, now}
 use Rattle.bindings.specs.Calls.{number}
 use Rattle.directory.specs.declared.Directory.{Directory}
 use Rattle.directory.specs.View.{Stores}
-use Rattle.expo_slots.specs.Slots.{Slots}
+use Rattle.exponential_slots.specs.Slots.{Slots}
 use Rattle.value_map.specs.Calls.{Outcome}
 
 -- the directory's state as three words: slots used, the map's count, the last birth number spent

@@ -102,7 +102,7 @@ fn settings_kept(regs: &mut Registers, kind: u64, limit: u64, size: u64, level: 
     regs[9] = kind;
 }
 
-fn begin_scaled(
+fn begin_exponential(
     words: &Words,
     regs: &Registers,
     filter: &[u32],
@@ -122,7 +122,7 @@ fn begin_scaled(
     let f = within(regs[15], pos.len());
     let g = within(regs[16], neg.len());
     let k = within(regs[8], filter.len());
-    value_map::exponential::start(
+    value_map::exponential_map::start(
         cut(words[0]),
         cut(words[1]),
         words[2],
@@ -138,7 +138,7 @@ fn begin_scaled(
     )
 }
 
-pub fn start_scaled(
+pub fn start_exponential(
     n: usize,
     words: &Words,
     regs: &mut Registers,
@@ -154,7 +154,7 @@ pub fn start_scaled(
     if n != 3 {
         return false;
     }
-    let reply = begin_scaled(
+    let reply = begin_exponential(
         words,
         regs,
         filter,
@@ -189,7 +189,7 @@ fn take_bounds(words: &Words, bounds: &mut Bounds) {
     }
 }
 
-fn begin_bucketed(
+fn begin_explicit(
     bounds: &[f64],
     n: usize,
     limit: u64,
@@ -210,7 +210,7 @@ fn begin_bucketed(
     let g = within(regs[17], totals.len());
     let h = within(n as u64, bounds.len());
     let k = within(regs[8], filter.len());
-    value_map::explicit::start(
+    value_map::explicit_map::start(
         &bounds[0..h],
         limit,
         regs[7] != 0,
@@ -237,7 +237,7 @@ fn begin_with(
     pos: &Counts,
     totals: &Totals,
 ) -> Reply {
-    begin_bucketed(
+    begin_explicit(
         bounds,
         n,
         limit,
@@ -252,7 +252,7 @@ fn begin_with(
     )
 }
 
-pub fn start_bucketed(
+pub fn start_explicit(
     n: usize,
     words: &Words,
     regs: &mut Registers,

@@ -74,7 +74,7 @@ fn call(
     let letter = line.letter;
     let n = line.fields;
     if letter == b'e' {
-        return calls::start_scaled(
+        return calls::start_exponential(
             n,
             words,
             regs,
@@ -89,7 +89,7 @@ fn call(
         );
     }
     if letter == b'x' {
-        return calls::start_bucketed(
+        return calls::start_explicit(
             n,
             words,
             regs,
@@ -113,7 +113,7 @@ fn call(
         return calls::release(n, words, regs, sets, entries, order);
     }
     if kind == 1 {
-        return measures::record_scaled(
+        return measures::record_exponential(
             letter,
             n,
             words,
@@ -128,7 +128,7 @@ fn call(
             neg,
         );
     }
-    measures::record_bucketed(
+    measures::record_explicit(
         letter,
         n,
         words,

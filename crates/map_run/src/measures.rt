@@ -47,7 +47,7 @@ fn is_call(letter: u8, n: usize) -> bool {
 
 // ---- the exponential kind
 
-fn scaled(
+fn exponentialCounts(
     call: Call,
     regs: &Registers,
     filter: &[u32],
@@ -65,7 +65,7 @@ fn scaled(
     let top = cut(regs[5]);
     let d = held(regs);
     if call.by_handle {
-        return value_map::exponential::measure_by(
+        return value_map::exponential_map::measure_by(
             size,
             top,
             regs[3],
@@ -81,7 +81,7 @@ fn scaled(
             call.handle,
         );
     }
-    value_map::exponential::measure(
+    value_map::exponential_map::measure(
         size,
         top,
         regs[3],
@@ -100,7 +100,7 @@ fn scaled(
     )
 }
 
-fn scaled_directory(
+fn exponential_directory(
     call: Call,
     regs: &Registers,
     filter: &[u32],
@@ -118,7 +118,7 @@ fn scaled_directory(
     let c = within(regs[12], order.len());
     let m = within(call.given as u64, attrs.len());
     let k = within(regs[8], filter.len());
-    scaled(
+    exponentialCounts(
         call,
         regs,
         &filter[0..k],
@@ -133,7 +133,7 @@ fn scaled_directory(
     )
 }
 
-fn scaled_series(
+fn exponential_series(
     call: Call,
     regs: &Registers,
     filter: &Filter,
@@ -150,7 +150,7 @@ fn scaled_series(
     let e = within(regs[14], extremes.len());
     let f = within(regs[15], pos.len());
     let g = within(regs[16], neg.len());
-    scaled_directory(
+    exponential_directory(
         call,
         regs,
         filter,
@@ -165,7 +165,7 @@ fn scaled_series(
     )
 }
 
-pub fn record_scaled(
+pub fn record_exponential(
     letter: u8,
     n: usize,
     words: &Words,
@@ -185,7 +185,7 @@ pub fn record_scaled(
     let mut attrs = [[0u32; 2]; 12];
     take_attributes(words, 1, &mut attrs);
     let call = call_of(letter, n, words);
-    let reply = scaled_series(
+    let reply = exponential_series(
         call,
         regs,
         filter,
@@ -203,7 +203,7 @@ pub fn record_scaled(
 
 // ---- the explicit kind
 
-fn bucketed(
+fn explicitCounts(
     call: Call,
     regs: &Registers,
     filter: &[u32],
@@ -219,7 +219,7 @@ fn bucketed(
     let v = call.value;
     let d = held(regs);
     if call.by_handle {
-        return value_map::explicit::measure_by(
+        return value_map::explicit_map::measure_by(
             bounds,
             regs[3],
             d,
@@ -233,7 +233,7 @@ fn bucketed(
             call.handle,
         );
     }
-    value_map::explicit::measure(
+    value_map::explicit_map::measure(
         bounds,
         regs[3],
         d,
@@ -250,7 +250,7 @@ fn bucketed(
     )
 }
 
-fn bucketed_directory(
+fn explicit_directory(
     call: Call,
     regs: &Registers,
     filter: &[u32],
@@ -268,7 +268,7 @@ fn bucketed_directory(
     let c = within(regs[12], order.len());
     let m = within(call.given as u64, attrs.len());
     let k = within(regs[8], filter.len());
-    bucketed(
+    explicitCounts(
         call,
         regs,
         &filter[0..k],
@@ -283,7 +283,7 @@ fn bucketed_directory(
     )
 }
 
-fn bucketed_series(
+fn explicit_series(
     call: Call,
     regs: &Registers,
     filter: &Filter,
@@ -300,7 +300,7 @@ fn bucketed_series(
     let f = within(regs[15], pos.len());
     let g = within(regs[17], totals.len());
     let h = within(regs[6], bounds.len());
-    bucketed_directory(
+    explicit_directory(
         call,
         regs,
         filter,
@@ -315,7 +315,7 @@ fn bucketed_series(
     )
 }
 
-pub fn record_bucketed(
+pub fn record_explicit(
     letter: u8,
     n: usize,
     words: &Words,
@@ -335,7 +335,7 @@ pub fn record_bucketed(
     let mut attrs = [[0u32; 2]; 12];
     take_attributes(words, 1, &mut attrs);
     let call = call_of(letter, n, words);
-    let reply = bucketed_series(
+    let reply = explicit_series(
         call,
         regs,
         filter,

@@ -104,7 +104,7 @@ fn buckets(bounds: u64) -> u64 {
     if n == 0 { 0 } else { n + 1 }
 }
 
-fn scaled(slot: usize, size: u64, f: [u64; 8], m: [f64; 3], pos: &Counts, neg: &Counts) {
+fn exponentialCounts(slot: usize, size: u64, f: [u64; 8], m: [f64; 3], pos: &Counts, neg: &Counts) {
     words(f);
     extreme(m);
     let start = part(slot, size);
@@ -112,7 +112,7 @@ fn scaled(slot: usize, size: u64, f: [u64; 8], m: [f64; 3], pos: &Counts, neg: &
     row(neg, start, f[6]);
 }
 
-fn bucketed(slot: usize, bounds: u64, total: u64, m: [f64; 3], pos: &Counts) {
+fn explicitCounts(slot: usize, bounds: u64, total: u64, m: [f64; 3], pos: &Counts) {
     spaced(total);
     extreme(m);
     let n = buckets(bounds);
@@ -154,9 +154,9 @@ fn slot(
     named(q, sets[q], entries[q]);
     if has_series(entries[q]) {
         if regs[9] == 1 {
-            scaled(q, regs[4], figures[q], extremes[q], pos, neg);
+            exponentialCounts(q, regs[4], figures[q], extremes[q], pos, neg);
         } else {
-            bucketed(q, regs[6], totals[q], extremes[q], pos);
+            explicitCounts(q, regs[6], totals[q], extremes[q], pos);
         }
     }
     text::write(b"\n");

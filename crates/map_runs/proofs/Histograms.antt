@@ -9,7 +9,7 @@ use Rattle.kinds.specs.Histograms.{histograms}
 use Rattle.kinds.proofs.Recorded.{lawful}
 use Rattle.kinds.proofs.Steady.{histograms-steady}
 use Rattle.directory.specs.View.{Stores}
-use Rattle.directory.specs.Calls.{enough, accepts}
+use Rattle.directory.specs.Calls.{storesSuffice, accepts}
 use Rattle.value_map.specs.Store.{Store}
 use Rattle.value_map.proofs.Owed.{Owed}
 use Rattle.value_map.proofs.Steps.{configOf}
@@ -20,7 +20,7 @@ use Rattle.map_runs.proofs.Runs.{Tells, run, tells}
 -- under settings, a limit and a filter that configuring accepts, in stores that suffice
 abbrev pub Runs : {S : Store histograms} → Owed S → Type 0
 Runs {S} W =
-    (w : S .Switches) (limit : ℕ) (filter : Option (List ℕ)) (a : accepts limit filter ≡ true) (ok : S .unset ≡ 0) (s : Stores) (n : enough limit s ≡ true)
+    (w : S .Switches) (limit : ℕ) (filter : Option (List ℕ)) (a : accepts limit filter ≡ true) (ok : S .unset ≡ 0) (s : Stores) (n : storesSuffice limit s ≡ true)
     (x : S .Cells) (l : S .suffices limit x ≡ true) → Tells histograms (configOf S w limit filter) (run W w limit filter a ok s n x l)
 
 pub exponential-runs : (size top : ℕ) → Runs (Exponential.owed size top)

@@ -17,7 +17,7 @@ use Rattle.tally.proofs.Demand.{left, demand, cumulative-told}
 use Rattle.tally.proofs.Sound.{Steady, quiet, never-damaged}
 use Rattle.sets.proofs.Exact.{Small}
 use Rattle.directory.specs.View.{Stores}
-use Rattle.directory.specs.Calls.{enough, accepts}
+use Rattle.directory.specs.Calls.{storesSuffice, accepts}
 use Rattle.directory.proofs.Refusals.{within}
 use Rattle.directory.proofs.Leaves.{Leaves}
 use Rattle.bindings.specs.Calls as Bindings
@@ -106,7 +106,7 @@ module _ {K : Kind} {S : Store K} (W : Owed S) (w : S .Switches) (limit : ℕ) (
       }
 
   -- from a fresh start in stores that suffice
-  module _ (ok : S .unset ≡ 0) (s : Stores) (n : enough limit s ≡ true) (x : S .Cells) (l : S .suffices limit x ≡ true) where
+  module _ (ok : S .unset ≡ 0) (s : Stores) (n : storesSuffice limit s ≡ true) (x : S .Cells) (l : S .suffices limit x ≡ true) where
     abbrev first : Held (S .Cells)
     first = record { kept = Bindings.started limit filter s .kept; cells = x }
 

@@ -24,7 +24,7 @@ use Rattle.points.specs.Points as P
 use Rattle.points.specs.Points.{Value, naught, plus, minus, build, scale, fitsBoth, fits, row, rowOf}
 use Rattle.points.specs.Values.{classOf, summaryOf}
 use Rattle.points.specs.Explicit.{bucketOf}
-use Rattle.points.specs.Figures.{scaled}
+use Rattle.points.specs.Figures.{exponentialCounts}
 use Rattle.points.specs.Handed.{handed}
 use Rattle.marks.specs.Marks.{f64, levelOf, binOf, Mark, index, bucket, point, pointOf, Holds, marks}
 use Rattle.marks.proofs.Equal.{same, same-is, sameBit, sameFloat, float-is, sameList, sameRow, samePoint, point-is}
@@ -134,7 +134,7 @@ holds k (point size scale values l) t =
     let counts : P.pointOf size (finest - levelOf scale) (map (classOf zeroFloat) (map f64 values)) ≡ pointOf l =
     ap (P.pointOf size (finest - levelOf scale)) (guesses-are values (both-left a (b && (c && (d && e))) t)) ∙ point-is q (pointOf l) (both-left b (c && (d && e)) t2) in
     λ j. record {
-      counts = scaled (counts j);
+      counts = exponentialCounts (counts j);
       extremes = true;
       threshold = zeroFloat;
       min = E.Value (float-is (m .min) (f64 (l .min)) (both-left c (d && e) t3) j);

@@ -12,7 +12,7 @@ use Rattle.floats.specs.Starts.{zeroFloat}
 use Rattle.floats.specs.declared.Extreme.the-variants.{Value}
 use Rattle.points.specs.Points as P
 use Rattle.points.specs.Explicit.{bucketOf}
-use Rattle.points.specs.Figures.{exponential, Settings, scaled}
+use Rattle.points.specs.Figures.{exponential, Settings, exponentialCounts}
 use Rattle.points.specs.Handed.{Handed, handed}
 
 -- the f64 with these bits
@@ -63,7 +63,7 @@ pointOf l =
 
 abbrev pub told : Line → Handed
 told l =
-    record { counts = scaled (pointOf l); extremes = true; threshold = zeroFloat; min = Value (f64 (l .min)); max = Value (f64 (l .max)); sum = f64 (l .sum) }
+    record { counts = exponentialCounts (pointOf l); extremes = true; threshold = zeroFloat; min = Value (f64 (l .min)); max = Value (f64 (l .max)); sum = f64 (l .sum) }
 
 abbrev pub Holds : Mark → Type 0
 Holds (index bits scale i) = IsIndex scale (magnitude (f64 bits)) i

@@ -24,10 +24,10 @@ use Rattle.points.proofs.Kept.{InRange, range-coarser, row-ok, BagIn, ⊕-in, b
 use Rattle.rows.specs.Rows.{addAt, addAll, downscaled}
 use Rattle.rows.proofs.Laws.{length-addAt-in, length-addAt-out}
 use Rattle.rows.proofs.Algebra.{countAt, length-downscaled-is, le-or-lt}
-use Rattle.series.specs.Steps.{lowered, narrow, lowering}
+use Rattle.exponential.specs.Steps.{lowered, narrow, lowering}
 use Rattle.merges.specs.Merges.{joined, span, mergedLow, mergedSteps}
-use Rattle.series.proofs.Counted.{row-by-ends, at-is, countAt-addAt, countAt-zeros, length-replicate, lowered-rowOf}
-use Rattle.series.proofs.Joint.{row-lower, fits-on}
+use Rattle.exponential.proofs.Counted.{row-by-ends, at-is, countAt-addAt, countAt-zeros, length-replicate, lowered-rowOf}
+use Rattle.exponential.proofs.Joint.{row-lower, fits-on}
 
 -- ---- counts added by bin
 

@@ -12,9 +12,9 @@ use Rattle.points.proofs.Rows.{row-path}
 use Rattle.rows.specs.Rows.{over, downscaled}
 use Rattle.rows.specs.declared.Row.{Row}
 use Rattle.rows.proofs.Laws.{take-over, over-over, length-over, total-downscaled}
-use Rattle.series.specs.Steps.{lowered}
-use Rattle.series.specs.Series.{rowIn, Laid}
-use Rattle.series.proofs.Rowed.{downscaled-zero}
+use Rattle.exponential.specs.Steps.{lowered}
+use Rattle.exponential.specs.Series.{rowIn, Laid}
+use Rattle.exponential.proofs.Rowed.{downscaled-zero}
 use Rattle.merges.specs.Merges.{joined, Joinable, Layable, Lendable}
 use Rattle.merges.proofs.Wide.{join-none, join-first, join-both}
 use Rattle.merges.proofs.Spans.{lowered-none, lowered-some, long-add}

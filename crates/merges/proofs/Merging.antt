@@ -13,12 +13,12 @@ use Rattle.points.specs.Points.{Point}
 use Rattle.rows.specs.Rows.{over}
 use Rattle.rows.specs.declared.Row.{Row}
 use Rattle.rows.proofs.Algebra.{le-or-lt}
-use Rattle.series.specs.declared.Counts.{Counts}
-use Rattle.series.specs.Steps.{lowered}
-use Rattle.series.specs.Series.{lowestOfAll, rowIn, Laid, Written, read}
-use Rattle.series.proofs.Facts.{Agreed, agreed, pos-facts, neg-facts, level-in}
-use Rattle.series.proofs.Write.{level-pow}
-use Rattle.series.proofs.Rowed.{range}
+use Rattle.exponential.specs.declared.Counts.{Counts}
+use Rattle.exponential.specs.Steps.{lowered}
+use Rattle.exponential.specs.Series.{lowestOfAll, rowIn, Laid, Written, read}
+use Rattle.exponential.proofs.Facts.{Agreed, agreed, pos-facts, neg-facts, level-in}
+use Rattle.exponential.proofs.Write.{level-pow}
+use Rattle.exponential.proofs.Rowed.{range}
 use Rattle.merges.specs.Merges.{joined, levelled, span, joinedLen, common, spanOf, rowsLow, planOf, mergedLow, mergedSteps, Joinable, Lendable, Agreeing, mergedPoint, Roomy}
 use Rattle.merges.specs.declared.Plan.{Plan}
 use Rattle.merges.proofs.Joined as J

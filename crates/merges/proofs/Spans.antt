@@ -14,9 +14,9 @@ use Rattle.points.specs.Points.{Row}
 use Rattle.rows.specs.Rows.{addAll, downscaled}
 use Rattle.rows.specs.declared.Row as C
 use Rattle.rows.proofs.Algebra.{le-or-lt, length-downscaled-is, downscaled-some}
-use Rattle.series.specs.Steps.{lowered, lowering}
-use Rattle.series.specs.Series.{rowIn}
-use Rattle.series.proofs.Counted.{length-replicate}
+use Rattle.exponential.specs.Steps.{lowered, lowering}
+use Rattle.exponential.specs.Series.{rowIn}
+use Rattle.exponential.proofs.Counted.{length-replicate}
 use Rattle.merges.specs.Merges.{joined, span, lowEnd, highEnd, joinedLen}
 use Rattle.merges.proofs.Joined.{length-addAll}
 use Rattle.merges.proofs.Wide.{join-none, join-first, join-both}

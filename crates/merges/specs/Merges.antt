@@ -7,14 +7,14 @@ use lib.Dec.{eqb}
 use lib.ListN.{length, replicate}
 use Rattle.points.specs.Points.{Row, Point, merge}
 use Rattle.rows.specs.Rows.{addAt, addAll}
-use Rattle.series.specs.Steps.{lowered, lowering}
+use Rattle.exponential.specs.Steps.{lowered, lowering}
 use lib.ListN.{take}
 use Rattle.laws.specs.Counting.{total}
 use Rattle.rows.specs.declared.Row as C
 use Rattle.laws.specs.Pick.{pick}
 use Rattle.index.specs.Bins.{finest}
-use Rattle.series.specs.declared.Counts.{Counts}
-use Rattle.series.specs.Series.{rowIn, agrees, read}
+use Rattle.exponential.specs.declared.Counts.{Counts}
+use Rattle.exponential.specs.Series.{rowIn, agrees, read}
 use Rattle.merges.specs.declared.Plan.{Plan}
 
 -- two rows of one level joined: counts added by bin

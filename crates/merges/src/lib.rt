@@ -5,12 +5,12 @@ ghost use lib.ListN.{length, take, replicate};
 ghost use mathlib.Core.List.{_++_};
 ghost use Rattle.rows.specs.Rows.{over};
 ghost use Rattle.laws.specs.Counting.{total};
-ghost use Rattle.series.specs.Steps.{lowered};
-ghost use Rattle.series.specs.Series.{rowIn, Laid, Written};
+ghost use Rattle.exponential.specs.Steps.{lowered};
+ghost use Rattle.exponential.specs.Series.{rowIn, Laid, Written};
 ghost use Rattle.index.specs.Bins.{finest};
 ghost use Rattle.merges.specs.Merges.{addLow, joined, Joinable, Lendable, Layable, lowEnd, highEnd, joinedLen, spanOf, common, rowsLow, planOf, Agreeing, mergedPoint, Roomy};
 use rows::Row;
-use series::Counts;
+use exponential::Counts;
 
 // ---- the level
 
@@ -53,8 +53,8 @@ fn ends_of(a: Row, j: u32, b: Row, k: u32) -> Ends
             hi: most,
         };
     }
-    let low = series::lesser(lo, least);
-    let high = series::greater(hi, most);
+    let low = exponential::lesser(lo, least);
+    let high = exponential::greater(hi, most);
     Ends { lo: low, hi: high }
 }
 
@@ -100,14 +100,14 @@ pub fn plan_of(size: usize, a: Counts, b: Counts) -> Plan
 {
     let la = a.level;
     let lb = b.level;
-    let l = series::lesser(la, lb);
+    let l = exponential::lesser(la, lb);
     let ap = a.pos;
     let an = a.neg;
     let bp = b.pos;
     let bn = b.neg;
     let p = span(size, ap, la - l, bp, lb - l);
     let n = span(size, an, la - l, bn, lb - l);
-    let low = series::greater(p, n);
+    let low = exponential::greater(p, n);
     let level = l - low;
     Plan {
         level,
@@ -162,7 +162,7 @@ fn join(a: &mut [u64], row: Row, ka: u32, b: &[u64], other: Row, kb: u32) -> Row
     requires { ⌜ Joinable row ka (now a) other kb (now b) ⌝ }
     ensures { λ r. ⌜ Laid (joined (lowered ka (rowIn row (now (a .entry)))) (lowered kb (rowIn other (now (b .entry))))) (now (a .entry)) r (now (a .exit)) ⌝ }
 {
-    let low = series::lower(a, row, ka);
+    let low = exponential::lower(a, row, ka);
     let m = other.len;
     let t = other.start;
     if m == 0 {

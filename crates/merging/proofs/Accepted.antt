@@ -16,13 +16,13 @@ use Rattle.index.specs.Bins.{finest, lowestBin}
 use Rattle.points.specs.Points.{build, bag, merge}
 use Rattle.points.specs.Explicit.{sameBounds, bucketCount, mergeBuckets}
 use Rattle.points.specs.Figures as F
-use Rattle.points.specs.Figures.{Kind, exponential, explicit, Settings, scaled, bucketed}
+use Rattle.points.specs.Figures.{Kind, exponential, explicit, Settings, exponentialCounts, explicitCounts}
 use Rattle.points.specs.Handed.{Handed, sameKind, mergeable, mergeCounts, mergeHanded, extremesAgree, countsAgree, handedAgrees, countOf}
 use Rattle.points.proofs.Agreement.{agrees-says}
 use Rattle.points.proofs.Explicit.{buckets-say, same-bounds}
 use Rattle.points.proofs.Grouping.{Shape, Of, handed-commutes}
 use Rattle.points.proofs.Stands.{resized}
-use Rattle.buckets.specs.Series.{mostCount}
+use Rattle.explicit.specs.Series.{mostCount}
 use Rattle.kinds.proofs.Steady.{merged-agrees}
 use Rattle.point.specs.declared.Figures.{Figures}
 use Rattle.point.specs.declared.Figures.the-variants.{Exponential, Explicit}
@@ -46,30 +46,30 @@ counted x = countIn (x .point .figures)
 
 -- ---- over counts of one kind
 same-kind : (size : ℕ) (k : Kind) (c d : F.Counts) → Shape k c → Shape k d → countsAgree size finest low c ≡ true → sameKind c d ≡ true
-same-kind size (exponential m top) (scaled p) (scaled q) h k a = refl
-same-kind size (exponential m top) (scaled p) (bucketed b q) h k a = absurd k
-same-kind size (exponential m top) (bucketed b p) d h k a = absurd h
-same-kind size (explicit b) (scaled p) d h k a = absurd h
-same-kind size (explicit b) (bucketed c p) (scaled q) h k a = absurd k
-same-kind size (explicit b) (bucketed c p) (bucketed d q) h k a =
+same-kind size (exponential m top) (exponentialCounts p) (exponentialCounts q) h k a = refl
+same-kind size (exponential m top) (exponentialCounts p) (explicitCounts b q) h k a = absurd k
+same-kind size (exponential m top) (explicitCounts b p) d h k a = absurd h
+same-kind size (explicit b) (exponentialCounts p) d h k a = absurd h
+same-kind size (explicit b) (explicitCounts c p) (exponentialCounts q) h k a = absurd k
+same-kind size (explicit b) (explicitCounts c p) (explicitCounts d q) h k a =
     subst (λ e. sameBounds c e ≡ true) (h ∙ sym k) (same-bounds c (buckets-say c p a .passes))
 
 merged-count : (size : ℕ) (c d : F.Counts) → sameKind c d ≡ true → countOf (mergeCounts size c d) ≡ countOf c + countOf d
 unfolding merge build bag mergeBuckets
-merged-count size (scaled p) (scaled q) e = refl
-merged-count size (scaled p) (bucketed c q) e = absurd (not-both false e refl)
-merged-count size (bucketed b p) (scaled q) e = absurd (not-both false e refl)
-merged-count size (bucketed b p) (bucketed c q) e = refl
+merged-count size (exponentialCounts p) (exponentialCounts q) e = refl
+merged-count size (exponentialCounts p) (explicitCounts c q) e = absurd (not-both false e refl)
+merged-count size (explicitCounts b p) (exponentialCounts q) e = absurd (not-both false e refl)
+merged-count size (explicitCounts b p) (explicitCounts c q) e = refl
 
 roomy : (size : ℕ) (k : Kind) (c : F.Counts) (us vs : List ℕ) → Shape k c → countsAgree size finest low c ≡ true → Long (resized size k) us vs → hasRoom c us vs ≡ true
-roomy size (exponential m top) (scaled p) us vs h a l =
+roomy size (exponential m top) (exponentialCounts p) us vs h a l =
     let k = agrees-says size finest low p a in
     and-intro (leb (length (p .pos .counts)) (length us)) (leb (length (p .neg .counts)) (length vs))
     (le-leb (length (p .pos .counts)) (length us) (omega (arith, k .pos .short, l .0)))
     (le-leb (length (p .neg .counts)) (length vs) (omega (arith, k .neg .short, l .1)))
-roomy size (exponential m top) (bucketed b p) us vs h a l = absurd h
-roomy size (explicit b) (scaled p) us vs h a l = absurd h
-roomy size (explicit b) (bucketed c p) us vs h a l =
+roomy size (exponential m top) (explicitCounts b p) us vs h a l = absurd h
+roomy size (explicit b) (exponentialCounts p) us vs h a l = absurd h
+roomy size (explicit b) (explicitCounts c p) us vs h a l =
     and-intro (leb (length (p .counts)) (length us)) (leb 0 (length vs))
     (le-leb (length (p .counts)) (length us) (omega (arith, buckets-say c p a .whole, ap bucketCount h, l)))
     (le-leb 0 (length vs) (omega arith))

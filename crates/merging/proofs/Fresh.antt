@@ -11,7 +11,7 @@ use Rattle.index.specs.Bins.{finest}
 use Rattle.floats.specs.Starts.{FiniteF64}
 use Rattle.points.specs.Values.{summaryOf}
 use Rattle.points.specs.Figures as F
-use Rattle.points.specs.Figures.{Kind, exponential, explicit, sizeOf, Settings, scaled, bucketed, kindCounts}
+use Rattle.points.specs.Figures.{Kind, exponential, explicit, sizeOf, Settings, exponentialCounts, explicitCounts, kindCounts}
 use Rattle.points.specs.Handed.{handed, mergeHanded, countsAgree}
 use Rattle.points.proofs.Agreement.{agrees-says}
 use Rattle.points.proofs.Explicit.{buckets-say}
@@ -66,10 +66,10 @@ AtTop (exponential size top) = top ≡ finest
 AtTop (explicit bounds) = Unit {0}
 
 agreeing : (size : ℕ) (k : Kind) (c : F.Counts) → AtTop k → Shape k c → countsAgree size finest low c ≡ true → Agreeing size low k c
-agreeing size (exponential m top) (scaled p) t h a = agrees-says size top low p (rw t a)
-agreeing size (exponential m top) (bucketed b p) t h a = absurd h
-agreeing size (explicit b) (scaled p) t h a = absurd h
-agreeing size (explicit b) (bucketed c p) t h a = rw (sym h) (buckets-say c p a)
+agreeing size (exponential m top) (exponentialCounts p) t h a = agrees-says size top low p (rw t a)
+agreeing size (exponential m top) (explicitCounts b p) t h a = absurd h
+agreeing size (explicit b) (exponentialCounts p) t h a = absurd h
+agreeing size (explicit b) (explicitCounts c p) t h a = rw (sym h) (buckets-say c p a)
 
 module _ (size : ℕ) (s : Settings) (top : AtTop (s .kind)) (f y : Stored) (none : PointOf s [] (f .point) (f .bounds) (f .pos) (f .neg)) (g : Good size s y) where
   same : Same (mergeHanded size (handedIn f) (handedIn y)) (handedIn y)

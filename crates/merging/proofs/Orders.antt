@@ -11,7 +11,7 @@ use Rattle.laws.proofs.Lists.{all-left, all-right, all-map, all-perm, foldr-per
 use Rattle.points.specs.Figures.{Settings}
 use Rattle.points.proofs.Grouping.{Of, Same}
 use Rattle.points.proofs.Stands.{resized}
-use Rattle.buckets.specs.Series.{mostCount}
+use Rattle.explicit.specs.Series.{mostCount}
 use Rattle.point.proofs.Lists.{Long}
 use Rattle.merging.specs.Stored.{Stored, handedIn, mergedStored, Groups}
 use Rattle.merging.proofs.Groups.{any-grouping}

@@ -12,11 +12,11 @@ use lib.Ieee.{Float}
 use borrow.Author.Tests.{le-leb, lt-leb, lt-ltb, le-ltb}
 use Rattle.laws.specs.Pick.{pick, _and_}
 use Rattle.points.specs.Figures as F
-use Rattle.points.specs.Figures.{scaled, bucketed}
+use Rattle.points.specs.Figures.{exponentialCounts, explicitCounts}
 use Rattle.points.specs.Handed.{Handed, mergeable, mergeCounts, mergeHanded, countOf}
 use Rattle.rows.proofs.Algebra.{le-or-lt}
-use Rattle.series.specs.Series.{sizePasses}
-use Rattle.buckets.specs.Series.{mostCount}
+use Rattle.exponential.specs.Series.{sizePasses}
+use Rattle.explicit.specs.Series.{mostCount}
 use Rattle.tally.specs.Kind.{unless, firstOf}
 use Rattle.kinds.specs.Histograms.{posPlaces, negPlaces, bothExplicit, merged}
 use Rattle.point.specs.declared.Point.{Point}
@@ -33,9 +33,9 @@ and-is false b = refl
 
 -- ---- 1
 pub size-is : (size : ℕ) (c d : F.Counts) → sizeAsked size c d ≡ (bothExplicit c d || F.sizePasses size)
-size-is size (scaled p) d = and-is (leb 3 size) (leb size 160)
-size-is size (bucketed b p) (scaled q) = and-is (leb 3 size) (leb size 160)
-size-is size (bucketed b p) (bucketed c q) = refl
+size-is size (exponentialCounts p) d = and-is (leb 3 size) (leb size 160)
+size-is size (explicitCounts b p) (exponentialCounts q) = and-is (leb 3 size) (leb size 160)
+size-is size (explicitCounts b p) (explicitCounts c q) = refl
 
 -- ---- 9
 count-fits : (n : ℕ) → leb n mostCount ≡ ltb n (2 ^ 64)
@@ -47,12 +47,12 @@ count-fits n =
 
 -- ---- 10
 pos-is : (c : F.Counts) → length (posOf c) ≡ posPlaces c + 0
-pos-is (scaled p) = omega arith
-pos-is (bucketed b p) = omega arith
+pos-is (exponentialCounts p) = omega arith
+pos-is (explicitCounts b p) = omega arith
 
 neg-is : (c : F.Counts) → length (negOf c) ≡ negPlaces c + 0
-neg-is (scaled p) = omega arith
-neg-is (bucketed b p) = refl
+neg-is (exponentialCounts p) = omega arith
+neg-is (explicitCounts b p) = refl
 
 room-is : (c : F.Counts) (us vs : List ℕ) → hasRoom c us vs ≡ (leb (posPlaces c + 0) (length us) && leb (negPlaces c + 0) (length vs))
 room-is c us vs =

@@ -16,17 +16,17 @@ use Rattle.rows.specs.Rows.{over}
 use Rattle.rows.proofs.Laws.{take-over}
 use Rattle.points.specs.Explicit.{boundsPass, bucketCount, added, mergeBuckets}
 use Rattle.points.specs.Figures as F
-use Rattle.points.specs.Figures.{Kind, exponential, explicit, sizeOf, Settings, scaled, bucketed, kindCounts}
+use Rattle.points.specs.Figures.{Kind, exponential, explicit, sizeOf, Settings, exponentialCounts, explicitCounts, kindCounts}
 use Rattle.points.specs.Handed.{Handed, mergeCounts, mergeHanded, countOf}
 use Rattle.points.specs.Stands.{Stands}
 use Rattle.points.proofs.Kept.{merge-agrees}
 use Rattle.points.proofs.Explicit.{buckets-say, merge-buckets-ok}
 use Rattle.points.proofs.Stands.{Sound, stands-merge, stands-agrees, stands-mergeable}
-use Rattle.series.specs.declared.Counts.{Counts}
-use Rattle.series.specs.Series.{sizePasses, lowestOfAll, read}
-use Rattle.series.proofs.Facts as Facts
-use Rattle.series.proofs.Stays.{read-point}
-use Rattle.buckets.specs.Series.{mostCount, bucketsIn}
+use Rattle.exponential.specs.declared.Counts.{Counts}
+use Rattle.exponential.specs.Series.{sizePasses, lowestOfAll, read}
+use Rattle.exponential.proofs.Facts as Facts
+use Rattle.exponential.proofs.Stays.{read-point}
+use Rattle.explicit.specs.Series.{mostCount, bucketsIn}
 use Rattle.point.specs.declared.Point.{Point}
 use Rattle.point.specs.declared.Figures.{Figures}
 use Rattle.point.specs.declared.Figures.the-variants.{Exponential, Explicit}
@@ -48,10 +48,10 @@ in-over new old = rw (length-append new (drop (length new) old)) (omega arith)
 -- counts laid over rows are in shape
 laid-shape : (c : F.Counts) (us vs : List ℕ) → inShape (figuresFor c) (over (posOf c) us) (over (negOf c) vs) ≡ true
 unfolding _and_
-laid-shape (scaled p) us vs =
+laid-shape (exponentialCounts p) us vs =
     λ j. le-leb (finest - p .d) finest (omega arith) j and le-leb (length (p .pos .counts)) (length (over (p .pos .counts) us)) (in-over (p .pos .counts) us) j
     and le-leb (length (p .neg .counts)) (length (over (p .neg .counts) vs)) (in-over (p .neg .counts) vs) j
-laid-shape (bucketed b p) us vs = refl
+laid-shape (explicitCounts b p) us vs = refl
 
 -- the outcome is a point that reads, with the lent rows, as h
 pub record Answers (o : Outcome) (bs : List Float) (h : Handed) : Type 0 where
@@ -81,30 +81,30 @@ module _ (size : ℕ) (a : Point) (bs : List Float) (xs ys : List ℕ) (b : Poin
       let c = mergeCounts size (countsAs f bs xs ys) (countsAs g cs zs ws) in
       countsAs (figuresFor c) bs (over (posOf c) us) (over (negOf c) vs) ≡ c
 
-  scaled-back : (c d : Counts) → a .figures ≡ Exponential c → b .figures ≡ Exponential d → Back (Exponential c) (Exponential d)
-  scaled-back c d f g =
+  exponential-back : (c d : Counts) → a .figures ≡ Exponential c → b .figures ≡ Exponential d → Back (Exponential c) (Exponential d)
+  exponential-back c d f g =
       let k = calls.agreeing size a bs xs ys b cs zs ws e c d f g in
       let p = Facts.agreed size finest c xs ys (k .first) in
       let q = Facts.agreed size finest d zs ws (k .second) in
       let m = merge-agrees size size size finest finest lowestOfAll (read c xs ys) (read d zs ws) (p .least) (p .point) (q .point) in
-      ap scaled (read-point _ us vs (m .coarse))
+      ap exponentialCounts (read-point _ us vs (m .coarse))
 
-  bucketed-back : (n m : ℕ) → a .figures ≡ Explicit n → b .figures ≡ Explicit m → Back (Explicit n) (Explicit m)
+  explicit-back : (n m : ℕ) → a .figures ≡ Explicit n → b .figures ≡ Explicit m → Back (Explicit n) (Explicit m)
   unfolding mergeBuckets
-  bucketed-back n m f g =
+  explicit-back n m f g =
       let p = buckets-say bs (bucketsIn bs n xs) (calls.ok-first size a bs xs ys b cs zs ws e n m f g) in
       let q = buckets-say cs (bucketsIn cs m zs) (calls.ok-second size a bs xs ys b cs zs ws e n m f g) in
       let k = bucketCount bs in
       let r : List ℕ = added (take k xs) (take (bucketCount cs) zs) in
       let l : length r ≡ k = merge-buckets-ok bs cs (bucketsIn bs n xs) (bucketsIn cs m zs) (same-count bs cs (calls.same size a bs xs ys b cs zs ws e n m f g)) p q .whole in
       let t : take k (over r us) ≡ r = ap (λ i. take i (over r us)) (sym l) ∙ take-over r us in
-      λ j. bucketed bs (record { counts = t j; total = n + m })
+      λ j. explicitCounts bs (record { counts = t j; total = n + m })
 
   back : (f g : Figures) → a .figures ≡ f → b .figures ≡ g → Back f g
-  back (Exponential c) (Exponential d) f g = scaled-back c d f g
+  back (Exponential c) (Exponential d) f g = exponential-back c d f g
   back (Exponential c) (Explicit m) f g = absurd (calls.not-mixed size a bs xs ys b cs zs ws e c m f g)
   back (Explicit n) (Exponential d) f g = absurd (calls.not-mixed-2 size a bs xs ys b cs zs ws e n d f g)
-  back (Explicit n) (Explicit m) f g = bucketed-back n m f g
+  back (Explicit n) (Explicit m) f g = explicit-back n m f g
 
   -- ---- THE ANSWER IS THE MERGE OF THE POINTS READ
   pub answers : hasRoom countsMade us vs ≡ true

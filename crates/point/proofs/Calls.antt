@@ -10,13 +10,13 @@ use borrow.Author.Tests.{leb-true, eq-eqb, ne-eqb}
 use Rattle.laws.specs.Pick.{pick, _and_}
 use Rattle.laws.proofs.Bools.{not-both, and-left, and-right, pick-left, pick-then}
 use Rattle.points.specs.Explicit.{sameBounds, bucketCount, bucketsAgree, mergeBuckets}
-use Rattle.points.specs.Figures.{scaled, bucketed}
+use Rattle.points.specs.Figures.{exponentialCounts, explicitCounts}
 use Rattle.points.specs.Handed.{extremesAgree, mergeCounts}
 use Rattle.points.proofs.Explicit.{buckets-say}
-use Rattle.series.specs.declared.Counts.{Counts}
+use Rattle.exponential.specs.declared.Counts.{Counts}
 use Rattle.merges.specs.Merges.{Agreeing, mergedPoint}
 use Rattle.heads.specs.Heads.{Addable}
-use Rattle.buckets.specs.Series.{mostCount, bucketsIn}
+use Rattle.explicit.specs.Series.{mostCount, bucketsIn}
 use Rattle.point.specs.declared.Point.{Point}
 use Rattle.point.specs.declared.Figures.the-variants.{Exponential, Explicit}
 use Rattle.point.specs.declared.Made.{Made}
@@ -136,7 +136,7 @@ module _ (size : ℕ) (a : Point) (bs : List Float) (xs ys : List ℕ) (b : Poin
           let k : n + m ≤ mostCount = subst (λ (n : ℕ). n ≤ mostCount) (λ j. countIn (f j) + countIn (g j)) fit in
           addable bs n xs cs m zs same (buckets-say bs (bucketsIn bs n xs) ok-first) (buckets-say cs (bucketsIn cs m zs) ok-second) (omega (arith, k))
 
-      pub one-is : (us vs : List ℕ) → laidOver (bucketed bs (mergeBuckets (bucketsIn bs n xs) (bucketsIn cs m zs))) us vs
+      pub one-is : (us vs : List ℕ) → laidOver (explicitCounts bs (mergeBuckets (bucketsIn bs n xs) (bucketsIn cs m zs))) us vs
           ≡ madeOver (laidOne (bucketCount bs) n xs m zs us .made) (laidOne (bucketCount bs) n xs m zs us .counts) vs
       one-is = over-one bs n xs cs m zs same (buckets-say bs (bucketsIn bs n xs) ok-first) (buckets-say cs (bucketsIn cs m zs) ok-second)
 
@@ -157,19 +157,19 @@ module _ (size : ℕ) (a : Point) (bs : List Float) (xs ys : List ℕ) (b : Poin
     unfolding merging pick
     accepted e = rw (eq-eqb (refusalBefore size a bs xs ys b cs zs ws) 0 e) refl
 
-    pub scaled-law : (c d : Counts) (made : Made) (r : Answer) (us' vs' : List ℕ) → refusalBefore size a bs xs ys b cs zs ws ≡ 0 → a .figures ≡ Exponential c → b .figures ≡ Exponential d
-        → madeOver made us' vs' ≡ laidOver (scaled (mergedPoint size c xs ys d zs ws)) us vs → r ≡ finished a b made
+    pub exponential-law : (c d : Counts) (made : Made) (r : Answer) (us' vs' : List ℕ) → refusalBefore size a bs xs ys b cs zs ws ≡ 0 → a .figures ≡ Exponential c → b .figures ≡ Exponential d
+        → madeOver made us' vs' ≡ laidOver (exponentialCounts (mergedPoint size c xs ys d zs ws)) us vs → r ≡ finished a b made
         → outcome r us' vs' ≡ merging size a bs xs ys b cs zs ws us vs
-    scaled-law c d made r us' vs' e f g h k =
+    exponential-law c d made r us' vs' e f g h k =
         ap (λ r. outcome r us' vs') k
         ∙ ap (ended a b) h
         ∙ (λ j. ended a b (laidOver (mergeCounts size (countsAs (sym f j) bs xs ys) (countsAs (sym g j) cs zs ws)) us vs))
         ∙ accepted e
 
-    pub bucketed-law : (n m : ℕ) (made : Made) (r : Answer) (us' : List ℕ) → refusalBefore size a bs xs ys b cs zs ws ≡ 0 → a .figures ≡ Explicit n → b .figures ≡ Explicit m
+    pub explicit-law : (n m : ℕ) (made : Made) (r : Answer) (us' : List ℕ) → refusalBefore size a bs xs ys b cs zs ws ≡ 0 → a .figures ≡ Explicit n → b .figures ≡ Explicit m
         → madeOne made us' ≡ laidOne (bucketCount bs) n xs m zs us → r ≡ finished a b made
         → outcome r us' vs ≡ merging size a bs xs ys b cs zs ws us vs
-    bucketed-law n m made r us' e f g h k =
+    explicit-law n m made r us' e f g h k =
         ap (λ r. outcome r us' vs) k
         ∙ (λ j. ended a b (madeOver (h j .made) (h j .counts) vs))
         ∙ ap (ended a b) (sym (one-is e n m f g us vs))

@@ -17,12 +17,12 @@ use Rattle.laws.proofs.Bools.{flag, not-both, and-right}
 use Rattle.rows.specs.Rows.{over}
 use Rattle.points.specs.Points as P
 use Rattle.points.specs.Explicit.{sameBounds, bucketCount, added, mergeBuckets}
-use Rattle.points.specs.Figures.{scaled, bucketed}
+use Rattle.points.specs.Figures.{exponentialCounts, explicitCounts}
 use Rattle.points.proofs.Explicit.{BucketsOk, length-added}
-use Rattle.series.specs.declared.Counts.{Counts}
-use Rattle.series.specs.Series.{Written}
+use Rattle.exponential.specs.declared.Counts.{Counts}
+use Rattle.exponential.specs.Series.{Written}
 use Rattle.heads.specs.Heads.{Addable}
-use Rattle.buckets.specs.Series.{bucketsIn}
+use Rattle.explicit.specs.Series.{bucketsIn}
 use Rattle.point.specs.declared.Figures.the-variants.{Exponential, Explicit}
 use Rattle.point.specs.declared.Made.the-variants.{Of, NoRoom}
 use Rattle.point.specs.Handing.{madeOver, laidOver, madeOne, laidOne}
@@ -30,17 +30,17 @@ use Rattle.point.specs.Handing.{madeOver, laidOver, madeOne, laidOne}
 -- ---- the exponential kind
 
 module _ (m : P.Point) (us vs : List ℕ) where
-  pub no-pos : length us < length (m .pos .counts) → madeOver NoRoom us vs ≡ laidOver (scaled m) us vs
+  pub no-pos : length us < length (m .pos .counts) → madeOver NoRoom us vs ≡ laidOver (exponentialCounts m) us vs
   unfolding laidOver pick _and_
   no-pos h = rw (lt-leb (length (m .pos .counts)) (length us) h) refl
 
   module _ (p : length (m .pos .counts) ≤ length us) where
-    pub no-neg : length vs < length (m .neg .counts) → madeOver NoRoom us vs ≡ laidOver (scaled m) us vs
+    pub no-neg : length vs < length (m .neg .counts) → madeOver NoRoom us vs ≡ laidOver (exponentialCounts m) us vs
     unfolding laidOver pick _and_
     no-neg h = rw (le-leb (length (m .pos .counts)) (length us) p, lt-leb (length (m .neg .counts)) (length vs) h) refl
 
     pub laid : length (m .neg .counts) ≤ length vs → (r : Counts) (us' vs' : List ℕ) → Written m us vs r us' vs'
-        → madeOver (Of (Exponential r)) us' vs' ≡ laidOver (scaled m) us vs
+        → madeOver (Of (Exponential r)) us' vs' ≡ laidOver (exponentialCounts m) us vs
     unfolding laidOver pick _and_
     laid n r us' vs' w =
         (λ j. madeOver (Of (Exponential (w .counts j))) (w .pos j) (w .neg j))
@@ -101,7 +101,7 @@ module _ (bs : List Float) (n : ℕ) (xs : List ℕ) (cs : List Float) (m : ℕ)
       }
 
   pub over-one : (us vs : List ℕ)
-      → laidOver (bucketed bs (mergeBuckets (bucketsIn bs n xs) (bucketsIn cs m zs))) us vs
+      → laidOver (explicitCounts bs (mergeBuckets (bucketsIn bs n xs) (bucketsIn cs m zs))) us vs
       ≡ madeOver (laidOne (bucketCount bs) n xs m zs us .made) (laidOne (bucketCount bs) n xs m zs us .counts) vs
   unfolding laidOver laidOne mergeBuckets over pick _and_
   over-one us vs =

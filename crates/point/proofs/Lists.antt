@@ -17,20 +17,20 @@ use Rattle.floats.specs.Starts.{FiniteF64}
 use Rattle.rows.specs.Rows.{over}
 use Rattle.points.specs.Explicit.{boundsPass, bucketCount, bucketsOf}
 use Rattle.points.specs.Values.{countsOf}
-use Rattle.points.specs.Figures.{Kind, exponential, explicit, sizeOf, Settings, scaled, bucketed, kindCounts}
+use Rattle.points.specs.Figures.{Kind, exponential, explicit, sizeOf, Settings, exponentialCounts, explicitCounts, kindCounts}
 use Rattle.points.specs.Handed.{handed, mergeCounts, mergeHanded, countOf}
 use Rattle.points.specs.Stands.{Stands}
 use Rattle.points.proofs.Figures as PF
 use Rattle.points.proofs.Classes.{countsOf-agrees}
 use Rattle.points.proofs.Explicit.{bucketsOf-ok}
 use Rattle.points.proofs.Stands.{handed-stands, stands-merge}
-use Rattle.series.specs.Series.{leastSize, mostSize}
-use Rattle.series.specs.Runs as SR
-use Rattle.series.proofs.Facts as Facts
-use Rattle.series.proofs.Lists as SL
-use Rattle.buckets.specs.Series.{freshHead}
-use Rattle.buckets.specs.Runs as BR
-use Rattle.buckets.proofs.Listed as BL
+use Rattle.exponential.specs.Series.{leastSize, mostSize}
+use Rattle.exponential.specs.Runs as SR
+use Rattle.exponential.proofs.Facts as Facts
+use Rattle.exponential.proofs.Lists as SL
+use Rattle.explicit.specs.Series.{freshHead}
+use Rattle.explicit.specs.Runs as BR
+use Rattle.explicit.proofs.Listed as BL
 use Rattle.point.specs.declared.Point.{Point}
 use Rattle.point.specs.Handing.{handedAs, exponentialPoint, explicitPoint, countIn, merging}
 use Rattle.point.proofs.Means.{settingsOf, inShape, exponential-list, explicit-list, count-is}
@@ -46,33 +46,33 @@ pub record PointOf (s : Settings) (vs : List Float) (p : Point) (bs : List Float
 module _ (size top : ℕ) (least : leastSize ≤ size) (most : size ≤ mostSize) (known : top ≤ finest)
     (xs ys : List ℕ) (long : size ≤ length xs) (long' : size ≤ length ys) (vs : List Float) (values : All FiniteF64 vs) (few : length vs < 2 ^ 64) where
   -- the series after all values
-  abbrev scaledRun : SR.Series
-  scaledRun = SR.runAll size top (record { head = SR.freshHead top; pos = xs; neg = ys }) vs
+  abbrev exponentialRun : SR.Series
+  exponentialRun = SR.runAll size top (record { head = SR.freshHead top; pos = xs; neg = ys }) vs
 
   pub exponential-recorded : (bs : List Float) (extremes sums : Bool)
-      → PointOf (settingsOf (exponential size top) extremes sums) vs (exponentialPoint (scaledRun .head) extremes sums) bs (scaledRun .pos) (scaledRun .neg)
+      → PointOf (settingsOf (exponential size top) extremes sums) vs (exponentialPoint (exponentialRun .head) extremes sums) bs (exponentialRun .pos) (exponentialRun .neg)
   unfolding _and_
   exponential-recorded bs extremes sums =
       let h = SL.run-is size top xs ys vs least most known long long' values few in
-      let c = scaledRun .head .counts in
-      let a = Facts.agreed size top c (scaledRun .pos) (scaledRun .neg) (h .agree) in
+      let c = exponentialRun .head .counts in
+      let a = Facts.agreed size top c (exponentialRun .pos) (exponentialRun .neg) (h .agree) in
       record {
-        is = exponential-list (exponential size top) extremes sums bs (scaledRun .pos) (scaledRun .neg) vs (scaledRun .head) (λ j. record { counts = scaled (h .rows j); summary = h .summary j });
-        shape = λ j. le-leb (c .level) finest (omega (arith, a .level)) j and le-leb (c .pos .len) (length (scaledRun .pos)) (a .posThere) j and le-leb (c .neg .len) (length (scaledRun .neg)) (a .negThere) j;
+        is = exponential-list (exponential size top) extremes sums bs (exponentialRun .pos) (exponentialRun .neg) vs (exponentialRun .head) (λ j. record { counts = exponentialCounts (h .rows j); summary = h .summary j });
+        shape = λ j. le-leb (c .level) finest (omega (arith, a .level)) j and le-leb (c .pos .len) (length (exponentialRun .pos)) (a .posThere) j and le-leb (c .neg .len) (length (exponentialRun .neg)) (a .negThere) j;
         values = values;
       }
 
 -- ---- THE EXPLICIT KIND, from zeros in its row
 module _ (bounds : List Float) (passes : boundsPass bounds ≡ true) (xs : List ℕ) (long : bucketCount bounds ≤ length xs) (vs : List Float) (values : All FiniteF64 vs) (few : length vs < 2 ^ 64) where
-  abbrev bucketedRun : BR.Series
-  bucketedRun = BR.runAll bounds (record { head = freshHead; counts = over (replicate (bucketCount bounds) 0) xs }) vs
+  abbrev explicitRun : BR.Series
+  explicitRun = BR.runAll bounds (record { head = freshHead; counts = over (replicate (bucketCount bounds) 0) xs }) vs
 
   pub explicit-recorded : (ys : List ℕ) (extremes sums : Bool)
-      → PointOf (settingsOf (explicit bounds) extremes sums) vs (explicitPoint (bucketedRun .head) extremes sums) bounds (bucketedRun .counts) ys
+      → PointOf (settingsOf (explicit bounds) extremes sums) vs (explicitPoint (explicitRun .head) extremes sums) bounds (explicitRun .counts) ys
   explicit-recorded ys extremes sums =
       let h = BL.run-is bounds xs vs passes long values few in
       record {
-        is = explicit-list (explicit bounds) extremes sums bounds (bucketedRun .counts) ys vs (bucketedRun .head) (λ j. record { counts = bucketed bounds (h .rows j); summary = h .summary j });
+        is = explicit-list (explicit bounds) extremes sums bounds (explicitRun .counts) ys vs (explicitRun .head) (λ j. record { counts = explicitCounts bounds (h .rows j); summary = h .summary j });
         shape = refl;
         values = values;
       }

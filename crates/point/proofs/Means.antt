@@ -10,14 +10,14 @@ use Rattle.laws.specs.Pick.{pick, _and_}
 use Rattle.index.specs.Bins.{finest, lowestBin}
 use Rattle.floats.specs.Starts.{zeroFloat}
 use Rattle.points.specs.Figures as F
-use Rattle.points.specs.Figures.{Kind, Settings, scaled, bucketed, figuresOf}
+use Rattle.points.specs.Figures.{Kind, Settings, exponentialCounts, explicitCounts, figuresOf}
 use Rattle.points.specs.Handed.{Handed, handedOut, handed, sameKind, mergeable, extremesAgree, countsAgree, handedAgrees, countOf}
-use Rattle.series.specs.declared.Head as SH
-use Rattle.series.specs.Series.{sizePasses, read, agrees}
-use Rattle.series.specs.Runs as SR
-use Rattle.buckets.specs.declared.Head as BH
-use Rattle.buckets.specs.Series as B
-use Rattle.buckets.specs.Series.{mostCount, bucketsIn}
+use Rattle.exponential.specs.declared.Head as SH
+use Rattle.exponential.specs.Series.{sizePasses, read, agrees}
+use Rattle.exponential.specs.Runs as SR
+use Rattle.explicit.specs.declared.Head as BH
+use Rattle.explicit.specs.Series as B
+use Rattle.explicit.specs.Series.{mostCount, bucketsIn}
 use Rattle.point.specs.declared.Point.{Point}
 use Rattle.point.specs.declared.Figures.{Figures}
 use Rattle.point.specs.declared.Figures.the-variants.{Exponential, Explicit}
@@ -28,27 +28,27 @@ abbrev pub settingsOf : Kind → Bool → Bool → Settings
 settingsOf k extremes sums = record { kind = k; extremes = extremes; sums = sums; threshold = zeroFloat }
 
 -- what a head and its rows hold
-abbrev pub scaledIn : SH.Head → List ℕ → List ℕ → F.Figures
-scaledIn h xs ys = record { counts = scaled (read (h .counts) xs ys); summary = SR.summary h }
+abbrev pub exponentialIn : SH.Head → List ℕ → List ℕ → F.Figures
+exponentialIn h xs ys = record { counts = exponentialCounts (read (h .counts) xs ys); summary = SR.summary h }
 
-abbrev pub bucketedIn : List Float → BH.Head → List ℕ → F.Figures
-bucketedIn bs h xs = record { counts = bucketed bs (bucketsIn bs (h .count) xs); summary = B.summary h }
+abbrev pub explicitIn : List Float → BH.Head → List ℕ → F.Figures
+explicitIn bs h xs = record { counts = explicitCounts bs (bucketsIn bs (h .count) xs); summary = B.summary h }
 
 module _ (k : Kind) (extremes sums : Bool) (bs : List Float) (xs ys : List ℕ) where
-  pub exponential-handed : (h : SH.Head) → handedAs (exponentialPoint h extremes sums) bs xs ys ≡ handedOut (settingsOf k extremes sums) (scaledIn h xs ys)
+  pub exponential-handed : (h : SH.Head) → handedAs (exponentialPoint h extremes sums) bs xs ys ≡ handedOut (settingsOf k extremes sums) (exponentialIn h xs ys)
   exponential-handed h = refl
 
-  pub explicit-handed : (h : BH.Head) → handedAs (explicitPoint h extremes sums) bs xs ys ≡ handedOut (settingsOf k extremes sums) (bucketedIn bs h xs)
+  pub explicit-handed : (h : BH.Head) → handedAs (explicitPoint h extremes sums) bs xs ys ≡ handedOut (settingsOf k extremes sums) (explicitIn bs h xs)
   explicit-handed h = refl
 
   -- of a series that holds the figures of a list, the point of the list
   module _ (vs : List Float) where
-    pub exponential-list : (h : SH.Head) → scaledIn h xs ys ≡ figuresOf (settingsOf k extremes sums) vs
+    pub exponential-list : (h : SH.Head) → exponentialIn h xs ys ≡ figuresOf (settingsOf k extremes sums) vs
         → handedAs (exponentialPoint h extremes sums) bs xs ys ≡ handed (settingsOf k extremes sums) vs
     unfolding handed
     exponential-list h e = ap (handedOut (settingsOf k extremes sums)) e
 
-    pub explicit-list : (h : BH.Head) → bucketedIn bs h xs ≡ figuresOf (settingsOf k extremes sums) vs
+    pub explicit-list : (h : BH.Head) → explicitIn bs h xs ≡ figuresOf (settingsOf k extremes sums) vs
         → handedAs (explicitPoint h extremes sums) bs xs ys ≡ handed (settingsOf k extremes sums) vs
     unfolding handed
     explicit-list h e = ap (handedOut (settingsOf k extremes sums)) e
@@ -83,7 +83,7 @@ module _ (size : ℕ) (bs : List Float) (xs ys : List ℕ) where
   figures-is : (f : Figures) → figuresAgree size f bs xs ys ≡ (sizeFor size f and inShape f xs ys) and countsAgree size finest (lowestBin finest) (countsAs f bs xs ys)
   unfolding agrees _and_
   figures-is (Exponential c) =
-      regroup (sizePasses size) (leb (c .level) finest) (leb (c .pos .len) (length xs)) (leb (c .neg .len) (length ys)) (countsAgree size finest (lowestBin finest) (scaled (read c xs ys)))
+      regroup (sizePasses size) (leb (c .level) finest) (leb (c .pos .len) (length xs)) (leb (c .neg .len) (length ys)) (countsAgree size finest (lowestBin finest) (exponentialCounts (read c xs ys)))
   figures-is (Explicit n) = refl
 
   pub agrees-is : (p : Point) → pointAgrees size p bs xs ys ≡ (sizeFor size (p .figures) and inShape (p .figures) xs ys) and agreesRead size (handedAs p bs xs ys)
@@ -100,9 +100,9 @@ module _ (size : ℕ) (bs : List Float) (xs ys : List ℕ) where
 -- ---- THE REFUSALS OF A MERGE
 -- "A merge checks 1 unless both points are explicit"
 abbrev pub sizeAsked : ℕ → F.Counts → F.Counts → Bool
-sizeAsked size (scaled p) c = sizePasses size
-sizeAsked size (bucketed b p) (scaled q) = sizePasses size
-sizeAsked size (bucketed b p) (bucketed c q) = true
+sizeAsked size (exponentialCounts p) c = sizePasses size
+sizeAsked size (explicitCounts b p) (exponentialCounts q) = sizePasses size
+sizeAsked size (explicitCounts b p) (explicitCounts c q) = true
 
 -- "Merging: 1, 8, 11, 9", over points; whole: both are in shape
 unfoldable pub refusalRead : ℕ → Bool → Handed → Handed → ℕ

@@ -20,9 +20,9 @@ use Rattle.index.proofs.SignedCases.{scale-is, index-is}
 use Rattle.points.specs.Handed.{extremesAgree}
 use Rattle.points.proofs.Agreement.{RowOk}
 use Rattle.rows.specs.declared.Row.{Row}
-use Rattle.series.specs.declared.Counts.{Counts}
-use Rattle.series.specs.Series.{rowIn}
-use Rattle.series.proofs.Facts as Facts
+use Rattle.exponential.specs.declared.Counts.{Counts}
+use Rattle.exponential.specs.Series.{rowIn}
+use Rattle.exponential.proofs.Facts as Facts
 use Rattle.point.specs.declared.Point.{Point}
 use Rattle.point.specs.declared.Figures.the-variants.{Exponential}
 use Rattle.point.specs.Handing.{figuresAgree, pointAgrees}

@@ -11,13 +11,13 @@ use Rattle.floats.specs.Answers.{shownOf, smallerOf, largerOf}
 use Rattle.floats.specs.Starts.{zeroFloat}
 use Rattle.points.specs.Explicit.{sameBounds, bucketsAgree, added}
 use Rattle.points.specs.Figures as F
-use Rattle.points.specs.Figures.{scaled, bucketed}
+use Rattle.points.specs.Figures.{exponentialCounts, explicitCounts}
 use Rattle.points.specs.Handed.{Handed, extremesAgree, mergeCounts}
 use Rattle.rows.specs.Rows.{over}
-use Rattle.series.specs.declared.Head as SH
-use Rattle.series.specs.Series.{sizePasses, read, countsFor, agrees}
-use Rattle.buckets.specs.declared.Head as BH
-use Rattle.buckets.specs.Series.{mostCount, bucketsIn}
+use Rattle.exponential.specs.declared.Head as SH
+use Rattle.exponential.specs.Series.{sizePasses, read, countsFor, agrees}
+use Rattle.explicit.specs.declared.Head as BH
+use Rattle.explicit.specs.Series.{mostCount, bucketsIn}
 use Rattle.point.specs.declared.Point.{Point}
 use Rattle.point.specs.declared.Figures.{Figures}
 use Rattle.point.specs.declared.Figures.the-variants.{Exponential, Explicit}
@@ -29,8 +29,8 @@ use Rattle.point.specs.declared.Answer.the-variants.{Merged, Refused}
 -- ---- a point with its bounds and rows
 
 abbrev pub countsAs : Figures → List Float → List ℕ → List ℕ → F.Counts
-countsAs (Exponential c) bs xs ys = scaled (read c xs ys)
-countsAs (Explicit n) bs xs ys = bucketed bs (bucketsIn bs n xs)
+countsAs (Exponential c) bs xs ys = exponentialCounts (read c xs ys)
+countsAs (Explicit n) bs xs ys = explicitCounts bs (bucketsIn bs n xs)
 
 abbrev pub handedAs : Point → List Float → List ℕ → List ℕ → Handed
 handedAs p bs xs ys =
@@ -113,16 +113,16 @@ refusalBefore size a bs xs ys b cs zs ws =
 -- ---- counts laid over lent rows, where there is room for them
 
 abbrev pub figuresFor : F.Counts → Figures
-figuresFor (scaled p) = Exponential (countsFor p)
-figuresFor (bucketed b p) = Explicit (p .total)
+figuresFor (exponentialCounts p) = Exponential (countsFor p)
+figuresFor (explicitCounts b p) = Explicit (p .total)
 
 abbrev pub posOf : F.Counts → List ℕ
-posOf (scaled p) = p .pos .counts
-posOf (bucketed b p) = p .counts
+posOf (exponentialCounts p) = p .pos .counts
+posOf (explicitCounts b p) = p .counts
 
 abbrev pub negOf : F.Counts → List ℕ
-negOf (scaled p) = p .neg .counts
-negOf (bucketed b p) = []
+negOf (exponentialCounts p) = p .neg .counts
+negOf (explicitCounts b p) = []
 
 pub record Over : Type 0 where
   pub made : Made

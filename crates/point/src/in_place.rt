@@ -1,7 +1,7 @@
 // The second of two points merged into the first, whose rows are lent to be written.
 ghost use mathlib.Core.Path.{_≡_};
 ghost use Rattle.points.specs.Explicit.{bucketCount};
-ghost use Rattle.points.specs.Figures.{scaled};
+ghost use Rattle.points.specs.Figures.{exponentialCounts};
 ghost use Rattle.merges.specs.Merges.{Agreeing, mergedPoint};
 ghost use Rattle.heads.specs.Heads.{Addable};
 ghost use Rattle.point.specs.Handing.{madeOver, laidOver, madeOne, laidOne, outcome, merging};
@@ -9,9 +9,9 @@ use crate::Answer;
 use crate::Figures;
 use crate::Made;
 use crate::Point;
-use series::Counts;
+use exponential::Counts;
 
-fn scaled_into(
+fn exponential_into(
     size: usize,
     c: Counts,
     pos: &mut [u64],
@@ -21,7 +21,7 @@ fn scaled_into(
     bneg: &[u64],
 ) -> Made
     requires { ⌜ Agreeing size c (now pos) (now neg) d (now bpos) (now bneg) ⌝ }
-    ensures { λ r. ⌜ madeOver r (now (pos .exit)) (now (neg .exit)) ≡ laidOver (scaled (mergedPoint size c (now (pos .entry)) (now (neg .entry)) d (now (bpos .entry)) (now (bneg .entry)))) (now (pos .entry)) (now (neg .entry)) ⌝ }
+    ensures { λ r. ⌜ madeOver r (now (pos .exit)) (now (neg .exit)) ≡ laidOver (exponentialCounts (mergedPoint size c (now (pos .entry)) (now (neg .entry)) d (now (bpos .entry)) (now (bneg .entry)))) (now (pos .entry)) (now (neg .entry)) ⌝ }
 {
     let to = merges::plan_of(size, c, d);
     let cp = c.pos;
@@ -38,11 +38,11 @@ fn scaled_into(
     Made::Of(Figures::Exponential(r))
 }
 
-fn bucketed_into(bounds: &[f64], n: u64, pos: &mut [u64], m: u64, bpos: &[u64]) -> Made
+fn explicit_into(bounds: &[f64], n: u64, pos: &mut [u64], m: u64, bpos: &[u64]) -> Made
     requires { ⌜ Addable (bucketCount (now bounds)) n (now pos) m (now bpos) ⌝ }
     ensures { λ r. ⌜ madeOne r (now (pos .exit)) ≡ laidOne (bucketCount (now (bounds .entry))) n (now (pos .entry)) m (now (bpos .entry)) (now (pos .entry)) ⌝ }
 {
-    let k = buckets::bucket_count(bounds);
+    let k = explicit::bucket_count(bounds);
     heads::add_into(pos, bpos, k);
     Made::Of(Figures::Explicit(n + m))
 }
@@ -70,7 +70,7 @@ pub fn merge_into(
     match f {
         Figures::Exponential(c) => match g {
             Figures::Exponential(d) => {
-                let made = scaled_into(size as usize, c, pos, neg, d, bpos, bneg);
+                let made = exponential_into(size as usize, c, pos, neg, d, bpos, bneg);
                 crate::finish(a, b, made)
             }
             Figures::Explicit(m) => Answer::Refused(11),
@@ -78,7 +78,7 @@ pub fn merge_into(
         Figures::Explicit(n) => match g {
             Figures::Exponential(d) => Answer::Refused(11),
             Figures::Explicit(m) => {
-                let made = bucketed_into(abounds, n, pos, m, bpos);
+                let made = explicit_into(abounds, n, pos, m, bpos);
                 crate::finish(a, b, made)
             }
         },

@@ -11,13 +11,13 @@ ghost use Rattle.point.specs.Handing.{shownSum, exponentialPoint, explic
 ghost use lib.Dec.{leb};
 ghost use mathlib.Core.Bool.{Bool·beq};
 ghost use Rattle.points.specs.Explicit.{bucketCount};
-ghost use Rattle.points.specs.Figures.{scaled};
+ghost use Rattle.points.specs.Figures.{exponentialCounts};
 ghost use Rattle.heads.specs.Heads.{Addable};
 ghost use Rattle.merges.specs.Merges.{Agreeing, mergedPoint};
-ghost use Rattle.buckets.specs.Series.{mostCount};
-ghost use Rattle.series.specs.Series.{sizePasses};
+ghost use Rattle.explicit.specs.Series.{mostCount};
+ghost use Rattle.exponential.specs.Series.{sizePasses};
 use floats::Extreme;
-use series::Counts;
+use exponential::Counts;
 
 // The counts of either kind; the case is the kind's tag.
 pub enum Figures {
@@ -45,7 +45,7 @@ fn shown_sum(on: bool, sum: f64) -> f64
     0.0
 }
 
-pub fn exponential_point(head: series::Head, extremes: bool, sums: bool) -> Point
+pub fn exponential_point(head: exponential::Head, extremes: bool, sums: bool) -> Point
     ensures { λ r. ⌜ r ≡ exponentialPoint head extremes sums ⌝ }
 {
     let c = head.counts;
@@ -63,13 +63,13 @@ pub fn exponential_point(head: series::Head, extremes: bool, sums: bool) -> Poin
 }
 
 // The count that is handed out.
-fn count_out(head: buckets::Head) -> u64
+fn count_out(head: explicit::Head) -> u64
     ensures { λ r. ⌜ r ≡ head .count ⌝ }
 {
     head.count
 }
 
-pub fn explicit_point(head: buckets::Head, extremes: bool, sums: bool) -> Point
+pub fn explicit_point(head: explicit::Head, extremes: bool, sums: bool) -> Point
     ensures { λ r. ⌜ r ≡ explicitPoint head extremes sums ⌝ }
 {
     let count = count_out(head);
@@ -116,8 +116,8 @@ fn figures_agree(size: usize, f: Figures, bounds: &[f64], pos: &[u64], neg: &[u6
     ensures { λ r. ⌜ r ≡ figuresAgree size f (now (bounds .entry)) (now (pos .entry)) (now (neg .entry)) ⌝ }
 {
     match f {
-        Figures::Exponential(c) => series::counts_agree(size, index::FINEST, c, pos, neg),
-        Figures::Explicit(count) => buckets::buckets_agree(bounds, count, pos),
+        Figures::Exponential(c) => exponential::counts_agree(size, index::FINEST, c, pos, neg),
+        Figures::Explicit(count) => explicit::buckets_agree(bounds, count, pos),
     }
 }
 
@@ -164,7 +164,7 @@ fn same_kind(f: Figures, bounds: &[f64], g: Figures, others: &[f64]) -> bool
         },
         Figures::Explicit(n) => match g {
             Figures::Exponential(d) => false,
-            Figures::Explicit(m) => buckets::same_bounds(bounds, others),
+            Figures::Explicit(m) => explicit::same_bounds(bounds, others),
         },
     }
 }
@@ -257,7 +257,7 @@ pub enum Answer {
     Refused(u8),
 }
 
-fn merge_scaled(
+fn merge_exponential(
     size: usize,
     c: Counts,
     apos: &[u64],
@@ -269,7 +269,7 @@ fn merge_scaled(
     neg: &mut [u64],
 ) -> Made
     requires { ⌜ Agreeing size c (now apos) (now aneg) d (now bpos) (now bneg) ⌝ }
-    ensures { λ r. ⌜ madeOver r (now (pos .exit)) (now (neg .exit)) ≡ laidOver (scaled (mergedPoint size c (now (apos .entry)) (now (aneg .entry)) d (now (bpos .entry)) (now (bneg .entry)))) (now (pos .entry)) (now (neg .entry)) ⌝ }
+    ensures { λ r. ⌜ madeOver r (now (pos .exit)) (now (neg .exit)) ≡ laidOver (exponentialCounts (mergedPoint size c (now (apos .entry)) (now (aneg .entry)) d (now (bpos .entry)) (now (bneg .entry)))) (now (pos .entry)) (now (neg .entry)) ⌝ }
 {
     let to = merges::plan_of(size, c, d);
     let cp = c.pos;
@@ -286,7 +286,7 @@ fn merge_scaled(
     Made::Of(Figures::Exponential(r))
 }
 
-fn merge_bucketed(
+fn merge_explicit(
     bounds: &[f64],
     n: u64,
     apos: &[u64],
@@ -297,11 +297,11 @@ fn merge_bucketed(
     requires { ⌜ Addable (bucketCount (now bounds)) n (now apos) m (now bpos) ⌝ }
     ensures { λ r. ⌜ madeOne r (now (pos .exit)) ≡ laidOne (bucketCount (now (bounds .entry))) n (now (apos .entry)) m (now (bpos .entry)) (now (pos .entry)) ⌝ }
 {
-    let k = buckets::bucket_count(bounds);
+    let k = explicit::bucket_count(bounds);
     if pos.len() < k {
         return Made::NoRoom;
     }
-    buckets::add_counts(apos, bpos, k, pos);
+    explicit::add_counts(apos, bpos, k, pos);
     Made::Of(Figures::Explicit(n + m))
 }
 
@@ -354,7 +354,7 @@ pub fn merge(
     match f {
         Figures::Exponential(c) => match g {
             Figures::Exponential(d) => {
-                let made = merge_scaled(size as usize, c, apos, aneg, d, bpos, bneg, pos, neg);
+                let made = merge_exponential(size as usize, c, apos, aneg, d, bpos, bneg, pos, neg);
                 finish(a, b, made)
             }
             Figures::Explicit(m) => Answer::Refused(11),
@@ -362,7 +362,7 @@ pub fn merge(
         Figures::Explicit(n) => match g {
             Figures::Exponential(d) => Answer::Refused(11),
             Figures::Explicit(m) => {
-                let made = merge_bucketed(abounds, n, apos, m, bpos, pos);
+                let made = merge_explicit(abounds, n, apos, m, bpos, pos);
                 finish(a, b, made)
             }
         },

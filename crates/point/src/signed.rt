@@ -5,7 +5,7 @@ ghost use Rattle.floats.specs.Answers.{bitsOf};
 ghost use Rattle.point.specs.Signed.{scaleShown, offsetAnswer, offsetShown};
 use index::signed::Integer;
 use rows::Row;
-use series::Counts;
+use exponential::Counts;
 
 // The scale; none of a point of the explicit kind.
 pub fn scale(p: crate::Point) -> Integer

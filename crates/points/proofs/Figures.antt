@@ -9,7 +9,7 @@ use Rattle.index.specs.Bins.{finest}
 use Rattle.points.specs.Points.{Value, naught, plus, minus, bagOf, build, pointOf}
 use Rattle.points.specs.Values.{classOf}
 use Rattle.points.specs.Explicit.{bucketsOf}
-use Rattle.points.specs.Figures.{Kind, exponential, explicit, Settings, scaled, bucketed, kindCounts, figuresOf, recordCounts, recordFigures}
+use Rattle.points.specs.Figures.{Kind, exponential, explicit, Settings, exponentialCounts, explicitCounts, kindCounts, figuresOf, recordCounts, recordFigures}
 use Rattle.points.specs.Handed.{countOf}
 use Rattle.points.proofs.Orders.{record-pointOf}
 use Rattle.points.proofs.Explicit.{record-bucketsOf}
@@ -17,10 +17,10 @@ use Rattle.points.proofs.Summaries.{summary-append}
 
 counts-append : (k : Kind) (t : Float) (vs : List Float) (v : Float) → recordCounts k t (kindCounts k t vs) v ≡ kindCounts k t (vs ++ v ∷ [])
 counts-append (exponential size top) t vs v =
-    ap scaled
+    ap exponentialCounts
     (record-pointOf size (finest - top) (map (classOf t) vs) (classOf t v)
     ∙ ap (pointOf size (finest - top)) (sym (map-append (classOf t) vs (v ∷ []))))
-counts-append (explicit bounds) t vs v = ap (bucketed bounds) (record-bucketsOf bounds vs v)
+counts-append (explicit bounds) t vs v = ap (explicitCounts bounds) (record-bucketsOf bounds vs v)
 
 -- ONE VALUE MORE, AND ONE BY ONE
 pub figures-append : (s : Settings) (vs : List Float) (v : Float) → recordFigures s (figuresOf s vs) v ≡ figuresOf s (vs ++ v ∷ [])

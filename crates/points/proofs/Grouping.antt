@@ -11,7 +11,7 @@ use Rattle.laws.proofs.Trees.{Commutes, any-grouping}
 use Rattle.index.specs.Bins.{finest}
 use Rattle.points.specs.Points.{merge}
 use Rattle.points.specs.Explicit.{mergeBuckets}
-use Rattle.points.specs.Figures.{Kind, exponential, explicit, Settings, Counts, scaled, bucketed, kindCounts}
+use Rattle.points.specs.Figures.{Kind, exponential, explicit, Settings, Counts, exponentialCounts, explicitCounts, kindCounts}
 use Rattle.points.specs.Handed.{Handed, handed, mergeCounts, mergeHanded}
 use Rattle.points.specs.Stands.{SameExtreme}
 use Rattle.points.proofs.Merge.{merge-comm, merge-assoc}
@@ -21,10 +21,10 @@ use Rattle.points.proofs.Numbers.{Shown, shown-self, shown-nearer, extr
 
 -- counts of the kind, with its bounds
 abbrev pub Shape : Kind → Counts → Type 0
-Shape (exponential size top) (scaled p) = Unit {0}
-Shape (exponential size top) (bucketed bounds p) = ⊥
-Shape (explicit b) (scaled p) = ⊥
-Shape (explicit b) (bucketed bounds p) = bounds ≡ b
+Shape (exponential size top) (exponentialCounts p) = Unit {0}
+Shape (exponential size top) (explicitCounts bounds p) = ⊥
+Shape (explicit b) (exponentialCounts p) = ⊥
+Shape (explicit b) (explicitCounts bounds p) = bounds ≡ b
 
 -- a point of the settings: its kind and bounds, switch and zero threshold, and extremes as the switch has them
 pub record Of (s : Settings) (p : Handed) : Type 0 where
@@ -43,30 +43,30 @@ pub record Same (p q : Handed) : Type 0 where
   pub max : SameExtreme (p .max) (q .max)
 
 shape-kept : (size : ℕ) (k : Kind) (a b : Counts) → Shape k a → Shape k b → Shape k (mergeCounts size a b)
-shape-kept size (exponential m top) (scaled p) (scaled q) h k = tt
-shape-kept size (exponential m top) (scaled p) (bucketed b q) h k = absurd k
-shape-kept size (exponential m top) (bucketed b p) c h k = absurd h
-shape-kept size (explicit b) (scaled p) c h k = absurd h
-shape-kept size (explicit b) (bucketed c p) (scaled q) h k = absurd k
-shape-kept size (explicit b) (bucketed c p) (bucketed d q) h k = h
+shape-kept size (exponential m top) (exponentialCounts p) (exponentialCounts q) h k = tt
+shape-kept size (exponential m top) (exponentialCounts p) (explicitCounts b q) h k = absurd k
+shape-kept size (exponential m top) (explicitCounts b p) c h k = absurd h
+shape-kept size (explicit b) (exponentialCounts p) c h k = absurd h
+shape-kept size (explicit b) (explicitCounts c p) (exponentialCounts q) h k = absurd k
+shape-kept size (explicit b) (explicitCounts c p) (explicitCounts d q) h k = h
 
 counts-comm : (size : ℕ) (k : Kind) (a b : Counts) → Shape k a → Shape k b → mergeCounts size a b ≡ mergeCounts size b a
-counts-comm size (exponential m top) (scaled p) (scaled q) h k = ap scaled (merge-comm size p q)
-counts-comm size (exponential m top) (scaled p) (bucketed b q) h k = absurd k
-counts-comm size (exponential m top) (bucketed b p) c h k = absurd h
-counts-comm size (explicit b) (scaled p) c h k = absurd h
-counts-comm size (explicit b) (bucketed c p) (scaled q) h k = absurd k
-counts-comm size (explicit b) (bucketed c p) (bucketed d q) h k = ap (λ x. bucketed x (mergeBuckets p q)) (h ∙ sym k) ∙ ap (bucketed d) (buckets-comm p q)
+counts-comm size (exponential m top) (exponentialCounts p) (exponentialCounts q) h k = ap exponentialCounts (merge-comm size p q)
+counts-comm size (exponential m top) (exponentialCounts p) (explicitCounts b q) h k = absurd k
+counts-comm size (exponential m top) (explicitCounts b p) c h k = absurd h
+counts-comm size (explicit b) (exponentialCounts p) c h k = absurd h
+counts-comm size (explicit b) (explicitCounts c p) (exponentialCounts q) h k = absurd k
+counts-comm size (explicit b) (explicitCounts c p) (explicitCounts d q) h k = ap (λ x. explicitCounts x (mergeBuckets p q)) (h ∙ sym k) ∙ ap (explicitCounts d) (buckets-comm p q)
 
 counts-assoc : (size : ℕ) (k : Kind) (a b c : Counts) → Shape k a → Shape k b → Shape k c → mergeCounts size (mergeCounts size a b) c ≡ mergeCounts size a (mergeCounts size b c)
-counts-assoc size (exponential m top) (scaled p) (scaled q) (scaled r) h k l = ap scaled (merge-assoc size p q r)
-counts-assoc size (exponential m top) (scaled p) (scaled q) (bucketed b r) h k l = absurd l
-counts-assoc size (exponential m top) (scaled p) (bucketed b q) c h k l = absurd k
-counts-assoc size (exponential m top) (bucketed b p) q c h k l = absurd h
-counts-assoc size (explicit b) (scaled p) q c h k l = absurd h
-counts-assoc size (explicit b) (bucketed d p) (scaled q) c h k l = absurd k
-counts-assoc size (explicit b) (bucketed d p) (bucketed e q) (scaled r) h k l = absurd l
-counts-assoc size (explicit b) (bucketed d p) (bucketed e q) (bucketed f r) h k l = ap (bucketed d) (buckets-assoc p q r)
+counts-assoc size (exponential m top) (exponentialCounts p) (exponentialCounts q) (exponentialCounts r) h k l = ap exponentialCounts (merge-assoc size p q r)
+counts-assoc size (exponential m top) (exponentialCounts p) (exponentialCounts q) (explicitCounts b r) h k l = absurd l
+counts-assoc size (exponential m top) (exponentialCounts p) (explicitCounts b q) c h k l = absurd k
+counts-assoc size (exponential m top) (explicitCounts b p) q c h k l = absurd h
+counts-assoc size (explicit b) (exponentialCounts p) q c h k l = absurd h
+counts-assoc size (explicit b) (explicitCounts d p) (exponentialCounts q) c h k l = absurd k
+counts-assoc size (explicit b) (explicitCounts d p) (explicitCounts e q) (exponentialCounts r) h k l = absurd l
+counts-assoc size (explicit b) (explicitCounts d p) (explicitCounts e q) (explicitCounts f r) h k l = ap (explicitCounts d) (buckets-assoc p q r)
 
 -- ---- COMMUTATIVE AND ASSOCIATIVE
 pub handed-commutes : (size : ℕ) (s : Settings) → Commutes (mergeHanded size) (Of s) Same
@@ -128,17 +128,17 @@ merge-any size s t u h p = any-grouping (mergeHanded size) (Of s) Same (handed-c
 
 -- ---- THE FRESH POINT CHANGES NONE OF THESE in a point that agrees
 abbrev pub Agreeing : ℕ → ℕ → Kind → Counts → Type 0
-Agreeing size low (exponential m top) (scaled p) = Agreed size top low p
-Agreeing size low (exponential m top) (bucketed b p) = ⊥
-Agreeing size low (explicit b) (scaled p) = ⊥
-Agreeing size low (explicit b) (bucketed c p) = BucketsOk b p
+Agreeing size low (exponential m top) (exponentialCounts p) = Agreed size top low p
+Agreeing size low (exponential m top) (explicitCounts b p) = ⊥
+Agreeing size low (explicit b) (exponentialCounts p) = ⊥
+Agreeing size low (explicit b) (explicitCounts c p) = BucketsOk b p
 
 counts-fresh : (size low : ℕ) (k : Kind) (t : Float) (c : Counts) → Shape k c → Agreeing size low k c → mergeCounts size (kindCounts k t []) c ≡ c
-counts-fresh size low (exponential m top) t (scaled p) h a =
-    ap scaled (ap (λ q. merge size q p) (fresh m (finest - top)) ∙ fresh-neutral size top low (finest - top) p (a .fine) a)
-counts-fresh size low (exponential m top) t (bucketed b p) h a = absurd h
-counts-fresh size low (explicit b) t (scaled p) h a = absurd h
-counts-fresh size low (explicit b) t (bucketed c p) h a = ap (bucketed b) (fresh-buckets b p (a .whole)) ∙ ap (λ x. bucketed x p) (sym h)
+counts-fresh size low (exponential m top) t (exponentialCounts p) h a =
+    ap exponentialCounts (ap (λ q. merge size q p) (fresh m (finest - top)) ∙ fresh-neutral size top low (finest - top) p (a .fine) a)
+counts-fresh size low (exponential m top) t (explicitCounts b p) h a = absurd h
+counts-fresh size low (explicit b) t (exponentialCounts p) h a = absurd h
+counts-fresh size low (explicit b) t (explicitCounts c p) h a = ap (explicitCounts b) (fresh-buckets b p (a .whole)) ∙ ap (λ x. explicitCounts x p) (sym h)
 
 pub fresh-same : (size low : ℕ) (s : Settings) (p : Handed) → Of s p → Agreeing size low (s .kind) (p .counts) → Same (mergeHanded size (handed s []) p) p
 unfolding mergeHanded handed

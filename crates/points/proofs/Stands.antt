@@ -22,7 +22,7 @@ use Rattle.floats.proofs.Sums.{total-perm, gridded-perm, gridded-left, gridded-
 use Rattle.points.specs.Points.{pointOf}
 use Rattle.points.specs.Values.{classOf, countsOf, summaryOf}
 use Rattle.points.specs.Explicit.{boundsPass, bucketsOf}
-use Rattle.points.specs.Figures.{Kind, exponential, explicit, sizeOf, Settings, scaled, bucketed, kindCounts}
+use Rattle.points.specs.Figures.{Kind, exponential, explicit, sizeOf, Settings, exponentialCounts, explicitCounts, kindCounts}
 use Rattle.points.specs.Handed.{Handed, handed, mergeCounts, mergeHanded, sameKind, mergeable, extremesAgree, countsAgree, handedAgrees}
 use Rattle.points.specs.Stands.{SameNumber, SameExtreme, Stands}
 use Rattle.points.proofs.Agreement.{agreed-agrees}
@@ -35,8 +35,8 @@ use Rattle.points.proofs.Summaries.{extreme, extreme-finite, extreme-pa
 
 -- ---- the counts of a list, of lists joined, and in another order
 counts-perm : (k : Kind) (t : Float) {vs ws : List Float} → List·Permᴰ vs ws → kindCounts k t vs ≡ kindCounts k t ws
-counts-perm (exponential size top) t h = ap scaled (pointOf-perm size (finest - top) (map-perm (classOf t) h))
-counts-perm (explicit bounds) t h = ap (bucketed bounds) (bucketsOf-perm bounds h)
+counts-perm (exponential size top) t h = ap exponentialCounts (pointOf-perm size (finest - top) (map-perm (classOf t) h))
+counts-perm (explicit bounds) t h = ap (explicitCounts bounds) (bucketsOf-perm bounds h)
 
 -- the kind under another max_size
 abbrev pub resized : ℕ → Kind → Kind
@@ -53,11 +53,11 @@ counts-parts : (size : ℕ) (k : Kind) (t : Float) (vs ws : List Float) → Allo
 counts-parts size (exponential m top) t vs ws h =
     let d = finest - top in
     let e : max d d ≡ d = omega arith in
-    ap scaled
+    ap exponentialCounts
     (merge-points size m m d d (map (classOf t) vs) (map (classOf t) ws) h h
     ∙ ap (λ n. pointOf size n (map (classOf t) vs ++ map (classOf t) ws)) e
     ∙ ap (pointOf size d) (sym (map-append (classOf t) vs ws)))
-counts-parts size (explicit bounds) t vs ws h = ap (bucketed bounds) (merge-bucketsOf bounds vs ws)
+counts-parts size (explicit bounds) t vs ws h = ap (explicitCounts bounds) (merge-bucketsOf bounds vs ws)
 
 -- ---- A POINT HANDED OUT STANDS FOR ITS VALUES
 pick-cong : (b : Bool) (x y z : Float) → x ≡ y → pick b x z ≡ pick b y z

@@ -37,8 +37,8 @@ pub record Settings : Type 0 where
 
 -- the counts of either kind; the case is the kind's tag
 pub data Counts : Type 0 where
-  scaled : Point → Counts
-  bucketed : List Float → Buckets → Counts
+  exponentialCounts : Point → Counts
+  explicitCounts : List Float → Buckets → Counts
 
 -- a series holds minimum, maximum and sum whatever the switches say: they act where a point is handed out
 pub record Figures : Type 0 where
@@ -47,18 +47,18 @@ pub record Figures : Type 0 where
 
 -- of a list of values
 abbrev pub kindCounts : Kind → Float → List Float → Counts
-kindCounts (exponential size top) threshold vs = scaled (countsOf size (finest - top) threshold vs)
-kindCounts (explicit bounds) threshold vs = bucketed bounds (bucketsOf bounds vs)
+kindCounts (exponential size top) threshold vs = exponentialCounts (countsOf size (finest - top) threshold vs)
+kindCounts (explicit bounds) threshold vs = explicitCounts bounds (bucketsOf bounds vs)
 
 abbrev pub figuresOf : Settings → List Float → Figures
 figuresOf s vs = record { counts = kindCounts (s .kind) (s .threshold) vs; summary = summaryOf vs }
 
 -- one value recorded, under the configured bounds; counts of the other kind are never met, and stay
 abbrev pub recordCounts : Kind → Float → Counts → Float → Counts
-recordCounts (exponential size top) threshold (scaled p) v = scaled (record1 size p (classOf threshold v))
-recordCounts (exponential size top) threshold (bucketed b p) v = bucketed b p
-recordCounts (explicit bounds) threshold (scaled p) v = scaled p
-recordCounts (explicit bounds) threshold (bucketed b p) v = bucketed bounds (recordBucket bounds p v)
+recordCounts (exponential size top) threshold (exponentialCounts p) v = exponentialCounts (record1 size p (classOf threshold v))
+recordCounts (exponential size top) threshold (explicitCounts b p) v = explicitCounts b p
+recordCounts (explicit bounds) threshold (exponentialCounts p) v = exponentialCounts p
+recordCounts (explicit bounds) threshold (explicitCounts b p) v = explicitCounts bounds (recordBucket bounds p v)
 
 abbrev pub recordFigures : Settings → Figures → Float → Figures
 recordFigures s f v =

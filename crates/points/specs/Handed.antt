@@ -13,7 +13,7 @@ use Rattle.floats.specs.declared.Extreme.the-variants.{None, Value}
 use Rattle.points.specs.Points.{merge}
 use Rattle.points.specs.Agreement.{agrees}
 use Rattle.points.specs.Explicit.{sameBounds, mergeBuckets, bucketsAgree}
-use Rattle.points.specs.Figures.{Settings, Counts, scaled, bucketed, Figures, figuresOf}
+use Rattle.points.specs.Figures.{Settings, Counts, exponentialCounts, explicitCounts, Figures, figuresOf}
 
 pub record Handed : Type 0 where
   pub counts : Counts
@@ -43,20 +43,20 @@ handed s vs = handedOut s (figuresOf s vs)
 
 -- number 11 is given for "points of different kind, bounds (as numbers), or min/max switch"
 abbrev pub sameKind : Counts → Counts → Bool
-sameKind (scaled p) (scaled q) = true
-sameKind (scaled p) (bucketed c q) = false
-sameKind (bucketed b p) (scaled q) = false
-sameKind (bucketed b p) (bucketed c q) = sameBounds b c
+sameKind (exponentialCounts p) (exponentialCounts q) = true
+sameKind (exponentialCounts p) (explicitCounts c q) = false
+sameKind (explicitCounts b p) (exponentialCounts q) = false
+sameKind (explicitCounts b p) (explicitCounts c q) = sameBounds b c
 
 unfoldable pub mergeable : Handed → Handed → Bool
 mergeable p q = sameKind (p .counts) (q .counts) and Bool·beq (p .extremes) (q .extremes)
 
 -- under a max_size; the first's bounds stay. Points of unlike kinds are refused: their merge has no meaning
 abbrev pub mergeCounts : ℕ → Counts → Counts → Counts
-mergeCounts size (scaled p) (scaled q) = scaled (merge size p q)
-mergeCounts size (scaled p) (bucketed c q) = scaled p
-mergeCounts size (bucketed b p) (scaled q) = bucketed b p
-mergeCounts size (bucketed b p) (bucketed c q) = bucketed b (mergeBuckets p q)
+mergeCounts size (exponentialCounts p) (exponentialCounts q) = exponentialCounts (merge size p q)
+mergeCounts size (exponentialCounts p) (explicitCounts c q) = exponentialCounts p
+mergeCounts size (explicitCounts b p) (exponentialCounts q) = explicitCounts b p
+mergeCounts size (explicitCounts b p) (explicitCounts c q) = explicitCounts b (mergeBuckets p q)
 
 -- "takes the smaller min and larger max (equal: the first's), and adds the sums once"
 unfoldable pub mergeHanded : ℕ → Handed → Handed → Handed
@@ -81,13 +81,13 @@ extremesAgree (Value x) (Value y) = finite x and finite y
 
 -- under a max_size, a greatest level (the finest in a merge) and the lowest finest bin
 abbrev pub countsAgree : ℕ → ℕ → ℕ → Counts → Bool
-countsAgree size top low (scaled p) = agrees size top low p
-countsAgree size top low (bucketed b p) = bucketsAgree b p
+countsAgree size top low (exponentialCounts p) = agrees size top low p
+countsAgree size top low (explicitCounts b p) = bucketsAgree b p
 
 unfoldable pub handedAgrees : ℕ → ℕ → ℕ → Handed → Bool
 handedAgrees size top low p = countsAgree size top low (p .counts) and extremesAgree (p .min) (p .max)
 
 -- the count of values
 abbrev pub countOf : Counts → ℕ
-countOf (scaled p) = p .total
-countOf (bucketed b p) = p .total
+countOf (exponentialCounts p) = p .total
+countOf (explicitCounts b p) = p .total

@@ -1,6 +1,6 @@
 // Cells: numbers as they were read, and one cell of a head set to any number.
-use series::Counts;
-use series::Head;
+use exponential::Counts;
+use exponential::Head;
 use text::Natural;
 
 // Whether there is a number, and which; 0 where there is none.
@@ -58,12 +58,12 @@ pub fn head_set(h: Head, cell: u64, n: u64) -> Head {
     }
 }
 
-pub fn buckets_set(h: buckets::Head, cell: u64, n: u64) -> buckets::Head {
+pub fn buckets_set(h: explicit::Head, cell: u64, n: u64) -> explicit::Head {
     let count = if cell == 0 { n } else { h.count };
     let min = if cell == 7 { text::float_of(n) } else { h.min };
     let max = if cell == 8 { text::float_of(n) } else { h.max };
     let sum = if cell == 9 { text::float_of(n) } else { h.sum };
-    buckets::Head {
+    explicit::Head {
         count,
         min,
         max,

@@ -11,7 +11,7 @@ use text::Natural;
 
 // ---- recording
 
-fn record_scaled(s: State, h: series::Head, v: f64, pos: &mut [u64], neg: &mut [u64]) -> State {
+fn record_exponential(s: State, h: exponential::Head, v: f64, pos: &mut [u64], neg: &mut [u64]) -> State {
     let t = s.settings;
     let p = t.pos;
     let n = t.neg;
@@ -21,14 +21,14 @@ fn record_scaled(s: State, h: series::Head, v: f64, pos: &mut [u64], neg: &mut [
     if neg.len() < n {
         return s;
     }
-    let answer = series::record(t.size, t.top, h, &mut pos[0..p], &mut neg[0..n], v);
+    let answer = exponential::record(t.size, t.top, h, &mut pos[0..p], &mut neg[0..n], v);
     match answer {
-        series::Answer::Recorded(h) => state::with(s, Current::Exponential(h), s.bounds),
-        series::Answer::Refused(no) => state::refused(s, no),
+        exponential::Answer::Recorded(h) => state::with(s, Current::Exponential(h), s.bounds),
+        exponential::Answer::Refused(no) => state::refused(s, no),
     }
 }
 
-fn record_bucketed(s: State, h: buckets::Head, v: f64, bounds: &[f64], pos: &mut [u64]) -> State {
+fn record_explicit(s: State, h: explicit::Head, v: f64, bounds: &[f64], pos: &mut [u64]) -> State {
     let t = s.settings;
     let p = t.pos;
     let b = s.bounds;
@@ -38,10 +38,10 @@ fn record_bucketed(s: State, h: buckets::Head, v: f64, bounds: &[f64], pos: &mut
     if bounds.len() < b {
         return s;
     }
-    let answer = buckets::record(&bounds[0..b], h, &mut pos[0..p], v);
+    let answer = explicit::record(&bounds[0..b], h, &mut pos[0..p], v);
     match answer {
-        buckets::Answer::Recorded(h) => state::with(s, Current::Explicit(h), b),
-        buckets::Answer::Refused(no) => state::refused(s, no),
+        explicit::Answer::Recorded(h) => state::with(s, Current::Explicit(h), b),
+        explicit::Answer::Refused(no) => state::refused(s, no),
     }
 }
 
@@ -62,8 +62,8 @@ fn record(
     let v = text::float_of(x);
     let now = s.current;
     match now {
-        Current::Exponential(h) => record_scaled(s, h, v, pos, neg),
-        Current::Explicit(h) => record_bucketed(s, h, v, bounds, pos),
+        Current::Exponential(h) => record_exponential(s, h, v, pos, neg),
+        Current::Explicit(h) => record_explicit(s, h, v, bounds, pos),
         _ => state::unread(s),
     }
 }
@@ -229,8 +229,8 @@ fn follow_line(
 ) -> State {
     let letter = letter_of(line);
     match letter {
-        b'e' => starts::scaled(s, line),
-        b'x' => starts::bucketed(s, line, bounds, pos),
+        b'e' => starts::exponentialCounts(s, line),
+        b'x' => starts::explicitCounts(s, line, bounds, pos),
         b'r' => record(s, line, bounds, pos, neg),
         b'p' => show(s, line, pos, neg),
         _ => follow_decimals(s, letter, line, bounds, pos, neg),

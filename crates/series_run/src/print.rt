@@ -4,7 +4,7 @@ use floats::Extreme;
 use point::Figures;
 use point::Point;
 use rows::Row;
-use series::Counts;
+use exponential::Counts;
 
 fn space() {
     text::write(b" ");

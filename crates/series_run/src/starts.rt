@@ -33,10 +33,10 @@ fn level_start(s: State, size: u64, top: u32) -> State {
     t.size = size as u32;
     t.top = top;
     let next = state::with_settings(s, t);
-    state::with(next, Current::Exponential(series::fresh(top)), s.bounds)
+    state::with(next, Current::Exponential(exponential::fresh(top)), s.bounds)
 }
 
-pub fn scaled(s: State, line: &[u8]) -> State {
+pub fn exponentialCounts(s: State, line: &[u8]) -> State {
     if text::spaces(line) != 2 {
         return state::unread(s);
     }
@@ -71,17 +71,17 @@ fn take_bounds(line: &[u8], bounds: &mut [f64]) {
     }
 }
 
-fn begun(s: State, n: usize, answer: buckets::Answer, line: &[u8], bounds: &mut [f64]) -> State {
+fn begun(s: State, n: usize, answer: explicit::Answer, line: &[u8], bounds: &mut [f64]) -> State {
     match answer {
-        buckets::Answer::Recorded(h) => {
+        explicit::Answer::Recorded(h) => {
             take_bounds(line, bounds);
             state::with(s, Current::Explicit(h), n)
         }
-        buckets::Answer::Refused(no) => state::refused(s, no),
+        explicit::Answer::Refused(no) => state::refused(s, no),
     }
 }
 
-pub fn bucketed(s: State, line: &[u8], bounds: &mut [f64], pos: &mut [u64]) -> State {
+pub fn explicitCounts(s: State, line: &[u8], bounds: &mut [f64], pos: &mut [u64]) -> State {
     let n = text::spaces(line);
     let t = s.settings;
     let p = t.pos;
@@ -97,6 +97,6 @@ pub fn bucketed(s: State, line: &[u8], bounds: &mut [f64], pos: &mut [u64]) -> S
     if !all_bits(line, n) {
         return state::unread(s);
     }
-    let answer = buckets::fresh(&bounds[0..n], &mut pos[0..p]);
+    let answer = explicit::fresh(&bounds[0..n], &mut pos[0..p]);
     begun(s, n, answer, line, bounds)
 }

@@ -16,8 +16,8 @@ pub struct Settings {
 // What is current.
 pub enum Current {
     Nothing,
-    Exponential(series::Head),
-    Explicit(buckets::Head),
+    Exponential(exponential::Head),
+    Explicit(explicit::Head),
     Merged(Point),
 }
 

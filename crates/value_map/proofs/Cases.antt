@@ -14,7 +14,7 @@ use Rattle.tally.specs.Sets.{Set, canonical}
 use Rattle.tally.specs.Kind.{Kind}
 use Rattle.sets.specs.Rows.{rowOf}
 use Rattle.directory.specs.View.{Stores}
-use Rattle.directory.specs.Calls.{Kept, mostSets, accepts, enough}
+use Rattle.directory.specs.Calls.{Kept, mostSets, accepts, storesSuffice}
 use Rattle.directory.proofs.Refusals.{Suffice, suffices, within}
 use Rattle.bindings.specs.declared.Answer.the-variants.{Refused, Done}
 use Rattle.bindings.specs.Calls as Bindings
@@ -50,10 +50,10 @@ module _ {K : Kind} (S : Store K) (rest : Bool) where
 
 module _ {K : Kind} {S : Store K} (W : Owed S) (limit : ℕ) (h : Held (S .Cells)) (e : lent S limit h ≡ true) where
   pub lent-dir : Suffice limit (h .kept .stores)
-  lent-dir = suffices limit (h .kept .stores) (and-true (enough limit (h .kept .stores)) (S .suffices limit (h .cells)) e .0)
+  lent-dir = suffices limit (h .kept .stores) (and-true (storesSuffice limit (h .kept .stores)) (S .suffices limit (h .cells)) e .0)
 
   pub lent-cells : S .suffices limit (h .cells) ≡ true
-  lent-cells = and-true (enough limit (h .kept .stores)) (S .suffices limit (h .cells)) e .1
+  lent-cells = and-true (storesSuffice limit (h .kept .stores)) (S .suffices limit (h .cells)) e .1
 
   seatable : (a : Seating) → Safe limit (h .kept .dir) (h .kept .stores) a → Seatable S h a
   seatable a safe n = let g = safe n in (W .room limit (h .cells) (a .slot) lent-cells (g .0), g .1)

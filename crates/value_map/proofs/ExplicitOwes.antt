@@ -1,4 +1,4 @@
--- The explicit kind pays what it owes, by the laws of `bucket_slots`. Assumes nothing.
+-- The explicit kind pays what it owes, by the laws of `explicit_slots`. Assumes nothing.
 use Prim.Native.Nat.{ℕ, _+_, _*_, _≤_}
 use mathlib.Core.Path.{_≡_, refl, ap, _∙_}
 use mathlib.Core.Bool.{Bool, true, false, _&&_}
@@ -14,12 +14,12 @@ use Rattle.laws.proofs.Bools.{pick-left}
 use Rattle.laws.proofs.Cases.{and-true, true-not-false}
 use Rattle.parts.proofs.Laws.{within}
 use Rattle.points.specs.Explicit.{boundsPass, bucketCount}
-use Rattle.bucket_slots.specs.Slots as Slots
-use Rattle.bucket_slots.specs.Slots.{Stores, Room}
-use Rattle.bucket_slots.proofs.Series as Laws
+use Rattle.explicit_slots.specs.Slots as Slots
+use Rattle.explicit_slots.specs.Slots.{Stores, Room}
+use Rattle.explicit_slots.proofs.Series as Laws
 use Rattle.value_map.specs.Store.{Recording}
 use Rattle.value_map.specs.Calls.{passes}
-use Rattle.value_map.specs.Explicit.{cellsHold, cellsLent, explicitStore}
+use Rattle.value_map.specs.Explicit.{lengthsSuffice, cellsSuffice, explicitStore}
 use Rattle.value_map.proofs.Owed.{Owed}
 
 -- the bounds are all that configuring asks of the settings
@@ -35,7 +35,7 @@ bounds-pass : (bounds : List Float) → explicitStore bounds .unset ≡ 0 → bo
 bounds-pass bounds e = pick-left (boundsPass bounds) 0 3 (omega arith) e
 
 -- each of limit + 2 slots lies in stores that suffice
-room : (bounds : List Float) (limit : ℕ) (c : Stores) (x : ℕ) → cellsLent bounds limit c ≡ true → x ≤ limit + 1 → Room bounds c x
+room : (bounds : List Float) (limit : ℕ) (c : Stores) (x : ℕ) → cellsSuffice bounds limit c ≡ true → x ≤ limit + 1 → Room bounds c x
 room bounds limit c x e h =
     let n = bucketCount bounds in
     let a = and-true (leb (limit + 2) (length (c .totals))) _ e in
@@ -49,7 +49,7 @@ room bounds limit c x e h =
 finite-is : (v : Float) → (finite v && fits binary64 v) ≡ true → finite v ≡ true
 finite-is v e = and-true (finite v) (fits binary64 v) e .0
 
--- a recording of `bucket_slots` as the store has it
+-- a recording of `explicit_slots` as the store has it
 abbrev pub left : Slots.Recording → Recording Stores
 left o = record { no = o .no; cells = o .stores }
 
@@ -69,7 +69,7 @@ owed bounds =
             no = t .0;
             own = t .1 .series;
             others = t .1 .others;
-            lent = λ limit l. (λ j. cellsHold (bucketCount bounds) limit (k .totals j) (k .extremes j) (k .counts j)) ∙ l;
+            lent = λ limit l. (λ j. lengthsSuffice (bucketCount bounds) limit (k .totals j) (k .extremes j) (k .counts j)) ∙ l;
           };
     }
 

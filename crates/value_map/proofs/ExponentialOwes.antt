@@ -1,4 +1,4 @@
--- The exponential kind pays what it owes, by the laws of `expo_slots`. Assumes nothing.
+-- The exponential kind pays what it owes, by the laws of `exponential_slots`. Assumes nothing.
 use Prim.Native.Nat.{ℕ, _+_, _*_, _≤_, _<_}
 use mathlib.Core.Path.{_≡_, ap, _∙_}
 use mathlib.Core.Bool.{true, false, _&&_}
@@ -14,13 +14,13 @@ use Rattle.parts.proofs.Laws.{within}
 use Rattle.index.specs.Bins.{finest}
 use Rattle.points.specs.Figures.{exponential, sizePasses}
 use Rattle.kinds.specs.Histograms as Kinds
-use Rattle.expo_slots.specs.Slots as Slots
-use Rattle.expo_slots.specs.Slots.{Slots, Room}
-use Rattle.expo_slots.proofs.Written as Written
-use Rattle.expo_slots.proofs.Recording as Laws
+use Rattle.exponential_slots.specs.Slots as Slots
+use Rattle.exponential_slots.specs.Slots.{Slots, Room}
+use Rattle.exponential_slots.proofs.Written as Written
+use Rattle.exponential_slots.proofs.Recording as Laws
 use Rattle.value_map.specs.Store.{Recording}
 use Rattle.value_map.specs.Calls.{passes}
-use Rattle.value_map.specs.Exponential.{slotsHold, slotsLent, unset, expoStore}
+use Rattle.value_map.specs.Exponential.{lengthsSuffice, cellsSuffice, unset, exponentialStore}
 use Rattle.value_map.proofs.Owed.{Fit, Owed}
 
 -- ---- max_size and the greatest level
@@ -56,27 +56,27 @@ module _ (size top : ℕ) where
 -- ---- number 12
 
 module _ (size limit figures extremes pos neg : ℕ) where
-  pub few-figures : leb (limit + 2) figures ≡ false → false ≡ slotsHold size limit figures extremes pos neg
-  unfolding slotsHold
+  pub few-figures : leb (limit + 2) figures ≡ false → false ≡ lengthsSuffice size limit figures extremes pos neg
+  unfolding lengthsSuffice
   few-figures e = rw e
 
   module _ (a : leb (limit + 2) figures ≡ true) where
-    pub few-extremes : leb (limit + 2) extremes ≡ false → false ≡ slotsHold size limit figures extremes pos neg
-    unfolding slotsHold
+    pub few-extremes : leb (limit + 2) extremes ≡ false → false ≡ lengthsSuffice size limit figures extremes pos neg
+    unfolding lengthsSuffice
     few-extremes e = rw (a, e)
 
     module _ (b : leb (limit + 2) extremes ≡ true) where
-      pub few-pos : leb ((limit + 2) * size) pos ≡ false → false ≡ slotsHold size limit figures extremes pos neg
-      unfolding slotsHold
+      pub few-pos : leb ((limit + 2) * size) pos ≡ false → false ≡ lengthsSuffice size limit figures extremes pos neg
+      unfolding lengthsSuffice
       few-pos e = rw (a, b, e)
 
-      pub by-neg : leb ((limit + 2) * size) pos ≡ true → leb ((limit + 2) * size) neg ≡ slotsHold size limit figures extremes pos neg
-      unfolding slotsHold
+      pub by-neg : leb ((limit + 2) * size) pos ≡ true → leb ((limit + 2) * size) neg ≡ lengthsSuffice size limit figures extremes pos neg
+      unfolding lengthsSuffice
       by-neg e = rw (a, b, e)
 
 -- each of limit + 2 slots lies in stores that suffice
-room : (size limit : ℕ) (c : Slots) (x : ℕ) → slotsLent size limit c ≡ true → x ≤ limit + 1 → Room size c x
-unfolding slotsHold
+room : (size limit : ℕ) (c : Slots) (x : ℕ) → cellsSuffice size limit c ≡ true → x ≤ limit + 1 → Room size c x
+unfolding lengthsSuffice
 room size limit c x e h =
     let t₁ = leb (limit + 2) (length (c .figures)) in
     let t₂ = leb (limit + 2) (length (c .extremes)) in
@@ -95,16 +95,16 @@ room size limit c x e h =
 
 -- ---- what is owed
 
-fit : (size top : ℕ) (c : Slots) (x : ℕ) (v : Float) → Fit (expoStore size top) c x v → Written.Fit size top x c v
+fit : (size top : ℕ) (c : Slots) (x : ℕ) (v : Float) → Fit (exponentialStore size top) c x v → Written.Fit size top x c v
 fit size top c x v f =
     let r = f .room in
     record { valid = unset-valid size top (f .set); figures = r .figures; extremes = r .extremes; pos = r .pos; neg = r .neg; value = f .value }
 
--- an outcome of `expo_slots` as the store has it
+-- an outcome of `exponential_slots` as the store has it
 abbrev pub left : Slots.Outcome → Recording Slots
 left o = record { no = o .number; cells = o .slots }
 
-pub owed : (size top : ℕ) → Owed (expoStore size top)
+pub owed : (size top : ℕ) → Owed (exponentialStore size top)
 owed size top =
     record {
       valid = λ e w. unset-valid size top e;
@@ -119,6 +119,6 @@ owed size top =
             no = t .number;
             own = t .own;
             others = t .others;
-            lent = λ limit l. (λ j. slotsHold size limit (t .figures j) (t .extremes j) (t .pos j) (t .neg j)) ∙ l;
+            lent = λ limit l. (λ j. lengthsSuffice size limit (t .figures j) (t .extremes j) (t .pos j) (t .neg j)) ∙ l;
           };
     }

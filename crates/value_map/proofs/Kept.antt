@@ -15,7 +15,7 @@ use Rattle.sets.proofs.Exact.{Small}
 use Rattle.sets.proofs.CallRow.{row-set, row-short, row-keyed}
 use Rattle.directory.specs.View.{setAt, sought}
 use Rattle.directory.specs.declared.Found.the-variants as Found
-use Rattle.directory.specs.Calls.{Kept, enough}
+use Rattle.directory.specs.Calls.{Kept, storesSuffice}
 use Rattle.directory.proofs.Leaves.{Good, Leaves, same-leaves}
 use Rattle.bindings.specs.declared.Answer.the-variants.{Done}
 use Rattle.seats.proofs.Keeps.{seat-good, by-good, seat-stays, by-stays}
@@ -32,7 +32,7 @@ module _ {K : Kind} {S : Store K} (W : Owed S) (w : S .Switches) (limit : ℕ) (
   good =
       record {
         agrees = g .agrees;
-        lent = and-true (enough limit (h .kept .stores)) (S .suffices limit (h .cells)) (g .lent-is) .0;
+        lent = and-true (storesSuffice limit (h .kept .stores)) (S .suffices limit (h .cells)) (g .lent-is) .0;
         last = g .last;
       }
 

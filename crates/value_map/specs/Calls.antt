@@ -12,7 +12,7 @@ use Rattle.tally.specs.Kind.{Kind}
 use Rattle.sets.specs.Rows.{rowOf}
 use Rattle.sets.specs.Sorted.{mostAttributes}
 use Rattle.directory.specs.View.{Stores}
-use Rattle.directory.specs.Calls.{Kept, kept, mostSets, accepts, enough}
+use Rattle.directory.specs.Calls.{Kept, kept, mostSets, accepts, storesSuffice}
 use Rattle.directory.specs.declared.Directory.{Directory}
 use Rattle.bindings.specs.Calls as Bindings
 use Rattle.bindings.specs.Calls.{fresh}
@@ -58,7 +58,7 @@ module _ {K : Kind} (S : Store K) where
   passes = eqb (S .unset) 0
 
   abbrev pub lent : ℕ → Held (S .Cells) → Bool
-  lent limit h = enough limit (h .kept .stores) && S .suffices limit (h .cells)
+  lent limit h = storesSuffice limit (h .kept .stores) && S .suffices limit (h .cells)
 
   -- the directory refused with its number, or named a slot; the series there refused with its own, or took the value and left its cells; then
   -- the directory is written

@@ -10,17 +10,17 @@ use Rattle.points.specs.Explicit.{boundsPass, bucketCount}
 use Rattle.points.specs.Figures.{explicit}
 use Rattle.kinds.specs.Histograms.{histograms}
 use Rattle.seats.specs.declared.Seating.{Seating}
-use Rattle.bucket_slots.specs.Slots.{Stores, Room, seriesAt, recordedAt}
+use Rattle.explicit_slots.specs.Slots.{Stores, Room, seriesAt, recordedAt}
 use Rattle.value_map.specs.Store.{Store}
 use Rattle.value_map.specs.Calls.{Held, Outcome, unlessRefused, entered}
 
 -- "12: a lent count store under (limit + 2) × max_size counts (explicit: × buckets, one store), or any other lent store under limit + 2
 -- entries", by lengths, with n buckets
-abbrev pub cellsHold : ℕ → ℕ → ℕ → ℕ → ℕ → Bool
-cellsHold n limit totals extremes counts = leb (limit + 2) totals && (leb (limit + 2) extremes && leb ((limit + 2) * n) counts)
+abbrev pub lengthsSuffice : ℕ → ℕ → ℕ → ℕ → ℕ → Bool
+lengthsSuffice n limit totals extremes counts = leb (limit + 2) totals && (leb (limit + 2) extremes && leb ((limit + 2) * n) counts)
 
-abbrev pub cellsLent : List Float → ℕ → Stores → Bool
-cellsLent bounds limit c = cellsHold (bucketCount bounds) limit (length (c .totals)) (length (c .extremes)) (length (c .counts))
+abbrev pub cellsSuffice : List Float → ℕ → Stores → Bool
+cellsSuffice bounds limit c = lengthsSuffice (bucketCount bounds) limit (length (c .totals)) (length (c .extremes)) (length (c .counts))
 
 -- the switches: extremes and sums; and a threshold, which this kind has no use for
 abbrev pub explicitStore : List Float → Store histograms
@@ -30,7 +30,7 @@ explicitStore bounds =
       settings = λ w. record { kind = explicit bounds; extremes = w .0; sums = w .1; threshold = w .2 };
       unset = pick (boundsPass bounds) 0 3;
       Cells = Stores;
-      suffices = cellsLent bounds;
+      suffices = cellsSuffice bounds;
       Room = Room bounds;
       at = seriesAt bounds;
       recorded = λ x updated c v. let o = recordedAt bounds x updated c v in record { no = o .no; cells = o .stores };

@@ -7,31 +7,31 @@ use Rattle.laws.specs.Pick.{pick}
 use Rattle.index.specs.Bins.{finest}
 use Rattle.points.specs.Figures.{sizePasses}
 use Rattle.kinds.specs.Histograms.{histograms}
-use Rattle.expo_slots.specs.Slots.{Slots, Room, recordedAt}
-use Rattle.expo_slots.specs.Meaning.{settings, seriesAt}
+use Rattle.exponential_slots.specs.Slots.{Slots, Room, recordedAt}
+use Rattle.exponential_slots.specs.Meaning.{settings, seriesAt}
 use Rattle.value_map.specs.Store.{Store}
 
 -- "12: a lent count store under (limit + 2) × max_size counts .., or any other lent store under limit + 2 entries", by lengths
-unfoldable pub slotsHold : ℕ → ℕ → ℕ → ℕ → ℕ → ℕ → Bool
-slotsHold size limit figures extremes pos neg =
+unfoldable pub lengthsSuffice : ℕ → ℕ → ℕ → ℕ → ℕ → ℕ → Bool
+lengthsSuffice size limit figures extremes pos neg =
     leb (limit + 2) figures && (leb (limit + 2) extremes && (leb ((limit + 2) * size) pos && leb ((limit + 2) * size) neg))
 
-abbrev pub slotsLent : ℕ → ℕ → Slots → Bool
-slotsLent size limit x = slotsHold size limit (length (x .figures)) (length (x .extremes)) (length (x .pos)) (length (x .neg))
+abbrev pub cellsSuffice : ℕ → ℕ → Slots → Bool
+cellsSuffice size limit x = lengthsSuffice size limit (length (x .figures)) (length (x .extremes)) (length (x .pos)) (length (x .neg))
 
 -- "1: max_size ..; 2: max_scale ..", the level being the scale + 10
 unfoldable pub unset : ℕ → ℕ → ℕ
 unset size top = pick (sizePasses size) (pick (leb top finest) 0 2) 1
 
 -- the switches: extremes and sums
-abbrev pub expoStore : ℕ → ℕ → Store histograms
-expoStore size top =
+abbrev pub exponentialStore : ℕ → ℕ → Store histograms
+exponentialStore size top =
     record {
       Switches = Bool × Bool;
       settings = λ w. settings size top (w .0) (w .1);
       unset = unset size top;
       Cells = Slots;
-      suffices = slotsLent size;
+      suffices = cellsSuffice size;
       Room = Room size;
       at = seriesAt size;
       recorded = λ x updated c v. let o = recordedAt size top x updated c v in record { no = o .number; cells = o .slots };

@@ -9,13 +9,13 @@ ghost use Rattle.value_map.specs.Calls.{barredBy};
 const MOST_ATTRIBUTES: usize = 8;
 
 // Whether a store of this length has n counts for each of limit + 2 slots.
-pub fn holds_rows(limit: u64, n: usize, length: usize) -> bool
+pub fn counts_suffice(limit: u64, n: usize, length: usize) -> bool
     ensures { λ r. ⌜ r ≡ leb ((limit + 2) * n) length ⌝ }
 {
     if n == 0 {
         return true;
     }
-    directory::holds(limit, length / n)
+    directory::suffices(limit, length / n)
 }
 
 // The number of the refusal, 0 if none: whether the stores suffice, the value, the number of attributes, whether the configuration was accepted.

@@ -9,7 +9,7 @@ use native.Mathlib.Omega.{arith}
 use mathlib.Core.List.{List}
 use mathlib.Core.Option.{Option}
 use Rattle.sets.specs.Sorted.{filterOf, mostAttributes}
-use Rattle.directory.specs.Calls.{accepts, enough}
+use Rattle.directory.specs.Calls.{accepts, storesSuffice}
 use Rattle.directory.specs.View.{Stores}
 use Rattle.directory.proofs.Refusals.{suffices, within}
 use Rattle.bindings.specs.Calls.{boundIn}
@@ -27,8 +27,8 @@ filter s = filterOf (s .args .present) (s .args .filter .now)
 abbrev at : tie.Else1 → tie.Start
 at e = e .before .before .before .before
 
-lent : (e : tie.Else1) → enough (at e .args .limit) (stores (at e)) ≡ true
-lent e = sym (e .before .enough .ensures) ∙ not-false _ (e .if1 .left)
+lent : (e : tie.Else1) → storesSuffice (at e .args .limit) (stores (at e)) ≡ true
+lent e = sym (e .before .stores-suffice .ensures) ∙ not-false _ (e .if1 .left)
 
 abbrev at2 : tie.Else2 → tie.Start
 at2 g = at (g .before .before)
@@ -39,13 +39,13 @@ short g = sym (g .before .few .ensures) ∙ not-false _ (g .if2 .left)
 accept : (e : tie.Else3) → accepts (at2 (e .before .before) .args .limit) (filter (at2 (e .before .before))) ≡ true
 accept e = sym (e .before .accepted .ensures) ∙ not-false _ (e .if3 .left)
 
-enough-requires : tie.Need-enough-requires
-enough-requires c κs = search needs
+stores-suffice-requires : tie.Need-stores-suffice-requires
+stores-suffice-requires c κs = search needs
 
 returns : tie.Need-returns
 returns c =
     let s = c .before .before .before .before in
-    sym (bound-12 (s .args .limit) (filter s) (s .args .d) (stores s) (s .args .attrs .now) (sym (c .before .enough .ensures) ∙ not-true _ (c .if1 .taken)))
+    sym (bound-12 (s .args .limit) (filter s) (s .args .d) (stores s) (s .args .attrs .now) (sym (c .before .stores-suffice .ensures) ∙ not-true _ (c .if1 .taken)))
 
 few-requires : tie.Need-few-requires
 few-requires c κs = search needs
@@ -101,7 +101,7 @@ pub bind-spec : {M : Type 1} → statement M
 bind-spec =
     tie.close
     (tie.spec
-    enough-requires
+    stores-suffice-requires
     returns
     few-requires
     returns-2

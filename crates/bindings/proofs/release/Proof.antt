@@ -2,7 +2,7 @@
 use mathlib.Core.Path.{_≡_, sym, _∙_}
 use mathlib.Core.Bool.{true}
 use borrow.Author.Tests.{not-true, not-false}
-use Rattle.directory.specs.Calls.{enough}
+use Rattle.directory.specs.Calls.{storesSuffice}
 use Rattle.directory.specs.View.{Stores}
 use Rattle.directory.proofs.Refusals.{suffices}
 use Rattle.bindings.proofs.Refusals.{released-12, released-8, released-on}
@@ -16,16 +16,16 @@ stores s = record { sets = s .args .sets .now; entries = s .args .entries .now; 
 abbrev at : tie.Else1 → tie.Start
 at e = e .before .before .before
 
-lent : (e : tie.Else1) → enough (at e .args .limit) (stores (at e)) ≡ true
-lent e = sym (e .before .enough .ensures) ∙ not-false _ (e .if1 .left)
+lent : (e : tie.Else1) → storesSuffice (at e .args .limit) (stores (at e)) ≡ true
+lent e = sym (e .before .stores-suffice .ensures) ∙ not-false _ (e .if1 .left)
 
-enough-requires : tie.Need-enough-requires
-enough-requires c κs = search needs
+stores-suffice-requires : tie.Need-stores-suffice-requires
+stores-suffice-requires c κs = search needs
 
 returns : tie.Need-returns
 returns c =
     let s = c .before .before .before in
-    sym (released-12 (s .args .limit) (s .args .d) (stores s) (s .args .h) (sym (c .before .enough .ensures) ∙ not-true _ (c .if1 .taken)))
+    sym (released-12 (s .args .limit) (s .args .d) (stores s) (s .args .h) (sym (c .before .stores-suffice .ensures) ∙ not-true _ (c .if1 .taken)))
 
 returns-2 : tie.Need-returns-2
 returns-2 c =
@@ -53,4 +53,4 @@ returns-3 c =
 pub release-spec : {M : Type 1} → statement M
 release-spec =
     tie.close
-    (tie.spec enough-requires returns returns-2 release-in-requires same-length returns-3)
+    (tie.spec stores-suffice-requires returns returns-2 release-in-requires same-length returns-3)

@@ -5,7 +5,7 @@ use mathlib.Core.Bool.{true}
 use borrow.Author.Tests.{not-true, not-false}
 use native.Mathlib.Omega.{arith}
 use Rattle.sets.specs.Sorted.{filterOf}
-use Rattle.directory.specs.Calls.{accepts, enough}
+use Rattle.directory.specs.Calls.{accepts, storesSuffice}
 use Rattle.directory.specs.View.{Stores}
 use Rattle.directory.proofs.Refusals.{suffices}
 use Rattle.bindings.proofs.Refusals.{start-4, start-12, start-0}
@@ -27,8 +27,8 @@ accept e = sym (e .before .accepted .ensures) ∙ not-false _ (e .if1 .left)
 abbrev at : tie.Else2 → tie.Start
 at c = c .before .before .before .before .before .before
 
-lent : (c : tie.Else2) → enough (at c .args .limit) (stores (at c)) ≡ true
-lent c = sym (c .before .enough .ensures) ∙ not-false _ (c .if2 .left)
+lent : (c : tie.Else2) → storesSuffice (at c .args .limit) (stores (at c)) ≡ true
+lent c = sym (c .before .stores-suffice .ensures) ∙ not-false _ (c .if2 .left)
 
 accepted-requires : tie.Need-accepted-requires
 accepted-requires c κs = search needs
@@ -38,14 +38,14 @@ returns c =
     let s = c .before .before .before .before in
     sym (start-4 (s .args .limit) (filter s) (stores s) (sym (c .before .accepted .ensures) ∙ not-true _ (c .if1 .taken)))
 
-enough-requires : tie.Need-enough-requires
-enough-requires c κs = search needs
+stores-suffice-requires : tie.Need-stores-suffice-requires
+stores-suffice-requires c κs = search needs
 
 returns-2 : tie.Need-returns-2
 returns-2 c =
     let e = c .before .before in
     let s = e .before .before .before .before in
-    sym (start-12 (s .args .limit) (filter s) (stores s) (accept e) (sym (c .before .enough .ensures) ∙ not-true _ (c .if2 .taken)))
+    sym (start-12 (s .args .limit) (filter s) (stores s) (accept e) (sym (c .before .stores-suffice .ensures) ∙ not-true _ (c .if2 .taken)))
 
 slice-set-from-entries : tie.Need-slice-set-from-entries
 slice-set-from-entries c = omega (arith, suffices (at c .args .limit) (stores (at c)) (lent c) .entries)
@@ -62,7 +62,7 @@ start-spec =
     (tie.spec
     accepted-requires
     returns
-    enough-requires
+    stores-suffice-requires
     returns-2
     slice-set-from-entries
     same-length

@@ -4,8 +4,8 @@ use mathlib.Core.Path.{_≡_, refl, sym, ap, _∙_}
 use lib.ListN.{length, take, drop}
 use native.Mathlib.Omega.{arith}
 use denote.Ref.{now}
-use Rattle.series.specs.Series.{outcome}
-use Rattle.series.specs.Runs.{Series, runAll}
+use Rattle.exponential.specs.Series.{outcome}
+use Rattle.exponential.specs.Runs.{Series, runAll}
 use Rattle.exports.specs.Exports.{recorded}
 use Rattle.exports.proofs.Following.{turn, ended}
 use Rattle.exports.proofs.record_all.Statement.{statement}

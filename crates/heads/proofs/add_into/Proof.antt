@@ -6,7 +6,7 @@ use lib.ListN.{length, take}
 use lib.ListN.{length-set}
 use Rattle.points.specs.Explicit.{added}
 use Rattle.rows.specs.Rows.{over}
-use Rattle.buckets.proofs.Writes.{added-none}
+use Rattle.explicit.proofs.Writes.{added-none}
 use Rattle.heads.proofs.Places.{into-turn, into-fits}
 use Rattle.heads.proofs.add_into.Statement.{statement}
 use Rattle.heads.proofs.add_into.Tie as tie

@@ -9,8 +9,8 @@ use Rattle.points.specs.Points as P
 use Rattle.rows.specs.Rows.{over, downscaled}
 use Rattle.laws.specs.Counting.{total}
 use Rattle.rows.proofs.Laws.{length-downscaled, total-downscaled}
-use Rattle.series.specs.Steps.{lowered}
-use Rattle.series.specs.Series.{Laid, rowIn}
+use Rattle.exponential.specs.Steps.{lowered}
+use Rattle.exponential.specs.Series.{Laid, rowIn}
 use Rattle.merges.specs.Merges.{joined}
 use Rattle.merges.proofs.Wide as wide
 use borrow.Author.Needs.{needs}

@@ -2,8 +2,8 @@ use Prim.Native.Nat.{_-_}
 use mathlib.Core.Path.{_∙_}
 use native.Mathlib.Omega.{arith}
 use borrow.Author.Needs.{needs}
-use Rattle.series.specs.Steps.{lowering}
-use Rattle.series.proofs.Rowed.{change-is}
+use Rattle.exponential.specs.Steps.{lowering}
+use Rattle.exponential.proofs.Rowed.{change-is}
 use Rattle.merges.proofs.Spans.{ends-le}
 use Rattle.merges.proofs.span.Statement.{statement}
 use Rattle.merges.proofs.span.Tie as tie

@@ -3,7 +3,7 @@ use mathlib.Core.Path.{sym, ap, _∙_}
 use mathlib.Core.Bool.{Bool}
 use lib.Ieee.Scale.{finite}
 use Rattle.laws.specs.Pick.{_and_}
-use Rattle.series.proofs.Facts.{not-true, not-false}
+use Rattle.exponential.proofs.Facts.{not-true, not-false}
 use borrow.Author.Needs.{needs}
 use Rattle.point.proofs.both_finite.Statement.{statement}
 use Rattle.point.proofs.both_finite.Tie as tie

@@ -27,8 +27,8 @@ enum-known-f c = search needs
 enum-known-g : tie.Need-enum-known-g
 enum-known-g c = search needs
 
-merge-scaled-requires : tie.Need-merge-scaled-requires
-merge-scaled-requires c κs =
+merge-exponential-requires : tie.Need-merge-exponential-requires
+merge-exponential-requires c κs =
     let g = c .before .before .before in
     let f = g .before .before .before in
     let e = f .before .before in
@@ -50,8 +50,8 @@ enum-known-g-3 c = search needs
 enum-known-g-4 : tie.Need-enum-known-g-4
 enum-known-g-4 c = search needs
 
-merge-bucketed-requires : tie.Need-merge-bucketed-requires
-merge-bucketed-requires c κs =
+merge-explicit-requires : tie.Need-merge-explicit-requires
+merge-explicit-requires c κs =
     let g = c .before .before in
     let f = g .before .before .before in
     let e = f .before .before in
@@ -74,8 +74,8 @@ returns-2 c =
     let f = g .before .before .before in
     let e = f .before .before in
     let a = start e .args in
-    calls.scaled-law (a .size) (a .a) (now (a .abounds)) (now (a .apos)) (now (a .aneg)) (a .b) (now (a .bbounds)) (now (a .bpos)) (now (a .bneg)) (now (a .pos)) (now (a .neg)) (f .f .given .0 .0) (g .g .given .0 .0) (s .merge-scaled .result) (c .finish .result) (s .merge-scaled .last .1 .1 .1 .1 .1 .1 .1 .0) (s .merge-scaled .last .1 .1 .1 .1 .1 .1 .1 .1 .0)
-    (free e) (f .f .given .1) (g .g .given .1) (s .merge-scaled .ensures) (c .finish .ensures)
+    calls.exponential-law (a .size) (a .a) (now (a .abounds)) (now (a .apos)) (now (a .aneg)) (a .b) (now (a .bbounds)) (now (a .bpos)) (now (a .bneg)) (now (a .pos)) (now (a .neg)) (f .f .given .0 .0) (g .g .given .0 .0) (s .merge-exponential .result) (c .finish .result) (s .merge-exponential .last .1 .1 .1 .1 .1 .1 .1 .0) (s .merge-exponential .last .1 .1 .1 .1 .1 .1 .1 .1 .0)
+    (free e) (f .f .given .1) (g .g .given .1) (s .merge-exponential .ensures) (c .finish .ensures)
 
 returns-3 : tie.Need-returns-3
 returns-3 c =
@@ -103,8 +103,8 @@ returns-5 c =
     let f = g .before .before .before in
     let e = f .before .before in
     let a = start e .args in
-    calls.bucketed-law (a .size) (a .a) (now (a .abounds)) (now (a .apos)) (now (a .aneg)) (a .b) (now (a .bbounds)) (now (a .bpos)) (now (a .bneg)) (now (a .pos)) (now (a .neg)) (f .f2 .given .0 .0) (g .g4 .given .0 .0) (s .merge-bucketed .result) (c .finish2 .result) (s .merge-bucketed .last .1 .1 .1 .1 .1 .0)
-    (free e) (f .f2 .given .1) (g .g4 .given .1) (s .merge-bucketed .ensures) (c .finish2 .ensures)
+    calls.explicit-law (a .size) (a .a) (now (a .abounds)) (now (a .apos)) (now (a .aneg)) (a .b) (now (a .bbounds)) (now (a .bpos)) (now (a .bneg)) (now (a .pos)) (now (a .neg)) (f .f2 .given .0 .0) (g .g4 .given .0 .0) (s .merge-explicit .result) (c .finish2 .result) (s .merge-explicit .last .1 .1 .1 .1 .1 .0)
+    (free e) (f .f2 .given .1) (g .g4 .given .1) (s .merge-explicit .ensures) (c .finish2 .ensures)
 
 pub merge-spec : {M : Type 1} → statement M
 merge-spec =
@@ -114,13 +114,13 @@ merge-spec =
     returns
     enum-known-f
     enum-known-g
-    merge-scaled-requires
+    merge-exponential-requires
     finish-requires
     enum-known-g-2
     enum-known-f-2
     enum-known-g-3
     enum-known-g-4
-    merge-bucketed-requires
+    merge-explicit-requires
     finish-requires-2
     same-length
     same-length-2

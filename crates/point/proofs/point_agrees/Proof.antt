@@ -4,7 +4,7 @@ use mathlib.Core.Bool.{Bool}
 use Rattle.laws.specs.Pick.{_and_}
 use Rattle.points.specs.Handed.{extremesAgree}
 use Rattle.point.specs.Handing.{pointAgrees}
-use Rattle.series.proofs.Facts.{not-true, not-false}
+use Rattle.exponential.proofs.Facts.{not-true, not-false}
 use borrow.Author.Needs.{needs}
 use Rattle.point.proofs.point_agrees.Statement.{statement}
 use Rattle.point.proofs.point_agrees.Tie as tie

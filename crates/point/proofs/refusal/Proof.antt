@@ -1,7 +1,7 @@
 use Prim.Native.Nat.{_-_}
 use mathlib.Core.Path.{sym, _∙_}
 use denote.Ref.{now}
-use Rattle.series.proofs.Facts.{not-true, not-false}
+use Rattle.exponential.proofs.Facts.{not-true, not-false}
 use Rattle.point.proofs.Calls as calls
 use borrow.Author.Needs.{needs}
 use Rattle.point.proofs.refusal.Statement.{statement}

@@ -33,8 +33,8 @@ enum-known-f c = search needs
 enum-known-g : tie.Need-enum-known-g
 enum-known-g c = search needs
 
-scaled-into-requires : tie.Need-scaled-into-requires
-scaled-into-requires c κs =
+exponential-into-requires : tie.Need-exponential-into-requires
+exponential-into-requires c κs =
     let g = c .before .before .before in
     let f = g .before .before .before in
     let e = f .before .before in
@@ -56,8 +56,8 @@ enum-known-g-3 c = search needs
 enum-known-g-4 : tie.Need-enum-known-g-4
 enum-known-g-4 c = search needs
 
-bucketed-into-requires : tie.Need-bucketed-into-requires
-bucketed-into-requires c κs =
+explicit-into-requires : tie.Need-explicit-into-requires
+explicit-into-requires c κs =
     let g = c .before .before in
     let f = g .before .before .before in
     let e = f .before .before in
@@ -80,8 +80,8 @@ returns-2 c =
     let f = g .before .before .before in
     let e = f .before .before in
     let a = start e .args in
-    calls.scaled-law (a .size) (a .a) (now (a .abounds)) (now (a .pos)) (now (a .neg)) (a .b) (now (a .bbounds)) (now (a .bpos)) (now (a .bneg)) (now (a .pos)) (now (a .neg)) (f .f .given .0 .0) (g .g .given .0 .0) (s .scaled-into .result) (c .finish .result) (s .scaled-into .last .1 .1 .0) (s .scaled-into .last .1 .1 .1 .0)
-    (free e) (f .f .given .1) (g .g .given .1) (s .scaled-into .ensures) (c .finish .ensures)
+    calls.exponential-law (a .size) (a .a) (now (a .abounds)) (now (a .pos)) (now (a .neg)) (a .b) (now (a .bbounds)) (now (a .bpos)) (now (a .bneg)) (now (a .pos)) (now (a .neg)) (f .f .given .0 .0) (g .g .given .0 .0) (s .exponential-into .result) (c .finish .result) (s .exponential-into .last .1 .1 .0) (s .exponential-into .last .1 .1 .1 .0)
+    (free e) (f .f .given .1) (g .g .given .1) (s .exponential-into .ensures) (c .finish .ensures)
 
 same-length-5 : tie.Need-same-length-5
 same-length-5 c = search needs
@@ -124,8 +124,8 @@ returns-5 c =
     let f = g .before .before .before in
     let e = f .before .before in
     let a = start e .args in
-    calls.bucketed-law (a .size) (a .a) (now (a .abounds)) (now (a .pos)) (now (a .neg)) (a .b) (now (a .bbounds)) (now (a .bpos)) (now (a .bneg)) (now (a .pos)) (now (a .neg)) (f .f2 .given .0 .0) (g .g4 .given .0 .0) (s .bucketed-into .result) (c .finish2 .result) (s .bucketed-into .last .1 .1 .0)
-    (free e) (f .f2 .given .1) (g .g4 .given .1) (s .bucketed-into .ensures) (c .finish2 .ensures)
+    calls.explicit-law (a .size) (a .a) (now (a .abounds)) (now (a .pos)) (now (a .neg)) (a .b) (now (a .bbounds)) (now (a .bpos)) (now (a .bneg)) (now (a .pos)) (now (a .neg)) (f .f2 .given .0 .0) (g .g4 .given .0 .0) (s .explicit-into .result) (c .finish2 .result) (s .explicit-into .last .1 .1 .0)
+    (free e) (f .f2 .given .1) (g .g4 .given .1) (s .explicit-into .ensures) (c .finish2 .ensures)
 
 pub merge-into-spec : {M : Type 1} → statement M
 merge-into-spec =
@@ -137,13 +137,13 @@ merge-into-spec =
     returns
     enum-known-f
     enum-known-g
-    scaled-into-requires
+    exponential-into-requires
     finish-requires
     enum-known-g-2
     enum-known-f-2
     enum-known-g-3
     enum-known-g-4
-    bucketed-into-requires
+    explicit-into-requires
     finish-requires-2
     same-length-3
     same-length-4

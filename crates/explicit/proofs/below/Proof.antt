@@ -1,0 +1,16 @@
+use Prim.Native.Nat.{_-_}
+use mathlib.Core.Path.{refl}
+use Rattle.laws.specs.Pick.{pick}
+use Rattle.explicit.proofs.below.Statement.{statement}
+use Rattle.explicit.proofs.below.Tie as tie
+
+returns : tie.Need-returns
+unfolding pick
+returns c = rw (c .if1 .taken) refl
+
+returns-2 : tie.Need-returns-2
+unfolding pick
+returns-2 c = rw (c .if1 .left) refl
+
+pub below-spec : {M : Type 1} → statement M
+below-spec = tie.close (tie.spec returns returns-2)

@@ -1,0 +1,72 @@
+use Prim.Native.Nat.{_+_, _-_, _≤_}
+use mathlib.Core.Path.{_≡_, ap, _∙_}
+use native.Mathlib.Omega.{arith}
+use denote.Ref.{now}
+use lib.ListN.{length, take}
+use lib.Seq.{take-all}
+use borrow.Author.Needs.{needs}
+use Rattle.points.specs.Explicit.{rising}
+use Rattle.explicit.proofs.Turns.{rising-turn, rising-one}
+use Rattle.explicit.proofs.rises.Statement.{statement}
+use Rattle.explicit.proofs.rises.Tie as tie
+
+abbrev Inv-loop : tie.InvT-loop
+Inv-loop bounds ok₀ i₀ ok i = (1 ≤ i) × (i ≤ length bounds + 1) × (ok ≡ rising (take i bounds))
+
+abbrev μ-loop : tie.MeasureT-loop
+μ-loop bounds ok₀ i₀ ok i = length bounds - i
+
+loop-holds : tie.Need-loop-holds Inv-loop μ-loop
+loop-holds c = (omega arith, omega arith, rising-one (now (c .before .args .bounds)))
+
+sub-and-below : tie.Need-sub-and-below Inv-loop μ-loop
+sub-and-below c = search needs
+
+mul-and-below : tie.Need-mul-and-below Inv-loop μ-loop
+mul-and-below c = search needs
+
+shared-slice-read-and-below : tie.Need-shared-slice-read-and-below Inv-loop μ-loop
+shared-slice-read-and-below c = search needs
+
+mul-and-below-2 : tie.Need-mul-and-below-2 Inv-loop μ-loop
+mul-and-below-2 c = search needs
+
+shared-slice-read-and-below-2 : tie.Need-shared-slice-read-and-below-2 Inv-loop μ-loop
+shared-slice-read-and-below-2 c = search needs
+
+and-below-requires : tie.Need-and-below-requires Inv-loop μ-loop
+and-below-requires c κs = search needs
+
+add-i : tie.Need-add-i Inv-loop μ-loop
+add-i c = search needs
+
+loop-less : tie.Need-loop-less Inv-loop μ-loop
+loop-less c = search needs
+
+loop-again : tie.Need-loop-again Inv-loop μ-loop
+loop-again c =
+    let t = c .before .before .before in
+    let l = t .before in
+    let bs = now (l .before .before .args .bounds) in
+    (omega arith, omega arith, rising-turn bs (l .loop .i) (l .loop .ok) (c .and-below .result) (l .loop .inv .0) (t .loop-test .taken) (l .loop .inv .2) (c .and-below .ensures))
+
+returns : tie.Need-returns Inv-loop μ-loop
+returns c = c .before .loop .inv .2 ∙ ap rising (take-all (c .before .loop .i) (now (c .before .before .before .args .bounds)) (c .loop-test .left))
+
+pub rises-spec : {M : Type 1} → statement M
+rises-spec =
+    tie.close
+    (tie.spec
+    Inv-loop
+    μ-loop
+    loop-holds
+    sub-and-below
+    mul-and-below
+    shared-slice-read-and-below
+    mul-and-below-2
+    shared-slice-read-and-below-2
+    and-below-requires
+    add-i
+    loop-less
+    loop-again
+    returns)

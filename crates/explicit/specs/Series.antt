@@ -1,0 +1,68 @@
+-- A series of the explicit kind in a head and a lent row: what it holds, what recording does. Assumes nothing.
+use Prim.Native.Nat.{ℕ}
+use mathlib.Core.List.{List}
+use lib.Dec.{leb, eqb}
+use lib.ListN.{length, take, replicate}
+use lib.Ieee.{Float}
+use lib.Ieee.Scale.{finite}
+use Rattle.laws.specs.Pick.{pick, _and_}
+use Rattle.rows.specs.Rows.{over}
+use Rattle.points.specs.Explicit.{Buckets, bucketCount, recordBucket, bucketsAgree}
+use Rattle.points.specs.Values.{Summary, start, noted}
+use Rattle.explicit.specs.declared.Head.{Head}
+use Rattle.explicit.specs.declared.Answer.{Answer}
+use Rattle.explicit.specs.declared.Answer.the-variants.{Recorded, Refused}
+
+-- what a count and the front of a row hold
+abbrev pub bucketsIn : List Float → ℕ → List ℕ → Buckets
+bucketsIn bounds count xs = record { counts = take (bucketCount bounds) xs; total = count }
+
+-- a head of a count and of a minimum, a maximum and a sum
+abbrev pub headOf : ℕ → Summary → Head
+headOf count s = record { count = count; min = s .min; max = s .max; sum = s .sum }
+
+abbrev pub summary : Head → Summary
+summary h = record { min = h .min; max = h .max; sum = h .sum }
+
+abbrev pub freshHead : Head
+freshHead = headOf 0 start
+
+-- the greatest count
+abbrev pub mostCount : ℕ
+mostCount = 18446744073709551615
+
+-- document 01's number: 12 a row lent too short, 6 the value not finite, 8 the series or its bounds disagree, 9 the count is full; 0 none
+unfoldable pub refusalOf : List Float → Head → List ℕ → Float → ℕ
+refusalOf bounds h xs v =
+    pick (leb (bucketCount bounds) (length xs))
+    (pick (finite v)
+    (pick (bucketsAgree bounds (bucketsIn bounds (h .count) xs) and finite (h .min) and finite (h .max))
+    (pick (leb mostCount (h .count)) 9 0)
+    8)
+    6)
+    12
+
+-- the answer, and the row afterwards
+pub record Outcome : Type 0 where
+  pub answer : Answer
+  pub counts : List ℕ
+
+abbrev pub outcome : Answer → List ℕ → Outcome
+outcome r xs = record { answer = r; counts = xs }
+
+abbrev pub accepted : Buckets → Head → List ℕ → Float → Outcome
+accepted p h xs v = outcome (Recorded (headOf (p .total) (noted (summary h) v))) (over (p .counts) xs)
+
+-- refused with a number, all as it was; or one more in the value's bucket
+unfoldable pub recording : List Float → Head → List ℕ → Float → Outcome
+recording bounds h xs v =
+    pick (eqb (refusalOf bounds h xs v) 0)
+    (accepted (recordBucket bounds (bucketsIn bounds (h .count) xs) v) h xs v)
+    (outcome (Refused (refusalOf bounds h xs v)) xs)
+
+-- a fresh series: zeros in its row, or 12 where the row is too short
+unfoldable pub freshening : List Float → List ℕ → Outcome
+freshening bounds xs =
+    pick (leb (bucketCount bounds) (length xs))
+    (outcome (Recorded freshHead) (over (replicate (bucketCount bounds) 0) xs))
+    (outcome (Refused 12) xs)

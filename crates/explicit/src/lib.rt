@@ -1,0 +1,271 @@
+// One series of the explicit kind, `Buckets` of histogram.rs: bounds, a head by value, and its counts at the front of a lent slice.
+ghost use mathlib.Core.Path.{_≡_};
+ghost use mathlib.Core.Bool.{not};
+ghost use Prim.Native.Nat.{_+_, _-_, _/_, _^_, _<_, _≤_};
+ghost use lib.ListN.{length, take};
+ghost use lib.Ieee.{lt, eq, isNan};
+ghost use Rattle.laws.specs.Pick.{pick, _and_};
+ghost use Rattle.laws.specs.Counting.{total};
+ghost use Rattle.rows.specs.Rows.{over};
+ghost use Rattle.points.specs.Explicit.{noNan, rising, boundsPass, sameBounds, bucketOf, bucketCount, recordBucket, added, bucketsAgree};
+ghost use Rattle.points.specs.Figures.{mostSize};
+ghost use lib.Dec.{eqb};
+ghost use Rattle.explicit.specs.Series.{bucketsIn, freshening, mostCount, refusalOf, outcome, recording};
+use exponential::Halves;
+
+pub struct Head {
+    pub count: u64,
+    pub min: f64,
+    pub max: f64,
+    pub sum: f64,
+}
+
+pub enum Answer {
+    Recorded(Head),
+    Refused(u8),
+}
+
+// ---- bounds
+
+// Whether ok, and x is a number.
+fn and_number(ok: bool, x: f64) -> bool
+    ensures { λ r. ⌜ r ≡ (ok and not (isNan x)) ⌝ }
+{
+    if x != x {
+        return false;
+    }
+    ok
+}
+
+// Whether ok, and a is below b.
+fn and_below(ok: bool, a: f64, b: f64) -> bool
+    ensures { λ r. ⌜ r ≡ (ok and lt a b) ⌝ }
+{
+    if a < b {
+        return ok;
+    }
+    false
+}
+
+// Whether ok, and a equals b.
+fn and_equal(ok: bool, a: f64, b: f64) -> bool
+    ensures { λ r. ⌜ r ≡ (ok and eq a b) ⌝ }
+{
+    if a == b {
+        return ok;
+    }
+    false
+}
+
+fn no_nan(bounds: &[f64]) -> bool
+    ensures { λ r. ⌜ r ≡ noNan (now (bounds .entry)) ⌝ }
+{
+    let mut ok = true;
+    let mut i: usize = 0;
+    while i < bounds.len() {
+        ok = and_number(ok, bounds[i]);
+        i += 1;
+    }
+    ok
+}
+
+fn rises(bounds: &[f64]) -> bool
+    ensures { λ r. ⌜ r ≡ rising (now (bounds .entry)) ⌝ }
+{
+    let mut ok = true;
+    let mut i: usize = 1;
+    while i < bounds.len() {
+        ok = and_below(ok, bounds[i - 1], bounds[i]);
+        i += 1;
+    }
+    ok
+}
+
+// The bounds pass document 01's number 3.
+pub fn bounds_pass(bounds: &[f64]) -> bool
+    ensures { λ r. ⌜ r ≡ boundsPass (now (bounds .entry)) ⌝ }
+{
+    if 159 < bounds.len() {
+        return false;
+    }
+    if !no_nan(bounds) {
+        return false;
+    }
+    rises(bounds)
+}
+
+// The same bounds as numbers.
+pub fn same_bounds(a: &[f64], b: &[f64]) -> bool
+    ensures { λ r. ⌜ r ≡ sameBounds (now (a .entry)) (now (b .entry)) ⌝ }
+{
+    let n = a.len();
+    if n != b.len() {
+        return false;
+    }
+    let mut ok = true;
+    let mut i: usize = 0;
+    while i < n {
+        ok = and_equal(ok, a[i], b[i]);
+        i += 1;
+    }
+    ok
+}
+
+// ---- buckets
+
+// How many buckets the bounds make.
+pub fn bucket_count(bounds: &[f64]) -> usize
+    ensures { λ r. ⌜ r ≡ bucketCount (now (bounds .entry)) ⌝ }
+{
+    let n = bounds.len();
+    if n == 0 {
+        return 0;
+    }
+    n + 1
+}
+
+// 1 where b is below v.
+fn below(b: f64, v: f64) -> usize
+    ensures { λ r. ⌜ r ≡ pick (lt b v) 1 0 ⌝ }
+{
+    if b < v {
+        return 1;
+    }
+    0
+}
+
+// The bucket of v.
+pub fn bucket_of(bounds: &[f64], v: f64) -> usize
+    ensures { λ r. ⌜ r ≡ bucketOf (now (bounds .entry)) v ⌝ }
+{
+    let mut k: usize = 0;
+    let mut i: usize = 0;
+    while i < bounds.len() {
+        k += below(bounds[i], v);
+        i += 1;
+    }
+    k
+}
+
+// ---- a fresh series
+
+// A series that has counted nothing: zeros in its row, or 12 where the row lent is too short.
+pub fn fresh(bounds: &[f64], counts: &mut [u64]) -> Answer
+    ensures { λ r. ⌜ outcome r (now (counts .exit)) ≡ freshening (now (bounds .entry)) (now (counts .entry)) ⌝ }
+{
+    let n = bucket_count(bounds);
+    if counts.len() < n {
+        return Answer::Refused(12);
+    }
+    rows::zero(counts, 0, n);
+    Answer::Recorded(Head {
+        count: 0,
+        min: 1.7976931348623157e308,
+        max: -1.7976931348623157e308,
+        sum: 0.0,
+    })
+}
+
+// ---- agreement
+
+// Whether the first n counts total count.
+fn adds_up(count: u64, counts: &[u64], n: usize) -> bool
+    requires { ⌜ (n ≤ length (now counts)) × (n ≤ mostSize) ⌝ }
+    ensures { λ r. ⌜ r ≡ eqb (total (take n (now (counts .entry)))) count ⌝ }
+{
+    let none = Halves { low: 0, high: 0 };
+    let s = exponential::sum_halves(counts, n, none);
+    if count % 4294967296 != s.low % 4294967296 {
+        return false;
+    }
+    count / 4294967296 == s.high + s.low / 4294967296
+}
+
+pub fn buckets_agree(bounds: &[f64], count: u64, counts: &[u64]) -> bool
+    ensures { λ r. ⌜ r ≡ bucketsAgree (now (bounds .entry)) (bucketsIn (now (bounds .entry)) count (now (counts .entry))) ⌝ }
+{
+    if !bounds_pass(bounds) {
+        return false;
+    }
+    let n = bucket_count(bounds);
+    if counts.len() < n {
+        return false;
+    }
+    if n == 0 {
+        return true;
+    }
+    adds_up(count, counts, n)
+}
+
+// ---- recording
+
+// One more in the bucket of v, if there are buckets.
+fn count_in(bounds: &[f64], counts: &mut [u64], v: f64)
+    requires { ⌜ bucketCount (now bounds) ≤ length (now counts) ⌝ }
+    requires { ⌜ total (take (bucketCount (now bounds)) (now counts)) < mostCount ⌝ }
+    ensures { λ _. ⌜ now (counts .exit) ≡ over (recordBucket (now (bounds .entry)) (bucketsIn (now (bounds .entry)) 0 (now (counts .entry))) v .counts) (now (counts .entry)) ⌝ }
+{
+    if bounds.len() == 0 {
+        return;
+    }
+    let k = bucket_of(bounds, v);
+    counts[k] += 1;
+}
+
+fn refusal(bounds: &[f64], head: Head, counts: &[u64], v: f64) -> u8
+    ensures { λ r. ⌜ r ≡ refusalOf (now (bounds .entry)) head (now (counts .entry)) v ⌝ }
+{
+    if counts.len() < bucket_count(bounds) {
+        return 12;
+    }
+    if !floats::is_finite(v) {
+        return 6;
+    }
+    if !buckets_agree(bounds, head.count, counts) {
+        return 8;
+    }
+    if !floats::is_finite(head.min) {
+        return 8;
+    }
+    if !floats::is_finite(head.max) {
+        return 8;
+    }
+    if head.count >= 18446744073709551615 {
+        return 9;
+    }
+    0
+}
+
+// Records a value into the series, or refuses it with document 01's number.
+pub fn record(bounds: &[f64], head: Head, counts: &mut [u64], v: f64) -> Answer
+    ensures { λ r. ⌜ outcome r (now (counts .exit)) ≡ recording (now (bounds .entry)) head (now (counts .entry)) v ⌝ }
+{
+    let no = refusal(bounds, head, counts, v);
+    if no != 0 {
+        return Answer::Refused(no);
+    }
+    count_in(bounds, counts, v);
+    let least = floats::lesser(head.min, v);
+    let greatest = floats::greater(head.max, v);
+    Answer::Recorded(Head {
+        count: head.count + 1,
+        min: least,
+        max: greatest,
+        sum: head.sum + v,
+    })
+}
+
+// ---- merging
+
+// The first n counts of two rows added, over what is lent.
+pub fn add_counts(a: &[u64], b: &[u64], n: usize, out: &mut [u64])
+    requires { ⌜ (n ≤ length (now a)) × (n ≤ length (now b)) × (n ≤ length (now out)) ⌝ }
+    requires { ⌜ total (take n (now a)) + total (take n (now b)) < 2 ^ 64 ⌝ }
+    ensures { λ _. ⌜ now (out .exit) ≡ over (added (take n (now (a .entry))) (take n (now (b .entry)))) (now (out .entry)) ⌝ }
+{
+    let mut i: usize = 0;
+    while i < n {
+        out[i] = a[i] + b[i];
+        i += 1;
+    }
+}

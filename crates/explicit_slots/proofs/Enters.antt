@@ -1,0 +1,145 @@
+-- A value that enters a series or a fresh one: case by case, and what a refusal leaves. Assumes nothing.
+use Prim.Native.Nat.{ℕ, _-_, _≤_}
+use mathlib.Core.Path.{_≡_, refl, ap, sym, subst, _∙_}
+use mathlib.Core.Logic.{⊎-elim, _⊎_}
+use mathlib.Core.Bool.{Bool, true, false}
+use mathlib.Core.List.{List, [], _∷_}
+use native.Mathlib.Omega.{arith}
+use lib.Dec.{eqb}
+use lib.ListN.{length, replicate, set, length-replicate}
+use lib.Ieee.{Float}
+use lib.Ieee.Scale.{finite}
+use borrow.Author.Tests.{le-leb}
+use Rattle.laws.specs.Pick.{pick}
+use Rattle.laws.proofs.Bools.{flag, not-both, pick-true, pick-false}
+use Rattle.parts.specs.Parts.{partAt, putAt}
+use Rattle.parts.proofs.Laws.{put-same}
+use Rattle.rows.specs.Rows.{over}
+use Rattle.rows.proofs.Laws.{length-over}
+use Rattle.points.specs.Explicit.{bucketCount, boundsPass, bucketsOf, recordBucket, bucketsAgree}
+use Rattle.points.proofs.Explicit.{buckets-agree, fresh-buckets-ok}
+use Rattle.explicit.specs.declared.Head.{Head}
+use Rattle.explicit.specs.declared.Answer.{Answer}
+use Rattle.explicit.specs.declared.Answer.the-variants.{Recorded, Refused}
+use Rattle.explicit.specs.Series.{Outcome, outcome, bucketsIn, freshHead, freshening, refusalOf, accepted, recording}
+use Rattle.explicit.proofs.Cases.{none}
+use Rattle.explicit.proofs.Listed.{accepted-is, fresh-is, fin-min, fin-max}
+use Rattle.explicit_slots.specs.Slots.{Stores, Recording, headAt, begun, entering, written, recordedAt}
+
+-- ---- answers
+
+abbrev recorded? : Answer → Bool
+recorded? (Recorded h) = true
+recorded? (Refused n) = false
+
+abbrev headIn : Answer → Head
+headIn (Recorded h) = h
+headIn (Refused n) = freshHead
+
+not-refused : (a : Answer) (n : ℕ) → recorded? a ≡ true → a ≡ Refused n → ⊥
+not-refused a n r e = not-both (recorded? a) r (ap recorded? e)
+
+-- ---- a first value
+
+module _ (bs : List Float) (xs : List ℕ) (long : bucketCount bs ≤ length xs) where
+  abbrev pub zeros : List ℕ
+  zeros = over (replicate (bucketCount bs) 0) xs
+
+  fresh-made : freshening bs xs ≡ outcome (Recorded freshHead) zeros
+  unfolding freshening pick
+  fresh-made = rw (le-leb (bucketCount bs) (length xs) long) refl
+
+  module _ (a : Answer) (ys : List ℕ) (e : outcome a ys ≡ freshening bs xs) where
+    made : outcome a ys ≡ outcome (Recorded freshHead) zeros
+    made = e ∙ fresh-made
+
+    pub first-never : (n : ℕ) → a ≡ Refused n → ⊥
+    first-never n r = not-refused a n (ap (λ (o : Outcome). recorded? (o .answer)) made) r
+
+    pub first-law : (h : Head) (v : Float) → a ≡ Recorded h → recording bs h ys v ≡ begun bs xs v
+    unfolding begun
+    first-law h v r =
+        let p : h ≡ freshHead = sym (ap headIn r) ∙ ap (λ (o : Outcome). headIn (o .answer)) made in
+        let q : ys ≡ zeros = ap (λ (o : Outcome). o .counts) made in
+        λ j. recording bs (p j) (q j) v
+
+  -- it is never refused under bounds that pass
+  pub begun-taken : (v : Float) → boundsPass bs ≡ true → finite v ≡ true
+      → begun bs xs v ≡ accepted (recordBucket bs (bucketsIn bs 0 zeros) v) freshHead zeros v
+  unfolding begun
+  begun-taken v p f =
+      let agree : bucketsAgree bs (bucketsIn bs 0 zeros) ≡ true = ap (bucketsAgree bs) (fresh-is bs xs) ∙ buckets-agree bs (bucketsOf bs []) (fresh-buckets-ok bs p) in
+      let l : bucketCount bs ≤ length zeros = omega (arith, long, length-over (replicate (bucketCount bs) 0) xs (omega (arith, length-replicate {A = ℕ} (bucketCount bs) 0))) in
+      accepted-is bs freshHead zeros v (sym (none bs freshHead zeros v l f agree fin-min fin-max (omega arith)))
+
+-- ---- the cases of entering
+
+module _ (bs : List Float) (u : Bool) (h : Head) (xs : List ℕ) (v : Float) where
+  pub enters-held : u ≡ true → entering bs u h xs v ≡ recording bs h xs v
+  unfolding entering
+  enters-held e = pick-true u _ _ e
+
+  module _ (e : u ≡ false) where
+    pub enters-bad : boundsPass bs ≡ false → entering bs u h xs v ≡ outcome (Refused 8) xs
+    unfolding entering
+    enters-bad p = pick-false u _ _ e ∙ pick-false (boundsPass bs) _ _ p
+
+    pub enters-first : boundsPass bs ≡ true → entering bs u h xs v ≡ begun bs xs v
+    unfolding entering
+    enters-first p = pick-false u _ _ e ∙ pick-true (boundsPass bs) _ _ p
+
+  -- ---- a refusal leaves the row
+
+  abbrev Kept : Outcome → Type 0
+  Kept o = (n : ℕ) → o .answer ≡ Refused n → o .counts ≡ xs
+
+  recording-kept : Kept (recording bs h xs v)
+  unfolding recording
+  recording-kept =
+      ⊎-elim
+      (λ (t : eqb (refusalOf bs h xs v) 0 ≡ true). subst Kept (sym (pick-true _ _ _ t)) (λ n r. absurd (not-refused _ n refl r)))
+      (λ (t : eqb (refusalOf bs h xs v) 0 ≡ false). subst Kept (sym (pick-false _ _ _ t)) (λ n r. refl))
+      (flag (eqb (refusalOf bs h xs v) 0))
+
+  pub entering-kept : bucketCount bs ≤ length xs → finite v ≡ true → Kept (entering bs u h xs v)
+  entering-kept l f =
+      ⊎-elim
+      (λ (t : u ≡ true). subst Kept (sym (enters-held t)) recording-kept)
+      (λ (t : u ≡ false). ⊎-elim
+      (λ (p : boundsPass bs ≡ true). subst Kept (sym (enters-first t p ∙ begun-taken bs xs l v p f)) (λ n r. absurd (not-refused _ n refl r)))
+      (λ (p : boundsPass bs ≡ false). subst Kept (sym (enters-bad t p)) (λ n r. refl))
+      (flag (boundsPass bs)))
+      (flag u)
+
+-- ---- the call
+
+module _ (bs : List Float) (x : ℕ) (u : Bool) (s : Stores) (v : Float) where
+  abbrev row : ℕ → List ℕ
+  row k = partAt k (s .counts) x
+
+  abbrev back : ℕ → List ℕ → List ℕ
+  back k ys = putAt k (s .counts) x ys
+
+  pub call : (a : Answer) (ys : List ℕ) → outcome a ys ≡ entering bs u (headAt s x) (row (bucketCount bs)) v → written bs x s a ys ≡ recordedAt bs x u s v
+  unfolding recordedAt
+  call a ys e = ap (λ (o : Outcome). written bs x s (o .answer) (o .counts)) e
+
+  module _ (k : ℕ) (is : k ≡ bucketCount bs) (a : Answer) (ys : List ℕ) (e : outcome a ys ≡ entering bs u (headAt s x) (row k) v) where
+    there : outcome a ys ≡ entering bs u (headAt s x) (row (bucketCount bs)) v
+    there = e ∙ ap (λ (k : ℕ). entering bs u (headAt s x) (row k) v) is
+
+    pub call-refused : (n : ℕ) → a ≡ Refused n → bucketCount bs ≤ length (row k) → finite v ≡ true
+        → record { no = n; stores = record { totals = s .totals; extremes = s .extremes; counts = back k ys } } ≡ recordedAt bs x u s v
+    call-refused n r l f =
+        let q : entering bs u (headAt s x) (row k) v .counts ≡ row k = entering-kept bs u (headAt s x) (row k) v l f n (sym (ap (λ (o : Outcome). o .answer) e) ∙ r) in
+        let same : back k ys ≡ s .counts = ap (back k) (ap (λ (o : Outcome). o .counts) e ∙ q) ∙ put-same k (s .counts) x in
+        (λ j. record { no = n; stores = record { totals = s .totals; extremes = s .extremes; counts = same j } })
+        ∙ ap (λ (b : Answer). written bs x s b ys) (sym r)
+        ∙ call a ys there
+
+    pub call-recorded : (h : Head) → a ≡ Recorded h
+        → _≡_ {A = Recording} (record { no = 0; stores = record { totals = set (s .totals) x (h .count); extremes = set (s .extremes) x (h .min ∷ h .max ∷ h .sum ∷ []); counts = back k ys } }) (recordedAt bs x u s v)
+    call-recorded h r =
+        (λ j. record { no = 0; stores = record { totals = set (s .totals) x (h .count); extremes = set (s .extremes) x (h .min ∷ h .max ∷ h .sum ∷ []); counts = back (is j) ys } })
+        ∙ ap (λ (b : Answer). written bs x s b ys) (sym r)
+        ∙ call a ys there

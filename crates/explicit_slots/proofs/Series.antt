@@ -1,0 +1,228 @@
+-- Recording into a slot as the map asks it of a kind: its number, the value added to the slot's series, the others as they were.
+-- Assumes nothing.
+use Prim.Native.Nat.{ℕ, suc, _-_, _^_, _≤_, _<_}
+use mathlib.Core.Path.{_≡_, refl, ap, sym, subst, _∙_}
+use mathlib.Core.Logic.{⊎-elim, _⊎_, _≢_}
+use mathlib.Core.Bool.{Bool, true, false, cond, _&&_}
+use mathlib.Core.List.{List, [], _∷_}
+use mathlib.Core.Option.{Option, none, some, Option·getD}
+use native.Mathlib.Omega.{arith}
+use lib.Dec.{leb}
+use lib.ListN.{length, getD, replicate, length-set, length-replicate}
+use lib.Seq.{getD-set-same, getD-set-other}
+use lib.Ieee.{Float, nan}
+use lib.Ieee.Scale.{finite}
+use borrow.Author.Tests.{le-leb, lt-leb, ltb-true, ltb-false}
+use Rattle.laws.specs.Pick.{pick, _and_}
+use Rattle.laws.proofs.Bools.{flag, not-both, pick-true, pick-false}
+use Rattle.parts.proofs.Laws.{part-length, put-length, put-own, put-other}
+use Rattle.rows.specs.Rows.{over}
+use Rattle.rows.proofs.Laws.{length-over}
+use Rattle.points.specs.Explicit.{bucketCount, boundsPass, bucketsOf, recordBucket, bucketsAgree}
+use Rattle.points.specs.Values.{noted}
+use Rattle.points.specs.Figures.{Settings, explicit, Figures, explicitCounts}
+use Rattle.laws.proofs.Cases.{true-not-false}
+use Rattle.tally.specs.Map.{fits, sound}
+use Rattle.kinds.specs.Histograms.{histograms}
+use Rattle.explicit.specs.declared.Head.{Head}
+use Rattle.explicit.specs.declared.Answer.{Answer}
+use Rattle.explicit.specs.declared.Answer.the-variants.{Recorded, Refused}
+use Rattle.explicit.specs.Series.{mostCount, bucketsIn, headOf, summary, freshHead, refusalOf, outcome, accepted}
+use Rattle.explicit.proofs.Cases.{refuse, disagrees}
+use Rattle.explicit.proofs.Writes.{refused-law}
+use Rattle.explicit.proofs.Listed.{accepted-is, fresh-is, reads, stays-long}
+use Rattle.explicit_slots.specs.Slots.{Stores, Room, Recording, rowAt, headAt, seriesAt, entering, written, recordedAt}
+use Rattle.explicit_slots.proofs.Enters.{zeros, begun-taken, enters-held, enters-bad, enters-first, call}
+
+-- stores as long as they were
+pub record Long (s after : Stores) : Type 0 where
+  pub totals : length (after .totals) ≡ length (s .totals)
+  pub extremes : length (after .extremes) ≡ length (s .extremes)
+  pub counts : length (after .counts) ≡ length (s .counts)
+
+-- ---- a slot's cells written
+
+module _ (bounds : List Float) (s : Stores) (x : ℕ) (r : Room bounds s x) where
+  abbrev n : ℕ
+  n = bucketCount bounds
+
+  abbrev row : List ℕ
+  row = rowAt bounds (s .counts) x
+
+  long : length row ≡ n
+  long = part-length n (s .counts) x (r .counts)
+
+  module _ (h : Head) (ys : List ℕ) (l : length ys ≡ n) where
+    abbrev after : Stores
+    after = written bounds x s (Recorded h) ys .stores
+
+    at-slot : seriesAt bounds after x ≡ record { counts = explicitCounts bounds (bucketsIn bounds (h .count) ys); summary = summary h }
+    at-slot =
+        let a = getD-set-same (s .totals) x (h .count) 0 (r .totals) in
+        let b = getD-set-same (s .extremes) x (h .min ∷ h .max ∷ h .sum ∷ []) [] (r .extremes) in
+        let c = put-own n (s .counts) x (r .counts) ys l in
+        λ j. record {
+          counts = explicitCounts bounds (bucketsIn bounds (a j) (c j));
+          summary = record { min = getD (b j) 0 nan; max = getD (b j) 1 nan; sum = getD (b j) 2 nan };
+        }
+
+    beside : (y : ℕ) → y ≢ x → seriesAt bounds after y ≡ seriesAt bounds s y
+    beside y d =
+        let a = getD-set-other (s .totals) x y (h .count) 0 d in
+        let b = getD-set-other (s .extremes) x y (h .min ∷ h .max ∷ h .sum ∷ []) [] d in
+        let c = put-other n (s .counts) x (r .counts) ys l y d in
+        λ j. record {
+          counts = explicitCounts bounds (bucketsIn bounds (a j) (c j));
+          summary = record { min = getD (b j) 0 nan; max = getD (b j) 1 nan; sum = getD (b j) 2 nan };
+        }
+
+    as-long : Long s after
+    as-long =
+        record {
+          totals = length-set (s .totals) x (h .count);
+          extremes = length-set (s .extremes) x (h .min ∷ h .max ∷ h .sum ∷ []);
+          counts = put-length n (s .counts) x (r .counts) ys l;
+        }
+
+-- ---- refusals
+
+module _ (bounds : List Float) (x : ℕ) (u : Bool) (s : Stores) (v : Float) where
+  -- a number other than 0 leaves the stores
+  pub refused-same : recordedAt bounds x u s v .no ≢ 0 → recordedAt bounds x u s v .stores ≡ s
+  unfolding recordedAt
+  refused-same = let o = entering bounds u (headAt s x) (rowAt bounds (s .counts) x) v in go (o .answer) (o .counts)
+    where
+      go : (a : Answer) (xs : List ℕ) → written bounds x s a xs .no ≢ 0 → written bounds x s a xs .stores ≡ s
+      go (Refused n) xs d = refl
+      go (Recorded h) xs d = absurd (d refl)
+
+  -- 8 under bounds that do not pass
+  pub bad-bounds : Room bounds s x → finite v ≡ true → boundsPass bounds ≡ false → recordedAt bounds x u s v ≡ record { no = 8; stores = s }
+  bad-bounds r f b =
+      let h = headAt s x in
+      let xs = rowAt bounds (s .counts) x in
+      let no : bucketsAgree bounds (bucketsIn bounds (h .count) xs) ≡ false = sym (refuse bounds (h .count) xs (λ k. not-both (boundsPass bounds) (k .passes) b)) in
+      let eight : 8 ≡ refusalOf bounds h xs v = disagrees bounds h xs v (omega (arith, long bounds s x r)) f no in
+      let o : outcome (Refused 8) xs ≡ entering bounds u h xs v =
+      ⊎-elim
+      (λ (t : u ≡ true). refused-law bounds h xs v 8 eight (λ z. omega (arith, z)) ∙ sym (enters-held bounds u h xs v t))
+      (λ (t : u ≡ false). sym (enters-bad bounds u h xs v t b))
+      (flag u)
+      in
+      sym (call bounds x u s v (Refused 8) xs o)
+
+-- ---- numbers
+
+and-is : (a b c : Bool) → a and b and c ≡ a && (b && c)
+unfolding _and_
+and-is true true c = refl
+and-is true false c = refl
+and-is false b c = refl
+
+module _ (bounds : List Float) (e m : Bool) (t : Float) where
+  -- the explicit kind with these bounds, whatever its switches and its threshold
+  abbrev pub settings : Settings
+  settings = record { kind = explicit bounds; extremes = e; sums = m; threshold = t }
+
+  module _ (s : Stores) (x : ℕ) (r : Room bounds s x) (v : Float) (f : finite v ≡ true) where
+    abbrev held : Figures
+    held = seriesAt bounds s x
+
+    abbrev xs : List ℕ
+    xs = rowAt bounds (s .counts) x
+
+    abbrev total : ℕ
+    total = getD (s .totals) x 0
+
+    no-is : refusalOf bounds (headAt s x) xs v ≡ pick (histograms .agrees settings held) (pick (leb mostCount total) 9 0) 8
+    unfolding refusalOf
+    no-is =
+        pick-true (leb (bucketCount bounds) (length xs)) _ 12 (le-leb (bucketCount bounds) (length xs) (omega (arith, long bounds s x r)))
+        ∙ pick-true (finite v) _ 6 f
+        ∙ ap (λ (b : Bool). pick b (pick (leb mostCount total) 9 0) 8) (and-is (bucketsAgree bounds (bucketsIn bounds total xs)) (finite (headAt s x .min)) (finite (headAt s x .max)))
+
+    -- what the value was added to, and what is left
+    pub record Added (was : Figures) (after : Stores) : Type 0 where
+      pub series : seriesAt bounds after x ≡ histograms .add settings was v
+      pub others : (y : ℕ) → y ≢ x → seriesAt bounds after y ≡ seriesAt bounds s y
+      pub lengths : Long s after
+
+    abbrev pub Took : Bool → Figures → Type 0
+    Took u was = (recordedAt bounds x u s v .no ≡ 0) × Added was (recordedAt bounds x u s v .stores)
+
+    -- a head and a row recorded into leave their figures in the slot, with the value added
+    taken : (u : Bool) (h : Head) (ys : List ℕ) → length ys ≡ bucketCount bounds
+        → entering bounds u (headAt s x) xs v ≡ accepted (recordBucket bounds (bucketsIn bounds (h .count) ys) v) h ys v
+        → (was : Figures) → was ≡ record { counts = explicitCounts bounds (bucketsIn bounds (h .count) ys); summary = summary h }
+        → Took u was
+    taken u h ys l e was i =
+        let q = recordBucket bounds (bucketsIn bounds (h .count) ys) v in
+        let g = headOf (q .total) (noted (summary h) v) in
+        let zs = over (q .counts) ys in
+        let k : bucketCount bounds ≤ length ys = omega (arith, l) in
+        let lz : length zs ≡ bucketCount bounds = stays-long bounds (h .count) ys v k ∙ l in
+        subst (λ (o : Recording). (o .no ≡ 0) × Added was (o .stores)) (call bounds x u s v (Recorded g) zs (sym e)) (
+          refl,
+          record {
+            series = at-slot bounds s x r g zs lz
+                ∙ (λ j. record { counts = explicitCounts bounds (reads bounds (h .count) ys v k j); summary = noted (summary h) v })
+                ∙ ap (λ (w : Figures). histograms .add settings w v) (sym i);
+            others = beside bounds s x r g zs lz;
+            lengths = as-long bounds s x r g zs lz;
+          },
+        )
+
+    -- of a series that was recorded into before
+
+    refused : (k : ℕ) → k ≡ refusalOf bounds (headAt s x) xs v → k ≢ 0 → recordedAt bounds x true s v ≡ record { no = k; stores = s }
+    refused k i z =
+        sym (call bounds x true s v (Refused k) xs (refused-law bounds (headAt s x) xs v k i z ∙ sym (enters-held bounds true (headAt s x) xs v refl)))
+
+    held-8 : histograms .agrees settings held ≡ false → recordedAt bounds x true s v ≡ record { no = 8; stores = s }
+    held-8 a = refused 8 (sym (no-is ∙ pick-false (histograms .agrees settings held) _ 8 a)) (λ z. omega (arith, z))
+
+    module _ (a : histograms .agrees settings held ≡ true) where
+      by-count : refusalOf bounds (headAt s x) xs v ≡ pick (leb mostCount total) 9 0
+      by-count = no-is ∙ pick-true (histograms .agrees settings held) _ 8 a
+
+      held-9 : fits (suc total) ≡ false → recordedAt bounds x true s v ≡ record { no = 9; stores = s }
+      held-9 b =
+          let full : mostCount ≤ total = omega (arith, ltb-false (suc total) (2 ^ 64) b) in
+          refused 9 (sym (by-count ∙ pick-true (leb mostCount total) 9 0 (le-leb mostCount total full))) (λ z. omega (arith, z))
+
+      held-0 : fits (suc total) ≡ true → Took true held
+      held-0 b =
+          let h = headAt s x in
+          let free : total < mostCount = omega (arith, ltb-true (suc total) (2 ^ 64) b) in
+          let z = by-count ∙ pick-false (leb mostCount total) 9 0 (lt-leb mostCount total free) in
+          taken true h xs (long bounds s x r) (enters-held bounds true h xs v refl ∙ accepted-is bounds h xs v z) held refl
+
+    -- a first value is added to a fresh series
+    first-0 : boundsPass bounds ≡ true → Took false (histograms .fresh settings)
+    first-0 p =
+        let k : bucketCount bounds ≤ length xs = omega (arith, long bounds s x r) in
+        let zs = zeros bounds xs k in
+        let l : length zs ≡ bucketCount bounds = length-over (replicate (bucketCount bounds) 0) xs (omega (arith, k, length-replicate {A = ℕ} (bucketCount bounds) 0)) ∙ long bounds s x r in
+        taken false freshHead zs l (enters-first bounds false (headAt s x) xs v refl p ∙ begun-taken bounds xs k v p f) (histograms .fresh settings)
+        (λ j. record { counts = explicitCounts bounds (sym (fresh-is bounds xs) j); summary = summary freshHead })
+
+    -- ---- THE LAWS: 8 where the series disagrees, 9 where its count is full, else the value is added to it, or to a fresh one
+
+    -- the series that the slot holds, where it was updated
+    abbrev pub there : Bool → Option Figures
+    there u = cond u (some held) none
+
+    pub disagreeing : (u : Bool) → sound histograms settings (there u) ≡ false → recordedAt bounds x u s v ≡ record { no = 8; stores = s }
+    disagreeing true a = held-8 a
+    disagreeing false a = true-not-false a
+
+    pub full : (u : Bool) → sound histograms settings (there u) ≡ true → fits (suc (histograms .total (Option·getD (there u) (histograms .fresh settings)))) ≡ false
+        → recordedAt bounds x u s v ≡ record { no = 9; stores = s }
+    unfolding bucketsOf
+    full true a b = held-9 a b
+    full false a b = true-not-false b
+
+    pub took : boundsPass bounds ≡ true → (u : Bool) → sound histograms settings (there u) ≡ true → fits (suc (histograms .total (Option·getD (there u) (histograms .fresh settings)))) ≡ true
+        → Took u (Option·getD (there u) (histograms .fresh settings))
+    took p true a b = held-0 a b
+    took p false a b = first-0 p

@@ -1,0 +1,2 @@
+-- The definitions that the contracts of `explicit_slots` cite.
+pub mod Slots

@@ -1,5 +1,0 @@
--- The laws of `expo_slots`.
-pub mod Cases
-pub mod Agreeing
-pub mod Written
-pub mod Recording

@@ -1,0 +1,56 @@
+use Prim.Native.Nat.{_-_}
+use native.Mathlib.Omega.{arith}
+use Rattle.exponential.proofs.Rowed.{change-is, bins-empty, bins-some}
+use borrow.Author.Needs.{needs}
+use Rattle.exponential.proofs.needed.Statement.{statement}
+use Rattle.exponential.proofs.needed.Tie as tie
+
+scale-change-requires : tie.Need-scale-change-requires
+scale-change-requires c κs = search needs
+
+returns : tie.Need-returns
+returns c =
+    let st = c .before .before in
+    let e = bins-empty (st .args .row .start) (st .args .row .len) (st .args .bin) (c .before .if1 .taken) in
+    rw (e .0, e .1) (change-is (st .args .size) (st .args .bin) (st .args .bin) (c .scale-change .result) (c .scale-change .ensures .0 .0) (c .scale-change .ensures .0 .1) (c .scale-change .ensures .1))
+
+sub-last : tie.Need-sub-last
+sub-last c = search needs
+
+cast-last : tie.Need-cast-last
+cast-last c = search needs
+
+add-last : tie.Need-add-last
+add-last c = search needs
+
+lesser-requires : tie.Need-lesser-requires
+lesser-requires c κs = search needs
+
+greater-requires : tie.Need-greater-requires
+greater-requires c κs = search needs
+
+scale-change-requires-2 : tie.Need-scale-change-requires-2
+scale-change-requires-2 c κs = search needs
+
+returns-2 : tie.Need-returns-2
+returns-2 c =
+    let g = c .before in
+    let l = g .before in
+    let st = l .before .before in
+    let e = bins-some (st .args .row .start) (st .args .row .len) (st .args .bin) (omega (arith, l .before .if1 .left)) in
+    rw (e .0, e .1, ← l .lesser .ensures, ← g .greater .ensures)
+    (change-is (st .args .size) (l .lesser .result) (g .greater .result) (c .scale-change2 .result) (c .scale-change2 .ensures .0 .0) (c .scale-change2 .ensures .0 .1) (c .scale-change2 .ensures .1))
+
+pub needed-spec : {M : Type 1} → statement M
+needed-spec =
+    tie.close
+    (tie.spec
+    scale-change-requires
+    returns
+    sub-last
+    cast-last
+    add-last
+    lesser-requires
+    greater-requires
+    scale-change-requires-2
+    returns-2)

@@ -1,0 +1,4 @@
+-- The definitions that the contracts of `exponential` cite.
+pub mod Steps
+pub mod Series
+pub mod Runs

@@ -1,0 +1,402 @@
+// One series of the exponential kind, `ExpoHistogramDataPoint` of exponential_histogram.rs: a head by value, and its rows of
+// counts at the front of two lent slices.
+mod sums;
+
+ghost use mathlib.Core.Path.{_≡_};
+ghost use Prim.Native.Nat.{_+_, _-_, _*_, _/_, _^_, _<_, _≤_, min, max};
+ghost use lib.ListN.{length, take};
+ghost use Rattle.index.specs.Answers.{binOf};
+ghost use Rattle.laws.specs.Counting.{total};
+ghost use Rattle.exponential.specs.Steps.{lowered, with1, lowBin, highBin, lowering, placed};
+ghost use Rattle.laws.specs.Pick.{pick};
+ghost use Rattle.exponential.specs.Runs.{freshHead};
+ghost use Rattle.exponential.specs.Series.{mostSize, rowIn, Laid, rowAgrees, addsUp, agrees, classAt, valueOf, lowerBy, rowTo, rowOther, Room, mostCount, oneMore, Ready, Written, read, refusalOf, outcome, recording};
+use rows::Row;
+
+pub struct Counts {
+    pub count: u64,
+    pub zeros: u64,
+    pub level: u32,
+    pub pos: Row,
+    pub neg: Row,
+}
+
+pub struct Head {
+    pub counts: Counts,
+    pub min: f64,
+    pub max: f64,
+    pub sum: f64,
+}
+
+pub enum Answer {
+    Recorded(Head),
+    Refused(u8),
+}
+
+// The head of a series that has counted nothing.
+pub fn fresh(top: u32) -> Head
+    ensures { λ r. ⌜ r ≡ freshHead top ⌝ }
+{
+    Head {
+        counts: Counts {
+            count: 0,
+            zeros: 0,
+            level: top,
+            pos: Row { start: 0, len: 0 },
+            neg: Row { start: 0, len: 0 },
+        },
+        min: 1.7976931348623157e308,
+        max: -1.7976931348623157e308,
+        sum: 0.0,
+    }
+}
+
+fn shorter(a: usize, b: usize) -> usize
+    ensures { λ r. ⌜ r ≡ min a b ⌝ }
+{
+    if a < b { a } else { b }
+}
+
+// The row of a sign: a part of the one lent slice or of the other.
+pub fn row_of<'a>(c: Counts, negative: bool, pos: &'a [u64], neg: &'a [u64]) -> &'a [u64]
+    ensures { λ r. ⌜ now r ≡ pick negative (take (c .neg .len) (now (neg .entry))) (take (c .pos .len) (now (pos .entry))) ⌝ }
+{
+    let p = c.pos;
+    let n = c.neg;
+    let i = shorter(p.len, pos.len());
+    let j = shorter(n.len, neg.len());
+    if negative { &neg[0..j] } else { &pos[0..i] }
+}
+
+// ---- agreement
+
+// A row at a level whose bins run from low to the one before end.
+fn row_agrees(counts: &[u64], row: Row, size: usize, low: u32, end: u64) -> bool
+    ensures { λ r. ⌜ r ≡ rowAgrees size low end row (now (counts .entry)) ⌝ }
+{
+    let n = row.len;
+    let start = row.start;
+    if n == 0 {
+        return start == 0;
+    }
+    if size < n {
+        return false;
+    }
+    if counts.len() < n {
+        return false;
+    }
+    if start < low {
+        return false;
+    }
+    if end < start as u64 + n as u64 {
+        return false;
+    }
+    if counts[0] == 0 {
+        return false;
+    }
+    counts[n - 1] != 0
+}
+
+// The counts of a row added to what is there, the low and the high halves apart.
+pub struct Halves {
+    pub low: u64,
+    pub high: u64,
+}
+
+pub fn sum_halves(counts: &[u64], n: usize, from: Halves) -> Halves
+    requires { ⌜ (n ≤ length (now counts)) × (n ≤ mostSize) ⌝ }
+    requires { ⌜ (from .low ≤ 200 * 4294967295) × (from .high ≤ 200 * 4294967295) ⌝ }
+    ensures { λ r. ⌜ r .low + r .high * 4294967296 ≡ from .low + from .high * 4294967296 + total (take n (now (counts .entry))) ⌝ }
+    ensures { λ r. ⌜ (r .low ≤ from .low + n * 4294967295) × (r .high ≤ from .high + n * 4294967295) ⌝ }
+{
+    let mut low = from.low;
+    let mut high = from.high;
+    let mut i: usize = 0;
+    while i < n {
+        let x = counts[i];
+        low += x % 4294967296;
+        high += x / 4294967296;
+        i += 1;
+    }
+    Halves { low, high }
+}
+
+// Whether count is zeros and the counts of both rows, whatever they are.
+fn halves_add_up(c: Counts, pos: &[u64], neg: &[u64]) -> bool
+    requires { ⌜ (c .pos .len ≤ length (now pos)) × (c .pos .len ≤ mostSize) ⌝ }
+    requires { ⌜ (c .neg .len ≤ length (now neg)) × (c .neg .len ≤ mostSize) ⌝ }
+    ensures { λ r. ⌜ r ≡ addsUp c (now (pos .entry)) (now (neg .entry)) ⌝ }
+{
+    let p = c.pos;
+    let n = c.neg;
+    let zeros = c.zeros;
+    let count = c.count;
+    let z = Halves {
+        low: zeros % 4294967296,
+        high: zeros / 4294967296,
+    };
+    let a = sum_halves(pos, p.len, z);
+    let s = sum_halves(neg, n.len, a);
+    if count % 4294967296 != s.low % 4294967296 {
+        return false;
+    }
+    count / 4294967296 == s.high + s.low / 4294967296
+}
+
+// The same. A number that no count is above and that is below 2^55 leaves 320 counts and zeros below 2^64.
+fn adds_up(c: Counts, pos: &[u64], neg: &[u64]) -> bool
+    requires { ⌜ (c .pos .len ≤ length (now pos)) × (c .pos .len ≤ mostSize) ⌝ }
+    requires { ⌜ (c .neg .len ≤ length (now neg)) × (c .neg .len ≤ mostSize) ⌝ }
+    ensures { λ r. ⌜ r ≡ addsUp c (now (pos .entry)) (now (neg .entry)) ⌝ }
+{
+    let p = c.pos;
+    let n = c.neg;
+    let zeros = c.zeros;
+    let count = c.count;
+    let z = sums::Wrapped {
+        sum: zeros,
+        most: zeros,
+    };
+    let a = sums::add_row(pos, p.len, z);
+    let s = sums::add_row(neg, n.len, a);
+    if s.most < 36028797018963968 {
+        return count == s.sum;
+    }
+    halves_add_up(c, pos, neg)
+}
+
+pub fn counts_agree(size: usize, top: u32, c: Counts, pos: &[u64], neg: &[u64]) -> bool
+    ensures { λ r. ⌜ r ≡ agrees size top c (now (pos .entry)) (now (neg .entry)) ⌝ }
+{
+    if size < 3 {
+        return false;
+    }
+    if 160 < size {
+        return false;
+    }
+    if index::FINEST < top {
+        return false;
+    }
+    let level = c.level;
+    if top < level {
+        return false;
+    }
+    let low = index::lowest_bin(level);
+    let end = index::end_bin(level);
+    let p = c.pos;
+    let n = c.neg;
+    if !row_agrees(pos, p, size, low, end) {
+        return false;
+    }
+    if !row_agrees(neg, n, size, low, end) {
+        return false;
+    }
+    adds_up(c, pos, neg)
+}
+
+// ---- the change of level
+
+pub fn lesser(a: u32, b: u32) -> u32
+    ensures { λ r. ⌜ r ≡ min a b ⌝ }
+{
+    if a < b { a } else { b }
+}
+
+pub fn greater(a: u32, b: u32) -> u32
+    ensures { λ r. ⌜ r ≡ max a b ⌝ }
+{
+    if a < b { b } else { a }
+}
+
+// How many levels lower a row of n counts from start on, and one more at bin, are at most size counts.
+fn needed(size: usize, row: Row, bin: u32) -> u32
+    requires { ⌜ (0 < size) × (row .start + row .len < 2 ^ 32) ⌝ }
+    ensures { λ r. ⌜ r ≡ lowering size (lowBin (row .start) (row .len) bin) (highBin (row .start) (row .len) bin) ⌝ }
+{
+    let n = row.len;
+    let start = row.start;
+    if n == 0 {
+        return rows::scale_change(bin, bin, size);
+    }
+    let last = start + (n - 1) as u32;
+    let lo = lesser(start, bin);
+    let hi = greater(last, bin);
+    rows::scale_change(lo, hi, size)
+}
+
+// ---- rows
+
+// A row k levels lower, in place.
+pub fn lower(counts: &mut [u64], row: Row, k: u32) -> Row
+    requires { ⌜ (row .len ≤ length (now counts)) × (k < 32) ⌝ }
+    requires { ⌜ total (take (row .len) (now counts)) < 2 ^ 64 ⌝ }
+    ensures { λ r. ⌜ Laid (lowered k (rowIn row (now (counts .entry)))) (now (counts .entry)) r (now (counts .exit)) ⌝ }
+{
+    if k == 0 {
+        return row;
+    }
+    let start = row.start;
+    let n = row.len;
+    rows::downscale(counts, start, n, k)
+}
+
+// A row k levels lower, and one more at bin.
+fn place(counts: &mut [u64], row: Row, k: u32, bin: u32) -> Row
+    requires { ⌜ (row .len ≤ length (now counts)) × (k < 32) ⌝ }
+    requires { ⌜ total (take (row .len) (now counts)) + 1 < 2 ^ 64 ⌝ }
+    requires { ⌜ length (with1 (lowered k (rowIn row (now counts))) bin .counts) ≤ length (now counts) ⌝ }
+    ensures { λ r. ⌜ Laid (with1 (lowered k (rowIn row (now (counts .entry)))) bin) (now (counts .entry)) r (now (counts .exit)) ⌝ }
+{
+    let low = lower(counts, row, k);
+    rows::record(counts, low, bin)
+}
+
+pub struct Moved {
+    pub k: u32,
+    pub to: Row,
+    pub other: Row,
+}
+
+// One more at bin in the row of a; both rows as many levels lower as that needs.
+fn put(size: usize, a: &mut [u64], to: Row, b: &mut [u64], other: Row, bin: u32) -> Moved
+    requires { ⌜ Room size to (now a) other (now b) bin ⌝ }
+    ensures { λ r. ⌜ r .k ≡ lowerBy size to (now (a .entry)) bin ⌝ }
+    ensures { λ r. ⌜ Laid (rowTo size to (now (a .entry)) bin) (now (a .entry)) (r .to) (now (a .exit)) ⌝ }
+    ensures { λ r. ⌜ Laid (rowOther size to (now (a .entry)) other (now (b .entry)) bin) (now (b .entry)) (r .other) (now (b .exit)) ⌝ }
+{
+    let k = needed(size, to, bin);
+    let new = place(a, to, k, bin >> k);
+    let low = lower(b, other, k);
+    Moved {
+        k,
+        to: new,
+        other: low,
+    }
+}
+
+// What is counted of a value: a zero, or its bin at the series' level in the row of its sign.
+pub enum Class {
+    Naught,
+    Plus(u32),
+    Minus(u32),
+}
+
+fn class_of(v: f64, level: u32) -> Class
+    ensures { λ r. ⌜ r ≡ classAt (binOf v level) ⌝ }
+{
+    let b = index::get_bin(v, level);
+    match b {
+        index::Bin::NoLevel => Class::Naught,
+        index::Bin::NotFinite => Class::Naught,
+        index::Bin::Zero => Class::Naught,
+        index::Bin::At { negative, bin } => {
+            if negative {
+                Class::Minus(bin)
+            } else {
+                Class::Plus(bin)
+            }
+        }
+    }
+}
+
+// One value more that is not zero, the rows k levels lower.
+fn one_more(c: Counts, k: u32, pos: Row, neg: Row) -> Counts
+    requires { ⌜ (c .count < mostCount) × (k ≤ c .level) ⌝ }
+    ensures { λ r. ⌜ r ≡ oneMore c k pos neg ⌝ }
+{
+    Counts {
+        count: c.count + 1,
+        zeros: c.zeros,
+        level: c.level - k,
+        pos,
+        neg,
+    }
+}
+
+// One value more: a row that has its bin stays where it is, and so does the other.
+fn add(size: usize, top: u32, c: Counts, pos: &mut [u64], neg: &mut [u64], class: Class) -> Counts
+    requires { ⌜ Ready size top c (now pos) (now neg) class ⌝ }
+    ensures { λ r. ⌜ Written (placed size (read c (now (pos .entry)) (now (neg .entry))) (valueOf class)) (now (pos .entry)) (now (neg .entry)) r (now (pos .exit)) (now (neg .exit)) ⌝ }
+{
+    let p = c.pos;
+    let n = c.neg;
+    match class {
+        Class::Naught => Counts {
+            count: c.count + 1,
+            zeros: c.zeros + 1,
+            level: c.level,
+            pos: p,
+            neg: n,
+        },
+        Class::Plus(bin) => {
+            if rows::raise(pos, p, bin) {
+                return one_more(c, 0, p, n);
+            }
+            let w = put(size, pos, p, neg, n, bin);
+            let to = w.to;
+            let other = w.other;
+            one_more(c, w.k, to, other)
+        }
+        Class::Minus(bin) => {
+            if rows::raise(neg, n, bin) {
+                return one_more(c, 0, p, n);
+            }
+            let w = put(size, neg, n, pos, p, bin);
+            let to = w.to;
+            let other = w.other;
+            one_more(c, w.k, other, to)
+        }
+    }
+}
+
+// ---- the call
+
+fn refusal(size: u32, top: u32, head: Head, pos: &[u64], neg: &[u64], v: f64) -> u8
+    ensures { λ r. ⌜ r ≡ refusalOf size top head (now (pos .entry)) (now (neg .entry)) v ⌝ }
+{
+    let n = size as usize;
+    if pos.len() < n {
+        return 12;
+    }
+    if neg.len() < n {
+        return 12;
+    }
+    if !floats::is_finite(v) {
+        return 6;
+    }
+    let c = head.counts;
+    if !counts_agree(n, top, c, pos, neg) {
+        return 8;
+    }
+    if !floats::is_finite(head.min) {
+        return 8;
+    }
+    if !floats::is_finite(head.max) {
+        return 8;
+    }
+    if c.count == 18446744073709551615 {
+        return 9;
+    }
+    0
+}
+
+// Records a value into the series, or refuses it with document 01's number.
+pub fn record(size: u32, top: u32, head: Head, pos: &mut [u64], neg: &mut [u64], v: f64) -> Answer
+    ensures { λ r. ⌜ outcome r (now (pos .exit)) (now (neg .exit)) ≡ recording size top head (now (pos .entry)) (now (neg .entry)) v ⌝ }
+{
+    let no = refusal(size, top, head, pos, neg, v);
+    if no != 0 {
+        return Answer::Refused(no);
+    }
+    let c = head.counts;
+    let class = class_of(v, c.level);
+    let next = add(size as usize, top, c, pos, neg, class);
+    let least = floats::lesser(head.min, v);
+    let greatest = floats::greater(head.max, v);
+    Answer::Recorded(Head {
+        counts: next,
+        min: least,
+        max: greatest,
+        sum: head.sum + v,
+    })
+}

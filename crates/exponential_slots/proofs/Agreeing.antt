@@ -1,0 +1,137 @@
+-- The figures of a slot agree exactly where the code reads a head from it that agrees. Assumes nothing.
+use Prim.Native.Nat.{ℕ, _+_, _-_, _≤_}
+use mathlib.Core.Path.{_≡_, ap}
+use mathlib.Core.Logic.{⊎-elim}
+use mathlib.Core.Bool.{true, false}
+use mathlib.Core.List.{List, []}
+use native.Mathlib.Omega.{arith}
+use lib.Dec.{leb}
+use lib.ListN.{length, getD, take}
+use borrow.Author.Tests.{leb-true, le-leb}
+use Rattle.laws.specs.Pick.{_and_}
+use Rattle.laws.proofs.Bools.{flag, not-both, and-left, and-right, pick-true, pick-false}
+use Rattle.laws.proofs.Cases.{and-true}
+use Rattle.index.specs.Bins.{finest, endBin}
+use Rattle.points.specs.Agreement as A
+use Rattle.points.proofs.Agreement as PA
+use Rattle.points.specs.Figures.{exponential, sizePasses, exponentialCounts, explicitCounts}
+use Rattle.exponential.specs.Series.{mostCount, lowestOfAll, read}
+use Rattle.exponential.specs.Series as S
+use Rattle.exponential.proofs.Facts.{agreed, agreed-agrees}
+use Rattle.exponential.proofs.Write.{level-pow}
+use Rattle.kinds.specs.Histograms.{passes, countsHold}
+use Rattle.exponential_slots.specs.Slots.{countsIn, narrow}
+use Rattle.exponential_slots.specs.Meaning.{shaped, countsAt}
+use Rattle.exponential_slots.proofs.Cases.{narrow-says, narrow-of}
+
+-- ---- words in shape
+
+pub record Shaped (size : ℕ) (f : List ℕ) : Type 0 where
+  pub count : getD f 0 0 ≤ mostCount
+  pub level : getD f 2 0 ≤ finest
+  pub pos : getD f 4 0 ≤ size
+  pub neg : getD f 6 0 ≤ size
+
+pub shaped-says : (size : ℕ) (f : List ℕ) → shaped size f ≡ true → Shaped size f
+unfolding shaped
+shaped-says size f h =
+    let t₁ = leb (getD f 0 0) mostCount in
+    let t₂ = leb (getD f 2 0) finest in
+    let t₃ = leb (getD f 4 0) size in
+    let t₄ = leb (getD f 6 0) size in
+    let h₂ = and-right t₁ (t₂ and t₃ and t₄) h in
+    let h₃ = and-right t₂ (t₃ and t₄) h₂ in
+    record {
+      count = leb-true (getD f 0 0) mostCount (and-left t₁ (t₂ and t₃ and t₄) h);
+      level = leb-true (getD f 2 0) finest (and-left t₂ (t₃ and t₄) h₂);
+      pos = leb-true (getD f 4 0) size (and-left t₃ t₄ h₃);
+      neg = leb-true (getD f 6 0) size (and-right t₃ t₄ h₃);
+    }
+
+pub shaped-of : (size : ℕ) (f : List ℕ) → Shaped size f → shaped size f ≡ true
+unfolding shaped _and_
+shaped-of size f k =
+    rw (le-leb (getD f 0 0) mostCount (k .count), le-leb (getD f 2 0) finest (k .level), le-leb (getD f 4 0) size (k .pos), le-leb (getD f 6 0) size (k .neg))
+
+-- ---- settings that configuring accepts
+
+pub record Accepted (size top : ℕ) : Type 0 where
+  pub least : 3 ≤ size
+  pub most : size ≤ 160
+  pub fine : top ≤ finest
+
+pub accepted-of : (size top : ℕ) → passes (exponential size top) ≡ true → Accepted size top
+accepted-of size top h =
+    let a = and-true (sizePasses size) (leb top finest) h in
+    let b = and-true (leb 3 size) (leb size 160) (a .0) in
+    record { least = leb-true 3 size (b .0); most = leb-true size 160 (b .1); fine = leb-true top finest (a .1) }
+
+-- ---- both sides of the law
+
+module _ (size : ℕ) (f xs ys : List ℕ) where
+  pub counts-in : shaped size f ≡ true → countsAt size f xs ys ≡ exponentialCounts (read (countsIn f) xs ys)
+  unfolding countsAt
+  counts-in h = pick-true (shaped size f) (exponentialCounts (read (countsIn f) xs ys)) (explicitCounts [] (record { counts = []; total = 0 })) h
+
+  counts-out : shaped size f ≡ false → countsAt size f xs ys ≡ explicitCounts [] (record { counts = []; total = 0 })
+  unfolding countsAt
+  counts-out h = pick-false (shaped size f) (exponentialCounts (read (countsIn f) xs ys)) (explicitCounts [] (record { counts = []; total = 0 })) h
+
+  module _ (top : ℕ) (z : Accepted size top) where
+    -- what agrees is in shape
+    pub in-shape : countsHold (exponential size top) (countsAt size f xs ys) ≡ true → shaped size f ≡ true
+    in-shape h =
+        ⊎-elim
+        (λ (e : shaped size f ≡ true). e)
+        (λ (e : shaped size f ≡ false).
+        absurd (not-both (countsHold (exponential size top) (countsAt size f xs ys)) h (ap (countsHold (exponential size top)) (counts-out e))))
+        (flag (shaped size f))
+
+    pub holds-is : shaped size f ≡ true → countsHold (exponential size top) (countsAt size f xs ys) ≡ A.agrees size top lowestOfAll (read (countsIn f) xs ys)
+    holds-is h = ap (countsHold (exponential size top)) (counts-in h)
+
+    module _ (p : length xs ≡ size) (q : length ys ≡ size) where
+      -- a bin of a row that agrees is a u32
+      low : (s n d : ℕ) → s + n ≤ endBin (finest - d) → s ≤ 4294967295
+      low s n d h = omega (arith, h, level-pow (finest - d) (omega arith))
+
+      -- in shape and agreeing: a head can be read, and it agrees
+      pub can-read : shaped size f ≡ true → A.agrees size top lowestOfAll (read (countsIn f) xs ys) ≡ true → narrow f ≡ true
+      can-read h a =
+          let w = shaped-says size f h in
+          let k = PA.agrees-says size top lowestOfAll (read (countsIn f) xs ys) a in
+          let d = finest - getD f 2 0 in
+          narrow-of f (record {
+            count = w .count;
+            level = omega (arith, w .level);
+            pos = low (getD f 3 0) (length (take (getD f 4 0) xs)) d (k .pos .below);
+            neg = low (getD f 5 0) (length (take (getD f 6 0) ys)) d (k .neg .below);
+          })
+
+      pub series-agrees : shaped size f ≡ true → A.agrees size top lowestOfAll (read (countsIn f) xs ys) ≡ true → S.agrees size top (countsIn f) xs ys ≡ true
+      series-agrees h a =
+          let w = shaped-says size f h in
+          let k = PA.agrees-says size top lowestOfAll (read (countsIn f) xs ys) a in
+          agreed-agrees size top (countsIn f) xs ys (record {
+            least = z .least;
+            most = z .most;
+            greatest = z .fine;
+            level = omega (arith, w .level, z .fine, k .fine);
+            posThere = omega (arith, w .pos, p);
+            negThere = omega (arith, w .neg, q);
+            point = k;
+          })
+
+      -- and the other way round
+      pub shape-of : narrow f ≡ true → S.agrees size top (countsIn f) xs ys ≡ true → shaped size f ≡ true
+      shape-of n a =
+          let k = agreed size top (countsIn f) xs ys a in
+          shaped-of size f (record {
+            count = narrow-says f n .count;
+            level = omega (arith, k .level, k .greatest);
+            pos = omega (arith, k .posThere, p);
+            neg = omega (arith, k .negThere, q);
+          })
+
+      pub point-agrees : S.agrees size top (countsIn f) xs ys ≡ true → A.agrees size top lowestOfAll (read (countsIn f) xs ys) ≡ true
+      point-agrees a = PA.agreed-agrees size top lowestOfAll (read (countsIn f) xs ys) (agreed size top (countsIn f) xs ys a .point)

@@ -1,0 +1,39 @@
+-- What a slot's cells mean: figures of a series of the exponential kind. Assumes nothing.
+use Prim.Native.Nat.{ℕ}
+use mathlib.Core.Bool.{Bool}
+use mathlib.Core.List.{List, []}
+use lib.Dec.{leb}
+use lib.ListN.{getD}
+use lib.Ieee.{Float, nan}
+use Rattle.laws.specs.Pick.{pick, _and_}
+use Rattle.parts.specs.Parts.{partAt}
+use Rattle.index.specs.Bins.{finest}
+use Rattle.floats.specs.Starts.{zeroFloat}
+use Rattle.points.specs.Values.{Summary}
+use Rattle.points.specs.Figures.{exponential, Settings, Counts, exponentialCounts, explicitCounts, Figures}
+use Rattle.exponential.specs.Series.{mostCount, read}
+use Rattle.exponential_slots.specs.Slots.{Slots, countsIn}
+
+-- The settings of the kind. The zero threshold is 0.0 (DESIGN.md: as in the Rust).
+abbrev pub settings : ℕ → ℕ → Bool → Bool → Settings
+settings size top extremes sums = record { kind = exponential size top; extremes = extremes; sums = sums; threshold = zeroFloat }
+
+-- the words are in shape: a count that is a u64, a level up to the finest, rows that lie within the slot's parts
+unfoldable pub shaped : ℕ → List ℕ → Bool
+shaped size f = leb (getD f 0 0) mostCount and leb (getD f 2 0) finest and leb (getD f 4 0) size and leb (getD f 6 0) size
+
+-- words out of shape read as counts of the other kind, which never agree (`countsHold`)
+unfoldable pub countsAt : ℕ → List ℕ → List ℕ → List ℕ → Counts
+countsAt size f xs ys =
+    pick (shaped size f) (exponentialCounts (read (countsIn f) xs ys)) (explicitCounts [] (record { counts = []; total = 0 }))
+
+abbrev pub summaryIn : List Float → Summary
+summaryIn m = record { min = getD m 0 nan; max = getD m 1 nan; sum = getD m 2 nan }
+
+-- the figures of slot x
+abbrev pub seriesAt : ℕ → Slots → ℕ → Figures
+seriesAt size s x =
+    record {
+      counts = countsAt size (getD (s .figures) x []) (partAt size (s .pos) x) (partAt size (s .neg) x);
+      summary = summaryIn (getD (s .extremes) x []);
+    }

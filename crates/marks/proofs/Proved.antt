@@ -1,33 +1,39 @@
--- Every entry of the table of worked examples holds, by one test that antt computes. Assumes nothing.
+-- Every entry of the table of worked examples holds, and the code answers it, by one test that antt computes. Assumes nothing.
 use mathlib.Core.Path.{_≡_, refl, ap, sym, subst, _∙_}
-use mathlib.Core.Bool.{Bool, true, false, _&&_, _||_}
+use mathlib.Core.Bool.{Bool, true, false, not, _&&_, _||_}
 use mathlib.Core.List.{List, [], _∷_, map}
 use Prim.Native.Nat.{ℕ, _+_, _-_, _*_, _/_, _^_, _≤_, _<_}
 use native.Mathlib.Nat.{zero-add}
 use native.Mathlib.Omega.{arith}
 use lib.Dec.{T, leb, ltb, eqb, leb→le, ltb→lt, eqb→eq}
-use lib.IntN.{ℤ, pos}
-use lib.Ieee.{ofBits, ofFields, lt, add, round}
+use lib.IntN.{ℤ, pos, natAbs, _+ℤ_}
+use lib.Ieee.{binary64, ofBits, ofFields, toBits, isNan, fits, lt, add, round}
+use lib.Ieee.Scale.{finite}
 use lib.ListN.{length, getD}
 use Rattle.laws.specs.Pick.{pick, _and_}
 use Rattle.laws.specs.Counting.{hit}
 use Rattle.laws.proofs.Every.{every, at, both-left, both-right}
 use Rattle.index.specs.Magnitude.{magnitude, isNegative}
 use Rattle.index.specs.DataModel.{IsIndex}
-use Rattle.index.specs.Bins.{finest, finestBin, binAt, scaleOf, indexOf}
+use Rattle.index.specs.Bins.{finest, finestBin, binAt, indexOf}
+use Rattle.index.specs.Signed.{levelAnswer, valueIndex}
+use Rattle.index.specs.declared.signed.Natural.{Natural}
+use Rattle.index.specs.declared.signed.Natural.the-variants.{Is, OutOfRange}
+use Rattle.index.specs.declared.signed.Index.the-variants.{At}
 use Rattle.index.proofs.Buckets.{Between}
 use Rattle.index.proofs.Finest.{Held}
-use Rattle.index.proofs.Indices.{is-index, bin-from}
+use Rattle.index.proofs.Indices.{bin-from}
+use Rattle.index.proofs.Values.{value-is}
 use Rattle.floats.specs.Starts.{zeroFloat}
 use Rattle.floats.specs.declared.Extreme.the-variants as E
 use Rattle.points.specs.Points as P
-use Rattle.points.specs.Points.{Value, naught, plus, minus, build, scale, fitsBoth, fits, row, rowOf}
+use Rattle.points.specs.Points.{Value, naught, plus, minus, build, scale, fitsBoth, row, rowOf}
 use Rattle.points.specs.Values.{classOf, summaryOf}
 use Rattle.points.specs.Explicit.{bucketOf}
 use Rattle.points.specs.Figures.{exponentialCounts}
 use Rattle.points.specs.Handed.{handed}
-use Rattle.marks.specs.Marks.{f64, levelOf, binOf, Mark, index, bucket, point, pointOf, Holds, marks}
-use Rattle.marks.proofs.Equal.{same, same-is, sameBit, sameFloat, float-is, sameList, sameRow, samePoint, point-is}
+use Rattle.marks.specs.Marks.{f64, lineIn, Line, Mark, index, bucket, point, Holds, Answered, marks}
+use Rattle.marks.proofs.Equal.{same, same-is, sameList, sameRow, sameLine, sameSome, some-is}
 
 -- the magnitude w lies in the bin b at the level, a level and a bin that there are
 inBin : ℕ → ℕ → ℕ → Bool
@@ -95,56 +101,96 @@ unfolding allKnown
 guesses-are [] t = refl
 guesses-are (b ∷ bs) t = λ j. guess-is b (both-left (known b) (allKnown bs) t) j ∷ guesses-are bs (both-right (known b) (allKnown bs) t) j
 
--- ---- the test of an entry
-right : ℕ → Mark → Bool
-right k (index bits scale i) =
-    same (scaleOf (levelOf scale)) scale && (same (indexOf (levelOf scale) (binOf scale i)) i && inBin (levelOf scale) (magnitude (f64 bits)) (binOf scale i))
-right k (bucket bounds bits n) = eqb (bucketOf (map f64 bounds) (f64 bits)) n
-right k (point size scale values l) =
-    allKnown values
-    && (samePoint (P.pointOf size (finest - levelOf scale) (map (λ b. classed b (guess b)) values)) (pointOf l)
-    && (sameFloat (summaryOf (map f64 values) .min) (f64 (l .min))
-    && (sameFloat (summaryOf (map f64 values) .max) (f64 (l .max))
-    && sameFloat (summaryOf (map f64 values) .sum) (f64 (l .sum)))))
+-- ---- the test of an entry: at the level of the scale
 
-holds : (k : ℕ) (m : Mark) → T (right k m) → Holds m
-unfolding right handed pick
-holds k (index bits scale i) t =
-    let p = same (scaleOf (levelOf scale)) scale in
-    let q = same (indexOf (levelOf scale) (binOf scale i)) i in
-    let w = magnitude (f64 bits) in
-    let r = inBin (levelOf scale) w (binOf scale i) in
-    let t2 = both-right p (q && r) t in
-    let known = in-bin (levelOf scale) w (binOf scale i) (both-right q r t2) in
-    subst (λ (s : ℤ). IsIndex s w i) (same-is (scaleOf (levelOf scale)) scale (both-left p (q && r) t))
-    (subst (λ (z : ℤ). IsIndex (scaleOf (levelOf scale)) w z) (same-is (indexOf (levelOf scale) (binOf scale i)) i (both-left q r t2))
-    (subst (λ (n : ℕ). IsIndex (scaleOf (levelOf scale)) w (indexOf (levelOf scale) n)) (known .bin) (is-index (levelOf scale) w (known .there) (known .held))))
-holds k (bucket bounds bits n) t = eqb→eq (bucketOf (map f64 bounds) (f64 bits)) n t
-holds k (point size scale values l) t =
-    let q = P.pointOf size (finest - levelOf scale) (map (λ b. classed b (guess b)) values) in
+-- the bin of an index
+binOf : ℕ → ℤ → ℕ
+binOf level i = natAbs (i +ℤ pos (2 ^ (level + 1)))
+
+rightIndex : ℕ → ℤ → Natural → Bool
+rightIndex bits i OutOfRange = false
+rightIndex bits i (Is level) =
+    not (isNegative (f64 bits))
+    && (fits binary64 (f64 bits)
+    && (finite (f64 bits) && (same (indexOf level (binOf level i)) i && inBin level (magnitude (f64 bits)) (binOf level i))))
+
+rightPoint : ℕ → List ℕ → Line → Natural → Bool
+rightPoint size values line OutOfRange = false
+rightPoint size values line (Is top) =
+    let m = summaryOf (map f64 values) in
+    allKnown values
+    && sameSome (lineIn (exponentialCounts (P.pointOf size (finest - top) (map (λ b. classed b (guess b)) values))) (E.Value (m .min)) (E.Value (m .max)) (m .sum)) line
+
+right : ℕ → Mark → Bool
+right k (index bits scale i) = rightIndex bits i (levelAnswer scale)
+right k (bucket bounds bits n) = eqb (bucketOf (map f64 bounds) (f64 bits)) n
+right k (point size scale values line) = rightPoint size values line (levelAnswer scale)
+
+is-true : (b : Bool) → T b → b ≡ true
+is-true true t = refl
+is-true false t = absurd t
+
+is-false : (b : Bool) → T (not b) → b ≡ false
+is-false true t = absurd t
+is-false false t = refl
+
+held-some : (w : ℕ) → Held w → w ≡ 0 → ⊥
+held-some w h e = omega (arith, h .least)
+
+both-index : (bits : ℕ) (scale i : ℤ) (found : Natural) → levelAnswer scale ≡ found → T (rightIndex bits i found) → IsIndex scale (magnitude (f64 bits)) i × (valueIndex (f64 bits) scale ≡ At false i)
+unfolding rightIndex
+both-index bits scale i OutOfRange e t = absurd t
+both-index bits scale i (Is level) e t =
+    let x = f64 bits in
+    let b = binOf level i in
+    let p = not (isNegative x) in
+    let q = fits binary64 x in
+    let r = finite x in
+    let s = same (indexOf level b) i in
+    let u = inBin level (magnitude x) b in
+    let t2 = both-right p (q && (r && (s && u))) t in
+    let t3 = both-right q (r && (s && u)) t2 in
+    let t4 = both-right r (s && u) t3 in
+    let known = in-bin level (magnitude x) b (both-right s u t4) in
+    let at : indexOf level (binAt level (magnitude x)) ≡ i = ap (indexOf level) (known .bin) ∙ same-is (indexOf level b) i (both-left s u t4) in
+    let v = value-is x scale level (both-left q (r && (s && u)) t2) (is-true r (both-left r (s && u) t3)) (held-some (magnitude x) (known .held)) e in (
+      subst (λ (z : ℤ). IsIndex scale (magnitude x) z) at (v .1),
+      v .0 ∙ (λ j. At (is-false (isNegative x) (both-left p (q && (r && (s && u))) t) j) (at j)),
+    )
+
+point-holds : (size : ℕ) (scale : ℤ) (values : List ℕ) (line : Line) (found : Natural) → levelAnswer scale ≡ found → T (rightPoint size values line found) → Holds (point size scale values line)
+unfolding rightPoint handed pick
+point-holds size scale values line OutOfRange e t = absurd t
+point-holds size scale values line (Is top) e t =
     let m = summaryOf (map f64 values) in
     let a = allKnown values in
-    let b = samePoint q (pointOf l) in
-    let c = sameFloat (m .min) (f64 (l .min)) in
-    let d = sameFloat (m .max) (f64 (l .max)) in
-    let e = sameFloat (m .sum) (f64 (l .sum)) in
-    let t2 = both-right a (b && (c && (d && e))) t in
-    let t3 = both-right b (c && (d && e)) t2 in
-    let t4 = both-right c (d && e) t3 in
-    let counts : P.pointOf size (finest - levelOf scale) (map (classOf zeroFloat) (map f64 values)) ≡ pointOf l =
-    ap (P.pointOf size (finest - levelOf scale)) (guesses-are values (both-left a (b && (c && (d && e))) t)) ∙ point-is q (pointOf l) (both-left b (c && (d && e)) t2) in
-    λ j. record {
-      counts = exponentialCounts (counts j);
-      extremes = true;
-      threshold = zeroFloat;
-      min = E.Value (float-is (m .min) (f64 (l .min)) (both-left c (d && e) t3) j);
-      max = E.Value (float-is (m .max) (f64 (l .max)) (both-left d e t4) j);
-      sum = float-is (m .sum) (f64 (l .sum)) (both-right d e t4) j;
-    }
+    let o = lineIn (exponentialCounts (P.pointOf size (finest - top) (map (λ b. classed b (guess b)) values))) (E.Value (m .min)) (E.Value (m .max)) (m .sum) in (
+      top,
+      e,
+      (λ j. lineIn (exponentialCounts (P.pointOf size (finest - top) (guesses-are values (both-left a (sameSome o line) t) j))) (E.Value (m .min)) (E.Value (m .max)) (m .sum))
+          ∙ some-is o line (both-right a (sameSome o line) t),
+    )
+
+holds : (k : ℕ) (m : Mark) → T (right k m) → Holds m × Answered m
+unfolding right
+holds k (index bits scale i) t = both-index bits scale i (levelAnswer scale) refl t
+holds k (bucket bounds bits n) t = (eqb→eq (bucketOf (map f64 bounds) (f64 bits)) n t, tt)
+holds k (point size scale values line) t = (point-holds size scale values line (levelAnswer scale) refl t, tt)
 
 tested : T (every right 0 marks)
-unfolding right same inBin guess classed known allKnown samePoint sameRow sameList sameFloat sameBit P.pointOf build scale fitsBoth fits row rowOf hit _and_ pick bucketOf lt add round magnitude ofBits ofFields
+unfolding right rightIndex rightPoint binOf same inBin guess classed known allKnown sameSome sameLine sameRow sameList P.pointOf build scale fitsBoth P.fits row rowOf hit _and_ pick bucketOf lt add round magnitude ofBits ofFields fits isNan toBits levelAnswer
 tested = tt
 
-pub marks-hold : (k : ℕ) → k < length marks → Holds (getD marks k (index 0 (pos 0) (pos 0)))
-marks-hold k h = holds k (getD marks k (index 0 (pos 0) (pos 0))) (subst (λ (n : ℕ). T (right n (getD marks k (index 0 (pos 0) (pos 0))))) (zero-add k) (at right (index 0 (pos 0) (pos 0)) marks 0 tested k h))
+-- ---- THE MARKS
+module _ (k : ℕ) (h : k < length marks) where
+  abbrev pub mark : Mark
+  mark = getD marks k (index 0 (pos 0) (pos 0))
+
+  both : Holds mark × Answered mark
+  both = holds k mark (subst (λ (n : ℕ). T (right n mark)) (zero-add k) (at right (index 0 (pos 0) (pos 0)) marks 0 tested k h))
+
+  pub marks-hold : Holds mark
+  marks-hold = both .0
+
+  pub marks-answered : Answered mark
+  marks-answered = both .1

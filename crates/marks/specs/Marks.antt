@@ -1,30 +1,31 @@
 -- The worked examples of document 01, "Gauge marks", that are proved: one table, and what it is for an entry to hold. Assumes nothing.
 use mathlib.Core.Path.{_≡_}
-use mathlib.Core.Bool.{true}
+use mathlib.Core.Bool.{true, false}
 use mathlib.Core.List.{List, [], _∷_, map}
-use Prim.Native.Nat.{ℕ, _+_, _-_, _^_}
-use lib.IntN.{ℤ, pos, negsuc, natAbs, _+ℤ_}
+use mathlib.Core.Option.{Option, none, some}
+use Prim.Native.Nat.{ℕ, _-_}
+use lib.IntN.{ℤ, pos, negsuc, _-ℤ_}
 use lib.Ieee.{Float, binary64, ofBits}
-use Rattle.index.specs.Bins.{finest}
+use Rattle.index.specs.Bins.{finest, scaleOf, indexOf}
 use Rattle.index.specs.Magnitude.{magnitude}
 use Rattle.index.specs.DataModel.{IsIndex}
+use Rattle.index.specs.Signed.{levelAnswer, valueIndex}
+use Rattle.index.specs.declared.signed.Natural.the-variants.{Is}
+use Rattle.index.specs.declared.signed.Index.the-variants.{At}
+use Rattle.floats.specs.Answers.{bitsOf}
 use Rattle.floats.specs.Starts.{zeroFloat}
-use Rattle.floats.specs.declared.Extreme.the-variants.{Value}
+use Rattle.floats.specs.declared.Extreme.{Extreme}
+use Rattle.floats.specs.declared.Extreme.the-variants.{None, Value}
 use Rattle.points.specs.Points as P
 use Rattle.points.specs.Explicit.{bucketOf}
-use Rattle.points.specs.Figures.{exponential, Settings, exponentialCounts}
+use Rattle.points.specs.Figures.{exponential, Settings, Counts, exponentialCounts, explicitCounts}
 use Rattle.points.specs.Handed.{Handed, handed}
 
 -- the f64 with these bits
 abbrev pub f64 : ℕ → Float
 f64 bits = ofBits binary64 bits
 
--- the level of a scale, scale + 10, and the bin of an index there, index + 2 ^ (level + 1)
-abbrev pub levelOf : ℤ → ℕ
-levelOf scale = natAbs (scale +ℤ pos 10)
-
-abbrev pub binOf : ℤ → ℤ → ℕ
-binOf scale i = natAbs (i +ℤ pos (2 ^ (levelOf scale + 1)))
+-- ---- a point's line
 
 -- a row "as offset:counts"
 pub record Row : Type 0 where
@@ -42,33 +43,63 @@ pub record Line : Type 0 where
   pub pos : Row
   pub neg : Row
 
+-- the offset is the index of the row's first bin; "An empty row is `0:`"
+abbrev pub offsetOf : ℕ → ℕ → List ℕ → ℤ
+offsetOf level start [] = pos 0
+offsetOf level start (c ∷ cs) = indexOf level start
+
+abbrev pub rowLine : ℕ → P.Row → Row
+rowLine level r = record { offset = offsetOf level (r .start) (r .counts); counts = r .counts }
+
+-- d steps below the finest level the scale is d below that level's
+abbrev pub pointLine : P.Point → ℕ → ℕ → ℕ → Line
+pointLine p low high total =
+    record {
+      count = p .total;
+      zeros = p .zeros;
+      scale = scaleOf finest -ℤ pos (p .d);
+      min = low;
+      max = high;
+      sum = total;
+      pos = rowLine (finest - p .d) (p .pos);
+      neg = rowLine (finest - p .d) (p .neg);
+    }
+
+-- a point of the explicit kind has no line, and neither has one without extremes: the program hands out exponential points with everything recorded
+abbrev pub lineIn : Counts → Extreme → Extreme → Float → Option Line
+lineIn (explicitCounts bounds p) low high total = none
+lineIn (exponentialCounts p) None high total = none
+lineIn (exponentialCounts p) (Value x) None total = none
+lineIn (exponentialCounts p) (Value x) (Value y) total = some (pointLine p (bitsOf x) (bitsOf y) (bitsOf total))
+
+abbrev pub lineOf : Handed → Option Line
+lineOf h = lineIn (h .counts) (h .min) (h .max) (h .sum)
+
+-- ---- the marks
+
 pub data Mark : Type 0 where
-  -- the f64 with these bits has at the scale the index
+  -- the positive f64 with these bits has at the scale the index
   index : ℕ → ℤ → ℤ → Mark
   -- with these bounds the f64 with these bits is in the bucket
   bucket : List ℕ → ℕ → ℕ → Mark
-  -- under a max_size and max_scale these values have the point
+  -- under a max_size and max_scale these values have the point with the line
   point : ℕ → ℤ → List ℕ → Line → Mark
 
--- everything recorded, no zero threshold
-abbrev pub settings : ℕ → ℤ → Settings
-settings size scale = record { kind = exponential size (levelOf scale); extremes = true; sums = true; threshold = zeroFloat }
+-- a max_size and a greatest level; everything recorded, no zero threshold
+abbrev pub settings : ℕ → ℕ → Settings
+settings size top = record { kind = exponential size top; extremes = true; sums = true; threshold = zeroFloat }
 
-abbrev pub rowOf : ℤ → Row → P.Row
-rowOf scale r = record { start = binOf scale (r .offset); counts = r .counts }
-
-abbrev pub pointOf : Line → P.Point
-pointOf l =
-    record { d = finest - levelOf (l .scale); pos = rowOf (l .scale) (l .pos); neg = rowOf (l .scale) (l .neg); zeros = l .zeros; total = l .count }
-
-abbrev pub told : Line → Handed
-told l =
-    record { counts = exponentialCounts (pointOf l); extremes = true; threshold = zeroFloat; min = Value (f64 (l .min)); max = Value (f64 (l .max)); sum = f64 (l .sum) }
-
+-- by the Data Model's index and document 01's bucket and point
 abbrev pub Holds : Mark → Type 0
 Holds (index bits scale i) = IsIndex scale (magnitude (f64 bits)) i
 Holds (bucket bounds bits k) = bucketOf (map f64 bounds) (f64 bits) ≡ k
-Holds (point size scale values l) = handed (settings size scale) (map f64 values) ≡ told l
+Holds (point size scale values line) = (top : ℕ) × (levelAnswer scale ≡ Is top) × (lineOf (handed (settings size top) (map f64 values)) ≡ some line)
+
+-- by what the contract of `index::signed::get_index` says that the code answers; what the other marks say is what contracts cite
+abbrev pub Answered : Mark → Type 0
+Answered (index bits scale i) = valueIndex (f64 bits) scale ≡ At false i
+Answered (bucket bounds bits k) = Unit {0}
+Answered (point size scale values line) = Unit {0}
 
 abbrev pub marks : List Mark
 marks =

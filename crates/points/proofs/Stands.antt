@@ -16,7 +16,7 @@ use Rattle.index.specs.Bins.{finest, lowestBin}
 use Rattle.floats.specs.Answers.{shownOf}
 use Rattle.floats.specs.declared.Extreme.{Extreme}
 use Rattle.floats.specs.declared.Extreme.the-variants.{None, Value}
-use Rattle.floats.specs.Grid.{grid, exactTotal}
+use Rattle.floats.specs.Grid.{grid}
 use Rattle.floats.specs.Starts.{zeroFloat, FiniteF64}
 use Rattle.floats.proofs.Sums.{total-perm, gridded-perm, gridded-left, gridded-right, grid-parts, zeros-add}
 use Rattle.points.specs.Points.{pointOf}
@@ -24,7 +24,7 @@ use Rattle.points.specs.Values.{classOf, countsOf, summaryOf}
 use Rattle.points.specs.Explicit.{boundsPass, bucketsOf}
 use Rattle.points.specs.Figures.{Kind, exponential, explicit, sizeOf, Settings, exponentialCounts, explicitCounts, kindCounts}
 use Rattle.points.specs.Handed.{Handed, handed, mergeCounts, mergeHanded, sameKind, mergeable, extremesAgree, countsAgree, handedAgrees}
-use Rattle.points.specs.Stands.{SameNumber, SameExtreme, Stands}
+use Rattle.points.specs.Stands.{SameNumber, SameExtreme, SumStands, Stands}
 use Rattle.points.proofs.Agreement.{agreed-agrees}
 use Rattle.points.proofs.Classes.{countsOf-agrees}
 use Rattle.points.proofs.Numbers.{number-refl, same-shown, shown-next, shown-merged}
@@ -60,8 +60,10 @@ counts-parts size (exponential m top) t vs ws h =
 counts-parts size (explicit bounds) t vs ws h = ap (explicitCounts bounds) (merge-bucketsOf bounds vs ws)
 
 -- ---- A POINT HANDED OUT STANDS FOR ITS VALUES
-pick-cong : (b : Bool) (x y z : Float) → x ≡ y → pick b x z ≡ pick b y z
-pick-cong b x y z h = ap (λ v. pick b v z) h
+sum-handed : (on : Bool) (vs : List Float) → SumStands on (pick on (summaryOf vs .sum) zeroFloat) vs
+unfolding pick
+sum-handed true vs = sum-of vs
+sum-handed false vs = refl
 
 pub handed-stands : (s : Settings) (vs : List Float) → All FiniteF64 vs → Stands s (handed s vs) vs
 unfolding handed
@@ -73,7 +75,7 @@ handed-stands s vs h =
       threshold = refl;
       min = shown true;
       max = shown false;
-      sum = λ g. pick-cong (s .sums) (summaryOf vs .sum) (grid (exactTotal vs)) zeroFloat (sum-of vs g);
+      sum = sum-handed (s .sums) vs;
     }
   where
     shown : (up : Bool) → SameExtreme (shownOf (s .extremes) (extreme up (summaryOf vs))) (shownOf (s .extremes) (extreme up (summaryOf vs)))
@@ -82,6 +84,10 @@ handed-stands s vs h =
         same-shown (s .extremes) x x (number-refl x (extreme-finite up vs h))
 
 -- ---- IN ANY ORDER
+sum-order : (on : Bool) (x : Float) {vs ws : List Float} → List·Permᴰ vs ws → SumStands on x vs → SumStands on x ws
+sum-order true x h k = λ g. k (gridded-perm (Permᴰ·symm h) g) ∙ ap grid (total-perm h)
+sum-order false x h k = k
+
 pub stands-order : (s : Settings) (p : Handed) {vs ws : List Float} → List·Permᴰ vs ws → Stands s p vs → Stands s p ws
 stands-order s p {vs} {ws} h k =
     record {
@@ -91,7 +97,7 @@ stands-order s p {vs} {ws} h k =
       threshold = k .threshold;
       min = shown-next (s .extremes) (p .min) (summaryOf vs .min) (summaryOf ws .min) (k .min) (moved true);
       max = shown-next (s .extremes) (p .max) (summaryOf vs .max) (summaryOf ws .max) (k .max) (moved false);
-      sum = λ g. k .sum (gridded-perm (Permᴰ·symm h) g) ∙ pick-cong (s .sums) (grid (exactTotal vs)) (grid (exactTotal ws)) zeroFloat (ap grid (total-perm h));
+      sum = sum-order (s .sums) (p .sum) h (k .sum);
     }
   where
     moved : (up : Bool) → SameNumber (extreme up (summaryOf vs)) (extreme up (summaryOf ws))
@@ -106,10 +112,9 @@ stands-order s p {vs} {ws} h k =
 abbrev pub under : ℕ → Settings → Settings
 under size s = record { kind = resized size (s .kind); extremes = s .extremes; sums = s .sums; threshold = s .threshold }
 
-sums-add : (b : Bool) (x y z : Float) → add binary64 x y ≡ z → add binary64 (pick b x zeroFloat) (pick b y zeroFloat) ≡ pick b z zeroFloat
-unfolding pick
-sums-add true x y z h = h
-sums-add false x y z h = zeros-add
+sum-join : (on : Bool) (x y : Float) (vs ws : List Float) → SumStands on x vs → SumStands on y ws → SumStands on (add binary64 x y) (vs ++ ws)
+sum-join true x y vs ws h k = λ g. rw (h (gridded-left vs ws g), k (gridded-right vs ws g)) (grid-parts vs ws g)
+sum-join false x y vs ws h k = rw (h, k) zeros-add
 
 pub stands-join : (size : ℕ) (s : Settings) (p q : Handed) (vs ws : List Float) → Allows size (s .kind)
     → Stands s p vs → Stands s q ws → Stands (under size s) (mergeHanded size p q) (vs ++ ws)
@@ -122,9 +127,7 @@ stands-join size s p q vs ws a h k =
       threshold = h .threshold;
       min = rw (← extreme-parts true vs ws (h .values) (k .values)) (shown-merged true (s .extremes) (p .min) (q .min) (summaryOf vs .min) (summaryOf ws .min) (h .min) (k .min));
       max = rw (← extreme-parts false vs ws (h .values) (k .values)) (shown-merged false (s .extremes) (p .max) (q .max) (summaryOf vs .max) (summaryOf ws .max) (h .max) (k .max));
-      sum = λ g.
-          rw (h .sum (gridded-left vs ws g), k .sum (gridded-right vs ws g))
-          (sums-add (s .sums) (grid (exactTotal vs)) (grid (exactTotal ws)) (grid (exactTotal (vs ++ ws))) (grid-parts vs ws g));
+      sum = sum-join (s .sums) (p .sum) (q .sum) vs ws (h .sum) (k .sum);
     }
 
 -- under the size that both were built under

@@ -11,7 +11,7 @@ use lib.Ieee.Scale.{finite}
 use borrow.Author.Tests.{leb-true}
 use Rattle.laws.specs.Lists.{All}
 use Rattle.laws.specs.Tests.{all}
-use Rattle.laws.proofs.Cases.{and-true}
+use Rattle.laws.proofs.Cases.{and-true, true-not-false}
 use Rattle.laws.proofs.Lists.{all-append}
 use Rattle.index.specs.Bins.{finest, lowestBin}
 use Rattle.floats.specs.Starts.{FiniteF64}
@@ -87,5 +87,6 @@ lawful =
       agrees = agreeing;
       total = λ z x vs h. omega (arith, ap (λ y. countOf (y .counts)) (h .figures), count-is (z .kind) (z .threshold) vs);
       allows = λ z x vs v h f. refl;
+      barred = λ z x vs v h f n. true-not-false n;
       point = pointed;
     }

@@ -22,13 +22,13 @@ use Rattle.sets.proofs.CallRow.{row-set, row-keyed, row-short}
 use Rattle.sets.proofs.Exact.{Small}
 use Rattle.sets.proofs.Keyed.{keyed-sound}
 use Rattle.directory.specs.Calls.{Kept, overRow, located, scan, mostSets, accepts, storesSuffice}
-use Rattle.directory.specs.View.{Stores, slotsb, agreesb, view}
+use Rattle.directory.specs.View.{Stores, Laid, slotsb, agreesb, view}
 use Rattle.directory.specs.declared.Directory.{Directory}
 use Rattle.directory.specs.declared.Found.{Found}
 use Rattle.directory.specs.declared.Found.the-variants.{Held, Room}
 use Rattle.directory.specs.declared.Target.{Target}
 use Rattle.directory.specs.declared.Target.the-variants.{Disagrees, Old, New, Over}
-use Rattle.directory.proofs.Laid.{Laid, laid, laid-agrees, laid-rebind, laid-admit}
+use Rattle.directory.proofs.Laid.{laid, laid-agrees, laid-rebind, laid-admit}
 use Rattle.directory.proofs.Laws.{slotsOf, few, slot-used, scan-in}
 use Rattle.directory.proofs.Located.{located-no, blank, told, old-there, new-there, over-there, some-words, sound-over}
 use Rattle.directory.proofs.Refusals.{suffices}

@@ -1,4 +1,4 @@
--- The layout of the directory's stores, and that agreement is the layout with the map's own agreement. Assumes nothing.
+-- The layout of the directory's stores: agreement has it, and with the map's own agreement it is agreement; what the calls make of it. Assumes nothing.
 use Prim.Native.Nat.{ℕ, zero, suc, _+_, _-_, _≤_, _<_, Ordering·lt}
 use mathlib.Core.Path.{_≡_, refl, ap, sym, subst, _∙_}
 use mathlib.Core.Logic.{_⊎_, inl, inr, ⊎-elim}
@@ -20,20 +20,12 @@ use Rattle.sets.specs.Rows.{span, soundb}
 use Rattle.sets.proofs.Alls.{allb-yes}
 use Rattle.sets.proofs.Spans.{span-inserted, span-length}
 use Rattle.directory.specs.Calls.{admitted, boundTo}
-use Rattle.directory.specs.View.{Stores, setAt, birthAt, slotAt, placeAt, plainly, slotsb, countsb, agreesb, entryAt, view}
+use Rattle.directory.specs.View.{Stores, Laid, setAt, birthAt, slotAt, placeAt, plainly, slotsb, countsb, agreesb, entryAt, view}
 use Rattle.directory.specs.declared.Directory.{Directory}
 use Rattle.directory.proofs.Agreed.{slot-sound, birth-rise, last-birth, place-slot}
 use Rattle.directory.proofs.Checks.{birth-next}
 use Rattle.directory.proofs.Laws.{slotsOf, slots-right, places-right}
 use Rattle.directory.proofs.Rises.{span-in, In, keys-map}
-
--- "its own place in the stores and its own birth number among those spent": named slots stand in the order of birth, and each place of
--- the order names one of them
-pub record Laid (d : Directory) (s : Stores) : Type 0 where
-  pub sound : (x : ℕ) → x < d .used → soundb (getD (s .sets) (x + 1) []) ≡ true
-  pub birth : (x : ℕ) → x < d .used → birthAt (s .entries) x < birthAt (s .entries) (x + 1)
-  pub last : birthAt (s .entries) (d .used) ≤ d .last
-  pub slots : (k : ℕ) → k < d .used → (1 ≤ getD (s .order) k 0) × (getD (s .order) k 0 ≤ d .used)
 
 pub laid : (limit : ℕ) (d : Directory) (s : Stores) → agreesb limit d s ≡ true → Laid d s
 laid limit d s g =

@@ -1,4 +1,5 @@
--- A directory that agrees with itself stands for a map that does: document 01's sentence, part by part. Assumes nothing.
+-- A directory that agrees with itself stands for a map that does: document 01's sentence, part by part; and so agreement is the layout with
+-- the map's agreement. Assumes nothing.
 use Prim.Native.Nat.{ℕ, zero, suc, _+_, _≤_}
 use mathlib.Core.Path.{_≡_, refl, ap, sym, subst, _∙_}
 use mathlib.Core.Logic.{inl, inr}
@@ -13,9 +14,10 @@ use Rattle.tally.specs.Kind.{Kind}
 use Rattle.tally.specs.Map.{bit, plains, Config, Entry, find, Agrees}
 use Rattle.tally.proofs.Order.{same-eq}
 use Rattle.sets.proofs.Keyed.{sound-few, sound-keyed, length-set-of}
-use Rattle.directory.specs.View.{Stores, setAt, agreesb, entryAt, view}
+use Rattle.directory.specs.View.{Stores, setAt, agreesb, entryAt, view, Agreement}
 use Rattle.directory.specs.declared.Directory.{Directory}
 use Rattle.directory.proofs.Agreed.{slot-sound}
+use Rattle.directory.proofs.Laid.{laid, laid-agrees}
 use Rattle.directory.proofs.Laws.{slotsOf, slots-right, slot-used, ascends}
 use Rattle.directory.proofs.Rises.{In, keys-map}
 use Rattle.directory.proofs.Sentence.{own-birth, spent, count-right}
@@ -77,3 +79,7 @@ module _ (K : Kind) (f : ℕ → K .Series) (z : K .Settings) (c : Config K) (d 
           let x = own-birth (c .limit) d s g (a .slot) (b .slot) (slot-used (c .limit) d s g (a .slot) (a .there)) (slot-used (c .limit) d s g (b .slot) (b .there))
           (ap (λ t. t .birth) (a .entry) ∙ r ∙ sym (ap (λ t. t .birth) (b .entry))) in
           sym (a .set) ∙ ap (setAt (s .sets)) x ∙ b .set
+
+-- THE LAW. "The directory agrees" exactly where it is laid out so and stands for a map that agrees
+pub agreement : (K : Kind) (f : ℕ → K .Series) (z : K .Settings) (c : Config K) (d : Directory) (s : Stores) → Agreement K f z c d s
+agreement K f z c d s = record { laid = laid (c .limit) d s; agrees = agreed K f z c d s; passes = laid-agrees K f z c d s }

@@ -1,6 +1,7 @@
 -- The directory in its stores: when it agrees with itself, and what map it is. Assumes nothing.
-use Prim.Native.Nat.{ℕ, zero, suc, _+_, _-_}
-use mathlib.Core.Bool.{Bool, cond, not, _&&_, _||_}
+use Prim.Native.Nat.{ℕ, zero, suc, _+_, _-_, _≤_, _<_}
+use mathlib.Core.Path.{_≡_}
+use mathlib.Core.Bool.{Bool, true, cond, not, _&&_, _||_}
 use mathlib.Core.List.{List, [], _∷_, map}
 use mathlib.Core.Option.{none, some}
 use lib.Dec.{ltb, leb, eqb}
@@ -8,7 +9,7 @@ use lib.ListN.{getD, set}
 use denote.Ref.{RefT, now}
 use Rattle.tally.specs.Sets.{Set, three, cmp, same}
 use Rattle.tally.specs.Kind.{Kind}
-use Rattle.tally.specs.Map.{Entry, Map, plains}
+use Rattle.tally.specs.Map.{Config, Entry, Map, plains, Agrees}
 use Rattle.sets.specs.All.{allb}
 use Rattle.sets.specs.Rows.{span, setOf, soundb, below}
 use Rattle.directory.specs.declared.Directory.{Directory}
@@ -35,6 +36,15 @@ setAt sets (suc x) = setOf (getD sets (suc x) [])
 abbrev pub birthAt : List (List ℕ) → ℕ → ℕ
 birthAt entries zero = 0
 birthAt entries (suc x) = getD (getD entries (suc x) []) 0 0
+
+-- What the layout asks beside the map's own agreement: a named slot's row has "1 to 8 attributes with rising keys"; birth numbers rise
+-- along the slots and end among those spent, so that each slot has its own; and each place of the order names a named slot. Where
+-- the sets ascend along the places, no two of them name one slot, and so every slot is named.
+pub record Laid (d : Directory) (s : Stores) : Type 0 where
+  pub sound : (x : ℕ) → x < d .used → soundb (getD (s .sets) (x + 1) []) ≡ true
+  pub birth : (x : ℕ) → x < d .used → birthAt (s .entries) x < birthAt (s .entries) (x + 1)
+  pub last : birthAt (s .entries) (d .used) ≤ d .last
+  pub slots : (k : ℕ) → k < d .used → (1 ≤ getD (s .order) k 0) × (getD (s .order) k 0 ≤ d .used)
 
 -- the slot after x has a later birth number
 abbrev pub bornAt : List (List ℕ) → ℕ → Bool
@@ -105,3 +115,9 @@ module _ (K : Kind) (f : ℕ → K .Series) where
   abbrev pub view : K .Settings → Directory → Stores → Map K
   view z d s =
       record { settings = z; count = d .count; last = d .last; entries = map (entryAt s) (0 ∷ span (s .order) 0 (d .used)) }
+
+  -- "The directory agrees when ..": the test is passed exactly where the stores are laid out so and the map that they hold agrees
+  pub record Agreement (z : K .Settings) (c : Config K) (d : Directory) (s : Stores) : Type 0 where
+    pub laid : agreesb (c .limit) d s ≡ true → Laid d s
+    pub agrees : agreesb (c .limit) d s ≡ true → Agrees K c (view z d s)
+    pub passes : Laid d s → Agrees K c (view z d s) → agreesb (c .limit) d s ≡ true

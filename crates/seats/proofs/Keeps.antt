@@ -16,7 +16,7 @@ use Rattle.tally.proofs.Agree.{step-agrees}
 use Rattle.tally.proofs.Canon.{canonical-keyed}
 use Rattle.sets.specs.Rows.{size, setOf}
 use Rattle.sets.proofs.Keyed.{keyed-sound}
-use Rattle.directory.specs.View.{Stores, birthAt, agreesb, view}
+use Rattle.directory.specs.View.{Stores, Laid, birthAt, agreesb, view}
 use Rattle.directory.specs.Calls.{Kept, overRow, located, scan, admitted}
 use Rattle.directory.specs.declared.Directory.{Directory}
 use Rattle.directory.specs.declared.Found.{Found}
@@ -26,7 +26,7 @@ use Rattle.directory.specs.declared.Target.the-variants.{Disagrees, Old, New, O
 use Rattle.directory.proofs.Laws.{slotsOf}
 use Rattle.directory.proofs.Located.{blank, told, new-there, over-there, some-words, sound-over}
 use Rattle.directory.proofs.Tied.{agreed}
-use Rattle.directory.proofs.Laid.{Laid, laid, laid-agrees, birth-set, laid-births, laid-admit}
+use Rattle.directory.proofs.Laid.{laid, laid-agrees, birth-set, laid-births, laid-admit}
 use Rattle.directory.proofs.Refusals.{suffices}
 use Rattle.directory.proofs.Leaves.{Leaves, births-leave, same-leaves, admit-leaves, Good, lasts}
 use Rattle.seats.specs.Seats.{seatAt, seated, seatBy, seatedBy, marked, markedIn, committed}

@@ -18,11 +18,11 @@ use Rattle.tally.proofs.Agree.{step-agrees}
 use Rattle.sets.specs.Rows.{setOf, soundb}
 use Rattle.sets.proofs.Spans.{span-at}
 use Rattle.directory.specs.Calls.{Kept}
-use Rattle.directory.specs.View.{Stores, setAt, birthAt, agreesb, view}
+use Rattle.directory.specs.View.{Stores, Laid, setAt, birthAt, agreesb, view}
 use Rattle.directory.specs.declared.Directory.{Directory}
 use Rattle.directory.proofs.Agreed.{slot-sound, birth-rise, place-slot}
 use Rattle.directory.proofs.Checks.{set-named}
-use Rattle.directory.proofs.Laid.{Laid, laid-agrees}
+use Rattle.directory.proofs.Laid.{laid-agrees}
 use Rattle.directory.proofs.Laws.{few, slots-right, places-right}
 use Rattle.directory.proofs.Leaves.{Good}
 use Rattle.directory.proofs.Located.{blank}

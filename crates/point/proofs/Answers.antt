@@ -12,6 +12,7 @@ use Rattle.laws.specs.Pick.{pick, _and_}
 use Rattle.laws.proofs.Bools.{and-left, and-intro}
 use Rattle.index.specs.Bins.{finest}
 use Rattle.floats.specs.Answers.{smallerOf, largerOf}
+use Rattle.floats.specs.Starts.{zeroFloat}
 use Rattle.rows.specs.Rows.{over}
 use Rattle.rows.proofs.Laws.{take-over}
 use Rattle.points.specs.Explicit.{boundsPass, bucketCount, added, mergeBuckets}
@@ -113,11 +114,11 @@ module _ (size : ℕ) (a : Point) (bs : List Float) (xs ys : List ℕ) (b : Poin
   answers r =
       let k = back (a .figures) (b .figures) refl refl in
       record {
-        point = record { figures = figuresFor countsMade; extremes = a .extremes; threshold = a .threshold; min = smallerOf (a .min) (b .min); max = largerOf (a .max) (b .max); sum = add binary64 (a .sum) (b .sum) };
+        point = record { figures = figuresFor countsMade; extremes = a .extremes; min = smallerOf (a .min) (b .min); max = largerOf (a .max) (b .max); sum = add binary64 (a .sum) (b .sum) };
         pos = over (posOf countsMade) us;
         neg = over (negOf countsMade) vs;
         is = sym (calls.accepted size a bs xs ys b cs zs ws us vs e) ∙ ap (ended a b) (laid-room countsMade us vs r);
-        reads = λ j. record { counts = k j; extremes = a .extremes; threshold = a .threshold; min = smallerOf (a .min) (b .min); max = largerOf (a .max) (b .max); sum = add binary64 (a .sum) (b .sum) };
+        reads = λ j. record { counts = k j; extremes = a .extremes; threshold = zeroFloat; min = smallerOf (a .min) (b .min); max = largerOf (a .max) (b .max); sum = add binary64 (a .sum) (b .sum) };
         shape = laid-shape countsMade us vs;
       }
 

@@ -32,12 +32,13 @@ abbrev pub countsAs : Figures → List Float → List ℕ → List ℕ → F.Cou
 countsAs (Exponential c) bs xs ys = exponentialCounts (read c xs ys)
 countsAs (Explicit n) bs xs ys = explicitCounts bs (bucketsIn bs n xs)
 
+-- a point holds no zero threshold: it is 0.0
 abbrev pub handedAs : Point → List Float → List ℕ → List ℕ → Handed
 handedAs p bs xs ys =
     record {
       counts = countsAs (p .figures) bs xs ys;
       extremes = p .extremes;
-      threshold = p .threshold;
+      threshold = zeroFloat;
       min = p .min;
       max = p .max;
       sum = p .sum;
@@ -53,7 +54,6 @@ exponentialPoint h extremes sums =
     record {
       figures = Exponential (h .counts);
       extremes = extremes;
-      threshold = zeroFloat;
       min = shownOf extremes (h .min);
       max = shownOf extremes (h .max);
       sum = shownSum sums (h .sum);
@@ -64,7 +64,6 @@ explicitPoint h extremes sums =
     record {
       figures = Explicit (h .count);
       extremes = extremes;
-      threshold = zeroFloat;
       min = shownOf extremes (h .min);
       max = shownOf extremes (h .max);
       sum = shownSum sums (h .sum);
@@ -159,7 +158,6 @@ finished a b (Of f) =
     Merged (record {
       figures = f;
       extremes = a .extremes;
-      threshold = a .threshold;
       min = smallerOf (a .min) (b .min);
       max = largerOf (a .max) (b .max);
       sum = add binary64 (a .sum) (b .sum);

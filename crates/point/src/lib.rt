@@ -28,7 +28,6 @@ pub enum Figures {
 pub struct Point {
     pub figures: Figures,
     pub extremes: bool,
-    pub threshold: f64,
     pub min: Extreme,
     pub max: Extreme,
     pub sum: f64,
@@ -55,7 +54,6 @@ pub fn exponential_point(head: exponential::Head, extremes: bool, sums: bool) ->
     Point {
         figures: Figures::Exponential(c),
         extremes,
-        threshold: 0.0,
         min,
         max,
         sum,
@@ -79,7 +77,6 @@ pub fn explicit_point(head: explicit::Head, extremes: bool, sums: bool) -> Point
     Point {
         figures: Figures::Explicit(count),
         extremes,
-        threshold: 0.0,
         min,
         max,
         sum,
@@ -320,7 +317,6 @@ fn finish(a: Point, b: Point, made: Made) -> Answer
             Answer::Merged(Point {
                 figures: f,
                 extremes: a.extremes,
-                threshold: a.threshold,
                 min,
                 max,
                 sum: a.sum + b.sum,

@@ -39,7 +39,6 @@ fn nothing() -> Kept {
     let point = Point {
         figures: Figures::Explicit(0),
         extremes: false,
-        threshold: 0.0,
         min: Extreme::None,
         max: Extreme::None,
         sum: 0.0,

@@ -1,5 +1,4 @@
 use Prim.Native.Nat.{_-_}
-use Rattle.floats.specs.Starts.{zeroFloat}
 use Rattle.point.specs.declared.Figures.the-variants.{Explicit}
 use borrow.Author.Needs.{needs}
 use Rattle.point.proofs.explicit_point.Statement.{statement}
@@ -20,7 +19,7 @@ shown-sum-requires c κs = search needs
 returns : tie.Need-returns
 returns c =
     let a = c .before .before .before .before .args in
-    λ j. record { figures = Explicit (c .before .before .before .count-out .ensures j); extremes = a .extremes; threshold = zeroFloat; min = c .before .before .shown .ensures j; max = c .before .shown2 .ensures j; sum = c .shown-sum .ensures j }
+    λ j. record { figures = Explicit (c .before .before .before .count-out .ensures j); extremes = a .extremes; min = c .before .before .shown .ensures j; max = c .before .shown2 .ensures j; sum = c .shown-sum .ensures j }
 
 pub explicit-point-spec : {M : Type 1} → statement M
 explicit-point-spec =

@@ -1,5 +1,4 @@
 use Prim.Native.Nat.{_-_}
-use Rattle.floats.specs.Starts.{zeroFloat}
 use Rattle.point.specs.declared.Figures.the-variants.{Exponential}
 use borrow.Author.Needs.{needs}
 use Rattle.point.proofs.exponential_point.Statement.{statement}
@@ -17,7 +16,7 @@ shown-sum-requires c κs = search needs
 returns : tie.Need-returns
 returns c =
     let a = c .before .before .before .before .args in
-    λ j. record { figures = Exponential (a .head .counts); extremes = a .extremes; threshold = zeroFloat; min = c .before .before .shown .ensures j; max = c .before .shown2 .ensures j; sum = c .shown-sum .ensures j }
+    λ j. record { figures = Exponential (a .head .counts); extremes = a .extremes; min = c .before .before .shown .ensures j; max = c .before .shown2 .ensures j; sum = c .shown-sum .ensures j }
 
 pub exponential-point-spec : {M : Type 1} → statement M
 exponential-point-spec =

@@ -10,6 +10,8 @@ ghost use Rattle.heads.specs.Heads.{Addable, exponentialIn, mergedExpone
 
 // ---- the exponential kind
 
+// The second series merged into the first: the head then, its counts in the first's rows, which have room. It refuses nothing, for the
+// caller has asked that both agree.
 pub fn merge_exponential(
     size: usize,
     a: exponential::Head,
@@ -21,7 +23,8 @@ pub fn merge_exponential(
 ) -> exponential::Head
     requires { ⌜ Agreeing size (a .counts) (now pos) (now neg) (b .counts) (now bpos) (now bneg) ⌝ }
     requires { ⌜ Roomy (mergedPoint size (a .counts) (now pos) (now neg) (b .counts) (now bpos) (now bneg)) (now pos) (now neg) ⌝ }
-    ensures { λ r. ⌜ exponentialIn r (now (pos .exit)) (now (neg .exit)) ≡ mergedExponential size (exponentialIn a (now (pos .entry)) (now (neg .entry))) (exponentialIn b (now (bpos .entry)) (now (bneg .entry))) ⌝ }
+    ensures { λ r. ⌜ exponentialIn r (now (pos .exit)) (now (neg .exit))
+        ≡ mergedExponential size (exponentialIn a (now (pos .entry)) (now (neg .entry))) (exponentialIn b (now (bpos .entry)) (now (bneg .entry))) ⌝ }
 {
     let c = a.counts;
     let d = b.counts;
@@ -38,7 +41,7 @@ pub fn merge_exponential(
 
 // ---- the explicit kind
 
-// The first n counts of another row added to those of a row, in place.
+// The first n counts of another row added to those of a row, in place. It refuses nothing.
 pub fn add_into(counts: &mut [u64], other: &[u64], n: usize)
     requires { ⌜ (n ≤ length (now counts)) × (n ≤ length (now other)) ⌝ }
     requires { ⌜ total (take n (now counts)) + total (take n (now other)) < 2 ^ 64 ⌝ }
@@ -51,6 +54,7 @@ pub fn add_into(counts: &mut [u64], other: &[u64], n: usize)
     }
 }
 
+// The same of the explicit kind: the head then, its counts in the first's row. It refuses nothing.
 pub fn merge_explicit(
     bounds: &[f64],
     a: explicit::Head,
@@ -59,7 +63,8 @@ pub fn merge_explicit(
     others: &[u64],
 ) -> explicit::Head
     requires { ⌜ Addable (bucketCount (now bounds)) (a .count) (now counts) (b .count) (now others) ⌝ }
-    ensures { λ r. ⌜ explicitIn r (now (counts .exit)) ≡ mergedExplicit (now (bounds .entry)) (explicitIn a (now (counts .entry))) (explicitIn b (now (others .entry))) ⌝ }
+    ensures { λ r. ⌜ explicitIn r (now (counts .exit))
+        ≡ mergedExplicit (now (bounds .entry)) (explicitIn a (now (counts .entry))) (explicitIn b (now (others .entry))) ⌝ }
 {
     let n = explicit::bucket_count(bounds);
     add_into(counts, others, n);

@@ -8,9 +8,10 @@ ghost use Rattle.laws.specs.Counting.{total};
 ghost use Rattle.exponential.specs.Steps.{lowered};
 ghost use Rattle.exponential.specs.Series.{rowIn, Laid, Written};
 ghost use Rattle.index.specs.Bins.{finest};
-ghost use Rattle.merges.specs.Merges.{addLow, joined, Joinable, Lendable, Layable, lowEnd, highEnd, joinedLen, spanOf, common, rowsLow, planOf, Agreeing, mergedPoint, Roomy};
-use rows::Row;
+ghost use Rattle.merges.specs.Merges.{addLow, joined, Joinable, Lendable, Layable, lowEnd, highEnd, joinedLen};
+ghost use Rattle.merges.specs.Merges.{spanOf, common, rowsLow, planOf, Agreeing, mergedPoint, Roomy};
 use exponential::Counts;
+use rows::Row;
 
 // ---- the level
 
@@ -69,7 +70,7 @@ fn span(size: usize, a: Row, j: u32, b: Row, k: u32) -> u32
     rows::scale_change(e.lo, e.hi, size)
 }
 
-// How many counts the joined row has.
+// How many counts two rows have, joined at j and k levels lower. It refuses nothing.
 pub fn joined_len(a: Row, j: u32, b: Row, k: u32) -> usize
     requires { ⌜ (a .start + a .len < 2 ^ 32) × (b .start + b .len < 2 ^ 32) ⌝ }
     requires { ⌜ (j < 32) × (k < 32) ⌝ }
@@ -91,6 +92,7 @@ pub struct Plan {
     pub second: u32,
 }
 
+// At which level two series' rows are at most size counts once merged, and how many levels either falls. It refuses nothing.
 pub fn plan_of(size: usize, a: Counts, b: Counts) -> Plan
     requires { ⌜ (0 < size) × (a .level ≤ finest) × (b .level ≤ finest) ⌝ }
     requires { ⌜ (a .pos .start + a .pos .len < 2 ^ 32) × (b .pos .start + b .pos .len < 2 ^ 32) ⌝ }
@@ -196,7 +198,8 @@ fn lay(out: &mut [u64], a: &[u64], row: Row, j: u32) -> Row
 // The rows of a, j levels lower, and of b, k levels lower, joined over what is lent.
 fn join_to(out: &mut [u64], a: &[u64], row: Row, j: u32, b: &[u64], other: Row, k: u32) -> Row
     requires { ⌜ Lendable row j (now a) other k (now b) (now out) ⌝ }
-    ensures { λ r. ⌜ Laid (joined (lowered j (rowIn row (now (a .entry)))) (lowered k (rowIn other (now (b .entry))))) (now (out .entry)) r (now (out .exit)) ⌝ }
+    ensures { λ r. ⌜ Laid (joined (lowered j (rowIn row (now (a .entry)))) (lowered k (rowIn other (now (b .entry)))))
+        (now (out .entry)) r (now (out .exit)) ⌝ }
 {
     let first = lay(out, a, row, j);
     join(out, first, 0, b, other, k)
@@ -204,7 +207,7 @@ fn join_to(out: &mut [u64], a: &[u64], row: Row, j: u32, b: &[u64], other: Row, 
 
 // ---- two series
 
-// The second series merged into the first.
+// The second series merged into the first, whose rows have room: its counts then. It refuses nothing, for the caller has asked.
 pub fn merge_into(
     size: usize,
     a: Counts,
@@ -216,7 +219,8 @@ pub fn merge_into(
 ) -> Counts
     requires { ⌜ Agreeing size a (now pos) (now neg) b (now bpos) (now bneg) ⌝ }
     requires { ⌜ Roomy (mergedPoint size a (now pos) (now neg) b (now bpos) (now bneg)) (now pos) (now neg) ⌝ }
-    ensures { λ r. ⌜ Written (mergedPoint size a (now (pos .entry)) (now (neg .entry)) b (now (bpos .entry)) (now (bneg .entry))) (now (pos .entry)) (now (neg .entry)) r (now (pos .exit)) (now (neg .exit)) ⌝ }
+    ensures { λ r. ⌜ Written (mergedPoint size a (now (pos .entry)) (now (neg .entry)) b (now (bpos .entry)) (now (bneg .entry)))
+        (now (pos .entry)) (now (neg .entry)) r (now (pos .exit)) (now (neg .exit)) ⌝ }
 {
     let to = plan_of(size, a, b);
     let ap = a.pos;
@@ -234,7 +238,7 @@ pub fn merge_into(
     }
 }
 
-// Both series merged into lent rows, by their plan.
+// Both series merged by their plan into lent rows that have room: the counts of what lies there then. It refuses nothing.
 pub fn merge_to(
     size: usize,
     to: Plan,
@@ -250,7 +254,8 @@ pub fn merge_to(
     requires { ⌜ Agreeing size a (now apos) (now aneg) b (now bpos) (now bneg) ⌝ }
     requires { ⌜ to ≡ planOf size a b ⌝ }
     requires { ⌜ Roomy (mergedPoint size a (now apos) (now aneg) b (now bpos) (now bneg)) (now pos) (now neg) ⌝ }
-    ensures { λ r. ⌜ Written (mergedPoint size a (now (apos .entry)) (now (aneg .entry)) b (now (bpos .entry)) (now (bneg .entry))) (now (pos .entry)) (now (neg .entry)) r (now (pos .exit)) (now (neg .exit)) ⌝ }
+    ensures { λ r. ⌜ Written (mergedPoint size a (now (apos .entry)) (now (aneg .entry)) b (now (bpos .entry)) (now (bneg .entry)))
+        (now (pos .entry)) (now (neg .entry)) r (now (pos .exit)) (now (neg .exit)) ⌝ }
 {
     let ap = a.pos;
     let an = a.neg;

@@ -2,7 +2,6 @@
 -- than a count can be; and what is left agrees. Assumes nothing.
 use Prim.Native.Nat.{ℕ, _+_, _≤_}
 use mathlib.Core.Path.{_≡_, refl, ap, sym, subst, _∙_}
-use mathlib.Core.Logic.{_⊎_, inr}
 use mathlib.Core.Bool.{Bool, true, false, Bool·beq}
 use mathlib.Core.List.{List}
 use native.Mathlib.Omega.{arith}
@@ -11,6 +10,7 @@ use lib.ListN.{length}
 use lib.Ieee.{Float}
 use borrow.Author.Tests.{le-leb}
 use Rattle.laws.specs.Pick.{pick, _and_}
+use Rattle.laws.specs.Said.{Said, success}
 use Rattle.laws.proofs.Bools.{not-both, and-left, and-right, and-intro}
 use Rattle.index.specs.Bins.{finest, lowestBin}
 use Rattle.points.specs.Points.{build, bag, merge}
@@ -26,11 +26,11 @@ use Rattle.explicit.specs.Series.{mostCount}
 use Rattle.kinds.proofs.Steady.{merged-agrees}
 use Rattle.point.specs.declared.Figures.{Figures}
 use Rattle.point.specs.declared.Figures.the-variants.{Exponential, Explicit}
-use Rattle.point.specs.Handing.{countsAs, countIn, pointAgrees, refusalBefore}
-use Rattle.point.proofs.Means.{inShape, sizeFor, agreesRead, agrees-is, agrees-whole, sizeAsked, refusalRead, count-is, refusal-is}
+use Rattle.point.specs.Handing.{Stored, countsAs, handedIn, pointAgrees, refusalBefore}
+use Rattle.point.proofs.Means.{inShape, sizeFor, agreesRead, agrees-is, agrees-whole, sizeAsked, refusalRead, counted, count-is, refusal-is}
 use Rattle.point.proofs.Answers.{hasRoom, answers}
 use Rattle.point.proofs.Lists.{Long}
-use Rattle.merging.specs.Stored.{Stored, handedIn, stored, mergedStored}
+use Rattle.merging.specs.Merged.{mergedStored}
 use Rattle.merging.proofs.Tied.{size-is}
 
 abbrev pub low : ℕ
@@ -38,11 +38,8 @@ low = lowestBin finest
 
 -- a point of the settings that agrees under the max_size
 pub record Good (size : ℕ) (s : Settings) (x : Stored) : Type 0 where
-  pub agree : pointAgrees size (x .point) (x .bounds) (x .pos) (x .neg) ≡ true
+  pub agree : pointAgrees size x ≡ true
   pub of : Of s (handedIn x)
-
-abbrev pub counted : Stored → ℕ
-counted x = countIn (x .point .figures)
 
 -- ---- over counts of one kind
 same-kind : (size : ℕ) (k : Kind) (c d : F.Counts) → Shape k c → Shape k d → countsAgree size finest low c ≡ true → sameKind c d ≡ true
@@ -102,29 +99,29 @@ beq-same false b e = ap (Bool·beq false) (sym e)
 
 -- ---- what a good point is known to be
 module _ (size : ℕ) (s : Settings) (x : Stored) (g : Good size s x) where
-  both : (sizeFor size (x .point .figures) and inShape (x .point .figures) (x .pos) (x .neg)) and agreesRead size (handedIn x) ≡ true
-  both = sym (agrees-is size (x .bounds) (x .pos) (x .neg) (x .point)) ∙ g .agree
+  both : (sizeFor size (x .point .figures) and inShape x) and agreesRead size (handedIn x) ≡ true
+  both = sym (agrees-is size x) ∙ g .agree
 
-  front : sizeFor size (x .point .figures) and inShape (x .point .figures) (x .pos) (x .neg) ≡ true
-  front = and-left (sizeFor size (x .point .figures) and inShape (x .point .figures) (x .pos) (x .neg)) (agreesRead size (handedIn x)) both
+  front : sizeFor size (x .point .figures) and inShape x ≡ true
+  front = and-left (sizeFor size (x .point .figures) and inShape x) (agreesRead size (handedIn x)) both
 
   size-ok : sizeFor size (x .point .figures) ≡ true
-  size-ok = and-left (sizeFor size (x .point .figures)) (inShape (x .point .figures) (x .pos) (x .neg)) front
+  size-ok = and-left (sizeFor size (x .point .figures)) (inShape x) front
 
-  shape-ok : inShape (x .point .figures) (x .pos) (x .neg) ≡ true
-  shape-ok = and-right (sizeFor size (x .point .figures)) (inShape (x .point .figures) (x .pos) (x .neg)) front
+  shape-ok : inShape x ≡ true
+  shape-ok = and-right (sizeFor size (x .point .figures)) (inShape x) front
 
   pub reads-ok : agreesRead size (handedIn x) ≡ true
-  reads-ok = and-right (sizeFor size (x .point .figures) and inShape (x .point .figures) (x .pos) (x .neg)) (agreesRead size (handedIn x)) both
+  reads-ok = and-right (sizeFor size (x .point .figures) and inShape x) (agreesRead size (handedIn x)) both
 
   pub counts-ok : countsAgree size finest low (handedIn x .counts) ≡ true
   unfolding handedAgrees
   counts-ok = and-left (countsAgree size finest low (handedIn x .counts)) (extremesAgree (x .point .min) (x .point .max)) reads-ok
 
 -- what a merge leaves: a good point of both counts
-pub record Left (size : ℕ) (s : Settings) (n : ℕ) (o : ℕ ⊎ Stored) : Type 0 where
+pub record Left (size : ℕ) (s : Settings) (n : ℕ) (o : Said Stored) : Type 0 where
   pub left : Stored
-  pub is : o ≡ inr left
+  pub is : o ≡ success left
   pub good : Good size s left
   pub count : counted left ≡ n
 
@@ -164,35 +161,34 @@ module _ (size : ℕ) (s : Settings) (x y : Stored) (g : Good size s x) (h : Goo
 
   fit : leb (countOf (p .counts) + countOf (q .counts)) mostCount ≡ true
   fit =
-      (λ t. leb (sym (count-is (x .point .figures) (x .bounds) (x .pos) (x .neg)) t + sym (count-is (y .point .figures) (y .bounds) (y .pos) (y .neg)) t) mostCount)
-      ∙ le-leb (counted x + counted y) mostCount few
+      (λ t. leb (sym (count-is x) t + sym (count-is y) t) mostCount) ∙ le-leb (counted x + counted y) mostCount few
 
-  free : refusalBefore size (x .point) (x .bounds) (x .pos) (x .neg) (y .point) (y .bounds) (y .pos) (y .neg) ≡ 0
+  free : refusalBefore size x y ≡ 0
   unfolding refusalRead pick _and_
   free =
-      refusal-is size (x .bounds) (x .pos) (x .neg) (y .bounds) (y .pos) (y .neg) (x .point) (y .point)
+      refusal-is size x y
       ∙ (λ t. pick (asked t) (pick ((shape-ok size s x g t and shape-ok size s y h t) and reads-ok size s x g t and reads-ok size s y h t) (pick (can t) (pick (fit t) 0 9) 11) 8) 1)
 
   sum-is : countOf (mergeHanded size p q .counts) ≡ counted x + counted y
   unfolding mergeHanded
   sum-is =
       merged-count size (p .counts) (q .counts) alike
-      ∙ (λ t. sym (count-is (x .point .figures) (x .bounds) (x .pos) (x .neg)) t + sym (count-is (y .point .figures) (y .bounds) (y .pos) (y .neg)) t)
+      ∙ (λ t. sym (count-is x) t + sym (count-is y) t)
 
   pub merges : Left size s (counted x + counted y) (mergedStored size us vs x y)
   merges =
-      let m = answers size (x .point) (x .bounds) (x .pos) (x .neg) (y .point) (y .bounds) (y .pos) (y .neg) free us vs room in
-      let z : Stored = record { point = m .point; bounds = x .bounds; pos = m .pos; neg = m .neg } in
+      let m = answers size x y free us vs room in
+      let z = m .left in
       let o : Of s (handedIn z) = subst (Of s) (sym (m .reads)) of in
       record {
         left = z;
-        is = ap (λ r. stored r (x .bounds)) (m .is);
+        is = ap (λ o. o .answer) (m .is);
         good = record {
-          agree = agrees-whole size (x .bounds) (m .pos) (m .neg) (m .point)
-              (size-same size (s .kind) (x .bounds) (x .pos) (x .neg) (x .bounds) (m .pos) (m .neg) (x .point .figures) (m .point .figures) (g .of .shape) (o .shape) (size-ok size s x g))
+          agree = agrees-whole size z
+              (size-same size (s .kind) (x .bounds) (x .pos) (x .neg) (z .bounds) (z .pos) (z .neg) (x .point .figures) (z .point .figures) (g .of .shape) (o .shape) (size-ok size s x g))
               (m .shape)
               ∙ subst (λ r. agreesRead size r ≡ true) (sym (m .reads)) agree;
           of = o;
         };
-        count = count-is (m .point .figures) (x .bounds) (m .pos) (m .neg) ∙ ap (λ r. countOf (r .counts)) (m .reads) ∙ sum-is;
+        count = count-is z ∙ ap (λ r. countOf (r .counts)) (m .reads) ∙ sum-is;
       }

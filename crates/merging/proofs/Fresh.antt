@@ -2,11 +2,11 @@
 -- no scale, row, count or extreme, a zero's sign aside. Assumes nothing.
 use Prim.Native.Nat.{ℕ}
 use mathlib.Core.Path.{_≡_, refl, ap, sym, subst, _∙_}
-use mathlib.Core.Logic.{inr}
 use mathlib.Core.Bool.{true, false}
 use mathlib.Core.List.{List, []}
 use lib.Ieee.{Float}
 use Rattle.laws.specs.Lists.{All}
+use Rattle.laws.specs.Said.{success}
 use Rattle.index.specs.Bins.{finest}
 use Rattle.floats.specs.Starts.{FiniteF64}
 use Rattle.points.specs.Values.{summaryOf}
@@ -20,11 +20,11 @@ use Rattle.points.proofs.Stands.{handed-stands, stands-agrees}
 use Rattle.points.proofs.Summaries.{extreme-finite}
 use Rattle.point.specs.declared.Figures.{Figures}
 use Rattle.point.specs.declared.Figures.the-variants.{Exponential, Explicit}
-use Rattle.point.specs.Handing.{countsAs}
+use Rattle.point.specs.Handing.{Stored, countsAs, handedIn}
 use Rattle.point.proofs.Means.{sizeFor, agreesRead, agrees-whole}
 use Rattle.point.proofs.Answers.{Configured, sound}
 use Rattle.point.proofs.Lists.{PointOf}
-use Rattle.merging.specs.Stored.{Stored, handedIn, mergedStored}
+use Rattle.merging.specs.Merged.{mergedStored}
 use Rattle.merging.proofs.Groups.{merged-reads}
 use Rattle.merging.proofs.Accepted.{low, Good, counts-ok}
 
@@ -50,12 +50,12 @@ size-for (exponential size top) (Explicit n) bs xs ys h k = refl
 size-for (explicit bounds) (Exponential c) bs xs ys h k = absurd k
 size-for (explicit bounds) (Explicit n) bs xs ys h k = refl
 
-pub list-good : (s : Settings) (vs : List Float) (x : Stored) → Configured (s .kind) → PointOf s vs (x .point) (x .bounds) (x .pos) (x .neg) → Good (sizeOf (s .kind)) s x
+pub list-good : (s : Settings) (vs : List Float) (x : Stored) → Configured (s .kind) → PointOf s vs x → Good (sizeOf (s .kind)) s x
 list-good s vs x k p =
     let size = sizeOf (s .kind) in
     let o : Of s (handedIn x) = subst (Of s) (sym (p .is)) (of-list s vs (p .values)) in
     record {
-      agree = agrees-whole size (x .bounds) (x .pos) (x .neg) (x .point) (size-for (s .kind) (x .point .figures) (x .bounds) (x .pos) (x .neg) k (o .shape)) (p .shape)
+      agree = agrees-whole size x (size-for (s .kind) (x .point .figures) (x .bounds) (x .pos) (x .neg) k (o .shape)) (p .shape)
           ∙ ap (agreesRead size) (p .is) ∙ stands-agrees s (handed s vs) vs (sound (s .kind) k) (handed-stands s vs (p .values));
       of = o;
     }
@@ -71,17 +71,17 @@ agreeing size (exponential m top) (explicitCounts b p) t h a = absurd h
 agreeing size (explicit b) (exponentialCounts p) t h a = absurd h
 agreeing size (explicit b) (explicitCounts c p) t h a = rw (sym h) (buckets-say c p a)
 
-module _ (size : ℕ) (s : Settings) (top : AtTop (s .kind)) (f y : Stored) (none : PointOf s [] (f .point) (f .bounds) (f .pos) (f .neg)) (g : Good size s y) where
+module _ (size : ℕ) (s : Settings) (top : AtTop (s .kind)) (f y : Stored) (none : PointOf s [] f) (g : Good size s y) where
   same : Same (mergeHanded size (handedIn f) (handedIn y)) (handedIn y)
   same =
       subst (λ h. Same (mergeHanded size h (handedIn y)) (handedIn y)) (sym (none .is))
       (fresh-same size low s (handedIn y) (g .of) (agreeing size (s .kind) (handedIn y .counts) top (g .of .shape) (counts-ok size s y g)))
 
   -- merged with another, and another with it
-  pub fresh-first : (z : Stored) (us vs : List ℕ) → mergedStored size us vs f y ≡ inr z → Same (handedIn z) (handedIn y)
+  pub fresh-first : (z : Stored) (us vs : List ℕ) → mergedStored size us vs f y ≡ success z → Same (handedIn z) (handedIn y)
   fresh-first z us vs e = subst (λ h. Same h (handedIn y)) (sym (merged-reads size f y z us vs e)) same
 
-  pub fresh-second : (z : Stored) (us vs : List ℕ) → mergedStored size us vs y f ≡ inr z → Same (handedIn z) (handedIn y)
+  pub fresh-second : (z : Stored) (us vs : List ℕ) → mergedStored size us vs y f ≡ success z → Same (handedIn z) (handedIn y)
   fresh-second z us vs e =
       let c = handed-commutes size s in
       let o : Of s (handedIn f) = subst (Of s) (sym (none .is)) (of-list s [] (none .values)) in

@@ -6,31 +6,21 @@ use mathlib.Core.Bool.{Bool, true, false}
 use mathlib.Core.List.{List, [], _∷_, _++_, map, map-append, List·Permᴰ}
 use native.Mathlib.Omega.{arith}
 use lib.Dec.{eqb}
-use lib.Ieee.{Float}
 use Rattle.laws.specs.Pick.{pick, _and_}
+use Rattle.laws.specs.Said.{success}
 use Rattle.laws.specs.Lists.{All}
 use Rattle.laws.specs.Trees.{Tree, leaf, node, leaves, folded}
 use Rattle.laws.proofs.Lists.{map-perm}
 use Rattle.points.specs.Figures.{Settings}
 use Rattle.points.specs.Handed.{Handed, mergeCounts, mergeHanded}
 use Rattle.points.proofs.Grouping.{Of, Same, merge-any}
-use Rattle.point.specs.declared.Answer.{Answer}
-use Rattle.point.specs.declared.Answer.the-variants.{Merged, Refused}
-use Rattle.point.specs.Handing.{merging}
+use Rattle.point.specs.Handing.{Stored, handedIn}
 use Rattle.point.proofs.Means.{inShape, refusalRead}
 use Rattle.point.proofs.Answers.{hasRoom}
-use Rattle.point.proofs.Told.{toldAs, toldRead, told-is}
-use Rattle.merging.specs.Stored.{Stored, handedIn, storedAs, mergedStored, Groups}
+use Rattle.point.proofs.Told.{told, toldRead, told-is}
+use Rattle.merging.specs.Merged.{mergedStored, Groups}
 
 -- ---- an accepted merge reads as the merge of the points read
-abbrev readAs : ℕ ⊎ Stored → ℕ ⊎ Handed
-readAs (inl n) = inl n
-readAs (inr x) = inr (handedIn x)
-
-reads-told : (r : Answer) (bs : List Float) (us vs : List ℕ) → readAs (storedAs r bs us vs) ≡ toldAs r bs us vs
-reads-told (Merged p) bs us vs = refl
-reads-told (Refused n) bs us vs = refl
-
 abbrev pointIn : Handed → ℕ ⊎ Handed → Handed
 pointIn d (inl n) = d
 pointIn d (inr h) = h
@@ -45,16 +35,14 @@ only true true n g h e = ap (pointIn h) e
 only true false n g h e = absurd (let z : _≡_ {A = ℕ} 1 0 = ap there e in omega (arith, z))
 only false r n g h e = absurd (let z : _≡_ {A = ℕ} 1 0 = ap there e in omega (arith, z))
 
-pub merged-reads : (size : ℕ) (x y z : Stored) (us vs : List ℕ) → mergedStored size us vs x y ≡ inr z → handedIn z ≡ mergeHanded size (handedIn x) (handedIn y)
+pub merged-reads : (size : ℕ) (x y z : Stored) (us vs : List ℕ) → mergedStored size us vs x y ≡ success z → handedIn z ≡ mergeHanded size (handedIn x) (handedIn y)
 unfolding toldRead
 merged-reads size x y z us vs e =
-    let w = inShape (x .point .figures) (x .pos) (x .neg) and inShape (y .point .figures) (y .pos) (y .neg) in
+    let w = inShape x and inShape y in
     let p = handedIn x in
     let q = handedIn y in
-    let o = merging size (x .point) (x .bounds) (x .pos) (x .neg) (y .point) (y .bounds) (y .pos) (y .neg) us vs in
     only (eqb (refusalRead size w p q) 0) (hasRoom (mergeCounts size (p .counts) (q .counts)) us vs) (refusalRead size w p q) (handedIn z) (mergeHanded size p q)
-    (ap readAs (sym e) ∙ reads-told (o .answer) (x .bounds) (o .pos) (o .neg)
-    ∙ told-is size (x .point) (x .bounds) (x .pos) (x .neg) (y .point) (y .bounds) (y .pos) (y .neg) us vs)
+    (ap told (sym e) ∙ told-is size x y us vs)
 
 -- ---- a tree of merges reads as the tree of the points read
 abbrev pub readTree : Tree Stored → Tree Handed

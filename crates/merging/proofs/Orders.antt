@@ -2,20 +2,22 @@
 -- and associative. Request L14 asks this. Assumes nothing.
 use Prim.Native.Nat.{ℕ, _+_, _≤_}
 use mathlib.Core.Path.{_≡_, refl}
-use mathlib.Core.Logic.{inr}
 use mathlib.Core.List.{List, [], _∷_, _++_, foldr, List·Permᴰ, Permᴰ·refl, List·Permᴰ·swap}
 use native.Mathlib.Omega.{arith}
 use Rattle.laws.specs.Lists.{All}
+use Rattle.laws.specs.Said.{success}
 use Rattle.laws.specs.Trees.{Tree, leaf, node, leaves}
 use Rattle.laws.proofs.Lists.{all-left, all-right, all-map, all-perm, foldr-perm}
 use Rattle.points.specs.Figures.{Settings}
 use Rattle.points.proofs.Grouping.{Of, Same}
 use Rattle.points.proofs.Stands.{resized}
 use Rattle.explicit.specs.Series.{mostCount}
+use Rattle.point.specs.Handing.{Stored, handedIn}
+use Rattle.point.proofs.Means.{counted}
 use Rattle.point.proofs.Lists.{Long}
-use Rattle.merging.specs.Stored.{Stored, handedIn, mergedStored, Groups}
+use Rattle.merging.specs.Merged.{mergedStored, Groups}
 use Rattle.merging.proofs.Groups.{any-grouping}
-use Rattle.merging.proofs.Accepted.{Good, counted, merges}
+use Rattle.merging.proofs.Accepted.{Good, merges}
 
 -- the counts together
 abbrev pub allCounted : List Stored → ℕ
@@ -61,7 +63,7 @@ module _ (size : ℕ) (s : Settings) (us vs : List ℕ) (long : Long (resized si
 
 -- ---- OF TWO AND OF THREE, whatever rows were lent
 module _ (size : ℕ) (s : Settings) (x y : Stored) (p : Of s (handedIn x)) (q : Of s (handedIn y)) where
-  pub commutative : (z w : Stored) (us vs us' vs' : List ℕ) → mergedStored size us vs x y ≡ inr z → mergedStored size us' vs' y x ≡ inr w → Same (handedIn z) (handedIn w)
+  pub commutative : (z w : Stored) (us vs us' vs' : List ℕ) → mergedStored size us vs x y ≡ success z → mergedStored size us' vs' y x ≡ success w → Same (handedIn z) (handedIn w)
   unfolding All
   commutative z w us vs us' vs' e f =
       any-grouping size s (node (leaf x) (leaf y)) (node (leaf y) (leaf x)) z w (List·Permᴰ·swap refl refl) (p, (q, tt))
@@ -69,8 +71,8 @@ module _ (size : ℕ) (s : Settings) (x y : Stored) (p : Of s (handedIn x)) (q :
 
   module _ (r : Stored) (o : Of s (handedIn r)) where
     pub associative : (xy yr z w : Stored) (a b c d e f g h : List ℕ)
-        → mergedStored size a b x y ≡ inr xy → mergedStored size c d xy r ≡ inr z
-        → mergedStored size e f y r ≡ inr yr → mergedStored size g h x yr ≡ inr w → Same (handedIn z) (handedIn w)
+        → mergedStored size a b x y ≡ success xy → mergedStored size c d xy r ≡ success z
+        → mergedStored size e f y r ≡ success yr → mergedStored size g h x yr ≡ success w → Same (handedIn z) (handedIn w)
     unfolding All
     associative xy yr z w a b c d e f g h i j k l =
         any-grouping size s (node (node (leaf x) (leaf y)) (leaf r)) (node (leaf x) (node (leaf y) (leaf r))) z w (Permᴰ·refl _) (p, (q, (o, tt)))

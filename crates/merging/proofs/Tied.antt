@@ -8,7 +8,6 @@ use mathlib.Core.Option.{none, some}
 use native.Mathlib.Omega.{arith}
 use lib.Dec.{leb, ltb, eqb}
 use lib.ListN.{length}
-use lib.Ieee.{Float}
 use borrow.Author.Tests.{le-leb, lt-leb, lt-ltb, le-ltb}
 use Rattle.laws.specs.Pick.{pick, _and_}
 use Rattle.points.specs.Figures as F
@@ -19,12 +18,11 @@ use Rattle.exponential.specs.Series.{sizePasses}
 use Rattle.explicit.specs.Series.{mostCount}
 use Rattle.tally.specs.Kind.{unless, firstOf}
 use Rattle.kinds.specs.Histograms.{posPlaces, negPlaces, bothExplicit, merged}
-use Rattle.point.specs.declared.Point.{Point}
-use Rattle.point.specs.Handing.{handedAs, posOf, negOf, merging}
+use Rattle.point.specs.Handing.{Stored, handedIn, posOf, negOf}
 use Rattle.point.proofs.Means.{inShape, agreesRead, sizeAsked, refusalRead}
 use Rattle.point.proofs.Answers.{hasRoom}
 use Rattle.point.proofs.Told.{told, toldRead, told-is}
-use Rattle.merging.specs.Stored.{roomOf}
+use Rattle.merging.specs.Merged.{mergedStored, roomOf}
 
 and-is : (a b : Bool) → a and b ≡ (a && b)
 unfolding _and_
@@ -95,23 +93,21 @@ refused true r h = refl
 refused false r h = refl
 
 -- THE LAW. A refusal's number, or the merged point as it reads
-module _ (size : ℕ) (a : Point) (bs : List Float) (xs ys : List ℕ) (b : Point) (cs : List Float) (zs ws us vs : List ℕ) where
+module _ (size : ℕ) (a b : Stored) (us vs : List ℕ) where
   abbrev p : Handed
-  p = handedAs a bs xs ys
+  p = handedIn a
 
   abbrev q : Handed
-  q = handedAs b cs zs ws
+  q = handedIn b
 
-  pub merge-is : inShape (a .figures) xs ys ≡ true → inShape (b .figures) zs ws ≡ true
-      → told (merging size a bs xs ys b cs zs ws us vs) bs ≡ merged size p q (roomOf us vs)
+  pub merge-is : inShape a ≡ true → inShape b ≡ true → told (mergedStored size us vs a b) ≡ merged size p q (roomOf us vs)
   unfolding _and_
-  merge-is i j = told-is size a bs xs ys b cs zs ws us vs ∙ (λ t. toldRead size (i t and j t) p q us vs) ∙ read-is size p q us vs
+  merge-is i j = told-is size a b us vs ∙ (λ t. toldRead size (i t and j t) p q us vs) ∙ read-is size p q us vs
 
   -- a head out of shape disagrees: 8, but 1 first
-  pub out-of-shape : inShape (a .figures) xs ys and inShape (b .figures) zs ws ≡ false
-      → told (merging size a bs xs ys b cs zs ws us vs) bs ≡ inl (pick (sizeAsked size (p .counts) (q .counts)) 8 1)
+  pub out-of-shape : inShape a and inShape b ≡ false → told (mergedStored size us vs a b) ≡ inl (pick (sizeAsked size (p .counts) (q .counts)) 8 1)
   unfolding toldRead refusalRead _and_ pick
   out-of-shape w =
-      told-is size a bs xs ys b cs zs ws us vs
+      told-is size a b us vs
       ∙ ap (λ t. toldRead size t p q us vs) w
       ∙ refused (sizeAsked size (p .counts) (q .counts)) (hasRoom (mergeCounts size (p .counts) (q .counts)) us vs) (mergeHanded size p q)

@@ -5,9 +5,9 @@ use mathlib.Core.Bool.{Bool, true, false, Bool·beq}
 use mathlib.Core.List.{List}
 use native.Mathlib.Omega.{arith}
 use lib.Dec.{leb}
-use lib.Ieee.{Float}
 use borrow.Author.Tests.{leb-true, eq-eqb, ne-eqb}
 use Rattle.laws.specs.Pick.{pick, _and_}
+use Rattle.laws.specs.Said.{Said, refusal}
 use Rattle.laws.proofs.Bools.{not-both, and-left, and-right, pick-left, pick-then}
 use Rattle.points.specs.Explicit.{sameBounds, bucketCount, bucketsAgree, mergeBuckets}
 use Rattle.points.specs.Figures.{exponentialCounts, explicitCounts}
@@ -20,73 +20,71 @@ use Rattle.explicit.specs.Series.{mostCount, bucketsIn}
 use Rattle.point.specs.declared.Point.{Point}
 use Rattle.point.specs.declared.Figures.the-variants.{Exponential, Explicit}
 use Rattle.point.specs.declared.Made.{Made}
-use Rattle.point.specs.declared.Answer.{Answer}
-use Rattle.point.specs.declared.Answer.the-variants.{Refused}
-use Rattle.point.specs.Handing.{countsAs, sizeFits, countIn, sameFigures, figuresAgree, pointAgrees, refusalBefore, madeOver, laidOver, madeOne, laidOne, finished, outcome, ended, merging}
+use Rattle.point.specs.Handing.{Stored, countsAs, countsIn, sizeFits, countIn, sameFigures, figuresAgree, pointAgrees, refusalBefore, madeOver, laidOver, madeOne, laidOne, finished, ended, concluded, merging}
 use Rattle.point.proofs.Laid.{addable, over-one}
 
 -- the tests in their order
 abbrev chain : Bool → Bool → Bool → Bool → Bool → Bool → ℕ
 chain t u v w x y = pick t (pick (u and v) (pick (w and x) (pick y 0 9) 11) 8) 1
 
-module _ (size : ℕ) (a : Point) (bs : List Float) (xs ys : List ℕ) (b : Point) (cs : List Float) (zs ws : List ℕ) where
+module _ (size : ℕ) (a b : Stored) where
   abbrev sizeOk : Bool
-  sizeOk = sizeFits size (a .figures) (b .figures)
+  sizeOk = sizeFits size (a .point .figures) (b .point .figures)
 
   abbrev firstOk : Bool
-  firstOk = pointAgrees size a bs xs ys
+  firstOk = pointAgrees size a
 
   abbrev secondOk : Bool
-  secondOk = pointAgrees size b cs zs ws
+  secondOk = pointAgrees size b
 
   abbrev kindOk : Bool
-  kindOk = sameFigures (a .figures) bs (b .figures) cs
+  kindOk = sameFigures (a .point .figures) (a .bounds) (b .point .figures) (b .bounds)
 
   abbrev switchOk : Bool
-  switchOk = Bool·beq (a .extremes) (b .extremes)
+  switchOk = Bool·beq (a .point .extremes) (b .point .extremes)
 
   abbrev countOk : Bool
-  countOk = leb (countIn (a .figures) + countIn (b .figures)) mostCount
+  countOk = leb (countIn (a .point .figures) + countIn (b .point .figures)) mostCount
 
-  is-chain : refusalBefore size a bs xs ys b cs zs ws ≡ chain sizeOk firstOk secondOk kindOk switchOk countOk
+  is-chain : refusalBefore size a b ≡ chain sizeOk firstOk secondOk kindOk switchOk countOk
   unfolding refusalBefore
   is-chain = refl
 
-  pub bad-size : sizeOk ≡ false → 1 ≡ refusalBefore size a bs xs ys b cs zs ws
+  pub bad-size : sizeOk ≡ false → 1 ≡ refusalBefore size a b
   unfolding pick
   bad-size t = sym (is-chain ∙ ap (λ t. chain t firstOk secondOk kindOk switchOk countOk) t)
 
   module _ (t : sizeOk ≡ true) where
-    pub bad-first : firstOk ≡ false → 8 ≡ refusalBefore size a bs xs ys b cs zs ws
+    pub bad-first : firstOk ≡ false → 8 ≡ refusalBefore size a b
     unfolding pick _and_
     bad-first u = sym (is-chain ∙ (λ j. chain (t j) (u j) secondOk kindOk switchOk countOk))
 
     module _ (u : firstOk ≡ true) where
-      pub bad-second : secondOk ≡ false → 8 ≡ refusalBefore size a bs xs ys b cs zs ws
+      pub bad-second : secondOk ≡ false → 8 ≡ refusalBefore size a b
       unfolding pick _and_
       bad-second v = sym (is-chain ∙ (λ j. chain (t j) (u j) (v j) kindOk switchOk countOk))
 
       module _ (v : secondOk ≡ true) where
-        pub unlike : kindOk ≡ false → 11 ≡ refusalBefore size a bs xs ys b cs zs ws
+        pub unlike : kindOk ≡ false → 11 ≡ refusalBefore size a b
         unfolding pick _and_
         unlike w = sym (is-chain ∙ (λ j. chain (t j) (u j) (v j) (w j) switchOk countOk))
 
         module _ (w : kindOk ≡ true) where
-          pub unlike-switch : switchOk ≡ false → 11 ≡ refusalBefore size a bs xs ys b cs zs ws
+          pub unlike-switch : switchOk ≡ false → 11 ≡ refusalBefore size a b
           unfolding pick _and_
           unlike-switch x = sym (is-chain ∙ (λ j. chain (t j) (u j) (v j) (w j) (x j) countOk))
 
           module _ (x : switchOk ≡ true) where
-            pub too-many : countOk ≡ false → 9 ≡ refusalBefore size a bs xs ys b cs zs ws
+            pub too-many : countOk ≡ false → 9 ≡ refusalBefore size a b
             unfolding pick _and_
             too-many y = sym (is-chain ∙ (λ j. chain (t j) (u j) (v j) (w j) (x j) (y j)))
 
-            pub none : countOk ≡ true → 0 ≡ refusalBefore size a bs xs ys b cs zs ws
+            pub none : countOk ≡ true → 0 ≡ refusalBefore size a b
             unfolding pick _and_
             none y = sym (is-chain ∙ (λ j. chain (t j) (u j) (v j) (w j) (x j) (y j)))
 
   -- where nothing is refused
-  module _ (e : refusalBefore size a bs xs ys b cs zs ws ≡ 0) where
+  module _ (e : refusalBefore size a b ≡ 0) where
     e₁ : _≡_ {A = ℕ} (pick (firstOk and secondOk) (pick (kindOk and switchOk) (pick countOk 0 9) 11) 8) 0
     e₁ = pick-then sizeOk _ 1 (omega arith) (sym is-chain ∙ e)
 
@@ -96,82 +94,82 @@ module _ (size : ℕ) (a : Point) (bs : List Float) (xs ys : List ℕ) (b : Poin
     both : firstOk and secondOk ≡ true
     both = pick-left (firstOk and secondOk) _ 8 (omega arith) e₁
 
-    pub first-agrees : figuresAgree size (a .figures) bs xs ys ≡ true
+    pub first-agrees : figuresAgree size (a .point .figures) (a .bounds) (a .pos) (a .neg) ≡ true
     unfolding pointAgrees
-    first-agrees = and-left (figuresAgree size (a .figures) bs xs ys) (extremesAgree (a .min) (a .max)) (and-left firstOk secondOk both)
+    first-agrees = and-left (figuresAgree size (a .point .figures) (a .bounds) (a .pos) (a .neg)) (extremesAgree (a .point .min) (a .point .max)) (and-left firstOk secondOk both)
 
-    pub second-agrees : figuresAgree size (b .figures) cs zs ws ≡ true
+    pub second-agrees : figuresAgree size (b .point .figures) (b .bounds) (b .pos) (b .neg) ≡ true
     unfolding pointAgrees
-    second-agrees = and-left (figuresAgree size (b .figures) cs zs ws) (extremesAgree (b .min) (b .max)) (and-right firstOk secondOk both)
+    second-agrees = and-left (figuresAgree size (b .point .figures) (b .bounds) (b .pos) (b .neg)) (extremesAgree (b .point .min) (b .point .max)) (and-right firstOk secondOk both)
 
     pub alike : kindOk ≡ true
     alike = and-left kindOk switchOk (pick-left (kindOk and switchOk) _ 11 (omega arith) e₂)
 
-    pub fit : countIn (a .figures) + countIn (b .figures) ≤ mostCount
-    fit = leb-true (countIn (a .figures) + countIn (b .figures)) mostCount (pick-left countOk 0 9 (omega arith) (pick-then (kindOk and switchOk) _ 11 (omega arith) e₂))
+    pub fit : countIn (a .point .figures) + countIn (b .point .figures) ≤ mostCount
+    fit = leb-true (countIn (a .point .figures) + countIn (b .point .figures)) mostCount (pick-left countOk 0 9 (omega arith) (pick-then (kindOk and switchOk) _ 11 (omega arith) e₂))
 
     -- the exponential kind
-    pub agreeing : (c d : Counts) → a .figures ≡ Exponential c → b .figures ≡ Exponential d → Agreeing size c xs ys d zs ws
+    pub agreeing : (c d : Counts) → a .point .figures ≡ Exponential c → b .point .figures ≡ Exponential d → Agreeing size c (a .pos) (a .neg) d (b .pos) (b .neg)
     agreeing c d f g =
         let n : c .count + d .count ≤ mostCount = subst (λ (n : ℕ). n ≤ mostCount) (λ j. countIn (f j) + countIn (g j)) fit in
         record {
-          first = ap (λ h. figuresAgree size h bs xs ys) (sym f) ∙ first-agrees;
-          second = ap (λ h. figuresAgree size h cs zs ws) (sym g) ∙ second-agrees;
+          first = ap (λ h. figuresAgree size h (a .bounds) (a .pos) (a .neg)) (sym f) ∙ first-agrees;
+          second = ap (λ h. figuresAgree size h (b .bounds) (b .pos) (b .neg)) (sym g) ∙ second-agrees;
           count = omega (arith, n);
         }
 
     -- the explicit kind
-    module _ (n m : ℕ) (f : a .figures ≡ Explicit n) (g : b .figures ≡ Explicit m) where
-      pub same : sameBounds bs cs ≡ true
-      same = (λ j. sameFigures (sym f j) bs (sym g j) cs) ∙ alike
+    module _ (n m : ℕ) (f : a .point .figures ≡ Explicit n) (g : b .point .figures ≡ Explicit m) where
+      pub same : sameBounds (a .bounds) (b .bounds) ≡ true
+      same = (λ j. sameFigures (sym f j) (a .bounds) (sym g j) (b .bounds)) ∙ alike
 
-      pub ok-first : bucketsAgree bs (bucketsIn bs n xs) ≡ true
-      ok-first = ap (λ h. figuresAgree size h bs xs ys) (sym f) ∙ first-agrees
+      pub ok-first : bucketsAgree (a .bounds) (bucketsIn (a .bounds) n (a .pos)) ≡ true
+      ok-first = ap (λ h. figuresAgree size h (a .bounds) (a .pos) (a .neg)) (sym f) ∙ first-agrees
 
-      pub ok-second : bucketsAgree cs (bucketsIn cs m zs) ≡ true
-      ok-second = ap (λ h. figuresAgree size h cs zs ws) (sym g) ∙ second-agrees
+      pub ok-second : bucketsAgree (b .bounds) (bucketsIn (b .bounds) m (b .pos)) ≡ true
+      ok-second = ap (λ h. figuresAgree size h (b .bounds) (b .pos) (b .neg)) (sym g) ∙ second-agrees
 
-      pub can-add : Addable (bucketCount bs) n xs m zs
+      pub can-add : Addable (bucketCount (a .bounds)) n (a .pos) m (b .pos)
       can-add =
           let k : n + m ≤ mostCount = subst (λ (n : ℕ). n ≤ mostCount) (λ j. countIn (f j) + countIn (g j)) fit in
-          addable bs n xs cs m zs same (buckets-say bs (bucketsIn bs n xs) ok-first) (buckets-say cs (bucketsIn cs m zs) ok-second) (omega (arith, k))
+          addable (a .bounds) n (a .pos) (b .bounds) m (b .pos) same (buckets-say (a .bounds) (bucketsIn (a .bounds) n (a .pos)) ok-first) (buckets-say (b .bounds) (bucketsIn (b .bounds) m (b .pos)) ok-second) (omega (arith, k))
 
-      pub one-is : (us vs : List ℕ) → laidOver (explicitCounts bs (mergeBuckets (bucketsIn bs n xs) (bucketsIn cs m zs))) us vs
-          ≡ madeOver (laidOne (bucketCount bs) n xs m zs us .made) (laidOne (bucketCount bs) n xs m zs us .counts) vs
-      one-is = over-one bs n xs cs m zs same (buckets-say bs (bucketsIn bs n xs) ok-first) (buckets-say cs (bucketsIn cs m zs) ok-second)
+      pub one-is : (us vs : List ℕ) → laidOver (explicitCounts (a .bounds) (mergeBuckets (bucketsIn (a .bounds) n (a .pos)) (bucketsIn (b .bounds) m (b .pos)))) us vs
+          ≡ madeOver (laidOne (bucketCount (a .bounds)) n (a .pos) m (b .pos) us .made) (laidOne (bucketCount (a .bounds)) n (a .pos) m (b .pos) us .counts) vs
+      one-is = over-one (a .bounds) n (a .pos) (b .bounds) m (b .pos) same (buckets-say (a .bounds) (bucketsIn (a .bounds) n (a .pos)) ok-first) (buckets-say (b .bounds) (bucketsIn (b .bounds) m (b .pos)) ok-second)
 
     -- unlike kinds are refused before
-    pub not-mixed : (c : Counts) (m : ℕ) → a .figures ≡ Exponential c → b .figures ≡ Explicit m → ⊥
-    not-mixed c m f g = not-both kindOk alike (λ j. sameFigures (f j) bs (g j) cs)
+    pub not-mixed : (c : Counts) (m : ℕ) → a .point .figures ≡ Exponential c → b .point .figures ≡ Explicit m → ⊥
+    not-mixed c m f g = not-both kindOk alike (λ j. sameFigures (f j) (a .bounds) (g j) (b .bounds))
 
-    pub not-mixed-2 : (n : ℕ) (d : Counts) → a .figures ≡ Explicit n → b .figures ≡ Exponential d → ⊥
-    not-mixed-2 n d f g = not-both kindOk alike (λ j. sameFigures (f j) bs (g j) cs)
+    pub not-mixed-2 : (n : ℕ) (d : Counts) → a .point .figures ≡ Explicit n → b .point .figures ≡ Exponential d → ⊥
+    not-mixed-2 n d f g = not-both kindOk alike (λ j. sameFigures (f j) (a .bounds) (g j) (b .bounds))
 
   module _ (us vs : List ℕ) where
-    pub refused-law : (n : ℕ) → n ≡ refusalBefore size a bs xs ys b cs zs ws → (n ≡ 0 → ⊥) → outcome (Refused n) us vs ≡ merging size a bs xs ys b cs zs ws us vs
+    pub refused-law : (n : ℕ) → n ≡ refusalBefore size a b → (n ≡ 0 → ⊥) → ended (refusal n) (a .bounds) us vs ≡ merging size a b us vs
     unfolding merging pick
     refused-law n e z = rw (← e, ne-eqb n 0 z)
 
-    pub accepted : refusalBefore size a bs xs ys b cs zs ws ≡ 0
-        → ended a b (laidOver (mergeCounts size (countsAs (a .figures) bs xs ys) (countsAs (b .figures) cs zs ws)) us vs) ≡ merging size a bs xs ys b cs zs ws us vs
+    pub accepted : refusalBefore size a b ≡ 0
+        → concluded a b (laidOver (mergeCounts size (countsIn a) (countsIn b)) us vs) ≡ merging size a b us vs
     unfolding merging pick
-    accepted e = rw (eq-eqb (refusalBefore size a bs xs ys b cs zs ws) 0 e) refl
+    accepted e = rw (eq-eqb (refusalBefore size a b) 0 e) refl
 
-    pub exponential-law : (c d : Counts) (made : Made) (r : Answer) (us' vs' : List ℕ) → refusalBefore size a bs xs ys b cs zs ws ≡ 0 → a .figures ≡ Exponential c → b .figures ≡ Exponential d
-        → madeOver made us' vs' ≡ laidOver (exponentialCounts (mergedPoint size c xs ys d zs ws)) us vs → r ≡ finished a b made
-        → outcome r us' vs' ≡ merging size a bs xs ys b cs zs ws us vs
-    exponential-law c d made r us' vs' e f g h k =
-        ap (λ r. outcome r us' vs') k
-        ∙ ap (ended a b) h
-        ∙ (λ j. ended a b (laidOver (mergeCounts size (countsAs (sym f j) bs xs ys) (countsAs (sym g j) cs zs ws)) us vs))
+    pub exponential-law : (c d : Counts) (m : Made) (r : Said Point) (us' vs' : List ℕ) → refusalBefore size a b ≡ 0 → a .point .figures ≡ Exponential c → b .point .figures ≡ Exponential d
+        → madeOver m us' vs' ≡ laidOver (exponentialCounts (mergedPoint size c (a .pos) (a .neg) d (b .pos) (b .neg))) us vs → r ≡ finished (a .point) (b .point) m
+        → ended r (a .bounds) us' vs' ≡ merging size a b us vs
+    exponential-law c d m r us' vs' e f g h k =
+        ap (λ r. ended r (a .bounds) us' vs') k
+        ∙ ap (concluded a b) h
+        ∙ (λ j. concluded a b (laidOver (mergeCounts size (countsAs (sym f j) (a .bounds) (a .pos) (a .neg)) (countsAs (sym g j) (b .bounds) (b .pos) (b .neg))) us vs))
         ∙ accepted e
 
-    pub explicit-law : (n m : ℕ) (made : Made) (r : Answer) (us' : List ℕ) → refusalBefore size a bs xs ys b cs zs ws ≡ 0 → a .figures ≡ Explicit n → b .figures ≡ Explicit m
-        → madeOne made us' ≡ laidOne (bucketCount bs) n xs m zs us → r ≡ finished a b made
-        → outcome r us' vs ≡ merging size a bs xs ys b cs zs ws us vs
-    explicit-law n m made r us' e f g h k =
-        ap (λ r. outcome r us' vs) k
-        ∙ (λ j. ended a b (madeOver (h j .made) (h j .counts) vs))
-        ∙ ap (ended a b) (sym (one-is e n m f g us vs))
-        ∙ (λ j. ended a b (laidOver (mergeCounts size (countsAs (sym f j) bs xs ys) (countsAs (sym g j) cs zs ws)) us vs))
+    pub explicit-law : (n m : ℕ) (t : Made) (r : Said Point) (us' : List ℕ) → refusalBefore size a b ≡ 0 → a .point .figures ≡ Explicit n → b .point .figures ≡ Explicit m
+        → madeOne t us' ≡ laidOne (bucketCount (a .bounds)) n (a .pos) m (b .pos) us → r ≡ finished (a .point) (b .point) t
+        → ended r (a .bounds) us' vs ≡ merging size a b us vs
+    explicit-law n m t r us' e f g h k =
+        ap (λ r. ended r (a .bounds) us' vs) k
+        ∙ (λ j. concluded a b (madeOver (h j .made) (h j .counts) vs))
+        ∙ ap (concluded a b) (sym (one-is e n m f g us vs))
+        ∙ (λ j. concluded a b (laidOver (mergeCounts size (countsAs (sym f j) (a .bounds) (a .pos) (a .neg)) (countsAs (sym g j) (b .bounds) (b .pos) (b .neg))) us vs))
         ∙ accepted e

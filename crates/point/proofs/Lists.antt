@@ -31,15 +31,14 @@ use Rattle.exponential.proofs.Lists as SL
 use Rattle.explicit.specs.Series.{freshHead}
 use Rattle.explicit.specs.Runs as BR
 use Rattle.explicit.proofs.Listed as BL
-use Rattle.point.specs.declared.Point.{Point}
-use Rattle.point.specs.Handing.{handedAs, exponentialPoint, explicitPoint, countIn, merging}
-use Rattle.point.proofs.Means.{settingsOf, inShape, exponential-list, explicit-list, count-is}
+use Rattle.point.specs.Handing.{Stored, storedIn, countsIn, handedIn, exponentialPoint, explicitPoint, merging}
+use Rattle.point.proofs.Means.{settingsOf, inShape, exponential-list, explicit-list, counted, count-is}
 use Rattle.point.proofs.Answers.{hasRoom, Configured, AnswersFor, merging-stands}
 
--- p with its bounds and rows is document 01's point of the values under the settings, and in shape
-pub record PointOf (s : Settings) (vs : List Float) (p : Point) (bs : List Float) (xs ys : List ℕ) : Type 0 where
-  pub is : handedAs p bs xs ys ≡ handed s vs
-  pub shape : inShape (p .figures) xs ys ≡ true
+-- x is document 01's point of the values under the settings, and in shape
+pub record PointOf (s : Settings) (vs : List Float) (x : Stored) : Type 0 where
+  pub is : handedIn x ≡ handed s vs
+  pub shape : inShape x ≡ true
   pub values : All FiniteF64 vs
 
 -- ---- THE EXPONENTIAL KIND
@@ -50,7 +49,7 @@ module _ (size top : ℕ) (least : leastSize ≤ size) (most : size ≤ mostSize
   exponentialRun = SR.runAll size top (record { head = SR.freshHead top; pos = xs; neg = ys }) vs
 
   pub exponential-recorded : (bs : List Float) (extremes sums : Bool)
-      → PointOf (settingsOf (exponential size top) extremes sums) vs (exponentialPoint (exponentialRun .head) extremes sums) bs (exponentialRun .pos) (exponentialRun .neg)
+      → PointOf (settingsOf (exponential size top) extremes sums) vs (storedIn (exponentialPoint (exponentialRun .head) extremes sums) bs (exponentialRun .pos) (exponentialRun .neg))
   unfolding _and_
   exponential-recorded bs extremes sums =
       let h = SL.run-is size top xs ys vs least most known long long' values few in
@@ -68,7 +67,7 @@ module _ (bounds : List Float) (passes : boundsPass bounds ≡ true) (xs : List 
   explicitRun = BR.runAll bounds (record { head = freshHead; counts = over (replicate (bucketCount bounds) 0) xs }) vs
 
   pub explicit-recorded : (ys : List ℕ) (extremes sums : Bool)
-      → PointOf (settingsOf (explicit bounds) extremes sums) vs (explicitPoint (explicitRun .head) extremes sums) bounds (explicitRun .counts) ys
+      → PointOf (settingsOf (explicit bounds) extremes sums) vs (storedIn (explicitPoint (explicitRun .head) extremes sums) bounds (explicitRun .counts) ys)
   explicit-recorded ys extremes sums =
       let h = BL.run-is bounds xs vs passes long values few in
       record {
@@ -96,26 +95,25 @@ long-enough (explicit bounds) t v us vs k f l =
     (le-leb 0 (length vs) (omega arith))
 
 -- ---- TWO SUCH POINTS MERGED: the point of the lists joined, wherever that has room
-module _ (s : Settings) (k : Configured (s .kind)) (v w : List Float) (few : length v + length w < 2 ^ 64)
-    (a : Point) (bs : List Float) (xs ys : List ℕ) (p : PointOf s v a bs xs ys) (b : Point) (cs : List Float) (zs ws : List ℕ) (q : PointOf s w b cs zs ws) where
-  first : Stands s (handedAs a bs xs ys) v
+module _ (s : Settings) (k : Configured (s .kind)) (v w : List Float) (few : length v + length w < 2 ^ 64) (a b : Stored) (p : PointOf s v a) (q : PointOf s w b) where
+  first : Stands s (handedIn a) v
   first = subst (λ h. Stands s h v) (sym (p .is)) (handed-stands s v (p .values))
 
-  second : Stands s (handedAs b cs zs ws) w
+  second : Stands s (handedIn b) w
   second = subst (λ h. Stands s h w) (sym (q .is)) (handed-stands s w (q .values))
 
-  count-first : countIn (a .figures) ≡ length v
-  count-first = count-is (a .figures) bs xs ys ∙ ap countOf (first .counts) ∙ PF.count-is (s .kind) (s .threshold) v
+  count-first : counted a ≡ length v
+  count-first = count-is a ∙ ap countOf (first .counts) ∙ PF.count-is (s .kind) (s .threshold) v
 
-  count-second : countIn (b .figures) ≡ length w
-  count-second = count-is (b .figures) cs zs ws ∙ ap countOf (second .counts) ∙ PF.count-is (s .kind) (s .threshold) w
+  count-second : counted b ≡ length w
+  count-second = count-is b ∙ ap countOf (second .counts) ∙ PF.count-is (s .kind) (s .threshold) w
 
-  joined : mergeCounts (sizeOf (s .kind)) (handedAs a bs xs ys .counts) (handedAs b cs zs ws .counts) ≡ kindCounts (s .kind) (s .threshold) (v ++ w)
+  joined : mergeCounts (sizeOf (s .kind)) (countsIn a) (countsIn b) ≡ kindCounts (s .kind) (s .threshold) (v ++ w)
   unfolding mergeHanded
-  joined = stands-merge s (handedAs a bs xs ys) (handedAs b cs zs ws) v w first second .counts
+  joined = stands-merge s (handedIn a) (handedIn b) v w first second .counts
 
   pub recorded-merged : (us vs : List ℕ) → hasRoom (kindCounts (s .kind) (s .threshold) (v ++ w)) us vs ≡ true
-      → AnswersFor s (merging (sizeOf (s .kind)) a bs xs ys b cs zs ws us vs) bs (v ++ w)
+      → AnswersFor s (merging (sizeOf (s .kind)) a b us vs) (v ++ w)
   recorded-merged us vs r =
-      merging-stands s a bs xs ys b cs zs ws v w k (p .shape) (q .shape) first second (omega (arith, few, count-first, count-second)) us vs
+      merging-stands s a b v w k (p .shape) (q .shape) first second (omega (arith, few, count-first, count-second)) us vs
       (ap (λ c. hasRoom c us vs) joined ∙ r)

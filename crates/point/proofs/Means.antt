@@ -18,10 +18,9 @@ use Rattle.exponential.specs.Runs as SR
 use Rattle.explicit.specs.declared.Head as BH
 use Rattle.explicit.specs.Series as B
 use Rattle.explicit.specs.Series.{mostCount, bucketsIn}
-use Rattle.point.specs.declared.Point.{Point}
 use Rattle.point.specs.declared.Figures.{Figures}
 use Rattle.point.specs.declared.Figures.the-variants.{Exponential, Explicit}
-use Rattle.point.specs.Handing.{countsAs, handedAs, exponentialPoint, explicitPoint, figuresAgree, pointAgrees, countIn, sameFigures, sizeFits, refusalBefore}
+use Rattle.point.specs.Handing.{Stored, storedIn, countsAs, countsIn, handedIn, exponentialPoint, explicitPoint, figuresAgree, pointAgrees, countIn, sameFigures, sizeFits, refusalBefore}
 
 -- ---- WHAT A SERIES HANDS OUT, by its two switches; the zero threshold is 0.0
 abbrev pub settingsOf : Kind → Bool → Bool → Settings
@@ -35,29 +34,32 @@ abbrev pub explicitIn : List Float → BH.Head → List ℕ → F.Figures
 explicitIn bs h xs = record { counts = explicitCounts bs (bucketsIn bs (h .count) xs); summary = B.summary h }
 
 module _ (k : Kind) (extremes sums : Bool) (bs : List Float) (xs ys : List ℕ) where
-  pub exponential-handed : (h : SH.Head) → handedAs (exponentialPoint h extremes sums) bs xs ys ≡ handedOut (settingsOf k extremes sums) (exponentialIn h xs ys)
+  pub exponential-handed : (h : SH.Head) → handedIn (storedIn (exponentialPoint h extremes sums) bs xs ys) ≡ handedOut (settingsOf k extremes sums) (exponentialIn h xs ys)
   exponential-handed h = refl
 
-  pub explicit-handed : (h : BH.Head) → handedAs (explicitPoint h extremes sums) bs xs ys ≡ handedOut (settingsOf k extremes sums) (explicitIn bs h xs)
+  pub explicit-handed : (h : BH.Head) → handedIn (storedIn (explicitPoint h extremes sums) bs xs ys) ≡ handedOut (settingsOf k extremes sums) (explicitIn bs h xs)
   explicit-handed h = refl
 
   -- of a series that holds the figures of a list, the point of the list
   module _ (vs : List Float) where
     pub exponential-list : (h : SH.Head) → exponentialIn h xs ys ≡ figuresOf (settingsOf k extremes sums) vs
-        → handedAs (exponentialPoint h extremes sums) bs xs ys ≡ handed (settingsOf k extremes sums) vs
+        → handedIn (storedIn (exponentialPoint h extremes sums) bs xs ys) ≡ handed (settingsOf k extremes sums) vs
     unfolding handed
     exponential-list h e = ap (handedOut (settingsOf k extremes sums)) e
 
     pub explicit-list : (h : BH.Head) → explicitIn bs h xs ≡ figuresOf (settingsOf k extremes sums) vs
-        → handedAs (explicitPoint h extremes sums) bs xs ys ≡ handed (settingsOf k extremes sums) vs
+        → handedIn (storedIn (explicitPoint h extremes sums) bs xs ys) ≡ handed (settingsOf k extremes sums) vs
     unfolding handed
     explicit-list h e = ap (handedOut (settingsOf k extremes sums)) e
 
 -- ---- AGREEMENT
 -- the level is one, and the counts of both rows are there: what points read as cannot say
-abbrev pub inShape : Figures → List ℕ → List ℕ → Bool
-inShape (Exponential c) xs ys = leb (c .level) finest and leb (c .pos .len) (length xs) and leb (c .neg .len) (length ys)
-inShape (Explicit n) xs ys = true
+abbrev pub figuresShaped : Figures → List ℕ → List ℕ → Bool
+figuresShaped (Exponential c) xs ys = leb (c .level) finest and leb (c .pos .len) (length xs) and leb (c .neg .len) (length ys)
+figuresShaped (Explicit n) xs ys = true
+
+abbrev pub inShape : Stored → Bool
+inShape x = figuresShaped (x .point .figures) (x .pos) (x .neg)
 
 -- the max_size could be configured, where the kind has one
 abbrev pub sizeFor : ℕ → Figures → Bool
@@ -79,23 +81,24 @@ and-assoc false b c = refl
 abbrev pub agreesRead : ℕ → Handed → Bool
 agreesRead size = handedAgrees size finest (lowestBin finest)
 
-module _ (size : ℕ) (bs : List Float) (xs ys : List ℕ) where
-  figures-is : (f : Figures) → figuresAgree size f bs xs ys ≡ (sizeFor size f and inShape f xs ys) and countsAgree size finest (lowestBin finest) (countsAs f bs xs ys)
-  unfolding agrees _and_
-  figures-is (Exponential c) =
-      regroup (sizePasses size) (leb (c .level) finest) (leb (c .pos .len) (length xs)) (leb (c .neg .len) (length ys)) (countsAgree size finest (lowestBin finest) (exponentialCounts (read c xs ys)))
-  figures-is (Explicit n) = refl
+figures-is : (size : ℕ) (f : Figures) (bs : List Float) (xs ys : List ℕ)
+    → figuresAgree size f bs xs ys ≡ (sizeFor size f and figuresShaped f xs ys) and countsAgree size finest (lowestBin finest) (countsAs f bs xs ys)
+unfolding agrees _and_
+figures-is size (Exponential c) bs xs ys =
+    regroup (sizePasses size) (leb (c .level) finest) (leb (c .pos .len) (length xs)) (leb (c .neg .len) (length ys)) (countsAgree size finest (lowestBin finest) (exponentialCounts (read c xs ys)))
+figures-is size (Explicit n) bs xs ys = refl
 
-  pub agrees-is : (p : Point) → pointAgrees size p bs xs ys ≡ (sizeFor size (p .figures) and inShape (p .figures) xs ys) and agreesRead size (handedAs p bs xs ys)
+module _ (size : ℕ) (x : Stored) where
+  pub agrees-is : pointAgrees size x ≡ (sizeFor size (x .point .figures) and inShape x) and agreesRead size (handedIn x)
   unfolding pointAgrees handedAgrees
-  agrees-is p =
-      ap (λ (b : Bool). b and extremesAgree (p .min) (p .max)) (figures-is (p .figures))
-      ∙ and-assoc (sizeFor size (p .figures) and inShape (p .figures) xs ys) (countsAgree size finest (lowestBin finest) (countsAs (p .figures) bs xs ys)) (extremesAgree (p .min) (p .max))
+  agrees-is =
+      ap (λ (b : Bool). b and extremesAgree (x .point .min) (x .point .max)) (figures-is size (x .point .figures) (x .bounds) (x .pos) (x .neg))
+      ∙ and-assoc (sizeFor size (x .point .figures) and inShape x) (countsAgree size finest (lowestBin finest) (countsIn x)) (extremesAgree (x .point .min) (x .point .max))
 
   -- of a point that is in shape
-  pub agrees-whole : (p : Point) → sizeFor size (p .figures) ≡ true → inShape (p .figures) xs ys ≡ true → pointAgrees size p bs xs ys ≡ agreesRead size (handedAs p bs xs ys)
+  pub agrees-whole : sizeFor size (x .point .figures) ≡ true → inShape x ≡ true → pointAgrees size x ≡ agreesRead size (handedIn x)
   unfolding _and_
-  agrees-whole p s w = agrees-is p ∙ (λ j. (s j and w j) and agreesRead size (handedAs p bs xs ys))
+  agrees-whole s w = agrees-is ∙ (λ j. (s j and w j) and agreesRead size (handedIn x))
 
 -- ---- THE REFUSALS OF A MERGE
 -- "A merge checks 1 unless both points are explicit"
@@ -140,9 +143,15 @@ second-size size (Exponential c) (Explicit m) h = refl
 second-size size (Explicit n) (Exponential d) h = h
 second-size size (Explicit n) (Explicit m) h = refl
 
-pub count-is : (f : Figures) (bs : List Float) (xs ys : List ℕ) → countIn f ≡ countOf (countsAs f bs xs ys)
-count-is (Exponential c) bs xs ys = refl
-count-is (Explicit n) bs xs ys = refl
+abbrev pub counted : Stored → ℕ
+counted x = countIn (x .point .figures)
+
+figures-count : (f : Figures) (bs : List Float) (xs ys : List ℕ) → countIn f ≡ countOf (countsAs f bs xs ys)
+figures-count (Exponential c) bs xs ys = refl
+figures-count (Explicit n) bs xs ys = refl
+
+pub count-is : (x : Stored) → counted x ≡ countOf (countsIn x)
+count-is x = figures-count (x .point .figures) (x .bounds) (x .pos) (x .neg)
 
 module _ (size : ℕ) (bs : List Float) (xs ys : List ℕ) (cs : List Float) (zs ws : List ℕ) where
   size-is : (f g : Figures) → sizeFits size f g ≡ sizeAsked size (countsAs f bs xs ys) (countsAs g cs zs ws)
@@ -158,17 +167,16 @@ module _ (size : ℕ) (bs : List Float) (xs ys : List ℕ) (cs : List Float) (zs
   kind-is (Explicit n) (Exponential d) = refl
   kind-is (Explicit n) (Explicit m) = refl
 
-  pub refusal-is : (a b : Point) → refusalBefore size a bs xs ys b cs zs ws
-      ≡ refusalRead size (inShape (a .figures) xs ys and inShape (b .figures) zs ws) (handedAs a bs xs ys) (handedAs b cs zs ws)
-  unfolding refusalBefore refusalRead mergeable
-  refusal-is a b =
-      let f = a .figures in
-      let g = b .figures in
-      let p = handedAs a bs xs ys in
-      let q = handedAs b cs zs ws in
-      let R : ℕ = pick (sameKind (p .counts) (q .counts) and Bool·beq (a .extremes) (b .extremes)) (pick (leb (countOf (p .counts) + countOf (q .counts)) mostCount) 0 9) 11 in
-      (λ j. pick (sizeFits size f g)
-      (pick (agrees-is size bs xs ys a j and agrees-is size cs zs ws b j)
-      (pick (kind-is f g j and Bool·beq (a .extremes) (b .extremes)) (pick (leb (count-is f bs xs ys j + count-is g cs zs ws j) mostCount) 0 9) 11) 8) 1)
-      ∙ gather (inShape f xs ys) (inShape g zs ws) (agreesRead size p) (agreesRead size q) R (sizeFits size f g) (sizeFor size f) (sizeFor size g) (first-size size f g) (second-size size f g)
-      ∙ ap (λ (s : Bool). pick s (pick ((inShape f xs ys and inShape g zs ws) and agreesRead size p and agreesRead size q) R 8) 1) (size-is f g)
+pub refusal-is : (size : ℕ) (x y : Stored) → refusalBefore size x y ≡ refusalRead size (inShape x and inShape y) (handedIn x) (handedIn y)
+unfolding refusalBefore refusalRead mergeable
+refusal-is size x y =
+    let f = x .point .figures in
+    let g = y .point .figures in
+    let p = handedIn x in
+    let q = handedIn y in
+    let R : ℕ = pick (sameKind (p .counts) (q .counts) and Bool·beq (p .extremes) (q .extremes)) (pick (leb (countOf (p .counts) + countOf (q .counts)) mostCount) 0 9) 11 in
+    (λ j. pick (sizeFits size f g)
+    (pick (agrees-is size x j and agrees-is size y j)
+    (pick (kind-is size (x .bounds) (x .pos) (x .neg) (y .bounds) (y .pos) (y .neg) f g j and Bool·beq (p .extremes) (q .extremes)) (pick (leb (count-is x j + count-is y j) mostCount) 0 9) 11) 8) 1)
+    ∙ gather (inShape x) (inShape y) (agreesRead size p) (agreesRead size q) R (sizeFits size f g) (sizeFor size f) (sizeFor size g) (first-size size f g) (second-size size f g)
+    ∙ ap (λ (s : Bool). pick s (pick ((inShape x and inShape y) and agreesRead size p and agreesRead size q) R 8) 1) (size-is size (x .bounds) (x .pos) (x .neg) (y .bounds) (y .pos) (y .neg) f g)

@@ -10,7 +10,6 @@ use lib.Dec.{eqb}
 use lib.ListN.{length}
 use lib.Seq.{length-take-le}
 use lib.IntN.{ℤ, pos}
-use lib.Ieee.{Float}
 use borrow.Author.Tests.{eq-eqb, ne-eqb}
 use Rattle.laws.specs.Pick.{pick}
 use Rattle.laws.proofs.Bools.{and-left}
@@ -23,9 +22,8 @@ use Rattle.rows.specs.declared.Row.{Row}
 use Rattle.exponential.specs.declared.Counts.{Counts}
 use Rattle.exponential.specs.Series.{rowIn}
 use Rattle.exponential.proofs.Facts as Facts
-use Rattle.point.specs.declared.Point.{Point}
 use Rattle.point.specs.declared.Figures.the-variants.{Exponential}
-use Rattle.point.specs.Handing.{figuresAgree, pointAgrees}
+use Rattle.point.specs.Handing.{Stored, figuresAgree, pointAgrees}
 use Rattle.point.specs.Signed.{scaleShown, offsetAnswer, offsetShown}
 use Rattle.point.proofs.Offsets.{offset-empty, offset-there}
 
@@ -47,31 +45,32 @@ shown level r l b =
 starts : (size low end : ℕ) (r : Row) (xs : List ℕ) → r .len ≤ length xs → RowOk size low end (rowIn r xs) → 0 < r .len → r .start < end
 starts size low end r xs l k p = omega (arith, k .below, length-take-le (r .len) xs l)
 
-module _ (size : ℕ) (p : Point) (bs : List Float) (xs ys : List ℕ) (c : Counts) (f : p .figures ≡ Exponential c) (a : pointAgrees size p bs xs ys ≡ true) where
-  known : Facts.Agreed size finest c xs ys
+module _ (size : ℕ) (x : Stored) (c : Counts) (f : x .point .figures ≡ Exponential c) (a : pointAgrees size x ≡ true) where
+  known : Facts.Agreed size finest c (x .pos) (x .neg)
   unfolding pointAgrees
   known =
-      Facts.agreed size finest c xs ys
-      (ap (λ h. figuresAgree size h bs xs ys) (sym f) ∙ and-left (figuresAgree size (p .figures) bs xs ys) (extremesAgree (p .min) (p .max)) a)
+      Facts.agreed size finest c (x .pos) (x .neg)
+      (ap (λ h. figuresAgree size h (x .bounds) (x .pos) (x .neg)) (sym f)
+      ∙ and-left (figuresAgree size (x .point .figures) (x .bounds) (x .pos) (x .neg)) (extremesAgree (x .point .min) (x .point .max)) a)
 
   level-is : finest - (finest - c .level) ≡ c .level
   level-is = omega (arith, known .level)
 
   -- THE SCALE, from -10 to 10
-  pub scale-there : scaleShown (p .figures) ≡ Is (scaleOf (c .level))
+  pub scale-there : scaleShown (x .point .figures) ≡ Is (scaleOf (c .level))
   scale-there = ap scaleShown f ∙ scale-is (c .level) (known .level)
 
   -- BOTH OFFSETS
-  pub pos-there : offsetShown false (p .figures) ≡ Is (offsetOf (c .level) (c .pos))
+  pub pos-there : offsetShown false (x .point .figures) ≡ Is (offsetOf (c .level) (c .pos))
   unfolding pick
   pos-there =
       ap (offsetShown false) f
       ∙ shown (c .level) (c .pos) (known .level)
-      (λ h. subst (λ (l : ℕ). c .pos .start < endBin l) level-is (starts size _ _ (c .pos) xs (known .posThere) (known .point .pos) h))
+      (λ h. subst (λ (l : ℕ). c .pos .start < endBin l) level-is (starts size _ _ (c .pos) (x .pos) (known .posThere) (known .point .pos) h))
 
-  pub neg-there : offsetShown true (p .figures) ≡ Is (offsetOf (c .level) (c .neg))
+  pub neg-there : offsetShown true (x .point .figures) ≡ Is (offsetOf (c .level) (c .neg))
   unfolding pick
   neg-there =
       ap (offsetShown true) f
       ∙ shown (c .level) (c .neg) (known .level)
-      (λ h. subst (λ (l : ℕ). c .neg .start < endBin l) level-is (starts size _ _ (c .neg) ys (known .negThere) (known .point .neg) h))
+      (λ h. subst (λ (l : ℕ). c .neg .start < endBin l) level-is (starts size _ _ (c .neg) (x .neg) (known .negThere) (known .point .neg) h))

@@ -5,7 +5,9 @@ use mathlib.Core.List.{List, []}
 use lib.Dec.{leb, eqb}
 use lib.ListN.{length, take}
 use lib.Ieee.{Float, binary64, add}
+use denote.Ref.{RefT, now}
 use Rattle.laws.specs.Pick.{pick, _and_}
+use Rattle.laws.specs.Said.{Said, refusal, success}
 use Rattle.index.specs.Bins.{finest}
 use Rattle.floats.specs.Answers.{shownOf, smallerOf, largerOf}
 use Rattle.floats.specs.Starts.{zeroFloat}
@@ -26,22 +28,39 @@ use Rattle.point.specs.declared.Made.the-variants.{Of, NoRoom}
 use Rattle.point.specs.declared.Answer.{Answer}
 use Rattle.point.specs.declared.Answer.the-variants.{Merged, Refused}
 
--- ---- a point with its bounds and rows
+-- ---- a point as it is stored
+
+-- a point with its bounds and the rows that hold its counts
+pub record Stored : Type 0 where
+  pub point : Point
+  pub bounds : List Float
+  pub pos : List ℕ
+  pub neg : List ℕ
+
+abbrev pub storedIn : Point → List Float → List ℕ → List ℕ → Stored
+storedIn p bs xs ys = record { point = p; bounds = bs; pos = xs; neg = ys }
+
+-- as a contract writes it: a point and three lent slices, at entry or at exit
+abbrev pub stored : Point → RefT (List Float) → RefT (List ℕ) → RefT (List ℕ) → Stored
+stored p bounds pos neg = storedIn p (now bounds) (now pos) (now neg)
 
 abbrev pub countsAs : Figures → List Float → List ℕ → List ℕ → F.Counts
 countsAs (Exponential c) bs xs ys = exponentialCounts (read c xs ys)
 countsAs (Explicit n) bs xs ys = explicitCounts bs (bucketsIn bs n xs)
 
--- a point holds no zero threshold: it is 0.0
-abbrev pub handedAs : Point → List Float → List ℕ → List ℕ → Handed
-handedAs p bs xs ys =
+abbrev pub countsIn : Stored → F.Counts
+countsIn x = countsAs (x .point .figures) (x .bounds) (x .pos) (x .neg)
+
+-- as it reads; a point holds no zero threshold: it is 0.0
+abbrev pub handedIn : Stored → Handed
+handedIn x =
     record {
-      counts = countsAs (p .figures) bs xs ys;
-      extremes = p .extremes;
+      counts = countsIn x;
+      extremes = x .point .extremes;
       threshold = zeroFloat;
-      min = p .min;
-      max = p .max;
-      sum = p .sum;
+      min = x .point .min;
+      max = x .point .max;
+      sum = x .point .sum;
     }
 
 -- ---- the point of a series: "with min/max off a point has neither, with the sum off it hands out 0.0"
@@ -75,8 +94,8 @@ abbrev pub figuresAgree : ℕ → Figures → List Float → List ℕ → List �
 figuresAgree size (Exponential c) bs xs ys = agrees size finest c xs ys
 figuresAgree size (Explicit n) bs xs ys = bucketsAgree bs (bucketsIn bs n xs)
 
-unfoldable pub pointAgrees : ℕ → Point → List Float → List ℕ → List ℕ → Bool
-pointAgrees size p bs xs ys = figuresAgree size (p .figures) bs xs ys and extremesAgree (p .min) (p .max)
+unfoldable pub pointAgrees : ℕ → Stored → Bool
+pointAgrees size x = figuresAgree size (x .point .figures) (x .bounds) (x .pos) (x .neg) and extremesAgree (x .point .min) (x .point .max)
 
 -- ---- merging
 
@@ -98,14 +117,14 @@ sameFigures (Explicit n) bs (Explicit m) cs = sameBounds bs cs
 abbrev pub sizeFits : ℕ → Figures → Figures → Bool
 sizeFits size f g = pick (isExplicit f) (pick (isExplicit g) true (sizePasses size)) (sizePasses size)
 
--- document 01's number, but for 10: 1 the size, 8 a point disagrees, 11 unlike kind, bounds or switch, 9 the count; 0 none
-unfoldable pub refusalBefore : ℕ → Point → List Float → List ℕ → List ℕ → Point → List Float → List ℕ → List ℕ → ℕ
-refusalBefore size a bs xs ys b cs zs ws =
-    pick (sizeFits size (a .figures) (b .figures))
-    (pick (pointAgrees size a bs xs ys and pointAgrees size b cs zs ws)
-    (pick (sameFigures (a .figures) bs (b .figures) cs and Bool·beq (a .extremes) (b .extremes))
-    (pick (leb (countIn (a .figures) + countIn (b .figures)) mostCount) 0 9)
-    11)
+-- "Merging: 1, 8, 11, 9, 10": the number but for 10; 1 the size, 8 a point disagrees, 11 unlike kind, bounds or switch, 9 the count; 0 none
+unfoldable pub refusalBefore : ℕ → Stored → Stored → ℕ
+refusalBefore size x y =
+    let f = x .point .figures in
+    let g = y .point .figures in
+    pick (sizeFits size f g)
+    (pick (pointAgrees size x and pointAgrees size y)
+    (pick (sameFigures f (x .bounds) g (y .bounds) and Bool·beq (x .point .extremes) (y .point .extremes)) (pick (leb (countIn f + countIn g) mostCount) 0 9) 11)
     8)
     1
 
@@ -151,11 +170,16 @@ laidOne k n xs m zs us =
 
 -- ---- the call
 
--- the smaller min and the larger max (equal: the first's), the sums added once; 10 where there is no room
-abbrev pub finished : Point → Point → Made → Answer
-finished a b NoRoom = Refused 10
+-- a merge's answer in document 01's words
+abbrev pub said : Answer → Said Point
+said (Refused n) = refusal n
+said (Merged p) = success p
+
+-- "takes the smaller min and larger max (equal: the first's), and adds the sums once"; 10 where there is no room
+abbrev pub finished : Point → Point → Made → Said Point
+finished a b NoRoom = refusal 10
 finished a b (Of f) =
-    Merged (record {
+    success (record {
       figures = f;
       extremes = a .extremes;
       min = smallerOf (a .min) (b .min);
@@ -163,21 +187,30 @@ finished a b (Of f) =
       sum = add binary64 (a .sum) (b .sum);
     })
 
+-- a merged point as it is stored: with the first's bounds, its counts in the lent rows
+abbrev pub storedAs : Said Point → List Float → List ℕ → List ℕ → Said Stored
+storedAs (refusal n) bs us vs = refusal n
+storedAs (success p) bs us vs = success (storedIn p bs us vs)
+
 -- the answer, and both lent rows afterwards
 pub record Outcome : Type 0 where
-  pub answer : Answer
+  pub answer : Said Stored
   pub pos : List ℕ
   pub neg : List ℕ
 
-abbrev pub outcome : Answer → List ℕ → List ℕ → Outcome
-outcome r us vs = record { answer = r; pos = us; neg = vs }
+abbrev pub ended : Said Point → List Float → List ℕ → List ℕ → Outcome
+ended r bs us vs = record { answer = storedAs r bs us vs; pos = us; neg = vs }
 
-abbrev pub ended : Point → Point → Over → Outcome
-ended a b o = outcome (finished a b (o .made)) (o .pos) (o .neg)
+-- as a contract writes it: the answer, the first's bounds and the two lent rows
+abbrev pub outcome : Answer → RefT (List Float) → RefT (List ℕ) → RefT (List ℕ) → Outcome
+outcome r bounds pos neg = ended (said r) (now bounds) (now pos) (now neg)
+
+abbrev pub concluded : Stored → Stored → Over → Outcome
+concluded x y o = ended (finished (x .point) (y .point) (o .made)) (x .bounds) (o .pos) (o .neg)
 
 -- refused with a number, all as it was; or the merged counts laid over the lent rows
-unfoldable pub merging : ℕ → Point → List Float → List ℕ → List ℕ → Point → List Float → List ℕ → List ℕ → List ℕ → List ℕ → Outcome
-merging size a bs xs ys b cs zs ws us vs =
-    pick (eqb (refusalBefore size a bs xs ys b cs zs ws) 0)
-    (ended a b (laidOver (mergeCounts size (countsAs (a .figures) bs xs ys) (countsAs (b .figures) cs zs ws)) us vs))
-    (outcome (Refused (refusalBefore size a bs xs ys b cs zs ws)) us vs)
+unfoldable pub merging : ℕ → Stored → Stored → List ℕ → List ℕ → Outcome
+merging size x y us vs =
+    pick (eqb (refusalBefore size x y) 0)
+    (concluded x y (laidOver (mergeCounts size (countsIn x) (countsIn y)) us vs))
+    (ended (refusal (refusalBefore size x y)) (x .bounds) us vs)

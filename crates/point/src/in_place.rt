@@ -4,7 +4,7 @@ ghost use Rattle.points.specs.Explicit.{bucketCount};
 ghost use Rattle.points.specs.Figures.{exponentialCounts};
 ghost use Rattle.merges.specs.Merges.{Agreeing, mergedPoint};
 ghost use Rattle.heads.specs.Heads.{Addable};
-ghost use Rattle.point.specs.Handing.{madeOver, laidOver, madeOne, laidOne, outcome, merging};
+ghost use Rattle.point.specs.Handing.{stored, madeOver, laidOver, madeOne, laidOne, outcome, merging};
 use crate::Answer;
 use crate::Figures;
 use crate::Made;
@@ -21,7 +21,9 @@ fn exponential_into(
     bneg: &[u64],
 ) -> Made
     requires { ⌜ Agreeing size c (now pos) (now neg) d (now bpos) (now bneg) ⌝ }
-    ensures { λ r. ⌜ madeOver r (now (pos .exit)) (now (neg .exit)) ≡ laidOver (exponentialCounts (mergedPoint size c (now (pos .entry)) (now (neg .entry)) d (now (bpos .entry)) (now (bneg .entry)))) (now (pos .entry)) (now (neg .entry)) ⌝ }
+    ensures { λ r. ⌜ madeOver r (now (pos .exit)) (now (neg .exit))
+        ≡ laidOver (exponentialCounts (mergedPoint size c (now (pos .entry)) (now (neg .entry)) d (now (bpos .entry)) (now (bneg .entry))))
+        (now (pos .entry)) (now (neg .entry)) ⌝ }
 {
     let to = merges::plan_of(size, c, d);
     let cp = c.pos;
@@ -40,14 +42,16 @@ fn exponential_into(
 
 fn explicit_into(bounds: &[f64], n: u64, pos: &mut [u64], m: u64, bpos: &[u64]) -> Made
     requires { ⌜ Addable (bucketCount (now bounds)) n (now pos) m (now bpos) ⌝ }
-    ensures { λ r. ⌜ madeOne r (now (pos .exit)) ≡ laidOne (bucketCount (now (bounds .entry))) n (now (pos .entry)) m (now (bpos .entry)) (now (pos .entry)) ⌝ }
+    ensures { λ r. ⌜ madeOne r (now (pos .exit))
+        ≡ laidOne (bucketCount (now (bounds .entry))) n (now (pos .entry)) m (now (bpos .entry)) (now (pos .entry)) ⌝ }
 {
     let k = explicit::bucket_count(bounds);
     heads::add_into(pos, bpos, k);
     Made::Of(Figures::Explicit(n + m))
 }
 
-// As `merge` into the first's own rows: its refusals, 10 where they have no room for the merged point.
+// As `merge`, into the first's own rows: the merged point, or document 01's number with nothing changed: 1, 8, 11, 9, and 10 where these rows
+// have no room for it.
 pub fn merge_into(
     size: u32,
     a: Point,
@@ -59,7 +63,9 @@ pub fn merge_into(
     bpos: &[u64],
     bneg: &[u64],
 ) -> Answer
-    ensures { λ r. ⌜ outcome r (now (pos .exit)) (now (neg .exit)) ≡ merging size a (now (abounds .entry)) (now (pos .entry)) (now (neg .entry)) b (now (bbounds .entry)) (now (bpos .entry)) (now (bneg .entry)) (now (pos .entry)) (now (neg .entry)) ⌝ }
+    ensures { λ r. ⌜ outcome r (abounds .entry) (pos .exit) (neg .exit)
+        ≡ merging size (stored a (abounds .entry) (pos .entry) (neg .entry)) (stored b (bbounds .entry) (bpos .entry) (bneg .entry))
+        (now (pos .entry)) (now (neg .entry)) ⌝ }
 {
     let no = crate::refusal(size, a, abounds, pos, neg, b, bbounds, bpos, bneg);
     if no != 0 {

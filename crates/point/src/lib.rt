@@ -7,7 +7,9 @@ ghost use Prim.Native.Nat.{_+_, _-_, _<_};
 ghost use Rattle.points.specs.Handed.{extremesAgree};
 ghost use Rattle.laws.specs.Pick.{_and_};
 ghost use lib.Ieee.Scale.{finite};
-ghost use Rattle.point.specs.Handing.{shownSum, exponentialPoint, explicitPoint, figuresAgree, pointAgrees, isExplicit, countIn, sameFigures, sizeFits, refusalBefore, madeOver, laidOver, madeOne, laidOne, finished, outcome, merging};
+ghost use Rattle.point.specs.Handing.{stored, shownSum, exponentialPoint, explicitPoint, figuresAgree, pointAgrees};
+ghost use Rattle.point.specs.Handing.{isExplicit, countIn, sameFigures, sizeFits, refusalBefore};
+ghost use Rattle.point.specs.Handing.{madeOver, laidOver, madeOne, laidOne, said, finished, outcome, merging};
 ghost use lib.Dec.{leb};
 ghost use mathlib.Core.Bool.{Bool·beq};
 ghost use Rattle.points.specs.Explicit.{bucketCount};
@@ -16,8 +18,8 @@ ghost use Rattle.heads.specs.Heads.{Addable};
 ghost use Rattle.merges.specs.Merges.{Agreeing, mergedPoint};
 ghost use Rattle.explicit.specs.Series.{mostCount};
 ghost use Rattle.exponential.specs.Series.{sizePasses};
-use floats::Extreme;
 use exponential::Counts;
+use floats::Extreme;
 
 // The counts of either kind; the case is the kind's tag.
 pub enum Figures {
@@ -25,6 +27,7 @@ pub enum Figures {
     Explicit(u64),
 }
 
+// A point; its bounds and its rows of counts lie beside it.
 pub struct Point {
     pub figures: Figures,
     pub extremes: bool,
@@ -44,6 +47,7 @@ fn shown_sum(on: bool, sum: f64) -> f64
     0.0
 }
 
+// The point that a series of the exponential kind hands out, by its two switches; never refused.
 pub fn exponential_point(head: exponential::Head, extremes: bool, sums: bool) -> Point
     ensures { λ r. ⌜ r ≡ exponentialPoint head extremes sums ⌝ }
 {
@@ -67,6 +71,7 @@ fn count_out(head: explicit::Head) -> u64
     head.count
 }
 
+// The point that a series of the explicit kind hands out, by its two switches; never refused.
 pub fn explicit_point(head: explicit::Head, extremes: bool, sums: bool) -> Point
     ensures { λ r. ⌜ r ≡ explicitPoint head extremes sums ⌝ }
 {
@@ -118,9 +123,9 @@ fn figures_agree(size: usize, f: Figures, bounds: &[f64], pos: &[u64], neg: &[u6
     }
 }
 
-// A point agrees with itself, under a max_size.
+// Whether a point agrees with itself under a max_size, as number 8 asks; never refused.
 pub fn point_agrees(size: usize, p: Point, bounds: &[f64], pos: &[u64], neg: &[u64]) -> bool
-    ensures { λ r. ⌜ r ≡ pointAgrees size p (now (bounds .entry)) (now (pos .entry)) (now (neg .entry)) ⌝ }
+    ensures { λ r. ⌜ r ≡ pointAgrees size (stored p (bounds .entry) (pos .entry) (neg .entry)) ⌝ }
 {
     let f = p.figures;
     let min = p.min;
@@ -216,7 +221,8 @@ fn refusal(
     bpos: &[u64],
     bneg: &[u64],
 ) -> u8
-    ensures { λ r. ⌜ r ≡ refusalBefore size a (now (abounds .entry)) (now (apos .entry)) (now (aneg .entry)) b (now (bbounds .entry)) (now (bpos .entry)) (now (bneg .entry)) ⌝ }
+    ensures { λ r. ⌜ r ≡ refusalBefore size (stored a (abounds .entry) (apos .entry) (aneg .entry))
+        (stored b (bbounds .entry) (bpos .entry) (bneg .entry)) ⌝ }
 {
     let f = a.figures;
     let g = b.figures;
@@ -249,6 +255,7 @@ pub enum Made {
     NoRoom,
 }
 
+// What a merge answers: the merged point, or document 01's number.
 pub enum Answer {
     Merged(Point),
     Refused(u8),
@@ -266,7 +273,9 @@ fn merge_exponential(
     neg: &mut [u64],
 ) -> Made
     requires { ⌜ Agreeing size c (now apos) (now aneg) d (now bpos) (now bneg) ⌝ }
-    ensures { λ r. ⌜ madeOver r (now (pos .exit)) (now (neg .exit)) ≡ laidOver (exponentialCounts (mergedPoint size c (now (apos .entry)) (now (aneg .entry)) d (now (bpos .entry)) (now (bneg .entry)))) (now (pos .entry)) (now (neg .entry)) ⌝ }
+    ensures { λ r. ⌜ madeOver r (now (pos .exit)) (now (neg .exit))
+        ≡ laidOver (exponentialCounts (mergedPoint size c (now (apos .entry)) (now (aneg .entry)) d (now (bpos .entry)) (now (bneg .entry))))
+        (now (pos .entry)) (now (neg .entry)) ⌝ }
 {
     let to = merges::plan_of(size, c, d);
     let cp = c.pos;
@@ -292,7 +301,8 @@ fn merge_explicit(
     pos: &mut [u64],
 ) -> Made
     requires { ⌜ Addable (bucketCount (now bounds)) n (now apos) m (now bpos) ⌝ }
-    ensures { λ r. ⌜ madeOne r (now (pos .exit)) ≡ laidOne (bucketCount (now (bounds .entry))) n (now (apos .entry)) m (now (bpos .entry)) (now (pos .entry)) ⌝ }
+    ensures { λ r. ⌜ madeOne r (now (pos .exit))
+        ≡ laidOne (bucketCount (now (bounds .entry))) n (now (apos .entry)) m (now (bpos .entry)) (now (pos .entry)) ⌝ }
 {
     let k = explicit::bucket_count(bounds);
     if pos.len() < k {
@@ -303,7 +313,7 @@ fn merge_explicit(
 }
 
 fn finish(a: Point, b: Point, made: Made) -> Answer
-    ensures { λ r. ⌜ r ≡ finished a b made ⌝ }
+    ensures { λ r. ⌜ said r ≡ finished a b made ⌝ }
 {
     match made {
         Made::NoRoom => Answer::Refused(10),
@@ -325,7 +335,8 @@ fn finish(a: Point, b: Point, made: Made) -> Answer
     }
 }
 
-// Two points merged into lent rows, or refused with document 01's number.
+// Two points merged into lent rows: the merged point, which has the first's bounds, or document 01's number with nothing changed: 1 max_size,
+// 8 a point disagrees, 11 unlike kind, bounds or switch, 9 the count would pass 2^64 - 1, 10 the lent rows are too short.
 pub fn merge(
     size: u32,
     a: Point,
@@ -339,7 +350,9 @@ pub fn merge(
     pos: &mut [u64],
     neg: &mut [u64],
 ) -> Answer
-    ensures { λ r. ⌜ outcome r (now (pos .exit)) (now (neg .exit)) ≡ merging size a (now (abounds .entry)) (now (apos .entry)) (now (aneg .entry)) b (now (bbounds .entry)) (now (bpos .entry)) (now (bneg .entry)) (now (pos .entry)) (now (neg .entry)) ⌝ }
+    ensures { λ r. ⌜ outcome r (abounds .entry) (pos .exit) (neg .exit)
+        ≡ merging size (stored a (abounds .entry) (apos .entry) (aneg .entry)) (stored b (bbounds .entry) (bpos .entry) (bneg .entry))
+        (now (pos .entry)) (now (neg .entry)) ⌝ }
 {
     let no = refusal(size, a, abounds, apos, aneg, b, bbounds, bpos, bneg);
     if no != 0 {

@@ -3,11 +3,11 @@ ghost use mathlib.Core.Path.{_≡_};
 ghost use Rattle.laws.specs.Pick.{pick};
 ghost use Rattle.floats.specs.Answers.{bitsOf};
 ghost use Rattle.point.specs.Signed.{scaleShown, offsetAnswer, offsetShown};
+use exponential::Counts;
 use index::signed::Integer;
 use rows::Row;
-use exponential::Counts;
 
-// The scale; none of a point of the explicit kind.
+// The scale; out of range for a point of the explicit kind, which has none.
 pub fn scale(p: crate::Point) -> Integer
     ensures { λ r. ⌜ r ≡ scaleShown (p .figures) ⌝ }
 {
@@ -37,7 +37,7 @@ fn row_of(c: Counts, negative: bool) -> Row
     c.pos
 }
 
-// The offset of the positive or the negative row; none of a point of the explicit kind.
+// The offset of the positive or the negative row, 0 of an empty one; out of range for a point of the explicit kind.
 pub fn offset(p: crate::Point, negative: bool) -> Integer
     ensures { λ r. ⌜ r ≡ offsetShown negative (p .figures) ⌝ }
 {
@@ -51,7 +51,7 @@ pub fn offset(p: crate::Point, negative: bool) -> Integer
     }
 }
 
-// The bits of the sum: 7FF8000000000000 for every NaN.
+// The bits of the sum, 7FF8000000000000 for every NaN; never refused.
 pub fn sum_bits(p: crate::Point) -> u64
     ensures { λ r. ⌜ r ≡ bitsOf (p .sum) ⌝ }
 {

@@ -1,7 +1,7 @@
 use Prim.Native.Nat.{_-_}
 use mathlib.Core.Path.{sym, ap, _∙_}
 use lib.Ieee.{binary64, add}
-use Rattle.point.specs.declared.Answer.the-variants.{Merged}
+use Rattle.laws.specs.Said.{success}
 use Rattle.point.specs.Handing.{finished}
 use borrow.Author.Needs.{needs}
 use Rattle.point.proofs.finish.Statement.{statement}
@@ -27,7 +27,7 @@ returns-2 c =
     let l = c .before .before in
     let m = l .before .before .before in
     let a = m .before .before .args in
-    (λ j. Merged (record { figures = m .made .given .0 .0; extremes = a .a .extremes; min = l .before .smaller .ensures j; max = l .larger .ensures j; sum = add binary64 (a .a .sum) (a .b .sum) }))
+    (λ j. success (record { figures = m .made .given .0 .0; extremes = a .a .extremes; min = l .before .smaller .ensures j; max = l .larger .ensures j; sum = add binary64 (a .a .sum) (a .b .sum) }))
     ∙ sym (ap (finished (a .a) (a .b)) (m .made .given .1))
 
 pub finish-spec : {M : Type 1} → statement M

@@ -1,11 +1,17 @@
 use Prim.Native.Nat.{_-_}
 use mathlib.Core.Path.{sym, _∙_}
-use denote.Ref.{now}
+use Rattle.point.specs.Handing.{Stored, stored}
 use Rattle.exponential.proofs.Facts.{not-true, not-false}
 use Rattle.point.proofs.Calls as calls
 use borrow.Author.Needs.{needs}
 use Rattle.point.proofs.refusal.Statement.{statement}
 use Rattle.point.proofs.refusal.Tie as tie
+
+abbrev first : tie.Start → Stored
+first s = stored (s .args .a) (s .args .abounds) (s .args .apos) (s .args .aneg)
+
+abbrev second : tie.Start → Stored
+second s = stored (s .args .b) (s .args .bbounds) (s .args .bpos) (s .args .bneg)
 
 abbrev start : tie.Else1 → tie.Start
 start e = e .before .before .before .before .before .before .before .before
@@ -15,8 +21,8 @@ size-fits-requires c κs = search needs
 
 returns : tie.Need-returns
 returns c =
-    let a = c .before .before .before .before .before .before .before .before .args in
-    calls.bad-size (a .size) (a .a) (now (a .abounds)) (now (a .apos)) (now (a .aneg)) (a .b) (now (a .bbounds)) (now (a .bpos)) (now (a .bneg)) (sym (c .before .size-fits .ensures) ∙ not-true _ (c .if1 .taken))
+    let t = c .before .before .before .before .before .before .before .before in
+    calls.bad-size (t .args .size) (first t) (second t) (sym (c .before .size-fits .ensures) ∙ not-true _ (c .if1 .taken))
 
 point-agrees-requires : tie.Need-point-agrees-requires
 point-agrees-requires c κs = search needs
@@ -24,8 +30,8 @@ point-agrees-requires c κs = search needs
 returns-2 : tie.Need-returns-2
 returns-2 c =
     let e1 = c .before .before in
-    let a = start e1 .args in
-    calls.bad-first (a .size) (a .a) (now (a .abounds)) (now (a .apos)) (now (a .aneg)) (a .b) (now (a .bbounds)) (now (a .bpos)) (now (a .bneg)) (sym (e1 .before .size-fits .ensures) ∙ not-false _ (e1 .if1 .left)) (sym (c .before .point-agrees .ensures) ∙ not-true _ (c .if2 .taken))
+    let t = start e1 in
+    calls.bad-first (t .args .size) (first t) (second t) (sym (e1 .before .size-fits .ensures) ∙ not-false _ (e1 .if1 .left)) (sym (c .before .point-agrees .ensures) ∙ not-true _ (c .if2 .taken))
 
 point-agrees-requires-2 : tie.Need-point-agrees-requires-2
 point-agrees-requires-2 c κs = search needs
@@ -34,8 +40,8 @@ returns-3 : tie.Need-returns-3
 returns-3 c =
     let e2 = c .before .before in
     let e1 = e2 .before .before in
-    let a = start e1 .args in
-    calls.bad-second (a .size) (a .a) (now (a .abounds)) (now (a .apos)) (now (a .aneg)) (a .b) (now (a .bbounds)) (now (a .bpos)) (now (a .bneg)) (sym (e1 .before .size-fits .ensures) ∙ not-false _ (e1 .if1 .left)) (sym (e2 .before .point-agrees .ensures) ∙ not-false _ (e2 .if2 .left)) (sym (c .before .point-agrees2 .ensures) ∙ not-true _ (c .if3 .taken))
+    let t = start e1 in
+    calls.bad-second (t .args .size) (first t) (second t) (sym (e1 .before .size-fits .ensures) ∙ not-false _ (e1 .if1 .left)) (sym (e2 .before .point-agrees .ensures) ∙ not-false _ (e2 .if2 .left)) (sym (c .before .point-agrees2 .ensures) ∙ not-true _ (c .if3 .taken))
 
 same-kind-requires : tie.Need-same-kind-requires
 same-kind-requires c κs = search needs
@@ -45,8 +51,8 @@ returns-4 c =
     let e3 = c .before .before in
     let e2 = e3 .before .before in
     let e1 = e2 .before .before in
-    let a = start e1 .args in
-    calls.unlike (a .size) (a .a) (now (a .abounds)) (now (a .apos)) (now (a .aneg)) (a .b) (now (a .bbounds)) (now (a .bpos)) (now (a .bneg)) (sym (e1 .before .size-fits .ensures) ∙ not-false _ (e1 .if1 .left)) (sym (e2 .before .point-agrees .ensures) ∙ not-false _ (e2 .if2 .left)) (sym (e3 .before .point-agrees2 .ensures) ∙ not-false _ (e3 .if3 .left)) (sym (c .before .same-kind .ensures) ∙ not-true _ (c .if4 .taken))
+    let t = start e1 in
+    calls.unlike (t .args .size) (first t) (second t) (sym (e1 .before .size-fits .ensures) ∙ not-false _ (e1 .if1 .left)) (sym (e2 .before .point-agrees .ensures) ∙ not-false _ (e2 .if2 .left)) (sym (e3 .before .point-agrees2 .ensures) ∙ not-false _ (e3 .if3 .left)) (sym (c .before .same-kind .ensures) ∙ not-true _ (c .if4 .taken))
 
 same-switch-requires : tie.Need-same-switch-requires
 same-switch-requires c κs = search needs
@@ -57,8 +63,8 @@ returns-5 c =
     let e3 = e4 .before .before in
     let e2 = e3 .before .before in
     let e1 = e2 .before .before in
-    let a = start e1 .args in
-    calls.unlike-switch (a .size) (a .a) (now (a .abounds)) (now (a .apos)) (now (a .aneg)) (a .b) (now (a .bbounds)) (now (a .bpos)) (now (a .bneg)) (sym (e1 .before .size-fits .ensures) ∙ not-false _ (e1 .if1 .left)) (sym (e2 .before .point-agrees .ensures) ∙ not-false _ (e2 .if2 .left)) (sym (e3 .before .point-agrees2 .ensures) ∙ not-false _ (e3 .if3 .left)) (sym (e4 .before .same-kind .ensures) ∙ not-false _ (e4 .if4 .left)) (sym (c .before .same-switch .ensures) ∙ not-true _ (c .if5 .taken))
+    let t = start e1 in
+    calls.unlike-switch (t .args .size) (first t) (second t) (sym (e1 .before .size-fits .ensures) ∙ not-false _ (e1 .if1 .left)) (sym (e2 .before .point-agrees .ensures) ∙ not-false _ (e2 .if2 .left)) (sym (e3 .before .point-agrees2 .ensures) ∙ not-false _ (e3 .if3 .left)) (sym (e4 .before .same-kind .ensures) ∙ not-false _ (e4 .if4 .left)) (sym (c .before .same-switch .ensures) ∙ not-true _ (c .if5 .taken))
 
 counts-fit-requires : tie.Need-counts-fit-requires
 counts-fit-requires c κs = search needs
@@ -70,8 +76,8 @@ returns-6 c =
     let e3 = e4 .before .before in
     let e2 = e3 .before .before in
     let e1 = e2 .before .before in
-    let a = start e1 .args in
-    calls.too-many (a .size) (a .a) (now (a .abounds)) (now (a .apos)) (now (a .aneg)) (a .b) (now (a .bbounds)) (now (a .bpos)) (now (a .bneg)) (sym (e1 .before .size-fits .ensures) ∙ not-false _ (e1 .if1 .left)) (sym (e2 .before .point-agrees .ensures) ∙ not-false _ (e2 .if2 .left)) (sym (e3 .before .point-agrees2 .ensures) ∙ not-false _ (e3 .if3 .left)) (sym (e4 .before .same-kind .ensures) ∙ not-false _ (e4 .if4 .left)) (sym (e5 .before .same-switch .ensures) ∙ not-false _ (e5 .if5 .left)) (sym (c .before .counts-fit .ensures) ∙ not-true _ (c .if6 .taken))
+    let t = start e1 in
+    calls.too-many (t .args .size) (first t) (second t) (sym (e1 .before .size-fits .ensures) ∙ not-false _ (e1 .if1 .left)) (sym (e2 .before .point-agrees .ensures) ∙ not-false _ (e2 .if2 .left)) (sym (e3 .before .point-agrees2 .ensures) ∙ not-false _ (e3 .if3 .left)) (sym (e4 .before .same-kind .ensures) ∙ not-false _ (e4 .if4 .left)) (sym (e5 .before .same-switch .ensures) ∙ not-false _ (e5 .if5 .left)) (sym (c .before .counts-fit .ensures) ∙ not-true _ (c .if6 .taken))
 
 returns-7 : tie.Need-returns-7
 returns-7 c =
@@ -80,8 +86,8 @@ returns-7 c =
     let e3 = e4 .before .before in
     let e2 = e3 .before .before in
     let e1 = e2 .before .before in
-    let a = start e1 .args in
-    calls.none (a .size) (a .a) (now (a .abounds)) (now (a .apos)) (now (a .aneg)) (a .b) (now (a .bbounds)) (now (a .bpos)) (now (a .bneg)) (sym (e1 .before .size-fits .ensures) ∙ not-false _ (e1 .if1 .left)) (sym (e2 .before .point-agrees .ensures) ∙ not-false _ (e2 .if2 .left)) (sym (e3 .before .point-agrees2 .ensures) ∙ not-false _ (e3 .if3 .left)) (sym (e4 .before .same-kind .ensures) ∙ not-false _ (e4 .if4 .left)) (sym (e5 .before .same-switch .ensures) ∙ not-false _ (e5 .if5 .left)) (sym (c .before .counts-fit .ensures) ∙ not-false _ (c .if6 .left))
+    let t = start e1 in
+    calls.none (t .args .size) (first t) (second t) (sym (e1 .before .size-fits .ensures) ∙ not-false _ (e1 .if1 .left)) (sym (e2 .before .point-agrees .ensures) ∙ not-false _ (e2 .if2 .left)) (sym (e3 .before .point-agrees2 .ensures) ∙ not-false _ (e3 .if3 .left)) (sym (e4 .before .same-kind .ensures) ∙ not-false _ (e4 .if4 .left)) (sym (e5 .before .same-switch .ensures) ∙ not-false _ (e5 .if5 .left)) (sym (c .before .counts-fit .ensures) ∙ not-false _ (c .if6 .left))
 
 pub refusal-spec : {M : Type 1} → statement M
 refusal-spec =

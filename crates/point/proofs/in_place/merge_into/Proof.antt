@@ -1,16 +1,22 @@
 use Prim.Native.Nat.{_-_}
 use mathlib.Core.Path.{_≡_, sym, _∙_}
 use denote.Ref.{now}
-use Rattle.point.specs.Handing.{refusalBefore}
+use Rattle.point.specs.Handing.{Stored, stored, refusalBefore, said}
 use Rattle.point.proofs.Calls as calls
 use borrow.Author.Needs.{needs}
 use Rattle.point.proofs.in_place.merge_into.Statement.{statement}
 use Rattle.point.proofs.in_place.merge_into.Tie as tie
 
+abbrev first : tie.Start → Stored
+first s = stored (s .args .a) (s .args .abounds) (s .args .pos) (s .args .neg)
+
+abbrev second : tie.Start → Stored
+second s = stored (s .args .b) (s .args .bbounds) (s .args .bpos) (s .args .bneg)
+
 abbrev start : tie.Else1 → tie.Start
 start e = e .before .before .before .before .before .before .before .before .before .before
 
-free : (e : tie.Else1) → refusalBefore (start e .args .size) (start e .args .a) (now (start e .args .abounds)) (now (start e .args .pos)) (now (start e .args .neg)) (start e .args .b) (now (start e .args .bbounds)) (now (start e .args .bpos)) (now (start e .args .bneg)) ≡ 0
+free : (e : tie.Else1) → refusalBefore (start e .args .size) (first (start e)) (second (start e)) ≡ 0
 free e = sym (e .before .refusal .ensures) ∙ e .if1 .left
 
 refusal-requires : tie.Need-refusal-requires
@@ -24,8 +30,9 @@ same-length-2 c = search needs
 
 returns : tie.Need-returns
 returns c =
-    let a = c .before .before .before .before .before .before .before .before .before .before .args in
-    calls.refused-law (a .size) (a .a) (now (a .abounds)) (now (a .pos)) (now (a .neg)) (a .b) (now (a .bbounds)) (now (a .bpos)) (now (a .bneg)) (now (a .pos)) (now (a .neg)) (c .before .refusal .result) (c .before .refusal .ensures) (c .if1 .taken)
+    let t = c .before .before .before .before .before .before .before .before .before .before in
+    let a = t .args in
+    calls.refused-law (a .size) (first t) (second t) (now (a .pos)) (now (a .neg)) (c .before .refusal .result) (c .before .refusal .ensures) (c .if1 .taken)
 
 enum-known-f : tie.Need-enum-known-f
 enum-known-f c = search needs
@@ -38,8 +45,8 @@ exponential-into-requires c κs =
     let g = c .before .before .before in
     let f = g .before .before .before in
     let e = f .before .before in
-    let a = start e .args in
-    calls.agreeing (a .size) (a .a) (now (a .abounds)) (now (a .pos)) (now (a .neg)) (a .b) (now (a .bbounds)) (now (a .bpos)) (now (a .bneg)) (free e) (f .f .given .0 .0) (g .g .given .0 .0) (f .f .given .1) (g .g .given .1)
+    let t = start e in
+    calls.agreeing (t .args .size) (first t) (second t) (free e) (f .f .given .0 .0) (g .g .given .0 .0) (f .f .given .1) (g .g .given .1)
 
 finish-requires : tie.Need-finish-requires
 finish-requires c κs = search needs
@@ -61,8 +68,8 @@ explicit-into-requires c κs =
     let g = c .before .before in
     let f = g .before .before .before in
     let e = f .before .before in
-    let a = start e .args in
-    calls.can-add (a .size) (a .a) (now (a .abounds)) (now (a .pos)) (now (a .neg)) (a .b) (now (a .bbounds)) (now (a .bpos)) (now (a .bneg)) (free e) (f .f2 .given .0 .0) (g .g4 .given .0 .0) (f .f2 .given .1) (g .g4 .given .1)
+    let t = start e in
+    calls.can-add (t .args .size) (first t) (second t) (free e) (f .f2 .given .0 .0) (g .g4 .given .0 .0) (f .f2 .given .1) (g .g4 .given .1)
 
 finish-requires-2 : tie.Need-finish-requires-2
 finish-requires-2 c κs = search needs
@@ -79,8 +86,9 @@ returns-2 c =
     let g = s .before .before .before .before in
     let f = g .before .before .before in
     let e = f .before .before in
-    let a = start e .args in
-    calls.exponential-law (a .size) (a .a) (now (a .abounds)) (now (a .pos)) (now (a .neg)) (a .b) (now (a .bbounds)) (now (a .bpos)) (now (a .bneg)) (now (a .pos)) (now (a .neg)) (f .f .given .0 .0) (g .g .given .0 .0) (s .exponential-into .result) (c .finish .result) (s .exponential-into .last .1 .1 .0) (s .exponential-into .last .1 .1 .1 .0)
+    let t = start e in
+    let a = t .args in
+    calls.exponential-law (a .size) (first t) (second t) (now (a .pos)) (now (a .neg)) (f .f .given .0 .0) (g .g .given .0 .0) (s .exponential-into .result) (said (c .finish .result)) (s .exponential-into .last .1 .1 .0) (s .exponential-into .last .1 .1 .1 .0)
     (free e) (f .f .given .1) (g .g .given .1) (s .exponential-into .ensures) (c .finish .ensures)
 
 same-length-5 : tie.Need-same-length-5
@@ -94,8 +102,8 @@ returns-3 c =
     let g = c .before in
     let f = g .before .before .before in
     let e = f .before .before in
-    let a = start e .args in
-    absurd (calls.not-mixed (a .size) (a .a) (now (a .abounds)) (now (a .pos)) (now (a .neg)) (a .b) (now (a .bbounds)) (now (a .bpos)) (now (a .bneg)) (free e) (f .f .given .0 .0) (g .g2 .given .0 .0) (f .f .given .1) (g .g2 .given .1))
+    let t = start e in
+    absurd (calls.not-mixed (t .args .size) (first t) (second t) (free e) (f .f .given .0 .0) (g .g2 .given .0 .0) (f .f .given .1) (g .g2 .given .1))
 
 same-length-7 : tie.Need-same-length-7
 same-length-7 c = search needs
@@ -108,8 +116,8 @@ returns-4 c =
     let g = c .before in
     let f = g .before .before .before in
     let e = f .before .before in
-    let a = start e .args in
-    absurd (calls.not-mixed-2 (a .size) (a .a) (now (a .abounds)) (now (a .pos)) (now (a .neg)) (a .b) (now (a .bbounds)) (now (a .bpos)) (now (a .bneg)) (free e) (f .f2 .given .0 .0) (g .g3 .given .0 .0) (f .f2 .given .1) (g .g3 .given .1))
+    let t = start e in
+    absurd (calls.not-mixed-2 (t .args .size) (first t) (second t) (free e) (f .f2 .given .0 .0) (g .g3 .given .0 .0) (f .f2 .given .1) (g .g3 .given .1))
 
 same-length-9 : tie.Need-same-length-9
 same-length-9 c = search needs
@@ -123,8 +131,9 @@ returns-5 c =
     let g = s .before .before .before in
     let f = g .before .before .before in
     let e = f .before .before in
-    let a = start e .args in
-    calls.explicit-law (a .size) (a .a) (now (a .abounds)) (now (a .pos)) (now (a .neg)) (a .b) (now (a .bbounds)) (now (a .bpos)) (now (a .bneg)) (now (a .pos)) (now (a .neg)) (f .f2 .given .0 .0) (g .g4 .given .0 .0) (s .explicit-into .result) (c .finish2 .result) (s .explicit-into .last .1 .1 .0)
+    let t = start e in
+    let a = t .args in
+    calls.explicit-law (a .size) (first t) (second t) (now (a .pos)) (now (a .neg)) (f .f2 .given .0 .0) (g .g4 .given .0 .0) (s .explicit-into .result) (said (c .finish2 .result)) (s .explicit-into .last .1 .1 .0)
     (free e) (f .f2 .given .1) (g .g4 .given .1) (s .explicit-into .ensures) (c .finish2 .ensures)
 
 pub merge-into-spec : {M : Type 1} → statement M

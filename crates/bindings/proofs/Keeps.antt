@@ -17,9 +17,8 @@ use Rattle.tally.specs.Map.{Config, bind, release, start, upfront, act, Agrees}
 use Rattle.tally.proofs.Agree.{step-agrees}
 use Rattle.sets.specs.All.{allb}
 use Rattle.sets.specs.Rows.{size, setOf, rowOf}
-use Rattle.sets.specs.Sorted.{mostAttributes}
+use Rattle.sets.specs.Sorted.{mostAttributes, Small}
 use Rattle.sets.proofs.CallRow.{row-set, row-keyed, row-short}
-use Rattle.sets.proofs.Exact.{Small}
 use Rattle.sets.proofs.Keyed.{keyed-sound}
 use Rattle.directory.specs.Calls.{Kept, overRow, located, scan, mostSets, accepts, storesSuffice}
 use Rattle.directory.specs.View.{Stores, Laid, slotsb, agreesb, view}

@@ -12,8 +12,7 @@ use lib.ListN.{length, getD, set, length-set}
 use Rattle.laws.proofs.Cases.{true-not-false, and-true}
 use Rattle.tally.specs.Sets.{Set, canonical}
 use Rattle.sets.specs.Rows.{rowOf}
-use Rattle.sets.specs.Sorted.{mostAttributes}
-use Rattle.sets.proofs.Exact.{Small}
+use Rattle.sets.specs.Sorted.{mostAttributes, Small}
 use Rattle.directory.specs.Calls.{Kept, overRow, located, scan, mostSets, accepts, fewKeys, storesSuffice}
 use Rattle.directory.specs.View.{Stores, agreesb}
 use Rattle.directory.specs.declared.Directory.{Directory}

@@ -61,7 +61,7 @@ unfolding boundsPass noNan rising _and_ isNan lt ofBits
 valid = refl
 
 -- the third value is a NaN
-example : ran histograms config (model histograms config valid)
+example : ran histograms (model histograms config)
     (measure five A ∷ measure seven A ∷ measure (f 0x7ff8_0000_0000_0000) A ∷ collect (room 2) ∷ collect (room 3) ∷ measure less A ∷ collect (room 3) ∷ [])
     ≡ done ∷ done ∷ refuse 6 ∷ refuse 10 ∷ listed ((A, first) ∷ []) ∷ done ∷ listed ((A, second) ∷ []) ∷ []
 unfolding upfront act place measureAt recordBucket bucketOf bucketsOf bucketsAgree boundsPass noNan rising _and_ isNan lt add round fits ofBits pick

@@ -46,7 +46,7 @@ config =
     record { settings = record { kind = exponential 4 20; extremes = true; sums = true; threshold = zeroFloat }; limit = 1; filter = none }
 
 -- zeros of both signs raise the zero count and take no row; the one held first stays
-zeros : ran histograms config (model histograms config refl)
+zeros : ran histograms (model histograms config)
     (measure (f 0x8000_0000_0000_0000) A ∷ measure zeroFloat A ∷ measure (f 0x7ff0_0000_0000_0000) A ∷ collect (room 0 0) ∷ [])
     ≡ done ∷ done ∷ refuse 6
     ∷ listed ((A, point (record { d = 0; pos = no-row; neg = no-row; zeros = 2; total = 2 }) (f 0x8000_0000_0000_0000) (f 0x8000_0000_0000_0000) zeroFloat) ∷ []) ∷ []

@@ -1,6 +1,5 @@
 pub mod Recorded
 pub mod Merges
 pub mod Steady
-pub mod Demand
 pub mod Example
 pub mod Exponential

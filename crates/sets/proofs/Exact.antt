@@ -8,6 +8,7 @@ use lib.Seq.{getD-set-other, getD-set-same, getD-append-add, getD-drop, length-t
 use Rattle.tally.specs.Sets.{Set}
 use Rattle.sets.specs.Inserted.{inserted}
 use Rattle.sets.specs.Rows.{pair, size, span, setOf, wordOf, rowOf, Clean}
+use Rattle.sets.specs.Sorted.{Small}
 use Rattle.sets.proofs.Spans.{span-take, length-inserted, span-whole, span-length, span-zeros, span-split}
 
 -- a word is that of its pair
@@ -40,11 +41,6 @@ row-own row c h =
     ∙ ap (λ r. r ++ (n ∷ [])) (sym y)
     ∙ sym x
     ∙ w
-
--- key and value are below 2 ^ 32
-abbrev pub Small : Set → Type 0
-Small [] = Unit
-Small (a ∷ s) = ((a .0 < 4294967296) × (a .1 < 4294967296)) × Small s
 
 own-pair : (k v : ℕ) → k < 4294967296 → v < 4294967296 → _≡_ {A = ℕ × ℕ} ((k * 4294967296 + v) / 4294967296, (k * 4294967296 + v) % 4294967296) (k, v)
 own-pair k v h g =

@@ -13,9 +13,10 @@ use Rattle.tally.specs.Kind.{Kind}
 use Rattle.tally.specs.Map.{Entry, Map, find, sound, sweep, reset, swept, points, keys}
 use Rattle.tally.specs.Tally.{Tally, valuesOf, gathered, due}
 use Rattle.tally.specs.Demand.{any}
+use Rattle.tally.specs.Runs.{only}
 use Rattle.tally.proofs.Lawful.{Lawful}
 use Rattle.tally.proofs.Rising.{rising-ascending, mem-ascending, ext}
-use Rattle.tally.proofs.Entries.{only, rising-only, mem-only, mem-keys, rising-sweep, length-sweep, Shown, points-are, all-found}
+use Rattle.tally.proofs.Entries.{rising-only, mem-only, mem-keys, rising-sweep, length-sweep, Shown, points-are, all-found}
 use Rattle.tally.proofs.Logs.{mem-values}
 use Rattle.tally.proofs.Sweep.{from, kept, rooted-sweep, apart-sweep, Idle, stays}
 use Rattle.tally.proofs.Holds.{Kept, At, Holds}

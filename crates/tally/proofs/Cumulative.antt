@@ -7,11 +7,12 @@ use mathlib.Core.Option.{Option, none, some, Option·getD}
 use Rattle.laws.proofs.Cases.{some-inj, none-not-some}
 use Rattle.tally.specs.Sets.{Set, same}
 use Rattle.tally.specs.Kind.{Kind}
-use Rattle.tally.specs.Map.{Entry, Map, find, points, current, filled, keys}
+use Rattle.tally.specs.Map.{Entry, Map, find, current, filled, keys}
 use Rattle.tally.specs.Tally.{Tally, valuesOf}
 use Rattle.tally.specs.Demand.{any}
+use Rattle.tally.specs.Runs.{only, listed?, Listed}
 use Rattle.tally.proofs.Lawful.{Lawful}
-use Rattle.tally.proofs.Entries.{only, find-set, Shown, points-are}
+use Rattle.tally.proofs.Entries.{find-set, Shown, points-are}
 use Rattle.tally.proofs.Holds.{Kept, Holds}
 use Rattle.tally.proofs.Places.{has-now}
 
@@ -28,16 +29,6 @@ module _ (K : Kind) (z : K .Settings) where
           → cond b (some (filled K z e)) (find K s (map (filled K z) l)) ≡ some f → (x : Entry K) × (cond b (some e) (find K s l) ≡ some x) × (filled K z x ≡ f)
       go k true q = (e, refl, some-inj q)
       go k false q = k q
-
--- the sets that are listed: the named ones, and the empty one if it has values
-abbrev pub listed? : Bool → Set → Bool
-listed? has s = not (same s []) || has
-
--- the points of a cumulative collection of the map m are those of the waiting values in t
-abbrev pub Listed : (K : Kind) → Map K → Tally K → Type 0
-Listed K m t =
-    points K (m .settings) (map (filled K (m .settings)) (m .entries))
-    ≡ map (λ s. (s, K .pointOf (m .settings) (valuesOf K s (t .waiting)))) (only (λ s. listed? (any K (valuesOf K s (t .waiting))) s) (keys K (m .entries)))
 
 module _ (K : Kind) (L : Lawful K) (U : List Set) (top k : ℕ) (m : Map K) (t : Tally K) (h : Holds K L U top k m t) where
   abbrev vs : Set → List (K .Value)

@@ -10,17 +10,13 @@ use Rattle.laws.proofs.Cases.{some-inj, none-not-some}
 use Rattle.tally.specs.Sets.{Set, overflow, same, canonical}
 use Rattle.tally.specs.Kind.{Kind, unless}
 use Rattle.tally.specs.Map.{Config, Entry, Map, Call, measure, measureBy, bind, release, collect, Out, orRefused, byHandle, named, find, put, Place, place, held, recorded, rebound, reset, sweep, points, fits, unfit, unlisted, measureAt, bindAt, releaseAt, upfront, act, step, Agrees}
-use Rattle.tally.specs.Demand.{Code}
+use Rattle.tally.specs.Demand.{Code, left, Faithful}
+use Rattle.tally.specs.Runs.{Names, Spares}
 use Rattle.tally.proofs.Order.{same-eq}
 use Rattle.tally.proofs.Entries.{find-set, find-put, named-some, named-none}
 use Rattle.tally.proofs.Placed.{Placed, heldOwn, madeOwn, heldOver, madeOver, placed}
 use Rattle.tally.proofs.Sweep.{stays, kept}
 use Rattle.tally.proofs.Agree.{step-agrees}
-use Rattle.tally.proofs.Demand.{left}
-
--- the handle h names an entry of the set s
-abbrev pub Names : (K : Kind) → ℕ → Set → Map K → Type 0
-Names K h s m = (e : Entry K) × (named K h (m .entries) ≡ some e) × (e .set ≡ s)
 
 module _ (K : Kind) (c : Config K) (m : Map K) (g : Agrees K c m) (h : ℕ) (e : Entry K) (n : named K h (m .entries) ≡ some e) where
   -- a release of h leaves a binding
@@ -132,11 +128,6 @@ module _ (K : Kind) (c : Config K) (m : Map K) (g : Agrees K c m) (h : ℕ) (e :
           let w = named-some K h (m' .entries) y (a .rising) q in
           (y, q, a .apart (y .set) (e .set) y (b .0) (w .2) (b .1) (w .0 ∙ sym (b .2)))
 
--- a call that is no release of h
-abbrev pub Spares : (K : Kind) → ℕ → Call K → Type 0
-Spares K h x =
-    elim x [ measure v attrs ↦ Unit | measureBy i v ↦ Unit | bind attrs ↦ Unit | release i ↦ (i ≡ h → ⊥) | collect room ↦ Unit ]
-
 spared : (K : Kind) (c : Config K) (m : Map K) (g : Agrees K c m) (h : ℕ) (e : Entry K) (n : named K h (m .entries) ≡ some e) (x : Call K) → Spares K h x → Leaves K c m g h e n x
 spared K c m g h e n (measure v attrs) p = tt
 spared K c m g h e n (measureBy i v) p = tt
@@ -145,14 +136,14 @@ spared K c m g h e n (release i) p = λ q. absurd (p q)
 spared K c m g h e n (collect room) p = tt
 
 -- any run of calls: a handle that is not released names its set after it as before
-module _ (K : Kind) (c : Config K) (C : Code K c) (h : ℕ) (r : Set) where
-  pub keeps-naming : (xs : List (C .Input)) (s : C .State) → C .Ok s → Agrees K c (C .view s) → All (λ x. Spares K h (C .asks x)) xs → Names K h r (C .view s)
-      → Names K h r (C .view (left K c C s xs))
+module _ (K : Kind) (c : Config K) (C : Code K) (F : Faithful K c C) (h : ℕ) (r : Set) where
+  pub keeps-naming : (xs : List (C .Input)) (s : C .State) → F .Ok s → Agrees K c (F .view s) → All (λ x. Spares K h (C .asks x)) xs → Names K h r (F .view s)
+      → Names K h r (F .view (left K C s xs))
   unfolding All
   keeps-naming [] s o y l n = n
   keeps-naming (x ∷ xs) s o y l n =
-      let d = C .faithful s x o y in
-      let m = C .view s in
+      let d = F .steps s x o y in
+      let m = F .view s in
       let w = still-named K c m y h (n .0) (n .1) (C .asks x) (spared K c m y h (n .0) (n .1) (C .asks x) (l .0)) in
       keeps-naming xs (C .call s x .1) (d .0) (subst (λ q. Agrees K c (q .map)) (sym (d .1)) (step-agrees K c m y (C .asks x))) (l .1)
       (subst (λ q. Names K h r (q .map)) (sym (d .1)) (w .0, w .1, w .2 ∙ n .2))

@@ -1,7 +1,7 @@
 -- Numbers 8 and 12 never come up in a run from a fresh start: series that agree do so after every call. Assumes nothing.
 use Prim.Native.Nat.{ℕ, suc, _-_, Ordering, Ordering·lt, Ordering·eq, Ordering·gt}
 use mathlib.Core.Path.{_≡_, refl, ap, sym, subst, _∙_}
-use mathlib.Core.Bool.{Bool, true, false, cond, not, _&&_, _||_}
+use mathlib.Core.Bool.{Bool, true, false, cond, _&&_}
 use mathlib.Core.List.{List, [], _∷_, map}
 use mathlib.Core.Option.{Option, none, some}
 use lib.Dec.{eqb, ltb, leb}
@@ -11,7 +11,8 @@ use Rattle.laws.proofs.Cases.{and-true, true-not-false, some-inj, none-not-some
 use Rattle.tally.specs.Sets.{Set, overflow, three, cmp, same, canonical}
 use Rattle.tally.specs.Kind.{Kind, unless, firstOf, suffices}
 use Rattle.tally.specs.Map.{Config, Entry, Map, Call, measure, measureBy, bind, release, collect, Answer, refuse, done, handle, listed, Out, orRefused, byHandle, named, find, put, Place, place, held, write, current, sound, recorded, rebound, idle, reset, sweep, swept, points, fits, Points, measureAt, bindAt, releaseAt, upfront, act, step, Agrees}
-use Rattle.tally.specs.Demand.{Code, answers, ran}
+use Rattle.tally.specs.Demand.{Code, Faithful, answers, ran}
+use Rattle.tally.specs.Runs as Runs
 use Rattle.tally.proofs.Agree.{begins, step-agrees}
 use Rattle.tally.proofs.Placed.{Placed, heldOwn, madeOwn, heldOver, madeOver, placed}
 
@@ -54,13 +55,9 @@ module _ (K : Kind) where
         let a = and-true (p x) (all p l) k in
         of-found x e (eqb (x .birth) h && ltb 0 (x .bindings)) (named K h l) (a .0) (all-named h e l (a .1)) q
 
-  -- "8: directory or touched series disagrees with itself", "12: a lent .. store under .."
-  abbrev pub quiet : Answer K → Bool
-  quiet a = elim a [ refuse n ↦ not (eqb n 8 || eqb n 12) | done ↦ true | handle b ↦ true | listed ps ↦ true ]
-
   -- neither number; the settings as they were, and the series agree
   pub record Steadily (z : K .Settings) (o : Out K) : Type 0 where
-    pub quiet : quiet (o .answer) ≡ true
+    pub quiet : Runs.quiet K (o .answer) ≡ true
     pub settings : o .map .settings ≡ z
     pub sound : Sound (o .map)
 
@@ -71,7 +68,7 @@ module _ (K : Kind) (S : Steady K) (m : Map K) (z : K .valid (m .settings) ≡ t
   abbrev After : Out K → Type 0
   After o = Steadily K (m .settings) o
 
-  told : (a : Answer K) → quiet K a ≡ true → (r : Map K) → r .settings ≡ m .settings → Sound K r → After (record { answer = a; map = r })
+  told : (a : Answer K) → Runs.quiet K a ≡ true → (r : Map K) → r .settings ≡ m .settings → Sound K r → After (record { answer = a; map = r })
   told a e r q s = record { quiet = e; settings = q; sound = s }
 
   entry-fine : (c : Config K) (s : Set) → sound K (m .settings) (place K (c .limit) m s .entry .series) ≡ true
@@ -168,23 +165,23 @@ module _ (K : Kind) (S : Steady K) (m : Map K) (z : K .valid (m .settings) ≡ t
   steps-steadily c (release i) = acted c (release i) tt
   steps-steadily c (collect room) = acted c (collect room) tt
 
-module _ (K : Kind) (S : Steady K) (c : Config K) (C : Code K c) where
-  run-quiet : (xs : List (C .Input)) (s : C .State) → C .Ok s → Agrees K c (C .view s) → K .valid (C .view s .settings) ≡ true → Sound K (C .view s)
-      → all (quiet K) (answers K c C s xs) ≡ true
+module _ (K : Kind) (S : Steady K) (c : Config K) (C : Code K) (F : Faithful K c C) where
+  run-quiet : (xs : List (C .Input)) (s : C .State) → F .Ok s → Agrees K c (F .view s) → K .valid (F .view s .settings) ≡ true → Sound K (F .view s)
+      → all (Runs.quiet K) (answers K C s xs) ≡ true
   run-quiet [] s o y v h = refl
   run-quiet (x ∷ xs) s o y v h =
-      let d = C .faithful s x o y in
-      let m = C .view s in
+      let d = F .steps s x o y in
+      let m = F .view s in
       let a = steps-steadily K S m v h c (C .asks x) in
-      both (quiet K (C .call s x .0)) (all (quiet K) (answers K c C (C .call s x .1) xs))
-      (ap (λ q. quiet K (q .answer)) (d .1) ∙ a .quiet)
+      both (Runs.quiet K (C .call s x .0)) (all (Runs.quiet K) (answers K C (C .call s x .1) xs))
+      (ap (λ q. Runs.quiet K (q .answer)) (d .1) ∙ a .quiet)
       (run-quiet xs (C .call s x .1) (d .0)
       (subst (λ q. Agrees K c (q .map)) (sym (d .1)) (step-agrees K c m y (C .asks x)))
       (subst (λ q. K .valid (q .map .settings) ≡ true) (sym (d .1)) (ap (K .valid) (a .settings) ∙ v))
       (subst (λ q. Sound K (q .map)) (sym (d .1)) (a .sound)))
 
   -- with no premise: whatever the calls, from a fresh start none is answered 8 or 12
-  pub never-damaged : (xs : List (C .Input)) → all (quiet K) (ran K c C xs) ≡ true
+  pub never-damaged : (xs : List (C .Input)) → all (Runs.quiet K) (ran K C xs) ≡ true
   never-damaged xs =
-      run-quiet xs (C .first) (C .ok) (subst (λ m. Agrees K c m) (sym (C .fresh)) (begins K c))
-      (subst (λ m. K .valid (m .settings) ≡ true) (sym (C .fresh)) (C .valid)) (subst (λ m. Sound K m) (sym (C .fresh)) refl)
+      run-quiet xs (C .first) (F .ok) (subst (λ m. Agrees K c m) (sym (F .fresh)) (begins K c))
+      (subst (λ m. K .valid (m .settings) ≡ true) (sym (F .fresh)) (F .valid)) (subst (λ m. Sound K m) (sym (F .fresh)) refl)

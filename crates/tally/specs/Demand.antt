@@ -1,4 +1,4 @@
--- Demand 3: its premise, what it claims, and the claim for any code whose calls do the map's steps. Assumes nothing.
+-- Demand 3: its premise, what it claims, and the claim for any faithful code, whose calls do the map's steps. Assumes nothing.
 use Prim.Native.Nat.{ℕ, _+_, _^_, _≤_, _<_}
 use mathlib.Core.Path.{_≡_}
 use mathlib.Core.Bool.{Bool, true, false, cond}
@@ -120,34 +120,46 @@ module _ (K : Kind) where
   Pooled M c xs ans =
       (s : Set) → any (gained c xs ans s) ≡ true → M .Within (gained c xs ans s) → Merged M (c .settings) (pointsOf s ans) (gained c xs ans s)
 
-  -- CODE, after configuring: its states with the lent stores (Ok shuts out number 12), the map that each stands for, what its calls are
-  -- given (arguments in range, times, lent output), which asks for a call of demand 3, and its calls: the map's steps where the directory agrees.
-  pub record Code (c : Config K) : Type 1 where
+  -- CODE, after configuring: its states with the lent stores, what its calls are given (arguments in range, times, lent output), which call of
+  -- demand 3 each asks, what each answers and leaves, and the state that configuring left
+  pub record Code : Type 1 where
     pub State : Type 0
-    pub Ok : State → Type 0
-    pub view : State → Map K
     pub Input : Type 0
     pub asks : Input → Call K
     pub call : State → Input → Answer K × State
-    pub faithful : (s : State) (x : Input) → Ok s → Agrees K c (view s)
-        → Ok (call s x .1) × (record { answer = call s x .0; map = view (call s x .1) } ≡ step K c (view s) (asks x))
     pub first : State
-    pub ok : Ok first
-    pub fresh : view first ≡ start K c
-    pub valid : K .valid (c .settings) ≡ true
 
-  -- "Take any list of these calls, refused ones included .. each call is given the state and lent stores as the last one left them."
-  abbrev pub answers : (c : Config K) (C : Code c) → C .State → List (C .Input) → List (Answer K)
-  answers c C s [] = []
-  answers c C s (x ∷ xs) = C .call s x .0 ∷ answers c C (C .call s x .1) xs
+  -- "Take any list of these calls, refused ones included": what is asked, what is answered, and the state left, where "each call is given the
+  -- state and lent stores as the last one left them"
+  abbrev pub asked : (C : Code) → List (C .Input) → List (Call K)
+  asked C xs = map (C .asks) xs
+
+  abbrev pub answers : (C : Code) → C .State → List (C .Input) → List (Answer K)
+  answers C s [] = []
+  answers C s (x ∷ xs) = C .call s x .0 ∷ answers C (C .call s x .1) xs
+
+  abbrev pub left : (C : Code) → C .State → List (C .Input) → C .State
+  left C s [] = s
+  left C s (x ∷ xs) = left C (C .call s x .1) xs
 
   -- "It runs from a fresh start under one configuration"
-  abbrev pub ran : (c : Config K) (C : Code c) → List (C .Input) → List (Answer K)
-  ran c C xs = answers c C (C .first) xs
+  abbrev pub ran : (C : Code) → List (C .Input) → List (Answer K)
+  ran C xs = answers C (C .first) xs
+
+  -- FAITHFUL code: each state stands for a map; in a state with stores that suffice (Ok shuts out number 12) and a directory that agrees each
+  -- call is the step of that map; and the first state stands for the fresh map, under settings that configuring accepts
+  pub record Faithful (c : Config K) (C : Code) : Type 1 where
+    pub Ok : C .State → Type 0
+    pub view : C .State → Map K
+    pub steps : (s : C .State) (x : C .Input) → Ok s → Agrees K c (view s)
+        → Ok (C .call s x .1) × (record { answer = C .call s x .0; map = view (C .call s x .1) } ≡ step K c (view s) (C .asks x))
+    pub ok : Ok (C .first)
+    pub fresh : view (C .first) ≡ start K c
+    pub valid : K .valid (c .settings) ≡ true
 
   -- DEMAND 3, for any kind, and for kinds that merge
   abbrev pub Demand : Type 1
-  Demand = (c : Config K) (C : Code c) (xs : List (C .Input)) → Premise c (map (C .asks) xs) (ran c C xs) → Answered c (map (C .asks) xs) (ran c C xs)
+  Demand = (c : Config K) (C : Code) → Faithful c C → (xs : List (C .Input)) → Premise c (asked C xs) (ran C xs) → Answered c (asked C xs) (ran C xs)
 
   abbrev pub MergedDemand : Merging → Type 1
-  MergedDemand M = (c : Config K) (C : Code c) (xs : List (C .Input)) → Premise c (map (C .asks) xs) (ran c C xs) → Pooled M c (map (C .asks) xs) (ran c C xs)
+  MergedDemand M = (c : Config K) (C : Code) → Faithful c C → (xs : List (C .Input)) → Premise c (asked C xs) (ran C xs) → Pooled M c (asked C xs) (ran C xs)

@@ -11,7 +11,7 @@ use Rattle.laws.proofs.Cases.{and-true}
 use Rattle.tally.specs.Kind.{Kind}
 use Rattle.tally.specs.Sets.{Set, canonical}
 use Rattle.sets.specs.Rows.{setOf}
-use Rattle.sets.proofs.Exact.{Small}
+use Rattle.sets.specs.Sorted.{Small}
 use Rattle.sets.proofs.CallRow.{row-set, row-short, row-keyed}
 use Rattle.directory.specs.View.{setAt, sought}
 use Rattle.directory.specs.declared.Found.the-variants as Found
@@ -60,7 +60,7 @@ module _ {K : Kind} {S : Store K} (W : Owed S) (w : S .Switches) (limit : ℕ) (
     handle-elsewhere b y d = handle-either W w limit filter h g v b (λ o. S .at (o .held .cells) y ≡ S .at (h .cells) y) (λ n. refl) (λ n t. t .others y d)
 
     -- OWN. An accepted recording goes to its own set's slot, never to overflow, where the set is held or the named sets are fewer than the
-    -- limit (under demand 3's premise, over a run: map_runs' `owned`)
+    -- limit (under demand 3's premise, over a run: `Tells`' own, in tally/specs/Runs.antt)
     pub measure-owns : (attrs : Set) → Small attrs
         → ((x : ℕ) × (sought (setOf (rowIn filter attrs)) (h .kept .dir .used) (h .kept .stores .sets) (h .kept .stores .order) ≡ Found.Held x)) ⊎ (h .kept .dir .used < limit)
         → measured S limit filter h v attrs .answer ≡ Done

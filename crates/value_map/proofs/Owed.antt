@@ -1,5 +1,5 @@
 -- WHAT A KIND OWES of its store, and all: that the calls do the map's steps, keep what they found and run as the tally says follows once for
--- every kind (Steps.antt, Kept.antt, map_runs). Assumes nothing.
+-- every kind (Steps.antt, Kept.antt, crate promises). Assumes nothing.
 use Prim.Native.Nat.{ℕ, suc, _+_, _≤_}
 use mathlib.Core.Path.{_≡_}
 use mathlib.Core.Bool.{Bool, true, false, cond}

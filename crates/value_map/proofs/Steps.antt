@@ -17,7 +17,7 @@ use Rattle.tally.specs.Sets.{Set, canonical}
 use Rattle.tally.specs.Map as Map
 use Rattle.tally.specs.Map.{Config, Map, Out, measure, measureBy, refuse, done, sound, upfront, act, step}
 use Rattle.sets.specs.Rows.{rowOf}
-use Rattle.sets.proofs.Exact.{Small}
+use Rattle.sets.specs.Sorted.{Small}
 use Rattle.sets.proofs.CallRow.{row-set}
 use Rattle.directory.specs.View.{agreesb, view}
 use Rattle.directory.specs.Calls.{Kept, mostSets, fewKeys, accepts}
@@ -29,6 +29,7 @@ use Rattle.seats.specs.Recording.{heldAt, orFresh, refusal, Others}
 use Rattle.seats.proofs.Faithful.{measure-away, measure-refused, measure-done, by-away, by-refused, by-done}
 use Rattle.value_map.specs.Store.{Store, Recording}
 use Rattle.value_map.specs.Calls.{Held, Outcome, refused, passes, lent, entered, Seatable, called, measured, measuredBy}
+use Rattle.value_map.specs.Maps.{mapOf, told, configOf}
 use Rattle.value_map.proofs.Owed.{Fit, refusing, Took, Owed}
 use Rattle.value_map.proofs.Bars.{bar-6, bar-5, bar-0}
 use Rattle.value_map.proofs.Cases.{lent-dir, set-seatable, by-seatable, entered-away, entered-refused, entered-done, called-barred, called-on}
@@ -52,17 +53,6 @@ abbrev pub seatBy : {Cells : Type 0} → ℕ → Held Cells → ℕ → Seating
 seatBy limit h b = seatedBy limit (h .kept .dir) (h .kept .stores) b
 
 module _ {K : Kind} (S : Store K) (w : S .Switches) where
-  -- the map that is held: the slots' series, where their entries were updated
-  abbrev pub mapOf : Held (S .Cells) → Map K
-  mapOf h = view K (S .at (h .cells)) (S .settings w) (h .kept .dir) (h .kept .stores)
-
-  -- an outcome as the map's
-  abbrev pub told : Outcome (S .Cells) → Out K
-  told o = record { answer = said K (o .answer); map = mapOf (o .held) }
-
-  abbrev pub configOf : ℕ → Option (List ℕ) → Config K
-  configOf limit filter = record { settings = S .settings w; limit = limit; filter = filter }
-
   -- at a seating: the series takes the value, and what is left then
   abbrev pub Takes : Held (S .Cells) → K .Value → Seating → Type 0
   Takes h v a =

@@ -1,0 +1,3 @@
+-- The terms of the promises.
+pub mod Runs
+pub mod Promises

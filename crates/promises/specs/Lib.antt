@@ -1,0 +1,3 @@
+-- The theorems about the code, and the words that they use.
+pub mod Runs
+pub mod Promises

@@ -1,0 +1,57 @@
+-- What is told of every run of faithful code: demand 3's answers, and what holds beside them. Assumes nothing.
+use Prim.Native.Nat.{ℕ}
+use mathlib.Core.Path.{_≡_}
+use mathlib.Core.Bool.{Bool, true, cond, not, _||_}
+use mathlib.Core.List.{List, [], _∷_, map}
+use mathlib.Core.Option.{some}
+use lib.Dec.{eqb}
+use Rattle.laws.specs.Lists.{All}
+use Rattle.laws.specs.Tests.{all}
+use Rattle.tally.specs.Sets.{Set, same}
+use Rattle.tally.specs.Kind.{Kind}
+use Rattle.tally.specs.Map.{Config, Entry, Map, Call, measure, measureBy, bind, release, collect, Answer, refuse, done, handle, listed, named, points, filled, keys}
+use Rattle.tally.specs.Tally.{Tally, empty, valuesOf, after}
+use Rattle.tally.specs.Demand.{any, Premise, Answered, Code, asked, left, ran}
+
+-- the sets that pass the test
+abbrev pub only : (Set → Bool) → List Set → List Set
+only p [] = []
+only p (x ∷ l) = cond (p x) (x ∷ only p l) (only p l)
+
+-- "every named entry is listed .. The empty series is listed only if updated"
+abbrev pub listed? : Bool → Set → Bool
+listed? has s = not (same s []) || has
+
+module _ (K : Kind) where
+  -- answered neither 8, "directory or touched series disagrees with itself", nor 12, "a lent .. store under .."
+  abbrev pub quiet : Answer K → Bool
+  quiet a = elim a [ refuse n ↦ not (eqb n 8 || eqb n 12) | done ↦ true | handle b ↦ true | listed ps ↦ true ]
+
+  -- a cumulative collection of the map m would list the points of the values that wait in the tally t
+  abbrev pub Listed : Map K → Tally K → Type 0
+  Listed m t =
+      points K (m .settings) (map (filled K (m .settings)) (m .entries))
+      ≡ map (λ s. (s, K .pointOf (m .settings) (valuesOf K s (t .waiting)))) (only (λ s. listed? (any K (valuesOf K s (t .waiting))) s) (keys K (m .entries)))
+
+  -- the handle h names an entry of the set s, with a binding
+  abbrev pub Names : ℕ → Set → Map K → Type 0
+  Names h s m = (e : Entry K) × (named K h (m .entries) ≡ some e) × (e .set ≡ s)
+
+  -- a call that is no release of h
+  abbrev pub Spares : ℕ → Call K → Type 0
+  Spares h x =
+      elim x [ measure v attrs ↦ Unit | measureBy i v ↦ Unit | bind attrs ↦ Unit | release i ↦ (i ≡ h → ⊥) | collect room ↦ Unit ]
+
+  -- of code whose states stand for maps
+  pub record Tells (c : Config K) (C : Code K) (view : C .State → Map K) : Type 0 where
+    -- DEMAND 3's first part: "each call's number and each list of points collected is that of document 01's tally"
+    pub answered : (xs : List (C .Input)) → Premise K c (asked K C xs) (ran K C xs) → Answered K c (asked K C xs) (ran K C xs)
+    -- no call makes stores that disagree, nor outgrows them: with no premise, none is answered 8 or 12
+    pub quietly : (xs : List (C .Input)) → all quiet (ran K C xs) ≡ true
+    -- "it joins the set's waiting values": each value is in its own set's series and none in overflow's in its stead, as a cumulative
+    -- collection would show
+    pub own : (xs : List (C .Input)) → Premise K c (asked K C xs) (ran K C xs)
+        → Listed (view (left K C (C .first) xs)) (after K c (empty K c) (asked K C xs) (ran K C xs))
+    -- "a set keeps its number while that has a binding": with no premise, a handle names the same set until it is released
+    pub naming : (h : ℕ) (s : Set) (xs ys : List (C .Input)) → All (λ y. Spares h (C .asks y)) ys → Names h s (view (left K C (C .first) xs))
+        → Names h s (view (left K C (left K C (C .first) xs) ys))

@@ -18,28 +18,23 @@ use Rattle.points.specs.Explicit.{sameBounds, bucketCount, mergeBuckets}
 use Rattle.points.specs.Figures as F
 use Rattle.points.specs.Figures.{Kind, exponential, explicit, Settings, exponentialCounts, explicitCounts}
 use Rattle.points.specs.Handed.{Handed, sameKind, mergeable, mergeCounts, mergeHanded, extremesAgree, countsAgree, handedAgrees, countOf}
+use Rattle.points.specs.Same.{Shape, Of, resized}
 use Rattle.points.proofs.Agreement.{agrees-says}
 use Rattle.points.proofs.Explicit.{buckets-say, same-bounds}
-use Rattle.points.proofs.Grouping.{Shape, Of, handed-commutes}
-use Rattle.points.proofs.Stands.{resized}
+use Rattle.points.proofs.Grouping.{handed-commutes}
 use Rattle.explicit.specs.Series.{mostCount}
 use Rattle.kinds.proofs.Steady.{merged-agrees}
 use Rattle.point.specs.declared.Figures.{Figures}
 use Rattle.point.specs.declared.Figures.the-variants.{Exponential, Explicit}
-use Rattle.point.specs.Handing.{Stored, countsAs, handedIn, pointAgrees, refusalBefore}
-use Rattle.point.proofs.Means.{inShape, sizeFor, agreesRead, agrees-is, agrees-whole, sizeAsked, refusalRead, counted, count-is, refusal-is}
+use Rattle.point.specs.Handing.{Stored, countsAs, handedIn, refusalBefore}
+use Rattle.point.specs.Lists.{inShape, counted, Long}
+use Rattle.point.proofs.Means.{sizeFor, agreesRead, agrees-is, agrees-whole, sizeAsked, refusalRead, count-is, refusal-is}
 use Rattle.point.proofs.Answers.{hasRoom, answers}
-use Rattle.point.proofs.Lists.{Long}
-use Rattle.merging.specs.Merged.{mergedStored}
+use Rattle.merging.specs.Merged.{Good, mergedStored}
 use Rattle.merging.proofs.Tied.{size-is}
 
 abbrev pub low : ℕ
 low = lowestBin finest
-
--- a point of the settings that agrees under the max_size
-pub record Good (size : ℕ) (s : Settings) (x : Stored) : Type 0 where
-  pub agree : pointAgrees size x ≡ true
-  pub of : Of s (handedIn x)
 
 -- ---- over counts of one kind
 same-kind : (size : ℕ) (k : Kind) (c d : F.Counts) → Shape k c → Shape k d → countsAgree size finest low c ≡ true → sameKind c d ≡ true

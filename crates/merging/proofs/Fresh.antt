@@ -13,20 +13,21 @@ use Rattle.points.specs.Values.{summaryOf}
 use Rattle.points.specs.Figures as F
 use Rattle.points.specs.Figures.{Kind, exponential, explicit, sizeOf, Settings, exponentialCounts, explicitCounts, kindCounts}
 use Rattle.points.specs.Handed.{handed, mergeHanded, countsAgree}
+use Rattle.points.specs.Same.{Shape, Of, Same}
 use Rattle.points.proofs.Agreement.{agrees-says}
 use Rattle.points.proofs.Explicit.{buckets-say}
-use Rattle.points.proofs.Grouping.{Shape, Of, Same, Agreeing, handed-commutes, fresh-same}
+use Rattle.points.proofs.Grouping.{Agreeing, handed-commutes, fresh-same}
 use Rattle.points.proofs.Stands.{handed-stands, stands-agrees}
 use Rattle.points.proofs.Summaries.{extreme-finite}
 use Rattle.point.specs.declared.Figures.{Figures}
 use Rattle.point.specs.declared.Figures.the-variants.{Exponential, Explicit}
 use Rattle.point.specs.Handing.{Stored, countsAs, handedIn}
+use Rattle.point.specs.Lists.{PointOf, Configured}
 use Rattle.point.proofs.Means.{sizeFor, agreesRead, agrees-whole}
-use Rattle.point.proofs.Answers.{Configured, sound}
-use Rattle.point.proofs.Lists.{PointOf}
-use Rattle.merging.specs.Merged.{mergedStored}
+use Rattle.point.proofs.Answers.{sound}
+use Rattle.merging.specs.Merged.{Good, AtTop, mergedStored}
 use Rattle.merging.proofs.Groups.{merged-reads}
-use Rattle.merging.proofs.Accepted.{low, Good, counts-ok}
+use Rattle.merging.proofs.Accepted.{low, counts-ok}
 
 -- ---- POINTS OF LISTS ARE GOOD
 shape-of : (k : Kind) (t : Float) (vs : List Float) → Shape k (kindCounts k t vs)
@@ -61,10 +62,6 @@ list-good s vs x k p =
     }
 
 -- ---- THE FRESH POINT, "at the greatest allowed scale"
-abbrev pub AtTop : Kind → Type 0
-AtTop (exponential size top) = top ≡ finest
-AtTop (explicit bounds) = Unit {0}
-
 agreeing : (size : ℕ) (k : Kind) (c : F.Counts) → AtTop k → Shape k c → countsAgree size finest low c ≡ true → Agreeing size low k c
 agreeing size (exponential m top) (exponentialCounts p) t h a = agrees-says size top low p (rw t a)
 agreeing size (exponential m top) (explicitCounts b p) t h a = absurd h

@@ -13,11 +13,13 @@ use Rattle.laws.specs.Trees.{Tree, leaf, node, leaves, folded}
 use Rattle.laws.proofs.Lists.{map-perm}
 use Rattle.points.specs.Figures.{Settings}
 use Rattle.points.specs.Handed.{Handed, mergeCounts, mergeHanded}
-use Rattle.points.proofs.Grouping.{Of, Same, merge-any}
+use Rattle.points.specs.Same.{Of, Same}
+use Rattle.points.proofs.Grouping.{merge-any}
 use Rattle.point.specs.Handing.{Stored, handedIn}
-use Rattle.point.proofs.Means.{inShape, refusalRead}
+use Rattle.point.specs.Lists.{inShape, told}
+use Rattle.point.proofs.Means.{refusalRead}
 use Rattle.point.proofs.Answers.{hasRoom}
-use Rattle.point.proofs.Told.{told, toldRead, told-is}
+use Rattle.point.proofs.Told.{toldRead, told-is}
 use Rattle.merging.specs.Merged.{mergedStored, Groups}
 
 -- ---- an accepted merge reads as the merge of the points read

@@ -2,26 +2,20 @@
 -- and associative. Request L14 asks this. Assumes nothing.
 use Prim.Native.Nat.{ℕ, _+_, _≤_}
 use mathlib.Core.Path.{_≡_, refl}
-use mathlib.Core.List.{List, [], _∷_, _++_, foldr, List·Permᴰ, Permᴰ·refl, List·Permᴰ·swap}
+use mathlib.Core.List.{List, [], _∷_, _++_, List·Permᴰ, Permᴰ·refl, List·Permᴰ·swap}
 use native.Mathlib.Omega.{arith}
 use Rattle.laws.specs.Lists.{All}
 use Rattle.laws.specs.Said.{success}
 use Rattle.laws.specs.Trees.{Tree, leaf, node, leaves}
 use Rattle.laws.proofs.Lists.{all-left, all-right, all-map, all-perm, foldr-perm}
 use Rattle.points.specs.Figures.{Settings}
-use Rattle.points.proofs.Grouping.{Of, Same}
-use Rattle.points.proofs.Stands.{resized}
+use Rattle.points.specs.Same.{Of, Same, resized}
 use Rattle.explicit.specs.Series.{mostCount}
 use Rattle.point.specs.Handing.{Stored, handedIn}
-use Rattle.point.proofs.Means.{counted}
-use Rattle.point.proofs.Lists.{Long}
-use Rattle.merging.specs.Merged.{mergedStored, Groups}
+use Rattle.point.specs.Lists.{counted, Long}
+use Rattle.merging.specs.Merged.{Good, allCounted, mergedStored, Groups}
 use Rattle.merging.proofs.Groups.{any-grouping}
-use Rattle.merging.proofs.Accepted.{Good, merges}
-
--- the counts together
-abbrev pub allCounted : List Stored → ℕ
-allCounted xs = foldr (λ x n. counted x + n) 0 xs
+use Rattle.merging.proofs.Accepted.{merges}
 
 counted-append : (xs ys : List Stored) → allCounted (xs ++ ys) ≡ allCounted xs + allCounted ys
 counted-append [] ys = omega arith

@@ -19,9 +19,10 @@ use Rattle.explicit.specs.Series.{mostCount}
 use Rattle.tally.specs.Kind.{unless, firstOf}
 use Rattle.kinds.specs.Histograms.{posPlaces, negPlaces, bothExplicit, merged}
 use Rattle.point.specs.Handing.{Stored, handedIn, posOf, negOf}
-use Rattle.point.proofs.Means.{inShape, agreesRead, sizeAsked, refusalRead}
+use Rattle.point.specs.Lists.{inShape, told}
+use Rattle.point.proofs.Means.{agreesRead, sizeAsked, refusalRead}
 use Rattle.point.proofs.Answers.{hasRoom}
-use Rattle.point.proofs.Told.{told, toldRead, told-is}
+use Rattle.point.proofs.Told.{toldRead, told-is}
 use Rattle.merging.specs.Merged.{mergedStored, roomOf}
 
 and-is : (a b : Bool) → a and b ≡ (a && b)

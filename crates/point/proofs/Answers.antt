@@ -16,7 +16,7 @@ use Rattle.floats.specs.Answers.{smallerOf, largerOf}
 use Rattle.floats.specs.Starts.{zeroFloat}
 use Rattle.rows.specs.Rows.{over}
 use Rattle.rows.proofs.Laws.{take-over}
-use Rattle.points.specs.Explicit.{boundsPass, bucketCount, added, mergeBuckets}
+use Rattle.points.specs.Explicit.{bucketCount, added, mergeBuckets}
 use Rattle.points.specs.Figures as F
 use Rattle.points.specs.Figures.{Kind, exponential, explicit, sizeOf, Settings, exponentialCounts, explicitCounts, kindCounts}
 use Rattle.points.specs.Handed.{Handed, mergeCounts, mergeHanded, countOf}
@@ -25,7 +25,7 @@ use Rattle.points.proofs.Kept.{merge-agrees}
 use Rattle.points.proofs.Explicit.{buckets-say, merge-buckets-ok}
 use Rattle.points.proofs.Stands.{Sound, stands-merge, stands-agrees, stands-mergeable}
 use Rattle.exponential.specs.declared.Counts.{Counts}
-use Rattle.exponential.specs.Series.{sizePasses, lowestOfAll, read}
+use Rattle.exponential.specs.Series.{lowestOfAll, read}
 use Rattle.exponential.proofs.Facts as Facts
 use Rattle.exponential.proofs.Stays.{read-point}
 use Rattle.explicit.specs.Series.{mostCount, bucketsIn}
@@ -33,9 +33,10 @@ use Rattle.point.specs.declared.Figures.{Figures}
 use Rattle.point.specs.declared.Figures.the-variants.{Exponential, Explicit}
 use Rattle.point.specs.declared.Made.the-variants.{Of, NoRoom}
 use Rattle.point.specs.Handing.{Stored, storedIn, countsAs, countsIn, handedIn, refusalBefore, figuresFor, posOf, negOf, madeOver, laidOver, Outcome, ended, concluded, merging}
+use Rattle.point.specs.Lists.{figuresShaped, inShape, counted, Configured}
 use Rattle.point.proofs.Laid.{same-count}
 use Rattle.point.proofs.Calls as calls
-use Rattle.point.proofs.Means.{figuresShaped, inShape, agreesRead, sizeAsked, refusalRead, counted, count-is, refusal-is}
+use Rattle.point.proofs.Means.{agreesRead, sizeAsked, refusalRead, count-is, refusal-is}
 
 -- "10: room judged by the result's length"
 abbrev pub hasRoom : F.Counts → List ℕ → List ℕ → Bool
@@ -141,11 +142,6 @@ module _ (size : ℕ) (a b : Stored) (e : refusalBefore size a b ≡ 0) (us vs :
   no-room r = sym (calls.accepted size a b us vs e) ∙ ap (concluded a b) (laid-none countsMade us vs r)
 
 -- ---- POINTS OF VALUES MERGE TO THE POINT OF THE LISTS JOINED
--- the kind could be configured
-abbrev pub Configured : Kind → Type 0
-Configured (exponential size top) = sizePasses size ≡ true
-Configured (explicit bounds) = boundsPass bounds ≡ true
-
 pub sound : (k : Kind) → Configured k → Sound k
 sound (exponential size top) h = leb-true 3 size (and-left (leb 3 size) (leb size 160) h)
 sound (explicit bounds) h = h

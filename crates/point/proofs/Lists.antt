@@ -18,7 +18,7 @@ use Rattle.rows.specs.Rows.{over}
 use Rattle.points.specs.Explicit.{boundsPass, bucketCount, bucketsOf}
 use Rattle.points.specs.Values.{countsOf}
 use Rattle.points.specs.Figures.{Kind, exponential, explicit, sizeOf, Settings, exponentialCounts, explicitCounts, kindCounts}
-use Rattle.points.specs.Handed.{handed, mergeCounts, mergeHanded, countOf}
+use Rattle.points.specs.Handed.{mergeCounts, mergeHanded, countOf}
 use Rattle.points.specs.Stands.{Stands}
 use Rattle.points.proofs.Figures as PF
 use Rattle.points.proofs.Classes.{countsOf-agrees}
@@ -32,14 +32,9 @@ use Rattle.explicit.specs.Series.{freshHead}
 use Rattle.explicit.specs.Runs as BR
 use Rattle.explicit.proofs.Listed as BL
 use Rattle.point.specs.Handing.{Stored, storedIn, countsIn, handedIn, exponentialPoint, explicitPoint, merging}
-use Rattle.point.proofs.Means.{settingsOf, inShape, exponential-list, explicit-list, counted, count-is}
-use Rattle.point.proofs.Answers.{hasRoom, Configured, AnswersFor, merging-stands}
-
--- x is document 01's point of the values under the settings, and in shape
-pub record PointOf (s : Settings) (vs : List Float) (x : Stored) : Type 0 where
-  pub is : handedIn x ≡ handed s vs
-  pub shape : inShape x ≡ true
-  pub values : All FiniteF64 vs
+use Rattle.point.specs.Lists.{counted, Configured, settingsOf, PointOf, Long}
+use Rattle.point.proofs.Means.{exponential-list, explicit-list, count-is}
+use Rattle.point.proofs.Answers.{hasRoom, AnswersFor, merging-stands}
 
 -- ---- THE EXPONENTIAL KIND
 module _ (size top : ℕ) (least : leastSize ≤ size) (most : size ≤ mostSize) (known : top ≤ finest)
@@ -76,11 +71,7 @@ module _ (bounds : List Float) (passes : boundsPass bounds ≡ true) (xs : List 
         values = values;
       }
 
--- ---- ROOM for any list: max_size counts for each sign, or a count for each bucket
-abbrev pub Long : Kind → List ℕ → List ℕ → Type 0
-Long (exponential size top) us vs = (size ≤ length us) × (size ≤ length vs)
-Long (explicit bounds) us vs = bucketCount bounds ≤ length us
-
+-- ---- ROOM for any list
 pub long-enough : (k : Kind) (t : Float) (v : List Float) (us vs : List ℕ) → Configured k → All FiniteF64 v → Long k us vs → hasRoom (kindCounts k t v) us vs ≡ true
 long-enough (exponential size top) t v us vs k f l =
     let p = countsOf size (finest - top) t v in

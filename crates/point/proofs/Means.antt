@@ -8,9 +8,8 @@ use lib.ListN.{length}
 use lib.Ieee.{Float}
 use Rattle.laws.specs.Pick.{pick, _and_}
 use Rattle.index.specs.Bins.{finest, lowestBin}
-use Rattle.floats.specs.Starts.{zeroFloat}
 use Rattle.points.specs.Figures as F
-use Rattle.points.specs.Figures.{Kind, Settings, exponentialCounts, explicitCounts, figuresOf}
+use Rattle.points.specs.Figures.{Kind, exponentialCounts, explicitCounts, figuresOf}
 use Rattle.points.specs.Handed.{Handed, handedOut, handed, sameKind, mergeable, extremesAgree, countsAgree, handedAgrees, countOf}
 use Rattle.exponential.specs.declared.Head as SH
 use Rattle.exponential.specs.Series.{sizePasses, read, agrees}
@@ -21,11 +20,9 @@ use Rattle.explicit.specs.Series.{mostCount, bucketsIn}
 use Rattle.point.specs.declared.Figures.{Figures}
 use Rattle.point.specs.declared.Figures.the-variants.{Exponential, Explicit}
 use Rattle.point.specs.Handing.{Stored, storedIn, countsAs, countsIn, handedIn, exponentialPoint, explicitPoint, figuresAgree, pointAgrees, countIn, sameFigures, sizeFits, refusalBefore}
+use Rattle.point.specs.Lists.{figuresShaped, inShape, counted, settingsOf}
 
 -- ---- WHAT A SERIES HANDS OUT, by its two switches; the zero threshold is 0.0
-abbrev pub settingsOf : Kind → Bool → Bool → Settings
-settingsOf k extremes sums = record { kind = k; extremes = extremes; sums = sums; threshold = zeroFloat }
-
 -- what a head and its rows hold
 abbrev pub exponentialIn : SH.Head → List ℕ → List ℕ → F.Figures
 exponentialIn h xs ys = record { counts = exponentialCounts (read (h .counts) xs ys); summary = SR.summary h }
@@ -53,14 +50,6 @@ module _ (k : Kind) (extremes sums : Bool) (bs : List Float) (xs ys : List ℕ) 
     explicit-list h e = ap (handedOut (settingsOf k extremes sums)) e
 
 -- ---- AGREEMENT
--- the level is one, and the counts of both rows are there: what points read as cannot say
-abbrev pub figuresShaped : Figures → List ℕ → List ℕ → Bool
-figuresShaped (Exponential c) xs ys = leb (c .level) finest and leb (c .pos .len) (length xs) and leb (c .neg .len) (length ys)
-figuresShaped (Explicit n) xs ys = true
-
-abbrev pub inShape : Stored → Bool
-inShape x = figuresShaped (x .point .figures) (x .pos) (x .neg)
-
 -- the max_size could be configured, where the kind has one
 abbrev pub sizeFor : ℕ → Figures → Bool
 sizeFor size (Exponential c) = sizePasses size
@@ -142,9 +131,6 @@ second-size size (Exponential c) (Exponential d) h = h
 second-size size (Exponential c) (Explicit m) h = refl
 second-size size (Explicit n) (Exponential d) h = h
 second-size size (Explicit n) (Explicit m) h = refl
-
-abbrev pub counted : Stored → ℕ
-counted x = countIn (x .point .figures)
 
 figures-count : (f : Figures) (bs : List Float) (xs ys : List ℕ) → countIn f ≡ countOf (countsAs f bs xs ys)
 figures-count (Exponential c) bs xs ys = refl

@@ -7,17 +7,12 @@ use mathlib.Core.Logic.{_⊎_, inl, inr}
 use lib.Dec.{eqb}
 use borrow.Author.Tests.{eqb-true, eqb-false}
 use Rattle.laws.specs.Pick.{pick, _and_}
-use Rattle.laws.specs.Said.{Said, refusal, success}
 use Rattle.points.specs.Handed.{Handed, mergeCounts, mergeHanded}
 use Rattle.point.specs.Handing.{Stored, handedIn, refusalBefore, merging}
+use Rattle.point.specs.Lists.{inShape, told}
 use Rattle.point.proofs.Calls as calls
-use Rattle.point.proofs.Means.{inShape, refusalRead, refusal-is}
+use Rattle.point.proofs.Means.{refusalRead, refusal-is}
 use Rattle.point.proofs.Answers.{hasRoom, answers, no-room}
-
--- a refusal's number, or the merged point as it reads
-abbrev pub told : Said Stored → ℕ ⊎ Handed
-told (refusal n) = inl n
-told (success x) = inr (handedIn x)
 
 -- "Merging: 1, 8, 11, 9, 10"; whole: both points are in shape
 unfoldable pub toldRead : ℕ → Bool → Handed → Handed → List ℕ → List ℕ → ℕ ⊎ Handed

@@ -1,3 +1,4 @@
 -- The definitions that the contracts of `point` cite.
 pub mod Handing
+pub mod Lists
 pub mod Signed

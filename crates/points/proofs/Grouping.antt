@@ -13,34 +13,11 @@ use Rattle.points.specs.Points.{merge}
 use Rattle.points.specs.Explicit.{mergeBuckets}
 use Rattle.points.specs.Figures.{Kind, exponential, explicit, Settings, Counts, exponentialCounts, explicitCounts, kindCounts}
 use Rattle.points.specs.Handed.{Handed, handed, mergeCounts, mergeHanded}
-use Rattle.points.specs.Stands.{SameExtreme}
+use Rattle.points.specs.Same.{Shape, Of, Same}
 use Rattle.points.proofs.Merge.{merge-comm, merge-assoc}
 use Rattle.points.proofs.Agreement.{Agreed, fresh, fresh-neutral}
 use Rattle.points.proofs.Explicit.{BucketsOk, buckets-comm, buckets-assoc, fresh-buckets}
-use Rattle.points.proofs.Numbers.{Shown, shown-self, shown-nearer, extreme-turn, extreme-trans, nearer-cong, nearer-comm, nearer-assoc-same, start-same}
-
--- counts of the kind, with its bounds
-abbrev pub Shape : Kind → Counts → Type 0
-Shape (exponential size top) (exponentialCounts p) = Unit {0}
-Shape (exponential size top) (explicitCounts bounds p) = ⊥
-Shape (explicit b) (exponentialCounts p) = ⊥
-Shape (explicit b) (explicitCounts bounds p) = bounds ≡ b
-
--- a point of the settings: its kind and bounds, switch and zero threshold, and extremes as the switch has them
-pub record Of (s : Settings) (p : Handed) : Type 0 where
-  pub shape : Shape (s .kind) (p .counts)
-  pub extremes : p .extremes ≡ s .extremes
-  pub threshold : p .threshold ≡ s .threshold
-  pub min : Shown (s .extremes) (p .min)
-  pub max : Shown (s .extremes) (p .max)
-
--- the same in all but the sum, a zero's sign in the extremes aside
-pub record Same (p q : Handed) : Type 0 where
-  pub counts : p .counts ≡ q .counts
-  pub extremes : p .extremes ≡ q .extremes
-  pub threshold : p .threshold ≡ q .threshold
-  pub min : SameExtreme (p .min) (q .min)
-  pub max : SameExtreme (p .max) (q .max)
+use Rattle.points.proofs.Numbers.{shown-self, shown-nearer, extreme-turn, extreme-trans, nearer-cong, nearer-comm, nearer-assoc-same, start-same}
 
 shape-kept : (size : ℕ) (k : Kind) (a b : Counts) → Shape k a → Shape k b → Shape k (mergeCounts size a b)
 shape-kept size (exponential m top) (exponentialCounts p) (exponentialCounts q) h k = tt

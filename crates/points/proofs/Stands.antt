@@ -25,6 +25,7 @@ use Rattle.points.specs.Explicit.{boundsPass, bucketsOf}
 use Rattle.points.specs.Figures.{Kind, exponential, explicit, sizeOf, Settings, exponentialCounts, explicitCounts, kindCounts}
 use Rattle.points.specs.Handed.{Handed, handed, mergeCounts, mergeHanded, sameKind, mergeable, extremesAgree, countsAgree, handedAgrees}
 use Rattle.points.specs.Stands.{SameNumber, SameExtreme, SumStands, Stands}
+use Rattle.points.specs.Same.{resized}
 use Rattle.points.proofs.Agreement.{agreed-agrees}
 use Rattle.points.proofs.Classes.{countsOf-agrees}
 use Rattle.points.proofs.Numbers.{number-refl, same-shown, shown-next, shown-merged}
@@ -37,11 +38,6 @@ use Rattle.points.proofs.Summaries.{extreme, extreme-finite, extreme-pa
 counts-perm : (k : Kind) (t : Float) {vs ws : List Float} → List·Permᴰ vs ws → kindCounts k t vs ≡ kindCounts k t ws
 counts-perm (exponential size top) t h = ap exponentialCounts (pointOf-perm size (finest - top) (map-perm (classOf t) h))
 counts-perm (explicit bounds) t h = ap (explicitCounts bounds) (bucketsOf-perm bounds h)
-
--- the kind under another max_size
-abbrev pub resized : ℕ → Kind → Kind
-resized size (exponential m top) = exponential size top
-resized size (explicit bounds) = explicit bounds
 
 -- the size that a kind was built under, where it has one, is no smaller
 abbrev pub Allows : ℕ → Kind → Type 0

@@ -22,7 +22,6 @@ use Rattle.sets.proofs.CallRow.{row-set}
 use Rattle.directory.specs.View.{agreesb, view}
 use Rattle.directory.specs.Calls.{Kept, mostSets, fewKeys, accepts}
 use Rattle.bindings.specs.declared.Answer.the-variants.{Done}
-use Rattle.bindings.specs.Calls.{said}
 use Rattle.seats.specs.declared.Seating.{Seating}
 use Rattle.seats.specs.Seats.{seated, seatedBy, committed}
 use Rattle.seats.specs.Recording.{heldAt, orFresh, refusal, Others}

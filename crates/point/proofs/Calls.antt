@@ -28,19 +28,19 @@ abbrev chain : Bool → Bool → Bool → Bool → Bool → Bool → ℕ
 chain t u v w x y = pick t (pick (u and v) (pick (w and x) (pick y 0 9) 11) 8) 1
 
 module _ (size : ℕ) (a b : Stored) where
-  abbrev sizeOk : Bool
+  abbrev pub sizeOk : Bool
   sizeOk = sizeFits size (a .point .figures) (b .point .figures)
 
-  abbrev firstOk : Bool
+  abbrev pub firstOk : Bool
   firstOk = pointAgrees size a
 
-  abbrev secondOk : Bool
+  abbrev pub secondOk : Bool
   secondOk = pointAgrees size b
 
-  abbrev kindOk : Bool
+  abbrev pub kindOk : Bool
   kindOk = sameFigures (a .point .figures) (a .bounds) (b .point .figures) (b .bounds)
 
-  abbrev switchOk : Bool
+  abbrev pub switchOk : Bool
   switchOk = Bool·beq (a .point .extremes) (b .point .extremes)
 
   abbrev countOk : Bool

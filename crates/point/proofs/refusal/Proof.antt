@@ -1,5 +1,6 @@
-use Prim.Native.Nat.{_-_}
-use mathlib.Core.Path.{sym, _∙_}
+use Prim.Native.Nat.{ℕ, _-_}
+use mathlib.Core.Path.{_≡_, sym, _∙_}
+use mathlib.Core.Bool.{Bool, true}
 use Rattle.point.specs.Handing.{Stored, stored}
 use Rattle.exponential.proofs.Facts.{not-true, not-false}
 use Rattle.point.proofs.Calls as calls
@@ -16,6 +17,25 @@ second s = stored (s .args .b) (s .args .bbounds) (s .args .bpos) (s .args .bneg
 abbrev start : tie.Else1 → tie.Start
 start e = e .before .before .before .before .before .before .before .before
 
+-- the tests passed on the way to a place
+abbrev Passed : (ℕ → Stored → Stored → Bool) → tie.Start → Type 0
+Passed test s = test (s .args .size) (first s) (second s) ≡ true
+
+sized : (e : tie.Else1) → Passed calls.sizeOk (start e)
+sized e = sym (e .before .size-fits .ensures) ∙ not-false _ (e .if1 .left)
+
+first-agrees : (e : tie.Else2) → Passed calls.firstOk (start (e .before .before))
+first-agrees e = sym (e .before .point-agrees .ensures) ∙ not-false _ (e .if2 .left)
+
+second-agrees : (e : tie.Else3) → Passed calls.secondOk (start (e .before .before .before .before))
+second-agrees e = sym (e .before .point-agrees2 .ensures) ∙ not-false _ (e .if3 .left)
+
+alike : (e : tie.Else4) → Passed calls.kindOk (start (e .before .before .before .before .before .before))
+alike e = sym (e .before .same-kind .ensures) ∙ not-false _ (e .if4 .left)
+
+switched : (e : tie.Else5) → Passed calls.switchOk (start (e .before .before .before .before .before .before .before .before))
+switched e = sym (e .before .same-switch .ensures) ∙ not-false _ (e .if5 .left)
+
 size-fits-requires : tie.Need-size-fits-requires
 size-fits-requires c κs = search needs
 
@@ -31,7 +51,7 @@ returns-2 : tie.Need-returns-2
 returns-2 c =
     let e1 = c .before .before in
     let t = start e1 in
-    calls.bad-first (t .args .size) (first t) (second t) (sym (e1 .before .size-fits .ensures) ∙ not-false _ (e1 .if1 .left)) (sym (c .before .point-agrees .ensures) ∙ not-true _ (c .if2 .taken))
+    calls.bad-first (t .args .size) (first t) (second t) (sized e1) (sym (c .before .point-agrees .ensures) ∙ not-true _ (c .if2 .taken))
 
 point-agrees-requires-2 : tie.Need-point-agrees-requires-2
 point-agrees-requires-2 c κs = search needs
@@ -41,7 +61,7 @@ returns-3 c =
     let e2 = c .before .before in
     let e1 = e2 .before .before in
     let t = start e1 in
-    calls.bad-second (t .args .size) (first t) (second t) (sym (e1 .before .size-fits .ensures) ∙ not-false _ (e1 .if1 .left)) (sym (e2 .before .point-agrees .ensures) ∙ not-false _ (e2 .if2 .left)) (sym (c .before .point-agrees2 .ensures) ∙ not-true _ (c .if3 .taken))
+    calls.bad-second (t .args .size) (first t) (second t) (sized e1) (first-agrees e2) (sym (c .before .point-agrees2 .ensures) ∙ not-true _ (c .if3 .taken))
 
 same-kind-requires : tie.Need-same-kind-requires
 same-kind-requires c κs = search needs
@@ -52,7 +72,7 @@ returns-4 c =
     let e2 = e3 .before .before in
     let e1 = e2 .before .before in
     let t = start e1 in
-    calls.unlike (t .args .size) (first t) (second t) (sym (e1 .before .size-fits .ensures) ∙ not-false _ (e1 .if1 .left)) (sym (e2 .before .point-agrees .ensures) ∙ not-false _ (e2 .if2 .left)) (sym (e3 .before .point-agrees2 .ensures) ∙ not-false _ (e3 .if3 .left)) (sym (c .before .same-kind .ensures) ∙ not-true _ (c .if4 .taken))
+    calls.unlike (t .args .size) (first t) (second t) (sized e1) (first-agrees e2) (second-agrees e3) (sym (c .before .same-kind .ensures) ∙ not-true _ (c .if4 .taken))
 
 same-switch-requires : tie.Need-same-switch-requires
 same-switch-requires c κs = search needs
@@ -64,7 +84,7 @@ returns-5 c =
     let e2 = e3 .before .before in
     let e1 = e2 .before .before in
     let t = start e1 in
-    calls.unlike-switch (t .args .size) (first t) (second t) (sym (e1 .before .size-fits .ensures) ∙ not-false _ (e1 .if1 .left)) (sym (e2 .before .point-agrees .ensures) ∙ not-false _ (e2 .if2 .left)) (sym (e3 .before .point-agrees2 .ensures) ∙ not-false _ (e3 .if3 .left)) (sym (e4 .before .same-kind .ensures) ∙ not-false _ (e4 .if4 .left)) (sym (c .before .same-switch .ensures) ∙ not-true _ (c .if5 .taken))
+    calls.unlike-switch (t .args .size) (first t) (second t) (sized e1) (first-agrees e2) (second-agrees e3) (alike e4) (sym (c .before .same-switch .ensures) ∙ not-true _ (c .if5 .taken))
 
 counts-fit-requires : tie.Need-counts-fit-requires
 counts-fit-requires c κs = search needs
@@ -77,7 +97,7 @@ returns-6 c =
     let e2 = e3 .before .before in
     let e1 = e2 .before .before in
     let t = start e1 in
-    calls.too-many (t .args .size) (first t) (second t) (sym (e1 .before .size-fits .ensures) ∙ not-false _ (e1 .if1 .left)) (sym (e2 .before .point-agrees .ensures) ∙ not-false _ (e2 .if2 .left)) (sym (e3 .before .point-agrees2 .ensures) ∙ not-false _ (e3 .if3 .left)) (sym (e4 .before .same-kind .ensures) ∙ not-false _ (e4 .if4 .left)) (sym (e5 .before .same-switch .ensures) ∙ not-false _ (e5 .if5 .left)) (sym (c .before .counts-fit .ensures) ∙ not-true _ (c .if6 .taken))
+    calls.too-many (t .args .size) (first t) (second t) (sized e1) (first-agrees e2) (second-agrees e3) (alike e4) (switched e5) (sym (c .before .counts-fit .ensures) ∙ not-true _ (c .if6 .taken))
 
 returns-7 : tie.Need-returns-7
 returns-7 c =
@@ -87,7 +107,7 @@ returns-7 c =
     let e2 = e3 .before .before in
     let e1 = e2 .before .before in
     let t = start e1 in
-    calls.none (t .args .size) (first t) (second t) (sym (e1 .before .size-fits .ensures) ∙ not-false _ (e1 .if1 .left)) (sym (e2 .before .point-agrees .ensures) ∙ not-false _ (e2 .if2 .left)) (sym (e3 .before .point-agrees2 .ensures) ∙ not-false _ (e3 .if3 .left)) (sym (e4 .before .same-kind .ensures) ∙ not-false _ (e4 .if4 .left)) (sym (e5 .before .same-switch .ensures) ∙ not-false _ (e5 .if5 .left)) (sym (c .before .counts-fit .ensures) ∙ not-false _ (c .if6 .left))
+    calls.none (t .args .size) (first t) (second t) (sized e1) (first-agrees e2) (second-agrees e3) (alike e4) (switched e5) (sym (c .before .counts-fit .ensures) ∙ not-false _ (c .if6 .left))
 
 pub refusal-spec : {M : Type 1} → statement M
 refusal-spec =

@@ -1,0 +1,5 @@
+-- The laws of `listing`.
+pub mod Cases
+pub mod Calls
+pub mod Back
+pub mod Lists

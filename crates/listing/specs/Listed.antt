@@ -1,0 +1,147 @@
+-- A list of points in lent output: sets' rows, points' words, and their counts packed one after another in two stores. Assumes nothing.
+-- DESIGN.md, "A list of points in lent output": one form for collections, merges and sheets.
+use Prim.Native.Nat.{ℕ, zero, suc, _+_, _-_, _≤_, _<_}
+use mathlib.Core.Bool.{Bool, true, false}
+use mathlib.Core.List.{List, [], _∷_, _++_, map}
+use lib.Dec.{leb}
+use lib.ListN.{length, getD, set, take, drop}
+use lib.Ieee.{Float}
+use denote.Ref.{RefT, now}
+use Rattle.laws.specs.Over.{over}
+use Rattle.laws.specs.Pick.{pick, _and_}
+use Rattle.point.specs.Handing.{Stored, storedIn}
+use Rattle.point.specs.declared.Point.{Point}
+use Rattle.point.specs.declared.Figures.{Figures}
+use Rattle.point.specs.declared.Figures.the-variants.{Exponential, Explicit}
+use Rattle.listing.specs.Words.{wordsOf, pointIn, boundsIn, isPoint}
+use Rattle.listing.specs.declared.Cursor.{Cursor}
+use Rattle.listing.specs.declared.Entry.{Entry}
+use Rattle.listing.specs.declared.Found.{Found}
+use Rattle.listing.specs.declared.Found.the-variants.{NoPoint, Is}
+use Rattle.listing.specs.declared.Span.{Span}
+
+pub record Output : Type 0 where
+  pub sets : List (List ℕ)
+  pub words : List (List ℕ)
+  pub pos : List ℕ
+  pub neg : List ℕ
+
+-- as a contract writes it: the four lent slices, at entry or at exit
+abbrev pub output : RefT (List (List ℕ)) → RefT (List (List ℕ)) → RefT (List ℕ) → RefT (List ℕ) → Output
+output sets words pos neg = record { sets = now sets; words = now words; pos = now pos; neg = now neg }
+
+-- "No bounds, no buckets": the buckets of n bounds
+abbrev pub bucketsOf : ℕ → ℕ
+bucketsOf zero = 0
+bucketsOf (suc n) = suc (suc n)
+
+-- how many counts a point has in either store: its two rows, or its buckets in the first
+abbrev pub posLen : Figures → Span → ℕ
+posLen (Exponential c) b = c .pos .len
+posLen (Explicit n) b = bucketsOf (b .len)
+
+abbrev pub negLen : Figures → ℕ
+negLen (Exponential c) = c .neg .len
+negLen (Explicit n) = 0
+
+-- the cursor behind a point
+abbrev pub behind : Cursor → Figures → Span → Cursor
+behind at f b = record { place = at .place + 1; pos = at .pos + posLen f b; neg = at .neg + negLen f }
+
+-- ---- what is listed
+
+-- a set's row, its point, where the point's bounds lie, its counts
+pub record Item : Type 0 where
+  pub row : List ℕ
+  pub point : Point
+  pub bounds : Span
+  pub pos : List ℕ
+  pub neg : List ℕ
+
+-- as it is given to be listed: the counts are the first ones of two lists
+abbrev pub itemOf : List ℕ → Point → Span → List ℕ → List ℕ → Item
+itemOf row p b xs ys =
+    record { row = row; point = p; bounds = b; pos = take (posLen (p .figures) b) xs; neg = take (negLen (p .figures)) ys }
+
+-- the counts of all, one after another
+abbrev pub joined : (Item → List ℕ) → List Item → List ℕ
+joined f [] = []
+joined f (i ∷ l) = f i ++ joined f l
+
+-- the whole list over what the output held: "Lent output past the result keeps what it held"
+unfoldable pub listed : List Item → Output → Output
+listed l o =
+    record {
+      sets = over (map (λ i. i .row) l) (o .sets);
+      words = over (map (λ i. wordsOf (i .point) (i .bounds)) l) (o .words);
+      pos = over (joined (λ i. i .pos) l) (o .pos);
+      neg = over (joined (λ i. i .neg) l) (o .neg);
+    }
+
+-- the cursor behind a list
+abbrev pub cursorOf : List Item → Cursor
+cursorOf l = record { place = length l; pos = length (joined (λ i. i .pos) l); neg = length (joined (λ i. i .neg) l) }
+
+-- ---- one point put at a cursor
+
+-- ys over the list from place a on
+unfoldable pub overAt : ℕ → List ℕ → List ℕ → List ℕ
+overAt a ys xs = take a xs ++ over ys (drop a xs)
+
+unfoldable pub putAt : Cursor → Item → Output → Output
+putAt at i o =
+    record {
+      sets = set (o .sets) (at .place) (i .row);
+      words = set (o .words) (at .place) (wordsOf (i .point) (i .bounds));
+      pos = overAt (at .pos) (i .pos) (o .pos);
+      neg = overAt (at .neg) (i .neg) (o .neg);
+    }
+
+-- there is room for it, and the counts that it says are lent
+pub record Room (at : Cursor) (f : Figures) (b : Span) (xs ys : List ℕ) (o : Output) : Type 0 where
+  pub sets : at .place < length (o .sets)
+  pub words : at .place < length (o .words)
+  pub pos : at .pos + posLen f b ≤ length (o .pos)
+  pub neg : at .neg + negLen f ≤ length (o .neg)
+  pub lent : posLen f b ≤ length xs
+  pub lentNeg : negLen f ≤ length ys
+
+-- the next cursor, and the output afterwards
+pub record Put : Type 0 where
+  pub next : Cursor
+  pub output : Output
+
+abbrev pub left : Cursor → Output → Put
+left c o = record { next = c; output = o }
+
+-- ---- the point at a cursor
+
+-- whether a point's counts lie within stores of so many
+abbrev pub within : Cursor → Figures → Span → ℕ → ℕ → Bool
+within at f b pos neg = leb (at .pos + posLen f b) pos and leb (at .neg + negLen f) neg
+
+-- that of twelve words: none where they are no point's, or where its counts are not there
+unfoldable pub entryIn : Cursor → List ℕ → ℕ → ℕ → Found
+entryIn at w pos neg =
+    pick (isPoint w and within at (pointIn w .figures) (boundsIn w) pos neg)
+    (Is (record { point = pointIn w; bounds = boundsIn w; next = behind at (pointIn w .figures) (boundsIn w) }))
+    NoPoint
+
+unfoldable pub pointAt : Cursor → List (List ℕ) → ℕ → ℕ → Found
+pointAt at words pos neg =
+    pick (leb (length words) (at .place)) NoPoint (entryIn at (getD words (at .place) []) pos neg)
+
+-- the counts of a sign between two cursors
+abbrev pub between : ℕ → ℕ → List ℕ → List ℕ
+between a e xs = take (e - a) (drop a xs)
+
+abbrev pub rowAt : Cursor → Cursor → Bool → List ℕ → List ℕ → List ℕ
+rowAt at next negative pos neg = pick negative (between (at .neg) (next .neg) neg) (between (at .pos) (next .pos) pos)
+
+-- as merging takes it: the point at a cursor with its bounds, of a store beside the list, and its counts
+abbrev pub boundsAt : Span → List Float → List Float
+boundsAt b bounds = take (b .len) (drop (b .start) bounds)
+
+abbrev pub storedAt : Cursor → Entry → List Float → Output → Stored
+storedAt at e bounds o =
+    storedIn (e .point) (boundsAt (e .bounds) bounds) (rowAt at (e .next) false (o .pos) (o .neg)) (rowAt at (e .next) true (o .pos) (o .neg))

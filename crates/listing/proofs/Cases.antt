@@ -107,10 +107,25 @@ part-laid a n ys xs e h =
 
 -- ---- what lies from a place on
 
-pub rest-is : (k i a : ℕ) (xs : List ℕ) → i ≡ min a (length xs) → take k (take (length xs - i) (drop i xs)) ≡ take k (drop a xs)
-rest-is k i a xs e =
-    ap (take k) (take-all (length xs - i) (drop i xs) (omega (arith, length-drop i xs)))
-    ∙ ⊎-elim
-    (λ (l : a ≤ length xs). let q : i ≡ a = omega (arith, e) in ap (λ (j : ℕ). take k (drop j xs)) q)
-    (λ (l : length xs < a). ap (take k) (drop-of-length-le xs {i = i} (omega (arith, e)) ∙ sym (drop-of-length-le xs {i = a} (omega arith))))
-    (le-or-lt a (length xs))
+-- from the lesser of a place and the end on
+module _ {A : Type 0} (xs : List A) (a i : ℕ) (e : i ≡ min a (length xs)) where
+  from-is : drop i xs ≡ drop a xs
+  from-is =
+      ⊎-elim
+      (λ (l : a ≤ length xs). let q : i ≡ a = omega (arith, e) in ap (λ (j : ℕ). drop j xs) q)
+      (λ (l : length xs < a). drop-of-length-le xs {i = i} (omega (arith, e)) ∙ sym (drop-of-length-le xs {i = a} (omega arith)))
+      (le-or-lt a (length xs))
+
+  pub rest-is : (k : ℕ) → take k (take (length xs - i) (drop i xs)) ≡ take k (drop a xs)
+  rest-is k = ap (take k) (take-all (length xs - i) (drop i xs) (omega (arith, length-drop i xs)) ∙ from-is)
+
+  -- up to the lesser of so many and the end
+  pub some-is : (k n : ℕ) → n ≡ min k (length xs - i) → take (i + n - i) (drop i xs) ≡ take k (drop a xs)
+  some-is k n f =
+      let w : i + n - i ≡ n = omega arith in
+      ap (λ (j : ℕ). take j (drop i xs)) w
+      ∙ ⊎-elim
+      (λ (l : k ≤ length xs - i). let q : n ≡ k = omega (arith, f) in ap (λ (j : ℕ). take j (drop i xs)) q)
+      (λ (l : length xs - i < k). take-all n (drop i xs) (omega (arith, f, length-drop i xs)) ∙ sym (take-all k (drop i xs) (omega (arith, length-drop i xs))))
+      (le-or-lt k (length xs - i))
+      ∙ ap (take k) from-is

@@ -3,3 +3,4 @@ pub mod Cases
 pub mod Calls
 pub mod Back
 pub mod Lists
+pub mod Given

@@ -3,7 +3,7 @@ ghost use mathlib.Core.Path.{_≡_};
 ghost use Prim.Native.Nat.{_+_, _-_, _^_, _<_, min};
 ghost use lib.Dec.{leb};
 ghost use lib.ListN.{length};
-ghost use Rattle.listing.specs.Listed.{bucketsOf, within, entryIn, pointAt, rowAt};
+ghost use Rattle.listing.specs.Listed.{bucketsOf, within, entryIn, pointAt, rowAt, boundsAt};
 use crate::Cursor;
 use crate::Entry;
 use crate::Found;
@@ -135,4 +135,14 @@ pub fn row_at<'a>(
         neg: Row { start: 0, len: m },
     };
     exponential::row_of(c, negative, &pos[i..], &neg[j..])
+}
+
+// The bounds of an explicit point, a part of the store of bounds that lies beside the list.
+pub fn bounds_at<'a>(b: Span, bounds: &'a [f64]) -> &'a [f64]
+    ensures { λ r. ⌜ now r ≡ boundsAt b (now (bounds .entry)) ⌝ }
+{
+    let i = shorter(b.start, bounds.len());
+    let n = shorter(b.len, bounds.len() - i);
+    let e = i + n;
+    &bounds[i..e]
 }

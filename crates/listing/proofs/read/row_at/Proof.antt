@@ -57,9 +57,9 @@ returns c =
     let a = c .before .before .before .before .before .before .before .before .before .args in
     c .row-of .ensures
     ∙ ap₂ (λ (x y : List ℕ). pick (a .negative) x y)
-    (rest-is (m .far2 .result) (j .shorter2 .result) (a .at .neg) (a .neg .now) (j .shorter2 .ensures)
+    (rest-is (a .neg .now) (a .at .neg) (j .shorter2 .result) (j .shorter2 .ensures) (m .far2 .result)
     ∙ ap (λ (k : ℕ). take k (drop (a .at .neg) (a .neg .now))) (m .far2 .ensures))
-    (rest-is (n .far .result) (i .shorter .result) (a .at .pos) (a .pos .now) (i .shorter .ensures)
+    (rest-is (a .pos .now) (a .at .pos) (i .shorter .result) (i .shorter .ensures) (n .far .result)
     ∙ ap (λ (k : ℕ). take k (drop (a .at .pos) (a .pos .now))) (n .far .ensures))
 
 pub row-at-spec : {M : Type 1} → statement M

@@ -1,0 +1,65 @@
+-- What series and calls give to a list: points that code holds, with as many counts as they say. Assumes nothing.
+use Prim.Native.Nat.{ℕ, _≤_, _<_}
+use mathlib.Core.Path.{_≡_, refl}
+use mathlib.Core.Bool.{Bool, true, false}
+use mathlib.Core.List.{List}
+use lib.ListN.{length}
+use lib.Seq.{length-take-le}
+use lib.Ieee.{Float, binary64, fits}
+use lib.Ieee.Bits.{is-true, ofBits-fits}
+use Rattle.laws.specs.Pick.{pick}
+use Rattle.floats.specs.Answers.{shownOf}
+use Rattle.floats.specs.Starts.{zeroFloat}
+use Rattle.exponential.specs.declared.Head as SH
+use Rattle.explicit.specs.declared.Head as BH
+use Rattle.point.specs.Handing.{shownSum, exponentialPoint, explicitPoint}
+use Rattle.point.specs.declared.Point.{Point}
+use Rattle.listing.specs.Words.{isShown}
+use Rattle.listing.specs.Listed.{posLen, negLen, itemOf}
+use Rattle.listing.specs.declared.Span.{Span}
+use Rattle.listing.proofs.Back.{Fitting, Held}
+use Rattle.listing.proofs.Lists.{Counted}
+
+shown-fits : (s : Bool) (x : Float) → fits binary64 x ≡ true → Fitting (shownOf s x)
+shown-fits true x h = h
+shown-fits false x h = tt
+
+shown-alike : (s : Bool) (x y : Float) → isShown (shownOf s x) ≡ isShown (shownOf s y)
+shown-alike true x y = refl
+shown-alike false x y = refl
+
+sum-fits : (s : Bool) (x : Float) → fits binary64 x ≡ true → fits binary64 (shownSum s x) ≡ true
+unfolding pick
+sum-fits true x h = h
+sum-fits false x h = is-true (fits binary64 zeroFloat) (ofBits-fits binary64 0)
+
+-- the point that a series hands out is held, of either kind
+module _ (extremes sums : Bool) where
+  pub exponential-held : (h : SH.Head) → fits binary64 (h .min) ≡ true → fits binary64 (h .max) ≡ true → fits binary64 (h .sum) ≡ true
+      → h .counts .level < 4294967296 → h .counts .pos .start < 4294967296 → h .counts .neg .start < 4294967296
+      → Held (exponentialPoint h extremes sums) (record { start = 0; len = 0 })
+  exponential-held h a b c l p n =
+      record {
+        figures = (l, p, n, refl);
+        both = shown-alike extremes (h .max) (h .min);
+        min = shown-fits extremes (h .min) a;
+        max = shown-fits extremes (h .max) b;
+        sum = sum-fits sums (h .sum) c;
+      }
+
+  pub explicit-held : (h : BH.Head) (s : Span) → fits binary64 (h .min) ≡ true → fits binary64 (h .max) ≡ true → fits binary64 (h .sum) ≡ true
+      → Held (explicitPoint h extremes sums) s
+  explicit-held h s a b c =
+      record {
+        figures = tt;
+        both = shown-alike extremes (h .max) (h .min);
+        min = shown-fits extremes (h .min) a;
+        max = shown-fits extremes (h .max) b;
+        sum = sum-fits sums (h .sum) c;
+      }
+
+-- an item that was given with its counts lent has them
+pub item-counted : (row : List ℕ) (p : Point) (b : Span) (xs ys : List ℕ) → posLen (p .figures) b ≤ length xs → negLen (p .figures) ≤ length ys
+    → Counted (itemOf row p b xs ys)
+item-counted row p b xs ys h k =
+    record { pos = length-take-le (posLen (p .figures) b) xs h; neg = length-take-le (negLen (p .figures)) ys k }

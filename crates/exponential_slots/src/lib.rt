@@ -3,6 +3,7 @@ ghost use mathlib.Core.Path.{_≡_};
 ghost use mathlib.Core.Bool.{true};
 ghost use Prim.Native.Nat.{_+_, _*_, _<_, _≤_};
 ghost use lib.ListN.{length};
+ghost use lib.Ieee.Scale.{finite};
 ghost use Rattle.exponential_slots.specs.Slots.{narrow, readable, headIn, headOf, wordsOf, numberOf, figuresAfter, extremesAfter, slots, outcome, recordedAt};
 use rows::Row;
 use exponential::Answer;
@@ -107,7 +108,8 @@ fn keep(x: usize, figures: &mut [[u64; 8]], extremes: &mut [[f64; 3]], got: Answ
     }
 }
 
-// Records a value into slot x, which holds a series where it was updated, or refuses it with document 01's number.
+// Records a finite value into slot x, which holds a series where it was updated, and answers 0; or refuses it: 8 where the slot's words are
+// no head or the series disagrees, 9 where its count is full.
 pub fn record(
     size: u32,
     top: u32,
@@ -119,8 +121,8 @@ pub fn record(
     neg: &mut [u64],
     v: f64,
 ) -> u8
-    requires { ⌜ (x < length (now figures)) × (x < length (now extremes)) ⌝ }
-    requires { ⌜ (x * size + size ≤ length (now pos)) × (x * size + size ≤ length (now neg)) ⌝ }
+    requires { ⌜ (x < length (now figures)) × (x < length (now extremes))
+        × (x * size + size ≤ length (now pos)) × (x * size + size ≤ length (now neg)) × (finite v ≡ true) ⌝ }
     ensures { λ r. ⌜ outcome r (slots (figures .exit) (extremes .exit) (pos .exit) (neg .exit))
         ≡ recordedAt size top x updated (slots (figures .entry) (extremes .entry) (pos .entry) (neg .entry)) v ⌝ }
 {

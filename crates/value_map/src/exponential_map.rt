@@ -1,7 +1,8 @@
 // The map of the exponential kind: configuring, and recording by set and by handle. Its stores: the directory's (sets, entries, order),
 // and each slot's figures, extremes and rows of counts.
 ghost use mathlib.Core.Path.{_≡_};
-ghost use mathlib.Core.Bool.{_&&_};
+ghost use mathlib.Core.Bool.{_&&_, true};
+ghost use lib.Ieee.Scale.{finite};
 ghost use Rattle.points.specs.Figures.{sizePasses};
 ghost use Rattle.sets.specs.Sorted.{given, filterOf};
 ghost use Rattle.directory.specs.View.{stores};
@@ -150,7 +151,7 @@ fn enter(
     row: [u64; 9],
     seat: Seating,
 ) -> Reply
-    requires { ⌜ Seatable (exponentialStore size top) (held d (stores sets entries order) (slots figures extremes pos neg)) seat ⌝ }
+    requires { ⌜ Seatable (exponentialStore size top) (held d (stores sets entries order) (slots figures extremes pos neg)) seat × (finite v ≡ true) ⌝ }
     ensures { λ r. ⌜ gave r (stores (sets .exit) (entries .exit) (order .exit)) (slots (figures .exit) (extremes .exit) (pos .exit) (neg .exit))
         ≡ entered (exponentialStore size top)
         (held d (stores (sets .entry) (entries .entry) (order .entry)) (slots (figures .entry) (extremes .entry) (pos .entry) (neg .entry)))

@@ -32,7 +32,7 @@ after r =
 
 -- a seating that is not refused has its place
 seat : (e : tie.Else1) → let s = at (e .before) in Room (s .args .size) (lentMap s .cells) (s .args .seat .slot) × Fits (lentMap s .kept .dir) (lentMap s .kept .stores) (s .args .seat .target)
-seat e = at (e .before) .pre (e .if1 .left)
+seat e = at (e .before) .pre .0 (e .if1 .left)
 
 refused-requires : tie.Need-refused-requires
 refused-requires c κs = search needs
@@ -44,7 +44,7 @@ returns c =
     ap (same s) (c .refused .ensures) ∙ entered-away (owed (a .size) (a .top)) (lentMap s) (a .v) (a .row) (a .seat) (c .before .if1 .taken)
 
 record-requires : tie.Need-record-requires
-record-requires c κs = let r = seat (c .before .before .before .before) .0 in ((r .figures, r .extremes), (r .pos, r .neg))
+record-requires c κs = let e = c .before .before .before .before in let r = seat e .0 in (r .figures, r .extremes, r .pos, r .neg, at (e .before) .pre .1)
 
 refused-requires-2 : tie.Need-refused-requires-2
 refused-requires-2 c κs = search needs

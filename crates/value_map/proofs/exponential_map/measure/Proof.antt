@@ -8,6 +8,8 @@ use mathlib.Core.Option.{Option}
 use native.Mathlib.Omega.{arith}
 use denote.Ref.{now}
 use lib.ListN.{length, length-map}
+use lib.Ieee.{binary64, fits}
+use lib.Ieee.Scale.{finite}
 use Rattle.laws.proofs.Cases.{and-true}
 use Rattle.kinds.specs.Histograms.{histograms}
 use Rattle.sets.specs.Sorted.{attribute, given, filterOf}
@@ -100,8 +102,10 @@ enter-requires c κs =
     let o = t .before .before .before .before .before in
     let e = o .before in
     let s = at (e .before) in
-    let ok = and-true (passes (kind s)) (accepts (s .args .limit) (filter s)) (known e .ok-is) .1 in
-    set-seatable (owed (s .args .size) (s .args .top)) (s .args .limit) (lentMap s) (known e .room-is) (filter s) ok (o .sorted .result) (t .seat .result) (t .seat .ensures)
+    let ok = and-true (passes (kind s)) (accepts (s .args .limit) (filter s)) (known e .ok-is) .1 in (
+      set-seatable (owed (s .args .size) (s .args .top)) (s .args .limit) (lentMap s) (known e .room-is) (filter s) ok (o .sorted .result) (t .seat .result) (t .seat .ensures),
+      and-true (finite (s .args .v)) (fits binary64 (s .args .v)) (known e .value) .0,
+    )
 
 same-length : tie.Need-same-length
 same-length c = search needs

@@ -4,6 +4,9 @@ use Prim.Native.Nat.{ℕ}
 use mathlib.Core.Path.{_≡_, sym, ap, _∙_}
 use mathlib.Core.Bool.{_&&_}
 use lib.Dec.{leb}
+use lib.Ieee.{binary64, fits}
+use lib.Ieee.Scale.{finite}
+use Rattle.laws.proofs.Cases.{and-true}
 use Rattle.kinds.specs.Histograms.{histograms}
 use Rattle.directory.specs.View.{stores}
 use Rattle.directory.specs.Calls.{mostSets}
@@ -80,8 +83,10 @@ enter-requires : tie.Need-enter-requires
 enter-requires c κs =
     let t = c .before .before .before .before .before .before .before in
     let e = t .before .before .before .before in
-    let s = at (e .before) in
-    by-seatable (owed (s .args .size) (s .args .top)) (s .args .limit) (lentMap s) (known e .room-is) (s .args .h) (t .seat-by .result) (t .seat-by .ensures)
+    let s = at (e .before) in (
+      by-seatable (owed (s .args .size) (s .args .top)) (s .args .limit) (lentMap s) (known e .room-is) (s .args .h) (t .seat-by .result) (t .seat-by .ensures),
+      and-true (finite (s .args .v)) (fits binary64 (s .args .v)) (known e .value) .0,
+    )
 
 same-length : tie.Need-same-length
 same-length c = search needs

@@ -1,9 +1,9 @@
 -- The figures of a slot agree exactly where the code reads a head from it that agrees. Assumes nothing.
-use Prim.Native.Nat.{ℕ, _+_, _-_, _≤_}
-use mathlib.Core.Path.{_≡_, ap}
+use Prim.Native.Nat.{ℕ, suc, _+_, _-_, _≤_}
+use mathlib.Core.Path.{_≡_, refl, ap, _∙_}
 use mathlib.Core.Logic.{⊎-elim}
-use mathlib.Core.Bool.{true, false}
-use mathlib.Core.List.{List, []}
+use mathlib.Core.Bool.{Bool, true, false}
+use mathlib.Core.List.{List}
 use native.Mathlib.Omega.{arith}
 use lib.Dec.{leb}
 use lib.ListN.{length, getD, take}
@@ -14,14 +14,15 @@ use Rattle.laws.proofs.Cases.{and-true}
 use Rattle.index.specs.Bins.{finest, endBin}
 use Rattle.points.specs.Agreement as A
 use Rattle.points.proofs.Agreement as PA
-use Rattle.points.specs.Figures.{exponential, sizePasses, exponentialCounts, explicitCounts}
+use Rattle.points.specs.Figures.{Kind, exponential, explicit, sizePasses, Counts, exponentialCounts}
+use Rattle.points.specs.Handed.{Handed, extremesAgree, countsAgree, handedAgrees}
 use Rattle.exponential.specs.Series.{mostCount, lowestOfAll, read}
 use Rattle.exponential.specs.Series as S
 use Rattle.exponential.proofs.Facts.{agreed, agreed-agrees}
 use Rattle.exponential.proofs.Write.{level-pow}
 use Rattle.kinds.specs.Histograms.{passes, countsHold}
 use Rattle.exponential_slots.specs.Slots.{countsIn, narrow}
-use Rattle.exponential_slots.specs.Meaning.{shaped, countsAt}
+use Rattle.exponential_slots.specs.Meaning.{shaped, shapeless, countsAt}
 use Rattle.exponential_slots.proofs.Cases.{narrow-says, narrow-of}
 
 -- ---- words in shape
@@ -53,6 +54,29 @@ unfolding shaped _and_
 shaped-of size f k =
     rw (le-leb (getD f 0 0) mostCount (k .count), le-leb (getD f 2 0) finest (k .level), le-leb (getD f 4 0) size (k .pos), le-leb (getD f 6 0) size (k .neg))
 
+-- ---- words out of shape
+
+no-second : (a : Bool) → (a and false) ≡ false
+unfolding _and_
+no-second true = refl
+no-second false = refl
+
+shapeless-counts : (size top low : ℕ) → countsAgree size top low shapeless ≡ false
+unfolding A.agrees _and_
+shapeless-counts size top low = no-second (leb (finest - top) (suc finest))
+
+-- a series that the map holds does not agree with them, whatever is configured
+pub shapeless-held : (k : Kind) → countsHold k shapeless ≡ false
+shapeless-held (exponential size top) = shapeless-counts size top lowestOfAll
+shapeless-held (explicit bounds) = refl
+
+-- nor does a point that is handed out
+pub shapeless-handed : (size top low : ℕ) (p : Handed) → p .counts ≡ shapeless → handedAgrees size top low p ≡ false
+unfolding handedAgrees _and_
+shapeless-handed size top low p e =
+    let b = extremesAgree (p .min) (p .max) in
+    ap (λ (c : Counts). countsAgree size top low c and b) e ∙ ap (λ (a : Bool). a and b) (shapeless-counts size top low)
+
 -- ---- settings that configuring accepts
 
 pub record Accepted (size top : ℕ) : Type 0 where
@@ -71,11 +95,11 @@ accepted-of size top h =
 module _ (size : ℕ) (f xs ys : List ℕ) where
   pub counts-in : shaped size f ≡ true → countsAt size f xs ys ≡ exponentialCounts (read (countsIn f) xs ys)
   unfolding countsAt
-  counts-in h = pick-true (shaped size f) (exponentialCounts (read (countsIn f) xs ys)) (explicitCounts [] (record { counts = []; total = 0 })) h
+  counts-in h = pick-true (shaped size f) (exponentialCounts (read (countsIn f) xs ys)) shapeless h
 
-  counts-out : shaped size f ≡ false → countsAt size f xs ys ≡ explicitCounts [] (record { counts = []; total = 0 })
+  counts-out : shaped size f ≡ false → countsAt size f xs ys ≡ shapeless
   unfolding countsAt
-  counts-out h = pick-false (shaped size f) (exponentialCounts (read (countsIn f) xs ys)) (explicitCounts [] (record { counts = []; total = 0 })) h
+  counts-out h = pick-false (shaped size f) (exponentialCounts (read (countsIn f) xs ys)) shapeless h
 
   module _ (top : ℕ) (z : Accepted size top) where
     -- what agrees is in shape
@@ -84,7 +108,7 @@ module _ (size : ℕ) (f xs ys : List ℕ) where
         ⊎-elim
         (λ (e : shaped size f ≡ true). e)
         (λ (e : shaped size f ≡ false).
-        absurd (not-both (countsHold (exponential size top) (countsAt size f xs ys)) h (ap (countsHold (exponential size top)) (counts-out e))))
+        absurd (not-both (countsHold (exponential size top) (countsAt size f xs ys)) h (ap (countsHold (exponential size top)) (counts-out e) ∙ shapeless-held (exponential size top))))
         (flag (shaped size f))
 
     pub holds-is : shaped size f ≡ true → countsHold (exponential size top) (countsAt size f xs ys) ≡ A.agrees size top lowestOfAll (read (countsIn f) xs ys)

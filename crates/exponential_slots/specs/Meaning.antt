@@ -1,5 +1,5 @@
 -- What a slot's cells mean: figures of a series of the exponential kind. Assumes nothing.
-use Prim.Native.Nat.{ℕ}
+use Prim.Native.Nat.{ℕ, suc}
 use mathlib.Core.Bool.{Bool}
 use mathlib.Core.List.{List, []}
 use lib.Dec.{leb}
@@ -9,8 +9,9 @@ use Rattle.laws.specs.Pick.{pick, _and_}
 use Rattle.parts.specs.Parts.{partAt}
 use Rattle.index.specs.Bins.{finest}
 use Rattle.floats.specs.Starts.{zeroFloat}
+use Rattle.points.specs.Points.{Row}
 use Rattle.points.specs.Values.{Summary}
-use Rattle.points.specs.Figures.{exponential, Settings, Counts, exponentialCounts, explicitCounts, Figures}
+use Rattle.points.specs.Figures.{exponential, Settings, Counts, exponentialCounts, Figures}
 use Rattle.exponential.specs.Series.{mostCount, read}
 use Rattle.exponential_slots.specs.Slots.{Slots, countsIn}
 
@@ -22,10 +23,15 @@ settings size top extremes sums = record { kind = exponential size top; extremes
 unfoldable pub shaped : ℕ → List ℕ → Bool
 shaped size f = leb (getD f 0 0) mostCount and leb (getD f 2 0) finest and leb (getD f 4 0) size and leb (getD f 6 0) size
 
--- words out of shape read as counts of the other kind, which never agree (`countsHold`)
+-- Words out of shape are no series, a case of its own: an empty point one step below the last level that there is. No test of agreement
+-- accepts it (the laws `shapeless-held` and `shapeless-handed`): "8: .. touched series disagrees with itself".
+abbrev pub shapeless : Counts
+shapeless =
+    let none : Row = record { start = 0; counts = [] } in
+    exponentialCounts (record { d = suc finest; pos = none; neg = none; zeros = 0; total = 0 })
+
 unfoldable pub countsAt : ℕ → List ℕ → List ℕ → List ℕ → Counts
-countsAt size f xs ys =
-    pick (shaped size f) (exponentialCounts (read (countsIn f) xs ys)) (explicitCounts [] (record { counts = []; total = 0 }))
+countsAt size f xs ys = pick (shaped size f) (exponentialCounts (read (countsIn f) xs ys)) shapeless
 
 abbrev pub summaryIn : List Float → Summary
 summaryIn m = record { min = getD m 0 nan; max = getD m 1 nan; sum = getD m 2 nan }

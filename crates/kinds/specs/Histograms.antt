@@ -24,8 +24,8 @@ abbrev pub passes : Kind → Bool
 passes (exponential size top) = sizePasses size && leb top finest
 passes (explicit bounds) = boundsPass bounds
 
--- "An exponential series agrees when ..; explicit bounds pass number 3, and with bounds the counts total count". Code may read a head
--- that is out of shape (a level above the finest, a row longer than its part) as counts of the other kind: they never agree.
+-- "An exponential series agrees when ..; explicit bounds pass number 3, and with bounds the counts total count". Counts of the other kind
+-- do not, nor does what words out of shape are read as (`shapeless` of exponential_slots).
 abbrev pub countsHold : Kind → Counts → Bool
 countsHold (exponential size top) (exponentialCounts p) = agrees size top (lowestBin finest) p
 countsHold (exponential size top) (explicitCounts b p) = false

@@ -21,7 +21,7 @@ use Rattle.rows.proofs.Adds.{over-zeroed}
 use Rattle.points.specs.Explicit.{bucketOf, bucketCount, recordBucket, added, bucketsAgree}
 use Rattle.points.proofs.Explicit.{buckets-say, bucket-le, length-added}
 use Rattle.explicit.specs.declared.Head.{Head}
-use Rattle.explicit.specs.declared.Answer.the-variants.{Recorded, Refused}
+use Rattle.laws.specs.Said.{refusal, success}
 use Rattle.explicit.specs.Series.{mostCount, bucketsIn, refusalOf, outcome, recording, freshHead, freshening}
 use Rattle.explicit.proofs.Turns.{take-next}
 
@@ -104,16 +104,16 @@ module _ (bs : List Float) (h : Head) (xs : List ℕ) (v : Float) where
       (λ (p : 0 < bucketCount bs). omega (arith, k .adds p, r .count))
       (eq-zero-or-pos (bucketCount bs))
 
-  pub refused-law : (n : ℕ) → n ≡ refusalOf bs h xs v → (n ≡ 0 → ⊥) → outcome (Refused n) xs ≡ recording bs h xs v
+  pub refused-law : (n : ℕ) → n ≡ refusalOf bs h xs v → (n ≡ 0 → ⊥) → outcome (refusal n) xs ≡ recording bs h xs v
   unfolding recording pick
   refused-law n e z = rw (← e, ne-eqb n 0 z)
 
   pub accepted-law : (mn mx : Float) (ys : List ℕ) → refusalOf bs h xs v ≡ 0 → ys ≡ over (recordBucket bs (bucketsIn bs 0 xs) v .counts) xs
       → mn ≡ lesserOf (h .min) v → mx ≡ greaterOf (h .max) v
-      → outcome (Recorded (record { count = h .count + 1; min = mn; max = mx; sum = add binary64 (h .sum) v })) ys ≡ recording bs h xs v
+      → outcome (success (record { count = h .count + 1; min = mn; max = mx; sum = add binary64 (h .sum) v })) ys ≡ recording bs h xs v
   unfolding recording pick recordBucket
   accepted-law mn mx ys e w a b =
-      (λ j. record { answer = Recorded (record { count = h .count + 1; min = a j; max = b j; sum = add binary64 (h .sum) v }); counts = w j })
+      (λ j. record { answer = success (record { count = h .count + 1; min = a j; max = b j; sum = add binary64 (h .sum) v }); counts = w j })
       ∙ rw (eq-eqb (refusalOf bs h xs v) 0 e)
 
 -- ---- counts added
@@ -163,13 +163,13 @@ added-none xs ys us = refl
 zero-front : (k : ℕ) (xs : List ℕ) → k ≤ length xs → zeroed 0 k xs ≡ over (replicate k 0) xs
 zero-front k xs h = let z : k - 0 ≡ k = omega arith in sym (rw z at (over-zeroed 0 k xs (omega arith) h))
 
-pub fresh-short : (bs : List Float) (xs : List ℕ) → length xs < bucketCount bs → outcome (Refused 12) xs ≡ freshening bs xs
+pub fresh-short : (bs : List Float) (xs : List ℕ) → length xs < bucketCount bs → outcome (refusal 12) xs ≡ freshening bs xs
 unfolding freshening pick
 fresh-short bs xs h = rw (lt-leb (bucketCount bs) (length xs) h) refl
 
 pub fresh-made : (bs : List Float) (xs : List ℕ) (k : ℕ) (ys : List ℕ) → k ≡ bucketCount bs → bucketCount bs ≤ length xs → ys ≡ zeroed 0 k xs
-    → outcome (Recorded freshHead) ys ≡ freshening bs xs
+    → outcome (success freshHead) ys ≡ freshening bs xs
 unfolding freshening pick
 fresh-made bs xs k ys e h f =
-    ap (λ l. outcome (Recorded freshHead) l) (f ∙ ap (λ (k : ℕ). zeroed 0 k xs) e ∙ zero-front (bucketCount bs) xs h)
+    ap (λ l. outcome (success freshHead) l) (f ∙ ap (λ (k : ℕ). zeroed 0 k xs) e ∙ zero-front (bucketCount bs) xs h)
     ∙ rw (le-leb (bucketCount bs) (length xs) h) refl

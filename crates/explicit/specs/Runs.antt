@@ -2,9 +2,8 @@
 use Prim.Native.Nat.{ℕ}
 use mathlib.Core.List.{List, [], _∷_}
 use lib.Ieee.{Float}
+use Rattle.laws.specs.Said.{Said, refusal, success}
 use Rattle.explicit.specs.declared.Head.{Head}
-use Rattle.explicit.specs.declared.Answer.{Answer}
-use Rattle.explicit.specs.declared.Answer.the-variants.{Recorded, Refused}
 use Rattle.explicit.specs.Series.{Outcome, recording}
 
 -- a series: its head and its lent row
@@ -13,9 +12,9 @@ pub record Series : Type 0 where
   pub counts : List ℕ
 
 -- what a call leaves of the series s
-abbrev pub headAfter : Answer → Head → Head
-headAfter (Recorded h) old = h
-headAfter (Refused n) old = old
+abbrev pub headAfter : Said Head → Head → Head
+headAfter (success h) old = h
+headAfter (refusal n) old = old
 
 abbrev pub after : Outcome → Series → Series
 after o s = record { head = headAfter (o .answer) (s .head); counts = o .counts }

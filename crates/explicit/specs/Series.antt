@@ -6,6 +6,7 @@ use lib.ListN.{length, take, replicate}
 use lib.Ieee.{Float}
 use lib.Ieee.Scale.{finite}
 use Rattle.laws.specs.Pick.{pick, _and_}
+use Rattle.laws.specs.Said.{Said, refusal, success}
 use Rattle.rows.specs.Rows.{over}
 use Rattle.points.specs.Explicit.{Buckets, bucketCount, recordBucket, bucketsAgree}
 use Rattle.points.specs.Values.{Summary, start, noted}
@@ -42,27 +43,32 @@ refusalOf bounds h xs v =
     6)
     12
 
--- the answer, and the row afterwards
+-- "When an answer is an enum, a definition gives this paper's number and values for each case of that enum."
+abbrev pub said : Answer → Said Head
+said (Recorded h) = success h
+said (Refused n) = refusal n
+
+-- the answer in document 01's words, and the row afterwards
 pub record Outcome : Type 0 where
-  pub answer : Answer
+  pub answer : Said Head
   pub counts : List ℕ
 
-abbrev pub outcome : Answer → List ℕ → Outcome
+abbrev pub outcome : Said Head → List ℕ → Outcome
 outcome r xs = record { answer = r; counts = xs }
 
 abbrev pub accepted : Buckets → Head → List ℕ → Float → Outcome
-accepted p h xs v = outcome (Recorded (headOf (p .total) (noted (summary h) v))) (over (p .counts) xs)
+accepted p h xs v = outcome (success (headOf (p .total) (noted (summary h) v))) (over (p .counts) xs)
 
 -- refused with a number, all as it was; or one more in the value's bucket
 unfoldable pub recording : List Float → Head → List ℕ → Float → Outcome
 recording bounds h xs v =
     pick (eqb (refusalOf bounds h xs v) 0)
     (accepted (recordBucket bounds (bucketsIn bounds (h .count) xs) v) h xs v)
-    (outcome (Refused (refusalOf bounds h xs v)) xs)
+    (outcome (refusal (refusalOf bounds h xs v)) xs)
 
 -- a fresh series: zeros in its row, or 12 where the row is too short
 unfoldable pub freshening : List Float → List ℕ → Outcome
 freshening bounds xs =
     pick (leb (bucketCount bounds) (length xs))
-    (outcome (Recorded freshHead) (over (replicate (bucketCount bounds) 0) xs))
-    (outcome (Refused 12) xs)
+    (outcome (success freshHead) (over (replicate (bucketCount bounds) 0) xs))
+    (outcome (refusal 12) xs)

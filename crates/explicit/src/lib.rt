@@ -10,7 +10,7 @@ ghost use Rattle.rows.specs.Rows.{over};
 ghost use Rattle.points.specs.Explicit.{noNan, rising, boundsPass, sameBounds, bucketOf, bucketCount, recordBucket, added, bucketsAgree};
 ghost use Rattle.points.specs.Figures.{mostSize};
 ghost use lib.Dec.{eqb};
-ghost use Rattle.explicit.specs.Series.{bucketsIn, freshening, mostCount, refusalOf, outcome, recording};
+ghost use Rattle.explicit.specs.Series.{bucketsIn, freshening, mostCount, refusalOf, said, outcome, recording};
 use exponential::Halves;
 
 pub struct Head {
@@ -151,7 +151,7 @@ pub fn bucket_of(bounds: &[f64], v: f64) -> usize
 
 // A series that has counted nothing: zeros in its row, or 12 where the row lent is too short.
 pub fn fresh(bounds: &[f64], counts: &mut [u64]) -> Answer
-    ensures { λ r. ⌜ outcome r (now (counts .exit)) ≡ freshening (now (bounds .entry)) (now (counts .entry)) ⌝ }
+    ensures { λ r. ⌜ outcome (said r) (now (counts .exit)) ≡ freshening (now (bounds .entry)) (now (counts .entry)) ⌝ }
 {
     let n = bucket_count(bounds);
     if counts.len() < n {
@@ -238,7 +238,7 @@ fn refusal(bounds: &[f64], head: Head, counts: &[u64], v: f64) -> u8
 
 // Records a value into the series, or refuses it with document 01's number.
 pub fn record(bounds: &[f64], head: Head, counts: &mut [u64], v: f64) -> Answer
-    ensures { λ r. ⌜ outcome r (now (counts .exit)) ≡ recording (now (bounds .entry)) head (now (counts .entry)) v ⌝ }
+    ensures { λ r. ⌜ outcome (said r) (now (counts .exit)) ≡ recording (now (bounds .entry)) head (now (counts .entry)) v ⌝ }
 {
     let no = refusal(bounds, head, counts, v);
     if no != 0 {

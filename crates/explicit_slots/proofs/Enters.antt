@@ -11,6 +11,7 @@ use lib.Ieee.{Float}
 use lib.Ieee.Scale.{finite}
 use borrow.Author.Tests.{le-leb}
 use Rattle.laws.specs.Pick.{pick}
+use Rattle.laws.specs.Said.{Said, refusal, success}
 use Rattle.laws.proofs.Bools.{flag, not-both, pick-true, pick-false}
 use Rattle.parts.specs.Parts.{partAt, putAt}
 use Rattle.parts.proofs.Laws.{put-same}
@@ -19,8 +20,6 @@ use Rattle.rows.proofs.Laws.{length-over}
 use Rattle.points.specs.Explicit.{bucketCount, boundsPass, bucketsOf, recordBucket, bucketsAgree}
 use Rattle.points.proofs.Explicit.{buckets-agree, fresh-buckets-ok}
 use Rattle.explicit.specs.declared.Head.{Head}
-use Rattle.explicit.specs.declared.Answer.{Answer}
-use Rattle.explicit.specs.declared.Answer.the-variants.{Recorded, Refused}
 use Rattle.explicit.specs.Series.{Outcome, outcome, bucketsIn, freshHead, freshening, refusalOf, accepted, recording}
 use Rattle.explicit.proofs.Cases.{none}
 use Rattle.explicit.proofs.Listed.{accepted-is, fresh-is, fin-min, fin-max}
@@ -28,15 +27,15 @@ use Rattle.explicit_slots.specs.Slots.{Stores, Recording, headAt, begun,
 
 -- ---- answers
 
-abbrev recorded? : Answer → Bool
-recorded? (Recorded h) = true
-recorded? (Refused n) = false
+abbrev recorded? : Said Head → Bool
+recorded? (success h) = true
+recorded? (refusal n) = false
 
-abbrev headIn : Answer → Head
-headIn (Recorded h) = h
-headIn (Refused n) = freshHead
+abbrev headIn : Said Head → Head
+headIn (success h) = h
+headIn (refusal n) = freshHead
 
-not-refused : (a : Answer) (n : ℕ) → recorded? a ≡ true → a ≡ Refused n → ⊥
+not-refused : (a : Said Head) (n : ℕ) → recorded? a ≡ true → a ≡ refusal n → ⊥
 not-refused a n r e = not-both (recorded? a) r (ap recorded? e)
 
 -- ---- a first value
@@ -45,18 +44,18 @@ module _ (bs : List Float) (xs : List ℕ) (long : bucketCount bs ≤ length xs)
   abbrev pub zeros : List ℕ
   zeros = over (replicate (bucketCount bs) 0) xs
 
-  fresh-made : freshening bs xs ≡ outcome (Recorded freshHead) zeros
+  fresh-made : freshening bs xs ≡ outcome (success freshHead) zeros
   unfolding freshening pick
   fresh-made = rw (le-leb (bucketCount bs) (length xs) long) refl
 
-  module _ (a : Answer) (ys : List ℕ) (e : outcome a ys ≡ freshening bs xs) where
-    made : outcome a ys ≡ outcome (Recorded freshHead) zeros
+  module _ (a : Said Head) (ys : List ℕ) (e : outcome a ys ≡ freshening bs xs) where
+    made : outcome a ys ≡ outcome (success freshHead) zeros
     made = e ∙ fresh-made
 
-    pub first-never : (n : ℕ) → a ≡ Refused n → ⊥
+    pub first-never : (n : ℕ) → a ≡ refusal n → ⊥
     first-never n r = not-refused a n (ap (λ (o : Outcome). recorded? (o .answer)) made) r
 
-    pub first-law : (h : Head) (v : Float) → a ≡ Recorded h → recording bs h ys v ≡ begun bs xs v
+    pub first-law : (h : Head) (v : Float) → a ≡ success h → recording bs h ys v ≡ begun bs xs v
     unfolding begun
     first-law h v r =
         let p : h ≡ freshHead = sym (ap headIn r) ∙ ap (λ (o : Outcome). headIn (o .answer)) made in
@@ -80,7 +79,7 @@ module _ (bs : List Float) (u : Bool) (h : Head) (xs : List ℕ) (v : Float) whe
   enters-held e = pick-true u _ _ e
 
   module _ (e : u ≡ false) where
-    pub enters-bad : boundsPass bs ≡ false → entering bs u h xs v ≡ outcome (Refused 8) xs
+    pub enters-bad : boundsPass bs ≡ false → entering bs u h xs v ≡ outcome (refusal 8) xs
     unfolding entering
     enters-bad p = pick-false u _ _ e ∙ pick-false (boundsPass bs) _ _ p
 
@@ -91,7 +90,7 @@ module _ (bs : List Float) (u : Bool) (h : Head) (xs : List ℕ) (v : Float) whe
   -- ---- a refusal leaves the row
 
   abbrev Kept : Outcome → Type 0
-  Kept o = (n : ℕ) → o .answer ≡ Refused n → o .counts ≡ xs
+  Kept o = (n : ℕ) → o .answer ≡ refusal n → o .counts ≡ xs
 
   recording-kept : Kept (recording bs h xs v)
   unfolding recording
@@ -120,26 +119,26 @@ module _ (bs : List Float) (x : ℕ) (u : Bool) (s : Stores) (v : Float) where
   abbrev back : ℕ → List ℕ → List ℕ
   back k ys = putAt k (s .counts) x ys
 
-  pub call : (a : Answer) (ys : List ℕ) → outcome a ys ≡ entering bs u (headAt s x) (row (bucketCount bs)) v → written bs x s a ys ≡ recordedAt bs x u s v
+  pub call : (a : Said Head) (ys : List ℕ) → outcome a ys ≡ entering bs u (headAt s x) (row (bucketCount bs)) v → written bs x s a ys ≡ recordedAt bs x u s v
   unfolding recordedAt
   call a ys e = ap (λ (o : Outcome). written bs x s (o .answer) (o .counts)) e
 
-  module _ (k : ℕ) (is : k ≡ bucketCount bs) (a : Answer) (ys : List ℕ) (e : outcome a ys ≡ entering bs u (headAt s x) (row k) v) where
+  module _ (k : ℕ) (is : k ≡ bucketCount bs) (a : Said Head) (ys : List ℕ) (e : outcome a ys ≡ entering bs u (headAt s x) (row k) v) where
     there : outcome a ys ≡ entering bs u (headAt s x) (row (bucketCount bs)) v
     there = e ∙ ap (λ (k : ℕ). entering bs u (headAt s x) (row k) v) is
 
-    pub call-refused : (n : ℕ) → a ≡ Refused n → bucketCount bs ≤ length (row k) → finite v ≡ true
+    pub call-refused : (n : ℕ) → a ≡ refusal n → bucketCount bs ≤ length (row k) → finite v ≡ true
         → record { no = n; stores = record { totals = s .totals; extremes = s .extremes; counts = back k ys } } ≡ recordedAt bs x u s v
     call-refused n r l f =
         let q : entering bs u (headAt s x) (row k) v .counts ≡ row k = entering-kept bs u (headAt s x) (row k) v l f n (sym (ap (λ (o : Outcome). o .answer) e) ∙ r) in
         let same : back k ys ≡ s .counts = ap (back k) (ap (λ (o : Outcome). o .counts) e ∙ q) ∙ put-same k (s .counts) x in
         (λ j. record { no = n; stores = record { totals = s .totals; extremes = s .extremes; counts = same j } })
-        ∙ ap (λ (b : Answer). written bs x s b ys) (sym r)
+        ∙ ap (λ (b : Said Head). written bs x s b ys) (sym r)
         ∙ call a ys there
 
-    pub call-recorded : (h : Head) → a ≡ Recorded h
+    pub call-recorded : (h : Head) → a ≡ success h
         → _≡_ {A = Recording} (record { no = 0; stores = record { totals = set (s .totals) x (h .count); extremes = set (s .extremes) x (h .min ∷ h .max ∷ h .sum ∷ []); counts = back k ys } }) (recordedAt bs x u s v)
     call-recorded h r =
         (λ j. record { no = 0; stores = record { totals = set (s .totals) x (h .count); extremes = set (s .extremes) x (h .min ∷ h .max ∷ h .sum ∷ []); counts = back (is j) ys } })
-        ∙ ap (λ (b : Answer). written bs x s b ys) (sym r)
+        ∙ ap (λ (b : Said Head). written bs x s b ys) (sym r)
         ∙ call a ys there

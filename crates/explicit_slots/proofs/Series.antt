@@ -14,6 +14,7 @@ use lib.Ieee.{Float, nan}
 use lib.Ieee.Scale.{finite}
 use borrow.Author.Tests.{le-leb, lt-leb, ltb-true, ltb-false}
 use Rattle.laws.specs.Pick.{pick, _and_}
+use Rattle.laws.specs.Said.{Said, refusal, success}
 use Rattle.laws.proofs.Bools.{flag, not-both, pick-true, pick-false}
 use Rattle.parts.proofs.Laws.{part-length, put-length, put-own, put-other}
 use Rattle.rows.specs.Rows.{over}
@@ -25,8 +26,6 @@ use Rattle.laws.proofs.Cases.{true-not-false}
 use Rattle.tally.specs.Map.{fits, sound}
 use Rattle.kinds.specs.Histograms.{histograms}
 use Rattle.explicit.specs.declared.Head.{Head}
-use Rattle.explicit.specs.declared.Answer.{Answer}
-use Rattle.explicit.specs.declared.Answer.the-variants.{Recorded, Refused}
 use Rattle.explicit.specs.Series.{mostCount, bucketsIn, headOf, summary, freshHead, refusalOf, outcome, accepted}
 use Rattle.explicit.proofs.Cases.{refuse, disagrees}
 use Rattle.explicit.proofs.Writes.{refused-law}
@@ -54,7 +53,7 @@ module _ (bounds : List Float) (s : Stores) (x : ℕ) (r : Room bounds s x) wher
 
   module _ (h : Head) (ys : List ℕ) (l : length ys ≡ n) where
     abbrev after : Stores
-    after = written bounds x s (Recorded h) ys .stores
+    after = written bounds x s (success h) ys .stores
 
     at-slot : seriesAt bounds after x ≡ record { counts = explicitCounts bounds (bucketsIn bounds (h .count) ys); summary = summary h }
     at-slot =
@@ -92,9 +91,9 @@ module _ (bounds : List Float) (x : ℕ) (u : Bool) (s : Stores) (v : Float) whe
   unfolding recordedAt
   refused-same = let o = entering bounds u (headAt s x) (rowAt bounds (s .counts) x) v in go (o .answer) (o .counts)
     where
-      go : (a : Answer) (xs : List ℕ) → written bounds x s a xs .no ≢ 0 → written bounds x s a xs .stores ≡ s
-      go (Refused n) xs d = refl
-      go (Recorded h) xs d = absurd (d refl)
+      go : (a : Said Head) (xs : List ℕ) → written bounds x s a xs .no ≢ 0 → written bounds x s a xs .stores ≡ s
+      go (refusal n) xs d = refl
+      go (success h) xs d = absurd (d refl)
 
   -- 8 under bounds that do not pass
   pub bad-bounds : Room bounds s x → finite v ≡ true → boundsPass bounds ≡ false → recordedAt bounds x u s v ≡ record { no = 8; stores = s }
@@ -103,13 +102,13 @@ module _ (bounds : List Float) (x : ℕ) (u : Bool) (s : Stores) (v : Float) whe
       let xs = rowAt bounds (s .counts) x in
       let no : bucketsAgree bounds (bucketsIn bounds (h .count) xs) ≡ false = sym (refuse bounds (h .count) xs (λ k. not-both (boundsPass bounds) (k .passes) b)) in
       let eight : 8 ≡ refusalOf bounds h xs v = disagrees bounds h xs v (omega (arith, long bounds s x r)) f no in
-      let o : outcome (Refused 8) xs ≡ entering bounds u h xs v =
+      let o : outcome (refusal 8) xs ≡ entering bounds u h xs v =
       ⊎-elim
       (λ (t : u ≡ true). refused-law bounds h xs v 8 eight (λ z. omega (arith, z)) ∙ sym (enters-held bounds u h xs v t))
       (λ (t : u ≡ false). sym (enters-bad bounds u h xs v t b))
       (flag u)
       in
-      sym (call bounds x u s v (Refused 8) xs o)
+      sym (call bounds x u s v (refusal 8) xs o)
 
 -- ---- numbers
 
@@ -161,7 +160,7 @@ module _ (bounds : List Float) (e m : Bool) (t : Float) where
         let zs = over (q .counts) ys in
         let k : bucketCount bounds ≤ length ys = omega (arith, l) in
         let lz : length zs ≡ bucketCount bounds = stays-long bounds (h .count) ys v k ∙ l in
-        subst (λ (o : Recording). (o .no ≡ 0) × Added was (o .stores)) (call bounds x u s v (Recorded g) zs (sym e)) (
+        subst (λ (o : Recording). (o .no ≡ 0) × Added was (o .stores)) (call bounds x u s v (success g) zs (sym e)) (
           refl,
           record {
             series = at-slot bounds s x r g zs lz
@@ -176,7 +175,7 @@ module _ (bounds : List Float) (e m : Bool) (t : Float) where
 
     refused : (k : ℕ) → k ≡ refusalOf bounds (headAt s x) xs v → k ≢ 0 → recordedAt bounds x true s v ≡ record { no = k; stores = s }
     refused k i z =
-        sym (call bounds x true s v (Refused k) xs (refused-law bounds (headAt s x) xs v k i z ∙ sym (enters-held bounds true (headAt s x) xs v refl)))
+        sym (call bounds x true s v (refusal k) xs (refused-law bounds (headAt s x) xs v k i z ∙ sym (enters-held bounds true (headAt s x) xs v refl)))
 
     held-8 : histograms .agrees settings held ≡ false → recordedAt bounds x true s v ≡ record { no = 8; stores = s }
     held-8 a = refused 8 (sym (no-is ∙ pick-false (histograms .agrees settings held) _ 8 a)) (λ z. omega (arith, z))

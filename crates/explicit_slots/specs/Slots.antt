@@ -6,13 +6,12 @@ use lib.ListN.{length, getD, set, replicate}
 use lib.Ieee.{Float, nan}
 use denote.Ref.{RefT, now}
 use Rattle.laws.specs.Pick.{pick}
+use Rattle.laws.specs.Said.{Said, refusal, success}
 use Rattle.parts.specs.Parts.{partAt, putAt}
 use Rattle.rows.specs.Rows.{over}
 use Rattle.points.specs.Explicit.{bucketCount, boundsPass}
 use Rattle.points.specs.Figures.{Figures, explicitCounts}
 use Rattle.explicit.specs.declared.Head.{Head}
-use Rattle.explicit.specs.declared.Answer.{Answer}
-use Rattle.explicit.specs.declared.Answer.the-variants.{Recorded, Refused}
 use Rattle.explicit.specs.Series.{Outcome, outcome, bucketsIn, summary, freshHead, recording}
 
 -- each slot's count; its minimum, maximum and sum; its bucket counts, "× buckets, one store"
@@ -56,7 +55,7 @@ begun bounds xs v = recording bounds freshHead (over (replicate (bucketCount bou
 -- An entry that was not updated has no series: it counts as fresh. 8 where configuring could not have accepted the bounds.
 unfoldable pub entering : List Float → Bool → Head → List ℕ → Float → Outcome
 entering bounds updated h xs v =
-    pick updated (recording bounds h xs v) (pick (boundsPass bounds) (begun bounds xs v) (outcome (Refused 8) xs))
+    pick updated (recording bounds h xs v) (pick (boundsPass bounds) (begun bounds xs v) (outcome (refusal 8) xs))
 
 -- document 01's number, and the stores afterwards
 pub record Recording : Type 0 where
@@ -67,9 +66,9 @@ abbrev pub after : ℕ → Stores → Recording
 after n s = record { no = n; stores = s }
 
 -- "Every refusal changes nothing"; else the slot's cells, and no others
-abbrev pub written : List Float → ℕ → Stores → Answer → List ℕ → Recording
-written bounds x s (Refused n) xs = record { no = n; stores = s }
-written bounds x s (Recorded h) xs =
+abbrev pub written : List Float → ℕ → Stores → Said Head → List ℕ → Recording
+written bounds x s (refusal n) xs = record { no = n; stores = s }
+written bounds x s (success h) xs =
     record {
       no = 0;
       stores = record {

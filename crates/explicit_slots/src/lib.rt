@@ -5,7 +5,7 @@ ghost use Prim.Native.Nat.{_+_, _*_, _<_, _≤_};
 ghost use lib.ListN.{length};
 ghost use lib.Ieee.Scale.{finite};
 ghost use Rattle.points.specs.Explicit.{bucketCount};
-ghost use Rattle.explicit.specs.Series.{outcome};
+ghost use Rattle.explicit.specs.Series.{said, outcome};
 ghost use Rattle.explicit_slots.specs.Slots.{begun, entering, cells, after, recordedAt};
 use explicit::Answer;
 use explicit::Head;
@@ -13,7 +13,7 @@ use explicit::Head;
 // A value recorded into a series without values, whatever lies in its row.
 fn first(bounds: &[f64], counts: &mut [u64], v: f64) -> Answer
     requires { ⌜ bucketCount (now bounds) ≤ length (now counts) ⌝ }
-    ensures { λ r. ⌜ outcome r (now (counts .exit)) ≡ begun (now (bounds .entry)) (now (counts .entry)) v ⌝ }
+    ensures { λ r. ⌜ outcome (said r) (now (counts .exit)) ≡ begun (now (bounds .entry)) (now (counts .entry)) v ⌝ }
 {
     let empty = explicit::fresh(bounds, counts);
     match empty {
@@ -25,7 +25,7 @@ fn first(bounds: &[f64], counts: &mut [u64], v: f64) -> Answer
 // A value recorded into a series, or into a fresh one where the entry was not updated.
 fn enter(bounds: &[f64], updated: bool, head: Head, counts: &mut [u64], v: f64) -> Answer
     requires { ⌜ bucketCount (now bounds) ≤ length (now counts) ⌝ }
-    ensures { λ r. ⌜ outcome r (now (counts .exit)) ≡ entering (now (bounds .entry)) updated head (now (counts .entry)) v ⌝ }
+    ensures { λ r. ⌜ outcome (said r) (now (counts .exit)) ≡ entering (now (bounds .entry)) updated head (now (counts .entry)) v ⌝ }
 {
     if updated {
         return explicit::record(bounds, head, counts, v);

@@ -12,12 +12,12 @@ use borrow.Author.Tests.{leb-true, le-leb, lt-leb, eq-eqb, ne-eqb, eqb-false}
 use Rattle.points.specs.Points.{record1}
 use Rattle.exponential.specs.declared.Counts.{Counts}
 use Rattle.exponential.specs.declared.Head.{Head}
-use Rattle.exponential.specs.declared.Answer.the-variants.{Recorded, Refused}
 use Rattle.index.specs.Answers.{binOf}
 use Rattle.exponential.specs.declared.Class.{Class}
 use Rattle.exponential.specs.Steps.{placed}
 use Rattle.exponential.specs.Series.{mostCount, agrees, read, classAt, valueOf, Written, Ready, refusalOf, outcome, accepted, recording}
 use Rattle.laws.specs.Pick.{pick, _and_}
+use Rattle.laws.specs.Said.{refusal, success}
 use Rattle.laws.proofs.Bools.{and-left, and-right, pick-left, pick-then, pick-right}
 use Rattle.floats.specs.Answers.{lesserOf, greaterOf}
 use Rattle.floats.specs.Starts.{zeroFloat}
@@ -95,7 +95,7 @@ unfolding refusalOf
 finite-of size top h xs ys v e = pick-left _ _ 6 (omega arith) (pick-then _ _ 12 (omega arith) e)
 
 pub refused-law : (size top : ℕ) (h : Head) (xs ys : List ℕ) (v : Float) (n : ℕ) → n ≡ refusalOf size top h xs ys v → (n ≡ 0 → ⊥)
-    → outcome (Refused n) xs ys ≡ recording size top h xs ys v
+    → outcome (refusal n) xs ys ≡ recording size top h xs ys v
 unfolding recording pick
 refused-law size top h xs ys v n e z = rw (← e, ne-eqb n 0 z)
 
@@ -111,9 +111,9 @@ pub accepted-law : (size top : ℕ) (h : Head) (xs ys : List ℕ) (v : Float) (k
     → refusalOf size top h xs ys v ≡ 0 → agrees size top (h .counts) xs ys ≡ true → fits binary64 v ≡ true → k ≡ classAt (binOf v (h .counts .level))
     → Written (placed size (read (h .counts) xs ys) (valueOf k)) xs ys c xs' ys'
     → mn ≡ lesserOf (h .min) v → mx ≡ greaterOf (h .max) v
-    → outcome (Recorded (record { counts = c; min = mn; max = mx; sum = add binary64 (h .sum) v })) xs' ys' ≡ recording size top h xs ys v
+    → outcome (success (record { counts = c; min = mn; max = mx; sum = add binary64 (h .sum) v })) xs' ys' ≡ recording size top h xs ys v
 unfolding recording pick
 accepted-law size top h xs ys v k c mn mx xs' ys' e r g q w a b =
-    (λ j. record { answer = Recorded (record { counts = w .counts j; min = a j; max = b j; sum = add binary64 (h .sum) v }); pos = w .pos j; neg = w .neg j })
+    (λ j. record { answer = success (record { counts = w .counts j; min = a j; max = b j; sum = add binary64 (h .sum) v }); pos = w .pos j; neg = w .neg j })
     ∙ ap (λ p. accepted p h xs ys v) (ap (λ k. placed size (read (h .counts) xs ys) (valueOf k)) q ∙ written-is size top (h .counts) xs ys v r g (finite-of size top h xs ys v e))
     ∙ rw (eq-eqb (refusalOf size top h xs ys v) 0 e)

@@ -2,10 +2,9 @@
 use Prim.Native.Nat.{ℕ}
 use mathlib.Core.List.{List, [], _∷_}
 use lib.Ieee.{Float}
+use Rattle.laws.specs.Said.{Said, refusal, success}
 use Rattle.points.specs.Values.{Summary, start}
 use Rattle.exponential.specs.declared.Head.{Head}
-use Rattle.exponential.specs.declared.Answer.{Answer}
-use Rattle.exponential.specs.declared.Answer.the-variants.{Recorded, Refused}
 use Rattle.exponential.specs.Series.{Outcome, recording}
 
 -- a series: its head and both lent rows
@@ -15,9 +14,9 @@ pub record Series : Type 0 where
   pub neg : List ℕ
 
 -- what a call leaves of the series s
-abbrev pub headAfter : Answer → Head → Head
-headAfter (Recorded h) old = h
-headAfter (Refused n) old = old
+abbrev pub headAfter : Said Head → Head → Head
+headAfter (success h) old = h
+headAfter (refusal n) old = old
 
 abbrev pub after : Outcome → Series → Series
 after o s = record { head = headAfter (o .answer) (s .head); pos = o .pos; neg = o .neg }

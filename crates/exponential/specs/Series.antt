@@ -8,6 +8,7 @@ use lib.ListN.{length, take}
 use lib.Ieee.{Float, binary64, add}
 use lib.Ieee.Scale.{finite}
 use Rattle.laws.specs.Pick.{pick, _and_}
+use Rattle.laws.specs.Said.{Said, refusal, success}
 use Rattle.laws.specs.Counting.{total}
 use Rattle.index.specs.Bins.{finest, lowestBin, endBin}
 use Rattle.index.specs.declared.Bin.{Bin}
@@ -156,13 +157,18 @@ refusalOf size top h xs ys v =
     6)
     12
 
--- the answer, and both rows afterwards
+-- "When an answer is an enum, a definition gives this paper's number and values for each case of that enum."
+abbrev pub said : Answer → Said Head
+said (Recorded h) = success h
+said (Refused n) = refusal n
+
+-- the answer in document 01's words, and both rows afterwards
 pub record Outcome : Type 0 where
-  pub answer : Answer
+  pub answer : Said Head
   pub pos : List ℕ
   pub neg : List ℕ
 
-abbrev pub outcome : Answer → List ℕ → List ℕ → Outcome
+abbrev pub outcome : Said Head → List ℕ → List ℕ → Outcome
 outcome r xs ys = record { answer = r; pos = xs; neg = ys }
 
 -- the head of the point p, one value after h
@@ -171,11 +177,11 @@ headOf p h v =
     record { counts = countsFor p; min = lesserOf (h .min) v; max = greaterOf (h .max) v; sum = add binary64 (h .sum) v }
 
 abbrev pub accepted : Point → Head → List ℕ → List ℕ → Float → Outcome
-accepted p h xs ys v = outcome (Recorded (headOf p h v)) (over (p .pos .counts) xs) (over (p .neg .counts) ys)
+accepted p h xs ys v = outcome (success (headOf p h v)) (over (p .pos .counts) xs) (over (p .neg .counts) ys)
 
 -- refused with a number, all as it was; or the point of what the series holds and the value, not above its level
 unfoldable pub recording : ℕ → ℕ → Head → List ℕ → List ℕ → Float → Outcome
 recording size top h xs ys v =
     pick (eqb (refusalOf size top h xs ys v) 0)
     (accepted (record1 size (read (h .counts) xs ys) (classOf zeroFloat v)) h xs ys v)
-    (outcome (Refused (refusalOf size top h xs ys v)) xs ys)
+    (outcome (refusal (refusalOf size top h xs ys v)) xs ys)

@@ -10,7 +10,7 @@ ghost use Rattle.laws.specs.Counting.{total};
 ghost use Rattle.exponential.specs.Steps.{lowered, with1, lowBin, highBin, lowering, placed};
 ghost use Rattle.laws.specs.Pick.{pick};
 ghost use Rattle.exponential.specs.Runs.{freshHead};
-ghost use Rattle.exponential.specs.Series.{mostSize, rowIn, Laid, rowAgrees, addsUp, agrees, classAt, valueOf, lowerBy, rowTo, rowOther, Room, mostCount, oneMore, Ready, Written, read, refusalOf, outcome, recording};
+ghost use Rattle.exponential.specs.Series.{mostSize, rowIn, Laid, rowAgrees, addsUp, agrees, classAt, valueOf, lowerBy, rowTo, rowOther, Room, mostCount, oneMore, Ready, Written, read, refusalOf, said, outcome, recording};
 use rows::Row;
 
 pub struct Counts {
@@ -382,7 +382,7 @@ fn refusal(size: u32, top: u32, head: Head, pos: &[u64], neg: &[u64], v: f64) ->
 
 // Records a value into the series, or refuses it with document 01's number.
 pub fn record(size: u32, top: u32, head: Head, pos: &mut [u64], neg: &mut [u64], v: f64) -> Answer
-    ensures { λ r. ⌜ outcome r (now (pos .exit)) (now (neg .exit)) ≡ recording size top head (now (pos .entry)) (now (neg .entry)) v ⌝ }
+    ensures { λ r. ⌜ outcome (said r) (now (pos .exit)) (now (neg .exit)) ≡ recording size top head (now (pos .entry)) (now (neg .entry)) v ⌝ }
 {
     let no = refusal(size, top, head, pos, neg, v);
     if no != 0 {

@@ -9,11 +9,12 @@ use lib.ListN.{getD}
 use lib.Ieee.{Float}
 use borrow.Author.Tests.{leb-true, le-leb, lt-leb}
 use Rattle.laws.specs.Pick.{pick, _and_}
+use Rattle.laws.specs.Said.{number}
 use Rattle.laws.proofs.Bools.{and-left, and-right}
 use Rattle.parts.specs.Parts.{partAt, putAt}
 use Rattle.exponential.specs.Series.{mostCount, Outcome, recording}
 use Rattle.exponential.specs.Runs.{freshHead}
-use Rattle.exponential_slots.specs.Slots.{Slots, mostBin, narrow, readable, headIn, headOf, numberOf, figuresAfter, extremesAfter, laid, refused, recordedAt}
+use Rattle.exponential_slots.specs.Slots.{Slots, mostBin, narrow, readable, headIn, headOf, figuresAfter, extremesAfter, laid, refused, recordedAt}
 
 module _ (f : List ℕ) (h : getD f 0 0 < 2 ^ 64) where
   first : leb (getD f 0 0) mostCount ≡ true
@@ -93,7 +94,7 @@ module _ (size top x : ℕ) (updated : Bool) (s : Slots) (v : Float) where
 
 -- what the series' call and the writing leave
 pub laid-by : (size x : ℕ) (s : Slots) (o : Outcome) (n : ℕ) (figures : List (List ℕ)) (extremes : List (List Float))
-    → n ≡ numberOf (o .answer) → figures ≡ figuresAfter x (s .figures) (o .answer) → extremes ≡ extremesAfter x (s .extremes) (o .answer)
+    → n ≡ number (o .answer) → figures ≡ figuresAfter x (s .figures) (o .answer) → extremes ≡ extremesAfter x (s .extremes) (o .answer)
     → record { number = n; slots = record { figures = figures; extremes = extremes; pos = putAt size (s .pos) x (o .pos); neg = putAt size (s .neg) x (o .neg) } }
     ≡ laid size x s o
 unfolding laid

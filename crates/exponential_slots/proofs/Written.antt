@@ -11,6 +11,7 @@ use lib.Seq.{getD-set-same, getD-set-other}
 use lib.Ieee.{Float, binary64, fits}
 use lib.Ieee.Scale.{finite}
 use borrow.Author.Tests.{eqb-true, eqb-false}
+use Rattle.laws.specs.Said.{refusal}
 use Rattle.laws.proofs.Bools.{flag}
 use Rattle.laws.proofs.Cases.{and-true}
 use Rattle.parts.specs.Parts.{partAt, putAt}
@@ -23,7 +24,6 @@ use Rattle.points.specs.Values.{classOf, Summary}
 use Rattle.points.specs.Figures.{exponential, Counts, exponentialCounts, Figures, recordFigures}
 use Rattle.points.proofs.Agreement.{Agreed}
 use Rattle.exponential.specs.declared.Head.{Head}
-use Rattle.exponential.specs.declared.Answer.the-variants.{Refused}
 use Rattle.exponential.specs.Series.{mostCount, lowestOfAll, read, countsFor, headOf, refusalOf, outcome, recording}
 use Rattle.exponential.specs.Series as S
 use Rattle.exponential.specs.Runs.{summary}
@@ -102,7 +102,7 @@ counts-of size top p xs ys k n e =
 
 -- ---- the series' call laid into the slot
 
-laid-as-it-was : (size x : ℕ) (s : Slots) (n : ℕ) → laid size x s (outcome (Refused n) (partAt size (s .pos) x) (partAt size (s .neg) x)) ≡ refused n s
+laid-as-it-was : (size x : ℕ) (s : Slots) (n : ℕ) → laid size x s (outcome (refusal n) (partAt size (s .pos) x) (partAt size (s .neg) x)) ≡ refused n s
 unfolding laid
 laid-as-it-was size x s n =
     λ j. record { number = n; slots = record { figures = s .figures; extremes = s .extremes; pos = put-same size (s .pos) x j; neg = put-same size (s .neg) x j } }

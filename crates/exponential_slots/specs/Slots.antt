@@ -7,11 +7,10 @@ use lib.ListN.{length, getD, set}
 use lib.Ieee.{Float, nan}
 use denote.Ref.{RefT, now}
 use Rattle.laws.specs.Pick.{pick, _and_}
+use Rattle.laws.specs.Said.{Said, refusal, success, number}
 use Rattle.parts.specs.Parts.{partAt, putAt}
 use Rattle.exponential.specs.declared.Counts.{Counts}
 use Rattle.exponential.specs.declared.Head.{Head}
-use Rattle.exponential.specs.declared.Answer.{Answer}
-use Rattle.exponential.specs.declared.Answer.the-variants.{Recorded, Refused}
 use Rattle.exponential.specs.Series.{mostCount, recording}
 use Rattle.exponential.specs.Series as S
 use Rattle.exponential.specs.Runs.{freshHead}
@@ -69,17 +68,13 @@ headOf top updated f m = pick updated (headIn f m) (freshHead top)
 
 -- ---- a value recorded into slot x
 
-abbrev pub numberOf : Answer → ℕ
-numberOf (Refused n) = n
-numberOf (Recorded h) = 0
+abbrev pub figuresAfter : ℕ → List (List ℕ) → Said Head → List (List ℕ)
+figuresAfter x figures (refusal n) = figures
+figuresAfter x figures (success h) = set figures x (wordsOf (h .counts))
 
-abbrev pub figuresAfter : ℕ → List (List ℕ) → Answer → List (List ℕ)
-figuresAfter x figures (Refused n) = figures
-figuresAfter x figures (Recorded h) = set figures x (wordsOf (h .counts))
-
-abbrev pub extremesAfter : ℕ → List (List Float) → Answer → List (List Float)
-extremesAfter x extremes (Refused n) = extremes
-extremesAfter x extremes (Recorded h) = set extremes x (h .min ∷ h .max ∷ h .sum ∷ [])
+abbrev pub extremesAfter : ℕ → List (List Float) → Said Head → List (List Float)
+extremesAfter x extremes (refusal n) = extremes
+extremesAfter x extremes (success h) = set extremes x (h .min ∷ h .max ∷ h .sum ∷ [])
 
 pub record Outcome : Type 0 where
   pub number : ℕ
@@ -95,7 +90,7 @@ refused n s = outcome n s
 unfoldable pub laid : ℕ → ℕ → Slots → S.Outcome → Outcome
 laid size x s o =
     record {
-      number = numberOf (o .answer);
+      number = number (o .answer);
       slots = record {
         figures = figuresAfter x (s .figures) (o .answer);
         extremes = extremesAfter x (s .extremes) (o .answer);

@@ -4,7 +4,9 @@ ghost use mathlib.Core.Bool.{true};
 ghost use Prim.Native.Nat.{_+_, _*_, _<_, _≤_};
 ghost use lib.ListN.{length};
 ghost use lib.Ieee.Scale.{finite};
-ghost use Rattle.exponential_slots.specs.Slots.{narrow, readable, headIn, headOf, wordsOf, numberOf, figuresAfter, extremesAfter, slots, outcome, recordedAt};
+ghost use Rattle.laws.specs.Said.{number};
+ghost use Rattle.exponential.specs.Series.{said};
+ghost use Rattle.exponential_slots.specs.Slots.{narrow, readable, headIn, headOf, wordsOf, figuresAfter, extremesAfter, slots, outcome, recordedAt};
 use rows::Row;
 use exponential::Answer;
 use exponential::Counts;
@@ -93,9 +95,9 @@ fn words_of(c: Counts) -> [u64; 8]
 // The new head written into the slot, or the refusal's number.
 fn keep(x: usize, figures: &mut [[u64; 8]], extremes: &mut [[f64; 3]], got: Answer) -> u8
     requires { ⌜ (x < length (now figures)) × (x < length (now extremes)) ⌝ }
-    ensures { λ r. ⌜ r ≡ numberOf got ⌝ }
-    ensures { λ r. ⌜ now (figures .exit) ≡ figuresAfter x (now (figures .entry)) got ⌝ }
-    ensures { λ r. ⌜ now (extremes .exit) ≡ extremesAfter x (now (extremes .entry)) got ⌝ }
+    ensures { λ r. ⌜ r ≡ number (said got) ⌝ }
+    ensures { λ r. ⌜ now (figures .exit) ≡ figuresAfter x (now (figures .entry)) (said got) ⌝ }
+    ensures { λ r. ⌜ now (extremes .exit) ≡ extremesAfter x (now (extremes .entry)) (said got) ⌝ }
 {
     match got {
         Answer::Refused(no) => no,

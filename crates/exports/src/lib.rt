@@ -1,6 +1,7 @@
 // Calls for programs in other languages: a list of values recorded into one exponential series.
 ghost use mathlib.Core.Path.{_≡_};
 ghost use Prim.Native.Nat.{min};
+ghost use Rattle.exponential.specs.Series.{said};
 ghost use Rattle.exponential.specs.Runs.{headAfter};
 ghost use Rattle.exports.specs.Exports.{recorded};
 use exponential::Answer;
@@ -8,7 +9,7 @@ use exponential::Head;
 
 // The head that a call leaves: a refused one leaves the old.
 fn head_after(answer: Answer, old: Head) -> Head
-    ensures { λ r. ⌜ r ≡ headAfter answer old ⌝ }
+    ensures { λ r. ⌜ r ≡ headAfter (said answer) old ⌝ }
 {
     match answer {
         Answer::Recorded(h) => h,

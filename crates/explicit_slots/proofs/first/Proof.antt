@@ -1,7 +1,8 @@
 -- `explicit_slots::first` meets its contract. Assumes nothing.
-use mathlib.Core.Path.{_∙_}
+use mathlib.Core.Path.{ap, _∙_}
 use denote.Ref.{now}
 use borrow.Author.Needs.{needs}
+use Rattle.explicit.specs.Series.{said}
 use Rattle.explicit_slots.proofs.Enters.{first-never, first-law}
 use Rattle.explicit_slots.proofs.first.Statement.{statement}
 use Rattle.explicit_slots.proofs.first.Tie as tie
@@ -26,7 +27,7 @@ returns c =
     let m = c .before .before .before .before in
     let f = m .before in
     let a = f .before .before .before .before .args in
-    absurd (first-never (now (a .bounds)) (now (a .counts)) (f .before .before .before .before .pre) (f .fresh .result) (f .fresh .last .1 .0) (f .fresh .ensures) _ (c .before .empty .given .1))
+    absurd (first-never (now (a .bounds)) (now (a .counts)) (f .before .before .before .before .pre) (said (f .fresh .result)) (f .fresh .last .1 .0) (f .fresh .ensures) _ (ap said (c .before .empty .given .1)))
 
 same-length-2 : tie.Need-same-length-2
 same-length-2 c = search needs
@@ -39,7 +40,7 @@ returns-2 c =
     let s = f .before .before .before .before in
     let a = s .args in
     r .«record» .ensures
-    ∙ first-law (now (a .bounds)) (now (a .counts)) (s .pre) (f .fresh .result) (f .fresh .last .1 .0) (f .fresh .ensures) _ (a .v) (k .before .empty2 .given .1)
+    ∙ first-law (now (a .bounds)) (now (a .counts)) (s .pre) (said (f .fresh .result)) (f .fresh .last .1 .0) (f .fresh .ensures) _ (a .v) (ap said (k .before .empty2 .given .1))
 
 pub first-spec : {M : Type 1} → statement M
 first-spec =

@@ -1,6 +1,6 @@
 -- `explicit_slots::record` meets its contract. Assumes nothing.
 use Prim.Native.Nat.{ℕ, _+_, _-_, _*_, _≤_}
-use mathlib.Core.Path.{_≡_, sym, subst}
+use mathlib.Core.Path.{_≡_, ap, sym, subst}
 use native.Mathlib.Omega.{arith}
 use denote.Ref.{now}
 use lib.ListN.{length}
@@ -8,6 +8,7 @@ use borrow.Author.Needs.{needs}
 use Rattle.parts.specs.Parts.{partAt}
 use Rattle.parts.proofs.Laws.{part-length}
 use Rattle.points.specs.Explicit.{bucketCount}
+use Rattle.explicit.specs.Series.{said}
 use Rattle.explicit_slots.specs.Slots.{Stores}
 use Rattle.explicit_slots.proofs.Enters.{call-refused, call-recorded}
 use Rattle.explicit_slots.proofs.record.Statement.{statement}
@@ -116,7 +117,7 @@ returns c =
     let r = c .before .before .before .before .before in
     let b = counted r in
     let a = start b .args in
-    call-refused (now (a .bounds)) (a .x) (a .updated) (stores b) (a .v) (b .bucket-count .result) (b .bucket-count .ensures) (r .enter .result) (r .enter .last .1 .1 .1 .0) (r .enter .ensures) _ (c .before .got .given .1) (long b) (start b .pre .3)
+    call-refused (now (a .bounds)) (a .x) (a .updated) (stores b) (a .v) (b .bucket-count .result) (b .bucket-count .ensures) (said (r .enter .result)) (r .enter .last .1 .1 .1 .0) (r .enter .ensures) _ (ap said (c .before .got .given .1)) (long b) (start b .pre .3)
 
 same-length-2 : tie.Need-same-length-2
 same-length-2 c = search needs
@@ -132,7 +133,7 @@ returns-2 c =
     let r = c .before .before .before .before .before in
     let b = counted r in
     let a = start b .args in
-    call-recorded (now (a .bounds)) (a .x) (a .updated) (stores b) (a .v) (b .bucket-count .result) (b .bucket-count .ensures) (r .enter .result) (r .enter .last .1 .1 .1 .0) (r .enter .ensures) _ (c .before .got2 .given .1)
+    call-recorded (now (a .bounds)) (a .x) (a .updated) (stores b) (a .v) (b .bucket-count .result) (b .bucket-count .ensures) (said (r .enter .result)) (r .enter .last .1 .1 .1 .0) (r .enter .ensures) _ (ap said (c .before .got2 .given .1))
 
 pub record-spec : {M : Type 1} → statement M
 record-spec =

@@ -3,7 +3,9 @@ use borrow.Author.Needs.{needs}
 use Rattle.exponential_slots.proofs.keep.Statement.{statement}
 use Rattle.exponential_slots.proofs.keep.Tie as tie
 use mathlib.Core.Path.{sym, ap}
-use Rattle.exponential_slots.specs.Slots.{numberOf, figuresAfter, extremesAfter}
+use Rattle.laws.specs.Said.{number}
+use Rattle.exponential.specs.Series.{said}
+use Rattle.exponential_slots.specs.Slots.{figuresAfter, extremesAfter}
 use mathlib.Core.Path.{_∙_}
 use mathlib.Core.List.{List}
 use Prim.Native.Nat.{ℕ}
@@ -31,9 +33,10 @@ slice-set-from-extremes : tie.Need-slice-set-from-extremes
 slice-set-from-extremes c = search needs
 
 returns : tie.Need-returns
-returns c = let g = c .before .got .given .1 in
+returns c =
+    let g = ap said (c .before .got .given .1) in
     let a = c .before .before .before .args in
-    (sym (ap numberOf g), (sym (ap (figuresAfter (a .x) (a .figures .now)) g), sym (ap (extremesAfter (a .x) (a .extremes .now)) g)))
+    (sym (ap number g), (sym (ap (figuresAfter (a .x) (a .figures .now)) g), sym (ap (extremesAfter (a .x) (a .extremes .now)) g)))
 
 same-length : tie.Need-same-length
 same-length c = search needs
@@ -42,10 +45,11 @@ same-length-2 : tie.Need-same-length-2
 same-length-2 c = search needs
 
 returns-2 : tie.Need-returns-2
-returns-2 c = let m = c .before .before .before in
-    let g = m .got2 .given .1 in
+returns-2 c =
+    let m = c .before .before .before in
+    let g = ap said (m .got2 .given .1) in
     let a = m .before .before .args in (
-      sym (ap numberOf g),
+      sym (ap number g),
       (
         ap (λ (r : List ℕ). set (a .figures .now) (a .x) r) (c .words-of .ensures) ∙ sym (ap (figuresAfter (a .x) (a .figures .now)) g),
         sym (ap (extremesAfter (a .x) (a .extremes .now)) g),

@@ -8,7 +8,7 @@ use mathlib.Core.List.{[]}
 use borrow.Author.Tests.{not-true, not-false}
 use lib.ListN.{getD}
 use Rattle.parts.specs.Parts.{partAt}
-use Rattle.exponential.specs.Series.{Outcome, recording}
+use Rattle.exponential.specs.Series.{said, Outcome, recording}
 use Rattle.exponential_slots.specs.Slots.{Slots, readable, laid, recordedAt}
 use Rattle.exponential_slots.proofs.Cases.{unread, called, laid-by}
 
@@ -30,7 +30,7 @@ at r = start (else1 r .before)
 
 -- what the series' call left
 abbrev left : tie.After-record → Outcome
-left r = record { answer = r .«record» .result; pos = r .«record» .last .1 .1 .1 .0; neg = r .«record» .last .1 .1 .1 .1 .0 }
+left r = record { answer = said (r .«record» .result); pos = r .«record» .last .1 .1 .1 .0; neg = r .«record» .last .1 .1 .1 .1 .0 }
 
 recorded : (r : tie.After-record)
     → recordedAt (at r .args .size) (at r .args .top) (at r .args .x) (at r .args .updated) (slots (at r)) (at r .args .v)

@@ -1,5 +1,6 @@
 -- `exports::head_after` meets its contract. Assumes nothing.
 use mathlib.Core.Path.{sym, ap}
+use Rattle.exponential.specs.Series.{said}
 use Rattle.exponential.specs.Runs.{headAfter}
 use Rattle.exponential.specs.declared.Answer.{Answer}
 use borrow.Author.Needs.{needs}
@@ -13,7 +14,7 @@ enum-known-answer-2 : tie.Need-enum-known-answer-2
 enum-known-answer-2 c = search needs
 
 returns : tie.Need-returns
-returns c = sym (ap (λ (a : Answer). headAfter a (c .before .before .before .args .old)) (c .before .answer .given .1))
+returns c = sym (ap (λ (a : Answer). headAfter (said a) (c .before .before .before .args .old)) (c .before .answer .given .1))
 
 returns-2 : tie.Need-returns-2
 returns-2 c = search needs

@@ -4,7 +4,7 @@ use mathlib.Core.Path.{_≡_, refl, sym, ap, _∙_}
 use lib.ListN.{length, take, drop}
 use native.Mathlib.Omega.{arith}
 use denote.Ref.{now}
-use Rattle.exponential.specs.Series.{outcome}
+use Rattle.exponential.specs.Series.{said, outcome}
 use Rattle.exponential.specs.Runs.{Series, runAll}
 use Rattle.exports.specs.Exports.{recorded}
 use Rattle.exports.proofs.Following.{turn, ended}
@@ -66,7 +66,7 @@ loop-again c =
       d .kept .1 .1 .1 .0 ∙ l .inv .1,
       d .kept .1 .1 .1 .1 .0 ∙ l .inv .2,
       l .inv .3
-          ∙ turn (a .size) (a .top) (record { head = l .head; pos = l .pos; neg = l .neg }) (now (a .values)) (l .i) (outcome (d .result) (d .last .1 .1 .1 .0) (d .last .1 .1 .1 .1 .0)) (c .head-after .result)
+          ∙ turn (a .size) (a .top) (record { head = l .head; pos = l .pos; neg = l .neg }) (now (a .values)) (l .i) (outcome (said (d .result)) (d .last .1 .1 .1 .0) (d .last .1 .1 .1 .1 .0)) (c .head-after .result)
           (omega (arith, t .loop-test .taken, m .most .ensures)) (inside t) (d .ensures) (c .head-after .ensures),
     )
 

@@ -81,7 +81,7 @@ fn rises(bounds: &[f64]) -> bool
     ok
 }
 
-// The bounds pass document 01's number 3.
+// Whether the bounds pass document 01's number 3: at most 159, no NaN, strictly rising.
 pub fn bounds_pass(bounds: &[f64]) -> bool
     ensures { λ r. ⌜ r ≡ boundsPass (now (bounds .entry)) ⌝ }
 {
@@ -94,7 +94,7 @@ pub fn bounds_pass(bounds: &[f64]) -> bool
     rises(bounds)
 }
 
-// The same bounds as numbers.
+// Whether two lists of bounds are the same as numbers.
 pub fn same_bounds(a: &[f64], b: &[f64]) -> bool
     ensures { λ r. ⌜ r ≡ sameBounds (now (a .entry)) (now (b .entry)) ⌝ }
 {
@@ -134,7 +134,7 @@ fn below(b: f64, v: f64) -> usize
     0
 }
 
-// The bucket of v.
+// The bucket of v: how many bounds are below it.
 pub fn bucket_of(bounds: &[f64], v: f64) -> usize
     ensures { λ r. ⌜ r ≡ bucketOf (now (bounds .entry)) v ⌝ }
 {
@@ -181,6 +181,7 @@ fn adds_up(count: u64, counts: &[u64], n: usize) -> bool
     count / 4294967296 == s.high + s.low / 4294967296
 }
 
+// Whether bounds, count and counts agree: bounds that pass, counts that are lent and, where there are buckets, total count.
 pub fn buckets_agree(bounds: &[f64], count: u64, counts: &[u64]) -> bool
     ensures { λ r. ⌜ r ≡ bucketsAgree (now (bounds .entry)) (bucketsIn (now (bounds .entry)) count (now (counts .entry))) ⌝ }
 {
@@ -203,7 +204,8 @@ pub fn buckets_agree(bounds: &[f64], count: u64, counts: &[u64]) -> bool
 fn count_in(bounds: &[f64], counts: &mut [u64], v: f64)
     requires { ⌜ bucketCount (now bounds) ≤ length (now counts) ⌝ }
     requires { ⌜ total (take (bucketCount (now bounds)) (now counts)) < mostCount ⌝ }
-    ensures { λ _. ⌜ now (counts .exit) ≡ over (recordBucket (now (bounds .entry)) (bucketsIn (now (bounds .entry)) 0 (now (counts .entry))) v .counts) (now (counts .entry)) ⌝ }
+    ensures { λ _. ⌜ now (counts .exit)
+        ≡ over (recordBucket (now (bounds .entry)) (bucketsIn (now (bounds .entry)) 0 (now (counts .entry))) v .counts) (now (counts .entry)) ⌝ }
 {
     if bounds.len() == 0 {
         return;
@@ -236,7 +238,8 @@ fn refusal(bounds: &[f64], head: Head, counts: &[u64], v: f64) -> u8
     0
 }
 
-// Records a value into the series, or refuses it with document 01's number.
+// Records a value into the series and returns its head then, or refuses it: 12 where the row lent is too short, 6 where the value is not
+// finite, 8 where the series or its bounds disagree, 9 where its count is full.
 pub fn record(bounds: &[f64], head: Head, counts: &mut [u64], v: f64) -> Answer
     ensures { λ r. ⌜ outcome (said r) (now (counts .exit)) ≡ recording (now (bounds .entry)) head (now (counts .entry)) v ⌝ }
 {

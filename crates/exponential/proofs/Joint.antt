@@ -98,8 +98,8 @@ module _ (size d i : ℕ) (r : Row) (c : Canonical r) where
     pub few : needed size r (i / 2 ^ d) ≤ finest - d
     few = least-one .first (finest - d) (omega arith) all-fits
 
-    pub storesSuffice : narrow size lo hi (needed size r (i / 2 ^ d)) ≡ true
-    storesSuffice = ⊎-elim (λ t. t) (λ (t : needed size r (i / 2 ^ d) ≡ 0 + 32). absurd (omega (arith, few, t))) (least-one .stop)
+    pub fits-lowered : narrow size lo hi (needed size r (i / 2 ^ d)) ≡ true
+    fits-lowered = ⊎-elim (λ t. t) (λ (t : needed size r (i / 2 ^ d) ≡ 0 + 32). absurd (omega (arith, few, t))) (least-one .stop)
 
 -- what fits goes on fitting
 pub fits-on : (size d : ℕ) (xs : List ℕ) (k : ℕ) → fits size d xs ≡ true → fits size (d + k) xs ≡ true
@@ -118,7 +118,7 @@ scale-one size d i r p c s h t ok to fro =
     (record {
       ge = omega arith;
       le = omega (arith, few size d i r c s h t ok);
-      stop = inl (to k (fits-one size d i r c k ∙ storesSuffice size d i r c s h t ok));
+      stop = inl (to k (fits-one size d i r c k ∙ fits-lowered size d i r c s h t ok));
       first = λ m g q.
           let e : d + (m - d) ≡ m = omega arith in
           let f : fits size (d + (m - d)) (indices d r ++ i ∷ []) ≡ true = rw e (fro m q) in
@@ -142,7 +142,7 @@ room-one size d i r s h t ok =
     let c = ok .canonical in
     let k = needed size r (i / 2 ^ d) in
     leb-true (length (with1 (lowered k r) (i / 2 ^ d / 2 ^ k) .counts)) size
-    (ap (λ q. leb (length (q .counts)) size) (row-more d k i r c) ∙ fits-one size d i r c k ∙ storesSuffice size d i r c s h t ok)
+    (ap (λ q. leb (length (q .counts)) size) (row-more d k i r c) ∙ fits-one size d i r c k ∙ fits-lowered size d i r c s h t ok)
 
 -- THE JOINT
 pub placed-is : (size : ℕ) (p : Point) (v : Value) {top low : ℕ} → 3 ≤ size → Agreed size top low p → ValueIn low v → placed size p (coarse (p .d) v) ≡ record1 size p v

@@ -1,7 +1,7 @@
 -- What the functions on one row need. Assumes nothing.
 use Prim.Native.Nat.{ℕ, suc, _+_, _-_, _*_, _/_, _%_, _^_, _≤_, _<_, min, max, pred}
 use mathlib.Core.Path.{_≡_, refl, ap, sym, subst, _∙_}
-use mathlib.Core.Logic.{⊎-elim, _⊎_, inl}
+use mathlib.Core.Logic.{⊎-elim, _⊎_}
 use mathlib.Core.Bool.{Bool, true, false, not}
 use mathlib.Core.List.{List, [], _∷_}
 use native.Mathlib.Nat.{div-one, eq-zero-or-pos}
@@ -11,33 +11,18 @@ use lib.ListN.{length, take, getD}
 use lib.Seq.{length-take-le, getD-take}
 use borrow.Author.Tests.{leb-true, le-leb, eq-eqb, ne-eqb}
 use Rattle.laws.proofs.Bools.{flag, and-left, and-right, and-intro}
-use Rattle.laws.proofs.Search.{least-is}
 use Rattle.points.specs.Agreement as A
 use Rattle.points.proofs.Agreement.{RowOk, row-says, row-agrees}
 use Rattle.rows.specs.Rows.{over, downscaled, onto}
 use Rattle.rows.specs.declared.Row.{Row}
 use Rattle.rows.proofs.Adds.{over-self}
-use Rattle.rows.proofs.Algebra.{le-or-lt}
-use Rattle.exponential.specs.Steps.{lowered, lowBin, highBin, narrow, lowering}
-use Rattle.exponential.specs.Series.{rowIn, Laid, rowAgrees}
+use Rattle.exponential.specs.Steps.{lowered, lowBin, highBin}
+use Rattle.exponential.specs.Series.{rowIn, Laid, rowAgrees, halved}
+use Rattle.exponential.specs.declared.Halves.{Halves}
 use Rattle.laws.specs.Pick.{pick, _and_}
+use Rattle.laws.specs.Counting.{sum, total}
 
--- ---- the change of level
-
-pub change-is : (size lo hi r : ℕ) → r ≤ 32 → hi / 2 ^ r - lo / 2 ^ r < size → ((d : ℕ) → d < r → size ≤ hi / 2 ^ d - lo / 2 ^ d) → r ≡ lowering size lo hi
-unfolding lowering narrow
-change-is size lo hi r h g f =
-    least-is (narrow size lo hi) 0 32 r
-    (record {
-      ge = omega arith;
-      le = omega arith;
-      stop = inl (le-leb (suc (hi / 2 ^ r - lo / 2 ^ r)) size (omega arith));
-      first = λ m _ q.
-          ⊎-elim
-          (λ (k : r ≤ m). k)
-          (λ (k : m < r). absurd (omega (arith, f m k, leb-true (suc (hi / 2 ^ m - lo / 2 ^ m)) size q)))
-          (le-or-lt r m);
-    })
+-- ---- the bins of a row and of one more
 
 pub bins-empty : (s n b : ℕ) → n ≡ 0 → (lowBin s n b ≡ b) × (highBin s n b ≡ b)
 unfolding lowBin highBin pick
@@ -169,5 +154,20 @@ low-small x = omega arith
 pub high-small : (x : ℕ) → x < 2 ^ 64 → x / 4294967296 ≤ 4294967295
 high-small x h = omega arith
 
-pub halves-next : (l h s t t' x : ℕ) → l + h * 4294967296 ≡ s + t → t' ≡ t + x → l + x % 4294967296 + (h + x / 4294967296) * 4294967296 ≡ s + t'
-halves-next l h s t t' x a b = omega arith
+-- one count more in one of the sums
+pub half-more : (l l₀ s s' y : ℕ) → l ≡ l₀ + s → s' ≡ s + y → l + y ≡ l₀ + s'
+half-more l l₀ s s' y e f = omega arith
+
+halves-more : (l h a b t x : ℕ) → l + a + (h + b) * 4294967296 ≡ l + h * 4294967296 + t
+    → l + (x % 4294967296 + a) + (h + (x / 4294967296 + b)) * 4294967296 ≡ l + h * 4294967296 + (x + t)
+halves-more l h a b t x e = omega arith
+
+both : (f : Halves) (xs : List ℕ)
+    → f .low + sum (λ x. x % 4294967296) xs + (f .high + sum (λ x. x / 4294967296) xs) * 4294967296 ≡ f .low + f .high * 4294967296 + total xs
+both f [] = omega arith
+both f (x ∷ xs) = halves-more (f .low) (f .high) (sum (λ x. x % 4294967296) xs) (sum (λ x. x / 4294967296) xs) (total xs) x (both f xs)
+
+-- both sums together are what was there and the counts
+pub halved-total : (f r : Halves) (xs : List ℕ) → r ≡ halved f xs → r .low + r .high * 4294967296 ≡ f .low + f .high * 4294967296 + total xs
+unfolding halved
+halved-total f r xs e = ap (λ (h : Halves). h .low + h .high * 4294967296) e ∙ both f xs

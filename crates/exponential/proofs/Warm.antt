@@ -13,10 +13,11 @@ use Rattle.laws.proofs.Bools.{pick-true, pick-false}
 use Rattle.rows.specs.Rows.{over, recorded, recordedFrom, holds}
 use Rattle.rows.specs.declared.Row.{Row}
 use Rattle.rows.proofs.Adds.{inside, holds-says}
+use Rattle.rows.proofs.Change.{change-is}
 use Rattle.exponential.specs.declared.Counts.{Counts}
 use Rattle.exponential.specs.Steps.{lowered, with1, lowering, placed}
 use Rattle.exponential.specs.Series.{rowIn, Laid, read, Written, lowerBy, rowTo, rowOther, oneMore}
-use Rattle.exponential.proofs.Rowed.{change-is, bins-some, downscaled-zero, laid-same}
+use Rattle.exponential.proofs.Rowed.{bins-some, downscaled-zero, laid-same}
 use Rattle.exponential.proofs.Write.{needed-in, written-plus, written-minus}
 
 within : (size s n b : ℕ) → s ≤ b → b - s < n → n ≤ size → (min s b ≡ s) × ((max (s + (n - 1)) b ≡ s + (n - 1)) × (s + (n - 1) - s < size))

@@ -1,5 +1,5 @@
 -- A series in a head and two lent rows: what it holds, when it agrees with itself, what recording does. Assumes nothing.
-use Prim.Native.Nat.{ℕ, _+_, _-_, _/_, _^_, _≤_, _<_}
+use Prim.Native.Nat.{ℕ, _+_, _-_, _/_, _%_, _^_, _≤_, _<_}
 use mathlib.Core.Path.{_≡_}
 use mathlib.Core.Bool.{Bool, true}
 use mathlib.Core.List.{List}
@@ -9,7 +9,7 @@ use lib.Ieee.{Float, binary64, add}
 use lib.Ieee.Scale.{finite}
 use Rattle.laws.specs.Pick.{pick, _and_}
 use Rattle.laws.specs.Said.{Said, refusal, success}
-use Rattle.laws.specs.Counting.{total}
+use Rattle.laws.specs.Counting.{sum, total}
 use Rattle.index.specs.Bins.{finest, lowestBin, endBin}
 use Rattle.index.specs.declared.Bin.{Bin}
 use Rattle.index.specs.declared.Bin.the-variants.{NoLevel, NotFinite, Zero, At}
@@ -24,6 +24,7 @@ use Rattle.rows.specs.Rows.{over}
 use Rattle.rows.specs.declared.Row.{Row}
 use Rattle.exponential.specs.declared.Counts.{Counts}
 use Rattle.exponential.specs.declared.Head.{Head}
+use Rattle.exponential.specs.declared.Halves.{Halves}
 use Rattle.exponential.specs.declared.Class.{Class}
 use Rattle.exponential.specs.declared.Class.the-variants.{Naught, Plus, Minus}
 use Rattle.exponential.specs.declared.Answer.{Answer}
@@ -72,6 +73,10 @@ rowAgrees size low end r xs = leb (r .len) (length xs) and A.rowAgrees size low 
 -- the count is that of zeros and rows
 abbrev pub addsUp : Counts → List ℕ → List ℕ → Bool
 addsUp c xs ys = eqb (c .count) (c .zeros + (total (take (c .pos .len) xs) + total (take (c .neg .len) ys)))
+
+-- counts added to two sums, their low and their high 32 bits apart
+unfoldable pub halved : Halves → List ℕ → Halves
+halved f xs = record { low = f .low + sum (λ x. x % 4294967296) xs; high = f .high + sum (λ x. x / 4294967296) xs }
 
 -- size and greatest level could come from an accepted configuring, the counts are there, and what they make up agrees
 unfoldable pub agrees : ℕ → ℕ → Counts → List ℕ → List ℕ → Bool

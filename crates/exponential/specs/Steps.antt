@@ -1,12 +1,11 @@
 -- One value recorded into rows, step by step, as the code does it. Assumes nothing.
-use Prim.Native.Nat.{ℕ, suc, _+_, _-_, _/_, _^_, min, max, pred}
-use mathlib.Core.Bool.{Bool}
-use lib.Dec.{leb, eqb}
+use Prim.Native.Nat.{ℕ, _+_, _/_, _^_, min, max, pred}
+use lib.Dec.{eqb}
 use lib.ListN.{length}
 use Rattle.laws.specs.Pick.{pick}
-use Rattle.laws.specs.Search.{least}
 use Rattle.points.specs.Points.{Row, Point, Value, naught, plus, minus}
 use Rattle.rows.specs.Rows.{downscaled, recorded, recordedFrom}
+unfoldable pub use Rattle.rows.specs.Rows.{narrow, lowering}
 
 -- a row k levels lower, and a row with one more at bin b
 abbrev pub lowered : ℕ → Row → Row
@@ -21,14 +20,6 @@ lowBin s n b = pick (eqb n 0) b (min s b)
 
 unfoldable pub highBin : ℕ → ℕ → ℕ → ℕ
 highBin s n b = pick (eqb n 0) b (max (s + pred n) b)
-
--- whether the bins from lo to hi are at most size, k levels lower
-unfoldable pub narrow : ℕ → ℕ → ℕ → ℕ → Bool
-narrow size lo hi k = leb (suc (hi / 2 ^ k - lo / 2 ^ k)) size
-
--- the least lowering at which they are
-unfoldable pub lowering : ℕ → ℕ → ℕ → ℕ
-lowering size lo hi = least (narrow size lo hi) 0 32
 
 -- the lowering that a row needs for one more at bin b
 abbrev pub needed : ℕ → Row → ℕ → ℕ

@@ -3,14 +3,16 @@
 mod sums;
 
 ghost use mathlib.Core.Path.{_≡_};
-ghost use Prim.Native.Nat.{_+_, _-_, _*_, _/_, _^_, _<_, _≤_, min, max};
+ghost use Prim.Native.Nat.{_+_, _*_, _^_, _<_, _≤_, min, max};
 ghost use lib.ListN.{length, take};
 ghost use Rattle.index.specs.Answers.{binOf};
 ghost use Rattle.laws.specs.Counting.{total};
 ghost use Rattle.exponential.specs.Steps.{lowered, with1, lowBin, highBin, lowering, placed};
 ghost use Rattle.laws.specs.Pick.{pick};
 ghost use Rattle.exponential.specs.Runs.{freshHead};
-ghost use Rattle.exponential.specs.Series.{mostSize, rowIn, Laid, rowAgrees, addsUp, agrees, classAt, valueOf, lowerBy, rowTo, rowOther, Room, mostCount, oneMore, Ready, Written, read, refusalOf, said, outcome, recording};
+ghost use Rattle.exponential.specs.Series.{mostSize, mostCount, rowIn, Laid, read, Written, rowAgrees, halved, addsUp, agrees};
+ghost use Rattle.exponential.specs.Series.{classAt, valueOf, lowerBy, rowTo, rowOther, Room, oneMore, Ready};
+ghost use Rattle.exponential.specs.Series.{refusalOf, said, outcome, recording};
 use rows::Row;
 
 pub struct Counts {
@@ -57,7 +59,7 @@ fn shorter(a: usize, b: usize) -> usize
     if a < b { a } else { b }
 }
 
-// The row of a sign: a part of the one lent slice or of the other.
+// The row of a sign: a part of the one lent slice or of the other, as much of it as is lent.
 pub fn row_of<'a>(c: Counts, negative: bool, pos: &'a [u64], neg: &'a [u64]) -> &'a [u64]
     ensures { λ r. ⌜ now r ≡ pick negative (take (c .neg .len) (now (neg .entry))) (take (c .pos .len) (now (pos .entry))) ⌝ }
 {
@@ -97,16 +99,17 @@ fn row_agrees(counts: &[u64], row: Row, size: usize, low: u32, end: u64) -> bool
     counts[n - 1] != 0
 }
 
-// The counts of a row added to what is there, the low and the high halves apart.
+// Two sums of counts: of their low and of their high 32 bits.
 pub struct Halves {
     pub low: u64,
     pub high: u64,
 }
 
+// The first n counts added to what is there, the low and the high halves apart: nothing can overflow.
 pub fn sum_halves(counts: &[u64], n: usize, from: Halves) -> Halves
     requires { ⌜ (n ≤ length (now counts)) × (n ≤ mostSize) ⌝ }
     requires { ⌜ (from .low ≤ 200 * 4294967295) × (from .high ≤ 200 * 4294967295) ⌝ }
-    ensures { λ r. ⌜ r .low + r .high * 4294967296 ≡ from .low + from .high * 4294967296 + total (take n (now (counts .entry))) ⌝ }
+    ensures { λ r. ⌜ r ≡ halved from (take n (now (counts .entry))) ⌝ }
     ensures { λ r. ⌜ (r .low ≤ from .low + n * 4294967295) × (r .high ≤ from .high + n * 4294967295) ⌝ }
 {
     let mut low = from.low;
@@ -165,6 +168,7 @@ fn adds_up(c: Counts, pos: &[u64], neg: &[u64]) -> bool
     halves_add_up(c, pos, neg)
 }
 
+// Whether max_size, greatest level, counts and rows agree: `agrees`. It refuses nothing.
 pub fn counts_agree(size: usize, top: u32, c: Counts, pos: &[u64], neg: &[u64]) -> bool
     ensures { λ r. ⌜ r ≡ agrees size top c (now (pos .entry)) (now (neg .entry)) ⌝ }
 {
@@ -196,12 +200,14 @@ pub fn counts_agree(size: usize, top: u32, c: Counts, pos: &[u64], neg: &[u64]) 
 
 // ---- the change of level
 
+// The lesser of two.
 pub fn lesser(a: u32, b: u32) -> u32
     ensures { λ r. ⌜ r ≡ min a b ⌝ }
 {
     if a < b { a } else { b }
 }
 
+// The greater of two.
 pub fn greater(a: u32, b: u32) -> u32
     ensures { λ r. ⌜ r ≡ max a b ⌝ }
 {
@@ -226,7 +232,7 @@ fn needed(size: usize, row: Row, bin: u32) -> u32
 
 // ---- rows
 
-// A row k levels lower, in place.
+// A row k levels lower, in place, and the row then.
 pub fn lower(counts: &mut [u64], row: Row, k: u32) -> Row
     requires { ⌜ (row .len ≤ length (now counts)) × (k < 32) ⌝ }
     requires { ⌜ total (take (row .len) (now counts)) < 2 ^ 64 ⌝ }
@@ -316,7 +322,8 @@ fn one_more(c: Counts, k: u32, pos: Row, neg: Row) -> Counts
 // One value more: a row that has its bin stays where it is, and so does the other.
 fn add(size: usize, top: u32, c: Counts, pos: &mut [u64], neg: &mut [u64], class: Class) -> Counts
     requires { ⌜ Ready size top c (now pos) (now neg) class ⌝ }
-    ensures { λ r. ⌜ Written (placed size (read c (now (pos .entry)) (now (neg .entry))) (valueOf class)) (now (pos .entry)) (now (neg .entry)) r (now (pos .exit)) (now (neg .exit)) ⌝ }
+    ensures { λ r. ⌜ Written (placed size (read c (now (pos .entry)) (now (neg .entry))) (valueOf class))
+        (now (pos .entry)) (now (neg .entry)) r (now (pos .exit)) (now (neg .exit)) ⌝ }
 {
     let p = c.pos;
     let n = c.neg;
@@ -380,7 +387,8 @@ fn refusal(size: u32, top: u32, head: Head, pos: &[u64], neg: &[u64], v: f64) ->
     0
 }
 
-// Records a value into the series, or refuses it with document 01's number.
+// Records a value into the series and returns its head then, or refuses it: 12 where a row lent is too short, 6 where the value is not
+// finite, 8 where the series disagrees with itself or its settings, 9 where its count is full.
 pub fn record(size: u32, top: u32, head: Head, pos: &mut [u64], neg: &mut [u64], v: f64) -> Answer
     ensures { λ r. ⌜ outcome (said r) (now (pos .exit)) (now (neg .exit)) ≡ recording size top head (now (pos .entry)) (now (neg .entry)) v ⌝ }
 {

@@ -4,3 +4,4 @@ pub mod Moves
 pub mod Adds
 pub mod Algebra
 pub mod Puts
+pub mod Change

@@ -5,6 +5,7 @@ use mathlib.Core.Bool.{Bool, true, false}
 use lib.Dec.{leb, eqb}
 use lib.ListN.{length, take, drop, replicate}
 use Rattle.laws.specs.Pick.{_and_}
+use Rattle.laws.specs.Search.{least}
 unfoldable pub use Rattle.laws.specs.Over.{over}
 
 -- v more at place k, with zeros before it where the list is shorter
@@ -42,6 +43,14 @@ recorded s (x ∷ xs) i = addAt (i - s) 1 (replicate (s - i) 0 ++ x ∷ xs)
 -- whether the row of n counts from s on has the index i
 unfoldable pub holds : ℕ → ℕ → ℕ → Bool
 holds s n i = leb s i and leb (suc i) (s + n)
+
+-- whether the indices from lo to hi are at most size, d levels lower
+unfoldable pub narrow : ℕ → ℕ → ℕ → ℕ → Bool
+narrow size lo hi d = leb (suc (hi / 2 ^ d - lo / 2 ^ d)) size
+
+-- the fewest levels lower at which they are: "the largest scale .. at which all fits"
+unfoldable pub lowering : ℕ → ℕ → ℕ → ℕ
+lowering size lo hi = least (narrow size lo hi) 0 32
 
 -- zeros from a up to e
 unfoldable pub zeroed : ℕ → ℕ → List ℕ → List ℕ

@@ -1,8 +1,8 @@
 // Rows of bucket counts of an exponential histogram, each at the front of a slice that is lent: `ExpoBuckets` of exponential_histogram.rs.
 ghost use mathlib.Core.Path.{_≡_};
-ghost use Prim.Native.Nat.{ℕ, _+_, _-_, _/_, _^_, _<_, _≤_};
+ghost use Prim.Native.Nat.{_+_, _/_, _^_, _<_, _≤_};
 ghost use lib.ListN.{length, take, getD};
-ghost use Rattle.rows.specs.Rows.{over, addAt, downscaled, recorded, recordedFrom, zeroed, shifted, holds};
+ghost use Rattle.rows.specs.Rows.{over, addAt, downscaled, recorded, recordedFrom, holds, lowering, zeroed, shifted};
 ghost use Rattle.laws.specs.Counting.{total};
 ghost use Rattle.laws.specs.Pick.{pick};
 
@@ -12,7 +12,7 @@ pub struct Row {
     pub len: usize,
 }
 
-// Lowers a row by delta levels, in place.
+// Lowers the row of the first n counts, which starts at start, by delta levels, in place, and returns the row then.
 pub fn downscale(counts: &mut [u64], start: u32, n: usize, delta: u32) -> Row
     requires { ⌜ n ≤ length (now counts) ⌝ }
     requires { ⌜ delta < 32 ⌝ }
@@ -65,7 +65,7 @@ pub fn shift(counts: &mut [u64], n: usize, k: usize)
     }
 }
 
-// One more at index.
+// One more at index, with zeros between it and the row where it lies beside it, and the row then.
 pub fn record(counts: &mut [u64], row: Row, index: u32) -> Row
     requires { ⌜ row .len ≤ length (now counts) ⌝ }
     requires { ⌜ length (recorded (row .start) (take (row .len) (now counts)) index) ≤ length (now counts) ⌝ }
@@ -108,7 +108,8 @@ pub fn raise(counts: &mut [u64], row: Row, index: u32) -> bool
     requires { ⌜ row .len ≤ length (now counts) ⌝ }
     requires { ⌜ total (take (row .len) (now counts)) + 1 < 2 ^ 64 ⌝ }
     ensures { λ r. ⌜ r ≡ holds (row .start) (row .len) index ⌝ }
-    ensures { λ r. ⌜ now (counts .exit) ≡ pick (holds (row .start) (row .len) index) (over (recorded (row .start) (take (row .len) (now (counts .entry))) index) (now (counts .entry))) (now (counts .entry)) ⌝ }
+    ensures { λ r. ⌜ now (counts .exit) ≡ pick (holds (row .start) (row .len) index)
+        (over (recorded (row .start) (take (row .len) (now (counts .entry))) index) (now (counts .entry))) (now (counts .entry)) ⌝ }
 {
     let start = row.start;
     let n = row.len;
@@ -126,8 +127,7 @@ pub fn raise(counts: &mut [u64], row: Row, index: u32) -> bool
 // The least number of levels lower at which the bins from lo to hi are at most size.
 pub fn scale_change(lo: u32, hi: u32, size: usize) -> u32
     requires { ⌜ (lo ≤ hi) × (0 < size) ⌝ }
-    ensures { λ r. ⌜ (r ≤ 32) × (hi / 2 ^ r - lo / 2 ^ r < size) ⌝ }
-    ensures { λ r. ⌜ ((d : ℕ) → d < r → size ≤ hi / 2 ^ d - lo / 2 ^ d) ⌝ }
+    ensures { λ r. ⌜ r ≡ lowering size lo hi ⌝ }
 {
     let mut a = lo as u64;
     let mut b = hi as u64;

@@ -4,6 +4,7 @@ use native.Mathlib.Omega.{arith}
 use denote.Ref.{now}
 use lib.ListN.{take}
 use Rattle.laws.specs.Counting.{total}
+use Rattle.exponential.proofs.Rowed.{halved-total}
 use Rattle.exponential.proofs.Facts.{last-fits}
 use Rattle.explicit.proofs.Cases.{adds-no, adds-by}
 use Rattle.explicit.proofs.adds_up.Statement.{statement}
@@ -13,7 +14,7 @@ sum-halves-requires : tie.Need-sum-halves-requires
 sum-halves-requires c κs = let st = c .before in (st .pre, (omega arith, omega arith))
 
 sums : (s : tie.After-sum-halves) → s .sum-halves .result .low + s .sum-halves .result .high * 4294967296 ≡ total (take (s .before .before .args .n) (now (s .before .before .args .counts)))
-sums s = omega (arith, s .sum-halves .ensures .0)
+sums s = omega (arith, halved-total _ _ _ (s .sum-halves .ensures .0))
 
 returns : tie.Need-returns
 returns c =

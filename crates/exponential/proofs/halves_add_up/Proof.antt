@@ -6,6 +6,7 @@ use denote.Ref.{now}
 use lib.ListN.{take}
 use Rattle.laws.specs.Counting.{total}
 use Rattle.exponential.proofs.Facts.{halves-sum, low-bound, high-bound, last-fits, adds-up-no, adds-up-by}
+use Rattle.exponential.proofs.Rowed.{halved-total}
 use borrow.Author.Needs.{needs}
 use Rattle.exponential.proofs.halves_add_up.Statement.{statement}
 use Rattle.exponential.proofs.halves_add_up.Tie as tie
@@ -19,7 +20,7 @@ together s =
     let a = s .before in
     let st = a .before .before .before .before .before in
     halves-sum (st .args .c .zeros) (a .sum-halves .result .low) (a .sum-halves .result .high) (s .sum-halves2 .result .low) (s .sum-halves2 .result .high)
-    (total (take (st .args .c .pos .len) (now (st .args .pos)))) (total (take (st .args .c .neg .len) (now (st .args .neg)))) (a .sum-halves .ensures .0) (s .sum-halves2 .ensures .0)
+    (total (take (st .args .c .pos .len) (now (st .args .pos)))) (total (take (st .args .c .neg .len) (now (st .args .neg)))) (halved-total _ _ _ (a .sum-halves .ensures .0)) (halved-total _ _ _ (s .sum-halves2 .ensures .0))
 
 sum-halves-requires : tie.Need-sum-halves-requires
 sum-halves-requires c κs = search needs

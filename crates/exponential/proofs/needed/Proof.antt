@@ -1,6 +1,6 @@
 use Prim.Native.Nat.{_-_}
 use native.Mathlib.Omega.{arith}
-use Rattle.exponential.proofs.Rowed.{change-is, bins-empty, bins-some}
+use Rattle.exponential.proofs.Rowed.{bins-empty, bins-some}
 use borrow.Author.Needs.{needs}
 use Rattle.exponential.proofs.needed.Statement.{statement}
 use Rattle.exponential.proofs.needed.Tie as tie
@@ -12,7 +12,7 @@ returns : tie.Need-returns
 returns c =
     let st = c .before .before in
     let e = bins-empty (st .args .row .start) (st .args .row .len) (st .args .bin) (c .before .if1 .taken) in
-    rw (e .0, e .1) (change-is (st .args .size) (st .args .bin) (st .args .bin) (c .scale-change .result) (c .scale-change .ensures .0 .0) (c .scale-change .ensures .0 .1) (c .scale-change .ensures .1))
+    rw (e .0, e .1) (c .scale-change .ensures)
 
 sub-last : tie.Need-sub-last
 sub-last c = search needs
@@ -38,8 +38,7 @@ returns-2 c =
     let l = g .before in
     let st = l .before .before in
     let e = bins-some (st .args .row .start) (st .args .row .len) (st .args .bin) (omega (arith, l .before .if1 .left)) in
-    rw (e .0, e .1, ← l .lesser .ensures, ← g .greater .ensures)
-    (change-is (st .args .size) (l .lesser .result) (g .greater .result) (c .scale-change2 .result) (c .scale-change2 .ensures .0 .0) (c .scale-change2 .ensures .0 .1) (c .scale-change2 .ensures .1))
+    rw (e .0, e .1, ← l .lesser .ensures, ← g .greater .ensures) (c .scale-change2 .ensures)
 
 pub needed-spec : {M : Type 1} → statement M
 needed-spec =

@@ -3,7 +3,6 @@ use mathlib.Core.Path.{_∙_}
 use native.Mathlib.Omega.{arith}
 use borrow.Author.Needs.{needs}
 use Rattle.exponential.specs.Steps.{lowering}
-use Rattle.exponential.proofs.Rowed.{change-is}
 use Rattle.merges.proofs.Spans.{ends-le}
 use Rattle.merges.proofs.span.Statement.{statement}
 use Rattle.merges.proofs.span.Tie as tie
@@ -20,9 +19,7 @@ returns : tie.Need-returns
 returns c =
     let a = c .before .before .args in
     let e = c .before .ends-of in
-    let s = c .scale-change in
-    change-is (a .size) (e .result .lo) (e .result .hi) (s .result) (s .ensures .0 .0) (s .ensures .0 .1) (s .ensures .1)
-    ∙ (λ i. lowering (a .size) (e .ensures .0 i) (e .ensures .1 i))
+    c .scale-change .ensures ∙ (λ i. lowering (a .size) (e .ensures .0 i) (e .ensures .1 i))
 
 pub span-spec : {M : Type 1} → statement M
 span-spec = tie.close (tie.spec ends-of-requires scale-change-requires returns)

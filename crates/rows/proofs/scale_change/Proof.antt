@@ -5,6 +5,7 @@ use native.Mathlib.Omega.{arith}
 use borrow.Author.Needs.{needs}
 use borrow.Author.Count.{below-none, below-more}
 use lib.Pow.{shr-mono, shr-shr, pow-mono}
+use Rattle.rows.proofs.Change.{change-is}
 use Rattle.rows.proofs.scale_change.Statement.{statement}
 use Rattle.rows.proofs.scale_change.Tie as tie
 
@@ -44,7 +45,8 @@ loop-again c =
 returns : tie.Need-returns Inv-loop μ-loop
 returns c =
     let l = c .before .loop in
-    ((l .inv .3, rw (l .inv .0, l .inv .1) at (c .loop-test .left)), l .inv .2)
+    let a = c .before .before .args in
+    change-is (a .size) (a .lo) (a .hi) (l .delta) (l .inv .3) (rw (l .inv .0, l .inv .1) at (c .loop-test .left)) (l .inv .2)
 
 pub scale-change-spec : {M : Type 1} → statement M
 scale-change-spec =

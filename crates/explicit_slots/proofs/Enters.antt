@@ -12,9 +12,11 @@ use lib.Ieee.Scale.{finite}
 use borrow.Author.Tests.{le-leb}
 use Rattle.laws.specs.Pick.{pick}
 use Rattle.laws.specs.Said.{Said, refusal, success}
-use Rattle.laws.proofs.Bools.{flag, not-both, pick-true, pick-false}
+use Rattle.laws.proofs.Bools.{flag, pick-true, pick-false}
 use Rattle.parts.specs.Parts.{partAt, putAt}
+use Rattle.parts.specs.Recording.{Recording}
 use Rattle.parts.proofs.Laws.{put-same}
+use Rattle.parts.proofs.Answers.{success?, valueIn, not-refused}
 use Rattle.rows.specs.Rows.{over}
 use Rattle.rows.proofs.Laws.{length-over}
 use Rattle.points.specs.Explicit.{bucketCount, boundsPass, bucketsOf, recordBucket, bucketsAgree}
@@ -23,20 +25,7 @@ use Rattle.explicit.specs.declared.Head.{Head}
 use Rattle.explicit.specs.Series.{Outcome, outcome, bucketsIn, freshHead, freshening, refusalOf, accepted, recording}
 use Rattle.explicit.proofs.Cases.{none}
 use Rattle.explicit.proofs.Listed.{accepted-is, fresh-is, fin-min, fin-max}
-use Rattle.explicit_slots.specs.Slots.{Stores, Recording, headAt, begun, entering, written, recordedAt}
-
--- ---- answers
-
-abbrev recorded? : Said Head → Bool
-recorded? (success h) = true
-recorded? (refusal n) = false
-
-abbrev headIn : Said Head → Head
-headIn (success h) = h
-headIn (refusal n) = freshHead
-
-not-refused : (a : Said Head) (n : ℕ) → recorded? a ≡ true → a ≡ refusal n → ⊥
-not-refused a n r e = not-both (recorded? a) r (ap recorded? e)
+use Rattle.explicit_slots.specs.Cells.{Cells, headAt, begun, entering, written, recordedAt}
 
 -- ---- a first value
 
@@ -53,12 +42,12 @@ module _ (bs : List Float) (xs : List ℕ) (long : bucketCount bs ≤ length xs)
     made = e ∙ fresh-made
 
     pub first-never : (n : ℕ) → a ≡ refusal n → ⊥
-    first-never n r = not-refused a n (ap (λ (o : Outcome). recorded? (o .answer)) made) r
+    first-never n r = not-refused a n (ap (λ (o : Outcome). success? (o .answer)) made) r
 
     pub first-law : (h : Head) (v : Float) → a ≡ success h → recording bs h ys v ≡ begun bs xs v
     unfolding begun
     first-law h v r =
-        let p : h ≡ freshHead = sym (ap headIn r) ∙ ap (λ (o : Outcome). headIn (o .answer)) made in
+        let p : h ≡ freshHead = sym (ap (valueIn freshHead) r) ∙ ap (λ (o : Outcome). valueIn freshHead (o .answer)) made in
         let q : ys ≡ zeros = ap (λ (o : Outcome). o .counts) made in
         λ j. recording bs (p j) (q j) v
 
@@ -112,7 +101,7 @@ module _ (bs : List Float) (u : Bool) (h : Head) (xs : List ℕ) (v : Float) whe
 
 -- ---- the call
 
-module _ (bs : List Float) (x : ℕ) (u : Bool) (s : Stores) (v : Float) where
+module _ (bs : List Float) (x : ℕ) (u : Bool) (s : Cells) (v : Float) where
   abbrev row : ℕ → List ℕ
   row k = partAt k (s .counts) x
 
@@ -128,17 +117,17 @@ module _ (bs : List Float) (x : ℕ) (u : Bool) (s : Stores) (v : Float) where
     there = e ∙ ap (λ (k : ℕ). entering bs u (headAt s x) (row k) v) is
 
     pub call-refused : (n : ℕ) → a ≡ refusal n → bucketCount bs ≤ length (row k) → finite v ≡ true
-        → record { no = n; stores = record { totals = s .totals; extremes = s .extremes; counts = back k ys } } ≡ recordedAt bs x u s v
+        → record { no = n; cells = record { totals = s .totals; extremes = s .extremes; counts = back k ys } } ≡ recordedAt bs x u s v
     call-refused n r l f =
         let q : entering bs u (headAt s x) (row k) v .counts ≡ row k = entering-kept bs u (headAt s x) (row k) v l f n (sym (ap (λ (o : Outcome). o .answer) e) ∙ r) in
         let same : back k ys ≡ s .counts = ap (back k) (ap (λ (o : Outcome). o .counts) e ∙ q) ∙ put-same k (s .counts) x in
-        (λ j. record { no = n; stores = record { totals = s .totals; extremes = s .extremes; counts = same j } })
+        (λ j. record { no = n; cells = record { totals = s .totals; extremes = s .extremes; counts = same j } })
         ∙ ap (λ (b : Said Head). written bs x s b ys) (sym r)
         ∙ call a ys there
 
     pub call-recorded : (h : Head) → a ≡ success h
-        → _≡_ {A = Recording} (record { no = 0; stores = record { totals = set (s .totals) x (h .count); extremes = set (s .extremes) x (h .min ∷ h .max ∷ h .sum ∷ []); counts = back k ys } }) (recordedAt bs x u s v)
+        → _≡_ {A = Recording Cells} (record { no = 0; cells = record { totals = set (s .totals) x (h .count); extremes = set (s .extremes) x (h .min ∷ h .max ∷ h .sum ∷ []); counts = back k ys } }) (recordedAt bs x u s v)
     call-recorded h r =
-        (λ j. record { no = 0; stores = record { totals = set (s .totals) x (h .count); extremes = set (s .extremes) x (h .min ∷ h .max ∷ h .sum ∷ []); counts = back (is j) ys } })
+        (λ j. record { no = 0; cells = record { totals = set (s .totals) x (h .count); extremes = set (s .extremes) x (h .min ∷ h .max ∷ h .sum ∷ []); counts = back (is j) ys } })
         ∙ ap (λ (b : Said Head). written bs x s b ys) (sym r)
         ∙ call a ys there

@@ -16,6 +16,7 @@ use borrow.Author.Tests.{le-leb, lt-leb, ltb-true, ltb-false}
 use Rattle.laws.specs.Pick.{pick, _and_}
 use Rattle.laws.specs.Said.{Said, refusal, success}
 use Rattle.laws.proofs.Bools.{flag, not-both, pick-true, pick-false}
+use Rattle.parts.specs.Recording.{Recording}
 use Rattle.parts.proofs.Laws.{part-length, put-length, put-own, put-other}
 use Rattle.rows.specs.Rows.{over}
 use Rattle.rows.proofs.Laws.{length-over}
@@ -30,18 +31,18 @@ use Rattle.explicit.specs.Series.{mostCount, bucketsIn, headOf, summary, freshH
 use Rattle.explicit.proofs.Cases.{refuse, disagrees}
 use Rattle.explicit.proofs.Writes.{refused-law}
 use Rattle.explicit.proofs.Listed.{accepted-is, fresh-is, reads, stays-long}
-use Rattle.explicit_slots.specs.Slots.{Stores, Room, Recording, rowAt, headAt, seriesAt, entering, written, recordedAt}
+use Rattle.explicit_slots.specs.Cells.{Cells, Room, rowAt, headAt, seriesAt, entering, written, recordedAt}
 use Rattle.explicit_slots.proofs.Enters.{zeros, begun-taken, enters-held, enters-bad, enters-first, call}
 
 -- stores as long as they were
-pub record Long (s after : Stores) : Type 0 where
+pub record Long (s after : Cells) : Type 0 where
   pub totals : length (after .totals) ≡ length (s .totals)
   pub extremes : length (after .extremes) ≡ length (s .extremes)
   pub counts : length (after .counts) ≡ length (s .counts)
 
 -- ---- a slot's cells written
 
-module _ (bounds : List Float) (s : Stores) (x : ℕ) (r : Room bounds s x) where
+module _ (bounds : List Float) (s : Cells) (x : ℕ) (r : Room bounds s x) where
   abbrev n : ℕ
   n = bucketCount bounds
 
@@ -52,8 +53,8 @@ module _ (bounds : List Float) (s : Stores) (x : ℕ) (r : Room bounds s x) wher
   long = part-length n (s .counts) x (r .counts)
 
   module _ (h : Head) (ys : List ℕ) (l : length ys ≡ n) where
-    abbrev after : Stores
-    after = written bounds x s (success h) ys .stores
+    abbrev after : Cells
+    after = written bounds x s (success h) ys .cells
 
     at-slot : seriesAt bounds after x ≡ record { counts = explicitCounts bounds (bucketsIn bounds (h .count) ys); summary = summary h }
     at-slot =
@@ -85,18 +86,18 @@ module _ (bounds : List Float) (s : Stores) (x : ℕ) (r : Room bounds s x) wher
 
 -- ---- refusals
 
-module _ (bounds : List Float) (x : ℕ) (u : Bool) (s : Stores) (v : Float) where
+module _ (bounds : List Float) (x : ℕ) (u : Bool) (s : Cells) (v : Float) where
   -- a number other than 0 leaves the stores
-  pub refused-same : recordedAt bounds x u s v .no ≢ 0 → recordedAt bounds x u s v .stores ≡ s
+  pub refused-same : recordedAt bounds x u s v .no ≢ 0 → recordedAt bounds x u s v .cells ≡ s
   unfolding recordedAt
   refused-same = let o = entering bounds u (headAt s x) (rowAt bounds (s .counts) x) v in go (o .answer) (o .counts)
     where
-      go : (a : Said Head) (xs : List ℕ) → written bounds x s a xs .no ≢ 0 → written bounds x s a xs .stores ≡ s
+      go : (a : Said Head) (xs : List ℕ) → written bounds x s a xs .no ≢ 0 → written bounds x s a xs .cells ≡ s
       go (refusal n) xs d = refl
       go (success h) xs d = absurd (d refl)
 
   -- 8 under bounds that do not pass
-  pub bad-bounds : Room bounds s x → finite v ≡ true → boundsPass bounds ≡ false → recordedAt bounds x u s v ≡ record { no = 8; stores = s }
+  pub bad-bounds : Room bounds s x → finite v ≡ true → boundsPass bounds ≡ false → recordedAt bounds x u s v ≡ record { no = 8; cells = s }
   bad-bounds r f b =
       let h = headAt s x in
       let xs = rowAt bounds (s .counts) x in
@@ -123,7 +124,7 @@ module _ (bounds : List Float) (e m : Bool) (t : Float) where
   abbrev pub settings : Settings
   settings = record { kind = explicit bounds; extremes = e; sums = m; threshold = t }
 
-  module _ (s : Stores) (x : ℕ) (r : Room bounds s x) (v : Float) (f : finite v ≡ true) where
+  module _ (s : Cells) (x : ℕ) (r : Room bounds s x) (v : Float) (f : finite v ≡ true) where
     abbrev held : Figures
     held = seriesAt bounds s x
 
@@ -141,13 +142,13 @@ module _ (bounds : List Float) (e m : Bool) (t : Float) where
         ∙ ap (λ (b : Bool). pick b (pick (leb mostCount total) 9 0) 8) (and-is (bucketsAgree bounds (bucketsIn bounds total xs)) (finite (headAt s x .min)) (finite (headAt s x .max)))
 
     -- what the value was added to, and what is left
-    pub record Added (was : Figures) (after : Stores) : Type 0 where
+    pub record Added (was : Figures) (after : Cells) : Type 0 where
       pub series : seriesAt bounds after x ≡ histograms .add settings was v
       pub others : (y : ℕ) → y ≢ x → seriesAt bounds after y ≡ seriesAt bounds s y
       pub lengths : Long s after
 
     abbrev pub Took : Bool → Figures → Type 0
-    Took u was = (recordedAt bounds x u s v .no ≡ 0) × Added was (recordedAt bounds x u s v .stores)
+    Took u was = (recordedAt bounds x u s v .no ≡ 0) × Added was (recordedAt bounds x u s v .cells)
 
     -- a head and a row recorded into leave their figures in the slot, with the value added
     taken : (u : Bool) (h : Head) (ys : List ℕ) → length ys ≡ bucketCount bounds
@@ -160,7 +161,7 @@ module _ (bounds : List Float) (e m : Bool) (t : Float) where
         let zs = over (q .counts) ys in
         let k : bucketCount bounds ≤ length ys = omega (arith, l) in
         let lz : length zs ≡ bucketCount bounds = stays-long bounds (h .count) ys v k ∙ l in
-        subst (λ (o : Recording). (o .no ≡ 0) × Added was (o .stores)) (call bounds x u s v (success g) zs (sym e)) (
+        subst (λ (o : Recording Cells). (o .no ≡ 0) × Added was (o .cells)) (call bounds x u s v (success g) zs (sym e)) (
           refl,
           record {
             series = at-slot bounds s x r g zs lz
@@ -173,18 +174,18 @@ module _ (bounds : List Float) (e m : Bool) (t : Float) where
 
     -- of a series that was recorded into before
 
-    refused : (k : ℕ) → k ≡ refusalOf bounds (headAt s x) xs v → k ≢ 0 → recordedAt bounds x true s v ≡ record { no = k; stores = s }
+    refused : (k : ℕ) → k ≡ refusalOf bounds (headAt s x) xs v → k ≢ 0 → recordedAt bounds x true s v ≡ record { no = k; cells = s }
     refused k i z =
         sym (call bounds x true s v (refusal k) xs (refused-law bounds (headAt s x) xs v k i z ∙ sym (enters-held bounds true (headAt s x) xs v refl)))
 
-    held-8 : histograms .agrees settings held ≡ false → recordedAt bounds x true s v ≡ record { no = 8; stores = s }
+    held-8 : histograms .agrees settings held ≡ false → recordedAt bounds x true s v ≡ record { no = 8; cells = s }
     held-8 a = refused 8 (sym (no-is ∙ pick-false (histograms .agrees settings held) _ 8 a)) (λ z. omega (arith, z))
 
     module _ (a : histograms .agrees settings held ≡ true) where
       by-count : refusalOf bounds (headAt s x) xs v ≡ pick (leb mostCount total) 9 0
       by-count = no-is ∙ pick-true (histograms .agrees settings held) _ 8 a
 
-      held-9 : fits (suc total) ≡ false → recordedAt bounds x true s v ≡ record { no = 9; stores = s }
+      held-9 : fits (suc total) ≡ false → recordedAt bounds x true s v ≡ record { no = 9; cells = s }
       held-9 b =
           let full : mostCount ≤ total = omega (arith, ltb-false (suc total) (2 ^ 64) b) in
           refused 9 (sym (by-count ∙ pick-true (leb mostCount total) 9 0 (le-leb mostCount total full))) (λ z. omega (arith, z))
@@ -211,12 +212,12 @@ module _ (bounds : List Float) (e m : Bool) (t : Float) where
     abbrev pub there : Bool → Option Figures
     there u = cond u (some held) none
 
-    pub disagreeing : (u : Bool) → sound histograms settings (there u) ≡ false → recordedAt bounds x u s v ≡ record { no = 8; stores = s }
+    pub disagreeing : (u : Bool) → sound histograms settings (there u) ≡ false → recordedAt bounds x u s v ≡ record { no = 8; cells = s }
     disagreeing true a = held-8 a
     disagreeing false a = true-not-false a
 
     pub full : (u : Bool) → sound histograms settings (there u) ≡ true → fits (suc (histograms .total (Option·getD (there u) (histograms .fresh settings)))) ≡ false
-        → recordedAt bounds x u s v ≡ record { no = 9; stores = s }
+        → recordedAt bounds x u s v ≡ record { no = 9; cells = s }
     unfolding bucketsOf
     full true a b = held-9 a b
     full false a b = true-not-false b

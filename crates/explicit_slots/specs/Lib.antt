@@ -1,2 +1,2 @@
 -- The definitions that the contracts of `explicit_slots` cite.
-pub mod Slots
+pub mod Cells

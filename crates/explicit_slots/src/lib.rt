@@ -4,9 +4,10 @@ ghost use mathlib.Core.Bool.{true};
 ghost use Prim.Native.Nat.{_+_, _*_, _<_, _≤_};
 ghost use lib.ListN.{length};
 ghost use lib.Ieee.Scale.{finite};
+ghost use Rattle.parts.specs.Recording.{after};
 ghost use Rattle.points.specs.Explicit.{bucketCount};
 ghost use Rattle.explicit.specs.Series.{said, outcome};
-ghost use Rattle.explicit_slots.specs.Slots.{begun, entering, cells, after, recordedAt};
+ghost use Rattle.explicit_slots.specs.Cells.{begun, entering, cells, recordedAt};
 use explicit::Answer;
 use explicit::Head;
 
@@ -36,7 +37,8 @@ fn enter(bounds: &[f64], updated: bool, head: Head, counts: &mut [u64], v: f64) 
     first(bounds, counts, v)
 }
 
-// Records a value into the series of slot x, or refuses it with document 01's number.
+// Records a finite value into slot x, which holds a series where it was updated, and answers 0; or refuses it: 8 where the series or the
+// bounds disagree, 9 where its count is full.
 pub fn record(
     bounds: &[f64],
     x: usize,

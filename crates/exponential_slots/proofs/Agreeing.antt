@@ -21,7 +21,7 @@ use Rattle.exponential.specs.Series as S
 use Rattle.exponential.proofs.Facts.{agreed, agreed-agrees}
 use Rattle.exponential.proofs.Write.{level-pow}
 use Rattle.kinds.specs.Histograms.{passes, countsHold}
-use Rattle.exponential_slots.specs.Slots.{countsIn, narrow}
+use Rattle.exponential_slots.specs.Cells.{countsIn, narrow}
 use Rattle.exponential_slots.specs.Meaning.{shaped, shapeless, countsAt}
 use Rattle.exponential_slots.proofs.Cases.{narrow-says, narrow-of}
 

@@ -1,20 +1,25 @@
 -- The tests of a slot's words, case by case, as the code makes them. Assumes nothing.
 use Prim.Native.Nat.{ℕ, _≤_, _<_, _^_}
-use mathlib.Core.Path.{_≡_}
+use mathlib.Core.Path.{_≡_, refl, ap, sym, subst, _∙_}
+use mathlib.Core.Logic.{⊎-elim}
 use mathlib.Core.Bool.{Bool, true, false}
 use mathlib.Core.List.{List, []}
 use native.Mathlib.Omega.{arith}
-use lib.Dec.{leb}
+use lib.Dec.{leb, eqb}
 use lib.ListN.{getD}
 use lib.Ieee.{Float}
 use borrow.Author.Tests.{leb-true, le-leb, lt-leb}
 use Rattle.laws.specs.Pick.{pick, _and_}
-use Rattle.laws.specs.Said.{number}
-use Rattle.laws.proofs.Bools.{and-left, and-right}
+use Rattle.laws.specs.Said.{Said, refusal, success, number}
+use Rattle.laws.proofs.Bools.{flag, and-left, and-right, pick-true, pick-false}
 use Rattle.parts.specs.Parts.{partAt, putAt}
-use Rattle.exponential.specs.Series.{mostCount, Outcome, recording}
+use Rattle.parts.specs.Recording.{Recording, after}
+use Rattle.parts.proofs.Laws.{put-same}
+use Rattle.parts.proofs.Answers.{not-refused}
+use Rattle.exponential.specs.declared.Head.{Head}
+use Rattle.exponential.specs.Series.{mostCount, refusalOf, Outcome, recording}
 use Rattle.exponential.specs.Runs.{freshHead}
-use Rattle.exponential_slots.specs.Slots.{Slots, mostBin, narrow, readable, headIn, headOf, figuresAfter, extremesAfter, laid, refused, recordedAt}
+use Rattle.exponential_slots.specs.Cells.{Cells, mostBin, narrow, readable, headIn, headOf, figuresAfter, extremesAfter, written, recordedAt}
 
 module _ (f : List ℕ) (h : getD f 0 0 < 2 ^ 64) where
   first : leb (getD f 0 0) mostCount ≡ true
@@ -81,25 +86,50 @@ head-fresh top updated f m u = rw u
 
 -- ---- the call
 
-module _ (size top x : ℕ) (updated : Bool) (s : Slots) (v : Float) where
-  pub unread : readable updated (getD (s .figures) x []) ≡ false → recordedAt size top x updated s v ≡ refused 8 s
+-- what the series' call leaves, written into slot x
+abbrev pub into : ℕ → ℕ → Cells → Outcome → Recording Cells
+into size x c o = written size x c (o .answer) (o .pos) (o .neg)
+
+module _ (size top x : ℕ) (updated : Bool) (c : Cells) (v : Float) where
+  pub unread : readable updated (getD (c .figures) x []) ≡ false → recordedAt size top x updated c v ≡ after 8 c
   unfolding recordedAt pick
   unread h = rw h
 
-  pub called : readable updated (getD (s .figures) x []) ≡ true
-      → recordedAt size top x updated s v
-      ≡ laid size x s (recording size top (headOf top updated (getD (s .figures) x []) (getD (s .extremes) x [])) (partAt size (s .pos) x) (partAt size (s .neg) x) v)
+  pub called : readable updated (getD (c .figures) x []) ≡ true
+      → recordedAt size top x updated c v
+      ≡ into size x c (recording size top (headOf top updated (getD (c .figures) x []) (getD (c .extremes) x [])) (partAt size (c .pos) x) (partAt size (c .neg) x) v)
   unfolding recordedAt pick
   called h = rw h
 
+-- a refusal leaves both rows
+module _ (size top : ℕ) (h : Head) (xs ys : List ℕ) (v : Float) where
+  abbrev Kept : Outcome → Type 0
+  Kept o = (n : ℕ) → o .answer ≡ refusal n → (o .pos ≡ xs) × (o .neg ≡ ys)
+
+  pub recording-kept : Kept (recording size top h xs ys v)
+  unfolding recording
+  recording-kept =
+      ⊎-elim
+      (λ (t : eqb (refusalOf size top h xs ys v) 0 ≡ true). subst Kept (sym (pick-true _ _ _ t)) (λ n r. absurd (not-refused _ n refl r)))
+      (λ (t : eqb (refusalOf size top h xs ys v) 0 ≡ false). subst Kept (sym (pick-false _ _ _ t)) (λ n r. (refl, refl)))
+      (flag (eqb (refusalOf size top h xs ys v) 0))
+
 -- what the series' call and the writing leave
-pub laid-by : (size x : ℕ) (s : Slots) (o : Outcome) (n : ℕ) (figures : List (List ℕ)) (extremes : List (List Float))
-    → n ≡ number (o .answer) → figures ≡ figuresAfter x (s .figures) (o .answer) → extremes ≡ extremesAfter x (s .extremes) (o .answer)
-    → record { number = n; slots = record { figures = figures; extremes = extremes; pos = putAt size (s .pos) x (o .pos); neg = putAt size (s .neg) x (o .neg) } }
-    ≡ laid size x s o
-unfolding laid
-laid-by size x s o n figures extremes p q r =
-    λ j. record {
-      number = p j;
-      slots = record { figures = q j; extremes = r j; pos = putAt size (s .pos) x (o .pos); neg = putAt size (s .neg) x (o .neg) };
-    }
+module _ (size x : ℕ) (c : Cells) (n : ℕ) (figures : List (List ℕ)) (extremes : List (List Float)) where
+  by-answer : (a : Said Head) (xs ys : List ℕ) → ((k : ℕ) → a ≡ refusal k → (xs ≡ partAt size (c .pos) x) × (ys ≡ partAt size (c .neg) x))
+      → n ≡ number a → figures ≡ figuresAfter x (c .figures) a → extremes ≡ extremesAfter x (c .extremes) a
+      → after n (record { figures = figures; extremes = extremes; pos = putAt size (c .pos) x xs; neg = putAt size (c .neg) x ys }) ≡ written size x c a xs ys
+  by-answer (success h) xs ys k p q r =
+      λ j. after (p j) (record { figures = q j; extremes = r j; pos = putAt size (c .pos) x xs; neg = putAt size (c .neg) x ys })
+  by-answer (refusal m) xs ys k p q r =
+      let e = ap (putAt size (c .pos) x) (k m refl .0) ∙ put-same size (c .pos) x in
+      let f = ap (putAt size (c .neg) x) (k m refl .1) ∙ put-same size (c .neg) x in
+      λ j. after (p j) (record { figures = q j; extremes = r j; pos = e j; neg = f j })
+
+  pub written-by : (top : ℕ) (h : Head) (v : Float) (o : Outcome) → o ≡ recording size top h (partAt size (c .pos) x) (partAt size (c .neg) x) v
+      → n ≡ number (o .answer) → figures ≡ figuresAfter x (c .figures) (o .answer) → extremes ≡ extremesAfter x (c .extremes) (o .answer)
+      → after n (record { figures = figures; extremes = extremes; pos = putAt size (c .pos) x (o .pos); neg = putAt size (c .neg) x (o .neg) }) ≡ into size x c o
+  written-by top h v o e p q r =
+      let xs = partAt size (c .pos) x in
+      let ys = partAt size (c .neg) x in
+      by-answer (o .answer) (o .pos) (o .neg) (subst (Kept size top h xs ys v) (sym e) (recording-kept size top h xs ys v)) p q r

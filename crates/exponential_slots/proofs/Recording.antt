@@ -11,9 +11,11 @@ use lib.ListN.{length, getD}
 use lib.Ieee.{Float, nan}
 use lib.Ieee.Scale.{finite}
 use borrow.Author.Tests.{ltb-true, ltb-false}
+use Rattle.laws.specs.Said.{Said, refusal, success}
 use Rattle.laws.proofs.Bools.{flag, not-both}
 use Rattle.laws.proofs.Cases.{and-true}
 use Rattle.parts.specs.Parts.{partAt}
+use Rattle.parts.specs.Recording.{Recording, after}
 use Rattle.parts.proofs.Laws.{part-length}
 use Rattle.points.specs.Points.{Point}
 use Rattle.points.specs.Values.{start}
@@ -26,11 +28,11 @@ use Rattle.exponential.proofs.Call as Call
 use Rattle.exponential.proofs.Lists.{fresh-holds}
 use Rattle.tally.specs.Map.{fits, sound}
 use Rattle.kinds.specs.Histograms.{countsHold, histograms}
-use Rattle.exponential_slots.specs.Slots.{Slots, Outcome, countsIn, narrow, readable, headIn, headOf, laid, refused, recordedAt}
+use Rattle.exponential_slots.specs.Cells.{Cells, countsIn, narrow, readable, headIn, headOf, written, recordedAt}
 use Rattle.exponential_slots.specs.Meaning.{settings, shaped, countsAt, seriesAt}
-use Rattle.exponential_slots.proofs.Cases.{reads-held, reads-fresh, head-held, head-fresh, unread, called}
+use Rattle.exponential_slots.proofs.Cases.{into, reads-held, reads-fresh, head-held, head-fresh, unread, called}
 use Rattle.exponential_slots.proofs.Agreeing.{Accepted, accepted-of, shaped-says, counts-in, in-shape, holds-is, can-read, series-agrees, shape-of, point-agrees}
-use Rattle.exponential_slots.proofs.Written.{Fit, Held, Took, finite-v, laid-refused, laid-keeps, laid-full, laid-took}
+use Rattle.exponential_slots.proofs.Written.{Fit, Held, Took, finite-v, into-refused, into-full, into-took}
 
 -- the count of a series is full exactly where one more does not fit
 count-is : (size top : ℕ) (h : Head) (xs ys : List ℕ) (y : Figures) → Held size top h xs ys y → histograms .total y ≡ h .counts .count
@@ -43,19 +45,24 @@ count-less : (c : ℕ) → fits (suc c) ≡ true → c < mostCount
 count-less c n = omega (arith, ltb-true (suc c) (2 ^ 64) n)
 
 -- A REFUSAL CHANGES NOTHING, whatever is given
-pub unchanged : (size top x : ℕ) (updated : Bool) (s : Slots) (v : Float) → (recordedAt size top x updated s v .number ≡ 0 → ⊥)
-    → recordedAt size top x updated s v .slots ≡ s
+kept : (size x : ℕ) (s : Cells) (a : Said Head) (xs ys : List ℕ) → (written size x s a xs ys .no ≡ 0 → ⊥) → written size x s a xs ys .cells ≡ s
+kept size x s (refusal n) xs ys d = refl
+kept size x s (success h) xs ys d = absurd (d refl)
+
+pub unchanged : (size top x : ℕ) (updated : Bool) (s : Cells) (v : Float) → (recordedAt size top x updated s v .no ≡ 0 → ⊥)
+    → recordedAt size top x updated s v .cells ≡ s
 unchanged size top x updated s v d =
     let f = getD (s .figures) x [] in
     ⊎-elim
     (λ (r : readable updated f ≡ true).
     let c = called size top x updated s v r in
-    ap (λ (o : Outcome). o .slots) c
-    ∙ laid-keeps size top x s v (headOf top updated f (getD (s .extremes) x [])) (λ n. d (ap (λ (o : Outcome). o .number) c ∙ n)))
-    (λ (r : readable updated f ≡ false). ap (λ (o : Outcome). o .slots) (unread size top x updated s v r))
+    let o = recording size top (headOf top updated f (getD (s .extremes) x [])) (partAt size (s .pos) x) (partAt size (s .neg) x) v in
+    ap (λ (o : Recording Cells). o .cells) c
+    ∙ kept size x s (o .answer) (o .pos) (o .neg) (λ n. d (ap (λ (o : Recording Cells). o .no) c ∙ n)))
+    (λ (r : readable updated f ≡ false). ap (λ (o : Recording Cells). o .cells) (unread size top x updated s v r))
     (flag (readable updated f))
 
-module _ (size top x : ℕ) (s : Slots) (v : Float) (e m : Bool) (g : Fit size top x s v) where
+module _ (size top x : ℕ) (s : Cells) (v : Float) (e m : Bool) (g : Fit size top x s v) where
   abbrev f : List ℕ
   f = getD (s .figures) x []
 
@@ -121,15 +128,15 @@ module _ (size top x : ℕ) (s : Slots) (v : Float) (e m : Bool) (g : Fit size t
 
   -- ---- which head is read
 
-  from-there : narrow f ≡ true → recordedAt size top x true s v ≡ laid size x s (recording size top (headIn f l) xs ys v)
+  from-there : narrow f ≡ true → recordedAt size top x true s v ≡ into size x s (recording size top (headIn f l) xs ys v)
   from-there n =
       called size top x true s v (reads-held true f refl ∙ n)
-      ∙ ap (λ (h : Head). laid size x s (recording size top h xs ys v)) (head-held top true f l refl)
+      ∙ ap (λ (h : Head). into size x s (recording size top h xs ys v)) (head-held top true f l refl)
 
-  from-fresh : recordedAt size top x false s v ≡ laid size x s (recording size top (freshHead top) xs ys v)
+  from-fresh : recordedAt size top x false s v ≡ into size x s (recording size top (freshHead top) xs ys v)
   from-fresh =
       called size top x false s v (reads-fresh false f refl)
-      ∙ ap (λ (h : Head). laid size x s (recording size top h xs ys v)) (head-fresh top false f l refl)
+      ∙ ap (λ (h : Head). into size x s (recording size top h xs ys v)) (head-fresh top false f l refl)
 
   -- ---- a series that disagrees
 
@@ -140,9 +147,9 @@ module _ (size top x : ℕ) (s : Slots) (v : Float) (e m : Bool) (g : Fit size t
         let c = holds-is size f xs ys top ok h ∙ point-agrees size f xs ys top ok long-pos long-neg t in
         not-both (histograms .agrees z (seriesAt size s x)) (rw (c, p, q)) a
 
-    refusal : refusalOf size top (headIn f l) xs ys v ≡ 8
+    eight : refusalOf size top (headIn f l) xs ys v ≡ 8
     unfolding headIn
-    refusal =
+    eight =
         let lp : size ≤ length xs = omega (arith, long-pos) in
         let ln : size ≤ length ys = omega (arith, long-neg) in
         let w = finite-v size top x s v g (headIn f l) in
@@ -164,33 +171,33 @@ module _ (size top x : ℕ) (s : Slots) (v : Float) (e m : Bool) (g : Fit size t
   abbrev pub there : Bool → Option Figures
   there updated = cond updated (some (seriesAt size s x)) none
 
-  pub disagreeing : (updated : Bool) → sound histograms z (there updated) ≡ false → recordedAt size top x updated s v ≡ refused 8 s
+  pub disagreeing : (updated : Bool) → sound histograms z (there updated) ≡ false → recordedAt size top x updated s v ≡ after 8 s
   disagreeing false a = absurd (not-both true refl a)
   disagreeing true a =
       ⊎-elim
-      (λ (n : narrow f ≡ true). from-there n ∙ laid-refused size top x s v (headIn f l) 8 (refusal n a) (λ z. omega arith))
+      (λ (n : narrow f ≡ true). from-there n ∙ into-refused size top x s v (headIn f l) 8 (eight n a) (λ z. omega arith))
       (λ (n : narrow f ≡ false). unread size top x true s v (reads-held true f refl ∙ n))
       (flag (narrow f))
 
   pub full : (updated : Bool) → sound histograms z (there updated) ≡ true → fits (suc (histograms .total (Option·getD (there updated) (histograms .fresh z)))) ≡ false
-      → recordedAt size top x updated s v ≡ refused 9 s
+      → recordedAt size top x updated s v ≡ after 9 s
   full false a n =
       from-fresh
-      ∙ laid-full size top x s v g (freshHead top) (histograms .fresh z) held-fresh
+      ∙ into-full size top x s v g (freshHead top) (histograms .fresh z) held-fresh
       (count-full 0 (omega arith) (ap (λ c. fits (suc c)) (sym (count-is size top (freshHead top) xs ys (histograms .fresh z) held-fresh)) ∙ n))
   full true a n =
       let k = held-there a in
       from-there (narrow-is a)
-      ∙ laid-full size top x s v g (headIn f l) (seriesAt size s x) k
+      ∙ into-full size top x s v g (headIn f l) (seriesAt size s x) k
       (count-full (headIn f l .counts .count) (k .count) (ap (λ c. fits (suc c)) (sym (count-is size top (headIn f l) xs ys (seriesAt size s x) k)) ∙ n))
 
   pub took : (updated : Bool) → sound histograms z (there updated) ≡ true → fits (suc (histograms .total (Option·getD (there updated) (histograms .fresh z)))) ≡ true
       → Took size x s (recordedAt size top x updated s v) (histograms .add z (Option·getD (there updated) (histograms .fresh z)) v)
   took false a n =
       rw from-fresh
-      (laid-took size top x s v g (freshHead top) (histograms .fresh z) held-fresh e m (omega arith))
+      (into-took size top x s v g (freshHead top) (histograms .fresh z) held-fresh e m (omega arith))
   took true a n =
       let k = held-there a in
       rw (from-there (narrow-is a))
-      (laid-took size top x s v g (headIn f l) (seriesAt size s x) k e m
+      (into-took size top x s v g (headIn f l) (seriesAt size s x) k e m
       (count-less (headIn f l .counts .count) (ap (λ c. fits (suc c)) (sym (count-is size top (headIn f l) xs ys (seriesAt size s x) k)) ∙ n)))

@@ -1,21 +1,17 @@
 -- A value recorded into a head and a slot's parts: the slot holds the kind's next figures, every other slot what it held. Assumes nothing.
 use Prim.Native.Nat.{ℕ, _+_, _*_, _≤_, _<_}
 use mathlib.Core.Path.{_≡_, refl, sym, ap, _∙_}
-use mathlib.Core.Bool.{Bool, true, false}
+use mathlib.Core.Bool.{Bool, true}
 use mathlib.Core.List.{List, [], _∷_}
-use mathlib.Core.Logic.{⊎-elim}
 use native.Mathlib.Omega.{arith}
-use lib.Dec.{eqb}
 use lib.ListN.{length, set, length-set}
 use lib.Seq.{getD-set-same, getD-set-other}
 use lib.Ieee.{Float, binary64, fits}
 use lib.Ieee.Scale.{finite}
-use borrow.Author.Tests.{eqb-true, eqb-false}
-use Rattle.laws.specs.Said.{refusal}
-use Rattle.laws.proofs.Bools.{flag}
 use Rattle.laws.proofs.Cases.{and-true}
 use Rattle.parts.specs.Parts.{partAt, putAt}
-use Rattle.parts.proofs.Laws.{part-length, put-length, put-own, put-other, put-same}
+use Rattle.parts.specs.Recording.{Recording, after}
+use Rattle.parts.proofs.Laws.{part-length, put-length, put-own, put-other}
 use Rattle.floats.specs.Starts.{zeroFloat}
 use Rattle.rows.specs.Rows.{over}
 use Rattle.rows.proofs.Laws.{length-over}
@@ -24,7 +20,7 @@ use Rattle.points.specs.Values.{classOf, Summary}
 use Rattle.points.specs.Figures.{exponential, Counts, exponentialCounts, Figures, recordFigures}
 use Rattle.points.proofs.Agreement.{Agreed}
 use Rattle.exponential.specs.declared.Head.{Head}
-use Rattle.exponential.specs.Series.{mostCount, lowestOfAll, read, countsFor, headOf, refusalOf, outcome, recording}
+use Rattle.exponential.specs.Series.{mostCount, lowestOfAll, read, countsFor, headOf, refusalOf, recording}
 use Rattle.exponential.specs.Series as S
 use Rattle.exponential.specs.Runs.{summary}
 use Rattle.exponential.proofs.Call.{full, none, refused-law}
@@ -32,12 +28,13 @@ use Rattle.exponential.proofs.Classes.{ranged-of}
 use Rattle.exponential.proofs.Stays.{next-ok, reads}
 use Rattle.exponential.proofs.Lists.{accepted-is, total-one}
 use Rattle.kinds.specs.Histograms.{passes, histograms}
-use Rattle.exponential_slots.specs.Slots.{Slots, Outcome, wordsOf, laid, refused}
+use Rattle.exponential_slots.specs.Cells.{Cells, wordsOf}
 use Rattle.exponential_slots.specs.Meaning.{settings, countsAt, summaryIn, seriesAt}
+use Rattle.exponential_slots.proofs.Cases.{into}
 use Rattle.exponential_slots.proofs.Agreeing.{shaped-of, counts-in}
 
 -- what a caller of `record` has tested: the settings, the stores and the value
-pub record Fit (size top x : ℕ) (s : Slots) (v : Float) : Type 0 where
+pub record Fit (size top x : ℕ) (s : Cells) (v : Float) : Type 0 where
   pub valid : passes (exponential size top) ≡ true
   pub figures : x < length (s .figures)
   pub extremes : x < length (s .extremes)
@@ -54,22 +51,22 @@ pub record Held (size top : ℕ) (h : Head) (xs ys : List ℕ) (y : Figures) : T
   pub is : y ≡ record { counts = exponentialCounts (read (h .counts) xs ys); summary = summary h }
 
 -- the outcome o of a call that came to slot x took the value: the slot has the figures y, every other slot what it had
-pub record Took (size x : ℕ) (s : Slots) (o : Outcome) (y : Figures) : Type 0 where
-  pub number : o .number ≡ 0
-  pub own : seriesAt size (o .slots) x ≡ y
-  pub others : (j : ℕ) → (j ≡ x → ⊥) → seriesAt size (o .slots) j ≡ seriesAt size s j
-  pub figures : length (o .slots .figures) ≡ length (s .figures)
-  pub extremes : length (o .slots .extremes) ≡ length (s .extremes)
-  pub pos : length (o .slots .pos) ≡ length (s .pos)
-  pub neg : length (o .slots .neg) ≡ length (s .neg)
+pub record Took (size x : ℕ) (s : Cells) (o : Recording Cells) (y : Figures) : Type 0 where
+  pub no : o .no ≡ 0
+  pub own : seriesAt size (o .cells) x ≡ y
+  pub others : (j : ℕ) → (j ≡ x → ⊥) → seriesAt size (o .cells) j ≡ seriesAt size s j
+  pub figures : length (o .cells .figures) ≡ length (s .figures)
+  pub extremes : length (o .cells .extremes) ≡ length (s .extremes)
+  pub pos : length (o .cells .pos) ≡ length (s .pos)
+  pub neg : length (o .cells .neg) ≡ length (s .neg)
 
 -- ---- a new head and new rows written into the slot
 
-module _ (size x : ℕ) (s : Slots) (p : Point) (m : Summary) (xs ys : List ℕ)
+module _ (size x : ℕ) (s : Cells) (p : Point) (m : Summary) (xs ys : List ℕ)
     (lf : x < length (s .figures)) (le : x < length (s .extremes)) (lp : x * size + size ≤ length (s .pos)) (ln : x * size + size ≤ length (s .neg))
     (ex : length xs ≡ size) (ey : length ys ≡ size) where
-  abbrev after : Slots
-  after =
+  abbrev left : Cells
+  left =
       record {
         figures = set (s .figures) x (wordsOf (countsFor p));
         extremes = set (s .extremes) x (m .min ∷ m .max ∷ m .sum ∷ []);
@@ -77,14 +74,14 @@ module _ (size x : ℕ) (s : Slots) (p : Point) (m : Summary) (xs ys : List ℕ)
         neg = putAt size (s .neg) x ys;
       }
 
-  written-own : seriesAt size after x ≡ record { counts = countsAt size (wordsOf (countsFor p)) xs ys; summary = m }
+  written-own : seriesAt size left x ≡ record { counts = countsAt size (wordsOf (countsFor p)) xs ys; summary = m }
   written-own =
       λ j. record {
         counts = countsAt size (getD-set-same (s .figures) x (wordsOf (countsFor p)) [] lf j) (put-own size (s .pos) x lp xs ex j) (put-own size (s .neg) x ln ys ey j);
         summary = summaryIn (getD-set-same (s .extremes) x (m .min ∷ m .max ∷ m .sum ∷ []) [] le j);
       }
 
-  written-other : (i : ℕ) → (i ≡ x → ⊥) → seriesAt size after i ≡ seriesAt size s i
+  written-other : (i : ℕ) → (i ≡ x → ⊥) → seriesAt size left i ≡ seriesAt size s i
   written-other i d =
       λ j. record {
         counts = countsAt size (getD-set-other (s .figures) x i (wordsOf (countsFor p)) [] d j) (put-other size (s .pos) x lp xs ex i d j) (put-other size (s .neg) x ln ys ey i d j);
@@ -100,38 +97,16 @@ counts-of size top p xs ys k n e =
     (shaped-of size (wordsOf (countsFor p)) (record { count = n; level = omega arith; pos = k .pos .short; neg = k .neg .short }))
     ∙ ap exponentialCounts e
 
--- ---- the series' call laid into the slot
-
-laid-as-it-was : (size x : ℕ) (s : Slots) (n : ℕ) → laid size x s (outcome (refusal n) (partAt size (s .pos) x) (partAt size (s .neg) x)) ≡ refused n s
-unfolding laid
-laid-as-it-was size x s n =
-    λ j. record { number = n; slots = record { figures = s .figures; extremes = s .extremes; pos = put-same size (s .pos) x j; neg = put-same size (s .neg) x j } }
+-- ---- the series' call written into the slot
 
 -- a refusal changes nothing
-pub laid-refused : (size top x : ℕ) (s : Slots) (v : Float) (h : Head) (n : ℕ)
+pub into-refused : (size top x : ℕ) (s : Cells) (v : Float) (h : Head) (n : ℕ)
     → refusalOf size top h (partAt size (s .pos) x) (partAt size (s .neg) x) v ≡ n → (n ≡ 0 → ⊥)
-    → laid size x s (recording size top h (partAt size (s .pos) x) (partAt size (s .neg) x) v) ≡ refused n s
-laid-refused size top x s v h n e z =
-    ap (laid size x s) (sym (refused-law size top h (partAt size (s .pos) x) (partAt size (s .neg) x) v n (sym e) z)) ∙ laid-as-it-was size x s n
+    → into size x s (recording size top h (partAt size (s .pos) x) (partAt size (s .neg) x) v) ≡ after n s
+into-refused size top x s v h n e z =
+    ap (into size x s) (sym (refused-law size top h (partAt size (s .pos) x) (partAt size (s .neg) x) v n (sym e) z))
 
-laid-accepted : (size top x : ℕ) (s : Slots) (v : Float) (h : Head) → refusalOf size top h (partAt size (s .pos) x) (partAt size (s .neg) x) v ≡ 0
-    → laid size x s (recording size top h (partAt size (s .pos) x) (partAt size (s .neg) x) v) .number ≡ 0
-unfolding laid
-laid-accepted size top x s v h e =
-    ap (λ (o : S.Outcome). laid size x s o .number) (accepted-is size top h (partAt size (s .pos) x) (partAt size (s .neg) x) v e)
-
--- whatever the head, the settings and the value
-pub laid-keeps : (size top x : ℕ) (s : Slots) (v : Float) (h : Head)
-    → (laid size x s (recording size top h (partAt size (s .pos) x) (partAt size (s .neg) x) v) .number ≡ 0 → ⊥)
-    → laid size x s (recording size top h (partAt size (s .pos) x) (partAt size (s .neg) x) v) .slots ≡ s
-laid-keeps size top x s v h d =
-    let n = refusalOf size top h (partAt size (s .pos) x) (partAt size (s .neg) x) v in
-    ⊎-elim
-    (λ (e : eqb n 0 ≡ true). absurd (d (laid-accepted size top x s v h (eqb-true n 0 e))))
-    (λ (e : eqb n 0 ≡ false). ap (λ (o : Outcome). o .slots) (laid-refused size top x s v h n refl (eqb-false n 0 e)))
-    (flag (eqb n 0))
-
-module _ (size top x : ℕ) (s : Slots) (v : Float) (g : Fit size top x s v) (h : Head) where
+module _ (size top x : ℕ) (s : Cells) (v : Float) (g : Fit size top x s v) (h : Head) where
   abbrev xs : List ℕ
   xs = partAt size (s .pos) x
 
@@ -148,19 +123,18 @@ module _ (size top x : ℕ) (s : Slots) (v : Float) (g : Fit size top x s v) (h 
   finite-v = and-true (finite v) (fits binary64 v) (g .value) .0
 
   module _ (y : Figures) (k : Held size top h xs ys y) where
-    pub laid-full : h .counts .count ≡ mostCount → laid size x s (recording size top h xs ys v) ≡ refused 9 s
-    laid-full e =
-        laid-refused size top x s v h 9
+    pub into-full : h .counts .count ≡ mostCount → into size x s (recording size top h xs ys v) ≡ after 9 s
+    into-full e =
+        into-refused size top x s v h 9
         (full size top h xs ys v (omega (arith, long-pos)) (omega (arith, long-neg)) finite-v (k .agree) (k .min) (k .max) e)
         (λ z. omega arith)
 
     abbrev next : Point
     next = record1 size (read (h .counts) xs ys) (classOf zeroFloat v)
 
-    pub laid-took : (e m : Bool) → h .counts .count < mostCount
-        → Took size x s (laid size x s (recording size top h xs ys v)) (recordFigures (settings size top e m) y v)
-    unfolding laid
-    laid-took e m n =
+    pub into-took : (e m : Bool) → h .counts .count < mostCount
+        → Took size x s (into size x s (recording size top h xs ys v)) (recordFigures (settings size top e m) y v)
+    into-took e m n =
         let w = ranged-of v (and-true (finite v) (fits binary64 v) (g .value) .1) finite-v in
         let ok = next-ok size top (h .counts) xs ys (classOf zeroFloat v) (k .agree) w in
         let z = none size top h xs ys v (omega (arith, long-pos)) (omega (arith, long-neg)) finite-v (k .agree) (k .min) (k .max) (λ q. omega arith) in
@@ -172,7 +146,7 @@ module _ (size top x : ℕ) (s : Slots) (v : Float) (g : Fit size top x s v) (h 
         let o = headOf next h v in
         rw (accepted-is size top h xs ys v z)
         (record {
-          number = refl;
+          no = refl;
           own = written-own size x s next (summary o) ps qs (g .figures) (g .extremes) (g .pos) (g .neg) lp lq
               ∙ ap (λ (c : Counts). record { counts = c; summary = summary o }) (counts-of size top next xs ys ok (omega (arith, t)) (reads size top (h .counts) xs ys (classOf zeroFloat v) (k .agree) w))
               ∙ ap (λ (y : Figures). recordFigures (settings size top e m) y v) (sym (k .is));

@@ -1,3 +1,3 @@
 -- The definitions that the contract of `exponential_slots` cites.
-pub mod Slots
+pub mod Cells
 pub mod Meaning

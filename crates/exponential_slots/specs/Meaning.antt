@@ -13,7 +13,7 @@ use Rattle.points.specs.Points.{Row}
 use Rattle.points.specs.Values.{Summary}
 use Rattle.points.specs.Figures.{exponential, Settings, Counts, exponentialCounts, Figures}
 use Rattle.exponential.specs.Series.{mostCount, read}
-use Rattle.exponential_slots.specs.Slots.{Slots, countsIn}
+use Rattle.exponential_slots.specs.Cells.{Cells, countsIn}
 
 -- The settings of the kind. The zero threshold is 0.0 (DESIGN.md: as in the Rust).
 abbrev pub settings : ℕ → ℕ → Bool → Bool → Settings
@@ -37,9 +37,9 @@ abbrev pub summaryIn : List Float → Summary
 summaryIn m = record { min = getD m 0 nan; max = getD m 1 nan; sum = getD m 2 nan }
 
 -- the figures of slot x
-abbrev pub seriesAt : ℕ → Slots → ℕ → Figures
-seriesAt size s x =
+abbrev pub seriesAt : ℕ → Cells → ℕ → Figures
+seriesAt size c x =
     record {
-      counts = countsAt size (getD (s .figures) x []) (partAt size (s .pos) x) (partAt size (s .neg) x);
-      summary = summaryIn (getD (s .extremes) x []);
+      counts = countsAt size (getD (c .figures) x []) (partAt size (c .pos) x) (partAt size (c .neg) x);
+      summary = summaryIn (getD (c .extremes) x []);
     }

@@ -1,16 +1,18 @@
-// One slot of the map's stores for the exponential kind: a value recorded into the series that lies there.
+// The exponential kind's part of the map: recording a value into the series of one slot of the lent stores.
 ghost use mathlib.Core.Path.{_≡_};
 ghost use mathlib.Core.Bool.{true};
 ghost use Prim.Native.Nat.{_+_, _*_, _<_, _≤_};
 ghost use lib.ListN.{length};
 ghost use lib.Ieee.Scale.{finite};
 ghost use Rattle.laws.specs.Said.{number};
+ghost use Rattle.parts.specs.Recording.{after};
 ghost use Rattle.exponential.specs.Series.{said};
-ghost use Rattle.exponential_slots.specs.Slots.{narrow, readable, headIn, headOf, wordsOf, figuresAfter, extremesAfter, slots, outcome, recordedAt};
-use rows::Row;
+ghost use Rattle.exponential_slots.specs.Cells.{cells, narrow, readable, headIn, headOf, wordsOf};
+ghost use Rattle.exponential_slots.specs.Cells.{figuresAfter, extremesAfter, recordedAt};
 use exponential::Answer;
 use exponential::Counts;
 use exponential::Head;
+use rows::Row;
 
 // The greatest u32.
 const MOST: u64 = 4294967295;
@@ -125,8 +127,8 @@ pub fn record(
 ) -> u8
     requires { ⌜ (x < length (now figures)) × (x < length (now extremes))
         × (x * size + size ≤ length (now pos)) × (x * size + size ≤ length (now neg)) × (finite v ≡ true) ⌝ }
-    ensures { λ r. ⌜ outcome r (slots (figures .exit) (extremes .exit) (pos .exit) (neg .exit))
-        ≡ recordedAt size top x updated (slots (figures .entry) (extremes .entry) (pos .entry) (neg .entry)) v ⌝ }
+    ensures { λ r. ⌜ after r (cells (figures .exit) (extremes .exit) (pos .exit) (neg .exit))
+        ≡ recordedAt size top x updated (cells (figures .entry) (extremes .entry) (pos .entry) (neg .entry)) v ⌝ }
 {
     let f = figures[x];
     if !can_read(updated, f) {

@@ -6,11 +6,11 @@ use lib.ListN.{set}
 use Rattle.bindings.specs.Calls.{number}
 use Rattle.bindings.specs.declared.Reply.{Reply}
 use Rattle.directory.specs.View.{Stores}
-use Rattle.exponential_slots.specs.Slots.{Slots}
+use Rattle.exponential_slots.specs.Cells.{Cells}
 use Rattle.value_map.specs.Calls.{Outcome, gave}
 use Rattle.map_exports.specs.Words.{Handed, wordsOf, handedOut}
 
-pub handed : (state : List (List ℕ)) (s : Stores) (x : Slots) (r : Reply) (o : Outcome Slots) (n : ℕ) (w : List ℕ)
+pub handed : (state : List (List ℕ)) (s : Stores) (x : Cells) (r : Reply) (o : Outcome Cells) (n : ℕ) (w : List ℕ)
     → gave r s x ≡ o → n ≡ number (r .answer) → w ≡ wordsOf (r .dir)
     → record { number = n; state = set state 0 w; stores = s; cells = x } ≡ handedOut state o
 handed state s x r o n w e p q =

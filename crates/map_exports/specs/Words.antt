@@ -6,7 +6,7 @@ use denote.Ref.{RefT, now}
 use Rattle.bindings.specs.Calls.{number}
 use Rattle.directory.specs.declared.Directory.{Directory}
 use Rattle.directory.specs.View.{Stores}
-use Rattle.exponential_slots.specs.Slots.{Slots}
+use Rattle.exponential_slots.specs.Cells.{Cells}
 use Rattle.value_map.specs.Calls.{Outcome}
 
 -- the directory's state as three words: slots used, the map's count, the last birth number spent
@@ -21,13 +21,13 @@ pub record Handed : Type 0 where
   pub number : ℕ
   pub state : List (List ℕ)
   pub stores : Stores
-  pub cells : Slots
+  pub cells : Cells
 
 -- as a contract writes it
-abbrev pub handed : ℕ → RefT (List (List ℕ)) → Stores → Slots → Handed
+abbrev pub handed : ℕ → RefT (List (List ℕ)) → Stores → Cells → Handed
 handed n state s x = record { number = n; state = now state; stores = s; cells = x }
 
-abbrev pub handedOut : List (List ℕ) → Outcome Slots → Handed
+abbrev pub handedOut : List (List ℕ) → Outcome Cells → Handed
 handedOut state o =
     record {
       number = number (o .answer);

@@ -6,7 +6,7 @@ ghost use lib.ListN.{getD};
 ghost use Rattle.sets.specs.Sorted.{given};
 ghost use Rattle.bindings.specs.Calls.{number};
 ghost use Rattle.directory.specs.View.{stores};
-ghost use Rattle.exponential_slots.specs.Slots.{slots};
+ghost use Rattle.exponential_slots.specs.Cells.{cells};
 ghost use Rattle.value_map.specs.Calls.{held, measured};
 ghost use Rattle.value_map.specs.Exponential.{exponentialStore};
 ghost use Rattle.map_exports.specs.Words.{stateOf, wordsOf, handed, handedOut};
@@ -57,10 +57,10 @@ pub extern "C" fn map_measure(
     v: f64,
     attrs: &[[u32; 2]],
 ) -> u64
-    ensures { λ r. ⌜ handed r (state .exit) (stores (sets .exit) (entries .exit) (order .exit)) (slots (figures .exit) (extremes .exit) (pos .exit) (neg .exit))
+    ensures { λ r. ⌜ handed r (state .exit) (stores (sets .exit) (entries .exit) (order .exit)) (cells (figures .exit) (extremes .exit) (pos .exit) (neg .exit))
         ≡ handedOut (now (state .entry)) (measured (exponentialStore size top) limit none
         (held (stateOf (getD (now (state .entry)) 0 [])) (stores (sets .entry) (entries .entry) (order .entry))
-        (slots (figures .entry) (extremes .entry) (pos .entry) (neg .entry))) v (given (now (attrs .entry)))) ⌝ }
+        (cells (figures .entry) (extremes .entry) (pos .entry) (neg .entry))) v (given (now (attrs .entry)))) ⌝ }
 {
     let d = state_of(state[0]);
     let no_keys = [0u32; 1];

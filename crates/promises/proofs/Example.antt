@@ -22,8 +22,8 @@ use Rattle.directory.specs.View.{Stores, slotsb, agreesb, sought}
 use Rattle.directory.specs.Calls.{located, admitted, boundTo}
 use Rattle.bindings.specs.Calls as Bindings
 use Rattle.bindings.specs.Calls.{number, boundIn, bound, releasedIn, released}
-use Rattle.exponential_slots.specs.Slots.{Slots}
-use Rattle.explicit_slots.specs.Slots as X
+use Rattle.exponential_slots.specs.Cells as E
+use Rattle.explicit_slots.specs.Cells as X
 use Rattle.value_map.specs.Calls.{unlessRefused, started}
 use Rattle.value_map.specs.Maps.{configOf, mapOf}
 use Rattle.value_map.specs.Exponential.{unset, lengthsSuffice, exponentialStore}
@@ -35,22 +35,22 @@ use Rattle.promises.proofs.Promises.{exponential-runs}
 abbrev stores : Stores
 stores = record { sets = replicate 3 (replicate 9 0); entries = replicate 3 (replicate 3 0); order = replicate 3 0 }
 
-abbrev slots : Slots
-slots = record { figures = replicate 3 (replicate 8 0); extremes = replicate 3 (replicate 3 zeroFloat); pos = replicate 9 0; neg = replicate 9 0 }
+abbrev exponentialCells : E.Cells
+exponentialCells = record { figures = replicate 3 (replicate 8 0); extremes = replicate 3 (replicate 3 zeroFloat); pos = replicate 9 0; neg = replicate 9 0 }
 
 -- max_size 3, max_scale 10
-exponential : number (started (exponentialStore 3 20) 1 none stores slots .answer) ≡ 0
+exponential : number (started (exponentialStore 3 20) 1 none stores exponentialCells .answer) ≡ 0
 unfolding started unlessRefused Bindings.started unset lengthsSuffice pick
 exponential = refl
 
-runs : Tells histograms (configOf (exponentialStore 3 20) (true, true) 1 none) (run (exponentialStore 3 20) 1 none stores slots) (mapOf (exponentialStore 3 20) (true, true))
-runs = exponential-runs 3 20 (true, true) 1 none stores slots exponential
+runs : Tells histograms (configOf (exponentialStore 3 20) (true, true) 1 none) (run (exponentialStore 3 20) 1 none stores exponentialCells) (mapOf (exponentialStore 3 20) (true, true))
+runs = exponential-runs 3 20 (true, true) 1 none stores exponentialCells exponential
 
 -- one bound, 0.0
-abbrev cells : X.Stores
-cells = record { totals = replicate 3 0; extremes = replicate 3 (replicate 3 zeroFloat); counts = replicate 6 0 }
+abbrev explicitCells : X.Cells
+explicitCells = record { totals = replicate 3 0; extremes = replicate 3 (replicate 3 zeroFloat); counts = replicate 6 0 }
 
-explicit : number (started (explicitStore (zeroFloat ∷ [])) 1 none stores cells .answer) ≡ 0
+explicit : number (started (explicitStore (zeroFloat ∷ [])) 1 none stores explicitCells .answer) ≡ 0
 unfolding started unlessRefused Bindings.started boundsPass noNan rising _and_ isNan lt ofBits pick
 explicit = refl
 
@@ -61,6 +61,6 @@ A = (1, 5) ∷ []
 small : Small A
 small = ((omega arith, omega arith), tt)
 
-answers : ran histograms (run (exponentialStore 3 20) 1 none stores slots) (binding A small ∷ releasing 1 ∷ releasing 1 ∷ []) ≡ handle 1 ∷ done ∷ refuse 7 ∷ []
+answers : ran histograms (run (exponentialStore 3 20) 1 none stores exponentialCells) (binding A small ∷ releasing 1 ∷ releasing 1 ∷ []) ≡ handle 1 ∷ done ∷ refuse 7 ∷ []
 unfolding started unlessRefused Bindings.started unset lengthsSuffice pick bound boundIn located agreesb slotsb allb sought admitted boundTo released releasedIn setOf rowOf soundb inserted
 answers = refl

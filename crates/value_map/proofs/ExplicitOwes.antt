@@ -14,8 +14,7 @@ use Rattle.laws.proofs.Bools.{pick-left}
 use Rattle.laws.proofs.Cases.{and-true, true-not-false}
 use Rattle.parts.proofs.Laws.{within}
 use Rattle.points.specs.Explicit.{boundsPass, bucketCount}
-use Rattle.explicit_slots.specs.Slots as Slots
-use Rattle.explicit_slots.specs.Slots.{Stores, Room}
+use Rattle.explicit_slots.specs.Cells.{Cells, Room}
 use Rattle.explicit_slots.proofs.Series as Laws
 use Rattle.value_map.specs.Store.{Recording}
 use Rattle.value_map.specs.Calls.{passes}
@@ -35,7 +34,7 @@ bounds-pass : (bounds : List Float) → explicitStore bounds .unset ≡ 0 → bo
 bounds-pass bounds e = pick-left (boundsPass bounds) 0 3 (omega arith) e
 
 -- each of limit + 2 slots lies in stores that suffice
-room : (bounds : List Float) (limit : ℕ) (c : Stores) (x : ℕ) → cellsSuffice bounds limit c ≡ true → x ≤ limit + 1 → Room bounds c x
+room : (bounds : List Float) (limit : ℕ) (c : Cells) (x : ℕ) → cellsSuffice bounds limit c ≡ true → x ≤ limit + 1 → Room bounds c x
 room bounds limit c x e h =
     let n = bucketCount bounds in
     let a = and-true (leb (limit + 2) (length (c .totals))) _ e in
@@ -49,18 +48,14 @@ room bounds limit c x e h =
 finite-is : (v : Float) → (finite v && fits binary64 v) ≡ true → finite v ≡ true
 finite-is v e = and-true (finite v) (fits binary64 v) e .0
 
--- a recording of `explicit_slots` as the store has it
-abbrev pub left : Slots.Recording → Recording Stores
-left o = record { no = o .no; cells = o .stores }
-
 pub owed : (bounds : List Float) → Owed (explicitStore bounds)
 owed bounds =
     record {
       valid = λ e w. bounds-pass bounds e;
       room = room bounds;
       unchanged = λ c x u v d. Laws.refused-same bounds x u c v d;
-      disagreeing = λ w c x u v f s. ap left (Laws.disagreeing bounds (w .0) (w .1) (w .2) c x (f .room) v (finite-is v (f .value)) u s);
-      full = λ w c x u v f s n. ap left (Laws.full bounds (w .0) (w .1) (w .2) c x (f .room) v (finite-is v (f .value)) u s n);
+      disagreeing = λ w c x u v f s. Laws.disagreeing bounds (w .0) (w .1) (w .2) c x (f .room) v (finite-is v (f .value)) u s;
+      full = λ w c x u v f s n. Laws.full bounds (w .0) (w .1) (w .2) c x (f .room) v (finite-is v (f .value)) u s n;
       barred = λ w c x u v f s n b. true-not-false b;
       took = λ w c x u v f s n b.
           let t = Laws.took bounds (w .0) (w .1) (w .2) c x (f .room) v (finite-is v (f .value)) (bounds-pass bounds (f .set)) u s n in
@@ -74,6 +69,6 @@ owed bounds =
     }
 
 -- and 8 is what its slots say under bounds that configuring does not accept
-pub bad-8 : (bounds : List Float) (c : Stores) (x : ℕ) (u : Bool) (v : Float) → Room bounds c x → finite v ≡ true → boundsPass bounds ≡ false
+pub bad-8 : (bounds : List Float) (c : Cells) (x : ℕ) (u : Bool) (v : Float) → Room bounds c x → finite v ≡ true → boundsPass bounds ≡ false
     → explicitStore bounds .recorded x u c v .no ≡ 8
-bad-8 bounds c x u v r f b = ap (λ (o : Slots.Recording). o .no) (Laws.bad-bounds bounds x u c v r f b)
+bad-8 bounds c x u v r f b = ap (λ (o : Recording Cells). o .no) (Laws.bad-bounds bounds x u c v r f b)

@@ -1,6 +1,6 @@
 -- The exponential kind pays what it owes, by the laws of `exponential_slots`. Assumes nothing.
 use Prim.Native.Nat.{ℕ, _+_, _*_, _≤_, _<_}
-use mathlib.Core.Path.{_≡_, ap, _∙_}
+use mathlib.Core.Path.{_≡_, _∙_}
 use mathlib.Core.Bool.{true, false, _&&_}
 use native.Mathlib.Omega.{arith}
 use lib.Dec.{leb}
@@ -14,11 +14,9 @@ use Rattle.parts.proofs.Laws.{within}
 use Rattle.index.specs.Bins.{finest}
 use Rattle.points.specs.Figures.{exponential, sizePasses}
 use Rattle.kinds.specs.Histograms as Kinds
-use Rattle.exponential_slots.specs.Slots as Slots
-use Rattle.exponential_slots.specs.Slots.{Slots, Room}
+use Rattle.exponential_slots.specs.Cells.{Cells, Room}
 use Rattle.exponential_slots.proofs.Written as Written
 use Rattle.exponential_slots.proofs.Recording as Laws
-use Rattle.value_map.specs.Store.{Recording}
 use Rattle.value_map.specs.Calls.{passes}
 use Rattle.value_map.specs.Exponential.{lengthsSuffice, cellsSuffice, unset, exponentialStore}
 use Rattle.value_map.proofs.Owed.{Fit, Owed}
@@ -75,7 +73,7 @@ module _ (size limit figures extremes pos neg : ℕ) where
       by-neg e = rw (a, b, e)
 
 -- each of limit + 2 slots lies in stores that suffice
-room : (size limit : ℕ) (c : Slots) (x : ℕ) → cellsSuffice size limit c ≡ true → x ≤ limit + 1 → Room size c x
+room : (size limit : ℕ) (c : Cells) (x : ℕ) → cellsSuffice size limit c ≡ true → x ≤ limit + 1 → Room size c x
 unfolding lengthsSuffice
 room size limit c x e h =
     let t₁ = leb (limit + 2) (length (c .figures)) in
@@ -95,14 +93,10 @@ room size limit c x e h =
 
 -- ---- what is owed
 
-fit : (size top : ℕ) (c : Slots) (x : ℕ) (v : Float) → Fit (exponentialStore size top) c x v → Written.Fit size top x c v
+fit : (size top : ℕ) (c : Cells) (x : ℕ) (v : Float) → Fit (exponentialStore size top) c x v → Written.Fit size top x c v
 fit size top c x v f =
     let r = f .room in
     record { valid = unset-valid size top (f .set); figures = r .figures; extremes = r .extremes; pos = r .pos; neg = r .neg; value = f .value }
-
--- an outcome of `exponential_slots` as the store has it
-abbrev pub left : Slots.Outcome → Recording Slots
-left o = record { no = o .number; cells = o .slots }
 
 pub owed : (size top : ℕ) → Owed (exponentialStore size top)
 owed size top =
@@ -110,13 +104,13 @@ owed size top =
       valid = λ e w. unset-valid size top e;
       room = room size;
       unchanged = λ c x u v d. Laws.unchanged size top x u c v d;
-      disagreeing = λ w c x u v f s. ap left (Laws.disagreeing size top x c v (w .0) (w .1) (fit size top c x v f) u s);
-      full = λ w c x u v f s n. ap left (Laws.full size top x c v (w .0) (w .1) (fit size top c x v f) u s n);
+      disagreeing = λ w c x u v f s. Laws.disagreeing size top x c v (w .0) (w .1) (fit size top c x v f) u s;
+      full = λ w c x u v f s n. Laws.full size top x c v (w .0) (w .1) (fit size top c x v f) u s n;
       barred = λ w c x u v f s n b. true-not-false b;
       took = λ w c x u v f s n b.
           let t = Laws.took size top x c v (w .0) (w .1) (fit size top c x v f) u s n in
           record {
-            no = t .number;
+            no = t .no;
             own = t .own;
             others = t .others;
             lent = λ limit l. (λ j. lengthsSuffice size limit (t .figures j) (t .extremes j) (t .pos j) (t .neg j)) ∙ l;

@@ -10,7 +10,7 @@ use Rattle.points.specs.Explicit.{boundsPass, bucketCount}
 use Rattle.points.specs.Figures.{explicit}
 use Rattle.kinds.specs.Histograms.{histograms}
 use Rattle.seats.specs.declared.Seating.{Seating}
-use Rattle.explicit_slots.specs.Slots.{Stores, Room, seriesAt, recordedAt}
+use Rattle.explicit_slots.specs.Cells.{Cells, Room, seriesAt, recordedAt}
 use Rattle.value_map.specs.Store.{Store}
 use Rattle.value_map.specs.Calls.{Held, Outcome, unlessRefused, entered}
 
@@ -19,7 +19,7 @@ use Rattle.value_map.specs.Calls.{Held, Outcome, unlessRefused, entered}
 abbrev pub lengthsSuffice : ℕ → ℕ → ℕ → ℕ → ℕ → Bool
 lengthsSuffice n limit totals extremes counts = leb (limit + 2) totals && (leb (limit + 2) extremes && leb ((limit + 2) * n) counts)
 
-abbrev pub cellsSuffice : List Float → ℕ → Stores → Bool
+abbrev pub cellsSuffice : List Float → ℕ → Cells → Bool
 cellsSuffice bounds limit c = lengthsSuffice (bucketCount bounds) limit (length (c .totals)) (length (c .extremes)) (length (c .counts))
 
 -- the switches: extremes and sums; and a threshold, which this kind has no use for
@@ -29,13 +29,13 @@ explicitStore bounds =
       Switches = Bool × Bool × Float;
       settings = λ w. record { kind = explicit bounds; extremes = w .0; sums = w .1; threshold = w .2 };
       unset = pick (boundsPass bounds) 0 3;
-      Cells = Stores;
+      Cells = Cells;
       suffices = cellsSuffice bounds;
       Room = Room bounds;
       at = seriesAt bounds;
-      recorded = λ x updated c v. let o = recordedAt bounds x updated c v in record { no = o .no; cells = o .stores };
+      recorded = recordedAt bounds;
     }
 
 -- at a seating, the bounds asked last: 8 where configuring could not have accepted them
-abbrev pub enteredIn : List Float → Held Stores → Float → List ℕ → Seating → Outcome Stores
+abbrev pub enteredIn : List Float → Held Cells → Float → List ℕ → Seating → Outcome Cells
 enteredIn bounds h v row a = unlessRefused h (pick (boundsPass bounds) 0 8) (entered (explicitStore bounds) h v row a)

@@ -7,7 +7,7 @@ use Rattle.laws.specs.Pick.{pick}
 use Rattle.index.specs.Bins.{finest}
 use Rattle.points.specs.Figures.{sizePasses}
 use Rattle.kinds.specs.Histograms.{histograms}
-use Rattle.exponential_slots.specs.Slots.{Slots, Room, recordedAt}
+use Rattle.exponential_slots.specs.Cells.{Cells, Room, recordedAt}
 use Rattle.exponential_slots.specs.Meaning.{settings, seriesAt}
 use Rattle.value_map.specs.Store.{Store}
 
@@ -16,7 +16,7 @@ unfoldable pub lengthsSuffice : ℕ → ℕ → ℕ → ℕ → ℕ → ℕ → 
 lengthsSuffice size limit figures extremes pos neg =
     leb (limit + 2) figures && (leb (limit + 2) extremes && (leb ((limit + 2) * size) pos && leb ((limit + 2) * size) neg))
 
-abbrev pub cellsSuffice : ℕ → ℕ → Slots → Bool
+abbrev pub cellsSuffice : ℕ → ℕ → Cells → Bool
 cellsSuffice size limit x = lengthsSuffice size limit (length (x .figures)) (length (x .extremes)) (length (x .pos)) (length (x .neg))
 
 -- "1: max_size ..; 2: max_scale ..", the level being the scale + 10
@@ -30,9 +30,9 @@ exponentialStore size top =
       Switches = Bool × Bool;
       settings = λ w. settings size top (w .0) (w .1);
       unset = unset size top;
-      Cells = Slots;
+      Cells = Cells;
       suffices = cellsSuffice size;
       Room = Room size;
       at = seriesAt size;
-      recorded = λ x updated c v. let o = recordedAt size top x updated c v in record { no = o .number; cells = o .slots };
+      recorded = recordedAt size top;
     }

@@ -3,11 +3,7 @@
 use Prim.Native.Nat.{ℕ}
 use mathlib.Core.Bool.{Bool}
 use Rattle.tally.specs.Kind.{Kind}
-
--- a value recorded at a slot: document 01's number, 0 if it was taken, and the cells afterwards
-pub record Recording (Cells : Type 0) : Type 0 where
-  pub no : ℕ
-  pub cells : Cells
+pub use Rattle.parts.specs.Recording.{Recording}
 
 pub record Store (K : Kind) : Type 1 where
   -- the settings that no recording reads: they act where a point is handed out

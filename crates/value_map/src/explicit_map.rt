@@ -7,7 +7,7 @@ ghost use Rattle.laws.specs.Pick.{pick};
 ghost use Rattle.points.specs.Explicit.{boundsPass, bucketCount};
 ghost use Rattle.sets.specs.Sorted.{given, filterOf};
 ghost use Rattle.directory.specs.View.{stores};
-ghost use Rattle.explicit_slots.specs.Slots.{cells};
+ghost use Rattle.explicit_slots.specs.Cells.{cells};
 ghost use Rattle.value_map.specs.Calls.{held, gave, Seatable, started, measured, measuredBy};
 ghost use Rattle.value_map.specs.Explicit.{lengthsSuffice, explicitStore, enteredIn};
 use bindings::Answer;

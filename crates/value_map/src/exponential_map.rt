@@ -6,7 +6,7 @@ ghost use lib.Ieee.Scale.{finite};
 ghost use Rattle.points.specs.Figures.{sizePasses};
 ghost use Rattle.sets.specs.Sorted.{given, filterOf};
 ghost use Rattle.directory.specs.View.{stores};
-ghost use Rattle.exponential_slots.specs.Slots.{slots};
+ghost use Rattle.exponential_slots.specs.Cells.{cells};
 ghost use Rattle.value_map.specs.Calls.{held, gave, passes, Seatable, entered, started, measured, measuredBy};
 ghost use Rattle.value_map.specs.Exponential.{lengthsSuffice, exponentialStore};
 use bindings::Answer;
@@ -104,9 +104,9 @@ pub fn start(
     pos: &[u64],
     neg: &[u64],
 ) -> Reply
-    ensures { λ r. ⌜ gave r (stores (sets .entry) (entries .exit) (order .entry)) (slots (figures .entry) (extremes .entry) (pos .entry) (neg .entry))
+    ensures { λ r. ⌜ gave r (stores (sets .entry) (entries .exit) (order .entry)) (cells (figures .entry) (extremes .entry) (pos .entry) (neg .entry))
         ≡ started (exponentialStore size top) limit (filterOf present (now (filter .entry)))
-        (stores (sets .entry) (entries .entry) (order .entry)) (slots (figures .entry) (extremes .entry) (pos .entry) (neg .entry)) ⌝ }
+        (stores (sets .entry) (entries .entry) (order .entry)) (cells (figures .entry) (extremes .entry) (pos .entry) (neg .entry)) ⌝ }
 {
     let d = Directory {
         used: 0,
@@ -151,10 +151,10 @@ fn enter(
     row: [u64; 9],
     seat: Seating,
 ) -> Reply
-    requires { ⌜ Seatable (exponentialStore size top) (held d (stores sets entries order) (slots figures extremes pos neg)) seat × (finite v ≡ true) ⌝ }
-    ensures { λ r. ⌜ gave r (stores (sets .exit) (entries .exit) (order .exit)) (slots (figures .exit) (extremes .exit) (pos .exit) (neg .exit))
+    requires { ⌜ Seatable (exponentialStore size top) (held d (stores sets entries order) (cells figures extremes pos neg)) seat × (finite v ≡ true) ⌝ }
+    ensures { λ r. ⌜ gave r (stores (sets .exit) (entries .exit) (order .exit)) (cells (figures .exit) (extremes .exit) (pos .exit) (neg .exit))
         ≡ entered (exponentialStore size top)
-        (held d (stores (sets .entry) (entries .entry) (order .entry)) (slots (figures .entry) (extremes .entry) (pos .entry) (neg .entry)))
+        (held d (stores (sets .entry) (entries .entry) (order .entry)) (cells (figures .entry) (extremes .entry) (pos .entry) (neg .entry)))
         v row seat ⌝ }
 {
     if seat.no != 0 {
@@ -200,9 +200,9 @@ pub fn measure(
     present: bool,
     filter: &[u32],
 ) -> Reply
-    ensures { λ r. ⌜ gave r (stores (sets .exit) (entries .exit) (order .exit)) (slots (figures .exit) (extremes .exit) (pos .exit) (neg .exit))
+    ensures { λ r. ⌜ gave r (stores (sets .exit) (entries .exit) (order .exit)) (cells (figures .exit) (extremes .exit) (pos .exit) (neg .exit))
         ≡ measured (exponentialStore size top) limit (filterOf present (now (filter .entry)))
-        (held d (stores (sets .entry) (entries .entry) (order .entry)) (slots (figures .entry) (extremes .entry) (pos .entry) (neg .entry)))
+        (held d (stores (sets .entry) (entries .entry) (order .entry)) (cells (figures .entry) (extremes .entry) (pos .entry) (neg .entry)))
         v (given (now (attrs .entry))) ⌝ }
 {
     let lent = directory::stores_suffice(limit, sets.len(), entries.len(), order.len());
@@ -255,9 +255,9 @@ pub fn measure_by(
     v: f64,
     h: u64,
 ) -> Reply
-    ensures { λ r. ⌜ gave r (stores (sets .exit) (entries .exit) (order .exit)) (slots (figures .exit) (extremes .exit) (pos .exit) (neg .exit))
+    ensures { λ r. ⌜ gave r (stores (sets .exit) (entries .exit) (order .exit)) (cells (figures .exit) (extremes .exit) (pos .exit) (neg .exit))
         ≡ measuredBy (exponentialStore size top) limit
-        (held d (stores (sets .entry) (entries .entry) (order .entry)) (slots (figures .entry) (extremes .entry) (pos .entry) (neg .entry)))
+        (held d (stores (sets .entry) (entries .entry) (order .entry)) (cells (figures .entry) (extremes .entry) (pos .entry) (neg .entry)))
         v h ⌝ }
 {
     let lent = directory::stores_suffice(limit, sets.len(), entries.len(), order.len());

@@ -9,7 +9,7 @@ use Rattle.parts.specs.Parts.{partAt}
 use Rattle.parts.proofs.Laws.{part-length}
 use Rattle.points.specs.Explicit.{bucketCount}
 use Rattle.explicit.specs.Series.{said}
-use Rattle.explicit_slots.specs.Slots.{Stores}
+use Rattle.explicit_slots.specs.Cells.{Cells}
 use Rattle.explicit_slots.proofs.Enters.{call-refused, call-recorded}
 use Rattle.explicit_slots.proofs.record.Statement.{statement}
 use Rattle.explicit_slots.proofs.record.Tie as tie
@@ -24,8 +24,8 @@ end c = let a = start c .args in subst (λ (k : ℕ). a .x * k + k ≤ length (n
 abbrev counted : tie.After-enter → tie.After-bucket-count
 counted r = r .before .before .before .before .before .before
 
-abbrev stores : tie.After-bucket-count → Stores
-stores c = let a = start c .args in record { totals = now (a .totals); extremes = now (a .extremes); counts = now (a .counts) }
+abbrev lent : tie.After-bucket-count → Cells
+lent c = let a = start c .args in record { totals = now (a .totals); extremes = now (a .extremes); counts = now (a .counts) }
 
 long : (c : tie.After-bucket-count) → bucketCount (now (start c .args .bounds)) ≤ length (partAt (c .bucket-count .result) (now (start c .args .counts)) (start c .args .x))
 long c =
@@ -117,7 +117,7 @@ returns c =
     let r = c .before .before .before .before .before in
     let b = counted r in
     let a = start b .args in
-    call-refused (now (a .bounds)) (a .x) (a .updated) (stores b) (a .v) (b .bucket-count .result) (b .bucket-count .ensures) (said (r .enter .result)) (r .enter .last .1 .1 .1 .0) (r .enter .ensures) _ (ap said (c .before .got .given .1)) (long b) (start b .pre .3)
+    call-refused (now (a .bounds)) (a .x) (a .updated) (lent b) (a .v) (b .bucket-count .result) (b .bucket-count .ensures) (said (r .enter .result)) (r .enter .last .1 .1 .1 .0) (r .enter .ensures) _ (ap said (c .before .got .given .1)) (long b) (start b .pre .3)
 
 same-length-2 : tie.Need-same-length-2
 same-length-2 c = search needs
@@ -133,7 +133,7 @@ returns-2 c =
     let r = c .before .before .before .before .before in
     let b = counted r in
     let a = start b .args in
-    call-recorded (now (a .bounds)) (a .x) (a .updated) (stores b) (a .v) (b .bucket-count .result) (b .bucket-count .ensures) (said (r .enter .result)) (r .enter .last .1 .1 .1 .0) (r .enter .ensures) _ (ap said (c .before .got2 .given .1))
+    call-recorded (now (a .bounds)) (a .x) (a .updated) (lent b) (a .v) (b .bucket-count .result) (b .bucket-count .ensures) (said (r .enter .result)) (r .enter .last .1 .1 .1 .0) (r .enter .ensures) _ (ap said (c .before .got2 .given .1))
 
 pub record-spec : {M : Type 1} → statement M
 record-spec =

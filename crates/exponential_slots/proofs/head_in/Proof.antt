@@ -4,7 +4,7 @@ use Rattle.exponential_slots.proofs.head_in.Statement.{statement}
 use Rattle.exponential_slots.proofs.head_in.Tie as tie
 use mathlib.Core.Path.{refl}
 use native.Mathlib.Omega.{arith}
-use Rattle.exponential_slots.specs.Slots.{headIn}
+use Rattle.exponential_slots.specs.Cells.{headIn}
 use Rattle.exponential_slots.proofs.Cases.{narrow-says}
 
 array-read-t7 : tie.Need-array-read-t7

@@ -9,17 +9,17 @@ use borrow.Author.Tests.{not-true, not-false}
 use lib.ListN.{getD}
 use Rattle.parts.specs.Parts.{partAt}
 use Rattle.exponential.specs.Series.{said, Outcome, recording}
-use Rattle.exponential_slots.specs.Slots.{Slots, readable, laid, recordedAt}
-use Rattle.exponential_slots.proofs.Cases.{unread, called, laid-by}
+use Rattle.exponential_slots.specs.Cells.{Cells, readable, recordedAt}
+use Rattle.exponential_slots.proofs.Cases.{into, unread, called, written-by}
 
 abbrev start : tie.After-can-read → tie.Start
 start c = c .before .before .before .before
 
-abbrev slots : tie.Start → Slots
-slots s = record { figures = s .args .figures .now; extremes = s .args .extremes .now; pos = s .args .pos .now; neg = s .args .neg .now }
+abbrev lent : tie.Start → Cells
+lent s = record { figures = s .args .figures .now; extremes = s .args .extremes .now; pos = s .args .pos .now; neg = s .args .neg .now }
 
 -- the words can be read
-can : (e : tie.Else1) → readable (start (e .before) .args .updated) (getD (slots (start (e .before)) .figures) (start (e .before) .args .x) []) ≡ true
+can : (e : tie.Else1) → readable (start (e .before) .args .updated) (getD (lent (start (e .before)) .figures) (start (e .before) .args .x) []) ≡ true
 can e = sym (e .before .can-read .ensures) ∙ not-false (e .before .can-read .result) (e .if1 .left)
 
 abbrev else1 : tie.After-record → tie.Else1
@@ -33,14 +33,14 @@ abbrev left : tie.After-record → Outcome
 left r = record { answer = said (r .«record» .result); pos = r .«record» .last .1 .1 .1 .0; neg = r .«record» .last .1 .1 .1 .1 .0 }
 
 recorded : (r : tie.After-record)
-    → recordedAt (at r .args .size) (at r .args .top) (at r .args .x) (at r .args .updated) (slots (at r)) (at r .args .v)
-    ≡ laid (at r .args .size) (at r .args .x) (slots (at r)) (left r)
+    → recordedAt (at r .args .size) (at r .args .top) (at r .args .x) (at r .args .updated) (lent (at r)) (at r .args .v)
+    ≡ into (at r .args .size) (at r .args .x) (lent (at r)) (left r)
 recorded r =
     let a = at r .args in
-    let s = slots (at r) in
+    let s = lent (at r) in
     called (a .size) (a .top) (a .x) (a .updated) s (a .v) (can (else1 r))
-    ∙ ap (λ h. laid (a .size) (a .x) s (recording (a .size) (a .top) h (partAt (a .size) (s .pos) (a .x)) (partAt (a .size) (s .neg) (a .x)) (a .v))) (sym (r .before .before .before .head-of .ensures))
-    ∙ ap (laid (a .size) (a .x) s) (sym (r .«record» .ensures))
+    ∙ ap (λ h. into (a .size) (a .x) s (recording (a .size) (a .top) h (partAt (a .size) (s .pos) (a .x)) (partAt (a .size) (s .neg) (a .x)) (a .v))) (sym (r .before .before .before .head-of .ensures))
+    ∙ ap (into (a .size) (a .x) s) (sym (r .«record» .ensures))
 
 mul-f : tie.Need-mul-f
 mul-f c = search needs
@@ -52,9 +52,10 @@ can-read-requires : tie.Need-can-read-requires
 can-read-requires c κs = search needs
 
 returns : tie.Need-returns
-returns c = let s = start (c .before) in
+returns c =
+    let s = start (c .before) in
     let a = s .args in
-    sym (unread (a .size) (a .top) (a .x) (a .updated) (slots s) (a .v) (sym (c .before .can-read .ensures) ∙ not-true (c .before .can-read .result) (c .if1 .taken)))
+    sym (unread (a .size) (a .top) (a .x) (a .updated) (lent s) (a .v) (sym (c .before .can-read .ensures) ∙ not-true (c .before .can-read .result) (c .if1 .taken)))
 
 mul-head-of : tie.Need-mul-head-of
 mul-head-of c = search needs
@@ -114,10 +115,12 @@ same-length-4 : tie.Need-same-length-4
 same-length-4 c = search needs
 
 returns-2 : tie.Need-returns-2
-returns-2 c = let k = c .before .before in
+returns-2 c =
+    let k = c .before .before in
     let r = k .before .before .before .before .before .before .before in
     let a = at r .args in
-    laid-by (a .size) (a .x) (slots (at r)) (left r) (k .keep .result) (k .keep .last .1 .0) (k .keep .last .1 .1 .0) (k .keep .ensures .0) (k .keep .ensures .1 .0) (k .keep .ensures .1 .1)
+    written-by (a .size) (a .x) (lent (at r)) (k .keep .result) (k .keep .last .1 .0) (k .keep .last .1 .1 .0) (a .top) (r .before .before .before .head-of .result) (a .v) (left r) (r .«record» .ensures)
+    (k .keep .ensures .0) (k .keep .ensures .1 .0) (k .keep .ensures .1 .1)
     ∙ sym (recorded r)
 
 pub record-spec : {M : Type 1} → statement M

@@ -5,7 +5,7 @@ use denote.Ref.{now}
 use Rattle.sets.specs.Sorted.{given}
 use Rattle.directory.specs.declared.Directory.{Directory}
 use Rattle.directory.specs.View.{stores}
-use Rattle.exponential_slots.specs.Slots.{slots}
+use Rattle.exponential_slots.specs.Cells.{cells}
 use Rattle.value_map.specs.Calls.{held, measured}
 use Rattle.value_map.specs.Exponential.{exponentialStore}
 use Rattle.map_exports.proofs.Handed.{handed}
@@ -61,7 +61,7 @@ returns c =
     let t = m .before .before .before .before .before .before .before .before .before in
     let a = t .before .before .before .before .before .args in
     let s = stores (a .sets) (a .entries) (a .order) in
-    let x = slots (a .figures) (a .extremes) (a .pos) (a .neg) in
+    let x = cells (a .figures) (a .extremes) (a .pos) (a .neg) in
     let e = m .measure .ensures ∙ ap (λ (d : Directory). measured (exponentialStore (a .size) (a .top)) (a .limit) none (held d s x) (a .v) (given (now (a .attrs)))) (t .state-of .ensures) in
     handed (now (a .state)) _ _ (m .measure .result) _ (c .number-of .result) _ e (c .number-of .ensures) (c .before .words-of .ensures)
 

@@ -1,23 +1,23 @@
 -- `value_map::explicit_map::enter` meets its contract. Assumes nothing.
 use borrow.Author.Needs.{needs}
-use mathlib.Core.Path.{_≡_, ap}
+use mathlib.Core.Path.{_≡_}
 use mathlib.Core.Bool.{false}
 use denote.Ref.{now}
 use Rattle.points.specs.Explicit.{boundsPass}
 use Rattle.directory.specs.View.{stores}
 use Rattle.seats.specs.Seats.{Fits}
-use Rattle.explicit_slots.specs.Slots.{Stores, cells, Room}
+use Rattle.explicit_slots.specs.Cells.{Cells, cells, Room}
 use Rattle.value_map.specs.Calls.{Held, held}
 use Rattle.value_map.specs.Explicit.{explicitStore}
 use Rattle.value_map.proofs.Late.{late-away, late-refused, late-done}
-use Rattle.value_map.proofs.ExplicitOwes.{left, owed, bad-8}
+use Rattle.value_map.proofs.ExplicitOwes.{owed, bad-8}
 use Rattle.value_map.proofs.explicit_map.enter.Statement.{statement}
 use Rattle.value_map.proofs.explicit_map.enter.Tie as tie
 
 abbrev at : tie.After-struct-known → tie.Start
 at k = k .before .before .before .before .before
 
-abbrev lentMap : tie.Start → Held Stores
+abbrev lentMap : tie.Start → Held Cells
 lentMap s = let a = s .args in held (a .d) (stores (a .sets) (a .entries) (a .order)) (cells (a .totals) (a .extremes) (a .counts))
 
 abbrev stood : tie.Else2 → tie.Else1
@@ -59,7 +59,7 @@ returns-2 c =
     let e = p .before .before .before .before in
     let s = at (e .before) in
     let b = now (s .args .bounds) in
-    late-refused (owed b) (lentMap s) (s .args .v) (s .args .row) (s .args .seat) (boundsPass b) (e .if1 .left) _ (ap left (p .«record» .ensures)) (bad e) (c .if2 .taken)
+    late-refused (owed b) (lentMap s) (s .args .v) (s .args .row) (s .args .seat) (boundsPass b) (e .if1 .left) _ (p .«record» .ensures) (bad e) (c .if2 .taken)
 
 commit-requires : tie.Need-commit-requires
 commit-requires c κs = seat (stood (c .before .before .before)) .1
@@ -90,7 +90,7 @@ returns-3 c =
     let e = stood f in
     let s = at (e .before) in
     let b = now (s .args .bounds) in
-    late-done (owed b) (lentMap s) (s .args .v) (s .args .row) (s .args .seat) (boundsPass b) (e .if1 .left) _ (ap left (p .«record» .ensures)) (bad e) (f .if2 .left) _ (k .commit .ensures)
+    late-done (owed b) (lentMap s) (s .args .v) (s .args .row) (s .args .seat) (boundsPass b) (e .if1 .left) _ (p .«record» .ensures) (bad e) (f .if2 .left) _ (k .commit .ensures)
 
 pub enter-spec : {M : Type 1} → statement M
 enter-spec =

@@ -17,7 +17,7 @@ use Rattle.sets.specs.Sorted.{attribute, given, filterOf}
 use Rattle.directory.specs.View.{stores}
 use Rattle.directory.specs.Calls.{accepts}
 use Rattle.directory.proofs.Refusals.{Suffice}
-use Rattle.explicit_slots.specs.Slots.{Stores, cells}
+use Rattle.explicit_slots.specs.Cells.{Cells, cells}
 use Rattle.value_map.specs.Store.{Store}
 use Rattle.value_map.specs.Calls.{Held, held, barredBy, lent}
 use Rattle.value_map.specs.Explicit.{cellsSuffice, explicitStore}
@@ -34,7 +34,7 @@ at b = b .before .before .before .before .before .before .before .before .before
 abbrev kind : tie.Start → Store histograms
 kind s = explicitStore (now (s .args .bounds))
 
-abbrev lentMap : tie.Start → Held Stores
+abbrev lentMap : tie.Start → Held Cells
 lentMap s = let a = s .args in held (a .d) (stores (a .sets) (a .entries) (a .order)) (cells (a .totals) (a .extremes) (a .counts))
 
 abbrev filter : tie.Start → Option (List ℕ)

@@ -13,7 +13,7 @@ use Rattle.kinds.specs.Histograms.{histograms}
 use Rattle.directory.specs.View.{stores}
 use Rattle.directory.specs.Calls.{mostSets}
 use Rattle.directory.proofs.Refusals.{Suffice}
-use Rattle.explicit_slots.specs.Slots.{Stores, cells}
+use Rattle.explicit_slots.specs.Cells.{Cells, cells}
 use Rattle.value_map.specs.Store.{Store}
 use Rattle.value_map.specs.Calls.{Held, held, barredBy, lent}
 use Rattle.value_map.specs.Explicit.{cellsSuffice, explicitStore}
@@ -30,7 +30,7 @@ at b = b .before .before .before .before .before .before .before
 abbrev kind : tie.Start → Store histograms
 kind s = explicitStore (now (s .args .bounds))
 
-abbrev lentMap : tie.Start → Held Stores
+abbrev lentMap : tie.Start → Held Cells
 lentMap s = let a = s .args in held (a .d) (stores (a .sets) (a .entries) (a .order)) (cells (a .totals) (a .extremes) (a .counts))
 
 -- the number that comes first, and what is known where it is none

@@ -14,7 +14,7 @@ use Rattle.kinds.specs.Histograms.{histograms}
 use Rattle.sets.specs.Sorted.{filterOf}
 use Rattle.directory.specs.View.{Stores, stores}
 use Rattle.directory.specs.Calls.{accepts}
-use Rattle.explicit_slots.specs.Slots as Slots
+use Rattle.explicit_slots.specs.Cells.{Cells, cells}
 use Rattle.value_map.specs.Store.{Store}
 use Rattle.value_map.specs.Explicit.{explicitStore}
 use Rattle.value_map.proofs.Cases.{start-unset, start-4, start-12, start-on}
@@ -30,8 +30,8 @@ kind s = explicitStore (now (s .args .bounds))
 abbrev dir : tie.Start → Stores
 dir s = stores (s .args .sets) (s .args .entries) (s .args .order)
 
-abbrev cells : tie.Start → Slots.Stores
-cells s = Slots.cells (s .args .totals) (s .args .extremes) (s .args .counts)
+abbrev lent : tie.Start → Cells
+lent s = cells (s .args .totals) (s .args .extremes) (s .args .counts)
 
 abbrev filter : tie.Start → Option (List ℕ)
 filter s = filterOf (s .args .present) (now (s .args .filter))
@@ -49,7 +49,7 @@ returns : tie.Need-returns
 returns c =
     let b = c .before in
     let s = at b in
-    start-unset (kind s) (s .args .limit) (filter s) (dir s) (cells s) 3
+    start-unset (kind s) (s .args .limit) (filter s) (dir s) (lent s) 3
     (sym (pick-false (boundsPass (now (s .args .bounds))) 0 3 (sym (b .bounds-pass .ensures) ∙ not-true _ (c .if1 .taken)))) (λ z. omega (arith, z))
 
 accepted-requires : tie.Need-accepted-requires
@@ -59,7 +59,7 @@ returns-2 : tie.Need-returns-2
 returns-2 c =
     let e = c .before .before in
     let s = at (e .before) in
-    start-4 (kind s) (s .args .limit) (filter s) (dir s) (cells s) (passed e) (sym (c .before .accepted .ensures) ∙ not-true _ (c .if2 .taken))
+    start-4 (kind s) (s .args .limit) (filter s) (dir s) (lent s) (passed e) (sym (c .before .accepted .ensures) ∙ not-true _ (c .if2 .taken))
 
 cells-suffice-requires : tie.Need-cells-suffice-requires
 cells-suffice-requires c κs = search needs
@@ -69,7 +69,7 @@ returns-3 c =
     let d = c .before .before in
     let e = d .before .before in
     let s = at (e .before) in
-    start-12 (kind s) (s .args .limit) (filter s) (dir s) (cells s) (passed e) (accept d) (sym (c .before .cells-suffice .ensures) ∙ not-true _ (c .if3 .taken))
+    start-12 (kind s) (s .args .limit) (filter s) (dir s) (lent s) (passed e) (accept d) (sym (c .before .cells-suffice .ensures) ∙ not-true _ (c .if3 .taken))
 
 start-requires : tie.Need-start-requires
 start-requires c κs = search needs
@@ -84,7 +84,7 @@ returns-4 c =
     let d = f .before .before in
     let e = d .before .before in
     let s = at (e .before) in
-    start-on (kind s) (s .args .limit) (filter s) (dir s) (cells s) (passed e) (accept d) (sym (f .before .cells-suffice .ensures) ∙ not-false _ (f .if3 .left)) _ (r .start .ensures)
+    start-on (kind s) (s .args .limit) (filter s) (dir s) (lent s) (passed e) (accept d) (sym (f .before .cells-suffice .ensures) ∙ not-false _ (f .if3 .left)) _ (r .start .ensures)
 
 pub start-spec : {M : Type 1} → statement M
 start-spec =

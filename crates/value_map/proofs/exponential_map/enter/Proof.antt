@@ -4,28 +4,28 @@ use mathlib.Core.Path.{ap, _∙_}
 use Rattle.directory.specs.View.{stores}
 use Rattle.bindings.specs.declared.Reply.{Reply}
 use Rattle.seats.specs.Seats.{Fits}
-use Rattle.exponential_slots.specs.Slots.{Slots, slots, Room}
+use Rattle.exponential_slots.specs.Cells.{Cells, cells, Room}
 use Rattle.value_map.specs.Calls.{Held, Outcome, held, gave}
 use Rattle.value_map.proofs.Cases.{entered-away, entered-refused, entered-done}
-use Rattle.value_map.proofs.ExponentialOwes.{left, owed}
+use Rattle.value_map.proofs.ExponentialOwes.{owed}
 use Rattle.value_map.proofs.exponential_map.enter.Statement.{statement}
 use Rattle.value_map.proofs.exponential_map.enter.Tie as tie
 
 abbrev at : tie.After-struct-known → tie.Start
 at c = c .before .before .before .before
 
-abbrev lentMap : tie.Start → Held Slots
-lentMap s = let a = s .args in held (a .d) (stores (a .sets) (a .entries) (a .order)) (slots (a .figures) (a .extremes) (a .pos) (a .neg))
+abbrev lentMap : tie.Start → Held Cells
+lentMap s = let a = s .args in held (a .d) (stores (a .sets) (a .entries) (a .order)) (cells (a .figures) (a .extremes) (a .pos) (a .neg))
 
 -- a reply that leaves the map as it was lent
-abbrev same : tie.Start → Reply → Outcome Slots
+abbrev same : tie.Start → Reply → Outcome Cells
 same s r = gave r (lentMap s .kept .stores) (lentMap s .cells)
 
 abbrev else1 : tie.After-record → tie.Else1
 else1 r = r .before .before .before .before .before
 
 -- the cells that the series' call left
-abbrev after : tie.After-record → Slots
+abbrev after : tie.After-record → Cells
 after r =
     let l = r .«record» .last .1 .1 .1 .1 in
     record { figures = l .0; extremes = l .1 .0; pos = l .1 .1 .0; neg = l .1 .1 .1 .0 }
@@ -68,7 +68,7 @@ returns-2 c =
     let s = at (else1 r .before) in
     let a = s .args in
     ap (λ (q : Reply). gave q (lentMap s .kept .stores) (after r)) (c .refused2 .ensures)
-    ∙ entered-refused (owed (a .size) (a .top)) (lentMap s) (a .v) (a .row) (a .seat) (else1 r .if1 .left) _ (ap left (r .«record» .ensures)) (t .if2 .taken)
+    ∙ entered-refused (owed (a .size) (a .top)) (lentMap s) (a .v) (a .row) (a .seat) (else1 r .if1 .left) _ (r .«record» .ensures) (t .if2 .taken)
 
 commit-requires : tie.Need-commit-requires
 commit-requires c κs = seat (else1 (c .before .before .before .before .before .before .before .before .before .before)) .1
@@ -101,7 +101,7 @@ returns-3 c =
     let r = e .before .before .before .before .before .before .before in
     let s = at (else1 r .before) in
     let a = s .args in
-    entered-done (owed (a .size) (a .top)) (lentMap s) (a .v) (a .row) (a .seat) (else1 r .if1 .left) _ (ap left (r .«record» .ensures)) (e .if2 .left) _ (m .commit .ensures)
+    entered-done (owed (a .size) (a .top)) (lentMap s) (a .v) (a .row) (a .seat) (else1 r .if1 .left) _ (r .«record» .ensures) (e .if2 .left) _ (m .commit .ensures)
 
 pub enter-spec : {M : Type 1} → statement M
 enter-spec =

@@ -14,7 +14,7 @@ use Rattle.sets.specs.Sorted.{filterOf}
 use Rattle.directory.specs.View.{Stores, stores}
 use Rattle.directory.specs.Calls.{accepts}
 use Rattle.bindings.specs.declared.Reply.{Reply}
-use Rattle.exponential_slots.specs.Slots.{Slots, slots}
+use Rattle.exponential_slots.specs.Cells.{Cells, cells}
 use Rattle.value_map.specs.Store.{Store}
 use Rattle.value_map.specs.Calls.{Outcome, gave}
 use Rattle.value_map.specs.Exponential.{exponentialStore}
@@ -32,15 +32,15 @@ kind s = exponentialStore (s .args .size) (s .args .top)
 abbrev dir : tie.Start → Stores
 dir s = stores (s .args .sets) (s .args .entries) (s .args .order)
 
-abbrev cells : tie.Start → Slots
-cells s = slots (s .args .figures) (s .args .extremes) (s .args .pos) (s .args .neg)
+abbrev lent : tie.Start → Cells
+lent s = cells (s .args .figures) (s .args .extremes) (s .args .pos) (s .args .neg)
 
 abbrev filter : tie.Start → Option (List ℕ)
 filter s = filterOf (s .args .present) (now (s .args .filter))
 
 -- a reply that leaves the stores
-abbrev same : tie.Start → Reply → Outcome Slots
-same s r = gave r (dir s) (cells s)
+abbrev same : tie.Start → Reply → Outcome Cells
+same s r = gave r (dir s) (lent s)
 
 sized : (e : tie.Else1) → sizePasses (at (e .before) .args .size) ≡ true
 sized e = sym (e .before .size-passes .ensures) ∙ not-false (e .before .size-passes .result) (e .if1 .left)
@@ -65,7 +65,7 @@ returns c =
     let b = c .before .before in
     let s = at b in
     ap (same s) (c .refused .ensures)
-    ∙ start-unset (kind s) (s .args .limit) (filter s) (dir s) (cells s) 1
+    ∙ start-unset (kind s) (s .args .limit) (filter s) (dir s) (lent s) 1
     (unset-1 (s .args .size) (s .args .top) (sym (b .size-passes .ensures) ∙ not-true (b .size-passes .result) (c .before .if1 .taken))) (λ z. omega (arith, z))
 
 refused-requires-2 : tie.Need-refused-requires-2
@@ -76,7 +76,7 @@ returns-2 c =
     let e = c .before .before in
     let s = at (e .before) in
     ap (same s) (c .refused2 .ensures)
-    ∙ start-unset (kind s) (s .args .limit) (filter s) (dir s) (cells s) 2 (unset-2 (s .args .size) (s .args .top) (sized e) (c .before .if2 .taken)) (λ z. omega (arith, z))
+    ∙ start-unset (kind s) (s .args .limit) (filter s) (dir s) (lent s) 2 (unset-2 (s .args .size) (s .args .top) (sized e) (c .before .if2 .taken)) (λ z. omega (arith, z))
 
 accepted-requires : tie.Need-accepted-requires
 accepted-requires c κs = search needs
@@ -89,7 +89,7 @@ returns-3 c =
     let k = c .before .before in
     let s = start2 (k .before) in
     ap (same s) (c .refused3 .ensures)
-    ∙ start-4 (kind s) (s .args .limit) (filter s) (dir s) (cells s) (passed (k .before)) (sym (k .accepted .ensures) ∙ not-true (k .accepted .result) (c .before .if3 .taken))
+    ∙ start-4 (kind s) (s .args .limit) (filter s) (dir s) (lent s) (passed (k .before)) (sym (k .accepted .ensures) ∙ not-true (k .accepted .result) (c .before .if3 .taken))
 
 cells-suffice-requires : tie.Need-cells-suffice-requires
 cells-suffice-requires c κs = search needs
@@ -103,7 +103,7 @@ returns-4 c =
     let d = h .before .before .before in
     let s = start2 d in
     ap (same s) (c .refused4 .ensures)
-    ∙ start-12 (kind s) (s .args .limit) (filter s) (dir s) (cells s) (passed d) (accepted (h .before)) (sym (h .cells-suffice .ensures) ∙ not-true (h .cells-suffice .result) (c .before .if4 .taken))
+    ∙ start-12 (kind s) (s .args .limit) (filter s) (dir s) (lent s) (passed d) (accepted (h .before)) (sym (h .cells-suffice .ensures) ∙ not-true (h .cells-suffice .result) (c .before .if4 .taken))
 
 start-requires : tie.Need-start-requires
 start-requires c κs = search needs
@@ -118,7 +118,7 @@ returns-5 c =
     let h = e .before in
     let d = h .before .before .before in
     let s = start2 d in
-    start-on (kind s) (s .args .limit) (filter s) (dir s) (cells s) (passed d) (accepted (h .before)) (sym (h .cells-suffice .ensures) ∙ not-false (h .cells-suffice .result) (e .if4 .left)) _ (n .start .ensures)
+    start-on (kind s) (s .args .limit) (filter s) (dir s) (lent s) (passed d) (accepted (h .before)) (sym (h .cells-suffice .ensures) ∙ not-false (h .cells-suffice .result) (e .if4 .left)) _ (n .start .ensures)
 
 pub start-spec : {M : Type 1} → statement M
 start-spec =

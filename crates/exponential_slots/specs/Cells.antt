@@ -1,4 +1,4 @@
--- A series of the exponential kind in one slot of the map's stores, and one value recorded into it. Assumes nothing.
+-- The exponential kind's stores: a series in one slot of them, and what recording a value into it leaves. Assumes nothing.
 use Prim.Native.Nat.{ℕ, _+_, _*_, _≤_, _<_}
 use mathlib.Core.Bool.{Bool, true}
 use mathlib.Core.List.{List, [], _∷_}
@@ -7,32 +7,32 @@ use lib.ListN.{length, getD, set}
 use lib.Ieee.{Float, nan}
 use denote.Ref.{RefT, now}
 use Rattle.laws.specs.Pick.{pick, _and_}
-use Rattle.laws.specs.Said.{Said, refusal, success, number}
+use Rattle.laws.specs.Said.{Said, refusal, success}
 use Rattle.parts.specs.Parts.{partAt, putAt}
+use Rattle.parts.specs.Recording.{Recording, after}
 use Rattle.exponential.specs.declared.Counts.{Counts}
 use Rattle.exponential.specs.declared.Head.{Head}
 use Rattle.exponential.specs.Series.{mostCount, recording}
-use Rattle.exponential.specs.Series as S
 use Rattle.exponential.specs.Runs.{freshHead}
 
 -- The kind's stores. A slot has eight words in `figures` (count, zero count, level, start and length of the positive and of the negative
 -- row, and a spare word, written 0), three f64 in `extremes` (minimum, maximum, sum), and max_size counts in `pos` and in `neg`.
-pub record Slots : Type 0 where
+pub record Cells : Type 0 where
   pub figures : List (List ℕ)
   pub extremes : List (List Float)
   pub pos : List ℕ
   pub neg : List ℕ
 
 -- as a contract writes them: the four lent slices, at entry or at exit
-abbrev pub slots : RefT (List (List ℕ)) → RefT (List (List Float)) → RefT (List ℕ) → RefT (List ℕ) → Slots
-slots figures extremes pos neg = record { figures = now figures; extremes = now extremes; pos = now pos; neg = now neg }
+abbrev pub cells : RefT (List (List ℕ)) → RefT (List (List Float)) → RefT (List ℕ) → RefT (List ℕ) → Cells
+cells figures extremes pos neg = record { figures = now figures; extremes = now extremes; pos = now pos; neg = now neg }
 
 -- slot x lies in the stores
-pub record Room (size : ℕ) (s : Slots) (x : ℕ) : Type 0 where
-  pub figures : x < length (s .figures)
-  pub extremes : x < length (s .extremes)
-  pub pos : x * size + size ≤ length (s .pos)
-  pub neg : x * size + size ≤ length (s .neg)
+pub record Room (size : ℕ) (c : Cells) (x : ℕ) : Type 0 where
+  pub figures : x < length (c .figures)
+  pub extremes : x < length (c .extremes)
+  pub pos : x * size + size ≤ length (c .pos)
+  pub neg : x * size + size ≤ length (c .neg)
 
 -- ---- a head as it lies in a slot
 
@@ -68,6 +68,7 @@ headOf top updated f m = pick updated (headIn f m) (freshHead top)
 
 -- ---- a value recorded into slot x
 
+-- the head's two stores afterwards
 abbrev pub figuresAfter : ℕ → List (List ℕ) → Said Head → List (List ℕ)
 figuresAfter x figures (refusal n) = figures
 figuresAfter x figures (success h) = set figures x (wordsOf (h .counts))
@@ -76,32 +77,20 @@ abbrev pub extremesAfter : ℕ → List (List Float) → Said Head → List (Lis
 extremesAfter x extremes (refusal n) = extremes
 extremesAfter x extremes (success h) = set extremes x (h .min ∷ h .max ∷ h .sum ∷ [])
 
-pub record Outcome : Type 0 where
-  pub number : ℕ
-  pub slots : Slots
-
-abbrev pub outcome : ℕ → Slots → Outcome
-outcome n s = record { number = n; slots = s }
-
-abbrev pub refused : ℕ → Slots → Outcome
-refused n s = outcome n s
-
--- what the series' call leaves, laid into the slot
-unfoldable pub laid : ℕ → ℕ → Slots → S.Outcome → Outcome
-laid size x s o =
-    record {
-      number = number (o .answer);
-      slots = record {
-        figures = figuresAfter x (s .figures) (o .answer);
-        extremes = extremesAfter x (s .extremes) (o .answer);
-        pos = putAt size (s .pos) x (o .pos);
-        neg = putAt size (s .neg) x (o .neg);
-      };
-    }
+-- "Every refusal changes nothing"; else the slot's cells, and no others
+abbrev pub written : ℕ → ℕ → Cells → Said Head → List ℕ → List ℕ → Recording Cells
+written size x c (refusal n) xs ys = after n c
+written size x c (success h) xs ys =
+    after 0 (record {
+      figures = figuresAfter x (c .figures) (success h);
+      extremes = extremesAfter x (c .extremes) (success h);
+      pos = putAt size (c .pos) x xs;
+      neg = putAt size (c .neg) x ys;
+    })
 
 -- 8 for words that are no head; else what `exponential` says of the head and of the slot's parts, with all the rest as it was
-unfoldable pub recordedAt : ℕ → ℕ → ℕ → Bool → Slots → Float → Outcome
-recordedAt size top x updated s v =
-    pick (readable updated (getD (s .figures) x []))
-    (laid size x s (recording size top (headOf top updated (getD (s .figures) x []) (getD (s .extremes) x [])) (partAt size (s .pos) x) (partAt size (s .neg) x) v))
-    (refused 8 s)
+unfoldable pub recordedAt : ℕ → ℕ → ℕ → Bool → Cells → Float → Recording Cells
+recordedAt size top x updated c v =
+    let f = getD (c .figures) x [] in
+    let o = recording size top (headOf top updated f (getD (c .extremes) x [])) (partAt size (c .pos) x) (partAt size (c .neg) x) v in
+    pick (readable updated f) (written size x c (o .answer) (o .pos) (o .neg)) (after 8 c)

@@ -25,16 +25,16 @@ use Rattle.directory.proofs.Admits.{room-rank, admit-put}
 use Rattle.directory.proofs.Laws.{slotsOf, few, slot-used, ascends, rebind-put}
 use Rattle.directory.proofs.Located.{Facts, facts, over-set, room-new, room-over, sought-held, place-held, place-over-held, place-new, place-over}
 use Rattle.directory.proofs.Rises.{In}
-use Rattle.bindings.specs.Calls.{said, refused, Outcome, boundAt, bornBound, boundIn, heldBound}
-use Rattle.bindings.specs.declared.Answer.the-variants.{Handle}
+use Rattle.bindings.specs.Calls.{mapAnswer, refused, Outcome, boundAt, bornBound, boundIn, heldBound}
 use Rattle.bindings.proofs.Releases.{Steps}
 use Rattle.laws.specs.Pick.{pick}
+use Rattle.laws.specs.Said.{success}
 
 -- and what binding is there
 module _ (K : Kind) (f : ℕ → K .Series) (z : K .Settings) where
   -- an outcome is this one of the map
   abbrev Is : Outcome → Out K → Type 0
-  Is o p = (said K (o .answer) ≡ p .answer) × (view K f z (o .kept .dir) (o .kept .stores) ≡ p .map)
+  Is o p = (mapAnswer K (o .answer) ≡ p .answer) × (view K f z (o .kept .dir) (o .kept .stores) ≡ p .map)
 
   module _ (limit : ℕ) (d : Directory) (s : Stores) (row : List ℕ) (g : agreesb limit d s ≡ true) (small : d .last < 2 ^ 64) where
     old-full : (x : ℕ) → 18446744073709551615 ≤ getD (getD (s .entries) x []) 1 0 → Is (boundAt d s row (Old x)) (bindAt K (view K f z d s) (held K (view K f z d s) (entryAt K f s x)))
@@ -149,7 +149,7 @@ module _ (d : Directory) (s : Stores) where
     held-full h = rw (le-leb 18446744073709551615 (getD (getD (s .entries) x []) 1 0) h)
 
     pub held-more : getD (getD (s .entries) x []) 1 0 < 18446744073709551615 → heldBound d s x
-        ≡ record { answer = Handle (birthAt (s .entries) x); kept = record { dir = d; stores = record { sets = s .sets; entries = boundTo (s .entries) x (getD (getD (s .entries) x []) 1 0 + 1); order = s .order } } }
+        ≡ record { answer = success (some (birthAt (s .entries) x)); kept = record { dir = d; stores = record { sets = s .sets; entries = boundTo (s .entries) x (getD (getD (s .entries) x []) 1 0 + 1); order = s .order } } }
     unfolding pick
     held-more h = rw (lt-leb 18446744073709551615 (getD (getD (s .entries) x []) 1 0) h)
 
@@ -158,6 +158,6 @@ module _ (d : Directory) (s : Stores) where
     unfolding pick
     born-none h = rw (le-leb 18446744073709551615 (d .last) h)
 
-    pub born-one : d .last < 18446744073709551615 → bornBound d s row r more ≡ record { answer = Handle (d .last + 1); kept = admitted d s row r more 1 }
+    pub born-one : d .last < 18446744073709551615 → bornBound d s row r more ≡ record { answer = success (some (d .last + 1)); kept = admitted d s row r more 1 }
     unfolding pick
     born-one h = rw (lt-leb 18446744073709551615 (d .last) h)

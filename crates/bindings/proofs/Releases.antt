@@ -14,13 +14,13 @@ use Rattle.directory.specs.declared.Directory.{Directory}
 use Rattle.directory.specs.declared.Found.{Found}
 use Rattle.directory.specs.declared.Found.the-variants.{Held, Room}
 use Rattle.directory.proofs.Laws.{slotsOf, named-scan, entryOf, rebind-put, ascends, few, scan-in, slot-used}
-use Rattle.bindings.specs.Calls.{said, releasedIn, releasedAt, refused, Outcome}
+use Rattle.bindings.specs.Calls.{mapAnswer, releasedIn, releasedAt, refused, Outcome}
 use Rattle.laws.specs.Pick.{pick}
 
 module _ (K : Kind) (f : ℕ → K .Series) (z : K .Settings) where
   release-step : (c : Config K) (d : Directory) (s : Stores) (h : ℕ) → agreesb (c .limit) d s ≡ true → c .limit + 2 ≤ length (s .entries)
       → (o : Found) → scan h (s .entries) (slotsOf d s) ≡ o
-      → (said K (releasedAt d s o .answer) ≡ step K c (view K f z d s) (release h) .answer)
+      → (mapAnswer K (releasedAt d s o .answer) ≡ step K c (view K f z d s) (release h) .answer)
       × (view K f z (releasedAt d s o .kept .dir) (releasedAt d s o .kept .stores) ≡ step K c (view K f z d s) (release h) .map)
   unfolding upfront act releaseAt
   release-step c d s h g r (Room i) e =
@@ -40,7 +40,7 @@ module _ (K : Kind) (f : ℕ → K .Series) (z : K .Settings) where
 
   -- an outcome is the map's step: its answer, and the map that is then held
   abbrev pub Steps : Config K → Map K → Call K → Outcome → Type 0
-  Steps c m x o = (said K (o .answer) ≡ step K c m x .answer) × (view K f z (o .kept .dir) (o .kept .stores) ≡ step K c m x .map)
+  Steps c m x o = (mapAnswer K (o .answer) ≡ step K c m x .answer) × (view K f z (o .kept .dir) (o .kept .stores) ≡ step K c m x .map)
 
   -- releasing is the map's step, where the directory agrees
   pub release-faithful : (c : Config K) (d : Directory) (s : Stores) (h : ℕ) → agreesb (c .limit) d s ≡ true → c .limit + 2 ≤ length (s .entries)

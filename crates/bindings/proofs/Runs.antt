@@ -9,6 +9,7 @@ use native.Mathlib.Omega.{arith}
 use borrow.Author.Tests.{le-leb, leb-false}
 use lib.Dec.{leb}
 use lib.ListN.{length, getD, set, length-set}
+use Rattle.laws.specs.Said.{Said, number}
 use Rattle.laws.proofs.Cases.{true-not-false, and-true}
 use Rattle.tally.specs.Sets.{Set, canonical}
 use Rattle.sets.specs.Rows.{rowOf}
@@ -25,12 +26,11 @@ use Rattle.directory.proofs.Leaves as lv
 use Rattle.directory.proofs.Leaves.{same-leaves, rebind-leaves, admit-leaves, Good, lasts}
 use Rattle.directory.proofs.Located.{told, old-there, new-there, over-there}
 use Rattle.directory.proofs.Refusals.{Suffice, suffices}
-use Rattle.bindings.specs.Calls.{Outcome, number, refused, releasedAt, releasedIn, boundAt, boundIn, started, bound, released}
-use Rattle.bindings.specs.declared.Answer.{Answer}
+use Rattle.bindings.specs.Calls.{Outcome, refused, releasedAt, releasedIn, boundAt, boundIn, started, bound, released}
 use Rattle.bindings.proofs.Keeps.{either, bind-keeps, release-keeps, start-keeps, start-is}
 
 -- neither 8 nor 12
-abbrev pub Quiet : Answer → Type 0
+abbrev pub Quiet : Said (Option ℕ) → Type 0
 Quiet a = (number a ≡ 8 → ⊥) × (number a ≡ 12 → ⊥)
 
 -- what an outcome leaves: one of these numbers it is not, and the directory as directory's `Leaves` says

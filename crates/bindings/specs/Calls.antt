@@ -1,15 +1,16 @@
 -- What binding and releasing make of the directory: exactly, in its stores. Assumes nothing.
 use Prim.Native.Nat.{ℕ, _+_, _-_}
 use mathlib.Core.List.{List, [], _∷_}
-use mathlib.Core.Option.{Option}
+use mathlib.Core.Option.{Option, none, some}
 use lib.Dec.{leb}
 use lib.ListN.{length, getD, set}
 use Rattle.laws.specs.Pick.{pick}
+use Rattle.laws.specs.Said.{Said, refusal, success}
 use Rattle.tally.specs.Sets.{Set, canonical}
 use Rattle.tally.specs.Kind as Map
 use Rattle.sets.specs.Rows.{span, rowOf}
 use Rattle.sets.specs.Sorted.{mostAttributes}
-use Rattle.directory.specs.Calls.{Kept, kept, overRow, located, admitted, boundTo, scan, mostSets, accepts, storesSuffice}
+use Rattle.directory.specs.Calls.{Kept, kept, greatest, overRow, located, admitted, boundTo, scan, mostSets, accepts, storesSuffice}
 use Rattle.directory.specs.View.{Stores, birthAt, agreesb}
 use Rattle.directory.specs.declared.Directory.{Directory}
 use Rattle.directory.specs.declared.Found.{Found}
@@ -20,35 +21,36 @@ use Rattle.bindings.specs.declared.Answer.{Answer}
 use Rattle.bindings.specs.declared.Answer.the-variants.{Refused, Done, Handle}
 use Rattle.bindings.specs.declared.Reply.{Reply}
 
--- a call's answer, with the directory's state and stores after it
+-- "a definition gives this paper's number and values for each case of that enum": success has no value, or a binding's birth number, which a
+-- handle holds
+abbrev pub said : Answer → Said (Option ℕ)
+said (Refused n) = refusal n
+said Done = success none
+said (Handle b) = success (some b)
+
+-- what a call says, with the directory's state and stores after it
 pub record Outcome : Type 0 where
-  pub answer : Answer
+  pub answer : Said (Option ℕ)
   pub kept : Kept
 
 -- as a contract writes it: what a call replied, with the stores that it left
 abbrev pub gave : Reply → Stores → Outcome
-gave r s = record { answer = r .answer; kept = kept (r .dir) s }
+gave r s = record { answer = said (r .answer); kept = kept (r .dir) s }
 
--- document 01's number of an answer
-abbrev pub number : Answer → ℕ
-number (Refused n) = n
-number Done = 0
-number (Handle b) = 0
-
--- our answers as the abstract map's
-abbrev pub said : (K : Map.Kind) → Answer → Map.Answer K
-said K (Refused n) = Map.refuse n
-said K Done = Map.done
-said K (Handle b) = Map.handle b
+-- what is said, as the abstract map's answer
+abbrev pub mapAnswer : (K : Map.Kind) → Said (Option ℕ) → Map.Answer K
+mapAnswer K (refusal n) = Map.refuse n
+mapAnswer K (success none) = Map.done
+mapAnswer K (success (some b)) = Map.handle b
 
 abbrev pub refused : ℕ → Directory → Stores → Outcome
-refused n d s = record { answer = Refused n; kept = record { dir = d; stores = s } }
+refused n d s = record { answer = refusal n; kept = record { dir = d; stores = s } }
 
 abbrev pub releasedAt : Directory → Stores → Found → Outcome
 releasedAt d s (Room r) = refused 7 d s
 releasedAt d s (Held x) =
     record {
-      answer = Done;
+      answer = success none;
       kept = record {
         dir = d;
         stores = record { sets = s .sets; entries = boundTo (s .entries) x (getD (getD (s .entries) x []) 1 0 - 1); order = s .order };
@@ -63,15 +65,15 @@ releasedIn limit d s h =
 -- a new entry with one binding, unless the birth numbers are spent
 abbrev pub bornBound : Directory → Stores → List ℕ → ℕ → ℕ → Outcome
 bornBound d s row rank more =
-    pick (leb 18446744073709551615 (d .last)) (refused 9 d s)
-    (record { answer = Handle (d .last + 1); kept = admitted d s row rank more 1 })
+    pick (leb greatest (d .last)) (refused 9 d s)
+    (record { answer = success (some (d .last + 1)); kept = admitted d s row rank more 1 })
 
 -- one binding more on a slot that is held, unless its bindings are 2 ^ 64 - 1
 abbrev pub heldBound : Directory → Stores → ℕ → Outcome
 heldBound d s x =
-    pick (leb 18446744073709551615 (getD (getD (s .entries) x []) 1 0)) (refused 9 d s)
+    pick (leb greatest (getD (getD (s .entries) x []) 1 0)) (refused 9 d s)
     (record {
-      answer = Handle (birthAt (s .entries) x);
+      answer = success (some (birthAt (s .entries) x));
       kept = record {
         dir = d;
         stores = record { sets = s .sets; entries = boundTo (s .entries) x (getD (getD (s .entries) x []) 1 0 + 1); order = s .order };
@@ -98,7 +100,7 @@ started limit filter s =
     pick (accepts limit filter)
     (pick (storesSuffice limit s)
     (record {
-      answer = Done;
+      answer = success none;
       kept = record {
         dir = fresh;
         stores = record { sets = s .sets; entries = set (s .entries) 0 (0 ∷ 0 ∷ 0 ∷ []); order = s .order };

@@ -50,7 +50,7 @@ fn bind_held(d: directory::Directory, entries: &mut [[u64; 3]], x: usize) -> cra
         ≡ heldBound d (record { sets = sets; entries = now (entries .entry); order = order }) x)) ⌝ }
 {
     let n = entries[x][1];
-    if n >= 18446744073709551615 {
+    if n >= directory::GREATEST {
         return crate::Reply {
             answer: crate::Answer::Refused(9),
             dir: d,
@@ -79,7 +79,7 @@ fn bind_new(
     ensures { λ r. ⌜ gave r (stores (sets .exit) (entries .exit) (order .exit))
         ≡ bornBound d (stores (sets .entry) (entries .entry) (order .entry)) row rank more ⌝ }
 {
-    if d.last >= 18446744073709551615 {
+    if d.last >= directory::GREATEST {
         return crate::Reply {
             answer: crate::Answer::Refused(9),
             dir: d,

@@ -19,7 +19,7 @@ pub struct Reply {
     pub dir: Directory,
 }
 
-// A fresh start: a directory that holds the empty set only.
+// Configures the directory: a fresh start, which holds the empty set only; or 4, 12.
 pub fn start(
     limit: u64,
     present: bool,
@@ -55,7 +55,7 @@ pub fn start(
     }
 }
 
-// Binds the attributes' set: its own entry, held or new, or that of overflow.
+// Binds the attributes' set: the birth number of its own entry, held or new, or of that of overflow; or 12, 5, 8, 9.
 pub fn bind(
     limit: u64,
     d: Directory,
@@ -87,11 +87,12 @@ pub fn bind(
             dir: d,
         };
     }
-    let row = sets::canon::sorted(attrs, present, filter);
+    let mut row: [u64; 9] = [0; 9];
+    sets::canon::sort_into(attrs, present, filter, &mut row);
     calls::bind_in(limit, d, sets, entries, order, row)
 }
 
-// Takes one binding off the entry that the handle names.
+// Takes one binding off the entry that the handle names; or 12, 8, 7.
 pub fn release(
     limit: u64,
     d: Directory,

@@ -28,7 +28,8 @@ abbrev pub targetOf : Found → Bool → Found → Target
 targetOf (Held x) roomy over = Old x
 targetOf (Room r) roomy over = pick roomy (New r) (orOver over)
 
--- "A new set is made while the map's count is below the limit; otherwise the value goes to the overflow series": the slot that holds it; a new one at a place, under the limit; else that of overflow, held or new
+-- "A new set is made while the map's count is below the limit; otherwise the value goes to the overflow series": the slot that holds it; a
+-- new one at a place, under the limit; else that of overflow, held or new
 unfoldable pub located : ℕ → Directory → Stores → List ℕ → Target
 located limit d s row =
     pick (agreesb limit d s)
@@ -63,6 +64,10 @@ boundTo entries x n = set entries x (getD (getD entries x []) 0 0 ∷ n ∷ getD
 abbrev pub scan : ℕ → List (List ℕ) → List ℕ → Found
 scan h entries [] = Room 0
 scan h entries (x ∷ l) = pick (eqb (birthAt entries x) h && ltb 0 (getD (getD entries x []) 1 0)) (Held x) (scan h entries l)
+
+-- "9: a count, binding count or birth number would pass 2^64 - 1"
+abbrev pub greatest : ℕ
+greatest = 18446744073709551615
 
 -- "4: cardinality limit over 62, or filter over 16 keys" (L12: 2000)
 abbrev pub mostSets : ℕ

@@ -71,7 +71,7 @@ fn counts(limit: u64, count: u64, used: usize, plain: usize) -> bool
     false
 }
 
-// Whether the directory agrees with itself.
+// Whether the directory agrees with itself: number 8 refuses every call that finds otherwise.
 pub fn agrees(
     limit: u64,
     d: crate::Directory,

@@ -50,7 +50,7 @@ fn names(birth: u64, bindings: u64, h: u64) -> bool
     false
 }
 
-// The slot that a handle names, if it has bindings.
+// The slot that a handle names, if it has bindings; else `Room`, which number 7 refuses.
 pub fn by_handle(used: usize, entries: &[[u64; 3]], order: &[u32], h: u64) -> crate::Found
     requires { ⌜ (used < length (now entries)) × (used ≤ length (now order))
         × ((k : ℕ) → k < used → (1 ≤ getD (now order) k 0) × (getD (now order) k 0 ≤ used)) ⌝ }
@@ -70,7 +70,7 @@ pub fn by_handle(used: usize, entries: &[[u64; 3]], order: &[u32], h: u64) -> cr
     crate::Found::Room(0)
 }
 
-// Where a call with a set goes.
+// Where a call with a set goes: its own slot or a new one, that of overflow held or new; or `Disagrees`, which number 8 refuses.
 pub fn locate(
     limit: u64,
     d: crate::Directory,

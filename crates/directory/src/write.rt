@@ -19,7 +19,7 @@ fn insert(order: &mut [u32], used: usize, at: usize, slot: u32)
     order[at] = slot;
 }
 
-// A new entry in the next slot.
+// Makes a new entry in the next slot, with its place in the order; the state after it. It refuses nothing: there is room.
 pub fn admit(
     d: crate::Directory,
     sets: &mut [[u64; 9]],
@@ -48,7 +48,7 @@ pub fn admit(
     }
 }
 
-// The slot's bindings become n.
+// Writes a slot's bindings. It refuses nothing: the slot is there.
 pub fn rebind(entries: &mut [[u64; 3]], x: usize, n: u64)
     requires { ⌜ x < length (now entries) ⌝ }
     ensures { λ _. ⌜ now (entries .exit) ≡ boundTo (now (entries .entry)) x n ⌝ }
@@ -58,7 +58,7 @@ pub fn rebind(entries: &mut [[u64; 3]], x: usize, n: u64)
     entries[x] = [b, n, u];
 }
 
-// The slot's birth number.
+// A slot's birth number. It refuses nothing: the slot is there.
 pub fn birth_of(entries: &[[u64; 3]], x: usize) -> u64
     requires { ⌜ x < length (now entries) ⌝ }
     ensures { λ r. ⌜ r ≡ birthAt (now (entries .entry)) x ⌝ }

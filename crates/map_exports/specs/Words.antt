@@ -3,7 +3,7 @@ use Prim.Native.Nat.{ℕ}
 use mathlib.Core.List.{List, [], _∷_}
 use lib.ListN.{getD, set}
 use denote.Ref.{RefT, now}
-use Rattle.bindings.specs.Calls.{number}
+use Rattle.laws.specs.Said.{number}
 use Rattle.directory.specs.declared.Directory.{Directory}
 use Rattle.directory.specs.View.{Stores}
 use Rattle.exponential_slots.specs.Cells.{Cells}

@@ -4,7 +4,8 @@ ghost use mathlib.Core.List.{[]};
 ghost use mathlib.Core.Option.{none};
 ghost use lib.ListN.{getD};
 ghost use Rattle.sets.specs.Sorted.{given};
-ghost use Rattle.bindings.specs.Calls.{number};
+ghost use Rattle.laws.specs.Said.{number};
+ghost use Rattle.bindings.specs.Calls.{said};
 ghost use Rattle.directory.specs.View.{stores};
 ghost use Rattle.exponential_slots.specs.Cells.{cells};
 ghost use Rattle.value_map.specs.Calls.{held, measured};
@@ -31,7 +32,7 @@ fn words_of(d: Directory) -> [u64; 3]
 
 // Document 01's number of an answer.
 fn number_of(answer: Answer) -> u64
-    ensures { λ r. ⌜ r ≡ number answer ⌝ }
+    ensures { λ r. ⌜ r ≡ number (said answer) ⌝ }
 {
     match answer {
         Answer::Refused(no) => no as u64,

@@ -7,6 +7,7 @@ use native.Mathlib.Omega.{arith}
 use lib.ListN.{replicate}
 use lib.Ieee.{isNan, lt, ofBits}
 use Rattle.laws.specs.Pick.{pick, _and_}
+use Rattle.laws.specs.Said.{number}
 use Rattle.floats.specs.Starts.{zeroFloat}
 use Rattle.points.specs.Explicit.{boundsPass, noNan, rising}
 use Rattle.tally.specs.Sets.{Set}
@@ -21,10 +22,10 @@ use Rattle.sets.specs.Inserted.{inserted}
 use Rattle.directory.specs.View.{Stores, slotsb, agreesb, sought}
 use Rattle.directory.specs.Calls.{located, admitted, boundTo}
 use Rattle.bindings.specs.Calls as Bindings
-use Rattle.bindings.specs.Calls.{number, boundIn, bound, releasedIn, released}
+use Rattle.bindings.specs.Calls.{boundIn, bound, releasedIn, released}
 use Rattle.exponential_slots.specs.Cells as E
 use Rattle.explicit_slots.specs.Cells as X
-use Rattle.value_map.specs.Calls.{unlessRefused, started}
+use Rattle.value_map.specs.Calls.{begun, started}
 use Rattle.value_map.specs.Maps.{configOf, mapOf}
 use Rattle.value_map.specs.Exponential.{unset, lengthsSuffice, exponentialStore}
 use Rattle.value_map.specs.Explicit.{explicitStore}
@@ -40,7 +41,7 @@ exponentialCells = record { figures = replicate 3 (replicate 8 0); extremes = re
 
 -- max_size 3, max_scale 10
 exponential : number (started (exponentialStore 3 20) 1 none stores exponentialCells .answer) ≡ 0
-unfolding started unlessRefused Bindings.started unset lengthsSuffice pick
+unfolding started begun Bindings.started unset lengthsSuffice pick
 exponential = refl
 
 runs : Tells histograms (configOf (exponentialStore 3 20) (true, true) 1 none) (run (exponentialStore 3 20) 1 none stores exponentialCells) (mapOf (exponentialStore 3 20) (true, true))
@@ -51,7 +52,7 @@ abbrev explicitCells : X.Cells
 explicitCells = record { totals = replicate 3 0; extremes = replicate 3 (replicate 3 zeroFloat); counts = replicate 6 0 }
 
 explicit : number (started (explicitStore (zeroFloat ∷ [])) 1 none stores explicitCells .answer) ≡ 0
-unfolding started unlessRefused Bindings.started boundsPass noNan rising _and_ isNan lt ofBits pick
+unfolding started begun Bindings.started boundsPass noNan rising _and_ isNan lt ofBits pick
 explicit = refl
 
 -- a set bound, released, and released again
@@ -62,5 +63,5 @@ small : Small A
 small = ((omega arith, omega arith), tt)
 
 answers : ran histograms (run (exponentialStore 3 20) 1 none stores exponentialCells) (binding A small ∷ releasing 1 ∷ releasing 1 ∷ []) ≡ handle 1 ∷ done ∷ refuse 7 ∷ []
-unfolding started unlessRefused Bindings.started unset lengthsSuffice pick bound boundIn located agreesb slotsb allb sought admitted boundTo released releasedIn setOf rowOf soundb inserted
+unfolding started begun Bindings.started unset lengthsSuffice pick bound boundIn located agreesb slotsb allb sought admitted boundTo released releasedIn setOf rowOf soundb inserted
 answers = refl

@@ -8,6 +8,7 @@ use mathlib.Core.Option.{Option}
 use native.Mathlib.Omega.{arith}
 use borrow.Author.Tests.{eqb-true, eqb-false}
 use lib.Dec.{eqb}
+use Rattle.laws.specs.Said.{number}
 use Rattle.tally.specs.Kind.{Kind}
 use Rattle.tally.specs.Map.{Config, step}
 use Rattle.tally.specs.Demand.{Faithful}
@@ -18,7 +19,7 @@ use Rattle.directory.specs.View.{Stores}
 use Rattle.directory.specs.Calls.{storesSuffice, accepts}
 use Rattle.directory.proofs.Refusals.{within}
 use Rattle.bindings.specs.Calls as Bindings
-use Rattle.bindings.specs.Calls.{fresh, number}
+use Rattle.bindings.specs.Calls.{fresh}
 use Rattle.bindings.proofs.Keeps.{bind-steps, release-steps, start-map}
 use Rattle.bindings.proofs.Refusals as Refusals
 use Rattle.bindings.proofs.Runs as moves
@@ -73,7 +74,7 @@ module _ {K : Kind} (S : Store K) (limit : ℕ) (filter : Option (List ℕ)) (s 
       go : (u : Bool) → eqb (S .unset) 0 ≡ u → (a : Bool) → accepts limit filter ≡ a → (l : Bool) → S .suffices limit x ≡ l → (n : Bool) → storesSuffice limit s ≡ n → Begun
       go false p a q l r n t =
           let d = eqb-false (S .unset) 0 p in
-          absurd (none-refused (S .unset) d (held fresh s x) (start-unset S limit filter s x (S .unset) refl d))
+          absurd (none-refused (S .unset) d (held fresh s x) (start-unset S limit filter s x d))
       go true p false q l r n t = absurd (none-refused 4 (λ e. omega (arith, e)) (held fresh s x) (start-4 S limit filter s x (eqb-true (S .unset) 0 p) q))
       go true p true q false r n t = absurd (none-refused 12 (λ e. omega (arith, e)) (held fresh s x) (start-12 S limit filter s x (eqb-true (S .unset) 0 p) q r))
       go true p true q true r false t =

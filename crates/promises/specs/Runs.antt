@@ -4,6 +4,7 @@ use Prim.Native.Nat.{ℕ}
 use mathlib.Core.Path.{_≡_}
 use mathlib.Core.List.{List}
 use mathlib.Core.Option.{Option}
+use Rattle.laws.specs.Said.{number}
 use Rattle.tally.specs.Sets.{Set}
 use Rattle.tally.specs.Kind.{Kind}
 use Rattle.tally.specs.Map.{Call, measure, measureBy, bind, release}
@@ -12,7 +13,7 @@ use Rattle.tally.specs.Runs.{Tells}
 use Rattle.sets.specs.Sorted.{Small}
 use Rattle.directory.specs.View.{Stores}
 use Rattle.bindings.specs.Calls as Bindings
-use Rattle.bindings.specs.Calls.{number, said}
+use Rattle.bindings.specs.Calls.{mapAnswer}
 use Rattle.value_map.specs.Store.{Store}
 use Rattle.value_map.specs.Calls.{Held, Outcome, measured, measuredBy, started}
 use Rattle.value_map.specs.Maps.{mapOf, configOf}
@@ -51,7 +52,7 @@ module _ {K : Kind} (S : Store K) (limit : ℕ) (filter : Option (List ℕ)) whe
         State = Held (S .Cells);
         Input = Asked K;
         asks = asks K;
-        call = λ h y. (said K (ended h y .answer), ended h y .held);
+        call = λ h y. (mapAnswer K (ended h y .answer), ended h y .held);
         first = started S limit filter s x .held;
       }
 

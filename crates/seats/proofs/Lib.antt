@@ -1,4 +1,5 @@
 -- The laws of `seats`.
+pub mod Bars
 pub mod Seatings
 pub mod Commits
 pub mod Marked

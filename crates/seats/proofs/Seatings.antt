@@ -46,6 +46,10 @@ module _ (d : Directory) (t : Target) where
 abbrev pub Safe : ℕ → Directory → Stores → Seating → Type 0
 Safe limit d s a = a .no ≡ 0 → (a .slot ≤ limit + 1) × Fits d s (a .target)
 
+-- the number of one that is refused comes with 8 or after it: 8, 9 by set and 8, 7 by handle
+abbrev pub Late : Seating → Type 0
+Late a = (a .no ≡ 0 → ⊥) → (7 ≤ a .no) × (a .no ≤ 9)
+
 -- by set
 module _ (limit : ℕ) (d : Directory) (s : Stores) (row : List ℕ) where
   pub seat-is : (t : Target) → located limit d s row ≡ t → seated limit d s row ≡ seatAt d s t
@@ -85,6 +89,16 @@ module _ (limit : ℕ) (d : Directory) (s : Stores) (row : List ℕ) where
     unfolding seated
     seat-safe = safe (located limit d s row) refl
 
+  pub seat-late : Late (seated limit d s row)
+  unfolding seated
+  seat-late = go (located limit d s row)
+    where
+      go : (t : Target) → Late (seatAt d s t)
+      go Disagrees = λ n. (omega arith, omega arith)
+      go (Old x) = λ n. absurd (n refl)
+      go (New r) = new-either d (New r) Late (λ h n. (omega arith, omega arith)) (λ h n. absurd (n refl))
+      go (Over r) = new-either d (Over r) Late (λ h n. (omega arith, omega arith)) (λ h n. absurd (n refl))
+
 -- by handle
 module _ (limit : ℕ) (d : Directory) (s : Stores) (h : ℕ) where
   pub by-no : agreesb limit d s ≡ false → seatedBy limit d s h ≡ away 8
@@ -95,6 +109,15 @@ module _ (limit : ℕ) (d : Directory) (s : Stores) (h : ℕ) where
   unfolding seatedBy pick
   by-is g o e = rw (g, e)
 
+  -- what holds of each case holds of the seating
+  pub by-either : (P : Seating → Type 0) → (agreesb limit d s ≡ false → P (away 8))
+      → (agreesb limit d s ≡ true → (o : Found) → scan h (s .entries) (slotsOf d s) ≡ o → P (seatBy s o)) → P (seatedBy limit d s h)
+  by-either P away-is found-is = go (agreesb limit d s) refl
+    where
+      go : (b : Bool) → agreesb limit d s ≡ b → P (seatedBy limit d s h)
+      go false g = subst P (sym (by-no g)) (away-is g)
+      go true g = subst P (sym (by-is g (scan h (s .entries) (slotsOf d s)) refl)) (found-is g (scan h (s .entries) (slotsOf d s)) refl)
+
   module _ (le : limit + 2 ≤ length (s .entries)) where
     pub by-there : agreesb limit d s ≡ true → (x : ℕ) → scan h (s .entries) (slotsOf d s) ≡ Held x → (x ≤ limit + 1) × (x < length (s .entries))
     by-there g x e =
@@ -102,15 +125,18 @@ module _ (limit : ℕ) (d : Directory) (s : Stores) (h : ℕ) where
         (omega (arith, few limit d s g), omega (arith, few limit d s g))
 
     pub by-safe : Safe limit d s (seatedBy limit d s h)
-    by-safe = agreed (agreesb limit d s) refl
+    by-safe = by-either (Safe limit d s) (λ g n. absurd (omega arith)) found
       where
         found : agreesb limit d s ≡ true → (o : Found) → scan h (s .entries) (slotsOf d s) ≡ o → Safe limit d s (seatBy s o)
         found g (Room r) e = λ n. absurd (omega arith)
         found g (Held x) e = λ n. by-there g x e
 
-        agreed : (b : Bool) → agreesb limit d s ≡ b → Safe limit d s (seatedBy limit d s h)
-        agreed false g = subst (Safe limit d s) (sym (by-no g)) (λ n. absurd (omega arith))
-        agreed true g = subst (Safe limit d s) (sym (by-is g (scan h (s .entries) (slotsOf d s)) refl)) (found g (scan h (s .entries) (slotsOf d s)) refl)
+  pub by-late : Late (seatedBy limit d s h)
+  by-late = by-either Late (λ g n. (omega arith, omega arith)) (λ g o e. found o)
+    where
+      found : (o : Found) → Late (seatBy s o)
+      found (Room r) = λ n. (omega arith, omega arith)
+      found (Held x) = λ n. absurd (n refl)
 
   -- where the directory agrees, one that is refused is so with 7
   pub by-seven : agreesb limit d s ≡ true → (seatedBy limit d s h .no ≡ 0 → ⊥) → seatedBy limit d s h .no ≡ 7

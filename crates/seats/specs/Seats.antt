@@ -6,8 +6,9 @@ use lib.Dec.{eqb, leb}
 use lib.ListN.{length, getD, set}
 use Rattle.laws.specs.Pick.{pick}
 use Rattle.sets.specs.Rows.{span}
+use Rattle.sets.specs.Sorted.{mostAttributes}
 use Rattle.directory.specs.View.{Stores, agreesb}
-use Rattle.directory.specs.Calls.{Kept, overRow, located, scan, admitted}
+use Rattle.directory.specs.Calls.{Kept, greatest, overRow, located, scan, admitted}
 use Rattle.directory.specs.declared.Directory.{Directory}
 use Rattle.directory.specs.declared.Found.{Found}
 use Rattle.directory.specs.declared.Found.the-variants.{Held, Room}
@@ -29,7 +30,7 @@ heldSeat entries x = record { no = 0; slot = x; updated = updatedIn entries x; t
 -- "9: a .. birth number would pass 2^64 - 1"; a new slot is the next one, and holds no series
 unfoldable pub newSeat : Directory → Target → Seating
 newSeat d t =
-    pick (leb 18446744073709551615 (d .last)) (away 9) (record { no = 0; slot = d .used + 1; updated = false; target = t })
+    pick (leb greatest (d .last)) (away 9) (record { no = 0; slot = d .used + 1; updated = false; target = t })
 
 abbrev pub seatAt : Directory → Stores → Target → Seating
 seatAt d s Disagrees = away 8
@@ -50,6 +51,15 @@ seatBy s (Held x) = heldSeat (s .entries) x
 unfoldable pub seatedBy : ℕ → Directory → Stores → ℕ → Seating
 seatedBy limit d s h =
     pick (agreesb limit d s) (seatBy s (scan h (s .entries) (0 ∷ span (s .order) 0 (d .used)))) (away 8)
+
+-- "Recording: 12, 6, 5, 8": of stores that suffice or not, a value that is finite or not, a number of attributes, a configuration that was
+-- accepted or not
+unfoldable pub barredBy : Bool → Bool → ℕ → Bool → ℕ
+barredBy room fin n ok = pick room (pick fin (pick (leb n mostAttributes) (pick ok 0 8) 5) 6) 12
+
+-- the seating, unless a number bars the call before it
+unfoldable pub unlessBarred : ℕ → Seating → Seating
+unlessBarred n a = pick (eqb n 0) a (away n)
 
 -- the slot is marked updated: its third word is 1, birth number and bindings are as they were
 unfoldable pub marked : List (List ℕ) → ℕ → List (List ℕ)

@@ -1,12 +1,19 @@
 // The directory's part of a recording, the same for every kind of series: the slot that it goes to, decided by reading alone, and what the
 // directory writes once the series took the value. `measure` of `ValueMap`, and a bound handle's, of internal/mod.rs.
+mod first;
+
 ghost use mathlib.Core.Path.{_≡_};
+ghost use mathlib.Core.Bool.{_&&_};
 ghost use Prim.Native.Nat.{_+_, _<_, _≤_};
+ghost use lib.Dec.{leb, eqb};
 ghost use lib.ListN.{length};
-ghost use Rattle.sets.specs.Rows.{size};
-ghost use Rattle.seats.specs.Seats.{updatedIn, away, heldSeat, newSeat, seated, seatedBy, marked, Fits, committed};
+ghost use Rattle.tally.specs.Sets.{canonical};
+ghost use Rattle.sets.specs.Rows.{size, rowOf};
+ghost use Rattle.sets.specs.Sorted.{given, filterOf};
+ghost use Rattle.seats.specs.Seats.{updatedIn, away, heldSeat, newSeat, seated, seatedBy};
+ghost use Rattle.seats.specs.Seats.{barredBy, unlessBarred, marked, Fits, committed};
 ghost use Rattle.directory.specs.View.{stores};
-ghost use Rattle.directory.specs.Calls.{kept};
+ghost use Rattle.directory.specs.Calls.{kept, mostSets, accepts, storesSuffice};
 
 // Where a recording goes. no: document 01's number of the refusal, 0 if none; slot: the slot that it goes to; updated: whether that slot
 // holds a series; target: what the directory is to write.
@@ -59,7 +66,7 @@ fn new_seat(d: directory::Directory, target: directory::Target) -> Seating
     requires { ⌜ d .used + 1 < 18446744073709551616 ⌝ }
     ensures { λ r. ⌜ r ≡ newSeat d target ⌝ }
 {
-    if d.last >= 18446744073709551615 {
+    if d.last >= directory::GREATEST {
         return refused(9);
     }
     Seating {
@@ -70,8 +77,8 @@ fn new_seat(d: directory::Directory, target: directory::Target) -> Seating
     }
 }
 
-// Where a recording with a set goes.
-pub fn seat(
+// Where a recording with a set goes, in stores that suffice.
+fn seat_in(
     limit: u64,
     d: directory::Directory,
     sets: &[[u64; 9]],
@@ -91,8 +98,8 @@ pub fn seat(
     }
 }
 
-// Where a recording by a handle goes.
-pub fn seat_by(
+// Where a recording by a handle goes, in stores that suffice.
+fn seat_by_in(
     limit: u64,
     d: directory::Directory,
     sets: &[[u64; 9]],
@@ -113,6 +120,62 @@ pub fn seat_by(
     }
 }
 
+// Where a recording with attributes goes, and their set's row; or the number that refuses it: 12, 6, 5, 8, 9. Of the kind: whether its
+// cells suffice, whether it takes the value, and the number with which configuring refuses its settings, 0 if none.
+pub fn seat(
+    cells: bool,
+    value: bool,
+    unset: u8,
+    limit: u64,
+    d: directory::Directory,
+    sets: &[[u64; 9]],
+    entries: &[[u64; 3]],
+    order: &[u32],
+    attrs: &[[u32; 2]],
+    present: bool,
+    filter: &[u32],
+    row: &mut [u64; 9],
+) -> Seating
+    ensures { λ r. ⌜ r ≡ unlessBarred (barredBy (storesSuffice limit (stores (sets .entry) (entries .entry) (order .entry)) && cells) value
+        (length (given (now (attrs .entry)))) (eqb unset 0 && accepts limit (filterOf present (now (filter .entry)))))
+        (seated limit d (stores (sets .entry) (entries .entry) (order .entry))
+        (rowOf (canonical (filterOf present (now (filter .entry))) (given (now (attrs .entry)))))) ⌝ }
+    ensures { λ r. ⌜ (r .no ≡ 0 → now (row .exit) ≡ rowOf (canonical (filterOf present (now (filter .entry))) (given (now (attrs .entry))))) ⌝ }
+{
+    let lent = directory::stores_suffice(limit, sets.len(), entries.len(), order.len());
+    let ok = directory::accepted(limit, present, filter);
+    let no = first::barred(lent, cells, value, attrs.len(), unset, ok);
+    if no != 0 {
+        return refused(no);
+    }
+    sets::canon::sort_into(attrs, present, filter, row);
+    seat_in(limit, d, sets, entries, order, row)
+}
+
+// Where a recording by a handle goes; or the number that refuses it: 12, 6, 8, 7. The kind's answers are those of `seat`.
+pub fn seat_by(
+    cells: bool,
+    value: bool,
+    unset: u8,
+    limit: u64,
+    d: directory::Directory,
+    sets: &[[u64; 9]],
+    entries: &[[u64; 3]],
+    order: &[u32],
+    h: u64,
+) -> Seating
+    ensures { λ r. ⌜ r ≡ unlessBarred (barredBy (storesSuffice limit (stores (sets .entry) (entries .entry) (order .entry)) && cells) value
+        0 (eqb unset 0 && leb limit mostSets))
+        (seatedBy limit d (stores (sets .entry) (entries .entry) (order .entry)) h) ⌝ }
+{
+    let lent = directory::stores_suffice(limit, sets.len(), entries.len(), order.len());
+    let no = first::barred(lent, cells, value, 0, unset, limit <= directory::MOST_SETS);
+    if no != 0 {
+        return refused(no);
+    }
+    seat_by_in(limit, d, sets, entries, order, h)
+}
+
 // Marks a slot updated.
 fn mark(entries: &mut [[u64; 3]], x: usize)
     requires { ⌜ x < length (now entries) ⌝ }
@@ -129,12 +192,12 @@ pub fn commit(
     sets: &mut [[u64; 9]],
     entries: &mut [[u64; 3]],
     order: &mut [u32],
-    row: [u64; 9],
+    row: &[u64; 9],
     target: directory::Target,
 ) -> directory::Directory
     requires { ⌜ Fits d (stores sets entries order) target ⌝ }
     ensures { λ r. ⌜ kept r (stores (sets .exit) (entries .exit) (order .exit))
-        ≡ committed d (stores (sets .entry) (entries .entry) (order .entry)) row target ⌝ }
+        ≡ committed d (stores (sets .entry) (entries .entry) (order .entry)) (now (row .entry)) target ⌝ }
 {
     match target {
         directory::Target::Disagrees => d,
@@ -143,7 +206,7 @@ pub fn commit(
             d
         }
         directory::Target::New(r) => {
-            let e = directory::write::admit(d, sets, entries, order, row, r, 1, 0);
+            let e = directory::write::admit(d, sets, entries, order, *row, r, 1, 0);
             let x = e.used;
             mark(entries, x);
             e

@@ -22,7 +22,7 @@ fn parting(a: &[u64; 9], b: &[u64; 9]) -> usize
     8
 }
 
-// How two sets lie.
+// Whether the first set comes before the second, after it, or is the same: by key, value, then the shorter first.
 pub fn compare(a: &[u64; 9], b: &[u64; 9]) -> crate::Way
     requires { ⌜ (size (now a) ≤ 8) × (size (now b) ≤ 8) ⌝ }
     ensures { λ r. ⌜ r ≡ way (cmp (setOf (now (a .entry))) (setOf (now (b .entry)))) ⌝ }
@@ -114,7 +114,7 @@ pub fn follows(i: usize, a: &[u64; 9], b: &[u64; 9]) -> bool
     after(a, b)
 }
 
-// 0 for the overflow set, else 1.
+// How much a set adds to those other than overflow: 0 for the overflow set, else 1.
 pub fn plain_row(row: &[u64; 9]) -> usize
     requires { ⌜ 1 ≤ size (now row) ⌝ }
     ensures { λ r. ⌜ r ≡ bit (plain (setOf (now (row .entry)))) ⌝ }

@@ -17,7 +17,7 @@ use Rattle.seats.proofs.Seatings.{seat-no, by-no}
 use Rattle.value_map.specs.Store.{Store}
 use Rattle.value_map.specs.Calls.{Held, refused, passes, lent, called, measured, measuredBy}
 use Rattle.value_map.proofs.Owed.{Owed}
-use Rattle.value_map.proofs.Bars.{bar-8, bar-0}
+use Rattle.seats.proofs.Bars.{bar-8, bar-0}
 use Rattle.value_map.proofs.Cases.{entered-away, called-barred, called-on, set-is, by-is}
 
 module _ {K : Kind} {S : Store K} (W : Owed S) (limit : ℕ) (h : Held (S .Cells)) (v : K .Value)
@@ -29,7 +29,7 @@ module _ {K : Kind} {S : Store K} (W : Owed S) (limit : ℕ) (h : Held (S .Cells
       go : (b : Bool) → (passes S && ok) ≡ b → refused 8 h ≡ called S limit h v n ok row (away 8)
       go false q = called-barred S limit h v n ok row (away 8) 8 (sym (bar-8 (lent S limit h) (K .finite v) n (passes S && ok) l f few q)) (λ z. omega (arith, z))
       go true q =
-          entered-away W h v row (away 8) (λ z. omega (arith, z))
+          entered-away S h v row (away 8) (λ z. omega (arith, z))
           ∙ called-on S limit h v n ok row (away 8) 0 (sym (bar-0 (lent S limit h) (K .finite v) n (passes S && ok) l f few q)) refl
 
   pub set-damaged : (filter : Option (List ℕ)) (attrs : Set) → length attrs ≤ 8 → measured S limit filter h v attrs ≡ refused 8 h

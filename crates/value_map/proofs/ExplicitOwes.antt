@@ -1,12 +1,12 @@
 -- The explicit kind pays what it owes, by the laws of `explicit_slots`. Assumes nothing.
 use Prim.Native.Nat.{ℕ, _+_, _*_, _≤_}
 use mathlib.Core.Path.{_≡_, refl, ap, _∙_}
-use mathlib.Core.Bool.{Bool, true, false, _&&_}
+use mathlib.Core.Bool.{Bool, true, false}
 use mathlib.Core.List.{List}
 use native.Mathlib.Omega.{arith}
 use lib.Dec.{leb, eqb}
 use lib.ListN.{length}
-use lib.Ieee.{Float, binary64, fits}
+use lib.Ieee.{Float}
 use lib.Ieee.Scale.{finite}
 use borrow.Author.Tests.{leb-true}
 use Rattle.laws.specs.Pick.{pick}
@@ -20,6 +20,7 @@ use Rattle.value_map.specs.Store.{Recording}
 use Rattle.value_map.specs.Calls.{passes}
 use Rattle.value_map.specs.Explicit.{lengthsSuffice, cellsSuffice, explicitStore}
 use Rattle.value_map.proofs.Owed.{Owed}
+use Rattle.value_map.proofs.Values.{finite-is}
 
 -- the bounds are all that configuring asks of the settings
 either : (b : Bool) → b ≡ eqb (pick b 0 3) 0
@@ -44,9 +45,6 @@ room bounds limit c x e h =
       extremes = omega (arith, h, leb-true (limit + 2) (length (c .extremes)) (b .0));
       counts = within x (limit + 2) n (length (c .counts)) (omega (arith, h)) (leb-true ((limit + 2) * n) (length (c .counts)) (b .1));
     }
-
-finite-is : (v : Float) → (finite v && fits binary64 v) ≡ true → finite v ≡ true
-finite-is v e = and-true (finite v) (fits binary64 v) e .0
 
 pub owed : (bounds : List Float) → Owed (explicitStore bounds)
 owed bounds =

@@ -23,16 +23,17 @@ use Rattle.value_map.proofs.Owed.{Fit, Owed}
 
 -- ---- max_size and the greatest level
 
-pub small-size : (size : ℕ) → size < 3 → false ≡ sizePasses size
-small-size size h = rw (lt-leb 3 size h)
-
-pub by-most : (size : ℕ) → 3 ≤ size → leb size 160 ≡ sizePasses size
-by-most size h = rw (le-leb 3 size h)
+pub size-in : (size : ℕ) → 3 ≤ size → size ≤ 160 → sizePasses size ≡ true
+size-in size a b = rw (le-leb 3 size a, le-leb size 160 b)
 
 module _ (size top : ℕ) where
-  pub unset-1 : sizePasses size ≡ false → 1 ≡ unset size top
+  pub unset-low : size < 3 → 1 ≡ unset size top
   unfolding unset pick
-  unset-1 e = rw e
+  unset-low h = rw (lt-leb 3 size h)
+
+  pub unset-high : 3 ≤ size → 160 < size → 1 ≡ unset size top
+  unfolding unset pick
+  unset-high a h = rw (le-leb 3 size a, lt-leb size 160 h)
 
   module _ (e : sizePasses size ≡ true) where
     pub unset-2 : finest < top → 2 ≡ unset size top
@@ -52,25 +53,6 @@ module _ (size top : ℕ) where
       rw (p, q)
 
 -- ---- number 12
-
-module _ (size limit figures extremes pos neg : ℕ) where
-  pub few-figures : leb (limit + 2) figures ≡ false → false ≡ lengthsSuffice size limit figures extremes pos neg
-  unfolding lengthsSuffice
-  few-figures e = rw e
-
-  module _ (a : leb (limit + 2) figures ≡ true) where
-    pub few-extremes : leb (limit + 2) extremes ≡ false → false ≡ lengthsSuffice size limit figures extremes pos neg
-    unfolding lengthsSuffice
-    few-extremes e = rw (a, e)
-
-    module _ (b : leb (limit + 2) extremes ≡ true) where
-      pub few-pos : leb ((limit + 2) * size) pos ≡ false → false ≡ lengthsSuffice size limit figures extremes pos neg
-      unfolding lengthsSuffice
-      few-pos e = rw (a, b, e)
-
-      pub by-neg : leb ((limit + 2) * size) pos ≡ true → leb ((limit + 2) * size) neg ≡ lengthsSuffice size limit figures extremes pos neg
-      unfolding lengthsSuffice
-      by-neg e = rw (a, b, e)
 
 -- each of limit + 2 slots lies in stores that suffice
 room : (size limit : ℕ) (c : Cells) (x : ℕ) → cellsSuffice size limit c ≡ true → x ≤ limit + 1 → Room size c x

@@ -5,8 +5,9 @@ use mathlib.Core.Path.{_≡_, refl, _∙_}
 use mathlib.Core.Logic.{_⊎_}
 use mathlib.Core.Bool.{true}
 use mathlib.Core.List.{List}
-use mathlib.Core.Option.{Option}
+use mathlib.Core.Option.{Option, none}
 use lib.ListN.{replicate}
+use Rattle.laws.specs.Said.{success}
 use Rattle.laws.proofs.Cases.{and-true}
 use Rattle.tally.specs.Kind.{Kind}
 use Rattle.tally.specs.Sets.{Set, canonical}
@@ -17,14 +18,12 @@ use Rattle.directory.specs.View.{setAt, sought}
 use Rattle.directory.specs.declared.Found.the-variants as Found
 use Rattle.directory.specs.Calls.{Kept, storesSuffice}
 use Rattle.directory.proofs.Leaves.{Good, Leaves, same-leaves}
-use Rattle.bindings.specs.declared.Answer.the-variants.{Done}
 use Rattle.seats.proofs.Keeps.{seat-good, by-good, seat-stays, by-stays}
 use Rattle.seats.proofs.Owns.{seat-owns}
 use Rattle.value_map.specs.Store.{Store}
 use Rattle.value_map.specs.Calls.{Held, measured, measuredBy}
 use Rattle.value_map.proofs.Owed.{Owed}
-use Rattle.value_map.proofs.Bars.{refused-not-done}
-use Rattle.value_map.proofs.Cases.{lent-dir, lent-cells}
+use Rattle.value_map.proofs.Cases.{refusal-no-success, lent-dir, lent-cells}
 use Rattle.value_map.proofs.Steps.{Fair, rowIn, seatOf, seatBy, set-either, handle-either}
 
 module _ {K : Kind} {S : Store K} (W : Owed S) (w : S .Switches) (limit : ℕ) (filter : Option (List ℕ)) (h : Held (S .Cells)) (g : Fair S limit filter h) where
@@ -63,10 +62,10 @@ module _ {K : Kind} {S : Store K} (W : Owed S) (w : S .Switches) (limit : ℕ) (
     -- limit (under demand 3's premise, over a run: `Tells`' own, in tally/specs/Runs.antt)
     pub measure-owns : (attrs : Set) → Small attrs
         → ((x : ℕ) × (sought (setOf (rowIn filter attrs)) (h .kept .dir .used) (h .kept .stores .sets) (h .kept .stores .order) ≡ Found.Held x)) ⊎ (h .kept .dir .used < limit)
-        → measured S limit filter h v attrs .answer ≡ Done
+        → measured S limit filter h v attrs .answer ≡ success none
         → setAt (measured S limit filter h v attrs .held .kept .stores .sets) (seatOf limit filter h attrs .slot) ≡ canonical filter attrs
     measure-owns attrs small own =
-        set-either W w limit filter h g v attrs (λ o. o .answer ≡ Done → setAt (o .held .kept .stores .sets) (seatOf limit filter h attrs .slot) ≡ canonical filter attrs) (λ n q. refused-not-done n q)
+        set-either W w limit filter h g v attrs (λ o. o .answer ≡ success none → setAt (o .held .kept .stores .sets) (seatOf limit filter h attrs .slot) ≡ canonical filter attrs) (λ n q. refusal-no-success n none q)
         (λ few n t q. seat-owns limit (h .kept .dir) (h .kept .stores) (g .agrees) (lent-dir W limit h (g .lent-is) .sets) (rowIn filter attrs) own n ∙ row-set filter attrs small few)
 
     -- STAY. A used slot keeps its set and its birth number, and a new slot's number was not spent before

@@ -1,7 +1,9 @@
 -- The laws of `value_map`.
-pub mod Bars
+pub mod Products
+pub mod Values
 pub mod Owed
 pub mod Cases
+pub mod Ways
 pub mod Late
 pub mod Steps
 pub mod Kept

@@ -10,6 +10,7 @@ use native.Mathlib.Omega.{arith}
 use lib.Dec.{eqb, leb}
 use lib.ListN.{length, replicate}
 use borrow.Author.Tests.{eqb-true, eqb-false, eq-eqb, leb-true, leb-false}
+use Rattle.laws.specs.Said.{success}
 use Rattle.laws.proofs.Bools.{flag}
 use Rattle.laws.proofs.Cases.{and-true, true-not-false}
 use Rattle.tally.specs.Kind.{Kind}
@@ -21,17 +22,16 @@ use Rattle.sets.specs.Sorted.{Small}
 use Rattle.sets.proofs.CallRow.{row-set}
 use Rattle.directory.specs.View.{agreesb, view}
 use Rattle.directory.specs.Calls.{Kept, mostSets, fewKeys, accepts}
-use Rattle.bindings.specs.declared.Answer.the-variants.{Done}
 use Rattle.seats.specs.declared.Seating.{Seating}
 use Rattle.seats.specs.Seats.{seated, seatedBy, committed}
 use Rattle.seats.specs.Recording.{heldAt, orFresh, refusal, Others}
 use Rattle.seats.proofs.Faithful.{measure-away, measure-refused, measure-done, by-away, by-refused, by-done}
 use Rattle.value_map.specs.Store.{Store, Recording}
-use Rattle.value_map.specs.Calls.{Held, Outcome, refused, passes, lent, entered, Seatable, called, measured, measuredBy}
+use Rattle.value_map.specs.Calls.{Held, Outcome, refused, passes, lent, entered, called, measured, measuredBy}
 use Rattle.value_map.specs.Maps.{mapOf, told, configOf}
 use Rattle.value_map.proofs.Owed.{Fit, refusing, Took, Owed}
-use Rattle.value_map.proofs.Bars.{bar-6, bar-5, bar-0}
-use Rattle.value_map.proofs.Cases.{lent-dir, set-seatable, by-seatable, entered-away, entered-refused, entered-done, called-barred, called-on}
+use Rattle.seats.proofs.Bars.{bar-6, bar-5, bar-0}
+use Rattle.value_map.proofs.Cases.{Seatable, lent-dir, set-seatable, by-seatable, entered-away, entered-refused, entered-done, called-barred, called-on}
 
 -- a state that agrees
 pub record Fair {K : Kind} (S : Store K) (limit : ℕ) (filter : Option (List ℕ)) (h : Held (S .Cells)) : Type 0 where
@@ -61,7 +61,7 @@ module _ {K : Kind} (S : Store K) (w : S .Switches) where
   abbrev pub taken : Held (S .Cells) → K .Value → List ℕ → Seating → Outcome (S .Cells)
   taken h v row a =
       record {
-        answer = Done;
+        answer = success none;
         held = record {
           kept = committed (h .kept .dir) (h .kept .stores) row (a .target);
           cells = S .recorded (a .slot) (a .updated) (h .cells) v .cells;
@@ -115,7 +115,7 @@ module _ {K : Kind} {S : Store K} (W : Owed S) (w : S .Switches) where
       entered-cases =
           ⊎-elim
           (λ (n : eqb (a .no) 0 ≡ true). at-sound (eqb-true (a .no) 0 n) (sound K z (heldAt K f a)) refl)
-          (λ (n : eqb (a .no) 0 ≡ false). let k = eqb-false (a .no) 0 n in subst P (entered-away W h v row a k) (away k))
+          (λ (n : eqb (a .no) 0 ≡ false). let k = eqb-false (a .no) 0 n in subst P (entered-away S h v row a k) (away k))
           (flag (eqb (a .no) 0))
 
     -- x is what the map does there

@@ -1,35 +1,35 @@
 -- What the map's calls make of it: answer, state and every lent store, for any kind's store. Assumes nothing.
 use Prim.Native.Nat.{ℕ}
 use mathlib.Core.Path.{_≡_}
-use mathlib.Core.Bool.{Bool, _&&_}
+use mathlib.Core.Bool.{Bool, true, _&&_}
 use mathlib.Core.List.{List}
-use mathlib.Core.Option.{Option}
+use mathlib.Core.Option.{Option, none}
 use lib.Dec.{leb, eqb}
 use lib.ListN.{length, replicate}
 use Rattle.laws.specs.Pick.{pick}
+use Rattle.laws.specs.Said.{Said, refusal, success}
 use Rattle.tally.specs.Sets.{Set, canonical}
 use Rattle.tally.specs.Kind.{Kind}
 use Rattle.sets.specs.Rows.{rowOf}
-use Rattle.sets.specs.Sorted.{mostAttributes}
 use Rattle.directory.specs.View.{Stores}
 use Rattle.directory.specs.Calls.{Kept, kept, mostSets, accepts, storesSuffice}
 use Rattle.directory.specs.declared.Directory.{Directory}
+use Rattle.directory.specs.declared.Target.{Target}
 use Rattle.bindings.specs.Calls as Bindings
-use Rattle.bindings.specs.Calls.{fresh}
-use Rattle.bindings.specs.declared.Answer.{Answer}
-use Rattle.bindings.specs.declared.Answer.the-variants.{Refused, Done}
+use Rattle.bindings.specs.Calls.{said, fresh}
 use Rattle.bindings.specs.declared.Reply.{Reply}
 use Rattle.seats.specs.declared.Seating.{Seating}
-use Rattle.seats.specs.Seats.{seated, seatedBy, committed, Fits}
-use Rattle.value_map.specs.Store.{Store}
+use Rattle.seats.specs.Seats.{seated, seatedBy, barredBy, unlessBarred, committed}
+use Rattle.value_map.specs.Store.{Store, Recording}
 
 -- the map as it is lent: the directory with its stores, and the series' stores
 pub record Held (Cells : Type 0) : Type 0 where
   pub kept : Kept
   pub cells : Cells
 
+-- what a call says, with the map after it
 pub record Outcome (Cells : Type 0) : Type 0 where
-  pub answer : Answer
+  pub answer : Said (Option ℕ)
   pub held : Held Cells
 
 -- as a contract writes them: the map that a call is given, and what it replied with the stores that it left
@@ -37,20 +37,30 @@ abbrev pub held : {Cells : Type 0} → Directory → Stores → Cells → Held C
 held d s c = record { kept = kept d s; cells = c }
 
 abbrev pub gave : {Cells : Type 0} → Reply → Stores → Cells → Outcome Cells
-gave r s c = record { answer = r .answer; held = held (r .dir) s c }
+gave r s c = record { answer = said (r .answer); held = held (r .dir) s c }
 
 -- "Every refusal changes nothing."
 abbrev pub refused : {Cells : Type 0} → ℕ → Held Cells → Outcome Cells
-refused n h = record { answer = Refused n; held = h }
+refused n h = record { answer = refusal n; held = h }
 
 -- what is done unless the number refuses it
 unfoldable pub unlessRefused : {Cells : Type 0} → Held Cells → ℕ → Outcome Cells → Outcome Cells
 unlessRefused h n o = pick (eqb n 0) o (refused n h)
 
--- "Recording: 12, 6, 5, 8": of stores that suffice or not, a value that is finite or not, a number of attributes, a configuration that was
--- accepted or not
-unfoldable pub barredBy : Bool → Bool → ℕ → Bool → ℕ
-barredBy room fin n ok = pick room (pick fin (pick (leb n mostAttributes) (pick ok 0 8) 5) 6) 12
+-- the end of a recording: refused with a number, or written to the directory
+unfoldable pub finished : ℕ → Directory → Stores → List ℕ → Target → Bindings.Outcome
+finished n d s row t = pick (eqb n 0) (record { answer = success none; kept = committed d s row t }) (Bindings.refused n d s)
+
+-- Configuring: "1, 2, 3, 4, 12", with the kind's number for its settings, and whether its cells suffice
+unfoldable pub begun : ℕ → Bool → ℕ → Option (List ℕ) → Stores → Bindings.Outcome
+begun unset cells limit filter s =
+    pick (eqb unset 0)
+    (pick (accepts limit filter) (pick cells (Bindings.started limit filter s) (Bindings.refused 12 fresh s)) (Bindings.refused 4 fresh s))
+    (Bindings.refused unset fresh s)
+
+-- the directory's part of an outcome, with the cells beside it
+abbrev pub beside : {Cells : Type 0} → Bindings.Outcome → Cells → Outcome Cells
+beside o c = record { answer = o .answer; held = record { kept = o .kept; cells = c } }
 
 module _ {K : Kind} (S : Store K) where
   -- configuring accepts the settings
@@ -66,15 +76,20 @@ module _ {K : Kind} (S : Store K) where
   entered h v row a =
       let o = S .recorded (a .slot) (a .updated) (h .cells) v in
       unlessRefused h (a .no) (unlessRefused h (o .no)
-      (record { answer = Done; held = record { kept = committed (h .kept .dir) (h .kept .stores) row (a .target); cells = o .cells } }))
+      (record { answer = success none; held = record { kept = committed (h .kept .dir) (h .kept .stores) row (a .target); cells = o .cells } }))
 
-  -- a slot that is named has its cells, and what the directory is to write has its place
-  abbrev pub Seatable : Held (S .Cells) → Seating → Type 0
-  Seatable h a = a .no ≡ 0 → S .Room (h .cells) (a .slot) × Fits (h .kept .dir) (h .kept .stores) (a .target)
+  -- a slot that is named has its cells, and its value is finite
+  abbrev pub Takes : S .Cells → K .Value → ℕ → ℕ → Type 0
+  Takes c v n x = n ≡ 0 → S .Room c x × (K .finite v ≡ true)
+
+  -- the kind's part of a recording at a slot, where nothing was refused: 0 and the cells afterwards, or the series' refusal; else the number
+  -- that is to be said, and the cells as they were
+  unfoldable pub taken : S .Cells → K .Value → ℕ → ℕ → ℕ → Bool → Recording (S .Cells)
+  taken c v n said x updated = pick (eqb n 0) (S .recorded x updated c v) (record { no = said; cells = c })
 
   -- a recording with n attributes, under a limit and a filter that configuring accepted or not, which goes to a seating
   unfoldable pub called : ℕ → Held (S .Cells) → K .Value → ℕ → Bool → List ℕ → Seating → Outcome (S .Cells)
-  called limit h v n ok row a = unlessRefused h (barredBy (lent limit h) (K .finite v) n (passes && ok)) (entered h v row a)
+  called limit h v n ok row a = entered h v row (unlessBarred (barredBy (lent limit h) (K .finite v) n (passes && ok)) a)
 
   -- "Recording: 12, 6, 5, 8, 9". 8 also where configuring could not have accepted the settings, the limit and the filter.
   unfoldable pub measured : ℕ → Option (List ℕ) → Held (S .Cells) → K .Value → Set → Outcome (S .Cells)
@@ -87,13 +102,6 @@ module _ {K : Kind} (S : Store K) where
   measuredBy limit h v handle =
       called limit h v 0 (leb limit mostSets) (replicate 9 0) (seatedBy limit (h .kept .dir) (h .kept .stores) handle)
 
-  -- Configuring: "1, 2, 3, 4, 12". The series' stores are left as they are: no entry is updated, so nobody reads them.
+  -- Configuring. The series' stores are left as they are: no entry is updated, so nobody reads them.
   unfoldable pub started : ℕ → Option (List ℕ) → Stores → S .Cells → Outcome (S .Cells)
-  started limit filter s c =
-      let none = held fresh s c in
-      unlessRefused none (S .unset)
-      (pick (accepts limit filter)
-      (pick (S .suffices limit c)
-      (let o = Bindings.started limit filter s in record { answer = o .answer; held = record { kept = o .kept; cells = c } })
-      (refused 12 none))
-      (refused 4 none))
+  started limit filter s c = beside (begun (S .unset) (S .suffices limit c) limit filter s) c

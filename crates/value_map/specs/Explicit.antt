@@ -9,10 +9,8 @@ use Rattle.laws.specs.Pick.{pick}
 use Rattle.points.specs.Explicit.{boundsPass, bucketCount}
 use Rattle.points.specs.Figures.{explicit}
 use Rattle.kinds.specs.Histograms.{histograms}
-use Rattle.seats.specs.declared.Seating.{Seating}
 use Rattle.explicit_slots.specs.Cells.{Cells, Room, seriesAt, recordedAt}
 use Rattle.value_map.specs.Store.{Store}
-use Rattle.value_map.specs.Calls.{Held, Outcome, unlessRefused, entered}
 
 -- "12: a lent count store under (limit + 2) × max_size counts (explicit: × buckets, one store), or any other lent store under limit + 2
 -- entries", by lengths, with n buckets
@@ -36,6 +34,7 @@ explicitStore bounds =
       recorded = recordedAt bounds;
     }
 
--- at a seating, the bounds asked last: 8 where configuring could not have accepted them
-abbrev pub enteredIn : List Float → Held Cells → Float → List ℕ → Seating → Outcome Cells
-enteredIn bounds h v row a = unlessRefused h (pick (boundsPass bounds) 0 8) (entered (explicitStore bounds) h v row a)
+-- the number of a seating that is refused, the bounds asked last, for its series does it: of "12, 6, 5, 8, 9" and "12, 6, 8, 7, 9" those
+-- after 8 give way to it, where configuring could not have accepted the bounds
+unfoldable pub turned : Bool → ℕ → ℕ
+turned passes n = pick (leb 7 n && leb n 9) (pick passes n 8) n

@@ -1,62 +1,40 @@
 // The map of the explicit kind: configuring, and recording by set and by handle. Its stores: the directory's (sets, entries, order), and
 // each slot's count, its minimum, maximum and sum, and its bucket counts.
 ghost use mathlib.Core.Path.{_≡_};
-ghost use mathlib.Core.Bool.{_&&_, true};
-ghost use lib.Ieee.Scale.{finite};
 ghost use Rattle.laws.specs.Pick.{pick};
 ghost use Rattle.points.specs.Explicit.{boundsPass, bucketCount};
+ghost use Rattle.parts.specs.Recording.{after};
 ghost use Rattle.sets.specs.Sorted.{given, filterOf};
 ghost use Rattle.directory.specs.View.{stores};
 ghost use Rattle.explicit_slots.specs.Cells.{cells};
-ghost use Rattle.value_map.specs.Calls.{held, gave, Seatable, started, measured, measuredBy};
-ghost use Rattle.value_map.specs.Explicit.{lengthsSuffice, explicitStore, enteredIn};
-use bindings::Answer;
+ghost use Rattle.value_map.specs.Calls.{held, gave, Takes, taken, started, measured, measuredBy};
+ghost use Rattle.value_map.specs.Explicit.{lengthsSuffice, explicitStore, turned};
 use bindings::Reply;
 use directory::Directory;
-use seats::Seating;
+
+// The number with which configuring refuses the bounds, 3; 0 if it accepts them.
+fn unset_of(bounds: &[f64]) -> u8
+    ensures { λ r. ⌜ r ≡ pick (boundsPass (now (bounds .entry))) 0 3 ⌝ }
+{
+    if !explicit::bounds_pass(bounds) {
+        return 3;
+    }
+    0
+}
 
 // Whether the series' stores of these lengths suffice.
 fn cells_suffice(bounds: &[f64], limit: u64, totals: usize, extremes: usize, counts: usize) -> bool
     ensures { λ r. ⌜ r ≡ lengthsSuffice (bucketCount (now (bounds .entry))) limit totals extremes counts ⌝ }
 {
-    if !directory::suffices(limit, totals) {
-        return false;
-    }
-    if !directory::suffices(limit, extremes) {
-        return false;
-    }
     let n = explicit::bucket_count(bounds);
-    crate::first::counts_suffice(limit, n, counts)
+    let most = crate::first::both(
+        directory::suffices(limit, extremes),
+        crate::first::counts_suffice(limit, n, counts),
+    );
+    crate::first::both(directory::suffices(limit, totals), most)
 }
 
-// Whether all the stores suffice.
-fn all_suffice(
-    lent: bool,
-    bounds: &[f64],
-    limit: u64,
-    totals: usize,
-    extremes: usize,
-    counts: usize,
-) -> bool
-    ensures { λ r. ⌜ r ≡ (lent && lengthsSuffice (bucketCount (now (bounds .entry))) limit totals extremes counts) ⌝ }
-{
-    if !lent {
-        return false;
-    }
-    cells_suffice(bounds, limit, totals, extremes, counts)
-}
-
-// The number of a refusal by the directory: 8 where configuring could not have accepted the bounds.
-fn turned(bounds: &[f64], no: u8) -> u8
-    ensures { λ r. ⌜ r ≡ pick (boundsPass (now (bounds .entry))) no 8 ⌝ }
-{
-    if !explicit::bounds_pass(bounds) {
-        return 8;
-    }
-    no
-}
-
-// Configures a map: a fresh start.
+// Configures a map: a fresh start, or 3, 4, 12.
 pub fn start(
     bounds: &[f64],
     limit: u64,
@@ -73,75 +51,51 @@ pub fn start(
         ≡ started (explicitStore (now (bounds .entry))) limit (filterOf present (now (filter .entry)))
         (stores (sets .entry) (entries .entry) (order .entry)) (cells (totals .entry) (extremes .entry) (counts .entry)) ⌝ }
 {
-    let d = Directory {
-        used: 0,
-        count: 0,
-        last: 0,
-    };
-    if !explicit::bounds_pass(bounds) {
-        return Reply {
-            answer: Answer::Refused(3),
-            dir: d,
-        };
-    }
-    if !directory::accepted(limit, present, filter) {
-        return Reply {
-            answer: Answer::Refused(4),
-            dir: d,
-        };
-    }
-    if !cells_suffice(bounds, limit, totals.len(), extremes.len(), counts.len()) {
-        return Reply {
-            answer: Answer::Refused(12),
-            dir: d,
-        };
-    }
-    bindings::start(limit, present, filter, sets, entries, order)
+    let room = cells_suffice(bounds, limit, totals.len(), extremes.len(), counts.len());
+    let no = unset_of(bounds);
+    crate::first::begin(no, room, limit, present, filter, sets, entries, order)
 }
 
-// Records a value at a seating, unless that or the series there refuses it.
-fn enter(
+// The number of a seating that is refused: the bounds are asked last, for the series does it. 8 where configuring could not have accepted
+// them, unless a number stands that comes before: 12, 6, 5.
+fn turned_by(bounds: &[f64], no: u8) -> u8
+    ensures { λ r. ⌜ r ≡ turned (boundsPass (now (bounds .entry))) no ⌝ }
+{
+    if no < 7 {
+        return no;
+    }
+    if no > 9 {
+        return no;
+    }
+    if !explicit::bounds_pass(bounds) {
+        return 8;
+    }
+    no
+}
+
+// Records a value at the slot of a seating, unless that is refused; the number, 0 if the value was taken.
+fn take(
     bounds: &[f64],
-    d: Directory,
-    sets: &mut [[u64; 9]],
-    entries: &mut [[u64; 3]],
-    order: &mut [u32],
+    no: u8,
+    x: usize,
+    updated: bool,
     totals: &mut [u64],
     extremes: &mut [[f64; 3]],
     counts: &mut [u64],
     v: f64,
-    row: [u64; 9],
-    seat: Seating,
-) -> Reply
-    requires { ⌜ Seatable (explicitStore (now bounds)) (held d (stores sets entries order) (cells totals extremes counts)) seat × (finite v ≡ true) ⌝ }
-    ensures { λ r. ⌜ gave r (stores (sets .exit) (entries .exit) (order .exit)) (cells (totals .exit) (extremes .exit) (counts .exit))
-        ≡ enteredIn (now (bounds .entry))
-        (held d (stores (sets .entry) (entries .entry) (order .entry)) (cells (totals .entry) (extremes .entry) (counts .entry)))
-        v row seat ⌝ }
+) -> u8
+    requires { ⌜ Takes (explicitStore (now bounds)) (cells totals extremes counts) v no x ⌝ }
+    ensures { λ r. ⌜ after r (cells (totals .exit) (extremes .exit) (counts .exit))
+        ≡ taken (explicitStore (now (bounds .entry))) (cells (totals .entry) (extremes .entry) (counts .entry)) v no
+        (turned (boundsPass (now (bounds .entry))) no) x updated ⌝ }
 {
-    if seat.no != 0 {
-        let no = turned(bounds, seat.no);
-        return Reply {
-            answer: Answer::Refused(no),
-            dir: d,
-        };
-    }
-    let no = explicit_slots::record(bounds, seat.slot, seat.updated, totals, extremes, counts, v);
     if no != 0 {
-        return Reply {
-            answer: Answer::Refused(no),
-            dir: d,
-        };
+        return turned_by(bounds, no);
     }
-    let target = seat.target;
-    let e = seats::commit(d, sets, entries, order, row, target);
-    Reply {
-        answer: Answer::Done,
-        dir: e,
-    }
+    explicit_slots::record(bounds, x, updated, totals, extremes, counts, v)
 }
 
-// Records a value into the series of the attributes' set: its own entry, held or new, or that of overflow.
+// Records a value into the series of the attributes' set: its own entry, held or new, or that of overflow; or 12, 6, 5, 8, 9.
 pub fn measure(
     bounds: &[f64],
     limit: u64,
@@ -162,41 +116,38 @@ pub fn measure(
         (held d (stores (sets .entry) (entries .entry) (order .entry)) (cells (totals .entry) (extremes .entry) (counts .entry)))
         v (given (now (attrs .entry))) ⌝ }
 {
-    let lent = directory::stores_suffice(limit, sets.len(), entries.len(), order.len());
-    let room = all_suffice(
-        lent,
-        bounds,
+    let room = cells_suffice(bounds, limit, totals.len(), extremes.len(), counts.len());
+    let value = crate::first::takes(v);
+    let mut row: [u64; 9] = [0; 9];
+    let seat = seats::seat(
+        room,
+        value,
+        0,
         limit,
-        totals.len(),
-        extremes.len(),
-        counts.len(),
-    );
-    let ok = directory::accepted(limit, present, filter);
-    let no = crate::first::barred(room, v, attrs.len(), ok);
-    if no != 0 {
-        return Reply {
-            answer: Answer::Refused(no),
-            dir: d,
-        };
-    }
-    let row = sets::canon::sorted(attrs, present, filter);
-    let seat = seats::seat(limit, d, sets, entries, order, &row);
-    enter(
-        bounds,
         d,
         sets,
         entries,
         order,
+        attrs,
+        present,
+        filter,
+        &mut row,
+    );
+    let no = take(
+        bounds,
+        seat.no,
+        seat.slot,
+        seat.updated,
         totals,
         extremes,
         counts,
         v,
-        row,
-        seat,
-    )
+    );
+    let target = seat.target;
+    crate::first::finish(no, d, sets, entries, order, &row, target)
 }
 
-// Records a value into the series that the handle names.
+// Records a value into the series that the handle names; or 12, 6, 8, 7, 9.
 pub fn measure_by(
     bounds: &[f64],
     limit: u64,
@@ -215,35 +166,20 @@ pub fn measure_by(
         (held d (stores (sets .entry) (entries .entry) (order .entry)) (cells (totals .entry) (extremes .entry) (counts .entry)))
         v h ⌝ }
 {
-    let lent = directory::stores_suffice(limit, sets.len(), entries.len(), order.len());
-    let room = all_suffice(
-        lent,
-        bounds,
-        limit,
-        totals.len(),
-        extremes.len(),
-        counts.len(),
-    );
-    let no = crate::first::barred(room, v, 0, limit <= directory::MOST_SETS);
-    if no != 0 {
-        return Reply {
-            answer: Answer::Refused(no),
-            dir: d,
-        };
-    }
+    let room = cells_suffice(bounds, limit, totals.len(), extremes.len(), counts.len());
+    let value = crate::first::takes(v);
     let row: [u64; 9] = [0; 9];
-    let seat = seats::seat_by(limit, d, sets, entries, order, h);
-    enter(
+    let seat = seats::seat_by(room, value, 0, limit, d, sets, entries, order, h);
+    let no = take(
         bounds,
-        d,
-        sets,
-        entries,
-        order,
+        seat.no,
+        seat.slot,
+        seat.updated,
         totals,
         extremes,
         counts,
         v,
-        row,
-        seat,
-    )
+    );
+    let target = seat.target;
+    crate::first::finish(no, d, sets, entries, order, &row, target)
 }

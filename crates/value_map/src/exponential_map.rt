@@ -1,40 +1,29 @@
 // The map of the exponential kind: configuring, and recording by set and by handle. Its stores: the directory's (sets, entries, order),
 // and each slot's figures, extremes and rows of counts.
 ghost use mathlib.Core.Path.{_≡_};
-ghost use mathlib.Core.Bool.{_&&_, true};
-ghost use lib.Ieee.Scale.{finite};
-ghost use Rattle.points.specs.Figures.{sizePasses};
+ghost use Rattle.parts.specs.Recording.{after};
 ghost use Rattle.sets.specs.Sorted.{given, filterOf};
 ghost use Rattle.directory.specs.View.{stores};
 ghost use Rattle.exponential_slots.specs.Cells.{cells};
-ghost use Rattle.value_map.specs.Calls.{held, gave, passes, Seatable, entered, started, measured, measuredBy};
-ghost use Rattle.value_map.specs.Exponential.{lengthsSuffice, exponentialStore};
-use bindings::Answer;
+ghost use Rattle.value_map.specs.Calls.{held, gave, Takes, taken, started, measured, measuredBy};
+ghost use Rattle.value_map.specs.Exponential.{lengthsSuffice, unset, exponentialStore};
 use bindings::Reply;
 use directory::Directory;
-use seats::Seating;
 
-// Whether configuring accepts a max_size.
-fn size_passes(size: u32) -> bool
-    ensures { λ r. ⌜ r ≡ sizePasses size ⌝ }
+// The number with which configuring refuses max_size, 1, or the greatest level, 2; 0 if it accepts both.
+fn unset_of(size: u32, top: u32) -> u8
+    ensures { λ r. ⌜ r ≡ unset size top ⌝ }
 {
     if size < 3 {
-        return false;
+        return 1;
     }
-    size <= 160
-}
-
-// Whether configuring accepts max_size and the greatest level, and accepted the rest.
-fn configured(size: u32, top: u32, rest: bool) -> bool
-    ensures { λ r. ⌜ r ≡ (passes (exponentialStore size top) && rest) ⌝ }
-{
-    if !size_passes(size) {
-        return false;
+    if size > 160 {
+        return 1;
     }
     if index::FINEST < top {
-        return false;
+        return 2;
     }
-    rest
+    0
 }
 
 // Whether the series' stores of these lengths suffice.
@@ -48,48 +37,16 @@ fn cells_suffice(
 ) -> bool
     ensures { λ r. ⌜ r ≡ lengthsSuffice size limit figures extremes pos neg ⌝ }
 {
-    if !directory::suffices(limit, figures) {
-        return false;
-    }
-    if !directory::suffices(limit, extremes) {
-        return false;
-    }
     let n = size as usize;
-    if !crate::first::counts_suffice(limit, n, pos) {
-        return false;
-    }
-    crate::first::counts_suffice(limit, n, neg)
+    let rows = crate::first::both(
+        crate::first::counts_suffice(limit, n, pos),
+        crate::first::counts_suffice(limit, n, neg),
+    );
+    let most = crate::first::both(directory::suffices(limit, extremes), rows);
+    crate::first::both(directory::suffices(limit, figures), most)
 }
 
-// Whether all the stores suffice.
-fn all_suffice(
-    lent: bool,
-    size: u32,
-    limit: u64,
-    figures: usize,
-    extremes: usize,
-    pos: usize,
-    neg: usize,
-) -> bool
-    ensures { λ r. ⌜ r ≡ (lent && lengthsSuffice size limit figures extremes pos neg) ⌝ }
-{
-    if !lent {
-        return false;
-    }
-    cells_suffice(size, limit, figures, extremes, pos, neg)
-}
-
-// A refusal: the state stays.
-fn refused(no: u8, d: Directory) -> Reply
-    ensures { λ r. ⌜ r ≡ record { answer = Answer.Refused no; dir = d } ⌝ }
-{
-    Reply {
-        answer: Answer::Refused(no),
-        dir: d,
-    }
-}
-
-// Configures a map: a fresh start.
+// Configures a map: a fresh start, or 1, 2, 4, 12.
 pub fn start(
     size: u32,
     top: u32,
@@ -108,81 +65,42 @@ pub fn start(
         ≡ started (exponentialStore size top) limit (filterOf present (now (filter .entry)))
         (stores (sets .entry) (entries .entry) (order .entry)) (cells (figures .entry) (extremes .entry) (pos .entry) (neg .entry)) ⌝ }
 {
-    let d = Directory {
-        used: 0,
-        count: 0,
-        last: 0,
-    };
-    if !size_passes(size) {
-        return refused(1, d);
-    }
-    if index::FINEST < top {
-        return refused(2, d);
-    }
-    if !directory::accepted(limit, present, filter) {
-        return refused(4, d);
-    }
-    if !cells_suffice(
+    let room = cells_suffice(
         size,
         limit,
         figures.len(),
         extremes.len(),
         pos.len(),
         neg.len(),
-    ) {
-        return refused(12, d);
-    }
-    bindings::start(limit, present, filter, sets, entries, order)
+    );
+    let no = unset_of(size, top);
+    crate::first::begin(no, room, limit, present, filter, sets, entries, order)
 }
 
-// Records a value at a seating, unless that or the series there refuses it.
-fn enter(
+// Records a value at the slot of a seating, unless that is refused; the number, 0 if the value was taken.
+fn take(
     size: u32,
     top: u32,
-    d: Directory,
-    sets: &mut [[u64; 9]],
-    entries: &mut [[u64; 3]],
-    order: &mut [u32],
+    no: u8,
+    x: usize,
+    updated: bool,
     figures: &mut [[u64; 8]],
     extremes: &mut [[f64; 3]],
     pos: &mut [u64],
     neg: &mut [u64],
     v: f64,
-    row: [u64; 9],
-    seat: Seating,
-) -> Reply
-    requires { ⌜ Seatable (exponentialStore size top) (held d (stores sets entries order) (cells figures extremes pos neg)) seat × (finite v ≡ true) ⌝ }
-    ensures { λ r. ⌜ gave r (stores (sets .exit) (entries .exit) (order .exit)) (cells (figures .exit) (extremes .exit) (pos .exit) (neg .exit))
-        ≡ entered (exponentialStore size top)
-        (held d (stores (sets .entry) (entries .entry) (order .entry)) (cells (figures .entry) (extremes .entry) (pos .entry) (neg .entry)))
-        v row seat ⌝ }
+) -> u8
+    requires { ⌜ Takes (exponentialStore size top) (cells figures extremes pos neg) v no x ⌝ }
+    ensures { λ r. ⌜ after r (cells (figures .exit) (extremes .exit) (pos .exit) (neg .exit))
+        ≡ taken (exponentialStore size top) (cells (figures .entry) (extremes .entry) (pos .entry) (neg .entry)) v no no x updated ⌝ }
 {
-    if seat.no != 0 {
-        return refused(seat.no, d);
-    }
-    let no = exponential_slots::record(
-        size,
-        top,
-        seat.slot,
-        seat.updated,
-        figures,
-        extremes,
-        pos,
-        neg,
-        v,
-    );
     if no != 0 {
-        return refused(no, d);
+        return no;
     }
-    let target = seat.target;
-    let e = seats::commit(d, sets, entries, order, row, target);
-    Reply {
-        answer: Answer::Done,
-        dir: e,
-    }
+    exponential_slots::record(size, top, x, updated, figures, extremes, pos, neg, v)
 }
 
-// Records a value into the series of the attributes' set: its own entry, held or new, or that of overflow.
+// Records a value into the series of the attributes' set: its own entry, held or new, or that of overflow; or 12, 6, 5, 8, 9.
 pub fn measure(
     size: u32,
     top: u32,
@@ -205,9 +123,7 @@ pub fn measure(
         (held d (stores (sets .entry) (entries .entry) (order .entry)) (cells (figures .entry) (extremes .entry) (pos .entry) (neg .entry)))
         v (given (now (attrs .entry))) ⌝ }
 {
-    let lent = directory::stores_suffice(limit, sets.len(), entries.len(), order.len());
-    let room = all_suffice(
-        lent,
+    let room = cells_suffice(
         size,
         limit,
         figures.len(),
@@ -215,31 +131,40 @@ pub fn measure(
         pos.len(),
         neg.len(),
     );
-    let ok = configured(size, top, directory::accepted(limit, present, filter));
-    let no = crate::first::barred(room, v, attrs.len(), ok);
-    if no != 0 {
-        return refused(no, d);
-    }
-    let row = sets::canon::sorted(attrs, present, filter);
-    let seat = seats::seat(limit, d, sets, entries, order, &row);
-    enter(
-        size,
-        top,
+    let value = crate::first::takes(v);
+    let unset = unset_of(size, top);
+    let mut row: [u64; 9] = [0; 9];
+    let seat = seats::seat(
+        room,
+        value,
+        unset,
+        limit,
         d,
         sets,
         entries,
         order,
+        attrs,
+        present,
+        filter,
+        &mut row,
+    );
+    let no = take(
+        size,
+        top,
+        seat.no,
+        seat.slot,
+        seat.updated,
         figures,
         extremes,
         pos,
         neg,
         v,
-        row,
-        seat,
-    )
+    );
+    let target = seat.target;
+    crate::first::finish(no, d, sets, entries, order, &row, target)
 }
 
-// Records a value into the series that the handle names.
+// Records a value into the series that the handle names; or 12, 6, 8, 7, 9.
 pub fn measure_by(
     size: u32,
     top: u32,
@@ -260,9 +185,7 @@ pub fn measure_by(
         (held d (stores (sets .entry) (entries .entry) (order .entry)) (cells (figures .entry) (extremes .entry) (pos .entry) (neg .entry)))
         v h ⌝ }
 {
-    let lent = directory::stores_suffice(limit, sets.len(), entries.len(), order.len());
-    let room = all_suffice(
-        lent,
+    let room = cells_suffice(
         size,
         limit,
         figures.len(),
@@ -270,26 +193,22 @@ pub fn measure_by(
         pos.len(),
         neg.len(),
     );
-    let ok = configured(size, top, limit <= directory::MOST_SETS);
-    let no = crate::first::barred(room, v, 0, ok);
-    if no != 0 {
-        return refused(no, d);
-    }
+    let value = crate::first::takes(v);
+    let unset = unset_of(size, top);
     let row: [u64; 9] = [0; 9];
-    let seat = seats::seat_by(limit, d, sets, entries, order, h);
-    enter(
+    let seat = seats::seat_by(room, value, unset, limit, d, sets, entries, order, h);
+    let no = take(
         size,
         top,
-        d,
-        sets,
-        entries,
-        order,
+        seat.no,
+        seat.slot,
+        seat.updated,
         figures,
         extremes,
         pos,
         neg,
         v,
-        row,
-        seat,
-    )
+    );
+    let target = seat.target;
+    crate::first::finish(no, d, sets, entries, order, &row, target)
 }

@@ -1,12 +1,28 @@
-// The tests that come first in a recording, whatever the kind: number 12 of a count store, and the refusals before the directory is read.
+// What the calls of every kind share: number 12 of a count store, whether a value is recorded at all, how a recording ends, configuring.
 ghost use mathlib.Core.Path.{_≡_};
+ghost use mathlib.Core.Bool.{_&&_};
 ghost use Prim.Native.Nat.{_+_, _*_};
 ghost use lib.Dec.{leb};
 ghost use Rattle.kinds.specs.Histograms.{histograms};
-ghost use Rattle.value_map.specs.Calls.{barredBy};
+ghost use Rattle.sets.specs.Sorted.{filterOf};
+ghost use Rattle.directory.specs.View.{stores};
+ghost use Rattle.bindings.specs.Calls.{gave};
+ghost use Rattle.seats.specs.Seats.{Fits};
+ghost use Rattle.value_map.specs.Calls.{finished, begun};
+use bindings::Answer;
+use bindings::Reply;
+use directory::Directory;
+use directory::Target;
 
-// The most attributes of a call.
-const MOST_ATTRIBUTES: usize = 8;
+// Both.
+pub fn both(a: bool, b: bool) -> bool
+    ensures { λ r. ⌜ r ≡ (a && b) ⌝ }
+{
+    if !a {
+        return false;
+    }
+    b
+}
 
 // Whether a store of this length has n counts for each of limit + 2 slots.
 pub fn counts_suffice(limit: u64, n: usize, length: usize) -> bool
@@ -18,21 +34,76 @@ pub fn counts_suffice(limit: u64, n: usize, length: usize) -> bool
     directory::suffices(limit, length / n)
 }
 
-// The number of the refusal, 0 if none: whether the stores suffice, the value, the number of attributes, whether the configuration was accepted.
-pub fn barred(lent: bool, v: f64, attributes: usize, accepted: bool) -> u8
-    ensures { λ r. ⌜ r ≡ barredBy lent (histograms .finite v) attributes accepted ⌝ }
+// Whether a histogram takes a value: number 6 refuses the others.
+pub fn takes(v: f64) -> bool
+    ensures { λ r. ⌜ r ≡ histograms .finite v ⌝ }
 {
-    if !lent {
-        return 12;
+    floats::is_finite(v)
+}
+
+// The end of a recording: the refusal, or what the directory writes.
+pub fn finish(
+    no: u8,
+    d: Directory,
+    sets: &mut [[u64; 9]],
+    entries: &mut [[u64; 3]],
+    order: &mut [u32],
+    row: &[u64; 9],
+    target: Target,
+) -> Reply
+    requires { ⌜ (no ≡ 0 → Fits d (stores sets entries order) target) ⌝ }
+    ensures { λ r. ⌜ gave r (stores (sets .exit) (entries .exit) (order .exit))
+        ≡ finished no d (stores (sets .entry) (entries .entry) (order .entry)) (now (row .entry)) target ⌝ }
+{
+    if no != 0 {
+        return Reply {
+            answer: Answer::Refused(no),
+            dir: d,
+        };
     }
-    if !floats::is_finite(v) {
-        return 6;
+    let e = seats::commit(d, sets, entries, order, row, target);
+    Reply {
+        answer: Answer::Done,
+        dir: e,
     }
-    if attributes > MOST_ATTRIBUTES {
-        return 5;
+}
+
+// Configures a map, of a kind whose number for its settings and whose cells are given: a fresh start, or 1, 2, 3, 4, 12.
+pub fn begin(
+    unset: u8,
+    cells: bool,
+    limit: u64,
+    present: bool,
+    filter: &[u32],
+    sets: &[[u64; 9]],
+    entries: &mut [[u64; 3]],
+    order: &[u32],
+) -> Reply
+    ensures { λ r. ⌜ gave r (stores (sets .entry) (entries .exit) (order .entry))
+        ≡ begun unset cells limit (filterOf present (now (filter .entry))) (stores (sets .entry) (entries .entry) (order .entry)) ⌝ }
+{
+    let d = Directory {
+        used: 0,
+        count: 0,
+        last: 0,
+    };
+    if unset != 0 {
+        return Reply {
+            answer: Answer::Refused(unset),
+            dir: d,
+        };
     }
-    if !accepted {
-        return 8;
+    if !directory::accepted(limit, present, filter) {
+        return Reply {
+            answer: Answer::Refused(4),
+            dir: d,
+        };
     }
-    0
+    if !cells {
+        return Reply {
+            answer: Answer::Refused(12),
+            dir: d,
+        };
+    }
+    bindings::start(limit, present, filter, sets, entries, order)
 }

@@ -66,15 +66,15 @@ returns-3 c =
     let s = at e in
     sym (bound-8 (s .args .limit) (filter s) (s .args .d) (stores s) (s .args .attrs .now) (lent e) (short g) (sym (c .before .accepted .ensures) ∙ not-true _ (c .if3 .taken)))
 
-sorted-requires : tie.Need-sorted-requires
-sorted-requires c κs = leb-true _ _ (short (c .before .before))
+sort-into-requires : tie.Need-sort-into-requires
+sort-into-requires c κs = leb-true _ _ (short (c .before .before .before))
 
 bind-in-requires : tie.Need-bind-in-requires
 bind-in-requires c κs =
     let r = c .before .before .before in
-    let e = r .before .before .before .before .before in
+    let e = r .before .before .before .before .before .before in
     let f = suffices (at e .args .limit) (stores (at e)) (lent e) in
-    (f .sets, f .entries, f .order, r .sorted .ensures .1, omega (arith, within (at e .args .limit) (filter (at e)) (accept (r .before))))
+    (f .sets, f .entries, f .order, r .sort-into .ensures .1, omega (arith, within (at e .args .limit) (filter (at e)) (accept (r .before .before))))
 
 same-length : tie.Need-same-length
 same-length c = search needs
@@ -89,12 +89,12 @@ returns-4 : tie.Need-returns-4
 returns-4 c =
     let b = c .before .before .before .before in
     let r = b .before .before .before .before in
-    let h = r .before in
+    let h = r .before .before in
     let g = h .before .before in
     let e = g .before .before in
     let s = at e in
     b .bind-in .ensures
-    ∙ ap (λ (l : List ℕ). boundIn (s .args .limit) (s .args .d) (stores s) l) (r .sorted .ensures .0)
+    ∙ ap (λ (l : List ℕ). boundIn (s .args .limit) (s .args .d) (stores s) l) (r .sort-into .ensures .0)
     ∙ sym (bound-on (s .args .limit) (filter s) (s .args .d) (stores s) (s .args .attrs .now) (lent e) (short g) (accept h))
 
 pub bind-spec : {M : Type 1} → statement M
@@ -107,7 +107,7 @@ bind-spec =
     returns-2
     accepted-requires
     returns-3
-    sorted-requires
+    sort-into-requires
     bind-in-requires
     same-length
     same-length-2

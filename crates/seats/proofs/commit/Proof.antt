@@ -45,15 +45,15 @@ enum-known-target-2 c = search needs
 
 admit-requires : tie.Need-admit-requires
 admit-requires c κs =
-    let f = fits-new (c .before .before .before .before) in
+    let f = fits-new (c .before .before .before .before .before) in
     (f .sets, f .entries, f .order, f .rank, f .slot, f .last, f .count)
 
 mark-requires-2 : tie.Need-mark-requires-2
 mark-requires-2 c κs =
     let a = c .before .before .before .before .before in
-    let t = a .before .before .before .before .before in
+    let t = a .before .before .before .before .before .before in
     let s = at2 t in
-    made-there (s .args .d) (stores s) _ (s .args .row) (t .target2 .given .0 .0) 1 (a .admit .ensures) (fits-new t)
+    made-there (s .args .d) (stores s) _ (s .args .row .now) (t .target2 .given .0 .0) 1 (a .admit .ensures) (fits-new t)
 
 enum-known-target-3 : tie.Need-enum-known-target-3
 enum-known-target-3 c = search needs
@@ -74,7 +74,7 @@ mark-requires-3 c κs =
 returns : tie.Need-returns
 returns c =
     let s = c .before .before .before in
-    sym (ap (committed (s .args .d) (stores s) (s .args .row)) (c .enum-told .given .1) ∙ commit-none (s .args .d) (stores s) (s .args .row))
+    sym (ap (committed (s .args .d) (stores s) (s .args .row .now)) (c .enum-told .given .1) ∙ commit-none (s .args .d) (stores s) (s .args .row .now))
 
 same-length : tie.Need-same-length
 same-length c = search needs
@@ -85,7 +85,7 @@ returns-2 c =
     let t = m .before .before .before in
     let s = at t in
     ap (λ l. record { dir = s .args .d; stores = record { sets = s .args .sets .now; entries = l; order = s .args .order .now } }) (m .mark .ensures)
-    ∙ sym (ap (committed (s .args .d) (stores s) (s .args .row)) (t .target .given .1) ∙ commit-old (s .args .d) (stores s) (s .args .row) (t .target .given .0 .0))
+    ∙ sym (ap (committed (s .args .d) (stores s) (s .args .row .now)) (t .target .given .1) ∙ commit-old (s .args .d) (stores s) (s .args .row .now) (t .target .given .0 .0))
 
 same-length-2 : tie.Need-same-length-2
 same-length-2 c = search needs
@@ -100,10 +100,10 @@ returns-3 : tie.Need-returns-3
 returns-3 c =
     let m = c .before in
     let a = m .before .before .before .before .before .before in
-    let t = a .before .before .before .before .before in
+    let t = a .before .before .before .before .before .before in
     let s = at2 t in
-    made-marked (s .args .d) (stores s) _ (s .args .row) (t .target2 .given .0 .0) 1 (a .admit .ensures) _ (m .mark2 .ensures)
-    ∙ sym (ap (committed (s .args .d) (stores s) (s .args .row)) (t .target2 .given .1) ∙ commit-new (s .args .d) (stores s) (s .args .row) (t .target2 .given .0 .0))
+    made-marked (s .args .d) (stores s) _ (s .args .row .now) (t .target2 .given .0 .0) 1 (a .admit .ensures) _ (m .mark2 .ensures)
+    ∙ sym (ap (committed (s .args .d) (stores s) (s .args .row .now)) (t .target2 .given .1) ∙ commit-new (s .args .d) (stores s) (s .args .row .now) (t .target2 .given .0 .0))
 
 same-length-5 : tie.Need-same-length-5
 same-length-5 c = search needs
@@ -121,7 +121,7 @@ returns-4 c =
     let t = a .before .before .before .before .before in
     let s = at3 t in
     made-marked (s .args .d) (stores s) _ overRow (t .target3 .given .0 .0) 0 (a .admit2 .ensures) _ (m .mark3 .ensures)
-    ∙ sym (ap (committed (s .args .d) (stores s) (s .args .row)) (t .target3 .given .1) ∙ commit-over (s .args .d) (stores s) (s .args .row) (t .target3 .given .0 .0))
+    ∙ sym (ap (committed (s .args .d) (stores s) (s .args .row .now)) (t .target3 .given .1) ∙ commit-over (s .args .d) (stores s) (s .args .row .now) (t .target3 .given .0 .0))
 
 pub commit-spec : {M : Type 1} → statement M
 commit-spec =

@@ -1,115 +1,97 @@
 -- `seats::seat` meets its contract. Assumes nothing.
 use borrow.Author.Needs.{needs}
-use mathlib.Core.Path.{_≡_, sym, _∙_}
+use Prim.Native.Nat.{ℕ}
+use mathlib.Core.Path.{_≡_, ap, sym, _∙_}
+use mathlib.Core.Bool.{_&&_}
+use mathlib.Core.List.{List}
+use mathlib.Core.Option.{Option}
 use native.Mathlib.Omega.{arith}
-use Rattle.directory.specs.View.{Stores}
-use Rattle.directory.specs.Calls.{located}
-use Rattle.directory.specs.declared.Target.the-variants.{Disagrees, Old, New, Over}
-use Rattle.directory.proofs.Located.{new-there, over-there}
-use Rattle.seats.proofs.Seatings.{seat-is, old-safe}
+use denote.Ref.{now}
+use lib.Dec.{eqb}
+use lib.ListN.{length, length-map}
+use Rattle.laws.proofs.Cases.{and-true}
+use Rattle.tally.specs.Sets.{canonical}
+use Rattle.sets.specs.Rows.{rowOf}
+use Rattle.sets.specs.Sorted.{attribute, given, filterOf}
+use Rattle.directory.specs.View.{Stores, stores}
+use Rattle.directory.specs.Calls.{accepts, storesSuffice}
+use Rattle.directory.proofs.Refusals.{suffices}
+use Rattle.seats.specs.Seats.{away, barredBy, seated}
+use Rattle.seats.specs.declared.Seating.{Seating}
+use Rattle.seats.proofs.Bars.{Clear, clear, barred-away, barred-on}
 use Rattle.seats.proofs.seat.Statement.{statement}
 use Rattle.seats.proofs.seat.Tie as tie
 
-abbrev stores : tie.Start → Stores
-stores s = record { sets = s .args .sets .now; entries = s .args .entries .now; order = s .args .order .now }
+abbrev at : tie.After-barred → tie.Start
+at b = b .before .before .before .before .before
 
-abbrev start : tie.After-locate → tie.Start
-start l = l .before .before
+abbrev lent : tie.Start → Stores
+lent s = stores (s .args .sets) (s .args .entries) (s .args .order)
 
-abbrev at : tie.After-t → tie.Start
-at t = start (t .before .before)
+abbrev filter : tie.Start → Option (List ℕ)
+filter s = filterOf (s .args .present) (now (s .args .filter))
 
-old : (t : tie.After-t) → located (at t .args .limit) (at t .args .d) (stores (at t)) (at t .args .row .now) ≡ Old (t .t .given .0 .0)
-old t = sym (t .before .before .locate .ensures) ∙ t .t .given .1
+abbrev attrs : tie.Start → List (ℕ × ℕ)
+attrs s = given (now (s .args .attrs))
 
-abbrev at2 : tie.After-t2 → tie.Start
-at2 t = start (t .before .before)
+-- where the call goes, unless it is barred
+abbrev goes : tie.Start → Seating
+goes s = seated (s .args .limit) (s .args .d) (lent s) (rowOf (canonical (filter s) (attrs s)))
 
-new : (t : tie.After-t2) → located (at2 t .args .limit) (at2 t .args .d) (stores (at2 t)) (at2 t .args .row .now) ≡ New (t .t2 .given .0 .0)
-new t = sym (t .before .before .locate .ensures) ∙ t .t2 .given .1
+-- the number that comes first, and what is known where it is none
+abbrev first : tie.Start → ℕ
+first s = barredBy (storesSuffice (s .args .limit) (lent s) && s .args .cells) (s .args .value) (length (attrs s)) (eqb (s .args .unset) 0 && accepts (s .args .limit) (filter s))
 
-abbrev at3 : tie.After-t3 → tie.Start
-at3 t = start (t .before .before)
+number : (b : tie.After-barred) → b .barred .result ≡ first (at b)
+number b =
+    let s = at b in
+    let k = b .before in
+    b .barred .ensures
+    ∙ (λ j. barredBy (k .before .stores-suffice .ensures j && s .args .cells) (s .args .value) (sym (length-map (now (s .args .attrs)) attribute) j)
+    (eqb (s .args .unset) 0 && k .accepted .ensures j))
 
-over : (t : tie.After-t3) → located (at3 t .args .limit) (at3 t .args .d) (stores (at3 t)) (at3 t .args .row .now) ≡ Over (t .t3 .given .0 .0)
-over t = sym (t .before .before .locate .ensures) ∙ t .t3 .given .1
-
-locate-requires : tie.Need-locate-requires
-locate-requires c κs = search needs
-
-enum-told : tie.Need-enum-told
-enum-told c = search needs
-
-refused-requires : tie.Need-refused-requires
-refused-requires c κs = search needs
-
-enum-known-t : tie.Need-enum-known-t
-enum-known-t c = search needs
-
-held-seat-requires : tie.Need-held-seat-requires
-held-seat-requires c κs =
-    let t = c .before in
-    let s = at t in
-    old-safe (s .args .limit) (s .args .d) (stores s) (s .args .row .now) (t .t .given .0 .0) (old t) (s .pre .1) .1
-
-enum-known-t-2 : tie.Need-enum-known-t-2
-enum-known-t-2 c = search needs
-
-new-seat-requires : tie.Need-new-seat-requires
-new-seat-requires c κs =
-    let t = c .before in
-    let s = at2 t in
-    let n = new-there (s .args .limit) (s .args .d) (stores s) (s .args .row .now) (t .t2 .given .0 .0) (new t) in
-    omega (arith, n .1, s .pre .0)
-
-enum-known-t-3 : tie.Need-enum-known-t-3
-enum-known-t-3 c = search needs
-
-new-seat-requires-2 : tie.Need-new-seat-requires-2
-new-seat-requires-2 c κs =
-    let t = c .before in
-    let s = at3 t in
-    let n = over-there (s .args .limit) (s .args .d) (stores s) (s .args .row .now) (t .t3 .given .0 .0) (over t) in
-    omega (arith, n .1, s .pre .0)
+known : (e : tie.Else1) → let s = at (e .before) in
+    Clear (storesSuffice (s .args .limit) (lent s) && s .args .cells) (s .args .value) (length (attrs s)) (eqb (s .args .unset) 0 && accepts (s .args .limit) (filter s))
+known e = clear _ _ _ _ (sym (number (e .before)) ∙ e .if1 .left)
 
 returns : tie.Need-returns
 returns c =
-    let l = c .before .before .before in
-    let s = start l in
-    c .refused .ensures ∙ sym (seat-is (s .args .limit) (s .args .d) (stores s) (s .args .row .now) Disagrees (sym (l .locate .ensures) ∙ c .before .enum-told .given .1))
+    let t = c .before in
+    let b = t .before in (
+      c .refused .ensures ∙ ap away (number b) ∙ sym (barred-away (first (at b)) (goes (at b)) (λ z. t .if1 .taken (number b ∙ z))),
+      (λ z. absurd (t .if1 .taken (sym (ap (λ (a : Seating). a .no) (c .refused .ensures)) ∙ z))),
+    )
+
+sort-into-requires : tie.Need-sort-into-requires
+sort-into-requires c κs = let e = c .before in omega (arith, known e .few, length-map (now (at (e .before) .args .attrs)) attribute)
+
+seat-in-requires : tie.Need-seat-in-requires
+seat-in-requires c κs =
+    let o = c .before in
+    let e = o .before .before in
+    let s = at (e .before) in
+    let l = suffices (s .args .limit) (lent s) (and-true (storesSuffice (s .args .limit) (lent s)) (s .args .cells) (known e .room-is) .0) in
+    (l .sets, l .entries, l .order, o .sort-into .ensures .1)
 
 returns-2 : tie.Need-returns-2
 returns-2 c =
-    let t = c .before .before in
-    let s = at t in
-    c .held-seat .ensures ∙ sym (seat-is (s .args .limit) (s .args .d) (stores s) (s .args .row .now) (Old (t .t .given .0 .0)) (old t))
-
-returns-3 : tie.Need-returns-3
-returns-3 c =
-    let t = c .before .before in
-    let s = at2 t in
-    c .new-seat .ensures ∙ sym (seat-is (s .args .limit) (s .args .d) (stores s) (s .args .row .now) (New (t .t2 .given .0 .0)) (new t))
-
-returns-4 : tie.Need-returns-4
-returns-4 c =
-    let t = c .before .before in
-    let s = at3 t in
-    c .new-seat2 .ensures ∙ sym (seat-is (s .args .limit) (s .args .d) (stores s) (s .args .row .now) (Over (t .t3 .given .0 .0)) (over t))
+    let o = c .before .before in
+    let e = o .before .before in
+    let b = e .before in
+    let s = at b in (
+      c .seat-in .ensures ∙ ap (seated (s .args .limit) (s .args .d) (lent s)) (o .sort-into .ensures .0) ∙ sym (barred-on (first s) (goes s) (sym (number b) ∙ e .if1 .left)),
+      (λ z. o .sort-into .ensures .0),
+    )
 
 pub seat-spec : {M : Type 1} → statement M
 seat-spec =
     tie.close
     (tie.spec
-    locate-requires
-    enum-told
-    refused-requires
-    enum-known-t
-    held-seat-requires
-    enum-known-t-2
-    new-seat-requires
-    enum-known-t-3
-    new-seat-requires-2
+    (λ c κs. search needs)
+    (λ c κs. search needs)
+    (λ c κs. search needs)
+    (λ c κs. search needs)
     returns
-    returns-2
-    returns-3
-    returns-4)
+    sort-into-requires
+    seat-in-requires
+    returns-2)

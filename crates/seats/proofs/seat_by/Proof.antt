@@ -1,92 +1,64 @@
 -- `seats::seat_by` meets its contract. Assumes nothing.
 use borrow.Author.Needs.{needs}
-use Prim.Native.Nat.{_+_, _≤_}
-use mathlib.Core.Path.{_≡_, sym, _∙_}
-use mathlib.Core.Bool.{true}
-use native.Mathlib.Omega.{arith}
-use borrow.Author.Tests.{not-true, not-false}
-use Rattle.directory.specs.View.{Stores, agreesb}
-use Rattle.directory.specs.Calls.{scan}
-use Rattle.directory.specs.declared.Found.the-variants.{Held}
-use Rattle.directory.proofs.Agreed.{place-slot}
-use Rattle.directory.proofs.Laws.{few, places-right, slotsOf}
-use Rattle.seats.proofs.Seatings.{by-no, by-is, by-there}
+use Prim.Native.Nat.{ℕ}
+use mathlib.Core.Path.{_≡_, ap, sym, _∙_}
+use mathlib.Core.Bool.{_&&_}
+use lib.Dec.{eqb, leb}
+use Rattle.laws.proofs.Cases.{and-true}
+use Rattle.directory.specs.View.{Stores, stores}
+use Rattle.directory.specs.Calls.{mostSets, storesSuffice}
+use Rattle.directory.proofs.Refusals.{suffices}
+use Rattle.seats.specs.Seats.{away, barredBy, seatedBy}
+use Rattle.seats.specs.declared.Seating.{Seating}
+use Rattle.seats.proofs.Bars.{clear, barred-away, barred-on}
 use Rattle.seats.proofs.seat_by.Statement.{statement}
 use Rattle.seats.proofs.seat_by.Tie as tie
 
-abbrev stores : tie.Start → Stores
-stores s = record { sets = s .args .sets .now; entries = s .args .entries .now; order = s .args .order .now }
+abbrev at : tie.After-barred → tie.Start
+at b = b .before .before .before
 
-abbrev start : tie.Else1 → tie.Start
-start e = e .before .before .before
+abbrev lent : tie.Start → Stores
+lent s = stores (s .args .sets) (s .args .entries) (s .args .order)
 
-right : (e : tie.Else1) → agreesb (start e .args .limit) (start e .args .d) (stores (start e)) ≡ true
-right e = sym (e .before .agrees .ensures) ∙ not-false _ (e .if1 .left)
+-- where the call goes, unless it is barred
+abbrev goes : tie.Start → Seating
+goes s = seatedBy (s .args .limit) (s .args .d) (lent s) (s .args .h)
 
-few-of : (e : tie.Else1) → start e .args .d .used ≤ start e .args .limit + 1
-few-of e = few (start e .args .limit) (start e .args .d) (stores (start e)) (right e)
+-- the number that comes first
+abbrev first : tie.Start → ℕ
+first s = barredBy (storesSuffice (s .args .limit) (lent s) && s .args .cells) (s .args .value) 0 (eqb (s .args .unset) 0 && leb (s .args .limit) mostSets)
 
-abbrev else-of : tie.After-x → tie.Else1
-else-of x = x .before .before .before
-
-found : (x : tie.After-x) → scan (start (else-of x) .args .h) (start (else-of x) .args .entries .now) (slotsOf (start (else-of x) .args .d) (stores (start (else-of x)))) ≡ Held (x .x .given .0 .0)
-found x = sym (x .before .before .by-handle .ensures) ∙ x .x .given .1
-
-agrees-requires : tie.Need-agrees-requires
-agrees-requires c κs = search needs
-
-refused-requires : tie.Need-refused-requires
-refused-requires c κs = search needs
+number : (b : tie.After-barred) → b .barred .result ≡ first (at b)
+number b =
+    let s = at b in
+    b .barred .ensures ∙ (λ j. barredBy (b .before .stores-suffice .ensures j && s .args .cells) (s .args .value) 0 (eqb (s .args .unset) 0 && leb (s .args .limit) mostSets))
 
 returns : tie.Need-returns
 returns c =
-    let b = c .before in
-    let s = b .before .before .before in
-    c .refused .ensures ∙ sym (by-no (s .args .limit) (s .args .d) (stores s) (s .args .h) (sym (b .before .agrees .ensures) ∙ not-true _ (b .if1 .taken)))
+    let t = c .before in
+    let b = t .before in
+    c .refused .ensures ∙ ap away (number b) ∙ sym (barred-away (first (at b)) (goes (at b)) (λ z. t .if1 .taken (number b ∙ z)))
 
-by-handle-requires : tie.Need-by-handle-requires
-by-handle-requires c κs =
-    let s = start c in
-    (omega (arith, few-of c, s .pre .1), omega (arith, few-of c, s .pre .2), place-slot (s .args .d .used) (s .args .sets .now) (s .args .order .now) (places-right (s .args .limit) (s .args .d) (stores s) (right c)))
-
-enum-told : tie.Need-enum-told
-enum-told c = search needs
-
-refused-requires-2 : tie.Need-refused-requires-2
-refused-requires-2 c κs = search needs
-
-enum-known-x : tie.Need-enum-known-x
-enum-known-x c = search needs
-
-held-seat-requires : tie.Need-held-seat-requires
-held-seat-requires c κs =
-    let x = c .before in
-    let s = start (else-of x) in
-    by-there (s .args .limit) (s .args .d) (stores s) (s .args .h) (s .pre .1) (right (else-of x)) (x .x .given .0 .0) (found x) .1
+seat-by-in-requires : tie.Need-seat-by-in-requires
+seat-by-in-requires c κs =
+    let s = at (c .before) in
+    let k = clear (storesSuffice (s .args .limit) (lent s) && s .args .cells) (s .args .value) 0 (eqb (s .args .unset) 0 && leb (s .args .limit) mostSets) (sym (number (c .before)) ∙ c .if1 .left) in
+    let l = suffices (s .args .limit) (lent s) (and-true (storesSuffice (s .args .limit) (lent s)) (s .args .cells) (k .room-is) .0) in
+    (l .sets, l .entries, l .order)
 
 returns-2 : tie.Need-returns-2
 returns-2 c =
-    let b = c .before .before .before in
-    let s = start (b .before) in
-    c .refused2 .ensures ∙ sym (by-is (s .args .limit) (s .args .d) (stores s) (s .args .h) (right (b .before)) _ (sym (b .by-handle .ensures) ∙ c .before .enum-told .given .1))
-
-returns-3 : tie.Need-returns-3
-returns-3 c =
-    let x = c .before .before in
-    let s = start (else-of x) in
-    c .held-seat .ensures ∙ sym (by-is (s .args .limit) (s .args .d) (stores s) (s .args .h) (right (else-of x)) (Held (x .x .given .0 .0)) (found x))
+    let e = c .before in
+    let b = e .before in
+    c .seat-by-in .ensures ∙ sym (barred-on (first (at b)) (goes (at b)) (sym (number b) ∙ e .if1 .left))
 
 pub seat-by-spec : {M : Type 1} → statement M
 seat-by-spec =
     tie.close
     (tie.spec
-    agrees-requires
-    refused-requires
+    (λ c κs. search needs)
+    (λ c κs. search needs)
+    (λ c κs. search needs)
     returns
-    by-handle-requires
-    enum-told
-    refused-requires-2
-    enum-known-x
-    held-seat-requires
-    returns-2
-    returns-3)
+    seat-by-in-requires
+    returns-2)

@@ -3,10 +3,11 @@ use borrow.Author.Needs.{needs}
 use Prim.Native.Nat.{ℕ, _+_}
 use mathlib.Core.Path.{ap, sym, _∙_}
 use mathlib.Core.List.{List, []}
+use mathlib.Core.Option.{some}
 use lib.ListN.{getD}
 use Rattle.directory.specs.Calls.{boundTo}
 use Rattle.directory.specs.View.{Stores}
-use Rattle.bindings.specs.declared.Answer.the-variants.{Handle}
+use Rattle.laws.specs.Said.{success}
 use Rattle.bindings.proofs.Binds.{held-full, held-more}
 use Rattle.bindings.proofs.calls.bind_held.Statement.{statement}
 use Rattle.bindings.proofs.calls.bind_held.Tie as tie
@@ -46,8 +47,8 @@ returns-2 c sets order =
     let b = r .before .before in
     let e = b .before .before in
     let s = e .before .before in
-    ap (λ l. record { answer = Handle (b .birth-of .result); kept = record { dir = s .args .d; stores = record { sets = sets; entries = l; order = order } } }) (r .rebind .ensures)
-    ∙ ap (λ (h : ℕ). record { answer = Handle h; kept = record { dir = s .args .d; stores = record { sets = sets; entries = boundTo (s .args .entries .now) (s .args .x) (getD (getD (s .args .entries .now) (s .args .x) []) 1 0 + 1); order = order } } }) (b .birth-of .ensures)
+    ap (λ l. record { answer = success (some (b .birth-of .result)); kept = record { dir = s .args .d; stores = record { sets = sets; entries = l; order = order } } }) (r .rebind .ensures)
+    ∙ ap (λ (h : ℕ). record { answer = success (some h); kept = record { dir = s .args .d; stores = record { sets = sets; entries = boundTo (s .args .entries .now) (s .args .x) (getD (getD (s .args .entries .now) (s .args .x) []) 1 0 + 1); order = order } } }) (b .birth-of .ensures)
     ∙ sym (held-more (s .args .d) (stores s sets order) (s .args .x) (e .if1 .left))
 
 pub bind-held-spec : {M : Type 1} → statement M

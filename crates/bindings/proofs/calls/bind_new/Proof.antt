@@ -2,10 +2,11 @@
 use borrow.Author.Needs.{needs}
 use Prim.Native.Nat.{ℕ}
 use mathlib.Core.Path.{refl, ap, sym, _∙_}
+use mathlib.Core.Option.{some}
 use Rattle.directory.specs.Calls.{Kept, admitted}
 use Rattle.directory.specs.View.{Stores}
 use Rattle.directory.proofs.Admits.{as-made}
-use Rattle.bindings.specs.declared.Answer.the-variants.{Handle}
+use Rattle.laws.specs.Said.{success}
 use Rattle.bindings.proofs.Binds.{born-none, born-one}
 use Rattle.bindings.proofs.calls.bind_new.Statement.{statement}
 use Rattle.bindings.proofs.calls.bind_new.Tie as tie
@@ -35,8 +36,8 @@ returns-2 c =
     let a = c .before .before .before .before in
     let e = a .before .before .before .before in
     let s = e .before .before .before in
-    ap (λ (k : Kept). record { answer = Handle (k .dir .last); kept = k }) (a .admit .ensures)
-    ∙ ap (λ (n : ℕ). record { answer = Handle n; kept = admitted (s .args .d) (stores s) (s .args .row) (s .args .rank) (s .args .more) 1 }) (as-made _ (s .args .d) (stores s) (s .args .row) (s .args .rank) (s .args .more) 1 refl)
+    ap (λ (k : Kept). record { answer = success (some (k .dir .last)); kept = k }) (a .admit .ensures)
+    ∙ ap (λ (n : ℕ). record { answer = success (some n); kept = admitted (s .args .d) (stores s) (s .args .row) (s .args .rank) (s .args .more) 1 }) (as-made _ (s .args .d) (stores s) (s .args .row) (s .args .rank) (s .args .more) 1 refl)
     ∙ sym (born-one (s .args .d) (stores s) (s .args .row) (s .args .rank) (s .args .more) (e .if1 .left))
 
 pub bind-new-spec : {M : Type 1} → statement M

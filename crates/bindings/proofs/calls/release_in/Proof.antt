@@ -3,6 +3,7 @@ use borrow.Author.Needs.{needs}
 use Prim.Native.Nat.{_+_, _≤_, _<_}
 use mathlib.Core.Path.{_≡_, ap, sym, _∙_}
 use mathlib.Core.Bool.{true}
+use mathlib.Core.Option.{none}
 use borrow.Author.Tests.{not-true, not-false}
 use borrow.Author.Needs.{scaled-fits}
 use native.Mathlib.Omega.{arith}
@@ -13,7 +14,7 @@ use Rattle.directory.specs.declared.Found.the-variants.{Held}
 use Rattle.directory.proofs.Agreed.{place-slot}
 use Rattle.directory.proofs.Finds.{scan-bound}
 use Rattle.directory.proofs.Laws.{few, places-right, slot-used, scan-in, slotsOf}
-use Rattle.bindings.specs.declared.Answer.the-variants.{Done}
+use Rattle.laws.specs.Said.{success}
 use Rattle.bindings.proofs.Releases.{release-no, release-none, release-one}
 use Rattle.bindings.proofs.calls.release_in.Statement.{statement}
 use borrow.Author.Needs.{needs}
@@ -102,7 +103,7 @@ returns-3 c =
     let x = r .before .before .before .before in
     let e = else-of x in
     let s = start e in
-    ap (λ l. record { answer = Done; kept = record { dir = s .args .d; stores = record { sets = s .args .sets .now; entries = l; order = s .args .order .now } } }) (r .rebind .ensures)
+    ap (λ l. record { answer = success none; kept = record { dir = s .args .d; stores = record { sets = s .args .sets .now; entries = l; order = s .args .order .now } } }) (r .rebind .ensures)
     ∙ sym (release-one (s .args .limit) (s .args .d) (stores s) (s .args .h) (right e) (x .x .given .0 .0) (found x))
 
 pub release-in-spec : {M : Type 1} → statement M

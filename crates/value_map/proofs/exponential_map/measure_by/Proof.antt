@@ -1,29 +1,23 @@
 -- `value_map::exponential_map::measure_by` meets its contract. Assumes nothing.
 use borrow.Author.Needs.{needs}
-use Prim.Native.Nat.{ℕ}
-use mathlib.Core.Path.{_≡_, sym, ap, _∙_}
-use mathlib.Core.Bool.{_&&_}
-use lib.Dec.{leb}
-use lib.Ieee.{binary64, fits}
-use lib.Ieee.Scale.{finite}
-use Rattle.laws.proofs.Cases.{and-true}
+use mathlib.Core.Path.{refl, _∙_}
 use Rattle.kinds.specs.Histograms.{histograms}
 use Rattle.directory.specs.View.{stores}
-use Rattle.directory.specs.Calls.{mostSets}
-use Rattle.directory.proofs.Refusals.{Suffice}
-use Rattle.bindings.specs.declared.Reply.{Reply}
 use Rattle.exponential_slots.specs.Cells.{Cells, cells}
 use Rattle.value_map.specs.Store.{Store}
-use Rattle.value_map.specs.Calls.{Held, Outcome, held, gave, barredBy, passes, lent}
-use Rattle.value_map.specs.Exponential.{cellsSuffice, exponentialStore}
-use Rattle.value_map.proofs.Bars.{Clear, clear}
-use Rattle.value_map.proofs.Cases.{lent-dir, by-seatable, called-barred, called-on, by-is, by-here}
+use Rattle.value_map.specs.Calls.{Held, held}
+use Rattle.value_map.specs.Exponential.{exponentialStore}
+use Rattle.value_map.proofs.Cases.{by-here}
+use Rattle.value_map.proofs.Ways.{took, Way, by-way, Sits, allows, ends}
 use Rattle.value_map.proofs.ExponentialOwes.{owed}
 use Rattle.value_map.proofs.exponential_map.measure_by.Statement.{statement}
 use Rattle.value_map.proofs.exponential_map.measure_by.Tie as tie
 
-abbrev at : tie.After-barred → tie.Start
-at c = c .before .before .before .before .before .before .before
+abbrev own : tie.After-seat-by → tie.After-unset-of
+own q = q .before .before .before .before
+
+abbrev at : tie.After-seat-by → tie.Start
+at q = own q .before .before .before .before .before .before
 
 abbrev kind : tie.Start → Store histograms
 kind s = exponentialStore (s .args .size) (s .args .top)
@@ -31,112 +25,53 @@ kind s = exponentialStore (s .args .size) (s .args .top)
 abbrev lentMap : tie.Start → Held Cells
 lentMap s = let a = s .args in held (a .d) (stores (a .sets) (a .entries) (a .order)) (cells (a .figures) (a .extremes) (a .pos) (a .neg))
 
--- a reply that leaves the map as it was lent
-abbrev same : tie.Start → Reply → Outcome Cells
-same s r = gave r (lentMap s .kept .stores) (lentMap s .cells)
+abbrev way : (s : tie.Start) → Way (kind s) (s .args .limit) (lentMap s)
+way s = let a = s .args in by-way (owed (a .size) (a .top)) (a .limit) (lentMap s) (a .h)
 
--- the number that comes first, and what is known where it is none
-abbrev first : tie.Start → ℕ
-first s = barredBy (lent (kind s) (s .args .limit) (lentMap s)) (histograms .finite (s .args .v)) 0 (passes (kind s) && leb (s .args .limit) mostSets)
+known : (q : tie.After-seat-by) → Sits (kind (at q)) (lentMap (at q)) (at q .args .v) (q .seat-by .result)
+known q =
+    let s = at q in
+    let a = s .args in
+    let u = own q in
+    allows (owed (a .size) (a .top)) (a .limit) (lentMap s) (a .v) (way s) (u .unset-of .result) (u .before .before .cells-suffice .ensures) (u .before .takes .ensures) (q .seat-by .ensures)
 
-number : (b : tie.After-barred) → b .barred .result ≡ first (at b)
-number b =
-    let s = at b in
-    let g = b .before in
-    let k = g .before in
-    b .barred .ensures
-    ∙ (λ j. barredBy ((k .all-suffice .ensures ∙ (λ i. k .before .stores-suffice .ensures i && cellsSuffice (s .args .size) (s .args .limit) (lentMap s .cells))) j)
-    (histograms .finite (s .args .v)) 0 (g .configured .ensures j))
+take-requires : tie.Need-take-requires
+take-requires c κs = known (c .before .before .before .before) .takes
 
-known : (e : tie.Else1) → let s = at (e .before) in Clear (lent (kind s) (s .args .limit) (lentMap s)) (histograms .finite (s .args .v)) 0 (passes (kind s) && leb (s .args .limit) mostSets)
-known e = let s = at (e .before) in clear (lent (kind s) (s .args .limit) (lentMap s)) (histograms .finite (s .args .v)) 0 (passes (kind s) && leb (s .args .limit) mostSets) (sym (number (e .before)) ∙ e .if1 .left)
-
-long : (e : tie.Else1) → Suffice (at (e .before) .args .limit) (lentMap (at (e .before)) .kept .stores)
-long e = let s = at (e .before) in lent-dir (owed (s .args .size) (s .args .top)) (s .args .limit) (lentMap s) (known e .room-is)
-
-stores-suffice-requires : tie.Need-stores-suffice-requires
-stores-suffice-requires c κs = search needs
-
-all-suffice-requires : tie.Need-all-suffice-requires
-all-suffice-requires c κs = search needs
-
-configured-requires : tie.Need-configured-requires
-configured-requires c κs = search needs
-
-barred-requires : tie.Need-barred-requires
-barred-requires c κs = search needs
-
-refused-requires : tie.Need-refused-requires
-refused-requires c κs = search needs
+finish-requires : tie.Need-finish-requires
+finish-requires c κs z =
+    let t = c .before .before .before .before .before .before .before .before .before .before in
+    let q = t .before .before .before .before .before in
+    let s = at q in
+    known q .fits (took (kind s) (lentMap s .cells) (s .args .v) (q .seat-by .result .no) (q .seat-by .result .no) (q .seat-by .result .slot) (q .seat-by .result .updated) (λ d. d) _ (t .take .ensures) z)
 
 returns : tie.Need-returns
 returns c =
-    let b = c .before .before in
-    let s = at b in
-    ap (same s) (c .refused .ensures) ∙ called-barred (kind s) (s .args .limit) (lentMap s) (s .args .v) 0 (leb (s .args .limit) mostSets) _ _ (b .barred .result) (number b) (c .before .if1 .taken)
-    ∙ by-here (kind s) (s .args .limit) (lentMap s) (s .args .v) (s .args .h)
-
-seat-by-requires : tie.Need-seat-by-requires
-seat-by-requires c κs = let l = long (c .before .before .before) in (l .sets, l .entries, l .order)
-
-enter-requires : tie.Need-enter-requires
-enter-requires c κs =
-    let t = c .before .before .before .before .before .before .before in
-    let e = t .before .before .before .before in
-    let s = at (e .before) in (
-      by-seatable (owed (s .args .size) (s .args .top)) (s .args .limit) (lentMap s) (known e .room-is) (s .args .h) (t .seat-by .result) (t .seat-by .ensures),
-      and-true (finite (s .args .v)) (fits binary64 (s .args .v)) (known e .value) .0,
-    )
-
-same-length : tie.Need-same-length
-same-length c = search needs
-
-same-length-2 : tie.Need-same-length-2
-same-length-2 c = search needs
-
-same-length-3 : tie.Need-same-length-3
-same-length-3 c = search needs
-
-same-length-4 : tie.Need-same-length-4
-same-length-4 c = search needs
-
-same-length-5 : tie.Need-same-length-5
-same-length-5 c = search needs
-
-same-length-6 : tie.Need-same-length-6
-same-length-6 c = search needs
-
-same-length-7 : tie.Need-same-length-7
-same-length-7 c = search needs
-
-returns-2 : tie.Need-returns-2
-returns-2 c =
-    let n = c .before .before .before .before .before .before .before .before .before .before in
-    let t = n .before .before .before .before .before .before .before .before in
-    let e = t .before .before .before .before in
-    let b = e .before in
-    let s = at b in
-    n .enter .ensures
-    ∙ called-on (kind s) (s .args .limit) (lentMap s) (s .args .v) 0 (leb (s .args .limit) mostSets) _ (t .seat-by .result) (b .barred .result) (number b) (e .if1 .left)
-    ∙ by-is (kind s) (s .args .limit) (lentMap s) (s .args .v) (s .args .h) (t .seat-by .result) (t .seat-by .ensures)
+    let f = c .before .before .before .before in
+    let t = f .before .before .before .before .before .before .before .before .before .before .before in
+    let q = t .before .before .before .before .before in
+    let s = at q in
+    let a = s .args in
+    let u = own q in
+    ends (owed (a .size) (a .top)) (a .limit) (lentMap s) (a .v) (way s) (q .seat-by .result) _ _ _ (f .finish .ensures)
+    (u .before .before .cells-suffice .ensures) (u .before .takes .ensures) (u .unset-of .ensures) (q .seat-by .ensures) (λ z. refl) (t .take .ensures)
+    ∙ by-here (kind s) (a .limit) (lentMap s) (a .v) (a .h)
 
 pub measure-by-spec : {M : Type 1} → statement M
 measure-by-spec =
     tie.close
     (tie.spec
-    stores-suffice-requires
-    all-suffice-requires
-    configured-requires
-    barred-requires
-    refused-requires
-    returns
-    seat-by-requires
-    enter-requires
-    same-length
-    same-length-2
-    same-length-3
-    same-length-4
-    same-length-5
-    same-length-6
-    same-length-7
-    returns-2)
+    (λ c κs. search needs)
+    (λ c κs. search needs)
+    (λ c κs. search needs)
+    (λ c κs. search needs)
+    take-requires
+    finish-requires
+    (λ c. search needs)
+    (λ c. search needs)
+    (λ c. search needs)
+    (λ c. search needs)
+    (λ c. search needs)
+    (λ c. search needs)
+    (λ c. search needs)
+    returns)

@@ -3,7 +3,7 @@ use borrow.Author.Needs.{needs}
 use Rattle.value_map.proofs.first.counts_suffice.Statement.{statement}
 use Rattle.value_map.proofs.first.counts_suffice.Tie as tie
 use mathlib.Core.Path.{_∙_}
-use Rattle.value_map.proofs.Bars.{rows-none, rows-many}
+use Rattle.value_map.proofs.Products.{rows-none, rows-many}
 
 returns : tie.Need-returns
 returns c = let a = c .before .args in rows-none (a .limit) (a .n) (a .length) (c .if1 .taken)

@@ -1,37 +1,27 @@
--- The tests that come first, case by case. Assumes nothing.
-use Prim.Native.Nat.{ℕ, _+_, _*_, _/_, _≤_, _<_}
+-- What bars a recording before the directory is read, case by case; and the seating that is left. Assumes nothing.
+use Prim.Native.Nat.{ℕ, _≤_, _<_}
 use mathlib.Core.Path.{_≡_, refl, ap, sym, _∙_}
-use mathlib.Core.Logic.{⊎-elim}
-use mathlib.Core.Bool.{Bool, true, false}
-use native.Mathlib.Nat.{le-div-iff-mul-le}
+use mathlib.Core.Bool.{Bool, true, false, _&&_}
 use native.Mathlib.Omega.{arith}
-use lib.Dec.{leb}
-use borrow.Author.Tests.{le-leb, lt-leb, leb-true, leb-false}
+use lib.Dec.{leb, eqb}
+use borrow.Author.Tests.{le-leb, lt-leb, leb-true, eq-eqb, ne-eqb, eqb-true, eqb-false}
 use Rattle.laws.specs.Pick.{pick}
-use Rattle.laws.proofs.Bools.{flag}
-use Rattle.laws.proofs.Cases.{true-not-false}
 use Rattle.sets.specs.Sorted.{mostAttributes}
-use Rattle.bindings.specs.declared.Answer.{Answer}
-use Rattle.bindings.specs.declared.Answer.the-variants.{Refused, Done, Handle}
-use Rattle.value_map.specs.Calls.{barredBy}
+use Rattle.seats.specs.Seats.{away, barredBy, unlessBarred}
+use Rattle.seats.specs.declared.Seating.{Seating}
 
--- ---- number 12 of a count store, without the product
+-- ---- two tests, one after another
 
-pub rows-none : (limit n length : ℕ) → n ≡ 0 → true ≡ leb ((limit + 2) * n) length
-rows-none limit n length e = sym (le-leb ((limit + 2) * n) length (rw e (omega arith)))
+module _ (a b : Bool) where
+  pub first-not : a ≡ false → (a && b) ≡ false
+  first-not e = rw e
 
-pub rows-many : (limit n length : ℕ) → (n ≡ 0 → ⊥) → leb (limit + 2) (length / n) ≡ leb ((limit + 2) * n) length
-rows-many limit n length d =
-    let p : 0 < n = omega (arith, d) in
-    let w = le-div-iff-mul-le {k = n} {x = limit + 2} {y = length} p in
-    ⊎-elim
-    (λ (e : leb (limit + 2) (length / n) ≡ true). e ∙ sym (le-leb ((limit + 2) * n) length (w .0 (leb-true (limit + 2) (length / n) e))))
-    (λ (e : leb (limit + 2) (length / n) ≡ false).
-    e ∙ sym (not-le ((limit + 2) * n) length (λ h. let a = w .1 h in let b = leb-false (limit + 2) (length / n) e in omega arith)))
-    (flag (leb (limit + 2) (length / n)))
-  where
-    not-le : (a b : ℕ) → (a ≤ b → ⊥) → leb a b ≡ false
-    not-le a b h = lt-leb a b (omega (arith, h))
+  module _ (e : a ≡ true) where
+    pub second-not : b ≡ false → (a && b) ≡ false
+    second-not f = rw e f
+
+    pub both-are : b ≡ true → (a && b) ≡ true
+    both-are f = rw e f
 
 -- ---- the refusals
 
@@ -83,11 +73,21 @@ clear room fin n ok e =
     let p = passed room fin (leb n mostAttributes) ok e in
     record { room-is = p .0; value = p .1; few = leb-true n mostAttributes (p .2); ok-is = p .3 }
 
--- a refusal is not done
-pub refused-not-done : {A : Type 0} (n : ℕ) → Refused n ≡ Done → A
-refused-not-done n q = true-not-false (ap refused? q)
-  where
-    refused? : Answer → Bool
-    refused? (Refused n) = true
-    refused? Done = false
-    refused? (Handle b) = false
+-- ---- the seating that is left
+
+module _ (n : ℕ) (a : Seating) where
+  pub barred-away : (n ≡ 0 → ⊥) → unlessBarred n a ≡ away n
+  unfolding unlessBarred pick
+  barred-away d = rw (ne-eqb n 0 d)
+
+  pub barred-on : n ≡ 0 → unlessBarred n a ≡ a
+  unfolding unlessBarred pick
+  barred-on e = rw (eq-eqb n 0 e)
+
+  -- one that is not refused was not barred
+  pub not-barred : unlessBarred n a .no ≡ 0 → n ≡ 0
+  not-barred z = go (eqb n 0) refl
+    where
+      go : (b : Bool) → eqb n 0 ≡ b → n ≡ 0
+      go true e = eqb-true n 0 e
+      go false e = sym (ap (λ (s : Seating). s .no) (barred-away (eqb-false n 0 e))) ∙ z

@@ -11,7 +11,13 @@ use text::Natural;
 
 // ---- recording
 
-fn record_exponential(s: State, h: exponential::Head, v: f64, pos: &mut [u64], neg: &mut [u64]) -> State {
+fn record_exponential(
+    s: State,
+    h: exponential::Head,
+    v: f64,
+    pos: &mut [u64],
+    neg: &mut [u64],
+) -> State {
     let t = s.settings;
     let p = t.pos;
     let n = t.neg;
@@ -229,8 +235,8 @@ fn follow_line(
 ) -> State {
     let letter = letter_of(line);
     match letter {
-        b'e' => starts::exponentialCounts(s, line),
-        b'x' => starts::explicitCounts(s, line, bounds, pos),
+        b'e' => starts::exponential_start(s, line),
+        b'x' => starts::explicit_start(s, line, bounds, pos),
         b'r' => record(s, line, bounds, pos, neg),
         b'p' => show(s, line, pos, neg),
         _ => follow_decimals(s, letter, line, bounds, pos, neg),

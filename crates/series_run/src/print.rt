@@ -1,10 +1,10 @@
 // A point printed: kind, figures, and its rows or bucket counts.
 use crate::stores;
+use exponential::Counts;
 use floats::Extreme;
 use point::Figures;
 use point::Point;
 use rows::Row;
-use exponential::Counts;
 
 fn space() {
     text::write(b" ");

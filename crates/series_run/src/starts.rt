@@ -33,10 +33,15 @@ fn level_start(s: State, size: u64, top: u32) -> State {
     t.size = size as u32;
     t.top = top;
     let next = state::with_settings(s, t);
-    state::with(next, Current::Exponential(exponential::fresh(top)), s.bounds)
+    state::with(
+        next,
+        Current::Exponential(exponential::fresh(top)),
+        s.bounds,
+    )
 }
 
-pub fn exponentialCounts(s: State, line: &[u8]) -> State {
+// A series of the exponential kind, by max_size and scale.
+pub fn exponential_start(s: State, line: &[u8]) -> State {
     if text::spaces(line) != 2 {
         return state::unread(s);
     }
@@ -81,7 +86,8 @@ fn begun(s: State, n: usize, answer: explicit::Answer, line: &[u8], bounds: &mut
     }
 }
 
-pub fn explicitCounts(s: State, line: &[u8], bounds: &mut [f64], pos: &mut [u64]) -> State {
+// A series of the explicit kind, by its bounds.
+pub fn explicit_start(s: State, line: &[u8], bounds: &mut [f64], pos: &mut [u64]) -> State {
     let n = text::spaces(line);
     let t = s.settings;
     let p = t.pos;

@@ -1,0 +1,26 @@
+-- WHAT A KIND OWES of its points in lent output: they read back as the points of its series. Assumes nothing.
+use Prim.Native.Nat.{ℕ}
+use mathlib.Core.Path.{_≡_}
+use mathlib.Core.Bool.{Bool, true}
+use lib.ListN.{length}
+use Rattle.tally.specs.Kind.{Kind}
+use Rattle.tally.specs.Map.{sound}
+use Rattle.value_map.specs.Store.{Store}
+use Rattle.value_map.proofs.Owed.{there, was}
+use Rattle.collecting.specs.Lister.{Lister}
+
+module _ {K : Kind} {S : Store K} (L : Lister S) where
+  -- the point of slot x, whose entry was updated or not
+  pub record Listed (w : S .Switches) (c : S .Cells) (x : ℕ) (u : Bool) : Type 0 where
+    pub point : L .point (L .words w c x u) (L .pos c x u) (L .neg c x u) ≡ K .point (S .settings w) (was S w c x u)
+    pub posLen : L .posLen (L .words w c x u) ≡ length (L .pos c x u)
+    pub negLen : L .negLen (L .words w c x u) ≡ length (L .neg c x u)
+    -- and it takes as many places as the kind says
+    pub pos : K .pos (K .point (S .settings w) (was S w c x u)) ≡ length (L .pos c x u)
+    pub neg : K .neg (K .point (S .settings w) (was S w c x u)) ≡ length (L .neg c x u)
+
+  -- of every slot that lies in the cells and whose series agrees, if it holds one
+  abbrev pub Lists : Type 0
+  Lists =
+      (w : S .Switches) (c : S .Cells) (x : ℕ) (u : Bool) → S .unset ≡ 0 → S .Room c x
+      → sound K (S .settings w) (there S c x u) ≡ true → Listed w c x u

@@ -1,0 +1,180 @@
+-- FAITHFUL. Delta and cumulative collection are the map's steps, for any kind that pays what it owes, and leave a state that agrees.
+-- Assumes nothing.
+use Prim.Native.Nat.{ℕ, zero, suc, _+_, _≤_}
+use mathlib.Core.Path.{_≡_, refl, sym, ap, subst, _∙_}
+use mathlib.Core.Logic.{inl, inr, ⊎-elim}
+use mathlib.Core.Bool.{Bool, true, false, not, _&&_, _||_}
+use mathlib.Core.List.{List, [], _∷_, map}
+use mathlib.Core.Option.{Option}
+use native.Mathlib.Omega.{arith}
+use lib.Dec.{leb, eqb}
+use lib.ListN.{length, getD}
+use borrow.Author.Tests.{eq-eqb, le-leb}
+use Rattle.laws.specs.Pick.{pick}
+use Rattle.laws.specs.Said.{refusal}
+use Rattle.laws.proofs.Bools.{flag}
+use Rattle.tally.specs.Kind.{Kind, Room, suffices, unless, firstOf}
+use Rattle.tally.specs.Sets.{same}
+use Rattle.tally.specs.Map.{Config, Map, Out, Points, collect, refuse, listed, sound, points, filled, orRefused, upfront, act, swept, step, cumulate}
+use Rattle.sets.specs.Rows.{size, setOf, rowOf}
+use Rattle.sets.proofs.Exact.{set-own}
+use Rattle.sets.proofs.Keyed.{named-row}
+use Rattle.directory.specs.View.{Stores, setAt, agreesb, view}
+use Rattle.directory.specs.Calls.{Kept, mostSets}
+use Rattle.directory.specs.declared.Directory.{Directory}
+use Rattle.directory.proofs.Agreed.{slot-sizes}
+use Rattle.directory.proofs.Laws.{few, slots-right, slot-used}
+use Rattle.directory.proofs.Leaves.{Good}
+use Rattle.directory.proofs.Refusals.{within}
+use Rattle.directory.proofs.Rises.{In}
+use Rattle.seats.specs.Seats.{updatedIn}
+use Rattle.sweep.specs.Swept.{only, sweptKept}
+use Rattle.sweep.proofs.Stayers.{only-in}
+use Rattle.sweep.proofs.Settled as Settled
+use Rattle.sweep.proofs.Faithful.{sweep-faithful}
+use Rattle.value_map.specs.Store.{Store}
+use Rattle.value_map.specs.Calls.{Held}
+use Rattle.value_map.proofs.Owed.{Owed}
+use Rattle.value_map.proofs.Cases.{lent-cells}
+use Rattle.value_map.specs.Maps.{mapOf, configOf}
+use Rattle.value_map.proofs.Steps.{Fair}
+use Rattle.value_map.proofs.Kept.{good, fair-on}
+use Rattle.listing.specs.Listed.{Output}
+use Rattle.collecting.specs.Lister.{Lister}
+use Rattle.collecting.specs.Collected.{Collected, roomOf, slotsOf, dueOf, laidOut, agreeing, roomy, uncollected, collectedTo, unlessRefused, deltaCollected, cumulativeCollected, pointsOut, answered}
+use Rattle.collecting.proofs.Owed.{Listed, Lists}
+use Rattle.collecting.proofs.Back.{set-again, pointAt, reads-back}
+use Rattle.collecting.proofs.Points.{delta-points, cumulative-points, sound-all, sound-in, room-is}
+
+-- an outcome as the map's
+abbrev pub toldOf : {K : Kind} {S : Store K} → Lister S → S .Switches → Collected (S .Cells) → Out K
+toldOf {K} {S} L w c = record { answer = answered L w (c .answer) (c .out); map = mapOf S w (c .held) }
+
+module _ {K : Kind} {S : Store K} (W : Owed S) (L : Lister S) (Q : Lists L) (w : S .Switches) (limit : ℕ) (filter : Option (List ℕ)) (h : Held (S .Cells)) (g : Fair S limit filter h) where
+  abbrev k : Kept
+  k = h .kept
+
+  abbrev d : Directory
+  d = h .kept .dir
+
+  abbrev s : Stores
+  s = h .kept .stores
+
+  abbrev z : K .Settings
+  z = S .settings w
+
+  abbrev u : ℕ → Bool
+  u x = updatedIn (h .kept .stores .entries) x
+
+  abbrev m : Map K
+  m = mapOf S w h
+
+  -- ---- what is known of the directory's slots
+  slot-known : (x : ℕ) → In x (slotsOf k) → x ≤ d .used
+  slot-known x i = slot-used limit d s (g .agrees) x i
+
+  sized : (x : ℕ) → x ≤ d .used → 1 ≤ x → (1 ≤ size (getD (s .sets) x [])) × (size (getD (s .sets) x []) ≤ 8)
+  sized x a b = slot-sizes (d .used) (d .last) (s .sets) (s .entries) (slots-right limit d s (g .agrees)) x b a
+
+  set-back : (x : ℕ) → x ≤ d .used → setOf (rowOf (setAt (s .sets) x)) ≡ setAt (s .sets) x
+  set-back zero a = set-own [] (omega arith) tt
+  set-back (suc x) a = set-again (getD (s .sets) (suc x) []) (sized (suc x) a (omega arith) .1)
+
+  set-named : (x : ℕ) → x ≤ d .used → 1 ≤ x → same (setAt (s .sets) x) [] ≡ false
+  set-named zero a b = absurd (omega arith)
+  set-named (suc x) a b = named-row (getD (s .sets) (suc x) []) (λ e. omega (arith, sized (suc x) a b .0, e))
+
+  -- the slots that are due, where all series agree
+  module _ (whole : Bool) (a : agreeing L w h ≡ true) where
+    due-slot : (x : ℕ) → In x (dueOf whole k) → In x (slotsOf k)
+    due-slot x i = only-in (λ y. u y || (whole && not (eqb y 0))) (slotsOf k) x i .0
+
+    listed-at : (x : ℕ) → In x (dueOf whole k) → Listed L w (h .cells) x (u x)
+    listed-at x i =
+        let q = due-slot x i in
+        Q w (h .cells) x (u x) (g .set)
+        (W .room limit (h .cells) x (lent-cells W limit h (g .lent-is)) (omega (arith, slot-known x q, few limit d s (g .agrees))))
+        (sound-in S w h (slotsOf k) a x q)
+
+    read-back : (o : Output) → pointsOut L w (length (dueOf whole k)) (laidOut L w h (dueOf whole k) o) ≡ map (pointAt S w h) (dueOf whole k)
+    read-back o = reads-back L w h (dueOf whole k) o listed-at (λ x i. set-back x (slot-known x (due-slot x i)))
+
+    roomy-is : (r : Room) → suffices K r (map (λ p. p .1) (map (pointAt S w h) (dueOf whole k))) ≡ roomy L w h (dueOf whole k) r
+    roomy-is r = room-is S w h L (dueOf whole k) r listed-at
+
+  -- ---- the outcome, by cases
+  module _ (whole : Bool) (k′ : Kept) (o : Output) where
+    abbrev ours : Collected (S .Cells)
+    ours = unlessRefused L w (uncollected L w whole limit h o) h o (collectedTo L w whole k′ h o)
+
+    abbrev refusedBy : ℕ → Collected (S .Cells)
+    refusedBy n = record { answer = refusal n; held = h; out = o }
+
+    number-is : (a r : Bool) → agreeing L w h ≡ a → roomy L w h (dueOf whole k) (roomOf o) ≡ r → uncollected L w whole limit h o ≡ pick a (pick r 0 10) 8
+    unfolding uncollected pick
+    number-is a r p q =
+        λ i. pick (g .lent-is i)
+        (pick (eq-eqb (S .unset) 0 (g .set) i && (le-leb limit mostSets (within limit filter (g .accepted)) i && (g .agrees i && p i))) (pick (q i) 0 10) 8) 12
+
+    ours-is : (n : ℕ) → uncollected L w whole limit h o ≡ n → ours ≡ unlessRefused L w n h o (collectedTo L w whole k′ h o)
+    ours-is n e = ap (λ j. unlessRefused L w j h o (collectedTo L w whole k′ h o)) e
+
+    by-cases : (P : Collected (S .Cells) → Type 0) → (agreeing L w h ≡ false → P (refusedBy 8))
+        → (agreeing L w h ≡ true → roomy L w h (dueOf whole k) (roomOf o) ≡ false → P (refusedBy 10))
+        → (agreeing L w h ≡ true → roomy L w h (dueOf whole k) (roomOf o) ≡ true → P (collectedTo L w whole k′ h o)) → P ours
+    unfolding pick
+    by-cases P eight ten on = at-agreeing (agreeing L w h) refl
+      where
+        at-room : agreeing L w h ≡ true → (r : Bool) → roomy L w h (dueOf whole k) (roomOf o) ≡ r → P ours
+        at-room a true r = subst P (sym (ours-is 0 (number-is true true a r))) (on a r)
+        at-room a false r = subst P (sym (ours-is 10 (number-is true false a r))) (ten a r)
+
+        at-agreeing : (a : Bool) → agreeing L w h ≡ a → P ours
+        at-agreeing true a = at-room a (roomy L w h (dueOf whole k) (roomOf o)) refl
+        at-agreeing false a = subst P (sym (ours-is 8 (number-is false (roomy L w h (dueOf whole k) (roomOf o)) a refl))) (eight a)
+
+  -- ---- the map's collection, by the slots: its entries' points, and their agreement
+  abbrev collecting : Room → Bool → Points K → Map K → Out K
+  collecting r a ps after =
+      orRefused K m (firstOf (unless a 8 ∷ unless (suffices K r (map (λ p. p .1) ps)) 10 ∷ [])) (record { answer = listed ps; map = after })
+
+  -- and it is ours
+  collects : (whole : Bool) (k′ : Kept) (o : Output) (after : Map K) → after ≡ view K (S .at (h .cells)) z (k′ .dir) (k′ .stores)
+      → collecting (roomOf o) (agreeing L w h) (map (pointAt S w h) (dueOf whole k)) after
+      ≡ toldOf L w (unlessRefused L w (uncollected L w whole limit h o) h o (collectedTo L w whole k′ h o))
+  collects whole k′ o after e =
+      let ps = map (pointAt S w h) (dueOf whole k) in
+      by-cases whole k′ o (λ c. collecting (roomOf o) (agreeing L w h) ps after ≡ toldOf L w c)
+      (λ a. ap (λ b. collecting (roomOf o) b ps after) a)
+      (λ a r.
+      ap (λ b. collecting (roomOf o) b ps after) a
+      ∙ ap (λ b. orRefused K m (firstOf (unless b 10 ∷ [])) (record { answer = listed ps; map = after })) (roomy-is whole a (roomOf o) ∙ r))
+      (λ a r.
+      ap (λ b. collecting (roomOf o) b ps after) a
+      ∙ ap (λ b. orRefused K m (firstOf (unless b 10 ∷ [])) (record { answer = listed ps; map = after })) (roomy-is whole a (roomOf o) ∙ r)
+      ∙ (λ i. record { answer = listed (sym (read-back whole a o) i); map = e i }))
+
+  -- DELTA is the map's step
+  pub delta-steps : (o : Output) → step K (configOf S w limit filter) m (collect (roomOf o)) ≡ toldOf L w (deltaCollected L w limit h o)
+  unfolding upfront act deltaCollected
+  delta-steps o =
+      let q = good W w limit filter h g in
+      let r = Settled.within limit k q in
+      (λ i. orRefused K m (firstOf (unless (sound-all S w h (slotsOf k) i) 8 ∷ unless (suffices K (roomOf o) (map (λ p. p .1) (delta-points S w h (slotsOf k) i))) 10 ∷ [])) (record { answer = listed (delta-points S w h (slotsOf k) i); map = swept K m }))
+      ∙ collects false (sweptKept k) o (swept K m) (sym (sweep-faithful limit k (g .agrees) (r .0) (r .1) (r .2) K (S .at (h .cells)) (S .at (h .cells)) z))
+
+  -- CUMULATIVE is the map's collection that leaves it
+  pub cumulative-steps : (o : Output) → cumulate K m (roomOf o) ≡ toldOf L w (cumulativeCollected L w limit h o)
+  unfolding cumulate cumulativeCollected
+  cumulative-steps o =
+      let e = cumulative-points S w h (slotsOf k) (λ x i n. set-named x (slot-known x i) n) in
+      (λ i. orRefused K m (firstOf (unless (sound-all S w h (slotsOf k) i) 8 ∷ unless (suffices K (roomOf o) (map (λ p. p .1) (e i))) 10 ∷ [])) (record { answer = listed (e i); map = m }))
+      ∙ collects true k o m refl
+
+  -- KEPT: the state agrees as before
+  pub delta-fair : (o : Output) → Fair S limit filter (deltaCollected L w limit h o .held)
+  unfolding deltaCollected
+  delta-fair o =
+      let q = good W w limit filter h g in
+      let swept-fair = fair-on W w limit filter h g (sweptKept k) (Settled.sweep-good limit k q) (h .cells) (lent-cells W limit h (g .lent-is)) in
+      by-cases false (sweptKept k) o (λ c. Fair S limit filter (c .held)) (λ a. g) (λ a r. g) (λ a r. swept-fair)

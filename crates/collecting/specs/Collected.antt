@@ -1,0 +1,125 @@
+-- What the collecting calls make of the map and of lent output: answer, state and every lent store, for any kind's store. Assumes nothing.
+use Prim.Native.Nat.{ℕ, zero, suc}
+use mathlib.Core.Bool.{Bool, true, false, not, _&&_, _||_}
+use mathlib.Core.List.{List, [], _∷_, _++_, map}
+use lib.Dec.{leb, eqb}
+use lib.ListN.{length, getD, take, drop}
+use Rattle.laws.specs.Over.{over}
+use Rattle.laws.specs.Pick.{pick}
+use Rattle.laws.specs.Said.{Said, refusal, success}
+use Rattle.laws.specs.Tests.{all}
+use Rattle.tally.specs.Kind.{Kind, Room}
+use Rattle.tally.specs.Map.{Points, Answer, refuse, listed}
+use Rattle.sets.specs.Rows.{span, setOf, rowOf}
+use Rattle.directory.specs.View.{setAt, agreesb}
+use Rattle.directory.specs.Calls.{Kept, mostSets}
+use Rattle.seats.specs.Seats.{updatedIn}
+use Rattle.sweep.specs.Swept.{only, sweptKept}
+use Rattle.value_map.specs.Store.{Store}
+use Rattle.value_map.specs.Calls.{Held, passes, lent}
+use Rattle.listing.specs.Listed.{Output}
+use Rattle.collecting.specs.Lister.{Lister}
+
+-- success is the number of points, which lie in the output
+pub record Collected (Cells : Type 0) : Type 0 where
+  pub answer : Said ℕ
+  pub held : Held Cells
+  pub out : Output
+
+-- "10: lent output too short for all points or counts": places for points are asked of both stores that take one row a point
+unfoldable pub fewest : ℕ → ℕ → ℕ
+fewest a b = pick (leb a b) a b
+
+abbrev pub roomOf : Output → Room
+roomOf o = record { points = fewest (length (o .sets)) (length (o .words)); pos = length (o .pos); neg = length (o .neg) }
+
+-- the slots ascending by set, the empty set's first
+abbrev pub slotsOf : Kept → List ℕ
+slotsOf k = 0 ∷ span (k .stores .order) 0 (k .dir .used)
+
+-- the slots whose entries were updated; and, for a cumulative collection, the named ones too: "every named entry is listed, even one bound
+-- and never recorded .. The empty series is listed only if updated."
+abbrev pub due : Bool → Kept → ℕ → Bool
+due whole k x = updatedIn (k .stores .entries) x || (whole && not (eqb x 0))
+
+abbrev pub dueOf : Bool → Kept → List ℕ
+dueOf whole k = only (due whole k) (slotsOf k)
+
+module _ {K : Kind} {S : Store K} (L : Lister S) (w : S .Switches) where
+  -- what is written for a list of slots
+  abbrev pub setRows : Kept → List ℕ → List (List ℕ)
+  setRows k l = map (λ x. rowOf (setAt (k .stores .sets) x)) l
+
+  abbrev pub wordRows : Held (S .Cells) → List ℕ → List (List ℕ)
+  wordRows h l = map (λ x. L .words w (h .cells) x (updatedIn (h .kept .stores .entries) x)) l
+
+  abbrev pub posCounts : Held (S .Cells) → List ℕ → List ℕ
+  posCounts h [] = []
+  posCounts h (x ∷ l) = L .pos (h .cells) x (updatedIn (h .kept .stores .entries) x) ++ posCounts h l
+
+  abbrev pub negCounts : Held (S .Cells) → List ℕ → List ℕ
+  negCounts h [] = []
+  negCounts h (x ∷ l) = L .neg (h .cells) x (updatedIn (h .kept .stores .entries) x) ++ negCounts h l
+
+  -- "Lent output past the result keeps what it held."
+  abbrev pub laidOut : Held (S .Cells) → List ℕ → Output → Output
+  laidOut h l o =
+      record {
+        sets = over (setRows (h .kept) l) (o .sets);
+        words = over (wordRows h l) (o .words);
+        pos = over (posCounts h l) (o .pos);
+        neg = over (negCounts h l) (o .neg);
+      }
+
+  -- "8: .. touched series disagrees with itself": a series is touched where its entry was updated
+  abbrev pub agreeing : Held (S .Cells) → Bool
+  agreeing h = all (λ x. not (updatedIn (h .kept .stores .entries) x) || K .agrees (S .settings w) (S .at (h .cells) x)) (slotsOf (h .kept))
+
+  unfoldable pub roomy : Held (S .Cells) → List ℕ → Room → Bool
+  roomy h l r = leb (length l) (r .points) && (leb (length (posCounts h l)) (r .pos) && leb (length (negCounts h l)) (r .neg))
+
+  -- "Collecting: 12, 8, 10"; 0 if none. 8 also where configuring could not have accepted the settings and the limit.
+  unfoldable pub uncollected : Bool → ℕ → Held (S .Cells) → Output → ℕ
+  uncollected whole limit h o =
+      pick (lent S limit h)
+      (pick (passes S && (leb limit mostSets && (agreesb limit (h .kept .dir) (h .kept .stores) && agreeing h)))
+      (pick (roomy h (dueOf whole (h .kept)) (roomOf o)) 0 10)
+      8)
+      12
+
+  -- the points of the slots that are due, in the output; the map is k then
+  abbrev pub collectedTo : Bool → Kept → Held (S .Cells) → Output → Collected (S .Cells)
+  collectedTo whole k h o =
+      record {
+        answer = success (length (dueOf whole (h .kept)));
+        held = record { kept = k; cells = h .cells };
+        out = laidOut h (dueOf whole (h .kept)) o;
+      }
+
+  -- "Every refusal changes nothing."
+  abbrev pub unlessRefused : ℕ → Held (S .Cells) → Output → Collected (S .Cells) → Collected (S .Cells)
+  unlessRefused n h o c = pick (eqb n 0) c (record { answer = refusal n; held = h; out = o })
+
+  -- DELTA: "updated entries are listed and reset; others, without bindings and not overflow, are removed, the count falls by them, and their
+  -- places serve new sets". An entry that is reset has no series: no cell is written.
+  unfoldable pub deltaCollected : ℕ → Held (S .Cells) → Output → Collected (S .Cells)
+  deltaCollected limit h o = unlessRefused (uncollected false limit h o) h o (collectedTo false (sweptKept (h .kept)) h o)
+
+  -- CUMULATIVE (`LowMemory` too): the map stays
+  unfoldable pub cumulativeCollected : ℕ → Held (S .Cells) → Output → Collected (S .Cells)
+  cumulativeCollected limit h o = unlessRefused (uncollected true limit h o) h o (collectedTo true (h .kept) h o)
+
+  -- THE READER: the first n points of lent output
+  abbrev pub pointsIn : ℕ → List (List ℕ) → List (List ℕ) → List ℕ → List ℕ → Points K
+  pointsIn zero rs ws ps ns = []
+  pointsIn (suc n) rs ws ps ns =
+      (setOf (getD rs 0 []), L .point (getD ws 0 []) (take (L .posLen (getD ws 0 [])) ps) (take (L .negLen (getD ws 0 [])) ns))
+      ∷ pointsIn n (drop 1 rs) (drop 1 ws) (drop (L .posLen (getD ws 0 [])) ps) (drop (L .negLen (getD ws 0 [])) ns)
+
+  abbrev pub pointsOut : ℕ → Output → Points K
+  pointsOut n o = pointsIn n (o .sets) (o .words) (o .pos) (o .neg)
+
+  -- an answer as the map's
+  abbrev pub answered : Said ℕ → Output → Answer K
+  answered (refusal n) o = refuse n
+  answered (success n) o = listed (pointsOut n o)

@@ -1,0 +1,3 @@
+-- The definitions that the contracts of the collecting calls cite.
+pub mod Lister
+pub mod Collected

@@ -1,0 +1,17 @@
+-- WHAT COLLECTING ASKS of a kind's store: the point of a slot's series as it lies in lent output. Each kind is one such record; the
+-- collecting calls are defined over it once (Collected.antt). Assumes nothing.
+use Prim.Native.Nat.{ℕ}
+use mathlib.Core.Bool.{Bool}
+use mathlib.Core.List.{List}
+use Rattle.tally.specs.Kind.{Kind}
+use Rattle.value_map.specs.Store.{Store}
+
+pub record Lister {K : Kind} (S : Store K) : Type 1 where
+  -- of a slot's series where its entry was updated, else of one without values: the words of its point under the switches, and its counts
+  pub words : S .Switches → S .Cells → ℕ → Bool → List ℕ
+  pub pos : S .Cells → ℕ → Bool → List ℕ
+  pub neg : S .Cells → ℕ → Bool → List ℕ
+  -- the reader: how many counts the words say that their point has in either store, and the point that words and counts are
+  pub posLen : List ℕ → ℕ
+  pub negLen : List ℕ → ℕ
+  pub point : List ℕ → List ℕ → List ℕ → K .Point

@@ -3,18 +3,21 @@ ghost use mathlib.Core.Path.{_≡_};
 ghost use lib.Ieee.Scale.{finite};
 ghost use Rattle.floats.specs.Answers.{lesserOf, greaterOf, smallerOf, largerOf, shownOf, bitsOf};
 
+// Whether x is a number: neither infinite nor a NaN.
 pub fn is_finite(x: f64) -> bool
     ensures { λ r. ⌜ r ≡ finite x ⌝ }
 {
     x - x == 0.0
 }
 
+// The lesser of two, the first where they compare equal: a zero held first stays.
 pub fn lesser(a: f64, v: f64) -> f64
     ensures { λ r. ⌜ r ≡ lesserOf a v ⌝ }
 {
     if v < a { v } else { a }
 }
 
+// The greater of two, the first where they compare equal: a zero held first stays.
 pub fn greater(a: f64, v: f64) -> f64
     ensures { λ r. ⌜ r ≡ greaterOf a v ⌝ }
 {
@@ -27,6 +30,7 @@ pub enum Extreme {
     Value(f64),
 }
 
+// An extreme as it is handed out: x, or none with the switch off.
 pub fn shown(switch: bool, x: f64) -> Extreme
     ensures { λ r. ⌜ r ≡ shownOf switch x ⌝ }
 {
@@ -36,6 +40,7 @@ pub fn shown(switch: bool, x: f64) -> Extreme
     Extreme::None
 }
 
+// The smaller of two minima, the first where they compare equal; one that is there wins over none.
 pub fn smaller(a: Extreme, b: Extreme) -> Extreme
     ensures { λ r. ⌜ r ≡ smallerOf a b ⌝ }
 {
@@ -48,6 +53,7 @@ pub fn smaller(a: Extreme, b: Extreme) -> Extreme
     }
 }
 
+// The larger of two maxima, the first where they compare equal; one that is there wins over none.
 pub fn larger(a: Extreme, b: Extreme) -> Extreme
     ensures { λ r. ⌜ r ≡ largerOf a b ⌝ }
 {
@@ -60,6 +66,7 @@ pub fn larger(a: Extreme, b: Extreme) -> Extreme
     }
 }
 
+// The bits of x; those of a NaN are 7FF8000000000000.
 pub fn bits_of(x: f64) -> u64
     ensures { λ r. ⌜ r ≡ bitsOf x ⌝ }
 {

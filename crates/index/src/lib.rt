@@ -31,7 +31,8 @@ pub enum Bin {
     At { negative: bool, bin: u32 },
 }
 
-// By the bit pattern: a subnormal is brought up by its leading zeros.
+// The sign, mantissa of 53 digits and exponent of x, or that it is zero or not finite. By the bit pattern: a subnormal is brought up by its
+// leading zeros.
 pub fn frexp(x: f64) -> Parts
     ensures { λ r. ⌜ PartsOf x r ⌝ }
 {
@@ -103,7 +104,7 @@ fn bin_from(mantissa: u64, exponent: u64, level: u32) -> u32
     finest_bin(mantissa, exponent) >> (FINEST - level)
 }
 
-// The bin of v at a level.
+// The sign of v and its bin at a level; NoLevel above the finest, NotFinite, Zero.
 pub fn get_bin(v: f64, level: u32) -> Bin
     ensures { λ r. ⌜ r ≡ binOf v level ⌝ }
 {

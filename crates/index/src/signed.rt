@@ -21,7 +21,7 @@ pub enum Index {
     At { negative: bool, index: i32 },
 }
 
-// The level of a scale.
+// The level of a scale, OutOfRange outside -10 to 10.
 pub fn level_of(scale: i32) -> Natural
     ensures { λ r. ⌜ r ≡ levelAnswer scale ⌝ }
 {
@@ -34,7 +34,7 @@ pub fn level_of(scale: i32) -> Natural
     Natural::Is((scale + 10) as u32)
 }
 
-// The scale of a level.
+// The scale of a level, OutOfRange above the finest.
 pub fn scale_of(level: u32) -> Integer
     ensures { λ r. ⌜ r ≡ scaleAnswer level ⌝ }
 {
@@ -44,7 +44,7 @@ pub fn scale_of(level: u32) -> Integer
     Integer::Is((level as i32) - 10)
 }
 
-// The index of a bin at a level.
+// The index of a bin at a level, OutOfRange where the level has no such bin.
 pub fn index_of(level: u32, bin: u32) -> Integer
     ensures { λ r. ⌜ r ≡ indexAnswer level bin ⌝ }
 {
@@ -57,7 +57,7 @@ pub fn index_of(level: u32, bin: u32) -> Integer
     Integer::Is((bin as i32) - ((2u32 << level) as i32))
 }
 
-// The bin of an index at a level.
+// The bin of an index at a level, OutOfRange where the level has no such index.
 pub fn bin_of(level: u32, index: i32) -> Natural
     ensures { λ r. ⌜ r ≡ binAnswer level index ⌝ }
 {
@@ -74,7 +74,7 @@ pub fn bin_of(level: u32, index: i32) -> Natural
     Natural::Is(bin as u32)
 }
 
-// The index of v at a scale.
+// The sign of v and its index at a scale, the Data Model's; NoScale outside -10 to 10, NotFinite, Zero.
 pub fn get_index(v: f64, scale: i32) -> Index
     ensures { λ r. ⌜ r ≡ valueIndex v scale ⌝ }
 {

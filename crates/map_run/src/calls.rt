@@ -22,6 +22,7 @@ pub type Attributes = [[u32; 2]; 12];
 
 // ---- answers
 
+// The directory's state that the registers hold.
 pub fn held(regs: &Registers) -> Directory {
     Directory {
         used: regs[0] as usize,
@@ -58,6 +59,7 @@ fn said(answer: Answer) -> bool {
     }
 }
 
+// Prints the answer of a call and keeps its state; whether it was accepted.
 pub fn answered(reply: Reply, regs: &mut Registers) -> bool {
     let answer = reply.answer;
     let d = reply.dir;
@@ -74,6 +76,7 @@ fn put(attrs: &mut Attributes, i: usize, key: u64, value: u64) {
     }
 }
 
+// The attributes of a call, from a word of the line on.
 pub fn take_attributes(words: &Words, from: usize, attrs: &mut Attributes) {
     let mut i: usize = 0;
     while i < 12 {
@@ -138,6 +141,7 @@ fn begin_exponential(
     )
 }
 
+// Configures a map of the exponential kind.
 pub fn start_exponential(
     n: usize,
     words: &Words,
@@ -252,6 +256,7 @@ fn begin_with(
     )
 }
 
+// Configures a map of the explicit kind.
 pub fn start_explicit(
     n: usize,
     words: &Words,
@@ -336,6 +341,7 @@ fn bind_given(
     bind_set(n, regs, filter, sets, entries, order, attrs)
 }
 
+// Binds the set of a line; false where the line can't be read.
 pub fn bind(
     n: usize,
     words: &Words,
@@ -374,6 +380,7 @@ fn release_one(
     )
 }
 
+// Releases the handle of a line; false where the line can't be read.
 pub fn release(
     n: usize,
     words: &Words,

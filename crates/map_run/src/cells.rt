@@ -34,10 +34,12 @@ pub fn within(n: u64, most: usize) -> usize
     if n < most as u64 { n as usize } else { most }
 }
 
+// The lower 32 bits.
 pub fn cut(n: u64) -> u32 {
     (n % 0x1_0000_0000) as u32
 }
 
+// The word at a place of the line; 0 behind the end.
 pub fn word(words: &Words, k: usize) -> u64 {
     if k < 168 {
         return words[k];
@@ -45,6 +47,7 @@ pub fn word(words: &Words, k: usize) -> u64 {
     0
 }
 
+// The count at a place; 0 behind the end.
 pub fn count(counts: &[u64], k: usize) -> u64 {
     if k < counts.len() {
         return counts[k];

@@ -117,6 +117,7 @@ fn parse(buf: &[u8], len: usize, words: &mut Words) -> Line {
     parse_line(&buf[0..n], words)
 }
 
+// Reads a line and its words.
 pub fn read(buf: &mut Buffer, words: &mut Words) -> Line {
     let got = fill(buf);
     if got.len == 0 && got.byte == END {

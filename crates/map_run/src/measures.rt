@@ -165,6 +165,7 @@ fn exponential_series(
     )
 }
 
+// Records a value into the map of the exponential kind, by set or by handle.
 pub fn record_exponential(
     letter: u8,
     n: usize,
@@ -315,6 +316,7 @@ fn explicit_series(
     )
 }
 
+// Records a value into the map of the explicit kind, by set or by handle.
 pub fn record_explicit(
     letter: u8,
     n: usize,

@@ -117,6 +117,7 @@ fn settings(store: u64, place: usize, n: u64, regs: &mut Registers, bounds: &mut
     true
 }
 
+// Sets one cell of a store to a number: damage.
 pub fn set(
     n: usize,
     words: &Words,

@@ -20,6 +20,7 @@ fn bits(x: f64) {
     text::write_bits(floats::bits_of(x));
 }
 
+// Prints the directory's state and the checksum of all stores.
 pub fn state(regs: &Registers, sum: u64) {
     text::write(b"d");
     spaced(regs[0]);
@@ -166,6 +167,7 @@ fn wide(x: u32) -> usize {
     x as usize
 }
 
+// Prints every slot of the map.
 pub fn map(
     whole: bool,
     regs: &Registers,

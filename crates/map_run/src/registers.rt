@@ -3,6 +3,7 @@ use crate::cells::Filter;
 use crate::cells::Registers;
 use crate::cells::Words;
 
+// The registers before any line.
 pub fn first() -> Registers {
     [
         0,
@@ -27,6 +28,7 @@ pub fn first() -> Registers {
     ]
 }
 
+// Whether a letter sets a register.
 pub fn sets(letter: u8) -> bool {
     letter == b'k' || letter == b'n' || letter == b'l' || letter == b'q'
 }
@@ -67,6 +69,7 @@ fn lend(n: usize, words: &Words, regs: &mut Registers) -> bool {
     true
 }
 
+// Sets the register of a letter.
 pub fn set(letter: u8, n: usize, words: &Words, regs: &mut Registers, filter: &mut Filter) -> bool {
     if letter == b'k' {
         return filter_by(n, words, regs, filter);

@@ -101,6 +101,7 @@ fn counts_in(from: u64, counts: &[u64]) -> u64 {
     sum
 }
 
+// The checksum of every cell of all stores.
 pub fn all(
     sets: &Sets,
     entries: &Entries,

@@ -11,6 +11,7 @@ pub fn is_read(n: Natural) -> bool {
     }
 }
 
+// The number that was read; 0 where none was.
 pub fn read(n: Natural) -> u64 {
     match n {
         Natural::None => 0,
@@ -18,6 +19,7 @@ pub fn read(n: Natural) -> u64 {
     }
 }
 
+// The lower 32 bits.
 pub fn cut(n: u64) -> u32 {
     (n % 0x1_0000_0000) as u32
 }
@@ -44,6 +46,7 @@ fn counts_set(c: Counts, cell: u64, n: u64) -> Counts {
     }
 }
 
+// The head with one cell set to a number: damage.
 pub fn head_set(h: Head, cell: u64, n: u64) -> Head {
     let c = h.counts;
     let counts = if cell < 7 { counts_set(c, cell, n) } else { c };
@@ -58,6 +61,7 @@ pub fn head_set(h: Head, cell: u64, n: u64) -> Head {
     }
 }
 
+// The explicit kind's head with one cell set to a number: damage.
 pub fn buckets_set(h: explicit::Head, cell: u64, n: u64) -> explicit::Head {
     let count = if cell == 0 { n } else { h.count };
     let min = if cell == 7 { text::float_of(n) } else { h.min };

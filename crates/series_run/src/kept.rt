@@ -27,6 +27,7 @@ fn keep_second(s: State) -> State {
     next
 }
 
+// Keeps the current point under a number, for a merge.
 pub fn keep(
     s: State,
     place: u64,

@@ -86,6 +86,7 @@ fn buckets_of(bounds: usize) -> usize {
     if n == 0 { 0 } else { n + 1 }
 }
 
+// Prints a point with its rows.
 pub fn point(p: Point, bounds: usize, pos: &[u64], neg: &[u64]) {
     let f = p.figures;
     let buckets = buckets_of(bounds);

@@ -46,6 +46,7 @@ fn nothing() -> Kept {
     Kept { point, bounds: 0 }
 }
 
+// The state before any line.
 pub fn begin() -> State {
     let settings = Settings {
         size: 0,
@@ -72,6 +73,7 @@ pub fn unread(s: State) -> State {
     s
 }
 
+// The state after a refusal, whose number is printed.
 pub fn refused(s: State, no: u8) -> State {
     text::write(b"! ");
     text::write_decimal(no as u64);
@@ -79,6 +81,7 @@ pub fn refused(s: State, no: u8) -> State {
     s
 }
 
+// The state with another current series or point.
 pub fn with(s: State, current: Current, bounds: usize) -> State {
     let settings = s.settings;
     let first = s.first;
@@ -92,12 +95,14 @@ pub fn with(s: State, current: Current, bounds: usize) -> State {
     }
 }
 
+// The state with other settings.
 pub fn with_settings(s: State, settings: Settings) -> State {
     let mut next = s;
     next.settings = settings;
     next
 }
 
+// The state with the two switches set.
 pub fn switch(s: State, extremes: u64, sums: u64) -> State {
     let mut t = s.settings;
     t.extremes = extremes == 1;
@@ -105,6 +110,7 @@ pub fn switch(s: State, extremes: u64, sums: u64) -> State {
     with_settings(s, t)
 }
 
+// The state in which so many counts are lent for a merge.
 pub fn lend(s: State, pos: u64, neg: u64) -> State {
     if 164 < pos {
         return unread(s);
@@ -133,6 +139,7 @@ pub fn point(s: State) -> Point {
     }
 }
 
+// Whether there is no current series or point.
 pub fn is_nothing(now: Current) -> bool {
     match now {
         Current::Nothing => true,

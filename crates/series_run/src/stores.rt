@@ -9,6 +9,7 @@ pub fn within(n: usize, most: usize) -> usize
     if n < most { n } else { most }
 }
 
+// The count at a place; 0 behind the end.
 pub fn get(counts: &[u64], place: usize) -> u64 {
     if place < counts.len() {
         return counts[place];
@@ -16,12 +17,14 @@ pub fn get(counts: &[u64], place: usize) -> u64 {
     0
 }
 
+// Puts a count at a place, if there is one.
 pub fn put(counts: &mut [u64], place: usize, n: u64) {
     if place < counts.len() {
         counts[place] = n;
     }
 }
 
+// The bound at a place; 0.0 behind the end.
 pub fn get_bound(bounds: &[f64], place: usize) -> f64 {
     if place < bounds.len() {
         return bounds[place];
@@ -29,6 +32,7 @@ pub fn get_bound(bounds: &[f64], place: usize) -> f64 {
     0.0
 }
 
+// Puts a bound at a place, if there is one.
 pub fn put_bound(bounds: &mut [f64], place: usize, x: f64) {
     if place < bounds.len() {
         bounds[place] = x;
@@ -45,6 +49,7 @@ pub fn copy(counts: &mut [u64], from: u64, to: u64) {
     }
 }
 
+// Copies bounds from one part of the store to another.
 pub fn copy_bounds(bounds: &mut [f64], from: u64, to: u64) {
     let mut i: u64 = 0;
     while i < 164 {

@@ -15,6 +15,7 @@ pub struct Part {
     pub to: usize,
 }
 
+// The byte at a place; 0 behind the end.
 pub fn byte_at(bytes: &[u8], i: usize) -> u8
     ensures { λ r. ⌜ r ≡ getD (now (bytes .entry)) i 0 ⌝ }
 {
@@ -82,6 +83,7 @@ pub fn field(line: &[u8], k: usize) -> Part
     Part { from, to }
 }
 
+// The number that field k spells in decimal, or none.
 pub fn decimal_at(line: &[u8], k: usize) -> Natural
     ensures { λ r. ⌜ r ≡ decimalOf (fieldOf (now (line .entry)) k) ⌝ }
 {
@@ -91,6 +93,7 @@ pub fn decimal_at(line: &[u8], k: usize) -> Natural
     crate::numbers::decimal(&line[a..e])
 }
 
+// The bits that field k spells in 16 hexadecimal digits, or none.
 pub fn bits_at(line: &[u8], k: usize) -> Natural
     ensures { λ r. ⌜ r ≡ bitsOf (fieldOf (now (line .entry)) k) ⌝ }
 {
@@ -100,6 +103,7 @@ pub fn bits_at(line: &[u8], k: usize) -> Natural
     crate::numbers::bits(&line[a..e])
 }
 
+// The signed number that field k spells in decimal, or none.
 pub fn signed_at(line: &[u8], k: usize) -> Integer
     ensures { λ r. ⌜ r ≡ signedOf (fieldOf (now (line .entry)) k) ⌝ }
 {

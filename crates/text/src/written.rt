@@ -27,10 +27,12 @@ pub fn hex_digits(bits: u64) -> [u8; 16]
     out
 }
 
+// Writes bytes to standard output.
 pub fn write(bytes: &[u8]) {
     io::write_all(STDOUT_FILENO, bytes);
 }
 
+// Writes a number in decimal.
 pub fn write_decimal(n: u64) {
     io::print_decimal(STDOUT_FILENO, n);
 }
@@ -49,6 +51,7 @@ fn write_sixteen(digits: &[u8; 16]) {
     io::write_all(STDOUT_FILENO, digits);
 }
 
+// Writes 64 bits as 16 hexadecimal digits.
 pub fn write_bits(bits: u64) {
     let digits = hex_digits(bits);
     write_sixteen(&digits);

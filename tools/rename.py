@@ -1,6 +1,6 @@
 #!/usr/bin/env python3
 """rename.py [PATH ..]: turns old names into new ones, by tools/names.txt, in a repository, a study's folder or a patch (without a PATH: here).
-Prose is left alone but for crates' names before `::` or in backquotes. Running it twice changes nothing more."""
+Comments and prose are left alone but for crates' names before `::` or in backquotes. Running it twice changes nothing more."""
 import os, re, sys
 
 HERE = os.path.dirname(os.path.abspath(__file__))
@@ -54,9 +54,14 @@ def of_functions(text, path):
 def of_names(text, path):
     if path.endswith((".md", ".py", ".txt")):
         return text
-    for old, new in names.items():
-        text = re.sub(EDGE[0] + re.escape(old) + EDGE[1], new, text)
-    return text
+    lines = text.split("\n")
+    for i, line in enumerate(lines):
+        if line.lstrip("+- ").startswith("//") or re.match(r"[+ ]?\s*-- ", line):
+            continue
+        for old, new in names.items():
+            line = re.sub(EDGE[0] + re.escape(old) + EDGE[1], new, line)
+        lines[i] = line
+    return "\n".join(lines)
 
 
 def moved(path):

@@ -1,2 +1,2 @@
 -- The definitions that the contracts of `clock` cite.
-pub mod Turned
+pub mod Starts

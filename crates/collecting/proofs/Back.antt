@@ -30,7 +30,7 @@ use Rattle.collecting.proofs.Owed.{Listed}
 own-word : (x : ℕ) → x / 4294967296 * 4294967296 + x % 4294967296 ≡ x
 own-word x = omega arith
 
-own-words : (l : List ℕ) → map wordOf (map pair l) ≡ l
+pub own-words : (l : List ℕ) → map wordOf (map pair l) ≡ l
 own-words [] = refl
 own-words (x ∷ l) = rw (own-word x, own-words l)
 

@@ -2,4 +2,12 @@
 pub mod Owed
 pub mod Back
 pub mod Points
+pub mod Nexts
+pub mod Surveys
+pub mod Puts
+pub mod Walks
+pub mod Turns
+pub mod Ends
+pub mod Numbers
+pub mod Handed
 pub mod Steps

@@ -19,8 +19,8 @@ module _ {K : Kind} {S : Store K} (L : Lister S) where
     pub pos : K .pos (K .point (S .settings w) (was S w c x u)) ≡ length (L .pos c x u)
     pub neg : K .neg (K .point (S .settings w) (was S w c x u)) ≡ length (L .neg c x u)
 
-  -- of every slot that lies in the cells and whose series agrees, if it holds one
+  -- of every slot of cells that can be lent that lies in them and whose series agrees, if it holds one
   abbrev pub Lists : Type 0
   Lists =
-      (w : S .Switches) (c : S .Cells) (x : ℕ) (u : Bool) → S .unset ≡ 0 → S .Room c x
+      (w : S .Switches) (c : S .Cells) (x : ℕ) (u : Bool) → S .unset ≡ 0 → L .Lent c → S .Room c x
       → sound K (S .settings w) (there S c x u) ≡ true → Listed w c x u

@@ -85,14 +85,14 @@ module _ {K : Kind} {S : Store K} (W : Owed S) (L : Lister S) (Q : Lists L) (w :
   set-named (suc x) a b = named-row (getD (s .sets) (suc x) []) (λ e. omega (arith, sized (suc x) a b .0, e))
 
   -- the slots that are due, where all series agree
-  module _ (whole : Bool) (a : agreeing L w h ≡ true) where
+  module _ (lendable : L .Lent (h .cells)) (whole : Bool) (a : agreeing L w h ≡ true) where
     due-slot : (x : ℕ) → In x (dueOf whole k) → In x (slotsOf k)
     due-slot x i = only-in (λ y. u y || (whole && not (eqb y 0))) (slotsOf k) x i .0
 
     listed-at : (x : ℕ) → In x (dueOf whole k) → Listed L w (h .cells) x (u x)
     listed-at x i =
         let q = due-slot x i in
-        Q w (h .cells) x (u x) (g .set)
+        Q w (h .cells) x (u x) (g .set) lendable
         (W .room limit (h .cells) x (lent-cells W limit h (g .lent-is)) (omega (arith, slot-known x q, few limit d s (g .agrees))))
         (sound-in S w h (slotsOf k) a x q)
 
@@ -139,37 +139,37 @@ module _ {K : Kind} {S : Store K} (W : Owed S) (L : Lister S) (Q : Lists L) (w :
       orRefused K m (firstOf (unless a 8 ∷ unless (suffices K r (map (λ p. p .1) ps)) 10 ∷ [])) (record { answer = listed ps; map = after })
 
   -- and it is ours
-  collects : (whole : Bool) (k′ : Kept) (o : Output) (after : Map K) → after ≡ view K (S .at (h .cells)) z (k′ .dir) (k′ .stores)
+  collects : L .Lent (h .cells) → (whole : Bool) (k′ : Kept) (o : Output) (after : Map K) → after ≡ view K (S .at (h .cells)) z (k′ .dir) (k′ .stores)
       → collecting (roomOf o) (agreeing L w h) (map (pointAt S w h) (dueOf whole k)) after
       ≡ toldOf L w (unlessRefused L w (uncollected L w whole limit h o) h o (collectedTo L w whole k′ h o))
-  collects whole k′ o after e =
+  collects lendable whole k′ o after e =
       let ps = map (pointAt S w h) (dueOf whole k) in
       by-cases whole k′ o (λ c. collecting (roomOf o) (agreeing L w h) ps after ≡ toldOf L w c)
       (λ a. ap (λ b. collecting (roomOf o) b ps after) a)
       (λ a r.
       ap (λ b. collecting (roomOf o) b ps after) a
-      ∙ ap (λ b. orRefused K m (firstOf (unless b 10 ∷ [])) (record { answer = listed ps; map = after })) (roomy-is whole a (roomOf o) ∙ r))
+      ∙ ap (λ b. orRefused K m (firstOf (unless b 10 ∷ [])) (record { answer = listed ps; map = after })) (roomy-is lendable whole a (roomOf o) ∙ r))
       (λ a r.
       ap (λ b. collecting (roomOf o) b ps after) a
-      ∙ ap (λ b. orRefused K m (firstOf (unless b 10 ∷ [])) (record { answer = listed ps; map = after })) (roomy-is whole a (roomOf o) ∙ r)
-      ∙ (λ i. record { answer = listed (sym (read-back whole a o) i); map = e i }))
+      ∙ ap (λ b. orRefused K m (firstOf (unless b 10 ∷ [])) (record { answer = listed ps; map = after })) (roomy-is lendable whole a (roomOf o) ∙ r)
+      ∙ (λ i. record { answer = listed (sym (read-back lendable whole a o) i); map = e i }))
 
   -- DELTA is the map's step
-  pub delta-steps : (o : Output) → step K (configOf S w limit filter) m (collect (roomOf o)) ≡ toldOf L w (deltaCollected L w limit h o)
+  pub delta-steps : L .Lent (h .cells) → (o : Output) → step K (configOf S w limit filter) m (collect (roomOf o)) ≡ toldOf L w (deltaCollected L w limit h o)
   unfolding upfront act deltaCollected
-  delta-steps o =
+  delta-steps lendable o =
       let q = good W w limit filter h g in
       let r = Settled.within limit k q in
       (λ i. orRefused K m (firstOf (unless (sound-all S w h (slotsOf k) i) 8 ∷ unless (suffices K (roomOf o) (map (λ p. p .1) (delta-points S w h (slotsOf k) i))) 10 ∷ [])) (record { answer = listed (delta-points S w h (slotsOf k) i); map = swept K m }))
-      ∙ collects false (sweptKept k) o (swept K m) (sym (sweep-faithful limit k (g .agrees) (r .0) (r .1) (r .2) K (S .at (h .cells)) (S .at (h .cells)) z))
+      ∙ collects lendable false (sweptKept k) o (swept K m) (sym (sweep-faithful limit k (g .agrees) (r .0) (r .1) (r .2) K (S .at (h .cells)) (S .at (h .cells)) z))
 
   -- CUMULATIVE is the map's collection that leaves it
-  pub cumulative-steps : (o : Output) → cumulate K m (roomOf o) ≡ toldOf L w (cumulativeCollected L w limit h o)
+  pub cumulative-steps : L .Lent (h .cells) → (o : Output) → cumulate K m (roomOf o) ≡ toldOf L w (cumulativeCollected L w limit h o)
   unfolding cumulate cumulativeCollected
-  cumulative-steps o =
+  cumulative-steps lendable o =
       let e = cumulative-points S w h (slotsOf k) (λ x i n. set-named x (slot-known x i) n) in
       (λ i. orRefused K m (firstOf (unless (sound-all S w h (slotsOf k) i) 8 ∷ unless (suffices K (roomOf o) (map (λ p. p .1) (e i))) 10 ∷ [])) (record { answer = listed (e i); map = m }))
-      ∙ collects true k o m refl
+      ∙ collects lendable true k o m refl
 
   -- KEPT: the state agrees as before
   pub delta-fair : (o : Output) → Fair S limit filter (deltaCollected L w limit h o .held)

@@ -19,12 +19,23 @@ use Rattle.value_map.specs.Store.{Store}
 use Rattle.value_map.specs.Calls.{Held, passes, lent}
 use Rattle.listing.specs.Listed.{Output}
 use Rattle.collecting.specs.Lister.{Lister}
+use Rattle.collecting.specs.declared.Answer as Declared
+use Rattle.collecting.specs.declared.Answer.the-variants.{Refused, Listed}
 
 -- success is the number of points, which lie in the output
 pub record Collected (Cells : Type 0) : Type 0 where
   pub answer : Said ℕ
   pub held : Held Cells
   pub out : Output
+
+-- "a definition gives this paper's number and values for each case of that enum"
+abbrev pub said : Declared.Answer → Said ℕ
+said (Refused n) = refusal n
+said (Listed n) = success n
+
+-- as a contract writes it: what a call said, with the map and the output that it left
+abbrev pub gave : {Cells : Type 0} → Declared.Answer → Held Cells → Output → Collected Cells
+gave a h o = record { answer = said a; held = h; out = o }
 
 -- "10: lent output too short for all points or counts": places for points are asked of both stores that take one row a point
 unfoldable pub fewest : ℕ → ℕ → ℕ

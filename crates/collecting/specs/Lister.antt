@@ -7,6 +7,8 @@ use Rattle.tally.specs.Kind.{Kind}
 use Rattle.value_map.specs.Store.{Store}
 
 pub record Lister {K : Kind} (S : Store K) : Type 1 where
+  -- cells that can be lent: the floats among them are f64s
+  pub Lent : S .Cells → Type 0
   -- of a slot's series where its entry was updated, else of one without values: the words of its point under the switches, and its counts
   pub words : S .Switches → S .Cells → ℕ → Bool → List ℕ
   pub pos : S .Cells → ℕ → Bool → List ℕ

@@ -31,7 +31,7 @@ fn are_narrow(f: [u64; 8]) -> bool
 }
 
 // Whether a slot's words can be read: where no series is, nothing is read.
-fn can_read(updated: bool, f: [u64; 8]) -> bool
+pub fn can_read(updated: bool, f: [u64; 8]) -> bool
     ensures { λ r. ⌜ r ≡ readable updated f ⌝ }
 {
     if updated {
@@ -66,7 +66,7 @@ fn head_in(f: [u64; 8], m: [f64; 3]) -> Head
 }
 
 // The head of a slot: that of its words, or a fresh one where no series is.
-fn head_of(top: u32, updated: bool, f: [u64; 8], m: [f64; 3]) -> Head
+pub fn head_of(top: u32, updated: bool, f: [u64; 8], m: [f64; 3]) -> Head
     requires { ⌜ readable updated f ≡ true ⌝ }
     ensures { λ r. ⌜ r ≡ headOf top updated f m ⌝ }
 {

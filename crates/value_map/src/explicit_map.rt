@@ -13,7 +13,7 @@ use bindings::Reply;
 use directory::Directory;
 
 // The number with which configuring refuses the bounds, 3; 0 if it accepts them.
-fn unset_of(bounds: &[f64]) -> u8
+pub fn unset_of(bounds: &[f64]) -> u8
     ensures { λ r. ⌜ r ≡ pick (boundsPass (now (bounds .entry))) 0 3 ⌝ }
 {
     if !explicit::bounds_pass(bounds) {
@@ -23,7 +23,7 @@ fn unset_of(bounds: &[f64]) -> u8
 }
 
 // Whether the series' stores of these lengths suffice.
-fn cells_suffice(bounds: &[f64], limit: u64, totals: usize, extremes: usize, counts: usize) -> bool
+pub fn cells_suffice(bounds: &[f64], limit: u64, totals: usize, extremes: usize, counts: usize) -> bool
     ensures { λ r. ⌜ r ≡ lengthsSuffice (bucketCount (now (bounds .entry))) limit totals extremes counts ⌝ }
 {
     let n = explicit::bucket_count(bounds);

@@ -11,7 +11,7 @@ use bindings::Reply;
 use directory::Directory;
 
 // The number with which configuring refuses max_size, 1, or the greatest level, 2; 0 if it accepts both.
-fn unset_of(size: u32, top: u32) -> u8
+pub fn unset_of(size: u32, top: u32) -> u8
     ensures { λ r. ⌜ r ≡ unset size top ⌝ }
 {
     if size < 3 {
@@ -27,7 +27,7 @@ fn unset_of(size: u32, top: u32) -> u8
 }
 
 // Whether the series' stores of these lengths suffice.
-fn cells_suffice(
+pub fn cells_suffice(
     size: u32,
     limit: u64,
     figures: usize,

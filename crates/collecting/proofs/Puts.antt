@@ -1,0 +1,221 @@
+-- The points of the slots put one by one: what a turn adds to the output, and what it comes to. Assumes nothing.
+use Prim.Native.Nat.{ℕ, suc, _+_, _≤_, _<_}
+use mathlib.Core.Path.{_≡_, refl, sym, ap, ap₂, subst, _∙_}
+use mathlib.Core.Bool.{Bool, true, false, _&&_}
+use mathlib.Core.List.{List, [], _∷_, _++_, map, map-append, append-assoc}
+use native.Mathlib.Omega.{arith}
+use borrow.Author.Tests.{leb-true, leb-false}
+use lib.Dec.{leb}
+use lib.ListN.{length, getD, set, take, drop, length-append, length-map}
+use lib.Seq.{take-append-seam, drop-append-seam, drop-drop}
+use Rattle.laws.specs.Over.{over}
+use Rattle.laws.specs.Pick.{pick}
+use Rattle.laws.proofs.Bools.{pick-true, pick-false}
+use Rattle.laws.proofs.Cases.{and-true}
+use Rattle.laws.proofs.Over.{length-over, over-snoc}
+use Rattle.tally.specs.Kind.{Kind}
+use Rattle.sets.specs.Rows.{rowOf}
+use Rattle.directory.specs.View.{setAt}
+use Rattle.seats.specs.Seats.{updatedIn}
+use Rattle.sweep.specs.Swept.{only}
+use Rattle.value_map.specs.Store.{Store}
+use Rattle.value_map.specs.Calls.{Held}
+use Rattle.listing.specs.declared.Cursor.{Cursor}
+use Rattle.listing.specs.Listed.{Output, Put, left, overAt}
+use Rattle.collecting.specs.Lister.{Lister}
+use Rattle.collecting.specs.Collected.{fewest, roomOf, slotsOf, due, dueOf, setRows, wordRows, posCounts, negCounts, laidOut, roomy}
+use Rattle.collecting.specs.Slots.{walked, laidAt, behindAt, putSlot, putSlots}
+use Rattle.collecting.proofs.Nexts.{slots-all, only-yes, only-no, only-front}
+use Rattle.collecting.proofs.Surveys.{pos-append, neg-append, pos-snoc, neg-snoc, in-slots, points-more, pos-more, neg-more, pos-walked, neg-walked}
+
+over-behind-front : (a b old : List ℕ) → overAt (length a) b (over a old) ≡ over (a ++ b) old
+unfolding over overAt
+over-behind-front a b old =
+    let r = drop (length a) old in
+    ap₂ (λ (x y : List ℕ). x ++ (b ++ drop (length b) y)) (take-append-seam a r) (drop-append-seam a r)
+    ∙ sym (append-assoc a b (drop (length b) r))
+    ∙ ap (λ (l : List ℕ). (a ++ b) ++ l) (drop-drop (length b) (length a) old)
+    ∙ ap (λ (n : ℕ). (a ++ b) ++ drop n old) (sym (length-append a b))
+
+rows-snoc : (f : ℕ → List ℕ) (l : List ℕ) (x : ℕ) (old : List (List ℕ)) → length l < length old
+    → set (over (map f l) old) (length l) (f x) ≡ over (map f (l ++ (x ∷ []))) old
+rows-snoc f l x old h =
+    ap (λ (n : ℕ). set (over (map f l) old) n (f x)) (sym (length-map l f))
+    ∙ over-snoc (map f l) old (f x) (omega (arith, length-map l f))
+    ∙ ap (λ (t : List (List ℕ)). over t old) (sym (map-append f l (x ∷ [])))
+
+-- the room that a point asks at a cursor
+pub record Place (at : Cursor) (out : Output) (p n : ℕ) : Type 0 where
+  pub sets : at .place < length (out .sets)
+  pub words : at .place < length (out .words)
+  pub pos : at .pos + p ≤ length (out .pos)
+  pub neg : at .neg + n ≤ length (out .neg)
+
+fewest-both : (n a b : ℕ) → leb n (fewest a b) ≡ true → (n ≤ a) × (n ≤ b)
+unfolding fewest
+fewest-both n a b e = go (leb a b) refl
+  where
+    go : (t : Bool) → leb a b ≡ t → (n ≤ a) × (n ≤ b)
+    go true q = let z = leb-true n a (ap (leb n) (sym (pick-true (leb a b) a b q)) ∙ e) in let y = leb-true a b q in (z, omega arith)
+    go false q = let z = leb-true n b (ap (leb n) (sym (pick-false (leb a b) a b q)) ∙ e) in let y = leb-false a b q in (omega arith, z)
+
+module _ {K : Kind} {S : Store K} (L : Lister S) (w : S .Switches) (h : Held (S .Cells)) (o : Output) where
+  abbrev u : ℕ → Bool
+  u x = updatedIn (h .kept .stores .entries) x
+
+  abbrev row : ℕ → List ℕ
+  row x = rowOf (setAt (h .kept .stores .sets) x)
+
+  abbrev pos : ℕ → List ℕ
+  pos x = L .pos (h .cells) x (updatedIn (h .kept .stores .entries) x)
+
+  abbrev neg : ℕ → List ℕ
+  neg x = L .neg (h .cells) x (updatedIn (h .kept .stores .entries) x)
+
+  -- the points of a list of slots have room
+  pub record Fit (l : List ℕ) : Type 0 where
+    pub sets : length l ≤ length (o .sets)
+    pub words : length l ≤ length (o .words)
+    pub pos : length (posCounts L w h l) ≤ length (o .pos)
+    pub neg : length (negCounts L w h l) ≤ length (o .neg)
+
+  pub fit-of : (l : List ℕ) → roomy L w h l (roomOf o) ≡ true → Fit l
+  unfolding roomy
+  fit-of l e =
+      let a = and-true (leb (length l) (roomOf o .points)) _ e in
+      let b = and-true (leb (length (posCounts L w h l)) (length (o .pos))) _ (a .1) in
+      let c = fewest-both (length l) (length (o .sets)) (length (o .words)) (a .0) in
+      record { sets = c .0; words = c .1; pos = leb-true _ _ (b .0); neg = leb-true _ _ (b .1) }
+
+  -- and so those of its first slots
+  pub fit-front : (a c : List ℕ) → Fit (a ++ c) → Fit a
+  fit-front a c g =
+      let n = length-append a c in
+      let p = ap length (pos-append L w h a c) ∙ length-append (posCounts L w h a) (posCounts L w h c) in
+      let m = ap length (neg-append L w h a c) ∙ length-append (negCounts L w h a) (negCounts L w h c) in
+      record { sets = omega (arith, n, g .sets); words = omega (arith, n, g .words); pos = omega (arith, p, g .pos); neg = omega (arith, m, g .neg) }
+
+  -- the stores keep their lengths
+  pub record Long (l : List ℕ) : Type 0 where
+    pub sets : length (laidOut L w h l o .sets) ≡ length (o .sets)
+    pub words : length (laidOut L w h l o .words) ≡ length (o .words)
+    pub pos : length (laidOut L w h l o .pos) ≡ length (o .pos)
+    pub neg : length (laidOut L w h l o .neg) ≡ length (o .neg)
+
+  pub laid-long : (l : List ℕ) → Fit l → Long l
+  laid-long l g =
+      record {
+        sets = length-over (setRows L w (h .kept) l) (o .sets) (omega (arith, length-map l row, g .sets));
+        words = length-over (wordRows L w h l) (o .words) (omega (arith, length-map l (λ x. L .words w (h .cells) x (u x)), g .words));
+        pos = length-over (posCounts L w h l) (o .pos) (g .pos);
+        neg = length-over (negCounts L w h l) (o .neg) (g .neg);
+      }
+
+  pub put-none : putSlots L w h [] o ≡ left (record { place = 0; pos = 0; neg = 0 }) o
+  unfolding over
+  put-none = refl
+
+  -- a point more
+  put-more : (l : List ℕ) (x : ℕ) → length l < length (o .sets) → length l < length (o .words)
+      → left (behindAt (putSlots L w h l o .next) (length (pos x)) (length (neg x)))
+      (laidAt (putSlots L w h l o .next) (row x) (L .words w (h .cells) x (u x)) (pos x) (neg x) (laidOut L w h l o))
+      ≡ putSlots L w h (l ++ (x ∷ [])) o
+  unfolding laidAt
+  put-more l x m n =
+      let a = rows-snoc row l x (o .sets) m in
+      let b = rows-snoc (λ y. L .words w (h .cells) y (u y)) l x (o .words) n in
+      let p : overAt (length (posCounts L w h l)) (pos x) (over (posCounts L w h l) (o .pos)) ≡ over (posCounts L w h (l ++ (x ∷ []))) (o .pos) =
+      over-behind-front (posCounts L w h l) (pos x) (o .pos) ∙ ap (λ (t : List ℕ). over t (o .pos)) (sym (pos-snoc L w h l x)) in
+      let q : overAt (length (negCounts L w h l)) (neg x) (over (negCounts L w h l) (o .neg)) ≡ over (negCounts L w h (l ++ (x ∷ []))) (o .neg) =
+      over-behind-front (negCounts L w h l) (neg x) (o .neg) ∙ ap (λ (t : List ℕ). over t (o .neg)) (sym (neg-snoc L w h l x)) in
+      λ j. left (record { place = points-more L w h l x j; pos = pos-more L w h l x j; neg = neg-more L w h l x j })
+      (record { sets = a j; words = b j; pos = p j; neg = q j })
+
+  place-of : (l : List ℕ) (x : ℕ) → Fit (l ++ (x ∷ [])) → Place (putSlots L w h l o .next) (laidOut L w h l o) (length (pos x)) (length (neg x))
+  place-of l x g =
+      let n = points-more L w h l x in
+      let p = pos-more L w h l x in
+      let m = neg-more L w h l x in
+      let e = laid-long l (fit-front l (x ∷ []) g) in
+      record {
+        sets = omega (arith, n, g .sets, e .sets);
+        words = omega (arith, n, g .words, e .words);
+        pos = omega (arith, p, g .pos, e .pos);
+        neg = omega (arith, m, g .neg, e .neg);
+      }
+
+  module _ (whole : Bool) (r : roomy L w h (dueOf whole (h .kept)) (roomOf o) ≡ true) where
+    abbrev slots : List ℕ
+    slots = slotsOf (h .kept)
+
+    -- the first slots' points have room
+    pub fit-first : (i : ℕ) → Fit (only (due whole (h .kept)) (take i slots))
+    fit-first i = fit-front (only (due whole (h .kept)) (take i slots)) (only (due whole (h .kept)) (drop i slots)) (subst Fit (only-front (due whole (h .kept)) slots i) (fit-of (dueOf whole (h .kept)) r))
+
+    module _ (i : ℕ) (n : i ≤ h .kept .dir .used) where
+      abbrev x : ℕ
+      x = getD (slotsOf (h .kept)) i 0
+
+      abbrev l : List ℕ
+      l = only (due whole (h .kept)) (take i (slotsOf (h .kept)))
+
+      abbrev l′ : List ℕ
+      l′ = only (due whole (h .kept)) (take (suc i) (slotsOf (h .kept)))
+
+      one-more : due whole (h .kept) x ≡ true → l′ ≡ l ++ (x ∷ [])
+      one-more e = only-yes (due whole (h .kept)) slots i (in-slots L w h i n) e
+
+      -- ROOM for the slot's point, if it is due
+      pub put-room : due whole (h .kept) x ≡ true
+          → Place (putSlots L w h l o .next) (putSlots L w h l o .output) (length (L .pos (h .cells) x (u x))) (length (L .neg (h .cells) x (u x)))
+      put-room e = place-of l x (subst Fit (one-more e) (fit-first (suc i)))
+
+      -- ONE SLOT MORE
+      pub put-turn : putSlot L w (u x) (due whole (h .kept) x) (h .cells) x (rowOf (setAt (h .kept .stores .sets) x)) (putSlots L w h l o .next) (putSlots L w h l o .output)
+          ≡ putSlots L w h l′ o
+      unfolding putSlot
+      put-turn = go (due whole (h .kept) x) refl
+        where
+          more : Put
+          more =
+              left (behindAt (putSlots L w h l o .next) (length (pos x)) (length (neg x)))
+              (laidAt (putSlots L w h l o .next) (row x) (L .words w (h .cells) x (u x)) (pos x) (neg x) (laidOut L w h l o))
+
+          go : (b : Bool) → due whole (h .kept) x ≡ b → pick (due whole (h .kept) x) more (putSlots L w h l o) ≡ putSlots L w h l′ o
+          go true e =
+              let g = subst Fit (one-more e) (fit-first (suc i)) in
+              let m = points-more L w h l x in
+              pick-true (due whole (h .kept) x) more (putSlots L w h l o) e
+              ∙ put-more l x (omega (arith, m, g .sets)) (omega (arith, m, g .words))
+              ∙ ap (λ (t : List ℕ). putSlots L w h t o) (sym (one-more e))
+          go false e =
+              pick-false (due whole (h .kept) x) more (putSlots L w h l o) e
+              ∙ ap (λ (t : List ℕ). putSlots L w h t o) (sym (only-no (due whole (h .kept)) slots i (in-slots L w h i n) e))
+
+  -- ALL SLOTS
+  pub put-all : (whole : Bool)
+      → putSlots L w h (only (due whole (h .kept)) (take (suc (h .kept .dir .used)) (slotsOf (h .kept)))) o ≡ putSlots L w h (dueOf whole (h .kept)) o
+  put-all whole = ap (λ (t : List ℕ). putSlots L w h (only (due whole (h .kept)) t) o) (slots-all (h .kept .stores .order) (h .kept .dir .used))
+
+  -- a walk reads the sets too, and nothing more
+  pub put-walked : (l : List ℕ)
+      → putSlots L w (walked (h .kept .dir .used) (h .kept .stores .sets) (h .kept .stores .entries) (h .kept .stores .order) (h .cells)) l o ≡ putSlots L w h l o
+  put-walked l =
+      let p = pos-walked L w h w (h .kept .stores .sets) l in
+      let n = neg-walked L w h w (h .kept .stores .sets) l in
+      λ j.
+      left (record { place = length l; pos = length (p j); neg = length (n j) })
+      (record {
+        sets = over (setRows L w (h .kept) l) (o .sets);
+        words = over (wordRows L w h l) (o .words);
+        pos = over (p j) (o .pos);
+        neg = over (n j) (o .neg);
+      })
+
+  pub room-walked : (v : S .Switches) (sets : List (List ℕ)) (l : List ℕ)
+      → roomy L v (walked (h .kept .dir .used) sets (h .kept .stores .entries) (h .kept .stores .order) (h .cells)) l (roomOf o) ≡ roomy L w h l (roomOf o)
+  unfolding roomy
+  room-walked v sets l =
+      let p = pos-walked L w h v sets l in
+      let n = neg-walked L w h v sets l in
+      λ j. leb (length l) (roomOf o .points) && (leb (length (p j)) (length (o .pos)) && leb (length (n j)) (length (o .neg)))

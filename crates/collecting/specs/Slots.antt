@@ -1,0 +1,109 @@
+-- How a collection goes through the slots, one by one: the definitions of the contracts between our crates. Assumes nothing.
+use Prim.Native.Nat.{ℕ, _+_, _≤_, _<_}
+use mathlib.Core.Path.{_≡_}
+use mathlib.Core.Bool.{Bool, true, false, not, _&&_, _||_}
+use mathlib.Core.List.{List}
+use lib.Dec.{leb, eqb}
+use lib.ListN.{length, getD, set}
+use Rattle.laws.specs.Pick.{pick}
+use Rattle.tally.specs.Kind.{Kind}
+use Rattle.directory.specs.View.{Stores, agreesb}
+use Rattle.directory.specs.Calls.{mostSets, storesSuffice}
+use Rattle.directory.specs.declared.Directory.{Directory}
+use Rattle.sweep.specs.Swept.{only}
+use Rattle.value_map.specs.Store.{Store}
+use Rattle.value_map.specs.Calls.{Held}
+use Rattle.listing.specs.declared.Cursor.{Cursor}
+use Rattle.listing.specs.Listed.{Output, Put, left, overAt}
+use Rattle.collecting.specs.Lister.{Lister}
+use Rattle.collecting.specs.Collected.{fewest, slotsOf, due, posCounts, negCounts, agreeing, laidOut}
+use Rattle.collecting.specs.declared.Survey.{Survey}
+
+-- ---- deciding by reading
+
+-- "12, 8", before any series is read: of the kind's cells, which suffice or not, and of the number with which configuring refuses its settings
+unfoldable pub barredBy : Bool → ℕ → ℕ → Directory → Stores → ℕ
+barredBy cells unset limit d s =
+    pick (storesSuffice limit s && cells) (pick (eqb unset 0 && (leb limit mostSets && agreesb limit d s)) 0 8) 12
+
+-- what a survey of the slots finds where a series disagrees
+abbrev pub unsound : Survey
+unsound = record { sound = false; points = 0; pos = 0; neg = 0 }
+
+-- "8, 10", after it: of the places that the lent output has
+unfoldable pub surveyedBy : Survey → ℕ → ℕ → ℕ → ℕ → ℕ
+surveyedBy s sets words pos neg =
+    pick (s .sound) (pick (leb (s .points) (fewest sets words) && (leb (s .pos) pos && leb (s .neg) neg)) 0 10) 8
+
+-- the number of the call: what comes before the survey comes first
+unfoldable pub orElse : ℕ → ℕ → ℕ
+orElse first then = pick (eqb first 0) then first
+
+-- a point more, with its counts
+abbrev pub oneMore : Survey → ℕ → ℕ → Survey
+oneMore s p n = record { sound = true; points = s .points + 1; pos = s .pos + p; neg = s .neg + n }
+
+-- the map as far as a walk over its slots reads it
+abbrev pub walked : {Cells : Type 0} → ℕ → List (List ℕ) → List (List ℕ) → List ℕ → Cells → Held Cells
+walked used sets entries order c =
+    record {
+      kept = record {
+        dir = record { used = used; count = 0; last = 0 };
+        stores = record { sets = sets; entries = entries; order = order };
+      };
+      cells = c;
+    }
+
+-- the slots of a walk lie in the stores
+pub record Walk {K : Kind} (S : Store K) (used : ℕ) (rows : List (List ℕ)) (places : List ℕ) (c : S .Cells) : Type 0 where
+  pub set : S .unset ≡ 0
+  pub most : used < 65536
+  pub order : used ≤ length places
+  pub entries : (x : ℕ) → x ≤ used → x < length rows
+  pub slots : (k : ℕ) → k < used → (1 ≤ getD places k 0) × (getD places k 0 ≤ used)
+  pub room : (x : ℕ) → x ≤ used → S .Room c x
+
+-- ---- writing
+
+-- a row, words and counts put at a cursor, and the cursor behind them
+unfoldable pub laidAt : Cursor → List ℕ → List ℕ → List ℕ → List ℕ → Output → Output
+laidAt at row ws ps ns o =
+    record {
+      sets = set (o .sets) (at .place) row;
+      words = set (o .words) (at .place) ws;
+      pos = overAt (at .pos) ps (o .pos);
+      neg = overAt (at .neg) ns (o .neg);
+    }
+
+abbrev pub behindAt : Cursor → ℕ → ℕ → Cursor
+behindAt at p n = record { place = at .place + 1; pos = at .pos + p; neg = at .neg + n }
+
+module _ {K : Kind} {S : Store K} (L : Lister S) (w : S .Switches) where
+  -- a survey with slot x more, which was updated or not and is due or not
+  unfoldable pub surveyedAt : Bool → Bool → S .Cells → Survey → ℕ → Survey
+  surveyedAt updated due c s x =
+      pick (not updated || K .agrees (S .settings w) (S .at c x))
+      (pick due (oneMore s (length (L .pos c x updated)) (length (L .neg c x updated))) s)
+      unsound
+
+  -- what slots that agree take in the output
+  abbrev pub counted : Bool → Held (S .Cells) → List ℕ → Survey
+  counted whole h l =
+      let d = only (due whole (h .kept)) l in
+      record { sound = true; points = length d; pos = length (posCounts L w h d); neg = length (negCounts L w h d) }
+
+  unfoldable pub surveyed : Bool → Held (S .Cells) → Survey
+  surveyed whole h = pick (agreeing L w h) (counted whole h (slotsOf (h .kept))) unsound
+
+  -- the point of slot x put at a cursor, if it is due
+  unfoldable pub putSlot : Bool → Bool → S .Cells → ℕ → List ℕ → Cursor → Output → Put
+  putSlot updated due c x row at o =
+      pick due
+      (left (behindAt at (length (L .pos c x updated)) (length (L .neg c x updated)))
+      (laidAt at row (L .words w c x updated) (L .pos c x updated) (L .neg c x updated) o))
+      (left at o)
+
+  -- the points of slots, in the output
+  abbrev pub putSlots : Held (S .Cells) → List ℕ → Output → Put
+  putSlots h l o =
+      left (record { place = length l; pos = length (posCounts L w h l); neg = length (negCounts L w h l) }) (laidOut L w h l o)

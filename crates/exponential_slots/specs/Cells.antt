@@ -59,7 +59,7 @@ mostBin = 4294967295
 unfoldable pub narrow : List ℕ → Bool
 narrow f = leb (getD f 0 0) mostCount and leb (getD f 2 0) mostBin and leb (getD f 3 0) mostBin and leb (getD f 5 0) mostBin
 
--- an entry that is not updated has no series: whatever lies in its slot, it counts as fresh (DESIGN.md, "Stores of the map")
+-- an entry that is not updated has no series: whatever lies in its slot, it counts as fresh (docs/DECISIONS.md, "Readings of document 01")
 unfoldable pub readable : Bool → List ℕ → Bool
 readable updated f = pick updated (narrow f) true
 

@@ -15,7 +15,7 @@ use Rattle.points.specs.Figures.{exponential, Settings, Counts, exponentialCoun
 use Rattle.exponential.specs.Series.{mostCount, read}
 use Rattle.exponential_slots.specs.Cells.{Cells, countsIn}
 
--- The settings of the kind. The zero threshold is 0.0 (DESIGN.md: as in the Rust).
+-- The settings of the kind. The zero threshold is 0.0 (docs/DECISIONS.md: a point holds none).
 abbrev pub settings : ℕ → ℕ → Bool → Bool → Settings
 settings size top extremes sums = record { kind = exponential size top; extremes = extremes; sums = sums; threshold = zeroFloat }
 

@@ -1,5 +1,5 @@
 -- A list of points in lent output: sets' rows, points' words, and their counts packed one after another in two stores. Assumes nothing.
--- DESIGN.md, "A list of points in lent output": one form for collections, merges and sheets.
+-- docs/LIST.md tells it in words: one form for collections, merges and sheets.
 use Prim.Native.Nat.{ℕ, zero, suc, _+_, _-_, _≤_, _<_}
 use mathlib.Core.Bool.{Bool, true, false}
 use mathlib.Core.List.{List, [], _∷_, _++_, map}

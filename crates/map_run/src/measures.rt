@@ -47,7 +47,7 @@ fn is_call(letter: u8, n: usize) -> bool {
 
 // ---- the exponential kind
 
-fn exponentialCounts(
+fn measure_exponential(
     call: Call,
     regs: &Registers,
     filter: &[u32],
@@ -118,7 +118,7 @@ fn exponential_directory(
     let c = within(regs[12], order.len());
     let m = within(call.given as u64, attrs.len());
     let k = within(regs[8], filter.len());
-    exponentialCounts(
+    measure_exponential(
         call,
         regs,
         &filter[0..k],
@@ -204,7 +204,7 @@ pub fn record_exponential(
 
 // ---- the explicit kind
 
-fn explicitCounts(
+fn measure_explicit(
     call: Call,
     regs: &Registers,
     filter: &[u32],
@@ -269,7 +269,7 @@ fn explicit_directory(
     let c = within(regs[12], order.len());
     let m = within(call.given as u64, attrs.len());
     let k = within(regs[8], filter.len());
-    explicitCounts(
+    measure_explicit(
         call,
         regs,
         &filter[0..k],

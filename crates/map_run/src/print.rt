@@ -105,7 +105,14 @@ fn buckets(bounds: u64) -> u64 {
     if n == 0 { 0 } else { n + 1 }
 }
 
-fn exponentialCounts(slot: usize, size: u64, f: [u64; 8], m: [f64; 3], pos: &Counts, neg: &Counts) {
+fn exponential_series(
+    slot: usize,
+    size: u64,
+    f: [u64; 8],
+    m: [f64; 3],
+    pos: &Counts,
+    neg: &Counts,
+) {
     words(f);
     extreme(m);
     let start = part(slot, size);
@@ -113,7 +120,7 @@ fn exponentialCounts(slot: usize, size: u64, f: [u64; 8], m: [f64; 3], pos: &Cou
     row(neg, start, f[6]);
 }
 
-fn explicitCounts(slot: usize, bounds: u64, total: u64, m: [f64; 3], pos: &Counts) {
+fn explicit_series(slot: usize, bounds: u64, total: u64, m: [f64; 3], pos: &Counts) {
     spaced(total);
     extreme(m);
     let n = buckets(bounds);
@@ -155,9 +162,9 @@ fn slot(
     named(q, sets[q], entries[q]);
     if has_series(entries[q]) {
         if regs[9] == 1 {
-            exponentialCounts(q, regs[4], figures[q], extremes[q], pos, neg);
+            exponential_series(q, regs[4], figures[q], extremes[q], pos, neg);
         } else {
-            explicitCounts(q, regs[6], totals[q], extremes[q], pos);
+            explicit_series(q, regs[6], totals[q], extremes[q], pos);
         }
     }
     text::write(b"\n");

@@ -2,12 +2,13 @@
 use Prim.Native.Nat.{ℕ, _≤_, _<_}
 use mathlib.Core.Path.{_≡_, refl, ap, sym, _∙_}
 use mathlib.Core.Bool.{Bool, true, false, _&&_}
+use mathlib.Core.List.{List}
 use native.Mathlib.Omega.{arith}
 use lib.Dec.{leb, eqb}
 use borrow.Author.Tests.{le-leb, lt-leb, leb-true, eq-eqb, ne-eqb, eqb-true, eqb-false}
 use Rattle.laws.specs.Pick.{pick}
 use Rattle.sets.specs.Sorted.{mostAttributes}
-use Rattle.seats.specs.Seats.{away, barredBy, unlessBarred}
+use Rattle.seats.specs.Seats.{away, barredBy, unlessBarred, rowUnlessBarred}
 use Rattle.seats.specs.declared.Seating.{Seating}
 
 -- ---- two tests, one after another
@@ -91,3 +92,18 @@ module _ (n : ℕ) (a : Seating) where
       go : (b : Bool) → eqb n 0 ≡ b → n ≡ 0
       go true e = eqb-true n 0 e
       go false e = sym (ap (λ (s : Seating). s .no) (barred-away (eqb-false n 0 e))) ∙ z
+
+-- ---- the row that is left
+
+module _ (n : ℕ) (row old : List ℕ) where
+  pub row-kept : (n ≡ 0 → ⊥) → old ≡ rowUnlessBarred n row old
+  unfolding rowUnlessBarred pick
+  row-kept d = rw (ne-eqb n 0 d)
+
+  pub row-written : n ≡ 0 → row ≡ rowUnlessBarred n row old
+  unfolding rowUnlessBarred pick
+  row-written e = rw (eq-eqb n 0 e)
+
+  -- it is the set's, where a seating is not refused
+  pub row-seated : (a r : Seating) → r ≡ unlessBarred n a → (l : List ℕ) → l ≡ rowUnlessBarred n row old → r .no ≡ 0 → l ≡ row
+  row-seated a r e l q z = q ∙ sym (row-written (not-barred n a (ap (λ (s : Seating). s .no) (sym e) ∙ z)))

@@ -1,5 +1,6 @@
 -- The laws of `seats`.
 pub mod Bars
+pub mod Least
 pub mod Seatings
 pub mod Commits
 pub mod Marked

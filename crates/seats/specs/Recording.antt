@@ -14,7 +14,7 @@ module _ (K : Kind) where
   abbrev pub heldAt : (ℕ → K .Series) → Seating → Option (K .Series)
   heldAt f a = cond (a .updated) (some (f (a .slot))) none
 
-  -- the one that the value is added to: an entry that is not updated has no series and counts as fresh (DESIGN.md, "Stores of the map")
+  -- the one that the value is added to: an entry that is not updated has no series and counts as fresh (docs/DECISIONS.md, "Readings of document 01")
   abbrev pub orFresh : K .Settings → Option (K .Series) → K .Series
   orFresh z o = Option·getD o (K .fresh z)
 

@@ -1,6 +1,6 @@
 -- What a recording asks of the directory, and what it leaves of it: exactly, in its stores. Assumes nothing.
 use Prim.Native.Nat.{ℕ, _+_, _^_, _≤_, _<_}
-use mathlib.Core.Bool.{Bool, false, not}
+use mathlib.Core.Bool.{Bool, false, not, _&&_}
 use mathlib.Core.List.{List, [], _∷_}
 use lib.Dec.{eqb, leb}
 use lib.ListN.{length, getD, set}
@@ -8,7 +8,7 @@ use Rattle.laws.specs.Pick.{pick}
 use Rattle.sets.specs.Rows.{span}
 use Rattle.sets.specs.Sorted.{mostAttributes}
 use Rattle.directory.specs.View.{Stores, agreesb}
-use Rattle.directory.specs.Calls.{Kept, greatest, overRow, located, scan, admitted}
+use Rattle.directory.specs.Calls.{Kept, greatest, overRow, storesSuffice, located, scan, admitted}
 use Rattle.directory.specs.declared.Directory.{Directory}
 use Rattle.directory.specs.declared.Found.{Found}
 use Rattle.directory.specs.declared.Found.the-variants.{Held, Room}
@@ -57,9 +57,22 @@ seatedBy limit d s h =
 unfoldable pub barredBy : Bool → Bool → ℕ → Bool → ℕ
 barredBy room fin n ok = pick room (pick fin (pick (leb n mostAttributes) (pick ok 0 8) 5) 6) 12
 
+-- the same, of what the kind found (how many slots its cells have room for, whether it takes the value, its settings' number), the
+-- directory's stores, a number of attributes, and a limit and a filter that configuring accepts or not
+abbrev pub barredAt : ℕ → Bool → ℕ → ℕ → Stores → ℕ → Bool → ℕ
+barredAt cells value unset limit s n ok = barredBy (storesSuffice limit s && leb (limit + 2) cells) value n (eqb unset 0 && ok)
+
 -- the seating, unless a number bars the call before it
 unfoldable pub unlessBarred : ℕ → Seating → Seating
 unlessBarred n a = pick (eqb n 0) a (away n)
+
+-- the row that the call is lent: that of its set, unless a number bars the call, and then as it was
+unfoldable pub rowUnlessBarred : ℕ → List ℕ → List ℕ → List ℕ
+rowUnlessBarred n row old = pick (eqb n 0) row old
+
+-- the lesser of two numbers: what suffices for both
+unfoldable pub lesserOf : ℕ → ℕ → ℕ
+lesserOf a b = pick (leb a b) a b
 
 -- the slot is marked updated: its third word is 1, birth number and bindings are as they were
 unfoldable pub marked : List (List ℕ) → ℕ → List (List ℕ)

@@ -7,22 +7,11 @@ ghost use Rattle.seats.specs.Seats.{barredBy};
 // The most attributes of a call.
 const MOST_ATTRIBUTES: usize = 8;
 
-// The number of the refusal, 0 if none: 12 by the directory's stores and by the kind's, 6, 5, and 8 by the settings and by the rest of the
-// configuration.
-pub fn barred(
-    lent: bool,
-    cells: bool,
-    value: bool,
-    attributes: usize,
-    unset: u8,
-    accepted: bool,
-) -> u8
-    ensures { λ r. ⌜ r ≡ barredBy (lent && cells) value attributes (eqb unset 0 && accepted) ⌝ }
+// The number of the refusal, 0 if none: 12, 6, 5, and 8 by the settings and by the rest of the configuration.
+pub fn barred(lent: bool, value: bool, attributes: usize, unset: u8, accepted: bool) -> u8
+    ensures { λ r. ⌜ r ≡ barredBy lent value attributes (eqb unset 0 && accepted) ⌝ }
 {
     if !lent {
-        return 12;
-    }
-    if !cells {
         return 12;
     }
     if !value {

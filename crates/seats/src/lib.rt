@@ -1,19 +1,19 @@
 // The directory's part of a recording, the same for every kind of series: the slot that it goes to, decided by reading alone, and what the
 // directory writes once the series took the value. `measure` of `ValueMap`, and a bound handle's, of internal/mod.rs.
 mod first;
+pub mod room;
 
 ghost use mathlib.Core.Path.{_≡_};
-ghost use mathlib.Core.Bool.{_&&_};
 ghost use Prim.Native.Nat.{_+_, _<_, _≤_};
-ghost use lib.Dec.{leb, eqb};
+ghost use lib.Dec.{leb};
 ghost use lib.ListN.{length};
 ghost use Rattle.tally.specs.Sets.{canonical};
 ghost use Rattle.sets.specs.Rows.{size, rowOf};
 ghost use Rattle.sets.specs.Sorted.{given, filterOf};
 ghost use Rattle.seats.specs.Seats.{updatedIn, away, heldSeat, newSeat, seated, seatedBy};
-ghost use Rattle.seats.specs.Seats.{barredBy, unlessBarred, marked, Fits, committed};
+ghost use Rattle.seats.specs.Seats.{barredAt, unlessBarred, rowUnlessBarred, marked, Fits, committed};
 ghost use Rattle.directory.specs.View.{stores};
-ghost use Rattle.directory.specs.Calls.{kept, mostSets, accepts, storesSuffice};
+ghost use Rattle.directory.specs.Calls.{kept, mostSets, accepts};
 
 // Where a recording goes. no: document 01's number of the refusal, 0 if none; slot: the slot that it goes to; updated: whether that slot
 // holds a series; target: what the directory is to write.
@@ -120,10 +120,10 @@ fn seat_by_in(
     }
 }
 
-// Where a recording with attributes goes, and their set's row; or the number that refuses it: 12, 6, 5, 8, 9. Of the kind: whether its
-// cells suffice, whether it takes the value, and the number with which configuring refuses its settings, 0 if none.
+// Where a recording with attributes goes, and their set's row; or the number that refuses it: 12, 6, 5, 8, 9. Of the kind: how many slots
+// its cells have room for, whether it takes the value, and the number with which configuring refuses its settings, 0 if none.
 pub fn seat(
-    cells: bool,
+    cells: usize,
     value: bool,
     unset: u8,
     limit: u64,
@@ -136,15 +136,17 @@ pub fn seat(
     filter: &[u32],
     row: &mut [u64; 9],
 ) -> Seating
-    ensures { λ r. ⌜ r ≡ unlessBarred (barredBy (storesSuffice limit (stores (sets .entry) (entries .entry) (order .entry)) && cells) value
-        (length (given (now (attrs .entry)))) (eqb unset 0 && accepts limit (filterOf present (now (filter .entry)))))
+    ensures { λ r. ⌜ r ≡ unlessBarred (barredAt cells value unset limit (stores (sets .entry) (entries .entry) (order .entry))
+        (length (given (now (attrs .entry)))) (accepts limit (filterOf present (now (filter .entry)))))
         (seated limit d (stores (sets .entry) (entries .entry) (order .entry))
         (rowOf (canonical (filterOf present (now (filter .entry))) (given (now (attrs .entry)))))) ⌝ }
-    ensures { λ r. ⌜ (r .no ≡ 0 → now (row .exit) ≡ rowOf (canonical (filterOf present (now (filter .entry))) (given (now (attrs .entry))))) ⌝ }
+    ensures { λ r. ⌜ now (row .exit) ≡ rowUnlessBarred (barredAt cells value unset limit (stores (sets .entry) (entries .entry) (order .entry))
+        (length (given (now (attrs .entry)))) (accepts limit (filterOf present (now (filter .entry)))))
+        (rowOf (canonical (filterOf present (now (filter .entry))) (given (now (attrs .entry))))) (now (row .entry)) ⌝ }
 {
-    let lent = directory::stores_suffice(limit, sets.len(), entries.len(), order.len());
+    let lent = room::suffices(limit, sets.len(), entries.len(), order.len(), cells);
     let ok = directory::accepted(limit, present, filter);
-    let no = first::barred(lent, cells, value, attrs.len(), unset, ok);
+    let no = first::barred(lent, value, attrs.len(), unset, ok);
     if no != 0 {
         return refused(no);
     }
@@ -154,7 +156,7 @@ pub fn seat(
 
 // Where a recording by a handle goes; or the number that refuses it: 12, 6, 8, 7. The kind's answers are those of `seat`.
 pub fn seat_by(
-    cells: bool,
+    cells: usize,
     value: bool,
     unset: u8,
     limit: u64,
@@ -164,12 +166,11 @@ pub fn seat_by(
     order: &[u32],
     h: u64,
 ) -> Seating
-    ensures { λ r. ⌜ r ≡ unlessBarred (barredBy (storesSuffice limit (stores (sets .entry) (entries .entry) (order .entry)) && cells) value
-        0 (eqb unset 0 && leb limit mostSets))
+    ensures { λ r. ⌜ r ≡ unlessBarred (barredAt cells value unset limit (stores (sets .entry) (entries .entry) (order .entry)) 0 (leb limit mostSets))
         (seatedBy limit d (stores (sets .entry) (entries .entry) (order .entry)) h) ⌝ }
 {
-    let lent = directory::stores_suffice(limit, sets.len(), entries.len(), order.len());
-    let no = first::barred(lent, cells, value, 0, unset, limit <= directory::MOST_SETS);
+    let lent = room::suffices(limit, sets.len(), entries.len(), order.len(), cells);
+    let no = first::barred(lent, value, 0, unset, limit <= directory::MOST_SETS);
     if no != 0 {
         return refused(no);
     }

@@ -47,17 +47,17 @@ module _ (n : ℕ) (d : Directory) (s : Stores) (row : List ℕ) (t : Target) wh
   unfolding finished pick
   finish-done e = rw (eq-eqb n 0 e)
 
-module _ {K : Kind} (S : Store K) (c : S .Cells) (v : K .Value) (n said x : ℕ) (u : Bool) where
-  pub take-no : (n ≡ 0 → ⊥) → record { no = said; cells = c } ≡ taken S c v n said x u
+module _ {K : Kind} (S : Store K) (c : S .Cells) (v : K .Value) (n otherwise x : ℕ) (u : Bool) where
+  pub take-no : (n ≡ 0 → ⊥) → record { no = otherwise; cells = c } ≡ taken S c v n otherwise x u
   unfolding taken pick
   take-no d = rw (ne-eqb n 0 d)
 
-  pub take-on : n ≡ 0 → S .recorded x u c v ≡ taken S c v n said x u
+  pub take-on : n ≡ 0 → S .recorded x u c v ≡ taken S c v n otherwise x u
   unfolding taken pick
   take-on e = rw (eq-eqb n 0 e)
 
   -- a value that was taken was not refused before
-  pub took : ((n ≡ 0 → ⊥) → said ≡ 0 → ⊥) → (o : Recording (S .Cells)) → o ≡ taken S c v n said x u → o .no ≡ 0 → n ≡ 0
+  pub took : ((n ≡ 0 → ⊥) → otherwise ≡ 0 → ⊥) → (o : Recording (S .Cells)) → o ≡ taken S c v n otherwise x u → o .no ≡ 0 → n ≡ 0
   took f o e z = either n (λ (p : n ≡ 0). p) (λ d. absurd (f d (ap (λ (i : Recording (S .Cells)). i .no) (take-no d ∙ sym e) ∙ z)))
 
 -- ---- a call's way: how many attributes, whether configuring accepted the limit and the filter, the row, the seat

@@ -85,7 +85,7 @@ module _ {K : Kind} (S : Store K) where
   -- the kind's part of a recording at a slot, where nothing was refused: 0 and the cells afterwards, or the series' refusal; else the number
   -- that is to be said, and the cells as they were
   unfoldable pub taken : S .Cells → K .Value → ℕ → ℕ → ℕ → Bool → Recording (S .Cells)
-  taken c v n said x updated = pick (eqb n 0) (S .recorded x updated c v) (record { no = said; cells = c })
+  taken c v n otherwise x updated = pick (eqb n 0) (S .recorded x updated c v) (record { no = otherwise; cells = c })
 
   -- a recording with n attributes, under a limit and a filter that configuring accepted or not, which goes to a seating
   unfoldable pub called : ℕ → Held (S .Cells) → K .Value → ℕ → Bool → List ℕ → Seating → Outcome (S .Cells)

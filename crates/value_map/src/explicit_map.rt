@@ -1,6 +1,8 @@
 // The map of the explicit kind: configuring, and recording by set and by handle. Its stores: the directory's (sets, entries, order), and
 // each slot's count, its minimum, maximum and sum, and its bucket counts.
 ghost use mathlib.Core.Path.{_≡_};
+ghost use Prim.Native.Nat.{ℕ, _+_};
+ghost use lib.Dec.{leb};
 ghost use Rattle.laws.specs.Pick.{pick};
 ghost use Rattle.points.specs.Explicit.{boundsPass, bucketCount};
 ghost use Rattle.parts.specs.Recording.{after};
@@ -11,6 +13,7 @@ ghost use Rattle.value_map.specs.Calls.{held, gave, Takes, taken, starte
 ghost use Rattle.value_map.specs.Explicit.{lengthsSuffice, explicitStore, turned};
 use bindings::Reply;
 use directory::Directory;
+use seats::room::lesser;
 
 // The number with which configuring refuses the bounds, 3; 0 if it accepts them.
 pub fn unset_of(bounds: &[f64]) -> u8
@@ -22,16 +25,30 @@ pub fn unset_of(bounds: &[f64]) -> u8
     0
 }
 
+// How many slots the series' stores of these lengths have room for.
+fn slots_of(bounds: &[f64], totals: usize, extremes: usize, counts: usize) -> usize
+    ensures { λ r. ⌜ ((limit : ℕ) → leb (limit + 2) r ≡ lengthsSuffice (bucketCount (now (bounds .entry))) limit totals extremes counts) ⌝ }
+{
+    let least = lesser(totals, extremes);
+    let n = explicit::bucket_count(bounds);
+    if n == 0 {
+        return least;
+    }
+    lesser(least, counts / n)
+}
+
 // Whether the series' stores of these lengths suffice.
-pub fn cells_suffice(bounds: &[f64], limit: u64, totals: usize, extremes: usize, counts: usize) -> bool
+pub fn cells_suffice(
+    bounds: &[f64],
+    limit: u64,
+    totals: usize,
+    extremes: usize,
+    counts: usize,
+) -> bool
     ensures { λ r. ⌜ r ≡ lengthsSuffice (bucketCount (now (bounds .entry))) limit totals extremes counts ⌝ }
 {
-    let n = explicit::bucket_count(bounds);
-    let most = crate::first::both(
-        directory::suffices(limit, extremes),
-        crate::first::counts_suffice(limit, n, counts),
-    );
-    crate::first::both(directory::suffices(limit, totals), most)
+    let slots = slots_of(bounds, totals, extremes, counts);
+    directory::suffices(limit, slots)
 }
 
 // Configures a map: a fresh start, or 3, 4, 12.
@@ -116,11 +133,11 @@ pub fn measure(
         (held d (stores (sets .entry) (entries .entry) (order .entry)) (cells (totals .entry) (extremes .entry) (counts .entry)))
         v (given (now (attrs .entry))) ⌝ }
 {
-    let room = cells_suffice(bounds, limit, totals.len(), extremes.len(), counts.len());
+    let slots = slots_of(bounds, totals.len(), extremes.len(), counts.len());
     let value = crate::first::takes(v);
     let mut row: [u64; 9] = [0; 9];
     let seat = seats::seat(
-        room,
+        slots,
         value,
         0,
         limit,
@@ -166,10 +183,10 @@ pub fn measure_by(
         (held d (stores (sets .entry) (entries .entry) (order .entry)) (cells (totals .entry) (extremes .entry) (counts .entry)))
         v h ⌝ }
 {
-    let room = cells_suffice(bounds, limit, totals.len(), extremes.len(), counts.len());
+    let slots = slots_of(bounds, totals.len(), extremes.len(), counts.len());
     let value = crate::first::takes(v);
     let row: [u64; 9] = [0; 9];
-    let seat = seats::seat_by(room, value, 0, limit, d, sets, entries, order, h);
+    let seat = seats::seat_by(slots, value, 0, limit, d, sets, entries, order, h);
     let no = take(
         bounds,
         seat.no,

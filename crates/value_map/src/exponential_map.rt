@@ -1,6 +1,8 @@
 // The map of the exponential kind: configuring, and recording by set and by handle. Its stores: the directory's (sets, entries, order),
 // and each slot's figures, extremes and rows of counts.
 ghost use mathlib.Core.Path.{_≡_};
+ghost use Prim.Native.Nat.{ℕ, _+_};
+ghost use lib.Dec.{leb};
 ghost use Rattle.parts.specs.Recording.{after};
 ghost use Rattle.sets.specs.Sorted.{given, filterOf};
 ghost use Rattle.directory.specs.View.{stores};
@@ -9,6 +11,7 @@ ghost use Rattle.value_map.specs.Calls.{held, gave, Takes, taken, starte
 ghost use Rattle.value_map.specs.Exponential.{lengthsSuffice, unset, exponentialStore};
 use bindings::Reply;
 use directory::Directory;
+use seats::room::lesser;
 
 // The number with which configuring refuses max_size, 1, or the greatest level, 2; 0 if it accepts both.
 pub fn unset_of(size: u32, top: u32) -> u8
@@ -26,6 +29,19 @@ pub fn unset_of(size: u32, top: u32) -> u8
     0
 }
 
+// How many slots the series' stores of these lengths have room for.
+fn slots_of(size: u32, figures: usize, extremes: usize, pos: usize, neg: usize) -> usize
+    ensures { λ r. ⌜ ((limit : ℕ) → leb (limit + 2) r ≡ lengthsSuffice size limit figures extremes pos neg) ⌝ }
+{
+    let least = lesser(figures, extremes);
+    let n = size as usize;
+    if n == 0 {
+        return least;
+    }
+    let rows = lesser(pos / n, neg / n);
+    lesser(least, rows)
+}
+
 // Whether the series' stores of these lengths suffice.
 pub fn cells_suffice(
     size: u32,
@@ -37,13 +53,8 @@ pub fn cells_suffice(
 ) -> bool
     ensures { λ r. ⌜ r ≡ lengthsSuffice size limit figures extremes pos neg ⌝ }
 {
-    let n = size as usize;
-    let rows = crate::first::both(
-        crate::first::counts_suffice(limit, n, pos),
-        crate::first::counts_suffice(limit, n, neg),
-    );
-    let most = crate::first::both(directory::suffices(limit, extremes), rows);
-    crate::first::both(directory::suffices(limit, figures), most)
+    let slots = slots_of(size, figures, extremes, pos, neg);
+    directory::suffices(limit, slots)
 }
 
 // Configures a map: a fresh start, or 1, 2, 4, 12.
@@ -123,19 +134,12 @@ pub fn measure(
         (held d (stores (sets .entry) (entries .entry) (order .entry)) (cells (figures .entry) (extremes .entry) (pos .entry) (neg .entry)))
         v (given (now (attrs .entry))) ⌝ }
 {
-    let room = cells_suffice(
-        size,
-        limit,
-        figures.len(),
-        extremes.len(),
-        pos.len(),
-        neg.len(),
-    );
-    let value = crate::first::takes(v);
     let unset = unset_of(size, top);
+    let slots = slots_of(size, figures.len(), extremes.len(), pos.len(), neg.len());
+    let value = crate::first::takes(v);
     let mut row: [u64; 9] = [0; 9];
     let seat = seats::seat(
-        room,
+        slots,
         value,
         unset,
         limit,
@@ -185,18 +189,11 @@ pub fn measure_by(
         (held d (stores (sets .entry) (entries .entry) (order .entry)) (cells (figures .entry) (extremes .entry) (pos .entry) (neg .entry)))
         v h ⌝ }
 {
-    let room = cells_suffice(
-        size,
-        limit,
-        figures.len(),
-        extremes.len(),
-        pos.len(),
-        neg.len(),
-    );
-    let value = crate::first::takes(v);
     let unset = unset_of(size, top);
+    let slots = slots_of(size, figures.len(), extremes.len(), pos.len(), neg.len());
+    let value = crate::first::takes(v);
     let row: [u64; 9] = [0; 9];
-    let seat = seats::seat_by(room, value, unset, limit, d, sets, entries, order, h);
+    let seat = seats::seat_by(slots, value, unset, limit, d, sets, entries, order, h);
     let no = take(
         size,
         top,

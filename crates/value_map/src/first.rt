@@ -1,8 +1,5 @@
-// What the calls of every kind share: number 12 of a count store, whether a value is recorded at all, how a recording ends, configuring.
+// What the calls of every kind share: whether a value is recorded at all, how a recording ends, configuring.
 ghost use mathlib.Core.Path.{_≡_};
-ghost use mathlib.Core.Bool.{_&&_};
-ghost use Prim.Native.Nat.{_+_, _*_};
-ghost use lib.Dec.{leb};
 ghost use Rattle.kinds.specs.Histograms.{histograms};
 ghost use Rattle.sets.specs.Sorted.{filterOf};
 ghost use Rattle.directory.specs.View.{stores};
@@ -13,26 +10,6 @@ use bindings::Answer;
 use bindings::Reply;
 use directory::Directory;
 use directory::Target;
-
-// Both.
-pub fn both(a: bool, b: bool) -> bool
-    ensures { λ r. ⌜ r ≡ (a && b) ⌝ }
-{
-    if !a {
-        return false;
-    }
-    b
-}
-
-// Whether a store of this length has n counts for each of limit + 2 slots.
-pub fn counts_suffice(limit: u64, n: usize, length: usize) -> bool
-    ensures { λ r. ⌜ r ≡ leb ((limit + 2) * n) length ⌝ }
-{
-    if n == 0 {
-        return true;
-    }
-    directory::suffices(limit, length / n)
-}
 
 // Whether a histogram takes a value: number 6 refuses the others.
 pub fn takes(v: f64) -> bool

@@ -1,13 +1,13 @@
 -- `seats::seat` meets its contract. Assumes nothing.
 use borrow.Author.Needs.{needs}
-use Prim.Native.Nat.{ℕ}
+use Prim.Native.Nat.{ℕ, _+_}
 use mathlib.Core.Path.{_≡_, ap, sym, _∙_}
-use mathlib.Core.Bool.{_&&_}
+use mathlib.Core.Bool.{Bool, _&&_}
 use mathlib.Core.List.{List}
 use mathlib.Core.Option.{Option}
 use native.Mathlib.Omega.{arith}
 use denote.Ref.{now}
-use lib.Dec.{eqb}
+use lib.Dec.{eqb, leb}
 use lib.ListN.{length, length-map}
 use Rattle.laws.proofs.Cases.{and-true}
 use Rattle.tally.specs.Sets.{canonical}
@@ -16,9 +16,9 @@ use Rattle.sets.specs.Sorted.{attribute, given, filterOf}
 use Rattle.directory.specs.View.{Stores, stores}
 use Rattle.directory.specs.Calls.{accepts, storesSuffice}
 use Rattle.directory.proofs.Refusals.{suffices}
-use Rattle.seats.specs.Seats.{away, barredBy, seated}
+use Rattle.seats.specs.Seats.{away, barredBy, barredAt, seated}
 use Rattle.seats.specs.declared.Seating.{Seating}
-use Rattle.seats.proofs.Bars.{Clear, clear, barred-away, barred-on}
+use Rattle.seats.proofs.Bars.{Clear, clear, barred-away, barred-on, row-kept, row-written}
 use Rattle.seats.proofs.seat.Statement.{statement}
 use Rattle.seats.proofs.seat.Tie as tie
 
@@ -34,33 +34,38 @@ filter s = filterOf (s .args .present) (now (s .args .filter))
 abbrev attrs : tie.Start → List (ℕ × ℕ)
 attrs s = given (now (s .args .attrs))
 
+abbrev setRow : tie.Start → List ℕ
+setRow s = rowOf (canonical (filter s) (attrs s))
+
 -- where the call goes, unless it is barred
 abbrev goes : tie.Start → Seating
-goes s = seated (s .args .limit) (s .args .d) (lent s) (rowOf (canonical (filter s) (attrs s)))
+goes s = seated (s .args .limit) (s .args .d) (lent s) (setRow s)
+
+-- all stores have room
+abbrev room : tie.Start → Bool
+room s = storesSuffice (s .args .limit) (lent s) && leb (s .args .limit + 2) (s .args .cells)
 
 -- the number that comes first, and what is known where it is none
 abbrev first : tie.Start → ℕ
-first s = barredBy (storesSuffice (s .args .limit) (lent s) && s .args .cells) (s .args .value) (length (attrs s)) (eqb (s .args .unset) 0 && accepts (s .args .limit) (filter s))
+first s = let a = s .args in barredAt (a .cells) (a .value) (a .unset) (a .limit) (lent s) (length (attrs s)) (accepts (a .limit) (filter s))
 
 number : (b : tie.After-barred) → b .barred .result ≡ first (at b)
 number b =
     let s = at b in
     let k = b .before in
     b .barred .ensures
-    ∙ (λ j. barredBy (k .before .stores-suffice .ensures j && s .args .cells) (s .args .value) (sym (length-map (now (s .args .attrs)) attribute) j)
-    (eqb (s .args .unset) 0 && k .accepted .ensures j))
+    ∙ (λ j. barredBy (k .before .suffices .ensures j) (s .args .value) (sym (length-map (now (s .args .attrs)) attribute) j) (eqb (s .args .unset) 0 && k .accepted .ensures j))
 
-known : (e : tie.Else1) → let s = at (e .before) in
-    Clear (storesSuffice (s .args .limit) (lent s) && s .args .cells) (s .args .value) (length (attrs s)) (eqb (s .args .unset) 0 && accepts (s .args .limit) (filter s))
+known : (e : tie.Else1) → let s = at (e .before) in Clear (room s) (s .args .value) (length (attrs s)) (eqb (s .args .unset) 0 && accepts (s .args .limit) (filter s))
 known e = clear _ _ _ _ (sym (number (e .before)) ∙ e .if1 .left)
 
 returns : tie.Need-returns
 returns c =
     let t = c .before in
-    let b = t .before in (
-      c .refused .ensures ∙ ap away (number b) ∙ sym (barred-away (first (at b)) (goes (at b)) (λ z. t .if1 .taken (number b ∙ z))),
-      (λ z. absurd (t .if1 .taken (sym (ap (λ (a : Seating). a .no) (c .refused .ensures)) ∙ z))),
-    )
+    let b = t .before in
+    let s = at b in
+    let d : first s ≡ 0 → ⊥ = λ z. t .if1 .taken (number b ∙ z) in
+    (c .refused .ensures ∙ ap away (number b) ∙ sym (barred-away (first s) (goes s) d), row-kept (first s) (setRow s) (now (s .args .row)) d)
 
 sort-into-requires : tie.Need-sort-into-requires
 sort-into-requires c κs = let e = c .before in omega (arith, known e .few, length-map (now (at (e .before) .args .attrs)) attribute)
@@ -70,7 +75,7 @@ seat-in-requires c κs =
     let o = c .before in
     let e = o .before .before in
     let s = at (e .before) in
-    let l = suffices (s .args .limit) (lent s) (and-true (storesSuffice (s .args .limit) (lent s)) (s .args .cells) (known e .room-is) .0) in
+    let l = suffices (s .args .limit) (lent s) (and-true (storesSuffice (s .args .limit) (lent s)) (leb (s .args .limit + 2) (s .args .cells)) (known e .room-is) .0) in
     (l .sets, l .entries, l .order, o .sort-into .ensures .1)
 
 returns-2 : tie.Need-returns-2
@@ -78,9 +83,10 @@ returns-2 c =
     let o = c .before .before in
     let e = o .before .before in
     let b = e .before in
-    let s = at b in (
-      c .seat-in .ensures ∙ ap (seated (s .args .limit) (s .args .d) (lent s)) (o .sort-into .ensures .0) ∙ sym (barred-on (first s) (goes s) (sym (number b) ∙ e .if1 .left)),
-      (λ z. o .sort-into .ensures .0),
+    let s = at b in
+    let z : first s ≡ 0 = sym (number b) ∙ e .if1 .left in (
+      c .seat-in .ensures ∙ ap (seated (s .args .limit) (s .args .d) (lent s)) (o .sort-into .ensures .0) ∙ sym (barred-on (first s) (goes s) z),
+      o .sort-into .ensures .0 ∙ row-written (first s) (setRow s) (now (s .args .row)) z,
     )
 
 pub seat-spec : {M : Type 1} → statement M

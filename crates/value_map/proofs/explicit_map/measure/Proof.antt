@@ -7,6 +7,7 @@ use Rattle.sets.specs.Sorted.{given, filterOf}
 use Rattle.directory.specs.View.{stores}
 use Rattle.points.specs.Explicit.{boundsPass}
 use Rattle.explicit_slots.specs.Cells.{Cells, cells}
+use Rattle.seats.proofs.Bars.{row-seated}
 use Rattle.value_map.specs.Store.{Store}
 use Rattle.value_map.specs.Calls.{Held, held}
 use Rattle.value_map.specs.Explicit.{explicitStore, turned}
@@ -38,7 +39,7 @@ known q =
     let s = at q in
     let a = s .args in
     let u = own q in
-    allows (owed (now (a .bounds))) (a .limit) (lentMap s) (a .v) (way s) 0 (u .before .cells-suffice .ensures) (u .takes .ensures) (q .seat .ensures .0)
+    allows (owed (now (a .bounds))) (a .limit) (lentMap s) (a .v) (way s) 0 (u .before .slots-of .ensures (a .limit)) (u .takes .ensures) (q .seat .ensures .0)
 
 take-requires : tie.Need-take-requires
 take-requires c κs = known (c .before .before .before) .takes
@@ -61,7 +62,7 @@ returns c =
     let u = own q in
     let b = now (a .bounds) in
     late-ends (owed b) (a .limit) (lentMap s) (a .v) (way s) (boundsPass b) (passes-is b) (q .seat .result) _ _ _ (f .finish .ensures) (t .take .ensures)
-    (u .before .cells-suffice .ensures) (u .takes .ensures) (q .seat .ensures .0) (q .seat .ensures .1)
+    (u .before .slots-of .ensures (a .limit)) (u .takes .ensures) (q .seat .ensures .0) (row-seated _ _ _ _ _ (q .seat .ensures .0) _ (q .seat .ensures .1))
     (λ i z. let m = known q .takes z in bad-8 b (lentMap s .cells) (q .seat .result .slot) (q .seat .result .updated) (a .v) (m .0) (finite-is (a .v) (m .1)) i)
     ∙ set-here (kind s) (a .limit) (lentMap s) (a .v) (filterOf (a .present) (now (a .filter))) (given (now (a .attrs)))
 

@@ -37,7 +37,7 @@ known q =
     let s = at q in
     let a = s .args in
     let u = own q in
-    allows (owed (now (a .bounds))) (a .limit) (lentMap s) (a .v) (way s) 0 (u .before .cells-suffice .ensures) (u .takes .ensures) (q .seat-by .ensures)
+    allows (owed (now (a .bounds))) (a .limit) (lentMap s) (a .v) (way s) 0 (u .before .slots-of .ensures (a .limit)) (u .takes .ensures) (q .seat-by .ensures)
 
 take-requires : tie.Need-take-requires
 take-requires c κs = known (c .before .before .before) .takes
@@ -60,7 +60,7 @@ returns c =
     let u = own q in
     let b = now (a .bounds) in
     late-ends (owed b) (a .limit) (lentMap s) (a .v) (way s) (boundsPass b) (passes-is b) (q .seat-by .result) _ _ _ (f .finish .ensures) (t .take .ensures)
-    (u .before .cells-suffice .ensures) (u .takes .ensures) (q .seat-by .ensures) (λ z. refl)
+    (u .before .slots-of .ensures (a .limit)) (u .takes .ensures) (q .seat-by .ensures) (λ z. refl)
     (λ i z. let m = known q .takes z in bad-8 b (lentMap s .cells) (q .seat-by .result .slot) (q .seat-by .result .updated) (a .v) (m .0) (finite-is (a .v) (m .1)) i)
     ∙ by-here (kind s) (a .limit) (lentMap s) (a .v) (a .h)
 

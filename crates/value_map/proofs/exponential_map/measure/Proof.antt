@@ -6,6 +6,7 @@ use Rattle.kinds.specs.Histograms.{histograms}
 use Rattle.sets.specs.Sorted.{given, filterOf}
 use Rattle.directory.specs.View.{stores}
 use Rattle.exponential_slots.specs.Cells.{Cells, cells}
+use Rattle.seats.proofs.Bars.{row-seated}
 use Rattle.value_map.specs.Store.{Store}
 use Rattle.value_map.specs.Calls.{Held, held}
 use Rattle.value_map.specs.Exponential.{exponentialStore}
@@ -15,11 +16,14 @@ use Rattle.value_map.proofs.ExponentialOwes.{owed}
 use Rattle.value_map.proofs.exponential_map.measure.Statement.{statement}
 use Rattle.value_map.proofs.exponential_map.measure.Tie as tie
 
-abbrev own : tie.After-seat → tie.After-unset-of
+abbrev own : tie.After-seat → tie.After-takes
 own q = q .before .before .before .before .before
 
+abbrev unset : tie.After-seat → tie.After-unset-of
+unset q = own q .before .before
+
 abbrev at : tie.After-seat → tie.Start
-at q = own q .before .before .before .before .before .before .before
+at q = unset q .before .before .before .before .before
 
 abbrev kind : tie.Start → Store histograms
 kind s = exponentialStore (s .args .size) (s .args .top)
@@ -35,7 +39,7 @@ known q =
     let s = at q in
     let a = s .args in
     let u = own q in
-    allows (owed (a .size) (a .top)) (a .limit) (lentMap s) (a .v) (way s) (u .unset-of .result) (u .before .before .cells-suffice .ensures) (u .before .takes .ensures) (q .seat .ensures .0)
+    allows (owed (a .size) (a .top)) (a .limit) (lentMap s) (a .v) (way s) (unset q .unset-of .result) (u .before .slots-of .ensures (a .limit)) (u .takes .ensures) (q .seat .ensures .0)
 
 take-requires : tie.Need-take-requires
 take-requires c κs = known (c .before .before .before .before) .takes
@@ -56,7 +60,7 @@ returns c =
     let a = s .args in
     let u = own q in
     ends (owed (a .size) (a .top)) (a .limit) (lentMap s) (a .v) (way s) (q .seat .result) _ _ _ (f .finish .ensures)
-    (u .before .before .cells-suffice .ensures) (u .before .takes .ensures) (u .unset-of .ensures) (q .seat .ensures .0) (q .seat .ensures .1) (t .take .ensures)
+    (u .before .slots-of .ensures (a .limit)) (u .takes .ensures) (unset q .unset-of .ensures) (q .seat .ensures .0) (row-seated _ _ _ _ _ (q .seat .ensures .0) _ (q .seat .ensures .1)) (t .take .ensures)
     ∙ set-here (kind s) (a .limit) (lentMap s) (a .v) (filterOf (a .present) (now (a .filter))) (given (now (a .attrs)))
 
 pub measure-spec : {M : Type 1} → statement M

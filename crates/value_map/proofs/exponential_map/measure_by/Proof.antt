@@ -13,11 +13,14 @@ use Rattle.value_map.proofs.ExponentialOwes.{owed}
 use Rattle.value_map.proofs.exponential_map.measure_by.Statement.{statement}
 use Rattle.value_map.proofs.exponential_map.measure_by.Tie as tie
 
-abbrev own : tie.After-seat-by → tie.After-unset-of
+abbrev own : tie.After-seat-by → tie.After-takes
 own q = q .before .before .before .before
 
+abbrev unset : tie.After-seat-by → tie.After-unset-of
+unset q = own q .before .before
+
 abbrev at : tie.After-seat-by → tie.Start
-at q = own q .before .before .before .before .before .before
+at q = unset q .before .before .before .before
 
 abbrev kind : tie.Start → Store histograms
 kind s = exponentialStore (s .args .size) (s .args .top)
@@ -33,7 +36,7 @@ known q =
     let s = at q in
     let a = s .args in
     let u = own q in
-    allows (owed (a .size) (a .top)) (a .limit) (lentMap s) (a .v) (way s) (u .unset-of .result) (u .before .before .cells-suffice .ensures) (u .before .takes .ensures) (q .seat-by .ensures)
+    allows (owed (a .size) (a .top)) (a .limit) (lentMap s) (a .v) (way s) (unset q .unset-of .result) (u .before .slots-of .ensures (a .limit)) (u .takes .ensures) (q .seat-by .ensures)
 
 take-requires : tie.Need-take-requires
 take-requires c κs = known (c .before .before .before .before) .takes
@@ -54,7 +57,7 @@ returns c =
     let a = s .args in
     let u = own q in
     ends (owed (a .size) (a .top)) (a .limit) (lentMap s) (a .v) (way s) (q .seat-by .result) _ _ _ (f .finish .ensures)
-    (u .before .before .cells-suffice .ensures) (u .before .takes .ensures) (u .unset-of .ensures) (q .seat-by .ensures) (λ z. refl) (t .take .ensures)
+    (u .before .slots-of .ensures (a .limit)) (u .takes .ensures) (unset q .unset-of .ensures) (q .seat-by .ensures) (λ z. refl) (t .take .ensures)
     ∙ by-here (kind s) (a .limit) (lentMap s) (a .v) (a .h)
 
 pub measure-by-spec : {M : Type 1} → statement M

@@ -1,18 +1,17 @@
 -- The points of the slots put one by one: what a turn adds to the output, and what it comes to. Assumes nothing.
 use Prim.Native.Nat.{ℕ, suc, _+_, _≤_, _<_}
-use mathlib.Core.Path.{_≡_, refl, sym, ap, ap₂, subst, _∙_}
+use mathlib.Core.Path.{_≡_, refl, sym, ap, subst, _∙_}
 use mathlib.Core.Bool.{Bool, true, false, _&&_}
-use mathlib.Core.List.{List, [], _∷_, _++_, map, map-append, append-assoc}
+use mathlib.Core.List.{List, [], _∷_, _++_, map}
 use native.Mathlib.Omega.{arith}
 use borrow.Author.Tests.{leb-true, leb-false}
 use lib.Dec.{leb}
-use lib.ListN.{length, getD, set, take, drop, length-append, length-map}
-use lib.Seq.{take-append-seam, drop-append-seam, drop-drop}
+use lib.ListN.{length, getD, take, drop, length-append, length-map}
 use Rattle.laws.specs.Over.{over}
 use Rattle.laws.specs.Pick.{pick}
 use Rattle.laws.proofs.Bools.{pick-true, pick-false}
 use Rattle.laws.proofs.Cases.{and-true}
-use Rattle.laws.proofs.Over.{length-over, over-snoc}
+use Rattle.laws.proofs.Over.{length-over}
 use Rattle.tally.specs.Kind.{Kind}
 use Rattle.sets.specs.Rows.{rowOf}
 use Rattle.directory.specs.View.{setAt}
@@ -22,27 +21,12 @@ use Rattle.value_map.specs.Store.{Store}
 use Rattle.value_map.specs.Calls.{Held}
 use Rattle.listing.specs.declared.Cursor.{Cursor}
 use Rattle.listing.specs.Listed.{Output, Put, left, overAt}
+use Rattle.listing.proofs.Lists.{over-behind-front, rows-snoc}
 use Rattle.collecting.specs.Lister.{Lister}
 use Rattle.collecting.specs.Collected.{fewest, roomOf, slotsOf, due, dueOf, setRows, wordRows, posCounts, negCounts, laidOut, roomy}
 use Rattle.collecting.specs.Slots.{walked, laidAt, behindAt, putSlot, putSlots}
 use Rattle.collecting.proofs.Nexts.{slots-all, only-yes, only-no, only-front}
 use Rattle.collecting.proofs.Surveys.{pos-append, neg-append, pos-snoc, neg-snoc, in-slots, points-more, pos-more, neg-more, pos-walked, neg-walked}
-
-over-behind-front : (a b old : List ℕ) → overAt (length a) b (over a old) ≡ over (a ++ b) old
-unfolding over overAt
-over-behind-front a b old =
-    let r = drop (length a) old in
-    ap₂ (λ (x y : List ℕ). x ++ (b ++ drop (length b) y)) (take-append-seam a r) (drop-append-seam a r)
-    ∙ sym (append-assoc a b (drop (length b) r))
-    ∙ ap (λ (l : List ℕ). (a ++ b) ++ l) (drop-drop (length b) (length a) old)
-    ∙ ap (λ (n : ℕ). (a ++ b) ++ drop n old) (sym (length-append a b))
-
-rows-snoc : (f : ℕ → List ℕ) (l : List ℕ) (x : ℕ) (old : List (List ℕ)) → length l < length old
-    → set (over (map f l) old) (length l) (f x) ≡ over (map f (l ++ (x ∷ []))) old
-rows-snoc f l x old h =
-    ap (λ (n : ℕ). set (over (map f l) old) n (f x)) (sym (length-map l f))
-    ∙ over-snoc (map f l) old (f x) (omega (arith, length-map l f))
-    ∙ ap (λ (t : List (List ℕ)). over t old) (sym (map-append f l (x ∷ [])))
 
 -- the room that a point asks at a cursor
 pub record Place (at : Cursor) (out : Output) (p n : ℕ) : Type 0 where

@@ -23,7 +23,7 @@ use Rattle.listing.proofs.Back.{Held, point-back, span-back, point-is}
 
 -- ---- behind a new front
 
-over-behind-front : (a b old : List ℕ) → overAt (length a) b (over a old) ≡ over (a ++ b) old
+pub over-behind-front : (a b old : List ℕ) → overAt (length a) b (over a old) ≡ over (a ++ b) old
 unfolding over overAt
 over-behind-front a b old =
     let r = drop (length a) old in
@@ -55,7 +55,7 @@ joined-snoc f a i = joined-append f a (i ∷ []) ∙ ap (λ (l : List ℕ). join
 
 -- ---- put
 
-rows-snoc : (f : Item → List ℕ) (l : List Item) (i : Item) (old : List (List ℕ)) → length l < length old
+pub rows-snoc : {A : Type 0} (f : A → List ℕ) (l : List A) (i : A) (old : List (List ℕ)) → length l < length old
     → set (over (map f l) old) (length l) (f i) ≡ over (map f (l ++ (i ∷ []))) old
 rows-snoc f l i old h =
     ap (λ (n : ℕ). set (over (map f l) old) n (f i)) (sym (length-map l f))

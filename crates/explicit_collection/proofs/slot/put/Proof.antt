@@ -1,0 +1,115 @@
+-- `explicit_collection::slot::put` meets its contract. Assumes nothing.
+use Prim.Native.Nat.{ℕ, _+_, _*_, _≤_}
+use mathlib.Core.Path.{sym, subst, _∙_}
+use native.Mathlib.Omega.{arith}
+use denote.Ref.{now}
+use lib.ListN.{length}
+use borrow.Author.Needs.{needs}
+use borrow.Author.Tests.{not-true, not-false}
+use Rattle.parts.proofs.Laws.{part-length}
+use Rattle.explicit_slots.specs.Cells.{Cells, cells}
+use Rattle.listing.specs.Listed.{Output, output}
+use Rattle.explicit_collection.proofs.Slots.{put-none, put-held, put-first}
+use Rattle.explicit_collection.proofs.slot.put.Statement.{statement}
+use Rattle.explicit_collection.proofs.slot.put.Tie as tie
+
+abbrev start : tie.Else1 → tie.Start
+start e = e .before .before .before .before .before .before
+
+abbrev lent : tie.Start → Cells
+lent s = let a = s .args in cells (a .totals) (a .extremes) (a .counts)
+
+abbrev out : tie.Start → Output
+out s = let a = s .args in output (a .out-sets) (a .out-words) (a .out-pos) (a .out-neg)
+
+abbrev other : tie.After-bucket-count → tie.Else2
+other b = b .before .before
+
+abbrev from : tie.After-bucket-count → tie.Start
+from b = start (b .before .before .before)
+
+-- the slot's counts end within the store
+end : (b : tie.After-bucket-count) → from b .args .x * b .bucket-count .result + b .bucket-count .result ≤ length (now (from b .args .counts))
+end b = let a = from b .args in subst (λ (k : ℕ). a .x * k + k ≤ length (now (a .counts))) (sym (b .bucket-count .ensures)) (from b .pre .0 .1 .counts)
+
+returns : tie.Need-returns
+returns c =
+    let s = c .before .before .before .before .before .before in
+    let a = s .args in
+    put-none (now (a .bounds)) (a .show) (a .sums) (a .updated) (a .due) (lent s) (a .x) (a .row) (a .at) (out s) (not-true (a .due) (c .if1 .taken))
+
+put-fresh-requires : tie.Need-put-fresh-requires
+put-fresh-requires c κs =
+    let e = c .before .before .before .before .before in
+    let s = start e in
+    (s .pre .0 .0, s .pre .1 (not-false (s .args .due) (e .if1 .left)))
+
+returns-2 : tie.Need-returns-2
+returns-2 c =
+    let f = c .before .before .before .before .before .before in
+    let t = f .before .before .before .before .before in
+    let e = t .before in
+    let s = start e in
+    let a = s .args in
+    f .put-fresh .ensures
+    ∙ put-first (now (a .bounds)) (a .show) (a .sums) (a .updated) (a .due) (lent s) (a .x) (a .row) (a .at) (out s) (not-false (a .due) (e .if1 .left)) (s .pre .0 .1)
+    (not-true (a .updated) (t .if2 .taken))
+
+mul-a : tie.Need-mul-a
+mul-a c = omega (arith, end c, from c .good .1 .1 .1 .1 .1 .1 .1 .1 .1 .1 .0 .0)
+
+add-e : tie.Need-add-e
+add-e c = omega (arith, end c, from c .good .1 .1 .1 .1 .1 .1 .1 .1 .1 .1 .0 .0)
+
+mul-put-point : tie.Need-mul-put-point
+mul-put-point c = omega (arith, end c, from c .good .1 .1 .1 .1 .1 .1 .1 .1 .1 .1 .0 .1)
+
+part-put-point-end : tie.Need-part-put-point-end
+part-put-point-end c = end c
+
+put-point-requires : tie.Need-put-point-requires
+put-point-requires c κs =
+    let b = c .before .before .before .before .before in
+    let e = other b .before in
+    let s = start e in
+    let a = s .args in (
+      (s .pre .0 .0, omega (arith, b .bucket-count .ensures, part-length (b .bucket-count .result) (now (a .counts)) (a .x) (end b))),
+      s .pre .1 (not-false (a .due) (e .if1 .left)),
+    )
+
+returns-3 : tie.Need-returns-3
+returns-3 c =
+    let p = c .before .before .before .before .before .before in
+    let b = p .before .before .before .before .before .before in
+    let e = other b .before in
+    let s = start e in
+    let a = s .args in
+    p .put-point .ensures
+    ∙ put-held (now (a .bounds)) (a .show) (a .sums) (a .updated) (a .due) (lent s) (a .x) (a .row) (a .at) (out s) (not-false (a .due) (e .if1 .left)) (s .pre .0 .1)
+    (not-false (a .updated) (other b .if2 .left)) (b .bucket-count .result) (b .bucket-count .ensures) (b .before .head-at .result) (b .before .head-at .ensures)
+
+pub put-spec : {M : Type 1} → statement M
+put-spec =
+    tie.close
+    (tie.spec
+    returns
+    put-fresh-requires
+    (λ c. search needs)
+    (λ c. search needs)
+    (λ c. search needs)
+    (λ c. search needs)
+    returns-2
+    (λ c κs. search needs)
+    (λ c κs. search needs)
+    mul-a
+    add-e
+    mul-put-point
+    (λ c. search needs)
+    (λ c. search needs)
+    part-put-point-end
+    put-point-requires
+    (λ c. search needs)
+    (λ c. search needs)
+    (λ c. search needs)
+    (λ c. search needs)
+    returns-3)

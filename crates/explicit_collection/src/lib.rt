@@ -1,0 +1,274 @@
+// The public calls of the explicit kind around recording: configuring, delta and cumulative collection. `Histogram` of histogram.rs, and
+// its `ComputeAggregation`.
+mod slot;
+mod walk;
+
+ghost use mathlib.Core.Path.{_≡_};
+ghost use Rattle.floats.specs.Starts.{zeroFloat};
+ghost use Rattle.sets.specs.Sorted.{filterOf};
+ghost use Rattle.directory.specs.View.{stores};
+ghost use Rattle.bindings.specs.Calls as Bindings;
+ghost use Rattle.explicit_slots.specs.Cells.{cells};
+ghost use Rattle.value_map.specs.Calls.{held};
+ghost use Rattle.listing.specs.Listed.{output};
+ghost use Rattle.collecting.specs.Collected.{gave, uncollected, deltaCollected, cumulativeCollected};
+ghost use Rattle.explicit_collection.specs.Points.{explicitLister};
+ghost use Rattle.explicit_collection.specs.Configured.{said, setUp, configuring, configured};
+use collecting::Answer;
+use collecting::Reply;
+use directory::Directory;
+
+// What was configured: the two switches and the cardinality limit; the bounds are lent at every call.
+pub struct Settings {
+    pub extremes: bool,
+    pub sums: bool,
+    pub limit: u64,
+}
+
+// The settings of a map, and its state.
+pub struct Setup {
+    pub settings: Settings,
+    pub dir: Directory,
+}
+
+// What configuring says: a refusal's number, or a fresh map.
+pub enum Configured {
+    Refused(u8),
+    Accepted(Setup),
+}
+
+// What configuring says by what the start of the map replied.
+fn set_up(settings: Settings, reply: bindings::Reply) -> Configured
+    ensures { λ r. ⌜ said r ≡ setUp settings (reply .dir) (Bindings.said (reply .answer)) ⌝ }
+{
+    let dir = reply.dir;
+    let answer = reply.answer;
+    match answer {
+        bindings::Answer::Refused(no) => Configured::Refused(no),
+        bindings::Answer::Done => Configured::Accepted(Setup { settings, dir }),
+        bindings::Answer::Handle(h) => Configured::Accepted(Setup { settings, dir }),
+    }
+}
+
+// Configures a map: its settings and fresh state, or 3, 4, 12.
+pub fn configure(
+    bounds: &[f64],
+    show: bool,
+    sums: bool,
+    limit: u64,
+    present: bool,
+    filter: &[u32],
+    sets: &[[u64; 9]],
+    entries: &mut [[u64; 3]],
+    order: &[u32],
+    totals: &[u64],
+    extremes: &[[f64; 3]],
+    counts: &[u64],
+) -> Configured
+    ensures { λ r. ⌜ configuring r (stores (sets .entry) (entries .exit) (order .entry))
+        ≡ configured (now (bounds .entry)) show sums limit (filterOf present (now (filter .entry)))
+        (stores (sets .entry) (entries .entry) (order .entry)) (cells (totals .entry) (extremes .entry) (counts .entry)) ⌝ }
+{
+    let reply = value_map::explicit_map::start(
+        bounds,
+        limit,
+        present,
+        filter,
+        sets,
+        entries,
+        order,
+        totals,
+        extremes,
+        counts,
+    );
+    let settings = Settings {
+        extremes: show,
+        sums,
+        limit,
+    };
+    set_up(settings, reply)
+}
+
+// The number that refuses a collection: 12, 8, 10; 0 if none. Everything is decided here, by reading.
+fn number(
+    whole: bool,
+    bounds: &[f64],
+    s: Settings,
+    d: Directory,
+    sets: &[[u64; 9]],
+    entries: &[[u64; 3]],
+    order: &[u32],
+    totals: &[u64],
+    extremes: &[[f64; 3]],
+    counts: &[u64],
+    out_sets: &[[u64; 9]],
+    out_words: &[[u64; 12]],
+    out_pos: &[u64],
+    out_neg: &[u64],
+) -> u8
+    ensures { λ r. ⌜ r ≡ uncollected (explicitLister (now (bounds .entry))) (s .extremes, s .sums, zeroFloat) whole (s .limit)
+        (held d (stores (sets .entry) (entries .entry) (order .entry)) (cells (totals .entry) (extremes .entry) (counts .entry)))
+        (output («out_sets» .entry) («out_words» .entry) («out_pos» .entry) («out_neg» .entry)) ⌝ }
+{
+    let limit = s.limit;
+    let room = value_map::explicit_map::cells_suffice(
+        bounds,
+        limit,
+        totals.len(),
+        extremes.len(),
+        counts.len(),
+    );
+    let unset = value_map::explicit_map::unset_of(bounds);
+    let no = collecting::barred(room, unset, limit, d, sets, entries, order);
+    if no != 0 {
+        return no;
+    }
+    let found = crate::walk::survey(
+        whole,
+        bounds,
+        d.used,
+        entries,
+        order,
+        totals,
+        extremes,
+        counts,
+    );
+    collecting::number_of(
+        found,
+        out_sets.len(),
+        out_words.len(),
+        out_pos.len(),
+        out_neg.len(),
+    )
+}
+
+// Delta collection: lists the updated entries and resets them; removes those that were neither updated nor bound, but for overflow; or 12, 8, 10.
+pub fn delta(
+    bounds: &[f64],
+    s: Settings,
+    d: Directory,
+    sets: &mut [[u64; 9]],
+    entries: &mut [[u64; 3]],
+    order: &mut [u32],
+    totals: &[u64],
+    extremes: &[[f64; 3]],
+    counts: &[u64],
+    out_sets: &mut [[u64; 9]],
+    out_words: &mut [[u64; 12]],
+    out_pos: &mut [u64],
+    out_neg: &mut [u64],
+) -> Reply
+    ensures { λ r. ⌜ gave (r .answer)
+        (held (r .dir) (stores (sets .exit) (entries .exit) (order .exit)) (cells (totals .entry) (extremes .entry) (counts .entry)))
+        (output («out_sets» .exit) («out_words» .exit) («out_pos» .exit) («out_neg» .exit))
+        ≡ deltaCollected (explicitLister (now (bounds .entry))) (s .extremes, s .sums, zeroFloat) (s .limit)
+        (held d (stores (sets .entry) (entries .entry) (order .entry)) (cells (totals .entry) (extremes .entry) (counts .entry)))
+        (output («out_sets» .entry) («out_words» .entry) («out_pos» .entry) («out_neg» .entry)) ⌝ }
+{
+    let no = number(
+        false,
+        bounds,
+        s,
+        d,
+        sets,
+        entries,
+        order,
+        totals,
+        extremes,
+        counts,
+        out_sets,
+        out_words,
+        out_pos,
+        out_neg,
+    );
+    if no != 0 {
+        return Reply {
+            answer: Answer::Refused(no),
+            dir: d,
+        };
+    }
+    let end = crate::walk::list(
+        false,
+        bounds,
+        s.extremes,
+        s.sums,
+        d.used,
+        sets,
+        entries,
+        order,
+        totals,
+        extremes,
+        counts,
+        out_sets,
+        out_words,
+        out_pos,
+        out_neg,
+    );
+    let dir = sweep::sweep(d, sets, entries, order);
+    Reply {
+        answer: Answer::Listed(end.place),
+        dir,
+    }
+}
+
+// Cumulative collection (`LowMemory` too): lists every named entry, and the empty set's if it was updated; or 12, 8, 10. The map stays.
+pub fn cumulative(
+    bounds: &[f64],
+    s: Settings,
+    d: Directory,
+    sets: &[[u64; 9]],
+    entries: &[[u64; 3]],
+    order: &[u32],
+    totals: &[u64],
+    extremes: &[[f64; 3]],
+    counts: &[u64],
+    out_sets: &mut [[u64; 9]],
+    out_words: &mut [[u64; 12]],
+    out_pos: &mut [u64],
+    out_neg: &mut [u64],
+) -> Answer
+    ensures { λ r. ⌜ gave r
+        (held d (stores (sets .entry) (entries .entry) (order .entry)) (cells (totals .entry) (extremes .entry) (counts .entry)))
+        (output («out_sets» .exit) («out_words» .exit) («out_pos» .exit) («out_neg» .exit))
+        ≡ cumulativeCollected (explicitLister (now (bounds .entry))) (s .extremes, s .sums, zeroFloat) (s .limit)
+        (held d (stores (sets .entry) (entries .entry) (order .entry)) (cells (totals .entry) (extremes .entry) (counts .entry)))
+        (output («out_sets» .entry) («out_words» .entry) («out_pos» .entry) («out_neg» .entry)) ⌝ }
+{
+    let no = number(
+        true,
+        bounds,
+        s,
+        d,
+        sets,
+        entries,
+        order,
+        totals,
+        extremes,
+        counts,
+        out_sets,
+        out_words,
+        out_pos,
+        out_neg,
+    );
+    if no != 0 {
+        return Answer::Refused(no);
+    }
+    let end = crate::walk::list(
+        true,
+        bounds,
+        s.extremes,
+        s.sums,
+        d.used,
+        sets,
+        entries,
+        order,
+        totals,
+        extremes,
+        counts,
+        out_sets,
+        out_words,
+        out_pos,
+        out_neg,
+    );
+    Answer::Listed(end.place)
+}

@@ -1,0 +1,6 @@
+-- The laws of `exponential_collection`.
+pub mod Slots
+pub mod Lists
+pub mod Turns
+pub mod Configuring
+pub mod Deciding

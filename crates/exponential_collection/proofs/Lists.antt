@@ -1,0 +1,250 @@
+-- The points of slots read back from lent output as the points of their series, and recording keeps cells that can be lent. Assumes nothing.
+use Prim.Native.Nat.{ℕ, zero, suc, _-_, _≤_, _<_}
+use mathlib.Core.Path.{_≡_, refl, sym, ap, subst, _∙_}
+use mathlib.Core.Logic.{⊎-elim}
+use mathlib.Core.Bool.{Bool, true, false, cond, not, _&&_, _||_}
+use mathlib.Core.List.{List, [], _∷_}
+use native.Mathlib.Omega.{arith}
+use lib.Dec.{eqb}
+use lib.ListN.{length, getD, take, set}
+use lib.Seq.{take-take, length-take-le}
+use lib.Ieee.{Float, nan, binary64, fits, ofBits, lt, add}
+use lib.Ieee.Scale.{finite}
+use lib.Ieee.Fits.{nan-fits, add-fits}
+use lib.Ieee.Bits.{is-true, ofBits-fits}
+use Rattle.laws.proofs.Bools.{flag, pick-true, pick-false}
+use Rattle.laws.proofs.Cases.{and-true}
+use Rattle.parts.specs.Parts.{partAt}
+use Rattle.parts.specs.Recording.{Recording}
+use Rattle.index.specs.Bins.{finest}
+use Rattle.floats.specs.Answers.{lesserOf, greaterOf}
+use Rattle.points.specs.Points.{Point}
+use Rattle.points.specs.Values.{start}
+use Rattle.points.specs.Figures.{Counts, exponentialCounts, Figures}
+use Rattle.points.specs.Handed.{Handed, handedOut}
+use Rattle.exponential.specs.declared.Head.{Head}
+use Rattle.exponential.specs.Series.{read, refusalOf, Outcome, recording}
+use Rattle.exponential.specs.Runs.{summary, freshHead}
+use Rattle.exponential.proofs.Lists.{fresh-holds}
+use Rattle.kinds.specs.Histograms.{histograms}
+use Rattle.tally.specs.Map.{sound}
+use Rattle.exponential_slots.specs.Cells.{Cells, Room, readable, headIn, recordedAt}
+use Rattle.exponential_slots.specs.Meaning.{settings, seriesAt}
+use Rattle.exponential_slots.proofs.Cases.{into, head-held, head-fresh, narrow-says, unread, called}
+use Rattle.exponential_slots.proofs.Agreeing.{counts-in}
+use Rattle.value_map.specs.Exponential.{unset, exponentialStore}
+use Rattle.value_map.proofs.Owed.{there, was}
+use Rattle.point.specs.Handing.{storedIn, handedIn, exponentialPoint}
+use Rattle.point.specs.declared.Point as P
+use Rattle.listing.specs.Words.{wordsOf, pointIn, boundsIn}
+use Rattle.listing.specs.Listed.{boundsAt}
+use Rattle.listing.specs.Listed as Out
+use Rattle.listing.specs.declared.Span.{Span}
+use Rattle.listing.proofs.Back as Back
+use Rattle.listing.proofs.Given.{exponential-held}
+use Rattle.collecting.specs.Read.{AllFit}
+use Rattle.collecting.proofs.Owed.{Listed, Lists}
+use Rattle.exponential_collection.specs.Points.{headAt, exponentialLister}
+use Rattle.exponential_collection.proofs.Slots.{nowhere, agreesAt, accepted, long-pos, long-neg, agreeing-of, pos-short, neg-short, pos-length, neg-length}
+
+-- ---- the head of a slot
+
+-- its floats are f64s
+pub record Fitting (h : Head) : Type 0 where
+  pub min : fits binary64 (h .min) ≡ true
+  pub max : fits binary64 (h .max) ≡ true
+  pub sum : fits binary64 (h .sum) ≡ true
+
+-- as listing holds it
+pub record Sized (h : Head) : Type 0 where
+  pub floats : Fitting h
+  pub level : h .counts .level < 4294967296
+  pub pos : h .counts .pos .start < 4294967296
+  pub neg : h .counts .neg .start < 4294967296
+
+literal-fits : (b : ℕ) → fits binary64 (ofBits binary64 b) ≡ true
+literal-fits b = is-true (fits binary64 (ofBits binary64 b)) (ofBits-fits binary64 b)
+
+fresh-fits : (top : ℕ) → Fitting (freshHead top)
+fresh-fits top = record { min = literal-fits 0x7fef_ffff_ffff_ffff; max = literal-fits 0xffef_ffff_ffff_ffff; sum = literal-fits 0 }
+
+module _ (size top : ℕ) (on : unset size top ≡ 0) (c : Cells) (x : ℕ) (r : Room size c x) (w : Bool × Bool) where
+  abbrev f : List ℕ
+  f = getD (c .figures) x []
+
+  abbrev m : List Float
+  m = getD (c .extremes) x []
+
+  abbrev xs : List ℕ
+  xs = partAt size (c .pos) x
+
+  abbrev ys : List ℕ
+  ys = partAt size (c .neg) x
+
+  -- head and rows are the slot's series, or a fresh one
+  abbrev Is : Head → Figures → Type 0
+  Is h y = y ≡ record { counts = exponentialCounts (read (h .counts) xs ys); summary = summary h }
+
+  is-held : agreesAt size top on c x r ≡ true → Is (headIn f m) (seriesAt size c x)
+  unfolding headIn
+  is-held a = ap (λ (k : Counts). record { counts = k; summary = seriesAt size c x .summary }) (counts-in size f xs ys (agreeing-of size top on c x r a .shape))
+
+  is-fresh : Is (freshHead top) (histograms .fresh (settings size top (w .0) (w .1)))
+  is-fresh =
+      let z = accepted size top on c x r in
+      let h = fresh-holds size top xs ys (z .least) (z .most) (z .fine) (omega (arith, long-pos size top on c x r)) (omega (arith, long-neg size top on c x r)) in
+      ap (λ (p : Point). record { counts = exponentialCounts p; summary = start }) (sym (h .rows))
+
+  sized-held : AllFit (c .extremes) → agreesAt size top on c x r ≡ true → Sized (headIn f m)
+  unfolding headIn
+  sized-held l a =
+      let n = narrow-says f (agreeing-of size top on c x r a .reads) in
+      record {
+        floats = record { min = l x 0; max = l x 1; sum = l x 2 };
+        level = omega (arith, n .level);
+        pos = omega (arith, n .pos);
+        neg = omega (arith, n .neg);
+      }
+
+  sized-fresh : Sized (freshHead top)
+  sized-fresh =
+      let z = accepted size top on c x r in
+      record {
+        floats = fresh-fits top;
+        level = omega (arith, z .fine);
+        pos = omega arith;
+        neg = omega arith;
+      }
+
+  abbrev sound-is : Bool → Type 0
+  sound-is u = sound histograms (settings size top (w .0) (w .1)) (there (exponentialStore size top) c x u) ≡ true
+
+  pub sound-then : (u : Bool) → sound-is u → (not u || agreesAt size top on c x r) ≡ true
+  sound-then true s = s
+  sound-then false s = refl
+
+  series-is : (u : Bool) → sound-is u → Is (headAt top c x u) (was (exponentialStore size top) w c x u)
+  series-is true s = is-held s ∙ ap (λ (h : Head). record { counts = exponentialCounts (read (h .counts) xs ys); summary = summary h }) (sym (head-held top true f m refl))
+  series-is false s = is-fresh ∙ ap (λ (h : Head). record { counts = exponentialCounts (read (h .counts) xs ys); summary = summary h }) (sym (head-fresh top false f m refl))
+
+  sized-at : AllFit (c .extremes) → (u : Bool) → sound-is u → Sized (headAt top c x u)
+  sized-at l true s = subst Sized (sym (head-held top true f m refl)) (sized-held l s)
+  sized-at l false s = subst Sized (sym (head-fresh top false f m refl)) sized-fresh
+
+  -- the first counts of the rows are all that is read of them
+  read-first : (h : Head) → read (h .counts) (take (h .counts .pos .len) xs) (take (h .counts .neg .len) ys) ≡ read (h .counts) xs ys
+  read-first h =
+      let n = h .counts .pos .len in
+      let k = h .counts .neg .len in
+      λ i.
+      record {
+        d = finest - h .counts .level;
+        pos = record { start = h .counts .pos .start; counts = take-take n n xs (omega arith) i };
+        neg = record { start = h .counts .neg .start; counts = take-take k k ys (omega arith) i };
+        zeros = h .counts .zeros;
+        total = h .counts .count;
+      }
+
+  module _ (l : AllFit (c .extremes)) (u : Bool) (s : sound-is u) where
+    abbrev h : Head
+    h = headAt top c x u
+
+    abbrev p : P.Point
+    p = exponentialPoint (headAt top c x u) (w .0) (w .1)
+
+    held : Back.Held p nowhere
+    held =
+        let z = sized-at l u s in
+        exponential-held (w .0) (w .1) h (z .floats .min) (z .floats .max) (z .floats .sum) (z .level) (z .pos) (z .neg)
+
+    point-is : pointIn (wordsOf p nowhere) ≡ p
+    point-is = Back.point-back p nowhere held
+
+    span-is : boundsIn (wordsOf p nowhere) ≡ nowhere
+    span-is = Back.span-back p nowhere held
+
+    abbrev ps : List ℕ
+    ps = take (headAt top c x u .counts .pos .len) xs
+
+    abbrev ns : List ℕ
+    ns = take (headAt top c x u .counts .neg .len) ys
+
+    -- what the series hands out
+    out-is : handedIn (storedIn p [] ps ns) ≡ handedOut (settings size top (w .0) (w .1)) (was (exponentialStore size top) w c x u)
+    out-is =
+        ap (λ (q : Point). handedOut (settings size top (w .0) (w .1)) (record { counts = exponentialCounts q; summary = summary h })) (read-first h)
+        ∙ ap (handedOut (settings size top (w .0) (w .1))) (sym (series-is u s))
+
+    listed : Listed (exponentialLister size top) w c x u
+    listed =
+        let a = sound-then u s in
+        let k = pos-length size top on c x r u a in
+        let n = neg-length size top on c x r u a in
+        let y = series-is u s in
+        record {
+          point = (λ i. handedIn (storedIn (point-is i) (boundsAt (span-is i) []) ps ns)) ∙ out-is;
+          posLen = (λ i. Out.posLen (point-is i .figures) (span-is i)) ∙ sym k;
+          negLen = (λ i. Out.negLen (point-is i .figures)) ∙ sym n;
+          pos = ap (λ (y : Figures). histograms .pos (handedOut (settings size top (w .0) (w .1)) y)) y;
+          neg = ap (λ (y : Figures). histograms .neg (handedOut (settings size top (w .0) (w .1)) y)) y;
+        }
+
+-- THE EXPONENTIAL KIND PAYS what it owes of its points
+pub exponential-lists : (size top : ℕ) → Lists (exponentialLister size top)
+exponential-lists size top w c x u on l r s = listed size top on c x r w l u s
+
+-- ---- recording keeps cells that can be lent
+
+cond-fits : (b : Bool) (x y : Float) → fits binary64 x ≡ true → fits binary64 y ≡ true → fits binary64 (cond b x y) ≡ true
+cond-fits true x y p q = p
+cond-fits false x y p q = q
+
+row-fits : (a b s : Float) → fits binary64 a ≡ true → fits binary64 b ≡ true → fits binary64 s ≡ true
+    → (i : ℕ) → fits binary64 (getD (a ∷ b ∷ s ∷ []) i nan) ≡ true
+row-fits a b s p q r zero = p
+row-fits a b s p q r (suc zero) = q
+row-fits a b s p q r (suc (suc zero)) = r
+row-fits a b s p q r (suc (suc (suc i))) = is-true (fits binary64 nan) (nan-fits binary64)
+
+set-fits : (rows : List (List Float)) (x : ℕ) (row : List Float) → AllFit rows → ((i : ℕ) → fits binary64 (getD row i nan) ≡ true) → AllFit (set rows x row)
+set-fits [] x row l g y i = l y i
+set-fits (a ∷ rows) zero row l g zero i = g i
+set-fits (a ∷ rows) zero row l g (suc y) i = l (suc y) i
+set-fits (a ∷ rows) (suc x) row l g zero i = l zero i
+set-fits (a ∷ rows) (suc x) row l g (suc y) i = set-fits rows x row (λ k. l (suc k)) g y i
+
+module _ (size top x : ℕ) (v : Float) (t : histograms .finite v ≡ true) where
+  value-fits : fits binary64 v ≡ true
+  value-fits = and-true (finite v) (fits binary64 v) t .1
+
+  head-fits : (u : Bool) (c : Cells) → AllFit (c .extremes) → Fitting (headAt top c x u)
+  unfolding headIn
+  head-fits true c l = subst Fitting (sym (head-held top true _ _ refl)) (record { min = l x 0; max = l x 1; sum = l x 2 })
+  head-fits false c l = subst Fitting (sym (head-fresh top false _ _ refl)) (fresh-fits top)
+
+  abbrev Keeps : Recording Cells → Type 0
+  Keeps o = AllFit (o .cells .extremes)
+
+  module _ (c : Cells) (l : AllFit (c .extremes)) (h : Head) (k : Fitting h) where
+    into-keeps : Keeps (into size x c (recording size top h (partAt size (c .pos) x) (partAt size (c .neg) x) v))
+    unfolding recording
+    into-keeps =
+        let xs = partAt size (c .pos) x in
+        let ys = partAt size (c .neg) x in
+        let b = eqb (refusalOf size top h xs ys v) 0 in
+        ⊎-elim
+        (λ (e : b ≡ true). subst (λ (o : Outcome). Keeps (into size x c o)) (sym (pick-true b _ _ e))
+        (set-fits (c .extremes) x _ l (row-fits (lesserOf (h .min) v) (greaterOf (h .max) v) (add binary64 (h .sum) v)
+        (cond-fits (lt v (h .min)) v (h .min) value-fits (k .min)) (cond-fits (lt (h .max) v) v (h .max) value-fits (k .max))
+        (is-true (fits binary64 (add binary64 (h .sum) v)) (add-fits binary64 (h .sum) v)))))
+        (λ (e : b ≡ false). subst (λ (o : Outcome). Keeps (into size x c o)) (sym (pick-false b _ _ e)) l)
+        (flag b)
+
+  -- RECORDING KEEPS IT, whatever is refused
+  pub recording-keeps : (u : Bool) (c : Cells) → AllFit (c .extremes) → AllFit (recordedAt size top x u c v .cells .extremes)
+  recording-keeps u c l =
+      let b = readable u (getD (c .figures) x []) in
+      ⊎-elim
+      (λ (e : b ≡ true). subst Keeps (sym (called size top x u c v e)) (into-keeps c l (headAt top c x u) (head-fits u c l)))
+      (λ (e : b ≡ false). subst Keeps (sym (unread size top x u c v e)) l)
+      (flag b)

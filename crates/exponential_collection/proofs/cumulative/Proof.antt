@@ -1,0 +1,97 @@
+-- `exponential_collection::cumulative` meets its contract. Assumes nothing.
+use borrow.Author.Needs.{needs}
+use mathlib.Core.Path.{_≡_, sym, _∙_}
+use mathlib.Core.Bool.{true}
+use Rattle.directory.specs.View.{stores}
+use Rattle.exponential_slots.specs.Cells.{Cells, cells}
+use Rattle.value_map.specs.Calls.{Held, held}
+use Rattle.listing.specs.Listed.{Output, output, left}
+use Rattle.collecting.proofs.Ends.{Clear, clear-of, cumulative-refused, cumulative-done}
+use Rattle.exponential_collection.specs.Points.{exponentialLister}
+use Rattle.exponential_collection.proofs.Deciding.{listable, put-is}
+use Rattle.exponential_collection.proofs.cumulative.Statement.{statement}
+use Rattle.exponential_collection.proofs.cumulative.Tie as tie
+
+abbrev map : tie.Start → Held Cells
+map s = let a = s .args in held (a .d) (stores (a .sets) (a .entries) (a .order)) (cells (a .figures) (a .extremes) (a .pos) (a .neg))
+
+abbrev out : tie.Start → Output
+out s = let a = s .args in output (a .out-sets) (a .out-words) (a .out-pos) (a .out-neg)
+
+abbrev start : tie.After-number → tie.Start
+start c = c .before .before .before .before .before .before .before .before .before .before
+
+-- no number refuses the call
+clear : (e : tie.Else1)
+    → Clear (exponentialLister (start (e .before) .args .s .size) (start (e .before) .args .s .top)) (start (e .before) .args .s .extremes, start (e .before) .args .s .sums) (start (e .before) .args .s .limit)
+    (map (start (e .before))) (out (start (e .before))) true
+clear e =
+    let s = start (e .before) in
+    let a = s .args in
+    clear-of (exponentialLister (a .s .size) (a .s .top)) (a .s .extremes, a .s .sums) (a .s .limit) (map s) (out s) true (sym (e .before .number .ensures) ∙ e .if1 .left)
+
+number-requires : tie.Need-number-requires
+number-requires c κs = search needs
+
+same-length : tie.Need-same-length
+same-length c = search needs
+
+same-length-2 : tie.Need-same-length-2
+same-length-2 c = search needs
+
+same-length-3 : tie.Need-same-length-3
+same-length-3 c = search needs
+
+same-length-4 : tie.Need-same-length-4
+same-length-4 c = search needs
+
+returns : tie.Need-returns
+returns c =
+    let s = start (c .before) in
+    let a = s .args in
+    cumulative-refused (exponentialLister (a .s .size) (a .s .top)) (a .s .extremes, a .s .sums) (a .s .limit) (map s) (out s) (c .before .number .result) (c .before .number .ensures) (c .if1 .taken)
+
+list-requires : tie.Need-list-requires
+list-requires c κs =
+    let e = c .before .before .before .before in
+    let s = start (e .before) in
+    let a = s .args in
+    listable (a .s .size) (a .s .top) (a .s .extremes, a .s .sums) true (a .s .limit) (map s) (out s) (clear e)
+
+same-length-5 : tie.Need-same-length-5
+same-length-5 c = search needs
+
+same-length-6 : tie.Need-same-length-6
+same-length-6 c = search needs
+
+same-length-7 : tie.Need-same-length-7
+same-length-7 c = search needs
+
+same-length-8 : tie.Need-same-length-8
+same-length-8 c = search needs
+
+returns-2 : tie.Need-returns-2
+returns-2 c =
+    let l = c .before .before .before .before .before .before in
+    let e = l .before .before .before .before .before in
+    let s = start (e .before) in
+    let a = s .args in
+    cumulative-done (exponentialLister (a .s .size) (a .s .top)) (a .s .extremes, a .s .sums) (a .s .limit) (map s) (out s) _ (sym (e .before .number .ensures) ∙ e .if1 .left)
+    (put-is (a .s .size) (a .s .top) (a .s .extremes, a .s .sums) true (a .s .limit) (map s) (out s) _ (l .list .ensures))
+
+pub cumulative-spec : {M : Type 1} → statement M
+cumulative-spec =
+    tie.close
+    (tie.spec
+    number-requires
+    same-length
+    same-length-2
+    same-length-3
+    same-length-4
+    returns
+    list-requires
+    same-length-5
+    same-length-6
+    same-length-7
+    same-length-8
+    returns-2)

@@ -1,0 +1,37 @@
+-- `exponential_collection::set_up` meets its contract. Assumes nothing.
+use borrow.Author.Needs.{needs}
+use mathlib.Core.Path.{sym, ap}
+use Rattle.bindings.specs.Calls as Bindings
+use Rattle.bindings.specs.declared.Answer.{Answer}
+use Rattle.exponential_collection.specs.Configured.{setUp}
+use Rattle.exponential_collection.proofs.set_up.Statement.{statement}
+use Rattle.exponential_collection.proofs.set_up.Tie as tie
+
+enum-known-answer : tie.Need-enum-known-answer
+enum-known-answer c = search needs
+
+enum-told : tie.Need-enum-told
+enum-told c = search needs
+
+enum-known-answer-2 : tie.Need-enum-known-answer-2
+enum-known-answer-2 c = search needs
+
+returns : tie.Need-returns
+returns c =
+    let a = c .before .before .before .before .args in
+    sym (ap (λ (x : Answer). setUp (a .z) (a .r .dir) (Bindings.said x)) (c .before .answer .given .1))
+
+returns-2 : tie.Need-returns-2
+returns-2 c =
+    let a = c .before .before .before .args in
+    sym (ap (λ (x : Answer). setUp (a .z) (a .r .dir) (Bindings.said x)) (c .enum-told .given .1))
+
+returns-3 : tie.Need-returns-3
+returns-3 c =
+    let a = c .before .before .before .before .args in
+    sym (ap (λ (x : Answer). setUp (a .z) (a .r .dir) (Bindings.said x)) (c .before .answer2 .given .1))
+
+pub set-up-spec : {M : Type 1} → statement M
+set-up-spec =
+    tie.close
+    (tie.spec enum-known-answer enum-told enum-known-answer-2 returns returns-2 returns-3)

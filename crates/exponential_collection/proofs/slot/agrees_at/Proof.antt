@@ -1,0 +1,167 @@
+-- `exponential_collection::slot::agrees_at` meets its contract. Assumes nothing.
+use borrow.Author.Needs.{needs}
+use mathlib.Core.Path.{_≡_, refl, sym, ap, _∙_}
+use mathlib.Core.Bool.{Bool, true, false}
+use mathlib.Core.List.{[]}
+use borrow.Author.Tests.{not-true, not-false}
+use lib.ListN.{getD}
+use lib.Ieee.{nan}
+use lib.Ieee.Scale.{finite}
+use Rattle.parts.specs.Parts.{partAt}
+use Rattle.exponential.specs.declared.Head.{Head}
+use Rattle.exponential.specs.Series as S
+use Rattle.exponential_slots.specs.Cells.{Cells, cells, countsIn, narrow, headIn}
+use Rattle.exponential_slots.proofs.Cases.{reads-held, head-held}
+use Rattle.exponential_collection.proofs.Slots.{unread, uncounted, low-lost, by-high}
+use Rattle.exponential_collection.proofs.slot.agrees_at.Statement.{statement}
+use Rattle.exponential_collection.proofs.slot.agrees_at.Tie as tie
+
+abbrev start : tie.After-can-read → tie.Start
+start c = c .before .before .before .before
+
+abbrev lent : tie.Start → Cells
+lent s = let a = s .args in cells (a .figures) (a .extremes) (a .pos) (a .neg)
+
+abbrev at : tie.After-counts-agree → tie.After-can-read
+at k = k .before .before .before .before .before .before .before
+
+can : (e : tie.Else1) → narrow (getD (lent (start (e .before)) .figures) (start (e .before) .args .x) []) ≡ true
+can e = sym (reads-held true _ refl) ∙ sym (e .before .can-read .ensures) ∙ not-false (e .before .can-read .result) (e .if1 .left)
+
+head-is : (k : tie.After-counts-agree) → k .before .before .before .before .head-of .result
+    ≡ headIn (getD (lent (start (at k)) .figures) (start (at k) .args .x) []) (getD (lent (start (at k)) .extremes) (start (at k) .args .x) [])
+head-is k = k .before .before .before .before .head-of .ensures ∙ head-held _ true _ _ refl
+
+counts-are : (k : tie.After-counts-agree)
+    → k .counts-agree .result
+    ≡ S.agrees (start (at k) .args .size) (start (at k) .args .top) (countsIn (getD (lent (start (at k)) .figures) (start (at k) .args .x) []))
+    (partAt (start (at k) .args .size) (lent (start (at k)) .pos) (start (at k) .args .x)) (partAt (start (at k) .args .size) (lent (start (at k)) .neg) (start (at k) .args .x))
+unfolding headIn
+counts-are k =
+    let s = start (at k) in
+    let a = s .args in
+    k .counts-agree .ensures
+    ∙ ap (λ (h : Head). S.agrees (a .size) (a .top) (h .counts) (partAt (a .size) (lent s .pos) (a .x)) (partAt (a .size) (lent s .neg) (a .x))) (head-is k)
+
+low-is : (q : tie.After-is-finite) → q .is-finite .result ≡ finite (getD (getD (lent (start (at (q .before .before))) .extremes) (start (at (q .before .before)) .args .x) []) 0 nan)
+unfolding headIn
+low-is q = q .is-finite .ensures ∙ ap (λ (h : Head). finite (h .min)) (head-is (q .before .before))
+
+mul-f : tie.Need-mul-f
+mul-f c = search needs
+
+shared-slice-copy-out-f : tie.Need-shared-slice-copy-out-f
+shared-slice-copy-out-f c = search needs
+
+can-read-requires : tie.Need-can-read-requires
+can-read-requires c κs = search needs
+
+returns : tie.Need-returns
+returns c =
+    let s = start (c .before) in
+    let a = s .args in
+    unread (a .size) (a .top) (s .pre .0) (lent s) (a .x) (s .pre .1)
+    (sym (reads-held true _ refl) ∙ sym (c .before .can-read .ensures) ∙ not-true (c .before .can-read .result) (c .if1 .taken))
+
+mul-head-of : tie.Need-mul-head-of
+mul-head-of c = search needs
+
+shared-slice-copy-out-head-of : tie.Need-shared-slice-copy-out-head-of
+shared-slice-copy-out-head-of c = search needs
+
+head-of-requires : tie.Need-head-of-requires
+head-of-requires c κs = reads-held true _ refl ∙ can (c .before)
+
+mul-a : tie.Need-mul-a
+mul-a c = search needs
+
+add-e : tie.Need-add-e
+add-e c = search needs
+
+mul-counts-agree : tie.Need-mul-counts-agree
+mul-counts-agree c = search needs
+
+sub-counts-agree : tie.Need-sub-counts-agree
+sub-counts-agree c = search needs
+
+part-counts-agree-start : tie.Need-part-counts-agree-start
+part-counts-agree-start c = search needs
+
+part-counts-agree-end : tie.Need-part-counts-agree-end
+part-counts-agree-end c = search needs
+
+mul-counts-agree-2 : tie.Need-mul-counts-agree-2
+mul-counts-agree-2 c = search needs
+
+sub-counts-agree-2 : tie.Need-sub-counts-agree-2
+sub-counts-agree-2 c = search needs
+
+part-counts-agree-start-2 : tie.Need-part-counts-agree-start-2
+part-counts-agree-start-2 c = search needs
+
+part-counts-agree-end-2 : tie.Need-part-counts-agree-end-2
+part-counts-agree-end-2 c = search needs
+
+counts-agree-requires : tie.Need-counts-agree-requires
+counts-agree-requires c κs = search needs
+
+returns-2 : tie.Need-returns-2
+returns-2 c =
+    let k = c .before in
+    let s = start (at k) in
+    let a = s .args in
+    uncounted (a .size) (a .top) (s .pre .0) (lent s) (a .x) (s .pre .1) (sym (counts-are k) ∙ not-true (k .counts-agree .result) (c .if2 .taken))
+
+is-finite-requires : tie.Need-is-finite-requires
+is-finite-requires c κs = search needs
+
+returns-3 : tie.Need-returns-3
+returns-3 c =
+    let q = c .before in
+    let s = start (at (q .before .before)) in
+    let a = s .args in
+    low-lost (a .size) (a .top) (s .pre .0) (lent s) (a .x) (s .pre .1) (sym (low-is q) ∙ not-true (q .is-finite .result) (c .if3 .taken))
+
+is-finite-requires-2 : tie.Need-is-finite-requires-2
+is-finite-requires-2 c κs = search needs
+
+returns-4 : tie.Need-returns-4
+unfolding headIn
+returns-4 c =
+    let q = c .before .before in
+    let k = q .before .before in
+    let s = start (at k) in
+    let a = s .args in
+    c .is-finite2 .ensures
+    ∙ ap (λ (h : Head). finite (h .max)) (head-is k)
+    ∙ by-high (a .size) (a .top) (s .pre .0) (lent s) (a .x) (s .pre .1) (can (k .before .before .before .before .before .before))
+    (sym (counts-are k) ∙ not-false (k .counts-agree .result) (q .before .if2 .left))
+    (sym (low-is q) ∙ not-false (q .is-finite .result) (c .before .if3 .left))
+
+pub agrees-at-spec : {M : Type 1} → statement M
+agrees-at-spec =
+    tie.close
+    (tie.spec
+    mul-f
+    shared-slice-copy-out-f
+    can-read-requires
+    returns
+    mul-head-of
+    shared-slice-copy-out-head-of
+    head-of-requires
+    mul-a
+    add-e
+    mul-counts-agree
+    sub-counts-agree
+    part-counts-agree-start
+    part-counts-agree-end
+    mul-counts-agree-2
+    sub-counts-agree-2
+    part-counts-agree-start-2
+    part-counts-agree-end-2
+    counts-agree-requires
+    returns-2
+    is-finite-requires
+    returns-3
+    is-finite-requires-2
+    returns-4)

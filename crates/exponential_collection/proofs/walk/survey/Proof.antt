@@ -1,0 +1,135 @@
+-- `exponential_collection::walk::survey` meets its contract. Assumes nothing.
+use Prim.Native.Nat.{_+_, _-_, _≤_}
+use mathlib.Core.Bool.{true}
+use mathlib.Core.List.{[]}
+use native.Mathlib.Omega.{arith}
+use borrow.Author.Needs.{needs}
+use borrow.Author.Tests.{not-true, not-false}
+use Rattle.exponential_slots.specs.Cells.{Cells, cells}
+use Rattle.collecting.specs.Slots.{walked}
+use Rattle.collecting.proofs.Turns.{Seen}
+use Rattle.exponential_collection.specs.Points.{exponentialLister}
+use Rattle.exponential_collection.proofs.Turns.{found-used, Surveyed, survey-start, survey-next, survey-stop, survey-end}
+use Rattle.exponential_collection.proofs.walk.survey.Statement.{statement}
+use Rattle.exponential_collection.proofs.walk.survey.Tie as tie
+
+abbrev Inv-loop : tie.InvT-loop
+Inv-loop whole used entries order figures extremes pos neg size top found₀ i₀ found i =
+    Surveyed size top whole used entries order (record { figures = figures; extremes = extremes; pos = pos; neg = neg }) i found
+
+abbrev μ-loop : tie.MeasureT-loop
+μ-loop whole used entries order figures extremes pos neg size top found₀ i₀ found i = used + 1 - i
+
+abbrev Start : Type 0
+Start = tie.Start Inv-loop μ-loop
+
+abbrev lent : Start → Cells
+lent s = let a = s .args in cells (a .figures) (a .extremes) (a .pos) (a .neg)
+
+abbrev start : tie.In-loop Inv-loop μ-loop → Start
+start t = t .before .before .before .before .before
+
+-- the slot of a turn lies in the stores
+in-use : (c : tie.After-slot-at Inv-loop μ-loop) → c .slot-at .result ≤ start (c .before) .args .used
+in-use c =
+    let t = c .before in
+    let s = start t in
+    found-used (s .args .order .now) (s .args .used) (s .pre .slots) (t .before .loop .i) (c .slot-at .result) (t .loop-test .taken) (c .slot-at .ensures)
+
+-- what the turn has seen of it
+abbrev turn : tie.After-is-due Inv-loop μ-loop → tie.In-loop Inv-loop μ-loop
+turn c = c .before .before .before
+
+seen : (c : tie.After-is-due Inv-loop μ-loop)
+    → Seen (exponentialLister (start (turn c) .args .s .size) (start (turn c) .args .s .top)) (true, true) (start (turn c) .args .whole)
+    (walked (start (turn c) .args .used) [] (start (turn c) .args .entries .now) (start (turn c) .args .order .now) (lent (start (turn c))))
+    (turn c .before .loop .i) (c .before .before .slot-at .result) (c .before .is-updated .result) (c .is-due .result)
+seen c =
+    record {
+      place = turn c .loop-test .taken;
+      slot = c .before .before .slot-at .ensures;
+      updated-is = c .before .is-updated .ensures;
+      asked-is = c .is-due .ensures;
+    }
+
+loop-holds : tie.Need-loop-holds Inv-loop μ-loop
+loop-holds c =
+    let s = c .before .before .before in
+    let a = s .args in
+    survey-start (a .s .size) (a .s .top) (a .whole) (a .used) (a .entries .now) (a .order .now) (lent s)
+
+slot-at-requires : tie.Need-slot-at-requires Inv-loop μ-loop
+slot-at-requires c κs = omega (arith, c .loop-test .taken, start c .pre .order)
+
+is-updated-requires : tie.Need-is-updated-requires Inv-loop μ-loop
+is-updated-requires c κs = start (c .before) .pre .entries (c .slot-at .result) (in-use c)
+
+is-due-requires : tie.Need-is-due-requires Inv-loop μ-loop
+is-due-requires c κs = search needs
+
+survey-requires : tie.Need-survey-requires Inv-loop μ-loop
+survey-requires c κs =
+    let t = turn c in
+    let s = start t in
+    let l = t .before .loop in
+    let u : l .i ≤ s .args .used = t .loop-test .taken in (
+      (s .pre .set, s .pre .room (c .before .before .slot-at .result) (in-use (c .before .before))),
+      (omega (arith, l .inv .points, s .pre .most), omega (arith, l .inv .pos, s .pre .most), omega (arith, l .inv .neg, s .pre .most)),
+    )
+
+returns : tie.Need-returns Inv-loop μ-loop
+returns c =
+    let v = c .before .before in
+    let d = v .before in
+    let t = turn d in
+    let s = start t in
+    let a = s .args in
+    let l = t .before .loop in
+    survey-stop (a .s .size) (a .s .top) (a .whole) (a .used) (a .entries .now) (a .order .now) (lent s) (l .i) _ _ _ (seen d)
+    (l .found) (v .survey .result) (l .inv) (v .survey .ensures .0) (not-true (v .survey .result .sound) (c .if1 .taken))
+
+add-i : tie.Need-add-i Inv-loop μ-loop
+add-i c =
+    let t = turn (c .before .before .before) in
+    omega (arith, t .loop-test .taken, start t .pre .most)
+
+loop-less : tie.Need-loop-less Inv-loop μ-loop
+loop-less c =
+    let t = turn (c .before .before .before) in
+    omega (arith, t .loop-test .taken)
+
+loop-again : tie.Need-loop-again Inv-loop μ-loop
+loop-again c =
+    let v = c .before .before in
+    let d = v .before in
+    let t = turn d in
+    let s = start t in
+    let a = s .args in
+    let l = t .before .loop in
+    let b = v .survey .ensures .1 in
+    survey-next (a .s .size) (a .s .top) (a .whole) (a .used) (a .entries .now) (a .order .now) (lent s) (l .i) _ _ _ (seen d)
+    (l .found) (v .survey .result) (l .inv) (v .survey .ensures .0) (not-false (v .survey .result .sound) (c .if1 .left)) (b .0) (b .1) (b .2)
+
+returns-2 : tie.Need-returns-2 Inv-loop μ-loop
+returns-2 c =
+    let s = c .before .before .before .before .before in
+    let a = s .args in
+    let l = c .before .loop in
+    survey-end (a .s .size) (a .s .top) (a .whole) (a .used) (a .entries .now) (a .order .now) (lent s) (l .i) (l .found) (l .inv) (omega (arith, c .loop-test .left))
+
+pub survey-spec : {M : Type 1} → statement M
+survey-spec =
+    tie.close
+    (tie.spec
+    Inv-loop
+    μ-loop
+    loop-holds
+    slot-at-requires
+    is-updated-requires
+    is-due-requires
+    survey-requires
+    returns
+    add-i
+    loop-less
+    loop-again
+    returns-2)

@@ -1,0 +1,53 @@
+-- Configuring a map of the exponential kind as its caller knows it, by a signed max_scale. Assumes nothing.
+use Prim.Native.Nat.{ℕ, suc}
+use mathlib.Core.Bool.{Bool}
+use mathlib.Core.List.{List}
+use mathlib.Core.Option.{Option}
+use lib.IntN.{ℤ}
+use Rattle.laws.specs.Said.{Said, refusal, success}
+use Rattle.index.specs.Bins.{finest}
+use Rattle.index.specs.Signed.{levelAnswer}
+use Rattle.index.specs.declared.signed.Natural.{Natural}
+use Rattle.index.specs.declared.signed.Natural.the-variants.{OutOfRange, Is}
+use Rattle.directory.specs.View.{Stores}
+use Rattle.directory.specs.declared.Directory.{Directory}
+use Rattle.exponential_slots.specs.Cells.{Cells}
+use Rattle.value_map.specs.Calls.{started}
+use Rattle.value_map.specs.Exponential.{exponentialStore}
+use Rattle.exponential_collection.specs.declared.Settings.{Settings}
+use Rattle.exponential_collection.specs.declared.Setup.{Setup}
+use Rattle.exponential_collection.specs.declared.Configured.{Configured}
+use Rattle.exponential_collection.specs.declared.Configured.the-variants.{Refused, Accepted}
+
+-- the greatest level of a max_scale; one above the finest, which number 2 refuses, where there is none
+abbrev pub levelOr : Natural → ℕ
+levelOr OutOfRange = suc finest
+levelOr (Is n) = n
+
+abbrev pub topOf : ℤ → ℕ
+topOf scale = levelOr (levelAnswer scale)
+
+-- "a definition gives this paper's number and values for each case of that enum": a refusal hands out no state
+abbrev pub said : Configured → Said Setup
+said (Refused n) = refusal n
+said (Accepted s) = success s
+
+-- what configuring says, and the directory's stores after it
+pub record Configuring : Type 0 where
+  pub answer : Said Setup
+  pub stores : Stores
+
+abbrev pub configuring : Configured → Stores → Configuring
+configuring r s = record { answer = said r; stores = s }
+
+-- the settings and the fresh map's state, where the start was accepted
+abbrev pub setUp : Settings → Directory → Said (Option ℕ) → Said Setup
+setUp z d (refusal n) = refusal n
+setUp z d (success b) = success (record { settings = z; dir = d })
+
+-- "Configuring: 1, 2, 3, 4, 12"
+unfoldable pub configured : ℕ → ℤ → Bool → Bool → ℕ → Option (List ℕ) → Stores → Cells → Configuring
+configured size scale extremes sums limit filter s c =
+    let o = started (exponentialStore size (topOf scale)) limit filter s c in
+    let z : Settings = record { size = size; top = topOf scale; extremes = extremes; sums = sums; limit = limit } in
+    record { answer = setUp z (o .held .kept .dir) (o .answer); stores = o .held .kept .stores }

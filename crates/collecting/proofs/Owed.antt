@@ -20,7 +20,7 @@ module _ {K : Kind} {S : Store K} (L : Lister S) where
     pub neg : K .neg (K .point (S .settings w) (was S w c x u)) ≡ length (L .neg c x u)
 
   -- of every slot of cells that can be lent that lies in them and whose series agrees, if it holds one
-  abbrev pub Lists : Type 0
-  Lists =
-      (w : S .Switches) (c : S .Cells) (x : ℕ) (u : Bool) → S .unset ≡ 0 → L .Lent c → S .Room c x
+  abbrev pub Lists : S .Switches → Type 0
+  Lists w =
+      (c : S .Cells) (x : ℕ) (u : Bool) → S .unset ≡ 0 → L .Lent c → S .Room c x
       → sound K (S .settings w) (there S c x u) ≡ true → Listed w c x u

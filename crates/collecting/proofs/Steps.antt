@@ -50,7 +50,7 @@ use Rattle.collecting.proofs.Points.{delta-points, cumulative-points, s
 abbrev pub toldOf : {K : Kind} {S : Store K} → Lister S → S .Switches → Collected (S .Cells) → Out K
 toldOf {K} {S} L w c = record { answer = answered L w (c .answer) (c .out); map = mapOf S w (c .held) }
 
-module _ {K : Kind} {S : Store K} (W : Owed S) (L : Lister S) (Q : Lists L) (w : S .Switches) (limit : ℕ) (filter : Option (List ℕ)) (h : Held (S .Cells)) (g : Fair S limit filter h) where
+module _ {K : Kind} {S : Store K} (W : Owed S) (L : Lister S) (w : S .Switches) (Q : Lists L w) (limit : ℕ) (filter : Option (List ℕ)) (h : Held (S .Cells)) (g : Fair S limit filter h) where
   abbrev k : Kept
   k = h .kept
 
@@ -92,7 +92,7 @@ module _ {K : Kind} {S : Store K} (W : Owed S) (L : Lister S) (Q : Lists L) (w :
     listed-at : (x : ℕ) → In x (dueOf whole k) → Listed L w (h .cells) x (u x)
     listed-at x i =
         let q = due-slot x i in
-        Q w (h .cells) x (u x) (g .set) lendable
+        Q (h .cells) x (u x) (g .set) lendable
         (W .room limit (h .cells) x (lent-cells W limit h (g .lent-is)) (omega (arith, slot-known x q, few limit d s (g .agrees))))
         (sound-in S w h (slotsOf k) a x q)
 

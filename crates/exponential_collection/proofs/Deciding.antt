@@ -7,14 +7,11 @@ use borrow.Author.Tests.{eq-eqb, ne-eqb}
 use lib.Dec.{eqb}
 use lib.ListN.{length}
 use Rattle.laws.proofs.Bools.{pick-true, pick-false}
-use Rattle.directory.specs.View.{Stores}
-use Rattle.directory.specs.declared.Directory.{Directory}
 use Rattle.exponential_slots.specs.Cells.{Cells}
 use Rattle.value_map.specs.Calls.{Held}
 use Rattle.value_map.specs.Exponential.{cellsSuffice, unset, exponentialStore}
 use Rattle.value_map.proofs.ExponentialOwes.{owed}
-use Rattle.listing.specs.Listed.{Output, Put, left}
-use Rattle.listing.specs.declared.Cursor.{Cursor}
+use Rattle.listing.specs.Listed.{Output, Put}
 use Rattle.collecting.specs.Lister.{Lister}
 use Rattle.collecting.specs.Collected.{uncollected, dueOf}
 use Rattle.collecting.specs.Slots.{Walk, walked, barredBy, surveyedBy, orElse, surveyed, putSlots}

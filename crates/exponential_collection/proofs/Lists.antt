@@ -1,13 +1,13 @@
 -- The points of slots read back from lent output as the points of their series, and recording keeps cells that can be lent. Assumes nothing.
-use Prim.Native.Nat.{ℕ, zero, suc, _-_, _≤_, _<_}
+use Prim.Native.Nat.{ℕ, zero, suc, _-_, _<_}
 use mathlib.Core.Path.{_≡_, refl, sym, ap, subst, _∙_}
 use mathlib.Core.Logic.{⊎-elim}
-use mathlib.Core.Bool.{Bool, true, false, cond, not, _&&_, _||_}
+use mathlib.Core.Bool.{Bool, true, false, cond, not, _||_}
 use mathlib.Core.List.{List, [], _∷_}
 use native.Mathlib.Omega.{arith}
 use lib.Dec.{eqb}
-use lib.ListN.{length, getD, take, set}
-use lib.Seq.{take-take, length-take-le}
+use lib.ListN.{getD, take, set}
+use lib.Seq.{take-take}
 use lib.Ieee.{Float, nan, binary64, fits, ofBits, lt, add}
 use lib.Ieee.Scale.{finite}
 use lib.Ieee.Fits.{nan-fits, add-fits}
@@ -21,7 +21,7 @@ use Rattle.floats.specs.Answers.{lesserOf, greaterOf}
 use Rattle.points.specs.Points.{Point}
 use Rattle.points.specs.Values.{start}
 use Rattle.points.specs.Figures.{Counts, exponentialCounts, Figures}
-use Rattle.points.specs.Handed.{Handed, handedOut}
+use Rattle.points.specs.Handed.{handedOut}
 use Rattle.exponential.specs.declared.Head.{Head}
 use Rattle.exponential.specs.Series.{read, refusalOf, Outcome, recording}
 use Rattle.exponential.specs.Runs.{summary, freshHead}
@@ -39,13 +39,12 @@ use Rattle.point.specs.declared.Point as P
 use Rattle.listing.specs.Words.{wordsOf, pointIn, boundsIn}
 use Rattle.listing.specs.Listed.{boundsAt}
 use Rattle.listing.specs.Listed as Out
-use Rattle.listing.specs.declared.Span.{Span}
 use Rattle.listing.proofs.Back as Back
 use Rattle.listing.proofs.Given.{exponential-held}
 use Rattle.collecting.specs.Read.{AllFit}
 use Rattle.collecting.proofs.Owed.{Listed, Lists}
 use Rattle.exponential_collection.specs.Points.{headAt, exponentialLister}
-use Rattle.exponential_collection.proofs.Slots.{nowhere, agreesAt, accepted, long-pos, long-neg, agreeing-of, pos-short, neg-short, pos-length, neg-length}
+use Rattle.exponential_collection.proofs.Slots.{nowhere, agreesAt, accepted, long-pos, long-neg, agreeing-of, pos-length, neg-length}
 
 -- ---- the head of a slot
 
@@ -190,7 +189,7 @@ module _ (size top : ℕ) (on : unset size top ≡ 0) (c : Cells) (x : ℕ) (r :
         }
 
 -- THE EXPONENTIAL KIND PAYS what it owes of its points
-pub exponential-lists : (size top : ℕ) → Lists (exponentialLister size top)
+pub exponential-lists : (size top : ℕ) (w : Bool × Bool) → Lists (exponentialLister size top) w
 exponential-lists size top w c x u on l r s = listed size top on c x r w l u s
 
 -- ---- recording keeps cells that can be lent

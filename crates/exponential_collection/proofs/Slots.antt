@@ -1,11 +1,11 @@
 -- One slot: its series agrees exactly where the code's tests pass; then its point is as long as its head says. Assumes nothing.
 use Prim.Native.Nat.{ℕ, _+_, _≤_}
-use mathlib.Core.Path.{_≡_, refl, sym, ap, subst, _∙_}
+use mathlib.Core.Path.{_≡_, sym, ap, subst, _∙_}
 use mathlib.Core.Logic.{⊎-elim}
 use mathlib.Core.Bool.{Bool, true, false, not, _&&_, _||_}
 use mathlib.Core.List.{List, []}
 use native.Mathlib.Omega.{arith}
-use lib.ListN.{length, getD, take}
+use lib.ListN.{length, getD}
 use lib.Seq.{length-take-le}
 use lib.Ieee.{Float, nan}
 use lib.Ieee.Scale.{finite}
@@ -18,7 +18,7 @@ use Rattle.points.specs.Figures.{exponential}
 use Rattle.exponential.specs.declared.Head.{Head}
 use Rattle.exponential.specs.Series as S
 use Rattle.kinds.specs.Histograms.{histograms, countsHold}
-use Rattle.exponential_slots.specs.Cells.{Cells, Room, countsIn, narrow, readable, headIn, headOf}
+use Rattle.exponential_slots.specs.Cells.{Cells, Room, countsIn, narrow, readable, headIn}
 use Rattle.exponential_slots.specs.Meaning.{settings, shaped, countsAt, seriesAt}
 use Rattle.exponential_slots.proofs.Cases.{reads-held, reads-fresh, head-held, head-fresh}
 use Rattle.exponential_slots.proofs.Agreeing.{Accepted, accepted-of, shaped-says, in-shape, holds-is, can-read, series-agrees, shape-of, point-agrees}

@@ -10,9 +10,8 @@ use Rattle.laws.proofs.Cases.{true-not-false}
 use Rattle.kinds.specs.Histograms.{histograms}
 use Rattle.sets.specs.Rows.{rowOf}
 use Rattle.directory.specs.View.{setAt}
-use Rattle.seats.specs.Seats.{updatedIn}
 use Rattle.sweep.specs.Swept.{only}
-use Rattle.exponential_slots.specs.Cells.{Cells, Room}
+use Rattle.exponential_slots.specs.Cells.{Cells}
 use Rattle.exponential_slots.specs.Meaning.{settings, seriesAt}
 use Rattle.value_map.specs.Exponential.{exponentialStore}
 use Rattle.value_map.specs.Calls.{Held}
@@ -20,7 +19,7 @@ use Rattle.listing.specs.Listed.{Output, Put, left}
 use Rattle.listing.specs.declared.Cursor.{Cursor}
 use Rattle.collecting.specs.Lister.{Lister}
 use Rattle.collecting.specs.Collected.{slotsOf, due, dueOf}
-use Rattle.collecting.specs.Slots.{Walk, walked, unsound, oneMore, surveyedAt, surveyed, putSlot, putSlots}
+use Rattle.collecting.specs.Slots.{walked, unsound, oneMore, surveyedAt, surveyed, putSlot, putSlots}
 use Rattle.collecting.specs.declared.Survey.{Survey}
 use Rattle.collecting.proofs.Walks.{slot-is, slot-most, agree-at, laid-long, fit-first}
 use Rattle.collecting.proofs.Turns.{Seen, seen-slot, seen-updated, Surveying, surveying-start, surveying-next, surveying-stop, surveying-end}

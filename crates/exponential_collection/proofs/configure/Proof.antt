@@ -6,7 +6,7 @@ use mir.Syntax.{w32}
 use mir.ValLaws.{toZ-ofZ}
 use Rattle.index.specs.Signed.{levelAnswer}
 use Rattle.sets.specs.Sorted.{filterOf}
-use Rattle.directory.specs.View.{Stores, stores}
+use Rattle.directory.specs.View.{stores}
 use Rattle.exponential_slots.specs.Cells.{cells}
 use Rattle.exponential_collection.specs.Configured.{levelOr}
 use Rattle.exponential_collection.proofs.Configuring.{configure-is}

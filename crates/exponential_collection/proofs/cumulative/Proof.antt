@@ -1,6 +1,6 @@
 -- `exponential_collection::cumulative` meets its contract. Assumes nothing.
 use borrow.Author.Needs.{needs}
-use mathlib.Core.Path.{_≡_, sym, _∙_}
+use mathlib.Core.Path.{sym, _∙_}
 use mathlib.Core.Bool.{true}
 use Rattle.directory.specs.View.{stores}
 use Rattle.exponential_slots.specs.Cells.{Cells, cells}

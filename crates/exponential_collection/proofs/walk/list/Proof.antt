@@ -1,6 +1,5 @@
 -- `exponential_collection::walk::list` meets its contract. Assumes nothing.
 use Prim.Native.Nat.{_+_, _-_, _≤_}
-use mathlib.Core.Path.{_≡_, sym, ap, _∙_}
 use native.Mathlib.Omega.{arith}
 use borrow.Author.Needs.{needs}
 use Rattle.exponential_slots.specs.Cells.{Cells, cells}

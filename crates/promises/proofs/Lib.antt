@@ -1,5 +1,14 @@
 -- The terms of the promises.
 pub mod Runs
+pub mod Seen
+pub mod Groupings
+pub mod Cursors
+pub mod Stored
+pub mod Demanded
+pub mod Exponential
+pub mod Explicit
+pub mod Setups
 pub mod Points
 pub mod Promises
 pub mod Example
+pub mod Zeros

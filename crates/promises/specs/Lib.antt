@@ -1,4 +1,6 @@
 -- The theorems about the code, and the words that they use.
 pub mod Runs
+pub mod Seen
+pub mod Pooled
 pub mod Points
 pub mod Promises

@@ -1,22 +1,68 @@
 -- THE PROMISES: each theorem about the code as a type, beside the sentence that it answers. Their terms are in proofs/Promises.antt, under the
 -- same names in small letters; docs/PROMISES.md lists them. Assumes nothing.
 use Prim.Native.Nat.{ℕ}
-use mathlib.Core.List.{List}
+use mathlib.Core.Path.{_≡_}
+use mathlib.Core.Bool.{Bool}
+use mathlib.Core.List.{List, []}
+use mathlib.Core.Option.{Option}
+use lib.IntN.{ℤ}
 use lib.Ieee.{Float}
+use Rattle.laws.specs.Said.{success}
+use Rattle.floats.specs.Starts.{zeroFloat}
 use Rattle.tally.specs.Kind.{Kind}
 use Rattle.tally.specs.Map.{Config}
 use Rattle.tally.specs.Demand.{Demand, MergedDemand}
 use Rattle.kinds.specs.Histograms.{histograms, merging}
 use Rattle.directory.specs.View.{Stores, Agreement}
 use Rattle.directory.specs.declared.Directory.{Directory}
-use Rattle.value_map.specs.Exponential.{exponentialStore}
-use Rattle.value_map.specs.Explicit.{explicitStore}
+use Rattle.exponential_slots.specs.Cells as ExponentialCells
+use Rattle.explicit_slots.specs.Cells as ExplicitCells
+use Rattle.value_map.specs.Calls.{held}
+use Rattle.collecting.specs.Read.{AllFit}
+use Rattle.exponential_collection.specs.Points.{exponentialLister}
+use Rattle.exponential_collection.specs.Configured as Exponential
+use Rattle.exponential_collection.specs.Configured.{topOf}
+use Rattle.exponential_collection.specs.declared.Setup as ExponentialSetup
+use Rattle.explicit_collection.specs.Points.{explicitLister}
+use Rattle.explicit_collection.specs.Configured as Explicit
+use Rattle.explicit_collection.specs.declared.Setup as ExplicitSetup
 use Rattle.promises.specs.Runs.{Runs}
+use Rattle.promises.specs.Pooled.{Holds}
 
--- ---- DEMAND 3
+-- ---- DEMAND 3, about the code: one claim about the list of calls
 
--- Of any faithful code, of both kinds: "each call's number and each list of points collected is that of document 01's tally", "whatever the
--- order of recording and wherever collections cut"
+-- "Take any list of these calls, refused ones included: recording by set or handle, binding, releasing, delta collection. It runs from a fresh start under
+-- one configuration, and each call is given the state and lent stores as the last one left them." The start is configuring, answered 0, and nothing
+-- else: under any max_size, max_scale, switches, limit and filter, in any stores of f64s. It hands out the settings that were asked, and the state; of
+-- that state and the stores that it left `Holds` says the whole of demand 3.
+abbrev pub ExponentialDemand : Type 0
+ExponentialDemand =
+    (size : ℕ) (scale : ℤ) (extremes sums : Bool) (limit : ℕ) (filter : Option (List ℕ)) (s : Stores) (x : ExponentialCells.Cells) (u : ExponentialSetup.Setup)
+    → AllFit (x .extremes) → Exponential.configured size scale extremes sums limit filter s x .answer ≡ success u
+    → (u .settings ≡ record { size = size; top = topOf scale; extremes = extremes; sums = sums; limit = limit })
+    × Holds (exponentialLister size (topOf scale)) [] (extremes, sums) limit filter
+    (held (u .dir) (Exponential.configured size scale extremes sums limit filter s x .stores) x)
+
+-- The explicit kind: under any bounds
+abbrev pub ExplicitDemand : Type 0
+ExplicitDemand =
+    (bounds : List Float) (extremes sums : Bool) (limit : ℕ) (filter : Option (List ℕ)) (s : Stores) (x : ExplicitCells.Cells) (u : ExplicitSetup.Setup)
+    → AllFit (x .extremes) → Explicit.configured bounds extremes sums limit filter s x .answer ≡ success u
+    → (u .settings ≡ record { extremes = extremes; sums = sums; limit = limit })
+    × Holds (explicitLister bounds) bounds (extremes, sums, zeroFloat) limit filter
+    (held (u .dir) (Explicit.configured bounds extremes sums limit filter s x .stores) x)
+
+-- What else is told of every run: with no premise none is answered 8 or 12, and handles keep naming their sets; under it each value is in its own
+-- set's series
+abbrev pub ExponentialRuns : Type 0
+ExponentialRuns = (size top : ℕ) (extremes sums : Bool) → Runs (exponentialLister size top) (extremes, sums)
+
+abbrev pub ExplicitRuns : Type 0
+ExplicitRuns = (bounds : List Float) (extremes sums : Bool) → Runs (explicitLister bounds) (extremes, sums, zeroFloat)
+
+-- ---- DEMAND 3, of any faithful code of both kinds
+
+-- "each call's number and each list of points collected is that of document 01's tally", "whatever the order of recording and wherever collections cut"
 abbrev pub Answers : Type 1
 Answers = Demand histograms
 
@@ -25,14 +71,6 @@ Answers = Demand histograms
 -- too, if each of these values is a whole number of 1/1024 and their magnitudes total at most 2^43."
 abbrev pub Merges : Type 1
 Merges = MergedDemand histograms merging
-
--- About the code, as far as its calls go: "any list of these calls, refused ones included: recording by set or handle, binding, releasing .. runs
--- from a fresh start under one configuration". Each kind, under any max_size and greatest level, or any bounds.
-abbrev pub ExponentialRuns : Type 0
-ExponentialRuns = (size top : ℕ) → Runs (exponentialStore size top)
-
-abbrev pub ExplicitRuns : Type 0
-ExplicitRuns = (bounds : List Float) → Runs (explicitStore bounds)
 
 -- ---- NUMBER 8 OF A DIRECTORY
 

@@ -7,7 +7,7 @@ use mathlib.Core.List.{List, [], _∷_, _++_, map, flatten, List·Permᴰ}
 use mathlib.Core.Option.{some}
 use lib.ListN.{length}
 use Rattle.laws.specs.Tests.{all}
-use Rattle.tally.specs.Sets.{Set, same, ascending, canonical}
+use Rattle.tally.specs.Sets.{Set, Lendable, same, ascending, canonical}
 use Rattle.tally.specs.Kind.{Kind, Room, suffices}
 use Rattle.tally.specs.Map.{Config, Points, Call, measure, measureBy, bind, release, collect, Answer, refuse, done, handle, listed, Map, Agrees, start, step}
 use Rattle.tally.specs.Tally.{Tally, empty, tell, fed, after, valuesOf}
@@ -120,12 +120,19 @@ module _ (K : Kind) where
   Pooled M c xs ans =
       (s : Set) → any (gained c xs ans s) ≡ true → M .Within (gained c xs ans s) → Merged M (c .settings) (pointsOf s ans) (gained c xs ans s)
 
+  -- the calls whose arguments can be lent: attributes of u32s and a handle that is a u64, any value, any room
+  abbrev pub InRange : Call K → Type 0
+  InRange x =
+      elim x [ measure v attrs ↦ Lendable attrs | measureBy h v ↦ h < 2 ^ 64 | bind attrs ↦ Lendable attrs | release h ↦ h < 2 ^ 64 | collect room ↦ Unit ]
+
   -- CODE, after configuring: its states with the lent stores, what its calls are given (arguments in range, times, lent output), which call of
-  -- demand 3 each asks, what each answers and leaves, and the state that configuring left
+  -- demand 3 each asks, what each answers and leaves, and the state that configuring left. Every call of demand 3 in range is asked by some input:
+  -- code that lacks one of them is no such code
   pub record Code : Type 1 where
     pub State : Type 0
     pub Input : Type 0
     pub asks : Input → Call K
+    pub reach : (x : Call K) → InRange x → (i : Input) × (asks i ≡ x)
     pub call : State → Input → Answer K × State
     pub first : State
 

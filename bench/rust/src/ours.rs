@@ -1,10 +1,12 @@
 //! Our half: the static libraries that `rt staticlib` writes, called as C functions.
 
+use std::cell::RefCell;
 use std::hint::black_box;
+use std::rc::Rc;
 
 use crate::cases::Side;
 use crate::inputs;
-use crate::map::Map;
+use crate::map::{Map, Output};
 
 extern "C" {
     /// Crate index: the bin of a value at a level; see its contract.
@@ -32,16 +34,21 @@ pub fn index(scale: i8) -> Option<Side> {
     })
 }
 
-pub fn by_set(sets: u32, attributes: u32) -> Option<Side> {
-    let mut map = Map::new();
-    let sets: Vec<Vec<[u32; 2]>> = (0..sets)
+/// Sets as our calls take them.
+fn pairs(sets: u32, attributes: u32) -> Vec<Vec<[u32; 2]>> {
+    (0..sets)
         .map(|set| {
             inputs::attributes(set, attributes)
                 .into_iter()
                 .map(|(key, value)| [key, value])
                 .collect()
         })
-        .collect();
+        .collect()
+}
+
+pub fn by_set(sets: u32, attributes: u32) -> Option<Side> {
+    let mut map = Map::new();
+    let sets = pairs(sets, attributes);
     let order = inputs::order(sets.len() as u32);
     let values = inputs::values();
     Side::of(move || {
@@ -51,12 +58,39 @@ pub fn by_set(sets: u32, attributes: u32) -> Option<Side> {
     })
 }
 
-// Not there yet: fill in as the crates land.
-
 pub fn by_handle() -> Option<Side> {
-    None
+    let mut map = Map::new();
+    map.record(1.0, &pairs(1, 2)[0]);
+    let handle = map.bind(1);
+    let values = inputs::values();
+    Side::of(move || {
+        for v in &values {
+            map.record_by(black_box(*v), handle);
+        }
+    })
 }
 
+/// 62 series, both rows full; the memory of the last collection is used again.
 pub fn delta_collection() -> Option<Side> {
-    None
+    let map = Rc::new(RefCell::new(Map::new()));
+    let collecting = map.clone();
+    let sets = pairs(62, 2);
+    let row = inputs::full_row();
+    let mut out = Output::new();
+    Some(Side {
+        prepare: Box::new(move || {
+            let mut map = map.borrow_mut();
+            for set in &sets {
+                for v in &row {
+                    map.record(*v, set);
+                    map.record(-*v, set);
+                }
+            }
+        }),
+        run: Box::new(move || {
+            let points = collecting.borrow_mut().delta(&mut out);
+            assert_eq!(black_box(points), 62);
+            black_box((&out.pos, &out.neg));
+        }),
+    })
 }

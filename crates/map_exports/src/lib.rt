@@ -4,42 +4,11 @@ ghost use mathlib.Core.List.{[]};
 ghost use mathlib.Core.Option.{none};
 ghost use lib.ListN.{getD};
 ghost use Rattle.sets.specs.Sorted.{given};
-ghost use Rattle.laws.specs.Said.{number};
-ghost use Rattle.bindings.specs.Calls.{said};
 ghost use Rattle.directory.specs.View.{stores};
 ghost use Rattle.exponential_slots.specs.Cells.{cells};
 ghost use Rattle.value_map.specs.Calls.{held, measured};
 ghost use Rattle.value_map.specs.Exponential.{exponentialStore};
-ghost use Rattle.map_exports.specs.Words.{stateOf, wordsOf, handed, handedOut};
-use bindings::Answer;
-use directory::Directory;
-
-fn state_of(words: [u64; 3]) -> Directory
-    ensures { λ r. ⌜ r ≡ stateOf words ⌝ }
-{
-    Directory {
-        used: words[0] as usize,
-        count: words[1],
-        last: words[2],
-    }
-}
-
-fn words_of(d: Directory) -> [u64; 3]
-    ensures { λ r. ⌜ r ≡ wordsOf d ⌝ }
-{
-    [d.used as u64, d.count, d.last]
-}
-
-// Document 01's number of an answer.
-fn number_of(answer: Answer) -> u64
-    ensures { λ r. ⌜ r ≡ number (said answer) ⌝ }
-{
-    match answer {
-        Answer::Refused(no) => no as u64,
-        Answer::Done => 0,
-        Answer::Handle(_) => 0,
-    }
-}
+ghost use Rattle.map_words.specs.Words.{stateOf, handed, handedOut};
 
 // Records a value into the series of the attributes' set. The state is one entry of three words. Returns document 01's number.
 #[no_mangle]
@@ -63,7 +32,7 @@ pub extern "C" fn map_measure(
         (held (stateOf (getD (now (state .entry)) 0 [])) (stores (sets .entry) (entries .entry) (order .entry))
         (cells (figures .entry) (extremes .entry) (pos .entry) (neg .entry))) v (given (now (attrs .entry)))) ⌝ }
 {
-    let d = state_of(state[0]);
+    let d = map_words::state_of(state[0]);
     let no_keys = [0u32; 1];
     let reply = value_map::exponential_map::measure(
         size,
@@ -84,6 +53,6 @@ pub extern "C" fn map_measure(
     );
     let answer = reply.answer;
     let next = reply.dir;
-    state[0] = words_of(next);
-    number_of(answer)
+    state[0] = map_words::words_of(next);
+    map_words::number_of(answer)
 }

@@ -8,7 +8,7 @@ use Rattle.directory.specs.View.{stores}
 use Rattle.exponential_slots.specs.Cells.{cells}
 use Rattle.value_map.specs.Calls.{held, measured}
 use Rattle.value_map.specs.Exponential.{exponentialStore}
-use Rattle.map_exports.proofs.Handed.{handed}
+use Rattle.map_words.proofs.Handed.{handed}
 use borrow.Author.Needs.{needs}
 use Rattle.map_exports.proofs.map_measure.Statement.{statement}
 use Rattle.map_exports.proofs.map_measure.Tie as tie

@@ -9,7 +9,7 @@ use Rattle.bindings.specs.declared.Reply.{Reply}
 use Rattle.directory.specs.View.{Stores}
 use Rattle.exponential_slots.specs.Cells.{Cells}
 use Rattle.value_map.specs.Calls.{Outcome, gave}
-use Rattle.map_exports.specs.Words.{Handed, wordsOf, handedOut}
+use Rattle.map_words.specs.Words.{Handed, wordsOf, handedOut}
 
 pub handed : (state : List (List ℕ)) (s : Stores) (x : Cells) (r : Reply) (o : Outcome Cells) (n : ℕ) (w : List ℕ)
     → gave r s x ≡ o → n ≡ number (said (r .answer)) → w ≡ wordsOf (r .dir)

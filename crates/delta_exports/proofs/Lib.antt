@@ -1,0 +1,2 @@
+-- Laws that the proof of delta_exports cites.
+pub mod Handed

@@ -1,0 +1,2 @@
+-- What the exported call's contract cites.
+pub mod Words

@@ -1,2 +1,0 @@
--- Laws that the proofs of map_exports cite. Assumes nothing.
-pub mod Handed

@@ -1,2 +1,0 @@
--- What the exported calls' contracts cite. Assumes nothing.
-pub mod Words

@@ -4,7 +4,7 @@
                                 answers to sample/beyond.txt, inputs on which it is meant to differ, as they stand
     sample.py check             needs no Rust: the reference against the stored answers, and these against the Rust's stored ones
     sample.py check COMMAND     runs a command on the scripts and compares what it prints with the stored answers
-    sample.py gauge COMMAND     likewise on the input of the gauge program, sample/gauge.txt and gauge_answers.txt
+    sample.py gauge COMMAND     likewise on the input of the gauge program, crates/gauge/stdin (tools/make_gauge_vectors.py)
 
 answers.txt is whole: the Rust's answers where it is asked (docs/REPLAY.md), refusals, `b` lines and merges by the definition. A
 script on which the two differ has values beside a bound; there the definition's answer is stored, and the Rust's in rust.txt.
@@ -15,8 +15,6 @@ import subprocess
 import sys
 from pathlib import Path
 
-import gauge
-import gauge_inputs
 import generate
 from compare import BESIDE, SAME, Comparer
 from reference import Rules, answers
@@ -24,6 +22,7 @@ from rust import asked, replay
 from script import join_scripts, split_scripts
 
 HERE = Path(__file__).resolve().parent / "sample"
+GAUGE = HERE.parent.parent / "crates/gauge"
 RANDOM_SCRIPTS = 250
 
 
@@ -43,8 +42,6 @@ def make():
     store("answers", {name: answers(lines) for name, lines in scripts.items()})
     store("rust", replay({name: asked(lines, Rules()).lines for name, lines in scripts.items()}))
     store("beyond_rust", replay(stored("beyond")))
-    (HERE / "gauge.txt").write_text(gauge_inputs.text(), encoding="latin-1", newline="")
-    (HERE / "gauge_answers.txt").write_text(gauge.answer(gauge_inputs.text()))
 
 
 def report(what, right, wrong):
@@ -68,8 +65,8 @@ def check_reference():
 
 
 def check_gauge(command):
-    given = subprocess.run(shlex.split(command), stdin=(HERE / "gauge.txt").open("rb"), stdout=subprocess.PIPE).stdout
-    expected = (HERE / "gauge_answers.txt").read_bytes()
+    given = subprocess.run(shlex.split(command), stdin=(GAUGE / "stdin").open("rb"), stdout=subprocess.PIPE).stdout
+    expected = (GAUGE / "stdout").read_bytes()
     print(f"{command}: {'the same' if given == expected else 'NOT the same'}, {len(expected.splitlines())} lines")
     return given == expected
 

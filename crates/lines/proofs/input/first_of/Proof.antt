@@ -1,0 +1,35 @@
+-- `lines::input::first_of` meets its contract. Assumes nothing.
+use Prim.Native.Nat.{ℕ, _-_}
+use mathlib.Core.Path.{_≡_, sym, ap}
+use mathlib.Core.List.{List}
+use native.Mathlib.Omega.{arith}
+use denote.Ref.{now}
+use lib.ListN.{length, take, drop}
+use lib.Seq.{take-all}
+use borrow.Author.Needs.{needs}
+use Rattle.lines.proofs.input.first_of.Statement.{statement}
+use Rattle.lines.proofs.input.first_of.Tie as tie
+
+-- a part from 0 on
+from-0 : (n : ℕ) (xs : List ℕ) → take (n - 0) (drop 0 xs) ≡ take n xs
+from-0 n xs =
+    let z : n - 0 ≡ n = omega arith in
+    ap (λ (k : ℕ). take k xs) z
+
+sub-result : tie.Need-sub-result
+sub-result c = search needs
+
+part-result-start : tie.Need-part-result-start
+part-result-start c = search needs
+
+part-result-end : tie.Need-part-result-end
+part-result-end c = search needs
+
+returns : tie.Need-returns
+returns c = from-0 (c .before .before .args .n) (now (c .before .before .args .bytes))
+
+returns-2 : tie.Need-returns-2
+returns-2 c = sym (take-all (c .before .args .n) (now (c .before .args .bytes)) (search needs))
+
+pub first-of-spec : {M : Type 1} → statement M
+first-of-spec = tie.close (tie.spec sub-result part-result-start part-result-end returns returns-2)

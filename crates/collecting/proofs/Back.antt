@@ -1,21 +1,19 @@
 -- The points that are laid over lent output read back as they were. Assumes nothing.
-use Prim.Native.Nat.{ℕ, zero, suc, _-_, _/_, _%_, _*_, _+_, _≤_}
-use mathlib.Core.Path.{_≡_, refl, sym, ap, subst, _∙_}
+use Prim.Native.Nat.{ℕ, _-_, _/_, _%_, _*_, _+_, _≤_}
+use mathlib.Core.Path.{_≡_, refl, sym, ap, _∙_}
 use mathlib.Core.Logic.{inl, inr}
 use mathlib.Core.Bool.{Bool}
 use mathlib.Core.List.{List, [], _∷_, _++_, map, append-assoc}
 use native.Mathlib.Omega.{arith}
-use lib.ListN.{length, getD, take, drop, replicate, length-map, length-append}
+use lib.ListN.{length, take, drop, replicate, length-map, length-append}
 use lib.Seq.{take-at, drop-at, take-append-seam}
 use Rattle.laws.specs.Over.{over}
 use Rattle.tally.specs.Kind.{Kind}
 use Rattle.tally.specs.Sets.{Set}
-use Rattle.tally.specs.Map.{Points}
 use Rattle.sets.specs.Rows.{pair, size, span, setOf, wordOf, rowOf}
 use Rattle.sets.proofs.Spans.{span-take, span-length}
 use Rattle.sets.proofs.Exact.{size-row}
 use Rattle.directory.specs.View.{setAt}
-use Rattle.directory.specs.Calls.{Kept}
 use Rattle.directory.proofs.Rises.{In}
 use Rattle.seats.specs.Seats.{updatedIn}
 use Rattle.value_map.specs.Store.{Store}

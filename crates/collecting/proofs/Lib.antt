@@ -1,5 +1,6 @@
 -- The laws of the collecting calls.
 pub mod Owed
+pub mod Fits
 pub mod Back
 pub mod Points
 pub mod Nexts

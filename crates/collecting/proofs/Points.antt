@@ -8,12 +8,11 @@ use mathlib.Core.Option.{Option, none, some}
 use native.Mathlib.Omega.{arith}
 use lib.Dec.{leb, eqb, eqb·suc-zero}
 use lib.ListN.{length, length-map, length-append}
-use Rattle.laws.specs.Pick.{pick}
 use Rattle.laws.specs.Tests.{all}
 use Rattle.laws.proofs.Bools.{pick-true, pick-false}
 use Rattle.tally.specs.Kind.{Kind, Room, suffices, inAll}
 use Rattle.tally.specs.Sets.{Set, same}
-use Rattle.tally.specs.Map.{Entry, Points, points, sound, filled, current}
+use Rattle.tally.specs.Map.{Entry, Points, points, sound, filled}
 use Rattle.directory.specs.View.{Stores, setAt, entryAt}
 use Rattle.directory.proofs.Rises.{In}
 use Rattle.seats.specs.Seats.{updatedIn}

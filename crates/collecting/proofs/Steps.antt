@@ -1,34 +1,31 @@
 -- FAITHFUL. Delta and cumulative collection are the map's steps, for any kind that pays what it owes, and leave a state that agrees.
 -- Assumes nothing.
-use Prim.Native.Nat.{ℕ, zero, suc, _+_, _≤_}
+use Prim.Native.Nat.{ℕ, zero, suc, _≤_}
 use mathlib.Core.Path.{_≡_, refl, sym, ap, subst, _∙_}
-use mathlib.Core.Logic.{inl, inr, ⊎-elim}
 use mathlib.Core.Bool.{Bool, true, false, not, _&&_, _||_}
 use mathlib.Core.List.{List, [], _∷_, map}
 use mathlib.Core.Option.{Option}
 use native.Mathlib.Omega.{arith}
-use lib.Dec.{leb, eqb}
+use lib.Dec.{eqb}
 use lib.ListN.{length, getD}
 use borrow.Author.Tests.{eq-eqb, le-leb}
 use Rattle.laws.specs.Pick.{pick}
 use Rattle.laws.specs.Said.{refusal}
-use Rattle.laws.proofs.Bools.{flag}
 use Rattle.tally.specs.Kind.{Kind, Room, suffices, unless, firstOf}
 use Rattle.tally.specs.Sets.{same}
-use Rattle.tally.specs.Map.{Config, Map, Out, Points, collect, refuse, listed, sound, points, filled, orRefused, upfront, act, swept, step, cumulate}
+use Rattle.tally.specs.Map.{Map, Out, Points, collect, listed, points, orRefused, upfront, act, swept, step, cumulate}
 use Rattle.sets.specs.Rows.{size, setOf, rowOf}
 use Rattle.sets.proofs.Exact.{set-own}
 use Rattle.sets.proofs.Keyed.{named-row}
-use Rattle.directory.specs.View.{Stores, setAt, agreesb, view}
+use Rattle.directory.specs.View.{Stores, setAt, view}
 use Rattle.directory.specs.Calls.{Kept, mostSets}
 use Rattle.directory.specs.declared.Directory.{Directory}
 use Rattle.directory.proofs.Agreed.{slot-sizes}
 use Rattle.directory.proofs.Laws.{few, slots-right, slot-used}
-use Rattle.directory.proofs.Leaves.{Good}
 use Rattle.directory.proofs.Refusals.{within}
 use Rattle.directory.proofs.Rises.{In}
 use Rattle.seats.specs.Seats.{updatedIn}
-use Rattle.sweep.specs.Swept.{only, sweptKept}
+use Rattle.sweep.specs.Swept.{sweptKept}
 use Rattle.sweep.proofs.Stayers.{only-in}
 use Rattle.sweep.proofs.Settled as Settled
 use Rattle.sweep.proofs.Faithful.{sweep-faithful}

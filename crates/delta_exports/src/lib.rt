@@ -72,7 +72,18 @@ pub extern "C" fn map_delta(
         limit,
     };
     let reply = exponential_collection::delta(
-        s, d, sets, entries, order, figures, extremes, pos, neg, out_sets, out_words, out_pos,
+        s,
+        d,
+        sets,
+        entries,
+        order,
+        figures,
+        extremes,
+        pos,
+        neg,
+        out_sets,
+        out_words,
+        out_pos,
         out_neg,
     );
     let answer = reply.answer;

@@ -1,45 +1,27 @@
 -- Recording keeps cells that can be lent: the floats that it writes are f64s. Assumes nothing.
-use Prim.Native.Nat.{ℕ, zero, suc}
+use Prim.Native.Nat.{ℕ}
 use mathlib.Core.Path.{_≡_, sym, subst}
 use mathlib.Core.Logic.{⊎-elim}
-use mathlib.Core.Bool.{Bool, true, false, cond}
+use mathlib.Core.Bool.{Bool, true, false}
 use mathlib.Core.List.{List, [], _∷_}
 use lib.Dec.{eqb}
-use lib.ListN.{getD, set, replicate}
-use lib.Ieee.{Float, nan, binary64, fits, lt, add}
+use lib.ListN.{replicate}
+use lib.Ieee.{Float, binary64, fits, lt, add}
 use lib.Ieee.Scale.{finite}
-use lib.Ieee.Fits.{nan-fits, add-fits}
+use lib.Ieee.Fits.{add-fits}
 use lib.Ieee.Bits.{is-true}
 use Rattle.laws.specs.Pick.{pick}
 use Rattle.laws.specs.Over.{over}
 use Rattle.laws.specs.Said.{Said, refusal, success}
 use Rattle.laws.proofs.Bools.{flag, pick-true, pick-false}
-use Rattle.laws.proofs.Cases.{and-true}
-use Rattle.parts.specs.Recording.{Recording}
 use Rattle.points.specs.Explicit.{bucketCount, boundsPass}
 use Rattle.kinds.specs.Histograms.{histograms}
 use Rattle.explicit.specs.declared.Head.{Head}
 use Rattle.explicit.specs.Series.{Outcome, outcome, freshHead, refusalOf, recording}
 use Rattle.explicit_slots.specs.Cells.{Cells, rowAt, headAt, begun, entering, written, recordedAt}
 use Rattle.collecting.specs.Read.{AllFit}
+use Rattle.collecting.proofs.Fits.{value-fits, cond-fits, row-fits, set-fits}
 use Rattle.explicit_collection.proofs.Lists.{Fitting, fresh-fits}
-
-cond-fits : (b : Bool) (x y : Float) → fits binary64 x ≡ true → fits binary64 y ≡ true → fits binary64 (cond b x y) ≡ true
-cond-fits true x y p q = p
-cond-fits false x y p q = q
-
-row-fits : (h : Head) → Fitting h → (i : ℕ) → fits binary64 (getD (h .min ∷ h .max ∷ h .sum ∷ []) i nan) ≡ true
-row-fits h f zero = f .min
-row-fits h f (suc zero) = f .max
-row-fits h f (suc (suc zero)) = f .sum
-row-fits h f (suc (suc (suc i))) = is-true (fits binary64 nan) (nan-fits binary64)
-
-set-fits : (rows : List (List Float)) (x : ℕ) (row : List Float) → AllFit rows → ((i : ℕ) → fits binary64 (getD row i nan) ≡ true) → AllFit (set rows x row)
-set-fits [] x row l g y i = l y i
-set-fits (a ∷ rows) zero row l g zero i = g i
-set-fits (a ∷ rows) zero row l g (suc y) i = l (suc y) i
-set-fits (a ∷ rows) (suc x) row l g zero i = l zero i
-set-fits (a ∷ rows) (suc x) row l g (suc y) i = set-fits rows x row (λ k. l (suc k)) g y i
 
 -- a head that is answered
 abbrev Said-fits : Said Head → Type 0
@@ -48,12 +30,9 @@ Said-fits (success h) = Fitting h
 
 written-keeps : (bounds : List Float) (x : ℕ) (c : Cells) → AllFit (c .extremes) → (a : Said Head) (xs : List ℕ) → Said-fits a → AllFit (written bounds x c a xs .cells .extremes)
 written-keeps bounds x c l (refusal n) xs f = l
-written-keeps bounds x c l (success h) xs f = set-fits (c .extremes) x (h .min ∷ h .max ∷ h .sum ∷ []) l (row-fits h f)
+written-keeps bounds x c l (success h) xs f = set-fits (c .extremes) x (h .min ∷ h .max ∷ h .sum ∷ []) l (row-fits (h .min) (h .max) (h .sum) (f .min) (f .max) (f .sum))
 
 module _ (bounds : List Float) (v : Float) (t : histograms .finite v ≡ true) where
-  value-fits : fits binary64 v ≡ true
-  value-fits = and-true (finite v) (fits binary64 v) t .1
-
   recording-fits : (h : Head) → Fitting h → (xs : List ℕ) → Said-fits (recording bounds h xs v .answer)
   unfolding recording
   recording-fits h f xs =
@@ -61,8 +40,8 @@ module _ (bounds : List Float) (v : Float) (t : histograms .finite v ≡ true) w
       ⊎-elim
       (λ (e : b ≡ true). subst (λ (o : Outcome). Said-fits (o .answer)) (sym (pick-true b _ _ e))
       (record {
-        min = cond-fits (lt v (h .min)) v (h .min) value-fits (f .min);
-        max = cond-fits (lt (h .max) v) v (h .max) value-fits (f .max);
+        min = cond-fits (lt v (h .min)) v (h .min) (value-fits v t) (f .min);
+        max = cond-fits (lt (h .max) v) v (h .max) (value-fits v t) (f .max);
         sum = is-true (fits binary64 (add binary64 (h .sum) v)) (add-fits binary64 (h .sum) v);
       }))
       (λ (e : b ≡ false). subst (λ (o : Outcome). Said-fits (o .answer)) (sym (pick-false b _ _ e)) tt)

@@ -6,8 +6,7 @@ use mathlib.Core.List.{List, []}
 use native.Mathlib.Omega.{arith}
 use lib.ListN.{length, take, replicate, length-replicate}
 use lib.Seq.{take-all, length-take-le}
-use lib.Ieee.{Float, binary64, fits, ofBits}
-use lib.Ieee.Bits.{is-true, ofBits-fits}
+use lib.Ieee.{Float, binary64, fits}
 use Rattle.laws.specs.Pick.{pick}
 use Rattle.laws.specs.Over.{over}
 use Rattle.laws.proofs.Over.{take-over}
@@ -30,6 +29,7 @@ use Rattle.listing.specs.Listed.{boundsAt}
 use Rattle.listing.specs.Listed as Out
 use Rattle.listing.proofs.Back as Back
 use Rattle.listing.proofs.Given.{explicit-held}
+use Rattle.collecting.proofs.Fits.{literal-fits}
 use Rattle.collecting.specs.Read.{AllFit}
 use Rattle.collecting.proofs.Owed.{Listed}
 use Rattle.explicit_collection.specs.Points.{headAt, countsAt, spanOf, explicitLister}
@@ -41,9 +41,6 @@ pub record Fitting (h : Head) : Type 0 where
   pub min : fits binary64 (h .min) ≡ true
   pub max : fits binary64 (h .max) ≡ true
   pub sum : fits binary64 (h .sum) ≡ true
-
-literal-fits : (b : ℕ) → fits binary64 (ofBits binary64 b) ≡ true
-literal-fits b = is-true (fits binary64 (ofBits binary64 b)) (ofBits-fits binary64 b)
 
 pub fresh-fits : Fitting freshHead
 fresh-fits = record { min = literal-fits 0x7fef_ffff_ffff_ffff; max = literal-fits 0xffef_ffff_ffff_ffff; sum = literal-fits 0 }

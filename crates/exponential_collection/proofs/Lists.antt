@@ -1,19 +1,18 @@
 -- The points of slots read back from lent output as the points of their series, and recording keeps cells that can be lent. Assumes nothing.
-use Prim.Native.Nat.{ℕ, zero, suc, _-_, _<_}
+use Prim.Native.Nat.{ℕ, _-_, _<_}
 use mathlib.Core.Path.{_≡_, refl, sym, ap, subst, _∙_}
 use mathlib.Core.Logic.{⊎-elim}
-use mathlib.Core.Bool.{Bool, true, false, cond, not, _||_}
-use mathlib.Core.List.{List, [], _∷_}
+use mathlib.Core.Bool.{Bool, true, false, not, _||_}
+use mathlib.Core.List.{List, []}
 use native.Mathlib.Omega.{arith}
 use lib.Dec.{eqb}
-use lib.ListN.{getD, take, set}
+use lib.ListN.{getD, take}
 use lib.Seq.{take-take}
-use lib.Ieee.{Float, nan, binary64, fits, ofBits, lt, add}
+use lib.Ieee.{Float, binary64, fits, lt, add}
 use lib.Ieee.Scale.{finite}
-use lib.Ieee.Fits.{nan-fits, add-fits}
-use lib.Ieee.Bits.{is-true, ofBits-fits}
+use lib.Ieee.Fits.{add-fits}
+use lib.Ieee.Bits.{is-true}
 use Rattle.laws.proofs.Bools.{flag, pick-true, pick-false}
-use Rattle.laws.proofs.Cases.{and-true}
 use Rattle.parts.specs.Parts.{partAt}
 use Rattle.parts.specs.Recording.{Recording}
 use Rattle.index.specs.Bins.{finest}
@@ -43,6 +42,7 @@ use Rattle.listing.proofs.Back as Back
 use Rattle.listing.proofs.Given.{exponential-held}
 use Rattle.collecting.specs.Read.{AllFit}
 use Rattle.collecting.proofs.Owed.{Listed, Lists}
+use Rattle.collecting.proofs.Fits.{literal-fits, value-fits, cond-fits, row-fits, set-fits}
 use Rattle.exponential_collection.specs.Points.{headAt, exponentialLister}
 use Rattle.exponential_collection.proofs.Slots.{nowhere, agreesAt, accepted, long-pos, long-neg, agreeing-of, pos-length, neg-length}
 
@@ -60,9 +60,6 @@ pub record Sized (h : Head) : Type 0 where
   pub level : h .counts .level < 4294967296
   pub pos : h .counts .pos .start < 4294967296
   pub neg : h .counts .neg .start < 4294967296
-
-literal-fits : (b : ℕ) → fits binary64 (ofBits binary64 b) ≡ true
-literal-fits b = is-true (fits binary64 (ofBits binary64 b)) (ofBits-fits binary64 b)
 
 fresh-fits : (top : ℕ) → Fitting (freshHead top)
 fresh-fits top = record { min = literal-fits 0x7fef_ffff_ffff_ffff; max = literal-fits 0xffef_ffff_ffff_ffff; sum = literal-fits 0 }
@@ -194,28 +191,7 @@ exponential-lists size top w c x u on l r s = listed size top on c x r w l u s
 
 -- ---- recording keeps cells that can be lent
 
-cond-fits : (b : Bool) (x y : Float) → fits binary64 x ≡ true → fits binary64 y ≡ true → fits binary64 (cond b x y) ≡ true
-cond-fits true x y p q = p
-cond-fits false x y p q = q
-
-row-fits : (a b s : Float) → fits binary64 a ≡ true → fits binary64 b ≡ true → fits binary64 s ≡ true
-    → (i : ℕ) → fits binary64 (getD (a ∷ b ∷ s ∷ []) i nan) ≡ true
-row-fits a b s p q r zero = p
-row-fits a b s p q r (suc zero) = q
-row-fits a b s p q r (suc (suc zero)) = r
-row-fits a b s p q r (suc (suc (suc i))) = is-true (fits binary64 nan) (nan-fits binary64)
-
-set-fits : (rows : List (List Float)) (x : ℕ) (row : List Float) → AllFit rows → ((i : ℕ) → fits binary64 (getD row i nan) ≡ true) → AllFit (set rows x row)
-set-fits [] x row l g y i = l y i
-set-fits (a ∷ rows) zero row l g zero i = g i
-set-fits (a ∷ rows) zero row l g (suc y) i = l (suc y) i
-set-fits (a ∷ rows) (suc x) row l g zero i = l zero i
-set-fits (a ∷ rows) (suc x) row l g (suc y) i = set-fits rows x row (λ k. l (suc k)) g y i
-
 module _ (size top x : ℕ) (v : Float) (t : histograms .finite v ≡ true) where
-  value-fits : fits binary64 v ≡ true
-  value-fits = and-true (finite v) (fits binary64 v) t .1
-
   head-fits : (u : Bool) (c : Cells) → AllFit (c .extremes) → Fitting (headAt top c x u)
   unfolding headIn
   head-fits true c l = subst Fitting (sym (head-held top true _ _ refl)) (record { min = l x 0; max = l x 1; sum = l x 2 })
@@ -234,7 +210,7 @@ module _ (size top x : ℕ) (v : Float) (t : histograms .finite v ≡ true) wher
         ⊎-elim
         (λ (e : b ≡ true). subst (λ (o : Outcome). Keeps (into size x c o)) (sym (pick-true b _ _ e))
         (set-fits (c .extremes) x _ l (row-fits (lesserOf (h .min) v) (greaterOf (h .max) v) (add binary64 (h .sum) v)
-        (cond-fits (lt v (h .min)) v (h .min) value-fits (k .min)) (cond-fits (lt (h .max) v) v (h .max) value-fits (k .max))
+        (cond-fits (lt v (h .min)) v (h .min) (value-fits v t) (k .min)) (cond-fits (lt (h .max) v) v (h .max) (value-fits v t) (k .max))
         (is-true (fits binary64 (add binary64 (h .sum) v)) (add-fits binary64 (h .sum) v)))))
         (λ (e : b ≡ false). subst (λ (o : Outcome). Keeps (into size x c o)) (sym (pick-false b _ _ e)) l)
         (flag b)

@@ -9,7 +9,6 @@ use lib.ListN.{length, length-map}
 use lib.Ieee.{Float}
 use Rattle.laws.specs.Lists.{All}
 use Rattle.laws.specs.Pick.{_and_}
-use Rattle.laws.specs.Tests.{all}
 use Rattle.laws.proofs.Cases.{and-true, true-not-false}
 use Rattle.index.specs.Bins.{finest}
 use Rattle.floats.specs.Starts.{FiniteF64}

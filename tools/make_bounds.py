@@ -1,15 +1,15 @@
 #!/usr/bin/env python3
-"""Writes crates/bounds/src/lib.rt, the 1024 bucket bounds of a power of two as the code reads them,
-crates/bounds/specs/Table.antt, the same numbers for the proof, and crates/index/src/guess.rt, a first guess of a rank.
+"""Writes crates/bounds/src/lib.rt, the 1024 bucket bounds of a power of two as the code reads them, crates/bounds/specs/Table.antt, the same
+numbers for the proof, and crates/index/src/pieces.rt with crates/index/specs/Pieces.antt, which bring a rank near.
 
 Entry k is the largest whole number m with m^1024 <= 2^(k + 53248): the upper bound 2^(k/1024) of a bucket at scale 10,
 in units of 2^-52, rounded down. It is found by halving an interval of whole numbers; no logarithm and no float plays a part.
-The guess is made of logarithms in floats: nothing rests on it but the time that the exact rank takes.
+The chords are made of logarithms in floats: that they serve is proved of the numbers that are written.
 Run from the repository's root: python3 tools/make_bounds.py && rt fmt"""
 
 from math import log2
 
-ENTRIES, PIECES = 1024, 64
+ROWS, COLUMNS, PIECES = 16, 64, 64
 
 
 def bound(k):
@@ -26,139 +26,170 @@ def bound(k):
 
 CODE = """// The bounds of scale 10's buckets within a power of two. Made by tools/make_bounds.py.
 ghost use mathlib.Core.Path.{_≡_};
+ghost use mathlib.Core.List.{[]};
 ghost use Prim.Native.Nat.{_<_};
 ghost use lib.ListN.{getD};
 ghost use Rattle.laws.specs.NoneOf.{NoneOf};
 ghost use Rattle.bounds.specs.Bounds.{BoundAt};
-ghost use Rattle.bounds.specs.Table.{lower, upper};
+ghost use Rattle.bounds.specs.Table.{rows};
 
 // Entry k is the largest m with m^1024 <= 2^(k + 53248).
-const BOUNDS: [u64; 1024] = [
-%s];
+const BOUNDS: [u64; %(entries)d] = [
+%(numbers)s];
 
-%s
-// The first half of the table. A const array is rebuilt at each use; a match whose arms are numbers becomes one load, and no
-// function may have 1024 arms.
-fn lower_half(k: u64) -> u64
-    requires { ⌜ k < 512 ⌝ }
-    ensures { λ r. ⌜ r ≡ getD lower k 0 ⌝ }
+%(names)s
+// The last entry of row i, told that column j is none of the others.
+fn last(i: u64, j: u64, m: u64) -> u64
+    requires { ⌜ j < %(columns)d ⌝ }
+    requires { ⌜ NoneOf j %(end)d ⌝ }
+    requires { ⌜ m ≡ getD (getD rows i []) %(end)d 0 ⌝ }
+    ensures { λ r. ⌜ r ≡ getD (getD rows i []) j 0 ⌝ }
 {
-    match k {
-%s        _ => end_of_lower(k),
+    m
+}
+
+// The table's rows. A const array is rebuilt at each use; a match whose arms are numbers becomes one load, and what is proved of a match
+// grows faster than its arms.
+%(rows)s
+fn last_row(i: u64, j: u64) -> u64
+    requires { ⌜ i < %(height)d ⌝ }
+    requires { ⌜ j < %(columns)d ⌝ }
+    requires { ⌜ NoneOf i %(bottom)d ⌝ }
+    ensures { λ r. ⌜ r ≡ getD (getD rows i []) j 0 ⌝ }
+{
+    row_%(bottom)d(j)
+}
+
+// Column j of row i.
+fn cell(i: u64, j: u64) -> u64
+    requires { ⌜ i < %(height)d ⌝ }
+    requires { ⌜ j < %(columns)d ⌝ }
+    ensures { λ r. ⌜ r ≡ getD (getD rows i []) j 0 ⌝ }
+{
+    match i {
+%(choices)s        _ => last_row(i, j),
     }
 }
 
-fn end_of_lower(k: u64) -> u64
-    requires { ⌜ k < 512 ⌝ }
-    requires { ⌜ NoneOf k 511 ⌝ }
-    ensures { λ r. ⌜ r ≡ getD lower k 0 ⌝ }
-{
-    ENTRY_511
-}
-
-// The second half.
-fn upper_half(j: u64) -> u64
-    requires { ⌜ j < 512 ⌝ }
-    ensures { λ r. ⌜ r ≡ getD upper j 0 ⌝ }
-{
-    match j {
-%s        _ => end_of_upper(j),
-    }
-}
-
-fn end_of_upper(j: u64) -> u64
-    requires { ⌜ j < 512 ⌝ }
-    requires { ⌜ NoneOf j 511 ⌝ }
-    ensures { λ r. ⌜ r ≡ getD upper j 0 ⌝ }
-{
-    ENTRY_1023
-}
-
-// Entry k of the table.
+// Entry k of the table. The remainder by %(height)d changes nothing: it tells the compiler that no test is needed.
 pub fn bound(k: u64) -> u64
-    requires { ⌜ k < 1024 ⌝ }
+    requires { ⌜ k < %(entries)d ⌝ }
     ensures { λ r. ⌜ BoundAt k r ⌝ }
 {
-    if k < 512 {
-        return lower_half(k);
-    }
-    upper_half(k - 512)
+    cell(k / %(columns)d %% %(height)d, k %% %(columns)d)
 }
 """
 
-TABLE = """-- The table of bounds as two lists, made by tools/make_bounds.py: what the code returns, and nothing else, is read off them.
+ROW = """fn row_%(i)d(j: u64) -> u64
+    requires { ⌜ j < %(columns)d ⌝ }
+    ensures { λ r. ⌜ r ≡ getD (getD rows %(i)d []) j 0 ⌝ }
+{
+    match j {
+%(arms)s        _ => last(%(i)d, j, ENTRY_%(end)d),
+    }
+}
+"""
+
+TABLE = """-- The table of bounds as a list of rows, made by tools/make_bounds.py: what the code returns, and nothing else, is read off them.
 -- That their entries are the bounds is proved (proofs/Rule.antt). Assumes nothing.
 use mathlib.Core.List.{List, [], _∷_}
 use Prim.Native.Nat.{ℕ}
-
--- the entries 0 to 511
-abbrev pub lower : List ℕ
-lower =
-%s    []
-
--- the entries 512 to 1023
-abbrev pub upper : List ℕ
-upper =
-%s    []
+%(lists)s
+abbrev pub rows : List (List ℕ)
+rows = %(all)s ∷ []
 """
 
+LIST = """
+abbrev row%(i)d : List ℕ
+row%(i)d =
+%(numbers)s    []
+"""
 
-GUESS = """// A first guess of the rank of a mantissa among the bounds. Made by tools/make_bounds.py.
-ghost use Prim.Native.Nat.{_<_, _≤_, _^_};
+PIECES_CODE = """// The chords that bring a rank near. Made by tools/make_bounds.py.
+// A const array is rebuilt at each use; a match whose arms are numbers becomes one load.
+ghost use mathlib.Core.Path.{_≡_};
+ghost use Prim.Native.Nat.{_<_};
+ghost use lib.ListN.{getD};
+ghost use Rattle.laws.specs.NoneOf.{NoneOf};
+ghost use Rattle.index.specs.Pieces.{pieces};
 
-// Where a piece of the mantissa's range starts, in 2^-20 ranks.
-fn base(piece: u64) -> u64
-    ensures { λ r. ⌜ r < 2 ^ 31 ⌝ }
+// %(says)s
+pub fn piece(p: u64) -> u64
+    requires { ⌜ p < %(length)d ⌝ }
+    ensures { λ r. ⌜ r ≡ getD pieces p 0 ⌝ }
 {
-    match piece {
-%s    }
+    match p {
+%(arms)s        _ => last_piece(p),
+    }
 }
 
-// How much it rises to the next piece.
-fn slope(piece: u64) -> u64
-    ensures { λ r. ⌜ r < 2 ^ 31 ⌝ }
+fn last_piece(p: u64) -> u64
+    requires { ⌜ p < %(length)d ⌝ }
+    requires { ⌜ NoneOf p %(last)d ⌝ }
+    ensures { λ r. ⌜ r ≡ getD pieces p 0 ⌝ }
 {
-    match piece {
-%s    }
-}
-
-// A guess of the rank by one chord of the logarithm for each 64th of the range. Nothing rests on it but the time that rank takes.
-pub fn guess(m: u64) -> u64
-    requires { ⌜ 2 ^ 52 ≤ m ⌝ }
-    ensures { λ r. ⌜ r ≤ 1024 ⌝ }
-{
-    let above = m - 0x10_0000_0000_0000;
-    let piece = above / 0x4000_0000_0000;
-    let part = above / 0x4000 %% 0x1_0000_0000;
-    let rank = (base(piece) + slope(piece) * part / 0x1_0000_0000) / 0x10_0000;
-    if rank > 1024 { 1024 } else { rank }
+    %(end)d
 }
 """
 
+PIECES_SPEC = """-- The chords that bring a rank near. Made by tools/make_bounds.py. Assumes nothing.
+use mathlib.Core.List.{List, [], _∷_}
+use Prim.Native.Nat.{ℕ}
 
-def chord(piece):
-    """2^20 * 1024 * log2(1 + piece / 64), and one rank and a little more: ranks are rounded up, a chord lies below its arc."""
-    return round(2**30 * log2(1 + piece / PIECES) + 2**20 * 1.005)
-
-
-def arms_of(numbers):
-    """The arms of a match that answers the numbers, the last one for all that is left."""
-    return "".join(f"        {'_' if i == len(numbers) - 1 else i} => {n},\n" for i, n in enumerate(numbers))
-
-
-def main():
-    entries = [bound(k) for k in range(ENTRIES)]
-    names = "".join(f"const ENTRY_{k}: u64 = BOUNDS[{k}];\n" for k in range(ENTRIES))
-    half = ENTRIES // 2
-    lower, upper = ("".join(f"        {j} => ENTRY_{first + j},\n" for j in range(half - 1)) for first in (0, half))
-    lists = ["".join(f"    {m} ∷\n" for m in part) for part in (entries[:half], entries[half:])]
-    with open("crates/bounds/src/lib.rt", "w") as out:
-        out.write(CODE % ("".join(f"    {m},\n" for m in entries), names, lower, upper))
-    with open("crates/bounds/specs/Table.antt", "w") as out:
-        out.write(TABLE % tuple(lists))
-    bases = [chord(i) for i in range(PIECES + 1)]
-    with open("crates/index/src/guess.rt", "w") as out:
-        out.write(GUESS % (arms_of(bases[:-1]), arms_of([b - a for a, b in zip(bases, bases[1:])])))
+-- %(says)s
+abbrev pub pieces : List ℕ
+pieces =
+%(numbers)s    []
+"""
 
 
-main()
+def start(piece):
+    """1024 * log2(1 + piece / 64) in units of 2^-20, and half a rank more; below 1024 ranks at the end."""
+    return min(round(2**30 * log2(1 + piece / PIECES) + 2**19), 2**30 - 1)
+
+
+def lines(form, things):
+    return "".join(form % thing for thing in things)
+
+
+def row(i):
+    """Row i of the code."""
+    arms = lines("        %d => ENTRY_%d,\n", ((j, COLUMNS * i + j) for j in range(COLUMNS - 1)))
+    return ROW % {"i": i, "columns": COLUMNS, "arms": arms, "end": COLUMNS * i + COLUMNS - 1}
+
+
+def bounds():
+    numbers = [bound(k) for k in range(ROWS * COLUMNS)]
+    code = {
+        "entries": len(numbers), "columns": COLUMNS, "end": COLUMNS - 1, "height": ROWS, "bottom": ROWS - 1,
+        "numbers": lines("    %d,\n", numbers),
+        "names": lines("const ENTRY_%d: u64 = BOUNDS[%d];\n", ((k, k) for k in range(len(numbers)))),
+        "rows": "\n".join(map(row, range(ROWS))),
+        "choices": lines("        %d => row_%d(j),\n", ((i, i) for i in range(ROWS - 1))),
+    }  # fmt: skip
+    parts = [lines("    %d ∷\n", numbers[COLUMNS * i : COLUMNS * (i + 1)]) for i in range(ROWS)]
+    lists = "".join(LIST % {"i": i, "numbers": part} for i, part in enumerate(parts))
+    table = {"lists": lists, "all": " ∷ ".join(f"row{i}" for i in range(ROWS))}
+    write("bounds/src/lib.rt", CODE % code)
+    write("bounds/specs/Table.antt", TABLE % table)
+
+
+def pieces():
+    numbers = [start(p) * 2**32 + start(p + 1) - start(p) for p in range(PIECES)]
+    parts = {
+        "says": "The rank at which piece p of the mantissa's range starts, times 2^32, and how far it rises, both in units of 2^-20.",
+        "length": PIECES, "last": PIECES - 1, "end": numbers[-1],
+        "arms": lines("        %d => %d,\n", enumerate(numbers[:-1])),
+        "numbers": lines("    %d ∷\n", numbers),
+    }  # fmt: skip
+    write("index/src/pieces.rt", PIECES_CODE % parts)
+    write("index/specs/Pieces.antt", PIECES_SPEC % parts)
+
+
+def write(path, text):
+    with open("crates/" + path, "w") as out:
+        out.write(text)
+
+
+bounds()
+pieces()

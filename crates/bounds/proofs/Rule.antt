@@ -1,118 +1,149 @@
--- The table's rule, at every entry, by one test that antt computes: in sixteen parts, since a declaration has a limit of steps.
+-- The table's rule, at every entry, by one test that antt computes: a row at a time, since a declaration has a limit of steps.
 -- Assumes nothing.
 use mathlib.Core.Bool.{Bool, _&&_}
 use mathlib.Core.Path.{_≡_, subst}
-use mathlib.Core.List.{List}
-use Prim.Native.Nat.{ℕ, zero, suc, _+_, _-_, _*_, _^_, _≤_, _<_}
-use native.Mathlib.Nat.{zero-add}
+use mathlib.Core.List.{List, []}
+use Prim.Native.Nat.{ℕ, zero, suc, _+_, _*_, _/_, _%_, _^_, _≤_, _<_}
+use native.Mathlib.Nat.{le-trans}
 use native.Mathlib.Omega.{arith}
 use lib.Dec.{T, leb, ltb, leb→le, ltb→lt}
-use lib.ListN.{getD, take, drop}
+use lib.ListN.{length, getD, take, drop}
 use Rattle.laws.proofs.Every.{every, cut, at, both-left, both-right}
 use Rattle.bounds.specs.Bounds.{BoundAt}
-use Rattle.bounds.specs.Table.{lower, upper}
+use Rattle.bounds.specs.Table.{rows}
+
+-- the entry at place k
+unfoldable pub entry : ℕ → ℕ
+entry k = getD (getD rows (k / 64) []) (k % 64) 0
+
+-- a test of the entries of row i at their places
+abbrev pub row : (ℕ → ℕ → Bool) → ℕ → List ℕ → Bool
+row f i l = every (λ (j m : ℕ). f (i * 64 + j) m) 0 l
+
+-- each row has 64 entries
+wide : ℕ → List ℕ → Bool
+wide i l = leb 64 (length l)
+
+all-wide : T (every wide 0 rows)
+unfolding wide
+all-wide = tt
+
+width : (i : ℕ) → i < 16 → 64 ≤ length (getD rows i [])
+unfolding wide
+width i h = leb→le 64 (length (getD rows i [])) (at wide [] rows 0 all-wide i h)
+
+-- what each row passes, each entry passes
+pub at-entry : (f : ℕ → ℕ → Bool) → T (every (row f) 0 rows) → (k : ℕ) → k < 1024 → T (f k (entry k))
+unfolding entry
+at-entry f t k h =
+    subst (λ (n : ℕ). T (f n (entry k))) (place k)
+    (at (λ (j m : ℕ). f ((0 + k / 64) * 64 + j) m) 0 (getD rows (k / 64) []) 0 (at (row f) [] rows 0 t (k / 64) (quotient k h)) (k % 64) (le-trans (rest k) (width (k / 64) (quotient k h))))
+  where
+    place : (k : ℕ) → (0 + k / 64) * 64 + (0 + k % 64) ≡ k
+    place k = omega arith
+
+    quotient : (k : ℕ) → k < 1024 → k / 64 < 16
+    quotient k h = omega (arith, h)
+
+    rest : (k : ℕ) → k % 64 < 64
+    rest k = omega arith
 
 -- m is the bound at place k
 right : ℕ → ℕ → Bool
 right k m = leb (m ^ 1024) (2 ^ (k + 53248)) && ltb (2 ^ (k + 53248)) (suc m ^ 1024)
 
--- the entries of a half from part j on, and the test on them, and on part j, the half's first entry being at place b
-rest : List ℕ → ℕ → List ℕ
-rest l zero = l
-rest l (suc j) = drop 64 (rest l j)
+-- the rows from row i on, and the test on them, and on row i
+rest : ℕ → List (List ℕ)
+rest zero = rows
+rest (suc i) = drop 1 (rest i)
 
-abbrev Rest : List ℕ → ℕ → ℕ → Type 0
-Rest l b j = T (every right (b + j * 64) (rest l j))
+abbrev Rest : ℕ → Type 0
+Rest i = T (every (row right) i (rest i))
 
-abbrev Part : List ℕ → ℕ → ℕ → Type 0
-Part l b j = T (every right (b + j * 64) (take 64 (rest l j)))
+abbrev Row : ℕ → Type 0
+Row i = T (every (row right) i (take 1 (rest i)))
 
-join : (l : List ℕ) (b j : ℕ) → Part l b j → Rest l b (suc j) → Rest l b j
+join : (i : ℕ) → Row i → Rest (suc i) → Rest i
 unfolding rest
-join l b j p q = cut right 64 (b + j * 64) (rest l j) p (subst (λ (i : ℕ). T (every right i (drop 64 (rest l j)))) (step b j) q)
+join i p q = cut (row right) 1 i (rest i) p (subst (λ (n : ℕ). T (every (row right) n (drop 1 (rest i)))) (step i) q)
   where
-    step : (b j : ℕ) → b + suc j * 64 ≡ b + j * 64 + 64
-    step b j = omega arith
+    step : (i : ℕ) → suc i ≡ i + 1
+    step i = omega arith
 
-lower-0 : Part lower 0 0
+row-0 : Row 0
 unfolding right rest
-lower-0 = tt
+row-0 = tt
 
-lower-1 : Part lower 0 1
+row-1 : Row 1
 unfolding right rest
-lower-1 = tt
+row-1 = tt
 
-lower-2 : Part lower 0 2
+row-2 : Row 2
 unfolding right rest
-lower-2 = tt
+row-2 = tt
 
-lower-3 : Part lower 0 3
+row-3 : Row 3
 unfolding right rest
-lower-3 = tt
+row-3 = tt
 
-lower-4 : Part lower 0 4
+row-4 : Row 4
 unfolding right rest
-lower-4 = tt
+row-4 = tt
 
-lower-5 : Part lower 0 5
+row-5 : Row 5
 unfolding right rest
-lower-5 = tt
+row-5 = tt
 
-lower-6 : Part lower 0 6
+row-6 : Row 6
 unfolding right rest
-lower-6 = tt
+row-6 = tt
 
-lower-7 : Part lower 0 7
+row-7 : Row 7
 unfolding right rest
-lower-7 = tt
+row-7 = tt
 
-lower-end : Rest lower 0 8
+row-8 : Row 8
 unfolding right rest
-lower-end = tt
+row-8 = tt
 
-lower-right : T (every right 0 lower)
+row-9 : Row 9
+unfolding right rest
+row-9 = tt
+
+row-10 : Row 10
+unfolding right rest
+row-10 = tt
+
+row-11 : Row 11
+unfolding right rest
+row-11 = tt
+
+row-12 : Row 12
+unfolding right rest
+row-12 = tt
+
+row-13 : Row 13
+unfolding right rest
+row-13 = tt
+
+row-14 : Row 14
+unfolding right rest
+row-14 = tt
+
+row-15 : Row 15
+unfolding right rest
+row-15 = tt
+
+end : Rest 16
+unfolding right rest
+end = tt
+
+all-right : T (every (row right) 0 rows)
 unfolding rest
-lower-right = join lower 0 0 lower-0 (join lower 0 1 lower-1 (join lower 0 2 lower-2 (join lower 0 3 lower-3 (join lower 0 4 lower-4 (join lower 0 5 lower-5 (join lower 0 6 lower-6 (join lower 0 7 lower-7 lower-end)))))))
-
-upper-0 : Part upper 512 0
-unfolding right rest
-upper-0 = tt
-
-upper-1 : Part upper 512 1
-unfolding right rest
-upper-1 = tt
-
-upper-2 : Part upper 512 2
-unfolding right rest
-upper-2 = tt
-
-upper-3 : Part upper 512 3
-unfolding right rest
-upper-3 = tt
-
-upper-4 : Part upper 512 4
-unfolding right rest
-upper-4 = tt
-
-upper-5 : Part upper 512 5
-unfolding right rest
-upper-5 = tt
-
-upper-6 : Part upper 512 6
-unfolding right rest
-upper-6 = tt
-
-upper-7 : Part upper 512 7
-unfolding right rest
-upper-7 = tt
-
-upper-end : Rest upper 512 8
-unfolding right rest
-upper-end = tt
-
-upper-right : T (every right 512 upper)
-unfolding rest
-upper-right = join upper 512 0 upper-0 (join upper 512 1 upper-1 (join upper 512 2 upper-2 (join upper 512 3 upper-3 (join upper 512 4 upper-4 (join upper 512 5 upper-5 (join upper 512 6 upper-6 (join upper 512 7 upper-7 upper-end)))))))
+all-right = join 0 row-0 (join 1 row-1 (join 2 row-2 (join 3 row-3 (join 4 row-4 (join 5 row-5 (join 6 row-6 (join 7 row-7 others)))))))
+  where
+    others : Rest 8
+    others = join 8 row-8 (join 9 row-9 (join 10 row-10 (join 11 row-11 (join 12 row-12 (join 13 row-13 (join 14 row-14 (join 15 row-15 end)))))))
 
 as-bound : (k m : ℕ) → T (right k m) → BoundAt k m
 unfolding right
@@ -124,15 +155,5 @@ as-bound k m t =
       next = ltb→lt (2 ^ (k + 53248)) (suc m ^ 1024) (both-right a b t);
     }
 
-pub lower-bounded : (k : ℕ) → k < 512 → BoundAt k (getD lower k 0)
-lower-bounded k h = subst (λ (i : ℕ). BoundAt i (getD lower k 0)) (zero-add k) (as-bound (0 + k) (getD lower k 0) (at right 0 lower 0 lower-right k h))
-
-pub upper-bounded : (k : ℕ) → 512 ≤ k → k < 1024 → BoundAt k (getD upper (k - 512) 0)
-upper-bounded k g h =
-    subst (λ (i : ℕ). BoundAt i (getD upper (k - 512) 0)) place (as-bound (512 + (k - 512)) (getD upper (k - 512) 0) (at right 0 upper 512 upper-right (k - 512) inside))
-  where
-    place : 512 + (k - 512) ≡ k
-    place = omega (arith, g)
-
-    inside : k - 512 < 512
-    inside = omega (arith, g, h)
+pub bounded : (k : ℕ) → k < 1024 → BoundAt k (entry k)
+bounded k h = as-bound k (entry k) (at-entry right all-right k h)

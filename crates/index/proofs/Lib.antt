@@ -1,4 +1,5 @@
 pub mod Ranks
+mod Chords
 pub mod Floats
 pub mod Buckets
 pub mod Finest

@@ -5,3 +5,4 @@ pub mod Frexp
 pub mod Answers
 pub mod Signed
 pub mod Ranked
+pub mod Pieces

@@ -6,3 +6,9 @@ pub record Ranked (m r : ℕ) : Type 0 where
   pub small : r ≤ 1024
   pub above : 2 ^ (r + 53247) < m ^ 1024
   pub within : m ^ 1024 ≤ 2 ^ (r + 53248)
+
+-- the rank of m is g or g + 1
+pub record Near (m g : ℕ) : Type 0 where
+  pub small : g < 1024
+  pub above : 2 ^ (g + 53247) < m ^ 1024
+  pub within : m ^ 1024 ≤ 2 ^ (g + 1 + 53248)

@@ -1,5 +1,6 @@
 // The exact bucket index of an f64: `frexp` and `get_bin` of exponential_histogram.rs.
 mod guess;
+mod pieces;
 mod rank;
 pub mod signed;
 

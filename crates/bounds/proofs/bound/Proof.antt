@@ -1,28 +1,31 @@
 -- `bounds::bound` meets its contract: the table's rule. Assumes nothing.
-use mathlib.Core.Path.{sym, subst}
+use mathlib.Core.Path.{_≡_, sym, ap, _∙_, subst}
+use mathlib.Core.List.{[]}
+use Prim.Native.Nat.{ℕ, _/_, _%_, _<_}
 use native.Mathlib.Omega.{arith}
 use borrow.Author.Needs.{needs}
+use lib.ListN.{getD}
 use Rattle.bounds.specs.Bounds.{BoundAt}
-use Rattle.bounds.proofs.Rule.{lower-bounded, upper-bounded}
+use Rattle.bounds.specs.Table.{rows}
+use Rattle.bounds.proofs.Rule.{entry, bounded}
 use Rattle.bounds.proofs.bound.Statement.{statement}
 use Rattle.bounds.proofs.bound.Tie as tie
 
-lower-half-requires : tie.Need-lower-half-requires
-lower-half-requires c κs = search needs
+as-entry : (k r : ℕ) → k < 1024 → r ≡ getD (getD rows (k / 64 % 16) []) (k % 64) 0 → r ≡ entry k
+unfolding entry
+as-entry k r h e = e ∙ ap (λ (i : ℕ). getD (getD rows i []) (k % 64) 0) (same k h)
+  where
+    same : (k : ℕ) → k < 1024 → k / 64 % 16 ≡ k / 64
+    same k h = omega (arith, h)
+
+cell-requires : tie.Need-cell-requires
+cell-requires c κs = search needs
 
 returns : tie.Need-returns
 returns c =
-    let k = c .before .before .args .k in
-    subst (BoundAt k) (sym (c .lower-half .ensures)) (lower-bounded k (c .before .if1 .taken))
-
-upper-half-requires : tie.Need-upper-half-requires
-upper-half-requires c κs = search needs
-
-returns-2 : tie.Need-returns-2
-returns-2 c =
-    let st = c .before .before in
+    let st = c .before in
     let k = st .args .k in
-    subst (BoundAt k) (sym (c .upper-half .ensures)) (upper-bounded k (omega (arith, c .before .if1 .left)) (st .pre))
+    subst (BoundAt k) (sym (as-entry k (c .cell .result) (st .pre) (c .cell .ensures))) (bounded k (st .pre))
 
 pub bound-spec : {M : Type 1} → statement M
-bound-spec = tie.close (tie.spec lower-half-requires returns upper-half-requires returns-2)
+bound-spec = tie.close (tie.spec cell-requires returns)

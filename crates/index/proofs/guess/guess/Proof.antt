@@ -1,35 +1,33 @@
--- `index::guess::guess` meets its contract: the product of a slope and a part fits. Assumes nothing.
-use Prim.Native.Nat.{ℕ, _-_, _*_, _/_, _%_, _<_, _≤_, _^_}
+-- `index::guess::guess` meets its contract: the guess of the laws, whose product fits. Assumes nothing.
+use mathlib.Core.Path.{subst}
+use Prim.Native.Nat.{ℕ, _-_, _*_, _/_, _%_, _≤_}
+use native.Mathlib.Nat.{mul-le-mul}
 use native.Mathlib.Omega.{arith}
 use borrow.Author.Needs.{needs}
-use Rattle.laws.proofs.Powers.{times}
+use Rattle.index.specs.Ranked.{Near}
+use Rattle.index.proofs.Chords.{near, as-guessed}
 use Rattle.index.proofs.guess.guess.Statement.{statement}
 use Rattle.index.proofs.guess.guess.Tie as tie
 
-term : (s f : ℕ) → s < 2 ^ 31 → s * (f % 4294967296) ≤ 9223372030412324865
-term s f h = times s (f % 4294967296) h (omega arith)
+term : (r f : ℕ) → r % 4294967296 * (f % 4294967296) ≤ 18446744065119617025
+term r f = mul-le-mul {n₁ = r % 4294967296} {m₁ = f % 4294967296} {n₂ = 4294967295} {m₂ = 4294967295} (omega arith) (omega arith)
 
 sub-above : tie.Need-sub-above
 sub-above c = search needs
 
-base-requires : tie.Need-base-requires
-base-requires c κs = search needs
+piece-requires : tie.Need-piece-requires
+piece-requires c κs = search needs
 
-slope-requires : tie.Need-slope-requires
-slope-requires c κs = search needs
+mul-result : tie.Need-mul-result
+mul-result c = omega (arith, term (c .piece .result) ((c .before .args .m - 4503599627370496) / 16384))
 
-mul-rank : tie.Need-mul-rank
-mul-rank c = omega (arith, term (c .slope .result) ((c .before .before .args .m - 4503599627370496) / 16384) (c .slope .ensures))
-
-add-rank : tie.Need-add-rank
-add-rank c = omega (arith, c .before .base .ensures, term (c .slope .result) ((c .before .before .args .m - 4503599627370496) / 16384) (c .slope .ensures))
+add-result : tie.Need-add-result
+add-result c = omega (arith, term (c .piece .result) ((c .before .args .m - 4503599627370496) / 16384))
 
 returns : tie.Need-returns
-returns c = search needs
-
-returns-2 : tie.Need-returns-2
-returns-2 c = search needs
+returns c =
+    let st = c .before in
+    subst (Near (st .args .m)) (as-guessed (st .args .m) (c .piece .result) (st .pre .1) (c .piece .ensures)) (near (st .args .m) (st .pre .0) (st .pre .1))
 
 pub guess-spec : {M : Type 1} → statement M
-guess-spec =
-    tie.close (tie.spec sub-above base-requires slope-requires mul-rank add-rank returns returns-2)
+guess-spec = tie.close (tie.spec sub-above piece-requires mul-result add-result returns)

@@ -1,5 +1,6 @@
 -- The terms of the promises.
 pub mod Runs
+pub mod Cumulates
 pub mod Seen
 pub mod Groupings
 pub mod Cursors

@@ -11,8 +11,9 @@ use Rattle.value_map.proofs.ExplicitOwes as ExplicitOwes
 use Rattle.exponential_collection.specs.Points.{exponentialLister}
 use Rattle.exponential_collection.proofs.Lists.{exponential-lists}
 use Rattle.explicit_collection.specs.Points.{explicitLister}
-use Rattle.promises.specs.Promises.{ExponentialDemand, ExplicitDemand, ExponentialRuns, ExplicitRuns, Answers, Merges, DirectoryAgrees}
+use Rattle.promises.specs.Promises.{ExponentialDemand, ExplicitDemand, ExponentialRuns, ExplicitRuns, ExponentialCumulates, ExplicitCumulates, Answers, Merges, DirectoryAgrees}
 use Rattle.promises.proofs.Runs.{runs}
+use Rattle.promises.proofs.Cumulates.{cumulates}
 use Rattle.promises.proofs.Exponential as Exponential
 use Rattle.promises.proofs.Explicit as Explicit
 use Rattle.promises.proofs.Setups as Setups
@@ -30,6 +31,14 @@ exponential-runs size top extremes sums =
 pub explicit-runs : ExplicitRuns
 explicit-runs bounds extremes sums =
     runs (ExplicitOwes.owed bounds) (explicitLister bounds) (Explicit.keeps bounds) (extremes, sums, zeroFloat) (Explicit.lists bounds extremes sums) lawful histograms-steady
+
+pub exponential-cumulates : ExponentialCumulates
+exponential-cumulates size top extremes sums =
+    cumulates (ExponentialOwes.owed size top) (exponentialLister size top) (Exponential.keeps size top) (extremes, sums) (exponential-lists size top (extremes, sums)) histograms-steady
+
+pub explicit-cumulates : ExplicitCumulates
+explicit-cumulates bounds extremes sums =
+    cumulates (ExplicitOwes.owed bounds) (explicitLister bounds) (Explicit.keeps bounds) (extremes, sums, zeroFloat) (Explicit.lists bounds extremes sums) histograms-steady
 
 pub answers : Answers
 answers = demand histograms lawful

@@ -181,7 +181,7 @@ module _ {K : Kind} {S : Store K} (L : Lister S) (limit : ℕ) (filter : Option 
       (record { fair = record { agrees = q .agrees; lent-is = rw (q .lent) (b .cells); last = q .last; set = b .set; accepted = b .accepted }; lent = l })
 
 module _ {K : Kind} {S : Store K} (W : Owed S) (L : Lister S) (keeps : Keeps L) (w : S .Switches) (Q : Lists L w) where
-  pub faithful : (limit : ℕ) (filter : Option (List ℕ)) (s : Stores) (x : S .Cells) → L .Lent x → number (started S limit filter s x .answer) ≡ 0
+  unfoldable pub faithful : (limit : ℕ) (filter : Option (List ℕ)) (s : Stores) (x : S .Cells) → L .Lent x → number (started S limit filter s x .answer) ≡ 0
       → Faithful K (configOf S w limit filter) (run L w limit filter (started S limit filter s x .held))
   faithful limit filter s x l zero =
       let b = begun S limit filter s x zero in

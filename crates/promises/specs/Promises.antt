@@ -26,7 +26,7 @@ use Rattle.exponential_collection.specs.declared.Setup as ExponentialSetup
 use Rattle.explicit_collection.specs.Points.{explicitLister}
 use Rattle.explicit_collection.specs.Configured as Explicit
 use Rattle.explicit_collection.specs.declared.Setup as ExplicitSetup
-use Rattle.promises.specs.Runs.{Runs}
+use Rattle.promises.specs.Runs.{Runs, Cumulates}
 use Rattle.promises.specs.Pooled.{Holds}
 
 -- ---- DEMAND 3, about the code: one claim about the list of calls
@@ -59,6 +59,13 @@ ExponentialRuns = (size top : ℕ) (extremes sums : Bool) → Runs (exponentialL
 
 abbrev pub ExplicitRuns : Type 0
 ExplicitRuns = (bounds : List Float) (extremes sums : Bool) → Runs (explicitLister bounds) (extremes, sums, zeroFloat)
+
+-- and of a cumulative collection after every run: "every named entry is listed, even one bound and never recorded .. cumulative leaves it"
+abbrev pub ExponentialCumulates : Type 0
+ExponentialCumulates = (size top : ℕ) (extremes sums : Bool) → Cumulates (exponentialLister size top) (extremes, sums)
+
+abbrev pub ExplicitCumulates : Type 0
+ExplicitCumulates = (bounds : List Float) (extremes sums : Bool) → Cumulates (explicitLister bounds) (extremes, sums, zeroFloat)
 
 -- ---- DEMAND 3, of any faithful code of both kinds
 

@@ -11,9 +11,9 @@ use Rattle.laws.specs.Pick.{pick}
 use Rattle.laws.specs.Said.{number}
 use Rattle.tally.specs.Sets.{Set, Lendable}
 use Rattle.tally.specs.Kind.{Kind, Room}
-use Rattle.tally.specs.Map.{Call, measure, measureBy, bind, release, collect, Answer}
-use Rattle.tally.specs.Demand.{InRange, Code}
-use Rattle.tally.specs.Runs.{Tells}
+use Rattle.tally.specs.Map.{Call, measure, measureBy, bind, release, collect, Answer, cumulate}
+use Rattle.tally.specs.Demand.{InRange, Code, left}
+use Rattle.tally.specs.Runs.{quiet, Tells}
 use Rattle.sets.specs.Sorted.{Small}
 use Rattle.directory.specs.View.{Stores}
 use Rattle.bindings.specs.Calls as Bindings
@@ -23,7 +23,7 @@ use Rattle.value_map.specs.Calls.{Held, Outcome, measured, measuredBy, started}
 use Rattle.value_map.specs.Maps.{mapOf, configOf}
 use Rattle.listing.specs.Listed.{Output}
 use Rattle.collecting.specs.Lister.{Lister}
-use Rattle.collecting.specs.Collected.{fewest, roomOf, Collected, deltaCollected, answered}
+use Rattle.collecting.specs.Collected.{fewest, roomOf, Collected, deltaCollected, cumulativeCollected, answered}
 
 -- lent output of so many places
 abbrev pub outputOf : Room → Output
@@ -113,3 +113,15 @@ abbrev pub Runs : {K : Kind} {S : Store K} → Lister S → S .Switches → Type
 Runs {K} {S} L w =
     (limit : ℕ) (filter : Option (List ℕ)) (s : Stores) (x : S .Cells) → L .Lent x → number (started S limit filter s x .answer) ≡ 0
     → Tells K (configOf S w limit filter) (run L w limit filter (started S limit filter s x .held)) (mapOf S w)
+
+-- Cumulative collection is no call of demand 3's list; after any run of such calls, in any lent output, it answers as the map's collection that
+-- leaves the map, leaves state and stores as they were, and is never answered 8 or 12. So what `Tells` says of its points it lists.
+abbrev pub Cumulates : {K : Kind} {S : Store K} → Lister S → S .Switches → Type 0
+Cumulates {K} {S} L w =
+    (limit : ℕ) (filter : Option (List ℕ)) (s : Stores) (x : S .Cells) → L .Lent x → number (started S limit filter s x .answer) ≡ 0
+    → (xs : List (Asked K)) (o : Output)
+    → let h = left K (run L w limit filter (started S limit filter s x .held)) (started S limit filter s x .held) xs in
+    let c = cumulativeCollected L w limit h o in
+    (record { answer = answered L w (c .answer) (c .out); map = mapOf S w (c .held) } ≡ cumulate K (mapOf S w h) (roomOf o))
+    × (c .held ≡ h)
+    × (quiet K (answered L w (c .answer) (c .out)) ≡ true)

@@ -1,25 +1,27 @@
-"""Compares the reference with the Rust over random scripts: same, beside a bound, key twice or unexplained.
+"""Compares the reference with the Rust over random scripts, and with our program: same, beside a bound, key twice, unexplained or ours.
 
     compare.py COUNT [--seed WORD] [OPTIONS]        as generate.py
+    compare.py COUNT .. --ours COMMAND              three ways: what our program answers to every line must be the reference's answer
 
 beside a bound: the answers differ, and are the same without the records of values that are a bound or the next value above it and
 whose index at the starting scale differs; these values are judged by the definition. key twice: likewise without the calls that
-give one key twice. Everything else is unexplained and is printed with the smallest script found. Exit status 1 if anything is
-unexplained.
+give one key twice. ours: our program differs from the reference, whatever the Rust says. Everything else is unexplained and is printed
+with the smallest script found. Exit status 1 if anything is unexplained or ours.
 """
 
 import sys
 import time
 from collections import Counter
 
+import damage
 import generate
 import script
 from bits import SIGN, beside_bound, index, is_finite
-from reference import Rules
+from reference import Rules, answers
 from rust import asked, indices, replay
 
 BATCH = 250
-SAME, BESIDE, TWICE, UNEXPLAINED = "same", "beside a bound", "key twice", "unexplained"
+SAME, BESIDE, TWICE, UNEXPLAINED, OURS = "same", "beside a bound", "key twice", "unexplained", "ours"
 
 
 class Comparer:
@@ -110,17 +112,28 @@ def report(comparer, name, lines):
     print("  the Rust:", *(replay({"one": question.lines})["one"] or ["panicked"]), sep="\n    ", flush=True)
 
 
-def run(names, options):
+def judged(comparer, scripts, ours):
+    """The verdict of each script; ours is a command or None."""
+    verdicts = dict(comparer.compare(scripts))
+    if ours:
+        given = damage.answered(ours, scripts)
+        verdicts |= {name: OURS for name, lines in scripts.items() if given.get(name) != answers(lines, comparer.rules)}
+    return verdicts
+
+
+def run(names, options, ours=None):
     comparer, counts, lines_seen = Comparer(options.rules), Counter(), 0
     began = time.monotonic()
     for start in range(0, len(names), BATCH):
         scripts = {name: generate.make(name, options) for name in names[start : start + BATCH]}
-        verdicts = dict(comparer.compare(scripts))
+        verdicts = judged(comparer, scripts, ours)
         counts.update(verdicts.values())
         lines_seen += sum(map(len, scripts.values()))
         for name, verdict in verdicts.items():
             if verdict == UNEXPLAINED:
                 report(comparer, name, scripts[name])
+            if verdict == OURS:
+                print(f"OURS {name}: see `generate.py` and `reference.py` for the script and its answers", flush=True)
         done = start + len(scripts)
         rate = done / (time.monotonic() - began)
         print(f"{done}/{len(names)} scripts, {lines_seen} lines, {rate:.0f}/s: {dict(counts)}", file=sys.stderr, flush=True)
@@ -128,12 +141,18 @@ def run(names, options):
 
 
 def main():
+    words = sys.argv[1:]
+    ours = None
+    if "--ours" in sys.argv:
+        at = sys.argv.index("--ours")
+        ours = sys.argv[at + 1]
+        del sys.argv[at : at + 2]
     names, options = generate.read_arguments(__doc__.splitlines()[0])
-    counts, lines = run(names, options)
-    print(f"compare.py {' '.join(sys.argv[1:])}: {len(names)} scripts, {lines} lines")
-    for verdict in (SAME, BESIDE, TWICE, UNEXPLAINED):
+    counts, lines = run(names, options, ours)
+    print(f"compare.py {' '.join(words)}: {len(names)} scripts, {lines} lines")
+    for verdict in (SAME, BESIDE, TWICE, UNEXPLAINED, OURS):
         print(f"  {verdict}: {counts[verdict]}")
-    raise SystemExit(1 if counts[UNEXPLAINED] else 0)
+    raise SystemExit(1 if counts[UNEXPLAINED] + counts[OURS] else 0)
 
 
 if __name__ == "__main__":

@@ -59,7 +59,10 @@ def damage(draw, p):
 
 
 def script(draw, p):
+    """A call before any accepted start has no map: the first script starts until one is accepted."""
     begin(draw, p)
+    while p.stores.kind is None:
+        begin(draw, p)
     if draw.random() < 0.3:
         p.k(*(draw.randint(1, 5) for _ in range(draw.choice([0, 1, 3, 16, 17]))))
     for _ in range(draw.randint(5, 40)):

@@ -90,7 +90,55 @@ def order_kept(self, attributes):
     return tuple(dict(CANONICAL(self, attributes[:1]) + CANONICAL(self, attributes[1:])).items())
 
 
+def start_kept(self, call):
+    start = self.map and self.map.start
+    lines = COLLECT(self, call)
+    self.map.start = start
+    return lines
+
+
+def start_turned(self, call):
+    lines = COLLECT(self, call)
+    self.map.start = call.time
+    return lines
+
+
+def reset_always(self, call):
+    lines = COLLECT(self, call)
+    self.map.reset()
+    return lines
+
+
+def never_reset(self, call):
+    kept = self.map and {key: list(entry.values) for key, entry in self.map.entries.items()}
+    lines = COLLECT(self, call)
+    for key, entry in self.map.entries.items():
+        entry.values = kept[key]
+    return lines
+
+
+def reset_when_refused(self, call):
+    try:
+        return COLLECT(self, call)
+    except points.Refused:
+        self.map.reset()
+        raise
+
+
+def idle_left_out(self, call):
+    """By a cumulative collection."""
+    if self.config is None or self.config.temporality == "d":
+        return COLLECT(self, call)
+    whole = self.map.entries
+    self.map.entries = {key: entry for key, entry in whole.items() if entry.values}
+    try:
+        return COLLECT(self, call)
+    finally:
+        self.map.entries = whole
+
+
 RESET, TOTAL, EXPLICIT, CANONICAL = reference.Map.reset, points.total, points.explicit_point, reference.Reference.canonical
+COLLECT = reference.Reference.collect
 
 MUTANTS = [
     ("a power of two put in the bucket above it", bits, "finest_index", power_above),
@@ -107,6 +155,12 @@ MUTANTS = [
     ("a value on a bound put in the bucket above", points.POINT_OF, "x", bound_above),
     ("the filter ignored", reference.Reference, "canonical", filter_ignored),
     ("sets told apart by the order of attributes", reference.Reference, "canonical", order_kept),
+    ("a delta's start left as it was", reference.Reference, "collect", start_kept),
+    ("a cumulative collection's start replaced", reference.Reference, "collect", start_turned),
+    ("a cumulative collection resets", reference.Reference, "collect", reset_always),
+    ("a delta resets nothing", reference.Reference, "collect", never_reset),
+    ("a collection refused for want of room resets", reference.Reference, "collect", reset_when_refused),
+    ("a cumulative collection leaves idle entries out", reference.Reference, "collect", idle_left_out),
 ]
 
 

@@ -232,9 +232,9 @@ def mark(point):
 
 
 def join_held(a, b):
-    """The smaller min and the larger max, equal: the first's; the sums added once."""
-    low = b.min if a.switch and b.min < a.min else a.min
-    high = b.max if a.switch and b.max > a.max else a.max
+    """The smaller min and the larger max, equal: the first's, one that is there before none; the sums added once."""
+    low = b.min if a.min is None or (b.min is not None and b.min < a.min) else a.min
+    high = b.max if a.max is None or (b.max is not None and b.max > a.max) else a.max
     return {"min": low, "max": high, "sum": NUMBERS[a.number].add(a.sum, b.sum)}
 
 

@@ -185,10 +185,11 @@ class Reference:
         if call.scale not in self.rules.scales:
             raise Refused(2)
 
-    def check_stores(self, config):
-        """Number 12: stores as lent by the script's last `m` line, by default long enough."""
+    def check_stores(self, config, directory=False):
+        """Number 12: stores as lent by the script's last `m` line, by default long enough. Bindings are lent the directory's alone."""
         entries = config.limit + 2
-        if self.stores.counts is not None and self.stores.counts < entries * config.buckets():
+        counts = self.stores.counts
+        if not directory and counts is not None and counts < entries * config.buckets():
             raise Refused(12)
         if self.stores.entries is not None and self.stores.entries < entries:
             raise Refused(12)
@@ -196,10 +197,10 @@ class Reference:
     # Recording: 12, 6, 5, 8, 9, 16. By handle: 12, 6, 8, 7, 9, 16. Binding: 12, 5, 8, 9. Releasing: 12, 8, 7.
     # Numbers 8 and 9 cannot be met by a script here: it cannot damage a store or count to 2^64.
 
-    def running(self):
+    def running(self, directory=False):
         if self.config is None:
             raise Unreadable
-        self.check_stores(self.config)
+        self.check_stores(self.config, directory)
 
     def value(self, field):
         raw = script.read_value(field, self.config.number)
@@ -237,7 +238,7 @@ class Reference:
         self.map.find_or_make(attributes, self.config.limit).values.append(value)
 
     def bind(self, call):
-        self.running()
+        self.running(directory=True)
         entry = self.map.find_or_make(self.canonical(call.set), self.config.limit)
         entry.bindings += 1
         self.handles[call.handle] = entry.birth
@@ -258,7 +259,7 @@ class Reference:
         entry.values.append(value)
 
     def release(self, call):
-        self.running()
+        self.running(directory=True)
         self.bound(call.handle).bindings -= 1
 
     # Collecting: 12, 8, 10.

@@ -4,7 +4,10 @@
                                 answers to sample/beyond.txt, inputs on which it is meant to differ, as they stand
     sample.py check             needs no Rust: the reference against the stored answers, and these against the Rust's stored ones
     sample.py check COMMAND     runs a command on the scripts and compares what it prints with the stored answers
+    sample.py damage COMMAND    likewise on sample/damage.txt, whose answers are the stores' model's
     sample.py gauge COMMAND     likewise on the input of the gauge program, crates/gauge/stdin (tools/make_gauge_vectors.py)
+
+`make` also writes the stored input and output of crates/replay: the cases written by hand, and the damaged scripts.
 
 answers.txt is whole: the Rust's answers where it is asked (docs/REPLAY.md), refusals, `b` lines and merges by the definition. A
 script on which the two differ has values beside a bound; there the definition's answer is stored, and the Rust's in rust.txt.
@@ -15,15 +18,19 @@ import subprocess
 import sys
 from pathlib import Path
 
+import damage
 import generate
 from compare import BESIDE, SAME, Comparer
+from machine import answers as machine_answers
 from reference import Rules, answers
 from rust import asked, replay
 from script import join_scripts, split_scripts
 
 HERE = Path(__file__).resolve().parent / "sample"
 GAUGE = HERE.parent.parent / "crates/gauge"
+REPLAY = HERE.parent.parent / "crates/replay"
 RANDOM_SCRIPTS = 250
+DAMAGED_SCRIPTS = 40
 
 
 def stored(name):
@@ -42,6 +49,17 @@ def make():
     store("answers", {name: answers(lines) for name, lines in scripts.items()})
     store("rust", replay({name: asked(lines, Rules()).lines for name, lines in scripts.items()}))
     store("beyond_rust", replay(stored("beyond")))
+    make_damage()
+
+
+def make_damage():
+    scripts = stored("damage_cases") | {f"damage.{i}": damage.make(f"damage.{i}") for i in range(DAMAGED_SCRIPTS)}
+    given = {name: machine_answers(lines) for name, lines in scripts.items()}
+    store("damage", scripts)
+    store("damage_answers", given)
+    cases = stored("cases")
+    (REPLAY / "stdin").write_text(join_scripts(cases | scripts))
+    (REPLAY / "stdout").write_text(join_scripts({name: answers(lines) for name, lines in cases.items()} | given))
 
 
 def report(what, right, wrong):
@@ -71,9 +89,8 @@ def check_gauge(command):
     return given == expected
 
 
-def check_program(program):
-    done = subprocess.run(shlex.split(program), input=join_scripts(stored("scripts")), stdout=subprocess.PIPE, text=True)
-    return not compare_all(program, stored("answers"), split_scripts(done.stdout))
+def check_program(program, scripts="scripts", expected="answers"):
+    return not compare_all(program, stored(expected), damage.answered(program, stored(scripts)))
 
 
 def main():
@@ -85,6 +102,8 @@ def main():
             holds = check_reference()
         case ["check", program]:
             holds = check_program(program)
+        case ["damage", program]:
+            holds = check_program(program, "damage", "damage_answers")
         case ["gauge", command]:
             holds = check_gauge(command)
         case _:

@@ -1,7 +1,7 @@
 """The language of the call scripts and of their answers (docs/REPLAY.md), shared by all programs of this directory."""
 
 import re
-from dataclasses import dataclass, fields
+from dataclasses import dataclass, fields, replace
 from typing import Optional
 
 from bits import to_bits
@@ -12,6 +12,7 @@ KEPT = 8
 WAITING_BOUNDS = 200
 WAITING_KEYS = 32
 OVERFLOW = ((4294967295, 1),)
+FLOAT_STORES = "mbB"
 
 
 class Unreadable(Exception):
@@ -97,6 +98,19 @@ class Merge:
 class NewSettings:
     size: int
     scale: int
+
+
+@dataclass(frozen=True)
+class Damage:
+    store: str
+    place: int
+    cell: int
+    number: int  # bits where the store holds f64
+
+
+@dataclass(frozen=True)
+class Show:
+    """The map's state, and a checksum of every cell of each store."""
 
 
 # Reading and writing single fields.
@@ -210,6 +224,8 @@ READERS = {
     "k": (Keep, [kept, u32]),
     "j": (Merge, [kept, kept, kept, u32, optional(u32)]),
     "t": (NewSettings, [u32, i8]),
+    "d": (Damage, [read_word(*"seofmpntbvwPNB"), u32, u32, read_plain]),
+    "s": (Show, []),
 }
 
 LETTERS = {made: letter for letter, (made, _) in READERS.items()}
@@ -222,6 +238,7 @@ WRITERS = {
     "number": str,
     "temporality": str,
     "value": str,
+    "store": str,
 }
 
 
@@ -238,6 +255,8 @@ def read_line(line):
     call = made(*(read(part) for read, part in zip(readers, parts)))
     if isinstance(call, Configure):
         check_form(call)
+    if isinstance(call, Damage):
+        return replace(call, number=(read_bits if call.store in FLOAT_STORES else u64)(call.number))
     return call
 
 
@@ -250,6 +269,9 @@ def check_form(configure):
 
 
 def write_line(call):
+    if isinstance(call, Damage) and call.store in FLOAT_STORES:
+        call = replace(call, number=write_bits(call.number))
+        return " ".join(["d", call.store, str(call.place), str(call.cell), call.number])
     parts = (WRITERS.get(f.name, write_number)(getattr(call, f.name)) for f in fields(call))
     return " ".join([LETTERS[type(call)], *parts])
 

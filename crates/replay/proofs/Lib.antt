@@ -1,0 +1,2 @@
+-- The laws of `replay`.
+pub mod Few

@@ -1,0 +1,34 @@
+-- `replay::kept::cursor_of` is safe and ends. Assumes nothing.
+use Prim.Native.Nat.{_-_, _≤_}
+use native.Mathlib.Omega.{arith}
+use Rattle.replay.proofs.kept.cursor_of.Statement.{statement}
+use Rattle.replay.proofs.kept.cursor_of.Tie as tie
+
+abbrev Inv-loop : tie.InvT-loop
+Inv-loop place words pos neg at₀ i₀ at i = i ≤ place
+
+abbrev μ-loop : tie.MeasureT-loop
+μ-loop place words pos neg at₀ i₀ at i = place - i
+
+loop-holds : tie.Need-loop-holds Inv-loop μ-loop
+loop-holds c = omega arith
+
+behind-requires : tie.Need-behind-requires Inv-loop μ-loop
+behind-requires c κs = tt
+
+add-i : tie.Need-add-i Inv-loop μ-loop
+add-i c = omega arith
+
+loop-less : tie.Need-loop-less Inv-loop μ-loop
+loop-less c = omega arith
+
+loop-again : tie.Need-loop-again Inv-loop μ-loop
+loop-again c = omega arith
+
+returns : tie.Need-returns Inv-loop μ-loop
+returns c = tt
+
+pub cursor-of-spec : {M : Type 1} → statement M
+cursor-of-spec =
+    tie.close
+    (tie.spec Inv-loop μ-loop loop-holds behind-requires add-i loop-less loop-again returns)

@@ -1,0 +1,51 @@
+-- `replay::sums::of_entries` is safe and ends. Assumes nothing.
+use Prim.Native.Nat.{_-_, _≤_}
+use native.Mathlib.Omega.{arith}
+use lib.ListN.{length}
+use Rattle.replay.proofs.sums.of_entries.Statement.{statement}
+use Rattle.replay.proofs.sums.of_entries.Tie as tie
+
+abbrev Inv-loop : tie.InvT-loop
+Inv-loop entries sum₀ i₀ sum i = i ≤ length entries
+
+abbrev μ-loop : tie.MeasureT-loop
+μ-loop entries sum₀ i₀ sum i = length entries - i
+
+loop-holds : tie.Need-loop-holds Inv-loop μ-loop
+loop-holds c = omega arith
+
+mul-three : tie.Need-mul-three Inv-loop μ-loop
+mul-three c = omega arith
+
+shared-slice-copy-out-three : tie.Need-shared-slice-copy-out-three Inv-loop μ-loop
+shared-slice-copy-out-three c = omega arith
+
+three-requires : tie.Need-three-requires Inv-loop μ-loop
+three-requires c κs = tt
+
+add-i : tie.Need-add-i Inv-loop μ-loop
+add-i c = omega arith
+
+loop-less : tie.Need-loop-less Inv-loop μ-loop
+loop-less c = omega arith
+
+loop-again : tie.Need-loop-again Inv-loop μ-loop
+loop-again c = omega arith
+
+returns : tie.Need-returns Inv-loop μ-loop
+returns c = tt
+
+pub of-entries-spec : {M : Type 1} → statement M
+of-entries-spec =
+    tie.close
+    (tie.spec
+    Inv-loop
+    μ-loop
+    loop-holds
+    mul-three
+    shared-slice-copy-out-three
+    three-requires
+    add-i
+    loop-less
+    loop-again
+    returns)

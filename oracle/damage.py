@@ -1,0 +1,100 @@
+"""Random scripts with damage: what our program answers and leaves in every cell, against the model of the stores.
+
+    damage.py COUNT [--seed WORD] COMMAND       e.g. damage.py 1000 target/bin/replay
+
+A script of generate.py gets lines `d` and `s` among its own. Prints the smallest script that differs, or how many lines were the same. Exit
+status 1 if any differs.
+"""
+
+import argparse
+import random
+import shlex
+import subprocess
+
+import generate
+import script
+import machine
+from bits import CANONICAL_NAN, GREATEST, INFINITY, SIGN
+
+EDGES = (0, 1, 2, 3, 20, 21, 160, 161, 2**32 - 1, 2**32, 2**63, 2**64 - 2, 2**64 - 1)
+FLOATS = (0, SIGN, 1, GREATEST, INFINITY, CANONICAL_NAN, 0x3FF0000000000000, 0x4014000000000000)
+PLACES = {"s": 9, "e": 3, "o": 1, "f": 8, "m": 3, "t": 1}
+
+
+def damage(draw):
+    """A cell that is in use more often than not."""
+    store = draw.choice("sseeoofffmmpppnnttbvvwwPN")
+    number = draw.choice((draw.choice(EDGES), draw.randint(0, 8)))
+    if store in script.FLOAT_STORES:
+        number = draw.choice(FLOATS)
+    if store in PLACES:
+        return script.Damage(store, draw.randint(0, 4), draw.randrange(PLACES[store]), number % 2**32 if store == "o" else number)
+    if store in "pn":
+        return script.Damage(store, draw.choice((draw.randint(0, 12), draw.randint(0, 700))), 0, number)
+    if store == "b":
+        return script.Damage(store, draw.randint(0, 3), 0, number)
+    if store == "v":
+        return script.Damage(store, 0, draw.randrange(6), number)
+    if store == "w":
+        cell = draw.randrange(12)
+        return script.Damage(store, draw.randrange(3), cell, draw.choice(FLOATS) if cell > 8 else number)
+    return script.Damage(store, draw.randrange(3), draw.randint(0, 9), number)
+
+
+def make(name):
+    """Damage is mostly shown at once, and the map after a good part of all lines."""
+    draw = random.Random(name)
+    lines = []
+    for line in generate.make(name):
+        lines.append(line)
+        if draw.random() < 0.05:
+            lines.append(script.write_line(damage(draw)))
+        if draw.random() < 0.1:
+            lines.append("s")
+    return lines
+
+
+def answered(command, scripts):
+    done = subprocess.run(shlex.split(command), input=script.join_scripts(scripts), stdout=subprocess.PIPE, text=True)
+    return script.split_scripts(done.stdout)
+
+
+def differs(command, lines):
+    return answered(command, {"one": lines})["one"] != machine.answers(lines)
+
+
+def smallest(command, lines):
+    step = len(lines) // 2
+    while step:
+        start = 0
+        while start < len(lines):
+            fewer = lines[:start] + lines[start + step :]
+            if differs(command, fewer):
+                lines = fewer
+            else:
+                start += step
+        step //= 2
+    return lines
+
+
+def main():
+    parser = argparse.ArgumentParser(description=__doc__.splitlines()[0])
+    parser.add_argument("count", type=int)
+    parser.add_argument("command")
+    parser.add_argument("--seed", default="a")
+    given = parser.parse_args()
+    scripts = {name: make(name) for name in (f"{given.seed}.{i}" for i in range(given.count))}
+    ours = answered(given.command, scripts)
+    said = {name: machine.answers(lines) for name, lines in scripts.items()}
+    wrong = [name for name in scripts if ours.get(name) != said[name]]
+    for name in wrong[:3]:
+        lines = smallest(given.command, scripts[name])
+        print(f"DIFFERS {name}, smallest script:", *lines, "  the program:", *answered(given.command, {"one": lines})["one"], sep="\n    ")
+        print("  the model:", *machine.answers(lines), sep="\n    ")
+    numbers = sorted({int(a.split()[2]) for lines in said.values() for a in lines if a.startswith("!")})
+    print(f"{given.count} scripts, {sum(map(len, scripts.values()))} lines, {len(wrong)} differ; refusals met: {numbers}")
+    raise SystemExit(1 if wrong else 0)
+
+
+if __name__ == "__main__":
+    main()

@@ -41,10 +41,10 @@ fn places(used: usize, sets: &[[u64; 9]], order: &[u32]) -> crate::Placed
         if q > used {
             return crate::Placed::Broken;
         }
-        if !sets::rows::follows(i, &sets[p], &sets[q]) {
+        if !sets::set_row::follows(i, &sets[p], &sets[q]) {
             return crate::Placed::Broken;
         }
-        plain += sets::rows::plain_row(&sets[q]);
+        plain += sets::set_row::plain_row(&sets[q]);
         p = q;
         i += 1;
     }

@@ -27,7 +27,7 @@ fn find(used: usize, sets: &[[u64; 9]], order: &[u32], wanted: &[u64; 9]) -> cra
     while low < high {
         let mid = low + (high - low) / 2;
         let q = order[mid] as usize;
-        let w = sets::rows::compare(wanted, &sets[q]);
+        let w = sets::set_row::compare(wanted, &sets[q]);
         match w {
             sets::Way::Before => high = mid,
             sets::Way::Same => return crate::Found::Held(q),

@@ -24,7 +24,7 @@ fn stays(bindings: u64, updated: u64, row: &[u64; 9]) -> usize
     if row[8] == 0 {
         return 1;
     }
-    let n = sets::rows::plain_row(row);
+    let n = sets::set_row::plain_row(row);
     1 - n
 }
 

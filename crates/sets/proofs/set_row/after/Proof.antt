@@ -1,4 +1,4 @@
--- `sets::rows::after` meets its contract. Assumes nothing.
+-- `sets::set_row::after` meets its contract. Assumes nothing.
 use borrow.Author.Needs.{needs}
 use Prim.Native.Nat.{ℕ, _≤_, _<_, Ordering·eq, Ordering·gt}
 use mathlib.Core.Path.{_≡_}
@@ -11,8 +11,8 @@ use Rattle.tally.specs.Sets.{cmp}
 use Rattle.sets.specs.Rows.{size, setOf, below, soundb}
 use Rattle.sets.proofs.Keyed.{sound-some, sound-few}
 use Rattle.sets.proofs.Partings.{part-shorter, part-longer, part-same, part-low, part-high, keys-low, keys-longer, after-many, after-high, after-same, after-low}
-use Rattle.sets.proofs.rows.after.Statement.{statement}
-use Rattle.sets.proofs.rows.after.Tie as tie
+use Rattle.sets.proofs.set_row.after.Statement.{statement}
+use Rattle.sets.proofs.set_row.after.Tie as tie
 
 abbrev at : tie.After-parting → tie.Start
 at q = q .before .before .before .before

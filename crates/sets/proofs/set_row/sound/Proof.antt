@@ -1,10 +1,10 @@
--- `sets::rows::sound` meets its contract. Assumes nothing.
+-- `sets::set_row::sound` meets its contract. Assumes nothing.
 use borrow.Author.Needs.{needs}
 use mathlib.Core.Path.{sym, _∙_}
 use native.Mathlib.Omega.{arith}
 use Rattle.sets.proofs.Keyed.{unsound-none, unsound-many, sound-keys}
-use Rattle.sets.proofs.rows.sound.Statement.{statement}
-use Rattle.sets.proofs.rows.sound.Tie as tie
+use Rattle.sets.proofs.set_row.sound.Statement.{statement}
+use Rattle.sets.proofs.set_row.sound.Tie as tie
 
 element-copy-out-n : tie.Need-element-copy-out-n
 element-copy-out-n c = search needs

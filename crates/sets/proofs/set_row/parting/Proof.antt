@@ -1,4 +1,4 @@
--- `sets::rows::parting` meets its contract. Assumes nothing.
+-- `sets::set_row::parting` meets its contract. Assumes nothing.
 use borrow.Author.Needs.{needs}
 use Prim.Native.Nat.{ℕ, _-_, _≤_, _<_}
 use mathlib.Core.Path.{_≡_, sym, subst}
@@ -6,8 +6,8 @@ use mathlib.Core.Logic.{⊎-elim}
 use native.Mathlib.Nat.{eq-or-lt-of-le}
 use native.Mathlib.Omega.{arith}
 use lib.ListN.{getD}
-use Rattle.sets.proofs.rows.parting.Statement.{statement}
-use Rattle.sets.proofs.rows.parting.Tie as tie
+use Rattle.sets.proofs.set_row.parting.Statement.{statement}
+use Rattle.sets.proofs.set_row.parting.Tie as tie
 
 abbrev Inv-loop : tie.InvT-loop
 Inv-loop a b i₀ i = (i ≤ 8) × ((j : ℕ) → j < i → getD a j 0 ≡ getD b j 0)

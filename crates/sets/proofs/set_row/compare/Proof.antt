@@ -1,11 +1,11 @@
--- `sets::rows::compare` meets its contract. Assumes nothing.
+-- `sets::set_row::compare` meets its contract. Assumes nothing.
 use borrow.Author.Needs.{needs}
 use mathlib.Core.Path.{sym, ap}
 use native.Mathlib.Omega.{arith}
 use Rattle.sets.specs.Rows.{way}
 use Rattle.sets.proofs.Partings.{part-shorter, part-longer, part-same, part-low, part-high}
-use Rattle.sets.proofs.rows.compare.Statement.{statement}
-use Rattle.sets.proofs.rows.compare.Tie as tie
+use Rattle.sets.proofs.set_row.compare.Statement.{statement}
+use Rattle.sets.proofs.set_row.compare.Tie as tie
 
 abbrev at : tie.After-parting → tie.Start
 at q = q .before .before .before

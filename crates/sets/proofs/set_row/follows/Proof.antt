@@ -1,9 +1,9 @@
--- `sets::rows::follows` meets its contract. Assumes nothing.
+-- `sets::set_row::follows` meets its contract. Assumes nothing.
 use borrow.Author.Needs.{needs}
 use Rattle.sets.specs.Rows.{soundb}
 use Rattle.sets.proofs.Ways.{follow-first, follow-next}
-use Rattle.sets.proofs.rows.follows.Statement.{statement}
-use Rattle.sets.proofs.rows.follows.Tie as tie
+use Rattle.sets.proofs.set_row.follows.Statement.{statement}
+use Rattle.sets.proofs.set_row.follows.Tie as tie
 
 sound-requires : tie.Need-sound-requires
 sound-requires c κs = search needs

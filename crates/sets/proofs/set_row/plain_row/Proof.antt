@@ -1,10 +1,10 @@
--- `sets::rows::plain_row` meets its contract. Assumes nothing.
+-- `sets::set_row::plain_row` meets its contract. Assumes nothing.
 use borrow.Author.Needs.{needs}
 use mathlib.Core.Path.{sym}
 use Rattle.sets.proofs.Plains.{plain-over, plain-one, plain-many}
-use Rattle.sets.proofs.rows.plain_row.Statement.{statement}
+use Rattle.sets.proofs.set_row.plain_row.Statement.{statement}
 use borrow.Author.Needs.{needs}
-use Rattle.sets.proofs.rows.plain_row.Tie as tie
+use Rattle.sets.proofs.set_row.plain_row.Tie as tie
 
 element-copy-out-if1 : tie.Need-element-copy-out-if1
 element-copy-out-if1 c = search needs

@@ -1,4 +1,4 @@
--- `sets::rows::rises` meets its contract. Assumes nothing.
+-- `sets::set_row::rises` meets its contract. Assumes nothing.
 use borrow.Author.Needs.{needs}
 use Prim.Native.Nat.{ℕ, _-_, _≤_}
 use mathlib.Core.Path.{_≡_, sym, subst}
@@ -8,8 +8,8 @@ use borrow.Author.Tests.{lt-ltb, le-ltb}
 use Rattle.sets.specs.All.{allb}
 use Rattle.sets.specs.Rows.{keyAt}
 use Rattle.sets.proofs.Alls.{allb-yes, allb-more, allb-no}
-use Rattle.sets.proofs.rows.rises.Statement.{statement}
-use Rattle.sets.proofs.rows.rises.Tie as tie
+use Rattle.sets.proofs.set_row.rises.Statement.{statement}
+use Rattle.sets.proofs.set_row.rises.Tie as tie
 
 abbrev Inv-loop : tie.InvT-loop
 Inv-loop row from n i₀ i = (i ≤ n - 1) × (1 ≤ n) × (n ≤ 8) × (allb i (keyAt row) ≡ true)

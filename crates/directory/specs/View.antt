@@ -11,7 +11,7 @@ use Rattle.tally.specs.Sets.{Set, three, cmp, same}
 use Rattle.tally.specs.Kind.{Kind}
 use Rattle.tally.specs.Map.{Config, Entry, Map, plains, Agrees}
 use Rattle.sets.specs.All.{allb}
-use Rattle.sets.specs.Rows.{span, setOf, soundb, below}
+use Rattle.sets.specs.Rows.{span, size, setOf, soundb, below}
 use Rattle.directory.specs.declared.Directory.{Directory}
 use Rattle.directory.specs.declared.Found.{Found}
 use Rattle.directory.specs.declared.Found.the-variants.{Held, Room}
@@ -88,6 +88,13 @@ stepAt sets order used k = placeAt sets order used k && soundb (getD sets (getD 
 
 unfoldable pub placed : ℕ → List (List ℕ) → List ℕ → Placed
 placed used sets order = cond (allb used (stepAt sets order used)) (Plain (plainly sets order used)) Broken
+
+-- what lets places be tested faster: the named slots' sets are sound, with two attributes or more, and alike below a word that each has
+pub record Alike (used : ℕ) (sets : List (List ℕ)) (from : ℕ) : Type 0 where
+  pub sound : (x : ℕ) → 1 ≤ x → x ≤ used → soundb (getD sets x []) ≡ true
+  pub many : (x : ℕ) → 1 ≤ x → x ≤ used → 2 ≤ size (getD sets x [])
+  pub part : (x : ℕ) → 1 ≤ x → x ≤ used → from < size (getD sets x [])
+  pub word : (x : ℕ) → 1 ≤ x → x ≤ used → (j : ℕ) → j < from → getD (getD sets x []) j 0 ≡ getD (getD sets 1 []) j 0
 
 -- a scan of slots that ascend by set, from place i
 abbrev pub seek : Set → List (List ℕ) → List ℕ → ℕ → Found

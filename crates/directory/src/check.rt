@@ -1,8 +1,11 @@
 // Whether the directory agrees with itself, in one pass over its birth numbers and one over its places.
 ghost use mathlib.Core.Path.{_≡_};
+ghost use mathlib.Core.Bool.{true};
 ghost use Prim.Native.Nat.{_+_, _<_, _≤_};
 ghost use lib.ListN.{length};
-ghost use Rattle.directory.specs.View.{stores, bornb, placed, countsb, agreesb};
+ghost use Rattle.sets.specs.All.{allb};
+ghost use Rattle.directory.specs.declared.Placed.the-variants.{Plain};
+ghost use Rattle.directory.specs.View.{stores, bornb, stepAt, placed, countsb, agreesb, Alike};
 
 // Whether birth numbers rise along the slots, among those spent.
 fn births(used: usize, last: u64, entries: &[[u64; 3]]) -> bool
@@ -25,8 +28,8 @@ fn births(used: usize, last: u64, entries: &[[u64; 3]]) -> bool
     true
 }
 
-// Whether the places name sound slots ascending by set, and how many of these are plain.
-fn places(used: usize, sets: &[[u64; 9]], order: &[u32]) -> crate::Placed
+// Whether the places name sound slots ascending by set, and how many of these are plain: one by one.
+fn one_by_one(used: usize, sets: &[[u64; 9]], order: &[u32]) -> crate::Placed
     requires { ⌜ (used < length (now sets)) × (used ≤ length (now order)) ⌝ }
     ensures { λ r. ⌜ r ≡ placed used (now (sets .entry)) (now (order .entry)) ⌝ }
 {
@@ -49,6 +52,95 @@ fn places(used: usize, sets: &[[u64; 9]], order: &[u32]) -> crate::Placed
         i += 1;
     }
     crate::Placed::Plain(plain)
+}
+
+// The first word in which the sets of the named slots differ, where all are sound, with four attributes or more (smaller ones are compared as
+// fast), and have the same keys; else 8. The last one is looked at first, so that unlike sets mostly cost no pass.
+fn apart(used: usize, sets: &[[u64; 9]]) -> usize
+    requires { ⌜ (1 ≤ used) × (used < length (now sets)) ⌝ }
+    ensures { λ r. ⌜ (r < 8 → Alike used (now (sets .entry)) r) ⌝ }
+{
+    if sets[1][8] < 4 {
+        return 8;
+    }
+    let none: [u64; 9] = [0; 9];
+    let mut d = sets::set_row::differing(none, &sets[used], &sets[1]);
+    if !sets::set_row::same_keys(d) {
+        return 8;
+    }
+    let mut x: usize = 1;
+    while x < used {
+        let e = sets::set_row::differing(d, &sets[x], &sets[1]);
+        d = e;
+        x += 1;
+    }
+    if !sets::set_row::same_keys(d) {
+        return 8;
+    }
+    if !sets::set_row::sound(&sets[1]) {
+        return 8;
+    }
+    let from = sets::set_row::parting(&d, &none, 0);
+    if from as u64 >= sets[1][8] {
+        return 8;
+    }
+    from
+}
+
+// Whether the places name slots ascending by set, where the sets are alike below word `from`.
+fn ascends(used: usize, sets: &[[u64; 9]], order: &[u32], from: usize) -> bool
+    requires { ⌜ (1 ≤ used) × (used < length (now sets)) × (used ≤ length (now order)) × Alike used (now sets) from ⌝ }
+    ensures { λ r. ⌜ (r ≡ true → allb used (stepAt (now (sets .entry)) (now (order .entry)) used) ≡ true) ⌝ }
+{
+    let mut p = order[0] as usize;
+    if p < 1 {
+        return false;
+    }
+    if p > used {
+        return false;
+    }
+    let mut i: usize = 1;
+    while i < used {
+        let q = order[i] as usize;
+        if q < 1 {
+            return false;
+        }
+        if q > used {
+            return false;
+        }
+        if !sets::set_row::lower(&sets[p], &sets[q], from) {
+            return false;
+        }
+        p = q;
+        i += 1;
+    }
+    true
+}
+
+// Whether the places are right and the sets plain, where that shows in a pass without branches; few sets are compared as fast one by one.
+fn quick(used: usize, sets: &[[u64; 9]], order: &[u32]) -> bool
+    requires { ⌜ (used < length (now sets)) × (used ≤ length (now order)) ⌝ }
+    ensures { λ r. ⌜ (r ≡ true → placed used (now (sets .entry)) (now (order .entry)) ≡ Plain used) ⌝ }
+{
+    if used < 6 {
+        return false;
+    }
+    let from = apart(used, sets);
+    if from > 7 {
+        return false;
+    }
+    ascends(used, sets, order, from)
+}
+
+// Whether the places name sound slots ascending by set, and how many of these are plain.
+fn places(used: usize, sets: &[[u64; 9]], order: &[u32]) -> crate::Placed
+    requires { ⌜ (used < length (now sets)) × (used ≤ length (now order)) ⌝ }
+    ensures { λ r. ⌜ r ≡ placed used (now (sets .entry)) (now (order .entry)) ⌝ }
+{
+    if quick(used, sets, order) {
+        return crate::Placed::Plain(used);
+    }
+    one_by_one(used, sets, order)
 }
 
 // Whether the stored count is right.

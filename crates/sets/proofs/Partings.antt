@@ -77,6 +77,11 @@ module _ (a b : List ℕ) (r : ℕ) (p : Parted a b r) where
         let q = p .alike (k + 1) (omega arith) in
         key-lift a b k (key-rise a s k (omega arith)) (p .alike k (omega arith)) (omega (arith, q))
 
+-- rows that are alike below a word that decides
+pub part-first : (a b : List ℕ) (r : ℕ) → r < size a → size a ≤ 8 → r < size b → ((k : ℕ) → k < r → getD a k 0 ≡ getD b k 0) → getD a r 0 < getD b r 0
+    → cmp (setOf a) (setOf b) ≡ Ordering·lt
+part-first a b r h few k e l = part-low a b r (record { most = omega arith; alike = e; apart = λ u q. absurd (omega arith) }) h k l
+
 -- b sound and after a
 module _ (a b : List ℕ) where
   abbrev both : Bool

@@ -1,18 +1,20 @@
 // Rows that hold a set: how two lie to each other, and whether one is sound.
 ghost use mathlib.Core.Path.{_≡_};
 ghost use mathlib.Core.Bool.{true, _&&_, _||_};
-ghost use Prim.Native.Nat.{ℕ, _-_, _<_, _≤_};
+ghost use Prim.Native.Nat.{ℕ, _-_, _<_, _≤_, Ordering·lt};
 ghost use lib.Dec.{eqb};
+ghost use lib.ListN.{getD};
 ghost use Rattle.tally.specs.Sets.{cmp};
 ghost use Rattle.tally.specs.Map.{plain, bit};
 ghost use Rattle.sets.specs.All.{allb};
-ghost use Rattle.sets.specs.Rows.{size, setOf, way, below, keyAt, soundb, Parted};
+ghost use Rattle.sets.specs.Rows.{size, setOf, way, below, keyAt, soundb, joined, Parted, SameKeys};
 
-// The first word in which two rows differ, 8 if none does: at most 8 steps, which the compiler writes out.
-fn parting(a: &[u64; 9], b: &[u64; 9]) -> usize
+// The first word in which two rows differ that are alike below word `from`, 8 if none does: at most 8 steps, which the compiler writes out.
+pub fn parting(a: &[u64; 9], b: &[u64; 9], from: usize) -> usize
+    requires { ⌜ (from ≤ 8) × ((k : ℕ) → k < from → getD (now a) k 0 ≡ getD (now b) k 0) ⌝ }
     ensures { λ r. ⌜ Parted (now (a .entry)) (now (b .entry)) r ⌝ }
 {
-    let mut i: usize = 0;
+    let mut i: usize = from;
     while i < 8 {
         if a[i] != b[i] {
             return i;
@@ -29,7 +31,7 @@ pub fn compare(a: &[u64; 9], b: &[u64; 9]) -> crate::Way
 {
     let n = a[8] as usize;
     let m = b[8] as usize;
-    let i = parting(a, b);
+    let i = parting(a, b, 0);
     if i < n {
         if i >= m {
             return crate::Way::After;
@@ -64,7 +66,7 @@ fn rises(row: &[u64; 9], from: usize, n: usize) -> bool
 }
 
 // Whether a row holds 1 to 8 attributes with rising keys.
-fn sound(row: &[u64; 9]) -> bool
+pub fn sound(row: &[u64; 9]) -> bool
     ensures { λ r. ⌜ r ≡ soundb (now (row .entry)) ⌝ }
 {
     let n = row[8] as usize;
@@ -87,7 +89,7 @@ fn after(a: &[u64; 9], b: &[u64; 9]) -> bool
     if m > 8 {
         return false;
     }
-    let j = parting(a, b);
+    let j = parting(a, b, 0);
     if j < n {
         if j >= m {
             return false;
@@ -101,6 +103,53 @@ fn after(a: &[u64; 9], b: &[u64; 9]) -> bool
         return false;
     }
     rises(b, n - 1, m)
+}
+
+// Whether a's set comes before b's by a word that both have, where they are alike below word `from`. Mostly that word tells.
+pub fn lower(a: &[u64; 9], b: &[u64; 9], from: usize) -> bool
+    requires { ⌜ (from < size (now a)) × (size (now a) ≤ 8) × (from < size (now b)) × (size (now b) ≤ 8)
+        × ((k : ℕ) → k < from → getD (now a) k 0 ≡ getD (now b) k 0) ⌝ }
+    ensures { λ r. ⌜ (r ≡ true → cmp (setOf (now (a .entry))) (setOf (now (b .entry))) ≡ Ordering·lt) ⌝ }
+{
+    if a[from] < b[from] {
+        return true;
+    }
+    let j = parting(a, b, from);
+    if j as u64 >= a[8] {
+        return false;
+    }
+    if j as u64 >= b[8] {
+        return false;
+    }
+    a[j] < b[j]
+}
+
+// The bits of d, and those in which two rows differ.
+pub fn differing(d: [u64; 9], a: &[u64; 9], b: &[u64; 9]) -> [u64; 9]
+    ensures { λ r. ⌜ r ≡ joined d (now (a .entry)) (now (b .entry)) ⌝ }
+{
+    [
+        d[0] | (a[0] ^ b[0]),
+        d[1] | (a[1] ^ b[1]),
+        d[2] | (a[2] ^ b[2]),
+        d[3] | (a[3] ^ b[3]),
+        d[4] | (a[4] ^ b[4]),
+        d[5] | (a[5] ^ b[5]),
+        d[6] | (a[6] ^ b[6]),
+        d[7] | (a[7] ^ b[7]),
+        d[8] | (a[8] ^ b[8]),
+    ]
+}
+
+// Whether rows that differ in the bits d have the same size and the same keys. All words are joined first: so the compiler keeps a loop
+// over `differing` in vectors.
+pub fn same_keys(d: [u64; 9]) -> bool
+    ensures { λ r. ⌜ (r ≡ true → SameKeys d) ⌝ }
+{
+    if d[8] != 0 {
+        return false;
+    }
+    d[0] | d[1] | d[2] | d[3] | d[4] | d[5] | d[6] | d[7] < 4294967296
 }
 
 // Whether b is sound and may follow a at place i: at place 0 whatever a is.

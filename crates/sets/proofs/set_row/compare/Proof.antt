@@ -17,7 +17,7 @@ element-copy-out-m : tie.Need-element-copy-out-m
 element-copy-out-m c = search needs
 
 parting-requires : tie.Need-parting-requires
-parting-requires c κs = search needs
+parting-requires c κs = (omega arith, (λ k h. absurd (omega arith)))
 
 returns : tie.Need-returns
 returns c =

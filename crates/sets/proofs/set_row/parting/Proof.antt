@@ -10,13 +10,13 @@ use Rattle.sets.proofs.set_row.parting.Statement.{statement}
 use Rattle.sets.proofs.set_row.parting.Tie as tie
 
 abbrev Inv-loop : tie.InvT-loop
-Inv-loop a b i₀ i = (i ≤ 8) × ((j : ℕ) → j < i → getD a j 0 ≡ getD b j 0)
+Inv-loop a b from i₀ i = (i ≤ 8) × ((j : ℕ) → j < i → getD a j 0 ≡ getD b j 0)
 
 abbrev μ-loop : tie.MeasureT-loop
-μ-loop a b i₀ i = 8 - i
+μ-loop a b from i₀ i = 8 - i
 
 loop-holds : tie.Need-loop-holds Inv-loop μ-loop
-loop-holds c = (omega arith, (λ j h. absurd (omega arith)))
+loop-holds c = c .pre
 
 mul-if1 : tie.Need-mul-if1 Inv-loop μ-loop
 mul-if1 c = search needs

@@ -1,6 +1,6 @@
 // Where a set, or a handle, stands in the directory.
 ghost use mathlib.Core.Path.{_≡_};
-ghost use mathlib.Core.Bool.{_&&_};
+ghost use mathlib.Core.Bool.{true, _&&_};
 ghost use mathlib.Core.List.{[], _∷_};
 ghost use Prim.Native.Nat.{ℕ, suc, _+_, _<_, _≤_, Ordering·lt};
 ghost use lib.Dec.{eqb, ltb};
@@ -8,7 +8,8 @@ ghost use lib.ListN.{length, getD};
 ghost use Rattle.tally.specs.Sets.{cmp};
 ghost use Rattle.sets.specs.Rows.{span, size, setOf};
 ghost use Rattle.directory.specs.Calls.{located, scan};
-ghost use Rattle.directory.specs.View.{stores, sought};
+ghost use Rattle.directory.specs.View.{stores, birthAt, sought};
+ghost use Rattle.directory.specs.declared.Found.the-variants.{Held};
 
 // Where a set stands in a directory whose places are right, by halving.
 fn find(used: usize, sets: &[[u64; 9]], order: &[u32], wanted: &[u64; 9]) -> crate::Found
@@ -50,8 +51,8 @@ fn names(birth: u64, bindings: u64, h: u64) -> bool
     false
 }
 
-// The slot that a handle names, if it has bindings; else `Room`, which number 7 refuses.
-pub fn by_handle(used: usize, entries: &[[u64; 3]], order: &[u32], h: u64) -> crate::Found
+// The slot that a handle names, if it has bindings; else `Room`: along the places.
+fn by_places(used: usize, entries: &[[u64; 3]], order: &[u32], h: u64) -> crate::Found
     requires { ⌜ (used < length (now entries)) × (used ≤ length (now order))
         × ((k : ℕ) → k < used → (1 ≤ getD (now order) k 0) × (getD (now order) k 0 ≤ used)) ⌝ }
     ensures { λ r. ⌜ r ≡ scan h (now (entries .entry)) (0 ∷ span (now (order .entry)) 0 used) ⌝ }
@@ -68,6 +69,40 @@ pub fn by_handle(used: usize, entries: &[[u64; 3]], order: &[u32], h: u64) -> cr
         i += 1;
     }
     crate::Found::Room(0)
+}
+
+// The slot that has the handle's number, if the handle names it; else 0. Until a set is removed each slot's number is its birth number.
+fn own_slot(used: usize, entries: &[[u64; 3]], h: u64) -> usize
+    requires { ⌜ used < length (now entries) ⌝ }
+    ensures { λ r. ⌜ (1 ≤ r → (r ≤ used) × ((eqb (birthAt (now (entries .entry)) r) h && ltb 0 (getD (getD (now (entries .entry)) r []) 1 0)) ≡ true)) ⌝ }
+{
+    if h < 1 {
+        return 0;
+    }
+    if h > used as u64 {
+        return 0;
+    }
+    let x = h as usize;
+    if names(entries[x][0], entries[x][1], h) {
+        return x;
+    }
+    0
+}
+
+// The slot that a handle names, if it has bindings; else `Room`, which number 7 refuses. A named slot with its birth number is the one that a
+// scan finds.
+pub fn by_handle(used: usize, entries: &[[u64; 3]], order: &[u32], h: u64) -> crate::Found
+    requires { ⌜ (used < length (now entries)) × (used ≤ length (now order))
+        × ((k : ℕ) → k < used → (1 ≤ getD (now order) k 0) × (getD (now order) k 0 ≤ used))
+        × ((x : ℕ) → 1 ≤ x → x ≤ used → (eqb (birthAt (now entries) x) h && ltb 0 (getD (getD (now entries) x []) 1 0)) ≡ true
+        → scan h (now entries) (0 ∷ span (now order) 0 used) ≡ Held x) ⌝ }
+    ensures { λ r. ⌜ r ≡ scan h (now (entries .entry)) (0 ∷ span (now (order .entry)) 0 used) ⌝ }
+{
+    let x = own_slot(used, entries, h);
+    if x > 0 {
+        return crate::Found::Held(x);
+    }
+    by_places(used, entries, order, h)
 }
 
 // Where a call with a set goes: its own slot or a new one, that of overflow held or new; or `Disagrees`, which number 8 refuses.

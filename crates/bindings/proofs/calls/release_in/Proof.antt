@@ -12,6 +12,7 @@ use Rattle.directory.specs.Calls.{scan}
 use Rattle.directory.specs.View.{Stores, agreesb}
 use Rattle.directory.specs.declared.Found.the-variants.{Held}
 use Rattle.directory.proofs.Agreed.{place-slot}
+use Rattle.directory.proofs.Handles.{scan-own}
 use Rattle.directory.proofs.Finds.{scan-bound}
 use Rattle.directory.proofs.Laws.{few, places-right, slot-used, scan-in, slotsOf}
 use Rattle.laws.specs.Said.{success}
@@ -58,7 +59,7 @@ by-handle-requires : tie.Need-by-handle-requires
 by-handle-requires c κs =
     let e = c .before in
     let s = start e in
-    (omega (arith, few-of e, s .pre .1), omega (arith, few-of e, s .pre .2), place-slot (s .args .d .used) (s .args .sets .now) (s .args .order .now) (places-right (s .args .limit) (s .args .d) (stores s) (right e)))
+    (omega (arith, few-of e, s .pre .1), omega (arith, few-of e, s .pre .2), place-slot (s .args .d .used) (s .args .sets .now) (s .args .order .now) (places-right (s .args .limit) (s .args .d) (stores s) (right e)), scan-own (s .args .limit) (s .args .d) (stores s) (right e) (s .args .h))
 
 enum-told : tie.Need-enum-told
 enum-told c = search needs

@@ -10,4 +10,5 @@ pub mod Bitwise
 pub mod Moved
 pub mod Attributes
 pub mod Exact
+pub mod Rising
 pub mod CallRow

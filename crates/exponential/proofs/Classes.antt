@@ -17,19 +17,19 @@ use Rattle.points.proofs.Kept.{ValueIn}
 use Rattle.index.specs.Magnitude.{magnitude, isNegative}
 use Rattle.index.specs.Bins.{finest, finestBin, endBin}
 use Rattle.index.specs.Answers.{binOf}
-use Rattle.index.specs.declared.Bin.the-variants.{Zero, At}
+use Rattle.index.specs.declared.Bin.the-variants.{Zero, At as BinAt}
 use Rattle.index.proofs.Laws.{bin-range}
 use Rattle.exponential.specs.Steps.{coarse}
 use Rattle.exponential.specs.Series.{lowestOfAll, classAt, valueOf, Within}
 
 -- what the index answers at a level is the value's class there
-by-sign : (d i : ℕ) (negative : Bool) → valueOf (classAt (At negative (i / 2 ^ d))) ≡ coarse d (pick negative (minus i) (plus i))
+by-sign : (d i : ℕ) (negative : Bool) → valueOf (classAt (BinAt negative (i / 2 ^ d))) ≡ coarse d (pick negative (minus i) (plus i))
 unfolding pick
 by-sign d i true = refl
 by-sign d i false = refl
 
 by-zero : (z : Bool) (d i : ℕ) (negative : Bool)
-    → valueOf (classAt (pick z Zero (At negative (i / 2 ^ d)))) ≡ coarse d (pick z naught (pick negative (minus i) (plus i)))
+    → valueOf (classAt (pick z Zero (BinAt negative (i / 2 ^ d)))) ≡ coarse d (pick z naught (pick negative (minus i) (plus i)))
 unfolding pick
 by-zero true d i negative = refl
 by-zero false d i negative = by-sign d i negative
@@ -77,11 +77,10 @@ end-at level i h t =
     let e : endBin level * 2 ^ (finest - level) ≡ endBin finest = mul-assoc 3 (2 ^ level) (2 ^ (finest - level)) ∙ ap (λ n. 3 * n) (sym (pow-add 2 level (finest - level)) ∙ ap (λ n. 2 ^ n) q) in
     div-lt-iff-lt-mul (pow-pos (finest - level)) .1 (subst (λ (n : ℕ). i < n) (sym e) t)
 
-within-in : (z negative : Bool) (b level : ℕ) → (z ≡ false → b < endBin level) → Within level (classAt (pick z Zero (At negative b)))
+within-in : (z negative : Bool) (b level : ℕ) → (z ≡ false → b < endBin level) → Within level (classAt (pick z Zero (BinAt negative b)))
 unfolding pick
 within-in true negative b level h = tt
-within-in false true b level h = h refl
-within-in false false b level h = h refl
+within-in false negative b level h = h refl
 
 pub within-of : (v : Float) (level : ℕ) → level ≤ finest → fits binary64 v ≡ true → finite v ≡ true → Within level (classAt (binOf v level))
 unfolding binOf pick

@@ -5,6 +5,7 @@ pub mod Rowed
 pub mod Facts
 pub mod Classes
 pub mod Write
+pub mod Raises
 pub mod Warm
 pub mod Wraps
 pub mod Call

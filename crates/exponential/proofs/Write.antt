@@ -111,22 +111,11 @@ module _ (size : ℕ) (c : Counts) (xs ys : List ℕ) (g : c .level ≤ finest) 
         neg = n .now;
       }
 
-  pub written-minus : (bin k : ℕ) (to other : Row) (xs' ys' : List ℕ) → k ≤ c .level
-      → k ≡ lowerBy size (c .neg) ys bin
-      → Laid (rowTo size (c .neg) ys bin) ys to ys'
-      → Laid (rowOther size (c .neg) ys (c .pos) xs bin) xs other xs'
-      → Written (placed size (read c xs ys) (minus bin)) xs ys (record { count = c .count + 1; zeros = c .zeros; level = c .level - k; pos = other; neg = to }) xs' ys'
-  unfolding placed
-  written-minus bin k to other xs' ys' h e n p =
-      let q = level-is (c .level) k (lowerBy size (c .neg) ys bin) e h g in
-      record {
-        counts = λ j. record {
-          count = c .count + 1;
-          zeros = c .zeros;
-          level = q j;
-          pos = record { start = p .start j; len = p .len j };
-          neg = record { start = n .start j; len = n .len j };
-        };
-        pos = p .now;
-        neg = n .now;
-      }
+-- the same below zero: the rows change places
+abbrev pub swapped : Counts → Counts
+swapped c = record { count = c .count; zeros = c .zeros; level = c .level; pos = c .neg; neg = c .pos }
+
+pub written-swap : (size bin : ℕ) (c r : Counts) (xs ys xs' ys' : List ℕ)
+    → Written (placed size (read (swapped c) ys xs) (plus bin)) ys xs r ys' xs' → Written (placed size (read c xs ys) (minus bin)) xs ys (swapped r) xs' ys'
+unfolding placed
+written-swap size bin c r xs ys xs' ys' w = record { counts = ap swapped (w .counts); pos = w .neg; neg = w .pos }

@@ -1,7 +1,7 @@
 -- A series in a head and two lent rows: what it holds, when it agrees with itself, what recording does. Assumes nothing.
 use Prim.Native.Nat.{ℕ, _+_, _-_, _/_, _%_, _^_, _≤_, _<_}
 use mathlib.Core.Path.{_≡_}
-use mathlib.Core.Bool.{Bool, true}
+use mathlib.Core.Bool.{Bool, true, false}
 use mathlib.Core.List.{List}
 use lib.Dec.{leb, eqb}
 use lib.ListN.{length, take}
@@ -12,7 +12,7 @@ use Rattle.laws.specs.Said.{Said, refusal, success}
 use Rattle.laws.specs.Counting.{sum, total}
 use Rattle.index.specs.Bins.{finest, lowestBin, endBin}
 use Rattle.index.specs.declared.Bin.{Bin}
-use Rattle.index.specs.declared.Bin.the-variants.{NoLevel, NotFinite, Zero, At}
+use Rattle.index.specs.declared.Bin.the-variants.{NoLevel, NotFinite, Zero, At as BinAt}
 use Rattle.floats.specs.Answers.{lesserOf, greaterOf}
 use Rattle.floats.specs.Starts.{zeroFloat}
 use Rattle.points.specs.Points as P
@@ -20,13 +20,13 @@ use Rattle.points.specs.Points.{Point, Value, naught, plus, minus, record1}
 use Rattle.points.specs.Agreement as A
 pub use Rattle.points.specs.Figures.{leastSize, mostSize}
 use Rattle.points.specs.Values.{classOf}
-use Rattle.rows.specs.Rows.{over}
+use Rattle.rows.specs.Rows.{over, recorded, holds}
 use Rattle.rows.specs.declared.Row.{Row}
 use Rattle.exponential.specs.declared.Counts.{Counts}
 use Rattle.exponential.specs.declared.Head.{Head}
 use Rattle.exponential.specs.declared.Halves.{Halves}
 use Rattle.exponential.specs.declared.Class.{Class}
-use Rattle.exponential.specs.declared.Class.the-variants.{Naught, Plus, Minus}
+use Rattle.exponential.specs.declared.Class.the-variants.{Naught, At}
 use Rattle.exponential.specs.declared.Answer.{Answer}
 use Rattle.exponential.specs.declared.Answer.the-variants.{Recorded, Refused}
 use Rattle.exponential.specs.Steps.{lowered, with1, needed}
@@ -92,12 +92,16 @@ abbrev pub classAt : Bin → Class
 classAt NoLevel = Naught
 classAt NotFinite = Naught
 classAt Zero = Naught
-classAt (At negative bin) = pick negative (Minus bin) (Plus bin)
+classAt (BinAt negative bin) = At negative bin
+
+-- the bin of a value with a sign
+abbrev pub signed : Bool → ℕ → Value
+signed true bin = minus bin
+signed false bin = plus bin
 
 abbrev pub valueOf : Class → Value
 valueOf Naught = naught
-valueOf (Plus bin) = plus bin
-valueOf (Minus bin) = minus bin
+valueOf (At negative bin) = signed negative bin
 
 -- c, xs' and ys': the point p laid over the rows
 pub record Written (p : Point) (xs ys : List ℕ) (c : Counts) (xs' ys' : List ℕ) : Type 0 where
@@ -128,6 +132,25 @@ pub record Room (size : ℕ) (a : Row) (xs : List ℕ) (b : Row) (ys : List ℕ)
   pub counts : total (take (a .len) xs) + 1 < 2 ^ 64
   pub others : total (take (b .len) ys) < 2 ^ 64
 
+-- ---- one more in the row of a sign that has the bin: a at the front of xs above zero, b at the front of ys below it
+
+-- either row is no longer than either list, and none is full
+pub record Beside (a : Row) (xs : List ℕ) (b : Row) (ys : List ℕ) : Type 0 where
+  pub pos : (a .len ≤ length xs) × (a .len ≤ length ys)
+  pub neg : (b .len ≤ length ys) × (b .len ≤ length xs)
+  pub posCounts : total (take (a .len) xs) + 1 < 2 ^ 64
+  pub negCounts : total (take (b .len) ys) + 1 < 2 ^ 64
+
+-- whether the row has it, r; one more there if it has, and the other list as it was
+pub record Raised (a : Row) (bin : ℕ) (r : Bool) (xs ys xs' ys' : List ℕ) : Type 0 where
+  pub has : r ≡ holds (a .start) (a .len) bin
+  pub here : xs' ≡ pick r (over (recorded (a .start) (take (a .len) xs) bin) xs) xs
+  pub beside : ys' ≡ ys
+
+abbrev pub Tried : Bool → Row → Row → ℕ → Bool → List ℕ → List ℕ → List ℕ → List ℕ → Type 0
+Tried true a b bin r xs ys xs' ys' = Raised b bin r ys xs ys' xs'
+Tried false a b bin r xs ys xs' ys' = Raised a bin r xs ys xs' ys'
+
 -- the greatest count
 abbrev pub mostCount : ℕ
 mostCount = 18446744073709551615
@@ -139,8 +162,7 @@ oneMore c k p n = record { count = c .count + 1; zeros = c .zeros; level = c .le
 -- a series that agrees and can take one more
 abbrev pub Within : ℕ → Class → Type 0
 Within level Naught = Unit {0}
-Within level (Plus bin) = bin < endBin level
-Within level (Minus bin) = bin < endBin level
+Within level (At negative bin) = bin < endBin level
 
 pub record Ready (size top : ℕ) (c : Counts) (xs ys : List ℕ) (k : Class) : Type 0 where
   pub agree : agrees size top c xs ys ≡ true

@@ -11,7 +11,7 @@ ghost use Rattle.exponential.specs.Steps.{lowered, with1, lowBin, highBi
 ghost use Rattle.laws.specs.Pick.{pick};
 ghost use Rattle.exponential.specs.Runs.{freshHead};
 ghost use Rattle.exponential.specs.Series.{mostSize, mostCount, rowIn, Laid, read, Written, rowAgrees, halved, addsUp, agrees};
-ghost use Rattle.exponential.specs.Series.{classAt, valueOf, lowerBy, rowTo, rowOther, Room, oneMore, Ready};
+ghost use Rattle.exponential.specs.Series.{classAt, signed, valueOf, lowerBy, rowTo, rowOther, Room, oneMore, Beside, Tried, Ready};
 ghost use Rattle.exponential.specs.Series.{refusalOf, said, outcome, recording};
 use rows::Row;
 
@@ -283,8 +283,7 @@ fn put(size: usize, a: &mut [u64], to: Row, b: &mut [u64], other: Row, bin: u32)
 // What is counted of a value: a zero, or its bin at the series' level in the row of its sign.
 pub enum Class {
     Naught,
-    Plus(u32),
-    Minus(u32),
+    At { negative: bool, bin: u32 },
 }
 
 fn class_of(v: f64, level: u32) -> Class
@@ -295,13 +294,7 @@ fn class_of(v: f64, level: u32) -> Class
         index::Bin::NoLevel => Class::Naught,
         index::Bin::NotFinite => Class::Naught,
         index::Bin::Zero => Class::Naught,
-        index::Bin::At { negative, bin } => {
-            if negative {
-                Class::Minus(bin)
-            } else {
-                Class::Plus(bin)
-            }
-        }
+        index::Bin::At { negative, bin } => Class::At { negative, bin },
     }
 }
 
@@ -317,6 +310,75 @@ fn one_more(c: Counts, k: u32, pos: Row, neg: Row) -> Counts
         pos,
         neg,
     }
+}
+
+// The row of a sign.
+fn signed_row(negative: bool, pos: Row, neg: Row) -> Row
+    ensures { λ r. ⌜ r ≡ pick negative neg pos ⌝ }
+{
+    if negative {
+        return neg;
+    }
+    pos
+}
+
+// 1 where the value is of that sign.
+fn one_if(negative: bool) -> u64
+    ensures { λ r. ⌜ r ≡ pick negative 1 0 ⌝ }
+{
+    if negative {
+        return 1;
+    }
+    0
+}
+
+// One more at bin where the row of its sign has it, and whether it has: most values of a warm series fall so. The signs of values are random, so
+// none is asked: one is added to the one row, and none to the other.
+fn raise(p: Row, n: Row, pos: &mut [u64], neg: &mut [u64], negative: bool, bin: u32) -> bool
+    requires { ⌜ Beside p (now pos) n (now neg) ⌝ }
+    ensures { λ r. ⌜ Tried negative p n bin r (now (pos .entry)) (now (neg .entry)) (now (pos .exit)) (now (neg .exit)) ⌝ }
+{
+    let row = signed_row(negative, p, n);
+    let start = row.start;
+    if bin < start {
+        return false;
+    }
+    let k = (bin - start) as usize;
+    if row.len <= k {
+        return false;
+    }
+    let m = one_if(negative);
+    pos[k] += 1 - m;
+    neg[k] += m;
+    true
+}
+
+// One more at bin in the row of its sign, both rows as many levels lower as that needs.
+fn place_at(
+    size: usize,
+    top: u32,
+    c: Counts,
+    pos: &mut [u64],
+    neg: &mut [u64],
+    negative: bool,
+    bin: u32,
+) -> Counts
+    requires { ⌜ Ready size top c (now pos) (now neg) (Class.At negative bin) ⌝ }
+    ensures { λ r. ⌜ Written (placed size (read c (now (pos .entry)) (now (neg .entry))) (signed negative bin))
+        (now (pos .entry)) (now (neg .entry)) r (now (pos .exit)) (now (neg .exit)) ⌝ }
+{
+    let p = c.pos;
+    let n = c.neg;
+    if negative {
+        let w = put(size, neg, n, pos, p, bin);
+        let to = w.to;
+        let other = w.other;
+        return one_more(c, w.k, other, to);
+    }
+    let w = put(size, pos, p, neg, n, bin);
+    let to = w.to;
+    let other = w.other;
+    one_more(c, w.k, to, other)
 }
 
 // One value more: a row that has its bin stays where it is, and so does the other.
@@ -335,23 +397,11 @@ fn add(size: usize, top: u32, c: Counts, pos: &mut [u64], neg: &mut [u64], class
             pos: p,
             neg: n,
         },
-        Class::Plus(bin) => {
-            if rows::raise(pos, p, bin) {
+        Class::At { negative, bin } => {
+            if raise(p, n, pos, neg, negative, bin) {
                 return one_more(c, 0, p, n);
             }
-            let w = put(size, pos, p, neg, n, bin);
-            let to = w.to;
-            let other = w.other;
-            one_more(c, w.k, to, other)
-        }
-        Class::Minus(bin) => {
-            if rows::raise(neg, n, bin) {
-                return one_more(c, 0, p, n);
-            }
-            let w = put(size, neg, n, pos, p, bin);
-            let to = w.to;
-            let other = w.other;
-            one_more(c, w.k, other, to)
+            place_at(size, top, c, pos, neg, negative, bin)
         }
     }
 }

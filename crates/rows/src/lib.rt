@@ -2,9 +2,8 @@
 ghost use mathlib.Core.Path.{_≡_};
 ghost use Prim.Native.Nat.{_+_, _/_, _^_, _<_, _≤_};
 ghost use lib.ListN.{length, take, getD};
-ghost use Rattle.rows.specs.Rows.{over, addAt, downscaled, recorded, recordedFrom, holds, lowering, zeroed, shifted};
+ghost use Rattle.rows.specs.Rows.{over, addAt, downscaled, recorded, recordedFrom, lowering, zeroed, shifted};
 ghost use Rattle.laws.specs.Counting.{total};
-ghost use Rattle.laws.specs.Pick.{pick};
 
 // A row: the bin of its first count, and how many counts it has.
 pub struct Row {
@@ -101,27 +100,6 @@ pub fn record(counts: &mut [u64], row: Row, index: u32) -> Row
     zero(counts, n, k);
     counts[k] = 1;
     Row { start, len: k + 1 }
-}
-
-// One more at index where the row has it, and whether it has: most values of a warm series fall so.
-pub fn raise(counts: &mut [u64], row: Row, index: u32) -> bool
-    requires { ⌜ row .len ≤ length (now counts) ⌝ }
-    requires { ⌜ total (take (row .len) (now counts)) + 1 < 2 ^ 64 ⌝ }
-    ensures { λ r. ⌜ r ≡ holds (row .start) (row .len) index ⌝ }
-    ensures { λ r. ⌜ now (counts .exit) ≡ pick (holds (row .start) (row .len) index)
-        (over (recorded (row .start) (take (row .len) (now (counts .entry))) index) (now (counts .entry))) (now (counts .entry)) ⌝ }
-{
-    let start = row.start;
-    let n = row.len;
-    if index < start {
-        return false;
-    }
-    let k = (index - start) as usize;
-    if n <= k {
-        return false;
-    }
-    counts[k] += 1;
-    true
 }
 
 // The least number of levels lower at which the bins from lo to hi are at most size.

@@ -1,8 +1,6 @@
-use Prim.Native.Nat.{_-_}
-use mathlib.Core.Path.{refl, sym, ap, _∙_}
+use mathlib.Core.Path.{sym, ap, _∙_}
 use borrow.Author.Needs.{needs}
 use Rattle.exponential.specs.Series.{classAt}
-use Rattle.laws.specs.Pick.{pick}
 use Rattle.exponential.proofs.class_of.Statement.{statement}
 use Rattle.exponential.proofs.class_of.Tie as tie
 
@@ -31,13 +29,8 @@ returns-3 : tie.Need-returns-3
 returns-3 c = sym (ap classAt (sym (c .before .before .get-bin .ensures) ∙ c .enum-told3 .given .1))
 
 returns-4 : tie.Need-returns-4
-unfolding pick
-returns-4 c = sym (ap classAt (sym (c .before .before .before .before .get-bin .ensures) ∙ c .before .before .b .given .1) ∙ rw (c .if1 .taken) refl)
-
-returns-5 : tie.Need-returns-5
-unfolding pick
-returns-5 c = sym (ap classAt (sym (c .before .before .before .before .get-bin .ensures) ∙ c .before .before .b .given .1) ∙ rw (c .if1 .left) refl)
+returns-4 c = sym (ap classAt (sym (c .before .before .before .get-bin .ensures) ∙ c .before .b .given .1))
 
 pub class-of-spec : {M : Type 1} → statement M
 class-of-spec =
-    tie.close (tie.spec get-bin-requires enum-told enum-told-2 enum-told-3 enum-known-b returns returns-2 returns-3 returns-4 returns-5)
+    tie.close (tie.spec get-bin-requires enum-told enum-told-2 enum-told-3 enum-known-b returns returns-2 returns-3 returns-4)

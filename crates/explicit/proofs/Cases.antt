@@ -6,35 +6,64 @@ use mathlib.Core.Bool.{Bool, true, false}
 use mathlib.Core.List.{List, [], _∷_}
 use native.Mathlib.Omega.{arith}
 use lib.Dec.{leb, eqb}
-use lib.ListN.{length, take, length-take}
+use lib.ListN.{length, take, getD, length-take}
 use lib.Seq.{length-take-le}
-use lib.Ieee.{Float}
+use lib.Ieee.{Float, nan, inf, fin, lt, isNan}
 use lib.Ieee.Scale.{finite}
 use borrow.Author.Tests.{leb-true, le-leb, lt-leb, ne-eqb, eqb-true, eqb-false}
 use Rattle.laws.specs.Pick.{pick, _and_}
 use Rattle.laws.specs.Counting.{total}
-use Rattle.laws.proofs.Bools.{flag, and-left}
+use Rattle.laws.proofs.Bools.{flag, not-both, and-left, and-right}
 use Rattle.points.specs.Explicit.{noNan, rising, boundsPass, bucketCount, Buckets, bucketsAgree}
 use Rattle.points.proofs.Explicit.{BucketsOk, buckets-say, buckets-agree}
 use Rattle.exponential.proofs.Facts.{halves-same, halves-low, halves-high, eqb-iff}
 use Rattle.explicit.specs.declared.Head.{Head}
 use Rattle.explicit.specs.Series.{mostCount, bucketsIn, refusalOf}
+use Rattle.explicit.proofs.Turns.{and-false}
 
 -- ---- bounds
 
-module _ (bs : List Float) where
-  pub too-many : 159 < length bs → false ≡ boundsPass bs
-  unfolding boundsPass _and_
-  too-many h = rw (lt-leb (length bs) 159 h) refl
+never-nan : (b : Float) → lt b nan ≡ false
+unfolding lt
+never-nan nan = refl
+never-nan (inf s) = refl
+never-nan (fin s m e) = refl
 
-  module _ (h : length bs ≤ 159) where
-    pub with-nan : noNan bs ≡ false → false ≡ boundsPass bs
-    unfolding boundsPass _and_
-    with-nan n = rw (le-leb (length bs) 159 h, n) refl
+above-nothing : (b c : Float) → lt b c ≡ true → isNan c ≡ false
+unfolding isNan
+above-nothing b nan h = absurd (not-both (lt b nan) h (never-nan b))
+above-nothing b (inf s) h = refl
+above-nothing b (fin s m e) h = refl
 
-    pub by-rising : noNan bs ≡ true → rising bs ≡ boundsPass bs
-    unfolding boundsPass _and_
-    by-rising n = rw (le-leb (length bs) 159 h, n) refl
+-- rising bounds have no NaN behind the first
+rising-numbers : (b : Float) (bs : List Float) → isNan b ≡ false → rising (b ∷ bs) ≡ true → noNan (b ∷ bs) ≡ true
+unfolding noNan rising _and_
+rising-numbers b [] n h = rw n refl
+rising-numbers b (c ∷ bs) n h =
+    rw n (rising-numbers c bs (above-nothing b c (and-left (lt b c) (rising (c ∷ bs)) h)) (and-right (lt b c) (rising (c ∷ bs)) h))
+
+pub too-many : (bs : List Float) → 159 < length bs → false ≡ boundsPass bs
+unfolding boundsPass _and_
+too-many bs h = rw (lt-leb (length bs) 159 h) refl
+
+pub no-bounds : (bs : List Float) → length bs ≡ 0 → true ≡ boundsPass bs
+unfolding boundsPass noNan rising _and_
+no-bounds [] h = refl
+no-bounds (b ∷ bs) h = absurd (omega arith)
+
+pub nan-first : (bs : List Float) → length bs ≤ 159 → (length bs ≡ 0 → ⊥) → isNan (getD bs 0 nan) ≡ true → false ≡ boundsPass bs
+unfolding boundsPass noNan _and_
+nan-first [] h p n = absurd (p refl)
+nan-first (b ∷ bs) h p n = rw (le-leb (length (b ∷ bs)) 159 h, n) refl
+
+pub by-rising : (bs : List Float) → length bs ≤ 159 → (length bs ≡ 0 → ⊥) → isNan (getD bs 0 nan) ≡ false → rising bs ≡ boundsPass bs
+unfolding boundsPass _and_
+by-rising [] h p n = absurd (p refl)
+by-rising (b ∷ bs) h p n =
+    ⊎-elim
+    (λ (t : rising (b ∷ bs) ≡ true). rw (le-leb (length (b ∷ bs)) 159 h, rising-numbers b bs n t) refl)
+    (λ (t : rising (b ∷ bs) ≡ false). rw (le-leb (length (b ∷ bs)) 159 h, t) (sym (and-false (noNan (b ∷ bs)))))
+    (flag (rising (b ∷ bs)))
 
 pub few : (bs : List Float) → boundsPass bs ≡ true → length bs ≤ 159
 unfolding boundsPass

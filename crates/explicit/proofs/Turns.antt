@@ -1,16 +1,16 @@
 -- What a turn of each loop over bounds and counts does. Assumes nothing.
 use Prim.Native.Nat.{ℕ, suc, _+_, _-_, _≤_, _<_}
 use mathlib.Core.Path.{_≡_, refl, ap, sym, _∙_}
-use mathlib.Core.Bool.{Bool, true, false, not}
+use mathlib.Core.Bool.{Bool, true, false}
 use mathlib.Core.List.{List, [], _∷_, _++_, append-assoc}
 use native.Mathlib.Numerals.{add-one}
 use native.Mathlib.Omega.{arith}
 use lib.ListN.{length, take, getD}
 use lib.Seq.{take-suc, length-take-le}
-use lib.Ieee.{Float, nan, lt, eq, isNan}
+use lib.Ieee.{Float, nan, lt, eq}
 use Rattle.laws.specs.Pick.{pick, _and_}
-use Rattle.points.specs.Explicit.{noNan, rising, sameBounds, bucketOf, bucketCount}
-use Rattle.points.proofs.Bounds.{noNan-next, rising-next, same-next, bucket-next}
+use Rattle.points.specs.Explicit.{rising, sameBounds, bucketOf, bucketCount}
+use Rattle.points.proofs.Bounds.{rising-next, same-next, bucket-next}
 
 pub and-false : (a : Bool) → a and false ≡ false
 unfolding _and_
@@ -24,10 +24,6 @@ and-true false = refl
 
 pub take-next : {A : Type 0} (xs : List A) (i : ℕ) (d : A) → i < length xs → take (i + 1) xs ≡ take i xs ++ getD xs i d ∷ []
 take-next xs i d h = ap (λ (n : ℕ). take n xs) (add-one i) ∙ take-suc xs i d h
-
-pub number-turn : (bs : List Float) (i : ℕ) (ok r : Bool) → i < length bs → ok ≡ noNan (take i bs) → r ≡ (ok and not (isNan (getD bs i nan))) → r ≡ noNan (take (i + 1) bs)
-number-turn bs i ok r h e f =
-    f ∙ ap (λ t. t and not (isNan (getD bs i nan))) e ∙ sym (noNan-next (take i bs) (getD bs i nan)) ∙ ap noNan (sym (take-next bs i nan h))
 
 pub rising-turn : (bs : List Float) (i : ℕ) (ok r : Bool) → 1 ≤ i → i < length bs → ok ≡ rising (take i bs) → r ≡ (ok and lt (getD bs (i - 1) nan) (getD bs i nan))
     → r ≡ rising (take (i + 1) bs)

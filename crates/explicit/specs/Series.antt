@@ -1,11 +1,12 @@
 -- A series of the explicit kind in a head and a lent row: what it holds, what recording does. Assumes nothing.
-use Prim.Native.Nat.{ℕ}
+use Prim.Native.Nat.{ℕ, _+_, _^_, _≤_, _<_}
 use mathlib.Core.List.{List}
 use lib.Dec.{leb, eqb}
 use lib.ListN.{length, take, replicate}
 use lib.Ieee.{Float}
 use lib.Ieee.Scale.{finite}
 use Rattle.laws.specs.Pick.{pick, _and_}
+use Rattle.laws.specs.Counting.{total}
 use Rattle.laws.specs.Said.{Said, refusal, success}
 use Rattle.rows.specs.Rows.{over}
 use Rattle.points.specs.Explicit.{Buckets, bucketCount, recordBucket, bucketsAgree}
@@ -72,3 +73,9 @@ freshening bounds xs =
     pick (leb (bucketCount bounds) (length xs))
     (outcome (success freshHead) (over (replicate (bucketCount bounds) 0) xs))
     (outcome (refusal 12) xs)
+
+-- the first k counts of two rows can be added
+pub record Addable (k : ℕ) (xs zs : List ℕ) : Type 0 where
+  pub first : k ≤ length xs
+  pub second : k ≤ length zs
+  pub sums : total (take k xs) + total (take k zs) < 2 ^ 64

@@ -1,16 +1,15 @@
 // One series of the explicit kind, `Buckets` of histogram.rs: bounds, a head by value, and its counts at the front of a lent slice.
 ghost use mathlib.Core.Path.{_≡_};
-ghost use mathlib.Core.Bool.{not};
 ghost use Prim.Native.Nat.{_+_, _-_, _/_, _^_, _<_, _≤_};
 ghost use lib.ListN.{length, take};
-ghost use lib.Ieee.{lt, eq, isNan};
+ghost use lib.Ieee.{lt, eq};
 ghost use Rattle.laws.specs.Pick.{pick, _and_};
 ghost use Rattle.laws.specs.Counting.{total};
 ghost use Rattle.rows.specs.Rows.{over};
-ghost use Rattle.points.specs.Explicit.{noNan, rising, boundsPass, sameBounds, bucketOf, bucketCount, recordBucket, added, bucketsAgree};
+ghost use Rattle.points.specs.Explicit.{rising, boundsPass, sameBounds, bucketOf, bucketCount, recordBucket, added, bucketsAgree};
 ghost use Rattle.points.specs.Figures.{mostSize};
 ghost use lib.Dec.{eqb};
-ghost use Rattle.explicit.specs.Series.{bucketsIn, freshening, mostCount, refusalOf, said, outcome, recording};
+ghost use Rattle.explicit.specs.Series.{bucketsIn, freshening, mostCount, refusalOf, said, outcome, recording, Addable};
 use exponential::Halves;
 
 pub struct Head {
@@ -26,16 +25,6 @@ pub enum Answer {
 }
 
 // ---- bounds
-
-// Whether ok, and x is a number.
-fn and_number(ok: bool, x: f64) -> bool
-    ensures { λ r. ⌜ r ≡ (ok and not (isNan x)) ⌝ }
-{
-    if x != x {
-        return false;
-    }
-    ok
-}
 
 // Whether ok, and a is below b.
 fn and_below(ok: bool, a: f64, b: f64) -> bool
@@ -57,18 +46,6 @@ fn and_equal(ok: bool, a: f64, b: f64) -> bool
     false
 }
 
-fn no_nan(bounds: &[f64]) -> bool
-    ensures { λ r. ⌜ r ≡ noNan (now (bounds .entry)) ⌝ }
-{
-    let mut ok = true;
-    let mut i: usize = 0;
-    while i < bounds.len() {
-        ok = and_number(ok, bounds[i]);
-        i += 1;
-    }
-    ok
-}
-
 fn rises(bounds: &[f64]) -> bool
     ensures { λ r. ⌜ r ≡ rising (now (bounds .entry)) ⌝ }
 {
@@ -81,14 +58,20 @@ fn rises(bounds: &[f64]) -> bool
     ok
 }
 
-// Whether the bounds pass document 01's number 3: at most 159, no NaN, strictly rising.
+// Whether the bounds pass document 01's number 3: at most 159, no NaN, strictly rising. A NaN rises above nothing, so that only the first
+// is asked for.
 pub fn bounds_pass(bounds: &[f64]) -> bool
     ensures { λ r. ⌜ r ≡ boundsPass (now (bounds .entry)) ⌝ }
 {
-    if 159 < bounds.len() {
+    let n = bounds.len();
+    if 159 < n {
         return false;
     }
-    if !no_nan(bounds) {
+    if n == 0 {
+        return true;
+    }
+    let first = bounds[0];
+    if first != first {
         return false;
     }
     rises(bounds)
@@ -262,8 +245,7 @@ pub fn record(bounds: &[f64], head: Head, counts: &mut [u64], v: f64) -> Answer
 
 // The first n counts of two rows added, over what is lent.
 pub fn add_counts(a: &[u64], b: &[u64], n: usize, out: &mut [u64])
-    requires { ⌜ (n ≤ length (now a)) × (n ≤ length (now b)) × (n ≤ length (now out)) ⌝ }
-    requires { ⌜ total (take n (now a)) + total (take n (now b)) < 2 ^ 64 ⌝ }
+    requires { ⌜ Addable n (now a) (now b) × (n ≤ length (now out)) ⌝ }
     ensures { λ _. ⌜ now (out .exit) ≡ over (added (take n (now (a .entry))) (take n (now (b .entry)))) (now (out .entry)) ⌝ }
 {
     let mut i: usize = 0;

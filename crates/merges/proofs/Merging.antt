@@ -19,12 +19,12 @@ use Rattle.exponential.specs.Series.{lowestOfAll, rowIn, Laid, Written, read}
 use Rattle.exponential.proofs.Facts.{Agreed, agreed, pos-facts, neg-facts, level-in}
 use Rattle.exponential.proofs.Write.{level-pow}
 use Rattle.exponential.proofs.Rowed.{range}
-use Rattle.merges.specs.Merges.{joined, levelled, span, joinedLen, common, spanOf, rowsLow, planOf, mergedLow, mergedSteps, Joinable, Lendable, Agreeing, mergedPoint, Roomy}
+use Rattle.merges.specs.Merges.{joined, levelled, span, joinedLen, common, spanOf, rowsLow, planOf, mergedLow, mergedSteps, Lendable, Agreeing, mergedPoint, Roomy}
 use Rattle.merges.specs.declared.Plan.{Plan}
 use Rattle.merges.proofs.Joined as J
 use Rattle.merges.proofs.Spans.{span-is, len-is}
 
--- ---- the plan, of any two heads
+-- ---- the plan, of any two series
 
 pub plan-law : (size : ℕ) (a b : Counts) (l p n low : ℕ) → l ≡ common a b
     → p ≡ spanOf size (a .pos) (a .level - l) (b .pos) (b .level - l) → n ≡ spanOf size (a .neg) (a .level - l) (b .neg) (b .level - l) → low ≡ max p n
@@ -187,16 +187,6 @@ module _ (size : ℕ) (a : Counts) (xs ys : List ℕ) (b : Counts) (zs ws : List
           ((omega (arith, pa, range size (lowestBin (a .level)) (endBin (a .level)) (a .neg) ys (neg-facts size finest a xs ys ka)), omega (arith, pb, range size (lowestBin (b .level)) (endBin (b .level)) (b .neg) ws (neg-facts size finest b zs ws kb))), low-le),
         ),
       )
-
-  -- in place
-  module _ (r : Roomy (mergedPoint size a xs ys b zs ws) xs ys) where
-    pub joinable-pos : Joinable (a .pos) (planOf size a b .first) xs (b .pos) (planOf size a b .second) zs
-    joinable-pos =
-        record { short = ka .posThere; other = kb .posThere; few = first-few; fewOther = second-few; sums = sums-pos; room = subst (λ (o : P.Row). length (o .counts) ≤ length xs) (sym pos-made) (r .pos) }
-
-    pub joinable-neg : Joinable (a .neg) (planOf size a b .first) ys (b .neg) (planOf size a b .second) ws
-    joinable-neg =
-        record { short = ka .negThere; other = kb .negThere; few = first-few; fewOther = second-few; sums = sums-neg; room = subst (λ (o : P.Row). length (o .counts) ≤ length ys) (sym neg-made) (r .neg) }
 
   -- into lent rows
   module _ (us vs : List ℕ) (r : Roomy (mergedPoint size a xs ys b zs ws) us vs) where

@@ -1,4 +1,4 @@
--- Two points merged, step by step, as code can do it in place. Assumes nothing.
+-- Two points merged, step by step, as code does it in lent rows. Assumes nothing.
 use Prim.Native.Nat.{ℕ, suc, _+_, _-_, _/_, _^_, _≤_, _<_, min, max, pred}
 use mathlib.Core.Path.{_≡_}
 use mathlib.Core.Bool.{true}
@@ -84,7 +84,7 @@ planOf size a b =
       second = b .level - (common a b - rowsLow size a b);
     }
 
--- ---- in place
+-- ---- in lent rows
 
 -- the counts ys from bin t on, each added k levels lower to the row xs from bin s on
 unfoldable pub addLow : ℕ → ℕ → ℕ → List ℕ → List ℕ → List ℕ

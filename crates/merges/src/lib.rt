@@ -1,4 +1,4 @@
-// Two series of the exponential kind merged, in place or into lent rows.
+// Two series of the exponential kind merged into lent rows.
 ghost use mathlib.Core.Path.{_≡_};
 ghost use Prim.Native.Nat.{_+_, _-_, _/_, _^_, _<_, _≤_, pred};
 ghost use lib.ListN.{length, take, replicate};
@@ -121,7 +121,7 @@ pub fn plan_of(size: usize, a: Counts, b: Counts) -> Plan
 // ---- rows
 
 // The counts of another row from bin t on, added k levels lower to the row of n counts from bin s on. Returns its length then.
-pub fn add_low(
+fn add_low(
     counts: &mut [u64],
     n: usize,
     s: u32,
@@ -206,37 +206,6 @@ fn join_to(out: &mut [u64], a: &[u64], row: Row, j: u32, b: &[u64], other: Row, 
 }
 
 // ---- two series
-
-// The second series merged into the first, whose rows have room: its counts then. It refuses nothing, for the caller has asked.
-pub fn merge_into(
-    size: usize,
-    a: Counts,
-    pos: &mut [u64],
-    neg: &mut [u64],
-    b: Counts,
-    bpos: &[u64],
-    bneg: &[u64],
-) -> Counts
-    requires { ⌜ Agreeing size a (now pos) (now neg) b (now bpos) (now bneg) ⌝ }
-    requires { ⌜ Roomy (mergedPoint size a (now pos) (now neg) b (now bpos) (now bneg)) (now pos) (now neg) ⌝ }
-    ensures { λ r. ⌜ Written (mergedPoint size a (now (pos .entry)) (now (neg .entry)) b (now (bpos .entry)) (now (bneg .entry)))
-        (now (pos .entry)) (now (neg .entry)) r (now (pos .exit)) (now (neg .exit)) ⌝ }
-{
-    let to = plan_of(size, a, b);
-    let ap = a.pos;
-    let an = a.neg;
-    let bp = b.pos;
-    let bn = b.neg;
-    let p = join(pos, ap, to.first, bpos, bp, to.second);
-    let n = join(neg, an, to.first, bneg, bn, to.second);
-    Counts {
-        count: a.count + b.count,
-        zeros: a.zeros + b.zeros,
-        level: to.level,
-        pos: p,
-        neg: n,
-    }
-}
 
 // Both series merged by their plan into lent rows that have room: the counts of what lies there then. It refuses nothing.
 pub fn merge_to(

@@ -1,5 +1,5 @@
 -- The call of a merge: its refusals in order, and what it answers otherwise. Assumes nothing.
-use Prim.Native.Nat.{ℕ, _+_, _-_, _≤_}
+use Prim.Native.Nat.{ℕ, _+_, _-_, _^_, _≤_, _<_}
 use mathlib.Core.Path.{_≡_, refl, ap, sym, subst, _∙_}
 use mathlib.Core.Bool.{Bool, true, false, Bool·beq}
 use mathlib.Core.List.{List}
@@ -15,8 +15,7 @@ use Rattle.points.specs.Handed.{extremesAgree, mergeCounts}
 use Rattle.points.proofs.Explicit.{buckets-say}
 use Rattle.exponential.specs.declared.Counts.{Counts}
 use Rattle.merges.specs.Merges.{Agreeing, mergedPoint}
-use Rattle.heads.specs.Heads.{Addable}
-use Rattle.explicit.specs.Series.{mostCount, bucketsIn}
+use Rattle.explicit.specs.Series.{mostCount, bucketsIn, Addable}
 use Rattle.point.specs.declared.Point.{Point}
 use Rattle.point.specs.declared.Figures.the-variants.{Exponential, Explicit}
 use Rattle.point.specs.declared.Made.{Made}
@@ -129,7 +128,7 @@ module _ (size : ℕ) (a b : Stored) where
       pub ok-second : bucketsAgree (b .bounds) (bucketsIn (b .bounds) m (b .pos)) ≡ true
       ok-second = ap (λ h. figuresAgree size h (b .bounds) (b .pos) (b .neg)) (sym g) ∙ second-agrees
 
-      pub can-add : Addable (bucketCount (a .bounds)) n (a .pos) m (b .pos)
+      pub can-add : Addable (bucketCount (a .bounds)) (a .pos) (b .pos) × (n + m < 2 ^ 64)
       can-add =
           let k : n + m ≤ mostCount = subst (λ (n : ℕ). n ≤ mostCount) (λ j. countIn (f j) + countIn (g j)) fit in
           addable (a .bounds) n (a .pos) (b .bounds) m (b .pos) same (buckets-say (a .bounds) (bucketsIn (a .bounds) n (a .pos)) ok-first) (buckets-say (b .bounds) (bucketsIn (b .bounds) m (b .pos)) ok-second) (omega (arith, k))

@@ -21,8 +21,7 @@ use Rattle.points.specs.Figures.{exponentialCounts, explicitCounts}
 use Rattle.points.proofs.Explicit.{BucketsOk, length-added}
 use Rattle.exponential.specs.declared.Counts.{Counts}
 use Rattle.exponential.specs.Series.{Written}
-use Rattle.heads.specs.Heads.{Addable}
-use Rattle.explicit.specs.Series.{bucketsIn}
+use Rattle.explicit.specs.Series.{bucketsIn, Addable}
 use Rattle.point.specs.declared.Figures.the-variants.{Exponential, Explicit}
 use Rattle.point.specs.declared.Made.the-variants.{Of, NoRoom}
 use Rattle.point.specs.Handing.{madeOver, laidOver, madeOne, laidOne}
@@ -88,17 +87,16 @@ module _ (bs : List Float) (n : ℕ) (xs : List ℕ) (cs : List Float) (m : ℕ)
   second : bucketCount bs ≤ length zs
   second = subst (λ (k : ℕ). k ≤ length zs) (sym k-is) (whole-there (bucketCount cs) zs (ok' .whole))
 
-  pub addable : n + m < 2 ^ 64 → Addable (bucketCount bs) n xs m zs
+  pub addable : n + m < 2 ^ 64 → Addable (bucketCount bs) xs zs × (n + m < 2 ^ 64)
   addable c =
-      record {
+      (record {
         first = first;
         second = second;
         sums = ⊎-elim
             (λ (z : bucketCount bs ≡ 0). rw z (omega arith))
             (λ (p : 0 < bucketCount bs). omega (arith, ok .adds p, subst (λ (k : ℕ). total (take k zs) ≡ m) (sym k-is) (ok' .adds (omega (arith, k-is))), c))
             (eq-zero-or-pos (bucketCount bs));
-        counts = c;
-      }
+      }, c)
 
   pub over-one : (us vs : List ℕ)
       → laidOver (explicitCounts bs (mergeBuckets (bucketsIn bs n xs) (bucketsIn cs m zs))) us vs

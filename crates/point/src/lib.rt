@@ -1,9 +1,8 @@
 // A point as it is handed out, of either kind, and two such points merged.
-pub mod in_place;
 pub mod signed;
 
 ghost use mathlib.Core.Path.{_≡_};
-ghost use Prim.Native.Nat.{_+_, _-_, _<_};
+ghost use Prim.Native.Nat.{_+_, _-_, _^_, _<_};
 ghost use Rattle.points.specs.Handed.{extremesAgree};
 ghost use Rattle.laws.specs.Pick.{_and_};
 ghost use lib.Ieee.Scale.{finite};
@@ -14,9 +13,8 @@ ghost use lib.Dec.{leb};
 ghost use mathlib.Core.Bool.{Bool·beq};
 ghost use Rattle.points.specs.Explicit.{bucketCount};
 ghost use Rattle.points.specs.Figures.{exponentialCounts};
-ghost use Rattle.heads.specs.Heads.{Addable};
 ghost use Rattle.merges.specs.Merges.{Agreeing, mergedPoint};
-ghost use Rattle.explicit.specs.Series.{mostCount};
+ghost use Rattle.explicit.specs.Series.{mostCount, Addable};
 ghost use Rattle.exponential.specs.Series.{sizePasses};
 use exponential::Counts;
 use floats::Extreme;
@@ -300,7 +298,7 @@ fn merge_explicit(
     bpos: &[u64],
     pos: &mut [u64],
 ) -> Made
-    requires { ⌜ Addable (bucketCount (now bounds)) n (now apos) m (now bpos) ⌝ }
+    requires { ⌜ Addable (bucketCount (now bounds)) (now apos) (now bpos) × (n + m < 2 ^ 64) ⌝ }
     ensures { λ r. ⌜ madeOne r (now (pos .exit))
         ≡ laidOne (bucketCount (now (bounds .entry))) n (now (apos .entry)) m (now (bpos .entry)) (now (pos .entry)) ⌝ }
 {

@@ -37,7 +37,7 @@ add-out c =
     let l = t .before in
     let st = l .before in
     let a = st .args in
-    omega (arith, added-fits (now (a .a)) (now (a .b)) (now (a .out)) (a .n) (l .loop .i) (t .loop-test .taken) (st .pre .0 .0) (st .pre .0 .1) (st .pre .0 .2) (st .pre .1))
+    omega (arith, added-fits (now (a .a)) (now (a .b)) (now (a .out)) (a .n) (l .loop .i) (t .loop-test .taken) (st .pre .0 .first) (st .pre .0 .second) (st .pre .1) (st .pre .0 .sums))
 
 mul-out-3 : tie.Need-mul-out-3 Inv-loop μ-loop
 mul-out-3 c = omega arith
@@ -57,7 +57,7 @@ loop-again c =
     let l = t .before in
     let st = l .before in
     let a = st .args in
-    (omega arith, added-turn (now (a .a)) (now (a .b)) (now (a .out)) (a .n) (l .loop .i) (t .loop-test .taken) (st .pre .0 .0) (st .pre .0 .1) (st .pre .0 .2) (l .loop .out) (l .loop .inv .1), simp length-set (l .loop .inv .2))
+    (omega arith, added-turn (now (a .a)) (now (a .b)) (now (a .out)) (a .n) (l .loop .i) (t .loop-test .taken) (st .pre .0 .first) (st .pre .0 .second) (st .pre .1) (l .loop .out) (l .loop .inv .1), simp length-set (l .loop .inv .2))
 
 same-length : tie.Need-same-length Inv-loop μ-loop
 same-length c = c .before .loop .inv .2

@@ -3,30 +3,34 @@ use mathlib.Core.Path.{sym, _∙_}
 use native.Mathlib.Omega.{arith}
 use denote.Ref.{now}
 use borrow.Author.Needs.{needs}
-use Rattle.exponential.proofs.Facts.{not-true, not-false}
-use Rattle.explicit.proofs.Cases.{too-many, with-nan, by-rising}
+use Rattle.floats.proofs.Finite.{nan-test}
+use Rattle.explicit.proofs.Cases.{too-many, no-bounds, nan-first, by-rising}
 use Rattle.explicit.proofs.bounds_pass.Statement.{statement}
 use Rattle.explicit.proofs.bounds_pass.Tie as tie
 
 returns : tie.Need-returns
 returns c = too-many (now (c .before .before .args .bounds)) (c .if1 .taken)
 
-no-nan-requires : tie.Need-no-nan-requires
-no-nan-requires c κs = search needs
-
 returns-2 : tie.Need-returns-2
-returns-2 c =
+returns-2 c = no-bounds (now (c .before .before .before .args .bounds)) (c .if2 .taken)
+
+shared-slice-read-first : tie.Need-shared-slice-read-first
+shared-slice-read-first c = search needs
+
+returns-3 : tie.Need-returns-3
+returns-3 c =
     let e = c .before .before in
-    with-nan (now (e .before .before .args .bounds)) (omega (arith, e .if1 .left)) (sym (c .before .no-nan .ensures) ∙ not-true _ (c .if2 .taken))
+    nan-first (now (e .before .before .before .args .bounds)) (omega (arith, e .before .if1 .left)) (e .if2 .left) (sym (nan-test _) ∙ c .if3 .taken)
 
 rises-requires : tie.Need-rises-requires
 rises-requires c κs = search needs
 
-returns-3 : tie.Need-returns-3
-returns-3 c =
+returns-4 : tie.Need-returns-4
+returns-4 c =
     let d = c .before in
     let e = d .before .before in
-    c .rises .ensures ∙ by-rising (now (e .before .before .args .bounds)) (omega (arith, e .if1 .left)) (sym (d .before .no-nan .ensures) ∙ not-false _ (d .if2 .left))
+    c .rises .ensures
+    ∙ by-rising (now (e .before .before .before .args .bounds)) (omega (arith, e .before .if1 .left)) (e .if2 .left) (sym (nan-test _) ∙ d .if3 .left)
 
 pub bounds-pass-spec : {M : Type 1} → statement M
-bounds-pass-spec = tie.close (tie.spec returns no-nan-requires returns-2 rises-requires returns-3)
+bounds-pass-spec = tie.close (tie.spec returns returns-2 shared-slice-read-first returns-3 rises-requires returns-4)

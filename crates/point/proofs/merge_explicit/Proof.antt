@@ -1,11 +1,11 @@
-use Prim.Native.Nat.{ℕ, _+_, _-_, _^_, _<_}
+use Prim.Native.Nat.{ℕ, _+_, _-_}
 use mathlib.Core.Path.{sym, ap, _∙_, subst}
 use native.Mathlib.Omega.{arith}
 use denote.Ref.{now}
 use lib.ListN.{take}
 use Rattle.points.specs.Explicit.{bucketCount, added}
 use Rattle.rows.specs.Rows.{over}
-use Rattle.laws.specs.Counting.{total}
+use Rattle.explicit.specs.Series.{Addable}
 use Rattle.point.proofs.Laid.{no-one, laid-one}
 use borrow.Author.Needs.{needs}
 use Rattle.point.proofs.merge_explicit.Statement.{statement}
@@ -26,12 +26,12 @@ add-counts-requires c κs =
     let k = e .before in
     let st = k .before .before .before .before .before in
     let q = k .bucket-count .ensures in (
-      (omega (arith, q, st .pre .first), omega (arith, q, st .pre .second), omega (arith, e .if1 .left)),
-      subst (λ (n : ℕ). total (take n (now (st .args .apos))) + total (take n (now (st .args .bpos))) < 2 ^ 64) (sym q) (st .pre .sums),
+      subst (λ (n : ℕ). Addable n (now (st .args .apos)) (now (st .args .bpos))) (sym q) (st .pre .0),
+      omega (arith, e .if1 .left),
     )
 
 add-t13 : tie.Need-add-t13
-add-t13 c = let st = c .before .before .before .before .before .before .before .before .before .before in omega (arith, st .pre .counts)
+add-t13 c = let st = c .before .before .before .before .before .before .before .before .before .before in omega (arith, st .pre .1)
 
 same-length : tie.Need-same-length
 same-length c = search needs

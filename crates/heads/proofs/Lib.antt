@@ -1,2 +1,0 @@
--- The laws of heads merged in place.
-pub mod Places

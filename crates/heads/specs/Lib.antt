@@ -1,2 +1,0 @@
--- The definitions that the contracts of `heads` cite.
-pub mod Heads

@@ -1,21 +1,21 @@
 -- What recording and merging write. Assumes nothing.
-use Prim.Native.Nat.{ℕ, zero, suc, _+_, _-_, _^_, _≤_, _<_}
+use Prim.Native.Nat.{ℕ, _+_, _-_, _^_, _≤_, _<_}
 use mathlib.Core.Path.{_≡_, refl, ap, sym, _∙_}
-use mathlib.Core.Logic.{⊎-elim, _⊎_}
+use mathlib.Core.Logic.{⊎-elim}
 use mathlib.Core.Bool.{true}
 use mathlib.Core.List.{List, [], _∷_, _++_}
 use native.Mathlib.Nat.{eq-zero-or-pos}
 use native.Mathlib.Omega.{arith}
-use lib.ListN.{length, take, drop, getD, set, replicate, length-set}
-use lib.Seq.{length-take-le, getD-take}
+use lib.ListN.{length, take, drop, getD, set, replicate, length-set, take-append-drop}
+use lib.Seq.{length-take-le, getD-take, set-append-left}
 use lib.Ieee.{Float, binary64, add}
 use borrow.Author.Tests.{leb-true, leb-false, le-leb, lt-leb, eq-eqb, ne-eqb}
-use Rattle.laws.specs.Pick.{pick, _and_}
+use Rattle.laws.specs.Pick.{pick}
 use Rattle.laws.specs.Counting.{total}
 use Rattle.laws.proofs.Bools.{and-left, pick-left, pick-then, pick-right}
+use Rattle.laws.proofs.Over.{over-snoc}
 use Rattle.floats.specs.Answers.{lesserOf, greaterOf}
-use Rattle.rows.specs.Rows.{over}
-use Rattle.rows.specs.Rows.{zeroed}
+use Rattle.rows.specs.Rows.{over, zeroed}
 use Rattle.rows.proofs.Laws.{getD-le-total}
 use Rattle.rows.proofs.Adds.{over-zeroed}
 use Rattle.points.specs.Explicit.{bucketOf, bucketCount, recordBucket, added, bucketsAgree}
@@ -27,22 +27,12 @@ use Rattle.explicit.proofs.Turns.{take-next}
 
 -- ---- one more in a bucket
 
-take-drop : (n : ℕ) (xs : List ℕ) → n ≤ length xs → take n xs ++ drop n xs ≡ xs
-take-drop zero xs h = refl
-take-drop (suc n) [] h = absurd (omega arith)
-take-drop (suc n) (x ∷ xs) h = ap (λ (l : List ℕ). x ∷ l) (take-drop n xs (omega arith))
-
-set-front : (n : ℕ) (xs : List ℕ) (j w : ℕ) → j < n → n ≤ length xs → set (take n xs) j w ++ drop n xs ≡ set xs j w
-set-front zero xs j w g h = absurd (omega arith)
-set-front (suc n) [] j w g h = absurd (omega arith)
-set-front (suc n) (x ∷ xs) zero w g h = ap (λ (l : List ℕ). w ∷ l) (take-drop n xs (omega arith))
-set-front (suc n) (x ∷ xs) (suc j) w g h = ap (λ (l : List ℕ). x ∷ l) (set-front n xs j w (omega arith) (omega arith))
-
 over-set : (n : ℕ) (xs : List ℕ) (j w : ℕ) → j < n → n ≤ length xs → set xs j w ≡ over (set (take n xs) j w) xs
 unfolding over
 over-set n xs j w g h =
-    let l : length (set (take n xs) j w) ≡ n = simp length-set (length-take-le n xs h) in
-    sym (rw l (set-front n xs j w g h))
+    let k = length-take-le n xs h in
+    let l : length (set (take n xs) j w) ≡ n = simp length-set k in
+    sym (rw l (sym (set-append-left (take n xs) (drop n xs) j w (omega (arith, k))) ∙ ap (λ (t : List ℕ). set t j w) (take-append-drop n xs)))
 
 module _ (bs : List Float) (xs : List ℕ) (v : Float) (h : bucketCount bs ≤ length xs) where
   abbrev n : ℕ
@@ -125,13 +115,6 @@ added-next [] (b ∷ ys) x y h = absurd (omega arith)
 added-next (a ∷ xs) [] x y h = absurd (omega arith)
 added-next (a ∷ xs) (b ∷ ys) x y h = ap (λ (l : List ℕ). (a + b) ∷ l) (added-next xs ys x y (omega arith))
 
-over-next : (zs old : List ℕ) (w : ℕ) → length zs < length old → over (zs ++ w ∷ []) old ≡ set (over zs old) (length zs) w
-unfolding over
-over-next [] [] w h = absurd (omega arith)
-over-next [] (o ∷ os) w h = refl
-over-next (z ∷ zs) [] w h = absurd (omega arith)
-over-next (z ∷ zs) (o ∷ os) w h = ap (λ (l : List ℕ). z ∷ l) (over-next zs os w (omega arith))
-
 module _ (xs ys us : List ℕ) (n i : ℕ) (more : i < n) (lx : n ≤ length xs) (ly : n ≤ length ys) (lu : n ≤ length us) where
   long : length (added (take i xs) (take i ys)) ≡ i
   long =
@@ -146,7 +129,7 @@ module _ (xs ys us : List ℕ) (n i : ℕ) (more : i < n) (lx : n ≤ length xs)
       let b = getD ys i 0 in
       ap (λ (l : List ℕ). set l i (a + b)) e
       ∙ ap (λ k. set (over (added (take i xs) (take i ys)) us) k (a + b)) (sym long)
-      ∙ sym (over-next (added (take i xs) (take i ys)) us (a + b) (omega (arith, long)))
+      ∙ over-snoc (added (take i xs) (take i ys)) us (a + b) (omega (arith, long))
       ∙ ap (λ (l : List ℕ). over l us) (sym (added-next (take i xs) (take i ys) a b (length-take-le i xs (omega arith) ∙ sym (length-take-le i ys (omega arith)))))
       ∙ (λ j. over (added (sym (take-next xs i 0 (omega arith)) j) (sym (take-next ys i 0 (omega arith)) j)) us)
 

@@ -1,6 +1,6 @@
 // One series of the explicit kind, `Buckets` of histogram.rs: bounds, a head by value, and its counts at the front of a lent slice.
 ghost use mathlib.Core.Path.{_≡_};
-ghost use Prim.Native.Nat.{_+_, _-_, _/_, _^_, _<_, _≤_};
+ghost use Prim.Native.Nat.{_+_, _-_, _/_, _<_, _≤_};
 ghost use lib.ListN.{length, take};
 ghost use lib.Ieee.{lt, eq};
 ghost use Rattle.laws.specs.Pick.{pick, _and_};

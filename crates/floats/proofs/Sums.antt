@@ -52,9 +52,6 @@ pub sum-is : (xs : List Float) → Gridded xs → foldl (add binary64) zeroFloat
 sum-is xs g =
     ap (λ (y : Float). foldl (add binary64) y xs) zero-is ∙ sum-exact (pos 0) xs (g .whole) (omega (arith, g .light)) ∙ ap grid (+ℤ-idl (exactTotal xs))
 
-pub zero-sum : (xs : List Float) → Gridded xs → exactTotal xs ≡ pos 0 → foldl (add binary64) zeroFloat xs ≡ zeroFloat
-zero-sum xs g h = sum-is xs g ∙ ap grid h ∙ sym zero-is
-
 -- ---- order
 -- WHATEVER THE ORDER
 pub total-perm : {xs ys : List Float} → List·Permᴰ xs ys → exactTotal xs ≡ exactTotal ys

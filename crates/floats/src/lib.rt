@@ -1,5 +1,6 @@
-// f64 as histograms use it: finite or not, the lesser and the greater of two, extremes of a point, the bits of a sum.
+// f64 as histograms use it: finite or not, the lesser and the greater of two, extremes of a point, bits.
 ghost use mathlib.Core.Path.{_≡_};
+ghost use lib.Ieee.{ofBits, binary64};
 ghost use lib.Ieee.Scale.{finite};
 ghost use Rattle.floats.specs.Answers.{lesserOf, greaterOf, smallerOf, largerOf, shownOf, bitsOf};
 
@@ -74,4 +75,14 @@ pub fn bits_of(x: f64) -> u64
         return 0x7ff8_0000_0000_0000;
     }
     f64::to_bits(x)
+}
+
+// The f64 of bits. A NaN's bits give a NaN: `f64::from_bits` may not be asked for them.
+pub fn of_bits(bits: u64) -> f64
+    ensures { λ r. ⌜ r ≡ ofBits binary64 bits ⌝ }
+{
+    if 0x7FF0_0000_0000_0000 < bits % 0x8000_0000_0000_0000 {
+        return 0.0 / 0.0;
+    }
+    f64::from_bits(bits)
 }

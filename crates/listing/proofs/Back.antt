@@ -4,15 +4,14 @@ use mathlib.Core.Path.{_≡_, refl, sym, ap, ap₂, _∙_}
 use mathlib.Core.Bool.{Bool, true, false}
 use mathlib.Core.List.{List, [], _∷_, _++_}
 use native.Mathlib.Omega.{arith}
-use borrow.Author.Tests.{eq-eqb, eqb-true}
+use borrow.Author.Tests.{eq-eqb}
 use lib.Dec.{T, leb, eqb}
-use lib.ListN.{length, getD}
-use lib.Seq.{ext-getD}
+use lib.ListN.{getD}
 use lib.Ieee.{Float, nan, inf, fin, binary64, ofBits, ofFields, fits, isNan}
 use lib.Ieee.Bits.{ofBits-toBits}
 use Rattle.laws.specs.Pick.{pick}
 use Rattle.laws.proofs.Cases.{true-not-false}
-use Rattle.sets.proofs.Alls.{allb-yes, allb-at}
+use Rattle.sets.proofs.Alls.{allb-yes}
 use Rattle.floats.specs.Answers.{bitsOf}
 use Rattle.floats.specs.declared.Extreme.{Extreme}
 use Rattle.floats.specs.declared.Extreme.the-variants.{None, Value}
@@ -97,10 +96,6 @@ module _ (b : Span) (x y z u : ℕ) where
   word-11 (Exponential c) = refl
   word-11 (Explicit n) = refl
 
-  twelve : (f : Figures) → length (row f) ≡ 12
-  twelve (Exponential c) = refl
-  twelve (Explicit n) = refl
-
   figures-back : (f : Figures) → Narrow f b → figuresIn (row f) ≡ f
   unfolding figuresIn pick
   figures-back (Exponential c) h =
@@ -158,12 +153,3 @@ module _ (p : Point) (b : Span) (h : Held p b) where
   point-is =
       let e : wordsOf (pointIn w) (boundsIn w) ≡ w = ap₂ wordsOf point-back span-back in
       allb-yes (λ i. eqb (getD (wordsOf (pointIn w) (boundsIn w)) i 0) (getD w i 0)) 12 (λ i l. eq-eqb _ _ (ap (λ (t : List ℕ). getD t i 0) e))
-
--- and no others: words that are accepted are those of the point that they read as
-pub point-only : (w : List ℕ) → length w ≡ 12 → isPoint w ≡ true → wordsOf (pointIn w) (boundsIn w) ≡ w
-unfolding isPoint
-point-only w l a =
-    let p = pointIn w in
-    let t = twelve (boundsIn w) (flag (p .extremes) + 2 * flag (isShown (p .min))) (shownBits (p .min)) (shownBits (p .max)) (bitsOf (p .sum)) (p .figures) in
-    ext-getD 0 (wordsOf p (boundsIn w)) w (t ∙ sym l)
-    (λ i h. eqb-true _ _ (allb-at (λ i. eqb (getD (wordsOf (pointIn w) (boundsIn w)) i 0) (getD w i 0)) 12 a i (omega (arith, t, h))))

@@ -43,11 +43,11 @@ module _ (at : Cursor) (w : List ℕ) (pos neg : ℕ) where
     unfolding entryIn _and_
     entry-out h = sym (pick-false (isPoint w and lies) _ _ (ap (λ (t : Bool). t and lies) y ∙ sym same-room ∙ h))
 
-    pub entry-is : within at (p .figures) b pos neg ≡ true → (n m : ℕ) → n ≡ posLen (p .figures) b → m ≡ negLen (p .figures)
-        → Is (record { point = p; bounds = b; next = record { place = at .place + 1; pos = at .pos + n; neg = at .neg + m } }) ≡ entryIn at w pos neg
+    pub entry-is : within at (p .figures) b pos neg ≡ true → (next : Cursor) → next ≡ behind at (p .figures) b
+        → Is (record { point = p; bounds = b; next = next }) ≡ entryIn at w pos neg
     unfolding entryIn
-    entry-is h n m k l =
-        ap₂ (λ (i j : ℕ). Is (record { point = p; bounds = b; next = record { place = at .place + 1; pos = at .pos + i; neg = at .neg + j } })) k l
+    entry-is h next n =
+        ap (λ (c : Cursor). Is (record { point = p; bounds = b; next = c })) n
         ∙ ap₂ (λ (q : Point) (s : Span). Is (record { point = q; bounds = s; next = behind at (q .figures) s })) e g
         ∙ sym (pick-true (isPoint w and lies) _ _ (and-intro (isPoint w) lies y (sym same-room ∙ h)))
 

@@ -4,4 +4,3 @@ pub mod Calls
 pub mod Back
 pub mod Lists
 pub mod Given
-pub mod Example

@@ -1,8 +1,8 @@
 -- A list of points in lent output: sets' rows, points' words, and their counts packed one after another in two stores. Assumes nothing.
 -- docs/LIST.md tells it in words: one form for collections, merges and sheets.
-use Prim.Native.Nat.{ℕ, zero, suc, _+_, _-_, _≤_, _<_}
+use Prim.Native.Nat.{ℕ, zero, suc, _+_, _-_, _^_, _≤_, _<_}
 use mathlib.Core.Bool.{Bool, true, false}
-use mathlib.Core.List.{List, [], _∷_, _++_, map}
+use mathlib.Core.List.{List, [], _++_}
 use lib.Dec.{leb}
 use lib.ListN.{length, getD, set, take, drop}
 use lib.Ieee.{Float}
@@ -48,6 +48,10 @@ negLen (Explicit n) = 0
 abbrev pub behind : Cursor → Figures → Span → Cursor
 behind at f b = record { place = at .place + 1; pos = at .pos + posLen f b; neg = at .neg + negLen f }
 
+-- the output goes on behind a point
+abbrev pub Goes : Cursor → Figures → Span → Type 0
+Goes at f b = (at .place + 1 < 2 ^ 64) × (at .pos + posLen f b < 2 ^ 64) × (at .neg + negLen f < 2 ^ 64)
+
 -- ---- what is listed
 
 -- a set's row, its point, where the point's bounds lie, its counts
@@ -62,25 +66,6 @@ pub record Item : Type 0 where
 abbrev pub itemOf : List ℕ → Point → Span → List ℕ → List ℕ → Item
 itemOf row p b xs ys =
     record { row = row; point = p; bounds = b; pos = take (posLen (p .figures) b) xs; neg = take (negLen (p .figures)) ys }
-
--- the counts of all, one after another
-abbrev pub joined : (Item → List ℕ) → List Item → List ℕ
-joined f [] = []
-joined f (i ∷ l) = f i ++ joined f l
-
--- the whole list over what the output held: "Lent output past the result keeps what it held"
-unfoldable pub listed : List Item → Output → Output
-listed l o =
-    record {
-      sets = over (map (λ i. i .row) l) (o .sets);
-      words = over (map (λ i. wordsOf (i .point) (i .bounds)) l) (o .words);
-      pos = over (joined (λ i. i .pos) l) (o .pos);
-      neg = over (joined (λ i. i .neg) l) (o .neg);
-    }
-
--- the cursor behind a list
-abbrev pub cursorOf : List Item → Cursor
-cursorOf l = record { place = length l; pos = length (joined (λ i. i .pos) l); neg = length (joined (λ i. i .neg) l) }
 
 -- ---- one point put at a cursor
 

@@ -2,7 +2,6 @@
 ghost use mathlib.Core.Path.{_≡_};
 ghost use lib.Dec.{eqb};
 ghost use lib.ListN.{getD};
-ghost use lib.Ieee.{ofBits, binary64};
 ghost use Rattle.sets.specs.All.{allb};
 ghost use Rattle.listing.specs.Words.{figuresIn, boundsIn, extremeIn, pointIn, isPoint};
 use crate::Span;
@@ -12,22 +11,12 @@ use point::Figures;
 use point::Point;
 use rows::Row;
 
-// The f64 of bits. A NaN's bits give a NaN: `f64::from_bits` may not be asked for them.
-fn float_of(bits: u64) -> f64
-    ensures { λ r. ⌜ r ≡ ofBits binary64 bits ⌝ }
-{
-    if 0x7FF0_0000_0000_0000 < bits % 0x8000_0000_0000_0000 {
-        return 0.0 / 0.0;
-    }
-    f64::from_bits(bits)
-}
-
 // An extreme, if it is shown.
 fn extreme_of(shown: bool, bits: u64) -> Extreme
     ensures { λ r. ⌜ r ≡ extremeIn shown bits ⌝ }
 {
     if shown {
-        let x = float_of(bits);
+        let x = floats::of_bits(bits);
         return Extreme::Value(x);
     }
     Extreme::None
@@ -76,7 +65,7 @@ pub fn point_of(w: [u64; 12]) -> Point
     let shown = 2 <= w[8];
     let min = extreme_of(shown, w[9]);
     let max = extreme_of(shown, w[10]);
-    let sum = float_of(w[11]);
+    let sum = floats::of_bits(w[11]);
     Point {
         figures,
         extremes: w[8] % 2 == 1,

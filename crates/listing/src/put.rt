@@ -3,7 +3,7 @@ ghost use mathlib.Core.Path.{_≡_};
 ghost use Prim.Native.Nat.{_^_, _<_, _≤_};
 ghost use lib.ListN.{length, take};
 ghost use Rattle.laws.specs.Over.{over};
-ghost use Rattle.listing.specs.Listed.{output, posLen, negLen, behind, itemOf, putAt, Room, left};
+ghost use Rattle.listing.specs.Listed.{output, posLen, negLen, behind, Goes, itemOf, putAt, Room, left};
 use crate::Cursor;
 use crate::Span;
 use point::Figures;
@@ -38,6 +38,20 @@ pub fn neg_len(f: Figures) -> usize
             n.len
         }
         Figures::Explicit(m) => 0,
+    }
+}
+
+// The cursor behind a point. It refuses nothing.
+pub fn cursor_behind(at: Cursor, f: Figures, b: Span) -> Cursor
+    requires { ⌜ Goes at f b ⌝ }
+    ensures { λ r. ⌜ r ≡ behind at f b ⌝ }
+{
+    let n = pos_len(f, b);
+    let m = neg_len(f);
+    Cursor {
+        place: at.place + 1,
+        pos: at.pos + n,
+        neg: at.neg + m,
     }
 }
 

@@ -12,8 +12,8 @@ use exponential::Counts;
 use point::Figures;
 use rows::Row;
 
-// Whether n counts from a place on lie in a store of so many.
-fn lie(from: usize, n: usize, many: usize) -> bool
+// Whether n from a place on lie in a store of so many.
+pub fn lie(from: usize, n: usize, many: usize) -> bool
     ensures { λ r. ⌜ r ≡ leb (from + n) many ⌝ }
 {
     if many < from {
@@ -71,13 +71,7 @@ fn entry_in(at: Cursor, w: [u64; 12], pos: usize, neg: usize) -> Found
     if !counts_lie(at, f, b, pos, neg) {
         return Found::NoPoint;
     }
-    let n = crate::put::pos_len(f, b);
-    let m = crate::put::neg_len(f);
-    let next = Cursor {
-        place: at.place + 1,
-        pos: at.pos + n,
-        neg: at.neg + m,
-    };
+    let next = crate::put::cursor_behind(at, f, b);
     Found::Is(Entry {
         point: p,
         bounds: b,

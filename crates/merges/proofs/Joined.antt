@@ -2,7 +2,7 @@
 use Prim.Native.Nat.{ℕ, suc, _+_, _-_, _/_, _^_, _≤_, _<_, min, max, pred}
 use Rattle.index.specs.Bins.{finest}
 use mathlib.Core.Path.{_≡_, refl, ap, sym, _∙_}
-use mathlib.Core.Logic.{⊎-elim, _⊎_, inl, inr}
+use mathlib.Core.Logic.{⊎-elim, inl, inr}
 use mathlib.Core.Bool.{true}
 use mathlib.Core.List.{List, [], _∷_, _++_, map, map-append, append-nil}
 use native.Mathlib.Omega.{arith}
@@ -10,7 +10,7 @@ use lib.Dec.{leb, eqb·suc-zero}
 use lib.ListN.{length, replicate, length-append}
 use lib.Pow.{shr-mono}
 use borrow.Author.Tests.{le-leb}
-use Rattle.laws.specs.Pick.{pick, _and_}
+use Rattle.laws.specs.Pick.{pick}
 use Rattle.laws.specs.Counting.{hit, count, lowest, highest, table}
 use Rattle.laws.specs.Search.{least}
 use Rattle.laws.proofs.Bools.{and-left, and-right, and-intro}
@@ -18,7 +18,7 @@ use Rattle.laws.proofs.Same.{sum-append}
 use Rattle.laws.proofs.Counting.{ends-of, ends-append, length-table}
 use Rattle.laws.proofs.Search.{least-spec, least-is}
 use Rattle.points.specs.Points.{Row, at, rowOf, row, indices, fits, fitsBoth, scale, Bag, _⊕_, bag, Point, pointAt, build, merge}
-use Rattle.points.proofs.Rows.{Canonical, rowOf-canonical, at-rowOf}
+use Rattle.points.proofs.Rows.{Canonical, at-rowOf}
 use Rattle.points.proofs.Agreement.{Agreed, row-indices}
 use Rattle.points.proofs.Kept.{InRange, range-coarser, row-ok, BagIn, ⊕-in, bag-in}
 use Rattle.rows.specs.Rows.{addAt, addAll, downscaled}
@@ -26,7 +26,7 @@ use Rattle.rows.proofs.Laws.{length-addAt-in, length-addAt-out}
 use Rattle.rows.proofs.Algebra.{countAt, length-downscaled-is, le-or-lt}
 use Rattle.exponential.specs.Steps.{lowered, narrow, lowering}
 use Rattle.merges.specs.Merges.{joined, span, mergedLow, mergedSteps}
-use Rattle.exponential.proofs.Counted.{row-by-ends, at-is, countAt-addAt, countAt-zeros, length-replicate, lowered-rowOf}
+use Rattle.exponential.proofs.Counted.{row-by-ends, at-is, countAt-addAt, countAt-zeros, length-replicate}
 use Rattle.exponential.proofs.Joint.{row-lower, fits-on}
 
 -- ---- counts added by bin
@@ -126,16 +126,7 @@ joined-rowOf (x ∷ xs) (y ∷ ys) =
     (rw (l, n, n′) at (length-addAll (lo′ - lo) (g lo′) (table g (suc lo′) (hi′ - lo′)) zs) ∙ long-both lo hi lo′ hi′ (e .all hi (e .high) .0) (e′ .all hi′ (e′ .high) .0))
     (λ j. omega (arith, at-both a b j, at-rowOf (x ∷ xs) j, at-rowOf (y ∷ ys) j, sum-append (hit j) (x ∷ xs) (y ∷ ys)))
 
--- the lower rows joined are the joined row lowered
-pub joined-lower : (k : ℕ) (xs ys : List ℕ) → joined (lowered k (rowOf xs)) (lowered k (rowOf ys)) ≡ lowered k (rowOf (xs ++ ys))
-joined-lower k xs ys =
-    rw (lowered-rowOf k xs, lowered-rowOf k ys, lowered-rowOf k (xs ++ ys), map-append (λ i. i / 2 ^ k) xs ys) (joined-rowOf (map (λ i. i / 2 ^ k) xs) (map (λ i. i / 2 ^ k) ys))
-
 -- ---- levels
-
-row-empty : (d : ℕ) (xs : List ℕ) → length (row d xs .counts) ≡ 0 → row d xs .start ≡ 0
-unfolding row
-row-empty d xs = rowOf-canonical (map (λ i. i / 2 ^ d) xs) .empty
 
 by-counts : (size k a : ℕ) (cs : List ℕ) → 0 < size → leb (length (downscaled k a cs)) size ≡ narrow size a (a + pred (length cs)) k
 unfolding narrow downscaled

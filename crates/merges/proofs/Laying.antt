@@ -1,7 +1,7 @@
 -- Rows joined over what is lent: one is laid there first, then the other joined to it. Assumes nothing.
 use Prim.Native.Nat.{ℕ, _+_, _-_, _/_, _^_, _≤_, _<_, max}
 use mathlib.Core.Path.{_≡_, refl, ap, sym, subst, _∙_}
-use mathlib.Core.Logic.{⊎-elim, _⊎_}
+use mathlib.Core.Logic.{⊎-elim}
 use mathlib.Core.List.{List, _++_}
 use native.Mathlib.Nat.{eq-zero-or-pos, zero-div, div-one}
 use native.Mathlib.Omega.{arith}

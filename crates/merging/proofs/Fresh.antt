@@ -1,7 +1,6 @@
--- The point of a list is good, so points of lists merge by any grouping; and the fresh point of the greatest scale, merged by code, changes
--- no scale, row, count or extreme, a zero's sign aside. Assumes nothing.
+-- The fresh point of the greatest scale, merged by code, changes no scale, row, count or extreme, a zero's sign aside. Assumes nothing.
 use Prim.Native.Nat.{ℕ}
-use mathlib.Core.Path.{_≡_, refl, ap, sym, subst, _∙_}
+use mathlib.Core.Path.{_≡_, refl, sym, subst}
 use mathlib.Core.Bool.{true, false}
 use mathlib.Core.List.{List, []}
 use lib.Ieee.{Float}
@@ -11,30 +10,25 @@ use Rattle.index.specs.Bins.{finest}
 use Rattle.floats.specs.Starts.{FiniteF64}
 use Rattle.points.specs.Values.{summaryOf}
 use Rattle.points.specs.Figures as F
-use Rattle.points.specs.Figures.{Kind, exponential, explicit, sizeOf, Settings, exponentialCounts, explicitCounts, kindCounts}
+use Rattle.points.specs.Figures.{Kind, exponential, explicit, Settings, exponentialCounts, explicitCounts, kindCounts}
 use Rattle.points.specs.Handed.{handed, mergeHanded, countsAgree}
 use Rattle.points.specs.Same.{Shape, Of, Same}
 use Rattle.points.proofs.Agreement.{agrees-says}
 use Rattle.points.proofs.Explicit.{buckets-say}
 use Rattle.points.proofs.Grouping.{Agreeing, handed-commutes, fresh-same}
-use Rattle.points.proofs.Stands.{handed-stands, stands-agrees}
 use Rattle.points.proofs.Summaries.{extreme-finite}
-use Rattle.point.specs.declared.Figures.{Figures}
 use Rattle.point.specs.declared.Figures.the-variants.{Exponential, Explicit}
-use Rattle.point.specs.Handing.{Stored, countsAs, handedIn}
-use Rattle.point.specs.Lists.{PointOf, Configured}
-use Rattle.point.proofs.Means.{sizeFor, agreesRead, agrees-whole}
-use Rattle.point.proofs.Answers.{sound}
+use Rattle.point.specs.Handing.{Stored, handedIn}
+use Rattle.point.specs.Lists.{PointOf}
 use Rattle.merging.specs.Merged.{Good, AtTop, mergedStored}
 use Rattle.merging.proofs.Groups.{merged-reads}
 use Rattle.merging.proofs.Accepted.{low, counts-ok}
 
--- ---- POINTS OF LISTS ARE GOOD
 shape-of : (k : Kind) (t : Float) (vs : List Float) → Shape k (kindCounts k t vs)
 shape-of (exponential size top) t vs = tt
 shape-of (explicit bounds) t vs = refl
 
-pub of-list : (s : Settings) (vs : List Float) → All FiniteF64 vs → Of s (handed s vs)
+of-list : (s : Settings) (vs : List Float) → All FiniteF64 vs → Of s (handed s vs)
 unfolding handed
 of-list s vs f =
     record {
@@ -43,22 +37,6 @@ of-list s vs f =
       threshold = refl;
       min = record { of = summaryOf vs .min; known = extreme-finite true vs f; is = refl };
       max = record { of = summaryOf vs .max; known = extreme-finite false vs f; is = refl };
-    }
-
-size-for : (k : Kind) (f : Figures) (bs : List Float) (xs ys : List ℕ) → Configured k → Shape k (countsAs f bs xs ys) → sizeFor (sizeOf k) f ≡ true
-size-for (exponential size top) (Exponential c) bs xs ys h k = h
-size-for (exponential size top) (Explicit n) bs xs ys h k = refl
-size-for (explicit bounds) (Exponential c) bs xs ys h k = absurd k
-size-for (explicit bounds) (Explicit n) bs xs ys h k = refl
-
-pub list-good : (s : Settings) (vs : List Float) (x : Stored) → Configured (s .kind) → PointOf s vs x → Good (sizeOf (s .kind)) s x
-list-good s vs x k p =
-    let size = sizeOf (s .kind) in
-    let o : Of s (handedIn x) = subst (Of s) (sym (p .is)) (of-list s vs (p .values)) in
-    record {
-      agree = agrees-whole size x (size-for (s .kind) (x .point .figures) (x .bounds) (x .pos) (x .neg) k (o .shape)) (p .shape)
-          ∙ ap (agreesRead size) (p .is) ∙ stands-agrees s (handed s vs) vs (sound (s .kind) k) (handed-stands s vs (p .values));
-      of = o;
     }
 
 -- ---- THE FRESH POINT, "at the greatest allowed scale"

@@ -1,11 +1,10 @@
--- Any order and bracketing of merges by code is accepted where there is room, and all give the same but for the sum; so merging is commutative
--- and associative. Request L14 asks this. Assumes nothing.
+-- Any order and bracketing of merges by code is accepted where there is room, and all give the same but for the sum. Request L14 asks this.
+-- Assumes nothing.
 use Prim.Native.Nat.{ℕ, _+_, _≤_}
 use mathlib.Core.Path.{_≡_, refl}
-use mathlib.Core.List.{List, [], _∷_, _++_, List·Permᴰ, Permᴰ·refl, List·Permᴰ·swap}
+use mathlib.Core.List.{List, [], _∷_, _++_, List·Permᴰ}
 use native.Mathlib.Omega.{arith}
 use Rattle.laws.specs.Lists.{All}
-use Rattle.laws.specs.Said.{success}
 use Rattle.laws.specs.Trees.{Tree, leaf, node, leaves}
 use Rattle.laws.proofs.Lists.{all-left, all-right, all-map, all-perm, foldr-perm}
 use Rattle.points.specs.Figures.{Settings}
@@ -13,7 +12,7 @@ use Rattle.points.specs.Same.{Of, Same, resized}
 use Rattle.explicit.specs.Series.{mostCount}
 use Rattle.point.specs.Handing.{Stored, handedIn}
 use Rattle.point.specs.Lists.{counted, Long}
-use Rattle.merging.specs.Merged.{Good, allCounted, mergedStored, Groups}
+use Rattle.merging.specs.Merged.{Good, allCounted, Groups}
 use Rattle.merging.proofs.Groups.{any-grouping}
 use Rattle.merging.proofs.Accepted.{merges}
 
@@ -54,20 +53,3 @@ module _ (size : ℕ) (s : Settings) (us vs : List ℕ) (long : Long (resized si
       let p = pooled t g n in
       let q = pooled u (all-perm (Good size s) h g) (omega (arith, counted-perm h)) in
       (p .left, q .left, p .is, q .is, any-grouping size s t u (p .left) (q .left) h (all-map (Good size s) (λ x. Of s (handedIn x)) (λ x k. k .of) (leaves t) g) (p .is) (q .is))
-
--- ---- OF TWO AND OF THREE, whatever rows were lent
-module _ (size : ℕ) (s : Settings) (x y : Stored) (p : Of s (handedIn x)) (q : Of s (handedIn y)) where
-  pub commutative : (z w : Stored) (us vs us' vs' : List ℕ) → mergedStored size us vs x y ≡ success z → mergedStored size us' vs' y x ≡ success w → Same (handedIn z) (handedIn w)
-  unfolding All
-  commutative z w us vs us' vs' e f =
-      any-grouping size s (node (leaf x) (leaf y)) (node (leaf y) (leaf x)) z w (List·Permᴰ·swap refl refl) (p, (q, tt))
-      (x, y, us, vs, refl, refl, e) (y, x, us', vs', refl, refl, f)
-
-  module _ (r : Stored) (o : Of s (handedIn r)) where
-    pub associative : (xy yr z w : Stored) (a b c d e f g h : List ℕ)
-        → mergedStored size a b x y ≡ success xy → mergedStored size c d xy r ≡ success z
-        → mergedStored size e f y r ≡ success yr → mergedStored size g h x yr ≡ success w → Same (handedIn z) (handedIn w)
-    unfolding All
-    associative xy yr z w a b c d e f g h i j k l =
-        any-grouping size s (node (node (leaf x) (leaf y)) (leaf r)) (node (leaf x) (node (leaf y) (leaf r))) z w (Permᴰ·refl _) (p, (q, (o, tt)))
-        (xy, r, c, d, (x, y, a, b, refl, refl, i), refl, j) (x, yr, g, h, refl, (y, r, e, f, refl, refl, k), l)

@@ -30,24 +30,17 @@ exponentialIn h xs ys = record { counts = exponentialCounts (read (h .counts) xs
 abbrev pub explicitIn : List Float → BH.Head → List ℕ → F.Figures
 explicitIn bs h xs = record { counts = explicitCounts bs (bucketsIn bs (h .count) xs); summary = B.summary h }
 
-module _ (k : Kind) (extremes sums : Bool) (bs : List Float) (xs ys : List ℕ) where
-  pub exponential-handed : (h : SH.Head) → handedIn (storedIn (exponentialPoint h extremes sums) bs xs ys) ≡ handedOut (settingsOf k extremes sums) (exponentialIn h xs ys)
-  exponential-handed h = refl
+-- of a series that holds the figures of a list, the point of the list
+module _ (k : Kind) (extremes sums : Bool) (bs : List Float) (xs ys : List ℕ) (vs : List Float) where
+  pub exponential-list : (h : SH.Head) → exponentialIn h xs ys ≡ figuresOf (settingsOf k extremes sums) vs
+      → handedIn (storedIn (exponentialPoint h extremes sums) bs xs ys) ≡ handed (settingsOf k extremes sums) vs
+  unfolding handed
+  exponential-list h e = ap (handedOut (settingsOf k extremes sums)) e
 
-  pub explicit-handed : (h : BH.Head) → handedIn (storedIn (explicitPoint h extremes sums) bs xs ys) ≡ handedOut (settingsOf k extremes sums) (explicitIn bs h xs)
-  explicit-handed h = refl
-
-  -- of a series that holds the figures of a list, the point of the list
-  module _ (vs : List Float) where
-    pub exponential-list : (h : SH.Head) → exponentialIn h xs ys ≡ figuresOf (settingsOf k extremes sums) vs
-        → handedIn (storedIn (exponentialPoint h extremes sums) bs xs ys) ≡ handed (settingsOf k extremes sums) vs
-    unfolding handed
-    exponential-list h e = ap (handedOut (settingsOf k extremes sums)) e
-
-    pub explicit-list : (h : BH.Head) → explicitIn bs h xs ≡ figuresOf (settingsOf k extremes sums) vs
-        → handedIn (storedIn (explicitPoint h extremes sums) bs xs ys) ≡ handed (settingsOf k extremes sums) vs
-    unfolding handed
-    explicit-list h e = ap (handedOut (settingsOf k extremes sums)) e
+  pub explicit-list : (h : BH.Head) → explicitIn bs h xs ≡ figuresOf (settingsOf k extremes sums) vs
+      → handedIn (storedIn (explicitPoint h extremes sums) bs xs ys) ≡ handed (settingsOf k extremes sums) vs
+  unfolding handed
+  explicit-list h e = ap (handedOut (settingsOf k extremes sums)) e
 
 -- ---- AGREEMENT
 -- the max_size could be configured, where the kind has one

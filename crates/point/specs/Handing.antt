@@ -68,25 +68,21 @@ handedIn x =
 abbrev pub shownSum : Bool → Float → Float
 shownSum on sum = pick on sum zeroFloat
 
-abbrev pub exponentialPoint : SH.Head → Bool → Bool → Point
-exponentialPoint h extremes sums =
+abbrev pub shownPoint : Figures → Float → Float → Float → Bool → Bool → Point
+shownPoint f min max sum extremes sums =
     record {
-      figures = Exponential (h .counts);
+      figures = f;
       extremes = extremes;
-      min = shownOf extremes (h .min);
-      max = shownOf extremes (h .max);
-      sum = shownSum sums (h .sum);
+      min = shownOf extremes min;
+      max = shownOf extremes max;
+      sum = shownSum sums sum;
     }
 
+abbrev pub exponentialPoint : SH.Head → Bool → Bool → Point
+exponentialPoint h extremes sums = shownPoint (Exponential (h .counts)) (h .min) (h .max) (h .sum) extremes sums
+
 abbrev pub explicitPoint : BH.Head → Bool → Bool → Point
-explicitPoint h extremes sums =
-    record {
-      figures = Explicit (h .count);
-      extremes = extremes;
-      min = shownOf extremes (h .min);
-      max = shownOf extremes (h .max);
-      sum = shownSum sums (h .sum);
-    }
+explicitPoint h extremes sums = shownPoint (Explicit (h .count)) (h .min) (h .max) (h .sum) extremes sums
 
 -- ---- agreement, under a max_size; the greatest level of a merge is the finest
 

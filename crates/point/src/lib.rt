@@ -6,7 +6,7 @@ ghost use Prim.Native.Nat.{_+_, _-_, _^_, _<_};
 ghost use Rattle.points.specs.Handed.{extremesAgree};
 ghost use Rattle.laws.specs.Pick.{_and_};
 ghost use lib.Ieee.Scale.{finite};
-ghost use Rattle.point.specs.Handing.{stored, shownSum, exponentialPoint, explicitPoint, figuresAgree, pointAgrees};
+ghost use Rattle.point.specs.Handing.{stored, shownSum, shownPoint, exponentialPoint, explicitPoint, figuresAgree, pointAgrees};
 ghost use Rattle.point.specs.Handing.{isExplicit, countIn, sameFigures, sizeFits, refusalBefore};
 ghost use Rattle.point.specs.Handing.{madeOver, laidOver, madeOne, laidOne, said, finished, outcome, merging};
 ghost use lib.Dec.{leb};
@@ -45,45 +45,35 @@ fn shown_sum(on: bool, sum: f64) -> f64
     0.0
 }
 
+// The point of a series' figures, by its two switches.
+fn handed_out(figures: Figures, min: f64, max: f64, sum: f64, extremes: bool, sums: bool) -> Point
+    ensures { λ r. ⌜ r ≡ shownPoint figures min max sum extremes sums ⌝ }
+{
+    let low = floats::shown(extremes, min);
+    let high = floats::shown(extremes, max);
+    let total = shown_sum(sums, sum);
+    Point {
+        figures,
+        extremes,
+        min: low,
+        max: high,
+        sum: total,
+    }
+}
+
 // The point that a series of the exponential kind hands out, by its two switches; never refused.
 pub fn exponential_point(head: exponential::Head, extremes: bool, sums: bool) -> Point
     ensures { λ r. ⌜ r ≡ exponentialPoint head extremes sums ⌝ }
 {
     let c = head.counts;
-    let min = floats::shown(extremes, head.min);
-    let max = floats::shown(extremes, head.max);
-    let sum = shown_sum(sums, head.sum);
-    Point {
-        figures: Figures::Exponential(c),
-        extremes,
-        min,
-        max,
-        sum,
-    }
-}
-
-// The count that is handed out.
-fn count_out(head: explicit::Head) -> u64
-    ensures { λ r. ⌜ r ≡ head .count ⌝ }
-{
-    head.count
+    handed_out(Figures::Exponential(c), head.min, head.max, head.sum, extremes, sums)
 }
 
 // The point that a series of the explicit kind hands out, by its two switches; never refused.
 pub fn explicit_point(head: explicit::Head, extremes: bool, sums: bool) -> Point
     ensures { λ r. ⌜ r ≡ explicitPoint head extremes sums ⌝ }
 {
-    let count = count_out(head);
-    let min = floats::shown(extremes, head.min);
-    let max = floats::shown(extremes, head.max);
-    let sum = shown_sum(sums, head.sum);
-    Point {
-        figures: Figures::Explicit(count),
-        extremes,
-        min,
-        max,
-        sum,
-    }
+    handed_out(Figures::Explicit(head.count), head.min, head.max, head.sum, extremes, sums)
 }
 
 // ---- agreement

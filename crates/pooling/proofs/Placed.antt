@@ -1,7 +1,7 @@
 -- A merge into the rest of an output's counts, told as a point put there or as nothing changed. Assumes nothing.
 use Prim.Native.Nat.{ℕ, _+_, _-_, _^_, _≤_, _<_}
 use mathlib.Core.Path.{_≡_, refl, sym, ap, ap₂, _∙_}
-use mathlib.Core.Logic.{_⊎_, ⊎-elim}
+use mathlib.Core.Logic.{⊎-elim}
 use mathlib.Core.Bool.{Bool, true, false}
 use mathlib.Core.List.{List, [], _∷_, _++_, append-nil}
 use native.Mathlib.Omega.{arith}
@@ -19,11 +19,10 @@ use Rattle.point.specs.declared.Point.{Point}
 use Rattle.point.specs.Handing.{Stored, refusalBefore, posOf, negOf, countsIn, Outcome, ended, merging}
 use Rattle.points.specs.Handed.{mergeCounts}
 use Rattle.listing.specs.Words.{wordsOf}
-use Rattle.listing.specs.Listed.{Output, posLen, negLen, behind, overAt, putAt}
+use Rattle.listing.specs.Listed.{Output, posLen, negLen, behind, Goes, overAt, putAt}
 use Rattle.listing.specs.declared.Cursor.{Cursor}
 use Rattle.listing.specs.declared.Span.{Span}
 use Rattle.pooling.specs.Lists.{ends, placed, hasPlace, putMerged, pooled, lastly}
-use Rattle.pooling.specs.Entries.{Goes}
 use Rattle.pooling.proofs.Verdicts.{point, enough, Turned, Taken, verdict}
 
 -- ---- a place at the cursor

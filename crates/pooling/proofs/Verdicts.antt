@@ -10,7 +10,6 @@ use borrow.Author.Tests.{leb-true, eq-eqb, ne-eqb}
 use lib.Dec.{leb, eqb}
 use lib.ListN.{length}
 use lib.Ieee.{Float, binary64, add}
-use Rattle.laws.specs.Pick.{_and_}
 use Rattle.laws.specs.Said.{refusal, success}
 use Rattle.laws.proofs.Bools.{flag, and-left, and-right, pick-true, pick-false}
 use Rattle.floats.specs.Answers.{smallerOf, largerOf}

@@ -1,15 +1,13 @@
 -- What the crate's own functions are given: found points that lie within what is lent. Assumes nothing.
-use Prim.Native.Nat.{ℕ, _+_, _^_, _≤_, _<_}
+use Prim.Native.Nat.{ℕ, _+_, _≤_}
 use mathlib.Core.List.{List, []}
 use lib.ListN.{length}
 use lib.Ieee.{Float}
 use denote.Ref.{RefT, now}
 use Rattle.point.specs.Handing.{Stored}
-use Rattle.point.specs.declared.Figures.{Figures}
-use Rattle.listing.specs.Listed.{posLen, negLen, storedAt}
+use Rattle.listing.specs.Listed.{storedAt}
 use Rattle.listing.specs.declared.Cursor.{Cursor}
 use Rattle.listing.specs.declared.Entry.{Entry}
-use Rattle.listing.specs.declared.Span.{Span}
 
 -- a found point lies within stores of so many
 pub record Whole (at : Cursor) (e : Entry) (many manyNeg manyBounds : ℕ) : Type 0 where
@@ -25,7 +23,3 @@ wholeIn at e bounds pos neg = Whole at e (length (now pos)) (length (now neg)) (
 -- as it is stored
 abbrev pub storedOf : Cursor → Entry → RefT (List Float) → RefT (List ℕ) → RefT (List ℕ) → Stored
 storedOf at e bounds pos neg = storedAt at e (now bounds) (record { sets = []; words = []; pos = now pos; neg = now neg })
-
--- the output goes on behind a point
-abbrev pub Goes : Cursor → Figures → Span → Type 0
-Goes at f b = (at .place + 1 < 2 ^ 64) × (at .pos + posLen f b < 2 ^ 64) × (at .neg + negLen f < 2 ^ 64)

@@ -1,7 +1,5 @@
 // The two points that are merged, read from their lists.
 ghost use mathlib.Core.Path.{_≡_};
-ghost use Prim.Native.Nat.{_+_};
-ghost use lib.Dec.{leb};
 ghost use Rattle.point.specs.Handing.{ended, merging};
 ghost use Rattle.point.specs.Handing as Handing;
 ghost use Rattle.listing.specs.Listed.{boundsAt};
@@ -10,18 +8,7 @@ ghost use Rattle.pooling.specs.Entries.{wholeIn, storedOf};
 use listing::Cursor;
 use listing::Entry;
 use listing::Found;
-use listing::Span;
 use point::Answer;
-
-// Whether the bounds of a span lie in a store of so many.
-fn lies(b: Span, many: usize) -> bool
-    ensures { λ r. ⌜ r ≡ leb (b .start + b .len) many ⌝ }
-{
-    if many < b.start {
-        return false;
-    }
-    b.len <= many - b.start
-}
 
 // The point found, if its bounds lie in a store of so many.
 fn bounded_by(many: usize, found: Found) -> Found
@@ -31,7 +18,7 @@ fn bounded_by(many: usize, found: Found) -> Found
         Found::NoPoint => Found::NoPoint,
         Found::Is(e) => {
             let b = e.bounds;
-            if lies(b, many) {
+            if listing::read::lie(b.start, b.len, many) {
                 return Found::Is(e);
             }
             Found::NoPoint

@@ -3,15 +3,13 @@ ghost use mathlib.Core.Path.{_≡_};
 ghost use mathlib.Core.Bool.{true};
 ghost use lib.ListN.{drop};
 ghost use Rattle.point.specs.Handing.{refusalBefore, merging};
-ghost use Rattle.listing.specs.Listed.{output, behind};
+ghost use Rattle.listing.specs.Listed.{output};
 ghost use Rattle.pooling.specs.Lists.{said, ends, placed, hasPlace, lastly, putMerged, pooled};
-ghost use Rattle.pooling.specs.Entries.{wholeIn, storedOf, Goes};
+ghost use Rattle.pooling.specs.Entries.{wholeIn, storedOf};
 use crate::Pooled;
 use listing::Cursor;
 use listing::Entry;
-use listing::Span;
 use point::Answer;
-use point::Figures;
 
 // Whether stores of so many have a place at the cursor.
 fn has_place(at: Cursor, sets: usize, words: usize, pos: usize, neg: usize) -> bool
@@ -27,20 +25,6 @@ fn has_place(at: Cursor, sets: usize, words: usize, pos: usize, neg: usize) -> b
         return false;
     }
     at.neg <= neg
-}
-
-// The cursor behind a point.
-fn cursor_behind(at: Cursor, f: Figures, b: Span) -> Cursor
-    requires { ⌜ Goes at f b ⌝ }
-    ensures { λ r. ⌜ r ≡ behind at f b ⌝ }
-{
-    let n = listing::put::pos_len(f, b);
-    let m = listing::put::neg_len(f);
-    Cursor {
-        place: at.place + 1,
-        pos: at.pos + n,
-        neg: at.neg + m,
-    }
 }
 
 // The number of a merge without a place for its point: merged into no counts at all, so that nothing is changed.
@@ -133,7 +117,7 @@ fn put_merged(
         Answer::Merged(p) => {
             let k = at.place;
             let g = p.figures;
-            let next = cursor_behind(at, g, s);
+            let next = listing::put::cursor_behind(at, g, s);
             sets[k] = row;
             words[k] = listing::encode::words_of(p, s);
             Pooled::Merged(next)

@@ -1,4 +1,3 @@
-use Prim.Native.Nat.{_-_}
 use mathlib.Core.Path.{refl}
 use Rattle.laws.specs.Pick.{pick}
 use Rattle.explicit.proofs.below.Statement.{statement}

@@ -1,4 +1,4 @@
-use Prim.Native.Nat.{ℕ, _-_, _/_, _^_, max}
+use Prim.Native.Nat.{ℕ, _/_, _^_, max}
 use mathlib.Core.Path.{sym, ap, _∙_}
 use native.Mathlib.Omega.{arith}
 use borrow.Author.Needs.{needs}

@@ -1,4 +1,3 @@
-use Prim.Native.Nat.{_-_}
 use mathlib.Core.Path.{sym, _∙_}
 use Rattle.points.specs.Handed.{extremesAgree}
 use borrow.Author.Needs.{needs}

@@ -1,4 +1,3 @@
-use Prim.Native.Nat.{_-_}
 use mathlib.Core.Path.{sym, ap, _∙_}
 use lib.Ieee.{binary64, add}
 use Rattle.laws.specs.Said.{success}

@@ -1,4 +1,3 @@
-use Prim.Native.Nat.{_-_}
 use mathlib.Core.Path.{refl, sym, _∙_}
 use Rattle.laws.specs.Pick.{pick}
 use borrow.Author.Needs.{needs}

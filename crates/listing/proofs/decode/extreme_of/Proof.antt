@@ -8,16 +8,16 @@ use Rattle.listing.specs.Words.{extremeIn}
 use Rattle.listing.proofs.decode.extreme_of.Statement.{statement}
 use Rattle.listing.proofs.decode.extreme_of.Tie as tie
 
-float-of-requires : tie.Need-float-of-requires
-float-of-requires c κs = search needs
+of-bits-requires : tie.Need-of-bits-requires
+of-bits-requires c κs = search needs
 
 returns : tie.Need-returns
 unfolding extremeIn pick
-returns c = ap Value (c .float-of .ensures) ∙ sym (ap (λ (b : Bool). extremeIn b (c .before .before .args .bits)) (c .before .if1 .taken))
+returns c = ap Value (c .of-bits .ensures) ∙ sym (ap (λ (b : Bool). extremeIn b (c .before .before .args .bits)) (c .before .if1 .taken))
 
 returns-2 : tie.Need-returns-2
 unfolding extremeIn pick
 returns-2 c = sym (ap (λ (b : Bool). extremeIn b (c .before .args .bits)) (c .if1 .left))
 
 pub extreme-of-spec : {M : Type 1} → statement M
-extreme-of-spec = tie.close (tie.spec float-of-requires returns returns-2)
+extreme-of-spec = tie.close (tie.spec of-bits-requires returns returns-2)

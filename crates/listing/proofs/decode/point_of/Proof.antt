@@ -22,11 +22,11 @@ array-read-extreme-of-2 c = search needs
 extreme-of-requires-2 : tie.Need-extreme-of-requires-2
 extreme-of-requires-2 c κs = search needs
 
-array-read-float-of : tie.Need-array-read-float-of
-array-read-float-of c = search needs
+array-read-of-bits : tie.Need-array-read-of-bits
+array-read-of-bits c = search needs
 
-float-of-requires : tie.Need-float-of-requires
-float-of-requires c κs = search needs
+of-bits-requires : tie.Need-of-bits-requires
+of-bits-requires c κs = search needs
 
 array-read-t11 : tie.Need-array-read-t11
 array-read-t11 c = search needs
@@ -37,7 +37,7 @@ returns c =
     let f = c .before .before .before .figures-of .ensures in
     let a = c .before .before .extreme-of .ensures in
     let b = c .before .extreme-of2 .ensures in
-    let s = c .float-of .ensures in
+    let s = c .of-bits .ensures in
     cc
 
 pub point-of-spec : {M : Type 1} → statement M
@@ -50,7 +50,7 @@ point-of-spec =
     extreme-of-requires
     array-read-extreme-of-2
     extreme-of-requires-2
-    array-read-float-of
-    float-of-requires
+    array-read-of-bits
+    of-bits-requires
     array-read-t11
     returns)

@@ -11,14 +11,14 @@ enum-told c = search needs
 enum-known-found : tie.Need-enum-known-found
 enum-known-found c = search needs
 
-lies-requires : tie.Need-lies-requires
-lies-requires c κs = search needs
+lie-requires : tie.Need-lie-requires
+lie-requires c κs = search needs
 
 returns : tie.Need-returns
 returns c =
     let f = c .before .before .before .before in
     let a = f .before .before .args in
-    bounded-in (a .many) (a .found) (f .found .given .0 .0) (f .found .given .1) (sym (c .before .lies .ensures) ∙ c .if1 .taken)
+    bounded-in (a .many) (a .found) (f .found .given .0 .0) (f .found .given .1) (sym (c .before .lie .ensures) ∙ c .if1 .taken)
 
 returns-2 : tie.Need-returns-2
 returns-2 c = search needs
@@ -27,8 +27,8 @@ returns-3 : tie.Need-returns-3
 returns-3 c =
     let f = c .before .before .before .before in
     let a = f .before .before .args in
-    bounded-out (a .many) (a .found) (f .found .given .0 .0) (f .found .given .1) (sym (c .before .lies .ensures) ∙ c .if1 .left)
+    bounded-out (a .many) (a .found) (f .found .given .0 .0) (f .found .given .1) (sym (c .before .lie .ensures) ∙ c .if1 .left)
 
 pub bounded-by-spec : {M : Type 1} → statement M
 bounded-by-spec =
-    tie.close (tie.spec enum-told enum-known-found lies-requires returns returns-2 returns-3)
+    tie.close (tie.spec enum-told enum-known-found lie-requires returns returns-2 returns-3)

@@ -1,4 +1,4 @@
--- `listing::decode::float_of` meets its contract: there is one NaN, and bits above those of infinity, but for the sign, are its. Assumes nothing.
+-- `of_bits` meets its contract: there is one NaN, and bits above those of infinity, but for the sign, are its. Assumes nothing.
 use Prim.Native.Nat.{_%_}
 use mathlib.Core.Path.{_≡_, refl, sym, _∙_, subst}
 use mathlib.Core.Bool.{Bool, true, false, not}
@@ -9,8 +9,8 @@ use lib.Dec.{T}
 use lib.Ieee.{Float, nan, inf, fin, binary64, div, ofBits, isNan}
 use lib.Ieee.Bits.{nanBits-is, nanBits-above}
 use Rattle.laws.proofs.Bools.{not-both}
-use Rattle.listing.proofs.decode.float_of.Statement.{statement}
-use Rattle.listing.proofs.decode.float_of.Tie as tie
+use Rattle.floats.proofs.of_bits.Statement.{statement}
+use Rattle.floats.proofs.of_bits.Tie as tie
 
 nan-only : (x : Float) → isNan x ≡ true → nan ≡ x
 unfolding isNan
@@ -35,5 +35,5 @@ float-from-bits-result c =
 returns-2 : tie.Need-returns-2
 returns-2 c = search needs
 
-pub float-of-spec : {M : Type 1} → statement M
-float-of-spec = tie.close (tie.spec returns float-from-bits-result returns-2)
+pub of-bits-spec : {M : Type 1} → statement M
+of-bits-spec = tie.close (tie.spec returns float-from-bits-result returns-2)

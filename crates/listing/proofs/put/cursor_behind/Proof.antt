@@ -1,8 +1,8 @@
--- `pooling::write::cursor_behind` meets its contract. Assumes nothing.
+-- `listing::put::cursor_behind` meets its contract. Assumes nothing.
 use Prim.Native.Nat.{_+_}
 use borrow.Author.Needs.{needs}
-use Rattle.pooling.proofs.write.cursor_behind.Statement.{statement}
-use Rattle.pooling.proofs.write.cursor_behind.Tie as tie
+use Rattle.listing.proofs.put.cursor_behind.Statement.{statement}
+use Rattle.listing.proofs.put.cursor_behind.Tie as tie
 
 pos-len-requires : tie.Need-pos-len-requires
 pos-len-requires c κs = search needs

@@ -121,15 +121,7 @@ pub fn plan_of(size: usize, a: Counts, b: Counts) -> Plan
 // ---- rows
 
 // The counts of another row from bin t on, added k levels lower to the row of n counts from bin s on. Returns its length then.
-fn add_low(
-    counts: &mut [u64],
-    n: usize,
-    s: u32,
-    other: &[u64],
-    t: u32,
-    m: usize,
-    k: u32,
-) -> usize
+fn add_low(counts: &mut [u64], n: usize, s: u32, other: &[u64], t: u32, m: usize, k: u32) -> usize
     requires { ⌜ (n ≤ length (now counts)) × (m ≤ length (now other)) ⌝ }
     requires { ⌜ (k < 32) × (s ≤ t / 2 ^ k) ⌝ }
     requires { ⌜ (t + (m - 1)) / 2 ^ k - s < length (now counts) ⌝ }

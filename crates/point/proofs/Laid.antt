@@ -88,15 +88,17 @@ module _ (bs : List Float) (n : ℕ) (xs : List ℕ) (cs : List Float) (m : ℕ)
   second = subst (λ (k : ℕ). k ≤ length zs) (sym k-is) (whole-there (bucketCount cs) zs (ok' .whole))
 
   pub addable : n + m < 2 ^ 64 → Addable (bucketCount bs) xs zs × (n + m < 2 ^ 64)
-  addable c =
-      (record {
-        first = first;
-        second = second;
-        sums = ⊎-elim
-            (λ (z : bucketCount bs ≡ 0). rw z (omega arith))
-            (λ (p : 0 < bucketCount bs). omega (arith, ok .adds p, subst (λ (k : ℕ). total (take k zs) ≡ m) (sym k-is) (ok' .adds (omega (arith, k-is))), c))
-            (eq-zero-or-pos (bucketCount bs));
-      }, c)
+  addable c = (
+    record {
+      first = first;
+      second = second;
+      sums = ⊎-elim
+          (λ (z : bucketCount bs ≡ 0). rw z (omega arith))
+          (λ (p : 0 < bucketCount bs). omega (arith, ok .adds p, subst (λ (k : ℕ). total (take k zs) ≡ m) (sym k-is) (ok' .adds (omega (arith, k-is))), c))
+          (eq-zero-or-pos (bucketCount bs));
+    },
+    c,
+  )
 
   pub over-one : (us vs : List ℕ)
       → laidOver (explicitCounts bs (mergeBuckets (bucketsIn bs n xs) (bucketsIn cs m zs))) us vs

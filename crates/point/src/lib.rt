@@ -66,14 +66,16 @@ pub fn exponential_point(head: exponential::Head, extremes: bool, sums: bool) ->
     ensures { λ r. ⌜ r ≡ exponentialPoint head extremes sums ⌝ }
 {
     let c = head.counts;
-    handed_out(Figures::Exponential(c), head.min, head.max, head.sum, extremes, sums)
+    let f = Figures::Exponential(c);
+    handed_out(f, head.min, head.max, head.sum, extremes, sums)
 }
 
 // The point that a series of the explicit kind hands out, by its two switches; never refused.
 pub fn explicit_point(head: explicit::Head, extremes: bool, sums: bool) -> Point
     ensures { λ r. ⌜ r ≡ explicitPoint head extremes sums ⌝ }
 {
-    handed_out(Figures::Explicit(head.count), head.min, head.max, head.sum, extremes, sums)
+    let f = Figures::Explicit(head.count);
+    handed_out(f, head.min, head.max, head.sum, extremes, sums)
 }
 
 // ---- agreement

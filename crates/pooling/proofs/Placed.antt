@@ -10,7 +10,7 @@ use lib.Dec.{leb}
 use lib.ListN.{length, set, take, drop, length-drop, drop-of-length-le, take-append-drop}
 use lib.Seq.{take-all}
 use Rattle.laws.specs.Over.{over}
-use Rattle.laws.specs.Pick.{_and_}
+use Rattle.laws.specs.Pick.{pick, _and_}
 use Rattle.laws.specs.Said.{Said, refusal, success}
 use Rattle.laws.proofs.Bools.{and-left, and-right, pick-true, pick-false}
 use Rattle.laws.proofs.Cases.{true-not-false}
@@ -152,96 +152,105 @@ module _ (size : ℕ) (x y : Stored) (us vs : List ℕ) where
       })
       (verdict size x y us vs)
 
--- ---- merged into no counts at all, only the number is told
+-- ---- merged into the counts from a place on: the cursor's, or behind all counts without a place for the point
 
-none-over : (cs us : List ℕ) → length cs ≤ 0 → us ≡ over cs [] → us ≡ []
+none-over : (cs us old : List ℕ) → length cs ≤ 0 → us ≡ over cs old → us ≡ old
 unfolding over
-none-over [] us h e = e
-none-over (c ∷ cs) us h e = absurd (omega arith)
+none-over [] us old h e = e
+none-over (c ∷ cs) us old h e = absurd (omega arith)
 
-module _ (size : ℕ) (x y : Stored) where
-  told-none : (us vs : List ℕ) (b : Span) → length (x .bounds) ≡ b .len → (p : Point) → ended (success p) (x .bounds) us vs ≡ merging size x y [] []
-      → (10 ≡ lastly (refusalBefore size x y)) × (us ≡ []) × (vs ≡ [])
-  told-none us vs b l p h =
-      let t = took size x y [] [] b l p us vs h in
-      (sym (ap lastly (t .free) ∙ ten), none-over _ us (t .room) (t .pos), none-over _ vs (t .roomNeg) (t .neg))
-    where
-      ten : lastly 0 ≡ 10
-      ten = pick-true true 10 0 refl
+-- as the code writes counts back
+abbrev written : ℕ → List ℕ → List ℕ → List ℕ
+written i us xs = take i xs ++ (us ++ drop (length xs - i) (drop i xs))
 
-  -- as the code finds it: nothing is written before what was lent
-  pub number-refused : (n : ℕ) (us vs ps ns : List ℕ) → ended (refusal n) (x .bounds) us vs ≡ merging size x y [] []
-      → (n ≡ lastly (refusalBefore size x y)) × (us ++ ps ≡ ps) × (vs ++ ns ≡ ns)
-  number-refused n us vs ps ns h =
-      let t = turned-back size x y [] [] n us vs h in
-      (sym (t .number), ap (λ (l : List ℕ). l ++ ps) (t .pos), ap (λ (l : List ℕ). l ++ ns) (t .neg))
+pub start-le : (ok : Bool) (a n i : ℕ) → (ok ≡ true → a ≤ n) → i ≡ pick ok a n → i ≤ n
+unfolding pick
+start-le true a n i h e = omega (arith, h refl, e)
+start-le false a n i h e = omega (arith, e)
 
-  pub number-taken : (b : Span) → length (x .bounds) ≡ b .len → (p : Point) (us vs ps ns : List ℕ) → ended (success p) (x .bounds) us vs ≡ merging size x y [] []
-      → (10 ≡ lastly (refusalBefore size x y)) × (us ++ ps ≡ ps) × (vs ++ ns ≡ ns)
-  number-taken b l p us vs ps ns h =
-      let t = told-none us vs b l p h in
-      (t .0, ap (λ (l : List ℕ). l ++ ps) (t .1), ap (λ (l : List ℕ). l ++ ns) (t .2))
+module _ (size : ℕ) (x y : Stored) (at : Cursor) (row : List ℕ) (b : Span) (l : length (x .bounds) ≡ b .len) (o : Output) where
+  same : merging size x y (rest (at .pos) (o .pos)) (rest (at .neg) (o .neg)) .answer ≡ merging size x y (drop (at .pos) (o .pos)) (drop (at .neg) (o .neg)) .answer
+  same = ap₂ (λ (u v : List ℕ). merging size x y u v .answer) (rest-is (at .pos) (o .pos)) (rest-is (at .neg) (o .neg))
 
-  -- ---- merged into the counts from a cursor on
+  pub with-place : hasPlace at o ≡ true
+      → putMerged at row b o (merging size x y (drop (at .pos) (o .pos)) (drop (at .neg) (o .neg)) .answer) ≡ pooled size row b x y at o
+  unfolding pooled
+  with-place h = sym (pick-true (hasPlace at o) _ _ h)
 
-  module _ (at : Cursor) (row : List ℕ) (b : Span) (l : length (x .bounds) ≡ b .len) (o : Output) where
-    abbrev from : Outcome
-    from = merging size x y (rest (at .pos) (o .pos)) (rest (at .neg) (o .neg))
+  without-place : hasPlace at o ≡ false → ends (refusal (lastly (refusalBefore size x y))) o ≡ pooled size row b x y at o
+  unfolding pooled
+  without-place h = sym (pick-false (hasPlace at o) _ _ h)
 
-    same : merging size x y (rest (at .pos) (o .pos)) (rest (at .neg) (o .neg)) .answer ≡ merging size x y (drop (at .pos) (o .pos)) (drop (at .neg) (o .neg)) .answer
-    same = ap₂ (λ (u v : List ℕ). merging size x y u v .answer) (rest-is (at .pos) (o .pos)) (rest-is (at .neg) (o .neg))
+  module _ (i j : ℕ) where
+    -- refused, with a place or without
+    by-place : (ok : Bool) → hasPlace at o ≡ ok → i ≡ pick ok (at .pos) (length (o .pos)) → j ≡ pick ok (at .neg) (length (o .neg))
+        → (n : ℕ) → lastly (refusalBefore size x y) ≡ n → merging size x y (rest i (o .pos)) (rest j (o .neg)) .answer ≡ refusal n
+        → ends (refusal n) o ≡ pooled size row b x y at o
+    unfolding pick
+    by-place true t e f n m h =
+        ap (putMerged at row b o) (sym h ∙ (λ k. merging size x y (rest (e k) (o .pos)) (rest (f k) (o .neg)) .answer) ∙ same) ∙ with-place t
+    by-place false t e f n m h = ap (λ (k : ℕ). ends (refusal k) o) (sym m) ∙ without-place t
 
-    pub refused-law : (n : ℕ) (us vs : List ℕ) → ended (refusal n) (x .bounds) us vs ≡ merging size x y (rest (at .pos) (o .pos)) (rest (at .neg) (o .neg))
-        → ends (refusal n) (record {
-          sets = o .sets;
-          words = o .words;
-          pos = take (at .pos) (o .pos) ++ (us ++ drop (length (o .pos) - at .pos) (drop (at .pos) (o .pos)));
-          neg = take (at .neg) (o .neg) ++ (vs ++ drop (length (o .neg) - at .neg) (drop (at .neg) (o .neg)));
-        })
-        ≡ putMerged at row b o (merging size x y (drop (at .pos) (o .pos)) (drop (at .neg) (o .neg)) .answer)
-    refused-law n us vs h =
-        let t = turned-back size x y (rest (at .pos) (o .pos)) (rest (at .neg) (o .neg)) n us vs h in
-        let p = kept (at .pos) us (o .pos) (t .pos) in
-        let m = kept (at .neg) vs (o .neg) (t .neg) in
-        (λ i. ends (refusal n) (record { sets = o .sets; words = o .words; pos = p i; neg = m i }))
-        ∙ ap (putMerged at row b o) (ap (λ (k : Outcome). k .answer) h ∙ same)
+    module _ (ok : Bool) (t : ok ≡ hasPlace at o) (e : i ≡ pick ok (at .pos) (length (o .pos))) (f : j ≡ pick ok (at .neg) (length (o .neg))) (us vs : List ℕ) where
+      pub refused-law : (n : ℕ) → ended (refusal n) (x .bounds) us vs ≡ merging size x y (rest i (o .pos)) (rest j (o .neg))
+          → ends (refusal n) (record { sets = o .sets; words = o .words; pos = written i us (o .pos); neg = written j vs (o .neg) }) ≡ pooled size row b x y at o
+      refused-law n h =
+          let q = turned-back size x y (rest i (o .pos)) (rest j (o .neg)) n us vs h in
+          let p = kept i us (o .pos) (q .pos) in
+          let m = kept j vs (o .neg) (q .neg) in
+          (λ k. ends (refusal n) (record { sets = o .sets; words = o .words; pos = p k; neg = m k }))
+          ∙ by-place ok (sym t) e f n (q .number) (sym (ap (λ (k : Outcome). k .answer) h))
 
-    pub accepted-law : (p : Point) (us vs ws : List ℕ) (next : Cursor)
-        → ended (success p) (x .bounds) us vs ≡ merging size x y (rest (at .pos) (o .pos)) (rest (at .neg) (o .neg))
-        → ws ≡ wordsOf p b → next ≡ behind at (p .figures) b
-        → ends (success next) (record {
-          sets = set (o .sets) (at .place) row;
-          words = set (o .words) (at .place) ws;
-          pos = take (at .pos) (o .pos) ++ (us ++ drop (length (o .pos) - at .pos) (drop (at .pos) (o .pos)));
-          neg = take (at .neg) (o .neg) ++ (vs ++ drop (length (o .neg) - at .neg) (drop (at .neg) (o .neg)));
-        })
-        ≡ putMerged at row b o (merging size x y (drop (at .pos) (o .pos)) (drop (at .neg) (o .neg)) .answer)
-    unfolding putAt
-    accepted-law p us vs ws next h w c =
-        let t = took size x y (rest (at .pos) (o .pos)) (rest (at .neg) (o .neg)) b l p us vs h in
-        let a = laid-at (at .pos) (posLen (p .figures) b) _ us (o .pos) (t .many) (t .pos) in
-        let n = laid-at (at .neg) (negLen (p .figures)) _ vs (o .neg) (t .manyNeg) (t .neg) in
-        (λ i. ends (success (c i)) (record { sets = set (o .sets) (at .place) row; words = set (o .words) (at .place) (w i); pos = a i; neg = n i }))
-        ∙ ap (putMerged at row b o) (ap (λ (k : Outcome). k .answer) h ∙ same)
+      module _ (p : Point) (h : ended (success p) (x .bounds) us vs ≡ merging size x y (rest i (o .pos)) (rest j (o .neg))) where
+        taken : Took size x y (rest i (o .pos)) (rest j (o .neg)) b p us vs
+        taken = took size x y (rest i (o .pos)) (rest j (o .neg)) b l p us vs h
 
-    pub goes : (p : Point) (us vs : List ℕ) → ended (success p) (x .bounds) us vs ≡ merging size x y (rest (at .pos) (o .pos)) (rest (at .neg) (o .neg))
-        → at .place + 1 < 2 ^ 64 → at .pos ≤ length (o .pos) → at .neg ≤ length (o .neg) → length (o .pos) < 2 ^ 64 → length (o .neg) < 2 ^ 64
-        → Goes at (p .figures) b
-    goes p us vs h k i j m n =
-        let t = took size x y (rest (at .pos) (o .pos)) (rest (at .neg) (o .neg)) b l p us vs h in
-        let a = ap length (rest-is (at .pos) (o .pos)) ∙ length-drop (at .pos) (o .pos) in
-        let c = ap length (rest-is (at .neg) (o .neg)) ∙ length-drop (at .neg) (o .neg) in
-        (k, omega (arith, t .many, t .room, a, i, m), omega (arith, t .manyNeg, t .roomNeg, c, j, n))
+        -- merged into no counts at all: only the place is wanting
+        pub placeless-law : ok ≡ false
+            → ends (refusal 10) (record { sets = o .sets; words = o .words; pos = written i us (o .pos); neg = written j vs (o .neg) }) ≡ pooled size row b x y at o
+        unfolding pick
+        placeless-law g =
+            let q = taken in
+            let ei : i ≡ length (o .pos) = e ∙ ap (λ (k : Bool). pick k (at .pos) (length (o .pos))) g in
+            let ej : j ≡ length (o .neg) = f ∙ ap (λ (k : Bool). pick k (at .neg) (length (o .neg))) g in
+            let a = ap length (rest-is i (o .pos)) ∙ length-drop i (o .pos) in
+            let c = ap length (rest-is j (o .neg)) ∙ length-drop j (o .neg) in
+            let u = kept i us (o .pos) (none-over _ us (rest i (o .pos)) (omega (arith, q .room, a, ei)) (q .pos)) in
+            let v = kept j vs (o .neg) (none-over _ vs (rest j (o .neg)) (omega (arith, q .roomNeg, c, ej)) (q .neg)) in
+            (λ k. ends (refusal 10) (record { sets = o .sets; words = o .words; pos = u k; neg = v k }))
+            ∙ ap (λ (k : ℕ). ends (refusal k) o) (sym (ap lastly (q .free)))
+            ∙ without-place (sym t ∙ g)
 
-    -- ---- with a place, and without
-    pub with-place : hasPlace at o ≡ true
-        → putMerged at row b o (merging size x y (drop (at .pos) (o .pos)) (drop (at .neg) (o .neg)) .answer) ≡ pooled size row b x y at o
-    unfolding pooled
-    with-place h = sym (pick-true (hasPlace at o) _ _ h)
+        module _ (g : ok ≡ true) where
+          ei : i ≡ at .pos
+          unfolding pick
+          ei = e ∙ ap (λ (k : Bool). pick k (at .pos) (length (o .pos))) g
 
-    pub without-place : hasPlace at o ≡ false → (n : ℕ) → n ≡ lastly (refusalBefore size x y) → (us vs : List ℕ) → us ≡ o .pos → vs ≡ o .neg
-        → ends (refusal n) (record { sets = o .sets; words = o .words; pos = us; neg = vs }) ≡ pooled size row b x y at o
-    unfolding pooled
-    without-place h n e us vs u v =
-        (λ i. ends (refusal (e i)) (record { sets = o .sets; words = o .words; pos = u i; neg = v i }))
-        ∙ sym (pick-false (hasPlace at o) _ _ h)
+          ej : j ≡ at .neg
+          unfolding pick
+          ej = f ∙ ap (λ (k : Bool). pick k (at .neg) (length (o .neg))) g
+
+          pub goes : at .place + 1 < 2 ^ 64 → i ≤ length (o .pos) → j ≤ length (o .neg) → length (o .pos) < 2 ^ 64 → length (o .neg) < 2 ^ 64
+              → Goes at (p .figures) b
+          goes k r s m n =
+              let q = taken in
+              let a = ap length (rest-is i (o .pos)) ∙ length-drop i (o .pos) in
+              let c = ap length (rest-is j (o .neg)) ∙ length-drop j (o .neg) in
+              (k, omega (arith, q .many, q .room, a, r, m, ei), omega (arith, q .manyNeg, q .roomNeg, c, s, n, ej))
+
+          pub accepted-law : (ws : List ℕ) (next : Cursor) → ws ≡ wordsOf p b → next ≡ behind at (p .figures) b
+              → ends (success next) (record {
+                sets = set (o .sets) (at .place) row;
+                words = set (o .words) (at .place) ws;
+                pos = written i us (o .pos);
+                neg = written j vs (o .neg);
+              })
+              ≡ pooled size row b x y at o
+          unfolding putAt
+          accepted-law ws next w c =
+              let q = taken in
+              let a = laid-at i (posLen (p .figures) b) _ us (o .pos) (q .many) (q .pos) ∙ ap (λ (k : ℕ). overAt k (take (posLen (p .figures) b) us) (o .pos)) ei in
+              let n = laid-at j (negLen (p .figures)) _ vs (o .neg) (q .manyNeg) (q .neg) ∙ ap (λ (k : ℕ). overAt k (take (negLen (p .figures)) vs) (o .neg)) ej in
+              (λ k. ends (success (c k)) (record { sets = set (o .sets) (at .place) row; words = set (o .words) (at .place) (w k); pos = a k; neg = n k }))
+              ∙ ap (putMerged at row b o) (ap (λ (k : Outcome). k .answer) h ∙ (λ k. merging size x y (rest (ei k) (o .pos)) (rest (ej k) (o .neg)) .answer) ∙ same)
+              ∙ with-place (sym t ∙ g)

@@ -2,7 +2,7 @@
 ghost use mathlib.Core.Path.{_≡_};
 ghost use Prim.Native.Nat.{_+_, _-_, _/_, _<_, _≤_};
 ghost use lib.ListN.{length, take};
-ghost use lib.Ieee.{lt, eq};
+ghost use lib.Ieee.{lt};
 ghost use Rattle.laws.specs.Pick.{pick, _and_};
 ghost use Rattle.laws.specs.Counting.{total};
 ghost use Rattle.rows.specs.Rows.{over};
@@ -26,21 +26,11 @@ pub enum Answer {
 
 // ---- bounds
 
-// Whether ok, and a is below b.
-fn and_below(ok: bool, a: f64, b: f64) -> bool
-    ensures { λ r. ⌜ r ≡ (ok and lt a b) ⌝ }
+// Whether both hold.
+fn both(ok: bool, test: bool) -> bool
+    ensures { λ r. ⌜ r ≡ (ok and test) ⌝ }
 {
-    if a < b {
-        return ok;
-    }
-    false
-}
-
-// Whether ok, and a equals b.
-fn and_equal(ok: bool, a: f64, b: f64) -> bool
-    ensures { λ r. ⌜ r ≡ (ok and eq a b) ⌝ }
-{
-    if a == b {
+    if test {
         return ok;
     }
     false
@@ -52,7 +42,7 @@ fn rises(bounds: &[f64]) -> bool
     let mut ok = true;
     let mut i: usize = 1;
     while i < bounds.len() {
-        ok = and_below(ok, bounds[i - 1], bounds[i]);
+        ok = both(ok, bounds[i - 1] < bounds[i]);
         i += 1;
     }
     ok
@@ -88,7 +78,7 @@ pub fn same_bounds(a: &[f64], b: &[f64]) -> bool
     let mut ok = true;
     let mut i: usize = 0;
     while i < n {
-        ok = and_equal(ok, a[i], b[i]);
+        ok = both(ok, a[i] == b[i]);
         i += 1;
     }
     ok

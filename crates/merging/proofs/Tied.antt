@@ -1,6 +1,6 @@
 -- `point::merge` answers as the merge of the histogram kinds does. Assumes nothing.
 use Prim.Native.Nat.{ℕ, _+_, _^_, _≤_, _<_}
-use mathlib.Core.Path.{_≡_, refl, ap, sym, _∙_}
+use mathlib.Core.Path.{_≡_, refl, sym, _∙_}
 use mathlib.Core.Logic.{⊎-elim, _⊎_, inl, inr}
 use mathlib.Core.Bool.{Bool, true, false, cond, _&&_, _||_}
 use mathlib.Core.List.{List, [], _∷_}
@@ -88,11 +88,6 @@ read-is size p q us vs =
     (λ j. answered (number (size-is size (p .counts) (q .counts) j) (and-is (agreesRead size p) (agreesRead size q) j) (mergeable p q) (count-fits n j)) (room-is c us vs j) (mergeHanded size p q))
     ∙ in-order s g (mergeable p q) (ltb n (2 ^ 64)) r (mergeHanded size p q)
 
-refused : (s r : Bool) (h : Handed) → answered (pick s 8 1) r h ≡ inl (pick s 8 1)
-unfolding pick
-refused true r h = refl
-refused false r h = refl
-
 -- THE LAW. A refusal's number, or the merged point as it reads
 module _ (size : ℕ) (a b : Stored) (us vs : List ℕ) where
   abbrev p : Handed
@@ -104,11 +99,3 @@ module _ (size : ℕ) (a b : Stored) (us vs : List ℕ) where
   pub merge-is : inShape a ≡ true → inShape b ≡ true → told (mergedStored size us vs a b) ≡ merged size p q (roomOf us vs)
   unfolding _and_
   merge-is i j = told-is size a b us vs ∙ (λ t. toldRead size (i t and j t) p q us vs) ∙ read-is size p q us vs
-
-  -- a head out of shape disagrees: 8, but 1 first
-  pub out-of-shape : inShape a and inShape b ≡ false → told (mergedStored size us vs a b) ≡ inl (pick (sizeAsked size (p .counts) (q .counts)) 8 1)
-  unfolding toldRead refusalRead _and_ pick
-  out-of-shape w =
-      told-is size a b us vs
-      ∙ ap (λ t. toldRead size t p q us vs) w
-      ∙ refused (sizeAsked size (p .counts) (q .counts)) (hasRoom (mergeCounts size (p .counts) (q .counts)) us vs) (mergeHanded size p q)

@@ -19,7 +19,7 @@ use Rattle.points.specs.Handed.{mergeCounts}
 use Rattle.point.specs.declared.Figures.{Figures}
 use Rattle.point.specs.declared.Figures.the-variants.{Exponential, Explicit}
 use Rattle.point.specs.Handing.{Stored, storedIn, countsAs, countsIn, handedIn, posOf, negOf, Outcome, merging}
-use Rattle.listing.specs.Listed.{Output, Item, posLen, negLen, behind, itemOf, putAt, pointAt, boundsAt, storedAt}
+use Rattle.listing.specs.Listed.{Output, Item, posLen, negLen, itemOf, putAt, boundsAt, storedAt}
 use Rattle.listing.specs.declared.Cursor.{Cursor}
 use Rattle.listing.specs.declared.Entry.{Entry}
 use Rattle.listing.specs.declared.Found.the-variants.{Is}
@@ -27,7 +27,7 @@ use Rattle.listing.specs.declared.Span.{Span}
 use Rattle.listing.proofs.Back.{Held}
 use Rattle.listing.proofs.Given.{item-counted}
 use Rattle.pooling.specs.Lists as Lists
-use Rattle.pooling.specs.Lists.{Source, wholeAt, hasPlace, putMerged, pooledAt}
+use Rattle.pooling.specs.Lists.{Source, wholeAt, hasPlace, putMerged, pooledAt, Holds}
 use Rattle.pooling.proofs.Whole.{whole-told, whole-lies, bounds-long}
 use Rattle.pooling.proofs.Verdicts.{buckets-are, point, Turned, Taken, verdict, enough}
 use Rattle.pooling.proofs.Placed.{Took, isSuccess, place-says, with-place}
@@ -85,18 +85,6 @@ module _ (size : ℕ) (x y : Stored) (us vs : List ℕ) (b : Span) (l : length (
       (verdict size x y us vs)
 
 -- ---- the laws
-
--- a stored point listed at a cursor with a set's row and a span of bounds
-abbrev pub entryOf : Cursor → Span → Stored → Entry
-entryOf at b z = record { point = z .point; bounds = b; next = behind at (z .point .figures) b }
-
--- the output holds z there: its set's row, its point, and it reads as z
-pub record Holds (at : Cursor) (row : List ℕ) (b : Span) (bounds : List Float) (z : Stored) (o : Output) : Type 0 where
-  pub set : getD (o .sets) (at .place) [] ≡ row
-  pub point : pointAt at (o .words) (length (o .pos)) (length (o .neg)) ≡ Is (entryOf at b z)
-  pub stored : storedAt at (entryOf at b z) bounds o
-      ≡ storedIn (z .point) (z .bounds) (take (posLen (z .point .figures) b) (z .pos)) (take (negLen (z .point .figures)) (z .neg))
-  pub reads : handedIn (storedAt at (entryOf at b z) bounds o) ≡ handedIn z
 
 module _ (size : ℕ) (a : Cursor) (x : Source) (b : Cursor) (y : Source) (at : Cursor) (o : Output) (e f : Entry)
     (s : a .place < length (x .list .sets)) (p : wholeAt a x ≡ Is e) (q : wholeAt b y ≡ Is f) (h : hasPlace at o ≡ true) where

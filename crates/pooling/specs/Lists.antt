@@ -1,17 +1,19 @@
 -- Two points of lists merged into a third list (docs/LIST.md). Assumes nothing.
 -- Document 01: "Sets are not compared; the result has the first's."
 use Prim.Native.Nat.{ℕ, _+_}
+use mathlib.Core.Path.{_≡_}
 use mathlib.Core.Bool.{Bool}
 use mathlib.Core.List.{List, []}
 use lib.Dec.{leb, eqb}
-use lib.ListN.{length, getD, drop}
+use lib.ListN.{length, getD, take, drop}
 use lib.Ieee.{Float}
 use denote.Ref.{RefT, now}
 use Rattle.laws.specs.Pick.{pick, _and_}
 use Rattle.laws.specs.Said.{Said, refusal, success}
-use Rattle.point.specs.Handing.{Stored, refusalBefore, merging}
-use Rattle.listing.specs.Listed.{Output, output, behind, itemOf, putAt, pointAt, storedAt}
+use Rattle.point.specs.Handing.{Stored, storedIn, handedIn, refusalBefore, merging}
+use Rattle.listing.specs.Listed.{Output, output, posLen, negLen, behind, itemOf, putAt, pointAt, storedAt}
 use Rattle.listing.specs.declared.Cursor.{Cursor}
+use Rattle.listing.specs.declared.Entry.{Entry}
 use Rattle.listing.specs.declared.Found.{Found}
 use Rattle.listing.specs.declared.Found.the-variants.{NoPoint, Is}
 use Rattle.listing.specs.declared.Span.{Span}
@@ -88,3 +90,17 @@ pooledFound size a x b y at o (Is e) (Is f) =
 unfoldable pub pooledAt : ℕ → Cursor → Source → Cursor → Source → Cursor → Output → Outcome
 pooledAt size a x b y at o =
     pick (leb (length (x .list .sets)) (a .place)) (ends (refusal 8) o) (pooledFound size a x b y at o (wholeAt a x) (wholeAt b y))
+
+-- ---- the merged point in the output
+
+-- a stored point listed at a cursor with a set's row and a span of bounds
+abbrev pub entryOf : Cursor → Span → Stored → Entry
+entryOf at b z = record { point = z .point; bounds = b; next = behind at (z .point .figures) b }
+
+-- the output holds z there: its set's row, its point, and it reads as z
+pub record Holds (at : Cursor) (row : List ℕ) (b : Span) (bounds : List Float) (z : Stored) (o : Output) : Type 0 where
+  pub set : getD (o .sets) (at .place) [] ≡ row
+  pub point : pointAt at (o .words) (length (o .pos)) (length (o .neg)) ≡ Is (entryOf at b z)
+  pub stored : storedAt at (entryOf at b z) bounds o
+      ≡ storedIn (z .point) (z .bounds) (take (posLen (z .point .figures) b) (z .pos)) (take (negLen (z .point .figures)) (z .neg))
+  pub reads : handedIn (storedAt at (entryOf at b z) bounds o) ≡ handedIn z

@@ -19,23 +19,23 @@ abbrev μ-loop : tie.MeasureT-loop
 loop-holds : tie.Need-loop-holds Inv-loop μ-loop
 loop-holds c = (omega arith, omega arith, rising-one (now (c .before .args .bounds)))
 
-sub-and-below : tie.Need-sub-and-below Inv-loop μ-loop
-sub-and-below c = search needs
+sub-both : tie.Need-sub-both Inv-loop μ-loop
+sub-both c = search needs
 
-mul-and-below : tie.Need-mul-and-below Inv-loop μ-loop
-mul-and-below c = search needs
+mul-both : tie.Need-mul-both Inv-loop μ-loop
+mul-both c = search needs
 
-shared-slice-read-and-below : tie.Need-shared-slice-read-and-below Inv-loop μ-loop
-shared-slice-read-and-below c = search needs
+shared-slice-read-both : tie.Need-shared-slice-read-both Inv-loop μ-loop
+shared-slice-read-both c = search needs
 
-mul-and-below-2 : tie.Need-mul-and-below-2 Inv-loop μ-loop
-mul-and-below-2 c = search needs
+mul-both-2 : tie.Need-mul-both-2 Inv-loop μ-loop
+mul-both-2 c = search needs
 
-shared-slice-read-and-below-2 : tie.Need-shared-slice-read-and-below-2 Inv-loop μ-loop
-shared-slice-read-and-below-2 c = search needs
+shared-slice-read-both-2 : tie.Need-shared-slice-read-both-2 Inv-loop μ-loop
+shared-slice-read-both-2 c = search needs
 
-and-below-requires : tie.Need-and-below-requires Inv-loop μ-loop
-and-below-requires c κs = search needs
+both-requires : tie.Need-both-requires Inv-loop μ-loop
+both-requires c κs = search needs
 
 add-i : tie.Need-add-i Inv-loop μ-loop
 add-i c = search needs
@@ -48,7 +48,7 @@ loop-again c =
     let t = c .before .before .before in
     let l = t .before in
     let bs = now (l .before .before .args .bounds) in
-    (omega arith, omega arith, rising-turn bs (l .loop .i) (l .loop .ok) (c .and-below .result) (l .loop .inv .0) (t .loop-test .taken) (l .loop .inv .2) (c .and-below .ensures))
+    (omega arith, omega arith, rising-turn bs (l .loop .i) (l .loop .ok) (c .both .result) (l .loop .inv .0) (t .loop-test .taken) (l .loop .inv .2) (c .both .ensures))
 
 returns : tie.Need-returns Inv-loop μ-loop
 returns c = c .before .loop .inv .2 ∙ ap rising (take-all (c .before .loop .i) (now (c .before .before .before .args .bounds)) (c .loop-test .left))
@@ -60,12 +60,12 @@ rises-spec =
     Inv-loop
     μ-loop
     loop-holds
-    sub-and-below
-    mul-and-below
-    shared-slice-read-and-below
-    mul-and-below-2
-    shared-slice-read-and-below-2
-    and-below-requires
+    sub-both
+    mul-both
+    shared-slice-read-both
+    mul-both-2
+    shared-slice-read-both-2
+    both-requires
     add-i
     loop-less
     loop-again

@@ -22,20 +22,20 @@ returns c = same-other (now (c .before .before .before .args .a)) (now (c .befor
 loop-holds : tie.Need-loop-holds Inv-loop μ-loop
 loop-holds c = (omega arith, same-none (now (c .before .before .before .args .a)) (now (c .before .before .before .args .b)))
 
-mul-and-equal : tie.Need-mul-and-equal Inv-loop μ-loop
-mul-and-equal c = search needs
+mul-both : tie.Need-mul-both Inv-loop μ-loop
+mul-both c = search needs
 
-shared-slice-read-and-equal : tie.Need-shared-slice-read-and-equal Inv-loop μ-loop
-shared-slice-read-and-equal c = search needs
+shared-slice-read-both : tie.Need-shared-slice-read-both Inv-loop μ-loop
+shared-slice-read-both c = search needs
 
-mul-and-equal-2 : tie.Need-mul-and-equal-2 Inv-loop μ-loop
-mul-and-equal-2 c = search needs
+mul-both-2 : tie.Need-mul-both-2 Inv-loop μ-loop
+mul-both-2 c = search needs
 
-shared-slice-read-and-equal-2 : tie.Need-shared-slice-read-and-equal-2 Inv-loop μ-loop
-shared-slice-read-and-equal-2 c = search needs
+shared-slice-read-both-2 : tie.Need-shared-slice-read-both-2 Inv-loop μ-loop
+shared-slice-read-both-2 c = search needs
 
-and-equal-requires : tie.Need-and-equal-requires Inv-loop μ-loop
-and-equal-requires c κs = search needs
+both-requires : tie.Need-both-requires Inv-loop μ-loop
+both-requires c κs = search needs
 
 add-i : tie.Need-add-i Inv-loop μ-loop
 add-i c = search needs
@@ -49,7 +49,7 @@ loop-again c =
     let l = t .before in
     let e = l .before in
     let a = e .before .before .before .args in
-    (omega arith, same-turn (now (a .a)) (now (a .b)) (l .loop .i) (l .loop .ok) (c .and-equal .result) (e .if1 .left) (t .loop-test .taken) (l .loop .inv .1) (c .and-equal .ensures))
+    (omega arith, same-turn (now (a .a)) (now (a .b)) (l .loop .i) (l .loop .ok) (c .both .result) (e .if1 .left) (t .loop-test .taken) (l .loop .inv .1) (c .both .ensures))
 
 returns-2 : tie.Need-returns-2 Inv-loop μ-loop
 returns-2 c =
@@ -66,11 +66,11 @@ same-bounds-spec =
     μ-loop
     returns
     loop-holds
-    mul-and-equal
-    shared-slice-read-and-equal
-    mul-and-equal-2
-    shared-slice-read-and-equal-2
-    and-equal-requires
+    mul-both
+    shared-slice-read-both
+    mul-both-2
+    shared-slice-read-both-2
+    both-requires
     add-i
     loop-less
     loop-again

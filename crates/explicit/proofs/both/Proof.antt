@@ -2,8 +2,8 @@ use mathlib.Core.Path.{sym, ap, _∙_}
 use mathlib.Core.Bool.{Bool}
 use Rattle.laws.specs.Pick.{_and_}
 use Rattle.explicit.proofs.Turns.{and-true, and-false}
-use Rattle.explicit.proofs.and_below.Statement.{statement}
-use Rattle.explicit.proofs.and_below.Tie as tie
+use Rattle.explicit.proofs.both.Statement.{statement}
+use Rattle.explicit.proofs.both.Tie as tie
 
 returns : tie.Need-returns
 returns c =
@@ -15,5 +15,5 @@ returns-2 c =
     let a = c .before .args in
     sym (ap (λ (b : Bool). a .ok and b) (c .if1 .left) ∙ and-false (a .ok))
 
-pub and-below-spec : {M : Type 1} → statement M
-and-below-spec = tie.close (tie.spec returns returns-2)
+pub both-spec : {M : Type 1} → statement M
+both-spec = tie.close (tie.spec returns returns-2)

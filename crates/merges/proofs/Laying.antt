@@ -3,7 +3,7 @@ use Prim.Native.Nat.{ℕ, _+_, _-_, _/_, _^_, _≤_, _<_, max}
 use mathlib.Core.Path.{_≡_, refl, ap, sym, subst, _∙_}
 use mathlib.Core.Logic.{⊎-elim}
 use mathlib.Core.List.{List, _++_}
-use native.Mathlib.Nat.{eq-zero-or-pos, zero-div, div-one}
+use native.Mathlib.Nat.{eq-zero-or-pos, zero-div}
 use native.Mathlib.Omega.{arith}
 use lib.ListN.{length, take, replicate, length-append}
 use Rattle.laws.specs.Counting.{total}
@@ -14,7 +14,6 @@ use Rattle.rows.specs.declared.Row.{Row}
 use Rattle.rows.proofs.Laws.{take-over, over-over, length-over, total-downscaled}
 use Rattle.exponential.specs.Steps.{lowered}
 use Rattle.exponential.specs.Series.{rowIn, Laid}
-use Rattle.exponential.proofs.Rowed.{downscaled-zero}
 use Rattle.merges.specs.Merges.{joined, Joinable, Layable, Lendable}
 use Rattle.merges.proofs.Wide.{join-none, join-first, join-both}
 use Rattle.merges.proofs.Spans.{lowered-none, lowered-some, long-add}
@@ -26,29 +25,25 @@ none = record { start = 0; len = 0 }
 -- the row of a, laid first
 module _ (a : Row) (j : ℕ) (xs us : List ℕ) (l : Layable a j xs us) where
   abbrev E : P.Row
-  E = lowered 0 (rowIn none us)
+  E = rowIn none us
 
   abbrev A : P.Row
   A = lowered j (rowIn a xs)
 
-  nothing : length (E .counts) ≡ 0
-  unfolding downscaled
-  nothing = refl
-
   empty-same : a .len ≡ 0 → E ≡ A
   unfolding downscaled
-  empty-same z = row-path E A (zero-div 1 ∙ sym (zero-div (2 ^ j)) ∙ ap (λ n. n / 2 ^ j) (sym (l .empty z))) (sym (ap (λ n. downscaled j (a .start) (take n xs)) z))
+  empty-same z = row-path E A (sym (zero-div (2 ^ j)) ∙ ap (λ n. n / 2 ^ j) (sym (l .empty z))) (sym (ap (λ n. downscaled j (a .start) (take n xs)) z))
 
   pub first-joined : joined E A ≡ A
   first-joined =
       ⊎-elim
       (λ (z : a .len ≡ 0). join-none E A (lowered-none j a xs (l .short) z) ∙ empty-same z)
-      (λ (p : 0 < a .len). join-first E A (lowered-some j a xs (l .short) p) nothing)
+      (λ (p : 0 < a .len). join-first E A (lowered-some j a xs (l .short) p) refl)
       (eq-zero-or-pos (a .len))
 
-  pub layable : Joinable none 0 us a j xs
+  pub layable : Joinable none us a j xs
   layable =
-      record { short = omega arith; other = l .short; few = omega arith; fewOther = l .few; sums = omega (arith, l .sums); room = subst (λ (o : P.Row). length (o .counts) ≤ length us) (sym first-joined) (l .room) }
+      record { short = omega arith; other = l .short; few = l .few; sums = omega (arith, l .sums); room = subst (λ (o : P.Row). length (o .counts) ≤ length us) (sym first-joined) (l .room) }
 
   pub laid : (r : Row) (us' : List ℕ) → Laid (joined E A) us r us' → Laid A us r us'
   laid r us' h = subst (λ (o : P.Row). Laid o us r us') first-joined h
@@ -89,22 +84,20 @@ module _ (a : Row) (j : ℕ) (xs : List ℕ) (b : Row) (k : ℕ) (ys us : List �
     front : take (r .len) us' ≡ F .counts
     front = (λ i. take (h .len i) (h .now i)) ∙ take-over (F .counts) us
 
-    pub same : lowered 0 (rowIn r us') ≡ F
-    same =
-        row-path (lowered 0 (rowIn r us')) F (div-one (r .start) ∙ h .start) (ap (λ (cs : List ℕ). downscaled 0 (r .start) cs) front ∙ downscaled-zero (r .start) (F .counts))
+    same : rowIn r us' ≡ F
+    same = row-path (rowIn r us') F (h .start) front
 
-    pub then-join : Joinable r 0 us' b k ys
+    pub then-join : Joinable r us' b k ys
     then-join =
         record {
           short = omega (arith, h .len, long, short);
           other = l .other;
-          few = omega arith;
-          fewOther = l .fewOther;
+          few = l .fewOther;
           sums = omega (arith, l .sums, ap total front, total-downscaled j (a .start) (take (a .len) xs));
           room = subst (λ (o : P.Row). length (joined o B .counts) ≤ length us') (sym same) (omega (arith, l .room, long));
         }
 
-    pub both-laid : (t : Row) (us'' : List ℕ) → Laid (joined (lowered 0 (rowIn r us')) B) us' t us'' → Laid (joined F B) us t us''
+    pub both-laid : (t : Row) (us'' : List ℕ) → Laid (joined (rowIn r us') B) us' t us'' → Laid (joined F B) us t us''
     both-laid t us'' g =
         let n : us'' ≡ over (joined F B .counts) us =
         g .now ∙ (λ i. over (joined (same i) B .counts) (h .now i)) ∙ over-over (F .counts) (joined F B .counts) us (joined-grows F B) in

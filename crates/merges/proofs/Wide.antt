@@ -83,14 +83,20 @@ total-zeros : (n : ℕ) (xs : List ℕ) → total (replicate n 0 ++ xs) ≡ tota
 total-zeros zero xs = refl
 total-zeros (suc n) xs = omega (arith, total-zeros n xs)
 
--- ---- joining in place: D are the counts from bin S on that stand at the front of xs, in cs; the other row is ys from bin t on
-module _ (D xs ys cs : List ℕ) (S t m k : ℕ) (some : 0 < m) (long : m ≤ length ys) (few : k < 32) (sums : total D + total (take m ys) < 2 ^ 64) (short : length D ≤ length xs) (laid : cs ≡ over D xs)
-    (room : length (joined (record { start = S; counts = D }) (record { start = t / 2 ^ k; counts = downscaled k t (take m ys) }) .counts) ≤ length xs) where
+-- ---- joining in place: the row of n counts from bin s on at the front of xs, and the row of m counts of ys from bin t on, k levels lower
+module _ (xs ys : List ℕ) (n s t m k : ℕ) (short : n ≤ length xs) (long : m ≤ length ys) (few : k < 32) (sums : total (take n xs) + total (take m ys) < 2 ^ 64)
+    (room : length (joined (record { start = s; counts = take n xs }) (record { start = t / 2 ^ k; counts = downscaled k t (take m ys) }) .counts) ≤ length xs) (some : 0 < m) where
+  abbrev D : List ℕ
+  D = take n xs
+
   abbrev E : List ℕ
   E = downscaled k t (take m ys)
 
   abbrev Q : P.Row
-  Q = joined (record { start = S; counts = D }) (record { start = t / 2 ^ k; counts = E })
+  Q = joined (record { start = s; counts = D }) (record { start = t / 2 ^ k; counts = E })
+
+  len-D : length D ≡ n
+  len-D = length-take-le n xs short
 
   len-m : length (take m ys) ≡ m
   len-m = length-take-le m ys long
@@ -101,122 +107,91 @@ module _ (D xs ys cs : List ℕ) (S t m k : ℕ) (some : 0 < m) (long : m ≤ le
   some-E : 0 < length E
   some-E = downscaled-some k t (take m ys) (omega (arith, len-m))
 
-  len-cs : length cs ≡ length xs
-  len-cs = ap length laid ∙ length-over D xs short
-
   -- an empty row
-  module _ (none : length D ≡ 0) where
+  module _ (none : n ≡ 0) where
     is-first : Q ≡ record { start = t / 2 ^ k; counts = E }
-    is-first = join-first (record { start = S; counts = D }) (record { start = t / 2 ^ k; counts = E }) some-E none
+    is-first = join-first (record { start = s; counts = D }) (record { start = t / 2 ^ k; counts = E }) some-E (len-D ∙ none)
 
-    pub first-requires : ((0 ≤ length cs) × (m ≤ length ys)) × (((k < 32) × (t / 2 ^ k ≤ t / 2 ^ k)) × (((t + (m - 1)) / 2 ^ k - t / 2 ^ k < length cs) × (total (take 0 cs) + total (take m ys) < 2 ^ 64)))
+    pub first-requires : ((0 ≤ length xs) × (m ≤ length ys))
+        × (((k < 32) × (t / 2 ^ k ≤ t / 2 ^ k)) × (((t + (m - 1)) / 2 ^ k - t / 2 ^ k < length xs) × (total (take 0 xs) + total (take m ys) < 2 ^ 64)))
     first-requires =
         let r : length E ≤ length xs = subst (λ (q : P.Row). length (q .counts) ≤ length xs) is-first room in
-        ((omega arith, long), ((few, omega arith), (omega (arith, r, long-E, len-cs, some-E), omega arith)))
+        ((omega arith, long), ((few, omega arith), (omega (arith, r, long-E, some-E), omega arith)))
 
-    pub first-laid : (len : ℕ) (zs : List ℕ) → len ≡ length (addLow k (t / 2 ^ k) t (take m ys) (take 0 cs)) → zs ≡ over (addLow k (t / 2 ^ k) t (take m ys) (take 0 cs)) cs
+    pub first-laid : (len : ℕ) (zs : List ℕ) → len ≡ length (addLow k (t / 2 ^ k) t (take m ys) (take 0 xs)) → zs ≡ over (addLow k (t / 2 ^ k) t (take m ys) (take 0 xs)) xs
         → Laid Q xs (record { start = t / 2 ^ k; len = len }) zs
     first-laid len zs p q =
         rw is-first
         (record {
           start = refl;
           len = p ∙ ap length (addLow-empty k t (take m ys));
-          now = q ∙ ap (λ (l : List ℕ). over l cs) (addLow-empty k t (take m ys)) ∙ ap (over E) laid ∙ over-over D E xs (omega (arith, some-E));
+          now = q ∙ ap (λ (l : List ℕ). over l xs) (addLow-empty k t (take m ys));
         })
 
-  module _ (held : 0 < length D) where
-    is-both : Q ≡ record { start = min S (t / 2 ^ k); counts = addAll (t / 2 ^ k - S) E (replicate (S - t / 2 ^ k) 0 ++ D) }
-    is-both = join-both (record { start = S; counts = D }) (record { start = t / 2 ^ k; counts = E }) some-E held
+  module _ (held : 0 < n) where
+    is-both : Q ≡ record { start = min s (t / 2 ^ k); counts = addAll (t / 2 ^ k - s) E (replicate (s - t / 2 ^ k) 0 ++ D) }
+    is-both = join-both (record { start = s; counts = D }) (record { start = t / 2 ^ k; counts = E }) some-E (omega (arith, len-D))
 
-    wide : length (replicate (S - t / 2 ^ k) 0 ++ D) ≡ S - t / 2 ^ k + length D
-    wide = length-append (replicate (S - t / 2 ^ k) 0) D ∙ ap (λ n. n + length D) (length-replicate {A = ℕ} (S - t / 2 ^ k) 0)
+    wide : length (replicate (s - t / 2 ^ k) 0 ++ D) ≡ s - t / 2 ^ k + n
+    wide = length-append (replicate (s - t / 2 ^ k) 0) D ∙ (λ i. length-replicate {A = ℕ} (s - t / 2 ^ k) 0 i + len-D i)
 
-    room-both : max (S - t / 2 ^ k + length D) (t / 2 ^ k - S + length E) ≤ length xs
+    room-both : max (s - t / 2 ^ k + n) (t / 2 ^ k - s + length E) ≤ length xs
     room-both =
-        let r : length (addAll (t / 2 ^ k - S) E (replicate (S - t / 2 ^ k) 0 ++ D)) ≤ length xs = subst (λ (q : P.Row). length (q .counts) ≤ length xs) is-both room in
-        subst (λ (n : ℕ). n ≤ length xs) (rw wide at (long-add (t / 2 ^ k - S) E (replicate (S - t / 2 ^ k) 0 ++ D) some-E)) r
-
-    take-cs : take (length D) cs ≡ D
-    take-cs = ap (take (length D)) laid ∙ take-over D xs
+        let r : length (addAll (t / 2 ^ k - s) E (replicate (s - t / 2 ^ k) 0 ++ D)) ≤ length xs = subst (λ (q : P.Row). length (q .counts) ≤ length xs) is-both room in
+        subst (λ (n : ℕ). n ≤ length xs) (rw wide at (long-add (t / 2 ^ k - s) E (replicate (s - t / 2 ^ k) 0 ++ D) some-E)) r
 
     -- the other row starts no lower
-    module _ (after : S ≤ t / 2 ^ k) where
-      is-after : Q ≡ record { start = S; counts = addLow k S t (take m ys) D }
+    module _ (after : s ≤ t / 2 ^ k) where
+      is-after : Q ≡ record { start = s; counts = addLow k s t (take m ys) D }
       is-after =
-          let a : min S (t / 2 ^ k) ≡ S = omega arith in
-          let b : S - t / 2 ^ k ≡ 0 = omega arith in
-          is-both ∙ rw (addLow-is k S t (take m ys) D after) (λ j. record { start = a j; counts = addAll (t / 2 ^ k - S) E (replicate (b j) 0 ++ D) })
+          let a : min s (t / 2 ^ k) ≡ s = omega arith in
+          let b : s - t / 2 ^ k ≡ 0 = omega arith in
+          is-both ∙ rw (addLow-is k s t (take m ys) D after) (λ j. record { start = a j; counts = addAll (t / 2 ^ k - s) E (replicate (b j) 0 ++ D) })
 
-      pub after-requires : ((length D ≤ length cs) × (m ≤ length ys)) × (((k < 32) × (S ≤ t / 2 ^ k)) × (((t + (m - 1)) / 2 ^ k - S < length cs) × (total (take (length D) cs) + total (take m ys) < 2 ^ 64)))
-      after-requires = ((omega (arith, len-cs), long), ((few, after), (omega (arith, room-both, long-E, len-cs), rw take-cs sums)))
+      pub after-requires : ((n ≤ length xs) × (m ≤ length ys))
+          × (((k < 32) × (s ≤ t / 2 ^ k)) × (((t + (m - 1)) / 2 ^ k - s < length xs) × (total (take n xs) + total (take m ys) < 2 ^ 64)))
+      after-requires = ((short, long), ((few, after), (omega (arith, room-both, long-E), sums)))
 
-      pub after-laid : (len : ℕ) (zs : List ℕ) → len ≡ length (addLow k S t (take m ys) (take (length D) cs)) → zs ≡ over (addLow k S t (take m ys) (take (length D) cs)) cs
-          → Laid Q xs (record { start = S; len = len }) zs
-      after-laid len zs p q =
-          rw is-after
-          (record {
-            start = refl;
-            len = p ∙ ap (λ l. length (addLow k S t (take m ys) l)) take-cs;
-            now = q ∙ ap (λ l. over (addLow k S t (take m ys) l) cs) take-cs ∙ ap (over (addLow k S t (take m ys) D)) laid ∙ over-over D (addLow k S t (take m ys) D) xs (grows k S t (take m ys) D);
-          })
-
-      pub after-requires' : (s n : ℕ) → s ≡ S → n ≡ length D
-          → ((n ≤ length cs) × (m ≤ length ys)) × (((k < 32) × (s ≤ t / 2 ^ k)) × (((t + (m - 1)) / 2 ^ k - s < length cs) × (total (take n cs) + total (take m ys) < 2 ^ 64)))
-      after-requires' s n p q = rw (p, q) after-requires
-
-      pub after-laid' : (s n : ℕ) → s ≡ S → n ≡ length D → (len : ℕ) (zs : List ℕ) → len ≡ length (addLow k s t (take m ys) (take n cs)) → zs ≡ over (addLow k s t (take m ys) (take n cs)) cs
+      pub after-laid : (len : ℕ) (zs : List ℕ) → len ≡ length (addLow k s t (take m ys) (take n xs)) → zs ≡ over (addLow k s t (take m ys) (take n xs)) xs
           → Laid Q xs (record { start = s; len = len }) zs
-      after-laid' s n p q len zs a b =
-          let a' : len ≡ length (addLow k S t (take m ys) (take (length D) cs)) = a ∙ (λ j. length (addLow k (p j) t (take m ys) (take (q j) cs))) in
-          let b' : zs ≡ over (addLow k S t (take m ys) (take (length D) cs)) cs = b ∙ (λ j. over (addLow k (p j) t (take m ys) (take (q j) cs)) cs) in
-          subst (λ (x : ℕ). Laid Q xs (record { start = x; len = len }) zs) (sym p) (after-laid len zs a' b')
+      after-laid len zs p q = rw is-after (record { start = refl; len = p; now = q })
 
     -- the other row starts lower: zeros in front first
-    module _ (before : t / 2 ^ k < S) where
+    module _ (before : t / 2 ^ k < s) where
       abbrev Z : List ℕ
-      Z = replicate (S - t / 2 ^ k) 0 ++ D
+      Z = replicate (s - t / 2 ^ k) 0 ++ D
 
-      pub room-before : length D + (S - t / 2 ^ k) ≤ length cs
-      room-before = omega (arith, room-both, len-cs)
+      pub room-before : n + (s - t / 2 ^ k) ≤ length xs
+      room-before = omega (arith, room-both)
 
       is-before : Q ≡ record { start = t / 2 ^ k; counts = addLow k (t / 2 ^ k) t (take m ys) Z }
       is-before =
-          let a : min S (t / 2 ^ k) ≡ t / 2 ^ k = omega arith in
-          let b : t / 2 ^ k - S ≡ t / 2 ^ k - t / 2 ^ k = omega arith in
+          let a : min s (t / 2 ^ k) ≡ t / 2 ^ k = omega arith in
+          let b : t / 2 ^ k - s ≡ t / 2 ^ k - t / 2 ^ k = omega arith in
           is-both ∙ rw (addLow-is k (t / 2 ^ k) t (take m ys) Z (omega arith)) (λ j. record { start = a j; counts = addAll (b j) E Z })
 
-      module _ (ws : List ℕ) (widened-to : ws ≡ over (replicate (S - t / 2 ^ k) 0 ++ take (length D) cs) cs) where
-        ws-is : ws ≡ over Z xs
-        ws-is =
-            widened-to ∙ ap (λ l. over (replicate (S - t / 2 ^ k) 0 ++ l) cs) take-cs ∙ ap (over Z) laid ∙ over-over D Z xs (omega (arith, wide))
-
+      module _ (ws : List ℕ) (widened-to : ws ≡ over (replicate (s - t / 2 ^ k) 0 ++ take n xs) xs) where
         len-ws : length ws ≡ length xs
-        len-ws = ap length ws-is ∙ length-over Z xs (omega (arith, wide, room-both))
+        len-ws = ap length widened-to ∙ length-over Z xs (omega (arith, wide, room-both))
 
-        take-ws : take (length D + (S - t / 2 ^ k)) ws ≡ Z
+        take-ws : take (n + (s - t / 2 ^ k)) ws ≡ Z
         take-ws =
-            let e : length D + (S - t / 2 ^ k) ≡ length Z = omega (arith, wide) in
-            rw e (ap (take (length Z)) ws-is ∙ take-over Z xs)
+            let e : n + (s - t / 2 ^ k) ≡ length Z = omega (arith, wide) in
+            rw e (ap (take (length Z)) widened-to ∙ take-over Z xs)
 
-        pub before-requires : ((length D + (S - t / 2 ^ k) ≤ length ws) × (m ≤ length ys)) × (((k < 32) × (t / 2 ^ k ≤ t / 2 ^ k)) × (((t + (m - 1)) / 2 ^ k - t / 2 ^ k < length ws) × (total (take (length D + (S - t / 2 ^ k)) ws) + total (take m ys) < 2 ^ 64)))
+        pub before-requires : ((n + (s - t / 2 ^ k) ≤ length ws) × (m ≤ length ys))
+            × (((k < 32) × (t / 2 ^ k ≤ t / 2 ^ k)) × (((t + (m - 1)) / 2 ^ k - t / 2 ^ k < length ws) × (total (take (n + (s - t / 2 ^ k)) ws) + total (take m ys) < 2 ^ 64)))
         before-requires =
-            ((omega (arith, len-ws, room-both), long), ((few, omega arith), (omega (arith, room-both, long-E, len-ws, some-E), rw take-ws (omega (arith, total-zeros (S - t / 2 ^ k) D, sums)))))
+            ((omega (arith, len-ws, room-both), long), ((few, omega arith), (omega (arith, room-both, long-E, len-ws, some-E), rw take-ws (omega (arith, total-zeros (s - t / 2 ^ k) D, sums)))))
 
-        pub before-laid : (len : ℕ) (zs : List ℕ) → len ≡ length (addLow k (t / 2 ^ k) t (take m ys) (take (length D + (S - t / 2 ^ k)) ws)) → zs ≡ over (addLow k (t / 2 ^ k) t (take m ys) (take (length D + (S - t / 2 ^ k)) ws)) ws
+        pub before-laid : (len : ℕ) (zs : List ℕ) → len ≡ length (addLow k (t / 2 ^ k) t (take m ys) (take (n + (s - t / 2 ^ k)) ws))
+            → zs ≡ over (addLow k (t / 2 ^ k) t (take m ys) (take (n + (s - t / 2 ^ k)) ws)) ws
             → Laid Q xs (record { start = t / 2 ^ k; len = len }) zs
         before-laid len zs p q =
             rw is-before
             (record {
               start = refl;
               len = p ∙ ap (λ l. length (addLow k (t / 2 ^ k) t (take m ys) l)) take-ws;
-              now = q ∙ ap (λ l. over (addLow k (t / 2 ^ k) t (take m ys) l) ws) take-ws ∙ ap (over (addLow k (t / 2 ^ k) t (take m ys) Z)) ws-is ∙ over-over Z (addLow k (t / 2 ^ k) t (take m ys) Z) xs (grows k (t / 2 ^ k) t (take m ys) Z);
+              now = q ∙ ap (λ l. over (addLow k (t / 2 ^ k) t (take m ys) l) ws) take-ws ∙ ap (over (addLow k (t / 2 ^ k) t (take m ys) Z)) widened-to
+                  ∙ over-over Z (addLow k (t / 2 ^ k) t (take m ys) Z) xs (grows k (t / 2 ^ k) t (take m ys) Z);
             })
-
-        pub before-requires' : (s n : ℕ) → s ≡ S → n ≡ length D
-            → ((n + (s - t / 2 ^ k) ≤ length ws) × (m ≤ length ys)) × (((k < 32) × (t / 2 ^ k ≤ t / 2 ^ k)) × (((t + (m - 1)) / 2 ^ k - t / 2 ^ k < length ws) × (total (take (n + (s - t / 2 ^ k)) ws) + total (take m ys) < 2 ^ 64)))
-        before-requires' s n p q = rw (p, q) before-requires
-
-        pub before-laid' : (s n : ℕ) → s ≡ S → n ≡ length D → (len : ℕ) (zs : List ℕ) → len ≡ length (addLow k (t / 2 ^ k) t (take m ys) (take (n + (s - t / 2 ^ k)) ws)) → zs ≡ over (addLow k (t / 2 ^ k) t (take m ys) (take (n + (s - t / 2 ^ k)) ws)) ws
-            → Laid Q xs (record { start = t / 2 ^ k; len = len }) zs
-        before-laid' s n p q len zs a b =
-            before-laid len zs (a ∙ (λ j. length (addLow k (t / 2 ^ k) t (take m ys) (take (q j + (p j - t / 2 ^ k)) ws)))) (b ∙ (λ j. over (addLow k (t / 2 ^ k) t (take m ys) (take (q j + (p j - t / 2 ^ k)) ws)) ws))

@@ -91,14 +91,13 @@ unfoldable pub addLow : ℕ → ℕ → ℕ → List ℕ → List ℕ → List �
 addLow k s t [] xs = xs
 addLow k s t (y ∷ ys) xs = addLow k s (suc t) ys (addAt (t / 2 ^ k - s) y xs)
 
--- the row b of ys can be joined, kb levels lower, to the row a of xs, ka levels lower
-pub record Joinable (a : C.Row) (ka : ℕ) (xs : List ℕ) (b : C.Row) (kb : ℕ) (ys : List ℕ) : Type 0 where
+-- the row b of ys can be joined, k levels lower, to the row a of xs
+pub record Joinable (a : C.Row) (xs : List ℕ) (b : C.Row) (k : ℕ) (ys : List ℕ) : Type 0 where
   pub short : a .len ≤ length xs
   pub other : b .len ≤ length ys
-  pub few : ka < 32
-  pub fewOther : kb < 32
+  pub few : k < 32
   pub sums : total (take (a .len) xs) + total (take (b .len) ys) < 2 ^ 64
-  pub room : length (joined (lowered ka (rowIn a xs)) (lowered kb (rowIn b ys)) .counts) ≤ length xs
+  pub room : length (joined (rowIn a xs) (lowered k (rowIn b ys)) .counts) ≤ length xs
 
 -- the row a of xs, j levels lower, has room in zs
 pub record Layable (a : C.Row) (j : ℕ) (xs zs : List ℕ) : Type 0 where

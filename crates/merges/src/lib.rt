@@ -151,31 +151,30 @@ fn widen(counts: &mut [u64], n: usize, k: usize)
     rows::zero(counts, 0, k);
 }
 
-// The row of b, kb levels lower, joined to the row of a, ka levels lower.
-fn join(a: &mut [u64], row: Row, ka: u32, b: &[u64], other: Row, kb: u32) -> Row
-    requires { ⌜ Joinable row ka (now a) other kb (now b) ⌝ }
-    ensures { λ r. ⌜ Laid (joined (lowered ka (rowIn row (now (a .entry)))) (lowered kb (rowIn other (now (b .entry))))) (now (a .entry)) r (now (a .exit)) ⌝ }
+// The row of b, k levels lower, joined to the row of a.
+fn join(a: &mut [u64], row: Row, b: &[u64], other: Row, k: u32) -> Row
+    requires { ⌜ Joinable row (now a) other k (now b) ⌝ }
+    ensures { λ r. ⌜ Laid (joined (rowIn row (now (a .entry))) (lowered k (rowIn other (now (b .entry))))) (now (a .entry)) r (now (a .exit)) ⌝ }
 {
-    let low = exponential::lower(a, row, ka);
     let m = other.len;
     let t = other.start;
     if m == 0 {
-        return low;
+        return row;
     }
-    let first = t >> kb;
-    let n = low.len;
-    let s = low.start;
+    let first = t >> k;
+    let n = row.len;
+    let s = row.start;
     if n == 0 {
-        let len = add_low(a, 0, first, b, t, m, kb);
+        let len = add_low(a, 0, first, b, t, m, k);
         return Row { start: first, len };
     }
     if first < s {
-        let k = (s - first) as usize;
-        widen(a, n, k);
-        let len = add_low(a, n + k, first, b, t, m, kb);
+        let more = (s - first) as usize;
+        widen(a, n, more);
+        let len = add_low(a, n + more, first, b, t, m, k);
         return Row { start: first, len };
     }
-    let len = add_low(a, n, s, b, t, m, kb);
+    let len = add_low(a, n, s, b, t, m, k);
     Row { start: s, len }
 }
 
@@ -184,7 +183,7 @@ fn lay(out: &mut [u64], a: &[u64], row: Row, j: u32) -> Row
     requires { ⌜ Layable row j (now a) (now out) ⌝ }
     ensures { λ r. ⌜ Laid (lowered j (rowIn row (now (a .entry)))) (now (out .entry)) r (now (out .exit)) ⌝ }
 {
-    join(out, Row { start: 0, len: 0 }, 0, a, row, j)
+    join(out, Row { start: 0, len: 0 }, a, row, j)
 }
 
 // The rows of a, j levels lower, and of b, k levels lower, joined over what is lent.
@@ -194,7 +193,7 @@ fn join_to(out: &mut [u64], a: &[u64], row: Row, j: u32, b: &[u64], other: Row, 
         (now (out .entry)) r (now (out .exit)) ⌝ }
 {
     let first = lay(out, a, row, j);
-    join(out, first, 0, b, other, k)
+    join(out, first, b, other, k)
 }
 
 // ---- two series

@@ -13,11 +13,11 @@ import sys
 import time
 from collections import Counter
 
-import damage
 import generate
 import script
 from bits import SIGN, beside_bound, index, is_finite
 from reference import Rules, answers
+from runs import answered, smallest
 from rust import asked, indices, replay
 
 BATCH = 250
@@ -73,19 +73,8 @@ class Comparer:
         sets = [(place, call.set) for place, call in calls(lines) if isinstance(call, (script.Record, script.Bind))]
         return [place for place, attributes in sets if len(dict(attributes)) < len(attributes)]
 
-    def smallest(self, lines):
-        """Fewer and fewer lines, as long as what is left is unexplained."""
-        step = len(lines) // 2
-        while step:
-            start = 0
-            while start < len(lines):
-                fewer = lines[:start] + lines[start + step :]
-                if not self.same(fewer) and self.explain(fewer) == UNEXPLAINED:
-                    lines = fewer
-                else:
-                    start += step
-            step //= 2
-        return lines
+    def unexplained(self, lines):
+        return not self.same(lines) and self.explain(lines) == UNEXPLAINED
 
 
 def calls(lines):
@@ -104,10 +93,10 @@ def without(lines, places):
 
 
 def report(comparer, name, lines):
-    smallest = comparer.smallest(lines)
-    question = asked(smallest, comparer.rules)
+    fewest = smallest(lines, comparer.unexplained)
+    question = asked(fewest, comparer.rules)
     print(f"UNEXPLAINED {name}, smallest script:")
-    print("\n".join(f"    {line}" for line in smallest))
+    print("\n".join(f"    {line}" for line in fewest))
     print("  reference:", *question.expected, sep="\n    ")
     print("  the Rust:", *(replay({"one": question.lines})["one"] or ["panicked"]), sep="\n    ", flush=True)
 
@@ -116,7 +105,7 @@ def judged(comparer, scripts, ours):
     """The verdict of each script; ours is a command or None."""
     verdicts = dict(comparer.compare(scripts))
     if ours:
-        given = damage.answered(ours, scripts)
+        given = answered(ours, scripts)
         verdicts |= {name: OURS for name, lines in scripts.items() if given.get(name) != answers(lines, comparer.rules)}
     return verdicts
 

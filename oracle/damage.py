@@ -8,13 +8,12 @@ status 1 if any differs.
 
 import argparse
 import random
-import shlex
-import subprocess
 
 import generate
-import script
 import machine
+import script
 from bits import CANONICAL_NAN, GREATEST, INFINITY, SIGN
+from runs import answered, smallest
 
 EDGES = (0, 1, 2, 3, 20, 21, 160, 161, 2**32 - 1, 2**32, 2**63, 2**64 - 2, 2**64 - 1)
 FLOATS = (0, SIGN, 1, GREATEST, INFINITY, CANONICAL_NAN, 0x3FF0000000000000, 0x4014000000000000)
@@ -54,27 +53,8 @@ def make(name):
     return lines
 
 
-def answered(command, scripts):
-    done = subprocess.run(shlex.split(command), input=script.join_scripts(scripts), stdout=subprocess.PIPE, text=True)
-    return script.split_scripts(done.stdout)
-
-
 def differs(command, lines):
     return answered(command, {"one": lines})["one"] != machine.answers(lines)
-
-
-def smallest(command, lines):
-    step = len(lines) // 2
-    while step:
-        start = 0
-        while start < len(lines):
-            fewer = lines[:start] + lines[start + step :]
-            if differs(command, fewer):
-                lines = fewer
-            else:
-                start += step
-        step //= 2
-    return lines
 
 
 def main():
@@ -88,7 +68,7 @@ def main():
     said = {name: machine.answers(lines) for name, lines in scripts.items()}
     wrong = [name for name in scripts if ours.get(name) != said[name]]
     for name in wrong[:3]:
-        lines = smallest(given.command, scripts[name])
+        lines = smallest(scripts[name], lambda lines: differs(given.command, lines))
         print(f"DIFFERS {name}, smallest script:", *lines, "  the program:", *answered(given.command, {"one": lines})["one"], sep="\n    ")
         print("  the model:", *machine.answers(lines), sep="\n    ")
     numbers = sorted({int(a.split()[2]) for lines in said.values() for a in lines if a.startswith("!")})

@@ -1,16 +1,14 @@
-"""The stored sample: scripts, what a program must answer to them, and what the Rust answered.
+"""The stored scripts and answers.
 
-    sample.py make              writes sample/{scripts,answers,rust}.txt from sample/cases.txt and random scripts, and the Rust's
-                                answers to sample/beyond.txt, inputs on which it is meant to differ, as they stand
-    sample.py check             needs no Rust: the reference against the stored answers, and these against the Rust's stored ones
-    sample.py check COMMAND     runs a command on the scripts and compares what it prints with the stored answers
-    sample.py damage COMMAND    likewise on sample/damage.txt, whose answers are the stores' model's
+    sample.py make              writes them anew: crates/replay/{stdin,stdout}, the scripts of cases/ and random ones with damage;
+                                sample/{scripts,answers}.txt, random scripts without damage; sample/rust.txt, what the Rust answers to all
+                                that have no damage; sample/beyond_rust.txt, its answers to sample/beyond.txt, on which it is meant to differ
+    sample.py check             needs no Rust: the reference and the model against the stored answers, and these against the Rust's
+    sample.py check COMMAND     runs a command on all stored scripts and compares what it prints with the stored answers
     sample.py gauge COMMAND     likewise on the input of the gauge program, crates/gauge/stdin (tools/make_gauge_vectors.py)
 
-`make` also writes the stored input and output of crates/replay: the cases written by hand, and the damaged scripts.
-
-answers.txt is whole: the Rust's answers where it is asked (docs/REPLAY.md), refusals, `b` lines and merges by the definition. A
-script on which the two differ has values beside a bound; there the definition's answer is stored, and the Rust's in rust.txt.
+The answers are the reference's, over lists of values; to scripts that damage or show cells the model's of the stores, which must answer the
+others as the reference does. A script on which the Rust differs has values beside a bound.
 """
 
 import shlex
@@ -18,92 +16,100 @@ import subprocess
 import sys
 from pathlib import Path
 
+import cases
 import damage
 import generate
+import machine
+import reference
 from compare import BESIDE, SAME, Comparer
-from machine import answers as machine_answers
-from reference import Rules, answers
+from reference import Rules
+from runs import answered
 from rust import asked, replay
 from script import join_scripts, split_scripts
 
 HERE = Path(__file__).resolve().parent / "sample"
-GAUGE = HERE.parent.parent / "crates/gauge"
-REPLAY = HERE.parent.parent / "crates/replay"
+CRATES = HERE.parent.parent / "crates"
+STORED = {CRATES / "replay/stdin": CRATES / "replay/stdout", HERE / "scripts.txt": HERE / "answers.txt"}
 RANDOM_SCRIPTS = 250
-DAMAGED_SCRIPTS = 40
+DAMAGED_SCRIPTS = 25
 
 
-def stored(name):
-    return split_scripts((HERE / f"{name}.txt").read_text())
+def stored(path):
+    return split_scripts(path.read_bytes().decode())
 
 
-def store(name, scripts):
-    (HERE / f"{name}.txt").write_text(join_scripts(scripts))
+def store(path, scripts):
+    path.write_bytes(join_scripts(scripts).encode())
+
+
+def all_stored():
+    return {name: lines for path in STORED for name, lines in stored(path).items()}
+
+
+def all_answers():
+    return {name: lines for path in STORED.values() for name, lines in stored(path).items()}
+
+
+def undamaged(scripts):
+    return {name: lines for name, lines in scripts.items() if not cases.is_damaged(lines)}
+
+
+def expected(lines):
+    return (machine if cases.is_damaged(lines) else reference).answers(lines)
 
 
 def make():
-    scripts = stored("cases") | {f"sample.{i}": generate.make(f"sample.{i}") for i in range(RANDOM_SCRIPTS)}
-    verdicts = dict(Comparer().compare(scripts))
-    assert set(verdicts.values()) <= {SAME, BESIDE}, verdicts
-    store("scripts", scripts)
-    store("answers", {name: answers(lines) for name, lines in scripts.items()})
-    store("rust", replay({name: asked(lines, Rules()).lines for name, lines in scripts.items()}))
-    store("beyond_rust", replay(stored("beyond")))
-    make_damage()
-
-
-def make_damage():
-    scripts = stored("damage_cases") | {f"damage.{i}": damage.make(f"damage.{i}") for i in range(DAMAGED_SCRIPTS)}
-    given = {name: machine_answers(lines) for name, lines in scripts.items()}
-    store("damage", scripts)
-    store("damage_answers", given)
-    cases = stored("cases")
-    (REPLAY / "stdin").write_text(join_scripts(cases | scripts))
-    (REPLAY / "stdout").write_text(join_scripts({name: answers(lines) for name, lines in cases.items()} | given))
-
-
-def report(what, right, wrong):
-    print(f"{what}: {right} scripts the same, {len(wrong)} not{': ' if wrong else ''}{', '.join(wrong)}")
+    random = {f"sample.{i}": generate.make(f"sample.{i}") for i in range(RANDOM_SCRIPTS)}
+    damaged = {f"damage.{i}": damage.make(f"damage.{i}") for i in range(DAMAGED_SCRIPTS)}
+    for (inputs, outputs), scripts in zip(STORED.items(), (cases.scripts() | damaged, random)):
+        store(inputs, scripts)
+        store(outputs, {name: expected(lines) for name, lines in scripts.items()})
+    plain = undamaged(all_stored())
+    verdicts = dict(Comparer().compare(plain))
+    assert set(verdicts.values()) <= {SAME, BESIDE}, [name for name in verdicts if verdicts[name] not in (SAME, BESIDE)]
+    store(HERE / "rust.txt", replay({name: asked(lines, Rules()).lines for name, lines in plain.items()}))
+    store(HERE / "beyond_rust.txt", replay(stored(HERE / "beyond.txt")))
 
 
 def compare_all(what, expected, given):
     wrong = [name for name in expected if given.get(name) != expected[name]]
-    report(what, len(expected) - len(wrong), wrong)
+    print(f"{what}: {len(expected) - len(wrong)} scripts the same, {len(wrong)} not{': ' if wrong else ''}{', '.join(wrong)}")
     return wrong
 
 
-def check_reference():
-    scripts = stored("scripts")
-    wrong = compare_all("the reference", stored("answers"), {name: answers(lines) for name, lines in scripts.items()})
-    questions = {name: asked(lines, Rules()).expected for name, lines in scripts.items()}
-    differing = compare_all("the Rust's stored answers (not the same: judged by the definition)", questions, stored("rust"))
+def check_answers():
+    scripts, said = all_stored(), all_answers()
+    plain = undamaged(scripts)
+    wrong = compare_all("the reference", {name: said[name] for name in plain}, {name: reference.answers(lines) for name, lines in plain.items()})
+    wrong += compare_all("the model of the stores", said, {name: machine.answers(lines) for name, lines in scripts.items()})
+    questions = {name: asked(lines, Rules()).expected for name, lines in plain.items()}
+    differing = compare_all("the Rust's stored answers (not the same: judged by the definition)", questions, stored(HERE / "rust.txt"))
     comparer = Comparer()
-    unexplained = [name for name in differing if not any(comparer.near_bounds(scripts[name]))]
+    unexplained = [name for name in differing if not any(comparer.near_bounds(plain[name]))]
     return not wrong and not unexplained
 
 
+def check_program(command):
+    return not compare_all(command, all_answers(), answered(command, all_stored()))
+
+
 def check_gauge(command):
-    given = subprocess.run(shlex.split(command), stdin=(GAUGE / "stdin").open("rb"), stdout=subprocess.PIPE).stdout
-    expected = (GAUGE / "stdout").read_bytes()
-    print(f"{command}: {'the same' if given == expected else 'NOT the same'}, {len(expected.splitlines())} lines")
-    return given == expected
-
-
-def check_program(program, scripts="scripts", expected="answers"):
-    return not compare_all(program, stored(expected), damage.answered(program, stored(scripts)))
+    gauge = CRATES / "gauge"
+    given = subprocess.run(shlex.split(command), stdin=(gauge / "stdin").open("rb"), stdout=subprocess.PIPE).stdout
+    right = (gauge / "stdout").read_bytes()
+    print(f"{command}: {'the same' if given == right else 'NOT the same'}, {len(right.splitlines())} lines")
+    return given == right
 
 
 def main():
     match sys.argv[1:]:
         case ["make"]:
             make()
-            holds = check_reference()
+            holds = check_answers()
         case ["check"]:
-            holds = check_reference()
-        case ["check", program]:
-            holds = check_program(program)
-        case ["damage", program]:
-            holds = check_program(program, "damage", "damage_answers")
+            holds = check_answers()
+        case ["check", command]:
+            holds = check_program(command)
         case ["gauge", command]:
             holds = check_gauge(command)
         case _:

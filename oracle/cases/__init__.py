@@ -1,0 +1,18 @@
+"""The scripts that crates/replay is held to, made by small functions, one subject a file."""
+
+from cases import bindings, damaged, marks, merges, orders, rescales, rooms, sets
+from cases.lines import Book
+
+PARTS = (marks, sets, bindings, rooms, rescales, merges, orders, damaged)
+
+
+def scripts():
+    book = Book()
+    for part in PARTS:
+        part.write(book)
+    return dict(book)
+
+
+def is_damaged(lines):
+    """Whether only the model of the stores can answer: the reference, over lists of values, knows no cells."""
+    return any(line[:2] == "d " or line == "s" for line in lines)

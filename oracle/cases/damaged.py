@@ -1,0 +1,413 @@
+"""Damaged directories, settings, series and kept points: what every call answers, and what it leaves."""
+
+from bits import GREATEST, index
+from cases.lines import INFINITY, MOST, NAN, NINE, SIGN, TINY
+from machine import bias
+
+WORD = 2**32
+OVERFLOW_WORD = MOST - WORD + 2  # of attribute 4294967295:1
+USED, COUNT, LAST, LIMIT, SIZE, LEVEL, BOUNDS, KEYS = range(8)  # cells of the state
+
+
+def state(cell, number):
+    return "v", 0, cell, number
+
+
+OVERFLOW_HELD = ("s", 2, 0, OVERFLOW_WORD), ("o", 0, 0, 3), ("o", 1, 0, 1), ("o", 2, 0, 2)
+
+# Of sets 1:5, 2:5 and 1:4,2:5, in slots 1, 2 and 3; limit 4.
+DIRECTORIES = {
+    "none": (),
+    "not_ascending": (("o", 0, 0, 2), ("o", 1, 0, 1)),
+    "slot_twice": (("o", 2, 0, 1),),
+    "slot_twice_and_none": (("o", 0, 0, 1),),
+    "slot_of_the_empty_set": (("o", 0, 0, 0),),
+    "slot_beyond": (("o", 1, 0, 4),),
+    "slot_far_beyond": (("o", 1, 0, WORD - 1),),
+    "equal_sets": (("s", 2, 0, WORD + 5),),
+    "no_attribute": (("s", 1, 8, 0),),
+    "nine_attributes": (("s", 1, 8, 9),),
+    "most_attributes": (("s", 1, 8, MOST),),
+    "keys_of_zero": (("s", 3, 8, 8),),
+    "equal_keys": (("s", 3, 1, WORD + 9),),
+    "falling_keys": (("s", 3, 1, 5),),
+    "another_set_in_its_place": (("s", 3, 1, 3 * WORD),),
+    "words_behind_a_set": (("s", 1, 7, 77),),
+    "set_of_the_empty_slot": (("s", 0, 8, 99),),
+    "birth_of_the_empty_slot": (("e", 0, 0, 99),),
+    "birth_zero": (("e", 1, 0, 0),),
+    "birth_twice": (("e", 2, 0, 1),),
+    "birth_of_the_next": (("e", 2, 0, 3),),
+    "birth_not_spent": (("e", 3, 0, 4),),
+    "birth_most": (("e", 3, 0, MOST),),
+    "last_too_low": (state(LAST, 2),),
+    "last_higher": (state(LAST, 100),),
+    "one_slot_less": (state(USED, 2),),
+    "one_slot_and_count_less": (state(USED, 2), state(COUNT, 2)),
+    "one_slot_more": (state(USED, 4),),
+    "slots_over_the_limit": (state(USED, 6),),
+    "slots_most": (state(USED, MOST),),
+    "count_less": (state(COUNT, 2),),
+    "count_more": (state(COUNT, 4),),
+    "count_most": (state(COUNT, MOST),),
+    "count_over_the_limit": (state(LIMIT, 2),),
+    "overflow_counted": OVERFLOW_HELD,
+    "overflow_not_counted": (*OVERFLOW_HELD, state(COUNT, 2)),
+    "overflow_count_less": (*OVERFLOW_HELD, state(COUNT, 1)),
+}
+
+
+def every_call(s):
+    """With a value, a set or a handle to be refused, and without."""
+    s.record(NINE, NAN)
+    s.record(NINE, 1.0)
+    s.record("1:5", 1.0)
+    s.record("-", 2.0)
+    s.by(0, 2.0)
+    s.by(9, 2.0)
+    s.bind(1, "1:6")
+    s.bind(2, NINE)
+    s.release(0)
+    s.release(9)
+    s.collect(5, 0)
+    s.collect(5)
+
+
+def directories(book):
+    for place, (name, cells) in enumerate(DIRECTORIES.items()):
+        for kind in "ex" if place % 6 == 0 else "e":
+            s = book.new(f"directory_{name}_{kind}")
+            s.configure(kind, limit=4)
+            s.bind(0, "1:5")
+            s.record("2:5", 1.0)
+            s.record("1:4,2:5", 2.0)
+            for cell in cells:
+                s.damage(*cell)
+            every_call(s)
+            s.show()
+
+
+SETTINGS = [(SIZE, n) for n in (0, 2, 3, 161, 176, 177, 2**31, 2**32 - 1)] + [(LEVEL, n) for n in (0, 21, 2**32 - 1)]
+SETTINGS += [(LIMIT, n) for n in (0, 62, 63, 64, 65, 2**32 - 2, 2**63, MOST - 2, MOST - 1, MOST)]
+
+
+def settings(book):
+    """Settings that no accepted configuring leaves, and other ones than the series were made under."""
+    for cell, number in SETTINGS:
+        s = book.new(f"setting_{('size', 'level', 'limit')[(SIZE, LEVEL, LIMIT).index(cell)]}_{number}")
+        s.exponential(limit=1)
+        s.bind(0, "1:5")
+        s.by(0, 1.0)
+        s.damage(*state(cell, number))
+        every_call(s)
+        s.show()
+
+
+def bounds(book):
+    s = book.new("setting_bounds")
+    for place, number in ((0, NAN), (1, 1.0), (1, 0.5), (1, INFINITY), (0, INFINITY | SIGN), (2, NAN), (2, INFINITY)):
+        s.explicit(1.0, 2.0, 3.0, limit=1)
+        s.bind(0, "1:5")
+        s.by(0, 1.0)
+        s.damage("b", place, 0, number)
+        every_call(s)
+    for number in (0, 2, 160):
+        s.explicit(1.0, 2.0, 3.0, limit=1)
+        s.damage(*state(BOUNDS, number))
+        every_call(s)
+
+
+def filter_keys(book):
+    s = book.new("setting_filter_keys")
+    for number in (0, 1, 17, 33):
+        s.filter(1, 2)
+        s.exponential()
+        s.bind(0, "1:5,2:5")
+        s.damage(*state(KEYS, number))
+        every_call(s)
+
+
+# Cells of a series in slot 1 under size 3: values 1.0, 2.0, 2.0, -3.0 and 0.0, positive counts 1, 0, 2, negative 1, one zero.
+
+
+def figure(cell, number):
+    return "f", 1, cell, number
+
+
+def extreme(cell, number):
+    return "m", 1, cell, number
+
+
+def count(place, number, store="p"):
+    return store, 3 + place, 0, number
+
+
+def lone_row(level, start, number=3, sign=0):
+    """One count in a row of one sign, nothing in the other."""
+    cells = [(0, number), (1, 0), (2, level), (3, 0), (4, 0), (5, 0), (6, 0), (3 + 2 * sign, start), (4 + 2 * sign, 1)]
+    return [*(figure(*cell) for cell in cells), count(0, number, "pn"[sign])]
+
+
+def range_ends():
+    """Rows at both ends of the range of indices, and one beyond."""
+    for level in (20, 13, 10, 9, 3, 1, 0):
+        for name, end, beyond in (("least", index(TINY, level - 10), -1), ("greatest", index(GREATEST, level - 10), 1)):
+            for off in (0, beyond):
+                start = end + off + bias(level)
+                if start >= 0:
+                    yield f"row_{'beyond' if off else 'at'}_{name}_at_{level - 10}", lone_row(level, start)
+
+
+SERIES = {
+    "none": [],
+    "count_less": [figure(0, 4)],
+    "count_more": [figure(0, 6)],
+    "count_zero": [figure(0, 0)],
+    "zeros_less": [figure(1, 0)],
+    "zeros_most": [figure(1, MOST)],
+    "level_over_the_configured": [figure(2, 21)],
+    "level_2_32": [figure(2, WORD)],
+    "level_most": [figure(2, MOST)],
+    "row_longer_than_size": [figure(4, 4)],
+    "row_of_most": [figure(4, MOST)],
+    "empty_row_with_a_start": [figure(4, 0)],
+    "empty_row_count_wrong": [figure(4, 0), figure(3, 0)],
+    "empty_row": [figure(4, 0), figure(3, 0), figure(0, 2)],
+    "empty_negative_row_with_a_start": [figure(6, 0), figure(0, 4)],
+    "empty_negative_row": [figure(6, 0), figure(5, 0), figure(0, 4)],
+    "negative_row_ends_in_zero": [figure(6, 2)],
+    "first_count_zero": [count(0, 0), figure(0, 4)],
+    "last_count_zero": [count(2, 0), figure(0, 3)],
+    "row_shorter": [count(2, 0), figure(4, 1), figure(0, 3)],
+    "count_in_a_row_more": [count(0, 2)],
+    "total_wraps": [count(0, MOST, "n"), figure(0, 3)],
+    "row_total_wraps": [count(0, 2**63), count(1, 2**63), figure(0, 4)],
+    "counts_behind_the_row": [count(1, 9, "n"), count(2, 9, "n")],
+    "start_zero": [figure(3, 0)],
+    "start_2_32": lone_row(20, WORD),
+    "start_most": [figure(3, MOST)],
+    **dict(range_ends()),
+    "negative_row_at_greatest": lone_row(20, index(GREATEST, 10) + bias(20), sign=1),
+    "negative_row_beyond_greatest": lone_row(20, index(GREATEST, 10) + bias(20) + 1, sign=1),
+    "min_infinite": [extreme(0, INFINITY)],
+    "min_nan": [extreme(0, NAN)],
+    "max_infinite": [extreme(1, INFINITY | SIGN)],
+    "max_nan": [extreme(1, NAN)],
+    "sum_nan": [extreme(2, NAN)],
+    "sum_infinite": [extreme(2, INFINITY)],
+    "min_above_max": [extreme(0, 1e300), extreme(1, -40.0)],
+    "spare_word": [figure(7, 9)],
+    "count_most": lone_row(20, bias(20), MOST),
+    "count_most_less_one": lone_row(20, bias(20), MOST - 1),
+    "zeros_of_most": [figure(0, MOST), figure(1, MOST), figure(3, 0), figure(4, 0), figure(5, 0), figure(6, 0)],
+    "count_and_zeros_of_most": [figure(0, MOST), figure(1, MOST - 4)],
+    "configured_level_zero": [state(LEVEL, 0)],
+}
+
+
+def total(number):
+    return "t", 1, 0, number
+
+
+# The same values under bounds 0 and 2: counts 2, 3, 0.
+BUCKETS = {
+    "none": [],
+    "total_less": [total(4)],
+    "total_more": [total(6)],
+    "count_less": [count(0, 0)],
+    "count_more": [count(2, 1)],
+    "total_wraps": [count(1, MOST), total(1)],
+    "total_wraps_in_three": [count(0, 2**63), count(1, 2**63), count(2, 5), total(5)],
+    "total_most": [count(0, 0), count(1, MOST), total(MOST)],
+    "total_most_less_one": [count(0, 0), count(1, MOST - 1), total(MOST - 1)],
+    "min_infinite": [extreme(0, INFINITY | SIGN)],
+    "min_nan": [extreme(0, NAN)],
+    "max_infinite": [extreme(1, INFINITY)],
+    "max_nan": [extreme(1, NAN)],
+    "sum_nan": [extreme(2, NAN)],
+    "cells_of_the_other_kind": [figure(0, 9), count(0, 9, "n")],
+}
+
+
+def damaged_series(s, cells):
+    """It is touched by recording and collecting, not by calls beside it; in an entry that is not updated it is no series."""
+    s.bind(0, "1:5")
+    s.by(0, 1.0, 2.0, 2.0, -3.0, 0.0)
+    for cell in cells:
+        s.damage(*cell)
+    s.record("2:5", 1.0)
+    s.bind(1, "1:5")
+    s.release(1)
+    s.record("1:5", 1.0)
+    s.by(0, 2.0)
+    s.record("1:5", NAN)
+    s.by(9, 2.0)
+    s.collect(1)
+    s.show()
+    s.damage("e", 1, 2, 0)
+    s.collect(2)
+    s.record("1:5", 7.25)
+    s.collect(3)
+
+
+def series(book):
+    for name, cells in SERIES.items():
+        s = book.new(f"series_{name}")
+        s.exponential(size=3, temporality="c")
+        damaged_series(s, cells)
+    for name, cells in BUCKETS.items():
+        s = book.new(f"buckets_{name}")
+        s.explicit(0.0, 2.0, temporality="c")
+        damaged_series(s, cells)
+
+
+def empty_slot(book):
+    """The series of the empty set, in slot 0."""
+    for kind, cell in (("e", ("f", 0, 0, 9)), ("x", ("t", 0, 0, 9))):
+        s = book.new(f"series_of_the_empty_set_{kind}")
+        s.configure(kind)
+        s.record("-", 1.0)
+        s.damage(*cell)
+        s.record("-", 1.0)
+        s.record("1:1", 1.0)
+        s.collect()
+        s.damage("e", 0, 2, 0)
+        s.collect(2)
+        s.record("-", 5.0)
+        s.collect(3)
+
+
+def idle_damage(book):
+    """A damaged series that is not updated: neither refused nor listed, bound or not, and fresh when recorded into again."""
+    for kind, cells in (("e", (figure(0, 9), figure(2, 21), count(0, 5))), ("x", (total(9), count(1, 77)))):
+        for temporality in "dc":
+            s = book.new(f"idle_damage_{kind}_{temporality}")
+            s.configure(kind, temporality=temporality, **({"size": 3} if kind == "e" else {}))
+            s.bind(0, "1:5")
+            for cell in (*cells, extreme(0, NAN)):
+                s.damage(*cell)
+            s.record("2:5", 1.0)
+            s.collect()
+            s.by(0, 2.0)
+            s.collect(2)
+            s.show()
+
+
+def no_buckets(book):
+    """Without bounds the total is free."""
+    s = book.new("total_without_bounds")
+    s.explicit()
+    s.record("1:1", 1.0)
+    for number in (0, 7, MOST - 1):
+        s.damage("t", 1, 0, number)
+        s.record("1:1", 1.0)
+    s.record("1:1", 1.0)
+    s.collect()
+
+
+def spent(book):
+    """Number 9: birth numbers and binding counts."""
+    for kind in "ex":
+        s = book.new(f"spent_numbers_{kind}")
+        s.configure(kind)
+        s.bind(0, "1:5")
+        s.damage(*state(LAST, MOST - 1))
+        s.record("1:6", 1.0)
+        for key in ("2:5", "-", "1:5", "1:6"):  # overflow would be new
+            s.record(key, 1.0)
+            s.bind(3, key)
+        s.by(3, 1.0)
+        s.release(3)
+        for slot, key, handle in ((1, "1:5", 0), (0, "-", 9)):
+            s.damage("e", slot, 1, MOST)
+            s.bind(handle, key)
+            s.release(handle)
+            s.bind(handle, key)
+            s.bind(handle, key)
+        s.damage("e", 1, 2, 7)  # updated is zero or not
+        s.by(0, 1.0)
+        s.collect()
+        s.show()
+
+
+# Words of kept point 0 (docs/LIST.md), the point of 1.0, 2.0, 2.0, -3.0 and 0.0 under size 3: positive counts 1, 0, 2, negative 1.
+LOW, HIGH = index(TINY, 0) + bias(10), index(GREATEST, 0) + bias(10)
+WORDS = [(0, 1), (0, 2), (1, 4), (1, 6), (1, MOST), (2, 0), (2, MOST), (3, 21), (3, WORD - 1), (3, WORD), (4, LOW - 1), (4, LOW), (4, HIGH), (4, HIGH - 2)]
+WORDS += [(4, 0), (4, WORD), (5, 0), (5, 2), (5, 4), (5, 160), (5, 161), (5, MOST), (6, 0), (6, LOW - 1), (6, HIGH), (6, HIGH + 1), (7, 0), (7, 2), (7, 161)]
+WORDS += [(8, 0), (8, 1), (8, 2), (8, 4), (9, INFINITY), (9, NAN), (9, NAN | 1), (10, INFINITY | SIGN), (10, NAN), (11, INFINITY), (11, NAN), (11, NAN | 1)]
+KEPT_COUNTS = [("P", 0, 0), ("P", 1, 7), ("P", 2, 0), ("P", 2, MOST), ("P", 3, 9), ("N", 0, 0), ("N", 0, MOST), ("N", 1, 5)]
+
+
+def kept_points(book):
+    s = book.new("kept_point_damaged")
+    s.exponential(size=3, scale=0)
+    s.record("1:1", 1.0, 2.0, 2.0, -3.0, 0.0)
+    s.record("2:1", 2.0, 4.0)
+    s.collect()
+    for cell in [("w", 0, *cell) for cell in WORDS] + [(store, 0, place, number) for store, place, number in KEPT_COUNTS]:
+        s.keep(0, 1)
+        s.damage(*cell)
+        s.merge(2, 0, 1, 3)
+        s.merge(2, 1, 0, 160)
+    s.show()
+
+
+EXPLICIT_WORDS = [(0, 0), (1, 4), (1, MOST), (2, 1), (3, 1), (4, 1), (4, WORD), (5, 0), (5, 1), (5, 3), (5, 159), (5, 160), (5, MOST), (6, 1), (7, 1), (8, 1), (8, 2), (10, NAN)]
+EXPLICIT_CELLS = [("P", 0, 0), ("P", 1, MOST), ("P", 3, 9), ("N", 0, 9), ("B", 0, NAN), ("B", 0, 2.0), ("B", 0, -0.0), ("B", 1, INFINITY), ("B", 2, NAN)]
+
+
+def kept_explicit_points(book):
+    s = book.new("kept_explicit_point_damaged")
+    s.explicit(0.0, 2.0)
+    s.record("1:1", 1.0, 2.0, 2.0, -3.0, 0.0)
+    s.record("2:1", 2.0, 4.0)
+    s.collect()
+    for cell in [("w", 0, *cell) for cell in EXPLICIT_WORDS] + [(store, 0, place, number) for store, place, number in EXPLICIT_CELLS]:
+        s.keep(0, 1)
+        s.damage(*cell)
+        s.merge(2, 0, 1, 0)
+        s.merge(2, 1, 0, 160)
+    s.show()
+
+
+def shown(book):
+    """Before and after calls of either kind, refused ones too: a refused call leaves every cell."""
+    for kind in "ex":
+        s = book.new(f"cells_after_calls_{kind}")
+        s.show()
+        s.configure(kind, limit=3, start=100)
+        s.show()
+        s.record("2:1,1:5", 1.0)
+        s.record("2:1", -1.0, 7.0)
+        s.bind(0, "7:7")
+        s.show()
+        s.record("2:1", INFINITY)
+        s.record(NINE, 1.0)
+        s.by(5, 1.0)
+        s.collect(150, 1)
+        s.configure(kind, limit=63)
+        s.show()
+        s.collect(200)
+        s.show()
+        s.collect(300)
+        s.show()
+        s.configure(kind, limit=3)
+        s.show()
+
+
+NOT_THERE = ["d q 0 0 0", "d s 66 0 0", "d s 0 9 0", "d e 0 3 0", "d o 0 0 4294967296", "d o 0 1 0", "d p 10560 0 0", "d n 0 1 0", "d t 0 1 0", "d f 0 8 0"]
+NOT_THERE += ["d b 200 0 0000000000000000", "d b 0 0 0", "d m 0 0 0", "d m 0 3 0000000000000000", "d v 0 8 0", "d w 8 0 0", "d w 0 12 0", "d P 0 160 0", "d P 8 0 0"]
+NOT_THERE += ["d B 0 200 0000000000000000", "d B 8 0 0000000000000000", "d s 0 0", "d s 0 0 -1", "d s 0 0 18446744073709551616", "d s 00 0 0", "s 1", "s "]
+
+
+def not_there(book):
+    s = book.new("damage_that_is_not_there")
+    s += NOT_THERE
+    s.show()
+
+
+def write(book):
+    for part in (directories, settings, bounds, filter_keys, series, empty_slot, idle_damage, no_buckets, spent):
+        part(book)
+    for part in (kept_points, kept_explicit_points, shown, not_there):
+        part(book)

@@ -5,7 +5,6 @@
 Each entry of the map holds the values recorded into it since its last reset, and every point is computed from such a list.
 """
 
-import sys
 from dataclasses import dataclass, field, replace
 
 import script
@@ -85,6 +84,11 @@ class Map:
         self.entries[attributes] = Entry(self.births)
         return self.entries[attributes]
 
+    def listed(self, delta):
+        """The sets that a collection lists, ascending, with their values: a delta the updated ones; the empty set only if it is."""
+        entries = sorted(self.entries.items())
+        return [(attributes, entry.values) for attributes, entry in entries if entry.values or (attributes and not delta)]
+
     def reset(self):
         """After a delta collection: updated entries begin anew, idle ones without bindings go."""
         for attributes, entry in list(self.entries.items()):
@@ -96,7 +100,7 @@ class Map:
 
 
 class Reference:
-    """Answers the lines of one script. `lines` gives for each line its answers, for the comparer also what became of it."""
+    """Answers the lines of one script."""
 
     def __init__(self, rules=Rules()):
         self.rules = rules
@@ -129,6 +133,9 @@ class Reference:
             return [script.unreadable(number)], None
         except Refused as refused:
             return [script.refusal(number, refused.number)], refused.number
+
+    def answers(self, lines):
+        return [answer for number, line in enumerate(lines, 1) for answer in self.line(number, line)[0]]
 
     # What waits for the next configuration.
 
@@ -208,13 +215,16 @@ class Reference:
             raise Refused(6)
         return NUMBERS[self.config.number].parse(raw)
 
+    def own_filter(self):
+        return self.config.filter
+
     def canonical(self, attributes):
         """Filtered, sorted by key, of equal keys the first given."""
         if len(attributes) > self.rules.attributes_most:
             raise Refused(5)
-        first = {}
+        keys, first = self.own_filter(), {}
         for key, value in attributes:
-            if self.config.filter is None or key in self.config.filter:
+            if keys is None or key in keys:
                 first.setdefault(key, value)
         return tuple(sorted(first.items()))
 
@@ -267,11 +277,7 @@ class Reference:
     def collect(self, call):
         self.running()
         delta = self.config.temporality == "d"
-        points = [
-            POINT_OF[self.config.kind](attributes, entry.values, self.config)
-            for attributes, entry in sorted(self.map.entries.items())
-            if entry.values or (attributes and not delta)
-        ]
+        points = [POINT_OF[self.config.kind](attributes, values, self.config) for attributes, values in self.map.listed(delta)]
         check_room(points, call)
         start = self.map.start
         if delta:
@@ -321,15 +327,8 @@ def check_room(points, call):
 
 
 def answers(lines, rules=Rules()):
-    """The answers of one script."""
-    reference = Reference(rules)
-    return [answer for number, line in enumerate(lines, 1) for answer in reference.line(number, line)[0]]
-
-
-def main():
-    scripts = script.split_scripts(sys.stdin.read())
-    sys.stdout.write(script.join_scripts({name: answers(lines) for name, lines in scripts.items()}))
+    return Reference(rules).answers(lines)
 
 
 if __name__ == "__main__":
-    main()
+    script.answer_file(answers)

@@ -1,6 +1,7 @@
 """The language of the call scripts and of their answers (docs/REPLAY.md), shared by all programs of this directory."""
 
 import re
+import sys
 from dataclasses import dataclass, fields, replace
 from typing import Optional
 
@@ -300,6 +301,12 @@ def split_scripts(text):
 
 def join_scripts(scripts):
     return "".join(f"= {name}\n" + "".join(f"{line}\n" for line in lines) for name, lines in scripts.items())
+
+
+def answer_file(answers):
+    """Prints what a function of a script's lines answers to the scripts of the input."""
+    scripts = split_scripts(sys.stdin.read())
+    sys.stdout.write(join_scripts({name: answers(lines) for name, lines in scripts.items()}))
 
 
 # Answers.

@@ -2,7 +2,7 @@
 
 from bits import GREATEST, index
 from cases.lines import INFINITY, MOST, NAN, NINE, SIGN, TINY
-from machine import bias
+from words import bias
 
 WORD = 2**32
 OVERFLOW_WORD = MOST - WORD + 2  # of attribute 4294967295:1

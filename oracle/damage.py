@@ -36,20 +36,54 @@ def damage(draw):
         return script.Damage(store, 0, draw.randrange(6), number)
     if store == "w":
         cell = draw.randrange(12)
-        return script.Damage(store, draw.randrange(3), cell, draw.choice(FLOATS) if cell > 8 else number)
-    return script.Damage(store, draw.randrange(3), draw.randint(0, 9), number)
+        return script.Damage(store, draw.randrange(5), cell, draw.choice(FLOATS) if cell > 8 else number)
+    return script.Damage(store, draw.randrange(5), draw.randint(0, 9), number)
+
+
+def full(draw, held):
+    """Cells that make a count, a binding count or the last birth number as large as it can be, or one less, and still agree."""
+    most = 2**64 - draw.choice((1, 1, 2))
+    stores = held.map
+    updated = [slot for slot in range(min(stores.used, 63) + 1) if stores.updated(slot)]
+    what = draw.choice(("birth", "bindings", "series", "series", "point"))
+    if what == "birth":
+        return [script.Damage("v", 0, 2, most)]
+    if what == "bindings":
+        return [script.Damage("e", draw.randint(0, min(stores.used, 63)), 1, most)]
+    if what == "point":
+        return full_words(draw.randrange(5), held, most)
+    if not updated:
+        return []
+    slot = draw.choice(updated)
+    if stores.config.kind == "e":
+        count, zeros = stores.rows["f"][slot][:2]
+        return [script.Damage("f", slot, 0, most), script.Damage("f", slot, 1, (most - (count - zeros)) % 2**64)]
+    place = slot * stores.width()
+    others = stores.rows["t"][slot][0] - stores.counts["p"][place]
+    return [script.Damage("t", slot, 0, most), script.Damage("p", place, 0, (most - others) % 2**64)]
+
+
+def full_words(k, held, most):
+    words = held.out_words[machine.PLACES + k]
+    if words[0] != 0:
+        return []
+    return [script.Damage("w", k, 1, most), script.Damage("w", k, 2, (most - (words[1] - words[2])) % 2**64)]
 
 
 def make(name):
-    """Damage is mostly shown at once, and the map after a good part of all lines."""
-    draw = random.Random(name)
-    lines = []
+    """Damage is mostly shown at once, and the map after a good part of all lines. A model runs along, so that damage may agree."""
+    draw, held, lines = random.Random(name), machine.Machine(), []
     for line in generate.make(name):
-        lines.append(line)
+        added = [line]
+        held.line(0, line)
         if draw.random() < 0.05:
-            lines.append(script.write_line(damage(draw)))
+            cells = full(draw, held) if held.config and draw.random() < 0.3 else [damage(draw)]
+            added += map(script.write_line, cells)
+        for more in added[1:]:
+            held.line(0, more)
         if draw.random() < 0.1:
-            lines.append("s")
+            added.append("s")
+        lines += added
     return lines
 
 

@@ -91,7 +91,7 @@ def signed(draw, bits):
     return bits | SIGN if draw.random() < 0.3 else bits
 
 
-VALUES = [normal, grid, octaves, wide, random_bits, subnormal, power_of_two, subnormal_power, beside_bound, greatest]
+VALUES = [normal, grid, octaves, wide, random_bits, subnormal, power_of_two, subnormal_power, beside_bound, zero, greatest]
 
 
 def value_source(draw):
@@ -129,9 +129,13 @@ def whole_source(draw, giants):
 # Sets.
 
 
-def set_source(draw, limit):
+def key_source(draw):
+    """The keys of a script's world."""
+    return draw.sample(range(1, 40), draw.randint(1, 9)) + [draw.randrange(2**32)]
+
+
+def set_source(draw, keys, limit):
     """Sets from a small world, given in any order, now and then with a key twice, too long, or the overflow set."""
-    keys = draw.sample(range(1, 40), draw.randint(1, 9)) + [draw.randrange(2**32)]
     values = draw.randint(1, 4)
     known = [some_set(draw, keys, values) for _ in range(draw.randint(1, max(3, min(limit + 4, 40))))]
 
@@ -195,16 +199,17 @@ def in_pieces(made, items, most):
     return [made(tuple(items[i : i + most])) for i in range(0, len(items), most)]
 
 
-def filter_lines(draw):
+def filter_lines(draw, world):
+    """Keys that sets have and, mostly, others."""
     chance = draw.random()
     if chance < 0.6:
         return []
-    if chance < 0.7:
+    if chance < 0.65:
         return [script.Filter(())]
-    keys = draw.sample(range(1, 40), draw.choice((1, 5, 12, 16)))
+    keys = draw.sample(world, draw.randint(1, len(world))) + draw.sample(range(40, 80), draw.choice((0, 1, 5, 15)))
     if draw.random() < 0.3:
-        keys[0] = script.OVERFLOW[0][0]
-    return in_pieces(script.Filter, keys, 12)
+        keys[-1] = script.OVERFLOW[0][0]
+    return in_pieces(script.Filter, keys[:16], 12)
 
 
 def within(draw, allowed):
@@ -262,7 +267,8 @@ class Maker:
         self.bits = value_source(draw)
         self.giants = self.kind[1] == "i" and draw.random() < 0.5  # with the sum off the Rust still adds, and overflows
         self.whole = whole_source(draw, self.giants)
-        self.set = set_source(draw, self.limit)
+        self.keys = key_source(draw)
+        self.set = set_source(draw, self.keys, self.limit)
         self.handles = draw.sample(range(script.HANDLES), 6)
         self.bound, self.kept = [], set()
         self.time = draw.randrange(2**32)
@@ -278,7 +284,7 @@ class Maker:
         return [script.write_line(call) for call in calls + self.collection()]
 
     def configuration(self):
-        waiting = filter_lines(self.draw)
+        waiting = filter_lines(self.draw, self.keys)
         if self.kind[0] == "x":
             waiting += in_pieces(script.Bounds, bounds_of(self.draw, self.bits), 12)
         configure = configure_line(self.draw, self.options, self.kind, self.limit, self.giants)
@@ -289,13 +295,13 @@ class Maker:
         chance = self.draw.random()
         if chance < 0.10:
             return self.collection()
-        if chance < 0.12:
-            return self.merging()
         if chance < 0.13:
+            return self.merging()
+        if chance < 0.145:
             return self.short_stores()
-        if chance < 0.14:
+        if chance < 0.155:
             return self.configuration()
-        if chance < 0.15 and self.options.new_settings:
+        if chance < 0.165 and self.options.new_settings:
             return [script.NewSettings(self.draw.choice((3, 20, 160)), self.draw.randint(-10, 10))]
         if lively and chance < 0.45:
             return [self.binding()]
@@ -323,20 +329,26 @@ class Maker:
         return [call, call] if draw.random() < 0.3 else [call]
 
     def merging(self):
-        """A point of a new collection merged with another one, with an earlier one or with itself."""
+        """Two kept points merged; mostly points of a new collection, of a few more values, are kept before."""
         draw = self.draw
-        new, other = draw.sample(range(3), 2)
-        keeps = [script.Keep(new, 0)] + ([script.Keep(other, draw.randrange(2))] if other not in self.kept else [])
-        self.kept |= {new, other}
-        size = draw.choice((3, 20, 160, 160, 160, 2, 161))
+        lines = []
+        if len(self.kept) < 2 or draw.random() < 0.7:
+            new = draw.sample(range(5), draw.choice((1, 2)))
+            lines = [script.Record(self.value(), self.set()) for _ in range(draw.choice((1, 2, 4)))]
+            lines += [script.Collect(self.time, None, None), *(script.Keep(point, place) for place, point in enumerate(new))]
+            self.kept |= set(new)
+        kept = sorted(self.kept)
+        pair = draw.sample(kept, 2) if len(kept) > 1 and draw.random() < 0.8 else [draw.choice(kept)] * 2
+        size = draw.choice((3, 20, 160, 160, 160, 160, 2, 161))
         counts = draw.choice((None, None, None, 1, 4, 40))
-        pair = draw.choice(((new, new), (new, other), (other, new), (other, new)))
-        return [script.Collect(self.time, None, None), *keeps, script.Merge(draw.randrange(3), *pair, size, counts)]
+        return [*lines, script.Merge(draw.randrange(5), *pair, size, counts)]
 
     def short_stores(self):
-        """One call with stores of some length, perhaps too short."""
-        lent = script.Stores(self.draw.choice((None, 0, 100)), self.draw.choice((None, 2, 8)))
-        return [lent, self.draw.choice((self.binding(), *self.collection())), script.Stores(None, None)]
+        """Calls with stores of some length, perhaps too short."""
+        draw = self.draw
+        lent = script.Stores(draw.choice((None, 0, 100)), draw.choice((None, 2, 8)))
+        calls = draw.choice(([self.binding()], [script.Record(self.value(), self.set())], self.collection(), self.configuration()))
+        return [lent, *calls, script.Stores(None, None)]
 
 
 def make(name, options=Options()):

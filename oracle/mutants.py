@@ -1,6 +1,9 @@
-"""Shows that the comparison has teeth: wrong variants of the reference, each of which random scripts must tell from the Rust.
+"""Shows that the comparisons have teeth: wrong variants of the reference and of the model of the stores, each of which must be found.
 
-    mutants.py [SCRIPTS]        compares each variant over up to SCRIPTS (2000) scripts, until the first that is unexplained
+    mutants.py [SCRIPTS]        compares each variant of the reference with the Rust over up to SCRIPTS (2000) random scripts, until the first
+                                that is unexplained, and with the stored answers of crates/replay
+    mutants.py stored           needs no Rust: each variant of the reference and of the model against the stored answers of crates/replay;
+                                document 01's miscuts must show in the scripts named after them
 """
 
 import sys
@@ -9,13 +12,21 @@ from unittest.mock import patch
 import bits
 import compare
 import generate
+import machine
 import points
 import reference
+import sample
 from script import OVERFLOW
+from stores import ENTRIES, Stores
 
 find_or_make = reference.Map.find_or_make
 finest_index = bits.finest_index
 row_of, drop_needed = points.row_of, points.drop_needed
+RESET, TOTAL, EXPLICIT, CANONICAL = reference.Map.reset, points.total, points.explicit_point, reference.Reference.canonical
+COLLECT, LISTED = reference.Reference.collect, reference.Map.listed
+SWEEP, STAYS, LAY, PLACES = Stores.sweep, Stores.stays, Stores.lay, machine.Machine.check_places
+
+# Of the reference.
 
 
 def power_above(value):
@@ -83,6 +94,7 @@ def bound_above(attributes, values, config):
 
 
 def filter_ignored(self, attributes):
+    CANONICAL(self, attributes)
     return tuple(sorted(dict(attributes[::-1]).items()))
 
 
@@ -98,14 +110,16 @@ def start_kept(self, call):
 
 
 def start_turned(self, call):
+    """By a cumulative collection, as by a delta."""
     lines = COLLECT(self, call)
     self.map.start = call.time
     return lines
 
 
-def reset_always(self, call):
+def reset_cumulative(self, call):
     lines = COLLECT(self, call)
-    self.map.reset()
+    if self.config.temporality != "d":
+        self.map.reset()
     return lines
 
 
@@ -137,8 +151,14 @@ def idle_left_out(self, call):
         self.map.entries = whole
 
 
-RESET, TOTAL, EXPLICIT, CANONICAL = reference.Map.reset, points.total, points.explicit_point, reference.Reference.canonical
-COLLECT = reference.Reference.collect
+def in_order_of_birth(self, delta):
+    return sorted(LISTED(self, delta), key=lambda listed: self.entries[listed[0]].birth)
+
+
+def empty_set_listed(self, delta):
+    listed = LISTED(self, delta)
+    return listed if listed and not listed[0][0] else [((), []), *listed]
+
 
 MUTANTS = [
     ("a power of two put in the bucket above it", bits, "finest_index", power_above),
@@ -157,10 +177,88 @@ MUTANTS = [
     ("sets told apart by the order of attributes", reference.Reference, "canonical", order_kept),
     ("a delta's start left as it was", reference.Reference, "collect", start_kept),
     ("a cumulative collection's start replaced", reference.Reference, "collect", start_turned),
-    ("a cumulative collection resets", reference.Reference, "collect", reset_always),
+    ("a cumulative collection resets", reference.Reference, "collect", reset_cumulative),
     ("a delta resets nothing", reference.Reference, "collect", never_reset),
     ("a collection refused for want of room resets", reference.Reference, "collect", reset_when_refused),
     ("a cumulative collection leaves idle entries out", reference.Reference, "collect", idle_left_out),
+    ("points in the order of birth", reference.Map, "listed", in_order_of_birth),
+    ("the empty set listed though not updated", reference.Map, "listed", empty_set_listed),
+]
+MISCUTS = [
+    "miscut_power_of_two",
+    "miscut_offset_halved_toward_zero",
+    "miscut_one_row_rescaled",
+    "miscut_idle_bound_removed_e",
+    "miscut_overflow_counted_e",
+]  # of the first five
+
+
+# Of the model of the stores.
+
+
+def idle_refused(self):
+    return all(self.series_agrees(slot) for slot in (0, *self.named()))
+
+
+def damage_listed(self):
+    return True
+
+
+def in_slot_order(self, delta):
+    return [slot for slot in range(self.used + 1) if self.updated(slot) or (slot and not delta)]
+
+
+def empty_slot_listed(self, delta):
+    return [slot for slot in (0, *self.named()) if not slot or self.updated(slot) or not delta]
+
+
+def unbound_goes(self, slot):
+    return self.updated(slot) or self.set_at(slot) == OVERFLOW
+
+
+def overflow_goes(self, slot):
+    return self.updated(slot) or self.bindings_at(slot)
+
+
+def all_stay(self, slot):
+    return True
+
+
+def never_lowered(self):
+    count = self.count
+    SWEEP(self)
+    self.count = count
+
+
+def not_reset(self):
+    """The empty set's entry stays updated."""
+    held = list(self.rows[ENTRIES][0])
+    SWEEP(self)
+    self.rows[ENTRIES][0] = held
+
+
+def cleared_behind(self, store, slot, counts):
+    LAY(self, store, slot, [*counts, *[0] * (self.width() - len(counts))])
+
+
+def room_together(self, listed, call):
+    PLACES(self, listed, call)
+    if call.counts is not None and sum(len(row) for _, _, counts in listed for row in counts) > call.counts:
+        raise points.Refused(10)
+
+
+MODELS = [
+    ("a damaged series that is not updated is refused", Stores, "touched_agree", idle_refused),
+    ("a damaged series is listed", Stores, "touched_agree", damage_listed),
+    ("points in slot order", Stores, "listed", in_slot_order),
+    ("the empty slot listed though not updated", Stores, "listed", empty_slot_listed),
+    ("an idle bound slot removed", Stores, "stays", unbound_goes),
+    ("the overflow slot removed", Stores, "stays", overflow_goes),
+    ("no slot removed", Stores, "stays", all_stay),
+    ("the count not lowered by a sweep", Stores, "sweep", never_lowered),
+    ("the empty slot not reset", Stores, "sweep", not_reset),
+    ("what lies behind a row is cleared", Stores, "lay", cleared_behind),
+    ("room judged over both count stores together", machine.Machine, "check_places", room_together),
 ]
 
 
@@ -180,14 +278,50 @@ def found_after(most):
     return None
 
 
-def main():
-    most = int(sys.argv[1]) if len(sys.argv) > 1 else 2000
+def shown_by(answers, scripts, said):
+    """The first stored script that a variant answers otherwise, None if there is none; a variant may also fail over it."""
+    for name, lines in scripts.items():
+        try:
+            if answers(lines) != said[name]:
+                return name
+        except Exception:
+            return name
+    return None
+
+
+def report(what, found):
+    print(f"{'MISSED' if found is None else found:>36}  {what}", flush=True)
+    return found is None
+
+
+def against_stored():
+    """How many variants the stored scripts miss."""
+    scripts, said = (sample.stored(sample.CRATES / "replay" / name) for name in ("stdin", "stdout"))
+    plain, missed = sample.undamaged(scripts), 0
+    for place, (what, *where) in enumerate(MUTANTS):
+        among = {MISCUTS[place]: plain[MISCUTS[place]]} if place < len(MISCUTS) else plain
+        with patched(*where):
+            missed += report(what, shown_by(reference.answers, among, said))
+    for what, *where in MODELS:
+        with patched(*where):
+            missed += report(what, shown_by(machine.answers, scripts, said))
+    return missed
+
+
+def against_the_rust(most):
     missed = 0
-    for what, place, name, wrong in MUTANTS:
-        with patched(place, name, wrong):
+    for what, *where in MUTANTS:
+        with patched(*where):
             found = found_after(most)
-        missed += found is None
-        print(f"{'MISSED' if found is None else f'script {found}':>12}  {what}", flush=True)
+        missed += report(what, found and f"script {found}")
+    return missed
+
+
+def main():
+    stored = sys.argv[1:] == ["stored"]
+    missed = against_stored()
+    if not stored:
+        missed += against_the_rust(int(sys.argv[1]) if len(sys.argv) > 1 else 2000)
     raise SystemExit(1 if missed else 0)
 
 

@@ -218,7 +218,7 @@ class Machine(Reference):
         else:
             self.out_counts["PN".index(call.store)][COUNTS + KEPT_COUNTS * k + cell] = number
 
-    def show(self, call):
+    def show(self, _call):
         sums = [*map(mixed, self.map.cells())]
         sums += [mixed(cell for row in rows for cell in row) for rows in (self.out_sets, self.out_words)]
         sums += [mixed(counts) for counts in self.out_counts]

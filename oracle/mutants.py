@@ -24,7 +24,7 @@ finest_index = bits.finest_index
 row_of, drop_needed = points.row_of, points.drop_needed
 RESET, TOTAL, EXPLICIT, CANONICAL = reference.Map.reset, points.total, points.explicit_point, reference.Reference.canonical
 COLLECT, LISTED = reference.Reference.collect, reference.Map.listed
-SWEEP, STAYS, LAY, PLACES = Stores.sweep, Stores.stays, Stores.lay, machine.Machine.check_places
+SWEEP, LAY, PLACES = Stores.sweep, Stores.lay, machine.Machine.check_places
 
 # Of the reference.
 
@@ -200,7 +200,7 @@ def idle_refused(self):
     return all(self.series_agrees(slot) for slot in (0, *self.named()))
 
 
-def damage_listed(self):
+def damage_listed(_self):
     return True
 
 
@@ -220,7 +220,7 @@ def overflow_goes(self, slot):
     return self.updated(slot) or self.bindings_at(slot)
 
 
-def all_stay(self, slot):
+def all_stay(_self, _slot):
     return True
 
 

@@ -8,7 +8,6 @@ from script import write_bits, write_held, write_list, write_row
 
 EMPTY_ROW = (0, ())
 COUNT_MOST = 2**64 - 1
-LOWEST_SCALE = -10
 
 
 class Refused(Exception):

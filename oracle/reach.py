@@ -24,14 +24,14 @@ NUMBERS = {
     "c": (12, 8, 10),
     "j": (1, 8, 11, 9, 10),
 }
-BRANCHES = [
-    *(f"recorded: {what}" for what in ("zero", "one level lower", "2 to 9 levels lower", "10 to 20 levels lower", "sum infinite", "on a bound", "no bounds")),
-    *(f"set: {what}" for what in ("empty by filter", "key twice", "found", "made", "sent to overflow", "overflow made", "overflow as a set")),
-    *(f"delta: {what}" for what in ("removed", "slots moved", "idle bound stays", "idle overflow stays", "empty set listed", "empty", "count one more with overflow")),
-    *(f"cumulative: {what}" for what in ("idle entry listed", "empty set listed", "empty set left out")),
-    *(f"merged: {what}" for what in ("levels apart", "lower than both", "an empty point", "explicit", "no bounds", "zeros of both signs", "sum NaN", "sum infinite")),
-    *(f"handle: {what}" for what in ("of a removed set", "of overflow", "of the empty set", "released twice")),
-]
+BRANCHES = {
+    "recorded": "zero, one level lower, 2 to 9 levels lower, 10 to 20 levels lower, sum infinite, on a bound, no bounds",
+    "set": "empty by filter, key twice, found, made, sent to overflow, overflow made, overflow as a set",
+    "delta": "removed, slots moved, idle bound stays, idle overflow stays, empty set listed, empty, count one more with overflow",
+    "cumulative": "idle entry listed, empty set listed, empty set left out",
+    "merged": "levels apart, lower than both, an empty point, explicit, no bounds, zeros of both signs, sum NaN, sum infinite",
+    "handle": "of a removed set, of overflow, of the empty set, released twice",
+}
 
 
 class Watched(Machine):
@@ -119,7 +119,8 @@ class Watched(Machine):
             self.note_delta(before, counted)
         elif before:
             idle = [slot for slot, _, updated, _ in before if not updated]
-            self.note(("cumulative: idle entry listed", any(idle)), ("cumulative: empty set listed", 0 not in idle), ("cumulative: empty set left out", 0 in idle))
+            self.note(("cumulative: idle entry listed", any(idle)))
+            self.note(("cumulative: empty set listed", 0 not in idle), ("cumulative: empty set left out", 0 in idle))
         return lines
 
     def note_delta(self, before, counted):
@@ -136,7 +137,8 @@ class Watched(Machine):
         if call.point in (call.first, call.second):
             return lines
         self.note(("merged: an empty point", 0 in (a.count, b.count)), ("merged: explicit", a.kind == "x"))
-        self.note(("merged: no bounds", a.kind == "x" and not a.bounds), ("merged: sum NaN", c.sum != c.sum), ("merged: sum infinite", abs(c.sum) == float("inf")))
+        self.note(("merged: no bounds", a.kind == "x" and not a.bounds))
+        self.note(("merged: sum NaN", c.sum != c.sum), ("merged: sum infinite", abs(c.sum) == float("inf")))
         self.note(("merged: zeros of both signs", a.min == b.min == 0 and to_bits(a.min) != to_bits(b.min)))
         if a.kind == "e":
             self.note(("merged: levels apart", a.scale != b.scale), ("merged: lower than both", c.scale < min(a.scale, b.scale)))
@@ -177,8 +179,9 @@ def main():
         for kind in ("",) if call[0] in "nj" else "ex":
             said = (f"{number}: {seen[f'{call} {kind} {number}'] or 'NEVER'}" for number in (0, *numbers))
             print(f"{call} {kind}".ljust(5), *said, sep="  ")
-    for name in BRANCHES:
-        print(f"{seen[name] or 'NEVER':>8}  {name}")
+    for call, branches in BRANCHES.items():
+        for what in branches.split(", "):
+            print(f"{seen[f'{call}: {what}'] or 'NEVER':>8}  {call}: {what}")
 
 
 if __name__ == "__main__":

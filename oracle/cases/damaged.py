@@ -1,7 +1,7 @@
-"""Damaged directories, settings, series and kept points: what every call answers, and what it leaves."""
+"""Damaged directories, settings and series: what every call answers, and what it leaves."""
 
-from bits import GREATEST, index
-from cases.lines import INFINITY, MOST, NAN, NINE, SIGN, TINY
+from bits import GREATEST, INFINITY, SIGN, index
+from cases.lines import MOST, NAN, NINE, TINY
 from words import bias
 
 WORD = 2**32
@@ -330,46 +330,6 @@ def spent(book):
         s.show()
 
 
-# Words of kept point 0 (docs/LIST.md), the point of 1.0, 2.0, 2.0, -3.0 and 0.0 under size 3: positive counts 1, 0, 2, negative 1.
-LOW, HIGH = index(TINY, 0) + bias(10), index(GREATEST, 0) + bias(10)
-WORDS = [(0, 1), (0, 2), (1, 4), (1, 6), (1, MOST), (2, 0), (2, MOST), (3, 21), (3, WORD - 1), (3, WORD), (4, LOW - 1), (4, LOW), (4, HIGH), (4, HIGH - 2)]
-WORDS += [(4, 0), (4, WORD), (5, 0), (5, 2), (5, 4), (5, 160), (5, 161), (5, MOST), (6, 0), (6, LOW - 1), (6, HIGH), (6, HIGH + 1), (7, 0), (7, 2), (7, 161)]
-WORDS += [(8, 0), (8, 1), (8, 2), (8, 4), (9, INFINITY), (9, NAN), (9, NAN | 1), (10, INFINITY | SIGN), (10, NAN), (11, INFINITY), (11, NAN), (11, NAN | 1)]
-KEPT_COUNTS = [("P", 0, 0), ("P", 1, 7), ("P", 2, 0), ("P", 2, MOST), ("P", 3, 9), ("N", 0, 0), ("N", 0, MOST), ("N", 1, 5)]
-
-
-def kept_points(book):
-    s = book.new("kept_point_damaged")
-    s.exponential(size=3, scale=0)
-    s.record("1:1", 1.0, 2.0, 2.0, -3.0, 0.0)
-    s.record("2:1", 2.0, 4.0)
-    s.collect()
-    for cell in [("w", 0, *cell) for cell in WORDS] + [(store, 0, place, number) for store, place, number in KEPT_COUNTS]:
-        s.keep(0, 1)
-        s.damage(*cell)
-        s.merge(2, 0, 1, 3)
-        s.merge(2, 1, 0, 160)
-    s.show()
-
-
-EXPLICIT_WORDS = [(0, 0), (1, 4), (1, MOST), (2, 1), (3, 1), (4, 1), (4, WORD), (5, 0), (5, 1), (5, 3), (5, 159), (5, 160), (5, MOST), (6, 1), (7, 1), (8, 1), (8, 2), (10, NAN)]
-EXPLICIT_CELLS = [("P", 0, 0), ("P", 1, MOST), ("P", 3, 9), ("N", 0, 9), ("B", 0, NAN), ("B", 0, 2.0), ("B", 0, -0.0), ("B", 1, INFINITY), ("B", 2, NAN)]
-
-
-def kept_explicit_points(book):
-    s = book.new("kept_explicit_point_damaged")
-    s.explicit(0.0, 2.0)
-    s.record("1:1", 1.0, 2.0, 2.0, -3.0, 0.0)
-    s.record("2:1", 2.0, 4.0)
-    s.collect()
-    for cell in [("w", 0, *cell) for cell in EXPLICIT_WORDS] + [(store, 0, place, number) for store, place, number in EXPLICIT_CELLS]:
-        s.keep(0, 1)
-        s.damage(*cell)
-        s.merge(2, 0, 1, 0)
-        s.merge(2, 1, 0, 160)
-    s.show()
-
-
 def shown(book):
     """Before and after calls of either kind, refused ones too: a refused call leaves every cell."""
     for kind in "ex":
@@ -396,7 +356,8 @@ def shown(book):
 
 
 NOT_THERE = ["d q 0 0 0", "d s 66 0 0", "d s 0 9 0", "d e 0 3 0", "d o 0 0 4294967296", "d o 0 1 0", "d p 10560 0 0", "d n 0 1 0", "d t 0 1 0", "d f 0 8 0"]
-NOT_THERE += ["d b 200 0 0000000000000000", "d b 0 0 0", "d m 0 0 0", "d m 0 3 0000000000000000", "d v 0 8 0", "d w 8 0 0", "d w 0 12 0", "d P 0 160 0", "d P 8 0 0"]
+NOT_THERE += ["d b 200 0 0000000000000000", "d b 0 0 0", "d m 0 0 0", "d m 0 3 0000000000000000", "d v 0 8 0", "d w 8 0 0", "d w 0 12 0"]
+NOT_THERE += ["d P 0 160 0", "d P 8 0 0"]
 NOT_THERE += ["d B 0 200 0000000000000000", "d B 8 0 0000000000000000", "d s 0 0", "d s 0 0 -1", "d s 0 0 18446744073709551616", "d s 00 0 0", "s 1", "s "]
 
 
@@ -409,5 +370,5 @@ def not_there(book):
 def write(book):
     for part in (directories, settings, bounds, filter_keys, series, empty_slot, idle_damage, no_buckets, spent):
         part(book)
-    for part in (kept_points, kept_explicit_points, shown, not_there):
+    for part in (shown, not_there):
         part(book)

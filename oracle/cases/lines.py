@@ -1,7 +1,7 @@
 """Writing scripts (docs/REPLAY.md) line by line: a value is a float or bits, a set is text as a script has it."""
 
 import script
-from bits import BOUNDS, FINEST, GREATEST, INFINITY, SIGN, to_bits
+from bits import BOUNDS, FINEST, SIGN, to_bits
 
 MOST = 2**64 - 1
 NAN = 0x7FF8000000000000

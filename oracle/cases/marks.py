@@ -1,6 +1,7 @@
 """Document 01's gauge marks that are run, by name, its miscuts, and its worked run."""
 
-from cases.lines import GREATEST, NINE, SIGN, TINY, inside, negative
+from bits import GREATEST, SIGN
+from cases.lines import NINE, TINY, inside, negative
 
 EIGHT = NINE.rsplit(",", 1)[0]
 

@@ -1,6 +1,7 @@
 """Merges: levels apart, rows apart, either kind, bounds alike and not, zeros, switches, sums that are not finite, counts near 2^64, room."""
 
-from cases.lines import GREATEST, INFINITY, MOST, SIGN, TINY, inside, negative
+from bits import GREATEST, INFINITY, SIGN
+from cases.lines import MOST, TINY, inside, negative
 
 
 def kept(s, *lists, **settings):

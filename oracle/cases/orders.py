@@ -30,7 +30,7 @@ def binding(active):
     return [f"b 1 {NINE if 5 in active else '1:1'}"]
 
 
-def releasing(active):
+def releasing(_active):
     return ["u 0"]
 
 

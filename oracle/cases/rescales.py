@@ -2,7 +2,8 @@
 
 import random
 
-from cases.lines import GREATEST, SIGN, TINY, inside, negative
+from bits import GREATEST, SIGN
+from cases.lines import TINY, inside, negative
 
 ENDS = TINY, GREATEST
 
@@ -33,12 +34,8 @@ def rows_of_160(book):
         s.exponential(size=160, temporality="c")
         s.record("1:1", *(inside(i - 81) | SIGN * (i % 2) for i in range(0, 160, 3)), inside(-81), inside(78), negative(inside(-81)), negative(inside(78)))
         s.collect()
-        s.record("1:1", far, bits_other(far))
+        s.record("1:1", far, far ^ SIGN)
         s.collect(2)
-
-
-def bits_other(bits):
-    return bits ^ SIGN
 
 
 def level_by_level(book):

@@ -1,6 +1,7 @@
 """Lent memory of every size: output for collections (number 10), stores of the map (number 12)."""
 
-from cases.lines import INFINITY, NINE, inside, negative
+from bits import INFINITY
+from cases.lines import NINE, inside, negative
 
 
 def output(book):

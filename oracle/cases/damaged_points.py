@@ -1,0 +1,52 @@
+"""Damaged words, counts and bounds of kept points: which are no points, and which a merge refuses with number 8."""
+
+from bits import GREATEST, INFINITY, SIGN, index
+from cases.lines import MOST, NAN, TINY
+from words import bias
+
+WORD = 2**32
+
+# Words of kept point 0 (docs/LIST.md), the point of 1.0, 2.0, 2.0, -3.0 and 0.0 under size 3: positive counts 1, 0, 2, negative 1.
+LOW, HIGH = index(TINY, 0) + bias(10), index(GREATEST, 0) + bias(10)
+WORDS = [(0, 1), (0, 2), (1, 4), (1, 6), (1, MOST), (2, 0), (2, MOST), (3, 21), (3, WORD - 1), (3, WORD), (4, LOW - 1), (4, LOW), (4, HIGH), (4, HIGH - 2)]
+WORDS += [(4, 0), (4, WORD), (5, 0), (5, 2), (5, 4), (5, 160), (5, 161), (5, MOST), (6, 0), (6, LOW - 1), (6, HIGH), (6, HIGH + 1), (7, 0), (7, 2), (7, 161)]
+WORDS += [(8, 0), (8, 1), (8, 2), (8, 4), (9, INFINITY), (9, NAN), (9, NAN | 1), (10, INFINITY | SIGN), (10, NAN), (11, INFINITY), (11, NAN), (11, NAN | 1)]
+KEPT_COUNTS = [("P", 0, 0), ("P", 1, 7), ("P", 2, 0), ("P", 2, MOST), ("P", 3, 9), ("N", 0, 0), ("N", 0, MOST), ("N", 1, 5)]
+
+
+def kept_points(book):
+    s = book.new("kept_point_damaged")
+    s.exponential(size=3, scale=0)
+    s.record("1:1", 1.0, 2.0, 2.0, -3.0, 0.0)
+    s.record("2:1", 2.0, 4.0)
+    s.collect()
+    for cell in [("w", 0, *cell) for cell in WORDS] + [(store, 0, place, number) for store, place, number in KEPT_COUNTS]:
+        s.keep(0, 1)
+        s.damage(*cell)
+        s.merge(2, 0, 1, 3)
+        s.merge(2, 1, 0, 160)
+    s.show()
+
+
+EXPLICIT_WORDS = [(0, 0), (1, 4), (1, MOST), (2, 1), (3, 1), (4, 1), (4, WORD), (5, 0), (5, 1), (5, 3), (5, 159), (5, 160), (5, MOST)]
+EXPLICIT_WORDS += [(6, 1), (7, 1), (8, 1), (8, 2), (10, NAN)]
+EXPLICIT_CELLS = [("P", 0, 0), ("P", 1, MOST), ("P", 3, 9), ("N", 0, 9), ("B", 0, NAN), ("B", 0, 2.0), ("B", 0, -0.0), ("B", 1, INFINITY), ("B", 2, NAN)]
+
+
+def kept_explicit_points(book):
+    s = book.new("kept_explicit_point_damaged")
+    s.explicit(0.0, 2.0)
+    s.record("1:1", 1.0, 2.0, 2.0, -3.0, 0.0)
+    s.record("2:1", 2.0, 4.0)
+    s.collect()
+    for cell in [("w", 0, *cell) for cell in EXPLICIT_WORDS] + [(store, 0, place, number) for store, place, number in EXPLICIT_CELLS]:
+        s.keep(0, 1)
+        s.damage(*cell)
+        s.merge(2, 0, 1, 0)
+        s.merge(2, 1, 0, 160)
+    s.show()
+
+
+def write(book):
+    kept_points(book)
+    kept_explicit_points(book)

@@ -6,47 +6,36 @@ from words import bias
 
 WORD = 2**32
 
-# Words of kept point 0 (docs/LIST.md), the point of 1.0, 2.0, 2.0, -3.0 and 0.0 under size 3: positive counts 1, 0, 2, negative 1.
+# Words (docs/LIST.md) and counts of kept point 0, the point of 1.0, 2.0, 2.0, -3.0 and 0.0 under size 3: positive counts 1, 0, 2, negative 1.
 LOW, HIGH = index(TINY, 0) + bias(10), index(GREATEST, 0) + bias(10)
 WORDS = [(0, 1), (0, 2), (1, 4), (1, 6), (1, MOST), (2, 0), (2, MOST), (3, 21), (3, WORD - 1), (3, WORD), (4, LOW - 1), (4, LOW), (4, HIGH), (4, HIGH - 2)]
 WORDS += [(4, 0), (4, WORD), (5, 0), (5, 2), (5, 4), (5, 160), (5, 161), (5, MOST), (6, 0), (6, LOW - 1), (6, HIGH), (6, HIGH + 1), (7, 0), (7, 2), (7, 161)]
 WORDS += [(8, 0), (8, 1), (8, 2), (8, 4), (9, INFINITY), (9, NAN), (9, NAN | 1), (10, INFINITY | SIGN), (10, NAN), (11, INFINITY), (11, NAN), (11, NAN | 1)]
-KEPT_COUNTS = [("P", 0, 0), ("P", 1, 7), ("P", 2, 0), ("P", 2, MOST), ("P", 3, 9), ("N", 0, 0), ("N", 0, MOST), ("N", 1, 5)]
+CELLS = [("P", 0, 0), ("P", 1, 7), ("P", 2, 0), ("P", 2, MOST), ("P", 3, 9), ("N", 0, 0), ("N", 0, MOST), ("N", 1, 5)]
 
-
-def kept_points(book):
-    s = book.new("kept_point_damaged")
-    s.exponential(size=3, scale=0)
-    s.record("1:1", 1.0, 2.0, 2.0, -3.0, 0.0)
-    s.record("2:1", 2.0, 4.0)
-    s.collect()
-    for cell in [("w", 0, *cell) for cell in WORDS] + [(store, 0, place, number) for store, place, number in KEPT_COUNTS]:
-        s.keep(0, 1)
-        s.damage(*cell)
-        s.merge(2, 0, 1, 3)
-        s.merge(2, 1, 0, 160)
-    s.show()
-
-
+# The same values under bounds 0 and 2: counts 2, 3, 0.
 EXPLICIT_WORDS = [(0, 0), (1, 4), (1, MOST), (2, 1), (3, 1), (4, 1), (4, WORD), (5, 0), (5, 1), (5, 3), (5, 159), (5, 160), (5, MOST)]
 EXPLICIT_WORDS += [(6, 1), (7, 1), (8, 1), (8, 2), (10, NAN)]
 EXPLICIT_CELLS = [("P", 0, 0), ("P", 1, MOST), ("P", 3, 9), ("N", 0, 9), ("B", 0, NAN), ("B", 0, 2.0), ("B", 0, -0.0), ("B", 1, INFINITY), ("B", 2, NAN)]
 
 
-def kept_explicit_points(book):
-    s = book.new("kept_explicit_point_damaged")
-    s.explicit(0.0, 2.0)
+def each_damaged(s, words, cells):
+    """Points 0 and 1 kept, the first damaged in each way, and merged both ways."""
     s.record("1:1", 1.0, 2.0, 2.0, -3.0, 0.0)
     s.record("2:1", 2.0, 4.0)
     s.collect()
-    for cell in [("w", 0, *cell) for cell in EXPLICIT_WORDS] + [(store, 0, place, number) for store, place, number in EXPLICIT_CELLS]:
+    for store, cell, number in [("w", *word) for word in words] + cells:
         s.keep(0, 1)
-        s.damage(*cell)
-        s.merge(2, 0, 1, 0)
+        s.damage(store, 0, cell, number)
+        s.merge(2, 0, 1, 3)
         s.merge(2, 1, 0, 160)
     s.show()
 
 
 def write(book):
-    kept_points(book)
-    kept_explicit_points(book)
+    s = book.new("kept_point_damaged")
+    s.exponential(size=3, scale=0)
+    each_damaged(s, WORDS, CELLS)
+    s = book.new("kept_explicit_point_damaged")
+    s.explicit(0.0, 2.0)
+    each_damaged(s, EXPLICIT_WORDS, EXPLICIT_CELLS)

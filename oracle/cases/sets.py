@@ -105,6 +105,23 @@ def orders(book):
             s.collect()
 
 
+def far_settings(book):
+    """Settings far outside; what was configured before stays."""
+    s = book.new("settings_far_outside")
+    s.exponential()
+    s.record("1:1", 1.0)
+    for size in (0, 1, 2, 161, 2**32 - 1):
+        s.exponential(size=size)
+    for scale in (-128, -11, 11, 20, 21, 127):
+        s.exponential(scale=scale)
+    for limit in (63, 64, 2**32 - 1):
+        s.exponential(limit=limit)
+        s.explicit(0.0, limit=limit)
+    s.exponential(size=2, scale=11, limit=63)
+    s.explicit(1.0, 1.0, limit=63)
+    s.collect()
+
+
 def refused_bounds(book):
     s = book.new("bounds_refused_and_accepted")
     refused = [(NAN,), (0.0, NAN), (INFINITY, NAN), (0.0, -0.0), (-0.0, 0.0), (1.0, 1.0), (1.0, 0.0), (INFINITY, INFINITY), (NAN | SIGN, 1.0)]
@@ -159,7 +176,7 @@ def switches(book):
 
 
 def write(book):
-    for part in (small_limits, filters, repeated_keys, overflow_as_a_set, beside_overflow, orders):
+    for part in (small_limits, filters, repeated_keys, overflow_as_a_set, beside_overflow, orders, far_settings):
         part(book)
     for part in (refused_bounds, refused_values, first_zero, beside_a_bound, switches):
         part(book)

@@ -277,11 +277,17 @@ class Maker:
         return script.write_bits(self.bits()) if self.kind[1] == "f" else str(self.whole())
 
     def script(self):
-        calls = self.configuration()
+        calls = self.early() + self.configuration()
         lively = self.draw.random() < 0.5  # with bindings
         for _ in range(self.draw.choice((2, 5, 10, 20, 40, 80))):
             calls += self.step(lively)
         return [script.write_line(call) for call in calls + self.collection()]
+
+    def early(self):
+        """Now and then calls before any accepted configuration: they can't be read."""
+        if self.draw.random() > 0.03:
+            return []
+        return [script.Configure("e", "f", 2, 0, None, 0, "d", True, True, 0), self.binding(), script.Record(self.value(), self.set()), *self.collection()]
 
     def configuration(self):
         waiting = filter_lines(self.draw, self.keys)

@@ -1,11 +1,13 @@
-"""Checks of the reference: document 01's worked run and marks, the index against its definition, the language.
+"""Checks of the reference and the model: document 01's worked run, marks and orders, the index against its definition, the language.
 
     selftest.py                 prints one line a check and fails on the first that does not hold
 """
 
 import random
 
+import cases
 import gauge
+import machine
 import reference
 import script
 from bits import BOUNDS, GREATEST, has_index, index
@@ -95,21 +97,27 @@ def explicit(bounds):
     return [*waiting, "n x f - - - 2 d 1 1 0"]
 
 
-def check_limits():
-    """The marks that are run: both sides of each limit."""
-    for size, expected in [(2, ["! 1 1"]), (3, []), (160, []), (161, ["! 1 1"])]:
-        check_answers(f"max_size {size}", [exponential(size=size)], expected)
-    for scale, expected in [(-11, ["! 1 2"]), (-10, []), (10, []), (11, ["! 1 2"])]:
-        check_answers(f"max_scale {scale}", [exponential(scale=scale)], expected)
-    for limit, expected in [(0, []), (62, []), (63, ["! 1 4"])]:
-        check_answers(f"limit {limit}", [exponential(limit=limit)], expected)
-    for keys, expected in [(16, []), (17, ["! 2 4"])]:
-        check_answers(f"{keys} filter keys", [f"f {','.join(['7'] * keys)}", exponential()], expected)
-    for attributes, expected in [(8, []), (9, ["! 2 5"])]:
-        attributes_ = ",".join(f"{k}:1" for k in range(attributes))
-        check_answers(f"{attributes} attributes", [exponential(), f"r {ONE:016X} {attributes_}"], expected)
-    for count, expected in [(159, []), (160, ["! 15 3"])]:
-        check_answers(f"{count} bounds", explicit([ONE + k for k in range(count)]), expected)
+# Document 01, "Gauge marks", those that are run: the scripts of cases/marks.py that are refused, and with which number.
+REFUSED_MARKS = {"size_2": 1, "size_161": 1, "scale_-11": 2, "scale_11": 2, "limit_63": 4, "filter_17": 4, "attributes_9": 5, "bounds_160": 3}
+
+
+def refusals(lines):
+    return [int(answer.split()[2]) for answer in machine.answers(lines) if answer.startswith("!")]
+
+
+def check_run_marks(scripts):
+    """Both sides of each limit: which number is answered first."""
+    for name, lines in scripts.items():
+        if name.startswith("mark_"):
+            mark = "_".join(name.split("_")[1:3])
+            expected = [REFUSED_MARKS[mark]] if mark in REFUSED_MARKS else []
+            check(f"{name}: {expected or 'accepted'}", refusals(lines)[:1] == expected)
+
+
+def check_orders(scripts):
+    """Document 01, "Order.": a script's name has the two numbers that apply, the earlier first."""
+    pairs = {name: [int(number) for number in name.split("_")[-2:]] for name in scripts if name.startswith("order_")}
+    check(f"{len(pairs)} pairs of numbers that apply together: the earlier, then the later", all(refusals(scripts[name]) == pairs[name] for name in pairs))
 
 
 def check_examples():
@@ -164,7 +172,9 @@ def main():
     check_marks()
     check_index()
     check_worked_run()
-    check_limits()
+    scripts = cases.scripts()
+    check_run_marks(scripts)
+    check_orders(scripts)
     check_examples()
     check_requests()
     check_language()

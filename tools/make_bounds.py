@@ -3,26 +3,22 @@
 numbers for the proof, and crates/index/src/pieces.rt with crates/index/specs/Pieces.antt, which bring a rank near.
 
 Entry k is the largest whole number m with m^1024 <= 2^(k + 53248): the upper bound 2^(k/1024) of a bucket at scale 10,
-in units of 2^-52, rounded down. It is found by halving an interval of whole numbers; no logarithm and no float plays a part.
+in units of 2^-52, rounded down (oracle/bits.py: by whole square roots; no logarithm and no float plays a part).
 The chords are made of logarithms in floats: that they serve is proved of the numbers that are written.
-Run from the repository's root: python3 tools/make_bounds.py && rt fmt"""
 
+    python3 tools/make_bounds.py && rt fmt
+"""
+
+import sys
 from math import log2
+from pathlib import Path
+
+ROOT = Path(__file__).resolve().parent.parent
+sys.path.insert(0, str(ROOT / "oracle"))
+
+from bits import BOUNDS  # noqa: E402
 
 ROWS, COLUMNS, PIECES = 16, 64, 64
-
-
-def bound(k):
-    """The largest m with m^1024 <= 2^(k + 53248), which lies from 2^52 to 2^53."""
-    low, high = 2**52, 2**53
-    while high - low > 1:
-        middle = (low + high) // 2
-        if middle**1024 <= 2 ** (k + 53248):
-            low = middle
-        else:
-            high = middle
-    return low
-
 
 CODE = """// The bounds of scale 10's buckets within a power of two. Made by tools/make_bounds.py.
 ghost use mathlib.Core.Path.{_≡_};
@@ -159,15 +155,14 @@ def row(i):
 
 
 def bounds():
-    numbers = [bound(k) for k in range(ROWS * COLUMNS)]
     code = {
-        "entries": len(numbers), "columns": COLUMNS, "end": COLUMNS - 1, "height": ROWS, "bottom": ROWS - 1,
-        "numbers": lines("    %d,\n", numbers),
-        "names": lines("const ENTRY_%d: u64 = BOUNDS[%d];\n", ((k, k) for k in range(len(numbers)))),
+        "entries": len(BOUNDS), "columns": COLUMNS, "end": COLUMNS - 1, "height": ROWS, "bottom": ROWS - 1,
+        "numbers": lines("    %d,\n", BOUNDS),
+        "names": lines("const ENTRY_%d: u64 = BOUNDS[%d];\n", ((k, k) for k in range(len(BOUNDS)))),
         "rows": "\n".join(map(row, range(ROWS))),
         "choices": lines("        %d => row_%d(j),\n", ((i, i) for i in range(ROWS - 1))),
     }  # fmt: skip
-    parts = [lines("    %d ∷\n", numbers[COLUMNS * i : COLUMNS * (i + 1)]) for i in range(ROWS)]
+    parts = [lines("    %d ∷\n", BOUNDS[COLUMNS * i : COLUMNS * (i + 1)]) for i in range(ROWS)]
     lists = "".join(LIST % {"i": i, "numbers": part} for i, part in enumerate(parts))
     table = {"lists": lists, "all": " ∷ ".join(f"row{i}" for i in range(ROWS))}
     write("bounds/src/lib.rt", CODE % code)
@@ -187,9 +182,9 @@ def pieces():
 
 
 def write(path, text):
-    with open("crates/" + path, "w") as out:
-        out.write(text)
+    (ROOT / "crates" / path).write_text(text)
 
 
-bounds()
-pieces()
+if __name__ == "__main__":
+    bounds()
+    pieces()

@@ -3,39 +3,31 @@
 
 The index is the OpenTelemetry Data Model's, over whole numbers and without a logarithm: a magnitude m * 2^e has at scale s >= 0
 the index i with 2^i < (m * 2^e)^(2^s) <= 2^(i + 1); below scale 0 it is the index at scale 0 shifted right.
-Run from the repository's root: python3 tools/make_index_vectors.py"""
-import functools
+
+    python3 tools/make_index_vectors.py
+"""
+
 import random
+import sys
+from pathlib import Path
+
+ROOT = Path(__file__).resolve().parent.parent
+sys.path.insert(0, str(ROOT / "oracle"))
+
+from bits import BOUNDS, is_finite, magnitude  # noqa: E402
 
 SCALES = range(-10, 11)
 NONE = "?"
 
 
-def parts(bits):
-    """m and e of the magnitude m * 2^e; m is 0 for a zero, None where there is no finite number."""
-    field, digits = bits >> 52 & 0x7FF, bits & (1 << 52) - 1
-    if field == 0x7FF:
-        return None, 0
-    return (digits, -1074) if field == 0 else (digits + (1 << 52), field - 1075)
-
-
 def index(scale, bits):
-    m, e = parts(bits)
+    """By the definition, not by the table that oracle/bits.py and the code look it up in."""
+    m, e = magnitude(bits) if is_finite(bits) else (0, 0)
     if not m or scale not in SCALES:
         return NONE
     power = 2 ** max(scale, 0)
     fine = (m**power - 1).bit_length() - 1 + e * power
     return str(fine >> max(-scale, 0))
-
-
-@functools.cache
-def bound(k):
-    """The largest m with m^1024 <= 2^(k + 53248)."""
-    low, high = 2**52, 2**53
-    while high - low > 1:
-        middle = (low + high) // 2
-        low, high = (middle, high) if middle**1024 <= 2 ** (k + 53248) else (low, middle)
-    return low
 
 
 def values(rng):
@@ -49,7 +41,7 @@ def values(rng):
     for k in range(1024):
         for field in (1, 1023, 1024 + k % 1000):
             for near in (-1, 0, 1):
-                yield 10 if field == 1 else scales[k % 21], (field << 52) + bound(k) - 2**52 + near
+                yield 10 if field == 1 else scales[k % 21], (field << 52) + BOUNDS[k] - 2**52 + near
     for scale in (*scales, -11, 11, -999, 999):
         for bits in (0, 1, 2, 3, 2**52 - 1, 2**52, 0x3FF << 52, 0x7FEFFFFFFFFFFFFF, 0x7FF << 52, 0x7FF8 << 48, 0x7FF0000000000001):
             yield scale, bits
@@ -98,11 +90,10 @@ def main():
     lines += [(text, NONE) for text in DAMAGED]
     rng.shuffle(lines)
     lines.append(("0 4000000000000000", "0"))
-    with open("crates/index_run/stdin", "w", newline="") as out:
-        out.write("\n".join(text for text, _ in lines))
-    with open("crates/index_run/stdout", "w") as out:
-        out.write("".join(f"{answer}\n" for _, answer in lines))
+    (ROOT / "crates/index_run/stdin").write_bytes("\n".join(text for text, _ in lines).encode())
+    (ROOT / "crates/index_run/stdout").write_text("".join(f"{answer}\n" for _, answer in lines))
     print(f"{len(lines)} lines")
 
 
-main()
+if __name__ == "__main__":
+    main()

@@ -1,7 +1,14 @@
 #!/usr/bin/env python3
-"""rename.py [PATH ..]: turns old names into new ones, by tools/names.txt, in a repository, a study's folder or a patch (without a PATH: here).
-Comments and prose are left alone but for crates' names before `::` or in backquotes. Running it twice changes nothing more."""
-import os, re, sys
+"""Turns old names into new ones, by tools/names.txt, in a repository, a study's folder or a patch.
+
+    rename.py [PATH ..]      without a PATH: here
+
+Comments and prose are left alone but for crates' names before `::` or in backquotes. Running it twice changes nothing more.
+"""
+
+import os
+import re
+import sys
 
 HERE = os.path.dirname(os.path.abspath(__file__))
 ENDINGS = (".rt", ".antt", ".edit", ".md", ".patch", ".diff", ".py", "crates.txt")
@@ -30,8 +37,8 @@ def of_crates(text, path):
     return text
 
 
-# a function's name in code, and what the checker makes of it in proofs
 def of_functions(text, path):
+    """A function's name in code, and what the checker makes of it in proofs."""
     for old, new, where in functions:
         if where and not any(f"crates/{c}/" in path or f"{c}::" in text for c in where):
             continue
@@ -93,4 +100,5 @@ def main(roots):
                 os.rmdir(where)
 
 
-main(sys.argv[1:] or ["."])
+if __name__ == "__main__":
+    main(sys.argv[1:] or ["."])

@@ -130,15 +130,9 @@ def run(names, options, ours=None):
 
 
 def main():
-    words = sys.argv[1:]
-    ours = None
-    if "--ours" in sys.argv:
-        at = sys.argv.index("--ours")
-        ours = sys.argv[at + 1]
-        del sys.argv[at : at + 2]
-    names, options = generate.read_arguments(__doc__.splitlines()[0])
-    counts, lines = run(names, options, ours)
-    print(f"compare.py {' '.join(words)}: {len(names)} scripts, {lines} lines")
+    names, options, given = generate.read_arguments(__doc__.splitlines()[0], "--ours")
+    counts, lines = run(names, options, given.ours)
+    print(f"compare.py {' '.join(sys.argv[1:])}: {len(names)} scripts, {lines} lines")
     for verdict in (SAME, BESIDE, TWICE, UNEXPLAINED, OURS):
         print(f"  {verdict}: {counts[verdict]}")
     raise SystemExit(1 if counts[UNEXPLAINED] + counts[OURS] else 0)

@@ -361,8 +361,8 @@ def make(name, options=Options()):
     return Maker(name, options).script()
 
 
-def read_arguments(about):
-    """The names of the scripts wanted and the options they are made with."""
+def read_arguments(about, *more):
+    """The names of the scripts wanted, the options they are made with, and all arguments, `more` of them named by the caller."""
     parser = argparse.ArgumentParser(description=about)
     parser.add_argument("count", type=int)
     parser.add_argument("--seed", default="a")
@@ -370,14 +370,16 @@ def read_arguments(about):
     parser.add_argument("--limit", type=int, default=Rules().limits[-1], help="the greatest limit (request L12)")
     parser.add_argument("--thresholds", action="store_true", help="zero thresholds (request L7)")
     parser.add_argument("--new-settings", action="store_true", help="new settings (request L10)")
+    for name in more:
+        parser.add_argument(name)
     given = parser.parse_args()
     rules = Rules(limits=range(0, given.limit + 1))
     options = Options(tuple(given.kinds.split(",")), rules, given.thresholds, given.new_settings)
-    return [f"{given.seed}.{i}" for i in range(given.count)], options
+    return [f"{given.seed}.{i}" for i in range(given.count)], options, given
 
 
 def main():
-    names, options = read_arguments(__doc__.splitlines()[0])
+    names, options, _ = read_arguments(__doc__.splitlines()[0])
     sys.stdout.write(script.join_scripts({name: make(name, options) for name in names}))
 
 

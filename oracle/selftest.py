@@ -120,6 +120,13 @@ def check_orders(scripts):
     check(f"{len(pairs)} pairs of numbers that apply together: the earlier, then the later", all(refusals(scripts[name]) == pairs[name] for name in pairs))
 
 
+def check_rescales(scripts):
+    """A script's name has the scale that all its points end at."""
+    ends = {name: name.split("_")[-1] for name in scripts if name.startswith("rescale_3_from_10_to_")}
+    found = {name: {answer.split()[4] for answer in reference.answers(scripts[name]) if answer.startswith("p")} for name in ends}
+    check(f"from scale 10 to each of {len(ends)} lower scales at once", all(found[name] == {ends[name]} for name in ends))
+
+
 def check_examples():
     """The example of each number of document 01's table that a script can reach."""
     five = 0x4014000000000000
@@ -175,6 +182,7 @@ def main():
     scripts = cases.scripts()
     check_run_marks(scripts)
     check_orders(scripts)
+    check_rescales(scripts)
     check_examples()
     check_requests()
     check_language()

@@ -15,8 +15,8 @@ from collections import Counter
 
 import generate
 import script
-from bits import SIGN, beside_bound, index, is_finite
-from reference import Rules, answers
+from bits import SIGN, beside_bound, index
+from reference import Reference, Rules, answers
 from runs import answered, smallest
 from rust import asked, indices, replay
 
@@ -50,15 +50,16 @@ class Comparer:
         return BESIDE if both and self.same(without(lines, both)) else UNEXPLAINED
 
     def near_bounds(self, lines):
-        """(place, starting scale, bits of the magnitude) of each record of an f64 beside a bound."""
-        scale = None
-        for place, call in calls(lines):
-            if isinstance(call, script.Configure):
-                scale = call.scale if call.kind == "e" and call.number == "f" else None
-            elif isinstance(call, (script.Record, script.RecordBound)) and scale in self.rules.scales:
-                bits = int(call.value, 16) & ~SIGN
-                if bits and is_finite(bits) and beside_bound(bits):
-                    yield place, scale, bits
+        """(place, starting scale, bits of the magnitude) of each accepted record of an f64 beside a bound."""
+        reference = Reference(self.rules)
+        for place, line in enumerate(lines):
+            _, refusal = reference.line(place, line)
+            config = reference.config
+            if refusal != 0 or line[:1] not in ("r", "h") or config.kind != "e" or config.number != "f":
+                continue
+            bits = int(script.read_line(line).value, 16) & ~SIGN
+            if bits and beside_bound(bits):
+                yield place, config.scale, bits
 
     def differing(self, lines):
         """Places of the records beside a bound whose index at the starting scale is another in the Rust."""

@@ -121,7 +121,7 @@ class Machine(Reference):
         if delta:
             self.start = call.time
             stores.sweep()
-        return [f"c {start} {call.time} {len(listed)}", *(self.line_at(at, self.out_bounds) for at in self.cursors())]
+        return [f"c {start} {call.time} {len(listed)}", *(script.write_point(self.point_at(at, self.out_bounds)) for at in self.cursors())]
 
     def check_places(self, listed, call):
         if len(listed) > (PLACES if call.points is None else min(call.points, PLACES)):
@@ -158,14 +158,8 @@ class Machine(Reference):
         return [tuple(store[start : start + n]) for store, start, n in zip(self.out_counts, at[1:], lengths(self.out_words[at[0]]))]
 
     def point_at(self, at, bounds):
-        """The point at a cursor; Unreadable where the words are none's."""
         words = self.out_words[at[0]]
-        if not is_point(words):
-            raise Unreadable
         return decoded(words, set_of_words(self.out_sets[at[0]]), self.counts_at(at), bounds)
-
-    def line_at(self, at, bounds):
-        return script.write_point(self.point_at(at, bounds))
 
     # Kept points lie behind the output.
 
@@ -180,6 +174,7 @@ class Machine(Reference):
         self.kept_bounds[call.point] = list(self.out_bounds)
 
     def kept_point(self, k):
+        """Unreadable where the words are no point's."""
         words = self.out_words[PLACES + k]
         if not is_point(words) or max(lengths(words)) > KEPT_COUNTS:
             raise Unreadable

@@ -189,7 +189,7 @@ class Machine(Reference):
         if not all(point_agrees(point, w, call.size) for point, w in zip(pair, words)):
             raise Refused(8)
         point = merged(*pair, call.size, call.counts if call.counts is None else min(call.counts, KEPT_COUNTS), self.rules.sizes)
-        self.put(self.kept_cursor(call.point), self.out_sets[PLACES + call.first], *encoded(point))
+        self.put(self.kept_cursor(call.point), self.out_sets[PLACES + call.first], *encoded(point, words[0][4]))
         self.kept_bounds[call.point] = list(self.kept_bounds[call.first])
         return [script.write_point(point)]
 

@@ -45,12 +45,12 @@ def held_words(extremes, sum_, switch):
     return [flags, *map(to_bits, extremes or (0.0, 0.0)), to_bits(sum_)]
 
 
-def encoded(point):
-    """A point's words and counts."""
+def encoded(point, start=0):
+    """A point's words and counts; the bounds of an explicit one lie from `start` on."""
     extremes = None if point.min is None else (point.min, point.max)
     held = held_words(extremes, point.sum, point.switch)
     if point.kind == "x":
-        return [1, point.count, 0, 0, 0, len(point.bounds), 0, 0, *held], (point.buckets, ())
+        return [1, point.count, 0, 0, start, len(point.bounds), 0, 0, *held], (point.buckets, ())
     level = point.scale + 10
     rows = [[offset + bias(level) if counts else 0, len(counts)] for offset, counts in (point.positive, point.negative)]
     return [0, point.count, point.zeros, level, *rows[0], *rows[1], *held], (point.positive[1], point.negative[1])

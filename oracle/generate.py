@@ -76,7 +76,8 @@ def zero(draw, _middle):
 
 
 def greatest(draw, _middle):
-    return signed(draw, GREATEST - draw.choice((0, 0, 1, 1 << 40)))
+    """Of either sign alike: two of one sign have an infinite sum, and such sums of both signs merge to a NaN."""
+    return GREATEST - draw.choice((0, 0, 1, 1 << 40)) | draw.choice((0, SIGN))
 
 
 def not_finite(draw, _middle):

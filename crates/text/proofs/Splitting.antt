@@ -9,7 +9,7 @@ use lib.ListN.{length, getD, take, drop, drop-of-length-le}
 use borrow.Author.Tests.{eq-eqb, ne-eqb}
 use Rattle.laws.specs.Pick.{pick}
 use Rattle.laws.proofs.Bools.{pick-true, pick-false}
-use Rattle.text.specs.Lines.{space, spacesOf, untilSpace, fieldOf}
+use Rattle.text.specs.Fields.{space, spacesOf, untilSpace, fieldOf}
 use Rattle.text.proofs.Spelling.{from-here}
 
 pub field-here : (xs : List ℕ) → fieldOf xs 0 ≡ untilSpace xs

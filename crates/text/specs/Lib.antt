@@ -1,3 +1,3 @@
 -- The definitions that the contracts of `text` cite.
 pub mod Numbers
-pub mod Lines
+pub mod Fields

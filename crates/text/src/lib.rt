@@ -1,20 +1,20 @@
 // Lines of text: their fields, the numbers and f64s that fields spell, and numbers written. What the programs share.
 //
 // One space parts fields. Decimals have no plus sign, no leading zero and no -0; bits are 16 digits 0-9 and A-F.
+mod fields;
 mod floating;
-mod lines;
 mod numbers;
 mod written;
 
+pub use fields::Part;
+pub use fields::bits_at;
+pub use fields::byte_at;
+pub use fields::decimal_at;
+pub use fields::field;
+pub use fields::push;
+pub use fields::signed_at;
+pub use fields::spaces;
 pub use floating::float_of;
-pub use lines::Part;
-pub use lines::bits_at;
-pub use lines::byte_at;
-pub use lines::decimal_at;
-pub use lines::field;
-pub use lines::push;
-pub use lines::signed_at;
-pub use lines::spaces;
 pub use numbers::Integer;
 pub use numbers::Natural;
 pub use numbers::bits;

@@ -1,13 +1,13 @@
--- `text::lines::spaces` meets its contract. Assumes nothing.
+-- `text::fields::spaces` meets its contract. Assumes nothing.
 use Prim.Native.Nat.{_+_, _-_, _≤_}
 use mathlib.Core.Path.{_≡_}
 use native.Mathlib.Omega.{arith}
 use denote.Ref.{now}
 use lib.ListN.{length, drop}
-use Rattle.text.specs.Lines.{spacesOf}
+use Rattle.text.specs.Fields.{spacesOf}
 use Rattle.text.proofs.Splitting.{spaces-turn, spaces-none}
-use Rattle.text.proofs.lines.spaces.Statement.{statement}
-use Rattle.text.proofs.lines.spaces.Tie as tie
+use Rattle.text.proofs.fields.spaces.Statement.{statement}
+use Rattle.text.proofs.fields.spaces.Tie as tie
 
 abbrev Inv-loop : tie.InvT-loop
 Inv-loop line n₀ i₀ n i = (i ≤ length line) × (n ≤ i) × (n + spacesOf (drop i line) ≡ spacesOf line)

@@ -1,13 +1,13 @@
--- `text::lines::end` meets its contract. Assumes nothing.
+-- `text::fields::end` meets its contract. Assumes nothing.
 use Prim.Native.Nat.{_+_, _-_, _≤_}
 use mathlib.Core.Path.{_≡_, refl}
 use native.Mathlib.Omega.{arith}
 use denote.Ref.{now}
 use lib.ListN.{length, drop}
-use Rattle.text.specs.Lines.{untilSpace}
+use Rattle.text.specs.Fields.{untilSpace}
 use Rattle.text.proofs.Splitting.{until-turn, until-stop, until-none}
-use Rattle.text.proofs.lines.end.Statement.{statement}
-use Rattle.text.proofs.lines.end.Tie as tie
+use Rattle.text.proofs.fields.end.Statement.{statement}
+use Rattle.text.proofs.fields.end.Tie as tie
 
 abbrev Inv-loop : tie.InvT-loop
 Inv-loop line from i₀ i = (i ≤ length line) × (i + length (untilSpace (drop i line)) ≡ from + length (untilSpace (drop from line)))

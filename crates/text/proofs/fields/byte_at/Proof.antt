@@ -1,10 +1,10 @@
--- `text::lines::byte_at` meets its contract. Assumes nothing.
+-- `text::fields::byte_at` meets its contract. Assumes nothing.
 use denote.Ref.{now}
 use lib.ListN.{List·getD-eq-default}
 use mathlib.Core.Path.{sym}
 use borrow.Author.Needs.{needs}
-use Rattle.text.proofs.lines.byte_at.Statement.{statement}
-use Rattle.text.proofs.lines.byte_at.Tie as tie
+use Rattle.text.proofs.fields.byte_at.Statement.{statement}
+use Rattle.text.proofs.fields.byte_at.Tie as tie
 
 shared-slice-read-result : tie.Need-shared-slice-read-result
 shared-slice-read-result c = search needs

@@ -1,9 +1,9 @@
--- `text::lines::signed_at` meets its contract. Assumes nothing.
+-- `text::fields::signed_at` meets its contract. Assumes nothing.
 use mathlib.Core.Path.{ap, _∙_}
 use borrow.Author.Needs.{needs}
 use Rattle.text.specs.Numbers.{signedOf}
-use Rattle.text.proofs.lines.signed_at.Statement.{statement}
-use Rattle.text.proofs.lines.signed_at.Tie as tie
+use Rattle.text.proofs.fields.signed_at.Statement.{statement}
+use Rattle.text.proofs.fields.signed_at.Tie as tie
 
 field-requires : tie.Need-field-requires
 field-requires c κs = search needs

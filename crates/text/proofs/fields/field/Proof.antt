@@ -1,14 +1,14 @@
--- `text::lines::field` meets its contract. Assumes nothing.
+-- `text::fields::field` meets its contract. Assumes nothing.
 use Prim.Native.Nat.{ℕ, _-_}
 use mathlib.Core.Path.{_≡_, sym, ap, _∙_}
 use native.Mathlib.Omega.{arith}
 use denote.Ref.{now}
 use lib.ListN.{length, take, drop}
 use borrow.Author.Needs.{needs}
-use Rattle.text.specs.Lines.{untilSpace}
+use Rattle.text.specs.Fields.{untilSpace}
 use Rattle.text.proofs.Splitting.{until-is}
-use Rattle.text.proofs.lines.field.Statement.{statement}
-use Rattle.text.proofs.lines.field.Tie as tie
+use Rattle.text.proofs.fields.field.Statement.{statement}
+use Rattle.text.proofs.fields.field.Tie as tie
 
 start-requires : tie.Need-start-requires
 start-requires c κs = search needs

@@ -1,9 +1,9 @@
--- `text::lines::decimal_at` meets its contract. Assumes nothing.
+-- `text::fields::decimal_at` meets its contract. Assumes nothing.
 use mathlib.Core.Path.{ap, _∙_}
 use borrow.Author.Needs.{needs}
 use Rattle.text.specs.Numbers.{decimalOf}
-use Rattle.text.proofs.lines.decimal_at.Statement.{statement}
-use Rattle.text.proofs.lines.decimal_at.Tie as tie
+use Rattle.text.proofs.fields.decimal_at.Statement.{statement}
+use Rattle.text.proofs.fields.decimal_at.Tie as tie
 
 field-requires : tie.Need-field-requires
 field-requires c κs = search needs

@@ -5,7 +5,7 @@ ghost use lib.Dec.{ltb};
 ghost use lib.ListN.{length, getD, take, drop, set};
 ghost use Rattle.laws.specs.Pick.{pick};
 ghost use Rattle.text.specs.Numbers.{decimalOf, bitsOf, signedOf};
-ghost use Rattle.text.specs.Lines.{space, spacesOf, untilSpace, fieldOf};
+ghost use Rattle.text.specs.Fields.{space, spacesOf, untilSpace, fieldOf};
 use crate::numbers::Integer;
 use crate::numbers::Natural;
 

@@ -1,11 +1,11 @@
--- `text::lines::is_space` meets its contract. Assumes nothing.
+-- `text::fields::is_space` meets its contract. Assumes nothing.
 use mathlib.Core.Path.{refl}
 use native.Mathlib.Omega.{arith}
 use borrow.Author.Tests.{eq-eqb, ne-eqb}
 use Rattle.laws.specs.Pick.{pick}
-use Rattle.text.specs.Lines.{space}
-use Rattle.text.proofs.lines.is_space.Statement.{statement}
-use Rattle.text.proofs.lines.is_space.Tie as tie
+use Rattle.text.specs.Fields.{space}
+use Rattle.text.proofs.fields.is_space.Statement.{statement}
+use Rattle.text.proofs.fields.is_space.Tie as tie
 
 returns : tie.Need-returns
 unfolding space pick

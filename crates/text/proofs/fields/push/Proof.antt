@@ -1,4 +1,4 @@
--- `text::lines::push` meets its contract. Assumes nothing.
+-- `text::fields::push` meets its contract. Assumes nothing.
 use mathlib.Core.Path.{refl, sym}
 use denote.Ref.{now}
 use lib.ListN.{length}
@@ -6,8 +6,8 @@ use lib.Seq.{set-out}
 use borrow.Author.Tests.{lt-ltb, le-ltb}
 use Rattle.laws.proofs.Bools.{pick-true, pick-false}
 use borrow.Author.Needs.{needs}
-use Rattle.text.proofs.lines.push.Statement.{statement}
-use Rattle.text.proofs.lines.push.Tie as tie
+use Rattle.text.proofs.fields.push.Statement.{statement}
+use Rattle.text.proofs.fields.push.Tie as tie
 
 slice-write-line : tie.Need-slice-write-line
 slice-write-line c = search needs

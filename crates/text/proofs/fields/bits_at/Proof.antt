@@ -1,9 +1,9 @@
--- `text::lines::bits_at` meets its contract. Assumes nothing.
+-- `text::fields::bits_at` meets its contract. Assumes nothing.
 use mathlib.Core.Path.{ap, _∙_}
 use borrow.Author.Needs.{needs}
 use Rattle.text.specs.Numbers.{bitsOf}
-use Rattle.text.proofs.lines.bits_at.Statement.{statement}
-use Rattle.text.proofs.lines.bits_at.Tie as tie
+use Rattle.text.proofs.fields.bits_at.Statement.{statement}
+use Rattle.text.proofs.fields.bits_at.Tie as tie
 
 field-requires : tie.Need-field-requires
 field-requires c κs = search needs

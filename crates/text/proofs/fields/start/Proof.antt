@@ -1,14 +1,14 @@
--- `text::lines::start` meets its contract: the field behind k spaces is that behind those left, from here on. Assumes nothing.
+-- `text::fields::start` meets its contract: the field behind k spaces is that behind those left, from here on. Assumes nothing.
 use Prim.Native.Nat.{ℕ, _+_, _-_, _≤_}
 use mathlib.Core.Path.{_≡_, refl, ap, _∙_, sym}
 use native.Mathlib.Omega.{arith}
 use denote.Ref.{now}
 use lib.ListN.{length, drop}
 use borrow.Author.Tests.{ltb-true, ltb-false}
-use Rattle.text.specs.Lines.{fieldOf}
+use Rattle.text.specs.Fields.{fieldOf}
 use Rattle.text.proofs.Splitting.{field-here, field-none, field-turn}
-use Rattle.text.proofs.lines.start.Statement.{statement}
-use Rattle.text.proofs.lines.start.Tie as tie
+use Rattle.text.proofs.fields.start.Statement.{statement}
+use Rattle.text.proofs.fields.start.Tie as tie
 
 abbrev Inv-loop : tie.InvT-loop
 Inv-loop line k left₀ i₀ left i = (i ≤ length line) × (fieldOf line k ≡ fieldOf (drop i line) left)

@@ -94,7 +94,8 @@ pub fn collect(
         Answer::Listed(many) => {
             let t = turned(g, left, time);
             let gauge = t.gauge;
-            let end = crate::print::collection(
+            let no_bounds = [0.0f64; 1];
+            let end = printing::collection(
                 text,
                 n,
                 t.start,
@@ -104,6 +105,7 @@ pub fn collect(
                 out_words,
                 out_pos,
                 out_neg,
+                &no_bounds,
             );
             Collected {
                 taken: true,

@@ -10,7 +10,6 @@ mod calls;
 mod cells;
 mod collect;
 mod fields;
-mod print;
 
 use cells::Counts;
 use cells::Entries;
@@ -30,7 +29,7 @@ fn said(taken: bool, number: u64, text: &mut Block, n: usize) -> usize {
     if taken {
         return n;
     }
-    print::refusal(text, n, number)
+    printing::unread(text, n, number)
 }
 
 // What came of a line that printed nothing.

@@ -1,8 +1,8 @@
--- `gauge::print::attributes` is safe and ends. Assumes nothing.
-use native.Mathlib.Omega.{arith}
+-- `printing::attributes` is safe and ends. Assumes nothing.
 use Prim.Native.Nat.{_-_, _≤_}
-use Rattle.gauge.proofs.print.attributes.Statement.{statement}
-use Rattle.gauge.proofs.print.attributes.Tie as tie
+use native.Mathlib.Omega.{arith}
+use Rattle.printing.proofs.attributes.Statement.{statement}
+use Rattle.printing.proofs.attributes.Tie as tie
 
 abbrev Inv-loop : tie.InvT-loop
 Inv-loop text₀ n many row m₀ i₀ text m i = i ≤ 8

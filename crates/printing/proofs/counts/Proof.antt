@@ -1,9 +1,9 @@
--- `gauge::print::counts` is safe and ends. Assumes nothing.
-use native.Mathlib.Omega.{arith}
+-- `printing::counts` is safe and ends. Assumes nothing.
 use Prim.Native.Nat.{_-_, _≤_}
+use native.Mathlib.Omega.{arith}
 use lib.ListN.{length}
-use Rattle.gauge.proofs.print.counts.Statement.{statement}
-use Rattle.gauge.proofs.print.counts.Tie as tie
+use Rattle.printing.proofs.counts.Statement.{statement}
+use Rattle.printing.proofs.counts.Tie as tie
 
 abbrev Inv-loop : tie.InvT-loop
 Inv-loop text₀ n row m₀ i₀ text m i = i ≤ length row

@@ -1,0 +1,264 @@
+// Points of a list printed as lines, for the gauge and the replayed scripts (docs/REPLAY.md):
+//
+//     p SET COUNT ZEROS SCALE MIN MAX SUM POSITIVE NEGATIVE      exponential
+//     q SET COUNT MIN MAX SUM BUCKETS BOUNDS                     explicit
+//
+// Each function puts its text behind the n bytes that are there, and says how many there are then.
+use floats::Extreme;
+use index::signed::Integer;
+use index::signed::Natural;
+use lines::Block;
+use lines::output;
+use listing::Cursor;
+use listing::Entry;
+use listing::Found;
+use point::Figures;
+use point::Point;
+
+// How much text there is, and where the next point lies.
+pub struct Printed {
+    pub n: usize,
+    pub at: Cursor,
+}
+
+// A number behind a space.
+pub fn number(text: &mut Block, n: usize, x: u64) -> usize {
+    let m = output::byte(text, n, b' ');
+    output::decimal(text, m, x)
+}
+
+// Bits behind a space.
+fn bits(text: &mut Block, n: usize, x: u64) -> usize {
+    let m = output::byte(text, n, b' ');
+    output::bits(text, m, x)
+}
+
+// A comma before all but the first of several.
+fn comma(text: &mut Block, n: usize, i: usize) -> usize {
+    if i == 0 {
+        return n;
+    }
+    output::byte(text, n, b',')
+}
+
+// ---- sets
+
+fn attribute(text: &mut Block, n: usize, word: u64) -> usize {
+    let a = output::decimal(text, n, word / 4294967296);
+    let b = output::byte(text, a, b':');
+    output::decimal(text, b, word % 4294967296)
+}
+
+fn attributes(text: &mut Block, n: usize, row: [u64; 9], many: u64) -> usize {
+    let mut m = n;
+    let mut i: usize = 0;
+    while i < 8 && (i as u64) < many {
+        let a = comma(text, m, i);
+        m = attribute(text, a, row[i]);
+        i += 1;
+    }
+    m
+}
+
+// A set behind a space, `-` the empty one.
+fn set(text: &mut Block, n: usize, row: [u64; 9]) -> usize {
+    let m = output::byte(text, n, b' ');
+    if row[8] == 0 {
+        return output::byte(text, m, b'-');
+    }
+    attributes(text, m, row, row[8])
+}
+
+// ---- what a point has
+
+// A scale or an offset. As an index of the finest level it has a bin, which is 2 << FINEST above it: so nothing signed is reckoned with here.
+fn signed(text: &mut Block, n: usize, x: i32) -> usize {
+    let Natural::Is(bin) = index::signed::bin_of(index::FINEST, x) else {
+        return output::byte(text, n, b'-');
+    };
+    output::difference(text, n, bin as u64, 2u64 << index::FINEST)
+}
+
+// It behind a space.
+fn integer(text: &mut Block, n: usize, x: Integer) -> usize {
+    let m = output::byte(text, n, b' ');
+    match x {
+        Integer::OutOfRange => output::byte(text, m, b'-'),
+        Integer::Is(i) => signed(text, m, i),
+    }
+}
+
+// An extreme behind a space, `-` where it isn't kept.
+fn extreme(text: &mut Block, n: usize, x: Extreme) -> usize {
+    match x {
+        Extreme::None => output::bytes(text, n, b" -"),
+        Extreme::Value(v) => bits(text, n, floats::bits_of(v)),
+    }
+}
+
+fn held(text: &mut Block, n: usize, p: Point) -> usize {
+    let min = p.min;
+    let max = p.max;
+    let a = extreme(text, n, min);
+    let b = extreme(text, a, max);
+    bits(text, b, point::signed::sum_bits(p))
+}
+
+fn counts(text: &mut Block, n: usize, row: &[u64]) -> usize {
+    let mut m = n;
+    let mut i: usize = 0;
+    while i < row.len() {
+        let a = comma(text, m, i);
+        m = output::decimal(text, a, row[i]);
+        i += 1;
+    }
+    m
+}
+
+// A row: its offset and its counts.
+fn row(text: &mut Block, n: usize, offset: Integer, row: &[u64]) -> usize {
+    let a = integer(text, n, offset);
+    let b = output::byte(text, a, b':');
+    counts(text, b, row)
+}
+
+// A space, and `-` if none of several follows.
+fn dash(text: &mut Block, n: usize, many: usize) -> usize {
+    let m = output::byte(text, n, b' ');
+    if many == 0 {
+        return output::byte(text, m, b'-');
+    }
+    m
+}
+
+fn all_bits(text: &mut Block, n: usize, bounds: &[f64]) -> usize {
+    let mut m = n;
+    let mut i: usize = 0;
+    while i < bounds.len() {
+        let a = comma(text, m, i);
+        m = output::bits(text, a, floats::bits_of(bounds[i]));
+        i += 1;
+    }
+    m
+}
+
+// ---- points
+
+fn exponential(text: &mut Block, n: usize, p: Point, pos: &[u64], neg: &[u64]) -> usize {
+    let a = integer(text, n, point::signed::scale(p));
+    let b = held(text, a, p);
+    let c = row(text, b, point::signed::offset(p, false), pos);
+    row(text, c, point::signed::offset(p, true), neg)
+}
+
+fn explicit(text: &mut Block, n: usize, p: Point, buckets: &[u64], bounds: &[f64]) -> usize {
+    let a = held(text, n, p);
+    let b = dash(text, a, buckets.len());
+    let c = counts(text, b, buckets);
+    let d = dash(text, c, bounds.len());
+    all_bits(text, d, bounds)
+}
+
+// The line of a point that lies between two cursors.
+fn line<'a>(
+    text: &mut Block,
+    n: usize,
+    row: [u64; 9],
+    at: Cursor,
+    e: Entry,
+    pos: &'a [u64],
+    neg: &'a [u64],
+    bounds: &[f64],
+) -> usize {
+    let p = e.point;
+    let next = e.next;
+    let f = p.figures;
+    let above = listing::read::row_at(at, next, false, pos, neg);
+    match f {
+        Figures::Exponential(c) => {
+            let below = listing::read::row_at(at, next, true, pos, neg);
+            let a = output::byte(text, n, b'p');
+            let b = set(text, a, row);
+            let d = number(text, b, c.count);
+            let g = number(text, d, c.zeros);
+            let h = exponential(text, g, p, above, below);
+            output::byte(text, h, b'\n')
+        }
+        Figures::Explicit(count) => {
+            let own = listing::read::bounds_at(e.bounds, bounds);
+            let a = output::byte(text, n, b'q');
+            let b = set(text, a, row);
+            let d = number(text, b, count);
+            let g = explicit(text, d, p, above, own);
+            output::byte(text, g, b'\n')
+        }
+    }
+}
+
+// Prints the line of the point at a cursor, whose bounds lie in a store of bounds; nothing where no point is there.
+pub fn point<'a>(
+    text: &mut Block,
+    n: usize,
+    at: Cursor,
+    sets: &[[u64; 9]],
+    words: &[[u64; 12]],
+    pos: &'a [u64],
+    neg: &'a [u64],
+    bounds: &[f64],
+) -> Printed {
+    let k = at.place;
+    let Found::Is(e) = listing::read::point_at(at, words, pos, neg) else {
+        return Printed { n, at };
+    };
+    if sets.len() <= k {
+        return Printed { n, at };
+    }
+    let next = e.next;
+    Printed {
+        n: line(text, n, sets[k], at, e, pos, neg, bounds),
+        at: next,
+    }
+}
+
+// Prints a collection: `c START TIME POINTS`, and the first points of the list.
+pub fn collection<'a>(
+    text: &mut Block,
+    n: usize,
+    start: u64,
+    time: u64,
+    many: usize,
+    sets: &[[u64; 9]],
+    words: &[[u64; 12]],
+    pos: &'a [u64],
+    neg: &'a [u64],
+    bounds: &[f64],
+) -> usize {
+    let m = head(text, n, start, time, many as u64);
+    let at = Cursor {
+        place: 0,
+        pos: 0,
+        neg: 0,
+    };
+    let mut done = Printed { n: m, at };
+    let mut i: usize = 0;
+    while i < many {
+        done = point(text, done.n, done.at, sets, words, pos, neg, bounds);
+        i += 1;
+    }
+    done.n
+}
+
+fn head(text: &mut Block, n: usize, start: u64, time: u64, many: u64) -> usize {
+    let a = output::byte(text, n, b'c');
+    let b = number(text, a, start);
+    let c = number(text, b, time);
+    let d = number(text, c, many);
+    output::byte(text, d, b'\n')
+}
+
+// Prints that the line of a number can't be followed.
+pub fn unread(text: &mut Block, n: usize, line: u64) -> usize {
+    let a = output::byte(text, n, b'?');
+    let b = number(text, a, line);
+    output::byte(text, b, b'\n')
+}

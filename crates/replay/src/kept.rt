@@ -1,40 +1,93 @@
-// Points kept, and merged.
-ghost use mathlib.Core.Path.{_≡_};
-ghost use mathlib.Core.Bool.{true};
-ghost use Prim.Native.Nat.{_+_, _<_, _≤_};
-ghost use Rattle.listing.specs.Listed.{posLen, negLen};
+// Points kept (`k`), and merged (`j`).
 use crate::cells;
-use crate::line::Merging;
 use crate::state;
-use crate::state::Answer;
-use crate::state::Bounds;
-use crate::state::ListedCounts;
-use crate::state::ListedSets;
-use crate::state::ListedWords;
-use crate::state::Outcome;
-use crate::state::State;
-use crate::state::within;
 use listing::Cursor;
-use listing::Entry;
 use listing::Found;
-use listing::Span;
-use point::Figures;
-use point::Point;
+use pooling::Pooled;
 
-// The cursor of a place of the list.
-fn cursor_of(place: u64, words: &[[u64; 12]], pos: &[u64], neg: &[u64]) -> Cursor {
-    let mut at = Cursor {
+// A list's first cursor.
+pub fn first() -> Cursor {
+    Cursor {
         place: 0,
         pos: 0,
         neg: 0,
+    }
+}
+
+// ---- a kept point's own part of the output, a list of one
+
+pub fn sets_of<'a>(sets: &'a [[u64; 9]], k: u64) -> &'a [[u64; 9]] {
+    let a = 66 + state::within(k, 7);
+    let e = a + 1;
+    if sets.len() < e {
+        return sets;
+    }
+    &sets[a..e]
+}
+
+pub fn words_of<'a>(words: &'a [[u64; 12]], k: u64) -> &'a [[u64; 12]] {
+    let a = 66 + state::within(k, 7);
+    let e = a + 1;
+    if words.len() < e {
+        return words;
+    }
+    &words[a..e]
+}
+
+pub fn counts_of<'a>(counts: &'a [u64], k: u64) -> &'a [u64] {
+    let a = 10560 + 160 * state::within(k, 7);
+    let e = a + 160;
+    if counts.len() < e {
+        return counts;
+    }
+    &counts[a..e]
+}
+
+// Whether a point is kept there.
+fn is_kept(k: u64, words: &[[u64; 12]], pos: &[u64], neg: &[u64]) -> bool {
+    let w = words_of(words, k);
+    let Found::Is(e) = listing::read::point_at(first(), w, counts_of(pos, k), counts_of(neg, k))
+    else {
+        return false;
     };
-    let mut i: u64 = 0;
-    while i < place {
-        at = behind(at, words, pos, neg);
+    true
+}
+
+// ---- a list of one beside the output, put there
+
+fn put_counts(counts: &[u64; 160], n: usize, k: u64, out: &mut state::ListedCounts) {
+    let a = 10560 + 160 * state::within(k, 7);
+    let mut i: usize = 0;
+    while i < 160 && i < n {
+        out[a + i] = counts[i];
         i += 1;
     }
-    at
 }
+
+fn put(
+    k: u64,
+    set: [u64; 9],
+    words: &[[u64; 12]; 1],
+    pos: &[u64; 160],
+    neg: &[u64; 160],
+    out_sets: &mut state::ListedSets,
+    out_words: &mut state::ListedWords,
+    out_pos: &mut state::ListedCounts,
+    out_neg: &mut state::ListedCounts,
+) -> bool {
+    let Found::Is(e) = listing::read::point_at(first(), words, pos, neg) else {
+        return false;
+    };
+    let next = e.next;
+    let p = 66 + state::within(k, 7);
+    out_sets[p] = set;
+    out_words[p] = words[0];
+    put_counts(pos, next.pos, k, out_pos);
+    put_counts(neg, next.neg, k, out_neg);
+    true
+}
+
+// ---- keeping
 
 fn behind(at: Cursor, words: &[[u64; 12]], pos: &[u64], neg: &[u64]) -> Cursor {
     let Found::Is(e) = listing::read::point_at(at, words, pos, neg) else {
@@ -43,131 +96,25 @@ fn behind(at: Cursor, words: &[[u64; 12]], pos: &[u64], neg: &[u64]) -> Cursor {
     e.next
 }
 
-// The place and the counts of a kept point.
-pub fn kept_cursor(k: usize) -> Cursor
-    ensures { λ r. ⌜ (r .place < 74) × (r .pos + 160 ≤ 11840) × (r .neg + 160 ≤ 11840) ⌝ }
-{
-    let p = within(k as u64, 7);
-    Cursor {
-        place: 66 + p,
-        pos: 10560 + 160 * p,
-        neg: 10560 + 160 * p,
+// The cursor of a place of the list.
+fn cursor_of(place: u64, words: &[[u64; 12]], pos: &[u64], neg: &[u64]) -> Cursor {
+    let mut at = first();
+    let mut i: u64 = 0;
+    while i < place {
+        at = behind(at, words, pos, neg);
+        i += 1;
     }
+    at
 }
 
-fn kept_counts<'a>(counts: &'a [u64], k: usize) -> &'a [u64] {
-    let a = 10560 + 160 * within(k as u64, 7);
-    let e = a + 160;
-    if counts.len() < e {
-        return counts;
+// 160 counts from a place on, zeros behind the last.
+fn take_counts(counts: &[u64], from: usize, row: &mut [u64; 160]) {
+    let a = state::within(from as u64, 20000);
+    let mut i: usize = 0;
+    while i < 160 {
+        row[i] = count_at(counts, a + i);
+        i += 1;
     }
-    &counts[a..e]
-}
-
-fn kept_words<'a>(words: &'a [[u64; 12]], k: usize) -> &'a [[u64; 12]] {
-    let a = 66 + within(k as u64, 7);
-    let e = a + 1;
-    if words.len() < e {
-        return words;
-    }
-    &words[a..e]
-}
-
-// A kept point, read over its own part.
-fn kept(k: usize, words: &[[u64; 12]], pos: &[u64], neg: &[u64]) -> Found {
-    let at = Cursor {
-        place: 0,
-        pos: 0,
-        neg: 0,
-    };
-    listing::read::point_at(
-        at,
-        kept_words(words, k),
-        kept_counts(pos, k),
-        kept_counts(neg, k),
-    )
-}
-
-// Whether a point has at most 160 counts of either sign.
-fn has_few(f: Figures, b: Span) -> bool
-    ensures { λ r. ⌜ (r ≡ true → (posLen f b ≤ 160) × (negLen f ≤ 160)) ⌝ }
-{
-    match f {
-        Figures::Exponential(c) => {
-            let p = c.pos;
-            let n = c.neg;
-            if 160 < p.len {
-                return false;
-            }
-            if 160 < n.len {
-                return false;
-            }
-            true
-        }
-        Figures::Explicit(m) => {
-            if 159 < b.len {
-                return false;
-            }
-            true
-        }
-    }
-}
-
-// Puts a point at the place of a kept one, if it has not too many counts.
-fn put_kept(
-    k: usize,
-    row: [u64; 9],
-    p: Point,
-    b: Span,
-    pos: &[u64],
-    neg: &[u64],
-    out_sets: &mut [[u64; 9]],
-    out_words: &mut [[u64; 12]],
-    out_pos: &mut [u64],
-    out_neg: &mut [u64],
-) -> bool {
-    let f = p.figures;
-    if !has_few(f, b) {
-        return false;
-    }
-    if pos.len() < 160 {
-        return false;
-    }
-    if neg.len() < 160 {
-        return false;
-    }
-    if out_pos.len() < 11840 {
-        return false;
-    }
-    if out_neg.len() < 11840 {
-        return false;
-    }
-    if out_sets.len() < 74 {
-        return false;
-    }
-    if out_words.len() < 74 {
-        return false;
-    }
-    listing::put::put(
-        kept_cursor(k),
-        row,
-        p,
-        b,
-        pos,
-        neg,
-        out_sets,
-        out_words,
-        out_pos,
-        out_neg,
-    );
-    true
-}
-
-fn set_at(sets: &ListedSets, k: usize) -> [u64; 9] {
-    if k < 74 {
-        return sets[k];
-    }
-    [0; 9]
 }
 
 fn count_at(counts: &[u64], i: usize) -> u64 {
@@ -177,151 +124,119 @@ fn count_at(counts: &[u64], i: usize) -> u64 {
     0
 }
 
-// 160 counts from a place on.
-fn take_counts(counts: &[u64], from: usize, row: &mut [u64; 160]) {
-    let a = within(from as u64, 20000);
-    let mut i: usize = 0;
-    while i < 160 {
-        row[i] = count_at(counts, a + i);
-        i += 1;
-    }
-}
-
-fn put_row(
-    k: usize,
-    row: [u64; 9],
-    p: Point,
-    b: Span,
-    pos: &[u64; 160],
-    neg: &[u64; 160],
-    out_sets: &mut ListedSets,
-    out_words: &mut ListedWords,
-    out_pos: &mut ListedCounts,
-    out_neg: &mut ListedCounts,
-) -> bool {
-    put_kept(
-        k,
-        row,
-        p,
-        b,
-        pos,
-        neg,
-        out_sets,
-        out_words,
-        out_pos,
-        out_neg,
-    )
-}
-
 // Keeps the point at a place of the last collection.
 pub fn keep(
-    s: State,
-    k: usize,
-    place: u64,
-    bounds: &mut Bounds,
-    out_sets: &mut ListedSets,
-    out_words: &mut ListedWords,
-    out_pos: &mut ListedCounts,
-    out_neg: &mut ListedCounts,
-) -> Outcome {
-    if s.listed as u64 <= place {
-        return state::unread(s);
+    f: &state::Fields,
+    s: state::State,
+    out_sets: &mut state::ListedSets,
+    out_words: &mut state::ListedWords,
+    out_pos: &mut state::ListedCounts,
+    out_neg: &mut state::ListedCounts,
+) -> state::Outcome {
+    if s.listed as u64 <= f[2] {
+        return state::refused(s, state::UNREAD);
     }
-    let at = cursor_of(place, out_words, out_pos, out_neg);
-    let Found::Is(e) = listing::read::point_at(at, out_words, out_pos, out_neg) else {
-        return state::unread(s);
-    };
+    let at = cursor_of(f[2], out_words, out_pos, out_neg);
+    let p = state::within(at.place as u64, 73);
+    let set = out_sets[p];
+    let mut words = [[0u64; 12]; 1];
+    words[0] = out_words[p];
     let mut pos = [0u64; 160];
     let mut neg = [0u64; 160];
     take_counts(out_pos, at.pos, &mut pos);
     take_counts(out_neg, at.neg, &mut neg);
-    let row = set_at(out_sets, at.place);
-    let p = e.point;
-    let b = e.bounds;
-    put_row(
-        k,
-        row,
-        p,
-        b,
+    if put(
+        f[1],
+        set,
+        &words,
         &pos,
         &neg,
         out_sets,
         out_words,
         out_pos,
         out_neg,
-    );
-    cells::copy_bounds(bounds, 2, 3 + within(k as u64, 7));
-    state::quiet(s)
+    ) {
+        return state::accepted(s, 0);
+    }
+    state::refused(s, state::UNREAD)
 }
 
-fn merge_rows(
-    m: Merging,
-    a: Entry,
-    b: Entry,
+// ---- merging
+
+// Merges two kept points into a list of one.
+fn merge_to(
+    f: &state::Fields,
     bounds: &[f64],
+    sets: &[[u64; 9]],
+    words: &[[u64; 12]],
     pos: &[u64],
     neg: &[u64],
+    to_sets: &mut [[u64; 9]; 1],
+    to_words: &mut [[u64; 12]; 1],
     to_pos: &mut [u64],
     to_neg: &mut [u64],
-) -> point::Answer {
-    let p = a.point;
-    let q = b.point;
-    let x = a.bounds;
-    let y = b.bounds;
-    let i = within(m.counts, to_pos.len());
-    let j = within(m.counts, to_neg.len());
-    point::merge(
-        m.size,
-        p,
-        cells::bounds_in(bounds, 3 + within(m.first as u64, 7), x.len),
-        kept_counts(pos, m.first),
-        kept_counts(neg, m.first),
-        q,
-        cells::bounds_in(bounds, 3 + within(m.second as u64, 7), y.len),
-        kept_counts(pos, m.second),
-        kept_counts(neg, m.second),
-        &mut to_pos[0..i],
-        &mut to_neg[0..j],
+) -> Pooled {
+    pooling::merge_at(
+        state::cut(f[4]),
+        first(),
+        sets_of(sets, f[2]),
+        words_of(words, f[2]),
+        counts_of(pos, f[2]),
+        counts_of(neg, f[2]),
+        cells::bounds_in(bounds, cells::kept_part(f[2]), 200),
+        first(),
+        words_of(words, f[3]),
+        counts_of(pos, f[3]),
+        counts_of(neg, f[3]),
+        cells::bounds_in(bounds, cells::kept_part(f[3]), 200),
+        first(),
+        to_sets,
+        to_words,
+        to_pos,
+        to_neg,
     )
 }
 
-fn merge_to(
-    m: Merging,
-    a: Entry,
-    b: Entry,
-    bounds: &Bounds,
-    pos: &ListedCounts,
-    neg: &ListedCounts,
-    to_pos: &mut [u64; 160],
-    to_neg: &mut [u64; 160],
-) -> point::Answer {
-    merge_rows(m, a, b, bounds, pos, neg, to_pos, to_neg)
-}
-
-fn merge_kept(
-    s: State,
-    m: Merging,
-    a: Entry,
-    b: Entry,
-    bounds: &mut Bounds,
-    out_sets: &mut ListedSets,
-    out_words: &mut ListedWords,
-    out_pos: &mut ListedCounts,
-    out_neg: &mut ListedCounts,
-) -> Outcome {
+// Merges two kept points into a third, which has the first's set.
+pub fn merge(
+    f: &state::Fields,
+    s: state::State,
+    bounds: &state::Bounds,
+    out_sets: &mut state::ListedSets,
+    out_words: &mut state::ListedWords,
+    out_pos: &mut state::ListedCounts,
+    out_neg: &mut state::ListedCounts,
+) -> state::Outcome {
+    if !is_kept(f[2], out_words, out_pos, out_neg) {
+        return state::refused(s, state::UNREAD);
+    }
+    if !is_kept(f[3], out_words, out_pos, out_neg) {
+        return state::refused(s, state::UNREAD);
+    }
+    let mut sets = [[0u64; 9]; 1];
+    let mut words = [[0u64; 12]; 1];
     let mut pos = [0u64; 160];
     let mut neg = [0u64; 160];
-    let answer = merge_to(m, a, b, bounds, out_pos, out_neg, &mut pos, &mut neg);
-    match answer {
-        point::Answer::Refused(no) => state::refused(s, no),
-        point::Answer::Merged(p) => {
-            let row = set_at(out_sets, 66 + within(m.first as u64, 7));
-            let x = a.bounds;
-            put_row(
-                m.to,
-                row,
-                p,
-                x,
+    let i = state::within(f[5], 160);
+    let said = merge_to(
+        f,
+        bounds,
+        out_sets,
+        out_words,
+        out_pos,
+        out_neg,
+        &mut sets,
+        &mut words,
+        &mut pos[0..i],
+        &mut neg[0..i],
+    );
+    match said {
+        Pooled::Refused(no) => state::refused(s, no),
+        Pooled::Merged(next) => {
+            put(
+                f[1],
+                sets[0],
+                &words,
                 &pos,
                 &neg,
                 out_sets,
@@ -329,34 +244,7 @@ fn merge_kept(
                 out_pos,
                 out_neg,
             );
-            cells::copy_bounds(
-                bounds,
-                3 + within(m.first as u64, 7),
-                3 + within(m.to as u64, 7),
-            );
-            Outcome {
-                state: s,
-                answer: Answer::Merged(m.to),
-            }
+            state::accepted(s, 0)
         }
     }
-}
-
-// Merges two kept points into a third, by `j`.
-pub fn merge(
-    s: State,
-    m: Merging,
-    bounds: &mut Bounds,
-    out_sets: &mut ListedSets,
-    out_words: &mut ListedWords,
-    out_pos: &mut ListedCounts,
-    out_neg: &mut ListedCounts,
-) -> Outcome {
-    let Found::Is(a) = kept(m.first, out_words, out_pos, out_neg) else {
-        return state::unread(s);
-    };
-    let Found::Is(b) = kept(m.second, out_words, out_pos, out_neg) else {
-        return state::unread(s);
-    };
-    merge_kept(s, m, a, b, bounds, out_sets, out_words, out_pos, out_neg)
 }

@@ -1,139 +1,143 @@
 // Replays call scripts and prints their answers: docs/REPLAY.md has the language.
 //
 // Kinds `e` and `x` of f64. Every script has stores of its own, so a new one finds them fresh.
-mod bind;
 mod cells;
 mod collect;
-mod configure;
 mod damage;
 mod kept;
 mod line;
-mod list_calls;
-mod map_calls;
-mod recording;
+mod map;
 mod show;
 mod state;
 mod sums;
 
-use line::Call;
 use lines::Block;
 use lines::Line;
 use lines::attributes::Attributes;
 use lines::input::Ports;
-use state::Answer;
-use state::Bounds;
-use state::Counts;
-use state::Entries;
-use state::Extremes;
-use state::Figures;
-use state::Handles;
-use state::Keys;
-use state::ListedCounts;
-use state::ListedSets;
-use state::ListedWords;
-use state::Order;
-use state::Outcome;
-use state::Sets;
-use state::State;
-use state::Totals;
-
-// ---- lines that make no call
-
-fn with_bounds(s: State, n: usize) -> Outcome {
-    let mut waiting = s.waiting;
-    waiting.bounds = n;
-    let mut next = s;
-    next.waiting = waiting;
-    state::quiet(next)
-}
-
-fn with_keys(s: State, n: usize) -> Outcome {
-    let mut waiting = s.waiting;
-    waiting.keys = n;
-    waiting.filtered = true;
-    let mut next = s;
-    next.waiting = waiting;
-    state::quiet(next)
-}
-
-fn lending(s: State, counts: u64, entries: u64) -> Outcome {
-    let mut next = s;
-    next.counts = counts;
-    next.entries = entries;
-    state::quiet(next)
-}
-
-fn plain(c: Call, s: State) -> Outcome {
-    match c {
-        Call::Nothing => state::quiet(s),
-        Call::End => state::quiet(s),
-        Call::Name => Outcome {
-            state: s,
-            answer: Answer::Name,
-        },
-        Call::Bounds(n) => with_bounds(s, n),
-        Call::Keys(n) => with_keys(s, n),
-        Call::Lend(counts, entries) => lending(s, counts, entries),
-        Call::Show => Outcome {
-            state: s,
-            answer: Answer::Shown,
-        },
-        _ => state::unread(s),
-    }
-}
-
-// Whether the script goes on behind this line.
-fn goes_on(c: Call) -> bool {
-    match c {
-        Call::End => false,
-        Call::Name => false,
-        _ => true,
-    }
-}
 
 // ---- calls
 
+// The call that a line makes: its letter, `r` also for `h` and `b` also for `u`; a capital where the explicit kind has a call of its own.
+// Before any accepted `n` a map has no other call.
+fn asked(letter: u8, f: &state::Fields, s: state::State) -> u8 {
+    let kind = if letter == b'n' { f[1] } else { s.kind as u64 };
+    match letter {
+        b'n' => of_kind(kind, b'n', b'N'),
+        b'r' | b'h' => of_kind(kind, b'r', b'R'),
+        b'c' => of_kind(kind, b'c', b'C'),
+        b'b' | b'u' => of_kind(kind, b'b', b'b'),
+        _ => letter,
+    }
+}
+
+fn of_kind(kind: u64, exponential: u8, explicit: u8) -> u8 {
+    if kind == 101 {
+        return exponential;
+    }
+    if kind == 120 {
+        return explicit;
+    }
+    line::NONE
+}
+
+// A line that makes no call.
+fn plain(letter: u8, f: &state::Fields, s: state::State) -> state::Outcome {
+    let mut next = s;
+    match letter {
+        b'g' => next.next_bounds = f[1],
+        b'f' => {
+            next.next_keys = f[1];
+            next.next_filtered = true;
+        }
+        b'm' => {
+            next.counts = f[1];
+            next.entries = f[2];
+        }
+        0 => return state::refused(s, state::UNREAD),
+        _ => {}
+    }
+    state::accepted(next, 0)
+}
+
 fn make(
-    c: Call,
-    s: State,
+    letter: u8,
+    f: &state::Fields,
+    s: state::State,
     attrs: &Attributes,
-    keys: &mut Keys,
-    bounds: &mut Bounds,
-    handles: &mut Handles,
-    sets: &mut Sets,
-    entries: &mut Entries,
-    order: &mut Order,
-    figures: &mut Figures,
-    extremes: &mut Extremes,
-    pos: &mut Counts,
-    neg: &mut Counts,
-    totals: &mut Totals,
-    out_sets: &mut ListedSets,
-    out_words: &mut ListedWords,
-    out_pos: &mut ListedCounts,
-    out_neg: &mut ListedCounts,
-) -> Outcome {
-    match c {
-        Call::Map(call) => map_calls::make(
-            call,
+    keys: &state::Keys,
+    bounds: &mut state::Bounds,
+    sets: &mut state::Sets,
+    entries: &mut state::Entries,
+    order: &mut state::Order,
+    figures: &mut state::Figures,
+    extremes: &mut state::Extremes,
+    pos: &mut state::Counts,
+    neg: &mut state::Counts,
+    totals: &mut state::Totals,
+    out_sets: &mut state::ListedSets,
+    out_words: &mut state::ListedWords,
+    out_pos: &mut state::ListedCounts,
+    out_neg: &mut state::ListedCounts,
+) -> state::Outcome {
+    let call = asked(letter, f, s);
+    match call {
+        b'n' => map::configure_exponential(
+            f,
+            s,
+            keys,
+            sets,
+            entries,
+            order,
+            figures,
+            extremes,
+            pos,
+            neg,
+        ),
+        b'N' => map::configure_explicit(
+            f,
+            s,
+            keys,
+            bounds,
+            sets,
+            entries,
+            order,
+            totals,
+            extremes,
+            pos,
+        ),
+        b'r' => map::record_exponential(
+            letter,
+            f,
+            s,
+            attrs,
+            keys,
+            sets,
+            entries,
+            order,
+            figures,
+            extremes,
+            pos,
+            neg,
+        ),
+        b'R' => map::record_explicit(
+            letter,
+            f,
             s,
             attrs,
             keys,
             bounds,
-            handles,
             sets,
             entries,
             order,
-            figures,
+            totals,
             extremes,
             pos,
-            neg,
-            totals,
         ),
-        Call::List(call) => list_calls::make(
-            call,
+        b'b' => map::bind(letter, f, s, attrs, keys, sets, entries, order),
+        b'c' => collect::exponential(
+            f,
             s,
-            bounds,
             sets,
             entries,
             order,
@@ -141,14 +145,30 @@ fn make(
             extremes,
             pos,
             neg,
-            totals,
             out_sets,
             out_words,
             out_pos,
             out_neg,
         ),
-        Call::Damage(d) => damage::set(
-            d,
+        b'C' => collect::explicit(
+            f,
+            s,
+            bounds,
+            sets,
+            entries,
+            order,
+            totals,
+            extremes,
+            pos,
+            out_sets,
+            out_words,
+            out_pos,
+            out_neg,
+        ),
+        b'k' => kept::keep(f, s, out_sets, out_words, out_pos, out_neg),
+        b'j' => kept::merge(f, s, bounds, out_sets, out_words, out_pos, out_neg),
+        b'd' => damage::set(
+            f,
             s,
             bounds,
             sets,
@@ -163,7 +183,7 @@ fn make(
             out_pos,
             out_neg,
         ),
-        _ => plain(c, s),
+        _ => plain(call, f, s),
     }
 }
 
@@ -172,7 +192,7 @@ fn make(
 // Where a script stands behind a line, and whether it goes on.
 struct Place {
     ports: Ports,
-    state: State,
+    state: state::State,
     open: bool,
 }
 
@@ -183,32 +203,34 @@ fn turn(
     block: &mut Block,
     line: &mut Line,
     text: &mut Block,
+    f: &mut state::Fields,
     attrs: &mut Attributes,
-    keys: &mut Keys,
-    bounds: &mut Bounds,
-    handles: &mut Handles,
-    sets: &mut Sets,
-    entries: &mut Entries,
-    order: &mut Order,
-    figures: &mut Figures,
-    extremes: &mut Extremes,
-    pos: &mut Counts,
-    neg: &mut Counts,
-    totals: &mut Totals,
-    out_sets: &mut ListedSets,
-    out_words: &mut ListedWords,
-    out_pos: &mut ListedCounts,
-    out_neg: &mut ListedCounts,
+    keys: &mut state::Keys,
+    bounds: &mut state::Bounds,
+    handles: &mut state::Handles,
+    sets: &mut state::Sets,
+    entries: &mut state::Entries,
+    order: &mut state::Order,
+    figures: &mut state::Figures,
+    extremes: &mut state::Extremes,
+    pos: &mut state::Counts,
+    neg: &mut state::Counts,
+    totals: &mut state::Totals,
+    out_sets: &mut state::ListedSets,
+    out_words: &mut state::ListedWords,
+    out_pos: &mut state::ListedCounts,
+    out_neg: &mut state::ListedCounts,
 ) -> Place {
+    let s = at.state;
     let mut now = lines::input::next(at.ports, block, line, text);
-    let call = line::read(at.state, line, now.len, now.over, attrs, bounds, keys);
+    let letter = line::read(line, now.len, now.over, s, f, handles, attrs, bounds, keys);
     let o = make(
-        call,
-        at.state,
+        letter,
+        f,
+        s,
         attrs,
         keys,
         bounds,
-        handles,
         sets,
         entries,
         order,
@@ -222,27 +244,29 @@ fn turn(
         out_pos,
         out_neg,
     );
-    let next = o.state;
-    let said = o.answer;
+    cells::settle(letter, o.no, o.told, f, keys, bounds, handles);
     let n = show::answer(
         text,
         now.waiting,
-        next,
-        said,
         number,
+        letter,
+        f,
+        o,
         line,
         now.len,
+        handles,
         bounds,
         out_sets,
         out_words,
         out_pos,
         out_neg,
     );
+    let next = o.state;
     now.waiting = sums::shown(
         text,
         n,
+        letter,
         next,
-        said,
         sets,
         entries,
         order,
@@ -259,12 +283,13 @@ fn turn(
     Place {
         ports: now,
         state: next,
-        open: goes_on(call),
+        open: letter != line::END && letter != b'=',
     }
 }
 
 // Replays one script, up to the line that names the next or to the input's end.
 fn script(ports: Ports, block: &mut Block, line: &mut Line, text: &mut Block) -> Ports {
+    let mut f = [0u64; 11];
     let mut attrs = [[0u32; 2]; 9];
     let mut keys = [0u32; 64];
     let mut bounds = [0.0f64; 2200];
@@ -295,6 +320,7 @@ fn script(ports: Ports, block: &mut Block, line: &mut Line, text: &mut Block) ->
             block,
             line,
             text,
+            &mut f,
             &mut attrs,
             &mut keys,
             &mut bounds,

@@ -2,7 +2,6 @@
 //
 // A store of the map has places for a limit of 64, two more than any call takes: so a damaged limit is refused for itself.
 ghost use Prim.Native.Nat.{_≤_};
-use clock::Clock;
 use directory::Directory;
 
 pub type Sets = [[u64; 9]; 66];
@@ -35,12 +34,13 @@ pub type Keys = [u32; 64];
 
 pub type Handles = [u64; 100];
 
-pub const PLACES: usize = 66;
+// The fields of a line behind its letter, from 1 on: a number, bits, a byte; the greatest number for `-`, of a list or a set how many are
+// there, of a handle that is asked for the birth number in its place.
+pub type Fields = [u64; 11];
 
-pub const COUNTS: usize = 10560;
-
-// What was configured; `kind` is `e`, `x`, or 0 before any accepted `n`.
-pub struct Settings {
+// What was configured, where `kind` is `e`, `x`, or 0 before any accepted `n`; the map's and the clock's state; what waits for the next `n`;
+// how many counts and entries are lent, and how many points the last collection has.
+pub struct State {
     pub kind: u8,
     pub size: u32,
     pub top: u32,
@@ -51,46 +51,34 @@ pub struct Settings {
     pub bounds: usize,
     pub filtered: bool,
     pub keys: usize,
-}
-
-// What waits for the next `n`: how many bounds, whether there is a filter, and how many keys it has.
-pub struct Waiting {
-    pub bounds: usize,
-    pub filtered: bool,
-    pub keys: usize,
-}
-
-// How many counts and how many other entries of each store are lent, and how many points the last collection has.
-pub struct State {
-    pub settings: Settings,
     pub dir: Directory,
-    pub clock: Clock,
-    pub waiting: Waiting,
+    pub start: u64,
+    pub next_bounds: u64,
+    pub next_filtered: bool,
+    pub next_keys: u64,
     pub counts: u64,
     pub entries: u64,
     pub listed: usize,
 }
 
-// What a line comes to.
-pub enum Answer {
-    Nothing,
-    Name,
-    Unread,
-    Refused(u8),
-    Bound(usize, usize),
-    Listed(u64, u64),
-    Merged(usize),
-    Shown,
-}
-
+// What a line comes to: `no` is 0 where it was accepted, document 01's number, or UNREAD; `told` the birth number of a binding or the
+// start of a collection.
 pub struct Outcome {
     pub state: State,
-    pub answer: Answer,
+    pub no: u8,
+    pub told: u64,
 }
+
+pub const UNREAD: u8 = 255;
 
 // Before any line of a script.
 pub fn first() -> State {
-    let settings = Settings {
+    let dir = Directory {
+        used: 0,
+        count: 0,
+        last: 0,
+    };
+    State {
         kind: 0,
         size: 0,
         top: 0,
@@ -101,52 +89,23 @@ pub fn first() -> State {
         bounds: 0,
         filtered: false,
         keys: 0,
-    };
-    let dir = Directory {
-        used: 0,
-        count: 0,
-        last: 0,
-    };
-    let clock = Clock { start: 0 };
-    State {
-        settings,
         dir,
-        clock,
-        waiting: none_waits(),
+        start: 0,
+        next_bounds: 0,
+        next_filtered: false,
+        next_keys: 0,
         counts: u64::MAX,
         entries: u64::MAX,
         listed: 0,
     }
 }
 
-// Nothing waits.
-pub fn none_waits() -> Waiting {
-    Waiting {
-        bounds: 0,
-        filtered: false,
-        keys: 0,
-    }
-}
-
-pub fn unread(state: State) -> Outcome {
-    Outcome {
-        state,
-        answer: Answer::Unread,
-    }
-}
-
 pub fn refused(state: State, no: u8) -> Outcome {
-    Outcome {
-        state,
-        answer: Answer::Refused(no),
-    }
+    Outcome { state, no, told: 0 }
 }
 
-pub fn quiet(state: State) -> Outcome {
-    Outcome {
-        state,
-        answer: Answer::Nothing,
-    }
+pub fn accepted(state: State, told: u64) -> Outcome {
+    Outcome { state, no: 0, told }
 }
 
 // The state with another directory.
@@ -161,4 +120,9 @@ pub fn within(n: u64, most: usize) -> usize
     ensures { λ r. ⌜ r ≤ most ⌝ }
 {
     if n < most as u64 { n as usize } else { most }
+}
+
+// The lower 32 bits.
+pub fn cut(n: u64) -> u32 {
+    (n % 0x1_0000_0000) as u32
 }

@@ -1,24 +1,13 @@
-// The map printed: its state, a checksum of every cell of each store, so that a stray write shows, and its sets.
-use crate::state::Answer;
-use crate::state::Counts;
-use crate::state::Entries;
-use crate::state::Extremes;
-use crate::state::Figures;
-use crate::state::ListedCounts;
-use crate::state::ListedSets;
-use crate::state::ListedWords;
-use crate::state::Order;
-use crate::state::Sets;
-use crate::state::State;
-use crate::state::Totals;
+// The map shown (`s`): its state, and a checksum of every cell of each store, so that a stray write shows.
+use crate::state;
 use lines::Block;
 use lines::output;
+use printing::number;
 
 fn mix(sum: u64, x: u64) -> u64 {
     (sum % 2147483647 * 31 + x % 2147483647) % 2147483647
 }
 
-// A row is its cells one after another.
 fn row(from: u64, cells: &[u64]) -> u64 {
     let mut sum = from;
     let mut i: usize = 0;
@@ -27,22 +16,6 @@ fn row(from: u64, cells: &[u64]) -> u64 {
         i += 1;
     }
     sum
-}
-
-fn nine(from: u64, r: [u64; 9]) -> u64 {
-    row(from, &r)
-}
-
-fn twelve(from: u64, r: [u64; 12]) -> u64 {
-    row(from, &r)
-}
-
-fn three(from: u64, r: [u64; 3]) -> u64 {
-    row(from, &r)
-}
-
-fn eight(from: u64, r: [u64; 8]) -> u64 {
-    row(from, &r)
 }
 
 fn floating(from: u64, r: [f64; 3]) -> u64 {
@@ -54,31 +27,51 @@ fn wide(x: u32) -> u64 {
     x as u64
 }
 
-fn of_sets(sets: &[[u64; 9]]) -> u64 {
+fn of_sets(rows: &[[u64; 9]]) -> u64 {
     let mut sum: u64 = 0;
     let mut i: usize = 0;
-    while i < sets.len() {
-        sum = nine(sum, sets[i]);
+    while i < rows.len() {
+        sum = row(sum, &rows[i]);
         i += 1;
     }
     sum
 }
 
-fn of_words(words: &[[u64; 12]]) -> u64 {
+fn of_words(rows: &[[u64; 12]]) -> u64 {
     let mut sum: u64 = 0;
     let mut i: usize = 0;
-    while i < words.len() {
-        sum = twelve(sum, words[i]);
+    while i < rows.len() {
+        sum = row(sum, &rows[i]);
         i += 1;
     }
     sum
 }
 
-fn of_entries(entries: &[[u64; 3]]) -> u64 {
+fn of_entries(rows: &[[u64; 3]]) -> u64 {
     let mut sum: u64 = 0;
     let mut i: usize = 0;
-    while i < entries.len() {
-        sum = three(sum, entries[i]);
+    while i < rows.len() {
+        sum = row(sum, &rows[i]);
+        i += 1;
+    }
+    sum
+}
+
+fn of_figures(rows: &[[u64; 8]]) -> u64 {
+    let mut sum: u64 = 0;
+    let mut i: usize = 0;
+    while i < rows.len() {
+        sum = row(sum, &rows[i]);
+        i += 1;
+    }
+    sum
+}
+
+fn of_extremes(rows: &[[f64; 3]]) -> u64 {
+    let mut sum: u64 = 0;
+    let mut i: usize = 0;
+    while i < rows.len() {
+        sum = floating(sum, rows[i]);
         i += 1;
     }
     sum
@@ -94,100 +87,44 @@ fn of_order(order: &[u32]) -> u64 {
     sum
 }
 
-fn of_figures(figures: &[[u64; 8]]) -> u64 {
-    let mut sum: u64 = 0;
-    let mut i: usize = 0;
-    while i < figures.len() {
-        sum = eight(sum, figures[i]);
-        i += 1;
-    }
-    sum
-}
-
-fn of_extremes(extremes: &[[f64; 3]]) -> u64 {
-    let mut sum: u64 = 0;
-    let mut i: usize = 0;
-    while i < extremes.len() {
-        sum = floating(sum, extremes[i]);
-        i += 1;
-    }
-    sum
-}
-
-fn number(text: &mut Block, n: usize, x: u64) -> usize {
-    let m = output::byte(text, n, b' ');
-    output::decimal(text, m, x)
-}
-
-fn state(text: &mut Block, n: usize, s: State) -> usize {
-    let d = s.dir;
-    let a = output::byte(text, n, b's');
-    let b = number(text, a, d.used as u64);
-    let c = number(text, b, d.count);
-    number(text, c, d.last)
-}
-
-fn directory(text: &mut Block, n: usize, sets: &Sets, entries: &Entries, order: &Order) -> usize {
-    let a = number(text, n, of_sets(sets));
-    let b = number(text, a, of_entries(entries));
-    number(text, b, of_order(order))
-}
-
-fn series(
-    text: &mut Block,
-    n: usize,
-    figures: &Figures,
-    extremes: &Extremes,
-    pos: &Counts,
-    neg: &Counts,
-    totals: &Totals,
-) -> usize {
-    let a = number(text, n, of_figures(figures));
-    let b = number(text, a, of_extremes(extremes));
-    let c = number(text, b, row(0, pos));
-    let d = number(text, c, row(0, neg));
-    number(text, d, row(0, totals))
-}
-
-fn listed(
-    text: &mut Block,
-    n: usize,
-    sets: &ListedSets,
-    words: &ListedWords,
-    pos: &ListedCounts,
-    neg: &ListedCounts,
-) -> usize {
-    let a = number(text, n, of_sets(sets));
-    let b = number(text, a, of_words(words));
-    let c = number(text, b, row(0, pos));
-    number(text, c, row(0, neg))
-}
-
-// Prints the map, if the answer is that.
+// Prints the map behind n bytes of text, if that is what the line of a letter asks for.
 pub fn shown(
     text: &mut Block,
     n: usize,
-    s: State,
-    answer: Answer,
-    sets: &Sets,
-    entries: &Entries,
-    order: &Order,
-    figures: &Figures,
-    extremes: &Extremes,
-    pos: &Counts,
-    neg: &Counts,
-    totals: &Totals,
-    out_sets: &ListedSets,
-    out_words: &ListedWords,
-    out_pos: &ListedCounts,
-    out_neg: &ListedCounts,
+    letter: u8,
+    s: state::State,
+    sets: &state::Sets,
+    entries: &state::Entries,
+    order: &state::Order,
+    figures: &state::Figures,
+    extremes: &state::Extremes,
+    pos: &state::Counts,
+    neg: &state::Counts,
+    totals: &state::Totals,
+    out_sets: &state::ListedSets,
+    out_words: &state::ListedWords,
+    out_pos: &state::ListedCounts,
+    out_neg: &state::ListedCounts,
 ) -> usize {
-    let Answer::Shown = answer else {
+    if letter != b's' {
         return n;
-    };
-    let a = state(text, n, s);
-    let b = directory(text, a, sets, entries, order);
-    let c = series(text, b, figures, extremes, pos, neg, totals);
-    let d = listed(text, c, out_sets, out_words, out_pos, out_neg);
-    output::byte(text, d, b'\n')
+    }
+    let dir = s.dir;
+    let mut m = output::byte(text, n, b's');
+    m = number(text, m, dir.used as u64);
+    m = number(text, m, dir.count);
+    m = number(text, m, dir.last);
+    m = number(text, m, of_sets(sets));
+    m = number(text, m, of_entries(entries));
+    m = number(text, m, of_order(order));
+    m = number(text, m, of_figures(figures));
+    m = number(text, m, of_extremes(extremes));
+    m = number(text, m, row(0, pos));
+    m = number(text, m, row(0, neg));
+    m = number(text, m, row(0, totals));
+    m = number(text, m, of_sets(out_sets));
+    m = number(text, m, of_words(out_words));
+    m = number(text, m, row(0, out_pos));
+    m = number(text, m, row(0, out_neg));
+    output::byte(text, m, b'\n')
 }

@@ -5,10 +5,10 @@ use Rattle.replay.proofs.script.Statement.{statement}
 use Rattle.replay.proofs.script.Tie as tie
 
 abbrev Inv-loop : tie.InvT-loop
-Inv-loop block₀ line₀ text₀ attrs₀ keys₀ bounds₀ handles₀ sets₀ entries₀ order₀ figures₀ extremes₀ pos₀ neg₀ totals₀ out-sets₀ out-words₀ out-pos₀ out-neg₀ at₀ number₀ block line text attrs keys bounds handles sets entries order figures extremes pos neg totals out-sets out-words out-pos out-neg at number = Unit {0}
+Inv-loop block₀ line₀ text₀ f₀ attrs₀ keys₀ bounds₀ handles₀ sets₀ entries₀ order₀ figures₀ extremes₀ pos₀ neg₀ totals₀ out-sets₀ out-words₀ out-pos₀ out-neg₀ at₀ number₀ block line text f attrs keys bounds handles sets entries order figures extremes pos neg totals out-sets out-words out-pos out-neg at number = Unit {0}
 
 abbrev μ-loop : tie.MeasureT-loop
-μ-loop block₀ line₀ text₀ attrs₀ keys₀ bounds₀ handles₀ sets₀ entries₀ order₀ figures₀ extremes₀ pos₀ neg₀ totals₀ out-sets₀ out-words₀ out-pos₀ out-neg₀ at₀ number₀ block line text attrs keys bounds handles sets entries order figures extremes pos neg totals out-sets out-words out-pos out-neg at number =
+μ-loop block₀ line₀ text₀ f₀ attrs₀ keys₀ bounds₀ handles₀ sets₀ entries₀ order₀ figures₀ extremes₀ pos₀ neg₀ totals₀ out-sets₀ out-words₀ out-pos₀ out-neg₀ at₀ number₀ block line text f attrs keys bounds handles sets entries order figures extremes pos neg totals out-sets out-words out-pos out-neg at number =
     18446744073709551615 - number
 
 first-requires : tie.Need-first-requires Inv-loop μ-loop
@@ -25,7 +25,7 @@ turn-requires c κs = tt
 
 loop-less : tie.Need-loop-less Inv-loop μ-loop
 loop-less c =
-    let t = c .before .before .before .before .before .before .before .before .before .before .before .before .before .before .before .before .before .before .before .before .before in omega (arith, t .loop-test .taken)
+    let t = c .before .before .before .before .before .before .before .before .before .before .before .before .before .before .before .before .before .before .before .before .before .before in omega (arith, t .loop-test .taken)
 
 loop-again : tie.Need-loop-again Inv-loop μ-loop
 loop-again c = tt

@@ -10,6 +10,9 @@ Inv-loop place words pos neg at₀ i₀ at i = i ≤ place
 abbrev μ-loop : tie.MeasureT-loop
 μ-loop place words pos neg at₀ i₀ at i = place - i
 
+first-requires : tie.Need-first-requires Inv-loop μ-loop
+first-requires c κs = tt
+
 loop-holds : tie.Need-loop-holds Inv-loop μ-loop
 loop-holds c = omega arith
 
@@ -31,4 +34,4 @@ returns c = tt
 pub cursor-of-spec : {M : Type 1} → statement M
 cursor-of-spec =
     tie.close
-    (tie.spec Inv-loop μ-loop loop-holds behind-requires add-i loop-less loop-again returns)
+    (tie.spec Inv-loop μ-loop first-requires loop-holds behind-requires add-i loop-less loop-again returns)

@@ -6,22 +6,22 @@ use Rattle.replay.proofs.sums.of_entries.Statement.{statement}
 use Rattle.replay.proofs.sums.of_entries.Tie as tie
 
 abbrev Inv-loop : tie.InvT-loop
-Inv-loop entries sum₀ i₀ sum i = i ≤ length entries
+Inv-loop rows sum₀ i₀ sum i = i ≤ length rows
 
 abbrev μ-loop : tie.MeasureT-loop
-μ-loop entries sum₀ i₀ sum i = length entries - i
+μ-loop rows sum₀ i₀ sum i = length rows - i
 
 loop-holds : tie.Need-loop-holds Inv-loop μ-loop
 loop-holds c = omega arith
 
-mul-three : tie.Need-mul-three Inv-loop μ-loop
-mul-three c = omega arith
+mul-row : tie.Need-mul-row Inv-loop μ-loop
+mul-row c = omega arith
 
-shared-slice-copy-out-three : tie.Need-shared-slice-copy-out-three Inv-loop μ-loop
-shared-slice-copy-out-three c = omega arith
+shared-slice-element-row : tie.Need-shared-slice-element-row Inv-loop μ-loop
+shared-slice-element-row c = omega arith
 
-three-requires : tie.Need-three-requires Inv-loop μ-loop
-three-requires c κs = tt
+row-requires : tie.Need-row-requires Inv-loop μ-loop
+row-requires c κs = tt
 
 add-i : tie.Need-add-i Inv-loop μ-loop
 add-i c = omega arith
@@ -42,9 +42,9 @@ of-entries-spec =
     Inv-loop
     μ-loop
     loop-holds
-    mul-three
-    shared-slice-copy-out-three
-    three-requires
+    mul-row
+    shared-slice-element-row
+    row-requires
     add-i
     loop-less
     loop-again

@@ -6,22 +6,22 @@ use Rattle.replay.proofs.sums.of_figures.Statement.{statement}
 use Rattle.replay.proofs.sums.of_figures.Tie as tie
 
 abbrev Inv-loop : tie.InvT-loop
-Inv-loop figures sum₀ i₀ sum i = i ≤ length figures
+Inv-loop rows sum₀ i₀ sum i = i ≤ length rows
 
 abbrev μ-loop : tie.MeasureT-loop
-μ-loop figures sum₀ i₀ sum i = length figures - i
+μ-loop rows sum₀ i₀ sum i = length rows - i
 
 loop-holds : tie.Need-loop-holds Inv-loop μ-loop
 loop-holds c = omega arith
 
-mul-eight : tie.Need-mul-eight Inv-loop μ-loop
-mul-eight c = omega arith
+mul-row : tie.Need-mul-row Inv-loop μ-loop
+mul-row c = omega arith
 
-shared-slice-copy-out-eight : tie.Need-shared-slice-copy-out-eight Inv-loop μ-loop
-shared-slice-copy-out-eight c = omega arith
+shared-slice-element-row : tie.Need-shared-slice-element-row Inv-loop μ-loop
+shared-slice-element-row c = omega arith
 
-eight-requires : tie.Need-eight-requires Inv-loop μ-loop
-eight-requires c κs = tt
+row-requires : tie.Need-row-requires Inv-loop μ-loop
+row-requires c κs = tt
 
 add-i : tie.Need-add-i Inv-loop μ-loop
 add-i c = omega arith
@@ -42,9 +42,9 @@ of-figures-spec =
     Inv-loop
     μ-loop
     loop-holds
-    mul-eight
-    shared-slice-copy-out-eight
-    eight-requires
+    mul-row
+    shared-slice-element-row
+    row-requires
     add-i
     loop-less
     loop-again

@@ -6,22 +6,22 @@ use Rattle.replay.proofs.sums.of_sets.Statement.{statement}
 use Rattle.replay.proofs.sums.of_sets.Tie as tie
 
 abbrev Inv-loop : tie.InvT-loop
-Inv-loop sets sum₀ i₀ sum i = i ≤ length sets
+Inv-loop rows sum₀ i₀ sum i = i ≤ length rows
 
 abbrev μ-loop : tie.MeasureT-loop
-μ-loop sets sum₀ i₀ sum i = length sets - i
+μ-loop rows sum₀ i₀ sum i = length rows - i
 
 loop-holds : tie.Need-loop-holds Inv-loop μ-loop
 loop-holds c = omega arith
 
-mul-nine : tie.Need-mul-nine Inv-loop μ-loop
-mul-nine c = omega arith
+mul-row : tie.Need-mul-row Inv-loop μ-loop
+mul-row c = omega arith
 
-shared-slice-copy-out-nine : tie.Need-shared-slice-copy-out-nine Inv-loop μ-loop
-shared-slice-copy-out-nine c = omega arith
+shared-slice-element-row : tie.Need-shared-slice-element-row Inv-loop μ-loop
+shared-slice-element-row c = omega arith
 
-nine-requires : tie.Need-nine-requires Inv-loop μ-loop
-nine-requires c κs = tt
+row-requires : tie.Need-row-requires Inv-loop μ-loop
+row-requires c κs = tt
 
 add-i : tie.Need-add-i Inv-loop μ-loop
 add-i c = omega arith
@@ -42,9 +42,9 @@ of-sets-spec =
     Inv-loop
     μ-loop
     loop-holds
-    mul-nine
-    shared-slice-copy-out-nine
-    nine-requires
+    mul-row
+    shared-slice-element-row
+    row-requires
     add-i
     loop-less
     loop-again

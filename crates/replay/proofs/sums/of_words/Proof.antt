@@ -6,22 +6,22 @@ use Rattle.replay.proofs.sums.of_words.Statement.{statement}
 use Rattle.replay.proofs.sums.of_words.Tie as tie
 
 abbrev Inv-loop : tie.InvT-loop
-Inv-loop words sum₀ i₀ sum i = i ≤ length words
+Inv-loop rows sum₀ i₀ sum i = i ≤ length rows
 
 abbrev μ-loop : tie.MeasureT-loop
-μ-loop words sum₀ i₀ sum i = length words - i
+μ-loop rows sum₀ i₀ sum i = length rows - i
 
 loop-holds : tie.Need-loop-holds Inv-loop μ-loop
 loop-holds c = omega arith
 
-mul-twelve : tie.Need-mul-twelve Inv-loop μ-loop
-mul-twelve c = omega arith
+mul-row : tie.Need-mul-row Inv-loop μ-loop
+mul-row c = omega arith
 
-shared-slice-copy-out-twelve : tie.Need-shared-slice-copy-out-twelve Inv-loop μ-loop
-shared-slice-copy-out-twelve c = omega arith
+shared-slice-element-row : tie.Need-shared-slice-element-row Inv-loop μ-loop
+shared-slice-element-row c = omega arith
 
-twelve-requires : tie.Need-twelve-requires Inv-loop μ-loop
-twelve-requires c κs = tt
+row-requires : tie.Need-row-requires Inv-loop μ-loop
+row-requires c κs = tt
 
 add-i : tie.Need-add-i Inv-loop μ-loop
 add-i c = omega arith
@@ -42,9 +42,9 @@ of-words-spec =
     Inv-loop
     μ-loop
     loop-holds
-    mul-twelve
-    shared-slice-copy-out-twelve
-    twelve-requires
+    mul-row
+    shared-slice-element-row
+    row-requires
     add-i
     loop-less
     loop-again

@@ -1,2 +1,0 @@
--- The laws of `replay`.
-pub mod Few

@@ -14,8 +14,10 @@ use Rattle.exponential.specs.Series.{Outcome, recording}
 use Rattle.exponential.specs.Runs.{Series, after, headAfter, runAll}
 
 module _ (size top : ℕ) (s : Series) (vs : List Float) (i : ℕ) where
-  pub turn : (o : Outcome) (h : Head) → i < 1000000 → i < length vs → o ≡ recording size top (s .head) (s .pos) (s .neg) (getD vs i nan) → h ≡ headAfter (o .answer) (s .head)
-      → runAll size top s (take (1000000 - i) (drop i vs)) ≡ runAll size top (record { head = h; pos = o .pos; neg = o .neg }) (take (1000000 - (i + 1)) (drop (i + 1) vs))
+  pub turn : (o : Outcome) (h : Head) → i < 1000000 → i < length vs
+      → o ≡ recording size top (s .head) (s .pos) (s .neg) (getD vs i nan) → h ≡ headAfter (o .answer) (s .head)
+      → runAll size top s (take (1000000 - i) (drop i vs))
+      ≡ runAll size top (record { head = h; pos = o .pos; neg = o .neg }) (take (1000000 - (i + 1)) (drop (i + 1) vs))
   unfolding runAll
   turn o h m l e g =
       let n = 1000000 - (i + 1) in

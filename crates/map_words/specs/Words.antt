@@ -6,7 +6,6 @@ use denote.Ref.{RefT, now}
 use Rattle.laws.specs.Said.{number}
 use Rattle.directory.specs.declared.Directory.{Directory}
 use Rattle.directory.specs.View.{Stores}
-use Rattle.exponential_slots.specs.Cells.{Cells}
 use Rattle.value_map.specs.Calls.{Outcome}
 
 -- the directory's state as three words: slots used, the map's count, the last birth number spent
@@ -16,18 +15,18 @@ stateOf l = record { used = getD l 0 0; count = getD l 1 0; last = getD l 2 0 }
 abbrev pub wordsOf : Directory → List ℕ
 wordsOf d = d .used ∷ d .count ∷ d .last ∷ []
 
--- document 01's number of the answer, the lent state, and the lent stores
-pub record Handed : Type 0 where
+-- document 01's number of the answer, the lent state, and the lent stores, for any kind's cells
+pub record Handed (Cells : Type 0) : Type 0 where
   pub number : ℕ
   pub state : List (List ℕ)
   pub stores : Stores
   pub cells : Cells
 
 -- as a contract writes it
-abbrev pub handed : ℕ → RefT (List (List ℕ)) → Stores → Cells → Handed
+abbrev pub handed : {Cells : Type 0} → ℕ → RefT (List (List ℕ)) → Stores → Cells → Handed Cells
 handed n state s x = record { number = n; state = now state; stores = s; cells = x }
 
-abbrev pub handedOut : List (List ℕ) → Outcome Cells → Handed
+abbrev pub handedOut : {Cells : Type 0} → List (List ℕ) → Outcome Cells → Handed Cells
 handedOut state o =
     record {
       number = number (o .answer);

@@ -4,6 +4,7 @@ use mathlib.Core.Path.{_≡_, refl, sym, ap, _∙_}
 use lib.ListN.{length, take, drop}
 use native.Mathlib.Omega.{arith}
 use denote.Ref.{now}
+use Rattle.exponential.specs.declared.Head.{Head}
 use Rattle.exponential.specs.Series.{said, outcome}
 use Rattle.exponential.specs.Runs.{Series, runAll}
 use Rattle.exports.specs.Exports.{recorded}
@@ -30,7 +31,9 @@ unfolding recorded
 loop-holds c =
     let f = c .before in
     let a = f .before .before .before .before .args in
-    (omega arith, refl, refl, ap (λ h. runAll (a .size) (a .top) (record { head = h; pos = now (a .pos); neg = now (a .neg) }) (take 1000000 (now (a .values)))) (sym (f .fresh .ensures)))
+    let vs = take 1000000 (now (a .values)) in
+    let from : Head → Series = λ h. runAll (a .size) (a .top) (record { head = h; pos = now (a .pos); neg = now (a .neg) }) vs in
+    (omega arith, refl, refl, ap from (sym (f .fresh .ensures)))
 
 -- in a turn the place is in the list
 inside : (c : tie.In-loop Inv-loop μ-loop) → c .before .loop .i < length (now (c .before .before .before .before .before .before .before .args .values))
@@ -66,7 +69,8 @@ loop-again c =
       d .kept .1 .1 .1 .0 ∙ l .inv .1,
       d .kept .1 .1 .1 .1 .0 ∙ l .inv .2,
       l .inv .3
-          ∙ turn (a .size) (a .top) (record { head = l .head; pos = l .pos; neg = l .neg }) (now (a .values)) (l .i) (outcome (said (d .result)) (d .last .1 .1 .1 .0) (d .last .1 .1 .1 .1 .0)) (c .head-after .result)
+          ∙ turn (a .size) (a .top) (record { head = l .head; pos = l .pos; neg = l .neg }) (now (a .values)) (l .i)
+          (outcome (said (d .result)) (d .last .1 .1 .1 .0) (d .last .1 .1 .1 .1 .0)) (c .head-after .result)
           (omega (arith, t .loop-test .taken, m .most .ensures)) (inside t) (d .ensures) (c .head-after .ensures),
     )
 

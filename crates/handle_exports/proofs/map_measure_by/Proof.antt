@@ -3,8 +3,8 @@ use mathlib.Core.Path.{ap, _∙_}
 use denote.Ref.{now}
 use Rattle.directory.specs.declared.Directory.{Directory}
 use Rattle.directory.specs.View.{stores}
-use Rattle.exponential_slots.specs.Cells.{cells}
-use Rattle.value_map.specs.Calls.{held, measuredBy}
+use Rattle.exponential_slots.specs.Cells.{Cells, cells}
+use Rattle.value_map.specs.Calls.{Outcome, held, measuredBy}
 use Rattle.value_map.specs.Exponential.{exponentialStore}
 use Rattle.map_words.proofs.Handed.{handed}
 use borrow.Author.Needs.{needs}
@@ -57,7 +57,8 @@ returns c =
     let a = t .before .before .before .before .before .args in
     let s = stores (a .sets) (a .entries) (a .order) in
     let x = cells (a .figures) (a .extremes) (a .pos) (a .neg) in
-    let e = m .measure-by .ensures ∙ ap (λ (d : Directory). measuredBy (exponentialStore (a .size) (a .top)) (a .limit) (held d s x) (a .v) (a .handle)) (t .state-of .ensures) in
+    let by : Directory → Outcome Cells = λ d. measuredBy (exponentialStore (a .size) (a .top)) (a .limit) (held d s x) (a .v) (a .handle) in
+    let e = m .measure-by .ensures ∙ ap by (t .state-of .ensures) in
     handed (now (a .state)) _ _ (m .measure-by .result) _ (c .number-of .result) _ e (c .number-of .ensures) (c .before .words-of .ensures)
 
 pub map-measure-by-spec : {M : Type 1} → statement M

@@ -1,0 +1,2 @@
+-- Laws that the proof of collection_exports cites.
+pub mod Handed

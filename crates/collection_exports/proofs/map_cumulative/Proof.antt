@@ -1,0 +1,74 @@
+-- `collection_exports::map_cumulative` meets its contract. Assumes nothing.
+use mathlib.Core.Path.{ap, _∙_}
+use mathlib.Core.Bool.{true}
+use denote.Ref.{now}
+use Rattle.directory.specs.declared.Directory.{Directory}
+use Rattle.directory.specs.View.{stores}
+use Rattle.exponential_slots.specs.Cells.{Cells, cells}
+use Rattle.value_map.specs.Calls.{held}
+use Rattle.listing.specs.Listed.{output}
+use Rattle.collecting.specs.Collected.{Collected, cumulativeCollected}
+use Rattle.exponential_collection.specs.Points.{exponentialLister}
+use Rattle.collection_exports.proofs.Handed.{listed}
+use borrow.Author.Needs.{needs}
+use Rattle.collection_exports.proofs.map_cumulative.Statement.{statement}
+use Rattle.collection_exports.proofs.map_cumulative.Tie as tie
+
+element-copy-out-state-of : tie.Need-element-copy-out-state-of
+element-copy-out-state-of c = search needs
+
+state-of-requires : tie.Need-state-of-requires
+state-of-requires c κs = search needs
+
+cumulative-requires : tie.Need-cumulative-requires
+cumulative-requires c κs = search needs
+
+points-of-requires : tie.Need-points-of-requires
+points-of-requires c κs = search needs
+
+element-write-points : tie.Need-element-write-points
+element-write-points c = search needs
+
+number-of-requires : tie.Need-number-of-requires
+number-of-requires c κs = search needs
+
+same-length : tie.Need-same-length
+same-length c = search needs
+
+same-length-2 : tie.Need-same-length-2
+same-length-2 c = search needs
+
+same-length-3 : tie.Need-same-length-3
+same-length-3 c = search needs
+
+same-length-4 : tie.Need-same-length-4
+same-length-4 c = search needs
+
+returns : tie.Need-returns
+returns c =
+    let m = c .before .before .before .before .before .before .before .before in
+    let t = m .before .before .before .before .before in
+    let a = t .before .before .before .before .before .before .before .args in
+    let s = stores (a .sets) (a .entries) (a .order) in
+    let x = cells (a .figures) (a .extremes) (a .pos) (a .neg) in
+    let o = output (a .out-sets) (a .out-words) (a .out-pos) (a .out-neg) in
+    let by : Directory → Collected Cells = λ d. cumulativeCollected (exponentialLister (a .size) (a .top)) (true, true) (a .limit) (held d s x) o in
+    let e = m .cumulative .ensures ∙ ap by (t .state-of .ensures) in
+    listed (now (a .points)) (held (t .state-of .result) s x) _ (m .cumulative .result) _ (c .number-of .result) _ e
+    (c .number-of .ensures) (c .before .points-of .ensures)
+
+pub map-cumulative-spec : {M : Type 1} → statement M
+map-cumulative-spec =
+    tie.close
+    (tie.spec
+    element-copy-out-state-of
+    state-of-requires
+    cumulative-requires
+    points-of-requires
+    element-write-points
+    number-of-requires
+    same-length
+    same-length-2
+    same-length-3
+    same-length-4
+    returns)

@@ -1,2 +1,0 @@
--- Laws that the proof of delta_exports cites.
-pub mod Handed

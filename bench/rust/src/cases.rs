@@ -1,6 +1,7 @@
 //! The cases: what is measured, and how many operations a round has.
 
-use crate::{inputs, rust};
+use crate::inputs::{first, grid, last, unlike, Input, VALUES};
+use crate::{ours, rust};
 
 /// One side of a case. `prepare` is not measured.
 pub struct Side {
@@ -10,83 +11,149 @@ pub struct Side {
 
 impl Side {
     /// A side that needs no preparing.
-    pub fn of(run: impl FnMut() + 'static) -> Option<Self> {
-        Some(Side {
+    pub fn of(run: impl FnMut() + 'static) -> Self {
+        Side {
             prepare: Box::new(|| {}),
             run: Box::new(run),
-        })
+        }
     }
 }
 
+type Make = Box<dyn Fn() -> Side>;
+
+/// A case; where the Rust has no call like ours, its side is not there.
 pub struct Case {
     pub name: &'static str,
-    pub operations: u32,
-    pub rust: Option<Side>,
-    pub ours: Option<Side>,
+    pub operations: usize,
+    pub rust: Option<Make>,
+    pub ours: Make,
 }
 
-#[cfg(not(feature = "ours"))]
-mod ours {
-    //! Our half, as long as no static library is linked.
-    use super::Side;
-
-    pub fn index(_scale: i8) -> Option<Side> {
-        None
-    }
-
-    pub fn by_set(_sets: u32, _attributes: u32) -> Option<Side> {
-        None
-    }
-
-    pub fn by_handle() -> Option<Side> {
-        None
-    }
-
-    pub fn delta_collection() -> Option<Side> {
-        None
-    }
-}
-
-#[cfg(feature = "ours")]
-use crate::ours;
+/// Collections of a round that leave the map as it was.
+pub const COLLECTIONS: usize = 16;
 
 pub fn all() -> Vec<Case> {
-    let values = inputs::VALUES as u32;
-    let index = |name, scale| case(name, values, rust::index(scale), ours::index(scale));
-    let by_set = |name, sets, attributes| {
-        case(
-            name,
-            values,
-            rust::by_set(sets, attributes),
-            ours::by_set(sets, attributes),
-        )
-    };
-    vec![
-        index("index_scale_10", 10),
-        index("index_scale_3", 3),
-        index("index_scale_-2", -2),
-        by_set("record_4_sets_of_2", 4, 2),
-        by_set("record_62_sets_of_8", 62, 8),
-        case(
-            "record_by_handle",
-            values,
-            rust::by_handle(),
-            ours::by_handle(),
+    let mut cases = vec![
+        index("index, scale 10", 10),
+        index("index, scale 3", 3),
+        index("index, scale -2", -2),
+        series("series alone, rows of 20", 20),
+        series("series alone, rows of 160", 160),
+    ];
+    let few = || Input::of(last(4, 2));
+    let many = || Input::of(last(62, 8));
+    cases.extend([
+        by_set("by set, 4 sets of 2, rows of 4", few().rows(4)),
+        by_set("by set, 4 sets of 2, rows of 20", few().rows(20)),
+        by_set("by set, 4 sets of 2, rows of 160", few().rows(160)),
+        by_set("by set, 4 sets of 2", few()),
+        by_set(
+            "by set, 4 sets of 2, keys descending",
+            few().attributes_reversed(),
         ),
-        case(
-            "delta_collection_62_full",
-            1,
-            rust::delta_collection(),
-            ours::delta_collection(),
+        by_set("by set, 62 sets of 2", Input::of(last(62, 2))),
+        by_set("by set, 62 of a grid 8 by 8", Input::of(grid())),
+        by_set("by set, 62 sets of unlike keys", Input::of(unlike())),
+        by_set("by set, 62 sets of 8, rows of 4", many().rows(4)),
+        by_set("by set, 62 sets of 8, rows of 20", many().rows(20)),
+        by_set("by set, 62 sets of 8, rows of 160", many().rows(160)),
+        by_set("by set, 62 sets of 8", many()),
+        by_set(
+            "by set, 62 sets of 8 that differ first",
+            Input::of(first(62, 8)),
         ),
-    ]
+        by_set(
+            "by set, 62 sets of 8, keys descending",
+            many().attributes_reversed(),
+        ),
+        by_set(
+            "by set, 62 sets of 8, sets descending",
+            many().sets_reversed(),
+        ),
+        by_handle("by handle, 4 sets of 2, rows of 20", few().rows(20)),
+        by_handle("by handle, 4 sets of 2, rows of 160", few().rows(160)),
+        by_handle("by handle, 4 sets of 2", few()),
+        by_handle("by handle, 62 sets of 8", many()),
+        explicit("explicit, by set, 4 sets of 2", few()),
+        explicit("explicit, by set, 62 sets of 8", many()),
+    ]);
+    let full = || Input::of(last(62, 2)).rows(160);
+    cases.extend([
+        delta("delta collection, 4 sets, rows of 20", few().rows(20)),
+        delta("delta collection, 62 full series", full()),
+        delta_cold("delta collection, 62 full series, cold", full()),
+        cumulative("cumulative collection, 4 sets, rows of 20", few().rows(20)),
+        cumulative("cumulative collection, 62 full series", full()),
+    ]);
+    cases
 }
 
-fn case(name: &'static str, operations: u32, rust: Option<Side>, ours: Option<Side>) -> Case {
+fn index(name: &'static str, scale: i8) -> Case {
+    Case {
+        name,
+        operations: VALUES,
+        rust: Some(Box::new(move || rust::index(scale))),
+        ours: Box::new(move || ours::index(scale)),
+    }
+}
+
+fn series(name: &'static str, width: u32) -> Case {
+    Case {
+        name,
+        operations: VALUES,
+        rust: None,
+        ours: Box::new(move || ours::series(&Input::of(last(1, 1)).rows(width))),
+    }
+}
+
+fn by_set(name: &'static str, input: Input) -> Case {
+    both(name, VALUES, input, rust::by_set, ours::by_set)
+}
+
+fn by_handle(name: &'static str, input: Input) -> Case {
+    both(name, VALUES, input, rust::by_handle, ours::by_handle)
+}
+
+fn explicit(name: &'static str, input: Input) -> Case {
+    both(name, VALUES, input, rust::explicit, ours::explicit)
+}
+
+fn delta(name: &'static str, input: Input) -> Case {
+    both(
+        name,
+        1,
+        input,
+        |i| rust::delta(i, true),
+        |i| ours::delta(i, true),
+    )
+}
+
+fn delta_cold(name: &'static str, input: Input) -> Case {
+    both(
+        name,
+        1,
+        input,
+        |i| rust::delta(i, false),
+        |i| ours::delta(i, false),
+    )
+}
+
+fn cumulative(name: &'static str, input: Input) -> Case {
+    both(name, COLLECTIONS, input, rust::cumulative, ours::cumulative)
+}
+
+fn both(
+    name: &'static str,
+    operations: usize,
+    input: Input,
+    rust: fn(Input) -> Side,
+    ours: fn(Input) -> Side,
+) -> Case {
+    let same = input.clone();
     Case {
         name,
         operations,
-        rust,
-        ours,
+        rust: Some(Box::new(move || rust(input.clone()))),
+        ours: Box::new(move || ours(same.clone())),
     }
 }

@@ -1,22 +1,116 @@
 //! What both sides are given.
 
-/// Values of a round.
-pub const VALUES: usize = 8192;
+/// Recordings of a round.
+pub const VALUES: usize = 4096;
 
 /// Settings of the recording cases.
 pub const MAX_SIZE: u32 = 160;
 pub const MAX_SCALE: i8 = 10;
 pub const LIMIT: usize = 62;
 
+/// Bounds of the explicit kind, in millimetres.
+pub const BOUNDS: [f64; 15] = [
+    -8.0, -4.0, -2.0, -1.0, -0.5, -0.25, -0.125, 0.0, 0.125, 0.25, 0.5, 1.0, 2.0, 4.0, 8.0,
+];
+
+/// Attributes of a call: key and value.
+pub type Set = Vec<(u32, u32)>;
+
+/// Values, and the set of each.
+#[derive(Clone)]
+pub struct Input {
+    pub sets: Vec<Set>,
+    pub order: Vec<usize>,
+    pub values: Vec<f64>,
+    /// Recorded under every set before anything is measured: values that fill its rows, or one value.
+    pub first: Vec<f64>,
+}
+
+impl Input {
+    /// The benchmark's values, each under a set drawn at random.
+    pub fn of(sets: Vec<Set>) -> Self {
+        let mut draw = Draw::new();
+        let order = (0..VALUES)
+            .map(|_| (draw.next() >> 33) as usize % sets.len())
+            .collect();
+        Input {
+            sets,
+            order,
+            values: values(),
+            first: vec![1.0],
+        }
+    }
+
+    /// In place of the benchmark's values such as keep both rows of every set at `width` counts.
+    pub fn rows(mut self, width: u32) -> Self {
+        self.first = row(width).flat_map(|v| [v, -v]).collect();
+        let mut draw = Draw::new();
+        let many = self.first.len();
+        self.values = (0..VALUES)
+            .map(|_| self.first[(draw.next() >> 33) as usize % many])
+            .collect();
+        self
+    }
+
+    /// Every call's attributes in descending order of keys.
+    pub fn attributes_reversed(mut self) -> Self {
+        for set in &mut self.sets {
+            set.reverse();
+        }
+        self
+    }
+
+    /// Sets born and visited in descending order.
+    pub fn sets_reversed(mut self) -> Self {
+        let many = self.sets.len();
+        self.sets.reverse();
+        self.order = (0..VALUES).map(|i| i % many).collect();
+        self
+    }
+}
+
+/// Sets of keys 1, 2, .., of which the last tells them apart.
+pub fn last(sets: u32, count: u32) -> Vec<Set> {
+    apart(sets, count, count)
+}
+
+/// The same where the first key does.
+pub fn first(sets: u32, count: u32) -> Vec<Set> {
+    apart(sets, count, 1)
+}
+
+fn apart(sets: u32, count: u32, by: u32) -> Vec<Set> {
+    let set = |x| {
+        (1..=count)
+            .map(|key| (key, if key == by { x } else { 7 }))
+            .collect()
+    };
+    (0..sets).map(set).collect()
+}
+
+/// Eight blades and eight species, as many of their pairs as the limit allows.
+pub fn grid() -> Vec<Set> {
+    (0..LIMIT as u32)
+        .map(|x| vec![(1, x / 8), (2, x % 8)])
+        .collect()
+}
+
+/// Sets of one to four attributes, no key of one in another.
+pub fn unlike() -> Vec<Set> {
+    (0..LIMIT as u32)
+        .map(|x| (0..=x % 4).map(|i| (100 * i + x, 7)).collect())
+        .collect()
+}
+
 /// A small generator of random numbers (xorshift64*), the same on every run.
-pub struct Draw(u64);
+struct Draw(u64);
 
 impl Draw {
-    pub fn new() -> Self {
+    fn new() -> Self {
         Draw(0x9E37_79B9_7F4A_7C15)
     }
 
-    pub fn next(&mut self) -> u64 {
+    fn next(&mut self) -> u64 {
         self.0 ^= self.0 >> 12;
         self.0 ^= self.0 << 25;
         self.0 ^= self.0 >> 27;
@@ -36,7 +130,7 @@ pub fn magnitudes() -> Vec<f64> {
 }
 
 /// The same with both signs.
-pub fn values() -> Vec<f64> {
+fn values() -> Vec<f64> {
     let mut draw = Draw::new();
     magnitudes()
         .into_iter()
@@ -44,24 +138,7 @@ pub fn values() -> Vec<f64> {
         .collect()
 }
 
-/// Which set each value of a round is recorded under.
-pub fn order(sets: u32) -> Vec<usize> {
-    let mut draw = Draw::new();
-    (0..VALUES)
-        .map(|_| (draw.next() >> 33) as usize % sets as usize)
-        .collect()
-}
-
-/// The attributes of set number `set`: keys 1, 2, .., of which the last tells the sets apart.
-pub fn attributes(set: u32, count: u32) -> Vec<(u32, u32)> {
-    (1..=count)
-        .map(|key| (key, if key == count { set } else { 7 }))
-        .collect()
-}
-
-/// Values that fill a row of 160 counts at scale 10: one in each bucket upward from 1.
-pub fn full_row() -> Vec<f64> {
-    (0..MAX_SIZE)
-        .map(|i| 2f64.powf((f64::from(i) + 0.5) / 1024.0))
-        .collect()
+/// One value in each of `width` buckets upward from 1 at scale 10.
+fn row(width: u32) -> impl Iterator<Item = f64> {
+    (0..width).map(|i| 2f64.powf((f64::from(i) + 0.5) / 1024.0))
 }

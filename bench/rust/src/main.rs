@@ -1,34 +1,33 @@
 //! The Rust and ours on the same inputs, in one run.
 //!
-//!     bench                    prints `CASE OPERATIONS RUST OURS`, nanoseconds an operation, the least of all rounds
-//!     bench sweep              our index against the exact one beside all bounds, see crate beside
-//!     bench count CASE SIDE    runs one side (rust, ours), its third round for counting instructions in `bench_measured`
+//!     bench time ROUNDS [TEXT]   of each case (whose name has TEXT): name, operations of a round, then the Rust's and our least and middle
+//!                                time, in nanoseconds an operation, by tabs
+//!     bench count NUMBER SIDE    one side (rust, ours) of a case, its third round for counting instructions in `bench_measured`
+//!     bench sweep                our index against the exact one beside all bounds, see crate beside
 //!
-//! A side that is not there yet is `-`.
+//! A side that is not there is `-`.
 
 mod cases;
+mod directory;
+mod explicit_map;
+mod exponential_map;
 mod inputs;
-#[cfg(feature = "ours")]
-mod map;
-#[cfg(feature = "ours")]
 mod ours;
 mod rust;
 
 use std::time::Instant;
 
-use cases::{Case, Side};
-
-const ROUNDS: u32 = 400;
+use cases::Side;
 
 fn main() {
     let words: Vec<String> = std::env::args().skip(1).collect();
     let words: Vec<&str> = words.iter().map(String::as_str).collect();
     match words[..] {
-        [] => time_all(),
-        #[cfg(feature = "ours")]
+        ["time", rounds] => time_all(rounds.parse().expect("a number"), ""),
+        ["time", rounds, text] => time_all(rounds.parse().expect("a number"), text),
+        ["count", number, side] => count(number.parse().expect("a number"), side),
         ["sweep"] => beside::sweep(ours::index_at).expect("a place to write to"),
-        ["count", case, side] => count(case, side),
-        _ => panic!("usage: bench [count CASE SIDE | sweep (with our half)]"),
+        _ => panic!("usage: bench time ROUNDS [TEXT] | count NUMBER SIDE | sweep"),
     }
 }
 
@@ -40,21 +39,26 @@ pub extern "C" fn bench_measured(side: &mut Side) {
 }
 
 /// Each round goes through all cases and both sides, so that a busy moment of the machine meets all and a quiet one too.
-fn time_all() {
+fn time_all(rounds: usize, text: &str) {
     let mut cases = cases::all();
-    let mut least = vec![[f64::INFINITY; 2]; cases.len()];
-    for _ in 0..ROUNDS {
-        for (case, least) in cases.iter_mut().zip(&mut least) {
-            for (best, side) in least.iter_mut().zip([&mut case.rust, &mut case.ours]) {
+    cases.retain(|case| case.name.contains(text));
+    let mut sides: Vec<_> = cases
+        .iter()
+        .map(|case| [case.rust.as_ref().map(|make| make()), Some((case.ours)())])
+        .collect();
+    let mut times = vec![[vec![], vec![]]; cases.len()];
+    for _ in 0..rounds {
+        for ((case, sides), times) in cases.iter().zip(&mut sides).zip(&mut times) {
+            for (side, times) in sides.iter_mut().zip(times) {
                 if let Some(side) = side {
-                    *best = best.min(nanoseconds(side) / f64::from(case.operations));
+                    times.push(nanoseconds(side) / case.operations as f64);
                 }
             }
         }
     }
-    for (case, [rust, ours]) in cases.iter().zip(least) {
+    for (case, [rust, ours]) in cases.iter().zip(times) {
         println!(
-            "{} {} {} {}",
+            "{}\t{}\t{}\t{}",
             case.name,
             case.operations,
             shown(rust),
@@ -70,24 +74,21 @@ fn nanoseconds(side: &mut Side) -> f64 {
     began.elapsed().as_nanos() as f64
 }
 
-fn shown(nanoseconds: f64) -> String {
-    if nanoseconds.is_finite() {
-        format!("{nanoseconds:.1}")
-    } else {
-        "-".to_string()
+/// The least and the middle one.
+fn shown(mut times: Vec<f64>) -> String {
+    times.sort_by(f64::total_cmp);
+    match times[..] {
+        [] => "-\t-".to_string(),
+        [least, ..] => format!("{least:.2}\t{:.2}", times[times.len() / 2]),
     }
 }
 
-fn count(name: &str, side: &str) {
-    let case: Case = cases::all()
-        .into_iter()
-        .find(|case| case.name == name)
-        .expect("a case of this name");
-    let side = match side {
-        "rust" => case.rust,
-        _ => case.ours,
+fn count(number: usize, side: &str) {
+    let case = &cases::all()[number];
+    let mut side = match side {
+        "rust" => case.rust.as_ref().expect("this side is there")(),
+        _ => (case.ours)(),
     };
-    let mut side = side.expect("this side is there");
     for _ in 0..2 {
         (side.prepare)();
         (side.run)();

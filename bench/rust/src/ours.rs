@@ -4,13 +4,18 @@ use std::cell::RefCell;
 use std::hint::black_box;
 use std::rc::Rc;
 
-use crate::cases::Side;
-use crate::inputs;
-use crate::map::{Map, Output};
+use crate::cases::{Side, COLLECTIONS};
+use crate::directory::{lent, shown, Lent};
+use crate::explicit_map;
+use crate::exponential_map::{Map, Output};
+use crate::inputs::{self, Input};
 
 extern "C" {
     /// Crate index: the bin of a value at a level; see its contract.
     fn index_bin(v: f64, level: u32) -> u32;
+
+    /// Crate exports: how many values a fresh series over these rows has counted after all of them.
+    fn record_all(size: u32, top: u32, pos: Lent<u64>, neg: Lent<u64>, values: Lent<f64>) -> u64;
 }
 
 /// The level of a scale: 0 for scale -10.
@@ -24,7 +29,7 @@ pub fn index_at(scale: i8) -> impl Fn(f64) -> i64 {
     move |v| i64::from(unsafe { index_bin(v, level) }) - (2 << level)
 }
 
-pub fn index(scale: i8) -> Option<Side> {
+pub fn index(scale: i8) -> Side {
     let level = level_of(scale);
     let magnitudes = inputs::magnitudes();
     Side::of(move || {
@@ -34,63 +39,109 @@ pub fn index(scale: i8) -> Option<Side> {
     })
 }
 
-/// Sets as our calls take them.
-fn pairs(sets: u32, attributes: u32) -> Vec<Vec<[u32; 2]>> {
-    (0..sets)
-        .map(|set| {
-            inputs::attributes(set, attributes)
-                .into_iter()
-                .map(|(key, value)| [key, value])
-                .collect()
-        })
-        .collect()
+pub fn series(input: &Input) -> Side {
+    let values = input.values.clone();
+    let mut rows = [[0; inputs::MAX_SIZE as usize]; 2];
+    let level = level_of(inputs::MAX_SCALE);
+    Side::of(move || {
+        let [pos, neg] = &mut rows;
+        let count = unsafe {
+            record_all(
+                inputs::MAX_SIZE,
+                level,
+                lent(pos),
+                lent(neg),
+                shown(&values),
+            )
+        };
+        assert_eq!(count, values.len() as u64);
+    })
 }
 
-pub fn by_set(sets: u32, attributes: u32) -> Option<Side> {
+/// Sets as our calls take them.
+fn pairs(input: &Input) -> Vec<Vec<[u32; 2]>> {
+    let set = |set: &inputs::Set| set.iter().map(|(key, value)| [*key, *value]).collect();
+    input.sets.iter().map(set).collect()
+}
+
+/// A map with what comes first under every set, so that set i is in slot i + 1.
+fn filled(input: &Input) -> Map {
     let mut map = Map::new();
-    let sets = pairs(sets, attributes);
-    let order = inputs::order(sets.len() as u32);
-    let values = inputs::values();
+    fill(&mut map, &pairs(input), &input.first);
+    map
+}
+
+fn fill(map: &mut Map, sets: &[Vec<[u32; 2]>], first: &[f64]) {
+    for set in sets {
+        for v in first {
+            map.record(*v, set);
+        }
+    }
+}
+
+pub fn by_set(input: Input) -> Side {
+    let mut map = filled(&input);
+    let sets = pairs(&input);
     Side::of(move || {
-        for (v, set) in values.iter().zip(&order) {
+        for (v, set) in input.values.iter().zip(&input.order) {
             map.record(black_box(*v), black_box(&sets[*set]));
         }
     })
 }
 
-pub fn by_handle() -> Option<Side> {
-    let mut map = Map::new();
-    map.record(1.0, &pairs(1, 2)[0]);
-    let handle = map.bind(1);
-    let values = inputs::values();
+pub fn by_handle(input: Input) -> Side {
+    let mut map = filled(&input);
+    let handles: Vec<u64> = (1..=input.sets.len())
+        .map(|x| map.directory.bind(x))
+        .collect();
     Side::of(move || {
-        for v in &values {
-            map.record_by(black_box(*v), handle);
+        for (v, set) in input.values.iter().zip(&input.order) {
+            map.record_by(black_box(*v), black_box(handles[*set]));
         }
     })
 }
 
-/// 62 series, both rows full; the memory of the last collection is used again.
-pub fn delta_collection() -> Option<Side> {
-    let map = Rc::new(RefCell::new(Map::new()));
-    let collecting = map.clone();
-    let sets = pairs(62, 2);
-    let row = inputs::full_row();
-    let mut out = Output::new();
-    Some(Side {
+pub fn explicit(input: Input) -> Side {
+    let mut map = explicit_map::Map::new();
+    let sets = pairs(&input);
+    Side::of(move || {
+        for (v, set) in input.values.iter().zip(&input.order) {
+            map.record(black_box(*v), black_box(&sets[*set]));
+        }
+    })
+}
+
+/// The memory of the last collection is used again; warm: there was one just before.
+pub fn delta(input: Input, warm: bool) -> Side {
+    let sets = pairs(&input);
+    let points = sets.len() as u64;
+    let lent = Rc::new(RefCell::new((Map::new(), Output::new())));
+    let collecting = lent.clone();
+    Side {
         prepare: Box::new(move || {
-            let mut map = map.borrow_mut();
-            for set in &sets {
-                for v in &row {
-                    map.record(*v, set);
-                    map.record(-*v, set);
-                }
+            let (map, out) = &mut *lent.borrow_mut();
+            if warm {
+                fill(map, &sets, &input.first);
+                map.delta(out);
             }
+            fill(map, &sets, &input.first);
         }),
         run: Box::new(move || {
-            let points = collecting.borrow_mut().delta(&mut out);
-            assert_eq!(black_box(points), 62);
+            let (map, out) = &mut *collecting.borrow_mut();
+            assert_eq!(black_box(map.delta(out)), points);
             black_box((&out.pos, &out.neg));
         }),
+    }
+}
+
+pub fn cumulative(input: Input) -> Side {
+    let map = filled(&input);
+    let points = input.sets.len() as u64;
+    let mut out = Output::new();
+    Side::of(move || {
+        for _ in 0..COLLECTIONS {
+            assert_eq!(black_box(map.cumulative(&mut out)), points);
+            black_box((&out.pos, &out.neg));
+        }
     })
 }

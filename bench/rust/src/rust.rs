@@ -8,10 +8,10 @@ use opentelemetry::KeyValue;
 use opentelemetry_sdk::door::{Aggregate, Bins, Kind, Settings};
 use opentelemetry_sdk::metrics::Temporality;
 
-use crate::cases::Side;
-use crate::inputs;
+use crate::cases::{Side, COLLECTIONS};
+use crate::inputs::{self, Input};
 
-pub fn index(scale: i8) -> Option<Side> {
+pub fn index(scale: i8) -> Side {
     let bins = Bins::new(scale);
     let magnitudes = inputs::magnitudes();
     Side::of(move || {
@@ -21,59 +21,96 @@ pub fn index(scale: i8) -> Option<Side> {
     })
 }
 
-pub fn by_set(sets: u32, attributes: u32) -> Option<Side> {
-    let aggregate = aggregate();
-    let sets = key_values(sets, attributes);
-    let order = inputs::order(sets.len() as u32);
-    let values = inputs::values();
+pub fn by_set(input: Input) -> Side {
+    let aggregate = exponential(Temporality::Delta);
+    let sets = key_values(&input);
+    fill(&aggregate, &sets, &input.first);
+    recording(aggregate, sets, input)
+}
+
+pub fn explicit(input: Input) -> Side {
+    let bounds = inputs::BOUNDS.to_vec();
+    let aggregate = aggregate(Kind::Explicit { bounds }, Temporality::Delta);
+    recording(aggregate, key_values(&input), input)
+}
+
+fn recording(aggregate: Aggregate<f64>, sets: Vec<Vec<KeyValue>>, input: Input) -> Side {
     Side::of(move || {
-        for (v, set) in values.iter().zip(&order) {
+        for (v, set) in input.values.iter().zip(&input.order) {
             aggregate.record(black_box(*v), black_box(&sets[*set]));
         }
     })
 }
 
-pub fn by_handle() -> Option<Side> {
-    let aggregate = aggregate();
-    let binding = aggregate.bind(&key_values(1, 2)[0]);
-    let values = inputs::values();
+pub fn by_handle(input: Input) -> Side {
+    let aggregate = exponential(Temporality::Delta);
+    let sets = key_values(&input);
+    fill(&aggregate, &sets, &input.first);
+    let bindings: Vec<_> = sets.iter().map(|set| aggregate.bind(set)).collect();
     Side::of(move || {
-        for v in &values {
-            binding.record(black_box(*v));
+        for (v, set) in input.values.iter().zip(&input.order) {
+            bindings[*set].record(black_box(*v));
         }
     })
 }
 
-/// 62 series, both rows full; the memory of the last collection is used again.
-pub fn delta_collection() -> Option<Side> {
-    let filled = Rc::new(aggregate());
-    let sets = key_values(62, 2);
-    let row = inputs::full_row();
-    let collected = Rc::new(RefCell::new(filled.collect()));
-    let collecting = filled.clone();
-    Some(Side {
+/// The memory of the last collection is used again; warm: there was one just before.
+pub fn delta(input: Input, warm: bool) -> Side {
+    let aggregate = Rc::new(exponential(Temporality::Delta));
+    let sets = key_values(&input);
+    let points = sets.len();
+    let collected = Rc::new(RefCell::new(aggregate.collect()));
+    let (collecting, last) = (aggregate.clone(), collected.clone());
+    Side {
         prepare: Box::new(move || {
-            for set in &sets {
-                for v in &row {
-                    filled.record(*v, set);
-                    filled.record(-*v, set);
-                }
+            if warm {
+                fill(&aggregate, &sets, &input.first);
+                aggregate.collect_into(&mut last.borrow_mut());
             }
+            fill(&aggregate, &sets, &input.first);
         }),
         run: Box::new(move || {
-            let points = collecting.collect_into(&mut collected.borrow_mut());
-            assert_eq!(black_box(points), 62);
+            let made = collecting.collect_into(&mut collected.borrow_mut());
+            assert_eq!(black_box(made), points);
         }),
+    }
+}
+
+pub fn cumulative(input: Input) -> Side {
+    let aggregate = exponential(Temporality::Cumulative);
+    let sets = key_values(&input);
+    fill(&aggregate, &sets, &input.first);
+    let mut collected = aggregate.collect();
+    Side::of(move || {
+        for _ in 0..COLLECTIONS {
+            assert_eq!(
+                black_box(aggregate.collect_into(&mut collected)),
+                sets.len()
+            );
+        }
     })
 }
 
-fn aggregate() -> Aggregate<f64> {
+fn fill(aggregate: &Aggregate<f64>, sets: &[Vec<KeyValue>], first: &[f64]) {
+    for set in sets {
+        for v in first {
+            aggregate.record(*v, set);
+        }
+    }
+}
+
+fn exponential(temporality: Temporality) -> Aggregate<f64> {
+    let kind = Kind::Exponential {
+        max_size: inputs::MAX_SIZE,
+        max_scale: inputs::MAX_SCALE,
+    };
+    aggregate(kind, temporality)
+}
+
+fn aggregate(kind: Kind, temporality: Temporality) -> Aggregate<f64> {
     Aggregate::new(Settings {
-        kind: Kind::Exponential {
-            max_size: inputs::MAX_SIZE,
-            max_scale: inputs::MAX_SCALE,
-        },
-        temporality: Temporality::Delta,
+        kind,
+        temporality,
         filter: None,
         limit: inputs::LIMIT,
         min_max: true,
@@ -82,15 +119,10 @@ fn aggregate() -> Aggregate<f64> {
 }
 
 /// Keys are static texts of ten digits, as document 01 writes them.
-fn key_values(sets: u32, attributes: u32) -> Vec<Vec<KeyValue>> {
-    (0..sets)
-        .map(|set| {
-            inputs::attributes(set, attributes)
-                .into_iter()
-                .map(|(key, value)| KeyValue::new(text(key), i64::from(value)))
-                .collect()
-        })
-        .collect()
+fn key_values(input: &Input) -> Vec<Vec<KeyValue>> {
+    let pair = |(key, value): &(u32, u32)| KeyValue::new(text(*key), i64::from(*value));
+    let set = |set: &inputs::Set| set.iter().map(pair).collect();
+    input.sets.iter().map(set).collect()
 }
 
 fn text(key: u32) -> &'static str {

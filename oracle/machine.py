@@ -178,11 +178,14 @@ class Machine(Reference):
         words = self.out_words[PLACES + k]
         if not is_point(words) or max(lengths(words)) > KEPT_COUNTS:
             raise Unreadable
-        return self.point_at(self.kept_cursor(k), self.kept_bounds[k])
+        start = words[4] if words[0] else 0
+        return self.point_at(self.kept_cursor(k), self.kept_bounds[k][start:])
 
     def merge(self, call):
         pair = self.kept_point(call.first), self.kept_point(call.second)
         words = [self.out_words[PLACES + k] for k in (call.first, call.second)]
+        if any(w[0] and w[4] + w[5] > script.WAITING_BOUNDS for w in words):  # bounds that are not lent
+            raise Refused(8)
         both_explicit = words[0][0] == words[1][0] == 1
         if not both_explicit and call.size not in self.rules.sizes:
             raise Refused(1)

@@ -124,7 +124,7 @@ pub fn record(
         extremes,
         pos,
         neg,
-        text::float_of(bits),
+        floats::of_bits(bits),
         given(&attrs, n),
         false,
         &no_keys,

@@ -31,7 +31,7 @@ fn print_index(scale: i32, index: i32) {
 }
 
 fn print_answer(bits: u64, scale: i32) {
-    let found = index::signed::get_index(text::float_of(bits), scale);
+    let found = index::signed::get_index(floats::of_bits(bits), scale);
     match found {
         Index::At { negative: _, index } => print_index(scale, index),
         _ => print_none(),

@@ -39,7 +39,7 @@ fn in_floats(rows: &mut [[f64; 3]], place: usize, cell: usize, n: u64) -> bool {
     if rows.len() <= place || 3 <= cell {
         return false;
     }
-    rows[place][cell] = text::float_of(n);
+    rows[place][cell] = floats::of_bits(n);
     true
 }
 
@@ -65,7 +65,7 @@ fn in_bounds(bounds: &mut [f64], at: usize, n: u64) -> bool {
     if bounds.len() <= at {
         return false;
     }
-    bounds[at] = text::float_of(n);
+    bounds[at] = floats::of_bits(n);
     true
 }
 

@@ -154,7 +154,7 @@ fn put_bound(bounds: &mut Bounds, n: usize, bits: Natural) -> usize {
         return 0;
     };
     if n < 200 {
-        bounds[n] = text::float_of(x);
+        bounds[n] = floats::of_bits(x);
         return n + 1;
     }
     0

@@ -176,7 +176,7 @@ pub fn record_exponential(
             extremes,
             &mut pos[0..b],
             neg,
-            text::float_of(f[1]),
+            floats::of_bits(f[1]),
             cells::given(attrs, f[2]),
             s.filtered,
             cells::filter(keys, s.keys),
@@ -195,7 +195,7 @@ pub fn record_exponential(
         extremes,
         &mut pos[0..b],
         neg,
-        text::float_of(f[2]),
+        floats::of_bits(f[2]),
         f[1],
     );
     done(s, reply)
@@ -228,7 +228,7 @@ pub fn record_explicit(
             totals,
             extremes,
             &mut pos[0..b],
-            text::float_of(f[1]),
+            floats::of_bits(f[1]),
             cells::given(attrs, f[2]),
             s.filtered,
             cells::filter(keys, s.keys),
@@ -245,7 +245,7 @@ pub fn record_explicit(
         totals,
         extremes,
         &mut pos[0..b],
-        text::float_of(f[2]),
+        floats::of_bits(f[2]),
         f[1],
     );
     done(s, reply)

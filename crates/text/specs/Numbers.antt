@@ -1,3 +1,4 @@
+-- BETWEEN OUR OWN CRATES: serves inner contracts and proofs; nobody needs it to believe the public calls or the theorems.
 -- How numbers are spelled. Document 01: 'decimals have no plus sign, leading zero or -0; bits use 0-9 and A-F', and 'f64 bits are
 -- written as 16 hexadecimal digits'. Bytes are ASCII. Assumes nothing.
 use Prim.Native.Nat.{ℕ, zero, suc, _+_, _-_, _*_, _/_, _%_, _^_}

@@ -1,8 +1,7 @@
-// Lines of text: their fields, the numbers and f64s that fields spell, and numbers written. What the programs share.
+// Lines of text: their fields, the numbers that fields spell, and numbers written. What the programs share.
 //
 // One space parts fields. Decimals have no plus sign, no leading zero and no -0; bits are 16 digits 0-9 and A-F.
 mod fields;
-mod floating;
 mod numbers;
 mod written;
 
@@ -14,7 +13,6 @@ pub use fields::field;
 pub use fields::push;
 pub use fields::signed_at;
 pub use fields::spaces;
-pub use floating::float_of;
 pub use numbers::Integer;
 pub use numbers::Natural;
 pub use numbers::bits;
@@ -22,6 +20,5 @@ pub use numbers::decimal;
 pub use numbers::signed;
 pub use written::hex_digits;
 pub use written::write;
-pub use written::write_bits;
 pub use written::write_decimal;
 pub use written::write_difference;

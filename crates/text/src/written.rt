@@ -46,13 +46,3 @@ pub fn write_difference(a: u64, b: u64) {
         write_decimal(a - b);
     }
 }
-
-fn write_sixteen(digits: &[u8; 16]) {
-    io::write_all(STDOUT_FILENO, digits);
-}
-
-// Writes 64 bits as 16 hexadecimal digits.
-pub fn write_bits(bits: u64) {
-    let digits = hex_digits(bits);
-    write_sixteen(&digits);
-}

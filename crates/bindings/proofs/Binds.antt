@@ -12,7 +12,8 @@ use lib.Dec.{ltb, leb}
 use lib.ListN.{length, getD}
 use Rattle.tally.specs.Sets.{Set, overflow, canonical}
 use Rattle.tally.specs.Kind.{Kind}
-use Rattle.tally.specs.Map.{Config, Map, bind, handle, Out, Place, find, put, rebound, new, held, place, bindAt, upfront, act}
+use Rattle.tally.specs.Map.{Config, Map, bind, handle, Out, find}
+use Rattle.tally.proofs.MapSteps.{Place, put, rebound, new, held, place, bindAt, upfront, act}
 use Rattle.laws.proofs.Cases.{true-not-false}
 use Rattle.sets.specs.Rows.{setOf}
 use Rattle.directory.specs.Calls.{overRow, located, boundTo, admitted}

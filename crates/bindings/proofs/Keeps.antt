@@ -11,13 +11,14 @@ use lib.Dec.{leb}
 use lib.ListN.{length, getD, set}
 use lib.Seq.{getD-set-same}
 use Rattle.laws.specs.Pick.{pick}
-use Rattle.tally.specs.Sets.{Set, kept, canonical, Keyed}
+use Rattle.tally.specs.Sets.{Set, kept, canonical, Keyed, Lendable}
 use Rattle.tally.specs.Kind.{Kind}
-use Rattle.tally.specs.Map.{Config, bind, release, start, upfront, act, Agrees}
+use Rattle.tally.specs.Map.{Config, bind, release, Agrees}
+use Rattle.tally.proofs.MapSteps.{start, upfront, act}
 use Rattle.tally.proofs.Agree.{step-agrees}
 use Rattle.sets.specs.All.{allb}
 use Rattle.sets.specs.Rows.{size, setOf, rowOf}
-use Rattle.sets.specs.Sorted.{mostAttributes, Small}
+use Rattle.sets.specs.Sorted.{mostAttributes}
 use Rattle.sets.proofs.CallRow.{row-set, row-keyed, row-short}
 use Rattle.sets.proofs.Keyed.{keyed-sound}
 use Rattle.directory.specs.Calls.{Kept, overRow, located, scan, mostSets, accepts, storesSuffice}
@@ -105,7 +106,7 @@ module _ (K : Kind) (f : ℕ → K .Series) (z : K .Settings) (c : Config K) (d 
   unfolding upfront act
   too-many attrs h = rw h (refl, refl)
 
-  pub bind-steps : (attrs : Set) → Small attrs → d .last < 2 ^ 64 → accepts (c .limit) (c .filter) ≡ true
+  pub bind-steps : (attrs : Set) → Lendable attrs → d .last < 2 ^ 64 → accepts (c .limit) (c .filter) ≡ true
       → Steps K f z c (view K f z d s) (bind attrs) (bound (c .limit) (c .filter) d s attrs)
   bind-steps attrs small last a = go (leb (length attrs) 8) refl
     where
@@ -134,7 +135,7 @@ module _ (limit : ℕ) (d : Directory) (s : Stores) (g : agreesb limit d s ≡ t
   before-it : (filter : Option (List ℕ)) → Agrees blank (config filter) (view blank (λ k. tt) tt d s)
   before-it filter = agreed blank (λ k. tt) tt (config filter) d s g
 
-  pub bind-keeps : (filter : Option (List ℕ)) (attrs : Set) → Small attrs → d .last < 2 ^ 64 → AgreesIn limit (bound limit filter d s attrs)
+  pub bind-keeps : (filter : Option (List ℕ)) (attrs : Set) → Lendable attrs → d .last < 2 ^ 64 → AgreesIn limit (bound limit filter d s attrs)
   unfolding bound
   bind-keeps filter attrs small last =
       either (AgreesIn limit) (storesSuffice limit s) _ _

@@ -7,7 +7,8 @@ use mathlib.Core.Option.{none, some}
 use native.Mathlib.Omega.{arith}
 use lib.ListN.{length, getD}
 use Rattle.tally.specs.Kind.{Kind}
-use Rattle.tally.specs.Map.{Config, Map, Call, release, named, step, upfront, act, releaseAt}
+use Rattle.tally.specs.Map.{Config, Map, Call, release, named}
+use Rattle.tally.proofs.MapSteps.{step, upfront, act, releaseAt}
 use Rattle.directory.specs.Calls.{scan}
 use Rattle.directory.specs.View.{Stores, agreesb, entryAt, view}
 use Rattle.directory.specs.declared.Directory.{Directory}

@@ -11,9 +11,9 @@ use lib.Dec.{leb}
 use lib.ListN.{length, getD, set, length-set}
 use Rattle.laws.specs.Said.{Said, number}
 use Rattle.laws.proofs.Cases.{true-not-false, and-true}
-use Rattle.tally.specs.Sets.{Set, canonical}
+use Rattle.tally.specs.Sets.{Set, canonical, Lendable}
 use Rattle.sets.specs.Rows.{rowOf}
-use Rattle.sets.specs.Sorted.{mostAttributes, Small}
+use Rattle.sets.specs.Sorted.{mostAttributes}
 use Rattle.directory.specs.Calls.{Kept, overRow, located, scan, mostSets, accepts, fewKeys, storesSuffice}
 use Rattle.directory.specs.View.{Stores, agreesb}
 use Rattle.directory.specs.declared.Directory.{Directory}
@@ -89,7 +89,7 @@ module _ (limit : ℕ) (filter : Option (List ℕ)) (a : accepts limit filter �
 
 -- the calls, with attributes that can be lent
 pub data Move : Type 0 where
-  binding : (attrs : Set) → Small attrs → Move
+  binding : (attrs : Set) → Lendable attrs → Move
   releasing : ℕ → Move
 
 module _ (limit : ℕ) (filter : Option (List ℕ)) where

@@ -10,7 +10,7 @@ use Rattle.tally.specs.Sets.{Set, canonical}
 use Rattle.tally.specs.Kind as Map
 use Rattle.sets.specs.Rows.{span, rowOf}
 use Rattle.sets.specs.Sorted.{mostAttributes}
-use Rattle.directory.specs.Calls.{Kept, kept, greatest, overRow, located, admitted, boundTo, scan, mostSets, accepts, storesSuffice}
+use Rattle.directory.specs.Calls.{Kept, kept, overRow, located, admitted, boundTo, scan, mostSets, accepts, storesSuffice}
 use Rattle.directory.specs.View.{Stores, birthAt, agreesb}
 use Rattle.directory.specs.declared.Directory.{Directory}
 use Rattle.directory.specs.declared.Found.{Found}
@@ -20,6 +20,7 @@ use Rattle.directory.specs.declared.Target.the-variants.{Disagrees, Old, New, O
 use Rattle.bindings.specs.declared.Answer.{Answer}
 use Rattle.bindings.specs.declared.Answer.the-variants.{Refused, Done, Handle}
 use Rattle.bindings.specs.declared.Reply.{Reply}
+use Rattle.laws.specs.Counting.{mostCount}
 
 -- "a definition gives this paper's number and values for each case of that enum": success has no value, or a binding's birth number, which a
 -- handle holds
@@ -65,13 +66,13 @@ releasedIn limit d s h =
 -- a new entry with one binding, unless the birth numbers are spent
 abbrev pub bornBound : Directory → Stores → List ℕ → ℕ → ℕ → Outcome
 bornBound d s row rank more =
-    pick (leb greatest (d .last)) (refused 9 d s)
+    pick (leb mostCount (d .last)) (refused 9 d s)
     (record { answer = success (some (d .last + 1)); kept = admitted d s row rank more 1 })
 
 -- one binding more on a slot that is held, unless its bindings are 2 ^ 64 - 1
 abbrev pub heldBound : Directory → Stores → ℕ → Outcome
 heldBound d s x =
-    pick (leb greatest (getD (getD (s .entries) x []) 1 0)) (refused 9 d s)
+    pick (leb mostCount (getD (getD (s .entries) x []) 1 0)) (refused 9 d s)
     (record {
       answer = success (some (birthAt (s .entries) x));
       kept = record {

@@ -14,7 +14,8 @@ use Rattle.directory.specs.Calls.{Kept, mostSets, storesSuffice}
 use Rattle.sweep.specs.Swept.{sweptKept}
 use Rattle.value_map.specs.Store.{Store}
 use Rattle.value_map.specs.Calls.{Held, lent}
-use Rattle.listing.specs.Listed.{Output, Put}
+use Rattle.listing.specs.Listed.{Output}
+use Rattle.listing.specs.Inner.{Put}
 use Rattle.collecting.specs.Lister.{Lister}
 use Rattle.collecting.specs.Collected.{Collected, roomOf, dueOf, agreeing, roomy, uncollected, collectedTo, unlessRefused, deltaCollected, cumulativeCollected}
 use Rattle.collecting.specs.Slots.{putSlots}
@@ -22,14 +23,14 @@ use Rattle.collecting.proofs.Walks.{Open}
 
 module _ {K : Kind} {S : Store K} (L : Lister S) (w : S .Switches) (limit : ℕ) (h : Held (S .Cells)) (o : Output) where
   -- what is known where no number refuses the call
-  pub record Clear (whole : Bool) : Type 0 where
+  pub record Clear (cumulative : Bool) : Type 0 where
     pub opened : Open (S .suffices limit (h .cells)) (S .unset) limit (h .kept .dir) (h .kept .stores)
     pub agree : agreeing L w h ≡ true
-    pub room : roomy L w h (dueOf whole (h .kept)) (roomOf o) ≡ true
+    pub room : roomy L w h (dueOf cumulative (h .kept)) (roomOf o) ≡ true
 
-  pub clear-of : (whole : Bool) → uncollected L w whole limit h o ≡ 0 → Clear whole
+  pub clear-of : (cumulative : Bool) → uncollected L w cumulative limit h o ≡ 0 → Clear cumulative
   unfolding uncollected
-  clear-of whole e =
+  clear-of cumulative e =
       let d = h .kept .dir in
       let s = h .kept .stores in
       let a = and-true (storesSuffice limit s) (S .suffices limit (h .cells)) (pick-left (lent S limit h) _ 12 (omega arith) e) in
@@ -41,7 +42,7 @@ module _ {K : Kind} {S : Store K} (L : Lister S) (w : S .Switches) (limit : ℕ)
       record {
         opened = record { stores = a .0; lent = a .1; set = eqb-true (S .unset) 0 (b .0); few = leb-true limit mostSets (c .0); agrees = f .0 };
         agree = f .1;
-        room = pick-left (roomy L w h (dueOf whole (h .kept)) (roomOf o)) 0 10 (omega arith) (pick-then q _ 8 (omega arith) t);
+        room = pick-left (roomy L w h (dueOf cumulative (h .kept)) (roomOf o)) 0 10 (omega arith) (pick-then q _ 8 (omega arith) t);
       }
 
   -- "Every refusal changes nothing."
@@ -58,12 +59,12 @@ module _ {K : Kind} {S : Store K} (L : Lister S) (w : S .Switches) (limit : ℕ)
   cumulative-refused n e d = refused-with n (uncollected L w true limit h o) (collectedTo L w true (h .kept) h o) e d
 
   -- the points that were put, and the directory k
-  done-with : (whole : Bool) (k k′ : Kept) (p : Put) → uncollected L w whole limit h o ≡ 0 → p ≡ putSlots L w h (dueOf whole (h .kept)) o → k ≡ k′
+  done-with : (cumulative : Bool) (k k′ : Kept) (p : Put) → uncollected L w cumulative limit h o ≡ 0 → p ≡ putSlots L w h (dueOf cumulative (h .kept)) o → k ≡ k′
       → record { answer = success (p .next .place); held = record { kept = k; cells = h .cells }; out = p .output }
-      ≡ unlessRefused L w (uncollected L w whole limit h o) h o (collectedTo L w whole k′ h o)
-  done-with whole k k′ p e q r =
+      ≡ unlessRefused L w (uncollected L w cumulative limit h o) h o (collectedTo L w cumulative k′ h o)
+  done-with cumulative k k′ p e q r =
       (λ j. record { answer = success (q j .next .place); held = record { kept = r j; cells = h .cells }; out = q j .output })
-      ∙ sym (pick-true (eqb (uncollected L w whole limit h o) 0) (collectedTo L w whole k′ h o) _ (eq-eqb (uncollected L w whole limit h o) 0 e))
+      ∙ sym (pick-true (eqb (uncollected L w cumulative limit h o) 0) (collectedTo L w cumulative k′ h o) _ (eq-eqb (uncollected L w cumulative limit h o) 0 e))
 
   pub delta-done : (k : Kept) (p : Put) → uncollected L w false limit h o ≡ 0 → p ≡ putSlots L w h (dueOf false (h .kept)) o → k ≡ sweptKept (h .kept)
       → record { answer = success (p .next .place); held = record { kept = k; cells = h .cells }; out = p .output } ≡ deltaCollected L w limit h o

@@ -39,11 +39,11 @@ slot-behind order zero n = absurd (n refl)
 slot-behind order (suc i) n = let e : suc i - 1 ≡ i = omega arith in ap (λ (j : ℕ). getD order j 0) e
 
 -- a slot that was not updated is due where it is named and all such are asked for
-module _ (updated whole : Bool) (x : ℕ) (n : updated ≡ false) where
-  pub due-not : whole ≡ false → (updated || (whole && not (eqb x 0))) ≡ false
+module _ (updated cumulative : Bool) (x : ℕ) (n : updated ≡ false) where
+  pub due-not : cumulative ≡ false → (updated || (cumulative && not (eqb x 0))) ≡ false
   due-not e = λ j. n j || (e j && not (eqb x 0))
 
-  pub due-named : whole ≡ true → (updated || (whole && not (eqb x 0))) ≡ not (eqb x 0)
+  pub due-named : cumulative ≡ true → (updated || (cumulative && not (eqb x 0))) ≡ not (eqb x 0)
   due-named e = λ j. n j || (e j && not (eqb x 0))
 
 -- ---- a list's elements one by one

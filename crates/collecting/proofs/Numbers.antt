@@ -14,6 +14,10 @@ use Rattle.collecting.specs.Collected.{fewest}
 use Rattle.collecting.specs.Slots.{barredBy, surveyedBy}
 use Rattle.collecting.specs.declared.Survey.{Survey}
 
+-- the number of the call: what comes before the survey comes first
+unfoldable pub orElse : ℕ → ℕ → ℕ
+orElse first then = pick (eqb first 0) then first
+
 -- ---- before any series is read
 
 module _ (cells : Bool) (unset limit : ℕ) (d : Directory) (s : Stores) where

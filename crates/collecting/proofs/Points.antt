@@ -16,7 +16,7 @@ use Rattle.tally.specs.Map.{Entry, Points, points, sound, filled}
 use Rattle.directory.specs.View.{Stores, setAt, entryAt}
 use Rattle.directory.proofs.Rises.{In}
 use Rattle.seats.specs.Seats.{updatedIn}
-use Rattle.seats.specs.Recording.{orFresh}
+use Rattle.seats.proofs.Recording.{orFresh}
 use Rattle.sweep.specs.Swept.{only}
 use Rattle.value_map.specs.Store.{Store}
 use Rattle.value_map.specs.Calls.{Held}

@@ -20,7 +20,8 @@ use Rattle.sweep.specs.Swept.{only}
 use Rattle.value_map.specs.Store.{Store}
 use Rattle.value_map.specs.Calls.{Held}
 use Rattle.listing.specs.declared.Cursor.{Cursor}
-use Rattle.listing.specs.Listed.{Output, Put, left, overAt}
+use Rattle.listing.specs.Listed.{Output, overAt}
+use Rattle.listing.specs.Inner.{Put, left}
 use Rattle.listing.proofs.Lists.{over-behind-front, rows-snoc}
 use Rattle.collecting.specs.Lister.{Lister}
 use Rattle.collecting.specs.Collected.{fewest, roomOf, slotsOf, due, dueOf, setRows, wordRows, posCounts, negCounts, laidOut, roomy}
@@ -128,58 +129,58 @@ module _ {K : Kind} {S : Store K} (L : Lister S) (w : S .Switches) (h : Held (S 
         neg = omega (arith, m, g .neg, e .neg);
       }
 
-  module _ (whole : Bool) (r : roomy L w h (dueOf whole (h .kept)) (roomOf o) ≡ true) where
+  module _ (cumulative : Bool) (r : roomy L w h (dueOf cumulative (h .kept)) (roomOf o) ≡ true) where
     abbrev slots : List ℕ
     slots = slotsOf (h .kept)
 
     -- the first slots' points have room
-    pub fit-first : (i : ℕ) → Fit (only (due whole (h .kept)) (take i slots))
-    fit-first i = fit-front (only (due whole (h .kept)) (take i slots)) (only (due whole (h .kept)) (drop i slots)) (subst Fit (only-front (due whole (h .kept)) slots i) (fit-of (dueOf whole (h .kept)) r))
+    pub fit-first : (i : ℕ) → Fit (only (due cumulative (h .kept)) (take i slots))
+    fit-first i = fit-front (only (due cumulative (h .kept)) (take i slots)) (only (due cumulative (h .kept)) (drop i slots)) (subst Fit (only-front (due cumulative (h .kept)) slots i) (fit-of (dueOf cumulative (h .kept)) r))
 
     module _ (i : ℕ) (n : i ≤ h .kept .dir .used) where
       abbrev x : ℕ
       x = getD (slotsOf (h .kept)) i 0
 
       abbrev l : List ℕ
-      l = only (due whole (h .kept)) (take i (slotsOf (h .kept)))
+      l = only (due cumulative (h .kept)) (take i (slotsOf (h .kept)))
 
       abbrev l′ : List ℕ
-      l′ = only (due whole (h .kept)) (take (suc i) (slotsOf (h .kept)))
+      l′ = only (due cumulative (h .kept)) (take (suc i) (slotsOf (h .kept)))
 
-      one-more : due whole (h .kept) x ≡ true → l′ ≡ l ++ (x ∷ [])
-      one-more e = only-yes (due whole (h .kept)) slots i (in-slots L w h i n) e
+      one-more : due cumulative (h .kept) x ≡ true → l′ ≡ l ++ (x ∷ [])
+      one-more e = only-yes (due cumulative (h .kept)) slots i (in-slots L w h i n) e
 
       -- ROOM for the slot's point, if it is due
-      pub put-room : due whole (h .kept) x ≡ true
+      pub put-room : due cumulative (h .kept) x ≡ true
           → Place (putSlots L w h l o .next) (putSlots L w h l o .output) (length (L .pos (h .cells) x (u x))) (length (L .neg (h .cells) x (u x)))
       put-room e = place-of l x (subst Fit (one-more e) (fit-first (suc i)))
 
       -- ONE SLOT MORE
-      pub put-turn : putSlot L w (u x) (due whole (h .kept) x) (h .cells) x (rowOf (setAt (h .kept .stores .sets) x)) (putSlots L w h l o .next) (putSlots L w h l o .output)
+      pub put-turn : putSlot L w (u x) (due cumulative (h .kept) x) (h .cells) x (rowOf (setAt (h .kept .stores .sets) x)) (putSlots L w h l o .next) (putSlots L w h l o .output)
           ≡ putSlots L w h l′ o
       unfolding putSlot
-      put-turn = go (due whole (h .kept) x) refl
+      put-turn = go (due cumulative (h .kept) x) refl
         where
           more : Put
           more =
               left (behindAt (putSlots L w h l o .next) (length (pos x)) (length (neg x)))
               (laidAt (putSlots L w h l o .next) (row x) (L .words w (h .cells) x (u x)) (pos x) (neg x) (laidOut L w h l o))
 
-          go : (b : Bool) → due whole (h .kept) x ≡ b → pick (due whole (h .kept) x) more (putSlots L w h l o) ≡ putSlots L w h l′ o
+          go : (b : Bool) → due cumulative (h .kept) x ≡ b → pick (due cumulative (h .kept) x) more (putSlots L w h l o) ≡ putSlots L w h l′ o
           go true e =
               let g = subst Fit (one-more e) (fit-first (suc i)) in
               let m = points-more L w h l x in
-              pick-true (due whole (h .kept) x) more (putSlots L w h l o) e
+              pick-true (due cumulative (h .kept) x) more (putSlots L w h l o) e
               ∙ put-more l x (omega (arith, m, g .sets)) (omega (arith, m, g .words))
               ∙ ap (λ (t : List ℕ). putSlots L w h t o) (sym (one-more e))
           go false e =
-              pick-false (due whole (h .kept) x) more (putSlots L w h l o) e
-              ∙ ap (λ (t : List ℕ). putSlots L w h t o) (sym (only-no (due whole (h .kept)) slots i (in-slots L w h i n) e))
+              pick-false (due cumulative (h .kept) x) more (putSlots L w h l o) e
+              ∙ ap (λ (t : List ℕ). putSlots L w h t o) (sym (only-no (due cumulative (h .kept)) slots i (in-slots L w h i n) e))
 
   -- ALL SLOTS
-  pub put-all : (whole : Bool)
-      → putSlots L w h (only (due whole (h .kept)) (take (suc (h .kept .dir .used)) (slotsOf (h .kept)))) o ≡ putSlots L w h (dueOf whole (h .kept)) o
-  put-all whole = ap (λ (t : List ℕ). putSlots L w h (only (due whole (h .kept)) t) o) (slots-all (h .kept .stores .order) (h .kept .dir .used))
+  pub put-all : (cumulative : Bool)
+      → putSlots L w h (only (due cumulative (h .kept)) (take (suc (h .kept .dir .used)) (slotsOf (h .kept)))) o ≡ putSlots L w h (dueOf cumulative (h .kept)) o
+  put-all cumulative = ap (λ (t : List ℕ). putSlots L w h (only (due cumulative (h .kept)) t) o) (slots-all (h .kept .stores .order) (h .kept .dir .used))
 
   -- a walk reads the sets too, and nothing more
   pub put-walked : (l : List ℕ)

@@ -13,7 +13,8 @@ use Rattle.laws.specs.Pick.{pick}
 use Rattle.laws.specs.Said.{refusal}
 use Rattle.tally.specs.Kind.{Kind, Room, suffices, unless, firstOf}
 use Rattle.tally.specs.Sets.{same}
-use Rattle.tally.specs.Map.{Map, Out, Points, collect, listed, points, orRefused, upfront, act, swept, step, cumulate}
+use Rattle.tally.specs.Map.{Map, Out, Points, collect, listed, points, orRefused, cumulate}
+use Rattle.tally.proofs.MapSteps.{upfront, act, swept, step}
 use Rattle.sets.specs.Rows.{size, setOf, rowOf}
 use Rattle.sets.proofs.Exact.{set-own}
 use Rattle.sets.proofs.Keyed.{named-row}
@@ -82,53 +83,53 @@ module _ {K : Kind} {S : Store K} (W : Owed S) (L : Lister S) (w : S .Switches) 
   set-named (suc x) a b = named-row (getD (s .sets) (suc x) []) (λ e. omega (arith, sized (suc x) a b .0, e))
 
   -- the slots that are due, where all series agree
-  module _ (lendable : L .Lent (h .cells)) (whole : Bool) (a : agreeing L w h ≡ true) where
-    due-slot : (x : ℕ) → In x (dueOf whole k) → In x (slotsOf k)
-    due-slot x i = only-in (λ y. u y || (whole && not (eqb y 0))) (slotsOf k) x i .0
+  module _ (lendable : L .Lent (h .cells)) (cumulative : Bool) (a : agreeing L w h ≡ true) where
+    due-slot : (x : ℕ) → In x (dueOf cumulative k) → In x (slotsOf k)
+    due-slot x i = only-in (λ y. u y || (cumulative && not (eqb y 0))) (slotsOf k) x i .0
 
-    listed-at : (x : ℕ) → In x (dueOf whole k) → Listed L w (h .cells) x (u x)
+    listed-at : (x : ℕ) → In x (dueOf cumulative k) → Listed L w (h .cells) x (u x)
     listed-at x i =
         let q = due-slot x i in
         Q (h .cells) x (u x) (g .set) lendable
         (W .room limit (h .cells) x (lent-cells W limit h (g .lent-is)) (omega (arith, slot-known x q, few limit d s (g .agrees))))
         (sound-in S w h (slotsOf k) a x q)
 
-    read-back : (o : Output) → pointsOut L w (length (dueOf whole k)) (laidOut L w h (dueOf whole k) o) ≡ map (pointAt S w h) (dueOf whole k)
-    read-back o = reads-back L w h (dueOf whole k) o listed-at (λ x i. set-back x (slot-known x (due-slot x i)))
+    read-back : (o : Output) → pointsOut L w (length (dueOf cumulative k)) (laidOut L w h (dueOf cumulative k) o) ≡ map (pointAt S w h) (dueOf cumulative k)
+    read-back o = reads-back L w h (dueOf cumulative k) o listed-at (λ x i. set-back x (slot-known x (due-slot x i)))
 
-    roomy-is : (r : Room) → suffices K r (map (λ p. p .1) (map (pointAt S w h) (dueOf whole k))) ≡ roomy L w h (dueOf whole k) r
-    roomy-is r = room-is S w h L (dueOf whole k) r listed-at
+    roomy-is : (r : Room) → suffices K r (map (λ p. p .1) (map (pointAt S w h) (dueOf cumulative k))) ≡ roomy L w h (dueOf cumulative k) r
+    roomy-is r = room-is S w h L (dueOf cumulative k) r listed-at
 
   -- ---- the outcome, by cases
-  module _ (whole : Bool) (k′ : Kept) (o : Output) where
+  module _ (cumulative : Bool) (k′ : Kept) (o : Output) where
     abbrev ours : Collected (S .Cells)
-    ours = unlessRefused L w (uncollected L w whole limit h o) h o (collectedTo L w whole k′ h o)
+    ours = unlessRefused L w (uncollected L w cumulative limit h o) h o (collectedTo L w cumulative k′ h o)
 
     abbrev refusedBy : ℕ → Collected (S .Cells)
     refusedBy n = record { answer = refusal n; held = h; out = o }
 
-    number-is : (a r : Bool) → agreeing L w h ≡ a → roomy L w h (dueOf whole k) (roomOf o) ≡ r → uncollected L w whole limit h o ≡ pick a (pick r 0 10) 8
+    number-is : (a r : Bool) → agreeing L w h ≡ a → roomy L w h (dueOf cumulative k) (roomOf o) ≡ r → uncollected L w cumulative limit h o ≡ pick a (pick r 0 10) 8
     unfolding uncollected pick
     number-is a r p q =
         λ i. pick (g .lent-is i)
         (pick (eq-eqb (S .unset) 0 (g .set) i && (le-leb limit mostSets (within limit filter (g .accepted)) i && (g .agrees i && p i))) (pick (q i) 0 10) 8) 12
 
-    ours-is : (n : ℕ) → uncollected L w whole limit h o ≡ n → ours ≡ unlessRefused L w n h o (collectedTo L w whole k′ h o)
-    ours-is n e = ap (λ j. unlessRefused L w j h o (collectedTo L w whole k′ h o)) e
+    ours-is : (n : ℕ) → uncollected L w cumulative limit h o ≡ n → ours ≡ unlessRefused L w n h o (collectedTo L w cumulative k′ h o)
+    ours-is n e = ap (λ j. unlessRefused L w j h o (collectedTo L w cumulative k′ h o)) e
 
     by-cases : (P : Collected (S .Cells) → Type 0) → (agreeing L w h ≡ false → P (refusedBy 8))
-        → (agreeing L w h ≡ true → roomy L w h (dueOf whole k) (roomOf o) ≡ false → P (refusedBy 10))
-        → (agreeing L w h ≡ true → roomy L w h (dueOf whole k) (roomOf o) ≡ true → P (collectedTo L w whole k′ h o)) → P ours
+        → (agreeing L w h ≡ true → roomy L w h (dueOf cumulative k) (roomOf o) ≡ false → P (refusedBy 10))
+        → (agreeing L w h ≡ true → roomy L w h (dueOf cumulative k) (roomOf o) ≡ true → P (collectedTo L w cumulative k′ h o)) → P ours
     unfolding pick
     by-cases P eight ten on = at-agreeing (agreeing L w h) refl
       where
-        at-room : agreeing L w h ≡ true → (r : Bool) → roomy L w h (dueOf whole k) (roomOf o) ≡ r → P ours
+        at-room : agreeing L w h ≡ true → (r : Bool) → roomy L w h (dueOf cumulative k) (roomOf o) ≡ r → P ours
         at-room a true r = subst P (sym (ours-is 0 (number-is true true a r))) (on a r)
         at-room a false r = subst P (sym (ours-is 10 (number-is true false a r))) (ten a r)
 
         at-agreeing : (a : Bool) → agreeing L w h ≡ a → P ours
-        at-agreeing true a = at-room a (roomy L w h (dueOf whole k) (roomOf o)) refl
-        at-agreeing false a = subst P (sym (ours-is 8 (number-is false (roomy L w h (dueOf whole k) (roomOf o)) a refl))) (eight a)
+        at-agreeing true a = at-room a (roomy L w h (dueOf cumulative k) (roomOf o)) refl
+        at-agreeing false a = subst P (sym (ours-is 8 (number-is false (roomy L w h (dueOf cumulative k) (roomOf o)) a refl))) (eight a)
 
   -- ---- the map's collection, by the slots: its entries' points, and their agreement
   abbrev collecting : Room → Bool → Points K → Map K → Out K
@@ -136,20 +137,20 @@ module _ {K : Kind} {S : Store K} (W : Owed S) (L : Lister S) (w : S .Switches) 
       orRefused K m (firstOf (unless a 8 ∷ unless (suffices K r (map (λ p. p .1) ps)) 10 ∷ [])) (record { answer = listed ps; map = after })
 
   -- and it is ours
-  collects : L .Lent (h .cells) → (whole : Bool) (k′ : Kept) (o : Output) (after : Map K) → after ≡ view K (S .at (h .cells)) z (k′ .dir) (k′ .stores)
-      → collecting (roomOf o) (agreeing L w h) (map (pointAt S w h) (dueOf whole k)) after
-      ≡ toldOf L w (unlessRefused L w (uncollected L w whole limit h o) h o (collectedTo L w whole k′ h o))
-  collects lendable whole k′ o after e =
-      let ps = map (pointAt S w h) (dueOf whole k) in
-      by-cases whole k′ o (λ c. collecting (roomOf o) (agreeing L w h) ps after ≡ toldOf L w c)
+  collects : L .Lent (h .cells) → (cumulative : Bool) (k′ : Kept) (o : Output) (after : Map K) → after ≡ view K (S .at (h .cells)) z (k′ .dir) (k′ .stores)
+      → collecting (roomOf o) (agreeing L w h) (map (pointAt S w h) (dueOf cumulative k)) after
+      ≡ toldOf L w (unlessRefused L w (uncollected L w cumulative limit h o) h o (collectedTo L w cumulative k′ h o))
+  collects lendable cumulative k′ o after e =
+      let ps = map (pointAt S w h) (dueOf cumulative k) in
+      by-cases cumulative k′ o (λ c. collecting (roomOf o) (agreeing L w h) ps after ≡ toldOf L w c)
       (λ a. ap (λ b. collecting (roomOf o) b ps after) a)
       (λ a r.
       ap (λ b. collecting (roomOf o) b ps after) a
-      ∙ ap (λ b. orRefused K m (firstOf (unless b 10 ∷ [])) (record { answer = listed ps; map = after })) (roomy-is lendable whole a (roomOf o) ∙ r))
+      ∙ ap (λ b. orRefused K m (firstOf (unless b 10 ∷ [])) (record { answer = listed ps; map = after })) (roomy-is lendable cumulative a (roomOf o) ∙ r))
       (λ a r.
       ap (λ b. collecting (roomOf o) b ps after) a
-      ∙ ap (λ b. orRefused K m (firstOf (unless b 10 ∷ [])) (record { answer = listed ps; map = after })) (roomy-is lendable whole a (roomOf o) ∙ r)
-      ∙ (λ i. record { answer = listed (sym (read-back lendable whole a o) i); map = e i }))
+      ∙ ap (λ b. orRefused K m (firstOf (unless b 10 ∷ [])) (record { answer = listed ps; map = after })) (roomy-is lendable cumulative a (roomOf o) ∙ r)
+      ∙ (λ i. record { answer = listed (sym (read-back lendable cumulative a o) i); map = e i }))
 
   -- DELTA is the map's step
   pub delta-steps : L .Lent (h .cells) → (o : Output) → step K (configOf S w limit filter) m (collect (roomOf o)) ≡ toldOf L w (deltaCollected L w limit h o)

@@ -115,54 +115,54 @@ module _ {K : Kind} {S : Store K} (L : Lister S) (w : S .Switches) (h : Held (S 
     all-walked e [] = refl
     all-walked e (x ∷ l) = λ j. (not (u x) || e x j) && all-walked e l j
 
-  module _ (whole : Bool) where
+  module _ (cumulative : Bool) where
     module _ (i : ℕ) (n : i ≤ used) where
       abbrev x : ℕ
       x = getD (slotsOf (h .kept)) i 0
 
       -- ONE SLOT MORE, whose series agrees if there is one
       pub survey-turn : agreed x ≡ true
-          → surveyedAt L w (u x) (due whole k x) (h .cells) (counted L w whole h (take i slots)) x ≡ counted L w whole h (take (suc i) slots)
+          → surveyedAt L w (u x) (due cumulative k x) (h .cells) (counted L w cumulative h (take i slots)) x ≡ counted L w cumulative h (take (suc i) slots)
       unfolding surveyedAt
-      survey-turn a = pick-true (agreed x) _ unsound a ∙ go (due whole k x) refl
+      survey-turn a = pick-true (agreed x) _ unsound a ∙ go (due cumulative k x) refl
         where
-          go : (b : Bool) → due whole k x ≡ b
-              → pick (due whole k x) (oneMore (tally (only (due whole k) (take i slots))) (length (ps x)) (length (ns x))) (tally (only (due whole k) (take i slots)))
-              ≡ tally (only (due whole k) (take (suc i) slots))
-          go true e = pick-true (due whole k x) _ _ e ∙ tally-more (only (due whole k) (take i slots)) x ∙ ap tally (sym (only-yes (due whole k) slots i (in-slots i n) e))
-          go false e = pick-false (due whole k x) _ _ e ∙ ap tally (sym (only-no (due whole k) slots i (in-slots i n) e))
+          go : (b : Bool) → due cumulative k x ≡ b
+              → pick (due cumulative k x) (oneMore (tally (only (due cumulative k) (take i slots))) (length (ps x)) (length (ns x))) (tally (only (due cumulative k) (take i slots)))
+              ≡ tally (only (due cumulative k) (take (suc i) slots))
+          go true e = pick-true (due cumulative k x) _ _ e ∙ tally-more (only (due cumulative k) (take i slots)) x ∙ ap tally (sym (only-yes (due cumulative k) slots i (in-slots i n) e))
+          go false e = pick-false (due cumulative k x) _ _ e ∙ ap tally (sym (only-no (due cumulative k) slots i (in-slots i n) e))
 
       pub agree-turn : all agreed (take i slots) ≡ true → agreed x ≡ true → all agreed (take (suc i) slots) ≡ true
       agree-turn a e = all-next agreed slots i (in-slots i n) a e
 
       -- A SLOT THAT DISAGREES ends it
-      pub survey-none : agreed x ≡ false → surveyed L w whole h ≡ unsound
+      pub survey-none : agreed x ≡ false → surveyed L w cumulative h ≡ unsound
       unfolding surveyed
       survey-none e = pick-false (agreeing L w h) _ unsound (all-stop agreed slots i (in-slots i n) e)
 
     -- what the survey with one slot more says of it
     module _ (s : Survey) (x : ℕ) where
-      pub turn-sound : surveyedAt L w (u x) (due whole k x) (h .cells) s x .sound ≡ true → agreed x ≡ true
+      pub turn-sound : surveyedAt L w (u x) (due cumulative k x) (h .cells) s x .sound ≡ true → agreed x ≡ true
       unfolding surveyedAt
-      turn-sound e = sound-yes (agreed x) (due whole k x) s (length (ps x)) (length (ns x)) e
+      turn-sound e = sound-yes (agreed x) (due cumulative k x) s (length (ps x)) (length (ns x)) e
 
-      pub turn-unsound : s .sound ≡ true → surveyedAt L w (u x) (due whole k x) (h .cells) s x .sound ≡ false → agreed x ≡ false
+      pub turn-unsound : s .sound ≡ true → surveyedAt L w (u x) (due cumulative k x) (h .cells) s x .sound ≡ false → agreed x ≡ false
       unfolding surveyedAt
-      turn-unsound a e = sym (sound-test (agreed x) (due whole k x) s (length (ps x)) (length (ns x)) a) ∙ e
+      turn-unsound a e = sym (sound-test (agreed x) (due cumulative k x) s (length (ps x)) (length (ns x)) a) ∙ e
 
     -- ALL SLOTS
-    pub survey-all : all agreed (take (suc used) slots) ≡ true → surveyed L w whole h ≡ counted L w whole h (take (suc used) slots)
+    pub survey-all : all agreed (take (suc used) slots) ≡ true → surveyed L w cumulative h ≡ counted L w cumulative h (take (suc used) slots)
     unfolding surveyed
     survey-all a =
         let e = slots-all (h .kept .stores .order) used in
-        pick-true (agreeing L w h) (counted L w whole h slots) unsound (sym (ap (all agreed) e) ∙ a) ∙ ap (λ (l : List ℕ). counted L w whole h l) (sym e)
+        pick-true (agreeing L w h) (counted L w cumulative h slots) unsound (sym (ap (all agreed) e) ∙ a) ∙ ap (λ (l : List ℕ). counted L w cumulative h l) (sym e)
 
     pub survey-walked : (v : S .Switches) (sets : List (List ℕ))
         → ((x : ℕ) → K .agrees (S .settings v) (S .at (h .cells) x) ≡ K .agrees (S .settings w) (S .at (h .cells) x))
-        → surveyed L v whole (read sets) ≡ surveyed L w whole h
+        → surveyed L v cumulative (read sets) ≡ surveyed L w cumulative h
     unfolding surveyed
     survey-walked v sets e =
-        let l = dueOf whole (h .kept) in
+        let l = dueOf cumulative (h .kept) in
         λ j.
         pick (all-walked v sets e slots j)
         (record { sound = true; points = length l; pos = length (pos-walked v sets l j); neg = length (neg-walked v sets l j) }) unsound

@@ -24,7 +24,8 @@ use Rattle.value_map.proofs.Owed.{Owed}
 use Rattle.listing.specs.Listed.{Output}
 use Rattle.collecting.specs.Lister.{Lister}
 use Rattle.collecting.specs.Collected.{fewest, slotsOf, agreeing, roomy, uncollected}
-use Rattle.collecting.specs.Slots.{barredBy, unsound, surveyedBy, orElse, Walk, counted, surveyed}
+use Rattle.collecting.specs.Slots.{barredBy, unsound, surveyedBy, Walk, counted, surveyed}
+use Rattle.collecting.proofs.Numbers.{orElse}
 use Rattle.collecting.specs.declared.Survey.{Survey}
 -- the laws of a turn, under one name with these
 pub use Rattle.collecting.proofs.Nexts.{slot-is, slots-length, slot-most, slots-all, take-next, only-append, only-yes, only-no, only-front, all-next, all-stop}
@@ -48,14 +49,14 @@ unfolding surveyedBy pick
 found true s sets words pos neg a = rw a
 found false s sets words pos neg a = refl
 
-pub number-is : {K : Kind} {S : Store K} (L : Lister S) (w : S .Switches) (whole : Bool) (limit : ℕ) (h : Held (S .Cells)) (o : Output)
+pub number-is : {K : Kind} {S : Store K} (L : Lister S) (w : S .Switches) (cumulative : Bool) (limit : ℕ) (h : Held (S .Cells)) (o : Output)
     → orElse (barredBy (S .suffices limit (h .cells)) (S .unset) limit (h .kept .dir) (h .kept .stores))
-    (surveyedBy (surveyed L w whole h) (length (o .sets)) (length (o .words)) (length (o .pos)) (length (o .neg)))
-    ≡ uncollected L w whole limit h o
+    (surveyedBy (surveyed L w cumulative h) (length (o .sets)) (length (o .words)) (length (o .pos)) (length (o .neg)))
+    ≡ uncollected L w cumulative limit h o
 unfolding surveyed barredBy uncollected roomy
-number-is {S = S} L w whole limit h o =
+number-is {S = S} L w cumulative limit h o =
     ap (orElse (barredBy (S .suffices limit (h .cells)) (S .unset) limit (h .kept .dir) (h .kept .stores)))
-    (found (agreeing L w h) (counted L w whole h (slotsOf (h .kept))) (length (o .sets)) (length (o .words)) (length (o .pos)) (length (o .neg)) refl)
+    (found (agreeing L w h) (counted L w cumulative h (slotsOf (h .kept))) (length (o .sets)) (length (o .words)) (length (o .pos)) (length (o .neg)) refl)
     ∙ numbers (storesSuffice limit (h .kept .stores) && S .suffices limit (h .cells)) (eqb (S .unset) 0) (leb limit mostSets) (agreesb limit (h .kept .dir) (h .kept .stores)) (agreeing L w h) _
 
 -- ---- what is known where nothing bars the call

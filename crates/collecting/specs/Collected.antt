@@ -51,10 +51,10 @@ slotsOf k = 0 ∷ span (k .stores .order) 0 (k .dir .used)
 -- the slots whose entries were updated; and, for a cumulative collection, the named ones too: "every named entry is listed, even one bound
 -- and never recorded .. The empty series is listed only if updated."
 abbrev pub due : Bool → Kept → ℕ → Bool
-due whole k x = updatedIn (k .stores .entries) x || (whole && not (eqb x 0))
+due cumulative k x = updatedIn (k .stores .entries) x || (cumulative && not (eqb x 0))
 
 abbrev pub dueOf : Bool → Kept → List ℕ
-dueOf whole k = only (due whole k) (slotsOf k)
+dueOf cumulative k = only (due cumulative k) (slotsOf k)
 
 module _ {K : Kind} {S : Store K} (L : Lister S) (w : S .Switches) where
   -- what is written for a list of slots
@@ -91,20 +91,20 @@ module _ {K : Kind} {S : Store K} (L : Lister S) (w : S .Switches) where
 
   -- "Collecting: 12, 8, 10"; 0 if none. 8 also where configuring could not have accepted the settings and the limit.
   unfoldable pub uncollected : Bool → ℕ → Held (S .Cells) → Output → ℕ
-  uncollected whole limit h o =
+  uncollected cumulative limit h o =
       pick (lent S limit h)
       (pick (passes S && (leb limit mostSets && (agreesb limit (h .kept .dir) (h .kept .stores) && agreeing h)))
-      (pick (roomy h (dueOf whole (h .kept)) (roomOf o)) 0 10)
+      (pick (roomy h (dueOf cumulative (h .kept)) (roomOf o)) 0 10)
       8)
       12
 
   -- the points of the slots that are due, in the output; the map is k then
   abbrev pub collectedTo : Bool → Kept → Held (S .Cells) → Output → Collected (S .Cells)
-  collectedTo whole k h o =
+  collectedTo cumulative k h o =
       record {
-        answer = success (length (dueOf whole (h .kept)));
+        answer = success (length (dueOf cumulative (h .kept)));
         held = record { kept = k; cells = h .cells };
-        out = laidOut h (dueOf whole (h .kept)) o;
+        out = laidOut h (dueOf cumulative (h .kept)) o;
       }
 
   -- "Every refusal changes nothing."

@@ -1,3 +1,4 @@
+-- BETWEEN OUR OWN CRATES: serves inner contracts and proofs; nobody needs it to believe the public calls or the theorems.
 -- How a collection goes through the slots, one by one: the definitions of the contracts between our crates. Assumes nothing.
 use Prim.Native.Nat.{ℕ, _+_, _≤_, _<_}
 use mathlib.Core.Path.{_≡_}
@@ -14,7 +15,8 @@ use Rattle.sweep.specs.Swept.{only}
 use Rattle.value_map.specs.Store.{Store}
 use Rattle.value_map.specs.Calls.{Held}
 use Rattle.listing.specs.declared.Cursor.{Cursor}
-use Rattle.listing.specs.Listed.{Output, Put, left, overAt}
+use Rattle.listing.specs.Listed.{Output, overAt}
+use Rattle.listing.specs.Inner.{Put, left}
 use Rattle.collecting.specs.Lister.{Lister}
 use Rattle.collecting.specs.Collected.{fewest, slotsOf, due, posCounts, negCounts, agreeing, laidOut}
 use Rattle.collecting.specs.declared.Survey.{Survey}
@@ -34,10 +36,6 @@ unsound = record { sound = false; points = 0; pos = 0; neg = 0 }
 unfoldable pub surveyedBy : Survey → ℕ → ℕ → ℕ → ℕ → ℕ
 surveyedBy s sets words pos neg =
     pick (s .sound) (pick (leb (s .points) (fewest sets words) && (leb (s .pos) pos && leb (s .neg) neg)) 0 10) 8
-
--- the number of the call: what comes before the survey comes first
-unfoldable pub orElse : ℕ → ℕ → ℕ
-orElse first then = pick (eqb first 0) then first
 
 -- a point more, with its counts
 abbrev pub oneMore : Survey → ℕ → ℕ → Survey
@@ -88,12 +86,12 @@ module _ {K : Kind} {S : Store K} (L : Lister S) (w : S .Switches) where
 
   -- what slots that agree take in the output
   abbrev pub counted : Bool → Held (S .Cells) → List ℕ → Survey
-  counted whole h l =
-      let d = only (due whole (h .kept)) l in
+  counted cumulative h l =
+      let d = only (due cumulative (h .kept)) l in
       record { sound = true; points = length d; pos = length (posCounts L w h d); neg = length (negCounts L w h d) }
 
   unfoldable pub surveyed : Bool → Held (S .Cells) → Survey
-  surveyed whole h = pick (agreeing L w h) (counted whole h (slotsOf (h .kept))) unsound
+  surveyed cumulative h = pick (agreeing L w h) (counted cumulative h (slotsOf (h .kept))) unsound
 
   -- the point of slot x put at a cursor, if it is due
   unfoldable pub putSlot : Bool → Bool → S .Cells → ℕ → List ℕ → Cursor → Output → Put

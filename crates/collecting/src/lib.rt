@@ -109,13 +109,13 @@ pub fn is_updated(entries: &[[u64; 3]], x: usize) -> bool
 }
 
 // Whether a slot is listed: by a delta collection if it was updated, by a cumulative one also if it is named.
-pub fn is_due(whole: bool, updated: bool, x: usize) -> bool
-    ensures { λ r. ⌜ r ≡ (updated || (whole && not (eqb x 0))) ⌝ }
+pub fn is_due(cumulative: bool, updated: bool, x: usize) -> bool
+    ensures { λ r. ⌜ r ≡ (updated || (cumulative && not (eqb x 0))) ⌝ }
 {
     if updated {
         return true;
     }
-    if !whole {
+    if !cumulative {
         return false;
     }
     x != 0

@@ -10,7 +10,8 @@ use lib.ListN.{length, set, take, drop}
 use lib.Seq.{getD-set-same, getD-set-other}
 use Rattle.tally.specs.Sets.{Set, cmp, same}
 use Rattle.tally.specs.Kind.{Kind}
-use Rattle.tally.specs.Map.{Entry, find, put, rebound, new, keys}
+use Rattle.tally.specs.Map.{Entry, find, keys}
+use Rattle.tally.proofs.MapSteps.{put, rebound, new}
 use Rattle.tally.proofs.Order.{same-flip}
 use Rattle.laws.proofs.Cases.{true-not-false}
 use Rattle.tally.proofs.Ranks.{rank, rank-le, put-new}

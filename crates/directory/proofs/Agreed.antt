@@ -14,7 +14,8 @@ use Rattle.sets.specs.Rows.{size, soundb, below}
 use Rattle.sets.proofs.Alls.{allb-at}
 use Rattle.sets.proofs.Keyed.{sound-some, sound-few}
 use Rattle.sets.proofs.Ways.{below-lt}
-use Rattle.directory.specs.View.{setAt, birthAt, slotAt, placeAt, plainly, slotsb, placed, countsb, stepAt}
+use Rattle.directory.specs.View.{setAt, birthAt, slotAt, placeAt, plainly, slotsb, countsb}
+use Rattle.directory.specs.Inner.{placed, stepAt}
 use Rattle.directory.specs.declared.Placed.the-variants.{Broken, Plain}
 
 -- the count

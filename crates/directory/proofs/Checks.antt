@@ -13,7 +13,8 @@ use Rattle.tally.specs.Map.{plain, plains, bit}
 use Rattle.sets.specs.All.{allb}
 use Rattle.sets.specs.Rows.{span, setOf, soundb, below}
 use Rattle.sets.proofs.Spans.{span-more, span-none, span-all, span-snoc}
-use Rattle.directory.specs.View.{setAt, birthAt, placeAt, plainly, placed, seek, sought, bornAt, bornb, stepAt}
+use Rattle.directory.specs.View.{setAt, birthAt, placeAt, plainly, seek, sought, bornAt}
+use Rattle.directory.specs.Inner.{placed, bornb, stepAt}
 use Rattle.directory.specs.declared.Found.{Found}
 use Rattle.directory.specs.declared.Found.the-variants.{Held, Room}
 use Rattle.directory.specs.declared.Placed.the-variants.{Broken, Plain}

@@ -12,7 +12,8 @@ use lib.ListN.{length, getD}
 use lib.Seq.{getD-set-same, getD-set-other}
 use Rattle.tally.specs.Sets.{Set, cmp, Rising, Above}
 use Rattle.tally.specs.Kind.{Kind}
-use Rattle.tally.specs.Map.{Entry, named, put, rebound}
+use Rattle.tally.specs.Map.{Entry, named}
+use Rattle.tally.proofs.MapSteps.{put, rebound}
 use Rattle.laws.proofs.Cases.{lt-not-eq}
 use Rattle.tally.proofs.Order.{lt-gt, cmp-self}
 use Rattle.laws.proofs.Cases.{and-true}

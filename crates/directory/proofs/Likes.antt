@@ -14,12 +14,14 @@ use lib.ListN.{getD}
 use Rattle.laws.proofs.Cases.{and-true}
 use Rattle.tally.specs.Sets.{cmp}
 use Rattle.sets.specs.All.{allb}
-use Rattle.sets.specs.Rows.{size, setOf, soundb, below, joined, Parted, SameKeys}
+use Rattle.sets.specs.Rows.{size, setOf, soundb, below}
+use Rattle.sets.specs.Inner.{Parted, joined, SameKeys}
 use Rattle.sets.proofs.Alls.{allb-at}
 use Rattle.sets.proofs.Bitwise.{joined-each, word-same, size-same, sound-same}
 use Rattle.sets.proofs.Keyed.{sound-few}
 use Rattle.sets.proofs.Plains.{plain-many}
-use Rattle.directory.specs.View.{placed, placeAt, stepAt, plainly, Alike}
+use Rattle.directory.specs.View.{placeAt, plainly}
+use Rattle.directory.specs.Inner.{placed, stepAt, Alike}
 use Rattle.directory.specs.declared.Placed.the-variants.{Plain}
 use Rattle.directory.proofs.Checks.{plainly-more, placed-yes, step-test}
 

@@ -11,7 +11,8 @@ use lib.Dec.{isEq, eqb, ltb, leb}
 use lib.ListN.{length}
 use Rattle.tally.specs.Sets.{Set, overflow, three, cmp, same, mem, Rising, Above}
 use Rattle.tally.specs.Kind.{Kind}
-use Rattle.tally.specs.Map.{Entry, Map, find, new, held, place, plain, plains, bit}
+use Rattle.tally.specs.Map.{Entry, Map, find, plain, plains, bit}
+use Rattle.tally.proofs.MapSteps.{new, held, place}
 use Rattle.tally.proofs.Order.{gt-lt, lt-gt, same-flip, same-eq}
 use Rattle.laws.proofs.Cases.{true-not-false}
 use Rattle.tally.proofs.Rising.{above-trans, above-mem}

@@ -10,7 +10,8 @@ use Rattle.laws.proofs.Cases.{and-true, true-not-false}
 use Rattle.sets.specs.All.{allb}
 use Rattle.sets.specs.Rows.{soundb}
 use Rattle.sets.proofs.Alls.{allb-at, allb-yes}
-use Rattle.directory.specs.View.{Stores, birthAt, bornAt, slotAt, placeAt, stepAt, plainly, bornb, slotsb, countsb, agreesb}
+use Rattle.directory.specs.View.{Stores, birthAt, bornAt, slotAt, placeAt, plainly, slotsb, countsb, agreesb}
+use Rattle.directory.specs.Inner.{stepAt, bornb}
 use Rattle.directory.specs.declared.Directory.{Directory}
 use Rattle.directory.proofs.Agreed.{slot-sound, birth-rise, last-birth, place-slot}
 use Rattle.directory.proofs.Covers.{named}

@@ -65,10 +65,6 @@ abbrev pub scan : ℕ → List (List ℕ) → List ℕ → Found
 scan h entries [] = Room 0
 scan h entries (x ∷ l) = pick (eqb (birthAt entries x) h && ltb 0 (getD (getD entries x []) 1 0)) (Held x) (scan h entries l)
 
--- "9: a count, binding count or birth number would pass 2^64 - 1"
-abbrev pub greatest : ℕ
-greatest = 18446744073709551615
-
 -- "4: cardinality limit over 62, or filter over 16 keys" (L12: 2000)
 abbrev pub mostSets : ℕ
 mostSets = 62

@@ -5,18 +5,16 @@ use mathlib.Core.Bool.{Bool, true, cond, not, _&&_, _||_}
 use mathlib.Core.List.{List, [], _∷_, map}
 use mathlib.Core.Option.{none, some}
 use lib.Dec.{ltb, leb, eqb}
-use lib.ListN.{getD, set}
+use lib.ListN.{getD}
 use denote.Ref.{RefT, now}
 use Rattle.tally.specs.Sets.{Set, three, cmp, same}
 use Rattle.tally.specs.Kind.{Kind}
 use Rattle.tally.specs.Map.{Config, Entry, Map, plains, Agrees}
 use Rattle.sets.specs.All.{allb}
-use Rattle.sets.specs.Rows.{span, size, setOf, soundb, below}
+use Rattle.sets.specs.Rows.{span, setOf, soundb, below}
 use Rattle.directory.specs.declared.Directory.{Directory}
 use Rattle.directory.specs.declared.Found.{Found}
 use Rattle.directory.specs.declared.Found.the-variants.{Held, Room}
-use Rattle.directory.specs.declared.Placed.{Placed}
-use Rattle.directory.specs.declared.Placed.the-variants.{Broken, Plain}
 
 pub record Stores : Type 0 where
   pub sets : List (List ℕ)
@@ -78,23 +76,6 @@ agreesb limit d s =
     && (slotsb (d .used) (d .last) (s .sets) (s .entries)
     && (allb (d .used) (placeAt (s .sets) (s .order) (d .used))
     && countsb limit (d .count) (d .used) (plainly (s .sets) (s .order) (d .used))))
-
--- How agreement is tested: birth numbers along the slots, and the rest along the places, which name every slot (proofs/Covers)
-unfoldable pub bornb : ℕ → ℕ → List (List ℕ) → Bool
-bornb used last entries = allb used (bornAt entries) && leb (birthAt entries used) last
-
-abbrev pub stepAt : List (List ℕ) → List ℕ → ℕ → ℕ → Bool
-stepAt sets order used k = placeAt sets order used k && soundb (getD sets (getD order k 0) [])
-
-unfoldable pub placed : ℕ → List (List ℕ) → List ℕ → Placed
-placed used sets order = cond (allb used (stepAt sets order used)) (Plain (plainly sets order used)) Broken
-
--- what lets places be tested faster: the named slots' sets are sound, with two attributes or more, and alike below a word that each has
-pub record Alike (used : ℕ) (sets : List (List ℕ)) (from : ℕ) : Type 0 where
-  pub sound : (x : ℕ) → 1 ≤ x → x ≤ used → soundb (getD sets x []) ≡ true
-  pub many : (x : ℕ) → 1 ≤ x → x ≤ used → 2 ≤ size (getD sets x [])
-  pub part : (x : ℕ) → 1 ≤ x → x ≤ used → from < size (getD sets x [])
-  pub word : (x : ℕ) → 1 ≤ x → x ≤ used → (j : ℕ) → j < from → getD (getD sets x []) j 0 ≡ getD (getD sets 1 []) j 0
 
 -- a scan of slots that ascend by set, from place i
 abbrev pub seek : Set → List (List ℕ) → List ℕ → ℕ → Found

@@ -5,7 +5,8 @@ ghost use Prim.Native.Nat.{_+_, _<_, _≤_};
 ghost use lib.ListN.{length};
 ghost use Rattle.sets.specs.All.{allb};
 ghost use Rattle.directory.specs.declared.Placed.the-variants.{Plain};
-ghost use Rattle.directory.specs.View.{stores, bornb, stepAt, placed, countsb, agreesb, Alike};
+ghost use Rattle.directory.specs.View.{stores, countsb, agreesb};
+ghost use Rattle.directory.specs.Inner.{bornb, stepAt, placed, Alike};
 
 // Whether birth numbers rise along the slots, among those spent.
 fn births(used: usize, last: u64, entries: &[[u64; 3]]) -> bool

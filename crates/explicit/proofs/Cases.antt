@@ -12,13 +12,13 @@ use lib.Ieee.{Float, nan, inf, fin, lt, isNan}
 use lib.Ieee.Scale.{finite}
 use borrow.Author.Tests.{leb-true, le-leb, lt-leb, ne-eqb, eqb-true, eqb-false}
 use Rattle.laws.specs.Pick.{pick, _and_}
-use Rattle.laws.specs.Counting.{total}
+use Rattle.laws.specs.Counting.{total, mostCount}
 use Rattle.laws.proofs.Bools.{flag, not-both, and-left, and-right}
 use Rattle.points.specs.Explicit.{noNan, rising, boundsPass, bucketCount, Buckets, bucketsAgree}
 use Rattle.points.proofs.Explicit.{BucketsOk, buckets-say, buckets-agree}
 use Rattle.exponential.proofs.Facts.{halves-same, halves-low, halves-high, eqb-iff}
 use Rattle.explicit.specs.declared.Head.{Head}
-use Rattle.explicit.specs.Series.{mostCount, bucketsIn, refusalOf}
+use Rattle.explicit.specs.Series.{bucketsIn, refusalOf}
 use Rattle.explicit.proofs.Turns.{and-false}
 
 -- ---- bounds

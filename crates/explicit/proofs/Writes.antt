@@ -11,7 +11,7 @@ use lib.Seq.{length-take-le, getD-take, set-append-left}
 use lib.Ieee.{Float, binary64, add}
 use borrow.Author.Tests.{leb-true, leb-false, le-leb, lt-leb, eq-eqb, ne-eqb}
 use Rattle.laws.specs.Pick.{pick}
-use Rattle.laws.specs.Counting.{total}
+use Rattle.laws.specs.Counting.{total, mostCount}
 use Rattle.laws.proofs.Bools.{and-left, pick-left, pick-then, pick-right}
 use Rattle.laws.proofs.Over.{over-snoc}
 use Rattle.floats.specs.Answers.{lesserOf, greaterOf}
@@ -22,7 +22,7 @@ use Rattle.points.specs.Explicit.{bucketOf, bucketCount, recordBucket, added, b
 use Rattle.points.proofs.Explicit.{buckets-say, bucket-le, length-added}
 use Rattle.explicit.specs.declared.Head.{Head}
 use Rattle.laws.specs.Said.{refusal, success}
-use Rattle.explicit.specs.Series.{mostCount, bucketsIn, refusalOf, outcome, recording, freshHead, freshening}
+use Rattle.explicit.specs.Series.{bucketsIn, refusalOf, outcome, recording, freshHead, freshening}
 use Rattle.explicit.proofs.Turns.{take-next}
 
 -- ---- one more in a bucket

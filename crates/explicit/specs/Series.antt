@@ -1,12 +1,11 @@
 -- A series of the explicit kind in a head and a lent row: what it holds, what recording does. Assumes nothing.
-use Prim.Native.Nat.{ℕ, _+_, _^_, _≤_, _<_}
+use Prim.Native.Nat.{ℕ}
 use mathlib.Core.List.{List}
 use lib.Dec.{leb, eqb}
 use lib.ListN.{length, take, replicate}
 use lib.Ieee.{Float}
 use lib.Ieee.Scale.{finite}
 use Rattle.laws.specs.Pick.{pick, _and_}
-use Rattle.laws.specs.Counting.{total}
 use Rattle.laws.specs.Said.{Said, refusal, success}
 use Rattle.rows.specs.Rows.{over}
 use Rattle.points.specs.Explicit.{Buckets, bucketCount, recordBucket, bucketsAgree}
@@ -14,6 +13,7 @@ use Rattle.points.specs.Values.{Summary, start, noted}
 use Rattle.explicit.specs.declared.Head.{Head}
 use Rattle.explicit.specs.declared.Answer.{Answer}
 use Rattle.explicit.specs.declared.Answer.the-variants.{Recorded, Refused}
+use Rattle.laws.specs.Counting.{mostCount}
 
 -- what a count and the front of a row hold
 abbrev pub bucketsIn : List Float → ℕ → List ℕ → Buckets
@@ -28,10 +28,6 @@ summary h = record { min = h .min; max = h .max; sum = h .sum }
 
 abbrev pub freshHead : Head
 freshHead = headOf 0 start
-
--- the greatest count
-abbrev pub mostCount : ℕ
-mostCount = 18446744073709551615
 
 -- document 01's number: 12 a row lent too short, 6 the value not finite, 8 the series or its bounds disagree, 9 the count is full; 0 none
 unfoldable pub refusalOf : List Float → Head → List ℕ → Float → ℕ
@@ -73,9 +69,3 @@ freshening bounds xs =
     pick (leb (bucketCount bounds) (length xs))
     (outcome (success freshHead) (over (replicate (bucketCount bounds) 0) xs))
     (outcome (refusal 12) xs)
-
--- the first k counts of two rows can be added
-pub record Addable (k : ℕ) (xs zs : List ℕ) : Type 0 where
-  pub first : k ≤ length xs
-  pub second : k ≤ length zs
-  pub sums : total (take k xs) + total (take k zs) < 2 ^ 64

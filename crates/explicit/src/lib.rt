@@ -4,12 +4,13 @@ ghost use Prim.Native.Nat.{_+_, _-_, _/_, _<_, _≤_};
 ghost use lib.ListN.{length, take};
 ghost use lib.Ieee.{lt};
 ghost use Rattle.laws.specs.Pick.{pick, _and_};
-ghost use Rattle.laws.specs.Counting.{total};
+ghost use Rattle.laws.specs.Counting.{total, mostCount};
 ghost use Rattle.rows.specs.Rows.{over};
 ghost use Rattle.points.specs.Explicit.{rising, boundsPass, sameBounds, bucketOf, bucketCount, recordBucket, added, bucketsAgree};
 ghost use Rattle.points.specs.Figures.{mostSize};
 ghost use lib.Dec.{eqb};
-ghost use Rattle.explicit.specs.Series.{bucketsIn, freshening, mostCount, refusalOf, said, outcome, recording, Addable};
+ghost use Rattle.explicit.specs.Series.{bucketsIn, freshening, refusalOf, said, outcome, recording};
+ghost use Rattle.explicit.specs.Inner.{Addable};
 use exponential::Halves;
 
 pub struct Head {

@@ -28,8 +28,9 @@ use Rattle.explicit_slots.specs.Cells as Slots
 use Rattle.point.specs.Handing.{explicitPoint}
 use Rattle.point.specs.declared.Point.{Point}
 use Rattle.value_map.specs.Explicit.{explicitStore}
-use Rattle.listing.specs.Listed.{Output, Put, left, bucketsOf, behind, itemOf, putAt}
-use Rattle.listing.specs.Listed as Listed
+use Rattle.listing.specs.Listed.{Output, bucketsOf, behind, itemOf, putAt}
+use Rattle.listing.specs.Inner.{Put, left}
+use Rattle.listing.specs.Inner as ListedInner
 use Rattle.listing.specs.Words.{wordsOf}
 use Rattle.listing.specs.declared.Cursor.{Cursor}
 use Rattle.collecting.specs.Slots.{unsound, oneMore, surveyedAt, laidAt, behindAt, putSlot}
@@ -105,10 +106,10 @@ module _ (bounds : List Float) (u due : Bool) (c : Cells) (s : Survey) (x : ℕ)
 
 -- a point put with its span is a point put with its counts
 module _ (bounds : List Float) (at : Cursor) (row : List ℕ) (h : Head) (show sums : Bool) (p : Point) (e : p ≡ explicitPoint h show sums) (xs : List ℕ) (o : Output) where
-  pub room-of : bucketCount bounds ≤ length xs → Fits (bucketCount bounds) at o → Listed.Room at (p .figures) (spanOf bounds) xs xs o
+  pub room-of : bucketCount bounds ≤ length xs → Fits (bucketCount bounds) at o → ListedInner.Room at (p .figures) (spanOf bounds) xs xs o
   room-of l f =
       let b = buckets-are bounds in
-      subst (λ (p : Point). Listed.Room at (p .figures) (spanOf bounds) xs xs o) (sym e)
+      subst (λ (p : Point). ListedInner.Room at (p .figures) (spanOf bounds) xs xs o) (sym e)
       (record {
         sets = f .sets;
         words = f .words;

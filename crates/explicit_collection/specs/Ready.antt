@@ -1,3 +1,4 @@
+-- BETWEEN OUR OWN CRATES: serves inner contracts and proofs; nobody needs it to believe the public calls or the theorems.
 -- What is known where points are put into the output, one slot's and those of all slots that are due, and what is put. Assumes nothing.
 use Prim.Native.Nat.{ℕ, _+_, _≤_, _<_}
 use mathlib.Core.Path.{_≡_}
@@ -13,7 +14,8 @@ use Rattle.point.specs.declared.Point.{Point}
 use Rattle.value_map.specs.Calls.{Held}
 use Rattle.value_map.specs.Explicit.{explicitStore}
 use Rattle.listing.specs.Words.{wordsOf}
-use Rattle.listing.specs.Listed.{Output, Put, left}
+use Rattle.listing.specs.Listed.{Output}
+use Rattle.listing.specs.Inner.{Put, left}
 use Rattle.listing.specs.declared.Cursor.{Cursor}
 use Rattle.collecting.specs.Collected.{dueOf, roomOf, roomy}
 use Rattle.collecting.specs.Slots.{Walk, laidAt, behindAt, putSlots}
@@ -32,11 +34,11 @@ pointPut bounds p at row xs o =
     left (behindAt at (bucketCount bounds) 0) (laidAt at row (wordsOf p (spanOf bounds)) (take (bucketCount bounds) xs) [] o)
 
 -- the slots of a walk lie in the stores, their rows hold sets, and the points that are due have room
-pub record Listable (bounds : List Float) (extremes sums whole : Bool) (h : Held Cells) (o : Output) : Type 0 where
+pub record Listable (bounds : List Float) (extremes sums cumulative : Bool) (h : Held Cells) (o : Output) : Type 0 where
   pub walk : Walk (explicitStore bounds) (h .kept .dir .used) (h .kept .stores .entries) (h .kept .stores .order) (h .cells)
   pub rows : (x : ℕ) → x ≤ h .kept .dir .used → (x < length (h .kept .stores .sets)) × (0 < x → size (getD (h .kept .stores .sets) x []) ≤ 8)
-  pub room : roomy (explicitLister bounds) (extremes, sums, zeroFloat) h (dueOf whole (h .kept)) (roomOf o) ≡ true
+  pub room : roomy (explicitLister bounds) (extremes, sums, zeroFloat) h (dueOf cumulative (h .kept)) (roomOf o) ≡ true
 
 -- the points that are due, in the output
 abbrev pub listedTo : List Float → Bool → Bool → Bool → Held Cells → Output → Put
-listedTo bounds extremes sums whole h o = putSlots (explicitLister bounds) (extremes, sums, zeroFloat) h (dueOf whole (h .kept)) o
+listedTo bounds extremes sums cumulative h o = putSlots (explicitLister bounds) (extremes, sums, zeroFloat) h (dueOf cumulative (h .kept)) o

@@ -91,7 +91,7 @@ pub fn configure(
 
 // The number that refuses a collection: 12, 8, 10; 0 if none. Everything is decided here, by reading.
 fn number(
-    whole: bool,
+    cumulative: bool,
     bounds: &[f64],
     s: Settings,
     d: Directory,
@@ -106,7 +106,7 @@ fn number(
     out_pos: &[u64],
     out_neg: &[u64],
 ) -> u8
-    ensures { λ r. ⌜ r ≡ uncollected (explicitLister (now (bounds .entry))) (s .extremes, s .sums, zeroFloat) whole (s .limit)
+    ensures { λ r. ⌜ r ≡ uncollected (explicitLister (now (bounds .entry))) (s .extremes, s .sums, zeroFloat) cumulative (s .limit)
         (held d (stores (sets .entry) (entries .entry) (order .entry)) (cells (totals .entry) (extremes .entry) (counts .entry)))
         (output («out_sets» .entry) («out_words» .entry) («out_pos» .entry) («out_neg» .entry)) ⌝ }
 {
@@ -124,7 +124,7 @@ fn number(
         return no;
     }
     let found = crate::walk::survey(
-        whole,
+        cumulative,
         bounds,
         d.used,
         entries,

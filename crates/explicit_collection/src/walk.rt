@@ -6,7 +6,8 @@ ghost use Prim.Native.Nat.{_<_};
 ghost use Rattle.floats.specs.Starts.{zeroFloat};
 ghost use Rattle.explicit_slots.specs.Cells.{cells};
 ghost use Rattle.value_map.specs.Explicit.{explicitStore};
-ghost use Rattle.listing.specs.Listed.{output, left};
+ghost use Rattle.listing.specs.Listed.{output};
+ghost use Rattle.listing.specs.Inner.{left};
 ghost use Rattle.collecting.specs.Slots.{Walk, walked, surveyed};
 ghost use Rattle.explicit_collection.specs.Points.{explicitLister};
 ghost use Rattle.explicit_collection.specs.Ready.{Listable, listedTo};
@@ -15,7 +16,7 @@ use listing::Cursor;
 
 // What the slots are found to be.
 pub fn survey(
-    whole: bool,
+    cumulative: bool,
     bounds: &[f64],
     used: usize,
     entries: &[[u64; 3]],
@@ -25,7 +26,7 @@ pub fn survey(
     counts: &[u64],
 ) -> Survey
     requires { ⌜ Walk (explicitStore (now bounds)) used (now entries) (now order) (cells totals extremes counts) ⌝ }
-    ensures { λ r. ⌜ r ≡ surveyed (explicitLister (now (bounds .entry))) (true, true, zeroFloat) whole
+    ensures { λ r. ⌜ r ≡ surveyed (explicitLister (now (bounds .entry))) (true, true, zeroFloat) cumulative
         (walked used [] (now (entries .entry)) (now (order .entry)) (cells (totals .entry) (extremes .entry) (counts .entry))) ⌝ }
 {
     let mut found = Survey {
@@ -38,7 +39,7 @@ pub fn survey(
     while i <= used {
         let x = collecting::slot_at(order, i);
         let updated = collecting::is_updated(entries, x);
-        let due = collecting::is_due(whole, updated, x);
+        let due = collecting::is_due(cumulative, updated, x);
         let next = crate::slot::survey(bounds, found, x, updated, due, totals, extremes, counts);
         if !next.sound {
             return next;
@@ -51,7 +52,7 @@ pub fn survey(
 
 // Puts the points of the slots that are due into the output; the cursor behind them.
 pub fn list(
-    whole: bool,
+    cumulative: bool,
     bounds: &[f64],
     show: bool,
     sums: bool,
@@ -67,10 +68,10 @@ pub fn list(
     out_pos: &mut [u64],
     out_neg: &mut [u64],
 ) -> Cursor
-    requires { ⌜ Listable (now bounds) show sums whole (walked used (now sets) (now entries) (now order) (cells totals extremes counts))
+    requires { ⌜ Listable (now bounds) show sums cumulative (walked used (now sets) (now entries) (now order) (cells totals extremes counts))
         (output «out_sets» «out_words» «out_pos» «out_neg») ⌝ }
     ensures { λ r. ⌜ left r (output («out_sets» .exit) («out_words» .exit) («out_pos» .exit) («out_neg» .exit))
-        ≡ listedTo (now (bounds .entry)) show sums whole
+        ≡ listedTo (now (bounds .entry)) show sums cumulative
         (walked used (now (sets .entry)) (now (entries .entry)) (now (order .entry)) (cells (totals .entry) (extremes .entry) (counts .entry)))
         (output («out_sets» .entry) («out_words» .entry) («out_pos» .entry) («out_neg» .entry)) ⌝ }
 {
@@ -83,7 +84,7 @@ pub fn list(
     while i <= used {
         let x = collecting::slot_at(order, i);
         let updated = collecting::is_updated(entries, x);
-        let due = collecting::is_due(whole, updated, x);
+        let due = collecting::is_due(cumulative, updated, x);
         let row = collecting::row_at(sets, x);
         let next = crate::slot::put(
             bounds,

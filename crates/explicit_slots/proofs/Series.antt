@@ -24,15 +24,17 @@ use Rattle.points.specs.Explicit.{bucketCount, boundsPass, bucketsOf, recordBuc
 use Rattle.points.specs.Values.{noted}
 use Rattle.points.specs.Figures.{Settings, explicit, Figures, explicitCounts}
 use Rattle.laws.proofs.Cases.{true-not-false}
-use Rattle.tally.specs.Map.{fits, sound}
+use Rattle.tally.specs.Map.{sound}
+use Rattle.tally.proofs.MapSteps.{fits}
 use Rattle.kinds.specs.Histograms.{histograms}
 use Rattle.explicit.specs.declared.Head.{Head}
-use Rattle.explicit.specs.Series.{mostCount, bucketsIn, headOf, summary, freshHead, refusalOf, outcome, accepted}
+use Rattle.explicit.specs.Series.{bucketsIn, headOf, summary, freshHead, refusalOf, outcome, accepted}
 use Rattle.explicit.proofs.Cases.{refuse, disagrees}
 use Rattle.explicit.proofs.Writes.{refused-law}
 use Rattle.explicit.proofs.Listed.{accepted-is, fresh-is, reads, stays-long}
 use Rattle.explicit_slots.specs.Cells.{Cells, Room, rowAt, headAt, seriesAt, entering, written, recordedAt}
 use Rattle.explicit_slots.proofs.Enters.{zeros, begun-taken, enters-held, enters-bad, enters-first, call}
+use Rattle.laws.specs.Counting.{mostCount}
 
 -- stores as long as they were
 pub record Long (s after : Cells) : Type 0 where

@@ -15,7 +15,8 @@ use Rattle.exponential.specs.declared.Head.{Head}
 use Rattle.index.specs.Answers.{binOf}
 use Rattle.exponential.specs.declared.Class.{Class}
 use Rattle.exponential.specs.Steps.{placed}
-use Rattle.exponential.specs.Series.{mostCount, agrees, read, classAt, valueOf, Written, Ready, refusalOf, outcome, accepted, recording}
+use Rattle.exponential.specs.Series.{agrees, read, refusalOf, outcome, accepted, recording}
+use Rattle.exponential.specs.Inner.{classAt, valueOf, Written, Ready}
 use Rattle.laws.specs.Pick.{pick, _and_}
 use Rattle.laws.specs.Said.{refusal, success}
 use Rattle.laws.proofs.Bools.{and-left, and-right, pick-left, pick-then, pick-right}
@@ -25,6 +26,7 @@ use Rattle.points.specs.Values.{classOf}
 use Rattle.exponential.proofs.Joint.{placed-is}
 use Rattle.exponential.proofs.Classes.{class-is, ranged-of, within-of}
 use Rattle.exponential.proofs.Facts.{agreed, level-in}
+use Rattle.laws.specs.Counting.{mostCount}
 
 module _ (size top : ℕ) (h : Head) (xs ys : List ℕ) (v : Float) where
   pub short-pos : length xs < size → refusalOf size top h xs ys v ≡ 12

@@ -11,7 +11,7 @@ use lib.Pow.{pow-pos, pow-add}
 use borrow.Author.Tests.{le-leb, lt-leb, ne-eqb, eqb-false}
 use Rattle.laws.specs.Pick.{pick}
 use Rattle.floats.specs.Starts.{zeroFloat}
-use Rattle.points.specs.Points.{naught, plus, minus}
+use Rattle.points.specs.Points.{naught, plus, minus, Value}
 use Rattle.points.specs.Values.{classOf}
 use Rattle.points.proofs.Kept.{ValueIn}
 use Rattle.index.specs.Magnitude.{magnitude, isNegative}
@@ -19,8 +19,14 @@ use Rattle.index.specs.Bins.{finest, finestBin, endBin}
 use Rattle.index.specs.Answers.{binOf}
 use Rattle.index.specs.declared.Bin.the-variants.{Zero, At as BinAt}
 use Rattle.index.proofs.Laws.{bin-range}
-use Rattle.exponential.specs.Steps.{coarse}
-use Rattle.exponential.specs.Series.{lowestOfAll, classAt, valueOf, Within}
+use Rattle.exponential.specs.Series.{lowestOfAll}
+use Rattle.exponential.specs.Inner.{classAt, valueOf, Within}
+
+-- a value d levels lower
+abbrev pub coarse : ℕ → Value → Value
+coarse d naught = naught
+coarse d (plus i) = plus (i / 2 ^ d)
+coarse d (minus i) = minus (i / 2 ^ d)
 
 -- what the index answers at a level is the value's class there
 by-sign : (d i : ℕ) (negative : Bool) → valueOf (classAt (BinAt negative (i / 2 ^ d))) ≡ coarse d (pick negative (minus i) (plus i))

@@ -13,8 +13,8 @@ use lib.Pow.{shr-mono}
 use Rattle.laws.specs.Counting.{hit, count, lowest, highest, table}
 use Rattle.laws.proofs.Same.{sum-append, sum-map}
 use Rattle.laws.proofs.Counting.{Ends, ends-map, ends-append, ends-of, length-table}
-use Rattle.points.specs.Points.{Row, at, rowOf, expand}
-use Rattle.points.proofs.Rows.{at-in, at-rowOf, row-path, count-expand, expand-rowOf}
+use Rattle.points.specs.Points.{Row, rowOf, expand}
+use Rattle.points.proofs.Rows.{at-in, at-rowOf, row-path, count-expand, expand-rowOf, at}
 use Rattle.points.proofs.Ends.{ends-row, bucket, sum-expand, sum-replicate}
 use Rattle.laws.specs.Pick.{pick}
 use Rattle.rows.specs.Rows.{addAt, downscaled, recorded, recordedFrom}

@@ -16,7 +16,8 @@ use Rattle.points.specs.Agreement as A
 use Rattle.points.proofs.Agreement as PA
 use Rattle.points.proofs.Agreement.{RowOk}
 use Rattle.exponential.specs.declared.Counts.{Counts}
-use Rattle.exponential.specs.Series.{leastSize, mostSize, sizePasses, lowestOfAll, rowIn, rowAgrees, addsUp, agrees, read}
+use Rattle.exponential.specs.Series.{leastSize, mostSize, sizePasses, lowestOfAll, rowIn, agrees, read}
+use Rattle.exponential.specs.Inner.{rowAgrees, addsUp}
 use Rattle.exponential.proofs.Rowed.{RowFacts, row-facts}
 
 pub not-true : (b : Bool) → not b ≡ true → b ≡ false

@@ -21,7 +21,8 @@ use Rattle.points.proofs.Rows.{Canonical}
 use Rattle.points.proofs.Ends.{ends-row, fits-coarser}
 use Rattle.points.proofs.Agreement.{RowOk, Agreed, row-indices, fits-valid}
 use Rattle.points.proofs.Kept.{ValueIn}
-use Rattle.exponential.specs.Steps.{lowered, with1, lowBin, highBin, narrow, lowering, needed, coarse, placed}
+use Rattle.exponential.specs.Steps.{lowered, with1, lowBin, highBin, narrow, lowering, needed, placed}
+use Rattle.exponential.proofs.Classes.{coarse}
 use Rattle.exponential.proofs.Counted.{lowered-rowOf, with1-rowOf, lowered-with1, ends-with1}
 
 -- k levels below d

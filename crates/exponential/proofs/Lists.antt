@@ -22,11 +22,15 @@ use Rattle.points.proofs.Orders.{recordAll, recordAll-pointOf}
 use Rattle.rows.proofs.Laws.{length-over}
 use Rattle.exponential.specs.declared.Head.{Head}
 use Rattle.exponential.specs.Series.{leastSize, mostSize, lowestOfAll, agrees, read, countsFor, refusalOf, accepted, recording}
-use Rattle.exponential.specs.Runs.{Series, after, runAll, summary, freshHead}
+use Rattle.exponential.specs.Runs.{Series, after, runAll, freshHead}
 use Rattle.exponential.proofs.Facts.{agreed-agrees}
 use Rattle.exponential.proofs.Call.{none}
 use Rattle.exponential.proofs.Classes.{ranged-of}
 use Rattle.exponential.proofs.Stays.{next-ok, stays, reads}
+
+-- the minimum, the maximum and the sum of a head
+abbrev pub summary : Head → Summary
+summary h = record { min = h .min; max = h .max; sum = h .sum }
 
 -- s holds the point p and this summary, and agrees
 pub record Holds (size top : ℕ) (p : Point) (m : Summary) (s : Series) : Type 0 where

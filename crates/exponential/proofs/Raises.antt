@@ -14,7 +14,7 @@ use Rattle.rows.specs.Rows.{over, recorded, holds}
 use Rattle.rows.specs.declared.Row.{Row}
 use Rattle.rows.proofs.Laws.{getD-le-total}
 use Rattle.rows.proofs.Adds.{inside, holds-inside}
-use Rattle.exponential.specs.Series.{Beside, Raised, Tried}
+use Rattle.exponential.specs.Inner.{Beside, Raised, Tried}
 
 set-own : (l : List ℕ) (k : ℕ) → set l k (getD l k 0 + 0) ≡ l
 set-own l k = rw (add-zero (getD l k 0)) (set-getD l k 0)

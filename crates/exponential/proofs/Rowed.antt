@@ -17,7 +17,8 @@ use Rattle.rows.specs.Rows.{over, downscaled, onto}
 use Rattle.rows.specs.declared.Row.{Row}
 use Rattle.rows.proofs.Adds.{over-self}
 use Rattle.exponential.specs.Steps.{lowered, lowBin, highBin}
-use Rattle.exponential.specs.Series.{rowIn, Laid, rowAgrees, halved}
+use Rattle.exponential.specs.Series.{rowIn}
+use Rattle.exponential.specs.Inner.{Laid, rowAgrees, halved}
 use Rattle.exponential.specs.declared.Halves.{Halves}
 use Rattle.laws.specs.Pick.{pick, _and_}
 use Rattle.laws.specs.Counting.{sum, total}

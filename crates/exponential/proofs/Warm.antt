@@ -17,7 +17,8 @@ use Rattle.exponential.specs.declared.Counts.{Counts}
 use Rattle.exponential.specs.declared.Class.{Class}
 use Rattle.exponential.specs.declared.Class.the-variants.{At}
 use Rattle.exponential.specs.Steps.{lowered, with1, lowering, placed}
-use Rattle.exponential.specs.Series.{rowIn, Laid, read, Written, signed, lowerBy, rowTo, rowOther, oneMore, Room, Ready, Beside, Raised, Tried}
+use Rattle.exponential.specs.Series.{rowIn, read}
+use Rattle.exponential.specs.Inner.{Laid, Written, lowerBy, rowTo, rowOther, oneMore, Room, Ready, signed, Beside, Raised, Tried}
 use Rattle.exponential.proofs.Facts.{Agreed, agreed, agreed-agrees, pos-facts, neg-facts, level-in}
 use Rattle.exponential.proofs.Rowed.{RowFacts, short, bins-some, downscaled-zero, laid-same}
 use Rattle.exponential.proofs.Write.{needed-in, few-levels, room, written-plus, swapped, written-swap}

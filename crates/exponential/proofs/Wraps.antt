@@ -9,7 +9,7 @@ use lib.Dec.{eqb}
 use lib.ListN.{take}
 use Rattle.laws.specs.Counting.{total}
 use Rattle.exponential.specs.declared.Counts.{Counts}
-use Rattle.exponential.specs.Series.{addsUp}
+use Rattle.exponential.specs.Inner.{addsUp}
 
 pub or-left : (a b : ℕ) → a ≤ bitOr a b
 or-left a b = omega (arith, or-add-and a b, and-le-r a b)

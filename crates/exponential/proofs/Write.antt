@@ -15,7 +15,8 @@ use Rattle.rows.specs.declared.Row.{Row}
 use Rattle.rows.proofs.Adds.{over-self}
 use Rattle.exponential.specs.declared.Counts.{Counts}
 use Rattle.exponential.specs.Steps.{lowBin, highBin, lowering, placed}
-use Rattle.exponential.specs.Series.{rowIn, Laid, read, Written, lowerBy, rowTo, rowOther, Room}
+use Rattle.exponential.specs.Series.{rowIn, read}
+use Rattle.exponential.specs.Inner.{Laid, Written, lowerBy, rowTo, rowOther, Room}
 use Rattle.exponential.proofs.Joint.{few, room-one}
 use Rattle.points.proofs.Agreement.{RowOk}
 use Rattle.index.specs.Bins.{lowestBin}

@@ -2,3 +2,4 @@
 pub mod Steps
 pub mod Series
 pub mod Runs
+pub mod Inner

@@ -3,7 +3,7 @@ use Prim.Native.Nat.{ℕ}
 use mathlib.Core.List.{List, [], _∷_}
 use lib.Ieee.{Float}
 use Rattle.laws.specs.Said.{Said, refusal, success}
-use Rattle.points.specs.Values.{Summary, start}
+use Rattle.points.specs.Values.{start}
 use Rattle.exponential.specs.declared.Head.{Head}
 use Rattle.exponential.specs.Series.{Outcome, recording}
 
@@ -24,10 +24,6 @@ after o s = record { head = headAfter (o .answer) (s .head); pos = o .pos; neg =
 unfoldable pub runAll : ℕ → ℕ → Series → List Float → Series
 runAll size top s [] = s
 runAll size top s (v ∷ vs) = runAll size top (after (recording size top (s .head) (s .pos) (s .neg) v) s) vs
-
--- the minimum, the maximum and the sum of a head
-abbrev pub summary : Head → Summary
-summary h = record { min = h .min; max = h .max; sum = h .sum }
 
 -- the head of a fresh series: nothing counted, and the extremes and the sum that document 01 starts from
 abbrev pub freshHead : ℕ → Head

@@ -1,3 +1,4 @@
+-- BETWEEN OUR OWN CRATES: serves inner contracts and proofs; nobody needs it to believe the public calls or the theorems.
 -- One value recorded into rows, step by step, as the code does it. Assumes nothing.
 use Prim.Native.Nat.{ℕ, _+_, _/_, _^_, min, max, pred}
 use lib.Dec.{eqb}
@@ -24,12 +25,6 @@ highBin s n b = pick (eqb n 0) b (max (s + pred n) b)
 -- the lowering that a row needs for one more at bin b
 abbrev pub needed : ℕ → Row → ℕ → ℕ
 needed size r b = lowering size (lowBin (r .start) (length (r .counts)) b) (highBin (r .start) (length (r .counts)) b)
-
--- a value d levels lower
-abbrev pub coarse : ℕ → Value → Value
-coarse d naught = naught
-coarse d (plus i) = plus (i / 2 ^ d)
-coarse d (minus i) = minus (i / 2 ^ d)
 
 -- one value of the point's level recorded: both rows lowered as the recorded sign's row needs, and one more
 unfoldable pub placed : ℕ → Point → Value → Point

@@ -6,12 +6,12 @@ ghost use mathlib.Core.Path.{_≡_};
 ghost use Prim.Native.Nat.{_+_, _*_, _^_, _<_, _≤_, min, max};
 ghost use lib.ListN.{length, take};
 ghost use Rattle.index.specs.Answers.{binOf};
-ghost use Rattle.laws.specs.Counting.{total};
+ghost use Rattle.laws.specs.Counting.{total, mostCount};
 ghost use Rattle.exponential.specs.Steps.{lowered, with1, lowBin, highBin, lowering, placed};
 ghost use Rattle.laws.specs.Pick.{pick};
 ghost use Rattle.exponential.specs.Runs.{freshHead};
-ghost use Rattle.exponential.specs.Series.{mostSize, mostCount, rowIn, Laid, read, Written, rowAgrees, halved, addsUp, agrees};
-ghost use Rattle.exponential.specs.Series.{classAt, signed, valueOf, lowerBy, rowTo, rowOther, Room, oneMore, Beside, Tried, Ready};
+ghost use Rattle.exponential.specs.Series.{mostSize, rowIn, read, agrees};
+ghost use Rattle.exponential.specs.Inner.{Laid, Written, rowAgrees, halved, addsUp, classAt, valueOf, lowerBy, rowTo, rowOther, Room, oneMore, Ready, signed, Beside, Tried};
 ghost use Rattle.exponential.specs.Series.{refusalOf, said, outcome, recording};
 use rows::Row;
 

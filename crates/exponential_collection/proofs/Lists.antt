@@ -23,8 +23,8 @@ use Rattle.points.specs.Figures.{Counts, exponentialCounts, Figures}
 use Rattle.points.specs.Handed.{handedOut}
 use Rattle.exponential.specs.declared.Head.{Head}
 use Rattle.exponential.specs.Series.{read, refusalOf, Outcome, recording}
-use Rattle.exponential.specs.Runs.{summary, freshHead}
-use Rattle.exponential.proofs.Lists.{fresh-holds}
+use Rattle.exponential.specs.Runs.{freshHead}
+use Rattle.exponential.proofs.Lists.{fresh-holds, summary}
 use Rattle.kinds.specs.Histograms.{histograms}
 use Rattle.tally.specs.Map.{sound}
 use Rattle.exponential_slots.specs.Cells.{Cells, Room, readable, headIn, recordedAt}

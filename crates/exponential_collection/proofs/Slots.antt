@@ -24,8 +24,9 @@ use Rattle.exponential_slots.proofs.Cases.{reads-held, reads-fresh, head-held, 
 use Rattle.exponential_slots.proofs.Agreeing.{Accepted, accepted-of, shaped-says, in-shape, holds-is, can-read, series-agrees, shape-of, point-agrees}
 use Rattle.value_map.specs.Exponential.{unset}
 use Rattle.value_map.proofs.ExponentialOwes.{owed}
-use Rattle.listing.specs.Listed as Listed
-use Rattle.listing.specs.Listed.{Output, left, behind, itemOf, putAt}
+use Rattle.listing.specs.Inner as ListedInner
+use Rattle.listing.specs.Listed.{Output, behind, itemOf, putAt}
+use Rattle.listing.specs.Inner.{left}
 use Rattle.listing.specs.declared.Span.{Span}
 use Rattle.listing.specs.declared.Cursor.{Cursor}
 use Rattle.collecting.specs.Slots.{unsound, oneMore, surveyedAt, laidAt, behindAt, putSlot}
@@ -228,9 +229,9 @@ module _ (size top : ℕ) (set : unset size top ≡ 0) (c : Cells) (x : ℕ) (r 
     put-not d = sym (pick-false due _ (left at o) d)
 
     module _ (a : (not updated || agreesAt) ≡ true) (p : Point) (e : p ≡ exponentialPoint (headAt top c x updated) (w .0) (w .1)) where
-      pub put-room : Free size top updated c x at o → Listed.Room at (p .figures) nowhere xs ys o
+      pub put-room : Free size top updated c x at o → ListedInner.Room at (p .figures) nowhere xs ys o
       put-room g =
-          subst (λ (q : Point). Listed.Room at (q .figures) nowhere xs ys o) (sym e)
+          subst (λ (q : Point). ListedInner.Room at (q .figures) nowhere xs ys o) (sym e)
           (record {
             sets = g .sets;
             words = g .words;

@@ -15,7 +15,8 @@ use Rattle.exponential_slots.specs.Cells.{Cells}
 use Rattle.exponential_slots.specs.Meaning.{settings, seriesAt}
 use Rattle.value_map.specs.Exponential.{exponentialStore}
 use Rattle.value_map.specs.Calls.{Held}
-use Rattle.listing.specs.Listed.{Output, Put, left}
+use Rattle.listing.specs.Listed.{Output}
+use Rattle.listing.specs.Inner.{Put, left}
 use Rattle.listing.specs.declared.Cursor.{Cursor}
 use Rattle.collecting.specs.Lister.{Lister}
 use Rattle.collecting.specs.Collected.{slotsOf, due, dueOf}
@@ -42,7 +43,7 @@ found-used order used g i x n e = subst (λ (y : ℕ). y ≤ used) (sym (e ∙ s
 
 -- ---- the survey
 
-module _ (size top : ℕ) (whole : Bool) (used : ℕ) (entries : List (List ℕ)) (order : List ℕ) (c : Cells) where
+module _ (size top : ℕ) (cumulative : Bool) (used : ℕ) (entries : List (List ℕ)) (order : List ℕ) (c : Cells) where
   abbrev L : Lister (exponentialStore size top)
   L = exponentialLister size top
 
@@ -52,36 +53,36 @@ module _ (size top : ℕ) (whole : Bool) (used : ℕ) (entries : List (List ℕ)
   -- the first i slots surveyed
   pub record Surveyed (i : ℕ) (s : Survey) : Type 0 where
     pub most : i ≤ used + 1
-    pub is : Surveying (exponentialLister size top) (true, true) whole (walked used [] entries order c) i s
+    pub is : Surveying (exponentialLister size top) (true, true) cumulative (walked used [] entries order c) i s
     pub points : s .points ≤ i
     pub pos : s .pos ≤ i * 160
     pub neg : s .neg ≤ i * 160
 
   pub survey-start : Surveyed 0 (record { sound = true; points = 0; pos = 0; neg = 0 })
-  survey-start = record { most = omega arith; is = surveying-start L (true, true) whole h; points = omega arith; pos = omega arith; neg = omega arith }
+  survey-start = record { most = omega arith; is = surveying-start L (true, true) cumulative h; points = omega arith; pos = omega arith; neg = omega arith }
 
-  module _ (i x : ℕ) (u d : Bool) (f : Seen (exponentialLister size top) (true, true) whole (walked used [] entries order c) i x u d)
+  module _ (i x : ℕ) (u d : Bool) (f : Seen (exponentialLister size top) (true, true) cumulative (walked used [] entries order c) i x u d)
       (s t : Survey) (k : Surveyed i s) (e : t ≡ surveyedAt (exponentialLister size top) (true, true) u d c s x) where
     pub survey-next : t .sound ≡ true → t .points ≤ s .points + 1 → t .pos ≤ s .pos + 160 → t .neg ≤ s .neg + 160 → Surveyed (i + 1) t
     survey-next o p q r =
         record {
           most = omega (arith, f .place);
-          is = surveying-next L (true, true) whole h i x u d f s t (k .is) e o;
+          is = surveying-next L (true, true) cumulative h i x u d f s t (k .is) e o;
           points = omega (arith, k .points, p);
           pos = omega (arith, k .pos, q);
           neg = omega (arith, k .neg, r);
         }
 
-    pub survey-stop : t .sound ≡ false → t ≡ surveyed (exponentialLister size top) (true, true) whole (walked used [] entries order c)
+    pub survey-stop : t .sound ≡ false → t ≡ surveyed (exponentialLister size top) (true, true) cumulative (walked used [] entries order c)
     unfolding surveyedAt
     survey-stop o =
         e
         ∙ unsound-is (not u || histograms .agrees (settings size top true true) (seriesAt size c x)) d s (length (L .pos c x u)) (length (L .neg c x u))
         (ap (λ (v : Survey). v .sound) (k .is .is)) (ap (λ (v : Survey). v .sound) (sym e) ∙ o)
-        ∙ surveying-stop L (true, true) whole h i x u d f s t (k .is) e o
+        ∙ surveying-stop L (true, true) cumulative h i x u d f s t (k .is) e o
 
-  pub survey-end : (i : ℕ) (s : Survey) → Surveyed i s → used < i → s ≡ surveyed (exponentialLister size top) (true, true) whole (walked used [] entries order c)
-  survey-end i s k l = surveying-end L (true, true) whole h i s l (k .most) (k .is)
+  pub survey-end : (i : ℕ) (s : Survey) → Surveyed i s → used < i → s ≡ surveyed (exponentialLister size top) (true, true) cumulative (walked used [] entries order c)
+  survey-end i s k l = surveying-end L (true, true) cumulative h i s l (k .most) (k .is)
 
 -- ---- the points put
 
@@ -92,7 +93,7 @@ pub record Alike (q o : Output) : Type 0 where
   pub pos : length (q .pos) ≡ length (o .pos)
   pub neg : length (q .neg) ≡ length (o .neg)
 
-module _ (size top : ℕ) (w : Bool × Bool) (whole : Bool) (used : ℕ) (sets entries : List (List ℕ)) (order : List ℕ) (c : Cells) (o : Output) where
+module _ (size top : ℕ) (w : Bool × Bool) (cumulative : Bool) (used : ℕ) (sets entries : List (List ℕ)) (order : List ℕ) (c : Cells) (o : Output) where
   abbrev M : Lister (exponentialStore size top)
   M = exponentialLister size top
 
@@ -102,19 +103,19 @@ module _ (size top : ℕ) (w : Bool × Bool) (whole : Bool) (used : ℕ) (sets e
   -- the points of the first i slots put
   pub record Listing (i : ℕ) (at : Cursor) (q : Output) : Type 0 where
     pub most : i ≤ used + 1
-    pub is : Putting (exponentialLister size top) w whole (walked used sets entries order c) o i at q
+    pub is : Putting (exponentialLister size top) w cumulative (walked used sets entries order c) o i at q
 
   pub list-start : Listing 0 (record { place = 0; pos = 0; neg = 0 }) o
-  list-start = record { most = omega arith; is = putting-start M w whole map o }
+  list-start = record { most = omega arith; is = putting-start M w cumulative map o }
 
   pub list-end : (i : ℕ) (at : Cursor) (q : Output) → Listing i at q → used < i
-      → left at q ≡ putSlots (exponentialLister size top) w (walked used sets entries order c) (dueOf whole (walked used sets entries order c .kept)) o
-  list-end i at q k l = putting-end M w whole map o i at q l (k .most) (k .is)
+      → left at q ≡ putSlots (exponentialLister size top) w (walked used sets entries order c) (dueOf cumulative (walked used sets entries order c .kept)) o
+  list-end i at q k l = putting-end M w cumulative map o i at q l (k .most) (k .is)
 
-  module _ (g : Listable size top w whole used sets entries order c o) where
+  module _ (g : Listable size top w cumulative used sets entries order c o) where
     pub list-alike : (i : ℕ) (at : Cursor) (q : Output) → Listing i at q → Alike q o
     list-alike i at q k =
-        let l = laid-long M w map o (only (due whole (map .kept)) (take i (slotsOf (map .kept)))) (fit-first M w map o whole (g .roomy) i) in
+        let l = laid-long M w map o (only (due cumulative (map .kept)) (take i (slotsOf (map .kept)))) (fit-first M w map o cumulative (g .roomy) i) in
         record {
           sets = ap (λ (p : Put). length (p .output .sets)) (k .is) ∙ l .sets;
           words = ap (λ (p : Put). length (p .output .words)) (k .is) ∙ l .words;
@@ -122,23 +123,23 @@ module _ (size top : ℕ) (w : Bool × Bool) (whole : Bool) (used : ℕ) (sets e
           neg = ap (λ (p : Put). length (p .output .neg)) (k .is) ∙ l .neg;
         }
 
-    module _ (i x : ℕ) (u d : Bool) (f : Seen (exponentialLister size top) w whole (walked used sets entries order c) i x u d) where
+    module _ (i x : ℕ) (u d : Bool) (f : Seen (exponentialLister size top) w cumulative (walked used sets entries order c) i x u d) where
       pub slot-sound : Sound size top u c x
       slot-sound =
           record {
             set = g .walk .set;
             room = g .walk .room x (found-used order used (g .walk .slots) i x (f .place) (f .slot));
-            agrees = (λ j. not (seen-updated M w whole map i x u d f j) || histograms .agrees (settings size top true true) (seriesAt size c (seen-slot M w whole map i x u d f j)))
+            agrees = (λ j. not (seen-updated M w cumulative map i x u d f j) || histograms .agrees (settings size top true true) (seriesAt size c (seen-slot M w cumulative map i x u d f j)))
                 ∙ agree-at M w map (g .agrees) i (f .place);
           }
 
       module _ (at : Cursor) (q : Output) (k : Listing i at q) where
         pub slot-free : d ≡ true → Free size top u c x at q
         slot-free e =
-            let p = putting-room M w whole map o (g .roomy) i x u d f at q (k .is) e in
+            let p = putting-room M w cumulative map o (g .roomy) i x u d f at q (k .is) e in
             record { sets = p .sets; words = p .words; pos = p .pos; neg = p .neg }
 
         pub list-next : (row : List ℕ) → row ≡ rowOf (setAt sets x) → (at′ : Cursor) (q′ : Output)
             → left at′ q′ ≡ putSlot (exponentialLister size top) w u d c x row at q → Listing (i + 1) at′ q′
         list-next row r at′ q′ e =
-            record { most = omega (arith, f .place); is = putting-next M w whole map o (g .roomy) i x u d f at q (k .is) row at′ q′ r e }
+            record { most = omega (arith, f .place); is = putting-next M w cumulative map o (g .roomy) i x u d f at q (k .is) row at′ q′ r e }

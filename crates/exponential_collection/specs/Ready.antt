@@ -1,3 +1,4 @@
+-- BETWEEN OUR OWN CRATES: serves inner contracts and proofs; nobody needs it to believe the public calls or the theorems.
 -- What is known where points are put into the output: one slot's, and those of all slots that are due. Assumes nothing.
 use Prim.Native.Nat.{ℕ, _+_, _≤_, _<_}
 use mathlib.Core.Path.{_≡_}
@@ -29,9 +30,10 @@ pub record Free (size top : ℕ) (updated : Bool) (c : Cells) (x : ℕ) (at : Cu
   pub neg : at .neg + length (exponentialLister size top .neg c x updated) ≤ length (o .neg)
 
 -- all slots lie in the stores, every series that is held agrees, and there is room for the points that are due
-pub record Listable (size top : ℕ) (w : Bool × Bool) (whole : Bool) (used : ℕ) (named rows : List (List ℕ)) (places : List ℕ)
+pub record Listable (size top : ℕ) (w : Bool × Bool) (cumulative : Bool) (used : ℕ) (named rows : List (List ℕ)) (places : List ℕ)
     (c : Cells) (o : Output) : Type 0 where
   pub walk : Walk (exponentialStore size top) used rows places c
   pub sets : (x : ℕ) → x ≤ used → (x < length named) × (0 < x → Rows.size (getD named x []) ≤ 8)
   pub agrees : agreeing (exponentialLister size top) w (walked used named rows places c) ≡ true
-  pub roomy : roomy (exponentialLister size top) w (walked used named rows places c) (dueOf whole (walked used named rows places c .kept)) (roomOf o) ≡ true
+  pub roomy : roomy (exponentialLister size top) w (walked used named rows places c)
+      (dueOf cumulative (walked used named rows places c .kept)) (roomOf o) ≡ true

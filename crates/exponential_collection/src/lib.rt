@@ -111,7 +111,7 @@ pub fn configure(
 
 // The number that refuses a collection: 12, 8, 10; 0 if none. Everything is decided here, by reading.
 fn number(
-    whole: bool,
+    cumulative: bool,
     s: Settings,
     d: Directory,
     sets: &[[u64; 9]],
@@ -126,7 +126,7 @@ fn number(
     out_pos: &[u64],
     out_neg: &[u64],
 ) -> u8
-    ensures { λ r. ⌜ r ≡ uncollected (exponentialLister (s .size) (s .top)) (s .extremes, s .sums) whole (s .limit)
+    ensures { λ r. ⌜ r ≡ uncollected (exponentialLister (s .size) (s .top)) (s .extremes, s .sums) cumulative (s .limit)
         (held d (stores (sets .entry) (entries .entry) (order .entry)) (cells (figures .entry) (extremes .entry) (pos .entry) (neg .entry)))
         (output («out_sets» .entry) («out_words» .entry) («out_pos» .entry) («out_neg» .entry)) ⌝ }
 {
@@ -146,7 +146,7 @@ fn number(
         return bar;
     }
     let found = crate::walk::survey(
-        whole,
+        cumulative,
         s,
         d.used,
         entries,

@@ -4,7 +4,8 @@ ghost use mathlib.Core.Bool.{true};
 ghost use mathlib.Core.List.{[]};
 ghost use Rattle.exponential_slots.specs.Cells.{cells};
 ghost use Rattle.value_map.specs.Exponential.{exponentialStore};
-ghost use Rattle.listing.specs.Listed.{output, left};
+ghost use Rattle.listing.specs.Listed.{output};
+ghost use Rattle.listing.specs.Inner.{left};
 ghost use Rattle.collecting.specs.Collected.{dueOf};
 ghost use Rattle.collecting.specs.Slots.{Walk, walked, surveyed, putSlots};
 ghost use Rattle.exponential_collection.specs.Points.{exponentialLister};
@@ -15,7 +16,7 @@ use listing::Cursor;
 
 // What the slots are found to be.
 pub fn survey(
-    whole: bool,
+    cumulative: bool,
     s: Settings,
     used: usize,
     entries: &[[u64; 3]],
@@ -26,7 +27,7 @@ pub fn survey(
     neg: &[u64],
 ) -> Survey
     requires { ⌜ Walk (exponentialStore (s .size) (s .top)) used (now entries) (now order) (cells figures extremes pos neg) ⌝ }
-    ensures { λ r. ⌜ r ≡ surveyed (exponentialLister (s .size) (s .top)) (true, true) whole
+    ensures { λ r. ⌜ r ≡ surveyed (exponentialLister (s .size) (s .top)) (true, true) cumulative
         (walked used [] (now (entries .entry)) (now (order .entry)) (cells (figures .entry) (extremes .entry) (pos .entry) (neg .entry))) ⌝ }
 {
     let size = s.size;
@@ -41,7 +42,7 @@ pub fn survey(
     while i <= used {
         let x = collecting::slot_at(order, i);
         let updated = collecting::is_updated(entries, x);
-        let due = collecting::is_due(whole, updated, x);
+        let due = collecting::is_due(cumulative, updated, x);
         let next = crate::slot::survey(
             size,
             top,
@@ -65,7 +66,7 @@ pub fn survey(
 
 // Puts the points of all slots that are due, from the front of the output on; the cursor behind them.
 pub fn list(
-    whole: bool,
+    cumulative: bool,
     s: Settings,
     used: usize,
     sets: &[[u64; 9]],
@@ -80,12 +81,12 @@ pub fn list(
     out_pos: &mut [u64],
     out_neg: &mut [u64],
 ) -> Cursor
-    requires { ⌜ Listable (s .size) (s .top) (s .extremes, s .sums) whole used (now sets) (now entries) (now order) (cells figures extremes pos neg)
+    requires { ⌜ Listable (s .size) (s .top) (s .extremes, s .sums) cumulative used (now sets) (now entries) (now order) (cells figures extremes pos neg)
         (output «out_sets» «out_words» «out_pos» «out_neg») ⌝ }
     ensures { λ r. ⌜ left r (output («out_sets» .exit) («out_words» .exit) («out_pos» .exit) («out_neg» .exit))
         ≡ putSlots (exponentialLister (s .size) (s .top)) (s .extremes, s .sums)
         (walked used (now (sets .entry)) (now (entries .entry)) (now (order .entry)) (cells (figures .entry) (extremes .entry) (pos .entry) (neg .entry)))
-        (dueOf whole (walked used (now (sets .entry)) (now (entries .entry)) (now (order .entry))
+        (dueOf cumulative (walked used (now (sets .entry)) (now (entries .entry)) (now (order .entry))
         (cells (figures .entry) (extremes .entry) (pos .entry) (neg .entry)) .kept))
         (output («out_sets» .entry) («out_words» .entry) («out_pos» .entry) («out_neg» .entry)) ⌝ }
 {
@@ -102,7 +103,7 @@ pub fn list(
     while i <= used {
         let x = collecting::slot_at(order, i);
         let updated = collecting::is_updated(entries, x);
-        let due = collecting::is_due(whole, updated, x);
+        let due = collecting::is_due(cumulative, updated, x);
         let row = collecting::row_at(sets, x);
         at = crate::slot::put(
             size,

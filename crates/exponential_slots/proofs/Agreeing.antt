@@ -16,7 +16,7 @@ use Rattle.points.specs.Agreement as A
 use Rattle.points.proofs.Agreement as PA
 use Rattle.points.specs.Figures.{Kind, exponential, explicit, sizePasses, Counts, exponentialCounts}
 use Rattle.points.specs.Handed.{Handed, extremesAgree, countsAgree, handedAgrees}
-use Rattle.exponential.specs.Series.{mostCount, lowestOfAll, read}
+use Rattle.exponential.specs.Series.{lowestOfAll, read}
 use Rattle.exponential.specs.Series as S
 use Rattle.exponential.proofs.Facts.{agreed, agreed-agrees}
 use Rattle.exponential.proofs.Write.{level-pow}
@@ -24,6 +24,7 @@ use Rattle.kinds.specs.Histograms.{passes, countsHold}
 use Rattle.exponential_slots.specs.Cells.{countsIn, narrow}
 use Rattle.exponential_slots.specs.Meaning.{shaped, shapeless, countsAt}
 use Rattle.exponential_slots.proofs.Cases.{narrow-says, narrow-of}
+use Rattle.laws.specs.Counting.{mostCount}
 
 -- ---- words in shape
 

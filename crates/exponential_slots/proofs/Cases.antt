@@ -17,9 +17,10 @@ use Rattle.parts.specs.Recording.{Recording, after}
 use Rattle.parts.proofs.Laws.{put-same}
 use Rattle.parts.proofs.Answers.{not-refused}
 use Rattle.exponential.specs.declared.Head.{Head}
-use Rattle.exponential.specs.Series.{mostCount, refusalOf, Outcome, recording}
+use Rattle.exponential.specs.Series.{refusalOf, Outcome, recording}
 use Rattle.exponential.specs.Runs.{freshHead}
 use Rattle.exponential_slots.specs.Cells.{Cells, mostBin, narrow, readable, headIn, headOf, figuresAfter, extremesAfter, written, recordedAt}
+use Rattle.laws.specs.Counting.{mostCount}
 
 module _ (f : List ℕ) (h : getD f 0 0 < 2 ^ 64) where
   first : leb (getD f 0 0) mostCount ≡ true

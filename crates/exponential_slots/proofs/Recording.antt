@@ -21,18 +21,20 @@ use Rattle.points.specs.Points.{Point}
 use Rattle.points.specs.Values.{start}
 use Rattle.points.specs.Figures.{exponential, Settings, Counts, exponentialCounts, Figures}
 use Rattle.exponential.specs.declared.Head.{Head}
-use Rattle.exponential.specs.Series.{mostCount, refusalOf, recording}
+use Rattle.exponential.specs.Series.{refusalOf, recording}
 use Rattle.exponential.specs.Series as S
-use Rattle.exponential.specs.Runs.{summary, freshHead}
+use Rattle.exponential.specs.Runs.{freshHead}
 use Rattle.exponential.proofs.Call as Call
-use Rattle.exponential.proofs.Lists.{fresh-holds}
-use Rattle.tally.specs.Map.{fits, sound}
+use Rattle.exponential.proofs.Lists.{fresh-holds, summary}
+use Rattle.tally.specs.Map.{sound}
+use Rattle.tally.proofs.MapSteps.{fits}
 use Rattle.kinds.specs.Histograms.{countsHold, histograms}
 use Rattle.exponential_slots.specs.Cells.{Cells, countsIn, narrow, readable, headIn, headOf, written, recordedAt}
 use Rattle.exponential_slots.specs.Meaning.{settings, shaped, countsAt, seriesAt}
 use Rattle.exponential_slots.proofs.Cases.{into, reads-held, reads-fresh, head-held, head-fresh, unread, called}
 use Rattle.exponential_slots.proofs.Agreeing.{Accepted, accepted-of, shaped-says, counts-in, in-shape, holds-is, can-read, series-agrees, shape-of, point-agrees}
 use Rattle.exponential_slots.proofs.Written.{Fit, Held, Took, finite-v, into-refused, into-full, into-took}
+use Rattle.laws.specs.Counting.{mostCount}
 
 -- the count of a series is full exactly where one more does not fit
 count-is : (size top : ℕ) (h : Head) (xs ys : List ℕ) (y : Figures) → Held size top h xs ys y → histograms .total y ≡ h .counts .count

@@ -20,18 +20,18 @@ use Rattle.points.specs.Values.{classOf, Summary}
 use Rattle.points.specs.Figures.{exponential, Counts, exponentialCounts, Figures, recordFigures}
 use Rattle.points.proofs.Agreement.{Agreed}
 use Rattle.exponential.specs.declared.Head.{Head}
-use Rattle.exponential.specs.Series.{mostCount, lowestOfAll, read, countsFor, headOf, refusalOf, recording}
+use Rattle.exponential.specs.Series.{lowestOfAll, read, countsFor, headOf, refusalOf, recording}
 use Rattle.exponential.specs.Series as S
-use Rattle.exponential.specs.Runs.{summary}
 use Rattle.exponential.proofs.Call.{full, none, refused-law}
 use Rattle.exponential.proofs.Classes.{ranged-of}
 use Rattle.exponential.proofs.Stays.{next-ok, reads}
-use Rattle.exponential.proofs.Lists.{accepted-is, total-one}
+use Rattle.exponential.proofs.Lists.{accepted-is, total-one, summary}
 use Rattle.kinds.specs.Histograms.{passes, histograms}
 use Rattle.exponential_slots.specs.Cells.{Cells, wordsOf}
 use Rattle.exponential_slots.specs.Meaning.{settings, countsAt, summaryIn, seriesAt}
 use Rattle.exponential_slots.proofs.Cases.{into}
 use Rattle.exponential_slots.proofs.Agreeing.{shaped-of, counts-in}
+use Rattle.laws.specs.Counting.{mostCount}
 
 -- what a caller of `record` has tested: the settings, the stores and the value
 pub record Fit (size top x : ℕ) (s : Cells) (v : Float) : Type 0 where

@@ -12,8 +12,9 @@ use Rattle.parts.specs.Parts.{partAt, putAt}
 use Rattle.parts.specs.Recording.{Recording, after}
 use Rattle.exponential.specs.declared.Counts.{Counts}
 use Rattle.exponential.specs.declared.Head.{Head}
-use Rattle.exponential.specs.Series.{mostCount, recording}
+use Rattle.exponential.specs.Series.{recording}
 use Rattle.exponential.specs.Runs.{freshHead}
+use Rattle.laws.specs.Counting.{mostCount}
 
 -- The kind's stores. A slot has eight words in `figures` (count, zero count, level, start and length of the positive and of the negative
 -- row, and a spare word, written 0), three f64 in `extremes` (minimum, maximum, sum), and max_size counts in `pos` and in `neg`.

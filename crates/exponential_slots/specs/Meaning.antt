@@ -12,8 +12,9 @@ use Rattle.floats.specs.Starts.{zeroFloat}
 use Rattle.points.specs.Points.{Row}
 use Rattle.points.specs.Values.{Summary}
 use Rattle.points.specs.Figures.{exponential, Settings, Counts, exponentialCounts, Figures}
-use Rattle.exponential.specs.Series.{mostCount, read}
+use Rattle.exponential.specs.Series.{read}
 use Rattle.exponential_slots.specs.Cells.{Cells, countsIn}
+use Rattle.laws.specs.Counting.{mostCount}
 
 -- The settings of the kind. The zero threshold is 0.0 (docs/DECISIONS.md: a point holds none).
 abbrev pub settings : ℕ → ℕ → Bool → Bool → Settings

@@ -7,7 +7,8 @@ use lib.IntN.{ℤ, pos, negsuc, natAbs, _+ℤ_}
 use lib.Signed.{ltZ, leZ}
 use Rattle.laws.specs.Pick.{pick}
 use Rattle.index.specs.Bins.{finest, endBin, scaleOf, indexOf}
-use Rattle.index.specs.Signed.{levelAnswer, scaleAnswer, indexAnswer, binAnswer}
+use Rattle.index.specs.Signed.{levelAnswer, scaleAnswer, indexAnswer}
+use Rattle.index.specs.Inner.{binAnswer}
 use Rattle.index.specs.declared.signed.Natural.the-variants as N
 use Rattle.index.specs.declared.signed.Integer.the-variants as I
 

@@ -14,7 +14,8 @@ use Rattle.index.specs.Magnitude.{magnitude, isNegative}
 use Rattle.index.specs.DataModel.{IsIndex}
 use Rattle.index.specs.Bins.{finest, binAt, indexOf, scaleOf}
 use Rattle.index.specs.Answers.{binOf}
-use Rattle.index.specs.Signed.{levelAnswer, atLevel, valueIndex, binIndex, signedAt}
+use Rattle.index.specs.Signed.{levelAnswer, atLevel, valueIndex}
+use Rattle.index.specs.Inner.{binIndex, signedAt}
 use Rattle.index.specs.declared.signed.Natural.{Natural}
 use Rattle.index.specs.declared.signed.Natural.the-variants as N
 use Rattle.index.specs.declared.signed.Index.the-variants as X

@@ -19,10 +19,3 @@ binOf x level =
     (At (isNegative x) (binAt level (magnitude x))))
     NotFinite)
     NoLevel
-
--- the bin alone, 0 where there is none
-abbrev pub binOrZero : Bin → ℕ
-binOrZero NoLevel = 0
-binOrZero NotFinite = 0
-binOrZero Zero = 0
-binOrZero (At negative bin) = bin

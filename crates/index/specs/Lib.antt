@@ -6,3 +6,4 @@ pub mod Answers
 pub mod Signed
 pub mod Ranked
 pub mod Pieces
+pub mod Inner

@@ -1,16 +1,13 @@
 -- What the calls between scales and levels, indices and bins answer. Assumes nothing.
-use mathlib.Core.Bool.{Bool}
-use Prim.Native.Nat.{ℕ, _+_, _^_}
+use Prim.Native.Nat.{ℕ}
 use lib.Dec.{leb, ltb, eqb}
 use lib.IntN.{ℤ, pos, negsuc, natAbs, _+ℤ_}
-use lib.Signed.{leZ, ltZ}
+use lib.Signed.{ltZ}
 use lib.Ieee.{Float}
 use lib.Ieee.Scale.{finite}
 use Rattle.laws.specs.Pick.{pick}
 use Rattle.index.specs.Magnitude.{magnitude, isNegative}
 use Rattle.index.specs.Bins.{finest, binAt, endBin, scaleOf, indexOf}
-use Rattle.index.specs.declared.Bin.{Bin}
-use Rattle.index.specs.declared.Bin.the-variants as B
 use Rattle.index.specs.declared.signed.Natural.{Natural}
 use Rattle.index.specs.declared.signed.Natural.the-variants as N
 use Rattle.index.specs.declared.signed.Integer.{Integer}
@@ -29,15 +26,6 @@ scaleAnswer level = pick (leb level finest) (I.Is (scaleOf level)) I.OutOfRange
 unfoldable pub indexAnswer : ℕ → ℕ → Integer
 indexAnswer level bin = pick (leb level finest) (pick (ltb bin (endBin level)) (I.Is (indexOf level bin)) I.OutOfRange) I.OutOfRange
 
--- the bin of an index from -2 ^ (level + 1) up to 2 ^ level is the index + 2 ^ (level + 1)
-unfoldable pub binAnswer : ℕ → ℤ → Natural
-binAnswer level index =
-    pick (leb level finest)
-    (pick (leZ (pos (2 ^ level)) index)
-    N.OutOfRange
-    (pick (ltZ (index +ℤ pos (2 ^ (level + 1))) (pos 0)) N.OutOfRange (N.Is (natAbs (index +ℤ pos (2 ^ (level + 1)))))))
-    N.OutOfRange
-
 -- the index of x at a scale: that of its bin at the scale's level
 abbrev pub atLevel : Float → Natural → Index
 atLevel x N.OutOfRange = X.NoScale
@@ -46,14 +34,3 @@ atLevel x (N.Is level) =
 
 unfoldable pub valueIndex : Float → ℤ → Index
 valueIndex x scale = atLevel x (levelAnswer scale)
-
--- a bin's answer with the index in place of the bin
-abbrev pub signedAt : Bool → Integer → Index
-signedAt negative I.OutOfRange = X.NoScale
-signedAt negative (I.Is index) = X.At negative index
-
-abbrev pub binIndex : ℕ → Bin → Index
-binIndex level B.NoLevel = X.NoScale
-binIndex level B.NotFinite = X.NotFinite
-binIndex level B.Zero = X.Zero
-binIndex level (B.At negative bin) = signedAt negative (indexAnswer level bin)

@@ -6,7 +6,8 @@ pub mod signed;
 
 ghost use mathlib.Core.Path.{_≡_};
 ghost use Prim.Native.Nat.{_+_, _*_, _^_, _≤_, _<_};
-ghost use Rattle.index.specs.Answers.{binOf, binOrZero};
+ghost use Rattle.index.specs.Answers.{binOf};
+ghost use Rattle.index.specs.Inner.{binOrZero};
 ghost use Rattle.index.specs.Bins.{finest, finestBin, binAt, lowestBin, endBin};
 ghost use Rattle.index.specs.Frexp.{PartsOf};
 

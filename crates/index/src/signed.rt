@@ -1,6 +1,7 @@
 // Scales and signed bucket indices, as callers and points hold them, beside levels and bins.
 ghost use mathlib.Core.Path.{_≡_};
-ghost use Rattle.index.specs.Signed.{levelAnswer, scaleAnswer, indexAnswer, binAnswer, valueIndex, binIndex, signedAt};
+ghost use Rattle.index.specs.Signed.{levelAnswer, scaleAnswer, indexAnswer, valueIndex};
+ghost use Rattle.index.specs.Inner.{binAnswer, binIndex, signedAt};
 
 // A whole number, or none where what was asked for is out of range.
 pub enum Natural {

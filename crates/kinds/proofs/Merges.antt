@@ -19,9 +19,18 @@ use Rattle.points.proofs.Figures.{count-is}
 use Rattle.points.proofs.Stands.{handed-stands, stands-order, stands-merge, stands-agrees, stands-mergeable}
 use Rattle.tally.specs.Kind.{Room}
 use Rattle.tally.specs.Demand.{fitting}
+use Rattle.tally.proofs.Faithful.{Merging}
 use Rattle.tally.proofs.Lawful.{Mergeable}
-use Rattle.kinds.specs.Histograms.{passes, histograms, bothExplicit, unmergeable, merging}
+use Rattle.kinds.specs.Histograms.{passes, histograms, bothExplicit, unmergeable, merged}
 use Rattle.kinds.proofs.Recorded.{all-f64, sound-kind}
+
+abbrev pub merging : Merging histograms
+merging =
+    record {
+      Within = λ vs. Unit;
+      Stands = λ z p vs. (passes (z .kind) ≡ true) × Stands z p vs;
+      merge = λ z. merged (sizeOf (z .kind));
+    }
 
 -- ---- no refusal but 10
 sized : (k : Kind) (t : Float) (vs ws : List Float) → passes k ≡ true → (bothExplicit (kindCounts k t vs) (kindCounts k t ws) || sizePasses (sizeOf k)) ≡ true

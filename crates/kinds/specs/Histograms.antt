@@ -1,6 +1,5 @@
 -- The two histogram kinds of document 01 as one kind of series, and the merging of their points. Assumes nothing.
 use Prim.Native.Nat.{ℕ, _+_, _^_}
-use mathlib.Core.Path.{_≡_}
 use mathlib.Core.Bool.{Bool, true, false, _&&_, _||_}
 use mathlib.Core.List.{[], _∷_}
 use mathlib.Core.Logic.{_⊎_, inl}
@@ -12,12 +11,11 @@ use lib.Ieee.Scale.{finite}
 use Rattle.index.specs.Bins.{finest, lowestBin}
 use Rattle.points.specs.Agreement.{agrees}
 use Rattle.points.specs.Explicit.{boundsPass, bucketsAgree}
-use Rattle.points.specs.Figures.{Kind, exponential, explicit, sizePasses, sizeOf, Settings, Counts, exponentialCounts, explicitCounts, Figures, figuresOf, recordFigures}
+use Rattle.points.specs.Figures.{Kind, exponential, explicit, sizePasses, Settings, Counts, exponentialCounts, explicitCounts, Figures, figuresOf, recordFigures}
 use Rattle.points.specs.Handed.{Handed, handedOut, handed, mergeable, mergeHanded, handedAgrees, countOf}
-use Rattle.points.specs.Stands.{Stands}
 use Rattle.tally.specs.Kind.{unless, firstOf, Room}
 use Rattle.tally.specs.Kind as Tally
-use Rattle.tally.specs.Demand.{Merging, fitting}
+use Rattle.tally.specs.Demand.{fitting}
 
 -- what configuring accepts: 1; "2: max_scale outside -10 to 10", the level being the scale + 10; 3
 abbrev pub passes : Kind → Bool
@@ -81,11 +79,3 @@ unmergeable size p q =
 
 abbrev pub merged : ℕ → Handed → Handed → Room → ℕ ⊎ Handed
 merged size p q room = elim (unmergeable size p q) [ none ↦ fitting histograms (mergeHanded size p q) room | some n ↦ inl n ]
-
-abbrev pub merging : Merging histograms
-merging =
-    record {
-      Within = λ vs. Unit;
-      Stands = λ z p vs. (passes (z .kind) ≡ true) × Stands z p vs;
-      merge = λ z. merged (sizeOf (z .kind));
-    }

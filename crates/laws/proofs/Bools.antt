@@ -5,6 +5,11 @@ use mathlib.Core.Logic.{_⊎_, inl, inr}
 use mathlib.Core.Bool.{Bool, true, false}
 use native.Mathlib.Omega.{arith}
 use Rattle.laws.specs.Pick.{pick, _and_}
+use mathlib.Core.Option.{Option, none, some}
+
+abbrev pub some? {ℓ} : {A : Type ℓ} → Option A → Bool
+some? none = false
+some? (some a) = true
 
 pub flag : (b : Bool) → (b ≡ true) ⊎ (b ≡ false)
 flag true = inl refl

@@ -4,7 +4,7 @@ use mathlib.Core.Path.{_≡_, refl, ap, sym}
 use mathlib.Core.Bool.{Bool, true, false, _&&_}
 use mathlib.Core.Option.{none, some}
 use native.Mathlib.Omega.{arith}
-use Rattle.laws.specs.Tests.{some?}
+use Rattle.laws.proofs.Bools.{some?}
 
 pub true-not-false : {A : Type 0} → true ≡ false → A
 true-not-false e = let z : _≡_ {A = ℕ} 0 1 = cc in absurd (omega arith)

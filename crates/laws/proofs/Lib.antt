@@ -11,3 +11,4 @@ pub mod Search
 pub mod Every
 pub mod Powers
 pub mod Differences
+pub mod NoneOf

@@ -4,8 +4,12 @@ use mathlib.Core.Path.{_≡_, refl, ap, subst}
 use mathlib.Core.List.{List, [], _∷_, _++_, foldr, List·Permᴰ, List·Permᴰ·nil, List·Permᴰ·cons, List·Permᴰ·swap, List·Permᴰ·trans}
 use mathlib.Core.Option.{Option, none, some}
 use Rattle.laws.specs.Lists.{All}
-use Rattle.laws.specs.Trees.{Tree, leaf, node, leaves, folded}
+use Rattle.laws.specs.Trees.{Tree, leaf, node, leaves}
 use Rattle.laws.proofs.Lists.{all-left, all-right, all-perm}
+
+abbrev pub folded : {A : Type 0} → (A → A → A) → Tree A → A
+folded op (leaf a) = a
+folded op (node s t) = op (folded op s) (folded op t)
 
 -- what is asked: of the elements with P, which the operation keeps, up to R
 pub record Commutes {A : Type 0} (op : A → A → A) (P : A → Type 0) (R : A → A → Type 0) : Type 0 where

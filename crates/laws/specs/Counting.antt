@@ -1,8 +1,12 @@
--- Lists of numbers: sums, counts, the least and the greatest, tables. Assumes nothing.
+-- Counts and lists of numbers: sums, the least and the greatest, tables. Assumes nothing.
 use Prim.Native.Nat.{ℕ, zero, suc, _+_, min, max}
 use mathlib.Core.List.{List, [], _∷_}
 use lib.Dec.{eqb}
 use Rattle.laws.specs.Pick.{pick}
+
+-- the greatest u64: "9: a count, binding count or birth number would pass 2^64 - 1"
+abbrev pub mostCount : ℕ
+mostCount = 18446744073709551615
 
 -- the sum of w over the list
 abbrev pub sum : (ℕ → ℕ) → List ℕ → ℕ

@@ -1,16 +1,9 @@
+-- BETWEEN OUR OWN CRATES: serves inner contracts and proofs; nobody needs it to believe the public calls or the theorems.
 -- What the default arm of a match on a number knows. Assumes nothing.
 use mathlib.Core.Path.{_≡_}
-use Prim.Native.Nat.{ℕ, zero, suc, _≤_}
-use native.Mathlib.Omega.{arith}
+use Prim.Native.Nat.{ℕ, zero, suc}
 
 -- k is none of 0, 1, .., n - 1
 abbrev pub NoneOf : ℕ → ℕ → Type 0
 NoneOf k zero = Unit
 NoneOf k (suc n) = NoneOf k n × (k ≡ n → ⊥)
-
-pub past : (n k : ℕ) → NoneOf k n → n ≤ k
-past zero k h = omega arith
-past (suc n) k h = step n k (past n k (h .0)) (h .1)
-  where
-    step : (n k : ℕ) → n ≤ k → (k ≡ n → ⊥) → suc n ≤ k
-    step n k h d = omega (arith, h, d)

@@ -8,7 +8,3 @@ pub data Tree (A : Type 0) : Type 0 where
 abbrev pub leaves : {A : Type 0} → Tree A → List A
 leaves (leaf a) = a ∷ []
 leaves (node s t) = leaves s ++ leaves t
-
-abbrev pub folded : {A : Type 0} → (A → A → A) → Tree A → A
-folded op (leaf a) = a
-folded op (node s t) = op (folded op s) (folded op t)

@@ -14,7 +14,8 @@ use Rattle.laws.proofs.Bools.{pick-true, pick-false, and-left, and-right, and-i
 use Rattle.point.specs.declared.Point.{Point}
 use Rattle.point.specs.declared.Figures.{Figures}
 use Rattle.listing.specs.Words.{wordsOf, pointIn, boundsIn, isPoint}
-use Rattle.listing.specs.Listed.{Output, posLen, negLen, behind, itemOf, overAt, putAt, Room, left, within, entryIn, pointAt}
+use Rattle.listing.specs.Listed.{Output, posLen, negLen, behind, itemOf, overAt, putAt, within, entryIn, pointAt}
+use Rattle.listing.specs.Inner.{Room, left}
 use Rattle.listing.specs.declared.Cursor.{Cursor}
 use Rattle.listing.specs.declared.Found.the-variants.{NoPoint, Is}
 use Rattle.listing.specs.declared.Span.{Span}

@@ -1,6 +1,6 @@
 -- A list of points in lent output: sets' rows, points' words, and their counts packed one after another in two stores. Assumes nothing.
 -- docs/LIST.md tells it in words: one form for collections, merges and sheets.
-use Prim.Native.Nat.{ℕ, zero, suc, _+_, _-_, _^_, _≤_, _<_}
+use Prim.Native.Nat.{ℕ, zero, suc, _+_, _-_}
 use mathlib.Core.Bool.{Bool, true, false}
 use mathlib.Core.List.{List, [], _++_}
 use lib.Dec.{leb}
@@ -48,10 +48,6 @@ negLen (Explicit n) = 0
 abbrev pub behind : Cursor → Figures → Span → Cursor
 behind at f b = record { place = at .place + 1; pos = at .pos + posLen f b; neg = at .neg + negLen f }
 
--- the output goes on behind a point
-abbrev pub Goes : Cursor → Figures → Span → Type 0
-Goes at f b = (at .place + 1 < 2 ^ 64) × (at .pos + posLen f b < 2 ^ 64) × (at .neg + negLen f < 2 ^ 64)
-
 -- ---- what is listed
 
 -- a set's row, its point, where the point's bounds lie, its counts
@@ -81,23 +77,6 @@ putAt at i o =
       pos = overAt (at .pos) (i .pos) (o .pos);
       neg = overAt (at .neg) (i .neg) (o .neg);
     }
-
--- there is room for it, and the counts that it says are lent
-pub record Room (at : Cursor) (f : Figures) (b : Span) (xs ys : List ℕ) (o : Output) : Type 0 where
-  pub sets : at .place < length (o .sets)
-  pub words : at .place < length (o .words)
-  pub pos : at .pos + posLen f b ≤ length (o .pos)
-  pub neg : at .neg + negLen f ≤ length (o .neg)
-  pub lent : posLen f b ≤ length xs
-  pub lentNeg : negLen f ≤ length ys
-
--- the next cursor, and the output afterwards
-pub record Put : Type 0 where
-  pub next : Cursor
-  pub output : Output
-
-abbrev pub left : Cursor → Output → Put
-left c o = record { next = c; output = o }
 
 -- ---- the point at a cursor
 

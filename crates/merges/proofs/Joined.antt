@@ -17,17 +17,42 @@ use Rattle.laws.proofs.Bools.{and-left, and-right, and-intro}
 use Rattle.laws.proofs.Same.{sum-append}
 use Rattle.laws.proofs.Counting.{ends-of, ends-append, length-table}
 use Rattle.laws.proofs.Search.{least-spec, least-is}
-use Rattle.points.specs.Points.{Row, at, rowOf, row, indices, fits, fitsBoth, scale, Bag, _⊕_, bag, Point, pointAt, build, merge}
-use Rattle.points.proofs.Rows.{Canonical, at-rowOf}
+use Rattle.points.specs.Points.{Row, rowOf, row, indices, fits, fitsBoth, scale, Bag, _⊕_, bag, Point, pointAt, build, merge}
+use Rattle.points.proofs.Rows.{Canonical, at-rowOf, at}
 use Rattle.points.proofs.Agreement.{Agreed, row-indices}
 use Rattle.points.proofs.Kept.{InRange, range-coarser, row-ok, BagIn, ⊕-in, bag-in}
 use Rattle.rows.specs.Rows.{addAt, addAll, downscaled}
 use Rattle.rows.proofs.Laws.{length-addAt-in, length-addAt-out}
 use Rattle.rows.proofs.Algebra.{countAt, length-downscaled-is, le-or-lt}
 use Rattle.exponential.specs.Steps.{lowered, narrow, lowering}
-use Rattle.merges.specs.Merges.{joined, span, mergedLow, mergedSteps}
+use Rattle.merges.specs.Merges.{joined}
 use Rattle.exponential.proofs.Counted.{row-by-ends, at-is, countAt-addAt, countAt-zeros, length-replicate}
 use Rattle.exponential.proofs.Joint.{row-lower, fits-on}
+
+-- the lowering at which a row is at most size counts
+abbrev pub span : ℕ → Row → ℕ
+span size r = lowering size (r .start) (r .start + pred (length (r .counts)))
+
+-- both points' rows of a sign at the level d steps below the finest, joined
+abbrev pub levelled : ℕ → Point → Row → Point → Row → Row
+levelled d p r q t = joined (lowered (d - p .d) r) (lowered (d - q .d) t)
+
+-- the coarser's level, and how much lower either sign's row then needs it
+unfoldable pub mergedLow : ℕ → Point → Point → ℕ
+mergedLow size p q =
+    let d = max (p .d) (q .d) in
+    max (span size (levelled d p (p .pos) q (q .pos))) (span size (levelled d p (p .neg) q (q .neg)))
+
+unfoldable pub mergedSteps : ℕ → Point → Point → Point
+mergedSteps size p q =
+    let e = max (p .d) (q .d) + mergedLow size p q in
+    record {
+      d = e;
+      pos = levelled e p (p .pos) q (q .pos);
+      neg = levelled e p (p .neg) q (q .neg);
+      zeros = p .zeros + q .zeros;
+      total = p .total + q .total;
+    }
 
 -- ---- counts added by bin
 

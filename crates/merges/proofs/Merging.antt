@@ -15,11 +15,13 @@ use Rattle.rows.specs.declared.Row.{Row}
 use Rattle.rows.proofs.Algebra.{le-or-lt}
 use Rattle.exponential.specs.declared.Counts.{Counts}
 use Rattle.exponential.specs.Steps.{lowered}
-use Rattle.exponential.specs.Series.{lowestOfAll, rowIn, Laid, Written, read}
+use Rattle.exponential.specs.Series.{lowestOfAll, rowIn, read}
+use Rattle.exponential.specs.Inner.{Laid, Written}
 use Rattle.exponential.proofs.Facts.{Agreed, agreed, pos-facts, neg-facts, level-in}
 use Rattle.exponential.proofs.Write.{level-pow}
 use Rattle.exponential.proofs.Rowed.{range}
-use Rattle.merges.specs.Merges.{joined, levelled, span, joinedLen, common, spanOf, rowsLow, planOf, mergedLow, mergedSteps, Lendable, Agreeing, mergedPoint, Roomy}
+use Rattle.merges.specs.Merges.{joined, joinedLen, common, spanOf, rowsLow, planOf, Lendable, Agreeing, mergedPoint, Roomy}
+use Rattle.merges.proofs.Joined.{levelled, span, mergedLow, mergedSteps}
 use Rattle.merges.specs.declared.Plan.{Plan}
 use Rattle.merges.proofs.Joined as J
 use Rattle.merges.proofs.Spans.{span-is, len-is}

@@ -17,8 +17,8 @@ use Rattle.rows.proofs.Algebra.{le-or-lt, length-downscaled-is, downscaled-some
 use Rattle.exponential.specs.Steps.{lowered, lowering}
 use Rattle.exponential.specs.Series.{rowIn}
 use Rattle.exponential.proofs.Counted.{length-replicate}
-use Rattle.merges.specs.Merges.{joined, span, lowEnd, highEnd, joinedLen}
-use Rattle.merges.proofs.Joined.{length-addAll}
+use Rattle.merges.specs.Merges.{joined, lowEnd, highEnd, joinedLen}
+use Rattle.merges.proofs.Joined.{length-addAll, span}
 use Rattle.merges.proofs.Wide.{join-none, join-first, join-both}
 
 -- the last bin of a row

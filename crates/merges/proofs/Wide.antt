@@ -11,7 +11,7 @@ use Rattle.rows.specs.Rows.{over, addAt, addAll, shifted, zeroed, downscaled}
 use Rattle.laws.specs.Counting.{total}
 use Rattle.rows.specs.declared.Row.{Row}
 use Rattle.rows.proofs.Laws.{take-over, over-over, length-over}
-use Rattle.exponential.specs.Series.{Laid}
+use Rattle.exponential.specs.Inner.{Laid}
 use Rattle.laws.specs.Pick.{pick}
 use Rattle.merges.specs.Merges.{joined, addLow}
 use Rattle.rows.proofs.Algebra.{length-downscaled-is, downscaled-some}

@@ -1,3 +1,4 @@
+-- BETWEEN OUR OWN CRATES: serves inner contracts and proofs; nobody needs it to believe the public calls or the theorems.
 -- Two points merged, step by step, as code does it in lent rows. Assumes nothing.
 use Prim.Native.Nat.{ℕ, suc, _+_, _-_, _/_, _^_, _≤_, _<_, min, max, pred}
 use mathlib.Core.Path.{_≡_}
@@ -23,31 +24,6 @@ joined a b =
     pick (eqb (length (b .counts)) 0) a
     (pick (eqb (length (a .counts)) 0) b
     (record { start = min (a .start) (b .start); counts = addAll (b .start - a .start) (b .counts) (replicate (a .start - b .start) 0 ++ a .counts) }))
-
--- the lowering at which a row is at most size counts
-abbrev pub span : ℕ → Row → ℕ
-span size r = lowering size (r .start) (r .start + pred (length (r .counts)))
-
--- both points' rows of a sign at the level d steps below the finest, joined
-abbrev pub levelled : ℕ → Point → Row → Point → Row → Row
-levelled d p r q t = joined (lowered (d - p .d) r) (lowered (d - q .d) t)
-
--- the coarser's level, and how much lower either sign's row then needs it
-unfoldable pub mergedLow : ℕ → Point → Point → ℕ
-mergedLow size p q =
-    let d = max (p .d) (q .d) in
-    max (span size (levelled d p (p .pos) q (q .pos))) (span size (levelled d p (p .neg) q (q .neg)))
-
-unfoldable pub mergedSteps : ℕ → Point → Point → Point
-mergedSteps size p q =
-    let e = max (p .d) (q .d) + mergedLow size p q in
-    record {
-      d = e;
-      pos = levelled e p (p .pos) q (q .pos);
-      neg = levelled e p (p .neg) q (q .neg);
-      zeros = p .zeros + q .zeros;
-      total = p .total + q .total;
-    }
 
 -- the ends of two rows joined, of n counts from bin s on, j levels lower, and of m counts from bin t on, k levels lower
 unfoldable pub lowEnd : C.Row → ℕ → C.Row → ℕ → ℕ

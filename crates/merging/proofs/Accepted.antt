@@ -22,7 +22,6 @@ use Rattle.points.specs.Same.{Shape, Of, resized}
 use Rattle.points.proofs.Agreement.{agrees-says}
 use Rattle.points.proofs.Explicit.{buckets-say, same-bounds}
 use Rattle.points.proofs.Grouping.{handed-commutes}
-use Rattle.explicit.specs.Series.{mostCount}
 use Rattle.kinds.proofs.Steady.{merged-agrees}
 use Rattle.point.specs.declared.Figures.{Figures}
 use Rattle.point.specs.declared.Figures.the-variants.{Exponential, Explicit}
@@ -32,6 +31,7 @@ use Rattle.point.proofs.Means.{sizeFor, agreesRead, agrees-is, agrees-whole, si
 use Rattle.point.proofs.Answers.{hasRoom, answers}
 use Rattle.merging.specs.Merged.{Good, mergedStored}
 use Rattle.merging.proofs.Tied.{size-is}
+use Rattle.laws.specs.Counting.{mostCount}
 
 abbrev pub low : ℕ
 low = lowestBin finest

@@ -9,7 +9,8 @@ use lib.Dec.{eqb}
 use Rattle.laws.specs.Pick.{pick, _and_}
 use Rattle.laws.specs.Said.{success}
 use Rattle.laws.specs.Lists.{All}
-use Rattle.laws.specs.Trees.{Tree, leaf, node, leaves, folded}
+use Rattle.laws.specs.Trees.{Tree, leaf, node, leaves}
+use Rattle.laws.proofs.Trees.{folded}
 use Rattle.laws.proofs.Lists.{map-perm}
 use Rattle.points.specs.Figures.{Settings}
 use Rattle.points.specs.Handed.{Handed, mergeCounts, mergeHanded}

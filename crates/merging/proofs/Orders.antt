@@ -9,12 +9,12 @@ use Rattle.laws.specs.Trees.{Tree, leaf, node, leaves}
 use Rattle.laws.proofs.Lists.{all-left, all-right, all-map, all-perm, foldr-perm}
 use Rattle.points.specs.Figures.{Settings}
 use Rattle.points.specs.Same.{Of, Same, resized}
-use Rattle.explicit.specs.Series.{mostCount}
 use Rattle.point.specs.Handing.{Stored, handedIn}
 use Rattle.point.specs.Lists.{counted, Long}
 use Rattle.merging.specs.Merged.{Good, allCounted, Groups}
 use Rattle.merging.proofs.Groups.{any-grouping}
 use Rattle.merging.proofs.Accepted.{merges}
+use Rattle.laws.specs.Counting.{mostCount}
 
 counted-append : (xs ys : List Stored) → allCounted (xs ++ ys) ≡ allCounted xs + allCounted ys
 counted-append [] ys = omega arith

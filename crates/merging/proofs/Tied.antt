@@ -15,7 +15,6 @@ use Rattle.points.specs.Figures.{exponentialCounts, explicitCounts}
 use Rattle.points.specs.Handed.{Handed, mergeable, mergeCounts, mergeHanded, countOf}
 use Rattle.rows.proofs.Algebra.{le-or-lt}
 use Rattle.exponential.specs.Series.{sizePasses}
-use Rattle.explicit.specs.Series.{mostCount}
 use Rattle.tally.specs.Kind.{unless, firstOf}
 use Rattle.kinds.specs.Histograms.{posPlaces, negPlaces, bothExplicit, merged}
 use Rattle.point.specs.Handing.{Stored, handedIn, posOf, negOf}
@@ -24,6 +23,7 @@ use Rattle.point.proofs.Means.{agreesRead, sizeAsked, refusalRead}
 use Rattle.point.proofs.Answers.{hasRoom}
 use Rattle.point.proofs.Told.{toldRead, told-is}
 use Rattle.merging.specs.Merged.{mergedStored, roomOf}
+use Rattle.laws.specs.Counting.{mostCount}
 
 and-is : (a b : Bool) → a and b ≡ (a && b)
 unfolding _and_

@@ -28,7 +28,7 @@ use Rattle.exponential.specs.declared.Counts.{Counts}
 use Rattle.exponential.specs.Series.{lowestOfAll, read}
 use Rattle.exponential.proofs.Facts as Facts
 use Rattle.exponential.proofs.Stays.{read-point}
-use Rattle.explicit.specs.Series.{mostCount, bucketsIn}
+use Rattle.explicit.specs.Series.{bucketsIn}
 use Rattle.point.specs.declared.Figures.{Figures}
 use Rattle.point.specs.declared.Figures.the-variants.{Exponential, Explicit}
 use Rattle.point.specs.declared.Made.the-variants.{Of, NoRoom}
@@ -37,6 +37,7 @@ use Rattle.point.specs.Lists.{figuresShaped, inShape, counted, Configure
 use Rattle.point.proofs.Laid.{same-count}
 use Rattle.point.proofs.Calls as calls
 use Rattle.point.proofs.Means.{agreesRead, sizeAsked, refusalRead, count-is, refusal-is}
+use Rattle.laws.specs.Counting.{mostCount}
 
 -- "10: room judged by the result's length"
 abbrev pub hasRoom : F.Counts → List ℕ → List ℕ → Bool

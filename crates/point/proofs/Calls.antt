@@ -15,12 +15,15 @@ use Rattle.points.specs.Handed.{extremesAgree, mergeCounts}
 use Rattle.points.proofs.Explicit.{buckets-say}
 use Rattle.exponential.specs.declared.Counts.{Counts}
 use Rattle.merges.specs.Merges.{Agreeing, mergedPoint}
-use Rattle.explicit.specs.Series.{mostCount, bucketsIn, Addable}
+use Rattle.explicit.specs.Series.{bucketsIn}
+use Rattle.explicit.specs.Inner.{Addable}
 use Rattle.point.specs.declared.Point.{Point}
 use Rattle.point.specs.declared.Figures.the-variants.{Exponential, Explicit}
 use Rattle.point.specs.declared.Made.{Made}
-use Rattle.point.specs.Handing.{Stored, countsAs, countsIn, sizeFits, countIn, sameFigures, figuresAgree, pointAgrees, refusalBefore, madeOver, laidOver, madeOne, laidOne, finished, ended, concluded, merging}
+use Rattle.point.specs.Handing.{Stored, countsAs, countsIn, sizeFits, countIn, sameFigures, figuresAgree, pointAgrees, refusalBefore, madeOver, laidOver, finished, ended, concluded, merging}
+use Rattle.point.specs.Inner.{madeOne, laidOne}
 use Rattle.point.proofs.Laid.{addable, over-one}
+use Rattle.laws.specs.Counting.{mostCount}
 
 -- the tests in their order
 abbrev chain : Bool → Bool → Bool → Bool → Bool → Bool → ℕ

@@ -20,11 +20,13 @@ use Rattle.points.specs.Explicit.{sameBounds, bucketCount, added, mergeBuckets}
 use Rattle.points.specs.Figures.{exponentialCounts, explicitCounts}
 use Rattle.points.proofs.Explicit.{BucketsOk, length-added}
 use Rattle.exponential.specs.declared.Counts.{Counts}
-use Rattle.exponential.specs.Series.{Written}
-use Rattle.explicit.specs.Series.{bucketsIn, Addable}
+use Rattle.exponential.specs.Inner.{Written}
+use Rattle.explicit.specs.Series.{bucketsIn}
+use Rattle.explicit.specs.Inner.{Addable}
 use Rattle.point.specs.declared.Figures.the-variants.{Exponential, Explicit}
 use Rattle.point.specs.declared.Made.the-variants.{Of, NoRoom}
-use Rattle.point.specs.Handing.{madeOver, laidOver, madeOne, laidOne}
+use Rattle.point.specs.Handing.{madeOver, laidOver}
+use Rattle.point.specs.Inner.{madeOne, laidOne}
 
 -- ---- the exponential kind
 

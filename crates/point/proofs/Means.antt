@@ -13,19 +13,20 @@ use Rattle.points.specs.Figures.{Kind, exponentialCounts, explicitCounts, figur
 use Rattle.points.specs.Handed.{Handed, handedOut, handed, sameKind, mergeable, extremesAgree, countsAgree, handedAgrees, countOf}
 use Rattle.exponential.specs.declared.Head as SH
 use Rattle.exponential.specs.Series.{sizePasses, read, agrees}
-use Rattle.exponential.specs.Runs as SR
+use Rattle.exponential.proofs.Lists as SRInnerLists
 use Rattle.explicit.specs.declared.Head as BH
 use Rattle.explicit.specs.Series as B
-use Rattle.explicit.specs.Series.{mostCount, bucketsIn}
+use Rattle.explicit.specs.Series.{bucketsIn}
 use Rattle.point.specs.declared.Figures.{Figures}
 use Rattle.point.specs.declared.Figures.the-variants.{Exponential, Explicit}
 use Rattle.point.specs.Handing.{Stored, storedIn, countsAs, countsIn, handedIn, exponentialPoint, explicitPoint, figuresAgree, pointAgrees, countIn, sameFigures, sizeFits, refusalBefore}
 use Rattle.point.specs.Lists.{figuresShaped, inShape, counted, settingsOf}
+use Rattle.laws.specs.Counting.{mostCount}
 
 -- ---- WHAT A SERIES HANDS OUT, by its two switches; the zero threshold is 0.0
 -- what a head and its rows hold
 abbrev pub exponentialIn : SH.Head → List ℕ → List ℕ → F.Figures
-exponentialIn h xs ys = record { counts = exponentialCounts (read (h .counts) xs ys); summary = SR.summary h }
+exponentialIn h xs ys = record { counts = exponentialCounts (read (h .counts) xs ys); summary = SRInnerLists.summary h }
 
 abbrev pub explicitIn : List Float → BH.Head → List ℕ → F.Figures
 explicitIn bs h xs = record { counts = explicitCounts bs (bucketsIn bs (h .count) xs); summary = B.summary h }

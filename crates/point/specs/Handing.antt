@@ -3,7 +3,7 @@ use Prim.Native.Nat.{ℕ, _+_}
 use mathlib.Core.Bool.{Bool, true, false, Bool·beq}
 use mathlib.Core.List.{List, []}
 use lib.Dec.{leb, eqb}
-use lib.ListN.{length, take}
+use lib.ListN.{length}
 use lib.Ieee.{Float, binary64, add}
 use denote.Ref.{RefT, now}
 use Rattle.laws.specs.Pick.{pick, _and_}
@@ -11,7 +11,7 @@ use Rattle.laws.specs.Said.{Said, refusal, success}
 use Rattle.index.specs.Bins.{finest}
 use Rattle.floats.specs.Answers.{shownOf, smallerOf, largerOf}
 use Rattle.floats.specs.Starts.{zeroFloat}
-use Rattle.points.specs.Explicit.{sameBounds, bucketsAgree, added}
+use Rattle.points.specs.Explicit.{sameBounds, bucketsAgree}
 use Rattle.points.specs.Figures as F
 use Rattle.points.specs.Figures.{exponentialCounts, explicitCounts}
 use Rattle.points.specs.Handed.{Handed, extremesAgree, mergeCounts}
@@ -19,7 +19,7 @@ use Rattle.rows.specs.Rows.{over}
 use Rattle.exponential.specs.declared.Head as SH
 use Rattle.exponential.specs.Series.{sizePasses, read, countsFor, agrees}
 use Rattle.explicit.specs.declared.Head as BH
-use Rattle.explicit.specs.Series.{mostCount, bucketsIn}
+use Rattle.explicit.specs.Series.{bucketsIn}
 use Rattle.point.specs.declared.Point.{Point}
 use Rattle.point.specs.declared.Figures.{Figures}
 use Rattle.point.specs.declared.Figures.the-variants.{Exponential, Explicit}
@@ -27,6 +27,7 @@ use Rattle.point.specs.declared.Made.{Made}
 use Rattle.point.specs.declared.Made.the-variants.{Of, NoRoom}
 use Rattle.point.specs.declared.Answer.{Answer}
 use Rattle.point.specs.declared.Answer.the-variants.{Merged, Refused}
+use Rattle.laws.specs.Counting.{mostCount}
 
 -- ---- a point as it is stored
 
@@ -151,18 +152,6 @@ laidOver c us vs =
     pick (leb (length (posOf c)) (length us) and leb (length (negOf c)) (length vs))
     (madeOver (Of (figuresFor c)) (over (posOf c) us) (over (negOf c) vs))
     (madeOver NoRoom us vs)
-
--- the explicit kind, whose counts need one row
-pub record One : Type 0 where
-  pub made : Made
-  pub counts : List ℕ
-
-abbrev pub madeOne : Made → List ℕ → One
-madeOne m us = record { made = m; counts = us }
-
-unfoldable pub laidOne : ℕ → ℕ → List ℕ → ℕ → List ℕ → List ℕ → One
-laidOne k n xs m zs us =
-    pick (leb k (length us)) (madeOne (Of (Explicit (n + m))) (over (added (take k xs) (take k zs)) us)) (madeOne NoRoom us)
 
 -- ---- the call
 

@@ -2,3 +2,4 @@
 pub mod Handing
 pub mod Lists
 pub mod Signed
+pub mod Inner

@@ -8,14 +8,16 @@ ghost use Rattle.laws.specs.Pick.{_and_};
 ghost use lib.Ieee.Scale.{finite};
 ghost use Rattle.point.specs.Handing.{stored, shownSum, shownPoint, exponentialPoint, explicitPoint, figuresAgree, pointAgrees};
 ghost use Rattle.point.specs.Handing.{isExplicit, countIn, sameFigures, sizeFits, refusalBefore};
-ghost use Rattle.point.specs.Handing.{madeOver, laidOver, madeOne, laidOne, said, finished, outcome, merging};
+ghost use Rattle.point.specs.Handing.{madeOver, laidOver, said, finished, outcome, merging};
+ghost use Rattle.point.specs.Inner.{madeOne, laidOne};
 ghost use lib.Dec.{leb};
 ghost use mathlib.Core.Bool.{Bool·beq};
 ghost use Rattle.points.specs.Explicit.{bucketCount};
 ghost use Rattle.points.specs.Figures.{exponentialCounts};
 ghost use Rattle.merges.specs.Merges.{Agreeing, mergedPoint};
-ghost use Rattle.explicit.specs.Series.{mostCount, Addable};
+ghost use Rattle.explicit.specs.Inner.{Addable};
 ghost use Rattle.exponential.specs.Series.{sizePasses};
+ghost use Rattle.laws.specs.Counting.{mostCount};
 use exponential::Counts;
 use floats::Extreme;
 

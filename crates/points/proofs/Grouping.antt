@@ -6,8 +6,8 @@ use mathlib.Core.Bool.{Bool, true, false}
 use mathlib.Core.List.{[], List·Permᴰ}
 use lib.Ieee.{Float}
 use Rattle.laws.specs.Lists.{All}
-use Rattle.laws.specs.Trees.{Tree, leaves, folded}
-use Rattle.laws.proofs.Trees.{Commutes, any-grouping}
+use Rattle.laws.specs.Trees.{Tree, leaves}
+use Rattle.laws.proofs.Trees.{Commutes, any-grouping, folded}
 use Rattle.index.specs.Bins.{finest}
 use Rattle.points.specs.Points.{merge}
 use Rattle.points.specs.Explicit.{mergeBuckets}

@@ -17,8 +17,8 @@ use Rattle.laws.proofs.Same.{sum-append, sum-map, hit-other}
 use Rattle.laws.proofs.Counting.{map-count, count-map-pos, many, many-replicate}
 use Rattle.laws.proofs.Search.{least-spec}
 use Rattle.index.specs.Bins.{finest, endBin}
-use Rattle.points.specs.Points.{Row, at, row, rowOf, expand, indices, fits, fitsBoth, scale, Bag, _⊕_, one, bagOf, Point, build, pointOf, bag, merge, record1, Value, naught, plus, minus}
-use Rattle.points.proofs.Rows.{Canonical, rowOf-canonical, at-rowOf, at-in, at-pos, count-expand, expand-rowOf}
+use Rattle.points.specs.Points.{Row, row, rowOf, expand, indices, fits, fitsBoth, scale, Bag, _⊕_, one, bagOf, Point, build, pointOf, bag, merge, record1, Value, naught, plus, minus}
+use Rattle.points.proofs.Rows.{Canonical, rowOf-canonical, at-rowOf, at-in, at-pos, count-expand, expand-rowOf, at}
 use Rattle.points.proofs.Agreement.{RowOk, Agreed}
 
 -- ---- bins in range d steps below the finest level: from that of low to the last of the level

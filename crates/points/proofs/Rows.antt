@@ -13,7 +13,12 @@ use Rattle.laws.specs.Pick.{pick}
 use Rattle.laws.specs.Counting.{hit, count, lowest, highest, table}
 use Rattle.laws.proofs.Same.{sum-append, Same, same-of-count}
 use Rattle.laws.proofs.Counting.{ends-of, length-table, getD-table, count-replicate, count-replicate-same}
-use Rattle.points.specs.Points.{Row, at, rowOf, expand}
+use Rattle.points.specs.Points.{Row, rowOf, expand}
+use lib.Dec.{leb}
+
+-- the count of the bin i
+unfoldable pub at : Row → ℕ → ℕ
+at r i = pick (leb (r .start) i) (getD (r .counts) (i - r .start) 0) 0
 
 -- no zero at either end, and one empty row only
 pub record Canonical (r : Row) : Type 0 where

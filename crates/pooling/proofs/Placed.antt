@@ -19,7 +19,8 @@ use Rattle.point.specs.declared.Point.{Point}
 use Rattle.point.specs.Handing.{Stored, refusalBefore, posOf, negOf, countsIn, Outcome, ended, merging}
 use Rattle.points.specs.Handed.{mergeCounts}
 use Rattle.listing.specs.Words.{wordsOf}
-use Rattle.listing.specs.Listed.{Output, posLen, negLen, behind, Goes, overAt, putAt}
+use Rattle.listing.specs.Listed.{Output, posLen, negLen, behind, overAt, putAt}
+use Rattle.listing.specs.Inner.{Goes}
 use Rattle.listing.specs.declared.Cursor.{Cursor}
 use Rattle.listing.specs.declared.Span.{Span}
 use Rattle.pooling.specs.Lists.{ends, placed, hasPlace, putMerged, pooled, lastly}

@@ -3,17 +3,21 @@ use Prim.Native.Nat.{ℕ}
 use mathlib.Core.Path.{_≡_, refl, sym, ap, _∙_}
 use mathlib.Core.Bool.{Bool, true, false}
 use mathlib.Core.List.{List, [], _∷_, _++_, map}
+use mathlib.Core.Option.{Option}
 use lib.Dec.{eqb}
 use Rattle.laws.specs.Pick.{pick}
-use Rattle.laws.specs.Said.{refusal}
+use Rattle.laws.specs.Said.{refusal, number}
 use Rattle.laws.specs.Tests.{all}
 use Rattle.laws.proofs.Cases.{and-true}
 use Rattle.tally.specs.Kind.{Kind, unless, firstOf, suffices}
-use Rattle.tally.specs.Map.{Answer, listed, Points, Config, Map, Out, sound, points, filled, swept, orRefused, upfront, act, cumulate}
-use Rattle.tally.specs.Demand.{Code, Faithful, answers, left}
+use Rattle.tally.specs.Map.{Answer, listed, Points, Config, Map, Out, sound, points, filled, orRefused, cumulate}
+use Rattle.tally.proofs.MapSteps.{swept, upfront, act}
+use Rattle.tally.specs.Demand.{Code, answers, left}
+use Rattle.tally.proofs.Faithful.{Faithful}
 use Rattle.tally.specs.Runs.{quiet}
 use Rattle.tally.proofs.Demand.{steady}
 use Rattle.tally.proofs.Sound.{Steady, never-damaged}
+use Rattle.directory.specs.View.{Stores}
 use Rattle.value_map.specs.Store.{Store}
 use Rattle.value_map.specs.Calls.{Held, started}
 use Rattle.value_map.specs.Maps.{mapOf, configOf}
@@ -51,7 +55,8 @@ module _ {K : Kind} {S : Store K} (L : Lister S) (w : S .Switches) (limit : ℕ)
       go false = refl
 
 module _ {K : Kind} {S : Store K} (W : Owed S) (L : Lister S) (keeps : Keeps L) (w : S .Switches) (Q : Lists L w) where
-  pub cumulates : Steady K → Cumulates L w
+  pub cumulates : Steady K → (limit : ℕ) (filter : Option (List ℕ)) (s : Stores) (x : S .Cells) → L .Lent x → number (started S limit filter s x .answer) ≡ 0
+      → Cumulates L w limit filter (started S limit filter s x .held)
   unfolding faithful upfront act cumulate
   cumulates T limit filter s x l zero xs o =
       let c : Config K = configOf S w limit filter in

@@ -1,5 +1,5 @@
 -- DEMAND 3 WHOLE, for any histogram kind's store and points in lent output that pay what they owe. Assumes nothing.
-use Prim.Native.Nat.{_+_, _^_, _<_}
+use Prim.Native.Nat.{_+_, _^_, _<_, ℕ}
 use mathlib.Core.Path.{_≡_, refl, ap, sym, subst, _∙_}
 use mathlib.Core.Bool.{Bool, true, false, _&&_}
 use mathlib.Core.List.{List, [], _∷_, map, flatten}
@@ -30,11 +30,21 @@ use Rattle.value_map.specs.Maps.{configOf}
 use Rattle.value_map.proofs.Owed.{Owed}
 use Rattle.collecting.specs.Lister.{Lister}
 use Rattle.promises.specs.Runs.{run}
-use Rattle.promises.specs.Pooled.{storedOf, calls, replies, collectedOf, Demanded}
+use Rattle.promises.specs.Pooled.{storedOf, calls, replies, collectedOf, Holds}
 use Rattle.collecting.proofs.Owed.{Lists}
 use Rattle.promises.proofs.Runs.{Keeps, begun, ready, faithful}
 use Rattle.promises.proofs.Groupings.{pointed, pooled}
 use Rattle.promises.proofs.Stored.{Storing, run-read, run-shaped}
+use mathlib.Core.Option.{Option}
+use Rattle.laws.specs.Said.{number}
+use Rattle.directory.specs.View.{Stores}
+
+-- "Take any list of these calls, refused ones included: recording by set or handle, binding, releasing, delta collection. It runs from a fresh start
+-- under one configuration, and each call is given the state and lent stores as the last one left them."
+abbrev pub Demanded : {S : Store histograms} → Lister S → List Float → S .Switches → Type 0
+Demanded {S} L bounds w =
+    (limit : ℕ) (filter : Option (List ℕ)) (s : Stores) (x : S .Cells) → L .Lent x → number (started S limit filter s x .answer) ≡ 0
+    → Holds L bounds w limit filter (started S limit filter s x .held)
 
 both : (a b : Bool) → (a && b) ≡ true → a and b ≡ true
 unfolding _and_

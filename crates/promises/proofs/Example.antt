@@ -21,7 +21,7 @@ use Rattle.points.specs.Stands.{Stands}
 use Rattle.point.specs.declared.Figures.the-variants.{Explicit}
 use Rattle.point.specs.Handing.{Stored, storedIn, handedIn, pointAgrees, refusalBefore, laidOver, merging}
 use Rattle.merging.specs.Merged.{mergedStored}
-use Rattle.tally.specs.Sets.{Set}
+use Rattle.tally.specs.Sets.{Set, Lendable}
 use Rattle.tally.specs.Kind.{Room}
 use Rattle.tally.specs.Map.{Config, Call, measure, measureBy, bind, release, collect, Answer, refuse, done, handle, listed}
 use Rattle.tally.specs.Tally.{tell}
@@ -29,7 +29,6 @@ use Rattle.tally.specs.Demand.{Premise, any, gained}
 use Rattle.kinds.specs.Histograms.{histograms}
 use Rattle.sets.specs.All.{allb}
 use Rattle.sets.specs.Rows.{setOf, rowOf, soundb}
-use Rattle.sets.specs.Sorted.{Small}
 use Rattle.sets.specs.Inserted.{inserted}
 use Rattle.directory.specs.View.{Stores, slotsb, agreesb, sought}
 use Rattle.directory.specs.Calls.{located, admitted, boundTo}
@@ -81,7 +80,7 @@ cells = record { totals = replicate 3 0; extremes = replicate 3 (replicate 3 zer
 abbrev pub A : Set
 A = (1, 5) ∷ []
 
-pub small : Small A
+pub small : Lendable A
 small = ((omega arith, omega arith), tt)
 
 abbrev out : Output
@@ -165,7 +164,7 @@ premise =
     (record { fewer = omega arith; unlike = omega arith })
 
 demanded : Whole (explicitLister bounds) bounds w 1 none first given
-demanded = explicit-demand bounds true true 1 none stores cells setup all-fit accepted .1 given premise
+demanded = explicit-demand bounds true true 1 none stores cells setup all-fit accepted .1 .demand given premise
 
 -- ---- THE SET'S POINTS, as they are stored, and merged
 abbrev stored : List ℕ → ℕ → Float → Float → Float → Stored

@@ -24,7 +24,6 @@ use Rattle.points.specs.Same.{resized}
 use Rattle.points.specs.Stands.{Stands}
 use Rattle.points.proofs.Figures as PF
 use Rattle.points.proofs.Stands.{Allows, handed-stands, stands-order, stands-join, stands-agrees, stands-mergeable}
-use Rattle.explicit.specs.Series.{mostCount}
 use Rattle.exponential.specs.Series.{sizePasses}
 use Rattle.point.specs.declared.Figures.{Figures}
 use Rattle.point.specs.declared.Figures.the-variants.{Exponential, Explicit}
@@ -38,6 +37,7 @@ use Rattle.value_map.proofs.Cases.{refusal-no-success}
 use Rattle.promises.specs.Seen.{Shows}
 use Rattle.promises.specs.Pooled.{Pointed, Under, Pools}
 use Rattle.promises.proofs.Seen.{isExponential, shows}
+use Rattle.laws.specs.Counting.{mostCount}
 
 -- ---- lists that are images, in two parts
 split : {A B : Type 0} (f : B → A) (xs ys : List A) (zs : List B) → xs ++ ys ≡ map f zs → (a : List B) × (b : List B) × (zs ≡ a ++ b) × (xs ≡ map f a) × (ys ≡ map f b)

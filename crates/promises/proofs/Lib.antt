@@ -8,6 +8,7 @@ pub mod Stored
 pub mod Demanded
 pub mod Exponential
 pub mod Explicit
+pub mod Reaches
 pub mod Setups
 pub mod Points
 pub mod Promises

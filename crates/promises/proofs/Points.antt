@@ -8,7 +8,8 @@ use Rattle.merging.proofs.Tied.{merge-is}
 use Rattle.merging.proofs.Groups as Groups
 use Rattle.merging.proofs.Orders.{all-alike}
 use Rattle.merging.proofs.Fresh.{fresh-first, fresh-second}
-use Rattle.promises.specs.Points.{ExponentialRecords, ExplicitRecords, MergeAnswers, ListsMerge, AnyGrouping, EveryGrouping, FreshMerges}
+use Rattle.pooling.proofs.Merges.{as-stored, holds}
+use Rattle.promises.specs.Points.{ExponentialRecords, ExplicitRecords, MergeAnswers, ListsMerge, AnyGrouping, EveryGrouping, FreshMerges, ListedMerge}
 
 pub exponential-records : ExponentialRecords
 exponential-records size top least most known xs ys long long' vs values few bounds extremes sums =
@@ -34,3 +35,6 @@ every-grouping = all-alike
 
 pub fresh-merges : FreshMerges
 fresh-merges size s top f y z none g us vs = (fresh-first size s top f y none g z us vs, fresh-second size s top f y none g z us vs)
+
+pub listed-merge : ListedMerge
+listed-merge size a x b y at o e f s p q h = (as-stored size a x b y at o e f s p q h, λ z g. holds size a x b y at o e f s p q h z g)

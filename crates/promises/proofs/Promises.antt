@@ -1,21 +1,18 @@
--- The terms of the promises, under their names in small letters. Assumes nothing.
-use Rattle.floats.specs.Starts.{zeroFloat}
+-- The terms of the promises, under their names in small letters; and demand 3 of any faithful code of both kinds. Assumes nothing.
+use lib.Ieee.Bits.{is-true}
+use lib.Ieee.Scale.{finite}
+use Rattle.index.specs.Magnitude.{magnitude}
+use Rattle.index.specs.Bins.{binAt, indexOf}
+use Rattle.index.proofs.Indices.{one-index as only-index}
+use Rattle.index.proofs.Values.{value-is}
+use Rattle.tally.proofs.Faithful.{Demand, MergedDemand}
 use Rattle.tally.proofs.Demand.{demand, merged-demand}
-use Rattle.kinds.specs.Histograms.{histograms, merging}
+use Rattle.kinds.specs.Histograms.{histograms}
 use Rattle.kinds.proofs.Recorded.{lawful}
-use Rattle.kinds.proofs.Steady.{histograms-steady}
-use Rattle.kinds.proofs.Merges.{mergeable}
+use Rattle.kinds.proofs.Merges.{merging, mergeable}
 use Rattle.directory.proofs.Tied.{agreement}
-use Rattle.value_map.proofs.ExponentialOwes as ExponentialOwes
-use Rattle.value_map.proofs.ExplicitOwes as ExplicitOwes
-use Rattle.exponential_collection.specs.Points.{exponentialLister}
-use Rattle.exponential_collection.proofs.Lists.{exponential-lists}
-use Rattle.explicit_collection.specs.Points.{explicitLister}
-use Rattle.promises.specs.Promises.{ExponentialDemand, ExplicitDemand, ExponentialRuns, ExplicitRuns, ExponentialCumulates, ExplicitCumulates, Answers, Merges, DirectoryAgrees}
-use Rattle.promises.proofs.Runs.{runs}
-use Rattle.promises.proofs.Cumulates.{cumulates}
-use Rattle.promises.proofs.Exponential as Exponential
-use Rattle.promises.proofs.Explicit as Explicit
+use Rattle.promises.specs.Promises.{ExponentialDemand, ExplicitDemand, Reaches, OneIndex, DirectoryAgrees}
+use Rattle.promises.proofs.Reaches as Reaching
 use Rattle.promises.proofs.Setups as Setups
 
 pub exponential-demand : ExponentialDemand
@@ -24,27 +21,22 @@ exponential-demand = Setups.exponential-demand
 pub explicit-demand : ExplicitDemand
 explicit-demand = Setups.explicit-demand
 
-pub exponential-runs : ExponentialRuns
-exponential-runs size top extremes sums =
-    runs (ExponentialOwes.owed size top) (exponentialLister size top) (Exponential.keeps size top) (extremes, sums) (exponential-lists size top (extremes, sums)) lawful histograms-steady
+pub reaches : Reaches
+reaches = Reaching.reaches
 
-pub explicit-runs : ExplicitRuns
-explicit-runs bounds extremes sums =
-    runs (ExplicitOwes.owed bounds) (explicitLister bounds) (Explicit.keeps bounds) (extremes, sums, zeroFloat) (Explicit.lists bounds extremes sums) lawful histograms-steady
-
-pub exponential-cumulates : ExponentialCumulates
-exponential-cumulates size top extremes sums =
-    cumulates (ExponentialOwes.owed size top) (exponentialLister size top) (Exponential.keeps size top) (extremes, sums) (exponential-lists size top (extremes, sums)) histograms-steady
-
-pub explicit-cumulates : ExplicitCumulates
-explicit-cumulates bounds extremes sums =
-    cumulates (ExplicitOwes.owed bounds) (explicitLister bounds) (Explicit.keeps bounds) (extremes, sums, zeroFloat) (Explicit.lists bounds extremes sums) histograms-steady
-
-pub answers : Answers
-answers = demand histograms lawful
-
-pub merges : Merges
-merges = merged-demand histograms lawful merging mergeable
+pub one-index : OneIndex
+one-index x scale level f z e =
+    let r = value-is x scale level (f .fits) (is-true (finite x) (f .known)) z e in
+    let i = indexOf level (binAt level (magnitude x)) in
+    (i, r .0, r .1, λ j h. only-index scale (magnitude x) j i h (r .1))
 
 pub directory-agrees : DirectoryAgrees
 directory-agrees = agreement
+
+-- "each call's number and each list of points collected is that of document 01's tally", "whatever the order of recording and wherever collections cut"
+pub answers : Demand histograms
+answers = demand histograms lawful
+
+-- and "each set with a collected value has a merged point (its points merged one by one in any order, under the configured max_size) .."
+pub merges : MergedDemand histograms merging
+merges = merged-demand histograms lawful merging mergeable

@@ -13,9 +13,11 @@ use Rattle.laws.specs.Pick.{pick}
 use Rattle.laws.specs.Said.{refusal, number}
 use Rattle.tally.specs.Sets.{Set}
 use Rattle.tally.specs.Kind.{Kind}
-use Rattle.tally.specs.Map.{Config, step}
-use Rattle.tally.specs.Demand.{Faithful}
+use Rattle.tally.specs.Map.{Config}
+use Rattle.tally.proofs.MapSteps.{step}
+use Rattle.tally.proofs.Faithful.{Faithful}
 use Rattle.tally.proofs.Lawful.{Lawful}
+use Rattle.tally.specs.Runs.{Tells}
 use Rattle.tally.proofs.Sound.{Steady}
 use Rattle.tally.proofs.Tells.{tells}
 use Rattle.directory.specs.View.{Stores}
@@ -39,7 +41,7 @@ use Rattle.value_map.proofs.Kept.{good, fair-on, measure-fair, handle-fair}
 use Rattle.listing.specs.Listed.{Output}
 use Rattle.collecting.specs.Lister.{Lister}
 use Rattle.collecting.specs.Collected.{uncollected, collectedTo, deltaCollected}
-use Rattle.promises.specs.Runs.{Asked, recording, recordingBy, binding, releasing, collecting, asks, ended, run, Runs}
+use Rattle.promises.specs.Runs.{Asked, recording, recordingBy, binding, releasing, collecting, asks, ended, run}
 use Rattle.collecting.proofs.Owed.{Lists}
 use Rattle.collecting.proofs.Steps.{delta-steps, delta-fair}
 
@@ -195,7 +197,8 @@ module _ {K : Kind} {S : Store K} (W : Owed S) (L : Lister S) (keeps : Keeps L) 
         valid = W .valid (b .set) w;
       }
 
-  pub runs : Lawful K → Steady K → Runs L w
+  pub runs : Lawful K → Steady K → (limit : ℕ) (filter : Option (List ℕ)) (s : Stores) (x : S .Cells) → L .Lent x → number (started S limit filter s x .answer) ≡ 0
+      → Tells K (configOf S w limit filter) (run L w limit filter (started S limit filter s x .held)) (mapOf S w)
   unfolding faithful
   runs law steady limit filter s x l zero =
       tells K law steady (configOf S w limit filter) (run L w limit filter (started S limit filter s x .held)) (faithful limit filter s x l zero)

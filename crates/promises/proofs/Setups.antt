@@ -27,12 +27,32 @@ use Rattle.explicit_collection.specs.Points.{explicitLister}
 use Rattle.explicit_collection.specs.Configured as Explicit
 use Rattle.explicit_collection.specs.declared.Settings as ExplicitSettings
 use Rattle.explicit_collection.specs.declared.Setup as ExplicitSetup
-use Rattle.promises.specs.Pooled.{Holds}
-use Rattle.promises.specs.Promises.{ExponentialDemand, ExplicitDemand}
+use Rattle.value_map.specs.Store.{Store}
+use Rattle.value_map.proofs.Owed.{Owed}
+use Rattle.collecting.specs.Lister.{Lister}
+use Rattle.collecting.proofs.Owed.{Lists}
+use Rattle.kinds.specs.Histograms.{histograms}
+use Rattle.kinds.proofs.Recorded.{lawful}
+use Rattle.kinds.proofs.Steady.{histograms-steady}
+use Rattle.promises.specs.Promises.{Promised, ExponentialDemand, ExplicitDemand}
+use Rattle.promises.proofs.Runs.{Keeps, runs}
+use Rattle.promises.proofs.Cumulates.{cumulates}
+use Rattle.promises.proofs.Stored.{Storing}
 use Rattle.promises.proofs.Groupings.{success-is}
 use Rattle.promises.proofs.Demanded.{demanded}
 use Rattle.promises.proofs.Exponential as ExponentialPays
 use Rattle.promises.proofs.Explicit as ExplicitPays
+
+-- ---- all that is promised, from a start that was answered 0
+module _ {S : Store histograms} (W : Owed S) (L : Lister S) (keeps : Keeps L) (bounds : List Float) (T : Storing L bounds) (w : S .Switches) (Q : Lists L w) where
+  promised : (limit : ℕ) (filter : Option (List ℕ)) (s : Stores) (x : S .Cells) → L .Lent x → number (started S limit filter s x .answer) ≡ 0
+      → Promised L bounds w limit filter (started S limit filter s x .held)
+  promised limit filter s x l zero =
+      record {
+        demand = demanded W L keeps bounds T w Q limit filter s x l zero;
+        told = runs W L keeps w Q lawful histograms-steady limit filter s x l zero;
+        cumulative = cumulates W L keeps w Q histograms-steady limit filter s x l zero;
+      }
 
 -- ---- the exponential kind
 module _ (size : ℕ) (scale : ℤ) (extremes sums : Bool) (limit : ℕ) (filter : Option (List ℕ)) (s : Stores) (x : ExponentialCells.Cells) (u : ExponentialSetup.Setup) where
@@ -59,9 +79,9 @@ exponential-demand size scale extremes sums limit filter s x u l e =
     let p = exponential-setup size scale extremes sums limit filter s x u e in
     let L = exponentialLister size top in
     let w : Bool × Bool = (extremes, sums) in
-    let h = demanded (ExponentialOwes.owed size top) L (ExponentialPays.keeps size top) [] (ExponentialPays.storing size top) w (exponential-lists size top w) limit filter s x l (p .0) in (
+    let h = promised (ExponentialOwes.owed size top) L (ExponentialPays.keeps size top) [] (ExponentialPays.storing size top) w (exponential-lists size top w) limit filter s x l (p .0) in (
       sym (ap (λ (t : ExponentialSetup.Setup). t .settings) (p .1)),
-      subst (λ (t : ExponentialSetup.Setup). Holds L [] w limit filter (held (t .dir) (o .held .kept .stores) x)) (p .1) h,
+      subst (λ (t : ExponentialSetup.Setup). Promised L [] w limit filter (held (t .dir) (o .held .kept .stores) x)) (p .1) h,
     )
 
 -- ---- the explicit kind
@@ -88,7 +108,7 @@ explicit-demand bounds extremes sums limit filter s x u l e =
     let p = explicit-setup bounds extremes sums limit filter s x u e in
     let L = explicitLister bounds in
     let w : explicitStore bounds .Switches = (extremes, sums, zeroFloat) in
-    let h = demanded (ExplicitOwes.owed bounds) L (ExplicitPays.keeps bounds) bounds (ExplicitPays.storing bounds) w (ExplicitPays.lists bounds extremes sums) limit filter s x l (p .0) in (
+    let h = promised (ExplicitOwes.owed bounds) L (ExplicitPays.keeps bounds) bounds (ExplicitPays.storing bounds) w (ExplicitPays.lists bounds extremes sums) limit filter s x l (p .0) in (
       sym (ap (λ (t : ExplicitSetup.Setup). t .settings) (p .1)),
-      subst (λ (t : ExplicitSetup.Setup). Holds L bounds w limit filter (held (t .dir) (o .held .kept .stores) x)) (p .1) h,
+      subst (λ (t : ExplicitSetup.Setup). Promised L bounds w limit filter (held (t .dir) (o .held .kept .stores) x)) (p .1) h,
     )

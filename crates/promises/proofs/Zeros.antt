@@ -21,6 +21,7 @@ use Rattle.points.specs.Agreement.{rowAgrees}
 use Rattle.points.specs.Figures.{exponentialCounts}
 use Rattle.points.specs.Handed.{Handed}
 use Rattle.points.specs.Points as Points
+use Rattle.points.proofs.Rows as PointsRows
 use Rattle.points.specs.Values.{classOf}
 use Rattle.point.specs.declared.Figures.the-variants.{Exponential}
 use Rattle.point.specs.Handing.{Stored, storedIn, pointAgrees, refusalBefore, laidOver, merging}
@@ -98,7 +99,7 @@ abbrev answersAre : List (Answer histograms)
 answersAre = done ∷ listed ((A, point 1) ∷ []) ∷ done ∷ listed ((A, point 1) ∷ []) ∷ []
 
 answers : replies (exponentialLister 3 20) (true, true) 1 none first given ≡ answersAre
-unfolding configured levelAnswer started begun Bindings.started unset lengthsSuffice _and_ isNan lt ofBits ofFields toBits fits add round eq pick over measured called entered unlessRefused barredBy unlessBarred newSeat seated marked committed located agreesb slotsb allb sought admitted setOf rowOf soundb inserted recordedAt shaped countsAt headIn narrow readable headOf Series.agrees refusalOf Series.recording classOf magnitude Agreement.agrees rowAgrees placed lowBin highBin Points.at Points.rowOf Points.row Points.fits Points.fitsBoth Points.scale Points.build Points.pointOf Points.indices Points.bag Points.record1 deltaCollected uncollected roomy fewest sweptKept figuresIn boundsIn extremeIn pointIn
+unfolding configured levelAnswer started begun Bindings.started unset lengthsSuffice _and_ isNan lt ofBits ofFields toBits fits add round eq pick over measured called entered unlessRefused barredBy unlessBarred newSeat seated marked committed located agreesb slotsb allb sought admitted setOf rowOf soundb inserted recordedAt shaped countsAt headIn narrow readable headOf Series.agrees refusalOf Series.recording classOf magnitude Agreement.agrees rowAgrees placed lowBin highBin PointsRows.at Points.rowOf Points.row Points.fits Points.fitsBoth Points.scale Points.build Points.pointOf Points.indices Points.bag Points.record1 deltaCollected uncollected roomy fewest sweptKept figuresIn boundsIn extremeIn pointIn
 answers = refl
 
 -- demand 3's premise holds, and so does all that it says
@@ -112,7 +113,7 @@ premise =
 
 demanded : Whole (exponentialLister 3 20) [] (true, true) 1 none first given
 unfolding levelAnswer pick _and_
-demanded = exponential-demand 3 (pos 10) true true 1 none stores cells setup all-fit accepted .1 given premise
+demanded = exponential-demand 3 (pos 10) true true 1 none stores cells setup all-fit accepted .1 .demand given premise
 
 -- ---- THE SET'S POINTS, as they are stored, and merged
 abbrev stored : ℕ → Stored
@@ -134,9 +135,9 @@ stored n =
     [] [] []
 
 points : storedOf (exponentialLister 3 20) [] (true, true) 1 none A first given ≡ stored 1 ∷ stored 1 ∷ []
-unfolding pointAt entryIn isPoint configured levelAnswer started begun Bindings.started unset lengthsSuffice _and_ isNan lt ofBits ofFields toBits fits add round eq pick over measured called entered unlessRefused barredBy unlessBarred newSeat seated marked committed located agreesb slotsb allb sought admitted setOf rowOf soundb inserted recordedAt shaped countsAt headIn narrow readable headOf Series.agrees refusalOf Series.recording classOf magnitude Agreement.agrees rowAgrees placed lowBin highBin Points.at Points.rowOf Points.row Points.fits Points.fitsBoth Points.scale Points.build Points.pointOf Points.indices Points.bag Points.record1 deltaCollected uncollected roomy fewest sweptKept figuresIn boundsIn extremeIn pointIn
+unfolding pointAt entryIn isPoint configured levelAnswer started begun Bindings.started unset lengthsSuffice _and_ isNan lt ofBits ofFields toBits fits add round eq pick over measured called entered unlessRefused barredBy unlessBarred newSeat seated marked committed located agreesb slotsb allb sought admitted setOf rowOf soundb inserted recordedAt shaped countsAt headIn narrow readable headOf Series.agrees refusalOf Series.recording classOf magnitude Agreement.agrees rowAgrees placed lowBin highBin PointsRows.at Points.rowOf Points.row Points.fits Points.fitsBoth Points.scale Points.build Points.pointOf Points.indices Points.bag Points.record1 deltaCollected uncollected roomy fewest sweptKept figuresIn boundsIn extremeIn pointIn
 points = refl
 
 together : mergedStored 3 [] [] (stored 1) (stored 1) ≡ success (stored 2)
-unfolding merging refusalBefore pointAgrees Series.agrees Agreement.agrees rowAgrees laidOver _and_ isNan lt eq add round ofBits ofFields pick over Points.at Points.rowOf Points.row Points.fits Points.fitsBoth Points.scale Points.build Points.indices Points.bag Points.merge
+unfolding merging refusalBefore pointAgrees Series.agrees Agreement.agrees rowAgrees laidOver _and_ isNan lt eq add round ofBits ofFields pick over PointsRows.at Points.rowOf Points.row Points.fits Points.fitsBoth Points.scale Points.build Points.indices Points.bag Points.merge
 together = refl

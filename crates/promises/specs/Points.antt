@@ -4,7 +4,7 @@ use Prim.Native.Nat.{ℕ, _+_, _^_, _≤_, _<_}
 use mathlib.Core.Path.{_≡_}
 use mathlib.Core.Bool.{Bool, true}
 use mathlib.Core.List.{List, [], _++_, List·Permᴰ}
-use lib.ListN.{length, replicate}
+use lib.ListN.{length, getD, drop, replicate}
 use lib.Ieee.{Float}
 use Rattle.laws.specs.Lists.{All}
 use Rattle.laws.specs.Said.{success}
@@ -17,12 +17,18 @@ use Rattle.points.specs.Same.{resized, Of, Same}
 use Rattle.points.specs.Stands.{Stands}
 use Rattle.rows.specs.Rows.{over}
 use Rattle.exponential.specs.Runs as E
-use Rattle.explicit.specs.Series.{mostCount, freshHead}
+use Rattle.explicit.specs.Series.{freshHead}
 use Rattle.explicit.specs.Runs as X
 use Rattle.kinds.specs.Histograms.{merged}
 use Rattle.point.specs.Handing.{Stored, storedIn, handedIn, exponentialPoint, explicitPoint}
 use Rattle.point.specs.Lists.{inShape, told, Configured, settingsOf, PointOf, Long}
+use Rattle.listing.specs.Listed.{Output, storedAt}
+use Rattle.listing.specs.declared.Cursor.{Cursor}
+use Rattle.listing.specs.declared.Entry.{Entry}
+use Rattle.listing.specs.declared.Found.the-variants.{Is}
+use Rattle.pooling.specs.Lists.{Source, wholeAt, hasPlace, putMerged, pooledAt, Holds}
 use Rattle.merging.specs.Merged.{Good, allCounted, AtTop, mergedStored, roomOf, Groups}
+use Rattle.laws.specs.Counting.{mostCount}
 
 -- ---- RECORDING
 
@@ -77,3 +83,15 @@ abbrev pub FreshMerges : Type 0
 FreshMerges =
     (size : ℕ) (s : Settings) → AtTop (s .kind) → (f y z : Stored) → PointOf s [] f → Good size s y → (us vs : List ℕ)
     → (mergedStored size us vs f y ≡ success z → Same (handedIn z) (handedIn y)) × (mergedStored size us vs y f ≡ success z → Same (handedIn z) (handedIn y))
+
+-- "Sets are not compared; the result has the first's": where points lie at a and at b, and there is a place, `pooling::merge_at` answers as
+-- `point::merge` of the two points that the lists hold, refused with nothing changed; and the output then holds the merged point at the cursor,
+-- with the first's set and bounds
+abbrev pub ListedMerge : Type 0
+ListedMerge =
+    (size : ℕ) (a : Cursor) (x : Source) (b : Cursor) (y : Source) (at : Cursor) (o : Output) (e f : Entry)
+    → a .place < length (x .list .sets) → wholeAt a x ≡ Is e → wholeAt b y ≡ Is f → hasPlace at o ≡ true
+    → let m = mergedStored size (drop (at .pos) (o .pos)) (drop (at .neg) (o .neg)) (storedAt a e (x .bounds) (x .list)) (storedAt b f (y .bounds) (y .list)) in
+    let row = getD (x .list .sets) (a .place) [] in
+    (pooledAt size a x b y at o ≡ putMerged at row (e .bounds) o m)
+    × ((z : Stored) → m ≡ success z → Holds at row (e .bounds) (x .bounds) z (pooledAt size a x b y at o .output))

@@ -8,7 +8,7 @@ use mathlib.Core.Option.{Option}
 use lib.ListN.{length, getD}
 use lib.Ieee.{Float}
 use Rattle.laws.specs.Lists.{All}
-use Rattle.laws.specs.Said.{Said, refusal, success, number}
+use Rattle.laws.specs.Said.{Said, refusal, success}
 use Rattle.laws.specs.Trees.{Tree, leaves}
 use Rattle.points.specs.Figures.{Kind, exponential, explicit, Settings}
 use Rattle.points.specs.Stands.{Stands}
@@ -20,9 +20,8 @@ use Rattle.tally.specs.Map.{Call, Answer}
 use Rattle.tally.specs.Demand.{Premise, Answered, any, gained, pointsOf, asked, ran}
 use Rattle.kinds.specs.Histograms.{histograms}
 use Rattle.sets.specs.Rows.{setOf}
-use Rattle.directory.specs.View.{Stores}
 use Rattle.value_map.specs.Store.{Store}
-use Rattle.value_map.specs.Calls.{Held, started}
+use Rattle.value_map.specs.Calls.{Held}
 use Rattle.value_map.specs.Maps.{configOf}
 use Rattle.listing.specs.Listed.{Output, pointAt, storedAt}
 use Rattle.listing.specs.declared.Cursor.{Cursor}
@@ -134,10 +133,3 @@ module _ {S : Store histograms} (L : Lister S) (bounds : List Float) (w : S .Swi
   abbrev pub Holds : Type 0
   Holds =
       (xs : List (Asked histograms)) → Premise histograms (configOf S w limit filter) (calls L w limit filter h xs) (replies L w limit filter h xs) → Whole xs
-
--- "Take any list of these calls, refused ones included: recording by set or handle, binding, releasing, delta collection. It runs from a fresh start
--- under one configuration, and each call is given the state and lent stores as the last one left them."
-abbrev pub Demanded : {S : Store histograms} → Lister S → List Float → S .Switches → Type 0
-Demanded {S} L bounds w =
-    (limit : ℕ) (filter : Option (List ℕ)) (s : Stores) (x : S .Cells) → L .Lent x → number (started S limit filter s x .answer) ≡ 0
-    → Holds L bounds w limit filter (started S limit filter s x .held)

@@ -8,16 +8,25 @@ use mathlib.Core.Option.{Option}
 use lib.IntN.{ℤ}
 use lib.Ieee.{Float}
 use Rattle.laws.specs.Said.{success}
-use Rattle.floats.specs.Starts.{zeroFloat}
+use Rattle.index.specs.Magnitude.{magnitude, isNegative}
+use Rattle.index.specs.DataModel.{IsIndex}
+use Rattle.index.specs.Signed.{levelAnswer, valueIndex}
+use Rattle.index.specs.declared.signed.Natural.the-variants.{Is}
+use Rattle.index.specs.declared.signed.Index.the-variants.{At}
+use Rattle.floats.specs.Starts.{zeroFloat, FiniteF64}
 use Rattle.tally.specs.Kind.{Kind}
-use Rattle.tally.specs.Map.{Config}
-use Rattle.tally.specs.Demand.{Demand, MergedDemand}
-use Rattle.kinds.specs.Histograms.{histograms, merging}
+use Rattle.tally.specs.Map.{Config, Call}
+use Rattle.tally.specs.Demand.{InRange}
+use Rattle.tally.specs.Runs.{Tells}
+use Rattle.kinds.specs.Histograms.{histograms}
 use Rattle.directory.specs.View.{Stores, Agreement}
 use Rattle.directory.specs.declared.Directory.{Directory}
 use Rattle.exponential_slots.specs.Cells as ExponentialCells
 use Rattle.explicit_slots.specs.Cells as ExplicitCells
-use Rattle.value_map.specs.Calls.{held}
+use Rattle.value_map.specs.Store.{Store}
+use Rattle.value_map.specs.Calls.{Held, held}
+use Rattle.value_map.specs.Maps.{mapOf, configOf}
+use Rattle.collecting.specs.Lister.{Lister}
 use Rattle.collecting.specs.Read.{AllFit}
 use Rattle.exponential_collection.specs.Points.{exponentialLister}
 use Rattle.exponential_collection.specs.Configured as Exponential
@@ -26,21 +35,31 @@ use Rattle.exponential_collection.specs.declared.Setup as ExponentialSetup
 use Rattle.explicit_collection.specs.Points.{explicitLister}
 use Rattle.explicit_collection.specs.Configured as Explicit
 use Rattle.explicit_collection.specs.declared.Setup as ExplicitSetup
-use Rattle.promises.specs.Runs.{Runs, Cumulates}
+use Rattle.promises.specs.Runs.{Asked, asks, run, Cumulates}
 use Rattle.promises.specs.Pooled.{Holds}
 
--- ---- DEMAND 3, about the code: one claim about the list of calls
+-- ---- ANY RUN of the code, from configuring that was accepted
+
+-- what is promised of the map that configuring left
+pub record Promised {S : Store histograms} (L : Lister S) (bounds : List Float) (w : S .Switches) (limit : ℕ) (filter : Option (List ℕ)) (h : Held (S .Cells)) : Type 0 where
+  -- DEMAND 3, whole: one claim about the list of calls
+  pub demand : Holds L bounds w limit filter h
+  -- what else is told of every run: with no premise none is answered 8 or 12, and a handle names its set while it has a binding; under it each value is in its
+  -- own set's series
+  pub told : Tells histograms (configOf S w limit filter) (run L w limit filter h) (mapOf S w)
+  -- and of a cumulative collection after every run: "every named entry is listed, even one bound and never recorded .. cumulative leaves it"
+  pub cumulative : Cumulates L w limit filter h
 
 -- "Take any list of these calls, refused ones included: recording by set or handle, binding, releasing, delta collection. It runs from a fresh start under
 -- one configuration, and each call is given the state and lent stores as the last one left them." The start is configuring, answered 0, and nothing
 -- else: under any max_size, max_scale, switches, limit and filter, in any stores of f64s. It hands out the settings that were asked, and the state; of
--- that state and the stores that it left `Holds` says the whole of demand 3.
+-- that state and the stores that it left all that is `Promised` holds.
 abbrev pub ExponentialDemand : Type 0
 ExponentialDemand =
     (size : ℕ) (scale : ℤ) (extremes sums : Bool) (limit : ℕ) (filter : Option (List ℕ)) (s : Stores) (x : ExponentialCells.Cells) (u : ExponentialSetup.Setup)
     → AllFit (x .extremes) → Exponential.configured size scale extremes sums limit filter s x .answer ≡ success u
     → (u .settings ≡ record { size = size; top = topOf scale; extremes = extremes; sums = sums; limit = limit })
-    × Holds (exponentialLister size (topOf scale)) [] (extremes, sums) limit filter
+    × Promised (exponentialLister size (topOf scale)) [] (extremes, sums) limit filter
     (held (u .dir) (Exponential.configured size scale extremes sums limit filter s x .stores) x)
 
 -- The explicit kind: under any bounds
@@ -49,35 +68,21 @@ ExplicitDemand =
     (bounds : List Float) (extremes sums : Bool) (limit : ℕ) (filter : Option (List ℕ)) (s : Stores) (x : ExplicitCells.Cells) (u : ExplicitSetup.Setup)
     → AllFit (x .extremes) → Explicit.configured bounds extremes sums limit filter s x .answer ≡ success u
     → (u .settings ≡ record { extremes = extremes; sums = sums; limit = limit })
-    × Holds (explicitLister bounds) bounds (extremes, sums, zeroFloat) limit filter
+    × Promised (explicitLister bounds) bounds (extremes, sums, zeroFloat) limit filter
     (held (u .dir) (Explicit.configured bounds extremes sums limit filter s x .stores) x)
 
--- What else is told of every run: with no premise none is answered 8 or 12, and handles keep naming their sets; under it each value is in its own
--- set's series
-abbrev pub ExponentialRuns : Type 0
-ExponentialRuns = (size top : ℕ) (extremes sums : Bool) → Runs (exponentialLister size top) (extremes, sums)
+-- "recording by set or handle, binding, releasing, delta collection": every call of demand 3 in range is asked by some input of a run
+abbrev pub Reaches : Type 1
+Reaches = (K : Kind) (x : Call K) → InRange K x → (i : Asked K) × (asks K i ≡ x)
 
-abbrev pub ExplicitRuns : Type 0
-ExplicitRuns = (bounds : List Float) (extremes sums : Bool) → Runs (explicitLister bounds) (extremes, sums, zeroFloat)
+-- ---- THE BUCKET
 
--- and of a cumulative collection after every run: "every named entry is listed, even one bound and never recorded .. cumulative leaves it"
-abbrev pub ExponentialCumulates : Type 0
-ExponentialCumulates = (size top : ℕ) (extremes sums : Bool) → Cumulates (exponentialLister size top) (extremes, sums)
-
-abbrev pub ExplicitCumulates : Type 0
-ExplicitCumulates = (bounds : List Float) (extremes sums : Bool) → Cumulates (explicitLister bounds) (extremes, sums, zeroFloat)
-
--- ---- DEMAND 3, of any faithful code of both kinds
-
--- "each call's number and each list of points collected is that of document 01's tally", "whatever the order of recording and wherever collections cut"
-abbrev pub Answers : Type 1
-Answers = Demand histograms
-
--- and "each set with a collected value has a merged point (its points merged one by one in any order, under the configured max_size) with
--- exactly the scale, offsets, all counts, minimum and maximum (a zero's sign aside) that document 01 defines from its collected values. The sum
--- too, if each of these values is a whole number of 1/1024 and their magnitudes total at most 2^43."
-abbrev pub Merges : Type 1
-Merges = MergedDemand histograms merging
+-- "at scale s a magnitude v > 0 has the index i with 2^(i/2^s) < v ≤ 2^((i+1)/2^s)": of every finite f64 but zero, at every scale from -10 to 10, which
+-- are those that have a level, `index::signed::get_index` answers that index, and there is no other
+abbrev pub OneIndex : Type 0
+OneIndex =
+    (x : Float) (scale : ℤ) (level : ℕ) → FiniteF64 x → (magnitude x ≡ 0 → ⊥) → levelAnswer scale ≡ Is level
+    → (i : ℤ) × (valueIndex x scale ≡ At (isNegative x) i) × IsIndex scale (magnitude x) i × ((j : ℤ) → IsIndex scale (magnitude x) j → j ≡ i)
 
 -- ---- NUMBER 8 OF A DIRECTORY
 

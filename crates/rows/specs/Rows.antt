@@ -1,3 +1,4 @@
+-- BETWEEN OUR OWN CRATES: serves inner contracts and proofs; nobody needs it to believe the public calls or the theorems.
 -- A row of bucket counts: a start index, and the counts of the indices from it on. Assumes nothing.
 use Prim.Native.Nat.{ℕ, zero, suc, _+_, _-_, _/_, _^_, min}
 use mathlib.Core.List.{List, [], _∷_, _++_}

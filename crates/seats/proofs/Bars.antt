@@ -8,7 +8,8 @@ use lib.Dec.{leb, eqb}
 use borrow.Author.Tests.{le-leb, lt-leb, leb-true, eq-eqb, ne-eqb, eqb-true, eqb-false}
 use Rattle.laws.specs.Pick.{pick}
 use Rattle.sets.specs.Sorted.{mostAttributes}
-use Rattle.seats.specs.Seats.{away, barredBy, unlessBarred, rowUnlessBarred}
+use Rattle.seats.specs.Seats.{away, barredBy, unlessBarred}
+use Rattle.seats.specs.Inner.{rowUnlessBarred}
 use Rattle.seats.specs.declared.Seating.{Seating}
 
 -- ---- two tests, one after another

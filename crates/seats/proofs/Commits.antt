@@ -8,7 +8,8 @@ use Rattle.directory.specs.View.{Stores}
 use Rattle.directory.specs.Calls.{Kept, overRow, admitted}
 use Rattle.directory.specs.declared.Directory.{Directory}
 use Rattle.directory.specs.declared.Target.the-variants.{Disagrees, Old, New, Over}
-use Rattle.seats.specs.Seats.{marked, markedIn, Roomy, committed}
+use Rattle.seats.specs.Seats.{marked, markedIn, committed}
+use Rattle.seats.specs.Inner.{Roomy}
 
 -- a new entry, then marked
 module _ (d : Directory) (s : Stores) (k : Kept) where

@@ -9,7 +9,8 @@ use native.Mathlib.Omega.{arith}
 use lib.ListN.{length}
 use Rattle.tally.specs.Sets.{Set, canonical}
 use Rattle.tally.specs.Kind.{Kind, unless, firstOf}
-use Rattle.tally.specs.Map.{Config, fits, Entry, Map, Place, held, place, sound, recorded, write, unfit, orRefused, measureAt, named, measure, measureBy, refuse, done, act}
+use Rattle.tally.specs.Map.{Config, Entry, Map, sound, orRefused, named, measure, measureBy, refuse, done}
+use Rattle.tally.proofs.MapSteps.{fits, Place, held, place, recorded, write, unfit, measureAt, act}
 use Rattle.sets.specs.Rows.{setOf}
 use Rattle.directory.specs.View.{Stores, agreesb, entryAt, view}
 use Rattle.directory.specs.Calls.{Kept, scan}
@@ -18,7 +19,7 @@ use Rattle.directory.specs.declared.Found.{Found}
 use Rattle.directory.specs.declared.Found.the-variants.{Held, Room}
 use Rattle.directory.proofs.Laws.{slotsOf, named-scan, scan-in}
 use Rattle.seats.specs.Seats.{heldSeat, seated, seatBy, seatedBy, committed}
-use Rattle.seats.specs.Recording.{heldAt, orFresh, refusal, Others, served}
+use Rattle.seats.proofs.Recording.{heldAt, orFresh, refusal, Others, served}
 use Rattle.seats.specs.declared.Seating.{Seating}
 use Rattle.seats.proofs.Commits.{commit-old}
 use Rattle.seats.proofs.Seatings.{by-is}

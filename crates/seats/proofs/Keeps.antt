@@ -11,7 +11,8 @@ use lib.Dec.{eqb}
 use lib.ListN.{length, getD, set, length-set}
 use lib.Seq.{getD-set-same, getD-set-other}
 use Rattle.tally.specs.Sets.{Set, canonical, Keyed}
-use Rattle.tally.specs.Map.{Config, Map, Call, Out, orRefused, measure, measureBy, done, upfront, act, Agrees}
+use Rattle.tally.specs.Map.{Config, Map, Call, Out, orRefused, measure, measureBy, done, Agrees}
+use Rattle.tally.proofs.MapSteps.{upfront, act}
 use Rattle.tally.proofs.Agree.{step-agrees}
 use Rattle.tally.proofs.Canon.{canonical-keyed}
 use Rattle.sets.specs.Rows.{size, setOf}
@@ -30,7 +31,7 @@ use Rattle.directory.proofs.Laid.{laid, laid-agrees, birth-set, laid-births, la
 use Rattle.directory.proofs.Refusals.{suffices}
 use Rattle.directory.proofs.Leaves.{Leaves, births-leave, same-leaves, admit-leaves, Good, lasts}
 use Rattle.seats.specs.Seats.{seatAt, seated, seatBy, seatedBy, marked, markedIn, committed}
-use Rattle.seats.specs.Recording.{heldAt, refusal}
+use Rattle.seats.proofs.Recording.{heldAt, refusal}
 use Rattle.seats.specs.declared.Seating.{Seating}
 use Rattle.seats.proofs.Commits.{commit-old, commit-new, commit-over}
 use Rattle.seats.proofs.Seatings.{new-either, old-safe, by-is, by-there}

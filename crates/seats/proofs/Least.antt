@@ -8,7 +8,7 @@ use lib.Dec.{leb}
 use borrow.Author.Tests.{le-leb, lt-leb, leb-true, leb-false}
 use Rattle.laws.specs.Pick.{pick}
 use Rattle.laws.proofs.Bools.{flag, pick-true, pick-false}
-use Rattle.seats.specs.Seats.{lesserOf}
+use Rattle.seats.specs.Inner.{lesserOf}
 
 module _ (a b : ℕ) where
   pub lesser-first : a ≤ b → a ≡ lesserOf a b

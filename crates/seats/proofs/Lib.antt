@@ -8,3 +8,4 @@ pub mod Sits
 pub mod Faithful
 pub mod Keeps
 pub mod Owns
+pub mod Recording

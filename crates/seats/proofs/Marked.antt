@@ -6,12 +6,12 @@ use lib.ListN.{length, getD}
 use lib.Seq.{getD-set-same, getD-set-other}
 use Rattle.tally.specs.Sets.{Rising}
 use Rattle.tally.specs.Kind.{Kind}
-use Rattle.tally.specs.Map.{put}
+use Rattle.tally.proofs.MapSteps.{put}
 use Rattle.directory.specs.View.{Stores, setAt, entryAt}
 use Rattle.directory.proofs.Rises.{In}
 use Rattle.directory.proofs.Laws.{put-at}
 use Rattle.seats.specs.Seats.{marked}
-use Rattle.seats.specs.Recording.{served}
+use Rattle.seats.proofs.Recording.{served}
 
 module _ (K : Kind) (f h : ℕ → K .Series) (s : Stores) (x : ℕ) where
   abbrev s′ : Stores

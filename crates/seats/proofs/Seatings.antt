@@ -20,7 +20,8 @@ use Rattle.directory.specs.declared.Target.the-variants.{Disagrees, Old, New, O
 use Rattle.directory.proofs.Laws.{slotsOf, few, slot-used, scan-in}
 use Rattle.directory.proofs.Rises.{In}
 use Rattle.directory.proofs.Located.{located-no, blank, counted, sought-held, told, new-there, over-there}
-use Rattle.seats.specs.Seats.{away, newSeat, seatAt, seated, seatBy, seatedBy, Roomy, Fits}
+use Rattle.seats.specs.Seats.{away, newSeat, seatAt, seated, seatBy, seatedBy}
+use Rattle.seats.specs.Inner.{Roomy, Fits}
 use Rattle.seats.specs.declared.Seating.{Seating}
 
 -- a new slot

@@ -13,7 +13,8 @@ use lib.ListN.{length, set, take, drop, length-set}
 use Rattle.laws.proofs.Cases.{true-not-false}
 use Rattle.tally.specs.Sets.{Set, overflow, Rising}
 use Rattle.tally.specs.Kind.{Kind}
-use Rattle.tally.specs.Map.{fits, Entry, Map, find, put, keys, new, Place, held, place, write}
+use Rattle.tally.specs.Map.{Entry, Map, find, keys}
+use Rattle.tally.proofs.MapSteps.{fits, put, new, Place, held, place, write}
 use Rattle.tally.proofs.Rising.{rising-insert}
 use Rattle.tally.proofs.Entries.{keys-put, put-put}
 use Rattle.sets.specs.Rows.{span, setOf}
@@ -31,7 +32,7 @@ use Rattle.directory.proofs.Admits.{room-rank, new-entry, admit-put}
 use Rattle.directory.proofs.Located.{Facts, facts, over-set, sought-held, room-new, room-over, place-held, place-over-held, place-new, place-over}
 use Rattle.directory.proofs.Laid.{in-around}
 use Rattle.seats.specs.Seats.{away, heldSeat, newSeat, seatAt, seated, markedIn, committed}
-use Rattle.seats.specs.Recording.{heldAt, Others, served}
+use Rattle.seats.proofs.Recording.{heldAt, Others, served}
 use Rattle.seats.specs.declared.Seating.{Seating}
 use Rattle.seats.proofs.Commits.{commit-old, commit-new, commit-over}
 use Rattle.seats.proofs.Marked.{mark-put}

@@ -1,3 +1,3 @@
 -- The definitions that the contracts and laws of `seats` cite.
 pub mod Seats
-pub mod Recording
+pub mod Inner

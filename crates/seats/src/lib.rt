@@ -11,7 +11,8 @@ ghost use Rattle.tally.specs.Sets.{canonical};
 ghost use Rattle.sets.specs.Rows.{size, rowOf};
 ghost use Rattle.sets.specs.Sorted.{given, filterOf};
 ghost use Rattle.seats.specs.Seats.{updatedIn, away, heldSeat, newSeat, seated, seatedBy};
-ghost use Rattle.seats.specs.Seats.{barredAt, unlessBarred, rowUnlessBarred, marked, Fits, committed};
+ghost use Rattle.seats.specs.Seats.{unlessBarred, marked, committed};
+ghost use Rattle.seats.specs.Inner.{barredAt, rowUnlessBarred, Fits};
 ghost use Rattle.directory.specs.View.{stores};
 ghost use Rattle.directory.specs.Calls.{kept, mostSets, accepts};
 

@@ -3,7 +3,7 @@ ghost use mathlib.Core.Path.{_≡_};
 ghost use mathlib.Core.Bool.{_&&_};
 ghost use Prim.Native.Nat.{_+_};
 ghost use lib.Dec.{leb};
-ghost use Rattle.seats.specs.Seats.{lesserOf};
+ghost use Rattle.seats.specs.Inner.{lesserOf};
 
 // The lesser of two numbers.
 pub fn lesser(a: usize, b: usize) -> usize

@@ -7,7 +7,8 @@ use native.Mathlib.Omega.{arith}
 use borrow.Author.Tests.{lt-ltb, ltb-true}
 use lib.Bits.{bitAnd, bitOr, bitXor, or-add-and, xor-add-and, and-le-l, and-le-r, xor-shr}
 use lib.ListN.{getD}
-use Rattle.sets.specs.Rows.{size, keyAt, soundb, joinAt, joined, SameKeys}
+use Rattle.sets.specs.Rows.{size, keyAt, soundb}
+use Rattle.sets.specs.Inner.{joinAt, joined, SameKeys}
 use Rattle.sets.proofs.Alls.{allb-yes}
 use Rattle.sets.proofs.Keyed.{sound-some, sound-few, sound-keys, key-rise}
 

@@ -5,10 +5,10 @@ use mathlib.Core.List.{List, [], _∷_, _++_, map, append-assoc}
 use native.Mathlib.Omega.{arith}
 use lib.ListN.{length, getD, set, take, drop, replicate, length-set, length-map, length-append, length-drop, length-replicate, getD-replicate}
 use lib.Seq.{getD-set-other, getD-set-same, getD-append-add, getD-drop, length-take-le, take-append-seam}
-use Rattle.tally.specs.Sets.{Set}
+use Rattle.tally.specs.Sets.{Set, Lendable}
 use Rattle.sets.specs.Inserted.{inserted}
-use Rattle.sets.specs.Rows.{pair, size, span, setOf, wordOf, rowOf, Clean}
-use Rattle.sets.specs.Sorted.{Small}
+use Rattle.sets.specs.Rows.{pair, size, span, setOf, wordOf, rowOf}
+use Rattle.sets.specs.Inner.{Clean}
 use Rattle.sets.proofs.Spans.{span-take, length-inserted, span-whole, span-length, span-zeros, span-split}
 
 -- a word is that of its pair
@@ -48,7 +48,7 @@ own-pair k v h g =
     let b : (k * 4294967296 + v) % 4294967296 ≡ v = omega arith in
     rw (a, b)
 
-own-pairs : (s : Set) → Small s → map pair (map wordOf s) ≡ s
+own-pairs : (s : Set) → Lendable s → map pair (map wordOf s) ≡ s
 own-pairs [] h = refl
 own-pairs (a ∷ s) h = rw (own-pair (a .0) (a .1) (h .0 .0) (h .0 .1), own-pairs s (h .1))
 
@@ -72,7 +72,7 @@ front s =
     span-take (map wordOf s ++ r) (length (map wordOf s)) (omega (arith, length-append (map wordOf s) r))
     ∙ take-append-seam (map wordOf s) r
 
-pub set-own : (s : Set) → length s ≤ 8 → Small s → setOf (rowOf s) ≡ s
+pub set-own : (s : Set) → length s ≤ 8 → Lendable s → setOf (rowOf s) ≡ s
 unfolding setOf
 set-own s h g =
     ap (λ (k : ℕ). map pair (span (rowOf s) 0 k)) (size-row s h ∙ sym (length-map s wordOf))

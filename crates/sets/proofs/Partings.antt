@@ -11,7 +11,8 @@ use borrow.Author.Tests.{lt-ltb, ltb-true}
 use lib.ListN.{getD}
 use Rattle.tally.specs.Sets.{cmp}
 use Rattle.sets.specs.All.{allb}
-use Rattle.sets.specs.Rows.{size, setOf, below, keyAt, soundb, Parted}
+use Rattle.sets.specs.Rows.{size, setOf, below, keyAt, soundb}
+use Rattle.sets.specs.Inner.{Parted}
 use Rattle.sets.proofs.Alls.{and-no}
 use Rattle.sets.proofs.Keyed.{unsound-many, sound-keys, key-rise}
 use Rattle.sets.proofs.Words.{left, longer, shorter, ended, low, high, alike, at-start}

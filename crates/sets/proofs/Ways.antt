@@ -4,7 +4,8 @@ use mathlib.Core.Path.{_≡_, refl, sym, _∙_}
 use mathlib.Core.Bool.{Bool, true, false, _&&_, _||_}
 use borrow.Author.Tests.{eq-eqb, ne-eqb}
 use lib.Dec.{eqb}
-use Rattle.sets.specs.Rows.{way, below}
+use Rattle.sets.specs.Rows.{below}
+use Rattle.sets.specs.Inner.{way}
 use Rattle.sets.specs.declared.Way.the-variants.{Before, Same, After}
 
 pub way-lt : (o : Ordering) → way o ≡ Before → o ≡ Ordering·lt

@@ -3,3 +3,4 @@ pub mod All
 pub mod Rows
 pub mod Inserted
 pub mod Sorted
+pub mod Inner

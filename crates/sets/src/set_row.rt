@@ -7,7 +7,8 @@ ghost use lib.ListN.{getD};
 ghost use Rattle.tally.specs.Sets.{cmp};
 ghost use Rattle.tally.specs.Map.{plain, bit};
 ghost use Rattle.sets.specs.All.{allb};
-ghost use Rattle.sets.specs.Rows.{size, setOf, way, below, keyAt, soundb, joined, Parted, SameKeys};
+ghost use Rattle.sets.specs.Rows.{size, setOf, below, keyAt, soundb};
+ghost use Rattle.sets.specs.Inner.{way, Parted, joined, SameKeys};
 
 // The first word in which two rows differ that are alike below word `from`, 8 if none does: at most 8 steps, which the compiler writes out.
 pub fn parting(a: &[u64; 9], b: &[u64; 9], from: usize) -> usize

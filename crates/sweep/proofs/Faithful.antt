@@ -10,10 +10,10 @@ use lib.Dec.{eqb}
 use lib.ListN.{length, getD, length-map}
 use lib.Seq.{take-at}
 use Rattle.laws.specs.Over.{over}
-use Rattle.laws.specs.Tests.{some?}
-use Rattle.laws.proofs.Bools.{pick-true, pick-false}
+use Rattle.laws.proofs.Bools.{pick-true, pick-false, some?}
 use Rattle.tally.specs.Kind.{Kind}
-use Rattle.tally.specs.Map.{Entry, plain, idle, reset, sweep, swept}
+use Rattle.tally.specs.Map.{Entry, plain}
+use Rattle.tally.proofs.MapSteps.{idle, reset, sweep, swept}
 use Rattle.sets.specs.Rows.{span, setOf}
 use Rattle.sets.proofs.Spans.{span-take, span-length}
 use Rattle.directory.specs.Calls.{Kept}

@@ -13,7 +13,8 @@ use lib.ListN.{length, getD, length-map}
 use Rattle.laws.specs.Tests.{all}
 use Rattle.laws.proofs.Cases.{true-not-false}
 use Rattle.tally.specs.Kind.{Room, inAll}
-use Rattle.tally.specs.Map.{Config, Entry, Map, Agrees, Points, collect, listed, plain, sound, points, unlisted, orRefused, upfront, act, swept}
+use Rattle.tally.specs.Map.{Config, Entry, Map, Agrees, Points, collect, listed, plain, sound, points, unlisted, orRefused}
+use Rattle.tally.proofs.MapSteps.{upfront, act, swept}
 use Rattle.tally.proofs.Agree.{step-agrees}
 use Rattle.sets.specs.Rows.{setOf, soundb}
 use Rattle.sets.proofs.Spans.{span-at}

@@ -6,11 +6,13 @@ use mathlib.Core.List.{List, [], _∷_, map}
 use mathlib.Core.Option.{Option, none, some}
 use native.Mathlib.Omega.{arith}
 use lib.ListN.{length}
-use Rattle.laws.specs.Tests.{all, some?}
+use Rattle.laws.specs.Tests.{all}
+use Rattle.laws.proofs.Bools.{some?}
 use Rattle.laws.proofs.Cases.{none-not-some}
 use Rattle.tally.specs.Sets.{Set, ascending}
 use Rattle.tally.specs.Kind.{Kind}
-use Rattle.tally.specs.Map.{Entry, Map, find, sound, sweep, reset, swept, points, keys}
+use Rattle.tally.specs.Map.{Entry, Map, find, sound, points, keys}
+use Rattle.tally.proofs.MapSteps.{sweep, reset, swept}
 use Rattle.tally.specs.Tally.{Tally, valuesOf, gathered, due}
 use Rattle.tally.specs.Demand.{any}
 use Rattle.tally.specs.Runs.{only}

@@ -8,7 +8,8 @@ use lib.Dec.{ltb}
 use borrow.Author.Tests.{ltb-true, ltb-false}
 use Rattle.tally.specs.Sets.{Set, overflow}
 use Rattle.tally.specs.Kind.{Kind}
-use Rattle.tally.specs.Map.{Entry, Map, Place, new, find, held, place}
+use Rattle.tally.specs.Map.{Entry, Map, find}
+use Rattle.tally.proofs.MapSteps.{Place, new, held, place}
 
 module _ (K : Kind) (m : Map K) where
   -- a new entry of the set s; the map's count is then n

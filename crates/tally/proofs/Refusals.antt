@@ -7,7 +7,8 @@ use mathlib.Core.Option.{Option, none, some}
 use Rattle.laws.proofs.Cases.{true-not-false}
 use Rattle.tally.specs.Sets.{canonical}
 use Rattle.tally.specs.Kind.{Kind, unless, Room}
-use Rattle.tally.specs.Map.{Config, Entry, Map, Call, measure, measureBy, bind, release, collect, Answer, refuse, done, handle, listed, Out, orRefused, byHandle, named, Place, place, held, write, recorded, rebound, swept, filled, unfit, unlisted, points, fits, measureAt, bindAt, releaseAt, upfront, act, step, cumulate}
+use Rattle.tally.specs.Map.{Config, Entry, Map, Call, measure, measureBy, bind, release, collect, Answer, refuse, done, handle, listed, Out, orRefused, named, filled, unlisted, points, cumulate}
+use Rattle.tally.proofs.MapSteps.{byHandle, Place, place, held, write, recorded, rebound, swept, unfit, fits, measureAt, bindAt, releaseAt, upfront, act, step}
 
 module _ (K : Kind) (m : Map K) where
   refuse? : Answer K → Bool

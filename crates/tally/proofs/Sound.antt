@@ -10,8 +10,10 @@ use Rattle.laws.specs.Tests.{all}
 use Rattle.laws.proofs.Cases.{and-true, true-not-false, some-inj, none-not-some}
 use Rattle.tally.specs.Sets.{Set, overflow, three, cmp, same, canonical}
 use Rattle.tally.specs.Kind.{Kind, unless, firstOf, suffices}
-use Rattle.tally.specs.Map.{Config, Entry, Map, Call, measure, measureBy, bind, release, collect, Answer, refuse, done, handle, listed, Out, orRefused, byHandle, named, find, put, Place, place, held, write, current, sound, recorded, rebound, idle, reset, sweep, swept, points, fits, Points, measureAt, bindAt, releaseAt, upfront, act, step, Agrees}
-use Rattle.tally.specs.Demand.{Code, Faithful, answers, ran}
+use Rattle.tally.specs.Map.{Config, Entry, Map, Call, measure, measureBy, bind, release, collect, Answer, refuse, done, handle, listed, Out, orRefused, named, find, current, sound, points, Points, Agrees}
+use Rattle.tally.proofs.MapSteps.{byHandle, put, Place, place, held, write, recorded, rebound, idle, reset, sweep, swept, fits, measureAt, bindAt, releaseAt, upfront, act, step}
+use Rattle.tally.specs.Demand.{Code, answers, ran}
+use Rattle.tally.proofs.Faithful.{Faithful}
 use Rattle.tally.specs.Runs as Runs
 use Rattle.tally.proofs.Agree.{begins, step-agrees}
 use Rattle.tally.proofs.Placed.{Placed, heldOwn, madeOwn, heldOver, madeOver, placed}

@@ -3,13 +3,13 @@ use Prim.Native.Nat.{ℕ, _+_, _^_, _≤_, _<_}
 use mathlib.Core.Path.{_≡_}
 use mathlib.Core.Bool.{Bool, true, false, cond}
 use mathlib.Core.Logic.{_⊎_, inl, inr}
-use mathlib.Core.List.{List, [], _∷_, _++_, map, flatten, List·Permᴰ}
+use mathlib.Core.List.{List, [], _∷_, _++_, map, flatten}
 use mathlib.Core.Option.{some}
 use lib.ListN.{length}
 use Rattle.laws.specs.Tests.{all}
 use Rattle.tally.specs.Sets.{Set, Lendable, same, ascending, canonical}
 use Rattle.tally.specs.Kind.{Kind, Room, suffices}
-use Rattle.tally.specs.Map.{Config, Points, Call, measure, measureBy, bind, release, collect, Answer, refuse, done, handle, listed, Map, Agrees, start, step}
+use Rattle.tally.specs.Map.{Config, Points, Call, measure, measureBy, bind, release, collect, Answer, refuse, done, handle, listed}
 use Rattle.tally.specs.Tally.{Tally, empty, tell, fed, after, valuesOf}
 
 -- a set, unless it is the empty one
@@ -90,35 +90,9 @@ module _ (K : Kind) where
     pub right : Right c (empty K c) xs ans
     pub cut : (s : Set) → Cut (c .settings) (pointsOf s ans) (gained c xs ans s)
 
-  -- MERGING. Within: a premise on the values (none over f64; L6: the magnitudes total at most 2^63 - 1);
-  -- Stands: the point has what demand 3 names as document 01 defines it from the values;
-  -- merge: two points merged under the settings into lent output, a refusal's number or the merged point
-  pub record Merging : Type 1 where
-    pub Within : List (K .Value) → Type 0
-    pub Stands : K .Settings → K .Point → List (K .Value) → Type 0
-    pub merge : K .Settings → K .Point → K .Point → Room → ℕ ⊎ K .Point
-
   -- the point r, wherever there is room for it, and 10 wherever there is not
   abbrev pub fitting : K .Point → Room → ℕ ⊎ K .Point
   fitting r room = cond (suffices K room (r ∷ [])) (inr r) (inl 10)
-
-  -- "Points enter merges as handed out; a lone one stays. A merge is refused only with 10, and repeated with longer output." The points
-  -- qs merged into p one by one: each merge is answered, in all the room that suffices, and the last point stands for vs.
-  abbrev pub Folds : Merging → K .Settings → K .Point → List (K .Point) → List (K .Value) → Type 0
-  Folds M z p [] vs = M .Stands z p vs
-  Folds M z p (q ∷ qs) vs =
-      (r : K .Point) × ((room : Room) → M .merge z p q room ≡ fitting r room) × Folds M z r qs vs
-
-  -- "its points merged one by one in any order"
-  pub record Merged (M : Merging) (z : K .Settings) (ps : List (K .Point)) (vs : List (K .Value)) : Type 0 where
-    pub there : 0 < length ps
-    pub folds : (q : K .Point) (qs : List (K .Point)) → List·Permᴰ ps (q ∷ qs) → Folds M z q qs vs
-
-  -- demand 3's second part, for kinds that merge: "each set with a collected value has a merged point". Under L10 the settings are the
-  -- last ones, and the points are carried over to them first.
-  abbrev pub Pooled : Merging → Config K → List (Call K) → List (Answer K) → Type 0
-  Pooled M c xs ans =
-      (s : Set) → any (gained c xs ans s) ≡ true → M .Within (gained c xs ans s) → Merged M (c .settings) (pointsOf s ans) (gained c xs ans s)
 
   -- the calls whose arguments can be lent: attributes of u32s and a handle that is a u64, any value, any room
   abbrev pub InRange : Call K → Type 0
@@ -126,13 +100,11 @@ module _ (K : Kind) where
       elim x [ measure v attrs ↦ Lendable attrs | measureBy h v ↦ h < 2 ^ 64 | bind attrs ↦ Lendable attrs | release h ↦ h < 2 ^ 64 | collect room ↦ Unit ]
 
   -- CODE, after configuring: its states with the lent stores, what its calls are given (arguments in range, times, lent output), which call of
-  -- demand 3 each asks, what each answers and leaves, and the state that configuring left. Every call of demand 3 in range is asked by some input:
-  -- code that lacks one of them is no such code
+  -- demand 3 each asks, what each answers and leaves, and the state that configuring left
   pub record Code : Type 1 where
     pub State : Type 0
     pub Input : Type 0
     pub asks : Input → Call K
-    pub reach : (x : Call K) → InRange x → (i : Input) × (asks i ≡ x)
     pub call : State → Input → Answer K × State
     pub first : State
 
@@ -152,21 +124,3 @@ module _ (K : Kind) where
   -- "It runs from a fresh start under one configuration"
   abbrev pub ran : (C : Code) → List (C .Input) → List (Answer K)
   ran C xs = answers C (C .first) xs
-
-  -- FAITHFUL code: each state stands for a map; in a state with stores that suffice (Ok shuts out number 12) and a directory that agrees each
-  -- call is the step of that map; and the first state stands for the fresh map, under settings that configuring accepts
-  pub record Faithful (c : Config K) (C : Code) : Type 1 where
-    pub Ok : C .State → Type 0
-    pub view : C .State → Map K
-    pub steps : (s : C .State) (x : C .Input) → Ok s → Agrees K c (view s)
-        → Ok (C .call s x .1) × (record { answer = C .call s x .0; map = view (C .call s x .1) } ≡ step K c (view s) (C .asks x))
-    pub ok : Ok (C .first)
-    pub fresh : view (C .first) ≡ start K c
-    pub valid : K .valid (c .settings) ≡ true
-
-  -- DEMAND 3, for any kind, and for kinds that merge
-  abbrev pub Demand : Type 1
-  Demand = (c : Config K) (C : Code) → Faithful c C → (xs : List (C .Input)) → Premise c (asked C xs) (ran C xs) → Answered c (asked C xs) (ran C xs)
-
-  abbrev pub MergedDemand : Merging → Type 1
-  MergedDemand M = (c : Config K) (C : Code) → Faithful c C → (xs : List (C .Input)) → Premise c (asked C xs) (ran C xs) → Pooled M c (asked C xs) (ran C xs)

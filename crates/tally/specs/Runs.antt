@@ -1,17 +1,16 @@
--- What is told of every run of faithful code: demand 3's answers, and what holds beside them. Assumes nothing.
-use Prim.Native.Nat.{ℕ}
+-- What is told of every run beside demand 3's answers. Assumes nothing.
+use Prim.Native.Nat.{ℕ, _+_, _<_}
 use mathlib.Core.Path.{_≡_}
 use mathlib.Core.Bool.{Bool, true, cond, not, _||_}
 use mathlib.Core.List.{List, [], _∷_, map}
 use mathlib.Core.Option.{some}
 use lib.Dec.{eqb}
-use Rattle.laws.specs.Lists.{All}
 use Rattle.laws.specs.Tests.{all}
 use Rattle.tally.specs.Sets.{Set, same}
 use Rattle.tally.specs.Kind.{Kind}
 use Rattle.tally.specs.Map.{Config, Entry, Map, Call, measure, measureBy, bind, release, collect, Answer, refuse, done, handle, listed, named, points, filled, keys}
 use Rattle.tally.specs.Tally.{Tally, empty, valuesOf, after}
-use Rattle.tally.specs.Demand.{any, Premise, Answered, Code, asked, left, ran}
+use Rattle.tally.specs.Demand.{any, Premise, Code, asked, left, ran}
 
 -- the sets that pass the test
 abbrev pub only : (Set → Bool) → List Set → List Set
@@ -33,25 +32,27 @@ module _ (K : Kind) where
       points K (m .settings) (map (filled K (m .settings)) (m .entries))
       ≡ map (λ s. (s, K .pointOf (m .settings) (valuesOf K s (t .waiting)))) (only (λ s. listed? (any K (valuesOf K s (t .waiting))) s) (keys K (m .entries)))
 
-  -- the handle h names an entry of the set s, with a binding
-  abbrev pub Names : ℕ → Set → Map K → Type 0
-  Names h s m = (e : Entry K) × (named K h (m .entries) ≡ some e) × (e .set ≡ s)
+  -- the handle h names an entry of the set s, with more than n bindings
+  abbrev pub Names : ℕ → Set → ℕ → Map K → Type 0
+  Names h s n m = (e : Entry K) × (named K h (m .entries) ≡ some e) × (e .set ≡ s) × (n < e .bindings)
 
-  -- a call that is no release of h
-  abbrev pub Spares : ℕ → Call K → Type 0
-  Spares h x =
-      elim x [ measure v attrs ↦ Unit | measureBy i v ↦ Unit | bind attrs ↦ Unit | release i ↦ (i ≡ h → ⊥) | collect room ↦ Unit ]
+  -- 1 for a call that releases h; and how many of the calls do
+  abbrev pub releasing : ℕ → Call K → ℕ
+  releasing h x = elim x [ measure v attrs ↦ 0 | measureBy i v ↦ 0 | bind attrs ↦ 0 | release i ↦ cond (eqb i h) 1 0 | collect room ↦ 0 ]
+
+  abbrev pub releases : ℕ → List (Call K) → ℕ
+  releases h [] = 0
+  releases h (x ∷ xs) = releasing h x + releases h xs
 
   -- of code whose states stand for maps
   pub record Tells (c : Config K) (C : Code K) (view : C .State → Map K) : Type 0 where
-    -- DEMAND 3's first part: "each call's number and each list of points collected is that of document 01's tally"
-    pub answered : (xs : List (C .Input)) → Premise K c (asked K C xs) (ran K C xs) → Answered K c (asked K C xs) (ran K C xs)
     -- no call makes stores that disagree, nor outgrows them: with no premise, none is answered 8 or 12
     pub quietly : (xs : List (C .Input)) → all quiet (ran K C xs) ≡ true
     -- "it joins the set's waiting values": each value is in its own set's series and none in overflow's in its stead, as a cumulative
     -- collection would show
     pub own : (xs : List (C .Input)) → Premise K c (asked K C xs) (ran K C xs)
         → Listed (view (left K C (C .first) xs)) (after K c (empty K c) (asked K C xs) (ran K C xs))
-    -- "a set keeps its number while that has a binding": with no premise, a handle names the same set until it is released
-    pub naming : (h : ℕ) (s : Set) (xs ys : List (C .Input)) → All (λ y. Spares h (C .asks y)) ys → Names h s (view (left K C (C .first) xs))
-        → Names h s (view (left K C (left K C (C .first) xs) ys))
+    -- "a set keeps its number while that has a binding": with no premise, a handle names the same set after any calls that release it fewer times
+    -- than it has bindings
+    pub naming : (h : ℕ) (s : Set) (xs ys : List (C .Input)) → Names h s (releases h (asked K C ys)) (view (left K C (C .first) xs))
+        → Names h s 0 (view (left K C (left K C (C .first) xs) ys))

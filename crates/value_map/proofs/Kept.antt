@@ -10,9 +10,8 @@ use lib.ListN.{replicate}
 use Rattle.laws.specs.Said.{success}
 use Rattle.laws.proofs.Cases.{and-true}
 use Rattle.tally.specs.Kind.{Kind}
-use Rattle.tally.specs.Sets.{Set, canonical}
+use Rattle.tally.specs.Sets.{Set, canonical, Lendable}
 use Rattle.sets.specs.Rows.{setOf}
-use Rattle.sets.specs.Sorted.{Small}
 use Rattle.sets.proofs.CallRow.{row-set, row-short, row-keyed}
 use Rattle.directory.specs.View.{setAt, sought}
 use Rattle.directory.specs.declared.Found.the-variants as Found
@@ -40,7 +39,7 @@ module _ {K : Kind} {S : Store K} (W : Owed S) (w : S .Switches) (limit : ℕ) (
   fair-on k q c l = record { agrees = q .agrees; lent-is = rw (q .lent) l; last = q .last; set = g .set; accepted = g .accepted }
 
   module _ (v : K .Value) where
-    pub measure-fair : (attrs : Set) → Small attrs → Fair S limit filter (measured S limit filter h v attrs .held)
+    pub measure-fair : (attrs : Set) → Lendable attrs → Fair S limit filter (measured S limit filter h v attrs .held)
     measure-fair attrs small =
         set-either W w limit filter h g v attrs (λ o. Fair S limit filter (o .held)) (λ n. g)
         (λ few n t. fair-on _ (seat-good limit (h .kept) good filter attrs few (rowIn filter attrs) (row-set filter attrs small few) (row-short filter attrs small few) n)
@@ -60,7 +59,7 @@ module _ {K : Kind} {S : Store K} (W : Owed S) (w : S .Switches) (limit : ℕ) (
 
     -- OWN. An accepted recording goes to its own set's slot, never to overflow, where the set is held or the named sets are fewer than the
     -- limit (under demand 3's premise, over a run: `Tells`' own, in tally/specs/Runs.antt)
-    pub measure-owns : (attrs : Set) → Small attrs
+    pub measure-owns : (attrs : Set) → Lendable attrs
         → ((x : ℕ) × (sought (setOf (rowIn filter attrs)) (h .kept .dir .used) (h .kept .stores .sets) (h .kept .stores .order) ≡ Found.Held x)) ⊎ (h .kept .dir .used < limit)
         → measured S limit filter h v attrs .answer ≡ success none
         → setAt (measured S limit filter h v attrs .held .kept .stores .sets) (seatOf limit filter h attrs .slot) ≡ canonical filter attrs
@@ -69,7 +68,7 @@ module _ {K : Kind} {S : Store K} (W : Owed S) (w : S .Switches) (limit : ℕ) (
         (λ few n t q. seat-owns limit (h .kept .dir) (h .kept .stores) (g .agrees) (lent-dir W limit h (g .lent-is) .sets) (rowIn filter attrs) own n ∙ row-set filter attrs small few)
 
     -- STAY. A used slot keeps its set and its birth number, and a new slot's number was not spent before
-    pub measure-leaves : (attrs : Set) → Small attrs → Leaves (h .kept .dir) (h .kept .stores) (measured S limit filter h v attrs .held .kept)
+    pub measure-leaves : (attrs : Set) → Lendable attrs → Leaves (h .kept .dir) (h .kept .stores) (measured S limit filter h v attrs .held .kept)
     measure-leaves attrs small =
         let u = lent-dir W limit h (g .lent-is) in
         set-either W w limit filter h g v attrs (λ o. Leaves (h .kept .dir) (h .kept .stores) (o .held .kept)) (λ n. same-leaves (h .kept .dir) (h .kept .stores) (g .last))

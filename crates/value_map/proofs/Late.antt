@@ -19,8 +19,8 @@ use Rattle.seats.specs.Seats.{barredBy, unlessBarred}
 use Rattle.seats.proofs.Bars.{barred-away, barred-on}
 use Rattle.seats.proofs.Seatings.{Late}
 use Rattle.value_map.specs.Store.{Store, Recording}
-use Rattle.value_map.specs.Calls.{Held, Outcome, refused, finished, beside, passes, lent, taken, entered, called}
-use Rattle.value_map.specs.Explicit.{turned}
+use Rattle.value_map.specs.Calls.{Held, Outcome, refused, beside, passes, lent, entered, called}
+use Rattle.value_map.specs.Inner.{finished, taken, turned}
 use Rattle.value_map.proofs.Owed.{Owed}
 use Rattle.value_map.proofs.Cases.{called-barred, called-on}
 use Rattle.value_map.proofs.Ways.{either, take-no, take-on, Way, Seats, ends-no, ends-in, row-as}

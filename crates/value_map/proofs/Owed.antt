@@ -5,8 +5,9 @@ use mathlib.Core.Path.{_≡_}
 use mathlib.Core.Bool.{Bool, true, false, cond}
 use mathlib.Core.Option.{Option, none, some}
 use Rattle.tally.specs.Kind.{Kind}
-use Rattle.tally.specs.Map.{fits, sound}
-use Rattle.seats.specs.Recording.{orFresh}
+use Rattle.tally.specs.Map.{sound}
+use Rattle.tally.proofs.MapSteps.{fits}
+use Rattle.seats.proofs.Recording.{orFresh}
 use Rattle.value_map.specs.Store.{Store, Recording}
 
 module _ {K : Kind} (S : Store K) where

@@ -8,7 +8,7 @@ use native.Mathlib.Omega.{arith}
 use lib.Dec.{leb}
 use borrow.Author.Tests.{le-leb, lt-leb, leb-true, leb-false}
 use Rattle.laws.proofs.Bools.{flag}
-use Rattle.seats.specs.Seats.{lesserOf}
+use Rattle.seats.specs.Inner.{lesserOf}
 use Rattle.seats.proofs.Least.{both-suffice, regroup, one-less}
 
 pub rows-none : (limit n length : ℕ) → n ≡ 0 → true ≡ leb ((limit + 2) * n) length

@@ -14,24 +14,29 @@ use Rattle.laws.specs.Said.{success}
 use Rattle.laws.proofs.Bools.{flag}
 use Rattle.laws.proofs.Cases.{and-true, true-not-false}
 use Rattle.tally.specs.Kind.{Kind}
-use Rattle.tally.specs.Sets.{Set, canonical}
-use Rattle.tally.specs.Map as Map
-use Rattle.tally.specs.Map.{Config, Map, Out, measure, measureBy, refuse, done, sound, upfront, act, step}
+use Rattle.tally.specs.Sets.{Set, canonical, Lendable}
+use Rattle.tally.proofs.MapSteps as MapMapSteps
+use Rattle.tally.specs.Map.{Config, Map, Out, measure, measureBy, refuse, done, sound}
+use Rattle.tally.proofs.MapSteps.{upfront, act, step}
 use Rattle.sets.specs.Rows.{rowOf}
-use Rattle.sets.specs.Sorted.{Small}
 use Rattle.sets.proofs.CallRow.{row-set}
 use Rattle.directory.specs.View.{agreesb, view}
 use Rattle.directory.specs.Calls.{Kept, mostSets, fewKeys, accepts}
 use Rattle.seats.specs.declared.Seating.{Seating}
 use Rattle.seats.specs.Seats.{seated, seatedBy, committed}
-use Rattle.seats.specs.Recording.{heldAt, orFresh, refusal, Others}
+use Rattle.seats.proofs.Recording.{heldAt, orFresh, refusal, Others}
 use Rattle.seats.proofs.Faithful.{measure-away, measure-refused, measure-done, by-away, by-refused, by-done}
 use Rattle.value_map.specs.Store.{Store, Recording}
 use Rattle.value_map.specs.Calls.{Held, Outcome, refused, passes, lent, entered, called, measured, measuredBy}
-use Rattle.value_map.specs.Maps.{mapOf, told, configOf}
+use Rattle.value_map.specs.Maps.{mapOf, configOf}
 use Rattle.value_map.proofs.Owed.{Fit, refusing, Took, Owed}
 use Rattle.seats.proofs.Bars.{bar-6, bar-5, bar-0}
 use Rattle.value_map.proofs.Cases.{Seatable, lent-dir, set-seatable, by-seatable, entered-away, entered-refused, entered-done, called-barred, called-on}
+use Rattle.bindings.specs.Calls.{mapAnswer}
+
+module _ {K : Kind} (S : Store K) (w : S .Switches) where
+  abbrev pub told : Outcome (S .Cells) → Out K
+  told o = record { answer = mapAnswer K (o .answer); map = mapOf S w (o .held) }
 
 -- a state that agrees
 pub record Fair {K : Kind} (S : Store K) (limit : ℕ) (filter : Option (List ℕ)) (h : Held (S .Cells)) : Type 0 where
@@ -97,19 +102,19 @@ module _ {K : Kind} {S : Store K} (W : Owed S) (w : S .Switches) where
         at-refused : (i : ℕ) → (i ≡ 0 → ⊥) → refusal K z (heldAt K f a) v ≡ some i → o ≡ refusing S i (h .cells) → P (entered S h v row a)
         at-refused i d r q = subst P (entered-refused W h v row a n (refusing S i (h .cells)) (sym q) d) (refd n i r)
 
-        at-allowed : sound K z (heldAt K f a) ≡ true → Map.fits (suc (K .total was)) ≡ true → (b : Bool) → K .allows z was v ≡ b → P (entered S h v row a)
+        at-allowed : sound K z (heldAt K f a) ≡ true → MapMapSteps.fits (suc (K .total was)) ≡ true → (b : Bool) → K .allows z was v ≡ b → P (entered S h v row a)
         at-allowed s c false b = at-refused 16 (λ e. omega (arith, e)) (rw (s, c, b)) (W .barred w (h .cells) (a .slot) (a .updated) v fit s c b)
         at-allowed s c true b =
             let t = W .took w (h .cells) (a .slot) (a .updated) v fit s c b in
             subst P (entered-done W h v row a n o refl (t .no) kept refl) (doned n (rw (s, c, b)) t)
 
-        at-count : sound K z (heldAt K f a) ≡ true → (b : Bool) → Map.fits (suc (K .total was)) ≡ b → P (entered S h v row a)
+        at-count : sound K z (heldAt K f a) ≡ true → (b : Bool) → MapMapSteps.fits (suc (K .total was)) ≡ b → P (entered S h v row a)
         at-count s false c = at-refused 9 (λ e. omega (arith, e)) (rw (s, c)) (W .full w (h .cells) (a .slot) (a .updated) v fit s c)
         at-count s true c = at-allowed s c (K .allows z was v) refl
 
         at-sound : (b : Bool) → sound K z (heldAt K f a) ≡ b → P (entered S h v row a)
         at-sound false s = at-refused 8 (λ e. omega (arith, e)) (rw s) (W .disagreeing w (h .cells) (a .slot) (a .updated) v fit s)
-        at-sound true s = at-count s (Map.fits (suc (K .total was))) refl
+        at-sound true s = at-count s (MapMapSteps.fits (suc (K .total was))) refl
 
       entered-cases : P (entered S h v row a)
       entered-cases =
@@ -207,7 +212,7 @@ module _ {K : Kind} {S : Store K} (W : Owed S) (w : S .Switches) (limit : ℕ) (
   unfolding upfront
   by-step-0 q b = rw q
 
-  set-acts : K .finite v ≡ true → (attrs : Set) → Small attrs → length attrs ≤ 8
+  set-acts : K .finite v ≡ true → (attrs : Set) → Lendable attrs → length attrs ≤ 8
       → act K config (mapOf S w h) (measure v attrs) ≡ told S w (entered S h v (rowIn filter attrs) (seatOf limit filter h attrs))
   set-acts fin attrs small few =
       let d = h .kept .dir in
@@ -234,7 +239,7 @@ module _ {K : Kind} {S : Store K} (W : Owed S) (w : S .Switches) (limit : ℕ) (
       (λ n q y p k. by-done K fs (S .settings w) config d s (g .agrees) (g .last) (l .sets) (l .entries) (l .order) b row v n q y p k)
 
   -- BY SET
-  pub measure-steps : (attrs : Set) → Small attrs → step K config (mapOf S w h) (measure v attrs) ≡ told S w (measured S limit filter h v attrs)
+  pub measure-steps : (attrs : Set) → Lendable attrs → step K config (mapOf S w h) (measure v attrs) ≡ told S w (measured S limit filter h v attrs)
   unfolding measured
   measure-steps attrs small =
       called-cases W w h v (rowIn filter attrs) (seatOf limit filter h attrs) (g .set) (sits attrs) limit (g .lent-is) (length attrs) (accepts limit filter) (g .accepted)

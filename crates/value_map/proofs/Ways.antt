@@ -20,11 +20,13 @@ use Rattle.directory.specs.declared.Directory.{Directory}
 use Rattle.directory.specs.declared.Target.{Target}
 use Rattle.bindings.specs.Calls as Bindings
 use Rattle.seats.specs.declared.Seating.{Seating}
-use Rattle.seats.specs.Seats.{seated, seatedBy, barredBy, unlessBarred, committed, Fits}
+use Rattle.seats.specs.Seats.{seated, seatedBy, barredBy, unlessBarred, committed}
+use Rattle.seats.specs.Inner.{Fits}
 use Rattle.seats.proofs.Bars.{Clear, clear, barred-on, not-barred}
 use Rattle.seats.proofs.Seatings.{Late, seat-late, by-late}
 use Rattle.value_map.specs.Store.{Store, Recording}
-use Rattle.value_map.specs.Calls.{Held, Outcome, refused, finished, beside, passes, lent, Takes, taken, entered, called}
+use Rattle.value_map.specs.Calls.{Held, Outcome, refused, beside, passes, lent, entered, called}
+use Rattle.value_map.specs.Inner.{finished, Takes, taken}
 use Rattle.value_map.proofs.Owed.{Owed}
 use Rattle.value_map.proofs.Cases.{Seatable, set-seatable, by-seatable, entered-away, entered-refused, entered-done}
 

@@ -1,7 +1,6 @@
 -- What the map's calls make of it: answer, state and every lent store, for any kind's store. Assumes nothing.
 use Prim.Native.Nat.{ℕ}
-use mathlib.Core.Path.{_≡_}
-use mathlib.Core.Bool.{Bool, true, _&&_}
+use mathlib.Core.Bool.{Bool, _&&_}
 use mathlib.Core.List.{List}
 use mathlib.Core.Option.{Option, none}
 use lib.Dec.{leb, eqb}
@@ -14,13 +13,12 @@ use Rattle.sets.specs.Rows.{rowOf}
 use Rattle.directory.specs.View.{Stores}
 use Rattle.directory.specs.Calls.{Kept, kept, mostSets, accepts, storesSuffice}
 use Rattle.directory.specs.declared.Directory.{Directory}
-use Rattle.directory.specs.declared.Target.{Target}
 use Rattle.bindings.specs.Calls as Bindings
 use Rattle.bindings.specs.Calls.{said, fresh}
 use Rattle.bindings.specs.declared.Reply.{Reply}
 use Rattle.seats.specs.declared.Seating.{Seating}
 use Rattle.seats.specs.Seats.{seated, seatedBy, barredBy, unlessBarred, committed}
-use Rattle.value_map.specs.Store.{Store, Recording}
+use Rattle.value_map.specs.Store.{Store}
 
 -- the map as it is lent: the directory with its stores, and the series' stores
 pub record Held (Cells : Type 0) : Type 0 where
@@ -46,10 +44,6 @@ refused n h = record { answer = refusal n; held = h }
 -- what is done unless the number refuses it
 unfoldable pub unlessRefused : {Cells : Type 0} → Held Cells → ℕ → Outcome Cells → Outcome Cells
 unlessRefused h n o = pick (eqb n 0) o (refused n h)
-
--- the end of a recording: refused with a number, or written to the directory
-unfoldable pub finished : ℕ → Directory → Stores → List ℕ → Target → Bindings.Outcome
-finished n d s row t = pick (eqb n 0) (record { answer = success none; kept = committed d s row t }) (Bindings.refused n d s)
 
 -- Configuring: "1, 2, 3, 4, 12", with the kind's number for its settings, and whether its cells suffice
 unfoldable pub begun : ℕ → Bool → ℕ → Option (List ℕ) → Stores → Bindings.Outcome
@@ -77,15 +71,6 @@ module _ {K : Kind} (S : Store K) where
       let o = S .recorded (a .slot) (a .updated) (h .cells) v in
       unlessRefused h (a .no) (unlessRefused h (o .no)
       (record { answer = success none; held = record { kept = committed (h .kept .dir) (h .kept .stores) row (a .target); cells = o .cells } }))
-
-  -- a slot that is named has its cells, and its value is finite
-  abbrev pub Takes : S .Cells → K .Value → ℕ → ℕ → Type 0
-  Takes c v n x = n ≡ 0 → S .Room c x × (K .finite v ≡ true)
-
-  -- the kind's part of a recording at a slot, where nothing was refused: 0 and the cells afterwards, or the series' refusal; else the number
-  -- that is to be said, and the cells as they were
-  unfoldable pub taken : S .Cells → K .Value → ℕ → ℕ → ℕ → Bool → Recording (S .Cells)
-  taken c v n otherwise x updated = pick (eqb n 0) (S .recorded x updated c v) (record { no = otherwise; cells = c })
 
   -- a recording with n attributes, under a limit and a filter that configuring accepted or not, which goes to a seating
   unfoldable pub called : ℕ → Held (S .Cells) → K .Value → ℕ → Bool → List ℕ → Seating → Outcome (S .Cells)

@@ -33,8 +33,3 @@ explicitStore bounds =
       at = seriesAt bounds;
       recorded = recordedAt bounds;
     }
-
--- the number of a seating that is refused, the bounds asked last, for its series does it: of "12, 6, 5, 8, 9" and "12, 6, 8, 7, 9" those
--- after 8 give way to it, where configuring could not have accepted the bounds
-unfoldable pub turned : Bool → ℕ → ℕ
-turned passes n = pick (leb 7 n && leb n 9) (pick passes n 8) n

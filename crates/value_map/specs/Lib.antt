@@ -4,3 +4,4 @@ pub mod Calls
 pub mod Maps
 pub mod Exponential
 pub mod Explicit
+pub mod Inner

@@ -4,7 +4,7 @@ use mathlib.Core.List.{[]}
 use Prim.Native.Nat.{ℕ}
 use native.Mathlib.Omega.{arith}
 use lib.ListN.{getD}
-use Rattle.laws.specs.NoneOf.{past}
+use Rattle.laws.proofs.NoneOf.{past}
 use Rattle.bounds.specs.Table.{rows}
 use Rattle.bounds.proofs.last.Statement.{statement}
 use Rattle.bounds.proofs.last.Tie as tie

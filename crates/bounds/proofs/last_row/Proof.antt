@@ -5,7 +5,7 @@ use Prim.Native.Nat.{ℕ}
 use native.Mathlib.Omega.{arith}
 use borrow.Author.Needs.{needs}
 use lib.ListN.{getD}
-use Rattle.laws.specs.NoneOf.{past}
+use Rattle.laws.proofs.NoneOf.{past}
 use Rattle.bounds.specs.Table.{rows}
 use Rattle.bounds.proofs.last_row.Statement.{statement}
 use Rattle.bounds.proofs.last_row.Tie as tie

@@ -26,7 +26,7 @@ returns c =
     let b = c .before in
     let s = start b in
     let a = s .args in
-    number-first (now (a .bounds)) (a .s .extremes) (a .s .sums) (a .whole) (a .s .limit) (map s) (out s) (room b .cells-suffice .result) (b .before .unset-of .result) (b .barred .result)
+    number-first (now (a .bounds)) (a .s .extremes) (a .s .sums) (a .cumulative) (a .s .limit) (map s) (out s) (room b .cells-suffice .result) (b .before .unset-of .result) (b .barred .result)
     (room b .cells-suffice .ensures) (b .before .unset-of .ensures) (b .barred .ensures) (c .if1 .taken)
 
 survey-requires : tie.Need-survey-requires
@@ -34,7 +34,7 @@ survey-requires c κs =
     let b = c .before in
     let s = start b in
     let a = s .args in
-    walk-here (now (a .bounds)) (a .s .extremes) (a .s .sums) (a .whole) (a .s .limit) (map s) (out s) (room b .cells-suffice .result) (b .before .unset-of .result) (b .barred .result)
+    walk-here (now (a .bounds)) (a .s .extremes) (a .s .sums) (a .cumulative) (a .s .limit) (map s) (out s) (room b .cells-suffice .result) (b .before .unset-of .result) (b .barred .result)
     (room b .cells-suffice .ensures) (b .before .unset-of .ensures) (b .barred .ensures) (c .if1 .left)
 
 returns-2 : tie.Need-returns-2
@@ -44,7 +44,7 @@ returns-2 c =
     let b = e .before in
     let s = start b in
     let a = s .args in
-    number-then (now (a .bounds)) (a .s .extremes) (a .s .sums) (a .whole) (a .s .limit) (map s) (out s) (room b .cells-suffice .result) (b .before .unset-of .result) (b .barred .result)
+    number-then (now (a .bounds)) (a .s .extremes) (a .s .sums) (a .cumulative) (a .s .limit) (map s) (out s) (room b .cells-suffice .result) (b .before .unset-of .result) (b .barred .result)
     (room b .cells-suffice .ensures) (b .before .unset-of .ensures) (b .barred .ensures) (e .if1 .left) (f .survey .result) (c .number-of .result) (f .survey .ensures) (c .number-of .ensures)
 
 pub number-spec : {M : Type 1} → statement M

@@ -7,7 +7,8 @@ use Rattle.exponential.specs.declared.Class.{Class}
 use Rattle.exponential.specs.declared.Class.the-variants.{At}
 use Rattle.exponential.specs.declared.Counts.{Counts}
 use Rattle.exponential.specs.Steps.{placed}
-use Rattle.exponential.specs.Series.{Ready, Written, read, signed, valueOf, oneMore}
+use Rattle.exponential.specs.Series.{read}
+use Rattle.exponential.specs.Inner.{Ready, Written, valueOf, oneMore, signed}
 use Rattle.exponential.proofs.Facts.{Agreed, agreed, level-in}
 use Rattle.exponential.proofs.Write.{written-zero}
 use Rattle.exponential.proofs.Warm.{beside-of, tried-in, still-ready, still-written}

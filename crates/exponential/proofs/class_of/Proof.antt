@@ -1,6 +1,6 @@
 use mathlib.Core.Path.{sym, ap, _∙_}
 use borrow.Author.Needs.{needs}
-use Rattle.exponential.specs.Series.{classAt}
+use Rattle.exponential.specs.Inner.{classAt}
 use Rattle.exponential.proofs.class_of.Statement.{statement}
 use Rattle.exponential.proofs.class_of.Tie as tie
 

@@ -3,7 +3,7 @@ use mathlib.Core.Path.{_≡_, sym, _∙_}
 use native.Mathlib.Omega.{arith}
 use denote.Ref.{now}
 use Rattle.index.specs.Bins.{lowestBin, endBin}
-use Rattle.exponential.specs.Series.{rowAgrees}
+use Rattle.exponential.specs.Inner.{rowAgrees}
 use Rattle.exponential.proofs.Facts.{not-true, not-false, refuse, pos-facts, neg-facts, by-sum}
 use Rattle.exponential.proofs.Rowed.{row-facts, facts-row, short}
 use Rattle.laws.proofs.Bools.{not-both}

@@ -6,7 +6,8 @@ use denote.Ref.{now}
 use Rattle.exponential.specs.declared.Class.the-variants.{At}
 use Rattle.exponential.specs.declared.Counts.{Counts}
 use Rattle.exponential.specs.Steps.{placed}
-use Rattle.exponential.specs.Series.{Ready, Written, read, signed, oneMore}
+use Rattle.exponential.specs.Series.{read}
+use Rattle.exponential.specs.Inner.{Ready, Written, oneMore, signed}
 use Rattle.exponential.proofs.Write.{swapped, written-swap}
 use Rattle.exponential.proofs.Warm.{room-at, levels-at, put-at, ready-swap}
 use borrow.Author.Needs.{needs}

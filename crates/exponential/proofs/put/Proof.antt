@@ -4,7 +4,8 @@ use native.Mathlib.Omega.{arith}
 use denote.Ref.{now}
 use lib.ListN.{length}
 use Rattle.exponential.specs.Steps.{lowered, with1}
-use Rattle.exponential.specs.Series.{rowIn, Laid, lowerBy}
+use Rattle.exponential.specs.Series.{rowIn}
+use Rattle.exponential.specs.Inner.{Laid, lowerBy}
 use Rattle.exponential.proofs.Write.{needed-in}
 use borrow.Author.Needs.{needs}
 use Rattle.exponential.proofs.put.Statement.{statement}

@@ -5,7 +5,8 @@ use native.Mathlib.Omega.{arith}
 use denote.Ref.{now}
 use lib.Ieee.{binary64, fits}
 use Rattle.index.specs.Answers.{binOf}
-use Rattle.exponential.specs.Series.{Ready, refusalOf, classAt}
+use Rattle.exponential.specs.Series.{refusalOf}
+use Rattle.exponential.specs.Inner.{Ready, classAt}
 use Rattle.exponential.proofs.Call.{ready, refused-law, accepted-law}
 use borrow.Author.Needs.{needs}
 use Rattle.exponential.proofs.record.Statement.{statement}

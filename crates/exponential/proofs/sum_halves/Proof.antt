@@ -5,7 +5,7 @@ use denote.Ref.{now}
 use lib.ListN.{take, getD}
 use Rattle.laws.specs.Counting.{sum}
 use Rattle.rows.proofs.Laws.{sum-step}
-use Rattle.exponential.specs.Series.{halved}
+use Rattle.exponential.specs.Inner.{halved}
 use Rattle.exponential.proofs.Rowed.{times8, one-fits, half-fits, half-next, low-small, high-small, half-more}
 use Rattle.exponential.proofs.sum_halves.Statement.{statement}
 use Rattle.exponential.proofs.sum_halves.Tie as tie

@@ -5,7 +5,8 @@ use mathlib.Core.Bool.{true}
 use Rattle.directory.specs.View.{stores}
 use Rattle.exponential_slots.specs.Cells.{Cells, cells}
 use Rattle.value_map.specs.Calls.{Held, held}
-use Rattle.listing.specs.Listed.{Output, output, left}
+use Rattle.listing.specs.Listed.{Output, output}
+use Rattle.listing.specs.Inner.{left}
 use Rattle.collecting.proofs.Ends.{Clear, clear-of, cumulative-refused, cumulative-done}
 use Rattle.exponential_collection.specs.Points.{exponentialLister}
 use Rattle.exponential_collection.proofs.Deciding.{listable, put-is}

@@ -6,7 +6,8 @@ use Rattle.directory.specs.View.{stores}
 use Rattle.exponential_slots.specs.Cells.{Cells, cells}
 use Rattle.value_map.specs.Calls.{Held, held}
 use Rattle.value_map.specs.Exponential.{exponentialStore}
-use Rattle.listing.specs.Listed.{Output, output, left}
+use Rattle.listing.specs.Listed.{Output, output}
+use Rattle.listing.specs.Inner.{left}
 use Rattle.collecting.proofs.Walks.{sweepable}
 use Rattle.collecting.proofs.Ends.{Clear, clear-of, delta-refused, delta-done}
 use Rattle.exponential_collection.specs.Points.{exponentialLister}

@@ -41,13 +41,13 @@ returns : tie.Need-returns
 returns c =
     let s = start (c .before) in
     let a = s .args in
-    number-barred (a .s .size) (a .s .top) (a .s .extremes, a .s .sums) (a .whole) (a .s .limit) (map s) (out s) (c .before .barred .result) (bar-is (c .before)) (c .if1 .taken)
+    number-barred (a .s .size) (a .s .top) (a .s .extremes, a .s .sums) (a .cumulative) (a .s .limit) (map s) (out s) (c .before .barred .result) (bar-is (c .before)) (c .if1 .taken)
 
 survey-requires : tie.Need-survey-requires
 survey-requires c κs =
     let s = start (c .before) in
     let a = s .args in
-    walk-open (a .s .size) (a .s .top) (a .s .extremes, a .s .sums) (a .whole) (a .s .limit) (map s) (out s) (sym (bar-is (c .before)) ∙ c .if1 .left)
+    walk-open (a .s .size) (a .s .top) (a .s .extremes, a .s .sums) (a .cumulative) (a .s .limit) (map s) (out s) (sym (bar-is (c .before)) ∙ c .if1 .left)
 
 number-of-requires : tie.Need-number-of-requires
 number-of-requires c κs = search needs
@@ -57,7 +57,7 @@ returns-2 c =
     let e = c .before .before in
     let s = start (e .before) in
     let a = s .args in
-    number-found (a .s .size) (a .s .top) (a .s .extremes, a .s .sums) (a .whole) (a .s .limit) (map s) (out s) (sym (bar-is (e .before)) ∙ e .if1 .left)
+    number-found (a .s .size) (a .s .top) (a .s .extremes, a .s .sums) (a .cumulative) (a .s .limit) (map s) (out s) (sym (bar-is (e .before)) ∙ e .if1 .left)
     (c .number-of .result) (c .before .survey .result) (c .before .survey .ensures) (c .number-of .ensures)
 
 pub number-spec : {M : Type 1} → statement M

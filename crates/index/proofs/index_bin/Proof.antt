@@ -1,6 +1,6 @@
 -- `index::index_bin` meets its contract. Assumes nothing.
 use mathlib.Core.Path.{sym, ap, _∙_}
-use Rattle.index.specs.Answers.{binOrZero}
+use Rattle.index.specs.Inner.{binOrZero}
 use borrow.Author.Needs.{needs}
 use Rattle.index.proofs.index_bin.Statement.{statement}
 use Rattle.index.proofs.index_bin.Tie as tie

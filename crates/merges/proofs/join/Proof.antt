@@ -8,7 +8,8 @@ use lib.Seq.{length-take-le}
 use Rattle.points.specs.Points as P
 use Rattle.rows.specs.Rows.{downscaled}
 use Rattle.rows.proofs.Adds.{over-self}
-use Rattle.exponential.specs.Series.{Laid, rowIn}
+use Rattle.exponential.specs.Series.{rowIn}
+use Rattle.exponential.specs.Inner.{Laid}
 use Rattle.merges.specs.Merges.{joined}
 use Rattle.merges.proofs.Wide as wide
 use borrow.Author.Needs.{needs}

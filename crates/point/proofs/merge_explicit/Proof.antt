@@ -5,7 +5,7 @@ use denote.Ref.{now}
 use lib.ListN.{take}
 use Rattle.points.specs.Explicit.{bucketCount, added}
 use Rattle.rows.specs.Rows.{over}
-use Rattle.explicit.specs.Series.{Addable}
+use Rattle.explicit.specs.Inner.{Addable}
 use Rattle.point.proofs.Laid.{no-one, laid-one}
 use borrow.Author.Needs.{needs}
 use Rattle.point.proofs.merge_explicit.Statement.{statement}

@@ -5,7 +5,8 @@ use mathlib.Core.Path.{ap, sym, subst, _∙_}
 use lib.ListN.{length}
 use Rattle.directory.specs.View.{Stores}
 use Rattle.directory.specs.Calls.{overRow}
-use Rattle.seats.specs.Seats.{Roomy, Fits, committed}
+use Rattle.seats.specs.Seats.{committed}
+use Rattle.seats.specs.Inner.{Roomy, Fits}
 use Rattle.seats.proofs.Commits.{made-there, made-marked, commit-none, commit-old, commit-new, commit-over}
 use Rattle.seats.proofs.commit.Statement.{statement}
 use Rattle.seats.proofs.commit.Tie as tie

@@ -16,7 +16,8 @@ use Rattle.sets.specs.Sorted.{attribute, given, filterOf}
 use Rattle.directory.specs.View.{Stores, stores}
 use Rattle.directory.specs.Calls.{accepts, storesSuffice}
 use Rattle.directory.proofs.Refusals.{suffices}
-use Rattle.seats.specs.Seats.{away, barredBy, barredAt, seated}
+use Rattle.seats.specs.Seats.{away, barredBy, seated}
+use Rattle.seats.specs.Inner.{barredAt}
 use Rattle.seats.specs.declared.Seating.{Seating}
 use Rattle.seats.proofs.Bars.{Clear, clear, barred-away, barred-on, row-kept, row-written}
 use Rattle.seats.proofs.seat.Statement.{statement}

@@ -8,7 +8,8 @@ use Rattle.laws.proofs.Cases.{and-true}
 use Rattle.directory.specs.View.{Stores, stores}
 use Rattle.directory.specs.Calls.{mostSets, storesSuffice}
 use Rattle.directory.proofs.Refusals.{suffices}
-use Rattle.seats.specs.Seats.{away, barredBy, barredAt, seatedBy}
+use Rattle.seats.specs.Seats.{away, barredBy, seatedBy}
+use Rattle.seats.specs.Inner.{barredAt}
 use Rattle.seats.specs.declared.Seating.{Seating}
 use Rattle.seats.proofs.Bars.{clear, barred-away, barred-on}
 use Rattle.seats.proofs.seat_by.Statement.{statement}

@@ -3,7 +3,8 @@ use borrow.Author.Needs.{needs}
 use mathlib.Core.Path.{_≡_, sym, _∙_}
 use mathlib.Core.Bool.{true}
 use borrow.Author.Tests.{not-true, not-false}
-use Rattle.directory.specs.View.{Stores, bornb}
+use Rattle.directory.specs.View.{Stores}
+use Rattle.directory.specs.Inner.{bornb}
 use Rattle.directory.proofs.Agreed.{placed-broken, placed-plain}
 use Rattle.directory.proofs.Walks.{agree-far, agree-births, agree-places, agree-counts}
 use Rattle.directory.proofs.check.agrees.Statement.{statement}

@@ -11,7 +11,7 @@ use Rattle.laws.proofs.Cases.{true-not-false}
 use Rattle.sets.specs.All.{allb}
 use Rattle.sets.proofs.Alls.{allb-none, allb-more}
 use Rattle.sets.proofs.Keyed.{sound-few}
-use Rattle.directory.specs.View.{stepAt}
+use Rattle.directory.specs.Inner.{stepAt}
 use Rattle.directory.proofs.Likes.{step-first, step-next}
 use Rattle.directory.proofs.check.ascends.Statement.{statement}
 use Rattle.directory.proofs.check.ascends.Tie as tie

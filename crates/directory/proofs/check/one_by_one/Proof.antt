@@ -13,7 +13,8 @@ use Rattle.sets.specs.All.{allb}
 use Rattle.sets.specs.Rows.{setOf, soundb}
 use Rattle.sets.proofs.Alls.{allb-none, allb-more, allb-no}
 use Rattle.sets.proofs.Keyed.{sound-some}
-use Rattle.directory.specs.View.{stepAt, plainly}
+use Rattle.directory.specs.View.{plainly}
+use Rattle.directory.specs.Inner.{stepAt}
 use Rattle.directory.specs.declared.Placed.the-variants.{Plain}
 use Rattle.directory.proofs.Checks.{step-low, step-high, step-test, plainly-more, placed-no, placed-yes, bit-one}
 use Rattle.laws.proofs.Cases.{and-true}

@@ -18,9 +18,9 @@ use Rattle.explicit_collection.proofs.walk.list.Statement.{statement}
 use Rattle.explicit_collection.proofs.walk.list.Tie as tie
 
 abbrev Inv-loop : tie.InvT-loop
-Inv-loop whole bounds show sums used sets entries order totals extremes counts out-sets₀ out-words₀ out-pos₀ out-neg₀ at₀ i₀ out-sets out-words out-pos out-neg at i =
+Inv-loop cumulative bounds show sums used sets entries order totals extremes counts out-sets₀ out-words₀ out-pos₀ out-neg₀ at₀ i₀ out-sets out-words out-pos out-neg at i =
     (i ≤ used + 1)
-    × Putting (explicitLister bounds) (show, sums, zeroFloat) whole (walked used sets entries order (record { totals = totals; extremes = extremes; counts = counts }))
+    × Putting (explicitLister bounds) (show, sums, zeroFloat) cumulative (walked used sets entries order (record { totals = totals; extremes = extremes; counts = counts }))
     (record { sets = out-sets₀; words = out-words₀; pos = out-pos₀; neg = out-neg₀ }) i at (record { sets = out-sets; words = out-words; pos = out-pos; neg = out-neg })
     × (length out-sets ≡ length out-sets₀)
     × (length out-words ≡ length out-words₀)
@@ -28,7 +28,7 @@ Inv-loop whole bounds show sums used sets entries order totals extremes counts o
     × (length out-neg ≡ length out-neg₀)
 
 abbrev μ-loop : tie.MeasureT-loop
-μ-loop whole bounds show sums used sets entries order totals extremes counts out-sets₀ out-words₀ out-pos₀ out-neg₀ at₀ i₀ out-sets out-words out-pos out-neg at i =
+μ-loop cumulative bounds show sums used sets entries order totals extremes counts out-sets₀ out-words₀ out-pos₀ out-neg₀ at₀ i₀ out-sets out-words out-pos out-neg at i =
     used + 1 - i
 
 abbrev start : tie.At-loop Inv-loop μ-loop → tie.Start Inv-loop μ-loop
@@ -57,7 +57,7 @@ abbrev updated : tie.After-is-due Inv-loop μ-loop → Bool
 updated d = d .before .is-updated .result
 
 seen : (d : tie.After-is-due Inv-loop μ-loop)
-    → Seen (explicitLister (now (start (turn d) .args .bounds))) (start (turn d) .args .show, start (turn d) .args .sums, zeroFloat) (start (turn d) .args .whole) (map (start (turn d))) (turn d .loop .i)
+    → Seen (explicitLister (now (start (turn d) .args .bounds))) (start (turn d) .args .show, start (turn d) .args .sums, zeroFloat) (start (turn d) .args .cumulative) (map (start (turn d))) (turn d .loop .i)
     (slot d) (updated d) (d .is-due .result)
 seen d =
     record {
@@ -71,7 +71,7 @@ loop-holds : tie.Need-loop-holds Inv-loop μ-loop
 loop-holds c =
     let s = c .before .before .before .before .before .before in
     let a = s .args in
-    (omega arith, putting-start (explicitLister (now (a .bounds))) (a .show, a .sums, zeroFloat) (a .whole) (map s) (first s), refl, refl, refl, refl)
+    (omega arith, putting-start (explicitLister (now (a .bounds))) (a .show, a .sums, zeroFloat) (a .cumulative) (map s) (first s), refl, refl, refl, refl)
 
 slot-at-requires : tie.Need-slot-at-requires Inv-loop μ-loop
 slot-at-requires c κs = omega (arith, c .loop-test .taken, start (c .before) .pre .walk .order)
@@ -103,7 +103,7 @@ put-requires c κs =
       (passing b (a .used) (now (a .entries)) (now (a .order)) (lent s) (s .pre .walk), r),
       λ z.
           fits-of b (lent s) (slot d) (updated d) r (l .loop .at) (so-far l)
-          (putting-room (explicitLister b) (a .show, a .sums, zeroFloat) (a .whole) (map s) (first s) (s .pre .room) (l .loop .i) (slot d) (updated d) (d .is-due .result) t (l .loop .at) (so-far l) (l .loop .inv .1) z),
+          (putting-room (explicitLister b) (a .show, a .sums, zeroFloat) (a .cumulative) (map s) (first s) (s .pre .room) (l .loop .i) (slot d) (updated d) (d .is-due .result) t (l .loop .at) (so-far l) (l .loop .inv .1) z),
     )
 
 abbrev done : tie.After-slice-known4 Inv-loop μ-loop → tie.After-put Inv-loop μ-loop
@@ -129,7 +129,7 @@ loop-again c =
     let k = p .put .kept in
     let n = l .loop .inv in (
       omega (arith, seen d .place),
-      putting-next (explicitLister (now (a .bounds))) (a .show, a .sums, zeroFloat) (a .whole) (map s) (first s) (s .pre .room) (l .loop .i) (slot d) (updated d) (d .is-due .result) (seen d)
+      putting-next (explicitLister (now (a .bounds))) (a .show, a .sums, zeroFloat) (a .cumulative) (map s) (first s) (s .pre .room) (l .loop .i) (slot d) (updated d) (d .is-due .result) (seen d)
           (l .loop .at) (so-far l) (n .1) (q .result) (p .put .result) _ (q .ensures) (p .put .ensures),
       k .1 .1 .1 .1 .1 .1 .1 .1 .1 .1 .1 .0 ∙ n .2,
       k .1 .1 .1 .1 .1 .1 .1 .1 .1 .1 .1 .1 .0 ∙ n .3,
@@ -142,7 +142,7 @@ returns c =
     let l = c .before in
     let s = start l in
     let a = s .args in
-    putting-end (explicitLister (now (a .bounds))) (a .show, a .sums, zeroFloat) (a .whole) (map s) (first s) (l .loop .i) (l .loop .at) (so-far l) (omega (arith, c .loop-test .left)) (l .loop .inv .0) (l .loop .inv .1)
+    putting-end (explicitLister (now (a .bounds))) (a .show, a .sums, zeroFloat) (a .cumulative) (map s) (first s) (l .loop .i) (l .loop .at) (so-far l) (omega (arith, c .loop-test .left)) (l .loop .inv .0) (l .loop .inv .1)
 
 pub list-spec : {M : Type 1} → statement M
 list-spec =

@@ -19,14 +19,14 @@ use Rattle.explicit_collection.proofs.walk.survey.Statement.{statement}
 use Rattle.explicit_collection.proofs.walk.survey.Tie as tie
 
 abbrev Inv-loop : tie.InvT-loop
-Inv-loop whole bounds used entries order totals extremes counts found₀ i₀ found i =
+Inv-loop cumulative bounds used entries order totals extremes counts found₀ i₀ found i =
     (i ≤ used + 1)
-    × Surveying (explicitLister bounds) (true, true, zeroFloat) whole (walked used [] entries order (record { totals = totals; extremes = extremes; counts = counts })) i found
+    × Surveying (explicitLister bounds) (true, true, zeroFloat) cumulative (walked used [] entries order (record { totals = totals; extremes = extremes; counts = counts })) i found
     × (found .points ≤ i)
     × (found .pos ≤ i * 160)
 
 abbrev μ-loop : tie.MeasureT-loop
-μ-loop whole bounds used entries order totals extremes counts found₀ i₀ found i = used + 1 - i
+μ-loop cumulative bounds used entries order totals extremes counts found₀ i₀ found i = used + 1 - i
 
 abbrev start : tie.At-loop Inv-loop μ-loop → tie.Start Inv-loop μ-loop
 start l = l .before .before .before .before .before
@@ -42,7 +42,7 @@ abbrev turn : tie.After-survey Inv-loop μ-loop → tie.At-loop Inv-loop μ-loop
 turn v = v .before .before .before .before .before
 
 seen : (v : tie.After-survey Inv-loop μ-loop)
-    → Seen (explicitLister (now (start (turn v) .args .bounds))) (true, true, zeroFloat) (start (turn v) .args .whole) (map (start (turn v))) (turn v .loop .i) (v .before .before .before .slot-at .result)
+    → Seen (explicitLister (now (start (turn v) .args .bounds))) (true, true, zeroFloat) (start (turn v) .args .cumulative) (map (start (turn v))) (turn v .loop .i) (v .before .before .before .slot-at .result)
     (v .before .before .is-updated .result) (v .before .is-due .result)
 seen v =
     record {
@@ -55,7 +55,7 @@ seen v =
 loop-holds : tie.Need-loop-holds Inv-loop μ-loop
 loop-holds c =
     let s = c .before .before .before .before in
-    (omega arith, surveying-start (explicitLister (now (s .args .bounds))) (true, true, zeroFloat) (s .args .whole) (map s), omega arith, omega arith)
+    (omega arith, surveying-start (explicitLister (now (s .args .bounds))) (true, true, zeroFloat) (s .args .cumulative) (map s), omega arith, omega arith)
 
 slot-at-requires : tie.Need-slot-at-requires Inv-loop μ-loop
 slot-at-requires c κs = omega (arith, c .loop-test .taken, start (c .before) .pre .order)
@@ -97,7 +97,7 @@ returns c =
     let d = v .before .is-due .result in
     let z = not-true (v .survey .result .sound) (c .if1 .taken) in
     stopped (now (a .bounds)) u d (lent s) (l .loop .found) (v .survey .result) x (v .survey .ensures .0) (ap (λ (q : Survey). q .sound) (g .is)) z
-    ∙ surveying-stop L (true, true, zeroFloat) (a .whole) (map s) (l .loop .i) x u d (seen v) (l .loop .found) (v .survey .result) g (v .survey .ensures .0) z
+    ∙ surveying-stop L (true, true, zeroFloat) (a .cumulative) (map s) (l .loop .i) x u d (seen v) (l .loop .found) (v .survey .result) g (v .survey .ensures .0) z
 
 add-i : tie.Need-add-i Inv-loop μ-loop
 add-i c = let l = turn (c .before .before) in omega (arith, seen (c .before .before) .place, start l .pre .most)
@@ -113,7 +113,7 @@ loop-again c =
     let a = s .args in
     let e = v .survey .ensures in (
       omega (arith, seen v .place),
-      surveying-next (explicitLister (now (a .bounds))) (true, true, zeroFloat) (a .whole) (map s) (l .loop .i) (v .before .before .before .slot-at .result) (v .before .before .is-updated .result) (v .before .is-due .result)
+      surveying-next (explicitLister (now (a .bounds))) (true, true, zeroFloat) (a .cumulative) (map s) (l .loop .i) (v .before .before .before .slot-at .result) (v .before .before .is-updated .result) (v .before .is-due .result)
           (seen v) (l .loop .found) (v .survey .result) (l .loop .inv .1) (e .0) (not-false (v .survey .result .sound) (c .if1 .left)),
       omega (arith, e .1 .0, l .loop .inv .2),
       omega (arith, e .1 .1, l .loop .inv .3),
@@ -124,7 +124,7 @@ returns-2 c =
     let l = c .before in
     let s = start l in
     let a = s .args in
-    surveying-end (explicitLister (now (a .bounds))) (true, true, zeroFloat) (a .whole) (map s) (l .loop .i) (l .loop .found) (omega (arith, c .loop-test .left)) (l .loop .inv .0) (l .loop .inv .1)
+    surveying-end (explicitLister (now (a .bounds))) (true, true, zeroFloat) (a .cumulative) (map s) (l .loop .i) (l .loop .found) (omega (arith, c .loop-test .left)) (l .loop .inv .0) (l .loop .inv .1)
 
 pub survey-spec : {M : Type 1} → statement M
 survey-spec =

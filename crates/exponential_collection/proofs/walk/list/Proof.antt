@@ -12,13 +12,13 @@ use Rattle.exponential_collection.proofs.walk.list.Statement.{statement
 use Rattle.exponential_collection.proofs.walk.list.Tie as tie
 
 abbrev Inv-loop : tie.InvT-loop
-Inv-loop whole used sets entries order figures extremes pos neg out-sets₀ out-words₀ out-pos₀ out-neg₀ size top show sums at₀ i₀ out-sets out-words out-pos out-neg at i =
-    Listing size top (show, sums) whole used sets entries order (record { figures = figures; extremes = extremes; pos = pos; neg = neg })
+Inv-loop cumulative used sets entries order figures extremes pos neg out-sets₀ out-words₀ out-pos₀ out-neg₀ size top show sums at₀ i₀ out-sets out-words out-pos out-neg at i =
+    Listing size top (show, sums) cumulative used sets entries order (record { figures = figures; extremes = extremes; pos = pos; neg = neg })
     (record { sets = out-sets₀; words = out-words₀; pos = out-pos₀; neg = out-neg₀ }) i at
     (record { sets = out-sets; words = out-words; pos = out-pos; neg = out-neg })
 
 abbrev μ-loop : tie.MeasureT-loop
-μ-loop whole used sets entries order figures extremes pos neg out-sets₀ out-words₀ out-pos₀ out-neg₀ size top show sums at₀ i₀ out-sets out-words out-pos out-neg at i =
+μ-loop cumulative used sets entries order figures extremes pos neg out-sets₀ out-words₀ out-pos₀ out-neg₀ size top show sums at₀ i₀ out-sets out-words out-pos out-neg at i =
     used + 1 - i
 
 abbrev Start : Type 0
@@ -41,7 +41,7 @@ abbrev turnOf : tie.After-is-due Inv-loop μ-loop → tie.In-loop Inv-loop μ-lo
 turnOf c = c .before .before .before
 
 seen : (c : tie.After-is-due Inv-loop μ-loop)
-    → Seen (exponentialLister (start (turnOf c) .args .s .size) (start (turnOf c) .args .s .top)) (start (turnOf c) .args .s .extremes, start (turnOf c) .args .s .sums) (start (turnOf c) .args .whole)
+    → Seen (exponentialLister (start (turnOf c) .args .s .size) (start (turnOf c) .args .s .top)) (start (turnOf c) .args .s .extremes, start (turnOf c) .args .s .sums) (start (turnOf c) .args .cumulative)
     (walked (start (turnOf c) .args .used) (start (turnOf c) .args .sets .now) (start (turnOf c) .args .entries .now) (start (turnOf c) .args .order .now) (lent (start (turnOf c))))
     (turnOf c .before .loop .i) (c .before .before .slot-at .result) (c .before .is-updated .result) (c .is-due .result)
 seen c =
@@ -66,7 +66,7 @@ loop-holds : tie.Need-loop-holds Inv-loop μ-loop
 loop-holds c =
     let s = c .before .before .before .before .before in
     let a = s .args in
-    list-start (a .s .size) (a .s .top) (a .s .extremes, a .s .sums) (a .whole) (a .used) (a .sets .now) (a .entries .now) (a .order .now) (lent s) (out s)
+    list-start (a .s .size) (a .s .top) (a .s .extremes, a .s .sums) (a .cumulative) (a .used) (a .sets .now) (a .entries .now) (a .order .now) (lent s) (out s)
 
 slot-at-requires : tie.Need-slot-at-requires Inv-loop μ-loop
 slot-at-requires c κs = omega (arith, c .loop-test .taken, start c .pre .walk .order)
@@ -87,8 +87,8 @@ put-requires c κs =
     let s = start t in
     let a = s .args in
     let l = t .before .loop in (
-      slot-sound (a .s .size) (a .s .top) (a .s .extremes, a .s .sums) (a .whole) (a .used) (a .sets .now) (a .entries .now) (a .order .now) (lent s) (out s) (s .pre) (l .i) _ _ _ (seen d),
-      slot-free (a .s .size) (a .s .top) (a .s .extremes, a .s .sums) (a .whole) (a .used) (a .sets .now) (a .entries .now) (a .order .now) (lent s) (out s) (s .pre) (l .i) _ _ _ (seen d)
+      slot-sound (a .s .size) (a .s .top) (a .s .extremes, a .s .sums) (a .cumulative) (a .used) (a .sets .now) (a .entries .now) (a .order .now) (lent s) (out s) (s .pre) (l .i) _ _ _ (seen d),
+      slot-free (a .s .size) (a .s .top) (a .s .extremes, a .s .sums) (a .cumulative) (a .used) (a .sets .now) (a .entries .now) (a .order .now) (lent s) (out s) (s .pre) (l .i) _ _ _ (seen d)
           (l .at) (outNow (t .before)) (l .inv),
     )
 
@@ -113,7 +113,7 @@ loop-again c =
     let s = start t in
     let a = s .args in
     let l = t .before .loop in
-    list-next (a .s .size) (a .s .top) (a .s .extremes, a .s .sums) (a .whole) (a .used) (a .sets .now) (a .entries .now) (a .order .now) (lent s) (out s) (s .pre) (l .i) _ _ _ (seen d)
+    list-next (a .s .size) (a .s .top) (a .s .extremes, a .s .sums) (a .cumulative) (a .used) (a .sets .now) (a .entries .now) (a .order .now) (lent s) (out s) (s .pre) (l .i) _ _ _ (seen d)
     (l .at) (outNow (t .before)) (l .inv) (r .row-at .result) (r .row-at .ensures) (p .put .result) _ (p .put .ensures)
 
 -- the output keeps its lengths
@@ -122,7 +122,7 @@ long c =
     let s = entry (c .before) in
     let a = s .args in
     let l = c .before .loop in
-    list-alike (a .s .size) (a .s .top) (a .s .extremes, a .s .sums) (a .whole) (a .used) (a .sets .now) (a .entries .now) (a .order .now) (lent s) (out s) (s .pre) (l .i) (l .at) (outNow (c .before)) (l .inv)
+    list-alike (a .s .size) (a .s .top) (a .s .extremes, a .s .sums) (a .cumulative) (a .used) (a .sets .now) (a .entries .now) (a .order .now) (lent s) (out s) (s .pre) (l .i) (l .at) (outNow (c .before)) (l .inv)
 
 same-length : tie.Need-same-length Inv-loop μ-loop
 same-length c = long c .sets
@@ -141,7 +141,7 @@ returns c =
     let s = entry (c .before) in
     let a = s .args in
     let l = c .before .loop in
-    list-end (a .s .size) (a .s .top) (a .s .extremes, a .s .sums) (a .whole) (a .used) (a .sets .now) (a .entries .now) (a .order .now) (lent s) (out s) (l .i) (l .at) (outNow (c .before)) (l .inv)
+    list-end (a .s .size) (a .s .top) (a .s .extremes, a .s .sums) (a .cumulative) (a .used) (a .sets .now) (a .entries .now) (a .order .now) (lent s) (out s) (l .i) (l .at) (outNow (c .before)) (l .inv)
     (omega (arith, c .loop-test .left))
 
 pub list-spec : {M : Type 1} → statement M

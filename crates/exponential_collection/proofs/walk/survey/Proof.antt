@@ -14,11 +14,11 @@ use Rattle.exponential_collection.proofs.walk.survey.Statement.{stateme
 use Rattle.exponential_collection.proofs.walk.survey.Tie as tie
 
 abbrev Inv-loop : tie.InvT-loop
-Inv-loop whole used entries order figures extremes pos neg size top found₀ i₀ found i =
-    Surveyed size top whole used entries order (record { figures = figures; extremes = extremes; pos = pos; neg = neg }) i found
+Inv-loop cumulative used entries order figures extremes pos neg size top found₀ i₀ found i =
+    Surveyed size top cumulative used entries order (record { figures = figures; extremes = extremes; pos = pos; neg = neg }) i found
 
 abbrev μ-loop : tie.MeasureT-loop
-μ-loop whole used entries order figures extremes pos neg size top found₀ i₀ found i = used + 1 - i
+μ-loop cumulative used entries order figures extremes pos neg size top found₀ i₀ found i = used + 1 - i
 
 abbrev Start : Type 0
 Start = tie.Start Inv-loop μ-loop
@@ -41,7 +41,7 @@ abbrev turn : tie.After-is-due Inv-loop μ-loop → tie.In-loop Inv-loop μ-loop
 turn c = c .before .before .before
 
 seen : (c : tie.After-is-due Inv-loop μ-loop)
-    → Seen (exponentialLister (start (turn c) .args .s .size) (start (turn c) .args .s .top)) (true, true) (start (turn c) .args .whole)
+    → Seen (exponentialLister (start (turn c) .args .s .size) (start (turn c) .args .s .top)) (true, true) (start (turn c) .args .cumulative)
     (walked (start (turn c) .args .used) [] (start (turn c) .args .entries .now) (start (turn c) .args .order .now) (lent (start (turn c))))
     (turn c .before .loop .i) (c .before .before .slot-at .result) (c .before .is-updated .result) (c .is-due .result)
 seen c =
@@ -56,7 +56,7 @@ loop-holds : tie.Need-loop-holds Inv-loop μ-loop
 loop-holds c =
     let s = c .before .before .before in
     let a = s .args in
-    survey-start (a .s .size) (a .s .top) (a .whole) (a .used) (a .entries .now) (a .order .now) (lent s)
+    survey-start (a .s .size) (a .s .top) (a .cumulative) (a .used) (a .entries .now) (a .order .now) (lent s)
 
 slot-at-requires : tie.Need-slot-at-requires Inv-loop μ-loop
 slot-at-requires c κs = omega (arith, c .loop-test .taken, start c .pre .order)
@@ -85,7 +85,7 @@ returns c =
     let s = start t in
     let a = s .args in
     let l = t .before .loop in
-    survey-stop (a .s .size) (a .s .top) (a .whole) (a .used) (a .entries .now) (a .order .now) (lent s) (l .i) _ _ _ (seen d)
+    survey-stop (a .s .size) (a .s .top) (a .cumulative) (a .used) (a .entries .now) (a .order .now) (lent s) (l .i) _ _ _ (seen d)
     (l .found) (v .survey .result) (l .inv) (v .survey .ensures .0) (not-true (v .survey .result .sound) (c .if1 .taken))
 
 add-i : tie.Need-add-i Inv-loop μ-loop
@@ -107,7 +107,7 @@ loop-again c =
     let a = s .args in
     let l = t .before .loop in
     let b = v .survey .ensures .1 in
-    survey-next (a .s .size) (a .s .top) (a .whole) (a .used) (a .entries .now) (a .order .now) (lent s) (l .i) _ _ _ (seen d)
+    survey-next (a .s .size) (a .s .top) (a .cumulative) (a .used) (a .entries .now) (a .order .now) (lent s) (l .i) _ _ _ (seen d)
     (l .found) (v .survey .result) (l .inv) (v .survey .ensures .0) (not-false (v .survey .result .sound) (c .if1 .left)) (b .0) (b .1) (b .2)
 
 returns-2 : tie.Need-returns-2 Inv-loop μ-loop
@@ -115,7 +115,7 @@ returns-2 c =
     let s = c .before .before .before .before .before in
     let a = s .args in
     let l = c .before .loop in
-    survey-end (a .s .size) (a .s .top) (a .whole) (a .used) (a .entries .now) (a .order .now) (lent s) (l .i) (l .found) (l .inv) (omega (arith, c .loop-test .left))
+    survey-end (a .s .size) (a .s .top) (a .cumulative) (a .used) (a .entries .now) (a .order .now) (lent s) (l .i) (l .found) (l .inv) (omega (arith, c .loop-test .left))
 
 pub survey-spec : {M : Type 1} → statement M
 survey-spec =

@@ -3,7 +3,7 @@ use mathlib.Core.Path.{_≡_, refl, subst}
 use Prim.Native.Nat.{ℕ}
 use native.Mathlib.Omega.{arith}
 use lib.ListN.{getD}
-use Rattle.laws.specs.NoneOf.{past}
+use Rattle.laws.proofs.NoneOf.{past}
 use Rattle.index.specs.Pieces.{pieces}
 use Rattle.index.proofs.pieces.last_piece.Statement.{statement}
 use Rattle.index.proofs.pieces.last_piece.Tie as tie

@@ -4,7 +4,8 @@ use lib.Dec.{T}
 use mir.Syntax.{w32}
 use mir.ValLaws.{toZ-ofZ}
 use lib.Ieee.{binary64, fits}
-use Rattle.index.specs.Signed.{levelAnswer, binIndex}
+use Rattle.index.specs.Signed.{levelAnswer}
+use Rattle.index.specs.Inner.{binIndex}
 use Rattle.index.proofs.Values.{no-scale, from-bin}
 use borrow.Author.Needs.{needs}
 use Rattle.index.proofs.signed.get_index.Statement.{statement}

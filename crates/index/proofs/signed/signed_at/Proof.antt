@@ -3,7 +3,7 @@ use mathlib.Core.Path.{sym, ap, _∙_}
 use mir.Syntax.{w32}
 use mir.Val.{SFits}
 use mir.ValLaws.{toZ-ofZ}
-use Rattle.index.specs.Signed.{signedAt}
+use Rattle.index.specs.Inner.{signedAt}
 use Rattle.index.specs.declared.signed.Index.the-variants as X
 use borrow.Author.Needs.{needs}
 use Rattle.index.proofs.signed.signed_at.Statement.{statement}

@@ -1,6 +1,6 @@
 -- `index::signed::signed_bin` meets its contract. Assumes nothing.
 use mathlib.Core.Path.{sym, ap, _∙_}
-use Rattle.index.specs.Signed.{binIndex, signedAt}
+use Rattle.index.specs.Inner.{binIndex, signedAt}
 use borrow.Author.Needs.{needs}
 use Rattle.index.proofs.signed.signed_bin.Statement.{statement}
 use Rattle.index.proofs.signed.signed_bin.Tie as tie

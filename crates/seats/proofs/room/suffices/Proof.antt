@@ -3,7 +3,7 @@ use borrow.Author.Needs.{needs}
 use Prim.Native.Nat.{_+_}
 use mathlib.Core.Path.{ap, _∙_}
 use lib.Dec.{leb}
-use Rattle.seats.specs.Seats.{lesserOf}
+use Rattle.seats.specs.Inner.{lesserOf}
 use Rattle.seats.proofs.Least.{all-suffice}
 use Rattle.seats.proofs.room.suffices.Statement.{statement}
 use Rattle.seats.proofs.room.suffices.Tie as tie

@@ -2,7 +2,7 @@
 use borrow.Author.Needs.{needs}
 use mathlib.Core.Path.{sym, ap}
 use native.Mathlib.Omega.{arith}
-use Rattle.sets.specs.Rows.{way}
+use Rattle.sets.specs.Inner.{way}
 use Rattle.sets.proofs.Partings.{part-shorter, part-longer, part-same, part-low, part-high}
 use Rattle.sets.proofs.set_row.compare.Statement.{statement}
 use Rattle.sets.proofs.set_row.compare.Tie as tie

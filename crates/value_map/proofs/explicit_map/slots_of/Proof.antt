@@ -3,7 +3,7 @@ use borrow.Author.Needs.{needs}
 use Prim.Native.Nat.{ℕ, _+_, _*_, _/_}
 use mathlib.Core.Path.{ap, _∙_}
 use lib.Dec.{leb}
-use Rattle.seats.specs.Seats.{lesserOf}
+use Rattle.seats.specs.Inner.{lesserOf}
 use Rattle.value_map.proofs.Products.{rows-none, rows-many, least-none, least-many}
 use Rattle.value_map.proofs.explicit_map.slots_of.Statement.{statement}
 use Rattle.value_map.proofs.explicit_map.slots_of.Tie as tie

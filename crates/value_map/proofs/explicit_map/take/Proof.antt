@@ -6,7 +6,8 @@ use denote.Ref.{now}
 use Rattle.points.specs.Explicit.{boundsPass}
 use Rattle.explicit_slots.specs.Cells.{Cells, cells}
 use Rattle.parts.specs.Recording.{after}
-use Rattle.value_map.specs.Explicit.{explicitStore, turned}
+use Rattle.value_map.specs.Explicit.{explicitStore}
+use Rattle.value_map.specs.Inner.{turned}
 use Rattle.value_map.proofs.Ways.{take-no, take-on}
 use Rattle.value_map.proofs.Values.{finite-is}
 use Rattle.value_map.proofs.explicit_map.take.Statement.{statement}

@@ -4,7 +4,7 @@ use Prim.Native.Nat.{_+_, _/_}
 use mathlib.Core.Path.{ap, _∙_}
 use mathlib.Core.Bool.{_&&_}
 use lib.Dec.{leb}
-use Rattle.seats.specs.Seats.{lesserOf}
+use Rattle.seats.specs.Inner.{lesserOf}
 use Rattle.seats.proofs.Least.{both-suffice}
 use Rattle.value_map.specs.Exponential.{lengthsSuffice}
 use Rattle.value_map.proofs.Products.{rows-none, rows-many, least-none, least-many}

@@ -5,7 +5,8 @@ use mathlib.Core.Bool.{cond}
 use mathlib.Core.List.{[], _∷_}
 use mathlib.Core.Option.{Option, none, some, Option·getD}
 use Rattle.tally.specs.Kind.{Kind, unless, firstOf}
-use Rattle.tally.specs.Map.{Entry, fits, sound}
+use Rattle.tally.specs.Map.{Entry, sound}
+use Rattle.tally.proofs.MapSteps.{fits}
 use Rattle.directory.specs.declared.Directory.{Directory}
 use Rattle.seats.specs.declared.Seating.{Seating}
 

@@ -1,7 +1,7 @@
 use borrow.Author.Needs.{needs}
 use Rattle.laws.specs.Pick.{pick}
-use Rattle.exponential.proofs.signed_row.Statement.{statement}
-use Rattle.exponential.proofs.signed_row.Tie as tie
+use Rattle.exponential.proofs.adding.signed_row.Statement.{statement}
+use Rattle.exponential.proofs.adding.signed_row.Tie as tie
 
 returns : tie.Need-returns
 unfolding pick

@@ -1,8 +1,8 @@
 use mathlib.Core.Path.{sym, ap, _∙_}
 use borrow.Author.Needs.{needs}
 use Rattle.exponential.specs.Inner.{classAt}
-use Rattle.exponential.proofs.class_of.Statement.{statement}
-use Rattle.exponential.proofs.class_of.Tie as tie
+use Rattle.exponential.proofs.adding.class_of.Statement.{statement}
+use Rattle.exponential.proofs.adding.class_of.Tie as tie
 
 get-bin-requires : tie.Need-get-bin-requires
 get-bin-requires c κs = search needs

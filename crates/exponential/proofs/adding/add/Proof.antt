@@ -13,8 +13,8 @@ use Rattle.exponential.proofs.Facts.{Agreed, agreed, level-in}
 use Rattle.exponential.proofs.Write.{written-zero}
 use Rattle.exponential.proofs.Warm.{beside-of, tried-in, still-ready, still-written}
 use borrow.Author.Needs.{needs}
-use Rattle.exponential.proofs.add.Statement.{statement}
-use Rattle.exponential.proofs.add.Tie as tie
+use Rattle.exponential.proofs.adding.add.Statement.{statement}
+use Rattle.exponential.proofs.adding.add.Tie as tie
 
 -- ---- zero
 

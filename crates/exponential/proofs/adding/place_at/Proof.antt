@@ -11,8 +11,8 @@ use Rattle.exponential.specs.Inner.{Ready, Written, oneMore, signed}
 use Rattle.exponential.proofs.Write.{swapped, written-swap}
 use Rattle.exponential.proofs.Warm.{room-at, levels-at, put-at, ready-swap}
 use borrow.Author.Needs.{needs}
-use Rattle.exponential.proofs.place_at.Statement.{statement}
-use Rattle.exponential.proofs.place_at.Tie as tie
+use Rattle.exponential.proofs.adding.place_at.Statement.{statement}
+use Rattle.exponential.proofs.adding.place_at.Tie as tie
 
 abbrev start : tie.After-n → tie.Start
 start n = n .before .before .before .before

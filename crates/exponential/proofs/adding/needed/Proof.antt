@@ -2,8 +2,8 @@ use Prim.Native.Nat.{_-_}
 use native.Mathlib.Omega.{arith}
 use Rattle.exponential.proofs.Rowed.{bins-empty, bins-some}
 use borrow.Author.Needs.{needs}
-use Rattle.exponential.proofs.needed.Statement.{statement}
-use Rattle.exponential.proofs.needed.Tie as tie
+use Rattle.exponential.proofs.adding.needed.Statement.{statement}
+use Rattle.exponential.proofs.adding.needed.Tie as tie
 
 scale-change-requires : tie.Need-scale-change-requires
 scale-change-requires c κs = search needs

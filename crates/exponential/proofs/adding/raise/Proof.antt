@@ -7,8 +7,8 @@ use Rattle.rows.specs.declared.Row.{Row}
 use Rattle.rows.proofs.Adds.{holds-below, holds-above}
 use Rattle.exponential.proofs.Raises.{within-both, sums-fit, tried-yes, tried-no}
 use borrow.Author.Needs.{needs}
-use Rattle.exponential.proofs.raise.Statement.{statement}
-use Rattle.exponential.proofs.raise.Tie as tie
+use Rattle.exponential.proofs.adding.raise.Statement.{statement}
+use Rattle.exponential.proofs.adding.raise.Tie as tie
 
 abbrev start : tie.After-signed-row → tie.Start
 start r = r .before .before .before

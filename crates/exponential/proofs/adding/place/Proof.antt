@@ -8,8 +8,8 @@ use lib.Seq.{length-take-le}
 use Rattle.rows.proofs.Laws.{length-downscaled, total-downscaled}
 use Rattle.rows.proofs.Adds as adds
 use borrow.Author.Needs.{needs}
-use Rattle.exponential.proofs.place.Statement.{statement}
-use Rattle.exponential.proofs.place.Tie as tie
+use Rattle.exponential.proofs.adding.place.Statement.{statement}
+use Rattle.exponential.proofs.adding.place.Tie as tie
 
 -- the row at the lower level
 abbrev D : tie.Start → List ℕ

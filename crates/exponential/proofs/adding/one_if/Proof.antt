@@ -1,7 +1,7 @@
 use borrow.Author.Needs.{needs}
 use Rattle.laws.specs.Pick.{pick}
-use Rattle.exponential.proofs.one_if.Statement.{statement}
-use Rattle.exponential.proofs.one_if.Tie as tie
+use Rattle.exponential.proofs.adding.one_if.Statement.{statement}
+use Rattle.exponential.proofs.adding.one_if.Tie as tie
 
 returns : tie.Need-returns
 unfolding pick

@@ -8,8 +8,8 @@ use Rattle.exponential.specs.Series.{rowIn}
 use Rattle.exponential.specs.Inner.{Laid, lowerBy}
 use Rattle.exponential.proofs.Write.{needed-in}
 use borrow.Author.Needs.{needs}
-use Rattle.exponential.proofs.put.Statement.{statement}
-use Rattle.exponential.proofs.put.Tie as tie
+use Rattle.exponential.proofs.adding.put.Statement.{statement}
+use Rattle.exponential.proofs.adding.put.Tie as tie
 
 -- the lowering found
 abbrev K : tie.After-needed → ℕ

@@ -123,7 +123,8 @@ pub fn bucket_of(bounds: &[f64], v: f64) -> usize
 
 // ---- a fresh series
 
-// A series that has counted nothing: zeros in its row, or 12 where the row lent is too short.
+// A series that has counted nothing: zeros in its row, or 12 where the row lent is too short. It writes, where the exponential kind's does not:
+// an explicit series agrees only with counts in its row.
 pub fn fresh(bounds: &[f64], counts: &mut [u64]) -> Answer
     ensures { λ r. ⌜ outcome (said r) (now (counts .exit)) ≡ freshening (now (bounds .entry)) (now (counts .entry)) ⌝ }
 {

@@ -3,7 +3,7 @@ use lib.Dec.{T}
 use lib.Ieee.{Float, binary64, ofBits, fits}
 use lib.Ieee.Scale.{finite}
 
--- x is a finite number that f64 has
+-- x is a finite number that f64 has: the floats of the logic also have numbers that f64 lacks
 pub record FiniteF64 (x : Float) : Type 0 where
   pub known : T (finite x)
   pub fits : T (fits binary64 x)

@@ -19,7 +19,8 @@ howMany p (suc n) = cond (p n) 1 0 + howMany p n
 unfoldable pub finestBin : ℕ → ℕ
 finestBin w = howMany (λ b. ltb (2 ^ (b + 1)) (w ^ 1024)) (3 * 2 ^ 20)
 
--- the bin at a level
+-- the bin at a level. Total, so that callers' definitions need no side condition: a magnitude of 0 has the bin 0, and above the finest level it
+-- is the finest bin
 abbrev pub binAt : ℕ → ℕ → ℕ
 binAt level w = finestBin w / 2 ^ (finest - level)
 

@@ -45,6 +45,7 @@ counts-kept (explicit bounds) t (exponentialCounts p) v e f h = h
 counts-kept (explicit bounds) t (explicitCounts b p) v e f h =
     buckets-agree bounds (recordBucket bounds p v) (record-buckets-ok bounds p v (buckets-say bounds p h))
 
+-- below size 3 a recording need not fit even at scale -10: hence `valid`
 pub stays-agreeing : (z : Settings) (x : Figures) (v : Float) → histograms .valid z ≡ true → histograms .finite v ≡ true
     → histograms .agrees z x ≡ true → histograms .agrees z (recordFigures z x v) ≡ true
 stays-agreeing z x v e f h =

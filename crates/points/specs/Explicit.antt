@@ -64,7 +64,8 @@ recordBucket bounds p v =
       total = p .total + 1;
     }
 
--- two points merged: counts added place by place
+-- two points merged: counts added place by place. Total on lists of unlike length, so that the laws need no premise; points of unlike bounds
+-- are refused with 11 before
 unfoldable pub added : List ℕ → List ℕ → List ℕ
 added [] ys = ys
 added (x ∷ xs) [] = x ∷ xs

@@ -30,7 +30,7 @@ pub fn unset_of(size: u32, top: u32) -> u8
     0
 }
 
-// How many slots the series' stores of these lengths have room for.
+// How many slots the series' stores of these lengths have room for: by division, so that no product leaves its range.
 fn slots_of(size: u32, figures: usize, extremes: usize, pos: usize, neg: usize) -> usize
     ensures { λ r. ⌜ ((limit : ℕ) → leb (limit + 2) r ≡ lengthsSuffice size limit figures extremes pos neg) ⌝ }
 {

@@ -4,6 +4,7 @@ use mathlib.Core.Path.{_≡_, refl, ap, sym, subst, _∙_}
 use mathlib.Core.Bool.{Bool, true, false, cond, not, _||_}
 use mathlib.Core.List.{List, [], _∷_, map}
 use mathlib.Core.Option.{Option, none, some, Option·getD}
+use Rattle.laws.proofs.Bools.{some?}
 use Rattle.laws.proofs.Cases.{some-inj, none-not-some}
 use Rattle.tally.specs.Sets.{Set, same}
 use Rattle.tally.specs.Kind.{Kind}
@@ -12,7 +13,7 @@ use Rattle.tally.specs.Tally.{Tally, valuesOf}
 use Rattle.tally.specs.Demand.{any}
 use Rattle.tally.specs.Runs.{only, listed?, Listed}
 use Rattle.tally.proofs.Lawful.{Lawful}
-use Rattle.tally.proofs.Entries.{find-set, Shown, points-are}
+use Rattle.tally.proofs.Entries.{mem-keys, find-set, Shown, points-are}
 use Rattle.tally.proofs.Holds.{Kept, Holds}
 use Rattle.tally.proofs.Places.{has-now}
 
@@ -50,8 +51,16 @@ module _ (K : Kind) (L : Lawful K) (U : List Set) (top k : ℕ) (m : Map K) (t :
       (subst (λ x. Shown K (m .settings) (cond (same x []) (e .series) (some (current K (m .settings) e))) (listed? (any K (vs s)) s) (K .pointOf (m .settings) (vs s)))
       (sym (find-set K s (m .entries) e (r .1))) (shown s (same s []) (e .series) (h .here s e (r .1) .series)))
 
+  held : (s : Set) (o : Option (Entry K)) → find K s (m .entries) ≡ o → any K (vs s) ≡ true → some? o ≡ true
+  held s none q p = sym (ap (λ l. any K l) (h .gone s q)) ∙ p
+  held s (some e) q p = refl
+
   pub cumulative-are : Listed K m t
   cumulative-are =
       let k = keys-filled K (m .settings) (m .entries) in
-      points-are K (m .settings) (λ s. listed? (any K (vs s)) s) (λ s. K .pointOf (m .settings) (vs s)) (map (filled K (m .settings)) (m .entries)) (rw k (h .rising)) each
-      ∙ ap (λ l. map (λ s. (s, K .pointOf (m .settings) (vs s))) (only (λ s. listed? (any K (vs s)) s) l)) k
+      record {
+        shown =
+            points-are K (m .settings) (λ s. listed? (any K (vs s)) s) (λ s. K .pointOf (m .settings) (vs s)) (map (filled K (m .settings)) (m .entries)) (rw k (h .rising)) each
+            ∙ ap (λ l. map (λ s. (s, K .pointOf (m .settings) (vs s))) (only (λ s. listed? (any K (vs s)) s) l)) k;
+        every = λ s p. mem-keys K s (m .entries) ∙ held s (find K s (m .entries)) refl p;
+      }

@@ -6,9 +6,10 @@ use mathlib.Core.List.{List, [], _∷_, map}
 use mathlib.Core.Option.{some}
 use lib.Dec.{eqb}
 use Rattle.laws.specs.Tests.{all}
-use Rattle.tally.specs.Sets.{Set, same}
+use Rattle.tally.specs.Sets.{Set, same, mem}
 use Rattle.tally.specs.Kind.{Kind}
-use Rattle.tally.specs.Map.{Config, Entry, Map, Call, measure, measureBy, bind, release, collect, Answer, refuse, done, handle, listed, named, points, filled, keys}
+use Rattle.tally.specs.Map.{Config, Entry, Map, Call, measure, measureBy, bind, release, collect}
+use Rattle.tally.specs.Map.{Answer, refuse, done, handle, listed, named, points, filled, keys}
 use Rattle.tally.specs.Tally.{Tally, empty, valuesOf, after}
 use Rattle.tally.specs.Demand.{any, Premise, Code, asked, left, ran}
 
@@ -26,11 +27,11 @@ module _ (K : Kind) where
   abbrev pub quiet : Answer K → Bool
   quiet a = elim a [ refuse n ↦ not (eqb n 8 || eqb n 12) | done ↦ true | handle b ↦ true | listed ps ↦ true ]
 
-  -- a cumulative collection of the map m would list the points of the values that wait in the tally t
-  abbrev pub Listed : Map K → Tally K → Type 0
-  Listed m t =
-      points K (m .settings) (map (filled K (m .settings)) (m .entries))
-      ≡ map (λ s. (s, K .pointOf (m .settings) (valuesOf K s (t .waiting)))) (only (λ s. listed? (any K (valuesOf K s (t .waiting))) s) (keys K (m .entries)))
+  -- a cumulative collection of the map m would list the points of the values that wait in the tally t, and every set that has any is there
+  pub record Listed (m : Map K) (t : Tally K) : Type 0 where
+    pub shown : points K (m .settings) (map (filled K (m .settings)) (m .entries))
+        ≡ map (λ s. (s, K .pointOf (m .settings) (valuesOf K s (t .waiting)))) (only (λ s. listed? (any K (valuesOf K s (t .waiting))) s) (keys K (m .entries)))
+    pub every : (s : Set) → any K (valuesOf K s (t .waiting)) ≡ true → mem s (keys K (m .entries)) ≡ true
 
   -- the handle h names an entry of the set s, with more than n bindings
   abbrev pub Names : ℕ → Set → ℕ → Map K → Type 0

@@ -15,7 +15,6 @@ bindings lib start bind release
 exponential lib record
 explicit lib fresh record
 point lib merge
-point in_place merge_into
 point signed scale offset sum_bits
 pooling lib merge_at
 listing read point_at row_at bounds_at

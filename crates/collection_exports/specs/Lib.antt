@@ -1,2 +1,2 @@
--- What the exported call's contract cites.
+-- What the exported calls' contracts cite.
 pub mod Words

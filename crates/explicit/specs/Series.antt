@@ -7,7 +7,7 @@ use lib.Ieee.{Float}
 use lib.Ieee.Scale.{finite}
 use Rattle.laws.specs.Pick.{pick, _and_}
 use Rattle.laws.specs.Said.{Said, refusal, success}
-use Rattle.rows.specs.Rows.{over}
+use Rattle.laws.specs.Over.{over}
 use Rattle.points.specs.Explicit.{Buckets, bucketCount, recordBucket, bucketsAgree}
 use Rattle.points.specs.Values.{Summary, start, noted}
 use Rattle.explicit.specs.declared.Head.{Head}

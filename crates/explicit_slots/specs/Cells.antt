@@ -9,7 +9,7 @@ use Rattle.laws.specs.Pick.{pick}
 use Rattle.laws.specs.Said.{Said, refusal, success}
 use Rattle.parts.specs.Parts.{partAt, putAt}
 use Rattle.parts.specs.Recording.{Recording, after}
-use Rattle.rows.specs.Rows.{over}
+use Rattle.laws.specs.Over.{over}
 use Rattle.points.specs.Explicit.{bucketCount, boundsPass}
 use Rattle.points.specs.Figures.{Figures, explicitCounts}
 use Rattle.explicit.specs.declared.Head.{Head}

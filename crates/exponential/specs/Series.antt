@@ -17,7 +17,7 @@ use Rattle.points.specs.Points.{Point, record1}
 use Rattle.points.specs.Agreement as A
 pub use Rattle.points.specs.Figures.{leastSize, mostSize}
 use Rattle.points.specs.Values.{classOf}
-use Rattle.rows.specs.Rows.{over}
+use Rattle.laws.specs.Over.{over}
 use Rattle.rows.specs.declared.Row.{Row}
 use Rattle.exponential.specs.declared.Counts.{Counts}
 use Rattle.exponential.specs.declared.Head.{Head}

@@ -15,7 +15,7 @@ use Rattle.points.specs.Explicit.{sameBounds, bucketsAgree}
 use Rattle.points.specs.Figures as F
 use Rattle.points.specs.Figures.{exponentialCounts, explicitCounts}
 use Rattle.points.specs.Handed.{Handed, extremesAgree, mergeCounts}
-use Rattle.rows.specs.Rows.{over}
+use Rattle.laws.specs.Over.{over}
 use Rattle.exponential.specs.declared.Head as SH
 use Rattle.exponential.specs.Series.{sizePasses, read, countsFor, agrees}
 use Rattle.explicit.specs.declared.Head as BH

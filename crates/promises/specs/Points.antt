@@ -15,7 +15,7 @@ use Rattle.points.specs.Explicit.{boundsPass, bucketCount}
 use Rattle.points.specs.Figures.{leastSize, mostSize, exponential, explicit, sizeOf, Settings}
 use Rattle.points.specs.Same.{resized, Of, Same}
 use Rattle.points.specs.Stands.{Stands}
-use Rattle.rows.specs.Rows.{over}
+use Rattle.laws.specs.Over.{over}
 use Rattle.exponential.specs.Runs as E
 use Rattle.explicit.specs.Series.{freshHead}
 use Rattle.explicit.specs.Runs as X

@@ -1,4 +1,4 @@
--- Demand 3: its premise, what it claims, and the claim for any faithful code, whose calls do the map's steps. Assumes nothing.
+-- Demand 3: its premise, what it claims of answers and points, and the code that it is claimed of. Assumes nothing.
 use Prim.Native.Nat.{ℕ, _+_, _^_, _≤_, _<_}
 use mathlib.Core.Path.{_≡_}
 use mathlib.Core.Bool.{Bool, true, false, cond}

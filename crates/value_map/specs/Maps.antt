@@ -1,4 +1,4 @@
--- The map that is held, as tally's: what it stands for, and what a call's outcome and a configuration are there. Assumes nothing.
+-- The map that is held, as tally's: what it stands for, and what a configuration is there. Assumes nothing.
 use Prim.Native.Nat.{ℕ}
 use mathlib.Core.List.{List}
 use mathlib.Core.Option.{Option}

@@ -30,7 +30,7 @@ use Rattle.directory.specs.declared.Target.{Target}
 use Rattle.directory.specs.declared.Target.the-variants.{Disagrees, Old, New, Over}
 use Rattle.directory.proofs.Laid.{laid, laid-agrees, laid-rebind, laid-admit}
 use Rattle.directory.proofs.Laws.{slotsOf, few, slot-used, scan-in}
-use Rattle.directory.proofs.Located.{located-no, blank, told, old-there, new-there, over-there, some-words, sound-over}
+use Rattle.directory.proofs.Located.{blank, told, old-there, new-there, over-there, some-words, sound-over}
 use Rattle.directory.proofs.Refusals.{suffices}
 use Rattle.directory.proofs.Tied.{agreed}
 use Rattle.bindings.specs.Calls.{Outcome, refused, releasedAt, releasedIn, boundAt, boundIn, fresh, started, bound, released}
@@ -93,12 +93,6 @@ module _ (limit : ℕ) (filter : Option (List ℕ)) (d : Directory) (s : Stores)
   bound-many : storesSuffice limit s ≡ true → leb (length attrs) mostAttributes ≡ false → bound limit filter d s attrs ≡ refused 5 d s
   unfolding bound pick
   bound-many e h = rw (e, h)
-
-  -- a directory that disagrees: 8, after 12 and 5
-  pub bound-damaged : storesSuffice limit s ≡ true → leb (length attrs) mostAttributes ≡ true → accepts limit filter ≡ true → agreesb limit d s ≡ false → bound limit filter d s attrs ≡ refused 8 d s
-  unfolding boundIn
-  bound-damaged e h a g =
-      let l = located-no limit d s (rowOf (canonical filter attrs)) g in bound-is e h a ∙ rw l
 
 -- FAITHFUL. Each call is the map's step, wherever the directory agrees, in stores that suffice
 module _ (K : Kind) (f : ℕ → K .Series) (z : K .Settings) (c : Config K) (d : Directory) (s : Stores) (g : agreesb (c .limit) d s ≡ true) (e : storesSuffice (c .limit) s ≡ true) where

@@ -115,7 +115,7 @@ pub fn bind_in(
         directory::Target::Old(x) => bind_held(d, entries, x),
         directory::Target::New(r) => bind_new(d, sets, entries, order, row, r, 1),
         directory::Target::Over(r) => {
-            let over: [u64; 9] = [18446744069414584321, 0, 0, 0, 0, 0, 0, 0, 1];
+            let over: [u64; 9] = sets::OVERFLOW_ROW;
             bind_new(d, sets, entries, order, over, r, 0)
         }
     }

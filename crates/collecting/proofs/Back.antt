@@ -13,9 +13,8 @@ use Rattle.tally.specs.Sets.{Set}
 use Rattle.sets.specs.Rows.{pair, size, span, setOf, wordOf, rowOf}
 use Rattle.sets.proofs.Spans.{span-take, span-length}
 use Rattle.sets.proofs.Exact.{size-row}
-use Rattle.directory.specs.View.{setAt}
+use Rattle.directory.specs.View.{setAt, updatedIn}
 use Rattle.directory.proofs.Rises.{In}
-use Rattle.seats.specs.Seats.{updatedIn}
 use Rattle.value_map.specs.Store.{Store}
 use Rattle.value_map.specs.Calls.{Held}
 use Rattle.value_map.proofs.Owed.{was}

@@ -13,9 +13,8 @@ use Rattle.laws.proofs.Bools.{pick-true, pick-false}
 use Rattle.tally.specs.Kind.{Kind, Room, suffices, inAll}
 use Rattle.tally.specs.Sets.{Set, same}
 use Rattle.tally.specs.Map.{Entry, Points, points, sound, filled}
-use Rattle.directory.specs.View.{Stores, setAt, entryAt}
+use Rattle.directory.specs.View.{Stores, setAt, entryAt, updatedIn}
 use Rattle.directory.proofs.Rises.{In}
-use Rattle.seats.specs.Seats.{updatedIn}
 use Rattle.seats.proofs.Recording.{orFresh}
 use Rattle.sweep.specs.Swept.{only}
 use Rattle.value_map.specs.Store.{Store}

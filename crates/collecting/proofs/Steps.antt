@@ -18,14 +18,13 @@ use Rattle.tally.proofs.MapSteps.{upfront, act, swept, step}
 use Rattle.sets.specs.Rows.{size, setOf, rowOf}
 use Rattle.sets.proofs.Exact.{set-own}
 use Rattle.sets.proofs.Keyed.{named-row}
-use Rattle.directory.specs.View.{Stores, setAt, view}
+use Rattle.directory.specs.View.{Stores, setAt, view, updatedIn}
 use Rattle.directory.specs.Calls.{Kept, mostSets}
 use Rattle.directory.specs.declared.Directory.{Directory}
 use Rattle.directory.proofs.Agreed.{slot-sizes}
 use Rattle.directory.proofs.Laws.{few, slots-right, slot-used}
 use Rattle.directory.proofs.Refusals.{within}
 use Rattle.directory.proofs.Rises.{In}
-use Rattle.seats.specs.Seats.{updatedIn}
 use Rattle.sweep.specs.Swept.{sweptKept}
 use Rattle.sweep.proofs.Stayers.{only-in}
 use Rattle.sweep.proofs.Settled as Settled

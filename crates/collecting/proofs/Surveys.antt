@@ -11,7 +11,7 @@ use Rattle.laws.proofs.Bools.{pick-true, pick-false}
 use Rattle.laws.proofs.Cases.{true-not-false}
 use Rattle.tally.specs.Kind.{Kind}
 use Rattle.directory.specs.Calls.{Kept}
-use Rattle.seats.specs.Seats.{updatedIn}
+use Rattle.directory.specs.View.{updatedIn}
 use Rattle.sweep.specs.Swept.{only}
 use Rattle.value_map.specs.Store.{Store}
 use Rattle.value_map.specs.Calls.{Held}

@@ -10,8 +10,7 @@ use lib.ListN.{length, getD, take}
 use Rattle.laws.specs.Tests.{all}
 use Rattle.tally.specs.Kind.{Kind}
 use Rattle.sets.specs.Rows.{rowOf}
-use Rattle.directory.specs.View.{setAt}
-use Rattle.seats.specs.Seats.{updatedIn}
+use Rattle.directory.specs.View.{setAt, updatedIn}
 use Rattle.sweep.specs.Swept.{only}
 use Rattle.value_map.specs.Store.{Store}
 use Rattle.value_map.specs.Calls.{Held}

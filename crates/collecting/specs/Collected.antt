@@ -11,9 +11,8 @@ use Rattle.laws.specs.Tests.{all}
 use Rattle.tally.specs.Kind.{Kind, Room}
 use Rattle.tally.specs.Map.{Points, Answer, refuse, listed}
 use Rattle.sets.specs.Rows.{span, setOf, rowOf}
-use Rattle.directory.specs.View.{setAt, agreesb}
+use Rattle.directory.specs.View.{setAt, agreesb, updatedIn}
 use Rattle.directory.specs.Calls.{Kept, mostSets}
-use Rattle.seats.specs.Seats.{updatedIn}
 use Rattle.sweep.specs.Swept.{only, sweptKept}
 use Rattle.value_map.specs.Store.{Store}
 use Rattle.value_map.specs.Calls.{Held, passes, lent}

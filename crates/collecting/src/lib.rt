@@ -7,8 +7,7 @@ ghost use lib.Dec.{eqb, ltb};
 ghost use lib.ListN.{length, getD};
 ghost use Rattle.laws.specs.Pick.{pick};
 ghost use Rattle.sets.specs.Rows.{size, setOf, rowOf};
-ghost use Rattle.directory.specs.View.{setAt, stores};
-ghost use Rattle.seats.specs.Seats.{updatedIn};
+ghost use Rattle.directory.specs.View.{setAt, stores, updatedIn};
 ghost use Rattle.collecting.specs.Slots.{barredBy, surveyedBy};
 use directory::Directory;
 

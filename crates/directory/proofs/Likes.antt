@@ -2,20 +2,20 @@
 use Prim.Native.Nat.{ℕ, zero, suc, _+_, _-_, _≤_, _<_, Ordering·lt}
 use mathlib.Core.Path.{_≡_, refl, ap, sym, subst, _∙_}
 use mathlib.Core.Logic.{⊎-elim}
-use mathlib.Core.Bool.{true, _&&_, _||_}
+use mathlib.Core.Bool.{true, _&&_}
 use mathlib.Core.List.{List, []}
 use native.Mathlib.Omega.{arith}
 use native.Mathlib.Nat.{eq-or-lt-of-le}
 use native.Mathlib.Numerals.{add-one}
 use borrow.Author.Tests.{leb-true, eq-eqb, ne-eqb}
 use lib.Bits.{bitXor}
-use lib.Dec.{leb, eqb}
+use lib.Dec.{leb}
 use lib.ListN.{getD}
 use Rattle.laws.proofs.Cases.{and-true}
 use Rattle.tally.specs.Sets.{cmp}
 use Rattle.sets.specs.All.{allb}
-use Rattle.sets.specs.Rows.{size, setOf, soundb, below}
-use Rattle.sets.specs.Inner.{Parted, joined, SameKeys}
+use Rattle.sets.specs.Rows.{size, setOf, soundb}
+use Rattle.sets.specs.Inner.{joined, SameKeys}
 use Rattle.sets.proofs.Alls.{allb-at}
 use Rattle.sets.proofs.Bitwise.{joined-each, word-same, size-same, sound-same}
 use Rattle.sets.proofs.Keyed.{sound-few}

@@ -86,18 +86,19 @@ seek s sets (x ∷ l) i = three (cmp s (setAt sets x)) (Room i) (Held x) (seek s
 unfoldable pub sought : Set → ℕ → List (List ℕ) → List ℕ → Found
 sought s used sets order = cond (same s []) (Held 0) (seek s sets (span order 0 used) 0)
 
+-- a slot holds a series: its third word is not 0
+abbrev pub updatedIn : List (List ℕ) → ℕ → Bool
+updatedIn entries x = not (eqb (getD (getD entries x []) 2 0) 0)
+
 -- the map that the stores hold: an entry that is not updated has no series; f gives the others', by slot
 module _ (K : Kind) (f : ℕ → K .Series) where
-  abbrev pub updatedAt : List (List ℕ) → ℕ → Bool
-  updatedAt entries x = not (eqb (getD (getD entries x []) 2 0) 0)
-
   abbrev pub entryAt : Stores → ℕ → Entry K
   entryAt s x =
       record {
         set = setAt (s .sets) x;
         birth = birthAt (s .entries) x;
         bindings = getD (getD (s .entries) x []) 1 0;
-        series = cond (updatedAt (s .entries) x) (some (f x)) none;
+        series = cond (updatedIn (s .entries) x) (some (f x)) none;
       }
 
   abbrev pub view : K .Settings → Directory → Stores → Map K

@@ -127,7 +127,7 @@ pub fn locate(
             if d.count < limit {
                 return crate::Target::New(r);
             }
-            let over: [u64; 9] = [18446744069414584321, 0, 0, 0, 0, 0, 0, 0, 1];
+            let over: [u64; 9] = sets::OVERFLOW_ROW;
             match find(used, sets, order, &over) {
                 crate::Found::Held(x) => crate::Target::Old(x),
                 crate::Found::Room(q) => crate::Target::Over(q),

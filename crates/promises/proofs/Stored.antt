@@ -30,7 +30,7 @@ use Rattle.directory.proofs.Refusals.{within}
 use Rattle.directory.proofs.Rises.{In}
 use Rattle.bindings.specs.Calls as Bindings
 use Rattle.bindings.specs.Calls.{mapAnswer}
-use Rattle.seats.specs.Seats.{updatedIn}
+use Rattle.directory.specs.View.{updatedIn}
 use Rattle.sweep.specs.Swept.{sweptKept}
 use Rattle.sweep.proofs.Stayers.{only-in}
 use Rattle.value_map.specs.Store.{Store}

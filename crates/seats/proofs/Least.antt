@@ -6,7 +6,6 @@ use mathlib.Core.Bool.{Bool, true, false, _&&_}
 use native.Mathlib.Omega.{arith}
 use lib.Dec.{leb}
 use borrow.Author.Tests.{le-leb, lt-leb, leb-true, leb-false}
-use Rattle.laws.specs.Pick.{pick}
 use Rattle.laws.proofs.Bools.{flag, pick-true, pick-false}
 use Rattle.seats.specs.Inner.{lesserOf}
 

@@ -138,11 +138,3 @@ module _ (limit : ℕ) (d : Directory) (s : Stores) (h : ℕ) where
       found : (o : Found) → Late (seatBy s o)
       found (Room r) = λ n. (omega arith, omega arith)
       found (Held x) = λ n. absurd (n refl)
-
-  -- where the directory agrees, one that is refused is so with 7
-  pub by-seven : agreesb limit d s ≡ true → (seatedBy limit d s h .no ≡ 0 → ⊥) → seatedBy limit d s h .no ≡ 7
-  by-seven g = subst (λ (a : Seating). (a .no ≡ 0 → ⊥) → a .no ≡ 7) (sym (by-is g (scan h (s .entries) (slotsOf d s)) refl)) (go (scan h (s .entries) (slotsOf d s)))
-    where
-      go : (o : Found) → (seatBy s o .no ≡ 0 → ⊥) → seatBy s o .no ≡ 7
-      go (Room r) = λ n. refl
-      go (Held x) = λ n. absurd (n refl)

@@ -1,13 +1,13 @@
 -- What a recording asks of the directory, and what it leaves of it: exactly, in its stores. Assumes nothing.
 use Prim.Native.Nat.{ℕ, _+_}
-use mathlib.Core.Bool.{Bool, false, not}
+use mathlib.Core.Bool.{Bool, false}
 use mathlib.Core.List.{List, [], _∷_}
 use lib.Dec.{eqb, leb}
 use lib.ListN.{getD, set}
 use Rattle.laws.specs.Pick.{pick}
 use Rattle.sets.specs.Rows.{span}
 use Rattle.sets.specs.Sorted.{mostAttributes}
-use Rattle.directory.specs.View.{Stores, agreesb}
+use Rattle.directory.specs.View.{Stores, agreesb, updatedIn}
 use Rattle.directory.specs.Calls.{Kept, overRow, located, scan, admitted}
 use Rattle.directory.specs.declared.Directory.{Directory}
 use Rattle.directory.specs.declared.Found.{Found}
@@ -16,10 +16,6 @@ use Rattle.directory.specs.declared.Target.{Target}
 use Rattle.directory.specs.declared.Target.the-variants.{Disagrees, Old, New, Over}
 use Rattle.seats.specs.declared.Seating.{Seating}
 use Rattle.laws.specs.Counting.{mostCount}
-
--- a slot holds a series: its third word is not 0
-abbrev pub updatedIn : List (List ℕ) → ℕ → Bool
-updatedIn entries x = not (eqb (getD (getD entries x []) 2 0) 0)
 
 -- refused with the number n: nothing is to be written
 abbrev pub away : ℕ → Seating

@@ -4,9 +4,6 @@ ghost use mathlib.Core.Bool.{_&&_};
 ghost use lib.Dec.{eqb};
 ghost use Rattle.seats.specs.Seats.{barredBy};
 
-// The most attributes of a call.
-const MOST_ATTRIBUTES: usize = 8;
-
 // The number of the refusal, 0 if none: 12, 6, 5, and 8 by the settings and by the rest of the configuration.
 pub fn barred(lent: bool, value: bool, attributes: usize, unset: u8, accepted: bool) -> u8
     ensures { λ r. ⌜ r ≡ barredBy lent value attributes (eqb unset 0 && accepted) ⌝ }
@@ -17,7 +14,7 @@ pub fn barred(lent: bool, value: bool, attributes: usize, unset: u8, accepted: b
     if !value {
         return 6;
     }
-    if attributes > MOST_ATTRIBUTES {
+    if attributes > sets::canon::MOST_ATTRIBUTES {
         return 5;
     }
     if unset != 0 {

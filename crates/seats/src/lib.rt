@@ -10,7 +10,7 @@ ghost use lib.ListN.{length};
 ghost use Rattle.tally.specs.Sets.{canonical};
 ghost use Rattle.sets.specs.Rows.{size, rowOf};
 ghost use Rattle.sets.specs.Sorted.{given, filterOf};
-ghost use Rattle.seats.specs.Seats.{updatedIn, away, heldSeat, newSeat, seated, seatedBy};
+ghost use Rattle.seats.specs.Seats.{away, heldSeat, newSeat, seated, seatedBy};
 ghost use Rattle.seats.specs.Seats.{unlessBarred, marked, committed};
 ghost use Rattle.seats.specs.Inner.{barredAt, rowUnlessBarred, Fits};
 ghost use Rattle.directory.specs.View.{stores};
@@ -23,17 +23,6 @@ pub struct Seating {
     pub slot: usize,
     pub updated: bool,
     pub target: directory::Target,
-}
-
-// Whether a slot holds a series.
-fn updated(entries: &[[u64; 3]], x: usize) -> bool
-    requires { ⌜ x < length (now entries) ⌝ }
-    ensures { λ r. ⌜ r ≡ updatedIn (now (entries .entry)) x ⌝ }
-{
-    if entries[x][2] == 0 {
-        return false;
-    }
-    true
 }
 
 // Refused with a number: nothing is to be written.
@@ -53,7 +42,7 @@ fn held_seat(entries: &[[u64; 3]], x: usize) -> Seating
     requires { ⌜ x < length (now entries) ⌝ }
     ensures { λ r. ⌜ r ≡ heldSeat (now (entries .entry)) x ⌝ }
 {
-    let u = updated(entries, x);
+    let u = directory::is_updated(entries, x);
     Seating {
         no: 0,
         slot: x,
@@ -214,7 +203,7 @@ pub fn commit(
             e
         }
         directory::Target::Over(r) => {
-            let over: [u64; 9] = [18446744069414584321, 0, 0, 0, 0, 0, 0, 0, 1];
+            let over: [u64; 9] = sets::OVERFLOW_ROW;
             let e = directory::write::admit(d, sets, entries, order, over, r, 0, 0);
             let x = e.used;
             mark(entries, x);

@@ -15,7 +15,7 @@ use Rattle.sets.proofs.Spans.{span-take, length-inserted, span-whole, s
 own-word : (x : ℕ) → x / 4294967296 * 4294967296 + x % 4294967296 ≡ x
 own-word x = omega arith
 
-own-words : (l : List ℕ) → map wordOf (map pair l) ≡ l
+pub own-words : (l : List ℕ) → map wordOf (map pair l) ≡ l
 own-words [] = refl
 own-words (x ∷ l) = rw (own-word x, own-words l)
 
@@ -72,12 +72,19 @@ front s =
     span-take (map wordOf s ++ r) (length (map wordOf s)) (omega (arith, length-append (map wordOf s) r))
     ∙ take-append-seam (map wordOf s) r
 
-pub set-own : (s : Set) → length s ≤ 8 → Lendable s → setOf (rowOf s) ≡ s
+words-of : (s : Set) → length s ≤ 8 → setOf (rowOf s) ≡ map pair (map wordOf s)
 unfolding setOf
-set-own s h g =
-    ap (λ (k : ℕ). map pair (span (rowOf s) 0 k)) (size-row s h ∙ sym (length-map s wordOf))
-    ∙ ap (map pair) (front s)
-    ∙ own-pairs s g
+words-of s h = ap (λ (k : ℕ). map pair (span (rowOf s) 0 k)) (size-row s h ∙ sym (length-map s wordOf)) ∙ ap (map pair) (front s)
+
+pub set-own : (s : Set) → length s ≤ 8 → Lendable s → setOf (rowOf s) ≡ s
+set-own s h g = words-of s h ∙ own-pairs s g
+
+pub set-again : (row : List ℕ) → size row ≤ 8 → setOf (rowOf (setOf row)) ≡ setOf row
+unfolding setOf
+set-again row h =
+    let W = span row 0 (size row) in
+    let k : length (map pair W) ≤ 8 = omega (arith, length-map W pair, span-length row 0 (size row)) in
+    words-of (map pair W) k ∙ ap (map pair) (own-words W)
 
 -- clean rows stay clean
 getD-past : (l : List ℕ) (n p x j : ℕ) → p ≤ n → n < length l → n < j → getD (inserted l n p x) j 0 ≡ getD l j 0

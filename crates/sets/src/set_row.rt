@@ -170,7 +170,7 @@ pub fn plain_row(row: &[u64; 9]) -> usize
     ensures { λ r. ⌜ r ≡ bit (plain (setOf (now (row .entry)))) ⌝ }
 {
     if row[8] == 1 {
-        if row[0] == 18446744069414584321 {
+        if row[0] == crate::OVERFLOW {
             return 0;
         }
         return 1;

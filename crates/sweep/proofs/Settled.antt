@@ -21,37 +21,26 @@ use Rattle.sets.proofs.Spans.{span-at}
 use Rattle.directory.specs.Calls.{Kept}
 use Rattle.directory.specs.View.{Stores, Laid, setAt, birthAt, agreesb, view}
 use Rattle.directory.specs.declared.Directory.{Directory}
-use Rattle.directory.proofs.Agreed.{slot-sound, birth-rise, place-slot}
+use Rattle.directory.proofs.Agreed.{slot-sound}
 use Rattle.directory.proofs.Checks.{set-named}
 use Rattle.directory.proofs.Laid.{laid-agrees}
-use Rattle.directory.proofs.Laws.{few, slots-right, places-right}
+use Rattle.directory.proofs.Laws.{few, slots-right}
 use Rattle.directory.proofs.Leaves.{Good}
 use Rattle.directory.proofs.Located.{blank}
 use Rattle.directory.proofs.Refusals.{suffices}
 use Rattle.directory.proofs.Rises.{In}
-use Rattle.directory.proofs.Sentence.{own-birth, spent}
+use Rattle.directory.proofs.Sentence.{later, own-birth, spent}
 use Rattle.directory.proofs.Tied.{agreed}
 use Rattle.sweep.specs.Swept.{staying, rank, only, clear, sweptKept}
-use Rattle.laws.proofs.Over.{length-over, over-behind}
+use Rattle.laws.proofs.Over.{length-over}
 use Rattle.sweep.proofs.Marks.{rank-le, rank-some}
 use Rattle.sweep.proofs.Stayers.{olds, rank-mono, came, came-rise, old-of, only-in}
-use Rattle.sweep.proofs.Whole.{map-at, down-length, down-behind}
+use Rattle.sweep.proofs.Whole.{map-at, down-length}
 use Rattle.sweep.proofs.Faithful.{places, place-used, used-swept, last-swept, places-kept, order-swept, set-swept, entry-swept, sweep-faithful}
 
 birth-named : (entries : List (List ℕ)) (x : ℕ) → 1 ≤ x → birthAt entries x ≡ getD (getD entries x []) 0 0
 birth-named entries zero h = absurd (omega arith)
 birth-named entries (suc x) h = refl
-
--- what rises at each step rises
-rises : (f : ℕ → ℕ) (n : ℕ) → ((x : ℕ) → x < n → f x < f (x + 1)) → (x k : ℕ) → x + suc k ≤ n → f x < f (x + suc k)
-rises f n g x zero h =
-    let e : x + 1 ≡ x + suc zero = omega arith in
-    subst (λ (y : ℕ). f x < f y) e (g x (omega arith))
-rises f n g x (suc k) h =
-    let e : x + suc k + 1 ≡ x + suc (suc k) = omega arith in
-    let a = rises f n g x k (omega arith) in
-    let b = g (x + suc k) (omega arith) in
-    subst (λ (y : ℕ). f x < f y) e (omega arith)
 
 -- a map without figures, swept: a collection of it with room enough
 module _ (c : Config blank) (m : Map blank) where
@@ -134,15 +123,9 @@ module _ (limit : ℕ) (k : Kept) (g : agreesb limit (k .dir) (k .stores) ≡ tr
       ap soundb (set-swept limit k g ls le lo (suc y) (omega arith))
       ∙ slot-sound (d .used) (d .last) (s .sets) (s .entries) (slots-right limit d s g) (old (suc y)) (omega (arith, c .is, c .least)) (old-used (suc y) (omega arith))
 
-  later : (x y : ℕ) → x < y → y ≤ d .used → birthAt (s .entries) x < birthAt (s .entries) y
-  later x y h u =
-      let e : x + suc (y - x - 1) ≡ y = omega arith in
-      subst (λ (n : ℕ). birthAt (s .entries) x < birthAt (s .entries) n) e
-      (rises (birthAt (s .entries)) (d .used) (birth-rise (d .used) (d .last) (s .sets) (s .entries) (slots-right limit d s g)) x (y - x - 1) (omega arith))
-
   birth-at : (y : ℕ) → y < rank q (d .used) → birthAt (s′ .entries) y < birthAt (s′ .entries) (suc y)
   birth-at y h =
-      omega (arith, birth-was y (omega arith), birth-was (suc y) (omega arith), later (old y) (old (suc y)) (old-rise y h) (old-used (suc y) (omega arith)))
+      omega (arith, birth-was y (omega arith), birth-was (suc y) (omega arith), later limit d s g (old y) (old (suc y)) (old-rise y h) (old-used (suc y) (omega arith)))
 
   place-at : (i : ℕ) → i < rank q (d .used) → (1 ≤ getD (s′ .order) i 0) × (getD (s′ .order) i 0 ≤ rank q (d .used))
   place-at i h =
@@ -184,19 +167,6 @@ module _ (limit : ℕ) (k : Kept) (g : agreesb limit (k .dir) (k .stores) ≡ tr
   order-long : length (s′ .order) ≡ length (s .order)
   unfolding sweptKept
   order-long = length-over (map (rank q) (only q (places limit k g ls le lo))) (s .order) (omega (arith, places-kept limit k g ls le lo, rank-le q (d .used)))
-
-  -- EXACT: what lies behind the new slots and places stays as it was
-  pub sets-behind : (y : ℕ) → d′ .used < y → getD (s′ .sets) y [] ≡ getD (s .sets) y []
-  unfolding sweptKept
-  sets-behind y h = down-behind (λ row. row) q (d .used) (s .sets) ls y h
-
-  pub entries-behind : (y : ℕ) → d′ .used < y → getD (s′ .entries) y [] ≡ getD (s .entries) y []
-  unfolding sweptKept
-  entries-behind y h = down-behind clear q (d .used) (s .entries) le y h
-
-  pub order-behind : (i : ℕ) → d′ .used ≤ i → getD (s′ .order) i 0 ≡ getD (s .order) i 0
-  unfolding sweptKept
-  order-behind i h = over-behind (map (rank q) (only q (places limit k g ls le lo))) (s .order) i 0 (omega (arith, places-kept limit k g ls le lo))
 
   -- BIRTH NUMBERS. "No birth number gets two sets, and a set keeps its number while that has a binding": where slots move, slots of one birth number
   -- have one set; a slot with bindings is still there under its number, with its bindings; and every slot was there before
@@ -254,25 +224,11 @@ module _ (limit : ℕ) (k : Kept) (g : agreesb limit (k .dir) (k .stores) ≡ tr
 
 -- in a state that a run comes by
 module _ (limit : ℕ) (k : Kept) (g : Good limit k) where
-  abbrev fits : Type 0
-  fits = (k .dir .used < length (k .stores .sets)) × (k .dir .used < length (k .stores .entries)) × (k .dir .used ≤ length (k .stores .order))
-
-  pub within : fits
+  pub within : (k .dir .used < length (k .stores .sets)) × (k .dir .used < length (k .stores .entries)) × (k .dir .used ≤ length (k .stores .order))
   within =
       let r = suffices limit (k .stores) (g .lent) in
       let u = few limit (k .dir) (k .stores) (g .agrees) in
       (omega (arith, r .sets), omega (arith, r .entries), omega (arith, r .order))
-
-  -- the code may be called
-  pub callable : limit + 1 < 65536
-      → (k .dir .used < length (k .stores .sets)) × (k .dir .used < length (k .stores .entries)) × (k .dir .used ≤ length (k .stores .order)) × (k .dir .used < 65536) × ((i : ℕ) → i < k .dir .used → (1 ≤ getD (k .stores .order) i 0) × (getD (k .stores .order) i 0 ≤ k .dir .used))
-  callable h = (
-    within .0,
-    within .1,
-    within .2,
-    omega (arith, few limit (k .dir) (k .stores) (g .agrees)),
-    place-slot (k .dir .used) (k .stores .sets) (k .stores .order) (places-right limit (k .dir) (k .stores) (g .agrees)),
-  )
 
   pub sweep-good : Good limit (sweptKept k)
   sweep-good =

@@ -16,7 +16,7 @@ use Rattle.directory.specs.declared.Directory.{Directory}
 use Rattle.directory.proofs.Rises.{In, span-in}
 use Rattle.sweep.specs.Swept.{staying, stayers, rank, only, down, clear, sweptKept}
 use Rattle.sweep.specs.Passes.{markIn, markOf, packed, lows, renumbered, settled}
-use Rattle.laws.proofs.Over.{length-over, over-front, over-behind, over-snoc}
+use Rattle.laws.proofs.Over.{length-over, over-front, over-snoc}
 use Rattle.sweep.proofs.Marks.{rank-more, rank-le, rank-some, mark-stays, mark-goes, mark-le, renumbered-small, over-small}
 use Rattle.sweep.proofs.Packs.{packed-length, packed-low, packed-mark, packed-same, lows-packed}
 use Rattle.sweep.proofs.Turns.{places-length}
@@ -39,10 +39,6 @@ module _ (c : List ℕ → List ℕ) (p : ℕ → Bool) (used : ℕ) (l : List (
 
   pub down-front : (y : ℕ) → y ≤ rank p used → getD (down c p used l) y [] ≡ c (getD l (getD (0 ∷ stayers p used) y 0) [])
   down-front y k = over-front front l y [] (omega (arith, front-long)) ∙ map-at (λ x. c (getD l x [])) (0 ∷ stayers p used) y [] (omega arith)
-
-  -- what lies behind them stays
-  pub down-behind : (y : ℕ) → rank p used < y → getD (down c p used l) y [] ≡ getD l y []
-  down-behind y k = over-behind front l y [] (omega (arith, front-long))
 
 -- moving by marks
 root-over : (c : List ℕ → List ℕ) (l : List (List ℕ)) → 0 < length l → set l 0 (c (getD l 0 [])) ≡ over (c (getD l 0 []) ∷ []) l

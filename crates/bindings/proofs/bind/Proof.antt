@@ -39,25 +39,16 @@ short g = sym (g .before .few .ensures) ∙ not-false _ (g .if2 .left)
 accept : (e : tie.Else3) → accepts (at2 (e .before .before) .args .limit) (filter (at2 (e .before .before))) ≡ true
 accept e = sym (e .before .accepted .ensures) ∙ not-false _ (e .if3 .left)
 
-stores-suffice-requires : tie.Need-stores-suffice-requires
-stores-suffice-requires c κs = search needs
-
 returns : tie.Need-returns
 returns c =
     let s = c .before .before .before .before in
     sym (bound-12 (s .args .limit) (filter s) (s .args .d) (stores s) (s .args .attrs .now) (sym (c .before .stores-suffice .ensures) ∙ not-true _ (c .if1 .taken)))
-
-few-requires : tie.Need-few-requires
-few-requires c κs = search needs
 
 returns-2 : tie.Need-returns-2
 returns-2 c =
     let e = c .before .before in
     let s = at e in
     sym (bound-5 (s .args .limit) (filter s) (s .args .d) (stores s) (s .args .attrs .now) (lent e) (sym (c .before .few .ensures) ∙ not-true _ (c .if2 .taken)))
-
-accepted-requires : tie.Need-accepted-requires
-accepted-requires c κs = search needs
 
 returns-3 : tie.Need-returns-3
 returns-3 c =
@@ -76,15 +67,6 @@ bind-in-requires c κs =
     let f = suffices (at e .args .limit) (stores (at e)) (lent e) in
     (f .sets, f .entries, f .order, r .sort-into .ensures .1, omega (arith, within (at e .args .limit) (filter (at e)) (accept (r .before .before))))
 
-same-length : tie.Need-same-length
-same-length c = search needs
-
-same-length-2 : tie.Need-same-length-2
-same-length-2 c = search needs
-
-same-length-3 : tie.Need-same-length-3
-same-length-3 c = search needs
-
 returns-4 : tie.Need-returns-4
 returns-4 c =
     let b = c .before .before .before .before in
@@ -100,16 +82,5 @@ returns-4 c =
 pub bind-spec : {M : Type 1} → statement M
 bind-spec =
     tie.close
-    (tie.spec
-    stores-suffice-requires
-    returns
-    few-requires
-    returns-2
-    accepted-requires
-    returns-3
-    sort-into-requires
-    bind-in-requires
-    same-length
-    same-length-2
-    same-length-3
-    returns-4)
+    (tie.spec (λ c κs. search needs) returns (λ c κs. search needs) returns-2 (λ c κs. search needs) returns-3 sort-into-requires
+    bind-in-requires (λ c. search needs) (λ c. search needs) (λ c. search needs) returns-4)

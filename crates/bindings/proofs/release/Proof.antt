@@ -19,9 +19,6 @@ at e = e .before .before .before
 lent : (e : tie.Else1) → storesSuffice (at e .args .limit) (stores (at e)) ≡ true
 lent e = sym (e .before .stores-suffice .ensures) ∙ not-false _ (e .if1 .left)
 
-stores-suffice-requires : tie.Need-stores-suffice-requires
-stores-suffice-requires c κs = search needs
-
 returns : tie.Need-returns
 returns c =
     let s = c .before .before .before in
@@ -39,9 +36,6 @@ release-in-requires c κs =
     let f = suffices (at e .args .limit) (stores (at e)) (lent e) in
     (f .sets, f .entries, f .order)
 
-same-length : tie.Need-same-length
-same-length c = search needs
-
 returns-3 : tie.Need-returns-3
 returns-3 c =
     let r = c .before in
@@ -53,4 +47,4 @@ returns-3 c =
 pub release-spec : {M : Type 1} → statement M
 release-spec =
     tie.close
-    (tie.spec stores-suffice-requires returns returns-2 release-in-requires same-length returns-3)
+    (tie.spec (λ c κs. search needs) returns returns-2 release-in-requires (λ c. search needs) returns-3)

@@ -30,16 +30,10 @@ at c = c .before .before .before .before .before .before
 lent : (c : tie.Else2) → storesSuffice (at c .args .limit) (stores (at c)) ≡ true
 lent c = sym (c .before .stores-suffice .ensures) ∙ not-false _ (c .if2 .left)
 
-accepted-requires : tie.Need-accepted-requires
-accepted-requires c κs = search needs
-
 returns : tie.Need-returns
 returns c =
     let s = c .before .before .before .before in
     sym (start-4 (s .args .limit) (filter s) (stores s) (sym (c .before .accepted .ensures) ∙ not-true _ (c .if1 .taken)))
-
-stores-suffice-requires : tie.Need-stores-suffice-requires
-stores-suffice-requires c κs = search needs
 
 returns-2 : tie.Need-returns-2
 returns-2 c =
@@ -50,20 +44,10 @@ returns-2 c =
 slice-set-from-entries : tie.Need-slice-set-from-entries
 slice-set-from-entries c = omega (arith, suffices (at c .args .limit) (stores (at c)) (lent c) .entries)
 
-same-length : tie.Need-same-length
-same-length c = search needs
-
 returns-3 : tie.Need-returns-3
 returns-3 c = let s = at c in sym (start-0 (s .args .limit) (filter s) (stores s) (accept (c .before .before)) (lent c))
 
 pub start-spec : {M : Type 1} → statement M
 start-spec =
     tie.close
-    (tie.spec
-    accepted-requires
-    returns
-    stores-suffice-requires
-    returns-2
-    slice-set-from-entries
-    same-length
-    returns-3)
+    (tie.spec (λ c κs. search needs) returns (λ c κs. search needs) returns-2 slice-set-from-entries (λ c. search needs) returns-3)

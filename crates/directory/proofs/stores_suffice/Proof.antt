@@ -7,16 +7,10 @@ use Rattle.directory.proofs.stores_suffice.Statement.{statement}
 use borrow.Author.Needs.{needs}
 use Rattle.directory.proofs.stores_suffice.Tie as tie
 
-suffices-requires : tie.Need-suffices-requires
-suffices-requires c κs = search needs
-
 returns : tie.Need-returns
 returns c =
     let s = c .before .before in
     first-no (c .before .suffices .result) false false (leb (s .args .limit + 2) (s .args .sets)) (leb (s .args .limit + 2) (s .args .entries)) (leb (s .args .limit + 2) (s .args .order)) (c .before .suffices .ensures) (c .if1 .taken)
-
-suffices-requires-2 : tie.Need-suffices-requires-2
-suffices-requires-2 c κs = search needs
 
 returns-2 : tie.Need-returns-2
 returns-2 c =
@@ -24,9 +18,6 @@ returns-2 c =
     let a = b .before in
     let s = a .before .before in
     second-no (a .before .suffices .result) (b .suffices2 .result) false (leb (s .args .limit + 2) (s .args .sets)) (leb (s .args .limit + 2) (s .args .entries)) (leb (s .args .limit + 2) (s .args .order)) (a .before .suffices .ensures) (a .if1 .left) (b .suffices2 .ensures) (c .if2 .taken)
-
-suffices-requires-3 : tie.Need-suffices-requires-3
-suffices-requires-3 c κs = search needs
 
 returns-3 : tie.Need-returns-3
 returns-3 c =
@@ -39,4 +30,4 @@ returns-3 c =
 pub stores-suffice-spec : {M : Type 1} → statement M
 stores-suffice-spec =
     tie.close
-    (tie.spec suffices-requires returns suffices-requires-2 returns-2 suffices-requires-3 returns-3)
+    (tie.spec (λ c κs. search needs) returns (λ c κs. search needs) returns-2 (λ c κs. search needs) returns-3)

@@ -32,17 +32,8 @@ at3 t = t .before .before .before
 fits-over : (t : tie.After-target3) → Roomy (at3 t .args .d) (stores (at3 t)) (t .target3 .given .0 .0)
 fits-over t = subst (Fits (at3 t .args .d) (stores (at3 t))) (t .target3 .given .1) (at3 t .pre)
 
-enum-told : tie.Need-enum-told
-enum-told c = search needs
-
-enum-known-target : tie.Need-enum-known-target
-enum-known-target c = search needs
-
 mark-requires : tie.Need-mark-requires
 mark-requires c κs = fits-old (c .before .before)
-
-enum-known-target-2 : tie.Need-enum-known-target-2
-enum-known-target-2 c = search needs
 
 admit-requires : tie.Need-admit-requires
 admit-requires c κs =
@@ -55,9 +46,6 @@ mark-requires-2 c κs =
     let t = a .before .before .before .before .before .before in
     let s = at2 t in
     made-there (s .args .d) (stores s) _ (s .args .row .now) (t .target2 .given .0 .0) 1 (a .admit .ensures) (fits-new t)
-
-enum-known-target-3 : tie.Need-enum-known-target-3
-enum-known-target-3 c = search needs
 
 admit-requires-2 : tie.Need-admit-requires-2
 admit-requires-2 c κs =
@@ -77,9 +65,6 @@ returns c =
     let s = c .before .before .before in
     sym (ap (committed (s .args .d) (stores s) (s .args .row .now)) (c .enum-told .given .1) ∙ commit-none (s .args .d) (stores s) (s .args .row .now))
 
-same-length : tie.Need-same-length
-same-length c = search needs
-
 returns-2 : tie.Need-returns-2
 returns-2 c =
     let m = c .before in
@@ -87,15 +72,6 @@ returns-2 c =
     let s = at t in
     ap (λ l. record { dir = s .args .d; stores = record { sets = s .args .sets .now; entries = l; order = s .args .order .now } }) (m .mark .ensures)
     ∙ sym (ap (committed (s .args .d) (stores s) (s .args .row .now)) (t .target .given .1) ∙ commit-old (s .args .d) (stores s) (s .args .row .now) (t .target .given .0 .0))
-
-same-length-2 : tie.Need-same-length-2
-same-length-2 c = search needs
-
-same-length-3 : tie.Need-same-length-3
-same-length-3 c = search needs
-
-same-length-4 : tie.Need-same-length-4
-same-length-4 c = search needs
 
 returns-3 : tie.Need-returns-3
 returns-3 c =
@@ -105,15 +81,6 @@ returns-3 c =
     let s = at2 t in
     made-marked (s .args .d) (stores s) _ (s .args .row .now) (t .target2 .given .0 .0) 1 (a .admit .ensures) _ (m .mark2 .ensures)
     ∙ sym (ap (committed (s .args .d) (stores s) (s .args .row .now)) (t .target2 .given .1) ∙ commit-new (s .args .d) (stores s) (s .args .row .now) (t .target2 .given .0 .0))
-
-same-length-5 : tie.Need-same-length-5
-same-length-5 c = search needs
-
-same-length-6 : tie.Need-same-length-6
-same-length-6 c = search needs
-
-same-length-7 : tie.Need-same-length-7
-same-length-7 c = search needs
 
 returns-4 : tie.Need-returns-4
 returns-4 c =
@@ -127,24 +94,6 @@ returns-4 c =
 pub commit-spec : {M : Type 1} → statement M
 commit-spec =
     tie.close
-    (tie.spec
-    enum-told
-    enum-known-target
-    mark-requires
-    enum-known-target-2
-    admit-requires
-    mark-requires-2
-    enum-known-target-3
-    admit-requires-2
-    mark-requires-3
-    returns
-    same-length
-    returns-2
-    same-length-2
-    same-length-3
-    same-length-4
-    returns-3
-    same-length-5
-    same-length-6
-    same-length-7
-    returns-4)
+    (tie.spec (λ c. search needs) (λ c. search needs) mark-requires (λ c. search needs) admit-requires mark-requires-2 (λ c. search needs)
+    admit-requires-2 mark-requires-3 returns (λ c. search needs) returns-2 (λ c. search needs) (λ c. search needs) (λ c. search needs)
+    returns-3 (λ c. search needs) (λ c. search needs) (λ c. search needs) returns-4)

@@ -5,17 +5,11 @@ use Rattle.seats.proofs.Seatings.{new-spent, new-made}
 use Rattle.seats.proofs.new_seat.Statement.{statement}
 use Rattle.seats.proofs.new_seat.Tie as tie
 
-refused-requires : tie.Need-refused-requires
-refused-requires c κs = search needs
-
 returns : tie.Need-returns
 returns c = c .refused .ensures ∙ sym (new-spent (c .before .before .before .args .d) (c .before .before .before .args .target) (c .before .if1 .taken))
-
-add-t4 : tie.Need-add-t4
-add-t4 c = search needs
 
 returns-2 : tie.Need-returns-2
 returns-2 c = sym (new-made (c .before .before .before .args .d) (c .before .before .before .args .target) (c .before .if1 .left))
 
 pub new-seat-spec : {M : Type 1} → statement M
-new-seat-spec = tie.close (tie.spec refused-requires returns add-t4 returns-2)
+new-seat-spec = tie.close (tie.spec (λ c κs. search needs) returns (λ c. search needs) returns-2)

@@ -56,10 +56,4 @@ returns-2 c =
 pub seat-by-spec : {M : Type 1} → statement M
 seat-by-spec =
     tie.close
-    (tie.spec
-    (λ c κs. search needs)
-    (λ c κs. search needs)
-    (λ c κs. search needs)
-    returns
-    seat-by-in-requires
-    returns-2)
+    (tie.spec (λ c κs. search needs) (λ c κs. search needs) (λ c κs. search needs) returns seat-by-in-requires returns-2)

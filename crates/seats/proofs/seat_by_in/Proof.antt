@@ -33,12 +33,6 @@ else-of x = x .before .before .before
 found : (x : tie.After-x) → scan (start (else-of x) .args .h) (start (else-of x) .args .entries .now) (slotsOf (start (else-of x) .args .d) (stores (start (else-of x)))) ≡ Held (x .x .given .0 .0)
 found x = sym (x .before .before .by-handle .ensures) ∙ x .x .given .1
 
-agrees-requires : tie.Need-agrees-requires
-agrees-requires c κs = search needs
-
-refused-requires : tie.Need-refused-requires
-refused-requires c κs = search needs
-
 returns : tie.Need-returns
 returns c =
     let b = c .before in
@@ -49,15 +43,6 @@ by-handle-requires : tie.Need-by-handle-requires
 by-handle-requires c κs =
     let s = start c in
     (omega (arith, few-of c, s .pre .1), omega (arith, few-of c, s .pre .2), place-slot (s .args .d .used) (s .args .sets .now) (s .args .order .now) (places-right (s .args .limit) (s .args .d) (stores s) (right c)), scan-own (s .args .limit) (s .args .d) (stores s) (right c) (s .args .h))
-
-enum-told : tie.Need-enum-told
-enum-told c = search needs
-
-refused-requires-2 : tie.Need-refused-requires-2
-refused-requires-2 c κs = search needs
-
-enum-known-x : tie.Need-enum-known-x
-enum-known-x c = search needs
 
 held-seat-requires : tie.Need-held-seat-requires
 held-seat-requires c κs =
@@ -80,14 +65,5 @@ returns-3 c =
 pub seat-by-in-spec : {M : Type 1} → statement M
 seat-by-in-spec =
     tie.close
-    (tie.spec
-    agrees-requires
-    refused-requires
-    returns
-    by-handle-requires
-    enum-told
-    refused-requires-2
-    enum-known-x
-    held-seat-requires
-    returns-2
-    returns-3)
+    (tie.spec (λ c κs. search needs) (λ c κs. search needs) returns by-handle-requires (λ c. search needs) (λ c κs. search needs)
+    (λ c. search needs) held-seat-requires returns-2 returns-3)

@@ -34,26 +34,11 @@ at3 t = start (t .before .before)
 over : (t : tie.After-t3) → located (at3 t .args .limit) (at3 t .args .d) (stores (at3 t)) (at3 t .args .row .now) ≡ Over (t .t3 .given .0 .0)
 over t = sym (t .before .before .locate .ensures) ∙ t .t3 .given .1
 
-locate-requires : tie.Need-locate-requires
-locate-requires c κs = search needs
-
-enum-told : tie.Need-enum-told
-enum-told c = search needs
-
-refused-requires : tie.Need-refused-requires
-refused-requires c κs = search needs
-
-enum-known-t : tie.Need-enum-known-t
-enum-known-t c = search needs
-
 held-seat-requires : tie.Need-held-seat-requires
 held-seat-requires c κs =
     let t = c .before in
     let s = at t in
     old-safe (s .args .limit) (s .args .d) (stores s) (s .args .row .now) (t .t .given .0 .0) (old t) (s .pre .1) .1
-
-enum-known-t-2 : tie.Need-enum-known-t-2
-enum-known-t-2 c = search needs
 
 new-seat-requires : tie.Need-new-seat-requires
 new-seat-requires c κs =
@@ -61,9 +46,6 @@ new-seat-requires c κs =
     let s = at2 t in
     let n = new-there (s .args .limit) (s .args .d) (stores s) (s .args .row .now) (t .t2 .given .0 .0) (new t) in
     omega (arith, n .1, s .pre .0)
-
-enum-known-t-3 : tie.Need-enum-known-t-3
-enum-known-t-3 c = search needs
 
 new-seat-requires-2 : tie.Need-new-seat-requires-2
 new-seat-requires-2 c κs =
@@ -99,17 +81,5 @@ returns-4 c =
 pub seat-in-spec : {M : Type 1} → statement M
 seat-in-spec =
     tie.close
-    (tie.spec
-    locate-requires
-    enum-told
-    refused-requires
-    enum-known-t
-    held-seat-requires
-    enum-known-t-2
-    new-seat-requires
-    enum-known-t-3
-    new-seat-requires-2
-    returns
-    returns-2
-    returns-3
-    returns-4)
+    (tie.spec (λ c κs. search needs) (λ c. search needs) (λ c κs. search needs) (λ c. search needs) held-seat-requires (λ c. search needs)
+    new-seat-requires (λ c. search needs) new-seat-requires-2 returns returns-2 returns-3 returns-4)

@@ -15,31 +15,10 @@ use Rattle.bindings.proofs.calls.bind_held.Tie as tie
 abbrev stores : tie.Start → List (List ℕ) → List ℕ → Stores
 stores s sets order = record { sets = sets; entries = s .args .entries .now; order = order }
 
-mul-n : tie.Need-mul-n
-mul-n c = search needs
-
-index-1-n : tie.Need-index-1-n
-index-1-n c = search needs
-
-index-2-n : tie.Need-index-2-n
-index-2-n c = search needs
-
 returns : tie.Need-returns
 returns c sets order =
     let s = c .before .before in
     sym (held-full (s .args .d) (stores s sets order) (s .args .x) (c .if1 .taken))
-
-birth-of-requires : tie.Need-birth-of-requires
-birth-of-requires c κs = search needs
-
-add-rebind : tie.Need-add-rebind
-add-rebind c = search needs
-
-rebind-requires : tie.Need-rebind-requires
-rebind-requires c κs = search needs
-
-same-length : tie.Need-same-length
-same-length c = search needs
 
 returns-2 : tie.Need-returns-2
 returns-2 c sets order =
@@ -54,13 +33,5 @@ returns-2 c sets order =
 pub bind-held-spec : {M : Type 1} → statement M
 bind-held-spec =
     tie.close
-    (tie.spec
-    mul-n
-    index-1-n
-    index-2-n
-    returns
-    birth-of-requires
-    add-rebind
-    rebind-requires
-    same-length
-    returns-2)
+    (tie.spec (λ c. search needs) (λ c. search needs) (λ c. search needs) returns (λ c κs. search needs) (λ c. search needs)
+    (λ c κs. search needs) (λ c. search needs) returns-2)

@@ -21,24 +21,12 @@ start l = l .before .before .before .before .before .before
 goes : (l : tie.After-locate) (t : Target) → l .locate .result ≡ t → located (start l .args .limit) (start l .args .d) (stores (start l)) (start l .args .t6) ≡ t
 goes l t e = sym (l .locate .ensures) ∙ e
 
-locate-requires : tie.Need-locate-requires
-locate-requires c κs = search needs
-
-enum-told : tie.Need-enum-told
-enum-told c = search needs
-
-enum-known-t : tie.Need-enum-known-t
-enum-known-t c = search needs
-
 bind-held-requires : tie.Need-bind-held-requires
 bind-held-requires c κs =
     let t = c .before .before in
     let l = t .before .before in
     let s = start l in
     old-there (s .args .limit) (s .args .d) (stores s) (s .args .t6) (t .t .given .0 .0) (goes l (Old (t .t .given .0 .0)) (t .t .given .1)) (s .pre .1)
-
-enum-known-t-2 : tie.Need-enum-known-t-2
-enum-known-t-2 c = search needs
 
 bind-new-requires : tie.Need-bind-new-requires
 bind-new-requires c κs =
@@ -48,9 +36,6 @@ bind-new-requires c κs =
     let n = new-there (s .args .limit) (s .args .d) (stores s) (s .args .t6) (t .t2 .given .0 .0) (goes l (New (t .t2 .given .0 .0)) (t .t2 .given .1)) in
     (omega (arith, n .1, s .pre .0), omega (arith, n .1, s .pre .1), omega (arith, n .1, s .pre .2), n .0, omega (arith, n .1, s .pre .4), omega (arith, n .2, s .pre .4))
 
-enum-known-t-3 : tie.Need-enum-known-t-3
-enum-known-t-3 c = search needs
-
 bind-new-requires-2 : tie.Need-bind-new-requires-2
 bind-new-requires-2 c κs =
     let t = c .before .before .before .before in
@@ -59,29 +44,11 @@ bind-new-requires-2 c κs =
     let n = over-there (s .args .limit) (s .args .d) (stores s) (s .args .t6) (t .t3 .given .0 .0) (goes l (Over (t .t3 .given .0 .0)) (t .t3 .given .1)) in
     (omega (arith, n .1, s .pre .0), omega (arith, n .1, s .pre .1), omega (arith, n .1, s .pre .2), n .0, omega (arith, n .1, s .pre .4), search needs)
 
-same-length : tie.Need-same-length
-same-length c = search needs
-
-same-length-2 : tie.Need-same-length-2
-same-length-2 c = search needs
-
-same-length-3 : tie.Need-same-length-3
-same-length-3 c = search needs
-
 returns : tie.Need-returns
 returns c =
     let l = c .before .before in
     let s = start l in
     sym (bound-at (s .args .limit) (s .args .d) (stores s) (s .args .t6) Disagrees (goes l Disagrees (c .enum-told .given .1)))
-
-same-length-4 : tie.Need-same-length-4
-same-length-4 c = search needs
-
-same-length-5 : tie.Need-same-length-5
-same-length-5 c = search needs
-
-same-length-6 : tie.Need-same-length-6
-same-length-6 c = search needs
 
 returns-2 : tie.Need-returns-2
 returns-2 c =
@@ -92,15 +59,6 @@ returns-2 c =
     b .bind-held .ensures (s .args .sets .now) (s .args .order .now)
     ∙ sym (bound-at (s .args .limit) (s .args .d) (stores s) (s .args .t6) (Old (t .t .given .0 .0)) (goes l (Old (t .t .given .0 .0)) (t .t .given .1)))
 
-same-length-7 : tie.Need-same-length-7
-same-length-7 c = search needs
-
-same-length-8 : tie.Need-same-length-8
-same-length-8 c = search needs
-
-same-length-9 : tie.Need-same-length-9
-same-length-9 c = search needs
-
 returns-3 : tie.Need-returns-3
 returns-3 c =
     let b = c .before .before .before .before in
@@ -109,15 +67,6 @@ returns-3 c =
     let s = start l in
     b .bind-new .ensures
     ∙ sym (bound-at (s .args .limit) (s .args .d) (stores s) (s .args .t6) (New (t .t2 .given .0 .0)) (goes l (New (t .t2 .given .0 .0)) (t .t2 .given .1)))
-
-same-length-10 : tie.Need-same-length-10
-same-length-10 c = search needs
-
-same-length-11 : tie.Need-same-length-11
-same-length-11 c = search needs
-
-same-length-12 : tie.Need-same-length-12
-same-length-12 c = search needs
 
 returns-4 : tie.Need-returns-4
 returns-4 c =
@@ -131,28 +80,7 @@ returns-4 c =
 pub bind-in-spec : {M : Type 1} → statement M
 bind-in-spec =
     tie.close
-    (tie.spec
-    locate-requires
-    enum-told
-    enum-known-t
-    bind-held-requires
-    enum-known-t-2
-    bind-new-requires
-    enum-known-t-3
-    bind-new-requires-2
-    same-length
-    same-length-2
-    same-length-3
-    returns
-    same-length-4
-    same-length-5
-    same-length-6
-    returns-2
-    same-length-7
-    same-length-8
-    same-length-9
-    returns-3
-    same-length-10
-    same-length-11
-    same-length-12
-    returns-4)
+    (tie.spec (λ c κs. search needs) (λ c. search needs) (λ c. search needs) bind-held-requires (λ c. search needs) bind-new-requires
+    (λ c. search needs) bind-new-requires-2 (λ c. search needs) (λ c. search needs) (λ c. search needs) returns (λ c. search needs)
+    (λ c. search needs) (λ c. search needs) returns-2 (λ c. search needs) (λ c. search needs) (λ c. search needs) returns-3
+    (λ c. search needs) (λ c. search needs) (λ c. search needs) returns-4)

@@ -19,18 +19,6 @@ returns c =
     let s = c .before .before .before in
     sym (born-none (s .args .d) (stores s) (s .args .row) (s .args .rank) (s .args .more) (c .if1 .taken))
 
-admit-requires : tie.Need-admit-requires
-admit-requires c κs = search needs
-
-same-length : tie.Need-same-length
-same-length c = search needs
-
-same-length-2 : tie.Need-same-length-2
-same-length-2 c = search needs
-
-same-length-3 : tie.Need-same-length-3
-same-length-3 c = search needs
-
 returns-2 : tie.Need-returns-2
 returns-2 c =
     let a = c .before .before .before .before in
@@ -42,4 +30,4 @@ returns-2 c =
 
 pub bind-new-spec : {M : Type 1} → statement M
 bind-new-spec =
-    tie.close (tie.spec returns admit-requires same-length same-length-2 same-length-3 returns-2)
+    tie.close (tie.spec returns (λ c κs. search needs) (λ c. search needs) (λ c. search needs) (λ c. search needs) returns-2)

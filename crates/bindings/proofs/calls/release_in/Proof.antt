@@ -18,7 +18,6 @@ use Rattle.directory.proofs.Laws.{few, places-right, slot-used, scan-in, slotsO
 use Rattle.laws.specs.Said.{success}
 use Rattle.bindings.proofs.Releases.{release-no, release-none, release-one}
 use Rattle.bindings.proofs.calls.release_in.Statement.{statement}
-use borrow.Author.Needs.{needs}
 use Rattle.bindings.proofs.calls.release_in.Tie as tie
 
 abbrev stores : tie.Start → Stores
@@ -46,12 +45,6 @@ in-x x =
     let s = start e in
     omega (arith, few-of e, s .pre .1, slot-used (s .args .limit) (s .args .d) (stores s) (right e) (x .x .given .0 .0) (scan-in (s .args .h) (s .args .entries .now) (x .x .given .0 .0) (slotsOf (s .args .d) (stores s)) (found x)))
 
-agrees-requires : tie.Need-agrees-requires
-agrees-requires c κs = search needs
-
-same-length : tie.Need-same-length
-same-length c = search needs
-
 returns : tie.Need-returns
 returns c = let s = c .before .before .before .before in sym (release-no (s .args .limit) (s .args .d) (stores s) (s .args .h) (sym (c .before .agrees .ensures) ∙ not-true _ (c .if1 .taken)))
 
@@ -61,20 +54,11 @@ by-handle-requires c κs =
     let s = start e in
     (omega (arith, few-of e, s .pre .1), omega (arith, few-of e, s .pre .2), place-slot (s .args .d .used) (s .args .sets .now) (s .args .order .now) (places-right (s .args .limit) (s .args .d) (stores s) (right e)), scan-own (s .args .limit) (s .args .d) (stores s) (right e) (s .args .h))
 
-enum-told : tie.Need-enum-told
-enum-told c = search needs
-
-enum-known-x : tie.Need-enum-known-x
-enum-known-x c = search needs
-
 mul-n : tie.Need-mul-n
 mul-n c = scaled-fits _ _ 24 (in-x (c .before)) (start (else-of (c .before)) .good .1 .1 .1 .0 .1)
 
 index-1-n : tie.Need-index-1-n
 index-1-n c = in-x (c .before)
-
-index-2-n : tie.Need-index-2-n
-index-2-n c = search needs
 
 sub-rebind : tie.Need-sub-rebind
 sub-rebind c =
@@ -85,18 +69,12 @@ sub-rebind c =
 rebind-requires : tie.Need-rebind-requires
 rebind-requires c κs = in-x (c .before .before .before)
 
-same-length-2 : tie.Need-same-length-2
-same-length-2 c = search needs
-
 returns-2 : tie.Need-returns-2
 returns-2 c =
     let b = c .before .before in
     let e = b .before .before in
     let s = start e in
     sym (release-none (s .args .limit) (s .args .d) (stores s) (s .args .h) (right e) _ (sym (b .by-handle .ensures) ∙ c .enum-told .given .1))
-
-same-length-3 : tie.Need-same-length-3
-same-length-3 c = search needs
 
 returns-3 : tie.Need-returns-3
 returns-3 c =
@@ -110,19 +88,5 @@ returns-3 c =
 pub release-in-spec : {M : Type 1} → statement M
 release-in-spec =
     tie.close
-    (tie.spec
-    agrees-requires
-    same-length
-    returns
-    by-handle-requires
-    enum-told
-    enum-known-x
-    mul-n
-    index-1-n
-    index-2-n
-    sub-rebind
-    rebind-requires
-    same-length-2
-    returns-2
-    same-length-3
-    returns-3)
+    (tie.spec (λ c κs. search needs) (λ c. search needs) returns by-handle-requires (λ c. search needs) (λ c. search needs) mul-n index-1-n
+    (λ c. search needs) sub-rebind rebind-requires (λ c. search needs) returns-2 (λ c. search needs) returns-3)

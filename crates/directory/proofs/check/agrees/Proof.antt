@@ -8,7 +8,6 @@ use Rattle.directory.specs.Inner.{bornb}
 use Rattle.directory.proofs.Agreed.{placed-broken, placed-plain}
 use Rattle.directory.proofs.Walks.{agree-far, agree-births, agree-places, agree-counts}
 use Rattle.directory.proofs.check.agrees.Statement.{statement}
-use borrow.Author.Needs.{needs}
 use Rattle.directory.proofs.check.agrees.Tie as tie
 
 abbrev stores : tie.Start → Stores
@@ -18,31 +17,13 @@ stores s = record { sets = s .args .sets .now; entries = s .args .entries .now; 
 right : (e : tie.Else2) → bornb (e .before .before .before .before .args .d .used) (e .before .before .before .before .args .d .last) (e .before .before .before .before .args .entries .now) ≡ true
 right e = sym (e .before .births .ensures) ∙ not-false _ (e .if2 .left)
 
-add-if1 : tie.Need-add-if1
-add-if1 c = search needs
-
 returns : tie.Need-returns
 returns c = let s = c .before .before in sym (agree-far (s .args .limit) (s .args .d) (stores s) (c .if1 .taken))
-
-births-requires : tie.Need-births-requires
-births-requires c κs = search needs
 
 returns-2 : tie.Need-returns-2
 returns-2 c =
     let s = c .before .before .before .before in
     sym (agree-births (s .args .limit) (s .args .d) (stores s) (sym (c .before .births .ensures) ∙ not-true _ (c .if2 .taken)))
-
-places-requires : tie.Need-places-requires
-places-requires c κs = search needs
-
-enum-told : tie.Need-enum-told
-enum-told c = search needs
-
-enum-known-n : tie.Need-enum-known-n
-enum-known-n c = search needs
-
-counts-requires : tie.Need-counts-requires
-counts-requires c κs = search needs
 
 returns-3 : tie.Need-returns-3
 returns-3 c =
@@ -62,14 +43,5 @@ returns-4 c =
 pub agrees-spec : {M : Type 1} → statement M
 agrees-spec =
     tie.close
-    (tie.spec
-    add-if1
-    returns
-    births-requires
-    returns-2
-    places-requires
-    enum-told
-    enum-known-n
-    counts-requires
-    returns-3
-    returns-4)
+    (tie.spec (λ c. search needs) returns (λ c κs. search needs) returns-2 (λ c κs. search needs) (λ c. search needs) (λ c. search needs)
+    (λ c κs. search needs) returns-3 returns-4)

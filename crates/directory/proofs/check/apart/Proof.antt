@@ -21,29 +21,8 @@ large l = l .before .before .before .before .before .before
 abbrev start : tie.At-loop Inv-loop μ-loop → tie.Start Inv-loop μ-loop
 start l = large l .before .before
 
-index-1-if1 : tie.Need-index-1-if1 Inv-loop μ-loop
-index-1-if1 c = search needs
-
-index-2-if1 : tie.Need-index-2-if1 Inv-loop μ-loop
-index-2-if1 c = search needs
-
 returns : tie.Need-returns Inv-loop μ-loop
 returns c = λ h. absurd (omega arith)
-
-mul-differing : tie.Need-mul-differing Inv-loop μ-loop
-mul-differing c = search needs
-
-shared-slice-element-differing : tie.Need-shared-slice-element-differing Inv-loop μ-loop
-shared-slice-element-differing c = search needs
-
-shared-slice-element-differing-2 : tie.Need-shared-slice-element-differing-2 Inv-loop μ-loop
-shared-slice-element-differing-2 c = search needs
-
-differing-requires : tie.Need-differing-requires Inv-loop μ-loop
-differing-requires c κs = search needs
-
-same-keys-requires : tie.Need-same-keys-requires Inv-loop μ-loop
-same-keys-requires c κs = search needs
 
 returns-2 : tie.Need-returns-2 Inv-loop μ-loop
 returns-2 c = λ h. absurd (omega arith)
@@ -53,24 +32,6 @@ loop-holds c =
     let f = c .before .before in
     let s = f .before .before .before .before .before in
     (omega arith, s .pre .0, held-new (s .args .sets .now) (replicate 9 0) (s .args .used) (f .differing .result) (f .differing .ensures), (λ y h k. absurd (omega arith)))
-
-mul-differing-2 : tie.Need-mul-differing-2 Inv-loop μ-loop
-mul-differing-2 c = search needs
-
-shared-slice-element-differing-3 : tie.Need-shared-slice-element-differing-3 Inv-loop μ-loop
-shared-slice-element-differing-3 c = search needs
-
-shared-slice-element-differing-4 : tie.Need-shared-slice-element-differing-4 Inv-loop μ-loop
-shared-slice-element-differing-4 c = search needs
-
-differing-requires-2 : tie.Need-differing-requires-2 Inv-loop μ-loop
-differing-requires-2 c κs = search needs
-
-add-x : tie.Need-add-x Inv-loop μ-loop
-add-x c = search needs
-
-loop-less : tie.Need-loop-less Inv-loop μ-loop
-loop-less c = search needs
 
 loop-again : tie.Need-loop-again Inv-loop μ-loop
 loop-again c =
@@ -85,17 +46,11 @@ loop-again c =
       held-more (s .args .sets .now) (l .loop .d) (l .loop .x) (c .differing2 .result) e (v .3),
     )
 
-same-keys-requires-2 : tie.Need-same-keys-requires-2 Inv-loop μ-loop
-same-keys-requires-2 c κs = search needs
-
 returns-3 : tie.Need-returns-3 Inv-loop μ-loop
 returns-3 c = λ h. absurd (omega arith)
 
 shared-slice-element-sound : tie.Need-shared-slice-element-sound Inv-loop μ-loop
 shared-slice-element-sound c = let s = start (c .before .before .before) in omega (arith, s .pre .0, s .pre .1)
-
-sound-requires : tie.Need-sound-requires Inv-loop μ-loop
-sound-requires c κs = search needs
 
 returns-4 : tie.Need-returns-4 Inv-loop μ-loop
 returns-4 c = λ h. absurd (omega arith)
@@ -107,9 +62,6 @@ index-1-if5 : tie.Need-index-1-if5 Inv-loop μ-loop
 index-1-if5 c =
     let s = start (c .before .before .before .before .before .before .before .before .before) in
     omega (arith, s .pre .0, s .pre .1)
-
-index-2-if5 : tie.Need-index-2-if5 Inv-loop μ-loop
-index-2-if5 c = search needs
 
 returns-5 : tie.Need-returns-5 Inv-loop μ-loop
 returns-5 c = λ h. absurd (omega arith)
@@ -133,33 +85,7 @@ returns-6 c =
 pub apart-spec : {M : Type 1} → statement M
 apart-spec =
     tie.close
-    (tie.spec
-    Inv-loop
-    μ-loop
-    index-1-if1
-    index-2-if1
-    returns
-    mul-differing
-    shared-slice-element-differing
-    shared-slice-element-differing-2
-    differing-requires
-    same-keys-requires
-    returns-2
-    loop-holds
-    mul-differing-2
-    shared-slice-element-differing-3
-    shared-slice-element-differing-4
-    differing-requires-2
-    add-x
-    loop-less
-    loop-again
-    same-keys-requires-2
-    returns-3
-    shared-slice-element-sound
-    sound-requires
-    returns-4
-    parting-requires
-    index-1-if5
-    index-2-if5
-    returns-5
-    returns-6)
+    (tie.spec Inv-loop μ-loop (λ c. search needs) (λ c. search needs) returns (λ c. search needs) (λ c. search needs) (λ c. search needs)
+    (λ c κs. search needs) (λ c κs. search needs) returns-2 loop-holds (λ c. search needs) (λ c. search needs) (λ c. search needs)
+    (λ c κs. search needs) (λ c. search needs) (λ c. search needs) loop-again (λ c κs. search needs) returns-3 shared-slice-element-sound
+    (λ c κs. search needs) returns-4 parting-requires index-1-if5 (λ c. search needs) returns-5 returns-6)

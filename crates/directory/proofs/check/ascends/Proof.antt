@@ -35,9 +35,6 @@ in-p e = omega (arith, start (loop-of e) .pre .1, loop-of e .loop .inv .4)
 in-q : (e : tie.Else4 Inv-loop μ-loop) → getD (start (loop-of e) .args .order .now) (loop-of e .loop .i) 0 < length (start (loop-of e) .args .sets .now)
 in-q e = omega (arith, start (loop-of e) .pre .1, e .if4 .left)
 
-shared-slice-read-p : tie.Need-shared-slice-read-p Inv-loop μ-loop
-shared-slice-read-p c = search needs
-
 cast-p : tie.Need-cast-p Inv-loop μ-loop
 cast-p c = omega (arith, c .shared-slice-known2 .given 0)
 
@@ -52,12 +49,6 @@ loop-holds c =
     let s = c .before .before .before .before in
     let f = stepAt (s .args .sets .now) (s .args .order .now) (s .args .used) in
     (omega arith, s .pre .0, refl, c .before .if1 .left, c .if2 .left, allb-more f 0 (allb-none f) (step-first (s .args .used) (s .args .sets .now) (s .args .order .now) (s .args .from) (s .pre .3) 0 (c .before .if1 .left) (c .if2 .left) refl))
-
-mul-q : tie.Need-mul-q Inv-loop μ-loop
-mul-q c = search needs
-
-shared-slice-read-q : tie.Need-shared-slice-read-q Inv-loop μ-loop
-shared-slice-read-q c = search needs
 
 cast-q : tie.Need-cast-q Inv-loop μ-loop
 cast-q c = omega (arith, c .shared-slice-known3 .given (c .before .before .loop .i))
@@ -127,26 +118,6 @@ returns-6 c =
 pub ascends-spec : {M : Type 1} → statement M
 ascends-spec =
     tie.close
-    (tie.spec
-    Inv-loop
-    μ-loop
-    shared-slice-read-p
-    cast-p
-    returns
-    returns-2
-    loop-holds
-    mul-q
-    shared-slice-read-q
-    cast-q
-    returns-3
-    returns-4
-    mul-lower
-    shared-slice-element-lower
-    mul-lower-2
-    shared-slice-element-lower-2
-    lower-requires
-    returns-5
-    add-i
-    loop-less
-    loop-again
-    returns-6)
+    (tie.spec Inv-loop μ-loop (λ c. search needs) cast-p returns returns-2 loop-holds (λ c. search needs) (λ c. search needs) cast-q
+    returns-3 returns-4 mul-lower shared-slice-element-lower mul-lower-2 shared-slice-element-lower-2 lower-requires returns-5 add-i
+    loop-less loop-again returns-6)

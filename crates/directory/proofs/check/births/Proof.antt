@@ -20,29 +20,11 @@ abbrev μ-loop : tie.MeasureT-loop
 loop-holds : tie.Need-loop-holds Inv-loop μ-loop
 loop-holds c = (omega arith, refl, allb-none _)
 
-add-b : tie.Need-add-b Inv-loop μ-loop
-add-b c = search needs
-
-mul-b : tie.Need-mul-b Inv-loop μ-loop
-mul-b c = search needs
-
-index-1-b : tie.Need-index-1-b Inv-loop μ-loop
-index-1-b c = search needs
-
-index-2-b : tie.Need-index-2-b Inv-loop μ-loop
-index-2-b c = search needs
-
 returns : tie.Need-returns Inv-loop μ-loop
 returns c =
     let t = c .before .before in
     let s = t .before .before in
     sym (births-no (s .args .entries .now) (s .args .used) (s .args .last) (allb-no (bornAt (s .args .entries .now)) (s .args .used) (t .before .loop .i) (t .loop-test .taken) (born-late (s .args .entries .now) (t .before .loop .i) (t .before .loop .prev) (t .before .loop .inv .1) (c .if1 .taken))))
-
-add-i : tie.Need-add-i Inv-loop μ-loop
-add-i c = search needs
-
-loop-less : tie.Need-loop-less Inv-loop μ-loop
-loop-less c = search needs
 
 loop-again : tie.Need-loop-again Inv-loop μ-loop
 loop-again c =
@@ -70,17 +52,5 @@ returns-3 c =
 pub births-spec : {M : Type 1} → statement M
 births-spec =
     tie.close
-    (tie.spec
-    Inv-loop
-    μ-loop
-    loop-holds
-    add-b
-    mul-b
-    index-1-b
-    index-2-b
-    returns
-    add-i
-    loop-less
-    loop-again
-    returns-2
-    returns-3)
+    (tie.spec Inv-loop μ-loop loop-holds (λ c. search needs) (λ c. search needs) (λ c. search needs) (λ c. search needs) returns
+    (λ c. search needs) (λ c. search needs) loop-again returns-2 returns-3)

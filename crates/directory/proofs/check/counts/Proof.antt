@@ -3,7 +3,6 @@ use borrow.Author.Needs.{needs}
 use mathlib.Core.Path.{sym}
 use Rattle.directory.proofs.Agreed.{count-over, count-plain, count-none, count-more, count-wrong}
 use Rattle.directory.proofs.check.counts.Statement.{statement}
-use borrow.Author.Needs.{needs}
 use Rattle.directory.proofs.check.counts.Tie as tie
 
 returns : tie.Need-returns
@@ -15,9 +14,6 @@ returns-2 c = let e = c .before in let s = e .before in sym (count-plain (s .arg
 returns-3 : tie.Need-returns-3
 returns-3 c = let e = c .before .before in let s = e .before in sym (count-none (s .args .limit) (s .args .count) (s .args .used) (s .args .plain) (e .if1 .left) (c .before .if2 .left) (c .if3 .taken))
 
-add-if4 : tie.Need-add-if4
-add-if4 c = search needs
-
 returns-4 : tie.Need-returns-4
 returns-4 c = let e = c .before .before .before in let s = e .before in sym (count-more (s .args .limit) (s .args .count) (s .args .used) (s .args .plain) (e .if1 .left) (c .before .before .if2 .left) (c .before .if3 .left) (c .if4 .taken))
 
@@ -25,4 +21,4 @@ returns-5 : tie.Need-returns-5
 returns-5 c = let e = c .before .before .before in let s = e .before in sym (count-wrong (s .args .limit) (s .args .count) (s .args .used) (s .args .plain) (e .if1 .left) (c .before .before .if2 .left) (c .if4 .left))
 
 pub counts-spec : {M : Type 1} → statement M
-counts-spec = tie.close (tie.spec returns returns-2 returns-3 add-if4 returns-4 returns-5)
+counts-spec = tie.close (tie.spec returns returns-2 returns-3 (λ c. search needs) returns-4 returns-5)

@@ -44,12 +44,6 @@ firm f = and-true (soundb _) _ (sym (f .before .follows .ensures) ∙ not-false 
 loop-holds : tie.Need-loop-holds Inv-loop μ-loop
 loop-holds c = (omega arith, omega arith, (λ n. absurd (n refl)), (λ n. absurd (n refl)), allb-none _, refl, omega arith)
 
-mul-q : tie.Need-mul-q Inv-loop μ-loop
-mul-q c = search needs
-
-shared-slice-read-q : tie.Need-shared-slice-read-q Inv-loop μ-loop
-shared-slice-read-q c = search needs
-
 cast-q : tie.Need-cast-q Inv-loop μ-loop
 cast-q c = omega (arith, c .shared-slice-known2 .given (c .before .before .loop .i))
 
@@ -144,26 +138,6 @@ returns-4 c =
 pub one-by-one-spec : {M : Type 1} → statement M
 one-by-one-spec =
     tie.close
-    (tie.spec
-    Inv-loop
-    μ-loop
-    loop-holds
-    mul-q
-    shared-slice-read-q
-    cast-q
-    returns
-    returns-2
-    mul-follows
-    shared-slice-element-follows
-    mul-follows-2
-    shared-slice-element-follows-2
-    follows-requires
-    returns-3
-    mul-plain-row
-    shared-slice-element-plain-row
-    plain-row-requires
-    add-plain
-    add-i
-    loop-less
-    loop-again
-    returns-4)
+    (tie.spec Inv-loop μ-loop loop-holds (λ c. search needs) (λ c. search needs) cast-q returns returns-2 mul-follows
+    shared-slice-element-follows mul-follows-2 shared-slice-element-follows-2 follows-requires returns-3 mul-plain-row
+    shared-slice-element-plain-row plain-row-requires add-plain add-i loop-less loop-again returns-4)

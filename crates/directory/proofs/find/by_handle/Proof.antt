@@ -4,9 +4,6 @@ use mathlib.Core.Path.{sym}
 use Rattle.directory.proofs.find.by_handle.Statement.{statement}
 use Rattle.directory.proofs.find.by_handle.Tie as tie
 
-own-slot-requires : tie.Need-own-slot-requires
-own-slot-requires c κs = search needs
-
 returns : tie.Need-returns
 returns c =
     let q = c .before in
@@ -20,4 +17,4 @@ returns-2 : tie.Need-returns-2
 returns-2 c = c .by-places .ensures
 
 pub by-handle-spec : {M : Type 1} → statement M
-by-handle-spec = tie.close (tie.spec own-slot-requires returns by-places-requires returns-2)
+by-handle-spec = tie.close (tie.spec (λ c κs. search needs) returns by-places-requires returns-2)

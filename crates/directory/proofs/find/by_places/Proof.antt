@@ -27,15 +27,6 @@ slot-of t = start t .pre .2 (t .before .loop .i) (t .loop-test .taken)
 in-q : (t : tie.In-loop Inv-loop μ-loop) → getD (start t .args .order .now) (t .before .loop .i) 0 < length (start t .args .entries .now)
 in-q t = omega (arith, start t .pre .0, slot-of t .1)
 
-index-1-names : tie.Need-index-1-names Inv-loop μ-loop
-index-1-names c = search needs
-
-index-2-names : tie.Need-index-2-names Inv-loop μ-loop
-index-2-names c = search needs
-
-names-requires : tie.Need-names-requires Inv-loop μ-loop
-names-requires c κs = search needs
-
 returns : tie.Need-returns Inv-loop μ-loop
 returns c =
     let a = c .before in
@@ -48,12 +39,6 @@ loop-holds c =
     let s = a .before .before .before in
     (omega arith, scan-skip (s .args .h) (s .args .entries .now) (s .args .order .now) (s .args .used) (sym (a .names .ensures) ∙ c .if1 .left))
 
-mul-q : tie.Need-mul-q Inv-loop μ-loop
-mul-q c = search needs
-
-shared-slice-read-q : tie.Need-shared-slice-read-q Inv-loop μ-loop
-shared-slice-read-q c = search needs
-
 cast-q : tie.Need-cast-q Inv-loop μ-loop
 cast-q c = omega (arith, c .shared-slice-known2 .given (c .before .before .loop .i))
 
@@ -63,20 +48,11 @@ mul-names c = scaled-fits _ _ 24 (in-q (c .before)) (start (c .before) .good .1 
 index-1-names-2 : tie.Need-index-1-names-2 Inv-loop μ-loop
 index-1-names-2 c = in-q (c .before)
 
-index-2-names-2 : tie.Need-index-2-names-2 Inv-loop μ-loop
-index-2-names-2 c = search needs
-
 mul-names-2 : tie.Need-mul-names-2 Inv-loop μ-loop
 mul-names-2 c = scaled-fits _ _ 24 (in-q (c .before .before)) (start (c .before .before) .good .1 .0 .1)
 
 index-1-names-3 : tie.Need-index-1-names-3 Inv-loop μ-loop
 index-1-names-3 c = in-q (c .before .before)
-
-index-2-names-3 : tie.Need-index-2-names-3 Inv-loop μ-loop
-index-2-names-3 c = search needs
-
-names-requires-2 : tie.Need-names-requires-2 Inv-loop μ-loop
-names-requires-2 c κs = search needs
 
 returns-2 : tie.Need-returns-2 Inv-loop μ-loop
 returns-2 c =
@@ -84,12 +60,6 @@ returns-2 c =
     let t = a .before .before .before .before in
     let s = start t in
     sym (t .before .loop .inv .1 ∙ scan-here (s .args .h) (s .args .entries .now) (s .args .order .now) (s .args .used) (t .before .loop .i) (t .loop-test .taken) (slot-of t .0) (sym (a .names2 .ensures) ∙ c .if2 .taken))
-
-add-i : tie.Need-add-i Inv-loop μ-loop
-add-i c = search needs
-
-loop-less : tie.Need-loop-less Inv-loop μ-loop
-loop-less c = search needs
 
 loop-again : tie.Need-loop-again Inv-loop μ-loop
 loop-again c =
@@ -107,26 +77,6 @@ returns-3 c =
 pub by-places-spec : {M : Type 1} → statement M
 by-places-spec =
     tie.close
-    (tie.spec
-    Inv-loop
-    μ-loop
-    index-1-names
-    index-2-names
-    names-requires
-    returns
-    loop-holds
-    mul-q
-    shared-slice-read-q
-    cast-q
-    mul-names
-    index-1-names-2
-    index-2-names-2
-    mul-names-2
-    index-1-names-3
-    index-2-names-3
-    names-requires-2
-    returns-2
-    add-i
-    loop-less
-    loop-again
-    returns-3)
+    (tie.spec Inv-loop μ-loop (λ c. search needs) (λ c. search needs) (λ c κs. search needs) returns loop-holds (λ c. search needs)
+    (λ c. search needs) cast-q mul-names index-1-names-2 (λ c. search needs) mul-names-2 index-1-names-3 (λ c. search needs)
+    (λ c κs. search needs) returns-2 (λ c. search needs) (λ c. search needs) loop-again returns-3)

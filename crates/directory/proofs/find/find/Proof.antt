@@ -53,9 +53,6 @@ in-q t = omega (arith, start t .pre .0, slot-of t .1)
 in-order : (t : tie.In-loop Inv-loop μ-loop) → mid t < length (start t .args .order .now)
 in-order t = omega (arith, start t .pre .1, inside t)
 
-element-copy-out-if1 : tie.Need-element-copy-out-if1 Inv-loop μ-loop
-element-copy-out-if1 c = search needs
-
 returns : tie.Need-returns Inv-loop μ-loop
 returns c = let s = c .before .before .before in sym (sought-empty _ _ _ _ (empty-row (s .args .wanted .now) (c .if1 .taken)))
 
@@ -63,9 +60,6 @@ loop-holds : tie.Need-loop-holds Inv-loop μ-loop
 loop-holds c =
     let s = c .before .before .before in
     (omega arith, omega arith, (λ k h. absurd (omega arith)), (λ k h l. absurd (omega arith)), sought-named _ _ _ _ (named-row (s .args .wanted .now) (c .if1 .left)))
-
-sub-mid : tie.Need-sub-mid Inv-loop μ-loop
-sub-mid c = search needs
 
 add-mid : tie.Need-add-mid Inv-loop μ-loop
 add-mid c = omega (arith, in-order c, start c .good .1 .1 .0 .1)
@@ -88,9 +82,6 @@ shared-slice-element-compare c = in-q (c .before)
 compare-requires : tie.Need-compare-requires Inv-loop μ-loop
 compare-requires c κs = let t = c .before .before in (start t .pre .2, start t .pre .4 _ (slot-of t .0) (slot-of t .1))
 
-enum-told : tie.Need-enum-told Inv-loop μ-loop
-enum-told c = search needs
-
 loop-less : tie.Need-loop-less Inv-loop μ-loop
 loop-less c = let t = c .before .before .before .before .before in omega (arith, below-high t, half (t .before .loop .low) (t .before .loop .high) (t .loop-test .taken) .0)
 
@@ -107,18 +98,12 @@ loop-again c =
       v .4,
     )
 
-enum-told-2 : tie.Need-enum-told-2 Inv-loop μ-loop
-enum-told-2 c = search needs
-
 returns-2 : tie.Need-returns-2 Inv-loop μ-loop
 returns-2 c =
     let a = c .before .before in
     let t = a .before .before .before in
     let s = start t in
     sym (t .before .loop .inv .4 ∙ held-at (setOf (s .args .wanted .now)) (s .args .used) (s .args .sets .now) (s .args .order .now) (s .pre .5) (s .pre .3) (mid t) (inside t) (way-eq (lie t) (sym (a .compare .ensures) ∙ c .enum-told2 .given .1)))
-
-enum-told-3 : tie.Need-enum-told-3 Inv-loop μ-loop
-enum-told-3 c = search needs
 
 add-low : tie.Need-add-low Inv-loop μ-loop
 add-low c = let t = c .before .before .before .before .before in omega (arith, in-order t, start t .good .1 .1 .0 .1)
@@ -150,27 +135,6 @@ returns-3 c =
 pub find-spec : {M : Type 1} → statement M
 find-spec =
     tie.close
-    (tie.spec
-    Inv-loop
-    μ-loop
-    element-copy-out-if1
-    returns
-    loop-holds
-    sub-mid
-    add-mid
-    mul-q
-    shared-slice-read-q
-    cast-q
-    mul-compare
-    shared-slice-element-compare
-    compare-requires
-    enum-told
-    loop-less
-    loop-again
-    enum-told-2
-    returns-2
-    enum-told-3
-    add-low
-    loop-less-2
-    loop-again-2
-    returns-3)
+    (tie.spec Inv-loop μ-loop (λ c. search needs) returns loop-holds (λ c. search needs) add-mid mul-q shared-slice-read-q cast-q
+    mul-compare shared-slice-element-compare compare-requires (λ c. search needs) loop-less loop-again (λ c. search needs) returns-2
+    (λ c. search needs) add-low loop-less-2 loop-again-2 returns-3)

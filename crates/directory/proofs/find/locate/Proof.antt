@@ -14,7 +14,6 @@ use Rattle.directory.proofs.Finds.{located-no, located-old, located-new
 use Rattle.directory.proofs.Laws.{place-climb, few, slots-right, places-right}
 use Rattle.directory.proofs.find.locate.Statement.{statement}
 use Rattle.tally.specs.Sets.{cmp}
-use borrow.Author.Needs.{needs}
 use Rattle.directory.proofs.find.locate.Tie as tie
 
 abbrev stores : tie.Start → Stores
@@ -42,20 +41,11 @@ rise-of : (e : tie.Else1) → (k : ℕ) → suc k < start e .args .d .used
     → cmp (setOf (getD (start e .args .sets .now) (getD (start e .args .order .now) k 0) [])) (setOf (getD (start e .args .sets .now) (getD (start e .args .order .now) (suc k) 0) [])) ≡ Ordering·lt
 rise-of e = place-climb (start e .args .d .used) (start e .args .sets .now) (start e .args .order .now) (places-right (start e .args .limit) (start e .args .d) (stores (start e)) (right e))
 
-agrees-requires : tie.Need-agrees-requires
-agrees-requires c κs = search needs
-
 returns : tie.Need-returns
 returns c = let s = c .before .before .before in sym (located-no (s .args .limit) (s .args .d) (stores s) (s .args .row .now) (sym (c .before .agrees .ensures) ∙ not-true _ (c .if1 .taken)))
 
 find-requires : tie.Need-find-requires
 find-requires c κs = (in-sets c, in-order c, start c .pre .3, slots-of c, sizes-of c, rise-of c)
-
-enum-known-x : tie.Need-enum-known-x
-enum-known-x c = search needs
-
-enum-known-r : tie.Need-enum-known-r
-enum-known-r c = search needs
 
 returns-2 : tie.Need-returns-2
 returns-2 c =
@@ -69,12 +59,6 @@ find-requires-2 : tie.Need-find-requires-2
 find-requires-2 c κs =
     let e = c .before .before .before .before .before .before .before in
     (in-sets e, in-order e, search needs, slots-of e, sizes-of e, rise-of e)
-
-enum-known-x-2 : tie.Need-enum-known-x-2
-enum-known-x-2 c = search needs
-
-enum-known-q : tie.Need-enum-known-q
-enum-known-q c = search needs
 
 returns-3 : tie.Need-returns-3
 returns-3 c =
@@ -109,16 +93,5 @@ returns-5 c =
 pub locate-spec : {M : Type 1} → statement M
 locate-spec =
     tie.close
-    (tie.spec
-    agrees-requires
-    returns
-    find-requires
-    enum-known-x
-    enum-known-r
-    returns-2
-    find-requires-2
-    enum-known-x-2
-    enum-known-q
-    returns-3
-    returns-4
-    returns-5)
+    (tie.spec (λ c κs. search needs) returns find-requires (λ c. search needs) (λ c. search needs) returns-2 find-requires-2
+    (λ c. search needs) (λ c. search needs) returns-3 returns-4 returns-5)

@@ -17,27 +17,6 @@ returns c = λ h. absurd (omega arith)
 returns-2 : tie.Need-returns-2
 returns-2 c = λ h. absurd (omega arith)
 
-mul-names : tie.Need-mul-names
-mul-names c = search needs
-
-index-1-names : tie.Need-index-1-names
-index-1-names c = search needs
-
-index-2-names : tie.Need-index-2-names
-index-2-names c = search needs
-
-mul-names-2 : tie.Need-mul-names-2
-mul-names-2 c = search needs
-
-index-1-names-2 : tie.Need-index-1-names-2
-index-1-names-2 c = search needs
-
-index-2-names-2 : tie.Need-index-2-names-2
-index-2-names-2 c = search needs
-
-names-requires : tie.Need-names-requires
-names-requires c κs = search needs
-
 returns-3 : tie.Need-returns-3
 returns-3 c =
     let a = c .before in
@@ -51,15 +30,5 @@ returns-4 c = λ h. absurd (omega arith)
 pub own-slot-spec : {M : Type 1} → statement M
 own-slot-spec =
     tie.close
-    (tie.spec
-    returns
-    returns-2
-    mul-names
-    index-1-names
-    index-2-names
-    mul-names-2
-    index-1-names-2
-    index-2-names-2
-    names-requires
-    returns-3
-    returns-4)
+    (tie.spec returns returns-2 (λ c. search needs) (λ c. search needs) (λ c. search needs) (λ c. search needs) (λ c. search needs)
+    (λ c. search needs) (λ c κs. search needs) returns-3 returns-4)

@@ -3,23 +3,10 @@ use borrow.Author.Needs.{needs}
 use mathlib.Core.Path.{sym}
 use Rattle.directory.proofs.Finds.{birth-at}
 use Rattle.directory.proofs.write.birth_of.Statement.{statement}
-use borrow.Author.Needs.{needs}
 use Rattle.directory.proofs.write.birth_of.Tie as tie
-
-returns : tie.Need-returns
-returns c = search needs
-
-mul-result : tie.Need-mul-result
-mul-result c = search needs
-
-index-1-result : tie.Need-index-1-result
-index-1-result c = search needs
-
-index-2-result : tie.Need-index-2-result
-index-2-result c = search needs
 
 returns-2 : tie.Need-returns-2
 returns-2 c = let e = c .before in sym (birth-at (e .before .args .entries .now) (e .before .args .x) (e .if1 .left))
 
 pub birth-of-spec : {M : Type 1} → statement M
-birth-of-spec = tie.close (tie.spec returns mul-result index-1-result index-2-result returns-2)
+birth-of-spec = tie.close (tie.spec (λ c. search needs) (λ c. search needs) (λ c. search needs) (λ c. search needs) returns-2)

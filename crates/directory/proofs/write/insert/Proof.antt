@@ -82,19 +82,5 @@ returns c =
 pub insert-spec : {M : Type 1} → statement M
 insert-spec =
     tie.close
-    (tie.spec
-    Inv-loop
-    μ-loop
-    loop-holds
-    sub-order
-    mul-order
-    slice-read-order
-    mul-order-2
-    slice-write-order
-    sub-i
-    loop-less
-    loop-again
-    mul-order-3
-    slice-write-order-2
-    same-length
-    returns)
+    (tie.spec Inv-loop μ-loop loop-holds sub-order mul-order slice-read-order mul-order-2 slice-write-order sub-i loop-less loop-again
+    mul-order-3 slice-write-order-2 same-length returns)

@@ -22,12 +22,6 @@ no : (a b : List ℕ) → size b ≤ size a → (size b < size a → cmp (setOf 
     → false ≡ (soundb b && below (cmp (setOf a) (setOf b)))
 no a b h f g = ⊎-elim (λ e. after-same a b (g (omega (arith, e)))) (λ l. after-high a b (f l)) (eq-or-lt-of-le h)
 
-element-copy-out-n : tie.Need-element-copy-out-n
-element-copy-out-n c = search needs
-
-element-copy-out-m : tie.Need-element-copy-out-m
-element-copy-out-m c = search needs
-
 returns : tie.Need-returns
 returns c =
     let s = c .before .before .before in
@@ -41,18 +35,6 @@ returns-2 c =
     let q = c .before .before in
     let s = at q in
     after-high (s .args .a .now) (s .args .b .now) (part-shorter (s .args .a .now) (s .args .b .now) (q .parting .result) (q .parting .ensures) (c .if3 .taken) (omega (arith, c .before .if2 .taken, c .if3 .taken)))
-
-mul-if4 : tie.Need-mul-if4
-mul-if4 c = search needs
-
-element-copy-out-if4 : tie.Need-element-copy-out-if4
-element-copy-out-if4 c = search needs
-
-mul-if4-2 : tie.Need-mul-if4-2
-mul-if4-2 c = search needs
-
-element-copy-out-if4-2 : tie.Need-element-copy-out-if4-2
-element-copy-out-if4-2 c = search needs
 
 returns-3 : tie.Need-returns-3
 returns-3 c =
@@ -101,20 +83,5 @@ returns-6 c =
 pub after-spec : {M : Type 1} → statement M
 after-spec =
     tie.close
-    (tie.spec
-    element-copy-out-n
-    element-copy-out-m
-    returns
-    parting-requires
-    returns-2
-    mul-if4
-    element-copy-out-if4
-    mul-if4-2
-    element-copy-out-if4-2
-    returns-3
-    rises-requires
-    returns-4
-    returns-5
-    sub-rises
-    rises-requires-2
-    returns-6)
+    (tie.spec (λ c. search needs) (λ c. search needs) returns parting-requires returns-2 (λ c. search needs) (λ c. search needs)
+    (λ c. search needs) (λ c. search needs) returns-3 rises-requires returns-4 returns-5 sub-rises rises-requires-2 returns-6)

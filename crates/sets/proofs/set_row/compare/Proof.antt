@@ -10,12 +10,6 @@ use Rattle.sets.proofs.set_row.compare.Tie as tie
 abbrev at : tie.After-parting → tie.Start
 at q = q .before .before .before
 
-element-copy-out-n : tie.Need-element-copy-out-n
-element-copy-out-n c = search needs
-
-element-copy-out-m : tie.Need-element-copy-out-m
-element-copy-out-m c = search needs
-
 parting-requires : tie.Need-parting-requires
 parting-requires c κs = (omega arith, (λ k h. absurd (omega arith)))
 
@@ -24,18 +18,6 @@ returns c =
     let q = c .before .before in
     let s = at q in
     sym (ap way (part-shorter (s .args .a .now) (s .args .b .now) (q .parting .result) (q .parting .ensures) (c .if2 .taken) (omega (arith, c .before .if1 .taken, c .if2 .taken))))
-
-mul-if3 : tie.Need-mul-if3
-mul-if3 c = search needs
-
-element-copy-out-if3 : tie.Need-element-copy-out-if3
-element-copy-out-if3 c = search needs
-
-mul-if3-2 : tie.Need-mul-if3-2
-mul-if3-2 c = search needs
-
-element-copy-out-if3-2 : tie.Need-element-copy-out-if3-2
-element-copy-out-if3-2 c = search needs
 
 returns-2 : tie.Need-returns-2
 returns-2 c =
@@ -74,17 +56,5 @@ returns-6 c =
 pub compare-spec : {M : Type 1} → statement M
 compare-spec =
     tie.close
-    (tie.spec
-    element-copy-out-n
-    element-copy-out-m
-    parting-requires
-    returns
-    mul-if3
-    element-copy-out-if3
-    mul-if3-2
-    element-copy-out-if3-2
-    returns-2
-    returns-3
-    returns-4
-    returns-5
-    returns-6)
+    (tie.spec (λ c. search needs) (λ c. search needs) parting-requires returns (λ c. search needs) (λ c. search needs) (λ c. search needs)
+    (λ c. search needs) returns-2 returns-3 returns-4 returns-5 returns-6)

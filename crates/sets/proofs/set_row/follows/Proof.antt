@@ -5,9 +5,6 @@ use Rattle.sets.proofs.Ways.{follow-first, follow-next}
 use Rattle.sets.proofs.set_row.follows.Statement.{statement}
 use Rattle.sets.proofs.set_row.follows.Tie as tie
 
-sound-requires : tie.Need-sound-requires
-sound-requires c κs = search needs
-
 returns : tie.Need-returns
 returns c =
     let s = c .before .before in
@@ -22,4 +19,4 @@ returns-2 c =
     follow-next (s .args .i) (soundb (s .args .b .now)) _ (c .before .if1 .left) _ (c .after .ensures)
 
 pub follows-spec : {M : Type 1} → statement M
-follows-spec = tie.close (tie.spec sound-requires returns after-requires returns-2)
+follows-spec = tie.close (tie.spec (λ c κs. search needs) returns after-requires returns-2)

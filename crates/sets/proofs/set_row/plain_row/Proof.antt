@@ -3,14 +3,7 @@ use borrow.Author.Needs.{needs}
 use mathlib.Core.Path.{sym}
 use Rattle.sets.proofs.Plains.{plain-over, plain-one, plain-many}
 use Rattle.sets.proofs.set_row.plain_row.Statement.{statement}
-use borrow.Author.Needs.{needs}
 use Rattle.sets.proofs.set_row.plain_row.Tie as tie
-
-element-copy-out-if1 : tie.Need-element-copy-out-if1
-element-copy-out-if1 c = search needs
-
-element-copy-out-if2 : tie.Need-element-copy-out-if2
-element-copy-out-if2 c = search needs
 
 returns : tie.Need-returns
 returns c = let s = c .before .before .before .before in sym (plain-over (s .args .row .now) (c .before .before .if1 .taken) (c .if2 .taken))
@@ -23,4 +16,4 @@ returns-3 c = let s = c .before .before in sym (plain-many (s .args .row .now) (
 
 pub plain-row-spec : {M : Type 1} → statement M
 plain-row-spec =
-    tie.close (tie.spec element-copy-out-if1 element-copy-out-if2 returns returns-2 returns-3)
+    tie.close (tie.spec (λ c. search needs) (λ c. search needs) returns returns-2 returns-3)

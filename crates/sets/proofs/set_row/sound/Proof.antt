@@ -6,9 +6,6 @@ use Rattle.sets.proofs.Keyed.{unsound-none, unsound-many, sound-keys}
 use Rattle.sets.proofs.set_row.sound.Statement.{statement}
 use Rattle.sets.proofs.set_row.sound.Tie as tie
 
-element-copy-out-n : tie.Need-element-copy-out-n
-element-copy-out-n c = search needs
-
 returns : tie.Need-returns
 returns c =
     let s = c .before .before in
@@ -29,4 +26,4 @@ returns-3 c =
     c .rises .ensures ∙ sym (sound-keys (s .args .row .now) (e .before .if1 .left) (e .if2 .left))
 
 pub sound-spec : {M : Type 1} → statement M
-sound-spec = tie.close (tie.spec element-copy-out-n returns returns-2 rises-requires returns-3)
+sound-spec = tie.close (tie.spec (λ c. search needs) returns returns-2 rises-requires returns-3)

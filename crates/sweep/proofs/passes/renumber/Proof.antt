@@ -38,15 +38,6 @@ loop-holds c =
     let s = c .before in
     (omega arith, refl, refl, first (s .args .used) (s .args .order .now) (s .pre .0) (s .pre .1) (s .pre .2) (s .pre .3))
 
-mul-low : tie.Need-mul-low Inv-loop μ-loop
-mul-low c = search needs
-
-slice-read-low : tie.Need-slice-read-low Inv-loop μ-loop
-slice-read-low c = search needs
-
-low-requires : tie.Need-low-requires Inv-loop μ-loop
-low-requires c κs = search needs
-
 sub-high : tie.Need-sub-high Inv-loop μ-loop
 sub-high c = slot c .0
 
@@ -60,21 +51,12 @@ mul-high c =
 slice-read-high : tie.Need-slice-read-high Inv-loop μ-loop
 slice-read-high c = in-high (c .before)
 
-high-requires : tie.Need-high-requires Inv-loop μ-loop
-high-requires c κs = search needs
-
 put-place-requires : tie.Need-put-place-requires Inv-loop μ-loop
 put-place-requires c κs =
     let t = c .before .before .before .before .before in
     let l = t .before in
     let s = l .before .before in
     (omega (arith, word-long (s .args .used) (s .args .order .now) (s .pre .0) (s .pre .1) (s .pre .2) (s .pre .3) (l .loop .order) (l .loop .w) (l .loop .i) (l .loop .inv .3) (l .loop .inv .1) (t .loop-test .taken), word-few (s .args .used) (s .args .order .now) (s .pre .0) (s .pre .1) (s .pre .2) (s .pre .3) (l .loop .order) (l .loop .w) (l .loop .i) (l .loop .inv .3) (l .loop .inv .1) (t .loop-test .taken), t .loop-test .taken, s .pre .0), c .before .high .ensures .1)
-
-add-i : tie.Need-add-i Inv-loop μ-loop
-add-i c = search needs
-
-loop-less : tie.Need-loop-less Inv-loop μ-loop
-loop-less c = search needs
 
 loop-again : tie.Need-loop-again Inv-loop μ-loop
 loop-again c =
@@ -102,20 +84,5 @@ returns c =
 pub renumber-spec : {M : Type 1} → statement M
 renumber-spec =
     tie.close
-    (tie.spec
-    Inv-loop
-    μ-loop
-    loop-holds
-    mul-low
-    slice-read-low
-    low-requires
-    sub-high
-    mul-high
-    slice-read-high
-    high-requires
-    put-place-requires
-    add-i
-    loop-less
-    loop-again
-    same-length
-    returns)
+    (tie.spec Inv-loop μ-loop loop-holds (λ c. search needs) (λ c. search needs) (λ c κs. search needs) sub-high mul-high slice-read-high
+    (λ c κs. search needs) put-place-requires (λ c. search needs) (λ c. search needs) loop-again same-length returns)

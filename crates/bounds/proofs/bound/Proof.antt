@@ -18,9 +18,6 @@ as-entry k r h e = e ∙ ap (λ (i : ℕ). getD (getD rows i []) (k % 64) 0) (sa
     same : (k : ℕ) → k < 1024 → k / 64 % 16 ≡ k / 64
     same k h = omega (arith, h)
 
-cell-requires : tie.Need-cell-requires
-cell-requires c κs = search needs
-
 returns : tie.Need-returns
 returns c =
     let st = c .before in
@@ -28,4 +25,4 @@ returns c =
     subst (BoundAt k) (sym (as-entry k (c .cell .result) (st .pre) (c .cell .ensures))) (bounded k (st .pre))
 
 pub bound-spec : {M : Type 1} → statement M
-bound-spec = tie.close (tie.spec cell-requires returns)
+bound-spec = tie.close (tie.spec (λ c κs. search needs) returns)

@@ -10,9 +10,6 @@ use Rattle.bounds.specs.Table.{rows}
 use Rattle.bounds.proofs.last_row.Statement.{statement}
 use Rattle.bounds.proofs.last_row.Tie as tie
 
-row-15-requires : tie.Need-row-15-requires
-row-15-requires c κs = search needs
-
 returns : tie.Need-returns
 returns c = subst (λ (i : ℕ). c .row-15 .result ≡ getD (getD rows i []) (c .before .args .j) 0) end (c .row-15 .ensures)
   where
@@ -20,4 +17,4 @@ returns c = subst (λ (i : ℕ). c .row-15 .result ≡ getD (getD rows i []) (c 
     end = omega (arith, past 15 (c .before .args .i) (c .before .pre .1 .1))
 
 pub last-row-spec : {M : Type 1} → statement M
-last-row-spec = tie.close (tie.spec row-15-requires returns)
+last-row-spec = tie.close (tie.spec (λ c κs. search needs) returns)

@@ -70,14 +70,4 @@ returns-6 c =
     sym (bar-none (s .args .cells) (s .args .unset) (s .args .limit) (s .args .d) (lent s) (room e) (cells f) (g .before .if3 .left) (g .if4 .left) (sym (c .before .agrees .ensures) ∙ not-false _ (c .if5 .left)))
 
 pub barred-spec : {M : Type 1} → statement M
-barred-spec =
-    tie.close
-    (tie.spec
-    (λ c κs. search needs)
-    returns
-    returns-2
-    returns-3
-    returns-4
-    agrees-requires
-    returns-5
-    returns-6)
+barred-spec = tie.close (tie.spec (λ c κs. search needs) returns returns-2 returns-3 returns-4 agrees-requires returns-5 returns-6)

@@ -13,12 +13,4 @@ returns-2 : tie.Need-returns-2
 returns-2 c = slot-behind (c .before .before .args .order .now) (c .before .before .args .i) (c .before .if1 .left)
 
 pub slot-at-spec : {M : Type 1} → statement M
-slot-at-spec =
-    tie.close
-    (tie.spec
-    (λ c. search needs)
-    (λ c. search needs)
-    (λ c. search needs)
-    (λ c. search needs)
-    cast-result
-    returns-2)
+slot-at-spec = tie.close (tie.spec (λ c. search needs) (λ c. search needs) (λ c. search needs) (λ c. search needs) cast-result returns-2)

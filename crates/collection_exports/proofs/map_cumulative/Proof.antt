@@ -14,36 +14,6 @@ use borrow.Author.Needs.{needs}
 use Rattle.collection_exports.proofs.map_cumulative.Statement.{statement}
 use Rattle.collection_exports.proofs.map_cumulative.Tie as tie
 
-element-copy-out-state-of : tie.Need-element-copy-out-state-of
-element-copy-out-state-of c = search needs
-
-state-of-requires : tie.Need-state-of-requires
-state-of-requires c κs = search needs
-
-cumulative-requires : tie.Need-cumulative-requires
-cumulative-requires c κs = search needs
-
-points-of-requires : tie.Need-points-of-requires
-points-of-requires c κs = search needs
-
-element-write-points : tie.Need-element-write-points
-element-write-points c = search needs
-
-number-of-requires : tie.Need-number-of-requires
-number-of-requires c κs = search needs
-
-same-length : tie.Need-same-length
-same-length c = search needs
-
-same-length-2 : tie.Need-same-length-2
-same-length-2 c = search needs
-
-same-length-3 : tie.Need-same-length-3
-same-length-3 c = search needs
-
-same-length-4 : tie.Need-same-length-4
-same-length-4 c = search needs
-
 returns : tie.Need-returns
 returns c =
     let m = c .before .before .before .before .before .before .before .before in
@@ -60,15 +30,5 @@ returns c =
 pub map-cumulative-spec : {M : Type 1} → statement M
 map-cumulative-spec =
     tie.close
-    (tie.spec
-    element-copy-out-state-of
-    state-of-requires
-    cumulative-requires
-    points-of-requires
-    element-write-points
-    number-of-requires
-    same-length
-    same-length-2
-    same-length-3
-    same-length-4
-    returns)
+    (tie.spec (λ c. search needs) (λ c κs. search needs) (λ c κs. search needs) (λ c κs. search needs) (λ c. search needs)
+    (λ c κs. search needs) (λ c. search needs) (λ c. search needs) (λ c. search needs) (λ c. search needs) returns)

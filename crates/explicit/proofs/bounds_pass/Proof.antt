@@ -13,16 +13,10 @@ returns c = too-many (now (c .before .before .args .bounds)) (c .if1 .taken)
 returns-2 : tie.Need-returns-2
 returns-2 c = no-bounds (now (c .before .before .before .args .bounds)) (c .if2 .taken)
 
-shared-slice-read-first : tie.Need-shared-slice-read-first
-shared-slice-read-first c = search needs
-
 returns-3 : tie.Need-returns-3
 returns-3 c =
     let e = c .before .before in
     nan-first (now (e .before .before .before .args .bounds)) (omega (arith, e .before .if1 .left)) (e .if2 .left) (sym (nan-test _) ∙ c .if3 .taken)
-
-rises-requires : tie.Need-rises-requires
-rises-requires c κs = search needs
 
 returns-4 : tie.Need-returns-4
 returns-4 c =
@@ -32,4 +26,4 @@ returns-4 c =
     ∙ by-rising (now (e .before .before .before .args .bounds)) (omega (arith, e .before .if1 .left)) (e .if2 .left) (sym (nan-test _) ∙ d .if3 .left)
 
 pub bounds-pass-spec : {M : Type 1} → statement M
-bounds-pass-spec = tie.close (tie.spec returns returns-2 shared-slice-read-first returns-3 rises-requires returns-4)
+bounds-pass-spec = tie.close (tie.spec returns returns-2 (λ c. search needs) returns-3 (λ c κs. search needs) returns-4)

@@ -7,11 +7,8 @@ use Rattle.explicit.proofs.bucket_count.Tie as tie
 returns : tie.Need-returns
 returns c = count-none (now (c .before .args .bounds)) (c .if1 .taken)
 
-add-result : tie.Need-add-result
-add-result c = search needs
-
 returns-2 : tie.Need-returns-2
 returns-2 c = count-some (now (c .before .args .bounds)) (c .if1 .left)
 
 pub bucket-count-spec : {M : Type 1} → statement M
-bucket-count-spec = tie.close (tie.spec returns add-result returns-2)
+bucket-count-spec = tie.close (tie.spec returns (λ c. search needs) returns-2)

@@ -21,23 +21,8 @@ loop-holds : tie.Need-loop-holds Inv-loop μ-loop
 unfolding bucketOf
 loop-holds c = (omega arith, omega arith, refl)
 
-mul-below : tie.Need-mul-below Inv-loop μ-loop
-mul-below c = search needs
-
-shared-slice-read-below : tie.Need-shared-slice-read-below Inv-loop μ-loop
-shared-slice-read-below c = search needs
-
-below-requires : tie.Need-below-requires Inv-loop μ-loop
-below-requires c κs = search needs
-
 add-k : tie.Need-add-k Inv-loop μ-loop
 add-k c = omega (arith, c .below .ensures, pick-le (lt (getD (now (c .before .before .before .before .before .args .bounds)) (c .before .before .before .loop .i) nan) (c .before .before .before .before .before .args .v)))
-
-add-i : tie.Need-add-i Inv-loop μ-loop
-add-i c = search needs
-
-loop-less : tie.Need-loop-less Inv-loop μ-loop
-loop-less c = search needs
 
 loop-again : tie.Need-loop-again Inv-loop μ-loop
 loop-again c =
@@ -53,4 +38,4 @@ returns c =
     c .before .loop .inv .2 ∙ ap (λ l. bucketOf l (a .v)) (take-all (c .before .loop .i) (now (a .bounds)) (c .loop-test .left))
 
 pub bucket-of-spec : {M : Type 1} → statement M
-bucket-of-spec = tie.close (tie.spec Inv-loop μ-loop loop-holds mul-below shared-slice-read-below below-requires add-k add-i loop-less loop-again returns)
+bucket-of-spec = tie.close (tie.spec Inv-loop μ-loop loop-holds (λ c. search needs) (λ c. search needs) (λ c κs. search needs) add-k (λ c. search needs) (λ c. search needs) loop-again returns)

@@ -14,16 +14,10 @@ use Rattle.explicit.proofs.Cases.{refuse, too-short, no-buckets, by-tot
 use Rattle.explicit.proofs.buckets_agree.Statement.{statement}
 use Rattle.explicit.proofs.buckets_agree.Tie as tie
 
-bounds-pass-requires : tie.Need-bounds-pass-requires
-bounds-pass-requires c κs = search needs
-
 returns : tie.Need-returns
 returns c =
     let a = c .before .before .before .before .args in
     refuse (now (a .bounds)) (a .count) (now (a .counts)) (λ k. not-both _ (c .before .bounds-pass .ensures ∙ k .passes) (not-true _ (c .if1 .taken)))
-
-bucket-count-requires : tie.Need-bucket-count-requires
-bucket-count-requires c κs = search needs
 
 passed : (e : tie.Else1) → boundsPass (now (e .before .before .before .before .args .bounds)) ≡ true
 passed e = sym (e .before .bounds-pass .ensures) ∙ not-false _ (e .if1 .left)
@@ -60,4 +54,4 @@ returns-4 c =
     ∙ by-total (now (a .bounds)) (a .count) (now (a .counts)) (passed e) (omega (arith, d .if2 .left, n)) (omega (arith, f .if3 .left, n))
 
 pub buckets-agree-spec : {M : Type 1} → statement M
-buckets-agree-spec = tie.close (tie.spec bounds-pass-requires returns bucket-count-requires returns-2 returns-3 adds-up-requires returns-4)
+buckets-agree-spec = tie.close (tie.spec (λ c κs. search needs) returns (λ c κs. search needs) returns-2 returns-3 adds-up-requires returns-4)

@@ -12,9 +12,6 @@ returns c =
     let st = c .before .before .before in
     no-bucket (now (st .args .bounds)) (now (st .args .counts)) (st .args .v) (st .pre .0) (c .if1 .taken)
 
-bucket-of-requires : tie.Need-bucket-of-requires
-bucket-of-requires c κs = search needs
-
 inside : (b : tie.After-bucket-of) → b .bucket-of .result < length (now (b .before .before .before .before .args .counts))
 inside b =
     let e = b .before in
@@ -37,9 +34,6 @@ add-counts c =
 slice-write-counts : tie.Need-slice-write-counts
 slice-write-counts c = omega (arith, inside (c .before))
 
-same-length : tie.Need-same-length
-same-length c = search needs
-
 returns-2 : tie.Need-returns-2
 returns-2 c =
     let b = c .before in
@@ -48,4 +42,4 @@ returns-2 c =
     one-more (now (st .args .bounds)) (now (st .args .counts)) (st .args .v) (st .pre .0) (omega (arith, e .if1 .left)) (b .bucket-of .result) (b .bucket-of .ensures)
 
 pub count-in-spec : {M : Type 1} → statement M
-count-in-spec = tie.close (tie.spec returns bucket-of-requires mul-counts slice-read-counts add-counts slice-write-counts same-length returns-2)
+count-in-spec = tie.close (tie.spec returns (λ c κs. search needs) mul-counts slice-read-counts add-counts slice-write-counts (λ c. search needs) returns-2)

@@ -6,9 +6,6 @@ use Rattle.explicit.proofs.Writes.{fresh-short, fresh-made}
 use Rattle.explicit.proofs.fresh.Statement.{statement}
 use Rattle.explicit.proofs.fresh.Tie as tie
 
-bucket-count-requires : tie.Need-bucket-count-requires
-bucket-count-requires c κs = search needs
-
 returns : tie.Need-returns
 returns c =
     let k = c .before in
@@ -17,9 +14,6 @@ returns c =
 
 zero-requires : tie.Need-zero-requires
 zero-requires c κs = (omega arith, omega (arith, c .before .if1 .left))
-
-same-length : tie.Need-same-length
-same-length c = search needs
 
 returns-2 : tie.Need-returns-2
 unfolding ofBits neg
@@ -31,4 +25,4 @@ returns-2 c =
     fresh-made (now (a .bounds)) (now (a .counts)) (k .bucket-count .result) (z .zero .last .0) (k .bucket-count .ensures) (omega (arith, e .if1 .left, k .bucket-count .ensures)) (z .zero .ensures)
 
 pub fresh-spec : {M : Type 1} → statement M
-fresh-spec = tie.close (tie.spec bucket-count-requires returns zero-requires same-length returns-2)
+fresh-spec = tie.close (tie.spec (λ c κs. search needs) returns zero-requires (λ c. search needs) returns-2)

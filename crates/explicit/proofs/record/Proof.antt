@@ -12,12 +12,6 @@ start e = e .before .before .before .before .before
 good : (e : tie.Else1) → Ready (now (start e .args .bounds)) (start e .args .head) (now (start e .args .counts))
 good e = let a = start e .args in ready (now (a .bounds)) (a .head) (now (a .counts)) (a .v) (sym (e .before .refusal .ensures) ∙ e .if1 .left)
 
-refusal-requires : tie.Need-refusal-requires
-refusal-requires c κs = search needs
-
-same-length : tie.Need-same-length
-same-length c = search needs
-
 returns : tie.Need-returns
 returns c =
     let a = c .before .before .before .before .before .args in
@@ -29,17 +23,8 @@ count-in-requires c κs =
     let a = start e .args in
     (good e .long, total-below (now (a .bounds)) (a .head) (now (a .counts)) (a .v) (good e))
 
-lesser-requires : tie.Need-lesser-requires
-lesser-requires c κs = search needs
-
-greater-requires : tie.Need-greater-requires
-greater-requires c κs = search needs
-
 add-t14 : tie.Need-add-t14
 add-t14 c = omega (arith, good (c .before .before .before .before .before .before .before) .count)
-
-same-length-2 : tie.Need-same-length-2
-same-length-2 c = search needs
 
 returns-2 : tie.Need-returns-2
 returns-2 c =
@@ -50,4 +35,4 @@ returns-2 c =
     accepted-law (now (a .bounds)) (a .head) (now (a .counts)) (a .v) (g .before .lesser .result) (g .greater .result) (d .count-in .last .1 .0) (sym (e .before .refusal .ensures) ∙ e .if1 .left) (d .count-in .ensures) (g .before .lesser .ensures) (g .greater .ensures)
 
 pub record-spec : {M : Type 1} → statement M
-record-spec = tie.close (tie.spec refusal-requires same-length returns count-in-requires lesser-requires greater-requires add-t14 same-length-2 returns-2)
+record-spec = tie.close (tie.spec (λ c κs. search needs) (λ c. search needs) returns count-in-requires (λ c κs. search needs) (λ c κs. search needs) add-t14 (λ c. search needs) returns-2)

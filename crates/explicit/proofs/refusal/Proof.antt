@@ -10,16 +10,10 @@ use Rattle.explicit.proofs.refusal.Tie as tie
 abbrev start : tie.Else1 → tie.Start
 start e = e .before .before .before .before
 
-bucket-count-requires : tie.Need-bucket-count-requires
-bucket-count-requires c κs = search needs
-
 returns : tie.Need-returns
 returns c =
     let a = c .before .before .before .before .args in
     short-row (now (a .bounds)) (a .head) (now (a .counts)) (a .v) (omega (arith, c .if1 .taken, c .before .bucket-count .ensures))
-
-is-finite-requires : tie.Need-is-finite-requires
-is-finite-requires c κs = search needs
 
 returns-2 : tie.Need-returns-2
 returns-2 c =
@@ -27,18 +21,12 @@ returns-2 c =
     let a = start e1 .args in
     not-finite (now (a .bounds)) (a .head) (now (a .counts)) (a .v) (omega (arith, e1 .if1 .left, e1 .before .bucket-count .ensures)) (sym (c .before .is-finite .ensures) ∙ not-true _ (c .if2 .taken))
 
-buckets-agree-requires : tie.Need-buckets-agree-requires
-buckets-agree-requires c κs = search needs
-
 returns-3 : tie.Need-returns-3
 returns-3 c =
     let e2 = c .before .before in
     let e1 = e2 .before .before in
     let a = start e1 .args in
     disagrees (now (a .bounds)) (a .head) (now (a .counts)) (a .v) (omega (arith, e1 .if1 .left, e1 .before .bucket-count .ensures)) (sym (e2 .before .is-finite .ensures) ∙ not-false _ (e2 .if2 .left)) (sym (c .before .buckets-agree .ensures) ∙ not-true _ (c .if3 .taken))
-
-is-finite-requires-2 : tie.Need-is-finite-requires-2
-is-finite-requires-2 c κs = search needs
 
 returns-4 : tie.Need-returns-4
 returns-4 c =
@@ -48,9 +36,6 @@ returns-4 c =
     let a = start e1 .args in
     bad-min (now (a .bounds)) (a .head) (now (a .counts)) (a .v) (omega (arith, e1 .if1 .left, e1 .before .bucket-count .ensures)) (sym (e2 .before .is-finite .ensures) ∙ not-false _ (e2 .if2 .left)) (sym (e3 .before .buckets-agree .ensures) ∙ not-false _ (e3 .if3 .left))
     (sym (c .before .is-finite2 .ensures) ∙ not-true _ (c .if4 .taken))
-
-is-finite-requires-3 : tie.Need-is-finite-requires-3
-is-finite-requires-3 c κs = search needs
 
 returns-5 : tie.Need-returns-5
 returns-5 c =
@@ -87,16 +72,5 @@ returns-7 c =
 pub refusal-spec : {M : Type 1} → statement M
 refusal-spec =
     tie.close
-    (tie.spec
-    bucket-count-requires
-    returns
-    is-finite-requires
-    returns-2
-    buckets-agree-requires
-    returns-3
-    is-finite-requires-2
-    returns-4
-    is-finite-requires-3
-    returns-5
-    returns-6
-    returns-7)
+    (tie.spec (λ c κs. search needs) returns (λ c κs. search needs) returns-2 (λ c κs. search needs) returns-3 (λ c κs. search needs)
+    returns-4 (λ c κs. search needs) returns-5 returns-6 returns-7)

@@ -19,30 +19,6 @@ abbrev μ-loop : tie.MeasureT-loop
 loop-holds : tie.Need-loop-holds Inv-loop μ-loop
 loop-holds c = (omega arith, omega arith, rising-one (now (c .before .args .bounds)))
 
-sub-both : tie.Need-sub-both Inv-loop μ-loop
-sub-both c = search needs
-
-mul-both : tie.Need-mul-both Inv-loop μ-loop
-mul-both c = search needs
-
-shared-slice-read-both : tie.Need-shared-slice-read-both Inv-loop μ-loop
-shared-slice-read-both c = search needs
-
-mul-both-2 : tie.Need-mul-both-2 Inv-loop μ-loop
-mul-both-2 c = search needs
-
-shared-slice-read-both-2 : tie.Need-shared-slice-read-both-2 Inv-loop μ-loop
-shared-slice-read-both-2 c = search needs
-
-both-requires : tie.Need-both-requires Inv-loop μ-loop
-both-requires c κs = search needs
-
-add-i : tie.Need-add-i Inv-loop μ-loop
-add-i c = search needs
-
-loop-less : tie.Need-loop-less Inv-loop μ-loop
-loop-less c = search needs
-
 loop-again : tie.Need-loop-again Inv-loop μ-loop
 loop-again c =
     let t = c .before .before .before in
@@ -56,17 +32,5 @@ returns c = c .before .loop .inv .2 ∙ ap rising (take-all (c .before .loop .i)
 pub rises-spec : {M : Type 1} → statement M
 rises-spec =
     tie.close
-    (tie.spec
-    Inv-loop
-    μ-loop
-    loop-holds
-    sub-both
-    mul-both
-    shared-slice-read-both
-    mul-both-2
-    shared-slice-read-both-2
-    both-requires
-    add-i
-    loop-less
-    loop-again
-    returns)
+    (tie.spec Inv-loop μ-loop loop-holds (λ c. search needs) (λ c. search needs) (λ c. search needs) (λ c. search needs) (λ c. search needs)
+    (λ c κs. search needs) (λ c. search needs) (λ c. search needs) loop-again returns)

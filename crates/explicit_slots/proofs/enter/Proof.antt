@@ -7,12 +7,6 @@ use Rattle.explicit_slots.proofs.Enters.{enters-held, enters-bad, enter
 use Rattle.explicit_slots.proofs.enter.Statement.{statement}
 use Rattle.explicit_slots.proofs.enter.Tie as tie
 
-record-requires : tie.Need-record-requires
-record-requires c κs = search needs
-
-same-length : tie.Need-same-length
-same-length c = search needs
-
 returns : tie.Need-returns
 returns c =
     let r = c .before .before in
@@ -20,21 +14,12 @@ returns c =
     let a = t .before .before .before .args in
     r .«record» .ensures ∙ sym (enters-held (now (a .bounds)) (a .updated) (a .head) (now (a .counts)) (a .v) (t .if1 .taken))
 
-bounds-pass-requires : tie.Need-bounds-pass-requires
-bounds-pass-requires c κs = search needs
-
 returns-2 : tie.Need-returns-2
 returns-2 c =
     let b = c .before in
     let e = b .before in
     let a = e .before .before .before .args in
     sym (enters-bad (now (a .bounds)) (a .updated) (a .head) (now (a .counts)) (a .v) (e .if1 .left) (sym (b .bounds-pass .ensures) ∙ not-true _ (c .if2 .taken)))
-
-first-requires : tie.Need-first-requires
-first-requires c κs = search needs
-
-same-length-2 : tie.Need-same-length-2
-same-length-2 c = search needs
 
 returns-3 : tie.Need-returns-3
 returns-3 c =
@@ -49,12 +34,5 @@ returns-3 c =
 pub enter-spec : {M : Type 1} → statement M
 enter-spec =
     tie.close
-    (tie.spec
-    record-requires
-    same-length
-    returns
-    bounds-pass-requires
-    returns-2
-    first-requires
-    same-length-2
+    (tie.spec (λ c κs. search needs) (λ c. search needs) returns (λ c κs. search needs) returns-2 (λ c κs. search needs) (λ c. search needs)
     returns-3)

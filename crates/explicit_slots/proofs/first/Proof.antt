@@ -7,30 +7,12 @@ use Rattle.explicit_slots.proofs.Enters.{first-never, first-law}
 use Rattle.explicit_slots.proofs.first.Statement.{statement}
 use Rattle.explicit_slots.proofs.first.Tie as tie
 
-fresh-requires : tie.Need-fresh-requires
-fresh-requires c κs = search needs
-
-enum-known-empty : tie.Need-enum-known-empty
-enum-known-empty c = search needs
-
-enum-known-empty-2 : tie.Need-enum-known-empty-2
-enum-known-empty-2 c = search needs
-
-record-requires : tie.Need-record-requires
-record-requires c κs = search needs
-
-same-length : tie.Need-same-length
-same-length c = search needs
-
 returns : tie.Need-returns
 returns c =
     let m = c .before .before .before .before in
     let f = m .before in
     let a = f .before .before .before .before .args in
     absurd (first-never (now (a .bounds)) (now (a .counts)) (f .before .before .before .before .pre) (said (f .fresh .result)) (f .fresh .last .1 .0) (f .fresh .ensures) _ (ap said (c .before .empty .given .1)))
-
-same-length-2 : tie.Need-same-length-2
-same-length-2 c = search needs
 
 returns-2 : tie.Need-returns-2
 returns-2 c =
@@ -45,12 +27,5 @@ returns-2 c =
 pub first-spec : {M : Type 1} → statement M
 first-spec =
     tie.close
-    (tie.spec
-    fresh-requires
-    enum-known-empty
-    enum-known-empty-2
-    record-requires
-    same-length
-    returns
-    same-length-2
-    returns-2)
+    (tie.spec (λ c κs. search needs) (λ c. search needs) (λ c. search needs) (λ c κs. search needs) (λ c. search needs) returns
+    (λ c. search needs) returns-2)

@@ -34,83 +34,17 @@ long c =
     let i : n ≡ bucketCount (now (a .bounds)) = c .bucket-count .ensures in
     omega (arith, i, part-length n (now (a .counts)) (a .x) (end c))
 
-bucket-count-requires : tie.Need-bucket-count-requires
-bucket-count-requires c κs = search needs
-
 mul-a : tie.Need-mul-a
 mul-a c = omega (arith, end c, start c .good .1 .1 .1 .1 .1 .0 .0)
 
 add-e : tie.Need-add-e
 add-e c = omega (arith, end c, start c .good .1 .1 .1 .1 .1 .0 .0)
 
-mul-t15 : tie.Need-mul-t15
-mul-t15 c = search needs
-
-slice-read-t17 : tie.Need-slice-read-t17
-slice-read-t17 c = search needs
-
-mul-t18 : tie.Need-mul-t18
-mul-t18 c = search needs
-
-index-1-t22 : tie.Need-index-1-t22
-index-1-t22 c = search needs
-
-index-2-t22 : tie.Need-index-2-t22
-index-2-t22 c = search needs
-
-mul-t23 : tie.Need-mul-t23
-mul-t23 c = search needs
-
-index-1-t27 : tie.Need-index-1-t27
-index-1-t27 c = search needs
-
-index-2-t27 : tie.Need-index-2-t27
-index-2-t27 c = search needs
-
-mul-t28 : tie.Need-mul-t28
-mul-t28 c = search needs
-
-index-1-t32 : tie.Need-index-1-t32
-index-1-t32 c = search needs
-
-index-2-t32 : tie.Need-index-2-t32
-index-2-t32 c = search needs
-
 mul-enter : tie.Need-mul-enter
 mul-enter c = let b = c .before .before .before .before in omega (arith, end b, start b .good .1 .1 .1 .1 .1 .0 .1)
 
-sub-enter : tie.Need-sub-enter
-sub-enter c = search needs
-
-part-enter-start : tie.Need-part-enter-start
-part-enter-start c = search needs
-
 part-enter-end : tie.Need-part-enter-end
 part-enter-end c = end (c .before .before .before .before)
-
-enter-requires : tie.Need-enter-requires
-enter-requires c κs = search needs
-
-enum-known-got : tie.Need-enum-known-got
-enum-known-got c = search needs
-
-enum-known-got-2 : tie.Need-enum-known-got-2
-enum-known-got-2 c = search needs
-
-mul-totals : tie.Need-mul-totals
-mul-totals c = search needs
-
-slice-write-totals : tie.Need-slice-write-totals
-slice-write-totals c = search needs
-
-mul-t37 : tie.Need-mul-t37
-mul-t37 c = search needs
-
-slice-set-from-extremes : tie.Need-slice-set-from-extremes
-slice-set-from-extremes c = search needs
-
-same-length : tie.Need-same-length
-same-length c = search needs
 
 returns : tie.Need-returns
 returns c =
@@ -118,15 +52,6 @@ returns c =
     let b = counted r in
     let a = start b .args in
     call-refused (now (a .bounds)) (a .x) (a .updated) (lent b) (a .v) (b .bucket-count .result) (b .bucket-count .ensures) (said (r .enter .result)) (r .enter .last .1 .1 .1 .0) (r .enter .ensures) _ (ap said (c .before .got .given .1)) (long b) (start b .pre .3)
-
-same-length-2 : tie.Need-same-length-2
-same-length-2 c = search needs
-
-same-length-3 : tie.Need-same-length-3
-same-length-3 c = search needs
-
-same-length-4 : tie.Need-same-length-4
-same-length-4 c = search needs
 
 returns-2 : tie.Need-returns-2
 returns-2 c =
@@ -138,35 +63,8 @@ returns-2 c =
 pub record-spec : {M : Type 1} → statement M
 record-spec =
     tie.close
-    (tie.spec
-    bucket-count-requires
-    mul-a
-    add-e
-    mul-t15
-    slice-read-t17
-    mul-t18
-    index-1-t22
-    index-2-t22
-    mul-t23
-    index-1-t27
-    index-2-t27
-    mul-t28
-    index-1-t32
-    index-2-t32
-    mul-enter
-    sub-enter
-    part-enter-start
-    part-enter-end
-    enter-requires
-    enum-known-got
-    enum-known-got-2
-    mul-totals
-    slice-write-totals
-    mul-t37
-    slice-set-from-extremes
-    same-length
-    returns
-    same-length-2
-    same-length-3
-    same-length-4
-    returns-2)
+    (tie.spec (λ c κs. search needs) mul-a add-e (λ c. search needs) (λ c. search needs) (λ c. search needs) (λ c. search needs)
+    (λ c. search needs) (λ c. search needs) (λ c. search needs) (λ c. search needs) (λ c. search needs) (λ c. search needs)
+    (λ c. search needs) mul-enter (λ c. search needs) (λ c. search needs) part-enter-end (λ c κs. search needs) (λ c. search needs)
+    (λ c. search needs) (λ c. search needs) (λ c. search needs) (λ c. search needs) (λ c. search needs) (λ c. search needs) returns
+    (λ c. search needs) (λ c. search needs) (λ c. search needs) returns-2)

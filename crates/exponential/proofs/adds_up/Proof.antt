@@ -8,9 +8,6 @@ use borrow.Author.Needs.{needs}
 use Rattle.exponential.proofs.adds_up.Statement.{statement}
 use Rattle.exponential.proofs.adds_up.Tie as tie
 
-add-row-requires : tie.Need-add-row-requires
-add-row-requires c κs = search needs
-
 add-row-requires-2 : tie.Need-add-row-requires-2
 add-row-requires-2 c κs = let st = c .before .before .before .before .before in st .pre .1
 
@@ -28,11 +25,8 @@ returns c =
     (sums-exact (k .zeros) (total (take (k .pos .len) xs)) (total (take (k .neg .len) ys)) (p .result .sum) (n .result .sum) (p .result .most) (n .result .most) (k .pos .len) (k .neg .len)
     (p .ensures .0) (n .ensures .0) (p .ensures .1 .0) (p .ensures .1 .1) (st .pre .0 .1) (n .ensures .1 .0) (n .ensures .1 .1) (st .pre .1 .1) (omega (arith, c .before .if1 .taken)))
 
-halves-add-up-requires : tie.Need-halves-add-up-requires
-halves-add-up-requires c κs = search needs
-
 returns-2 : tie.Need-returns-2
 returns-2 c = c .halves-add-up .ensures
 
 pub adds-up-spec : {M : Type 1} → statement M
-adds-up-spec = tie.close (tie.spec add-row-requires add-row-requires-2 returns halves-add-up-requires returns-2)
+adds-up-spec = tie.close (tie.spec (λ c κs. search needs) add-row-requires-2 returns (λ c κs. search needs) returns-2)

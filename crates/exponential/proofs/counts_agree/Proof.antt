@@ -38,15 +38,6 @@ returns-4 c =
     let a = st .args in
     refuse (a .size) (a .top) (a .c) (now (a .pos)) (now (a .neg)) (λ k. omega (arith, c .if4 .taken, k .level))
 
-lowest-bin-requires : tie.Need-lowest-bin-requires
-lowest-bin-requires c κs = search needs
-
-end-bin-requires : tie.Need-end-bin-requires
-end-bin-requires c κs = search needs
-
-row-agrees-requires : tie.Need-row-agrees-requires
-row-agrees-requires c κs = search needs
-
 -- the place before the rows, and the start
 abbrev tested : tie.After-row-agrees → tie.Else4
 tested r = r .before .before .before .before .before
@@ -79,9 +70,6 @@ returns-5 c =
     let l = a .c .level in
     refuse (a .size) (a .top) (a .c) (now (a .pos)) (now (a .neg)) (λ k. not-both _ (pos-said r ∙ facts-row (a .size) (lowestBin l) (endBin l) (a .c .pos) (now (a .pos)) (pos-facts (a .size) (a .top) (a .c) (now (a .pos)) (now (a .neg)) k)) (not-true _ (c .if5 .taken)))
 
-row-agrees-requires-2 : tie.Need-row-agrees-requires-2
-row-agrees-requires-2 c κs = search needs
-
 returns-6 : tie.Need-returns-6
 returns-6 c =
     let r = c .before in
@@ -109,16 +97,5 @@ returns-7 c =
 pub counts-agree-spec : {M : Type 1} → statement M
 counts-agree-spec =
     tie.close
-    (tie.spec
-    returns
-    returns-2
-    returns-3
-    returns-4
-    lowest-bin-requires
-    end-bin-requires
-    row-agrees-requires
-    returns-5
-    row-agrees-requires-2
-    returns-6
-    adds-up-requires
-    returns-7)
+    (tie.spec returns returns-2 returns-3 returns-4 (λ c κs. search needs) (λ c κs. search needs) (λ c κs. search needs) returns-5
+    (λ c κs. search needs) returns-6 adds-up-requires returns-7)

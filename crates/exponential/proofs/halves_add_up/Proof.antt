@@ -22,9 +22,6 @@ together s =
     halves-sum (st .args .c .zeros) (a .sum-halves .result .low) (a .sum-halves .result .high) (s .sum-halves2 .result .low) (s .sum-halves2 .result .high)
     (total (take (st .args .c .pos .len) (now (st .args .pos)))) (total (take (st .args .c .neg .len) (now (st .args .neg)))) (halved-total _ _ _ (a .sum-halves .ensures .0)) (halved-total _ _ _ (s .sum-halves2 .ensures .0))
 
-sum-halves-requires : tie.Need-sum-halves-requires
-sum-halves-requires c κs = search needs
-
 sum-halves-requires-2 : tie.Need-sum-halves-requires-2
 sum-halves-requires-2 c κs =
     let st = c .before .before .before .before .before in
@@ -61,4 +58,4 @@ returns-2 c =
 
 pub halves-add-up-spec : {M : Type 1} → statement M
 halves-add-up-spec =
-    tie.close (tie.spec sum-halves-requires sum-halves-requires-2 returns add-result returns-2)
+    tie.close (tie.spec (λ c κs. search needs) sum-halves-requires-2 returns add-result returns-2)

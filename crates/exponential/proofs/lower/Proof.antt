@@ -11,16 +11,10 @@ returns c =
     let st = c .before .before in
     laid-same (st .args .row) (now (st .args .counts)) (st .args .k) (c .if1 .taken) (omega (arith, st))
 
-downscale-requires : tie.Need-downscale-requires
-downscale-requires c κs = search needs
-
-same-length : tie.Need-same-length
-same-length c = search needs
-
 returns-2 : tie.Need-returns-2
 returns-2 c =
     let d = c .before .before .downscale in
     record { start = d .ensures .0; len = d .ensures .1 .0; now = d .ensures .1 .1 }
 
 pub lower-spec : {M : Type 1} → statement M
-lower-spec = tie.close (tie.spec returns downscale-requires same-length returns-2)
+lower-spec = tie.close (tie.spec returns (λ c κs. search needs) (λ c. search needs) returns-2)

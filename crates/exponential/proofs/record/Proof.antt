@@ -30,22 +30,10 @@ good e =
     let a = st .args in
     ready (a .size) (a .top) (a .head) (now (a .pos)) (now (a .neg)) (a .v) (passed e) (omega (arith, st)) (fits-v st)
 
-refusal-requires : tie.Need-refusal-requires
-refusal-requires c κs = search needs
-
-same-length : tie.Need-same-length
-same-length c = search needs
-
-same-length-2 : tie.Need-same-length-2
-same-length-2 c = search needs
-
 returns : tie.Need-returns
 returns c =
     let a = c .before .before .before .before .before .before .args in
     refused-law (a .size) (a .top) (a .head) (now (a .pos)) (now (a .neg)) (a .v) (c .before .refusal .result) (c .before .refusal .ensures) (λ z. omega (arith, z, c .if1 .taken))
-
-class-of-requires : tie.Need-class-of-requires
-class-of-requires c κs = search needs
 
 add-requires : tie.Need-add-requires
 add-requires c κs =
@@ -53,18 +41,6 @@ add-requires c κs =
     let e = k .before .before in
     let a = start e .args in
     subst (Ready (a .size) (a .top) (a .head .counts) (now (a .pos)) (now (a .neg))) (sym (k .class-of .ensures)) (good e)
-
-lesser-requires : tie.Need-lesser-requires
-lesser-requires c κs = search needs
-
-greater-requires : tie.Need-greater-requires
-greater-requires c κs = search needs
-
-same-length-3 : tie.Need-same-length-3
-same-length-3 c = search needs
-
-same-length-4 : tie.Need-same-length-4
-same-length-4 c = search needs
 
 returns-2 : tie.Need-returns-2
 returns-2 c =
@@ -79,15 +55,5 @@ returns-2 c =
 pub record-spec : {M : Type 1} → statement M
 record-spec =
     tie.close
-    (tie.spec
-    refusal-requires
-    same-length
-    same-length-2
-    returns
-    class-of-requires
-    add-requires
-    lesser-requires
-    greater-requires
-    same-length-3
-    same-length-4
-    returns-2)
+    (tie.spec (λ c κs. search needs) (λ c. search needs) (λ c. search needs) returns (λ c κs. search needs) add-requires
+    (λ c κs. search needs) (λ c κs. search needs) (λ c. search needs) (λ c. search needs) returns-2)

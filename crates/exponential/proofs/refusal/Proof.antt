@@ -18,32 +18,20 @@ returns-2 c =
     let a = c .before .before .before .before .args in
     sym (short-neg (a .size) (a .top) (a .head) (now (a .pos)) (now (a .neg)) (a .v) (omega (arith, c .before .if1 .left)) (c .if2 .taken))
 
-is-finite-requires : tie.Need-is-finite-requires
-is-finite-requires c κs = search needs
-
 returns-3 : tie.Need-returns-3
 returns-3 c =
     let a = c .before .before .before .before .before .before .args in
     sym (not-finite (a .size) (a .top) (a .head) (now (a .pos)) (now (a .neg)) (a .v) (omega (arith, c .before .before .before .if1 .left)) (omega (arith, c .before .before .if2 .left)) (sym (c .before .is-finite .ensures) ∙ not-true _ (c .if3 .taken)))
-
-counts-agree-requires : tie.Need-counts-agree-requires
-counts-agree-requires c κs = search needs
 
 returns-4 : tie.Need-returns-4
 returns-4 c =
     let a = c .before .before .before .before .before .before .before .before .before .args in
     sym (disagrees (a .size) (a .top) (a .head) (now (a .pos)) (now (a .neg)) (a .v) (omega (arith, c .before .before .before .before .before .before .if1 .left)) (omega (arith, c .before .before .before .before .before .if2 .left)) (sym (c .before .before .before .before .is-finite .ensures) ∙ not-false _ (c .before .before .before .if3 .left)) (sym (c .before .counts-agree .ensures) ∙ not-true _ (c .if4 .taken)))
 
-is-finite-requires-2 : tie.Need-is-finite-requires-2
-is-finite-requires-2 c κs = search needs
-
 returns-5 : tie.Need-returns-5
 returns-5 c =
     let a = c .before .before .before .before .before .before .before .before .before .before .before .args in
     sym (bad-min (a .size) (a .top) (a .head) (now (a .pos)) (now (a .neg)) (a .v) (omega (arith, c .before .before .before .before .before .before .before .before .if1 .left)) (omega (arith, c .before .before .before .before .before .before .before .if2 .left)) (sym (c .before .before .before .before .before .before .is-finite .ensures) ∙ not-false _ (c .before .before .before .before .before .if3 .left)) (sym (c .before .before .before .counts-agree .ensures) ∙ not-false _ (c .before .before .if4 .left)) (sym (c .before .is-finite2 .ensures) ∙ not-true _ (c .if5 .taken)))
-
-is-finite-requires-3 : tie.Need-is-finite-requires-3
-is-finite-requires-3 c κs = search needs
 
 returns-6 : tie.Need-returns-6
 returns-6 c =
@@ -63,16 +51,5 @@ returns-8 c =
 pub refusal-spec : {M : Type 1} → statement M
 refusal-spec =
     tie.close
-    (tie.spec
-    returns
-    returns-2
-    is-finite-requires
-    returns-3
-    counts-agree-requires
-    returns-4
-    is-finite-requires-2
-    returns-5
-    is-finite-requires-3
-    returns-6
-    returns-7
-    returns-8)
+    (tie.spec returns returns-2 (λ c κs. search needs) returns-3 (λ c κs. search needs) returns-4 (λ c κs. search needs) returns-5
+    (λ c κs. search needs) returns-6 returns-7 returns-8)

@@ -27,9 +27,6 @@ returns-4 c =
     let a = e .before .before .before .args in
     refuse (a .size) (a .low) (a .end) (a .row) (now (a .counts)) (λ f. omega (arith, c .if4 .taken, low (a .size) (a .low) (a .end) (a .row) (now (a .counts)) f (omega (arith, e .before .before .if1 .left))))
 
-cast-if5 : tie.Need-cast-if5
-cast-if5 c = search needs
-
 add-if5 : tie.Need-add-if5
 add-if5 c = omega (arith, c .before .before .if2 .left)
 
@@ -39,23 +36,11 @@ returns-5 c =
     let a = e .before .before .before .args in
     refuse (a .size) (a .low) (a .end) (a .row) (now (a .counts)) (λ f. omega (arith, c .if5 .taken, range (a .size) (a .low) (a .end) (a .row) (now (a .counts)) f))
 
-shared-slice-read-if6 : tie.Need-shared-slice-read-if6
-shared-slice-read-if6 c = search needs
-
 returns-6 : tie.Need-returns-6
 returns-6 c =
     let e = c .before .before .before .before in
     let a = e .before .before .before .args in
     refuse (a .size) (a .low) (a .end) (a .row) (now (a .counts)) (λ f. omega (arith, c .if6 .taken, first (a .size) (a .low) (a .end) (a .row) (now (a .counts)) f (omega (arith, e .before .before .if1 .left))))
-
-sub-result : tie.Need-sub-result
-sub-result c = search needs
-
-mul-result : tie.Need-mul-result
-mul-result c = search needs
-
-shared-slice-read-result : tie.Need-shared-slice-read-result
-shared-slice-read-result c = search needs
 
 returns-7 : tie.Need-returns-7
 returns-7 c =
@@ -67,17 +52,5 @@ returns-7 c =
 pub row-agrees-spec : {M : Type 1} → statement M
 row-agrees-spec =
     tie.close
-    (tie.spec
-    returns
-    returns-2
-    returns-3
-    returns-4
-    cast-if5
-    add-if5
-    returns-5
-    shared-slice-read-if6
-    returns-6
-    sub-result
-    mul-result
-    shared-slice-read-result
-    returns-7)
+    (tie.spec returns returns-2 returns-3 returns-4 (λ c. search needs) add-if5 returns-5 (λ c. search needs) returns-6 (λ c. search needs)
+    (λ c. search needs) (λ c. search needs) returns-7)

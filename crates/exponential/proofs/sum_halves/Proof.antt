@@ -25,9 +25,6 @@ loop-holds c = (omega arith, omega arith, omega arith, omega arith, omega arith)
 mul-x : tie.Need-mul-x Inv-loop μ-loop
 mul-x c = record { fits = times8 (c .before .loop .i) (c .before .before .args .n) (c .loop-test .taken) (c .before .before .pre .0 .1) }
 
-shared-slice-read-x : tie.Need-shared-slice-read-x Inv-loop μ-loop
-shared-slice-read-x c = omega arith
-
 add-low : tie.Need-add-low Inv-loop μ-loop
 add-low c =
     let b = c .before .before in
@@ -42,9 +39,6 @@ add-high c =
 
 add-i : tie.Need-add-i Inv-loop μ-loop
 add-i c = record { fits = one-fits (c .before .before .loop .i) (c .before .before .before .args .n) (c .before .loop-test .taken) (c .before .before .before .pre .0 .1) }
-
-loop-less : tie.Need-loop-less Inv-loop μ-loop
-loop-less c = omega arith
 
 loop-again : tie.Need-loop-again Inv-loop μ-loop
 loop-again c =
@@ -76,15 +70,4 @@ returns c =
 pub sum-halves-spec : {M : Type 1} → statement M
 sum-halves-spec =
     tie.close
-    (tie.spec
-    Inv-loop
-    μ-loop
-    loop-holds
-    mul-x
-    shared-slice-read-x
-    add-low
-    add-high
-    add-i
-    loop-less
-    loop-again
-    returns)
+    (tie.spec Inv-loop μ-loop loop-holds mul-x (λ c. omega arith) add-low add-high add-i (λ c. omega arith) loop-again returns)

@@ -13,21 +13,6 @@ use Rattle.exponential_collection.proofs.Configuring.{configure-is}
 use Rattle.exponential_collection.proofs.configure.Statement.{statement}
 use Rattle.exponential_collection.proofs.configure.Tie as tie
 
-level-of-requires : tie.Need-level-of-requires
-level-of-requires c κs = search needs
-
-level-or-requires : tie.Need-level-or-requires
-level-or-requires c κs = search needs
-
-start-requires : tie.Need-start-requires
-start-requires c κs = search needs
-
-set-up-requires : tie.Need-set-up-requires
-set-up-requires c κs = search needs
-
-same-length : tie.Need-same-length
-same-length c = search needs
-
 returns : tie.Need-returns
 returns c =
     let b = c .before .before in
@@ -41,10 +26,4 @@ returns c =
 pub configure-spec : {M : Type 1} → statement M
 configure-spec =
     tie.close
-    (tie.spec
-    level-of-requires
-    level-or-requires
-    start-requires
-    set-up-requires
-    same-length
-    returns)
+    (tie.spec (λ c κs. search needs) (λ c κs. search needs) (λ c κs. search needs) (λ c κs. search needs) (λ c. search needs) returns)

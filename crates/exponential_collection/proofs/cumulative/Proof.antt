@@ -31,21 +31,6 @@ clear e =
     let a = s .args in
     clear-of (exponentialLister (a .s .size) (a .s .top)) (a .s .extremes, a .s .sums) (a .s .limit) (map s) (out s) true (sym (e .before .number .ensures) ∙ e .if1 .left)
 
-number-requires : tie.Need-number-requires
-number-requires c κs = search needs
-
-same-length : tie.Need-same-length
-same-length c = search needs
-
-same-length-2 : tie.Need-same-length-2
-same-length-2 c = search needs
-
-same-length-3 : tie.Need-same-length-3
-same-length-3 c = search needs
-
-same-length-4 : tie.Need-same-length-4
-same-length-4 c = search needs
-
 returns : tie.Need-returns
 returns c =
     let s = start (c .before) in
@@ -59,18 +44,6 @@ list-requires c κs =
     let a = s .args in
     listable (a .s .size) (a .s .top) (a .s .extremes, a .s .sums) true (a .s .limit) (map s) (out s) (clear e)
 
-same-length-5 : tie.Need-same-length-5
-same-length-5 c = search needs
-
-same-length-6 : tie.Need-same-length-6
-same-length-6 c = search needs
-
-same-length-7 : tie.Need-same-length-7
-same-length-7 c = search needs
-
-same-length-8 : tie.Need-same-length-8
-same-length-8 c = search needs
-
 returns-2 : tie.Need-returns-2
 returns-2 c =
     let l = c .before .before .before .before .before .before in
@@ -83,16 +56,5 @@ returns-2 c =
 pub cumulative-spec : {M : Type 1} → statement M
 cumulative-spec =
     tie.close
-    (tie.spec
-    number-requires
-    same-length
-    same-length-2
-    same-length-3
-    same-length-4
-    returns
-    list-requires
-    same-length-5
-    same-length-6
-    same-length-7
-    same-length-8
-    returns-2)
+    (tie.spec (λ c κs. search needs) (λ c. search needs) (λ c. search needs) (λ c. search needs) (λ c. search needs) returns list-requires
+    (λ c. search needs) (λ c. search needs) (λ c. search needs) (λ c. search needs) returns-2)

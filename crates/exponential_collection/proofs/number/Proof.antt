@@ -28,15 +28,6 @@ bar-is c =
     let s = start c in
     c .barred .ensures ∙ (λ j. barredBy (c .before .before .cells-suffice .ensures j) (c .before .unset-of .ensures j) (s .args .s .limit) (s .args .d) (map s .kept .stores))
 
-cells-suffice-requires : tie.Need-cells-suffice-requires
-cells-suffice-requires c κs = search needs
-
-unset-of-requires : tie.Need-unset-of-requires
-unset-of-requires c κs = search needs
-
-barred-requires : tie.Need-barred-requires
-barred-requires c κs = search needs
-
 returns : tie.Need-returns
 returns c =
     let s = start (c .before) in
@@ -49,9 +40,6 @@ survey-requires c κs =
     let a = s .args in
     walk-open (a .s .size) (a .s .top) (a .s .extremes, a .s .sums) (a .cumulative) (a .s .limit) (map s) (out s) (sym (bar-is (c .before)) ∙ c .if1 .left)
 
-number-of-requires : tie.Need-number-of-requires
-number-of-requires c κs = search needs
-
 returns-2 : tie.Need-returns-2
 returns-2 c =
     let e = c .before .before in
@@ -63,11 +51,4 @@ returns-2 c =
 pub number-spec : {M : Type 1} → statement M
 number-spec =
     tie.close
-    (tie.spec
-    cells-suffice-requires
-    unset-of-requires
-    barred-requires
-    returns
-    survey-requires
-    number-of-requires
-    returns-2)
+    (tie.spec (λ c κs. search needs) (λ c κs. search needs) (λ c κs. search needs) returns survey-requires (λ c κs. search needs) returns-2)

@@ -7,15 +7,6 @@ use Rattle.exponential_collection.specs.Configured.{setUp}
 use Rattle.exponential_collection.proofs.set_up.Statement.{statement}
 use Rattle.exponential_collection.proofs.set_up.Tie as tie
 
-enum-known-answer : tie.Need-enum-known-answer
-enum-known-answer c = search needs
-
-enum-told : tie.Need-enum-told
-enum-told c = search needs
-
-enum-known-answer-2 : tie.Need-enum-known-answer-2
-enum-known-answer-2 c = search needs
-
 returns : tie.Need-returns
 returns c =
     let a = c .before .before .before .before .args in
@@ -34,4 +25,4 @@ returns-3 c =
 pub set-up-spec : {M : Type 1} → statement M
 set-up-spec =
     tie.close
-    (tie.spec enum-known-answer enum-told enum-known-answer-2 returns returns-2 returns-3)
+    (tie.spec (λ c. search needs) (λ c. search needs) (λ c. search needs) returns returns-2 returns-3)

@@ -12,20 +12,11 @@ use Rattle.exponential_slots.proofs.Cases.{wide-level, wide-pos, by-neg
 fit : (c : tie.Start) → Fits w64 (getD (c .args .t1) 0 0)
 fit c = search needs
 
-array-read-if1 : tie.Need-array-read-if1
-array-read-if1 c = search needs
-
 returns : tie.Need-returns
 returns c = sym (wide-level (c .before .args .t1) (omega (arith, fit (c .before))) (c .if1 .taken))
 
-array-read-if2 : tie.Need-array-read-if2
-array-read-if2 c = search needs
-
 returns-2 : tie.Need-returns-2
 returns-2 c = let s = c .before .before in sym (wide-pos (s .args .t1) (omega (arith, fit s)) (c .before .if1 .left) (c .if2 .taken))
-
-array-read-result : tie.Need-array-read-result
-array-read-result c = search needs
 
 returns-3 : tie.Need-returns-3
 returns-3 c = let s = c .before .before in sym (by-neg (s .args .t1) (omega (arith, fit s)) (c .before .if1 .left) (c .if2 .left))
@@ -33,4 +24,4 @@ returns-3 c = let s = c .before .before in sym (by-neg (s .args .t1) (omega (ari
 pub are-narrow-spec : {M : Type 1} → statement M
 are-narrow-spec =
     tie.close
-    (tie.spec array-read-if1 returns array-read-if2 returns-2 array-read-result returns-3)
+    (tie.spec (λ c. search needs) returns (λ c. search needs) returns-2 (λ c. search needs) returns-3)

@@ -5,9 +5,6 @@ use Rattle.exponential_slots.proofs.can_read.Tie as tie
 use mathlib.Core.Path.{sym, _∙_}
 use Rattle.exponential_slots.proofs.Cases.{reads-held, reads-fresh}
 
-are-narrow-requires : tie.Need-are-narrow-requires
-are-narrow-requires c κs = search needs
-
 returns : tie.Need-returns
 returns c = let s = c .before .before in c .are-narrow .ensures ∙ sym (reads-held (s .args .updated) (s .args .f) (c .before .if1 .taken))
 
@@ -15,4 +12,4 @@ returns-2 : tie.Need-returns-2
 returns-2 c = let s = c .before in sym (reads-fresh (s .args .updated) (s .args .f) (c .if1 .left))
 
 pub can-read-spec : {M : Type 1} → statement M
-can-read-spec = tie.close (tie.spec are-narrow-requires returns returns-2)
+can-read-spec = tie.close (tie.spec (λ c κs. search needs) returns returns-2)

@@ -11,11 +11,8 @@ head-in-requires c κs = let s = c .before in sym (reads-held (s .args .updated)
 returns : tie.Need-returns
 returns c = let s = c .before .before in c .head-in .ensures ∙ sym (head-held (s .args .top) (s .args .updated) (s .args .f) (s .args .m) (c .before .if1 .taken))
 
-fresh-requires : tie.Need-fresh-requires
-fresh-requires c κs = search needs
-
 returns-2 : tie.Need-returns-2
 returns-2 c = let s = c .before .before in c .fresh .ensures ∙ sym (head-fresh (s .args .top) (s .args .updated) (s .args .f) (s .args .m) (c .before .if1 .left))
 
 pub head-of-spec : {M : Type 1} → statement M
-head-of-spec = tie.close (tie.spec head-in-requires returns fresh-requires returns-2)
+head-of-spec = tie.close (tie.spec head-in-requires returns (λ c κs. search needs) returns-2)

@@ -42,77 +42,14 @@ recorded r =
     ∙ ap (λ h. into (a .size) (a .x) s (recording (a .size) (a .top) h (partAt (a .size) (s .pos) (a .x)) (partAt (a .size) (s .neg) (a .x)) (a .v))) (sym (r .before .before .before .head-of .ensures))
     ∙ ap (into (a .size) (a .x) s) (sym (r .«record» .ensures))
 
-mul-f : tie.Need-mul-f
-mul-f c = search needs
-
-slice-copy-out-f : tie.Need-slice-copy-out-f
-slice-copy-out-f c = search needs
-
-can-read-requires : tie.Need-can-read-requires
-can-read-requires c κs = search needs
-
 returns : tie.Need-returns
 returns c =
     let s = start (c .before) in
     let a = s .args in
     sym (unread (a .size) (a .top) (a .x) (a .updated) (lent s) (a .v) (sym (c .before .can-read .ensures) ∙ not-true (c .before .can-read .result) (c .if1 .taken)))
 
-mul-head-of : tie.Need-mul-head-of
-mul-head-of c = search needs
-
-slice-copy-out-head-of : tie.Need-slice-copy-out-head-of
-slice-copy-out-head-of c = search needs
-
 head-of-requires : tie.Need-head-of-requires
 head-of-requires c κs = can (c .before)
-
-mul-a : tie.Need-mul-a
-mul-a c = search needs
-
-add-e : tie.Need-add-e
-add-e c = search needs
-
-mul-record : tie.Need-mul-record
-mul-record c = search needs
-
-sub-record : tie.Need-sub-record
-sub-record c = search needs
-
-part-record-start : tie.Need-part-record-start
-part-record-start c = search needs
-
-part-record-end : tie.Need-part-record-end
-part-record-end c = search needs
-
-mul-record-2 : tie.Need-mul-record-2
-mul-record-2 c = search needs
-
-sub-record-2 : tie.Need-sub-record-2
-sub-record-2 c = search needs
-
-part-record-start-2 : tie.Need-part-record-start-2
-part-record-start-2 c = search needs
-
-part-record-end-2 : tie.Need-part-record-end-2
-part-record-end-2 c = search needs
-
-record-requires : tie.Need-record-requires
-record-requires c κs = search needs
-
-keep-requires : tie.Need-keep-requires
-keep-requires c κs = search needs
-
-same-length : tie.Need-same-length
-same-length c = search needs
-
-same-length-2 : tie.Need-same-length-2
-same-length-2 c = search needs
-
-same-length-3 : tie.Need-same-length-3
-same-length-3 c = search needs
-
-same-length-4 : tie.Need-same-length-4
-same-length-4 c = search needs
 
 returns-2 : tie.Need-returns-2
 returns-2 c =
@@ -126,28 +63,7 @@ returns-2 c =
 pub record-spec : {M : Type 1} → statement M
 record-spec =
     tie.close
-    (tie.spec
-    mul-f
-    slice-copy-out-f
-    can-read-requires
-    returns
-    mul-head-of
-    slice-copy-out-head-of
-    head-of-requires
-    mul-a
-    add-e
-    mul-record
-    sub-record
-    part-record-start
-    part-record-end
-    mul-record-2
-    sub-record-2
-    part-record-start-2
-    part-record-end-2
-    record-requires
-    keep-requires
-    same-length
-    same-length-2
-    same-length-3
-    same-length-4
-    returns-2)
+    (tie.spec (λ c. search needs) (λ c. search needs) (λ c κs. search needs) returns (λ c. search needs) (λ c. search needs)
+    head-of-requires (λ c. search needs) (λ c. search needs) (λ c. search needs) (λ c. search needs) (λ c. search needs) (λ c. search needs)
+    (λ c. search needs) (λ c. search needs) (λ c. search needs) (λ c. search needs) (λ c κs. search needs) (λ c κs. search needs)
+    (λ c. search needs) (λ c. search needs) (λ c. search needs) (λ c. search needs) returns-2)

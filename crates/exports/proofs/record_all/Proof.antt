@@ -51,12 +51,6 @@ record-requires c κs = tt
 head-after-requires : tie.Need-head-after-requires Inv-loop μ-loop
 head-after-requires c κs = tt
 
-add-i : tie.Need-add-i Inv-loop μ-loop
-add-i c = omega arith
-
-loop-less : tie.Need-loop-less Inv-loop μ-loop
-loop-less c = omega arith
-
 loop-again : tie.Need-loop-again Inv-loop μ-loop
 loop-again c =
     let r = c .before .before .before .before .before in
@@ -95,20 +89,5 @@ returns c =
 pub record-all-spec : {M : Type 1} → statement M
 record-all-spec =
     tie.close
-    (tie.spec
-    Inv-loop
-    μ-loop
-    fresh-requires
-    most-requires
-    loop-holds
-    mul-record
-    shared-slice-read-record
-    record-requires
-    head-after-requires
-    add-i
-    loop-less
-    loop-again
-    count-of-requires
-    same-length
-    same-length-2
-    returns)
+    (tie.spec Inv-loop μ-loop fresh-requires most-requires loop-holds mul-record shared-slice-read-record record-requires
+    head-after-requires (λ c. omega arith) (λ c. omega arith) loop-again count-of-requires same-length same-length-2 returns)

@@ -32,8 +32,5 @@ float-from-bits-result c =
     let n = c .before .args .bits in
     subst (λ (b : Bool). T (not b)) (sym (nanBits-above binary64 n ∙ le-ltb 9218868437227405312 (n % 9223372036854775808) (omega (arith, c .if1 .left)))) tt
 
-returns-2 : tie.Need-returns-2
-returns-2 c = search needs
-
 pub of-bits-spec : {M : Type 1} → statement M
-of-bits-spec = tie.close (tie.spec returns float-from-bits-result returns-2)
+of-bits-spec = tie.close (tie.spec returns float-from-bits-result (λ c. search needs))

@@ -21,9 +21,6 @@ idle-requires c κs = tt
 loop-holds : tie.Need-loop-holds Inv-loop μ-loop
 loop-holds c = tt
 
-add-number : tie.Need-add-number Inv-loop μ-loop
-add-number c = omega arith
-
 next-requires : tie.Need-next-requires Inv-loop μ-loop
 next-requires c κs = tt
 
@@ -52,18 +49,5 @@ returns c = tt
 pub main-spec : {M : Type 1} → statement M
 main-spec =
     tie.close
-    (tie.spec
-    Inv-loop
-    μ-loop
-    first-requires
-    idle-requires
-    loop-holds
-    add-number
-    next-requires
-    front-requires
-    follow-requires
-    said-requires
-    loop-less
-    loop-again
-    write-requires
-    returns)
+    (tie.spec Inv-loop μ-loop first-requires idle-requires loop-holds (λ c. omega arith) next-requires front-requires follow-requires
+    said-requires loop-less loop-again write-requires returns)

@@ -8,12 +8,6 @@ use borrow.Author.Needs.{needs}
 use Rattle.index.proofs.bin_from.Statement.{statement}
 use Rattle.index.proofs.bin_from.Tie as tie
 
-whole-bin-requires : tie.Need-whole-bin-requires
-whole-bin-requires c κs = search needs
-
-shr-result : tie.Need-shr-result
-shr-result c = search needs
-
 returns : tie.Need-returns
 returns c =
     let s = c .before .before in
@@ -27,26 +21,10 @@ returns c =
     ten : (level : ℕ) → level ≤ 10 → level + (10 - level) ≡ 10
     ten level h = omega (arith, h)
 
-finest-bin-requires : tie.Need-finest-bin-requires
-finest-bin-requires c κs = search needs
-
-sub-result : tie.Need-sub-result
-sub-result c = search needs
-
-shr-result-2 : tie.Need-shr-result-2
-shr-result-2 c = search needs
-
 returns-2 : tie.Need-returns-2
 returns-2 c = ap (λ (b : ℕ). b / 2 ^ (finest - c .before .before .args .level)) (c .finest-bin .ensures)
 
 pub bin-from-spec : {M : Type 1} → statement M
 bin-from-spec =
     tie.close
-    (tie.spec
-    whole-bin-requires
-    shr-result
-    returns
-    finest-bin-requires
-    sub-result
-    shr-result-2
-    returns-2)
+    (tie.spec (λ c κs. search needs) (λ c. search needs) returns (λ c κs. search needs) (λ c. search needs) (λ c. search needs) returns-2)

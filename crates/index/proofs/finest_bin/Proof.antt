@@ -7,20 +7,8 @@ use Rattle.index.proofs.Ranks.{finest-from}
 use Rattle.index.proofs.finest_bin.Statement.{statement}
 use Rattle.index.proofs.finest_bin.Tie as tie
 
-add-result : tie.Need-add-result
-add-result c = search needs
-
-mul-result : tie.Need-mul-result
-mul-result c = search needs
-
-rank-requires : tie.Need-rank-requires
-rank-requires c κs = search needs
-
 add-result-2 : tie.Need-add-result-2
 add-result-2 c = omega (arith, c .rank .ensures .small)
-
-sub-result : tie.Need-sub-result
-sub-result c = search needs
 
 cast-result : tie.Need-cast-result
 cast-result c = record { fits = omega (arith, c .rank .ensures .small, c .before .pre .3) }
@@ -30,4 +18,4 @@ returns c = sym (finest-from (c .before .args .mantissa) (c .before .args .expon
 
 pub finest-bin-spec : {M : Type 1} → statement M
 finest-bin-spec =
-    tie.close (tie.spec add-result mul-result rank-requires add-result-2 sub-result cast-result returns)
+    tie.close (tie.spec (λ c. search needs) (λ c. search needs) (λ c κs. search needs) add-result-2 (λ c. search needs) cast-result returns)

@@ -54,9 +54,6 @@ cast-mantissa c = record { fits = omega (arith, shift c .1 .by) }
 shl-mantissa : tie.Need-shl-mantissa
 shl-mantissa c = omega (arith, shift c .1 .by)
 
-wide-requires : tie.Need-wide-requires
-wide-requires c κs = search needs
-
 sub-exponent : tie.Need-sub-exponent
 sub-exponent c = omega (arith, shift (c .before) .1 .by)
 
@@ -65,12 +62,6 @@ returns-4 c =
     let s = c .before .before .before .before .before in
     let i = subnormal (x s) (held s) (c .before .before .if3 .taken) in
     rw (c .wide .ensures) (from-shifted (x s) _ (digits s) _ i (shift (c .before) .1))
-
-add-mantissa : tie.Need-add-mantissa
-add-mantissa c = search needs
-
-add-exponent : tie.Need-add-exponent
-add-exponent c = search needs
 
 returns-5 : tie.Need-returns-5
 returns-5 c =
@@ -89,17 +80,5 @@ returns-5 c =
 pub frexp-spec : {M : Type 1} → statement M
 frexp-spec =
     tie.close
-    (tie.spec
-    returns
-    float-to-bits-bits
-    returns-2
-    returns-3
-    sub-up
-    cast-mantissa
-    shl-mantissa
-    wide-requires
-    sub-exponent
-    returns-4
-    add-mantissa
-    add-exponent
-    returns-5)
+    (tie.spec returns float-to-bits-bits returns-2 returns-3 sub-up cast-mantissa shl-mantissa (λ c κs. search needs) sub-exponent returns-4
+    (λ c. search needs) (λ c. search needs) returns-5)

@@ -17,18 +17,6 @@ held c = omega arith
 returns : tie.Need-returns
 returns c = sym (no-level (c .before .args .v) (c .before .args .level) (omega arith))
 
-frexp-requires : tie.Need-frexp-requires
-frexp-requires c κs = search needs
-
-enum-told : tie.Need-enum-told
-enum-told c = search needs
-
-enum-told-2 : tie.Need-enum-told-2
-enum-told-2 c = search needs
-
-enum-known-parts : tie.Need-enum-known-parts
-enum-known-parts c = search needs
-
 parts : (c : tie.After-parts) → Split (c .before .before .before .before .args .v) (c .parts .given .0 .0) (c .parts .given .0 .1 .0) (c .parts .given .0 .1 .1 .0)
 parts c = subst (λ (r : Parts). PartsOf (c .before .before .before .before .args .v) r) (c .parts .given .1) (c .before .before .frexp .ensures)
 
@@ -57,13 +45,5 @@ returns-4 c =
 pub get-bin-spec : {M : Type 1} → statement M
 get-bin-spec =
     tie.close
-    (tie.spec
-    returns
-    frexp-requires
-    enum-told
-    enum-told-2
-    enum-known-parts
-    bin-from-requires
-    returns-2
-    returns-3
-    returns-4)
+    (tie.spec returns (λ c κs. search needs) (λ c. search needs) (λ c. search needs) (λ c. search needs) bin-from-requires returns-2
+    returns-3 returns-4)

@@ -5,21 +5,6 @@ use borrow.Author.Needs.{needs}
 use Rattle.index.proofs.index_bin.Statement.{statement}
 use Rattle.index.proofs.index_bin.Tie as tie
 
-get-bin-requires : tie.Need-get-bin-requires
-get-bin-requires c κs = search needs
-
-enum-told : tie.Need-enum-told
-enum-told c = search needs
-
-enum-told-2 : tie.Need-enum-told-2
-enum-told-2 c = search needs
-
-enum-told-3 : tie.Need-enum-told-3
-enum-told-3 c = search needs
-
-enum-known-found : tie.Need-enum-known-found
-enum-known-found c = search needs
-
 returns : tie.Need-returns
 returns c = sym (ap binOrZero (sym (c .before .before .get-bin .ensures) ∙ c .enum-told .given .1))
 
@@ -35,13 +20,5 @@ returns-4 c = sym (ap binOrZero (sym (c .before .before .before .get-bin .ensure
 pub index-bin-spec : {M : Type 1} → statement M
 index-bin-spec =
     tie.close
-    (tie.spec
-    get-bin-requires
-    enum-told
-    enum-told-2
-    enum-told-3
-    enum-known-found
-    returns
-    returns-2
-    returns-3
-    returns-4)
+    (tie.spec (λ c κs. search needs) (λ c. search needs) (λ c. search needs) (λ c. search needs) (λ c. search needs) returns returns-2
+    returns-3 returns-4)

@@ -8,22 +8,10 @@ use borrow.Author.Needs.{needs}
 use Rattle.index.proofs.whole_bin.Statement.{statement}
 use Rattle.index.proofs.whole_bin.Tie as tie
 
-add-result : tie.Need-add-result
-add-result c = search needs
-
-cast-result : tie.Need-cast-result
-cast-result c = search needs
-
 returns : tie.Need-returns
 returns c =
     let s = c .before in
     sym (ap (λ (m : ℕ). binAt 10 (m * 2 ^ s .args .exponent)) (c .if1 .taken) ∙ whole-power (s .args .exponent) (s .pre .3))
-
-add-result-2 : tie.Need-add-result-2
-add-result-2 c = search needs
-
-cast-result-2 : tie.Need-cast-result-2
-cast-result-2 c = search needs
 
 returns-2 : tie.Need-returns-2
 returns-2 c =
@@ -35,4 +23,4 @@ returns-2 c =
 
 pub whole-bin-spec : {M : Type 1} → statement M
 whole-bin-spec =
-    tie.close (tie.spec add-result cast-result returns add-result-2 cast-result-2 returns-2)
+    tie.close (tie.spec (λ c. search needs) (λ c. search needs) returns (λ c. search needs) (λ c. search needs) returns-2)

@@ -15,12 +15,6 @@ loop-holds c = tt
 read-some-requires : tie.Need-read-some-requires Inv-loop μ-loop
 read-some-requires c κs = tt
 
-sub-turns : tie.Need-sub-turns Inv-loop μ-loop
-sub-turns c = omega arith
-
-loop-less : tie.Need-loop-less Inv-loop μ-loop
-loop-less c = omega arith
-
 loop-again : tie.Need-loop-again Inv-loop μ-loop
 loop-again c = tt
 
@@ -33,13 +27,4 @@ returns c = tt
 pub main-spec : {M : Type 1} → statement M
 main-spec =
     tie.close
-    (tie.spec
-    Inv-loop
-    μ-loop
-    loop-holds
-    read-some-requires
-    sub-turns
-    loop-less
-    loop-again
-    print-last-requires
-    returns)
+    (tie.spec Inv-loop μ-loop loop-holds read-some-requires (λ c. omega arith) (λ c. omega arith) loop-again print-last-requires returns)

@@ -6,29 +6,11 @@ use Rattle.merges.proofs.Spans.{ends-first, ends-second, ends-both}
 use Rattle.merges.proofs.ends_of.Statement.{statement}
 use Rattle.merges.proofs.ends_of.Tie as tie
 
-shr-lo : tie.Need-shr-lo
-shr-lo c = search needs
-
-last-bin-requires : tie.Need-last-bin-requires
-last-bin-requires c κs = search needs
-
-shr-hi : tie.Need-shr-hi
-shr-hi c = search needs
-
 returns : tie.Need-returns
 returns c =
     let a = c .before .before .before .args in
     let f = ends-first (a .a) (a .b) (a .j) (a .k) (c .if1 .taken) in
     (sym (f .0), ap (λ (n : ℕ). n / 2 ^ a .j) (c .before .last-bin .ensures) ∙ sym (f .1))
-
-shr-least : tie.Need-shr-least
-shr-least c = search needs
-
-last-bin-requires-2 : tie.Need-last-bin-requires-2
-last-bin-requires-2 c κs = search needs
-
-shr-most : tie.Need-shr-most
-shr-most c = search needs
 
 returns-2 : tie.Need-returns-2
 returns-2 c =
@@ -36,12 +18,6 @@ returns-2 c =
     let a = e .before .before .before .args in
     let f = ends-second (a .a) (a .b) (a .j) (a .k) (omega (arith, e .if1 .left)) (c .if2 .taken) in
     (sym (f .0), ap (λ (n : ℕ). n / 2 ^ a .k) (c .before .last-bin2 .ensures) ∙ sym (f .1))
-
-lesser-requires : tie.Need-lesser-requires
-lesser-requires c κs = search needs
-
-greater-requires : tie.Need-greater-requires
-greater-requires c κs = search needs
 
 returns-3 : tie.Need-returns-3
 returns-3 c =
@@ -53,4 +29,4 @@ returns-3 c =
 
 pub ends-of-spec : {M : Type 1} → statement M
 ends-of-spec =
-    tie.close (tie.spec shr-lo last-bin-requires shr-hi returns shr-least last-bin-requires-2 shr-most returns-2 lesser-requires greater-requires returns-3)
+    tie.close (tie.spec (λ c. search needs) (λ c κs. search needs) (λ c. search needs) returns (λ c. search needs) (λ c κs. search needs) (λ c. search needs) returns-2 (λ c κs. search needs) (λ c κs. search needs) returns-3)

@@ -39,9 +39,6 @@ returns c =
     subst (λ (q : P.Row). Laid q (now (a .a)) (a .row) (now (a .a))) (sym (none-other (rowIn (a .row) (now (a .a))) (a .k) (a .other .start) (a .other .len) (now (a .b)) (c .if1 .taken)))
     (record { start = refl; len = sym (length-take-le n (now (a .a)) (s .pre .short)); now = sym (over-self n (now (a .a)) (s .pre .short)) })
 
-shr-first : tie.Need-shr-first
-shr-first c = search needs
-
 add-low-requires : tie.Need-add-low-requires
 add-low-requires c κs =
     let e = c .before .before in
@@ -49,9 +46,6 @@ add-low-requires c κs =
     let a = s .args in
     let p = s .pre in
     wide.first-requires (now (a .a)) (now (a .b)) (a .row .len) (a .row .start) (a .other .start) (a .other .len) (a .k) (p .short) (p .other) (p .few) (p .sums) (p .room) (some e) (c .before .if2 .taken)
-
-same-length : tie.Need-same-length
-same-length c = search needs
 
 returns-2 : tie.Need-returns-2
 returns-2 c =
@@ -63,12 +57,6 @@ returns-2 c =
     let p = s .pre in
     wide.first-laid (now (a .a)) (now (a .b)) (a .row .len) (a .row .start) (a .other .start) (a .other .len) (a .k) (p .short) (p .other) (p .few) (p .sums) (p .room) (some e) (t .if2 .taken)
     (w .add-low .result) (w .add-low .last .0) (w .add-low .ensures .0) (w .add-low .ensures .1)
-
-sub-more : tie.Need-sub-more
-sub-more c = search needs
-
-cast-more : tie.Need-cast-more
-cast-more c = search needs
 
 room : (c : tie.Then3) → start (c .before .before) .args .row .len + (start (c .before .before) .args .row .start - start (c .before .before) .args .other .start / 2 ^ start (c .before .before) .args .k) ≤ length (now (start (c .before .before) .args .a))
 room c =
@@ -95,9 +83,6 @@ add-low-requires-2 c κs =
     wide.before-requires (now (a .a)) (now (a .b)) (a .row .len) (a .row .start) (a .other .start) (a .other .len) (a .k) (p .short) (p .other) (p .few) (p .sums) (p .room) (some e) (held (t .before)) (t .if3 .taken)
     (w .widen .last .0) (w .widen .ensures)
 
-same-length-2 : tie.Need-same-length-2
-same-length-2 c = search needs
-
 returns-3 : tie.Need-returns-3
 returns-3 c =
     let v = c .before .before in
@@ -119,9 +104,6 @@ add-low-requires-3 c κs =
     let p = s .pre in
     wide.after-requires (now (a .a)) (now (a .b)) (a .row .len) (a .row .start) (a .other .start) (a .other .len) (a .k) (p .short) (p .other) (p .few) (p .sums) (p .room) (some e) (held (t .before)) (omega (arith, t .if3 .left))
 
-same-length-3 : tie.Need-same-length-3
-same-length-3 c = search needs
-
 returns-4 : tie.Need-returns-4
 returns-4 c =
     let v = c .before .before in
@@ -136,19 +118,5 @@ returns-4 c =
 pub join-spec : {M : Type 1} → statement M
 join-spec =
     tie.close
-    (tie.spec
-    returns
-    shr-first
-    add-low-requires
-    same-length
-    returns-2
-    sub-more
-    cast-more
-    widen-requires
-    add-add-low
-    add-low-requires-2
-    same-length-2
-    returns-3
-    add-low-requires-3
-    same-length-3
-    returns-4)
+    (tie.spec returns (λ c. search needs) add-low-requires (λ c. search needs) returns-2 (λ c. search needs) (λ c. search needs)
+    widen-requires add-add-low add-low-requires-2 (λ c. search needs) returns-3 add-low-requires-3 (λ c. search needs) returns-4)

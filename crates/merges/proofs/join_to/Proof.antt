@@ -17,9 +17,6 @@ join-requires c κs =
     let a = st .args in
     laying.then-join (a .row) (a .j) (now (a .a)) (a .other) (a .k) (now (a .b)) (now (a .out)) (st .pre) (d .lay .result) (d .lay .last .0) (d .lay .ensures)
 
-same-length : tie.Need-same-length
-same-length c = search needs
-
 returns : tie.Need-returns
 returns c =
     let e = c .before .before in
@@ -29,4 +26,4 @@ returns c =
     laying.both-laid (a .row) (a .j) (now (a .a)) (a .other) (a .k) (now (a .b)) (now (a .out)) (st .pre) (d .lay .result) (d .lay .last .0) (d .lay .ensures) (e .join .result) (e .join .last .0) (e .join .ensures)
 
 pub join-to-spec : {M : Type 1} → statement M
-join-to-spec = tie.close (tie.spec lay-requires join-requires same-length returns)
+join-to-spec = tie.close (tie.spec lay-requires join-requires (λ c. search needs) returns)

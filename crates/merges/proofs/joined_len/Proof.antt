@@ -7,25 +7,13 @@ use Rattle.merges.proofs.Spans.{ends-le, len-none, len-some}
 use Rattle.merges.proofs.joined_len.Statement.{statement}
 use Rattle.merges.proofs.joined_len.Tie as tie
 
-add-if1 : tie.Need-add-if1
-add-if1 c = search needs
-
 returns : tie.Need-returns
 returns c = let a = c .before .args in len-none (a .a) (a .b) (a .j) (a .k) (c .if1 .taken)
-
-ends-of-requires : tie.Need-ends-of-requires
-ends-of-requires c κs = search needs
 
 sub-result : tie.Need-sub-result
 sub-result c =
     let a = c .before .before .before .args in
     omega (arith, c .before .ends-of .ensures, ends-le (a .a) (a .b) (a .j) (a .k))
-
-cast-result : tie.Need-cast-result
-cast-result c = search needs
-
-add-result : tie.Need-add-result
-add-result c = search needs
 
 returns-2 : tie.Need-returns-2
 returns-2 c =
@@ -34,4 +22,4 @@ returns-2 c =
     add-one (e .result .hi - e .result .lo) ∙ (λ i. suc (e .ensures .1 i - e .ensures .0 i)) ∙ len-some (a .a) (a .b) (a .j) (a .k) (c .before .before .if1 .left)
 
 pub joined-len-spec : {M : Type 1} → statement M
-joined-len-spec = tie.close (tie.spec add-if1 returns ends-of-requires sub-result cast-result add-result returns-2)
+joined-len-spec = tie.close (tie.spec (λ c. search needs) returns (λ c κs. search needs) sub-result (λ c. search needs) (λ c. search needs) returns-2)

@@ -36,12 +36,6 @@ add-t22 c =
     let a = st .args in
     omega (arith, merging.zeros-fit (a .size) (a .a) (now (a .apos)) (now (a .aneg)) (a .b) (now (a .bpos)) (now (a .bneg)) (st .pre .0))
 
-same-length : tie.Need-same-length
-same-length c = search needs
-
-same-length-2 : tie.Need-same-length-2
-same-length-2 c = search needs
-
 returns : tie.Need-returns
 returns c =
     let jn = c .before .before .before .before .before .before in
@@ -51,13 +45,4 @@ returns c =
     merging.written (a .size) (a .a) (now (a .apos)) (now (a .aneg)) (a .b) (now (a .bpos)) (now (a .bneg)) (st .pre .0) (a .to) (now (a .pos)) (now (a .neg)) (jp .join-to .last .0) (jn .join-to2 .last .0) (jp .join-to .result) (jn .join-to2 .result) (st .pre .1 .0) (jp .join-to .ensures) (jn .join-to2 .ensures)
 
 pub merge-to-spec : {M : Type 1} → statement M
-merge-to-spec =
-    tie.close
-    (tie.spec
-    join-to-requires
-    join-to-requires-2
-    add-t21
-    add-t22
-    same-length
-    same-length-2
-    returns)
+merge-to-spec = tie.close (tie.spec join-to-requires join-to-requires-2 add-t21 add-t22 (λ c. search needs) (λ c. search needs) returns)

@@ -13,9 +13,6 @@ low c =
     let a = l .before .args in
     plan-law (a .size) (a .a) (a .b) (l .lesser .result) (s .span .result) (c .before .span2 .result) (c .greater .result) (l .lesser .ensures) (s .span .ensures) (c .before .span2 .ensures) (c .greater .ensures)
 
-lesser-requires : tie.Need-lesser-requires
-lesser-requires c κs = search needs
-
 sub-span : tie.Need-sub-span
 sub-span c = omega (arith, c .before .before .before .before .lesser .ensures)
 
@@ -38,9 +35,6 @@ span-requires-2 c κs =
     let st = c .before .before .before .before .before .before in
     (st .pre .0 .0, (st .pre .1 .1 .0, (omega (arith, st .pre .0 .1), omega (arith, st .pre .0 .2))))
 
-greater-requires : tie.Need-greater-requires
-greater-requires c κs = search needs
-
 sub-level : tie.Need-sub-level
 sub-level c =
     let l = c .before .before .before .before .before .before .before in
@@ -61,16 +55,5 @@ returns c =
 pub plan-of-spec : {M : Type 1} → statement M
 plan-of-spec =
     tie.close
-    (tie.spec
-    lesser-requires
-    sub-span
-    sub-span-2
-    span-requires
-    sub-span-3
-    sub-span-4
-    span-requires-2
-    greater-requires
-    sub-level
-    sub-t15
-    sub-t16
-    returns)
+    (tie.spec (λ c κs. search needs) sub-span sub-span-2 span-requires sub-span-3 sub-span-4 span-requires-2 (λ c κs. search needs)
+    sub-level sub-t15 sub-t16 returns)

@@ -6,9 +6,6 @@ use Rattle.merges.proofs.Spans.{ends-le}
 use Rattle.merges.proofs.span.Statement.{statement}
 use Rattle.merges.proofs.span.Tie as tie
 
-ends-of-requires : tie.Need-ends-of-requires
-ends-of-requires c κs = search needs
-
 scale-change-requires : tie.Need-scale-change-requires
 scale-change-requires c κs =
     let a = c .before .args in
@@ -21,4 +18,4 @@ returns c =
     c .scale-change .ensures ∙ (λ i. lowering (a .size) (e .ensures .0 i) (e .ensures .1 i))
 
 pub span-spec : {M : Type 1} → statement M
-span-spec = tie.close (tie.spec ends-of-requires scale-change-requires returns)
+span-spec = tie.close (tie.spec (λ c κs. search needs) scale-change-requires returns)

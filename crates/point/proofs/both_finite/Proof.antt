@@ -7,19 +7,13 @@ use borrow.Author.Needs.{needs}
 use Rattle.point.proofs.both_finite.Statement.{statement}
 use Rattle.point.proofs.both_finite.Tie as tie
 
-is-finite-requires : tie.Need-is-finite-requires
-is-finite-requires c κs = search needs
-
 returns : tie.Need-returns
 unfolding _and_
 returns c = sym (ap (λ (t : Bool). t and finite (c .before .before .args .y)) (sym (c .before .is-finite .ensures) ∙ not-true _ (c .if1 .taken)))
-
-is-finite-requires-2 : tie.Need-is-finite-requires-2
-is-finite-requires-2 c κs = search needs
 
 returns-2 : tie.Need-returns-2
 unfolding _and_
 returns-2 c = c .is-finite2 .ensures ∙ sym (ap (λ (t : Bool). t and finite (c .before .before .before .args .y)) (sym (c .before .before .is-finite .ensures) ∙ not-false _ (c .before .if1 .left)))
 
 pub both-finite-spec : {M : Type 1} → statement M
-both-finite-spec = tie.close (tie.spec is-finite-requires returns is-finite-requires-2 returns-2)
+both-finite-spec = tie.close (tie.spec (λ c κs. search needs) returns (λ c κs. search needs) returns-2)

@@ -17,19 +17,10 @@ by-diff x y h =
     (λ (t : leb y (18446744073709551615 - x) ≡ false). t ∙ sym (lt-leb (x + y) 18446744073709551615 (omega (arith, leb-false y (18446744073709551615 - x) t))))
     (flag (leb y (18446744073709551615 - x)))
 
-count-in-requires : tie.Need-count-in-requires
-count-in-requires c κs = search needs
-
-count-in-requires-2 : tie.Need-count-in-requires-2
-count-in-requires-2 c κs = search needs
-
-sub-result : tie.Need-sub-result
-sub-result c = search needs
-
 returns : tie.Need-returns
 returns c =
     by-diff (c .before .count-in .result) (c .count-in2 .result) (omega (arith, c))
     ∙ (λ j. leb (c .before .count-in .ensures j + c .count-in2 .ensures j) 18446744073709551615)
 
 pub counts-fit-spec : {M : Type 1} → statement M
-counts-fit-spec = tie.close (tie.spec count-in-requires count-in-requires-2 sub-result returns)
+counts-fit-spec = tie.close (tie.spec (λ c κs. search needs) (λ c κs. search needs) (λ c. search needs) returns)

@@ -6,18 +6,6 @@ use borrow.Author.Needs.{needs}
 use Rattle.point.proofs.figures_agree.Statement.{statement}
 use Rattle.point.proofs.figures_agree.Tie as tie
 
-enum-known-f : tie.Need-enum-known-f
-enum-known-f c = search needs
-
-counts-agree-requires : tie.Need-counts-agree-requires
-counts-agree-requires c κs = search needs
-
-enum-known-f-2 : tie.Need-enum-known-f-2
-enum-known-f-2 c = search needs
-
-buckets-agree-requires : tie.Need-buckets-agree-requires
-buckets-agree-requires c κs = search needs
-
 returns : tie.Need-returns
 returns c =
     let f = c .before .before in
@@ -33,10 +21,4 @@ returns-2 c =
 pub figures-agree-spec : {M : Type 1} → statement M
 figures-agree-spec =
     tie.close
-    (tie.spec
-    enum-known-f
-    counts-agree-requires
-    enum-known-f-2
-    buckets-agree-requires
-    returns
-    returns-2)
+    (tie.spec (λ c. search needs) (λ c κs. search needs) (λ c. search needs) (λ c κs. search needs) returns returns-2)

@@ -18,20 +18,11 @@ start e = e .before .before .before .before .before .before .before .before .bef
 free : (e : tie.Else1) → refusalBefore (start e .args .size) (first (start e)) (second (start e)) ≡ 0
 free e = sym (e .before .refusal .ensures) ∙ e .if1 .left
 
-refusal-requires : tie.Need-refusal-requires
-refusal-requires c κs = search needs
-
 returns : tie.Need-returns
 returns c =
     let t = c .before .before .before .before .before .before .before .before .before .before in
     let a = t .args in
     calls.refused-law (a .size) (first t) (second t) (now (a .pos)) (now (a .neg)) (c .before .refusal .result) (c .before .refusal .ensures) (c .if1 .taken)
-
-enum-known-f : tie.Need-enum-known-f
-enum-known-f c = search needs
-
-enum-known-g : tie.Need-enum-known-g
-enum-known-g c = search needs
 
 merge-exponential-requires : tie.Need-merge-exponential-requires
 merge-exponential-requires c κs =
@@ -41,21 +32,6 @@ merge-exponential-requires c κs =
     let t = start e in
     calls.agreeing (t .args .size) (first t) (second t) (free e) (f .f .given .0 .0) (g .g .given .0 .0) (f .f .given .1) (g .g .given .1)
 
-finish-requires : tie.Need-finish-requires
-finish-requires c κs = search needs
-
-enum-known-g-2 : tie.Need-enum-known-g-2
-enum-known-g-2 c = search needs
-
-enum-known-f-2 : tie.Need-enum-known-f-2
-enum-known-f-2 c = search needs
-
-enum-known-g-3 : tie.Need-enum-known-g-3
-enum-known-g-3 c = search needs
-
-enum-known-g-4 : tie.Need-enum-known-g-4
-enum-known-g-4 c = search needs
-
 merge-explicit-requires : tie.Need-merge-explicit-requires
 merge-explicit-requires c κs =
     let g = c .before .before in
@@ -63,15 +39,6 @@ merge-explicit-requires c κs =
     let e = f .before .before in
     let t = start e in
     calls.can-add (t .args .size) (first t) (second t) (free e) (f .f2 .given .0 .0) (g .g4 .given .0 .0) (f .f2 .given .1) (g .g4 .given .1)
-
-finish-requires-2 : tie.Need-finish-requires-2
-finish-requires-2 c κs = search needs
-
-same-length : tie.Need-same-length
-same-length c = search needs
-
-same-length-2 : tie.Need-same-length-2
-same-length-2 c = search needs
 
 returns-2 : tie.Need-returns-2
 returns-2 c =
@@ -100,9 +67,6 @@ returns-4 c =
     let t = start e in
     absurd (calls.not-mixed-2 (t .args .size) (first t) (second t) (free e) (f .f2 .given .0 .0) (g .g3 .given .0 .0) (f .f2 .given .1) (g .g3 .given .1))
 
-same-length-3 : tie.Need-same-length-3
-same-length-3 c = search needs
-
 returns-5 : tie.Need-returns-5
 returns-5 c =
     let s = c .before .before .before in
@@ -117,23 +81,6 @@ returns-5 c =
 pub merge-spec : {M : Type 1} → statement M
 merge-spec =
     tie.close
-    (tie.spec
-    refusal-requires
-    returns
-    enum-known-f
-    enum-known-g
-    merge-exponential-requires
-    finish-requires
-    enum-known-g-2
-    enum-known-f-2
-    enum-known-g-3
-    enum-known-g-4
-    merge-explicit-requires
-    finish-requires-2
-    same-length
-    same-length-2
-    returns-2
-    returns-3
-    returns-4
-    same-length-3
-    returns-5)
+    (tie.spec (λ c κs. search needs) returns (λ c. search needs) (λ c. search needs) merge-exponential-requires (λ c κs. search needs)
+    (λ c. search needs) (λ c. search needs) (λ c. search needs) (λ c. search needs) merge-explicit-requires (λ c κs. search needs)
+    (λ c. search needs) (λ c. search needs) returns-2 returns-3 returns-4 (λ c. search needs) returns-5)

@@ -11,9 +11,6 @@ use borrow.Author.Needs.{needs}
 use Rattle.point.proofs.merge_explicit.Statement.{statement}
 use Rattle.point.proofs.merge_explicit.Tie as tie
 
-bucket-count-requires : tie.Need-bucket-count-requires
-bucket-count-requires c κs = search needs
-
 returns : tie.Need-returns
 returns c =
     let k = c .before in
@@ -33,9 +30,6 @@ add-counts-requires c κs =
 add-t13 : tie.Need-add-t13
 add-t13 c = let st = c .before .before .before .before .before .before .before .before .before .before in omega (arith, st .pre .1)
 
-same-length : tie.Need-same-length
-same-length c = search needs
-
 returns-2 : tie.Need-returns-2
 returns-2 c =
     let d = c .before .before in
@@ -47,4 +41,4 @@ returns-2 c =
     (d .add-counts .ensures ∙ ap (λ (k : ℕ). over (added (take k (now (a .apos))) (take k (now (a .bpos)))) (now (a .pos))) q)
 
 pub merge-explicit-spec : {M : Type 1} → statement M
-merge-explicit-spec = tie.close (tie.spec bucket-count-requires returns add-counts-requires add-t13 same-length returns-2)
+merge-explicit-spec = tie.close (tie.spec (λ c κs. search needs) returns add-counts-requires add-t13 (λ c. search needs) returns-2)

@@ -72,12 +72,6 @@ merge-to-requires c κs =
     let st = start t in
     (st .pre, (t .plan-of .ensures, record { pos = omega (arith, e .if1 .left, pos-long (e .before)); neg = omega (arith, d .if2 .left, neg-long (d .before)) }))
 
-same-length : tie.Need-same-length
-same-length c = search needs
-
-same-length-2 : tie.Need-same-length-2
-same-length-2 c = search needs
-
 returns-3 : tie.Need-returns-3
 returns-3 c =
     let w = c .before .before .before .before in
@@ -89,4 +83,4 @@ returns-3 c =
     (w .merge-to .result) (w .merge-to .last .1 .1 .1 .1 .1 .1 .1 .1 .0) (w .merge-to .last .1 .1 .1 .1 .1 .1 .1 .1 .1 .0) (w .merge-to .ensures)
 
 pub merge-exponential-spec : {M : Type 1} → statement M
-merge-exponential-spec = tie.close (tie.spec plan-of-requires joined-len-requires returns joined-len-requires-2 returns-2 merge-to-requires same-length same-length-2 returns-3)
+merge-exponential-spec = tie.close (tie.spec plan-of-requires joined-len-requires returns joined-len-requires-2 returns-2 merge-to-requires (λ c. search needs) (λ c. search needs) returns-3)

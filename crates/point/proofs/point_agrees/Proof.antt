@@ -8,17 +8,11 @@ use borrow.Author.Needs.{needs}
 use Rattle.point.proofs.point_agrees.Statement.{statement}
 use Rattle.point.proofs.point_agrees.Tie as tie
 
-figures-agree-requires : tie.Need-figures-agree-requires
-figures-agree-requires c κs = search needs
-
 returns : tie.Need-returns
 unfolding pointAgrees _and_
 returns c =
     let a = c .before .before .before .before .before .args in
     sym (ap (λ (t : Bool). t and extremesAgree (a .p .min) (a .p .max)) (sym (c .before .figures-agree .ensures) ∙ not-true _ (c .if1 .taken)))
-
-extremes-agree-requires : tie.Need-extremes-agree-requires
-extremes-agree-requires c κs = search needs
 
 returns-2 : tie.Need-returns-2
 unfolding pointAgrees _and_
@@ -29,4 +23,4 @@ returns-2 c =
 
 pub point-agrees-spec : {M : Type 1} → statement M
 point-agrees-spec =
-    tie.close (tie.spec figures-agree-requires returns extremes-agree-requires returns-2)
+    tie.close (tie.spec (λ c κs. search needs) returns (λ c κs. search needs) returns-2)

@@ -36,16 +36,10 @@ alike e = sym (e .before .same-kind .ensures) ∙ not-false _ (e .if4 .left)
 switched : (e : tie.Else5) → Passed calls.switchOk (start (e .before .before .before .before .before .before .before .before))
 switched e = sym (e .before .same-switch .ensures) ∙ not-false _ (e .if5 .left)
 
-size-fits-requires : tie.Need-size-fits-requires
-size-fits-requires c κs = search needs
-
 returns : tie.Need-returns
 returns c =
     let t = c .before .before .before .before .before .before .before .before in
     calls.bad-size (t .args .size) (first t) (second t) (sym (c .before .size-fits .ensures) ∙ not-true _ (c .if1 .taken))
-
-point-agrees-requires : tie.Need-point-agrees-requires
-point-agrees-requires c κs = search needs
 
 returns-2 : tie.Need-returns-2
 returns-2 c =
@@ -53,18 +47,12 @@ returns-2 c =
     let t = start e1 in
     calls.bad-first (t .args .size) (first t) (second t) (sized e1) (sym (c .before .point-agrees .ensures) ∙ not-true _ (c .if2 .taken))
 
-point-agrees-requires-2 : tie.Need-point-agrees-requires-2
-point-agrees-requires-2 c κs = search needs
-
 returns-3 : tie.Need-returns-3
 returns-3 c =
     let e2 = c .before .before in
     let e1 = e2 .before .before in
     let t = start e1 in
     calls.bad-second (t .args .size) (first t) (second t) (sized e1) (first-agrees e2) (sym (c .before .point-agrees2 .ensures) ∙ not-true _ (c .if3 .taken))
-
-same-kind-requires : tie.Need-same-kind-requires
-same-kind-requires c κs = search needs
 
 returns-4 : tie.Need-returns-4
 returns-4 c =
@@ -74,9 +62,6 @@ returns-4 c =
     let t = start e1 in
     calls.unlike (t .args .size) (first t) (second t) (sized e1) (first-agrees e2) (second-agrees e3) (sym (c .before .same-kind .ensures) ∙ not-true _ (c .if4 .taken))
 
-same-switch-requires : tie.Need-same-switch-requires
-same-switch-requires c κs = search needs
-
 returns-5 : tie.Need-returns-5
 returns-5 c =
     let e4 = c .before .before in
@@ -85,9 +70,6 @@ returns-5 c =
     let e1 = e2 .before .before in
     let t = start e1 in
     calls.unlike-switch (t .args .size) (first t) (second t) (sized e1) (first-agrees e2) (second-agrees e3) (alike e4) (sym (c .before .same-switch .ensures) ∙ not-true _ (c .if5 .taken))
-
-counts-fit-requires : tie.Need-counts-fit-requires
-counts-fit-requires c κs = search needs
 
 returns-6 : tie.Need-returns-6
 returns-6 c =
@@ -112,17 +94,5 @@ returns-7 c =
 pub refusal-spec : {M : Type 1} → statement M
 refusal-spec =
     tie.close
-    (tie.spec
-    size-fits-requires
-    returns
-    point-agrees-requires
-    returns-2
-    point-agrees-requires-2
-    returns-3
-    same-kind-requires
-    returns-4
-    same-switch-requires
-    returns-5
-    counts-fit-requires
-    returns-6
-    returns-7)
+    (tie.spec (λ c κs. search needs) returns (λ c κs. search needs) returns-2 (λ c κs. search needs) returns-3 (λ c κs. search needs)
+    returns-4 (λ c κs. search needs) returns-5 (λ c κs. search needs) returns-6 returns-7)

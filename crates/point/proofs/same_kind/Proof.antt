@@ -5,27 +5,6 @@ use borrow.Author.Needs.{needs}
 use Rattle.point.proofs.same_kind.Statement.{statement}
 use Rattle.point.proofs.same_kind.Tie as tie
 
-enum-known-f : tie.Need-enum-known-f
-enum-known-f c = search needs
-
-enum-known-g : tie.Need-enum-known-g
-enum-known-g c = search needs
-
-enum-known-g-2 : tie.Need-enum-known-g-2
-enum-known-g-2 c = search needs
-
-enum-known-f-2 : tie.Need-enum-known-f-2
-enum-known-f-2 c = search needs
-
-enum-known-g-3 : tie.Need-enum-known-g-3
-enum-known-g-3 c = search needs
-
-enum-known-g-4 : tie.Need-enum-known-g-4
-enum-known-g-4 c = search needs
-
-same-bounds-requires : tie.Need-same-bounds-requires
-same-bounds-requires c κs = search needs
-
 returns : tie.Need-returns
 returns c =
     let f = c .before .before .before .before in
@@ -54,15 +33,5 @@ returns-4 c =
 pub same-kind-spec : {M : Type 1} → statement M
 same-kind-spec =
     tie.close
-    (tie.spec
-    enum-known-f
-    enum-known-g
-    enum-known-g-2
-    enum-known-f-2
-    enum-known-g-3
-    enum-known-g-4
-    same-bounds-requires
-    returns
-    returns-2
-    returns-3
-    returns-4)
+    (tie.spec (λ c. search needs) (λ c. search needs) (λ c. search needs) (λ c. search needs) (λ c. search needs) (λ c. search needs)
+    (λ c κs. search needs) returns returns-2 returns-3 returns-4)

@@ -4,20 +4,11 @@ use borrow.Author.Needs.{needs}
 use Rattle.point.proofs.size_fits.Statement.{statement}
 use Rattle.point.proofs.size_fits.Tie as tie
 
-is-explicit-requires : tie.Need-is-explicit-requires
-is-explicit-requires c κs = search needs
-
-is-explicit-requires-2 : tie.Need-is-explicit-requires-2
-is-explicit-requires-2 c κs = search needs
-
 returns : tie.Need-returns
 unfolding pick
 returns c =
     let e = c .before .before in
     sym (rw (sym (e .before .is-explicit .ensures) ∙ e .if1 .taken, sym (c .before .is-explicit2 .ensures) ∙ c .if2 .taken) refl)
-
-size-passes-requires : tie.Need-size-passes-requires
-size-passes-requires c κs = search needs
 
 returns-2 : tie.Need-returns-2
 unfolding pick
@@ -25,9 +16,6 @@ returns-2 c =
     let d = c .before in
     let e = d .before .before in
     c .size-passes .ensures ∙ sym (rw (sym (e .before .is-explicit .ensures) ∙ e .if1 .taken, sym (d .before .is-explicit2 .ensures) ∙ d .if2 .left) refl)
-
-size-passes-requires-2 : tie.Need-size-passes-requires-2
-size-passes-requires-2 c κs = search needs
 
 returns-3 : tie.Need-returns-3
 unfolding pick
@@ -38,11 +26,4 @@ returns-3 c =
 pub size-fits-spec : {M : Type 1} → statement M
 size-fits-spec =
     tie.close
-    (tie.spec
-    is-explicit-requires
-    is-explicit-requires-2
-    returns
-    size-passes-requires
-    returns-2
-    size-passes-requires-2
-    returns-3)
+    (tie.spec (λ c κs. search needs) (λ c κs. search needs) returns (λ c κs. search needs) returns-2 (λ c κs. search needs) returns-3)

@@ -23,32 +23,11 @@ returns c =
     let s = c .before .before .before .before .before .before .before .before .before in
     no-set (s .args .size) (s .args .a) (first s) (s .args .b) (second s) (s .args .at) (lent s) (c .if1 .taken)
 
-whole-at-requires : tie.Need-whole-at-requires
-whole-at-requires c κs = search needs
-
-whole-at-requires-2 : tie.Need-whole-at-requires-2
-whole-at-requires-2 c κs = search needs
-
-enum-told : tie.Need-enum-told
-enum-told c = search needs
-
-enum-known-first : tie.Need-enum-known-first
-enum-known-first c = search needs
-
-enum-told-2 : tie.Need-enum-told-2
-enum-told-2 c = search needs
-
-enum-known-second : tie.Need-enum-known-second
-enum-known-second c = search needs
-
 mul-pool : tie.Need-mul-pool
 mul-pool c =
     let e = c .before .before .before .before .before .before .before .before in
     let s = e .before .before .before .before .before .before .before .before .before in
     omega (arith, e .if1 .left, s .good .1 .1 .0 .1)
-
-shared-slice-copy-out-pool : tie.Need-shared-slice-copy-out-pool
-shared-slice-copy-out-pool c = search needs
 
 pool-requires : tie.Need-pool-requires
 pool-requires c κs =
@@ -77,18 +56,6 @@ returns-3 c =
     let s = e .before .before .before .before .before .before .before .before .before in
     no-second (s .args .size) (s .args .a) (first s) (s .args .b) (second s) (s .args .at) (lent s) (omega (arith, e .if1 .left)) (f .first .given .0 .0) (sym (w .whole-at .ensures) ∙ f .first .given .1) (sym (v .whole-at2 .ensures) ∙ c .enum-told2 .given .1)
 
-same-length : tie.Need-same-length
-same-length c = search needs
-
-same-length-2 : tie.Need-same-length-2
-same-length-2 c = search needs
-
-same-length-3 : tie.Need-same-length-3
-same-length-3 c = search needs
-
-same-length-4 : tie.Need-same-length-4
-same-length-4 c = search needs
-
 returns-4 : tie.Need-returns-4
 returns-4 c =
     let m = c .before .before .before .before .before .before in
@@ -105,21 +72,6 @@ returns-4 c =
 pub merge-at-spec : {M : Type 1} → statement M
 merge-at-spec =
     tie.close
-    (tie.spec
-    returns
-    whole-at-requires
-    whole-at-requires-2
-    enum-told
-    enum-known-first
-    enum-told-2
-    enum-known-second
-    mul-pool
-    shared-slice-copy-out-pool
-    pool-requires
-    returns-2
-    returns-3
-    same-length
-    same-length-2
-    same-length-3
-    same-length-4
-    returns-4)
+    (tie.spec returns (λ c κs. search needs) (λ c κs. search needs) (λ c. search needs) (λ c. search needs) (λ c. search needs)
+    (λ c. search needs) mul-pool (λ c. search needs) pool-requires returns-2 returns-3 (λ c. search needs) (λ c. search needs)
+    (λ c. search needs) (λ c. search needs) returns-4)

@@ -10,29 +10,11 @@ Inv-loop text₀ n many row m₀ i₀ text m i = i ≤ 8
 abbrev μ-loop : tie.MeasureT-loop
 μ-loop text₀ n many row m₀ i₀ text m i = 8 - i
 
-loop-holds : tie.Need-loop-holds Inv-loop μ-loop
-loop-holds c = omega arith
-
 comma-requires : tie.Need-comma-requires Inv-loop μ-loop
 comma-requires c κs = tt
 
-mul-attribute : tie.Need-mul-attribute Inv-loop μ-loop
-mul-attribute c = omega arith
-
-array-read-attribute : tie.Need-array-read-attribute Inv-loop μ-loop
-array-read-attribute c = omega arith
-
 attribute-requires : tie.Need-attribute-requires Inv-loop μ-loop
 attribute-requires c κs = tt
-
-add-i : tie.Need-add-i Inv-loop μ-loop
-add-i c = omega arith
-
-loop-less : tie.Need-loop-less Inv-loop μ-loop
-loop-less c = omega arith
-
-loop-again : tie.Need-loop-again Inv-loop μ-loop
-loop-again c = omega arith
 
 returns : tie.Need-returns Inv-loop μ-loop
 returns c = tt
@@ -43,16 +25,5 @@ returns-2 c = tt
 pub attributes-spec : {M : Type 1} → statement M
 attributes-spec =
     tie.close
-    (tie.spec
-    Inv-loop
-    μ-loop
-    loop-holds
-    comma-requires
-    mul-attribute
-    array-read-attribute
-    attribute-requires
-    add-i
-    loop-less
-    loop-again
-    returns
-    returns-2)
+    (tie.spec Inv-loop μ-loop (λ c. omega arith) comma-requires (λ c. omega arith) (λ c. omega arith) attribute-requires (λ c. omega arith)
+    (λ c. omega arith) (λ c. omega arith) returns returns-2)

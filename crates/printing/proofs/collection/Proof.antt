@@ -13,20 +13,8 @@ abbrev μ-loop : tie.MeasureT-loop
 head-requires : tie.Need-head-requires Inv-loop μ-loop
 head-requires c κs = tt
 
-loop-holds : tie.Need-loop-holds Inv-loop μ-loop
-loop-holds c = omega arith
-
 point-requires : tie.Need-point-requires Inv-loop μ-loop
 point-requires c κs = tt
-
-add-i : tie.Need-add-i Inv-loop μ-loop
-add-i c = omega arith
-
-loop-less : tie.Need-loop-less Inv-loop μ-loop
-loop-less c = omega arith
-
-loop-again : tie.Need-loop-again Inv-loop μ-loop
-loop-again c = omega arith
 
 returns : tie.Need-returns Inv-loop μ-loop
 returns c = tt
@@ -34,4 +22,4 @@ returns c = tt
 pub collection-spec : {M : Type 1} → statement M
 collection-spec =
     tie.close
-    (tie.spec Inv-loop μ-loop head-requires loop-holds point-requires add-i loop-less loop-again returns)
+    (tie.spec Inv-loop μ-loop head-requires (λ c. omega arith) point-requires (λ c. omega arith) (λ c. omega arith) (λ c. omega arith) returns)

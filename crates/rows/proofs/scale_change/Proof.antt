@@ -29,9 +29,6 @@ sub-loop c = omega (arith, shr-mono (c .loop .delta) (c .before .pre .0))
 add-delta : tie.Need-add-delta Inv-loop μ-loop
 add-delta c = omega (arith, few (c .before .before .args .hi) (c .before .loop .delta) (c .before .before .fits .hi .fits) (omega arith))
 
-loop-less : tie.Need-loop-less Inv-loop μ-loop
-loop-less c = omega arith
-
 loop-again : tie.Need-loop-again Inv-loop μ-loop
 loop-again c =
     let l = c .before .loop in (
@@ -50,4 +47,4 @@ returns c =
 
 pub scale-change-spec : {M : Type 1} → statement M
 scale-change-spec =
-    tie.close (tie.spec Inv-loop μ-loop loop-holds sub-loop add-delta loop-less loop-again returns)
+    tie.close (tie.spec Inv-loop μ-loop loop-holds sub-loop add-delta (λ c. omega arith) loop-again returns)

@@ -74,18 +74,5 @@ returns-3 c =
 pub agrees-at-spec : {M : Type 1} → statement M
 agrees-at-spec =
     tie.close
-    (tie.spec
-    (λ c κs. search needs)
-    mul-a
-    add-e
-    (λ c κs. search needs)
-    mul-buckets-agree
-    (λ c. search needs)
-    (λ c. search needs)
-    part-buckets-agree-end
-    (λ c κs. search needs)
-    returns
-    (λ c κs. search needs)
-    returns-2
-    (λ c κs. search needs)
-    returns-3)
+    (tie.spec (λ c κs. search needs) mul-a add-e (λ c κs. search needs) mul-buckets-agree (λ c. search needs) (λ c. search needs)
+    part-buckets-agree-end (λ c κs. search needs) returns (λ c κs. search needs) returns-2 (λ c κs. search needs) returns-3)

@@ -147,20 +147,6 @@ returns c =
 pub list-spec : {M : Type 1} → statement M
 list-spec =
     tie.close
-    (tie.spec
-    Inv-loop
-    μ-loop
-    loop-holds
-    slot-at-requires
-    is-updated-requires
-    (λ c κs. search needs)
-    row-at-requires
-    put-requires
-    add-i
-    loop-less
-    loop-again
-    (λ c. c .before .loop .inv .2)
-    (λ c. c .before .loop .inv .3)
-    (λ c. c .before .loop .inv .4)
-    (λ c. c .before .loop .inv .5)
-    returns)
+    (tie.spec Inv-loop μ-loop loop-holds slot-at-requires is-updated-requires (λ c κs. search needs) row-at-requires put-requires add-i
+    loop-less loop-again (λ c. c .before .loop .inv .2) (λ c. c .before .loop .inv .3) (λ c. c .before .loop .inv .4)
+    (λ c. c .before .loop .inv .5) returns)

@@ -24,12 +24,6 @@ at-zero c = c .before .before .before .before .before .before .before .before
 facts : (st : tie.Start) → Agreed (st .args .size) (st .args .top) (st .args .c) (now (st .args .pos)) (now (st .args .neg))
 facts st = agreed (st .args .size) (st .args .top) (st .args .c) (now (st .args .pos)) (now (st .args .neg)) (st .pre .agree)
 
-enum-told : tie.Need-enum-told
-enum-told c = search needs
-
-add-t12 : tie.Need-add-t12
-add-t12 c = search needs
-
 add-t13 : tie.Need-add-t13
 add-t13 c = omega (arith, facts (at-zero c) .point .adds, at-zero c .pre .count)
 
@@ -55,23 +49,11 @@ ready m =
     let a = start m .args in
     subst (Ready (a .size) (a .top) (a .c) (now (a .pos)) (now (a .neg))) (m .class .given .1) (start m .pre)
 
-enum-known-class : tie.Need-enum-known-class
-enum-known-class c = search needs
-
 raise-requires : tie.Need-raise-requires
 raise-requires c κs =
     let m = c .before .before .before in
     let a = start m .args in
     beside-of (a .size) (a .top) (a .c) (now (a .pos)) (now (a .neg)) (a .class) (start m .pre)
-
-one-more-requires : tie.Need-one-more-requires
-one-more-requires c κs = search needs
-
-same-length : tie.Need-same-length
-same-length c = search needs
-
-same-length-2 : tie.Need-same-length-2
-same-length-2 c = search needs
 
 abbrev after : tie.After-slice-known4 → tie.After-raise
 after s = s .before .before .before .before
@@ -104,12 +86,6 @@ place-at-requires c κs =
     still-ready (a .size) (a .top) (a .c) (now (a .pos)) (now (a .neg)) (g .0 .1 .0) (r .raise .result) (r .raise .last .1 .1 .0) (r .raise .last .1 .1 .1 .0)
     (g .0 .0) (r .raise .ensures) (e .if1 .left) (ready m)
 
-same-length-3 : tie.Need-same-length-3
-same-length-3 c = search needs
-
-same-length-4 : tie.Need-same-length-4
-same-length-4 c = search needs
-
 returns-3 : tie.Need-returns-3
 returns-3 c =
     let p = c .before .before .before .before in
@@ -129,18 +105,5 @@ returns-3 c =
 pub add-spec : {M : Type 1} → statement M
 add-spec =
     tie.close
-    (tie.spec
-    enum-told
-    add-t12
-    add-t13
-    enum-known-class
-    raise-requires
-    one-more-requires
-    same-length
-    same-length-2
-    returns
-    place-at-requires
-    returns-2
-    same-length-3
-    same-length-4
-    returns-3)
+    (tie.spec (λ c. search needs) (λ c. search needs) add-t13 (λ c. search needs) raise-requires (λ c κs. search needs) (λ c. search needs)
+    (λ c. search needs) returns place-at-requires returns-2 (λ c. search needs) (λ c. search needs) returns-3)

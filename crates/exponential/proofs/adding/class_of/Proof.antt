@@ -4,21 +4,6 @@ use Rattle.exponential.specs.Inner.{classAt}
 use Rattle.exponential.proofs.adding.class_of.Statement.{statement}
 use Rattle.exponential.proofs.adding.class_of.Tie as tie
 
-get-bin-requires : tie.Need-get-bin-requires
-get-bin-requires c κs = search needs
-
-enum-told : tie.Need-enum-told
-enum-told c = search needs
-
-enum-told-2 : tie.Need-enum-told-2
-enum-told-2 c = search needs
-
-enum-told-3 : tie.Need-enum-told-3
-enum-told-3 c = search needs
-
-enum-known-b : tie.Need-enum-known-b
-enum-known-b c = search needs
-
 returns : tie.Need-returns
 returns c = sym (ap classAt (sym (c .before .before .get-bin .ensures) ∙ c .enum-told .given .1))
 
@@ -33,4 +18,4 @@ returns-4 c = sym (ap classAt (sym (c .before .before .before .get-bin .ensures)
 
 pub class-of-spec : {M : Type 1} → statement M
 class-of-spec =
-    tie.close (tie.spec get-bin-requires enum-told enum-told-2 enum-told-3 enum-known-b returns returns-2 returns-3 returns-4)
+    tie.close (tie.spec (λ c κs. search needs) (λ c. search needs) (λ c. search needs) (λ c. search needs) (λ c. search needs) returns returns-2 returns-3 returns-4)

@@ -5,32 +5,11 @@ use borrow.Author.Needs.{needs}
 use Rattle.exponential.proofs.adding.needed.Statement.{statement}
 use Rattle.exponential.proofs.adding.needed.Tie as tie
 
-scale-change-requires : tie.Need-scale-change-requires
-scale-change-requires c κs = search needs
-
 returns : tie.Need-returns
 returns c =
     let st = c .before .before in
     let e = bins-empty (st .args .row .start) (st .args .row .len) (st .args .bin) (c .before .if1 .taken) in
     rw (e .0, e .1) (c .scale-change .ensures)
-
-sub-last : tie.Need-sub-last
-sub-last c = search needs
-
-cast-last : tie.Need-cast-last
-cast-last c = search needs
-
-add-last : tie.Need-add-last
-add-last c = search needs
-
-lesser-requires : tie.Need-lesser-requires
-lesser-requires c κs = search needs
-
-greater-requires : tie.Need-greater-requires
-greater-requires c κs = search needs
-
-scale-change-requires-2 : tie.Need-scale-change-requires-2
-scale-change-requires-2 c κs = search needs
 
 returns-2 : tie.Need-returns-2
 returns-2 c =
@@ -43,13 +22,5 @@ returns-2 c =
 pub needed-spec : {M : Type 1} → statement M
 needed-spec =
     tie.close
-    (tie.spec
-    scale-change-requires
-    returns
-    sub-last
-    cast-last
-    add-last
-    lesser-requires
-    greater-requires
-    scale-change-requires-2
-    returns-2)
+    (tie.spec (λ c κs. search needs) returns (λ c. search needs) (λ c. search needs) (λ c. search needs) (λ c κs. search needs)
+    (λ c κs. search needs) (λ c κs. search needs) returns-2)

@@ -15,9 +15,6 @@ use Rattle.exponential.proofs.adding.place.Tie as tie
 abbrev D : tie.Start → List ℕ
 D st = downscaled (st .args .k) (st .args .row .start) (take (st .args .row .len) (now (st .args .counts)))
 
-lower-requires : tie.Need-lower-requires
-lower-requires c κs = search needs
-
 record-requires : tie.Need-record-requires
 record-requires c κs =
     let l = c .before .before .before in
@@ -32,9 +29,6 @@ record-requires c κs =
     (st .pre .1 .1)
     (omega (arith, st, total-downscaled k s (take n xs)))
 
-same-length : tie.Need-same-length
-same-length c = search needs
-
 returns : tie.Need-returns
 returns c =
     let r = c .before .before in
@@ -46,4 +40,4 @@ returns c =
     record { start = q .0; len = q .1 .0; now = q .1 .1 }
 
 pub place-spec : {M : Type 1} → statement M
-place-spec = tie.close (tie.spec lower-requires record-requires same-length returns)
+place-spec = tie.close (tie.spec (λ c κs. search needs) record-requires (λ c. search needs) returns)

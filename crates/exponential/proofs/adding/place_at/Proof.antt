@@ -42,12 +42,6 @@ one-more-requires c κs =
     let a = start (t .before) .args in
     (below t .count, omega (arith, q .put .ensures .0, levels-at (a .size) (a .top) (swapped (a .c)) (now (a .neg)) (now (a .pos)) (a .bin) (below t)))
 
-same-length : tie.Need-same-length
-same-length c = search needs
-
-same-length-2 : tie.Need-same-length-2
-same-length-2 c = search needs
-
 returns : tie.Need-returns
 returns c =
     let q = c .before .before .before .before .before .before .before in
@@ -81,12 +75,6 @@ one-more-requires-2 c κs =
     let a = start (e .before) .args in
     (above e .count, omega (arith, q .put2 .ensures .0, levels-at (a .size) (a .top) (a .c) (now (a .pos)) (now (a .neg)) (a .bin) (above e)))
 
-same-length-3 : tie.Need-same-length-3
-same-length-3 c = search needs
-
-same-length-4 : tie.Need-same-length-4
-same-length-4 c = search needs
-
 returns-2 : tie.Need-returns-2
 returns-2 c =
     let q = c .before .before .before .before .before .before .before in
@@ -104,14 +92,5 @@ returns-2 c =
 pub place-at-spec : {M : Type 1} → statement M
 place-at-spec =
     tie.close
-    (tie.spec
-    put-requires
-    one-more-requires
-    same-length
-    same-length-2
-    returns
-    put-requires-2
-    one-more-requires-2
-    same-length-3
-    same-length-4
-    returns-2)
+    (tie.spec put-requires one-more-requires (λ c. search needs) (λ c. search needs) returns put-requires-2 one-more-requires-2
+    (λ c. search needs) (λ c. search needs) returns-2)

@@ -43,12 +43,6 @@ lower-requires c κs =
     let r = n .before .before .before .pre in
     ((r .other, omega (arith, found n, r .few)), r .others)
 
-same-length : tie.Need-same-length
-same-length c = search needs
-
-same-length-2 : tie.Need-same-length-2
-same-length-2 c = search needs
-
 returns : tie.Need-returns
 returns c =
     let l = c .before .before in
@@ -66,13 +60,4 @@ returns c =
     )
 
 pub put-spec : {M : Type 1} → statement M
-put-spec =
-    tie.close
-    (tie.spec
-    needed-requires
-    shr-place
-    place-requires
-    lower-requires
-    same-length
-    same-length-2
-    returns)
+put-spec = tie.close (tie.spec needed-requires shr-place place-requires lower-requires (λ c. search needs) (λ c. search needs) returns)

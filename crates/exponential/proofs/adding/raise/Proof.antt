@@ -39,18 +39,12 @@ sums o =
     sums-fit (a .p) (a .n) (r .signed-row .result) (a .bin) k (o .one-if .result) (now (a .pos)) (now (a .neg)) (start r .pre) (a .negative) (r .signed-row .ensures) (inside e) (o .one-if .ensures)
     (omega (arith, r .before .before .slice-known .given k)) (omega (arith, r .before .slice-known2 .given k))
 
-signed-row-requires : tie.Need-signed-row-requires
-signed-row-requires c κs = search needs
-
 returns : tie.Need-returns
 returns c =
     let r = c .before in
     let a = start r .args in
     let w = r .signed-row .result in
     tried-no (a .p) (a .n) w (a .bin) 0 0 (now (a .pos)) (now (a .neg)) (start r .pre) (a .negative) (r .signed-row .ensures) (holds-below (w .start) (w .len) (a .bin) (c .if1 .taken))
-
-cast-k : tie.Need-cast-k
-cast-k c = search needs
 
 returns-2 : tie.Need-returns-2
 returns-2 c =
@@ -61,14 +55,8 @@ returns-2 c =
     tried-no (a .p) (a .n) w (a .bin) 0 0 (now (a .pos)) (now (a .neg)) (start r .pre) (a .negative) (r .signed-row .ensures)
     (holds-above (w .start) (w .len) (a .bin) (omega (arith, e .if1 .left)) (c .if2 .taken))
 
-one-if-requires : tie.Need-one-if-requires
-one-if-requires c κs = search needs
-
 sub-pos : tie.Need-sub-pos
 sub-pos c = omega (arith, sums c)
-
-mul-pos : tie.Need-mul-pos
-mul-pos c = search needs
 
 slice-read-pos : tie.Need-slice-read-pos
 slice-read-pos c = omega (arith, both (c .before .before))
@@ -79,9 +67,6 @@ add-pos c = omega (arith, sums (c .before))
 slice-write-pos : tie.Need-slice-write-pos
 slice-write-pos c = omega (arith, both (c .before .before))
 
-mul-neg : tie.Need-mul-neg
-mul-neg c = search needs
-
 slice-read-neg : tie.Need-slice-read-neg
 slice-read-neg c = omega (arith, both (c .before .before .before))
 
@@ -90,12 +75,6 @@ add-neg c = omega (arith, sums (c .before .before))
 
 slice-write-neg : tie.Need-slice-write-neg
 slice-write-neg c = omega (arith, both (c .before .before .before))
-
-same-length : tie.Need-same-length
-same-length c = search needs
-
-same-length-2 : tie.Need-same-length-2
-same-length-2 c = search needs
 
 returns-3 : tie.Need-returns-3
 returns-3 c =
@@ -109,21 +88,5 @@ returns-3 c =
 pub raise-spec : {M : Type 1} → statement M
 raise-spec =
     tie.close
-    (tie.spec
-    signed-row-requires
-    returns
-    cast-k
-    returns-2
-    one-if-requires
-    sub-pos
-    mul-pos
-    slice-read-pos
-    add-pos
-    slice-write-pos
-    mul-neg
-    slice-read-neg
-    add-neg
-    slice-write-neg
-    same-length
-    same-length-2
-    returns-3)
+    (tie.spec (λ c κs. search needs) returns (λ c. search needs) returns-2 (λ c κs. search needs) sub-pos (λ c. search needs) slice-read-pos
+    add-pos slice-write-pos (λ c. search needs) slice-read-neg add-neg slice-write-neg (λ c. search needs) (λ c. search needs) returns-3)

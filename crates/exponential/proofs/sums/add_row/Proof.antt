@@ -26,17 +26,8 @@ loop-holds c = (omega arith, wraps-start _ (omega (arith, c)), omega arith, omeg
 mul-x : tie.Need-mul-x Inv-loop μ-loop
 mul-x c = record { fits = times8 (c .before .loop .i) (c .before .before .before .args .n) (c .loop-test .taken) (c .before .before .before .pre .1) }
 
-shared-slice-read-x : tie.Need-shared-slice-read-x Inv-loop μ-loop
-shared-slice-read-x c = omega arith
-
-wrapping-add-u64-requires : tie.Need-wrapping-add-u64-requires Inv-loop μ-loop
-wrapping-add-u64-requires c κs = search needs
-
 add-i : tie.Need-add-i Inv-loop μ-loop
 add-i c = record { fits = one-fits (c .before .before .before .loop .i) (c .before .before .before .before .before .args .n) (c .before .before .loop-test .taken) (c .before .before .before .before .before .pre .1) }
-
-loop-less : tie.Need-loop-less Inv-loop μ-loop
-loop-less c = omega arith
 
 loop-again : tie.Need-loop-again Inv-loop μ-loop
 loop-again c =
@@ -61,14 +52,4 @@ returns c =
 pub add-row-spec : {M : Type 1} → statement M
 add-row-spec =
     tie.close
-    (tie.spec
-    Inv-loop
-    μ-loop
-    loop-holds
-    mul-x
-    shared-slice-read-x
-    wrapping-add-u64-requires
-    add-i
-    loop-less
-    loop-again
-    returns)
+    (tie.spec Inv-loop μ-loop loop-holds mul-x (λ c. omega arith) (λ c κs. search needs) add-i (λ c. omega arith) loop-again returns)

@@ -47,15 +47,6 @@ low-is : (q : tie.After-is-finite) → q .is-finite .result ≡ finite (getD (ge
 unfolding headIn
 low-is q = q .is-finite .ensures ∙ ap (λ (h : Head). finite (h .min)) (head-is (q .before .before))
 
-mul-f : tie.Need-mul-f
-mul-f c = search needs
-
-shared-slice-copy-out-f : tie.Need-shared-slice-copy-out-f
-shared-slice-copy-out-f c = search needs
-
-can-read-requires : tie.Need-can-read-requires
-can-read-requires c κs = search needs
-
 returns : tie.Need-returns
 returns c =
     let s = start (c .before) in
@@ -63,47 +54,8 @@ returns c =
     unread (a .size) (a .top) (s .pre .0) (lent s) (a .x) (s .pre .1)
     (sym (reads-held true _ refl) ∙ sym (c .before .can-read .ensures) ∙ not-true (c .before .can-read .result) (c .if1 .taken))
 
-mul-head-of : tie.Need-mul-head-of
-mul-head-of c = search needs
-
-shared-slice-copy-out-head-of : tie.Need-shared-slice-copy-out-head-of
-shared-slice-copy-out-head-of c = search needs
-
 head-of-requires : tie.Need-head-of-requires
 head-of-requires c κs = reads-held true _ refl ∙ can (c .before)
-
-mul-a : tie.Need-mul-a
-mul-a c = search needs
-
-add-e : tie.Need-add-e
-add-e c = search needs
-
-mul-counts-agree : tie.Need-mul-counts-agree
-mul-counts-agree c = search needs
-
-sub-counts-agree : tie.Need-sub-counts-agree
-sub-counts-agree c = search needs
-
-part-counts-agree-start : tie.Need-part-counts-agree-start
-part-counts-agree-start c = search needs
-
-part-counts-agree-end : tie.Need-part-counts-agree-end
-part-counts-agree-end c = search needs
-
-mul-counts-agree-2 : tie.Need-mul-counts-agree-2
-mul-counts-agree-2 c = search needs
-
-sub-counts-agree-2 : tie.Need-sub-counts-agree-2
-sub-counts-agree-2 c = search needs
-
-part-counts-agree-start-2 : tie.Need-part-counts-agree-start-2
-part-counts-agree-start-2 c = search needs
-
-part-counts-agree-end-2 : tie.Need-part-counts-agree-end-2
-part-counts-agree-end-2 c = search needs
-
-counts-agree-requires : tie.Need-counts-agree-requires
-counts-agree-requires c κs = search needs
 
 returns-2 : tie.Need-returns-2
 returns-2 c =
@@ -112,18 +64,12 @@ returns-2 c =
     let a = s .args in
     uncounted (a .size) (a .top) (s .pre .0) (lent s) (a .x) (s .pre .1) (sym (counts-are k) ∙ not-true (k .counts-agree .result) (c .if2 .taken))
 
-is-finite-requires : tie.Need-is-finite-requires
-is-finite-requires c κs = search needs
-
 returns-3 : tie.Need-returns-3
 returns-3 c =
     let q = c .before in
     let s = start (at (q .before .before)) in
     let a = s .args in
     low-lost (a .size) (a .top) (s .pre .0) (lent s) (a .x) (s .pre .1) (sym (low-is q) ∙ not-true (q .is-finite .result) (c .if3 .taken))
-
-is-finite-requires-2 : tie.Need-is-finite-requires-2
-is-finite-requires-2 c κs = search needs
 
 returns-4 : tie.Need-returns-4
 unfolding headIn
@@ -141,27 +87,7 @@ returns-4 c =
 pub agrees-at-spec : {M : Type 1} → statement M
 agrees-at-spec =
     tie.close
-    (tie.spec
-    mul-f
-    shared-slice-copy-out-f
-    can-read-requires
-    returns
-    mul-head-of
-    shared-slice-copy-out-head-of
-    head-of-requires
-    mul-a
-    add-e
-    mul-counts-agree
-    sub-counts-agree
-    part-counts-agree-start
-    part-counts-agree-end
-    mul-counts-agree-2
-    sub-counts-agree-2
-    part-counts-agree-start-2
-    part-counts-agree-end-2
-    counts-agree-requires
-    returns-2
-    is-finite-requires
-    returns-3
-    is-finite-requires-2
-    returns-4)
+    (tie.spec (λ c. search needs) (λ c. search needs) (λ c κs. search needs) returns (λ c. search needs) (λ c. search needs)
+    head-of-requires (λ c. search needs) (λ c. search needs) (λ c. search needs) (λ c. search needs) (λ c. search needs) (λ c. search needs)
+    (λ c. search needs) (λ c. search needs) (λ c. search needs) (λ c. search needs) (λ c κs. search needs) returns-2 (λ c κs. search needs)
+    returns-3 (λ c κs. search needs) returns-4)

@@ -6,17 +6,8 @@ use Rattle.exponential_collection.proofs.Slots.{counted-held, counted-f
 use Rattle.exponential_collection.proofs.slot.counted.Statement.{statement}
 use Rattle.exponential_collection.proofs.slot.counted.Tie as tie
 
-add-t6 : tie.Need-add-t6
-add-t6 c = search needs
-
-array-read-t9 : tie.Need-array-read-t9
-array-read-t9 c = search needs
-
 add-t11 : tie.Need-add-t11
 add-t11 c = let t = c .before .before in omega (arith, t .before .pre .1 (t .if1 .taken) .0)
-
-array-read-t14 : tie.Need-array-read-t14
-array-read-t14 c = search needs
 
 add-t16 : tie.Need-add-t16
 add-t16 c = let t = c .before .before .before in omega (arith, t .before .pre .1 (t .if1 .taken) .1)
@@ -27,9 +18,6 @@ returns c =
     let a = t .before .args in
     counted-held (a .s) (a .updated) (getD (a .t3) 4 0) (getD (a .t3) 6 0) (t .if1 .taken)
 
-add-t17 : tie.Need-add-t17
-add-t17 c = search needs
-
 returns-2 : tie.Need-returns-2
 returns-2 c =
     let e = c .before in
@@ -39,4 +27,4 @@ returns-2 c =
 pub counted-spec : {M : Type 1} → statement M
 counted-spec =
     tie.close
-    (tie.spec add-t6 array-read-t9 add-t11 array-read-t14 add-t16 returns add-t17 returns-2)
+    (tie.spec (λ c. search needs) (λ c. search needs) add-t11 (λ c. search needs) add-t16 returns (λ c. search needs) returns-2)

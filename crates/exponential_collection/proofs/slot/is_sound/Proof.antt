@@ -5,9 +5,6 @@ use Rattle.exponential_collection.proofs.Slots.{sound-held, sound-fresh
 use Rattle.exponential_collection.proofs.slot.is_sound.Statement.{statement}
 use Rattle.exponential_collection.proofs.slot.is_sound.Tie as tie
 
-agrees-at-requires : tie.Need-agrees-at-requires
-agrees-at-requires c κs = search needs
-
 returns : tie.Need-returns
 returns c = c .agrees-at .ensures ∙ sound-held (c .before .before .before .before .args .updated) _ (c .before .if1 .taken)
 
@@ -15,4 +12,4 @@ returns-2 : tie.Need-returns-2
 returns-2 c = sound-fresh (c .before .before .before .args .updated) _ (c .if1 .left)
 
 pub is-sound-spec : {M : Type 1} → statement M
-is-sound-spec = tie.close (tie.spec agrees-at-requires returns returns-2)
+is-sound-spec = tie.close (tie.spec (λ c κs. search needs) returns returns-2)

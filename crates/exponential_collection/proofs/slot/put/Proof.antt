@@ -31,26 +31,11 @@ returns c =
     let a = s .args in
     put-not (a .size) (a .top) (s .pre .0 .set) (lent s) (a .x) (s .pre .0 .room) (a .updated) (a .due) (a .show, a .sums) (a .row) (a .at) (out s) (not-true (a .due) (c .if1 .taken))
 
-mul-head-of : tie.Need-mul-head-of
-mul-head-of c = search needs
-
-shared-slice-copy-out-head-of : tie.Need-shared-slice-copy-out-head-of
-shared-slice-copy-out-head-of c = search needs
-
-mul-head-of-2 : tie.Need-mul-head-of-2
-mul-head-of-2 c = search needs
-
-shared-slice-copy-out-head-of-2 : tie.Need-shared-slice-copy-out-head-of-2
-shared-slice-copy-out-head-of-2 c = search needs
-
 head-of-requires : tie.Need-head-of-requires
 head-of-requires c κs =
     let s = c .before .before .before .before .before .before .before in
     let a = s .args in
     can-be-read (a .size) (a .top) (s .pre .0 .set) (lent s) (a .x) (s .pre .0 .room) (a .updated) (s .pre .0 .agrees)
-
-exponential-point-requires : tie.Need-exponential-point-requires
-exponential-point-requires c κs = search needs
 
 mul-a : tie.Need-mul-a
 mul-a c = let s = start c in omega (arith, s .pre .0 .room .pos, s .pre .0 .room .neg, s .good .1 .1 .1 .1 .1 .1 .1 .1 .1 .1 .1 .0 .1, s .good .1 .1 .1 .1 .1 .1 .1 .1 .1 .1 .1 .1 .0 .1)
@@ -61,26 +46,8 @@ add-e c = let s = start c in omega (arith, s .pre .0 .room .pos, s .pre .0 .room
 mul-put : tie.Need-mul-put
 mul-put c = let s = start c in omega (arith, s .pre .0 .room .pos, s .pre .0 .room .neg, s .good .1 .1 .1 .1 .1 .1 .1 .1 .1 .1 .1 .0 .1, s .good .1 .1 .1 .1 .1 .1 .1 .1 .1 .1 .1 .1 .0 .1)
 
-sub-put : tie.Need-sub-put
-sub-put c = search needs
-
-part-put-start : tie.Need-part-put-start
-part-put-start c = search needs
-
-part-put-end : tie.Need-part-put-end
-part-put-end c = search needs
-
 mul-put-2 : tie.Need-mul-put-2
 mul-put-2 c = let s = start (c .before) in omega (arith, s .pre .0 .room .pos, s .pre .0 .room .neg, s .good .1 .1 .1 .1 .1 .1 .1 .1 .1 .1 .1 .0 .1, s .good .1 .1 .1 .1 .1 .1 .1 .1 .1 .1 .1 .1 .0 .1)
-
-sub-put-2 : tie.Need-sub-put-2
-sub-put-2 c = search needs
-
-part-put-start-2 : tie.Need-part-put-start-2
-part-put-start-2 c = search needs
-
-part-put-end-2 : tie.Need-part-put-end-2
-part-put-end-2 c = search needs
 
 put-requires : tie.Need-put-requires
 put-requires c κs =
@@ -89,18 +56,6 @@ put-requires c κs =
     let a = s .args in
     put-room (a .size) (a .top) (s .pre .0 .set) (lent s) (a .x) (s .pre .0 .room) (a .updated) (a .due) (a .show, a .sums) (a .row) (a .at) (out s) (s .pre .0 .agrees)
     (p .exponential-point .result) (point-is p) (s .pre .1 (not-false (a .due) (p .before .before .before .before .if1 .left)))
-
-same-length : tie.Need-same-length
-same-length c = search needs
-
-same-length-2 : tie.Need-same-length-2
-same-length-2 c = search needs
-
-same-length-3 : tie.Need-same-length-3
-same-length-3 c = search needs
-
-same-length-4 : tie.Need-same-length-4
-same-length-4 c = search needs
 
 returns-2 : tie.Need-returns-2
 returns-2 c =
@@ -115,27 +70,7 @@ returns-2 c =
 pub put-spec : {M : Type 1} → statement M
 put-spec =
     tie.close
-    (tie.spec
-    returns
-    mul-head-of
-    shared-slice-copy-out-head-of
-    mul-head-of-2
-    shared-slice-copy-out-head-of-2
-    head-of-requires
-    exponential-point-requires
-    mul-a
-    add-e
-    mul-put
-    sub-put
-    part-put-start
-    part-put-end
-    mul-put-2
-    sub-put-2
-    part-put-start-2
-    part-put-end-2
-    put-requires
-    same-length
-    same-length-2
-    same-length-3
-    same-length-4
+    (tie.spec returns (λ c. search needs) (λ c. search needs) (λ c. search needs) (λ c. search needs) head-of-requires
+    (λ c κs. search needs) mul-a add-e mul-put (λ c. search needs) (λ c. search needs) (λ c. search needs) mul-put-2 (λ c. search needs)
+    (λ c. search needs) (λ c. search needs) put-requires (λ c. search needs) (λ c. search needs) (λ c. search needs) (λ c. search needs)
     returns-2)

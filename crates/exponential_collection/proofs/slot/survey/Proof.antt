@@ -21,9 +21,6 @@ sound : (e : tie.Else1) → (not (start (e .before) .args .updated)
     || agreesAt (start (e .before) .args .size) (start (e .before) .args .top) (start (e .before) .pre .0 .0) (lent (start (e .before))) (start (e .before) .args .x) (start (e .before) .pre .0 .1)) ≡ true
 sound e = sym (e .before .is-sound .ensures) ∙ not-false (e .before .is-sound .result) (e .if1 .left)
 
-is-sound-requires : tie.Need-is-sound-requires
-is-sound-requires c κs = search needs
-
 returns : tie.Need-returns
 returns c =
     let s = start (c .before) in
@@ -41,12 +38,6 @@ returns-2 c =
       survey-same (a .size) (a .top) (s .pre .0 .0) (lent s) (a .x) (s .pre .0 .1) (a .updated) (a .due) (a .s) (sound e) (not-true (a .due) (c .if2 .taken)),
       search needs,
     )
-
-mul-counted : tie.Need-mul-counted
-mul-counted c = search needs
-
-shared-slice-copy-out-counted : tie.Need-shared-slice-copy-out-counted
-shared-slice-copy-out-counted c = search needs
 
 counted-requires : tie.Need-counted-requires
 counted-requires c κs =
@@ -73,11 +64,4 @@ returns-3 c =
 pub survey-spec : {M : Type 1} → statement M
 survey-spec =
     tie.close
-    (tie.spec
-    is-sound-requires
-    returns
-    returns-2
-    mul-counted
-    shared-slice-copy-out-counted
-    counted-requires
-    returns-3)
+    (tie.spec (λ c κs. search needs) returns returns-2 (λ c. search needs) (λ c. search needs) counted-requires returns-3)

@@ -74,9 +74,6 @@ slot-at-requires c κs = omega (arith, c .loop-test .taken, start c .pre .walk .
 is-updated-requires : tie.Need-is-updated-requires Inv-loop μ-loop
 is-updated-requires c κs = start (c .before) .pre .walk .entries (c .slot-at .result) (in-use c)
 
-is-due-requires : tie.Need-is-due-requires Inv-loop μ-loop
-is-due-requires c κs = search needs
-
 row-at-requires : tie.Need-row-at-requires Inv-loop μ-loop
 row-at-requires c κs = start (c .before .before .before) .pre .sets (c .before .before .slot-at .result) (in-use (c .before .before))
 
@@ -147,20 +144,5 @@ returns c =
 pub list-spec : {M : Type 1} → statement M
 list-spec =
     tie.close
-    (tie.spec
-    Inv-loop
-    μ-loop
-    loop-holds
-    slot-at-requires
-    is-updated-requires
-    is-due-requires
-    row-at-requires
-    put-requires
-    add-i
-    loop-less
-    loop-again
-    same-length
-    same-length-2
-    same-length-3
-    same-length-4
-    returns)
+    (tie.spec Inv-loop μ-loop loop-holds slot-at-requires is-updated-requires (λ c κs. search needs) row-at-requires put-requires add-i
+    loop-less loop-again same-length same-length-2 same-length-3 same-length-4 returns)

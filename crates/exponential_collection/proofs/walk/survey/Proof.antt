@@ -64,9 +64,6 @@ slot-at-requires c κs = omega (arith, c .loop-test .taken, start c .pre .order)
 is-updated-requires : tie.Need-is-updated-requires Inv-loop μ-loop
 is-updated-requires c κs = start (c .before) .pre .entries (c .slot-at .result) (in-use c)
 
-is-due-requires : tie.Need-is-due-requires Inv-loop μ-loop
-is-due-requires c κs = search needs
-
 survey-requires : tie.Need-survey-requires Inv-loop μ-loop
 survey-requires c κs =
     let t = turn c in
@@ -120,16 +117,5 @@ returns-2 c =
 pub survey-spec : {M : Type 1} → statement M
 survey-spec =
     tie.close
-    (tie.spec
-    Inv-loop
-    μ-loop
-    loop-holds
-    slot-at-requires
-    is-updated-requires
-    is-due-requires
-    survey-requires
-    returns
-    add-i
-    loop-less
-    loop-again
-    returns-2)
+    (tie.spec Inv-loop μ-loop loop-holds slot-at-requires is-updated-requires (λ c κs. search needs) survey-requires returns add-i loop-less
+    loop-again returns-2)

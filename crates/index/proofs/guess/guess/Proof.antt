@@ -12,12 +12,6 @@ use Rattle.index.proofs.guess.guess.Tie as tie
 term : (r f : ℕ) → r % 4294967296 * (f % 4294967296) ≤ 18446744065119617025
 term r f = mul-le-mul {n₁ = r % 4294967296} {m₁ = f % 4294967296} {n₂ = 4294967295} {m₂ = 4294967295} (omega arith) (omega arith)
 
-sub-above : tie.Need-sub-above
-sub-above c = search needs
-
-piece-requires : tie.Need-piece-requires
-piece-requires c κs = search needs
-
 mul-result : tie.Need-mul-result
 mul-result c = omega (arith, term (c .piece .result) ((c .before .args .m - 4503599627370496) / 16384))
 
@@ -30,4 +24,4 @@ returns c =
     subst (Near (st .args .m)) (as-guessed (st .args .m) (c .piece .result) (st .pre .1) (c .piece .ensures)) (near (st .args .m) (st .pre .0) (st .pre .1))
 
 pub guess-spec : {M : Type 1} → statement M
-guess-spec = tie.close (tie.spec sub-above piece-requires mul-result add-result returns)
+guess-spec = tie.close (tie.spec (λ c. search needs) (λ c κs. search needs) mul-result add-result returns)

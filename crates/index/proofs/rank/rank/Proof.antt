@@ -5,9 +5,6 @@ use Rattle.index.proofs.Ranks.{ranked-up, ranked-down}
 use Rattle.index.proofs.rank.rank.Statement.{statement}
 use Rattle.index.proofs.rank.rank.Tie as tie
 
-guess-requires : tie.Need-guess-requires
-guess-requires c κs = search needs
-
 bound-requires : tie.Need-bound-requires
 bound-requires c κs = c .guess .ensures .small
 
@@ -33,4 +30,4 @@ returns-2 c =
     }
 
 pub rank-spec : {M : Type 1} → statement M
-rank-spec = tie.close (tie.spec guess-requires bound-requires add-result returns returns-2)
+rank-spec = tie.close (tie.spec (λ c κs. search needs) bound-requires add-result returns returns-2)

@@ -81,9 +81,6 @@ module _ (c : tie.Else2) where
 returns : tie.Need-returns
 returns c = sym (bin-none (c .before .args .level) (c .before .args .index) (omega arith))
 
-shl-if2 : tie.Need-shl-if2
-shl-if2 c = search needs
-
 cast-if2 : tie.Need-cast-if2
 cast-if2 c = record { sfits = one-lt (c .before .args .level) (held c) }
 
@@ -91,9 +88,6 @@ returns-2 : tie.Need-returns-2
 returns-2 c =
     let s = c .before .before in
     sym (bin-high (s .args .level) (s .args .index) (held (c .before)) (tested (c .before) true (c .if2 .taken)))
-
-shl-bin : tie.Need-shl-bin
-shl-bin c = search needs
 
 cast-bin : tie.Need-cast-bin
 cast-bin c = record { sfits = two-lt (c .before .before .args .level) (held (c .before)) }
@@ -123,14 +117,4 @@ returns-4 c =
 pub bin-of-spec : {M : Type 1} → statement M
 bin-of-spec =
     tie.close
-    (tie.spec
-    returns
-    shl-if2
-    cast-if2
-    returns-2
-    shl-bin
-    cast-bin
-    add-bin
-    returns-3
-    cast-t5
-    returns-4)
+    (tie.spec returns (λ c. search needs) cast-if2 returns-2 (λ c. search needs) cast-bin add-bin returns-3 cast-t5 returns-4)

@@ -17,21 +17,6 @@ held s = subst T (sym (s .good .0 .1)) tt
 told : (c : tie.After-level-of) → levelAnswer (c .before .args .scale) ≡ c .level-of .result
 told c = ap levelAnswer (sym (toZ-ofZ w32 (c .before .args .scale) (c .before .fits .scale))) ∙ sym (c .level-of .ensures)
 
-level-of-requires : tie.Need-level-of-requires
-level-of-requires c κs = search needs
-
-enum-told : tie.Need-enum-told
-enum-told c = search needs
-
-enum-known-found : tie.Need-enum-known-found
-enum-known-found c = search needs
-
-get-bin-requires : tie.Need-get-bin-requires
-get-bin-requires c κs = search needs
-
-signed-bin-requires : tie.Need-signed-bin-requires
-signed-bin-requires c κs = search needs
-
 returns : tie.Need-returns
 returns c =
     let s = c .before .before .before in
@@ -49,11 +34,5 @@ returns-2 c =
 pub get-index-spec : {M : Type 1} → statement M
 get-index-spec =
     tie.close
-    (tie.spec
-    level-of-requires
-    enum-told
-    enum-known-found
-    get-bin-requires
-    signed-bin-requires
-    returns
+    (tie.spec (λ c κs. search needs) (λ c. search needs) (λ c. search needs) (λ c κs. search needs) (λ c κs. search needs) returns
     returns-2)

@@ -34,9 +34,6 @@ bias-lt level h = subst (λ (n : ℕ). n < 2147483648) (sym (doubled level h)) (
 returns : tie.Need-returns
 returns c = sym (index-none (c .before .args .level) (c .before .args .bin) (omega arith))
 
-shl-if2 : tie.Need-shl-if2
-shl-if2 c = search needs
-
 returns-2 : tie.Need-returns-2
 returns-2 c =
     let s = c .before .before in
@@ -44,9 +41,6 @@ returns-2 c =
 
 cast-t5 : tie.Need-cast-t5
 cast-t5 c = record { sfits = bin-small c }
-
-shl-t4 : tie.Need-shl-t4
-shl-t4 c = search needs
 
 cast-t6 : tie.Need-cast-t6
 cast-t6 c = record { sfits = bias-lt (c .before .before .args .level) (held (c .before)) }
@@ -64,4 +58,4 @@ returns-3 c =
 
 pub index-of-spec : {M : Type 1} → statement M
 index-of-spec =
-    tie.close (tie.spec returns shl-if2 returns-2 cast-t5 shl-t4 cast-t6 sub-t7 returns-3)
+    tie.close (tie.spec returns (λ c. search needs) returns-2 cast-t5 (λ c. search needs) cast-t6 sub-t7 returns-3)

@@ -16,9 +16,6 @@ small c = omega arith
 returns : tie.Need-returns
 returns c = sym (scale-none (c .before .args .level) (omega arith))
 
-cast-t3 : tie.Need-cast-t3
-cast-t3 c = search needs
-
 sub-t4 : tie.Need-sub-t4
 sub-t4 c = difference-fits (c .before .args .level) 10 (small c) (lit< tt)
 
@@ -26,4 +23,4 @@ returns-2 : tie.Need-returns-2
 returns-2 c = ap I.Is (difference-is (c .before .args .level) 10 (small c) (lit< tt)) ∙ sym (scale-is (c .before .args .level) (omega arith))
 
 pub scale-of-spec : {M : Type 1} → statement M
-scale-of-spec = tie.close (tie.spec returns cast-t3 sub-t4 returns-2)
+scale-of-spec = tie.close (tie.spec returns (λ c. search needs) sub-t4 returns-2)

@@ -9,15 +9,6 @@ use borrow.Author.Needs.{needs}
 use Rattle.index.proofs.signed.signed_at.Statement.{statement}
 use Rattle.index.proofs.signed.signed_at.Tie as tie
 
-enum-told : tie.Need-enum-told
-enum-told c = search needs
-
-enum-known-found : tie.Need-enum-known-found
-enum-known-found c = search needs
-
-returns : tie.Need-returns
-returns c = search needs
-
 returns-2 : tie.Need-returns-2
 returns-2 c =
     let k = c .before in
@@ -26,4 +17,4 @@ returns-2 c =
     ap (X.At n) (toZ-ofZ w32 (k .found .given .0 .0) f) ∙ sym (ap (signedAt n) (k .found .given .1))
 
 pub signed-at-spec : {M : Type 1} → statement M
-signed-at-spec = tie.close (tie.spec enum-told enum-known-found returns returns-2)
+signed-at-spec = tie.close (tie.spec (λ c. search needs) (λ c. search needs) (λ c. search needs) returns-2)

@@ -9,22 +9,13 @@ use Rattle.listing.specs.Words.{boundsIn}
 use Rattle.listing.proofs.decode.bounds_of.Statement.{statement}
 use Rattle.listing.proofs.decode.bounds_of.Tie as tie
 
-array-read-if1 : tie.Need-array-read-if1
-array-read-if1 c = search needs
-
 returns : tie.Need-returns
 unfolding boundsIn
 returns c = let w = c .before .args .t1 in sym (pick-true (eqb (getD w 0 0) 0) _ _ (eq-eqb (getD w 0 0) 0 (c .if1 .taken)))
-
-array-read-t5 : tie.Need-array-read-t5
-array-read-t5 c = search needs
-
-array-read-t12 : tie.Need-array-read-t12
-array-read-t12 c = search needs
 
 returns-2 : tie.Need-returns-2
 unfolding boundsIn
 returns-2 c = let w = c .before .args .t1 in sym (pick-false (eqb (getD w 0 0) 0) _ _ (ne-eqb (getD w 0 0) 0 (c .if1 .left)))
 
 pub bounds-of-spec : {M : Type 1} → statement M
-bounds-of-spec = tie.close (tie.spec array-read-if1 returns array-read-t5 array-read-t12 returns-2)
+bounds-of-spec = tie.close (tie.spec (λ c. search needs) returns (λ c. search needs) (λ c. search needs) returns-2)

@@ -8,9 +8,6 @@ use Rattle.listing.specs.Words.{extremeIn}
 use Rattle.listing.proofs.decode.extreme_of.Statement.{statement}
 use Rattle.listing.proofs.decode.extreme_of.Tie as tie
 
-of-bits-requires : tie.Need-of-bits-requires
-of-bits-requires c κs = search needs
-
 returns : tie.Need-returns
 unfolding extremeIn pick
 returns c = ap Value (c .of-bits .ensures) ∙ sym (ap (λ (b : Bool). extremeIn b (c .before .before .args .bits)) (c .before .if1 .taken))
@@ -20,4 +17,4 @@ unfolding extremeIn pick
 returns-2 c = sym (ap (λ (b : Bool). extremeIn b (c .before .args .bits)) (c .if1 .left))
 
 pub extreme-of-spec : {M : Type 1} → statement M
-extreme-of-spec = tie.close (tie.spec of-bits-requires returns returns-2)
+extreme-of-spec = tie.close (tie.spec (λ c κs. search needs) returns returns-2)

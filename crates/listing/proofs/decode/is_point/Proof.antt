@@ -10,18 +10,6 @@ use Rattle.listing.specs.Words.{wordsOf, isPoint}
 use Rattle.listing.proofs.decode.is_point.Statement.{statement}
 use Rattle.listing.proofs.decode.is_point.Tie as tie
 
-point-of-requires : tie.Need-point-of-requires
-point-of-requires c κs = search needs
-
-bounds-of-requires : tie.Need-bounds-of-requires
-bounds-of-requires c κs = search needs
-
-words-of-requires : tie.Need-words-of-requires
-words-of-requires c κs = search needs
-
-same-requires : tie.Need-same-requires
-same-requires c κs = search needs
-
 returns : tie.Need-returns
 unfolding isPoint
 returns c =
@@ -33,4 +21,4 @@ returns c =
 pub is-point-spec : {M : Type 1} → statement M
 is-point-spec =
     tie.close
-    (tie.spec point-of-requires bounds-of-requires words-of-requires same-requires returns)
+    (tie.spec (λ c κs. search needs) (λ c κs. search needs) (λ c κs. search needs) (λ c κs. search needs) returns)

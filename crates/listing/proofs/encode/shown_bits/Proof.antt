@@ -5,20 +5,8 @@ use Rattle.listing.specs.Words.{shownBits}
 use Rattle.listing.proofs.encode.shown_bits.Statement.{statement}
 use Rattle.listing.proofs.encode.shown_bits.Tie as tie
 
-enum-told : tie.Need-enum-told
-enum-told c = search needs
-
-enum-known-x : tie.Need-enum-known-x
-enum-known-x c = search needs
-
-bits-of-requires : tie.Need-bits-of-requires
-bits-of-requires c κs = search needs
-
-returns : tie.Need-returns
-returns c = search needs
-
 returns-2 : tie.Need-returns-2
 returns-2 c = c .bits-of .ensures ∙ sym (ap shownBits (c .before .before .x .given .1))
 
 pub shown-bits-spec : {M : Type 1} → statement M
-shown-bits-spec = tie.close (tie.spec enum-told enum-known-x bits-of-requires returns returns-2)
+shown-bits-spec = tie.close (tie.spec (λ c. search needs) (λ c. search needs) (λ c κs. search needs) (λ c. search needs) returns-2)

@@ -4,21 +4,6 @@ use borrow.Author.Needs.{needs}
 use Rattle.listing.proofs.put.cursor_behind.Statement.{statement}
 use Rattle.listing.proofs.put.cursor_behind.Tie as tie
 
-pos-len-requires : tie.Need-pos-len-requires
-pos-len-requires c κs = search needs
-
-neg-len-requires : tie.Need-neg-len-requires
-neg-len-requires c κs = search needs
-
-add-t6 : tie.Need-add-t6
-add-t6 c = search needs
-
-add-t7 : tie.Need-add-t7
-add-t7 c = search needs
-
-add-t8 : tie.Need-add-t8
-add-t8 c = search needs
-
 returns : tie.Need-returns
 returns c =
     let n = c .before .before .before in
@@ -30,4 +15,4 @@ returns c =
 
 pub cursor-behind-spec : {M : Type 1} → statement M
 cursor-behind-spec =
-    tie.close (tie.spec pos-len-requires neg-len-requires add-t6 add-t7 add-t8 returns)
+    tie.close (tie.spec (λ c κs. search needs) (λ c κs. search needs) (λ c. search needs) (λ c. search needs) (λ c. search needs) returns)

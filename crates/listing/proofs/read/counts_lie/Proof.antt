@@ -10,12 +10,6 @@ use Rattle.listing.proofs.Cases.{within-no, within-then}
 use Rattle.listing.proofs.read.counts_lie.Statement.{statement}
 use Rattle.listing.proofs.read.counts_lie.Tie as tie
 
-enum-known-f : tie.Need-enum-known-f
-enum-known-f c = search needs
-
-lie-requires : tie.Need-lie-requires
-lie-requires c κs = search needs
-
 returns : tie.Need-returns
 returns c =
     let q = c .before in
@@ -23,24 +17,12 @@ returns c =
     let s = a .before .before in
     within-no (s .args .at) (s .args .f) (s .args .b) (s .args .pos) (s .args .neg) (ap (λ (g : Figures). leb (s .args .at .pos + posLen g (s .args .b)) (s .args .pos)) (a .f .given .1) ∙ sym (q .lie .ensures) ∙ not-true (q .lie .result) (c .if1 .taken))
 
-lie-requires-2 : tie.Need-lie-requires-2
-lie-requires-2 c κs = search needs
-
-enum-known-f-2 : tie.Need-enum-known-f-2
-enum-known-f-2 c = search needs
-
-buckets-lie-requires : tie.Need-buckets-lie-requires
-buckets-lie-requires c κs = search needs
-
 returns-2 : tie.Need-returns-2
 returns-2 c =
     let q = c .before in
     let a = q .before .before in
     let s = a .before .before in
     within-no (s .args .at) (s .args .f) (s .args .b) (s .args .pos) (s .args .neg) (ap (λ (g : Figures). leb (s .args .at .pos + posLen g (s .args .b)) (s .args .pos)) (a .f2 .given .1) ∙ sym (q .buckets-lie .ensures) ∙ not-true (q .buckets-lie .result) (c .if2 .taken))
-
-lie-requires-3 : tie.Need-lie-requires-3
-lie-requires-3 c κs = search needs
 
 returns-3 : tie.Need-returns-3
 returns-3 c =
@@ -65,14 +47,5 @@ returns-4 c =
 pub counts-lie-spec : {M : Type 1} → statement M
 counts-lie-spec =
     tie.close
-    (tie.spec
-    enum-known-f
-    lie-requires
-    returns
-    lie-requires-2
-    enum-known-f-2
-    buckets-lie-requires
-    returns-2
-    lie-requires-3
-    returns-3
-    returns-4)
+    (tie.spec (λ c. search needs) (λ c κs. search needs) returns (λ c κs. search needs) (λ c. search needs) (λ c κs. search needs) returns-2
+    (λ c κs. search needs) returns-3 returns-4)

@@ -7,23 +7,11 @@ use Rattle.listing.proofs.Calls.{within-says, entry-no, entry-out, entr
 use Rattle.listing.proofs.read.entry_in.Statement.{statement}
 use Rattle.listing.proofs.read.entry_in.Tie as tie
 
-is-point-requires : tie.Need-is-point-requires
-is-point-requires c κs = search needs
-
 returns : tie.Need-returns
 returns c =
     let ip = c .before in
     let s = ip .before in
     entry-no (s .args .at) (s .args .w) (s .args .pos) (s .args .neg) (sym (ip .is-point .ensures) ∙ not-true (ip .is-point .result) (c .if1 .taken))
-
-point-of-requires : tie.Need-point-of-requires
-point-of-requires c κs = search needs
-
-bounds-of-requires : tie.Need-bounds-of-requires
-bounds-of-requires c κs = search needs
-
-counts-lie-requires : tie.Need-counts-lie-requires
-counts-lie-requires c κs = search needs
 
 returns-2 : tie.Need-returns-2
 returns-2 c =
@@ -58,4 +46,4 @@ returns-3 c =
     (sym (q .counts-lie .ensures) ∙ not-false (q .counts-lie .result) (e2 .if2 .left)) (c .cursor-behind .result) (c .cursor-behind .ensures)
 
 pub entry-in-spec : {M : Type 1} → statement M
-entry-in-spec = tie.close (tie.spec is-point-requires returns point-of-requires bounds-of-requires counts-lie-requires returns-2 cursor-behind-requires returns-3)
+entry-in-spec = tie.close (tie.spec (λ c κs. search needs) returns (λ c κs. search needs) (λ c κs. search needs) (λ c κs. search needs) returns-2 cursor-behind-requires returns-3)

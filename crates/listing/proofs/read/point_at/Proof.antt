@@ -12,15 +12,6 @@ returns c =
     let a = c .before .before .before .args in
     nothing-there (a .at) (a .words .now) (length (a .pos .now)) (length (a .neg .now)) (c .if1 .taken)
 
-mul-entry-in : tie.Need-mul-entry-in
-mul-entry-in c = search needs
-
-shared-slice-copy-out-entry-in : tie.Need-shared-slice-copy-out-entry-in
-shared-slice-copy-out-entry-in c = search needs
-
-entry-in-requires : tie.Need-entry-in-requires
-entry-in-requires c κs = search needs
-
 returns-2 : tie.Need-returns-2
 returns-2 c =
     let e = c .before .before in
@@ -30,4 +21,4 @@ returns-2 c =
 pub point-at-spec : {M : Type 1} → statement M
 point-at-spec =
     tie.close
-    (tie.spec returns mul-entry-in shared-slice-copy-out-entry-in entry-in-requires returns-2)
+    (tie.spec returns (λ c. search needs) (λ c. search needs) (λ c κs. search needs) returns-2)

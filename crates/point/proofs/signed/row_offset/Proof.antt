@@ -10,13 +10,10 @@ returns c =
     let a = c .before .before .args in
     sym (offset-empty (a .level) (a .row) (c .if1 .taken))
 
-index-of-requires : tie.Need-index-of-requires
-index-of-requires c κs = search needs
-
 returns-2 : tie.Need-returns-2
 returns-2 c =
     let a = c .before .before .before .args in
     c .index-of .ensures ∙ sym (offset-there (a .level) (a .row) (c .before .if1 .left))
 
 pub row-offset-spec : {M : Type 1} → statement M
-row-offset-spec = tie.close (tie.spec returns index-of-requires returns-2)
+row-offset-spec = tie.close (tie.spec returns (λ c κs. search needs) returns-2)

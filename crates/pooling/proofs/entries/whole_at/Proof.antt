@@ -6,12 +6,6 @@ use borrow.Author.Needs.{needs}
 use Rattle.pooling.proofs.entries.whole_at.Statement.{statement}
 use Rattle.pooling.proofs.entries.whole_at.Tie as tie
 
-point-at-requires : tie.Need-point-at-requires
-point-at-requires c κs = search needs
-
-bounded-by-requires : tie.Need-bounded-by-requires
-bounded-by-requires c κs = search needs
-
 returns : tie.Need-returns
 returns c =
     let p = c .before in
@@ -19,4 +13,4 @@ returns c =
     c .bounded-by .ensures ∙ ap (bounded (length (a .bounds .now))) (p .point-at .ensures)
 
 pub whole-at-spec : {M : Type 1} → statement M
-whole-at-spec = tie.close (tie.spec point-at-requires bounded-by-requires returns)
+whole-at-spec = tie.close (tie.spec (λ c κs. search needs) (λ c κs. search needs) returns)

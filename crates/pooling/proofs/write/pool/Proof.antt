@@ -49,15 +49,6 @@ neg-in w =
     let s = start w in
     start-le (w .before .before .has-place .result) (s .args .at .neg) (length (s .args .neg .now)) (w .start-of2 .result) (λ t. place w t .3) (w .start-of2 .ensures)
 
-has-place-requires : tie.Need-has-place-requires
-has-place-requires c κs = search needs
-
-start-of-requires : tie.Need-start-of-requires
-start-of-requires c κs = search needs
-
-start-of-requires-2 : tie.Need-start-of-requires-2
-start-of-requires-2 c κs = search needs
-
 mul-merge-entries : tie.Need-mul-merge-entries
 mul-merge-entries c = omega (arith, pos-in c, start c .good .1 .1 .1 .1 .1 .1 .1 .1 .1 .1 .1 .1 .1 .1 .1 .0 .1)
 
@@ -67,9 +58,6 @@ sub-merge-entries c = pos-in c
 part-merge-entries-start : tie.Need-part-merge-entries-start
 part-merge-entries-start c = pos-in c
 
-part-merge-entries-end : tie.Need-part-merge-entries-end
-part-merge-entries-end c = search needs
-
 mul-merge-entries-2 : tie.Need-mul-merge-entries-2
 mul-merge-entries-2 c = omega (arith, neg-in (c .before), start (c .before) .good .1 .1 .1 .1 .1 .1 .1 .1 .1 .1 .1 .1 .1 .1 .1 .1 .0 .1)
 
@@ -78,24 +66,6 @@ sub-merge-entries-2 c = neg-in (c .before)
 
 part-merge-entries-start-2 : tie.Need-part-merge-entries-start-2
 part-merge-entries-start-2 c = neg-in (c .before)
-
-part-merge-entries-end-2 : tie.Need-part-merge-entries-end-2
-part-merge-entries-end-2 c = search needs
-
-merge-entries-requires : tie.Need-merge-entries-requires
-merge-entries-requires c κs = search needs
-
-enum-known-r : tie.Need-enum-known-r
-enum-known-r c = search needs
-
-enum-known-r-2 : tie.Need-enum-known-r-2
-enum-known-r-2 c = search needs
-
-same-length : tie.Need-same-length
-same-length c = search needs
-
-same-length-2 : tie.Need-same-length-2
-same-length-2 c = search needs
 
 returns : tie.Need-returns
 returns c =
@@ -139,20 +109,11 @@ mul-row c = omega (arith, place (known c) (there c) .0, start (known c) .good .1
 slice-set-from-row : tie.Need-slice-set-from-row
 slice-set-from-row c = place (known c) (there c) .0
 
-words-of-requires : tie.Need-words-of-requires
-words-of-requires c κs = search needs
-
 mul-t40 : tie.Need-mul-t40
 mul-t40 c = omega (arith, place (known (c .before)) (there (c .before)) .1, start (known (c .before)) .good .1 .1 .1 .1 .1 .1 .1 .1 .1 .1 .1 .1 .1 .1 .0 .1)
 
 slice-set-from-words : tie.Need-slice-set-from-words
 slice-set-from-words c = place (known (c .before)) (there (c .before)) .1
-
-same-length-3 : tie.Need-same-length-3
-same-length-3 c = search needs
-
-same-length-4 : tie.Need-same-length-4
-same-length-4 c = search needs
 
 returns-2 : tie.Need-returns-2
 returns-2 c =
@@ -166,18 +127,6 @@ returns-2 c =
     refused-law (s .args .size) (first s) (second s) (s .args .at) (s .args .row) (s .args .e .bounds) (long s) (lent s) (w .before .start-of .result) (w .start-of2 .result)
     (h .has-place .result) (h .has-place .ensures) (w .before .start-of .ensures) (w .start-of2 .ensures) us vs (r .r .given .0 .0)
     (ap (λ (k : Answer). ended (said k) (first s .bounds) us vs) (sym (r .r .given .1)) ∙ m .merge-entries .ensures)
-
-same-length-5 : tie.Need-same-length-5
-same-length-5 c = search needs
-
-same-length-6 : tie.Need-same-length-6
-same-length-6 c = search needs
-
-same-length-7 : tie.Need-same-length-7
-same-length-7 c = search needs
-
-same-length-8 : tie.Need-same-length-8
-same-length-8 c = search needs
 
 returns-3 : tie.Need-returns-3
 returns-3 c =
@@ -197,35 +146,8 @@ returns-3 c =
 pub pool-spec : {M : Type 1} → statement M
 pool-spec =
     tie.close
-    (tie.spec
-    has-place-requires
-    start-of-requires
-    start-of-requires-2
-    mul-merge-entries
-    sub-merge-entries
-    part-merge-entries-start
-    part-merge-entries-end
-    mul-merge-entries-2
-    sub-merge-entries-2
-    part-merge-entries-start-2
-    part-merge-entries-end-2
-    merge-entries-requires
-    enum-known-r
-    enum-known-r-2
-    same-length
-    same-length-2
-    returns
-    cursor-behind-requires
-    mul-row
-    slice-set-from-row
-    words-of-requires
-    mul-t40
-    slice-set-from-words
-    same-length-3
-    same-length-4
-    returns-2
-    same-length-5
-    same-length-6
-    same-length-7
-    same-length-8
-    returns-3)
+    (tie.spec (λ c κs. search needs) (λ c κs. search needs) (λ c κs. search needs) mul-merge-entries sub-merge-entries
+    part-merge-entries-start (λ c. search needs) mul-merge-entries-2 sub-merge-entries-2 part-merge-entries-start-2 (λ c. search needs)
+    (λ c κs. search needs) (λ c. search needs) (λ c. search needs) (λ c. search needs) (λ c. search needs) returns cursor-behind-requires
+    mul-row slice-set-from-row (λ c κs. search needs) mul-t40 slice-set-from-words (λ c. search needs) (λ c. search needs) returns-2
+    (λ c. search needs) (λ c. search needs) (λ c. search needs) (λ c. search needs) returns-3)

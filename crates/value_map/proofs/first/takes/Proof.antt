@@ -15,11 +15,8 @@ with-true : (a b : Bool) → b ≡ true → a ≡ (a && b)
 with-true true b e = sym e
 with-true false b e = refl
 
-is-finite-requires : tie.Need-is-finite-requires
-is-finite-requires c κs = search needs
-
 returns : tie.Need-returns
 returns c = let s = c .before in c .is-finite .ensures ∙ with-true (finite (s .args .v)) (fits binary64 (s .args .v)) (fits-v s)
 
 pub takes-spec : {M : Type 1} → statement M
-takes-spec = tie.close (tie.spec is-finite-requires returns)
+takes-spec = tie.close (tie.spec (λ c κs. search needs) returns)

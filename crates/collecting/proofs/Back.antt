@@ -1,18 +1,15 @@
 -- The points that are laid over lent output read back as they were. Assumes nothing.
-use Prim.Native.Nat.{ℕ, _-_, _/_, _%_, _*_, _+_, _≤_}
+use Prim.Native.Nat.{ℕ, _-_, _+_}
 use mathlib.Core.Path.{_≡_, refl, sym, ap, _∙_}
 use mathlib.Core.Logic.{inl, inr}
 use mathlib.Core.Bool.{Bool}
 use mathlib.Core.List.{List, [], _∷_, _++_, map, append-assoc}
-use native.Mathlib.Omega.{arith}
-use lib.ListN.{length, take, drop, replicate, length-map, length-append}
-use lib.Seq.{take-at, drop-at, take-append-seam}
+use lib.ListN.{length, take, drop}
+use lib.Seq.{take-at, drop-at}
 use Rattle.laws.specs.Over.{over}
 use Rattle.tally.specs.Kind.{Kind}
 use Rattle.tally.specs.Sets.{Set}
-use Rattle.sets.specs.Rows.{pair, size, span, setOf, wordOf, rowOf}
-use Rattle.sets.proofs.Spans.{span-take, span-length}
-use Rattle.sets.proofs.Exact.{size-row}
+use Rattle.sets.specs.Rows.{setOf, rowOf}
 use Rattle.directory.specs.View.{setAt, updatedIn}
 use Rattle.directory.proofs.Rises.{In}
 use Rattle.value_map.specs.Store.{Store}
@@ -22,32 +19,6 @@ use Rattle.listing.specs.Listed.{Output}
 use Rattle.collecting.specs.Lister.{Lister}
 use Rattle.collecting.specs.Collected.{setRows, wordRows, posCounts, negCounts, laidOut, pointsIn, pointsOut}
 use Rattle.collecting.proofs.Owed.{Listed}
-
--- ---- the row that is written for a row's set holds that set
-own-word : (x : ℕ) → x / 4294967296 * 4294967296 + x % 4294967296 ≡ x
-own-word x = omega arith
-
-pub own-words : (l : List ℕ) → map wordOf (map pair l) ≡ l
-own-words [] = refl
-own-words (x ∷ l) = rw (own-word x, own-words l)
-
-front : (s : Set) → span (rowOf s) 0 (length (map wordOf s)) ≡ map wordOf s
-unfolding rowOf
-front s =
-    let r = replicate (8 - length s) 0 ++ (length s ∷ []) in
-    span-take (map wordOf s ++ r) (length (map wordOf s)) (omega (arith, length-append (map wordOf s) r))
-    ∙ take-append-seam (map wordOf s) r
-
-words-of : (s : Set) → length s ≤ 8 → setOf (rowOf s) ≡ map pair (map wordOf s)
-unfolding setOf
-words-of s h = ap (λ (k : ℕ). map pair (span (rowOf s) 0 k)) (size-row s h ∙ sym (length-map s wordOf)) ∙ ap (map pair) (front s)
-
-pub set-again : (row : List ℕ) → size row ≤ 8 → setOf (rowOf (setOf row)) ≡ setOf row
-unfolding setOf
-set-again row h =
-    let W = span row 0 (size row) in
-    let k : length (map pair W) ≤ 8 = omega (arith, length-map W pair, span-length row 0 (size row)) in
-    words-of (map pair W) k ∙ ap (map pair) (own-words W)
 
 -- the first of two lists that lie one behind the other, and what lies behind it
 first-of : (a b c : List ℕ) (k : ℕ) → k ≡ length a → take k ((a ++ b) ++ c) ≡ a

@@ -9,9 +9,9 @@ use lib.ListN.{length, getD, replicate, length-map}
 use Rattle.laws.specs.Pick.{pick}
 use Rattle.laws.proofs.Bools.{pick-true, pick-false}
 use Rattle.sets.specs.Rows.{pair, size, span, setOf, rowOf}
+use Rattle.sets.proofs.Exact.{own-words}
 use Rattle.sets.proofs.Spans.{span-length}
 use Rattle.directory.specs.View.{setAt}
-use Rattle.collecting.proofs.Back.{own-words}
 
 -- k words of a row from place i on, 0 from place n on
 abbrev wordsFrom : List ℕ → ℕ → ℕ → ℕ → List ℕ

@@ -1,15 +1,14 @@
 -- The numbers that refuse a collection, case by case, in the order in which code tests. Assumes nothing.
 use Prim.Native.Nat.{ℕ, _≤_, _<_}
-use mathlib.Core.Path.{_≡_, refl, ap, _∙_}
+use mathlib.Core.Path.{_≡_, refl, _∙_}
 use mathlib.Core.Bool.{Bool, true, false, _&&_}
-use native.Mathlib.Omega.{arith}
-use borrow.Author.Tests.{eq-eqb, ne-eqb, le-leb, lt-leb, leb-true, leb-false}
+use borrow.Author.Tests.{eq-eqb, ne-eqb, le-leb, lt-leb}
 use lib.Dec.{leb, eqb}
 use Rattle.laws.specs.Pick.{pick}
-use Rattle.laws.proofs.Bools.{pick-true, pick-false}
 use Rattle.directory.specs.View.{Stores, agreesb}
 use Rattle.directory.specs.Calls.{mostSets, storesSuffice}
 use Rattle.directory.specs.declared.Directory.{Directory}
+use Rattle.seats.proofs.Least.{both-suffice}
 use Rattle.collecting.specs.Collected.{fewest}
 use Rattle.collecting.specs.Slots.{barredBy, surveyedBy}
 use Rattle.collecting.specs.declared.Survey.{Survey}
@@ -52,28 +51,17 @@ module _ (cells : Bool) (unset limit : ℕ) (d : Directory) (s : Stores) where
 -- ---- by what a survey found
 
 few-left : (n a b : ℕ) → a < n → leb n (fewest a b) ≡ false
-unfolding fewest
-few-left n a b h = go (leb a b) refl
-  where
-    go : (t : Bool) → leb a b ≡ t → leb n (pick (leb a b) a b) ≡ false
-    go true q = ap (leb n) (pick-true (leb a b) a b q) ∙ lt-leb n a h
-    go false q = ap (leb n) (pick-false (leb a b) a b q) ∙ lt-leb n b (let y = leb-false a b q in omega arith)
+few-left n a b h = both-suffice a b n ∙ (λ i. lt-leb n a h i && leb n b)
 
 few-right : (n a b : ℕ) → b < n → leb n (fewest a b) ≡ false
-unfolding fewest
-few-right n a b h = go (leb a b) refl
+few-right n a b h = both-suffice a b n ∙ (λ i. leb n a && lt-leb n b h i) ∙ no (leb n a)
   where
-    go : (t : Bool) → leb a b ≡ t → leb n (pick (leb a b) a b) ≡ false
-    go true q = ap (leb n) (pick-true (leb a b) a b q) ∙ lt-leb n a (let y = leb-true a b q in omega arith)
-    go false q = ap (leb n) (pick-false (leb a b) a b q) ∙ lt-leb n b h
+    no : (t : Bool) → (t && false) ≡ false
+    no true = refl
+    no false = refl
 
 few-both : (n a b : ℕ) → n ≤ a → n ≤ b → leb n (fewest a b) ≡ true
-unfolding fewest
-few-both n a b h k = go (leb a b) refl
-  where
-    go : (t : Bool) → leb a b ≡ t → leb n (pick (leb a b) a b) ≡ true
-    go true q = ap (leb n) (pick-true (leb a b) a b q) ∙ le-leb n a h
-    go false q = ap (leb n) (pick-false (leb a b) a b q) ∙ le-leb n b k
+few-both n a b h k = both-suffice a b n ∙ (λ i. le-leb n a h i && le-leb n b k i)
 
 module _ (s : Survey) (sets words pos neg : ℕ) where
   abbrev counts : Bool

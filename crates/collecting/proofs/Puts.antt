@@ -4,7 +4,7 @@ use mathlib.Core.Path.{_≡_, refl, sym, ap, subst, _∙_}
 use mathlib.Core.Bool.{Bool, true, false, _&&_}
 use mathlib.Core.List.{List, [], _∷_, _++_}
 use native.Mathlib.Omega.{arith}
-use borrow.Author.Tests.{leb-true, leb-false}
+use borrow.Author.Tests.{leb-true}
 use lib.Dec.{leb}
 use lib.ListN.{length, getD, take, drop, length-append, length-map}
 use Rattle.laws.specs.Over.{over}
@@ -15,6 +15,7 @@ use Rattle.laws.proofs.Over.{length-over}
 use Rattle.tally.specs.Kind.{Kind}
 use Rattle.sets.specs.Rows.{rowOf}
 use Rattle.directory.specs.View.{setAt, updatedIn}
+use Rattle.seats.proofs.Least.{both-suffice}
 use Rattle.sweep.specs.Swept.{only}
 use Rattle.value_map.specs.Store.{Store}
 use Rattle.value_map.specs.Calls.{Held}
@@ -36,12 +37,7 @@ pub record Place (at : Cursor) (out : Output) (p n : ℕ) : Type 0 where
   pub neg : at .neg + n ≤ length (out .neg)
 
 fewest-both : (n a b : ℕ) → leb n (fewest a b) ≡ true → (n ≤ a) × (n ≤ b)
-unfolding fewest
-fewest-both n a b e = go (leb a b) refl
-  where
-    go : (t : Bool) → leb a b ≡ t → (n ≤ a) × (n ≤ b)
-    go true q = let z = leb-true n a (ap (leb n) (sym (pick-true (leb a b) a b q)) ∙ e) in let y = leb-true a b q in (z, omega arith)
-    go false q = let z = leb-true n b (ap (leb n) (sym (pick-false (leb a b) a b q)) ∙ e) in let y = leb-false a b q in (omega arith, z)
+fewest-both n a b e = let p = and-true (leb n a) (leb n b) (sym (both-suffice a b n) ∙ e) in (leb-true n a (p .0), leb-true n b (p .1))
 
 module _ {K : Kind} {S : Store K} (L : Lister S) (w : S .Switches) (h : Held (S .Cells)) (o : Output) where
   abbrev u : ℕ → Bool

@@ -13,10 +13,10 @@ use Rattle.laws.specs.Pick.{pick}
 use Rattle.laws.specs.Said.{refusal}
 use Rattle.tally.specs.Kind.{Kind, Room, suffices, unless, firstOf}
 use Rattle.tally.specs.Sets.{same}
-use Rattle.tally.specs.Map.{Map, Out, Points, collect, listed, points, orRefused, cumulate}
+use Rattle.tally.specs.Map.{Map, Out, Points, collect, listed, orRefused, cumulate}
 use Rattle.tally.proofs.MapSteps.{upfront, act, swept, step}
 use Rattle.sets.specs.Rows.{size, setOf, rowOf}
-use Rattle.sets.proofs.Exact.{set-own}
+use Rattle.sets.proofs.Exact.{set-own, set-again}
 use Rattle.sets.proofs.Keyed.{named-row}
 use Rattle.directory.specs.View.{Stores, setAt, view, updatedIn}
 use Rattle.directory.specs.Calls.{Kept, mostSets}
@@ -40,7 +40,7 @@ use Rattle.listing.specs.Listed.{Output}
 use Rattle.collecting.specs.Lister.{Lister}
 use Rattle.collecting.specs.Collected.{Collected, roomOf, slotsOf, dueOf, laidOut, agreeing, roomy, uncollected, collectedTo, unlessRefused, deltaCollected, cumulativeCollected, pointsOut, answered}
 use Rattle.collecting.proofs.Owed.{Listed, Lists}
-use Rattle.collecting.proofs.Back.{set-again, pointAt, reads-back}
+use Rattle.collecting.proofs.Back.{pointAt, reads-back}
 use Rattle.collecting.proofs.Points.{delta-points, cumulative-points, sound-all, sound-in, room-is}
 
 -- an outcome as the map's

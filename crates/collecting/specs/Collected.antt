@@ -13,6 +13,7 @@ use Rattle.tally.specs.Map.{Points, Answer, refuse, listed}
 use Rattle.sets.specs.Rows.{span, setOf, rowOf}
 use Rattle.directory.specs.View.{setAt, agreesb, updatedIn}
 use Rattle.directory.specs.Calls.{Kept, mostSets}
+pub use Rattle.seats.specs.Seats.{fewest}
 use Rattle.sweep.specs.Swept.{only, sweptKept}
 use Rattle.value_map.specs.Store.{Store}
 use Rattle.value_map.specs.Calls.{Held, passes, lent}
@@ -37,9 +38,6 @@ abbrev pub gave : {Cells : Type 0} → Declared.Answer → Held Cells → Output
 gave a h o = record { answer = said a; held = h; out = o }
 
 -- "10: lent output too short for all points or counts": places for points are asked of both stores that take one row a point
-unfoldable pub fewest : ℕ → ℕ → ℕ
-fewest a b = pick (leb a b) a b
-
 abbrev pub roomOf : Output → Room
 roomOf o = record { points = fewest (length (o .sets)) (length (o .words)); pos = length (o .pos); neg = length (o .neg) }
 

@@ -2,12 +2,12 @@
 ghost use mathlib.Core.Path.{_≡_};
 ghost use mathlib.Core.Bool.{not, _&&_, _||_};
 ghost use mathlib.Core.List.{[], _∷_};
-ghost use Prim.Native.Nat.{_+_, _<_, _≤_};
+ghost use Prim.Native.Nat.{_<_, _≤_};
 ghost use lib.Dec.{eqb, ltb};
 ghost use lib.ListN.{length, getD};
 ghost use Rattle.laws.specs.Pick.{pick};
 ghost use Rattle.sets.specs.Rows.{size, setOf, rowOf};
-ghost use Rattle.directory.specs.View.{setAt, stores, updatedIn};
+ghost use Rattle.directory.specs.View.{setAt, stores};
 ghost use Rattle.collecting.specs.Slots.{barredBy, surveyedBy};
 use directory::Directory;
 
@@ -94,17 +94,6 @@ pub fn slot_at(order: &[u32], i: usize) -> usize
         return 0;
     }
     order[i - 1] as usize
-}
-
-// Whether a slot holds a series.
-pub fn is_updated(entries: &[[u64; 3]], x: usize) -> bool
-    requires { ⌜ x < length (now entries) ⌝ }
-    ensures { λ r. ⌜ r ≡ updatedIn (now (entries .entry)) x ⌝ }
-{
-    if entries[x][2] == 0 {
-        return false;
-    }
-    true
 }
 
 // Whether a slot is listed: by a delta collection if it was updated, by a cumulative one also if it is named.

@@ -34,7 +34,7 @@ use Rattle.directory.specs.View.{Stores, slotsb, agreesb, sought}
 use Rattle.directory.specs.Calls.{located, admitted, boundTo}
 use Rattle.bindings.specs.Calls as Bindings
 use Rattle.bindings.specs.Calls.{boundIn, bound, releasedIn, released}
-use Rattle.seats.specs.Seats.{newSeat, seated, seatedBy, barredBy, unlessBarred, marked, committed}
+use Rattle.seats.specs.Seats.{fewest, newSeat, seated, seatedBy, barredBy, unlessBarred, marked, committed}
 use Rattle.sweep.specs.Swept.{sweptKept}
 use Rattle.explicit.specs.Series.{refusalOf}
 use Rattle.explicit.specs.Series as Series
@@ -45,7 +45,7 @@ use Rattle.value_map.specs.Maps.{configOf}
 use Rattle.value_map.specs.Explicit.{explicitStore}
 use Rattle.listing.specs.Listed.{Output, pointAt, entryIn}
 use Rattle.listing.specs.Words.{figuresIn, boundsIn, extremeIn, pointIn, isPoint}
-use Rattle.collecting.specs.Collected.{fewest, roomy, uncollected, deltaCollected}
+use Rattle.collecting.specs.Collected.{roomy, uncollected, deltaCollected}
 use Rattle.collecting.specs.Read.{AllFit}
 use Rattle.explicit_collection.specs.Points.{explicitLister}
 use Rattle.explicit_collection.specs.Configured.{configured}

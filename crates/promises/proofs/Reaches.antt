@@ -9,7 +9,8 @@ use Rattle.laws.specs.Pick.{pick}
 use Rattle.tally.specs.Kind.{Room}
 use Rattle.tally.specs.Map.{measure, measureBy, bind, release, collect}
 use Rattle.listing.specs.Listed.{Output}
-use Rattle.collecting.specs.Collected.{fewest, roomOf}
+use Rattle.seats.specs.Seats.{fewest}
+use Rattle.collecting.specs.Collected.{roomOf}
 use Rattle.promises.specs.Runs.{recording, recordingBy, binding, releasing, collecting}
 use Rattle.promises.specs.Promises.{Reaches}
 

@@ -35,7 +35,7 @@ use Rattle.sets.specs.Inserted.{inserted}
 use Rattle.directory.specs.View.{slotsb, agreesb, sought}
 use Rattle.directory.specs.Calls.{located, admitted}
 use Rattle.bindings.specs.Calls as Bindings
-use Rattle.seats.specs.Seats.{newSeat, seated, barredBy, unlessBarred, marked, committed}
+use Rattle.seats.specs.Seats.{fewest, newSeat, seated, barredBy, unlessBarred, marked, committed}
 use Rattle.sweep.specs.Swept.{sweptKept}
 use Rattle.exponential.specs.Series as Series
 use Rattle.exponential.specs.Series.{refusalOf}
@@ -47,7 +47,7 @@ use Rattle.value_map.specs.Maps.{configOf}
 use Rattle.value_map.specs.Exponential.{unset, lengthsSuffice, exponentialStore}
 use Rattle.listing.specs.Listed.{Output, pointAt, entryIn}
 use Rattle.listing.specs.Words.{figuresIn, boundsIn, extremeIn, pointIn, isPoint}
-use Rattle.collecting.specs.Collected.{fewest, roomy, uncollected, deltaCollected}
+use Rattle.collecting.specs.Collected.{roomy, uncollected, deltaCollected}
 use Rattle.exponential_collection.specs.Points.{exponentialLister}
 use Rattle.exponential_collection.specs.Configured.{configured}
 use Rattle.exponential_collection.specs.declared.Setup.{Setup}

@@ -7,15 +7,15 @@ use native.Mathlib.Omega.{arith}
 use lib.Dec.{leb}
 use borrow.Author.Tests.{le-leb, lt-leb, leb-true, leb-false}
 use Rattle.laws.proofs.Bools.{flag, pick-true, pick-false}
-use Rattle.seats.specs.Inner.{lesserOf}
+use Rattle.seats.specs.Seats.{fewest}
 
 module _ (a b : ℕ) where
-  pub lesser-first : a ≤ b → a ≡ lesserOf a b
-  unfolding lesserOf
+  pub lesser-first : a ≤ b → a ≡ fewest a b
+  unfolding fewest
   lesser-first h = sym (pick-true (leb a b) a b (le-leb a b h))
 
-  pub lesser-second : b < a → b ≡ lesserOf a b
-  unfolding lesserOf
+  pub lesser-second : b < a → b ≡ fewest a b
+  unfolding fewest
   lesser-second h = sym (pick-false (leb a b) a b (lt-leb a b h))
 
   module _ (n : ℕ) where
@@ -34,7 +34,7 @@ module _ (a b : ℕ) where
         go false e = lt-leb n b (let p = leb-false n a e in omega arith)
 
     -- the lesser suffices where both do
-    pub both-suffice : leb n (lesserOf a b) ≡ (leb n a && leb n b)
+    pub both-suffice : leb n (fewest a b) ≡ (leb n a && leb n b)
     both-suffice =
         ⊎-elim
         (λ (e : leb a b ≡ true). let h = leb-true a b e in ap (leb n) (sym (lesser-first h)) ∙ up h)
@@ -52,7 +52,7 @@ one-less true = refl
 one-less false = refl
 
 -- the least of four
-pub all-suffice : (n a b c d : ℕ) → leb n (lesserOf (lesserOf a b) (lesserOf c d)) ≡ ((leb n a && (leb n b && leb n c)) && leb n d)
+pub all-suffice : (n a b c d : ℕ) → leb n (fewest (fewest a b) (fewest c d)) ≡ ((leb n a && (leb n b && leb n c)) && leb n d)
 all-suffice n a b c d =
-    both-suffice (lesserOf a b) (lesserOf c d) n ∙ (λ i. both-suffice a b n i && both-suffice c d n i) ∙ regroup (leb n a) (leb n b) (leb n c && leb n d)
+    both-suffice (fewest a b) (fewest c d) n ∙ (λ i. both-suffice a b n i && both-suffice c d n i) ∙ regroup (leb n a) (leb n b) (leb n c && leb n d)
     ∙ (λ i. leb n a && sym (regroup (leb n b) (leb n c) (leb n d)) i) ∙ sym (regroup (leb n a) (leb n b && leb n c) (leb n d))

@@ -22,10 +22,6 @@ barredAt cells value unset limit s n ok = barredBy (storesSuffice limit s && leb
 unfoldable pub rowUnlessBarred : ℕ → List ℕ → List ℕ → List ℕ
 rowUnlessBarred n row old = pick (eqb n 0) row old
 
--- the lesser of two numbers: what suffices for both
-unfoldable pub lesserOf : ℕ → ℕ → ℕ
-lesserOf a b = pick (leb a b) a b
-
 -- there is room for a new entry at a place
 pub record Roomy (d : Directory) (s : Stores) (r : ℕ) : Type 0 where
   pub sets : d .used + 1 < length (s .sets)

@@ -3,11 +3,11 @@ ghost use mathlib.Core.Path.{_≡_};
 ghost use mathlib.Core.Bool.{_&&_};
 ghost use Prim.Native.Nat.{_+_};
 ghost use lib.Dec.{leb};
-ghost use Rattle.seats.specs.Inner.{lesserOf};
+ghost use Rattle.seats.specs.Seats.{fewest};
 
 // The lesser of two numbers.
 pub fn lesser(a: usize, b: usize) -> usize
-    ensures { λ r. ⌜ r ≡ lesserOf a b ⌝ }
+    ensures { λ r. ⌜ r ≡ fewest a b ⌝ }
 {
     if a <= b {
         return a;

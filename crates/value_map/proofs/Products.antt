@@ -8,7 +8,7 @@ use native.Mathlib.Omega.{arith}
 use lib.Dec.{leb}
 use borrow.Author.Tests.{le-leb, lt-leb, leb-true, leb-false}
 use Rattle.laws.proofs.Bools.{flag}
-use Rattle.seats.specs.Inner.{lesserOf}
+use Rattle.seats.specs.Seats.{fewest}
 use Rattle.seats.proofs.Least.{both-suffice, regroup, one-less}
 
 pub rows-none : (limit n length : ℕ) → n ≡ 0 → true ≡ leb ((limit + 2) * n) length
@@ -29,8 +29,8 @@ rows-many limit n length d =
 
 -- two stores of a and b entries, and count stores that the test t is of: those without counts, and those that have room for m slots
 module _ (limit a b : ℕ) (t : Bool) where
-  pub least-none : true ≡ t → leb (limit + 2) (lesserOf a b) ≡ (leb (limit + 2) a && (leb (limit + 2) b && t))
+  pub least-none : true ≡ t → leb (limit + 2) (fewest a b) ≡ (leb (limit + 2) a && (leb (limit + 2) b && t))
   least-none e = both-suffice a b (limit + 2) ∙ (λ i. leb (limit + 2) a && (one-less (leb (limit + 2) b) ∙ (λ j. leb (limit + 2) b && e j)) i)
 
-  pub least-many : (m : ℕ) → leb (limit + 2) m ≡ t → leb (limit + 2) (lesserOf (lesserOf a b) m) ≡ (leb (limit + 2) a && (leb (limit + 2) b && t))
-  least-many m e = both-suffice (lesserOf a b) m (limit + 2) ∙ (λ i. both-suffice a b (limit + 2) i && e i) ∙ regroup (leb (limit + 2) a) (leb (limit + 2) b) t
+  pub least-many : (m : ℕ) → leb (limit + 2) m ≡ t → leb (limit + 2) (fewest (fewest a b) m) ≡ (leb (limit + 2) a && (leb (limit + 2) b && t))
+  least-many m e = both-suffice (fewest a b) m (limit + 2) ∙ (λ i. both-suffice a b (limit + 2) i && e i) ∙ regroup (leb (limit + 2) a) (leb (limit + 2) b) t

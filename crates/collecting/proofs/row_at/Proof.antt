@@ -2,7 +2,6 @@
 use borrow.Author.Needs.{needs}
 use mathlib.Core.Path.{sym, ap, _∙_}
 use native.Mathlib.Omega.{arith}
-use Prim.Native.Nat.{_≤_, _<_}
 use Rattle.sets.specs.Rows.{rowOf}
 use Rattle.directory.proofs.Checks.{set-named}
 use Rattle.collecting.proofs.Handed.{row-empty}

@@ -4,7 +4,7 @@ use Prim.Native.Nat.{_+_, _/_}
 use mathlib.Core.Path.{ap, _∙_}
 use mathlib.Core.Bool.{_&&_}
 use lib.Dec.{leb}
-use Rattle.seats.specs.Inner.{lesserOf}
+use Rattle.seats.specs.Seats.{fewest}
 use Rattle.seats.proofs.Least.{both-suffice}
 use Rattle.value_map.specs.Exponential.{lengthsSuffice}
 use Rattle.value_map.proofs.Products.{rows-none, rows-many, least-none, least-many}
@@ -26,8 +26,8 @@ returns-2 c limit =
     let e = rows .before in
     let l = e .before in
     let a = l .before .args in
-    ap (leb (limit + 2)) (c .lesser3 .ensures ∙ (λ i. lesserOf (l .lesser .ensures i) (rows .lesser2 .ensures i)))
-    ∙ least-many limit (a .figures) (a .extremes) _ (lesserOf (a .pos / a .size) (a .neg / a .size))
+    ap (leb (limit + 2)) (c .lesser3 .ensures ∙ (λ i. fewest (l .lesser .ensures i) (rows .lesser2 .ensures i)))
+    ∙ least-many limit (a .figures) (a .extremes) _ (fewest (a .pos / a .size) (a .neg / a .size))
     (both-suffice (a .pos / a .size) (a .neg / a .size) (limit + 2) ∙ (λ i. rows-many limit (a .size) (a .pos) (e .if1 .left) i && rows-many limit (a .size) (a .neg) (e .if1 .left) i))
 
 pub slots-of-spec : {M : Type 1} → statement M

@@ -3,6 +3,7 @@
 use Prim.Native.Nat.{ℕ, zero, suc, _+_, _-_}
 use mathlib.Core.List.{List, [], _∷_}
 use lib.Dec.{eqb}
+use lib.ListN.{drop}
 use Rattle.laws.specs.Pick.{pick}
 
 -- 1 for a space
@@ -14,13 +15,17 @@ unfoldable pub spacesOf : List ℕ → ℕ
 spacesOf [] = 0
 spacesOf (b ∷ bs) = space b + spacesOf bs
 
--- the bytes before the first space
-unfoldable pub untilSpace : List ℕ → List ℕ
-untilSpace [] = []
-untilSpace (b ∷ bs) = pick (eqb b 32) [] (b ∷ untilSpace bs)
+-- the bytes before the first byte s, all where there is none
+unfoldable pub until : ℕ → List ℕ → List ℕ
+until s [] = []
+until s (b ∷ bs) = pick (eqb b s) [] (b ∷ until s bs)
+
+-- where the field behind k spaces starts; the line's end where there are fewer
+unfoldable pub startOf : List ℕ → ℕ → ℕ
+startOf [] k = 0
+startOf (b ∷ bs) zero = 0
+startOf (b ∷ bs) (suc k) = suc (startOf bs (suc k - space b))
 
 -- the field that stands behind k spaces; an empty one where there are fewer
 unfoldable pub fieldOf : List ℕ → ℕ → List ℕ
-fieldOf [] k = []
-fieldOf (b ∷ bs) zero = untilSpace (b ∷ bs)
-fieldOf (b ∷ bs) (suc k) = fieldOf bs (suc k - space b)
+fieldOf bs k = until 32 (drop (startOf bs k) bs)

@@ -5,7 +5,7 @@ ghost use lib.Dec.{ltb};
 ghost use lib.ListN.{length, getD, take, drop, set};
 ghost use Rattle.laws.specs.Pick.{pick};
 ghost use Rattle.text.specs.Numbers.{decimalOf, bitsOf, signedOf};
-ghost use Rattle.text.specs.Fields.{space, spacesOf, untilSpace, fieldOf};
+ghost use Rattle.text.specs.Fields.{space, spacesOf, until, startOf, fieldOf};
 use crate::numbers::Integer;
 use crate::numbers::Natural;
 
@@ -47,7 +47,7 @@ pub fn spaces(line: &[u8]) -> usize
 
 // Where the field that comes after k spaces starts; the line's end where there is none.
 fn start(line: &[u8], k: usize) -> usize
-    ensures { λ r. ⌜ (r ≤ length (now (line .entry))) × (fieldOf (now (line .entry)) k ≡ untilSpace (drop r (now (line .entry)))) ⌝ }
+    ensures { λ r. ⌜ (r ≤ length (now (line .entry))) × (r ≡ startOf (now (line .entry)) k) ⌝ }
 {
     let mut left = k;
     let mut i: usize = 0;
@@ -58,14 +58,14 @@ fn start(line: &[u8], k: usize) -> usize
     i
 }
 
-// Where the field that starts there ends.
-fn end(line: &[u8], from: usize) -> usize
+// Where the next byte `mark` stands, from a place on; the end where there is none.
+pub fn end(line: &[u8], from: usize, mark: u8) -> usize
     requires { ⌜ from ≤ length (now line) ⌝ }
-    ensures { λ r. ⌜ (r ≤ length (now (line .entry))) × (r ≡ from + length (untilSpace (drop from (now (line .entry))))) ⌝ }
+    ensures { λ r. ⌜ (r ≤ length (now (line .entry))) × (r ≡ from + length (until mark (drop from (now (line .entry))))) ⌝ }
 {
     let mut i = from;
     while i < line.len() {
-        if line[i] == b' ' {
+        if line[i] == mark {
             return i;
         }
         i += 1;
@@ -75,11 +75,11 @@ fn end(line: &[u8], from: usize) -> usize
 
 // The field that comes after k spaces; an empty one where there is none.
 pub fn field(line: &[u8], k: usize) -> Part
-    ensures { λ r. ⌜ (r .from ≤ r .to) × (r .to ≤ length (now (line .entry))) ⌝ }
+    ensures { λ r. ⌜ (r .from ≤ r .to) × (r .to ≤ length (now (line .entry))) × (r .from ≡ startOf (now (line .entry)) k) ⌝ }
     ensures { λ r. ⌜ take (r .to - r .from) (drop (r .from) (now (line .entry))) ≡ fieldOf (now (line .entry)) k ⌝ }
 {
     let from = start(line, k);
-    let to = end(line, from);
+    let to = end(line, from, b' ');
     Part { from, to }
 }
 

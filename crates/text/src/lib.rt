@@ -9,6 +9,7 @@ pub use fields::Part;
 pub use fields::bits_at;
 pub use fields::byte_at;
 pub use fields::decimal_at;
+pub use fields::end;
 pub use fields::field;
 pub use fields::push;
 pub use fields::signed_at;

@@ -1,23 +1,23 @@
--- `text::fields::start` meets its contract: the field behind k spaces is that behind those left, from here on. Assumes nothing.
-use Prim.Native.Nat.{ℕ, _+_, _-_, _≤_}
-use mathlib.Core.Path.{_≡_, refl, ap, _∙_, sym}
+-- `text::fields::start` meets its contract: where the field behind k spaces starts, counted from here on. Assumes nothing.
+use Prim.Native.Nat.{ℕ, suc, _+_, _-_, _≤_}
+use mathlib.Core.Path.{_≡_, ap, _∙_, sym}
 use native.Mathlib.Omega.{arith}
 use denote.Ref.{now}
 use lib.ListN.{length, drop}
 use borrow.Author.Tests.{ltb-true, ltb-false}
-use Rattle.text.specs.Fields.{fieldOf}
-use Rattle.text.proofs.Splitting.{field-here, field-none, field-turn}
+use Rattle.text.specs.Fields.{startOf}
+use Rattle.text.proofs.Splitting.{start-here, start-none, start-turn}
 use Rattle.text.proofs.fields.start.Statement.{statement}
 use Rattle.text.proofs.fields.start.Tie as tie
 
 abbrev Inv-loop : tie.InvT-loop
-Inv-loop line k left₀ i₀ left i = (i ≤ length line) × (fieldOf line k ≡ fieldOf (drop i line) left)
+Inv-loop line k left₀ i₀ left i = (i ≤ length line) × (i + startOf (drop i line) left ≡ startOf line k)
 
 abbrev μ-loop : tie.MeasureT-loop
 μ-loop line k left₀ i₀ left i = length line - i
 
 loop-holds : tie.Need-loop-holds Inv-loop μ-loop
-loop-holds c = (omega arith, refl)
+loop-holds c = (omega arith, omega arith)
 
 shared-slice-read-is-space : tie.Need-shared-slice-read-is-space Inv-loop μ-loop
 shared-slice-read-is-space c = omega arith
@@ -41,7 +41,11 @@ loop-again c =
     let l = w .before .loop in
     let xs = now (w .before .before .before .args .line) in (
       omega arith,
-      l .inv .1 ∙ field-turn xs (l .i) (l .left) (w .loop-test .taken) (ltb-true 0 (l .left) (t .if1 .taken)) ∙ ap (λ (k : ℕ). fieldOf (drop (l .i + 1) xs) (l .left - k)) (sym (c .is-space .ensures .0)),
+      omega (
+        arith,
+        l .inv .1,
+        start-turn xs (l .i) (l .left) (w .loop-test .taken) (ltb-true 0 (l .left) (t .if1 .taken)) ∙ ap (λ (k : ℕ). suc (startOf (drop (l .i + 1) xs) (l .left - k))) (sym (c .is-space .ensures .0)),
+      ),
     )
 
 returns : tie.Need-returns Inv-loop μ-loop
@@ -49,12 +53,12 @@ returns c =
     let l = c .before .before .loop in
     let xs = now (c .before .before .before .before .args .line) in
     let z : l .left ≡ 0 = omega (arith, ltb-false 0 (l .left) (c .if1 .left)) in
-    (l .inv .0, l .inv .1 ∙ ap (fieldOf (drop (l .i) xs)) z ∙ field-here (drop (l .i) xs))
+    (l .inv .0, omega (arith, l .inv .1, ap (startOf (drop (l .i) xs)) z ∙ start-here (drop (l .i) xs)))
 
 returns-2 : tie.Need-returns-2 Inv-loop μ-loop
 returns-2 c =
     let l = c .before .loop in
-    (l .inv .0, l .inv .1 ∙ field-none (now (c .before .before .before .args .line)) (l .i) (l .left) (c .loop-test .left))
+    (l .inv .0, omega (arith, l .inv .1, start-none (now (c .before .before .before .args .line)) (l .i) (l .left) (c .loop-test .left)))
 
 pub start-spec : {M : Type 1} → statement M
 start-spec =

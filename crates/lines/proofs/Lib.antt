@@ -1,0 +1,3 @@
+-- The laws.
+pub mod Parting
+pub mod Gathering

@@ -1,5 +1,6 @@
 // Lines from blocks of the input.
 ghost use mathlib.Core.Path.{_≡_};
+ghost use mathlib.Core.Bool.{false};
 ghost use Prim.Native.Nat.{_+_, _≤_};
 ghost use lib.ListN.{take};
 use crate::Block;
@@ -18,7 +19,9 @@ pub struct Ports {
 }
 
 // Before anything is read.
-pub fn first() -> Ports {
+pub fn first() -> Ports
+    ensures { λ r. ⌜ (r .at ≡ 0) × (r .end ≡ 0) × (r .len ≡ 0) × (r .waiting ≡ 0) × (r .ended ≡ false) × (r .over ≡ false) ⌝ }
+{
     Ports {
         at: 0,
         end: 0,

@@ -1,8 +1,8 @@
 // Collecting into lent output (`c`), of either kind, delta and cumulative.
 //
-// Here extremes and the first counts are lent as long as a line `m` says: too few of any is number 12.
-ghost use Prim.Native.Nat.{_≤_};
+// The map's stores are lent as long as a line `m` says, the output as long as the line `c` does: too few of any is number 12 or 10.
 use crate::cells;
+use crate::lent;
 use crate::state;
 use clock::Clock;
 use collecting::Answer;
@@ -30,11 +30,9 @@ fn collected(f: &state::Fields, s: state::State, answer: Answer, dir: Directory)
     }
 }
 
-// How much of an output of so many is lent: what lies behind the most is the kept points'.
-fn room(asked: u64, most: u64, many: usize) -> usize
-    ensures { λ r. ⌜ r ≤ many ⌝ }
-{
-    state::within(asked, state::within(most, many))
+// How much of an output is lent: what lies behind the most is the kept points'.
+fn room(asked: u64, most: usize) -> u64 {
+    state::within(asked, most) as u64
 }
 
 fn exponential_settings(s: state::State) -> exponential_collection::Settings {
@@ -50,38 +48,35 @@ fn exponential_settings(s: state::State) -> exponential_collection::Settings {
 pub fn exponential(
     f: &state::Fields,
     s: state::State,
-    sets: &mut state::Sets,
-    entries: &mut state::Entries,
-    order: &mut state::Order,
-    figures: &state::Figures,
+    sets: &mut [[u64; 9]],
+    entries: &mut [[u64; 3]],
+    order: &mut [u32],
+    figures: &[[u64; 8]],
     extremes: &[[f64; 3]],
     pos: &[u64],
-    neg: &state::Counts,
-    out_sets: &mut state::ListedSets,
+    neg: &[u64],
+    out_sets: &mut [[u64; 9]],
     out_words: &mut [[u64; 12]],
     out_pos: &mut [u64],
     out_neg: &mut [u64],
 ) -> state::Outcome {
-    let a = state::within(s.entries, extremes.len());
-    let b = state::within(s.counts, pos.len());
-    let i = room(f[2], 66, out_words.len());
-    let j = room(f[3], 10560, out_pos.len());
-    let k = room(f[3], 10560, out_neg.len());
+    let i = room(f[2], 66);
+    let j = room(f[3], 10560);
     if s.delta {
         let reply = exponential_collection::delta(
             exponential_settings(s),
             s.dir,
-            sets,
-            entries,
-            order,
-            figures,
-            &extremes[0..a],
-            &pos[0..b],
-            neg,
-            out_sets,
-            &mut out_words[0..i],
-            &mut out_pos[0..j],
-            &mut out_neg[0..k],
+            lent::sets(sets, s.entries),
+            lent::entries(entries, s.entries),
+            lent::order(order, s.entries),
+            lent::figures_in(figures, s.entries),
+            lent::extremes_in(extremes, s.entries),
+            lent::counts_in(pos, s.counts),
+            lent::counts_in(neg, s.counts),
+            lent::sets(out_sets, i),
+            lent::words(out_words, i),
+            lent::counts(out_pos, j),
+            lent::counts(out_neg, j),
         );
         let answer = reply.answer;
         let dir = reply.dir;
@@ -90,17 +85,17 @@ pub fn exponential(
     let answer = exponential_collection::cumulative(
         exponential_settings(s),
         s.dir,
-        sets,
-        entries,
-        order,
-        figures,
-        &extremes[0..a],
-        &pos[0..b],
-        neg,
-        out_sets,
-        &mut out_words[0..i],
-        &mut out_pos[0..j],
-        &mut out_neg[0..k],
+        lent::sets_in(sets, s.entries),
+        lent::entries_in(entries, s.entries),
+        lent::order_in(order, s.entries),
+        lent::figures_in(figures, s.entries),
+        lent::extremes_in(extremes, s.entries),
+        lent::counts_in(pos, s.counts),
+        lent::counts_in(neg, s.counts),
+        lent::sets(out_sets, i),
+        lent::words(out_words, i),
+        lent::counts(out_pos, j),
+        lent::counts(out_neg, j),
     );
     collected(f, s, answer, s.dir)
 }
@@ -116,38 +111,35 @@ fn explicit_settings(s: state::State) -> explicit_collection::Settings {
 pub fn explicit(
     f: &state::Fields,
     s: state::State,
-    bounds: &state::Bounds,
-    sets: &mut state::Sets,
-    entries: &mut state::Entries,
-    order: &mut state::Order,
-    totals: &state::Totals,
+    bounds: &[f64],
+    sets: &mut [[u64; 9]],
+    entries: &mut [[u64; 3]],
+    order: &mut [u32],
+    totals: &[u64],
     extremes: &[[f64; 3]],
     pos: &[u64],
-    out_sets: &mut state::ListedSets,
+    out_sets: &mut [[u64; 9]],
     out_words: &mut [[u64; 12]],
     out_pos: &mut [u64],
     out_neg: &mut [u64],
 ) -> state::Outcome {
-    let a = state::within(s.entries, extremes.len());
-    let b = state::within(s.counts, pos.len());
-    let i = room(f[2], 66, out_words.len());
-    let j = room(f[3], 10560, out_pos.len());
-    let k = room(f[3], 10560, out_neg.len());
+    let i = room(f[2], 66);
+    let j = room(f[3], 10560);
     if s.delta {
         let reply = explicit_collection::delta(
             cells::bounds_in(bounds, 1, s.bounds as u64),
             explicit_settings(s),
             s.dir,
-            sets,
-            entries,
-            order,
-            totals,
-            &extremes[0..a],
-            &pos[0..b],
-            out_sets,
-            &mut out_words[0..i],
-            &mut out_pos[0..j],
-            &mut out_neg[0..k],
+            lent::sets(sets, s.entries),
+            lent::entries(entries, s.entries),
+            lent::order(order, s.entries),
+            lent::counts_in(totals, s.entries),
+            lent::extremes_in(extremes, s.entries),
+            lent::counts_in(pos, s.counts),
+            lent::sets(out_sets, i),
+            lent::words(out_words, i),
+            lent::counts(out_pos, j),
+            lent::counts(out_neg, j),
         );
         let answer = reply.answer;
         let dir = reply.dir;
@@ -157,16 +149,16 @@ pub fn explicit(
         cells::bounds_in(bounds, 1, s.bounds as u64),
         explicit_settings(s),
         s.dir,
-        sets,
-        entries,
-        order,
-        totals,
-        &extremes[0..a],
-        &pos[0..b],
-        out_sets,
-        &mut out_words[0..i],
-        &mut out_pos[0..j],
-        &mut out_neg[0..k],
+        lent::sets_in(sets, s.entries),
+        lent::entries_in(entries, s.entries),
+        lent::order_in(order, s.entries),
+        lent::counts_in(totals, s.entries),
+        lent::extremes_in(extremes, s.entries),
+        lent::counts_in(pos, s.counts),
+        lent::sets(out_sets, i),
+        lent::words(out_words, i),
+        lent::counts(out_pos, j),
+        lent::counts(out_neg, j),
     );
     collected(f, s, answer, s.dir)
 }

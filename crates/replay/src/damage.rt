@@ -141,7 +141,7 @@ fn told(s: state::State, there: bool) -> state::Outcome {
     state::refused(s, state::UNREAD)
 }
 
-// Sets a cell.
+// Sets a cell of the map, or of the state.
 pub fn set(
     f: &state::Fields,
     s: state::State,
@@ -154,9 +154,6 @@ pub fn set(
     pos: &mut state::Counts,
     neg: &mut state::Counts,
     totals: &mut state::Totals,
-    out_words: &mut state::ListedWords,
-    out_pos: &mut state::ListedCounts,
-    out_neg: &mut state::ListedCounts,
 ) -> state::Outcome {
     let place = f[2] as usize;
     let cell = f[3] as usize;
@@ -172,13 +169,37 @@ pub fn set(
         b'p' => told(s, in_counts(pos, single(place, cell), n)),
         b'n' => told(s, in_counts(neg, single(place, cell), n)),
         b'b' => told(s, in_bounds(bounds, own_bound(place, cell), n)),
-        b'w' => told(s, in_twelve(out_words, kept_row(place), cell, n)),
-        b'P' => told(s, in_counts(out_pos, kept_count(place, cell), n)),
-        b'N' => told(s, in_counts(out_neg, kept_count(place, cell), n)),
-        b'B' => told(s, in_bounds(bounds, kept_bound(place, cell), n)),
         b'v' => in_state(s, cell, n),
         _ => told(s, false),
     }
+}
+
+// Sets a cell of a kept point.
+pub fn set_kept(
+    f: &state::Fields,
+    s: state::State,
+    bounds: &mut state::Bounds,
+    words: &mut state::ListedWords,
+    pos: &mut state::ListedCounts,
+    neg: &mut state::ListedCounts,
+) -> state::Outcome {
+    let place = f[2] as usize;
+    let cell = f[3] as usize;
+    let n = f[4];
+    let store = byte(f[1]);
+    match store {
+        b'w' => told(s, in_twelve(words, kept_row(place), cell, n)),
+        b'P' => told(s, in_counts(pos, kept_count(place, cell), n)),
+        b'N' => told(s, in_counts(neg, kept_count(place, cell), n)),
+        b'B' => told(s, in_bounds(bounds, kept_bound(place, cell), n)),
+        _ => told(s, false),
+    }
+}
+
+// Whether a store is that of the kept points.
+pub fn is_kept(store: u64) -> bool {
+    let x = byte(store);
+    x == b'w' || x == b'P' || x == b'N' || x == b'B'
 }
 
 fn byte(x: u64) -> u8 {

@@ -1,5 +1,6 @@
 // Points kept (`k`), and merged (`j`).
 use crate::cells;
+use crate::lent;
 use crate::state;
 use listing::Cursor;
 use listing::Found;
@@ -163,6 +164,14 @@ pub fn keep(
 
 // ---- merging
 
+// Whether there are the two points that a line merges.
+fn are_kept(f: &state::Fields, words: &[[u64; 12]], pos: &[u64], neg: &[u64]) -> bool {
+    if !is_kept(f[2], words, pos, neg) {
+        return false;
+    }
+    is_kept(f[3], words, pos, neg)
+}
+
 // Merges two kept points into a list of one.
 fn merge_to(
     f: &state::Fields,
@@ -192,8 +201,8 @@ fn merge_to(
         first(),
         to_sets,
         to_words,
-        to_pos,
-        to_neg,
+        lent::counts(to_pos, f[5]),
+        lent::counts(to_neg, f[5]),
     )
 }
 
@@ -207,17 +216,13 @@ pub fn merge(
     out_pos: &mut state::ListedCounts,
     out_neg: &mut state::ListedCounts,
 ) -> state::Outcome {
-    if !is_kept(f[2], out_words, out_pos, out_neg) {
-        return state::refused(s, state::UNREAD);
-    }
-    if !is_kept(f[3], out_words, out_pos, out_neg) {
+    if !are_kept(f, out_words, out_pos, out_neg) {
         return state::refused(s, state::UNREAD);
     }
     let mut sets = [[0u64; 9]; 1];
     let mut words = [[0u64; 12]; 1];
     let mut pos = [0u64; 160];
     let mut neg = [0u64; 160];
-    let i = state::within(f[5], 160);
     let said = merge_to(
         f,
         bounds,
@@ -227,8 +232,8 @@ pub fn merge(
         out_neg,
         &mut sets,
         &mut words,
-        &mut pos[0..i],
-        &mut neg[0..i],
+        &mut pos,
+        &mut neg,
     );
     match said {
         Pooled::Refused(no) => state::refused(s, no),

@@ -5,6 +5,7 @@ mod cells;
 mod collect;
 mod damage;
 mod kept;
+mod lent;
 mod line;
 mod map;
 mod show;
@@ -18,8 +19,8 @@ use lines::input::Ports;
 
 // ---- calls
 
-// The call that a line makes: its letter, `r` also for `h` and `b` also for `u`; a capital where the explicit kind has a call of its own.
-// Before any accepted `n` a map has no other call.
+// The call that a line makes: its letter, `r` also for `h` and `b` also for `u`; a capital where the explicit kind or a kept point has a
+// call of its own. Before any accepted `n` a map has no other call.
 fn asked(letter: u8, f: &state::Fields, s: state::State) -> u8 {
     let kind = if letter == b'n' { f[1] } else { s.kind as u64 };
     match letter {
@@ -27,6 +28,7 @@ fn asked(letter: u8, f: &state::Fields, s: state::State) -> u8 {
         b'r' | b'h' => of_kind(kind, b'r', b'R'),
         b'c' => of_kind(kind, b'c', b'C'),
         b'b' | b'u' => of_kind(kind, b'b', b'b'),
+        b'd' => damaging(f[1]),
         _ => letter,
     }
 }
@@ -39,6 +41,13 @@ fn of_kind(kind: u64, exponential: u8, explicit: u8) -> u8 {
         return explicit;
     }
     line::NONE
+}
+
+fn damaging(store: u64) -> u8 {
+    if damage::is_kept(store) {
+        return b'D';
+    }
+    b'd'
 }
 
 // A line that makes no call.
@@ -179,10 +188,8 @@ fn make(
             pos,
             neg,
             totals,
-            out_words,
-            out_pos,
-            out_neg,
         ),
+        b'D' => damage::set_kept(f, s, bounds, out_words, out_pos, out_neg),
         _ => plain(call, f, s),
     }
 }

@@ -1,7 +1,8 @@
 // The calls of the map: configuring, recording, binding and releasing.
 //
-// Of the stores that a call takes, those of entries and of the first counts are lent as long as a line `m` says: too few of any is number 12.
+// Every store that a call takes is lent as long as a line `m` says: too few of any is number 12.
 use crate::cells;
+use crate::lent;
 use crate::state;
 use bindings::Answer;
 use bindings::Reply;
@@ -59,17 +60,15 @@ pub fn configure_exponential(
     f: &state::Fields,
     s: state::State,
     keys: &[u32],
-    sets: &state::Sets,
+    sets: &[[u64; 9]],
     entries: &mut [[u64; 3]],
-    order: &state::Order,
-    figures: &state::Figures,
-    extremes: &state::Extremes,
+    order: &[u32],
+    figures: &[[u64; 8]],
+    extremes: &[[f64; 3]],
     pos: &[u64],
-    neg: &state::Counts,
+    neg: &[u64],
 ) -> state::Outcome {
     let k = state::within(s.next_keys, keys.len());
-    let a = state::within(s.entries, entries.len());
-    let b = state::within(s.counts, pos.len());
     let said = exponential_collection::configure(
         state::cut(f[3]),
         scale_of(f[4]),
@@ -78,13 +77,13 @@ pub fn configure_exponential(
         f[6],
         s.next_filtered,
         &keys[0..k],
-        sets,
-        &mut entries[0..a],
-        order,
-        figures,
-        extremes,
-        &pos[0..b],
-        neg,
+        lent::sets_in(sets, s.entries),
+        lent::entries(entries, s.entries),
+        lent::order_in(order, s.entries),
+        lent::figures_in(figures, s.entries),
+        lent::extremes_in(extremes, s.entries),
+        lent::counts_in(pos, s.counts),
+        lent::counts_in(neg, s.counts),
     );
     match said {
         exponential_collection::Configured::Refused(no) => state::refused(emptied(s), no),
@@ -100,17 +99,15 @@ pub fn configure_explicit(
     f: &state::Fields,
     s: state::State,
     keys: &[u32],
-    bounds: &state::Bounds,
-    sets: &state::Sets,
+    bounds: &[f64],
+    sets: &[[u64; 9]],
     entries: &mut [[u64; 3]],
-    order: &state::Order,
-    totals: &state::Totals,
-    extremes: &state::Extremes,
+    order: &[u32],
+    totals: &[u64],
+    extremes: &[[f64; 3]],
     pos: &[u64],
 ) -> state::Outcome {
     let k = state::within(s.next_keys, keys.len());
-    let a = state::within(s.entries, entries.len());
-    let b = state::within(s.counts, pos.len());
     let said = explicit_collection::configure(
         cells::bounds_in(bounds, 0, s.next_bounds),
         f[8] == 49,
@@ -118,12 +115,12 @@ pub fn configure_explicit(
         f[6],
         s.next_filtered,
         &keys[0..k],
-        sets,
-        &mut entries[0..a],
-        order,
-        totals,
-        extremes,
-        &pos[0..b],
+        lent::sets_in(sets, s.entries),
+        lent::entries(entries, s.entries),
+        lent::order_in(order, s.entries),
+        lent::counts_in(totals, s.entries),
+        lent::extremes_in(extremes, s.entries),
+        lent::counts_in(pos, s.counts),
     );
     match said {
         explicit_collection::Configured::Refused(no) => state::refused(emptied(s), no),
@@ -153,29 +150,27 @@ pub fn record_exponential(
     s: state::State,
     attrs: &[[u32; 2]],
     keys: &[u32],
-    sets: &mut state::Sets,
+    sets: &mut [[u64; 9]],
     entries: &mut [[u64; 3]],
-    order: &mut state::Order,
-    figures: &mut state::Figures,
-    extremes: &mut state::Extremes,
+    order: &mut [u32],
+    figures: &mut [[u64; 8]],
+    extremes: &mut [[f64; 3]],
     pos: &mut [u64],
-    neg: &mut state::Counts,
+    neg: &mut [u64],
 ) -> state::Outcome {
-    let a = state::within(s.entries, entries.len());
-    let b = state::within(s.counts, pos.len());
     if letter == b'r' {
         let reply = value_map::exponential_map::measure(
             s.size,
             s.top,
             s.limit,
             s.dir,
-            sets,
-            &mut entries[0..a],
-            order,
-            figures,
-            extremes,
-            &mut pos[0..b],
-            neg,
+            lent::sets(sets, s.entries),
+            lent::entries(entries, s.entries),
+            lent::order(order, s.entries),
+            lent::figures(figures, s.entries),
+            lent::extremes(extremes, s.entries),
+            lent::counts(pos, s.counts),
+            lent::counts(neg, s.counts),
             floats::of_bits(f[1]),
             cells::given(attrs, f[2]),
             s.filtered,
@@ -188,13 +183,13 @@ pub fn record_exponential(
         s.top,
         s.limit,
         s.dir,
-        sets,
-        &mut entries[0..a],
-        order,
-        figures,
-        extremes,
-        &mut pos[0..b],
-        neg,
+        lent::sets(sets, s.entries),
+        lent::entries(entries, s.entries),
+        lent::order(order, s.entries),
+        lent::figures(figures, s.entries),
+        lent::extremes(extremes, s.entries),
+        lent::counts(pos, s.counts),
+        lent::counts(neg, s.counts),
         floats::of_bits(f[2]),
         f[1],
     );
@@ -207,27 +202,25 @@ pub fn record_explicit(
     s: state::State,
     attrs: &[[u32; 2]],
     keys: &[u32],
-    bounds: &state::Bounds,
-    sets: &mut state::Sets,
+    bounds: &[f64],
+    sets: &mut [[u64; 9]],
     entries: &mut [[u64; 3]],
-    order: &mut state::Order,
-    totals: &mut state::Totals,
-    extremes: &mut state::Extremes,
+    order: &mut [u32],
+    totals: &mut [u64],
+    extremes: &mut [[f64; 3]],
     pos: &mut [u64],
 ) -> state::Outcome {
-    let a = state::within(s.entries, entries.len());
-    let b = state::within(s.counts, pos.len());
     if letter == b'r' {
         let reply = value_map::explicit_map::measure(
             cells::bounds_in(bounds, 1, s.bounds as u64),
             s.limit,
             s.dir,
-            sets,
-            &mut entries[0..a],
-            order,
-            totals,
-            extremes,
-            &mut pos[0..b],
+            lent::sets(sets, s.entries),
+            lent::entries(entries, s.entries),
+            lent::order(order, s.entries),
+            lent::counts(totals, s.entries),
+            lent::extremes(extremes, s.entries),
+            lent::counts(pos, s.counts),
             floats::of_bits(f[1]),
             cells::given(attrs, f[2]),
             s.filtered,
@@ -239,12 +232,12 @@ pub fn record_explicit(
         cells::bounds_in(bounds, 1, s.bounds as u64),
         s.limit,
         s.dir,
-        sets,
-        &mut entries[0..a],
-        order,
-        totals,
-        extremes,
-        &mut pos[0..b],
+        lent::sets(sets, s.entries),
+        lent::entries(entries, s.entries),
+        lent::order(order, s.entries),
+        lent::counts(totals, s.entries),
+        lent::extremes(extremes, s.entries),
+        lent::counts(pos, s.counts),
         floats::of_bits(f[2]),
         f[1],
     );
@@ -259,24 +252,30 @@ pub fn bind(
     s: state::State,
     attrs: &[[u32; 2]],
     keys: &[u32],
-    sets: &mut state::Sets,
+    sets: &mut [[u64; 9]],
     entries: &mut [[u64; 3]],
-    order: &mut state::Order,
+    order: &mut [u32],
 ) -> state::Outcome {
-    let a = state::within(s.entries, entries.len());
     if letter == b'b' {
         let reply = bindings::bind(
             s.limit,
             s.dir,
-            sets,
-            &mut entries[0..a],
-            order,
+            lent::sets(sets, s.entries),
+            lent::entries(entries, s.entries),
+            lent::order(order, s.entries),
             cells::given(attrs, f[2]),
             s.filtered,
             cells::filter(keys, s.keys),
         );
         return done(s, reply);
     }
-    let reply = bindings::release(s.limit, s.dir, sets, &mut entries[0..a], order, f[1]);
+    let reply = bindings::release(
+        s.limit,
+        s.dir,
+        lent::sets_in(sets, s.entries),
+        lent::entries(entries, s.entries),
+        lent::order_in(order, s.entries),
+        f[1],
+    );
     done(s, reply)
 }

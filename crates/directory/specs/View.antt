@@ -48,7 +48,7 @@ pub record Laid (d : Directory) (s : Stores) : Type 0 where
 abbrev pub bornAt : List (List ℕ) → ℕ → Bool
 bornAt entries x = ltb (birthAt entries x) (birthAt entries (x + 1))
 
--- "each has 1 to 8 attributes with rising keys ... and its own birth number among those spent": the slot after x has 1 to 8 attributes with rising keys, and a later birth number than x
+-- "each has 1 to 8 attributes with rising keys .. and its own birth number": so has the slot after x, and its number is later than that of x
 abbrev pub slotAt : List (List ℕ) → List (List ℕ) → ℕ → Bool
 slotAt sets entries x = soundb (getD sets (x + 1) []) && bornAt entries x
 
@@ -65,7 +65,7 @@ unfoldable pub slotsb : ℕ → ℕ → List (List ℕ) → List (List ℕ) → 
 slotsb used last sets entries = allb used (slotAt sets entries) && leb (birthAt entries used) last
 
 -- "its stored count is that of the sets other than overflow, or one more if overflow is held, and is at most the limit": with the sets as
--- many as the slots used, overflow is held where the plain ones are fewer. The stored count is that of the plain sets, or one more if overflow is held, and at most the limit
+-- many as the slots used, overflow is held where the plain ones are fewer
 abbrev pub countsb : ℕ → ℕ → ℕ → ℕ → Bool
 countsb limit count used plain = leb count limit && (eqb count plain || (eqb count (plain + 1) && ltb plain used))
 

@@ -1,4 +1,5 @@
-// Whether the directory agrees with itself, in one pass over its birth numbers and one over its places.
+// Whether the directory agrees with itself: a pass over its birth numbers, and its places, all at once where the sets have the same keys or else
+// one by one.
 ghost use mathlib.Core.Path.{_≡_};
 ghost use mathlib.Core.Bool.{true};
 ghost use Prim.Native.Nat.{_+_, _<_, _≤_};
@@ -118,7 +119,7 @@ fn ascends(used: usize, sets: &[[u64; 9]], order: &[u32], from: usize) -> bool
     true
 }
 
-// Whether the places are right and the sets plain, where that shows in a pass without branches; few sets are compared as fast one by one.
+// Whether the places are right and the sets plain, where the sets have the same keys; few sets are compared as fast one by one.
 fn quick(used: usize, sets: &[[u64; 9]], order: &[u32]) -> bool
     requires { ⌜ (used < length (now sets)) × (used ≤ length (now order)) ⌝ }
     ensures { λ r. ⌜ (r ≡ true → placed used (now (sets .entry)) (now (order .entry)) ≡ Plain used) ⌝ }

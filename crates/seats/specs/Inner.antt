@@ -13,7 +13,7 @@ use Rattle.directory.specs.declared.Target.{Target}
 use Rattle.directory.specs.declared.Target.the-variants.{Disagrees, Old, New, Over}
 use Rattle.seats.specs.Seats.{barredBy}
 
--- the same, of what the kind found (how many slots its cells have room for, whether it takes the value, its settings' number), the
+-- `barredBy`, of what the kind found (how many slots its cells have room for, whether it takes the value, its settings' number), the
 -- directory's stores, a number of attributes, and a limit and a filter that configuring accepts or not
 abbrev pub barredAt : ℕ → Bool → ℕ → ℕ → Stores → ℕ → Bool → ℕ
 barredAt cells value unset limit s n ok = barredBy (storesSuffice limit s && leb (limit + 2) cells) value n (eqb unset 0 && ok)

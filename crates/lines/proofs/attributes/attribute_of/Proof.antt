@@ -12,27 +12,6 @@ use borrow.Author.Needs.{needs}
 use Rattle.lines.proofs.attributes.attribute_of.Statement.{statement}
 use Rattle.lines.proofs.attributes.attribute_of.Tie as tie
 
-end-requires : tie.Need-end-requires
-end-requires c κs = search needs
-
-word-behind-requires : tie.Need-word-behind-requires
-word-behind-requires c κs = search needs
-
-sub-word-of : tie.Need-sub-word-of
-sub-word-of c = search needs
-
-part-word-of-start : tie.Need-part-word-of-start
-part-word-of-start c = search needs
-
-part-word-of-end : tie.Need-part-word-of-end
-part-word-of-end c = search needs
-
-word-of-requires : tie.Need-word-of-requires
-word-of-requires c κs = search needs
-
-both-requires : tie.Need-both-requires
-both-requires c κs = search needs
-
 returns : tie.Need-returns
 unfolding attributeOf
 returns c =
@@ -50,12 +29,5 @@ returns c =
 pub attribute-of-spec : {M : Type 1} → statement M
 attribute-of-spec =
     tie.close
-    (tie.spec
-    end-requires
-    word-behind-requires
-    sub-word-of
-    part-word-of-start
-    part-word-of-end
-    word-of-requires
-    both-requires
-    returns)
+    (tie.spec (λ c κs. search needs) (λ c κs. search needs) (λ c. search needs) (λ c. search needs) (λ c. search needs)
+    (λ c κs. search needs) (λ c κs. search needs) returns)

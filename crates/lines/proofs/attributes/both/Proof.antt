@@ -7,24 +7,6 @@ use borrow.Author.Needs.{needs}
 use Rattle.lines.proofs.attributes.both.Statement.{statement}
 use Rattle.lines.proofs.attributes.both.Tie as tie
 
-enum-known-key : tie.Need-enum-known-key
-enum-known-key c = search needs
-
-enum-told : tie.Need-enum-told
-enum-told c = search needs
-
-returns : tie.Need-returns
-returns c = search needs
-
-enum-known-value : tie.Need-enum-known-value
-enum-known-value c = search needs
-
-enum-told-2 : tie.Need-enum-told-2
-enum-told-2 c = search needs
-
-returns-2 : tie.Need-returns-2
-returns-2 c = search needs
-
 returns-3 : tie.Need-returns-3
 returns-3 c =
     let v = c .before .value .given in
@@ -35,4 +17,4 @@ returns-3 c =
 pub both-spec : {M : Type 1} → statement M
 both-spec =
     tie.close
-    (tie.spec enum-known-key enum-told returns enum-known-value enum-told-2 returns-2 returns-3)
+    (tie.spec (λ c. search needs) (λ c. search needs) (λ c. search needs) (λ c. search needs) (λ c. search needs) (λ c. search needs) returns-3)

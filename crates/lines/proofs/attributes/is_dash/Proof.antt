@@ -13,12 +13,9 @@ returns : tie.Need-returns
 unfolding isDash _and_
 returns c = simp (ne-eqb (length (now (c .before .args .bytes))) 1 (c .if1 .taken)) refl
 
-shared-slice-read-result : tie.Need-shared-slice-read-result
-shared-slice-read-result c = search needs
-
 returns-2 : tie.Need-returns-2
 unfolding isDash _and_
 returns-2 c = simp (eq-eqb (length (now (c .before .before .args .bytes))) 1 (c .before .if1 .left)) refl
 
 pub is-dash-spec : {M : Type 1} → statement M
-is-dash-spec = tie.close (tie.spec returns shared-slice-read-result returns-2)
+is-dash-spec = tie.close (tie.spec returns (λ c. search needs) returns-2)

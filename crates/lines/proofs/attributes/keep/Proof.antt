@@ -7,15 +7,6 @@ use borrow.Author.Needs.{needs}
 use Rattle.lines.proofs.attributes.keep.Statement.{statement}
 use Rattle.lines.proofs.attributes.keep.Tie as tie
 
-mul-t7 : tie.Need-mul-t7
-mul-t7 c = search needs
-
-element-set-from-attrs : tie.Need-element-set-from-attrs
-element-set-from-attrs c = search needs
-
-add-result : tie.Need-add-result
-add-result c = search needs
-
 returns : tie.Need-returns
 unfolding next put
 returns c =
@@ -29,4 +20,4 @@ returns-2 c =
     (sym (pick-false _ _ _ t), sym (pick-false _ _ _ t))
 
 pub keep-spec : {M : Type 1} → statement M
-keep-spec = tie.close (tie.spec mul-t7 element-set-from-attrs add-result returns returns-2)
+keep-spec = tie.close (tie.spec (λ c. search needs) (λ c. search needs) (λ c. search needs) returns returns-2)

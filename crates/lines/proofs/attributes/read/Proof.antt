@@ -9,18 +9,12 @@ use borrow.Author.Needs.{needs}
 use Rattle.lines.proofs.attributes.read.Statement.{statement}
 use Rattle.lines.proofs.attributes.read.Tie as tie
 
-is-dash-requires : tie.Need-is-dash-requires
-is-dash-requires c κs = search needs
-
 returns : tie.Need-returns
 unfolding spelled told kept
 returns c =
     let a = c .before .before .before .args in
     let e : spelled (now (a .bytes)) ≡ [] = pick-true _ _ _ (sym (c .before .is-dash .ensures) ∙ c .if1 .taken) in
     (sym (ap (told 0) e), sym (ap (λ (r : List Attribute). kept 0 r (now (a .attrs))) e))
-
-several-requires : tie.Need-several-requires
-several-requires c κs = search needs
 
 returns-2 : tie.Need-returns-2
 unfolding spelled
@@ -31,4 +25,4 @@ returns-2 c =
     (c .several .ensures .0 ∙ sym (ap (told 0) e), c .several .ensures .1 ∙ sym (ap (λ (r : List Attribute). kept 0 r (now (a .attrs))) e))
 
 pub read-spec : {M : Type 1} → statement M
-read-spec = tie.close (tie.spec is-dash-requires returns several-requires returns-2)
+read-spec = tie.close (tie.spec (λ c κs. search needs) returns (λ c κs. search needs) returns-2)

@@ -36,12 +36,6 @@ part-attribute-of-end c = c .end .ensures .0
 attribute-of-requires : tie.Need-attribute-of-requires Inv-loop μ-loop
 attribute-of-requires c κs = tt
 
-enum-known-key : tie.Need-enum-known-key Inv-loop μ-loop
-enum-known-key c = search needs
-
-enum-told : tie.Need-enum-told Inv-loop μ-loop
-enum-told c = search needs
-
 returns : tie.Need-returns Inv-loop μ-loop
 unfolding from
 returns c =
@@ -66,9 +60,6 @@ returns-2 c =
     let bs = now (e .before .before .before .before .args .bytes) in
     let f = last-here bs (l .i) (e .end .result) (l .n) (l .attrs) (e .end .ensures .1) _ _ (c .if1 .taken) (sym (g .attribute-of .ensures) ∙ y .key .given .1) in
     (ap G.Are (k .keep .ensures .0) ∙ sym (f .0) ∙ l .inv .1, k .keep .ensures .1 ∙ sym (f .1) ∙ l .inv .2)
-
-add-i : tie.Need-add-i Inv-loop μ-loop
-add-i c = omega arith
 
 loop-less : tie.Need-loop-less Inv-loop μ-loop
 loop-less c = omega (arith, c .before .before .before .before .before .before .before .before .end .ensures .1)
@@ -99,21 +90,5 @@ returns-3 c =
 pub several-spec : {M : Type 1} → statement M
 several-spec =
     tie.close
-    (tie.spec
-    Inv-loop
-    μ-loop
-    loop-holds
-    end-requires
-    sub-attribute-of
-    part-attribute-of-start
-    part-attribute-of-end
-    attribute-of-requires
-    enum-known-key
-    enum-told
-    returns
-    keep-requires
-    returns-2
-    add-i
-    loop-less
-    loop-again
-    returns-3)
+    (tie.spec Inv-loop μ-loop loop-holds end-requires sub-attribute-of part-attribute-of-start part-attribute-of-end attribute-of-requires
+    (λ c. search needs) (λ c. search needs) returns keep-requires returns-2 (λ c. omega arith) loop-less loop-again returns-3)

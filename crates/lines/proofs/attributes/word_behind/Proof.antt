@@ -11,21 +11,6 @@ use borrow.Author.Needs.{needs}
 use Rattle.lines.proofs.attributes.word_behind.Statement.{statement}
 use Rattle.lines.proofs.attributes.word_behind.Tie as tie
 
-add-word-of : tie.Need-add-word-of
-add-word-of c = search needs
-
-sub-word-of : tie.Need-sub-word-of
-sub-word-of c = search needs
-
-part-word-of-start : tie.Need-part-word-of-start
-part-word-of-start c = search needs
-
-part-word-of-end : tie.Need-part-word-of-end
-part-word-of-end c = search needs
-
-word-of-requires : tie.Need-word-of-requires
-word-of-requires c κs = search needs
-
 returns : tie.Need-returns
 returns c =
     let a = c .before .before .before .before .args in
@@ -42,11 +27,4 @@ returns-2 c =
 pub word-behind-spec : {M : Type 1} → statement M
 word-behind-spec =
     tie.close
-    (tie.spec
-    add-word-of
-    sub-word-of
-    part-word-of-start
-    part-word-of-end
-    word-of-requires
-    returns
-    returns-2)
+    (tie.spec (λ c. search needs) (λ c. search needs) (λ c. search needs) (λ c. search needs) (λ c κs. search needs) returns returns-2)

@@ -8,25 +8,13 @@ use borrow.Author.Needs.{needs}
 use Rattle.lines.proofs.attributes.word_in.Statement.{statement}
 use Rattle.lines.proofs.attributes.word_in.Tie as tie
 
-enum-told : tie.Need-enum-told
-enum-told c = search needs
-
-enum-known-n : tie.Need-enum-known-n
-enum-known-n c = search needs
-
-cast-t5 : tie.Need-cast-t5
-cast-t5 c = search needs
-
 returns : tie.Need-returns
 returns c =
     let g = c .before .before .n .given in
     sym (ap wordIn (g .1) ∙ pick-true _ _ _ (lt-ltb _ (2 ^ 32) (c .if1 .taken)))
 
-returns-2 : tie.Need-returns-2
-returns-2 c = search needs
-
 returns-3 : tie.Need-returns-3
 returns-3 c = sym (ap wordIn (c .before .before .n .given .1) ∙ pick-false _ _ _ (le-ltb _ (2 ^ 32) (c .if1 .left)))
 
 pub word-in-spec : {M : Type 1} → statement M
-word-in-spec = tie.close (tie.spec enum-told enum-known-n cast-t5 returns returns-2 returns-3)
+word-in-spec = tie.close (tie.spec (λ c. search needs) (λ c. search needs) (λ c. search needs) returns (λ c. search needs) returns-3)

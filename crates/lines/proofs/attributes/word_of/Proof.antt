@@ -5,15 +5,9 @@ use borrow.Author.Needs.{needs}
 use Rattle.lines.proofs.attributes.word_of.Statement.{statement}
 use Rattle.lines.proofs.attributes.word_of.Tie as tie
 
-decimal-requires : tie.Need-decimal-requires
-decimal-requires c κs = search needs
-
-word-in-requires : tie.Need-word-in-requires
-word-in-requires c κs = search needs
-
 returns : tie.Need-returns
 unfolding wordOf
 returns c = c .word-in .ensures ∙ ap wordIn (c .before .decimal .ensures)
 
 pub word-of-spec : {M : Type 1} → statement M
-word-of-spec = tie.close (tie.spec decimal-requires word-in-requires returns)
+word-of-spec = tie.close (tie.spec (λ c κs. search needs) (λ c κs. search needs) returns)

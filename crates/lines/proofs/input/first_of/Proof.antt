@@ -16,15 +16,6 @@ from-0 n xs =
     let z : n - 0 ≡ n = omega arith in
     ap (λ (k : ℕ). take k xs) z
 
-sub-result : tie.Need-sub-result
-sub-result c = search needs
-
-part-result-start : tie.Need-part-result-start
-part-result-start c = search needs
-
-part-result-end : tie.Need-part-result-end
-part-result-end c = search needs
-
 returns : tie.Need-returns
 returns c = from-0 (c .before .before .args .n) (now (c .before .before .args .bytes))
 
@@ -32,4 +23,4 @@ returns-2 : tie.Need-returns-2
 returns-2 c = sym (take-all (c .before .args .n) (now (c .before .args .bytes)) (search needs))
 
 pub first-of-spec : {M : Type 1} → statement M
-first-of-spec = tie.close (tie.spec sub-result part-result-start part-result-end returns returns-2)
+first-of-spec = tie.close (tie.spec (λ c. search needs) (λ c. search needs) (λ c. search needs) returns returns-2)

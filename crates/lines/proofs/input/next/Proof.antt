@@ -18,12 +18,6 @@ loop-holds c = tt
 go-on-requires : tie.Need-go-on-requires Inv-loop μ-loop
 go-on-requires c κs = tt
 
-sub-turns : tie.Need-sub-turns Inv-loop μ-loop
-sub-turns c = omega arith
-
-loop-less : tie.Need-loop-less Inv-loop μ-loop
-loop-less c = omega arith
-
 loop-again : tie.Need-loop-again Inv-loop μ-loop
 loop-again c = tt
 
@@ -36,14 +30,4 @@ returns-2 c = tt
 pub next-spec : {M : Type 1} → statement M
 next-spec =
     tie.close
-    (tie.spec
-    Inv-loop
-    μ-loop
-    take-requires
-    loop-holds
-    go-on-requires
-    sub-turns
-    loop-less
-    loop-again
-    returns
-    returns-2)
+    (tie.spec Inv-loop μ-loop take-requires loop-holds go-on-requires (λ c. omega arith) (λ c. omega arith) loop-again returns returns-2)

@@ -8,12 +8,6 @@ use borrow.Author.Needs.{needs}
 use Rattle.lines.proofs.output.bits.Statement.{statement}
 use Rattle.lines.proofs.output.bits.Tie as tie
 
-hex-digits-requires : tie.Need-hex-digits-requires
-hex-digits-requires c κs = search needs
-
-sixteen-requires : tie.Need-sixteen-requires
-sixteen-requires c κs = search needs
-
 returns : tie.Need-returns
 returns c =
     let a = c .before .before .before .before .args in
@@ -21,4 +15,4 @@ returns c =
     (c .sixteen .ensures .0 ∙ ap (waiting (a .n)) p, c .sixteen .ensures .1 ∙ ap (λ (ds : List ℕ). gathered (a .n) ds (now (a .text))) p)
 
 pub bits-spec : {M : Type 1} → statement M
-bits-spec = tie.close (tie.spec hex-digits-requires sixteen-requires returns)
+bits-spec = tie.close (tie.spec (λ c κs. search needs) (λ c κs. search needs) returns)

@@ -12,12 +12,9 @@ returns : tie.Need-returns
 unfolding place
 returns c = (c .if1 .taken, sym (pick-true _ _ _ (lt-ltb (c .before .args .n) 65536 (c .if1 .taken))))
 
-write-requires : tie.Need-write-requires
-write-requires c κs = search needs
-
 returns-2 : tie.Need-returns-2
 unfolding place
 returns-2 c = (omega arith, sym (pick-false _ _ _ (le-ltb (c .before .before .args .n) 65536 (c .before .if1 .left))))
 
 pub room-spec : {M : Type 1} → statement M
-room-spec = tie.close (tie.spec returns write-requires returns-2)
+room-spec = tie.close (tie.spec returns (λ c κs. search needs) returns-2)

@@ -10,12 +10,6 @@ use Rattle.text.proofs.Splitting.{until-is}
 use Rattle.text.proofs.fields.field.Statement.{statement}
 use Rattle.text.proofs.fields.field.Tie as tie
 
-start-requires : tie.Need-start-requires
-start-requires c κs = search needs
-
-end-requires : tie.Need-end-requires
-end-requires c κs = search needs
-
 returns : tie.Need-returns
 unfolding fieldOf
 returns c =
@@ -27,4 +21,4 @@ returns c =
     )
 
 pub field-spec : {M : Type 1} → statement M
-field-spec = tie.close (tie.spec start-requires end-requires returns)
+field-spec = tie.close (tie.spec (λ c κs. search needs) (λ c κs. search needs) returns)

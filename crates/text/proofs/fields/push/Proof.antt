@@ -9,15 +9,6 @@ use borrow.Author.Needs.{needs}
 use Rattle.text.proofs.fields.push.Statement.{statement}
 use Rattle.text.proofs.fields.push.Tie as tie
 
-slice-write-line : tie.Need-slice-write-line
-slice-write-line c = search needs
-
-add-result : tie.Need-add-result
-add-result c = search needs
-
-same-length : tie.Need-same-length
-same-length c = search needs
-
 returns : tie.Need-returns
 returns c = (sym (pick-true _ _ _ (lt-ltb (c .before .args .len) (length (now (c .before .args .line))) (c .if1 .taken))), refl)
 
@@ -25,4 +16,4 @@ returns-2 : tie.Need-returns-2
 returns-2 c = (sym (pick-false _ _ _ (le-ltb (c .before .args .len) (length (now (c .before .args .line))) (c .if1 .left))), sym (set-out (now (c .before .args .line)) (c .before .args .len) (c .before .args .byte) (c .if1 .left)))
 
 pub push-spec : {M : Type 1} → statement M
-push-spec = tie.close (tie.spec slice-write-line add-result same-length returns returns-2)
+push-spec = tie.close (tie.spec (λ c. search needs) (λ c. search needs) (λ c. search needs) returns returns-2)

@@ -18,20 +18,11 @@ abbrev μ-loop : tie.MeasureT-loop
 loop-holds : tie.Need-loop-holds Inv-loop μ-loop
 loop-holds c = (omega arith, omega arith, omega arith)
 
-shared-slice-read-is-space : tie.Need-shared-slice-read-is-space Inv-loop μ-loop
-shared-slice-read-is-space c = omega arith
-
 is-space-requires : tie.Need-is-space-requires Inv-loop μ-loop
 is-space-requires c κs = tt
 
 add-n : tie.Need-add-n Inv-loop μ-loop
 add-n c = omega (arith, c .is-space .ensures .1)
-
-add-i : tie.Need-add-i Inv-loop μ-loop
-add-i c = omega arith
-
-loop-less : tie.Need-loop-less Inv-loop μ-loop
-loop-less c = omega arith
 
 loop-again : tie.Need-loop-again Inv-loop μ-loop
 loop-again c =
@@ -46,4 +37,4 @@ returns c =
     omega (arith, l .inv .2, spaces-none (now (c .before .before .before .args .line)) (l .i) (c .loop-test .left))
 
 pub spaces-spec : {M : Type 1} → statement M
-spaces-spec = tie.close (tie.spec Inv-loop μ-loop loop-holds shared-slice-read-is-space is-space-requires add-n add-i loop-less loop-again returns)
+spaces-spec = tie.close (tie.spec Inv-loop μ-loop loop-holds (λ c. omega arith) is-space-requires add-n (λ c. omega arith) (λ c. omega arith) loop-again returns)

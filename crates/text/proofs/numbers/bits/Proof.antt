@@ -13,12 +13,9 @@ returns : tie.Need-returns
 unfolding bitsOf
 returns c = sym (pick-false _ _ _ (ne-eqb (length (now (c .before .before .args .bytes))) 16 (c .if1 .taken)))
 
-spelled-requires : tie.Need-spelled-requires
-spelled-requires c κs = search needs
-
 returns-2 : tie.Need-returns-2
 unfolding bitsOf
 returns-2 c = c .spelled .ensures ∙ sym (pick-true _ _ _ (eq-eqb (length (now (c .before .before .before .args .bytes))) 16 (c .before .if1 .left)))
 
 pub bits-spec : {M : Type 1} → statement M
-bits-spec = tie.close (tie.spec returns spelled-requires returns-2)
+bits-spec = tie.close (tie.spec returns (λ c κs. search needs) returns-2)

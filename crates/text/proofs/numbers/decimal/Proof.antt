@@ -6,19 +6,13 @@ use Rattle.text.specs.Numbers.{decimalOf}
 use Rattle.text.proofs.numbers.decimal.Statement.{statement}
 use Rattle.text.proofs.numbers.decimal.Tie as tie
 
-ill-led-requires : tie.Need-ill-led-requires
-ill-led-requires c κs = search needs
-
 returns : tie.Need-returns
 unfolding decimalOf
 returns c = sym (pick-true _ _ _ (sym (c .before .ill-led .ensures) ∙ c .if1 .taken))
-
-spelled-requires : tie.Need-spelled-requires
-spelled-requires c κs = search needs
 
 returns-2 : tie.Need-returns-2
 unfolding decimalOf
 returns-2 c = c .spelled .ensures ∙ sym (pick-false _ _ _ (sym (c .before .before .ill-led .ensures) ∙ c .before .if1 .left))
 
 pub decimal-spec : {M : Type 1} → statement M
-decimal-spec = tie.close (tie.spec ill-led-requires returns spelled-requires returns-2)
+decimal-spec = tie.close (tie.spec (λ c κs. search needs) returns (λ c κs. search needs) returns-2)

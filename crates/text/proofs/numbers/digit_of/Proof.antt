@@ -12,9 +12,6 @@ returns : tie.Need-returns
 unfolding digitOf pick
 returns c = (simp (lt-ltb (c .before .args .byte) 48 (c .if1 .taken)) refl, omega arith)
 
-cast-result : tie.Need-cast-result
-cast-result c = search needs
-
 returns-2 : tie.Need-returns-2
 unfolding digitOf pick
 returns-2 c =
@@ -26,12 +23,6 @@ unfolding digitOf pick
 returns-3 c =
     let b = c .before .before .before .args .byte in
     (simp (le-ltb b 48 (omega (arith, c .before .before .if1 .left)), lt-leb b 57 (omega (arith, c .before .if2 .left)), lt-ltb b 65 (c .if3 .taken)) refl, omega arith)
-
-sub-result : tie.Need-sub-result
-sub-result c = search needs
-
-cast-result-2 : tie.Need-cast-result-2
-cast-result-2 c = search needs
 
 returns-4 : tie.Need-returns-4
 unfolding digitOf pick
@@ -48,4 +39,4 @@ returns-5 c =
 pub digit-of-spec : {M : Type 1} → statement M
 digit-of-spec =
     tie.close
-    (tie.spec returns cast-result returns-2 returns-3 sub-result cast-result-2 returns-4 returns-5)
+    (tie.spec returns (λ c. search needs) returns-2 returns-3 (λ c. search needs) (λ c. search needs) returns-4 returns-5)

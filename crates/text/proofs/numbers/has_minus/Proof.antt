@@ -13,12 +13,9 @@ returns : tie.Need-returns
 unfolding hasMinus pick
 returns c = simp (eq-eqb (length (now (c .before .args .bytes))) 0 (c .if1 .taken)) refl
 
-shared-slice-read-result : tie.Need-shared-slice-read-result
-shared-slice-read-result c = search needs
-
 returns-2 : tie.Need-returns-2
 unfolding hasMinus pick
 returns-2 c = simp (ne-eqb (length (now (c .before .before .args .bytes))) 0 (c .before .if1 .left)) refl
 
 pub has-minus-spec : {M : Type 1} → statement M
-has-minus-spec = tie.close (tie.spec returns shared-slice-read-result returns-2)
+has-minus-spec = tie.close (tie.spec returns (λ c. search needs) returns-2)

@@ -17,12 +17,9 @@ returns-2 : tie.Need-returns-2
 unfolding illLed pick
 returns-2 c = simp (ne-eqb (length (now (c .before .before .args .bytes))) 0 (c .before .if1 .left), eq-eqb (length (now (c .before .before .args .bytes))) 1 (c .if2 .taken)) refl
 
-shared-slice-read-result : tie.Need-shared-slice-read-result
-shared-slice-read-result c = search needs
-
 returns-3 : tie.Need-returns-3
 unfolding illLed pick
 returns-3 c = simp (ne-eqb (length (now (c .before .before .before .args .bytes))) 0 (c .before .before .if1 .left), ne-eqb (length (now (c .before .before .before .args .bytes))) 1 (c .before .if2 .left)) refl
 
 pub ill-led-spec : {M : Type 1} → statement M
-ill-led-spec = tie.close (tie.spec returns returns-2 shared-slice-read-result returns-3)
+ill-led-spec = tie.close (tie.spec returns returns-2 (λ c. search needs) returns-3)

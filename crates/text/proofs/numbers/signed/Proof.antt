@@ -12,23 +12,11 @@ use Rattle.text.proofs.Spelling.{minus-length}
 use Rattle.text.proofs.numbers.signed.Statement.{statement}
 use Rattle.text.proofs.numbers.signed.Tie as tie
 
-has-minus-requires : tie.Need-has-minus-requires
-has-minus-requires c κs = search needs
-
 sub-decimal : tie.Need-sub-decimal
 sub-decimal c = minus-length (now (c .before .before .before .args .bytes)) (sym (c .before .has-minus .ensures) ∙ c .if1 .taken)
 
 part-decimal-start : tie.Need-part-decimal-start
 part-decimal-start c = minus-length (now (c .before .before .before .args .bytes)) (sym (c .before .has-minus .ensures) ∙ c .if1 .taken)
-
-part-decimal-end : tie.Need-part-decimal-end
-part-decimal-end c = search needs
-
-decimal-requires : tie.Need-decimal-requires
-decimal-requires c κs = search needs
-
-with-minus-requires : tie.Need-with-minus-requires
-with-minus-requires c κs = search needs
 
 returns : tie.Need-returns
 unfolding signedOf
@@ -40,12 +28,6 @@ returns c =
     ∙ ap withMinus (c .before .decimal .ensures ∙ ap decimalOf (take-all (length bs - 1) (drop 1 bs) l))
     ∙ sym (pick-true _ _ _ (sym (t .before .has-minus .ensures) ∙ t .if1 .taken))
 
-decimal-requires-2 : tie.Need-decimal-requires-2
-decimal-requires-2 c κs = search needs
-
-without-minus-requires : tie.Need-without-minus-requires
-without-minus-requires c κs = search needs
-
 returns-2 : tie.Need-returns-2
 unfolding signedOf
 returns-2 c =
@@ -53,4 +35,4 @@ returns-2 c =
     c .without-minus .ensures ∙ ap withoutMinus (c .before .decimal2 .ensures) ∙ sym (pick-false _ _ _ (sym (t .before .has-minus .ensures) ∙ t .if1 .left))
 
 pub signed-spec : {M : Type 1} → statement M
-signed-spec = tie.close (tie.spec has-minus-requires sub-decimal part-decimal-start part-decimal-end decimal-requires with-minus-requires returns decimal-requires-2 without-minus-requires returns-2)
+signed-spec = tie.close (tie.spec (λ c κs. search needs) sub-decimal part-decimal-start (λ c. search needs) (λ c κs. search needs) (λ c κs. search needs) returns (λ c κs. search needs) (λ c κs. search needs) returns-2)

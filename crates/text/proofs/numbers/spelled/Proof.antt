@@ -18,9 +18,6 @@ abbrev μ-loop : tie.MeasureT-loop
 loop-holds : tie.Need-loop-holds Inv-loop μ-loop
 loop-holds c = (omega arith, omega arith, refl)
 
-shared-slice-read-digit-of : tie.Need-shared-slice-read-digit-of Inv-loop μ-loop
-shared-slice-read-digit-of c = omega arith
-
 digit-of-requires : tie.Need-digit-of-requires Inv-loop μ-loop
 digit-of-requires c κs = tt
 
@@ -34,9 +31,6 @@ returns c =
 
 sub-if2 : tie.Need-sub-if2 Inv-loop μ-loop
 sub-if2 c = omega (arith, c .before .digit-of .ensures .1)
-
-div-if2 : tie.Need-div-if2 Inv-loop μ-loop
-div-if2 c = omega arith
 
 returns-2 : tie.Need-returns-2 Inv-loop μ-loop
 returns-2 c =
@@ -66,12 +60,6 @@ mul-x c = omega (arith, step c)
 add-x : tie.Need-add-x Inv-loop μ-loop
 add-x c = omega (arith, step c)
 
-add-i : tie.Need-add-i Inv-loop μ-loop
-add-i c = omega arith
-
-loop-less : tie.Need-loop-less Inv-loop μ-loop
-loop-less c = omega arith
-
 loop-again : tie.Need-loop-again Inv-loop μ-loop
 loop-again c =
     let e = c .before in
@@ -99,19 +87,5 @@ returns-3 c =
 pub spelled-spec : {M : Type 1} → statement M
 spelled-spec =
     tie.close
-    (tie.spec
-    Inv-loop
-    μ-loop
-    loop-holds
-    shared-slice-read-digit-of
-    digit-of-requires
-    returns
-    sub-if2
-    div-if2
-    returns-2
-    mul-x
-    add-x
-    add-i
-    loop-less
-    loop-again
-    returns-3)
+    (tie.spec Inv-loop μ-loop loop-holds (λ c. omega arith) digit-of-requires returns sub-if2 (λ c. omega arith) returns-2 mul-x add-x
+    (λ c. omega arith) (λ c. omega arith) loop-again returns-3)

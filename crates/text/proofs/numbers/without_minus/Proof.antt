@@ -5,17 +5,8 @@ use Rattle.text.specs.Numbers.{withoutMinus}
 use Rattle.text.proofs.numbers.without_minus.Statement.{statement}
 use Rattle.text.proofs.numbers.without_minus.Tie as tie
 
-enum-told : tie.Need-enum-told
-enum-told c = search needs
-
-enum-known-n : tie.Need-enum-known-n
-enum-known-n c = search needs
-
-returns : tie.Need-returns
-returns c = search needs
-
 returns-2 : tie.Need-returns-2
 returns-2 c = sym (ap withoutMinus (c .before .n .given .1))
 
 pub without-minus-spec : {M : Type 1} → statement M
-without-minus-spec = tie.close (tie.spec enum-told enum-known-n returns returns-2)
+without-minus-spec = tie.close (tie.spec (λ c. search needs) (λ c. search needs) (λ c. search needs) returns-2)

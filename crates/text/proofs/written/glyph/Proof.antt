@@ -9,15 +9,6 @@ use borrow.Author.Needs.{needs}
 use Rattle.text.proofs.written.glyph.Statement.{statement}
 use Rattle.text.proofs.written.glyph.Tie as tie
 
-cast-d : tie.Need-cast-d
-cast-d c = search needs
-
-add-result : tie.Need-add-result
-add-result c = search needs
-
-add-result-2 : tie.Need-add-result-2
-add-result-2 c = search needs
-
 returns : tie.Need-returns
 unfolding glyphOf pick
 returns c = simp (lt-ltb (c .before .args .n % 16) 10 (omega (arith, c .if1 .taken))) refl
@@ -27,4 +18,4 @@ unfolding glyphOf pick
 returns-2 c = simp (le-ltb (c .before .args .n % 16) 10 (omega (arith, c .if1 .left))) refl
 
 pub glyph-spec : {M : Type 1} → statement M
-glyph-spec = tie.close (tie.spec cast-d add-result add-result-2 returns returns-2)
+glyph-spec = tie.close (tie.spec (λ c. search needs) (λ c. search needs) (λ c. search needs) returns returns-2)

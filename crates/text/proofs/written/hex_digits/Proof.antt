@@ -32,17 +32,8 @@ loop-holds : tie.Need-loop-holds Inv-loop μ-loop
 unfolding hexDigits
 loop-holds c = (omega arith, sym (div-one (c .args .bits)), refl, refl)
 
-sub-i : tie.Need-sub-i Inv-loop μ-loop
-sub-i c = omega arith
-
 glyph-requires : tie.Need-glyph-requires Inv-loop μ-loop
 glyph-requires c κs = tt
-
-array-write-out : tie.Need-array-write-out Inv-loop μ-loop
-array-write-out c = omega arith
-
-loop-less : tie.Need-loop-less Inv-loop μ-loop
-loop-less c = omega arith
 
 loop-again : tie.Need-loop-again Inv-loop μ-loop
 loop-again c =
@@ -66,13 +57,4 @@ returns c =
 pub hex-digits-spec : {M : Type 1} → statement M
 hex-digits-spec =
     tie.close
-    (tie.spec
-    Inv-loop
-    μ-loop
-    loop-holds
-    sub-i
-    glyph-requires
-    array-write-out
-    loop-less
-    loop-again
-    returns)
+    (tie.spec Inv-loop μ-loop loop-holds (λ c. omega arith) glyph-requires (λ c. omega arith) (λ c. omega arith) loop-again returns)

@@ -196,102 +196,9 @@ fn make(
 
 // ---- scripts
 
-// Where a script stands behind a line, and whether it goes on.
-struct Place {
-    ports: Ports,
-    state: state::State,
-    open: bool,
-}
-
-// Replays one line.
-fn turn(
-    at: Place,
-    number: u64,
-    block: &mut Block,
-    line: &mut Line,
-    text: &mut Block,
-    f: &mut state::Fields,
-    attrs: &mut Attributes,
-    keys: &mut state::Keys,
-    bounds: &mut state::Bounds,
-    handles: &mut state::Handles,
-    sets: &mut state::Sets,
-    entries: &mut state::Entries,
-    order: &mut state::Order,
-    figures: &mut state::Figures,
-    extremes: &mut state::Extremes,
-    pos: &mut state::Counts,
-    neg: &mut state::Counts,
-    totals: &mut state::Totals,
-    out_sets: &mut state::ListedSets,
-    out_words: &mut state::ListedWords,
-    out_pos: &mut state::ListedCounts,
-    out_neg: &mut state::ListedCounts,
-) -> Place {
-    let s = at.state;
-    let mut now = lines::input::next(at.ports, block, line, text);
-    let letter = line::read(line, now.len, now.over, s, f, handles, attrs, bounds, keys);
-    let o = make(
-        letter,
-        f,
-        s,
-        attrs,
-        keys,
-        bounds,
-        sets,
-        entries,
-        order,
-        figures,
-        extremes,
-        pos,
-        neg,
-        totals,
-        out_sets,
-        out_words,
-        out_pos,
-        out_neg,
-    );
-    cells::settle(letter, o.no, o.told, f, keys, bounds, handles);
-    let n = show::answer(
-        text,
-        now.waiting,
-        number,
-        letter,
-        f,
-        o,
-        line,
-        now.len,
-        handles,
-        bounds,
-        out_sets,
-        out_words,
-        out_pos,
-        out_neg,
-    );
-    let next = o.state;
-    now.waiting = sums::shown(
-        text,
-        n,
-        letter,
-        next,
-        sets,
-        entries,
-        order,
-        figures,
-        extremes,
-        pos,
-        neg,
-        totals,
-        out_sets,
-        out_words,
-        out_pos,
-        out_neg,
-    );
-    Place {
-        ports: now,
-        state: next,
-        open: letter != line::END && letter != b'=',
-    }
+// Whether a script has a line behind one of a letter.
+fn goes_on(letter: u8) -> bool {
+    letter != line::END && letter != b'='
 }
 
 // Replays one script, up to the line that names the next or to the input's end.
@@ -313,25 +220,31 @@ fn script(ports: Ports, block: &mut Block, line: &mut Line, text: &mut Block) ->
     let mut out_words = [[2u64; 12]; 74];
     let mut out_pos = [0u64; 11840];
     let mut out_neg = [0u64; 11840];
-    let mut at = Place {
-        ports,
-        state: state::first(),
-        open: true,
-    };
+    let mut now = ports;
+    let mut s = state::first();
+    let mut open = true;
     let mut number: u64 = 0;
-    while number < u64::MAX && at.open {
+    while number < u64::MAX && open {
         number += 1;
-        at = turn(
-            at,
-            number,
-            block,
+        now = lines::input::next(now, block, line, text);
+        let letter = line::read(
             line,
-            text,
+            now.len,
+            now.over,
+            s,
             &mut f,
+            &handles,
             &mut attrs,
-            &mut keys,
             &mut bounds,
-            &mut handles,
+            &mut keys,
+        );
+        let o = make(
+            letter,
+            &f,
+            s,
+            &attrs,
+            &keys,
+            &mut bounds,
             &mut sets,
             &mut entries,
             &mut order,
@@ -345,8 +258,53 @@ fn script(ports: Ports, block: &mut Block, line: &mut Line, text: &mut Block) ->
             &mut out_pos,
             &mut out_neg,
         );
+        cells::settle(
+            letter,
+            o.no,
+            o.told,
+            &f,
+            &mut keys,
+            &mut bounds,
+            &mut handles,
+        );
+        let n = show::answer(
+            text,
+            now.waiting,
+            number,
+            letter,
+            &f,
+            o,
+            line,
+            now.len,
+            &handles,
+            &bounds,
+            &out_sets,
+            &out_words,
+            &out_pos,
+            &out_neg,
+        );
+        s = o.state;
+        now.waiting = sums::shown(
+            text,
+            n,
+            letter,
+            s,
+            &sets,
+            &entries,
+            &order,
+            &figures,
+            &extremes,
+            &pos,
+            &neg,
+            &totals,
+            &out_sets,
+            &out_words,
+            &out_pos,
+            &out_neg,
+        );
+        open = goes_on(letter);
     }
-    at.ports
+    now
 }
 
 fn is_over(p: Ports) -> bool {

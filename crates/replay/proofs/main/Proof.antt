@@ -21,12 +21,6 @@ is-over-requires c κs = tt
 script-requires : tie.Need-script-requires Inv-loop μ-loop
 script-requires c κs = tt
 
-sub-turns : tie.Need-sub-turns Inv-loop μ-loop
-sub-turns c = omega arith
-
-loop-less : tie.Need-loop-less Inv-loop μ-loop
-loop-less c = omega arith
-
 loop-again : tie.Need-loop-again Inv-loop μ-loop
 loop-again c = tt
 
@@ -39,15 +33,5 @@ returns c = tt
 pub main-spec : {M : Type 1} → statement M
 main-spec =
     tie.close
-    (tie.spec
-    Inv-loop
-    μ-loop
-    first-requires
-    loop-holds
-    is-over-requires
-    script-requires
-    sub-turns
-    loop-less
-    loop-again
-    write-requires
-    returns)
+    (tie.spec Inv-loop μ-loop first-requires loop-holds is-over-requires script-requires (λ c. omega arith) (λ c. omega arith) loop-again
+    write-requires returns)

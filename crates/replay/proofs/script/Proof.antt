@@ -17,9 +17,6 @@ first-requires c κs = tt
 loop-holds : tie.Need-loop-holds Inv-loop μ-loop
 loop-holds c = tt
 
-add-number : tie.Need-add-number Inv-loop μ-loop
-add-number c = omega arith
-
 next-requires : tie.Need-next-requires Inv-loop μ-loop
 next-requires c κs = tt
 
@@ -61,20 +58,5 @@ returns-2 c = tt
 pub script-spec : {M : Type 1} → statement M
 script-spec =
     tie.close
-    (tie.spec
-    Inv-loop
-    μ-loop
-    first-requires
-    loop-holds
-    add-number
-    next-requires
-    read-requires
-    make-requires
-    settle-requires
-    answer-requires
-    shown-requires
-    goes-on-requires
-    loop-less
-    loop-again
-    returns
-    returns-2)
+    (tie.spec Inv-loop μ-loop first-requires loop-holds (λ c. omega arith) next-requires read-requires make-requires settle-requires
+    answer-requires shown-requires goes-on-requires loop-less loop-again returns returns-2)

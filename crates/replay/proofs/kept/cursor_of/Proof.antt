@@ -13,20 +13,8 @@ abbrev μ-loop : tie.MeasureT-loop
 first-requires : tie.Need-first-requires Inv-loop μ-loop
 first-requires c κs = tt
 
-loop-holds : tie.Need-loop-holds Inv-loop μ-loop
-loop-holds c = omega arith
-
 behind-requires : tie.Need-behind-requires Inv-loop μ-loop
 behind-requires c κs = tt
-
-add-i : tie.Need-add-i Inv-loop μ-loop
-add-i c = omega arith
-
-loop-less : tie.Need-loop-less Inv-loop μ-loop
-loop-less c = omega arith
-
-loop-again : tie.Need-loop-again Inv-loop μ-loop
-loop-again c = omega arith
 
 returns : tie.Need-returns Inv-loop μ-loop
 returns c = tt
@@ -34,4 +22,4 @@ returns c = tt
 pub cursor-of-spec : {M : Type 1} → statement M
 cursor-of-spec =
     tie.close
-    (tie.spec Inv-loop μ-loop first-requires loop-holds behind-requires add-i loop-less loop-again returns)
+    (tie.spec Inv-loop μ-loop first-requires (λ c. omega arith) behind-requires (λ c. omega arith) (λ c. omega arith) (λ c. omega arith) returns)

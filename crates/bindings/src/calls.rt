@@ -50,7 +50,7 @@ fn bind_held(d: directory::Directory, entries: &mut [[u64; 3]], x: usize) -> cra
         ≡ heldBound d (record { sets = sets; entries = now (entries .entry); order = order }) x)) ⌝ }
 {
     let n = entries[x][1];
-    if n >= directory::GREATEST {
+    if n >= u64::MAX {
         return crate::Reply {
             answer: crate::Answer::Refused(9),
             dir: d,
@@ -79,7 +79,7 @@ fn bind_new(
     ensures { λ r. ⌜ gave r (stores (sets .exit) (entries .exit) (order .exit))
         ≡ bornBound d (stores (sets .entry) (entries .entry) (order .entry)) row rank more ⌝ }
 {
-    if d.last >= directory::GREATEST {
+    if d.last >= u64::MAX {
         return crate::Reply {
             answer: crate::Answer::Refused(9),
             dir: d,

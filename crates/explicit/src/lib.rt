@@ -207,7 +207,7 @@ fn refusal(bounds: &[f64], head: Head, counts: &[u64], v: f64) -> u8
     if !floats::is_finite(head.max) {
         return 8;
     }
-    if head.count >= 18446744073709551615 {
+    if head.count >= u64::MAX {
         return 9;
     }
     0

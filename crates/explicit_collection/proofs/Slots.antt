@@ -13,9 +13,9 @@ use lib.Ieee.Scale.{finite}
 use Rattle.laws.specs.Pick.{pick}
 use Rattle.laws.specs.Said.{Said, refusal, success}
 use Rattle.laws.proofs.Bools.{pick-true, pick-false}
-use Rattle.parts.specs.Parts.{partAt}
-use Rattle.parts.proofs.Laws.{part-length}
-use Rattle.parts.proofs.Answers.{success?, valueIn, not-refused}
+use Rattle.rows.specs.Parts.{partAt}
+use Rattle.rows.proofs.Parts.{part-length}
+use Rattle.laws.proofs.Answers.{success?, valueIn, not-refused}
 use Rattle.laws.specs.Over.{over}
 use Rattle.laws.proofs.Over.{take-over, length-over}
 use Rattle.floats.specs.Starts.{zeroFloat}

@@ -13,10 +13,10 @@ use borrow.Author.Tests.{le-leb}
 use Rattle.laws.specs.Pick.{pick}
 use Rattle.laws.specs.Said.{Said, refusal, success}
 use Rattle.laws.proofs.Bools.{flag, pick-true, pick-false}
-use Rattle.parts.specs.Parts.{partAt, putAt}
-use Rattle.parts.specs.Recording.{Recording}
-use Rattle.parts.proofs.Laws.{put-same}
-use Rattle.parts.proofs.Answers.{success?, valueIn, not-refused}
+use Rattle.rows.specs.Parts.{partAt, putAt}
+use Rattle.rows.specs.Recording.{Recording}
+use Rattle.rows.proofs.Parts.{put-same}
+use Rattle.laws.proofs.Answers.{success?, valueIn, not-refused}
 use Rattle.rows.specs.Rows.{over}
 use Rattle.rows.proofs.Laws.{length-over}
 use Rattle.points.specs.Explicit.{bucketCount, boundsPass, bucketsOf, recordBucket, bucketsAgree}

@@ -16,8 +16,8 @@ use borrow.Author.Tests.{le-leb, lt-leb, ltb-true, ltb-false}
 use Rattle.laws.specs.Pick.{pick, _and_}
 use Rattle.laws.specs.Said.{Said, refusal, success}
 use Rattle.laws.proofs.Bools.{flag, not-both, pick-true, pick-false}
-use Rattle.parts.specs.Recording.{Recording}
-use Rattle.parts.proofs.Laws.{part-length, put-length, put-own, put-other}
+use Rattle.rows.specs.Recording.{Recording}
+use Rattle.rows.proofs.Parts.{part-length, put-length, put-own, put-other}
 use Rattle.rows.specs.Rows.{over}
 use Rattle.rows.proofs.Laws.{length-over}
 use Rattle.points.specs.Explicit.{bucketCount, boundsPass, bucketsOf, recordBucket, bucketsAgree}

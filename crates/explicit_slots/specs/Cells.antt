@@ -7,8 +7,8 @@ use lib.Ieee.{Float, nan}
 use denote.Ref.{RefT, now}
 use Rattle.laws.specs.Pick.{pick}
 use Rattle.laws.specs.Said.{Said, refusal, success}
-use Rattle.parts.specs.Parts.{partAt, putAt}
-use Rattle.parts.specs.Recording.{Recording, after}
+use Rattle.rows.specs.Parts.{partAt, putAt}
+use Rattle.rows.specs.Recording.{Recording, after}
 use Rattle.laws.specs.Over.{over}
 use Rattle.points.specs.Explicit.{bucketCount, boundsPass}
 use Rattle.points.specs.Figures.{Figures, explicitCounts}

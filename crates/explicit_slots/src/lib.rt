@@ -4,7 +4,7 @@ ghost use mathlib.Core.Bool.{true};
 ghost use Prim.Native.Nat.{_+_, _*_, _<_, _≤_};
 ghost use lib.ListN.{length};
 ghost use lib.Ieee.Scale.{finite};
-ghost use Rattle.parts.specs.Recording.{after};
+ghost use Rattle.rows.specs.Recording.{after};
 ghost use Rattle.points.specs.Explicit.{bucketCount};
 ghost use Rattle.explicit.specs.Series.{said, outcome};
 ghost use Rattle.explicit_slots.specs.Cells.{begun, entering, cells, recordedAt};

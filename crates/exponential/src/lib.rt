@@ -267,7 +267,7 @@ fn refusal(size: u32, top: u32, head: Head, pos: &[u64], neg: &[u64], v: f64) ->
     if !floats::is_finite(head.max) {
         return 8;
     }
-    if c.count == 18446744073709551615 {
+    if c.count == u64::MAX {
         return 9;
     }
     0

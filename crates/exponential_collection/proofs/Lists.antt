@@ -13,8 +13,8 @@ use lib.Ieee.Scale.{finite}
 use lib.Ieee.Fits.{add-fits}
 use lib.Ieee.Bits.{is-true}
 use Rattle.laws.proofs.Bools.{flag, pick-true, pick-false}
-use Rattle.parts.specs.Parts.{partAt}
-use Rattle.parts.specs.Recording.{Recording}
+use Rattle.rows.specs.Parts.{partAt}
+use Rattle.rows.specs.Recording.{Recording}
 use Rattle.index.specs.Bins.{finest}
 use Rattle.floats.specs.Answers.{lesserOf, greaterOf}
 use Rattle.points.specs.Points.{Point}

@@ -12,8 +12,8 @@ use lib.Ieee.Scale.{finite}
 use Rattle.laws.specs.Pick.{pick}
 use Rattle.laws.proofs.Bools.{flag, not-both, pick-true, pick-false}
 use Rattle.laws.proofs.Cases.{and-true}
-use Rattle.parts.specs.Parts.{partAt}
-use Rattle.parts.proofs.Laws.{part-length}
+use Rattle.rows.specs.Parts.{partAt}
+use Rattle.rows.proofs.Parts.{part-length}
 use Rattle.points.specs.Figures.{exponential}
 use Rattle.exponential.specs.declared.Head.{Head}
 use Rattle.exponential.specs.Series as S

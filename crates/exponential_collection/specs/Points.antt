@@ -3,7 +3,7 @@ use Prim.Native.Nat.{ℕ}
 use mathlib.Core.Bool.{Bool}
 use mathlib.Core.List.{[]}
 use lib.ListN.{getD, take}
-use Rattle.parts.specs.Parts.{partAt}
+use Rattle.rows.specs.Parts.{partAt}
 use Rattle.exponential.specs.declared.Head.{Head}
 use Rattle.exponential_slots.specs.Cells.{Cells, headOf}
 use Rattle.point.specs.Handing.{exponentialPoint}

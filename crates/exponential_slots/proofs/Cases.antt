@@ -12,10 +12,10 @@ use borrow.Author.Tests.{leb-true, le-leb, lt-leb}
 use Rattle.laws.specs.Pick.{pick, _and_}
 use Rattle.laws.specs.Said.{Said, refusal, success, number}
 use Rattle.laws.proofs.Bools.{flag, and-left, and-right, pick-true, pick-false}
-use Rattle.parts.specs.Parts.{partAt, putAt}
-use Rattle.parts.specs.Recording.{Recording, after}
-use Rattle.parts.proofs.Laws.{put-same}
-use Rattle.parts.proofs.Answers.{not-refused}
+use Rattle.rows.specs.Parts.{partAt, putAt}
+use Rattle.rows.specs.Recording.{Recording, after}
+use Rattle.rows.proofs.Parts.{put-same}
+use Rattle.laws.proofs.Answers.{not-refused}
 use Rattle.exponential.specs.declared.Head.{Head}
 use Rattle.exponential.specs.Series.{refusalOf, Outcome, recording}
 use Rattle.exponential.specs.Runs.{freshHead}

@@ -14,9 +14,9 @@ use borrow.Author.Tests.{ltb-true, ltb-false}
 use Rattle.laws.specs.Said.{Said, refusal, success}
 use Rattle.laws.proofs.Bools.{flag, not-both}
 use Rattle.laws.proofs.Cases.{and-true}
-use Rattle.parts.specs.Parts.{partAt}
-use Rattle.parts.specs.Recording.{Recording, after}
-use Rattle.parts.proofs.Laws.{part-length}
+use Rattle.rows.specs.Parts.{partAt}
+use Rattle.rows.specs.Recording.{Recording, after}
+use Rattle.rows.proofs.Parts.{part-length}
 use Rattle.points.specs.Points.{Point}
 use Rattle.points.specs.Values.{start}
 use Rattle.points.specs.Figures.{exponential, Settings, Counts, exponentialCounts, Figures}

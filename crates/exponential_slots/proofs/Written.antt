@@ -9,9 +9,9 @@ use lib.Seq.{getD-set-same, getD-set-other}
 use lib.Ieee.{Float, binary64, fits}
 use lib.Ieee.Scale.{finite}
 use Rattle.laws.proofs.Cases.{and-true}
-use Rattle.parts.specs.Parts.{partAt, putAt}
-use Rattle.parts.specs.Recording.{Recording, after}
-use Rattle.parts.proofs.Laws.{part-length, put-length, put-own, put-other}
+use Rattle.rows.specs.Parts.{partAt, putAt}
+use Rattle.rows.specs.Recording.{Recording, after}
+use Rattle.rows.proofs.Parts.{part-length, put-length, put-own, put-other}
 use Rattle.floats.specs.Starts.{zeroFloat}
 use Rattle.rows.specs.Rows.{over}
 use Rattle.rows.proofs.Laws.{length-over}

@@ -8,8 +8,8 @@ use lib.Ieee.{Float, nan}
 use denote.Ref.{RefT, now}
 use Rattle.laws.specs.Pick.{pick, _and_}
 use Rattle.laws.specs.Said.{Said, refusal, success}
-use Rattle.parts.specs.Parts.{partAt, putAt}
-use Rattle.parts.specs.Recording.{Recording, after}
+use Rattle.rows.specs.Parts.{partAt, putAt}
+use Rattle.rows.specs.Recording.{Recording, after}
 use Rattle.exponential.specs.declared.Counts.{Counts}
 use Rattle.exponential.specs.declared.Head.{Head}
 use Rattle.exponential.specs.Series.{recording}

@@ -6,7 +6,7 @@ use lib.Dec.{leb}
 use lib.ListN.{getD}
 use lib.Ieee.{Float, nan}
 use Rattle.laws.specs.Pick.{pick, _and_}
-use Rattle.parts.specs.Parts.{partAt}
+use Rattle.rows.specs.Parts.{partAt}
 use Rattle.index.specs.Bins.{finest}
 use Rattle.floats.specs.Starts.{zeroFloat}
 use Rattle.points.specs.Points.{Row}

@@ -5,7 +5,7 @@ ghost use Prim.Native.Nat.{_+_, _*_, _<_, _≤_};
 ghost use lib.ListN.{length};
 ghost use lib.Ieee.Scale.{finite};
 ghost use Rattle.laws.specs.Said.{number};
-ghost use Rattle.parts.specs.Recording.{after};
+ghost use Rattle.rows.specs.Recording.{after};
 ghost use Rattle.exponential.specs.Series.{said};
 ghost use Rattle.exponential_slots.specs.Cells.{cells, narrow, readable, headIn, headOf, wordsOf};
 ghost use Rattle.exponential_slots.specs.Cells.{figuresAfter, extremesAfter, recordedAt};

@@ -12,3 +12,4 @@ pub mod Every
 pub mod Powers
 pub mod Differences
 pub mod NoneOf
+pub mod Answers

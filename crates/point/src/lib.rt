@@ -199,7 +199,7 @@ fn counts_fit(f: Figures, g: Figures) -> bool
 {
     let x = count_in(f);
     let y = count_in(g);
-    y <= 18446744073709551615 - x
+    y <= u64::MAX - x
 }
 
 fn refusal(

@@ -24,7 +24,7 @@ use Rattle.listing.specs.Words.{figuresIn, pointIn, isPoint}
 use Rattle.listing.proofs.Back.{point-is}
 use Rattle.listing.proofs.Given.{exponential-held}
 use Rattle.collecting.specs.Read.{AllFit}
-use Rattle.parts.specs.Parts.{partAt}
+use Rattle.rows.specs.Parts.{partAt}
 use Rattle.value_map.specs.Exponential.{unset}
 use Rattle.exponential_collection.specs.Points.{headAt, exponentialLister}
 use Rattle.exponential_collection.proofs.Slots.{agreesAt, accepted, agreeing-of, pos-length, neg-length}

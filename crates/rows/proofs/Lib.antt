@@ -5,3 +5,4 @@ pub mod Adds
 pub mod Algebra
 pub mod Puts
 pub mod Change
+pub mod Parts

@@ -1,2 +1,4 @@
 -- The definitions that the contracts of `rows` cite.
 pub mod Rows
+pub mod Parts
+pub mod Recording

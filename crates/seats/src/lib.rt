@@ -56,7 +56,7 @@ fn new_seat(d: directory::Directory, target: directory::Target) -> Seating
     requires { ⌜ d .used + 1 < 18446744073709551616 ⌝ }
     ensures { λ r. ⌜ r ≡ newSeat d target ⌝ }
 {
-    if d.last >= directory::GREATEST {
+    if d.last >= u64::MAX {
         return refused(9);
     }
     Seating {

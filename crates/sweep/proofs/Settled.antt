@@ -4,18 +4,15 @@ use mathlib.Core.Path.{_≡_, refl, ap, sym, subst, _∙_}
 use mathlib.Core.Logic.{inl, inr}
 use mathlib.Core.Bool.{Bool, true, false, not, _&&_}
 use mathlib.Core.List.{List, [], _∷_, map}
-use mathlib.Core.Option.{Option, none, some}
+use mathlib.Core.Option.{none}
 use native.Mathlib.Numerals.{add-one}
 use native.Mathlib.Omega.{arith}
 use borrow.Author.Tests.{le-leb, ne-eqb}
 use lib.Dec.{eqb}
 use lib.ListN.{length, getD, length-map}
-use Rattle.laws.specs.Tests.{all}
 use Rattle.laws.proofs.Cases.{true-not-false}
-use Rattle.tally.specs.Kind.{Room, inAll}
-use Rattle.tally.specs.Map.{Config, Entry, Map, Agrees, Points, collect, listed, plain, sound, points, unlisted, orRefused}
-use Rattle.tally.proofs.MapSteps.{upfront, act, swept}
-use Rattle.tally.proofs.Agree.{step-agrees}
+use Rattle.tally.specs.Map.{Config, Agrees, plain}
+use Rattle.tally.proofs.Agree.{agree-swept}
 use Rattle.sets.specs.Rows.{setOf, soundb}
 use Rattle.sets.proofs.Spans.{span-at}
 use Rattle.directory.specs.Calls.{Kept}
@@ -41,31 +38,6 @@ use Rattle.sweep.proofs.Faithful.{places, place-used, used-swept, last-
 birth-named : (entries : List (List ℕ)) (x : ℕ) → 1 ≤ x → birthAt entries x ≡ getD (getD entries x []) 0 0
 birth-named entries zero h = absurd (omega arith)
 birth-named entries (suc x) h = refl
-
--- a map without figures, swept: a collection of it with room enough
-module _ (c : Config blank) (m : Map blank) where
-  all-sound : (l : List (Entry blank)) → all (λ e. sound blank (m .settings) (e .series)) l ≡ true
-  all-sound [] = refl
-  all-sound (e ∷ l) = go (e .series) (all-sound l)
-    where
-      go : (o : Option Unit) → all (λ e. sound blank (m .settings) (e .series)) l ≡ true → (sound blank (m .settings) o && all (λ e. sound blank (m .settings) (e .series)) l) ≡ true
-      go none h = h
-      go (some x) h = h
-
-  abbrev ps : Points blank
-  ps = points blank (m .settings) (m .entries)
-
-  abbrev ample : Room
-  ample = record { points = length (map (λ p. p .1) ps); pos = inAll blank (λ p. 0) (map (λ p. p .1) ps); neg = inAll blank (λ p. 0) (map (λ p. p .1) ps) }
-
-  all-listed : unlisted blank m ample ps ≡ none
-  all-listed =
-      rw
-      (all-sound (m .entries), le-leb (ample .points) (ample .points) (omega arith), le-leb (ample .pos) (ample .pos) (omega arith))
-
-  swept-agrees : Agrees blank c m → Agrees blank c (swept blank m)
-  unfolding upfront act
-  swept-agrees g = subst (λ (n : Option ℕ). Agrees blank c (orRefused blank m n (record { answer = listed ps; map = swept blank m }) .map)) all-listed (step-agrees blank c m g (collect ample))
 
 at-in : (l : List ℕ) (k : ℕ) → k < length l → In (getD l k 0) l
 at-in [] k h = absurd (omega arith)
@@ -154,7 +126,7 @@ module _ (limit : ℕ) (k : Kept) (g : agreesb limit (k .dir) (k .stores) ≡ tr
   sweep-keeps =
       let c : Config blank = record { settings = tt; limit = limit; filter = none } in
       laid-agrees blank (λ x. tt) tt c d′ s′ swept-laid
-      (subst (Agrees blank c) (sym (sweep-faithful limit k g ls le lo blank (λ x. tt) (λ x. tt) tt)) (swept-agrees c (view blank (λ x. tt) tt d s) (agreed blank (λ x. tt) tt c d s g)))
+      (subst (Agrees blank c) (sym (sweep-faithful limit k g ls le lo blank (λ x. tt) (λ x. tt) tt)) (agree-swept blank c (view blank (λ x. tt) tt d s) (agreed blank (λ x. tt) tt c d s g)))
 
   sets-long : length (s′ .sets) ≡ length (s .sets)
   unfolding sweptKept

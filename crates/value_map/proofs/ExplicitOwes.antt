@@ -12,7 +12,7 @@ use borrow.Author.Tests.{leb-true}
 use Rattle.laws.specs.Pick.{pick}
 use Rattle.laws.proofs.Bools.{pick-left}
 use Rattle.laws.proofs.Cases.{and-true, true-not-false}
-use Rattle.parts.proofs.Laws.{within}
+use Rattle.rows.proofs.Parts.{within}
 use Rattle.points.specs.Explicit.{boundsPass, bucketCount}
 use Rattle.explicit_slots.specs.Cells.{Cells, Room}
 use Rattle.explicit_slots.proofs.Series as Laws

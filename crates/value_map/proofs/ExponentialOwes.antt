@@ -10,7 +10,7 @@ use borrow.Author.Tests.{le-leb, lt-leb, leb-true}
 use Rattle.laws.specs.Pick.{pick}
 use Rattle.laws.proofs.Bools.{pick-left, pick-then}
 use Rattle.laws.proofs.Cases.{and-true, true-not-false}
-use Rattle.parts.proofs.Laws.{within}
+use Rattle.rows.proofs.Parts.{within}
 use Rattle.index.specs.Bins.{finest}
 use Rattle.points.specs.Figures.{exponential, sizePasses}
 use Rattle.kinds.specs.Histograms as Kinds

@@ -3,7 +3,7 @@
 use Prim.Native.Nat.{ℕ}
 use mathlib.Core.Bool.{Bool}
 use Rattle.tally.specs.Kind.{Kind}
-pub use Rattle.parts.specs.Recording.{Recording}
+pub use Rattle.rows.specs.Recording.{Recording}
 
 pub record Store (K : Kind) : Type 1 where
   -- the settings that no recording reads: they act where a point is handed out

@@ -5,7 +5,7 @@ ghost use Prim.Native.Nat.{ℕ, _+_};
 ghost use lib.Dec.{leb};
 ghost use Rattle.laws.specs.Pick.{pick};
 ghost use Rattle.points.specs.Explicit.{boundsPass, bucketCount};
-ghost use Rattle.parts.specs.Recording.{after};
+ghost use Rattle.rows.specs.Recording.{after};
 ghost use Rattle.sets.specs.Sorted.{given, filterOf};
 ghost use Rattle.directory.specs.View.{stores};
 ghost use Rattle.explicit_slots.specs.Cells.{cells};

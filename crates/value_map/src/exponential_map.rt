@@ -3,7 +3,7 @@
 ghost use mathlib.Core.Path.{_≡_};
 ghost use Prim.Native.Nat.{ℕ, _+_};
 ghost use lib.Dec.{leb};
-ghost use Rattle.parts.specs.Recording.{after};
+ghost use Rattle.rows.specs.Recording.{after};
 ghost use Rattle.sets.specs.Sorted.{given, filterOf};
 ghost use Rattle.directory.specs.View.{stores};
 ghost use Rattle.exponential_slots.specs.Cells.{cells};

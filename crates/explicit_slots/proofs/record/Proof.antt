@@ -5,8 +5,8 @@ use native.Mathlib.Omega.{arith}
 use denote.Ref.{now}
 use lib.ListN.{length}
 use borrow.Author.Needs.{needs}
-use Rattle.parts.specs.Parts.{partAt}
-use Rattle.parts.proofs.Laws.{part-length}
+use Rattle.rows.specs.Parts.{partAt}
+use Rattle.rows.proofs.Parts.{part-length}
 use Rattle.points.specs.Explicit.{bucketCount}
 use Rattle.explicit.specs.Series.{said}
 use Rattle.explicit_slots.specs.Cells.{Cells}

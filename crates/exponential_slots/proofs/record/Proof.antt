@@ -7,7 +7,7 @@ use mathlib.Core.Bool.{true}
 use mathlib.Core.List.{[]}
 use borrow.Author.Tests.{not-true, not-false}
 use lib.ListN.{getD}
-use Rattle.parts.specs.Parts.{partAt}
+use Rattle.rows.specs.Parts.{partAt}
 use Rattle.exponential.specs.Series.{said, Outcome, recording}
 use Rattle.exponential_slots.specs.Cells.{Cells, readable, recordedAt}
 use Rattle.exponential_slots.proofs.Cases.{into, unread, called, written-by}

@@ -6,7 +6,7 @@ use denote.Ref.{now}
 use lib.ListN.{length}
 use borrow.Author.Needs.{needs}
 use borrow.Author.Tests.{not-true, not-false}
-use Rattle.parts.proofs.Laws.{part-length}
+use Rattle.rows.proofs.Parts.{part-length}
 use Rattle.explicit_slots.specs.Cells.{Cells, cells}
 use Rattle.listing.specs.Listed.{Output, output}
 use Rattle.explicit_collection.proofs.Slots.{put-none, put-held, put-first}

@@ -7,7 +7,7 @@ use borrow.Author.Tests.{not-true, not-false}
 use lib.ListN.{getD}
 use lib.Ieee.{nan}
 use lib.Ieee.Scale.{finite}
-use Rattle.parts.specs.Parts.{partAt}
+use Rattle.rows.specs.Parts.{partAt}
 use Rattle.exponential.specs.declared.Head.{Head}
 use Rattle.exponential.specs.Series as S
 use Rattle.exponential_slots.specs.Cells.{Cells, cells, countsIn, narrow, headIn}

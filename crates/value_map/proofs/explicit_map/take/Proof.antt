@@ -5,7 +5,7 @@ use mathlib.Core.Path.{ap, _∙_}
 use denote.Ref.{now}
 use Rattle.points.specs.Explicit.{boundsPass}
 use Rattle.explicit_slots.specs.Cells.{Cells, cells}
-use Rattle.parts.specs.Recording.{after}
+use Rattle.rows.specs.Recording.{after}
 use Rattle.value_map.specs.Explicit.{explicitStore}
 use Rattle.value_map.specs.Inner.{turned}
 use Rattle.value_map.proofs.Ways.{take-no, take-on}

@@ -12,3 +12,4 @@ pub mod Ends
 pub mod Numbers
 pub mod Handed
 pub mod Steps
+pub mod Configures

@@ -3,3 +3,4 @@ pub mod Lister
 pub mod Collected
 pub mod Read
 pub mod Slots
+pub mod Configured

@@ -1,6 +1,5 @@
 -- The laws of the explicit kind's public calls.
 pub mod Slots
-pub mod Configures
 pub mod Lists
 pub mod Lent
 pub mod Loops

@@ -11,9 +11,10 @@ ghost use Rattle.bindings.specs.Calls as Bindings;
 ghost use Rattle.explicit_slots.specs.Cells.{cells};
 ghost use Rattle.value_map.specs.Calls.{held};
 ghost use Rattle.listing.specs.Listed.{output};
+ghost use Rattle.collecting.specs.Configured.{setUp, configuring};
 ghost use Rattle.collecting.specs.Collected.{gave, uncollected, deltaCollected, cumulativeCollected};
 ghost use Rattle.explicit_collection.specs.Points.{explicitLister};
-ghost use Rattle.explicit_collection.specs.Configured.{said, setUp, configuring, configured};
+ghost use Rattle.explicit_collection.specs.Configured.{said, configured};
 use collecting::Answer;
 use collecting::Reply;
 use directory::Directory;
@@ -39,7 +40,7 @@ pub enum Configured {
 
 // What configuring says by what the start of the map replied.
 fn set_up(settings: Settings, reply: bindings::Reply) -> Configured
-    ensures { λ r. ⌜ said r ≡ setUp settings (reply .dir) (Bindings.said (reply .answer)) ⌝ }
+    ensures { λ r. ⌜ said r ≡ setUp (record { settings = settings; dir = reply .dir }) (Bindings.said (reply .answer)) ⌝ }
 {
     let dir = reply.dir;
     let answer = reply.answer;
@@ -65,7 +66,7 @@ pub fn configure(
     extremes: &[[f64; 3]],
     counts: &[u64],
 ) -> Configured
-    ensures { λ r. ⌜ configuring r (stores (sets .entry) (entries .exit) (order .entry))
+    ensures { λ r. ⌜ configuring (said r) (stores (sets .entry) (entries .exit) (order .entry))
         ≡ configured (now (bounds .entry)) show sums limit (filterOf present (now (filter .entry)))
         (stores (sets .entry) (entries .entry) (order .entry)) (cells (totals .entry) (extremes .entry) (counts .entry)) ⌝ }
 {

@@ -2,5 +2,4 @@
 pub mod Slots
 pub mod Lists
 pub mod Turns
-pub mod Configuring
 pub mod Deciding

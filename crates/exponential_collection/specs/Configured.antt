@@ -10,11 +10,9 @@ use Rattle.index.specs.Signed.{levelAnswer}
 use Rattle.index.specs.declared.signed.Natural.{Natural}
 use Rattle.index.specs.declared.signed.Natural.the-variants.{OutOfRange, Is}
 use Rattle.directory.specs.View.{Stores}
-use Rattle.directory.specs.declared.Directory.{Directory}
 use Rattle.exponential_slots.specs.Cells.{Cells}
-use Rattle.value_map.specs.Calls.{started}
 use Rattle.value_map.specs.Exponential.{exponentialStore}
-use Rattle.exponential_collection.specs.declared.Settings.{Settings}
+use Rattle.collecting.specs.Configured.{Configuring, configuredAs}
 use Rattle.exponential_collection.specs.declared.Setup.{Setup}
 use Rattle.exponential_collection.specs.declared.Configured.{Configured}
 use Rattle.exponential_collection.specs.declared.Configured.the-variants.{Refused, Accepted}
@@ -32,22 +30,8 @@ abbrev pub said : Configured → Said Setup
 said (Refused n) = refusal n
 said (Accepted s) = success s
 
--- what configuring says, and the directory's stores after it
-pub record Configuring : Type 0 where
-  pub answer : Said Setup
-  pub stores : Stores
-
-abbrev pub configuring : Configured → Stores → Configuring
-configuring r s = record { answer = said r; stores = s }
-
--- the settings and the fresh map's state, where the start was accepted
-abbrev pub setUp : Settings → Directory → Said (Option ℕ) → Said Setup
-setUp z d (refusal n) = refusal n
-setUp z d (success b) = success (record { settings = z; dir = d })
-
 -- "Configuring: 1, 2, 3, 4, 12"
-unfoldable pub configured : ℕ → ℤ → Bool → Bool → ℕ → Option (List ℕ) → Stores → Cells → Configuring
+unfoldable pub configured : ℕ → ℤ → Bool → Bool → ℕ → Option (List ℕ) → Stores → Cells → Configuring Setup
 configured size scale extremes sums limit filter s c =
-    let o = started (exponentialStore size (topOf scale)) limit filter s c in
-    let z : Settings = record { size = size; top = topOf scale; extremes = extremes; sums = sums; limit = limit } in
-    record { answer = setUp z (o .held .kept .dir) (o .answer); stores = o .held .kept .stores }
+    configuredAs (exponentialStore size (topOf scale))
+    (λ d. record { settings = record { size = size; top = topOf scale; extremes = extremes; sums = sums; limit = limit }; dir = d }) limit filter s c

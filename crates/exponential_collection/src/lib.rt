@@ -10,9 +10,10 @@ ghost use Rattle.bindings.specs.Calls as bindings-calls;
 ghost use Rattle.exponential_slots.specs.Cells.{cells};
 ghost use Rattle.value_map.specs.Calls.{held};
 ghost use Rattle.listing.specs.Listed.{output};
+ghost use Rattle.collecting.specs.Configured.{setUp, configuring};
 ghost use Rattle.collecting.specs.Collected.{gave, uncollected, deltaCollected, cumulativeCollected};
 ghost use Rattle.exponential_collection.specs.Points.{exponentialLister};
-ghost use Rattle.exponential_collection.specs.Configured.{levelOr, said, setUp, configuring, configured};
+ghost use Rattle.exponential_collection.specs.Configured.{levelOr, said, configured};
 use collecting::Answer;
 use collecting::Reply;
 use directory::Directory;
@@ -51,7 +52,7 @@ fn level_or(found: Natural) -> u32
 
 // What configuring says by what the start said: a refusal hands out no state.
 fn set_up(z: Settings, r: bindings::Reply) -> Configured
-    ensures { λ o. ⌜ said o ≡ setUp z (r .dir) (bindings-calls.said (r .answer)) ⌝ }
+    ensures { λ o. ⌜ said o ≡ setUp (record { settings = z; dir = r .dir }) (bindings-calls.said (r .answer)) ⌝ }
 {
     let answer = r.answer;
     let dir = r.dir;
@@ -79,7 +80,7 @@ pub fn configure(
     pos: &[u64],
     neg: &[u64],
 ) -> Configured
-    ensures { λ r. ⌜ configuring r (stores (sets .entry) (entries .exit) (order .entry))
+    ensures { λ r. ⌜ configuring (said r) (stores (sets .entry) (entries .exit) (order .entry))
         ≡ configured size scale show sums limit (filterOf present (now (filter .entry)))
         (stores (sets .entry) (entries .entry) (order .entry)) (cells (figures .entry) (extremes .entry) (pos .entry) (neg .entry)) ⌝ }
 {

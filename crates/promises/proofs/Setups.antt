@@ -1,12 +1,12 @@
 -- Configuring that is accepted hands out the settings that were asked, and the state of a fresh map. Assumes nothing.
 use Prim.Native.Nat.{ℕ}
-use mathlib.Core.Path.{_≡_, refl, ap, sym, subst}
+use mathlib.Core.Path.{_≡_, ap, sym, subst}
 use mathlib.Core.Bool.{Bool}
 use mathlib.Core.List.{List, []}
 use mathlib.Core.Option.{Option}
 use lib.IntN.{ℤ}
 use lib.Ieee.{Float}
-use Rattle.laws.specs.Said.{Said, refusal, success, number}
+use Rattle.laws.specs.Said.{success, number}
 use Rattle.floats.specs.Starts.{zeroFloat}
 use Rattle.directory.specs.View.{Stores}
 use Rattle.exponential_slots.specs.Cells as ExponentialCells
@@ -14,7 +14,6 @@ use Rattle.explicit_slots.specs.Cells as ExplicitCells
 use Rattle.value_map.specs.Calls.{Outcome, held, started}
 use Rattle.value_map.specs.Exponential.{exponentialStore}
 use Rattle.value_map.specs.Explicit.{explicitStore}
-use Rattle.value_map.proofs.Cases.{refusal-no-success}
 use Rattle.value_map.proofs.ExponentialOwes as ExponentialOwes
 use Rattle.value_map.proofs.ExplicitOwes as ExplicitOwes
 use Rattle.exponential_collection.proofs.Lists.{exponential-lists}
@@ -31,6 +30,7 @@ use Rattle.value_map.specs.Store.{Store}
 use Rattle.value_map.proofs.Owed.{Owed}
 use Rattle.collecting.specs.Lister.{Lister}
 use Rattle.collecting.proofs.Owed.{Lists}
+use Rattle.collecting.proofs.Configures.{set-up-taken}
 use Rattle.kinds.specs.Histograms.{histograms}
 use Rattle.kinds.proofs.Recorded.{lawful}
 use Rattle.kinds.proofs.Steady.{histograms-steady}
@@ -38,7 +38,6 @@ use Rattle.promises.specs.Promises.{Promised, ExponentialDemand, Explici
 use Rattle.promises.proofs.Runs.{Keeps, runs}
 use Rattle.promises.proofs.Cumulates.{cumulates}
 use Rattle.promises.proofs.Stored.{Storing}
-use Rattle.promises.proofs.Groupings.{success-is}
 use Rattle.promises.proofs.Demanded.{demanded}
 use Rattle.promises.proofs.Exponential as ExponentialPays
 use Rattle.promises.proofs.Explicit as ExplicitPays
@@ -65,11 +64,7 @@ module _ (size : ℕ) (scale : ℤ) (extremes sums : Bool) (limit : ℕ) (filter
   exponential-setup : Exponential.configured size scale extremes sums limit filter s x .answer ≡ success u
       → (number (o .answer) ≡ 0) × (record { settings = z; dir = o .held .kept .dir } ≡ u)
   unfolding Exponential.configured
-  exponential-setup e = go (o .answer) e
-    where
-      go : (a : Said (Option ℕ)) → Exponential.setUp z (o .held .kept .dir) a ≡ success u → (number a ≡ 0) × (record { settings = z; dir = o .held .kept .dir } ≡ u)
-      go (refusal n) e = refusal-no-success n u e
-      go (success b) e = (refl, success-is (record { settings = z; dir = o .held .kept .dir }) u e)
+  exponential-setup e = set-up-taken (record { settings = z; dir = o .held .kept .dir }) u (o .answer) e
 
 pub exponential-demand : ExponentialDemand
 unfolding Exponential.configured started
@@ -95,11 +90,7 @@ module _ (bounds : List Float) (extremes sums : Bool) (limit : ℕ) (filter : Op
   explicit-setup : Explicit.configured bounds extremes sums limit filter s x .answer ≡ success u
       → (number (begins .answer) ≡ 0) × (record { settings = asked; dir = begins .held .kept .dir } ≡ u)
   unfolding Explicit.configured
-  explicit-setup e = go (begins .answer) e
-    where
-      go : (a : Said (Option ℕ)) → Explicit.setUp asked (begins .held .kept .dir) a ≡ success u → (number a ≡ 0) × (record { settings = asked; dir = begins .held .kept .dir } ≡ u)
-      go (refusal n) e = refusal-no-success n u e
-      go (success b) e = (refl, success-is (record { settings = asked; dir = begins .held .kept .dir }) u e)
+  explicit-setup e = set-up-taken (record { settings = asked; dir = begins .held .kept .dir }) u (begins .answer) e
 
 pub explicit-demand : ExplicitDemand
 unfolding Explicit.configured started

@@ -8,7 +8,9 @@ pub mod Surveys
 pub mod Puts
 pub mod Walks
 pub mod Turns
+pub mod Loops
 pub mod Ends
+pub mod Decides
 pub mod Numbers
 pub mod Handed
 pub mod Steps

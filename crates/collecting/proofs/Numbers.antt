@@ -10,7 +10,7 @@ use Rattle.directory.specs.Calls.{mostSets, storesSuffice}
 use Rattle.directory.specs.declared.Directory.{Directory}
 use Rattle.seats.proofs.Least.{both-suffice}
 use Rattle.collecting.specs.Collected.{fewest}
-use Rattle.collecting.specs.Slots.{barredBy, surveyedBy}
+use Rattle.collecting.specs.Slots.{unsurveyed, surveyedBy}
 use Rattle.collecting.specs.declared.Survey.{Survey}
 
 -- the number of the call: what comes before the survey comes first
@@ -20,32 +20,32 @@ orElse first then = pick (eqb first 0) then first
 -- ---- before any series is read
 
 module _ (cells : Bool) (unset limit : ℕ) (d : Directory) (s : Stores) where
-  pub bar-stores : storesSuffice limit s ≡ false → barredBy cells unset limit d s ≡ 12
-  unfolding barredBy pick
+  pub bar-stores : storesSuffice limit s ≡ false → unsurveyed cells unset limit d s ≡ 12
+  unfolding unsurveyed pick
   bar-stores e = λ j. pick (e j && cells) (pick (eqb unset 0 && (leb limit mostSets && agreesb limit d s)) 0 8) 12
 
   module _ (r : storesSuffice limit s ≡ true) where
-    pub bar-cells : cells ≡ false → barredBy cells unset limit d s ≡ 12
-    unfolding barredBy pick
+    pub bar-cells : cells ≡ false → unsurveyed cells unset limit d s ≡ 12
+    unfolding unsurveyed pick
     bar-cells e = λ j. pick (r j && e j) (pick (eqb unset 0 && (leb limit mostSets && agreesb limit d s)) 0 8) 12
 
     module _ (c : cells ≡ true) where
-      pub bar-unset : (unset ≡ 0 → ⊥) → barredBy cells unset limit d s ≡ 8
-      unfolding barredBy pick
+      pub bar-unset : (unset ≡ 0 → ⊥) → unsurveyed cells unset limit d s ≡ 8
+      unfolding unsurveyed pick
       bar-unset n = λ j. pick (r j && c j) (pick (ne-eqb unset 0 n j && (leb limit mostSets && agreesb limit d s)) 0 8) 12
 
       module _ (z : unset ≡ 0) where
-        pub bar-limit : mostSets < limit → barredBy cells unset limit d s ≡ 8
-        unfolding barredBy pick
+        pub bar-limit : mostSets < limit → unsurveyed cells unset limit d s ≡ 8
+        unfolding unsurveyed pick
         bar-limit h = λ j. pick (r j && c j) (pick (eq-eqb unset 0 z j && (lt-leb limit mostSets h j && agreesb limit d s)) 0 8) 12
 
         module _ (m : limit ≤ mostSets) where
-          pub bar-directory : agreesb limit d s ≡ false → barredBy cells unset limit d s ≡ 8
-          unfolding barredBy pick
+          pub bar-directory : agreesb limit d s ≡ false → unsurveyed cells unset limit d s ≡ 8
+          unfolding unsurveyed pick
           bar-directory e = λ j. pick (r j && c j) (pick (eq-eqb unset 0 z j && (le-leb limit mostSets m j && e j)) 0 8) 12
 
-          pub bar-none : agreesb limit d s ≡ true → barredBy cells unset limit d s ≡ 0
-          unfolding barredBy pick
+          pub bar-none : agreesb limit d s ≡ true → unsurveyed cells unset limit d s ≡ 0
+          unfolding unsurveyed pick
           bar-none e = λ j. pick (r j && c j) (pick (eq-eqb unset 0 z j && (le-leb limit mostSets m j && e j)) 0 8) 12
 
 -- ---- by what a survey found

@@ -19,22 +19,14 @@ use Rattle.seats.proofs.Least.{both-suffice}
 use Rattle.sweep.specs.Swept.{only}
 use Rattle.value_map.specs.Store.{Store}
 use Rattle.value_map.specs.Calls.{Held}
-use Rattle.listing.specs.declared.Cursor.{Cursor}
 use Rattle.listing.specs.Listed.{Output, overAt}
 use Rattle.listing.specs.Inner.{Put, left}
 use Rattle.listing.proofs.Lists.{over-behind-front, rows-snoc}
 use Rattle.collecting.specs.Lister.{Lister}
 use Rattle.collecting.specs.Collected.{fewest, roomOf, slotsOf, due, dueOf, setRows, wordRows, posCounts, negCounts, laidOut, roomy}
-use Rattle.collecting.specs.Slots.{walked, laidAt, behindAt, putSlot, putSlots}
+use Rattle.collecting.specs.Slots.{walked, Place, laidAt, behindAt, putSlot, putSlots}
 use Rattle.collecting.proofs.Nexts.{slots-all, only-yes, only-no, only-front}
 use Rattle.collecting.proofs.Surveys.{pos-append, neg-append, pos-snoc, neg-snoc, in-slots, points-more, pos-more, neg-more, pos-walked, neg-walked}
-
--- the room that a point asks at a cursor
-pub record Place (at : Cursor) (out : Output) (p n : ℕ) : Type 0 where
-  pub sets : at .place < length (out .sets)
-  pub words : at .place < length (out .words)
-  pub pos : at .pos + p ≤ length (out .pos)
-  pub neg : at .neg + n ≤ length (out .neg)
 
 fewest-both : (n a b : ℕ) → leb n (fewest a b) ≡ true → (n ≤ a) × (n ≤ b)
 fewest-both n a b e = let p = and-true (leb n a) (leb n b) (sym (both-suffice a b n) ∙ e) in (leb-true n a (p .0), leb-true n b (p .1))

@@ -19,11 +19,11 @@ use Rattle.listing.specs.Listed.{Output}
 use Rattle.listing.specs.Inner.{Put, left}
 use Rattle.collecting.specs.Lister.{Lister}
 use Rattle.collecting.specs.Collected.{roomOf, slotsOf, due, dueOf, roomy}
-use Rattle.collecting.specs.Slots.{unsound, surveyedAt, counted, surveyed, putSlot, putSlots}
+use Rattle.collecting.specs.Slots.{unsound, Place, surveyedAt, counted, surveyed, putSlot, putSlots}
 use Rattle.collecting.specs.declared.Survey.{Survey}
 use Rattle.collecting.proofs.Nexts.{slot-is}
 use Rattle.collecting.proofs.Surveys.{agreed, survey-turn, agree-turn, survey-none, turn-sound, turn-unsound, survey-all}
-use Rattle.collecting.proofs.Puts.{Place, put-none, put-room, put-turn, put-all}
+use Rattle.collecting.proofs.Puts.{put-none, put-room, put-turn, put-all}
 
 module _ {K : Kind} {S : Store K} (L : Lister S) (w : S .Switches) (cumulative : Bool) (h : Held (S .Cells)) where
   abbrev used : ℕ

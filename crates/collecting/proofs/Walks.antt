@@ -2,7 +2,7 @@
 use Prim.Native.Nat.{ℕ, _≤_, _<_}
 use mathlib.Core.Path.{_≡_, refl, ap, _∙_}
 use mathlib.Core.Bool.{Bool, true, false, _&&_}
-use mathlib.Core.List.{[]}
+use mathlib.Core.List.{List, []}
 use native.Mathlib.Omega.{arith}
 use borrow.Author.Tests.{leb-true, eqb-true}
 use lib.Dec.{leb, eqb}
@@ -24,13 +24,9 @@ use Rattle.value_map.proofs.Owed.{Owed}
 use Rattle.listing.specs.Listed.{Output}
 use Rattle.collecting.specs.Lister.{Lister}
 use Rattle.collecting.specs.Collected.{fewest, slotsOf, agreeing, roomy, uncollected}
-use Rattle.collecting.specs.Slots.{barredBy, unsound, surveyedBy, Walk, counted, surveyed}
+use Rattle.collecting.specs.Slots.{unsurveyed, unsound, surveyedBy, walked, Walk, counted, surveyed}
 use Rattle.collecting.proofs.Numbers.{orElse}
 use Rattle.collecting.specs.declared.Survey.{Survey}
--- the laws of a turn, under one name with these
-pub use Rattle.collecting.proofs.Nexts.{slot-is, slots-length, slot-most, slots-all, take-next, only-append, only-yes, only-no, only-front, all-next, all-stop}
-pub use Rattle.collecting.proofs.Surveys.{pos-append, neg-append, pos-snoc, neg-snoc, pos-walked, neg-walked, all-walked, survey-turn, agree-turn, survey-none, turn-sound, turn-unsound, survey-all, survey-walked, agreed, agree-at}
-pub use Rattle.collecting.proofs.Puts.{Fit, fit-of, fit-front, Long, laid-long, Place, put-none, fit-first, put-room, put-turn, put-all, put-walked, room-walked}
 
 -- ---- the number that refuses
 
@@ -50,12 +46,12 @@ found true s sets words pos neg a = rw a
 found false s sets words pos neg a = refl
 
 pub number-is : {K : Kind} {S : Store K} (L : Lister S) (w : S .Switches) (cumulative : Bool) (limit : ℕ) (h : Held (S .Cells)) (o : Output)
-    → orElse (barredBy (S .suffices limit (h .cells)) (S .unset) limit (h .kept .dir) (h .kept .stores))
+    → orElse (unsurveyed (S .suffices limit (h .cells)) (S .unset) limit (h .kept .dir) (h .kept .stores))
     (surveyedBy (surveyed L w cumulative h) (length (o .sets)) (length (o .words)) (length (o .pos)) (length (o .neg)))
     ≡ uncollected L w cumulative limit h o
-unfolding surveyed barredBy uncollected roomy
+unfolding surveyed unsurveyed uncollected roomy
 number-is {S = S} L w cumulative limit h o =
-    ap (orElse (barredBy (S .suffices limit (h .cells)) (S .unset) limit (h .kept .dir) (h .kept .stores)))
+    ap (orElse (unsurveyed (S .suffices limit (h .cells)) (S .unset) limit (h .kept .dir) (h .kept .stores)))
     (found (agreeing L w h) (counted L w cumulative h (slotsOf (h .kept))) (length (o .sets)) (length (o .words)) (length (o .pos)) (length (o .neg)) refl)
     ∙ numbers (storesSuffice limit (h .kept .stores) && S .suffices limit (h .cells)) (eqb (S .unset) 0) (leb limit mostSets) (agreesb limit (h .kept .dir) (h .kept .stores)) (agreeing L w h) _
 
@@ -68,8 +64,8 @@ pub record Open (cells : Bool) (unset limit : ℕ) (d : Directory) (s : Stores) 
   pub few : limit ≤ mostSets
   pub agrees : agreesb limit d s ≡ true
 
-pub open-of : (cells : Bool) (unset limit : ℕ) (d : Directory) (s : Stores) → barredBy cells unset limit d s ≡ 0 → Open cells unset limit d s
-unfolding barredBy
+pub open-of : (cells : Bool) (unset limit : ℕ) (d : Directory) (s : Stores) → unsurveyed cells unset limit d s ≡ 0 → Open cells unset limit d s
+unfolding unsurveyed
 open-of cells unset limit d s e =
     let a = and-true (storesSuffice limit s) cells (pick-left (storesSuffice limit s && cells) _ 12 (omega arith) e) in
     let t = pick-left (eqb unset 0 && (leb limit mostSets && agreesb limit d s)) 0 8 (omega arith) (pick-then (storesSuffice limit s && cells) _ 12 (omega arith) e) in
@@ -98,8 +94,9 @@ module _ {K : Kind} (S : Store K) (limit : ℕ) (h : Held (S .Cells)) (g : Open 
         place-slot (d .used) (s .sets) (s .order) (places-right limit d s (g .agrees)),
       )
 
-  pub walk-of : Owed S → Walk S (d .used) (s .entries) (s .order) (h .cells)
-  walk-of W =
+  -- a walk over the map, whatever sets it reads
+  pub walk-of : Owed S → (sets : List (List ℕ)) → Walk S (walked (h .kept .dir .used) sets (h .kept .stores .entries) (h .kept .stores .order) (h .cells))
+  walk-of W sets =
       let q = sweepable in
       record {
         set = g .set;

@@ -1,13 +1,14 @@
 -- BETWEEN OUR OWN CRATES: serves inner contracts and proofs; nobody needs it to believe the public calls or the theorems.
 -- How a collection goes through the slots, one by one: the definitions of the contracts between our crates. Assumes nothing.
-use Prim.Native.Nat.{ℕ, _+_, _≤_, _<_}
+use Prim.Native.Nat.{ℕ, _+_, _*_, _≤_, _<_}
 use mathlib.Core.Path.{_≡_}
 use mathlib.Core.Bool.{Bool, true, false, not, _&&_, _||_}
-use mathlib.Core.List.{List}
+use mathlib.Core.List.{List, []}
 use lib.Dec.{leb, eqb}
 use lib.ListN.{length, getD, set}
 use Rattle.laws.specs.Pick.{pick}
 use Rattle.tally.specs.Kind.{Kind}
+use Rattle.sets.specs.Rows.{size}
 use Rattle.directory.specs.View.{Stores, agreesb}
 use Rattle.directory.specs.Calls.{mostSets, storesSuffice}
 use Rattle.directory.specs.declared.Directory.{Directory}
@@ -18,14 +19,14 @@ use Rattle.listing.specs.declared.Cursor.{Cursor}
 use Rattle.listing.specs.Listed.{Output, overAt}
 use Rattle.listing.specs.Inner.{Put, left}
 use Rattle.collecting.specs.Lister.{Lister}
-use Rattle.collecting.specs.Collected.{fewest, slotsOf, due, posCounts, negCounts, agreeing, laidOut}
+use Rattle.collecting.specs.Collected.{fewest, roomOf, slotsOf, due, dueOf, posCounts, negCounts, agreeing, laidOut, roomy}
 use Rattle.collecting.specs.declared.Survey.{Survey}
 
 -- ---- deciding by reading
 
 -- "12, 8", before any series is read: of the kind's cells, which suffice or not, and of the number with which configuring refuses its settings
-unfoldable pub barredBy : Bool → ℕ → ℕ → Directory → Stores → ℕ
-barredBy cells unset limit d s =
+unfoldable pub unsurveyed : Bool → ℕ → ℕ → Directory → Stores → ℕ
+unsurveyed cells unset limit d s =
     pick (storesSuffice limit s && cells) (pick (eqb unset 0 && (leb limit mostSets && agreesb limit d s)) 0 8) 12
 
 -- what a survey of the slots finds where a series disagrees
@@ -52,16 +53,30 @@ walked used sets entries order c =
       cells = c;
     }
 
--- the slots of a walk lie in the stores
-pub record Walk {K : Kind} (S : Store K) (used : ℕ) (rows : List (List ℕ)) (places : List ℕ) (c : S .Cells) : Type 0 where
+-- the slots of a walk over the map lie in the stores
+pub record Walk {K : Kind} (S : Store K) (h : Held (S .Cells)) : Type 0 where
   pub set : S .unset ≡ 0
-  pub most : used < 65536
-  pub order : used ≤ length places
-  pub entries : (x : ℕ) → x ≤ used → x < length rows
-  pub slots : (k : ℕ) → k < used → (1 ≤ getD places k 0) × (getD places k 0 ≤ used)
-  pub room : (x : ℕ) → x ≤ used → S .Room c x
+  pub most : h .kept .dir .used < 65536
+  pub order : h .kept .dir .used ≤ length (h .kept .stores .order)
+  pub entries : (x : ℕ) → x ≤ h .kept .dir .used → x < length (h .kept .stores .entries)
+  pub slots : (k : ℕ) → k < h .kept .dir .used → (1 ≤ getD (h .kept .stores .order) k 0) × (getD (h .kept .stores .order) k 0 ≤ h .kept .dir .used)
+  pub room : (x : ℕ) → x ≤ h .kept .dir .used → S .Room (h .cells) x
+
+-- a survey of slots that lie in the stores; and one with a slot more: a point has at most 160 counts in either store
+abbrev pub Few : Survey → Type 0
+Few s = (s .points < 65536) × (s .pos ≤ 65536 * 160) × (s .neg ≤ 65536 * 160)
+
+abbrev pub More : Survey → Survey → Type 0
+More s t = (t .points ≤ s .points + 1) × (t .pos ≤ s .pos + 160) × (t .neg ≤ s .neg + 160)
 
 -- ---- writing
+
+-- there is room at a cursor for a point with so many counts in either store
+pub record Place (at : Cursor) (o : Output) (p n : ℕ) : Type 0 where
+  pub sets : at .place < length (o .sets)
+  pub words : at .place < length (o .words)
+  pub pos : at .pos + p ≤ length (o .pos)
+  pub neg : at .neg + n ≤ length (o .neg)
 
 -- a row, words and counts put at a cursor, and the cursor behind them
 unfoldable pub laidAt : Cursor → List ℕ → List ℕ → List ℕ → List ℕ → Output → Output
@@ -93,6 +108,23 @@ module _ {K : Kind} {S : Store K} (L : Lister S) (w : S .Switches) where
   unfoldable pub surveyed : Bool → Held (S .Cells) → Survey
   surveyed cumulative h = pick (agreeing L w h) (counted cumulative h (slotsOf (h .kept))) unsound
 
+  -- what is known of a slot whose point is put: configuring accepts the settings, the slot lies in the cells, its series agrees if it holds one
+  pub record Sound (updated : Bool) (c : S .Cells) (x : ℕ) : Type 0 where
+    pub set : S .unset ≡ 0
+    pub room : S .Room c x
+    pub agrees : (not updated || K .agrees (S .settings w) (S .at c x)) ≡ true
+
+  -- and there is room for its point at a cursor
+  abbrev pub Free : Bool → S .Cells → ℕ → Cursor → Output → Type 0
+  Free updated c x at o = Place at o (length (L .pos c x updated)) (length (L .neg c x updated))
+
+  -- and of all slots whose points are put: the points that are due have room
+  pub record Listable (cumulative : Bool) (h : Held (S .Cells)) (o : Output) : Type 0 where
+    pub walk : Walk S h
+    pub sets : (x : ℕ) → x ≤ h .kept .dir .used → (x < length (h .kept .stores .sets)) × (0 < x → size (getD (h .kept .stores .sets) x []) ≤ 8)
+    pub agrees : agreeing L w h ≡ true
+    pub room : roomy L w h (dueOf cumulative (h .kept)) (roomOf o) ≡ true
+
   -- the point of slot x put at a cursor, if it is due
   unfoldable pub putSlot : Bool → Bool → S .Cells → ℕ → List ℕ → Cursor → Output → Put
   putSlot updated due c x row at o =
@@ -105,3 +137,7 @@ module _ {K : Kind} {S : Store K} (L : Lister S) (w : S .Switches) where
   abbrev pub putSlots : Held (S .Cells) → List ℕ → Output → Put
   putSlots h l o =
       left (record { place = length l; pos = length (posCounts L w h l); neg = length (negCounts L w h l) }) (laidOut L w h l o)
+
+  -- the points that are due, in the output
+  abbrev pub listedTo : Bool → Held (S .Cells) → Output → Put
+  listedTo cumulative h o = putSlots h (dueOf cumulative (h .kept)) o

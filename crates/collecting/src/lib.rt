@@ -8,7 +8,7 @@ ghost use lib.ListN.{length, getD};
 ghost use Rattle.laws.specs.Pick.{pick};
 ghost use Rattle.sets.specs.Rows.{size, setOf, rowOf};
 ghost use Rattle.directory.specs.View.{setAt, stores};
-ghost use Rattle.collecting.specs.Slots.{barredBy, surveyedBy};
+ghost use Rattle.collecting.specs.Slots.{unsurveyed, surveyedBy};
 use directory::Directory;
 
 // What a collection says: a refusal's number, or how many points lie in the output.
@@ -43,7 +43,7 @@ pub fn barred(
     entries: &[[u64; 3]],
     order: &[u32],
 ) -> u8
-    ensures { λ r. ⌜ r ≡ barredBy cells unset limit d (stores (sets .entry) (entries .entry) (order .entry)) ⌝ }
+    ensures { λ r. ⌜ r ≡ unsurveyed cells unset limit d (stores (sets .entry) (entries .entry) (order .entry)) ⌝ }
 {
     if !directory::stores_suffice(limit, sets.len(), entries.len(), order.len()) {
         return 12;

@@ -2,5 +2,3 @@
 pub mod Slots
 pub mod Lists
 pub mod Lent
-pub mod Loops
-pub mod Calls

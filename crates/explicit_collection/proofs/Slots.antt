@@ -33,10 +33,10 @@ use Rattle.listing.specs.Inner.{Put, left}
 use Rattle.listing.specs.Inner as ListedInner
 use Rattle.listing.specs.Words.{wordsOf}
 use Rattle.listing.specs.declared.Cursor.{Cursor}
-use Rattle.collecting.specs.Slots.{unsound, oneMore, surveyedAt, laidAt, behindAt, putSlot}
+use Rattle.collecting.specs.Slots.{unsound, oneMore, Place, surveyedAt, laidAt, behindAt, putSlot}
 use Rattle.collecting.specs.declared.Survey.{Survey}
 use Rattle.explicit_collection.specs.Points.{headAt, countsAt, spanOf, explicitLister}
-use Rattle.explicit_collection.specs.Ready.{Fits, pointPut}
+use Rattle.explicit_collection.specs.Ready.{pointPut}
 
 -- ---- agreement
 
@@ -76,6 +76,10 @@ module _ (bounds : List Float) (c : Cells) (x : ℕ) (r : Room bounds c x) where
   counts-long true = row-long
   counts-long false = length-replicate {A = ℕ} (bucketCount bounds) 0
 
+  -- room for its point is room for as many counts as there are buckets
+  pub place-of : (u : Bool) (at : Cursor) (o : Output) → Place at o (length (countsAt bounds c x u)) 0 → Place at o (bucketCount bounds) 0
+  place-of u at o p = subst (λ (n : ℕ). Place at o n 0) (counts-long u) p
+
 -- the buckets of n bounds, as a list counts them
 pub buckets-are : (bounds : List Float) → bucketsOf (length bounds) ≡ bucketCount bounds
 buckets-are [] = refl
@@ -106,7 +110,7 @@ module _ (bounds : List Float) (u due : Bool) (c : Cells) (s : Survey) (x : ℕ)
 
 -- a point put with its span is a point put with its counts
 module _ (bounds : List Float) (at : Cursor) (row : List ℕ) (h : Head) (show sums : Bool) (p : Point) (e : p ≡ explicitPoint h show sums) (xs : List ℕ) (o : Output) where
-  pub room-of : bucketCount bounds ≤ length xs → Fits (bucketCount bounds) at o → ListedInner.Room at (p .figures) (spanOf bounds) xs xs o
+  pub room-of : bucketCount bounds ≤ length xs → Place at o (bucketCount bounds) 0 → ListedInner.Room at (p .figures) (spanOf bounds) xs xs o
   room-of l f =
       let b = buckets-are bounds in
       subst (λ (p : Point). ListedInner.Room at (p .figures) (spanOf bounds) xs xs o) (sym e)

@@ -2,7 +2,7 @@
 ghost use mathlib.Core.Path.{_≡_};
 ghost use mathlib.Core.Bool.{true, not, _||_};
 ghost use mathlib.Core.List.{[]};
-ghost use Prim.Native.Nat.{_+_, _*_, _<_, _≤_};
+ghost use Prim.Native.Nat.{_<_, _≤_};
 ghost use lib.ListN.{length, replicate};
 ghost use Rattle.floats.specs.Starts.{zeroFloat};
 ghost use Rattle.points.specs.Explicit.{boundsPass, bucketCount};
@@ -14,9 +14,9 @@ ghost use Rattle.explicit_slots.specs.Cells as Slots;
 ghost use Rattle.value_map.specs.Explicit.{explicitStore};
 ghost use Rattle.listing.specs.Listed.{output};
 ghost use Rattle.listing.specs.Inner.{left};
-ghost use Rattle.collecting.specs.Slots.{oneMore, surveyedAt, putSlot};
+ghost use Rattle.collecting.specs.Slots.{oneMore, Few, More, Place, surveyedAt, Sound, Free, putSlot};
 ghost use Rattle.explicit_collection.specs.Points.{explicitLister};
-ghost use Rattle.explicit_collection.specs.Ready.{Fits, pointPut};
+ghost use Rattle.explicit_collection.specs.Ready.{pointPut};
 use collecting::Survey;
 use explicit::Answer;
 use explicit::Head;
@@ -63,7 +63,7 @@ fn agrees_at(
 
 // A survey with a point of n counts more.
 fn one_more(s: Survey, n: usize) -> Survey
-    requires { ⌜ (s .points < 65536) × (s .pos ≤ 65536 * 160) × (n ≤ 160) ⌝ }
+    requires { ⌜ Few s × (n ≤ 160) ⌝ }
     ensures { λ r. ⌜ r ≡ oneMore s n 0 ⌝ }
 {
     Survey {
@@ -105,10 +105,10 @@ pub fn survey(
     counts: &[u64],
 ) -> Survey
     requires { ⌜ (boundsPass (now bounds) ≡ true) × Room (now bounds) (cells totals extremes counts) x ⌝ }
-    requires { ⌜ (s .points < 65536) × (s .pos ≤ 65536 * 160) ⌝ }
+    requires { ⌜ Few s ⌝ }
     ensures { λ r. ⌜ r ≡ surveyedAt (explicitLister (now (bounds .entry))) (true, true, zeroFloat) updated due
         (cells (totals .entry) (extremes .entry) (counts .entry)) s x ⌝ }
-    ensures { λ r. ⌜ (r .points ≤ s .points + 1) × (r .pos ≤ s .pos + 160) ⌝ }
+    ensures { λ r. ⌜ More s r ⌝ }
 {
     if !sound_at(bounds, x, updated, totals, extremes, counts) {
         return Survey {
@@ -139,7 +139,7 @@ fn put_point(
     out_neg: &mut [u64],
 ) -> Cursor
     requires { ⌜ (boundsPass (now bounds) ≡ true) × (bucketCount (now bounds) ≤ length (now counts)) ⌝ }
-    requires { ⌜ Fits (bucketCount (now bounds)) at (output «out_sets» «out_words» «out_pos» «out_neg») ⌝ }
+    requires { ⌜ Place at (output «out_sets» «out_words» «out_pos» «out_neg») (bucketCount (now bounds)) 0 ⌝ }
     ensures { λ r. ⌜ left r (output («out_sets» .exit) («out_words» .exit) («out_pos» .exit) («out_neg» .exit))
         ≡ pointPut (now (bounds .entry)) (explicitPoint head show sums) at row (now (counts .entry))
         (output («out_sets» .entry) («out_words» .entry) («out_pos» .entry) («out_neg» .entry)) ⌝ }
@@ -176,7 +176,7 @@ fn put_fresh(
     out_neg: &mut [u64],
 ) -> Cursor
     requires { ⌜ boundsPass (now bounds) ≡ true ⌝ }
-    requires { ⌜ Fits (bucketCount (now bounds)) at (output «out_sets» «out_words» «out_pos» «out_neg») ⌝ }
+    requires { ⌜ Place at (output «out_sets» «out_words» «out_pos» «out_neg») (bucketCount (now bounds)) 0 ⌝ }
     ensures { λ r. ⌜ left r (output («out_sets» .exit) («out_words» .exit) («out_pos» .exit) («out_neg» .exit))
         ≡ pointPut (now (bounds .entry)) (explicitPoint freshHead show sums) at row (replicate (bucketCount (now (bounds .entry))) 0)
         (output («out_sets» .entry) («out_words» .entry) («out_pos» .entry) («out_neg» .entry)) ⌝ }
@@ -219,8 +219,9 @@ pub fn put(
     out_pos: &mut [u64],
     out_neg: &mut [u64],
 ) -> Cursor
-    requires { ⌜ (boundsPass (now bounds) ≡ true) × Room (now bounds) (cells totals extremes counts) x ⌝ }
-    requires { ⌜ (due ≡ true → Fits (bucketCount (now bounds)) at (output «out_sets» «out_words» «out_pos» «out_neg»)) ⌝ }
+    requires { ⌜ Sound (explicitLister (now bounds)) (show, sums, zeroFloat) updated (cells totals extremes counts) x ⌝ }
+    requires { ⌜ (due ≡ true → Free (explicitLister (now bounds)) (show, sums, zeroFloat) updated (cells totals extremes counts) x at
+        (output «out_sets» «out_words» «out_pos» «out_neg»)) ⌝ }
     ensures { λ r. ⌜ left r (output («out_sets» .exit) («out_words» .exit) («out_pos» .exit) («out_neg» .exit))
         ≡ putSlot (explicitLister (now (bounds .entry))) (show, sums, zeroFloat) updated due (cells (totals .entry) (extremes .entry) (counts .entry)) x row at
         (output («out_sets» .entry) («out_words» .entry) («out_pos» .entry) («out_neg» .entry)) ⌝ }

@@ -2,15 +2,13 @@
 ghost use mathlib.Core.Path.{_≡_};
 ghost use mathlib.Core.Bool.{true};
 ghost use mathlib.Core.List.{[]};
-ghost use Prim.Native.Nat.{_<_};
 ghost use Rattle.floats.specs.Starts.{zeroFloat};
 ghost use Rattle.explicit_slots.specs.Cells.{cells};
 ghost use Rattle.value_map.specs.Explicit.{explicitStore};
 ghost use Rattle.listing.specs.Listed.{output};
 ghost use Rattle.listing.specs.Inner.{left};
-ghost use Rattle.collecting.specs.Slots.{Walk, walked, surveyed};
+ghost use Rattle.collecting.specs.Slots.{walked, Walk, surveyed, Listable, listedTo};
 ghost use Rattle.explicit_collection.specs.Points.{explicitLister};
-ghost use Rattle.explicit_collection.specs.Ready.{Listable, listedTo};
 use collecting::Survey;
 use listing::Cursor;
 
@@ -25,7 +23,7 @@ pub fn survey(
     extremes: &[[f64; 3]],
     counts: &[u64],
 ) -> Survey
-    requires { ⌜ Walk (explicitStore (now bounds)) used (now entries) (now order) (cells totals extremes counts) ⌝ }
+    requires { ⌜ Walk (explicitStore (now bounds)) (walked used [] (now entries) (now order) (cells totals extremes counts)) ⌝ }
     ensures { λ r. ⌜ r ≡ surveyed (explicitLister (now (bounds .entry))) (true, true, zeroFloat) cumulative
         (walked used [] (now (entries .entry)) (now (order .entry)) (cells (totals .entry) (extremes .entry) (counts .entry))) ⌝ }
 {
@@ -68,10 +66,10 @@ pub fn list(
     out_pos: &mut [u64],
     out_neg: &mut [u64],
 ) -> Cursor
-    requires { ⌜ Listable (now bounds) show sums cumulative (walked used (now sets) (now entries) (now order) (cells totals extremes counts))
-        (output «out_sets» «out_words» «out_pos» «out_neg») ⌝ }
+    requires { ⌜ Listable (explicitLister (now bounds)) (show, sums, zeroFloat) cumulative
+        (walked used (now sets) (now entries) (now order) (cells totals extremes counts)) (output «out_sets» «out_words» «out_pos» «out_neg») ⌝ }
     ensures { λ r. ⌜ left r (output («out_sets» .exit) («out_words» .exit) («out_pos» .exit) («out_neg» .exit))
-        ≡ listedTo (now (bounds .entry)) show sums cumulative
+        ≡ listedTo (explicitLister (now (bounds .entry))) (show, sums, zeroFloat) cumulative
         (walked used (now (sets .entry)) (now (entries .entry)) (now (order .entry)) (cells (totals .entry) (extremes .entry) (counts .entry)))
         (output («out_sets» .entry) («out_words» .entry) («out_pos» .entry) («out_neg» .entry)) ⌝ }
 {

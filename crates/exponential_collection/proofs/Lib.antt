@@ -1,5 +1,3 @@
 -- The laws of `exponential_collection`.
 pub mod Slots
 pub mod Lists
-pub mod Turns
-pub mod Deciding

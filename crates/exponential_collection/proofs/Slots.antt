@@ -29,12 +29,11 @@ use Rattle.listing.specs.Listed.{Output, behind, itemOf, putAt}
 use Rattle.listing.specs.Inner.{left}
 use Rattle.listing.specs.declared.Span.{Span}
 use Rattle.listing.specs.declared.Cursor.{Cursor}
-use Rattle.collecting.specs.Slots.{unsound, oneMore, surveyedAt, laidAt, behindAt, putSlot}
+use Rattle.collecting.specs.Slots.{unsound, oneMore, surveyedAt, Free, laidAt, behindAt, putSlot}
 use Rattle.collecting.specs.declared.Survey.{Survey}
 use Rattle.point.specs.Handing.{exponentialPoint}
 use Rattle.point.specs.declared.Point.{Point}
 use Rattle.exponential_collection.specs.Points.{exponentialLister, headAt}
-use Rattle.exponential_collection.specs.Ready.{Free}
 
 -- a point of this kind has no bounds
 abbrev pub nowhere : Span
@@ -229,7 +228,7 @@ module _ (size top : ℕ) (set : unset size top ≡ 0) (c : Cells) (x : ℕ) (r 
     put-not d = sym (pick-false due _ (left at o) d)
 
     module _ (a : (not updated || agreesAt) ≡ true) (p : Point) (e : p ≡ exponentialPoint (headAt top c x updated) (w .0) (w .1)) where
-      pub put-room : Free size top updated c x at o → ListedInner.Room at (p .figures) nowhere xs ys o
+      pub put-room : Free (exponentialLister size top) w updated c x at o → ListedInner.Room at (p .figures) nowhere xs ys o
       put-room g =
           subst (λ (q : Point). ListedInner.Room at (q .figures) nowhere xs ys o) (sym e)
           (record {

@@ -1,4 +1,3 @@
 -- The definitions that the contracts of `exponential_collection` cite.
 pub mod Points
-pub mod Ready
 pub mod Configured

@@ -1,7 +1,7 @@
 // One slot of the stores: what a collection finds there, and its point put into the output.
 ghost use mathlib.Core.Path.{_≡_};
 ghost use mathlib.Core.Bool.{true, not, _||_};
-ghost use Prim.Native.Nat.{_+_, _*_, _<_, _≤_};
+ghost use Prim.Native.Nat.{_≤_};
 ghost use lib.ListN.{getD};
 ghost use Rattle.laws.specs.Pick.{pick};
 ghost use Rattle.kinds.specs.Histograms.{histograms};
@@ -10,9 +10,8 @@ ghost use Rattle.exponential_slots.specs.Meaning.{settings, seriesAt};
 ghost use Rattle.value_map.specs.Exponential.{unset};
 ghost use Rattle.listing.specs.Listed.{output};
 ghost use Rattle.listing.specs.Inner.{left};
-ghost use Rattle.collecting.specs.Slots.{oneMore, surveyedAt, putSlot};
+ghost use Rattle.collecting.specs.Slots.{oneMore, Few, More, surveyedAt, Sound, Free, putSlot};
 ghost use Rattle.exponential_collection.specs.Points.{exponentialLister};
-ghost use Rattle.exponential_collection.specs.Ready.{Sound, Free};
 use collecting::Survey;
 use listing::Cursor;
 
@@ -71,7 +70,7 @@ fn is_sound(
 
 // The survey with a point more: that of a slot's words, or a fresh one, which has no counts.
 fn counted(s: Survey, updated: bool, f: [u64; 8]) -> Survey
-    requires { ⌜ (s .points < 65536) × (s .pos ≤ 65536 * 160) × (s .neg ≤ 65536 * 160) ⌝ }
+    requires { ⌜ Few s ⌝ }
     requires { ⌜ (updated ≡ true → (getD f 4 0 ≤ 160) × (getD f 6 0 ≤ 160)) ⌝ }
     ensures { λ r. ⌜ r ≡ oneMore s (pick updated (getD f 4 0) 0) (pick updated (getD f 6 0) 0) ⌝ }
 {
@@ -105,10 +104,10 @@ pub fn survey(
     neg: &[u64],
 ) -> Survey
     requires { ⌜ (unset size top ≡ 0) × Room size (cells figures extremes pos neg) x ⌝ }
-    requires { ⌜ (s .points < 65536) × (s .pos ≤ 65536 * 160) × (s .neg ≤ 65536 * 160) ⌝ }
+    requires { ⌜ Few s ⌝ }
     ensures { λ r. ⌜ r ≡ surveyedAt (exponentialLister size top) (true, true) updated due
         (cells (figures .entry) (extremes .entry) (pos .entry) (neg .entry)) s x ⌝ }
-    ensures { λ r. ⌜ (r .points ≤ s .points + 1) × (r .pos ≤ s .pos + 160) × (r .neg ≤ s .neg + 160) ⌝ }
+    ensures { λ r. ⌜ More s r ⌝ }
 {
     if !is_sound(size, top, x, updated, figures, extremes, pos, neg) {
         return Survey {
@@ -144,8 +143,8 @@ pub fn put(
     out_pos: &mut [u64],
     out_neg: &mut [u64],
 ) -> Cursor
-    requires { ⌜ Sound size top updated (cells figures extremes pos neg) x ⌝ }
-    requires { ⌜ (due ≡ true → Free size top updated (cells figures extremes pos neg) x at
+    requires { ⌜ Sound (exponentialLister size top) (show, sums) updated (cells figures extremes pos neg) x ⌝ }
+    requires { ⌜ (due ≡ true → Free (exponentialLister size top) (show, sums) updated (cells figures extremes pos neg) x at
         (output «out_sets» «out_words» «out_pos» «out_neg»)) ⌝ }
     ensures { λ r. ⌜ left r (output («out_sets» .exit) («out_words» .exit) («out_pos» .exit) («out_neg» .exit))
         ≡ putSlot (exponentialLister size top) (show, sums) updated due (cells (figures .entry) (extremes .entry) (pos .entry) (neg .entry)) x row at

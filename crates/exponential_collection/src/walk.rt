@@ -6,10 +6,8 @@ ghost use Rattle.exponential_slots.specs.Cells.{cells};
 ghost use Rattle.value_map.specs.Exponential.{exponentialStore};
 ghost use Rattle.listing.specs.Listed.{output};
 ghost use Rattle.listing.specs.Inner.{left};
-ghost use Rattle.collecting.specs.Collected.{dueOf};
-ghost use Rattle.collecting.specs.Slots.{Walk, walked, surveyed, putSlots};
+ghost use Rattle.collecting.specs.Slots.{walked, Walk, surveyed, Listable, listedTo};
 ghost use Rattle.exponential_collection.specs.Points.{exponentialLister};
-ghost use Rattle.exponential_collection.specs.Ready.{Listable};
 use crate::Settings;
 use collecting::Survey;
 use listing::Cursor;
@@ -26,7 +24,7 @@ pub fn survey(
     pos: &[u64],
     neg: &[u64],
 ) -> Survey
-    requires { ⌜ Walk (exponentialStore (s .size) (s .top)) used (now entries) (now order) (cells figures extremes pos neg) ⌝ }
+    requires { ⌜ Walk (exponentialStore (s .size) (s .top)) (walked used [] (now entries) (now order) (cells figures extremes pos neg)) ⌝ }
     ensures { λ r. ⌜ r ≡ surveyed (exponentialLister (s .size) (s .top)) (true, true) cumulative
         (walked used [] (now (entries .entry)) (now (order .entry)) (cells (figures .entry) (extremes .entry) (pos .entry) (neg .entry))) ⌝ }
 {
@@ -81,13 +79,11 @@ pub fn list(
     out_pos: &mut [u64],
     out_neg: &mut [u64],
 ) -> Cursor
-    requires { ⌜ Listable (s .size) (s .top) (s .extremes, s .sums) cumulative used (now sets) (now entries) (now order) (cells figures extremes pos neg)
-        (output «out_sets» «out_words» «out_pos» «out_neg») ⌝ }
+    requires { ⌜ Listable (exponentialLister (s .size) (s .top)) (s .extremes, s .sums) cumulative
+        (walked used (now sets) (now entries) (now order) (cells figures extremes pos neg)) (output «out_sets» «out_words» «out_pos» «out_neg») ⌝ }
     ensures { λ r. ⌜ left r (output («out_sets» .exit) («out_words» .exit) («out_pos» .exit) («out_neg» .exit))
-        ≡ putSlots (exponentialLister (s .size) (s .top)) (s .extremes, s .sums)
+        ≡ listedTo (exponentialLister (s .size) (s .top)) (s .extremes, s .sums) cumulative
         (walked used (now (sets .entry)) (now (entries .entry)) (now (order .entry)) (cells (figures .entry) (extremes .entry) (pos .entry) (neg .entry)))
-        (dueOf cumulative (walked used (now (sets .entry)) (now (entries .entry)) (now (order .entry))
-        (cells (figures .entry) (extremes .entry) (pos .entry) (neg .entry)) .kept))
         (output («out_sets» .entry) («out_words» .entry) («out_pos» .entry) («out_neg» .entry)) ⌝ }
 {
     let size = s.size;

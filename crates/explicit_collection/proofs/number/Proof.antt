@@ -1,11 +1,16 @@
 -- `explicit_collection::number` meets its contract. Assumes nothing.
 use denote.Ref.{now}
 use borrow.Author.Needs.{needs}
+use mathlib.Core.Path.{refl}
+use mathlib.Core.Bool.{true}
+use Rattle.floats.specs.Starts.{zeroFloat}
 use Rattle.directory.specs.View.{stores}
 use Rattle.explicit_slots.specs.Cells.{Cells, cells}
 use Rattle.value_map.specs.Calls.{Held, held}
+use Rattle.value_map.proofs.ExplicitOwes.{owed}
 use Rattle.listing.specs.Listed.{Output, output}
-use Rattle.explicit_collection.proofs.Calls.{number-first, walk-here, number-then}
+use Rattle.collecting.proofs.Decides.{number-first, walk-here, number-then}
+use Rattle.explicit_collection.specs.Points.{explicitLister}
 use Rattle.explicit_collection.proofs.number.Statement.{statement}
 use Rattle.explicit_collection.proofs.number.Tie as tie
 
@@ -26,7 +31,8 @@ returns c =
     let b = c .before in
     let s = start b in
     let a = s .args in
-    number-first (now (a .bounds)) (a .s .extremes) (a .s .sums) (a .cumulative) (a .s .limit) (map s) (out s) (room b .cells-suffice .result) (b .before .unset-of .result) (b .barred .result)
+    number-first (explicitLister (now (a .bounds))) (owed (now (a .bounds))) (a .s .extremes, a .s .sums, zeroFloat) (a .cumulative) (a .s .limit) (map s) (out s)
+    (room b .cells-suffice .result) (b .before .unset-of .result) (b .barred .result)
     (room b .cells-suffice .ensures) (b .before .unset-of .ensures) (b .barred .ensures) (c .if1 .taken)
 
 survey-requires : tie.Need-survey-requires
@@ -34,7 +40,8 @@ survey-requires c κs =
     let b = c .before in
     let s = start b in
     let a = s .args in
-    walk-here (now (a .bounds)) (a .s .extremes) (a .s .sums) (a .cumulative) (a .s .limit) (map s) (out s) (room b .cells-suffice .result) (b .before .unset-of .result) (b .barred .result)
+    walk-here (explicitLister (now (a .bounds))) (owed (now (a .bounds))) (a .s .extremes, a .s .sums, zeroFloat) (a .cumulative) (a .s .limit) (map s) (out s)
+    (room b .cells-suffice .result) (b .before .unset-of .result) (b .barred .result)
     (room b .cells-suffice .ensures) (b .before .unset-of .ensures) (b .barred .ensures) (c .if1 .left)
 
 returns-2 : tie.Need-returns-2
@@ -44,8 +51,10 @@ returns-2 c =
     let b = e .before in
     let s = start b in
     let a = s .args in
-    number-then (now (a .bounds)) (a .s .extremes) (a .s .sums) (a .cumulative) (a .s .limit) (map s) (out s) (room b .cells-suffice .result) (b .before .unset-of .result) (b .barred .result)
-    (room b .cells-suffice .ensures) (b .before .unset-of .ensures) (b .barred .ensures) (e .if1 .left) (f .survey .result) (c .number-of .result) (f .survey .ensures) (c .number-of .ensures)
+    number-then (explicitLister (now (a .bounds))) (owed (now (a .bounds))) (a .s .extremes, a .s .sums, zeroFloat) (a .cumulative) (a .s .limit) (map s) (out s)
+    (room b .cells-suffice .result) (b .before .unset-of .result) (b .barred .result)
+    (room b .cells-suffice .ensures) (b .before .unset-of .ensures) (b .barred .ensures) (e .if1 .left)
+    (true, true, zeroFloat) (λ x. refl) (f .survey .result) (c .number-of .result) (f .survey .ensures) (c .number-of .ensures)
 
 pub number-spec : {M : Type 1} → statement M
 number-spec =

@@ -5,11 +5,11 @@ use mathlib.Core.Bool.{true}
 use Rattle.directory.specs.View.{stores}
 use Rattle.exponential_slots.specs.Cells.{Cells, cells}
 use Rattle.value_map.specs.Calls.{Held, held}
+use Rattle.value_map.proofs.ExponentialOwes.{owed}
 use Rattle.listing.specs.Listed.{Output, output}
-use Rattle.listing.specs.Inner.{left}
 use Rattle.collecting.proofs.Ends.{Clear, clear-of, cumulative-refused, cumulative-done}
+use Rattle.collecting.proofs.Decides.{listable, listed-is}
 use Rattle.exponential_collection.specs.Points.{exponentialLister}
-use Rattle.exponential_collection.proofs.Deciding.{listable, put-is}
 use Rattle.exponential_collection.proofs.cumulative.Statement.{statement}
 use Rattle.exponential_collection.proofs.cumulative.Tie as tie
 
@@ -42,7 +42,7 @@ list-requires c κs =
     let e = c .before .before .before .before in
     let s = start (e .before) in
     let a = s .args in
-    listable (a .s .size) (a .s .top) (a .s .extremes, a .s .sums) true (a .s .limit) (map s) (out s) (clear e)
+    listable (exponentialLister (a .s .size) (a .s .top)) (owed (a .s .size) (a .s .top)) (a .s .extremes, a .s .sums) true (a .s .limit) (map s) (out s) (clear e)
 
 returns-2 : tie.Need-returns-2
 returns-2 c =
@@ -51,7 +51,7 @@ returns-2 c =
     let s = start (e .before) in
     let a = s .args in
     cumulative-done (exponentialLister (a .s .size) (a .s .top)) (a .s .extremes, a .s .sums) (a .s .limit) (map s) (out s) _ (sym (e .before .number .ensures) ∙ e .if1 .left)
-    (put-is (a .s .size) (a .s .top) (a .s .extremes, a .s .sums) true (a .s .limit) (map s) (out s) _ (l .list .ensures))
+    (listed-is (exponentialLister (a .s .size) (a .s .top)) (owed (a .s .size) (a .s .top)) (a .s .extremes, a .s .sums) true (a .s .limit) (map s) (out s) _ (l .list .ensures))
 
 pub cumulative-spec : {M : Type 1} → statement M
 cumulative-spec =

@@ -6,12 +6,12 @@ use Rattle.directory.specs.View.{stores}
 use Rattle.exponential_slots.specs.Cells.{Cells, cells}
 use Rattle.value_map.specs.Calls.{Held, held}
 use Rattle.value_map.specs.Exponential.{exponentialStore}
+use Rattle.value_map.proofs.ExponentialOwes.{owed}
 use Rattle.listing.specs.Listed.{Output, output}
-use Rattle.listing.specs.Inner.{left}
 use Rattle.collecting.proofs.Walks.{sweepable}
 use Rattle.collecting.proofs.Ends.{Clear, clear-of, delta-refused, delta-done}
+use Rattle.collecting.proofs.Decides.{listable, listed-is}
 use Rattle.exponential_collection.specs.Points.{exponentialLister}
-use Rattle.exponential_collection.proofs.Deciding.{listable, put-is}
 use Rattle.exponential_collection.proofs.delta.Statement.{statement}
 use Rattle.exponential_collection.proofs.delta.Tie as tie
 
@@ -44,7 +44,7 @@ list-requires c κs =
     let e = c .before .before .before .before .before .before .before in
     let s = start (e .before) in
     let a = s .args in
-    listable (a .s .size) (a .s .top) (a .s .extremes, a .s .sums) false (a .s .limit) (map s) (out s) (clear e)
+    listable (exponentialLister (a .s .size) (a .s .top)) (owed (a .s .size) (a .s .top)) (a .s .extremes, a .s .sums) false (a .s .limit) (map s) (out s) (clear e)
 
 sweep-requires : tie.Need-sweep-requires
 sweep-requires c κs =
@@ -61,7 +61,7 @@ returns-2 c =
     let s = start (e .before) in
     let a = s .args in
     delta-done (exponentialLister (a .s .size) (a .s .top)) (a .s .extremes, a .s .sums) (a .s .limit) (map s) (out s) _ _ (sym (e .before .number .ensures) ∙ e .if1 .left)
-    (put-is (a .s .size) (a .s .top) (a .s .extremes, a .s .sums) false (a .s .limit) (map s) (out s) _ (l .list .ensures)) (w .sweep .ensures)
+    (listed-is (exponentialLister (a .s .size) (a .s .top)) (owed (a .s .size) (a .s .top)) (a .s .extremes, a .s .sums) false (a .s .limit) (map s) (out s) _ (l .list .ensures)) (w .sweep .ensures)
 
 pub delta-spec : {M : Type 1} → statement M
 delta-spec =

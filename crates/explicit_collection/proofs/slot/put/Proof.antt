@@ -1,15 +1,20 @@
 -- `explicit_collection::slot::put` meets its contract. Assumes nothing.
 use Prim.Native.Nat.{ℕ, _+_, _*_, _≤_}
-use mathlib.Core.Path.{sym, subst, _∙_}
+use mathlib.Core.Path.{_≡_, sym, subst, _∙_}
+use mathlib.Core.Bool.{true}
 use native.Mathlib.Omega.{arith}
 use denote.Ref.{now}
 use lib.ListN.{length}
 use borrow.Author.Needs.{needs}
 use borrow.Author.Tests.{not-true, not-false}
 use Rattle.rows.proofs.Parts.{part-length}
+use Rattle.floats.specs.Starts.{zeroFloat}
+use Rattle.points.specs.Explicit.{boundsPass, bucketCount}
 use Rattle.explicit_slots.specs.Cells.{Cells, cells}
+use Rattle.value_map.proofs.ExplicitOwes.{owed}
 use Rattle.listing.specs.Listed.{Output, output}
-use Rattle.explicit_collection.proofs.Slots.{put-none, put-held, put-first}
+use Rattle.collecting.specs.Slots.{Place}
+use Rattle.explicit_collection.proofs.Slots.{place-of, put-none, put-held, put-first}
 use Rattle.explicit_collection.proofs.slot.put.Statement.{statement}
 use Rattle.explicit_collection.proofs.slot.put.Tie as tie
 
@@ -28,9 +33,19 @@ other b = b .before .before
 abbrev from : tie.After-bucket-count → tie.Start
 from b = start (b .before .before .before)
 
+-- the bounds pass, and there is room for the point
+passing : (s : tie.Start) → boundsPass (now (s .args .bounds)) ≡ true
+passing s = owed (now (s .args .bounds)) .valid (s .pre .0 .set) (s .args .show, s .args .sums, zeroFloat)
+
+place : (e : tie.Else1) → Place (start e .args .at) (out (start e)) (bucketCount (now (start e .args .bounds))) 0
+place e =
+    let s = start e in
+    let a = s .args in
+    place-of (now (a .bounds)) (lent s) (a .x) (s .pre .0 .room) (a .updated) (a .at) (out s) (s .pre .1 (not-false (a .due) (e .if1 .left)))
+
 -- the slot's counts end within the store
 end : (b : tie.After-bucket-count) → from b .args .x * b .bucket-count .result + b .bucket-count .result ≤ length (now (from b .args .counts))
-end b = let a = from b .args in subst (λ (k : ℕ). a .x * k + k ≤ length (now (a .counts))) (sym (b .bucket-count .ensures)) (from b .pre .0 .1 .counts)
+end b = let a = from b .args in subst (λ (k : ℕ). a .x * k + k ≤ length (now (a .counts))) (sym (b .bucket-count .ensures)) (from b .pre .0 .room .counts)
 
 returns : tie.Need-returns
 returns c =
@@ -42,7 +57,7 @@ put-fresh-requires : tie.Need-put-fresh-requires
 put-fresh-requires c κs =
     let e = c .before .before .before .before .before in
     let s = start e in
-    (s .pre .0 .0, s .pre .1 (not-false (s .args .due) (e .if1 .left)))
+    (passing s, place e)
 
 returns-2 : tie.Need-returns-2
 returns-2 c =
@@ -52,7 +67,7 @@ returns-2 c =
     let s = start e in
     let a = s .args in
     f .put-fresh .ensures
-    ∙ put-first (now (a .bounds)) (a .show) (a .sums) (a .updated) (a .due) (lent s) (a .x) (a .row) (a .at) (out s) (not-false (a .due) (e .if1 .left)) (s .pre .0 .1)
+    ∙ put-first (now (a .bounds)) (a .show) (a .sums) (a .updated) (a .due) (lent s) (a .x) (a .row) (a .at) (out s) (not-false (a .due) (e .if1 .left)) (s .pre .0 .room)
     (not-true (a .updated) (t .if2 .taken))
 
 mul-a : tie.Need-mul-a
@@ -73,8 +88,8 @@ put-point-requires c κs =
     let e = other b .before in
     let s = start e in
     let a = s .args in (
-      (s .pre .0 .0, omega (arith, b .bucket-count .ensures, part-length (b .bucket-count .result) (now (a .counts)) (a .x) (end b))),
-      s .pre .1 (not-false (a .due) (e .if1 .left)),
+      (passing s, omega (arith, b .bucket-count .ensures, part-length (b .bucket-count .result) (now (a .counts)) (a .x) (end b))),
+      place e,
     )
 
 returns-3 : tie.Need-returns-3
@@ -85,7 +100,7 @@ returns-3 c =
     let s = start e in
     let a = s .args in
     p .put-point .ensures
-    ∙ put-held (now (a .bounds)) (a .show) (a .sums) (a .updated) (a .due) (lent s) (a .x) (a .row) (a .at) (out s) (not-false (a .due) (e .if1 .left)) (s .pre .0 .1)
+    ∙ put-held (now (a .bounds)) (a .show) (a .sums) (a .updated) (a .due) (lent s) (a .x) (a .row) (a .at) (out s) (not-false (a .due) (e .if1 .left)) (s .pre .0 .room)
     (not-false (a .updated) (other b .if2 .left)) (b .bucket-count .result) (b .bucket-count .ensures) (b .before .head-at .result) (b .before .head-at .ensures)
 
 pub put-spec : {M : Type 1} → statement M

@@ -1,5 +1,5 @@
 -- `explicit_collection::slot::survey` meets its contract. Assumes nothing.
-use Prim.Native.Nat.{_+_, _≤_}
+use Prim.Native.Nat.{_≤_}
 use mathlib.Core.Path.{sym, subst, _∙_}
 use native.Mathlib.Omega.{arith}
 use denote.Ref.{now}
@@ -7,6 +7,7 @@ use borrow.Author.Needs.{needs}
 use borrow.Author.Tests.{not-true, not-false}
 use Rattle.explicit.proofs.Cases.{count-few}
 use Rattle.explicit_slots.specs.Cells.{Cells, cells}
+use Rattle.collecting.specs.Slots.{More}
 use Rattle.collecting.specs.declared.Survey.{Survey}
 use Rattle.explicit_collection.proofs.Slots.{survey-none, survey-idle, survey-due}
 use Rattle.explicit_collection.proofs.slot.survey.Statement.{statement}
@@ -28,7 +29,7 @@ returns c =
     let s = start t in
     let a = s .args in (
       survey-none (now (a .bounds)) (a .updated) (a .due) (lent s) (a .s) (a .x) (t .sound-at .result) (t .sound-at .ensures) (not-true (t .sound-at .result) (c .if1 .taken)),
-      (omega arith, omega arith),
+      (omega arith, omega arith, omega arith),
     )
 
 returns-2 : tie.Need-returns-2
@@ -39,11 +40,11 @@ returns-2 c =
     let a = s .args in (
       survey-idle (now (a .bounds)) (a .updated) (a .due) (lent s) (a .s) (a .x) (t .sound-at .result) (t .sound-at .ensures) (not-false (t .sound-at .result) (e .if1 .left))
           (not-true (a .due) (c .if2 .taken)),
-      (omega arith, omega arith),
+      (omega arith, omega arith, omega arith),
     )
 
 one-more-requires : tie.Need-one-more-requires
-one-more-requires c κs = let s = start (c .before .before .before) in (s .pre .1 .0, s .pre .1 .1, few c)
+one-more-requires c κs = let s = start (c .before .before .before) in (s .pre .1, few c)
 
 returns-3 : tie.Need-returns-3
 returns-3 c =
@@ -57,7 +58,7 @@ returns-3 c =
       q
           ∙ survey-due (now (a .bounds)) (a .updated) (a .due) (lent s) (a .s) (a .x) (t .sound-at .result) (t .sound-at .ensures) (not-false (t .sound-at .result) (e .if1 .left))
           (not-false (a .due) (d .if2 .left)) (s .pre .0 .1) (b .bucket-count .result) (b .bucket-count .ensures),
-      subst (λ (r : Survey). (r .points ≤ a .s .points + 1) × (r .pos ≤ a .s .pos + 160)) (sym q) (omega arith, omega (arith, few b)),
+      subst (λ (r : Survey). More (a .s) r) (sym q) (omega arith, omega (arith, few b), omega arith),
     )
 
 pub survey-spec : {M : Type 1} → statement M

@@ -3,17 +3,20 @@ use Prim.Native.Nat.{_+_, _-_, _≤_}
 use native.Mathlib.Omega.{arith}
 use borrow.Author.Needs.{needs}
 use Rattle.exponential_slots.specs.Cells.{Cells, cells}
+use Rattle.value_map.specs.Calls.{Held}
+use Rattle.value_map.specs.Exponential.{exponentialStore}
 use Rattle.listing.specs.Listed.{Output, output}
+use Rattle.collecting.specs.Lister.{Lister}
 use Rattle.collecting.specs.Slots.{walked}
 use Rattle.collecting.proofs.Turns.{Seen}
+use Rattle.collecting.proofs.Loops.{found-used, Alike, Listing, list-start, list-end, list-alike, slot-sound, slot-free, list-next}
 use Rattle.exponential_collection.specs.Points.{exponentialLister}
-use Rattle.exponential_collection.proofs.Turns.{found-used, Alike, Listing, list-start, list-end, list-alike, slot-sound, slot-free, list-next}
 use Rattle.exponential_collection.proofs.walk.list.Statement.{statement}
 use Rattle.exponential_collection.proofs.walk.list.Tie as tie
 
 abbrev Inv-loop : tie.InvT-loop
 Inv-loop cumulative used sets entries order figures extremes pos neg out-sets₀ out-words₀ out-pos₀ out-neg₀ size top show sums at₀ i₀ out-sets out-words out-pos out-neg at i =
-    Listing size top (show, sums) cumulative used sets entries order (record { figures = figures; extremes = extremes; pos = pos; neg = neg })
+    Listing (exponentialLister size top) (show, sums) cumulative (walked used sets entries order (record { figures = figures; extremes = extremes; pos = pos; neg = neg }))
     (record { sets = out-sets₀; words = out-words₀; pos = out-pos₀; neg = out-neg₀ }) i at
     (record { sets = out-sets; words = out-words; pos = out-pos; neg = out-neg })
 
@@ -24,8 +27,11 @@ abbrev μ-loop : tie.MeasureT-loop
 abbrev Start : Type 0
 Start = tie.Start Inv-loop μ-loop
 
-abbrev lent : Start → Cells
-lent s = let a = s .args in cells (a .figures) (a .extremes) (a .pos) (a .neg)
+abbrev L : (s : Start) → Lister (exponentialStore (s .args .s .size) (s .args .s .top))
+L s = exponentialLister (s .args .s .size) (s .args .s .top)
+
+abbrev map : Start → Held Cells
+map s = let a = s .args in walked (a .used) (a .sets .now) (a .entries .now) (a .order .now) (cells (a .figures) (a .extremes) (a .pos) (a .neg))
 
 abbrev out : Start → Output
 out s = let a = s .args in output (a .out-sets) (a .out-words) (a .out-pos) (a .out-neg)
@@ -41,8 +47,7 @@ abbrev turnOf : tie.After-is-due Inv-loop μ-loop → tie.In-loop Inv-loop μ-lo
 turnOf c = c .before .before .before
 
 seen : (c : tie.After-is-due Inv-loop μ-loop)
-    → Seen (exponentialLister (start (turnOf c) .args .s .size) (start (turnOf c) .args .s .top)) (start (turnOf c) .args .s .extremes, start (turnOf c) .args .s .sums) (start (turnOf c) .args .cumulative)
-    (walked (start (turnOf c) .args .used) (start (turnOf c) .args .sets .now) (start (turnOf c) .args .entries .now) (start (turnOf c) .args .order .now) (lent (start (turnOf c))))
+    → Seen (L (start (turnOf c))) (start (turnOf c) .args .s .extremes, start (turnOf c) .args .s .sums) (start (turnOf c) .args .cumulative) (map (start (turnOf c)))
     (turnOf c .before .loop .i) (c .before .before .slot-at .result) (c .before .is-updated .result) (c .is-due .result)
 seen c =
     record {
@@ -60,13 +65,13 @@ in-use : (c : tie.After-slot-at Inv-loop μ-loop) → c .slot-at .result ≤ sta
 in-use c =
     let t = c .before in
     let s = start t in
-    found-used (s .args .order .now) (s .args .used) (s .pre .walk .slots) (t .before .loop .i) (c .slot-at .result) (t .loop-test .taken) (c .slot-at .ensures)
+    found-used (exponentialStore (s .args .s .size) (s .args .s .top)) (map s) (s .pre .walk) (t .before .loop .i) (c .slot-at .result) (t .loop-test .taken) (c .slot-at .ensures)
 
 loop-holds : tie.Need-loop-holds Inv-loop μ-loop
 loop-holds c =
     let s = c .before .before .before .before .before in
     let a = s .args in
-    list-start (a .s .size) (a .s .top) (a .s .extremes, a .s .sums) (a .cumulative) (a .used) (a .sets .now) (a .entries .now) (a .order .now) (lent s) (out s)
+    list-start (L s) (a .s .extremes, a .s .sums) (a .cumulative) (map s) (out s)
 
 slot-at-requires : tie.Need-slot-at-requires Inv-loop μ-loop
 slot-at-requires c κs = omega (arith, c .loop-test .taken, start c .pre .walk .order)
@@ -84,8 +89,8 @@ put-requires c κs =
     let s = start t in
     let a = s .args in
     let l = t .before .loop in (
-      slot-sound (a .s .size) (a .s .top) (a .s .extremes, a .s .sums) (a .cumulative) (a .used) (a .sets .now) (a .entries .now) (a .order .now) (lent s) (out s) (s .pre) (l .i) _ _ _ (seen d),
-      slot-free (a .s .size) (a .s .top) (a .s .extremes, a .s .sums) (a .cumulative) (a .used) (a .sets .now) (a .entries .now) (a .order .now) (lent s) (out s) (s .pre) (l .i) _ _ _ (seen d)
+      slot-sound (L s) (a .s .extremes, a .s .sums) (a .cumulative) (map s) (out s) (s .pre) (l .i) _ _ _ (seen d),
+      slot-free (L s) (a .s .extremes, a .s .sums) (a .cumulative) (map s) (out s) (s .pre) (l .i) _ _ _ (seen d)
           (l .at) (outNow (t .before)) (l .inv),
     )
 
@@ -110,7 +115,7 @@ loop-again c =
     let s = start t in
     let a = s .args in
     let l = t .before .loop in
-    list-next (a .s .size) (a .s .top) (a .s .extremes, a .s .sums) (a .cumulative) (a .used) (a .sets .now) (a .entries .now) (a .order .now) (lent s) (out s) (s .pre) (l .i) _ _ _ (seen d)
+    list-next (L s) (a .s .extremes, a .s .sums) (a .cumulative) (map s) (out s) (s .pre) (l .i) _ _ _ (seen d)
     (l .at) (outNow (t .before)) (l .inv) (r .row-at .result) (r .row-at .ensures) (p .put .result) _ (p .put .ensures)
 
 -- the output keeps its lengths
@@ -119,7 +124,7 @@ long c =
     let s = entry (c .before) in
     let a = s .args in
     let l = c .before .loop in
-    list-alike (a .s .size) (a .s .top) (a .s .extremes, a .s .sums) (a .cumulative) (a .used) (a .sets .now) (a .entries .now) (a .order .now) (lent s) (out s) (s .pre) (l .i) (l .at) (outNow (c .before)) (l .inv)
+    list-alike (L s) (a .s .extremes, a .s .sums) (a .cumulative) (map s) (out s) (s .pre) (l .i) (l .at) (outNow (c .before)) (l .inv)
 
 same-length : tie.Need-same-length Inv-loop μ-loop
 same-length c = long c .sets
@@ -138,7 +143,7 @@ returns c =
     let s = entry (c .before) in
     let a = s .args in
     let l = c .before .loop in
-    list-end (a .s .size) (a .s .top) (a .s .extremes, a .s .sums) (a .cumulative) (a .used) (a .sets .now) (a .entries .now) (a .order .now) (lent s) (out s) (l .i) (l .at) (outNow (c .before)) (l .inv)
+    list-end (L s) (a .s .extremes, a .s .sums) (a .cumulative) (map s) (out s) (l .i) (l .at) (outNow (c .before)) (l .inv)
     (omega (arith, c .loop-test .left))
 
 pub list-spec : {M : Type 1} → statement M

@@ -1,21 +1,24 @@
 -- `exponential_collection::walk::survey` meets its contract. Assumes nothing.
 use Prim.Native.Nat.{_+_, _-_, _≤_}
-use mathlib.Core.Bool.{true}
+use mathlib.Core.Bool.{Bool, true}
 use mathlib.Core.List.{[]}
 use native.Mathlib.Omega.{arith}
 use borrow.Author.Needs.{needs}
 use borrow.Author.Tests.{not-true, not-false}
 use Rattle.exponential_slots.specs.Cells.{Cells, cells}
+use Rattle.value_map.specs.Calls.{Held}
+use Rattle.value_map.specs.Exponential.{exponentialStore}
+use Rattle.collecting.specs.Lister.{Lister}
 use Rattle.collecting.specs.Slots.{walked}
 use Rattle.collecting.proofs.Turns.{Seen}
+use Rattle.collecting.proofs.Loops.{found-used, Surveyed, survey-start, survey-few, survey-next, survey-stop, survey-end}
 use Rattle.exponential_collection.specs.Points.{exponentialLister}
-use Rattle.exponential_collection.proofs.Turns.{found-used, Surveyed, survey-start, survey-next, survey-stop, survey-end}
 use Rattle.exponential_collection.proofs.walk.survey.Statement.{statement}
 use Rattle.exponential_collection.proofs.walk.survey.Tie as tie
 
 abbrev Inv-loop : tie.InvT-loop
 Inv-loop cumulative used entries order figures extremes pos neg size top found₀ i₀ found i =
-    Surveyed size top cumulative used entries order (record { figures = figures; extremes = extremes; pos = pos; neg = neg }) i found
+    Surveyed (exponentialLister size top) (true, true) cumulative (walked used [] entries order (record { figures = figures; extremes = extremes; pos = pos; neg = neg })) i found
 
 abbrev μ-loop : tie.MeasureT-loop
 μ-loop cumulative used entries order figures extremes pos neg size top found₀ i₀ found i = used + 1 - i
@@ -23,8 +26,14 @@ abbrev μ-loop : tie.MeasureT-loop
 abbrev Start : Type 0
 Start = tie.Start Inv-loop μ-loop
 
-abbrev lent : Start → Cells
-lent s = let a = s .args in cells (a .figures) (a .extremes) (a .pos) (a .neg)
+abbrev L : (s : Start) → Lister (exponentialStore (s .args .s .size) (s .args .s .top))
+L s = exponentialLister (s .args .s .size) (s .args .s .top)
+
+abbrev on : Bool × Bool
+on = (true, true)
+
+abbrev map : Start → Held Cells
+map s = let a = s .args in walked (a .used) [] (a .entries .now) (a .order .now) (cells (a .figures) (a .extremes) (a .pos) (a .neg))
 
 abbrev start : tie.In-loop Inv-loop μ-loop → Start
 start t = t .before .before .before .before .before
@@ -34,15 +43,14 @@ in-use : (c : tie.After-slot-at Inv-loop μ-loop) → c .slot-at .result ≤ sta
 in-use c =
     let t = c .before in
     let s = start t in
-    found-used (s .args .order .now) (s .args .used) (s .pre .slots) (t .before .loop .i) (c .slot-at .result) (t .loop-test .taken) (c .slot-at .ensures)
+    found-used (exponentialStore (s .args .s .size) (s .args .s .top)) (map s) (s .pre) (t .before .loop .i) (c .slot-at .result) (t .loop-test .taken) (c .slot-at .ensures)
 
 -- what the turn has seen of it
 abbrev turn : tie.After-is-due Inv-loop μ-loop → tie.In-loop Inv-loop μ-loop
 turn c = c .before .before .before
 
 seen : (c : tie.After-is-due Inv-loop μ-loop)
-    → Seen (exponentialLister (start (turn c) .args .s .size) (start (turn c) .args .s .top)) (true, true) (start (turn c) .args .cumulative)
-    (walked (start (turn c) .args .used) [] (start (turn c) .args .entries .now) (start (turn c) .args .order .now) (lent (start (turn c))))
+    → Seen (L (start (turn c))) (true, true) (start (turn c) .args .cumulative) (map (start (turn c)))
     (turn c .before .loop .i) (c .before .before .slot-at .result) (c .before .is-updated .result) (c .is-due .result)
 seen c =
     record {
@@ -53,10 +61,7 @@ seen c =
     }
 
 loop-holds : tie.Need-loop-holds Inv-loop μ-loop
-loop-holds c =
-    let s = c .before .before .before in
-    let a = s .args in
-    survey-start (a .s .size) (a .s .top) (a .cumulative) (a .used) (a .entries .now) (a .order .now) (lent s)
+loop-holds c = let s = c .before .before .before in survey-start (L s) on (s .args .cumulative) (map s)
 
 slot-at-requires : tie.Need-slot-at-requires Inv-loop μ-loop
 slot-at-requires c κs = omega (arith, c .loop-test .taken, start c .pre .order)
@@ -68,10 +73,9 @@ survey-requires : tie.Need-survey-requires Inv-loop μ-loop
 survey-requires c κs =
     let t = turn c in
     let s = start t in
-    let l = t .before .loop in
-    let u : l .i ≤ s .args .used = t .loop-test .taken in (
+    let l = t .before .loop in (
       (s .pre .set, s .pre .room (c .before .before .slot-at .result) (in-use (c .before .before))),
-      (omega (arith, l .inv .points, s .pre .most), omega (arith, l .inv .pos, s .pre .most), omega (arith, l .inv .neg, s .pre .most)),
+      survey-few (L s) on (s .args .cumulative) (map s) (s .pre) (l .i) (l .found) (l .inv) (t .loop-test .taken),
     )
 
 returns : tie.Need-returns Inv-loop μ-loop
@@ -80,9 +84,8 @@ returns c =
     let d = v .before in
     let t = turn d in
     let s = start t in
-    let a = s .args in
     let l = t .before .loop in
-    survey-stop (a .s .size) (a .s .top) (a .cumulative) (a .used) (a .entries .now) (a .order .now) (lent s) (l .i) _ _ _ (seen d)
+    survey-stop (L s) on (s .args .cumulative) (map s) (l .i) _ _ _ (seen d)
     (l .found) (v .survey .result) (l .inv) (v .survey .ensures .0) (not-true (v .survey .result .sound) (c .if1 .taken))
 
 add-i : tie.Need-add-i Inv-loop μ-loop
@@ -101,18 +104,15 @@ loop-again c =
     let d = v .before in
     let t = turn d in
     let s = start t in
-    let a = s .args in
     let l = t .before .loop in
-    let b = v .survey .ensures .1 in
-    survey-next (a .s .size) (a .s .top) (a .cumulative) (a .used) (a .entries .now) (a .order .now) (lent s) (l .i) _ _ _ (seen d)
-    (l .found) (v .survey .result) (l .inv) (v .survey .ensures .0) (not-false (v .survey .result .sound) (c .if1 .left)) (b .0) (b .1) (b .2)
+    survey-next (L s) on (s .args .cumulative) (map s) (l .i) _ _ _ (seen d)
+    (l .found) (v .survey .result) (l .inv) (v .survey .ensures .0) (not-false (v .survey .result .sound) (c .if1 .left)) (v .survey .ensures .1)
 
 returns-2 : tie.Need-returns-2 Inv-loop μ-loop
 returns-2 c =
     let s = c .before .before .before .before .before in
-    let a = s .args in
     let l = c .before .loop in
-    survey-end (a .s .size) (a .s .top) (a .cumulative) (a .used) (a .entries .now) (a .order .now) (lent s) (l .i) (l .found) (l .inv) (omega (arith, c .loop-test .left))
+    survey-end (L s) on (s .args .cumulative) (map s) (l .i) (l .found) (l .inv) (omega (arith, c .loop-test .left))
 
 pub survey-spec : {M : Type 1} → statement M
 survey-spec =

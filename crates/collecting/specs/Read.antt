@@ -1,15 +1,19 @@
--- A histogram's point as it is read from lent output, the same for both kinds. Assumes nothing.
+-- A histogram's point in lent output, and as it is read from there: the same for both kinds. Assumes nothing.
 use Prim.Native.Nat.{ℕ}
 use mathlib.Core.Path.{_≡_}
-use mathlib.Core.Bool.{true}
+use mathlib.Core.Bool.{Bool, true}
 use mathlib.Core.List.{List, []}
-use lib.ListN.{getD}
+use lib.ListN.{length, getD}
 use lib.Ieee.{Float, nan, binary64, fits}
-use Rattle.points.specs.Handed.{Handed}
+use Rattle.kinds.specs.Histograms.{histograms}
 use Rattle.point.specs.Handing.{storedIn, handedIn}
-use Rattle.listing.specs.Words.{pointIn, boundsIn}
+use Rattle.point.specs.declared.Point.{Point}
+use Rattle.value_map.specs.Store.{Store}
+use Rattle.listing.specs.Words.{wordsOf, pointIn, boundsIn}
 use Rattle.listing.specs.Listed as Listed
 use Rattle.listing.specs.Listed.{boundsAt}
+use Rattle.listing.specs.declared.Span.{Span}
+use Rattle.collecting.specs.Lister.{Lister}
 
 -- how many counts the words say that their point has in either store
 abbrev pub posLen : List ℕ → ℕ
@@ -18,10 +22,25 @@ posLen ws = Listed.posLen (pointIn ws .figures) (boundsIn ws)
 abbrev pub negLen : List ℕ → ℕ
 negLen ws = Listed.negLen (pointIn ws .figures)
 
--- the point that words and counts are, its bounds lying in a store of bounds beside the list
-abbrev pub pointOf : List Float → List ℕ → List ℕ → List ℕ → Handed
-pointOf bounds ws ps ns = handedIn (storedIn (pointIn ws) (boundsAt (boundsIn ws) bounds) ps ns)
+-- the bounds of every point lie at the front of the store of bounds, all of them
+abbrev pub spanOf : List Float → Span
+spanOf bounds = record { start = 0; len = length bounds }
 
 -- a store of rows of f64s that can be lent
 abbrev pub AllFit : List (List Float) → Type 0
 AllFit rows = (x i : ℕ) → fits binary64 (getD (getD rows x []) i nan) ≡ true
+
+-- THE LISTER of a histogram kind: of where its cells have rows of f64s, the bounds of its points, a slot's point under the switches, and the
+-- point's counts in either store. A point is read back with its bounds, which lie in a store beside the list
+abbrev pub histogramLister : (S : Store histograms) → (S .Cells → List (List Float)) → List Float → (S .Switches → S .Cells → ℕ → Bool → Point)
+    → (pos neg : S .Cells → ℕ → Bool → List ℕ) → Lister S
+histogramLister S floats bounds point pos neg =
+    record {
+      Lent = λ c. AllFit (floats c);
+      words = λ w c x u. wordsOf (point w c x u) (spanOf bounds);
+      pos = pos;
+      neg = neg;
+      posLen = posLen;
+      negLen = negLen;
+      point = λ ws ps ns. handedIn (storedIn (pointIn ws) (boundsAt (boundsIn ws) bounds) ps ns);
+    }

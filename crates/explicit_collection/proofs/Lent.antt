@@ -5,23 +5,19 @@ use mathlib.Core.Logic.{⊎-elim}
 use mathlib.Core.Bool.{Bool, true, false}
 use mathlib.Core.List.{List, [], _∷_}
 use lib.Dec.{eqb}
-use lib.ListN.{replicate}
 use lib.Ieee.{Float, binary64, fits, lt, add}
 use lib.Ieee.Scale.{finite}
 use lib.Ieee.Fits.{add-fits}
 use lib.Ieee.Bits.{is-true}
-use Rattle.laws.specs.Pick.{pick}
-use Rattle.laws.specs.Over.{over}
 use Rattle.laws.specs.Said.{Said, refusal, success}
 use Rattle.laws.proofs.Bools.{flag, pick-true, pick-false}
-use Rattle.points.specs.Explicit.{bucketCount, boundsPass}
 use Rattle.kinds.specs.Histograms.{histograms}
 use Rattle.explicit.specs.declared.Head.{Head}
-use Rattle.explicit.specs.Series.{Outcome, outcome, freshHead, refusalOf, recording}
-use Rattle.explicit_slots.specs.Cells.{Cells, rowAt, headAt, begun, entering, written, recordedAt}
+use Rattle.explicit.specs.Series.{Outcome, refusalOf, recording}
+use Rattle.explicit_slots.specs.Cells.{Cells, headAt, countsAt, written, recordedAt}
 use Rattle.collecting.specs.Read.{AllFit}
 use Rattle.collecting.proofs.Fits.{value-fits, cond-fits, row-fits, set-fits}
-use Rattle.explicit_collection.proofs.Lists.{Fitting, fresh-fits}
+use Rattle.explicit_collection.proofs.Lists.{Fitting, head-fits}
 
 -- a head that is answered
 abbrev Said-fits : Said Head → Type 0
@@ -47,19 +43,9 @@ module _ (bounds : List Float) (v : Float) (t : histograms .finite v ≡ true) w
       (λ (e : b ≡ false). subst (λ (o : Outcome). Said-fits (o .answer)) (sym (pick-false b _ _ e)) tt)
       (flag b)
 
-  entering-fits : (u : Bool) (h : Head) → Fitting h → (xs : List ℕ) → Said-fits (entering bounds u h xs v .answer)
-  unfolding entering begun pick
-  entering-fits true h f xs = recording-fits h f xs
-  entering-fits false h f xs = go (boundsPass bounds)
-    where
-      go : (b : Bool) → Said-fits (pick b (recording bounds freshHead (over (replicate (bucketCount bounds) 0) xs) v) (outcome (refusal 8) xs) .answer)
-      go true = recording-fits freshHead fresh-fits (over (replicate (bucketCount bounds) 0) xs)
-      go false = tt
-
   -- RECORDING KEEPS IT, whatever is refused
   pub recording-keeps : (x : ℕ) (u : Bool) (c : Cells) → AllFit (c .extremes) → AllFit (recordedAt bounds x u c v .cells .extremes)
   unfolding recordedAt
   recording-keeps x u c l =
-      let o = entering bounds u (headAt c x) (rowAt bounds (c .counts) x) v in
-      let f : Fitting (headAt c x) = record { min = l x 0; max = l x 1; sum = l x 2 } in
-      written-keeps bounds x c l (o .answer) (o .counts) (entering-fits u (headAt c x) f (rowAt bounds (c .counts) x))
+      let o = recording bounds (headAt c x u) (countsAt bounds c x u) v in
+      written-keeps bounds x c l (o .answer) (o .counts) (recording-fits (headAt c x u) (head-fits c x u l) (countsAt bounds c x u))

@@ -19,7 +19,7 @@ use Rattle.kinds.specs.Histograms.{histograms}
 use Rattle.explicit.specs.declared.Head.{Head}
 use Rattle.explicit.specs.Series.{bucketsIn, summary, freshHead}
 use Rattle.explicit.proofs.Listed.{fresh-is}
-use Rattle.explicit_slots.specs.Cells.{Cells, Room}
+use Rattle.explicit_slots.specs.Cells.{Cells, Room, headAt, countsAt}
 use Rattle.value_map.specs.Explicit.{explicitStore}
 use Rattle.value_map.proofs.Owed.{was}
 use Rattle.point.specs.Handing.{storedIn, handedIn, explicitPoint}
@@ -30,9 +30,9 @@ use Rattle.listing.specs.Listed as Out
 use Rattle.listing.proofs.Back as Back
 use Rattle.listing.proofs.Given.{explicit-held}
 use Rattle.collecting.proofs.Fits.{literal-fits}
-use Rattle.collecting.specs.Read.{AllFit}
+use Rattle.collecting.specs.Read.{spanOf, AllFit}
 use Rattle.collecting.proofs.Owed.{Listed}
-use Rattle.explicit_collection.specs.Points.{headAt, countsAt, spanOf, explicitLister}
+use Rattle.explicit_collection.specs.Points.{explicitLister}
 use Rattle.explicit_collection.proofs.Slots.{counts-long, buckets-are}
 
 -- ---- the floats of a head are f64s

@@ -23,8 +23,7 @@ use Rattle.points.specs.Explicit.{bucketCount, bucketsAgree}
 use Rattle.kinds.specs.Histograms.{histograms}
 use Rattle.explicit.specs.declared.Head.{Head}
 use Rattle.explicit.specs.Series.{Outcome, outcome, bucketsIn, freshHead, freshening}
-use Rattle.explicit_slots.specs.Cells.{Cells, Room, rowAt, seriesAt}
-use Rattle.explicit_slots.specs.Cells as Slots
+use Rattle.explicit_slots.specs.Cells.{Cells, Room, rowAt, headIn, seriesAt, headAt, countsAt}
 use Rattle.point.specs.Handing.{explicitPoint}
 use Rattle.point.specs.declared.Point.{Point}
 use Rattle.value_map.specs.Explicit.{explicitStore}
@@ -34,8 +33,9 @@ use Rattle.listing.specs.Inner as ListedInner
 use Rattle.listing.specs.Words.{wordsOf}
 use Rattle.listing.specs.declared.Cursor.{Cursor}
 use Rattle.collecting.specs.Slots.{unsound, oneMore, Place, surveyedAt, laidAt, behindAt, putSlot}
+use Rattle.collecting.specs.Read.{spanOf}
 use Rattle.collecting.specs.declared.Survey.{Survey}
-use Rattle.explicit_collection.specs.Points.{headAt, countsAt, spanOf, explicitLister}
+use Rattle.explicit_collection.specs.Points.{explicitLister}
 use Rattle.explicit_collection.specs.Ready.{pointPut}
 
 -- ---- agreement
@@ -45,7 +45,7 @@ module _ (bounds : List Float) (c : Cells) (x : ℕ) where
   abbrev pub agreesAt : Bool
   agreesAt = histograms .agrees (explicitStore bounds .settings (true, true, zeroFloat)) (seriesAt bounds c x)
 
-  module _ (n : ℕ) (is : n ≡ bucketCount bounds) (h : Head) (head : h ≡ Slots.headAt c x) (b : Bool) (e : b ≡ bucketsAgree bounds (bucketsIn bounds (h .count) (partAt n (c .counts) x))) where
+  module _ (n : ℕ) (is : n ≡ bucketCount bounds) (h : Head) (head : h ≡ headIn c x) (b : Bool) (e : b ≡ bucketsAgree bounds (bucketsIn bounds (h .count) (partAt n (c .counts) x))) where
     -- as the code tests it
     tested : b && (finite (h .min) && finite (h .max)) ≡ agreesAt
     tested =
@@ -179,10 +179,10 @@ module _ (bounds : List Float) (show sums u due : Bool) (c : Cells) (x : ℕ) (r
         ∙ (λ j. left (behindAt at (counts-long bounds c x r u j) 0) (laidAt at row (wordsOf (explicitPoint (i j) show sums) (spanOf bounds)) (k j) [] o))
         )
 
-    pub put-held : u ≡ true → (n : ℕ) → n ≡ bucketCount bounds → (h : Head) → h ≡ Slots.headAt c x → pointPut bounds (explicitPoint h show sums) at row (partAt n (c .counts) x) o ≡ putting
+    pub put-held : u ≡ true → (n : ℕ) → n ≡ bucketCount bounds → (h : Head) → h ≡ headIn c x → pointPut bounds (explicitPoint h show sums) at row (partAt n (c .counts) x) o ≡ putting
     put-held t n i h e =
         (λ j. pointPut bounds (explicitPoint (e j) show sums) at row (partAt (i j) (c .counts) x) o)
-        ∙ put-some (Slots.headAt c x) (rowAt bounds (c .counts) x) (pick-true u _ freshHead t)
+        ∙ put-some (headIn c x) (rowAt bounds (c .counts) x) (pick-true u _ freshHead t)
         (pick-true u _ (replicate (bucketCount bounds) 0) t ∙ sym (take-all (bucketCount bounds) (rowAt bounds (c .counts) x) (omega (arith, row-long bounds c x r))))
 
     pub put-first : u ≡ false → pointPut bounds (explicitPoint freshHead show sums) at row (replicate (bucketCount bounds) 0) o ≡ putting

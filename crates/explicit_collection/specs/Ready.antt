@@ -10,8 +10,8 @@ use Rattle.listing.specs.Words.{wordsOf}
 use Rattle.listing.specs.Listed.{Output}
 use Rattle.listing.specs.Inner.{Put, left}
 use Rattle.listing.specs.declared.Cursor.{Cursor}
+use Rattle.collecting.specs.Read.{spanOf}
 use Rattle.collecting.specs.Slots.{laidAt, behindAt}
-use Rattle.explicit_collection.specs.Points.{spanOf}
 
 -- a point put at a cursor with the first counts of a row, and the cursor behind it
 abbrev pub pointPut : List Float → Point → Cursor → List ℕ → List ℕ → Output → Put

@@ -9,8 +9,7 @@ ghost use Rattle.points.specs.Explicit.{boundsPass, bucketCount};
 ghost use Rattle.explicit.specs.Series.{freshHead};
 ghost use Rattle.point.specs.Handing.{explicitPoint};
 ghost use Rattle.kinds.specs.Histograms.{histograms};
-ghost use Rattle.explicit_slots.specs.Cells.{cells, seriesAt, Room};
-ghost use Rattle.explicit_slots.specs.Cells as Slots;
+ghost use Rattle.explicit_slots.specs.Cells.{cells, headIn, seriesAt, Room};
 ghost use Rattle.value_map.specs.Explicit.{explicitStore};
 ghost use Rattle.listing.specs.Listed.{output};
 ghost use Rattle.listing.specs.Inner.{left};
@@ -26,7 +25,7 @@ use listing::Span;
 // The head of slot x.
 fn head_at(x: usize, totals: &[u64], extremes: &[[f64; 3]]) -> Head
     requires { ⌜ (x < length (now totals)) × (x < length (now extremes)) ⌝ }
-    ensures { λ r. ⌜ r ≡ Slots.headAt (record { totals = now (totals .entry); extremes = now (extremes .entry); counts = [] }) x ⌝ }
+    ensures { λ r. ⌜ r ≡ headIn (record { totals = now (totals .entry); extremes = now (extremes .entry); counts = [] }) x ⌝ }
 {
     Head {
         count: totals[x],

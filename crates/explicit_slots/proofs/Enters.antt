@@ -3,19 +3,19 @@ use Prim.Native.Nat.{ℕ, _-_, _≤_}
 use mathlib.Core.Path.{_≡_, refl, ap, sym, subst, _∙_}
 use mathlib.Core.Logic.{⊎-elim, _⊎_}
 use mathlib.Core.Bool.{Bool, true, false}
-use mathlib.Core.List.{List, [], _∷_}
+use mathlib.Core.List.{List, [], _∷_, _++_, append-nil}
 use native.Mathlib.Omega.{arith}
 use lib.Dec.{eqb}
-use lib.ListN.{length, replicate, set, length-replicate}
+use lib.ListN.{length, replicate, set, length-replicate, drop-of-length-le}
 use lib.Ieee.{Float}
 use lib.Ieee.Scale.{finite}
 use borrow.Author.Tests.{le-leb}
 use Rattle.laws.specs.Pick.{pick}
 use Rattle.laws.specs.Said.{Said, refusal, success}
-use Rattle.laws.proofs.Bools.{flag, pick-true, pick-false}
+use Rattle.laws.proofs.Bools.{flag, not-both, pick-true, pick-false}
 use Rattle.rows.specs.Parts.{partAt, putAt}
 use Rattle.rows.specs.Recording.{Recording}
-use Rattle.rows.proofs.Parts.{put-same}
+use Rattle.rows.proofs.Parts.{part-length, put-same}
 use Rattle.laws.proofs.Answers.{success?, valueIn, not-refused}
 use Rattle.rows.specs.Rows.{over}
 use Rattle.rows.proofs.Laws.{length-over}
@@ -23,9 +23,11 @@ use Rattle.points.specs.Explicit.{bucketCount, boundsPass, bucketsOf, recordBuc
 use Rattle.points.proofs.Explicit.{buckets-agree, fresh-buckets-ok}
 use Rattle.explicit.specs.declared.Head.{Head}
 use Rattle.explicit.specs.Series.{Outcome, outcome, bucketsIn, freshHead, freshening, refusalOf, accepted, recording}
-use Rattle.explicit.proofs.Cases.{none}
+use Rattle.explicit.proofs.Cases.{none as none-refused, refuse, disagrees}
+use Rattle.explicit.proofs.Writes.{refused-law}
 use Rattle.explicit.proofs.Listed.{accepted-is, fresh-is, fin-min, fin-max}
-use Rattle.explicit_slots.specs.Cells.{Cells, headAt, begun, entering, written, recordedAt}
+use Rattle.explicit_slots.specs.Cells.{Cells, Room, rowAt, headIn, written, recordedAt}
+use Rattle.explicit_slots.specs.Inner.{begun, entering}
 
 -- ---- a first value
 
@@ -58,7 +60,7 @@ module _ (bs : List Float) (xs : List ℕ) (long : bucketCount bs ≤ length xs)
   begun-taken v p f =
       let agree : bucketsAgree bs (bucketsIn bs 0 zeros) ≡ true = ap (bucketsAgree bs) (fresh-is bs xs) ∙ buckets-agree bs (bucketsOf bs []) (fresh-buckets-ok bs p) in
       let l : bucketCount bs ≤ length zeros = omega (arith, long, length-over (replicate (bucketCount bs) 0) xs (omega (arith, length-replicate {A = ℕ} (bucketCount bs) 0))) in
-      accepted-is bs freshHead zeros v (sym (none bs freshHead zeros v l f agree fin-min fin-max (omega arith)))
+      accepted-is bs freshHead zeros v (sym (none-refused bs freshHead zeros v l f agree fin-min fin-max (omega arith)))
 
 -- ---- the cases of entering
 
@@ -108,26 +110,63 @@ module _ (bs : List Float) (x : ℕ) (u : Bool) (s : Cells) (v : Float) where
   abbrev back : ℕ → List ℕ → List ℕ
   back k ys = putAt k (s .counts) x ys
 
-  pub call : (a : Said Head) (ys : List ℕ) → outcome a ys ≡ entering bs u (headAt s x) (row (bucketCount bs)) v → written bs x s a ys ≡ recordedAt bs x u s v
-  unfolding recordedAt
-  call a ys e = ap (λ (o : Outcome). written bs x s (o .answer) (o .counts)) e
+  abbrev put : Outcome → Recording Cells
+  put o = written bs x s (o .answer) (o .counts)
 
-  module _ (k : ℕ) (is : k ≡ bucketCount bs) (a : Said Head) (ys : List ℕ) (e : outcome a ys ≡ entering bs u (headAt s x) (row k) v) where
-    there : outcome a ys ≡ entering bs u (headAt s x) (row (bucketCount bs)) v
-    there = e ∙ ap (λ (k : ℕ). entering bs u (headAt s x) (row k) v) is
+  module _ (r : Room bs s x) (f : finite v ≡ true) where
+    abbrev none : List ℕ
+    none = replicate (bucketCount bs) 0
 
-    pub call-refused : (n : ℕ) → a ≡ refusal n → bucketCount bs ≤ length (row k) → finite v ≡ true
+    long : length (row (bucketCount bs)) ≡ bucketCount bs
+    long = part-length (bucketCount bs) (s .counts) x (r .counts)
+
+    many : length none ≡ bucketCount bs
+    many = length-replicate {A = ℕ} (bucketCount bs) 0
+
+    -- in a row of its own length nothing lies behind zeros
+    all-zeros : zeros bs (row (bucketCount bs)) (omega (arith, long)) ≡ none
+    unfolding over
+    all-zeros = ap (λ (l : List ℕ). none ++ l) (drop-of-length-le (row (bucketCount bs)) {i = length none} (omega (arith, long, many))) ∙ append-nil none
+
+    -- bounds that do not pass are refused by the series too
+    fresh-bad : boundsPass bs ≡ false → recording bs freshHead none v ≡ outcome (refusal 8) none
+    fresh-bad b =
+        let no : bucketsAgree bs (bucketsIn bs 0 none) ≡ false = sym (refuse bs 0 none (λ k. not-both (boundsPass bs) (k .passes) b)) in
+        sym (refused-law bs freshHead none v 8 (disagrees bs freshHead none v (omega (arith, many)) f no) (λ z. omega (arith, z)))
+
+    -- what enters the row is what is recorded at the slot
+    entered : put (entering bs u (headIn s x) (row (bucketCount bs)) v) ≡ recordedAt bs x u s v
+    unfolding recordedAt begun
+    entered =
+        ⊎-elim
+        (λ (t : u ≡ true). ap put (enters-held bs u (headIn s x) (row (bucketCount bs)) v t)
+        ∙ sym (λ j. put (recording bs (pick-true u (headIn s x) freshHead t j) (pick-true u (row (bucketCount bs)) none t j) v)))
+        (λ (t : u ≡ false). ⊎-elim
+        (λ (p : boundsPass bs ≡ true). ap put (enters-first bs u (headIn s x) (row (bucketCount bs)) v t p) ∙ ap (λ (ys : List ℕ). put (recording bs freshHead ys v)) all-zeros)
+        (λ (p : boundsPass bs ≡ false). ap put (enters-bad bs u (headIn s x) (row (bucketCount bs)) v t p) ∙ sym (ap put (fresh-bad p)))
+        (flag (boundsPass bs))
+        ∙ sym (λ j. put (recording bs (pick-false u (headIn s x) freshHead t j) (pick-false u (row (bucketCount bs)) none t j) v)))
+        (flag u)
+
+    pub call : (a : Said Head) (ys : List ℕ) → outcome a ys ≡ entering bs u (headIn s x) (row (bucketCount bs)) v → written bs x s a ys ≡ recordedAt bs x u s v
+    call a ys e = ap put e ∙ entered
+
+  module _ (k : ℕ) (is : k ≡ bucketCount bs) (a : Said Head) (ys : List ℕ) (e : outcome a ys ≡ entering bs u (headIn s x) (row k) v) where
+    there : outcome a ys ≡ entering bs u (headIn s x) (row (bucketCount bs)) v
+    there = e ∙ ap (λ (k : ℕ). entering bs u (headIn s x) (row k) v) is
+
+    pub call-refused : (n : ℕ) → a ≡ refusal n → bucketCount bs ≤ length (row k) → Room bs s x → finite v ≡ true
         → record { no = n; cells = record { totals = s .totals; extremes = s .extremes; counts = back k ys } } ≡ recordedAt bs x u s v
-    call-refused n r l f =
-        let q : entering bs u (headAt s x) (row k) v .counts ≡ row k = entering-kept bs u (headAt s x) (row k) v l f n (sym (ap (λ (o : Outcome). o .answer) e) ∙ r) in
+    call-refused n r l m f =
+        let q : entering bs u (headIn s x) (row k) v .counts ≡ row k = entering-kept bs u (headIn s x) (row k) v l f n (sym (ap (λ (o : Outcome). o .answer) e) ∙ r) in
         let same : back k ys ≡ s .counts = ap (back k) (ap (λ (o : Outcome). o .counts) e ∙ q) ∙ put-same k (s .counts) x in
         (λ j. record { no = n; cells = record { totals = s .totals; extremes = s .extremes; counts = same j } })
         ∙ ap (λ (b : Said Head). written bs x s b ys) (sym r)
-        ∙ call a ys there
+        ∙ call m f a ys there
 
-    pub call-recorded : (h : Head) → a ≡ success h
+    pub call-recorded : (h : Head) → a ≡ success h → Room bs s x → finite v ≡ true
         → _≡_ {A = Recording Cells} (record { no = 0; cells = record { totals = set (s .totals) x (h .count); extremes = set (s .extremes) x (h .min ∷ h .max ∷ h .sum ∷ []); counts = back k ys } }) (recordedAt bs x u s v)
-    call-recorded h r =
+    call-recorded h r m f =
         (λ j. record { no = 0; cells = record { totals = set (s .totals) x (h .count); extremes = set (s .extremes) x (h .min ∷ h .max ∷ h .sum ∷ []); counts = back (is j) ys } })
         ∙ ap (λ (b : Said Head). written bs x s b ys) (sym r)
-        ∙ call a ys there
+        ∙ call m f a ys there

@@ -28,11 +28,12 @@ use Rattle.tally.specs.Map.{sound}
 use Rattle.tally.proofs.MapSteps.{fits}
 use Rattle.kinds.specs.Histograms.{histograms}
 use Rattle.explicit.specs.declared.Head.{Head}
-use Rattle.explicit.specs.Series.{bucketsIn, headOf, summary, freshHead, refusalOf, outcome, accepted}
+use Rattle.explicit.specs.Series.{bucketsIn, headOf, summary, freshHead, refusalOf, outcome, accepted, recording}
 use Rattle.explicit.proofs.Cases.{refuse, disagrees}
 use Rattle.explicit.proofs.Writes.{refused-law}
 use Rattle.explicit.proofs.Listed.{accepted-is, fresh-is, reads, stays-long}
-use Rattle.explicit_slots.specs.Cells.{Cells, Room, rowAt, headAt, seriesAt, entering, written, recordedAt}
+use Rattle.explicit_slots.specs.Cells.{Cells, Room, rowAt, headIn, headAt, countsAt, seriesAt, written, recordedAt}
+use Rattle.explicit_slots.specs.Inner.{entering}
 use Rattle.explicit_slots.proofs.Enters.{zeros, begun-taken, enters-held, enters-bad, enters-first, call}
 use Rattle.laws.specs.Counting.{mostCount}
 
@@ -92,7 +93,7 @@ module _ (bounds : List Float) (x : ℕ) (u : Bool) (s : Cells) (v : Float) wher
   -- a number other than 0 leaves the stores
   pub refused-same : recordedAt bounds x u s v .no ≢ 0 → recordedAt bounds x u s v .cells ≡ s
   unfolding recordedAt
-  refused-same = let o = entering bounds u (headAt s x) (rowAt bounds (s .counts) x) v in go (o .answer) (o .counts)
+  refused-same = let o = recording bounds (headAt s x u) (countsAt bounds s x u) v in go (o .answer) (o .counts)
     where
       go : (a : Said Head) (xs : List ℕ) → written bounds x s a xs .no ≢ 0 → written bounds x s a xs .cells ≡ s
       go (refusal n) xs d = refl
@@ -101,7 +102,7 @@ module _ (bounds : List Float) (x : ℕ) (u : Bool) (s : Cells) (v : Float) wher
   -- 8 under bounds that do not pass
   pub bad-bounds : Room bounds s x → finite v ≡ true → boundsPass bounds ≡ false → recordedAt bounds x u s v ≡ record { no = 8; cells = s }
   bad-bounds r f b =
-      let h = headAt s x in
+      let h = headIn s x in
       let xs = rowAt bounds (s .counts) x in
       let no : bucketsAgree bounds (bucketsIn bounds (h .count) xs) ≡ false = sym (refuse bounds (h .count) xs (λ k. not-both (boundsPass bounds) (k .passes) b)) in
       let eight : 8 ≡ refusalOf bounds h xs v = disagrees bounds h xs v (omega (arith, long bounds s x r)) f no in
@@ -111,7 +112,7 @@ module _ (bounds : List Float) (x : ℕ) (u : Bool) (s : Cells) (v : Float) wher
       (λ (t : u ≡ false). sym (enters-bad bounds u h xs v t b))
       (flag u)
       in
-      sym (call bounds x u s v (refusal 8) xs o)
+      sym (call bounds x u s v r f (refusal 8) xs o)
 
 -- ---- numbers
 
@@ -136,12 +137,12 @@ module _ (bounds : List Float) (e m : Bool) (t : Float) where
     abbrev total : ℕ
     total = getD (s .totals) x 0
 
-    no-is : refusalOf bounds (headAt s x) xs v ≡ pick (histograms .agrees settings held) (pick (leb mostCount total) 9 0) 8
+    no-is : refusalOf bounds (headIn s x) xs v ≡ pick (histograms .agrees settings held) (pick (leb mostCount total) 9 0) 8
     unfolding refusalOf
     no-is =
         pick-true (leb (bucketCount bounds) (length xs)) _ 12 (le-leb (bucketCount bounds) (length xs) (omega (arith, long bounds s x r)))
         ∙ pick-true (finite v) _ 6 f
-        ∙ ap (λ (b : Bool). pick b (pick (leb mostCount total) 9 0) 8) (and-is (bucketsAgree bounds (bucketsIn bounds total xs)) (finite (headAt s x .min)) (finite (headAt s x .max)))
+        ∙ ap (λ (b : Bool). pick b (pick (leb mostCount total) 9 0) 8) (and-is (bucketsAgree bounds (bucketsIn bounds total xs)) (finite (headIn s x .min)) (finite (headIn s x .max)))
 
     -- what the value was added to, and what is left
     pub record Added (was : Figures) (after : Cells) : Type 0 where
@@ -154,7 +155,7 @@ module _ (bounds : List Float) (e m : Bool) (t : Float) where
 
     -- a head and a row recorded into leave their figures in the slot, with the value added
     taken : (u : Bool) (h : Head) (ys : List ℕ) → length ys ≡ bucketCount bounds
-        → entering bounds u (headAt s x) xs v ≡ accepted (recordBucket bounds (bucketsIn bounds (h .count) ys) v) h ys v
+        → entering bounds u (headIn s x) xs v ≡ accepted (recordBucket bounds (bucketsIn bounds (h .count) ys) v) h ys v
         → (was : Figures) → was ≡ record { counts = explicitCounts bounds (bucketsIn bounds (h .count) ys); summary = summary h }
         → Took u was
     taken u h ys l e was i =
@@ -163,7 +164,7 @@ module _ (bounds : List Float) (e m : Bool) (t : Float) where
         let zs = over (q .counts) ys in
         let k : bucketCount bounds ≤ length ys = omega (arith, l) in
         let lz : length zs ≡ bucketCount bounds = stays-long bounds (h .count) ys v k ∙ l in
-        subst (λ (o : Recording Cells). (o .no ≡ 0) × Added was (o .cells)) (call bounds x u s v (success g) zs (sym e)) (
+        subst (λ (o : Recording Cells). (o .no ≡ 0) × Added was (o .cells)) (call bounds x u s v r f (success g) zs (sym e)) (
           refl,
           record {
             series = at-slot bounds s x r g zs lz
@@ -176,15 +177,15 @@ module _ (bounds : List Float) (e m : Bool) (t : Float) where
 
     -- of a series that was recorded into before
 
-    refused : (k : ℕ) → k ≡ refusalOf bounds (headAt s x) xs v → k ≢ 0 → recordedAt bounds x true s v ≡ record { no = k; cells = s }
+    refused : (k : ℕ) → k ≡ refusalOf bounds (headIn s x) xs v → k ≢ 0 → recordedAt bounds x true s v ≡ record { no = k; cells = s }
     refused k i z =
-        sym (call bounds x true s v (refusal k) xs (refused-law bounds (headAt s x) xs v k i z ∙ sym (enters-held bounds true (headAt s x) xs v refl)))
+        sym (call bounds x true s v r f (refusal k) xs (refused-law bounds (headIn s x) xs v k i z ∙ sym (enters-held bounds true (headIn s x) xs v refl)))
 
     held-8 : histograms .agrees settings held ≡ false → recordedAt bounds x true s v ≡ record { no = 8; cells = s }
     held-8 a = refused 8 (sym (no-is ∙ pick-false (histograms .agrees settings held) _ 8 a)) (λ z. omega (arith, z))
 
     module _ (a : histograms .agrees settings held ≡ true) where
-      by-count : refusalOf bounds (headAt s x) xs v ≡ pick (leb mostCount total) 9 0
+      by-count : refusalOf bounds (headIn s x) xs v ≡ pick (leb mostCount total) 9 0
       by-count = no-is ∙ pick-true (histograms .agrees settings held) _ 8 a
 
       held-9 : fits (suc total) ≡ false → recordedAt bounds x true s v ≡ record { no = 9; cells = s }
@@ -194,7 +195,7 @@ module _ (bounds : List Float) (e m : Bool) (t : Float) where
 
       held-0 : fits (suc total) ≡ true → Took true held
       held-0 b =
-          let h = headAt s x in
+          let h = headIn s x in
           let free : total < mostCount = omega (arith, ltb-true (suc total) (2 ^ 64) b) in
           let z = by-count ∙ pick-false (leb mostCount total) 9 0 (lt-leb mostCount total free) in
           taken true h xs (long bounds s x r) (enters-held bounds true h xs v refl ∙ accepted-is bounds h xs v z) held refl
@@ -205,7 +206,7 @@ module _ (bounds : List Float) (e m : Bool) (t : Float) where
         let k : bucketCount bounds ≤ length xs = omega (arith, long bounds s x r) in
         let zs = zeros bounds xs k in
         let l : length zs ≡ bucketCount bounds = length-over (replicate (bucketCount bounds) 0) xs (omega (arith, k, length-replicate {A = ℕ} (bucketCount bounds) 0)) ∙ long bounds s x r in
-        taken false freshHead zs l (enters-first bounds false (headAt s x) xs v refl p ∙ begun-taken bounds xs k v p f) (histograms .fresh settings)
+        taken false freshHead zs l (enters-first bounds false (headIn s x) xs v refl p ∙ begun-taken bounds xs k v p f) (histograms .fresh settings)
         (λ j. record { counts = explicitCounts bounds (sym (fresh-is bounds xs) j); summary = summary freshHead })
 
     -- ---- THE LAWS: 8 where the series disagrees, 9 where its count is full, else the value is added to it, or to a fresh one

@@ -9,11 +9,10 @@ use Rattle.laws.specs.Pick.{pick}
 use Rattle.laws.specs.Said.{Said, refusal, success}
 use Rattle.rows.specs.Parts.{partAt, putAt}
 use Rattle.rows.specs.Recording.{Recording, after}
-use Rattle.laws.specs.Over.{over}
-use Rattle.points.specs.Explicit.{bucketCount, boundsPass}
+use Rattle.points.specs.Explicit.{bucketCount}
 use Rattle.points.specs.Figures.{Figures, explicitCounts}
 use Rattle.explicit.specs.declared.Head.{Head}
-use Rattle.explicit.specs.Series.{Outcome, outcome, bucketsIn, summary, freshHead, recording}
+use Rattle.explicit.specs.Series.{bucketsIn, summary, freshHead, recording}
 
 -- The kind's stores: each slot's count; its minimum, maximum and sum; its bucket counts, "× buckets, one store".
 pub record Cells : Type 0 where
@@ -35,8 +34,9 @@ pub record Room (bounds : List Float) (c : Cells) (x : ℕ) : Type 0 where
   pub extremes : x < length (c .extremes)
   pub counts : x * bucketCount bounds + bucketCount bounds ≤ length (c .counts)
 
-abbrev pub headAt : Cells → ℕ → Head
-headAt c x =
+-- a head as it lies in a slot
+abbrev pub headIn : Cells → ℕ → Head
+headIn c x =
     record {
       count = getD (c .totals) x 0;
       min = getD (getD (c .extremes) x []) 0 nan;
@@ -47,16 +47,14 @@ headAt c x =
 -- what the cells of a slot mean
 abbrev pub seriesAt : List Float → Cells → ℕ → Figures
 seriesAt bounds c x =
-    record { counts = explicitCounts bounds (bucketsIn bounds (getD (c .totals) x 0) (rowAt bounds (c .counts) x)); summary = summary (headAt c x) }
+    record { counts = explicitCounts bounds (bucketsIn bounds (getD (c .totals) x 0) (rowAt bounds (c .counts) x)); summary = summary (headIn c x) }
 
--- a first value: what lay in the row before plays no part
-unfoldable pub begun : List Float → List ℕ → Float → Outcome
-begun bounds xs v = recording bounds freshHead (over (replicate (bucketCount bounds) 0) xs) v
+-- head and counts of slot x: an entry that was not updated has no series, and counts as fresh, whatever lies in its slot
+abbrev pub headAt : Cells → ℕ → Bool → Head
+headAt c x updated = pick updated (headIn c x) freshHead
 
--- An entry that was not updated has no series: it counts as fresh. 8 where configuring could not have accepted the bounds.
-unfoldable pub entering : List Float → Bool → Head → List ℕ → Float → Outcome
-entering bounds updated h xs v =
-    pick updated (recording bounds h xs v) (pick (boundsPass bounds) (begun bounds xs v) (outcome (refusal 8) xs))
+abbrev pub countsAt : List Float → Cells → ℕ → Bool → List ℕ
+countsAt bounds c x updated = pick updated (rowAt bounds (c .counts) x) (replicate (bucketCount bounds) 0)
 
 -- "Every refusal changes nothing"; else the slot's cells, and no others
 abbrev pub written : List Float → ℕ → Cells → Said Head → List ℕ → Recording Cells
@@ -68,6 +66,7 @@ written bounds x c (success h) xs =
       counts = putAt (bucketCount bounds) (c .counts) x xs;
     })
 
+-- a value recorded into slot x: what `explicit` says of its head and counts, with all the rest as it was
 unfoldable pub recordedAt : List Float → ℕ → Bool → Cells → Float → Recording Cells
 recordedAt bounds x updated c v =
-    let o = entering bounds updated (headAt c x) (rowAt bounds (c .counts) x) v in written bounds x c (o .answer) (o .counts)
+    let o = recording bounds (headAt c x updated) (countsAt bounds c x updated) v in written bounds x c (o .answer) (o .counts)

@@ -7,7 +7,8 @@ ghost use lib.Ieee.Scale.{finite};
 ghost use Rattle.rows.specs.Recording.{after};
 ghost use Rattle.points.specs.Explicit.{bucketCount};
 ghost use Rattle.explicit.specs.Series.{said, outcome};
-ghost use Rattle.explicit_slots.specs.Cells.{begun, entering, cells, recordedAt};
+ghost use Rattle.explicit_slots.specs.Cells.{cells, recordedAt};
+ghost use Rattle.explicit_slots.specs.Inner.{begun, entering};
 use explicit::Answer;
 use explicit::Head;
 

@@ -27,7 +27,7 @@ use Rattle.exponential.specs.Runs.{freshHead}
 use Rattle.exponential.proofs.Lists.{fresh-holds, summary}
 use Rattle.kinds.specs.Histograms.{histograms}
 use Rattle.tally.specs.Map.{sound}
-use Rattle.exponential_slots.specs.Cells.{Cells, Room, readable, headIn, recordedAt}
+use Rattle.exponential_slots.specs.Cells.{Cells, Room, readable, headIn, headAt, recordedAt}
 use Rattle.exponential_slots.specs.Meaning.{settings, seriesAt}
 use Rattle.exponential_slots.proofs.Cases.{into, head-held, head-fresh, narrow-says, unread, called}
 use Rattle.exponential_slots.proofs.Agreeing.{counts-in}
@@ -43,7 +43,7 @@ use Rattle.listing.proofs.Given.{exponential-held}
 use Rattle.collecting.specs.Read.{AllFit}
 use Rattle.collecting.proofs.Owed.{Listed, Lists}
 use Rattle.collecting.proofs.Fits.{literal-fits, value-fits, cond-fits, row-fits, set-fits}
-use Rattle.exponential_collection.specs.Points.{headAt, exponentialLister}
+use Rattle.exponential_collection.specs.Points.{exponentialLister}
 use Rattle.exponential_collection.proofs.Slots.{nowhere, agreesAt, accepted, long-pos, long-neg, agreeing-of, pos-length, neg-length}
 
 -- ---- the head of a slot

@@ -18,7 +18,7 @@ use Rattle.points.specs.Figures.{exponential}
 use Rattle.exponential.specs.declared.Head.{Head}
 use Rattle.exponential.specs.Series as S
 use Rattle.kinds.specs.Histograms.{histograms, countsHold}
-use Rattle.exponential_slots.specs.Cells.{Cells, Room, countsIn, narrow, readable, headIn}
+use Rattle.exponential_slots.specs.Cells.{Cells, Room, countsIn, narrow, readable, headIn, headAt}
 use Rattle.exponential_slots.specs.Meaning.{settings, shaped, countsAt, seriesAt}
 use Rattle.exponential_slots.proofs.Cases.{reads-held, reads-fresh, head-held, head-fresh}
 use Rattle.exponential_slots.proofs.Agreeing.{Accepted, accepted-of, shaped-says, in-shape, holds-is, can-read, series-agrees, shape-of, point-agrees}
@@ -33,7 +33,7 @@ use Rattle.collecting.specs.Slots.{unsound, oneMore, surveyedAt, Free, laidAt, 
 use Rattle.collecting.specs.declared.Survey.{Survey}
 use Rattle.point.specs.Handing.{exponentialPoint}
 use Rattle.point.specs.declared.Point.{Point}
-use Rattle.exponential_collection.specs.Points.{exponentialLister, headAt}
+use Rattle.exponential_collection.specs.Points.{exponentialLister}
 
 -- a point of this kind has no bounds
 abbrev pub nowhere : Span

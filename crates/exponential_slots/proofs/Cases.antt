@@ -19,7 +19,8 @@ use Rattle.laws.proofs.Answers.{not-refused}
 use Rattle.exponential.specs.declared.Head.{Head}
 use Rattle.exponential.specs.Series.{refusalOf, Outcome, recording}
 use Rattle.exponential.specs.Runs.{freshHead}
-use Rattle.exponential_slots.specs.Cells.{Cells, mostBin, narrow, readable, headIn, headOf, figuresAfter, extremesAfter, written, recordedAt}
+use Rattle.exponential_slots.specs.Cells.{Cells, mostBin, narrow, readable, headIn, headOf, headAt, written, recordedAt}
+use Rattle.exponential_slots.specs.Inner.{figuresAfter, extremesAfter}
 use Rattle.laws.specs.Counting.{mostCount}
 
 module _ (f : List ℕ) (h : getD f 0 0 < 2 ^ 64) where
@@ -98,7 +99,7 @@ module _ (size top x : ℕ) (updated : Bool) (c : Cells) (v : Float) where
 
   pub called : readable updated (getD (c .figures) x []) ≡ true
       → recordedAt size top x updated c v
-      ≡ into size x c (recording size top (headOf top updated (getD (c .figures) x []) (getD (c .extremes) x [])) (partAt size (c .pos) x) (partAt size (c .neg) x) v)
+      ≡ into size x c (recording size top (headAt top c x updated) (partAt size (c .pos) x) (partAt size (c .neg) x) v)
   unfolding recordedAt pick
   called h = rw h
 

@@ -29,7 +29,7 @@ use Rattle.exponential.proofs.Lists.{fresh-holds, summary}
 use Rattle.tally.specs.Map.{sound}
 use Rattle.tally.proofs.MapSteps.{fits}
 use Rattle.kinds.specs.Histograms.{countsHold, histograms}
-use Rattle.exponential_slots.specs.Cells.{Cells, countsIn, narrow, readable, headIn, headOf, written, recordedAt}
+use Rattle.exponential_slots.specs.Cells.{Cells, countsIn, narrow, readable, headIn, headAt, written, recordedAt}
 use Rattle.exponential_slots.specs.Meaning.{settings, shaped, countsAt, seriesAt}
 use Rattle.exponential_slots.proofs.Cases.{into, reads-held, reads-fresh, head-held, head-fresh, unread, called}
 use Rattle.exponential_slots.proofs.Agreeing.{Accepted, accepted-of, shaped-says, counts-in, in-shape, holds-is, can-read, series-agrees, shape-of, point-agrees}
@@ -58,7 +58,7 @@ unchanged size top x updated s v d =
     ⊎-elim
     (λ (r : readable updated f ≡ true).
     let c = called size top x updated s v r in
-    let o = recording size top (headOf top updated f (getD (s .extremes) x [])) (partAt size (s .pos) x) (partAt size (s .neg) x) v in
+    let o = recording size top (headAt top s x updated) (partAt size (s .pos) x) (partAt size (s .neg) x) v in
     ap (λ (o : Recording Cells). o .cells) c
     ∙ kept size x s (o .answer) (o .pos) (o .neg) (λ n. d (ap (λ (o : Recording Cells). o .no) c ∙ n)))
     (λ (r : readable updated f ≡ false). ap (λ (o : Recording Cells). o .cells) (unread size top x updated s v r))

@@ -67,24 +67,19 @@ readable updated f = pick updated (narrow f) true
 unfoldable pub headOf : ℕ → Bool → List ℕ → List Float → Head
 headOf top updated f m = pick updated (headIn f m) (freshHead top)
 
+-- the head of slot x
+abbrev pub headAt : ℕ → Cells → ℕ → Bool → Head
+headAt top c x updated = headOf top updated (getD (c .figures) x []) (getD (c .extremes) x [])
+
 -- ---- a value recorded into slot x
-
--- the head's two stores afterwards
-abbrev pub figuresAfter : ℕ → List (List ℕ) → Said Head → List (List ℕ)
-figuresAfter x figures (refusal n) = figures
-figuresAfter x figures (success h) = set figures x (wordsOf (h .counts))
-
-abbrev pub extremesAfter : ℕ → List (List Float) → Said Head → List (List Float)
-extremesAfter x extremes (refusal n) = extremes
-extremesAfter x extremes (success h) = set extremes x (h .min ∷ h .max ∷ h .sum ∷ [])
 
 -- "Every refusal changes nothing"; else the slot's cells, and no others
 abbrev pub written : ℕ → ℕ → Cells → Said Head → List ℕ → List ℕ → Recording Cells
 written size x c (refusal n) xs ys = after n c
 written size x c (success h) xs ys =
     after 0 (record {
-      figures = figuresAfter x (c .figures) (success h);
-      extremes = extremesAfter x (c .extremes) (success h);
+      figures = set (c .figures) x (wordsOf (h .counts));
+      extremes = set (c .extremes) x (h .min ∷ h .max ∷ h .sum ∷ []);
       pos = putAt size (c .pos) x xs;
       neg = putAt size (c .neg) x ys;
     })
@@ -92,6 +87,5 @@ written size x c (success h) xs ys =
 -- 8 for words that are no head; else what `exponential` says of the head and of the slot's parts, with all the rest as it was
 unfoldable pub recordedAt : ℕ → ℕ → ℕ → Bool → Cells → Float → Recording Cells
 recordedAt size top x updated c v =
-    let f = getD (c .figures) x [] in
-    let o = recording size top (headOf top updated f (getD (c .extremes) x [])) (partAt size (c .pos) x) (partAt size (c .neg) x) v in
-    pick (readable updated f) (written size x c (o .answer) (o .pos) (o .neg)) (after 8 c)
+    let o = recording size top (headAt top c x updated) (partAt size (c .pos) x) (partAt size (c .neg) x) v in
+    pick (readable updated (getD (c .figures) x [])) (written size x c (o .answer) (o .pos) (o .neg)) (after 8 c)

@@ -38,8 +38,7 @@ use Rattle.seats.specs.Seats.{fewest, newSeat, seated, seatedBy, barredBy, unle
 use Rattle.sweep.specs.Swept.{sweptKept}
 use Rattle.explicit.specs.Series.{refusalOf}
 use Rattle.explicit.specs.Series as Series
-use Rattle.explicit_slots.specs.Cells as Slots
-use Rattle.explicit_slots.specs.Cells.{Cells, entering, recordedAt}
+use Rattle.explicit_slots.specs.Cells.{Cells, recordedAt}
 use Rattle.value_map.specs.Calls.{begun, unlessRefused, entered, called, measured, measuredBy, started, Held, held}
 use Rattle.value_map.specs.Maps.{configOf}
 use Rattle.value_map.specs.Explicit.{explicitStore}
@@ -144,7 +143,7 @@ abbrev answersAre : List (Answer histograms)
 answersAre = done ∷ done ∷ listed ((A, x₁) ∷ []) ∷ handle 1 ∷ done ∷ listed ((A, x₂) ∷ []) ∷ done ∷ refuse 7 ∷ []
 
 answers : replies (explicitLister bounds) w 1 none first given ≡ answersAre
-unfolding configured started begun Bindings.started bound boundIn boundTo released releasedIn measuredBy seatedBy boundsPass noNan rising _and_ isNan lt ofBits ofFields toBits fits add round eq pick over measured called entered unlessRefused barredBy unlessBarred newSeat seated marked committed located agreesb slotsb allb sought admitted setOf rowOf soundb inserted recordedAt entering Slots.begun Series.recording refusalOf bucketOf bucketsOf recordBucket bucketsAgree deltaCollected uncollected roomy fewest sweptKept figuresIn boundsIn extremeIn pointIn
+unfolding configured started begun Bindings.started bound boundIn boundTo released releasedIn measuredBy seatedBy boundsPass noNan rising _and_ isNan lt ofBits ofFields toBits fits add round eq pick over measured called entered unlessRefused barredBy unlessBarred newSeat seated marked committed located agreesb slotsb allb sought admitted setOf rowOf soundb inserted recordedAt Series.recording refusalOf bucketOf bucketsOf recordBucket bucketsAgree deltaCollected uncollected roomy fewest sweptKept figuresIn boundsIn extremeIn pointIn
 answers = refl
 
 abbrev room : Room
@@ -181,7 +180,7 @@ abbrev all : Stored
 all = stored (1 ∷ 1 ∷ 1 ∷ []) 3 less seven (f 0x4026_0000_0000_0000)
 
 points : storedOf (explicitLister bounds) bounds w 1 none A first given ≡ s₁ ∷ s₂ ∷ []
-unfolding pointAt entryIn isPoint configured started begun Bindings.started bound boundIn boundTo released releasedIn measuredBy seatedBy boundsPass noNan rising _and_ isNan lt ofBits ofFields toBits fits add round eq pick over measured called entered unlessRefused barredBy unlessBarred newSeat seated marked committed located agreesb slotsb allb sought admitted setOf rowOf soundb inserted recordedAt entering Slots.begun Series.recording refusalOf bucketOf bucketsOf recordBucket bucketsAgree deltaCollected uncollected roomy fewest sweptKept figuresIn boundsIn extremeIn pointIn
+unfolding pointAt entryIn isPoint configured started begun Bindings.started bound boundIn boundTo released releasedIn measuredBy seatedBy boundsPass noNan rising _and_ isNan lt ofBits ofFields toBits fits add round eq pick over measured called entered unlessRefused barredBy unlessBarred newSeat seated marked committed located agreesb slotsb allb sought admitted setOf rowOf soundb inserted recordedAt Series.recording refusalOf bucketOf bucketsOf recordBucket bucketsAgree deltaCollected uncollected roomy fewest sweptKept figuresIn boundsIn extremeIn pointIn
 points = refl
 
 together : mergedStored 0 (0 ∷ 0 ∷ 0 ∷ []) [] s₁ s₂ ≡ success all

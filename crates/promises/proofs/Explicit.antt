@@ -7,15 +7,15 @@ use mathlib.Core.List.{List}
 use lib.Ieee.{Float}
 use Rattle.laws.specs.Pick.{pick}
 use Rattle.floats.specs.Starts.{zeroFloat}
-use Rattle.explicit_slots.specs.Cells.{Cells}
+use Rattle.explicit_slots.specs.Cells.{Cells, headAt}
 use Rattle.point.specs.Lists.{inShape}
 use Rattle.point.specs.Handing.{explicitPoint}
 use Rattle.listing.specs.Words.{figuresIn, pointIn, isPoint}
 use Rattle.listing.proofs.Back.{point-is}
 use Rattle.listing.proofs.Given.{explicit-held}
-use Rattle.collecting.specs.Read.{AllFit}
+use Rattle.collecting.specs.Read.{spanOf, AllFit}
 use Rattle.value_map.specs.Explicit.{explicitStore}
-use Rattle.explicit_collection.specs.Points.{headAt, spanOf, explicitLister}
+use Rattle.explicit_collection.specs.Points.{explicitLister}
 use Rattle.explicit_collection.proofs.Lists.{head-fits, explicit-lists}
 use Rattle.explicit_collection.proofs.Lent.{recording-keeps}
 use Rattle.promises.proofs.Cursors.{storedPoint}

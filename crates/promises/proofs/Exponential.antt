@@ -16,7 +16,7 @@ use Rattle.index.specs.Bins.{finest}
 use Rattle.exponential.specs.declared.Head.{Head}
 use Rattle.exponential.specs.Runs.{freshHead}
 use Rattle.exponential.proofs.Facts as Facts
-use Rattle.exponential_slots.specs.Cells.{Cells, Room, headIn, countsIn}
+use Rattle.exponential_slots.specs.Cells.{Cells, Room, headIn, headAt, countsIn}
 use Rattle.exponential_slots.proofs.Cases.{head-held, head-fresh, narrow-says}
 use Rattle.point.specs.Lists.{inShape}
 use Rattle.point.specs.Handing.{exponentialPoint}
@@ -26,7 +26,7 @@ use Rattle.listing.proofs.Given.{exponential-held}
 use Rattle.collecting.specs.Read.{AllFit}
 use Rattle.rows.specs.Parts.{partAt}
 use Rattle.value_map.specs.Exponential.{unset}
-use Rattle.exponential_collection.specs.Points.{headAt, exponentialLister}
+use Rattle.exponential_collection.specs.Points.{exponentialLister}
 use Rattle.exponential_collection.proofs.Slots.{agreesAt, accepted, agreeing-of, pos-length, neg-length}
 use Rattle.exponential_collection.proofs.Lists.{Fitting, Sized, sound-then, recording-keeps}
 use Rattle.promises.proofs.Cursors.{storedPoint}

@@ -44,7 +44,7 @@ use Rattle.exponential_slots.specs.Cells.{Cells, headIn, narrow, readable, head
 use Rattle.exponential_slots.specs.Meaning.{shaped, countsAt}
 use Rattle.value_map.specs.Calls.{begun, unlessRefused, entered, called, measured, started, Held, held}
 use Rattle.value_map.specs.Maps.{configOf}
-use Rattle.value_map.specs.Exponential.{unset, lengthsSuffice, exponentialStore}
+use Rattle.value_map.specs.Exponential.{unset, exponentialStore}
 use Rattle.listing.specs.Listed.{Output, pointAt, entryIn}
 use Rattle.listing.specs.Words.{figuresIn, boundsIn, extremeIn, pointIn, isPoint}
 use Rattle.collecting.specs.Collected.{roomy, uncollected, deltaCollected}
@@ -64,7 +64,7 @@ abbrev setup : Setup
 setup = record { settings = record { size = 3; top = 20; extremes = true; sums = true; limit = 1 }; dir = record { used = 0; count = 0; last = 0 } }
 
 accepted : configured 3 (pos 10) true true 1 none stores cells .answer ≡ success setup
-unfolding configured levelAnswer started begun Bindings.started unset lengthsSuffice pick _and_
+unfolding configured levelAnswer started begun Bindings.started unset pick _and_
 accepted = refl
 
 -- no count store is needed for zeros
@@ -99,7 +99,7 @@ abbrev answersAre : List (Answer histograms)
 answersAre = done ∷ listed ((A, point 1) ∷ []) ∷ done ∷ listed ((A, point 1) ∷ []) ∷ []
 
 answers : replies (exponentialLister 3 20) (true, true) 1 none first given ≡ answersAre
-unfolding configured levelAnswer started begun Bindings.started unset lengthsSuffice _and_ isNan lt ofBits ofFields toBits fits add round eq pick over measured called entered unlessRefused barredBy unlessBarred newSeat seated marked committed located agreesb slotsb allb sought admitted setOf rowOf soundb inserted recordedAt shaped countsAt headIn narrow readable headOf Series.agrees refusalOf Series.recording classOf magnitude Agreement.agrees rowAgrees placed lowBin highBin PointsRows.at Points.rowOf Points.row Points.fits Points.fitsBoth Points.scale Points.build Points.pointOf Points.indices Points.bag Points.record1 deltaCollected uncollected roomy fewest sweptKept figuresIn boundsIn extremeIn pointIn
+unfolding configured levelAnswer started begun Bindings.started unset _and_ isNan lt ofBits ofFields toBits fits add round eq pick over measured called entered unlessRefused barredBy unlessBarred newSeat seated marked committed located agreesb slotsb allb sought admitted setOf rowOf soundb inserted recordedAt shaped countsAt headIn narrow readable headOf Series.agrees refusalOf Series.recording classOf magnitude Agreement.agrees rowAgrees placed lowBin highBin PointsRows.at Points.rowOf Points.row Points.fits Points.fitsBoth Points.scale Points.build Points.pointOf Points.indices Points.bag Points.record1 deltaCollected uncollected roomy fewest sweptKept figuresIn boundsIn extremeIn pointIn
 answers = refl
 
 -- demand 3's premise holds, and so does all that it says
@@ -135,7 +135,7 @@ stored n =
     [] [] []
 
 points : storedOf (exponentialLister 3 20) [] (true, true) 1 none A first given ≡ stored 1 ∷ stored 1 ∷ []
-unfolding pointAt entryIn isPoint configured levelAnswer started begun Bindings.started unset lengthsSuffice _and_ isNan lt ofBits ofFields toBits fits add round eq pick over measured called entered unlessRefused barredBy unlessBarred newSeat seated marked committed located agreesb slotsb allb sought admitted setOf rowOf soundb inserted recordedAt shaped countsAt headIn narrow readable headOf Series.agrees refusalOf Series.recording classOf magnitude Agreement.agrees rowAgrees placed lowBin highBin PointsRows.at Points.rowOf Points.row Points.fits Points.fitsBoth Points.scale Points.build Points.pointOf Points.indices Points.bag Points.record1 deltaCollected uncollected roomy fewest sweptKept figuresIn boundsIn extremeIn pointIn
+unfolding pointAt entryIn isPoint configured levelAnswer started begun Bindings.started unset _and_ isNan lt ofBits ofFields toBits fits add round eq pick over measured called entered unlessRefused barredBy unlessBarred newSeat seated marked committed located agreesb slotsb allb sought admitted setOf rowOf soundb inserted recordedAt shaped countsAt headIn narrow readable headOf Series.agrees refusalOf Series.recording classOf magnitude Agreement.agrees rowAgrees placed lowBin highBin PointsRows.at Points.rowOf Points.row Points.fits Points.fitsBoth Points.scale Points.build Points.pointOf Points.indices Points.bag Points.record1 deltaCollected uncollected roomy fewest sweptKept figuresIn boundsIn extremeIn pointIn
 points = refl
 
 together : mergedStored 3 [] [] (stored 1) (stored 1) ≡ success (stored 2)

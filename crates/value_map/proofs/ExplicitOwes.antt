@@ -1,25 +1,24 @@
 -- The explicit kind pays what it owes, by the laws of `explicit_slots`. Assumes nothing.
-use Prim.Native.Nat.{ℕ, _+_, _*_, _≤_}
+use Prim.Native.Nat.{ℕ, _+_, _≤_}
 use mathlib.Core.Path.{_≡_, refl, ap, _∙_}
 use mathlib.Core.Bool.{Bool, true, false}
-use mathlib.Core.List.{List}
+use mathlib.Core.List.{List, [], _∷_}
 use native.Mathlib.Omega.{arith}
-use lib.Dec.{leb, eqb}
+use lib.Dec.{eqb}
 use lib.ListN.{length}
 use lib.Ieee.{Float}
 use lib.Ieee.Scale.{finite}
-use borrow.Author.Tests.{leb-true}
 use Rattle.laws.specs.Pick.{pick}
 use Rattle.laws.proofs.Bools.{pick-left}
-use Rattle.laws.proofs.Cases.{and-true, true-not-false}
-use Rattle.rows.proofs.Parts.{within}
+use Rattle.laws.proofs.Cases.{true-not-false}
 use Rattle.points.specs.Explicit.{boundsPass, bucketCount}
 use Rattle.explicit_slots.specs.Cells.{Cells, Room}
 use Rattle.explicit_slots.proofs.Series as Laws
-use Rattle.value_map.specs.Store.{Recording}
+use Rattle.value_map.specs.Store.{Recording, lengthsSuffice}
 use Rattle.value_map.specs.Calls.{passes}
-use Rattle.value_map.specs.Explicit.{lengthsSuffice, cellsSuffice, explicitStore}
+use Rattle.value_map.specs.Explicit.{cellsSuffice, explicitStore}
 use Rattle.value_map.proofs.Owed.{Owed}
+use Rattle.value_map.proofs.Products.{entry-in, counts-in}
 use Rattle.value_map.proofs.Values.{finite-is}
 
 -- the bounds are all that configuring asks of the settings
@@ -37,13 +36,12 @@ bounds-pass bounds e = pick-left (boundsPass bounds) 0 3 (omega arith) e
 -- each of limit + 2 slots lies in stores that suffice
 room : (bounds : List Float) (limit : ℕ) (c : Cells) (x : ℕ) → cellsSuffice bounds limit c ≡ true → x ≤ limit + 1 → Room bounds c x
 room bounds limit c x e h =
-    let n = bucketCount bounds in
-    let a = and-true (leb (limit + 2) (length (c .totals))) _ e in
-    let b = and-true (leb (limit + 2) (length (c .extremes))) _ (a .1) in
+    let counts : List ℕ = length (c .counts) ∷ [] in
+    let others : List ℕ = length (c .totals) ∷ length (c .extremes) ∷ [] in
     record {
-      totals = omega (arith, h, leb-true (limit + 2) (length (c .totals)) (a .0));
-      extremes = omega (arith, h, leb-true (limit + 2) (length (c .extremes)) (b .0));
-      counts = within x (limit + 2) n (length (c .counts)) (omega (arith, h)) (leb-true ((limit + 2) * n) (length (c .counts)) (b .1));
+      totals = entry-in (bucketCount bounds) limit x counts others e h 0 (omega arith);
+      extremes = entry-in (bucketCount bounds) limit x counts others e h 1 (omega arith);
+      counts = counts-in (bucketCount bounds) limit x counts others e h 0 (omega arith);
     }
 
 pub owed : (bounds : List Float) → Owed (explicitStore bounds)
@@ -62,7 +60,7 @@ owed bounds =
             no = t .0;
             own = t .1 .series;
             others = t .1 .others;
-            lent = λ limit l. (λ j. lengthsSuffice (bucketCount bounds) limit (k .totals j) (k .extremes j) (k .counts j)) ∙ l;
+            lent = λ limit l. (λ j. lengthsSuffice (bucketCount bounds) limit (k .counts j ∷ []) (k .totals j ∷ k .extremes j ∷ [])) ∙ l;
           };
     }
 

@@ -1,25 +1,26 @@
 -- The exponential kind pays what it owes, by the laws of `exponential_slots`. Assumes nothing.
-use Prim.Native.Nat.{ℕ, _+_, _*_, _≤_, _<_}
+use Prim.Native.Nat.{ℕ, _+_, _≤_, _<_}
 use mathlib.Core.Path.{_≡_, _∙_}
-use mathlib.Core.Bool.{true, false, _&&_}
+use mathlib.Core.Bool.{true, false}
+use mathlib.Core.List.{List, [], _∷_}
 use native.Mathlib.Omega.{arith}
 use lib.Dec.{leb}
 use lib.ListN.{length}
 use lib.Ieee.{Float}
-use borrow.Author.Tests.{le-leb, lt-leb, leb-true}
+use borrow.Author.Tests.{le-leb, lt-leb}
 use Rattle.laws.specs.Pick.{pick}
 use Rattle.laws.proofs.Bools.{pick-left, pick-then}
-use Rattle.laws.proofs.Cases.{and-true, true-not-false}
-use Rattle.rows.proofs.Parts.{within}
+use Rattle.laws.proofs.Cases.{true-not-false}
 use Rattle.index.specs.Bins.{finest}
 use Rattle.points.specs.Figures.{exponential, sizePasses}
 use Rattle.kinds.specs.Histograms as Kinds
 use Rattle.exponential_slots.specs.Cells.{Cells, Room}
 use Rattle.exponential_slots.proofs.Written as Written
 use Rattle.exponential_slots.proofs.Recording as Laws
-use Rattle.value_map.specs.Calls.{passes}
-use Rattle.value_map.specs.Exponential.{lengthsSuffice, cellsSuffice, unset, exponentialStore}
+use Rattle.value_map.specs.Store.{lengthsSuffice}
+use Rattle.value_map.specs.Exponential.{cellsSuffice, unset, exponentialStore}
 use Rattle.value_map.proofs.Owed.{Fit, Owed}
+use Rattle.value_map.proofs.Products.{entry-in, counts-in}
 
 -- ---- max_size and the greatest level
 
@@ -56,21 +57,14 @@ module _ (size top : ℕ) where
 
 -- each of limit + 2 slots lies in stores that suffice
 room : (size limit : ℕ) (c : Cells) (x : ℕ) → cellsSuffice size limit c ≡ true → x ≤ limit + 1 → Room size c x
-unfolding lengthsSuffice
 room size limit c x e h =
-    let t₁ = leb (limit + 2) (length (c .figures)) in
-    let t₂ = leb (limit + 2) (length (c .extremes)) in
-    let t₃ = leb ((limit + 2) * size) (length (c .pos)) in
-    let t₄ = leb ((limit + 2) * size) (length (c .neg)) in
-    let p = and-true t₁ (t₂ && (t₃ && t₄)) e in
-    let q = and-true t₂ (t₃ && t₄) (p .1) in
-    let r = and-true t₃ t₄ (q .1) in
-    let b : x < limit + 2 = omega (arith, h) in
+    let counts : List ℕ = length (c .pos) ∷ length (c .neg) ∷ [] in
+    let others : List ℕ = length (c .figures) ∷ length (c .extremes) ∷ [] in
     record {
-      figures = omega (arith, h, leb-true (limit + 2) (length (c .figures)) (p .0));
-      extremes = omega (arith, h, leb-true (limit + 2) (length (c .extremes)) (q .0));
-      pos = within x (limit + 2) size (length (c .pos)) b (leb-true ((limit + 2) * size) (length (c .pos)) (r .0));
-      neg = within x (limit + 2) size (length (c .neg)) b (leb-true ((limit + 2) * size) (length (c .neg)) (r .1));
+      figures = entry-in size limit x counts others e h 0 (omega arith);
+      extremes = entry-in size limit x counts others e h 1 (omega arith);
+      pos = counts-in size limit x counts others e h 0 (omega arith);
+      neg = counts-in size limit x counts others e h 1 (omega arith);
     }
 
 -- ---- what is owed
@@ -95,6 +89,6 @@ owed size top =
             no = t .no;
             own = t .own;
             others = t .others;
-            lent = λ limit l. (λ j. lengthsSuffice size limit (t .figures j) (t .extremes j) (t .pos j) (t .neg j)) ∙ l;
+            lent = λ limit l. (λ j. lengthsSuffice size limit (t .pos j ∷ t .neg j ∷ []) (t .figures j ∷ t .extremes j ∷ [])) ∙ l;
           };
     }

@@ -1,8 +1,7 @@
 -- The explicit kind's store. Assumes nothing.
-use Prim.Native.Nat.{ℕ, _+_, _*_}
-use mathlib.Core.Bool.{Bool, _&&_}
-use mathlib.Core.List.{List}
-use lib.Dec.{leb}
+use Prim.Native.Nat.{ℕ}
+use mathlib.Core.Bool.{Bool}
+use mathlib.Core.List.{List, [], _∷_}
 use lib.ListN.{length}
 use lib.Ieee.{Float}
 use Rattle.laws.specs.Pick.{pick}
@@ -10,15 +9,10 @@ use Rattle.points.specs.Explicit.{boundsPass, bucketCount}
 use Rattle.points.specs.Figures.{explicit}
 use Rattle.kinds.specs.Histograms.{histograms}
 use Rattle.explicit_slots.specs.Cells.{Cells, Room, seriesAt, recordedAt}
-use Rattle.value_map.specs.Store.{Store}
-
--- "12: a lent count store under (limit + 2) × max_size counts (explicit: × buckets, one store), or any other lent store under limit + 2
--- entries", by lengths, with n buckets
-abbrev pub lengthsSuffice : ℕ → ℕ → ℕ → ℕ → ℕ → Bool
-lengthsSuffice n limit totals extremes counts = leb (limit + 2) totals && (leb (limit + 2) extremes && leb ((limit + 2) * n) counts)
+use Rattle.value_map.specs.Store.{Store, lengthsSuffice}
 
 abbrev pub cellsSuffice : List Float → ℕ → Cells → Bool
-cellsSuffice bounds limit c = lengthsSuffice (bucketCount bounds) limit (length (c .totals)) (length (c .extremes)) (length (c .counts))
+cellsSuffice bounds limit c = lengthsSuffice (bucketCount bounds) limit (length (c .counts) ∷ []) (length (c .totals) ∷ length (c .extremes) ∷ [])
 
 -- the switches: extremes and sums; and a threshold, which this kind has no use for
 abbrev pub explicitStore : List Float → Store histograms

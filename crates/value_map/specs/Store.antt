@@ -1,7 +1,10 @@
 -- A KIND'S STORE: what the map's calls ask of a kind of series that lies in lent memory, under settings that are fixed. Each kind is one such
 -- record (Exponential.antt, Explicit.antt); the calls are defined over it once (Calls.antt). Assumes nothing.
-use Prim.Native.Nat.{ℕ}
-use mathlib.Core.Bool.{Bool}
+use Prim.Native.Nat.{ℕ, _+_, _*_}
+use mathlib.Core.Bool.{Bool, _&&_}
+use mathlib.Core.List.{List}
+use lib.Dec.{leb}
+use Rattle.laws.specs.Tests.{all}
 use Rattle.tally.specs.Kind.{Kind}
 pub use Rattle.rows.specs.Recording.{Recording}
 
@@ -21,3 +24,8 @@ pub record Store (K : Kind) : Type 1 where
   pub at : Cells → ℕ → K .Series
   -- a value recorded at a slot, which holds a series where its entry was updated
   pub recorded : ℕ → Bool → Cells → K .Value → Recording Cells
+
+-- "12: a lent count store under (limit + 2) × max_size counts (explicit: × buckets, one store), or any other lent store under limit + 2
+-- entries": by the lengths of the count stores, which have n counts a slot, and of the others
+abbrev pub lengthsSuffice : ℕ → ℕ → List ℕ → List ℕ → Bool
+lengthsSuffice n limit counts others = all (leb (limit + 2)) others && all (leb ((limit + 2) * n)) counts

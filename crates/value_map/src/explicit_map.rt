@@ -1,6 +1,7 @@
 // The map of the explicit kind: configuring, and recording by set and by handle. Its stores: the directory's (sets, entries, order), and
 // each slot's count, its minimum, maximum and sum, and its bucket counts.
 ghost use mathlib.Core.Path.{_≡_};
+ghost use mathlib.Core.List.{[], _∷_};
 ghost use Prim.Native.Nat.{ℕ, _+_};
 ghost use lib.Dec.{leb};
 ghost use Rattle.laws.specs.Pick.{pick};
@@ -9,9 +10,10 @@ ghost use Rattle.rows.specs.Recording.{after};
 ghost use Rattle.sets.specs.Sorted.{given, filterOf};
 ghost use Rattle.directory.specs.View.{stores};
 ghost use Rattle.explicit_slots.specs.Cells.{cells};
+ghost use Rattle.value_map.specs.Store.{lengthsSuffice};
 ghost use Rattle.value_map.specs.Calls.{held, gave, started, measured, measuredBy};
 ghost use Rattle.value_map.specs.Inner.{Takes, taken, turned};
-ghost use Rattle.value_map.specs.Explicit.{lengthsSuffice, explicitStore};
+ghost use Rattle.value_map.specs.Explicit.{explicitStore};
 use bindings::Reply;
 use directory::Directory;
 use seats::room::lesser;
@@ -28,7 +30,7 @@ pub fn unset_of(bounds: &[f64]) -> u8
 
 // How many slots the series' stores of these lengths have room for.
 fn slots_of(bounds: &[f64], totals: usize, extremes: usize, counts: usize) -> usize
-    ensures { λ r. ⌜ ((limit : ℕ) → leb (limit + 2) r ≡ lengthsSuffice (bucketCount (now (bounds .entry))) limit totals extremes counts) ⌝ }
+    ensures { λ r. ⌜ ((limit : ℕ) → leb (limit + 2) r ≡ lengthsSuffice (bucketCount (now (bounds .entry))) limit (counts ∷ []) (totals ∷ extremes ∷ [])) ⌝ }
 {
     let least = lesser(totals, extremes);
     let n = explicit::bucket_count(bounds);
@@ -46,7 +48,7 @@ pub fn cells_suffice(
     extremes: usize,
     counts: usize,
 ) -> bool
-    ensures { λ r. ⌜ r ≡ lengthsSuffice (bucketCount (now (bounds .entry))) limit totals extremes counts ⌝ }
+    ensures { λ r. ⌜ r ≡ lengthsSuffice (bucketCount (now (bounds .entry))) limit (counts ∷ []) (totals ∷ extremes ∷ []) ⌝ }
 {
     let slots = slots_of(bounds, totals, extremes, counts);
     directory::suffices(limit, slots)

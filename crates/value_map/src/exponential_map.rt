@@ -1,15 +1,17 @@
 // The map of the exponential kind: configuring, and recording by set and by handle. Its stores: the directory's (sets, entries, order),
 // and each slot's figures, extremes and rows of counts.
 ghost use mathlib.Core.Path.{_≡_};
+ghost use mathlib.Core.List.{[], _∷_};
 ghost use Prim.Native.Nat.{ℕ, _+_};
 ghost use lib.Dec.{leb};
 ghost use Rattle.rows.specs.Recording.{after};
 ghost use Rattle.sets.specs.Sorted.{given, filterOf};
 ghost use Rattle.directory.specs.View.{stores};
 ghost use Rattle.exponential_slots.specs.Cells.{cells};
+ghost use Rattle.value_map.specs.Store.{lengthsSuffice};
 ghost use Rattle.value_map.specs.Calls.{held, gave, started, measured, measuredBy};
 ghost use Rattle.value_map.specs.Inner.{Takes, taken};
-ghost use Rattle.value_map.specs.Exponential.{lengthsSuffice, unset, exponentialStore};
+ghost use Rattle.value_map.specs.Exponential.{unset, exponentialStore};
 use bindings::Reply;
 use directory::Directory;
 use seats::room::lesser;
@@ -32,7 +34,7 @@ pub fn unset_of(size: u32, top: u32) -> u8
 
 // How many slots the series' stores of these lengths have room for: by division, so that no product leaves its range.
 fn slots_of(size: u32, figures: usize, extremes: usize, pos: usize, neg: usize) -> usize
-    ensures { λ r. ⌜ ((limit : ℕ) → leb (limit + 2) r ≡ lengthsSuffice size limit figures extremes pos neg) ⌝ }
+    ensures { λ r. ⌜ ((limit : ℕ) → leb (limit + 2) r ≡ lengthsSuffice size limit (pos ∷ neg ∷ []) (figures ∷ extremes ∷ [])) ⌝ }
 {
     let least = lesser(figures, extremes);
     let n = size as usize;
@@ -52,7 +54,7 @@ pub fn cells_suffice(
     pos: usize,
     neg: usize,
 ) -> bool
-    ensures { λ r. ⌜ r ≡ lengthsSuffice size limit figures extremes pos neg ⌝ }
+    ensures { λ r. ⌜ r ≡ lengthsSuffice size limit (pos ∷ neg ∷ []) (figures ∷ extremes ∷ []) ⌝ }
 {
     let slots = slots_of(size, figures, extremes, pos, neg);
     directory::suffices(limit, slots)

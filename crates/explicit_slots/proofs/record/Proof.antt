@@ -9,7 +9,7 @@ use Rattle.rows.specs.Parts.{partAt}
 use Rattle.rows.proofs.Parts.{part-length}
 use Rattle.points.specs.Explicit.{bucketCount}
 use Rattle.explicit.specs.Series.{said}
-use Rattle.explicit_slots.specs.Cells.{Cells}
+use Rattle.explicit_slots.specs.Cells.{Cells, Room, cells}
 use Rattle.explicit_slots.proofs.Enters.{call-refused, call-recorded}
 use Rattle.explicit_slots.proofs.record.Statement.{statement}
 use Rattle.explicit_slots.proofs.record.Tie as tie
@@ -26,6 +26,9 @@ counted r = r .before .before .before .before .before .before
 
 abbrev lent : tie.After-bucket-count → Cells
 lent c = let a = start c .args in record { totals = now (a .totals); extremes = now (a .extremes); counts = now (a .counts) }
+
+room : (s : tie.Start) → Room (now (s .args .bounds)) (cells (s .args .totals) (s .args .extremes) (s .args .counts)) (s .args .x)
+room s = record { totals = s .pre .0; extremes = s .pre .1; counts = s .pre .2 }
 
 long : (c : tie.After-bucket-count) → bucketCount (now (start c .args .bounds)) ≤ length (partAt (c .bucket-count .result) (now (start c .args .counts)) (start c .args .x))
 long c =
@@ -51,14 +54,14 @@ returns c =
     let r = c .before .before .before .before .before in
     let b = counted r in
     let a = start b .args in
-    call-refused (now (a .bounds)) (a .x) (a .updated) (lent b) (a .v) (b .bucket-count .result) (b .bucket-count .ensures) (said (r .enter .result)) (r .enter .last .1 .1 .1 .0) (r .enter .ensures) _ (ap said (c .before .got .given .1)) (long b) (start b .pre .3)
+    call-refused (now (a .bounds)) (a .x) (a .updated) (lent b) (a .v) (b .bucket-count .result) (b .bucket-count .ensures) (said (r .enter .result)) (r .enter .last .1 .1 .1 .0) (r .enter .ensures) _ (ap said (c .before .got .given .1)) (long b) (room (start b)) (start b .pre .3)
 
 returns-2 : tie.Need-returns-2
 returns-2 c =
     let r = c .before .before .before .before .before in
     let b = counted r in
     let a = start b .args in
-    call-recorded (now (a .bounds)) (a .x) (a .updated) (lent b) (a .v) (b .bucket-count .result) (b .bucket-count .ensures) (said (r .enter .result)) (r .enter .last .1 .1 .1 .0) (r .enter .ensures) _ (ap said (c .before .got2 .given .1))
+    call-recorded (now (a .bounds)) (a .x) (a .updated) (lent b) (a .v) (b .bucket-count .result) (b .bucket-count .ensures) (said (r .enter .result)) (r .enter .last .1 .1 .1 .0) (r .enter .ensures) _ (ap said (c .before .got2 .given .1)) (room (start b)) (start b .pre .3)
 
 pub record-spec : {M : Type 1} → statement M
 record-spec =

@@ -5,7 +5,7 @@ use Rattle.exponential_slots.proofs.keep.Tie as tie
 use mathlib.Core.Path.{sym, ap}
 use Rattle.laws.specs.Said.{number}
 use Rattle.exponential.specs.Series.{said}
-use Rattle.exponential_slots.specs.Cells.{figuresAfter, extremesAfter}
+use Rattle.exponential_slots.specs.Inner.{figuresAfter, extremesAfter}
 use mathlib.Core.Path.{_∙_}
 use mathlib.Core.List.{List}
 use Prim.Native.Nat.{ℕ}

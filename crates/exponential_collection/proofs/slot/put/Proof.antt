@@ -4,10 +4,9 @@ use mathlib.Core.Path.{_≡_, ap, _∙_}
 use native.Mathlib.Omega.{arith}
 use borrow.Author.Tests.{not-true, not-false}
 use Rattle.exponential.specs.declared.Head.{Head}
-use Rattle.exponential_slots.specs.Cells.{Cells, cells}
+use Rattle.exponential_slots.specs.Cells.{Cells, cells, headAt}
 use Rattle.point.specs.Handing.{exponentialPoint}
 use Rattle.listing.specs.Listed.{Output, output}
-use Rattle.exponential_collection.specs.Points.{headAt}
 use Rattle.exponential_collection.proofs.Slots.{can-be-read, put-not, put-room, put-on}
 use Rattle.exponential_collection.proofs.slot.put.Statement.{statement}
 use Rattle.exponential_collection.proofs.slot.put.Tie as tie

@@ -4,6 +4,7 @@ use Prim.Native.Nat.{ℕ, _+_, _*_, _/_}
 use mathlib.Core.Path.{ap, _∙_}
 use lib.Dec.{leb}
 use Rattle.seats.specs.Seats.{fewest}
+use Rattle.seats.proofs.Least.{one-less}
 use Rattle.value_map.proofs.Products.{rows-none, rows-many, least-none, least-many}
 use Rattle.value_map.proofs.explicit_map.slots_of.Statement.{statement}
 use Rattle.value_map.proofs.explicit_map.slots_of.Tie as tie
@@ -16,7 +17,7 @@ returns c limit =
     let n = b .bucket-count .result in
     ap (leb (limit + 2)) (l .lesser .ensures)
     ∙ least-none limit (a .totals) (a .extremes) _
-    (rows-none limit n (a .counts) (c .if1 .taken) ∙ ap (λ (k : ℕ). leb ((limit + 2) * k) (a .counts)) (b .bucket-count .ensures))
+    (rows-none limit n (a .counts) (c .if1 .taken) ∙ ap (λ (k : ℕ). leb ((limit + 2) * k) (a .counts)) (b .bucket-count .ensures) ∙ one-less _)
 
 returns-2 : tie.Need-returns-2
 returns-2 c limit =
@@ -27,7 +28,7 @@ returns-2 c limit =
     let n = b .bucket-count .result in
     ap (leb (limit + 2)) (c .lesser2 .ensures ∙ ap (λ (k : ℕ). fewest k (a .counts / n)) (l .lesser .ensures))
     ∙ least-many limit (a .totals) (a .extremes) _ (a .counts / n)
-    (rows-many limit n (a .counts) (e .if1 .left) ∙ ap (λ (k : ℕ). leb ((limit + 2) * k) (a .counts)) (b .bucket-count .ensures))
+    (rows-many limit n (a .counts) (e .if1 .left) ∙ ap (λ (k : ℕ). leb ((limit + 2) * k) (a .counts)) (b .bucket-count .ensures) ∙ one-less _)
 
 pub slots-of-spec : {M : Type 1} → statement M
 slots-of-spec =

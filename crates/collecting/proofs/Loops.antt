@@ -5,12 +5,12 @@ use mathlib.Core.Bool.{Bool, true, false, not, _||_}
 use mathlib.Core.List.{List, _∷_}
 use native.Mathlib.Omega.{arith}
 use lib.ListN.{length, getD, take}
+use Rattle.laws.specs.Lists.{only}
 use Rattle.laws.specs.Pick.{pick}
 use Rattle.laws.proofs.Cases.{true-not-false}
 use Rattle.tally.specs.Kind.{Kind}
 use Rattle.sets.specs.Rows.{rowOf}
 use Rattle.directory.specs.View.{setAt}
-use Rattle.sweep.specs.Swept.{only}
 use Rattle.value_map.specs.Store.{Store}
 use Rattle.value_map.specs.Calls.{Held}
 use Rattle.listing.specs.Listed.{Output}

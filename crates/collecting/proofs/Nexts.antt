@@ -7,13 +7,13 @@ use native.Mathlib.Omega.{arith}
 use lib.Dec.{eqb}
 use lib.ListN.{length, getD, take, drop, take-append-drop}
 use lib.Seq.{take-suc, take-all}
+use Rattle.laws.specs.Lists.{only}
 use Rattle.laws.specs.Pick.{pick}
 use Rattle.laws.specs.Tests.{all}
 use Rattle.laws.proofs.Bools.{pick-true, pick-false}
 use Rattle.laws.proofs.Cases.{and-true}
 use Rattle.sets.specs.Rows.{span}
 use Rattle.sets.proofs.Spans.{span-at, span-length}
-use Rattle.sweep.specs.Swept.{only}
 
 -- ---- the slots of a walk
 

@@ -1,5 +1,5 @@
 -- The numbers that refuse a collection, case by case, in the order in which code tests. Assumes nothing.
-use Prim.Native.Nat.{ℕ, _≤_, _<_}
+use Prim.Native.Nat.{ℕ, _≤_, _<_, min}
 use mathlib.Core.Path.{_≡_, refl, _∙_}
 use mathlib.Core.Bool.{Bool, true, false, _&&_}
 use borrow.Author.Tests.{eq-eqb, ne-eqb, le-leb, lt-leb}
@@ -9,7 +9,6 @@ use Rattle.directory.specs.View.{Stores, agreesb}
 use Rattle.directory.specs.Calls.{mostSets, storesSuffice}
 use Rattle.directory.specs.declared.Directory.{Directory}
 use Rattle.seats.proofs.Least.{both-suffice}
-use Rattle.collecting.specs.Collected.{fewest}
 use Rattle.collecting.specs.Slots.{unsurveyed, surveyedBy}
 use Rattle.collecting.specs.declared.Survey.{Survey}
 
@@ -50,17 +49,17 @@ module _ (cells : Bool) (unset limit : ℕ) (d : Directory) (s : Stores) where
 
 -- ---- by what a survey found
 
-few-left : (n a b : ℕ) → a < n → leb n (fewest a b) ≡ false
+few-left : (n a b : ℕ) → a < n → leb n (min a b) ≡ false
 few-left n a b h = both-suffice a b n ∙ (λ i. lt-leb n a h i && leb n b)
 
-few-right : (n a b : ℕ) → b < n → leb n (fewest a b) ≡ false
+few-right : (n a b : ℕ) → b < n → leb n (min a b) ≡ false
 few-right n a b h = both-suffice a b n ∙ (λ i. leb n a && lt-leb n b h i) ∙ no (leb n a)
   where
     no : (t : Bool) → (t && false) ≡ false
     no true = refl
     no false = refl
 
-few-both : (n a b : ℕ) → n ≤ a → n ≤ b → leb n (fewest a b) ≡ true
+few-both : (n a b : ℕ) → n ≤ a → n ≤ b → leb n (min a b) ≡ true
 few-both n a b h k = both-suffice a b n ∙ (λ i. le-leb n a h i && le-leb n b k i)
 
 module _ (s : Survey) (sets words pos neg : ℕ) where
@@ -69,7 +68,7 @@ module _ (s : Survey) (sets words pos neg : ℕ) where
 
   pub number-unsound : s .sound ≡ false → surveyedBy s sets words pos neg ≡ 8
   unfolding surveyedBy pick
-  number-unsound e = λ j. pick (e j) (pick (leb (s .points) (fewest sets words) && counts) 0 10) 8
+  number-unsound e = λ j. pick (e j) (pick (leb (s .points) (min sets words) && counts) 0 10) 8
 
   module _ (e : s .sound ≡ true) where
     pub number-sets : sets < s .points → surveyedBy s sets words pos neg ≡ 10

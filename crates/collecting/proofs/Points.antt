@@ -8,6 +8,7 @@ use mathlib.Core.Option.{Option, none, some}
 use native.Mathlib.Omega.{arith}
 use lib.Dec.{leb, eqb, eqb·suc-zero}
 use lib.ListN.{length, length-map, length-append}
+use Rattle.laws.specs.Lists.{only}
 use Rattle.laws.specs.Tests.{all}
 use Rattle.laws.proofs.Bools.{pick-true, pick-false}
 use Rattle.tally.specs.Kind.{Kind, Room, suffices, inAll}
@@ -16,7 +17,6 @@ use Rattle.tally.specs.Map.{Entry, Points, points, sound, filled}
 use Rattle.directory.specs.View.{Stores, setAt, entryAt, updatedIn}
 use Rattle.directory.proofs.Rises.{In}
 use Rattle.seats.proofs.Recording.{orFresh}
-use Rattle.sweep.specs.Swept.{only}
 use Rattle.value_map.specs.Store.{Store}
 use Rattle.value_map.specs.Calls.{Held}
 use Rattle.value_map.proofs.Owed.{there, was}

@@ -1,5 +1,5 @@
 -- The points of the slots put one by one: what a turn adds to the output, and what it comes to. Assumes nothing.
-use Prim.Native.Nat.{ℕ, suc, _+_, _≤_, _<_}
+use Prim.Native.Nat.{ℕ, suc, _+_, _≤_, _<_, min}
 use mathlib.Core.Path.{_≡_, refl, sym, ap, subst, _∙_}
 use mathlib.Core.Bool.{Bool, true, false, _&&_}
 use mathlib.Core.List.{List, [], _∷_, _++_}
@@ -7,6 +7,7 @@ use native.Mathlib.Omega.{arith}
 use borrow.Author.Tests.{leb-true}
 use lib.Dec.{leb}
 use lib.ListN.{length, getD, take, drop, length-append, length-map}
+use Rattle.laws.specs.Lists.{only}
 use Rattle.laws.specs.Over.{over}
 use Rattle.laws.specs.Pick.{pick}
 use Rattle.laws.proofs.Bools.{pick-true, pick-false}
@@ -16,19 +17,18 @@ use Rattle.tally.specs.Kind.{Kind}
 use Rattle.sets.specs.Rows.{rowOf}
 use Rattle.directory.specs.View.{setAt, updatedIn}
 use Rattle.seats.proofs.Least.{both-suffice}
-use Rattle.sweep.specs.Swept.{only}
 use Rattle.value_map.specs.Store.{Store}
 use Rattle.value_map.specs.Calls.{Held}
 use Rattle.listing.specs.Listed.{Output, overAt}
 use Rattle.listing.specs.Inner.{Put, left}
 use Rattle.listing.proofs.Lists.{over-behind-front, rows-snoc}
 use Rattle.collecting.specs.Lister.{Lister}
-use Rattle.collecting.specs.Collected.{fewest, roomOf, slotsOf, due, dueOf, setRows, wordRows, posCounts, negCounts, laidOut, roomy}
+use Rattle.collecting.specs.Collected.{roomOf, slotsOf, due, dueOf, setRows, wordRows, posCounts, negCounts, laidOut, roomy}
 use Rattle.collecting.specs.Slots.{walked, Place, laidAt, behindAt, putSlot, putSlots}
 use Rattle.collecting.proofs.Nexts.{slots-all, only-yes, only-no, only-front}
 use Rattle.collecting.proofs.Surveys.{pos-append, neg-append, pos-snoc, neg-snoc, in-slots, points-more, pos-more, neg-more, pos-walked, neg-walked}
 
-fewest-both : (n a b : ℕ) → leb n (fewest a b) ≡ true → (n ≤ a) × (n ≤ b)
+fewest-both : (n a b : ℕ) → leb n (min a b) ≡ true → (n ≤ a) × (n ≤ b)
 fewest-both n a b e = let p = and-true (leb n a) (leb n b) (sym (both-suffice a b n) ∙ e) in (leb-true n a (p .0), leb-true n b (p .1))
 
 module _ {K : Kind} {S : Store K} (L : Lister S) (w : S .Switches) (h : Held (S .Cells)) (o : Output) where

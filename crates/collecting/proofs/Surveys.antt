@@ -5,6 +5,7 @@ use mathlib.Core.Bool.{Bool, true, false, not, _&&_, _||_}
 use mathlib.Core.List.{List, [], _∷_, _++_, append-assoc, append-nil}
 use native.Mathlib.Omega.{arith}
 use lib.ListN.{length, getD, take, length-append}
+use Rattle.laws.specs.Lists.{only}
 use Rattle.laws.specs.Pick.{pick}
 use Rattle.laws.specs.Tests.{all}
 use Rattle.laws.proofs.Bools.{pick-true, pick-false}
@@ -12,7 +13,6 @@ use Rattle.laws.proofs.Cases.{true-not-false}
 use Rattle.tally.specs.Kind.{Kind}
 use Rattle.directory.specs.Calls.{Kept}
 use Rattle.directory.specs.View.{updatedIn}
-use Rattle.sweep.specs.Swept.{only}
 use Rattle.value_map.specs.Store.{Store}
 use Rattle.value_map.specs.Calls.{Held}
 use Rattle.collecting.specs.Lister.{Lister}

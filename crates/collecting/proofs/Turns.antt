@@ -7,11 +7,11 @@ use native.Mathlib.Omega.{arith}
 use native.Mathlib.Numerals.{add-one}
 use lib.Dec.{eqb}
 use lib.ListN.{length, getD, take}
+use Rattle.laws.specs.Lists.{only}
 use Rattle.laws.specs.Tests.{all}
 use Rattle.tally.specs.Kind.{Kind}
 use Rattle.sets.specs.Rows.{rowOf}
 use Rattle.directory.specs.View.{setAt, updatedIn}
-use Rattle.sweep.specs.Swept.{only}
 use Rattle.value_map.specs.Store.{Store}
 use Rattle.value_map.specs.Calls.{Held}
 use Rattle.listing.specs.declared.Cursor.{Cursor}

@@ -1,5 +1,5 @@
 -- A walk over the slots: the number that refuses the call, and what is known where nothing bars it. Assumes nothing.
-use Prim.Native.Nat.{ℕ, _≤_, _<_}
+use Prim.Native.Nat.{ℕ, _≤_, _<_, min}
 use mathlib.Core.Path.{_≡_, refl, ap, _∙_}
 use mathlib.Core.Bool.{Bool, true, false, _&&_}
 use mathlib.Core.List.{List, []}
@@ -23,7 +23,7 @@ use Rattle.value_map.specs.Calls.{Held}
 use Rattle.value_map.proofs.Owed.{Owed}
 use Rattle.listing.specs.Listed.{Output}
 use Rattle.collecting.specs.Lister.{Lister}
-use Rattle.collecting.specs.Collected.{fewest, slotsOf, agreeing, roomy, uncollected}
+use Rattle.collecting.specs.Collected.{slotsOf, agreeing, roomy, uncollected}
 use Rattle.collecting.specs.Slots.{unsurveyed, unsound, surveyedBy, walked, Walk, counted, surveyed}
 use Rattle.collecting.proofs.Numbers.{orElse}
 use Rattle.collecting.specs.declared.Survey.{Survey}
@@ -40,7 +40,7 @@ numbers true true true true true n = refl
 numbers true true true true false n = refl
 
 found : (e : Bool) (s : Survey) (sets words pos neg : ℕ) → s .sound ≡ true
-    → surveyedBy (pick e s unsound) sets words pos neg ≡ pick e (pick (leb (s .points) (fewest sets words) && (leb (s .pos) pos && leb (s .neg) neg)) 0 10) 8
+    → surveyedBy (pick e s unsound) sets words pos neg ≡ pick e (pick (leb (s .points) (min sets words) && (leb (s .pos) pos && leb (s .neg) neg)) 0 10) 8
 unfolding surveyedBy pick
 found true s sets words pos neg a = rw a
 found false s sets words pos neg a = refl

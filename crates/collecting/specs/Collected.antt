@@ -1,9 +1,10 @@
 -- What the collecting calls make of the map and of lent output: answer, state and every lent store, for any kind's store. Assumes nothing.
-use Prim.Native.Nat.{ℕ, zero, suc}
+use Prim.Native.Nat.{ℕ, zero, suc, min}
 use mathlib.Core.Bool.{Bool, true, false, not, _&&_, _||_}
 use mathlib.Core.List.{List, [], _∷_, _++_, map}
 use lib.Dec.{leb, eqb}
 use lib.ListN.{length, getD, take, drop}
+use Rattle.laws.specs.Lists.{only}
 use Rattle.laws.specs.Over.{over}
 use Rattle.laws.specs.Pick.{pick}
 use Rattle.laws.specs.Said.{Said, refusal, success}
@@ -13,8 +14,7 @@ use Rattle.tally.specs.Map.{Points, Answer, refuse, listed}
 use Rattle.sets.specs.Rows.{span, setOf, rowOf}
 use Rattle.directory.specs.View.{setAt, agreesb, updatedIn}
 use Rattle.directory.specs.Calls.{Kept, mostSets}
-pub use Rattle.seats.specs.Seats.{fewest}
-use Rattle.sweep.specs.Swept.{only, sweptKept}
+use Rattle.sweep.specs.Swept.{sweptKept}
 use Rattle.value_map.specs.Store.{Store}
 use Rattle.value_map.specs.Calls.{Held, passes, lent}
 use Rattle.listing.specs.Listed.{Output}
@@ -39,7 +39,7 @@ gave a h o = record { answer = said a; held = h; out = o }
 
 -- "10: lent output too short for all points or counts": places for points are asked of both stores that take one row a point
 abbrev pub roomOf : Output → Room
-roomOf o = record { points = fewest (length (o .sets)) (length (o .words)); pos = length (o .pos); neg = length (o .neg) }
+roomOf o = record { points = min (length (o .sets)) (length (o .words)); pos = length (o .pos); neg = length (o .neg) }
 
 -- the slots ascending by set, the empty set's first
 abbrev pub slotsOf : Kept → List ℕ

@@ -1,25 +1,25 @@
 -- BETWEEN OUR OWN CRATES: serves inner contracts and proofs; nobody needs it to believe the public calls or the theorems.
 -- How a collection goes through the slots, one by one: the definitions of the contracts between our crates. Assumes nothing.
-use Prim.Native.Nat.{ℕ, _+_, _*_, _≤_, _<_}
+use Prim.Native.Nat.{ℕ, _+_, _*_, _≤_, _<_, min}
 use mathlib.Core.Path.{_≡_}
 use mathlib.Core.Bool.{Bool, true, false, not, _&&_, _||_}
 use mathlib.Core.List.{List, []}
 use lib.Dec.{leb, eqb}
 use lib.ListN.{length, getD, set}
+use Rattle.laws.specs.Lists.{only}
 use Rattle.laws.specs.Pick.{pick}
 use Rattle.tally.specs.Kind.{Kind}
 use Rattle.sets.specs.Rows.{size}
 use Rattle.directory.specs.View.{Stores, agreesb}
 use Rattle.directory.specs.Calls.{mostSets, storesSuffice}
 use Rattle.directory.specs.declared.Directory.{Directory}
-use Rattle.sweep.specs.Swept.{only}
 use Rattle.value_map.specs.Store.{Store}
 use Rattle.value_map.specs.Calls.{Held}
 use Rattle.listing.specs.declared.Cursor.{Cursor}
 use Rattle.listing.specs.Listed.{Output, overAt}
 use Rattle.listing.specs.Inner.{Put, left}
 use Rattle.collecting.specs.Lister.{Lister}
-use Rattle.collecting.specs.Collected.{fewest, roomOf, slotsOf, due, dueOf, posCounts, negCounts, agreeing, laidOut, roomy}
+use Rattle.collecting.specs.Collected.{roomOf, slotsOf, due, dueOf, posCounts, negCounts, agreeing, laidOut, roomy}
 use Rattle.collecting.specs.declared.Survey.{Survey}
 
 -- ---- deciding by reading
@@ -36,7 +36,7 @@ unsound = record { sound = false; points = 0; pos = 0; neg = 0 }
 -- "8, 10", after it: of the places that the lent output has
 unfoldable pub surveyedBy : Survey → ℕ → ℕ → ℕ → ℕ → ℕ
 surveyedBy s sets words pos neg =
-    pick (s .sound) (pick (leb (s .points) (fewest sets words) && (leb (s .pos) pos && leb (s .neg) neg)) 0 10) 8
+    pick (s .sound) (pick (leb (s .points) (min sets words) && (leb (s .pos) pos && leb (s .neg) neg)) 0 10) 8
 
 -- a point more, with its counts
 abbrev pub oneMore : Survey → ℕ → ℕ → Survey

@@ -3,12 +3,10 @@ use Prim.Native.Nat.{ℕ}
 use mathlib.Core.Path.{_≡_, sym, subst}
 use mathlib.Core.Logic.{⊎-elim}
 use mathlib.Core.Bool.{Bool, true, false}
-use mathlib.Core.List.{List, [], _∷_}
+use mathlib.Core.List.{List, []}
 use lib.Dec.{eqb}
-use lib.Ieee.{Float, binary64, fits, lt, add}
+use lib.Ieee.{Float}
 use lib.Ieee.Scale.{finite}
-use lib.Ieee.Fits.{add-fits}
-use lib.Ieee.Bits.{is-true}
 use Rattle.laws.specs.Said.{Said, refusal, success}
 use Rattle.laws.proofs.Bools.{flag, pick-true, pick-false}
 use Rattle.kinds.specs.Histograms.{histograms}
@@ -16,30 +14,26 @@ use Rattle.explicit.specs.declared.Head.{Head}
 use Rattle.explicit.specs.Series.{Outcome, refusalOf, recording}
 use Rattle.explicit_slots.specs.Cells.{Cells, headAt, countsAt, written, recordedAt}
 use Rattle.collecting.specs.Read.{AllFit}
-use Rattle.collecting.proofs.Fits.{value-fits, cond-fits, row-fits, set-fits}
-use Rattle.explicit_collection.proofs.Lists.{Fitting, head-fits}
+use Rattle.collecting.proofs.Fits.{more-fits, put-fits}
+use Rattle.explicit_collection.proofs.Lists.{HeadFits, head-fits}
 
 -- a head that is answered
 abbrev Said-fits : Said Head → Type 0
 Said-fits (refusal n) = Unit
-Said-fits (success h) = Fitting h
+Said-fits (success h) = HeadFits h
 
 written-keeps : (bounds : List Float) (x : ℕ) (c : Cells) → AllFit (c .extremes) → (a : Said Head) (xs : List ℕ) → Said-fits a → AllFit (written bounds x c a xs .cells .extremes)
 written-keeps bounds x c l (refusal n) xs f = l
-written-keeps bounds x c l (success h) xs f = set-fits (c .extremes) x (h .min ∷ h .max ∷ h .sum ∷ []) l (row-fits (h .min) (h .max) (h .sum) (f .min) (f .max) (f .sum))
+written-keeps bounds x c l (success h) xs f = put-fits (c .extremes) x (h .min) (h .max) (h .sum) l f
 
 module _ (bounds : List Float) (v : Float) (t : histograms .finite v ≡ true) where
-  recording-fits : (h : Head) → Fitting h → (xs : List ℕ) → Said-fits (recording bounds h xs v .answer)
+  recording-fits : (h : Head) → HeadFits h → (xs : List ℕ) → Said-fits (recording bounds h xs v .answer)
   unfolding recording
   recording-fits h f xs =
       let b = eqb (refusalOf bounds h xs v) 0 in
       ⊎-elim
       (λ (e : b ≡ true). subst (λ (o : Outcome). Said-fits (o .answer)) (sym (pick-true b _ _ e))
-      (record {
-        min = cond-fits (lt v (h .min)) v (h .min) (value-fits v t) (f .min);
-        max = cond-fits (lt (h .max) v) v (h .max) (value-fits v t) (f .max);
-        sum = is-true (fits binary64 (add binary64 (h .sum) v)) (add-fits binary64 (h .sum) v);
-      }))
+      (more-fits (h .min) (h .max) (h .sum) v t f))
       (λ (e : b ≡ false). subst (λ (o : Outcome). Said-fits (o .answer)) (sym (pick-false b _ _ e)) tt)
       (flag b)
 

@@ -6,7 +6,7 @@ use mathlib.Core.List.{List, []}
 use native.Mathlib.Omega.{arith}
 use lib.ListN.{length, take, replicate, length-replicate}
 use lib.Seq.{take-all, length-take-le}
-use lib.Ieee.{Float, binary64, fits}
+use lib.Ieee.{Float}
 use Rattle.laws.specs.Pick.{pick}
 use Rattle.laws.specs.Over.{over}
 use Rattle.laws.proofs.Over.{take-over}
@@ -17,7 +17,7 @@ use Rattle.points.specs.Figures.{Settings, Figures, explicitCounts}
 use Rattle.points.specs.Handed.{handedOut}
 use Rattle.kinds.specs.Histograms.{histograms}
 use Rattle.explicit.specs.declared.Head.{Head}
-use Rattle.explicit.specs.Series.{bucketsIn, summary, freshHead}
+use Rattle.explicit.specs.Series.{bucketsIn, summary}
 use Rattle.explicit.proofs.Listed.{fresh-is}
 use Rattle.explicit_slots.specs.Cells.{Cells, Room, headAt, countsAt}
 use Rattle.value_map.specs.Explicit.{explicitStore}
@@ -29,7 +29,7 @@ use Rattle.listing.specs.Listed.{boundsAt}
 use Rattle.listing.specs.Listed as Out
 use Rattle.listing.proofs.Back as Back
 use Rattle.listing.proofs.Given.{explicit-held}
-use Rattle.collecting.proofs.Fits.{literal-fits}
+use Rattle.collecting.proofs.Fits.{Fitting, start-fits}
 use Rattle.collecting.specs.Read.{spanOf, AllFit}
 use Rattle.collecting.proofs.Owed.{Listed}
 use Rattle.explicit_collection.specs.Points.{explicitLister}
@@ -37,18 +37,13 @@ use Rattle.explicit_collection.proofs.Slots.{counts-long, buckets-are}
 
 -- ---- the floats of a head are f64s
 
-pub record Fitting (h : Head) : Type 0 where
-  pub min : fits binary64 (h .min) ≡ true
-  pub max : fits binary64 (h .max) ≡ true
-  pub sum : fits binary64 (h .sum) ≡ true
+abbrev pub HeadFits : Head → Type 0
+HeadFits h = Fitting (h .min) (h .max) (h .sum)
 
-pub fresh-fits : Fitting freshHead
-fresh-fits = record { min = literal-fits 0x7fef_ffff_ffff_ffff; max = literal-fits 0xffef_ffff_ffff_ffff; sum = literal-fits 0 }
-
-pub head-fits : (c : Cells) (x : ℕ) (u : Bool) → AllFit (c .extremes) → Fitting (headAt c x u)
+pub head-fits : (c : Cells) (x : ℕ) (u : Bool) → AllFit (c .extremes) → HeadFits (headAt c x u)
 unfolding pick
 head-fits c x true l = record { min = l x 0; max = l x 1; sum = l x 2 }
-head-fits c x false l = fresh-fits
+head-fits c x false l = start-fits
 
 -- ---- a slot's head and counts are its series, or a fresh one
 

@@ -26,7 +26,7 @@ use Rattle.explicit.specs.Series.{Outcome, outcome, bucketsIn, freshHead, fresh
 use Rattle.explicit.proofs.Cases.{none as none-refused, refuse, disagrees}
 use Rattle.explicit.proofs.Writes.{refused-law}
 use Rattle.explicit.proofs.Listed.{accepted-is, fresh-is, fin-min, fin-max}
-use Rattle.explicit_slots.specs.Cells.{Cells, Room, rowAt, headIn, written, recordedAt}
+use Rattle.explicit_slots.specs.Cells.{Cells, Room, headIn, written, recordedAt}
 use Rattle.explicit_slots.specs.Inner.{begun, entering}
 
 -- ---- a first value

@@ -8,15 +8,12 @@ use native.Mathlib.Omega.{arith}
 use lib.Dec.{eqb}
 use lib.ListN.{getD, take}
 use lib.Seq.{take-take}
-use lib.Ieee.{Float, binary64, fits, lt, add}
+use lib.Ieee.{Float}
 use lib.Ieee.Scale.{finite}
-use lib.Ieee.Fits.{add-fits}
-use lib.Ieee.Bits.{is-true}
 use Rattle.laws.proofs.Bools.{flag, pick-true, pick-false}
 use Rattle.rows.specs.Parts.{partAt}
 use Rattle.rows.specs.Recording.{Recording}
 use Rattle.index.specs.Bins.{finest}
-use Rattle.floats.specs.Answers.{lesserOf, greaterOf}
 use Rattle.points.specs.Points.{Point}
 use Rattle.points.specs.Values.{start}
 use Rattle.points.specs.Figures.{Counts, exponentialCounts, Figures}
@@ -40,29 +37,24 @@ use Rattle.listing.specs.Listed.{boundsAt}
 use Rattle.listing.specs.Listed as Out
 use Rattle.listing.proofs.Back as Back
 use Rattle.listing.proofs.Given.{exponential-held}
-use Rattle.collecting.specs.Read.{AllFit}
+use Rattle.collecting.specs.Read.{spanOf, AllFit}
 use Rattle.collecting.proofs.Owed.{Listed, Lists}
-use Rattle.collecting.proofs.Fits.{literal-fits, value-fits, cond-fits, row-fits, set-fits}
+use Rattle.collecting.proofs.Fits.{Fitting, start-fits, more-fits, put-fits}
 use Rattle.exponential_collection.specs.Points.{exponentialLister}
-use Rattle.exponential_collection.proofs.Slots.{nowhere, agreesAt, accepted, long-pos, long-neg, agreeing-of, pos-length, neg-length}
+use Rattle.exponential_collection.proofs.Slots.{agreesAt, accepted, long-pos, long-neg, agreeing-of, pos-length, neg-length}
 
 -- ---- the head of a slot
 
 -- its floats are f64s
-pub record Fitting (h : Head) : Type 0 where
-  pub min : fits binary64 (h .min) ≡ true
-  pub max : fits binary64 (h .max) ≡ true
-  pub sum : fits binary64 (h .sum) ≡ true
+abbrev HeadFits : Head → Type 0
+HeadFits h = Fitting (h .min) (h .max) (h .sum)
 
 -- as listing holds it
 pub record Sized (h : Head) : Type 0 where
-  pub floats : Fitting h
+  pub floats : HeadFits h
   pub level : h .counts .level < 4294967296
   pub pos : h .counts .pos .start < 4294967296
   pub neg : h .counts .neg .start < 4294967296
-
-fresh-fits : (top : ℕ) → Fitting (freshHead top)
-fresh-fits top = record { min = literal-fits 0x7fef_ffff_ffff_ffff; max = literal-fits 0xffef_ffff_ffff_ffff; sum = literal-fits 0 }
 
 module _ (size top : ℕ) (on : unset size top ≡ 0) (c : Cells) (x : ℕ) (r : Room size c x) (w : Bool × Bool) where
   abbrev f : List ℕ
@@ -106,13 +98,13 @@ module _ (size top : ℕ) (on : unset size top ≡ 0) (c : Cells) (x : ℕ) (r :
   sized-fresh =
       let z = accepted size top on c x r in
       record {
-        floats = fresh-fits top;
+        floats = start-fits;
         level = omega (arith, z .fine);
         pos = omega arith;
         neg = omega arith;
       }
 
-  abbrev sound-is : Bool → Type 0
+  abbrev pub sound-is : Bool → Type 0
   sound-is u = sound histograms (settings size top (w .0) (w .1)) (there (exponentialStore size top) c x u) ≡ true
 
   pub sound-then : (u : Bool) → sound-is u → (not u || agreesAt size top on c x r) ≡ true
@@ -123,7 +115,7 @@ module _ (size top : ℕ) (on : unset size top ≡ 0) (c : Cells) (x : ℕ) (r :
   series-is true s = is-held s ∙ ap (λ (h : Head). record { counts = exponentialCounts (read (h .counts) xs ys); summary = summary h }) (sym (head-held top true f m refl))
   series-is false s = is-fresh ∙ ap (λ (h : Head). record { counts = exponentialCounts (read (h .counts) xs ys); summary = summary h }) (sym (head-fresh top false f m refl))
 
-  sized-at : AllFit (c .extremes) → (u : Bool) → sound-is u → Sized (headAt top c x u)
+  pub sized-at : AllFit (c .extremes) → (u : Bool) → sound-is u → Sized (headAt top c x u)
   sized-at l true s = subst Sized (sym (head-held top true f m refl)) (sized-held l s)
   sized-at l false s = subst Sized (sym (head-fresh top false f m refl)) sized-fresh
 
@@ -148,16 +140,16 @@ module _ (size top : ℕ) (on : unset size top ≡ 0) (c : Cells) (x : ℕ) (r :
     abbrev p : P.Point
     p = exponentialPoint (headAt top c x u) (w .0) (w .1)
 
-    held : Back.Held p nowhere
+    held : Back.Held p (spanOf [])
     held =
         let z = sized-at l u s in
         exponential-held (w .0) (w .1) h (z .floats .min) (z .floats .max) (z .floats .sum) (z .level) (z .pos) (z .neg)
 
-    point-is : pointIn (wordsOf p nowhere) ≡ p
-    point-is = Back.point-back p nowhere held
+    point-is : pointIn (wordsOf p (spanOf [])) ≡ p
+    point-is = Back.point-back p (spanOf []) held
 
-    span-is : boundsIn (wordsOf p nowhere) ≡ nowhere
-    span-is = Back.span-back p nowhere held
+    span-is : boundsIn (wordsOf p (spanOf [])) ≡ spanOf []
+    span-is = Back.span-back p (spanOf []) held
 
     abbrev ps : List ℕ
     ps = take (headAt top c x u .counts .pos .len) xs
@@ -192,15 +184,15 @@ exponential-lists size top w c x u on l r s = listed size top on c x r w l u s
 -- ---- recording keeps cells that can be lent
 
 module _ (size top x : ℕ) (v : Float) (t : histograms .finite v ≡ true) where
-  head-fits : (u : Bool) (c : Cells) → AllFit (c .extremes) → Fitting (headAt top c x u)
+  head-fits : (u : Bool) (c : Cells) → AllFit (c .extremes) → HeadFits (headAt top c x u)
   unfolding headIn
-  head-fits true c l = subst Fitting (sym (head-held top true _ _ refl)) (record { min = l x 0; max = l x 1; sum = l x 2 })
-  head-fits false c l = subst Fitting (sym (head-fresh top false _ _ refl)) (fresh-fits top)
+  head-fits true c l = subst HeadFits (sym (head-held top true _ _ refl)) (record { min = l x 0; max = l x 1; sum = l x 2 })
+  head-fits false c l = subst HeadFits (sym (head-fresh top false _ _ refl)) start-fits
 
   abbrev Keeps : Recording Cells → Type 0
   Keeps o = AllFit (o .cells .extremes)
 
-  module _ (c : Cells) (l : AllFit (c .extremes)) (h : Head) (k : Fitting h) where
+  module _ (c : Cells) (l : AllFit (c .extremes)) (h : Head) (k : HeadFits h) where
     into-keeps : Keeps (into size x c (recording size top h (partAt size (c .pos) x) (partAt size (c .neg) x) v))
     unfolding recording
     into-keeps =
@@ -209,9 +201,7 @@ module _ (size top x : ℕ) (v : Float) (t : histograms .finite v ≡ true) wher
         let b = eqb (refusalOf size top h xs ys v) 0 in
         ⊎-elim
         (λ (e : b ≡ true). subst (λ (o : Outcome). Keeps (into size x c o)) (sym (pick-true b _ _ e))
-        (set-fits (c .extremes) x _ l (row-fits (lesserOf (h .min) v) (greaterOf (h .max) v) (add binary64 (h .sum) v)
-        (cond-fits (lt v (h .min)) v (h .min) (value-fits v t) (k .min)) (cond-fits (lt (h .max) v) v (h .max) (value-fits v t) (k .max))
-        (is-true (fits binary64 (add binary64 (h .sum) v)) (add-fits binary64 (h .sum) v)))))
+        (put-fits (c .extremes) x _ _ _ l (more-fits (h .min) (h .max) (h .sum) v t k)))
         (λ (e : b ≡ false). subst (λ (o : Outcome). Keeps (into size x c o)) (sym (pick-false b _ _ e)) l)
         (flag b)
 

@@ -27,17 +27,13 @@ use Rattle.value_map.proofs.ExponentialOwes.{owed}
 use Rattle.listing.specs.Inner as ListedInner
 use Rattle.listing.specs.Listed.{Output, behind, itemOf, putAt}
 use Rattle.listing.specs.Inner.{left}
-use Rattle.listing.specs.declared.Span.{Span}
 use Rattle.listing.specs.declared.Cursor.{Cursor}
 use Rattle.collecting.specs.Slots.{unsound, oneMore, surveyedAt, Free, laidAt, behindAt, putSlot}
+use Rattle.collecting.specs.Read.{spanOf}
 use Rattle.collecting.specs.declared.Survey.{Survey}
 use Rattle.point.specs.Handing.{exponentialPoint}
 use Rattle.point.specs.declared.Point.{Point}
 use Rattle.exponential_collection.specs.Points.{exponentialLister}
-
--- a point of this kind has no bounds
-abbrev pub nowhere : Span
-nowhere = record { start = 0; len = 0 }
 
 -- a series is asked for only where the slot holds one
 pub sound-held : (updated agrees : Bool) → updated ≡ true → agrees ≡ (not updated || agrees)
@@ -228,9 +224,9 @@ module _ (size top : ℕ) (set : unset size top ≡ 0) (c : Cells) (x : ℕ) (r 
     put-not d = sym (pick-false due _ (left at o) d)
 
     module _ (a : (not updated || agreesAt) ≡ true) (p : Point) (e : p ≡ exponentialPoint (headAt top c x updated) (w .0) (w .1)) where
-      pub put-room : Free (exponentialLister size top) w updated c x at o → ListedInner.Room at (p .figures) nowhere xs ys o
+      pub put-room : Free (exponentialLister size top) w updated c x at o → ListedInner.Room at (p .figures) (spanOf []) xs ys o
       put-room g =
-          subst (λ (q : Point). ListedInner.Room at (q .figures) nowhere xs ys o) (sym e)
+          subst (λ (q : Point). ListedInner.Room at (q .figures) (spanOf []) xs ys o) (sym e)
           (record {
             sets = g .sets;
             words = g .words;
@@ -240,10 +236,10 @@ module _ (size top : ℕ) (set : unset size top ≡ 0) (c : Cells) (x : ℕ) (r 
             lentNeg = omega (arith, neg-short updated a, long-neg);
           })
 
-      pub put-on : due ≡ true → left (behind at (p .figures) nowhere) (putAt at (itemOf row p nowhere xs ys) o)
+      pub put-on : due ≡ true → left (behind at (p .figures) (spanOf [])) (putAt at (itemOf row p (spanOf []) xs ys) o)
           ≡ putSlot (exponentialLister size top) w updated due c x row at o
       unfolding putSlot putAt laidAt
       put-on d =
-          ap (λ (q : Point). left (behind at (q .figures) nowhere) (putAt at (itemOf row q nowhere xs ys) o)) e
+          ap (λ (q : Point). left (behind at (q .figures) (spanOf [])) (putAt at (itemOf row q (spanOf []) xs ys) o)) e
           ∙ (λ i. left (behindAt at (sym (pos-length updated a) i) (sym (neg-length updated a) i)) (laidAt at row (exponentialLister size top .words w c x updated) (exponentialLister size top .pos c x updated) (exponentialLister size top .neg c x updated) o))
           ∙ sym (pick-true due _ (left at o) d)

@@ -1,6 +1,6 @@
 -- The finest bin of a magnitude is the one whose bucket holds it. Assumes nothing.
 use mathlib.Core.Path.{_≡_, sym, ap, _∙_, subst}
-use mathlib.Core.Bool.{Bool, true, false, cond}
+use mathlib.Core.Bool.{Bool, true, false}
 use mathlib.Core.Logic.{inl, inr}
 use Prim.Native.Nat.{ℕ, zero, suc, _+_, _-_, _*_, _^_, _≤_, _<_}
 use native.Mathlib.Nat.{lt-of-le-of-lt, lt-of-lt-of-le, le-trans, le-of-eq, pow-le-pow-left, not-le-of-lt, zero-add}
@@ -8,6 +8,7 @@ use native.Mathlib.Omega.{arith}
 use borrow.Author.Tests.{lt-ltb, le-ltb}
 use lib.Dec.{ltb, lit<}
 use lib.Pow.{pow-mono}
+use Rattle.laws.specs.Counting.{bit}
 use Rattle.laws.proofs.Powers.{pow-mul}
 use Rattle.laws.proofs.Differences.{le-or-lt}
 use Rattle.index.specs.Bins.{howMany, finestBin}
@@ -19,9 +20,9 @@ unfolding howMany
 how-many p k zero h pass fail = omega (arith, h)
 how-many p k (suc n) h pass fail =
     elim (le-or-lt k n) [
-      | inl g ↦ ap (λ (b : Bool). cond b 1 0 + howMany p n) (fail n g (omega arith)) ∙ zero-add (howMany p n) ∙ how-many p k n g pass (λ b l u. fail b l (omega (arith, u)))
+      | inl g ↦ ap (λ (b : Bool). bit b + howMany p n) (fail n g (omega arith)) ∙ zero-add (howMany p n) ∙ how-many p k n g pass (λ b l u. fail b l (omega (arith, u)))
       | inr g ↦
-          ap (λ (b : Bool). cond b 1 0 + howMany p n) (pass n g)
+          ap (λ (b : Bool). bit b + howMany p n) (pass n g)
           ∙ ap (λ (m : ℕ). 1 + m) (how-many p n n (omega arith) (λ b l. pass b (omega (arith, l, g))) (λ b l u. absurd (not-le-of-lt u l)))
           ∙ last k n h g
     ]

@@ -1,6 +1,6 @@
 -- The laws of the bucket index that the crates above rely on. Assumes nothing.
 use mathlib.Core.Path.{_≡_, refl, sym, ap, _∙_, subst}
-use mathlib.Core.Bool.{Bool, true, false, cond}
+use mathlib.Core.Bool.{Bool, true, false}
 use Prim.Native.Nat.{ℕ, zero, suc, _+_, _-_, _*_, _/_, _^_, _≤_, _<_, suc-le-suc}
 use native.Mathlib.Nat.{pow-le-pow-left, lt-of-lt-of-le, le-trans, le-of-eq, mul-le-mul, add-le-add, one-le-mul, mul-assoc, suc-mul}
 use native.Mathlib.Omega.{arith}
@@ -9,6 +9,7 @@ use lib.Dec.{T, ltb, lit<, lit≤}
 use lib.Ieee.{Float, nan, inf, fin, neg, binary64, fits, ofBits, ofFields}
 use lib.Ieee.Scale.{finite}
 use lib.Pow.{pow-add, pow-pos, pow-mono, shr-shr, shr-mono, high, ones-lt}
+use Rattle.laws.specs.Counting.{bit}
 use Rattle.index.specs.Magnitude.{magnitude}
 use Rattle.index.specs.Bins.{finest, howMany, finestBin, binAt, lowestBin, endBin}
 use Rattle.index.proofs.Finest.{Held}
@@ -26,11 +27,11 @@ coarser level k w h = ap (λ (n : ℕ). finestBin w / 2 ^ n) (steps level k h) �
 more : (p q : ℕ → Bool) → ((b : ℕ) → p b ≡ true → q b ≡ true) → (n : ℕ) → howMany p n ≤ howMany q n
 unfolding howMany
 more p q f zero = omega arith
-more p q f (suc n) = add-le-add (bit (p n) (q n) (f n)) (more p q f n)
+more p q f (suc n) = add-le-add (one (p n) (q n) (f n)) (more p q f n)
   where
-    bit : (a b : Bool) → (a ≡ true → b ≡ true) → cond a 1 0 ≤ cond b 1 0
-    bit true b g = subst (λ (c : Bool). 1 ≤ cond c 1 0) (sym (g refl)) (omega arith)
-    bit false b g = omega arith
+    one : (a b : Bool) → (a ≡ true → b ≡ true) → bit a ≤ bit b
+    one true b g = subst (λ (c : Bool). 1 ≤ bit c) (sym (g refl)) (omega arith)
+    one false b g = omega arith
 
 pub larger-finest : (v w : ℕ) → v ≤ w → finestBin v ≤ finestBin w
 unfolding finestBin

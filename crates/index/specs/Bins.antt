@@ -1,9 +1,10 @@
 -- Levels and bins: scales and bucket indices without signs. Assumes nothing.
 -- The level is the scale + 10; the bin is the index + 2 ^ (level + 1), which is never negative, and halves where the scale falls by one.
-use mathlib.Core.Bool.{Bool, cond}
+use mathlib.Core.Bool.{Bool}
 use Prim.Native.Nat.{ℕ, zero, suc, _+_, _-_, _*_, _/_, _^_}
 use lib.Dec.{ltb}
 use lib.IntN.{ℤ, pos, _-ℤ_}
+use Rattle.laws.specs.Counting.{bit}
 
 -- the greatest level, that of scale 10
 abbrev pub finest : ℕ
@@ -12,7 +13,7 @@ finest = 20
 -- how many of 0, 1, .., n - 1 pass a test
 unfoldable pub howMany : (ℕ → Bool) → ℕ → ℕ
 howMany p zero = 0
-howMany p (suc n) = cond (p n) 1 0 + howMany p n
+howMany p (suc n) = bit (p n) + howMany p n
 
 -- the bin of the magnitude w at the finest level: how many of its buckets' upper bounds, 2 ^ ((b + 1) / 1024) units of 2 ^ -2048
 -- for the bin b, lie below w

@@ -1,5 +1,6 @@
 -- Counts and lists of numbers: sums, the least and the greatest, tables. Assumes nothing.
 use Prim.Native.Nat.{ℕ, zero, suc, _+_, min, max}
+use mathlib.Core.Bool.{Bool, true, false}
 use mathlib.Core.List.{List, [], _∷_}
 use lib.Dec.{eqb}
 use Rattle.laws.specs.Pick.{pick}
@@ -7,6 +8,11 @@ use Rattle.laws.specs.Pick.{pick}
 -- the greatest u64: "9: a count, binding count or birth number would pass 2^64 - 1"
 abbrev pub mostCount : ℕ
 mostCount = 18446744073709551615
+
+-- 1 where a test passes
+abbrev pub bit : Bool → ℕ
+bit true = 1
+bit false = 0
 
 -- the sum of w over the list
 abbrev pub sum : (ℕ → ℕ) → List ℕ → ℕ

@@ -9,6 +9,7 @@ use lib.Dec.{T, leb, eqb}
 use lib.ListN.{getD}
 use lib.Ieee.{Float, nan, inf, fin, binary64, ofBits, ofFields, fits, isNan}
 use lib.Ieee.Bits.{ofBits-toBits}
+use Rattle.laws.specs.Counting.{bit}
 use Rattle.laws.specs.Pick.{pick}
 use Rattle.laws.proofs.Cases.{true-not-false}
 use Rattle.sets.proofs.Alls.{allb-yes}
@@ -18,7 +19,7 @@ use Rattle.floats.specs.declared.Extreme.the-variants.{None, Value}
 use Rattle.point.specs.declared.Point.{Point}
 use Rattle.point.specs.declared.Figures.{Figures}
 use Rattle.point.specs.declared.Figures.the-variants.{Exponential, Explicit}
-use Rattle.listing.specs.Words.{flag, isShown, shownBits, figuresWords, wordsOf, figuresIn, boundsIn, extremeIn, pointIn, isPoint}
+use Rattle.listing.specs.Words.{isShown, shownBits, figuresWords, wordsOf, figuresIn, boundsIn, extremeIn, pointIn, isPoint}
 use Rattle.listing.specs.declared.Span.{Span}
 
 -- ---- what a point in code is
@@ -62,13 +63,13 @@ extreme-back (Value x) false e h = true-not-false e
 
 -- ---- the flags
 
-switch-back : (a b : Bool) → eqb ((flag a + 2 * flag b) % 2) 1 ≡ a
+switch-back : (a b : Bool) → eqb ((bit a + 2 * bit b) % 2) 1 ≡ a
 switch-back true true = refl
 switch-back true false = refl
 switch-back false true = refl
 switch-back false false = refl
 
-shown-back : (a b : Bool) → leb 2 (flag a + 2 * flag b) ≡ b
+shown-back : (a b : Bool) → leb 2 (bit a + 2 * bit b) ≡ b
 shown-back true true = refl
 shown-back true false = refl
 shown-back false true = refl
@@ -121,12 +122,12 @@ module _ (b : Span) (x y z u : ℕ) where
 
 module _ (p : Point) (b : Span) (h : Held p b) where
   abbrev flags : ℕ
-  flags = flag (p .extremes) + 2 * flag (isShown (p .min))
+  flags = bit (p .extremes) + 2 * bit (isShown (p .min))
 
   abbrev w : List ℕ
   w = wordsOf p b
 
-  extreme-of : (x : Extreme) (k n : ℕ) → k ≡ flag (p .extremes) + 2 * flag (isShown (p .min)) → n ≡ shownBits x → isShown x ≡ isShown (p .min) → Fitting x
+  extreme-of : (x : Extreme) (k n : ℕ) → k ≡ bit (p .extremes) + 2 * bit (isShown (p .min)) → n ≡ shownBits x → isShown x ≡ isShown (p .min) → Fitting x
       → extremeIn (leb 2 k) n ≡ x
   extreme-of x k n e f s t =
       ap₂ (λ (i j : ℕ). extremeIn (leb 2 i) j) e f

@@ -10,6 +10,7 @@ use borrow.Author.Tests.{le-leb, lt-leb, lt-ltb, le-ltb}
 use lib.Dec.{leb, ltb}
 use lib.ListN.{length, getD, set, take, drop, length-drop, drop-of-length-le}
 use lib.Seq.{take-suc, take-all, length-take-le, drop-length}
+use Rattle.laws.specs.Counting.{bit}
 use Rattle.laws.specs.Over.{over}
 use Rattle.laws.specs.Pick.{_and_}
 use Rattle.laws.proofs.Over.{over-snoc}
@@ -18,7 +19,7 @@ use Rattle.floats.specs.Answers.{bitsOf}
 use Rattle.point.specs.declared.Point.{Point}
 use Rattle.point.specs.declared.Figures.{Figures}
 use Rattle.point.specs.declared.Figures.the-variants.{Explicit}
-use Rattle.listing.specs.Words.{flag, isShown, shownBits, figuresWords, wordsOf}
+use Rattle.listing.specs.Words.{isShown, shownBits, figuresWords, wordsOf}
 use Rattle.listing.specs.Listed.{bucketsOf, posLen, negLen, within, overAt}
 use Rattle.listing.specs.declared.Cursor.{Cursor}
 use Rattle.listing.specs.declared.Span.{Span}
@@ -69,10 +70,10 @@ module _ (at : Cursor) (f : Figures) (b : Span) (pos neg : ℕ) where
 
 -- ---- words, by the code's match
 
-module _ (p : Point) (b : Span) (fl lo hi su : ℕ) (f : fl ≡ flag (p .extremes) + 2 * flag (isShown (p .min))) (l : lo ≡ shownBits (p .min))
+module _ (p : Point) (b : Span) (fl lo hi su : ℕ) (f : fl ≡ bit (p .extremes) + 2 * bit (isShown (p .min))) (l : lo ≡ shownBits (p .min))
     (h : hi ≡ shownBits (p .max)) (s : su ≡ bitsOf (p .sum)) where
   abbrev last : List ℕ
-  last = (flag (p .extremes) + 2 * flag (isShown (p .min))) ∷ shownBits (p .min) ∷ shownBits (p .max) ∷ bitsOf (p .sum) ∷ []
+  last = (bit (p .extremes) + 2 * bit (isShown (p .min))) ∷ shownBits (p .min) ∷ shownBits (p .max) ∷ bitsOf (p .sum) ∷ []
 
   last-is : _≡_ {A = List ℕ} (fl ∷ lo ∷ hi ∷ su ∷ []) last
   last-is i = f i ∷ l i ∷ h i ∷ s i ∷ []

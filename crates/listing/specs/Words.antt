@@ -6,6 +6,7 @@ use lib.Dec.{leb, eqb}
 use lib.ListN.{getD}
 use lib.Ieee.{binary64, ofBits}
 use Rattle.laws.specs.Pick.{pick}
+use Rattle.laws.specs.Counting.{bit}
 use Rattle.sets.specs.All.{allb}
 use Rattle.floats.specs.Answers.{bitsOf}
 use Rattle.floats.specs.declared.Extreme.{Extreme}
@@ -16,10 +17,6 @@ use Rattle.point.specs.declared.Figures.the-variants.{Exponential, Explicit}
 use Rattle.listing.specs.declared.Span.{Span}
 
 -- ---- written
-
-abbrev pub flag : Bool → ℕ
-flag true = 1
-flag false = 0
 
 abbrev pub isShown : Extreme → Bool
 isShown None = false
@@ -42,7 +39,7 @@ figuresWords (Explicit n) b = 1 ∷ n ∷ 0 ∷ 0 ∷ b .start ∷ b .len ∷ 0 
 abbrev pub wordsOf : Point → Span → List ℕ
 wordsOf p b =
     figuresWords (p .figures) b
-    ++ ((flag (p .extremes) + 2 * flag (isShown (p .min))) ∷ shownBits (p .min) ∷ shownBits (p .max) ∷ bitsOf (p .sum) ∷ [])
+    ++ ((bit (p .extremes) + 2 * bit (isShown (p .min))) ∷ shownBits (p .min) ∷ shownBits (p .max) ∷ bitsOf (p .sum) ∷ [])
 
 -- ---- read: level and starts are numbers of 32 bits
 

@@ -1,7 +1,8 @@
 // A point as twelve words.
 ghost use mathlib.Core.Path.{_≡_};
 ghost use Prim.Native.Nat.{_≤_};
-ghost use Rattle.listing.specs.Words.{flag, isShown, shownBits, wordsOf};
+ghost use Rattle.laws.specs.Counting.{bit};
+ghost use Rattle.listing.specs.Words.{isShown, shownBits, wordsOf};
 use crate::Span;
 use floats::Extreme;
 use point::Figures;
@@ -9,7 +10,7 @@ use point::Point;
 
 // 1 where it holds, else 0.
 fn flag_of(b: bool) -> u64
-    ensures { λ r. ⌜ (r ≡ flag b) × (r ≤ 1) ⌝ }
+    ensures { λ r. ⌜ (r ≡ bit b) × (r ≤ 1) ⌝ }
 {
     if b {
         return 1;

@@ -34,7 +34,7 @@ use Rattle.directory.specs.View.{Stores, slotsb, agreesb, sought}
 use Rattle.directory.specs.Calls.{located, admitted, boundTo}
 use Rattle.bindings.specs.Calls as Bindings
 use Rattle.bindings.specs.Calls.{boundIn, bound, releasedIn, released}
-use Rattle.seats.specs.Seats.{fewest, newSeat, seated, seatedBy, barredBy, unlessBarred, marked, committed}
+use Rattle.seats.specs.Seats.{newSeat, seated, seatedBy, barredBy, unlessBarred, marked, committed}
 use Rattle.sweep.specs.Swept.{sweptKept}
 use Rattle.explicit.specs.Series.{refusalOf}
 use Rattle.explicit.specs.Series as Series
@@ -143,7 +143,7 @@ abbrev answersAre : List (Answer histograms)
 answersAre = done ∷ done ∷ listed ((A, x₁) ∷ []) ∷ handle 1 ∷ done ∷ listed ((A, x₂) ∷ []) ∷ done ∷ refuse 7 ∷ []
 
 answers : replies (explicitLister bounds) w 1 none first given ≡ answersAre
-unfolding configured started begun Bindings.started bound boundIn boundTo released releasedIn measuredBy seatedBy boundsPass noNan rising _and_ isNan lt ofBits ofFields toBits fits add round eq pick over measured called entered unlessRefused barredBy unlessBarred newSeat seated marked committed located agreesb slotsb allb sought admitted setOf rowOf soundb inserted recordedAt Series.recording refusalOf bucketOf bucketsOf recordBucket bucketsAgree deltaCollected uncollected roomy fewest sweptKept figuresIn boundsIn extremeIn pointIn
+unfolding configured started begun Bindings.started bound boundIn boundTo released releasedIn measuredBy seatedBy boundsPass noNan rising _and_ isNan lt ofBits ofFields toBits fits add round eq pick over measured called entered unlessRefused barredBy unlessBarred newSeat seated marked committed located agreesb slotsb allb sought admitted setOf rowOf soundb inserted recordedAt Series.recording refusalOf bucketOf bucketsOf recordBucket bucketsAgree deltaCollected uncollected roomy sweptKept figuresIn boundsIn extremeIn pointIn
 answers = refl
 
 abbrev room : Room
@@ -153,7 +153,7 @@ abbrev asks : List (Call histograms)
 asks = measure five A ∷ measure less A ∷ collect room ∷ bind A ∷ measureBy 1 seven ∷ collect room ∷ release 1 ∷ release 1 ∷ []
 
 asked : calls (explicitLister bounds) w 1 none first given ≡ asks
-unfolding fewest pick
+unfolding pick
 asked = refl
 
 -- demand 3's premise holds, and so does all that it says
@@ -180,7 +180,7 @@ abbrev all : Stored
 all = stored (1 ∷ 1 ∷ 1 ∷ []) 3 less seven (f 0x4026_0000_0000_0000)
 
 points : storedOf (explicitLister bounds) bounds w 1 none A first given ≡ s₁ ∷ s₂ ∷ []
-unfolding pointAt entryIn isPoint configured started begun Bindings.started bound boundIn boundTo released releasedIn measuredBy seatedBy boundsPass noNan rising _and_ isNan lt ofBits ofFields toBits fits add round eq pick over measured called entered unlessRefused barredBy unlessBarred newSeat seated marked committed located agreesb slotsb allb sought admitted setOf rowOf soundb inserted recordedAt Series.recording refusalOf bucketOf bucketsOf recordBucket bucketsAgree deltaCollected uncollected roomy fewest sweptKept figuresIn boundsIn extremeIn pointIn
+unfolding pointAt entryIn isPoint configured started begun Bindings.started bound boundIn boundTo released releasedIn measuredBy seatedBy boundsPass noNan rising _and_ isNan lt ofBits ofFields toBits fits add round eq pick over measured called entered unlessRefused barredBy unlessBarred newSeat seated marked committed located agreesb slotsb allb sought admitted setOf rowOf soundb inserted recordedAt Series.recording refusalOf bucketOf bucketsOf recordBucket bucketsAgree deltaCollected uncollected roomy sweptKept figuresIn boundsIn extremeIn pointIn
 points = refl
 
 together : mergedStored 0 (0 ∷ 0 ∷ 0 ∷ []) [] s₁ s₂ ≡ success all
@@ -188,7 +188,7 @@ unfolding merging refusalBefore pointAgrees laidOver mergeBuckets added bucketsA
 together = refl
 
 values : collectedOf (explicitLister bounds) w 1 none first given A ≡ five ∷ less ∷ seven ∷ []
-unfolding tell fewest pick boundsPass fits ofBits ofFields handed bucketsOf bucketOf lt add round
+unfolding tell pick boundsPass fits ofBits ofFields handed bucketsOf bucketOf lt add round
 values = ap (λ (a : List (Answer histograms)). gained histograms c asks a A) answers
 
 -- so the merged point stands for the three values

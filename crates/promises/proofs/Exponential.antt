@@ -1,43 +1,34 @@
 -- The exponential kind pays what is owed of its points in lent output: they are stored points whose counts are there, and recording keeps cells that
 -- can be lent. Assumes nothing.
 use Prim.Native.Nat.{ℕ, _%_, _≤_}
-use mathlib.Core.Path.{_≡_, refl, ap, sym, subst}
+use mathlib.Core.Path.{_≡_, refl, ap}
 use mathlib.Core.Bool.{Bool, true, false, not, _||_}
 use mathlib.Core.List.{[]}
 use native.Mathlib.Omega.{arith}
 use borrow.Author.Tests.{le-leb}
 use lib.Dec.{leb}
 use lib.ListN.{length, getD}
-use lib.Ieee.{binary64, fits, ofBits}
-use lib.Ieee.Bits.{is-true, ofBits-fits}
 use Rattle.laws.specs.Pick.{pick}
 use Rattle.laws.proofs.Bools.{and-intro}
 use Rattle.index.specs.Bins.{finest}
 use Rattle.exponential.specs.declared.Head.{Head}
-use Rattle.exponential.specs.Runs.{freshHead}
 use Rattle.exponential.proofs.Facts as Facts
 use Rattle.exponential_slots.specs.Cells.{Cells, Room, headIn, headAt, countsIn}
-use Rattle.exponential_slots.proofs.Cases.{head-held, head-fresh, narrow-says}
+use Rattle.exponential_slots.proofs.Cases.{head-held, head-fresh}
 use Rattle.point.specs.Lists.{inShape}
 use Rattle.point.specs.Handing.{exponentialPoint}
 use Rattle.listing.specs.Words.{figuresIn, pointIn, isPoint}
 use Rattle.listing.proofs.Back.{point-is}
 use Rattle.listing.proofs.Given.{exponential-held}
-use Rattle.collecting.specs.Read.{AllFit}
+use Rattle.collecting.specs.Read.{spanOf, AllFit}
 use Rattle.rows.specs.Parts.{partAt}
 use Rattle.value_map.specs.Exponential.{unset}
 use Rattle.exponential_collection.specs.Points.{exponentialLister}
 use Rattle.exponential_collection.proofs.Slots.{agreesAt, accepted, agreeing-of, pos-length, neg-length}
-use Rattle.exponential_collection.proofs.Lists.{Fitting, Sized, sound-then, recording-keeps}
+use Rattle.exponential_collection.proofs.Lists.{sound-is, sound-then, sized-at, recording-keeps}
 use Rattle.promises.proofs.Cursors.{storedPoint}
 use Rattle.promises.proofs.Runs.{Keeps}
 use Rattle.promises.proofs.Stored.{Storing}
-
-literal-fits : (b : ℕ) → fits binary64 (ofBits binary64 b) ≡ true
-literal-fits b = is-true (fits binary64 (ofBits binary64 b)) (ofBits-fits binary64 b)
-
-fresh-floats : {top : ℕ} → Fitting (freshHead top)
-fresh-floats = record { min = literal-fits 0x7fef_ffff_ffff_ffff; max = literal-fits 0xffef_ffff_ffff_ffff; sum = literal-fits 0 }
 
 pub keeps : (size top : ℕ) → Keeps (exponentialLister size top)
 keeps size top c x u v f l = recording-keeps size top x v (f .value) u c l
@@ -70,29 +61,13 @@ module _ (size top : ℕ) (on : unset size top ≡ 0) (c : Cells) (x : ℕ) (r :
       (and-intro (leb (h .pos .len) (length (L .pos c x u))) (leb (h .neg .len) (length (L .neg c x u))) (le-leb (h .pos .len) _ p) (le-leb (h .neg .len) _ q))
 
 -- the words of a slot's point are a point's
-module _ (size top : ℕ) (on : unset size top ≡ 0) (c : Cells) (x : ℕ) (r : Room size c x) (l : AllFit (c .extremes)) where
-  sized : (u : Bool) → (not u || agreesAt size top on c x r) ≡ true → Sized (headAt top c x u)
-  unfolding headIn
-  sized true a =
-      let n = narrow-says (getD (c .figures) x []) (agreeing-of size top on c x r a .reads) in
-      subst Sized (sym (head-held top true (getD (c .figures) x []) (getD (c .extremes) x []) refl))
-      (record {
-        floats = record { min = l x 0; max = l x 1; sum = l x 2 };
-        level = omega (arith, n .level);
-        pos = omega (arith, n .pos);
-        neg = omega (arith, n .neg);
-      })
-  sized false a =
-      let z = accepted size top on c x r in
-      subst Sized (sym (head-fresh top false (getD (c .figures) x []) (getD (c .extremes) x []) refl))
-      (record { floats = fresh-floats; level = omega (arith, z .fine); pos = omega arith; neg = omega arith })
-
-  written : (w : Bool × Bool) (u : Bool) → (not u || agreesAt size top on c x r) ≡ true → isPoint (exponentialLister size top .words w c x u) ≡ true
-  written w u a =
-      let h = headAt top c x u in
-      let z = sized u a in
-      point-is (exponentialPoint h (w .0) (w .1)) (record { start = 0; len = 0 })
-      (exponential-held (w .0) (w .1) h (z .floats .min) (z .floats .max) (z .floats .sum) (z .level) (z .pos) (z .neg))
+written : (size top : ℕ) (on : unset size top ≡ 0) (c : Cells) (x : ℕ) (r : Room size c x) (l : AllFit (c .extremes)) (w : Bool × Bool) (u : Bool)
+    → sound-is size top on c x r w u → isPoint (exponentialLister size top .words w c x u) ≡ true
+written size top on c x r l w u s =
+    let h = headAt top c x u in
+    let z = sized-at size top on c x r w l u s in
+    point-is (exponentialPoint h (w .0) (w .1)) (spanOf [])
+    (exponential-held (w .0) (w .1) h (z .floats .min) (z .floats .max) (z .floats .sum) (z .level) (z .pos) (z .neg))
 
 pub storing : (size top : ℕ) → Storing (exponentialLister size top) []
 storing size top =
@@ -100,5 +75,5 @@ storing size top =
       point = λ ws ps ns. refl;
       posLen-is = λ ws. refl;
       negLen-is = λ ws. refl;
-      shape = λ w c x u on l r s. let a = sound-then size top on c x r w u s in (shaped size top on c x r w u a, written size top on c x r l w u a);
+      shape = λ w c x u on l r s. (shaped size top on c x r w u (sound-then size top on c x r w u s), written size top on c x r l w u s);
     }

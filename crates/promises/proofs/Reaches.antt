@@ -1,15 +1,12 @@
 -- Every call of demand 3 is asked by some input of a run. Assumes nothing.
-use Prim.Native.Nat.{ℕ}
+use Prim.Native.Nat.{ℕ, min}
 use mathlib.Core.Path.{_≡_, refl, _∙_}
-use mathlib.Core.Bool.{Bool, true, false}
 use mathlib.Core.List.{List}
-use lib.Dec.{leb}
+use native.Mathlib.Omega.{arith}
 use lib.ListN.{length, replicate, length-replicate}
-use Rattle.laws.specs.Pick.{pick}
 use Rattle.tally.specs.Kind.{Room}
 use Rattle.tally.specs.Map.{measure, measureBy, bind, release, collect}
 use Rattle.listing.specs.Listed.{Output}
-use Rattle.seats.specs.Seats.{fewest}
 use Rattle.collecting.specs.Collected.{roomOf}
 use Rattle.promises.specs.Runs.{recording, recordingBy, binding, releasing, collecting}
 use Rattle.promises.specs.Promises.{Reaches}
@@ -24,21 +21,15 @@ outputOf r =
       neg = replicate (r .neg) 0;
     }
 
-pick-same : (b : Bool) (n : ℕ) → pick b n n ≡ n
-unfolding pick
-pick-same true n = refl
-pick-same false n = refl
-
-fewest-same : (n : ℕ) → fewest n n ≡ n
-unfolding fewest
-fewest-same n = pick-same (leb n n) n
+min-same : (n : ℕ) → min n n ≡ n
+min-same n = omega arith
 
 room-back : (r : Room) → roomOf (outputOf r) ≡ r
 room-back r =
     let row : List ℕ = replicate {A = ℕ} 9 0 in
     let words : List ℕ = replicate {A = ℕ} 12 0 in
-    let p : fewest (length (replicate (r .points) row)) (length (replicate (r .points) words)) ≡ r .points =
-    (λ i. fewest (length-replicate (r .points) row i) (length-replicate (r .points) words i)) ∙ fewest-same (r .points) in
+    let p : min (length (replicate (r .points) row)) (length (replicate (r .points) words)) ≡ r .points =
+    (λ i. min (length-replicate (r .points) row i) (length-replicate (r .points) words i)) ∙ min-same (r .points) in
     λ i. record { points = p i; pos = length-replicate {A = ℕ} (r .pos) 0 i; neg = length-replicate {A = ℕ} (r .neg) 0 i }
 
 pub reaches : Reaches

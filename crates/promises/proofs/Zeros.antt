@@ -35,7 +35,7 @@ use Rattle.sets.specs.Inserted.{inserted}
 use Rattle.directory.specs.View.{slotsb, agreesb, sought}
 use Rattle.directory.specs.Calls.{located, admitted}
 use Rattle.bindings.specs.Calls as Bindings
-use Rattle.seats.specs.Seats.{fewest, newSeat, seated, barredBy, unlessBarred, marked, committed}
+use Rattle.seats.specs.Seats.{newSeat, seated, barredBy, unlessBarred, marked, committed}
 use Rattle.sweep.specs.Swept.{sweptKept}
 use Rattle.exponential.specs.Series as Series
 use Rattle.exponential.specs.Series.{refusalOf}
@@ -99,7 +99,7 @@ abbrev answersAre : List (Answer histograms)
 answersAre = done ∷ listed ((A, point 1) ∷ []) ∷ done ∷ listed ((A, point 1) ∷ []) ∷ []
 
 answers : replies (exponentialLister 3 20) (true, true) 1 none first given ≡ answersAre
-unfolding configured levelAnswer started begun Bindings.started unset _and_ isNan lt ofBits ofFields toBits fits add round eq pick over measured called entered unlessRefused barredBy unlessBarred newSeat seated marked committed located agreesb slotsb allb sought admitted setOf rowOf soundb inserted recordedAt shaped countsAt headIn narrow readable headOf Series.agrees refusalOf Series.recording classOf magnitude Agreement.agrees rowAgrees placed lowBin highBin PointsRows.at Points.rowOf Points.row Points.fits Points.fitsBoth Points.scale Points.build Points.pointOf Points.indices Points.bag Points.record1 deltaCollected uncollected roomy fewest sweptKept figuresIn boundsIn extremeIn pointIn
+unfolding configured levelAnswer started begun Bindings.started unset _and_ isNan lt ofBits ofFields toBits fits add round eq pick over measured called entered unlessRefused barredBy unlessBarred newSeat seated marked committed located agreesb slotsb allb sought admitted setOf rowOf soundb inserted recordedAt shaped countsAt headIn narrow readable headOf Series.agrees refusalOf Series.recording classOf magnitude Agreement.agrees rowAgrees placed lowBin highBin PointsRows.at Points.rowOf Points.row Points.fits Points.fitsBoth Points.scale Points.build Points.pointOf Points.indices Points.bag Points.record1 deltaCollected uncollected roomy sweptKept figuresIn boundsIn extremeIn pointIn
 answers = refl
 
 -- demand 3's premise holds, and so does all that it says
@@ -135,7 +135,7 @@ stored n =
     [] [] []
 
 points : storedOf (exponentialLister 3 20) [] (true, true) 1 none A first given ≡ stored 1 ∷ stored 1 ∷ []
-unfolding pointAt entryIn isPoint configured levelAnswer started begun Bindings.started unset _and_ isNan lt ofBits ofFields toBits fits add round eq pick over measured called entered unlessRefused barredBy unlessBarred newSeat seated marked committed located agreesb slotsb allb sought admitted setOf rowOf soundb inserted recordedAt shaped countsAt headIn narrow readable headOf Series.agrees refusalOf Series.recording classOf magnitude Agreement.agrees rowAgrees placed lowBin highBin PointsRows.at Points.rowOf Points.row Points.fits Points.fitsBoth Points.scale Points.build Points.pointOf Points.indices Points.bag Points.record1 deltaCollected uncollected roomy fewest sweptKept figuresIn boundsIn extremeIn pointIn
+unfolding pointAt entryIn isPoint configured levelAnswer started begun Bindings.started unset _and_ isNan lt ofBits ofFields toBits fits add round eq pick over measured called entered unlessRefused barredBy unlessBarred newSeat seated marked committed located agreesb slotsb allb sought admitted setOf rowOf soundb inserted recordedAt shaped countsAt headIn narrow readable headOf Series.agrees refusalOf Series.recording classOf magnitude Agreement.agrees rowAgrees placed lowBin highBin PointsRows.at Points.rowOf Points.row Points.fits Points.fitsBoth Points.scale Points.build Points.pointOf Points.indices Points.bag Points.record1 deltaCollected uncollected roomy sweptKept figuresIn boundsIn extremeIn pointIn
 points = refl
 
 together : mergedStored 3 [] [] (stored 1) (stored 1) ≡ success (stored 2)

@@ -1,22 +1,19 @@
 -- What the least of several numbers says of a test that asks for so many. Assumes nothing.
-use Prim.Native.Nat.{ℕ, _≤_, _<_}
+use Prim.Native.Nat.{ℕ, _≤_, _<_, min}
 use mathlib.Core.Path.{_≡_, refl, ap, sym, _∙_}
 use mathlib.Core.Logic.{⊎-elim}
 use mathlib.Core.Bool.{Bool, true, false, _&&_}
 use native.Mathlib.Omega.{arith}
 use lib.Dec.{leb}
 use borrow.Author.Tests.{le-leb, lt-leb, leb-true, leb-false}
-use Rattle.laws.proofs.Bools.{flag, pick-true, pick-false}
-use Rattle.seats.specs.Seats.{fewest}
+use Rattle.laws.proofs.Bools.{flag}
 
 module _ (a b : ℕ) where
-  pub lesser-first : a ≤ b → a ≡ fewest a b
-  unfolding fewest
-  lesser-first h = sym (pick-true (leb a b) a b (le-leb a b h))
+  pub lesser-first : a ≤ b → a ≡ min a b
+  lesser-first h = omega arith
 
-  pub lesser-second : b < a → b ≡ fewest a b
-  unfolding fewest
-  lesser-second h = sym (pick-false (leb a b) a b (lt-leb a b h))
+  pub lesser-second : b < a → b ≡ min a b
+  lesser-second h = omega arith
 
   module _ (n : ℕ) where
     up : a ≤ b → leb n a ≡ (leb n a && leb n b)
@@ -34,7 +31,7 @@ module _ (a b : ℕ) where
         go false e = lt-leb n b (let p = leb-false n a e in omega arith)
 
     -- the lesser suffices where both do
-    pub both-suffice : leb n (fewest a b) ≡ (leb n a && leb n b)
+    pub both-suffice : leb n (min a b) ≡ (leb n a && leb n b)
     both-suffice =
         ⊎-elim
         (λ (e : leb a b ≡ true). let h = leb-true a b e in ap (leb n) (sym (lesser-first h)) ∙ up h)
@@ -52,7 +49,7 @@ one-less true = refl
 one-less false = refl
 
 -- the least of four
-pub all-suffice : (n a b c d : ℕ) → leb n (fewest (fewest a b) (fewest c d)) ≡ ((leb n a && (leb n b && leb n c)) && leb n d)
+pub all-suffice : (n a b c d : ℕ) → leb n (min (min a b) (min c d)) ≡ ((leb n a && (leb n b && leb n c)) && leb n d)
 all-suffice n a b c d =
-    both-suffice (fewest a b) (fewest c d) n ∙ (λ i. both-suffice a b n i && both-suffice c d n i) ∙ regroup (leb n a) (leb n b) (leb n c && leb n d)
+    both-suffice (min a b) (min c d) n ∙ (λ i. both-suffice a b n i && both-suffice c d n i) ∙ regroup (leb n a) (leb n b) (leb n c && leb n d)
     ∙ (λ i. leb n a && sym (regroup (leb n b) (leb n c) (leb n d)) i) ∙ sym (regroup (leb n a) (leb n b && leb n c) (leb n d))

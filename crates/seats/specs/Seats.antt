@@ -17,10 +17,6 @@ use Rattle.directory.specs.declared.Target.the-variants.{Disagrees, Old, New, O
 use Rattle.seats.specs.declared.Seating.{Seating}
 use Rattle.laws.specs.Counting.{mostCount}
 
--- the fewer of two numbers of entries: what suffices for both
-unfoldable pub fewest : ℕ → ℕ → ℕ
-fewest a b = pick (leb a b) a b
-
 -- refused with the number n: nothing is to be written
 abbrev pub away : ℕ → Seating
 away n = record { no = n; slot = 0; updated = false; target = Disagrees }

@@ -9,6 +9,7 @@ use native.Mathlib.Omega.{arith}
 use lib.Dec.{eqb}
 use lib.ListN.{length, getD, length-map}
 use lib.Seq.{take-at}
+use Rattle.laws.specs.Lists.{only}
 use Rattle.laws.specs.Over.{over}
 use Rattle.laws.proofs.Bools.{pick-true, pick-false, some?}
 use Rattle.tally.specs.Kind.{Kind}
@@ -23,7 +24,7 @@ use Rattle.directory.proofs.Agreed.{place-slot}
 use Rattle.directory.proofs.Covers.{covers}
 use Rattle.directory.proofs.Laws.{places-right}
 use Rattle.directory.proofs.Rises.{In, span-in}
-use Rattle.sweep.specs.Swept.{goes, staying, rank, only, clear, sweptKept}
+use Rattle.sweep.specs.Swept.{goes, staying, rank, clear, sweptKept}
 use Rattle.laws.proofs.Over.{length-over}
 use Rattle.sweep.proofs.Marks.{rank-le, rank-some}
 use Rattle.sweep.proofs.Stayers.{olds, rank-mono, old-of, only-count}

@@ -10,6 +10,7 @@ use native.Mathlib.Omega.{arith}
 use borrow.Author.Tests.{le-leb, ne-eqb}
 use lib.Dec.{eqb}
 use lib.ListN.{length, getD, length-map}
+use Rattle.laws.specs.Lists.{only}
 use Rattle.laws.proofs.Cases.{true-not-false}
 use Rattle.tally.specs.Map.{Config, Agrees, plain}
 use Rattle.tally.proofs.Agree.{agree-swept}
@@ -28,7 +29,7 @@ use Rattle.directory.proofs.Refusals.{suffices}
 use Rattle.directory.proofs.Rises.{In}
 use Rattle.directory.proofs.Sentence.{later, own-birth, spent}
 use Rattle.directory.proofs.Tied.{agreed}
-use Rattle.sweep.specs.Swept.{staying, rank, only, clear, sweptKept}
+use Rattle.sweep.specs.Swept.{staying, rank, clear, sweptKept}
 use Rattle.laws.proofs.Over.{length-over}
 use Rattle.sweep.proofs.Marks.{rank-le, rank-some}
 use Rattle.sweep.proofs.Stayers.{olds, rank-mono, came, came-rise, old-of, only-in}

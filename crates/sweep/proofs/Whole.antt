@@ -8,13 +8,14 @@ use native.Mathlib.Omega.{arith}
 use borrow.Author.Tests.{eq-eqb, ne-eqb}
 use lib.Dec.{eqb}
 use lib.ListN.{length, getD, set, length-map}
+use Rattle.laws.specs.Lists.{only}
 use Rattle.laws.specs.Over.{over}
 use Rattle.laws.proofs.Bools.{pick-true, pick-false}
 use Rattle.tally.specs.Map.{bit}
 use Rattle.sets.specs.Rows.{span}
 use Rattle.directory.specs.declared.Directory.{Directory}
 use Rattle.directory.proofs.Rises.{In, span-in}
-use Rattle.sweep.specs.Swept.{staying, stayers, rank, only, down, clear, sweptKept}
+use Rattle.sweep.specs.Swept.{staying, stayers, rank, down, clear, sweptKept}
 use Rattle.sweep.specs.Passes.{markIn, markOf, packed, lows, renumbered, settled}
 use Rattle.laws.proofs.Over.{length-over, over-front, over-snoc}
 use Rattle.sweep.proofs.Marks.{rank-more, rank-le, rank-some, mark-stays, mark-goes, mark-le, renumbered-small, over-small}

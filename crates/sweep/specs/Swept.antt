@@ -4,6 +4,7 @@ use mathlib.Core.Bool.{Bool, not, _&&_}
 use mathlib.Core.List.{List, [], _∷_, _++_, map}
 use lib.Dec.{eqb}
 use lib.ListN.{length, getD}
+use Rattle.laws.specs.Lists.{only}
 use Rattle.laws.specs.Over.{over}
 use Rattle.laws.specs.Pick.{pick}
 use Rattle.tally.specs.Map.{plain}
@@ -25,11 +26,6 @@ stayers p (suc n) = stayers p n ++ pick (p (suc n)) (suc n ∷ []) []
 -- the new slot of one that stays: how many of those up to it stay
 abbrev pub rank : (ℕ → Bool) → ℕ → ℕ
 rank p x = length (stayers p x)
-
--- the slots of a list that stay
-abbrev pub only : (ℕ → Bool) → List ℕ → List ℕ
-only p [] = []
-only p (q ∷ l) = pick (p q) (q ∷ only p l) (only p l)
 
 -- the rows of slot 0 and of the slots that stay, one behind the other, each as c leaves it; behind them what was there
 abbrev pub down : (List ℕ → List ℕ) → (ℕ → Bool) → ℕ → List (List ℕ) → List (List ℕ)

@@ -6,6 +6,7 @@ use mathlib.Core.List.{List, [], _∷_, map}
 use mathlib.Core.Option.{Option, none, some}
 use native.Mathlib.Omega.{arith}
 use lib.ListN.{length}
+use Rattle.laws.specs.Lists.{only}
 use Rattle.laws.specs.Tests.{all}
 use Rattle.laws.proofs.Bools.{some?}
 use Rattle.laws.proofs.Cases.{none-not-some}
@@ -15,7 +16,6 @@ use Rattle.tally.specs.Map.{Entry, Map, find, sound, points, keys}
 use Rattle.tally.proofs.MapSteps.{sweep, reset, swept}
 use Rattle.tally.specs.Tally.{Tally, valuesOf, gathered, due}
 use Rattle.tally.specs.Demand.{any}
-use Rattle.tally.specs.Runs.{only}
 use Rattle.tally.proofs.Lawful.{Lawful}
 use Rattle.tally.proofs.Rising.{rising-ascending, mem-ascending, ext}
 use Rattle.tally.proofs.Entries.{rising-only, mem-only, mem-keys, rising-sweep, length-sweep, Shown, points-are, all-found}

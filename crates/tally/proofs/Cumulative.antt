@@ -4,6 +4,7 @@ use mathlib.Core.Path.{_≡_, refl, ap, sym, subst, _∙_}
 use mathlib.Core.Bool.{Bool, true, false, cond, not, _||_}
 use mathlib.Core.List.{List, [], _∷_, map}
 use mathlib.Core.Option.{Option, none, some, Option·getD}
+use Rattle.laws.specs.Lists.{only}
 use Rattle.laws.proofs.Bools.{some?}
 use Rattle.laws.proofs.Cases.{some-inj, none-not-some}
 use Rattle.tally.specs.Sets.{Set, same}
@@ -11,7 +12,7 @@ use Rattle.tally.specs.Kind.{Kind}
 use Rattle.tally.specs.Map.{Entry, Map, find, current, filled, keys}
 use Rattle.tally.specs.Tally.{Tally, valuesOf}
 use Rattle.tally.specs.Demand.{any}
-use Rattle.tally.specs.Runs.{only, listed?, Listed}
+use Rattle.tally.specs.Runs.{listed?, Listed}
 use Rattle.tally.proofs.Lawful.{Lawful}
 use Rattle.tally.proofs.Entries.{mem-keys, find-set, Shown, points-are}
 use Rattle.tally.proofs.Holds.{Kept, Holds}

@@ -7,6 +7,7 @@ use mathlib.Core.Option.{Option, none, some}
 use native.Mathlib.Omega.{arith}
 use borrow.Author.Tests.{eq-eqb}
 use lib.Dec.{eqb}
+use Rattle.laws.specs.Counting.{bit}
 use Rattle.laws.proofs.Cases.{some-inj, none-not-some, true-not-false}
 use Rattle.tally.specs.Sets.{Set, overflow, same, canonical}
 use Rattle.tally.specs.Kind.{Kind, unless}
@@ -28,7 +29,7 @@ some-of : (k b : ℕ) → k < b → 0 < b
 some-of k b l = omega (arith, l)
 
 -- a release of h, of which one binding more than k is left
-one-less : (k : ℕ) (t : Bool) (b : ℕ) → t ≡ true → k + cond t 1 0 < b → k < b - 1
+one-less : (k : ℕ) (t : Bool) (b : ℕ) → t ≡ true → k + bit t < b → k < b - 1
 one-less k true b e l = omega (arith, l)
 one-less k false b e l = absurd (true-not-false (sym e))
 

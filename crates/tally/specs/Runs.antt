@@ -1,10 +1,12 @@
 -- What is told of every run beside demand 3's answers. Assumes nothing.
 use Prim.Native.Nat.{ℕ, _+_, _<_}
 use mathlib.Core.Path.{_≡_}
-use mathlib.Core.Bool.{Bool, true, cond, not, _||_}
+use mathlib.Core.Bool.{Bool, true, not, _||_}
 use mathlib.Core.List.{List, [], _∷_, map}
 use mathlib.Core.Option.{some}
 use lib.Dec.{eqb}
+use Rattle.laws.specs.Lists.{only}
+use Rattle.laws.specs.Counting.{bit}
 use Rattle.laws.specs.Tests.{all}
 use Rattle.tally.specs.Sets.{Set, same, mem}
 use Rattle.tally.specs.Kind.{Kind}
@@ -12,11 +14,6 @@ use Rattle.tally.specs.Map.{Config, Entry, Map, Call, measure, measureBy
 use Rattle.tally.specs.Map.{Answer, refuse, done, handle, listed, named, points, filled, keys}
 use Rattle.tally.specs.Tally.{Tally, empty, valuesOf, after}
 use Rattle.tally.specs.Demand.{any, Premise, Code, asked, left, ran}
-
--- the sets that pass the test
-abbrev pub only : (Set → Bool) → List Set → List Set
-only p [] = []
-only p (x ∷ l) = cond (p x) (x ∷ only p l) (only p l)
 
 -- "every named entry is listed .. The empty series is listed only if updated"
 abbrev pub listed? : Bool → Set → Bool
@@ -39,7 +36,7 @@ module _ (K : Kind) where
 
   -- 1 for a call that releases h; and how many of the calls do
   abbrev pub releasing : ℕ → Call K → ℕ
-  releasing h x = elim x [ measure v attrs ↦ 0 | measureBy i v ↦ 0 | bind attrs ↦ 0 | release i ↦ cond (eqb i h) 1 0 | collect room ↦ 0 ]
+  releasing h x = elim x [ measure v attrs ↦ 0 | measureBy i v ↦ 0 | bind attrs ↦ 0 | release i ↦ bit (eqb i h) | collect room ↦ 0 ]
 
   abbrev pub releases : ℕ → List (Call K) → ℕ
   releases h [] = 0

@@ -1,6 +1,6 @@
 -- Number 12 of a count store, without the product, and of all stores of a kind by the least of them; stores that suffice have each slot.
 -- Assumes nothing.
-use Prim.Native.Nat.{ℕ, zero, suc, _+_, _*_, _/_, _≤_, _<_}
+use Prim.Native.Nat.{ℕ, zero, suc, _+_, _*_, _/_, _≤_, _<_, min}
 use mathlib.Core.Path.{_≡_, sym, _∙_}
 use mathlib.Core.Logic.{⊎-elim}
 use mathlib.Core.Bool.{Bool, true, false, _&&_}
@@ -14,7 +14,6 @@ use Rattle.laws.specs.Tests.{all}
 use Rattle.laws.proofs.Bools.{flag}
 use Rattle.laws.proofs.Cases.{and-true}
 use Rattle.rows.proofs.Parts.{within}
-use Rattle.seats.specs.Seats.{fewest}
 use Rattle.seats.proofs.Least.{both-suffice, one-less}
 use Rattle.value_map.specs.Store.{lengthsSuffice}
 
@@ -39,11 +38,11 @@ module _ (limit a b : ℕ) (t : Bool) where
   two : (leb (limit + 2) a && leb (limit + 2) b) ≡ all (leb (limit + 2)) (a ∷ b ∷ [])
   two = λ i. leb (limit + 2) a && one-less (leb (limit + 2) b) i
 
-  pub least-none : true ≡ t → leb (limit + 2) (fewest a b) ≡ (all (leb (limit + 2)) (a ∷ b ∷ []) && t)
+  pub least-none : true ≡ t → leb (limit + 2) (min a b) ≡ (all (leb (limit + 2)) (a ∷ b ∷ []) && t)
   least-none e = both-suffice a b (limit + 2) ∙ two ∙ one-less (all (leb (limit + 2)) (a ∷ b ∷ [])) ∙ (λ i. all (leb (limit + 2)) (a ∷ b ∷ []) && e i)
 
-  pub least-many : (m : ℕ) → leb (limit + 2) m ≡ t → leb (limit + 2) (fewest (fewest a b) m) ≡ (all (leb (limit + 2)) (a ∷ b ∷ []) && t)
-  least-many m e = both-suffice (fewest a b) m (limit + 2) ∙ (λ i. (both-suffice a b (limit + 2) ∙ two) i && e i)
+  pub least-many : (m : ℕ) → leb (limit + 2) m ≡ t → leb (limit + 2) (min (min a b) m) ≡ (all (leb (limit + 2)) (a ∷ b ∷ []) && t)
+  least-many m e = both-suffice (min a b) m (limit + 2) ∙ (λ i. (both-suffice a b (limit + 2) ∙ two) i && e i)
 
 -- ---- slot x of stores that suffice lies in each of them
 

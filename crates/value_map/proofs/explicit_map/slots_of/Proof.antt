@@ -1,9 +1,8 @@
 -- `value_map::explicit_map::slots_of` meets its contract. Assumes nothing.
 use borrow.Author.Needs.{needs}
-use Prim.Native.Nat.{ℕ, _+_, _*_, _/_}
+use Prim.Native.Nat.{ℕ, _+_, _*_, _/_, min}
 use mathlib.Core.Path.{ap, _∙_}
 use lib.Dec.{leb}
-use Rattle.seats.specs.Seats.{fewest}
 use Rattle.seats.proofs.Least.{one-less}
 use Rattle.value_map.proofs.Products.{rows-none, rows-many, least-none, least-many}
 use Rattle.value_map.proofs.explicit_map.slots_of.Statement.{statement}
@@ -26,7 +25,7 @@ returns-2 c limit =
     let l = b .before in
     let a = l .before .before .args in
     let n = b .bucket-count .result in
-    ap (leb (limit + 2)) (c .lesser2 .ensures ∙ ap (λ (k : ℕ). fewest k (a .counts / n)) (l .lesser .ensures))
+    ap (leb (limit + 2)) (c .lesser2 .ensures ∙ ap (λ (k : ℕ). min k (a .counts / n)) (l .lesser .ensures))
     ∙ least-many limit (a .totals) (a .extremes) _ (a .counts / n)
     (rows-many limit n (a .counts) (e .if1 .left) ∙ ap (λ (k : ℕ). leb ((limit + 2) * k) (a .counts)) (b .bucket-count .ensures) ∙ one-less _)
 

@@ -1,10 +1,9 @@
 -- `value_map::exponential_map::slots_of` meets its contract. Assumes nothing.
 use borrow.Author.Needs.{needs}
-use Prim.Native.Nat.{_+_, _/_}
+use Prim.Native.Nat.{_+_, _/_, min}
 use mathlib.Core.Path.{ap, _∙_}
 use mathlib.Core.Bool.{true, _&&_}
 use lib.Dec.{leb}
-use Rattle.seats.specs.Seats.{fewest}
 use Rattle.seats.proofs.Least.{both-suffice, one-less}
 use Rattle.value_map.proofs.Products.{rows-none, rows-many, least-none, least-many}
 use Rattle.value_map.proofs.exponential_map.slots_of.Statement.{statement}
@@ -23,8 +22,8 @@ returns-2 c limit =
     let e = rows .before in
     let l = e .before in
     let a = l .before .args in
-    ap (leb (limit + 2)) (c .lesser3 .ensures ∙ (λ i. fewest (l .lesser .ensures i) (rows .lesser2 .ensures i)))
-    ∙ least-many limit (a .figures) (a .extremes) _ (fewest (a .pos / a .size) (a .neg / a .size))
+    ap (leb (limit + 2)) (c .lesser3 .ensures ∙ (λ i. min (l .lesser .ensures i) (rows .lesser2 .ensures i)))
+    ∙ least-many limit (a .figures) (a .extremes) _ (min (a .pos / a .size) (a .neg / a .size))
     (both-suffice (a .pos / a .size) (a .neg / a .size) (limit + 2) ∙ (λ i. rows-many limit (a .size) (a .pos) (e .if1 .left) i && (rows-many limit (a .size) (a .neg) (e .if1 .left) ∙ one-less _) i))
 
 pub slots-of-spec : {M : Type 1} → statement M

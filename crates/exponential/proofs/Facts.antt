@@ -16,7 +16,7 @@ use Rattle.points.specs.Agreement as A
 use Rattle.points.proofs.Agreement as PA
 use Rattle.points.proofs.Agreement.{RowOk}
 use Rattle.exponential.specs.declared.Counts.{Counts}
-use Rattle.exponential.specs.Series.{leastSize, mostSize, sizePasses, lowestOfAll, rowIn, agrees, read}
+use Rattle.exponential.specs.Series.{mostSize, sizePasses, lowestOfAll, rowIn, agrees, read}
 use Rattle.exponential.specs.Inner.{rowAgrees, addsUp}
 use Rattle.exponential.proofs.Rowed.{RowFacts, row-facts}
 
@@ -28,10 +28,18 @@ pub not-false : (b : Bool) → not b ≡ false → b ≡ true
 not-false true h = refl
 not-false false h = sym h
 
+-- ---- a max_size that passes
+
+pub size-in : (size : ℕ) → sizePasses size ≡ true → (3 ≤ size) × (size ≤ mostSize)
+size-in size h = (leb-true 3 size (and-left (leb 3 size) (leb size mostSize) h), leb-true size mostSize (and-right (leb 3 size) (leb size mostSize) h))
+
+pub size-passes-in : (size : ℕ) → 3 ≤ size → size ≤ mostSize → sizePasses size ≡ true
+size-passes-in size a b = and-intro (leb 3 size) (leb size mostSize) (le-leb 3 size a) (le-leb size mostSize b)
+
 -- ---- the series
 
 pub record Agreed (size top : ℕ) (c : Counts) (xs ys : List ℕ) : Type 0 where
-  pub least : leastSize ≤ size
+  pub least : 3 ≤ size
   pub most : size ≤ mostSize
   pub greatest : top ≤ finest
   pub level : c .level ≤ top
@@ -67,8 +75,8 @@ module _ (size top : ℕ) (c : Counts) (xs ys : List ℕ) where
       let h₄ = and-right t₃ (t₄ and t₅ and t₆) h₃ in
       let h₅ = and-right t₄ (t₅ and t₆) h₄ in
       record {
-        least = leb-true leastSize size (and-left (leb leastSize size) (leb size mostSize) h₁);
-        most = leb-true size mostSize (and-right (leb leastSize size) (leb size mostSize) h₁);
+        least = size-in size h₁ .0;
+        most = size-in size h₁ .1;
         greatest = leb-true top finest (and-left t₂ (t₃ and t₄ and t₅ and t₆) h₂);
         level = leb-true (c .level) top (and-left t₃ (t₄ and t₅ and t₆) h₃);
         posThere = leb-true (c .pos .len) (length xs) (and-left t₄ (t₅ and t₆) h₄);
@@ -79,7 +87,7 @@ module _ (size top : ℕ) (c : Counts) (xs ys : List ℕ) where
   pub agreed-agrees : Agreed size top c xs ys → agrees size top c xs ys ≡ true
   unfolding agrees
   agreed-agrees k =
-      and-intro t₁ (t₂ and t₃ and t₄ and t₅ and t₆) (and-intro (leb leastSize size) (leb size mostSize) (le-leb leastSize size (k .least)) (le-leb size mostSize (k .most)))
+      and-intro t₁ (t₂ and t₃ and t₄ and t₅ and t₆) (size-passes-in size (k .least) (k .most))
       (and-intro t₂ (t₃ and t₄ and t₅ and t₆) (le-leb top finest (k .greatest))
       (and-intro t₃ (t₄ and t₅ and t₆) (le-leb (c .level) top (k .level))
       (and-intro t₄ (t₅ and t₆) (le-leb (c .pos .len) (length xs) (k .posThere))
@@ -104,17 +112,17 @@ module _ (size top : ℕ) (c : Counts) (xs ys : List ℕ) where
   pub refuse : (Agreed size top c xs ys → ⊥) → false ≡ agrees size top c xs ys
   refuse n = ⊎-elim (λ (t : agrees size top c xs ys ≡ true). absurd (n (agreed t))) (λ (t : agrees size top c xs ys ≡ false). sym t) (flag (agrees size top c xs ys))
 
-  pub by-sum : leastSize ≤ size → size ≤ mostSize → top ≤ finest → c .level ≤ top → rowAgrees size (lowestBin (c .level)) (endBin (c .level)) (c .pos) xs ≡ true → rowAgrees size (lowestBin (c .level)) (endBin (c .level)) (c .neg) ys ≡ true
+  pub by-sum : sizePasses size ≡ true → top ≤ finest → c .level ≤ top → rowAgrees size (lowestBin (c .level)) (endBin (c .level)) (c .pos) xs ≡ true → rowAgrees size (lowestBin (c .level)) (endBin (c .level)) (c .neg) ys ≡ true
       → addsUp c xs ys ≡ agrees size top c xs ys
-  by-sum a b t l p n =
+  by-sum a t l p n =
       let f = row-facts size (lowestBin (c .level)) (endBin (c .level)) (c .pos) xs p in
       let g = row-facts size (lowestBin (c .level)) (endBin (c .level)) (c .neg) ys n in
       let w : c .level ≡ finest - (finest - c .level) = omega arith in
       ⊎-elim
       (λ (e : addsUp c xs ys ≡ true).
       e ∙ sym (agreed-agrees (record {
-        least = a;
-        most = b;
+        least = size-in size a .0;
+        most = size-in size a .1;
         greatest = t;
         level = l;
         posThere = f .there;

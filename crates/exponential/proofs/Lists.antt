@@ -11,6 +11,7 @@ use lib.Ieee.Scale.{finite}
 use borrow.Author.Tests.{eq-eqb}
 use Rattle.laws.specs.Pick.{pick}
 use Rattle.laws.specs.Lists.{All}
+use Rattle.laws.specs.Said.{success}
 use Rattle.index.specs.Bins.{finest}
 use Rattle.floats.specs.Starts.{FiniteF64, zeroFloat}
 use Rattle.floats.proofs.Choices.{finite-chosen}
@@ -21,16 +22,14 @@ use Rattle.points.proofs.Kept.{pointOf-agrees}
 use Rattle.points.proofs.Orders.{recordAll, recordAll-pointOf}
 use Rattle.rows.proofs.Laws.{length-over}
 use Rattle.exponential.specs.declared.Head.{Head}
-use Rattle.exponential.specs.Series.{leastSize, mostSize, lowestOfAll, agrees, read, countsFor, refusalOf, accepted, recording}
-use Rattle.exponential.specs.Runs.{Series, after, runAll, freshHead}
+use Rattle.exponential.specs.Series.{mostSize, lowestOfAll, agrees, read, countsFor, refusalOf, Outcome, outcome, accepted, recording}
+pub use Rattle.exponential.specs.Series.{summary}
+use Rattle.exponential.specs.Inner.{Series, after, runAll}
+use Rattle.exponential.specs.Runs.{freshHead, next}
 use Rattle.exponential.proofs.Facts.{agreed-agrees}
 use Rattle.exponential.proofs.Call.{none}
 use Rattle.exponential.proofs.Classes.{ranged-of}
 use Rattle.exponential.proofs.Stays.{next-ok, stays, reads}
-
--- the minimum, the maximum and the sum of a head
-abbrev pub summary : Head → Summary
-summary h = record { min = h .min; max = h .max; sum = h .sum }
 
 -- s holds the point p and this summary, and agrees
 pub record Holds (size top : ℕ) (p : Point) (m : Summary) (s : Series) : Type 0 where
@@ -58,6 +57,12 @@ pub accepted-is : (size top : ℕ) (h : Head) (xs ys : List ℕ) (v : Float) →
 unfolding recording pick
 accepted-is size top h xs ys v e = rw (eq-eqb (refusalOf size top h xs ys v) 0 e)
 
+not-refused : (size top : ℕ) (p : Point) (m : Summary) (s : Series) (v : Float) → Holds size top p m s → FiniteF64 v → p .total + 1 < 2 ^ 64
+    → refusalOf size top (s .head) (s .pos) (s .neg) v ≡ 0
+not-refused size top p m s v h f n =
+    let t : s .head .counts .count ≡ p .total = ap (λ c. c .count) (h .counts) in
+    none size top (s .head) (s .pos) (s .neg) v (h .longPos) (h .longNeg) (is-true (finite v) (f .known)) (h .agree) (h .finMin) (h .finMax) (omega (arith, t))
+
 step : (size top : ℕ) (p : Point) (m : Summary) (s : Series) (v : Float) → Holds size top p m s → FiniteF64 v → p .total + 1 < 2 ^ 64
     → Holds size top (record1 size p (classOf zeroFloat v)) (noted m v) (after (recording size top (s .head) (s .pos) (s .neg) v) s)
 step size top p m s v h f n =
@@ -66,9 +71,7 @@ step size top p m s v h f n =
     let c = s .head .counts in
     let k : finite v ≡ true = is-true (finite v) (f .known) in
     let w = ranged-of v (is-true (fits binary64 v) (f .fits)) k in
-    let t : c .count ≡ p .total = ap (λ c. c .count) (h .counts) in
-    let z : refusalOf size top (s .head) xs ys v ≡ 0 =
-    none size top (s .head) xs ys v (h .longPos) (h .longNeg) k (h .agree) (h .finMin) (h .finMax) (omega (arith, t)) in
+    let z = not-refused size top p m s v h f n in
     let q = record1 size (read c xs ys) (classOf zeroFloat v) in
     let ok = next-ok size top c xs ys (classOf zeroFloat v) (h .agree) w in
     let e : q ≡ record1 size p (classOf zeroFloat v) = ap (λ o. record1 size o (classOf zeroFloat v)) (h .rows) in
@@ -92,6 +95,27 @@ run-holds size top (v ∷ vs) p m s h g n =
     run-holds size top vs (record1 size p (classOf zeroFloat v)) (noted m v) (after (recording size top (s .head) (s .pos) (s .neg) v) s)
     (step size top p m s v h (g .0) (omega arith)) (g .1) (omega (arith, total-one size p (classOf zeroFloat v)))
 
+-- a series as a call leaves it that was accepted
+abbrev left : Series → Outcome
+left s = outcome (success (s .head)) (s .pos) (s .neg)
+
+-- the calls one after another, each given what the last one left
+abbrev pub called : ℕ → ℕ → Outcome → List Float → Outcome
+called size top = foldl (λ o v. next (o .answer) (λ h. recording size top h (o .pos) (o .neg) v) o)
+
+-- all are accepted
+pub run-called : (size top : ℕ) (vs : List Float) (p : Point) (m : Summary) (s : Series) → Holds size top p m s → All FiniteF64 vs → p .total + length vs < 2 ^ 64
+    → called size top (left s) vs ≡ left (runAll size top s vs)
+unfolding runAll All
+run-called size top [] p m s h g n = refl
+run-called size top (v ∷ vs) p m s h g n =
+    let o = recording size top (s .head) (s .pos) (s .neg) v in
+    let e = accepted-is size top (s .head) (s .pos) (s .neg) v (not-refused size top p m s v h (g .0) (omega arith)) in
+    let w : o ≡ left (after o s) = e ∙ ap (λ (x : Outcome). left (after x s)) (sym e) in
+    ap (λ (x : Outcome). called size top x vs) w
+    ∙ run-called size top vs (record1 size p (classOf zeroFloat v)) (noted m v) (after o s)
+    (step size top p m s v h (g .0) (omega arith)) (g .1) (omega (arith, total-one size p (classOf zeroFloat v)))
+
 -- ---- from the fresh series
 
 fin-min : finite (start .min) ≡ true
@@ -102,7 +126,7 @@ fin-max : finite (start .max) ≡ true
 unfolding ofBits
 fin-max = refl
 
-pub fresh-holds : (size top : ℕ) (xs ys : List ℕ) → leastSize ≤ size → size ≤ mostSize → top ≤ finest → size ≤ length xs → size ≤ length ys
+pub fresh-holds : (size top : ℕ) (xs ys : List ℕ) → 3 ≤ size → size ≤ mostSize → top ≤ finest → size ≤ length xs → size ≤ length ys
     → Holds size top (pointOf size (finest - top) []) start (record { head = freshHead top; pos = xs; neg = ys })
 unfolding row rowOf
 fresh-holds size top xs ys a b t p q =
@@ -128,7 +152,7 @@ fresh-holds size top xs ys a b t p q =
     }
 
 -- THE LAW. Recording a list from the fresh series: the point of the list, its extremes and its sum.
-pub run-is : (size top : ℕ) (xs ys : List ℕ) (vs : List Float) → leastSize ≤ size → size ≤ mostSize → top ≤ finest → size ≤ length xs → size ≤ length ys
+pub run-is : (size top : ℕ) (xs ys : List ℕ) (vs : List Float) → 3 ≤ size → size ≤ mostSize → top ≤ finest → size ≤ length xs → size ≤ length ys
     → All FiniteF64 vs → length vs < 2 ^ 64
     → Holds size top (countsOf size (finest - top) zeroFloat vs) (summaryOf vs) (runAll size top (record { head = freshHead top; pos = xs; neg = ys }) vs)
 run-is size top xs ys vs a b t p q g n =
@@ -137,3 +161,12 @@ run-is size top xs ys vs a b t p q g n =
     (recordAll-pointOf size (finest - top) [] (map (classOf zeroFloat) vs))
     (run-holds size top vs (pointOf size (finest - top) []) start (record { head = freshHead top; pos = xs; neg = ys })
     (fresh-holds size top xs ys a b t p q) g (omega (arith, ap (λ (o : Point). o .total) (PA.fresh size (finest - top)))))
+
+-- and each value is accepted
+pub all-called : (size top : ℕ) (xs ys : List ℕ) (vs : List Float) → 3 ≤ size → size ≤ mostSize → top ≤ finest → size ≤ length xs → size ≤ length ys
+    → All FiniteF64 vs → length vs < 2 ^ 64
+    → (let s = runAll size top (record { head = freshHead top; pos = xs; neg = ys }) vs in
+    called size top (outcome (success (freshHead top)) xs ys) vs ≡ outcome (success (s .head)) (s .pos) (s .neg))
+all-called size top xs ys vs a b t p q g n =
+    run-called size top vs (pointOf size (finest - top) []) start (record { head = freshHead top; pos = xs; neg = ys })
+    (fresh-holds size top xs ys a b t p q) g (omega (arith, ap (λ (o : Point). o .total) (PA.fresh size (finest - top))))

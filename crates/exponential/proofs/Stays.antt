@@ -12,7 +12,7 @@ use Rattle.points.proofs.Kept.{ValueIn, record-agrees}
 use Rattle.rows.specs.Rows.{over}
 use Rattle.rows.proofs.Laws.{take-over}
 use Rattle.exponential.specs.declared.Counts.{Counts}
-use Rattle.exponential.specs.Series.{leastSize, mostSize, lowestOfAll, agrees, read, countsFor}
+use Rattle.exponential.specs.Series.{mostSize, lowestOfAll, agrees, read, countsFor}
 use Rattle.exponential.proofs.Facts.{agreed, agreed-agrees}
 
 length-over-le : (q xs : List ℕ) → length q ≤ length (over q xs)
@@ -31,7 +31,7 @@ module _ (p : Point) (xs ys : List ℕ) where
         total = p .total;
       }
 
-  pub agrees-point : (size top : ℕ) → leastSize ≤ size → size ≤ mostSize → top ≤ finest → PA.Agreed size top lowestOfAll p
+  pub agrees-point : (size top : ℕ) → 3 ≤ size → size ≤ mostSize → top ≤ finest → PA.Agreed size top lowestOfAll p
       → agrees size top (countsFor p) (over (p .pos .counts) xs) (over (p .neg .counts) ys) ≡ true
   agrees-point size top a b t k =
       agreed-agrees size top (countsFor p) (over (p .pos .counts) xs) (over (p .neg .counts) ys)

@@ -3,10 +3,12 @@
 use Prim.Native.Nat.{ℕ, _+_, _-_, _/_, _%_, _^_, _≤_, _<_}
 use mathlib.Core.Path.{_≡_}
 use mathlib.Core.Bool.{Bool, true, false}
-use mathlib.Core.List.{List}
+use mathlib.Core.List.{List, [], _∷_}
 use lib.Dec.{leb, eqb}
 use lib.ListN.{length, take}
+use lib.Ieee.{Float}
 use Rattle.laws.specs.Pick.{_and_, pick}
+use Rattle.laws.specs.Said.{Said, refusal, success}
 use Rattle.laws.specs.Counting.{sum, total, mostCount}
 use Rattle.index.specs.Bins.{endBin}
 use Rattle.index.specs.declared.Bin.{Bin}
@@ -17,11 +19,12 @@ use Rattle.points.specs.Agreement as A
 use Rattle.rows.specs.Rows.{over, recorded, holds}
 use Rattle.rows.specs.declared.Row.{Row}
 use Rattle.exponential.specs.declared.Counts.{Counts}
+use Rattle.exponential.specs.declared.Head.{Head}
 use Rattle.exponential.specs.declared.Halves.{Halves}
 use Rattle.exponential.specs.declared.Class.{Class}
 use Rattle.exponential.specs.declared.Class.the-variants.{Naught, At}
 use Rattle.exponential.specs.Steps.{lowered, with1, needed}
-use Rattle.exponential.specs.Series.{agrees, countsFor, rowIn}
+use Rattle.exponential.specs.Series.{agrees, countsFor, rowIn, Outcome, recording}
 
 -- r and ys: the row q laid over the front of xs
 pub record Laid (q : P.Row) (xs : List ℕ) (r : Row) (ys : List ℕ) : Type 0 where
@@ -116,3 +119,23 @@ pub record Raised (a : Row) (bin : ℕ) (r : Bool) (xs ys xs' ys' : List ℕ) : 
 abbrev pub Tried : Bool → Row → Row → ℕ → Bool → List ℕ → List ℕ → List ℕ → List ℕ → Type 0
 Tried true a b bin r xs ys xs' ys' = Raised b bin r ys xs ys' xs'
 Tried false a b bin r xs ys xs' ys' = Raised a bin r xs ys xs' ys'
+
+-- ---- values recorded one after another, a refused one passed over
+
+-- a series: its head and both lent rows
+pub record Series : Type 0 where
+  pub head : Head
+  pub pos : List ℕ
+  pub neg : List ℕ
+
+-- what a call leaves of the series s
+abbrev pub headAfter : Said Head → Head → Head
+headAfter (success h) old = h
+headAfter (refusal n) old = old
+
+abbrev pub after : Outcome → Series → Series
+after o s = record { head = headAfter (o .answer) (s .head); pos = o .pos; neg = o .neg }
+
+unfoldable pub runAll : ℕ → ℕ → Series → List Float → Series
+runAll size top s [] = s
+runAll size top s (v ∷ vs) = runAll size top (after (recording size top (s .head) (s .pos) (s .neg) v) s) vs

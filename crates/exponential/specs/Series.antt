@@ -4,19 +4,18 @@ use mathlib.Core.Bool.{Bool}
 use mathlib.Core.List.{List}
 use lib.Dec.{leb, eqb}
 use lib.ListN.{length, take}
-use lib.Ieee.{Float, binary64, add}
+use lib.Ieee.{Float}
 use lib.Ieee.Scale.{finite}
 use Rattle.laws.specs.Pick.{pick, _and_}
 use Rattle.laws.specs.Said.{Said, refusal, success}
 use Rattle.laws.specs.Counting.{mostCount}
 use Rattle.index.specs.Bins.{finest, lowestBin}
-use Rattle.floats.specs.Answers.{lesserOf, greaterOf}
 use Rattle.floats.specs.Starts.{zeroFloat}
 use Rattle.points.specs.Points as P
 use Rattle.points.specs.Points.{Point, record1}
 use Rattle.points.specs.Agreement as A
-pub use Rattle.points.specs.Figures.{leastSize, mostSize}
-use Rattle.points.specs.Values.{classOf}
+pub use Rattle.points.specs.Figures.{mostSize, sizePasses}
+use Rattle.points.specs.Values.{classOf, Summary, noted}
 use Rattle.laws.specs.Over.{over}
 use Rattle.rows.specs.declared.Row.{Row}
 use Rattle.exponential.specs.declared.Counts.{Counts}
@@ -43,11 +42,14 @@ countsFor p =
       neg = record { start = p .neg .start; len = length (p .neg .counts) };
     }
 
--- ---- agreement
+-- a head of counts and of a minimum, a maximum and a sum
+abbrev pub headOf : Counts → Summary → Head
+headOf c s = record { counts = c; min = s .min; max = s .max; sum = s .sum }
 
--- number 1: "max_size outside 3 to 160"
-abbrev pub sizePasses : ℕ → Bool
-sizePasses size = leb leastSize size and leb size mostSize
+abbrev pub summary : Head → Summary
+summary h = record { min = h .min; max = h .max; sum = h .sum }
+
+-- ---- agreement
 
 -- the lowest of all bins, that of 2 ^ -1074 at the finest level
 abbrev pub lowestOfAll : ℕ
@@ -87,13 +89,9 @@ pub record Outcome : Type 0 where
 abbrev pub outcome : Said Head → List ℕ → List ℕ → Outcome
 outcome r xs ys = record { answer = r; pos = xs; neg = ys }
 
--- the head of the point p, one value after h
-abbrev pub headOf : Point → Head → Float → Head
-headOf p h v =
-    record { counts = countsFor p; min = lesserOf (h .min) v; max = greaterOf (h .max) v; sum = add binary64 (h .sum) v }
-
+-- the point p laid over the rows, with the head's minimum, maximum and sum one value on
 abbrev pub accepted : Point → Head → List ℕ → List ℕ → Float → Outcome
-accepted p h xs ys v = outcome (success (headOf p h v)) (over (p .pos .counts) xs) (over (p .neg .counts) ys)
+accepted p h xs ys v = outcome (success (headOf (countsFor p) (noted (summary h) v))) (over (p .pos .counts) xs) (over (p .neg .counts) ys)
 
 -- refused with a number, all as it was; or the point of what the series holds and the value, not above its level
 unfoldable pub recording : ℕ → ℕ → Head → List ℕ → List ℕ → Float → Outcome

@@ -10,7 +10,7 @@ ghost use Rattle.laws.specs.Counting.{total};
 ghost use Rattle.exponential.specs.Steps.{lowered};
 ghost use Rattle.laws.specs.Pick.{pick};
 ghost use Rattle.exponential.specs.Runs.{freshHead};
-ghost use Rattle.exponential.specs.Series.{mostSize, rowIn, agrees};
+ghost use Rattle.exponential.specs.Series.{mostSize, sizePasses, rowIn, agrees};
 ghost use Rattle.exponential.specs.Inner.{Laid, rowAgrees, halved, addsUp};
 ghost use Rattle.exponential.specs.Series.{refusalOf, said, outcome, recording};
 use rows::Row;
@@ -168,14 +168,21 @@ fn adds_up(c: Counts, pos: &[u64], neg: &[u64]) -> bool
     halves_add_up(c, pos, neg)
 }
 
-// Whether max_size, greatest level, counts and rows agree: `agrees`. It refuses nothing.
-pub fn counts_agree(size: usize, top: u32, c: Counts, pos: &[u64], neg: &[u64]) -> bool
-    ensures { λ r. ⌜ r ≡ agrees size top c (now (pos .entry)) (now (neg .entry)) ⌝ }
+// Whether a max_size could be configured: from 3 to 160.
+pub fn size_passes(size: usize) -> bool
+    ensures { λ r. ⌜ r ≡ sizePasses size ⌝ }
 {
     if size < 3 {
         return false;
     }
-    if 160 < size {
+    size <= 160
+}
+
+// Whether max_size, greatest level, counts and rows agree: `agrees`. It refuses nothing.
+pub fn counts_agree(size: usize, top: u32, c: Counts, pos: &[u64], neg: &[u64]) -> bool
+    ensures { λ r. ⌜ r ≡ agrees size top c (now (pos .entry)) (now (neg .entry)) ⌝ }
+{
+    if !size_passes(size) {
         return false;
     }
     if index::FINEST < top {

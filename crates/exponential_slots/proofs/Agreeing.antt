@@ -18,7 +18,7 @@ use Rattle.points.specs.Figures.{Kind, exponential, explicit, sizePasses, Count
 use Rattle.points.specs.Handed.{Handed, extremesAgree, countsAgree, handedAgrees}
 use Rattle.exponential.specs.Series.{lowestOfAll, read}
 use Rattle.exponential.specs.Series as S
-use Rattle.exponential.proofs.Facts.{agreed, agreed-agrees}
+use Rattle.exponential.proofs.Facts.{size-in, agreed, agreed-agrees}
 use Rattle.exponential.proofs.Write.{level-pow}
 use Rattle.kinds.specs.Histograms.{passes, countsHold}
 use Rattle.exponential_slots.specs.Cells.{countsIn, narrow}
@@ -88,8 +88,8 @@ pub record Accepted (size top : ℕ) : Type 0 where
 pub accepted-of : (size top : ℕ) → passes (exponential size top) ≡ true → Accepted size top
 accepted-of size top h =
     let a = and-true (sizePasses size) (leb top finest) h in
-    let b = and-true (leb 3 size) (leb size 160) (a .0) in
-    record { least = leb-true 3 size (b .0); most = leb-true size 160 (b .1); fine = leb-true top finest (a .1) }
+    let b = size-in size (a .0) in
+    record { least = b .0; most = b .1; fine = leb-true top finest (a .1) }
 
 -- ---- both sides of the law
 

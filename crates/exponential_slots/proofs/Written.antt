@@ -16,7 +16,7 @@ use Rattle.floats.specs.Starts.{zeroFloat}
 use Rattle.rows.specs.Rows.{over}
 use Rattle.rows.proofs.Laws.{length-over}
 use Rattle.points.specs.Points.{Point, record1}
-use Rattle.points.specs.Values.{classOf, Summary}
+use Rattle.points.specs.Values.{classOf, Summary, noted}
 use Rattle.points.specs.Figures.{exponential, Counts, exponentialCounts, Figures, recordFigures}
 use Rattle.points.proofs.Agreement.{Agreed}
 use Rattle.exponential.specs.declared.Head.{Head}
@@ -143,7 +143,7 @@ module _ (size top x : ℕ) (s : Cells) (v : Float) (g : Fit size top x s v) (h 
         let lp : length ps ≡ size = length-over (next .pos .counts) xs (omega (arith, ok .pos .short, long-pos)) ∙ long-pos in
         let lq : length qs ≡ size = length-over (next .neg .counts) ys (omega (arith, ok .neg .short, long-neg)) ∙ long-neg in
         let t = total-one size (read (h .counts) xs ys) (classOf zeroFloat v) in
-        let o = headOf next h v in
+        let o = headOf (countsFor next) (noted (summary h) v) in
         rw (accepted-is size top h xs ys v z)
         (record {
           no = refl;

@@ -11,7 +11,7 @@ use lib.Ieee.{Float, nan}
 use Rattle.laws.proofs.Differences.{le-or-lt}
 use Rattle.exponential.specs.declared.Head.{Head}
 use Rattle.exponential.specs.Series.{Outcome, recording}
-use Rattle.exponential.specs.Runs.{Series, after, headAfter, runAll}
+use Rattle.exponential.specs.Inner.{Series, after, headAfter, runAll}
 
 module _ (size top : ℕ) (s : Series) (vs : List Float) (i : ℕ) where
   pub turn : (o : Outcome) (h : Head) → i < 1000000 → i < length vs

@@ -2,7 +2,7 @@
 ghost use mathlib.Core.Path.{_≡_};
 ghost use Prim.Native.Nat.{min};
 ghost use Rattle.exponential.specs.Series.{said};
-ghost use Rattle.exponential.specs.Runs.{headAfter};
+ghost use Rattle.exponential.specs.Inner.{headAfter};
 ghost use Rattle.exports.specs.Exports.{recorded};
 use exponential::Answer;
 use exponential::Head;

@@ -11,14 +11,15 @@ use Rattle.floats.specs.Starts.{zeroFloat}
 use Rattle.floats.specs.declared.Extreme.the-variants.{None, Value}
 use Rattle.points.specs.Explicit.{bucketOf, bucketsOf, recordBucket, bucketsAgree, boundsPass, noNan, rising, mergeBuckets, added, sameBounds}
 use Rattle.points.specs.Figures.{explicit, explicitCounts}
-use Rattle.points.specs.Handed.{Handed, mergeable, mergeHanded, handedAgrees}
+use Rattle.points.specs.Handed.{Handed, mergeable, mergeHanded, handedAgrees, unmergeable}
 use Rattle.tally.specs.Sets.{Set}
 use Rattle.tally.specs.Kind.{Room}
 use Rattle.tally.specs.Map.{Config, measure, collect, refuse, done, listed}
 use Rattle.tally.proofs.MapSteps.{upfront, act, place, measureAt}
 use Rattle.tally.specs.Demand.{ran}
 use Rattle.tally.proofs.Example.{model}
-use Rattle.kinds.specs.Histograms.{histograms, merged}
+use Rattle.kinds.specs.Histograms.{histograms}
+use Rattle.kinds.proofs.Merges.{merged}
 
 abbrev f : ℕ → Float
 f bits = ofBits binary64 bits
@@ -69,18 +70,18 @@ unfolding upfront act place measureAt recordBucket bucketOf bucketsOf bucketsAgr
 example = refl
 
 together : merged 0 first second (room 3) ≡ inr (point (1 ∷ 1 ∷ 1 ∷ []) 3 less seven (f 0x4026_0000_0000_0000))
-unfolding mergeable mergeHanded mergeBuckets added handedAgrees bucketsAgree boundsPass sameBounds noNan rising _and_ isNan lt eq add round ofBits pick
+unfolding merged unmergeable mergeable mergeHanded mergeBuckets added handedAgrees bucketsAgree boundsPass sameBounds noNan rising _and_ isNan lt eq add round ofBits pick
 together = refl
 
 -- one place too few; a point whose counts do not total its count; one without extremes
 no-room : merged 0 first second (room 2) ≡ inl 10
-unfolding mergeable mergeHanded mergeBuckets added handedAgrees bucketsAgree boundsPass sameBounds noNan rising _and_ isNan lt eq ofBits pick
+unfolding merged unmergeable mergeable mergeHanded mergeBuckets added handedAgrees bucketsAgree boundsPass sameBounds noNan rising _and_ isNan lt eq ofBits pick
 no-room = refl
 
 damaged : merged 0 first (point (1 ∷ 0 ∷ 0 ∷ []) 2 less less less) (room 3) ≡ inl 8
-unfolding handedAgrees bucketsAgree boundsPass noNan rising _and_ isNan lt ofBits pick
+unfolding merged unmergeable handedAgrees bucketsAgree boundsPass noNan rising _and_ isNan lt ofBits pick
 damaged = refl
 
 switched : merged 0 first (record { counts = second .counts; extremes = false; threshold = zeroFloat; min = None; max = None; sum = less }) (room 3) ≡ inl 11
-unfolding mergeable handedAgrees bucketsAgree boundsPass sameBounds noNan rising _and_ isNan lt eq ofBits pick
+unfolding merged unmergeable mergeable handedAgrees bucketsAgree boundsPass sameBounds noNan rising _and_ isNan lt eq ofBits pick
 switched = refl

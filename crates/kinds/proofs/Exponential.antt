@@ -16,14 +16,15 @@ use Rattle.points.specs.Points.{Point, Row, row, rowOf, indices, fitsBoth, scal
 use Rattle.points.specs.Values.{classOf}
 use Rattle.points.specs.Agreement.{rowAgrees, agrees}
 use Rattle.points.specs.Figures.{exponential, exponentialCounts}
-use Rattle.points.specs.Handed.{Handed, mergeable, mergeHanded, handedAgrees}
+use Rattle.points.specs.Handed.{Handed, mergeable, mergeHanded, handedAgrees, unmergeable}
 use Rattle.tally.specs.Sets.{Set}
 use Rattle.tally.specs.Kind.{Room}
 use Rattle.tally.specs.Map.{Config, measure, collect, refuse, done, listed}
 use Rattle.tally.proofs.MapSteps.{upfront, act, place, measureAt}
 use Rattle.tally.specs.Demand.{ran}
 use Rattle.tally.proofs.Example.{model}
-use Rattle.kinds.specs.Histograms.{histograms, merged}
+use Rattle.kinds.specs.Histograms.{histograms}
+use Rattle.kinds.proofs.Merges.{merged}
 
 abbrev f : ℕ → Float
 f bits = ofBits binary64 bits
@@ -70,17 +71,18 @@ together : merged 4 first second (room 3 1)
     ≡ inr (point
     (record { d = 10; pos = record { start = 2047; counts = 2 ∷ 1 ∷ 1 ∷ [] }; neg = record { start = 2047; counts = 1 ∷ [] }; zeros = 1; total = 6 })
     (f 0xbff0_0000_0000_0000) (f 0x4008_0000_0000_0000) (f 0x4018_0000_0000_0000))
-unfolding mergeable mergeHanded handedAgrees agrees rowAgrees merge bag indices build scale fitsBoth P.fits row rowOf hit pick _and_ lt add round ofBits
+unfolding merged unmergeable mergeable mergeHanded handedAgrees agrees rowAgrees merge bag indices build scale fitsBoth P.fits row rowOf hit pick _and_ lt add round ofBits
 together = refl
 
 -- each row is asked against its own lent store; and under max_size 2
 positive : merged 4 first second (room 2 9) ≡ inl 10
-unfolding mergeable mergeHanded handedAgrees agrees rowAgrees merge bag indices build scale fitsBoth P.fits row rowOf hit pick _and_ lt ofBits
+unfolding merged unmergeable mergeable mergeHanded handedAgrees agrees rowAgrees merge bag indices build scale fitsBoth P.fits row rowOf hit pick _and_ lt ofBits
 positive = refl
 
 negative : merged 4 first second (room 9 0) ≡ inl 10
-unfolding mergeable mergeHanded handedAgrees agrees rowAgrees merge bag indices build scale fitsBoth P.fits row rowOf hit pick _and_ lt ofBits
+unfolding merged unmergeable mergeable mergeHanded handedAgrees agrees rowAgrees merge bag indices build scale fitsBoth P.fits row rowOf hit pick _and_ lt ofBits
 negative = refl
 
 narrow : merged 2 first second (room 9 9) ≡ inl 1
+unfolding merged unmergeable pick _and_
 narrow = refl

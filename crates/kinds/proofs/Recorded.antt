@@ -11,6 +11,7 @@ use lib.Ieee.Scale.{finite}
 use borrow.Author.Tests.{leb-true}
 use Rattle.laws.specs.Lists.{All}
 use Rattle.laws.specs.Tests.{all}
+use Rattle.laws.proofs.Bools.{and-left}
 use Rattle.laws.proofs.Cases.{and-true, true-not-false}
 use Rattle.laws.proofs.Lists.{all-append}
 use Rattle.index.specs.Bins.{finest, lowestBin}
@@ -47,7 +48,7 @@ one-f64 v h = (h, tt)
 -- ---- settings that configuring accepts, and the counts of a list under them
 pub sound-kind : (k : Kind) → passes k ≡ true → Sound k
 sound-kind (exponential size top) e =
-    leb-true 3 size (and-true (leb 3 size) (leb size 160) (and-true (sizePasses size) (leb top finest) e .0) .0)
+    leb-true 3 size (and-left (leb 3 size) (leb size 160) (and-true (sizePasses size) (leb top finest) e .0))
 sound-kind (explicit bounds) e = e
 
 counts-hold : (k : Kind) (t : Float) (vs : List Float) → Sound k → All FiniteF64 vs → countsHold k (kindCounts k t vs) ≡ true

@@ -2,7 +2,7 @@
 use Prim.Native.Nat.{ℕ}
 use mathlib.Core.Path.{_≡_, sym}
 use mathlib.Core.List.{[]}
-use mathlib.Core.Bool.{Bool, true, false, Bool·beq, _&&_, _||_}
+use mathlib.Core.Bool.{Bool, true, false, Bool·beq, _&&_}
 use lib.Dec.{leb}
 use lib.Ieee.{Float, binary64, fits}
 use lib.Ieee.Scale.{finite}
@@ -19,14 +19,14 @@ use Rattle.points.specs.Points.{merge, record1}
 use Rattle.points.specs.Values.{classOf}
 use Rattle.points.specs.Explicit.{recordBucket, mergeBuckets}
 use Rattle.points.specs.Figures.{Kind, exponential, explicit, sizePasses, Settings, Counts, exponentialCounts, explicitCounts, Figures, recordCounts, recordFigures}
-use Rattle.points.specs.Handed.{Handed, sameKind, mergeable, mergeCounts, mergeHanded, extremesAgree, countsAgree, handedAgrees}
+use Rattle.points.specs.Handed.{Handed, sameKind, mergeable, mergeCounts, mergeHanded, extremesAgree, countsAgree, handedAgrees, sizeAsked}
 use Rattle.points.proofs.Agreement.{agrees-says, agreed-agrees}
 use Rattle.points.proofs.Kept.{record-agrees, merge-agrees}
 use Rattle.points.proofs.Classes.{class-in}
 use Rattle.points.proofs.Explicit.{buckets-say, buckets-agree, record-buckets-ok, merge-buckets-ok}
 use Rattle.points.proofs.Bounds.{same-count}
 use Rattle.tally.proofs.Sound.{Steady}
-use Rattle.kinds.specs.Histograms.{passes, countsHold, histograms, bothExplicit}
+use Rattle.kinds.specs.Histograms.{passes, countsHold, histograms}
 use Rattle.kinds.proofs.Recorded.{f64, sound-kind, lawful}
 
 abbrev low : ℕ
@@ -66,11 +66,11 @@ histograms-steady =
     }
 
 -- ---- POINTS THAT AGREE AND MERGE MAKE ONE THAT AGREES
-counts-merged : (size : ℕ) (c d : Counts) → (bothExplicit c d || sizePasses size) ≡ true → sameKind c d ≡ true
+counts-merged : (size : ℕ) (c d : Counts) → sizeAsked size c d ≡ true → sameKind c d ≡ true
     → countsAgree size finest low c ≡ true → countsAgree size finest low d ≡ true → countsAgree size finest low (mergeCounts size c d) ≡ true
 counts-merged size (exponentialCounts p) (exponentialCounts q) s e h k =
     agreed-agrees size finest low (merge size p q)
-    (merge-agrees size size size finest finest low p q (leb-true 3 size (and-true (leb 3 size) (leb size 160) s .0))
+    (merge-agrees size size size finest finest low p q (leb-true 3 size (and-left (leb 3 size) (leb size 160) s))
     (agrees-says size finest low p h) (agrees-says size finest low q k))
 counts-merged size (exponentialCounts p) (explicitCounts c q) s e h k = h
 counts-merged size (explicitCounts b p) (exponentialCounts q) s e h k = h
@@ -89,7 +89,7 @@ extremes-merged (Value x) (Value y) (Value z) (Value w) h k =
     (finite-chosen true x z (and-left (finite x) (finite y) h) (and-left (finite z) (finite w) k))
     (finite-chosen false y w (and-right (finite x) (finite y) h) (and-right (finite z) (finite w) k))
 
-pub merged-agrees : (size : ℕ) (p q : Handed) → (bothExplicit (p .counts) (q .counts) || sizePasses size) ≡ true → mergeable p q ≡ true
+pub merged-agrees : (size : ℕ) (p q : Handed) → sizeAsked size (p .counts) (q .counts) ≡ true → mergeable p q ≡ true
     → handedAgrees size finest low p ≡ true → handedAgrees size finest low q ≡ true → handedAgrees size finest low (mergeHanded size p q) ≡ true
 unfolding mergeable handedAgrees mergeHanded
 merged-agrees size p q s e h k =

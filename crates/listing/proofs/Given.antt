@@ -12,7 +12,7 @@ use Rattle.floats.specs.Answers.{shownOf}
 use Rattle.floats.specs.Starts.{zeroFloat}
 use Rattle.exponential.specs.declared.Head as SH
 use Rattle.explicit.specs.declared.Head as BH
-use Rattle.point.specs.Handing.{shownSum, exponentialPoint, explicitPoint}
+use Rattle.point.specs.Handing.{exponentialPoint, explicitPoint}
 use Rattle.point.specs.declared.Point.{Point}
 use Rattle.listing.specs.Words.{isShown}
 use Rattle.listing.specs.Listed.{posLen, negLen, itemOf}
@@ -28,7 +28,7 @@ shown-alike : (s : Bool) (x y : Float) → isShown (shownOf s x) ≡ isShown (sh
 shown-alike true x y = refl
 shown-alike false x y = refl
 
-sum-fits : (s : Bool) (x : Float) → fits binary64 x ≡ true → fits binary64 (shownSum s x) ≡ true
+sum-fits : (s : Bool) (x : Float) → fits binary64 x ≡ true → fits binary64 (pick s x zeroFloat) ≡ true
 unfolding pick
 sum-fits true x h = h
 sum-fits false x h = is-true (fits binary64 zeroFloat) (ofBits-fits binary64 0)

@@ -7,30 +7,25 @@ use mathlib.Core.List.{List}
 use native.Mathlib.Omega.{arith}
 use lib.Dec.{leb}
 use lib.ListN.{length}
-use lib.Ieee.{Float}
 use borrow.Author.Tests.{le-leb}
 use Rattle.laws.specs.Pick.{pick, _and_}
 use Rattle.laws.specs.Said.{Said, success}
-use Rattle.laws.proofs.Bools.{not-both, and-left, and-right, and-intro}
+use Rattle.laws.proofs.Bools.{not-both, and-left, and-intro}
 use Rattle.index.specs.Bins.{finest, lowestBin}
 use Rattle.points.specs.Points.{build, bag, merge}
 use Rattle.points.specs.Explicit.{sameBounds, bucketCount, mergeBuckets}
 use Rattle.points.specs.Figures as F
 use Rattle.points.specs.Figures.{Kind, exponential, explicit, Settings, exponentialCounts, explicitCounts}
-use Rattle.points.specs.Handed.{Handed, sameKind, mergeable, mergeCounts, mergeHanded, extremesAgree, countsAgree, handedAgrees, countOf}
+use Rattle.points.specs.Handed.{Handed, sameKind, mergeable, mergeCounts, mergeHanded, extremesAgree, countsAgree, handedAgrees, countOf, sizeAsked, unmergeable}
 use Rattle.points.specs.Same.{Shape, Of, resized}
 use Rattle.points.proofs.Agreement.{agrees-says}
 use Rattle.points.proofs.Explicit.{buckets-say, same-bounds}
 use Rattle.points.proofs.Grouping.{handed-commutes}
 use Rattle.kinds.proofs.Steady.{merged-agrees}
-use Rattle.point.specs.declared.Figures.{Figures}
-use Rattle.point.specs.declared.Figures.the-variants.{Exponential, Explicit}
-use Rattle.point.specs.Handing.{Stored, countsAs, handedIn, refusalBefore}
-use Rattle.point.specs.Lists.{inShape, counted, Long}
-use Rattle.point.proofs.Means.{sizeFor, agreesRead, agrees-is, agrees-whole, sizeAsked, refusalRead, count-is, refusal-is}
+use Rattle.point.specs.Handing.{Stored, countsIn, handedIn, refusalBefore}
+use Rattle.point.specs.Lists.{Configured, Long}
 use Rattle.point.proofs.Answers.{hasRoom, answers}
 use Rattle.merging.specs.Merged.{Good, mergedStored}
-use Rattle.merging.proofs.Tied.{size-is}
 use Rattle.laws.specs.Counting.{mostCount}
 
 abbrev pub low : ℕ
@@ -67,60 +62,31 @@ roomy size (explicit b) (explicitCounts c p) us vs h a l =
     (le-leb 0 (length vs) (omega arith))
 
 -- ---- the size, by the kind
-module _ (size : ℕ) (k : Kind) (bs : List Float) (xs ys : List ℕ) (cs : List Float) (zs ws : List ℕ) where
-  size-asked : (f g : Figures) → Shape k (countsAs f bs xs ys) → Shape k (countsAs g cs zs ws) → sizeFor size f ≡ true
-      → sizeAsked size (countsAs f bs xs ys) (countsAs g cs zs ws) ≡ true
-  size-asked (Exponential c) g h j e = e
-  size-asked (Explicit n) (Explicit m) h j e = refl
-  size-asked (Explicit n) (Exponential d) h j e = absurd (mixed k h j)
-    where
-      mixed : (k : Kind) → Shape k (countsAs (Explicit n) bs xs ys) → Shape k (countsAs (Exponential d) cs zs ws) → ⊥
-      mixed (exponential m top) h j = h
-      mixed (explicit b) h j = j
-
-  size-same : (f g : Figures) → Shape k (countsAs f bs xs ys) → Shape k (countsAs g cs zs ws) → sizeFor size f ≡ true → sizeFor size g ≡ true
-  size-same (Exponential c) (Exponential d) h j e = e
-  size-same (Exponential c) (Explicit m) h j e = refl
-  size-same (Explicit n) (Explicit m) h j e = refl
-  size-same (Explicit n) (Exponential d) h j e = absurd (mixed k h j)
-    where
-      mixed : (k : Kind) → Shape k (countsAs (Explicit n) bs xs ys) → Shape k (countsAs (Exponential d) cs zs ws) → ⊥
-      mixed (exponential m top) h j = h
-      mixed (explicit b) h j = j
+size-asked : (size : ℕ) (k : Kind) (c d : F.Counts) → Configured (resized size k) → Shape k c → Shape k d → sizeAsked size c d ≡ true
+size-asked size (exponential m top) (exponentialCounts p) d e h j = e
+size-asked size (exponential m top) (explicitCounts b p) d e h j = absurd h
+size-asked size (explicit b) (exponentialCounts p) d e h j = absurd h
+size-asked size (explicit b) (explicitCounts c p) (exponentialCounts q) e h j = absurd j
+size-asked size (explicit b) (explicitCounts c p) (explicitCounts d q) e h j = refl
 
 beq-same : (a b : Bool) → a ≡ b → Bool·beq a b ≡ true
 beq-same true b e = ap (Bool·beq true) (sym e)
 beq-same false b e = ap (Bool·beq false) (sym e)
 
 -- ---- what a good point is known to be
-module _ (size : ℕ) (s : Settings) (x : Stored) (g : Good size s x) where
-  both : (sizeFor size (x .point .figures) and inShape x) and agreesRead size (handedIn x) ≡ true
-  both = sym (agrees-is size x) ∙ g .agree
-
-  front : sizeFor size (x .point .figures) and inShape x ≡ true
-  front = and-left (sizeFor size (x .point .figures) and inShape x) (agreesRead size (handedIn x)) both
-
-  size-ok : sizeFor size (x .point .figures) ≡ true
-  size-ok = and-left (sizeFor size (x .point .figures)) (inShape x) front
-
-  shape-ok : inShape x ≡ true
-  shape-ok = and-right (sizeFor size (x .point .figures)) (inShape x) front
-
-  pub reads-ok : agreesRead size (handedIn x) ≡ true
-  reads-ok = and-right (sizeFor size (x .point .figures) and inShape x) (agreesRead size (handedIn x)) both
-
-  pub counts-ok : countsAgree size finest low (handedIn x .counts) ≡ true
-  unfolding handedAgrees
-  counts-ok = and-left (countsAgree size finest low (handedIn x .counts)) (extremesAgree (x .point .min) (x .point .max)) reads-ok
+pub counts-ok : (size : ℕ) (s : Settings) (x : Stored) → Good size s x → countsAgree size finest low (handedIn x .counts) ≡ true
+unfolding handedAgrees
+counts-ok size s x g = and-left (countsAgree size finest low (handedIn x .counts)) (extremesAgree (x .point .min) (x .point .max)) (g .agree)
 
 -- what a merge leaves: a good point of both counts
 pub record Left (size : ℕ) (s : Settings) (n : ℕ) (o : Said Stored) : Type 0 where
   pub left : Stored
   pub is : o ≡ success left
   pub good : Good size s left
-  pub count : counted left ≡ n
+  pub count : countOf (countsIn left) ≡ n
 
-module _ (size : ℕ) (s : Settings) (x y : Stored) (g : Good size s x) (h : Good size s y) (few : counted x + counted y ≤ mostCount) (us vs : List ℕ) (long : Long (resized size (s .kind)) us vs) where
+module _ (size : ℕ) (s : Settings) (sized : Configured (resized size (s .kind))) (x y : Stored) (g : Good size s x) (h : Good size s y)
+    (few : countOf (countsIn x) + countOf (countsIn y) ≤ mostCount) (us vs : List ℕ) (long : Long (resized size (s .kind)) us vs) where
   abbrev p : Handed
   p = handedIn x
 
@@ -137,13 +103,11 @@ module _ (size : ℕ) (s : Settings) (x y : Stored) (g : Good size s x) (h : Goo
       (beq-same (p .extremes) (q .extremes) (g .of .extremes ∙ sym (h .of .extremes)))
 
   asked : sizeAsked size (p .counts) (q .counts) ≡ true
-  asked =
-      size-asked size (s .kind) (x .bounds) (x .pos) (x .neg) (y .bounds) (y .pos) (y .neg) (x .point .figures) (y .point .figures)
-      (g .of .shape) (h .of .shape) (size-ok size s x g)
+  asked = size-asked size (s .kind) (p .counts) (q .counts) sized (g .of .shape) (h .of .shape)
 
   agree : handedAgrees size finest low (mergeHanded size p q) ≡ true
   agree =
-      merged-agrees size p q (sym (size-is size (p .counts) (q .counts)) ∙ asked) can (reads-ok size s x g) (reads-ok size s y h)
+      merged-agrees size p q asked can (g .agree) (h .agree)
 
   of : Of s (mergeHanded size p q)
   of = handed-commutes size s .kept p q (g .of) (h .of)
@@ -154,36 +118,27 @@ module _ (size : ℕ) (s : Settings) (x y : Stored) (g : Good size s x) (h : Goo
       roomy size (s .kind) (mergeCounts size (p .counts) (q .counts)) us vs (of .shape)
       (and-left (countsAgree size finest low (mergeCounts size (p .counts) (q .counts))) (extremesAgree (mergeHanded size p q .min) (mergeHanded size p q .max)) agree) long
 
-  fit : leb (countOf (p .counts) + countOf (q .counts)) mostCount ≡ true
-  fit =
-      (λ t. leb (sym (count-is x) t + sym (count-is y) t) mostCount) ∙ le-leb (counted x + counted y) mostCount few
-
   free : refusalBefore size x y ≡ 0
-  unfolding refusalRead pick _and_
+  unfolding refusalBefore unmergeable pick _and_
   free =
-      refusal-is size x y
-      ∙ (λ t. pick (asked t) (pick ((shape-ok size s x g t and shape-ok size s y h t) and reads-ok size s x g t and reads-ok size s y h t) (pick (can t) (pick (fit t) 0 9) 11) 8) 1)
+      let n : leb (countOf (p .counts) + countOf (q .counts)) mostCount ≡ true = le-leb (countOf (p .counts) + countOf (q .counts)) mostCount few in
+      λ t. pick (asked t) (pick ((g .shape t and h .shape t) and g .agree t and h .agree t) (pick (can t) (pick (n t) 0 9) 11) 8) 1
 
-  sum-is : countOf (mergeHanded size p q .counts) ≡ counted x + counted y
+  sum-is : countOf (mergeHanded size p q .counts) ≡ countOf (countsIn x) + countOf (countsIn y)
   unfolding mergeHanded
-  sum-is =
-      merged-count size (p .counts) (q .counts) alike
-      ∙ (λ t. sym (count-is x) t + sym (count-is y) t)
+  sum-is = merged-count size (p .counts) (q .counts) alike
 
-  pub merges : Left size s (counted x + counted y) (mergedStored size us vs x y)
+  pub merges : Left size s (countOf (countsIn x) + countOf (countsIn y)) (mergedStored size us vs x y)
   merges =
       let m = answers size x y free us vs room in
       let z = m .left in
-      let o : Of s (handedIn z) = subst (Of s) (sym (m .reads)) of in
       record {
         left = z;
         is = ap (λ o. o .answer) (m .is);
         good = record {
-          agree = agrees-whole size z
-              (size-same size (s .kind) (x .bounds) (x .pos) (x .neg) (z .bounds) (z .pos) (z .neg) (x .point .figures) (z .point .figures) (g .of .shape) (o .shape) (size-ok size s x g))
-              (m .shape)
-              ∙ subst (λ r. agreesRead size r ≡ true) (sym (m .reads)) agree;
-          of = o;
+          shape = m .shape;
+          agree = subst (λ r. handedAgrees size finest low r ≡ true) (sym (m .reads)) agree;
+          of = subst (Of s) (sym (m .reads)) of;
         };
-        count = count-is z ∙ ap (λ r. countOf (r .counts)) (m .reads) ∙ sum-is;
+        count = ap (λ r. countOf (r .counts)) (m .reads) ∙ sum-is;
       }

@@ -20,8 +20,8 @@ use Rattle.points.proofs.Summaries.{extreme-finite}
 use Rattle.point.specs.declared.Figures.the-variants.{Exponential, Explicit}
 use Rattle.point.specs.Handing.{Stored, handedIn}
 use Rattle.point.specs.Lists.{PointOf}
+use Rattle.point.proofs.Answers.{merged-reads}
 use Rattle.merging.specs.Merged.{Good, AtTop, mergedStored}
-use Rattle.merging.proofs.Groups.{merged-reads}
 use Rattle.merging.proofs.Accepted.{low, counts-ok}
 
 shape-of : (k : Kind) (t : Float) (vs : List Float) → Shape k (kindCounts k t vs)
@@ -54,11 +54,11 @@ module _ (size : ℕ) (s : Settings) (top : AtTop (s .kind)) (f y : Stored) (non
 
   -- merged with another, and another with it
   pub fresh-first : (z : Stored) (us vs : List ℕ) → mergedStored size us vs f y ≡ success z → Same (handedIn z) (handedIn y)
-  fresh-first z us vs e = subst (λ h. Same h (handedIn y)) (sym (merged-reads size f y z us vs e)) same
+  fresh-first z us vs e = subst (λ h. Same h (handedIn y)) (sym (merged-reads size f y z us vs e .0)) same
 
   pub fresh-second : (z : Stored) (us vs : List ℕ) → mergedStored size us vs y f ≡ success z → Same (handedIn z) (handedIn y)
   fresh-second z us vs e =
       let c = handed-commutes size s in
       let o : Of s (handedIn f) = subst (Of s) (sym (none .is)) (of-list s [] (none .values)) in
-      subst (λ h. Same h (handedIn y)) (sym (merged-reads size y f z us vs e))
+      subst (λ h. Same h (handedIn y)) (sym (merged-reads size y f z us vs e .0))
       (c .then (mergeHanded size (handedIn y) (handedIn f)) (mergeHanded size (handedIn f) (handedIn y)) (handedIn y) (c .comm (handedIn y) (handedIn f) (g .of) o) same)

@@ -1,5 +1,4 @@
 -- The laws of merging by code.
-pub mod Tied
 pub mod Groups
 pub mod Accepted
 pub mod Orders

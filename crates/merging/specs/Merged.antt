@@ -1,26 +1,21 @@
 -- Points as they are stored, merged by `point::merge`, by any grouping. Assumes nothing.
-use Prim.Native.Nat.{ℕ, _+_}
+use Prim.Native.Nat.{ℕ}
 use mathlib.Core.Path.{_≡_}
 use mathlib.Core.Bool.{true}
-use mathlib.Core.List.{List, foldr}
-use lib.ListN.{length}
+use mathlib.Core.List.{List}
 use Rattle.laws.specs.Said.{Said, success}
 use Rattle.laws.specs.Trees.{Tree, leaf, node}
-use Rattle.index.specs.Bins.{finest}
+use Rattle.index.specs.Bins.{finest, lowestBin}
 use Rattle.points.specs.Figures.{Kind, exponential, explicit, Settings}
+use Rattle.points.specs.Handed.{handedAgrees}
 use Rattle.points.specs.Same.{Of}
-use Rattle.tally.specs.Kind.{Room}
-use Rattle.point.specs.Handing.{Stored, handedIn, pointAgrees, merging}
-use Rattle.point.specs.Lists.{counted}
+use Rattle.point.specs.Handing.{Stored, handedIn, inShape, merging}
 
 -- a point of the settings that agrees under the max_size
 pub record Good (size : ℕ) (s : Settings) (x : Stored) : Type 0 where
-  pub agree : pointAgrees size x ≡ true
+  pub shape : inShape x ≡ true
+  pub agree : handedAgrees size finest (lowestBin finest) (handedIn x) ≡ true
   pub of : Of s (handedIn x)
-
--- the counts together
-abbrev pub allCounted : List Stored → ℕ
-allCounted xs = foldr (λ x n. counted x + n) 0 xs
 
 -- "at the greatest allowed scale" (request L14)
 abbrev pub AtTop : Kind → Type 0
@@ -30,10 +25,6 @@ AtTop (explicit bounds) = Unit {0}
 -- two points merged under a max_size into the lent rows us and vs: what `point::merge` answers
 abbrev pub mergedStored : ℕ → List ℕ → List ℕ → Stored → Stored → Said Stored
 mergedStored size us vs x y = merging size x y us vs .answer
-
--- lent output for one point
-abbrev pub roomOf : List ℕ → List ℕ → Room
-roomOf us vs = record { points = 1; pos = length us; neg = length vs }
 
 -- ---- by any grouping: z is what merging the leaves two by two has left, whatever rows were lent to each merge
 abbrev pub Groups : ℕ → Tree Stored → Stored → Type 0

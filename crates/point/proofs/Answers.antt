@@ -1,29 +1,29 @@
--- What a merge answers is the merge of the points read, and merged points of values stand for the values joined. Assumes nothing.
-use Prim.Native.Nat.{ℕ, _+_, _-_, _≤_}
-use mathlib.Core.Path.{_≡_, refl, ap, sym, subst, _∙_}
+-- What an accepted merge leaves is the merge of the points read, in shape. Assumes nothing.
+use Prim.Native.Nat.{ℕ, _+_, _-_, _≤_, _<_}
+use mathlib.Core.Path.{_≡_, refl, ap, sym, _∙_}
 use mathlib.Core.Bool.{Bool, true, false}
-use mathlib.Core.List.{List, _++_}
+use mathlib.Core.List.{List}
+use mathlib.Core.Logic.{⊎-elim}
+use native.Mathlib.Nat.{eq-zero-or-pos}
 use native.Mathlib.Omega.{arith}
 use lib.Dec.{leb}
 use lib.ListN.{length, take, drop, length-append}
-use lib.Ieee.{Float, binary64, add}
-use borrow.Author.Tests.{leb-true, le-leb}
+use lib.Ieee.{Float}
+use borrow.Author.Tests.{le-leb, eq-eqb}
 use Rattle.laws.specs.Pick.{pick, _and_}
-use Rattle.laws.specs.Said.{refusal, success}
-use Rattle.laws.proofs.Bools.{and-left, and-intro}
+use Rattle.laws.specs.Said.{Said, refusal, success}
+use Rattle.laws.proofs.Bools.{flag}
 use Rattle.index.specs.Bins.{finest}
-use Rattle.floats.specs.Answers.{smallerOf, largerOf}
 use Rattle.floats.specs.Starts.{zeroFloat}
 use Rattle.rows.specs.Rows.{over}
 use Rattle.rows.proofs.Laws.{take-over}
 use Rattle.points.specs.Explicit.{bucketCount, added, mergeBuckets}
 use Rattle.points.specs.Figures as F
-use Rattle.points.specs.Figures.{Kind, exponential, explicit, sizeOf, Settings, exponentialCounts, explicitCounts, kindCounts}
-use Rattle.points.specs.Handed.{Handed, mergeCounts, mergeHanded, countOf}
-use Rattle.points.specs.Stands.{Stands}
+use Rattle.points.specs.Figures.{Kind, exponential, explicit, exponentialCounts, explicitCounts}
+use Rattle.points.specs.Handed.{Handed, mergeCounts, mergeHanded, posOf, negOf}
 use Rattle.points.proofs.Kept.{merge-agrees}
 use Rattle.points.proofs.Explicit.{buckets-say, merge-buckets-ok}
-use Rattle.points.proofs.Stands.{Sound, stands-merge, stands-agrees, stands-mergeable}
+use Rattle.points.proofs.Stands.{Sound}
 use Rattle.exponential.specs.declared.Counts.{Counts}
 use Rattle.exponential.specs.Series.{lowestOfAll, read}
 use Rattle.exponential.proofs.Facts as Facts
@@ -31,13 +31,10 @@ use Rattle.exponential.proofs.Stays.{read-point}
 use Rattle.explicit.specs.Series.{bucketsIn}
 use Rattle.point.specs.declared.Figures.{Figures}
 use Rattle.point.specs.declared.Figures.the-variants.{Exponential, Explicit}
-use Rattle.point.specs.declared.Made.the-variants.{Of, NoRoom}
-use Rattle.point.specs.Handing.{Stored, storedIn, countsAs, countsIn, handedIn, refusalBefore, figuresFor, posOf, negOf, madeOver, laidOver, Outcome, ended, concluded, merging}
-use Rattle.point.specs.Lists.{figuresShaped, inShape, counted, Configured}
+use Rattle.point.specs.Handing.{Stored, storedIn, countsAs, countsIn, handedIn, figuresShaped, inShape, figuresFor, pointFor, Outcome, ended, laidOver, refusalBefore, merging}
+use Rattle.point.specs.Lists.{Configured}
 use Rattle.point.proofs.Laid.{same-count}
 use Rattle.point.proofs.Calls as calls
-use Rattle.point.proofs.Means.{agreesRead, sizeAsked, refusalRead, count-is, refusal-is}
-use Rattle.laws.specs.Counting.{mostCount}
 
 -- "10: room judged by the result's length"
 abbrev pub hasRoom : F.Counts → List ℕ → List ℕ → Bool
@@ -55,6 +52,21 @@ laid-shape (exponentialCounts p) us vs =
     and le-leb (length (p .neg .counts)) (length (over (p .neg .counts) vs)) (in-over (p .neg .counts) vs) j
 laid-shape (explicitCounts b p) us vs = refl
 
+-- a success is one point's, and no refusal
+success-is : (a b : Stored) → success a ≡ success b → a ≡ b
+success-is a b e = ap of e
+  where
+    of : Said Stored → Stored
+    of (refusal n) = a
+    of (success x) = x
+
+refused-not : (n : ℕ) (z : Stored) → refusal n ≡ success z → ⊥
+refused-not n z e = let k : _≡_ {A = ℕ} 1 0 = ap of e in omega (arith, k)
+  where
+    of : Said Stored → ℕ
+    of (refusal i) = 1
+    of (success x) = 0
+
 -- what a merge that is not refused leaves: the point x
 abbrev pub leaves : Stored → Outcome
 leaves x = ended (success (x .point)) (x .bounds) (x .pos) (x .neg)
@@ -65,15 +77,6 @@ pub record Answers (o : Outcome) (h : Handed) : Type 0 where
   pub is : o ≡ leaves left
   pub reads : handedIn left ≡ h
   pub shape : inShape left ≡ true
-
-module _ (c : F.Counts) (us vs : List ℕ) where
-  laid-room : hasRoom c us vs ≡ true → laidOver c us vs ≡ madeOver (Of (figuresFor c)) (over (posOf c) us) (over (negOf c) vs)
-  unfolding laidOver pick
-  laid-room h = ap (λ (b : Bool). pick b (madeOver (Of (figuresFor c)) (over (posOf c) us) (over (negOf c) vs)) (madeOver NoRoom us vs)) h
-
-  laid-none : hasRoom c us vs ≡ false → laidOver c us vs ≡ madeOver NoRoom us vs
-  unfolding laidOver pick
-  laid-none h = ap (λ (b : Bool). pick b (madeOver (Of (figuresFor c)) (over (posOf c) us) (over (negOf c) vs)) (madeOver NoRoom us vs)) h
 
 module _ (size : ℕ) (a b : Stored) (e : refusalBefore size a b ≡ 0) (us vs : List ℕ) where
   abbrev countsMade : F.Counts
@@ -112,85 +115,59 @@ module _ (size : ℕ) (a b : Stored) (e : refusalBefore size a b ≡ 0) (us vs :
   back (Explicit n) (Exponential d) f g = absurd (calls.not-mixed-2 size a b e n d f g)
   back (Explicit n) (Explicit m) f g = explicit-back n m f g
 
-  -- the merged point, with the first's bounds
-  abbrev merged : Stored
-  merged =
-      storedIn
-      (record {
-        figures = figuresFor countsMade;
-        extremes = a .point .extremes;
-        min = smallerOf (a .point .min) (b .point .min);
-        max = largerOf (a .point .max) (b .point .max);
-        sum = add binary64 (a .point .sum) (b .point .sum);
-      })
-      (a .bounds) (over (posOf countsMade) us) (over (negOf countsMade) vs)
+  abbrev merged : Handed
+  merged = mergeHanded size (handedIn a) (handedIn b)
 
-  -- ---- THE ANSWER IS THE MERGE OF THE POINTS READ
+  -- not refused before: it comes to the room
+  by-room : (t : Bool) → hasRoom countsMade us vs ≡ t
+      → merging size a b us vs ≡ pick t (leaves (storedIn (pointFor merged) (a .bounds) (over (posOf countsMade) us) (over (negOf countsMade) vs))) (ended (refusal 10) (a .bounds) us vs)
+  unfolding merging laidOver mergeHanded pick
+  by-room t r =
+      let z = storedIn (pointFor merged) (a .bounds) (over (posOf countsMade) us) (over (negOf countsMade) vs) in
+      λ j. pick (eq-eqb (refusalBefore size a b) 0 e j) (pick (r j) (leaves z) (ended (refusal 10) (a .bounds) us vs)) (ended (refusal (refusalBefore size a b)) (a .bounds) us vs)
+
+  -- ---- WITH ROOM the merged point lies over the rows, with the first's bounds
+  pub with-room : hasRoom countsMade us vs ≡ true → merging size a b us vs ≡ leaves (storedIn (pointFor merged) (a .bounds) (over (posOf countsMade) us) (over (negOf countsMade) vs))
+  unfolding pick
+  with-room r = by-room true r
+
+  -- and reads as the merge of the points read
   pub answers : hasRoom countsMade us vs ≡ true → Answers (merging size a b us vs) (mergeHanded size (handedIn a) (handedIn b))
   unfolding mergeHanded
   answers r =
       let k = back (a .point .figures) (b .point .figures) refl refl in
-      let z = merged in
+      let z = storedIn (pointFor merged) (a .bounds) (over (posOf countsMade) us) (over (negOf countsMade) vs) in
       record {
         left = z;
-        is = sym (calls.accepted size a b us vs e) ∙ ap (concluded a b) (laid-room countsMade us vs r);
+        is = with-room r;
         reads = λ j. record { counts = k j; extremes = z .point .extremes; threshold = zeroFloat; min = z .point .min; max = z .point .max; sum = z .point .sum };
         shape = laid-shape countsMade us vs;
       }
 
   -- ---- WITHOUT ROOM 10, and all as it was
   pub no-room : hasRoom countsMade us vs ≡ false → merging size a b us vs ≡ ended (refusal 10) (a .bounds) us vs
-  no-room r = sym (calls.accepted size a b us vs e) ∙ ap (concluded a b) (laid-none countsMade us vs r)
+  unfolding pick
+  no-room r = by-room false r
 
--- ---- POINTS OF VALUES MERGE TO THE POINT OF THE LISTS JOINED
+-- an accepted merge was not refused, and had room
+pub merged-reads : (size : ℕ) (x y z : Stored) (us vs : List ℕ) → merging size x y us vs .answer ≡ success z
+    → (handedIn z ≡ mergeHanded size (handedIn x) (handedIn y)) × (inShape z ≡ true)
+merged-reads size x y z us vs s =
+    ⊎-elim
+    (λ (e : refusalBefore size x y ≡ 0).
+    ⊎-elim
+    (λ (r : hasRoom (mergeCounts size (countsIn x) (countsIn y)) us vs ≡ true).
+    let m = answers size x y e us vs r in
+    let i : m .left ≡ z = success-is (m .left) z (sym (ap (λ o. o .answer) (m .is)) ∙ s) in
+    (ap handedIn (sym i) ∙ m .reads, ap inShape (sym i) ∙ m .shape))
+    (λ (r : hasRoom (mergeCounts size (countsIn x) (countsIn y)) us vs ≡ false).
+    absurd (refused-not 10 z (sym (ap (λ o. o .answer) (no-room size x y e us vs r)) ∙ s)))
+    (flag (hasRoom (mergeCounts size (countsIn x) (countsIn y)) us vs)))
+    (λ (p : 0 < refusalBefore size x y).
+    absurd (refused-not (refusalBefore size x y) z (ap (λ o. o .answer) (calls.refused-law size x y us vs (refusalBefore size x y) refl (λ n. omega (arith, n))) ∙ s)))
+    (eq-zero-or-pos (refusalBefore size x y))
+
+-- ---- a kind that could be configured
 pub sound : (k : Kind) → Configured k → Sound k
-sound (exponential size top) h = leb-true 3 size (and-left (leb 3 size) (leb size 160) h)
+sound (exponential size top) h = Facts.size-in size h .0
 sound (explicit bounds) h = h
-
-size-asked : (k : Kind) (t : Float) (vs ws : List Float) → Configured k → sizeAsked (sizeOf k) (kindCounts k t vs) (kindCounts k t ws) ≡ true
-size-asked (exponential size top) t vs ws h = h
-size-asked (explicit bounds) t vs ws h = refl
-
--- the outcome is a point that stands for the values
-pub record AnswersFor (s : Settings) (o : Outcome) (vs : List Float) : Type 0 where
-  pub left : Stored
-  pub is : o ≡ leaves left
-  pub stands : Stands s (handedIn left) vs
-
-module _ (s : Settings) (a b : Stored) (v w : List Float) (k : Configured (s .kind)) (i : inShape a ≡ true) (j : inShape b ≡ true)
-    (p : Stands s (handedIn a) v) (q : Stands s (handedIn b) w) (n : counted a + counted b ≤ mostCount) where
-  abbrev size : ℕ
-  size = sizeOf (s .kind)
-
-  abbrev first : Handed
-  first = handedIn a
-
-  abbrev second : Handed
-  second = handedIn b
-
-  asked : sizeAsked size (first .counts) (second .counts) ≡ true
-  asked = (λ t. sizeAsked size (p .counts t) (q .counts t)) ∙ size-asked (s .kind) (s .threshold) v w k
-
-  agree : (inShape a and inShape b) and agreesRead size first and agreesRead size second ≡ true
-  agree =
-      and-intro (inShape a and inShape b) (agreesRead size first and agreesRead size second)
-      (and-intro (inShape a) (inShape b) i j)
-      (and-intro (agreesRead size first) (agreesRead size second) (stands-agrees s first v (sound (s .kind) k) p) (stands-agrees s second w (sound (s .kind) k) q))
-
-  fit : leb (countOf (first .counts) + countOf (second .counts)) mostCount ≡ true
-  fit = (λ t. leb (sym (count-is a) t + sym (count-is b) t) mostCount) ∙ le-leb (counted a + counted b) mostCount n
-
-  pub not-refused : refusalBefore size a b ≡ 0
-  unfolding refusalRead pick
-  not-refused =
-      refusal-is size a b
-      ∙ (λ t. pick (asked t) (pick (agree t) (pick (stands-mergeable s first second v w (sound (s .kind) k) p q t) (pick (fit t) 0 9) 11) 8) 1)
-
-  pub merging-stands : (us vs : List ℕ) → hasRoom (mergeCounts size (first .counts) (second .counts)) us vs ≡ true → AnswersFor s (merging size a b us vs) (v ++ w)
-  merging-stands us vs r =
-      let m = answers size a b not-refused us vs r in
-      record {
-        left = m .left;
-        is = m .is;
-        stands = subst (λ h. Stands s h (v ++ w)) (sym (m .reads)) (stands-merge s first second v w p q);
-      }

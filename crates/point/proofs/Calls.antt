@@ -5,13 +5,15 @@ use mathlib.Core.Bool.{Bool, true, false, Bool·beq}
 use mathlib.Core.List.{List}
 use native.Mathlib.Omega.{arith}
 use lib.Dec.{leb}
+use lib.ListN.{length}
 use borrow.Author.Tests.{leb-true, eq-eqb, ne-eqb}
+use Rattle.laws.specs.Over.{over}
 use Rattle.laws.specs.Pick.{pick, _and_}
 use Rattle.laws.specs.Said.{Said, refusal}
 use Rattle.laws.proofs.Bools.{not-both, and-left, and-right, pick-left, pick-then}
 use Rattle.points.specs.Explicit.{sameBounds, bucketCount, bucketsAgree, mergeBuckets}
 use Rattle.points.specs.Figures.{exponentialCounts, explicitCounts}
-use Rattle.points.specs.Handed.{extremesAgree, mergeCounts}
+use Rattle.points.specs.Handed.{extremesAgree, mergeCounts, mergeHanded, posOf, negOf}
 use Rattle.points.proofs.Explicit.{buckets-say}
 use Rattle.exponential.specs.declared.Counts.{Counts}
 use Rattle.merges.specs.Merges.{Agreeing, mergedPoint}
@@ -20,14 +22,25 @@ use Rattle.explicit.specs.Inner.{Addable}
 use Rattle.point.specs.declared.Point.{Point}
 use Rattle.point.specs.declared.Figures.the-variants.{Exponential, Explicit}
 use Rattle.point.specs.declared.Made.{Made}
-use Rattle.point.specs.Handing.{Stored, countsAs, countsIn, sizeFits, countIn, sameFigures, figuresAgree, pointAgrees, refusalBefore, madeOver, laidOver, finished, ended, concluded, merging}
-use Rattle.point.specs.Inner.{madeOne, laidOne}
+use Rattle.point.specs.declared.Made.the-variants.{Of, NoRoom}
+use Rattle.point.specs.Handing.{Stored, countsAs, countsIn, handedIn, figuresFor, Outcome, ended, laidOver, refusalBefore, merging}
+use Rattle.point.specs.Inner.{sizeFits, countIn, sameFigures, figuresAgree, pointAgrees, Over, madeOver, countsOver, madeOne, laidOne, finished}
 use Rattle.point.proofs.Laid.{addable, over-one}
+use Rattle.point.proofs.Means.{refusal-is}
 use Rattle.laws.specs.Counting.{mostCount}
 
 -- the tests in their order
 abbrev chain : Bool → Bool → Bool → Bool → Bool → Bool → ℕ
 chain t u v w x y = pick t (pick (u and v) (pick (w and x) (pick y 0 9) 11) 8) 1
+
+-- the outcome of counts laid over the rows
+abbrev concluded : Stored → Stored → Over → Outcome
+concluded x y o = ended (finished (x .point) (y .point) (o .made)) (x .bounds) (o .pos) (o .neg)
+
+through : (a b : Stored) (t : Bool) (o n : Over) → concluded a b (pick t o n) ≡ pick t (concluded a b o) (concluded a b n)
+unfolding pick
+through a b true o n = refl
+through a b false o n = refl
 
 module _ (size : ℕ) (a b : Stored) where
   abbrev pub sizeOk : Bool
@@ -49,8 +62,7 @@ module _ (size : ℕ) (a b : Stored) where
   countOk = leb (countIn (a .point .figures) + countIn (b .point .figures)) mostCount
 
   is-chain : refusalBefore size a b ≡ chain sizeOk firstOk secondOk kindOk switchOk countOk
-  unfolding refusalBefore
-  is-chain = refl
+  is-chain = sym (refusal-is size a b)
 
   pub bad-size : sizeOk ≡ false → 1 ≡ refusalBefore size a b
   unfolding pick
@@ -136,7 +148,7 @@ module _ (size : ℕ) (a b : Stored) where
           let k : n + m ≤ mostCount = subst (λ (n : ℕ). n ≤ mostCount) (λ j. countIn (f j) + countIn (g j)) fit in
           addable (a .bounds) n (a .pos) (b .bounds) m (b .pos) same (buckets-say (a .bounds) (bucketsIn (a .bounds) n (a .pos)) ok-first) (buckets-say (b .bounds) (bucketsIn (b .bounds) m (b .pos)) ok-second) (omega (arith, k))
 
-      pub one-is : (us vs : List ℕ) → laidOver (explicitCounts (a .bounds) (mergeBuckets (bucketsIn (a .bounds) n (a .pos)) (bucketsIn (b .bounds) m (b .pos)))) us vs
+      pub one-is : (us vs : List ℕ) → countsOver (explicitCounts (a .bounds) (mergeBuckets (bucketsIn (a .bounds) n (a .pos)) (bucketsIn (b .bounds) m (b .pos)))) us vs
           ≡ madeOver (laidOne (bucketCount (a .bounds)) n (a .pos) m (b .pos) us .made) (laidOne (bucketCount (a .bounds)) n (a .pos) m (b .pos) us .counts) vs
       one-is = over-one (a .bounds) n (a .pos) (b .bounds) m (b .pos) same (buckets-say (a .bounds) (bucketsIn (a .bounds) n (a .pos)) ok-first) (buckets-say (b .bounds) (bucketsIn (b .bounds) m (b .pos)) ok-second)
 
@@ -152,18 +164,25 @@ module _ (size : ℕ) (a b : Stored) where
     unfolding merging pick
     refused-law n e z = rw (← e, ne-eqb n 0 z)
 
+    -- the merged counts over the rows are the merged point over the rows
+    laid-is : concluded a b (countsOver (mergeCounts size (countsIn a) (countsIn b)) us vs) ≡ laidOver (mergeHanded size (handedIn a) (handedIn b)) (a .bounds) us vs
+    unfolding countsOver laidOver mergeHanded
+    laid-is =
+        let c = mergeCounts size (countsIn a) (countsIn b) in
+        through a b (leb (length (posOf c)) (length us) and leb (length (negOf c)) (length vs)) (madeOver (Of (figuresFor c)) (over (posOf c) us) (over (negOf c) vs)) (madeOver NoRoom us vs)
+
     pub accepted : refusalBefore size a b ≡ 0
-        → concluded a b (laidOver (mergeCounts size (countsIn a) (countsIn b)) us vs) ≡ merging size a b us vs
+        → concluded a b (countsOver (mergeCounts size (countsIn a) (countsIn b)) us vs) ≡ merging size a b us vs
     unfolding merging pick
-    accepted e = rw (eq-eqb (refusalBefore size a b) 0 e) refl
+    accepted e = rw (eq-eqb (refusalBefore size a b) 0 e) laid-is
 
     pub exponential-law : (c d : Counts) (m : Made) (r : Said Point) (us' vs' : List ℕ) → refusalBefore size a b ≡ 0 → a .point .figures ≡ Exponential c → b .point .figures ≡ Exponential d
-        → madeOver m us' vs' ≡ laidOver (exponentialCounts (mergedPoint size c (a .pos) (a .neg) d (b .pos) (b .neg))) us vs → r ≡ finished (a .point) (b .point) m
+        → madeOver m us' vs' ≡ countsOver (exponentialCounts (mergedPoint size c (a .pos) (a .neg) d (b .pos) (b .neg))) us vs → r ≡ finished (a .point) (b .point) m
         → ended r (a .bounds) us' vs' ≡ merging size a b us vs
     exponential-law c d m r us' vs' e f g h k =
         ap (λ r. ended r (a .bounds) us' vs') k
         ∙ ap (concluded a b) h
-        ∙ (λ j. concluded a b (laidOver (mergeCounts size (countsAs (sym f j) (a .bounds) (a .pos) (a .neg)) (countsAs (sym g j) (b .bounds) (b .pos) (b .neg))) us vs))
+        ∙ (λ j. concluded a b (countsOver (mergeCounts size (countsAs (sym f j) (a .bounds) (a .pos) (a .neg)) (countsAs (sym g j) (b .bounds) (b .pos) (b .neg))) us vs))
         ∙ accepted e
 
     pub explicit-law : (n m : ℕ) (t : Made) (r : Said Point) (us' : List ℕ) → refusalBefore size a b ≡ 0 → a .point .figures ≡ Explicit n → b .point .figures ≡ Explicit m
@@ -173,5 +192,5 @@ module _ (size : ℕ) (a b : Stored) where
         ap (λ r. ended r (a .bounds) us' vs) k
         ∙ (λ j. concluded a b (madeOver (h j .made) (h j .counts) vs))
         ∙ ap (concluded a b) (sym (one-is e n m f g us vs))
-        ∙ (λ j. concluded a b (laidOver (mergeCounts size (countsAs (sym f j) (a .bounds) (a .pos) (a .neg)) (countsAs (sym g j) (b .bounds) (b .pos) (b .neg))) us vs))
+        ∙ (λ j. concluded a b (countsOver (mergeCounts size (countsAs (sym f j) (a .bounds) (a .pos) (a .neg)) (countsAs (sym g j) (b .bounds) (b .pos) (b .neg))) us vs))
         ∙ accepted e

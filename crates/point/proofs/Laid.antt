@@ -25,24 +25,23 @@ use Rattle.explicit.specs.Series.{bucketsIn}
 use Rattle.explicit.specs.Inner.{Addable}
 use Rattle.point.specs.declared.Figures.the-variants.{Exponential, Explicit}
 use Rattle.point.specs.declared.Made.the-variants.{Of, NoRoom}
-use Rattle.point.specs.Handing.{madeOver, laidOver}
-use Rattle.point.specs.Inner.{madeOne, laidOne}
+use Rattle.point.specs.Inner.{madeOver, countsOver, madeOne, laidOne}
 
 -- ---- the exponential kind
 
 module _ (m : P.Point) (us vs : List ℕ) where
-  pub no-pos : length us < length (m .pos .counts) → madeOver NoRoom us vs ≡ laidOver (exponentialCounts m) us vs
-  unfolding laidOver pick _and_
+  pub no-pos : length us < length (m .pos .counts) → madeOver NoRoom us vs ≡ countsOver (exponentialCounts m) us vs
+  unfolding countsOver pick _and_
   no-pos h = rw (lt-leb (length (m .pos .counts)) (length us) h) refl
 
   module _ (p : length (m .pos .counts) ≤ length us) where
-    pub no-neg : length vs < length (m .neg .counts) → madeOver NoRoom us vs ≡ laidOver (exponentialCounts m) us vs
-    unfolding laidOver pick _and_
+    pub no-neg : length vs < length (m .neg .counts) → madeOver NoRoom us vs ≡ countsOver (exponentialCounts m) us vs
+    unfolding countsOver pick _and_
     no-neg h = rw (le-leb (length (m .pos .counts)) (length us) p, lt-leb (length (m .neg .counts)) (length vs) h) refl
 
     pub laid : length (m .neg .counts) ≤ length vs → (r : Counts) (us' vs' : List ℕ) → Written m us vs r us' vs'
-        → madeOver (Of (Exponential r)) us' vs' ≡ laidOver (exponentialCounts m) us vs
-    unfolding laidOver pick _and_
+        → madeOver (Of (Exponential r)) us' vs' ≡ countsOver (exponentialCounts m) us vs
+    unfolding countsOver pick _and_
     laid n r us' vs' w =
         (λ j. madeOver (Of (Exponential (w .counts j))) (w .pos j) (w .neg j))
         ∙ rw (le-leb (length (m .pos .counts)) (length us) p, le-leb (length (m .neg .counts)) (length vs) n) refl
@@ -103,9 +102,9 @@ module _ (bs : List Float) (n : ℕ) (xs : List ℕ) (cs : List Float) (m : ℕ)
   )
 
   pub over-one : (us vs : List ℕ)
-      → laidOver (explicitCounts bs (mergeBuckets (bucketsIn bs n xs) (bucketsIn cs m zs))) us vs
+      → countsOver (explicitCounts bs (mergeBuckets (bucketsIn bs n xs) (bucketsIn cs m zs))) us vs
       ≡ madeOver (laidOne (bucketCount bs) n xs m zs us .made) (laidOne (bucketCount bs) n xs m zs us .counts) vs
-  unfolding laidOver laidOne mergeBuckets over pick _and_
+  unfolding countsOver laidOne mergeBuckets over pick _and_
   over-one us vs =
       let k = bucketCount bs in
       let l : length (added (take (bucketCount bs) xs) (take (bucketCount bs) zs)) ≡ bucketCount bs =

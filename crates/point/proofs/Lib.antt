@@ -6,4 +6,3 @@ pub mod Answers
 pub mod Offsets
 pub mod Shown
 pub mod Lists
-pub mod Told

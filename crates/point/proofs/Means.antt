@@ -9,18 +9,18 @@ use lib.Ieee.{Float}
 use Rattle.laws.specs.Pick.{pick, _and_}
 use Rattle.index.specs.Bins.{finest, lowestBin}
 use Rattle.points.specs.Figures as F
-use Rattle.points.specs.Figures.{Kind, exponentialCounts, explicitCounts, figuresOf}
-use Rattle.points.specs.Handed.{Handed, handedOut, handed, sameKind, mergeable, extremesAgree, countsAgree, handedAgrees, countOf}
+use Rattle.points.specs.Figures.{Kind, sizePasses, settingsOf, exponentialCounts, explicitCounts, figuresOf}
+use Rattle.points.specs.Handed.{Handed, handedOut, handed, sameKind, mergeable, extremesAgree, countsAgree, handedAgrees, countOf, sizeAsked, unmergeable}
 use Rattle.exponential.specs.declared.Head as SH
-use Rattle.exponential.specs.Series.{sizePasses, read, agrees}
+use Rattle.exponential.specs.Series.{read, agrees}
 use Rattle.exponential.proofs.Lists as SRInnerLists
 use Rattle.explicit.specs.declared.Head as BH
 use Rattle.explicit.specs.Series as B
 use Rattle.explicit.specs.Series.{bucketsIn}
 use Rattle.point.specs.declared.Figures.{Figures}
 use Rattle.point.specs.declared.Figures.the-variants.{Exponential, Explicit}
-use Rattle.point.specs.Handing.{Stored, storedIn, countsAs, countsIn, handedIn, exponentialPoint, explicitPoint, figuresAgree, pointAgrees, countIn, sameFigures, sizeFits, refusalBefore}
-use Rattle.point.specs.Lists.{figuresShaped, inShape, counted, settingsOf}
+use Rattle.point.specs.Handing.{Stored, storedIn, countsAs, countsIn, handedIn, figuresShaped, inShape, exponentialPoint, explicitPoint, refusalBefore}
+use Rattle.point.specs.Inner.{figuresAgree, pointAgrees, countIn, sameFigures, sizeFits}
 use Rattle.laws.specs.Counting.{mostCount}
 
 -- ---- WHAT A SERIES HANDS OUT, by its two switches; the zero threshold is 0.0
@@ -84,21 +84,6 @@ module _ (size : ℕ) (x : Stored) where
   agrees-whole s w = agrees-is ∙ (λ j. (s j and w j) and agreesRead size (handedIn x))
 
 -- ---- THE REFUSALS OF A MERGE
--- "A merge checks 1 unless both points are explicit"
-abbrev pub sizeAsked : ℕ → F.Counts → F.Counts → Bool
-sizeAsked size (exponentialCounts p) c = sizePasses size
-sizeAsked size (explicitCounts b p) (exponentialCounts q) = sizePasses size
-sizeAsked size (explicitCounts b p) (explicitCounts c q) = true
-
--- "Merging: 1, 8, 11, 9", over points; whole: both are in shape
-unfoldable pub refusalRead : ℕ → Bool → Handed → Handed → ℕ
-refusalRead size whole p q =
-    pick (sizeAsked size (p .counts) (q .counts))
-    (pick (whole and agreesRead size p and agreesRead size q)
-    (pick (mergeable p q) (pick (leb (countOf (p .counts) + countOf (q .counts)) mostCount) 0 9) 11)
-    8)
-    1
-
 swap : (i j g h : Bool) → (i and g) and (j and h) ≡ (i and j) and g and h
 unfolding _and_
 swap true true g h = refl
@@ -126,12 +111,9 @@ second-size size (Exponential c) (Explicit m) h = refl
 second-size size (Explicit n) (Exponential d) h = h
 second-size size (Explicit n) (Explicit m) h = refl
 
-figures-count : (f : Figures) (bs : List Float) (xs ys : List ℕ) → countIn f ≡ countOf (countsAs f bs xs ys)
-figures-count (Exponential c) bs xs ys = refl
-figures-count (Explicit n) bs xs ys = refl
-
-pub count-is : (x : Stored) → counted x ≡ countOf (countsIn x)
-count-is x = figures-count (x .point .figures) (x .bounds) (x .pos) (x .neg)
+count-is : (f : Figures) (bs : List Float) (xs ys : List ℕ) → countIn f ≡ countOf (countsAs f bs xs ys)
+count-is (Exponential c) bs xs ys = refl
+count-is (Explicit n) bs xs ys = refl
 
 module _ (size : ℕ) (bs : List Float) (xs ys : List ℕ) (cs : List Float) (zs ws : List ℕ) where
   size-is : (f g : Figures) → sizeFits size f g ≡ sizeAsked size (countsAs f bs xs ys) (countsAs g cs zs ws)
@@ -147,8 +129,20 @@ module _ (size : ℕ) (bs : List Float) (xs ys : List ℕ) (cs : List Float) (zs
   kind-is (Explicit n) (Exponential d) = refl
   kind-is (Explicit n) (Explicit m) = refl
 
-pub refusal-is : (size : ℕ) (x y : Stored) → refusalBefore size x y ≡ refusalRead size (inShape x and inShape y) (handedIn x) (handedIn y)
-unfolding refusalBefore refusalRead mergeable
+-- the tests of code, in their order
+abbrev pub tested : ℕ → Stored → Stored → ℕ
+tested size x y =
+    let f = x .point .figures in
+    let g = y .point .figures in
+    pick (sizeFits size f g)
+    (pick (pointAgrees size x and pointAgrees size y)
+    (pick (sameFigures f (x .bounds) g (y .bounds) and Bool·beq (x .point .extremes) (y .point .extremes)) (pick (leb (countIn f + countIn g) mostCount) 0 9) 11)
+    8)
+    1
+
+-- THE LAW: they make up the refusal of what the points read as
+pub refusal-is : (size : ℕ) (x y : Stored) → tested size x y ≡ refusalBefore size x y
+unfolding refusalBefore unmergeable mergeable
 refusal-is size x y =
     let f = x .point .figures in
     let g = y .point .figures in
@@ -157,6 +151,7 @@ refusal-is size x y =
     let R : ℕ = pick (sameKind (p .counts) (q .counts) and Bool·beq (p .extremes) (q .extremes)) (pick (leb (countOf (p .counts) + countOf (q .counts)) mostCount) 0 9) 11 in
     (λ j. pick (sizeFits size f g)
     (pick (agrees-is size x j and agrees-is size y j)
-    (pick (kind-is size (x .bounds) (x .pos) (x .neg) (y .bounds) (y .pos) (y .neg) f g j and Bool·beq (p .extremes) (q .extremes)) (pick (leb (count-is x j + count-is y j) mostCount) 0 9) 11) 8) 1)
+    (pick (kind-is size (x .bounds) (x .pos) (x .neg) (y .bounds) (y .pos) (y .neg) f g j and Bool·beq (p .extremes) (q .extremes))
+    (pick (leb (count-is f (x .bounds) (x .pos) (x .neg) j + count-is g (y .bounds) (y .pos) (y .neg) j) mostCount) 0 9) 11) 8) 1)
     ∙ gather (inShape x) (inShape y) (agreesRead size p) (agreesRead size q) R (sizeFits size f g) (sizeFor size f) (sizeFor size g) (first-size size f g) (second-size size f g)
     ∙ ap (λ (s : Bool). pick s (pick ((inShape x and inShape y) and agreesRead size p and agreesRead size q) R 8) 1) (size-is size (x .bounds) (x .pos) (x .neg) (y .bounds) (y .pos) (y .neg) f g)

@@ -23,7 +23,8 @@ use Rattle.exponential.specs.declared.Counts.{Counts}
 use Rattle.exponential.specs.Series.{rowIn}
 use Rattle.exponential.proofs.Facts as Facts
 use Rattle.point.specs.declared.Figures.the-variants.{Exponential}
-use Rattle.point.specs.Handing.{Stored, figuresAgree, pointAgrees}
+use Rattle.point.specs.Handing.{Stored}
+use Rattle.point.specs.Inner.{figuresAgree, pointAgrees}
 use Rattle.point.specs.Signed.{scaleShown, offsetAnswer, offsetShown}
 use Rattle.point.proofs.Offsets.{offset-empty, offset-there}
 

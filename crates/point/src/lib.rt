@@ -3,20 +3,19 @@ pub mod signed;
 
 ghost use mathlib.Core.Path.{_≡_};
 ghost use Prim.Native.Nat.{_+_, _-_, _^_, _<_};
+ghost use Rattle.floats.specs.Starts.{zeroFloat};
 ghost use Rattle.points.specs.Handed.{extremesAgree};
-ghost use Rattle.laws.specs.Pick.{_and_};
+ghost use Rattle.laws.specs.Pick.{pick, _and_};
 ghost use lib.Ieee.Scale.{finite};
-ghost use Rattle.point.specs.Handing.{stored, shownSum, shownPoint, exponentialPoint, explicitPoint, figuresAgree, pointAgrees};
-ghost use Rattle.point.specs.Handing.{isExplicit, countIn, sameFigures, sizeFits, refusalBefore};
-ghost use Rattle.point.specs.Handing.{madeOver, laidOver, said, finished, outcome, merging};
-ghost use Rattle.point.specs.Inner.{madeOne, laidOne};
+ghost use Rattle.point.specs.Handing.{stored, shownPoint, exponentialPoint, explicitPoint, refusalBefore, said, outcome, merging};
+ghost use Rattle.point.specs.Inner.{figuresAgree, pointAgrees, isExplicit, countIn, sameFigures, sizeFits};
+ghost use Rattle.point.specs.Inner.{madeOver, countsOver, madeOne, laidOne, finished};
 ghost use lib.Dec.{leb};
 ghost use mathlib.Core.Bool.{Bool·beq};
 ghost use Rattle.points.specs.Explicit.{bucketCount};
 ghost use Rattle.points.specs.Figures.{exponentialCounts};
 ghost use Rattle.merges.specs.Merges.{Agreeing, mergedPoint};
 ghost use Rattle.explicit.specs.Inner.{Addable};
-ghost use Rattle.exponential.specs.Series.{sizePasses};
 ghost use Rattle.laws.specs.Counting.{mostCount};
 use exponential::Counts;
 use floats::Extreme;
@@ -39,7 +38,7 @@ pub struct Point {
 // ---- the point of a series, by its two switches
 
 fn shown_sum(on: bool, sum: f64) -> f64
-    ensures { λ r. ⌜ r ≡ shownSum on sum ⌝ }
+    ensures { λ r. ⌜ r ≡ pick on sum zeroFloat ⌝ }
 {
     if on {
         return sum;
@@ -163,26 +162,17 @@ fn same_kind(f: Figures, bounds: &[f64], g: Figures, others: &[f64]) -> bool
     }
 }
 
-fn size_passes(size: u32) -> bool
-    ensures { λ r. ⌜ r ≡ sizePasses size ⌝ }
-{
-    if size < 3 {
-        return false;
-    }
-    size <= 160
-}
-
 // Whether a max_size is asked of two points: unless both are explicit.
-fn size_fits(size: u32, f: Figures, g: Figures) -> bool
+fn size_fits(size: usize, f: Figures, g: Figures) -> bool
     ensures { λ r. ⌜ r ≡ sizeFits size f g ⌝ }
 {
     if is_explicit(f) {
         if is_explicit(g) {
             return true;
         }
-        return size_passes(size);
+        return exponential::size_passes(size);
     }
-    size_passes(size)
+    exponential::size_passes(size)
 }
 
 fn same_switch(a: bool, b: bool) -> bool
@@ -218,7 +208,7 @@ fn refusal(
 {
     let f = a.figures;
     let g = b.figures;
-    if !size_fits(size, f, g) {
+    if !size_fits(size as usize, f, g) {
         return 1;
     }
     if !point_agrees(size as usize, a, abounds, apos, aneg) {
@@ -266,7 +256,7 @@ fn merge_exponential(
 ) -> Made
     requires { ⌜ Agreeing size c (now apos) (now aneg) d (now bpos) (now bneg) ⌝ }
     ensures { λ r. ⌜ madeOver r (now (pos .exit)) (now (neg .exit))
-        ≡ laidOver (exponentialCounts (mergedPoint size c (now (apos .entry)) (now (aneg .entry)) d (now (bpos .entry)) (now (bneg .entry))))
+        ≡ countsOver (exponentialCounts (mergedPoint size c (now (apos .entry)) (now (aneg .entry)) d (now (bpos .entry)) (now (bneg .entry))))
         (now (pos .entry)) (now (neg .entry)) ⌝ }
 {
     let to = merges::plan_of(size, c, d);

@@ -17,7 +17,7 @@ use Rattle.laws.proofs.Same.{sum-append, same-perm}
 use Rattle.laws.proofs.Lists.{map-perm, length-perm}
 use Rattle.laws.proofs.Counting.{length-table, table-cong, table-set, total-none, total-set}
 use Rattle.laws.proofs.Bools.{flag, and-left, and-right, and-intro, pick-true, pick-false}
-use Rattle.points.specs.Explicit.{bucketOf, bucketCount, Buckets, bucketsOf, recordBucket, added, mergeBuckets, mostBounds, noNan, rising, boundsPass, sameBounds, bucketsAgree}
+use Rattle.points.specs.Explicit.{bucketOf, bucketCount, Buckets, bucketsOf, recordBucket, added, mergeBuckets, noNan, rising, boundsPass, sameBounds, bucketsAgree}
 
 -- ---- MERGING IS COMMUTATIVE AND ASSOCIATIVE, of any points
 added-comm : (xs ys : List ℕ) → added xs ys ≡ added ys xs
@@ -211,5 +211,5 @@ same-self (b ∷ bs) h =
 pub same-bounds : (bs : List Float) → boundsPass bs ≡ true → sameBounds bs bs ≡ true
 unfolding boundsPass
 same-bounds bs h =
-    let l = leb (length bs) mostBounds in
+    let l = leb (length bs) 159 in
     same-self bs (and-left (noNan bs) (rising bs) (and-right l (noNan bs and rising bs) h))

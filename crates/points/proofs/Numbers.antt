@@ -8,7 +8,7 @@ use Rattle.floats.specs.declared.Extreme.{Extreme}
 use Rattle.floats.specs.declared.Extreme.the-variants.{None, Value}
 use Rattle.floats.proofs.Choices.{chosen, eq-refl, eq-sym, eq-trans, chosen-cong, chosen-comm, chosen-assoc}
 use Rattle.floats.proofs.Starts.{start, start-first, finite-ok, chosen-finite}
-use Rattle.points.specs.Stands.{SameNumber, SameExtreme}
+use Rattle.points.specs.Same.{SameNumber, SameExtreme}
 use Rattle.points.specs.Same.{Shown}
 
 -- ---- the same number

@@ -22,10 +22,10 @@ use Rattle.floats.proofs.Sums.{total-perm, gridded-perm, gridded-left, gridded-
 use Rattle.points.specs.Points.{pointOf}
 use Rattle.points.specs.Values.{classOf, countsOf, summaryOf}
 use Rattle.points.specs.Explicit.{boundsPass, bucketsOf}
-use Rattle.points.specs.Figures.{Kind, exponential, explicit, sizeOf, Settings, exponentialCounts, explicitCounts, kindCounts}
+use Rattle.points.specs.Figures.{Kind, exponential, explicit, Settings, exponentialCounts, explicitCounts, kindCounts}
 use Rattle.points.specs.Handed.{Handed, handed, mergeCounts, mergeHanded, sameKind, mergeable, extremesAgree, countsAgree, handedAgrees}
-use Rattle.points.specs.Stands.{SameNumber, SameExtreme, SumStands, Stands}
-use Rattle.points.specs.Same.{resized}
+use Rattle.points.specs.Stands.{SumStands, Stands}
+use Rattle.points.specs.Same.{resized, SameNumber, SameExtreme}
 use Rattle.points.proofs.Agreement.{agreed-agrees}
 use Rattle.points.proofs.Classes.{countsOf-agrees}
 use Rattle.points.proofs.Numbers.{number-refl, same-shown, shown-next, shown-merged}
@@ -66,11 +66,7 @@ unfolding handed
 handed-stands s vs h =
     record {
       values = h;
-      counts = refl;
-      extremes = refl;
-      threshold = refl;
-      min = shown true;
-      max = shown false;
+      same = record { counts = refl; extremes = refl; threshold = refl; min = shown true; max = shown false };
       sum = sum-handed (s .sums) vs;
     }
   where
@@ -88,11 +84,13 @@ pub stands-order : (s : Settings) (p : Handed) {vs ws : List Float} → List·Pe
 stands-order s p {vs} {ws} h k =
     record {
       values = all-perm FiniteF64 h (k .values);
-      counts = k .counts ∙ counts-perm (s .kind) (s .threshold) h;
-      extremes = k .extremes;
-      threshold = k .threshold;
-      min = shown-next (s .extremes) (p .min) (summaryOf vs .min) (summaryOf ws .min) (k .min) (moved true);
-      max = shown-next (s .extremes) (p .max) (summaryOf vs .max) (summaryOf ws .max) (k .max) (moved false);
+      same = record {
+        counts = k .same .counts ∙ counts-perm (s .kind) (s .threshold) h;
+        extremes = k .same .extremes;
+        threshold = k .same .threshold;
+        min = shown-next (s .extremes) (p .min) (summaryOf vs .min) (summaryOf ws .min) (k .same .min) (moved true);
+        max = shown-next (s .extremes) (p .max) (summaryOf vs .max) (summaryOf ws .max) (k .same .max) (moved false);
+      };
       sum = sum-order (s .sums) (p .sum) h (k .sum);
     }
   where
@@ -118,15 +116,21 @@ unfolding mergeHanded
 stands-join size s p q vs ws a h k =
     record {
       values = all-append FiniteF64 vs ws (h .values) (k .values);
-      counts = rw (h .counts, k .counts) (counts-parts size (s .kind) (s .threshold) vs ws a);
-      extremes = h .extremes;
-      threshold = h .threshold;
-      min = rw (← extreme-parts true vs ws (h .values) (k .values)) (shown-merged true (s .extremes) (p .min) (q .min) (summaryOf vs .min) (summaryOf ws .min) (h .min) (k .min));
-      max = rw (← extreme-parts false vs ws (h .values) (k .values)) (shown-merged false (s .extremes) (p .max) (q .max) (summaryOf vs .max) (summaryOf ws .max) (h .max) (k .max));
+      same = record {
+        counts = rw (h .same .counts, k .same .counts) (counts-parts size (s .kind) (s .threshold) vs ws a);
+        extremes = h .same .extremes;
+        threshold = h .same .threshold;
+        min = rw (← extreme-parts true vs ws (h .values) (k .values)) (shown-merged true (s .extremes) (p .min) (q .min) (summaryOf vs .min) (summaryOf ws .min) (h .same .min) (k .same .min));
+        max = rw (← extreme-parts false vs ws (h .values) (k .values)) (shown-merged false (s .extremes) (p .max) (q .max) (summaryOf vs .max) (summaryOf ws .max) (h .same .max) (k .same .max));
+      };
       sum = sum-join (s .sums) (p .sum) (q .sum) vs ws (h .sum) (k .sum);
     }
 
--- under the size that both were built under
+-- under the size that both were built under; no merge of explicit points asks for one
+abbrev pub sizeOf : Kind → ℕ
+sizeOf (exponential size top) = size
+sizeOf (explicit bounds) = 0
+
 own-size : (k : Kind) → resized (sizeOf k) k ≡ k
 own-size (exponential size top) = refl
 own-size (explicit bounds) = refl
@@ -165,8 +169,8 @@ pub stands-agrees : (s : Settings) (p : Handed) (vs : List Float) → Sound (s .
 unfolding handedAgrees
 stands-agrees s p vs h k =
     and-intro (countsAgree (sizeOf (s .kind)) finest (lowestBin finest) (p .counts)) (extremesAgree (p .min) (p .max))
-    (rw (k .counts) (counts-agree (s .kind) (s .threshold) vs h (k .values)))
-    (extremes-agree (s .extremes) (p .min) (p .max) (summaryOf vs .min) (summaryOf vs .max) (k .min) (k .max))
+    (rw (k .same .counts) (counts-agree (s .kind) (s .threshold) vs h (k .values)))
+    (extremes-agree (s .extremes) (p .min) (p .max) (summaryOf vs .min) (summaryOf vs .max) (k .same .min) (k .same .max))
 
 -- ---- AND TWO OF THEM MERGE
 kind-same : (k : Kind) (t : Float) (vs ws : List Float) → Sound k → sameKind (kindCounts k t vs) (kindCounts k t ws) ≡ true
@@ -180,6 +184,6 @@ beq-self false = refl
 pub stands-mergeable : (s : Settings) (p q : Handed) (vs ws : List Float) → Sound (s .kind) → Stands s p vs → Stands s q ws → mergeable p q ≡ true
 unfolding mergeable
 stands-mergeable s p q vs ws h j k =
-    rw (j .counts, k .counts, j .extremes, k .extremes)
+    rw (j .same .counts, k .same .counts, j .same .extremes, k .same .extremes)
     (and-intro (sameKind (kindCounts (s .kind) (s .threshold) vs) (kindCounts (s .kind) (s .threshold) ws)) (Bool·beq (s .extremes) (s .extremes))
     (kind-same (s .kind) (s .threshold) vs ws h) (beq-self (s .extremes)))

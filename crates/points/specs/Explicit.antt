@@ -12,21 +12,19 @@ use Rattle.laws.specs.Counting.{count, table, total}
 
 -- ---- bounds
 
--- number 3: "over 159 bounds, a NaN, or not strictly rising" (as numbers: -0.0 then 0.0 does not rise)
-abbrev pub mostBounds : ℕ
-mostBounds = 159
-
 unfoldable pub noNan : List Float → Bool
 noNan [] = true
 noNan (b ∷ bs) = not (isNan b) and noNan bs
 
+-- as numbers: -0.0 then 0.0 does not rise
 unfoldable pub rising : List Float → Bool
 rising [] = true
 rising (b ∷ []) = true
 rising (b ∷ c ∷ bs) = lt b c and rising (c ∷ bs)
 
+-- number 3: "over 159 bounds, a NaN, or not strictly rising"
 unfoldable pub boundsPass : List Float → Bool
-boundsPass bs = leb (length bs) mostBounds and noNan bs and rising bs
+boundsPass bs = leb (length bs) 159 and noNan bs and rising bs
 
 -- the same bounds as numbers
 unfoldable pub sameBounds : List Float → List Float → Bool

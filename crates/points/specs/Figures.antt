@@ -1,10 +1,12 @@
 -- What a series of either kind holds of its values: its counts beside minimum, maximum and sum. Assumes nothing.
 use Prim.Native.Nat.{ℕ, _-_}
-use mathlib.Core.Bool.{Bool, _&&_}
+use mathlib.Core.Bool.{Bool}
 use mathlib.Core.List.{List}
 use lib.Dec.{leb}
 use lib.Ieee.{Float}
+use Rattle.laws.specs.Pick.{_and_}
 use Rattle.index.specs.Bins.{finest}
+use Rattle.floats.specs.Starts.{zeroFloat}
 use Rattle.points.specs.Points.{Point, record1}
 use Rattle.points.specs.Values.{Summary, classOf, countsOf, noted, summaryOf}
 use Rattle.points.specs.Explicit.{Buckets, bucketsOf, recordBucket}
@@ -15,25 +17,21 @@ pub data Kind : Type 0 where
   explicit : List Float → Kind
 
 -- "1: max_size outside 3 to 160"
-abbrev pub leastSize : ℕ
-leastSize = 3
-
 abbrev pub mostSize : ℕ
 mostSize = 160
 
 abbrev pub sizePasses : ℕ → Bool
-sizePasses size = leb leastSize size && leb size mostSize
-
--- the configured max_size; no merge of explicit points asks for one
-abbrev pub sizeOf : Kind → ℕ
-sizeOf (exponential size top) = size
-sizeOf (explicit bounds) = 0
+sizePasses size = leb 3 size and leb size mostSize
 
 pub record Settings : Type 0 where
   pub kind : Kind
   pub extremes : Bool
   pub sums : Bool
   pub threshold : Float
+
+-- a kind under two switches; the zero threshold is 0.0
+abbrev pub settingsOf : Kind → Bool → Bool → Settings
+settingsOf k extremes sums = record { kind = k; extremes = extremes; sums = sums; threshold = zeroFloat }
 
 -- the counts of either kind; the case is the kind's tag
 pub data Counts : Type 0 where

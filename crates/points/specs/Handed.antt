@@ -1,11 +1,14 @@
 -- A point as it is handed out: of either kind, with its switch and zero threshold, extremes that it has or has not, and its sum; and
 -- merging such points. Assumes nothing.
-use Prim.Native.Nat.{ℕ}
+use Prim.Native.Nat.{ℕ, _+_}
 use mathlib.Core.Bool.{Bool, true, false, Bool·beq}
-use mathlib.Core.List.{List}
+use mathlib.Core.List.{List, []}
+use lib.Dec.{leb}
 use lib.Ieee.{Float, binary64, add}
 use lib.Ieee.Scale.{finite}
 use Rattle.laws.specs.Pick.{pick, _and_}
+use Rattle.laws.specs.Counting.{mostCount}
+use Rattle.index.specs.Bins.{finest, lowestBin}
 use Rattle.floats.specs.Answers.{shownOf, smallerOf, largerOf}
 use Rattle.floats.specs.Starts.{zeroFloat}
 use Rattle.floats.specs.declared.Extreme.{Extreme}
@@ -13,7 +16,7 @@ use Rattle.floats.specs.declared.Extreme.the-variants.{None, Value}
 use Rattle.points.specs.Points.{merge}
 use Rattle.points.specs.Agreement.{agrees}
 use Rattle.points.specs.Explicit.{sameBounds, mergeBuckets, bucketsAgree}
-use Rattle.points.specs.Figures.{Settings, Counts, exponentialCounts, explicitCounts, Figures, figuresOf}
+use Rattle.points.specs.Figures.{sizePasses, Settings, Counts, exponentialCounts, explicitCounts, Figures, figuresOf}
 
 pub record Handed : Type 0 where
   pub counts : Counts
@@ -91,3 +94,32 @@ handedAgrees size top low p = countsAgree size top low (p .counts) and extremesA
 abbrev pub countOf : Counts → ℕ
 countOf (exponentialCounts p) = p .total
 countOf (explicitCounts b p) = p .total
+
+-- ---- the refusals of a merge
+
+-- "A merge checks 1 unless both points are explicit"
+abbrev pub sizeAsked : ℕ → Counts → Counts → Bool
+sizeAsked size (exponentialCounts p) c = sizePasses size
+sizeAsked size (explicitCounts b p) (exponentialCounts q) = sizePasses size
+sizeAsked size (explicitCounts b p) (explicitCounts c q) = true
+
+-- "Merging: 1, 8, 11, 9, 10": the number but for 10, which the lent output decides; 0 if none. `there`: all that the points are read from is
+-- there, or it is 8. "scale is -10 to max_scale (10 in a merge)"
+unfoldable pub unmergeable : ℕ → Bool → Handed → Handed → ℕ
+unmergeable size there p q =
+    let ok : Handed → Bool = handedAgrees size finest (lowestBin finest) in
+    pick (sizeAsked size (p .counts) (q .counts))
+    (pick (there and ok p and ok q)
+    (pick (mergeable p q) (pick (leb (countOf (p .counts) + countOf (q .counts)) mostCount) 0 9) 11)
+    8)
+    1
+
+-- ---- the counts that a point takes in each of "two lent stores of u64, positive and negative"; explicit: all in the first
+
+abbrev pub posOf : Counts → List ℕ
+posOf (exponentialCounts p) = p .pos .counts
+posOf (explicitCounts b p) = p .counts
+
+abbrev pub negOf : Counts → List ℕ
+negOf (exponentialCounts p) = p .neg .counts
+negOf (explicitCounts b p) = []

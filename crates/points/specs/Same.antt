@@ -1,14 +1,14 @@
 -- Points of one kind, switch and zero threshold, whatever their values; and points that are the same but for the sum. Assumes nothing.
 use Prim.Native.Nat.{ℕ}
 use mathlib.Core.Path.{_≡_}
-use mathlib.Core.Bool.{Bool}
-use lib.Ieee.{Float}
+use mathlib.Core.Bool.{Bool, true}
+use lib.Ieee.{Float, eq}
 use Rattle.floats.specs.Answers.{shownOf}
 use Rattle.floats.specs.Starts.{FiniteF64}
 use Rattle.floats.specs.declared.Extreme.{Extreme}
+use Rattle.floats.specs.declared.Extreme.the-variants.{None, Value}
 use Rattle.points.specs.Figures.{Kind, exponential, explicit, Settings, Counts, exponentialCounts, explicitCounts}
 use Rattle.points.specs.Handed.{Handed}
-use Rattle.points.specs.Stands.{SameExtreme}
 
 -- the kind under another max_size
 abbrev pub resized : ℕ → Kind → Kind
@@ -35,6 +35,19 @@ pub record Of (s : Settings) (p : Handed) : Type 0 where
   pub threshold : p .threshold ≡ s .threshold
   pub min : Shown (s .extremes) (p .min)
   pub max : Shown (s .extremes) (p .max)
+
+-- finite, and equal as numbers
+pub record SameNumber (x y : Float) : Type 0 where
+  pub left : FiniteF64 x
+  pub right : FiniteF64 y
+  pub same : eq x y ≡ true
+
+-- neither is there, or both are and are the same number
+abbrev pub SameExtreme : Extreme → Extreme → Type 0
+SameExtreme None None = Unit {0}
+SameExtreme None (Value y) = ⊥
+SameExtreme (Value x) None = ⊥
+SameExtreme (Value x) (Value y) = SameNumber x y
 
 -- the same in all but the sum, a zero's sign in the extremes aside
 pub record Same (p q : Handed) : Type 0 where

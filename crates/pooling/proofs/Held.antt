@@ -25,7 +25,8 @@ use Rattle.exponential.proofs.Facts as Facts
 use Rattle.point.specs.declared.Point.{Point}
 use Rattle.point.specs.declared.Figures.{Figures}
 use Rattle.point.specs.declared.Figures.the-variants.{Exponential, Explicit}
-use Rattle.point.specs.Handing.{Stored, countsAs, isExplicit, refusalBefore, figuresFor}
+use Rattle.point.specs.Handing.{Stored, countsAs, figuresFor, refusalBefore}
+use Rattle.point.specs.Inner.{isExplicit}
 use Rattle.point.proofs.Calls as calls
 use Rattle.listing.specs.Words.{isShown, figuresIn, boundsIn, extremeIn, pointIn}
 use Rattle.listing.specs.declared.Span.{Span}

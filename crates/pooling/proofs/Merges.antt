@@ -15,10 +15,10 @@ use Rattle.index.specs.Bins.{finest}
 use Rattle.floats.specs.Starts.{zeroFloat}
 use Rattle.points.specs.Explicit.{bucketCount}
 use Rattle.points.specs.Figures.{exponentialCounts, explicitCounts}
-use Rattle.points.specs.Handed.{mergeCounts}
+use Rattle.points.specs.Handed.{mergeCounts, posOf, negOf}
 use Rattle.point.specs.declared.Figures.{Figures}
 use Rattle.point.specs.declared.Figures.the-variants.{Exponential, Explicit}
-use Rattle.point.specs.Handing.{Stored, storedIn, countsAs, countsIn, handedIn, posOf, negOf, Outcome, merging}
+use Rattle.point.specs.Handing.{Stored, storedIn, countsAs, countsIn, handedIn, Outcome, merging}
 use Rattle.listing.specs.Listed.{Output, Item, posLen, negLen, itemOf, putAt, boundsAt, storedAt}
 use Rattle.listing.specs.declared.Cursor.{Cursor}
 use Rattle.listing.specs.declared.Entry.{Entry}

@@ -16,8 +16,8 @@ use Rattle.laws.proofs.Bools.{and-left, and-right, pick-true, pick-false}
 use Rattle.laws.proofs.Cases.{true-not-false}
 use Rattle.laws.proofs.Over.{take-over}
 use Rattle.point.specs.declared.Point.{Point}
-use Rattle.point.specs.Handing.{Stored, refusalBefore, posOf, negOf, countsIn, Outcome, ended, merging}
-use Rattle.points.specs.Handed.{mergeCounts}
+use Rattle.point.specs.Handing.{Stored, refusalBefore, countsIn, Outcome, ended, merging}
+use Rattle.points.specs.Handed.{mergeCounts, posOf, negOf}
 use Rattle.listing.specs.Words.{wordsOf}
 use Rattle.listing.specs.Listed.{Output, posLen, negLen, behind, overAt, putAt}
 use Rattle.listing.specs.Inner.{Goes}

@@ -16,17 +16,16 @@ use Rattle.floats.specs.Answers.{smallerOf, largerOf}
 use Rattle.rows.specs.Rows.{over}
 use Rattle.points.specs.Explicit.{bucketCount}
 use Rattle.points.specs.Figures as F
-use Rattle.points.specs.Handed.{mergeCounts}
+use Rattle.points.specs.Handed.{mergeCounts, mergeHanded, posOf, negOf}
 use Rattle.points.proofs.Explicit.{buckets-say, merge-buckets-ok}
 use Rattle.explicit.specs.Series.{bucketsIn}
 use Rattle.point.specs.declared.Point.{Point}
 use Rattle.point.specs.declared.Figures.{Figures}
 use Rattle.point.specs.declared.Figures.the-variants.{Exponential, Explicit}
-use Rattle.point.specs.declared.Made.the-variants.{Of}
-use Rattle.point.specs.Handing.{Stored, countsAs, countsIn, refusalBefore, figuresFor, posOf, negOf, madeOver, laidOver, ended, concluded, merging}
+use Rattle.point.specs.Handing.{Stored, countsAs, countsIn, figuresFor, ended, refusalBefore, merging}
 use Rattle.point.proofs.Laid.{same-count}
 use Rattle.point.proofs.Calls as calls
-use Rattle.point.proofs.Answers.{hasRoom, no-room}
+use Rattle.point.proofs.Answers.{hasRoom, with-room, no-room}
 use Rattle.listing.specs.Listed.{bucketsOf, posLen, negLen}
 use Rattle.listing.specs.declared.Span.{Span}
 use Rattle.pooling.specs.Lists.{lastly}
@@ -97,17 +96,14 @@ module _ (size : ℕ) (x y : Stored) where
       pub is : merging size x y us vs
           ≡ ended (success point) (x .bounds) (over (posOf (mergeCounts size (countsIn x) (countsIn y))) us) (over (negOf (mergeCounts size (countsIn x) (countsIn y))) vs)
 
-    laid : hasRoom made us vs ≡ true → laidOver made us vs ≡ madeOver (Of (figuresFor made)) (over (posOf made) us) (over (negOf made) vs)
-    unfolding laidOver
-    laid h = pick-true (hasRoom made us vs) _ _ h
-
     taken : refusalBefore size x y ≡ 0 → hasRoom made us vs ≡ true → Taken
+    unfolding mergeHanded
     taken e h =
         record {
           free = e;
           pos = leb-true _ _ (and-left (leb (length (posOf made)) (length us)) (leb (length (negOf made)) (length vs)) h);
           neg = leb-true _ _ (and-right (leb (length (posOf made)) (length us)) (leb (length (negOf made)) (length vs)) h);
-          is = sym (calls.accepted size x y us vs e) ∙ ap (concluded x y) (laid h);
+          is = with-room size x y e us vs h;
         }
 
     turned-10 : refusalBefore size x y ≡ 0 → hasRoom made us vs ≡ false → Turned 10

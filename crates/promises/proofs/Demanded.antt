@@ -1,24 +1,24 @@
 -- DEMAND 3 WHOLE, for any histogram kind's store and points in lent output that pay what they owe. Assumes nothing.
 use Prim.Native.Nat.{_+_, _^_, _<_, ℕ}
 use mathlib.Core.Path.{_≡_, refl, ap, sym, subst, _∙_}
-use mathlib.Core.Bool.{Bool, true, false, _&&_}
+use mathlib.Core.Bool.{true}
 use mathlib.Core.List.{List, [], _∷_, map, flatten}
 use native.Mathlib.Omega.{arith}
 use lib.Dec.{leb}
 use lib.ListN.{length, length-map}
 use lib.Ieee.{Float}
 use Rattle.laws.specs.Lists.{All}
-use Rattle.laws.specs.Pick.{_and_}
 use Rattle.laws.proofs.Cases.{and-true, true-not-false}
 use Rattle.index.specs.Bins.{finest}
 use Rattle.floats.specs.Starts.{FiniteF64}
 use Rattle.points.specs.Figures.{Kind, exponential, explicit, sizePasses, Settings}
 use Rattle.points.specs.Handed.{handed}
-use Rattle.point.specs.Handing.{Stored, handedIn}
-use Rattle.point.specs.Lists.{inShape, Configured}
+use Rattle.point.specs.Handing.{Stored, handedIn, inShape}
+use Rattle.point.specs.Lists.{Configured}
+use Rattle.tally.specs.Kind.{inAll}
 use Rattle.tally.specs.Sets.{Set}
 use Rattle.tally.specs.Tally.{empty, after}
-use Rattle.tally.specs.Demand.{many, Cut, any, pointsOf}
+use Rattle.tally.specs.Demand.{counted, Cut, any, pointsOf}
 use Rattle.tally.proofs.Clean.{Clean, clean-after}
 use Rattle.tally.proofs.Logs.{length-values}
 use Rattle.tally.proofs.Demand.{demand}
@@ -46,14 +46,9 @@ Demanded {S} L bounds w =
     (limit : ℕ) (filter : Option (List ℕ)) (s : Stores) (x : S .Cells) → L .Lent x → number (started S limit filter s x .answer) ≡ 0
     → Holds L bounds w limit filter (started S limit filter s x .held)
 
-both : (a b : Bool) → (a && b) ≡ true → a and b ≡ true
-unfolding _and_
-both true b e = e
-both false b e = e
-
 -- settings that configuring accepts
 configured : (k : Kind) → passes k ≡ true → Configured k
-configured (exponential size top) e = both (leb 3 size) (leb size 160) (and-true (sizePasses size) (leb top finest) e .0)
+configured (exponential size top) e = and-true (sizePasses size) (leb top finest) e .0
 configured (explicit bounds) e = e
 
 -- points of some values are some
@@ -73,7 +68,7 @@ module _ {S : Store histograms} (W : Owed S) (L : Lister S) (keeps : Keeps L) (b
       let ans = replies L w limit filter h xs in
       let A = demand K lawful c (run L w limit filter h) F xs p in
       let t = after K c (empty K c) qs ans in
-      let n : Clean K (0 + many K qs) t = clean-after K c qs ans 0 (empty K c) (record { waiting = λ s. refl; collected = λ s. refl; long = omega arith }) in
+      let n : Clean K (0 + inAll (counted K) qs) t = clean-after K c qs ans 0 (empty K c) (record { waiting = λ s. refl; collected = λ s. refl; long = omega arith }) in
       let z = S .settings w in
       let ok = configured (z .kind) (F .valid) in
       let ps : Set → List Stored = λ r. storedOf L bounds w limit filter r h xs in

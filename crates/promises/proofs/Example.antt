@@ -16,10 +16,10 @@ use Rattle.floats.specs.Starts.{zeroFloat}
 use Rattle.floats.specs.declared.Extreme.the-variants.{Value}
 use Rattle.points.specs.Explicit.{bucketOf, bucketsOf, recordBucket, bucketsAgree, boundsPass, noNan, rising, mergeBuckets, added, sameBounds}
 use Rattle.points.specs.Figures.{explicitCounts}
-use Rattle.points.specs.Handed.{Handed, handed}
+use Rattle.points.specs.Handed.{Handed, handed, mergeable, mergeHanded, handedAgrees, unmergeable}
 use Rattle.points.specs.Stands.{Stands}
 use Rattle.point.specs.declared.Figures.the-variants.{Explicit}
-use Rattle.point.specs.Handing.{Stored, storedIn, handedIn, pointAgrees, refusalBefore, laidOver, merging}
+use Rattle.point.specs.Handing.{Stored, storedIn, handedIn, refusalBefore, laidOver, merging}
 use Rattle.merging.specs.Merged.{mergedStored}
 use Rattle.tally.specs.Sets.{Set, Lendable}
 use Rattle.tally.specs.Kind.{Room}
@@ -184,7 +184,7 @@ unfolding pointAt entryIn isPoint configured started begun Bindings.started boun
 points = refl
 
 together : mergedStored 0 (0 ∷ 0 ∷ 0 ∷ []) [] s₁ s₂ ≡ success all
-unfolding merging refusalBefore pointAgrees laidOver mergeBuckets added bucketsAgree boundsPass sameBounds noNan rising _and_ isNan lt eq add round ofBits pick over
+unfolding merging refusalBefore unmergeable mergeable mergeHanded handedAgrees laidOver mergeBuckets added bucketsAgree boundsPass sameBounds noNan rising _and_ isNan lt eq add round ofBits pick over
 together = refl
 
 values : collectedOf (explicitLister bounds) w 1 none first given A ≡ five ∷ less ∷ seven ∷ []

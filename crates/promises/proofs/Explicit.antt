@@ -8,8 +8,7 @@ use lib.Ieee.{Float}
 use Rattle.laws.specs.Pick.{pick}
 use Rattle.floats.specs.Starts.{zeroFloat}
 use Rattle.explicit_slots.specs.Cells.{Cells, headAt}
-use Rattle.point.specs.Lists.{inShape}
-use Rattle.point.specs.Handing.{explicitPoint}
+use Rattle.point.specs.Handing.{explicitPoint, inShape}
 use Rattle.listing.specs.Words.{figuresIn, pointIn, isPoint}
 use Rattle.listing.proofs.Back.{point-is}
 use Rattle.listing.proofs.Given.{explicit-held}

@@ -15,8 +15,7 @@ use Rattle.exponential.specs.declared.Head.{Head}
 use Rattle.exponential.proofs.Facts as Facts
 use Rattle.exponential_slots.specs.Cells.{Cells, Room, headIn, headAt, countsIn}
 use Rattle.exponential_slots.proofs.Cases.{head-held, head-fresh}
-use Rattle.point.specs.Lists.{inShape}
-use Rattle.point.specs.Handing.{exponentialPoint}
+use Rattle.point.specs.Handing.{exponentialPoint, inShape}
 use Rattle.listing.specs.Words.{figuresIn, pointIn, isPoint}
 use Rattle.listing.proofs.Back.{point-is}
 use Rattle.listing.proofs.Given.{exponential-held}

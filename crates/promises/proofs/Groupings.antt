@@ -18,19 +18,18 @@ use Rattle.laws.proofs.Perms.{flatten-perm, unmap-perm}
 use Rattle.index.specs.Bins.{finest, lowestBin}
 use Rattle.floats.specs.Starts.{FiniteF64}
 use Rattle.points.specs.Figures as F
-use Rattle.points.specs.Figures.{Kind, exponential, explicit, sizeOf, Settings, kindCounts}
-use Rattle.points.specs.Handed.{handed, mergeHanded, mergeCounts, countsAgree, extremesAgree, handedAgrees, countOf}
+use Rattle.points.specs.Figures.{Kind, exponential, explicit, sizePasses, Settings, kindCounts}
+use Rattle.points.specs.Handed.{handed, mergeHanded, mergeCounts, countsAgree, extremesAgree, handedAgrees, countOf, sizeAsked, unmergeable}
 use Rattle.points.specs.Same.{resized}
 use Rattle.points.specs.Stands.{Stands}
 use Rattle.points.proofs.Figures as PF
-use Rattle.points.proofs.Stands.{Allows, handed-stands, stands-order, stands-join, stands-agrees, stands-mergeable}
-use Rattle.exponential.specs.Series.{sizePasses}
+use Rattle.points.proofs.Stands.{sizeOf, Allows, handed-stands, stands-order, stands-join, stands-agrees, stands-mergeable}
 use Rattle.point.specs.declared.Figures.{Figures}
 use Rattle.point.specs.declared.Figures.the-variants.{Exponential, Explicit}
-use Rattle.point.specs.Handing.{Stored, handedIn, countsAs, countsIn, refusalBefore}
-use Rattle.point.specs.Lists.{inShape, counted, Configured, Long}
+use Rattle.point.specs.Handing.{Stored, handedIn, countsAs, countsIn, inShape, refusalBefore}
+use Rattle.point.specs.Lists.{Configured, PointOf, Long}
 use Rattle.point.proofs.Lists.{long-enough}
-use Rattle.point.proofs.Means.{agreesRead, agrees-whole, sizeFor, sizeAsked, refusalRead, count-is, refusal-is}
+use Rattle.point.proofs.Means.{agreesRead, agrees-whole, sizeFor}
 use Rattle.point.proofs.Answers.{hasRoom, answers, no-room, sound}
 use Rattle.merging.specs.Merged.{mergedStored, Groups}
 use Rattle.value_map.proofs.Cases.{refusal-no-success}
@@ -97,32 +96,31 @@ pub record For (z : Settings) (v : List Float) (x : Stored) : Type 0 where
   pub stands : Stands z (handedIn x) v
   pub shape : inShape x ≡ true
 
-count-for : (z : Settings) (v : List Float) (x : Stored) → For z v x → counted x ≡ length v
-count-for z v x f = count-is x ∙ ap countOf (f .stands .counts) ∙ PF.count-is (z .kind) (z .threshold) v
+count-for : (z : Settings) (v : List Float) (x : Stored) → For z v x → countOf (countsIn x) ≡ length v
+count-for z v x f = ap countOf (f .stands .same .counts) ∙ PF.count-is (z .kind) (z .threshold) v
 
 -- ---- TWO OF THEM MERGED
 module _ (z : Settings) (k : Configured (z .kind)) (size : ℕ) (u : Under (z .kind) size) where
   agreeing : (v : List Float) (x : Stored) → For z v x → agreesRead size (handedIn x) ≡ true
   unfolding handedAgrees
   agreeing v x f =
-      ap (λ b. b and extremesAgree (x .point .min) (x .point .max)) (agrees-own (z .kind) (z .threshold) size u v (countsIn x) (f .stands .counts))
+      ap (λ b. b and extremesAgree (x .point .min) (x .point .max)) (agrees-own (z .kind) (z .threshold) size u v (countsIn x) (f .stands .same .counts))
       ∙ stands-agrees z (handedIn x) v (sound (z .kind) k) (f .stands)
 
   shown : (v : List Float) (x : Stored) → For z v x → Shows (z .kind) (z .threshold) v (x .point .figures)
   shown v x f =
-      let e = f .stands .counts in
+      let e = f .stands .same .counts in
       let a = agrees-whole size x (size-for (z .kind) (z .threshold) size u k (x .point .figures) (x .bounds) (x .pos) (x .neg) v e) (f .shape) ∙ agreeing v x f in
       shows (z .kind) (z .threshold) v size x a (f .shape) e
 
   module _ (x y : Stored) (v w : List Float) (p : For z v x) (q : For z w y) (few : length v + length w < 2 ^ 64) (us vs : List ℕ) where
     free : refusalBefore size x y ≡ 0
-    unfolding refusalRead pick _and_
+    unfolding refusalBefore unmergeable pick _and_
     free =
-        let a : sizeAsked size (countsIn x) (countsIn y) ≡ true = (λ t. sizeAsked size (p .stands .counts t) (q .stands .counts t)) ∙ size-asked (z .kind) (z .threshold) size u k v w in
-        let n : leb (countOf (countsIn x) + countOf (countsIn y)) mostCount ≡ true = (λ t. leb (sym (count-is x) t + sym (count-is y) t) mostCount)
-        ∙ le-leb (counted x + counted y) mostCount (omega (arith, few, count-for z v x p, count-for z w y q)) in
-        refusal-is size x y
-        ∙ (λ t. pick (a t) (pick ((p .shape t and q .shape t) and agreeing v x p t and agreeing w y q t)
+        let a : sizeAsked size (countsIn x) (countsIn y) ≡ true = (λ t. sizeAsked size (p .stands .same .counts t) (q .stands .same .counts t)) ∙ size-asked (z .kind) (z .threshold) size u k v w in
+        let n : leb (countOf (countsIn x) + countOf (countsIn y)) mostCount ≡ true =
+        le-leb (countOf (countsIn x) + countOf (countsIn y)) mostCount (omega (arith, few, count-for z v x p, count-for z w y q)) in
+        (λ t. pick (a t) (pick ((p .shape t and q .shape t) and agreeing v x p t and agreeing w y q t)
         (pick (stands-mergeable z (handedIn x) (handedIn y) v w (sound (z .kind) k) (p .stands) (q .stands) t) (pick (n t) 0 9) 11) 8) 1)
 
     joins : Stands z (mergeHanded size (handedIn x) (handedIn y)) (v ++ w)
@@ -146,7 +144,7 @@ module _ (z : Settings) (k : Configured (z .kind)) (size : ℕ) (u : Under (z .k
     long : Long (z .kind) us vs → roomy ≡ true
     unfolding mergeHanded
     long l =
-        ap (λ c. hasRoom c us vs) (joins .counts)
+        ap (λ c. hasRoom c us vs) (joins .same .counts)
         ∙ long-enough (z .kind) (z .threshold) (v ++ w) us vs k (joins .values) l
 
     -- accepted: what is left stands for both
@@ -164,6 +162,19 @@ module _ (z : Settings) (k : Configured (z .kind)) (size : ℕ) (u : Under (z .k
         go : (b : Bool) → roomy ≡ b → n ≡ 10
         go true r = let m = made r in refusal-no-success n (m .0) (sym e ∙ m .1)
         go false r = refusal-number {A = Stored} n 10 (sym e ∙ short r)
+
+-- THE LAW OF TWO: the points of two lists, in rows with room for any list
+for-list : (z : Settings) (v : List Float) (x : Stored) → PointOf z v x → For z v x
+for-list z v x p = record { stands = subst (λ h. Stands z h v) (sym (p .is)) (handed-stands z v (p .values)); shape = p .shape }
+
+pub two-lists : (z : Settings) → Configured (z .kind) → (size : ℕ) → Under (z .kind) size → (v w : List Float) → length v + length w < 2 ^ 64
+    → (x y : Stored) → PointOf z v x → PointOf z w y → (us vs : List ℕ) → Long (z .kind) us vs
+    → (a : Stored) × (mergedStored size us vs x y ≡ success a) × Stands z (handedIn a) (v ++ w)
+two-lists z k size u v w few x y p q us vs l =
+    let f = for-list z v x p in
+    let g = for-list z w y q in
+    let m = made z k size u x y v w f g few us vs (long z k size u x y v w f g few us vs l) in
+    (m .0, m .1, m .2 .stands)
 
 -- ---- BY ANY GROUPING: stored points with their values
 abbrev Pair : Type 0
@@ -286,7 +297,7 @@ module _ (z : Settings) where
       let i = head-eq-of-cons-eq e in
       let n = all-left FiniteF64 v (flatten parts) f in
       let own : For z v x = record { stands = subst (λ h. Stands z h v) (sym i) (handed-stands z v n); shape = s .0 } in (
-        record { values = v; is = record { is = i; shape = s .0; values = n }; shows = shown z k (sizeOf (z .kind)) (own-size (z .kind)) v x own },
+        (v, record { is = i; shape = s .0; values = n }, shown z k (sizeOf (z .kind)) (own-size (z .kind)) v x own),
         pointed k ps parts (tail-eq-of-cons-eq e) (s .1) (all-right FiniteF64 v (flatten parts) f),
       )
 

@@ -16,6 +16,7 @@ use Rattle.index.specs.Bins.{finest, scaleOf, indexOf}
 use Rattle.index.specs.declared.signed.Integer.the-variants.{Is}
 use Rattle.points.specs.Points as Points
 use Rattle.points.specs.Points.{Point}
+use Rattle.points.specs.Signed.{offsetIn}
 use Rattle.points.specs.Values.{countsOf}
 use Rattle.points.specs.Figures as F
 use Rattle.points.specs.Figures.{Kind, exponential, explicit, exponentialCounts, explicitCounts, kindCounts}
@@ -24,10 +25,10 @@ use Rattle.exponential.specs.declared.Counts.{Counts}
 use Rattle.exponential.specs.Series.{rowIn, read}
 use Rattle.point.specs.declared.Figures.{Figures}
 use Rattle.point.specs.declared.Figures.the-variants.{Exponential, Explicit}
-use Rattle.point.specs.Handing.{Stored, countsAs, countsIn, pointAgrees}
-use Rattle.point.specs.Lists.{figuresShaped, inShape}
+use Rattle.point.specs.Handing.{Stored, countsAs, countsIn, figuresShaped, inShape}
+use Rattle.point.specs.Inner.{pointAgrees}
 use Rattle.point.proofs.Shown.{offsetOf, scale-there, pos-there, neg-there}
-use Rattle.promises.specs.Seen.{offsetIn, Seen, Shows}
+use Rattle.promises.specs.Seen.{Seen, Shows}
 
 -- counts of one kind are not of the other
 abbrev pointIn : Point → F.Counts → Point

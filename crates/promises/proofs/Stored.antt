@@ -17,11 +17,10 @@ use Rattle.laws.specs.Pick.{pick}
 use Rattle.laws.specs.Said.{Said, refusal, success}
 use Rattle.laws.proofs.Lists.{all-append}
 use Rattle.points.specs.Handed.{Handed}
-use Rattle.point.specs.Handing.{Stored, handedIn}
-use Rattle.point.specs.Lists.{inShape}
-use Rattle.tally.specs.Sets.{Set, same}
+use Rattle.point.specs.Handing.{Stored, handedIn, inShape}
+use Rattle.tally.specs.Sets.{Set, same, ofSet}
 use Rattle.tally.specs.Map.{Answer, refuse, done, handle, listed, sound}
-use Rattle.tally.specs.Demand.{among, pointsOf, answers}
+use Rattle.tally.specs.Demand.{pointsOf, answers}
 use Rattle.kinds.specs.Histograms.{histograms}
 use Rattle.sets.specs.Rows.{setOf}
 use Rattle.directory.specs.Calls.{mostSets, accepts}
@@ -45,7 +44,7 @@ use Rattle.collecting.specs.Read.{posLen, negLen}
 use Rattle.collecting.proofs.Owed.{Listed, Lists}
 use Rattle.collecting.proofs.Points.{sound-in}
 use Rattle.promises.specs.Runs.{Asked, recording, recordingBy, binding, releasing, collecting, ended, run}
-use Rattle.promises.specs.Pooled.{storedBy, ofSet, handsOut, storedOf}
+use Rattle.promises.specs.Pooled.{storedBy, handsOut, storedOf}
 use Rattle.promises.proofs.Cursors.{storedPoint, storedFrom, There, Lies, reads}
 use Rattle.promises.proofs.Runs.{Keeps, Ready, does}
 
@@ -68,12 +67,12 @@ storedThere bounds (success n) o = storedFrom bounds n (o .sets) (o .words) (o .
 abbrev read : Set × Stored → Set × Handed
 read p = (p .0, handedIn (p .1))
 
-among-read : (r : Set) (l : List (Set × Stored)) → map handedIn (ofSet r l) ≡ among histograms r (map read l)
+among-read : (r : Set) (l : List (Set × Stored)) → map handedIn (ofSet r l) ≡ ofSet r (map read l)
 among-read r [] = refl
 among-read r (p ∷ l) = go (among-read r l) (same (p .0) r)
   where
-    go : map handedIn (ofSet r l) ≡ among histograms r (map read l) → (b : Bool)
-        → map handedIn (cond b (p .1 ∷ ofSet r l) (ofSet r l)) ≡ cond b (handedIn (p .1) ∷ among histograms r (map read l)) (among histograms r (map read l))
+    go : map handedIn (ofSet r l) ≡ ofSet r (map read l) → (b : Bool)
+        → map handedIn (cond b (p .1 ∷ ofSet r l) (ofSet r l)) ≡ cond b (handedIn (p .1) ∷ ofSet r (map read l)) (ofSet r (map read l))
     go i true = ap (λ t. handedIn (p .1) ∷ t) i
     go i false = i
 
@@ -112,12 +111,12 @@ module _ {S : Store histograms} (L : Lister S) (bounds : List Float) (T : Storin
 
   -- of one answer
   abbrev shown : Set → Answer histograms → List Handed
-  shown r a = elim a [ refuse n ↦ [] | done ↦ [] | handle b ↦ [] | listed ps ↦ among histograms r ps ]
+  shown r a = elim a [ refuse n ↦ [] | done ↦ [] | handle b ↦ [] | listed ps ↦ ofSet r ps ]
 
   by-read : (r : Set) (a : Said ℕ) (o : Output) → map handedIn (ofSet r (storedThere bounds a o)) ≡ shown r (answered L w a o)
   by-read r (refusal n) o = refl
   by-read r (success n) o =
-      among-read r (storedFrom bounds n (o .sets) (o .words) (o .pos) (o .neg)) ∙ ap (among histograms r) (from-read n (o .sets) (o .words) (o .pos) (o .neg))
+      among-read r (storedFrom bounds n (o .sets) (o .words) (o .pos) (o .neg)) ∙ ap (ofSet r) (from-read n (o .sets) (o .words) (o .pos) (o .neg))
 
   none-read : (r : Set) (a : Said (Option ℕ)) → _≡_ {A = List Handed} [] (shown r (mapAnswer histograms a))
   none-read r (refusal n) = refl

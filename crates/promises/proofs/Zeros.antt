@@ -19,12 +19,12 @@ use Rattle.floats.specs.declared.Extreme.the-variants.{Value}
 use Rattle.points.specs.Agreement as Agreement
 use Rattle.points.specs.Agreement.{rowAgrees}
 use Rattle.points.specs.Figures.{exponentialCounts}
-use Rattle.points.specs.Handed.{Handed}
+use Rattle.points.specs.Handed.{Handed, mergeable, mergeHanded, handedAgrees, unmergeable}
 use Rattle.points.specs.Points as Points
 use Rattle.points.proofs.Rows as PointsRows
 use Rattle.points.specs.Values.{classOf}
 use Rattle.point.specs.declared.Figures.the-variants.{Exponential}
-use Rattle.point.specs.Handing.{Stored, storedIn, pointAgrees, refusalBefore, laidOver, merging}
+use Rattle.point.specs.Handing.{Stored, storedIn, refusalBefore, laidOver, merging}
 use Rattle.merging.specs.Merged.{mergedStored}
 use Rattle.tally.specs.Map.{Config, Answer, done, listed}
 use Rattle.tally.specs.Demand.{Premise}
@@ -139,5 +139,5 @@ unfolding pointAt entryIn isPoint configured levelAnswer started begun Bindings.
 points = refl
 
 together : mergedStored 3 [] [] (stored 1) (stored 1) ≡ success (stored 2)
-unfolding merging refusalBefore pointAgrees Series.agrees Agreement.agrees rowAgrees laidOver _and_ isNan lt eq add round ofBits ofFields pick over PointsRows.at Points.rowOf Points.row Points.fits Points.fitsBoth Points.scale Points.build Points.indices Points.bag Points.merge
+unfolding merging refusalBefore unmergeable mergeable mergeHanded handedAgrees Series.agrees Agreement.agrees rowAgrees laidOver _and_ isNan lt eq add round ofBits ofFields pick over PointsRows.at Points.rowOf Points.row Points.fits Points.fitsBoth Points.scale Points.build Points.indices Points.bag Points.merge
 together = refl

@@ -3,7 +3,7 @@
 use Prim.Native.Nat.{ℕ, _+_, _^_, _≤_, _<_}
 use mathlib.Core.Path.{_≡_}
 use mathlib.Core.Bool.{Bool, true}
-use mathlib.Core.List.{List, [], _++_, List·Permᴰ}
+use mathlib.Core.List.{List, [], _++_, foldl, List·Permᴰ}
 use lib.ListN.{length, getD, drop, replicate}
 use lib.Ieee.{Float}
 use Rattle.laws.specs.Lists.{All}
@@ -12,57 +12,64 @@ use Rattle.laws.specs.Trees.{Tree, leaves}
 use Rattle.index.specs.Bins.{finest}
 use Rattle.floats.specs.Starts.{FiniteF64}
 use Rattle.points.specs.Explicit.{boundsPass, bucketCount}
-use Rattle.points.specs.Figures.{leastSize, mostSize, exponential, explicit, sizeOf, Settings}
+use Rattle.points.specs.Figures.{exponential, explicit, sizePasses, Settings, settingsOf}
+use Rattle.points.specs.Handed.{mergeHanded, countOf}
 use Rattle.points.specs.Same.{resized, Of, Same}
 use Rattle.points.specs.Stands.{Stands}
 use Rattle.laws.specs.Over.{over}
-use Rattle.exponential.specs.Runs as E
-use Rattle.explicit.specs.Series.{freshHead}
-use Rattle.explicit.specs.Runs as X
-use Rattle.kinds.specs.Histograms.{merged}
-use Rattle.point.specs.Handing.{Stored, storedIn, handedIn, exponentialPoint, explicitPoint}
-use Rattle.point.specs.Lists.{inShape, told, Configured, settingsOf, PointOf, Long}
+use Rattle.exponential.specs.declared.Head as EH
+use Rattle.exponential.specs.Series as E
+use Rattle.exponential.specs.Runs.{freshHead, next}
+use Rattle.explicit.specs.declared.Head as XH
+use Rattle.explicit.specs.Series as X
+use Rattle.tally.specs.Kind.{inAll}
+use Rattle.point.specs.Handing.{Stored, storedIn, countsIn, handedIn, inShape, exponentialPoint, explicitPoint}
+use Rattle.point.specs.Lists.{Configured, PointOf, Long}
 use Rattle.listing.specs.Listed.{Output, storedAt}
 use Rattle.listing.specs.declared.Cursor.{Cursor}
 use Rattle.listing.specs.declared.Entry.{Entry}
 use Rattle.listing.specs.declared.Found.the-variants.{Is}
 use Rattle.pooling.specs.Lists.{Source, wholeAt, hasPlace, putMerged, pooledAt, Holds}
-use Rattle.merging.specs.Merged.{Good, allCounted, AtTop, mergedStored, roomOf, Groups}
+use Rattle.merging.specs.Merged.{Good, AtTop, mergedStored, Groups}
+use Rattle.promises.specs.Pooled.{Under}
 use Rattle.laws.specs.Counting.{mostCount}
 
 -- ---- RECORDING
 
--- "Point of a list of values": finite values recorded one by one from the fresh series, in rows that suffice, read as document 01's point of
--- the list. `runAll` records by the definition that the contract of `record` cites.
+-- "Point of a list of values": finite values recorded one by one from the fresh series, in rows that suffice, are all accepted, and read as
+-- document 01's point of the list. They are recorded by the definition that the contract of `record` cites.
 abbrev pub ExponentialRecords : Type 0
 ExponentialRecords =
-    (size top : ℕ) → leastSize ≤ size → size ≤ mostSize → top ≤ finest → (xs ys : List ℕ) → size ≤ length xs → size ≤ length ys
+    (size top : ℕ) → sizePasses size ≡ true → top ≤ finest → (xs ys : List ℕ) → size ≤ length xs → size ≤ length ys
     → (vs : List Float) → All FiniteF64 vs → length vs < 2 ^ 64 → (bounds : List Float) (extremes sums : Bool)
-    → let z = E.runAll size top (record { head = E.freshHead top; pos = xs; neg = ys }) vs in
-    PointOf (settingsOf (exponential size top) extremes sums) vs (storedIn (exponentialPoint (z .head) extremes sums) bounds (z .pos) (z .neg))
+    → let z = foldl (λ o v. next (o .answer) (λ h. E.recording size top h (o .pos) (o .neg) v) o) (E.outcome (success (freshHead top)) xs ys) vs in
+    (h : EH.Head) × (z .answer ≡ success h)
+    × PointOf (settingsOf (exponential size top) extremes sums) vs (storedIn (exponentialPoint h extremes sums) bounds (z .pos) (z .neg))
 
 abbrev pub ExplicitRecords : Type 0
 ExplicitRecords =
     (bounds : List Float) → boundsPass bounds ≡ true → (xs : List ℕ) → bucketCount bounds ≤ length xs
     → (vs : List Float) → All FiniteF64 vs → length vs < 2 ^ 64 → (ys : List ℕ) (extremes sums : Bool)
-    → let z = X.runAll bounds (record { head = freshHead; counts = over (replicate (bucketCount bounds) 0) xs }) vs in
-    PointOf (settingsOf (explicit bounds) extremes sums) vs (storedIn (explicitPoint (z .head) extremes sums) bounds (z .counts) ys)
+    → let z = foldl (λ o v. next (o .answer) (λ h. X.recording bounds h (o .counts) v) o) (X.outcome (success X.freshHead) (over (replicate (bucketCount bounds) 0) xs)) vs in
+    (h : XH.Head) × (z .answer ≡ success h)
+    × PointOf (settingsOf (explicit bounds) extremes sums) vs (storedIn (explicitPoint h extremes sums) bounds (z .counts) ys)
 
 -- ---- MERGING
 
--- "Merging: 1, 8, 11, 9, 10": of points in shape `point::merge` answers as the merge of demand 3's points does, in the room of the lent rows
+-- what an accepted `point::merge` leaves in the lent rows is in shape, and reads as the merge of what its arguments read as. (Its numbers are those
+-- of what they read as by its contract.)
 abbrev pub MergeAnswers : Type 0
 MergeAnswers =
-    (size : ℕ) (x y : Stored) (us vs : List ℕ) → inShape x ≡ true → inShape y ≡ true
-    → told (mergedStored size us vs x y) ≡ merged size (handedIn x) (handedIn y) (roomOf us vs)
+    (size : ℕ) (x y z : Stored) (us vs : List ℕ) → mergedStored size us vs x y ≡ success z
+    → (handedIn z ≡ mergeHanded size (handedIn x) (handedIn y)) × (inShape z ≡ true)
 
 -- the points of two lists merge, in rows with room for any list, to a point that stands for the lists joined: "exactly the scale, offsets, all
 -- counts, minimum and maximum (a zero's sign aside) .. The sum too, if .."
 abbrev pub ListsMerge : Type 0
 ListsMerge =
-    (s : Settings) → Configured (s .kind) → (v w : List Float) → length v + length w < 2 ^ 64
+    (s : Settings) → Configured (s .kind) → (size : ℕ) → Under (s .kind) size → (v w : List Float) → length v + length w < 2 ^ 64
     → (x y : Stored) → PointOf s v x → PointOf s w y → (us vs : List ℕ) → Long (s .kind) us vs
-    → (z : Stored) × (mergedStored (sizeOf (s .kind)) us vs x y ≡ success z) × Stands s (handedIn z) (v ++ w)
+    → (z : Stored) × (mergedStored size us vs x y ≡ success z) × Stands s (handedIn z) (v ++ w)
 
 -- Request L14: "merge to the same scale, rows, counts and extremes under every bracketing and order, signs of zero aside". Of points of one kind,
 -- bounds and switch, whatever rows were lent to each merge, if all were accepted
@@ -71,11 +78,12 @@ AnyGrouping =
     (size : ℕ) (s : Settings) (t u : Tree Stored) (x y : Stored) → List·Permᴰ (leaves t) (leaves u) → All (λ l. Of s (handedIn l)) (leaves t)
     → Groups size t x → Groups size u y → Same (handedIn x) (handedIn y)
 
--- and all are accepted, of points that agree: "The premise is that the lent output suffices .. that the counts together stay below 2^64"
+-- and all are accepted, of points that agree, under a max_size: "The premise is that the lent output suffices .. that the counts together stay below
+-- 2^64"
 abbrev pub EveryGrouping : Type 0
 EveryGrouping =
-    (size : ℕ) (s : Settings) (us vs : List ℕ) → Long (resized size (s .kind)) us vs → (t u : Tree Stored) → List·Permᴰ (leaves t) (leaves u)
-    → All (Good size s) (leaves t) → allCounted (leaves t) ≤ mostCount
+    (size : ℕ) (s : Settings) → Configured (resized size (s .kind)) → (us vs : List ℕ) → Long (resized size (s .kind)) us vs
+    → (t u : Tree Stored) → List·Permᴰ (leaves t) (leaves u) → All (Good size s) (leaves t) → inAll (λ x. countOf (countsIn x)) (leaves t) ≤ mostCount
     → (x : Stored) × (y : Stored) × Groups size t x × Groups size u y × Same (handedIn x) (handedIn y)
 
 -- "A fresh point at the greatest allowed scale changes none of these in the other", before it or after it

@@ -2,7 +2,7 @@
 -- Assumes nothing.
 use Prim.Native.Nat.{ℕ, zero, suc, _<_}
 use mathlib.Core.Path.{_≡_}
-use mathlib.Core.Bool.{true, cond}
+use mathlib.Core.Bool.{true}
 use mathlib.Core.List.{List, [], _∷_, _++_, map, List·Permᴰ}
 use mathlib.Core.Option.{Option}
 use lib.ListN.{length, getD}
@@ -15,7 +15,7 @@ use Rattle.points.specs.Stands.{Stands}
 use Rattle.point.specs.Handing.{Stored, handedIn}
 use Rattle.point.specs.Lists.{PointOf, Long}
 use Rattle.merging.specs.Merged.{mergedStored, Groups}
-use Rattle.tally.specs.Sets.{Set, same}
+use Rattle.tally.specs.Sets.{Set, ofSet}
 use Rattle.tally.specs.Map.{Call, Answer}
 use Rattle.tally.specs.Demand.{Premise, Answered, any, gained, pointsOf, asked, ran}
 use Rattle.kinds.specs.Histograms.{histograms}
@@ -50,11 +50,6 @@ abbrev pub storedBy : List Float → Said ℕ → Output → List (Set × Stored
 storedBy bounds (refusal n) o = []
 storedBy bounds (success n) o = readFrom bounds n (record { place = 0; pos = 0; neg = 0 }) o
 
--- those of the set r
-abbrev pub ofSet : Set → List (Set × Stored) → List Stored
-ofSet r [] = []
-ofSet r (p ∷ ps) = cond (same (p .0) r) (p .1 ∷ ofSet r ps) (ofSet r ps)
-
 module _ {S : Store histograms} (L : Lister S) (bounds : List Float) (w : S .Switches) (limit : ℕ) (filter : Option (List ℕ)) where
   -- what a call left in lent output
   abbrev pub handsOut : Held (S .Cells) → Asked histograms → List (Set × Stored)
@@ -69,11 +64,9 @@ module _ {S : Store histograms} (L : Lister S) (bounds : List Float) (w : S .Swi
   storedOf r h [] = []
   storedOf r h (x ∷ xs) = ofSet r (handsOut h x) ++ storedOf r (ended L w limit filter h x .1) xs
 
--- a stored point that is document 01's point of some values, and shows their scale and offsets
-pub record Pointed (z : Settings) (x : Stored) : Type 0 where
-  pub values : List Float
-  pub is : PointOf z values x
-  pub shows : Shows (z .kind) (z .threshold) values (x .point .figures)
+-- document 01's point of some values, which shows their scale and offsets
+abbrev pub Pointed : Settings → Stored → Type 0
+Pointed z x = (vs : List Float) × PointOf z vs x × Shows (z .kind) (z .threshold) vs (x .point .figures)
 
 -- ---- MERGED BY CODE
 

@@ -10,17 +10,17 @@ use lib.ListN.{length, length-append}
 use Rattle.laws.specs.Tests.{all}
 use Rattle.laws.proofs.Cases.{none-not-some}
 use Rattle.laws.proofs.Perms.{all-append}
-use Rattle.tally.specs.Sets.{Set, canonical}
-use Rattle.tally.specs.Kind.{Kind, unless, firstOf, suffices}
+use Rattle.tally.specs.Sets.{Set, ofSet, canonical}
+use Rattle.tally.specs.Kind.{Kind, inAll, unless, firstOf, suffices}
 use Rattle.tally.specs.Map.{Config, Call, measure, measureBy, bind, release, collect, Answer, listed}
-use Rattle.tally.specs.Tally.{Tally, Told, orUntold, joined, gathered, due, bound, beyond, tell, fed, after, valuesOf}
-use Rattle.tally.specs.Demand.{counted, many}
+use Rattle.tally.specs.Tally.{Tally, Told, orUntold, joined, gathered, due, bound, beyond, tell, fed, after}
+use Rattle.tally.specs.Demand.{counted}
 use Rattle.tally.proofs.Logs.{values-append, finite-joined}
 
 module _ (K : Kind) where
   pub record Clean (n : ℕ) (t : Tally K) : Type 0 where
-    pub waiting : (s : Set) → all (K .finite) (valuesOf K s (t .waiting)) ≡ true
-    pub collected : (s : Set) → all (K .finite) (valuesOf K s (t .collected)) ≡ true
+    pub waiting : (s : Set) → all (K .finite) (ofSet s (t .waiting)) ≡ true
+    pub collected : (s : Set) → all (K .finite) (ofSet s (t .collected)) ≡ true
     pub long : length (t .waiting) + length (t .collected) ≤ n
 
   clean-up : (n j : ℕ) (t : Tally K) → n ≤ j → Clean n t → Clean j t
@@ -38,7 +38,7 @@ module _ (K : Kind) where
   clean-gathered n t h =
       record {
         waiting = λ s. refl;
-        collected = λ s. rw (values-append K s (t .collected) (t .waiting)) (all-append (K .finite) (valuesOf K s (t .collected)) (valuesOf K s (t .waiting)) (h .collected s) (h .waiting s));
+        collected = λ s. rw (values-append K s (t .collected) (t .waiting)) (all-append (K .finite) (ofSet s (t .collected)) (ofSet s (t .waiting)) (h .collected s) (h .waiting s));
         long = omega (arith, length-append (t .collected) (t .waiting), h .long);
       }
 
@@ -70,9 +70,9 @@ module _ (K : Kind) where
       let u = clean-up n (n + 0) t (omega arith) h in
       clean-or (n + 0) t (unless (suffices K room (map (λ p. p .1) (due K t))) 10) (record { answer = listed (due K t); tally = gathered K t }) u (λ e. clean-gathered (n + 0) t u)
 
-  pub clean-after : (c : Config K) (xs : List (Call K)) (ans : List (Answer K)) (n : ℕ) (t : Tally K) → Clean n t → Clean (n + many K xs) (after K c t xs ans)
+  pub clean-after : (c : Config K) (xs : List (Call K)) (ans : List (Answer K)) (n : ℕ) (t : Tally K) → Clean n t → Clean (n + inAll (counted K) xs) (after K c t xs ans)
   clean-after c [] ans n t h = clean-up n (n + 0) t (omega arith) h
-  clean-after c (x ∷ xs) [] n t h = clean-up n (n + many K (x ∷ xs)) t (omega arith) h
+  clean-after c (x ∷ xs) [] n t h = clean-up n (n + inAll (counted K) (x ∷ xs)) t (omega arith) h
   clean-after c (x ∷ xs) (a ∷ ans) n t h =
-      clean-up (n + counted K x + many K xs) (n + many K (x ∷ xs)) (after K c t (x ∷ xs) (a ∷ ans)) (omega arith)
+      clean-up (n + counted K x + inAll (counted K) xs) (n + inAll (counted K) (x ∷ xs)) (after K c t (x ∷ xs) (a ∷ ans)) (omega arith)
       (clean-after c xs ans (n + counted K x) (tell K c t x (fed K a) .tally) (clean-tell c n t x (fed K a) h))

@@ -7,10 +7,10 @@ use mathlib.Core.Option.{Option, none, some, Option·getD}
 use Rattle.laws.specs.Lists.{only}
 use Rattle.laws.proofs.Bools.{some?}
 use Rattle.laws.proofs.Cases.{some-inj, none-not-some}
-use Rattle.tally.specs.Sets.{Set, same}
+use Rattle.tally.specs.Sets.{Set, ofSet, same}
 use Rattle.tally.specs.Kind.{Kind}
 use Rattle.tally.specs.Map.{Entry, Map, find, current, filled, keys}
-use Rattle.tally.specs.Tally.{Tally, valuesOf}
+use Rattle.tally.specs.Tally.{Tally}
 use Rattle.tally.specs.Demand.{any}
 use Rattle.tally.specs.Runs.{listed?, Listed}
 use Rattle.tally.proofs.Lawful.{Lawful}
@@ -34,7 +34,7 @@ module _ (K : Kind) (z : K .Settings) where
 
 module _ (K : Kind) (L : Lawful K) (U : List Set) (top k : ℕ) (m : Map K) (t : Tally K) (h : Holds K L U top k m t) where
   abbrev vs : Set → List (K .Value)
-  vs s = valuesOf K s (t .waiting)
+  vs s = ofSet s (t .waiting)
 
   shown : (s : Set) (b : Bool) (o : Option (K .Series)) → Kept K L (m .settings) o (vs s)
       → Shown K (m .settings) (cond b o (some (Option·getD o (K .fresh (m .settings))))) (not b || any K (vs s)) (K .pointOf (m .settings) (vs s))

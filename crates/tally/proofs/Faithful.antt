@@ -1,15 +1,15 @@
 -- FAITHFUL CODE, whose calls do the map's steps, and demand 3 of any such code of any kind. Assumes nothing.
 use Prim.Native.Nat.{ℕ, _<_}
 use mathlib.Core.Path.{_≡_}
-use mathlib.Core.Bool.{true}
-use mathlib.Core.Logic.{_⊎_}
+use mathlib.Core.Bool.{true, cond}
+use mathlib.Core.Logic.{_⊎_, inl, inr}
 use mathlib.Core.List.{List, [], _∷_, List·Permᴰ}
 use lib.ListN.{length}
 use Rattle.tally.specs.Sets.{Set}
-use Rattle.tally.specs.Kind.{Kind, Room}
+use Rattle.tally.specs.Kind.{Kind, Room, suffices}
 use Rattle.tally.specs.Map.{Config, Call, Answer, Map, Agrees}
 use Rattle.tally.proofs.MapSteps.{start, step}
-use Rattle.tally.specs.Demand.{Answered, Code, Premise, any, asked, fitting, gained, pointsOf, ran}
+use Rattle.tally.specs.Demand.{Answered, Code, Premise, any, asked, gained, pointsOf, ran}
 
 module _ (K : Kind) where
   -- MERGING. Within: a premise on the values (none over f64; L6: the magnitudes total at most 2^63 - 1);
@@ -20,12 +20,16 @@ module _ (K : Kind) where
     pub Stands : K .Settings → K .Point → List (K .Value) → Type 0
     pub merge : K .Settings → K .Point → K .Point → Room → ℕ ⊎ K .Point
 
+  -- the point r, wherever there is room for it, and 10 wherever there is not
+  abbrev pub fitting : K .Point → Room → ℕ ⊎ K .Point
+  fitting r room = cond (suffices K room (r ∷ [])) (inr r) (inl 10)
+
   -- "Points enter merges as handed out; a lone one stays. A merge is refused only with 10, and repeated with longer output." The points
   -- qs merged into p one by one: each merge is answered, in all the room that suffices, and the last point stands for vs.
   abbrev pub Folds : Merging → K .Settings → K .Point → List (K .Point) → List (K .Value) → Type 0
   Folds M z p [] vs = M .Stands z p vs
   Folds M z p (q ∷ qs) vs =
-      (r : K .Point) × ((room : Room) → M .merge z p q room ≡ fitting K r room) × Folds M z r qs vs
+      (r : K .Point) × ((room : Room) → M .merge z p q room ≡ fitting r room) × Folds M z r qs vs
 
   -- "its points merged one by one in any order"
   pub record Merged (M : Merging) (z : K .Settings) (ps : List (K .Point)) (vs : List (K .Value)) : Type 0 where

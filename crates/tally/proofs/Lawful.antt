@@ -6,8 +6,7 @@ use mathlib.Core.List.{List, [], _∷_, _++_, List·Permᴰ}
 use lib.ListN.{length}
 use Rattle.laws.specs.Tests.{all}
 use Rattle.tally.specs.Kind.{Kind, Room}
-use Rattle.tally.specs.Demand.{fitting}
-use Rattle.tally.proofs.Faithful.{Merging}
+use Rattle.tally.proofs.Faithful.{Merging, fitting}
 
 -- what a kind owes: some relation `Has` between a series and the values recorded into it, in order, with these laws
 pub record Lawful (K : Kind) : Type 1 where

@@ -1,16 +1,15 @@
 -- Demand 3: its premise, what it claims of answers and points, and the code that it is claimed of. Assumes nothing.
-use Prim.Native.Nat.{ℕ, _+_, _^_, _≤_, _<_}
+use Prim.Native.Nat.{ℕ, _^_, _≤_, _<_}
 use mathlib.Core.Path.{_≡_}
 use mathlib.Core.Bool.{Bool, true, false, cond}
-use mathlib.Core.Logic.{_⊎_, inl, inr}
 use mathlib.Core.List.{List, [], _∷_, _++_, map, flatten}
 use mathlib.Core.Option.{some}
 use lib.ListN.{length}
 use Rattle.laws.specs.Tests.{all}
-use Rattle.tally.specs.Sets.{Set, Lendable, same, ascending, canonical}
-use Rattle.tally.specs.Kind.{Kind, Room, suffices}
-use Rattle.tally.specs.Map.{Config, Points, Call, measure, measureBy, bind, release, collect, Answer, refuse, done, handle, listed}
-use Rattle.tally.specs.Tally.{Tally, empty, tell, fed, after, valuesOf}
+use Rattle.tally.specs.Sets.{Set, Lendable, ofSet, ascending, canonical}
+use Rattle.tally.specs.Kind.{Kind, inAll}
+use Rattle.tally.specs.Map.{Config, Call, measure, measureBy, bind, release, collect, Answer, refuse, done, handle, listed}
+use Rattle.tally.specs.Tally.{Tally, empty, tell, fed, after}
 
 -- a set, unless it is the empty one
 abbrev pub ifNamed : Set → List Set
@@ -20,10 +19,6 @@ module _ (K : Kind) where
   -- THE PREMISE. "Recordings and bindings, refused ones counted, are fewer than 2^64"
   abbrev pub counted : Call K → ℕ
   counted x = elim x [ measure v attrs ↦ 1 | measureBy h v ↦ 1 | bind attrs ↦ 1 | release h ↦ 0 | collect room ↦ 0 ]
-
-  abbrev pub many : List (Call K) → ℕ
-  many [] = 0
-  many (x ∷ xs) = counted x + many xs
 
   -- "Accepted: answered 0"
   abbrev pub accepted : Answer K → Bool
@@ -43,7 +38,7 @@ module _ (K : Kind) where
 
   -- "the accepted ones on no more unlike named sets than the limit"
   pub record Premise (c : Config K) (xs : List (Call K)) (ans : List (Answer K)) : Type 0 where
-    pub fewer : many xs < 2 ^ 64
+    pub fewer : inAll counted xs < 2 ^ 64
     pub unlike : length (ascending (sets c xs ans)) ≤ c .limit
 
   -- THE ANSWERS. "No birth number gets two sets, and a set keeps its number while that has a binding."
@@ -63,20 +58,16 @@ module _ (K : Kind) where
       (a ≡ tell K c t x (fed K a) .answer) × Owned c t x a × Right c (tell K c t x (fed K a) .tally) xs ans
 
   -- THE POINTS. Those of the set s among the answers, in order
-  abbrev pub among : Set → Points K → List (K .Point)
-  among s [] = []
-  among s (p ∷ ps) = cond (same (p .0) s) (p .1 ∷ among s ps) (among s ps)
-
   abbrev pub pointsOf : Set → List (Answer K) → List (K .Point)
   pointsOf s [] = []
-  pointsOf s (a ∷ ans) = elim a [ refuse n ↦ [] | done ↦ [] | handle b ↦ [] | listed ps ↦ among s ps ] ++ pointsOf s ans
+  pointsOf s (a ∷ ans) = elim a [ refuse n ↦ [] | done ↦ [] | handle b ↦ [] | listed ps ↦ ofSet s ps ] ++ pointsOf s ans
 
   abbrev pub any : List (K .Value) → Bool
   any vs = elim vs [ [] ↦ false | v ∷ l ↦ true ]
 
   -- the set's collected values
   abbrev pub gained : Config K → List (Call K) → List (Answer K) → Set → List (K .Value)
-  gained c xs ans s = valuesOf K s (after K c (empty K c) xs ans .collected)
+  gained c xs ans s = ofSet s (after K c (empty K c) xs ans .collected)
 
   -- "wherever collections cut": the points are those of the parts, none empty, of a cutting of the values
   pub record Cut (z : K .Settings) (ps : List (K .Point)) (vs : List (K .Value)) : Type 0 where
@@ -89,10 +80,6 @@ module _ (K : Kind) where
   pub record Answered (c : Config K) (xs : List (Call K)) (ans : List (Answer K)) : Type 0 where
     pub right : Right c (empty K c) xs ans
     pub cut : (s : Set) → Cut (c .settings) (pointsOf s ans) (gained c xs ans s)
-
-  -- the point r, wherever there is room for it, and 10 wherever there is not
-  abbrev pub fitting : K .Point → Room → ℕ ⊎ K .Point
-  fitting r room = cond (suffices K room (r ∷ [])) (inr r) (inl 10)
 
   -- the calls whose arguments can be lent: attributes of u32s and a handle that is a u64, any value, any room
   abbrev pub InRange : Call K → Type 0

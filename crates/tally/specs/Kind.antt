@@ -55,12 +55,12 @@ pub record Room : Type 0 where
   pub pos : ℕ
   pub neg : ℕ
 
-module _ (K : Kind) where
-  -- the counts of all the points in one of the stores
-  abbrev pub inAll : (K .Point → ℕ) → List (K .Point) → ℕ
-  inAll f [] = 0
-  inAll f (p ∷ ps) = f p + inAll f ps
+-- so many in all
+abbrev pub inAll : {A : Type 0} → (A → ℕ) → List A → ℕ
+inAll f [] = 0
+inAll f (x ∷ l) = f x + inAll f l
 
+module _ (K : Kind) where
   -- "10: lent output too short for all points or counts"
   abbrev pub suffices : Room → List (K .Point) → Bool
   suffices room ps = leb (length ps) (room .points) && (leb (inAll (K .pos) ps) (room .pos) && leb (inAll (K .neg) ps) (room .neg))

@@ -1,7 +1,7 @@
 -- The exponential kind pays what it owes, by the laws of `exponential_slots`. Assumes nothing.
 use Prim.Native.Nat.{ℕ, _+_, _≤_, _<_}
 use mathlib.Core.Path.{_≡_, _∙_}
-use mathlib.Core.Bool.{true}
+use mathlib.Core.Bool.{true, false}
 use mathlib.Core.List.{List, [], _∷_}
 use native.Mathlib.Omega.{arith}
 use lib.Dec.{leb}
@@ -24,17 +24,10 @@ use Rattle.value_map.proofs.Products.{entry-in, counts-in}
 
 -- ---- max_size and the greatest level
 
-pub size-in : (size : ℕ) → 3 ≤ size → size ≤ 160 → sizePasses size ≡ true
-size-in size a b = rw (le-leb 3 size a, le-leb size 160 b)
-
 module _ (size top : ℕ) where
-  pub unset-low : size < 3 → 1 ≡ unset size top
+  pub unset-1 : sizePasses size ≡ false → 1 ≡ unset size top
   unfolding unset pick
-  unset-low h = rw (lt-leb 3 size h)
-
-  pub unset-high : 3 ≤ size → 160 < size → 1 ≡ unset size top
-  unfolding unset pick
-  unset-high a h = rw (le-leb 3 size a, lt-leb size 160 h)
+  unset-1 h = rw h
 
   module _ (e : sizePasses size ≡ true) where
     pub unset-2 : finest < top → 2 ≡ unset size top

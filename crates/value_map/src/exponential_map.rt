@@ -20,10 +20,7 @@ use seats::room::lesser;
 pub fn unset_of(size: u32, top: u32) -> u8
     ensures { λ r. ⌜ r ≡ unset size top ⌝ }
 {
-    if size < 3 {
-        return 1;
-    }
-    if size > 160 {
+    if !exponential::size_passes(size as usize) {
         return 1;
     }
     if index::FINEST < top {

@@ -1,7 +1,7 @@
 -- `exports::head_after` meets its contract. Assumes nothing.
 use mathlib.Core.Path.{sym, ap}
 use Rattle.exponential.specs.Series.{said}
-use Rattle.exponential.specs.Runs.{headAfter}
+use Rattle.exponential.specs.Inner.{headAfter}
 use Rattle.exponential.specs.declared.Answer.{Answer}
 use borrow.Author.Needs.{needs}
 use Rattle.exports.proofs.head_after.Statement.{statement}

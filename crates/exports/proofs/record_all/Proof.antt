@@ -6,7 +6,7 @@ use native.Mathlib.Omega.{arith}
 use denote.Ref.{now}
 use Rattle.exponential.specs.declared.Head.{Head}
 use Rattle.exponential.specs.Series.{said, outcome}
-use Rattle.exponential.specs.Runs.{Series, runAll}
+use Rattle.exponential.specs.Inner.{Series, runAll}
 use Rattle.exports.specs.Exports.{recorded}
 use Rattle.exports.proofs.Following.{turn, ended}
 use Rattle.exports.proofs.record_all.Statement.{statement}

@@ -1,7 +1,7 @@
 use mathlib.Core.Path.{sym, ap, _∙_}
 use denote.Ref.{now}
 use Rattle.point.specs.declared.Figures.{Figures}
-use Rattle.point.specs.Handing.{figuresAgree}
+use Rattle.point.specs.Inner.{figuresAgree}
 use borrow.Author.Needs.{needs}
 use Rattle.point.proofs.figures_agree.Statement.{statement}
 use Rattle.point.proofs.figures_agree.Tie as tie

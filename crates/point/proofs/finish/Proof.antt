@@ -1,7 +1,7 @@
 use mathlib.Core.Path.{sym, ap, _∙_}
 use lib.Ieee.{binary64, add}
 use Rattle.laws.specs.Said.{success}
-use Rattle.point.specs.Handing.{finished}
+use Rattle.point.specs.Inner.{finished}
 use borrow.Author.Needs.{needs}
 use Rattle.point.proofs.finish.Statement.{statement}
 use Rattle.point.proofs.finish.Tie as tie

@@ -1,6 +1,6 @@
 use mathlib.Core.Path.{sym, _∙_}
 use denote.Ref.{now}
-use Rattle.point.specs.Handing.{sameFigures}
+use Rattle.point.specs.Inner.{sameFigures}
 use borrow.Author.Needs.{needs}
 use Rattle.point.proofs.same_kind.Statement.{statement}
 use Rattle.point.proofs.same_kind.Tie as tie

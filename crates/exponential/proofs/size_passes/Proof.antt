@@ -2,8 +2,8 @@ use mathlib.Core.Path.{refl, sym}
 use native.Mathlib.Omega.{arith}
 use Rattle.laws.specs.Pick.{_and_}
 use borrow.Author.Tests.{le-leb, lt-leb}
-use Rattle.point.proofs.size_passes.Statement.{statement}
-use Rattle.point.proofs.size_passes.Tie as tie
+use Rattle.exponential.proofs.size_passes.Statement.{statement}
+use Rattle.exponential.proofs.size_passes.Tie as tie
 
 returns : tie.Need-returns
 unfolding _and_

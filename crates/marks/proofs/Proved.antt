@@ -25,15 +25,13 @@ use Rattle.index.proofs.Finest.{Held}
 use Rattle.index.proofs.Indices.{bin-from}
 use Rattle.index.proofs.Values.{value-is}
 use Rattle.floats.specs.Starts.{zeroFloat}
-use Rattle.floats.specs.declared.Extreme.the-variants as E
 use Rattle.points.specs.Points as P
 use Rattle.points.specs.Points.{Value, naught, plus, minus, build, scale, fitsBoth, row, rowOf}
 use Rattle.points.specs.Values.{classOf, summaryOf}
 use Rattle.points.specs.Explicit.{bucketOf}
-use Rattle.points.specs.Figures.{exponentialCounts}
 use Rattle.points.specs.Handed.{handed}
-use Rattle.marks.specs.Marks.{f64, lineIn, Line, Mark, index, bucket, point, Holds, Answered, marks}
-use Rattle.marks.proofs.Equal.{same, same-is, sameList, sameRow, sameLine, sameSome, some-is}
+use Rattle.marks.specs.Marks.{f64, Line, lineOf, Mark, index, bucket, point, Holds, Answered, marks}
+use Rattle.marks.proofs.Equal.{same, same-is, sameList, sameRow, sameLine, line-is}
 
 -- the magnitude w lies in the bin b at the level, a level and a bin that there are
 inBin : ℕ → ℕ → ℕ → Bool
@@ -119,7 +117,7 @@ rightPoint size values line OutOfRange = false
 rightPoint size values line (Is top) =
     let m = summaryOf (map f64 values) in
     allKnown values
-    && sameSome (lineIn (exponentialCounts (P.pointOf size (finest - top) (map (λ b. classed b (guess b)) values))) (E.Value (m .min)) (E.Value (m .max)) (m .sum)) line
+    && sameLine (lineOf (P.pointOf size (finest - top) (map (λ b. classed b (guess b)) values)) (m .min) (m .max) (m .sum)) line
 
 right : ℕ → Mark → Bool
 right k (index bits scale i) = rightIndex bits i (levelAnswer scale)
@@ -164,11 +162,16 @@ point-holds size scale values line OutOfRange e t = absurd t
 point-holds size scale values line (Is top) e t =
     let m = summaryOf (map f64 values) in
     let a = allKnown values in
-    let o = lineIn (exponentialCounts (P.pointOf size (finest - top) (map (λ b. classed b (guess b)) values))) (E.Value (m .min)) (E.Value (m .max)) (m .sum) in (
+    let o = lineOf (P.pointOf size (finest - top) (map (λ b. classed b (guess b)) values)) (m .min) (m .max) (m .sum) in (
       top,
+      P.pointOf size (finest - top) (map (classOf zeroFloat) (map f64 values)),
+      m .min,
+      m .max,
+      m .sum,
       e,
-      (λ j. lineIn (exponentialCounts (P.pointOf size (finest - top) (guesses-are values (both-left a (sameSome o line) t) j))) (E.Value (m .min)) (E.Value (m .max)) (m .sum))
-          ∙ some-is o line (both-right a (sameSome o line) t),
+      refl,
+      (λ j. lineOf (P.pointOf size (finest - top) (guesses-are values (both-left a (sameLine o line) t) j)) (m .min) (m .max) (m .sum))
+          ∙ line-is o line (both-right a (sameLine o line) t),
     )
 
 holds : (k : ℕ) (m : Mark) → T (right k m) → Holds m × Answered m
@@ -178,7 +181,7 @@ holds k (bucket bounds bits n) t = (eqb→eq (bucketOf (map f64 bounds) (f64 bit
 holds k (point size scale values line) t = (point-holds size scale values line (levelAnswer scale) refl t, tt)
 
 tested : T (every right 0 marks)
-unfolding right rightIndex rightPoint binOf same inBin guess classed known allKnown sameSome sameLine sameRow sameList P.pointOf build scale fitsBoth P.fits row rowOf hit _and_ pick bucketOf lt add round magnitude ofBits ofFields fits isNan toBits levelAnswer
+unfolding right rightIndex rightPoint binOf same inBin guess classed known allKnown sameLine sameRow sameList P.pointOf build scale fitsBoth P.fits row rowOf hit _and_ pick bucketOf lt add round magnitude ofBits ofFields fits isNan toBits levelAnswer
 tested = tt
 
 -- ---- THE MARKS

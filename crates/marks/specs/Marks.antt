@@ -2,11 +2,9 @@
 use mathlib.Core.Path.{_≡_}
 use mathlib.Core.Bool.{true, false}
 use mathlib.Core.List.{List, [], _∷_, map}
-use mathlib.Core.Option.{Option, none, some}
-use Prim.Native.Nat.{ℕ, _-_}
-use lib.IntN.{ℤ, pos, negsuc, _-ℤ_}
+use Prim.Native.Nat.{ℕ}
+use lib.IntN.{ℤ, pos, negsuc}
 use lib.Ieee.{Float, binary64, ofBits}
-use Rattle.index.specs.Bins.{finest, scaleOf, indexOf}
 use Rattle.index.specs.Magnitude.{magnitude}
 use Rattle.index.specs.DataModel.{IsIndex}
 use Rattle.index.specs.Signed.{levelAnswer, valueIndex}
@@ -14,12 +12,12 @@ use Rattle.index.specs.declared.signed.Natural.the-variants.{Is}
 use Rattle.index.specs.declared.signed.Index.the-variants.{At}
 use Rattle.floats.specs.Answers.{bitsOf}
 use Rattle.floats.specs.Starts.{zeroFloat}
-use Rattle.floats.specs.declared.Extreme.{Extreme}
-use Rattle.floats.specs.declared.Extreme.the-variants.{None, Value}
-use Rattle.points.specs.Points as P
+use Rattle.floats.specs.declared.Extreme.the-variants.{Value}
+use Rattle.points.specs.Points.{Point}
+use Rattle.points.specs.Signed.{scaleIn, offsetIn}
 use Rattle.points.specs.Explicit.{bucketOf}
-use Rattle.points.specs.Figures.{exponential, Settings, Counts, exponentialCounts, explicitCounts}
-use Rattle.points.specs.Handed.{Handed, handed}
+use Rattle.points.specs.Figures.{exponential, settingsOf, exponentialCounts}
+use Rattle.points.specs.Handed.{handed}
 
 -- the f64 with these bits
 abbrev pub f64 : ℕ → Float
@@ -27,53 +25,13 @@ f64 bits = ofBits binary64 bits
 
 -- ---- a point's line
 
--- a row "as offset:counts"
-pub record Row : Type 0 where
-  pub offset : ℤ
-  pub counts : List ℕ
+-- "count, zero count, scale, min, max, sum, then positive and negative row as offset:counts"; min, max and sum as bits
+abbrev pub Line : Type 0
+Line = ℕ × ℕ × ℤ × ℕ × ℕ × ℕ × (ℤ × List ℕ) × (ℤ × List ℕ)
 
--- "count, zero count, scale, min, max, sum, then positive and negative row"; min, max and sum as bits
-pub record Line : Type 0 where
-  pub count : ℕ
-  pub zeros : ℕ
-  pub scale : ℤ
-  pub min : ℕ
-  pub max : ℕ
-  pub sum : ℕ
-  pub pos : Row
-  pub neg : Row
-
--- the offset is the index of the row's first bin; "An empty row is `0:`"
-abbrev pub offsetOf : ℕ → ℕ → List ℕ → ℤ
-offsetOf level start [] = pos 0
-offsetOf level start (c ∷ cs) = indexOf level start
-
-abbrev pub rowLine : ℕ → P.Row → Row
-rowLine level r = record { offset = offsetOf level (r .start) (r .counts); counts = r .counts }
-
--- d steps below the finest level the scale is d below that level's
-abbrev pub pointLine : P.Point → ℕ → ℕ → ℕ → Line
-pointLine p low high total =
-    record {
-      count = p .total;
-      zeros = p .zeros;
-      scale = scaleOf finest -ℤ pos (p .d);
-      min = low;
-      max = high;
-      sum = total;
-      pos = rowLine (finest - p .d) (p .pos);
-      neg = rowLine (finest - p .d) (p .neg);
-    }
-
--- a point of the explicit kind has no line, and neither has one without extremes: the program hands out exponential points with everything recorded
-abbrev pub lineIn : Counts → Extreme → Extreme → Float → Option Line
-lineIn (explicitCounts bounds p) low high total = none
-lineIn (exponentialCounts p) None high total = none
-lineIn (exponentialCounts p) (Value x) None total = none
-lineIn (exponentialCounts p) (Value x) (Value y) total = some (pointLine p (bitsOf x) (bitsOf y) (bitsOf total))
-
-abbrev pub lineOf : Handed → Option Line
-lineOf h = lineIn (h .counts) (h .min) (h .max) (h .sum)
+abbrev pub lineOf : Point → Float → Float → Float → Line
+lineOf p low high total =
+    (p .total, p .zeros, scaleIn p, bitsOf low, bitsOf high, bitsOf total, (offsetIn p (p .pos), p .pos .counts), (offsetIn p (p .neg), p .neg .counts))
 
 -- ---- the marks
 
@@ -85,15 +43,15 @@ pub data Mark : Type 0 where
   -- under a max_size and max_scale these values have the point with the line
   point : ℕ → ℤ → List ℕ → Line → Mark
 
--- a max_size and a greatest level; everything recorded, no zero threshold
-abbrev pub settings : ℕ → ℕ → Settings
-settings size top = record { kind = exponential size top; extremes = true; sums = true; threshold = zeroFloat }
-
 -- by the Data Model's index and document 01's bucket and point
 abbrev pub Holds : Mark → Type 0
 Holds (index bits scale i) = IsIndex scale (magnitude (f64 bits)) i
 Holds (bucket bounds bits k) = bucketOf (map f64 bounds) (f64 bits) ≡ k
-Holds (point size scale values line) = (top : ℕ) × (levelAnswer scale ≡ Is top) × (lineOf (handed (settings size top) (map f64 values)) ≡ some line)
+Holds (point size scale values line) =
+    (top : ℕ) × (p : Point) × (low : Float) × (high : Float) × (total : Float) × (levelAnswer scale ≡ Is top)
+    × (handed (settingsOf (exponential size top) true true) (map f64 values)
+    ≡ record { counts = exponentialCounts p; extremes = true; threshold = zeroFloat; min = Value low; max = Value high; sum = total })
+    × (lineOf p low high total ≡ line)
 
 -- by what the contract of `index::signed::get_index` says that the code answers; what the other marks say is what contracts cite
 abbrev pub Answered : Mark → Type 0
@@ -119,16 +77,7 @@ marks =
     index 0x4_0000_0000_0000 (negsuc 9) (negsuc 1) ∷ index 0x4_0000_0000_0001 (negsuc 9) (negsuc 0) ∷
     -- the run's point: 1.0, 2.0, 3.0, 0.0 and -1.0 under `e 4 10`
     point 4 (pos 10) (0x3ff0_0000_0000_0000 ∷ 0x4000_0000_0000_0000 ∷ 0x4008_0000_0000_0000 ∷ 0 ∷ 0xbff0_0000_0000_0000 ∷ [])
-    (record {
-      count = 5;
-      zeros = 1;
-      scale = pos 0;
-      min = 0xbff0_0000_0000_0000;
-      max = 0x4008_0000_0000_0000;
-      sum = 0x4014_0000_0000_0000;
-      pos = record { offset = negsuc 0; counts = 1 ∷ 1 ∷ 1 ∷ [] };
-      neg = record { offset = negsuc 0; counts = 1 ∷ [] };
-    }) ∷
+    (5, 1, pos 0, 0xbff0_0000_0000_0000, 0x4008_0000_0000_0000, 0x4014_0000_0000_0000, (negsuc 0, 1 ∷ 1 ∷ 1 ∷ []), (negsuc 0, 1 ∷ [])) ∷
     -- "with bounds 0 and 5, value 5 in bucket 1"
     bucket (0 ∷ 0x4014_0000_0000_0000 ∷ []) 0x4014_0000_0000_0000 1 ∷
     []

@@ -1,4 +1,4 @@
--- Every entry of the table of worked examples holds, and the code answers it, by one test that antt computes. Assumes nothing.
+-- Every entry of the table of worked examples holds, by one test that antt computes. Assumes nothing.
 use mathlib.Core.Path.{_≡_, refl, ap, sym, subst, _∙_}
 use mathlib.Core.Bool.{Bool, true, false, not, _&&_, _||_}
 use mathlib.Core.List.{List, [], _∷_, map}
@@ -30,7 +30,7 @@ use Rattle.points.specs.Points.{Value, naught, plus, minus, build, scale, fitsB
 use Rattle.points.specs.Values.{classOf, summaryOf}
 use Rattle.points.specs.Explicit.{bucketOf}
 use Rattle.points.specs.Handed.{handed}
-use Rattle.marks.specs.Marks.{f64, Line, lineOf, Mark, index, bucket, point, Holds, Answered, marks}
+use Rattle.marks.specs.Marks.{f64, Line, lineOf, Mark, index, bucket, point, Holds, marks}
 use Rattle.marks.proofs.Equal.{same, same-is, sameList, sameRow, sameLine, line-is}
 
 -- the magnitude w lies in the bin b at the level, a level and a bin that there are
@@ -174,11 +174,11 @@ point-holds size scale values line (Is top) e t =
           ∙ line-is o line (both-right a (sameLine o line) t),
     )
 
-holds : (k : ℕ) (m : Mark) → T (right k m) → Holds m × Answered m
+holds : (k : ℕ) (m : Mark) → T (right k m) → Holds m
 unfolding right
 holds k (index bits scale i) t = both-index bits scale i (levelAnswer scale) refl t
-holds k (bucket bounds bits n) t = (eqb→eq (bucketOf (map f64 bounds) (f64 bits)) n t, tt)
-holds k (point size scale values line) t = (point-holds size scale values line (levelAnswer scale) refl t, tt)
+holds k (bucket bounds bits n) t = eqb→eq (bucketOf (map f64 bounds) (f64 bits)) n t
+holds k (point size scale values line) t = point-holds size scale values line (levelAnswer scale) refl t
 
 tested : T (every right 0 marks)
 unfolding right rightIndex rightPoint binOf same inBin guess classed known allKnown sameLine sameRow sameList P.pointOf build scale fitsBoth P.fits row rowOf hit _and_ pick bucketOf lt add round magnitude ofBits ofFields fits isNan toBits levelAnswer
@@ -189,11 +189,5 @@ module _ (k : ℕ) (h : k < length marks) where
   abbrev pub mark : Mark
   mark = getD marks k (index 0 (pos 0) (pos 0))
 
-  both : Holds mark × Answered mark
-  both = holds k mark (subst (λ (n : ℕ). T (right n mark)) (zero-add k) (at right (index 0 (pos 0) (pos 0)) marks 0 tested k h))
-
   pub marks-hold : Holds mark
-  marks-hold = both .0
-
-  pub marks-answered : Answered mark
-  marks-answered = both .1
+  marks-hold = holds k mark (subst (λ (n : ℕ). T (right n mark)) (zero-add k) (at right (index 0 (pos 0) (pos 0)) marks 0 tested k h))

@@ -43,21 +43,16 @@ pub data Mark : Type 0 where
   -- under a max_size and max_scale these values have the point with the line
   point : ℕ → ℤ → List ℕ → Line → Mark
 
--- by the Data Model's index and document 01's bucket and point
+-- by the Data Model's index, which is what the contract of `index::signed::get_index` says that the code answers, and by document 01's bucket and
+-- point, which contracts cite
 abbrev pub Holds : Mark → Type 0
-Holds (index bits scale i) = IsIndex scale (magnitude (f64 bits)) i
+Holds (index bits scale i) = IsIndex scale (magnitude (f64 bits)) i × (valueIndex (f64 bits) scale ≡ At false i)
 Holds (bucket bounds bits k) = bucketOf (map f64 bounds) (f64 bits) ≡ k
 Holds (point size scale values line) =
     (top : ℕ) × (p : Point) × (low : Float) × (high : Float) × (total : Float) × (levelAnswer scale ≡ Is top)
     × (handed (settingsOf (exponential size top) true true) (map f64 values)
     ≡ record { counts = exponentialCounts p; extremes = true; threshold = zeroFloat; min = Value low; max = Value high; sum = total })
     × (lineOf p low high total ≡ line)
-
--- by what the contract of `index::signed::get_index` says that the code answers; what the other marks say is what contracts cite
-abbrev pub Answered : Mark → Type 0
-Answered (index bits scale i) = valueIndex (f64 bits) scale ≡ At false i
-Answered (bucket bounds bits k) = Unit {0}
-Answered (point size scale values line) = Unit {0}
 
 abbrev pub marks : List Mark
 marks =

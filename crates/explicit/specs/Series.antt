@@ -8,6 +8,7 @@ use lib.Ieee.Scale.{finite}
 use Rattle.laws.specs.Pick.{pick, _and_}
 use Rattle.laws.specs.Said.{Said, refusal, success}
 use Rattle.laws.specs.Over.{over}
+use Rattle.exponential.specs.Series.{refusalBy}
 use Rattle.points.specs.Explicit.{Buckets, bucketCount, recordBucket, bucketsAgree}
 use Rattle.points.specs.Values.{Summary, start, noted}
 use Rattle.explicit.specs.declared.Head.{Head}
@@ -29,16 +30,10 @@ summary h = record { min = h .min; max = h .max; sum = h .sum }
 abbrev pub freshHead : Head
 freshHead = headOf 0 start
 
--- document 01's number: 12 a row lent too short, 6 the value not finite, 8 the series or its bounds disagree, 9 the count is full; 0 none
 unfoldable pub refusalOf : List Float → Head → List ℕ → Float → ℕ
 refusalOf bounds h xs v =
-    pick (leb (bucketCount bounds) (length xs))
-    (pick (finite v)
-    (pick (bucketsAgree bounds (bucketsIn bounds (h .count) xs) and finite (h .min) and finite (h .max))
-    (pick (leb mostCount (h .count)) 9 0)
-    8)
-    6)
-    12
+    refusalBy (leb (bucketCount bounds) (length xs)) (finite v)
+    (bucketsAgree bounds (bucketsIn bounds (h .count) xs) and finite (h .min) and finite (h .max)) (leb mostCount (h .count))
 
 -- "When an answer is an enum, a definition gives this paper's number and values for each case of that enum."
 abbrev pub said : Answer → Said Head

@@ -64,16 +64,15 @@ agrees size top c xs ys =
 
 -- ---- the call
 
--- document 01's number: 12 a row lent too short, 6 the value not finite, 8 the series disagrees, 9 the count is full; 0 none
+-- document 01's number, for either kind: 12 unless the rows are long enough, 6 unless the value is finite, 8 unless the series agrees, 9 if its
+-- count is full; 0 none
+abbrev pub refusalBy : Bool → Bool → Bool → Bool → ℕ
+refusalBy long finite agree full = pick long (pick finite (pick agree (pick full 9 0) 8) 6) 12
+
 unfoldable pub refusalOf : ℕ → ℕ → Head → List ℕ → List ℕ → Float → ℕ
 refusalOf size top h xs ys v =
-    pick (leb size (length xs) and leb size (length ys))
-    (pick (finite v)
-    (pick (agrees size top (h .counts) xs ys and finite (h .min) and finite (h .max))
-    (pick (eqb (h .counts .count) mostCount) 9 0)
-    8)
-    6)
-    12
+    refusalBy (leb size (length xs) and leb size (length ys)) (finite v)
+    (agrees size top (h .counts) xs ys and finite (h .min) and finite (h .max)) (eqb (h .counts .count) mostCount)
 
 -- "When an answer is an enum, a definition gives this paper's number and values for each case of that enum."
 abbrev pub said : Answer → Said Head

@@ -20,12 +20,13 @@ use Rattle.points.specs.Handed.{Handed, sameKind, mergeable, mergeCounts, merge
 use Rattle.points.specs.Same.{Shape, Of, resized}
 use Rattle.points.proofs.Agreement.{agrees-says}
 use Rattle.points.proofs.Explicit.{buckets-say, same-bounds}
-use Rattle.points.proofs.Grouping.{handed-commutes}
+use Rattle.points.proofs.Grouping.{known, of-known, handed-commutes}
 use Rattle.kinds.proofs.Steady.{merged-agrees}
 use Rattle.point.specs.Handing.{Stored, countsIn, handedIn, refusalBefore}
 use Rattle.point.specs.Lists.{Configured, Long}
 use Rattle.point.proofs.Answers.{hasRoom, answers}
-use Rattle.merging.specs.Merged.{Good, mergedStored}
+use Rattle.merging.specs.Merged.{Good}
+use Rattle.merging.proofs.Groups.{mergedStored}
 use Rattle.laws.specs.Counting.{mostCount}
 
 abbrev pub low : ℕ
@@ -100,7 +101,7 @@ module _ (size : ℕ) (s : Settings) (sized : Configured (resized size (s .kind)
   unfolding mergeable
   can =
       and-intro (sameKind (p .counts) (q .counts)) (Bool·beq (p .extremes) (q .extremes)) alike
-      (beq-same (p .extremes) (q .extremes) (g .of .extremes ∙ sym (h .of .extremes)))
+      (beq-same (p .extremes) (q .extremes) (g .of .same .extremes ∙ sym (h .of .same .extremes)))
 
   asked : sizeAsked size (p .counts) (q .counts) ≡ true
   asked = size-asked size (s .kind) (p .counts) (q .counts) sized (g .of .shape) (h .of .shape)
@@ -110,7 +111,7 @@ module _ (size : ℕ) (s : Settings) (sized : Configured (resized size (s .kind)
       merged-agrees size p q asked can (g .agree) (h .agree)
 
   of : Of s (mergeHanded size p q)
-  of = handed-commutes size s .kept p q (g .of) (h .of)
+  of = of-known s (mergeHanded size p q) (handed-commutes size s .kept p q (known s p (g .of)) (known s q (h .of)))
 
   room : hasRoom (mergeCounts size (p .counts) (q .counts)) us vs ≡ true
   unfolding mergeHanded handedAgrees

@@ -5,14 +5,19 @@ use mathlib.Core.List.{List, [], _∷_, _++_, map, map-append, List·Permᴰ}
 use Rattle.laws.specs.Lists.{All}
 use Rattle.laws.specs.Trees.{Tree, leaf, node, leaves}
 use Rattle.laws.proofs.Trees.{folded}
-use Rattle.laws.proofs.Lists.{map-perm}
+use Rattle.laws.proofs.Lists.{all-map, map-perm}
 use Rattle.points.specs.Figures.{Settings}
 use Rattle.points.specs.Handed.{Handed, mergeHanded}
 use Rattle.points.specs.Same.{Of, Same}
-use Rattle.points.proofs.Grouping.{merge-any}
-use Rattle.point.specs.Handing.{Stored, handedIn}
+use Rattle.points.proofs.Grouping.{Known, known, merge-any}
+use Rattle.laws.specs.Said.{Said}
+use Rattle.point.specs.Handing.{Stored, handedIn, merging}
 use Rattle.point.proofs.Answers.{merged-reads}
 use Rattle.merging.specs.Merged.{Groups}
+
+-- what a merge of x and y into the rows us and vs answers
+abbrev pub mergedStored : ℕ → List ℕ → List ℕ → Stored → Stored → Said Stored
+mergedStored size us vs x y = merging size x y us vs .answer
 
 -- ---- a tree of merges reads as the tree of the points read
 abbrev pub readTree : Tree Stored → Tree Handed
@@ -40,4 +45,4 @@ any-grouping size s t u x y h a g k =
     rw (groups-read size t x g, groups-read size u y k)
     (merge-any size s (readTree t) (readTree u)
     (rw (leaves-read t, leaves-read u) (map-perm handedIn h))
-    (rw (leaves-read t) (all-read (Of s) (leaves t) a)))
+    (rw (leaves-read t) (all-read (Known s) (leaves t) (all-map (λ l. Of s (handedIn l)) (λ l. Known s (handedIn l)) (λ l. known s (handedIn l)) (leaves t) a))))

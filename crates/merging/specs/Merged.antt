@@ -3,7 +3,7 @@ use Prim.Native.Nat.{ℕ}
 use mathlib.Core.Path.{_≡_}
 use mathlib.Core.Bool.{true}
 use mathlib.Core.List.{List}
-use Rattle.laws.specs.Said.{Said, success}
+use Rattle.laws.specs.Said.{success}
 use Rattle.laws.specs.Trees.{Tree, leaf, node}
 use Rattle.index.specs.Bins.{finest, lowestBin}
 use Rattle.points.specs.Figures.{Kind, exponential, explicit, Settings}
@@ -22,12 +22,8 @@ abbrev pub AtTop : Kind → Type 0
 AtTop (exponential size top) = top ≡ finest
 AtTop (explicit bounds) = Unit {0}
 
--- two points merged under a max_size into the lent rows us and vs: what `point::merge` answers
-abbrev pub mergedStored : ℕ → List ℕ → List ℕ → Stored → Stored → Said Stored
-mergedStored size us vs x y = merging size x y us vs .answer
-
--- ---- by any grouping: z is what merging the leaves two by two has left, whatever rows were lent to each merge
+-- by any grouping: z is what `point::merge` of the leaves two by two has left, whatever rows were lent to each merge
 abbrev pub Groups : ℕ → Tree Stored → Stored → Type 0
 Groups size (leaf a) z = a ≡ z
 Groups size (node s t) z =
-    (x : Stored) × (y : Stored) × (us : List ℕ) × (vs : List ℕ) × Groups size s x × Groups size t y × (mergedStored size us vs x y ≡ success z)
+    (x : Stored) × (y : Stored) × (us : List ℕ) × (vs : List ℕ) × Groups size s x × Groups size t y × (merging size x y us vs .answer ≡ success z)

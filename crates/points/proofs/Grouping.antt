@@ -1,7 +1,7 @@
 -- Merging by any grouping and order, of any points of one kind, switch and zero threshold: the same scale, rows, counts and extremes,
 -- a zero's sign aside; the fresh point changes none of these. Assumes nothing.
 use Prim.Native.Nat.{ℕ, _-_}
-use mathlib.Core.Path.{_≡_, refl, ap, sym, _∙_}
+use mathlib.Core.Path.{_≡_, refl, ap, sym, subst, _∙_}
 use mathlib.Core.Bool.{Bool, true, false}
 use mathlib.Core.List.{[], List·Permᴰ}
 use lib.Ieee.{Float}
@@ -9,15 +9,21 @@ use Rattle.laws.specs.Lists.{All}
 use Rattle.laws.specs.Trees.{Tree, leaves}
 use Rattle.laws.proofs.Trees.{Commutes, any-grouping, folded}
 use Rattle.index.specs.Bins.{finest}
+use Rattle.floats.specs.Answers.{shownOf}
+use Rattle.floats.specs.Starts.{zeroFloat}
+use Rattle.floats.specs.declared.Extreme.{Extreme}
+use Rattle.floats.specs.declared.Extreme.the-variants.{None, Value}
 use Rattle.points.specs.Points.{merge}
 use Rattle.points.specs.Explicit.{mergeBuckets}
 use Rattle.points.specs.Figures.{Kind, exponential, explicit, Settings, Counts, exponentialCounts, explicitCounts, kindCounts}
 use Rattle.points.specs.Handed.{Handed, handed, mergeCounts, mergeHanded}
-use Rattle.points.specs.Same.{Shape, Of, Same}
+use Rattle.points.specs.Values.{summaryOf}
+use Rattle.points.specs.Same.{Shape, SameExtreme, Same, Of}
 use Rattle.points.proofs.Merge.{merge-comm, merge-assoc}
 use Rattle.points.proofs.Agreement.{Agreed, fresh, fresh-neutral}
+use Rattle.points.proofs.Summaries.{extreme, extreme-finite}
 use Rattle.points.proofs.Explicit.{BucketsOk, buckets-comm, buckets-assoc, fresh-buckets}
-use Rattle.points.proofs.Numbers.{shown-self, shown-nearer, extreme-turn, extreme-trans, nearer-cong, nearer-comm, nearer-assoc-same, start-same}
+use Rattle.points.proofs.Numbers.{Shown, number-refl, same-shown, shown-self, shown-nearer, extreme-turn, extreme-trans, nearer-cong, nearer-comm, nearer-assoc-same, start-same}
 
 shape-kept : (size : ℕ) (k : Kind) (a b : Counts) → Shape k a → Shape k b → Shape k (mergeCounts size a b)
 shape-kept size (exponential m top) (exponentialCounts p) (exponentialCounts q) h k = tt
@@ -45,8 +51,50 @@ counts-assoc size (explicit b) (explicitCounts d p) (exponentialCounts q) c h k 
 counts-assoc size (explicit b) (explicitCounts d p) (explicitCounts e q) (exponentialCounts r) h k l = absurd l
 counts-assoc size (explicit b) (explicitCounts d p) (explicitCounts e q) (explicitCounts f r) h k l = ap (explicitCounts d) (buckets-assoc p q r)
 
+-- what is known of a point of the settings: its kind and bounds, switch and zero threshold, and extremes as the switch has them
+pub record Known (s : Settings) (p : Handed) : Type 0 where
+  pub shape : Shape (s .kind) (p .counts)
+  pub extremes : p .extremes ≡ s .extremes
+  pub threshold : p .threshold ≡ s .threshold
+  pub min : Shown (s .extremes) (p .min)
+  pub max : Shown (s .extremes) (p .max)
+
+shown-of : (on : Bool) (e : Extreme) (x : Float) → SameExtreme e (shownOf on x) → Shown on e
+unfolding All
+shown-of true (Value y) x h = record { of = y; known = h .left; is = refl }
+shown-of true None x h = absurd h
+shown-of false (Value y) x h = absurd h
+shown-of false None x h = record { of = extreme true (summaryOf []); known = extreme-finite true [] tt; is = refl }
+
+of-shown : (on : Bool) (e : Extreme) (k : Shown on e) → SameExtreme e (shownOf on (k .of))
+of-shown on e k = subst (λ a. SameExtreme a (shownOf on (k .of))) (sym (k .is)) (same-shown on (k .of) (k .of) (number-refl (k .of) (k .known)))
+
+pub known : (s : Settings) (p : Handed) → Of s p → Known s p
+known s p o =
+    record {
+      shape = o .shape;
+      extremes = o .same .extremes;
+      threshold = o .same .threshold;
+      min = shown-of (s .extremes) (p .min) (o .shown .min) (o .same .min);
+      max = shown-of (s .extremes) (p .max) (o .shown .max) (o .same .max);
+    }
+
+pub of-known : (s : Settings) (p : Handed) → Known s p → Of s p
+of-known s p k =
+    record {
+      shape = k .shape;
+      shown = record { min = k .min .of; max = k .max .of; sum = zeroFloat };
+      same = record {
+        counts = refl;
+        extremes = k .extremes;
+        threshold = k .threshold;
+        min = of-shown (s .extremes) (p .min) (k .min);
+        max = of-shown (s .extremes) (p .max) (k .max);
+      };
+    }
+
 -- ---- COMMUTATIVE AND ASSOCIATIVE
-pub handed-commutes : (size : ℕ) (s : Settings) → Commutes (mergeHanded size) (Of s) Same
+pub handed-commutes : (size : ℕ) (s : Settings) → Commutes (mergeHanded size) (Known s) Same
 unfolding mergeHanded
 handed-commutes size s =
     record {
@@ -99,9 +147,9 @@ handed-commutes size s =
     on = s .extremes
 
 -- BY ANY GROUPING AND ORDER
-pub merge-any : (size : ℕ) (s : Settings) (t u : Tree Handed) → List·Permᴰ (leaves t) (leaves u) → All (Of s) (leaves t)
+pub merge-any : (size : ℕ) (s : Settings) (t u : Tree Handed) → List·Permᴰ (leaves t) (leaves u) → All (Known s) (leaves t)
     → Same (folded (mergeHanded size) t) (folded (mergeHanded size) u)
-merge-any size s t u h p = any-grouping (mergeHanded size) (Of s) Same (handed-commutes size s) t u h p
+merge-any size s t u h p = any-grouping (mergeHanded size) (Known s) Same (handed-commutes size s) t u h p
 
 -- ---- THE FRESH POINT CHANGES NONE OF THESE in a point that agrees
 abbrev pub Agreeing : ℕ → ℕ → Kind → Counts → Type 0
@@ -117,7 +165,7 @@ counts-fresh size low (exponential m top) t (explicitCounts b p) h a = absurd h
 counts-fresh size low (explicit b) t (exponentialCounts p) h a = absurd h
 counts-fresh size low (explicit b) t (explicitCounts c p) h a = ap (explicitCounts b) (fresh-buckets b p (a .whole)) ∙ ap (λ x. explicitCounts x p) (sym h)
 
-pub fresh-same : (size low : ℕ) (s : Settings) (p : Handed) → Of s p → Agreeing size low (s .kind) (p .counts) → Same (mergeHanded size (handed s []) p) p
+pub fresh-same : (size low : ℕ) (s : Settings) (p : Handed) → Known s p → Agreeing size low (s .kind) (p .counts) → Same (mergeHanded size (handed s []) p) p
 unfolding mergeHanded handed
 fresh-same size low s p o a =
     record {

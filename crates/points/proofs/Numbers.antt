@@ -9,7 +9,6 @@ use Rattle.floats.specs.declared.Extreme.the-variants.{None, Value}
 use Rattle.floats.proofs.Choices.{chosen, eq-refl, eq-sym, eq-trans, chosen-cong, chosen-comm, chosen-assoc}
 use Rattle.floats.proofs.Starts.{start, start-first, finite-ok, chosen-finite}
 use Rattle.points.specs.Same.{SameNumber, SameExtreme}
-use Rattle.points.specs.Same.{Shown}
 
 -- ---- the same number
 pub number-refl : (x : Float) → FiniteF64 x → SameNumber x x
@@ -81,6 +80,12 @@ nearer-shown true true x y = refl
 nearer-shown true false x y = refl
 nearer-shown false true x y = refl
 nearer-shown false false x y = refl
+
+-- an extreme that the switch shows of a finite f64
+pub record Shown (on : Bool) (e : Extreme) : Type 0 where
+  pub of : Float
+  pub known : FiniteF64 of
+  pub is : e ≡ shownOf on of
 
 pub shown-self : (on : Bool) (a : Extreme) → Shown on a → SameExtreme a a
 shown-self on a p = rw (p .is) (same-shown on (p .of) (p .of) (number-refl (p .of) (p .known)))

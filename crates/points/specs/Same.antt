@@ -1,14 +1,14 @@
 -- Points of one kind, switch and zero threshold, whatever their values; and points that are the same but for the sum. Assumes nothing.
 use Prim.Native.Nat.{ℕ}
 use mathlib.Core.Path.{_≡_}
-use mathlib.Core.Bool.{Bool, true}
+use mathlib.Core.Bool.{true}
 use lib.Ieee.{Float, eq}
-use Rattle.floats.specs.Answers.{shownOf}
 use Rattle.floats.specs.Starts.{FiniteF64}
 use Rattle.floats.specs.declared.Extreme.{Extreme}
 use Rattle.floats.specs.declared.Extreme.the-variants.{None, Value}
 use Rattle.points.specs.Figures.{Kind, exponential, explicit, Settings, Counts, exponentialCounts, explicitCounts}
-use Rattle.points.specs.Handed.{Handed}
+use Rattle.points.specs.Values.{Summary}
+use Rattle.points.specs.Handed.{Handed, handedOut}
 
 -- the kind under another max_size
 abbrev pub resized : ℕ → Kind → Kind
@@ -21,20 +21,6 @@ Shape (exponential size top) (exponentialCounts p) = Unit {0}
 Shape (exponential size top) (explicitCounts bounds p) = ⊥
 Shape (explicit b) (exponentialCounts p) = ⊥
 Shape (explicit b) (explicitCounts bounds p) = bounds ≡ b
-
--- an extreme that the switch shows of a finite f64
-pub record Shown (on : Bool) (e : Extreme) : Type 0 where
-  pub of : Float
-  pub known : FiniteF64 of
-  pub is : e ≡ shownOf on of
-
--- a point of the settings: its kind and bounds, switch and zero threshold, and extremes as the switch has them
-pub record Of (s : Settings) (p : Handed) : Type 0 where
-  pub shape : Shape (s .kind) (p .counts)
-  pub extremes : p .extremes ≡ s .extremes
-  pub threshold : p .threshold ≡ s .threshold
-  pub min : Shown (s .extremes) (p .min)
-  pub max : Shown (s .extremes) (p .max)
 
 -- finite, and equal as numbers
 pub record SameNumber (x y : Float) : Type 0 where
@@ -56,3 +42,9 @@ pub record Same (p q : Handed) : Type 0 where
   pub threshold : p .threshold ≡ q .threshold
   pub min : SameExtreme (p .min) (q .min)
   pub max : SameExtreme (p .max) (q .max)
+
+-- a point of the settings: its kind and bounds, switch and zero threshold, and extremes as the switch has them of some finite f64s
+pub record Of (s : Settings) (p : Handed) : Type 0 where
+  pub shape : Shape (s .kind) (p .counts)
+  pub shown : Summary
+  pub same : Same p (handedOut s (record { counts = p .counts; summary = shown }))

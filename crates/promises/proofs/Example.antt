@@ -20,7 +20,7 @@ use Rattle.points.specs.Handed.{Handed, handed, mergeable, mergeHanded, handedA
 use Rattle.points.specs.Stands.{Stands}
 use Rattle.point.specs.declared.Figures.the-variants.{Explicit}
 use Rattle.point.specs.Handing.{Stored, storedIn, handedIn, refusalBefore, laidOver, merging}
-use Rattle.merging.specs.Merged.{mergedStored}
+use Rattle.merging.proofs.Groups.{mergedStored}
 use Rattle.tally.specs.Sets.{Set, Lendable}
 use Rattle.tally.specs.Kind.{Room}
 use Rattle.tally.specs.Map.{Config, Call, measure, measureBy, bind, release, collect, Answer, refuse, done, handle, listed}
@@ -195,5 +195,5 @@ values = ap (λ (a : List (Answer histograms)). gained histograms c asks a A) an
 stands : Stands (c .settings) (handedIn all) (five ∷ less ∷ seven ∷ [])
 stands =
     subst (Stands (c .settings) (handedIn all)) values
-    (demanded .pools A (ap (any histograms) values) .stands 0 tt (node (leaf s₁) (leaf s₂)) (subst (λ l. List·Permᴰ l (s₁ ∷ s₂ ∷ [])) (sym points) (Permᴰ·refl (s₁ ∷ s₂ ∷ []))) all
+    (demanded .pools A (ap (any histograms) values) .stands 0 refl (node (leaf s₁) (leaf s₂)) (subst (λ l. List·Permᴰ l (s₁ ∷ s₂ ∷ [])) (sym points) (Permᴰ·refl (s₁ ∷ s₂ ∷ []))) all
     (s₁, s₂, 0 ∷ 0 ∷ 0 ∷ [], [], refl, refl, together))

@@ -31,10 +31,11 @@ use Rattle.point.specs.Lists.{Configured, PointOf, Long}
 use Rattle.point.proofs.Lists.{long-enough}
 use Rattle.point.proofs.Means.{agreesRead, agrees-whole, sizeFor}
 use Rattle.point.proofs.Answers.{hasRoom, answers, no-room, sound}
-use Rattle.merging.specs.Merged.{mergedStored, Groups}
+use Rattle.merging.specs.Merged.{Groups}
+use Rattle.merging.proofs.Groups.{mergedStored}
 use Rattle.value_map.proofs.Cases.{refusal-no-success}
 use Rattle.promises.specs.Seen.{Shows}
-use Rattle.promises.specs.Pooled.{Pointed, Under, Pools}
+use Rattle.promises.specs.Pooled.{Pointed, Pools}
 use Rattle.promises.proofs.Seen.{isExponential, shows}
 use Rattle.laws.specs.Counting.{mostCount}
 
@@ -62,31 +63,33 @@ refusal-number {A} n m e = ap of e
     of (success x) = n
 
 -- ---- the size of a merge, where it is the configured one or none is asked
-own : (k : Kind) (size : ℕ) → Under k size → resized size k ≡ k
-own (exponential m top) size u = ap (λ n. exponential n top) u
-own (explicit bounds) size u = refl
+abbrev Under : Kind → ℕ → Type 0
+Under k size = resized size k ≡ k
 
 own-size : (k : Kind) → Under k (sizeOf k)
 own-size (exponential m top) = refl
-own-size (explicit bounds) = tt
+own-size (explicit bounds) = refl
+
+same-size : (m top size : ℕ) → Under (exponential m top) size → size ≡ m
+same-size m top size u = ap sizeOf u
 
 allowed : (k : Kind) (size : ℕ) → Under k size → Allows size k
-allowed (exponential m top) size u = omega (arith, u)
+allowed (exponential m top) size u = omega (arith, same-size m top size u)
 allowed (explicit bounds) size u = tt
 
 agrees-own : (k : Kind) (t : Float) (size : ℕ) → Under k size → (v : List Float) (c : F.Counts) → c ≡ kindCounts k t v
     → countsAgree size finest (lowestBin finest) c ≡ countsAgree (sizeOf k) finest (lowestBin finest) c
-agrees-own (exponential m top) t size u v c e = ap (λ n. countsAgree n finest (lowestBin finest) c) u
+agrees-own (exponential m top) t size u v c e = ap (λ n. countsAgree n finest (lowestBin finest) c) (same-size m top size u)
 agrees-own (explicit bounds) t size u v c e =
     ap (countsAgree size finest (lowestBin finest)) e ∙ ap (countsAgree 0 finest (lowestBin finest)) (sym e)
 
 size-asked : (k : Kind) (t : Float) (size : ℕ) → Under k size → Configured k → (v w : List Float) → sizeAsked size (kindCounts k t v) (kindCounts k t w) ≡ true
-size-asked (exponential m top) t size u k v w = ap (λ n. sizeAsked n (kindCounts (exponential m top) t v) (kindCounts (exponential m top) t w)) u ∙ k
+size-asked (exponential m top) t size u k v w = ap (λ n. sizeAsked n (kindCounts (exponential m top) t v) (kindCounts (exponential m top) t w)) (same-size m top size u) ∙ k
 size-asked (explicit bounds) t size u k v w = refl
 
 size-for : (k : Kind) (t : Float) (size : ℕ) → Under k size → Configured k → (f : Figures) (bs : List Float) (xs ys : List ℕ) (v : List Float)
     → countsAs f bs xs ys ≡ kindCounts k t v → sizeFor size f ≡ true
-size-for (exponential m top) t size u k (Exponential c) bs xs ys v e = ap (λ n. sizePasses n) u ∙ k
+size-for (exponential m top) t size u k (Exponential c) bs xs ys v e = ap (λ n. sizePasses n) (same-size m top size u) ∙ k
 size-for (exponential m top) t size u k (Explicit n) bs xs ys v e = refl
 size-for (explicit b) t size u k (Exponential c) bs xs ys v e = absurd (subst isExponential e tt)
 size-for (explicit b) t size u k (Explicit n) bs xs ys v e = refl
@@ -126,7 +129,7 @@ module _ (z : Settings) (k : Configured (z .kind)) (size : ℕ) (u : Under (z .k
     joins : Stands z (mergeHanded size (handedIn x) (handedIn y)) (v ++ w)
     joins =
         subst (λ s. Stands s (mergeHanded size (handedIn x) (handedIn y)) (v ++ w))
-        (λ i. record { kind = own (z .kind) size u i; extremes = z .extremes; sums = z .sums; threshold = z .threshold })
+        (λ i. record { kind = u i; extremes = z .extremes; sums = z .sums; threshold = z .threshold })
         (stands-join size z (handedIn x) (handedIn y) v w (allowed (z .kind) size u) (p .stands) (q .stands))
 
     abbrev roomy : Bool

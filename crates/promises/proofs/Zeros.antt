@@ -25,7 +25,7 @@ use Rattle.points.proofs.Rows as PointsRows
 use Rattle.points.specs.Values.{classOf}
 use Rattle.point.specs.declared.Figures.the-variants.{Exponential}
 use Rattle.point.specs.Handing.{Stored, storedIn, refusalBefore, laidOver, merging}
-use Rattle.merging.specs.Merged.{mergedStored}
+use Rattle.merging.proofs.Groups.{mergedStored}
 use Rattle.tally.specs.Map.{Config, Answer, done, listed}
 use Rattle.tally.specs.Demand.{Premise}
 use Rattle.kinds.specs.Histograms.{histograms}

@@ -23,15 +23,14 @@ use Rattle.exponential.specs.Runs.{freshHead, next}
 use Rattle.explicit.specs.declared.Head as XH
 use Rattle.explicit.specs.Series as X
 use Rattle.tally.specs.Kind.{inAll}
-use Rattle.point.specs.Handing.{Stored, storedIn, countsIn, handedIn, inShape, exponentialPoint, explicitPoint}
+use Rattle.point.specs.Handing.{Stored, storedIn, countsIn, handedIn, inShape, exponentialPoint, explicitPoint, merging}
 use Rattle.point.specs.Lists.{Configured, PointOf, Long}
 use Rattle.listing.specs.Listed.{Output, storedAt}
 use Rattle.listing.specs.declared.Cursor.{Cursor}
 use Rattle.listing.specs.declared.Entry.{Entry}
 use Rattle.listing.specs.declared.Found.the-variants.{Is}
 use Rattle.pooling.specs.Lists.{Source, wholeAt, hasPlace, putMerged, pooledAt, Holds}
-use Rattle.merging.specs.Merged.{Good, AtTop, mergedStored, Groups}
-use Rattle.promises.specs.Pooled.{Under}
+use Rattle.merging.specs.Merged.{Good, AtTop, Groups}
 use Rattle.laws.specs.Counting.{mostCount}
 
 -- ---- RECORDING
@@ -60,16 +59,16 @@ ExplicitRecords =
 -- of what they read as by its contract.)
 abbrev pub MergeAnswers : Type 0
 MergeAnswers =
-    (size : ℕ) (x y z : Stored) (us vs : List ℕ) → mergedStored size us vs x y ≡ success z
+    (size : ℕ) (x y z : Stored) (us vs : List ℕ) → merging size x y us vs .answer ≡ success z
     → (handedIn z ≡ mergeHanded size (handedIn x) (handedIn y)) × (inShape z ≡ true)
 
 -- the points of two lists merge, in rows with room for any list, to a point that stands for the lists joined: "exactly the scale, offsets, all
 -- counts, minimum and maximum (a zero's sign aside) .. The sum too, if .."
 abbrev pub ListsMerge : Type 0
 ListsMerge =
-    (s : Settings) → Configured (s .kind) → (size : ℕ) → Under (s .kind) size → (v w : List Float) → length v + length w < 2 ^ 64
+    (s : Settings) → Configured (s .kind) → (size : ℕ) → resized size (s .kind) ≡ s .kind → (v w : List Float) → length v + length w < 2 ^ 64
     → (x y : Stored) → PointOf s v x → PointOf s w y → (us vs : List ℕ) → Long (s .kind) us vs
-    → (z : Stored) × (mergedStored size us vs x y ≡ success z) × Stands s (handedIn z) (v ++ w)
+    → (z : Stored) × (merging size x y us vs .answer ≡ success z) × Stands s (handedIn z) (v ++ w)
 
 -- Request L14: "merge to the same scale, rows, counts and extremes under every bracketing and order, signs of zero aside". Of points of one kind,
 -- bounds and switch, whatever rows were lent to each merge, if all were accepted
@@ -90,7 +89,7 @@ EveryGrouping =
 abbrev pub FreshMerges : Type 0
 FreshMerges =
     (size : ℕ) (s : Settings) → AtTop (s .kind) → (f y z : Stored) → PointOf s [] f → Good size s y → (us vs : List ℕ)
-    → (mergedStored size us vs f y ≡ success z → Same (handedIn z) (handedIn y)) × (mergedStored size us vs y f ≡ success z → Same (handedIn z) (handedIn y))
+    → (merging size f y us vs .answer ≡ success z → Same (handedIn z) (handedIn y)) × (merging size y f us vs .answer ≡ success z → Same (handedIn z) (handedIn y))
 
 -- "Sets are not compared; the result has the first's": where points lie at a and at b, and there is a place, `pooling::merge_at` answers as
 -- `point::merge` of the two points that the lists hold, refused with nothing changed; and the output then holds the merged point at the cursor,
@@ -99,7 +98,7 @@ abbrev pub ListedMerge : Type 0
 ListedMerge =
     (size : ℕ) (a : Cursor) (x : Source) (b : Cursor) (y : Source) (at : Cursor) (o : Output) (e f : Entry)
     → a .place < length (x .list .sets) → wholeAt a x ≡ Is e → wholeAt b y ≡ Is f → hasPlace at o ≡ true
-    → let m = mergedStored size (drop (at .pos) (o .pos)) (drop (at .neg) (o .neg)) (storedAt a e (x .bounds) (x .list)) (storedAt b f (y .bounds) (y .list)) in
+    → let m = merging size (storedAt a e (x .bounds) (x .list)) (storedAt b f (y .bounds) (y .list)) (drop (at .pos) (o .pos)) (drop (at .neg) (o .neg)) .answer in
     let row = getD (x .list .sets) (a .place) [] in
     (pooledAt size a x b y at o ≡ putMerged at row (e .bounds) o m)
     × ((z : Stored) → m ≡ success z → Holds at row (e .bounds) (x .bounds) z (pooledAt size a x b y at o .output))

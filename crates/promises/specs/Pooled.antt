@@ -10,11 +10,12 @@ use lib.Ieee.{Float}
 use Rattle.laws.specs.Lists.{All}
 use Rattle.laws.specs.Said.{Said, refusal, success}
 use Rattle.laws.specs.Trees.{Tree, leaves}
-use Rattle.points.specs.Figures.{Kind, exponential, explicit, Settings}
+use Rattle.points.specs.Figures.{Settings}
+use Rattle.points.specs.Same.{resized}
 use Rattle.points.specs.Stands.{Stands}
-use Rattle.point.specs.Handing.{Stored, handedIn}
+use Rattle.point.specs.Handing.{Stored, handedIn, merging}
 use Rattle.point.specs.Lists.{PointOf, Long}
-use Rattle.merging.specs.Merged.{mergedStored, Groups}
+use Rattle.merging.specs.Merged.{Groups}
 use Rattle.tally.specs.Sets.{Set, ofSet}
 use Rattle.tally.specs.Map.{Call, Answer}
 use Rattle.tally.specs.Demand.{Premise, Answered, any, gained, pointsOf, asked, ran}
@@ -70,30 +71,26 @@ Pointed z x = (vs : List Float) × PointOf z vs x × Shows (z .kind) (z .thresho
 
 -- ---- MERGED BY CODE
 
--- "under the configured max_size"; no merge of explicit points asks for one
-abbrev pub Under : Kind → ℕ → Type 0
-Under (exponential m top) size = size ≡ m
-Under (explicit bounds) size = Unit {0}
-
--- the stored points ps, which stand for the values together
+-- the stored points ps, which stand for the values together. `resized size k ≡ k`: "under the configured max_size"; no merge of explicit points asks
+-- for one
 pub record Pools (z : Settings) (ps : List Stored) (values : List Float) : Type 0 where
   -- "each set with a collected value has a merged point"
   pub there : 0 < length ps
   -- "its points merged one by one in any order", and in any grouping, either argument first, into whatever rows were lent to each merge: the result
   -- has "exactly the scale, offsets, all counts, minimum and maximum (a zero's sign aside) that document 01 defines from its collected values. The
   -- sum too, if ..": `Stands` says each of them
-  pub stands : (size : ℕ) → Under (z .kind) size → (t : Tree Stored) → List·Permᴰ ps (leaves t) → (x : Stored) → Groups size t x → Stands z (handedIn x) values
+  pub stands : (size : ℕ) → resized size (z .kind) ≡ z .kind → (t : Tree Stored) → List·Permᴰ ps (leaves t) → (x : Stored) → Groups size t x → Stands z (handedIn x) values
   -- its scale and offsets as they leave, signed
-  pub shows : (size : ℕ) → Under (z .kind) size → (t : Tree Stored) → List·Permᴰ ps (leaves t) → (x : Stored) → Groups size t x
+  pub shows : (size : ℕ) → resized size (z .kind) ≡ z .kind → (t : Tree Stored) → List·Permᴰ ps (leaves t) → (x : Stored) → Groups size t x
       → Shows (z .kind) (z .threshold) values (x .point .figures)
   -- "A merge is refused only with 10": of what any groupings of some of the points left
-  pub onlyTen : (size : ℕ) → Under (z .kind) size → (s t : Tree Stored) (rest : List Stored) → List·Permᴰ ps ((leaves s ++ leaves t) ++ rest)
-      → (x y : Stored) → Groups size s x → Groups size t y → (us vs : List ℕ) (n : ℕ) → mergedStored size us vs x y ≡ refusal n → n ≡ 10
+  pub onlyTen : (size : ℕ) → resized size (z .kind) ≡ z .kind → (s t : Tree Stored) (rest : List Stored) → List·Permᴰ ps ((leaves s ++ leaves t) ++ rest)
+      → (x y : Stored) → Groups size s x → Groups size t y → (us vs : List ℕ) (n : ℕ) → merging size x y us vs .answer ≡ refusal n → n ≡ 10
   -- "and repeated with longer output": in rows with room for any point of the configuration it is accepted
-  pub accepted : (size : ℕ) → Under (z .kind) size → (s t : Tree Stored) (rest : List Stored) → List·Permᴰ ps ((leaves s ++ leaves t) ++ rest)
-      → (x y : Stored) → Groups size s x → Groups size t y → (us vs : List ℕ) → Long (z .kind) us vs → (a : Stored) × (mergedStored size us vs x y ≡ success a)
+  pub accepted : (size : ℕ) → resized size (z .kind) ≡ z .kind → (s t : Tree Stored) (rest : List Stored) → List·Permᴰ ps ((leaves s ++ leaves t) ++ rest)
+      → (x y : Stored) → Groups size s x → Groups size t y → (us vs : List ℕ) → Long (z .kind) us vs → (a : Stored) × (merging size x y us vs .answer ≡ success a)
   -- so every grouping comes to an end, in such rows
-  pub every : (size : ℕ) → Under (z .kind) size → (t : Tree Stored) → List·Permᴰ ps (leaves t) → (us vs : List ℕ) → Long (z .kind) us vs → (x : Stored) × Groups size t x
+  pub every : (size : ℕ) → resized size (z .kind) ≡ z .kind → (t : Tree Stored) → List·Permᴰ ps (leaves t) → (us vs : List ℕ) → Long (z .kind) us vs → (x : Stored) × Groups size t x
 
 -- ---- THE CLAIM
 

@@ -17,7 +17,7 @@ use Rattle.value_map.specs.Calls.{Held, Outcome, measured, measuredBy}
 use Rattle.value_map.specs.Maps.{mapOf}
 use Rattle.listing.specs.Listed.{Output}
 use Rattle.collecting.specs.Lister.{Lister}
-use Rattle.collecting.specs.Collected.{roomOf, Collected, deltaCollected, cumulativeCollected, answered}
+use Rattle.collecting.specs.Collected.{roomOf, deltaCollected, cumulativeCollected, answered}
 
 module _ (K : Kind) where
   -- what a call is given: "recording by set or handle, binding, releasing, delta collection", with attributes that can be lent, and lent output
@@ -45,17 +45,14 @@ module _ {K : Kind} {S : Store K} (L : Lister S) (w : S .Switches) (limit : ℕ)
   abbrev pub alone : S .Cells → Bindings.Outcome → Answer K × Held (S .Cells)
   alone x o = (mapAnswer K (o .answer), record { kept = o .kept; cells = x })
 
-  -- a collection's answer is its number, or the points that lie in the output that it left
-  abbrev pub handed : Collected (S .Cells) → Answer K × Held (S .Cells)
-  handed c = (answered L w (c .answer) (c .out), c .held)
-
-  -- what a call answers and leaves: by the definitions that the contracts of `measure`, `measure_by`, `bind`, `release` and `delta` cite
+  -- what a call answers and leaves: by the definitions that the contracts of `measure`, `measure_by`, `bind`, `release` and `delta` cite; a
+  -- collection's answer is its number, or the points that lie in the output that it left
   abbrev pub ended : Held (S .Cells) → Asked K → Answer K × Held (S .Cells)
   ended h (recording v attrs small) = said (measured S limit filter h v attrs)
   ended h (recordingBy b v) = said (measuredBy S limit h v b)
   ended h (binding attrs small) = alone (h .cells) (Bindings.bound limit filter (h .kept .dir) (h .kept .stores) attrs)
   ended h (releasing b) = alone (h .cells) (Bindings.released limit (h .kept .dir) (h .kept .stores) b)
-  ended h (collecting o) = handed (deltaCollected L w limit h o)
+  ended h (collecting o) = let c = deltaCollected L w limit h o in (answered L w (c .answer) (c .out), c .held)
 
   -- the calls as code, from a state
   abbrev pub run : Held (S .Cells) → Code K

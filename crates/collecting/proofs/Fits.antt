@@ -1,13 +1,14 @@
 -- Floats that are f64s: of literals, of choices, and in a store of rows of three. Assumes nothing.
 use Prim.Native.Nat.{ℕ, zero, suc}
 use mathlib.Core.Path.{_≡_}
-use mathlib.Core.Bool.{Bool, true, false, cond}
+use mathlib.Core.Bool.{Bool, true, false}
 use mathlib.Core.List.{List, [], _∷_}
 use lib.ListN.{getD, set}
 use lib.Ieee.{Float, nan, binary64, ofBits, fits, lt, add}
 use lib.Ieee.Scale.{finite}
 use lib.Ieee.Fits.{nan-fits, add-fits}
 use lib.Ieee.Bits.{is-true, ofBits-fits}
+use Rattle.laws.specs.Pick.{pick}
 use Rattle.laws.proofs.Cases.{and-true}
 use Rattle.floats.specs.Starts.{greatestFinite, leastFinite, zeroFloat}
 use Rattle.floats.specs.Answers.{lesserOf, greaterOf}
@@ -20,9 +21,10 @@ literal-fits b = is-true (fits binary64 (ofBits binary64 b)) (ofBits-fits binary
 pub value-fits : (v : Float) → histograms .finite v ≡ true → fits binary64 v ≡ true
 value-fits v t = and-true (finite v) (fits binary64 v) t .1
 
-cond-fits : (b : Bool) (x y : Float) → fits binary64 x ≡ true → fits binary64 y ≡ true → fits binary64 (cond b x y) ≡ true
-cond-fits true x y p q = p
-cond-fits false x y p q = q
+pick-fits : (b : Bool) (x y : Float) → fits binary64 x ≡ true → fits binary64 y ≡ true → fits binary64 (pick b x y) ≡ true
+unfolding pick
+pick-fits true x y p q = p
+pick-fits false x y p q = q
 
 -- ---- a series' minimum, maximum and sum
 
@@ -39,8 +41,8 @@ start-fits = record { min = literal-fits 0x7fef_ffff_ffff_ffff; max = literal-fi
 pub more-fits : (a b s v : Float) → histograms .finite v ≡ true → Fitting a b s → Fitting (lesserOf a v) (greaterOf b v) (add binary64 s v)
 more-fits a b s v t k =
     record {
-      min = cond-fits (lt v a) v a (value-fits v t) (k .min);
-      max = cond-fits (lt b v) v b (value-fits v t) (k .max);
+      min = pick-fits (lt v a) v a (value-fits v t) (k .min);
+      max = pick-fits (lt b v) v b (value-fits v t) (k .max);
       sum = is-true (fits binary64 (add binary64 s v)) (add-fits binary64 s v);
     }
 

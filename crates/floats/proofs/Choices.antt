@@ -4,11 +4,12 @@ use mathlib.Core.Path.{_≡_, refl, sym, ap, _∙_, subst}
 use mathlib.Core.List.{List, [], _∷_, _++_, foldl, foldr, foldl-append, List·Permᴰ}
 use Prim.Native.Nat.{ℕ, _+_, _-_, _≤_, _<_, min}
 use native.Mathlib.Omega.{arith}
-use mathlib.Core.Bool.{Bool, true, false, not, cond}
+use mathlib.Core.Bool.{Bool, true, false, not}
 use lib.Dec.{T, ltb, ltb→lt, nltb→le, lt→ltb}
 use lib.Ieee.{Float, Format, lt, eq}
 use lib.Ieee.Scale.{finite}
 use borrow.Author.Tests.{eq-eqb, eqb-true}
+use Rattle.laws.specs.Pick.{pick}
 use Rattle.laws.specs.Lists.{All}
 use Rattle.laws.proofs.Lists.{all-perm, foldr-perm}
 use Rattle.floats.proofs.Fractions.{ltb-iff}
@@ -21,13 +22,14 @@ before true x y = lt x y
 before false x y = lt y x
 
 abbrev pub chosen : Bool → Float → Float → Float
-chosen up a x = cond (before up x a) x a
+chosen up a x = pick (before up x a) x a
 
 -- of two finite numbers it is finite
 pub finite-chosen : (up : Bool) (a v : Float) → finite a ≡ true → finite v ≡ true → finite (chosen up a v) ≡ true
+unfolding pick
 finite-chosen up a v h k = go (before up v a)
   where
-    go : (b : Bool) → finite (cond b v a) ≡ true
+    go : (b : Bool) → finite (pick b v a) ≡ true
     go true = k
     go false = h
 
@@ -97,13 +99,15 @@ module _ (up : Bool) (f : Format) where
 
   -- ---- one choice
   pub chosen-ok : (a x : Float) → Ok f a → Ok f x → Ok f (chosen up a x)
+  unfolding pick
   chosen-ok a x p q = go (before up x a)
     where
-      go : (b : Bool) → Ok f (cond b x a)
+      go : (b : Bool) → Ok f (pick b x a)
       go true = q
       go false = p
 
   pub chosen-rank : (a x : Float) → Ok f a → Ok f x → rank up f (chosen up a x) ≡ min (rank up f a) (rank up f x)
+  unfolding pick
   chosen-rank a x p q = go (before up x a) (said x a q p) (unsaid x a q p)
     where
       left : (m n : ℕ) → m < n → m ≡ min n m
@@ -112,15 +116,16 @@ module _ (up : Bool) (f : Format) where
       right : (m n : ℕ) → n ≤ m → n ≡ min n m
       right m n h = omega arith
 
-      go : (b : Bool) → (T b → rank up f x < rank up f a) → (T (not b) → rank up f a ≤ rank up f x) → rank up f (cond b x a) ≡ min (rank up f a) (rank up f x)
+      go : (b : Bool) → (T b → rank up f x < rank up f a) → (T (not b) → rank up f a ≤ rank up f x) → rank up f (pick b x a) ≡ min (rank up f a) (rank up f x)
       go true h k = left (rank up f x) (rank up f a) (h tt)
       go false h k = right (rank up f x) (rank up f a) (k tt)
 
   -- the first stays where the second is not wanted more
   pub chosen-stays : (a x : Float) → Ok f a → Ok f x → rank up f a ≤ rank up f x → chosen up a x ≡ a
+  unfolding pick
   chosen-stays a x p q h = go (before up x a) (unsay x a q p h)
     where
-      go : (b : Bool) → T (not b) → cond b x a ≡ a
+      go : (b : Bool) → T (not b) → pick b x a ≡ a
       go true t = absurd t
       go false t = refl
 
@@ -138,22 +143,23 @@ module _ (up : Bool) (f : Format) where
 
   -- ASSOCIATIVE, as data
   pub chosen-assoc : (a b c : Float) → Ok f a → Ok f b → Ok f c → chosen up (chosen up a b) c ≡ chosen up a (chosen up b c)
+  unfolding pick
   chosen-assoc a b c p q r =
       into (before up b a) ∙ steps (before up b a) (before up c b) (before up c a)
       (λ x y. say c a r p (omega (arith, said c b r q y, said b a q p x)))
       (λ x y. unsay c a r p (omega (arith, unsaid b a q p x, unsaid c b r q y)))
       ∙ sym (from (before up c b))
     where
-      into : (p : Bool) → cond (before up c (cond p b a)) c (cond p b a) ≡ cond p (cond (before up c b) c b) (cond (before up c a) c a)
+      into : (p : Bool) → pick (before up c (pick p b a)) c (pick p b a) ≡ pick p (pick (before up c b) c b) (pick (before up c a) c a)
       into true = refl
       into false = refl
 
-      from : (p : Bool) → cond (before up (cond p c b) a) (cond p c b) a ≡ cond p (cond (before up c a) c a) (cond (before up b a) b a)
+      from : (p : Bool) → pick (before up (pick p c b) a) (pick p c b) a ≡ pick p (pick (before up c a) c a) (pick (before up b a) b a)
       from true = refl
       from false = refl
 
       steps : (p q r : Bool) → (T p → T q → T r) → (T (not p) → T (not q) → T (not r))
-          → cond p (cond q c b) (cond r c a) ≡ cond q (cond r c a) (cond p b a)
+          → pick p (pick q c b) (pick r c a) ≡ pick q (pick r c a) (pick p b a)
       steps true true true f g = refl
       steps true true false f g = absurd (f tt tt)
       steps true false r f g = refl

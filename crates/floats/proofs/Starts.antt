@@ -3,6 +3,7 @@
 use mathlib.Core.Path.{_≡_, refl, sym, ap, _∙_, subst}
 use mathlib.Core.Logic.{inl, inr}
 use mathlib.Core.List.{List, [], _∷_, foldl}
+use Rattle.laws.specs.Pick.{pick}
 use Rattle.laws.specs.Lists.{All}
 use Prim.Native.Nat.{ℕ, zero, suc, _+_, _-_, _*_, _/_, _%_, _^_, _≤_, _<_}
 use native.Mathlib.Nat.{suc-mul, zero-add, zero-mul, zero-div, zero-lt-suc, mul-assoc, mul-one, one-mul, le-trans, le-of-eq, mul-le-mul-right, mul-le-mul-left, le-of-suc-le-suc, lt-of-not-le, not-le-of-lt, eq-of-mul-eq-mul-right, lt-of-mul-lt-mul-right}
@@ -152,17 +153,19 @@ start-only up x v h =
 
 -- THE START GIVES WAY to every value
 pub start-first : (up : Bool) (x : Float) → FiniteF64 x → chosen up (start up) x ≡ x
+unfolding pick
 start-first up x v = go (before up x (start up)) (unsaid up binary64 x (start up) (finite-ok x v) (finite-ok (start up) (start-finite up)))
   where
-    go : (b : Bool) → (T (not b) → rank up binary64 (start up) ≤ rank up binary64 x) → cond b x (start up) ≡ x
+    go : (b : Bool) → (T (not b) → rank up binary64 (start up) ≤ rank up binary64 x) → pick b x (start up) ≡ x
     go true h = refl
     go false h = start-only up x v (h tt)
 
 -- ---- choices of finite f64s
 pub chosen-finite : (up : Bool) (a x : Float) → FiniteF64 a → FiniteF64 x → FiniteF64 (chosen up a x)
+unfolding pick
 chosen-finite up a x p q = go (before up x a)
   where
-    go : (b : Bool) → FiniteF64 (cond b x a)
+    go : (b : Bool) → FiniteF64 (pick b x a)
     go true = q
     go false = p
 

@@ -49,7 +49,7 @@ to-T true p = tt
 to-T false p = true-not-false (sym p)
 
 pub bits-back : (x : Float) → fits binary64 x ≡ true → ofBits binary64 (bitsOf x) ≡ x
-unfolding isNan ofBits ofFields
+unfolding isNan ofBits ofFields pick
 bits-back nan h = refl
 bits-back (inf s) h = ofBits-toBits binary64 (inf s) (to-T _ h)
 bits-back (fin s m e) h = ofBits-toBits binary64 (fin s m e) (to-T _ h)

@@ -1,7 +1,7 @@
 -- A merged point is one that code holds: its words are read back as it is. Assumes nothing.
 use Prim.Native.Nat.{ℕ, _+_, _-_, _*_, _^_, _≤_, _<_}
 use mathlib.Core.Path.{_≡_, refl, sym, ap, _∙_}
-use mathlib.Core.Bool.{Bool, true, false, cond}
+use mathlib.Core.Bool.{Bool, true, false}
 use mathlib.Core.List.{List}
 use native.Mathlib.Nat.{lt-of-le-of-lt, mul-le-mul}
 use native.Mathlib.Omega.{arith}
@@ -83,7 +83,8 @@ shown-larger None v = refl
 shown-larger (Value x) None = refl
 shown-larger (Value x) (Value y) = refl
 
-fits-either : (t : Bool) (x y : Float) → fits binary64 x ≡ true → fits binary64 y ≡ true → fits binary64 (cond t x y) ≡ true
+fits-either : (t : Bool) (x y : Float) → fits binary64 x ≡ true → fits binary64 y ≡ true → fits binary64 (pick t x y) ≡ true
+unfolding pick
 fits-either true x y p q = p
 fits-either false x y p q = q
 

@@ -1,12 +1,14 @@
--- `lesser` meets its contract: each arm returns what `cond` picks. Assumes nothing.
+-- `lesser` meets its contract. Assumes nothing.
+use mathlib.Core.Path.{sym}
+use Rattle.laws.proofs.Bools.{pick-true, pick-false}
 use Rattle.floats.proofs.lesser.Statement.{statement}
 use Rattle.floats.proofs.lesser.Tie as tie
 
 returns : tie.Need-returns
-returns c = cc
+returns c = sym (pick-true _ _ _ (c .if1 .taken))
 
 returns-2 : tie.Need-returns-2
-returns-2 c = cc
+returns-2 c = sym (pick-false _ _ _ (c .if1 .left))
 
 pub lesser-spec : {M : Type 1} → statement M
 lesser-spec = tie.close (tie.spec returns returns-2)

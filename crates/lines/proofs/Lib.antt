@@ -1,3 +1,5 @@
 -- The laws.
 pub mod Parting
 pub mod Gathering
+pub mod Digits
+pub mod Signs

@@ -2,10 +2,10 @@
 // waits in the block, and how much, they say.
 ghost use mathlib.Core.Path.{_≡_};
 ghost use mathlib.Core.List.{[], _∷_};
-ghost use Prim.Native.Nat.{_<_, _+_};
-ghost use lib.ListN.{set};
+ghost use Prim.Native.Nat.{_<_};
 ghost use Rattle.text.specs.Numbers.{hexDigits};
-ghost use Rattle.lines.specs.Gathered.{place, waiting, gathered};
+ghost use Rattle.lines.specs.Gathered.{place, waiting, _behind_};
+ghost use Rattle.lines.specs.Written as Written;
 use crate::Block;
 use libc::STDOUT_FILENO;
 
@@ -36,8 +36,7 @@ fn room(text: &Block, n: usize) -> usize
 
 // A byte behind n others; how many there are then.
 pub fn byte(text: &mut Block, n: usize, b: u8) -> usize
-    ensures { λ r. ⌜ r ≡ place n + 1 ⌝ }
-    ensures { λ _. ⌜ now (text .exit) ≡ set (now (text .entry)) (place n) b ⌝ }
+    ensures { λ r. ⌜ waiting r (text .exit) ≡ b ∷ [] behind waiting n (text .entry) ⌝ }
 {
     let at = room(text, n);
     text[at] = b;
@@ -46,8 +45,7 @@ pub fn byte(text: &mut Block, n: usize, b: u8) -> usize
 
 // Bytes behind n others.
 pub fn bytes(text: &mut Block, n: usize, all: &[u8]) -> usize
-    ensures { λ r. ⌜ r ≡ waiting n (now (all .entry)) ⌝ }
-    ensures { λ _. ⌜ now (text .exit) ≡ gathered n (now (all .entry)) (now (text .entry)) ⌝ }
+    ensures { λ r. ⌜ waiting r (text .exit) ≡ now (all .entry) behind waiting n (text .entry) ⌝ }
 {
     let mut m = n;
     let mut i: usize = 0;
@@ -59,33 +57,35 @@ pub fn bytes(text: &mut Block, n: usize, all: &[u8]) -> usize
 }
 
 // A number in decimal.
-pub fn decimal(text: &mut Block, n: usize, x: u64) -> usize {
+pub fn decimal(text: &mut Block, n: usize, x: u64) -> usize
+    ensures { λ r. ⌜ waiting r (text .exit) ≡ Written.decimal x behind waiting n (text .entry) ⌝ }
+{
     let mut digits = [0u8; 20];
     let k = io::decimal(x, &mut digits);
     bytes(text, n, &digits[..k])
 }
 
+// A signed number in decimal.
+pub fn signed(text: &mut Block, n: usize, x: i32) -> usize
+    ensures { λ r. ⌜ waiting r (text .exit) ≡ Written.signed x behind waiting n (text .entry) ⌝ }
+{
+    if x < 0 {
+        let m = byte(text, n, b'-');
+        return decimal(text, m, (0 - (x as i64)) as u64);
+    }
+    decimal(text, n, x as u64)
+}
+
 fn sixteen(text: &mut Block, n: usize, digits: &[u8; 16]) -> usize
-    ensures { λ r. ⌜ r ≡ waiting n (now (digits .entry)) ⌝ }
-    ensures { λ _. ⌜ now (text .exit) ≡ gathered n (now (digits .entry)) (now (text .entry)) ⌝ }
+    ensures { λ r. ⌜ waiting r (text .exit) ≡ now (digits .entry) behind waiting n (text .entry) ⌝ }
 {
     bytes(text, n, digits)
 }
 
 // Bits as 16 hexadecimal digits.
 pub fn bits(text: &mut Block, n: usize, x: u64) -> usize
-    ensures { λ r. ⌜ r ≡ waiting n (hexDigits 16 x) ⌝ }
-    ensures { λ _. ⌜ now (text .exit) ≡ gathered n (hexDigits 16 x) (now (text .entry)) ⌝ }
+    ensures { λ r. ⌜ waiting r (text .exit) ≡ hexDigits 16 x behind waiting n (text .entry) ⌝ }
 {
     let digits = text::hex_digits(x);
     sixteen(text, n, &digits)
-}
-
-// a - b in decimal.
-pub fn difference(text: &mut Block, n: usize, a: u64, b: u64) -> usize {
-    if a < b {
-        let m = byte(text, n, b'-');
-        return decimal(text, m, b - a);
-    }
-    decimal(text, n, a - b)
 }

@@ -4,9 +4,22 @@
 //     q SET COUNT MIN MAX SUM BUCKETS BOUNDS                     explicit
 //
 // Each function puts its text behind the n bytes that are there, and says how many there are then.
+ghost use mathlib.Core.Path.{_≡_};
+ghost use mathlib.Core.Bool.{true, false};
+ghost use mathlib.Core.List.{[], _∷_, map};
+ghost use lib.Dec.{eqb};
+ghost use lib.ListN.{take};
+ghost use Rattle.laws.specs.Pick.{pick};
+ghost use Rattle.text.specs.Numbers.{hexDigits};
+ghost use Rattle.lines.specs.Gathered.{waiting, _behind_};
+ghost use Rattle.lines.specs.Written.{decimal};
+ghost use Rattle.sets.specs.Rows.{pair, setOf};
+ghost use Rattle.point.specs.Handing.{storedIn};
+ghost use Rattle.listing.specs.Listed.{output as listedIn, rowAt, boundsAt};
+ghost use Rattle.printing.specs.Fields.{each, joined, attributeField, setField, floatField, extremeField, integerField, rowField};
+ghost use Rattle.printing.specs.Printed.{heldFields, exponentialFields, explicitFields, pointLine, lineAt, nextAt, collectionHead, collectionLines, unreadLine};
 use floats::Extreme;
 use index::signed::Integer;
-use index::signed::Natural;
 use lines::Block;
 use lines::output;
 use listing::Cursor;
@@ -22,19 +35,25 @@ pub struct Printed {
 }
 
 // A number behind a space.
-pub fn number(text: &mut Block, n: usize, x: u64) -> usize {
+pub fn number(text: &mut Block, n: usize, x: u64) -> usize
+    ensures { λ r. ⌜ waiting r (text .exit) ≡ 32 ∷ decimal x behind waiting n (text .entry) ⌝ }
+{
     let m = output::byte(text, n, b' ');
     output::decimal(text, m, x)
 }
 
 // Bits behind a space.
-fn bits(text: &mut Block, n: usize, x: u64) -> usize {
+fn bits(text: &mut Block, n: usize, x: u64) -> usize
+    ensures { λ r. ⌜ waiting r (text .exit) ≡ 32 ∷ hexDigits 16 x behind waiting n (text .entry) ⌝ }
+{
     let m = output::byte(text, n, b' ');
     output::bits(text, m, x)
 }
 
 // A comma before all but the first of several.
-fn comma(text: &mut Block, n: usize, i: usize) -> usize {
+fn comma(text: &mut Block, n: usize, i: usize) -> usize
+    ensures { λ r. ⌜ waiting r (text .exit) ≡ pick (eqb i 0) [] (44 ∷ []) behind waiting n (text .entry) ⌝ }
+{
     if i == 0 {
         return n;
     }
@@ -43,13 +62,18 @@ fn comma(text: &mut Block, n: usize, i: usize) -> usize {
 
 // ---- sets
 
-fn attribute(text: &mut Block, n: usize, word: u64) -> usize {
+fn attribute(text: &mut Block, n: usize, word: u64) -> usize
+    ensures { λ r. ⌜ waiting r (text .exit) ≡ attributeField (pair word) behind waiting n (text .entry) ⌝ }
+{
     let a = output::decimal(text, n, word / 4294967296);
     let b = output::byte(text, a, b':');
     output::decimal(text, b, word % 4294967296)
 }
 
-fn attributes(text: &mut Block, n: usize, row: [u64; 9], many: u64) -> usize {
+fn attributes(text: &mut Block, n: usize, row: [u64; 9]) -> usize
+    ensures { λ r. ⌜ waiting r (text .exit) ≡ joined 44 (map attributeField (take 8 (setOf row))) behind waiting n (text .entry) ⌝ }
+{
+    let many = row[8];
     let mut m = n;
     let mut i: usize = 0;
     while i < 8 && (i as u64) < many {
@@ -61,42 +85,42 @@ fn attributes(text: &mut Block, n: usize, row: [u64; 9], many: u64) -> usize {
 }
 
 // A set behind a space, `-` the empty one.
-fn set(text: &mut Block, n: usize, row: [u64; 9]) -> usize {
+fn set(text: &mut Block, n: usize, row: [u64; 9]) -> usize
+    ensures { λ r. ⌜ waiting r (text .exit) ≡ 32 ∷ setField (take 8 (setOf row)) behind waiting n (text .entry) ⌝ }
+{
     let m = output::byte(text, n, b' ');
     if row[8] == 0 {
         return output::byte(text, m, b'-');
     }
-    attributes(text, m, row, row[8])
+    attributes(text, m, row)
 }
 
 // ---- what a point has
 
-// A scale or an offset. As an index of the finest level it has a bin, which is 2 << FINEST above it: so nothing signed is reckoned with here.
-fn signed(text: &mut Block, n: usize, x: i32) -> usize {
-    let Natural::Is(bin) = index::signed::bin_of(index::FINEST, x) else {
-        return output::byte(text, n, b'-');
-    };
-    output::difference(text, n, bin as u64, 2u64 << index::FINEST)
-}
-
-// It behind a space.
-fn integer(text: &mut Block, n: usize, x: Integer) -> usize {
+// A scale or an offset behind a space.
+fn integer(text: &mut Block, n: usize, x: Integer) -> usize
+    ensures { λ r. ⌜ waiting r (text .exit) ≡ 32 ∷ integerField x behind waiting n (text .entry) ⌝ }
+{
     let m = output::byte(text, n, b' ');
     match x {
         Integer::OutOfRange => output::byte(text, m, b'-'),
-        Integer::Is(i) => signed(text, m, i),
+        Integer::Is(i) => output::signed(text, m, i),
     }
 }
 
 // An extreme behind a space, `-` where it isn't kept.
-fn extreme(text: &mut Block, n: usize, x: Extreme) -> usize {
+fn extreme(text: &mut Block, n: usize, x: Extreme) -> usize
+    ensures { λ r. ⌜ waiting r (text .exit) ≡ 32 ∷ extremeField x behind waiting n (text .entry) ⌝ }
+{
     match x {
         Extreme::None => output::bytes(text, n, b" -"),
         Extreme::Value(v) => bits(text, n, floats::bits_of(v)),
     }
 }
 
-fn held(text: &mut Block, n: usize, p: Point) -> usize {
+fn held(text: &mut Block, n: usize, p: Point) -> usize
+    ensures { λ r. ⌜ waiting r (text .exit) ≡ each 32 (heldFields p []) behind waiting n (text .entry) ⌝ }
+{
     let min = p.min;
     let max = p.max;
     let a = extreme(text, n, min);
@@ -104,7 +128,9 @@ fn held(text: &mut Block, n: usize, p: Point) -> usize {
     bits(text, b, point::signed::sum_bits(p))
 }
 
-fn counts(text: &mut Block, n: usize, row: &[u64]) -> usize {
+fn counts(text: &mut Block, n: usize, row: &[u64]) -> usize
+    ensures { λ r. ⌜ waiting r (text .exit) ≡ joined 44 (map decimal (now (row .entry))) behind waiting n (text .entry) ⌝ }
+{
     let mut m = n;
     let mut i: usize = 0;
     while i < row.len() {
@@ -116,14 +142,18 @@ fn counts(text: &mut Block, n: usize, row: &[u64]) -> usize {
 }
 
 // A row: its offset and its counts.
-fn row(text: &mut Block, n: usize, offset: Integer, row: &[u64]) -> usize {
+fn row(text: &mut Block, n: usize, offset: Integer, row: &[u64]) -> usize
+    ensures { λ r. ⌜ waiting r (text .exit) ≡ 32 ∷ rowField offset (now (row .entry)) behind waiting n (text .entry) ⌝ }
+{
     let a = integer(text, n, offset);
     let b = output::byte(text, a, b':');
     counts(text, b, row)
 }
 
 // A space, and `-` if none of several follows.
-fn dash(text: &mut Block, n: usize, many: usize) -> usize {
+fn dash(text: &mut Block, n: usize, many: usize) -> usize
+    ensures { λ r. ⌜ waiting r (text .exit) ≡ 32 ∷ pick (eqb many 0) (45 ∷ []) [] behind waiting n (text .entry) ⌝ }
+{
     let m = output::byte(text, n, b' ');
     if many == 0 {
         return output::byte(text, m, b'-');
@@ -131,7 +161,9 @@ fn dash(text: &mut Block, n: usize, many: usize) -> usize {
     m
 }
 
-fn all_bits(text: &mut Block, n: usize, bounds: &[f64]) -> usize {
+fn all_bits(text: &mut Block, n: usize, bounds: &[f64]) -> usize
+    ensures { λ r. ⌜ waiting r (text .exit) ≡ joined 44 (map floatField (now (bounds .entry))) behind waiting n (text .entry) ⌝ }
+{
     let mut m = n;
     let mut i: usize = 0;
     while i < bounds.len() {
@@ -144,14 +176,18 @@ fn all_bits(text: &mut Block, n: usize, bounds: &[f64]) -> usize {
 
 // ---- points
 
-fn exponential(text: &mut Block, n: usize, p: Point, pos: &[u64], neg: &[u64]) -> usize {
+fn exponential(text: &mut Block, n: usize, p: Point, pos: &[u64], neg: &[u64]) -> usize
+    ensures { λ r. ⌜ waiting r (text .exit) ≡ each 32 (exponentialFields p (now (pos .entry)) (now (neg .entry))) behind waiting n (text .entry) ⌝ }
+{
     let a = integer(text, n, point::signed::scale(p));
     let b = held(text, a, p);
     let c = row(text, b, point::signed::offset(p, false), pos);
     row(text, c, point::signed::offset(p, true), neg)
 }
 
-fn explicit(text: &mut Block, n: usize, p: Point, buckets: &[u64], bounds: &[f64]) -> usize {
+fn explicit(text: &mut Block, n: usize, p: Point, buckets: &[u64], bounds: &[f64]) -> usize
+    ensures { λ r. ⌜ waiting r (text .exit) ≡ each 32 (explicitFields p (now (buckets .entry)) (now (bounds .entry))) behind waiting n (text .entry) ⌝ }
+{
     let a = held(text, n, p);
     let b = dash(text, a, buckets.len());
     let c = counts(text, b, buckets);
@@ -169,7 +205,11 @@ fn line<'a>(
     pos: &'a [u64],
     neg: &'a [u64],
     bounds: &[f64],
-) -> usize {
+) -> usize
+    ensures { λ r. ⌜ waiting r (text .exit) ≡ pointLine (take 8 (setOf row)) (storedIn (e .point) (boundsAt (e .bounds) (now (bounds .entry)))
+        (rowAt at (e .next) false (now (pos .entry)) (now (neg .entry))) (rowAt at (e .next) true (now (pos .entry)) (now (neg .entry))))
+        behind waiting n (text .entry) ⌝ }
+{
     let p = e.point;
     let next = e.next;
     let f = p.figures;
@@ -205,7 +245,11 @@ pub fn point<'a>(
     pos: &'a [u64],
     neg: &'a [u64],
     bounds: &[f64],
-) -> Printed {
+) -> Printed
+    ensures { λ r. ⌜ waiting (r .n) (text .exit) ≡ lineAt at (listedIn (sets .entry) (words .entry) (pos .entry) (neg .entry)) (now (bounds .entry))
+        behind waiting n (text .entry) ⌝ }
+    ensures { λ r. ⌜ r .at ≡ nextAt at (listedIn (sets .entry) (words .entry) (pos .entry) (neg .entry)) ⌝ }
+{
     let k = at.place;
     let Found::Is(e) = listing::read::point_at(at, words, pos, neg) else {
         return Printed { n, at };
@@ -232,7 +276,10 @@ pub fn collection<'a>(
     pos: &'a [u64],
     neg: &'a [u64],
     bounds: &[f64],
-) -> usize {
+) -> usize
+    ensures { λ r. ⌜ waiting r (text .exit) ≡ collectionLines start time many (listedIn (sets .entry) (words .entry) (pos .entry) (neg .entry))
+        (now (bounds .entry)) behind waiting n (text .entry) ⌝ }
+{
     let m = head(text, n, start, time, many as u64);
     let at = Cursor {
         place: 0,
@@ -248,7 +295,9 @@ pub fn collection<'a>(
     done.n
 }
 
-fn head(text: &mut Block, n: usize, start: u64, time: u64, many: u64) -> usize {
+fn head(text: &mut Block, n: usize, start: u64, time: u64, many: u64) -> usize
+    ensures { λ r. ⌜ waiting r (text .exit) ≡ collectionHead start time many behind waiting n (text .entry) ⌝ }
+{
     let a = output::byte(text, n, b'c');
     let b = number(text, a, start);
     let c = number(text, b, time);
@@ -257,7 +306,9 @@ fn head(text: &mut Block, n: usize, start: u64, time: u64, many: u64) -> usize {
 }
 
 // Prints that the line of a number can't be followed.
-pub fn unread(text: &mut Block, n: usize, line: u64) -> usize {
+pub fn unread(text: &mut Block, n: usize, line: u64) -> usize
+    ensures { λ r. ⌜ waiting r (text .exit) ≡ unreadLine line behind waiting n (text .entry) ⌝ }
+{
     let a = output::byte(text, n, b'?');
     let b = number(text, a, line);
     output::byte(text, b, b'\n')

@@ -2,8 +2,7 @@
 use Prim.Native.Nat.{ℕ}
 use mathlib.Core.Path.{ap, _∙_}
 use mathlib.Core.List.{List}
-use denote.Ref.{now}
-use Rattle.lines.specs.Gathered.{waiting, gathered}
+use Rattle.lines.specs.Gathered.{waiting, _behind_}
 use borrow.Author.Needs.{needs}
 use Rattle.lines.proofs.output.bits.Statement.{statement}
 use Rattle.lines.proofs.output.bits.Tie as tie
@@ -11,8 +10,7 @@ use Rattle.lines.proofs.output.bits.Tie as tie
 returns : tie.Need-returns
 returns c =
     let a = c .before .before .before .before .args in
-    let p = c .before .before .before .hex-digits .ensures in
-    (c .sixteen .ensures .0 ∙ ap (waiting (a .n)) p, c .sixteen .ensures .1 ∙ ap (λ (ds : List ℕ). gathered (a .n) ds (now (a .text))) p)
+    c .sixteen .ensures ∙ ap (λ (ds : List ℕ). ds behind waiting (a .n) (a .text)) (c .before .before .before .hex-digits .ensures)
 
 pub bits-spec : {M : Type 1} → statement M
 bits-spec = tie.close (tie.spec (λ c κs. search needs) (λ c κs. search needs) returns)

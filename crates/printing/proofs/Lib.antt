@@ -1,0 +1,4 @@
+-- The laws.
+pub mod Putting
+pub mod Sets
+pub mod Points

@@ -1,0 +1,3 @@
+-- The definitions that the contracts of `printing` cite.
+pub mod Fields
+pub mod Printed

@@ -1,6 +1,7 @@
 // Prints the bucket index of each line `SCALE BITS` of its input, or `?` where the line cannot be read or has no index.
 use index::signed::Index;
-use libc::STDIN_FILENO;
+use lines::Block;
+use lines::output;
 use text::Integer;
 use text::Natural;
 
@@ -10,109 +11,61 @@ fn scale_of(negative: bool, size: u64) -> i32 {
     if negative { 0 - n } else { n }
 }
 
-fn print_none() {
-    text::write(b"?\n");
-}
-
-// An index with its sign: a bin below the bias 2^(level + 1) stands for a negative one.
-fn print_bin(level: u32, bin: u32) {
-    text::write_difference(bin as u64, 2u64 << (level % 32));
-    text::write(b"\n");
-}
-
-fn print_index(scale: i32, index: i32) {
-    let index::signed::Natural::Is(level) = index::signed::level_of(scale) else {
-        return print_none();
-    };
-    let index::signed::Natural::Is(bin) = index::signed::bin_of(level, index) else {
-        return print_none();
-    };
-    print_bin(level, bin);
-}
-
-fn print_answer(bits: u64, scale: i32) {
+// The index of bits at a scale behind n bytes of text; how many there are then.
+fn answer(text: &mut Block, n: usize, bits: u64, scale: i32) -> usize {
     let found = index::signed::get_index(floats::of_bits(bits), scale);
     match found {
-        Index::At { negative: _, index } => print_index(scale, index),
-        _ => print_none(),
+        Index::At { negative: _, index } => output::signed(text, n, index),
+        _ => output::byte(text, n, b'?'),
     }
 }
 
-fn print_line(line: &[u8]) {
-    let scale = text::signed_at(line, 0);
-    let bits = text::bits_at(line, 1);
+// What a line comes to.
+fn index_of(text: &mut Block, n: usize, line: &[u8]) -> usize {
     if text::spaces(line) != 1 {
-        return print_none();
+        return output::byte(text, n, b'?');
     }
-    let Integer::Is(negative, size) = scale else {
-        return print_none();
+    let Integer::Is(negative, size) = text::signed_at(line, 0) else {
+        return output::byte(text, n, b'?');
     };
-    let Natural::Is(x) = bits else {
-        return print_none();
+    let Natural::Is(bits) = text::bits_at(line, 1) else {
+        return output::byte(text, n, b'?');
     };
     if 999 < size {
-        return print_none();
+        return output::byte(text, n, b'?');
     }
-    print_answer(x, scale_of(negative, size));
+    answer(text, n, bits, scale_of(negative, size))
 }
 
-// The line of the first len bytes; one that fills the store may have been longer.
-fn print_first(line: &[u8], len: usize) {
-    if line.len() <= len {
-        return print_none();
-    }
-    print_line(&line[0..len]);
+// Whether there is no line: the input is over, and nothing stands behind its last newline.
+fn is_none(len: usize, over: bool) -> bool {
+    if len == 0 { over } else { false }
 }
 
-// Goes on with a line of len bytes by a byte; the line that ends with it is printed. Returns how long the line is then.
-fn go_on(line: &mut [u8; 64], len: usize, byte: u8) -> usize {
-    if byte == b'\n' {
-        print_first(line, len);
-        return 0;
+fn said(text: &mut Block, n: usize, line: &[u8], over: bool) -> usize {
+    if is_none(line.len(), over) {
+        return n;
     }
-    text::push(line, len, byte)
-}
-
-fn take(line: &mut [u8; 64], len: usize, bytes: &[u8]) -> usize {
-    let mut now = len;
-    let mut i = 0;
-    while i < bytes.len() {
-        now = go_on(line, now, text::byte_at(bytes, i));
-        i += 1;
-    }
-    now
-}
-
-// How long the line is as far as the input was read, and whether there was more to read.
-struct Read {
-    len: usize,
-    more: bool,
-}
-
-fn read_some(line: &mut [u8; 64], len: usize) -> Read {
-    let mut buf = io::large_buffer();
-    let n = io::read_full(STDIN_FILENO, &mut buf);
-    let next = take(line, len, &buf[..n]);
-    Read {
-        len: next,
-        more: n > 0,
-    }
-}
-
-fn print_last(line: &[u8; 64], len: usize) {
-    if 0 < len {
-        print_first(line, len);
-    }
+    let m = index_of(text, n, line);
+    output::byte(text, m, b'\n')
 }
 
 // Reads to the input's end. A proved loop has to end, and nothing says that the input does: no run uses up the turns.
 fn main() {
-    let mut line = [0u8; 64];
-    let mut read = Read { len: 0, more: true };
+    let mut block = [0u8; 65536];
+    let mut text = [0u8; 65536];
+    let mut line = [0u8; 256];
+    let mut ports = lines::input::first();
     let mut turns = u64::MAX;
-    while turns > 0 && read.more {
-        read = read_some(&mut line, read.len);
+    while turns > 0 && !ports.over {
+        ports = lines::input::next(ports, &mut block, &mut line, &text);
+        ports.waiting = said(
+            &mut text,
+            ports.waiting,
+            lines::input::front(&line, ports.len),
+            ports.over,
+        );
         turns -= 1;
     }
-    print_last(&line, read.len);
+    output::write(&text, ports.waiting);
 }

@@ -4,22 +4,31 @@ use Rattle.index_run.proofs.main.Statement.{statement}
 use Rattle.index_run.proofs.main.Tie as tie
 
 abbrev Inv-loop : tie.InvT-loop
-Inv-loop line₀ read₀ turns₀ line read turns = Unit {0}
+Inv-loop block₀ text₀ line₀ ports₀ turns₀ block text line ports turns = Unit {0}
 
 abbrev μ-loop : tie.MeasureT-loop
-μ-loop line₀ read₀ turns₀ line read turns = turns
+μ-loop block₀ text₀ line₀ ports₀ turns₀ block text line ports turns = turns
+
+first-requires : tie.Need-first-requires Inv-loop μ-loop
+first-requires c κs = tt
 
 loop-holds : tie.Need-loop-holds Inv-loop μ-loop
 loop-holds c = tt
 
-read-some-requires : tie.Need-read-some-requires Inv-loop μ-loop
-read-some-requires c κs = tt
+next-requires : tie.Need-next-requires Inv-loop μ-loop
+next-requires c κs = tt
+
+front-requires : tie.Need-front-requires Inv-loop μ-loop
+front-requires c κs = tt
+
+said-requires : tie.Need-said-requires Inv-loop μ-loop
+said-requires c κs = tt
 
 loop-again : tie.Need-loop-again Inv-loop μ-loop
 loop-again c = tt
 
-print-last-requires : tie.Need-print-last-requires Inv-loop μ-loop
-print-last-requires c κs = tt
+write-requires : tie.Need-write-requires Inv-loop μ-loop
+write-requires c κs = tt
 
 returns : tie.Need-returns Inv-loop μ-loop
 returns c = tt
@@ -27,4 +36,5 @@ returns c = tt
 pub main-spec : {M : Type 1} → statement M
 main-spec =
     tie.close
-    (tie.spec Inv-loop μ-loop loop-holds read-some-requires (λ c. omega arith) (λ c. omega arith) loop-again print-last-requires returns)
+    (tie.spec Inv-loop μ-loop first-requires loop-holds next-requires front-requires said-requires (λ c. omega arith) (λ c. omega arith)
+    loop-again write-requires returns)

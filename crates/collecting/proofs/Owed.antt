@@ -19,8 +19,7 @@ module _ {K : Kind} {S : Store K} (L : Lister S) where
     pub pos : K .pos (K .point (S .settings w) (was S w c x u)) ≡ length (L .pos c x u)
     pub neg : K .neg (K .point (S .settings w) (was S w c x u)) ≡ length (L .neg c x u)
 
-  -- of every slot of cells that can be lent that lies in them and whose series agrees, if it holds one. Asked under given switches: the explicit
-  -- kind's have a zero threshold, and a point that is read back has 0.0; under any switches it is false
+  -- of every slot of cells that can be lent that lies in them and whose series agrees, if it holds one
   abbrev pub Lists : S .Switches → Type 0
   Lists w =
       (c : S .Cells) (x : ℕ) (u : Bool) → S .unset ≡ 0 → L .Lent c → S .Room c x

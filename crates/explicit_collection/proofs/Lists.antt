@@ -10,7 +10,6 @@ use lib.Ieee.{Float}
 use Rattle.laws.specs.Pick.{pick}
 use Rattle.laws.specs.Over.{over}
 use Rattle.laws.proofs.Over.{take-over}
-use Rattle.floats.specs.Starts.{zeroFloat}
 use Rattle.points.specs.Explicit.{Buckets, bucketCount, bucketsOf}
 use Rattle.points.specs.Values.{start}
 use Rattle.points.specs.Figures.{Settings, Figures, explicitCounts}
@@ -57,10 +56,10 @@ fresh-buckets bounds =
 
 module _ (bounds : List Float) (extremes sums : Bool) (c : Cells) (x : ℕ) where
   abbrev z : Settings
-  z = explicitStore bounds .settings (extremes, sums, zeroFloat)
+  z = explicitStore bounds .settings (extremes, sums)
 
   abbrev series : Bool → Figures
-  series u = was (explicitStore bounds) (extremes, sums, zeroFloat) c x u
+  series u = was (explicitStore bounds) (extremes, sums) c x u
 
   series-is : (u : Bool) → record { counts = explicitCounts bounds (bucketsIn bounds (headAt c x u .count) (countsAt bounds c x u)); summary = summary (headAt c x u) } ≡ series u
   unfolding pick
@@ -86,8 +85,8 @@ module _ (bounds : List Float) (extremes sums : Bool) (c : Cells) (x : ℕ) wher
         ap (λ (b : List Float). handedIn (storedIn p b (countsAt bounds c x u) [])) (take-all (length bounds) bounds (omega arith))
         ∙ ap (handedOut z) (series-is u)
 
-    -- THE EXPLICIT KIND PAYS what it owes of its points; under a threshold of 0.0, which is what a point that is read back has
-    pub explicit-lists : Listed (explicitLister bounds) (extremes, sums, zeroFloat) c x u
+    -- THE EXPLICIT KIND PAYS what it owes of its points
+    pub explicit-lists : Listed (explicitLister bounds) (extremes, sums) c x u
     explicit-lists =
         let n = counts-long bounds c x r u in
         record {

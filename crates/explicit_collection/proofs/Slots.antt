@@ -18,7 +18,6 @@ use Rattle.rows.proofs.Parts.{part-length}
 use Rattle.laws.proofs.Answers.{success?, valueIn, not-refused}
 use Rattle.laws.specs.Over.{over}
 use Rattle.laws.proofs.Over.{take-over, length-over}
-use Rattle.floats.specs.Starts.{zeroFloat}
 use Rattle.points.specs.Explicit.{bucketCount, bucketsAgree}
 use Rattle.kinds.specs.Histograms.{histograms}
 use Rattle.explicit.specs.declared.Head.{Head}
@@ -43,7 +42,7 @@ use Rattle.explicit_collection.specs.Ready.{pointPut}
 module _ (bounds : List Float) (c : Cells) (x : ℕ) where
   -- whether the slot's series agrees: the switches have no part in it
   abbrev pub agreesAt : Bool
-  agreesAt = histograms .agrees (explicitStore bounds .settings (true, true, zeroFloat)) (seriesAt bounds c x)
+  agreesAt = histograms .agrees (explicitStore bounds .settings (true, true)) (seriesAt bounds c x)
 
   module _ (n : ℕ) (is : n ≡ bucketCount bounds) (h : Head) (head : h ≡ headIn c x) (b : Bool) (e : b ≡ bucketsAgree bounds (bucketsIn bounds (h .count) (partAt n (c .counts) x))) where
     -- as the code tests it
@@ -89,7 +88,7 @@ buckets-are (b ∷ bounds) = refl
 
 module _ (bounds : List Float) (u due : Bool) (c : Cells) (s : Survey) (x : ℕ) (b : Bool) (e : b ≡ (not u || agreesAt bounds c x)) where
   abbrev pub after : Survey
-  after = surveyedAt (explicitLister bounds) (true, true, zeroFloat) u due c s x
+  after = surveyedAt (explicitLister bounds) (true, true) u due c s x
 
   pub survey-none : b ≡ false → unsound ≡ after
   unfolding surveyedAt
@@ -164,7 +163,7 @@ module _ (bounds : List Float) (xs : List ℕ) (long : bucketCount bounds ≤ le
 -- what is put at a slot
 module _ (bounds : List Float) (show sums u due : Bool) (c : Cells) (x : ℕ) (row : List ℕ) (at : Cursor) (o : Output) where
   abbrev pub putting : Put
-  putting = putSlot (explicitLister bounds) (show, sums, zeroFloat) u due c x row at o
+  putting = putSlot (explicitLister bounds) (show, sums) u due c x row at o
 
   pub put-none : due ≡ false → left at o ≡ putting
   unfolding putSlot

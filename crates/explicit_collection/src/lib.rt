@@ -4,7 +4,6 @@ mod slot;
 mod walk;
 
 ghost use mathlib.Core.Path.{_≡_};
-ghost use Rattle.floats.specs.Starts.{zeroFloat};
 ghost use Rattle.sets.specs.Sorted.{filterOf};
 ghost use Rattle.directory.specs.View.{stores};
 ghost use Rattle.bindings.specs.Calls as Bindings;
@@ -107,7 +106,7 @@ fn number(
     out_pos: &[u64],
     out_neg: &[u64],
 ) -> u8
-    ensures { λ r. ⌜ r ≡ uncollected (explicitLister (now (bounds .entry))) (s .extremes, s .sums, zeroFloat) cumulative (s .limit)
+    ensures { λ r. ⌜ r ≡ uncollected (explicitLister (now (bounds .entry))) (s .extremes, s .sums) cumulative (s .limit)
         (held d (stores (sets .entry) (entries .entry) (order .entry)) (cells (totals .entry) (extremes .entry) (counts .entry)))
         (output («out_sets» .entry) («out_words» .entry) («out_pos» .entry) («out_neg» .entry)) ⌝ }
 {
@@ -162,7 +161,7 @@ pub fn delta(
     ensures { λ r. ⌜ gave (r .answer)
         (held (r .dir) (stores (sets .exit) (entries .exit) (order .exit)) (cells (totals .entry) (extremes .entry) (counts .entry)))
         (output («out_sets» .exit) («out_words» .exit) («out_pos» .exit) («out_neg» .exit))
-        ≡ deltaCollected (explicitLister (now (bounds .entry))) (s .extremes, s .sums, zeroFloat) (s .limit)
+        ≡ deltaCollected (explicitLister (now (bounds .entry))) (s .extremes, s .sums) (s .limit)
         (held d (stores (sets .entry) (entries .entry) (order .entry)) (cells (totals .entry) (extremes .entry) (counts .entry)))
         (output («out_sets» .entry) («out_words» .entry) («out_pos» .entry) («out_neg» .entry)) ⌝ }
 {
@@ -231,7 +230,7 @@ pub fn cumulative(
     ensures { λ r. ⌜ gave r
         (held d (stores (sets .entry) (entries .entry) (order .entry)) (cells (totals .entry) (extremes .entry) (counts .entry)))
         (output («out_sets» .exit) («out_words» .exit) («out_pos» .exit) («out_neg» .exit))
-        ≡ cumulativeCollected (explicitLister (now (bounds .entry))) (s .extremes, s .sums, zeroFloat) (s .limit)
+        ≡ cumulativeCollected (explicitLister (now (bounds .entry))) (s .extremes, s .sums) (s .limit)
         (held d (stores (sets .entry) (entries .entry) (order .entry)) (cells (totals .entry) (extremes .entry) (counts .entry)))
         (output («out_sets» .entry) («out_words» .entry) («out_pos» .entry) («out_neg» .entry)) ⌝ }
 {

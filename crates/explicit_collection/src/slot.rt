@@ -4,7 +4,6 @@ ghost use mathlib.Core.Bool.{true, not, _||_};
 ghost use mathlib.Core.List.{[]};
 ghost use Prim.Native.Nat.{_<_, _≤_};
 ghost use lib.ListN.{length, replicate};
-ghost use Rattle.floats.specs.Starts.{zeroFloat};
 ghost use Rattle.points.specs.Explicit.{boundsPass, bucketCount};
 ghost use Rattle.explicit.specs.Series.{freshHead};
 ghost use Rattle.point.specs.Handing.{explicitPoint};
@@ -44,7 +43,7 @@ fn agrees_at(
     counts: &[u64],
 ) -> bool
     requires { ⌜ Room (now bounds) (cells totals extremes counts) x ⌝ }
-    ensures { λ r. ⌜ r ≡ histograms .agrees (explicitStore (now (bounds .entry)) .settings (true, true, zeroFloat))
+    ensures { λ r. ⌜ r ≡ histograms .agrees (explicitStore (now (bounds .entry)) .settings (true, true))
         (seriesAt (now (bounds .entry)) (cells (totals .entry) (extremes .entry) (counts .entry)) x) ⌝ }
 {
     let n = explicit::bucket_count(bounds);
@@ -83,7 +82,7 @@ fn sound_at(
     counts: &[u64],
 ) -> bool
     requires { ⌜ Room (now bounds) (cells totals extremes counts) x ⌝ }
-    ensures { λ r. ⌜ r ≡ (not updated || histograms .agrees (explicitStore (now (bounds .entry)) .settings (true, true, zeroFloat))
+    ensures { λ r. ⌜ r ≡ (not updated || histograms .agrees (explicitStore (now (bounds .entry)) .settings (true, true))
         (seriesAt (now (bounds .entry)) (cells (totals .entry) (extremes .entry) (counts .entry)) x)) ⌝ }
 {
     if !updated {
@@ -105,7 +104,7 @@ pub fn survey(
 ) -> Survey
     requires { ⌜ (boundsPass (now bounds) ≡ true) × Room (now bounds) (cells totals extremes counts) x ⌝ }
     requires { ⌜ Few s ⌝ }
-    ensures { λ r. ⌜ r ≡ surveyedAt (explicitLister (now (bounds .entry))) (true, true, zeroFloat) updated due
+    ensures { λ r. ⌜ r ≡ surveyedAt (explicitLister (now (bounds .entry))) (true, true) updated due
         (cells (totals .entry) (extremes .entry) (counts .entry)) s x ⌝ }
     ensures { λ r. ⌜ More s r ⌝ }
 {
@@ -218,11 +217,11 @@ pub fn put(
     out_pos: &mut [u64],
     out_neg: &mut [u64],
 ) -> Cursor
-    requires { ⌜ Sound (explicitLister (now bounds)) (show, sums, zeroFloat) updated (cells totals extremes counts) x ⌝ }
-    requires { ⌜ (due ≡ true → Free (explicitLister (now bounds)) (show, sums, zeroFloat) updated (cells totals extremes counts) x at
+    requires { ⌜ Sound (explicitLister (now bounds)) (show, sums) updated (cells totals extremes counts) x ⌝ }
+    requires { ⌜ (due ≡ true → Free (explicitLister (now bounds)) (show, sums) updated (cells totals extremes counts) x at
         (output «out_sets» «out_words» «out_pos» «out_neg»)) ⌝ }
     ensures { λ r. ⌜ left r (output («out_sets» .exit) («out_words» .exit) («out_pos» .exit) («out_neg» .exit))
-        ≡ putSlot (explicitLister (now (bounds .entry))) (show, sums, zeroFloat) updated due (cells (totals .entry) (extremes .entry) (counts .entry)) x row at
+        ≡ putSlot (explicitLister (now (bounds .entry))) (show, sums) updated due (cells (totals .entry) (extremes .entry) (counts .entry)) x row at
         (output («out_sets» .entry) («out_words» .entry) («out_pos» .entry) («out_neg» .entry)) ⌝ }
 {
     if !due {

@@ -2,7 +2,6 @@
 ghost use mathlib.Core.Path.{_≡_};
 ghost use mathlib.Core.Bool.{true};
 ghost use mathlib.Core.List.{[]};
-ghost use Rattle.floats.specs.Starts.{zeroFloat};
 ghost use Rattle.explicit_slots.specs.Cells.{cells};
 ghost use Rattle.value_map.specs.Explicit.{explicitStore};
 ghost use Rattle.listing.specs.Listed.{output};
@@ -24,7 +23,7 @@ pub fn survey(
     counts: &[u64],
 ) -> Survey
     requires { ⌜ Walk (explicitStore (now bounds)) (walked used [] (now entries) (now order) (cells totals extremes counts)) ⌝ }
-    ensures { λ r. ⌜ r ≡ surveyed (explicitLister (now (bounds .entry))) (true, true, zeroFloat) cumulative
+    ensures { λ r. ⌜ r ≡ surveyed (explicitLister (now (bounds .entry))) (true, true) cumulative
         (walked used [] (now (entries .entry)) (now (order .entry)) (cells (totals .entry) (extremes .entry) (counts .entry))) ⌝ }
 {
     let mut found = Survey {
@@ -66,10 +65,10 @@ pub fn list(
     out_pos: &mut [u64],
     out_neg: &mut [u64],
 ) -> Cursor
-    requires { ⌜ Listable (explicitLister (now bounds)) (show, sums, zeroFloat) cumulative
+    requires { ⌜ Listable (explicitLister (now bounds)) (show, sums) cumulative
         (walked used (now sets) (now entries) (now order) (cells totals extremes counts)) (output «out_sets» «out_words» «out_pos» «out_neg») ⌝ }
     ensures { λ r. ⌜ left r (output («out_sets» .exit) («out_words» .exit) («out_pos» .exit) («out_neg» .exit))
-        ≡ listedTo (explicitLister (now (bounds .entry))) (show, sums, zeroFloat) cumulative
+        ≡ listedTo (explicitLister (now (bounds .entry))) (show, sums) cumulative
         (walked used (now (sets .entry)) (now (entries .entry)) (now (order .entry)) (cells (totals .entry) (extremes .entry) (counts .entry)))
         (output («out_sets» .entry) («out_words» .entry) («out_pos» .entry) («out_neg» .entry)) ⌝ }
 {

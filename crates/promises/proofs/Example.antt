@@ -111,8 +111,8 @@ abbrev first : Held Cells
 first = held (setup .dir) (configured bounds true true 1 none stores cells .stores) cells
 
 -- ---- THE RUN: two values, a collection, one more by a handle, a collection, and the handle released, once more than it was bound
-abbrev w : Bool × Bool × Float
-w = (true, true, zeroFloat)
+abbrev w : Bool × Bool
+w = (true, true)
 
 abbrev c : Config histograms
 c = configOf (explicitStore bounds) w 1 none

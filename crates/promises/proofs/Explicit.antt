@@ -6,7 +6,6 @@ use mathlib.Core.Bool.{Bool, true}
 use mathlib.Core.List.{List}
 use lib.Ieee.{Float}
 use Rattle.laws.specs.Pick.{pick}
-use Rattle.floats.specs.Starts.{zeroFloat}
 use Rattle.explicit_slots.specs.Cells.{Cells, headAt}
 use Rattle.point.specs.Handing.{explicitPoint, inShape}
 use Rattle.listing.specs.Words.{figuresIn, pointIn, isPoint}
@@ -36,7 +35,7 @@ written bounds w c x u l =
 pub keeps : (bounds : List Float) → Keeps (explicitLister bounds)
 keeps bounds c x u v f l = recording-keeps bounds v (f .value) x u c l
 
-pub lists : (bounds : List Float) (extremes sums : Bool) → Lists (explicitLister bounds) (extremes, sums, zeroFloat)
+pub lists : (bounds : List Float) (extremes sums : Bool) → Lists (explicitLister bounds) (extremes, sums)
 lists bounds extremes sums c x u on l r s = explicit-lists bounds extremes sums c x u l r
 
 pub storing : (bounds : List Float) → Storing (explicitLister bounds) bounds

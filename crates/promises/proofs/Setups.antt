@@ -7,7 +7,6 @@ use mathlib.Core.Option.{Option}
 use lib.IntN.{ℤ}
 use lib.Ieee.{Float}
 use Rattle.laws.specs.Said.{success, number}
-use Rattle.floats.specs.Starts.{zeroFloat}
 use Rattle.directory.specs.View.{Stores}
 use Rattle.exponential_slots.specs.Cells as ExponentialCells
 use Rattle.explicit_slots.specs.Cells as ExplicitCells
@@ -98,7 +97,7 @@ explicit-demand bounds extremes sums limit filter s x u l e =
     let o = started (explicitStore bounds) limit filter s x in
     let p = explicit-setup bounds extremes sums limit filter s x u e in
     let L = explicitLister bounds in
-    let w : explicitStore bounds .Switches = (extremes, sums, zeroFloat) in
+    let w : explicitStore bounds .Switches = (extremes, sums) in
     let h = promised (ExplicitOwes.owed bounds) L (ExplicitPays.keeps bounds) bounds (ExplicitPays.storing bounds) w (ExplicitPays.lists bounds extremes sums) limit filter s x l (p .0) in (
       sym (ap (λ (t : ExplicitSetup.Setup). t .settings) (p .1)),
       subst (λ (t : ExplicitSetup.Setup). Promised L bounds w limit filter (held (t .dir) (o .held .kept .stores) x)) (p .1) h,

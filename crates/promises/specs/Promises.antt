@@ -13,7 +13,7 @@ use Rattle.index.specs.DataModel.{IsIndex}
 use Rattle.index.specs.Signed.{levelAnswer, valueIndex}
 use Rattle.index.specs.declared.signed.Natural.the-variants.{Is}
 use Rattle.index.specs.declared.signed.Index.the-variants.{At}
-use Rattle.floats.specs.Starts.{zeroFloat, FiniteF64}
+use Rattle.floats.specs.Starts.{FiniteF64}
 use Rattle.tally.specs.Kind.{Kind}
 use Rattle.tally.specs.Map.{Config, Call}
 use Rattle.tally.specs.Demand.{InRange}
@@ -68,7 +68,7 @@ ExplicitDemand =
     (bounds : List Float) (extremes sums : Bool) (limit : ℕ) (filter : Option (List ℕ)) (s : Stores) (x : ExplicitCells.Cells) (u : ExplicitSetup.Setup)
     → AllFit (x .extremes) → Explicit.configured bounds extremes sums limit filter s x .answer ≡ success u
     → (u .settings ≡ record { extremes = extremes; sums = sums; limit = limit })
-    × Promised (explicitLister bounds) bounds (extremes, sums, zeroFloat) limit filter
+    × Promised (explicitLister bounds) bounds (extremes, sums) limit filter
     (held (u .dir) (Explicit.configured bounds extremes sums limit filter s x .stores) x)
 
 -- "recording by set or handle, binding, releasing, delta collection": every call of demand 3 in range is asked by some input of a run

@@ -11,6 +11,7 @@ use lib.Ieee.Scale.{finite}
 use Rattle.laws.specs.Pick.{pick}
 use Rattle.laws.proofs.Bools.{pick-left}
 use Rattle.laws.proofs.Cases.{true-not-false}
+use Rattle.floats.specs.Starts.{zeroFloat}
 use Rattle.points.specs.Explicit.{boundsPass, bucketCount}
 use Rattle.explicit_slots.specs.Cells.{Cells, Room}
 use Rattle.explicit_slots.proofs.Series as Laws
@@ -50,11 +51,11 @@ owed bounds =
       valid = λ e w. bounds-pass bounds e;
       room = room bounds;
       unchanged = λ c x u v d. Laws.refused-same bounds x u c v d;
-      disagreeing = λ w c x u v f s. Laws.disagreeing bounds (w .0) (w .1) (w .2) c x (f .room) v (finite-is v (f .value)) u s;
-      full = λ w c x u v f s n. Laws.full bounds (w .0) (w .1) (w .2) c x (f .room) v (finite-is v (f .value)) u s n;
+      disagreeing = λ w c x u v f s. Laws.disagreeing bounds (w .0) (w .1) zeroFloat c x (f .room) v (finite-is v (f .value)) u s;
+      full = λ w c x u v f s n. Laws.full bounds (w .0) (w .1) zeroFloat c x (f .room) v (finite-is v (f .value)) u s n;
       barred = λ w c x u v f s n b. true-not-false b;
       took = λ w c x u v f s n b.
-          let t = Laws.took bounds (w .0) (w .1) (w .2) c x (f .room) v (finite-is v (f .value)) (bounds-pass bounds (f .set)) u s n in
+          let t = Laws.took bounds (w .0) (w .1) zeroFloat c x (f .room) v (finite-is v (f .value)) (bounds-pass bounds (f .set)) u s n in
           let k = t .1 .lengths in
           record {
             no = t .0;

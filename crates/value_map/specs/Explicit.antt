@@ -5,6 +5,7 @@ use mathlib.Core.List.{List, [], _∷_}
 use lib.ListN.{length}
 use lib.Ieee.{Float}
 use Rattle.laws.specs.Pick.{pick}
+use Rattle.floats.specs.Starts.{zeroFloat}
 use Rattle.points.specs.Explicit.{boundsPass, bucketCount}
 use Rattle.points.specs.Figures.{explicit}
 use Rattle.kinds.specs.Histograms.{histograms}
@@ -14,12 +15,12 @@ use Rattle.value_map.specs.Store.{Store, lengthsSuffice}
 abbrev pub cellsSuffice : List Float → ℕ → Cells → Bool
 cellsSuffice bounds limit c = lengthsSuffice (bucketCount bounds) limit (length (c .counts) ∷ []) (length (c .totals) ∷ length (c .extremes) ∷ [])
 
--- the switches: extremes and sums; and a threshold, which this kind has no use for
+-- the switches: extremes and sums. The zero threshold, which this kind has no use for, is 0.0
 abbrev pub explicitStore : List Float → Store histograms
 explicitStore bounds =
     record {
-      Switches = Bool × Bool × Float;
-      settings = λ w. record { kind = explicit bounds; extremes = w .0; sums = w .1; threshold = w .2 };
+      Switches = Bool × Bool;
+      settings = λ w. record { kind = explicit bounds; extremes = w .0; sums = w .1; threshold = zeroFloat };
       unset = pick (boundsPass bounds) 0 3;
       Cells = Cells;
       suffices = cellsSuffice bounds;

@@ -3,7 +3,6 @@ use mathlib.Core.Path.{sym, _∙_}
 use mathlib.Core.Bool.{true}
 use denote.Ref.{now}
 use borrow.Author.Needs.{needs}
-use Rattle.floats.specs.Starts.{zeroFloat}
 use Rattle.directory.specs.View.{stores}
 use Rattle.explicit_slots.specs.Cells.{Cells, cells}
 use Rattle.value_map.specs.Calls.{Held, held}
@@ -26,19 +25,19 @@ out s = let a = s .args in output (a .out-sets) (a .out-words) (a .out-pos) (a .
 
 -- no number refuses the call
 clear : (e : tie.Else1)
-    → Clear (explicitLister (now (start (e .before) .args .bounds))) (start (e .before) .args .s .extremes, start (e .before) .args .s .sums, zeroFloat) (start (e .before) .args .s .limit)
+    → Clear (explicitLister (now (start (e .before) .args .bounds))) (start (e .before) .args .s .extremes, start (e .before) .args .s .sums) (start (e .before) .args .s .limit)
     (map (start (e .before))) (out (start (e .before))) true
 clear e =
     let s = start (e .before) in
     let a = s .args in
-    clear-of (explicitLister (now (a .bounds))) (a .s .extremes, a .s .sums, zeroFloat) (a .s .limit) (map s) (out s) true (sym (e .before .number .ensures) ∙ e .if1 .left)
+    clear-of (explicitLister (now (a .bounds))) (a .s .extremes, a .s .sums) (a .s .limit) (map s) (out s) true (sym (e .before .number .ensures) ∙ e .if1 .left)
 
 returns : tie.Need-returns
 returns c =
     let n = c .before in
     let s = start n in
     let a = s .args in
-    cumulative-refused (explicitLister (now (a .bounds))) (a .s .extremes, a .s .sums, zeroFloat) (a .s .limit) (map s) (out s) (n .number .result) (n .number .ensures) (c .if1 .taken)
+    cumulative-refused (explicitLister (now (a .bounds))) (a .s .extremes, a .s .sums) (a .s .limit) (map s) (out s) (n .number .result) (n .number .ensures) (c .if1 .taken)
 
 list-requires : tie.Need-list-requires
 list-requires c κs =
@@ -46,7 +45,7 @@ list-requires c κs =
     let n = e .before in
     let s = start n in
     let a = s .args in
-    listable (explicitLister (now (a .bounds))) (owed (now (a .bounds))) (a .s .extremes, a .s .sums, zeroFloat) true (a .s .limit) (map s) (out s) (clear e)
+    listable (explicitLister (now (a .bounds))) (owed (now (a .bounds))) (a .s .extremes, a .s .sums) true (a .s .limit) (map s) (out s) (clear e)
 
 returns-2 : tie.Need-returns-2
 returns-2 c =
@@ -55,8 +54,8 @@ returns-2 c =
     let n = e .before in
     let s = start n in
     let a = s .args in
-    cumulative-done (explicitLister (now (a .bounds))) (a .s .extremes, a .s .sums, zeroFloat) (a .s .limit) (map s) (out s) _ (sym (n .number .ensures) ∙ e .if1 .left)
-    (listed-is (explicitLister (now (a .bounds))) (owed (now (a .bounds))) (a .s .extremes, a .s .sums, zeroFloat) true (a .s .limit) (map s) (out s) _ (p .list .ensures))
+    cumulative-done (explicitLister (now (a .bounds))) (a .s .extremes, a .s .sums) (a .s .limit) (map s) (out s) _ (sym (n .number .ensures) ∙ e .if1 .left)
+    (listed-is (explicitLister (now (a .bounds))) (owed (now (a .bounds))) (a .s .extremes, a .s .sums) true (a .s .limit) (map s) (out s) _ (p .list .ensures))
 
 pub cumulative-spec : {M : Type 1} → statement M
 cumulative-spec =

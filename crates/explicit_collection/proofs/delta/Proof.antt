@@ -3,7 +3,6 @@ use mathlib.Core.Path.{sym, _∙_}
 use mathlib.Core.Bool.{false}
 use denote.Ref.{now}
 use borrow.Author.Needs.{needs}
-use Rattle.floats.specs.Starts.{zeroFloat}
 use Rattle.directory.specs.View.{stores}
 use Rattle.explicit_slots.specs.Cells.{Cells, cells}
 use Rattle.value_map.specs.Calls.{Held, held}
@@ -32,19 +31,19 @@ on p = p .before .before .before .before .before .before .before .before
 
 -- no number refuses the call
 clear : (e : tie.Else1)
-    → Clear (explicitLister (now (start (e .before) .args .bounds))) (start (e .before) .args .s .extremes, start (e .before) .args .s .sums, zeroFloat) (start (e .before) .args .s .limit)
+    → Clear (explicitLister (now (start (e .before) .args .bounds))) (start (e .before) .args .s .extremes, start (e .before) .args .s .sums) (start (e .before) .args .s .limit)
     (map (start (e .before))) (out (start (e .before))) false
 clear e =
     let s = start (e .before) in
     let a = s .args in
-    clear-of (explicitLister (now (a .bounds))) (a .s .extremes, a .s .sums, zeroFloat) (a .s .limit) (map s) (out s) false (sym (e .before .number .ensures) ∙ e .if1 .left)
+    clear-of (explicitLister (now (a .bounds))) (a .s .extremes, a .s .sums) (a .s .limit) (map s) (out s) false (sym (e .before .number .ensures) ∙ e .if1 .left)
 
 returns : tie.Need-returns
 returns c =
     let n = c .before in
     let s = start n in
     let a = s .args in
-    delta-refused (explicitLister (now (a .bounds))) (a .s .extremes, a .s .sums, zeroFloat) (a .s .limit) (map s) (out s) (n .number .result) (n .number .ensures) (c .if1 .taken)
+    delta-refused (explicitLister (now (a .bounds))) (a .s .extremes, a .s .sums) (a .s .limit) (map s) (out s) (n .number .result) (n .number .ensures) (c .if1 .taken)
 
 list-requires : tie.Need-list-requires
 list-requires c κs =
@@ -52,7 +51,7 @@ list-requires c κs =
     let n = e .before in
     let s = start n in
     let a = s .args in
-    listable (explicitLister (now (a .bounds))) (owed (now (a .bounds))) (a .s .extremes, a .s .sums, zeroFloat) false (a .s .limit) (map s) (out s) (clear e)
+    listable (explicitLister (now (a .bounds))) (owed (now (a .bounds))) (a .s .extremes, a .s .sums) false (a .s .limit) (map s) (out s) (clear e)
 
 sweep-requires : tie.Need-sweep-requires
 sweep-requires c κs =
@@ -70,8 +69,8 @@ returns-2 c =
     let n = e .before in
     let s = start n in
     let a = s .args in
-    delta-done (explicitLister (now (a .bounds))) (a .s .extremes, a .s .sums, zeroFloat) (a .s .limit) (map s) (out s) _ _ (sym (n .number .ensures) ∙ e .if1 .left)
-    (listed-is (explicitLister (now (a .bounds))) (owed (now (a .bounds))) (a .s .extremes, a .s .sums, zeroFloat) false (a .s .limit) (map s) (out s) _ (p .list .ensures)) (w .sweep .ensures)
+    delta-done (explicitLister (now (a .bounds))) (a .s .extremes, a .s .sums) (a .s .limit) (map s) (out s) _ _ (sym (n .number .ensures) ∙ e .if1 .left)
+    (listed-is (explicitLister (now (a .bounds))) (owed (now (a .bounds))) (a .s .extremes, a .s .sums) false (a .s .limit) (map s) (out s) _ (p .list .ensures)) (w .sweep .ensures)
 
 pub delta-spec : {M : Type 1} → statement M
 delta-spec =

@@ -3,7 +3,6 @@ use denote.Ref.{now}
 use borrow.Author.Needs.{needs}
 use mathlib.Core.Path.{refl}
 use mathlib.Core.Bool.{true}
-use Rattle.floats.specs.Starts.{zeroFloat}
 use Rattle.directory.specs.View.{stores}
 use Rattle.explicit_slots.specs.Cells.{Cells, cells}
 use Rattle.value_map.specs.Calls.{Held, held}
@@ -31,7 +30,7 @@ returns c =
     let b = c .before in
     let s = start b in
     let a = s .args in
-    number-first (explicitLister (now (a .bounds))) (owed (now (a .bounds))) (a .s .extremes, a .s .sums, zeroFloat) (a .cumulative) (a .s .limit) (map s) (out s)
+    number-first (explicitLister (now (a .bounds))) (owed (now (a .bounds))) (a .s .extremes, a .s .sums) (a .cumulative) (a .s .limit) (map s) (out s)
     (room b .cells-suffice .result) (b .before .unset-of .result) (b .barred .result)
     (room b .cells-suffice .ensures) (b .before .unset-of .ensures) (b .barred .ensures) (c .if1 .taken)
 
@@ -40,7 +39,7 @@ survey-requires c κs =
     let b = c .before in
     let s = start b in
     let a = s .args in
-    walk-here (explicitLister (now (a .bounds))) (owed (now (a .bounds))) (a .s .extremes, a .s .sums, zeroFloat) (a .cumulative) (a .s .limit) (map s) (out s)
+    walk-here (explicitLister (now (a .bounds))) (owed (now (a .bounds))) (a .s .extremes, a .s .sums) (a .cumulative) (a .s .limit) (map s) (out s)
     (room b .cells-suffice .result) (b .before .unset-of .result) (b .barred .result)
     (room b .cells-suffice .ensures) (b .before .unset-of .ensures) (b .barred .ensures) (c .if1 .left)
 
@@ -51,10 +50,10 @@ returns-2 c =
     let b = e .before in
     let s = start b in
     let a = s .args in
-    number-then (explicitLister (now (a .bounds))) (owed (now (a .bounds))) (a .s .extremes, a .s .sums, zeroFloat) (a .cumulative) (a .s .limit) (map s) (out s)
+    number-then (explicitLister (now (a .bounds))) (owed (now (a .bounds))) (a .s .extremes, a .s .sums) (a .cumulative) (a .s .limit) (map s) (out s)
     (room b .cells-suffice .result) (b .before .unset-of .result) (b .barred .result)
     (room b .cells-suffice .ensures) (b .before .unset-of .ensures) (b .barred .ensures) (e .if1 .left)
-    (true, true, zeroFloat) (λ x. refl) (f .survey .result) (c .number-of .result) (f .survey .ensures) (c .number-of .ensures)
+    (true, true) (λ x. refl) (f .survey .result) (c .number-of .result) (f .survey .ensures) (c .number-of .ensures)
 
 pub number-spec : {M : Type 1} → statement M
 number-spec =

@@ -8,7 +8,6 @@ use lib.ListN.{length}
 use borrow.Author.Needs.{needs}
 use borrow.Author.Tests.{not-true, not-false}
 use Rattle.rows.proofs.Parts.{part-length}
-use Rattle.floats.specs.Starts.{zeroFloat}
 use Rattle.points.specs.Explicit.{boundsPass, bucketCount}
 use Rattle.explicit_slots.specs.Cells.{Cells, cells}
 use Rattle.value_map.proofs.ExplicitOwes.{owed}
@@ -35,7 +34,7 @@ from b = start (b .before .before .before)
 
 -- the bounds pass, and there is room for the point
 passing : (s : tie.Start) → boundsPass (now (s .args .bounds)) ≡ true
-passing s = owed (now (s .args .bounds)) .valid (s .pre .0 .set) (s .args .show, s .args .sums, zeroFloat)
+passing s = owed (now (s .args .bounds)) .valid (s .pre .0 .set) (s .args .show, s .args .sums)
 
 place : (e : tie.Else1) → Place (start e .args .at) (out (start e)) (bucketCount (now (start e .args .bounds))) 0
 place e =

@@ -3,7 +3,6 @@ use Prim.Native.Nat.{_+_, _-_, _≤_}
 use native.Mathlib.Omega.{arith}
 use denote.Ref.{now}
 use borrow.Author.Needs.{needs}
-use Rattle.floats.specs.Starts.{zeroFloat}
 use Rattle.explicit_slots.specs.Cells.{Cells, cells}
 use Rattle.value_map.specs.Calls.{Held}
 use Rattle.value_map.specs.Explicit.{explicitStore}
@@ -18,7 +17,7 @@ use Rattle.explicit_collection.proofs.walk.list.Tie as tie
 
 abbrev Inv-loop : tie.InvT-loop
 Inv-loop cumulative bounds show sums used sets entries order totals extremes counts out-sets₀ out-words₀ out-pos₀ out-neg₀ at₀ i₀ out-sets out-words out-pos out-neg at i =
-    Listing (explicitLister bounds) (show, sums, zeroFloat) cumulative (walked used sets entries order (record { totals = totals; extremes = extremes; counts = counts }))
+    Listing (explicitLister bounds) (show, sums) cumulative (walked used sets entries order (record { totals = totals; extremes = extremes; counts = counts }))
     (record { sets = out-sets₀; words = out-words₀; pos = out-pos₀; neg = out-neg₀ }) i at
     (record { sets = out-sets; words = out-words; pos = out-pos; neg = out-neg })
 
@@ -49,7 +48,7 @@ abbrev turnOf : tie.After-is-due Inv-loop μ-loop → tie.In-loop Inv-loop μ-lo
 turnOf c = c .before .before .before
 
 seen : (c : tie.After-is-due Inv-loop μ-loop)
-    → Seen (L (start (turnOf c))) (start (turnOf c) .args .show, start (turnOf c) .args .sums, zeroFloat) (start (turnOf c) .args .cumulative) (map (start (turnOf c)))
+    → Seen (L (start (turnOf c))) (start (turnOf c) .args .show, start (turnOf c) .args .sums) (start (turnOf c) .args .cumulative) (map (start (turnOf c)))
     (turnOf c .before .loop .i) (c .before .before .slot-at .result) (c .before .is-updated .result) (c .is-due .result)
 seen c =
     record {
@@ -73,7 +72,7 @@ loop-holds : tie.Need-loop-holds Inv-loop μ-loop
 loop-holds c =
     let s = c .before .before .before .before .before .before in
     let a = s .args in
-    list-start (L s) (a .show, a .sums, zeroFloat) (a .cumulative) (map s) (out s)
+    list-start (L s) (a .show, a .sums) (a .cumulative) (map s) (out s)
 
 slot-at-requires : tie.Need-slot-at-requires Inv-loop μ-loop
 slot-at-requires c κs = omega (arith, c .loop-test .taken, start c .pre .walk .order)
@@ -91,8 +90,8 @@ put-requires c κs =
     let s = start t in
     let a = s .args in
     let l = t .before .loop in (
-      slot-sound (L s) (a .show, a .sums, zeroFloat) (a .cumulative) (map s) (out s) (s .pre) (l .i) _ _ _ (seen d),
-      slot-free (L s) (a .show, a .sums, zeroFloat) (a .cumulative) (map s) (out s) (s .pre) (l .i) _ _ _ (seen d) (l .at) (outNow (t .before)) (l .inv),
+      slot-sound (L s) (a .show, a .sums) (a .cumulative) (map s) (out s) (s .pre) (l .i) _ _ _ (seen d),
+      slot-free (L s) (a .show, a .sums) (a .cumulative) (map s) (out s) (s .pre) (l .i) _ _ _ (seen d) (l .at) (outNow (t .before)) (l .inv),
     )
 
 abbrev put : tie.After-slice-known4 Inv-loop μ-loop → tie.After-put Inv-loop μ-loop
@@ -116,7 +115,7 @@ loop-again c =
     let s = start t in
     let a = s .args in
     let l = t .before .loop in
-    list-next (L s) (a .show, a .sums, zeroFloat) (a .cumulative) (map s) (out s) (s .pre) (l .i) _ _ _ (seen d)
+    list-next (L s) (a .show, a .sums) (a .cumulative) (map s) (out s) (s .pre) (l .i) _ _ _ (seen d)
     (l .at) (outNow (t .before)) (l .inv) (r .row-at .result) (r .row-at .ensures) (p .put .result) _ (p .put .ensures)
 
 -- the output keeps its lengths
@@ -125,14 +124,14 @@ long c =
     let s = entry (c .before) in
     let a = s .args in
     let l = c .before .loop in
-    list-alike (L s) (a .show, a .sums, zeroFloat) (a .cumulative) (map s) (out s) (s .pre) (l .i) (l .at) (outNow (c .before)) (l .inv)
+    list-alike (L s) (a .show, a .sums) (a .cumulative) (map s) (out s) (s .pre) (l .i) (l .at) (outNow (c .before)) (l .inv)
 
 returns : tie.Need-returns Inv-loop μ-loop
 returns c =
     let s = entry (c .before) in
     let a = s .args in
     let l = c .before .loop in
-    list-end (L s) (a .show, a .sums, zeroFloat) (a .cumulative) (map s) (out s) (l .i) (l .at) (outNow (c .before)) (l .inv) (omega (arith, c .loop-test .left))
+    list-end (L s) (a .show, a .sums) (a .cumulative) (map s) (out s) (l .i) (l .at) (outNow (c .before)) (l .inv) (omega (arith, c .loop-test .left))
 
 pub list-spec : {M : Type 1} → statement M
 list-spec =

@@ -4,10 +4,8 @@ use mathlib.Core.Bool.{Bool, true}
 use mathlib.Core.List.{[]}
 use native.Mathlib.Omega.{arith}
 use denote.Ref.{now}
-use lib.Ieee.{Float}
 use borrow.Author.Needs.{needs}
 use borrow.Author.Tests.{not-true, not-false}
-use Rattle.floats.specs.Starts.{zeroFloat}
 use Rattle.explicit_slots.specs.Cells.{Cells, cells}
 use Rattle.value_map.specs.Calls.{Held}
 use Rattle.value_map.specs.Explicit.{explicitStore}
@@ -22,7 +20,7 @@ use Rattle.explicit_collection.proofs.walk.survey.Tie as tie
 
 abbrev Inv-loop : tie.InvT-loop
 Inv-loop cumulative bounds used entries order totals extremes counts found₀ i₀ found i =
-    Surveyed (explicitLister bounds) (true, true, zeroFloat) cumulative (walked used [] entries order (record { totals = totals; extremes = extremes; counts = counts })) i found
+    Surveyed (explicitLister bounds) (true, true) cumulative (walked used [] entries order (record { totals = totals; extremes = extremes; counts = counts })) i found
 
 abbrev μ-loop : tie.MeasureT-loop
 μ-loop cumulative bounds used entries order totals extremes counts found₀ i₀ found i = used + 1 - i
@@ -33,8 +31,8 @@ Start = tie.Start Inv-loop μ-loop
 abbrev L : (s : Start) → Lister (explicitStore (now (s .args .bounds)))
 L s = explicitLister (now (s .args .bounds))
 
-abbrev on : Bool × Bool × Float
-on = (true, true, zeroFloat)
+abbrev on : Bool × Bool
+on = (true, true)
 
 abbrev map : Start → Held Cells
 map s = let a = s .args in walked (a .used) [] (now (a .entries)) (now (a .order)) (cells (a .totals) (a .extremes) (a .counts))
@@ -54,7 +52,7 @@ abbrev turn : tie.After-is-due Inv-loop μ-loop → tie.In-loop Inv-loop μ-loop
 turn c = c .before .before .before
 
 seen : (c : tie.After-is-due Inv-loop μ-loop)
-    → Seen (L (start (turn c))) (true, true, zeroFloat) (start (turn c) .args .cumulative) (map (start (turn c)))
+    → Seen (L (start (turn c))) (true, true) (start (turn c) .args .cumulative) (map (start (turn c)))
     (turn c .before .loop .i) (c .before .before .slot-at .result) (c .before .is-updated .result) (c .is-due .result)
 seen c =
     record {

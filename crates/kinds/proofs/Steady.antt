@@ -18,7 +18,7 @@ use Rattle.floats.proofs.Choices.{finite-chosen}
 use Rattle.points.specs.Points.{merge, record1}
 use Rattle.points.specs.Values.{classOf}
 use Rattle.points.specs.Explicit.{recordBucket, mergeBuckets}
-use Rattle.points.specs.Figures.{Kind, exponential, explicit, sizePasses, Settings, Counts, exponentialCounts, explicitCounts, Figures, recordCounts, recordFigures}
+use Rattle.points.specs.Figures.{Kind, exponential, explicit, Settings, Counts, exponentialCounts, explicitCounts, Figures, recordCounts, recordFigures}
 use Rattle.points.specs.Handed.{Handed, sameKind, mergeable, mergeCounts, mergeHanded, extremesAgree, countsAgree, handedAgrees, sizeAsked}
 use Rattle.points.proofs.Agreement.{agrees-says, agreed-agrees}
 use Rattle.points.proofs.Kept.{record-agrees, merge-agrees}

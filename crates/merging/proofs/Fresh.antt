@@ -17,7 +17,6 @@ use Rattle.points.proofs.Agreement.{agrees-says}
 use Rattle.points.proofs.Explicit.{buckets-say}
 use Rattle.points.proofs.Grouping.{Agreeing, known, handed-commutes, fresh-same}
 use Rattle.points.proofs.Stands.{handed-stands}
-use Rattle.point.specs.declared.Figures.the-variants.{Exponential, Explicit}
 use Rattle.point.specs.Handing.{Stored, handedIn}
 use Rattle.point.specs.Lists.{PointOf}
 use Rattle.point.proofs.Answers.{merged-reads}

@@ -8,7 +8,6 @@ use native.Mathlib.Nat.{eq-zero-or-pos}
 use native.Mathlib.Omega.{arith}
 use lib.Dec.{leb}
 use lib.ListN.{length, take, drop, length-append}
-use lib.Ieee.{Float}
 use borrow.Author.Tests.{le-leb, eq-eqb}
 use Rattle.laws.specs.Pick.{pick, _and_}
 use Rattle.laws.specs.Said.{Said, refusal, success}

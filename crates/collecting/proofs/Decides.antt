@@ -20,8 +20,8 @@ use Rattle.collecting.specs.declared.Survey.{Survey}
 use Rattle.collecting.proofs.Numbers.{orElse}
 use Rattle.collecting.proofs.Surveys.{survey-walked}
 use Rattle.collecting.proofs.Puts.{room-walked, put-walked}
-use Rattle.collecting.proofs.Walks.{number-is, open-of, walk-of, row-there}
-use Rattle.collecting.proofs.Ends.{Clear}
+use Rattle.collecting.proofs.Walks.{number-is, open-of, Sweepable, sweepable, walk-of, row-there}
+use Rattle.collecting.proofs.Ends.{Clear, clear-of}
 
 or-first : (n b t : ℕ) → n ≡ b → (n ≡ 0 → ⊥) → n ≡ orElse b t
 unfolding orElse
@@ -54,16 +54,22 @@ module _ {K : Kind} {S : Store K} (L : Lister S) (W : Owed S) (w : S .Switches) 
           ∙ or-then _ _ (sym bars ∙ z)
           ∙ number-is L w cumulative limit h o
 
-  -- ---- the points
-  pub listable : Clear L w limit h o cumulative
-      → Listable L w cumulative (walked (h .kept .dir .used) (h .kept .stores .sets) (h .kept .stores .entries) (h .kept .stores .order) (h .cells)) o
-  listable g =
-      record {
-        walk = walk-of S limit h (g .opened) W (h .kept .stores .sets);
-        sets = row-there S limit h (g .opened);
-        agrees = g .agree;
-        room = room-walked L w h o w (h .kept .stores .sets) (dueOf cumulative (h .kept)) ∙ g .room;
-      }
+  -- ---- the points, where no number refuses the call
+  module _ (n : ℕ) (e : n ≡ uncollected L w cumulative limit h o) (z : n ≡ 0) where
+    clear : Clear L w limit h o cumulative
+    clear = clear-of L w limit h o cumulative (sym e ∙ z)
+
+    pub listable : Listable L w cumulative (walked (h .kept .dir .used) (h .kept .stores .sets) (h .kept .stores .entries) (h .kept .stores .order) (h .cells)) o
+    listable =
+        record {
+          walk = walk-of S limit h (clear .opened) W (h .kept .stores .sets);
+          sets = row-there S limit h (clear .opened);
+          agrees = clear .agree;
+          room = room-walked L w h o w (h .kept .stores .sets) (dueOf cumulative (h .kept)) ∙ clear .room;
+        }
+
+    pub sweeps : Sweepable (h .kept)
+    sweeps = sweepable S limit h (clear .opened)
 
   pub listed-is : (p : Put)
       → p ≡ listedTo L w cumulative (walked (h .kept .dir .used) (h .kept .stores .sets) (h .kept .stores .entries) (h .kept .stores .order) (h .cells)) o

@@ -13,7 +13,7 @@ use Rattle.laws.proofs.Cases.{and-true}
 use Rattle.tally.specs.Kind.{Kind}
 use Rattle.sets.specs.Rows.{size}
 use Rattle.directory.specs.View.{Stores, agreesb}
-use Rattle.directory.specs.Calls.{mostSets, storesSuffice}
+use Rattle.directory.specs.Calls.{Kept, mostSets, storesSuffice}
 use Rattle.directory.specs.declared.Directory.{Directory}
 use Rattle.directory.proofs.Agreed.{slot-sizes, place-slot}
 use Rattle.directory.proofs.Laws.{few, slots-right, places-right}
@@ -73,6 +73,14 @@ open-of cells unset limit d s e =
     let c = and-true (leb limit mostSets) (agreesb limit d s) (b .1) in
     record { stores = a .0; lent = a .1; set = eqb-true unset 0 (b .0); few = leb-true limit mostSets (c .0); agrees = c .1 }
 
+-- the call of `sweep::sweep`
+abbrev pub Sweepable : Kept → Type 0
+Sweepable k =
+    let n = k .dir .used in
+    let s = k .stores in
+    (n < length (s .sets)) × (n < length (s .entries)) × (n ≤ length (s .order)) × (n < 65536)
+    × ((i : ℕ) → i < n → (1 ≤ getD (s .order) i 0) × (getD (s .order) i 0 ≤ n))
+
 module _ {K : Kind} (S : Store K) (limit : ℕ) (h : Held (S .Cells)) (g : Open (S .suffices limit (h .cells)) (S .unset) limit (h .kept .dir) (h .kept .stores)) where
   abbrev d : Directory
   d = h .kept .dir
@@ -80,9 +88,7 @@ module _ {K : Kind} (S : Store K) (limit : ℕ) (h : Held (S .Cells)) (g : Open 
   abbrev s : Stores
   s = h .kept .stores
 
-  -- the call of `sweep::sweep`
-  pub sweepable : (d .used < length (s .sets)) × (d .used < length (s .entries)) × (d .used ≤ length (s .order)) × (d .used < 65536)
-      × ((i : ℕ) → i < d .used → (1 ≤ getD (s .order) i 0) × (getD (s .order) i 0 ≤ d .used))
+  pub sweepable : Sweepable (h .kept)
   sweepable =
       let r = suffices limit s (g .stores) in
       let f = few limit d s (g .agrees) in

@@ -8,7 +8,7 @@ use Rattle.explicit_slots.specs.Cells.{Cells, cells}
 use Rattle.value_map.specs.Calls.{Held, held}
 use Rattle.value_map.proofs.ExplicitOwes.{owed}
 use Rattle.listing.specs.Listed.{Output, output}
-use Rattle.collecting.proofs.Ends.{Clear, clear-of, cumulative-refused, cumulative-done}
+use Rattle.collecting.proofs.Ends.{cumulative-refused, cumulative-done}
 use Rattle.collecting.proofs.Decides.{listable, listed-is}
 use Rattle.explicit_collection.specs.Points.{explicitLister}
 use Rattle.explicit_collection.proofs.cumulative.Statement.{statement}
@@ -23,15 +23,6 @@ map s = let a = s .args in held (a .d) (stores (a .sets) (a .entries) (a .order)
 abbrev out : tie.Start → Output
 out s = let a = s .args in output (a .out-sets) (a .out-words) (a .out-pos) (a .out-neg)
 
--- no number refuses the call
-clear : (e : tie.Else1)
-    → Clear (explicitLister (now (start (e .before) .args .bounds))) (start (e .before) .args .s .extremes, start (e .before) .args .s .sums) (start (e .before) .args .s .limit)
-    (map (start (e .before))) (out (start (e .before))) true
-clear e =
-    let s = start (e .before) in
-    let a = s .args in
-    clear-of (explicitLister (now (a .bounds))) (a .s .extremes, a .s .sums) (a .s .limit) (map s) (out s) true (sym (e .before .number .ensures) ∙ e .if1 .left)
-
 returns : tie.Need-returns
 returns c =
     let n = c .before in
@@ -45,7 +36,7 @@ list-requires c κs =
     let n = e .before in
     let s = start n in
     let a = s .args in
-    listable (explicitLister (now (a .bounds))) (owed (now (a .bounds))) (a .s .extremes, a .s .sums) true (a .s .limit) (map s) (out s) (clear e)
+    listable (explicitLister (now (a .bounds))) (owed (now (a .bounds))) (a .s .extremes, a .s .sums) true (a .s .limit) (map s) (out s) (n .number .result) (n .number .ensures) (e .if1 .left)
 
 returns-2 : tie.Need-returns-2
 returns-2 c =

@@ -6,12 +6,10 @@ use borrow.Author.Needs.{needs}
 use Rattle.directory.specs.View.{stores}
 use Rattle.explicit_slots.specs.Cells.{Cells, cells}
 use Rattle.value_map.specs.Calls.{Held, held}
-use Rattle.value_map.specs.Explicit.{explicitStore}
 use Rattle.value_map.proofs.ExplicitOwes.{owed}
 use Rattle.listing.specs.Listed.{Output, output}
-use Rattle.collecting.proofs.Ends.{Clear, clear-of, delta-refused, delta-done}
-use Rattle.collecting.proofs.Decides.{listable, listed-is}
-use Rattle.collecting.proofs.Walks.{sweepable}
+use Rattle.collecting.proofs.Ends.{delta-refused, delta-done}
+use Rattle.collecting.proofs.Decides.{listable, sweeps, listed-is}
 use Rattle.explicit_collection.specs.Points.{explicitLister}
 use Rattle.explicit_collection.proofs.delta.Statement.{statement}
 use Rattle.explicit_collection.proofs.delta.Tie as tie
@@ -29,15 +27,6 @@ out s = let a = s .args in output (a .out-sets) (a .out-words) (a .out-pos) (a .
 abbrev on : tie.After-list → tie.Else1
 on p = p .before .before .before .before .before .before .before .before
 
--- no number refuses the call
-clear : (e : tie.Else1)
-    → Clear (explicitLister (now (start (e .before) .args .bounds))) (start (e .before) .args .s .extremes, start (e .before) .args .s .sums) (start (e .before) .args .s .limit)
-    (map (start (e .before))) (out (start (e .before))) false
-clear e =
-    let s = start (e .before) in
-    let a = s .args in
-    clear-of (explicitLister (now (a .bounds))) (a .s .extremes, a .s .sums) (a .s .limit) (map s) (out s) false (sym (e .before .number .ensures) ∙ e .if1 .left)
-
 returns : tie.Need-returns
 returns c =
     let n = c .before in
@@ -51,7 +40,7 @@ list-requires c κs =
     let n = e .before in
     let s = start n in
     let a = s .args in
-    listable (explicitLister (now (a .bounds))) (owed (now (a .bounds))) (a .s .extremes, a .s .sums) false (a .s .limit) (map s) (out s) (clear e)
+    listable (explicitLister (now (a .bounds))) (owed (now (a .bounds))) (a .s .extremes, a .s .sums) false (a .s .limit) (map s) (out s) (n .number .result) (n .number .ensures) (e .if1 .left)
 
 sweep-requires : tie.Need-sweep-requires
 sweep-requires c κs =
@@ -59,7 +48,7 @@ sweep-requires c κs =
     let n = e .before in
     let s = start n in
     let a = s .args in
-    sweepable (explicitStore (now (a .bounds))) (a .s .limit) (map s) (clear e .opened)
+    sweeps (explicitLister (now (a .bounds))) (owed (now (a .bounds))) (a .s .extremes, a .s .sums) false (a .s .limit) (map s) (out s) (n .number .result) (n .number .ensures) (e .if1 .left)
 
 returns-2 : tie.Need-returns-2
 returns-2 c =

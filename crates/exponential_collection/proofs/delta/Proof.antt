@@ -5,12 +5,10 @@ use mathlib.Core.Bool.{false}
 use Rattle.directory.specs.View.{stores}
 use Rattle.exponential_slots.specs.Cells.{Cells, cells}
 use Rattle.value_map.specs.Calls.{Held, held}
-use Rattle.value_map.specs.Exponential.{exponentialStore}
 use Rattle.value_map.proofs.ExponentialOwes.{owed}
 use Rattle.listing.specs.Listed.{Output, output}
-use Rattle.collecting.proofs.Walks.{sweepable}
-use Rattle.collecting.proofs.Ends.{Clear, clear-of, delta-refused, delta-done}
-use Rattle.collecting.proofs.Decides.{listable, listed-is}
+use Rattle.collecting.proofs.Ends.{delta-refused, delta-done}
+use Rattle.collecting.proofs.Decides.{listable, sweeps, listed-is}
 use Rattle.exponential_collection.specs.Points.{exponentialLister}
 use Rattle.exponential_collection.proofs.delta.Statement.{statement}
 use Rattle.exponential_collection.proofs.delta.Tie as tie
@@ -24,15 +22,6 @@ out s = let a = s .args in output (a .out-sets) (a .out-words) (a .out-pos) (a .
 abbrev start : tie.After-number → tie.Start
 start c = c .before .before .before .before .before .before .before .before .before .before .before .before .before
 
--- no number refuses the call
-clear : (e : tie.Else1)
-    → Clear (exponentialLister (start (e .before) .args .s .size) (start (e .before) .args .s .top)) (start (e .before) .args .s .extremes, start (e .before) .args .s .sums) (start (e .before) .args .s .limit)
-    (map (start (e .before))) (out (start (e .before))) false
-clear e =
-    let s = start (e .before) in
-    let a = s .args in
-    clear-of (exponentialLister (a .s .size) (a .s .top)) (a .s .extremes, a .s .sums) (a .s .limit) (map s) (out s) false (sym (e .before .number .ensures) ∙ e .if1 .left)
-
 returns : tie.Need-returns
 returns c =
     let s = start (c .before) in
@@ -44,14 +33,14 @@ list-requires c κs =
     let e = c .before .before .before .before .before .before .before in
     let s = start (e .before) in
     let a = s .args in
-    listable (exponentialLister (a .s .size) (a .s .top)) (owed (a .s .size) (a .s .top)) (a .s .extremes, a .s .sums) false (a .s .limit) (map s) (out s) (clear e)
+    listable (exponentialLister (a .s .size) (a .s .top)) (owed (a .s .size) (a .s .top)) (a .s .extremes, a .s .sums) false (a .s .limit) (map s) (out s) (e .before .number .result) (e .before .number .ensures) (e .if1 .left)
 
 sweep-requires : tie.Need-sweep-requires
 sweep-requires c κs =
     let e = c .before .before .before .before .before .before .before .before .before .before .before .before .before .before .before .before .before in
     let s = start (e .before) in
     let a = s .args in
-    sweepable (exponentialStore (a .s .size) (a .s .top)) (a .s .limit) (map s) (clear e .opened)
+    sweeps (exponentialLister (a .s .size) (a .s .top)) (owed (a .s .size) (a .s .top)) (a .s .extremes, a .s .sums) false (a .s .limit) (map s) (out s) (e .before .number .result) (e .before .number .ensures) (e .if1 .left)
 
 returns-2 : tie.Need-returns-2
 returns-2 c =

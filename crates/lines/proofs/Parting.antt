@@ -1,18 +1,17 @@
 -- A text's parts, found one after another. Assumes nothing.
-use Prim.Native.Nat.{ℕ, suc, _+_, _-_, _≤_, _<_}
+use Prim.Native.Nat.{ℕ, suc, _+_, _≤_, _<_}
 use mathlib.Core.Path.{_≡_, refl, sym, ap, _∙_, subst}
 use mathlib.Core.Logic.{⊎-elim}
 use mathlib.Core.Bool.{Bool, true, false}
 use mathlib.Core.List.{List, [], _∷_}
 use native.Mathlib.Omega.{arith}
 use lib.Dec.{eqb}
-use lib.ListN.{length, take, drop, length-drop, drop-of-length-le}
+use lib.ListN.{length, drop, length-drop, drop-of-length-le}
 use lib.Seq.{drop-drop}
 use Rattle.laws.specs.Pick.{pick}
 use Rattle.laws.proofs.Differences.{le-or-lt}
 use Rattle.text.specs.Fields.{until}
 use Rattle.text.specs.Numbers.{decimalOf, illLed}
-use Rattle.text.proofs.Splitting.{until-is}
 use Rattle.lines.specs.declared.attributes.Attribute.{Attribute}
 use Rattle.lines.specs.declared.attributes.Attribute.the-variants as A
 use Rattle.lines.specs.declared.attributes.Word.{Word}
@@ -52,18 +51,13 @@ from bs i = attributesOf (parts (drop i bs))
 
 -- the part from i on ends at e
 module _ (bs : List ℕ) (i e : ℕ) (q : e ≡ i + length (until 44 (drop i bs))) where
-  pub part-is : take (e - i) (drop i bs) ≡ until 44 (drop i bs)
-  part-is =
-      let k : e - i ≡ length (until 44 (drop i bs)) = omega (arith, q) in
-      ap (λ (n : ℕ). take n (drop i bs)) k ∙ until-is 44 (drop i bs)
-
-  pub at-last : length bs ≤ e → from bs i ≡ attributeOf (take (e - i) (drop i bs)) ∷ []
+  at-last : length bs ≤ e → from bs i ≡ attributeOf (until 44 (drop i bs)) ∷ []
   unfolding from attributesOf
   at-last h =
       let l : length (drop i bs) ≤ length (until 44 (drop i bs)) = omega (arith, q, length-drop i bs) in
-      ap attributesOf (parts-last (drop i bs) l) ∙ ap (λ (p : List ℕ). attributeOf p ∷ []) (sym part-is)
+      ap attributesOf (parts-last (drop i bs) l)
 
-  pub at-more : e < length bs → from bs i ≡ attributeOf (take (e - i) (drop i bs)) ∷ from bs (e + 1)
+  at-more : e < length bs → from bs i ≡ attributeOf (until 44 (drop i bs)) ∷ from bs (e + 1)
   unfolding from attributesOf Behind
   at-more h =
       let u = until 44 (drop i bs) in
@@ -71,7 +65,6 @@ module _ (bs : List ℕ) (i e : ℕ) (q : e ≡ i + length (until 44 (drop i bs)
       let k : i + suc (length u) ≡ e + 1 = omega (arith, q) in
       ap attributesOf (parts-more (drop i bs) l)
       ∙ ap (λ (r : List ℕ). attributeOf u ∷ attributesOf (parts r)) (drop-drop (suc (length u)) i bs ∙ ap (λ (n : ℕ). drop n bs) k)
-      ∙ ap (λ (p : List ℕ). attributeOf p ∷ from bs (e + 1)) (sym part-is)
 
 -- What is told, and what is kept, of attributes behind n others, given the first of them.
 abbrev pub Both : ℕ → List Attribute → List (List ℕ) → Given → List (List ℕ) → Type 0
@@ -86,21 +79,22 @@ unfolding told kept
 first-is n a rest store k v p = (ap (λ (x : Attribute). told n (x ∷ rest)) p, ap (λ (x : Attribute). kept n (x ∷ rest) store) p)
 
 -- the same of those from a place on
-module _ (bs : List ℕ) (i e n : ℕ) (store : List (List ℕ)) (q : e ≡ i + length (until 44 (drop i bs))) where
-  pub none-here : attributeOf (take (e - i) (drop i bs)) ≡ A.None → Both n (from bs i) store G.Unread store
-  none-here p =
-      ⊎-elim
-      (λ (l : length bs ≤ e). subst (λ (r : List Attribute). Both n r store G.Unread store) (sym (at-last bs i e q l)) (first-none n _ [] store p))
-      (λ (l : e < length bs). subst (λ (r : List Attribute). Both n r store G.Unread store) (sym (at-more bs i e q l)) (first-none n _ (from bs (e + 1)) store p))
-      (le-or-lt (length bs) e)
+pub none-here : (bs : List ℕ) (i n : ℕ) (store : List (List ℕ)) → attributeOf (until 44 (drop i bs)) ≡ A.None → Both n (from bs i) store G.Unread store
+none-here bs i n store p =
+    let e = i + length (until 44 (drop i bs)) in
+    ⊎-elim
+    (λ (l : length bs ≤ e). subst (λ (r : List Attribute). Both n r store G.Unread store) (sym (at-last bs i e refl l)) (first-none n _ [] store p))
+    (λ (l : e < length bs). subst (λ (r : List Attribute). Both n r store G.Unread store) (sym (at-more bs i e refl l)) (first-none n _ (from bs (e + 1)) store p))
+    (le-or-lt (length bs) e)
 
-  pub last-here : (k v : ℕ) → length bs ≤ e → attributeOf (take (e - i) (drop i bs)) ≡ A.Is k v → Both n (from bs i) store (G.Are (next n)) (put n (k ∷ v ∷ []) store)
+module _ (bs : List ℕ) (i e n : ℕ) (store : List (List ℕ)) (q : e ≡ i + length (until 44 (drop i bs))) (k v : ℕ) (p : attributeOf (until 44 (drop i bs)) ≡ A.Is k v) where
+  pub last-here : length bs ≤ e → Both n (from bs i) store (G.Are (next n)) (put n (k ∷ v ∷ []) store)
   unfolding told kept
-  last-here k v l p =
+  last-here l =
       subst (λ (r : List Attribute). Both n r store (G.Are (next n)) (put n (k ∷ v ∷ []) store)) (sym (at-last bs i e q l)) (first-is n _ [] store k v p)
 
-  pub more-here : (k v : ℕ) → e < length bs → attributeOf (take (e - i) (drop i bs)) ≡ A.Is k v → Both n (from bs i) store (told (next n) (from bs (e + 1))) (kept (next n) (from bs (e + 1)) (put n (k ∷ v ∷ []) store))
-  more-here k v l p =
+  pub more-here : e < length bs → Both n (from bs i) store (told (next n) (from bs (e + 1))) (kept (next n) (from bs (e + 1)) (put n (k ∷ v ∷ []) store))
+  more-here l =
       subst (λ (r : List Attribute). Both n r store (told (next n) (from bs (e + 1))) (kept (next n) (from bs (e + 1)) (put n (k ∷ v ∷ []) store))) (sym (at-more bs i e q l)) (first-is n _ (from bs (e + 1)) store k v p)
 
 pub no-word : wordOf [] ≡ W.None

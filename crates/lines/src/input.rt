@@ -1,8 +1,10 @@
 // Lines from blocks of the input.
 ghost use mathlib.Core.Path.{_≡_};
 ghost use mathlib.Core.Bool.{false};
+ghost use mathlib.Core.Logic.{_⊎_};
 ghost use Prim.Native.Nat.{_+_, _≤_};
 ghost use lib.ListN.{take};
+ghost use Rattle.lines.specs.Reading.{Within};
 use crate::Block;
 use crate::Line;
 use libc::STDIN_FILENO;
@@ -39,12 +41,45 @@ fn lesser(a: usize, b: usize) -> usize
     if a < b { a } else { b }
 }
 
+// Whether there is a newline, given whether there was one before, and the next byte.
+fn or_newline(found: bool, byte: u8) -> bool {
+    if byte == b'\n' {
+        return true;
+    }
+    found
+}
+
+// Whether one of eight bytes of the block is a newline: the compiler asks all at once.
+fn in_eight(block: &Block, from: usize) -> bool
+    requires { ⌜ from + 8 ≤ 65536 ⌝ }
+{
+    let mut found = false;
+    let mut i: usize = 0;
+    while i < 8 {
+        found = or_newline(found, block[from + i]);
+        i += 1;
+    }
+    found
+}
+
+// How far there is no newline among the block's bytes from a place on, eight by eight.
+fn skipped(block: &Block, from: usize, end: usize) -> usize
+    requires { ⌜ (from ≤ end) × (end ≤ 65536) ⌝ }
+    ensures { λ r. ⌜ (from ≤ r) × (r ≤ end) ⌝ }
+{
+    let mut i = from;
+    while i + 8 <= end && !in_eight(block, i) {
+        i += 8;
+    }
+    i
+}
+
 // Where the next newline stands among the block's bytes from a place to an end; the end where there is none.
 fn newline(block: &Block, from: usize, end: usize) -> usize
     requires { ⌜ (from ≤ end) × (end ≤ 65536) ⌝ }
     ensures { λ r. ⌜ (from ≤ r) × (r ≤ end) ⌝ }
 {
-    let mut i = from;
+    let mut i = skipped(block, from, end);
     while i < end {
         if block[i] == b'\n' {
             return i;
@@ -66,7 +101,9 @@ fn copy(block: &Block, from: usize, line: &mut Line, len: usize, n: usize)
 }
 
 // Goes on with the line to its end or the block's. What a line has above 256 bytes is left out.
-fn take(p: Ports, block: &Block, line: &mut Line) -> Ports {
+fn take(p: Ports, block: &Block, line: &mut Line) -> Ports
+    ensures { λ r. ⌜ (Within (r .at) (r .end) (r .len)) × (r .waiting ≡ p .waiting) ⌝ }
+{
     let end = lesser(p.end, 65536);
     let at = lesser(p.at, end);
     let len = lesser(p.len, 256);
@@ -100,7 +137,10 @@ fn fill(block: &mut Block) -> usize {
 }
 
 // Goes on with the line in a new block; the text that waits is written first, so that whoever asks has the answers before.
-fn go_on(p: Ports, block: &mut Block, line: &mut Line, text: &Block) -> Ports {
+fn go_on(p: Ports, block: &mut Block, line: &mut Line, text: &Block) -> Ports
+    requires { ⌜ p .len ≤ 256 ⌝ }
+    ensures { λ r. ⌜ (Within (r .at) (r .end) (r .len)) × (r .waiting ≡ 0) ⌝ }
+{
     crate::output::write(text, p.waiting);
     let n = fill(block);
     if n == 0 {
@@ -126,7 +166,9 @@ fn go_on(p: Ports, block: &mut Block, line: &mut Line, text: &Block) -> Ports {
 
 // Reads the next line. At the input's end it has no bytes where there was none.
 // A proved loop has to end, and nothing says that the input does: no run uses up the turns.
-pub fn next(p: Ports, block: &mut Block, line: &mut Line, text: &Block) -> Ports {
+pub fn next(p: Ports, block: &mut Block, line: &mut Line, text: &Block) -> Ports
+    ensures { λ r. ⌜ (Within (r .at) (r .end) (r .len)) × ((r .waiting ≡ p .waiting) ⊎ (r .waiting ≡ 0)) ⌝ }
+{
     let fresh = Ports {
         at: p.at,
         end: p.end,

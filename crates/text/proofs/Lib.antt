@@ -1,4 +1,5 @@
 -- The laws.
 pub mod Spelling
 pub mod Splitting
+pub mod Pairing
 pub mod Returned

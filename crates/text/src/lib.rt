@@ -18,6 +18,8 @@ pub use numbers::Integer;
 pub use numbers::Natural;
 pub use numbers::bits;
 pub use numbers::decimal;
+pub use numbers::digit;
+pub use numbers::ill_led;
 pub use numbers::signed;
 pub use written::hex_digits;
 pub use written::write;

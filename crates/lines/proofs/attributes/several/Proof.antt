@@ -3,9 +3,12 @@ use Prim.Native.Nat.{ℕ, _+_, _-_, _≤_}
 use mathlib.Core.Path.{_≡_, refl, sym, ap, _∙_}
 use native.Mathlib.Omega.{arith}
 use denote.Ref.{now}
-use lib.ListN.{length}
+use lib.ListN.{length, drop}
 use borrow.Author.Needs.{needs}
+use Rattle.text.specs.Fields.{until}
 use Rattle.lines.specs.Spelled.{told, kept}
+use Rattle.lines.specs.Scanned.{after}
+use Rattle.lines.specs.declared.attributes.Attribute.{Attribute}
 use Rattle.lines.specs.declared.attributes.Given.the-variants as G
 use Rattle.lines.proofs.Parting.{from, kept-same, none-here, last-here, more-here, none-left}
 use Rattle.lines.proofs.attributes.several.Statement.{statement}
@@ -21,29 +24,16 @@ abbrev μ-loop : tie.MeasureT-loop
 loop-holds : tie.Need-loop-holds Inv-loop μ-loop
 loop-holds c = (omega arith, refl, refl)
 
-end-requires : tie.Need-end-requires Inv-loop μ-loop
-end-requires c κs = c .before .loop .inv .0
-
-sub-attribute-of : tie.Need-sub-attribute-of Inv-loop μ-loop
-sub-attribute-of c = omega (arith, c .end .ensures .1)
-
-part-attribute-of-start : tie.Need-part-attribute-of-start Inv-loop μ-loop
-part-attribute-of-start c = omega (arith, c .end .ensures .1)
-
-part-attribute-of-end : tie.Need-part-attribute-of-end Inv-loop μ-loop
-part-attribute-of-end c = c .end .ensures .0
-
-attribute-of-requires : tie.Need-attribute-of-requires Inv-loop μ-loop
-attribute-of-requires c κs = tt
+attribute-at-requires : tie.Need-attribute-at-requires Inv-loop μ-loop
+attribute-at-requires c κs = c .before .loop .inv .0
 
 returns : tie.Need-returns Inv-loop μ-loop
 unfolding from
 returns c =
     let g = c .before .before in
-    let e = g .before .before in
-    let l = e .before .before .loop in
-    let bs = now (e .before .before .before .before .args .bytes) in
-    let f = none-here bs (l .i) (e .end .result) (l .n) (l .attrs) (e .end .ensures .1) (sym (g .attribute-of .ensures) ∙ c .enum-told .given .1) in
+    let l = g .before .before .loop in
+    let bs = now (g .before .before .before .before .args .bytes) in
+    let f = none-here bs (l .i) (l .n) (l .attrs) (sym (g .attribute-at .ensures .0) ∙ c .enum-told .given .1) in
     (sym (f .0) ∙ l .inv .1, sym (f .1) ∙ l .inv .2)
 
 keep-requires : tie.Need-keep-requires Inv-loop μ-loop
@@ -55,25 +45,30 @@ returns-2 c =
     let k = c .before in
     let y = k .before .before .before in
     let g = y .before .before in
-    let e = g .before .before in
-    let l = e .before .before .loop in
-    let bs = now (e .before .before .before .before .args .bytes) in
-    let f = last-here bs (l .i) (e .end .result) (l .n) (l .attrs) (e .end .ensures .1) _ _ (c .if1 .taken) (sym (g .attribute-of .ensures) ∙ y .key .given .1) in
+    let l = g .before .before .loop in
+    let bs = now (g .before .before .before .before .args .bytes) in
+    let q = g .attribute-at .ensures .1 ∙ ap (λ (x : Attribute). after x (l .i + length (until 44 (drop (l .i) bs)))) (y .a .given .1) in
+    let f = last-here bs (l .i) (g .attribute-at .result .to) (l .n) (l .attrs) q _ _ (sym (g .attribute-at .ensures .0) ∙ y .a .given .1) (c .if1 .taken) in
     (ap G.Are (k .keep .ensures .0) ∙ sym (f .0) ∙ l .inv .1, k .keep .ensures .1 ∙ sym (f .1) ∙ l .inv .2)
 
 loop-less : tie.Need-loop-less Inv-loop μ-loop
-loop-less c = omega (arith, c .before .before .before .before .before .before .before .before .end .ensures .1)
+loop-less c =
+    let y = c .before .before .before .before in
+    let g = y .before .before in
+    let l = g .before .before .loop in
+    let bs = now (g .before .before .before .before .args .bytes) in
+    omega (arith, g .attribute-at .ensures .1 ∙ ap (λ (x : Attribute). after x (l .i + length (until 44 (drop (l .i) bs)))) (y .a .given .1))
 
 loop-again : tie.Need-loop-again Inv-loop μ-loop
 loop-again c =
     let k = c .before in
     let y = k .before .before .before in
     let g = y .before .before in
-    let e = g .before .before in
-    let l = e .before .before .loop in
-    let bs = now (e .before .before .before .before .args .bytes) in
-    let f = more-here bs (l .i) (e .end .result) (l .n) (l .attrs) (e .end .ensures .1) _ _ (c .if1 .left) (sym (g .attribute-of .ensures) ∙ y .key .given .1) in
-    let r = from bs (e .end .result + 1) in (
+    let l = g .before .before .loop in
+    let bs = now (g .before .before .before .before .args .bytes) in
+    let q = g .attribute-at .ensures .1 ∙ ap (λ (x : Attribute). after x (l .i + length (until 44 (drop (l .i) bs)))) (y .a .given .1) in
+    let f = more-here bs (l .i) (g .attribute-at .result .to) (l .n) (l .attrs) q _ _ (sym (g .attribute-at .ensures .0) ∙ y .a .given .1) (c .if1 .left) in
+    let r = from bs (g .attribute-at .result .to + 1) in (
       omega arith,
       ap (λ (n : ℕ). told n r) (k .keep .ensures .0) ∙ sym (f .0) ∙ l .inv .1,
       kept-same r (k .keep .ensures .0) (k .keep .ensures .1) ∙ sym (f .1) ∙ l .inv .2,
@@ -90,5 +85,5 @@ returns-3 c =
 pub several-spec : {M : Type 1} → statement M
 several-spec =
     tie.close
-    (tie.spec Inv-loop μ-loop loop-holds end-requires sub-attribute-of part-attribute-of-start part-attribute-of-end attribute-of-requires
-    (λ c. search needs) (λ c. search needs) returns keep-requires returns-2 (λ c. omega arith) loop-less loop-again returns-3)
+    (tie.spec Inv-loop μ-loop loop-holds attribute-at-requires (λ c. search needs) (λ c. search needs) returns keep-requires returns-2
+    (λ c. omega arith) loop-less loop-again returns-3)

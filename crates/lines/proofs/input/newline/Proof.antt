@@ -10,8 +10,11 @@ Inv-loop block from end i₀ i = (from ≤ i) × (i ≤ end)
 abbrev μ-loop : tie.MeasureT-loop
 μ-loop block from end i₀ i = end - i
 
+skipped-requires : tie.Need-skipped-requires Inv-loop μ-loop
+skipped-requires c κs = (omega arith, omega arith)
+
 pub newline-spec : {M : Type 1} → statement M
 newline-spec =
     tie.close
-    (tie.spec Inv-loop μ-loop (λ c. omega arith) (λ c. omega arith) (λ c. omega arith) (λ c. omega arith) (λ c. omega arith)
+    (tie.spec Inv-loop μ-loop skipped-requires (λ c. omega arith) (λ c. omega arith) (λ c. omega arith) (λ c. omega arith) (λ c. omega arith)
     (λ c. omega arith) (λ c. omega arith))

@@ -1,10 +1,14 @@
--- `lines::input::next` is safe and ends: the measure is the number of turns left. Assumes nothing.
+-- `lines::input::next` meets its contract, and ends: the measure is the number of turns left. Assumes nothing.
+use mathlib.Core.Path.{_≡_, refl, _∙_}
+use mathlib.Core.Logic.{_⊎_, inl, inr, ⊎-elim}
 use native.Mathlib.Omega.{arith}
+use Rattle.lines.specs.Reading.{Within}
 use Rattle.lines.proofs.input.next.Statement.{statement}
 use Rattle.lines.proofs.input.next.Tie as tie
 
 abbrev Inv-loop : tie.InvT-loop
-Inv-loop block₀ line₀ text now₀ turns₀ block line now turns = Unit {0}
+Inv-loop block₀ line₀ text now₀ turns₀ block line now turns =
+    Within (now .at) (now .end) (now .len) × ((now .waiting ≡ now₀ .waiting) ⊎ (now .waiting ≡ 0))
 
 abbrev μ-loop : tie.MeasureT-loop
 μ-loop block₀ line₀ text now₀ turns₀ block line now turns = turns
@@ -13,19 +17,23 @@ take-requires : tie.Need-take-requires Inv-loop μ-loop
 take-requires c κs = tt
 
 loop-holds : tie.Need-loop-holds Inv-loop μ-loop
-loop-holds c = tt
+loop-holds c = (c .take .ensures .0, inl refl)
 
 go-on-requires : tie.Need-go-on-requires Inv-loop μ-loop
-go-on-requires c κs = tt
+go-on-requires c κs = c .before .before .before .before .before .loop .inv .0 .2
 
 loop-again : tie.Need-loop-again Inv-loop μ-loop
-loop-again c = tt
+loop-again c = (c .go-on .ensures .0, inr (c .go-on .ensures .1))
 
 returns : tie.Need-returns Inv-loop μ-loop
-returns c = tt
+returns c =
+    let l = c .before .before .before in
+    (l .loop .inv .0, ⊎-elim (λ e. inl (e ∙ l .before .take .ensures .1)) (λ e. inr e) (l .loop .inv .1))
 
 returns-2 : tie.Need-returns-2 Inv-loop μ-loop
-returns-2 c = tt
+returns-2 c =
+    let l = c .before in
+    (l .loop .inv .0, ⊎-elim (λ e. inl (e ∙ l .before .take .ensures .1)) (λ e. inr e) (l .loop .inv .1))
 
 pub next-spec : {M : Type 1} → statement M
 next-spec =

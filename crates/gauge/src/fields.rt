@@ -97,7 +97,8 @@ pub fn settings_in(line: &[u8]) -> Asked {
     })
 }
 
-// The value and the set of a line `r`: bits have 16 digits, so both stand at their places.
+// The value and the set of a line `r`: bits have 16 digits, so both stand at their places. The set is read first, so that the bits need
+// not be kept while it is.
 pub fn board_in(line: &[u8], attrs: &mut Attributes) -> Board {
     let n = line.len();
     if n < 20 {
@@ -106,10 +107,10 @@ pub fn board_in(line: &[u8], attrs: &mut Attributes) -> Board {
     if line[18] != b' ' {
         return Board::Unread;
     }
-    let Natural::Is(bits) = text::bits(&line[2..18]) else {
+    let Given::Are(many) = lines::attributes::read(&line[19..n], attrs) else {
         return Board::Unread;
     };
-    let Given::Are(many) = lines::attributes::read(&line[19..n], attrs) else {
+    let Natural::Is(bits) = text::bits(&line[2..18]) else {
         return Board::Unread;
     };
     Board::Is(bits, many)

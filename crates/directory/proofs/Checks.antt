@@ -6,7 +6,7 @@ use mathlib.Core.List.{List, [], _∷_, _++_, map}
 use native.Mathlib.Omega.{arith}
 use native.Mathlib.Numerals.{add-one}
 use borrow.Author.Tests.{le-leb, lt-leb, lt-ltb, le-ltb, eqb-false}
-use lib.Dec.{eqb}
+use lib.Dec.{eqb, ltb, leb}
 use lib.ListN.{getD}
 use Rattle.tally.specs.Sets.{Set, cmp, same}
 use Rattle.tally.specs.Map.{plain, plains, bit}
@@ -19,29 +19,38 @@ use Rattle.directory.specs.declared.Found.{Found}
 use Rattle.directory.specs.declared.Found.the-variants.{Held, Room}
 use Rattle.directory.specs.declared.Placed.the-variants.{Broken, Plain}
 
+pub some : (k : ℕ) → (k ≡ 0 → ⊥) → 1 ≤ k
+some zero n = absurd (n refl)
+some (suc k) n = omega arith
+
 -- birth numbers
 module _ (entries : List (List ℕ)) where
-  pub birth-next : (i : ℕ) → birthAt entries (i + 1) ≡ getD (getD entries (i + 1) []) 0 0
-  birth-next i = rw add-one
+  pub birth-named : (x : ℕ) → 1 ≤ x → birthAt entries x ≡ getD (getD entries x []) 0 0
+  birth-named zero h = absurd (omega arith)
+  birth-named (suc x) h = refl
 
-  pub born-late : (i : ℕ) (b : ℕ) → b ≡ birthAt entries i → getD (getD entries (i + 1) []) 0 0 ≤ b → bornAt entries i ≡ false
-  born-late i b p h = rw (birth-next i, ← p, le-ltb _ _ h)
+  -- b is the birth number of slot i, and j is the next slot
+  module _ (i j b : ℕ) (p : b ≡ birthAt entries i) (n : j ≡ i + 1) where
+    born : bornAt entries i ≡ ltb b (getD (getD entries j []) 0 0)
+    born =
+        ap (λ (x : ℕ). ltb x (birthAt entries (i + 1))) (sym p)
+        ∙ ap (λ (x : ℕ). ltb b (birthAt entries x)) (sym n)
+        ∙ ap (λ (x : ℕ). ltb b x) (birth-named j (omega arith))
 
-  pub born-yes : (i : ℕ) (b : ℕ) → b ≡ birthAt entries i → b < getD (getD entries (i + 1) []) 0 0 → bornAt entries i ≡ true
-  born-yes i b p h = rw (birth-next i, ← p, lt-ltb _ _ h)
+    pub born-late : getD (getD entries j []) 0 0 ≤ b → bornAt entries i ≡ false
+    born-late h = born ∙ le-ltb _ _ h
+
+    pub born-yes : b < getD (getD entries j []) 0 0 → bornAt entries i ≡ true
+    born-yes h = born ∙ lt-ltb _ _ h
 
   module _ (used last : ℕ) where
     pub births-no : allb used (bornAt entries) ≡ false → bornb used last entries ≡ false
     unfolding bornb
     births-no e = rw e
 
-    pub births-late : (b : ℕ) → b ≡ birthAt entries used → allb used (bornAt entries) ≡ true → last < b → bornb used last entries ≡ false
+    pub births-end : (b : ℕ) → b ≡ birthAt entries used → allb used (bornAt entries) ≡ true → bornb used last entries ≡ leb b last
     unfolding bornb
-    births-late b p e h = rw (e, ← p, lt-leb _ _ h)
-
-    pub births-yes : (b : ℕ) → b ≡ birthAt entries used → allb used (bornAt entries) ≡ true → b ≤ last → bornb used last entries ≡ true
-    unfolding bornb
-    births-yes b p e h = rw (e, ← p, le-leb _ _ h)
+    births-end b p e = rw (e, ← p)
 
 -- places
 pub set-named : (sets : List (List ℕ)) (x : ℕ) → 1 ≤ x → setAt sets x ≡ setOf (getD sets x [])

@@ -1,5 +1,5 @@
 -- Turns of the scan for a handle, and the cases of where a call goes. Assumes nothing.
-use Prim.Native.Nat.{ℕ, zero, suc, _+_, _-_, _≤_, _<_}
+use Prim.Native.Nat.{ℕ, _+_, _-_, _≤_, _<_}
 use mathlib.Core.Path.{_≡_, refl, sym, subst}
 use mathlib.Core.Bool.{Bool, true, false, _&&_}
 use mathlib.Core.List.{List, [], _∷_}
@@ -15,6 +15,7 @@ use Rattle.directory.specs.View.{Stores, birthAt, agreesb, sought}
 use Rattle.directory.specs.declared.Directory.{Directory}
 use Rattle.directory.specs.declared.Found.the-variants.{Held, Room}
 use Rattle.directory.specs.declared.Target.the-variants.{Disagrees, Old, New, Over}
+use Rattle.directory.proofs.Checks.{birth-named}
 use Rattle.laws.specs.Pick.{pick}
 
 module _ (birth bindings h : ℕ) where
@@ -26,10 +27,6 @@ module _ (birth bindings h : ℕ) where
 
   pub names-other : (birth ≡ h → ⊥) → false ≡ (eqb birth h && ltb 0 bindings)
   names-other n = rw (ne-eqb birth h n)
-
-birth-named : (entries : List (List ℕ)) (x : ℕ) → 1 ≤ x → birthAt entries x ≡ getD (getD entries x []) 0 0
-birth-named entries zero h = absurd (omega arith)
-birth-named entries (suc x) h = refl
 
 module _ (h : ℕ) (entries : List (List ℕ)) where
   pub scan-first : (l : List ℕ) → (eqb 0 h && ltb 0 (getD (getD entries 0 []) 1 0)) ≡ true → scan h entries (0 ∷ l) ≡ Held 0
@@ -94,7 +91,3 @@ module _ (limit : ℕ) (d : Directory) (s : Stores) (row : List ℕ) where
       pub located-over : limit ≤ d .count → (q : ℕ) → sought (setOf overRow) (d .used) (s .sets) (s .order) ≡ Room q → located limit d s row ≡ Over q
       unfolding located pick
       located-over h q o = rw (g, e, le-ltb (d .count) limit h, o)
-
-pub birth-at : (entries : List (List ℕ)) (x : ℕ) → (x ≡ 0 → ⊥) → birthAt entries x ≡ getD (getD entries x []) 0 0
-birth-at entries zero n = absurd (n refl)
-birth-at entries (suc x) n = refl

@@ -23,7 +23,7 @@ use Rattle.directory.specs.Calls.{admitted, boundTo}
 use Rattle.directory.specs.View.{Stores, Laid, setAt, birthAt, slotAt, placeAt, plainly, slotsb, countsb, agreesb, entryAt, view}
 use Rattle.directory.specs.declared.Directory.{Directory}
 use Rattle.directory.proofs.Agreed.{slot-sound, birth-rise, last-birth, place-slot}
-use Rattle.directory.proofs.Checks.{birth-next}
+use Rattle.directory.proofs.Checks.{birth-named}
 use Rattle.directory.proofs.Laws.{slotsOf, slots-right, places-right}
 use Rattle.directory.proofs.Rises.{span-in, In, keys-map}
 
@@ -175,7 +175,7 @@ module _ (d : Directory) (s : Stores) (b : ℕ) where
   old-birth (suc y) h = ap (λ t. getD t 0 0) (getD-set-other (s .entries) (d .used + 1) (suc y) ((d .last + 1) ∷ b ∷ 0 ∷ []) [] (λ e. omega arith))
 
   pub new-birth : d .used + 1 < length (s .entries) → birthAt entered (d .used + 1) ≡ d .last + 1
-  new-birth le = birth-next entered (d .used) ∙ ap (λ t. getD t 0 0) (getD-set-same (s .entries) (d .used + 1) ((d .last + 1) ∷ b ∷ 0 ∷ []) [] le)
+  new-birth le = birth-named entered (d .used + 1) (omega arith) ∙ ap (λ t. getD t 0 0) (getD-set-same (s .entries) (d .used + 1) ((d .last + 1) ∷ b ∷ 0 ∷ []) [] le)
 
 module _ (d : Directory) (s : Stores) (row : List ℕ) (r more b : ℕ) (ls : d .used + 1 < length (s .sets)) (le : d .used + 1 < length (s .entries)) (lo : d .used < length (s .order)) (rank : r ≤ d .used) (good : soundb row ≡ true) (a : Laid d s) where
   abbrev entries′ : List (List ℕ)

@@ -7,7 +7,8 @@ use mathlib.Core.List.{List}
 use native.Mathlib.Omega.{arith}
 use native.Mathlib.Nat.{eq-or-lt-of-le}
 use native.Mathlib.Numerals.{add-one}
-use borrow.Author.Tests.{lt-ltb, ltb-true}
+use borrow.Author.Tests.{lt-ltb, ltb-true, leb-true, leb-false}
+use lib.Dec.{leb}
 use lib.ListN.{getD}
 use Rattle.tally.specs.Sets.{cmp}
 use Rattle.sets.specs.All.{allb}
@@ -40,9 +41,9 @@ skip a b n m (suc k) h l e =
     ∙ alike a b n m k (omega arith) (omega arith) (omega (arith, q)) (omega (arith, q))
     ∙ ap (λ (i : ℕ). left a b n m i) (add-one k)
 
-module _ (a b : List ℕ) (r : ℕ) (p : Parted a b r) where
+module _ (a b : List ℕ) (r : ℕ) (p : Parted a b 0 r) where
   from : (k : ℕ) → k ≤ r → k ≤ size a → k ≤ size b → cmp (setOf a) (setOf b) ≡ left a b (size a) (size b) k
-  from k h u v = at-start a b ∙ skip a b (size a) (size b) k u v (λ j l. p .alike j (omega arith))
+  from k h u v = at-start a b ∙ skip a b (size a) (size b) k u v (λ j l. p .alike j (omega arith) (omega arith))
 
   -- one ends first, or both at once
   pub part-shorter : size b ≤ r → size b < size a → cmp (setOf a) (setOf b) ≡ Ordering·gt
@@ -67,21 +68,29 @@ module _ (a b : List ℕ) (r : ℕ) (p : Parted a b r) where
   -- where a is sound, b's keys rise up to there
   module _ (s : soundb a ≡ true) where
     pub keys-low : r < size a → getD a r 0 < getD b r 0 → (k : ℕ) → k < r → keyAt b k ≡ true
-    keys-low h l k u = key-lift a b k (key-rise a s k (omega arith)) (p .alike k u) (next (eq-or-lt-of-le (let w : k + 1 ≤ r = omega arith in w)))
+    keys-low h l k u = key-lift a b k (key-rise a s k (omega arith)) (p .alike k (omega arith) u) (next (eq-or-lt-of-le (let w : k + 1 ≤ r = omega arith in w)))
       where
         next : (k + 1 ≡ r) ⊎ (k + 1 < r) → getD a (k + 1) 0 ≤ getD b (k + 1) 0
         next (inl e) = subst (λ (i : ℕ). getD a i 0 ≤ getD b i 0) (sym e) (omega arith)
-        next (inr v) = let q = p .alike (k + 1) v in omega (arith, q)
+        next (inr v) = let q = p .alike (k + 1) (omega arith) v in omega (arith, q)
 
     pub keys-longer : size a ≤ r → (k : ℕ) → k < size a - 1 → keyAt b k ≡ true
     keys-longer h k u =
-        let q = p .alike (k + 1) (omega arith) in
-        key-lift a b k (key-rise a s k (omega arith)) (p .alike k (omega arith)) (omega (arith, q))
+        let q = p .alike (k + 1) (omega arith) (omega arith) in
+        key-lift a b k (key-rise a s k (omega arith)) (p .alike k (omega arith) (omega arith)) (omega (arith, q))
+
+-- rows that are alike below a word, and part from there on
+pub parted-whole : (a b : List ℕ) (from r : ℕ) → Parted a b from r → ((k : ℕ) → k < from → getD a k 0 ≡ getD b k 0) → Parted a b 0 r
+parted-whole a b from r p e = record { most = p .most; alike = λ j g h. go j h (leb from j) refl; apart = p .apart }
+  where
+    go : (j : ℕ) → j < r → (t : Bool) → leb from j ≡ t → getD a j 0 ≡ getD b j 0
+    go j h true q = p .alike j (leb-true from j q) h
+    go j h false q = e j (leb-false from j q)
 
 -- rows that are alike below a word that decides
 pub part-first : (a b : List ℕ) (r : ℕ) → r < size a → size a ≤ 8 → r < size b → ((k : ℕ) → k < r → getD a k 0 ≡ getD b k 0) → getD a r 0 < getD b r 0
     → cmp (setOf a) (setOf b) ≡ Ordering·lt
-part-first a b r h few k e l = part-low a b r (record { most = omega arith; alike = e; apart = λ u q. absurd (omega arith) }) h k l
+part-first a b r h few k e l = part-low a b r (record { most = omega arith; alike = λ j g u. e j u; apart = λ u q. absurd (omega arith) }) h k l
 
 -- b sound and after a
 module _ (a b : List ℕ) where

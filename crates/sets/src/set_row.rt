@@ -1,19 +1,18 @@
 // Rows that hold a set: how two lie to each other, and whether one is sound.
 ghost use mathlib.Core.Path.{_≡_};
 ghost use mathlib.Core.Bool.{true, _&&_, _||_};
-ghost use Prim.Native.Nat.{ℕ, _-_, _<_, _≤_, Ordering·lt};
+ghost use Prim.Native.Nat.{ℕ, _-_, _<_, _≤_};
 ghost use lib.Dec.{eqb};
-ghost use lib.ListN.{getD};
 ghost use Rattle.tally.specs.Sets.{cmp};
 ghost use Rattle.tally.specs.Map.{plain, bit};
 ghost use Rattle.sets.specs.All.{allb};
 ghost use Rattle.sets.specs.Rows.{size, setOf, below, keyAt, soundb};
 ghost use Rattle.sets.specs.Inner.{way, Parted, joined, SameKeys};
 
-// The first word in which two rows differ that are alike below word `from`, 8 if none does: at most 8 steps, which the compiler writes out.
+// The first word from `from` on in which two rows differ, 8 if none does: at most 8 steps, which the compiler writes out from word 0.
 pub fn parting(a: &[u64; 9], b: &[u64; 9], from: usize) -> usize
-    requires { ⌜ (from ≤ 8) × ((k : ℕ) → k < from → getD (now a) k 0 ≡ getD (now b) k 0) ⌝ }
-    ensures { λ r. ⌜ Parted (now (a .entry)) (now (b .entry)) r ⌝ }
+    requires { ⌜ from ≤ 8 ⌝ }
+    ensures { λ r. ⌜ Parted (now (a .entry)) (now (b .entry)) from r ⌝ }
 {
     let mut i: usize = from;
     while i < 8 {
@@ -104,25 +103,6 @@ fn after(a: &[u64; 9], b: &[u64; 9]) -> bool
         return false;
     }
     rises(b, n - 1, m)
-}
-
-// Whether a's set comes before b's by a word that both have, where they are alike below word `from`. Mostly that word tells.
-pub fn lower(a: &[u64; 9], b: &[u64; 9], from: usize) -> bool
-    requires { ⌜ (from < size (now a)) × (size (now a) ≤ 8) × (from < size (now b)) × (size (now b) ≤ 8)
-        × ((k : ℕ) → k < from → getD (now a) k 0 ≡ getD (now b) k 0) ⌝ }
-    ensures { λ r. ⌜ (r ≡ true → cmp (setOf (now (a .entry))) (setOf (now (b .entry))) ≡ Ordering·lt) ⌝ }
-{
-    if a[from] < b[from] {
-        return true;
-    }
-    let j = parting(a, b, from);
-    if j as u64 >= a[8] {
-        return false;
-    }
-    if j as u64 >= b[8] {
-        return false;
-    }
-    a[j] < b[j]
 }
 
 // The bits of d, and those in which two rows differ.

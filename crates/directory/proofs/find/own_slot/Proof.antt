@@ -7,7 +7,7 @@ use mathlib.Core.List.{[]}
 use native.Mathlib.Omega.{arith}
 use lib.Dec.{eqb, ltb}
 use lib.ListN.{getD}
-use Rattle.directory.proofs.Finds.{birth-at}
+use Rattle.directory.proofs.Checks.{birth-named}
 use Rattle.directory.proofs.find.own_slot.Statement.{statement}
 use Rattle.directory.proofs.find.own_slot.Tie as tie
 
@@ -22,7 +22,7 @@ returns-3 c =
     let a = c .before in
     let e = a .before .before .before in
     let s = e .before .before in
-    λ h. (e .if2 .left, ap (λ (b : ℕ). eqb b (s .args .h) && ltb 0 (getD (getD (s .args .entries .now) (s .args .h) []) 1 0)) (birth-at (s .args .entries .now) (s .args .h) (λ z. absurd (omega (arith, z, h)))) ∙ sym (a .names .ensures) ∙ c .if3 .taken)
+    λ h. (e .if2 .left, ap (λ (b : ℕ). eqb b (s .args .h) && ltb 0 (getD (getD (s .args .entries .now) (s .args .h) []) 1 0)) (birth-named (s .args .entries .now) (s .args .h) (omega (arith, h))) ∙ sym (a .names .ensures) ∙ c .if3 .taken)
 
 returns-4 : tie.Need-returns-4
 returns-4 c = λ h. absurd (omega arith)

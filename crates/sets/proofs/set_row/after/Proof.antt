@@ -28,7 +28,7 @@ returns c =
     after-many (s .args .a .now) (s .args .b .now) (c .if1 .taken)
 
 parting-requires : tie.Need-parting-requires
-parting-requires c κs = (omega arith, (λ k h. absurd (omega arith)))
+parting-requires c κs = omega arith
 
 returns-2 : tie.Need-returns-2
 returns-2 c =

@@ -11,7 +11,7 @@ abbrev at : tie.After-parting → tie.Start
 at q = q .before .before .before
 
 parting-requires : tie.Need-parting-requires
-parting-requires c κs = (omega arith, (λ k h. absurd (omega arith)))
+parting-requires c κs = omega arith
 
 returns : tie.Need-returns
 returns c =

@@ -26,8 +26,7 @@ pub fn release_in(
             dir: d,
         };
     }
-    let used = d.used;
-    match directory::find::by_handle(used, entries, order, h) {
+    match directory::find::by_handle(d, entries, order, h) {
         directory::Found::Room(_) => crate::Reply {
             answer: crate::Answer::Refused(7),
             dir: d,

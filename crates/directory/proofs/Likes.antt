@@ -14,13 +14,12 @@ use lib.ListN.{getD}
 use Rattle.laws.proofs.Cases.{and-true}
 use Rattle.tally.specs.Sets.{cmp}
 use Rattle.sets.specs.Rows.{size, setOf, soundb, below}
-use Rattle.sets.specs.Inner.{joined, SameKeys}
 use Rattle.sets.proofs.Alls.{allb-yes}
-use Rattle.sets.proofs.Bitwise.{joined-each, word-same, size-same, sound-same}
+use Rattle.directory.proofs.Bitwise.{joined-each, word-same, size-same, sound-same}
 use Rattle.sets.proofs.Keyed.{sound-few}
 use Rattle.sets.proofs.Plains.{plain-many}
 use Rattle.directory.specs.View.{plainly}
-use Rattle.directory.specs.Inner.{placed, stepAt, rowAt, Told, Alike}
+use Rattle.directory.specs.Inner.{placed, stepAt, joined, SameKeys, rowAt, Told, Alike}
 use Rattle.directory.specs.declared.Placed.the-variants.{Plain}
 use Rattle.directory.proofs.Checks.{some, plainly-more, placed-yes, step-test}
 

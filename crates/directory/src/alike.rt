@@ -6,13 +6,41 @@ ghost use Prim.Native.Nat.{_-_, _<_, _≤_};
 ghost use lib.Dec.{leb};
 ghost use lib.ListN.{length, getD};
 ghost use Rattle.directory.specs.declared.Placed.the-variants.{Plain};
-ghost use Rattle.directory.specs.Inner.{placed, rowAt, Told, Alike};
+ghost use Rattle.directory.specs.Inner.{placed, joined, SameKeys, rowAt, Told, Alike};
 
 // Whether a number is that of a named slot: one comparison, for 0 wraps.
 fn named(used: usize, q: usize) -> bool
     ensures { λ r. ⌜ r ≡ (leb 1 q && leb q used) ⌝ }
 {
     std::num::wrapping_sub_usize(q, 1) < used
+}
+
+// The bits of d, and those in which two rows differ.
+fn differing(d: [u64; 9], a: &[u64; 9], b: &[u64; 9]) -> [u64; 9]
+    ensures { λ r. ⌜ r ≡ joined d (now (a .entry)) (now (b .entry)) ⌝ }
+{
+    [
+        d[0] | (a[0] ^ b[0]),
+        d[1] | (a[1] ^ b[1]),
+        d[2] | (a[2] ^ b[2]),
+        d[3] | (a[3] ^ b[3]),
+        d[4] | (a[4] ^ b[4]),
+        d[5] | (a[5] ^ b[5]),
+        d[6] | (a[6] ^ b[6]),
+        d[7] | (a[7] ^ b[7]),
+        d[8] | (a[8] ^ b[8]),
+    ]
+}
+
+// Whether rows that differ in the bits d have the same size and the same keys. All words are joined first: so the compiler keeps a loop
+// over `differing` in vectors.
+fn same_keys(d: [u64; 9]) -> bool
+    ensures { λ r. ⌜ (r ≡ true → SameKeys d) ⌝ }
+{
+    if d[8] != 0 {
+        return false;
+    }
+    d[0] | d[1] | d[2] | d[3] | d[4] | d[5] | d[6] | d[7] < 4294967296
 }
 
 // Whether a's set comes before b's by a word that both have, if they are alike below word `from`.
@@ -52,7 +80,7 @@ fn pass(used: usize, sets: &[[u64; 9]], order: &[u32], bits: [u64; 9], from: usi
     ensures { λ r. ⌜ (r ≡ true → Alike used (now (sets .entry)) (now (order .entry)) from) ⌝ }
 {
     let first = order[0] as usize;
-    let mut d = sets::set_row::differing(bits, &sets[first], &sets[1]);
+    let mut d = differing(bits, &sets[first], &sets[1]);
     let mut prev = sets[first][from];
     let mut i: usize = 1;
     while i < used {
@@ -60,7 +88,7 @@ fn pass(used: usize, sets: &[[u64; 9]], order: &[u32], bits: [u64; 9], from: usi
         if !named(used, q) {
             return false;
         }
-        let e = sets::set_row::differing(d, &sets[q], &sets[1]);
+        let e = differing(d, &sets[q], &sets[1]);
         d = e;
         let w = sets[q][from];
         if !later(prev, w, sets, order, i, from) {
@@ -69,7 +97,7 @@ fn pass(used: usize, sets: &[[u64; 9]], order: &[u32], bits: [u64; 9], from: usi
         prev = w;
         i += 1;
     }
-    if !sets::set_row::same_keys(d) {
+    if !same_keys(d) {
         return false;
     }
     if !sets::set_row::sound(&sets[1]) {
@@ -119,8 +147,8 @@ pub fn quick(used: usize, sets: &[[u64; 9]], order: &[u32]) -> bool
         return false;
     }
     let none: [u64; 9] = [0; 9];
-    let bits = sets::set_row::differing(none, &sets[used], &sets[1]);
-    if !sets::set_row::same_keys(bits) {
+    let bits = differing(none, &sets[used], &sets[1]);
+    if !same_keys(bits) {
         return false;
     }
     let from = sets::set_row::parting(&sets[first], &sets[last], 0);

@@ -9,7 +9,7 @@ ghost use Rattle.tally.specs.Sets.{cmp};
 ghost use Rattle.sets.specs.Rows.{span, size, setOf};
 ghost use Rattle.directory.specs.Calls.{located, scan};
 ghost use Rattle.directory.specs.View.{stores, birthAt, sought};
-ghost use Rattle.directory.specs.declared.Found.the-variants.{Held};
+ghost use Rattle.directory.specs.Inner.{Agreeing};
 
 // Where a set stands in a directory whose places are right, by halving.
 fn find(used: usize, sets: &[[u64; 9]], order: &[u32], wanted: &[u64; 9]) -> crate::Found
@@ -89,15 +89,13 @@ fn own_slot(used: usize, entries: &[[u64; 3]], h: u64) -> usize
     0
 }
 
-// The slot that a handle names, if it has bindings; else `Room`, which number 7 refuses. A named slot with its birth number is the one that a
-// scan finds.
-pub fn by_handle(used: usize, entries: &[[u64; 3]], order: &[u32], h: u64) -> crate::Found
-    requires { ⌜ (used < length (now entries)) × (used ≤ length (now order))
-        × ((k : ℕ) → k < used → (1 ≤ getD (now order) k 0) × (getD (now order) k 0 ≤ used))
-        × ((x : ℕ) → 1 ≤ x → x ≤ used → (eqb (birthAt (now entries) x) h && ltb 0 (getD (getD (now entries) x []) 1 0)) ≡ true
-        → scan h (now entries) (0 ∷ span (now order) 0 used) ≡ Held x) ⌝ }
-    ensures { λ r. ⌜ r ≡ scan h (now (entries .entry)) (0 ∷ span (now (order .entry)) 0 used) ⌝ }
+// The slot that a handle names, if it has bindings; else `Room`, which number 7 refuses. In a directory that agrees a named slot with its birth
+// number is the one that a scan finds.
+pub fn by_handle(d: crate::Directory, entries: &[[u64; 3]], order: &[u32], h: u64) -> crate::Found
+    requires { ⌜ (d .used < length (now entries)) × (d .used ≤ length (now order)) × Agreeing d (now entries) (now order) ⌝ }
+    ensures { λ r. ⌜ r ≡ scan h (now (entries .entry)) (0 ∷ span (now (order .entry)) 0 (d .used)) ⌝ }
 {
+    let used = d.used;
     let x = own_slot(used, entries, h);
     if x > 0 {
         return crate::Found::Held(x);

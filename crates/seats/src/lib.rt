@@ -103,8 +103,7 @@ fn seat_by_in(
     if !directory::check::agrees(limit, d, sets, entries, order) {
         return refused(8);
     }
-    let used = d.used;
-    match directory::find::by_handle(used, entries, order, h) {
+    match directory::find::by_handle(d, entries, order, h) {
         directory::Found::Room(_) => refused(7),
         directory::Found::Held(x) => held_seat(entries, x),
     }

@@ -6,7 +6,6 @@ pub mod Ways
 pub mod Plains
 pub mod Keyed
 pub mod Partings
-pub mod Bitwise
 pub mod Moved
 pub mod Attributes
 pub mod Exact

@@ -7,7 +7,7 @@ ghost use Rattle.tally.specs.Sets.{cmp};
 ghost use Rattle.tally.specs.Map.{plain, bit};
 ghost use Rattle.sets.specs.All.{allb};
 ghost use Rattle.sets.specs.Rows.{size, setOf, below, keyAt, soundb};
-ghost use Rattle.sets.specs.Inner.{way, Parted, joined, SameKeys};
+ghost use Rattle.sets.specs.Inner.{way, Parted};
 
 // The first word from `from` on in which two rows differ, 8 if none does: at most 8 steps, which the compiler writes out from word 0.
 pub fn parting(a: &[u64; 9], b: &[u64; 9], from: usize) -> usize
@@ -103,34 +103,6 @@ fn after(a: &[u64; 9], b: &[u64; 9]) -> bool
         return false;
     }
     rises(b, n - 1, m)
-}
-
-// The bits of d, and those in which two rows differ.
-pub fn differing(d: [u64; 9], a: &[u64; 9], b: &[u64; 9]) -> [u64; 9]
-    ensures { λ r. ⌜ r ≡ joined d (now (a .entry)) (now (b .entry)) ⌝ }
-{
-    [
-        d[0] | (a[0] ^ b[0]),
-        d[1] | (a[1] ^ b[1]),
-        d[2] | (a[2] ^ b[2]),
-        d[3] | (a[3] ^ b[3]),
-        d[4] | (a[4] ^ b[4]),
-        d[5] | (a[5] ^ b[5]),
-        d[6] | (a[6] ^ b[6]),
-        d[7] | (a[7] ^ b[7]),
-        d[8] | (a[8] ^ b[8]),
-    ]
-}
-
-// Whether rows that differ in the bits d have the same size and the same keys. All words are joined first: so the compiler keeps a loop
-// over `differing` in vectors.
-pub fn same_keys(d: [u64; 9]) -> bool
-    ensures { λ r. ⌜ (r ≡ true → SameKeys d) ⌝ }
-{
-    if d[8] != 0 {
-        return false;
-    }
-    d[0] | d[1] | d[2] | d[3] | d[4] | d[5] | d[6] | d[7] < 4294967296
 }
 
 // Whether b is sound and may follow a at place i: at place 0 whatever a is.

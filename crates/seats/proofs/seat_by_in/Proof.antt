@@ -8,9 +8,7 @@ use borrow.Author.Tests.{not-true, not-false}
 use Rattle.directory.specs.View.{Stores, agreesb}
 use Rattle.directory.specs.Calls.{scan}
 use Rattle.directory.specs.declared.Found.the-variants.{Held}
-use Rattle.directory.proofs.Agreed.{place-slot}
-use Rattle.directory.proofs.Handles.{scan-own}
-use Rattle.directory.proofs.Laws.{few, places-right, slotsOf}
+use Rattle.directory.proofs.Laws.{few, slotsOf}
 use Rattle.seats.proofs.Seatings.{by-no, by-is, by-there}
 use Rattle.seats.proofs.seat_by_in.Statement.{statement}
 use Rattle.seats.proofs.seat_by_in.Tie as tie
@@ -42,7 +40,7 @@ returns c =
 by-handle-requires : tie.Need-by-handle-requires
 by-handle-requires c κs =
     let s = start c in
-    (omega (arith, few-of c, s .pre .1), omega (arith, few-of c, s .pre .2), place-slot (s .args .d .used) (s .args .sets .now) (s .args .order .now) (places-right (s .args .limit) (s .args .d) (stores s) (right c)), scan-own (s .args .limit) (s .args .d) (stores s) (right c) (s .args .h))
+    (omega (arith, few-of c, s .pre .1), omega (arith, few-of c, s .pre .2), record { limit = s .args .limit; sets = s .args .sets .now; right = right c })
 
 held-seat-requires : tie.Need-held-seat-requires
 held-seat-requires c κs =

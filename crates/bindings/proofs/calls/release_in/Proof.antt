@@ -11,10 +11,8 @@ use lib.ListN.{length}
 use Rattle.directory.specs.Calls.{scan}
 use Rattle.directory.specs.View.{Stores, agreesb}
 use Rattle.directory.specs.declared.Found.the-variants.{Held}
-use Rattle.directory.proofs.Agreed.{place-slot}
-use Rattle.directory.proofs.Handles.{scan-own}
 use Rattle.directory.proofs.Finds.{scan-bound}
-use Rattle.directory.proofs.Laws.{few, places-right, slot-used, scan-in, slotsOf}
+use Rattle.directory.proofs.Laws.{few, slot-used, scan-in, slotsOf}
 use Rattle.laws.specs.Said.{success}
 use Rattle.bindings.proofs.Releases.{release-no, release-none, release-one}
 use Rattle.bindings.proofs.calls.release_in.Statement.{statement}
@@ -52,7 +50,7 @@ by-handle-requires : tie.Need-by-handle-requires
 by-handle-requires c κs =
     let e = c .before in
     let s = start e in
-    (omega (arith, few-of e, s .pre .1), omega (arith, few-of e, s .pre .2), place-slot (s .args .d .used) (s .args .sets .now) (s .args .order .now) (places-right (s .args .limit) (s .args .d) (stores s) (right e)), scan-own (s .args .limit) (s .args .d) (stores s) (right e) (s .args .h))
+    (omega (arith, few-of e, s .pre .1), omega (arith, few-of e, s .pre .2), record { limit = s .args .limit; sets = s .args .sets .now; right = right e })
 
 mul-n : tie.Need-mul-n
 mul-n c = scaled-fits _ _ 24 (in-x (c .before)) (start (else-of (c .before)) .good .1 .1 .1 .0 .1)

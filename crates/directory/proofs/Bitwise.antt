@@ -7,10 +7,10 @@ use native.Mathlib.Omega.{arith}
 use borrow.Author.Tests.{lt-ltb, ltb-true}
 use lib.Bits.{bitAnd, bitOr, bitXor, or-add-and, xor-add-and, and-le-l, and-le-r, xor-shr}
 use lib.ListN.{getD}
 use Rattle.sets.specs.Rows.{size, keyAt, soundb}
-use Rattle.sets.specs.Inner.{joinAt, joined, SameKeys}
+use Rattle.directory.specs.Inner.{joinAt, joined, SameKeys}
 use Rattle.sets.proofs.Alls.{allb-yes}
 use Rattle.sets.proofs.Keyed.{sound-some, sound-few, sound-keys, key-rise}
 
 -- both are within their joined bits
 or-both : (a b : ℕ) → (a ≤ bitOr a b) × (b ≤ bitOr a b)
@@ -92,7 +92,7 @@ module _ (a b d : List ℕ) (w : (j : ℕ) → j < 9 → bitXor (getD a j 0) (ge
         under x y z h k = omega arith
 
     pub size-same : size a ≡ size b
-    size-same = word-same 8 (omega arith) (s .size)
+    size-same = word-same 8 (omega arith) (s .long)
 
     pub sound-same : soundb b ≡ true → soundb a ≡ true
     sound-same e =

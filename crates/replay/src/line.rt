@@ -1,55 +1,61 @@
 // A line read: its letter, and its fields as numbers. Lists of bounds and keys go to where they wait, attributes into their store.
-ghost use Prim.Native.Nat.{_≤_};
-ghost use lib.ListN.{length};
-use crate::cells;
-use crate::state::Bounds;
-use crate::state::Fields;
-use crate::state::Handles;
-use crate::state::Keys;
-use crate::state::State;
 use lines::Line;
 use lines::attributes::Attributes;
 use lines::attributes::Given;
+use replay_state::Fields;
+use replay_state::Keys;
+use replay_state::State;
+use replay_state::UNREAD;
+use replay_state::after;
+use replay_state::byte;
+use replay_state::stores::Bounds;
+use replay_state::within;
 use text::Integer;
 use text::Natural;
 
 // What stands for a letter where a line can't be read, and behind the input's end.
-pub const NONE: u8 = 0;
+const NONE: u8 = 0;
 
 pub const END: u8 = 1;
 
 // The kind of field k of a line, 0 behind the last; field 0 is the letter:
 //     u a u64, w a u32, h a handle, p a kept point; U, W likewise or `-`; s a scale, 128 above it, or `-`
-//     x bits, b one byte, v the number or the bits that a cell is set to, l a list or a set
+//     x bits, v the number or the bits that a cell is set to; H the birth number of a handle; of a set (a) or a list (g, f) how many are there
+//     one byte: D of any store, K of a kind, F of a number kind, `-` itself, T of a temporality, S of a switch
 fn kind_of(letter: u8, k: usize) -> u8 {
     match letter {
         b's' => text::byte_at(b"s", k),
-        b'g' | b'f' => text::byte_at(b"gl", k),
-        b'u' => text::byte_at(b"uh", k),
+        b'g' => text::byte_at(b"gg", k),
+        b'f' => text::byte_at(b"ff", k),
+        b'u' => text::byte_at(b"uH", k),
         b'm' => text::byte_at(b"mUU", k),
-        b'r' => text::byte_at(b"rxl", k),
-        b'b' => text::byte_at(b"bhl", k),
-        b'h' => text::byte_at(b"hhx", k),
+        b'r' => text::byte_at(b"rxa", k),
+        b'b' => text::byte_at(b"bha", k),
+        b'h' => text::byte_at(b"hHx", k),
         b'k' => text::byte_at(b"kpw", k),
         b'c' => text::byte_at(b"cuWW", k),
-        b'd' => text::byte_at(b"dbwwv", k),
+        b'd' => text::byte_at(b"dDwwv", k),
         b'j' => text::byte_at(b"jpppwW", k),
-        b'n' => text::byte_at(b"nbbWsbwbbbu", k),
+        b'n' => text::byte_at(b"nKFWs-wTSSu", k),
         _ => 0,
     }
 }
 
 // ---- fields
 
+fn at_most(x: u64, most: u64) -> Natural {
+    if most < x {
+        return Natural::None;
+    }
+    Natural::Is(x)
+}
+
 // A field's decimal, at most so great.
 fn number(line: &[u8], k: usize, most: u64) -> Natural {
     let Natural::Is(x) = text::decimal_at(line, k) else {
         return Natural::None;
     };
-    if most < x {
-        return Natural::None;
-    }
-    Natural::Is(x)
+    at_most(x, most)
 }
 
 // A field of one byte; 0 where it is longer or empty.
@@ -61,6 +67,15 @@ fn byte_of(line: &[u8], k: usize) -> u8 {
     text::byte_at(line, p.from)
 }
 
+// A field of one byte that is among those given.
+fn one_of(line: &[u8], k: usize, all: &[u8]) -> Natural {
+    let byte = byte_of(line, k);
+    if text::end(all, 0, byte) < all.len() {
+        return Natural::Is(byte as u64);
+    }
+    Natural::None
+}
+
 // A field's decimal, at most so great; the greatest number for `-`.
 fn optional(line: &[u8], k: usize, most: u64) -> Natural {
     if byte_of(line, k) == b'-' {
@@ -69,20 +84,7 @@ fn optional(line: &[u8], k: usize, most: u64) -> Natural {
     number(line, k, most)
 }
 
-// A scale from -128 to 127 with 128 added.
-fn scale(negative: bool, size: u64) -> Natural {
-    if negative {
-        if 128 < size {
-            return Natural::None;
-        }
-        return Natural::Is(128 - size);
-    }
-    if 127 < size {
-        return Natural::None;
-    }
-    Natural::Is(128 + size)
-}
-
+// A scale from -128 to 127 with 128 added; the greatest number for `-`.
 fn scale_of(line: &[u8], k: usize) -> Natural {
     if byte_of(line, k) == b'-' {
         return Natural::Is(u64::MAX);
@@ -90,7 +92,13 @@ fn scale_of(line: &[u8], k: usize) -> Natural {
     let Integer::Is(negative, size) = text::signed_at(line, k) else {
         return Natural::None;
     };
-    scale(negative, size)
+    if 128 < size {
+        return Natural::None;
+    }
+    if negative {
+        return Natural::Is(128 - size);
+    }
+    at_most(128 + size, 255)
 }
 
 // What a cell is set to: bits where the store holds f64.
@@ -102,7 +110,7 @@ fn cell_of(line: &[u8], k: usize) -> Natural {
     text::decimal_at(line, k)
 }
 
-fn value(line: &[u8], k: usize, kind: u8) -> Natural {
+fn plain(line: &[u8], k: usize, kind: u8) -> Natural {
     match kind {
         b'u' => text::decimal_at(line, k),
         b'w' => number(line, k, 0xFFFF_FFFF),
@@ -112,74 +120,39 @@ fn value(line: &[u8], k: usize, kind: u8) -> Natural {
         b'W' => optional(line, k, 0xFFFF_FFFF),
         b's' => scale_of(line, k),
         b'x' => text::bits_at(line, k),
-        b'b' => Natural::Is(byte_of(line, k) as u64),
+        b'D' => Natural::Is(byte_of(line, k) as u64),
+        b'K' => one_of(line, k, b"ex"),
+        b'F' => one_of(line, k, b"f"),
+        b'-' => one_of(line, k, b"-"),
+        b'T' => one_of(line, k, b"dcl"),
+        b'S' => one_of(line, k, b"01"),
         b'v' => cell_of(line, k),
         _ => Natural::Is(0),
     }
 }
 
-// The fields of a line by their kinds: whether each can be read.
-fn take(line: &[u8], letter: u8, f: &mut Fields) -> bool {
-    let mut k: usize = 1;
-    while k < 11 {
-        let found = value(line, k, kind_of(letter, k));
-        let Natural::Is(x) = found else {
-            return false;
-        };
-        f[k] = x;
-        k += 1;
-    }
-    true
-}
-
-// ---- lists
-
-// Where the element of a list that starts there ends.
-fn element(line: &[u8], from: usize) -> usize
-    requires { ⌜ from ≤ length (now line) ⌝ }
-    ensures { λ r. ⌜ (from ≤ r) × (r ≤ length (now (line .entry))) ⌝ }
-{
-    let mut i = from;
-    while i < line.len() {
-        if line[i] == b',' {
-            return i;
-        }
-        i += 1;
-    }
-    i
-}
-
-fn put_bound(bounds: &mut Bounds, n: usize, bits: Natural) -> usize {
-    let Natural::Is(x) = bits else {
-        return 0;
-    };
-    if n < 200 {
-        bounds[n] = floats::of_bits(x);
-        return n + 1;
-    }
-    0
-}
-
-fn put_key(keys: &mut Keys, n: usize, key: Natural) -> usize {
-    let Natural::Is(x) = key else {
-        return 0;
-    };
-    if 0xFFFF_FFFF < x {
-        return 0;
-    }
-    if n < 32 {
-        keys[n] = x as u32;
-        return n + 1;
-    }
-    0
-}
+// ---- lists, sets and handles
 
 // A bound or a key put behind n that wait: how many there are then, 0 if it can't be put.
 fn put(letter: u8, bytes: &[u8], n: usize, bounds: &mut Bounds, keys: &mut Keys) -> usize {
     if letter == b'g' {
-        return put_bound(bounds, n, text::bits(bytes));
+        let Natural::Is(x) = text::bits(bytes) else {
+            return 0;
+        };
+        if 200 <= n {
+            return 0;
+        }
+        bounds[n] = floats::of_bits(x);
+        return n + 1;
     }
-    put_key(keys, n, text::decimal(bytes))
+    let Natural::Is(x) = text::decimal(bytes) else {
+        return 0;
+    };
+    if 32 <= n || 0xFFFF_FFFF < x {
+        return 0;
+    }
+    keys[n] = replay_state::cut(x);
+    n + 1
 }
 
 // The list of a line `g` or `f` put behind n that wait: how many there are then.
@@ -187,7 +160,7 @@ fn list(letter: u8, line: &[u8], n: usize, bounds: &mut Bounds, keys: &mut Keys)
     let mut many = n;
     let mut i: usize = 2;
     while i < line.len() {
-        let e = element(line, i);
+        let e = text::end(line, i, b',');
         many = put(letter, &line[i..e], many, bounds, keys);
         if many == 0 {
             return Natural::None;
@@ -200,6 +173,7 @@ fn list(letter: u8, line: &[u8], n: usize, bounds: &mut Bounds, keys: &mut Keys)
     Natural::None
 }
 
+// A list put behind those that wait.
 fn waiting(letter: u8, line: &[u8], s: State, bounds: &mut Bounds, keys: &mut Keys) -> Natural {
     let n = if letter == b'g' {
         s.next_bounds
@@ -223,33 +197,64 @@ fn set(line: &[u8], attrs: &mut Attributes) -> Natural {
     Natural::Is(many as u64)
 }
 
+// The birth number in the place of a handle.
+fn birth(s: State, handle: Natural) -> Natural {
+    let Natural::Is(place) = handle else {
+        return Natural::None;
+    };
+    let i = within(place, 99);
+    Natural::Is(s.handles[i])
+}
+
 // ---- lines
 
-fn is_switch(x: u64) -> bool {
-    x == 48 || x == 49
-}
-
-fn is_temporality(x: u64) -> bool {
-    x == 100 || x == 99 || x == 108
-}
-
-// Whether an `n` has the fields of its kind: only `e` has a size and a scale, f64 alone are recorded, and there is no threshold.
-fn is_form(f: &Fields) -> bool {
-    let sized = f[1] == 101 && f[3] != u64::MAX && f[4] != u64::MAX;
-    let free = f[1] == 120 && f[3] == u64::MAX && f[4] == u64::MAX;
-    let plain = f[2] == 102 && f[5] == 45;
-    (sized || free) && plain && is_temporality(f[7]) && is_switch(f[8]) && is_switch(f[9])
-}
-
-// Puts what was found into field k: the letter, or none where nothing was found.
-fn with(f: &mut Fields, k: usize, found: Natural, letter: u8) -> u8 {
-    let Natural::Is(x) = found else {
-        return NONE;
-    };
-    if k < 11 {
-        f[k] = x;
+fn value(
+    line: &[u8],
+    k: usize,
+    kind: u8,
+    s: State,
+    attrs: &mut Attributes,
+    bounds: &mut Bounds,
+    keys: &mut Keys,
+) -> Natural {
+    match kind {
+        b'a' => set(line, attrs),
+        b'g' | b'f' => waiting(kind, line, s, bounds, keys),
+        b'H' => birth(s, number(line, k, 99)),
+        _ => plain(line, k, kind),
     }
-    letter
+}
+
+// The fields of a line by their kinds: whether each can be read.
+fn take(
+    line: &[u8],
+    letter: u8,
+    s: State,
+    f: &mut Fields,
+    attrs: &mut Attributes,
+    bounds: &mut Bounds,
+    keys: &mut Keys,
+) -> bool {
+    let mut k: usize = 1;
+    while k < 11 {
+        let found = value(line, k, kind_of(letter, k), s, attrs, bounds, keys);
+        let Natural::Is(x) = found else {
+            return false;
+        };
+        f[k] = x;
+        k += 1;
+    }
+    true
+}
+
+// Whether an `n` has the fields of its kind, of which only `e` has a size and a scale, and a call of a map comes after an accepted `n`.
+fn is_form(letter: u8, kind: u8, f: &Fields) -> bool {
+    let sized = f[1] == 101;
+    match letter {
+        b'n' => sized == (f[3] != u64::MAX) && sized == (f[4] != u64::MAX),
+        b'r' | b'h' | b'c' | b'b' | b'u' => kind != 0,
+        _ => true,
+    }
 }
 
 // Whether a line of a letter has so many fields behind it.
@@ -261,63 +266,81 @@ fn has_form(letter: u8, n: usize) -> bool {
     kind_of(letter, n) != 0 && kind_of(letter, behind) == 0
 }
 
-// The letter of a line of which each field can be read.
-fn whole(
-    line: &[u8],
-    s: State,
-    f: &mut Fields,
-    handles: &Handles,
-    attrs: &mut Attributes,
-    bounds: &mut Bounds,
-    keys: &mut Keys,
-) -> u8 {
+// A line of a letter, of which no field is asked for.
+fn bare(s: State, letter: u8) -> State {
+    let mut next = s;
+    next.letter = letter;
+    next.of = 0;
+    next.no = 0;
+    next
+}
+
+// A line that can't be read.
+fn unread(s: State) -> State {
+    after::refused(bare(s, NONE), UNREAD)
+}
+
+// A line of a letter with its fields, and what it says for lines behind it.
+fn told(s: State, letter: u8, f: Fields) -> State {
+    let mut next = bare(s, letter);
+    next.f = f;
+    match letter {
+        b'n' => next.of = byte(f[1]),
+        b'r' | b'h' | b'c' => next.of = s.kind,
+        b'g' => next.next_bounds = f[1],
+        b'f' => {
+            next.next_keys = f[1];
+            next.next_filtered = true;
+        }
+        b'm' => {
+            next.counts = within(f[1], 10560) as u64;
+            next.entries = within(f[2], 66) as u64;
+        }
+        _ => {}
+    }
+    next
+}
+
+// A line of which each field can be read.
+fn whole(line: &[u8], s: State, attrs: &mut Attributes, bounds: &mut Bounds) -> State {
     let letter = byte_of(line, 0);
     let n = text::spaces(line);
     if letter == b'=' && 0 < n {
-        return letter;
+        return bare(s, letter);
     }
     if !has_form(letter, n) {
-        return NONE;
+        return unread(s);
     }
-    if !take(line, letter, f) {
-        return NONE;
+    let mut f = [0u64; 11];
+    let mut keys = s.next_filter;
+    if !take(line, letter, s, &mut f, attrs, bounds, &mut keys) {
+        return unread(s);
     }
-    let place = f[1];
-    match letter {
-        b'r' | b'b' => with(f, 2, set(line, attrs), letter),
-        b'g' | b'f' => with(f, 1, waiting(letter, line, s, bounds, keys), letter),
-        b'h' | b'u' => with(f, 1, Natural::Is(cells::handle_at(handles, place)), letter),
-        b'n' => {
-            if is_form(f) {
-                return letter;
-            }
-            NONE
-        }
-        _ => letter,
+    if !is_form(letter, s.kind, &f) {
+        return unread(s);
     }
+    let mut next = told(s, letter, f);
+    next.next_filter = keys;
+    next
 }
 
-// The letter of a line of len bytes, and its fields. One that fills its store is too long; an empty one behind the input's last is its end.
+// A line of len bytes. One that fills its store is too long; an empty one behind the input's last is its end.
 pub fn read(
+    s: State,
     line: &Line,
     len: usize,
     over: bool,
-    s: State,
-    f: &mut Fields,
-    handles: &Handles,
     attrs: &mut Attributes,
     bounds: &mut Bounds,
-    keys: &mut Keys,
-) -> u8 {
+) -> State {
     if len == 0 {
-        return if over { END } else { NONE };
+        return if over { bare(s, END) } else { unread(s) };
     }
     if line[0] == b'#' {
-        return b'#';
+        return bare(s, b'#');
     }
     if 256 <= len {
-        return NONE;
+        return unread(s);
     }
-    let bytes = lines::input::front(line, len);
-    whole(bytes, s, f, handles, attrs, bounds, keys)
+    whole(lines::input::front(line, len), s, attrs, bounds)
 }

@@ -1,0 +1,54 @@
+// Binding (`b`) and releasing (`u`), for maps of every kind.
+use lines::attributes::Attributes;
+use replay_state::State;
+use replay_state::after;
+use replay_state::lent;
+use replay_state::stores;
+
+fn bind(
+    s: State,
+    attrs: &[[u32; 2]],
+    sets: &mut [[u64; 9]],
+    entries: &mut [[u64; 3]],
+    order: &mut [u32],
+) -> State {
+    let n = s.entries;
+    let filter = s.filter;
+    if s.letter == b'b' {
+        let reply = bindings::bind(
+            s.limit,
+            s.dir,
+            lent::sets(sets, n),
+            lent::entries(entries, n),
+            lent::order(order, n),
+            lent::given(attrs, s.f[2]),
+            s.filtered,
+            lent::keys(&filter, s.keys as u64),
+        );
+        return after::done(s, reply);
+    }
+    let reply = bindings::release(
+        s.limit,
+        s.dir,
+        lent::sets_in(sets, n),
+        lent::entries(entries, n),
+        lent::order_in(order, n),
+        s.f[1],
+    );
+    after::done(s, reply)
+}
+
+// Follows a line that binds or releases.
+pub fn follow(
+    s: State,
+    attrs: &Attributes,
+    sets: &mut stores::Sets,
+    entries: &mut stores::Entries,
+    order: &mut stores::Order,
+) -> State {
+    let letter = s.letter;
+    match letter {
+        b'b' | b'u' => bind(s, attrs, sets, entries, order),
+        _ => s,
+    }
+}

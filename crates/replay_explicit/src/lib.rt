@@ -1,0 +1,208 @@
+// The calls of the explicit kind that lines of a script make: configuring (`n`), recording (`r`, `h`), collecting (`c`).
+//
+// The map's stores are lent as long as a line `m` says, the output as long as the line `c` does: too few of any is number 12 or 10.
+ghost use mathlib.Core.Path.{_≡_};
+use explicit_collection::Configured;
+use explicit_collection::Settings;
+use lines::attributes::Attributes;
+use replay_state::State;
+use replay_state::after;
+use replay_state::lent;
+use replay_state::stores;
+
+fn configured(s: State, said: Configured) -> State {
+    match said {
+        Configured::Refused(no) => after::unbegun(s, no),
+        Configured::Accepted(setup) => {
+            let dir = setup.dir;
+            after::begun(s, 0, dir)
+        }
+    }
+}
+
+fn configure(
+    s: State,
+    bounds: &[f64],
+    sets: &[[u64; 9]],
+    entries: &mut [[u64; 3]],
+    order: &[u32],
+    extremes: &[[f64; 3]],
+    pos: &[u64],
+    neg: &[u64],
+) -> State {
+    let n = s.entries;
+    let m = s.counts;
+    let filter = s.next_filter;
+    let said = explicit_collection::configure(
+        lent::bounds_in(bounds, 0, s.next_bounds),
+        s.f[8] == 49,
+        s.f[9] == 49,
+        s.f[6],
+        s.next_filtered,
+        lent::keys(&filter, s.next_keys),
+        lent::sets_in(sets, n),
+        lent::entries(entries, n),
+        lent::order_in(order, n),
+        lent::totals_in(neg, n),
+        lent::extremes_in(extremes, n),
+        lent::counts_in(pos, m),
+    );
+    configured(s, said)
+}
+
+// Records by set (`r`), or by handle (`h`).
+fn record(
+    s: State,
+    attrs: &[[u32; 2]],
+    bounds: &[f64],
+    sets: &mut [[u64; 9]],
+    entries: &mut [[u64; 3]],
+    order: &mut [u32],
+    extremes: &mut [[f64; 3]],
+    pos: &mut [u64],
+    neg: &mut [u64],
+) -> State {
+    let n = s.entries;
+    let m = s.counts;
+    let filter = s.filter;
+    if s.letter == b'r' {
+        let reply = value_map::explicit_map::measure(
+            lent::bounds_in(bounds, 1, s.bounds as u64),
+            s.limit,
+            s.dir,
+            lent::sets(sets, n),
+            lent::entries(entries, n),
+            lent::order(order, n),
+            lent::totals(neg, n),
+            lent::extremes(extremes, n),
+            lent::counts(pos, m),
+            floats::of_bits(s.f[1]),
+            lent::given(attrs, s.f[2]),
+            s.filtered,
+            lent::keys(&filter, s.keys as u64),
+        );
+        return after::done(s, reply);
+    }
+    let reply = value_map::explicit_map::measure_by(
+        lent::bounds_in(bounds, 1, s.bounds as u64),
+        s.limit,
+        s.dir,
+        lent::sets(sets, n),
+        lent::entries(entries, n),
+        lent::order(order, n),
+        lent::totals(neg, n),
+        lent::extremes(extremes, n),
+        lent::counts(pos, m),
+        floats::of_bits(s.f[2]),
+        s.f[1],
+    );
+    after::done(s, reply)
+}
+
+fn settings(s: State) -> Settings
+    ensures { λ r. ⌜ r .limit ≡ s .limit ⌝ }
+{
+    Settings {
+        extremes: s.extremes,
+        sums: s.sums,
+        limit: s.limit,
+    }
+}
+
+// Collects, delta or cumulative. What lies behind a collection's part of the output is the kept points'.
+fn collect(
+    s: State,
+    bounds: &[f64],
+    sets: &mut [[u64; 9]],
+    entries: &mut [[u64; 3]],
+    order: &mut [u32],
+    extremes: &[[f64; 3]],
+    pos: &[u64],
+    neg: &[u64],
+    out_sets: &mut [[u64; 9]],
+    out_words: &mut [[u64; 12]],
+    out_pos: &mut [u64],
+    out_neg: &mut [u64],
+) -> State {
+    let i = replay_state::within(s.f[2], 66) as u64;
+    let j = replay_state::within(s.f[3], 10560) as u64;
+    let n = s.entries;
+    let m = s.counts;
+    if s.delta {
+        let reply = explicit_collection::delta(
+            lent::bounds_in(bounds, 1, s.bounds as u64),
+            settings(s),
+            s.dir,
+            lent::sets(sets, n),
+            lent::entries(entries, n),
+            lent::order(order, n),
+            lent::totals_in(neg, n),
+            lent::extremes_in(extremes, n),
+            lent::counts_in(pos, m),
+            lent::sets(out_sets, i),
+            lent::words(out_words, i),
+            lent::counts(out_pos, j),
+            lent::counts(out_neg, j),
+        );
+        let answer = reply.answer;
+        let dir = reply.dir;
+        return after::collected(s, dir, answer);
+    }
+    let answer = explicit_collection::cumulative(
+        lent::bounds_in(bounds, 1, s.bounds as u64),
+        settings(s),
+        s.dir,
+        lent::sets_in(sets, n),
+        lent::entries_in(entries, n),
+        lent::order_in(order, n),
+        lent::totals_in(neg, n),
+        lent::extremes_in(extremes, n),
+        lent::counts_in(pos, m),
+        lent::sets(out_sets, i),
+        lent::words(out_words, i),
+        lent::counts(out_pos, j),
+        lent::counts(out_neg, j),
+    );
+    after::collected(s, s.dir, answer)
+}
+
+// Makes the call of a line, if it is one of this kind.
+pub fn follow(
+    s: State,
+    attrs: &Attributes,
+    bounds: &stores::Bounds,
+    sets: &mut stores::Sets,
+    entries: &mut stores::Entries,
+    order: &mut stores::Order,
+    extremes: &mut stores::Extremes,
+    pos: &mut stores::Counts,
+    neg: &mut stores::Others,
+    out_sets: &mut stores::ListedSets,
+    out_words: &mut stores::ListedWords,
+    out_pos: &mut stores::ListedCounts,
+    out_neg: &mut stores::ListedCounts,
+) -> State {
+    if s.of != b'x' {
+        return s;
+    }
+    let letter = s.letter;
+    match letter {
+        b'n' => configure(s, bounds, sets, entries, order, extremes, pos, neg),
+        b'r' | b'h' => record(s, attrs, bounds, sets, entries, order, extremes, pos, neg),
+        b'c' => collect(
+            s,
+            bounds,
+            sets,
+            entries,
+            order,
+            extremes,
+            pos,
+            neg,
+            out_sets,
+            out_words,
+            out_pos,
+            out_neg,
+        ),
+        _ => s,
+    }
+}

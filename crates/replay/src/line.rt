@@ -286,7 +286,7 @@ fn told(s: State, letter: u8, f: Fields) -> State {
     next.f = f;
     match letter {
         b'n' => next.of = byte(f[1]),
-        b'r' | b'h' | b'c' => next.of = s.kind,
+        b'r' | b'h' | b'c' | b'b' | b'u' => next.of = s.kind,
         b'g' => next.next_bounds = f[1],
         b'f' => {
             next.next_keys = f[1];

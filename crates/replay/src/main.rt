@@ -1,15 +1,68 @@
 // Replays call scripts and prints their answers: docs/REPLAY.md has the language.
 //
 // Kinds `e` and `x` of f64. Every script has stores of its own, so a new one finds them fresh.
-mod bind;
 mod line;
 mod show;
 
 use lines::Block;
 use lines::Line;
+use lines::attributes::Attributes;
 use lines::input::Ports;
 use replay_cells::damage;
 use replay_cells::kept;
+use replay_state::State;
+use replay_state::stores;
+
+// Makes what a line asks for: each call here follows the lines that are its own, and leaves the others.
+fn make(
+    s: State,
+    attrs: &Attributes,
+    bounds: &mut stores::Bounds,
+    sets: &mut stores::Sets,
+    entries: &mut stores::Entries,
+    order: &mut stores::Order,
+    figures: &mut stores::Figures,
+    extremes: &mut stores::Extremes,
+    pos: &mut stores::Counts,
+    neg: &mut stores::Others,
+    out_sets: &mut stores::ListedSets,
+    out_words: &mut stores::ListedWords,
+    out_pos: &mut stores::ListedCounts,
+    out_neg: &mut stores::ListedCounts,
+) -> State {
+    let a = replay_exponential::follow(s, attrs, sets, entries, order, figures, extremes, pos, neg);
+    let b = replay_exponential::collect(
+        a,
+        sets,
+        entries,
+        order,
+        figures,
+        extremes,
+        pos,
+        neg,
+        out_sets,
+        out_words,
+        out_pos,
+        out_neg,
+    );
+    let c = replay_explicit::follow(b, attrs, bounds, sets, entries, order, extremes, pos, neg);
+    let d = replay_explicit::collect(
+        c,
+        bounds,
+        sets,
+        entries,
+        order,
+        extremes,
+        pos,
+        neg,
+        out_sets,
+        out_words,
+        out_pos,
+        out_neg,
+    );
+    let e = kept::follow(d, bounds, out_sets, out_words, out_pos, out_neg);
+    damage::set(e, bounds, sets, entries, order, figures, extremes, pos, neg)
+}
 
 // Whether a script has a line behind one of a letter.
 fn goes_on(letter: u8) -> bool {
@@ -37,47 +90,9 @@ fn script(ports: Ports, block: &mut Block, line: &mut Line, text: &mut Block) ->
     while goes_on(s.letter) {
         now = lines::input::next(now, block, line, text);
         let read = line::read(s, line, now.len, now.over, &mut attrs, &mut bounds);
-        let a = replay_exponential::follow(
+        s = make(
             read,
             &attrs,
-            &mut sets,
-            &mut entries,
-            &mut order,
-            &mut figures,
-            &mut extremes,
-            &mut pos,
-            &mut neg,
-            &mut out_sets,
-            &mut out_words,
-            &mut out_pos,
-            &mut out_neg,
-        );
-        let b = replay_explicit::follow(
-            a,
-            &attrs,
-            &bounds,
-            &mut sets,
-            &mut entries,
-            &mut order,
-            &mut extremes,
-            &mut pos,
-            &mut neg,
-            &mut out_sets,
-            &mut out_words,
-            &mut out_pos,
-            &mut out_neg,
-        );
-        let c = bind::follow(b, &attrs, &mut sets, &mut entries, &mut order);
-        let d = kept::follow(
-            c,
-            &mut bounds,
-            &mut out_sets,
-            &mut out_words,
-            &mut out_pos,
-            &mut out_neg,
-        );
-        s = damage::set(
-            d,
             &mut bounds,
             &mut sets,
             &mut entries,
@@ -86,8 +101,11 @@ fn script(ports: Ports, block: &mut Block, line: &mut Line, text: &mut Block) ->
             &mut extremes,
             &mut pos,
             &mut neg,
+            &mut out_sets,
+            &mut out_words,
+            &mut out_pos,
+            &mut out_neg,
         );
-        kept::settle(s, &mut bounds);
         let n = show::answer(
             text,
             now.waiting,

@@ -61,19 +61,13 @@ fn copy_bounds(bounds: &mut stores::Bounds, from: usize, to: usize) {
     }
 }
 
-// After an accepted line: what waited is what `n` configured; a collection has its bounds from there, a kept point from where it came.
-pub fn settle(s: State, bounds: &mut stores::Bounds) {
+// After an accepted line a part of the bounds is another's.
+fn settled(s: State, bounds: &mut stores::Bounds, from: usize, to: usize) -> State {
     if s.no != 0 {
-        return;
+        return s;
     }
-    let letter = s.letter;
-    match letter {
-        b'n' => copy_bounds(bounds, 0, 1),
-        b'c' => copy_bounds(bounds, 1, 2),
-        b'k' => copy_bounds(bounds, 2, part(s.f[1])),
-        b'j' => copy_bounds(bounds, part(s.f[2]), part(s.f[1])),
-        _ => {}
-    }
+    copy_bounds(bounds, from, to);
+    s
 }
 
 // ---- keeping
@@ -236,7 +230,8 @@ fn merge(
     }
 }
 
-// Follows a line that keeps a point, merges kept points, or damages one.
+// Follows a line that keeps a point, merges kept points, or damages one. Behind a call, what waited is what was configured, and a
+// collection has its bounds from there.
 pub fn follow(
     s: State,
     bounds: &mut stores::Bounds,
@@ -247,8 +242,16 @@ pub fn follow(
 ) -> State {
     let letter = s.letter;
     match letter {
-        b'k' => keep(s, sets, words, pos, neg),
-        b'j' => merge(s, bounds, sets, words, pos, neg),
+        b'n' => settled(s, bounds, 0, 1),
+        b'c' => settled(s, bounds, 1, 2),
+        b'k' => {
+            let next = keep(s, sets, words, pos, neg);
+            settled(next, bounds, 2, part(s.f[1]))
+        }
+        b'j' => {
+            let next = merge(s, bounds, sets, words, pos, neg);
+            settled(next, bounds, part(s.f[2]), part(s.f[1]))
+        }
         b'd' => crate::damage::set_kept(s, bounds, words, pos, neg),
         _ => s,
     }

@@ -4,11 +4,10 @@
 ghost use mathlib.Core.Path.{_≡_};
 use explicit_collection::Configured;
 use explicit_collection::Settings;
-use lines::attributes::Attributes;
 use replay_state::State;
 use replay_state::after;
+use replay_state::binding;
 use replay_state::lent;
-use replay_state::stores;
 
 fn configured(s: State, said: Configured) -> State {
     match said {
@@ -18,85 +17,6 @@ fn configured(s: State, said: Configured) -> State {
             after::begun(s, 0, dir)
         }
     }
-}
-
-fn configure(
-    s: State,
-    bounds: &[f64],
-    sets: &[[u64; 9]],
-    entries: &mut [[u64; 3]],
-    order: &[u32],
-    extremes: &[[f64; 3]],
-    pos: &[u64],
-    neg: &[u64],
-) -> State {
-    let n = s.entries;
-    let m = s.counts;
-    let filter = s.next_filter;
-    let said = explicit_collection::configure(
-        lent::bounds_in(bounds, 0, s.next_bounds),
-        s.f[8] == 49,
-        s.f[9] == 49,
-        s.f[6],
-        s.next_filtered,
-        lent::keys(&filter, s.next_keys),
-        lent::sets_in(sets, n),
-        lent::entries(entries, n),
-        lent::order_in(order, n),
-        lent::totals_in(neg, n),
-        lent::extremes_in(extremes, n),
-        lent::counts_in(pos, m),
-    );
-    configured(s, said)
-}
-
-// Records by set (`r`), or by handle (`h`).
-fn record(
-    s: State,
-    attrs: &[[u32; 2]],
-    bounds: &[f64],
-    sets: &mut [[u64; 9]],
-    entries: &mut [[u64; 3]],
-    order: &mut [u32],
-    extremes: &mut [[f64; 3]],
-    pos: &mut [u64],
-    neg: &mut [u64],
-) -> State {
-    let n = s.entries;
-    let m = s.counts;
-    let filter = s.filter;
-    if s.letter == b'r' {
-        let reply = value_map::explicit_map::measure(
-            lent::bounds_in(bounds, 1, s.bounds as u64),
-            s.limit,
-            s.dir,
-            lent::sets(sets, n),
-            lent::entries(entries, n),
-            lent::order(order, n),
-            lent::totals(neg, n),
-            lent::extremes(extremes, n),
-            lent::counts(pos, m),
-            floats::of_bits(s.f[1]),
-            lent::given(attrs, s.f[2]),
-            s.filtered,
-            lent::keys(&filter, s.keys as u64),
-        );
-        return after::done(s, reply);
-    }
-    let reply = value_map::explicit_map::measure_by(
-        lent::bounds_in(bounds, 1, s.bounds as u64),
-        s.limit,
-        s.dir,
-        lent::sets(sets, n),
-        lent::entries(entries, n),
-        lent::order(order, n),
-        lent::totals(neg, n),
-        lent::extremes(extremes, n),
-        lent::counts(pos, m),
-        floats::of_bits(s.f[2]),
-        s.f[1],
-    );
-    after::done(s, reply)
 }
 
 fn settings(s: State) -> Settings
@@ -109,8 +29,85 @@ fn settings(s: State) -> Settings
     }
 }
 
-// Collects, delta or cumulative. What lies behind a collection's part of the output is the kept points'.
-fn collect(
+// Makes the call of a line, if it is one of a map of this kind, but for collections.
+pub fn follow(
+    s: State,
+    attrs: &[[u32; 2]],
+    bounds: &[f64],
+    sets: &mut [[u64; 9]],
+    entries: &mut [[u64; 3]],
+    order: &mut [u32],
+    extremes: &mut [[f64; 3]],
+    pos: &mut [u64],
+    neg: &mut [u64],
+) -> State {
+    if s.of != b'x' {
+        return s;
+    }
+    let n = s.entries;
+    let m = s.counts;
+    let letter = s.letter;
+    match letter {
+        b'n' => {
+            let waiting = s.next_filter;
+            let said = explicit_collection::configure(
+                lent::bounds_in(bounds, 0, s.next_bounds),
+                s.f[8] == 49,
+                s.f[9] == 49,
+                s.f[6],
+                s.next_filtered,
+                lent::keys(&waiting, s.next_keys),
+                lent::sets_in(sets, n),
+                lent::entries(entries, n),
+                lent::order_in(order, n),
+                lent::totals_in(neg, n),
+                lent::extremes_in(extremes, n),
+                lent::counts_in(pos, m),
+            );
+            configured(s, said)
+        }
+        b'r' => {
+            let filter = s.filter;
+            let reply = value_map::explicit_map::measure(
+                lent::bounds_in(bounds, 1, s.bounds as u64),
+                s.limit,
+                s.dir,
+                lent::sets(sets, n),
+                lent::entries(entries, n),
+                lent::order(order, n),
+                lent::totals(neg, n),
+                lent::extremes(extremes, n),
+                lent::counts(pos, m),
+                floats::of_bits(s.f[1]),
+                lent::given(attrs, s.f[2]),
+                s.filtered,
+                lent::keys(&filter, s.keys as u64),
+            );
+            after::done(s, reply)
+        }
+        b'h' => {
+            let reply = value_map::explicit_map::measure_by(
+                lent::bounds_in(bounds, 1, s.bounds as u64),
+                s.limit,
+                s.dir,
+                lent::sets(sets, n),
+                lent::entries(entries, n),
+                lent::order(order, n),
+                lent::totals(neg, n),
+                lent::extremes(extremes, n),
+                lent::counts(pos, m),
+                floats::of_bits(s.f[2]),
+                s.f[1],
+            );
+            after::done(s, reply)
+        }
+        b'b' | b'u' => binding::bind(s, attrs, sets, entries, order),
+        _ => s,
+    }
+}
+
+// Collects, if a line asks that of a map of this kind. What lies behind a collection's part of the output is the kept points'.
+pub fn collect(
     s: State,
     bounds: &[f64],
     sets: &mut [[u64; 9]],
@@ -124,10 +121,16 @@ fn collect(
     out_pos: &mut [u64],
     out_neg: &mut [u64],
 ) -> State {
-    let i = replay_state::within(s.f[2], 66) as u64;
-    let j = replay_state::within(s.f[3], 10560) as u64;
+    if s.of != b'x' {
+        return s;
+    }
+    if s.letter != b'c' {
+        return s;
+    }
     let n = s.entries;
     let m = s.counts;
+    let i = replay_state::within(s.f[2], 66) as u64;
+    let j = replay_state::within(s.f[3], 10560) as u64;
     if s.delta {
         let reply = explicit_collection::delta(
             lent::bounds_in(bounds, 1, s.bounds as u64),
@@ -164,45 +167,4 @@ fn collect(
         lent::counts(out_neg, j),
     );
     after::collected(s, s.dir, answer)
-}
-
-// Makes the call of a line, if it is one of this kind.
-pub fn follow(
-    s: State,
-    attrs: &Attributes,
-    bounds: &stores::Bounds,
-    sets: &mut stores::Sets,
-    entries: &mut stores::Entries,
-    order: &mut stores::Order,
-    extremes: &mut stores::Extremes,
-    pos: &mut stores::Counts,
-    neg: &mut stores::Others,
-    out_sets: &mut stores::ListedSets,
-    out_words: &mut stores::ListedWords,
-    out_pos: &mut stores::ListedCounts,
-    out_neg: &mut stores::ListedCounts,
-) -> State {
-    if s.of != b'x' {
-        return s;
-    }
-    let letter = s.letter;
-    match letter {
-        b'n' => configure(s, bounds, sets, entries, order, extremes, pos, neg),
-        b'r' | b'h' => record(s, attrs, bounds, sets, entries, order, extremes, pos, neg),
-        b'c' => collect(
-            s,
-            bounds,
-            sets,
-            entries,
-            order,
-            extremes,
-            pos,
-            neg,
-            out_sets,
-            out_words,
-            out_pos,
-            out_neg,
-        ),
-        _ => s,
-    }
 }

@@ -4,11 +4,10 @@
 ghost use mathlib.Core.Path.{_≡_};
 use exponential_collection::Configured;
 use exponential_collection::Settings;
-use lines::attributes::Attributes;
 use replay_state::State;
 use replay_state::after;
+use replay_state::binding;
 use replay_state::lent;
-use replay_state::stores;
 
 // The scale of a number 128 above it. It has the bin of the finest level that lies as far above it: so nothing signed is reckoned with here.
 fn scale_of(n: u64) -> i32 {
@@ -31,91 +30,6 @@ fn configured(s: State, said: Configured) -> State {
     }
 }
 
-fn configure(
-    s: State,
-    sets: &[[u64; 9]],
-    entries: &mut [[u64; 3]],
-    order: &[u32],
-    figures: &[[u64; 8]],
-    extremes: &[[f64; 3]],
-    pos: &[u64],
-    neg: &[u64],
-) -> State {
-    let n = s.entries;
-    let m = s.counts;
-    let filter = s.next_filter;
-    let said = exponential_collection::configure(
-        replay_state::cut(s.f[3]),
-        scale_of(s.f[4]),
-        s.f[8] == 49,
-        s.f[9] == 49,
-        s.f[6],
-        s.next_filtered,
-        lent::keys(&filter, s.next_keys),
-        lent::sets_in(sets, n),
-        lent::entries(entries, n),
-        lent::order_in(order, n),
-        lent::figures_in(figures, n),
-        lent::extremes_in(extremes, n),
-        lent::counts_in(pos, m),
-        lent::counts_in(neg, m),
-    );
-    configured(s, said)
-}
-
-// Records by set (`r`), or by handle (`h`).
-fn record(
-    s: State,
-    attrs: &[[u32; 2]],
-    sets: &mut [[u64; 9]],
-    entries: &mut [[u64; 3]],
-    order: &mut [u32],
-    figures: &mut [[u64; 8]],
-    extremes: &mut [[f64; 3]],
-    pos: &mut [u64],
-    neg: &mut [u64],
-) -> State {
-    let n = s.entries;
-    let m = s.counts;
-    let filter = s.filter;
-    if s.letter == b'r' {
-        let reply = value_map::exponential_map::measure(
-            s.size,
-            s.top,
-            s.limit,
-            s.dir,
-            lent::sets(sets, n),
-            lent::entries(entries, n),
-            lent::order(order, n),
-            lent::figures(figures, n),
-            lent::extremes(extremes, n),
-            lent::counts(pos, m),
-            lent::counts(neg, m),
-            floats::of_bits(s.f[1]),
-            lent::given(attrs, s.f[2]),
-            s.filtered,
-            lent::keys(&filter, s.keys as u64),
-        );
-        return after::done(s, reply);
-    }
-    let reply = value_map::exponential_map::measure_by(
-        s.size,
-        s.top,
-        s.limit,
-        s.dir,
-        lent::sets(sets, n),
-        lent::entries(entries, n),
-        lent::order(order, n),
-        lent::figures(figures, n),
-        lent::extremes(extremes, n),
-        lent::counts(pos, m),
-        lent::counts(neg, m),
-        floats::of_bits(s.f[2]),
-        s.f[1],
-    );
-    after::done(s, reply)
-}
-
 fn settings(s: State) -> Settings
     ensures { λ r. ⌜ r .limit ≡ s .limit ⌝ }
 {
@@ -128,8 +42,91 @@ fn settings(s: State) -> Settings
     }
 }
 
-// Collects, delta or cumulative. What lies behind a collection's part of the output is the kept points'.
-fn collect(
+// Makes the call of a line, if it is one of a map of this kind, but for collections.
+pub fn follow(
+    s: State,
+    attrs: &[[u32; 2]],
+    sets: &mut [[u64; 9]],
+    entries: &mut [[u64; 3]],
+    order: &mut [u32],
+    figures: &mut [[u64; 8]],
+    extremes: &mut [[f64; 3]],
+    pos: &mut [u64],
+    neg: &mut [u64],
+) -> State {
+    if s.of != b'e' {
+        return s;
+    }
+    let n = s.entries;
+    let m = s.counts;
+    let letter = s.letter;
+    match letter {
+        b'n' => {
+            let waiting = s.next_filter;
+            let said = exponential_collection::configure(
+                replay_state::cut(s.f[3]),
+                scale_of(s.f[4]),
+                s.f[8] == 49,
+                s.f[9] == 49,
+                s.f[6],
+                s.next_filtered,
+                lent::keys(&waiting, s.next_keys),
+                lent::sets_in(sets, n),
+                lent::entries(entries, n),
+                lent::order_in(order, n),
+                lent::figures_in(figures, n),
+                lent::extremes_in(extremes, n),
+                lent::counts_in(pos, m),
+                lent::counts_in(neg, m),
+            );
+            configured(s, said)
+        }
+        b'r' => {
+            let filter = s.filter;
+            let reply = value_map::exponential_map::measure(
+                s.size,
+                s.top,
+                s.limit,
+                s.dir,
+                lent::sets(sets, n),
+                lent::entries(entries, n),
+                lent::order(order, n),
+                lent::figures(figures, n),
+                lent::extremes(extremes, n),
+                lent::counts(pos, m),
+                lent::counts(neg, m),
+                floats::of_bits(s.f[1]),
+                lent::given(attrs, s.f[2]),
+                s.filtered,
+                lent::keys(&filter, s.keys as u64),
+            );
+            after::done(s, reply)
+        }
+        b'h' => {
+            let reply = value_map::exponential_map::measure_by(
+                s.size,
+                s.top,
+                s.limit,
+                s.dir,
+                lent::sets(sets, n),
+                lent::entries(entries, n),
+                lent::order(order, n),
+                lent::figures(figures, n),
+                lent::extremes(extremes, n),
+                lent::counts(pos, m),
+                lent::counts(neg, m),
+                floats::of_bits(s.f[2]),
+                s.f[1],
+            );
+            after::done(s, reply)
+        }
+        b'b' | b'u' => binding::bind(s, attrs, sets, entries, order),
+        _ => s,
+    }
+}
+
+// Collects, if a line asks that of a map of this kind. What lies behind a collection's part of the output is the kept points'.
+pub fn collect(
     s: State,
     sets: &mut [[u64; 9]],
     entries: &mut [[u64; 3]],
@@ -143,10 +140,16 @@ fn collect(
     out_pos: &mut [u64],
     out_neg: &mut [u64],
 ) -> State {
-    let i = replay_state::within(s.f[2], 66) as u64;
-    let j = replay_state::within(s.f[3], 10560) as u64;
+    if s.of != b'e' {
+        return s;
+    }
+    if s.letter != b'c' {
+        return s;
+    }
     let n = s.entries;
     let m = s.counts;
+    let i = replay_state::within(s.f[2], 66) as u64;
+    let j = replay_state::within(s.f[3], 10560) as u64;
     if s.delta {
         let reply = exponential_collection::delta(
             settings(s),
@@ -183,45 +186,4 @@ fn collect(
         lent::counts(out_neg, j),
     );
     after::collected(s, s.dir, answer)
-}
-
-// Makes the call of a line, if it is one of this kind.
-pub fn follow(
-    s: State,
-    attrs: &Attributes,
-    sets: &mut stores::Sets,
-    entries: &mut stores::Entries,
-    order: &mut stores::Order,
-    figures: &mut stores::Figures,
-    extremes: &mut stores::Extremes,
-    pos: &mut stores::Counts,
-    neg: &mut stores::Others,
-    out_sets: &mut stores::ListedSets,
-    out_words: &mut stores::ListedWords,
-    out_pos: &mut stores::ListedCounts,
-    out_neg: &mut stores::ListedCounts,
-) -> State {
-    if s.of != b'e' {
-        return s;
-    }
-    let letter = s.letter;
-    match letter {
-        b'n' => configure(s, sets, entries, order, figures, extremes, pos, neg),
-        b'r' | b'h' => record(s, attrs, sets, entries, order, figures, extremes, pos, neg),
-        b'c' => collect(
-            s,
-            sets,
-            entries,
-            order,
-            figures,
-            extremes,
-            pos,
-            neg,
-            out_sets,
-            out_words,
-            out_pos,
-            out_neg,
-        ),
-        _ => s,
-    }
 }

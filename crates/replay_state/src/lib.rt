@@ -4,6 +4,7 @@ ghost use Prim.Native.Nat.{_≤_, _<_, _%_};
 use directory::Directory;
 
 pub mod after;
+pub mod binding;
 pub mod lent;
 pub mod stores;
 

@@ -1,11 +1,9 @@
 // Binding (`b`) and releasing (`u`), for maps of every kind.
-use lines::attributes::Attributes;
-use replay_state::State;
-use replay_state::after;
-use replay_state::lent;
-use replay_state::stores;
+use crate::State;
+use crate::after;
+use crate::lent;
 
-fn bind(
+pub fn bind(
     s: State,
     attrs: &[[u32; 2]],
     sets: &mut [[u64; 9]],
@@ -36,19 +34,4 @@ fn bind(
         s.f[1],
     );
     after::done(s, reply)
-}
-
-// Follows a line that binds or releases.
-pub fn follow(
-    s: State,
-    attrs: &Attributes,
-    sets: &mut stores::Sets,
-    entries: &mut stores::Entries,
-    order: &mut stores::Order,
-) -> State {
-    let letter = s.letter;
-    match letter {
-        b'b' | b'u' => bind(s, attrs, sets, entries, order),
-        _ => s,
-    }
 }

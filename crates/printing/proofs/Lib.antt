@@ -2,3 +2,4 @@
 pub mod Putting
 pub mod Sets
 pub mod Points
+pub mod Example

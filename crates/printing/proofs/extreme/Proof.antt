@@ -1,7 +1,7 @@
 -- `printing::extreme` meets its contract. Assumes nothing.
 use Prim.Native.Nat.{ℕ}
 use mathlib.Core.Path.{sym, ap, _∙_}
-use mathlib.Core.List.{List, _∷_}
+use mathlib.Core.List.{_∷_}
 use Rattle.text.specs.Numbers.{hexDigits}
 use Rattle.floats.specs.declared.Extreme.{Extreme}
 use Rattle.lines.specs.Gathered.{waiting}

@@ -1,7 +1,7 @@
 -- `printing::held` meets its contract. Assumes nothing.
 use Prim.Native.Nat.{ℕ}
 use mathlib.Core.Path.{ap}
-use mathlib.Core.List.{List, [], _∷_}
+use mathlib.Core.List.{[], _∷_}
 use Rattle.text.specs.Numbers.{hexDigits}
 use Rattle.lines.specs.Gathered.{waiting}
 use Rattle.lines.proofs.Gathering.{spelt}

@@ -1,5 +1,5 @@
 -- `printing::point` meets its contract. Assumes nothing.
-use mathlib.Core.Path.{_≡_, sym, _∙_}
+use mathlib.Core.Path.{sym, _∙_}
 use denote.Ref.{now}
 use Rattle.listing.specs.Listed.{Output, output}
 use Rattle.lines.specs.Gathered.{waiting}

@@ -2,7 +2,6 @@
 use mathlib.Core.List.{[], _∷_}
 use Rattle.lines.specs.Gathered.{waiting}
 use Rattle.lines.specs.Written.{decimal}
-use Rattle.printing.specs.Fields.{line}
 use Rattle.printing.specs.Printed.{unreadLine}
 use Rattle.printing.proofs.Putting.{a-line, a-field, no-field}
 use borrow.Author.Needs.{needs}

@@ -1,9 +1,7 @@
-// A line's fields, and lines made byte by byte.
+// A line's fields.
 ghost use mathlib.Core.Path.{_≡_};
 ghost use Prim.Native.Nat.{_+_, _-_, _≤_};
-ghost use lib.Dec.{ltb};
-ghost use lib.ListN.{length, getD, take, drop, set};
-ghost use Rattle.laws.specs.Pick.{pick};
+ghost use lib.ListN.{length, getD, take, drop};
 ghost use Rattle.text.specs.Numbers.{decimalOf, bitsOf, signedOf};
 ghost use Rattle.text.specs.Fields.{space, spacesOf, until, startOf, fieldOf};
 use crate::numbers::Integer;
@@ -111,16 +109,4 @@ pub fn signed_at(line: &[u8], k: usize) -> Integer
     let a = p.from;
     let e = p.to;
     crate::numbers::signed(&line[a..e])
-}
-
-// A byte put behind the first len bytes, if there is room. Returns how many there are then: a full line may have been longer.
-pub fn push(line: &mut [u8], len: usize, byte: u8) -> usize
-    ensures { λ r. ⌜ r ≡ pick (ltb len (length (now (line .entry)))) (len + 1) len ⌝ }
-    ensures { λ _. ⌜ now (line .exit) ≡ set (now (line .entry)) len byte ⌝ }
-{
-    if len < line.len() {
-        line[len] = byte;
-        return len + 1;
-    }
-    len
 }

@@ -1,4 +1,4 @@
-// Lines of text: their fields, the numbers that fields spell, and numbers written. What the programs share.
+// Lines of text: their fields, the numbers that fields spell, and bits as digits. What the programs share.
 //
 // One space parts fields. Decimals have no plus sign, no leading zero and no -0; bits are 16 digits 0-9 and A-F.
 mod fields;
@@ -11,7 +11,6 @@ pub use fields::byte_at;
 pub use fields::decimal_at;
 pub use fields::end;
 pub use fields::field;
-pub use fields::push;
 pub use fields::signed_at;
 pub use fields::spaces;
 pub use numbers::Integer;
@@ -22,6 +21,3 @@ pub use numbers::digit;
 pub use numbers::ill_led;
 pub use numbers::signed;
 pub use written::hex_digits;
-pub use written::write;
-pub use written::write_decimal;
-pub use written::write_difference;

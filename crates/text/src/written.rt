@@ -1,8 +1,7 @@
-// Numbers written to standard output. What is written no contract can say: the digits are made by functions that have one.
+// Bits as hexadecimal digits.
 ghost use mathlib.Core.Path.{_≡_};
 ghost use Prim.Native.Nat.{_%_};
 ghost use Rattle.text.specs.Numbers.{glyphOf, hexDigits};
-use libc::STDOUT_FILENO;
 
 // The digit 0-9 or A-F of a number's last four bits.
 fn glyph(n: u64) -> u8
@@ -25,24 +24,4 @@ pub fn hex_digits(bits: u64) -> [u8; 16]
         rest = rest / 16;
     }
     out
-}
-
-// Writes bytes to standard output.
-pub fn write(bytes: &[u8]) {
-    io::write_all(STDOUT_FILENO, bytes);
-}
-
-// Writes a number in decimal.
-pub fn write_decimal(n: u64) {
-    io::print_decimal(STDOUT_FILENO, n);
-}
-
-// a - b as a signed decimal.
-pub fn write_difference(a: u64, b: u64) {
-    if a < b {
-        write(b"-");
-        write_decimal(b - a);
-    } else {
-        write_decimal(a - b);
-    }
 }

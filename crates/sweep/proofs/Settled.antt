@@ -20,7 +20,7 @@ use Rattle.directory.specs.Calls.{Kept}
 use Rattle.directory.specs.View.{Stores, Laid, setAt, birthAt, agreesb, view}
 use Rattle.directory.specs.declared.Directory.{Directory}
 use Rattle.directory.proofs.Agreed.{slot-sound}
-use Rattle.directory.proofs.Checks.{set-named}
+use Rattle.directory.proofs.Checks.{set-named, birth-named}
 use Rattle.directory.proofs.Laid.{laid-agrees}
 use Rattle.directory.proofs.Laws.{few, slots-right}
 use Rattle.directory.proofs.Leaves.{Good}
@@ -35,10 +35,6 @@ use Rattle.sweep.proofs.Marks.{rank-le, rank-some}
 use Rattle.sweep.proofs.Stayers.{olds, rank-mono, came, came-rise, old-of, only-in}
 use Rattle.sweep.proofs.Whole.{map-at, down-length}
 use Rattle.sweep.proofs.Faithful.{places, place-used, used-swept, last-swept, places-kept, order-swept, set-swept, entry-swept, sweep-faithful}
-
-birth-named : (entries : List (List ℕ)) (x : ℕ) → 1 ≤ x → birthAt entries x ≡ getD (getD entries x []) 0 0
-birth-named entries zero h = absurd (omega arith)
-birth-named entries (suc x) h = refl
 
 at-in : (l : List ℕ) (k : ℕ) → k < length l → In (getD l k 0) l
 at-in [] k h = absurd (omega arith)

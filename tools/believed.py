@@ -6,7 +6,7 @@ Lines are counted without comments, blank lines and imports. Without words: by c
 import collections, glob, os, re, sys
 
 ROOT = os.path.join(os.path.dirname(os.path.abspath(__file__)), "..", "crates")
-# crate, file, functions: README.md, "The calls"; docs/DECISIONS.md, "The calls of document 01 have none"; the index and how a point is shown
+# crate, file, functions: README.md, "The calls"; the calls that these stand on; one series; the index; how a point is shown
 CALLS = """exponential_collection lib configure delta cumulative
 explicit_collection lib configure delta cumulative
 value_map exponential_map start measure measure_by

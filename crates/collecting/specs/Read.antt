@@ -30,8 +30,8 @@ spanOf bounds = record { start = 0; len = length bounds }
 abbrev pub AllFit : List (List Float) → Type 0
 AllFit rows = (x i : ℕ) → fits binary64 (getD (getD rows x []) i nan) ≡ true
 
--- THE LISTER of a histogram kind: of where its cells have rows of f64s, the bounds of its points, a slot's point under the switches, and the
--- point's counts in either store. A point is read back with its bounds, which lie in a store beside the list
+-- THE LISTER of a histogram kind, made of: its cells' rows of f64s, the bounds of its points, a slot's point under the switches, and the point's
+-- counts in either store. A point is read back with its bounds, which lie in a store beside the list
 abbrev pub histogramLister : (S : Store histograms) → (S .Cells → List (List Float)) → List Float → (S .Switches → S .Cells → ℕ → Bool → Point)
     → (pos neg : S .Cells → ℕ → Bool → List ℕ) → Lister S
 histogramLister S floats bounds point pos neg =

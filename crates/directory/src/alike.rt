@@ -72,8 +72,8 @@ fn later(prev: u64, w: u64, sets: &[[u64; 9]], order: &[u32], i: usize, from: us
     lower(&sets[p], &sets[q], from)
 }
 
-// Whether the places name slots whose sets have the same keys, are alike below word `from` and rise from there on. `bits` are some in which
-// sets may differ.
+// Whether the places name slots whose sets have the same keys, are alike below word `from` and rise from there on. The bits in which rows differ
+// are joined to `bits`, which tell of more rows.
 fn pass(used: usize, sets: &[[u64; 9]], order: &[u32], bits: [u64; 9], from: usize) -> bool
     requires { ⌜ (1 ≤ used) × (used < length (now sets)) × (used ≤ length (now order)) × (from ≤ 8)
         × (1 ≤ getD (now order) 0 0) × (getD (now order) 0 0 ≤ used) ⌝ }
@@ -129,8 +129,8 @@ fn pays(size: u64, from: usize) -> bool
     n < size
 }
 
-// Whether the places are right and the sets plain. Few sets are compared as fast one by one. The first word in which the first and the last set
-// differ is the first in which any two do; and unlike sets mostly show in the last slot, at no pass.
+// Whether the places are right and the sets plain. Few sets are compared as fast one by one. Where sets ascend, the first word in which the first
+// and the last of them differ is the first in which any two do. Sets of unlike keys mostly show in the last slot, before any pass.
 pub fn quick(used: usize, sets: &[[u64; 9]], order: &[u32]) -> bool
     requires { ⌜ (used < length (now sets)) × (used ≤ length (now order)) ⌝ }
     ensures { λ r. ⌜ (r ≡ true → placed used (now (sets .entry)) (now (order .entry)) ≡ Plain used) ⌝ }

@@ -1,4 +1,4 @@
-// Whether the directory agrees with itself: a pass over its birth numbers, and one over its places.
+// Whether the directory agrees with itself: a pass over its birth numbers, and one over its places, or two where the quick one says no.
 ghost use mathlib.Core.Path.{_≡_};
 ghost use Prim.Native.Nat.{_+_, _<_, _≤_};
 ghost use lib.ListN.{length};

@@ -30,7 +30,7 @@ summary h = record { min = h .min; max = h .max; sum = h .sum }
 abbrev pub freshHead : Head
 freshHead = headOf 0 start
 
--- document 01's number, as of the exponential kind: the row has a count for each bucket, and the bounds are asked where the series is
+-- document 01's number, as of the exponential kind: 12 unless the row has a count for each bucket; 8 also where the bounds don't pass number 3
 unfoldable pub refusalOf : List Float → Head → List ℕ → Float → ℕ
 refusalOf bounds h xs v =
     refusalBy (leb (bucketCount bounds) (length xs)) (finite v)

@@ -8,17 +8,16 @@ use lib.Ieee.{Float, nan}
 use Rattle.laws.specs.Pick.{pick, _and_}
 use Rattle.rows.specs.Parts.{partAt}
 use Rattle.index.specs.Bins.{finest}
-use Rattle.floats.specs.Starts.{zeroFloat}
 use Rattle.points.specs.Points.{Row}
 use Rattle.points.specs.Values.{Summary}
-use Rattle.points.specs.Figures.{exponential, Settings, Counts, exponentialCounts, Figures}
+use Rattle.points.specs.Figures.{exponential, Settings, settingsOf, Counts, exponentialCounts, Figures}
 use Rattle.exponential.specs.Series.{read}
 use Rattle.exponential_slots.specs.Cells.{Cells, countsIn}
 use Rattle.laws.specs.Counting.{mostCount}
 
 -- The settings of the kind. The zero threshold is 0.0 (docs/DECISIONS.md: a point holds none).
 abbrev pub settings : ℕ → ℕ → Bool → Bool → Settings
-settings size top extremes sums = record { kind = exponential size top; extremes = extremes; sums = sums; threshold = zeroFloat }
+settings size top extremes sums = settingsOf (exponential size top) extremes sums
 
 -- the words are in shape: a count that is a u64, a level up to the finest, rows that lie within the slot's parts
 unfoldable pub shaped : ℕ → List ℕ → Bool

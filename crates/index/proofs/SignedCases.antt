@@ -1,14 +1,13 @@
 -- What the signed answers are, by the tests of the code. Assumes nothing.
 use mathlib.Core.Path.{_≡_, refl}
 use mathlib.Core.Bool.{true, false}
-use Prim.Native.Nat.{ℕ, _+_, _^_, _≤_, _<_}
+use Prim.Native.Nat.{ℕ, _≤_, _<_}
 use borrow.Author.Tests.{le-leb, lt-leb, lt-ltb, le-ltb}
 use lib.IntN.{ℤ, pos, negsuc, natAbs, _+ℤ_}
-use lib.Signed.{ltZ, leZ}
+use lib.Signed.{ltZ}
 use Rattle.laws.specs.Pick.{pick}
 use Rattle.index.specs.Bins.{finest, endBin, scaleOf, indexOf}
 use Rattle.index.specs.Signed.{levelAnswer, scaleAnswer, indexAnswer}
-use Rattle.index.specs.Inner.{binAnswer}
 use Rattle.index.specs.declared.signed.Natural.the-variants as N
 use Rattle.index.specs.declared.signed.Integer.the-variants as I
 
@@ -45,20 +44,3 @@ module _ (level : ℕ) where
   pub index-is : (bin : ℕ) → level ≤ finest → bin < endBin level → indexAnswer level bin ≡ I.Is (indexOf level bin)
   unfolding indexAnswer pick
   index-is bin h g = simp (le-leb level finest h) (simp (lt-ltb bin (endBin level) g) refl)
-
-  pub bin-none : (index : ℤ) → finest < level → binAnswer level index ≡ N.OutOfRange
-  unfolding binAnswer pick
-  bin-none index h = simp (lt-leb level finest h) refl
-
-  pub bin-high : (index : ℤ) → level ≤ finest → leZ (pos (2 ^ level)) index ≡ true → binAnswer level index ≡ N.OutOfRange
-  unfolding binAnswer pick
-  bin-high index h g = simp (le-leb level finest h) (simp g refl)
-
-  pub bin-low : (index : ℤ) → level ≤ finest → leZ (pos (2 ^ level)) index ≡ false → ltZ (index +ℤ pos (2 ^ (level + 1))) (pos 0) ≡ true → binAnswer level index ≡ N.OutOfRange
-  unfolding binAnswer pick
-  bin-low index h g l = simp (le-leb level finest h) (simp g (simp l refl))
-
-  pub bin-is : (index : ℤ) → level ≤ finest → leZ (pos (2 ^ level)) index ≡ false → ltZ (index +ℤ pos (2 ^ (level + 1))) (pos 0) ≡ false
-      → binAnswer level index ≡ N.Is (natAbs (index +ℤ pos (2 ^ (level + 1))))
-  unfolding binAnswer pick
-  bin-is index h g l = simp (le-leb level finest h) (simp g (simp l refl))

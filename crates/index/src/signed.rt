@@ -1,7 +1,7 @@
 // Scales and signed bucket indices, as callers and points hold them, beside levels and bins.
 ghost use mathlib.Core.Path.{_≡_};
 ghost use Rattle.index.specs.Signed.{levelAnswer, scaleAnswer, indexAnswer, valueIndex};
-ghost use Rattle.index.specs.Inner.{binAnswer, binIndex, signedAt};
+ghost use Rattle.index.specs.Inner.{binIndex, signedAt};
 
 // A whole number, or none where what was asked for is out of range.
 pub enum Natural {
@@ -56,23 +56,6 @@ pub fn index_of(level: u32, bin: u32) -> Integer
         return Integer::OutOfRange;
     }
     Integer::Is((bin as i32) - ((2u32 << level) as i32))
-}
-
-// The bin of an index at a level, OutOfRange where the level has no such index.
-pub fn bin_of(level: u32, index: i32) -> Natural
-    ensures { λ r. ⌜ r ≡ binAnswer level index ⌝ }
-{
-    if crate::FINEST < level {
-        return Natural::OutOfRange;
-    }
-    if ((1u32 << level) as i32) <= index {
-        return Natural::OutOfRange;
-    }
-    let bin = index + ((2u32 << level) as i32);
-    if bin < 0 {
-        return Natural::OutOfRange;
-    }
-    Natural::Is(bin as u32)
 }
 
 // The sign of v and its index at a scale, the Data Model's; NoScale outside -10 to 10, NotFinite, Zero.

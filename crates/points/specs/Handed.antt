@@ -103,8 +103,8 @@ sizeAsked size (exponentialCounts p) c = sizePasses size
 sizeAsked size (explicitCounts b p) (exponentialCounts q) = sizePasses size
 sizeAsked size (explicitCounts b p) (explicitCounts c q) = true
 
--- "Merging: 1, 8, 11, 9, 10": the number but for 10, which the lent output decides; 0 if none. `there`: all that the points are read from is
--- there, or it is 8. "scale is -10 to max_scale (10 in a merge)"
+-- "Merging: 1, 8, 11, 9, 10": the number but for 10, which the lent output decides; 0 if none. `there`: what the points are read from is a
+-- point's, or it is 8. "scale is -10 to max_scale (10 in a merge)"
 unfoldable pub unmergeable : ℕ → Bool → Handed → Handed → ℕ
 unmergeable size there p q =
     let ok : Handed → Bool = handedAgrees size finest (lowestBin finest) in

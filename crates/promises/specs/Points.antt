@@ -77,7 +77,7 @@ AnyGrouping =
     (size : ℕ) (s : Settings) (t u : Tree Stored) (x y : Stored) → List·Permᴰ (leaves t) (leaves u) → All (λ l. Of s (handedIn l)) (leaves t)
     → Groups size t x → Groups size u y → Same (handedIn x) (handedIn y)
 
--- and all are accepted, of points that agree, under a max_size: "The premise is that the lent output suffices .. that the counts together stay below
+-- and all are accepted, of points that agree, under a max_size that passes number 1: "The premise is that the lent output suffices .. that the counts together stay below
 -- 2^64"
 abbrev pub EveryGrouping : Type 0
 EveryGrouping =

@@ -81,7 +81,7 @@ module _ (a b : List ℕ) (r : ℕ) (p : Parted a b 0 r) where
 
 -- rows that are alike below a word, and part from there on
 pub parted-whole : (a b : List ℕ) (from r : ℕ) → Parted a b from r → ((k : ℕ) → k < from → getD a k 0 ≡ getD b k 0) → Parted a b 0 r
-parted-whole a b from r p e = record { most = p .most; alike = λ j g h. go j h (leb from j) refl; apart = p .apart }
+parted-whole a b from r p e = record { least = omega arith; most = p .most; alike = λ j g h. go j h (leb from j) refl; apart = p .apart }
   where
     go : (j : ℕ) → j < r → (t : Bool) → leb from j ≡ t → getD a j 0 ≡ getD b j 0
     go j h true q = p .alike j (leb-true from j q) h
@@ -90,7 +90,7 @@ parted-whole a b from r p e = record { most = p .most; alike = λ j g h. go j h 
 -- rows that are alike below a word that decides
 pub part-first : (a b : List ℕ) (r : ℕ) → r < size a → size a ≤ 8 → r < size b → ((k : ℕ) → k < r → getD a k 0 ≡ getD b k 0) → getD a r 0 < getD b r 0
     → cmp (setOf a) (setOf b) ≡ Ordering·lt
-part-first a b r h few k e l = part-low a b r (record { most = omega arith; alike = λ j g u. e j u; apart = λ u q. absurd (omega arith) }) h k l
+part-first a b r h few k e l = part-low a b r (record { least = omega arith; most = omega arith; alike = λ j g u. e j u; apart = λ u q. absurd (omega arith) }) h k l
 
 -- b sound and after a
 module _ (a b : List ℕ) where

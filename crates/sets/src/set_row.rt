@@ -9,7 +9,7 @@ ghost use Rattle.sets.specs.All.{allb};
 ghost use Rattle.sets.specs.Rows.{size, setOf, below, keyAt, soundb};
 ghost use Rattle.sets.specs.Inner.{way, Parted};
 
-// The first word from `from` on in which two rows differ, 8 if none does: at most 8 steps, which the compiler writes out from word 0.
+// The first word from `from` on in which two rows differ, 8 if none does.
 pub fn parting(a: &[u64; 9], b: &[u64; 9], from: usize) -> usize
     requires { ⌜ from ≤ 8 ⌝ }
     ensures { λ r. ⌜ Parted (now (a .entry)) (now (b .entry)) from r ⌝ }

@@ -55,7 +55,7 @@ pub record Room : Type 0 where
   pub pos : ℕ
   pub neg : ℕ
 
--- so many in all
+-- f of every element, added up
 abbrev pub inAll : {A : Type 0} → (A → ℕ) → List A → ℕ
 inAll f [] = 0
 inAll f (x ∷ l) = f x + inAll f l

@@ -5,9 +5,8 @@ use mathlib.Core.List.{List, [], _∷_}
 use lib.ListN.{length}
 use lib.Ieee.{Float}
 use Rattle.laws.specs.Pick.{pick}
-use Rattle.floats.specs.Starts.{zeroFloat}
 use Rattle.points.specs.Explicit.{boundsPass, bucketCount}
-use Rattle.points.specs.Figures.{explicit}
+use Rattle.points.specs.Figures.{explicit, settingsOf}
 use Rattle.kinds.specs.Histograms.{histograms}
 use Rattle.explicit_slots.specs.Cells.{Cells, Room, seriesAt, recordedAt}
 use Rattle.value_map.specs.Store.{Store, lengthsSuffice}
@@ -20,7 +19,7 @@ abbrev pub explicitStore : List Float → Store histograms
 explicitStore bounds =
     record {
       Switches = Bool × Bool;
-      settings = λ w. record { kind = explicit bounds; extremes = w .0; sums = w .1; threshold = zeroFloat };
+      settings = λ w. settingsOf (explicit bounds) (w .0) (w .1);
       unset = pick (boundsPass bounds) 0 3;
       Cells = Cells;
       suffices = cellsSuffice bounds;

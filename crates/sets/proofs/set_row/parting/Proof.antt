@@ -10,18 +10,18 @@ use Rattle.sets.proofs.set_row.parting.Statement.{statement}
 use Rattle.sets.proofs.set_row.parting.Tie as tie
 
 abbrev Inv-loop : tie.InvT-loop
-Inv-loop a b from i₀ i = (i ≤ 8) × ((j : ℕ) → from ≤ j → j < i → getD a j 0 ≡ getD b j 0)
+Inv-loop a b from i₀ i = (from ≤ i) × (i ≤ 8) × ((j : ℕ) → from ≤ j → j < i → getD a j 0 ≡ getD b j 0)
 
 abbrev μ-loop : tie.MeasureT-loop
 μ-loop a b from i₀ i = 8 - i
 
 loop-holds : tie.Need-loop-holds Inv-loop μ-loop
-loop-holds c = (c .pre, (λ j g h. absurd (omega arith)))
+loop-holds c = (omega arith, c .pre, (λ j g h. absurd (omega arith)))
 
 returns : tie.Need-returns Inv-loop μ-loop
 returns c =
     let l = c .before .before .before .before in
-    record { most = l .loop .inv .0; alike = l .loop .inv .1; apart = λ h. c .if1 .taken }
+    record { least = l .loop .inv .0; most = l .loop .inv .1; alike = l .loop .inv .2; apart = λ h. c .if1 .taken }
 
 loop-again : tie.Need-loop-again Inv-loop μ-loop
 loop-again c =
@@ -30,12 +30,12 @@ loop-again c =
     let s = l .before in
     let a = s .args .a .now in
     let b = s .args .b .now in
-    (omega arith, (λ j g h. ⊎-elim (λ e. subst (λ (k : ℕ). getD a k 0 ≡ getD b k 0) (sym e) (c .if1 .left)) (λ u. l .loop .inv .1 j g u) (eq-or-lt-of-le (let w : j ≤ l .loop .i = omega arith in w))))
+    (omega (arith, l .loop .inv .0), omega arith, (λ j g h. ⊎-elim (λ e. subst (λ (k : ℕ). getD a k 0 ≡ getD b k 0) (sym e) (c .if1 .left)) (λ u. l .loop .inv .2 j g u) (eq-or-lt-of-le (let w : j ≤ l .loop .i = omega arith in w))))
 
 returns-2 : tie.Need-returns-2 Inv-loop μ-loop
 returns-2 c =
     let l = c .before in
-    record { most = omega arith; alike = λ j g h. l .loop .inv .1 j g (omega arith); apart = λ h. absurd (omega arith) }
+    record { least = l .before .pre; most = omega arith; alike = λ j g h. l .loop .inv .2 j g (omega arith); apart = λ h. absurd (omega arith) }
 
 pub parting-spec : {M : Type 1} → statement M
 parting-spec =

@@ -20,7 +20,7 @@ fn answer(text: &mut Block, n: usize, bits: u64, scale: i32) -> usize {
     }
 }
 
-// What a line comes to.
+// The bucket index that a line asks for, or `?`, behind n bytes of text; how many there are then.
 fn index_of(text: &mut Block, n: usize, line: &[u8]) -> usize {
     if text::spaces(line) != 1 {
         return output::byte(text, n, b'?');

@@ -1,7 +1,7 @@
 // Points of a list printed as lines, for the gauge and the replayed scripts (docs/REPLAY.md):
 //
-//     p SET COUNT ZEROS SCALE MIN MAX SUM POSITIVE NEGATIVE      exponential
-//     q SET COUNT MIN MAX SUM BUCKETS BOUNDS                     explicit
+//     p SET COUNT ZEROCOUNT SCALE MIN MAX SUM POSITIVE NEGATIVE      exponential
+//     q SET COUNT MIN MAX SUM BUCKETS BOUNDS                         explicit
 //
 // Each function puts its text behind the n bytes that are there, and says how many there are then.
 ghost use mathlib.Core.Path.{_≡_};
@@ -305,7 +305,7 @@ fn head(text: &mut Block, n: usize, start: u64, time: u64, many: u64) -> usize
     output::byte(text, d, b'\n')
 }
 
-// Prints that the line of a number can't be followed.
+// Prints `?` and the number of a line of the input that can't be read.
 pub fn unread(text: &mut Block, n: usize, line: u64) -> usize
     ensures { λ r. ⌜ waiting r (text .exit) ≡ unreadLine line behind waiting n (text .entry) ⌝ }
 {

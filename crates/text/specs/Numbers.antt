@@ -1,4 +1,3 @@
--- BETWEEN OUR OWN CRATES: serves inner contracts and proofs; nobody needs it to believe the public calls or the theorems.
 -- How numbers are spelled. Document 01: 'decimals have no plus sign, leading zero or -0; bits use 0-9 and A-F', and 'f64 bits are
 -- written as 16 hexadecimal digits'. Bytes are ASCII. Assumes nothing.
 use Prim.Native.Nat.{ℕ, zero, suc, _+_, _-_, _*_, _/_, _%_, _^_}
@@ -23,7 +22,7 @@ spelledFrom base x [] = N.Is x
 spelledFrom base x (b ∷ bs) =
     pick (leb base (digitOf b)) N.None (pick (leb (2 ^ 64) (x * base + digitOf b)) N.None (spelledFrom base (x * base + digitOf b) bs))
 
--- no digit at all, or a zero before others
+-- no byte, or a zero before others
 unfoldable pub illLed : List ℕ → Bool
 illLed bs = pick (eqb (length bs) 0) true (pick (eqb (length bs) 1) false (eqb (getD bs 0 0) 48))
 
@@ -33,7 +32,7 @@ decimalOf bs = pick (illLed bs) N.None (spelledFrom 10 0 bs)
 unfoldable pub bitsOf : List ℕ → Natural
 bitsOf bs = pick (eqb (length bs) 16) (spelledFrom 16 0 bs) N.None
 
--- a decimal, or a minus sign (byte 45) and a decimal other than 0: whether there is a sign, and the decimal
+-- whether a minus sign, the byte 45, stands first
 unfoldable pub hasMinus : List ℕ → Bool
 hasMinus bs = pick (eqb (length bs) 0) false (eqb (getD bs 0 0) 45)
 
@@ -45,6 +44,7 @@ abbrev pub withoutMinus : Natural → Integer
 withoutMinus N.None = I.None
 withoutMinus (N.Is x) = I.Is false x
 
+-- a decimal, or a minus sign and a decimal other than 0: whether there is a sign, and the decimal
 unfoldable pub signedOf : List ℕ → Integer
 signedOf bs = pick (hasMinus bs) (withMinus (decimalOf (drop 1 bs))) (withoutMinus (decimalOf bs))
 

@@ -22,7 +22,7 @@ areHex (b ∷ bs) = pick (isDecimal b) (areHex bs) (pick (isLetter b) (areHex bs
 unfoldable pub pairOf : ℕ → ℕ → ℕ
 pairOf a b = digitOf a * 16 + digitOf b
 
--- the first k bytes are pairs of digits
+-- each of the first k bytes of `out` is the number that two digits of `bs` spell: byte 0 the first two, byte 1 the next two, and so on
 unfoldable pub Paired : List ℕ → ℕ → List ℕ → Type 0
 Paired bs k out = (j : ℕ) → j < k → getD out j 0 ≡ pairOf (getD bs (2 * j) 0) (getD bs (2 * j + 1) 0)
 

@@ -19,5 +19,4 @@ pub use numbers::bits;
 pub use numbers::decimal;
 pub use numbers::digit;
 pub use numbers::ill_led;
-pub use numbers::signed;
 pub use written::hex_digits;

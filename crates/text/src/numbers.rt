@@ -51,7 +51,7 @@ fn spelled(bytes: &[u8]) -> Natural
     Natural::Is(x)
 }
 
-// Whether there is no digit, or a zero before others.
+// Whether there is no byte, or a zero before others.
 pub fn ill_led(bytes: &[u8]) -> bool
     ensures { λ r. ⌜ r ≡ illLed (now (bytes .entry)) ⌝ }
 {
@@ -102,7 +102,8 @@ fn still(all: bool, decimal: bool, letter: bool) -> bool
     false
 }
 
-// Whether 16 bytes are hexadecimal digits. Each is asked both questions, so that the compiler asks them of all at once.
+// Whether 16 bytes are hexadecimal digits. Both tests are made of each byte and none ends the loop, so that the compiler can make them of all
+// bytes at once.
 fn are_hex(bytes: &[u8]) -> bool
     requires { ⌜ length (now bytes) ≡ 16 ⌝ }
     ensures { λ r. ⌜ r ≡ areHex (now (bytes .entry)) ⌝ }
@@ -132,7 +133,7 @@ fn pair(a: u8, b: u8) -> u8
     value(a) * 16 + value(b)
 }
 
-// 16 hexadecimal digits as eight bytes: of these the compiler makes all at once.
+// 16 hexadecimal digits as eight bytes, two digits to a byte. No byte depends on another, so that the compiler can compute all of them at once.
 fn pairs(bytes: &[u8]) -> [u8; 8]
     requires { ⌜ (length (now bytes) ≡ 16) × (areHex (now bytes) ≡ true) ⌝ }
     ensures { λ r. ⌜ Paired (now (bytes .entry)) 8 r ⌝ }

@@ -5,3 +5,4 @@ pub mod Colons
 pub mod Gathering
 pub mod Digits
 pub mod Signs
+pub mod Newlines

@@ -1,7 +1,6 @@
--- BETWEEN OUR OWN CRATES: serves inner contracts and proofs; nobody needs it to believe the public calls or the theorems.
 -- What a set's text spells. Document 01: '`-` is the empty set. Other sets are KEY:VALUE joined by commas', 'decimals have no plus sign,
 -- leading zero or -0'. Keys and values are u32. Bytes are ASCII: `-` is 45, `,` 44, `:` 58. Assumes nothing.
-use Prim.Native.Nat.{ℕ, zero, suc, _+_, _^_}
+use Prim.Native.Nat.{ℕ, _+_, _^_}
 use mathlib.Core.Bool.{Bool}
 use mathlib.Core.List.{List, [], _∷_}
 use lib.Dec.{ltb, eqb}
@@ -35,15 +34,17 @@ bothOf (W.Is k) (W.Is v) = A.Is k v
 unfoldable pub attributeOf : List ℕ → Attribute
 attributeOf bs = bothOf (wordOf (until 58 bs)) (wordOf (drop (length (until 58 bs) + 1) bs))
 
--- the attributes that parts of a text spell, the parts between its bytes `,`
+-- parts of a text with one byte more before the first
 abbrev pub firstMore : ℕ → List (List ℕ) → List (List ℕ)
 firstMore b [] = []
 firstMore b (p ∷ ps) = (b ∷ p) ∷ ps
 
+-- the parts of a text between its commas
 unfoldable pub parts : List ℕ → List (List ℕ)
 parts [] = [] ∷ []
 parts (b ∷ bs) = pick (eqb b 44) ([] ∷ parts bs) (firstMore b (parts bs))
 
+-- the attributes that the parts spell
 unfoldable pub attributesOf : List (List ℕ) → List Attribute
 attributesOf [] = []
 attributesOf (p ∷ ps) = attributeOf p ∷ attributesOf ps

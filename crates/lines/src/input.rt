@@ -1,10 +1,12 @@
 // Lines from blocks of the input.
 ghost use mathlib.Core.Path.{_≡_};
-ghost use mathlib.Core.Bool.{false};
+ghost use mathlib.Core.Bool.{true, false};
 ghost use mathlib.Core.Logic.{_⊎_};
-ghost use Prim.Native.Nat.{_+_, _≤_};
+ghost use Prim.Native.Nat.{min, _+_, _≤_};
+ghost use lib.Dec.{eqb};
 ghost use lib.ListN.{take};
-ghost use Rattle.lines.specs.Reading.{Within};
+ghost use Rattle.laws.specs.Pick.{pick};
+ghost use Rattle.lines.specs.Reading.{Within, newlineIn, newlineOf, copied, taken, takenLine, NextLine};
 use crate::Block;
 use crate::Line;
 use libc::STDIN_FILENO;
@@ -36,22 +38,25 @@ pub fn first() -> Ports
 
 // The lesser of two numbers.
 fn lesser(a: usize, b: usize) -> usize
-    ensures { λ r. ⌜ (r ≤ a) × (r ≤ b) ⌝ }
+    ensures { λ r. ⌜ r ≡ min a b ⌝ }
 {
     if a < b { a } else { b }
 }
 
 // Whether there is a newline, given whether there was one before, and the next byte.
-fn or_newline(found: bool, byte: u8) -> bool {
+fn or_newline(found: bool, byte: u8) -> bool
+    ensures { λ r. ⌜ r ≡ pick (eqb byte 10) true found ⌝ }
+{
     if byte == b'\n' {
         return true;
     }
     found
 }
 
-// Whether one of eight bytes of the block is a newline: the compiler asks all at once.
+// Whether one of eight bytes of the block is a newline. The loop goes on behind a newline, so that the compiler can test all eight at once.
 fn in_eight(block: &Block, from: usize) -> bool
     requires { ⌜ from + 8 ≤ 65536 ⌝ }
+    ensures { λ r. ⌜ r ≡ newlineIn (now (block .entry)) from 8 ⌝ }
 {
     let mut found = false;
     let mut i: usize = 0;
@@ -65,7 +70,7 @@ fn in_eight(block: &Block, from: usize) -> bool
 // How far there is no newline among the block's bytes from a place on, eight by eight.
 fn skipped(block: &Block, from: usize, end: usize) -> usize
     requires { ⌜ (from ≤ end) × (end ≤ 65536) ⌝ }
-    ensures { λ r. ⌜ (from ≤ r) × (r ≤ end) ⌝ }
+    ensures { λ r. ⌜ (from ≤ r) × (r ≤ end) × (newlineOf (now (block .entry)) r end ≡ newlineOf (now (block .entry)) from end) ⌝ }
 {
     let mut i = from;
     while i + 8 <= end && !in_eight(block, i) {
@@ -77,7 +82,7 @@ fn skipped(block: &Block, from: usize, end: usize) -> usize
 // Where the next newline stands among the block's bytes from a place to an end; the end where there is none.
 fn newline(block: &Block, from: usize, end: usize) -> usize
     requires { ⌜ (from ≤ end) × (end ≤ 65536) ⌝ }
-    ensures { λ r. ⌜ (from ≤ r) × (r ≤ end) ⌝ }
+    ensures { λ r. ⌜ (from ≤ r) × (r ≤ end) × (r ≡ newlineOf (now (block .entry)) from end) ⌝ }
 {
     let mut i = skipped(block, from, end);
     while i < end {
@@ -92,6 +97,7 @@ fn newline(block: &Block, from: usize, end: usize) -> usize
 // Copies n bytes of the block behind the first len of the line.
 fn copy(block: &Block, from: usize, line: &mut Line, len: usize, n: usize)
     requires { ⌜ (from + n ≤ 65536) × (len + n ≤ 256) ⌝ }
+    ensures { λ r. ⌜ now (line .exit) ≡ copied (now (line .entry)) len (now (block .entry)) from n ⌝ }
 {
     let mut i: usize = 0;
     while i < n {
@@ -102,7 +108,8 @@ fn copy(block: &Block, from: usize, line: &mut Line, len: usize, n: usize)
 
 // Goes on with the line to its end or the block's. What a line has above 256 bytes is left out.
 fn take(p: Ports, block: &Block, line: &mut Line) -> Ports
-    ensures { λ r. ⌜ (Within (r .at) (r .end) (r .len)) × (r .waiting ≡ p .waiting) ⌝ }
+    ensures { λ r. ⌜ (Within (r .at) (r .end) (r .len)) × (r .waiting ≡ p .waiting)
+        × (r ≡ taken p (now (block .entry))) × (now (line .exit) ≡ takenLine p (now (block .entry)) (now (line .entry))) ⌝ }
 {
     let end = lesser(p.end, 65536);
     let at = lesser(p.at, end);
@@ -136,7 +143,8 @@ fn fill(block: &mut Block) -> usize {
     io::count(got, block)
 }
 
-// Goes on with the line in a new block; the text that waits is written first, so that whoever asks has the answers before.
+// Goes on with the line in a new block. The text that waits is written before the read, which may wait for input: whoever sends that input may want
+// to see the answers to the lines before it.
 fn go_on(p: Ports, block: &mut Block, line: &mut Line, text: &Block) -> Ports
     requires { ⌜ p .len ≤ 256 ⌝ }
     ensures { λ r. ⌜ (Within (r .at) (r .end) (r .len)) × (r .waiting ≡ 0) ⌝ }
@@ -167,7 +175,8 @@ fn go_on(p: Ports, block: &mut Block, line: &mut Line, text: &Block) -> Ports
 // Reads the next line. At the input's end it has no bytes where there was none.
 // A proved loop has to end, and nothing says that the input does: no run uses up the turns.
 pub fn next(p: Ports, block: &mut Block, line: &mut Line, text: &Block) -> Ports
-    ensures { λ r. ⌜ (Within (r .at) (r .end) (r .len)) × ((r .waiting ≡ p .waiting) ⊎ (r .waiting ≡ 0)) ⌝ }
+    ensures { λ r. ⌜ (Within (r .at) (r .end) (r .len)) × ((r .waiting ≡ p .waiting) ⊎ (r .waiting ≡ 0))
+        × (NextLine p (now (block .entry)) (now (line .entry)) r (now (block .exit)) (now (line .exit))) ⌝ }
 {
     let fresh = Ports {
         at: p.at,

@@ -15,6 +15,10 @@ ghost use Rattle.exponential.specs.Inner.{Laid, rowAgrees, halved, addsU
 ghost use Rattle.exponential.specs.Series.{refusalOf, said, outcome, recording};
 use rows::Row;
 
+// The least and the greatest max_size that can be configured.
+pub const LEAST_SIZE: usize = 3;
+pub const MOST_SIZE: usize = 160;
+
 pub struct Counts {
     pub count: u64,
     pub zeros: u64,
@@ -172,10 +176,10 @@ fn adds_up(c: Counts, pos: &[u64], neg: &[u64]) -> bool
 pub fn size_passes(size: usize) -> bool
     ensures { λ r. ⌜ r ≡ sizePasses size ⌝ }
 {
-    if size < 3 {
+    if size < LEAST_SIZE {
         return false;
     }
-    size <= 160
+    size <= MOST_SIZE
 }
 
 // Whether max_size, greatest level, counts and rows agree: `agrees`. It refuses nothing.

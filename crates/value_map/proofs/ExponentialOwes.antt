@@ -8,11 +8,11 @@ use lib.Dec.{leb}
 use lib.ListN.{length}
 use lib.Ieee.{Float}
 use borrow.Author.Tests.{le-leb, lt-leb}
-use Rattle.laws.specs.Pick.{pick}
+use Rattle.laws.specs.Pick.{pick, _and_}
 use Rattle.laws.proofs.Bools.{pick-left, pick-then}
 use Rattle.laws.proofs.Cases.{true-not-false}
 use Rattle.index.specs.Bins.{finest}
-use Rattle.points.specs.Figures.{exponential, sizePasses}
+use Rattle.points.specs.Figures.{exponential, mostSize, sizePasses}
 use Rattle.kinds.specs.Histograms as Kinds
 use Rattle.exponential_slots.specs.Cells.{Cells, Room}
 use Rattle.exponential_slots.proofs.Written as Written
@@ -25,9 +25,13 @@ use Rattle.value_map.proofs.Products.{entry-in, counts-in}
 -- ---- max_size and the greatest level
 
 module _ (size top : ℕ) where
-  pub unset-1 : sizePasses size ≡ false → 1 ≡ unset size top
-  unfolding unset pick
-  unset-1 h = rw h
+  pub unset-low : size < 3 → 1 ≡ unset size top
+  unfolding unset pick _and_
+  unset-low h = rw (lt-leb 3 size h)
+
+  pub unset-high : 3 ≤ size → mostSize < size → 1 ≡ unset size top
+  unfolding unset pick _and_
+  unset-high a h = rw (le-leb 3 size a, lt-leb size mostSize h)
 
   module _ (e : sizePasses size ≡ true) where
     pub unset-2 : finest < top → 2 ≡ unset size top

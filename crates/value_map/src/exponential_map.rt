@@ -20,7 +20,11 @@ use seats::room::lesser;
 pub fn unset_of(size: u32, top: u32) -> u8
     ensures { λ r. ⌜ r ≡ unset size top ⌝ }
 {
-    if !exponential::size_passes(size as usize) {
+    let n = size as usize;
+    if n < exponential::LEAST_SIZE {
+        return 1;
+    }
+    if exponential::MOST_SIZE < n {
         return 1;
     }
     if index::FINEST < top {

@@ -2,7 +2,7 @@
 use Prim.Native.Nat.{ℕ, _+_, _*_, _/_, _%_, _≤_, _<_}
 use mathlib.Core.Path.{_≡_, refl, sym, _∙_}
 use mathlib.Core.Logic.{⊎-elim}
-use mathlib.Core.Bool.{Bool, true, false}
+use mathlib.Core.Bool.{Bool, true, false, _&&_, and-false}
 use mathlib.Core.List.{List, [], _∷_}
 use native.Mathlib.Omega.{arith}
 use lib.Dec.{leb, eqb}
@@ -11,7 +11,7 @@ use lib.Seq.{length-take-le}
 use lib.Ieee.{Float, nan, inf, fin, lt, isNan}
 use lib.Ieee.Scale.{finite}
 use borrow.Author.Tests.{leb-true, le-leb, lt-leb, ne-eqb, eqb-true, eqb-false}
-use Rattle.laws.specs.Pick.{pick, _and_}
+use Rattle.laws.specs.Pick.{pick}
 use Rattle.laws.specs.Counting.{total, mostCount}
 use Rattle.laws.proofs.Bools.{flag, not-both, and-left, and-right}
 use Rattle.points.specs.Explicit.{noNan, rising, boundsPass, bucketCount, Buckets, bucketsAgree}
@@ -19,7 +19,6 @@ use Rattle.points.proofs.Explicit.{BucketsOk, buckets-say, buckets-agree}
 use Rattle.exponential.proofs.Facts.{halves-same, halves-low, halves-high, eqb-iff}
 use Rattle.explicit.specs.declared.Head.{Head}
 use Rattle.explicit.specs.Series.{bucketsIn, refusalOf}
-use Rattle.explicit.proofs.Turns.{and-false}
 
 -- ---- bounds
 
@@ -37,27 +36,27 @@ above-nothing b (fin s m e) h = refl
 
 -- rising bounds have no NaN behind the first
 rising-numbers : (b : Float) (bs : List Float) → isNan b ≡ false → rising (b ∷ bs) ≡ true → noNan (b ∷ bs) ≡ true
-unfolding noNan rising _and_
+unfolding noNan rising
 rising-numbers b [] n h = rw n refl
 rising-numbers b (c ∷ bs) n h =
     rw n (rising-numbers c bs (above-nothing b c (and-left (lt b c) (rising (c ∷ bs)) h)) (and-right (lt b c) (rising (c ∷ bs)) h))
 
 pub too-many : (bs : List Float) → 159 < length bs → false ≡ boundsPass bs
-unfolding boundsPass _and_
+unfolding boundsPass
 too-many bs h = rw (lt-leb (length bs) 159 h) refl
 
 pub no-bounds : (bs : List Float) → length bs ≡ 0 → true ≡ boundsPass bs
-unfolding boundsPass noNan rising _and_
+unfolding boundsPass noNan rising
 no-bounds [] h = refl
 no-bounds (b ∷ bs) h = absurd (omega arith)
 
 pub nan-first : (bs : List Float) → length bs ≤ 159 → (length bs ≡ 0 → ⊥) → isNan (getD bs 0 nan) ≡ true → false ≡ boundsPass bs
-unfolding boundsPass noNan _and_
+unfolding boundsPass noNan
 nan-first [] h p n = absurd (p refl)
 nan-first (b ∷ bs) h p n = rw (le-leb (length (b ∷ bs)) 159 h, n) refl
 
 pub by-rising : (bs : List Float) → length bs ≤ 159 → (length bs ≡ 0 → ⊥) → isNan (getD bs 0 nan) ≡ false → rising bs ≡ boundsPass bs
-unfolding boundsPass _and_
+unfolding boundsPass
 by-rising [] h p n = absurd (p refl)
 by-rising (b ∷ bs) h p n =
     ⊎-elim
@@ -67,7 +66,7 @@ by-rising (b ∷ bs) h p n =
 
 pub few : (bs : List Float) → boundsPass bs ≡ true → length bs ≤ 159
 unfolding boundsPass
-few bs h = leb-true (length bs) 159 (and-left (leb (length bs) 159) (noNan bs and rising bs) h)
+few bs h = leb-true (length bs) 159 (and-left (leb (length bs) 159) (noNan bs && rising bs) h)
 
 pub count-few : (bs : List Float) → boundsPass bs ≡ true → bucketCount bs ≤ 160
 count-few [] h = omega arith
@@ -123,22 +122,22 @@ module _ (bs : List Float) (h : Head) (xs : List ℕ) (v : Float) where
 
     module _ (f : finite v ≡ true) where
       pub disagrees : a? ≡ false → 8 ≡ refusalOf bs h xs v
-      unfolding refusalOf pick _and_
+      unfolding refusalOf pick
       disagrees a = rw (le-leb (bucketCount bs) (length xs) p, f, a) refl
 
       module _ (a : a? ≡ true) where
         pub bad-min : finite (h .min) ≡ false → 8 ≡ refusalOf bs h xs v
-        unfolding refusalOf pick _and_
+        unfolding refusalOf pick
         bad-min m = rw (le-leb (bucketCount bs) (length xs) p, f, a, m) refl
 
         module _ (m : finite (h .min) ≡ true) where
           pub bad-max : finite (h .max) ≡ false → 8 ≡ refusalOf bs h xs v
-          unfolding refusalOf pick _and_
+          unfolding refusalOf pick
           bad-max n = rw (le-leb (bucketCount bs) (length xs) p, f, a, m, n) refl
 
           module _ (n : finite (h .max) ≡ true) where
             by-count : pick (leb mostCount (h .count)) 9 0 ≡ refusalOf bs h xs v
-            unfolding refusalOf pick _and_
+            unfolding refusalOf pick
             by-count = rw (le-leb (bucketCount bs) (length xs) p, f, a, m, n) refl
 
             pub full : mostCount ≤ h .count → 9 ≡ refusalOf bs h xs v

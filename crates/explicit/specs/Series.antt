@@ -1,11 +1,12 @@
 -- A series of the explicit kind in a head and a lent row: what it holds, what recording does. Assumes nothing.
 use Prim.Native.Nat.{ℕ}
+use mathlib.Core.Bool.{_&&_}
 use mathlib.Core.List.{List}
 use lib.Dec.{leb, eqb}
 use lib.ListN.{length, take, replicate}
 use lib.Ieee.{Float}
 use lib.Ieee.Scale.{finite}
-use Rattle.laws.specs.Pick.{pick, _and_}
+use Rattle.laws.specs.Pick.{pick}
 use Rattle.laws.specs.Said.{Said, refusal, success}
 use Rattle.laws.specs.Over.{over}
 use Rattle.exponential.specs.Series.{refusalBy}
@@ -34,7 +35,7 @@ freshHead = headOf 0 start
 unfoldable pub refusalOf : List Float → Head → List ℕ → Float → ℕ
 refusalOf bounds h xs v =
     refusalBy (leb (bucketCount bounds) (length xs)) (finite v)
-    (bucketsAgree bounds (bucketsIn bounds (h .count) xs) and finite (h .min) and finite (h .max)) (leb mostCount (h .count))
+    (bucketsAgree bounds (bucketsIn bounds (h .count) xs) && (finite (h .min) && finite (h .max))) (leb mostCount (h .count))
 
 -- "When an answer is an enum, a definition gives this paper's number and values for each case of that enum."
 abbrev pub said : Answer → Said Head

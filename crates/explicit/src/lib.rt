@@ -1,9 +1,10 @@
 // One series of the explicit kind, `Buckets` of histogram.rs: bounds, a head by value, and its counts at the front of a lent slice.
 ghost use mathlib.Core.Path.{_≡_};
+ghost use mathlib.Core.Bool.{_&&_};
 ghost use Prim.Native.Nat.{_+_, _-_, _/_, _<_, _≤_};
 ghost use lib.ListN.{length, take};
 ghost use lib.Ieee.{lt};
-ghost use Rattle.laws.specs.Pick.{pick, _and_};
+ghost use Rattle.laws.specs.Pick.{pick};
 ghost use Rattle.laws.specs.Counting.{total, mostCount};
 ghost use Rattle.rows.specs.Rows.{over};
 ghost use Rattle.points.specs.Explicit.{rising, boundsPass, sameBounds, bucketOf, bucketCount, recordBucket, added, bucketsAgree};
@@ -29,7 +30,7 @@ pub enum Answer {
 
 // Whether both hold.
 fn both(ok: bool, test: bool) -> bool
-    ensures { λ r. ⌜ r ≡ (ok and test) ⌝ }
+    ensures { λ r. ⌜ r ≡ (ok && test) ⌝ }
 {
     if test {
         return ok;

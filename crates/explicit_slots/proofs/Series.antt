@@ -3,7 +3,7 @@
 use Prim.Native.Nat.{ℕ, suc, _-_, _^_, _≤_, _<_}
 use mathlib.Core.Path.{_≡_, refl, ap, sym, subst, _∙_}
 use mathlib.Core.Logic.{⊎-elim, _⊎_, _≢_}
-use mathlib.Core.Bool.{Bool, true, false, cond, _&&_}
+use mathlib.Core.Bool.{Bool, true, false, cond}
 use mathlib.Core.List.{List, [], _∷_}
 use mathlib.Core.Option.{Option, none, some, Option·getD}
 use native.Mathlib.Omega.{arith}
@@ -13,7 +13,7 @@ use lib.Seq.{getD-set-same, getD-set-other}
 use lib.Ieee.{Float, nan}
 use lib.Ieee.Scale.{finite}
 use borrow.Author.Tests.{le-leb, lt-leb, ltb-true, ltb-false}
-use Rattle.laws.specs.Pick.{pick, _and_}
+use Rattle.laws.specs.Pick.{pick}
 use Rattle.laws.specs.Said.{Said, refusal, success}
 use Rattle.laws.proofs.Bools.{flag, not-both, pick-true, pick-false}
 use Rattle.rows.specs.Recording.{Recording}
@@ -116,12 +116,6 @@ module _ (bounds : List Float) (x : ℕ) (u : Bool) (s : Cells) (v : Float) wher
 
 -- ---- numbers
 
-and-is : (a b c : Bool) → a and b and c ≡ a && (b && c)
-unfolding _and_
-and-is true true c = refl
-and-is true false c = refl
-and-is false b c = refl
-
 module _ (bounds : List Float) (e m : Bool) (t : Float) where
   -- the explicit kind with these bounds, whatever its switches and its threshold
   abbrev pub settings : Settings
@@ -142,7 +136,6 @@ module _ (bounds : List Float) (e m : Bool) (t : Float) where
     no-is =
         pick-true (leb (bucketCount bounds) (length xs)) _ 12 (le-leb (bucketCount bounds) (length xs) (omega (arith, long bounds s x r)))
         ∙ pick-true (finite v) _ 6 f
-        ∙ ap (λ (b : Bool). pick b (pick (leb mostCount total) 9 0) 8) (and-is (bucketsAgree bounds (bucketsIn bounds total xs)) (finite (headIn s x .min)) (finite (headIn s x .max)))
 
     -- what the value was added to, and what is left
     pub record Added (was : Figures) (after : Cells) : Type 0 where

@@ -4,7 +4,7 @@ use mathlib.Core.Path.{_≡_, ap, _∙_}
 use mathlib.Core.Bool.{true, false}
 use mathlib.Core.List.{List}
 use native.Mathlib.Omega.{arith}
-use lib.Dec.{eqb}
+use lib.Dec.{leb, eqb}
 use lib.ListN.{length}
 use lib.Ieee.{Float, binary64, add, fits}
 use lib.Ieee.Scale.{finite}
@@ -17,7 +17,7 @@ use Rattle.exponential.specs.declared.Class.{Class}
 use Rattle.exponential.specs.Steps.{placed}
 use Rattle.exponential.specs.Series.{agrees, read, refusalOf, outcome, accepted, recording}
 use Rattle.exponential.specs.Inner.{classAt, valueOf, Written, Ready}
-use Rattle.laws.specs.Pick.{pick, _and_}
+use Rattle.laws.specs.Pick.{pick}
 use Rattle.laws.specs.Said.{refusal, success}
 use Rattle.laws.proofs.Bools.{and-left, and-right, pick-left, pick-then, pick-right}
 use Rattle.floats.specs.Answers.{lesserOf, greaterOf}
@@ -30,34 +30,34 @@ use Rattle.laws.specs.Counting.{mostCount}
 
 module _ (size top : ℕ) (h : Head) (xs ys : List ℕ) (v : Float) where
   pub short-pos : length xs < size → refusalOf size top h xs ys v ≡ 12
-  unfolding refusalOf _and_ pick
+  unfolding refusalOf pick
   short-pos p = rw (lt-leb size (length xs) p)
 
   pub short-neg : size ≤ length xs → length ys < size → refusalOf size top h xs ys v ≡ 12
-  unfolding refusalOf _and_ pick
+  unfolding refusalOf pick
   short-neg p q = rw (le-leb size (length xs) p, lt-leb size (length ys) q)
 
   module _ (p : size ≤ length xs) (q : size ≤ length ys) where
     pub not-finite : finite v ≡ false → refusalOf size top h xs ys v ≡ 6
-    unfolding refusalOf _and_ pick
+    unfolding refusalOf pick
     not-finite f = rw (le-leb size (length xs) p, le-leb size (length ys) q, f)
 
     module _ (f : finite v ≡ true) where
       pub disagrees : agrees size top (h .counts) xs ys ≡ false → refusalOf size top h xs ys v ≡ 8
-      unfolding refusalOf _and_ pick
+      unfolding refusalOf pick
       disagrees a = rw (le-leb size (length xs) p, le-leb size (length ys) q, f, a)
 
       module _ (a : agrees size top (h .counts) xs ys ≡ true) where
         pub bad-min : finite (h .min) ≡ false → refusalOf size top h xs ys v ≡ 8
-        unfolding refusalOf _and_ pick
+        unfolding refusalOf pick
         bad-min m = rw (le-leb size (length xs) p, le-leb size (length ys) q, f, a, m)
 
         pub bad-max : finite (h .min) ≡ true → finite (h .max) ≡ false → refusalOf size top h xs ys v ≡ 8
-        unfolding refusalOf _and_ pick
+        unfolding refusalOf pick
         bad-max m n = rw (le-leb size (length xs) p, le-leb size (length ys) q, f, a, m, n)
 
         pub by-count : finite (h .min) ≡ true → finite (h .max) ≡ true → refusalOf size top h xs ys v ≡ pick (eqb (h .counts .count) mostCount) 9 0
-        unfolding refusalOf _and_ pick
+        unfolding refusalOf pick
         by-count m n = rw (le-leb size (length xs) p, le-leb size (length ys) q, f, a, m, n)
 
         pub full : finite (h .min) ≡ true → finite (h .max) ≡ true → h .counts .count ≡ mostCount → refusalOf size top h xs ys v ≡ 9
@@ -84,7 +84,7 @@ ready size top h xs ys v e m g =
     record {
       agree = and-left _ _ a;
       pos = leb-true size (length xs) (and-left _ _ s);
-      neg = leb-true size (length ys) (and-right _ _ s);
+      neg = leb-true size (length ys) (and-right (leb size (length xs)) _ s);
       count = below (h .counts .count) m n;
       known = within-of v (h .counts .level) (level-in size top (h .counts) xs ys t) g (pick-left _ _ 6 (omega arith) e₁);
     }

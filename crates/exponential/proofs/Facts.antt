@@ -2,13 +2,12 @@
 use Prim.Native.Nat.{ℕ, _+_, _-_, _*_, _/_, _%_, _^_, _≤_, _<_}
 use mathlib.Core.Path.{_≡_, refl, sym, subst, _∙_}
 use mathlib.Core.Logic.{⊎-elim, _⊎_}
-use mathlib.Core.Bool.{Bool, true, false, not}
+use mathlib.Core.Bool.{Bool, true, false, not, _&&_}
 use mathlib.Core.List.{List}
 use native.Mathlib.Omega.{arith}
 use lib.Dec.{leb, eqb}
 use lib.ListN.{length, take}
 use borrow.Author.Tests.{leb-true, le-leb, eq-eqb, ne-eqb, eqb-true, eqb-false}
-use Rattle.laws.specs.Pick.{_and_}
 use Rattle.laws.specs.Counting.{total}
 use Rattle.laws.proofs.Bools.{flag, not-both, and-left, and-right, and-intro}
 use Rattle.index.specs.Bins.{finest, lowestBin, endBin}
@@ -69,17 +68,17 @@ module _ (size top : ℕ) (c : Counts) (xs ys : List ℕ) where
   pub agreed : agrees size top c xs ys ≡ true → Agreed size top c xs ys
   unfolding agrees
   agreed h =
-      let h₁ = and-left t₁ (t₂ and t₃ and t₄ and t₅ and t₆) h in
-      let h₂ = and-right t₁ (t₂ and t₃ and t₄ and t₅ and t₆) h in
-      let h₃ = and-right t₂ (t₃ and t₄ and t₅ and t₆) h₂ in
-      let h₄ = and-right t₃ (t₄ and t₅ and t₆) h₃ in
-      let h₅ = and-right t₄ (t₅ and t₆) h₄ in
+      let h₁ = and-left t₁ (t₂ && (t₃ && (t₄ && (t₅ && t₆)))) h in
+      let h₂ = and-right t₁ (t₂ && (t₃ && (t₄ && (t₅ && t₆)))) h in
+      let h₃ = and-right t₂ (t₃ && (t₄ && (t₅ && t₆))) h₂ in
+      let h₄ = and-right t₃ (t₄ && (t₅ && t₆)) h₃ in
+      let h₅ = and-right t₄ (t₅ && t₆) h₄ in
       record {
         least = size-in size h₁ .0;
         most = size-in size h₁ .1;
-        greatest = leb-true top finest (and-left t₂ (t₃ and t₄ and t₅ and t₆) h₂);
-        level = leb-true (c .level) top (and-left t₃ (t₄ and t₅ and t₆) h₃);
-        posThere = leb-true (c .pos .len) (length xs) (and-left t₄ (t₅ and t₆) h₄);
+        greatest = leb-true top finest (and-left t₂ (t₃ && (t₄ && (t₅ && t₆))) h₂);
+        level = leb-true (c .level) top (and-left t₃ (t₄ && (t₅ && t₆)) h₃);
+        posThere = leb-true (c .pos .len) (length xs) (and-left t₄ (t₅ && t₆) h₄);
         negThere = leb-true (c .neg .len) (length ys) (and-left t₅ t₆ h₅);
         point = PA.agrees-says size top lowestOfAll (read c xs ys) (and-right t₅ t₆ h₅);
       }
@@ -87,10 +86,10 @@ module _ (size top : ℕ) (c : Counts) (xs ys : List ℕ) where
   pub agreed-agrees : Agreed size top c xs ys → agrees size top c xs ys ≡ true
   unfolding agrees
   agreed-agrees k =
-      and-intro t₁ (t₂ and t₃ and t₄ and t₅ and t₆) (size-passes-in size (k .least) (k .most))
-      (and-intro t₂ (t₃ and t₄ and t₅ and t₆) (le-leb top finest (k .greatest))
-      (and-intro t₃ (t₄ and t₅ and t₆) (le-leb (c .level) top (k .level))
-      (and-intro t₄ (t₅ and t₆) (le-leb (c .pos .len) (length xs) (k .posThere))
+      and-intro t₁ (t₂ && (t₃ && (t₄ && (t₅ && t₆)))) (size-passes-in size (k .least) (k .most))
+      (and-intro t₂ (t₃ && (t₄ && (t₅ && t₆))) (le-leb top finest (k .greatest))
+      (and-intro t₃ (t₄ && (t₅ && t₆)) (le-leb (c .level) top (k .level))
+      (and-intro t₄ (t₅ && t₆) (le-leb (c .pos .len) (length xs) (k .posThere))
       (and-intro t₅ t₆ (le-leb (c .neg .len) (length ys) (k .negThere)) (PA.agreed-agrees size top lowestOfAll (read c xs ys) (k .point))))))
 
   -- the rows, at the series' own level

@@ -11,7 +11,7 @@ use lib.Dec.{leb, eqb}
 use lib.ListN.{length}
 use lib.Pow.{shr-shr, shr-mono, pow-pos, pow-add}
 use borrow.Author.Tests.{leb-true, le-leb}
-use Rattle.laws.specs.Pick.{pick, _and_}
+use Rattle.laws.specs.Pick.{pick}
 use Rattle.laws.specs.Search.{least}
 use Rattle.laws.proofs.Bools.{and-left, and-right, and-intro}
 use Rattle.laws.proofs.Counting.{Ends, ends-map}

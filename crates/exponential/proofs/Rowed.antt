@@ -20,7 +20,7 @@ use Rattle.exponential.specs.Steps.{lowered, lowBin, highBin}
 use Rattle.exponential.specs.Series.{rowIn}
 use Rattle.exponential.specs.Inner.{Laid, rowAgrees, halved}
 use Rattle.exponential.specs.declared.Halves.{Halves}
-use Rattle.laws.specs.Pick.{pick, _and_}
+use Rattle.laws.specs.Pick.{pick}
 use Rattle.laws.specs.Counting.{sum, total}
 
 -- ---- the bins of a row and of one more
@@ -106,7 +106,7 @@ module _ (size lo hi : ℕ) (r : Row) (xs : List ℕ) where
 
   -- an empty row
   pub empty-row : r .len ≡ 0 → eqb (r .start) 0 ≡ rowAgrees size lo hi r xs
-  unfolding A.rowAgrees pick _and_
+  unfolding A.rowAgrees pick
   empty-row e = rw (e, le-leb 0 (length xs) (omega arith)) refl
 
   -- the last test

@@ -2,12 +2,12 @@
 -- One value recorded into a series, step by step, and the sums of its counts: the definitions of the crate's own functions. Assumes nothing.
 use Prim.Native.Nat.{ℕ, _+_, _-_, _/_, _%_, _^_, _≤_, _<_}
 use mathlib.Core.Path.{_≡_}
-use mathlib.Core.Bool.{Bool, true, false}
+use mathlib.Core.Bool.{Bool, true, false, _&&_}
 use mathlib.Core.List.{List, [], _∷_}
 use lib.Dec.{leb, eqb}
 use lib.ListN.{length, take}
 use lib.Ieee.{Float}
-use Rattle.laws.specs.Pick.{_and_, pick}
+use Rattle.laws.specs.Pick.{pick}
 use Rattle.laws.specs.Said.{Said, refusal, success}
 use Rattle.laws.specs.Counting.{sum, total, mostCount}
 use Rattle.index.specs.Bins.{endBin}
@@ -34,7 +34,7 @@ pub record Laid (q : P.Row) (xs : List ℕ) (r : Row) (ys : List ℕ) : Type 0 w
 
 -- a row's counts are there, and the row agrees
 abbrev pub rowAgrees : ℕ → ℕ → ℕ → Row → List ℕ → Bool
-rowAgrees size low end r xs = leb (r .len) (length xs) and A.rowAgrees size low end (rowIn r xs)
+rowAgrees size low end r xs = leb (r .len) (length xs) && A.rowAgrees size low end (rowIn r xs)
 
 -- the count is that of zeros and rows
 abbrev pub addsUp : Counts → List ℕ → List ℕ → Bool

@@ -1,12 +1,12 @@
 -- A series in a head and two lent rows: what it holds, when it agrees with itself, what recording does. Assumes nothing.
 use Prim.Native.Nat.{ℕ, _-_}
-use mathlib.Core.Bool.{Bool}
+use mathlib.Core.Bool.{Bool, _&&_}
 use mathlib.Core.List.{List}
 use lib.Dec.{leb, eqb}
 use lib.ListN.{length, take}
 use lib.Ieee.{Float}
 use lib.Ieee.Scale.{finite}
-use Rattle.laws.specs.Pick.{pick, _and_}
+use Rattle.laws.specs.Pick.{pick}
 use Rattle.laws.specs.Said.{Said, refusal, success}
 use Rattle.laws.specs.Counting.{mostCount}
 use Rattle.index.specs.Bins.{finest, lowestBin}
@@ -58,9 +58,9 @@ lowestOfAll = lowestBin finest
 -- size and greatest level could come from an accepted configuring, the counts are there, and what they make up agrees
 unfoldable pub agrees : ℕ → ℕ → Counts → List ℕ → List ℕ → Bool
 agrees size top c xs ys =
-    sizePasses size and leb top finest and leb (c .level) top
-    and leb (c .pos .len) (length xs) and leb (c .neg .len) (length ys)
-    and A.agrees size top lowestOfAll (read c xs ys)
+    sizePasses size && (leb top finest && (leb (c .level) top
+    && (leb (c .pos .len) (length xs) && (leb (c .neg .len) (length ys)
+    && A.agrees size top lowestOfAll (read c xs ys)))))
 
 -- ---- the call
 
@@ -71,8 +71,8 @@ refusalBy long finite agree full = pick long (pick finite (pick agree (pick full
 
 unfoldable pub refusalOf : ℕ → ℕ → Head → List ℕ → List ℕ → Float → ℕ
 refusalOf size top h xs ys v =
-    refusalBy (leb size (length xs) and leb size (length ys)) (finite v)
-    (agrees size top (h .counts) xs ys and finite (h .min) and finite (h .max)) (eqb (h .counts .count) mostCount)
+    refusalBy (leb size (length xs) && leb size (length ys)) (finite v)
+    (agrees size top (h .counts) xs ys && (finite (h .min) && finite (h .max))) (eqb (h .counts .count) mostCount)
 
 -- "When an answer is an enum, a definition gives this paper's number and values for each case of that enum."
 abbrev pub said : Answer → Said Head

@@ -2,13 +2,12 @@
 use Prim.Native.Nat.{ℕ, suc, _+_, _-_, _≤_}
 use mathlib.Core.Path.{_≡_, refl, ap, _∙_}
 use mathlib.Core.Logic.{⊎-elim}
-use mathlib.Core.Bool.{Bool, true, false}
+use mathlib.Core.Bool.{Bool, true, false, _&&_, and-false}
 use mathlib.Core.List.{List}
 use native.Mathlib.Omega.{arith}
 use lib.Dec.{leb}
 use lib.ListN.{length, getD, take}
 use borrow.Author.Tests.{leb-true, le-leb}
-use Rattle.laws.specs.Pick.{_and_}
 use Rattle.laws.proofs.Bools.{flag, not-both, and-left, and-right, pick-true, pick-false}
 use Rattle.laws.proofs.Cases.{and-true}
 use Rattle.index.specs.Bins.{finest, endBin}
@@ -41,30 +40,25 @@ shaped-says size f h =
     let t₂ = leb (getD f 2 0) finest in
     let t₃ = leb (getD f 4 0) size in
     let t₄ = leb (getD f 6 0) size in
-    let h₂ = and-right t₁ (t₂ and t₃ and t₄) h in
-    let h₃ = and-right t₂ (t₃ and t₄) h₂ in
+    let h₂ = and-right t₁ (t₂ && (t₃ && t₄)) h in
+    let h₃ = and-right t₂ (t₃ && t₄) h₂ in
     record {
-      count = leb-true (getD f 0 0) mostCount (and-left t₁ (t₂ and t₃ and t₄) h);
-      level = leb-true (getD f 2 0) finest (and-left t₂ (t₃ and t₄) h₂);
+      count = leb-true (getD f 0 0) mostCount (and-left t₁ (t₂ && (t₃ && t₄)) h);
+      level = leb-true (getD f 2 0) finest (and-left t₂ (t₃ && t₄) h₂);
       pos = leb-true (getD f 4 0) size (and-left t₃ t₄ h₃);
       neg = leb-true (getD f 6 0) size (and-right t₃ t₄ h₃);
     }
 
 pub shaped-of : (size : ℕ) (f : List ℕ) → Shaped size f → shaped size f ≡ true
-unfolding shaped _and_
+unfolding shaped
 shaped-of size f k =
     rw (le-leb (getD f 0 0) mostCount (k .count), le-leb (getD f 2 0) finest (k .level), le-leb (getD f 4 0) size (k .pos), le-leb (getD f 6 0) size (k .neg))
 
 -- ---- words out of shape
 
-no-second : (a : Bool) → (a and false) ≡ false
-unfolding _and_
-no-second true = refl
-no-second false = refl
-
 shapeless-counts : (size top low : ℕ) → countsAgree size top low shapeless ≡ false
-unfolding A.agrees _and_
-shapeless-counts size top low = no-second (leb (finest - top) (suc finest))
+unfolding A.agrees
+shapeless-counts size top low = and-false (leb (finest - top) (suc finest))
 
 -- a series that the map holds does not agree with them, whatever is configured
 pub shapeless-held : (k : Kind) → countsHold k shapeless ≡ false
@@ -73,10 +67,10 @@ shapeless-held (explicit bounds) = refl
 
 -- nor does a point that is handed out
 pub shapeless-handed : (size top low : ℕ) (p : Handed) → p .counts ≡ shapeless → handedAgrees size top low p ≡ false
-unfolding handedAgrees _and_
+unfolding handedAgrees
 shapeless-handed size top low p e =
     let b = extremesAgree (p .min) (p .max) in
-    ap (λ (c : Counts). countsAgree size top low c and b) e ∙ ap (λ (a : Bool). a and b) (shapeless-counts size top low)
+    ap (λ (c : Counts). countsAgree size top low c && b) e ∙ ap (λ (a : Bool). a && b) (shapeless-counts size top low)
 
 -- ---- settings that configuring accepts
 

@@ -2,14 +2,14 @@
 use Prim.Native.Nat.{ℕ, _≤_, _<_, _^_}
 use mathlib.Core.Path.{_≡_, refl, ap, sym, subst, _∙_}
 use mathlib.Core.Logic.{⊎-elim}
-use mathlib.Core.Bool.{Bool, true, false}
+use mathlib.Core.Bool.{Bool, true, false, _&&_}
 use mathlib.Core.List.{List, []}
 use native.Mathlib.Omega.{arith}
 use lib.Dec.{leb, eqb}
 use lib.ListN.{getD}
 use lib.Ieee.{Float}
 use borrow.Author.Tests.{leb-true, le-leb, lt-leb}
-use Rattle.laws.specs.Pick.{pick, _and_}
+use Rattle.laws.specs.Pick.{pick}
 use Rattle.laws.specs.Said.{Said, refusal, success, number}
 use Rattle.laws.proofs.Bools.{flag, and-left, and-right, pick-true, pick-false}
 use Rattle.rows.specs.Parts.{partAt, putAt}
@@ -28,16 +28,16 @@ module _ (f : List ℕ) (h : getD f 0 0 < 2 ^ 64) where
   first = le-leb (getD f 0 0) mostCount (omega arith)
 
   pub wide-level : mostBin < getD f 2 0 → narrow f ≡ false
-  unfolding narrow _and_
+  unfolding narrow
   wide-level p = rw (first, lt-leb (getD f 2 0) mostBin p)
 
   module _ (p : getD f 2 0 ≤ mostBin) where
     pub wide-pos : mostBin < getD f 3 0 → narrow f ≡ false
-    unfolding narrow _and_
+    unfolding narrow
     wide-pos q = rw (first, le-leb (getD f 2 0) mostBin p, lt-leb (getD f 3 0) mostBin q)
 
     pub by-neg : getD f 3 0 ≤ mostBin → narrow f ≡ leb (getD f 5 0) mostBin
-    unfolding narrow _and_
+    unfolding narrow
     by-neg q = rw (first, le-leb (getD f 2 0) mostBin p, le-leb (getD f 3 0) mostBin q)
 
 -- what words that are narrow are known to be
@@ -54,17 +54,17 @@ narrow-says f h =
     let t₂ = leb (getD f 2 0) mostBin in
     let t₃ = leb (getD f 3 0) mostBin in
     let t₄ = leb (getD f 5 0) mostBin in
-    let h₂ = and-right t₁ (t₂ and t₃ and t₄) h in
-    let h₃ = and-right t₂ (t₃ and t₄) h₂ in
+    let h₂ = and-right t₁ (t₂ && (t₃ && t₄)) h in
+    let h₃ = and-right t₂ (t₃ && t₄) h₂ in
     record {
-      count = leb-true (getD f 0 0) mostCount (and-left t₁ (t₂ and t₃ and t₄) h);
-      level = leb-true (getD f 2 0) mostBin (and-left t₂ (t₃ and t₄) h₂);
+      count = leb-true (getD f 0 0) mostCount (and-left t₁ (t₂ && (t₃ && t₄)) h);
+      level = leb-true (getD f 2 0) mostBin (and-left t₂ (t₃ && t₄) h₂);
       pos = leb-true (getD f 3 0) mostBin (and-left t₃ t₄ h₃);
       neg = leb-true (getD f 5 0) mostBin (and-right t₃ t₄ h₃);
     }
 
 pub narrow-of : (f : List ℕ) → Narrow f → narrow f ≡ true
-unfolding narrow _and_
+unfolding narrow
 narrow-of f k =
     rw (le-leb (getD f 0 0) mostCount (k .count), le-leb (getD f 2 0) mostBin (k .level), le-leb (getD f 3 0) mostBin (k .pos), le-leb (getD f 5 0) mostBin (k .neg))
 

@@ -1,12 +1,12 @@
 -- The exponential kind's stores: a series in one slot of them, and what recording a value into it leaves. Assumes nothing.
 use Prim.Native.Nat.{ℕ, _+_, _*_, _≤_, _<_}
-use mathlib.Core.Bool.{Bool, true}
+use mathlib.Core.Bool.{Bool, true, _&&_}
 use mathlib.Core.List.{List, [], _∷_}
 use lib.Dec.{leb}
 use lib.ListN.{length, getD, set}
 use lib.Ieee.{Float, nan}
 use denote.Ref.{RefT, now}
-use Rattle.laws.specs.Pick.{pick, _and_}
+use Rattle.laws.specs.Pick.{pick}
 use Rattle.laws.specs.Said.{Said, refusal, success}
 use Rattle.rows.specs.Parts.{partAt, putAt}
 use Rattle.rows.specs.Recording.{Recording, after}
@@ -58,7 +58,7 @@ abbrev pub mostBin : ℕ
 mostBin = 4294967295
 
 unfoldable pub narrow : List ℕ → Bool
-narrow f = leb (getD f 0 0) mostCount and leb (getD f 2 0) mostBin and leb (getD f 3 0) mostBin and leb (getD f 5 0) mostBin
+narrow f = leb (getD f 0 0) mostCount && (leb (getD f 2 0) mostBin && (leb (getD f 3 0) mostBin && leb (getD f 5 0) mostBin))
 
 -- an entry that is not updated has no series: whatever lies in its slot, it counts as fresh (docs/DECISIONS.md, "Readings of document 01")
 unfoldable pub readable : Bool → List ℕ → Bool

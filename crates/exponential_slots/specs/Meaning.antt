@@ -1,11 +1,11 @@
 -- What a slot's cells mean: figures of a series of the exponential kind. Assumes nothing.
 use Prim.Native.Nat.{ℕ, suc}
-use mathlib.Core.Bool.{Bool}
+use mathlib.Core.Bool.{Bool, _&&_}
 use mathlib.Core.List.{List, []}
 use lib.Dec.{leb}
 use lib.ListN.{getD}
 use lib.Ieee.{Float, nan}
-use Rattle.laws.specs.Pick.{pick, _and_}
+use Rattle.laws.specs.Pick.{pick}
 use Rattle.rows.specs.Parts.{partAt}
 use Rattle.index.specs.Bins.{finest}
 use Rattle.points.specs.Points.{Row}
@@ -21,7 +21,7 @@ settings size top extremes sums = settingsOf (exponential size top) extremes sum
 
 -- the words are in shape: a count that is a u64, a level up to the finest, rows that lie within the slot's parts
 unfoldable pub shaped : ℕ → List ℕ → Bool
-shaped size f = leb (getD f 0 0) mostCount and leb (getD f 2 0) finest and leb (getD f 4 0) size and leb (getD f 6 0) size
+shaped size f = leb (getD f 0 0) mostCount && (leb (getD f 2 0) finest && (leb (getD f 4 0) size && leb (getD f 6 0) size))
 
 -- Words out of shape are no series, a case of its own: an empty point one step below the last level that there is. No test of agreement
 -- accepts it (the laws `shapeless-held` and `shapeless-handed`): "8: .. touched series disagrees with itself".

@@ -6,7 +6,7 @@ use mathlib.Core.List.{List, [], _∷_}
 use mathlib.Core.Logic.{inl, inr}
 use mathlib.Core.Option.{none}
 use lib.Ieee.{Float, binary64, ofBits, lt, add, eq, isNan, fits, round}
-use Rattle.laws.specs.Pick.{pick, _and_}
+use Rattle.laws.specs.Pick.{pick}
 use Rattle.floats.specs.Starts.{zeroFloat}
 use Rattle.floats.specs.declared.Extreme.the-variants.{None, Value}
 use Rattle.points.specs.Explicit.{bucketOf, bucketsOf, recordBucket, bucketsAgree, boundsPass, noNan, rising, mergeBuckets, added, sameBounds}
@@ -59,29 +59,29 @@ abbrev second : Handed
 second = point (1 ∷ 0 ∷ 0 ∷ []) 1 less less less
 
 valid : histograms .valid (config .settings) ≡ true
-unfolding boundsPass noNan rising _and_ isNan lt ofBits
+unfolding boundsPass noNan rising isNan lt ofBits
 valid = refl
 
 -- the third value is a NaN
 example : ran histograms (model histograms config)
     (measure five A ∷ measure seven A ∷ measure (f 0x7ff8_0000_0000_0000) A ∷ collect (room 2) ∷ collect (room 3) ∷ measure less A ∷ collect (room 3) ∷ [])
     ≡ done ∷ done ∷ refuse 6 ∷ refuse 10 ∷ listed ((A, first) ∷ []) ∷ done ∷ listed ((A, second) ∷ []) ∷ []
-unfolding upfront act place measureAt recordBucket bucketOf bucketsOf bucketsAgree boundsPass noNan rising _and_ isNan lt add round fits ofBits pick
+unfolding upfront act place measureAt recordBucket bucketOf bucketsOf bucketsAgree boundsPass noNan rising isNan lt add round fits ofBits pick
 example = refl
 
 together : merged 0 first second (room 3) ≡ inr (point (1 ∷ 1 ∷ 1 ∷ []) 3 less seven (f 0x4026_0000_0000_0000))
-unfolding merged unmergeable mergeable mergeHanded mergeBuckets added handedAgrees bucketsAgree boundsPass sameBounds noNan rising _and_ isNan lt eq add round ofBits pick
+unfolding merged unmergeable mergeable mergeHanded mergeBuckets added handedAgrees bucketsAgree boundsPass sameBounds noNan rising isNan lt eq add round ofBits pick
 together = refl
 
 -- one place too few; a point whose counts do not total its count; one without extremes
 no-room : merged 0 first second (room 2) ≡ inl 10
-unfolding merged unmergeable mergeable mergeHanded mergeBuckets added handedAgrees bucketsAgree boundsPass sameBounds noNan rising _and_ isNan lt eq ofBits pick
+unfolding merged unmergeable mergeable mergeHanded mergeBuckets added handedAgrees bucketsAgree boundsPass sameBounds noNan rising isNan lt eq ofBits pick
 no-room = refl
 
 damaged : merged 0 first (point (1 ∷ 0 ∷ 0 ∷ []) 2 less less less) (room 3) ≡ inl 8
-unfolding merged unmergeable handedAgrees bucketsAgree boundsPass noNan rising _and_ isNan lt ofBits pick
+unfolding merged unmergeable handedAgrees bucketsAgree boundsPass noNan rising isNan lt ofBits pick
 damaged = refl
 
 switched : merged 0 first (record { counts = second .counts; extremes = false; threshold = zeroFloat; min = None; max = None; sum = less }) (room 3) ≡ inl 11
-unfolding merged unmergeable mergeable handedAgrees bucketsAgree boundsPass sameBounds noNan rising _and_ isNan lt eq ofBits pick
+unfolding merged unmergeable mergeable handedAgrees bucketsAgree boundsPass sameBounds noNan rising isNan lt eq ofBits pick
 switched = refl

@@ -9,7 +9,7 @@ use lib.Dec.{leb, eqb}
 use lib.ListN.{length, length-append}
 use lib.Ieee.{Float}
 use borrow.Author.Tests.{le-leb}
-use Rattle.laws.specs.Pick.{pick, _and_}
+use Rattle.laws.specs.Pick.{pick}
 use Rattle.laws.specs.Counting.{mostCount}
 use Rattle.laws.proofs.Cases.{and-true}
 use Rattle.index.specs.Bins.{finest}
@@ -43,7 +43,7 @@ sized (explicit bounds) t vs ws e = refl
 
 unrefused : (z : Settings) (p q : Handed) (vs ws : List Float) → passes (z .kind) ≡ true → length (vs ++ ws) < 2 ^ 64 → Stands z p vs → Stands z q ws
     → unmergeable (sizeOf (z .kind)) true p q ≡ 0
-unfolding unmergeable pick _and_
+unfolding unmergeable pick
 unrefused z p q vs ws e l h k =
     let s = sound-kind (z .kind) e in
     let n : leb (length vs + length ws) mostCount ≡ true = le-leb (length vs + length ws) mostCount (omega (arith, l, length-append vs ws)) in

@@ -1,10 +1,10 @@
--- Tests: cases by a test, and what `_and_` and `pick` say. Assumes nothing.
+-- Tests: cases by a test, and what `_&&_` and `pick` say. Assumes nothing.
 use Prim.Native.Nat.{ℕ, _<_}
 use mathlib.Core.Path.{_≡_, refl}
 use mathlib.Core.Logic.{_⊎_, inl, inr}
-use mathlib.Core.Bool.{Bool, true, false}
+use mathlib.Core.Bool.{Bool, true, false, _&&_}
 use native.Mathlib.Omega.{arith}
-use Rattle.laws.specs.Pick.{pick, _and_}
+use Rattle.laws.specs.Pick.{pick}
 use mathlib.Core.Option.{Option, none, some}
 
 abbrev pub some? {ℓ} : {A : Type ℓ} → Option A → Bool
@@ -18,18 +18,15 @@ flag false = inr refl
 pub not-both : (b : Bool) → b ≡ true → b ≡ false → ⊥
 not-both b p q = let z : _≡_ {A = ℕ} 0 1 = cc in omega arith
 
-pub and-left : (a b : Bool) → a and b ≡ true → a ≡ true
-unfolding _and_
+pub and-left : (a b : Bool) → a && b ≡ true → a ≡ true
 and-left true b h = refl
 and-left false b h = h
 
-pub and-right : (a b : Bool) → a and b ≡ true → b ≡ true
-unfolding _and_
+pub and-right : (a b : Bool) → a && b ≡ true → b ≡ true
 and-right true b h = h
 and-right false b h = absurd (not-both false h refl)
 
-pub and-intro : (a b : Bool) → a ≡ true → b ≡ true → a and b ≡ true
-unfolding _and_
+pub and-intro : (a b : Bool) → a ≡ true → b ≡ true → a && b ≡ true
 and-intro a b p q = rw p q
 
 pub pick-true : {A : Type 0} (b : Bool) (x y : A) → b ≡ true → pick b x y ≡ x

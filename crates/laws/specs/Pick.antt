@@ -4,9 +4,3 @@ use mathlib.Core.Bool.{Bool, true, false}
 unfoldable pub pick : {A : Type 0} → Bool → A → A → A
 pick true a b = a
 pick false a b = b
-
--- both, the second asked only where the first holds
-infixr 40 _and_
-unfoldable pub _and_ : Bool → Bool → Bool
-true and b = b
-false and b = false

@@ -1,11 +1,11 @@
 -- What a set's text spells. Document 01: '`-` is the empty set. Other sets are KEY:VALUE joined by commas', 'decimals have no plus sign,
 -- leading zero or -0'. Keys and values are u32. Bytes are ASCII: `-` is 45, `,` 44, `:` 58. Assumes nothing.
 use Prim.Native.Nat.{ℕ, _+_, _^_}
-use mathlib.Core.Bool.{Bool}
+use mathlib.Core.Bool.{Bool, _&&_}
 use mathlib.Core.List.{List, [], _∷_}
 use lib.Dec.{ltb, eqb}
 use lib.ListN.{length, getD, drop, set}
-use Rattle.laws.specs.Pick.{pick, _and_}
+use Rattle.laws.specs.Pick.{pick}
 use Rattle.text.specs.Fields.{until}
 use Rattle.text.specs.Numbers.{decimalOf}
 use Rattle.text.specs.declared.numbers.Natural.{Natural}
@@ -50,7 +50,7 @@ attributesOf [] = []
 attributesOf (p ∷ ps) = attributeOf p ∷ attributesOf ps
 
 unfoldable pub isDash : List ℕ → Bool
-isDash bs = eqb (length bs) 1 and eqb (getD bs 0 0) 45
+isDash bs = eqb (length bs) 1 && eqb (getD bs 0 0) 45
 
 unfoldable pub spelled : List ℕ → List Attribute
 spelled bs = pick (isDash bs) [] (attributesOf (parts bs))

@@ -1,7 +1,7 @@
 -- The outcomes of putting a point and of reading one, case by case. Assumes nothing.
 use Prim.Native.Nat.{ℕ, _+_, _-_, _≤_}
 use mathlib.Core.Path.{_≡_, sym, ap, ap₂, _∙_}
-use mathlib.Core.Bool.{Bool, true, false}
+use mathlib.Core.Bool.{Bool, true, false, _&&_}
 use mathlib.Core.List.{List, [], _++_}
 use native.Mathlib.Omega.{arith}
 use borrow.Author.Tests.{leb-true, le-leb, lt-leb}
@@ -9,7 +9,6 @@ use lib.Dec.{leb}
 use lib.ListN.{length, getD, set, take, drop}
 use lib.Seq.{length-take-le}
 use Rattle.laws.specs.Over.{over}
-use Rattle.laws.specs.Pick.{_and_}
 use Rattle.laws.proofs.Bools.{pick-true, pick-false, and-left, and-right, and-intro}
 use Rattle.point.specs.declared.Point.{Point}
 use Rattle.point.specs.declared.Figures.{Figures}
@@ -33,16 +32,16 @@ module _ (at : Cursor) (w : List ℕ) (pos neg : ℕ) where
   lies = within at (pointIn w .figures) (boundsIn w) pos neg
 
   pub entry-no : isPoint w ≡ false → NoPoint ≡ entryIn at w pos neg
-  unfolding entryIn _and_
-  entry-no h = sym (pick-false (isPoint w and lies) _ _ (ap (λ (t : Bool). t and lies) h))
+  unfolding entryIn
+  entry-no h = sym (pick-false (isPoint w && lies) _ _ (ap (λ (t : Bool). t && lies) h))
 
   module _ (p : Point) (b : Span) (e : p ≡ pointIn w) (g : b ≡ boundsIn w) (y : isPoint w ≡ true) where
     same-room : within at (p .figures) b pos neg ≡ within at (pointIn w .figures) (boundsIn w) pos neg
     same-room = ap₂ (λ (q : Point) (s : Span). within at (q .figures) s pos neg) e g
 
     pub entry-out : within at (p .figures) b pos neg ≡ false → NoPoint ≡ entryIn at w pos neg
-    unfolding entryIn _and_
-    entry-out h = sym (pick-false (isPoint w and lies) _ _ (ap (λ (t : Bool). t and lies) y ∙ sym same-room ∙ h))
+    unfolding entryIn
+    entry-out h = sym (pick-false (isPoint w && lies) _ _ (ap (λ (t : Bool). t && lies) y ∙ sym same-room ∙ h))
 
     pub entry-is : within at (p .figures) b pos neg ≡ true → (next : Cursor) → next ≡ behind at (p .figures) b
         → Is (record { point = p; bounds = b; next = next }) ≡ entryIn at w pos neg
@@ -50,7 +49,7 @@ module _ (at : Cursor) (w : List ℕ) (pos neg : ℕ) where
     entry-is h next n =
         ap (λ (c : Cursor). Is (record { point = p; bounds = b; next = c })) n
         ∙ ap₂ (λ (q : Point) (s : Span). Is (record { point = q; bounds = s; next = behind at (q .figures) s })) e g
-        ∙ sym (pick-true (isPoint w and lies) _ _ (and-intro (isPoint w) lies y (sym same-room ∙ h)))
+        ∙ sym (pick-true (isPoint w && lies) _ _ (and-intro (isPoint w) lies y (sym same-room ∙ h)))
 
 module _ (at : Cursor) (words : List (List ℕ)) (pos neg : ℕ) where
   pub nothing-there : length words ≤ at .place → NoPoint ≡ pointAt at words pos neg

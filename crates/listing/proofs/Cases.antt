@@ -2,7 +2,7 @@
 use Prim.Native.Nat.{ℕ, zero, suc, _+_, _-_, _*_, _≤_, _<_, min}
 use mathlib.Core.Path.{_≡_, refl, sym, ap, _∙_}
 use mathlib.Core.Logic.{⊎-elim}
-use mathlib.Core.Bool.{Bool, true, false}
+use mathlib.Core.Bool.{Bool, true, false, _&&_}
 use mathlib.Core.List.{List, [], _∷_, _++_, append-nil}
 use native.Mathlib.Omega.{arith}
 use native.Mathlib.Numerals.{add-one}
@@ -12,7 +12,6 @@ use lib.ListN.{length, getD, set, take, drop, length-drop, drop-of-length-le}
 use lib.Seq.{take-suc, take-all, length-take-le, drop-length}
 use Rattle.laws.specs.Counting.{bit}
 use Rattle.laws.specs.Over.{over}
-use Rattle.laws.specs.Pick.{_and_}
 use Rattle.laws.proofs.Over.{over-snoc}
 use Rattle.laws.proofs.Differences.{le-or-lt}
 use Rattle.floats.specs.Answers.{bitsOf}
@@ -61,12 +60,10 @@ explicit-len f b m e h = ap (λ (g : Figures). posLen g b) e ∙ buckets-some (b
 
 module _ (at : Cursor) (f : Figures) (b : Span) (pos neg : ℕ) where
   pub within-no : leb (at .pos + posLen f b) pos ≡ false → false ≡ within at f b pos neg
-  unfolding _and_
-  within-no h = sym (ap (λ (t : Bool). t and leb (at .neg + negLen f) neg) h)
+  within-no h = sym (ap (λ (t : Bool). t && leb (at .neg + negLen f) neg) h)
 
   pub within-then : leb (at .pos + posLen f b) pos ≡ true → leb (at .neg + negLen f) neg ≡ within at f b pos neg
-  unfolding _and_
-  within-then h = sym (ap (λ (t : Bool). t and leb (at .neg + negLen f) neg) h)
+  within-then h = sym (ap (λ (t : Bool). t && leb (at .neg + negLen f) neg) h)
 
 -- ---- words, by the code's match
 

@@ -1,14 +1,14 @@
 -- A list of points in lent output: sets' rows, points' words, and their counts packed one after another in two stores. Assumes nothing.
 -- docs/LIST.md tells it in words: one form for collections, merges and sheets.
 use Prim.Native.Nat.{ℕ, zero, suc, _+_, _-_}
-use mathlib.Core.Bool.{Bool, true, false}
+use mathlib.Core.Bool.{Bool, true, false, _&&_}
 use mathlib.Core.List.{List, [], _++_}
 use lib.Dec.{leb}
 use lib.ListN.{length, getD, set, take, drop}
 use lib.Ieee.{Float}
 use denote.Ref.{RefT, now}
 use Rattle.laws.specs.Over.{over}
-use Rattle.laws.specs.Pick.{pick, _and_}
+use Rattle.laws.specs.Pick.{pick}
 use Rattle.point.specs.Handing.{Stored, storedIn}
 use Rattle.point.specs.declared.Point.{Point}
 use Rattle.point.specs.declared.Figures.{Figures}
@@ -82,12 +82,12 @@ putAt at i o =
 
 -- whether a point's counts lie within stores of so many
 abbrev pub within : Cursor → Figures → Span → ℕ → ℕ → Bool
-within at f b pos neg = leb (at .pos + posLen f b) pos and leb (at .neg + negLen f) neg
+within at f b pos neg = leb (at .pos + posLen f b) pos && leb (at .neg + negLen f) neg
 
 -- that of twelve words: none where they are no point's, or where its counts are not there
 unfoldable pub entryIn : Cursor → List ℕ → ℕ → ℕ → Found
 entryIn at w pos neg =
-    pick (isPoint w and within at (pointIn w .figures) (boundsIn w) pos neg)
+    pick (isPoint w && within at (pointIn w .figures) (boundsIn w) pos neg)
     (Is (record { point = pointIn w; bounds = boundsIn w; next = behind at (pointIn w .figures) (boundsIn w) }))
     NoPoint
 

@@ -2,13 +2,13 @@
 -- than a count can be; and what is left agrees. Assumes nothing.
 use Prim.Native.Nat.{ℕ, _+_, _≤_}
 use mathlib.Core.Path.{_≡_, refl, ap, sym, subst, _∙_}
-use mathlib.Core.Bool.{Bool, true, false, Bool·beq}
+use mathlib.Core.Bool.{Bool, true, false, Bool·beq, _&&_}
 use mathlib.Core.List.{List}
 use native.Mathlib.Omega.{arith}
 use lib.Dec.{leb}
 use lib.ListN.{length}
 use borrow.Author.Tests.{le-leb}
-use Rattle.laws.specs.Pick.{pick, _and_}
+use Rattle.laws.specs.Pick.{pick}
 use Rattle.laws.specs.Said.{Said, success}
 use Rattle.laws.proofs.Bools.{not-both, and-left, and-intro}
 use Rattle.index.specs.Bins.{finest, lowestBin}
@@ -120,10 +120,10 @@ module _ (size : ℕ) (s : Settings) (sized : Configured (resized size (s .kind)
       (and-left (countsAgree size finest low (mergeCounts size (p .counts) (q .counts))) (extremesAgree (mergeHanded size p q .min) (mergeHanded size p q .max)) agree) long
 
   free : refusalBefore size x y ≡ 0
-  unfolding refusalBefore unmergeable pick _and_
+  unfolding refusalBefore unmergeable pick
   free =
       let n : leb (countOf (p .counts) + countOf (q .counts)) mostCount ≡ true = le-leb (countOf (p .counts) + countOf (q .counts)) mostCount few in
-      λ t. pick (asked t) (pick ((g .shape t and h .shape t) and g .agree t and h .agree t) (pick (can t) (pick (n t) 0 9) 11) 8) 1
+      λ t. pick (asked t) (pick ((g .shape t && h .shape t) && (g .agree t && h .agree t)) (pick (can t) (pick (n t) 0 9) 11) 8) 1
 
   sum-is : countOf (mergeHanded size p q .counts) ≡ countOf (countsIn x) + countOf (countsIn y)
   unfolding mergeHanded

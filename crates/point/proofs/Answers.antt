@@ -1,7 +1,7 @@
 -- What an accepted merge leaves is the merge of the points read, in shape. Assumes nothing.
 use Prim.Native.Nat.{ℕ, _+_, _-_, _≤_, _<_}
 use mathlib.Core.Path.{_≡_, refl, ap, sym, _∙_}
-use mathlib.Core.Bool.{Bool, true, false}
+use mathlib.Core.Bool.{Bool, true, false, _&&_}
 use mathlib.Core.List.{List}
 use mathlib.Core.Logic.{⊎-elim}
 use native.Mathlib.Nat.{eq-zero-or-pos}
@@ -9,7 +9,7 @@ use native.Mathlib.Omega.{arith}
 use lib.Dec.{leb}
 use lib.ListN.{length, take, drop, length-append}
 use borrow.Author.Tests.{le-leb, eq-eqb}
-use Rattle.laws.specs.Pick.{pick, _and_}
+use Rattle.laws.specs.Pick.{pick}
 use Rattle.laws.specs.Said.{Said, refusal, success}
 use Rattle.laws.proofs.Bools.{flag}
 use Rattle.index.specs.Bins.{finest}
@@ -37,7 +37,7 @@ use Rattle.point.proofs.Calls as calls
 
 -- "10: room judged by the result's length"
 abbrev pub hasRoom : F.Counts → List ℕ → List ℕ → Bool
-hasRoom c us vs = leb (length (posOf c)) (length us) and leb (length (negOf c)) (length vs)
+hasRoom c us vs = leb (length (posOf c)) (length us) && leb (length (negOf c)) (length vs)
 
 in-over : (new old : List ℕ) → length new ≤ length (over new old)
 unfolding over
@@ -45,10 +45,9 @@ in-over new old = rw (length-append new (drop (length new) old)) (omega arith)
 
 -- counts laid over rows are in shape
 laid-shape : (c : F.Counts) (us vs : List ℕ) → figuresShaped (figuresFor c) (over (posOf c) us) (over (negOf c) vs) ≡ true
-unfolding _and_
 laid-shape (exponentialCounts p) us vs =
-    λ j. le-leb (finest - p .d) finest (omega arith) j and le-leb (length (p .pos .counts)) (length (over (p .pos .counts) us)) (in-over (p .pos .counts) us) j
-    and le-leb (length (p .neg .counts)) (length (over (p .neg .counts) vs)) (in-over (p .neg .counts) vs) j
+    λ j. le-leb (finest - p .d) finest (omega arith) j && (le-leb (length (p .pos .counts)) (length (over (p .pos .counts) us)) (in-over (p .pos .counts) us) j
+    && le-leb (length (p .neg .counts)) (length (over (p .neg .counts) vs)) (in-over (p .neg .counts) vs) j)
 laid-shape (explicitCounts b p) us vs = refl
 
 -- a success is one point's, and no refusal

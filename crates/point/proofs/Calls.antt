@@ -1,14 +1,14 @@
 -- The call of a merge: its refusals in order, and what it answers otherwise. Assumes nothing.
 use Prim.Native.Nat.{ℕ, _+_, _^_, _≤_, _<_}
 use mathlib.Core.Path.{_≡_, refl, ap, sym, subst, _∙_}
-use mathlib.Core.Bool.{Bool, true, false, Bool·beq}
+use mathlib.Core.Bool.{Bool, true, false, Bool·beq, _&&_}
 use mathlib.Core.List.{List}
 use native.Mathlib.Omega.{arith}
 use lib.Dec.{leb}
 use lib.ListN.{length}
 use borrow.Author.Tests.{leb-true, eq-eqb, ne-eqb}
 use Rattle.laws.specs.Over.{over}
-use Rattle.laws.specs.Pick.{pick, _and_}
+use Rattle.laws.specs.Pick.{pick}
 use Rattle.laws.specs.Said.{Said, refusal}
 use Rattle.laws.proofs.Bools.{not-both, and-left, and-right, pick-left, pick-then}
 use Rattle.points.specs.Explicit.{sameBounds, bucketCount, bucketsAgree, mergeBuckets}
@@ -31,7 +31,7 @@ use Rattle.laws.specs.Counting.{mostCount}
 
 -- the tests in their order
 abbrev chain : Bool → Bool → Bool → Bool → Bool → Bool → ℕ
-chain t u v w x y = pick t (pick (u and v) (pick (w and x) (pick y 0 9) 11) 8) 1
+chain t u v w x y = pick t (pick (u && v) (pick (w && x) (pick y 0 9) 11) 8) 1
 
 -- the outcome of counts laid over the rows
 abbrev concluded : Stored → Stored → Over → Outcome
@@ -70,43 +70,43 @@ module _ (size : ℕ) (a b : Stored) where
 
   module _ (t : sizeOk ≡ true) where
     pub bad-first : firstOk ≡ false → 8 ≡ refusalBefore size a b
-    unfolding pick _and_
+    unfolding pick
     bad-first u = sym (is-chain ∙ (λ j. chain (t j) (u j) secondOk kindOk switchOk countOk))
 
     module _ (u : firstOk ≡ true) where
       pub bad-second : secondOk ≡ false → 8 ≡ refusalBefore size a b
-      unfolding pick _and_
+      unfolding pick
       bad-second v = sym (is-chain ∙ (λ j. chain (t j) (u j) (v j) kindOk switchOk countOk))
 
       module _ (v : secondOk ≡ true) where
         pub unlike : kindOk ≡ false → 11 ≡ refusalBefore size a b
-        unfolding pick _and_
+        unfolding pick
         unlike w = sym (is-chain ∙ (λ j. chain (t j) (u j) (v j) (w j) switchOk countOk))
 
         module _ (w : kindOk ≡ true) where
           pub unlike-switch : switchOk ≡ false → 11 ≡ refusalBefore size a b
-          unfolding pick _and_
+          unfolding pick
           unlike-switch x = sym (is-chain ∙ (λ j. chain (t j) (u j) (v j) (w j) (x j) countOk))
 
           module _ (x : switchOk ≡ true) where
             pub too-many : countOk ≡ false → 9 ≡ refusalBefore size a b
-            unfolding pick _and_
+            unfolding pick
             too-many y = sym (is-chain ∙ (λ j. chain (t j) (u j) (v j) (w j) (x j) (y j)))
 
             pub none : countOk ≡ true → 0 ≡ refusalBefore size a b
-            unfolding pick _and_
+            unfolding pick
             none y = sym (is-chain ∙ (λ j. chain (t j) (u j) (v j) (w j) (x j) (y j)))
 
   -- where nothing is refused
   module _ (e : refusalBefore size a b ≡ 0) where
-    e₁ : _≡_ {A = ℕ} (pick (firstOk and secondOk) (pick (kindOk and switchOk) (pick countOk 0 9) 11) 8) 0
+    e₁ : _≡_ {A = ℕ} (pick (firstOk && secondOk) (pick (kindOk && switchOk) (pick countOk 0 9) 11) 8) 0
     e₁ = pick-then sizeOk _ 1 (omega arith) (sym is-chain ∙ e)
 
-    e₂ : _≡_ {A = ℕ} (pick (kindOk and switchOk) (pick countOk 0 9) 11) 0
-    e₂ = pick-then (firstOk and secondOk) _ 8 (omega arith) e₁
+    e₂ : _≡_ {A = ℕ} (pick (kindOk && switchOk) (pick countOk 0 9) 11) 0
+    e₂ = pick-then (firstOk && secondOk) _ 8 (omega arith) e₁
 
-    both : firstOk and secondOk ≡ true
-    both = pick-left (firstOk and secondOk) _ 8 (omega arith) e₁
+    both : firstOk && secondOk ≡ true
+    both = pick-left (firstOk && secondOk) _ 8 (omega arith) e₁
 
     pub first-agrees : figuresAgree size (a .point .figures) (a .bounds) (a .pos) (a .neg) ≡ true
     unfolding pointAgrees
@@ -117,10 +117,10 @@ module _ (size : ℕ) (a b : Stored) where
     second-agrees = and-left (figuresAgree size (b .point .figures) (b .bounds) (b .pos) (b .neg)) (extremesAgree (b .point .min) (b .point .max)) (and-right firstOk secondOk both)
 
     pub alike : kindOk ≡ true
-    alike = and-left kindOk switchOk (pick-left (kindOk and switchOk) _ 11 (omega arith) e₂)
+    alike = and-left kindOk switchOk (pick-left (kindOk && switchOk) _ 11 (omega arith) e₂)
 
     pub fit : countIn (a .point .figures) + countIn (b .point .figures) ≤ mostCount
-    fit = leb-true (countIn (a .point .figures) + countIn (b .point .figures)) mostCount (pick-left countOk 0 9 (omega arith) (pick-then (kindOk and switchOk) _ 11 (omega arith) e₂))
+    fit = leb-true (countIn (a .point .figures) + countIn (b .point .figures)) mostCount (pick-left countOk 0 9 (omega arith) (pick-then (kindOk && switchOk) _ 11 (omega arith) e₂))
 
     -- the exponential kind
     pub agreeing : (c d : Counts) → a .point .figures ≡ Exponential c → b .point .figures ≡ Exponential d → Agreeing size c (a .pos) (a .neg) d (b .pos) (b .neg)
@@ -169,7 +169,7 @@ module _ (size : ℕ) (a b : Stored) where
     unfolding countsOver laidOver mergeHanded
     laid-is =
         let c = mergeCounts size (countsIn a) (countsIn b) in
-        through a b (leb (length (posOf c)) (length us) and leb (length (negOf c)) (length vs)) (madeOver (Of (figuresFor c)) (over (posOf c) us) (over (negOf c) vs)) (madeOver NoRoom us vs)
+        through a b (leb (length (posOf c)) (length us) && leb (length (negOf c)) (length vs)) (madeOver (Of (figuresFor c)) (over (posOf c) us) (over (negOf c) vs)) (madeOver NoRoom us vs)
 
     pub accepted : refusalBefore size a b ≡ 0
         → concluded a b (countsOver (mergeCounts size (countsIn a) (countsIn b)) us vs) ≡ merging size a b us vs

@@ -11,7 +11,7 @@ use lib.ListN.{length, take, length-take}
 use lib.Seq.{length-take-le}
 use lib.Ieee.{Float, eq}
 use borrow.Author.Tests.{le-leb, lt-leb}
-use Rattle.laws.specs.Pick.{pick, _and_}
+use Rattle.laws.specs.Pick.{pick}
 use Rattle.laws.specs.Counting.{total}
 use Rattle.laws.proofs.Bools.{flag, not-both, and-right}
 use Rattle.rows.specs.Rows.{over}
@@ -31,17 +31,17 @@ use Rattle.point.specs.Inner.{madeOver, countsOver, madeOne, laidOne}
 
 module _ (m : P.Point) (us vs : List ℕ) where
   pub no-pos : length us < length (m .pos .counts) → madeOver NoRoom us vs ≡ countsOver (exponentialCounts m) us vs
-  unfolding countsOver pick _and_
+  unfolding countsOver pick
   no-pos h = rw (lt-leb (length (m .pos .counts)) (length us) h) refl
 
   module _ (p : length (m .pos .counts) ≤ length us) where
     pub no-neg : length vs < length (m .neg .counts) → madeOver NoRoom us vs ≡ countsOver (exponentialCounts m) us vs
-    unfolding countsOver pick _and_
+    unfolding countsOver pick
     no-neg h = rw (le-leb (length (m .pos .counts)) (length us) p, lt-leb (length (m .neg .counts)) (length vs) h) refl
 
     pub laid : length (m .neg .counts) ≤ length vs → (r : Counts) (us' vs' : List ℕ) → Written m us vs r us' vs'
         → madeOver (Of (Exponential r)) us' vs' ≡ countsOver (exponentialCounts m) us vs
-    unfolding countsOver pick _and_
+    unfolding countsOver pick
     laid n r us' vs' w =
         (λ j. madeOver (Of (Exponential (w .counts j))) (w .pos j) (w .neg j))
         ∙ rw (le-leb (length (m .pos .counts)) (length us) p, le-leb (length (m .neg .counts)) (length vs) n) refl
@@ -104,7 +104,7 @@ module _ (bs : List Float) (n : ℕ) (xs : List ℕ) (cs : List Float) (m : ℕ)
   pub over-one : (us vs : List ℕ)
       → countsOver (explicitCounts bs (mergeBuckets (bucketsIn bs n xs) (bucketsIn cs m zs))) us vs
       ≡ madeOver (laidOne (bucketCount bs) n xs m zs us .made) (laidOne (bucketCount bs) n xs m zs us .counts) vs
-  unfolding countsOver laidOne mergeBuckets over pick _and_
+  unfolding countsOver laidOne mergeBuckets over pick
   over-one us vs =
       let k = bucketCount bs in
       let l : length (added (take (bucketCount bs) xs) (take (bucketCount bs) zs)) ≡ bucketCount bs =

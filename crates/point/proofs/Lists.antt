@@ -2,14 +2,13 @@
 -- room for any such point. Assumes nothing.
 use Prim.Native.Nat.{ℕ, _-_, _^_, _≤_, _<_}
 use mathlib.Core.Path.{_≡_, refl, ap, sym, subst}
-use mathlib.Core.Bool.{Bool, true}
+use mathlib.Core.Bool.{Bool, true, _&&_}
 use mathlib.Core.List.{List}
 use native.Mathlib.Omega.{arith}
 use lib.Dec.{leb}
 use lib.ListN.{length, replicate}
 use lib.Ieee.{Float}
 use borrow.Author.Tests.{le-leb}
-use Rattle.laws.specs.Pick.{_and_}
 use Rattle.laws.specs.Lists.{All}
 use Rattle.laws.specs.Said.{success}
 use Rattle.laws.proofs.Bools.{and-intro}
@@ -44,14 +43,13 @@ module _ (size top : ℕ) (sized : sizePasses size ≡ true) (known : top ≤ fi
 
   point-is : (bs : List Float) (extremes sums : Bool)
       → PointOf (settingsOf (exponential size top) extremes sums) vs (storedIn (exponentialPoint (exponentialRun .head) extremes sums) bs (exponentialRun .pos) (exponentialRun .neg))
-  unfolding _and_
   point-is bs extremes sums =
       let h = SL.run-is size top xs ys vs (Facts.size-in size sized .0) (Facts.size-in size sized .1) known long long' values few in
       let c = exponentialRun .head .counts in
       let a = Facts.agreed size top c (exponentialRun .pos) (exponentialRun .neg) (h .agree) in
       record {
         is = exponential-list (exponential size top) extremes sums bs (exponentialRun .pos) (exponentialRun .neg) vs (exponentialRun .head) (λ j. record { counts = exponentialCounts (h .rows j); summary = h .summary j });
-        shape = λ j. le-leb (c .level) finest (omega (arith, a .level)) j and le-leb (c .pos .len) (length (exponentialRun .pos)) (a .posThere) j and le-leb (c .neg .len) (length (exponentialRun .neg)) (a .negThere) j;
+        shape = λ j. le-leb (c .level) finest (omega (arith, a .level)) j && (le-leb (c .pos .len) (length (exponentialRun .pos)) (a .posThere) j && le-leb (c .neg .len) (length (exponentialRun .neg)) (a .negThere) j);
         values = values;
       }
 

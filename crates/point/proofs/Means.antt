@@ -1,12 +1,12 @@
 -- The code's points are those of crate `points`: what is handed out, agreement, and the refusals of a merge. Assumes nothing.
 use Prim.Native.Nat.{ℕ, _+_}
 use mathlib.Core.Path.{_≡_, refl, ap, _∙_}
-use mathlib.Core.Bool.{Bool, true, false, Bool·beq}
+use mathlib.Core.Bool.{Bool, true, false, Bool·beq, _&&_, and-assoc}
 use mathlib.Core.List.{List}
 use lib.Dec.{leb}
 use lib.ListN.{length}
 use lib.Ieee.{Float}
-use Rattle.laws.specs.Pick.{pick, _and_}
+use Rattle.laws.specs.Pick.{pick}
 use Rattle.index.specs.Bins.{finest, lowestBin}
 use Rattle.points.specs.Figures as F
 use Rattle.points.specs.Figures.{Kind, sizePasses, settingsOf, exponentialCounts, explicitCounts, figuresOf}
@@ -49,43 +49,35 @@ abbrev pub sizeFor : ℕ → Figures → Bool
 sizeFor size (Exponential c) = sizePasses size
 sizeFor size (Explicit n) = true
 
-regroup : (s l p n g : Bool) → s and true and l and p and n and g ≡ (s and l and p and n) and g
-unfolding _and_
+regroup : (s l p n g : Bool) → s && (true && (l && (p && (n && g)))) ≡ (s && (l && (p && n))) && g
 regroup true true true n g = refl
 regroup true true false n g = refl
 regroup true false p n g = refl
 regroup false l p n g = refl
 
-and-assoc : (a b c : Bool) → (a and b) and c ≡ a and b and c
-unfolding _and_
-and-assoc true b c = refl
-and-assoc false b c = refl
-
 abbrev pub agreesRead : ℕ → Handed → Bool
 agreesRead size = handedAgrees size finest (lowestBin finest)
 
 figures-is : (size : ℕ) (f : Figures) (bs : List Float) (xs ys : List ℕ)
-    → figuresAgree size f bs xs ys ≡ (sizeFor size f and figuresShaped f xs ys) and countsAgree size finest (lowestBin finest) (countsAs f bs xs ys)
-unfolding agrees _and_
+    → figuresAgree size f bs xs ys ≡ (sizeFor size f && figuresShaped f xs ys) && countsAgree size finest (lowestBin finest) (countsAs f bs xs ys)
+unfolding agrees
 figures-is size (Exponential c) bs xs ys =
     regroup (sizePasses size) (leb (c .level) finest) (leb (c .pos .len) (length xs)) (leb (c .neg .len) (length ys)) (countsAgree size finest (lowestBin finest) (exponentialCounts (read c xs ys)))
 figures-is size (Explicit n) bs xs ys = refl
 
 module _ (size : ℕ) (x : Stored) where
-  pub agrees-is : pointAgrees size x ≡ (sizeFor size (x .point .figures) and inShape x) and agreesRead size (handedIn x)
+  pub agrees-is : pointAgrees size x ≡ (sizeFor size (x .point .figures) && inShape x) && agreesRead size (handedIn x)
   unfolding pointAgrees handedAgrees
   agrees-is =
-      ap (λ (b : Bool). b and extremesAgree (x .point .min) (x .point .max)) (figures-is size (x .point .figures) (x .bounds) (x .pos) (x .neg))
-      ∙ and-assoc (sizeFor size (x .point .figures) and inShape x) (countsAgree size finest (lowestBin finest) (countsIn x)) (extremesAgree (x .point .min) (x .point .max))
+      ap (λ (b : Bool). b && extremesAgree (x .point .min) (x .point .max)) (figures-is size (x .point .figures) (x .bounds) (x .pos) (x .neg))
+      ∙ and-assoc (sizeFor size (x .point .figures) && inShape x) (countsAgree size finest (lowestBin finest) (countsIn x)) (extremesAgree (x .point .min) (x .point .max))
 
   -- of a point that is in shape
   pub agrees-whole : sizeFor size (x .point .figures) ≡ true → inShape x ≡ true → pointAgrees size x ≡ agreesRead size (handedIn x)
-  unfolding _and_
-  agrees-whole s w = agrees-is ∙ (λ j. (s j and w j) and agreesRead size (handedIn x))
+  agrees-whole s w = agrees-is ∙ (λ j. (s j && w j) && agreesRead size (handedIn x))
 
 -- ---- THE REFUSALS OF A MERGE
-swap : (i j g h : Bool) → (i and g) and (j and h) ≡ (i and j) and g and h
-unfolding _and_
+swap : (i j g h : Bool) → (i && g) && (j && h) ≡ (i && j) && (g && h)
 swap true true g h = refl
 swap true false true h = refl
 swap true false false h = refl
@@ -93,9 +85,9 @@ swap false j g h = refl
 
 module _ (i j g h : Bool) (R : ℕ) where
   gather : (s t u : Bool) → (s ≡ true → t ≡ true) → (s ≡ true → u ≡ true)
-      → pick s (pick (((t and i) and g) and ((u and j) and h)) R 8) 1 ≡ pick s (pick ((i and j) and g and h) R 8) 1
-  unfolding pick _and_
-  gather true t u k l = (λ n. pick (((k refl n and i) and g) and ((l refl n and j) and h)) R 8) ∙ ap (λ (b : Bool). pick b R 8) (swap i j g h)
+      → pick s (pick (((t && i) && g) && ((u && j) && h)) R 8) 1 ≡ pick s (pick ((i && j) && (g && h)) R 8) 1
+  unfolding pick
+  gather true t u k l = (λ n. pick (((k refl n && i) && g) && ((l refl n && j) && h)) R 8) ∙ ap (λ (b : Bool). pick b R 8) (swap i j g h)
   gather false t u k l = refl
 
 first-size : (size : ℕ) (f g : Figures) → sizeFits size f g ≡ true → sizeFor size f ≡ true
@@ -135,8 +127,8 @@ tested size x y =
     let f = x .point .figures in
     let g = y .point .figures in
     pick (sizeFits size f g)
-    (pick (pointAgrees size x and pointAgrees size y)
-    (pick (sameFigures f (x .bounds) g (y .bounds) and Bool·beq (x .point .extremes) (y .point .extremes)) (pick (leb (countIn f + countIn g) mostCount) 0 9) 11)
+    (pick (pointAgrees size x && pointAgrees size y)
+    (pick (sameFigures f (x .bounds) g (y .bounds) && Bool·beq (x .point .extremes) (y .point .extremes)) (pick (leb (countIn f + countIn g) mostCount) 0 9) 11)
     8)
     1
 
@@ -148,10 +140,10 @@ refusal-is size x y =
     let g = y .point .figures in
     let p = handedIn x in
     let q = handedIn y in
-    let R : ℕ = pick (sameKind (p .counts) (q .counts) and Bool·beq (p .extremes) (q .extremes)) (pick (leb (countOf (p .counts) + countOf (q .counts)) mostCount) 0 9) 11 in
+    let R : ℕ = pick (sameKind (p .counts) (q .counts) && Bool·beq (p .extremes) (q .extremes)) (pick (leb (countOf (p .counts) + countOf (q .counts)) mostCount) 0 9) 11 in
     (λ j. pick (sizeFits size f g)
-    (pick (agrees-is size x j and agrees-is size y j)
-    (pick (kind-is size (x .bounds) (x .pos) (x .neg) (y .bounds) (y .pos) (y .neg) f g j and Bool·beq (p .extremes) (q .extremes))
+    (pick (agrees-is size x j && agrees-is size y j)
+    (pick (kind-is size (x .bounds) (x .pos) (x .neg) (y .bounds) (y .pos) (y .neg) f g j && Bool·beq (p .extremes) (q .extremes))
     (pick (leb (count-is f (x .bounds) (x .pos) (x .neg) j + count-is g (y .bounds) (y .pos) (y .neg) j) mostCount) 0 9) 11) 8) 1)
     ∙ gather (inShape x) (inShape y) (agreesRead size p) (agreesRead size q) R (sizeFits size f g) (sizeFor size f) (sizeFor size g) (first-size size f g) (second-size size f g)
-    ∙ ap (λ (s : Bool). pick s (pick ((inShape x and inShape y) and agreesRead size p and agreesRead size q) R 8) 1) (size-is size (x .bounds) (x .pos) (x .neg) (y .bounds) (y .pos) (y .neg) f g)
+    ∙ ap (λ (s : Bool). pick s (pick ((inShape x && inShape y) && (agreesRead size p && agreesRead size q)) R 8) 1) (size-is size (x .bounds) (x .pos) (x .neg) (y .bounds) (y .pos) (y .neg) f g)

@@ -1,12 +1,12 @@
 -- Points as code holds them, read as the points of crate `points`; and what merging two of them answers. Assumes nothing.
 use Prim.Native.Nat.{ℕ}
-use mathlib.Core.Bool.{Bool, true}
+use mathlib.Core.Bool.{Bool, true, _&&_}
 use mathlib.Core.List.{List}
 use lib.Dec.{leb, eqb}
 use lib.ListN.{length}
 use lib.Ieee.{Float}
 use denote.Ref.{RefT, now}
-use Rattle.laws.specs.Pick.{pick, _and_}
+use Rattle.laws.specs.Pick.{pick}
 use Rattle.laws.specs.Said.{Said, refusal, success}
 use Rattle.laws.specs.Over.{over}
 use Rattle.index.specs.Bins.{finest}
@@ -64,7 +64,7 @@ handedIn x =
 
 -- the level is one, and the counts of both rows are there: what points read as can't say
 abbrev pub figuresShaped : Figures → List ℕ → List ℕ → Bool
-figuresShaped (Exponential c) xs ys = leb (c .level) finest and leb (c .pos .len) (length xs) and leb (c .neg .len) (length ys)
+figuresShaped (Exponential c) xs ys = leb (c .level) finest && (leb (c .pos .len) (length xs) && leb (c .neg .len) (length ys))
 figuresShaped (Explicit n) xs ys = true
 
 abbrev pub inShape : Stored → Bool
@@ -125,13 +125,13 @@ outcome r bounds pos neg = ended (said r) (now bounds) (now pos) (now neg)
 -- a point laid over lent rows, or 10 where they have no room for its counts
 unfoldable pub laidOver : Handed → List Float → List ℕ → List ℕ → Outcome
 laidOver p bs us vs =
-    pick (leb (length (posOf (p .counts))) (length us) and leb (length (negOf (p .counts))) (length vs))
+    pick (leb (length (posOf (p .counts))) (length us) && leb (length (negOf (p .counts))) (length vs))
     (ended (success (pointFor p)) bs (over (posOf (p .counts)) us) (over (negOf (p .counts)) vs))
     (ended (refusal 10) bs us vs)
 
 -- the number but for 10, of what the points read as; 8 also of a point that is not in shape
 unfoldable pub refusalBefore : ℕ → Stored → Stored → ℕ
-refusalBefore size x y = unmergeable size (inShape x and inShape y) (handedIn x) (handedIn y)
+refusalBefore size x y = unmergeable size (inShape x && inShape y) (handedIn x) (handedIn y)
 
 -- refused with a number, all as it was; or the merge of what the points read as, laid over the lent rows, with the first's bounds
 unfoldable pub merging : ℕ → Stored → Stored → List ℕ → List ℕ → Outcome

@@ -1,12 +1,12 @@
 -- BETWEEN OUR OWN CRATES: serves inner contracts and proofs; nobody needs it to believe the public calls or the theorems.
 -- A merge as code does it, over points as they are stored: its tests one by one, and merged counts over lent rows. Assumes nothing.
 use Prim.Native.Nat.{ℕ, _+_}
-use mathlib.Core.Bool.{Bool, true, false}
+use mathlib.Core.Bool.{Bool, true, false, _&&_}
 use mathlib.Core.List.{List}
 use lib.Dec.{leb}
 use lib.ListN.{length, take}
 use lib.Ieee.{Float, binary64, add}
-use Rattle.laws.specs.Pick.{pick, _and_}
+use Rattle.laws.specs.Pick.{pick}
 use Rattle.laws.specs.Said.{Said, refusal, success}
 use Rattle.index.specs.Bins.{finest}
 use Rattle.floats.specs.Answers.{smallerOf, largerOf}
@@ -32,7 +32,7 @@ figuresAgree size (Exponential c) bs xs ys = agrees size finest c xs ys
 figuresAgree size (Explicit n) bs xs ys = bucketsAgree bs (bucketsIn bs n xs)
 
 unfoldable pub pointAgrees : ℕ → Stored → Bool
-pointAgrees size x = figuresAgree size (x .point .figures) (x .bounds) (x .pos) (x .neg) and extremesAgree (x .point .min) (x .point .max)
+pointAgrees size x = figuresAgree size (x .point .figures) (x .bounds) (x .pos) (x .neg) && extremesAgree (x .point .min) (x .point .max)
 
 abbrev pub isExplicit : Figures → Bool
 isExplicit (Exponential c) = false
@@ -63,7 +63,7 @@ madeOver m us vs = record { made = m; pos = us; neg = vs }
 
 unfoldable pub countsOver : F.Counts → List ℕ → List ℕ → Over
 countsOver c us vs =
-    pick (leb (length (posOf c)) (length us) and leb (length (negOf c)) (length vs))
+    pick (leb (length (posOf c)) (length us) && leb (length (negOf c)) (length vs))
     (madeOver (Of (figuresFor c)) (over (posOf c) us) (over (negOf c) vs))
     (madeOver NoRoom us vs)
 

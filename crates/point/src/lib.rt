@@ -5,13 +5,13 @@ ghost use mathlib.Core.Path.{_≡_};
 ghost use Prim.Native.Nat.{_+_, _-_, _^_, _<_};
 ghost use Rattle.floats.specs.Starts.{zeroFloat};
 ghost use Rattle.points.specs.Handed.{extremesAgree};
-ghost use Rattle.laws.specs.Pick.{pick, _and_};
+ghost use Rattle.laws.specs.Pick.{pick};
 ghost use lib.Ieee.Scale.{finite};
 ghost use Rattle.point.specs.Handing.{stored, shownPoint, exponentialPoint, explicitPoint, refusalBefore, said, outcome, merging};
 ghost use Rattle.point.specs.Inner.{figuresAgree, pointAgrees, isExplicit, countIn, sameFigures, sizeFits};
 ghost use Rattle.point.specs.Inner.{madeOver, countsOver, madeOne, laidOne, finished};
 ghost use lib.Dec.{leb};
-ghost use mathlib.Core.Bool.{Bool·beq};
+ghost use mathlib.Core.Bool.{Bool·beq, _&&_};
 ghost use Rattle.points.specs.Explicit.{bucketCount};
 ghost use Rattle.points.specs.Figures.{exponentialCounts};
 ghost use Rattle.merges.specs.Merges.{Agreeing, mergedPoint};
@@ -97,7 +97,7 @@ fn extremes_agree(min: Extreme, max: Extreme) -> bool
 }
 
 fn both_finite(x: f64, y: f64) -> bool
-    ensures { λ r. ⌜ r ≡ (finite x and finite y) ⌝ }
+    ensures { λ r. ⌜ r ≡ (finite x && finite y) ⌝ }
 {
     if !floats::is_finite(x) {
         return false;

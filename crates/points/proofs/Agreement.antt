@@ -2,13 +2,12 @@
 use Prim.Native.Nat.{ℕ, _+_, _-_, _*_, _/_, _^_, _≤_, _<_, max, pred}
 use mathlib.Core.Path.{_≡_, ap, sym, _∙_}
 use mathlib.Core.Logic.{inl, inr}
-use mathlib.Core.Bool.{true, not}
+use mathlib.Core.Bool.{true, not, _&&_}
 use mathlib.Core.List.{[], map}
 use native.Mathlib.Omega.{arith}
 use lib.Dec.{leb, leb·zero, eqb}
 use lib.ListN.{length, getD}
 use borrow.Author.Tests.{leb-true, le-leb, eqb-true, eqb-false, eq-eqb, ne-eqb, not-true}
-use Rattle.laws.specs.Pick.{_and_}
 use Rattle.laws.specs.Counting.{total}
 use Rattle.laws.proofs.Bools.{flag, and-left, and-right, and-intro, pick-true, pick-false}
 use Rattle.laws.proofs.Search.{least-spec}
@@ -55,7 +54,7 @@ module _ (size low end : ℕ) (r : Row) where
       elim (flag (eqb n 0)) [
         | inl e ↦
             let z = eqb-true n 0 e in
-            let s = eqb-true (r .start) 0 (sym (pick-true (eqb n 0) (eqb (r .start) 0) (a and b and c and f and l) e) ∙ h) in
+            let s = eqb-true (r .start) 0 (sym (pick-true (eqb n 0) (eqb (r .start) 0) (a && (b && (c && (f && l)))) e) ∙ h) in
             record {
               canonical = record { empty = λ _. s; first = λ p. absurd (omega arith); last = λ p. absurd (omega arith) };
               short = omega arith;
@@ -63,10 +62,10 @@ module _ (size low end : ℕ) (r : Row) where
               below = omega arith;
             }
         | inr e ↦
-            let t = sym (pick-false (eqb n 0) (eqb (r .start) 0) (a and b and c and f and l) e) ∙ h in
-            let t2 = and-right a (b and c and f and l) t in
-            let t3 = and-right b (c and f and l) t2 in
-            let t4 = and-right c (f and l) t3 in
+            let t = sym (pick-false (eqb n 0) (eqb (r .start) 0) (a && (b && (c && (f && l)))) e) ∙ h in
+            let t2 = and-right a (b && (c && (f && l))) t in
+            let t3 = and-right b (c && (f && l)) t2 in
+            let t4 = and-right c (f && l) t3 in
             record {
               canonical =
                   record {
@@ -74,9 +73,9 @@ module _ (size low end : ℕ) (r : Row) where
                     first = λ _. nonzero (getD (r .counts) 0 0) (and-left f l t4);
                     last = λ _. rw (last-is n) at (nonzero (getD (r .counts) (n - 1) 0) (and-right f l t4));
                   };
-              short = leb-true n size (and-left a (b and c and f and l) t);
-              above = λ _. leb-true low (r .start) (and-left b (c and f and l) t2);
-              below = leb-true (r .start + n) end (and-left c (f and l) t3);
+              short = leb-true n size (and-left a (b && (c && (f && l))) t);
+              above = λ _. leb-true low (r .start) (and-left b (c && (f && l)) t2);
+              below = leb-true (r .start + n) end (and-left c (f && l) t3);
             }
       ]
 
@@ -91,14 +90,14 @@ module _ (size low end : ℕ) (r : Row) where
       let l = not (eqb (getD (r .counts) (n - 1) 0) 0) in
       elim (flag (eqb n 0)) [
         | inl e ↦
-            pick-true (eqb n 0) (eqb (r .start) 0) (a and b and c and f and l) e ∙ eq-eqb (r .start) 0 (k .canonical .empty (eqb-true n 0 e))
+            pick-true (eqb n 0) (eqb (r .start) 0) (a && (b && (c && (f && l)))) e ∙ eq-eqb (r .start) 0 (k .canonical .empty (eqb-true n 0 e))
         | inr e ↦
             let ne = eqb-false n 0 e in
             let p : 0 < n = omega arith in
-            pick-false (eqb n 0) (eqb (r .start) 0) (a and b and c and f and l) e
-            ∙ and-intro a (b and c and f and l) (le-leb n size (k .short))
-            (and-intro b (c and f and l) (le-leb low (r .start) (k .above p))
-            (and-intro c (f and l) (le-leb (r .start + n) end (k .below))
+            pick-false (eqb n 0) (eqb (r .start) 0) (a && (b && (c && (f && l)))) e
+            ∙ and-intro a (b && (c && (f && l))) (le-leb n size (k .short))
+            (and-intro b (c && (f && l)) (le-leb low (r .start) (k .above p))
+            (and-intro c (f && l) (le-leb (r .start + n) end (k .below))
             (and-intro f l (zeroless (getD (r .counts) 0 0) (k .canonical .first p))
             (rw (← last-is n) at (zeroless (getD (r .counts) (pred n) 0) (k .canonical .last p))))))
       ]
@@ -115,13 +114,13 @@ module _ (size top low : ℕ) (p : Point) where
       let c = rowAgrees size l e (p .pos) in
       let d = rowAgrees size l e (p .neg) in
       let t = eqb (p .total) n in
-      let h2 = and-right a (b and c and d and t) h in
-      let h3 = and-right b (c and d and t) h2 in
-      let h4 = and-right c (d and t) h3 in
+      let h2 = and-right a (b && (c && (d && t))) h in
+      let h3 = and-right b (c && (d && t)) h2 in
+      let h4 = and-right c (d && t) h3 in
       record {
-        fine = leb-true (finest - top) (p .d) (and-left a (b and c and d and t) h);
-        coarse = leb-true (p .d) finest (and-left b (c and d and t) h2);
-        pos = row-says size l e (p .pos) (and-left c (d and t) h3);
+        fine = leb-true (finest - top) (p .d) (and-left a (b && (c && (d && t))) h);
+        coarse = leb-true (p .d) finest (and-left b (c && (d && t)) h2);
+        pos = row-says size l e (p .pos) (and-left c (d && t) h3);
         neg = row-says size l e (p .neg) (and-left d t h4);
         adds = eqb-true (p .total) n (and-right d t h4);
       }
@@ -137,9 +136,9 @@ module _ (size top low : ℕ) (p : Point) where
       let c = rowAgrees size l e (p .pos) in
       let d = rowAgrees size l e (p .neg) in
       let t = eqb (p .total) n in
-      and-intro a (b and c and d and t) (le-leb (finest - top) (p .d) (k .fine))
-      (and-intro b (c and d and t) (le-leb (p .d) finest (k .coarse))
-      (and-intro c (d and t) (row-agrees size l e (p .pos) (k .pos))
+      and-intro a (b && (c && (d && t))) (le-leb (finest - top) (p .d) (k .fine))
+      (and-intro b (c && (d && t)) (le-leb (p .d) finest (k .coarse))
+      (and-intro c (d && t) (row-agrees size l e (p .pos) (k .pos))
       (and-intro d t (row-agrees size l e (p .neg) (k .neg)) (eq-eqb (p .total) n (k .adds)))))
 
 -- ---- a point that agrees is the point of what it stands for
@@ -177,7 +176,7 @@ build-bag size top low p v =
 
 -- ---- the fresh point: it has no rows, whatever the size, and changes nothing in an agreeing point no finer than it
 scale-none : (size d : ℕ) → scale size d none ≡ d
-unfolding scale fitsBoth fits row rowOf _and_
+unfolding scale fitsBoth fits row rowOf
 scale-none size d =
     let l = least-spec (fitsBoth size none) d (finest - d) in
     omega (arith, l .ge, l .first d (omega arith) (rw leb·zero))

@@ -3,7 +3,7 @@
 use Prim.Native.Nat.{ℕ, zero, suc, _+_, _≤_, _<_}
 use mathlib.Core.Path.{_≡_, refl, ap, sym, subst, _∙_}
 use mathlib.Core.Logic.{inl, inr}
-use mathlib.Core.Bool.{Bool, true, false, not}
+use mathlib.Core.Bool.{Bool, true, false, not, _&&_}
 use mathlib.Core.List.{List, [], _∷_, _++_, map, foldl, map-append, append-nil, append-assoc, List·Permᴰ}
 use native.Mathlib.Omega.{arith}
 use lib.ListN.{length, getD, length-append, length-set}
@@ -11,7 +11,7 @@ use lib.Dec.{leb, eqb}
 use borrow.Author.Tests.{eqb-true, eqb-false, eq-eqb, ne-eqb, not-true}
 use lib.Ieee.{Float, lt, eq, isNan}
 use Rattle.floats.proofs.Finite.{eq-self}
-use Rattle.laws.specs.Pick.{pick, _and_}
+use Rattle.laws.specs.Pick.{pick}
 use Rattle.laws.specs.Counting.{hit, count, table, total}
 use Rattle.laws.proofs.Same.{sum-append, same-perm}
 use Rattle.laws.proofs.Lists.{map-perm, length-perm}
@@ -118,9 +118,9 @@ buckets-say bounds p h =
     let b = eqb (length (p .counts)) n in
     let t = eqb (total (p .counts)) (p .total) in
     let c = pick (eqb n 0) true t in
-    let k = and-right a (b and c) h in
+    let k = and-right a (b && c) h in
     record {
-      passes = and-left a (b and c) h;
+      passes = and-left a (b && c) h;
       whole = eqb-true (length (p .counts)) n (and-left b c k);
       adds = λ l. eqb-true (total (p .counts)) (p .total) (sym (pick-false (eqb n 0) true t (ne-eqb n 0 (λ e. omega arith))) ∙ and-right b c k);
     }
@@ -132,7 +132,7 @@ buckets-agree bounds p k =
     let b = eqb (length (p .counts)) n in
     let t = eqb (total (p .counts)) (p .total) in
     let c = pick (eqb n 0) true t in
-    and-intro (boundsPass bounds) (b and c) (k .passes)
+    and-intro (boundsPass bounds) (b && c) (k .passes)
     (and-intro b c (eq-eqb (length (p .counts)) n (k .whole))
     (elim (flag (eqb n 0)) [
       | inl e ↦ pick-true (eqb n 0) true t e
@@ -212,4 +212,4 @@ pub same-bounds : (bs : List Float) → boundsPass bs ≡ true → sameBounds bs
 unfolding boundsPass
 same-bounds bs h =
     let l = leb (length bs) 159 in
-    same-self bs (and-left (noNan bs) (rising bs) (and-right l (noNan bs and rising bs) h))
+    same-self bs (and-left (noNan bs) (rising bs) (and-right l (noNan bs && rising bs) h))

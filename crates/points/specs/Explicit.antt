@@ -2,36 +2,36 @@
 -- Document 01: "Explicit kind: the bucket is the number of bounds below the value. No bounds, no buckets. Infinite bounds are
 -- allowed."
 use Prim.Native.Nat.{ℕ, suc, _+_}
-use mathlib.Core.Bool.{Bool, true, false, not}
+use mathlib.Core.Bool.{Bool, true, false, not, _&&_}
 use mathlib.Core.List.{List, [], _∷_, map}
 use lib.Dec.{leb, eqb}
 use lib.ListN.{length, getD, set}
 use lib.Ieee.{Float, lt, eq, isNan}
-use Rattle.laws.specs.Pick.{pick, _and_}
+use Rattle.laws.specs.Pick.{pick}
 use Rattle.laws.specs.Counting.{count, table, total}
 
 -- ---- bounds
 
 unfoldable pub noNan : List Float → Bool
 noNan [] = true
-noNan (b ∷ bs) = not (isNan b) and noNan bs
+noNan (b ∷ bs) = not (isNan b) && noNan bs
 
 -- as numbers: -0.0 then 0.0 does not rise
 unfoldable pub rising : List Float → Bool
 rising [] = true
 rising (b ∷ []) = true
-rising (b ∷ c ∷ bs) = lt b c and rising (c ∷ bs)
+rising (b ∷ c ∷ bs) = lt b c && rising (c ∷ bs)
 
 -- number 3: "over 159 bounds, a NaN, or not strictly rising"
 unfoldable pub boundsPass : List Float → Bool
-boundsPass bs = leb (length bs) 159 and noNan bs and rising bs
+boundsPass bs = leb (length bs) 159 && (noNan bs && rising bs)
 
 -- the same bounds as numbers
 unfoldable pub sameBounds : List Float → List Float → Bool
 sameBounds [] [] = true
 sameBounds [] (c ∷ cs) = false
 sameBounds (b ∷ bs) [] = false
-sameBounds (b ∷ bs) (c ∷ cs) = eq b c and sameBounds bs cs
+sameBounds (b ∷ bs) (c ∷ cs) = eq b c && sameBounds bs cs
 
 -- ---- buckets
 
@@ -76,5 +76,5 @@ mergeBuckets p q = record { counts = added (p .counts) (q .counts); total = p .t
 unfoldable pub bucketsAgree : List Float → Buckets → Bool
 bucketsAgree bounds p =
     boundsPass bounds
-    and eqb (length (p .counts)) (bucketCount bounds)
-    and pick (eqb (bucketCount bounds) 0) true (eqb (total (p .counts)) (p .total))
+    && (eqb (length (p .counts)) (bucketCount bounds)
+    && pick (eqb (bucketCount bounds) 0) true (eqb (total (p .counts)) (p .total)))

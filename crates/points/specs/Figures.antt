@@ -1,10 +1,9 @@
 -- What a series of either kind holds of its values: its counts beside minimum, maximum and sum. Assumes nothing.
 use Prim.Native.Nat.{ℕ, _-_}
-use mathlib.Core.Bool.{Bool}
+use mathlib.Core.Bool.{Bool, _&&_}
 use mathlib.Core.List.{List}
 use lib.Dec.{leb}
 use lib.Ieee.{Float}
-use Rattle.laws.specs.Pick.{_and_}
 use Rattle.index.specs.Bins.{finest}
 use Rattle.floats.specs.Starts.{zeroFloat}
 use Rattle.points.specs.Points.{Point, record1}
@@ -21,7 +20,7 @@ abbrev pub mostSize : ℕ
 mostSize = 160
 
 abbrev pub sizePasses : ℕ → Bool
-sizePasses size = leb 3 size and leb size mostSize
+sizePasses size = leb 3 size && leb size mostSize
 
 pub record Settings : Type 0 where
   pub kind : Kind

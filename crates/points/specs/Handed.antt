@@ -1,12 +1,12 @@
 -- A point as it is handed out: of either kind, with its switch and zero threshold, extremes that it has or has not, and its sum; and
 -- merging such points. Assumes nothing.
 use Prim.Native.Nat.{ℕ, _+_}
-use mathlib.Core.Bool.{Bool, true, false, Bool·beq}
+use mathlib.Core.Bool.{Bool, true, false, Bool·beq, _&&_}
 use mathlib.Core.List.{List, []}
 use lib.Dec.{leb}
 use lib.Ieee.{Float, binary64, add}
 use lib.Ieee.Scale.{finite}
-use Rattle.laws.specs.Pick.{pick, _and_}
+use Rattle.laws.specs.Pick.{pick}
 use Rattle.laws.specs.Counting.{mostCount}
 use Rattle.index.specs.Bins.{finest, lowestBin}
 use Rattle.floats.specs.Answers.{shownOf, smallerOf, largerOf}
@@ -52,7 +52,7 @@ sameKind (explicitCounts b p) (exponentialCounts q) = false
 sameKind (explicitCounts b p) (explicitCounts c q) = sameBounds b c
 
 unfoldable pub mergeable : Handed → Handed → Bool
-mergeable p q = sameKind (p .counts) (q .counts) and Bool·beq (p .extremes) (q .extremes)
+mergeable p q = sameKind (p .counts) (q .counts) && Bool·beq (p .extremes) (q .extremes)
 
 -- under a max_size; the first's bounds stay. Points of unlike kinds are refused: their merge has no meaning
 abbrev pub mergeCounts : ℕ → Counts → Counts → Counts
@@ -80,7 +80,7 @@ abbrev pub extremesAgree : Extreme → Extreme → Bool
 extremesAgree None None = true
 extremesAgree None (Value y) = false
 extremesAgree (Value x) None = false
-extremesAgree (Value x) (Value y) = finite x and finite y
+extremesAgree (Value x) (Value y) = finite x && finite y
 
 -- under a max_size, a greatest level (the finest in a merge) and the lowest finest bin
 abbrev pub countsAgree : ℕ → ℕ → ℕ → Counts → Bool
@@ -88,7 +88,7 @@ countsAgree size top low (exponentialCounts p) = agrees size top low p
 countsAgree size top low (explicitCounts b p) = bucketsAgree b p
 
 unfoldable pub handedAgrees : ℕ → ℕ → ℕ → Handed → Bool
-handedAgrees size top low p = countsAgree size top low (p .counts) and extremesAgree (p .min) (p .max)
+handedAgrees size top low p = countsAgree size top low (p .counts) && extremesAgree (p .min) (p .max)
 
 -- the count of values
 abbrev pub countOf : Counts → ℕ
@@ -109,7 +109,7 @@ unfoldable pub unmergeable : ℕ → Bool → Handed → Handed → ℕ
 unmergeable size there p q =
     let ok : Handed → Bool = handedAgrees size finest (lowestBin finest) in
     pick (sizeAsked size (p .counts) (q .counts))
-    (pick (there and ok p and ok q)
+    (pick (there && (ok p && ok q))
     (pick (mergeable p q) (pick (leb (countOf (p .counts) + countOf (q .counts)) mostCount) 0 9) 11)
     8)
     1

@@ -2,7 +2,7 @@
 use Prim.Native.Nat.{ℕ, _+_, _-_, _^_, _≤_, _<_}
 use mathlib.Core.Path.{_≡_, refl, sym, ap, ap₂, _∙_}
 use mathlib.Core.Logic.{⊎-elim}
-use mathlib.Core.Bool.{Bool, true, false}
+use mathlib.Core.Bool.{Bool, true, false, _&&_}
 use mathlib.Core.List.{List, [], _∷_, _++_, append-nil}
 use native.Mathlib.Omega.{arith}
 use borrow.Author.Tests.{leb-true, le-leb, lt-leb}
@@ -10,7 +10,7 @@ use lib.Dec.{leb}
 use lib.ListN.{length, set, take, drop, length-drop, drop-of-length-le, take-append-drop}
 use lib.Seq.{take-all}
 use Rattle.laws.specs.Over.{over}
-use Rattle.laws.specs.Pick.{pick, _and_}
+use Rattle.laws.specs.Pick.{pick}
 use Rattle.laws.specs.Said.{Said, refusal, success}
 use Rattle.laws.proofs.Bools.{and-left, and-right, pick-true, pick-false}
 use Rattle.laws.proofs.Cases.{true-not-false}
@@ -30,24 +30,20 @@ use Rattle.pooling.proofs.Verdicts.{point, enough, Turned, Taken, verdi
 
 module _ (at : Cursor) (sets words pos neg : ℕ) where
   pub no-sets : sets ≤ at .place → false ≡ placed at sets words pos neg
-  unfolding _and_
-  no-sets h = sym (ap (λ (t : Bool). t and leb (at .place + 1) words and leb (at .pos) pos and leb (at .neg) neg) (lt-leb (at .place + 1) sets (omega arith)))
+  no-sets h = sym (ap (λ (t : Bool). t && (leb (at .place + 1) words && (leb (at .pos) pos && leb (at .neg) neg))) (lt-leb (at .place + 1) sets (omega arith)))
 
   module _ (s : at .place < sets) where
     pub no-words : words ≤ at .place → false ≡ placed at sets words pos neg
-    unfolding _and_
-    no-words h = λ i. sym (le-leb (at .place + 1) sets (omega arith)) i and sym (lt-leb (at .place + 1) words (omega arith)) i and leb (at .pos) pos and leb (at .neg) neg
+    no-words h = λ i. sym (le-leb (at .place + 1) sets (omega arith)) i && (sym (lt-leb (at .place + 1) words (omega arith)) i && (leb (at .pos) pos && leb (at .neg) neg))
 
     module _ (w : at .place < words) where
       pub no-pos : pos < at .pos → false ≡ placed at sets words pos neg
-      unfolding _and_
       no-pos h =
-          λ i. sym (le-leb (at .place + 1) sets (omega arith)) i and sym (le-leb (at .place + 1) words (omega arith)) i and sym (lt-leb (at .pos) pos h) i and leb (at .neg) neg
+          λ i. sym (le-leb (at .place + 1) sets (omega arith)) i && (sym (le-leb (at .place + 1) words (omega arith)) i && (sym (lt-leb (at .pos) pos h) i && leb (at .neg) neg))
 
       pub by-neg : at .pos ≤ pos → leb (at .neg) neg ≡ placed at sets words pos neg
-      unfolding _and_
       by-neg h =
-          λ i. sym (le-leb (at .place + 1) sets (omega arith)) i and sym (le-leb (at .place + 1) words (omega arith)) i and sym (le-leb (at .pos) pos h) i and leb (at .neg) neg
+          λ i. sym (le-leb (at .place + 1) sets (omega arith)) i && (sym (le-leb (at .place + 1) words (omega arith)) i && (sym (le-leb (at .pos) pos h) i && leb (at .neg) neg))
 
   pub place-says : placed at sets words pos neg ≡ true → (at .place < sets) × (at .place < words) × (at .pos ≤ pos) × (at .neg ≤ neg)
   place-says h =
@@ -55,10 +51,10 @@ module _ (at : Cursor) (sets words pos neg : ℕ) where
       let w = leb (at .place + 1) words in
       let p = leb (at .pos) pos in
       let n = leb (at .neg) neg in
-      let h₂ = and-right s (w and p and n) h in
-      let h₃ = and-right w (p and n) h₂ in
-      let a = leb-true (at .place + 1) sets (and-left s (w and p and n) h) in
-      let b = leb-true (at .place + 1) words (and-left w (p and n) h₂) in
+      let h₂ = and-right s (w && (p && n)) h in
+      let h₃ = and-right w (p && n) h₂ in
+      let a = leb-true (at .place + 1) sets (and-left s (w && (p && n)) h) in
+      let b = leb-true (at .place + 1) words (and-left w (p && n) h₂) in
       (omega arith, omega arith, leb-true _ _ (and-left p n h₃), leb-true _ _ (and-right p n h₃))
 
 -- ---- what lies from a place on

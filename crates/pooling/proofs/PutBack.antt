@@ -1,7 +1,7 @@
 -- A point put at any cursor of an output is read there as it was put. Assumes nothing.
 use Prim.Native.Nat.{ℕ, _+_, _-_, _≤_, _<_}
 use mathlib.Core.Path.{_≡_, sym, ap, ap₂, _∙_}
-use mathlib.Core.Bool.{true}
+use mathlib.Core.Bool.{true, _&&_}
 use mathlib.Core.List.{List, [], _++_}
 use native.Mathlib.Omega.{arith}
 use borrow.Author.Tests.{le-leb, lt-leb}
@@ -10,7 +10,7 @@ use lib.ListN.{length, getD, take, drop, length-append, length-drop, length-set}
 use lib.Seq.{length-take-le, drop-append-seam, getD-set-same}
 use lib.Ieee.{Float}
 use Rattle.laws.specs.Over.{over}
-use Rattle.laws.specs.Pick.{pick, _and_}
+use Rattle.laws.specs.Pick.{pick}
 use Rattle.laws.proofs.Bools.{pick-true, pick-false, and-intro}
 use Rattle.laws.proofs.Over.{length-over, take-over}
 use Rattle.point.specs.Handing.{storedIn}
@@ -85,7 +85,7 @@ module _ (at : Cursor) (i : Item) (o : Output) (h : Held (i .point) (i .bounds))
       let x = length (putAt at i o .pos) in
       let y = length (putAt at i o .neg) in
       let t : within at (pointIn v .figures) (boundsIn v) x y ≡ true = ap₂ (λ u s. within at (u .figures) s x y) q b ∙ fits-here in
-      pick-true (isPoint v and within at (pointIn v .figures) (boundsIn v) x y) _ _ (and-intro (isPoint v) _ (point-is (i .point) (i .bounds) h) t)
+      pick-true (isPoint v && within at (pointIn v .figures) (boundsIn v) x y) _ _ (and-intro (isPoint v) _ (point-is (i .point) (i .bounds) h) t)
       ∙ ap₂ (λ u s. Is (record { point = u; bounds = s; next = behind at (u .figures) s })) q b
 
   pub point-there : pointAt at (putAt at i o .words) (length (putAt at i o .pos)) (length (putAt at i o .neg)) ≡ Is entry

@@ -1,7 +1,7 @@
 -- What a whole point at a cursor is: it lies within what is lent, and its words are its own. Assumes nothing.
 use Prim.Native.Nat.{ℕ, _+_, _-_, _≤_, _<_}
 use mathlib.Core.Path.{_≡_, refl, sym, ap, subst, _∙_}
-use mathlib.Core.Bool.{Bool, true, false}
+use mathlib.Core.Bool.{Bool, true, false, _&&_}
 use mathlib.Core.List.{List, []}
 use native.Mathlib.Omega.{arith}
 use borrow.Author.Tests.{leb-true, leb-false}
@@ -9,7 +9,7 @@ use lib.Dec.{leb}
 use lib.ListN.{length, getD, take, drop, length-drop}
 use lib.Seq.{length-take-le}
 use lib.Ieee.{Float}
-use Rattle.laws.specs.Pick.{pick, _and_}
+use Rattle.laws.specs.Pick.{pick}
 use Rattle.laws.proofs.Bools.{and-left, and-right, pick-true, pick-false}
 use Rattle.laws.proofs.Cases.{true-not-false}
 use Rattle.listing.specs.Words.{pointIn, boundsIn, isPoint}
@@ -75,7 +75,7 @@ unfolding pointAt entryIn
 point-told at words pos neg e h =
     let w = getD words (at .place) [] in
     let o = other (leb (length words) (at .place)) (entryIn at w pos neg) e h in
-    let c = chosen (isPoint w and within at (pointIn w .figures) (boundsIn w) pos neg) (read at w) e (o .1) in
+    let c = chosen (isPoint w && within at (pointIn w .figures) (boundsIn w) pos neg) (read at w) e (o .1) in
     record {
       there = leb-false (length words) (at .place) (o .0);
       is = and-left (isPoint w) _ (c .0);

@@ -2,13 +2,13 @@
 -- Document 01: "Sets are not compared; the result has the first's."
 use Prim.Native.Nat.{ℕ, _+_}
 use mathlib.Core.Path.{_≡_}
-use mathlib.Core.Bool.{Bool}
+use mathlib.Core.Bool.{Bool, _&&_}
 use mathlib.Core.List.{List, []}
 use lib.Dec.{leb, eqb}
 use lib.ListN.{length, getD, take, drop}
 use lib.Ieee.{Float}
 use denote.Ref.{RefT, now}
-use Rattle.laws.specs.Pick.{pick, _and_}
+use Rattle.laws.specs.Pick.{pick}
 use Rattle.laws.specs.Said.{Said, refusal, success}
 use Rattle.point.specs.Handing.{Stored, storedIn, handedIn, refusalBefore, merging}
 use Rattle.listing.specs.Listed.{Output, output, posLen, negLen, behind, itemOf, putAt, pointAt, storedAt}
@@ -58,7 +58,7 @@ ends r o = record { answer = r; output = o }
 
 -- a place for the set's row and the words, and offsets within the counts
 abbrev pub placed : Cursor → ℕ → ℕ → ℕ → ℕ → Bool
-placed at sets words pos neg = leb (at .place + 1) sets and leb (at .place + 1) words and leb (at .pos) pos and leb (at .neg) neg
+placed at sets words pos neg = leb (at .place + 1) sets && (leb (at .place + 1) words && (leb (at .pos) pos && leb (at .neg) neg))
 
 abbrev pub hasPlace : Cursor → Output → Bool
 hasPlace at o = placed at (length (o .sets)) (length (o .words)) (length (o .pos)) (length (o .neg))

@@ -4,7 +4,7 @@ use Prim.Native.Nat.{ℕ}
 use mathlib.Core.Path.{_≡_, refl}
 use mathlib.Core.List.{List, [], _∷_}
 use lib.Ieee.{isNan, ofBits, toBits}
-use Rattle.laws.specs.Pick.{pick, _and_}
+use Rattle.laws.specs.Pick.{pick}
 use Rattle.text.specs.Numbers.{glyphOf, hexDigits}
 use Rattle.index.specs.Signed.{scaleAnswer, indexAnswer}
 use Rattle.point.specs.Signed.{offsetAnswer}
@@ -35,5 +35,5 @@ text =
     44 ∷ 49 ∷ 32 ∷ 45 ∷ 49 ∷ 58 ∷ 49 ∷ 10 ∷ []
 
 pub prints-exactly : collectionLines 100 200 1 example [] ≡ text
-unfolding collectionLines collectionHead linesFrom lineAt nextAt pointLine line joined each listed attributeField setField floatField rowField decimal digitsWithin glyphOf hexDigits scaleAnswer indexAnswer offsetAnswer setOf figuresIn boundsIn extremeIn pointIn isPoint entryIn pointAt allb isNan ofBits toBits pick _and_
+unfolding collectionLines collectionHead linesFrom lineAt nextAt pointLine line joined each listed attributeField setField floatField rowField decimal digitsWithin glyphOf hexDigits scaleAnswer indexAnswer offsetAnswer setOf figuresIn boundsIn extremeIn pointIn isPoint entryIn pointAt allb isNan ofBits toBits pick
 prints-exactly = refl

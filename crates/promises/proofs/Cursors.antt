@@ -1,7 +1,7 @@
 -- A list read point by point, from a cursor, is the list that lies there. Assumes nothing.
 use Prim.Native.Nat.{ℕ, zero, suc, _+_, _-_, _≤_, _<_}
 use mathlib.Core.Path.{_≡_, refl, ap, sym, subst, _∙_}
-use mathlib.Core.Bool.{true}
+use mathlib.Core.Bool.{true, _&&_}
 use mathlib.Core.List.{List, [], _∷_}
 use native.Mathlib.Omega.{arith}
 use borrow.Author.Tests.{le-leb, lt-leb}
@@ -9,7 +9,7 @@ use lib.Dec.{leb}
 use lib.ListN.{length, getD, take, drop, length-drop}
 use lib.Seq.{getD-drop, drop-drop}
 use lib.Ieee.{Float}
-use Rattle.laws.specs.Pick.{pick, _and_}
+use Rattle.laws.specs.Pick.{pick}
 use Rattle.laws.proofs.Bools.{pick-true, pick-false, and-intro}
 use Rattle.point.specs.Handing.{Stored, storedIn}
 use Rattle.tally.specs.Sets.{Set}
@@ -79,7 +79,7 @@ module _ (bounds : List Float) (o : Output) where
           let in-neg = le-leb (at .neg + negLen words) (length (o .neg)) neg-there in
           let lies = and-intro (leb (at .pos + posLen words) (length (o .pos))) (leb (at .neg + negLen words) (length (o .neg))) in-pos in-neg in
           pick-false (leb (length (o .words)) (at .place)) _ _ (lt-leb (length (o .words)) (at .place) k)
-          ∙ pick-true (isPoint words and within at (pointIn words .figures) (boundsIn words) (length (o .pos)) (length (o .neg))) _ _
+          ∙ pick-true (isPoint words && within at (pointIn words .figures) (boundsIn words) (length (o .pos)) (length (o .neg))) _ _
           (and-intro (isPoint words) (within at (pointIn words .figures) (boundsIn words) (length (o .pos)) (length (o .neg))) is lies)
 
     -- and it is the one that lies there

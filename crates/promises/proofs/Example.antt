@@ -9,7 +9,7 @@ use native.Mathlib.Omega.{arith}
 use lib.ListN.{replicate, getD}
 use lib.Ieee.{Float, nan, binary64, ofBits, ofFields, toBits, lt, add, eq, isNan, fits, round}
 use Rattle.laws.specs.Over.{over}
-use Rattle.laws.specs.Pick.{pick, _and_}
+use Rattle.laws.specs.Pick.{pick}
 use Rattle.laws.specs.Said.{success}
 use Rattle.laws.specs.Trees.{leaf, node}
 use Rattle.floats.specs.Starts.{zeroFloat}
@@ -90,7 +90,7 @@ abbrev setup : Setup
 setup = record { settings = record { extremes = true; sums = true; limit = 1 }; dir = record { used = 0; count = 0; last = 0 } }
 
 accepted : configured bounds true true 1 none stores cells .answer ≡ success setup
-unfolding configured started begun Bindings.started boundsPass noNan rising _and_ isNan lt ofBits pick
+unfolding configured started begun Bindings.started boundsPass noNan rising isNan lt ofBits pick
 accepted = refl
 
 row-fits : (i : ℕ) → fits binary64 (getD (replicate 3 zeroFloat) i nan) ≡ true
@@ -143,7 +143,7 @@ abbrev answersAre : List (Answer histograms)
 answersAre = done ∷ done ∷ listed ((A, x₁) ∷ []) ∷ handle 1 ∷ done ∷ listed ((A, x₂) ∷ []) ∷ done ∷ refuse 7 ∷ []
 
 answers : replies (explicitLister bounds) w 1 none first given ≡ answersAre
-unfolding configured started begun Bindings.started bound boundIn boundTo released releasedIn measuredBy seatedBy boundsPass noNan rising _and_ isNan lt ofBits ofFields toBits fits add round eq pick over measured called entered unlessRefused barredBy unlessBarred newSeat seated marked committed located agreesb slotsb allb sought admitted setOf rowOf soundb inserted recordedAt Series.recording refusalOf bucketOf bucketsOf recordBucket bucketsAgree deltaCollected uncollected roomy sweptKept figuresIn boundsIn extremeIn pointIn
+unfolding configured started begun Bindings.started bound boundIn boundTo released releasedIn measuredBy seatedBy boundsPass noNan rising isNan lt ofBits ofFields toBits fits add round eq pick over measured called entered unlessRefused barredBy unlessBarred newSeat seated marked committed located agreesb slotsb allb sought admitted setOf rowOf soundb inserted recordedAt Series.recording refusalOf bucketOf bucketsOf recordBucket bucketsAgree deltaCollected uncollected roomy sweptKept figuresIn boundsIn extremeIn pointIn
 answers = refl
 
 abbrev room : Room
@@ -180,11 +180,11 @@ abbrev all : Stored
 all = stored (1 ∷ 1 ∷ 1 ∷ []) 3 less seven (f 0x4026_0000_0000_0000)
 
 points : storedOf (explicitLister bounds) bounds w 1 none A first given ≡ s₁ ∷ s₂ ∷ []
-unfolding pointAt entryIn isPoint configured started begun Bindings.started bound boundIn boundTo released releasedIn measuredBy seatedBy boundsPass noNan rising _and_ isNan lt ofBits ofFields toBits fits add round eq pick over measured called entered unlessRefused barredBy unlessBarred newSeat seated marked committed located agreesb slotsb allb sought admitted setOf rowOf soundb inserted recordedAt Series.recording refusalOf bucketOf bucketsOf recordBucket bucketsAgree deltaCollected uncollected roomy sweptKept figuresIn boundsIn extremeIn pointIn
+unfolding pointAt entryIn isPoint configured started begun Bindings.started bound boundIn boundTo released releasedIn measuredBy seatedBy boundsPass noNan rising isNan lt ofBits ofFields toBits fits add round eq pick over measured called entered unlessRefused barredBy unlessBarred newSeat seated marked committed located agreesb slotsb allb sought admitted setOf rowOf soundb inserted recordedAt Series.recording refusalOf bucketOf bucketsOf recordBucket bucketsAgree deltaCollected uncollected roomy sweptKept figuresIn boundsIn extremeIn pointIn
 points = refl
 
 together : mergedStored 0 (0 ∷ 0 ∷ 0 ∷ []) [] s₁ s₂ ≡ success all
-unfolding merging refusalBefore unmergeable mergeable mergeHanded handedAgrees laidOver mergeBuckets added bucketsAgree boundsPass sameBounds noNan rising _and_ isNan lt eq add round ofBits pick over
+unfolding merging refusalBefore unmergeable mergeable mergeHanded handedAgrees laidOver mergeBuckets added bucketsAgree boundsPass sameBounds noNan rising isNan lt eq add round ofBits pick over
 together = refl
 
 values : collectedOf (explicitLister bounds) w 1 none first given A ≡ five ∷ less ∷ seven ∷ []

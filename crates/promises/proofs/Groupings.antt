@@ -2,7 +2,7 @@
 -- refused only where its rows are too short. Assumes nothing.
 use Prim.Native.Nat.{ℕ, _+_, _^_, _<_}
 use mathlib.Core.Path.{_≡_, refl, ap, sym, subst, _∙_}
-use mathlib.Core.Bool.{Bool, true, false}
+use mathlib.Core.Bool.{Bool, true, false, _&&_}
 use mathlib.Core.List.{List, [], _∷_, _++_, map, flatten, append-nil, append-assoc, nil≢cons, head-eq-of-cons-eq, tail-eq-of-cons-eq, List·Permᴰ, Permᴰ·symm}
 use native.Mathlib.Omega.{arith}
 use lib.Dec.{leb}
@@ -10,7 +10,7 @@ use lib.ListN.{length, length-append}
 use lib.Ieee.{Float}
 use borrow.Author.Tests.{le-leb}
 use Rattle.laws.specs.Lists.{All}
-use Rattle.laws.specs.Pick.{pick, _and_}
+use Rattle.laws.specs.Pick.{pick}
 use Rattle.laws.specs.Said.{Said, refusal, success}
 use Rattle.laws.specs.Trees.{Tree, leaf, node, leaves}
 use Rattle.laws.proofs.Lists.{all-left, all-right, all-perm, map-perm, length-perm}
@@ -107,7 +107,7 @@ module _ (z : Settings) (k : Configured (z .kind)) (size : ℕ) (u : Under (z .k
   agreeing : (v : List Float) (x : Stored) → For z v x → agreesRead size (handedIn x) ≡ true
   unfolding handedAgrees
   agreeing v x f =
-      ap (λ b. b and extremesAgree (x .point .min) (x .point .max)) (agrees-own (z .kind) (z .threshold) size u v (countsIn x) (f .stands .same .counts))
+      ap (λ b. b && extremesAgree (x .point .min) (x .point .max)) (agrees-own (z .kind) (z .threshold) size u v (countsIn x) (f .stands .same .counts))
       ∙ stands-agrees z (handedIn x) v (sound (z .kind) k) (f .stands)
 
   shown : (v : List Float) (x : Stored) → For z v x → Shows (z .kind) (z .threshold) v (x .point .figures)
@@ -118,12 +118,12 @@ module _ (z : Settings) (k : Configured (z .kind)) (size : ℕ) (u : Under (z .k
 
   module _ (x y : Stored) (v w : List Float) (p : For z v x) (q : For z w y) (few : length v + length w < 2 ^ 64) (us vs : List ℕ) where
     free : refusalBefore size x y ≡ 0
-    unfolding refusalBefore unmergeable pick _and_
+    unfolding refusalBefore unmergeable pick
     free =
         let a : sizeAsked size (countsIn x) (countsIn y) ≡ true = (λ t. sizeAsked size (p .stands .same .counts t) (q .stands .same .counts t)) ∙ size-asked (z .kind) (z .threshold) size u k v w in
         let n : leb (countOf (countsIn x) + countOf (countsIn y)) mostCount ≡ true =
         le-leb (countOf (countsIn x) + countOf (countsIn y)) mostCount (omega (arith, few, count-for z v x p, count-for z w y q)) in
-        (λ t. pick (a t) (pick ((p .shape t and q .shape t) and agreeing v x p t and agreeing w y q t)
+        (λ t. pick (a t) (pick ((p .shape t && q .shape t) && (agreeing v x p t && agreeing w y q t))
         (pick (stands-mergeable z (handedIn x) (handedIn y) v w (sound (z .kind) k) (p .stands) (q .stands) t) (pick (n t) 0 9) 11) 8) 1)
 
     joins : Stands z (mergeHanded size (handedIn x) (handedIn y)) (v ++ w)

@@ -1,7 +1,7 @@
 -- A stored point that stands for values shows their scale and offsets. Assumes nothing.
 use Prim.Native.Nat.{ℕ, _-_, _≤_}
 use mathlib.Core.Path.{_≡_, refl, ap, sym, subst, _∙_}
-use mathlib.Core.Bool.{true}
+use mathlib.Core.Bool.{true, _&&_}
 use mathlib.Core.List.{List}
 use native.Mathlib.Omega.{arith}
 use borrow.Author.Tests.{leb-true}
@@ -10,7 +10,7 @@ use lib.ListN.{length}
 use lib.Seq.{length-take-le}
 use lib.IntN.{pos}
 use lib.Ieee.{Float}
-use Rattle.laws.specs.Pick.{pick, _and_}
+use Rattle.laws.specs.Pick.{pick}
 use Rattle.laws.proofs.Bools.{and-left, and-right}
 use Rattle.index.specs.Bins.{finest, scaleOf, indexOf}
 use Rattle.index.specs.declared.signed.Integer.the-variants.{Is}
@@ -53,9 +53,9 @@ module _ (size : ℕ) (p : Point) (x : Stored) (a : pointAgrees size x ≡ true)
       let t₂ = leb (c .pos .len) (length (x .pos)) in
       let t₃ = leb (c .neg .len) (length (x .neg)) in
       let q : read c (x .pos) (x .neg) ≡ p = ap (pointIn p) e in
-      let fine : c .level ≤ finest = leb-true (c .level) finest (and-left t₁ (t₂ and t₃) s) in
-      let i = leb-true (c .pos .len) (length (x .pos)) (and-left t₂ t₃ (and-right t₁ (t₂ and t₃) s)) in
-      let j = leb-true (c .neg .len) (length (x .neg)) (and-right t₂ t₃ (and-right t₁ (t₂ and t₃) s)) in
+      let fine : c .level ≤ finest = leb-true (c .level) finest (and-left t₁ (t₂ && t₃) s) in
+      let i = leb-true (c .pos .len) (length (x .pos)) (and-left t₂ t₃ (and-right t₁ (t₂ && t₃) s)) in
+      let j = leb-true (c .neg .len) (length (x .neg)) (and-right t₂ t₃ (and-right t₁ (t₂ && t₃) s)) in
       let d : finest - c .level ≡ p .d = ap (λ (y : Point). y .d) q in
       let l : c .level ≡ finest - p .d = omega (arith, fine, d) in
       record {

@@ -10,7 +10,7 @@ use lib.ListN.{replicate}
 use lib.IntN.{pos}
 use lib.Ieee.{ofBits, ofFields, toBits, lt, add, eq, isNan, fits, round}
 use Rattle.laws.specs.Over.{over}
-use Rattle.laws.specs.Pick.{pick, _and_}
+use Rattle.laws.specs.Pick.{pick}
 use Rattle.laws.specs.Said.{success}
 use Rattle.index.specs.Signed.{levelAnswer}
 use Rattle.index.specs.Magnitude.{magnitude}
@@ -64,7 +64,7 @@ abbrev setup : Setup
 setup = record { settings = record { size = 3; top = 20; extremes = true; sums = true; limit = 1 }; dir = record { used = 0; count = 0; last = 0 } }
 
 accepted : configured 3 (pos 10) true true 1 none stores cells .answer ≡ success setup
-unfolding configured levelAnswer started begun Bindings.started unset pick _and_
+unfolding configured levelAnswer started begun Bindings.started unset pick
 accepted = refl
 
 -- no count store is needed for zeros
@@ -99,7 +99,7 @@ abbrev answersAre : List (Answer histograms)
 answersAre = done ∷ listed ((A, point 1) ∷ []) ∷ done ∷ listed ((A, point 1) ∷ []) ∷ []
 
 answers : replies (exponentialLister 3 20) (true, true) 1 none first given ≡ answersAre
-unfolding configured levelAnswer started begun Bindings.started unset _and_ isNan lt ofBits ofFields toBits fits add round eq pick over measured called entered unlessRefused barredBy unlessBarred newSeat seated marked committed located agreesb slotsb allb sought admitted setOf rowOf soundb inserted recordedAt shaped countsAt headIn narrow readable headOf Series.agrees refusalOf Series.recording classOf magnitude Agreement.agrees rowAgrees placed lowBin highBin PointsRows.at Points.rowOf Points.row Points.fits Points.fitsBoth Points.scale Points.build Points.pointOf Points.indices Points.bag Points.record1 deltaCollected uncollected roomy sweptKept figuresIn boundsIn extremeIn pointIn
+unfolding configured levelAnswer started begun Bindings.started unset isNan lt ofBits ofFields toBits fits add round eq pick over measured called entered unlessRefused barredBy unlessBarred newSeat seated marked committed located agreesb slotsb allb sought admitted setOf rowOf soundb inserted recordedAt shaped countsAt headIn narrow readable headOf Series.agrees refusalOf Series.recording classOf magnitude Agreement.agrees rowAgrees placed lowBin highBin PointsRows.at Points.rowOf Points.row Points.fits Points.fitsBoth Points.scale Points.build Points.pointOf Points.indices Points.bag Points.record1 deltaCollected uncollected roomy sweptKept figuresIn boundsIn extremeIn pointIn
 answers = refl
 
 -- demand 3's premise holds, and so does all that it says
@@ -112,7 +112,7 @@ premise =
     (record { fewer = omega arith; unlike = omega arith })
 
 demanded : Whole (exponentialLister 3 20) [] (true, true) 1 none first given
-unfolding levelAnswer pick _and_
+unfolding levelAnswer pick
 demanded = exponential-demand 3 (pos 10) true true 1 none stores cells setup all-fit accepted .1 .demand given premise
 
 -- ---- THE SET'S POINTS, as they are stored, and merged
@@ -135,9 +135,9 @@ stored n =
     [] [] []
 
 points : storedOf (exponentialLister 3 20) [] (true, true) 1 none A first given ≡ stored 1 ∷ stored 1 ∷ []
-unfolding pointAt entryIn isPoint configured levelAnswer started begun Bindings.started unset _and_ isNan lt ofBits ofFields toBits fits add round eq pick over measured called entered unlessRefused barredBy unlessBarred newSeat seated marked committed located agreesb slotsb allb sought admitted setOf rowOf soundb inserted recordedAt shaped countsAt headIn narrow readable headOf Series.agrees refusalOf Series.recording classOf magnitude Agreement.agrees rowAgrees placed lowBin highBin PointsRows.at Points.rowOf Points.row Points.fits Points.fitsBoth Points.scale Points.build Points.pointOf Points.indices Points.bag Points.record1 deltaCollected uncollected roomy sweptKept figuresIn boundsIn extremeIn pointIn
+unfolding pointAt entryIn isPoint configured levelAnswer started begun Bindings.started unset isNan lt ofBits ofFields toBits fits add round eq pick over measured called entered unlessRefused barredBy unlessBarred newSeat seated marked committed located agreesb slotsb allb sought admitted setOf rowOf soundb inserted recordedAt shaped countsAt headIn narrow readable headOf Series.agrees refusalOf Series.recording classOf magnitude Agreement.agrees rowAgrees placed lowBin highBin PointsRows.at Points.rowOf Points.row Points.fits Points.fitsBoth Points.scale Points.build Points.pointOf Points.indices Points.bag Points.record1 deltaCollected uncollected roomy sweptKept figuresIn boundsIn extremeIn pointIn
 points = refl
 
 together : mergedStored 3 [] [] (stored 1) (stored 1) ≡ success (stored 2)
-unfolding merging refusalBefore unmergeable mergeable mergeHanded handedAgrees Series.agrees Agreement.agrees rowAgrees laidOver _and_ isNan lt eq add round ofBits ofFields pick over PointsRows.at Points.rowOf Points.row Points.fits Points.fitsBoth Points.scale Points.build Points.indices Points.bag Points.merge
+unfolding merging refusalBefore unmergeable mergeable mergeHanded handedAgrees Series.agrees Agreement.agrees rowAgrees laidOver isNan lt eq add round ofBits ofFields pick over PointsRows.at Points.rowOf Points.row Points.fits Points.fitsBoth Points.scale Points.build Points.indices Points.bag Points.merge
 together = refl

@@ -2,10 +2,9 @@
 -- A row of bucket counts: a start index, and the counts of the indices from it on. Assumes nothing.
 use Prim.Native.Nat.{ℕ, zero, suc, _+_, _-_, _/_, _^_, min}
 use mathlib.Core.List.{List, [], _∷_, _++_}
-use mathlib.Core.Bool.{Bool, true, false}
+use mathlib.Core.Bool.{Bool, true, false, _&&_}
 use lib.Dec.{leb, eqb}
 use lib.ListN.{take, drop, replicate}
-use Rattle.laws.specs.Pick.{_and_}
 use Rattle.laws.specs.Search.{least}
 unfoldable pub use Rattle.laws.specs.Over.{over}
 
@@ -43,7 +42,7 @@ recorded s (x ∷ xs) i = addAt (i - s) 1 (replicate (s - i) 0 ++ x ∷ xs)
 
 -- whether the row of n counts from s on has the index i
 unfoldable pub holds : ℕ → ℕ → ℕ → Bool
-holds s n i = leb s i and leb (suc i) (s + n)
+holds s n i = leb s i && leb (suc i) (s + n)
 
 -- whether the indices from lo to hi are at most size, d levels lower
 unfoldable pub narrow : ℕ → ℕ → ℕ → ℕ → Bool

@@ -2,7 +2,7 @@
 use Prim.Native.Nat.{ℕ, zero, suc, _+_, _-_, _*_, _/_, _%_, _^_, _≤_, _<_}
 use mathlib.Core.Path.{_≡_, refl, sym, ap, _∙_, subst}
 use mathlib.Core.Logic.{_⊎_, inl, inr, ⊎-elim}
-use mathlib.Core.Bool.{Bool, true, false}
+use mathlib.Core.Bool.{Bool, true, false, _&&_}
 use mathlib.Core.List.{List, [], _∷_}
 use native.Mathlib.Omega.{arith}
 use native.Mathlib.Nat.{pow-suc, pow-le-pow-right}
@@ -11,7 +11,7 @@ use lib.Dec.{lit<, leb, ltb}
 use lib.ListN.{length, getD, set, drop, drop-of-length-le}
 use lib.Seq.{getD-set-same, getD-set-other}
 use borrow.Author.Tests.{lt-ltb, le-ltb, le-leb, lt-leb, leb-true}
-use Rattle.laws.specs.Pick.{pick, _and_}
+use Rattle.laws.specs.Pick.{pick}
 use Rattle.laws.proofs.Bools.{not-both, and-left, and-right, and-intro, pick-true, pick-false}
 use Rattle.laws.proofs.Differences.{le-or-lt}
 use Rattle.text.specs.Numbers.{digitOf, spelledFrom}
@@ -20,17 +20,15 @@ use Rattle.text.specs.declared.numbers.Natural.{Natural}
 use Rattle.text.specs.declared.numbers.Natural.the-variants as N
 use Rattle.text.proofs.Spelling.{from-here, next-digit}
 
-and-no : (a b : Bool) → b ≡ false → a and b ≡ false
-unfolding _and_
+and-no : (a b : Bool) → b ≡ false → a && b ≡ false
 and-no true b h = h
 and-no false b h = refl
 
-no-and : (a b : Bool) → a ≡ false → a and b ≡ false
-unfolding _and_
+no-and : (a b : Bool) → a ≡ false → a && b ≡ false
 no-and a b h = rw h
 
 -- the n numbers from a to m, tested by a difference that wraps
-pub in-range : (w b a n m : ℕ) → w < 256 → a + n ≤ 256 → a + n ≡ m + 1 → (w + a) % 256 ≡ b → ltb w n ≡ leb a b and leb b m
+pub in-range : (w b a n m : ℕ) → w < 256 → a + n ≤ 256 → a + n ≡ m + 1 → (w + a) % 256 ≡ b → ltb w n ≡ leb a b && leb b m
 in-range w b a n m f t e q =
     ⊎-elim
     (λ (l : n ≤ w).

@@ -2,18 +2,18 @@
 -- Hexadecimal digits taken two at a time. Assumes nothing.
 use Prim.Native.Nat.{ℕ, zero, suc, _+_, _*_, _<_}
 use mathlib.Core.Path.{_≡_}
-use mathlib.Core.Bool.{Bool, true, false}
+use mathlib.Core.Bool.{Bool, true, false, _&&_}
 use mathlib.Core.List.{List, [], _∷_}
 use lib.Dec.{leb}
 use lib.ListN.{getD}
-use Rattle.laws.specs.Pick.{pick, _and_}
+use Rattle.laws.specs.Pick.{pick}
 use Rattle.text.specs.Numbers.{digitOf}
 
 unfoldable pub isDecimal : ℕ → Bool
-isDecimal b = leb 48 b and leb b 57
+isDecimal b = leb 48 b && leb b 57
 
 unfoldable pub isLetter : ℕ → Bool
-isLetter b = leb 65 b and leb b 70
+isLetter b = leb 65 b && leb b 70
 
 unfoldable pub areHex : List ℕ → Bool
 areHex [] = true

@@ -8,7 +8,7 @@ use lib.Dec.{leb}
 use lib.ListN.{length}
 use lib.Ieee.{Float}
 use borrow.Author.Tests.{le-leb, lt-leb}
-use Rattle.laws.specs.Pick.{pick, _and_}
+use Rattle.laws.specs.Pick.{pick}
 use Rattle.laws.proofs.Bools.{pick-left, pick-then}
 use Rattle.laws.proofs.Cases.{true-not-false}
 use Rattle.index.specs.Bins.{finest}
@@ -26,11 +26,11 @@ use Rattle.value_map.proofs.Products.{entry-in, counts-in}
 
 module _ (size top : ℕ) where
   pub unset-low : size < 3 → 1 ≡ unset size top
-  unfolding unset pick _and_
+  unfolding unset pick
   unset-low h = rw (lt-leb 3 size h)
 
   pub unset-high : 3 ≤ size → mostSize < size → 1 ≡ unset size top
-  unfolding unset pick _and_
+  unfolding unset pick
   unset-high a h = rw (le-leb 3 size a, lt-leb size mostSize h)
 
   module _ (e : sizePasses size ≡ true) where

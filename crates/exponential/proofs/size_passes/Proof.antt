@@ -1,16 +1,13 @@
 use mathlib.Core.Path.{refl, sym}
 use native.Mathlib.Omega.{arith}
-use Rattle.laws.specs.Pick.{_and_}
 use borrow.Author.Tests.{le-leb, lt-leb}
 use Rattle.exponential.proofs.size_passes.Statement.{statement}
 use Rattle.exponential.proofs.size_passes.Tie as tie
 
 returns : tie.Need-returns
-unfolding _and_
 returns c = sym (rw (lt-leb 3 (c .before .args .size) (c .if1 .taken)) refl)
 
 returns-2 : tie.Need-returns-2
-unfolding _and_
 returns-2 c = sym (rw (le-leb 3 (c .before .args .size) (omega (arith, c .if1 .left))) refl)
 
 pub size-passes-spec : {M : Type 1} → statement M

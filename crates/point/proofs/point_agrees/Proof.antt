@@ -1,6 +1,5 @@
 use mathlib.Core.Path.{sym, ap, _∙_}
-use mathlib.Core.Bool.{Bool}
-use Rattle.laws.specs.Pick.{_and_}
+use mathlib.Core.Bool.{Bool, _&&_}
 use Rattle.points.specs.Handed.{extremesAgree}
 use Rattle.point.specs.Inner.{pointAgrees}
 use Rattle.exponential.proofs.Facts.{not-true, not-false}
@@ -9,17 +8,17 @@ use Rattle.point.proofs.point_agrees.Statement.{statement}
 use Rattle.point.proofs.point_agrees.Tie as tie
 
 returns : tie.Need-returns
-unfolding pointAgrees _and_
+unfolding pointAgrees
 returns c =
     let a = c .before .before .before .before .before .args in
-    sym (ap (λ (t : Bool). t and extremesAgree (a .p .min) (a .p .max)) (sym (c .before .figures-agree .ensures) ∙ not-true _ (c .if1 .taken)))
+    sym (ap (λ (t : Bool). t && extremesAgree (a .p .min) (a .p .max)) (sym (c .before .figures-agree .ensures) ∙ not-true _ (c .if1 .taken)))
 
 returns-2 : tie.Need-returns-2
-unfolding pointAgrees _and_
+unfolding pointAgrees
 returns-2 c =
     let e = c .before in
     let a = e .before .before .before .before .before .args in
-    c .extremes-agree .ensures ∙ sym (ap (λ (t : Bool). t and extremesAgree (a .p .min) (a .p .max)) (sym (e .before .figures-agree .ensures) ∙ not-false _ (e .if1 .left)))
+    c .extremes-agree .ensures ∙ sym (ap (λ (t : Bool). t && extremesAgree (a .p .min) (a .p .max)) (sym (e .before .figures-agree .ensures) ∙ not-false _ (e .if1 .left)))
 
 pub point-agrees-spec : {M : Type 1} → statement M
 point-agrees-spec =

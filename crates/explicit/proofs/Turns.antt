@@ -8,7 +8,7 @@ use native.Mathlib.Omega.{arith}
 use lib.ListN.{length, take, getD}
 use lib.Seq.{take-suc, length-take-le}
 use lib.Ieee.{Float, nan, lt, eq}
-use Rattle.laws.specs.Pick.{pick}
+use Rattle.laws.specs.Counting.{bit}
 use Rattle.points.specs.Explicit.{rising, sameBounds, bucketOf, bucketCount}
 use Rattle.points.proofs.Bounds.{rising-next, same-next, bucket-next}
 
@@ -50,12 +50,7 @@ pub same-none : (cs bs : List Float) → true ≡ sameBounds (take 0 cs) (take 0
 unfolding sameBounds
 same-none cs bs = refl
 
-pub pick-le : (b : Bool) → pick b 1 0 ≤ 1
-unfolding pick
-pick-le true = omega arith
-pick-le false = omega arith
-
-pub bucket-turn : (bs : List Float) (v : Float) (i k r : ℕ) → i < length bs → k ≡ bucketOf (take i bs) v → r ≡ pick (lt (getD bs i nan) v) 1 0
+pub bucket-turn : (bs : List Float) (v : Float) (i k r : ℕ) → i < length bs → k ≡ bucketOf (take i bs) v → r ≡ bit (lt (getD bs i nan) v)
     → k + r ≡ bucketOf (take (i + 1) bs) v
 bucket-turn bs v i k r h e f =
     (λ j. e j + f j) ∙ sym (bucket-next (take i bs) (getD bs i nan) v) ∙ ap (λ l. bucketOf l v) (sym (take-next bs i nan h))

@@ -4,8 +4,7 @@ ghost use mathlib.Core.Bool.{_&&_};
 ghost use Prim.Native.Nat.{_+_, _-_, _/_, _<_, _≤_};
 ghost use lib.ListN.{length, take};
 ghost use lib.Ieee.{lt};
-ghost use Rattle.laws.specs.Pick.{pick};
-ghost use Rattle.laws.specs.Counting.{total, mostCount};
+ghost use Rattle.laws.specs.Counting.{bit, total, mostCount};
 ghost use Rattle.rows.specs.Rows.{over};
 ghost use Rattle.points.specs.Explicit.{rising, boundsPass, sameBounds, bucketOf, bucketCount, recordBucket, added, bucketsAgree};
 ghost use Rattle.points.specs.Figures.{mostSize};
@@ -101,7 +100,7 @@ pub fn bucket_count(bounds: &[f64]) -> usize
 
 // 1 where b is below v.
 fn below(b: f64, v: f64) -> usize
-    ensures { λ r. ⌜ r ≡ pick (lt b v) 1 0 ⌝ }
+    ensures { λ r. ⌜ r ≡ bit (lt b v) ⌝ }
 {
     if b < v {
         return 1;

@@ -10,8 +10,8 @@ use lib.Dec.{eqb, eqb·suc-zero}
 use lib.ListN.{length, replicate, length-append}
 use lib.Seq.{ext-getD}
 use lib.Pow.{shr-mono}
-use Rattle.laws.specs.Counting.{hit, count, lowest, highest, table}
-use Rattle.laws.proofs.Same.{sum-append, sum-map}
+use Rattle.laws.specs.Counting.{bit, count, lowest, highest, table}
+use Rattle.laws.proofs.Same.{count-append, sum-map}
 use Rattle.laws.proofs.Counting.{Ends, ends-map, ends-append, ends-of, length-table}
 use Rattle.points.specs.Points.{Row, rowOf, expand}
 use Rattle.points.proofs.Rows.{at-in, at-rowOf, row-path, count-expand, expand-rowOf, at}
@@ -38,13 +38,13 @@ counts-bucket k s [] j = refl
 counts-bucket k s (c ∷ cs) j = omega (arith, counts-bucket k (suc s) cs j)
 
 count-at-expand : (j s : ℕ) (cs : List ℕ) → count j (expand s cs) ≡ countAt s cs j
-unfolding hit countAt
+unfolding countAt
 count-at-expand j s [] = refl
 count-at-expand j s (c ∷ cs) =
     omega (
       arith,
-      sum-append (hit j) (replicate c s) (expand (suc s) cs),
-      sum-replicate (eqb s j) (hit j) c s refl,
+      count-append j (replicate c s) (expand (suc s) cs),
+      sum-replicate (eqb s j) (λ x. bit (eqb x j)) c s refl,
       count-at-expand j (suc s) cs,
     )
 
@@ -61,8 +61,8 @@ counted k xs j =
     ∙ countAt-downscaled k (r .start) (r .counts) j
     ∙ counts-bucket k (r .start) (r .counts) j
     ∙ sym (sum-expand k j (r .start) (r .counts))
-    ∙ expand-rowOf xs (λ i. hit j (i / 2 ^ k))
-    ∙ sym (sum-map (hit j) (λ i. i / 2 ^ k) xs)
+    ∙ expand-rowOf xs (λ i. bit (eqb (i / 2 ^ k) j))
+    ∙ sym (sum-map (λ x. bit (eqb x j)) (λ i. i / 2 ^ k) xs)
 
 pub lowered-rowOf : (k : ℕ) (xs : List ℕ) → lowered k (rowOf xs) ≡ rowOf (map (λ i. i / 2 ^ k) xs)
 unfolding rowOf downscaled
@@ -106,8 +106,8 @@ countAt-zeros s (suc k) xs j =
     let e : suc s + k ≡ s + suc k = omega arith in
     omega (arith, pick-zero (eqb s j), rw e at (countAt-zeros (suc s) k xs j))
 
-countAt-recorded : (s : ℕ) (xs : List ℕ) (i j : ℕ) → countAt (recordedFrom s xs i) (recorded s xs i) j ≡ countAt s xs j + hit j i
-unfolding countAt recorded recordedFrom hit
+countAt-recorded : (s : ℕ) (xs : List ℕ) (i j : ℕ) → countAt (recordedFrom s xs i) (recorded s xs i) j ≡ countAt s xs j + pick (eqb i j) 1 0
+unfolding countAt recorded recordedFrom
 countAt-recorded s [] i j = omega arith
 countAt-recorded s (x ∷ xs) i j =
     let e₁ : min s i + (i - s) ≡ i = omega arith in
@@ -163,7 +163,8 @@ lengths (x ∷ xs) b =
 pub with1-rowOf : (xs : List ℕ) (b : ℕ) → with1 (rowOf xs) b ≡ rowOf (xs ++ b ∷ [])
 with1-rowOf xs b =
     row-by-ends (with1 (rowOf xs) b) _ _ (xs ++ b ∷ []) (ends-with1 xs b) (starts xs b) (lengths xs b)
-    (λ j. at-is (with1 (rowOf xs) b) j ∙ countAt-recorded (rowOf xs .start) (rowOf xs .counts) b j ∙ omega (arith, at-is (rowOf xs) j, at-rowOf xs j, sum-append (hit j) xs (b ∷ [])))
+    (λ j. at-is (with1 (rowOf xs) b) j ∙ countAt-recorded (rowOf xs .start) (rowOf xs .counts) b j
+    ∙ omega (arith, at-is (rowOf xs) j, at-rowOf xs j, count-append j xs (b ∷ []), sum-replicate (eqb b j) (λ x. bit (eqb x j)) 1 b refl))
 
 min-shr : (k s b : ℕ) → min s b / 2 ^ k ≡ min (s / 2 ^ k) (b / 2 ^ k)
 min-shr k s b =

@@ -8,7 +8,7 @@ use native.Mathlib.Omega.{arith}
 use lib.ListN.{length, getD, set, take}
 use lib.Seq.{getD-take, set-getD}
 use Rattle.laws.specs.Pick.{pick}
-use Rattle.laws.specs.Counting.{total}
+use Rattle.laws.specs.Counting.{bit, total}
 use Rattle.laws.proofs.Bools.{pick-true, pick-false}
 use Rattle.rows.specs.Rows.{over, recorded, holds}
 use Rattle.rows.specs.declared.Row.{Row}
@@ -42,7 +42,7 @@ module _ (a b row : Row) (bin k m : ℕ) (xs ys : List ℕ) (h : Beside a xs b y
   within-both true e l = let z : row .len ≡ b .len = ap (λ (r : Row). r .len) e in (omega (arith, h .neg), omega (arith, h .neg))
   within-both false e l = let z : row .len ≡ a .len = ap (λ (r : Row). r .len) e in (omega (arith, h .pos), omega (arith, h .pos))
 
-  pub sums-fit : (negative : Bool) → row ≡ pick negative b a → k < row .len → m ≡ pick negative 1 0 → getD xs k 0 < 2 ^ 64 → getD ys k 0 < 2 ^ 64
+  pub sums-fit : (negative : Bool) → row ≡ pick negative b a → k < row .len → m ≡ bit negative → getD xs k 0 < 2 ^ 64 → getD ys k 0 < 2 ^ 64
       → (m ≤ 1) × ((getD xs k 0 + (1 - m) < 2 ^ 64) × (getD ys k 0 + m < 2 ^ 64))
   unfolding pick
   sums-fit true e l q f g =
@@ -54,7 +54,7 @@ module _ (a b row : Row) (bin k m : ℕ) (xs ys : List ℕ) (h : Beside a xs b y
       let t = under a k xs (omega arith) (h .posCounts) in
       (omega arith, (omega arith, omega arith))
 
-  pub tried-yes : (negative : Bool) → row ≡ pick negative b a → row .start ≤ bin → k ≡ bin - row .start → k < row .len → m ≡ pick negative 1 0
+  pub tried-yes : (negative : Bool) → row ≡ pick negative b a → row .start ≤ bin → k ≡ bin - row .start → k < row .len → m ≡ bit negative
       → (u : ℕ) → u + m ≡ 1 → Tried negative a b bin true xs ys (set xs k (getD xs k 0 + u)) (set ys k (getD ys k 0 + m))
   unfolding pick
   tried-yes true e l d g q u t =

@@ -3,7 +3,7 @@ ghost use mathlib.Core.Path.{_≡_};
 ghost use Prim.Native.Nat.{_+_, _^_, _<_, _≤_};
 ghost use lib.ListN.{length, take};
 ghost use Rattle.index.specs.Answers.{binOf};
-ghost use Rattle.laws.specs.Counting.{total, mostCount};
+ghost use Rattle.laws.specs.Counting.{bit, total, mostCount};
 ghost use Rattle.laws.specs.Pick.{pick};
 ghost use Rattle.exponential.specs.Steps.{lowered, with1, lowBin, highBin, lowering, placed};
 ghost use Rattle.exponential.specs.Series.{rowIn, read};
@@ -96,7 +96,7 @@ fn signed_row(negative: bool, pos: Row, neg: Row) -> Row
 
 // 1 below zero.
 fn one_if(negative: bool) -> u64
-    ensures { λ r. ⌜ r ≡ pick negative 1 0 ⌝ }
+    ensures { λ r. ⌜ r ≡ bit negative ⌝ }
 {
     if negative {
         return 1;

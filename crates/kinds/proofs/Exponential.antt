@@ -7,7 +7,6 @@ use mathlib.Core.Logic.{inl, inr}
 use mathlib.Core.Option.{none}
 use lib.Ieee.{Float, binary64, ofBits, lt, add, fits, round}
 use Rattle.laws.specs.Pick.{pick}
-use Rattle.laws.specs.Counting.{hit}
 use Rattle.index.specs.Magnitude.{magnitude}
 use Rattle.floats.specs.Starts.{zeroFloat}
 use Rattle.floats.specs.declared.Extreme.the-variants.{Value}
@@ -52,7 +51,7 @@ zeros : ran histograms (model histograms config)
     (measure (f 0x8000_0000_0000_0000) A ∷ measure zeroFloat A ∷ measure (f 0x7ff0_0000_0000_0000) A ∷ collect (room 0 0) ∷ [])
     ≡ done ∷ done ∷ refuse 6
     ∷ listed ((A, point (record { d = 0; pos = no-row; neg = no-row; zeros = 2; total = 2 }) (f 0x8000_0000_0000_0000) (f 0x8000_0000_0000_0000) zeroFloat) ∷ []) ∷ []
-unfolding upfront act place measureAt record1 bag indices pointOf build scale fitsBoth P.fits row rowOf hit pick agrees rowAgrees classOf magnitude lt add round fits ofBits
+unfolding upfront act place measureAt record1 bag indices pointOf build scale fitsBoth P.fits row rowOf pick agrees rowAgrees classOf magnitude lt add round fits ofBits
 zeros = refl
 
 -- document 01's run: 1.0, 2.0, 3.0, 0.0 and -1.0 at scale 0; and 1.0 alone at scale 10
@@ -71,16 +70,16 @@ together : merged 4 first second (room 3 1)
     ≡ inr (point
     (record { d = 10; pos = record { start = 2047; counts = 2 ∷ 1 ∷ 1 ∷ [] }; neg = record { start = 2047; counts = 1 ∷ [] }; zeros = 1; total = 6 })
     (f 0xbff0_0000_0000_0000) (f 0x4008_0000_0000_0000) (f 0x4018_0000_0000_0000))
-unfolding merged unmergeable mergeable mergeHanded handedAgrees agrees rowAgrees merge bag indices build scale fitsBoth P.fits row rowOf hit pick lt add round ofBits
+unfolding merged unmergeable mergeable mergeHanded handedAgrees agrees rowAgrees merge bag indices build scale fitsBoth P.fits row rowOf pick lt add round ofBits
 together = refl
 
 -- each row is asked against its own lent store; and under max_size 2
 positive : merged 4 first second (room 2 9) ≡ inl 10
-unfolding merged unmergeable mergeable mergeHanded handedAgrees agrees rowAgrees merge bag indices build scale fitsBoth P.fits row rowOf hit pick lt ofBits
+unfolding merged unmergeable mergeable mergeHanded handedAgrees agrees rowAgrees merge bag indices build scale fitsBoth P.fits row rowOf pick lt ofBits
 positive = refl
 
 negative : merged 4 first second (room 9 0) ≡ inl 10
-unfolding merged unmergeable mergeable mergeHanded handedAgrees agrees rowAgrees merge bag indices build scale fitsBoth P.fits row rowOf hit pick lt ofBits
+unfolding merged unmergeable mergeable mergeHanded handedAgrees agrees rowAgrees merge bag indices build scale fitsBoth P.fits row rowOf pick lt ofBits
 negative = refl
 
 narrow : merged 2 first second (room 9 9) ≡ inl 1

@@ -2,38 +2,44 @@
 use Prim.Native.Nat.{ℕ, zero, suc, _+_, _≤_, _<_, min, max}
 use mathlib.Core.Path.{_≡_, refl, ap, _∙_}
 use mathlib.Core.Logic.{_≢_, inl, inr}
+use mathlib.Core.Bool.{Bool, true, false}
 use mathlib.Core.List.{List, [], _∷_, _++_, map}
 use native.Mathlib.Decide.{ℕ-discrete, decLe}
 use native.Mathlib.Nat.{eq-zero-or-pos, min-eq-left, min-eq-right, max-eq-left, max-eq-right}
 use native.Mathlib.Omega.{arith}
+use lib.Dec.{eqb}
 use lib.ListN.{length, getD, set, replicate}
-use Rattle.laws.specs.Counting.{sum, total, hit, count, lowest, highest, table}
-use Rattle.laws.proofs.Same.{sum-append, hit-same, hit-other}
+use Rattle.laws.specs.Counting.{bit, sum, total, count, lowest, highest, table}
+use Rattle.laws.proofs.Same.{bit-same, bit-other, count-append}
+
+pub bit-le : (b : Bool) → bit b ≤ 1
+bit-le true = omega arith
+bit-le false = omega arith
 
 -- ---- mapped lists
 pub map-count : (f : ℕ → ℕ) (xs : List ℕ) (i : ℕ) → 0 < count i (map f xs) → (x : ℕ) × (0 < count x xs) × (f x ≡ i)
 map-count f [] i h = absurd (omega arith)
 map-count f (x ∷ xs) i h =
     elim (ℕ-discrete (f x) i) [
-      | yes e ↦ (x, omega (arith, hit-same x), e)
-      | no ne ↦ let r = map-count f xs i (omega (arith, hit-other i (f x) ne)) in (r .0, omega (arith, r .1), r .2)
+      | yes e ↦ (x, omega (arith, bit-same x), e)
+      | no ne ↦ let r = map-count f xs i (omega (arith, bit-other i (f x) ne)) in (r .0, omega (arith, r .1), r .2)
     ]
 
 pub count-map-pos : (f : ℕ → ℕ) (x : ℕ) (xs : List ℕ) → 0 < count x xs → 0 < count (f x) (map f xs)
 count-map-pos f x [] h = absurd (omega arith)
 count-map-pos f x (y ∷ ys) h =
     elim (ℕ-discrete y x) [
-      | yes e ↦ rw e (omega (arith, hit-same (f x)))
-      | no ne ↦ omega (arith, count-map-pos f x ys (omega (arith, hit-other x y ne)))
+      | yes e ↦ rw e (omega (arith, bit-same (f x)))
+      | no ne ↦ omega (arith, count-map-pos f x ys (omega (arith, bit-other x y ne)))
     ]
 
 pub count-replicate : (i c s : ℕ) → s ≢ i → count i (replicate c s) ≡ 0
 count-replicate i zero s h = refl
-count-replicate i (suc c) s h = omega (arith, hit-other i s h, count-replicate i c s h)
+count-replicate i (suc c) s h = omega (arith, bit-other i s h, count-replicate i c s h)
 
 pub count-replicate-same : (i c : ℕ) → count i (replicate c i) ≡ c
 count-replicate-same i zero = refl
-count-replicate-same i (suc c) = omega (arith, hit-same i, count-replicate-same i c)
+count-replicate-same i (suc c) = omega (arith, bit-same i, count-replicate-same i c)
 
 -- how many
 abbrev pub many : List ℕ → ℕ
@@ -52,24 +58,24 @@ pub record Ends (lo hi : ℕ) (xs : List ℕ) : Type 0 where
 -- what stands in the list lies between its lowest and its highest, and both stand in it
 range : (x : ℕ) (xs : List ℕ) (i : ℕ) → 0 < count i (x ∷ xs) → (lowest x xs ≤ i) × (i ≤ highest x xs)
 range x [] i h =
-    elim (ℕ-discrete x i) [ yes e ↦ omega arith | no ne ↦ absurd (omega (arith, hit-other i x ne)) ]
+    elim (ℕ-discrete x i) [ yes e ↦ omega arith | no ne ↦ absurd (omega (arith, bit-other i x ne)) ]
 range x (y ∷ ys) i h =
-    elim (ℕ-discrete x i) [ yes e ↦ omega arith | no ne ↦ omega (arith, range y ys i (omega (arith, hit-other i x ne))) ]
+    elim (ℕ-discrete x i) [ yes e ↦ omega arith | no ne ↦ omega (arith, range y ys i (omega (arith, bit-other i x ne))) ]
 
 low-in : (x : ℕ) (xs : List ℕ) → 0 < count (lowest x xs) (x ∷ xs)
-low-in x [] = omega (arith, hit-same x)
+low-in x [] = omega (arith, bit-same x)
 low-in x (y ∷ ys) =
     elim (decLe x (lowest y ys)) [
-      | yes h ↦ rw (min-eq-left h) (omega (arith, hit-same x))
+      | yes h ↦ rw (min-eq-left h) (omega (arith, bit-same x))
       | no h ↦ rw (min-eq-right {n = lowest y ys} {m = x} (omega arith)) (omega (arith, low-in y ys))
     ]
 
 high-in : (x : ℕ) (xs : List ℕ) → 0 < count (highest x xs) (x ∷ xs)
-high-in x [] = omega (arith, hit-same x)
+high-in x [] = omega (arith, bit-same x)
 high-in x (y ∷ ys) =
     elim (decLe x (highest y ys)) [
       | yes h ↦ rw (max-eq-right h) (omega (arith, high-in y ys))
-      | no h ↦ rw (max-eq-left {n = x} {m = highest y ys} (omega arith)) (omega (arith, hit-same x))
+      | no h ↦ rw (max-eq-left {n = x} {m = highest y ys} (omega arith)) (omega (arith, bit-same x))
     ]
 
 pub ends-of : (x : ℕ) (xs : List ℕ) → Ends (lowest x xs) (highest x xs) (x ∷ xs)
@@ -94,17 +100,17 @@ ends-append a b c d xs ys e f =
     record {
       low =
           elim (decLe a c) [
-            | yes h ↦ rw (min-eq-left h) (omega (arith, e .low, sum-append (hit a) xs ys))
-            | no h ↦ rw (min-eq-right {n = c} {m = a} (omega arith)) (omega (arith, f .low, sum-append (hit c) xs ys))
+            | yes h ↦ rw (min-eq-left h) (omega (arith, e .low, count-append a xs ys))
+            | no h ↦ rw (min-eq-right {n = c} {m = a} (omega arith)) (omega (arith, f .low, count-append c xs ys))
           ];
       high =
           elim (decLe b d) [
-            | yes h ↦ rw (max-eq-right h) (omega (arith, f .high, sum-append (hit d) xs ys))
-            | no h ↦ rw (max-eq-left {n = b} {m = d} (omega arith)) (omega (arith, e .high, sum-append (hit b) xs ys))
+            | yes h ↦ rw (max-eq-right h) (omega (arith, f .high, count-append d xs ys))
+            | no h ↦ rw (max-eq-left {n = b} {m = d} (omega arith)) (omega (arith, e .high, count-append b xs ys))
           ];
       all = λ i p.
           elim (eq-zero-or-pos (count i xs)) [
-            | inl z ↦ omega (arith, f .all i (omega (arith, sum-append (hit i) xs ys)))
+            | inl z ↦ omega (arith, f .all i (omega (arith, count-append i xs ys)))
             | inr q ↦ omega (arith, e .all i q)
           ];
     }
@@ -124,14 +130,14 @@ table-cong f g lo zero h = refl
 table-cong f g lo (suc n) h = rw (h lo (omega arith), table-cong f g (suc lo) n (λ j l. h j (omega arith)))
 
 -- one more at one place
-pub table-set : (f : ℕ → ℕ) (lo n k : ℕ) → set (table f lo n) k (getD (table f lo n) k 0 + 1) ≡ table (λ j. f j + hit j (lo + k)) lo n
+pub table-set : (f : ℕ → ℕ) (lo n k : ℕ) → set (table f lo n) k (getD (table f lo n) k 0 + 1) ≡ table (λ j. f j + bit (eqb (lo + k) j)) lo n
 table-set f lo zero k = refl
 table-set f lo (suc n) zero =
     let e : lo + 0 ≡ lo = omega arith in
-    rw (e, hit-same lo) (ap (λ l. (f lo + 1) ∷ l) (table-cong f (λ j. f j + hit j lo) (suc lo) n (λ j l. omega (arith, hit-other j lo (λ q. omega arith)))))
+    rw (e, bit-same lo) (ap (λ l. (f lo + 1) ∷ l) (table-cong f (λ j. f j + bit (eqb lo j)) (suc lo) n (λ j l. omega (arith, bit-other j lo (λ q. omega arith)))))
 table-set f lo (suc n) (suc k) =
     let e : lo + suc k ≡ suc lo + k = omega arith in
-    let z : f lo ≡ f lo + hit lo (suc lo + k) = omega (arith, hit-other lo (suc lo + k) (λ q. omega arith)) in
+    let z : f lo ≡ f lo + bit (eqb (suc lo + k) lo) = omega (arith, bit-other lo (suc lo + k) (λ q. omega arith)) in
     rw (e, ← z) (ap (λ l. f lo ∷ l) (table-set f (suc lo) n k))
 
 -- ---- totals

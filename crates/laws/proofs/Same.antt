@@ -5,9 +5,9 @@ use mathlib.Core.Logic.{_≢_}
 use mathlib.Core.List.{List, [], _∷_, _++_, map, List·Permᴰ, List·Permᴰ·nil, List·Permᴰ·cons, List·Permᴰ·swap, List·Permᴰ·trans}
 use native.Mathlib.Decide.{ℕ-discrete}
 use native.Mathlib.Omega.{arith}
+use lib.Dec.{eqb}
 use borrow.Author.Tests.{eq-eqb, ne-eqb}
-use Rattle.laws.specs.Pick.{pick}
-use Rattle.laws.specs.Counting.{sum, hit, count}
+use Rattle.laws.specs.Counting.{bit, sum, count}
 
 pub sum-append : (w : ℕ → ℕ) (xs ys : List ℕ) → sum w (xs ++ ys) ≡ sum w xs + sum w ys
 sum-append w [] ys = omega arith
@@ -21,13 +21,14 @@ sum-map w f (x ∷ xs) = omega (arith, sum-map w f xs)
 abbrev pub Same : List ℕ → List ℕ → Type 0
 Same xs ys = (w : ℕ → ℕ) → sum w xs ≡ sum w ys
 
-pub hit-same : (i : ℕ) → hit i i ≡ 1
-unfolding hit pick
-hit-same i = rw (eq-eqb i i refl)
+pub bit-same : (i : ℕ) → bit (eqb i i) ≡ 1
+bit-same i = ap bit (eq-eqb i i refl)
 
-pub hit-other : (i x : ℕ) → x ≢ i → hit i x ≡ 0
-unfolding hit pick
-hit-other i x ne = rw (ne-eqb x i ne)
+pub bit-other : (i x : ℕ) → x ≢ i → bit (eqb x i) ≡ 0
+bit-other i x ne = ap bit (ne-eqb x i ne)
+
+pub count-append : (i : ℕ) (xs ys : List ℕ) → count i (xs ++ ys) ≡ count i xs + count i ys
+count-append i = sum-append (λ x. bit (eqb x i))
 
 -- a number of the list, taken out
 pull : (a : ℕ) (xs : List ℕ) → 0 < count a xs → (ys : List ℕ) × ((w : ℕ → ℕ) → sum w xs ≡ w a + sum w ys)
@@ -35,15 +36,15 @@ pull a [] h = absurd (omega arith)
 pull a (x ∷ xs) h =
     elim (ℕ-discrete x a) [
       | yes e ↦ (xs, λ w. ap (λ n. w n + sum w xs) e)
-      | no ne ↦ let r = pull a xs (omega (arith, hit-other a x ne)) in (x ∷ r .0, λ w. omega (arith, r .1 w))
+      | no ne ↦ let r = pull a xs (omega (arith, bit-other a x ne)) in (x ∷ r .0, λ w. omega (arith, r .1 w))
     ]
 
 pub same-of-count : (xs ys : List ℕ) → ((i : ℕ) → count i xs ≡ count i ys) → Same xs ys
 same-of-count [] [] h w = refl
-same-of-count [] (y ∷ ys) h w = absurd (omega (arith, h y, hit-same y))
+same-of-count [] (y ∷ ys) h w = absurd (omega (arith, h y, bit-same y))
 same-of-count (x ∷ xs) ys h w =
-    let r = pull x ys (omega (arith, h x, hit-same x)) in
-    omega (arith, r .1 w, same-of-count xs (r .0) (λ i. omega (arith, h i, r .1 (hit i))) w)
+    let r = pull x ys (omega (arith, h x, bit-same x)) in
+    omega (arith, r .1 w, same-of-count xs (r .0) (λ i. omega (arith, h i, r .1 (λ x. bit (eqb x i)))) w)
 
 -- lists in another order are the same numbers
 pub same-perm : {xs ys : List ℕ} → List·Permᴰ xs ys → Same xs ys

@@ -3,7 +3,6 @@ use Prim.Native.Nat.{ℕ, zero, suc, _+_, min, max}
 use mathlib.Core.Bool.{Bool, true, false}
 use mathlib.Core.List.{List, [], _∷_}
 use lib.Dec.{eqb}
-use Rattle.laws.specs.Pick.{pick}
 
 -- the greatest u64: "9: a count, binding count or birth number would pass 2^64 - 1"
 abbrev pub mostCount : ℕ
@@ -23,13 +22,9 @@ sum w (x ∷ xs) = w x + sum w xs
 abbrev pub total : List ℕ → ℕ
 total = sum (λ x. x)
 
--- 1 where x is i
-unfoldable pub hit : ℕ → ℕ → ℕ
-hit i x = pick (eqb x i) 1 0
-
 -- how often i stands in the list
 abbrev pub count : ℕ → List ℕ → ℕ
-count i = sum (hit i)
+count i = sum (λ x. bit (eqb x i))
 
 -- the least and the greatest of x ∷ xs
 abbrev pub lowest : ℕ → List ℕ → ℕ

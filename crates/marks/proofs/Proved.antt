@@ -11,7 +11,6 @@ use lib.Ieee.{binary64, ofBits, ofFields, toBits, isNan, fits, lt, add, round}
 use lib.Ieee.Scale.{finite}
 use lib.ListN.{length, getD}
 use Rattle.laws.specs.Pick.{pick}
-use Rattle.laws.specs.Counting.{hit}
 use Rattle.laws.proofs.Every.{every, at, both-left, both-right}
 use Rattle.index.specs.Magnitude.{magnitude, isNegative}
 use Rattle.index.specs.DataModel.{IsIndex}
@@ -181,7 +180,7 @@ holds k (bucket bounds bits n) t = eqb→eq (bucketOf (map f64 bounds) (f64 bits
 holds k (point size scale values line) t = point-holds size scale values line (levelAnswer scale) refl t
 
 tested : T (every right 0 marks)
-unfolding right rightIndex rightPoint binOf same inBin guess classed known allKnown sameLine sameRow sameList P.pointOf build scale fitsBoth P.fits row rowOf hit pick bucketOf lt add round magnitude ofBits ofFields fits isNan toBits levelAnswer
+unfolding right rightIndex rightPoint binOf same inBin guess classed known allKnown sameLine sameRow sameList P.pointOf build scale fitsBoth P.fits row rowOf pick bucketOf lt add round magnitude ofBits ofFields fits isNan toBits levelAnswer
 tested = tt
 
 -- ---- THE MARKS

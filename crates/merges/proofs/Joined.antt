@@ -11,10 +11,10 @@ use lib.ListN.{length, replicate, length-append}
 use lib.Pow.{shr-mono}
 use borrow.Author.Tests.{le-leb}
 use Rattle.laws.specs.Pick.{pick}
-use Rattle.laws.specs.Counting.{hit, count, lowest, highest, table}
+use Rattle.laws.specs.Counting.{count, lowest, highest, table}
 use Rattle.laws.specs.Search.{least}
 use Rattle.laws.proofs.Bools.{and-left, and-right, and-intro}
-use Rattle.laws.proofs.Same.{sum-append}
+use Rattle.laws.proofs.Same.{count-append}
 use Rattle.laws.proofs.Counting.{ends-of, ends-append, length-table}
 use Rattle.laws.proofs.Search.{least-spec, least-is}
 use Rattle.points.specs.Points.{Row, rowOf, row, indices, fits, fitsBoth, scale, Bag, _⊕_, bag, Point, pointAt, build, merge}
@@ -149,7 +149,7 @@ joined-rowOf (x ∷ xs) (y ∷ ys) =
     ∙ row-by-ends (both-rows a b) (min lo lo′) (max hi hi′) ((x ∷ xs) ++ (y ∷ ys)) (ends-append lo hi lo′ hi′ (x ∷ xs) (y ∷ ys) e e′)
     refl
     (rw (l, n, n′) at (length-addAll (lo′ - lo) (g lo′) (table g (suc lo′) (hi′ - lo′)) zs) ∙ long-both lo hi lo′ hi′ (e .all hi (e .high) .0) (e′ .all hi′ (e′ .high) .0))
-    (λ j. omega (arith, at-both a b j, at-rowOf (x ∷ xs) j, at-rowOf (y ∷ ys) j, sum-append (hit j) (x ∷ xs) (y ∷ ys)))
+    (λ j. omega (arith, at-both a b j, at-rowOf (x ∷ xs) j, at-rowOf (y ∷ ys) j, count-append j (x ∷ xs) (y ∷ ys)))
 
 -- ---- levels
 

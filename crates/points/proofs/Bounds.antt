@@ -9,9 +9,8 @@ use lib.Dec.{ltb}
 use lib.ListN.{length}
 use lib.Ieee.{Float, binary64, lt, eq, isNan}
 use borrow.Author.Tests.{eqb-true}
-use Rattle.laws.specs.Pick.{pick}
 use Rattle.laws.specs.Lists.{All}
-use Rattle.laws.specs.Counting.{count, table}
+use Rattle.laws.specs.Counting.{bit, count, table}
 use Rattle.laws.proofs.Bools.{and-left, and-right}
 use Rattle.laws.proofs.Cases.{true-not-false}
 use Rattle.floats.proofs.Order.{key, Ok, lt-key}
@@ -38,7 +37,7 @@ same-next [] (y ∷ ys) b c h = absurd (omega arith)
 same-next (x ∷ xs) [] b c h = absurd (omega arith)
 same-next (x ∷ xs) (y ∷ ys) b c h = ap (λ t. eq x y && t) (same-next xs ys b c (omega arith)) ∙ sym (and-assoc (eq x y) (sameBounds xs ys) (eq b c))
 
-pub bucket-next : (bs : List Float) (c v : Float) → bucketOf (bs ++ c ∷ []) v ≡ bucketOf bs v + pick (lt c v) 1 0
+pub bucket-next : (bs : List Float) (c v : Float) → bucketOf (bs ++ c ∷ []) v ≡ bucketOf bs v + bit (lt c v)
 unfolding bucketOf
 bucket-next [] c v = omega arith
 bucket-next (b ∷ bs) c v = omega (arith, bucket-next bs c v)

@@ -12,7 +12,7 @@ use lib.ListN.{length, replicate}
 use lib.Pow.{shr-shr, shr-mono}
 use borrow.Author.Tests.{leb-true, leb-false, le-leb}
 use Rattle.laws.specs.Pick.{pick}
-use Rattle.laws.specs.Counting.{sum, hit, lowest, highest}
+use Rattle.laws.specs.Counting.{bit, sum, lowest, highest}
 use Rattle.laws.proofs.Bools.{flag, not-both, and-intro}
 use Rattle.laws.proofs.Same.{sum-append}
 use Rattle.laws.proofs.Counting.{Ends, ends-of, ends-map}
@@ -97,16 +97,15 @@ abbrev pub bucket : ℕ → ℕ → List ℕ → ℕ → ℕ
 bucket k s [] j = 0
 bucket k s (c ∷ cs) j = pick (eqb (s / 2 ^ k) j) c 0 + bucket k (suc s) cs j
 
-pub sum-replicate : (b : Bool) (w : ℕ → ℕ) (c s : ℕ) → w s ≡ pick b 1 0 → sum w (replicate c s) ≡ pick b c 0
+pub sum-replicate : (b : Bool) (w : ℕ → ℕ) (c s : ℕ) → w s ≡ bit b → sum w (replicate c s) ≡ pick b c 0
 unfolding pick
 sum-replicate true w zero s h = refl
 sum-replicate true w (suc c) s h = omega (arith, h, sum-replicate true w c s h)
 sum-replicate false w zero s h = refl
 sum-replicate false w (suc c) s h = omega (arith, h, sum-replicate false w c s h)
 
-pub sum-expand : (k j s : ℕ) (cs : List ℕ) → sum (λ i. hit j (i / 2 ^ k)) (expand s cs) ≡ bucket k s cs j
-unfolding hit
+pub sum-expand : (k j s : ℕ) (cs : List ℕ) → sum (λ i. bit (eqb (i / 2 ^ k) j)) (expand s cs) ≡ bucket k s cs j
 sum-expand k j s [] = refl
 sum-expand k j s (c ∷ cs) =
-    let w : ℕ → ℕ = λ i. hit j (i / 2 ^ k) in
+    let w : ℕ → ℕ = λ i. bit (eqb (i / 2 ^ k) j) in
     omega (arith, sum-append w (replicate c s) (expand (suc s) cs), sum-replicate (eqb (s / 2 ^ k) j) w c s refl, sum-expand k j (suc s) cs)

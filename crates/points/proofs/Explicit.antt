@@ -3,7 +3,7 @@
 use Prim.Native.Nat.{ℕ, zero, suc, _+_, _≤_, _<_}
 use mathlib.Core.Path.{_≡_, refl, ap, sym, subst, _∙_}
 use mathlib.Core.Logic.{inl, inr}
-use mathlib.Core.Bool.{Bool, true, false, not, _&&_}
+use mathlib.Core.Bool.{true, not, _&&_}
 use mathlib.Core.List.{List, [], _∷_, _++_, map, foldl, map-append, append-nil, append-assoc, List·Permᴰ}
 use native.Mathlib.Omega.{arith}
 use lib.ListN.{length, getD, length-append, length-set}
@@ -12,10 +12,10 @@ use borrow.Author.Tests.{eqb-true, eqb-false, eq-eqb, ne-eqb, not-true}
 use lib.Ieee.{Float, lt, eq, isNan}
 use Rattle.floats.proofs.Finite.{eq-self}
 use Rattle.laws.specs.Pick.{pick}
-use Rattle.laws.specs.Counting.{hit, count, table, total}
-use Rattle.laws.proofs.Same.{sum-append, same-perm}
+use Rattle.laws.specs.Counting.{bit, count, table, total}
+use Rattle.laws.proofs.Same.{count-append, same-perm}
 use Rattle.laws.proofs.Lists.{map-perm, length-perm}
-use Rattle.laws.proofs.Counting.{length-table, table-cong, table-set, total-none, total-set}
+use Rattle.laws.proofs.Counting.{bit-le, length-table, table-cong, table-set, total-none, total-set}
 use Rattle.laws.proofs.Bools.{flag, and-left, and-right, and-intro, pick-true, pick-false}
 use Rattle.points.specs.Explicit.{bucketOf, bucketCount, Buckets, bucketsOf, recordBucket, added, mergeBuckets, noNan, rising, boundsPass, sameBounds, bucketsAgree}
 
@@ -60,7 +60,7 @@ merge-bucketsOf bounds xs ys =
     buckets-path (mergeBuckets (bucketsOf bounds xs) (bucketsOf bounds ys)) (bucketsOf bounds (xs ++ ys))
     (added-tables (f xs) (f ys) 0 n
     ∙ table-cong (λ j. f xs j + f ys j) (f (xs ++ ys)) 0 n
-    (λ j _. sym (ap (λ l. count j l) (map-append (bucketOf bounds) xs ys) ∙ sum-append (hit j) (map (bucketOf bounds) xs) (map (bucketOf bounds) ys))))
+    (λ j _. sym (ap (λ l. count j l) (map-append (bucketOf bounds) xs ys) ∙ count-append j (map (bucketOf bounds) xs) (map (bucketOf bounds) ys))))
     (sym (length-append xs ys))
 
 -- ---- ONE BY ONE
@@ -72,10 +72,10 @@ record-bucketsOf bounds xs v =
     let k = bucketOf bounds v in
     buckets-path (recordBucket bounds (bucketsOf bounds xs) v) (bucketsOf bounds (xs ++ v ∷ []))
     (table-set (f xs) 0 n k
-    ∙ table-cong (λ j. f xs j + hit j (0 + k)) (f (xs ++ v ∷ [])) 0 n
+    ∙ table-cong (λ j. f xs j + bit (eqb (0 + k) j)) (f (xs ++ v ∷ [])) 0 n
     (λ j _.
     let e : 0 + k ≡ k = omega arith in
-    rw (e, map-append (bucketOf bounds) xs (v ∷ [])) (omega (arith, sum-append (hit j) (map (bucketOf bounds) xs) (k ∷ [])))))
+    rw (e, map-append (bucketOf bounds) xs (v ∷ [])) (omega (arith, count-append j (map (bucketOf bounds) xs) (k ∷ [])))))
     (sym (length-append xs (v ∷ [])))
 
 abbrev pub recordBuckets : List Float → Buckets → List Float → Buckets
@@ -92,7 +92,7 @@ unfolding bucketsOf
 bucketsOf-perm bounds {xs} {ys} h =
     let f : List Float → ℕ → ℕ = λ vs j. count j (map (bucketOf bounds) vs) in
     buckets-path (bucketsOf bounds xs) (bucketsOf bounds ys)
-    (table-cong (f xs) (f ys) 0 (bucketCount bounds) (λ j _. same-perm (map-perm (bucketOf bounds) h) (hit j))) (length-perm h)
+    (table-cong (f xs) (f ys) 0 (bucketCount bounds) (λ j _. same-perm (map-perm (bucketOf bounds) h) (λ x. bit (eqb x j)))) (length-perm h)
 
 -- ---- THE FRESH POINT IS NEUTRAL for every point with as many buckets
 added-none : (lo : ℕ) (ys : List ℕ) → added (table (λ _. 0) lo (length ys)) ys ≡ ys
@@ -141,15 +141,10 @@ buckets-agree bounds p k =
           pick-false (eqb n 0) true t e ∙ eq-eqb (total (p .counts)) (p .total) (k .adds (omega arith))
     ]))
 
-pick-le : (b : Bool) → pick b 1 0 ≤ 1
-unfolding pick
-pick-le true = omega arith
-pick-le false = omega arith
-
 pub bucket-le : (bounds : List Float) (v : Float) → bucketOf bounds v ≤ length bounds
 unfolding bucketOf
 bucket-le [] v = omega arith
-bucket-le (b ∷ bs) v = omega (arith, pick-le (lt b v), bucket-le bs v)
+bucket-le (b ∷ bs) v = omega (arith, bit-le (lt b v), bucket-le bs v)
 
 -- with bounds, each value has a bucket
 bucket-in : (bounds : List Float) (v : Float) → 0 < bucketCount bounds → bucketOf bounds v < bucketCount bounds

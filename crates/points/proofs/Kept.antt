@@ -11,9 +11,9 @@ use native.Mathlib.Omega.{arith}
 use lib.Pow.{pow-pos, pow-add, shr-shr, shl-shr, shr-mono}
 use lib.ListN.{length, replicate}
 use borrow.Author.Tests.{leb-true}
-use Rattle.laws.specs.Counting.{hit, count, total}
+use Rattle.laws.specs.Counting.{count, total}
 use Rattle.laws.proofs.Bools.{and-left, and-right}
-use Rattle.laws.proofs.Same.{sum-append, sum-map, hit-other}
+use Rattle.laws.proofs.Same.{sum-append, sum-map, bit-other, count-append}
 use Rattle.laws.proofs.Counting.{map-count, count-map-pos, many, many-replicate}
 use Rattle.laws.proofs.Search.{least-spec}
 use Rattle.index.specs.Bins.{finest, endBin}
@@ -31,7 +31,7 @@ InRange low d xs = Within (low / 2 ^ d) (endBin (finest - d)) (map (λ i. i / 2 
 pub within-append : (low end : ℕ) (xs ys : List ℕ) → Within low end xs → Within low end ys → Within low end (xs ++ ys)
 within-append low end xs ys h g i p =
     elim (eq-zero-or-pos (count i xs)) [
-      | inl z ↦ g i (omega (arith, sum-append (hit i) xs ys))
+      | inl z ↦ g i (omega (arith, count-append i xs ys))
       | inr q ↦ h i q
     ]
 
@@ -184,7 +184,7 @@ single-in low d i h b =
     (λ j p.
     elim (ℕ-discrete (i / 1) j) [
       | yes e ↦ omega (arith, e, div-one i, div-one low, b)
-      | no ne ↦ absurd (omega (arith, hit-other j (i / 1) ne))
+      | no ne ↦ absurd (omega (arith, bit-other j (i / 1) ne))
     ])
 
 pub one-in : (low d : ℕ) (v : Value) → d ≤ finest → ValueIn low v → BagIn low d (one v)

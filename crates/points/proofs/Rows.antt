@@ -10,11 +10,11 @@ use lib.ListN.{length, getD, replicate, List·getD-eq-default}
 use lib.Seq.{ext-getD}
 use borrow.Author.Tests.{le-leb, lt-leb}
 use Rattle.laws.specs.Pick.{pick}
-use Rattle.laws.specs.Counting.{hit, count, lowest, highest, table}
-use Rattle.laws.proofs.Same.{sum-append, Same, same-of-count}
+use Rattle.laws.specs.Counting.{bit, count, lowest, highest, table}
+use Rattle.laws.proofs.Same.{count-append, Same, same-of-count}
 use Rattle.laws.proofs.Counting.{ends-of, length-table, getD-table, count-replicate, count-replicate-same}
 use Rattle.points.specs.Points.{Row, rowOf, expand}
-use lib.Dec.{leb}
+use lib.Dec.{leb, eqb}
 
 -- the count of the bin i
 unfoldable pub at : Row → ℕ → ℕ
@@ -147,30 +147,30 @@ rowOf-canonical (x ∷ xs) =
 pub rowOf-cong : (xs ys : List ℕ) → Same xs ys → rowOf xs ≡ rowOf ys
 rowOf-cong xs ys h =
     canonical-unique (rowOf xs) (rowOf ys) (rowOf-canonical xs) (rowOf-canonical ys)
-    (λ i. at-rowOf xs i ∙ h (hit i) ∙ sym (at-rowOf ys i))
+    (λ i. at-rowOf xs i ∙ h (λ x. bit (eqb x i)) ∙ sym (at-rowOf ys i))
 
 pub rowOf-length : (xs ys : List ℕ) → length (rowOf xs .counts) ≤ length (rowOf (xs ++ ys) .counts)
 rowOf-length xs ys =
     within-length (rowOf xs) (rowOf (xs ++ ys)) (rowOf-canonical xs)
-    (λ i. omega (arith, at-rowOf xs i, at-rowOf (xs ++ ys) i, sum-append (hit i) xs ys))
+    (λ i. omega (arith, at-rowOf xs i, at-rowOf (xs ++ ys) i, count-append i xs ys))
 
 -- the bins that a row stands for are counted as the row counts them
 count-expand-below : (i s : ℕ) (cs : List ℕ) → i < s → count i (expand s cs) ≡ 0
 count-expand-below i s [] h = refl
 count-expand-below i s (c ∷ cs) h =
-    omega (arith, sum-append (hit i) (replicate c s) (expand (suc s) cs), count-replicate i c s (omega arith), count-expand-below i (suc s) cs (omega arith))
+    omega (arith, count-append i (replicate c s) (expand (suc s) cs), count-replicate i c s (omega arith), count-expand-below i (suc s) cs (omega arith))
 
 count-expand-at : (k s : ℕ) (cs : List ℕ) → count (s + k) (expand s cs) ≡ getD cs k 0
 count-expand-at k s [] = refl
 count-expand-at zero s (c ∷ cs) =
     rw add-zero
-    (omega (arith, sum-append (hit s) (replicate c s) (expand (suc s) cs), count-replicate-same s c, count-expand-below s (suc s) cs (omega arith)))
+    (omega (arith, count-append s (replicate c s) (expand (suc s) cs), count-replicate-same s c, count-expand-below s (suc s) cs (omega arith)))
 count-expand-at (suc k) s (c ∷ cs) =
     let e : s + suc k ≡ suc s + k = omega arith in
     rw e
     (omega (
       arith,
-      sum-append (hit (suc s + k)) (replicate c s) (expand (suc s) cs),
+      count-append (suc s + k) (replicate c s) (expand (suc s) cs),
       count-replicate (suc s + k) c s (omega arith),
       count-expand-at k (suc s) cs,
     ))

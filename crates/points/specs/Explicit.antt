@@ -8,7 +8,7 @@ use lib.Dec.{leb, eqb}
 use lib.ListN.{length, getD, set}
 use lib.Ieee.{Float, lt, eq, isNan}
 use Rattle.laws.specs.Pick.{pick}
-use Rattle.laws.specs.Counting.{count, table, total}
+use Rattle.laws.specs.Counting.{bit, count, table, total}
 
 -- ---- bounds
 
@@ -38,7 +38,7 @@ sameBounds (b ∷ bs) (c ∷ cs) = eq b c && sameBounds bs cs
 -- how many of the bounds lie below v
 unfoldable pub bucketOf : List Float → Float → ℕ
 bucketOf [] v = 0
-bucketOf (b ∷ bs) v = pick (lt b v) 1 0 + bucketOf bs v
+bucketOf (b ∷ bs) v = bit (lt b v) + bucketOf bs v
 
 -- how many buckets
 abbrev pub bucketCount : List Float → ℕ

@@ -12,15 +12,12 @@ use lib.Seq.{getD-set-same, getD-set-other, set-set}
 use Rattle.laws.specs.Over.{over}
 use Rattle.laws.specs.Pick.{pick}
 use Rattle.laws.proofs.Bools.{pick-true, pick-false}
+use Rattle.laws.proofs.Counting.{bit-le}
 use Rattle.tally.specs.Map.{bit}
 use Rattle.directory.proofs.Rises.{In}
 use Rattle.sweep.specs.Swept.{stayers, rank}
 use Rattle.sweep.specs.Passes.{markOf, renumbered, movedTo, settled}
 use Rattle.laws.proofs.Over.{over-front, over-behind}
-
-pub bit-le : (b : Bool) → bit b ≤ 1
-bit-le true = omega arith
-bit-le false = omega arith
 
 one-long : (b : Bool) (x : ℕ) → length (pick b (x ∷ []) []) ≡ bit b
 unfolding pick

@@ -4,10 +4,11 @@ use mathlib.Core.List.{List, [], _∷_}
 use lib.Dec.{eqb}
 use lib.ListN.{drop}
 use Rattle.laws.specs.Pick.{pick}
+use Rattle.laws.specs.Counting.{bit}
 
 -- 1 for a space
 unfoldable pub space : ℕ → ℕ
-space b = pick (eqb b 32) 1 0
+space b = bit (eqb b 32)
 
 -- how many spaces a line has: it has one field more
 unfoldable pub spacesOf : List ℕ → ℕ

@@ -1,14 +1,11 @@
 use mathlib.Core.Path.{refl}
-use Rattle.laws.specs.Pick.{pick}
 use Rattle.explicit.proofs.below.Statement.{statement}
 use Rattle.explicit.proofs.below.Tie as tie
 
 returns : tie.Need-returns
-unfolding pick
 returns c = rw (c .if1 .taken) refl
 
 returns-2 : tie.Need-returns-2
-unfolding pick
 returns-2 c = rw (c .if1 .left) refl
 
 pub below-spec : {M : Type 1} → statement M

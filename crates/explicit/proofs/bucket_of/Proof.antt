@@ -7,7 +7,8 @@ use lib.Seq.{take-all}
 use lib.Ieee.{nan, lt}
 use borrow.Author.Needs.{needs}
 use Rattle.points.specs.Explicit.{bucketOf}
-use Rattle.explicit.proofs.Turns.{bucket-turn, pick-le}
+use Rattle.laws.proofs.Counting.{bit-le}
+use Rattle.explicit.proofs.Turns.{bucket-turn}
 use Rattle.explicit.proofs.bucket_of.Statement.{statement}
 use Rattle.explicit.proofs.bucket_of.Tie as tie
 
@@ -22,7 +23,7 @@ unfolding bucketOf
 loop-holds c = (omega arith, omega arith, refl)
 
 add-k : tie.Need-add-k Inv-loop μ-loop
-add-k c = omega (arith, c .below .ensures, pick-le (lt (getD (now (c .before .before .before .before .before .args .bounds)) (c .before .before .before .loop .i) nan) (c .before .before .before .before .before .args .v)))
+add-k c = omega (arith, c .below .ensures, bit-le (lt (getD (now (c .before .before .before .before .before .args .bounds)) (c .before .before .before .loop .i) nan) (c .before .before .before .before .before .args .v)))
 
 loop-again : tie.Need-loop-again Inv-loop μ-loop
 loop-again c =
@@ -30,7 +31,7 @@ loop-again c =
     let l = t .before in
     let a = l .before .before .args in
     let bs = now (a .bounds) in
-    (omega arith, omega (arith, c .below .ensures, pick-le (lt (getD bs (l .loop .i) nan) (a .v))), bucket-turn bs (a .v) (l .loop .i) (l .loop .k) (c .below .result) (t .loop-test .taken) (l .loop .inv .2) (c .below .ensures))
+    (omega arith, omega (arith, c .below .ensures, bit-le (lt (getD bs (l .loop .i) nan) (a .v))), bucket-turn bs (a .v) (l .loop .i) (l .loop .k) (c .below .result) (t .loop-test .taken) (l .loop .inv .2) (c .below .ensures))
 
 returns : tie.Need-returns Inv-loop μ-loop
 returns c =

@@ -1,7 +1,7 @@
 -- The slots of a walk one by one, and what a list's next element adds. Assumes nothing.
 use Prim.Native.Nat.{ℕ, zero, suc, _+_, _-_, _≤_, _<_}
 use mathlib.Core.Path.{_≡_, refl, sym, ap, subst, _∙_}
-use mathlib.Core.Bool.{Bool, true, false, not, _&&_, _||_}
+use mathlib.Core.Bool.{Bool, true, false, not, _&&_, _||_, and-false}
 use mathlib.Core.List.{List, [], _∷_, _++_, append-nil}
 use native.Mathlib.Omega.{arith}
 use lib.Dec.{eqb}
@@ -85,8 +85,4 @@ module _ (p : ℕ → Bool) where
   pub all-stop : (l : List ℕ) (i : ℕ) → i < length l → p (getD l i 0) ≡ false → all p l ≡ false
   all-stop [] i h e = absurd (omega arith)
   all-stop (y ∷ l) zero h e = rw e
-  all-stop (y ∷ l) (suc i) h e = rw (all-stop l i (omega arith) e) (none (p y))
-    where
-      none : (b : Bool) → (b && false) ≡ false
-      none true = refl
-      none false = refl
+  all-stop (y ∷ l) (suc i) h e = rw (all-stop l i (omega arith) e) (and-false (p y))

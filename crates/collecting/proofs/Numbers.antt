@@ -1,7 +1,7 @@
 -- The numbers that refuse a collection, case by case, in the order in which code tests. Assumes nothing.
 use Prim.Native.Nat.{ℕ, _≤_, _<_, min}
-use mathlib.Core.Path.{_≡_, refl, _∙_}
-use mathlib.Core.Bool.{Bool, true, false, _&&_}
+use mathlib.Core.Path.{_≡_, _∙_}
+use mathlib.Core.Bool.{Bool, true, false, _&&_, and-false}
 use borrow.Author.Tests.{eq-eqb, ne-eqb, le-leb, lt-leb}
 use lib.Dec.{leb, eqb}
 use Rattle.laws.specs.Pick.{pick}
@@ -53,11 +53,7 @@ few-left : (n a b : ℕ) → a < n → leb n (min a b) ≡ false
 few-left n a b h = both-suffice a b n ∙ (λ i. lt-leb n a h i && leb n b)
 
 few-right : (n a b : ℕ) → b < n → leb n (min a b) ≡ false
-few-right n a b h = both-suffice a b n ∙ (λ i. leb n a && lt-leb n b h i) ∙ no (leb n a)
-  where
-    no : (t : Bool) → (t && false) ≡ false
-    no true = refl
-    no false = refl
+few-right n a b h = both-suffice a b n ∙ (λ i. leb n a && lt-leb n b h i) ∙ and-false (leb n a)
 
 few-both : (n a b : ℕ) → n ≤ a → n ≤ b → leb n (min a b) ≡ true
 few-both n a b h k = both-suffice a b n ∙ (λ i. le-leb n a h i && le-leb n b k i)

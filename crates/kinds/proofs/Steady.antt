@@ -2,7 +2,7 @@
 use Prim.Native.Nat.{ℕ}
 use mathlib.Core.Path.{_≡_, sym}
 use mathlib.Core.List.{[]}
-use mathlib.Core.Bool.{Bool, true, false, Bool·beq, _&&_}
+use mathlib.Core.Bool.{true, false, Bool·beq, _&&_}
 use lib.Dec.{leb}
 use lib.Ieee.{Float, binary64, fits}
 use lib.Ieee.Scale.{finite}
@@ -32,9 +32,6 @@ use Rattle.kinds.proofs.Recorded.{f64, sound-kind, lawful}
 abbrev low : ℕ
 low = lowestBin finest
 
-both : (a b : Bool) → a ≡ true → b ≡ true → (a && b) ≡ true
-both a b p q = rw (p, q)
-
 -- ---- A SERIES THAT AGREES STAYS AGREEING
 counts-kept : (k : Kind) (t : Float) (c : Counts) (v : Float) → passes k ≡ true → FiniteF64 v → countsHold k c ≡ true → countsHold k (recordCounts k t c v) ≡ true
 counts-kept (exponential size top) t (exponentialCounts p) v e f h =
@@ -52,9 +49,9 @@ stays-agreeing z x v e f h =
     let a = and-true (countsHold (z .kind) (x .counts)) (finite (x .summary .min) && finite (x .summary .max)) h in
     let b = and-true (finite (x .summary .min)) (finite (x .summary .max)) (a .1) in
     let k = and-true (finite v) (fits binary64 v) f .0 in
-    both (countsHold (z .kind) (recordCounts (z .kind) (z .threshold) (x .counts) v)) (finite (lesserOf (x .summary .min) v) && finite (greaterOf (x .summary .max) v))
+    and-intro (countsHold (z .kind) (recordCounts (z .kind) (z .threshold) (x .counts) v)) (finite (lesserOf (x .summary .min) v) && finite (greaterOf (x .summary .max) v))
     (counts-kept (z .kind) (z .threshold) (x .counts) v e (f64 v f) (a .0))
-    (both (finite (lesserOf (x .summary .min) v)) (finite (greaterOf (x .summary .max) v))
+    (and-intro (finite (lesserOf (x .summary .min) v)) (finite (greaterOf (x .summary .max) v))
     (finite-chosen true (x .summary .min) v (b .0) k) (finite-chosen false (x .summary .max) v (b .1) k))
 
 -- the empty series agrees too: so number 8 never comes up of a map in which each series agrees

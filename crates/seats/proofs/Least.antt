@@ -2,7 +2,7 @@
 use Prim.Native.Nat.{ℕ, _≤_, _<_, min}
 use mathlib.Core.Path.{_≡_, refl, ap, sym, _∙_}
 use mathlib.Core.Logic.{⊎-elim}
-use mathlib.Core.Bool.{Bool, true, false, _&&_}
+use mathlib.Core.Bool.{Bool, true, false, _&&_, and-assoc}
 use native.Mathlib.Omega.{arith}
 use lib.Dec.{leb}
 use borrow.Author.Tests.{le-leb, lt-leb, leb-true, leb-false}
@@ -40,10 +40,6 @@ module _ (a b : ℕ) where
 
 -- ---- tests in another order
 
-pub regroup : (a b c : Bool) → ((a && b) && c) ≡ (a && (b && c))
-regroup true b c = refl
-regroup false b c = refl
-
 pub one-less : (a : Bool) → a ≡ (a && true)
 one-less true = refl
 one-less false = refl
@@ -51,5 +47,5 @@ one-less false = refl
 -- the least of four
 pub all-suffice : (n a b c d : ℕ) → leb n (min (min a b) (min c d)) ≡ ((leb n a && (leb n b && leb n c)) && leb n d)
 all-suffice n a b c d =
-    both-suffice (min a b) (min c d) n ∙ (λ i. both-suffice a b n i && both-suffice c d n i) ∙ regroup (leb n a) (leb n b) (leb n c && leb n d)
-    ∙ (λ i. leb n a && sym (regroup (leb n b) (leb n c) (leb n d)) i) ∙ sym (regroup (leb n a) (leb n b && leb n c) (leb n d))
+    both-suffice (min a b) (min c d) n ∙ (λ i. both-suffice a b n i && both-suffice c d n i) ∙ and-assoc (leb n a) (leb n b) (leb n c && leb n d)
+    ∙ (λ i. leb n a && sym (and-assoc (leb n b) (leb n c) (leb n d)) i) ∙ sym (and-assoc (leb n a) (leb n b && leb n c) (leb n d))

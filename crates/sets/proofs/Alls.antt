@@ -1,11 +1,12 @@
 -- The laws of a test of every number below a bound, for all loops that check. Assumes nothing.
 use mathlib.Core.Path.{_≡_, refl, sym, subst}
-use mathlib.Core.Bool.{Bool, true, false, _&&_}
+use mathlib.Core.Bool.{Bool, true, false, and-false}
 use mathlib.Core.Logic.{⊎-elim}
 use Prim.Native.Nat.{ℕ, zero, suc, _+_, _≤_, _<_}
 use native.Mathlib.Nat.{eq-or-lt-of-le}
 use native.Mathlib.Numerals.{add-one}
 use native.Mathlib.Omega.{arith}
+use Rattle.laws.proofs.Bools.{and-left, and-right}
 use Rattle.sets.specs.All.{allb}
 
 module _ (f : ℕ → Bool) where
@@ -17,23 +18,11 @@ module _ (f : ℕ → Bool) where
   unfolding allb
   allb-more n a h = rw add-one (simp (a, h))
 
-  pub and-no : (b : Bool) → b && false ≡ false
-  and-no true = refl
-  and-no false = refl
-
-  and-left : (a b : Bool) → a && b ≡ true → a ≡ true
-  and-left true b e = refl
-  and-left false b e = e
-
-  and-right : (a b : Bool) → a && b ≡ true → b ≡ true
-  and-right true b e = e
-  and-right false b e = let z : _≡_ {A = ℕ} 0 1 = cc in absurd (omega arith)
-
   pub allb-no : (n i : ℕ) → i < n → f i ≡ false → allb n f ≡ false
   unfolding allb
   allb-no zero i h e = absurd (omega arith)
   allb-no (suc n) i h e =
-      ⊎-elim (λ d. let g : f n ≡ false = subst (λ (k : ℕ). f k ≡ false) d e in simp g (and-no (allb n f)))
+      ⊎-elim (λ d. let g : f n ≡ false = subst (λ (k : ℕ). f k ≡ false) d e in simp g (and-false (allb n f)))
       (λ l. simp (allb-no n i l e))
       (eq-or-lt-of-le (let w : i ≤ n = omega arith in w))
 

@@ -2,7 +2,7 @@
 use Prim.Native.Nat.{ℕ, zero, suc, _+_, _-_, _/_, _≤_, _<_, Ordering·lt, Ordering·eq, Ordering·gt}
 use mathlib.Core.Path.{_≡_, refl, ap, sym, subst, _∙_}
 use mathlib.Core.Logic.{_⊎_, inl, inr, ⊎-elim}
-use mathlib.Core.Bool.{Bool, true, false, _&&_}
+use mathlib.Core.Bool.{Bool, true, false, _&&_, and-true, and-false}
 use mathlib.Core.List.{List}
 use native.Mathlib.Omega.{arith}
 use native.Mathlib.Nat.{eq-or-lt-of-le}
@@ -14,7 +14,6 @@ use Rattle.tally.specs.Sets.{cmp}
 use Rattle.sets.specs.All.{allb}
 use Rattle.sets.specs.Rows.{size, setOf, below, keyAt, soundb}
 use Rattle.sets.specs.Inner.{Parted}
-use Rattle.sets.proofs.Alls.{and-no}
 use Rattle.sets.proofs.Keyed.{unsound-many, sound-keys, key-rise}
 use Rattle.sets.proofs.Words.{left, longer, shorter, ended, low, high, alike, at-start}
 
@@ -101,14 +100,10 @@ module _ (a b : List ℕ) where
   after-many h = rw (unsound-many b h)
 
   pub after-high : cmp (setOf a) (setOf b) ≡ Ordering·gt → false ≡ both
-  after-high e = rw e (sym (and-no (λ (k : ℕ). true) (soundb b)))
+  after-high e = rw e (sym (and-false (soundb b)))
 
   pub after-same : cmp (setOf a) (setOf b) ≡ Ordering·eq → false ≡ both
-  after-same e = rw e (sym (and-no (λ (k : ℕ). true) (soundb b)))
+  after-same e = rw e (sym (and-false (soundb b)))
 
   pub after-low : cmp (setOf a) (setOf b) ≡ Ordering·lt → 1 ≤ size b → size b ≤ 8 → (x : Bool) → x ≡ allb (size b - 1) (keyAt b) → x ≡ both
-  after-low e h k x q = rw e (q ∙ sym (sound-keys b h k) ∙ sym (and-yes (soundb b)))
-    where
-      and-yes : (c : Bool) → (c && true) ≡ c
-      and-yes true = refl
-      and-yes false = refl
+  after-low e h k x q = rw e (q ∙ sym (sound-keys b h k) ∙ sym (and-true (soundb b)))

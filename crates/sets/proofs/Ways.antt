@@ -1,7 +1,7 @@
 -- What a comparison's answer tells of two sets. Assumes nothing.
 use Prim.Native.Nat.{ℕ, Ordering, Ordering·lt, Ordering·eq, Ordering·gt}
 use mathlib.Core.Path.{_≡_, refl, sym, _∙_}
-use mathlib.Core.Bool.{Bool, true, false, _&&_, _||_}
+use mathlib.Core.Bool.{Bool, true, _&&_, _||_, and-true}
 use borrow.Author.Tests.{eq-eqb, ne-eqb}
 use lib.Dec.{eqb}
 use Rattle.sets.specs.Rows.{below}
@@ -29,13 +29,9 @@ below-lt Ordering·eq e = cc
 below-lt Ordering·gt e = cc
 
 -- whether one may follow another, at place 0 and behind it
-and-yes : (b : Bool) → (b && true) ≡ b
-and-yes true = refl
-and-yes false = refl
-
 module _ (i : ℕ) (s o : Bool) where
   pub follow-first : i ≡ 0 → (x : Bool) → x ≡ s → x ≡ (s && (eqb i 0 || o))
-  follow-first e x q = rw (eq-eqb i 0 e) (q ∙ sym (and-yes s))
+  follow-first e x q = rw (eq-eqb i 0 e) (q ∙ sym (and-true s))
 
   pub follow-next : (i ≡ 0 → ⊥) → (x : Bool) → x ≡ (s && o) → x ≡ (s && (eqb i 0 || o))
   follow-next n x q = rw (ne-eqb i 0 n) q

@@ -2,7 +2,7 @@
 use Prim.Native.Nat.{ℕ, zero, suc, _+_, _-_, _*_, _/_, _%_, _^_, _≤_, _<_}
 use mathlib.Core.Path.{_≡_, refl, sym, ap, _∙_, subst}
 use mathlib.Core.Logic.{_⊎_, inl, inr, ⊎-elim}
-use mathlib.Core.Bool.{Bool, true, false, _&&_}
+use mathlib.Core.Bool.{Bool, true, false, _&&_, and-false}
 use mathlib.Core.List.{List, [], _∷_}
 use native.Mathlib.Omega.{arith}
 use native.Mathlib.Nat.{pow-suc, pow-le-pow-right}
@@ -20,13 +20,6 @@ use Rattle.text.specs.declared.numbers.Natural.{Natural}
 use Rattle.text.specs.declared.numbers.Natural.the-variants as N
 use Rattle.text.proofs.Spelling.{from-here, next-digit}
 
-and-no : (a b : Bool) → b ≡ false → a && b ≡ false
-and-no true b h = h
-and-no false b h = refl
-
-no-and : (a b : Bool) → a ≡ false → a && b ≡ false
-no-and a b h = rw h
-
 -- the n numbers from a to m, tested by a difference that wraps
 pub in-range : (w b a n m : ℕ) → w < 256 → a + n ≤ 256 → a + n ≡ m + 1 → (w + a) % 256 ≡ b → ltb w n ≡ leb a b && leb b m
 in-range w b a n m f t e q =
@@ -34,8 +27,8 @@ in-range w b a n m f t e q =
     (λ (l : n ≤ w).
     le-ltb w n l
     ∙ sym (⊎-elim
-    (λ (g : 256 ≤ w + a). no-and (leb a b) (leb b m) (lt-leb a b (omega (arith, q))))
-    (λ (g : w + a < 256). and-no (leb a b) (leb b m) (lt-leb b m (omega (arith, q))))
+    (λ (g : 256 ≤ w + a). ap (λ (t : Bool). t && leb b m) (lt-leb a b (omega (arith, q))))
+    (λ (g : w + a < 256). ap (λ (t : Bool). leb a b && t) (lt-leb b m (omega (arith, q))) ∙ and-false (leb a b))
     (le-or-lt 256 (w + a))))
     (λ (l : w < n).
     let g : b ≡ w + a = omega (arith, q) in

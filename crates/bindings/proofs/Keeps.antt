@@ -179,6 +179,7 @@ module _ (limit : ℕ) (filter : Option (List ℕ)) (s : Stores) (a : accepts li
 
   pub start-map : (K : Kind) (f : ℕ → K .Series) (z : K .Settings)
       → view K f z (started limit filter s .kept .dir) (started limit filter s .kept .stores) ≡ start K (record { settings = z; limit = limit; filter = filter })
+  unfolding pick
   start-map K f z =
       let q : getD (wiped .entries) 0 [] ≡ 0 ∷ 0 ∷ 0 ∷ [] = getD-set-same (s .entries) 0 (0 ∷ 0 ∷ 0 ∷ []) [] (omega (arith, suffices limit s e .entries)) in
       ap (λ (k : Kept). view K f z (k .dir) (k .stores)) start-is ∙ rw q

@@ -2,12 +2,13 @@
 use Prim.Native.Nat.{ℕ, zero, suc, _+_, _≤_}
 use mathlib.Core.Path.{_≡_, refl, sym, ap, _∙_}
 use mathlib.Core.Logic.{inl, inr}
-use mathlib.Core.Bool.{Bool, true, false, cond, not, _&&_, _||_}
+use mathlib.Core.Bool.{Bool, true, false, not, _&&_, _||_}
 use mathlib.Core.List.{List, [], _∷_, map}
 use mathlib.Core.Option.{Option, none, some}
 use native.Mathlib.Omega.{arith}
 use lib.Dec.{leb, eqb, eqb·suc-zero}
 use lib.ListN.{length, length-map, length-append}
+use Rattle.laws.specs.Pick.{pick}
 use Rattle.laws.specs.Lists.{only}
 use Rattle.laws.specs.Tests.{all}
 use Rattle.laws.proofs.Bools.{pick-true, pick-false}
@@ -28,7 +29,7 @@ use Rattle.collecting.proofs.Back.{pointAt}
 -- ---- the points of entries that stand for slots: those that a test passes have a series
 module _ (K : Kind) (z : K .Settings) (F : ℕ → Entry K) (set : ℕ → Set) (p : ℕ → Bool) (y : ℕ → K .Series) where
   abbrev Shows : ℕ → Type 0
-  Shows x = (F x .set ≡ set x) × (F x .series ≡ cond (p x) (some (y x)) none)
+  Shows x = (F x .set ≡ set x) × (F x .series ≡ pick (p x) (some (y x)) none)
 
   pub points-only : (l : List ℕ) → ((x : ℕ) → In x l → Shows x) → points K z (map F l) ≡ map (λ x. (set x, K .point z (y x))) (only p l)
   points-only [] g = refl
@@ -43,29 +44,33 @@ module _ (K : Kind) (z : K .Settings) (F : ℕ → Entry K) (set : ℕ → Set) 
       go : (b : Bool) → p x ≡ b → Shows x → points K z (map F l) ≡ map (λ x. (set x, K .point z (y x))) (only p l)
           → points K z (map F (x ∷ l)) ≡ map (λ x. (set x, K .point z (y x))) (only p (x ∷ l))
       go true e m ih =
-          (λ i. one ((m .1 ∙ ap (λ b. cond b (some (y x)) none) e) i) (m .0 i))
+          (λ i. one ((m .1 ∙ pick-true _ _ _ e) i) (m .0 i))
           ∙ ap (λ r. (set x, K .point z (y x)) ∷ r) ih
-          ∙ sym (ap T (pick-true (p x) (x ∷ only p l) (only p l) e))
+          ∙ sym (ap T (pick-true _ _ _ e))
       go false e m ih =
-          (λ i. one ((m .1 ∙ ap (λ b. cond b (some (y x)) none) e) i) (m .0 i))
+          (λ i. one ((m .1 ∙ pick-false _ _ _ e) i) (m .0 i))
           ∙ ih
-          ∙ sym (ap T (pick-false (p x) (x ∷ only p l) (only p l) e))
+          ∙ sym (ap T (pick-false _ _ _ e))
 
 -- ---- a delta's entries, and a cumulative collection's, by whether the slot was updated
 module _ (K : Kind) (z : K .Settings) (y : K .Series) where
-  delta-series : (b n : Bool) → cond b (some y) none ≡ cond (b || (false && n)) (some (orFresh K z (cond b (some y) none))) none
+  delta-series : (b n : Bool) → pick b (some y) none ≡ pick (b || (false && n)) (some (orFresh K z (pick b (some y) none))) none
+  unfolding pick
   delta-series true n = refl
   delta-series false n = refl
 
-  root-series : (b : Bool) → cond b (some y) none ≡ cond (b || (true && false)) (some (orFresh K z (cond b (some y) none))) none
+  root-series : (b : Bool) → pick b (some y) none ≡ pick (b || (true && false)) (some (orFresh K z (pick b (some y) none))) none
+  unfolding pick
   root-series true = refl
   root-series false = refl
 
-  named-series : (b : Bool) → some (orFresh K z (cond b (some y) none)) ≡ cond (b || (true && true)) (some (orFresh K z (cond b (some y) none))) none
+  named-series : (b : Bool) → some (orFresh K z (pick b (some y) none)) ≡ pick (b || (true && true)) (some (orFresh K z (pick b (some y) none))) none
+  unfolding pick
   named-series true = refl
   named-series false = refl
 
-  sound-either : (b : Bool) → sound K z (cond b (some y) none) ≡ (not b || K .agrees z y)
+  sound-either : (b : Bool) → sound K z (pick b (some y) none) ≡ (not b || K .agrees z y)
+  unfolding pick
   sound-either true = refl
   sound-either false = refl
 
@@ -88,12 +93,13 @@ module _ {K : Kind} (S : Store K) (w : S .Switches) (h : Held (S .Cells)) where
       (λ x i. (refl, delta-series K z (f x) (u x) (not (eqb x 0))))
 
   filled-shows : (x : ℕ) → (1 ≤ x → same (setAt (s .sets) x) [] ≡ false)
-      → filled K z (entryAt K f s x) .series ≡ cond (u x || (true && not (eqb x 0))) (some (was S w (h .cells) x (u x))) none
+      → filled K z (entryAt K f s x) .series ≡ pick (u x || (true && not (eqb x 0))) (some (was S w (h .cells) x (u x))) none
+  unfolding pick
   filled-shows zero n = root-series K z (f 0) (u 0)
   filled-shows (suc x) n =
-      ap (λ b. cond b (cond (u (suc x)) (some (f (suc x))) none) (some (orFresh K z (cond (u (suc x)) (some (f (suc x))) none)))) (n (omega arith))
+      pick-false _ _ _ (n (omega arith))
       ∙ named-series K z (f (suc x)) (u (suc x))
-      ∙ sym (ap (λ b. cond (u (suc x) || (true && not b)) (some (was S w (h .cells) (suc x) (u (suc x)))) none) (eqb·suc-zero x))
+      ∙ sym (ap (λ b. pick (u (suc x) || (true && not b)) (some (was S w (h .cells) (suc x) (u (suc x)))) none) (eqb·suc-zero x))
 
   pub cumulative-points : (l : List ℕ) → ((x : ℕ) → In x l → 1 ≤ x → same (setAt (s .sets) x) [] ≡ false)
       → points K z (map (filled K z) (map (entryAt K f s) l)) ≡ map (pointAt S w h) (only (λ x. u x || (true && not (eqb x 0))) l)

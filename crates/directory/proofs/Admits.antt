@@ -2,12 +2,13 @@
 use Prim.Native.Nat.{ℕ, zero, suc, _+_, _≤_, _<_, Ordering·gt}
 use mathlib.Core.Path.{_≡_, refl, ap, sym, subst, _∙_}
 use mathlib.Core.Logic.{inl, inr}
-use mathlib.Core.Bool.{Bool, true, false, cond}
+use mathlib.Core.Bool.{Bool, true, false}
 use mathlib.Core.List.{List, [], _∷_, _++_, map}
 use mathlib.Core.Option.{none}
 use native.Mathlib.Omega.{arith}
 use lib.ListN.{length, set, take, drop}
 use lib.Seq.{getD-set-same, getD-set-other}
+use Rattle.laws.specs.Pick.{pick}
 use Rattle.tally.specs.Sets.{Set, cmp, same}
 use Rattle.tally.specs.Kind.{Kind}
 use Rattle.tally.specs.Map.{Entry, find, keys}
@@ -41,7 +42,8 @@ map-same g h [] e = refl
 map-same g h (y ∷ l) e = rw (e y (inl refl), map-same g h l (λ z m. e z (inr m)))
 
 -- what a search without success says
-split-room : (b : Bool) (o : Found) (r : ℕ) → cond b (Held 0) o ≡ Room r → (b ≡ false) × (o ≡ Room r)
+split-room : (b : Bool) (o : Found) (r : ℕ) → pick b (Held 0) o ≡ Room r → (b ≡ false) × (o ≡ Room r)
+unfolding pick
 split-room true o r e = let z : _≡_ {A = ℕ} 0 1 = cc in absurd (omega arith)
 split-room false o r e = (refl, e)
 
@@ -57,6 +59,7 @@ module _ (K : Kind) (f : ℕ → K .Series) (z : K .Settings) (limit : ℕ) (d :
   -- where the set would stand among the entries
   pub room-rank : (w : Set) (r : ℕ) → sought w (d .used) (s .sets) (s .order) ≡ Room r
       → (find K w (view K f z d s .entries) ≡ none) × (rank w (keys K (view K f z d s .entries)) ≡ suc r) × (r ≤ d .used)
+  unfolding pick
   room-rank w r e =
       let p = sought-room w (d .used) (s .sets) (s .order) r e in
       let S = span (s .order) 0 (d .used) in
@@ -87,6 +90,7 @@ module _ (K : Kind) (f : ℕ → K .Series) (z : K .Settings) (limit : ℕ) (d :
     made = rebound K (new K (setOf row) (d .last + 1)) b
 
     pub new-entry : (y : ℕ) → suc y ≡ d .used + 1 → entryAt K f t (suc y) ≡ made
+    unfolding pick
     new-entry y e =
         rw (← e, getD-set-same (s .entries) (suc y) ((d .last + 1) ∷ b ∷ 0 ∷ []) [] (rw (← e) at le), getD-set-same (s .sets) (suc y) row [] (rw (← e) at ls))
 

@@ -1,12 +1,13 @@
 -- The cases of the count and of the places, and what agreement says of each slot and place. Assumes nothing.
 use Prim.Native.Nat.{ℕ, suc, _+_, _-_, _≤_, _<_, Ordering·lt}
 use mathlib.Core.Path.{_≡_, refl, ap, sym, _∙_}
-use mathlib.Core.Bool.{Bool, true, false, cond, _&&_, _||_}
+use mathlib.Core.Bool.{Bool, true, false, _&&_, _||_}
 use mathlib.Core.List.{List, []}
 use native.Mathlib.Omega.{arith}
 use borrow.Author.Tests.{le-leb, lt-leb, lt-ltb, le-ltb, eq-eqb, ne-eqb, leb-true, ltb-true}
 use lib.Dec.{eqb, leb}
 use lib.ListN.{getD}
+use Rattle.laws.specs.Pick.{pick}
 use Rattle.tally.specs.Sets.{cmp}
 use Rattle.laws.proofs.Cases.{and-true}
 use Rattle.sets.specs.All.{allb}
@@ -40,11 +41,13 @@ module _ (limit count used plain : ℕ) where
   count-wrong h n e = rw (le-leb count limit h, ne-eqb count plain n, ne-eqb count (plain + 1) e)
 
 -- the places' answer
-broken-inv : (b : Bool) (n : ℕ) → cond b (Plain n) Broken ≡ Broken → b ≡ false
+broken-inv : (b : Bool) (n : ℕ) → pick b (Plain n) Broken ≡ Broken → b ≡ false
+unfolding pick
 broken-inv true n e = cc
 broken-inv false n e = refl
 
-plain-inv : (b : Bool) (n m : ℕ) → cond b (Plain n) Broken ≡ Plain m → (b ≡ true) × (n ≡ m)
+plain-inv : (b : Bool) (n m : ℕ) → pick b (Plain n) Broken ≡ Plain m → (b ≡ true) × (n ≡ m)
+unfolding pick
 plain-inv true n m e = (refl, cc)
 plain-inv false n m e = (cc, cc)
 

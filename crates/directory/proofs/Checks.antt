@@ -8,6 +8,7 @@ use native.Mathlib.Numerals.{add-one}
 use borrow.Author.Tests.{le-leb, lt-leb, lt-ltb, le-ltb, eqb-false}
 use lib.Dec.{eqb, ltb, leb}
 use lib.ListN.{getD}
+use Rattle.laws.specs.Pick.{pick}
 use Rattle.tally.specs.Sets.{Set, cmp, same}
 use Rattle.tally.specs.Map.{plain, plains, bit}
 use Rattle.sets.specs.All.{allb}
@@ -99,21 +100,21 @@ plainly-more sets order i h =
 
 module _ (used : ℕ) (sets : List (List ℕ)) (order : List ℕ) where
   pub placed-no : allb used (stepAt sets order used) ≡ false → placed used sets order ≡ Broken
-  unfolding placed
+  unfolding placed pick
   placed-no e = rw e
 
   pub placed-yes : allb used (stepAt sets order used) ≡ true → placed used sets order ≡ Plain (plainly sets order used)
-  unfolding placed
+  unfolding placed pick
   placed-yes e = rw e
 
 -- search
 module _ (s : Set) (used : ℕ) (sets : List (List ℕ)) (order : List ℕ) where
   pub sought-empty : same s [] ≡ true → sought s used sets order ≡ Held 0
-  unfolding sought
+  unfolding sought pick
   sought-empty e = rw e
 
   pub sought-named : same s [] ≡ false → sought s used sets order ≡ seek s sets (span order 0 (used - 0)) 0
-  unfolding sought
+  unfolding sought pick
   sought-named e = rw (e, span-all order used)
 
   module _ (i : ℕ) where

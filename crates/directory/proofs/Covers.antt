@@ -2,13 +2,14 @@
 use Prim.Native.Nat.{ℕ, zero, suc, _≤_, _<_}
 use mathlib.Core.Path.{_≡_, refl, ap, sym, subst, _∙_}
 use mathlib.Core.Logic.{_⊎_, inl, inr, ⊎-elim}
-use mathlib.Core.Bool.{Bool, true, false, cond, _||_}
+use mathlib.Core.Bool.{Bool, true, false, _||_}
 use mathlib.Core.List.{List, [], _∷_, map}
 use native.Mathlib.Omega.{arith}
 use native.Mathlib.Nat.{eq-or-lt-of-le}
 use borrow.Author.Tests.{eqb-true, eqb-false}
 use lib.Dec.{eqb}
 use lib.ListN.{length, length-map}
+use Rattle.laws.specs.Pick.{pick}
 use Rattle.laws.proofs.Cases.{true-not-false}
 use Rattle.tally.specs.Sets.{Set, same, mem}
 use Rattle.tally.proofs.Order.{same-self, same-eq}
@@ -25,30 +26,33 @@ use Rattle.directory.proofs.Rises.{span-in, In, rising-span}
 -- the slots 1 to n without x
 abbrev others : ℕ → ℕ → List ℕ
 others x zero = []
-others x (suc n) = cond (eqb (suc n) x) (others x n) (suc n ∷ others x n)
+others x (suc n) = pick (eqb (suc n) x) (others x n) (suc n ∷ others x n)
 
 others-le : (x n : ℕ) → length (others x n) ≤ n
+unfolding pick
 others-le x zero = omega arith
 others-le x (suc n) = go (eqb (suc n) x) (others-le x n)
   where
-    go : (b : Bool) → length (others x n) ≤ n → length (cond b (others x n) (suc n ∷ others x n)) ≤ suc n
+    go : (b : Bool) → length (others x n) ≤ n → length (pick b (others x n) (suc n ∷ others x n)) ≤ suc n
     go true h = omega arith
     go false h = omega arith
 
 others-few : (x n : ℕ) → 1 ≤ x → x ≤ n → length (others x n) < n
+unfolding pick
 others-few x zero a b = absurd (omega arith)
 others-few x (suc n) a b = go (others-few x n a) (eqb (suc n) x) refl
   where
-    go : (x ≤ n → length (others x n) < n) → (t : Bool) → eqb (suc n) x ≡ t → length (cond t (others x n) (suc n ∷ others x n)) < suc n
+    go : (x ≤ n → length (others x n) < n) → (t : Bool) → eqb (suc n) x ≡ t → length (pick t (others x n) (suc n ∷ others x n)) < suc n
     go f true e = omega (arith, others-le x n)
     go f false e =
         ⊎-elim (λ q. absurd (eqb-false (suc n) x e (sym q))) (λ l. let h = f (omega arith) in omega arith) (eq-or-lt-of-le b)
 
 others-in : (x n y : ℕ) → 1 ≤ y → y ≤ n → (y ≡ x → ⊥) → In y (others x n)
+unfolding pick
 others-in x zero y a b c = absurd (omega arith)
 others-in x (suc n) y a b c = go (λ h. others-in x n y a h c) (eqb (suc n) x) refl (eq-or-lt-of-le b)
   where
-    go : (y ≤ n → In y (others x n)) → (t : Bool) → eqb (suc n) x ≡ t → (y ≡ suc n) ⊎ (y < suc n) → In y (cond t (others x n) (suc n ∷ others x n))
+    go : (y ≤ n → In y (others x n)) → (t : Bool) → eqb (suc n) x ≡ t → (y ≡ suc n) ⊎ (y < suc n) → In y (pick t (others x n) (suc n ∷ others x n))
     go f true e (inl q) = absurd (c (q ∙ eqb-true (suc n) x e))
     go f true e (inr l) = f (omega arith)
     go f false e (inl q) = inl q

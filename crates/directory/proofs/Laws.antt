@@ -2,7 +2,7 @@
 use Prim.Native.Nat.{ℕ, zero, suc, _+_, _≤_, _<_, Ordering·lt, Ordering·eq, Ordering·gt}
 use mathlib.Core.Path.{_≡_, refl, ap, sym, _∙_}
 use mathlib.Core.Logic.{inl, inr, ⊎-elim}
-use mathlib.Core.Bool.{Bool, true, false, cond, _&&_}
+use mathlib.Core.Bool.{Bool, true, false, _&&_}
 use mathlib.Core.List.{List, [], _∷_, map}
 use mathlib.Core.Option.{Option, none, some}
 use native.Mathlib.Omega.{arith}
@@ -129,7 +129,7 @@ module _ (K : Kind) (f : ℕ → K .Series) (s : Stores) (h : ℕ) where
   entryOf (Room r) = none
 
   named-step : (b : Bool) (y : ℕ) (l : List ℕ) → named K h (map (entryAt K f s) l) ≡ entryOf (scan h (s .entries) l)
-      → cond b (some (entryAt K f s y)) (named K h (map (entryAt K f s) l)) ≡ entryOf (pick b (Held y) (scan h (s .entries) l))
+      → pick b (some (entryAt K f s y)) (named K h (map (entryAt K f s) l)) ≡ entryOf (pick b (Held y) (scan h (s .entries) l))
   unfolding pick
   named-step true y l e = refl
   named-step false y l e = e

@@ -2,7 +2,7 @@
 use Prim.Native.Nat.{ℕ, zero, suc, _+_, _≤_, _<_, Ordering, Ordering·lt, Ordering·eq, Ordering·gt}
 use mathlib.Core.Path.{_≡_, refl, ap, sym, subst, _∙_}
 use mathlib.Core.Logic.{_⊎_, inl, inr, ⊎-elim}
-use mathlib.Core.Bool.{Bool, true, false, cond, not, _||_}
+use mathlib.Core.Bool.{Bool, true, false, not, _||_}
 use mathlib.Core.List.{List, [], _∷_, map}
 use mathlib.Core.Option.{none, some}
 use native.Mathlib.Omega.{arith}
@@ -137,7 +137,8 @@ module _ (limit : ℕ) (d : Directory) (s : Stores) (g : agreesb limit d s ≡ t
       ⊎-elim (λ c. omega (arith, p, l, counted .0, c)) (λ c. omega (arith, p, l, c .1)) (counted .1)
 
 -- what a search finds of the whole map
-split-held : (b : Bool) (o : Found) (x : ℕ) → cond b (Held 0) o ≡ Held x → ((b ≡ true) × (0 ≡ x)) ⊎ ((b ≡ false) × (o ≡ Held x))
+split-held : (b : Bool) (o : Found) (x : ℕ) → pick b (Held 0) o ≡ Held x → ((b ≡ true) × (0 ≡ x)) ⊎ ((b ≡ false) × (o ≡ Held x))
+unfolding pick
 split-held true o x e = inl (refl, cc)
 split-held false o x e = inr (refl, e)
 
@@ -148,6 +149,7 @@ module _ (w : Set) (used : ℕ) (sets : List (List ℕ)) (order : List ℕ) (x :
 
 module _ (K : Kind) (f : ℕ → K .Series) (z : K .Settings) (d : Directory) (s : Stores) (w : Set) (x : ℕ) where
   pub sought-held : sought w (d .used) (s .sets) (s .order) ≡ Held x → (In x (slotsOf d s)) × (find K w (view K f z d s .entries) ≡ some (entryAt K f s x))
+  unfolding pick
   sought-held e = ⊎-elim first later (sought-split w (d .used) (s .sets) (s .order) x e)
     where
       first : (same w [] ≡ true) × (0 ≡ x) → (In x (slotsOf d s)) × (find K w (view K f z d s .entries) ≡ some (entryAt K f s x))
@@ -168,15 +170,15 @@ module _ (K : Kind) (limit : ℕ) (m : Map K) (w : Set) where
   place-held e h = rw h
 
   pub place-over-held : (e : Entry K) → find K w (m .entries) ≡ none → ltb (m .count) limit ≡ false → find K overflow (m .entries) ≡ some e → place K limit m w ≡ held K m e
-  unfolding place
+  unfolding place pick
   place-over-held e h b o = rw (h, b, o)
 
   pub place-new : find K w (m .entries) ≡ none → ltb (m .count) limit ≡ true → place K limit m w ≡ record { entry = new K w (suc (m .last)); count = suc (m .count); last = suc (m .last) }
-  unfolding place
+  unfolding place pick
   place-new h b = rw (h, b)
 
   pub place-over : find K w (m .entries) ≡ none → ltb (m .count) limit ≡ false → find K overflow (m .entries) ≡ none → place K limit m w ≡ record { entry = new K overflow (suc (m .last)); count = m .count; last = suc (m .last) }
-  unfolding place
+  unfolding place pick
   place-over h b o = rw (h, b, o)
 
 -- a kind without figures, for what is the same for all

@@ -8,6 +8,7 @@ use mathlib.Core.Option.{none, some}
 use native.Mathlib.Omega.{arith}
 use lib.Dec.{isEq}
 use lib.ListN.{getD}
+use Rattle.laws.specs.Pick.{pick}
 use Rattle.tally.specs.Sets.{Set, three, cmp, same, Rising, Above}
 use Rattle.tally.specs.Kind.{Kind}
 use Rattle.tally.specs.Map.{Entry, find, keys}
@@ -66,6 +67,7 @@ held-not-room x y e = let z : _≡_ {A = ℕ} 0 1 = cc in absurd (omega arith)
 
 module _ (K : Kind) (f : ℕ → K .Series) (st : Stores) (s : Set) where
   pub seek-held : (l : List ℕ) (i x : ℕ) → seek s (st .sets) l i ≡ Held x → (In x l) × (find K s (map (entryAt K f st) l) ≡ some (entryAt K f st x))
+  unfolding pick
   seek-held [] i x e = room-not-held i x e
   seek-held (y ∷ l) i x e = go (cmp s (setAt (st .sets) y)) refl e (seek-held l (suc i) x)
     where
@@ -84,6 +86,7 @@ module _ (K : Kind) (f : ℕ → K .Series) (st : Stores) (s : Set) where
 
   -- and what it does not find is not, and would stand at that place
   pub seek-room : (l : List ℕ) (i r : ℕ) → Rising (map (setAt (st .sets)) l) → seek s (st .sets) l i ≡ Room r → (find K s (map (entryAt K f st) l) ≡ none) × (i + rank s (map (setAt (st .sets)) l) ≡ r)
+  unfolding pick
   seek-room [] i r g e = (refl, let z : i ≡ r = room-inj i r e in omega arith)
   seek-room (y ∷ l) i r g e = go (cmp s (setAt (st .sets) y)) refl e (seek-room l (suc i) r (g .1))
     where

@@ -3,11 +3,12 @@
 use Prim.Native.Nat.{ℕ, zero, suc, _+_, _≤_}
 use mathlib.Core.Path.{_≡_, refl, ap, sym, subst, _∙_}
 use mathlib.Core.Logic.{inl, inr}
-use mathlib.Core.Bool.{Bool, true, false, cond}
+use mathlib.Core.Bool.{Bool, true, false}
 use mathlib.Core.List.{List, [], _∷_, map}
 use mathlib.Core.Option.{some}
 use native.Mathlib.Omega.{arith}
 use lib.ListN.{length, getD}
+use Rattle.laws.specs.Pick.{pick}
 use Rattle.laws.proofs.Cases.{some-inj, none-not-some}
 use Rattle.tally.specs.Sets.{Set, overflow, same, mem, Rising, Keyed}
 use Rattle.tally.specs.Kind.{Kind}
@@ -31,10 +32,11 @@ module _ (K : Kind) (f : ℕ → K .Series) (s : Stores) (w : Set) where
     pub set : setAt (s .sets) slot ≡ w
 
   pub find-in : (l : List ℕ) (e : Entry K) → find K w (map (entryAt K f s) l) ≡ some e → Stands l e
+  unfolding pick
   find-in [] e h = none-not-some h
   find-in (y ∷ l) e h = go (same (setAt (s .sets) y) w) refl h (find-in l e)
     where
-      go : (b : Bool) → same (setAt (s .sets) y) w ≡ b → cond b (some (entryAt K f s y)) (find K w (map (entryAt K f s) l)) ≡ some e
+      go : (b : Bool) → same (setAt (s .sets) y) w ≡ b → pick b (some (entryAt K f s y)) (find K w (map (entryAt K f s) l)) ≡ some e
           → (find K w (map (entryAt K f s) l) ≡ some e → Stands l e) → Stands (y ∷ l) e
       go true p q ih = record { slot = y; there = inl refl; entry = some-inj q; set = same-eq (setAt (s .sets) y) w p }
       go false p q ih = let r = ih q in record { slot = r .slot; there = inr (r .there); entry = r .entry; set = r .set }
@@ -51,6 +53,7 @@ module _ (limit : ℕ) (d : Directory) (s : Stores) (g : agreesb limit d s ≡ t
 -- the whole sentence
 module _ (K : Kind) (f : ℕ → K .Series) (z : K .Settings) (c : Config K) (d : Directory) (s : Stores) (g : agreesb (c .limit) d s ≡ true) where
   pub agreed : Agrees K c (view K f z d s)
+  unfolding pick
   agreed =
       let k = keys-map K f s (slotsOf d s) in
       let n = count-right (c .limit) d s g in

@@ -1,12 +1,13 @@
 -- BETWEEN OUR OWN CRATES: serves inner contracts and proofs; nobody needs it to believe the public calls or the theorems.
 -- The definitions of the crate's own functions. Assumes nothing.
 use Prim.Native.Nat.{ℕ, _-_, _≤_, _<_, Ordering·lt}
-use mathlib.Core.Bool.{Bool, cond, _&&_, true}
+use mathlib.Core.Bool.{Bool, _&&_, true}
 use mathlib.Core.List.{List, [], _∷_}
 use lib.Bits.{bitOr, bitXor}
 use lib.Dec.{leb}
 use lib.ListN.{getD}
 use mathlib.Core.Path.{_≡_}
+use Rattle.laws.specs.Pick.{pick}
 use Rattle.tally.specs.Sets.{cmp}
 use Rattle.sets.specs.All.{allb}
 use Rattle.sets.specs.Rows.{setOf, soundb, size}
@@ -23,7 +24,7 @@ abbrev pub stepAt : List (List ℕ) → List ℕ → ℕ → ℕ → Bool
 stepAt sets order used k = placeAt sets order used k && soundb (getD sets (getD order k 0) [])
 
 unfoldable pub placed : ℕ → List (List ℕ) → List ℕ → Placed
-placed used sets order = cond (allb used (stepAt sets order used)) (Plain (plainly sets order used)) Broken
+placed used sets order = pick (allb used (stepAt sets order used)) (Plain (plainly sets order used)) Broken
 
 -- the bits of d, and those in which the words of two rows differ
 abbrev pub joinAt : List ℕ → List ℕ → List ℕ → ℕ → ℕ

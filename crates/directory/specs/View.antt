@@ -1,12 +1,13 @@
 -- The directory in its stores: when it agrees with itself, and what map it is. Assumes nothing.
 use Prim.Native.Nat.{ℕ, zero, suc, _+_, _-_, _≤_, _<_}
 use mathlib.Core.Path.{_≡_}
-use mathlib.Core.Bool.{Bool, true, cond, not, _&&_, _||_}
+use mathlib.Core.Bool.{Bool, true, not, _&&_, _||_}
 use mathlib.Core.List.{List, [], _∷_, map}
 use mathlib.Core.Option.{none, some}
 use lib.Dec.{ltb, leb, eqb}
 use lib.ListN.{getD}
 use denote.Ref.{RefT, now}
+use Rattle.laws.specs.Pick.{pick}
 use Rattle.tally.specs.Sets.{Set, three, cmp, same}
 use Rattle.tally.specs.Kind.{Kind}
 use Rattle.tally.specs.Map.{Config, Entry, Map, plains, Agrees}
@@ -84,7 +85,7 @@ seek s sets (x ∷ l) i = three (cmp s (setAt sets x)) (Room i) (Held x) (seek s
 
 -- the slot that holds the set, or the place where it would stand among those named
 unfoldable pub sought : Set → ℕ → List (List ℕ) → List ℕ → Found
-sought s used sets order = cond (same s []) (Held 0) (seek s sets (span order 0 used) 0)
+sought s used sets order = pick (same s []) (Held 0) (seek s sets (span order 0 used) 0)
 
 -- a slot holds a series: its third word is not 0
 abbrev pub updatedIn : List (List ℕ) → ℕ → Bool
@@ -98,7 +99,7 @@ module _ (K : Kind) (f : ℕ → K .Series) where
         set = setAt (s .sets) x;
         birth = birthAt (s .entries) x;
         bindings = getD (getD (s .entries) x []) 1 0;
-        series = cond (updatedIn (s .entries) x) (some (f x)) none;
+        series = pick (updatedIn (s .entries) x) (some (f x)) none;
       }
 
   abbrev pub view : K .Settings → Directory → Stores → Map K

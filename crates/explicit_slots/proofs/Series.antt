@@ -3,7 +3,7 @@
 use Prim.Native.Nat.{ℕ, suc, _-_, _^_, _≤_, _<_}
 use mathlib.Core.Path.{_≡_, refl, ap, sym, subst, _∙_}
 use mathlib.Core.Logic.{⊎-elim, _⊎_, _≢_}
-use mathlib.Core.Bool.{Bool, true, false, cond}
+use mathlib.Core.Bool.{Bool, true, false}
 use mathlib.Core.List.{List, [], _∷_}
 use mathlib.Core.Option.{Option, none, some, Option·getD}
 use native.Mathlib.Omega.{arith}
@@ -206,19 +206,21 @@ module _ (bounds : List Float) (e m : Bool) (t : Float) where
 
     -- the series that the slot holds, where it was updated
     abbrev pub there : Bool → Option Figures
-    there u = cond u (some held) none
+    there u = pick u (some held) none
 
     pub disagreeing : (u : Bool) → sound histograms settings (there u) ≡ false → recordedAt bounds x u s v ≡ record { no = 8; cells = s }
+    unfolding pick
     disagreeing true a = held-8 a
     disagreeing false a = true-not-false a
 
     pub full : (u : Bool) → sound histograms settings (there u) ≡ true → fits (suc (histograms .total (Option·getD (there u) (histograms .fresh settings)))) ≡ false
         → recordedAt bounds x u s v ≡ record { no = 9; cells = s }
-    unfolding bucketsOf
+    unfolding bucketsOf pick
     full true a b = held-9 a b
     full false a b = true-not-false b
 
     pub took : boundsPass bounds ≡ true → (u : Bool) → sound histograms settings (there u) ≡ true → fits (suc (histograms .total (Option·getD (there u) (histograms .fresh settings)))) ≡ true
         → Took u (Option·getD (there u) (histograms .fresh settings))
+    unfolding pick
     took p true a b = held-0 a b
     took p false a b = first-0 p

@@ -10,6 +10,7 @@ use lib.ListN.{getD, take}
 use lib.Seq.{take-take}
 use lib.Ieee.{Float}
 use lib.Ieee.Scale.{finite}
+use Rattle.laws.specs.Pick.{pick}
 use Rattle.laws.proofs.Bools.{flag, pick-true, pick-false}
 use Rattle.rows.specs.Parts.{partAt}
 use Rattle.rows.specs.Recording.{Recording}
@@ -108,14 +109,17 @@ module _ (size top : ℕ) (on : unset size top ≡ 0) (c : Cells) (x : ℕ) (r :
   sound-is u = sound histograms (settings size top (w .0) (w .1)) (there (exponentialStore size top) c x u) ≡ true
 
   pub sound-then : (u : Bool) → sound-is u → (not u || agreesAt size top on c x r) ≡ true
+  unfolding pick
   sound-then true s = s
   sound-then false s = refl
 
   series-is : (u : Bool) → sound-is u → Is (headAt top c x u) (was (exponentialStore size top) w c x u)
+  unfolding pick
   series-is true s = is-held s ∙ ap (λ (h : Head). record { counts = exponentialCounts (read (h .counts) xs ys); summary = summary h }) (sym (head-held top true f m refl))
   series-is false s = is-fresh ∙ ap (λ (h : Head). record { counts = exponentialCounts (read (h .counts) xs ys); summary = summary h }) (sym (head-fresh top false f m refl))
 
   pub sized-at : AllFit (c .extremes) → (u : Bool) → sound-is u → Sized (headAt top c x u)
+  unfolding pick
   sized-at l true s = subst Sized (sym (head-held top true f m refl)) (sized-held l s)
   sized-at l false s = subst Sized (sym (head-fresh top false f m refl)) sized-fresh
 

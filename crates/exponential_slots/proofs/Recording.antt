@@ -3,7 +3,7 @@
 use Prim.Native.Nat.{ℕ, suc, _^_, _≤_, _<_}
 use mathlib.Core.Path.{_≡_, refl, sym, ap, _∙_}
 use mathlib.Core.Logic.{⊎-elim}
-use mathlib.Core.Bool.{Bool, true, false, cond, _&&_}
+use mathlib.Core.Bool.{Bool, true, false, _&&_}
 use mathlib.Core.List.{List, []}
 use mathlib.Core.Option.{Option, none, some, Option·getD}
 use native.Mathlib.Omega.{arith}
@@ -11,6 +11,7 @@ use lib.ListN.{length, getD}
 use lib.Ieee.{Float, nan}
 use lib.Ieee.Scale.{finite}
 use borrow.Author.Tests.{ltb-true, ltb-false}
+use Rattle.laws.specs.Pick.{pick}
 use Rattle.laws.specs.Said.{Said, refusal, success}
 use Rattle.laws.proofs.Bools.{flag, not-both}
 use Rattle.laws.proofs.Cases.{and-true}
@@ -171,9 +172,10 @@ module _ (size top x : ℕ) (s : Cells) (v : Float) (e m : Bool) (g : Fit size t
   -- ---- the laws: the slot's series, if its entry was updated, as tally's map has it
 
   abbrev pub there : Bool → Option Figures
-  there updated = cond updated (some (seriesAt size s x)) none
+  there updated = pick updated (some (seriesAt size s x)) none
 
   pub disagreeing : (updated : Bool) → sound histograms z (there updated) ≡ false → recordedAt size top x updated s v ≡ after 8 s
+  unfolding pick
   disagreeing false a = absurd (not-both true refl a)
   disagreeing true a =
       ⊎-elim
@@ -183,6 +185,7 @@ module _ (size top x : ℕ) (s : Cells) (v : Float) (e m : Bool) (g : Fit size t
 
   pub full : (updated : Bool) → sound histograms z (there updated) ≡ true → fits (suc (histograms .total (Option·getD (there updated) (histograms .fresh z)))) ≡ false
       → recordedAt size top x updated s v ≡ after 9 s
+  unfolding pick
   full false a n =
       from-fresh
       ∙ into-full size top x s v g (freshHead top) (histograms .fresh z) held-fresh
@@ -195,6 +198,7 @@ module _ (size top x : ℕ) (s : Cells) (v : Float) (e m : Bool) (g : Fit size t
 
   pub took : (updated : Bool) → sound histograms z (there updated) ≡ true → fits (suc (histograms .total (Option·getD (there updated) (histograms .fresh z)))) ≡ true
       → Took size x s (recordedAt size top x updated s v) (histograms .add z (Option·getD (there updated) (histograms .fresh z)) v)
+  unfolding pick
   took false a n =
       rw from-fresh
       (into-took size top x s v g (freshHead top) (histograms .fresh z) held-fresh e m (omega arith))

@@ -158,6 +158,7 @@ asked = refl
 
 -- demand 3's premise holds, and so does all that it says
 premise : Premise histograms c (calls (explicitLister bounds) w 1 none first given) (replies (explicitLister bounds) w 1 none first given)
+unfolding pick
 premise =
     subst (λ (a : List (Answer histograms)). Premise histograms c (calls (explicitLister bounds) w 1 none first given) a) (sym answers)
     (record { fewer = omega arith; unlike = omega arith })

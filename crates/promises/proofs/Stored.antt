@@ -2,7 +2,7 @@
 use Prim.Native.Nat.{ℕ, zero, suc}
 use mathlib.Core.Path.{_≡_, refl, ap, sym, subst, _∙_}
 use mathlib.Core.Logic.{inl, inr}
-use mathlib.Core.Bool.{Bool, true, false, cond, not, _&&_, _||_}
+use mathlib.Core.Bool.{Bool, true, false, not, _&&_, _||_}
 use mathlib.Core.List.{List, [], _∷_, _++_, map, map-append, append-assoc}
 use mathlib.Core.Option.{Option, none, some}
 use native.Mathlib.Omega.{arith}
@@ -68,11 +68,12 @@ abbrev read : Set × Stored → Set × Handed
 read p = (p .0, handedIn (p .1))
 
 among-read : (r : Set) (l : List (Set × Stored)) → map handedIn (ofSet r l) ≡ ofSet r (map read l)
+unfolding pick
 among-read r [] = refl
 among-read r (p ∷ l) = go (among-read r l) (same (p .0) r)
   where
     go : map handedIn (ofSet r l) ≡ ofSet r (map read l) → (b : Bool)
-        → map handedIn (cond b (p .1 ∷ ofSet r l) (ofSet r l)) ≡ cond b (handedIn (p .1) ∷ ofSet r (map read l)) (ofSet r (map read l))
+        → map handedIn (pick b (p .1 ∷ ofSet r l) (ofSet r l)) ≡ pick b (handedIn (p .1) ∷ ofSet r (map read l)) (ofSet r (map read l))
     go i true = ap (λ t. handedIn (p .1) ∷ t) i
     go i false = i
 
@@ -80,11 +81,11 @@ abbrev Shaped : List (Set × Stored) → Type 0
 Shaped l = All (λ (p : Set × Stored). inShape (p .1) ≡ true) l
 
 of-shaped : (r : Set) (l : List (Set × Stored)) → Shaped l → All (λ x. inShape x ≡ true) (ofSet r l)
-unfolding All
+unfolding All pick
 of-shaped r [] a = tt
 of-shaped r (p ∷ l) a = go (of-shaped r l (a .1)) (same (p .0) r)
   where
-    go : All (λ x. inShape x ≡ true) (ofSet r l) → (b : Bool) → All (λ x. inShape x ≡ true) (cond b (p .1 ∷ ofSet r l) (ofSet r l))
+    go : All (λ x. inShape x ≡ true) (ofSet r l) → (b : Bool) → All (λ x. inShape x ≡ true) (pick b (p .1 ∷ ofSet r l) (ofSet r l))
     go i true = (a .0, i)
     go i false = i
 

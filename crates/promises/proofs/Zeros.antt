@@ -107,6 +107,7 @@ abbrev c : Config histograms
 c = configOf (exponentialStore 3 20) (true, true) 1 none
 
 premise : Premise histograms c (calls (exponentialLister 3 20) (true, true) 1 none first given) (replies (exponentialLister 3 20) (true, true) 1 none first given)
+unfolding pick
 premise =
     subst (λ (a : List (Answer histograms)). Premise histograms c (calls (exponentialLister 3 20) (true, true) 1 none first given) a) (sym answers)
     (record { fewer = omega arith; unlike = omega arith })

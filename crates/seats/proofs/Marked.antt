@@ -4,6 +4,7 @@ use mathlib.Core.Path.{_≡_, refl, ap, _∙_}
 use mathlib.Core.List.{List, [], _∷_, map}
 use lib.ListN.{length, getD}
 use lib.Seq.{getD-set-same, getD-set-other}
+use Rattle.laws.specs.Pick.{pick}
 use Rattle.tally.specs.Sets.{Rising}
 use Rattle.tally.specs.Kind.{Kind}
 use Rattle.tally.proofs.MapSteps.{put}
@@ -24,7 +25,7 @@ module _ (K : Kind) (f h : ℕ → K .Series) (s : Stores) (x : ℕ) where
   mark-other (suc y) n e = rw (getD-set-other (s .entries) x (suc y) (getD (getD (s .entries) x []) 0 0 ∷ getD (getD (s .entries) x []) 1 0 ∷ 1 ∷ []) [] n, e)
 
   mark-same : (y : ℕ) → y ≡ x → x < length (s .entries) → entryAt K h s′ y ≡ served K (entryAt K f s y) (h y)
-  unfolding marked
+  unfolding marked pick
   mark-same zero e l = rw (← e, getD-set-same (s .entries) zero (getD (getD (s .entries) zero []) 0 0 ∷ getD (getD (s .entries) zero []) 1 0 ∷ 1 ∷ []) [] (rw (← e) at l))
   mark-same (suc y) e l = rw (← e, getD-set-same (s .entries) (suc y) (getD (getD (s .entries) (suc y) []) 0 0 ∷ getD (getD (s .entries) (suc y) []) 1 0 ∷ 1 ∷ []) [] (rw (← e) at l))
 

@@ -1,9 +1,9 @@
 -- A recording at a seating, for any kind of series: what its slot holds, when the series refuses the value, and what else stays. Assumes nothing.
 use Prim.Native.Nat.{ℕ, suc, _≤_}
 use mathlib.Core.Path.{_≡_}
-use mathlib.Core.Bool.{cond}
 use mathlib.Core.List.{[], _∷_}
 use mathlib.Core.Option.{Option, none, some, Option·getD}
+use Rattle.laws.specs.Pick.{pick}
 use Rattle.tally.specs.Kind.{Kind, unless, firstOf}
 use Rattle.tally.specs.Map.{Entry, sound}
 use Rattle.tally.proofs.MapSteps.{fits}
@@ -13,7 +13,7 @@ use Rattle.seats.specs.declared.Seating.{Seating}
 module _ (K : Kind) where
   -- the series that the seating's slot holds, where f gives each slot's
   abbrev pub heldAt : (ℕ → K .Series) → Seating → Option (K .Series)
-  heldAt f a = cond (a .updated) (some (f (a .slot))) none
+  heldAt f a = pick (a .updated) (some (f (a .slot))) none
 
   -- the one that the value is added to: an entry that is not updated has no series and counts as fresh (docs/DECISIONS.md, "Readings of document 01")
   abbrev pub orFresh : K .Settings → Option (K .Series) → K .Series

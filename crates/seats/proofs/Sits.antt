@@ -10,6 +10,7 @@ use native.Mathlib.Omega.{arith}
 use native.Mathlib.Numerals.{add-one}
 use borrow.Author.Tests.{ltb-true, lt-ltb, le-ltb}
 use lib.ListN.{length, set, take, drop, length-set}
+use Rattle.laws.specs.Pick.{pick}
 use Rattle.laws.proofs.Cases.{true-not-false}
 use Rattle.tally.specs.Sets.{Set, overflow, Rising}
 use Rattle.tally.specs.Kind.{Kind}
@@ -139,6 +140,7 @@ module _ (K : Kind) (f : ℕ → K .Series) (z : K .Settings) (limit : ℕ) (d :
     pub new-sits : (q : Target) → d .last < 18446744073709551615
         → Sits K f z d s (record { no = 0; slot = x; updated = false; target = q }) (markedIn (admitted d s row r more 0) x)
         (record { entry = new K (setOf row) (suc (d .last)); count = count; last = suc (d .last) })
+    unfolding pick
     new-sits q n =
         let F : (h : ℕ → K .Series) → ℕ → ℕ → Map K = λ h k l. record { settings = z; count = k; last = l; entries = put K (served K (new K (setOf row) l) (h x)) (m .entries) } in
         record {

@@ -2,13 +2,14 @@
 use Prim.Native.Nat.{ℕ, zero, suc, _-_, _≤_, _<_}
 use mathlib.Core.Path.{_≡_, refl, ap, sym, _∙_}
 use mathlib.Core.Logic.{inl, inr}
-use mathlib.Core.Bool.{Bool, true, false, cond, not, _&&_}
+use mathlib.Core.Bool.{Bool, true, false, not, _&&_}
 use mathlib.Core.List.{List, [], _∷_, map}
 use mathlib.Core.Option.{none, some}
 use native.Mathlib.Omega.{arith}
 use lib.Dec.{eqb}
 use lib.ListN.{length, getD, length-map}
 use lib.Seq.{take-at}
+use Rattle.laws.specs.Pick.{pick}
 use Rattle.laws.specs.Lists.{only}
 use Rattle.laws.specs.Over.{over}
 use Rattle.laws.proofs.Bools.{pick-true, pick-false, some?}
@@ -40,7 +41,7 @@ span-over new old k e h =
 module _ (K : Kind) (f : ℕ → K .Series) where
   abbrev made : List ℕ → List ℕ → K .Series → Entry K
   made row e y =
-      record { set = setOf row; birth = getD e 0 0; bindings = getD e 1 0; series = cond (not (eqb (getD e 2 0) 0)) (some y) none }
+      record { set = setOf row; birth = getD e 0 0; bindings = getD e 1 0; series = pick (not (eqb (getD e 2 0) 0)) (some y) none }
 
   named : (s : Stores) (x : ℕ) → 1 ≤ x → entryAt K f s x ≡ made (getD (s .sets) x []) (getD (s .entries) x []) (f x)
   named s zero h = absurd (omega arith)
@@ -48,9 +49,10 @@ module _ (K : Kind) (f : ℕ → K .Series) where
 
   -- it is idle just where the slot goes
   made-idle : (row e : List ℕ) (y : K .Series) → idle K (made row e y) ≡ goes row e
+  unfolding pick
   made-idle row e y = go (eqb (getD e 2 0) 0)
     where
-      go : (b : Bool) → (not (some? (cond (not b) (some y) none)) && (eqb (getD e 1 0) 0 && plain (setOf row))) ≡ (b && (eqb (getD e 1 0) 0 && plain (setOf row)))
+      go : (b : Bool) → (not (some? (pick (not b) (some y) none)) && (eqb (getD e 1 0) 0 && plain (setOf row))) ≡ (b && (eqb (getD e 1 0) 0 && plain (setOf row)))
       go true = refl
       go false = refl
 
@@ -77,14 +79,14 @@ module _ (K : Kind) (E F : ℕ → Entry K) (p : ℕ → Bool) where
     where
       go : (b : Bool) → p q ≡ b → Moved q → sweep K (map E l) ≡ map F (map (rank p) (only p l)) → sweep K (map E (q ∷ l)) ≡ map F (map (rank p) (only p (q ∷ l)))
       go true e m ih =
-          ap (λ (b : Bool). cond b (sweep K (map E l)) (reset K (E q) ∷ sweep K (map E l))) (m .0 ∙ ap not e)
+          pick-false _ _ _ (m .0 ∙ ap not e)
           ∙ ap (λ (t : List (Entry K)). reset K (E q) ∷ t) ih
           ∙ ap (λ (t : Entry K). t ∷ map F (map (rank p) (only p l))) (sym (m .1 e))
-          ∙ sym (ap (λ (t : List ℕ). map F (map (rank p) t)) (pick-true (p q) (q ∷ only p l) (only p l) e))
+          ∙ sym (ap (λ (t : List ℕ). map F (map (rank p) t)) (pick-true _ _ _ e))
       go false e m ih =
-          ap (λ (b : Bool). cond b (sweep K (map E l)) (reset K (E q) ∷ sweep K (map E l))) (m .0 ∙ ap not e)
+          pick-true _ _ _ (m .0 ∙ ap not e)
           ∙ ih
-          ∙ sym (ap (λ (t : List ℕ). map F (map (rank p) t)) (pick-false (p q) (q ∷ only p l) (only p l) e))
+          ∙ sym (ap (λ (t : List ℕ). map F (map (rank p) t)) (pick-false _ _ _ e))
 
 -- what the stores hold then
 module _ (limit : ℕ) (k : Kept) (g : agreesb limit (k .dir) (k .stores) ≡ true) (ls : k .dir .used < length (k .stores .sets)) (le : k .dir .used < length (k .stores .entries)) (lo : k .dir .used ≤ length (k .stores .order)) where
@@ -141,10 +143,12 @@ module _ (limit : ℕ) (k : Kept) (g : agreesb limit (k .dir) (k .stores) ≡ tr
   -- FAITHFUL: for any series before and after, the map that the stores hold is the abstract one, swept
   module _ (K : Kind) (f f′ : ℕ → K .Series) (z : K .Settings) where
     root-moved : entryAt K f′ (sweptKept k .stores) 0 ≡ reset K (entryAt K f s 0)
+    unfolding pick
     root-moved =
-        ap (λ (e : List ℕ). record { set = []; birth = 0; bindings = getD e 1 0; series = cond (not (eqb (getD e 2 0) 0)) (some (f′ 0)) none }) (entry-swept 0 (omega arith))
+        ap (λ (e : List ℕ). record { set = []; birth = 0; bindings = getD e 1 0; series = pick (not (eqb (getD e 2 0) 0)) (some (f′ 0)) none }) (entry-swept 0 (omega arith))
 
     moved : (q : ℕ) → In q places → (idle K (entryAt K f s q) ≡ not (p q)) × (p q ≡ true → entryAt K f′ (sweptKept k .stores) (rank p q) ≡ reset K (entryAt K f s q))
+    unfolding pick
     moved q i =
         let u = place-used q i in (
           slot-idle K f s q (u .0) ∙ not-not (goes (getD (s .sets) q []) (getD (s .entries) q [])),
@@ -167,7 +171,7 @@ module _ (limit : ℕ) (k : Kept) (g : agreesb limit (k .dir) (k .stores) ≡ tr
         ∙ ap (λ (l : List ℕ). F 0 ∷ map F l) order-swept
         ∙ ap (λ (t : List (Entry K)). F 0 ∷ t) (sym (sweep-only K E F p places moved))
         ∙ ap (λ (e : Entry K). e ∷ sweep K (map E places)) root-moved
-        ∙ sym (ap (λ (b : Bool). cond b (sweep K (map E places)) (reset K (E 0) ∷ sweep K (map E places))) (root-idle K f s))
+        ∙ sym (pick-false _ _ _ (root-idle K f s))
 
     count-swept : sweptKept k .dir .count ≡ d .count - (length (view K f z d s .entries) - length (sweep K (view K f z d s .entries)))
     count-swept =

@@ -1,9 +1,10 @@
 -- A cumulative collection lists the point of each named set's values, and the empty set's if it has any. Assumes nothing.
 use Prim.Native.Nat.{ℕ}
 use mathlib.Core.Path.{_≡_, refl, ap, sym, subst, _∙_}
-use mathlib.Core.Bool.{Bool, true, false, cond, not, _||_}
+use mathlib.Core.Bool.{Bool, true, false, not, _||_}
 use mathlib.Core.List.{List, [], _∷_, map}
 use mathlib.Core.Option.{Option, none, some, Option·getD}
+use Rattle.laws.specs.Pick.{pick}
 use Rattle.laws.specs.Lists.{only}
 use Rattle.laws.proofs.Bools.{some?}
 use Rattle.laws.proofs.Cases.{some-inj, none-not-some}
@@ -24,11 +25,12 @@ module _ (K : Kind) (z : K .Settings) where
   keys-filled (e ∷ l) = ap (λ k. e .set ∷ k) (keys-filled l)
 
   find-filled : (s : Set) (l : List (Entry K)) (f : Entry K) → find K s (map (filled K z) l) ≡ some f → (e : Entry K) × (find K s l ≡ some e) × (filled K z e ≡ f)
+  unfolding pick
   find-filled s [] f h = none-not-some h
   find-filled s (e ∷ l) f h = go (find-filled s l f) (same (e .set) s) h
     where
       go : (find K s (map (filled K z) l) ≡ some f → (x : Entry K) × (find K s l ≡ some x) × (filled K z x ≡ f)) → (b : Bool)
-          → cond b (some (filled K z e)) (find K s (map (filled K z) l)) ≡ some f → (x : Entry K) × (cond b (some e) (find K s l) ≡ some x) × (filled K z x ≡ f)
+          → pick b (some (filled K z e)) (find K s (map (filled K z) l)) ≡ some f → (x : Entry K) × (pick b (some e) (find K s l) ≡ some x) × (filled K z x ≡ f)
       go k true q = (e, refl, some-inj q)
       go k false q = k q
 
@@ -37,7 +39,8 @@ module _ (K : Kind) (L : Lawful K) (U : List Set) (top k : ℕ) (m : Map K) (t :
   vs s = ofSet s (t .waiting)
 
   shown : (s : Set) (b : Bool) (o : Option (K .Series)) → Kept K L (m .settings) o (vs s)
-      → Shown K (m .settings) (cond b o (some (Option·getD o (K .fresh (m .settings))))) (not b || any K (vs s)) (K .pointOf (m .settings) (vs s))
+      → Shown K (m .settings) (pick b o (some (Option·getD o (K .fresh (m .settings))))) (not b || any K (vs s)) (K .pointOf (m .settings) (vs s))
+  unfolding pick
   shown s true none a = ap (λ x. any K x) a
   shown s true (some x) a = (a .0, L .point (m .settings) x (vs s) (a .1))
   shown s false o a =
@@ -49,7 +52,7 @@ module _ (K : Kind) (L : Lawful K) (U : List Set) (top k : ℕ) (m : Map K) (t :
       let r = find-filled K (m .settings) s (m .entries) f q in
       let e = r .0 in
       subst (λ x. Shown K (m .settings) (x .series) (listed? (any K (vs s)) s) (K .pointOf (m .settings) (vs s))) (r .2)
-      (subst (λ x. Shown K (m .settings) (cond (same x []) (e .series) (some (current K (m .settings) e))) (listed? (any K (vs s)) s) (K .pointOf (m .settings) (vs s)))
+      (subst (λ x. Shown K (m .settings) (pick (same x []) (e .series) (some (current K (m .settings) e))) (listed? (any K (vs s)) s) (K .pointOf (m .settings) (vs s)))
       (sym (find-set K s (m .entries) e (r .1))) (shown s (same s []) (e .series) (h .here s e (r .1) .series)))
 
   held : (s : Set) (o : Option (Entry K)) → find K s (m .entries) ≡ o → any K (vs s) ≡ true → some? o ≡ true

@@ -1,10 +1,11 @@
 -- FAITHFUL CODE, whose calls do the map's steps, and demand 3 of any such code of any kind. Assumes nothing.
 use Prim.Native.Nat.{ℕ, _<_}
 use mathlib.Core.Path.{_≡_}
-use mathlib.Core.Bool.{true, cond}
+use mathlib.Core.Bool.{true}
 use mathlib.Core.Logic.{_⊎_, inl, inr}
 use mathlib.Core.List.{List, [], _∷_, List·Permᴰ}
 use lib.ListN.{length}
+use Rattle.laws.specs.Pick.{pick}
 use Rattle.tally.specs.Sets.{Set}
 use Rattle.tally.specs.Kind.{Kind, Room, suffices}
 use Rattle.tally.specs.Map.{Config, Call, Answer, Map, Agrees}
@@ -22,7 +23,7 @@ module _ (K : Kind) where
 
   -- the point r, wherever there is room for it, and 10 wherever there is not
   abbrev pub fitting : K .Point → Room → ℕ ⊎ K .Point
-  fitting r room = cond (suffices K room (r ∷ [])) (inr r) (inl 10)
+  fitting r room = pick (suffices K room (r ∷ [])) (inr r) (inl 10)
 
   -- "Points enter merges as handed out; a lone one stays. A merge is refused only with 10, and repeated with longer output." The points
   -- qs merged into p one by one: each merge is answered, in all the room that suffices, and the last point stands for vs.

@@ -1,12 +1,13 @@
 -- A handle keeps naming its set while it has a binding, whatever the calls; no premise. Assumes nothing.
 use Prim.Native.Nat.{ℕ, suc, _+_, _-_, _<_}
 use mathlib.Core.Path.{_≡_, refl, ap, sym, subst, _∙_}
-use mathlib.Core.Bool.{Bool, true, false, cond, _&&_}
+use mathlib.Core.Bool.{Bool, true, false, _&&_}
 use mathlib.Core.List.{List, [], _∷_, map}
 use mathlib.Core.Option.{Option, none, some}
 use native.Mathlib.Omega.{arith}
 use borrow.Author.Tests.{eq-eqb}
 use lib.Dec.{eqb}
+use Rattle.laws.proofs.Bools.{pick-true, pick-false}
 use Rattle.laws.specs.Counting.{bit}
 use Rattle.laws.proofs.Cases.{some-inj, none-not-some, true-not-false}
 use Rattle.tally.specs.Sets.{Set, overflow, same, canonical}
@@ -61,9 +62,9 @@ module _ (K : Kind) (c : Config K) (m : Map K) (g : Agrees K c m) (h : ℕ) (e :
       go : (b : Bool) → same (x .set) (e .set) ≡ b → Bound (put K x (m .entries))
       go true q =
           let w = has (same-eq (x .set) (e .set) q) in
-          (x, find-put K (e .set) x (m .entries) ∙ ap (λ t. cond t (some x) (find K (e .set) (m .entries))) q, w .0, w .1)
+          (x, find-put K (e .set) x (m .entries) ∙ pick-true _ _ _ q, w .0, w .1)
       go false q =
-          (e, find-put K (e .set) x (m .entries) ∙ ap (λ t. cond t (some x) (find K (e .set) (m .entries))) q ∙ its .2, its .0, more)
+          (e, find-put K (e .set) x (m .entries) ∙ pick-false _ _ _ q ∙ its .2, its .0, more)
 
   -- an entry of the set that is held is e; none is new
   own : (s : Set) (x : Entry K) → find K s (m .entries) ≡ some x → x .set ≡ e .set → x ≡ e

@@ -1,10 +1,11 @@
 -- THE MAP'S STEPS: each call's answer and the map after it, for any kind of series. Assumes nothing.
 use Prim.Native.Nat.{ℕ, suc, _-_, _^_}
-use mathlib.Core.Bool.{Bool, cond, not, _&&_}
+use mathlib.Core.Bool.{Bool, not, _&&_}
 use mathlib.Core.List.{List, [], _∷_, map}
 use mathlib.Core.Option.{Option, none, some}
 use lib.Dec.{eqb, leb, ltb}
 use lib.ListN.{length}
+use Rattle.laws.specs.Pick.{pick}
 use Rattle.laws.proofs.Bools.{some?}
 use Rattle.tally.specs.Sets.{Set, overflow, three, cmp, canonical}
 use Rattle.tally.specs.Kind.{Kind, unless, firstOf, Config, Call, measure, measureBy, bind, release, collect, refuse, done, handle, listed}
@@ -44,7 +45,7 @@ module _ (K : Kind) where
   -- "A birth number is spent on each new entry and never again."
   unfoldable pub place : ℕ → Map K → Set → Place
   place limit m s =
-      heldOr m (find K s (m .entries)) (cond (ltb (m .count) limit)
+      heldOr m (find K s (m .entries)) (pick (ltb (m .count) limit)
       (record { entry = new s (suc (m .last)); count = suc (m .count); last = suc (m .last) })
       (heldOr m (find K overflow (m .entries))
       (record { entry = new overflow (suc (m .last)); count = m .count; last = suc (m .last) })))
@@ -92,7 +93,7 @@ module _ (K : Kind) where
   -- "Delta: updated entries are listed and reset; others, without bindings and not overflow, are removed"
   abbrev pub sweep : List (Entry K) → List (Entry K)
   sweep [] = []
-  sweep (e ∷ l) = cond (idle e) (sweep l) (reset e ∷ sweep l)
+  sweep (e ∷ l) = pick (idle e) (sweep l) (reset e ∷ sweep l)
 
   -- "the count falls by them"
   abbrev pub swept : Map K → Map K

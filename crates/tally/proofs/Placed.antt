@@ -6,6 +6,7 @@ use mathlib.Core.Option.{Option, none, some}
 use native.Mathlib.Omega.{arith}
 use lib.Dec.{ltb}
 use borrow.Author.Tests.{ltb-true, ltb-false}
+use Rattle.laws.specs.Pick.{pick}
 use Rattle.tally.specs.Sets.{Set, overflow}
 use Rattle.tally.specs.Kind.{Kind}
 use Rattle.tally.specs.Map.{Entry, Map, find}
@@ -24,7 +25,7 @@ module _ (K : Kind) (m : Map K) where
     madeOver : find K s (m .entries) ≡ none → limit ≤ m .count → find K overflow (m .entries) ≡ none → p ≡ newAt overflow (m .count) → Placed limit s p
 
   pub placed : (limit : ℕ) (s : Set) → Placed limit s (place K limit m s)
-  unfolding place
+  unfolding place pick
   placed limit s = go (find K s (m .entries)) refl (ltb (m .count) limit) refl (find K overflow (m .entries)) refl
     where
       go : (x : Option (Entry K)) → find K s (m .entries) ≡ x → (b : Bool) → ltb (m .count) limit ≡ b → (y : Option (Entry K)) → find K overflow (m .entries) ≡ y → Placed limit s (place K limit m s)

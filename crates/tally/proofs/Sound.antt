@@ -1,11 +1,12 @@
 -- Numbers 8 and 12 never come up in a run from a fresh start: series that agree do so after every call. Assumes nothing.
 use Prim.Native.Nat.{ℕ, suc, _-_, Ordering, Ordering·lt, Ordering·eq, Ordering·gt}
 use mathlib.Core.Path.{_≡_, refl, ap, sym, subst, _∙_}
-use mathlib.Core.Bool.{Bool, true, false, cond, _&&_}
+use mathlib.Core.Bool.{Bool, true, false, _&&_}
 use mathlib.Core.List.{List, [], _∷_, map}
 use mathlib.Core.Option.{Option, none, some}
 use lib.Dec.{eqb, ltb, leb}
 use lib.ListN.{length}
+use Rattle.laws.specs.Pick.{pick}
 use Rattle.laws.specs.Tests.{all}
 use Rattle.laws.proofs.Cases.{and-true, true-not-false, some-inj, none-not-some}
 use Rattle.tally.specs.Sets.{Set, overflow, three, cmp, same, canonical}
@@ -42,7 +43,8 @@ module _ (K : Kind) where
         go i a Ordering·gt = both (p x) (all p (put K e l)) (a .0) i
 
     -- a search by a test finds what passes
-    of-found : (x e : Entry K) (b : Bool) (o : Option (Entry K)) → p x ≡ true → (o ≡ some e → p e ≡ true) → cond b (some x) o ≡ some e → p e ≡ true
+    of-found : (x e : Entry K) (b : Bool) (o : Option (Entry K)) → p x ≡ true → (o ≡ some e → p e ≡ true) → pick b (some x) o ≡ some e → p e ≡ true
+    unfolding pick
     of-found x e true o h k q = subst (λ y. p y ≡ true) (some-inj q) h
     of-found x e false o h k q = k q
 
@@ -107,11 +109,11 @@ module _ (K : Kind) (S : Steady K) (m : Map K) (z : K .valid (m .settings) ≡ t
   by (some e) s f g = g e (s e refl)
 
   all-sweep : (l : List (Entry K)) → all fine (sweep K l) ≡ true
-  unfolding fine
+  unfolding fine pick
   all-sweep [] = refl
   all-sweep (e ∷ l) = go (all-sweep l) (idle K e)
     where
-      go : all fine (sweep K l) ≡ true → (b : Bool) → all fine (cond b (sweep K l) (reset K e ∷ sweep K l)) ≡ true
+      go : all fine (sweep K l) ≡ true → (b : Bool) → all fine (pick b (sweep K l) (reset K e ∷ sweep K l)) ≡ true
       go i true = i
       go i false = i
 

@@ -1,10 +1,11 @@
 -- Demand 3: its premise, what it claims of answers and points, and the code that it is claimed of. Assumes nothing.
 use Prim.Native.Nat.{ℕ, _^_, _≤_, _<_}
 use mathlib.Core.Path.{_≡_}
-use mathlib.Core.Bool.{Bool, true, false, cond}
+use mathlib.Core.Bool.{Bool, true, false}
 use mathlib.Core.List.{List, [], _∷_, _++_, map, flatten}
 use mathlib.Core.Option.{some}
 use lib.ListN.{length}
+use Rattle.laws.specs.Pick.{pick}
 use Rattle.laws.specs.Tests.{all}
 use Rattle.tally.specs.Sets.{Set, Lendable, ofSet, ascending, canonical}
 use Rattle.tally.specs.Kind.{Kind, inAll}
@@ -34,7 +35,7 @@ module _ (K : Kind) where
   abbrev pub sets : Config K → List (Call K) → List (Answer K) → List Set
   sets c [] ans = []
   sets c (x ∷ xs) [] = []
-  sets c (x ∷ xs) (a ∷ ans) = cond (accepted a) (setOf c x) [] ++ sets c xs ans
+  sets c (x ∷ xs) (a ∷ ans) = pick (accepted a) (setOf c x) [] ++ sets c xs ans
 
   -- "the accepted ones on no more unlike named sets than the limit"
   pub record Premise (c : Config K) (xs : List (Call K)) (ans : List (Answer K)) : Type 0 where

@@ -2,8 +2,9 @@
 -- every kind (Steps.antt, Kept.antt, crate promises). Assumes nothing.
 use Prim.Native.Nat.{ℕ, suc, _+_, _≤_}
 use mathlib.Core.Path.{_≡_}
-use mathlib.Core.Bool.{Bool, true, false, cond}
+use mathlib.Core.Bool.{Bool, true, false}
 use mathlib.Core.Option.{Option, none, some}
+use Rattle.laws.specs.Pick.{pick}
 use Rattle.tally.specs.Kind.{Kind}
 use Rattle.tally.specs.Map.{sound}
 use Rattle.tally.proofs.MapSteps.{fits}
@@ -19,7 +20,7 @@ module _ {K : Kind} (S : Store K) where
 
   -- the series that slot x holds, where its entry was updated; and the one that a value is added to
   abbrev pub there : S .Cells → ℕ → Bool → Option (K .Series)
-  there c x u = cond u (some (S .at c x)) none
+  there c x u = pick u (some (S .at c x)) none
 
   abbrev pub was : S .Switches → S .Cells → ℕ → Bool → K .Series
   was w c x u = orFresh K (S .settings w) (there c x u)

@@ -3,11 +3,12 @@ use mathlib.Core.Path.{_≡_, refl, sym, ap, _∙_}
 use Prim.Native.Nat.{ℕ, _+_, _-_, _*_, _^_, _<_}
 use native.Mathlib.Nat.{mul-pos, zero-mul, eq-of-mul-eq-mul-right}
 use native.Mathlib.Omega.{arith}
-use mathlib.Core.Bool.{Bool, true, false, cond, _&&_, _||_}
+use mathlib.Core.Bool.{Bool, true, false, _&&_, _||_}
 use lib.Dec.{T, eqb, eqb-refl, eqb→eq}
 use lib.Pow.{pow-pos}
 use lib.Ieee.{Float, nan, inf, fin, Format, low, up, down, level, eq}
 use lib.Ieee.Fits.{down-pos, and-i, and-l, and-r, eq→eqb}
+use Rattle.laws.specs.Pick.{pick}
 use Rattle.floats.proofs.Order.{key, big, Ok, unitsOf, small, key-fin, left-units, right-units, key-above, key-below, big-pos}
 
 both-ways : (a b : Bool) → (T a → T b) → (T b → T a) → a ≡ b
@@ -39,7 +40,8 @@ module _ (A B C a b c g : ℕ) (P : 0 < C) (p : 0 < c) (h : A * c ≡ a * C) (k 
       eq→eqb (i z (sym (same-down (eqb→eq A B (and-l (eqb A B) (eqb A 0) t))) ∙ z)))
       (λ t. let e = eqb→eq m n t in and-i (eqb A B) (eqb A 0) (eq→eqb (same-up (j e ∙ sym (l e)))) (eq→eqb (none-up A C a c P p h (j e))))
 
-  signs : (s t : Bool) → level s A t B ≡ eqb (cond s (g - a) (g + a)) (cond t (g - b) (g + b))
+  signs : (s t : Bool) → level s A t B ≡ eqb (pick s (g - a) (g + a)) (pick t (g - b) (g + b))
+  unfolding pick
   signs false false = one-sign (eqb A 0) (g + a) (g + b) (λ e. omega arith) (λ e. omega arith)
   signs true true = one-sign (eqb A 0) (g - a) (g - b) (λ e. omega arith) (λ e. omega arith)
   signs false true = two-signs (g + a) (g - b) (λ e d. omega arith) (λ e. omega arith) (λ e. omega arith)
@@ -76,4 +78,4 @@ eq-key f (fin s m e) (inf false) p q = eqb-no (key f (fin s m e)) (big f + big f
 eq-key f (fin s m e) (fin t n d) p q =
     signs (m * up e * down d) (n * up d * down e) (down e * down d) (unitsOf f m e) (unitsOf f n d) (2 ^ low f) (big f)
     (mul-pos (down-pos e) (down-pos d)) (pow-pos (low f)) (left-units f s m e d p) (right-units f t n d e q) (small f s m e p) (small f t n d q) s t
-    ∙ sym (ap (λ (x : ℕ). eqb x (key f (fin t n d))) (key-fin f s m e) ∙ ap (eqb (cond s (big f - unitsOf f m e) (big f + unitsOf f m e))) (key-fin f t n d))
+    ∙ sym (ap (λ (x : ℕ). eqb x (key f (fin t n d))) (key-fin f s m e) ∙ ap (eqb (pick s (big f - unitsOf f m e) (big f + unitsOf f m e))) (key-fin f t n d))

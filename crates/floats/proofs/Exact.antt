@@ -4,7 +4,8 @@ use Prim.Native.Nat.{ℕ, zero, suc, _+_, _-_, _*_, _^_, _≤_, _<_}
 use native.Mathlib.Nat.{eq-or-lt-of-le, mul-assoc, zero-lt-suc, lt-of-lt-of-le}
 use native.Mathlib.Omega.{arith}
 use mathlib.Core.Logic.{_⊎_, inl, inr}
-use mathlib.Core.Bool.{Bool, true, false, not, cond, true≢false, false≢true}
+use mathlib.Core.Bool.{Bool, true, false, not, true≢false, false≢true}
+use borrow.Author.Tests.{lt-ltb, le-ltb}
 use lib.IntN.{ℤ, pos, negsuc, natAbs, _+ℤ_}
 use lib.Dec.{T, ltb, ltb→lt, nltb→le, lit<, lit≤}
 use lib.Pow.{pow-add, pow-mono, shl-lt}
@@ -33,12 +34,8 @@ val s n h = go (eq-or-lt-of-le h)
     go (inr l) = small-val s n l
 
 -- ---- what the sum of a's and b's 1/1024ths is. A sum whose first summand is not -0 is never -0
-cond-ind : {X : Type 0} (c : Bool) (x y : X) (P : X → Type 0) → (T c → P x) → (T (not c) → P y) → P (cond c x y)
-cond-ind true x y P f g = f tt
-cond-ind false x y P f g = g tt
-
-not-below-zero : (a : ℕ) → a < 0 → ⊥
-not-below-zero a h = omega arith
+zero-le : (a : ℕ) → 0 ≤ a
+zero-le a = omega arith
 
 less-none : (a : ℕ) → a - 0 ≡ a + 0
 less-none a = omega arith
@@ -49,22 +46,18 @@ more-one a b h = omega arith
 sum-pos : (a : ℕ) (t : Bool) (b : ℕ) → sum binary64 false a t b 1024 ≡ grid (pos a +ℤ signed t b)
 unfolding sum grid
 sum-pos a false b = refl
-sum-pos a true zero = cond-ind (ltb a 0) (round binary64 true (0 - a) 1024) (round binary64 false (a - 0) 1024) (λ x. x ≡ round binary64 false (a + 0) 1024)
-    (λ t. absurd (not-below-zero a (ltb→lt a 0 t))) (λ t. ap (λ (n : ℕ). round binary64 false n 1024) (less-none a))
-sum-pos a true (suc b) = go (ltb a (suc b)) (ltb→lt a (suc b))
+sum-pos a true zero = rw (le-ltb a 0 (zero-le a)) (ap (λ (n : ℕ). round binary64 false n 1024) (less-none a))
+sum-pos a true (suc b) = go (ltb a (suc b)) refl (ltb→lt a (suc b))
   where
-    go : (c : Bool) → (T c → a < suc b) → cond c (round binary64 true (suc b - a) 1024) (round binary64 false (a - suc b) 1024) ≡ grid (cond c (negsuc (suc b - suc a)) (pos (a - suc b)))
-    go true h = ap (λ (n : ℕ). round binary64 true n 1024) (more-one a b (h tt))
-    go false h = refl
+    go : (c : Bool) → ltb a (suc b) ≡ c → (T c → a < suc b) → sum binary64 false a true (suc b) 1024 ≡ grid (pos a +ℤ signed true (suc b))
+    go true e h = rw e (ap (λ (n : ℕ). round binary64 true n 1024) (more-one a b (h tt)))
+    go false e h = rw e
 
 two-sucs : (a b : ℕ) → suc a + suc b ≡ suc (suc (a + b))
 two-sucs a b = omega arith
 
 suc-none : (a : ℕ) → suc a + 0 ≡ suc (suc a - 1)
 suc-none a = omega arith
-
-not-none : (a : ℕ) → suc a ≤ 0 → ⊥
-not-none a h = omega arith
 
 both-none : (a b : ℕ) → b ≤ suc a → suc a ≤ b → suc a - b ≡ b - suc a
 both-none a b h k = omega arith
@@ -77,17 +70,16 @@ less-one a b h = omega arith
 
 sum-neg : (a : ℕ) (t : Bool) (b : ℕ) → sum binary64 true (suc a) t b 1024 ≡ grid (negsuc a +ℤ signed t b)
 unfolding sum grid
-sum-neg a true zero = cond-ind (ltb 0 (suc a)) (negsuc (suc a - 1)) (pos (0 - suc a)) (λ z. round binary64 true (suc a + 0) 1024 ≡ grid z)
-    (λ t. ap (λ (n : ℕ). round binary64 true n 1024) (suc-none a)) (λ t. absurd (not-none a (nltb→le 0 (suc a) t)))
+sum-neg a true zero = rw (lt-ltb 0 (suc a) (zero-lt-suc a)) (ap (λ (n : ℕ). round binary64 true n 1024) (suc-none a))
 sum-neg a true (suc b) = ap (λ (n : ℕ). round binary64 true n 1024) (two-sucs a b)
-sum-neg a false b = go (ltb (suc a) b) (ltb b (suc a)) (ltb→lt (suc a) b) (nltb→le (suc a) b) (ltb→lt b (suc a)) (nltb→le b (suc a))
+sum-neg a false b = go (ltb (suc a) b) (ltb b (suc a)) refl refl (ltb→lt (suc a) b) (nltb→le (suc a) b) (ltb→lt b (suc a)) (nltb→le b (suc a))
   where
-    go : (c d : Bool) → (T c → suc a < b) → (T (not c) → b ≤ suc a) → (T d → b < suc a) → (T (not d) → suc a ≤ b)
-        → cond c (round binary64 false (b - suc a) 1024) (round binary64 d (suc a - b) 1024) ≡ grid (cond d (negsuc (suc a - suc b)) (pos (b - suc a)))
-    go true true h h' k k' = absurd (one-side a b (h tt) (k tt))
-    go true false h h' k k' = refl
-    go false true h h' k k' = ap (λ (n : ℕ). round binary64 true n 1024) (less-one a b (k tt))
-    go false false h h' k k' = ap (λ (n : ℕ). round binary64 false n 1024) (both-none a b (h' tt) (k' tt))
+    go : (c d : Bool) → ltb (suc a) b ≡ c → ltb b (suc a) ≡ d → (T c → suc a < b) → (T (not c) → b ≤ suc a) → (T d → b < suc a) → (T (not d) → suc a ≤ b)
+        → sum binary64 true (suc a) false b 1024 ≡ grid (negsuc a +ℤ signed false b)
+    go true true e e' h h' k k' = absurd (one-side a b (h tt) (k tt))
+    go true false e e' h h' k k' = rw (e, e')
+    go false true e e' h h' k k' = rw (e, e') (ap (λ (n : ℕ). round binary64 true n 1024) (less-one a b (k tt)))
+    go false false e e' h h' k k' = rw (e, e') (ap (λ (n : ℕ). round binary64 false n 1024) (both-none a b (h' tt) (k' tt)))
 
 -- ---- a value on the grid, by its sign and magnitude
 abbrev pub sign : Float → Bool

@@ -4,7 +4,7 @@ use mathlib.Core.Path.{_≡_, refl, sym, ap, _∙_}
 use Prim.Native.Nat.{ℕ, _-_, _*_, _<_}
 use native.Mathlib.Nat.{zero-mul, mul-pos, zero-lt-suc}
 use native.Mathlib.Omega.{arith}
-use mathlib.Core.Bool.{Bool, true, false, not, cond, _&&_}
+use mathlib.Core.Bool.{Bool, true, false, not}
 use lib.IntN.{ℤ, pos}
 use lib.Dec.{T, ltb, ltb→lt}
 use lib.Ieee.{Float, nan, inf, fin, binary64, up, down, round, sum, sub, eq, ne, isNan}
@@ -36,9 +36,9 @@ less-self a = omega arith
 sum-self : (s : Bool) (a c : ℕ) → 0 < c → sum binary64 s a (not s) a c ≡ zeroF
 unfolding sum
 sum-self true a c C =
-    ap (λ (b : Bool). cond b (round binary64 false (a - a) c) (round binary64 (true && b) (a - a) c)) (not-self a) ∙ ap (λ (n : ℕ). round binary64 false n c) (less-self a) ∙ round-zero c C
+    rw (not-self a, less-self a) (round-zero c C)
 sum-self false a c C =
-    ap (λ (b : Bool). cond b (round binary64 true (a - a) c) (round binary64 false (a - a) c)) (not-self a) ∙ ap (λ (n : ℕ). round binary64 false n c) (less-self a) ∙ round-zero c C
+    rw (not-self a, less-self a) (round-zero c C)
 
 sub-self : (s : Bool) (m : ℕ) (e : ℤ) → sub binary64 (fin s m e) (fin s m e) ≡ zeroF
 unfolding sub

@@ -2,9 +2,9 @@
 use mathlib.Core.Path.{_≡_, refl, sym, ap, _∙_, subst}
 use Prim.Native.Nat.{ℕ, _+_, _-_, _*_, _<_}
 use native.Mathlib.Nat.{add-mul, mul-sub, mul-right-comm, mul-assoc, mul-comm, mul-pos, mul-lt-mul-of-pos-right, lt-of-mul-lt-mul-right}
-use mathlib.Core.Bool.{Bool, true, false, cond, _&&_, Bool·beq}
+use mathlib.Core.Bool.{Bool, true, false, _&&_}
 use lib.Dec.{T, ltb, ltb→lt, lt→ltb}
-use lib.Ieee.{Float, nan, inf, fin, Format, up, down, round, sum, add}
+use lib.Ieee.{Float, nan, inf, fin, Format, up, down, sum, add}
 use lib.Ieee.Fits.{down-pos}
 use lib.Ieee.Exact.{HasValue}
 use lib.Ieee.Scale.{round-same}
@@ -41,14 +41,13 @@ module _ (A B C a b c : ℕ) (P : 0 < C) (p : 0 < c) (h : A * c ≡ a * C) (k : 
 pub sum-same : (f : Format) (s : Bool) (A : ℕ) (t : Bool) (B C a b c : ℕ) → 0 < C → 0 < c → A * c ≡ a * C → B * c ≡ b * C → sum f s A t B C ≡ sum f s a t b c
 unfolding sum
 sum-same f s A t B C a b c P p h k =
-    ap (λ (z : Float). cond (Bool·beq s t) z (cond (ltb A B) (round f t (B - A) C) (round f (s && ltb B A) (A - B) C)))
-    (round-same f s (A + B) C (a + b) c P p (plus-same A B C a b c P p h k))
-    ∙ ap (λ (z : Float). cond (Bool·beq s t) (round f s (a + b) c) (cond (ltb A B) z (round f (s && ltb B A) (A - B) C)))
-    (round-same f t (B - A) C (b - a) c P p (minus-same B A C b a c P p k h))
-    ∙ ap (λ (z : Float). cond (Bool·beq s t) (round f s (a + b) c) (cond (ltb A B) (round f t (b - a) c) z))
-    (round-same f (s && ltb B A) (A - B) C (a - b) c P p (minus-same A B C a b c P p h k))
-    ∙ ap (λ (z : Bool). cond (Bool·beq s t) (round f s (a + b) c) (cond z (round f t (b - a) c) (round f (s && ltb B A) (a - b) c))) (ltb-same A B C a b c P p h k)
-    ∙ ap (λ (z : Bool). cond (Bool·beq s t) (round f s (a + b) c) (cond (ltb a b) (round f t (b - a) c) (round f (s && z) (a - b) c))) (ltb-same B A C b a c P p k h)
+    rw (
+      round-same f s (A + B) C (a + b) c P p (plus-same A B C a b c P p h k),
+      round-same f t (B - A) C (b - a) c P p (minus-same B A C b a c P p k h),
+      round-same f (s && ltb B A) (A - B) C (a - b) c P p (minus-same A B C a b c P p h k),
+      ltb-same A B C a b c P p h k,
+      ltb-same B A C b a c P p k h,
+    )
 
 -- the sum of two finite floats, by any one denominator of theirs
 pub add-at : (f : Format) (x y : Float) (s : Bool) (a : ℕ) (t : Bool) (b c : ℕ) → 0 < c → HasValue x s a c → HasValue y t b c → add f x y ≡ sum f s a t b c

@@ -4,7 +4,7 @@ use mathlib.Core.Path.{_≡_, refl, sym, ap, _∙_, subst}
 use Prim.Native.Nat.{ℕ, zero, suc, _+_, _-_, _*_, _/_, _%_, _^_, _≤_, _<_}
 use native.Mathlib.Nat.{lt-irrefl, zero-lt-suc, mul-assoc, mul-comm, mul-right-comm, mul-pos, zero-mul, zero-div, mul-div-cancel, mul-one, div-lt-iff-lt-mul, lt-of-not-le, not-le-of-lt, mul-lt-mul-of-pos-right, le-of-suc-le-suc}
 use native.Mathlib.Omega.{arith}
-use mathlib.Core.Bool.{Bool, true, false, cond, _&&_}
+use mathlib.Core.Bool.{Bool, true, false, _&&_}
 use lib.IntN.{ℤ, pos, negsuc}
 use lib.Dec.{T, ltb, leb, eqb, ltb→lt, leb→le, lt→ltb}
 use lib.Pow.{pow-add, pow-pos, pow-lt}
@@ -13,6 +13,7 @@ use lib.Ieee.Fits.{up-pos, down-pos, and-l, and-r}
 use lib.Ieee.Digits.{back}
 use lib.Ieee.Exact.{HasValue}
 use mathlib.Core.Logic.{_⊎_, inl, inr}
+use Rattle.laws.specs.Pick.{pick}
 use Rattle.floats.proofs.Same.{same-value}
 use Rattle.floats.proofs.Fractions.{ltb-iff, ltb-same, plus-same}
 
@@ -98,15 +99,16 @@ down-up : (g a b : ℕ) → g - b ≤ g + a
 down-up g a b = omega arith
 
 signs : (s t : Bool) (A B C a b c g : ℕ) → 0 < C → 0 < c → A * c ≡ a * C → B * c ≡ b * C → a < g → b < g
-    → below s A t B ≡ ltb (cond s (g - a) (g + a)) (cond t (g - b) (g + b))
+    → below s A t B ≡ ltb (pick s (g - a) (g + a)) (pick t (g - b) (g + b))
+unfolding pick
 signs false false A B C a b c g P p h k x y = ltb-same A B C a b c P p h k ∙ shift-up g a b
 signs false true A B C a b c g P p h k x y = ltb-no (g + a) (g - b) (down-up g a b)
 signs true false A B C a b c g P p h k x y =
     ltb-same 0 (A + B) C 0 (a + b) c P p (zero-mul c ∙ sym (zero-mul C)) (plus-same A B C a b c P p h k) ∙ apart g a b x
 signs true true A B C a b c g P p h k x y = ltb-same B A C b a c P p k h ∙ shift-down g a b x y
 
-pub key-fin : (f : Format) (s : Bool) (m : ℕ) (e : ℤ) → key f (fin s m e) ≡ cond s (big f - unitsOf f m e) (big f + unitsOf f m e)
-unfolding key
+pub key-fin : (f : Format) (s : Bool) (m : ℕ) (e : ℤ) → key f (fin s m e) ≡ pick s (big f - unitsOf f m e) (big f + unitsOf f m e)
+unfolding key pick
 key-fin f true m e = refl
 key-fin f false m e = refl
 
@@ -122,7 +124,7 @@ unfolding lt
 lt-fin f s m e t n d p q =
     signs s t (m * up e * down d) (n * up d * down e) (down e * down d) (unitsOf f m e) (unitsOf f n d) (2 ^ low f) (big f)
     (mul-pos (down-pos e) (down-pos d)) (pow-pos (low f)) (left-units f s m e d p) (right-units f t n d e q) (small f s m e p) (small f t n d q)
-    ∙ sym (ap (λ (x : ℕ). ltb x (key f (fin t n d))) (key-fin f s m e) ∙ ap (ltb (cond s (big f - unitsOf f m e) (big f + unitsOf f m e))) (key-fin f t n d))
+    ∙ sym (ap (λ (x : ℕ). ltb x (key f (fin t n d))) (key-fin f s m e) ∙ ap (ltb (pick s (big f - unitsOf f m e) (big f + unitsOf f m e))) (key-fin f t n d))
 
 -- no NaN, and it fits
 abbrev pub Ok : Format → Float → Type 0

@@ -9,7 +9,7 @@ use Prim.Native.Nat.{ℕ, zero, suc, _+_, _-_, _*_, _/_, _%_, _^_, _≤_, _<_}
 use native.Mathlib.Nat.{suc-mul, zero-add, zero-mul, zero-div, zero-lt-suc, mul-assoc, mul-one, one-mul, le-trans, le-of-eq, mul-le-mul-right, mul-le-mul-left, le-of-suc-le-suc, lt-of-not-le, not-le-of-lt, eq-of-mul-eq-mul-right, lt-of-mul-lt-mul-right}
 use native.Mathlib.Decide.{decLe}
 use native.Mathlib.Omega.{arith}
-use mathlib.Core.Bool.{Bool, true, false, not, cond, _&&_}
+use mathlib.Core.Bool.{Bool, true, false, not, _&&_}
 use lib.IntN.{ℤ, pos, negsuc}
 use lib.Dec.{T, ltb, leb, eqb, ltb→lt}
 use lib.Pow.{pow-add, pow-mono, pow-lt}
@@ -17,6 +17,7 @@ use lib.Ieee.{Float, nan, inf, fin, Format, binary64, prec, emax, low, up, down,
 use lib.Ieee.Scale.{finite}
 use lib.Ieee.Fits.{down-pos, and-l, and-r}
 use lib.Ieee.Digits.{back}
+use Rattle.laws.specs.Pick.{pick}
 use Rattle.floats.specs.Starts.{greatestFinite, leastFinite, FiniteF64}
 use Rattle.floats.proofs.Order.{unitsOf, big, key, Ok, isZero, exponent, exact, small, key-fin, key-unique}
 use lib.Ieee.Bits.{ofBits-fits}
@@ -110,23 +111,23 @@ cancel u w t g h k = omega arith
 units-le : (s : Bool) (m : ℕ) (e : ℤ) → T (fits binary64 (fin s m e)) → unitsOf binary64 m e ≤ most
 units-le s m e t = cancel (unitsOf binary64 m e) most (2 ^ 2045) (big binary64) (room-for binary64 2045 refl s m e t) most-is
 
-key-most : (s : Bool) → key binary64 (fin s 9007199254740991 (pos 971)) ≡ cond s (big binary64 - most) (big binary64 + most)
+key-most : (s : Bool) → key binary64 (fin s 9007199254740991 (pos 971)) ≡ pick s (big binary64 - most) (big binary64 + most)
 key-most s = key-fin binary64 s 9007199254740991 (pos 971)
 
 key-start : (up : Bool) (x : Float) → FiniteF64 x → rank up binary64 x ≤ rank up binary64 (fin (not up) 9007199254740991 (pos 971))
-unfolding rank
+unfolding rank pick
 key-start up nan v = absurd (v .known)
 key-start up (inf s) v = absurd (v .known)
 key-start true (fin s m e) v =
     rw (key-fin binary64 s m e, key-most false) (go s (big binary64) (unitsOf binary64 m e) most (units-le s m e (v .fits)))
   where
-    go : (s : Bool) (g u w : ℕ) → u ≤ w → cond s (g - u) (g + u) ≤ g + w
+    go : (s : Bool) (g u w : ℕ) → u ≤ w → pick s (g - u) (g + u) ≤ g + w
     go true g u w h = omega arith
     go false g u w h = omega arith
 key-start false (fin s m e) v =
     rw (key-fin binary64 s m e, key-most true) (go s (big binary64) (unitsOf binary64 m e) most (units-le s m e (v .fits)))
   where
-    go : (s : Bool) (g u w : ℕ) → u ≤ w → g + g - cond s (g - u) (g + u) ≤ g + g - (g - w)
+    go : (s : Bool) (g u w : ℕ) → u ≤ w → g + g - pick s (g - u) (g + u) ≤ g + g - (g - w)
     go true g u w h = omega arith
     go false g u w h = omega arith
 

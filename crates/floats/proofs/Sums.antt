@@ -4,7 +4,7 @@ use mathlib.Core.Path.{_≡_, refl, sym, ap, _∙_}
 use mathlib.Core.List.{List, [], _∷_, _++_, foldl, List·Permᴰ}
 use Prim.Native.Nat.{ℕ, suc, _+_, _-_, _^_, _≤_, _<_}
 use native.Mathlib.Omega.{arith}
-use mathlib.Core.Bool.{Bool, true, false, cond}
+use mathlib.Core.Bool.{Bool, true, false}
 use lib.IntN.{ℤ, pos, negsuc, natAbs, subℕ, _+ℤ_, +ℤ-assoc, +ℤ-comm, +ℤ-idl, +ℤ-idr}
 use lib.Dec.{T, ltb, ltb→lt}
 use lib.Ieee.{Float, binary64, add, ofBits, round}
@@ -16,7 +16,7 @@ use Rattle.floats.proofs.Exact.{grid-exact, add-grid}
 
 -- ---- |z + w| ≤ |z| + |w|
 sub-abs : (a b : ℕ) → natAbs (subℕ a b) ≤ a + b
-sub-abs a b = go (ltb a b) (ltb→lt a b)
+sub-abs a b = go (ltb a b) refl (ltb→lt a b)
   where
     near : a < b → suc (b - suc a) ≤ a + b
     near h = omega arith
@@ -24,9 +24,9 @@ sub-abs a b = go (ltb a b) (ltb→lt a b)
     far : a - b ≤ a + b
     far = omega arith
 
-    go : (c : Bool) → (T c → a < b) → natAbs (cond c (negsuc (b - suc a)) (pos (a - b))) ≤ a + b
-    go true h = near (h tt)
-    go false h = far
+    go : (c : Bool) → ltb a b ≡ c → (T c → a < b) → natAbs (subℕ a b) ≤ a + b
+    go true e h = rw e (near (h tt))
+    go false e h = rw e far
 
 pub abs-add : (z w : ℤ) → natAbs (z +ℤ w) ≤ natAbs z + natAbs w
 abs-add (pos a) (pos b) = omega arith

@@ -1,6 +1,6 @@
 -- Sums and differences of 32-bit integers that stay in their range. Assumes nothing.
 use mathlib.Core.Path.{_≡_, refl, sym, ap, _∙_, subst}
-use mathlib.Core.Bool.{Bool, true, false, cond}
+use mathlib.Core.Bool.{Bool, true, false}
 use Prim.Native.Nat.{ℕ, zero, suc, _+_, _-_, _*_, _%_, _^_, _≤_, _<_}
 use native.Mathlib.Nat.{lt-of-le-of-lt, mod-eq-of-lt, mul-le-mul, mul-comm}
 use native.Mathlib.Omega.{arith}
@@ -35,7 +35,7 @@ diff-lt a zero m h k = plus a m h
   where
     plus : (a m : ℕ) → a < m → a + 0 < m
     plus a m h = omega arith
-diff-lt a (suc b) m h k = go (ltb a (suc b))
+diff-lt a (suc b) m h k = go (ltb a (suc b)) refl
   where
     down : suc b - suc a < m
     down = omega arith
@@ -43,9 +43,9 @@ diff-lt a (suc b) m h k = go (ltb a (suc b))
     up : a - suc b < m
     up = omega arith
 
-    go : (t : Bool) → mag (cond t (negsuc (suc b - suc a)) (pos (a - suc b))) < m
-    go true = down
-    go false = up
+    go : (t : Bool) → ltb a (suc b) ≡ t → mag (pos a -ℤ pos (suc b)) < m
+    go true e = rw e down
+    go false e = rw e up
 
 module _ (a b : ℕ) (h : a < 2147483648) (k : b < 2147483648) where
   is : toZ w32 a -ℤ toZ w32 b ≡ pos a -ℤ pos b
@@ -64,7 +64,7 @@ sum-lt (pos n) a b m h l g = under n a b m (leb-false a n l) g
   where
     under : (n a b m : ℕ) → n < a → a + b ≤ m → n + b < m
     under n a b m h g = omega (arith, h, g)
-sum-lt (negsuc n) a b m h l g = go (ltb b (suc n))
+sum-lt (negsuc n) a b m h l g = go (ltb b (suc n)) refl
   where
     down : suc n - suc b < m
     down = omega (arith, h)
@@ -72,9 +72,9 @@ sum-lt (negsuc n) a b m h l g = go (ltb b (suc n))
     up : b - suc n < m
     up = omega (arith, g, h)
 
-    go : (t : Bool) → mag (cond t (negsuc (suc n - suc b)) (pos (b - suc n))) < m
-    go true = down
-    go false = up
+    go : (t : Bool) → ltb b (suc n) ≡ t → mag (negsuc n +ℤ pos b) < m
+    go true e = rw e down
+    go false e = rw e up
 
 module _ (z : ℤ) (a b : ℕ) (f : SFits w32 z) (l : leZ (pos a) z ≡ false) (g : a + b ≤ 2147483648) (k : b < 2147483648) where
   sum : toZ w32 (ofZ w32 z) +ℤ toZ w32 b ≡ z +ℤ pos b
@@ -105,7 +105,7 @@ not-negative (negsuc n) h = absurd (subst T h tt)
 
 pub not-below : (z : ℤ) → ltZ z (negsuc 9) ≡ false → T (nonNeg (z +ℤ pos 10))
 not-below (pos n) h = tt
-not-below (negsuc n) h = subst (λ (b : Bool). T (nonNeg (cond b (negsuc (suc n - suc 10)) (pos (10 - suc n))))) (sym (le-ltb 10 (suc n) (up n (ltb-false 9 n h)))) tt
+not-below (negsuc n) h = rw (le-ltb 10 (suc n) (up n (ltb-false 9 n h))) tt
   where
     up : (n : ℕ) → n ≤ 9 → suc n ≤ 10
     up n h = omega (arith, h)

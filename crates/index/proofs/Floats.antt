@@ -1,16 +1,16 @@
 -- What the fields of an f64's bit pattern say of its size in units of 2 ^ -2048. Assumes nothing.
 use mathlib.Core.Path.{_≡_, refl, sym, ap, _∙_, subst}
-use mathlib.Core.Bool.{Bool, true, false, not, cond}
+use mathlib.Core.Bool.{Bool, true, false, not}
 use Prim.Native.Nat.{ℕ, zero, suc, _+_, _-_, _*_, _/_, _%_, _^_, _≤_, _<_}
 use native.Mathlib.Nat.{mod-lt, zero-mul, mul-assoc, mul-right-comm, mul-div-cancel, mod-eq-of-lt, lt-of-lt-of-le, lt-of-le-of-lt, le-trans, le-of-eq, mul-le-mul-right, mul-lt-mul-of-pos-right, add-comm}
 use lib.Count.{leadingZeros, leading-top}
 use native.Mathlib.Omega.{arith}
-use borrow.Author.Tests.{eqb-true, eqb-false}
-use lib.Dec.{T, leb, eqb, eqb→eq, not-T, lit≤}
+use borrow.Author.Tests.{eqb-true, eqb-false, ne-eqb}
+use lib.Dec.{T, leb, eqb, lit≤}
 use lib.Pow.{pow-add, field, pow-pos}
 use lib.Ieee.{Float, nan, inf, fin, binary64, up, down, odd, fits, ofFields, ofBits, toBits, isNan, ne}
 use lib.Ieee.Fits.{down-pos}
-use lib.Ieee.Bits.{ofBits-toBits, cond-no}
+use lib.Ieee.Bits.{ofBits-toBits}
 use lib.Ieee.Exact.{HasValue, odd-sign}
 use lib.Ieee.Scale.{finite}
 use Rattle.laws.proofs.Powers.{pow-lt-back}
@@ -51,11 +51,11 @@ as-fields x F = sym (ofBits-toBits binary64 x F) ∙ ofBits-is (toBits binary64 
 -- a field of all ones is an infinity's or a NaN's
 pub at-top : (s : Bool) (t : ℕ) → finite (ofFields binary64 s 2047 t) ≡ false
 unfolding ofFields
-at-top s t = go (eqb t 0)
+at-top s t = go (eqb t 0) refl
   where
-    go : (b : Bool) → finite (cond b (inf s) nan) ≡ false
-    go true = refl
-    go false = refl
+    go : (b : Bool) → eqb t 0 ≡ b → finite (ofFields binary64 s 2047 t) ≡ false
+    go true e = rw e
+    go false e = rw e
 
 pub at-bottom : (s : Bool) (t : ℕ) → Is (ofFields binary64 s 0 t) s (t * 2 ^ 974)
 unfolding ofFields
@@ -64,12 +64,11 @@ at-bottom s t = subst (λ (k : ℕ). Is (ofFields binary64 s 0 t) s (k * 2 ^ 974
     one : (t : ℕ) → t * 1 ≡ t
     one t = omega arith
 
-pub between : (s : Bool) (j t : ℕ) → T (not (eqb (suc j) 2047)) → Is (ofFields binary64 s (suc j) t) s ((2 ^ 52 + t) * 2 ^ (j + 974))
+between : (s : Bool) (j t : ℕ) → (suc j ≡ 2047 → ⊥) → Is (ofFields binary64 s (suc j) t) s ((2 ^ 52 + t) * 2 ^ (j + 974))
 unfolding ofFields
 between s j t h =
     subst (λ (k : ℕ). Is (ofFields binary64 s (suc j) t) s k) (mul-assoc (2 ^ 52 + t) (2 ^ j) (2 ^ 974) ∙ ap (λ (k : ℕ). (2 ^ 52 + t) * k) (sym (pow-add 2 j 974)))
-    (subst (λ (k : Float). Is k s ((2 ^ 52 + t) * 2 ^ j * 2 ^ 974)) (sym (cond-no (eqb (suc j) 2047) (cond (eqb t 0) (inf s) nan) (odd 53 s (2 ^ 52 + t) j 1074) h))
-    (in-units (odd 53 s (2 ^ 52 + t) j 1074) s ((2 ^ 52 + t) * 2 ^ j) (odd-sign 53 s (2 ^ 52 + t) j 1074)))
+    (rw (ne-eqb (suc j) 2047 h) (in-units (odd 53 s (2 ^ 52 + t) j 1074) s ((2 ^ 52 + t) * 2 ^ j) (odd-sign 53 s (2 ^ 52 + t) j 1074)))
 
 -- ---- a subnormal's digits, shifted up until they are 53
 
@@ -155,7 +154,7 @@ module _ (x : Float) (F : T (fits binary64 x)) where
       go (suc j) g h =
           subst (λ (k : ℕ). Is (ofFields binary64 s (suc j) t) s (k * 2 ^ (suc j + 973))) (add-comm (2 ^ 52) t)
           (subst (λ (k : ℕ). Is (ofFields binary64 s (suc j) t) s ((2 ^ 52 + t) * 2 ^ k)) (next j)
-          (between s j t (not-T (eqb (suc j) 2047) (λ (e : T (eqb (suc j) 2047)). g (eqb→eq (suc j) 2047 e)))))
+          (between s j t g))
 
 pub from-shifted : (x : Float) (s : Bool) (t u : ℕ) → Is x s (t * 2 ^ 974) → Shifted t u → Split x s (t * 2 ^ u % 2 ^ 64) (974 - u)
 from-shifted x s t u i h =
@@ -193,13 +192,12 @@ exact-at (fin t m e) s a h = (
 exact-fields : (s : Bool) (f t : ℕ) → finite (ofFields binary64 s f t) ≡ true → (a : ℕ) × HasValue (ofFields binary64 s f t) s a (2 ^ 1074)
 unfolding ofFields
 exact-fields s zero t h = (t * 2 ^ 0, odd-sign 53 s t 0 1074)
-exact-fields s (suc j) t h = go (eqb (suc j) 2047) (eqb t 0) h
+exact-fields s (suc j) t h = go (eqb (suc j) 2047) (eqb t 0) refl refl
   where
-    go : (p q : Bool) → finite (cond p (cond q (inf s) nan) (odd 53 s (2 ^ 52 + t) j 1074)) ≡ true
-        → (a : ℕ) × HasValue (cond p (cond q (inf s) nan) (odd 53 s (2 ^ 52 + t) j 1074)) s a (2 ^ 1074)
-    go true true h = absurd (subst T (sym h) tt)
-    go true false h = absurd (subst T (sym h) tt)
-    go false q h = ((2 ^ 52 + t) * 2 ^ j, odd-sign 53 s (2 ^ 52 + t) j 1074)
+    go : (p q : Bool) → eqb (suc j) 2047 ≡ p → eqb t 0 ≡ q → (a : ℕ) × HasValue (ofFields binary64 s (suc j) t) s a (2 ^ 1074)
+    go true true e d = absurd (subst T (sym (rw (e, d) at h)) tt)
+    go true false e d = absurd (subst T (sym (rw (e, d) at h)) tt)
+    go false q e d = rw e ((2 ^ 52 + t) * 2 ^ j, odd-sign 53 s (2 ^ 52 + t) j 1074)
 
 pub exact : (x : Float) (F : T (fits binary64 x)) → finite x ≡ true → HasValue x (s x F) (magnitude x) (2 ^ 2048)
 exact x F h =

@@ -1,6 +1,6 @@
 -- The index of an f64 at a scale, from its bin at the scale's level. Assumes nothing.
 use mathlib.Core.Path.{_≡_, refl, sym, ap, _∙_, subst}
-use mathlib.Core.Bool.{Bool, true, false, cond}
+use mathlib.Core.Bool.{Bool, true, false}
 use Prim.Native.Nat.{ℕ, suc, _+_, _-_, _≤_}
 use native.Mathlib.Omega.{arith}
 use borrow.Author.Tests.{ltb-false, le-ltb, eqb-true, eqb-false}
@@ -43,7 +43,7 @@ level-le scale = go (ltZ scale (negsuc 9)) (ltZ (pos 10) scale) refl refl
       where
         up : (n : ℕ) → n ≤ 10 → n + 10 ≤ 20
         up n h = omega (arith, h)
-    small (negsuc n) h g = subst (λ (b : Bool). natAbs (cond b (negsuc (suc n - suc 10)) (pos (10 - suc n))) ≤ 20) (sym (le-ltb 10 (suc n) (up n (ltb-false 9 n h)))) (under n)
+    small (negsuc n) h g = rw (le-ltb 10 (suc n) (up n (ltb-false 9 n h))) (under n)
       where
         up : (n : ℕ) → n ≤ 9 → suc n ≤ 10
         up n h = omega (arith, h)
@@ -86,9 +86,9 @@ level-scale scale level e = go (ltZ scale (negsuc 9)) (ltZ (pos 10) scale) refl 
     back : (z : ℤ) → ltZ z (negsuc 9) ≡ false → scaleOf (natAbs (z +ℤ pos 10)) ≡ z
     back (pos n) h = sub-add n 10
     back (negsuc n) h =
-        ap (λ (b : Bool). scaleOf (natAbs (cond b (negsuc (suc n - suc 10)) (pos (10 - suc n))))) (le-ltb 10 (suc n) (up n (ltb-false 9 n h)))
-        ∙ ap (λ (m : ℕ). pos (10 - suc n) -ℤ pos m) (sym (ten n (ltb-false 9 n h)))
-        ∙ sub-more (suc n) (10 - suc n)
+        rw (le-ltb 10 (suc n) (up n (ltb-false 9 n h))) (
+        ap (λ (m : ℕ). pos (10 - suc n) -ℤ pos m) (sym (ten n (ltb-false 9 n h)))
+        ∙ sub-more (suc n) (10 - suc n))
       where
         up : (n : ℕ) → n ≤ 9 → suc n ≤ 10
         up n h = omega (arith, h)

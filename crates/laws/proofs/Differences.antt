@@ -1,6 +1,5 @@
 -- Differences of whole numbers as integers. Assumes nothing.
 use mathlib.Core.Path.{_≡_, refl, sym, ap, _∙_, subst}
-use mathlib.Core.Bool.{Bool, cond}
 use mathlib.Core.Logic.{_⊎_, inl, inr}
 use Prim.Native.Nat.{ℕ, zero, suc, _+_, _-_, _*_, _/_, _%_, _^_, _≤_, _<_}
 use native.Mathlib.Nat.{add-zero, add-mul, mul-le-mul-left, mul-le-mul-right, lt-of-not-le, mod-lt, div-add-mod', add-mul-div-right, zero-mul, le-trans, le-of-eq}
@@ -23,8 +22,8 @@ pub difference : (x y : ℕ) → Difference x y
 difference x zero = inl (x, sym (add-zero x), ap pos (add-zero x))
 difference x (suc y) =
     elim (le-or-lt (suc y) x) [
-      | inl h ↦ inl (x - suc y, up x y h, ap (λ (b : Bool). cond b (negsuc (suc y - suc x)) (pos (x - suc y))) (le-ltb x (suc y) h))
-      | inr h ↦ inr (suc y - suc x, down x y h, ap (λ (b : Bool). cond b (negsuc (suc y - suc x)) (pos (x - suc y))) (lt-ltb x (suc y) h))
+      | inl h ↦ inl (x - suc y, up x y h, rw (le-ltb x (suc y) h))
+      | inr h ↦ inr (suc y - suc x, down x y h, rw (lt-ltb x (suc y) h))
     ]
   where
     up : (x y : ℕ) → suc y ≤ x → x ≡ x - suc y + suc y

@@ -1,7 +1,6 @@
 -- The fewest decimal digits of a number are its decimal. Assumes nothing.
 use Prim.Native.Nat.{ℕ, zero, suc, _+_, _-_, _/_, _%_, _^_, _≤_, _<_}
 use mathlib.Core.Path.{_≡_, sym, ap, _∙_, subst}
-use mathlib.Core.Bool.{Bool, cond}
 use mathlib.Core.Logic.{⊎-elim}
 use mathlib.Core.List.{List, [], _∷_, _++_}
 use native.Mathlib.Omega.{arith}
@@ -14,7 +13,7 @@ use Rattle.laws.proofs.Differences.{le-or-lt}
 use Rattle.lines.specs.Written.{digitsWithin, decimal}
 
 glyph-is : (d : ℕ) → d < 10 → glyph d ≡ 48 + d
-glyph-is d h = ap (λ (b : Bool). cond b (48 + d) (87 + d)) (lt-ltb d 10 h)
+glyph-is d h = rw (lt-ltb d 10 h)
 
 one-is : (m x : ℕ) → x < 10 → glyph (x % 10) ∷ [] ≡ digitsWithin (suc m) x
 unfolding digitsWithin

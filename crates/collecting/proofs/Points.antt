@@ -11,8 +11,9 @@ use lib.ListN.{length, length-map, length-append}
 use Rattle.laws.specs.Pick.{pick}
 use Rattle.laws.specs.Lists.{only}
 use Rattle.laws.specs.Tests.{all}
+use Rattle.laws.specs.Counting.{sum}
 use Rattle.laws.proofs.Bools.{pick-true, pick-false}
-use Rattle.tally.specs.Kind.{Kind, Room, suffices, inAll}
+use Rattle.tally.specs.Kind.{Kind, Room, suffices}
 use Rattle.tally.specs.Sets.{Set, same}
 use Rattle.tally.specs.Map.{Entry, Points, points, sound, filled}
 use Rattle.directory.specs.View.{Stores, setAt, entryAt, updatedIn}
@@ -137,13 +138,13 @@ module _ {K : Kind} (S : Store K) (w : S .Switches) (h : Held (S .Cells)) where
 
   -- ---- room
   module _ (L : Lister S) where
-    pos-all : (l : List ℕ) → ((x : ℕ) → In x l → Listed L w (h .cells) x (u x)) → inAll (K .pos) (map (λ p. p .1) (map (pointAt S w h) l)) ≡ length (posCounts L w h l)
+    pos-all : (l : List ℕ) → ((x : ℕ) → In x l → Listed L w (h .cells) x (u x)) → sum (K .pos) (map (λ p. p .1) (map (pointAt S w h) l)) ≡ length (posCounts L w h l)
     pos-all [] g = refl
     pos-all (x ∷ l) g =
         (λ i. g x (inl refl) .pos i + pos-all l (λ y m. g y (inr m)) i)
         ∙ sym (length-append (L .pos (h .cells) x (u x)) (posCounts L w h l))
 
-    neg-all : (l : List ℕ) → ((x : ℕ) → In x l → Listed L w (h .cells) x (u x)) → inAll (K .neg) (map (λ p. p .1) (map (pointAt S w h) l)) ≡ length (negCounts L w h l)
+    neg-all : (l : List ℕ) → ((x : ℕ) → In x l → Listed L w (h .cells) x (u x)) → sum (K .neg) (map (λ p. p .1) (map (pointAt S w h) l)) ≡ length (negCounts L w h l)
     neg-all [] g = refl
     neg-all (x ∷ l) g =
         (λ i. g x (inl refl) .neg i + neg-all l (λ y m. g y (inr m)) i)

@@ -1,4 +1,4 @@
--- Lists of numbers up to their order: `Same`, and that the count of each number decides it. Assumes nothing.
+-- Sums over lists, and lists of numbers up to their order: `Same`, and that the count of each number decides it. Assumes nothing.
 use Prim.Native.Nat.{ℕ, _+_, _<_}
 use mathlib.Core.Path.{_≡_, refl, ap, _∙_}
 use mathlib.Core.Logic.{_≢_}
@@ -9,13 +9,19 @@ use lib.Dec.{eqb}
 use borrow.Author.Tests.{eq-eqb, ne-eqb}
 use Rattle.laws.specs.Counting.{bit, sum, count}
 
-pub sum-append : (w : ℕ → ℕ) (xs ys : List ℕ) → sum w (xs ++ ys) ≡ sum w xs + sum w ys
+pub sum-append : {A : Type 0} (w : A → ℕ) (xs ys : List A) → sum w (xs ++ ys) ≡ sum w xs + sum w ys
 sum-append w [] ys = omega arith
 sum-append w (x ∷ xs) ys = omega (arith, sum-append w xs ys)
 
-pub sum-map : (w f : ℕ → ℕ) (xs : List ℕ) → sum w (map f xs) ≡ sum (λ x. w (f x)) xs
+pub sum-map : {A B : Type 0} (w : B → ℕ) (f : A → B) (xs : List A) → sum w (map f xs) ≡ sum (λ x. w (f x)) xs
 sum-map w f [] = refl
 sum-map w f (x ∷ xs) = omega (arith, sum-map w f xs)
+
+pub sum-perm : {A : Type 0} (w : A → ℕ) {xs ys : List A} → List·Permᴰ xs ys → sum w xs ≡ sum w ys
+sum-perm w List·Permᴰ·nil = refl
+sum-perm w (List·Permᴰ·cons {a = a} {b = b} {l₁ = l} e p) = omega (arith, ap w e, sum-perm w p)
+sum-perm w (List·Permᴰ·swap {a = a} {b = b} {a′ = c} {b′ = d} {l = l} e g) = omega (arith, ap w e, ap w g)
+sum-perm w (List·Permᴰ·trans p q) = sum-perm w p ∙ sum-perm w q
 
 -- the same numbers, each as often
 abbrev pub Same : List ℕ → List ℕ → Type 0
@@ -48,7 +54,4 @@ same-of-count (x ∷ xs) ys h w =
 
 -- lists in another order are the same numbers
 pub same-perm : {xs ys : List ℕ} → List·Permᴰ xs ys → Same xs ys
-same-perm List·Permᴰ·nil w = refl
-same-perm (List·Permᴰ·cons {a = a} {b = b} {l₁ = l} e p) w = omega (arith, ap w e, same-perm p w)
-same-perm (List·Permᴰ·swap {a = a} {b = b} {a′ = c} {b′ = d} {l = l} e g) w = omega (arith, ap w e, ap w g)
-same-perm (List·Permᴰ·trans p q) w = same-perm p w ∙ same-perm q w
+same-perm p w = sum-perm w p

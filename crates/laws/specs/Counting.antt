@@ -13,8 +13,8 @@ abbrev pub bit : Bool → ℕ
 bit true = 1
 bit false = 0
 
--- the sum of w over the list
-abbrev pub sum : (ℕ → ℕ) → List ℕ → ℕ
+-- w of every element, added up
+abbrev pub sum : {A : Type 0} → (A → ℕ) → List A → ℕ
 sum w [] = 0
 sum w (x ∷ xs) = w x + sum w xs
 

@@ -15,7 +15,6 @@ use Rattle.points.specs.Figures.{Kind, exponential, explicit, sizePasses, Setti
 use Rattle.points.specs.Handed.{handed}
 use Rattle.point.specs.Handing.{Stored, handedIn, inShape}
 use Rattle.point.specs.Lists.{Configured}
-use Rattle.tally.specs.Kind.{inAll}
 use Rattle.tally.specs.Sets.{Set}
 use Rattle.tally.specs.Tally.{empty, after}
 use Rattle.tally.specs.Demand.{counted, Cut, any, pointsOf}
@@ -37,6 +36,7 @@ use Rattle.promises.proofs.Groupings.{pointed, pooled}
 use Rattle.promises.proofs.Stored.{Storing, run-read, run-shaped}
 use mathlib.Core.Option.{Option}
 use Rattle.laws.specs.Said.{number}
+use Rattle.laws.specs.Counting.{sum}
 use Rattle.directory.specs.View.{Stores}
 
 -- "Take any list of these calls, refused ones included: recording by set or handle, binding, releasing, delta collection. It runs from a fresh start
@@ -68,7 +68,7 @@ module _ {S : Store histograms} (W : Owed S) (L : Lister S) (keeps : Keeps L) (b
       let ans = replies L w limit filter h xs in
       let A = demand K lawful c (run L w limit filter h) F xs p in
       let t = after K c (empty K c) qs ans in
-      let n : Clean K (0 + inAll (counted K) qs) t = clean-after K c qs ans 0 (empty K c) (record { waiting = λ s. refl; collected = λ s. refl; long = omega arith }) in
+      let n : Clean K (0 + sum (counted K) qs) t = clean-after K c qs ans 0 (empty K c) (record { waiting = λ s. refl; collected = λ s. refl; long = omega arith }) in
       let z = S .settings w in
       let ok = configured (z .kind) (F .valid) in
       let ps : Set → List Stored = λ r. storedOf L bounds w limit filter r h xs in

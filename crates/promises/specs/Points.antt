@@ -22,7 +22,6 @@ use Rattle.exponential.specs.Series as E
 use Rattle.exponential.specs.Runs.{freshHead, next}
 use Rattle.explicit.specs.declared.Head as XH
 use Rattle.explicit.specs.Series as X
-use Rattle.tally.specs.Kind.{inAll}
 use Rattle.point.specs.Handing.{Stored, storedIn, countsIn, handedIn, inShape, exponentialPoint, explicitPoint, merging}
 use Rattle.point.specs.Lists.{Configured, PointOf, Long}
 use Rattle.listing.specs.Listed.{Output, storedAt}
@@ -31,7 +30,7 @@ use Rattle.listing.specs.declared.Entry.{Entry}
 use Rattle.listing.specs.declared.Found.the-variants.{Is}
 use Rattle.pooling.specs.Lists.{Source, wholeAt, hasPlace, putMerged, pooledAt, Holds}
 use Rattle.merging.specs.Merged.{Good, AtTop, Groups}
-use Rattle.laws.specs.Counting.{mostCount}
+use Rattle.laws.specs.Counting.{mostCount, sum}
 
 -- ---- RECORDING
 
@@ -82,7 +81,7 @@ AnyGrouping =
 abbrev pub EveryGrouping : Type 0
 EveryGrouping =
     (size : ℕ) (s : Settings) → Configured (resized size (s .kind)) → (us vs : List ℕ) → Long (resized size (s .kind)) us vs
-    → (t u : Tree Stored) → List·Permᴰ (leaves t) (leaves u) → All (Good size s) (leaves t) → inAll (λ x. countOf (countsIn x)) (leaves t) ≤ mostCount
+    → (t u : Tree Stored) → List·Permᴰ (leaves t) (leaves u) → All (Good size s) (leaves t) → sum (λ x. countOf (countsIn x)) (leaves t) ≤ mostCount
     → (x : Stored) × (y : Stored) × Groups size t x × Groups size u y × Same (handedIn x) (handedIn y)
 
 -- "A fresh point at the greatest allowed scale changes none of these in the other", before it or after it

@@ -8,10 +8,11 @@ use native.Mathlib.Omega.{arith}
 use lib.Dec.{leb}
 use lib.ListN.{length, length-append}
 use Rattle.laws.specs.Tests.{all}
+use Rattle.laws.specs.Counting.{sum}
 use Rattle.laws.proofs.Cases.{none-not-some}
 use Rattle.laws.proofs.Perms.{all-append}
 use Rattle.tally.specs.Sets.{Set, ofSet, canonical}
-use Rattle.tally.specs.Kind.{Kind, inAll, unless, firstOf, suffices}
+use Rattle.tally.specs.Kind.{Kind, unless, firstOf, suffices}
 use Rattle.tally.specs.Map.{Config, Call, measure, measureBy, bind, release, collect, Answer, listed}
 use Rattle.tally.specs.Tally.{Tally, Told, orUntold, joined, gathered, due, bound, beyond, tell, fed, after}
 use Rattle.tally.specs.Demand.{counted}
@@ -70,9 +71,9 @@ module _ (K : Kind) where
       let u = clean-up n (n + 0) t (omega arith) h in
       clean-or (n + 0) t (unless (suffices K room (map (λ p. p .1) (due K t))) 10) (record { answer = listed (due K t); tally = gathered K t }) u (λ e. clean-gathered (n + 0) t u)
 
-  pub clean-after : (c : Config K) (xs : List (Call K)) (ans : List (Answer K)) (n : ℕ) (t : Tally K) → Clean n t → Clean (n + inAll (counted K) xs) (after K c t xs ans)
+  pub clean-after : (c : Config K) (xs : List (Call K)) (ans : List (Answer K)) (n : ℕ) (t : Tally K) → Clean n t → Clean (n + sum (counted K) xs) (after K c t xs ans)
   clean-after c [] ans n t h = clean-up n (n + 0) t (omega arith) h
-  clean-after c (x ∷ xs) [] n t h = clean-up n (n + inAll (counted K) (x ∷ xs)) t (omega arith) h
+  clean-after c (x ∷ xs) [] n t h = clean-up n (n + sum (counted K) (x ∷ xs)) t (omega arith) h
   clean-after c (x ∷ xs) (a ∷ ans) n t h =
-      clean-up (n + counted K x + inAll (counted K) xs) (n + inAll (counted K) (x ∷ xs)) (after K c t (x ∷ xs) (a ∷ ans)) (omega arith)
+      clean-up (n + counted K x + sum (counted K) xs) (n + sum (counted K) (x ∷ xs)) (after K c t (x ∷ xs) (a ∷ ans)) (omega arith)
       (clean-after c xs ans (n + counted K x) (tell K c t x (fed K a) .tally) (clean-tell c n t x (fed K a) h))

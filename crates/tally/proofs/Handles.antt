@@ -8,10 +8,10 @@ use native.Mathlib.Omega.{arith}
 use borrow.Author.Tests.{eq-eqb}
 use lib.Dec.{eqb}
 use Rattle.laws.proofs.Bools.{pick-true, pick-false}
-use Rattle.laws.specs.Counting.{bit}
+use Rattle.laws.specs.Counting.{bit, sum}
 use Rattle.laws.proofs.Cases.{some-inj, none-not-some, true-not-false}
 use Rattle.tally.specs.Sets.{Set, overflow, same, canonical}
-use Rattle.tally.specs.Kind.{Kind, inAll, unless}
+use Rattle.tally.specs.Kind.{Kind, unless}
 use Rattle.tally.specs.Map.{Config, Entry, Map, Call, measure, measureBy, bind, release, collect, Out, orRefused, named, find, points, unlisted, Agrees}
 use Rattle.tally.proofs.MapSteps.{byHandle, put, Place, place, held, recorded, rebound, reset, sweep, fits, unfit, measureAt, bindAt, releaseAt, upfront, act, step}
 use Rattle.tally.specs.Demand.{Code, asked, left}
@@ -147,13 +147,13 @@ module _ (K : Kind) (c : Config K) (m : Map K) (g : Agrees K c m) (h : ℕ) (e :
 
 -- any run of calls: a handle that they release fewer times than it has bindings names its set after it as before
 module _ (K : Kind) (c : Config K) (C : Code K) (F : Faithful K c C) (h : ℕ) (r : Set) where
-  pub keeps-naming : (xs : List (C .Input)) (s : C .State) → F .Ok s → Agrees K c (F .view s) → Names K h r (inAll (releasing K h) (asked K C xs)) (F .view s)
+  pub keeps-naming : (xs : List (C .Input)) (s : C .State) → F .Ok s → Agrees K c (F .view s) → Names K h r (sum (releasing K h) (asked K C xs)) (F .view s)
       → Names K h r 0 (F .view (left K C s xs))
   keeps-naming [] s o y n = n
   keeps-naming (x ∷ xs) s o y n =
       let d = F .steps s x o y in
       let m = F .view s in
-      let k = inAll (releasing K h) (asked K C xs) in
+      let k = sum (releasing K h) (asked K C xs) in
       let l = first-of (releasing K h (C .asks x)) k (n .0 .bindings) (n .3) in
       let w = still-named K c m y h (n .0) (n .1) k (l .0) (C .asks x) (l .1) in
       keeps-naming xs (C .call s x .1) (d .0) (subst (λ q. Agrees K c (q .map)) (sym (d .1)) (step-agrees K c m y (C .asks x)))

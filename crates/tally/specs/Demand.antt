@@ -7,8 +7,9 @@ use mathlib.Core.Option.{some}
 use lib.ListN.{length}
 use Rattle.laws.specs.Pick.{pick}
 use Rattle.laws.specs.Tests.{all}
+use Rattle.laws.specs.Counting.{sum}
 use Rattle.tally.specs.Sets.{Set, Lendable, ofSet, ascending, canonical}
-use Rattle.tally.specs.Kind.{Kind, inAll}
+use Rattle.tally.specs.Kind.{Kind}
 use Rattle.tally.specs.Map.{Config, Call, measure, measureBy, bind, release, collect, Answer, refuse, done, handle, listed}
 use Rattle.tally.specs.Tally.{Tally, empty, tell, fed, after}
 
@@ -39,7 +40,7 @@ module _ (K : Kind) where
 
   -- "the accepted ones on no more unlike named sets than the limit"
   pub record Premise (c : Config K) (xs : List (Call K)) (ans : List (Answer K)) : Type 0 where
-    pub fewer : inAll counted xs < 2 ^ 64
+    pub fewer : sum counted xs < 2 ^ 64
     pub unlike : length (ascending (sets c xs ans)) ≤ c .limit
 
   -- THE ANSWERS. "No birth number gets two sets, and a set keeps its number while that has a binding."

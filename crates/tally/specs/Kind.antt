@@ -1,12 +1,13 @@
 -- A kind of series: what the map and the tally ask of it; and, for any kind, configuration, calls and answers. Assumes nothing.
 -- Document 01 has two, the exponential and the explicit histogram over f64. Later: sums and last values (L1, no count and no merge),
 -- histograms over i64 (L6, with a refusal of their own), a zero threshold (L7, one more of the settings).
-use Prim.Native.Nat.{ℕ, _+_}
+use Prim.Native.Nat.{ℕ}
 use mathlib.Core.Bool.{Bool, true, false, _&&_}
 use mathlib.Core.List.{List, [], _∷_}
 use mathlib.Core.Option.{Option, none, some}
 use lib.Dec.{leb}
 use lib.ListN.{length}
+use Rattle.laws.specs.Counting.{sum}
 use Rattle.tally.specs.Sets.{Set}
 
 -- refused with the number n unless the test passes
@@ -55,15 +56,10 @@ pub record Room : Type 0 where
   pub pos : ℕ
   pub neg : ℕ
 
--- f of every element, added up
-abbrev pub inAll : {A : Type 0} → (A → ℕ) → List A → ℕ
-inAll f [] = 0
-inAll f (x ∷ l) = f x + inAll f l
-
 module _ (K : Kind) where
   -- "10: lent output too short for all points or counts"
   abbrev pub suffices : Room → List (K .Point) → Bool
-  suffices room ps = leb (length ps) (room .points) && (leb (inAll (K .pos) ps) (room .pos) && leb (inAll (K .neg) ps) (room .neg))
+  suffices room ps = leb (length ps) (room .points) && (leb (sum (K .pos) ps) (room .pos) && leb (sum (K .neg) ps) (room .neg))
 
   pub record Config : Type 0 where
     pub settings : K .Settings

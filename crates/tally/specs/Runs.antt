@@ -6,10 +6,10 @@ use mathlib.Core.List.{List, [], map}
 use mathlib.Core.Option.{some}
 use lib.Dec.{eqb}
 use Rattle.laws.specs.Lists.{only}
-use Rattle.laws.specs.Counting.{bit}
+use Rattle.laws.specs.Counting.{bit, sum}
 use Rattle.laws.specs.Tests.{all}
 use Rattle.tally.specs.Sets.{Set, same, ofSet, mem}
-use Rattle.tally.specs.Kind.{Kind, inAll}
+use Rattle.tally.specs.Kind.{Kind}
 use Rattle.tally.specs.Map.{Config, Entry, Map, Call, measure, measureBy, bind, release, collect}
 use Rattle.tally.specs.Map.{Answer, refuse, done, handle, listed, named, points, filled, keys}
 use Rattle.tally.specs.Tally.{Tally, empty, after}
@@ -48,5 +48,5 @@ module _ (K : Kind) where
         → Listed (view (left K C (C .first) xs)) (after K c (empty K c) (asked K C xs) (ran K C xs))
     -- "a set keeps its number while that has a binding": with no premise, a handle names the same set after any calls that release it fewer times
     -- than it has bindings
-    pub naming : (h : ℕ) (s : Set) (xs ys : List (C .Input)) → Names h s (inAll (releasing h) (asked K C ys)) (view (left K C (C .first) xs))
+    pub naming : (h : ℕ) (s : Set) (xs ys : List (C .Input)) → Names h s (sum (releasing h) (asked K C ys)) (view (left K C (C .first) xs))
         → Names h s 0 (view (left K C (left K C (C .first) xs) ys))

@@ -1,11 +1,13 @@
 -- The points that are laid over lent output read back as they were. Assumes nothing.
-use Prim.Native.Nat.{ℕ, _-_, _+_}
+use Prim.Native.Nat.{ℕ, _+_, _≤_}
 use mathlib.Core.Path.{_≡_, refl, sym, ap, _∙_}
 use mathlib.Core.Logic.{inl, inr}
 use mathlib.Core.Bool.{Bool}
 use mathlib.Core.List.{List, [], _∷_, _++_, map, append-assoc}
-use lib.ListN.{length, take, drop}
-use lib.Seq.{take-at, drop-at}
+use mathlib.Core.Option.{Option, none, some}
+use native.Mathlib.Omega.{arith}
+use lib.ListN.{length, getD, take, drop, length-append, length-drop}
+use lib.Seq.{take-append-seam, drop-append-seam, drop-drop, getD-drop}
 use Rattle.laws.specs.Over.{over}
 use Rattle.tally.specs.Kind.{Kind}
 use Rattle.tally.specs.Sets.{Set}
@@ -16,51 +18,104 @@ use Rattle.value_map.specs.Store.{Store}
 use Rattle.value_map.specs.Calls.{Held}
 use Rattle.value_map.proofs.Owed.{was}
 use Rattle.listing.specs.Listed.{Output}
+use Rattle.listing.specs.declared.Cursor.{Cursor}
+use Rattle.listing.proofs.There.{Lies}
 use Rattle.collecting.specs.Lister.{Lister}
-use Rattle.collecting.specs.Collected.{setRows, wordRows, posCounts, negCounts, laidOut, pointsIn, pointsOut}
-use Rattle.collecting.proofs.Owed.{Listed}
+use Rattle.collecting.specs.Collected.{setRows, wordRows, posCounts, negCounts, laidOut, readFrom}
+use Rattle.collecting.specs.Slots.{behindAt}
+use Rattle.collecting.proofs.Owed.{Finds}
 
 -- the first of two lists that lie one behind the other, and what lies behind it
-first-of : (a b c : List ℕ) (k : ℕ) → k ≡ length a → take k ((a ++ b) ++ c) ≡ a
-first-of a b c k e = ap (take k) (append-assoc a b c) ∙ take-at a (b ++ c) k (sym e)
+first-of : (a b c : List ℕ) → take (length a) ((a ++ b) ++ c) ≡ a
+first-of a b c = ap (take (length a)) (append-assoc a b c) ∙ take-append-seam a (b ++ c)
 
-rest-of : (a b c : List ℕ) (k : ℕ) → k ≡ length a → drop k ((a ++ b) ++ c) ≡ b ++ c
-rest-of a b c k e = ap (drop k) (append-assoc a b c) ∙ drop-at a (b ++ c) k (sym e)
+rest-of : (a b c : List ℕ) → drop (length a) ((a ++ b) ++ c) ≡ b ++ c
+rest-of a b c = ap (drop (length a)) (append-assoc a b c) ∙ drop-append-seam a (b ++ c)
 
 -- a slot's set and point
 abbrev pub pointAt : {K : Kind} (S : Store K) → S .Switches → Held (S .Cells) → ℕ → Set × K .Point
 pointAt {K} S w h x =
     (setAt (h .kept .stores .sets) x, K .point (S .settings w) (was S w (h .cells) x (updatedIn (h .kept .stores .entries) x)))
 
-module _ {K : Kind} {S : Store K} (L : Lister S) (w : S .Switches) (h : Held (S .Cells)) where
+-- a reader that finds of each slot of a list what g says
+module _ {K : Kind} {S : Store K} (L : Lister S) (w : S .Switches) (h : Held (S .Cells)) {A : Type 0} (found : Cursor → Output → Option (A × Cursor)) (g : ℕ → A) where
   abbrev u : ℕ → Bool
   u x = updatedIn (h .kept .stores .entries) x
 
   abbrev set : ℕ → Set
   set x = setAt (h .kept .stores .sets) x
 
-  back : (l : List ℕ) → ((x : ℕ) → In x l → Listed L w (h .cells) x (u x)) → ((x : ℕ) → In x l → setOf (rowOf (set x)) ≡ set x)
-      → (rs ws : List (List ℕ)) (ps ns : List ℕ)
-      → pointsIn L w (length l) (setRows L w (h .kept) l ++ rs) (wordRows L w h l ++ ws) (posCounts L w h l ++ ps) (negCounts L w h l ++ ns) ≡ map (pointAt S w h) l
-  back [] g s rs ws ps ns = refl
-  back (x ∷ l) g s rs ws ps ns =
-      let e = g x (inl refl) in
-      let W = L .words w (h .cells) x (u x) in
-      let P = L .pos (h .cells) x (u x) in
-      let N = L .neg (h .cells) x (u x) in
-      let PS = posCounts L w h l in
-      let NS = negCounts L w h l in
-      let R = setRows L w (h .kept) l ++ rs in
-      let WS = wordRows L w h l ++ ws in
-      let deep : pointsIn L w (length l) R WS (PS ++ ps) (NS ++ ns) ≡ map (pointAt S w h) l = back l (λ y i. g y (inr i)) (λ y i. s y (inr i)) rs ws ps ns in
-      let tail : pointsIn L w (length l) R WS (drop (L .posLen W) ((P ++ PS) ++ ps)) (drop (L .negLen W) ((N ++ NS) ++ ns)) ≡ map (pointAt S w h) l =
-      (λ i. pointsIn L w (length l) R WS (rest-of P PS ps (L .posLen W) (e .posLen) i) (rest-of N NS ns (L .negLen W) (e .negLen) i)) ∙ deep in
-      let head : L .point W (take (L .posLen W) ((P ++ PS) ++ ps)) (take (L .negLen W) ((N ++ NS) ++ ns)) ≡ K .point (S .settings w) (was S w (h .cells) x (u x)) =
-      (λ i. L .point W (first-of P PS ps (L .posLen W) (e .posLen) i) (first-of N NS ns (L .negLen W) (e .negLen) i)) ∙ e .point in
-      λ i. (s x (inl refl) i, head i) ∷ tail i
+  pub record Read (x : ℕ) : Type 0 where
+    pub found-is : Finds found (L .words w (h .cells) x (u x)) (L .pos (h .cells) x (u x)) (L .neg (h .cells) x (u x)) (g x)
+    pub set-is : setOf (rowOf (set x)) ≡ set x
+
+  -- an output, in which slots lie from a cursor on
+  module _ (o : Output) (rs ws : List (List ℕ)) (ps ns : List ℕ) where
+    record From (l : List ℕ) (at : Cursor) : Type 0 where
+      sets : drop (at .place) (o .sets) ≡ setRows L w (h .kept) l ++ rs
+      words : drop (at .place) (o .words) ≡ wordRows L w h l ++ ws
+      pos : drop (at .pos) (o .pos) ≡ posCounts L w h l ++ ps
+      neg : drop (at .neg) (o .neg) ≡ negCounts L w h l ++ ns
+      in-pos : at .pos ≤ length (o .pos)
+      in-neg : at .neg ≤ length (o .neg)
+
+    module _ (x : ℕ) (l : List ℕ) (at : Cursor) (f : From (x ∷ l) at) where
+      abbrev P : List ℕ
+      P = L .pos (h .cells) x (u x)
+
+      abbrev N : List ℕ
+      N = L .neg (h .cells) x (u x)
+
+      first-is : (t : List (List ℕ)) {r : List ℕ} {R : List (List ℕ)} → drop (at .place) t ≡ r ∷ R → getD t (at .place) [] ≡ r
+      first-is t e =
+          let z : at .place + 0 ≡ at .place = omega arith in
+          ap (λ (k : ℕ). getD t k []) (sym z) ∙ sym (getD-drop (at .place) t 0 []) ∙ ap (λ (q : List (List ℕ)). getD q 0 []) e
+
+      pos-end : at .pos + length P ≤ length (o .pos)
+      pos-end =
+          let PS = posCounts L w h l in
+          omega (arith, f .in-pos, length-drop (at .pos) (o .pos), ap length (f .pos), length-append (P ++ PS) ps, length-append P PS)
+
+      neg-end : at .neg + length N ≤ length (o .neg)
+      neg-end =
+          let NS = negCounts L w h l in
+          omega (arith, f .in-neg, length-drop (at .neg) (o .neg), ap length (f .neg), length-append (N ++ NS) ns, length-append N NS)
+
+      lies : Lies at (L .words w (h .cells) x (u x)) P N o
+      lies =
+          record {
+            place = omega (arith, length-drop (at .place) (o .words), ap length (f .words));
+            words = first-is (o .words) (f .words);
+            posEnd = pos-end;
+            negEnd = neg-end;
+            pos = ap (take (length P)) (f .pos) ∙ first-of P (posCounts L w h l) ps;
+            neg = ap (take (length N)) (f .neg) ∙ first-of N (negCounts L w h l) ns;
+          }
+
+      next : From l (behindAt at (length P) (length N))
+      next =
+          record {
+            sets = sym (drop-drop 1 (at .place) (o .sets)) ∙ ap (drop 1) (f .sets);
+            words = sym (drop-drop 1 (at .place) (o .words)) ∙ ap (drop 1) (f .words);
+            pos = sym (drop-drop (length P) (at .pos) (o .pos)) ∙ ap (drop (length P)) (f .pos) ∙ rest-of P (posCounts L w h l) ps;
+            neg = sym (drop-drop (length N) (at .neg) (o .neg)) ∙ ap (drop (length N)) (f .neg) ∙ rest-of N (negCounts L w h l) ns;
+            in-pos = pos-end;
+            in-neg = neg-end;
+          }
+
+    reads-from : (l : List ℕ) (at : Cursor) → From l at → ((x : ℕ) → In x l → Read x) → readFrom found (length l) at o ≡ map (λ x. (set x, g x)) l
+    reads-from [] at f r = refl
+    reads-from (x ∷ l) at f r =
+        let e = r x (inl refl) in
+        let s = ap setOf (first-is x l at f (o .sets) (f .sets)) ∙ e .set-is in
+        ap (λ (y : Option (A × Cursor)). elim y [ none ↦ [] | some z ↦ (setOf (getD (o .sets) (at .place) []), z .0) ∷ readFrom found (length l) (z .1) o ])
+        (e .found-is at o (lies x l at f))
+        ∙ (λ i. (s i, g x) ∷ reads-from l _ (next x l at f) (λ y m. r y (inr m)) i)
 
   -- READ BACK: the points laid over lent output are those of the slots
-  pub reads-back : (l : List ℕ) (o : Output) → ((x : ℕ) → In x l → Listed L w (h .cells) x (u x)) → ((x : ℕ) → In x l → setOf (rowOf (set x)) ≡ set x)
-      → pointsOut L w (length l) (laidOut L w h l o) ≡ map (pointAt S w h) l
+  pub reads-back : (l : List ℕ) (o : Output) → ((x : ℕ) → In x l → Read x)
+      → readFrom found (length l) (record { place = 0; pos = 0; neg = 0 }) (laidOut L w h l o) ≡ map (λ x. (set x, g x)) l
   unfolding over
-  reads-back l o g s = back l g s _ _ _ _
+  reads-back l o r =
+      reads-from (laidOut L w h l o) _ _ _ _ l (record { place = 0; pos = 0; neg = 0 })
+      (record { sets = refl; words = refl; pos = refl; neg = refl; in-pos = omega arith; in-neg = omega arith }) r

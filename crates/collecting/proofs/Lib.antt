@@ -1,6 +1,7 @@
 -- The laws of the collecting calls.
 pub mod Owed
 pub mod Fits
+pub mod Finds
 pub mod Back
 pub mod Points
 pub mod Nexts

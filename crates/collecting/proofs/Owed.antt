@@ -2,19 +2,27 @@
 use Prim.Native.Nat.{ℕ}
 use mathlib.Core.Path.{_≡_}
 use mathlib.Core.Bool.{Bool, true}
+use mathlib.Core.List.{List}
+use mathlib.Core.Option.{Option, some}
 use lib.ListN.{length}
 use Rattle.tally.specs.Kind.{Kind}
 use Rattle.tally.specs.Map.{sound}
 use Rattle.value_map.specs.Store.{Store}
 use Rattle.value_map.proofs.Owed.{there, was}
+use Rattle.listing.specs.Listed.{Output}
+use Rattle.listing.specs.declared.Cursor.{Cursor}
+use Rattle.listing.proofs.There.{Lies}
 use Rattle.collecting.specs.Lister.{Lister}
+use Rattle.collecting.specs.Slots.{behindAt}
+
+-- a reader finds x where words and counts lie, and the next cursor behind them
+abbrev pub Finds : {A : Type 0} → (Cursor → Output → Option (A × Cursor)) → List ℕ → List ℕ → List ℕ → A → Type 0
+Finds found ws ps ns x = (at : Cursor) (o : Output) → Lies at ws ps ns o → found at o ≡ some (x, behindAt at (length ps) (length ns))
 
 module _ {K : Kind} {S : Store K} (L : Lister S) where
   -- the point of slot x, whose entry was updated or not
   pub record Listed (w : S .Switches) (c : S .Cells) (x : ℕ) (u : Bool) : Type 0 where
-    pub point : L .point (L .words w c x u) (L .pos c x u) (L .neg c x u) ≡ K .point (S .settings w) (was S w c x u)
-    pub posLen : L .posLen (L .words w c x u) ≡ length (L .pos c x u)
-    pub negLen : L .negLen (L .words w c x u) ≡ length (L .neg c x u)
+    pub found : Finds (L .found) (L .words w c x u) (L .pos c x u) (L .neg c x u) (K .point (S .settings w) (was S w c x u))
     -- and it takes as many places as the kind says
     pub pos : K .pos (K .point (S .settings w) (was S w c x u)) ≡ length (L .pos c x u)
     pub neg : K .neg (K .point (S .settings w) (was S w c x u)) ≡ length (L .neg c x u)

@@ -13,7 +13,7 @@ use Rattle.laws.specs.Pick.{pick}
 use Rattle.laws.specs.Said.{refusal}
 use Rattle.tally.specs.Kind.{Kind, Room, suffices, unless, firstOf}
 use Rattle.tally.specs.Sets.{same}
-use Rattle.tally.specs.Map.{Map, Out, Points, collect, listed, orRefused, cumulate}
+use Rattle.tally.specs.Map.{Map, Out, Points, sound, collect, listed, orRefused, cumulate}
 use Rattle.tally.proofs.MapSteps.{upfront, act, swept, step}
 use Rattle.sets.specs.Rows.{size, setOf, rowOf}
 use Rattle.sets.proofs.Exact.{set-own, set-again}
@@ -31,21 +31,21 @@ use Rattle.sweep.proofs.Settled as Settled
 use Rattle.sweep.proofs.Faithful.{sweep-faithful}
 use Rattle.value_map.specs.Store.{Store}
 use Rattle.value_map.specs.Calls.{Held}
-use Rattle.value_map.proofs.Owed.{Owed}
+use Rattle.value_map.proofs.Owed.{Owed, there}
 use Rattle.value_map.proofs.Cases.{lent-cells}
 use Rattle.value_map.specs.Maps.{mapOf, configOf}
 use Rattle.value_map.proofs.Steps.{Fair}
 use Rattle.value_map.proofs.Kept.{good, fair-on}
 use Rattle.listing.specs.Listed.{Output}
 use Rattle.collecting.specs.Lister.{Lister}
-use Rattle.collecting.specs.Collected.{Collected, roomOf, slotsOf, dueOf, laidOut, agreeing, roomy, uncollected, collectedTo, unlessRefused, deltaCollected, cumulativeCollected, pointsOut, answered}
+use Rattle.collecting.specs.Collected.{Collected, roomOf, slotsOf, dueOf, laidOut, agreeing, roomy, uncollected, collectedTo, unlessRefused, deltaCollected, cumulativeCollected, readFrom, answered}
 use Rattle.collecting.proofs.Owed.{Listed, Lists}
 use Rattle.collecting.proofs.Back.{pointAt, reads-back}
 use Rattle.collecting.proofs.Points.{delta-points, cumulative-points, sound-all, sound-in, room-is}
 
 -- an outcome as the map's
 abbrev pub toldOf : {K : Kind} {S : Store K} → Lister S → S .Switches → Collected (S .Cells) → Out K
-toldOf {K} {S} L w c = record { answer = answered L w (c .answer) (c .out); map = mapOf S w (c .held) }
+toldOf {K} {S} L w c = record { answer = answered L c; map = mapOf S w (c .held) }
 
 module _ {K : Kind} {S : Store K} (W : Owed S) (L : Lister S) (w : S .Switches) (Q : Lists L w) (limit : ℕ) (filter : Option (List ℕ)) (h : Held (S .Cells)) (g : Fair S limit filter h) where
   abbrev k : Kept
@@ -81,20 +81,29 @@ module _ {K : Kind} {S : Store K} (W : Owed S) (L : Lister S) (w : S .Switches) 
   set-named zero a b = absurd (omega arith)
   set-named (suc x) a b = named-row (getD (s .sets) (suc x) []) (λ e. omega (arith, sized (suc x) a b .0, e))
 
-  -- the slots that are due, where all series agree
+  -- what is known of a slot that is due, where all series agree
+  pub record Due (x : ℕ) : Type 0 where
+    pub room : S .Room (h .cells) x
+    pub sound-is : sound K z (there S (h .cells) x (u x)) ≡ true
+    pub set-is : setOf (rowOf (setAt (s .sets) x)) ≡ setAt (s .sets) x
+
+  pub due-known : (cumulative : Bool) → agreeing L w h ≡ true → (x : ℕ) → In x (dueOf cumulative k) → Due x
+  due-known cumulative a x i =
+      let q = only-in (λ y. u y || (cumulative && not (eqb y 0))) (slotsOf k) x i .0 in
+      record {
+        room = W .room limit (h .cells) x (lent-cells W limit h (g .lent-is)) (omega (arith, slot-known x q, few limit d s (g .agrees)));
+        sound-is = sound-in S w h (slotsOf k) a x q;
+        set-is = set-back x (slot-known x q);
+      }
+
   module _ (lendable : L .Lent (h .cells)) (cumulative : Bool) (a : agreeing L w h ≡ true) where
-    due-slot : (x : ℕ) → In x (dueOf cumulative k) → In x (slotsOf k)
-    due-slot x i = only-in (λ y. u y || (cumulative && not (eqb y 0))) (slotsOf k) x i .0
-
     listed-at : (x : ℕ) → In x (dueOf cumulative k) → Listed L w (h .cells) x (u x)
-    listed-at x i =
-        let q = due-slot x i in
-        Q (h .cells) x (u x) (g .set) lendable
-        (W .room limit (h .cells) x (lent-cells W limit h (g .lent-is)) (omega (arith, slot-known x q, few limit d s (g .agrees))))
-        (sound-in S w h (slotsOf k) a x q)
+    listed-at x i = let e = due-known cumulative a x i in Q (h .cells) x (u x) (g .set) lendable (e .room) (e .sound-is)
 
-    read-back : (o : Output) → pointsOut L w (length (dueOf cumulative k)) (laidOut L w h (dueOf cumulative k) o) ≡ map (pointAt S w h) (dueOf cumulative k)
-    read-back o = reads-back L w h (dueOf cumulative k) o listed-at (λ x i. set-back x (slot-known x (due-slot x i)))
+    read-back : (o : Output) → readFrom (L .found) (length (dueOf cumulative k)) (record { place = 0; pos = 0; neg = 0 }) (laidOut L w h (dueOf cumulative k) o) ≡ map (pointAt S w h) (dueOf cumulative k)
+    read-back o =
+        reads-back L w h (L .found) (λ x. pointAt S w h x .1) (dueOf cumulative k) o
+        (λ x i. record { found-is = listed-at x i .found; set-is = due-known cumulative a x i .set-is })
 
     roomy-is : (r : Room) → suffices K r (map (λ p. p .1) (map (pointAt S w h) (dueOf cumulative k))) ≡ roomy L w h (dueOf cumulative k) r
     roomy-is r = room-is S w h L (dueOf cumulative k) r listed-at
@@ -116,7 +125,7 @@ module _ {K : Kind} {S : Store K} (W : Owed S) (L : Lister S) (w : S .Switches) 
     ours-is : (n : ℕ) → uncollected L w cumulative limit h o ≡ n → ours ≡ unlessRefused L w n h o (collectedTo L w cumulative k′ h o)
     ours-is n e = ap (λ j. unlessRefused L w j h o (collectedTo L w cumulative k′ h o)) e
 
-    by-cases : (P : Collected (S .Cells) → Type 0) → (agreeing L w h ≡ false → P (refusedBy 8))
+    pub by-cases : (P : Collected (S .Cells) → Type 0) → (agreeing L w h ≡ false → P (refusedBy 8))
         → (agreeing L w h ≡ true → roomy L w h (dueOf cumulative k) (roomOf o) ≡ false → P (refusedBy 10))
         → (agreeing L w h ≡ true → roomy L w h (dueOf cumulative k) (roomOf o) ≡ true → P (collectedTo L w cumulative k′ h o)) → P ours
     unfolding pick

@@ -2,15 +2,17 @@
 use Prim.Native.Nat.{ℕ, zero, suc, min}
 use mathlib.Core.Bool.{Bool, true, false, not, _&&_, _||_}
 use mathlib.Core.List.{List, [], _∷_, _++_, map}
+use mathlib.Core.Option.{Option, none, some}
 use lib.Dec.{leb, eqb}
-use lib.ListN.{length, getD, take, drop}
+use lib.ListN.{length, getD}
 use Rattle.laws.specs.Lists.{only}
 use Rattle.laws.specs.Over.{over}
 use Rattle.laws.specs.Pick.{pick}
 use Rattle.laws.specs.Said.{Said, refusal, success}
 use Rattle.laws.specs.Tests.{all}
+use Rattle.tally.specs.Sets.{Set}
 use Rattle.tally.specs.Kind.{Kind, Room}
-use Rattle.tally.specs.Map.{Points, Answer, refuse, listed}
+use Rattle.tally.specs.Map.{Answer, refuse, listed}
 use Rattle.sets.specs.Rows.{span, setOf, rowOf}
 use Rattle.directory.specs.View.{setAt, agreesb, updatedIn}
 use Rattle.directory.specs.Calls.{Kept, mostSets}
@@ -18,6 +20,7 @@ use Rattle.sweep.specs.Swept.{sweptKept}
 use Rattle.value_map.specs.Store.{Store}
 use Rattle.value_map.specs.Calls.{Held, passes, lent}
 use Rattle.listing.specs.Listed.{Output}
+use Rattle.listing.specs.declared.Cursor.{Cursor}
 use Rattle.collecting.specs.Lister.{Lister}
 use Rattle.collecting.specs.declared.Answer as Declared
 use Rattle.collecting.specs.declared.Answer.the-variants.{Refused, Listed}
@@ -117,17 +120,16 @@ module _ {K : Kind} {S : Store K} (L : Lister S) (w : S .Switches) where
   unfoldable pub cumulativeCollected : ℕ → Held (S .Cells) → Output → Collected (S .Cells)
   cumulativeCollected limit h o = unlessRefused (uncollected true limit h o) h o (collectedTo true (h .kept) h o)
 
-  -- THE READER: the first n points of lent output
-  abbrev pub pointsIn : ℕ → List (List ℕ) → List (List ℕ) → List ℕ → List ℕ → Points K
-  pointsIn zero rs ws ps ns = []
-  pointsIn (suc n) rs ws ps ns =
-      (setOf (getD rs 0 []), L .point (getD ws 0 []) (take (L .posLen (getD ws 0 [])) ps) (take (L .negLen (getD ws 0 [])) ns))
-      ∷ pointsIn n (drop 1 rs) (drop 1 ws) (drop (L .posLen (getD ws 0 [])) ps) (drop (L .negLen (getD ws 0 [])) ns)
+-- THE READER: n points of a list from a cursor on, each with its set, as long as one is found at the cursor, with the cursor of the next
+abbrev pub readFrom : {A : Type 0} → (Cursor → Output → Option (A × Cursor)) → ℕ → Cursor → Output → List (Set × A)
+readFrom found zero at o = []
+readFrom found (suc n) at o =
+    elim (found at o) [ none ↦ [] | some x ↦ (setOf (getD (o .sets) (at .place) []), x .0) ∷ readFrom found n (x .1) o ]
 
-  abbrev pub pointsOut : ℕ → Output → Points K
-  pointsOut n o = pointsIn n (o .sets) (o .words) (o .pos) (o .neg)
+-- the points that a collection handed out: as many as it said, from the first place on
+abbrev pub pointsOut : {A Cells : Type 0} → (Cursor → Output → Option (A × Cursor)) → Collected Cells → List (Set × A)
+pointsOut found c = elim (c .answer) [ refusal n ↦ [] | success n ↦ readFrom found n (record { place = 0; pos = 0; neg = 0 }) (c .out) ]
 
-  -- an answer as the map's
-  abbrev pub answered : Said ℕ → Output → Answer K
-  answered (refusal n) o = refuse n
-  answered (success n) o = listed (pointsOut n o)
+-- an answer as the map's
+abbrev pub answered : {K : Kind} {S : Store K} → Lister S → Collected (S .Cells) → Answer K
+answered L c = elim (c .answer) [ refusal n ↦ refuse n | success n ↦ listed (pointsOut (L .found) c) ]

@@ -3,8 +3,11 @@
 use Prim.Native.Nat.{ℕ}
 use mathlib.Core.Bool.{Bool}
 use mathlib.Core.List.{List}
+use mathlib.Core.Option.{Option}
 use Rattle.tally.specs.Kind.{Kind}
 use Rattle.value_map.specs.Store.{Store}
+use Rattle.listing.specs.Listed.{Output}
+use Rattle.listing.specs.declared.Cursor.{Cursor}
 
 pub record Lister {K : Kind} (S : Store K) : Type 1 where
   -- cells that can be lent: the floats among them are f64s
@@ -13,7 +16,5 @@ pub record Lister {K : Kind} (S : Store K) : Type 1 where
   pub words : S .Switches → S .Cells → ℕ → Bool → List ℕ
   pub pos : S .Cells → ℕ → Bool → List ℕ
   pub neg : S .Cells → ℕ → Bool → List ℕ
-  -- the reader: how many counts the words say that their point has in either store, and the point that words and counts are
-  pub posLen : List ℕ → ℕ
-  pub negLen : List ℕ → ℕ
-  pub point : List ℕ → List ℕ → List ℕ → K .Point
+  -- the reader: the point that lies at a cursor of a list, if one does, and the cursor of the next
+  pub found : Cursor → Output → Option (K .Point × Cursor)

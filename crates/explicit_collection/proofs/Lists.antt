@@ -23,14 +23,14 @@ use Rattle.value_map.specs.Explicit.{explicitStore}
 use Rattle.value_map.proofs.Owed.{was}
 use Rattle.point.specs.Handing.{storedIn, handedIn, explicitPoint}
 use Rattle.point.specs.declared.Point.{Point}
-use Rattle.listing.specs.Words.{wordsOf, pointIn, boundsIn}
+use Rattle.listing.specs.Words.{wordsOf}
 use Rattle.listing.specs.Listed.{boundsAt}
-use Rattle.listing.specs.Listed as Out
 use Rattle.listing.proofs.Back as Back
 use Rattle.listing.proofs.Given.{explicit-held}
 use Rattle.collecting.proofs.Fits.{Fitting, start-fits}
-use Rattle.collecting.specs.Read.{spanOf, AllFit}
-use Rattle.collecting.proofs.Owed.{Listed}
+use Rattle.collecting.specs.Read.{foundAt, spanOf, AllFit}
+use Rattle.collecting.proofs.Owed.{Finds, Listed}
+use Rattle.collecting.proofs.Finds.{finds-stored, finds-handed}
 use Rattle.explicit_collection.specs.Points.{explicitLister}
 use Rattle.explicit_collection.proofs.Slots.{counts-long, buckets-are}
 
@@ -73,26 +73,22 @@ module _ (bounds : List Float) (extremes sums : Bool) (c : Cells) (x : ℕ) wher
     held : Back.Held p (spanOf bounds)
     held = let f = head-fits c x u l in explicit-held extremes sums (headAt c x u) (spanOf bounds) (f .min) (f .max) (f .sum)
 
-    point-is : pointIn (wordsOf p (spanOf bounds)) ≡ p
-    point-is = Back.point-back p (spanOf bounds) held
-
-    span-is : boundsIn (wordsOf p (spanOf bounds)) ≡ spanOf bounds
-    span-is = Back.span-back p (spanOf bounds) held
-
     -- what the series hands out
     out-is : handedIn (storedIn p (boundsAt (spanOf bounds) bounds) (countsAt bounds c x u) []) ≡ handedOut z (series u)
     out-is =
         ap (λ (b : List Float). handedIn (storedIn p b (countsAt bounds c x u) [])) (take-all (length bounds) bounds (omega arith))
         ∙ ap (handedOut z) (series-is u)
 
+    -- it is found as it is stored
+    pub finds : Finds (foundAt bounds) (wordsOf p (spanOf bounds)) (countsAt bounds c x u) [] (storedIn p (boundsAt (spanOf bounds) bounds) (countsAt bounds c x u) [])
+    finds = finds-stored bounds p (spanOf bounds) (countsAt bounds c x u) [] held (counts-long bounds c x r u ∙ sym (buckets-are bounds)) refl
+
     -- THE EXPLICIT KIND PAYS what it owes of its points
     pub explicit-lists : Listed (explicitLister bounds) (extremes, sums) c x u
     explicit-lists =
         let n = counts-long bounds c x r u in
         record {
-          point = (λ i. handedIn (storedIn (point-is i) (boundsAt (span-is i) bounds) (countsAt bounds c x u) [])) ∙ out-is;
-          posLen = (λ i. Out.posLen (point-is i .figures) (span-is i)) ∙ buckets-are bounds ∙ sym n;
-          negLen = λ i. Out.negLen (point-is i .figures);
+          found = finds-handed bounds (wordsOf p (spanOf bounds)) (countsAt bounds c x u) [] _ _ finds out-is;
           pos = ap (λ (y : Figures). histograms .pos (handedOut z y)) (sym (series-is u))
               ∙ length-take-le (bucketCount bounds) (countsAt bounds c x u) (omega (arith, n))
               ∙ sym n;

@@ -33,13 +33,12 @@ use Rattle.value_map.specs.Exponential.{unset, exponentialStore}
 use Rattle.value_map.proofs.Owed.{there, was}
 use Rattle.point.specs.Handing.{storedIn, handedIn, exponentialPoint}
 use Rattle.point.specs.declared.Point as P
-use Rattle.listing.specs.Words.{wordsOf, pointIn, boundsIn}
-use Rattle.listing.specs.Listed.{boundsAt}
-use Rattle.listing.specs.Listed as Out
+use Rattle.listing.specs.Words.{wordsOf}
 use Rattle.listing.proofs.Back as Back
 use Rattle.listing.proofs.Given.{exponential-held}
-use Rattle.collecting.specs.Read.{spanOf, AllFit}
-use Rattle.collecting.proofs.Owed.{Listed, Lists}
+use Rattle.collecting.specs.Read.{foundAt, spanOf, AllFit}
+use Rattle.collecting.proofs.Owed.{Finds, Listed, Lists}
+use Rattle.collecting.proofs.Finds.{finds-stored, finds-handed}
 use Rattle.collecting.proofs.Fits.{Fitting, start-fits, more-fits, put-fits}
 use Rattle.exponential_collection.specs.Points.{exponentialLister}
 use Rattle.exponential_collection.proofs.Slots.{agreesAt, accepted, long-pos, long-neg, agreeing-of, pos-length, neg-length}
@@ -118,7 +117,7 @@ module _ (size top : ℕ) (on : unset size top ≡ 0) (c : Cells) (x : ℕ) (r :
   series-is true s = is-held s ∙ ap (λ (h : Head). record { counts = exponentialCounts (read (h .counts) xs ys); summary = summary h }) (sym (head-held top true f m refl))
   series-is false s = is-fresh ∙ ap (λ (h : Head). record { counts = exponentialCounts (read (h .counts) xs ys); summary = summary h }) (sym (head-fresh top false f m refl))
 
-  pub sized-at : AllFit (c .extremes) → (u : Bool) → sound-is u → Sized (headAt top c x u)
+  sized-at : AllFit (c .extremes) → (u : Bool) → sound-is u → Sized (headAt top c x u)
   unfolding pick
   sized-at l true s = subst Sized (sym (head-held top true f m refl)) (sized-held l s)
   sized-at l false s = subst Sized (sym (head-fresh top false f m refl)) sized-fresh
@@ -149,12 +148,6 @@ module _ (size top : ℕ) (on : unset size top ≡ 0) (c : Cells) (x : ℕ) (r :
         let z = sized-at l u s in
         exponential-held (w .0) (w .1) h (z .floats .min) (z .floats .max) (z .floats .sum) (z .level) (z .pos) (z .neg)
 
-    point-is : pointIn (wordsOf p (spanOf [])) ≡ p
-    point-is = Back.point-back p (spanOf []) held
-
-    span-is : boundsIn (wordsOf p (spanOf [])) ≡ spanOf []
-    span-is = Back.span-back p (spanOf []) held
-
     abbrev ps : List ℕ
     ps = take (headAt top c x u .counts .pos .len) xs
 
@@ -167,16 +160,15 @@ module _ (size top : ℕ) (on : unset size top ≡ 0) (c : Cells) (x : ℕ) (r :
         ap (λ (q : Point). handedOut (settings size top (w .0) (w .1)) (record { counts = exponentialCounts q; summary = summary h })) (read-first h)
         ∙ ap (handedOut (settings size top (w .0) (w .1))) (sym (series-is u s))
 
+    -- it is found as it is stored
+    pub finds : Finds (foundAt []) (wordsOf p (spanOf [])) ps ns (storedIn p [] ps ns)
+    finds = let a = sound-then u s in finds-stored [] p (spanOf []) ps ns held (pos-length size top on c x r u a) (neg-length size top on c x r u a)
+
     listed : Listed (exponentialLister size top) w c x u
     listed =
-        let a = sound-then u s in
-        let k = pos-length size top on c x r u a in
-        let n = neg-length size top on c x r u a in
         let y = series-is u s in
         record {
-          point = (λ i. handedIn (storedIn (point-is i) (boundsAt (span-is i) []) ps ns)) ∙ out-is;
-          posLen = (λ i. Out.posLen (point-is i .figures) (span-is i)) ∙ sym k;
-          negLen = (λ i. Out.negLen (point-is i .figures)) ∙ sym n;
+          found = finds-handed [] (wordsOf p (spanOf [])) ps ns (storedIn p [] ps ns) _ finds out-is;
           pos = ap (λ (y : Figures). histograms .pos (handedOut (settings size top (w .0) (w .1)) y)) y;
           neg = ap (λ (y : Figures). histograms .neg (handedOut (settings size top (w .0) (w .1)) y)) y;
         }

@@ -17,7 +17,7 @@ use Rattle.point.specs.Handing.{Stored, handedIn, inShape}
 use Rattle.point.specs.Lists.{Configured}
 use Rattle.tally.specs.Sets.{Set}
 use Rattle.tally.specs.Tally.{empty, after}
-use Rattle.tally.specs.Demand.{counted, Cut, any, pointsOf}
+use Rattle.tally.specs.Demand.{counted, Cut, any, gained, pointsOf, asked, ran}
 use Rattle.tally.proofs.Clean.{Clean, clean-after}
 use Rattle.tally.proofs.Logs.{length-values}
 use Rattle.tally.proofs.Demand.{demand}
@@ -29,7 +29,7 @@ use Rattle.value_map.specs.Maps.{configOf}
 use Rattle.value_map.proofs.Owed.{Owed}
 use Rattle.collecting.specs.Lister.{Lister}
 use Rattle.promises.specs.Runs.{run}
-use Rattle.promises.specs.Pooled.{storedOf, calls, replies, collectedOf, Holds}
+use Rattle.promises.specs.Pooled.{storedOf, Holds}
 use Rattle.collecting.proofs.Owed.{Lists}
 use Rattle.promises.proofs.Runs.{Keeps, begun, ready, faithful}
 use Rattle.promises.proofs.Groupings.{pointed, pooled}
@@ -64,17 +64,17 @@ module _ {S : Store histograms} (W : Owed S) (L : Lister S) (keeps : Keeps L) (b
       let h = started S limit filter s x .held in
       let c = configOf S w limit filter in
       let F = faithful W L keeps w Q limit filter s x l zero in
-      let qs = calls L w limit filter h xs in
-      let ans = replies L w limit filter h xs in
+      let qs = asked K (run L w limit filter h) xs in
+      let ans = ran K (run L w limit filter h) xs in
       let A = demand K lawful c (run L w limit filter h) F xs p in
       let t = after K c (empty K c) qs ans in
       let n : Clean K (0 + sum (counted K) qs) t = clean-after K c qs ans 0 (empty K c) (record { waiting = λ s. refl; collected = λ s. refl; long = omega arith }) in
       let z = S .settings w in
       let ok = configured (z .kind) (F .valid) in
       let ps : Set → List Stored = λ r. storedOf L bounds w limit filter r h xs in
-      let vs : Set → List Float = λ r. collectedOf L w limit filter h xs r in
+      let vs : Set → List Float = λ r. gained K c qs ans r in
       let cuts : (r : Set) → Cut K z (pointsOf K r ans) (vs r) = A .cut in
-      let same : (r : Set) → map handedIn (ps r) ≡ pointsOf K r ans = λ r. run-read W L keeps bounds T w Q limit filter (begun S limit filter s x zero .accepted) r xs h h (ready L limit filter s x l zero) in
+      let same : (r : Set) → map handedIn (ps r) ≡ pointsOf K r ans = λ r. run-read W L keeps bounds T w Q limit filter (begun S limit filter s x zero .accepted) r xs h h in
       let is : (r : Set) → map handedIn (ps r) ≡ map (handed z) (cuts r .parts) = λ r. same r ∙ cuts r .points in
       let shaped : (r : Set) → All (λ y. inShape y ≡ true) (ps r) = λ r. run-shaped W L keeps bounds T w Q limit filter (begun S limit filter s x zero .accepted) r xs h (ready L limit filter s x l zero) in
       let finite : (r : Set) → All FiniteF64 (vs r) = λ r. all-f64 (vs r) (n .collected r) in
@@ -82,7 +82,7 @@ module _ {S : Store histograms} (W : Owed S) (L : Lister S) (keeps : Keeps L) (b
         answered = A;
         stored = same;
         each = λ r. pointed z ok (ps r) (cuts r .parts) (is r) (shaped r) (subst (All FiniteF64) (sym (cuts r .values)) (finite r));
-        pools = λ r e.
+        pools = λ r size k e.
             let few : length (vs r) < 2 ^ 64 = omega (arith, length-values K r (t .collected), n .long, p .fewer) in
-            pooled z ok (ps r) (cuts r .parts) (vs r) (is r) (shaped r) (cuts r .values) (finite r) few (some-point z (ps r) (cuts r .parts) (vs r) (cuts r .values) e (is r));
+            pooled z ok (ps r) (cuts r .parts) (vs r) (is r) (shaped r) (cuts r .values) (finite r) few (some-point z (ps r) (cuts r .parts) (vs r) (cuts r .values) e (is r)) size k;
       }

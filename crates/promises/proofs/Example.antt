@@ -25,7 +25,8 @@ use Rattle.tally.specs.Sets.{Set, Lendable}
 use Rattle.tally.specs.Kind.{Room}
 use Rattle.tally.specs.Map.{Config, Call, measure, measureBy, bind, release, collect, Answer, refuse, done, handle, listed}
 use Rattle.tally.specs.Tally.{tell}
-use Rattle.tally.specs.Demand.{Premise, any, gained}
+use Rattle.tally.specs.Demand as Demand
+use Rattle.tally.specs.Demand.{Premise, any, gained, Code, ran}
 use Rattle.kinds.specs.Histograms.{histograms}
 use Rattle.sets.specs.All.{allb}
 use Rattle.sets.specs.Rows.{setOf, rowOf, soundb}
@@ -49,8 +50,8 @@ use Rattle.collecting.specs.Read.{AllFit}
 use Rattle.explicit_collection.specs.Points.{explicitLister}
 use Rattle.explicit_collection.specs.Configured.{configured}
 use Rattle.explicit_collection.specs.declared.Setup.{Setup}
-use Rattle.promises.specs.Runs.{Asked, recording, recordingBy, binding, releasing, collecting}
-use Rattle.promises.specs.Pooled.{storedOf, calls, replies, collectedOf, Whole}
+use Rattle.promises.specs.Runs.{Asked, recording, recordingBy, binding, releasing, collecting, run}
+use Rattle.promises.specs.Pooled.{storedOf, Whole}
 use Rattle.promises.proofs.Promises.{explicit-demand}
 
 abbrev f : ℕ → Float
@@ -139,11 +140,14 @@ x₁ = point (1 ∷ 1 ∷ 0 ∷ []) 2 less five (f 0x4010_0000_0000_0000)
 abbrev x₂ : Handed
 x₂ = point (0 ∷ 0 ∷ 1 ∷ []) 1 seven seven seven
 
+abbrev code : Code histograms
+code = run (explicitLister bounds) w 1 none first
+
 abbrev answersAre : List (Answer histograms)
 answersAre = done ∷ done ∷ listed ((A, x₁) ∷ []) ∷ handle 1 ∷ done ∷ listed ((A, x₂) ∷ []) ∷ done ∷ refuse 7 ∷ []
 
-answers : replies (explicitLister bounds) w 1 none first given ≡ answersAre
-unfolding configured started begun Bindings.started bound boundIn boundTo released releasedIn measuredBy seatedBy boundsPass noNan rising isNan lt ofBits ofFields toBits fits add round eq pick over measured called entered unlessRefused barredBy unlessBarred newSeat seated marked committed located agreesb slotsb allb sought admitted setOf rowOf soundb inserted recordedAt Series.recording refusalOf bucketOf bucketsOf recordBucket bucketsAgree deltaCollected uncollected roomy sweptKept figuresIn boundsIn extremeIn pointIn
+answers : ran histograms code given ≡ answersAre
+unfolding pointAt entryIn isPoint configured started begun Bindings.started bound boundIn boundTo released releasedIn measuredBy seatedBy boundsPass noNan rising isNan lt ofBits ofFields toBits fits add round eq pick over measured called entered unlessRefused barredBy unlessBarred newSeat seated marked committed located agreesb slotsb allb sought admitted setOf rowOf soundb inserted recordedAt Series.recording refusalOf bucketOf bucketsOf recordBucket bucketsAgree deltaCollected uncollected roomy sweptKept figuresIn boundsIn extremeIn pointIn
 answers = refl
 
 abbrev room : Room
@@ -152,18 +156,18 @@ room = record { points = 1; pos = 3; neg = 0 }
 abbrev asks : List (Call histograms)
 asks = measure five A ∷ measure less A ∷ collect room ∷ bind A ∷ measureBy 1 seven ∷ collect room ∷ release 1 ∷ release 1 ∷ []
 
-asked : calls (explicitLister bounds) w 1 none first given ≡ asks
+asked : Demand.asked histograms code given ≡ asks
 unfolding pick
 asked = refl
 
 -- demand 3's premise holds, and so does all that it says
-premise : Premise histograms c (calls (explicitLister bounds) w 1 none first given) (replies (explicitLister bounds) w 1 none first given)
+premise : Premise histograms c (Demand.asked histograms code given) (ran histograms code given)
 unfolding pick
 premise =
-    subst (λ (a : List (Answer histograms)). Premise histograms c (calls (explicitLister bounds) w 1 none first given) a) (sym answers)
+    subst (λ (a : List (Answer histograms)). Premise histograms c (Demand.asked histograms code given) a) (sym answers)
     (record { fewer = omega arith; unlike = omega arith })
 
-demanded : Whole (explicitLister bounds) bounds w 1 none first given
+demanded : Whole c (Demand.asked histograms code given) (ran histograms code given) (λ r. storedOf (explicitLister bounds) bounds w 1 none r first given)
 demanded = explicit-demand bounds true true 1 none stores cells setup all-fit accepted .1 .demand given premise
 
 -- ---- THE SET'S POINTS, as they are stored, and merged
@@ -188,7 +192,7 @@ together : mergedStored 0 (0 ∷ 0 ∷ 0 ∷ []) [] s₁ s₂ ≡ success all
 unfolding merging refusalBefore unmergeable mergeable mergeHanded handedAgrees laidOver mergeBuckets added bucketsAgree boundsPass sameBounds noNan rising isNan lt eq add round ofBits pick over
 together = refl
 
-values : collectedOf (explicitLister bounds) w 1 none first given A ≡ five ∷ less ∷ seven ∷ []
+values : gained histograms c (Demand.asked histograms code given) (ran histograms code given) A ≡ five ∷ less ∷ seven ∷ []
 unfolding tell pick boundsPass fits ofBits ofFields handed bucketsOf bucketOf lt add round
 values = ap (λ (a : List (Answer histograms)). gained histograms c asks a A) answers
 
@@ -196,5 +200,5 @@ values = ap (λ (a : List (Answer histograms)). gained histograms c asks a A) an
 stands : Stands (c .settings) (handedIn all) (five ∷ less ∷ seven ∷ [])
 stands =
     subst (Stands (c .settings) (handedIn all)) values
-    (demanded .pools A (ap (any histograms) values) .stands 0 refl (node (leaf s₁) (leaf s₂)) (subst (λ l. List·Permᴰ l (s₁ ∷ s₂ ∷ [])) (sym points) (Permᴰ·refl (s₁ ∷ s₂ ∷ []))) all
+    (demanded .pools A 0 refl (ap (any histograms) values) .stands (node (leaf s₁) (leaf s₂)) (subst (λ l. List·Permᴰ l (s₁ ∷ s₂ ∷ [])) (sym points) (Permᴰ·refl (s₁ ∷ s₂ ∷ []))) all
     (s₁, s₂, 0 ∷ 0 ∷ 0 ∷ [], [], refl, refl, together))

@@ -353,25 +353,26 @@ module _ (z : Settings) where
         let f = grouped z k size u t (b .pairs) (b .points-are) (b .each) (small (leaves t) h) x g in
         record { stands = stands-order z (handedIn x) (Permᴰ·symm (b .order)) (f .stands); shape = f .shape }
 
-    all-pooled : 0 < length ps → Pools z ps vs
-    all-pooled some =
+    all-pooled : 0 < length ps → (size : ℕ) → Under (z .kind) size → Pools z ps vs size
+    all-pooled some size u =
         record {
           there = some;
-          stands = λ size u t h x g. whole size u t h x g .stands;
-          shows = λ size u t h x g. shown z k size u vs x (whole size u t h x g);
-          onlyTen = λ size u s t rest h x y g j us vs n e.
+          stands = λ t h x g. whole size u t h x g .stands;
+          shows = λ t h x g. shown z k size u vs x (whole size u t h x g);
+          onlyTen = λ s t rest h x y g j us vs n e.
               let f = front (leaves s ++ leaves t) rest h in
               two-ten z k size u s t (f .pairs) (f .points-are) (f .each) (f .fewer) x y g j us vs n e;
-          accepted = λ size u s t rest h x y g j us vs l.
+          accepted = λ s t rest h x y g j us vs l.
               let f = front (leaves s ++ leaves t) rest h in
               two-accepted z k size u s t (f .pairs) (f .points-are) (f .each) (f .fewer) x y g j us vs l;
-          every = λ size u t h us vs l.
+          every = λ t h us vs l.
               let b = back (leaves t) h in
               ends z k size u us vs l t (b .pairs) (b .points-are) (b .each) (small (leaves t) h);
         }
 
   -- THE LAW
   pub pooled : Configured (z .kind) → (ps : List Stored) (parts : List (List Float)) (vs : List Float) → map handedIn ps ≡ map (handed z) parts → All (λ x. inShape x ≡ true) ps
-      → flatten parts ≡ vs → All FiniteF64 vs → length vs < 2 ^ 64 → 0 < length ps → Pools z ps vs
+      → flatten parts ≡ vs → All FiniteF64 vs → length vs < 2 ^ 64 → 0 < length ps
+      → (size : ℕ) → Under (z .kind) size → Pools z ps vs size
   pooled k ps parts vs e s cut f few some =
       all-pooled k ps vs few (reorder ps parts (paired ps parts e s (subst (All FiniteF64) (sym cut) f)) vs cut) some

@@ -3,7 +3,6 @@ pub mod Runs
 pub mod Cumulates
 pub mod Seen
 pub mod Groupings
-pub mod Cursors
 pub mod Stored
 pub mod Demanded
 pub mod Exponential

@@ -27,7 +27,8 @@ use Rattle.point.specs.declared.Figures.the-variants.{Exponential}
 use Rattle.point.specs.Handing.{Stored, storedIn, refusalBefore, laidOver, merging}
 use Rattle.merging.proofs.Groups.{mergedStored}
 use Rattle.tally.specs.Map.{Config, Answer, done, listed}
-use Rattle.tally.specs.Demand.{Premise}
+use Rattle.tally.specs.Demand as Demand
+use Rattle.tally.specs.Demand.{Premise, Code, ran}
 use Rattle.kinds.specs.Histograms.{histograms}
 use Rattle.sets.specs.All.{allb}
 use Rattle.sets.specs.Rows.{setOf, rowOf, soundb}
@@ -51,8 +52,8 @@ use Rattle.collecting.specs.Collected.{roomy, uncollected, deltaCollected}
 use Rattle.exponential_collection.specs.Points.{exponentialLister}
 use Rattle.exponential_collection.specs.Configured.{configured}
 use Rattle.exponential_collection.specs.declared.Setup.{Setup}
-use Rattle.promises.specs.Runs.{Asked, recording, collecting}
-use Rattle.promises.specs.Pooled.{storedOf, calls, replies, Whole}
+use Rattle.promises.specs.Runs.{Asked, recording, collecting, run}
+use Rattle.promises.specs.Pooled.{storedOf, Whole}
 use Rattle.promises.proofs.Promises.{exponential-demand}
 use Rattle.promises.proofs.Example.{stores, A, small, all-fit}
 
@@ -95,24 +96,27 @@ point n =
       sum = zeroFloat;
     }
 
+abbrev code : Code histograms
+code = run (exponentialLister 3 20) (true, true) 1 none first
+
 abbrev answersAre : List (Answer histograms)
 answersAre = done ∷ listed ((A, point 1) ∷ []) ∷ done ∷ listed ((A, point 1) ∷ []) ∷ []
 
-answers : replies (exponentialLister 3 20) (true, true) 1 none first given ≡ answersAre
-unfolding configured levelAnswer started begun Bindings.started unset isNan lt ofBits ofFields toBits fits add round eq pick over measured called entered unlessRefused barredBy unlessBarred newSeat seated marked committed located agreesb slotsb allb sought admitted setOf rowOf soundb inserted recordedAt shaped countsAt headIn narrow readable headOf Series.agrees refusalOf Series.recording classOf magnitude Agreement.agrees rowAgrees placed lowBin highBin PointsRows.at Points.rowOf Points.row Points.fits Points.fitsBoth Points.scale Points.build Points.pointOf Points.indices Points.bag Points.record1 deltaCollected uncollected roomy sweptKept figuresIn boundsIn extremeIn pointIn
+answers : ran histograms code given ≡ answersAre
+unfolding pointAt entryIn isPoint configured levelAnswer started begun Bindings.started unset isNan lt ofBits ofFields toBits fits add round eq pick over measured called entered unlessRefused barredBy unlessBarred newSeat seated marked committed located agreesb slotsb allb sought admitted setOf rowOf soundb inserted recordedAt shaped countsAt headIn narrow readable headOf Series.agrees refusalOf Series.recording classOf magnitude Agreement.agrees rowAgrees placed lowBin highBin PointsRows.at Points.rowOf Points.row Points.fits Points.fitsBoth Points.scale Points.build Points.pointOf Points.indices Points.bag Points.record1 deltaCollected uncollected roomy sweptKept figuresIn boundsIn extremeIn pointIn
 answers = refl
 
 -- demand 3's premise holds, and so does all that it says
 abbrev c : Config histograms
 c = configOf (exponentialStore 3 20) (true, true) 1 none
 
-premise : Premise histograms c (calls (exponentialLister 3 20) (true, true) 1 none first given) (replies (exponentialLister 3 20) (true, true) 1 none first given)
+premise : Premise histograms c (Demand.asked histograms code given) (ran histograms code given)
 unfolding pick
 premise =
-    subst (λ (a : List (Answer histograms)). Premise histograms c (calls (exponentialLister 3 20) (true, true) 1 none first given) a) (sym answers)
+    subst (λ (a : List (Answer histograms)). Premise histograms c (Demand.asked histograms code given) a) (sym answers)
     (record { fewer = omega arith; unlike = omega arith })
 
-demanded : Whole (exponentialLister 3 20) [] (true, true) 1 none first given
+demanded : Whole c (Demand.asked histograms code given) (ran histograms code given) (λ r. storedOf (exponentialLister 3 20) [] (true, true) 1 none r first given)
 unfolding levelAnswer pick
 demanded = exponential-demand 3 (pos 10) true true 1 none stores cells setup all-fit accepted .1 .demand given premise
 

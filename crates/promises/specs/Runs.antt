@@ -13,7 +13,7 @@ use Rattle.tally.specs.Runs.{quiet}
 use Rattle.bindings.specs.Calls as Bindings
 use Rattle.bindings.specs.Calls.{mapAnswer}
 use Rattle.value_map.specs.Store.{Store}
-use Rattle.value_map.specs.Calls.{Held, Outcome, measured, measuredBy}
+use Rattle.value_map.specs.Calls.{Held, Outcome, beside, measured, measuredBy}
 use Rattle.value_map.specs.Maps.{mapOf}
 use Rattle.listing.specs.Listed.{Output}
 use Rattle.collecting.specs.Lister.{Lister}
@@ -41,18 +41,14 @@ module _ {K : Kind} {S : Store K} (L : Lister S) (w : S .Switches) (limit : ℕ)
   abbrev pub said : Outcome (S .Cells) → Answer K × Held (S .Cells)
   said o = (mapAnswer K (o .answer), o .held)
 
-  -- a binding or a release leaves the series' stores alone
-  abbrev pub alone : S .Cells → Bindings.Outcome → Answer K × Held (S .Cells)
-  alone x o = (mapAnswer K (o .answer), record { kept = o .kept; cells = x })
-
   -- what a call answers and leaves: by the definitions that the contracts of `measure`, `measure_by`, `bind`, `release` and `delta` cite; a
-  -- collection's answer is its number, or the points that lie in the output that it left
+  -- collection's answer is its number, or the points that lie in the output that it left. A binding or a release leaves the series' stores alone.
   abbrev pub ended : Held (S .Cells) → Asked K → Answer K × Held (S .Cells)
   ended h (recording v attrs small) = said (measured S limit filter h v attrs)
   ended h (recordingBy b v) = said (measuredBy S limit h v b)
-  ended h (binding attrs small) = alone (h .cells) (Bindings.bound limit filter (h .kept .dir) (h .kept .stores) attrs)
-  ended h (releasing b) = alone (h .cells) (Bindings.released limit (h .kept .dir) (h .kept .stores) b)
-  ended h (collecting o) = let c = deltaCollected L w limit h o in (answered L w (c .answer) (c .out), c .held)
+  ended h (binding attrs small) = said (beside (Bindings.bound limit filter (h .kept .dir) (h .kept .stores) attrs) (h .cells))
+  ended h (releasing b) = said (beside (Bindings.released limit (h .kept .dir) (h .kept .stores) b) (h .cells))
+  ended h (collecting o) = let c = deltaCollected L w limit h o in (answered L c, c .held)
 
   -- the calls as code, from a state
   abbrev pub run : Held (S .Cells) → Code K
@@ -65,6 +61,6 @@ Cumulates {K} {S} L w limit filter h =
     (xs : List (Asked K)) (o : Output)
     → let e = left K (run L w limit filter h) h xs in
     let c = cumulativeCollected L w limit e o in
-    (record { answer = answered L w (c .answer) (c .out); map = mapOf S w (c .held) } ≡ cumulate K (mapOf S w e) (roomOf o))
+    (record { answer = answered L c; map = mapOf S w (c .held) } ≡ cumulate K (mapOf S w e) (roomOf o))
     × (c .held ≡ e)
-    × (quiet K (answered L w (c .answer) (c .out)) ≡ true)
+    × (quiet K (answered L c) ≡ true)

@@ -26,7 +26,7 @@ use Rattle.explicit_slots.specs.Cells.{Cells, Room, rowAt, headIn, seriesAt, he
 use Rattle.point.specs.Handing.{explicitPoint}
 use Rattle.point.specs.declared.Point.{Point}
 use Rattle.value_map.specs.Explicit.{explicitStore}
-use Rattle.listing.specs.Listed.{Output, bucketsOf, behind, itemOf, putAt}
+use Rattle.listing.specs.Listed.{Output, bucketsOf, behind, putAt}
 use Rattle.listing.specs.Inner.{Put, left}
 use Rattle.listing.specs.Inner as ListedInner
 use Rattle.listing.specs.Words.{wordsOf}
@@ -122,10 +122,10 @@ module _ (bounds : List Float) (at : Cursor) (row : List ℕ) (h : Head) (show s
         lentNeg = omega arith;
       })
 
-  pub point-laid : left (behind at (p .figures) (spanOf bounds)) (putAt at (itemOf row p (spanOf bounds) xs xs) o) ≡ pointPut bounds (explicitPoint h show sums) at row xs o
+  pub point-laid : left (behind at (p .figures) (spanOf bounds)) (putAt at row p (spanOf bounds) xs xs o) ≡ pointPut bounds (explicitPoint h show sums) at row xs o
   unfolding putAt laidAt
   point-laid =
-      (λ j. left (behind at (e j .figures) (spanOf bounds)) (putAt at (itemOf row (e j) (spanOf bounds) xs xs) o))
+      (λ j. left (behind at (e j .figures) (spanOf bounds)) (putAt at row (e j) (spanOf bounds) xs xs o))
       ∙ (λ j. left (behindAt at (buckets-are bounds j) 0) (laidAt at row (wordsOf (explicitPoint h show sums) (spanOf bounds)) (take (buckets-are bounds j) xs) [] o))
 
 -- a fresh series in a row of its own: zeros

@@ -25,7 +25,7 @@ use Rattle.exponential_slots.proofs.Agreeing.{Accepted, accepted-of, shaped-say
 use Rattle.value_map.specs.Exponential.{unset}
 use Rattle.value_map.proofs.ExponentialOwes.{owed}
 use Rattle.listing.specs.Inner as ListedInner
-use Rattle.listing.specs.Listed.{Output, behind, itemOf, putAt}
+use Rattle.listing.specs.Listed.{Output, behind, putAt}
 use Rattle.listing.specs.Inner.{left}
 use Rattle.listing.specs.declared.Cursor.{Cursor}
 use Rattle.collecting.specs.Slots.{unsound, oneMore, surveyedAt, Free, laidAt, behindAt, putSlot}
@@ -236,10 +236,10 @@ module _ (size top : ℕ) (set : unset size top ≡ 0) (c : Cells) (x : ℕ) (r 
             lentNeg = omega (arith, neg-short updated a, long-neg);
           })
 
-      pub put-on : due ≡ true → left (behind at (p .figures) (spanOf [])) (putAt at (itemOf row p (spanOf []) xs ys) o)
+      pub put-on : due ≡ true → left (behind at (p .figures) (spanOf [])) (putAt at row p (spanOf []) xs ys o)
           ≡ putSlot (exponentialLister size top) w updated due c x row at o
       unfolding putSlot putAt laidAt
       put-on d =
-          ap (λ (q : Point). left (behind at (q .figures) (spanOf [])) (putAt at (itemOf row q (spanOf []) xs ys) o)) e
+          ap (λ (q : Point). left (behind at (q .figures) (spanOf [])) (putAt at row q (spanOf []) xs ys o)) e
           ∙ (λ i. left (behindAt at (sym (pos-length updated a) i) (sym (neg-length updated a) i)) (laidAt at row (exponentialLister size top .words w c x updated) (exponentialLister size top .pos c x updated) (exponentialLister size top .neg c x updated) o))
           ∙ sym (pick-true due _ (left at o) d)

@@ -13,7 +13,7 @@ use Rattle.laws.proofs.Bools.{pick-true, pick-false, and-left, and-right, and-i
 use Rattle.point.specs.declared.Point.{Point}
 use Rattle.point.specs.declared.Figures.{Figures}
 use Rattle.listing.specs.Words.{wordsOf, pointIn, boundsIn, isPoint}
-use Rattle.listing.specs.Listed.{Output, posLen, negLen, behind, itemOf, overAt, putAt, within, entryIn, pointAt}
+use Rattle.listing.specs.Listed.{Output, posLen, negLen, behind, overAt, putAt, within, entryIn, pointAt}
 use Rattle.listing.specs.Inner.{Room, left}
 use Rattle.listing.specs.declared.Cursor.{Cursor}
 use Rattle.listing.specs.declared.Found.the-variants.{NoPoint, Is}
@@ -81,7 +81,7 @@ module _ (at : Cursor) (row : List ℕ) (p : Point) (b : Span) (xs ys : List ℕ
         pos = take (at .pos) (o .pos) ++ (us ++ drop (at .pos + n - at .pos) (drop (at .pos) (o .pos)));
         neg = take (at .neg) (o .neg) ++ (vs ++ drop (at .neg + m - at .neg) (drop (at .neg) (o .neg)));
       })
-      ≡ left (behind at (p .figures) b) (putAt at (itemOf row p b xs ys) o)
+      ≡ left (behind at (p .figures) b) (putAt at row p b xs ys o)
   unfolding putAt
   put-made ws us vs w u v =
       let a = laid (at .pos) n (posLen (p .figures) b) xs us (o .pos) k (r .pos) (r .lent) u in

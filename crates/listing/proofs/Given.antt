@@ -1,10 +1,7 @@
--- What series and calls give to a list: points that code holds, with as many counts as they say. Assumes nothing.
-use Prim.Native.Nat.{ℕ, _≤_, _<_}
+-- What a series hands out is a point that code holds, which a list takes. Assumes nothing.
+use Prim.Native.Nat.{_<_}
 use mathlib.Core.Path.{_≡_, refl}
 use mathlib.Core.Bool.{Bool, true, false}
-use mathlib.Core.List.{List}
-use lib.ListN.{length}
-use lib.Seq.{length-take-le}
 use lib.Ieee.{Float, binary64, fits}
 use lib.Ieee.Bits.{is-true, ofBits-fits}
 use Rattle.laws.specs.Pick.{pick}
@@ -13,12 +10,9 @@ use Rattle.floats.specs.Starts.{zeroFloat}
 use Rattle.exponential.specs.declared.Head as SH
 use Rattle.explicit.specs.declared.Head as BH
 use Rattle.point.specs.Handing.{exponentialPoint, explicitPoint}
-use Rattle.point.specs.declared.Point.{Point}
 use Rattle.listing.specs.Words.{isShown}
-use Rattle.listing.specs.Listed.{posLen, negLen, itemOf}
 use Rattle.listing.specs.declared.Span.{Span}
 use Rattle.listing.proofs.Back.{Fitting, Held}
-use Rattle.listing.proofs.Lists.{Counted}
 
 shown-fits : (s : Bool) (x : Float) → fits binary64 x ≡ true → Fitting (shownOf s x)
 shown-fits true x h = h
@@ -57,9 +51,3 @@ module _ (extremes sums : Bool) where
         max = shown-fits extremes (h .max) b;
         sum = sum-fits sums (h .sum) c;
       }
-
--- an item that was given with its counts lent has them
-pub item-counted : (row : List ℕ) (p : Point) (b : Span) (xs ys : List ℕ) → posLen (p .figures) b ≤ length xs → negLen (p .figures) ≤ length ys
-    → Counted (itemOf row p b xs ys)
-item-counted row p b xs ys h k =
-    record { pos = length-take-le (posLen (p .figures) b) xs h; neg = length-take-le (negLen (p .figures)) ys k }

@@ -7,8 +7,7 @@ use lib.ListN.{length, set, drop, length-append, length-map}
 use lib.Seq.{take-append-seam, drop-append-seam, drop-drop}
 use Rattle.laws.specs.Over.{over}
 use Rattle.laws.proofs.Over.{over-snoc}
-use Rattle.listing.specs.Listed.{Item, posLen, negLen, overAt}
-use Rattle.listing.specs.declared.Found.the-variants.{Is}
+use Rattle.listing.specs.Listed.{overAt}
 
 pub over-behind-front : (a b old : List ℕ) → overAt (length a) b (over a old) ≡ over (a ++ b) old
 unfolding over overAt
@@ -25,8 +24,3 @@ rows-snoc f l i old h =
     ap (λ (n : ℕ). set (over (map f l) old) n (f i)) (sym (length-map l f))
     ∙ over-snoc (map f l) old (f i) (omega (arith, length-map l f))
     ∙ ap (λ (t : List (List ℕ)). over t old) (sym (map-append f l (i ∷ [])))
-
--- the counts of a point are as many as it says
-pub record Counted (i : Item) : Type 0 where
-  pub pos : length (i .pos) ≡ posLen (i .point .figures) (i .bounds)
-  pub neg : length (i .neg) ≡ negLen (i .point .figures)

@@ -13,12 +13,16 @@ use Rattle.laws.proofs.Bools.{pick-true, pick-false, and-intro}
 use Rattle.point.specs.Handing.{storedIn}
 use Rattle.point.specs.declared.Point.{Point}
 use Rattle.listing.specs.Words.{wordsOf, pointIn, boundsIn, isPoint}
-use Rattle.listing.specs.Listed.{Output, posLen, negLen, behind, within, entryIn, pointAt, between, boundsAt, storedAt}
+use Rattle.listing.specs.Listed.{Output, posLen, negLen, behind, within, entryIn, pointAt, boundsAt, storedAt}
 use Rattle.listing.specs.declared.Cursor.{Cursor}
 use Rattle.listing.specs.declared.Entry.{Entry}
 use Rattle.listing.specs.declared.Found.the-variants.{Is}
 use Rattle.listing.specs.declared.Span.{Span}
 use Rattle.listing.proofs.Back.{Held, point-back, span-back, point-is}
+
+-- the counts between two places
+abbrev pub between : ℕ → ℕ → List ℕ → List ℕ
+between a e xs = take (e - a) (drop a xs)
 
 -- words and counts lie at a cursor of an output
 pub record Lies (at : Cursor) (ws ps ns : List ℕ) (o : Output) : Type 0 where

@@ -48,34 +48,20 @@ negLen (Explicit n) = 0
 abbrev pub behind : Cursor → Figures → Span → Cursor
 behind at f b = record { place = at .place + 1; pos = at .pos + posLen f b; neg = at .neg + negLen f }
 
--- ---- what is listed
-
--- a set's row, its point, where the point's bounds lie, its counts
-pub record Item : Type 0 where
-  pub row : List ℕ
-  pub point : Point
-  pub bounds : Span
-  pub pos : List ℕ
-  pub neg : List ℕ
-
--- as it is given to be listed: the counts are the first ones of two lists
-abbrev pub itemOf : List ℕ → Point → Span → List ℕ → List ℕ → Item
-itemOf row p b xs ys =
-    record { row = row; point = p; bounds = b; pos = take (posLen (p .figures) b) xs; neg = take (negLen (p .figures)) ys }
-
 -- ---- one point put at a cursor
 
 -- ys over the list from place a on
 unfoldable pub overAt : ℕ → List ℕ → List ℕ → List ℕ
 overAt a ys xs = take a xs ++ over ys (drop a xs)
 
-unfoldable pub putAt : Cursor → Item → Output → Output
-putAt at i o =
+-- a set's row, its point, where the point's bounds lie, and its counts, which are the first ones of two lists
+unfoldable pub putAt : Cursor → List ℕ → Point → Span → List ℕ → List ℕ → Output → Output
+putAt at row p b xs ys o =
     record {
-      sets = set (o .sets) (at .place) (i .row);
-      words = set (o .words) (at .place) (wordsOf (i .point) (i .bounds));
-      pos = overAt (at .pos) (i .pos) (o .pos);
-      neg = overAt (at .neg) (i .neg) (o .neg);
+      sets = set (o .sets) (at .place) row;
+      words = set (o .words) (at .place) (wordsOf p b);
+      pos = overAt (at .pos) (take (posLen (p .figures) b) xs) (o .pos);
+      neg = overAt (at .neg) (take (negLen (p .figures)) ys) (o .neg);
     }
 
 -- ---- the point at a cursor
@@ -96,11 +82,8 @@ pointAt at words pos neg =
     pick (leb (length words) (at .place)) NoPoint (entryIn at (getD words (at .place) []) pos neg)
 
 -- the counts of a sign between two cursors
-abbrev pub between : ℕ → ℕ → List ℕ → List ℕ
-between a e xs = take (e - a) (drop a xs)
-
 abbrev pub rowAt : Cursor → Cursor → Bool → List ℕ → List ℕ → List ℕ
-rowAt at next negative pos neg = pick negative (between (at .neg) (next .neg) neg) (between (at .pos) (next .pos) pos)
+rowAt at next negative pos neg = pick negative (take (next .neg - at .neg) (drop (at .neg) neg)) (take (next .pos - at .pos) (drop (at .pos) pos))
 
 -- as merging takes it: the point at a cursor with its bounds, of a store beside the list, and its counts
 abbrev pub boundsAt : Span → List Float → List Float

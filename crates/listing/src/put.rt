@@ -3,7 +3,7 @@ ghost use mathlib.Core.Path.{_≡_};
 ghost use Prim.Native.Nat.{_^_, _<_, _≤_};
 ghost use lib.ListN.{length, take};
 ghost use Rattle.laws.specs.Over.{over};
-ghost use Rattle.listing.specs.Listed.{output, posLen, negLen, behind, itemOf, putAt};
+ghost use Rattle.listing.specs.Listed.{output, posLen, negLen, behind, putAt};
 ghost use Rattle.listing.specs.Inner.{Goes, Room, left};
 use crate::Cursor;
 use crate::Span;
@@ -83,7 +83,7 @@ pub fn put(
 ) -> Cursor
     requires { ⌜ Room at (p .figures) b (now cpos) (now cneg) (output sets words pos neg) ⌝ }
     ensures { λ r. ⌜ left r (output (sets .exit) (words .exit) (pos .exit) (neg .exit)) ≡ left (behind at (p .figures) b)
-        (putAt at (itemOf row p b (now (cpos .entry)) (now (cneg .entry))) (output (sets .entry) (words .entry) (pos .entry) (neg .entry))) ⌝ }
+        (putAt at row p b (now (cpos .entry)) (now (cneg .entry)) (output (sets .entry) (words .entry) (pos .entry) (neg .entry))) ⌝ }
 {
     let f = p.figures;
     let n = pos_len(f, b);

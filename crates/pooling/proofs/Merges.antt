@@ -6,7 +6,7 @@ use mathlib.Core.Bool.{true}
 use mathlib.Core.List.{List, []}
 use native.Mathlib.Omega.{arith}
 use lib.ListN.{length, getD, take, drop, length-drop}
-use lib.Seq.{take-take, length-take-le}
+use lib.Seq.{take-take}
 use lib.Ieee.{Float}
 use Rattle.laws.specs.Said.{Said, refusal, success}
 use Rattle.laws.proofs.Cases.{true-not-false}
@@ -19,13 +19,12 @@ use Rattle.points.specs.Handed.{mergeCounts, posOf, negOf}
 use Rattle.point.specs.declared.Figures.{Figures}
 use Rattle.point.specs.declared.Figures.the-variants.{Exponential, Explicit}
 use Rattle.point.specs.Handing.{Stored, storedIn, countsAs, countsIn, handedIn, Outcome, merging}
-use Rattle.listing.specs.Listed.{Output, Item, posLen, negLen, itemOf, putAt, boundsAt, storedAt}
+use Rattle.listing.specs.Listed.{Output, posLen, negLen, putAt, boundsAt, storedAt}
 use Rattle.listing.specs.declared.Cursor.{Cursor}
 use Rattle.listing.specs.declared.Entry.{Entry}
 use Rattle.listing.specs.declared.Found.the-variants.{Is}
 use Rattle.listing.specs.declared.Span.{Span}
 use Rattle.listing.proofs.Back.{Held}
-use Rattle.listing.proofs.Given.{item-counted}
 use Rattle.pooling.specs.Lists as Lists
 use Rattle.pooling.specs.Lists.{Source, wholeAt, hasPlace, putMerged, pooledAt, Holds}
 use Rattle.pooling.proofs.Whole.{whole-told, whole-lies, bounds-long}
@@ -114,10 +113,10 @@ module _ (size : ℕ) (a : Cursor) (x : Source) (b : Cursor) (y : Source) (at : 
 
   module _ (z : Stored)
       (g : merging size (storedAt a e (x .bounds) (x .list)) (storedAt b f (y .bounds) (y .list)) (drop (at .pos) (o .pos)) (drop (at .neg) (o .neg)) .answer ≡ success z) where
-    abbrev item : Item
-    item = itemOf row (z .point) (e .bounds) (z .pos) (z .neg)
+    abbrev put : Output
+    put = putAt at row (z .point) (e .bounds) (z .pos) (z .neg) o
 
-    is-put : pooledAt size a x b y at o .output ≡ putAt at item o
+    is-put : pooledAt size a x b y at o .output ≡ put
     is-put = ap (λ (k : Lists.Outcome). k .output) (as-stored ∙ ap (putMerged at row (e .bounds) o) g)
 
     took : Took size first second us vs (e .bounds) (z .point) (z .pos) (z .neg)
@@ -148,29 +147,28 @@ module _ (size : ℕ) (a : Cursor) (x : Source) (b : Cursor) (y : Source) (at : 
         let c = negOf (mergeCounts size (countsIn first) (countsIn second)) in
         omega (arith, t .manyNeg, ap length (t .neg), length-over c vs (t .roomNeg), t .roomNeg)
 
-    fits-pos : at .pos + length (item .pos) ≤ length (o .pos)
+    fits-pos : at .pos + posLen (z .point .figures) (e .bounds) ≤ length (o .pos)
     fits-pos =
         let w = place-says at (length (o .sets)) (length (o .words)) (length (o .pos)) (length (o .neg)) h in
-        omega (arith, length-take-le (posLen (z .point .figures) (e .bounds)) (z .pos) pos-there, took .many, took .room, length-drop (at .pos) (o .pos), w .2)
+        omega (arith, took .many, took .room, length-drop (at .pos) (o .pos), w .2)
 
-    fits-neg : at .neg + length (item .neg) ≤ length (o .neg)
+    fits-neg : at .neg + negLen (z .point .figures) ≤ length (o .neg)
     fits-neg =
         let w = place-says at (length (o .sets)) (length (o .words)) (length (o .pos)) (length (o .neg)) h in
-        omega (arith, length-take-le (negLen (z .point .figures)) (z .neg) neg-there, took .manyNeg, took .roomNeg, length-drop (at .neg) (o .neg), w .3)
+        omega (arith, took .manyNeg, took .roomNeg, length-drop (at .neg) (o .neg), w .3)
 
-    put-holds : Holds at row (e .bounds) (x .bounds) z (putAt at item o)
+    put-holds : Holds at row (e .bounds) (x .bounds) z put
     put-holds =
         let w = place-says at (length (o .sets)) (length (o .words)) (length (o .pos)) (length (o .neg)) h in
-        let k = item-counted row (z .point) (e .bounds) (z .pos) (z .neg) pos-there neg-there in
-        let t = stored-there at item o held k (w .0) (w .1) fits-pos fits-neg (x .bounds)
-        ∙ ap (λ (bs : List Float). storedIn (z .point) bs (item .pos) (item .neg)) (sym same-bounds) in
-        let c = own-counts (z .bounds) (e .bounds) (ap length same-bounds ∙ long) (z .pos) (z .neg) (z .point .figures) in
+        let p = z .point in
+        let t = stored-there at row p (e .bounds) (z .pos) (z .neg) o held pos-there neg-there (w .0) (w .1) fits-pos fits-neg (x .bounds)
+        ∙ ap (λ (bs : List Float). storedIn p bs (take (posLen (p .figures) (e .bounds)) (z .pos)) (take (negLen (p .figures)) (z .neg))) (sym same-bounds) in
+        let c = own-counts (z .bounds) (e .bounds) (ap length same-bounds ∙ long) (z .pos) (z .neg) (p .figures) in
         record {
-          set = set-back at item o held k (w .0) (w .1) fits-pos fits-neg;
-          point = point-there at item o held k (w .0) (w .1) fits-pos fits-neg;
+          set = set-back at row p (e .bounds) (z .pos) (z .neg) o held pos-there neg-there (w .0) (w .1) fits-pos fits-neg;
+          point = point-there at row p (e .bounds) (z .pos) (z .neg) o held pos-there neg-there (w .0) (w .1) fits-pos fits-neg;
           stored = t;
-          reads = ap handedIn t
-              ∙ (λ i. record { counts = c i; extremes = z .point .extremes; threshold = zeroFloat; min = z .point .min; max = z .point .max; sum = z .point .sum });
+          reads = ap handedIn t ∙ (λ i. record { counts = c i; extremes = p .extremes; threshold = zeroFloat; min = p .min; max = p .max; sum = p .sum });
         }
 
     -- (1) THE OUTPUT HOLDS THE MERGED POINT, with the first's set and bounds

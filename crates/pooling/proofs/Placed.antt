@@ -23,8 +23,8 @@ use Rattle.listing.specs.Listed.{Output, posLen, negLen, behind, overAt, putAt}
 use Rattle.listing.specs.Inner.{Goes}
 use Rattle.listing.specs.declared.Cursor.{Cursor}
 use Rattle.listing.specs.declared.Span.{Span}
-use Rattle.pooling.specs.Lists.{ends, placed, hasPlace, putMerged, pooled, lastly}
-use Rattle.pooling.proofs.Verdicts.{point, enough, Turned, Taken, verdict}
+use Rattle.pooling.specs.Lists.{ends, placed, hasPlace, putMerged, pooled}
+use Rattle.pooling.proofs.Verdicts.{point, lastly, enough, Turned, Taken, verdict}
 
 -- ---- a place at the cursor
 

@@ -9,13 +9,14 @@ use lib.Ieee.{Float}
 use Rattle.laws.specs.Over.{over}
 use Rattle.laws.proofs.Over.{length-over, take-over}
 use Rattle.point.specs.Handing.{storedIn}
+use Rattle.point.specs.declared.Point.{Point}
 use Rattle.listing.specs.Words.{wordsOf}
-use Rattle.listing.specs.Listed.{Output, Item, behind, overAt, putAt, pointAt, boundsAt, storedAt}
+use Rattle.listing.specs.Listed.{Output, posLen, negLen, behind, overAt, putAt, pointAt, boundsAt, storedAt}
 use Rattle.listing.specs.declared.Cursor.{Cursor}
 use Rattle.listing.specs.declared.Entry.{Entry}
 use Rattle.listing.specs.declared.Found.the-variants.{Is}
+use Rattle.listing.specs.declared.Span.{Span}
 use Rattle.listing.proofs.Back.{Held}
-use Rattle.listing.proofs.Lists.{Counted}
 use Rattle.listing.proofs.There as There
 use Rattle.listing.proofs.There.{Lies}
 
@@ -23,14 +24,14 @@ module _ (a : ℕ) (ys xs : List ℕ) (h : a + length ys ≤ length xs) where
   front : length (take a xs) ≡ a
   front = length-take-le a xs (omega (arith, h))
 
-  pub over-long : length (overAt a ys xs) ≡ length xs
+  over-long : length (overAt a ys xs) ≡ length xs
   unfolding overAt
   over-long =
       let d = length-drop a xs in
       let l = length-over ys (drop a xs) (omega (arith, h, d)) in
       omega (arith, length-append (take a xs) (over ys (drop a xs)), front, d, l, h)
 
-  pub over-there : take (length ys) (drop a (overAt a ys xs)) ≡ ys
+  over-there : take (length ys) (drop a (overAt a ys xs)) ≡ ys
   unfolding overAt
   over-there =
       let r = over ys (drop a xs) in
@@ -38,45 +39,47 @@ module _ (a : ℕ) (ys xs : List ℕ) (h : a + length ys ≤ length xs) where
       ∙ ap (take (length ys)) (drop-append-seam (take a xs) r)
       ∙ take-over ys (drop a xs)
 
-module _ (at : Cursor) (i : Item) (o : Output) (h : Held (i .point) (i .bounds)) (k : Counted i) (s : at .place < length (o .sets))
-    (w : at .place < length (o .words)) (p : at .pos + length (i .pos) ≤ length (o .pos)) (n : at .neg + length (i .neg) ≤ length (o .neg)) where
-  abbrev pub entry : Entry
-  entry = record { point = i .point; bounds = i .bounds; next = behind at (i .point .figures) (i .bounds) }
+module _ (at : Cursor) (row : List ℕ) (p : Point) (b : Span) (xs ys : List ℕ) (o : Output) (h : Held p b)
+    (x : posLen (p .figures) b ≤ length xs) (y : negLen (p .figures) ≤ length ys) (s : at .place < length (o .sets)) (w : at .place < length (o .words))
+    (m : at .pos + posLen (p .figures) b ≤ length (o .pos)) (n : at .neg + negLen (p .figures) ≤ length (o .neg)) where
+  abbrev ps : List ℕ
+  ps = take (posLen (p .figures) b) xs
 
-  pub set-back : getD (putAt at i o .sets) (at .place) [] ≡ i .row
+  abbrev ns : List ℕ
+  ns = take (negLen (p .figures)) ys
+
+  abbrev put : Output
+  put = putAt at row p b xs ys o
+
+  abbrev entry : Entry
+  entry = record { point = p; bounds = b; next = behind at (p .figures) b }
+
+  pos-many : length ps ≡ posLen (p .figures) b
+  pos-many = length-take-le (posLen (p .figures) b) xs x
+
+  neg-many : length ns ≡ negLen (p .figures)
+  neg-many = length-take-le (negLen (p .figures)) ys y
+
+  pub set-back : getD (putAt at row p b xs ys o .sets) (at .place) [] ≡ row
   unfolding putAt
-  set-back = getD-set-same (o .sets) (at .place) (i .row) [] s
+  set-back = getD-set-same (o .sets) (at .place) row [] s
 
-  words-back : getD (putAt at i o .words) (at .place) [] ≡ wordsOf (i .point) (i .bounds)
-  unfolding putAt
-  words-back = getD-set-same (o .words) (at .place) (wordsOf (i .point) (i .bounds)) [] w
-
-  words-long : length (putAt at i o .words) ≡ length (o .words)
-  unfolding putAt
-  words-long = length-set (o .words) (at .place) (wordsOf (i .point) (i .bounds))
-
-  pos-long : length (putAt at i o .pos) ≡ length (o .pos)
-  unfolding putAt
-  pos-long = over-long (at .pos) (i .pos) (o .pos) p
-
-  neg-long : length (putAt at i o .neg) ≡ length (o .neg)
-  unfolding putAt
-  neg-long = over-long (at .neg) (i .neg) (o .neg) n
-
-  pub lies : Lies at (wordsOf (i .point) (i .bounds)) (i .pos) (i .neg) (putAt at i o)
+  lies : Lies at (wordsOf p b) ps ns put
   unfolding putAt
   lies =
+      let c : at .pos + length ps ≤ length (o .pos) = omega (arith, m, pos-many) in
+      let d : at .neg + length ns ≤ length (o .neg) = omega (arith, n, neg-many) in
       record {
-        place = omega (arith, w, words-long);
-        words = words-back;
-        posEnd = omega (arith, p, pos-long);
-        negEnd = omega (arith, n, neg-long);
-        pos = over-there (at .pos) (i .pos) (o .pos) p;
-        neg = over-there (at .neg) (i .neg) (o .neg) n;
+        place = omega (arith, w, length-set (o .words) (at .place) (wordsOf p b));
+        words = getD-set-same (o .words) (at .place) (wordsOf p b) [] w;
+        posEnd = omega (arith, c, over-long (at .pos) ps (o .pos) c);
+        negEnd = omega (arith, d, over-long (at .neg) ns (o .neg) d);
+        pos = over-there (at .pos) ps (o .pos) c;
+        neg = over-there (at .neg) ns (o .neg) d;
       }
 
-  pub point-there : pointAt at (putAt at i o .words) (length (putAt at i o .pos)) (length (putAt at i o .neg)) ≡ Is entry
-  point-there = There.point-there at (i .point) (i .bounds) (i .pos) (i .neg) (putAt at i o) h (k .pos) (k .neg) lies
+  pub point-there : pointAt at (putAt at row p b xs ys o .words) (length (putAt at row p b xs ys o .pos)) (length (putAt at row p b xs ys o .neg)) ≡ Is entry
+  point-there = There.point-there at p b ps ns put h pos-many neg-many lies
 
-  pub stored-there : (bounds : List Float) → storedAt at entry bounds (putAt at i o) ≡ storedIn (i .point) (boundsAt (i .bounds) bounds) (i .pos) (i .neg)
-  stored-there bounds = There.stored-there at (i .point) (i .bounds) (i .pos) (i .neg) (putAt at i o) h (k .pos) (k .neg) lies bounds
+  pub stored-there : (bounds : List Float) → storedAt at entry bounds put ≡ storedIn p (boundsAt b bounds) ps ns
+  stored-there bounds = There.stored-there at p b ps ns put h pos-many neg-many lies bounds

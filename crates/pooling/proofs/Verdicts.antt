@@ -11,6 +11,7 @@ use lib.Dec.{leb, eqb}
 use lib.ListN.{length}
 use lib.Ieee.{Float, binary64, add}
 use Rattle.laws.specs.Said.{refusal, success}
+use Rattle.laws.specs.Pick.{pick}
 use Rattle.laws.proofs.Bools.{flag, and-left, and-right, pick-true, pick-false}
 use Rattle.floats.specs.Answers.{smallerOf, largerOf}
 use Rattle.rows.specs.Rows.{over}
@@ -28,7 +29,6 @@ use Rattle.point.proofs.Calls as calls
 use Rattle.point.proofs.Answers.{hasRoom, with-room, no-room}
 use Rattle.listing.specs.Listed.{bucketsOf, posLen, negLen}
 use Rattle.listing.specs.declared.Span.{Span}
-use Rattle.pooling.specs.Lists.{lastly}
 
 pub buckets-are : (bs : List Float) (n : ℕ) → length bs ≡ n → bucketsOf n ≡ bucketCount bs
 buckets-are bs n e = sym (ap bucketsOf e) ∙ go bs
@@ -36,6 +36,10 @@ buckets-are bs n e = sym (ap bucketsOf e) ∙ go bs
     go : (bs : List Float) → bucketsOf (length bs) ≡ bucketCount bs
     go [] = refl
     go (b ∷ bs) = refl
+
+-- the number where there is no place
+abbrev pub lastly : ℕ → ℕ
+lastly n = pick (eqb n 0) 10 n
 
 lastly-some : (n : ℕ) → (n ≡ 0 → ⊥) → lastly n ≡ n
 lastly-some n h = pick-false (eqb n 0) 10 n (ne-eqb n 0 h)

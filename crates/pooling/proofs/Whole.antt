@@ -16,7 +16,8 @@ use Rattle.listing.specs.Words.{pointIn, boundsIn, isPoint}
 use Rattle.laws.specs.Said.{Said}
 use Rattle.point.specs.declared.Point.{Point}
 use Rattle.point.specs.Handing.{Stored, storedIn, ended, merging}
-use Rattle.listing.specs.Listed.{Output, behind, within, entryIn, pointAt, between, boundsAt, storedAt}
+use Rattle.listing.specs.Listed.{Output, behind, within, entryIn, pointAt, boundsAt, storedAt}
+use Rattle.listing.proofs.There.{between}
 use Rattle.listing.specs.declared.Cursor.{Cursor}
 use Rattle.listing.specs.declared.Entry.{Entry}
 use Rattle.listing.specs.declared.Found.{Found}

@@ -11,7 +11,7 @@ use denote.Ref.{RefT, now}
 use Rattle.laws.specs.Pick.{pick}
 use Rattle.laws.specs.Said.{Said, refusal, success}
 use Rattle.point.specs.Handing.{Stored, storedIn, handedIn, refusalBefore, merging}
-use Rattle.listing.specs.Listed.{Output, output, posLen, negLen, behind, itemOf, putAt, pointAt, storedAt}
+use Rattle.listing.specs.Listed.{Output, output, posLen, negLen, behind, putAt, pointAt, storedAt}
 use Rattle.listing.specs.declared.Cursor.{Cursor}
 use Rattle.listing.specs.declared.Entry.{Entry}
 use Rattle.listing.specs.declared.Found.{Found}
@@ -67,18 +67,15 @@ hasPlace at o = placed at (length (o .sets)) (length (o .words)) (length (o .pos
 abbrev pub putMerged : Cursor → List ℕ → Span → Output → Said Stored → Outcome
 putMerged at row b o (refusal n) = ends (refusal n) o
 putMerged at row b o (success z) =
-    ends (success (behind at (z .point .figures) b)) (putAt at (itemOf row (z .point) b (z .pos) (z .neg)) o)
+    ends (success (behind at (z .point .figures) b)) (putAt at row (z .point) b (z .pos) (z .neg) o)
 
--- "Merging: 1, 8, 11, 9, 10": without a place it is 10 unless a number comes before
-abbrev pub lastly : ℕ → ℕ
-lastly n = pick (eqb n 0) 10 n
-
--- two points merged into the counts from the cursor on
+-- two points merged into the counts from the cursor on. "Merging: 1, 8, 11, 9, 10": without a place it is 10 unless a number comes before
 unfoldable pub pooled : ℕ → List ℕ → Span → Stored → Stored → Cursor → Output → Outcome
 pooled size row b x y at o =
+    let n = refusalBefore size x y in
     pick (hasPlace at o)
     (putMerged at row b o (merging size x y (drop (at .pos) (o .pos)) (drop (at .neg) (o .neg)) .answer))
-    (ends (refusal (lastly (refusalBefore size x y))) o)
+    (ends (refusal (pick (eqb n 0) 10 n)) o)
 
 -- "the result has the first's" set, and its bounds are the first's; 8 where no point lies
 abbrev pub pooledFound : ℕ → Cursor → Source → Cursor → Source → Cursor → Output → Found → Found → Outcome

@@ -21,7 +21,7 @@ use Rattle.listing.specs.Listed.{Output}
 use Rattle.listing.specs.declared.Cursor.{Cursor}
 use Rattle.listing.proofs.There.{Lies}
 use Rattle.collecting.specs.Lister.{Lister}
-use Rattle.collecting.specs.Collected.{setRows, wordRows, posCounts, negCounts, laidOut, readFrom}
+use Rattle.collecting.specs.Collected.{countsOf, laidOut, readFrom}
 use Rattle.collecting.specs.Slots.{behindAt}
 use Rattle.collecting.proofs.Owed.{Finds}
 
@@ -52,10 +52,10 @@ module _ {K : Kind} {S : Store K} (L : Lister S) (w : S .Switches) (h : Held (S 
   -- an output, in which slots lie from a cursor on
   module _ (o : Output) (rs ws : List (List ℕ)) (ps ns : List ℕ) where
     record From (l : List ℕ) (at : Cursor) : Type 0 where
-      sets : drop (at .place) (o .sets) ≡ setRows L w (h .kept) l ++ rs
-      words : drop (at .place) (o .words) ≡ wordRows L w h l ++ ws
-      pos : drop (at .pos) (o .pos) ≡ posCounts L w h l ++ ps
-      neg : drop (at .neg) (o .neg) ≡ negCounts L w h l ++ ns
+      sets : drop (at .place) (o .sets) ≡ map (λ x. rowOf (set x)) l ++ rs
+      words : drop (at .place) (o .words) ≡ map (λ x. L .words w (h .cells) x (u x)) l ++ ws
+      pos : drop (at .pos) (o .pos) ≡ countsOf (L .pos) h l ++ ps
+      neg : drop (at .neg) (o .neg) ≡ countsOf (L .neg) h l ++ ns
       in-pos : at .pos ≤ length (o .pos)
       in-neg : at .neg ≤ length (o .neg)
 
@@ -73,12 +73,12 @@ module _ {K : Kind} {S : Store K} (L : Lister S) (w : S .Switches) (h : Held (S 
 
       pos-end : at .pos + length P ≤ length (o .pos)
       pos-end =
-          let PS = posCounts L w h l in
+          let PS = countsOf (L .pos) h l in
           omega (arith, f .in-pos, length-drop (at .pos) (o .pos), ap length (f .pos), length-append (P ++ PS) ps, length-append P PS)
 
       neg-end : at .neg + length N ≤ length (o .neg)
       neg-end =
-          let NS = negCounts L w h l in
+          let NS = countsOf (L .neg) h l in
           omega (arith, f .in-neg, length-drop (at .neg) (o .neg), ap length (f .neg), length-append (N ++ NS) ns, length-append N NS)
 
       lies : Lies at (L .words w (h .cells) x (u x)) P N o
@@ -88,8 +88,8 @@ module _ {K : Kind} {S : Store K} (L : Lister S) (w : S .Switches) (h : Held (S 
             words = first-is (o .words) (f .words);
             posEnd = pos-end;
             negEnd = neg-end;
-            pos = ap (take (length P)) (f .pos) ∙ first-of P (posCounts L w h l) ps;
-            neg = ap (take (length N)) (f .neg) ∙ first-of N (negCounts L w h l) ns;
+            pos = ap (take (length P)) (f .pos) ∙ first-of P (countsOf (L .pos) h l) ps;
+            neg = ap (take (length N)) (f .neg) ∙ first-of N (countsOf (L .neg) h l) ns;
           }
 
       next : From l (behindAt at (length P) (length N))
@@ -97,8 +97,8 @@ module _ {K : Kind} {S : Store K} (L : Lister S) (w : S .Switches) (h : Held (S 
           record {
             sets = sym (drop-drop 1 (at .place) (o .sets)) ∙ ap (drop 1) (f .sets);
             words = sym (drop-drop 1 (at .place) (o .words)) ∙ ap (drop 1) (f .words);
-            pos = sym (drop-drop (length P) (at .pos) (o .pos)) ∙ ap (drop (length P)) (f .pos) ∙ rest-of P (posCounts L w h l) ps;
-            neg = sym (drop-drop (length N) (at .neg) (o .neg)) ∙ ap (drop (length N)) (f .neg) ∙ rest-of N (negCounts L w h l) ns;
+            pos = sym (drop-drop (length P) (at .pos) (o .pos)) ∙ ap (drop (length P)) (f .pos) ∙ rest-of P (countsOf (L .pos) h l) ps;
+            neg = sym (drop-drop (length N) (at .neg) (o .neg)) ∙ ap (drop (length N)) (f .neg) ∙ rest-of N (countsOf (L .neg) h l) ns;
             in-pos = pos-end;
             in-neg = neg-end;
           }

@@ -5,6 +5,7 @@ use mathlib.Core.Bool.{Bool, true, false, _&&_}
 use native.Mathlib.Omega.{arith}
 use borrow.Author.Tests.{eq-eqb, ne-eqb, leb-true, eqb-true}
 use lib.Dec.{leb, eqb}
+use lib.ListN.{length}
 use Rattle.laws.specs.Said.{refusal, success}
 use Rattle.laws.proofs.Bools.{pick-true, pick-false, pick-left, pick-then}
 use Rattle.laws.proofs.Cases.{and-true}
@@ -17,7 +18,7 @@ use Rattle.value_map.specs.Calls.{Held, lent}
 use Rattle.listing.specs.Listed.{Output}
 use Rattle.listing.specs.Inner.{Put}
 use Rattle.collecting.specs.Lister.{Lister}
-use Rattle.collecting.specs.Collected.{Collected, roomOf, dueOf, agreeing, roomy, uncollected, collectedTo, unlessRefused, deltaCollected, cumulativeCollected}
+use Rattle.collecting.specs.Collected.{Collected, roomOf, dueOf, agreeing, roomy, uncollected, laidOut, collectedTo, deltaCollected, cumulativeCollected}
 use Rattle.collecting.specs.Slots.{putSlots}
 use Rattle.collecting.proofs.Walks.{Open}
 
@@ -45,26 +46,33 @@ module _ {K : Kind} {S : Store K} (L : Lister S) (w : S .Switches) (limit : ℕ)
         room = pick-left (roomy L w h (dueOf cumulative (h .kept)) (roomOf o)) 0 10 (omega arith) (pick-then q _ 8 (omega arith) t);
       }
 
+  -- what is left where no number refuses it
+  abbrev pub collectedOn : Bool → Kept → Collected (S .Cells)
+  collectedOn cumulative k =
+      let l = dueOf cumulative (h .kept) in
+      record { answer = success (length l); held = record { kept = k; cells = h .cells }; out = laidOut L w h l o }
+
   -- "Every refusal changes nothing."
-  refused-with : (n m : ℕ) (c : Collected (S .Cells)) → n ≡ m → (n ≡ 0 → ⊥) → record { answer = refusal n; held = h; out = o } ≡ unlessRefused L w m h o c
-  refused-with n m c e d =
-      (λ j. record { answer = refusal (e j); held = h; out = o }) ∙ sym (pick-false (eqb m 0) c (record { answer = refusal m; held = h; out = o }) (ne-eqb m 0 (λ z. d (e ∙ z))))
+  refused-with : (cumulative : Bool) (k : Kept) (n m : ℕ) → n ≡ m → (n ≡ 0 → ⊥) → record { answer = refusal n; held = h; out = o } ≡ collectedTo L w cumulative k m h o
+  refused-with cumulative k n m e d =
+      (λ j. record { answer = refusal (e j); held = h; out = o })
+      ∙ sym (pick-false (eqb m 0) (collectedOn cumulative k) (record { answer = refusal m; held = h; out = o }) (ne-eqb m 0 (λ z. d (e ∙ z))))
 
   pub delta-refused : (n : ℕ) → n ≡ uncollected L w false limit h o → (n ≡ 0 → ⊥) → record { answer = refusal n; held = h; out = o } ≡ deltaCollected L w limit h o
   unfolding deltaCollected
-  delta-refused n e d = refused-with n (uncollected L w false limit h o) (collectedTo L w false (sweptKept (h .kept)) h o) e d
+  delta-refused n e d = refused-with false (sweptKept (h .kept)) n (uncollected L w false limit h o) e d
 
   pub cumulative-refused : (n : ℕ) → n ≡ uncollected L w true limit h o → (n ≡ 0 → ⊥) → record { answer = refusal n; held = h; out = o } ≡ cumulativeCollected L w limit h o
   unfolding cumulativeCollected
-  cumulative-refused n e d = refused-with n (uncollected L w true limit h o) (collectedTo L w true (h .kept) h o) e d
+  cumulative-refused n e d = refused-with true (h .kept) n (uncollected L w true limit h o) e d
 
   -- the points that were put, and the directory k
   done-with : (cumulative : Bool) (k k′ : Kept) (p : Put) → uncollected L w cumulative limit h o ≡ 0 → p ≡ putSlots L w h (dueOf cumulative (h .kept)) o → k ≡ k′
       → record { answer = success (p .next .place); held = record { kept = k; cells = h .cells }; out = p .output }
-      ≡ unlessRefused L w (uncollected L w cumulative limit h o) h o (collectedTo L w cumulative k′ h o)
+      ≡ collectedTo L w cumulative k′ (uncollected L w cumulative limit h o) h o
   done-with cumulative k k′ p e q r =
       (λ j. record { answer = success (q j .next .place); held = record { kept = r j; cells = h .cells }; out = q j .output })
-      ∙ sym (pick-true (eqb (uncollected L w cumulative limit h o) 0) (collectedTo L w cumulative k′ h o) _ (eq-eqb (uncollected L w cumulative limit h o) 0 e))
+      ∙ sym (pick-true (eqb (uncollected L w cumulative limit h o) 0) (collectedOn cumulative k′) _ (eq-eqb (uncollected L w cumulative limit h o) 0 e))
 
   pub delta-done : (k : Kept) (p : Put) → uncollected L w false limit h o ≡ 0 → p ≡ putSlots L w h (dueOf false (h .kept)) o → k ≡ sweptKept (h .kept)
       → record { answer = success (p .next .place); held = record { kept = k; cells = h .cells }; out = p .output } ≡ deltaCollected L w limit h o

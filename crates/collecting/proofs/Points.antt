@@ -23,7 +23,7 @@ use Rattle.value_map.specs.Store.{Store}
 use Rattle.value_map.specs.Calls.{Held}
 use Rattle.value_map.proofs.Owed.{there, was}
 use Rattle.collecting.specs.Lister.{Lister}
-use Rattle.collecting.specs.Collected.{posCounts, negCounts, roomy}
+use Rattle.collecting.specs.Collected.{countsOf, roomy}
 use Rattle.collecting.proofs.Owed.{Listed}
 use Rattle.collecting.proofs.Back.{pointAt}
 
@@ -138,17 +138,17 @@ module _ {K : Kind} (S : Store K) (w : S .Switches) (h : Held (S .Cells)) where
 
   -- ---- room
   module _ (L : Lister S) where
-    pos-all : (l : List ℕ) → ((x : ℕ) → In x l → Listed L w (h .cells) x (u x)) → sum (K .pos) (map (λ p. p .1) (map (pointAt S w h) l)) ≡ length (posCounts L w h l)
+    pos-all : (l : List ℕ) → ((x : ℕ) → In x l → Listed L w (h .cells) x (u x)) → sum (K .pos) (map (λ p. p .1) (map (pointAt S w h) l)) ≡ length (countsOf (L .pos) h l)
     pos-all [] g = refl
     pos-all (x ∷ l) g =
         (λ i. g x (inl refl) .pos i + pos-all l (λ y m. g y (inr m)) i)
-        ∙ sym (length-append (L .pos (h .cells) x (u x)) (posCounts L w h l))
+        ∙ sym (length-append (L .pos (h .cells) x (u x)) (countsOf (L .pos) h l))
 
-    neg-all : (l : List ℕ) → ((x : ℕ) → In x l → Listed L w (h .cells) x (u x)) → sum (K .neg) (map (λ p. p .1) (map (pointAt S w h) l)) ≡ length (negCounts L w h l)
+    neg-all : (l : List ℕ) → ((x : ℕ) → In x l → Listed L w (h .cells) x (u x)) → sum (K .neg) (map (λ p. p .1) (map (pointAt S w h) l)) ≡ length (countsOf (L .neg) h l)
     neg-all [] g = refl
     neg-all (x ∷ l) g =
         (λ i. g x (inl refl) .neg i + neg-all l (λ y m. g y (inr m)) i)
-        ∙ sym (length-append (L .neg (h .cells) x (u x)) (negCounts L w h l))
+        ∙ sym (length-append (L .neg (h .cells) x (u x)) (countsOf (L .neg) h l))
 
     pub room-is : (l : List ℕ) (r : Room) → ((x : ℕ) → In x l → Listed L w (h .cells) x (u x)) → suffices K r (map (λ p. p .1) (map (pointAt S w h) l)) ≡ roomy L w h l r
     unfolding roomy

@@ -2,7 +2,7 @@
 use Prim.Native.Nat.{ℕ, suc, _+_, _≤_, _<_, min}
 use mathlib.Core.Path.{_≡_, refl, sym, ap, subst, _∙_}
 use mathlib.Core.Bool.{Bool, true, false, _&&_}
-use mathlib.Core.List.{List, [], _∷_, _++_}
+use mathlib.Core.List.{List, [], _∷_, _++_, map}
 use native.Mathlib.Omega.{arith}
 use borrow.Author.Tests.{leb-true}
 use lib.Dec.{leb}
@@ -23,10 +23,10 @@ use Rattle.listing.specs.Listed.{Output, overAt}
 use Rattle.listing.specs.Inner.{Put, left}
 use Rattle.listing.proofs.Lists.{over-behind-front, rows-snoc}
 use Rattle.collecting.specs.Lister.{Lister}
-use Rattle.collecting.specs.Collected.{roomOf, slotsOf, due, dueOf, setRows, wordRows, posCounts, negCounts, laidOut, roomy}
+use Rattle.collecting.specs.Collected.{roomOf, slotsOf, due, dueOf, countsOf, laidOut, roomy}
 use Rattle.collecting.specs.Slots.{walked, Place, laidAt, behindAt, putSlot, putSlots}
 use Rattle.collecting.proofs.Nexts.{slots-all, only-yes, only-no, only-front}
-use Rattle.collecting.proofs.Surveys.{pos-append, neg-append, pos-snoc, neg-snoc, in-slots, points-more, pos-more, neg-more, pos-walked, neg-walked}
+use Rattle.collecting.proofs.Surveys.{counts-append, counts-snoc, counts-more, counts-walked, in-slots, points-more}
 
 fewest-both : (n a b : ℕ) → leb n (min a b) ≡ true → (n ≤ a) × (n ≤ b)
 fewest-both n a b e = let p = and-true (leb n a) (leb n b) (sym (both-suffice a b n) ∙ e) in (leb-true n a (p .0), leb-true n b (p .1))
@@ -48,14 +48,14 @@ module _ {K : Kind} {S : Store K} (L : Lister S) (w : S .Switches) (h : Held (S 
   pub record Fit (l : List ℕ) : Type 0 where
     pub sets : length l ≤ length (o .sets)
     pub words : length l ≤ length (o .words)
-    pub pos : length (posCounts L w h l) ≤ length (o .pos)
-    pub neg : length (negCounts L w h l) ≤ length (o .neg)
+    pub pos : length (countsOf (L .pos) h l) ≤ length (o .pos)
+    pub neg : length (countsOf (L .neg) h l) ≤ length (o .neg)
 
   pub fit-of : (l : List ℕ) → roomy L w h l (roomOf o) ≡ true → Fit l
   unfolding roomy
   fit-of l e =
       let a = and-true (leb (length l) (roomOf o .points)) _ e in
-      let b = and-true (leb (length (posCounts L w h l)) (length (o .pos))) _ (a .1) in
+      let b = and-true (leb (length (countsOf (L .pos) h l)) (length (o .pos))) _ (a .1) in
       let c = fewest-both (length l) (length (o .sets)) (length (o .words)) (a .0) in
       record { sets = c .0; words = c .1; pos = leb-true _ _ (b .0); neg = leb-true _ _ (b .1) }
 
@@ -63,8 +63,8 @@ module _ {K : Kind} {S : Store K} (L : Lister S) (w : S .Switches) (h : Held (S 
   pub fit-front : (a c : List ℕ) → Fit (a ++ c) → Fit a
   fit-front a c g =
       let n = length-append a c in
-      let p = ap length (pos-append L w h a c) ∙ length-append (posCounts L w h a) (posCounts L w h c) in
-      let m = ap length (neg-append L w h a c) ∙ length-append (negCounts L w h a) (negCounts L w h c) in
+      let p = ap length (counts-append (L .pos) h a c) ∙ length-append (countsOf (L .pos) h a) (countsOf (L .pos) h c) in
+      let m = ap length (counts-append (L .neg) h a c) ∙ length-append (countsOf (L .neg) h a) (countsOf (L .neg) h c) in
       record { sets = omega (arith, n, g .sets); words = omega (arith, n, g .words); pos = omega (arith, p, g .pos); neg = omega (arith, m, g .neg) }
 
   -- the stores keep their lengths
@@ -77,10 +77,10 @@ module _ {K : Kind} {S : Store K} (L : Lister S) (w : S .Switches) (h : Held (S 
   pub laid-long : (l : List ℕ) → Fit l → Long l
   laid-long l g =
       record {
-        sets = length-over (setRows L w (h .kept) l) (o .sets) (omega (arith, length-map l row, g .sets));
-        words = length-over (wordRows L w h l) (o .words) (omega (arith, length-map l (λ x. L .words w (h .cells) x (u x)), g .words));
-        pos = length-over (posCounts L w h l) (o .pos) (g .pos);
-        neg = length-over (negCounts L w h l) (o .neg) (g .neg);
+        sets = length-over (map row l) (o .sets) (omega (arith, length-map l row, g .sets));
+        words = length-over (map (λ x. L .words w (h .cells) x (u x)) l) (o .words) (omega (arith, length-map l (λ x. L .words w (h .cells) x (u x)), g .words));
+        pos = length-over (countsOf (L .pos) h l) (o .pos) (g .pos);
+        neg = length-over (countsOf (L .neg) h l) (o .neg) (g .neg);
       }
 
   pub put-none : putSlots L w h [] o ≡ left (record { place = 0; pos = 0; neg = 0 }) o
@@ -96,18 +96,18 @@ module _ {K : Kind} {S : Store K} (L : Lister S) (w : S .Switches) (h : Held (S 
   put-more l x m n =
       let a = rows-snoc row l x (o .sets) m in
       let b = rows-snoc (λ y. L .words w (h .cells) y (u y)) l x (o .words) n in
-      let p : overAt (length (posCounts L w h l)) (pos x) (over (posCounts L w h l) (o .pos)) ≡ over (posCounts L w h (l ++ (x ∷ []))) (o .pos) =
-      over-behind-front (posCounts L w h l) (pos x) (o .pos) ∙ ap (λ (t : List ℕ). over t (o .pos)) (sym (pos-snoc L w h l x)) in
-      let q : overAt (length (negCounts L w h l)) (neg x) (over (negCounts L w h l) (o .neg)) ≡ over (negCounts L w h (l ++ (x ∷ []))) (o .neg) =
-      over-behind-front (negCounts L w h l) (neg x) (o .neg) ∙ ap (λ (t : List ℕ). over t (o .neg)) (sym (neg-snoc L w h l x)) in
-      λ j. left (record { place = points-more L w h l x j; pos = pos-more L w h l x j; neg = neg-more L w h l x j })
+      let p : overAt (length (countsOf (L .pos) h l)) (pos x) (over (countsOf (L .pos) h l) (o .pos)) ≡ over (countsOf (L .pos) h (l ++ (x ∷ []))) (o .pos) =
+      over-behind-front (countsOf (L .pos) h l) (pos x) (o .pos) ∙ ap (λ (t : List ℕ). over t (o .pos)) (sym (counts-snoc (L .pos) h l x)) in
+      let q : overAt (length (countsOf (L .neg) h l)) (neg x) (over (countsOf (L .neg) h l) (o .neg)) ≡ over (countsOf (L .neg) h (l ++ (x ∷ []))) (o .neg) =
+      over-behind-front (countsOf (L .neg) h l) (neg x) (o .neg) ∙ ap (λ (t : List ℕ). over t (o .neg)) (sym (counts-snoc (L .neg) h l x)) in
+      λ j. left (record { place = points-more L w h l x j; pos = counts-more (L .pos) h l x j; neg = counts-more (L .neg) h l x j })
       (record { sets = a j; words = b j; pos = p j; neg = q j })
 
   place-of : (l : List ℕ) (x : ℕ) → Fit (l ++ (x ∷ [])) → Place (putSlots L w h l o .next) (laidOut L w h l o) (length (pos x)) (length (neg x))
   place-of l x g =
       let n = points-more L w h l x in
-      let p = pos-more L w h l x in
-      let m = neg-more L w h l x in
+      let p = counts-more (L .pos) h l x in
+      let m = counts-more (L .neg) h l x in
       let e = laid-long l (fit-front l (x ∷ []) g) in
       record {
         sets = omega (arith, n, g .sets, e .sets);
@@ -173,13 +173,13 @@ module _ {K : Kind} {S : Store K} (L : Lister S) (w : S .Switches) (h : Held (S 
   pub put-walked : (l : List ℕ)
       → putSlots L w (walked (h .kept .dir .used) (h .kept .stores .sets) (h .kept .stores .entries) (h .kept .stores .order) (h .cells)) l o ≡ putSlots L w h l o
   put-walked l =
-      let p = pos-walked L w h w (h .kept .stores .sets) l in
-      let n = neg-walked L w h w (h .kept .stores .sets) l in
+      let p = counts-walked (L .pos) h (h .kept .stores .sets) l in
+      let n = counts-walked (L .neg) h (h .kept .stores .sets) l in
       λ j.
       left (record { place = length l; pos = length (p j); neg = length (n j) })
       (record {
-        sets = over (setRows L w (h .kept) l) (o .sets);
-        words = over (wordRows L w h l) (o .words);
+        sets = over (map row l) (o .sets);
+        words = over (map (λ x. L .words w (h .cells) x (u x)) l) (o .words);
         pos = over (p j) (o .pos);
         neg = over (n j) (o .neg);
       })
@@ -188,6 +188,6 @@ module _ {K : Kind} {S : Store K} (L : Lister S) (w : S .Switches) (h : Held (S 
       → roomy L v (walked (h .kept .dir .used) sets (h .kept .stores .entries) (h .kept .stores .order) (h .cells)) l (roomOf o) ≡ roomy L w h l (roomOf o)
   unfolding roomy
   room-walked v sets l =
-      let p = pos-walked L w h v sets l in
-      let n = neg-walked L w h v sets l in
+      let p = counts-walked (L .pos) h sets l in
+      let n = counts-walked (L .neg) h sets l in
       λ j. leb (length l) (roomOf o .points) && (leb (length (p j)) (length (o .pos)) && leb (length (n j)) (length (o .neg)))

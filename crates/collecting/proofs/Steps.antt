@@ -38,9 +38,10 @@ use Rattle.value_map.proofs.Steps.{Fair}
 use Rattle.value_map.proofs.Kept.{good, fair-on}
 use Rattle.listing.specs.Listed.{Output}
 use Rattle.collecting.specs.Lister.{Lister}
-use Rattle.collecting.specs.Collected.{Collected, roomOf, slotsOf, dueOf, laidOut, agreeing, roomy, uncollected, collectedTo, unlessRefused, deltaCollected, cumulativeCollected, readFrom, answered}
+use Rattle.collecting.specs.Collected.{Collected, roomOf, slotsOf, dueOf, laidOut, agreeing, roomy, uncollected, collectedTo, deltaCollected, cumulativeCollected, readFrom, answered}
 use Rattle.collecting.proofs.Owed.{Listed, Lists}
 use Rattle.collecting.proofs.Back.{pointAt, reads-back}
+use Rattle.collecting.proofs.Ends.{collectedOn}
 use Rattle.collecting.proofs.Points.{delta-points, cumulative-points, sound-all, sound-in, room-is}
 
 -- an outcome as the map's
@@ -111,7 +112,7 @@ module _ {K : Kind} {S : Store K} (W : Owed S) (L : Lister S) (w : S .Switches) 
   -- ---- the outcome, by cases
   module _ (cumulative : Bool) (k′ : Kept) (o : Output) where
     abbrev ours : Collected (S .Cells)
-    ours = unlessRefused L w (uncollected L w cumulative limit h o) h o (collectedTo L w cumulative k′ h o)
+    ours = collectedTo L w cumulative k′ (uncollected L w cumulative limit h o) h o
 
     abbrev refusedBy : ℕ → Collected (S .Cells)
     refusedBy n = record { answer = refusal n; held = h; out = o }
@@ -122,12 +123,12 @@ module _ {K : Kind} {S : Store K} (W : Owed S) (L : Lister S) (w : S .Switches) 
         λ i. pick (g .lent-is i)
         (pick (eq-eqb (S .unset) 0 (g .set) i && (le-leb limit mostSets (within limit filter (g .accepted)) i && (g .agrees i && p i))) (pick (q i) 0 10) 8) 12
 
-    ours-is : (n : ℕ) → uncollected L w cumulative limit h o ≡ n → ours ≡ unlessRefused L w n h o (collectedTo L w cumulative k′ h o)
-    ours-is n e = ap (λ j. unlessRefused L w j h o (collectedTo L w cumulative k′ h o)) e
+    ours-is : (n : ℕ) → uncollected L w cumulative limit h o ≡ n → ours ≡ collectedTo L w cumulative k′ n h o
+    ours-is n e = ap (λ j. collectedTo L w cumulative k′ j h o) e
 
     pub by-cases : (P : Collected (S .Cells) → Type 0) → (agreeing L w h ≡ false → P (refusedBy 8))
         → (agreeing L w h ≡ true → roomy L w h (dueOf cumulative k) (roomOf o) ≡ false → P (refusedBy 10))
-        → (agreeing L w h ≡ true → roomy L w h (dueOf cumulative k) (roomOf o) ≡ true → P (collectedTo L w cumulative k′ h o)) → P ours
+        → (agreeing L w h ≡ true → roomy L w h (dueOf cumulative k) (roomOf o) ≡ true → P (collectedOn L w limit h o cumulative k′)) → P ours
     unfolding pick
     by-cases P eight ten on = at-agreeing (agreeing L w h) refl
       where
@@ -147,7 +148,7 @@ module _ {K : Kind} {S : Store K} (W : Owed S) (L : Lister S) (w : S .Switches) 
   -- and it is ours
   collects : L .Lent (h .cells) → (cumulative : Bool) (k′ : Kept) (o : Output) (after : Map K) → after ≡ view K (S .at (h .cells)) z (k′ .dir) (k′ .stores)
       → collecting (roomOf o) (agreeing L w h) (map (pointAt S w h) (dueOf cumulative k)) after
-      ≡ toldOf L w (unlessRefused L w (uncollected L w cumulative limit h o) h o (collectedTo L w cumulative k′ h o))
+      ≡ toldOf L w (collectedTo L w cumulative k′ (uncollected L w cumulative limit h o) h o)
   collects lendable cumulative k′ o after e =
       let ps = map (pointAt S w h) (dueOf cumulative k) in
       by-cases cumulative k′ o (λ c. collecting (roomOf o) (agreeing L w h) ps after ≡ toldOf L w c)

@@ -16,7 +16,7 @@ use Rattle.directory.specs.View.{updatedIn}
 use Rattle.value_map.specs.Store.{Store}
 use Rattle.value_map.specs.Calls.{Held}
 use Rattle.collecting.specs.Lister.{Lister}
-use Rattle.collecting.specs.Collected.{slotsOf, due, dueOf, posCounts, negCounts, agreeing}
+use Rattle.collecting.specs.Collected.{slotsOf, due, dueOf, countsOf, agreeing}
 use Rattle.collecting.specs.Slots.{unsound, oneMore, walked, surveyedAt, counted, surveyed}
 use Rattle.collecting.specs.declared.Survey.{Survey}
 use Rattle.collecting.proofs.Nexts.{slots-length, slots-all, only-yes, only-no, all-next, all-stop}
@@ -31,6 +31,27 @@ sound-yes : (b d : Bool) (s : Survey) (p n : ℕ) → pick b (pick d (oneMore s 
 unfolding pick
 sound-yes true d s p n e = refl
 sound-yes false d s p n e = e
+
+-- the counts of slots in one store
+module _ {Cells : Type 0} (counts : Cells → ℕ → Bool → List ℕ) (h : Held Cells) where
+  abbrev cs : ℕ → List ℕ
+  cs x = counts (h .cells) x (updatedIn (h .kept .stores .entries) x)
+
+  pub counts-append : (a c : List ℕ) → countsOf counts h (a ++ c) ≡ countsOf counts h a ++ countsOf counts h c
+  counts-append [] c = refl
+  counts-append (x ∷ a) c = ap (λ (t : List ℕ). cs x ++ t) (counts-append a c) ∙ sym (append-assoc (cs x) (countsOf counts h a) (countsOf counts h c))
+
+  pub counts-snoc : (a : List ℕ) (x : ℕ) → countsOf counts h (a ++ (x ∷ [])) ≡ countsOf counts h a ++ cs x
+  counts-snoc a x = counts-append a (x ∷ []) ∙ ap (λ (t : List ℕ). countsOf counts h a ++ t) (append-nil (cs x))
+
+  pub counts-more : (l : List ℕ) (x : ℕ) → length (countsOf counts h l) + length (cs x) ≡ length (countsOf counts h (l ++ (x ∷ [])))
+  counts-more l x = sym (ap length (counts-snoc l x) ∙ length-append (countsOf counts h l) (cs x))
+
+  -- a walk reads the slots, their entries and the cells, and nothing else of the map
+  pub counts-walked : (sets : List (List ℕ)) (l : List ℕ)
+      → countsOf counts (walked (h .kept .dir .used) sets (h .kept .stores .entries) (h .kept .stores .order) (h .cells)) l ≡ countsOf counts h l
+  counts-walked sets [] = refl
+  counts-walked sets (x ∷ l) = ap (λ (t : List ℕ). cs x ++ t) (counts-walked sets l)
 
 module _ {K : Kind} {S : Store K} (L : Lister S) (w : S .Switches) (h : Held (S .Cells)) where
   abbrev k : Kept
@@ -55,20 +76,6 @@ module _ {K : Kind} {S : Store K} (L : Lister S) (w : S .Switches) (h : Held (S 
   abbrev ns : ℕ → List ℕ
   ns x = L .neg (h .cells) x (updatedIn (h .kept .stores .entries) x)
 
-  pub pos-append : (a c : List ℕ) → posCounts L w h (a ++ c) ≡ posCounts L w h a ++ posCounts L w h c
-  pos-append [] c = refl
-  pos-append (x ∷ a) c = ap (λ (t : List ℕ). ps x ++ t) (pos-append a c) ∙ sym (append-assoc (ps x) (posCounts L w h a) (posCounts L w h c))
-
-  pub neg-append : (a c : List ℕ) → negCounts L w h (a ++ c) ≡ negCounts L w h a ++ negCounts L w h c
-  neg-append [] c = refl
-  neg-append (x ∷ a) c = ap (λ (t : List ℕ). ns x ++ t) (neg-append a c) ∙ sym (append-assoc (ns x) (negCounts L w h a) (negCounts L w h c))
-
-  pub pos-snoc : (a : List ℕ) (x : ℕ) → posCounts L w h (a ++ (x ∷ [])) ≡ posCounts L w h a ++ ps x
-  pos-snoc a x = pos-append a (x ∷ []) ∙ ap (λ (t : List ℕ). posCounts L w h a ++ t) (append-nil (ps x))
-
-  pub neg-snoc : (a : List ℕ) (x : ℕ) → negCounts L w h (a ++ (x ∷ [])) ≡ negCounts L w h a ++ ns x
-  neg-snoc a x = neg-append a (x ∷ []) ∙ ap (λ (t : List ℕ). negCounts L w h a ++ t) (append-nil (ns x))
-
   pub in-slots : (i : ℕ) → i ≤ used → i < length slots
   in-slots i n = omega (arith, slots-length (h .kept .stores .order) used)
 
@@ -82,34 +89,20 @@ module _ {K : Kind} {S : Store K} (L : Lister S) (w : S .Switches) (h : Held (S 
 
   -- a slot more that is due
   abbrev tally : List ℕ → Survey
-  tally l = record { sound = true; points = length l; pos = length (posCounts L w h l); neg = length (negCounts L w h l) }
+  tally l = record { sound = true; points = length l; pos = length (countsOf (L .pos) h l); neg = length (countsOf (L .neg) h l) }
 
   pub points-more : (l : List ℕ) (x : ℕ) → length l + 1 ≡ length (l ++ (x ∷ []))
   points-more l x = sym (length-append l (x ∷ []))
 
-  pub pos-more : (l : List ℕ) (x : ℕ) → length (posCounts L w h l) + length (ps x) ≡ length (posCounts L w h (l ++ (x ∷ [])))
-  pos-more l x = sym (ap length (pos-snoc l x) ∙ length-append (posCounts L w h l) (ps x))
-
-  pub neg-more : (l : List ℕ) (x : ℕ) → length (negCounts L w h l) + length (ns x) ≡ length (negCounts L w h (l ++ (x ∷ [])))
-  neg-more l x = sym (ap length (neg-snoc l x) ∙ length-append (negCounts L w h l) (ns x))
-
   tally-more : (l : List ℕ) (x : ℕ) → oneMore (tally l) (length (ps x)) (length (ns x)) ≡ tally (l ++ (x ∷ []))
-  tally-more l x = λ j. record { sound = true; points = points-more l x j; pos = pos-more l x j; neg = neg-more l x j }
+  tally-more l x = λ j. record { sound = true; points = points-more l x j; pos = counts-more (L .pos) h l x j; neg = counts-more (L .neg) h l x j }
 
-  -- a walk reads the slots, their entries and the cells, and nothing else of the map
+  -- the map as a walk reads it
   abbrev read : List (List ℕ) → Held (S .Cells)
   read sets = walked used sets (h .kept .stores .entries) (h .kept .stores .order) (h .cells)
 
   -- nor does it read the switches, but to see whether series agree
   module _ (v : S .Switches) (sets : List (List ℕ)) where
-    pub pos-walked : (l : List ℕ) → posCounts L v (read sets) l ≡ posCounts L w h l
-    pos-walked [] = refl
-    pos-walked (x ∷ l) = ap (λ (t : List ℕ). ps x ++ t) (pos-walked l)
-
-    pub neg-walked : (l : List ℕ) → negCounts L v (read sets) l ≡ negCounts L w h l
-    neg-walked [] = refl
-    neg-walked (x ∷ l) = ap (λ (t : List ℕ). ns x ++ t) (neg-walked l)
-
     pub all-walked : ((x : ℕ) → K .agrees (S .settings v) (S .at (h .cells) x) ≡ K .agrees (S .settings w) (S .at (h .cells) x)) → (l : List ℕ)
         → all (λ x. not (u x) || K .agrees (S .settings v) (S .at (h .cells) x)) l ≡ all agreed l
     all-walked e [] = refl
@@ -165,4 +158,4 @@ module _ {K : Kind} {S : Store K} (L : Lister S) (w : S .Switches) (h : Held (S 
         let l = dueOf cumulative (h .kept) in
         λ j.
         pick (all-walked v sets e slots j)
-        (record { sound = true; points = length l; pos = length (pos-walked v sets l j); neg = length (neg-walked v sets l j) }) unsound
+        (record { sound = true; points = length l; pos = length (counts-walked (L .pos) h sets l j); neg = length (counts-walked (L .neg) h sets l j) }) unsound

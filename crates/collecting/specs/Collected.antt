@@ -56,30 +56,20 @@ due cumulative k x = updatedIn (k .stores .entries) x || (cumulative && not (eqb
 abbrev pub dueOf : Bool → Kept → List ℕ
 dueOf cumulative k = only (due cumulative k) (slotsOf k)
 
+-- the counts of slots in one of two stores, one slot's behind the other's
+abbrev pub countsOf : {Cells : Type 0} → (Cells → ℕ → Bool → List ℕ) → Held Cells → List ℕ → List ℕ
+countsOf counts h [] = []
+countsOf counts h (x ∷ l) = counts (h .cells) x (updatedIn (h .kept .stores .entries) x) ++ countsOf counts h l
+
 module _ {K : Kind} {S : Store K} (L : Lister S) (w : S .Switches) where
-  -- what is written for a list of slots
-  abbrev pub setRows : Kept → List ℕ → List (List ℕ)
-  setRows k l = map (λ x. rowOf (setAt (k .stores .sets) x)) l
-
-  abbrev pub wordRows : Held (S .Cells) → List ℕ → List (List ℕ)
-  wordRows h l = map (λ x. L .words w (h .cells) x (updatedIn (h .kept .stores .entries) x)) l
-
-  abbrev pub posCounts : Held (S .Cells) → List ℕ → List ℕ
-  posCounts h [] = []
-  posCounts h (x ∷ l) = L .pos (h .cells) x (updatedIn (h .kept .stores .entries) x) ++ posCounts h l
-
-  abbrev pub negCounts : Held (S .Cells) → List ℕ → List ℕ
-  negCounts h [] = []
-  negCounts h (x ∷ l) = L .neg (h .cells) x (updatedIn (h .kept .stores .entries) x) ++ negCounts h l
-
-  -- "Lent output past the result keeps what it held."
+  -- the sets, points and counts of a list of slots. "Lent output past the result keeps what it held."
   abbrev pub laidOut : Held (S .Cells) → List ℕ → Output → Output
   laidOut h l o =
       record {
-        sets = over (setRows (h .kept) l) (o .sets);
-        words = over (wordRows h l) (o .words);
-        pos = over (posCounts h l) (o .pos);
-        neg = over (negCounts h l) (o .neg);
+        sets = over (map (λ x. rowOf (setAt (h .kept .stores .sets) x)) l) (o .sets);
+        words = over (map (λ x. L .words w (h .cells) x (updatedIn (h .kept .stores .entries) x)) l) (o .words);
+        pos = over (countsOf (L .pos) h l) (o .pos);
+        neg = over (countsOf (L .neg) h l) (o .neg);
       }
 
   -- "8: .. touched series disagrees with itself": a series is touched where its entry was updated
@@ -87,7 +77,7 @@ module _ {K : Kind} {S : Store K} (L : Lister S) (w : S .Switches) where
   agreeing h = all (λ x. not (updatedIn (h .kept .stores .entries) x) || K .agrees (S .settings w) (S .at (h .cells) x)) (slotsOf (h .kept))
 
   unfoldable pub roomy : Held (S .Cells) → List ℕ → Room → Bool
-  roomy h l r = leb (length l) (r .points) && (leb (length (posCounts h l)) (r .pos) && leb (length (negCounts h l)) (r .neg))
+  roomy h l r = leb (length l) (r .points) && (leb (length (countsOf (L .pos) h l)) (r .pos) && leb (length (countsOf (L .neg) h l)) (r .neg))
 
   -- "Collecting: 12, 8, 10"; 0 if none. 8 also where configuring could not have accepted the settings and the limit.
   unfoldable pub uncollected : Bool → ℕ → Held (S .Cells) → Output → ℕ
@@ -98,27 +88,21 @@ module _ {K : Kind} {S : Store K} (L : Lister S) (w : S .Switches) where
       8)
       12
 
-  -- the points of the slots that are due, in the output; the map is k then
-  abbrev pub collectedTo : Bool → Kept → Held (S .Cells) → Output → Collected (S .Cells)
-  collectedTo cumulative k h o =
-      record {
-        answer = success (length (dueOf cumulative (h .kept)));
-        held = record { kept = k; cells = h .cells };
-        out = laidOut h (dueOf cumulative (h .kept)) o;
-      }
-
-  -- "Every refusal changes nothing."
-  abbrev pub unlessRefused : ℕ → Held (S .Cells) → Output → Collected (S .Cells) → Collected (S .Cells)
-  unlessRefused n h o c = pick (eqb n 0) c (record { answer = refusal n; held = h; out = o })
+  -- refused with the number n, "Every refusal changes nothing.", or the points of the slots that are due in the output; the map is k then
+  abbrev pub collectedTo : Bool → Kept → ℕ → Held (S .Cells) → Output → Collected (S .Cells)
+  collectedTo cumulative k n h o =
+      let l = dueOf cumulative (h .kept) in
+      pick (eqb n 0) (record { answer = success (length l); held = record { kept = k; cells = h .cells }; out = laidOut h l o })
+      (record { answer = refusal n; held = h; out = o })
 
   -- DELTA: "updated entries are listed and reset; others, without bindings and not overflow, are removed, the count falls by them, and their
   -- places serve new sets". An entry that is reset has no series: no cell is written.
   unfoldable pub deltaCollected : ℕ → Held (S .Cells) → Output → Collected (S .Cells)
-  deltaCollected limit h o = unlessRefused (uncollected false limit h o) h o (collectedTo false (sweptKept (h .kept)) h o)
+  deltaCollected limit h o = collectedTo false (sweptKept (h .kept)) (uncollected false limit h o) h o
 
   -- CUMULATIVE (`LowMemory` too): the map stays
   unfoldable pub cumulativeCollected : ℕ → Held (S .Cells) → Output → Collected (S .Cells)
-  cumulativeCollected limit h o = unlessRefused (uncollected true limit h o) h o (collectedTo true (h .kept) h o)
+  cumulativeCollected limit h o = collectedTo true (h .kept) (uncollected true limit h o) h o
 
 -- THE READER: n points of a list from a cursor on, each with its set, as long as one is found at the cursor, with the cursor of the next
 abbrev pub readFrom : {A : Type 0} → (Cursor → Output → Option (A × Cursor)) → ℕ → Cursor → Output → List (Set × A)

@@ -19,7 +19,7 @@ use Rattle.listing.specs.declared.Cursor.{Cursor}
 use Rattle.listing.specs.Listed.{Output, overAt}
 use Rattle.listing.specs.Inner.{Put, left}
 use Rattle.collecting.specs.Lister.{Lister}
-use Rattle.collecting.specs.Collected.{roomOf, slotsOf, due, dueOf, posCounts, negCounts, agreeing, laidOut, roomy}
+use Rattle.collecting.specs.Collected.{roomOf, slotsOf, due, dueOf, countsOf, agreeing, laidOut, roomy}
 use Rattle.collecting.specs.declared.Survey.{Survey}
 
 -- ---- deciding by reading
@@ -103,7 +103,7 @@ module _ {K : Kind} {S : Store K} (L : Lister S) (w : S .Switches) where
   abbrev pub counted : Bool → Held (S .Cells) → List ℕ → Survey
   counted cumulative h l =
       let d = only (due cumulative (h .kept)) l in
-      record { sound = true; points = length d; pos = length (posCounts L w h d); neg = length (negCounts L w h d) }
+      record { sound = true; points = length d; pos = length (countsOf (L .pos) h d); neg = length (countsOf (L .neg) h d) }
 
   unfoldable pub surveyed : Bool → Held (S .Cells) → Survey
   surveyed cumulative h = pick (agreeing L w h) (counted cumulative h (slotsOf (h .kept))) unsound
@@ -136,7 +136,7 @@ module _ {K : Kind} {S : Store K} (L : Lister S) (w : S .Switches) where
   -- the points of slots, in the output
   abbrev pub putSlots : Held (S .Cells) → List ℕ → Output → Put
   putSlots h l o =
-      left (record { place = length l; pos = length (posCounts L w h l); neg = length (negCounts L w h l) }) (laidOut L w h l o)
+      left (record { place = length l; pos = length (countsOf (L .pos) h l); neg = length (countsOf (L .neg) h l) }) (laidOut L w h l o)
 
   -- the points that are due, in the output
   abbrev pub listedTo : Bool → Held (S .Cells) → Output → Put

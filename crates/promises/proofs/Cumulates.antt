@@ -24,8 +24,9 @@ use Rattle.value_map.specs.Maps.{mapOf, configOf}
 use Rattle.value_map.proofs.Owed.{Owed}
 use Rattle.listing.specs.Listed.{Output}
 use Rattle.collecting.specs.Lister.{Lister}
-use Rattle.collecting.specs.Collected.{roomOf, uncollected, collectedTo, cumulativeCollected}
+use Rattle.collecting.specs.Collected.{roomOf, uncollected, cumulativeCollected}
 use Rattle.collecting.proofs.Owed.{Lists}
+use Rattle.collecting.proofs.Ends.{collectedOn}
 use Rattle.collecting.proofs.Steps.{cumulative-steps}
 use Rattle.promises.specs.Runs.{collecting, run, Cumulates}
 use Rattle.promises.proofs.Runs.{Keeps, Ready, faithful}
@@ -50,7 +51,7 @@ module _ {K : Kind} {S : Store K} (L : Lister S) (w : S .Switches) (limit : ℕ)
   unfolding cumulativeCollected pick
   stays = go (eqb (uncollected L w true limit h o) 0)
     where
-      go : (b : Bool) → pick b (collectedTo L w true (h .kept) h o) (record { answer = refusal (uncollected L w true limit h o); held = h; out = o }) .held ≡ h
+      go : (b : Bool) → pick b (collectedOn L w limit h o true (h .kept)) (record { answer = refusal (uncollected L w true limit h o); held = h; out = o }) .held ≡ h
       go true = refl
       go false = refl
 

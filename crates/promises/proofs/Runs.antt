@@ -40,9 +40,10 @@ use Rattle.value_map.proofs.Steps.{Fair, rowIn, seatOf, seatBy, set-either, han
 use Rattle.value_map.proofs.Kept.{good, fair-on, measure-fair, handle-fair}
 use Rattle.listing.specs.Listed.{Output}
 use Rattle.collecting.specs.Lister.{Lister}
-use Rattle.collecting.specs.Collected.{uncollected, collectedTo, deltaCollected}
+use Rattle.collecting.specs.Collected.{uncollected, deltaCollected}
 use Rattle.promises.specs.Runs.{Asked, recording, recordingBy, binding, releasing, collecting, asks, ended, run}
 use Rattle.collecting.proofs.Owed.{Lists}
+use Rattle.collecting.proofs.Ends.{collectedOn}
 use Rattle.collecting.proofs.Steps.{delta-steps, delta-fair}
 
 -- ---- WHAT A KIND OWES beside: a recording leaves cells that can be lent, if it was given such
@@ -99,7 +100,7 @@ module _ {K : Kind} {S : Store K} (L : Lister S) (w : S .Switches) (limit : ℕ)
   unfolding deltaCollected pick
   delta-cells = go (eqb (uncollected L w false limit h o) 0)
     where
-      go : (b : Bool) → pick b (collectedTo L w false (sweptKept (h .kept)) h o) (record { answer = refusal (uncollected L w false limit h o); held = h; out = o }) .held .cells ≡ h .cells
+      go : (b : Bool) → pick b (collectedOn L w limit h o false (sweptKept (h .kept))) (record { answer = refusal (uncollected L w false limit h o); held = h; out = o }) .held .cells ≡ h .cells
       go true = refl
       go false = refl
 

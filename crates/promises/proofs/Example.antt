@@ -200,5 +200,5 @@ values = ap (λ (a : List (Answer histograms)). gained histograms c asks a A) an
 stands : Stands (c .settings) (handedIn all) (five ∷ less ∷ seven ∷ [])
 stands =
     subst (Stands (c .settings) (handedIn all)) values
-    (demanded .pools A 0 refl (ap (any histograms) values) .stands (node (leaf s₁) (leaf s₂)) (subst (λ l. List·Permᴰ l (s₁ ∷ s₂ ∷ [])) (sym points) (Permᴰ·refl (s₁ ∷ s₂ ∷ []))) all
-    (s₁, s₂, 0 ∷ 0 ∷ 0 ∷ [], [], refl, refl, together))
+    ((demanded .pools A 0 refl (ap (any histograms) values) .stands (node (leaf s₁) (leaf s₂)) (subst (λ l. List·Permᴰ l (s₁ ∷ s₂ ∷ [])) (sym points) (Permᴰ·refl (s₁ ∷ s₂ ∷ []))) all
+    (s₁, s₂, 0 ∷ 0 ∷ 0 ∷ [], [], refl, refl, together)) .0)

@@ -357,8 +357,7 @@ module _ (z : Settings) where
     all-pooled some size u =
         record {
           there = some;
-          stands = λ t h x g. whole size u t h x g .stands;
-          shows = λ t h x g. shown z k size u vs x (whole size u t h x g);
+          stands = λ t h x g. (whole size u t h x g .stands, shown z k size u vs x (whole size u t h x g));
           onlyTen = λ s t rest h x y g j us vs n e.
               let f = front (leaves s ++ leaves t) rest h in
               two-ten z k size u s t (f .pairs) (f .points-are) (f .each) (f .fewer) x y g j us vs n e;

@@ -52,16 +52,15 @@ pub record Pools (z : Settings) (ps : List Stored) (values : List Float) (size :
   pub there : 0 < length ps
   -- "its points merged one by one in any order", and in any grouping, either argument first, into whatever rows were lent to each merge: the result
   -- has "exactly the scale, offsets, all counts, minimum and maximum (a zero's sign aside) that document 01 defines from its collected values. The
-  -- sum too, if ..": `Stands` says each of them
-  pub stands : (t : Tree Stored) → List·Permᴰ ps (leaves t) → (x : Stored) → Groups size t x → Stands z (handedIn x) values
-  -- its scale and offsets as they leave, signed
-  pub shows : (t : Tree Stored) → List·Permᴰ ps (leaves t) → (x : Stored) → Groups size t x → Shows (z .kind) (z .threshold) values (x .point .figures)
+  -- sum too, if ..": `Stands` says each of them, `Shows` scale and offsets as they leave, signed
+  pub stands : (t : Tree Stored) → List·Permᴰ ps (leaves t) → (x : Stored) → Groups size t x
+      → Stands z (handedIn x) values × Shows (z .kind) (z .threshold) values (x .point .figures)
   -- "A merge is refused only with 10": of what any groupings of some of the points left
-  pub onlyTen : (s t : Tree Stored) (rest : List Stored) → List·Permᴰ ps ((leaves s ++ leaves t) ++ rest) → (x y : Stored) → Groups size s x → Groups size t y
-      → (us vs : List ℕ) (n : ℕ) → merging size x y us vs .answer ≡ refusal n → n ≡ 10
+  pub onlyTen : (s t : Tree Stored) (rest : List Stored) → List·Permᴰ ps ((leaves s ++ leaves t) ++ rest) → (x y : Stored)
+      → Groups size s x → Groups size t y → (us vs : List ℕ) (n : ℕ) → merging size x y us vs .answer ≡ refusal n → n ≡ 10
   -- "and repeated with longer output": in rows with room for any point of the configuration it is accepted
-  pub accepted : (s t : Tree Stored) (rest : List Stored) → List·Permᴰ ps ((leaves s ++ leaves t) ++ rest) → (x y : Stored) → Groups size s x → Groups size t y
-      → (us vs : List ℕ) → Long (z .kind) us vs → (a : Stored) × (merging size x y us vs .answer ≡ success a)
+  pub accepted : (s t : Tree Stored) (rest : List Stored) → List·Permᴰ ps ((leaves s ++ leaves t) ++ rest) → (x y : Stored)
+      → Groups size s x → Groups size t y → (us vs : List ℕ) → Long (z .kind) us vs → (a : Stored) × (merging size x y us vs .answer ≡ success a)
   -- so every grouping comes to an end, in such rows
   pub every : (t : Tree Stored) → List·Permᴰ ps (leaves t) → (us vs : List ℕ) → Long (z .kind) us vs → (x : Stored) × Groups size t x
 

@@ -104,19 +104,15 @@ abbrev pub said : Answer → Said Point
 said (Refused n) = refusal n
 said (Merged p) = success p
 
--- a merged point as it is stored: with the first's bounds, its counts in the lent rows
-abbrev pub storedAs : Said Point → List Float → List ℕ → List ℕ → Said Stored
-storedAs (refusal n) bs us vs = refusal n
-storedAs (success p) bs us vs = success (storedIn p bs us vs)
-
 -- the answer, and both lent rows afterwards
 pub record Outcome : Type 0 where
   pub answer : Said Stored
   pub pos : List ℕ
   pub neg : List ℕ
 
+-- a merged point is stored with the first's bounds, its counts in the lent rows
 abbrev pub ended : Said Point → List Float → List ℕ → List ℕ → Outcome
-ended r bs us vs = record { answer = storedAs r bs us vs; pos = us; neg = vs }
+ended r bs us vs = record { answer = elim r [ refusal n ↦ refusal n | success p ↦ success (storedIn p bs us vs) ]; pos = us; neg = vs }
 
 -- as a contract writes it: the answer, the first's bounds and the two lent rows
 abbrev pub outcome : Answer → RefT (List Float) → RefT (List ℕ) → RefT (List ℕ) → Outcome

@@ -1,6 +1,6 @@
 // What a script holds beside its stores; what the crates of the program `replay` share (docs/REPLAY.md).
 ghost use mathlib.Core.Path.{_≡_};
-ghost use Prim.Native.Nat.{_≤_, _<_, _%_};
+ghost use Prim.Native.Nat.{min, _%_};
 use directory::Directory;
 
 pub mod after;
@@ -94,7 +94,7 @@ pub fn first() -> State
 
 // The lesser of a number and a most.
 pub fn within(n: u64, most: usize) -> usize
-    ensures { λ r. ⌜ (r ≤ most) × (r ≤ n) ⌝ }
+    ensures { λ r. ⌜ r ≡ min n most ⌝ }
 {
     if n < most as u64 { n as usize } else { most }
 }

@@ -1,2 +1,3 @@
 -- The laws of `replay_state`.
 pub mod Front
+pub mod Binds

@@ -1,5 +1,10 @@
 // The state after a line: refused, accepted, and after each kind of call.
 ghost use mathlib.Core.Path.{_≡_};
+ghost use mathlib.Core.Option.{some};
+ghost use Rattle.laws.specs.Said.{success};
+ghost use Rattle.bindings.specs.Calls as bindings-calls;
+ghost use Rattle.collecting.specs.Collected.{said};
+ghost use Rattle.replay_state.specs.After.{answered, refusedBy, acceptedIn, notBegun, newlyBegun, doneBy, collectedBy};
 use crate::State;
 use bindings::Reply;
 use clock::Clock;
@@ -7,28 +12,20 @@ use directory::Directory;
 
 // A line that is refused with a number, or can't be read.
 pub fn refused(s: State, no: u8) -> State
-    ensures { λ r. ⌜ r .no ≡ no ⌝ }
+    ensures { λ r. ⌜ r ≡ refusedBy no s ⌝ }
 {
     let mut next = s;
     next.no = no;
     next
 }
 
-// A line that is accepted, and what it tells.
-pub fn accepted(s: State, told: u64) -> State
-    ensures { λ r. ⌜ (r .no ≡ 0) × (r .told ≡ told) ⌝ }
+// A line that is accepted, with the directory that its call leaves, and what it tells.
+fn accepted(s: State, dir: Directory, told: u64) -> State
+    ensures { λ r. ⌜ r ≡ acceptedIn dir told s ⌝ }
 {
     let mut next = s;
     next.no = 0;
     next.told = told;
-    next
-}
-
-// With another directory.
-fn with(s: State, dir: Directory) -> State
-    ensures { λ r. ⌜ r .dir ≡ dir ⌝ }
-{
-    let mut next = s;
     next.dir = dir;
     next
 }
@@ -37,7 +34,7 @@ fn with(s: State, dir: Directory) -> State
 
 // After an `n` that is refused: nothing waits.
 pub fn unbegun(s: State, no: u8) -> State
-    ensures { λ r. ⌜ r .no ≡ no ⌝ }
+    ensures { λ r. ⌜ r ≡ notBegun no s ⌝ }
 {
     let mut next = s;
     next.no = no;
@@ -49,9 +46,9 @@ pub fn unbegun(s: State, no: u8) -> State
 
 // After an accepted `n`: what was asked for, with what waited.
 pub fn begun(s: State, top: u32, dir: Directory) -> State
-    ensures { λ r. ⌜ (r .no ≡ 0) × (r .dir ≡ dir) ⌝ }
+    ensures { λ r. ⌜ r ≡ newlyBegun top dir s ⌝ }
 {
-    let mut next = unbegun(s, 0);
+    let mut next = s;
     let filter = s.next_filter;
     next.kind = crate::byte(s.f[1]);
     next.size = crate::cut(s.f[3]);
@@ -67,50 +64,69 @@ pub fn begun(s: State, top: u32, dir: Directory) -> State
     next.dir = dir;
     next.handles = [0u64; 100];
     next.start = s.f[10];
+    next.no = 0;
+    next.next_bounds = 0;
+    next.next_filtered = false;
+    next.next_keys = 0;
     next
 }
 
 // ---- recording, binding and releasing
 
-// A birth number put in the place of a handle.
-fn bound(s: State, birth: u64) -> State
-    ensures { λ r. ⌜ (r .no ≡ 0) × (r .told ≡ birth) ⌝ }
+// After a binding: the place of the line's handle holds the birth number.
+fn bound(s: State, dir: Directory, birth: u64) -> State
+    ensures { λ r. ⌜ r ≡ doneBy (success (some birth)) dir s ⌝ }
 {
-    let mut next = accepted(s, birth);
     let i = crate::within(s.f[1], 99);
+    let mut next = accepted(s, dir, birth);
     next.handles[i] = birth;
     next
 }
 
-pub fn done(s: State, reply: Reply) -> State {
+pub fn done(s: State, reply: Reply) -> State
+    ensures { λ r. ⌜ r ≡ doneBy (bindings-calls.said (reply .answer)) (reply .dir) s ⌝ }
+{
     let answer = reply.answer;
     let dir = reply.dir;
     match answer {
         bindings::Answer::Refused(no) => refused(s, no),
-        bindings::Answer::Done => accepted(with(s, dir), 0),
-        bindings::Answer::Handle(birth) => bound(with(s, dir), birth),
+        bindings::Answer::Done => accepted(s, dir, 0),
+        bindings::Answer::Handle(birth) => bound(s, dir, birth),
     }
 }
 
 // ---- collecting
 
-// After a collection of so many points, with the start that it hands out.
-fn turned(s: State, many: usize) -> State {
-    let held = Clock { start: s.start };
+// After a collection of so many points, which tells a start, and the clock holds another.
+fn listed(s: State, dir: Directory, many: usize, told: u64, start: u64) -> State
+    ensures { λ r. ⌜ r ≡ answered s 0 told dir (s .handles) start many ⌝ }
+{
     let mut next = s;
+    next.no = 0;
+    next.told = told;
+    next.dir = dir;
     next.listed = many;
+    next.start = start;
+    next
+}
+
+fn turned(s: State, dir: Directory, many: usize) -> State
+    ensures { λ r. ⌜ r ≡ collectedBy (success many) dir s ⌝ }
+{
+    let held = Clock { start: s.start };
     if s.delta {
         let t = clock::after_delta(held, 0, s.f[1]);
         let c = t.clock;
-        next.start = c.start;
-        return accepted(next, t.start);
+        return listed(s, dir, many, t.start, c.start);
     }
-    accepted(next, clock::at_cumulative(held))
+    listed(s, dir, many, clock::at_cumulative(held), s.start)
 }
 
-pub fn collected(s: State, dir: Directory, answer: collecting::Answer) -> State {
+pub fn collected(s: State, dir: Directory, answer: collecting::Answer) -> State
+    ensures { λ r. ⌜ r ≡ collectedBy (said answer) dir s ⌝ }
+{
     match answer {
         collecting::Answer::Refused(no) => refused(s, no),
-        collecting::Answer::Listed(many) => turned(with(s, dir), many),
+        collecting::Answer::Listed(many) => turned(s, dir, many),
     }
 }

@@ -1,4 +1,6 @@
 // Binding (`b`) and releasing (`u`), for maps of every kind.
+ghost use mathlib.Core.Path.{_≡_};
+ghost use Rattle.replay_state.specs.Bound.{lentStores, givenIn, afterBound};
 use crate::State;
 use crate::after;
 use crate::lent;
@@ -9,7 +11,9 @@ pub fn bind(
     sets: &mut [[u64; 9]],
     entries: &mut [[u64; 3]],
     order: &mut [u32],
-) -> State {
+) -> State
+    ensures { λ r. ⌜ r ≡ afterBound s (givenIn s (attrs .entry)) (lentStores s (sets .entry) (entries .entry) (order .entry)) ⌝ }
+{
     let n = s.entries;
     let filter = s.filter;
     if s.letter == b'b' {

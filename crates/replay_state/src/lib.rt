@@ -15,9 +15,9 @@ pub type Keys = [u32; 32];
 pub type Fields = [u64; 11];
 
 // The line that is followed, the kind whose call it makes, 0 where it makes none, and what it comes to: `no` is 0 where it is accepted,
-// document 01's number, or UNREAD; `told` the birth number of a binding or the start of a collection. What was configured, where `kind` is `e`, `x`, or 0 before any accepted `n`; the map's and the
-// clock's state, and the handles; what waits for the next `n`; how many counts and entries are lent, and how many points the last
-// collection has.
+// document 01's number, or UNREAD; `told` the birth number of a binding or the start of a collection. What was configured, where `kind` is
+// `e`, `x`, or 0 before any accepted `n`; the map's and the clock's state, and the handles; what waits for the next `n`; how many counts
+// and entries are lent, and how many points the last collection has.
 pub struct State {
     pub letter: u8,
     pub of: u8,

@@ -1,0 +1,3 @@
+-- The definitions that the contracts of `replay_state` cite.
+pub mod After
+pub mod Bound

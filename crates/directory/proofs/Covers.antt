@@ -12,6 +12,7 @@ use lib.ListN.{length, length-map}
 use Rattle.laws.specs.Pick.{pick}
 use Rattle.laws.proofs.Cases.{true-not-false}
 use Rattle.tally.specs.Sets.{Set, same, mem}
+use Rattle.tally.proofs.Choices.{pick-cases}
 use Rattle.tally.proofs.Order.{same-self, same-eq}
 use Rattle.tally.proofs.Rising.{pigeon}
 use Rattle.sets.specs.All.{allb}
@@ -29,23 +30,15 @@ others x zero = []
 others x (suc n) = pick (eqb (suc n) x) (others x n) (suc n ∷ others x n)
 
 others-le : (x n : ℕ) → length (others x n) ≤ n
-unfolding pick
 others-le x zero = omega arith
-others-le x (suc n) = go (eqb (suc n) x) (others-le x n)
-  where
-    go : (b : Bool) → length (others x n) ≤ n → length (pick b (others x n) (suc n ∷ others x n)) ≤ suc n
-    go true h = omega arith
-    go false h = omega arith
+others-le x (suc n) = let h = others-le x n in pick-cases (λ l. length l ≤ suc n) _ _ _ (λ e. omega (arith, h)) (λ e. omega (arith, h))
 
 others-few : (x n : ℕ) → 1 ≤ x → x ≤ n → length (others x n) < n
-unfolding pick
 others-few x zero a b = absurd (omega arith)
-others-few x (suc n) a b = go (others-few x n a) (eqb (suc n) x) refl
-  where
-    go : (x ≤ n → length (others x n) < n) → (t : Bool) → eqb (suc n) x ≡ t → length (pick t (others x n) (suc n ∷ others x n)) < suc n
-    go f true e = omega (arith, others-le x n)
-    go f false e =
-        ⊎-elim (λ q. absurd (eqb-false (suc n) x e (sym q))) (λ l. let h = f (omega arith) in omega arith) (eq-or-lt-of-le b)
+others-few x (suc n) a b =
+    pick-cases (λ l. length l < suc n) _ _ _
+    (λ e. omega (arith, others-le x n))
+    (λ e. ⊎-elim (λ q. absurd (eqb-false (suc n) x e (sym q))) (λ l. let h = others-few x n a (omega arith) in omega arith) (eq-or-lt-of-le b))
 
 others-in : (x n y : ℕ) → 1 ≤ y → y ≤ n → (y ≡ x → ⊥) → In y (others x n)
 unfolding pick

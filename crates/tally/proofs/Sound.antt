@@ -4,15 +4,17 @@ use mathlib.Core.Path.{_≡_, refl, ap, sym, subst, _∙_}
 use mathlib.Core.Bool.{Bool, true, false, _&&_}
 use mathlib.Core.List.{List, [], _∷_, map}
 use mathlib.Core.Option.{Option, none, some}
+use mathlib.Core.Logic.{⊎-elim}
 use lib.Dec.{eqb, ltb, leb}
 use lib.ListN.{length}
 use Rattle.laws.specs.Pick.{pick}
 use Rattle.laws.specs.Tests.{all}
-use Rattle.laws.proofs.Cases.{and-true, true-not-false, some-inj, none-not-some}
+use Rattle.laws.proofs.Cases.{and-true, true-not-false, none-not-some}
 use Rattle.tally.specs.Sets.{Set, overflow, three, cmp, same, canonical}
 use Rattle.tally.specs.Kind.{Kind, unless, firstOf, suffices}
 use Rattle.tally.specs.Map.{Config, Entry, Map, Call, measure, measureBy, bind, release, collect, Answer, refuse, done, handle, listed, Out, orRefused, named, find, current, sound, points, Points, Agrees}
-use Rattle.tally.proofs.MapSteps.{byHandle, put, Place, place, held, write, recorded, rebound, idle, reset, sweep, swept, fits, measureAt, bindAt, releaseAt, upfront, act, step}
+use Rattle.tally.proofs.Choices.{pick-cases, pick-some}
+use Rattle.tally.proofs.MapSteps.{byHandle, put, Place, place, held, write, recorded, rebound, sweep, swept, fits, measureAt, bindAt, releaseAt, upfront, act, step}
 use Rattle.tally.specs.Demand.{Code, answers, ran}
 use Rattle.tally.proofs.Faithful.{Faithful}
 use Rattle.tally.specs.Runs as Runs
@@ -44,9 +46,7 @@ module _ (K : Kind) where
 
     -- a search by a test finds what passes
     of-found : (x e : Entry K) (b : Bool) (o : Option (Entry K)) → p x ≡ true → (o ≡ some e → p e ≡ true) → pick b (some x) o ≡ some e → p e ≡ true
-    unfolding pick
-    of-found x e true o h k q = subst (λ y. p y ≡ true) (some-inj q) h
-    of-found x e false o h k q = k q
+    of-found x e b o h k q = ⊎-elim (λ a. subst (λ y. p y ≡ true) (a .1) h) k (pick-some _ _ _ _ q)
 
     all-find : (s : Set) (e : Entry K) (l : List (Entry K)) → all p l ≡ true → find K s l ≡ some e → p e ≡ true
     all-find s e [] k q = none-not-some q
@@ -109,13 +109,9 @@ module _ (K : Kind) (S : Steady K) (m : Map K) (z : K .valid (m .settings) ≡ t
   by (some e) s f g = g e (s e refl)
 
   all-sweep : (l : List (Entry K)) → all fine (sweep K l) ≡ true
-  unfolding fine pick
+  unfolding fine
   all-sweep [] = refl
-  all-sweep (e ∷ l) = go (all-sweep l) (idle K e)
-    where
-      go : all fine (sweep K l) ≡ true → (b : Bool) → all fine (pick b (sweep K l) (reset K e ∷ sweep K l)) ≡ true
-      go i true = i
-      go i false = i
+  all-sweep (e ∷ l) = let i = all-sweep l in pick-cases (λ r. all fine r ≡ true) _ _ _ (λ p. i) (λ p. i)
 
   -- a call with finite values
   abbrev Finite : Call K → Type 0

@@ -12,7 +12,7 @@ use Rattle.laws.specs.Pick.{pick}
 use Rattle.laws.specs.Lists.{only}
 use Rattle.laws.specs.Tests.{all}
 use Rattle.laws.specs.Counting.{sum}
-use Rattle.laws.proofs.Bools.{pick-true, pick-false}
+use Rattle.laws.proofs.Bools.{and-left, and-right, pick-true, pick-false}
 use Rattle.tally.specs.Kind.{Kind, Room, suffices}
 use Rattle.tally.specs.Sets.{Set, same}
 use Rattle.tally.specs.Map.{Entry, Points, points, sound, filled}
@@ -122,19 +122,10 @@ module _ {K : Kind} (S : Store K) (w : S .Switches) (h : Held (S .Cells)) where
   pub sound-in : (l : List ℕ) → all (λ x. not (u x) || K .agrees z (f x)) l ≡ true → (x : ℕ) → In x l → sound K z (there S (h .cells) x (u x)) ≡ true
   sound-in l a x i = sound-either K z (f x) (u x) ∙ all-in l a x i
     where
-      left : (b c : Bool) → (b && c) ≡ true → b ≡ true
-      left true c e = refl
-      left false c e = e
-
-      right : (b c : Bool) → (b && c) ≡ true → c ≡ true
-      right true c e = e
-      right false true e = refl
-      right false false e = e
-
       all-in : (l : List ℕ) → all (λ x. not (u x) || K .agrees z (f x)) l ≡ true → (x : ℕ) → In x l → (not (u x) || K .agrees z (f x)) ≡ true
       all-in [] a x i = absurd i
-      all-in (y ∷ l) a x (inl e) = ap (λ q. not (u q) || K .agrees z (f q)) e ∙ left (not (u y) || K .agrees z (f y)) (all (λ x. not (u x) || K .agrees z (f x)) l) a
-      all-in (y ∷ l) a x (inr i) = all-in l (right (not (u y) || K .agrees z (f y)) (all (λ x. not (u x) || K .agrees z (f x)) l) a) x i
+      all-in (y ∷ l) a x (inl e) = ap (λ q. not (u q) || K .agrees z (f q)) e ∙ and-left (not (u y) || K .agrees z (f y)) (all (λ x. not (u x) || K .agrees z (f x)) l) a
+      all-in (y ∷ l) a x (inr i) = all-in l (and-right (not (u y) || K .agrees z (f y)) (all (λ x. not (u x) || K .agrees z (f x)) l) a) x i
 
   -- ---- room
   module _ (L : Lister S) where

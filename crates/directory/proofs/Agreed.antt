@@ -1,7 +1,7 @@
 -- The cases of the count and of the places, and what agreement says of each slot and place. Assumes nothing.
 use Prim.Native.Nat.{ℕ, suc, _+_, _-_, _≤_, _<_, Ordering·lt}
 use mathlib.Core.Path.{_≡_, refl, ap, sym, _∙_}
-use mathlib.Core.Bool.{Bool, true, false, _&&_, _||_}
+use mathlib.Core.Bool.{Bool, true, false, _&&_, _||_, and-false}
 use mathlib.Core.List.{List, []}
 use native.Mathlib.Omega.{arith}
 use borrow.Author.Tests.{le-leb, lt-leb, lt-ltb, le-ltb, eq-eqb, ne-eqb, leb-true, ltb-true}
@@ -28,11 +28,7 @@ module _ (limit count used plain : ℕ) where
   count-plain h e = rw (le-leb count limit h, eq-eqb count plain e)
 
   pub count-none : count ≤ limit → (count ≡ plain → ⊥) → used ≤ plain → countsb limit count used plain ≡ false
-  count-none h n k = rw (le-leb count limit h, ne-eqb count plain n, le-ltb plain used k) (and-no (eqb count (plain + 1)))
-    where
-      and-no : (b : Bool) → (b && false) ≡ false
-      and-no true = refl
-      and-no false = refl
+  count-none h n k = rw (le-leb count limit h, ne-eqb count plain n, le-ltb plain used k) (and-false (eqb count (plain + 1)))
 
   pub count-more : count ≤ limit → (count ≡ plain → ⊥) → plain < used → count ≡ plain + 1 → countsb limit count used plain ≡ true
   count-more h n k e = rw (le-leb count limit h, ne-eqb count plain n, lt-ltb plain used k, eq-eqb count (plain + 1) e)

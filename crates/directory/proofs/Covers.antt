@@ -12,7 +12,7 @@ use lib.ListN.{length, length-map}
 use Rattle.laws.specs.Pick.{pick}
 use Rattle.laws.proofs.Cases.{true-not-false}
 use Rattle.tally.specs.Sets.{Set, same, mem}
-use Rattle.tally.proofs.Choices.{pick-cases}
+use Rattle.laws.proofs.Choices.{pick-cases}
 use Rattle.tally.proofs.Order.{same-self, same-eq}
 use Rattle.tally.proofs.Rising.{pigeon}
 use Rattle.sets.specs.All.{allb}

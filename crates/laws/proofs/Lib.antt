@@ -2,6 +2,7 @@ pub mod Cases
 pub mod Compare
 pub mod Perms
 pub mod Bools
+pub mod Choices
 pub mod Same
 pub mod Lists
 pub mod Over

@@ -9,20 +9,18 @@ use lib.Dec.{eqb, ltb, leb}
 use lib.ListN.{length}
 use Rattle.laws.specs.Pick.{pick}
 use Rattle.laws.specs.Tests.{all}
+use Rattle.laws.proofs.Bools.{and-intro}
 use Rattle.laws.proofs.Cases.{and-true, true-not-false, none-not-some}
 use Rattle.tally.specs.Sets.{Set, overflow, three, cmp, same, canonical}
 use Rattle.tally.specs.Kind.{Kind, unless, firstOf, suffices}
 use Rattle.tally.specs.Map.{Config, Entry, Map, Call, measure, measureBy, bind, release, collect, Answer, refuse, done, handle, listed, Out, orRefused, named, find, current, sound, points, Points, Agrees}
-use Rattle.tally.proofs.Choices.{pick-cases, pick-some}
+use Rattle.laws.proofs.Choices.{pick-cases, pick-some}
 use Rattle.tally.proofs.MapSteps.{byHandle, put, Place, place, held, write, recorded, rebound, sweep, swept, fits, measureAt, bindAt, releaseAt, upfront, act, step}
 use Rattle.tally.specs.Demand.{Code, answers, ran}
 use Rattle.tally.proofs.Faithful.{Faithful}
 use Rattle.tally.specs.Runs as Runs
 use Rattle.tally.proofs.Agree.{begins, step-agrees}
 use Rattle.tally.proofs.Placed.{Placed, heldOwn, madeOwn, heldOver, madeOver, placed}
-
-both : (a b : Bool) → a ≡ true → b ≡ true → (a && b) ≡ true
-both a b p q = rw (p, q)
 
 -- what a kind owes: agreement from the start, and kept by a value more
 pub record Steady (K : Kind) : Type 0 where
@@ -36,13 +34,13 @@ module _ (K : Kind) where
 
   module _ (p : Entry K → Bool) where
     all-put : (e : Entry K) (l : List (Entry K)) → p e ≡ true → all p l ≡ true → all p (put K e l) ≡ true
-    all-put e [] h k = both (p e) true h refl
+    all-put e [] h k = and-intro (p e) true h refl
     all-put e (x ∷ l) h k = let a = and-true (p x) (all p l) k in go (all-put e l h (a .1)) a (cmp (e .set) (x .set))
       where
         go : all p (put K e l) ≡ true → (p x ≡ true) × (all p l ≡ true) → (o : Ordering) → all p (three o (e ∷ x ∷ l) (e ∷ l) (x ∷ put K e l)) ≡ true
-        go i a Ordering·lt = both (p e) (all p (x ∷ l)) h k
-        go i a Ordering·eq = both (p e) (all p l) h (a .1)
-        go i a Ordering·gt = both (p x) (all p (put K e l)) (a .0) i
+        go i a Ordering·lt = and-intro (p e) (all p (x ∷ l)) h k
+        go i a Ordering·eq = and-intro (p e) (all p l) h (a .1)
+        go i a Ordering·gt = and-intro (p x) (all p (put K e l)) (a .0) i
 
     -- a search by a test finds what passes
     of-found : (x e : Entry K) (b : Bool) (o : Option (Entry K)) → p x ≡ true → (o ≡ some e → p e ≡ true) → pick b (some x) o ≡ some e → p e ≡ true
@@ -173,7 +171,7 @@ module _ (K : Kind) (S : Steady K) (c : Config K) (C : Code K) (F : Faithful K c
       let d = F .steps s x o y in
       let m = F .view s in
       let a = steps-steadily K S m v h c (C .asks x) in
-      both (Runs.quiet K (C .call s x .0)) (all (Runs.quiet K) (answers K C (C .call s x .1) xs))
+      and-intro (Runs.quiet K (C .call s x .0)) (all (Runs.quiet K) (answers K C (C .call s x .1) xs))
       (ap (λ q. Runs.quiet K (q .answer)) (d .1) ∙ a .quiet)
       (run-quiet xs (C .call s x .1) (d .0)
       (subst (λ q. Agrees K c (q .map)) (sym (d .1)) (step-agrees K c m y (C .asks x)))

@@ -4,7 +4,7 @@ use mathlib.Core.Path.{_≡_, refl, sym, ap, _∙_}
 use mathlib.Core.Logic.{inl, inr}
 use mathlib.Core.Bool.{Bool}
 use mathlib.Core.List.{List, [], _∷_, _++_, map, append-assoc}
-use mathlib.Core.Option.{Option, none, some}
+use mathlib.Core.Option.{Option, none, some, Option·map}
 use native.Mathlib.Omega.{arith}
 use lib.ListN.{length, getD, take, drop, length-append, length-drop}
 use lib.Seq.{take-append-seam, drop-append-seam, drop-drop, getD-drop}
@@ -103,18 +103,18 @@ module _ {K : Kind} {S : Store K} (L : Lister S) (w : S .Switches) (h : Held (S 
             in-neg = neg-end;
           }
 
-    reads-from : (l : List ℕ) (at : Cursor) → From l at → ((x : ℕ) → In x l → Read x) → readFrom found (length l) at o ≡ map (λ x. (set x, g x)) l
+    reads-from : (l : List ℕ) (at : Cursor) → From l at → ((x : ℕ) → In x l → Read x) → readFrom found (length l) at o ≡ some (map (λ x. (set x, g x)) l)
     reads-from [] at f r = refl
     reads-from (x ∷ l) at f r =
         let e = r x (inl refl) in
         let s = ap setOf (first-is x l at f (o .sets) (f .sets)) ∙ e .set-is in
-        ap (λ (y : Option (A × Cursor)). elim y [ none ↦ [] | some z ↦ (setOf (getD (o .sets) (at .place) []), z .0) ∷ readFrom found (length l) (z .1) o ])
+        ap (λ (y : Option (A × Cursor)). elim y [ none ↦ none | some z ↦ Option·map (λ q. (setOf (getD (o .sets) (at .place) []), z .0) ∷ q) (readFrom found (length l) (z .1) o) ])
         (e .found-is at o (lies x l at f))
-        ∙ (λ i. (s i, g x) ∷ reads-from l _ (next x l at f) (λ y m. r y (inr m)) i)
+        ∙ (λ i. Option·map (λ q. (s i, g x) ∷ q) (reads-from l _ (next x l at f) (λ y m. r y (inr m)) i))
 
   -- READ BACK: the points laid over lent output are those of the slots
   pub reads-back : (l : List ℕ) (o : Output) → ((x : ℕ) → In x l → Read x)
-      → readFrom found (length l) (record { place = 0; pos = 0; neg = 0 }) (laidOut L w h l o) ≡ map (λ x. (set x, g x)) l
+      → readFrom found (length l) (record { place = 0; pos = 0; neg = 0 }) (laidOut L w h l o) ≡ some (map (λ x. (set x, g x)) l)
   unfolding over
   reads-back l o r =
       reads-from (laidOut L w h l o) _ _ _ _ l (record { place = 0; pos = 0; neg = 0 })

@@ -4,7 +4,7 @@ use Prim.Native.Nat.{ℕ, zero, suc, _≤_}
 use mathlib.Core.Path.{_≡_, refl, sym, ap, subst, _∙_}
 use mathlib.Core.Bool.{Bool, true, false, not, _&&_, _||_}
 use mathlib.Core.List.{List, [], _∷_, map}
-use mathlib.Core.Option.{Option}
+use mathlib.Core.Option.{Option, some}
 use native.Mathlib.Omega.{arith}
 use lib.Dec.{eqb}
 use lib.ListN.{length, getD}
@@ -38,7 +38,7 @@ use Rattle.value_map.proofs.Steps.{Fair}
 use Rattle.value_map.proofs.Kept.{good, fair-on}
 use Rattle.listing.specs.Listed.{Output}
 use Rattle.collecting.specs.Lister.{Lister}
-use Rattle.collecting.specs.Collected.{Collected, roomOf, slotsOf, dueOf, laidOut, agreeing, roomy, uncollected, collectedTo, deltaCollected, cumulativeCollected, readFrom, answered}
+use Rattle.collecting.specs.Collected.{Collected, roomOf, slotsOf, dueOf, laidOut, agreeing, roomy, uncollected, collectedTo, deltaCollected, cumulativeCollected, readFrom, listedOr8, answered}
 use Rattle.collecting.proofs.Owed.{Listed, Lists}
 use Rattle.collecting.proofs.Back.{pointAt, reads-back}
 use Rattle.collecting.proofs.Ends.{collectedOn}
@@ -101,7 +101,7 @@ module _ {K : Kind} {S : Store K} (W : Owed S) (L : Lister S) (w : S .Switches) 
     listed-at : (x : ℕ) → In x (dueOf cumulative k) → Listed L w (h .cells) x (u x)
     listed-at x i = let e = due-known cumulative a x i in Q (h .cells) x (u x) (g .set) lendable (e .room) (e .sound-is)
 
-    read-back : (o : Output) → readFrom (L .found) (length (dueOf cumulative k)) (record { place = 0; pos = 0; neg = 0 }) (laidOut L w h (dueOf cumulative k) o) ≡ map (pointAt S w h) (dueOf cumulative k)
+    read-back : (o : Output) → readFrom (L .found) (length (dueOf cumulative k)) (record { place = 0; pos = 0; neg = 0 }) (laidOut L w h (dueOf cumulative k) o) ≡ some (map (pointAt S w h) (dueOf cumulative k))
     read-back o =
         reads-back L w h (L .found) (λ x. pointAt S w h x .1) (dueOf cumulative k) o
         (λ x i. record { found-is = listed-at x i .found; set-is = due-known cumulative a x i .set-is })
@@ -159,7 +159,7 @@ module _ {K : Kind} {S : Store K} (W : Owed S) (L : Lister S) (w : S .Switches) 
       (λ a r.
       ap (λ b. collecting (roomOf o) b ps after) a
       ∙ ap (λ b. orRefused K m (firstOf (unless b 10 ∷ [])) (record { answer = listed ps; map = after })) (roomy-is lendable cumulative a (roomOf o) ∙ r)
-      ∙ (λ i. record { answer = listed (sym (read-back lendable cumulative a o) i); map = e i }))
+      ∙ (λ i. record { answer = listedOr8 (sym (read-back lendable cumulative a o) i); map = e i }))
 
   -- DELTA is the map's step
   pub delta-steps : L .Lent (h .cells) → (o : Output) → step K (configOf S w limit filter) m (collect (roomOf o)) ≡ toldOf L w (deltaCollected L w limit h o)

@@ -2,7 +2,7 @@
 use Prim.Native.Nat.{ℕ, zero, suc, min}
 use mathlib.Core.Bool.{Bool, true, false, not, _&&_, _||_}
 use mathlib.Core.List.{List, [], _∷_, _++_, map}
-use mathlib.Core.Option.{Option, none, some}
+use mathlib.Core.Option.{Option, none, some, Option·map}
 use lib.Dec.{leb, eqb}
 use lib.ListN.{length, getD}
 use Rattle.laws.specs.Lists.{only}
@@ -12,7 +12,7 @@ use Rattle.laws.specs.Said.{Said, refusal, success}
 use Rattle.laws.specs.Tests.{all}
 use Rattle.tally.specs.Sets.{Set}
 use Rattle.tally.specs.Kind.{Kind, Room}
-use Rattle.tally.specs.Map.{Answer, refuse, listed}
+use Rattle.tally.specs.Map.{Points, Answer, refuse, listed}
 use Rattle.sets.specs.Rows.{span, setOf, rowOf}
 use Rattle.directory.specs.View.{setAt, agreesb, updatedIn}
 use Rattle.directory.specs.Calls.{Kept, mostSets}
@@ -104,16 +104,19 @@ module _ {K : Kind} {S : Store K} (L : Lister S) (w : S .Switches) where
   unfoldable pub cumulativeCollected : ℕ → Held (S .Cells) → Output → Collected (S .Cells)
   cumulativeCollected limit h o = collectedTo true (h .kept) (uncollected true limit h o) h o
 
--- THE READER: n points of a list from a cursor on, each with its set, as long as one is found at the cursor, with the cursor of the next
-abbrev pub readFrom : {A : Type 0} → (Cursor → Output → Option (A × Cursor)) → ℕ → Cursor → Output → List (Set × A)
-readFrom found zero at o = []
+-- THE READER: n points of a list from a cursor on, each with its set, the next one at the cursor that the one before gives; none unless all n are found
+abbrev pub readFrom : {A : Type 0} → (Cursor → Output → Option (A × Cursor)) → ℕ → Cursor → Output → Option (List (Set × A))
+readFrom found zero at o = some []
 readFrom found (suc n) at o =
-    elim (found at o) [ none ↦ [] | some x ↦ (setOf (getD (o .sets) (at .place) []), x .0) ∷ readFrom found n (x .1) o ]
+    elim (found at o) [ none ↦ none | some x ↦ Option·map (λ l. (setOf (getD (o .sets) (at .place) []), x .0) ∷ l) (readFrom found n (x .1) o) ]
 
 -- the points that a collection handed out: as many as it said, from the first place on
-abbrev pub pointsOut : {A Cells : Type 0} → (Cursor → Output → Option (A × Cursor)) → Collected Cells → List (Set × A)
-pointsOut found c = elim (c .answer) [ refusal n ↦ [] | success n ↦ readFrom found n (record { place = 0; pos = 0; neg = 0 }) (c .out) ]
+abbrev pub pointsOut : {A Cells : Type 0} → (Cursor → Output → Option (A × Cursor)) → Collected Cells → Option (List (Set × A))
+pointsOut found c = elim (c .answer) [ refusal n ↦ some [] | success n ↦ readFrom found n (record { place = 0; pos = 0; neg = 0 }) (c .out) ]
 
--- an answer as the map's
+-- an answer as the map's; a success without as many points as it says counts as 8, which no tally answers
+abbrev pub listedOr8 : {K : Kind} → Option (Points K) → Answer K
+listedOr8 ps = elim ps [ none ↦ refuse 8 | some l ↦ listed l ]
+
 abbrev pub answered : {K : Kind} {S : Store K} → Lister S → Collected (S .Cells) → Answer K
-answered L c = elim (c .answer) [ refusal n ↦ refuse n | success n ↦ listed (pointsOut (L .found) c) ]
+answered L c = elim (c .answer) [ refusal n ↦ refuse n | success n ↦ listedOr8 (pointsOut (L .found) c) ]

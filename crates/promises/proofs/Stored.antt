@@ -4,7 +4,7 @@ use mathlib.Core.Path.{_≡_, refl, ap, sym, subst, _∙_}
 use mathlib.Core.Logic.{inl, inr}
 use mathlib.Core.Bool.{Bool, true, false}
 use mathlib.Core.List.{List, [], _∷_, _++_, map, map-append}
-use mathlib.Core.Option.{Option, none, some, Option·map}
+use mathlib.Core.Option.{Option, none, some, Option·map, Option·getD}
 use lib.ListN.{getD}
 use lib.Ieee.{Float}
 use Rattle.laws.specs.Lists.{All}
@@ -30,7 +30,7 @@ use Rattle.value_map.proofs.Owed.{there, Owed}
 use Rattle.listing.specs.Listed.{Output}
 use Rattle.listing.specs.declared.Cursor.{Cursor}
 use Rattle.collecting.specs.Lister.{Lister}
-use Rattle.collecting.specs.Collected.{Collected, dueOf, deltaCollected, readFrom, pointsOut, answered}
+use Rattle.collecting.specs.Collected.{Collected, dueOf, deltaCollected, readFrom, pointsOut, listedOr8, answered}
 use Rattle.collecting.specs.Read.{foundAt}
 use Rattle.collecting.proofs.Owed.{Finds, Lists}
 use Rattle.collecting.proofs.Back.{reads-back}
@@ -83,30 +83,40 @@ module _ {S : Store histograms} (L : Lister S) (bounds : List Float) (T : Storin
   abbrev handing : Option (Stored × Cursor) → Option (Handed × Cursor)
   handing y = Option·map (λ (x : Stored × Cursor). (handedIn (x .0), x .1)) y
 
-  step-read : (n : ℕ) (s : Set) (o : Output) → ((at : Cursor) → map read (readFrom (foundAt bounds) n at o) ≡ readFrom (L .found) n at o)
-      → (y : Option (Stored × Cursor))
-      → map read (elim y [ none ↦ [] | some z ↦ (s, z .0) ∷ readFrom (foundAt bounds) n (z .1) o ])
-      ≡ elim (handing y) [ none ↦ [] | some z ↦ (s, z .0) ∷ readFrom (L .found) n (z .1) o ]
-  step-read n s o i none = refl
-  step-read n s o i (some z) = ap (λ t. (s, handedIn (z .0)) ∷ t) (i (z .1))
+  more-read : (p : Set × Stored) (y : Option (List (Set × Stored)))
+      → Option·map (map read) (Option·map (λ l. p ∷ l) y) ≡ Option·map (λ l. read p ∷ l) (Option·map (map read) y)
+  more-read p none = refl
+  more-read p (some l) = refl
 
-  from-read : (n : ℕ) (o : Output) (at : Cursor) → map read (readFrom (foundAt bounds) n at o) ≡ readFrom (L .found) n at o
+  step-read : (n : ℕ) (s : Set) (o : Output) → ((at : Cursor) → Option·map (map read) (readFrom (foundAt bounds) n at o) ≡ readFrom (L .found) n at o)
+      → (y : Option (Stored × Cursor))
+      → Option·map (map read) (elim y [ none ↦ none | some z ↦ Option·map (λ l. (s, z .0) ∷ l) (readFrom (foundAt bounds) n (z .1) o) ])
+      ≡ elim (handing y) [ none ↦ none | some z ↦ Option·map (λ l. (s, z .0) ∷ l) (readFrom (L .found) n (z .1) o) ]
+  step-read n s o i none = refl
+  step-read n s o i (some z) =
+      more-read (s, z .0) (readFrom (foundAt bounds) n (z .1) o) ∙ ap (λ y. Option·map (λ l. (s, handedIn (z .0)) ∷ l) y) (i (z .1))
+
+  from-read : (n : ℕ) (o : Output) (at : Cursor) → Option·map (map read) (readFrom (foundAt bounds) n at o) ≡ readFrom (L .found) n at o
   from-read zero o at = refl
   from-read (suc n) o at =
       let s = setOf (getD (o .sets) (at .place) []) in
       step-read n s o (from-read n o) (foundAt bounds at o)
-      ∙ ap (λ (y : Option (Handed × Cursor)). elim y [ none ↦ [] | some z ↦ (s, z .0) ∷ readFrom (L .found) n (z .1) o ]) (sym (T .found at o))
+      ∙ ap (λ (y : Option (Handed × Cursor)). elim y [ none ↦ none | some z ↦ Option·map (λ l. (s, z .0) ∷ l) (readFrom (L .found) n (z .1) o) ]) (sym (T .found at o))
 
   -- of one answer
   abbrev shown : Set → Answer histograms → List Handed
   shown r a = elim a [ refuse n ↦ [] | done ↦ [] | handle b ↦ [] | listed ps ↦ ofSet r ps ]
 
+  or-read : (r : Set) (y : Option (List (Set × Stored))) → map handedIn (ofSet r (Option·getD y [])) ≡ shown r (listedOr8 (Option·map (map read) y))
+  or-read r none = refl
+  or-read r (some l) = among-read r l
+
   by-read : (r : Set) (a : Said ℕ) (h : Held (S .Cells)) (o : Output)
-      → (let c : Collected (S .Cells) = record { answer = a; held = h; out = o } in map handedIn (ofSet r (pointsOut (foundAt bounds) c)) ≡ shown r (answered L c))
+      → (let c : Collected (S .Cells) = record { answer = a; held = h; out = o } in map handedIn (ofSet r (Option·getD (pointsOut (foundAt bounds) c) [])) ≡ shown r (answered L c))
   by-read r (refusal n) h o = refl
   by-read r (success n) h o =
       let at : Cursor = record { place = 0; pos = 0; neg = 0 } in
-      among-read r (readFrom (foundAt bounds) n at o) ∙ ap (ofSet r) (from-read n o at)
+      or-read r (readFrom (foundAt bounds) n at o) ∙ ap (λ y. shown r (listedOr8 y)) (from-read n o at)
 
   none-read : (r : Set) (a : Said (Option ℕ)) → _≡_ {A = List Handed} [] (shown r (mapAnswer histograms a))
   none-read r (refusal n) = refl
@@ -115,25 +125,25 @@ module _ {S : Store histograms} (L : Lister S) (bounds : List Float) (T : Storin
 
 module _ {S : Store histograms} (W : Owed S) (L : Lister S) (keeps : Keeps L) (bounds : List Float) (T : Storing L bounds) (w : S .Switches) (Q : Lists L w) (limit : ℕ) (filter : Option (List ℕ)) (a : accepts limit filter ≡ true) where
   -- ---- IN SHAPE: a collection lists slots that agree
-  delta-shaped : (h : Held (S .Cells)) → Ready L limit filter h → (o : Output) → Shaped (pointsOut (foundAt bounds) (deltaCollected L w limit h o))
+  delta-shaped : (h : Held (S .Cells)) → Ready L limit filter h → (o : Output) → Shaped (Option·getD (pointsOut (foundAt bounds) (deltaCollected L w limit h o)) [])
   unfolding deltaCollected All
   delta-shaped h r o =
       let l = dueOf false (h .kept) in
       let u : ℕ → Bool = λ x. updatedIn (h .kept .stores .entries) x in
       let g : ℕ → Stored = λ x. T .stored w (h .cells) x (u x) in
-      by-cases W L w Q limit filter h (r .fair) false (sweptKept (h .kept)) o (λ c. Shaped (pointsOut (foundAt bounds) c)) (λ b. tt) (λ b n. tt)
+      by-cases W L w Q limit filter h (r .fair) false (sweptKept (h .kept)) o (λ c. Shaped (Option·getD (pointsOut (foundAt bounds) c) [])) (λ b. tt) (λ b n. tt)
       (λ b n.
       let due = due-known W L w Q limit filter h (r .fair) false b in
       let lies : (x : ℕ) → In x l → (inShape (g x) ≡ true) × Finds (foundAt bounds) (L .words w (h .cells) x (u x)) (L .pos (h .cells) x (u x)) (L .neg (h .cells) x (u x)) (g x) =
       λ x i. T .lies w (h .cells) x (u x) (r .fair .set) (r .lent) (due x i .room) (due x i .sound-is) in
-      subst Shaped (sym (reads-back L w h (foundAt bounds) g l o (λ x i. record { found-is = lies x i .1; set-is = due x i .set-is })))
+      subst (λ y. Shaped (Option·getD y [])) (sym (reads-back L w h (foundAt bounds) g l o (λ x i. record { found-is = lies x i .1; set-is = due x i .set-is })))
       (map-shaped (setAt (h .kept .stores .sets)) g l (λ x i. lies x i .0)))
 
   -- ---- of one call
   abbrev handsOut : Set → Held (S .Cells) → Asked histograms → List Stored
   handsOut s h x =
       elim x [ recording v attrs small ↦ [] | recordingBy b v ↦ [] | binding attrs small ↦ [] | releasing b ↦ []
-      | collecting o ↦ ofSet s (pointsOut (foundAt bounds) (deltaCollected L w limit h o)) ]
+      | collecting o ↦ ofSet s (Option·getD (pointsOut (foundAt bounds) (deltaCollected L w limit h o)) []) ]
 
   call-shaped : (s : Set) (h : Held (S .Cells)) → Ready L limit filter h → (x : Asked histograms) → All (λ y. inShape y ≡ true) (handsOut s h x)
   unfolding All
@@ -141,7 +151,7 @@ module _ {S : Store histograms} (W : Owed S) (L : Lister S) (keeps : Keeps L) (b
   call-shaped s h r (recordingBy b v) = tt
   call-shaped s h r (binding attrs small) = tt
   call-shaped s h r (releasing b) = tt
-  call-shaped s h r (collecting o) = of-shaped s (pointsOut (foundAt bounds) (deltaCollected L w limit h o)) (delta-shaped h r o)
+  call-shaped s h r (collecting o) = of-shaped s (Option·getD (pointsOut (foundAt bounds) (deltaCollected L w limit h o)) []) (delta-shaped h r o)
 
   call-read : (s : Set) (h : Held (S .Cells)) (x : Asked histograms) → map handedIn (handsOut s h x) ≡ shown L bounds T s (ended L w limit filter h x .0)
   call-read s h (recording v attrs small) = none-read L bounds T s (measured S limit filter h v attrs .answer)

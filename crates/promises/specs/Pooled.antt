@@ -4,7 +4,7 @@ use Prim.Native.Nat.{ℕ, _<_}
 use mathlib.Core.Path.{_≡_}
 use mathlib.Core.Bool.{true}
 use mathlib.Core.List.{List, [], _∷_, _++_, map, List·Permᴰ}
-use mathlib.Core.Option.{Option}
+use mathlib.Core.Option.{Option, Option·getD}
 use lib.ListN.{length}
 use lib.Ieee.{Float}
 use Rattle.laws.specs.Lists.{All}
@@ -37,7 +37,7 @@ module _ {S : Store histograms} (L : Lister S) (bounds : List Float) (w : S .Swi
   storedOf r h [] = []
   storedOf r h (x ∷ xs) =
       elim x [ recording v attrs small ↦ [] | recordingBy b v ↦ [] | binding attrs small ↦ [] | releasing b ↦ []
-      | collecting o ↦ ofSet r (pointsOut (foundAt bounds) (deltaCollected L w limit h o)) ]
+      | collecting o ↦ ofSet r (Option·getD (pointsOut (foundAt bounds) (deltaCollected L w limit h o)) []) ]
       ++ storedOf r (ended L w limit filter h x .1) xs
 
 -- document 01's point of some values, which shows their scale and offsets

@@ -1,6 +1,6 @@
 -- What `raise` writes: one more in the row of the sign, and none in the other. Assumes nothing.
 use Prim.Native.Nat.{ℕ, _+_, _-_, _^_, _≤_, _<_}
-use mathlib.Core.Path.{_≡_, refl, ap, sym, subst, _∙_}
+use mathlib.Core.Path.{_≡_, refl, ap, sym, _∙_}
 use mathlib.Core.Bool.{Bool, true, false}
 use mathlib.Core.List.{List}
 use native.Mathlib.Nat.{add-zero}
@@ -10,7 +10,7 @@ use lib.Seq.{getD-take, set-getD}
 use Rattle.laws.specs.Pick.{pick}
 use Rattle.laws.specs.Counting.{bit, total}
 use Rattle.laws.proofs.Bools.{pick-true, pick-false}
-use Rattle.rows.specs.Rows.{over, recorded, holds}
+use Rattle.rows.specs.Rows.{holds}
 use Rattle.rows.specs.declared.Row.{Row}
 use Rattle.rows.proofs.Laws.{getD-le-total}
 use Rattle.rows.proofs.Adds.{inside, holds-inside}

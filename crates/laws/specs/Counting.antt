@@ -1,4 +1,4 @@
--- Counts and lists of numbers: sums, the least and the greatest, tables. Assumes nothing.
+-- Counts: sums over lists, how often a number stands in one, the least and the greatest, tables. Assumes nothing.
 use Prim.Native.Nat.{ℕ, zero, suc, _+_, min, max}
 use mathlib.Core.Bool.{Bool, true, false}
 use mathlib.Core.List.{List, [], _∷_}

@@ -1,4 +1,4 @@
--- Tests: of every element of a list, and whether there is one. Assumes nothing.
+-- A test of every element of a list. Assumes nothing.
 use mathlib.Core.Bool.{Bool, true, _&&_}
 use mathlib.Core.List.{List, [], _∷_}
 

@@ -17,6 +17,7 @@ use rows::Row;
 
 // The least and the greatest max_size that can be configured.
 pub const LEAST_SIZE: usize = 3;
+
 pub const MOST_SIZE: usize = 160;
 
 pub struct Counts {

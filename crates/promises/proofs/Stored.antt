@@ -142,8 +142,13 @@ module _ {S : Store histograms} (W : Owed S) (L : Lister S) (keeps : Keeps L) (b
   -- ---- of one call
   abbrev handsOut : Set → Held (S .Cells) → Asked histograms → List Stored
   handsOut s h x =
-      elim x [ recording v attrs small ↦ [] | recordingBy b v ↦ [] | binding attrs small ↦ [] | releasing b ↦ []
-      | collecting o ↦ ofSet s (Option·getD (pointsOut (foundAt bounds) (deltaCollected L w limit h o)) []) ]
+      elim x [
+        | recording v attrs small ↦ []
+        | recordingBy b v ↦ []
+        | binding attrs small ↦ []
+        | releasing b ↦ []
+        | collecting o ↦ ofSet s (Option·getD (pointsOut (foundAt bounds) (deltaCollected L w limit h o)) [])
+      ]
 
   call-shaped : (s : Set) (h : Held (S .Cells)) → Ready L limit filter h → (x : Asked histograms) → All (λ y. inShape y ≡ true) (handsOut s h x)
   unfolding All

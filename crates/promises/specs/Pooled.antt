@@ -36,8 +36,13 @@ module _ {S : Store histograms} (L : Lister S) (bounds : List Float) (w : S .Swi
   abbrev pub storedOf : Set → Held (S .Cells) → List (Asked histograms) → List Stored
   storedOf r h [] = []
   storedOf r h (x ∷ xs) =
-      elim x [ recording v attrs small ↦ [] | recordingBy b v ↦ [] | binding attrs small ↦ [] | releasing b ↦ []
-      | collecting o ↦ ofSet r (Option·getD (pointsOut (foundAt bounds) (deltaCollected L w limit h o)) []) ]
+      elim x [
+        | recording v attrs small ↦ []
+        | recordingBy b v ↦ []
+        | binding attrs small ↦ []
+        | releasing b ↦ []
+        | collecting o ↦ ofSet r (Option·getD (pointsOut (foundAt bounds) (deltaCollected L w limit h o)) [])
+      ]
       ++ storedOf r (ended L w limit filter h x .1) xs
 
 -- document 01's point of some values, which shows their scale and offsets

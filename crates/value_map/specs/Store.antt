@@ -1,5 +1,5 @@
 -- A KIND'S STORE: what the map's calls ask of a kind of series that lies in lent memory, under settings that are fixed. Each kind is one such
--- record (Exponential.antt, Explicit.antt); the calls are defined over it once (Calls.antt). Assumes nothing.
+-- record (Exponential.antt, Explicit.antt, Stores.antt of crate singles); the calls are defined over it once (Calls.antt). Assumes nothing.
 use Prim.Native.Nat.{ℕ, _+_, _*_}
 use mathlib.Core.Bool.{Bool, _&&_}
 use mathlib.Core.List.{List}

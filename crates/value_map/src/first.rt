@@ -1,4 +1,4 @@
-// What the calls of every kind share: whether a value is recorded at all, how a recording ends, configuring.
+// What the calls of every kind share, those of other crates too: whether a value is recorded at all, how a recording ends, configuring.
 ghost use mathlib.Core.Path.{_≡_};
 ghost use Rattle.kinds.specs.Histograms.{histograms};
 ghost use Rattle.sets.specs.Sorted.{filterOf};
@@ -12,7 +12,7 @@ use bindings::Reply;
 use directory::Directory;
 use directory::Target;
 
-// Whether a histogram takes a value: number 6 refuses the others.
+// Whether a map of f64s takes a value, a histogram's or another: number 6 refuses the others.
 pub fn takes(v: f64) -> bool
     ensures { λ r. ⌜ r ≡ histograms .finite v ⌝ }
 {

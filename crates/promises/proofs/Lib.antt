@@ -9,7 +9,9 @@ pub mod Exponential
 pub mod Explicit
 pub mod Reaches
 pub mod Setups
+pub mod Singles
 pub mod Points
 pub mod Promises
 pub mod Example
+pub mod SinglesExample
 pub mod Zeros

@@ -1,4 +1,4 @@
--- The terms of the promises, under their names in small letters; and demand 3 of any faithful code of both kinds. Assumes nothing.
+-- The terms of the promises, under their names in small letters; and demand 3 of any faithful code of the histogram kinds. Assumes nothing.
 use lib.Ieee.Bits.{is-true}
 use lib.Ieee.Scale.{finite}
 use Rattle.index.specs.Magnitude.{magnitude}
@@ -11,15 +11,19 @@ use Rattle.kinds.specs.Histograms.{histograms}
 use Rattle.kinds.proofs.Recorded.{lawful}
 use Rattle.kinds.proofs.Merges.{merging, mergeable}
 use Rattle.directory.proofs.Tied.{agreement}
-use Rattle.promises.specs.Promises.{ExponentialDemand, ExplicitDemand, Reaches, OneIndex, DirectoryAgrees}
+use Rattle.promises.specs.Promises.{ExponentialDemand, ExplicitDemand, SinglesDemand, Reaches, OneIndex, DirectoryAgrees}
 use Rattle.promises.proofs.Reaches as Reaching
 use Rattle.promises.proofs.Setups as Setups
+use Rattle.promises.proofs.Singles as Singles
 
 pub exponential-demand : ExponentialDemand
 exponential-demand = Setups.exponential-demand
 
 pub explicit-demand : ExplicitDemand
 explicit-demand = Setups.explicit-demand
+
+pub singles-demand : SinglesDemand
+singles-demand = Singles.singles-demand
 
 pub reaches : Reaches
 reaches = Reaching.reaches

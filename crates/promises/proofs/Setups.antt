@@ -33,7 +33,7 @@ use Rattle.collecting.proofs.Configures.{set-up-taken}
 use Rattle.kinds.specs.Histograms.{histograms}
 use Rattle.kinds.proofs.Recorded.{lawful}
 use Rattle.kinds.proofs.Steady.{histograms-steady}
-use Rattle.promises.specs.Promises.{Promised, ExponentialDemand, ExplicitDemand}
+use Rattle.promises.specs.Promises.{PromisedWhole, ExponentialDemand, ExplicitDemand}
 use Rattle.promises.proofs.Runs.{Keeps, runs}
 use Rattle.promises.proofs.Cumulates.{cumulates}
 use Rattle.promises.proofs.Stored.{Storing}
@@ -44,7 +44,7 @@ use Rattle.promises.proofs.Explicit as ExplicitPays
 -- ---- all that is promised, from a start that was answered 0
 module _ {S : Store histograms} (W : Owed S) (L : Lister S) (keeps : Keeps L) (bounds : List Float) (T : Storing L bounds) (w : S .Switches) (Q : Lists L w) where
   promised : (limit : ℕ) (filter : Option (List ℕ)) (s : Stores) (x : S .Cells) → L .Lent x → number (started S limit filter s x .answer) ≡ 0
-      → Promised L bounds w limit filter (started S limit filter s x .held)
+      → PromisedWhole L bounds w limit filter (started S limit filter s x .held)
   promised limit filter s x l zero =
       record {
         demand = demanded W L keeps bounds T w Q limit filter s x l zero;
@@ -75,7 +75,7 @@ exponential-demand size scale extremes sums limit filter s x u l e =
     let w : Bool × Bool = (extremes, sums) in
     let h = promised (ExponentialOwes.owed size top) L (ExponentialPays.keeps size top) [] (ExponentialPays.storing size top) w (exponential-lists size top w) limit filter s x l (p .0) in (
       sym (ap (λ (t : ExponentialSetup.Setup). t .settings) (p .1)),
-      subst (λ (t : ExponentialSetup.Setup). Promised L [] w limit filter (held (t .dir) (o .held .kept .stores) x)) (p .1) h,
+      subst (λ (t : ExponentialSetup.Setup). PromisedWhole L [] w limit filter (held (t .dir) (o .held .kept .stores) x)) (p .1) h,
     )
 
 -- ---- the explicit kind
@@ -100,5 +100,5 @@ explicit-demand bounds extremes sums limit filter s x u l e =
     let w : explicitStore bounds .Switches = (extremes, sums) in
     let h = promised (ExplicitOwes.owed bounds) L (ExplicitPays.keeps bounds) bounds (ExplicitPays.storing bounds) w (ExplicitPays.lists bounds extremes sums) limit filter s x l (p .0) in (
       sym (ap (λ (t : ExplicitSetup.Setup). t .settings) (p .1)),
-      subst (λ (t : ExplicitSetup.Setup). Promised L bounds w limit filter (held (t .dir) (o .held .kept .stores) x)) (p .1) h,
+      subst (λ (t : ExplicitSetup.Setup). PromisedWhole L bounds w limit filter (held (t .dir) (o .held .kept .stores) x)) (p .1) h,
     )

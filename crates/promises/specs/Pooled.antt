@@ -18,7 +18,7 @@ use Rattle.point.specs.Lists.{PointOf, Long}
 use Rattle.merging.specs.Merged.{Groups}
 use Rattle.tally.specs.Sets.{Set, ofSet}
 use Rattle.tally.specs.Map.{Config, Call, Answer}
-use Rattle.tally.specs.Demand.{Premise, Answered, any, gained, pointsOf, asked, ran}
+use Rattle.tally.specs.Demand.{Answered, any, gained, pointsOf}
 use Rattle.kinds.specs.Histograms.{histograms}
 use Rattle.value_map.specs.Store.{Store}
 use Rattle.value_map.specs.Calls.{Held}
@@ -27,7 +27,7 @@ use Rattle.collecting.specs.Lister.{Lister}
 use Rattle.collecting.specs.Collected.{deltaCollected, pointsOut}
 use Rattle.collecting.specs.Read.{foundAt}
 use Rattle.promises.specs.Seen.{Shows}
-use Rattle.promises.specs.Runs.{Asked, recording, recordingBy, binding, releasing, collecting, ended, run}
+use Rattle.promises.specs.Runs.{Asked, recording, recordingBy, binding, releasing, collecting, ended, EveryRun}
 
 -- ---- POINTS AS THEY LIE IN LENT OUTPUT
 
@@ -84,12 +84,7 @@ pub record Whole (c : Config histograms) (qs : List (Call histograms)) (ans : Li
   pub pools : (r : Set) (size : ℕ) → resized size (c .settings .kind) ≡ c .settings .kind → any histograms (gained histograms c qs ans r) ≡ true
       → Pools (c .settings) (ps r) (gained histograms c qs ans r) size
 
--- it holds of every list of calls from a state: "Recordings and bindings, refused ones counted, are fewer than 2^64, the accepted ones on no more
--- unlike named sets than the limit. Then .."
+-- it holds of every list of calls from a state
 abbrev pub Holds : {S : Store histograms} → Lister S → List Float → S .Switches → ℕ → Option (List ℕ) → Held (S .Cells) → Type 0
 Holds {S} L bounds w limit filter h =
-    (xs : List (Asked histograms))
-    → let c = configOf S w limit filter in
-    let qs = asked histograms (run L w limit filter h) xs in
-    let ans = ran histograms (run L w limit filter h) xs in
-    Premise histograms c qs ans → Whole c qs ans (λ r. storedOf L bounds w limit filter r h xs)
+    EveryRun L w limit filter h (λ xs qs ans. Whole (configOf S w limit filter) qs ans (λ r. storedOf L bounds w limit filter r h xs))

@@ -16,7 +16,7 @@ use Rattle.index.specs.declared.signed.Index.the-variants.{At}
 use Rattle.floats.specs.Starts.{FiniteF64}
 use Rattle.tally.specs.Kind.{Kind}
 use Rattle.tally.specs.Map.{Config, Call}
-use Rattle.tally.specs.Demand.{InRange}
+use Rattle.tally.specs.Demand.{Answered, InRange}
 use Rattle.tally.specs.Runs.{Tells}
 use Rattle.kinds.specs.Histograms.{histograms}
 use Rattle.directory.specs.View.{Stores, Agreement}
@@ -35,31 +35,40 @@ use Rattle.exponential_collection.specs.declared.Setup as ExponentialSetup
 use Rattle.explicit_collection.specs.Points.{explicitLister}
 use Rattle.explicit_collection.specs.Configured as Explicit
 use Rattle.explicit_collection.specs.declared.Setup as ExplicitSetup
-use Rattle.promises.specs.Runs.{Asked, asks, run, Cumulates}
+use Rattle.singles.specs.Points.{singleLister}
+use Rattle.singles.specs.Configured as Singles
+use Rattle.singles.specs.declared.Aggregation.{Aggregation}
+use Rattle.singles.specs.declared.Setup as SinglesSetup
+use Rattle.promises.specs.Runs.{Asked, asks, run, EveryRun, Cumulates}
 use Rattle.promises.specs.Pooled.{Holds}
 
 -- ---- ANY RUN of the code, from configuring that was accepted
 
--- what is promised of the map that configuring left
-pub record Promised {S : Store histograms} (L : Lister S) (bounds : List Float) (w : S .Switches) (limit : ℕ) (filter : Option (List ℕ)) (h : Held (S .Cells)) : Type 0 where
-  -- DEMAND 3, whole: one claim about the list of calls
-  pub demand : Holds L bounds w limit filter h
-  -- what else is told of every run: with no premise none is answered 8 or 12, and a handle names its set while it has a binding; under it each value is in its
-  -- own set's series
-  pub told : Tells histograms (configOf S w limit filter) (run L w limit filter h) (mapOf S w)
-  -- and of a cumulative collection after every run: "every named entry is listed, even one bound and never recorded .. cumulative leaves it"
-  pub cumulative : Cumulates L w limit filter h
+-- what is promised of the map that configuring left, of any kind, with its own claim about the list of calls
+module _ {K : Kind} {S : Store K} (L : Lister S) (w : S .Switches) (limit : ℕ) (filter : Option (List ℕ)) (h : Held (S .Cells)) where
+  pub record Promised (Claim : Type 0) : Type 0 where
+    -- DEMAND 3: one claim about the list of calls
+    pub demand : Claim
+    -- what else is told of every run: with no premise none is answered 8 or 12, and a handle names its set while it has a binding; under it each value is
+    -- in its own set's series
+    pub told : Tells K (configOf S w limit filter) (run L w limit filter h) (mapOf S w)
+    -- and of a cumulative collection after every run: "every named entry is listed, even one bound and never recorded .. cumulative leaves it"
+    pub cumulative : Cumulates L w limit filter h
+
+-- of a histogram kind, demand 3 whole
+abbrev pub PromisedWhole : {S : Store histograms} → Lister S → List Float → S .Switches → ℕ → Option (List ℕ) → Held (S .Cells) → Type 0
+PromisedWhole L bounds w limit filter h = Promised L w limit filter h (Holds L bounds w limit filter h)
 
 -- "Take any list of these calls, refused ones included: recording by set or handle, binding, releasing, delta collection. It runs from a fresh start under
 -- one configuration, and each call is given the state and lent stores as the last one left them." The start is configuring, answered 0, and nothing
 -- else: under any max_size, max_scale, switches, limit and filter, in any stores of f64s. It hands out the settings that were asked, and the state; of
--- that state and the stores that it left all that is `Promised` holds.
+-- that state and the stores that it left all that is promised holds.
 abbrev pub ExponentialDemand : Type 0
 ExponentialDemand =
     (size : ℕ) (scale : ℤ) (extremes sums : Bool) (limit : ℕ) (filter : Option (List ℕ)) (s : Stores) (x : ExponentialCells.Cells) (u : ExponentialSetup.Setup)
     → AllFit (x .extremes) → Exponential.configured size scale extremes sums limit filter s x .answer ≡ success u
     → (u .settings ≡ record { size = size; top = topOf scale; extremes = extremes; sums = sums; limit = limit })
-    × Promised (exponentialLister size (topOf scale)) [] (extremes, sums) limit filter
+    × PromisedWhole (exponentialLister size (topOf scale)) [] (extremes, sums) limit filter
     (held (u .dir) (Exponential.configured size scale extremes sums limit filter s x .stores) x)
 
 -- The explicit kind: under any bounds
@@ -68,8 +77,21 @@ ExplicitDemand =
     (bounds : List Float) (extremes sums : Bool) (limit : ℕ) (filter : Option (List ℕ)) (s : Stores) (x : ExplicitCells.Cells) (u : ExplicitSetup.Setup)
     → AllFit (x .extremes) → Explicit.configured bounds extremes sums limit filter s x .answer ≡ success u
     → (u .settings ≡ record { extremes = extremes; sums = sums; limit = limit })
-    × Promised (explicitLister bounds) bounds (extremes, sums) limit filter
+    × PromisedWhole (explicitLister bounds) bounds (extremes, sums) limit filter
     (held (u .dir) (Explicit.configured bounds extremes sums limit filter s x .stores) x)
+
+-- Request L1: sums and last values, which no merge takes. Of them demand 3's first part: ".. each call's number and each list of points collected is that of
+-- document 01's tally"
+abbrev pub PromisedAnswers : {K : Kind} {S : Store K} → Lister S → S .Switches → ℕ → Option (List ℕ) → Held (S .Cells) → Type 0
+PromisedAnswers {K} {S} L w limit filter h =
+    Promised L w limit filter h (EveryRun L w limit filter h (λ xs qs ans. Answered K (configOf S w limit filter) qs ans))
+
+abbrev pub SinglesDemand : Type 0
+SinglesDemand =
+    (a : Aggregation) (limit : ℕ) (filter : Option (List ℕ)) (s : Stores) (x : List Float) (u : SinglesSetup.Setup)
+    → Singles.configured a limit filter s x .answer ≡ success u
+    → (u .settings ≡ record { aggregation = a; limit = limit })
+    × PromisedAnswers (singleLister a) tt limit filter (held (u .dir) (Singles.configured a limit filter s x .stores) x)
 
 -- "recording by set or handle, binding, releasing, delta collection": every call of demand 3 in range is asked by some input of a run
 abbrev pub Reaches : Type 1

@@ -8,13 +8,13 @@ use mathlib.Core.Option.{Option}
 use Rattle.tally.specs.Sets.{Set, Lendable}
 use Rattle.tally.specs.Kind.{Kind}
 use Rattle.tally.specs.Map.{Call, measure, measureBy, bind, release, collect, Answer, cumulate}
-use Rattle.tally.specs.Demand.{Code, left}
+use Rattle.tally.specs.Demand.{Premise, Code, asked, left, ran}
 use Rattle.tally.specs.Runs.{quiet}
 use Rattle.bindings.specs.Calls as Bindings
 use Rattle.bindings.specs.Calls.{mapAnswer}
 use Rattle.value_map.specs.Store.{Store}
 use Rattle.value_map.specs.Calls.{Held, Outcome, beside, measured, measuredBy}
-use Rattle.value_map.specs.Maps.{mapOf}
+use Rattle.value_map.specs.Maps.{mapOf, configOf}
 use Rattle.listing.specs.Listed.{Output}
 use Rattle.collecting.specs.Lister.{Lister}
 use Rattle.collecting.specs.Collected.{roomOf, deltaCollected, cumulativeCollected, answered}
@@ -53,6 +53,16 @@ module _ {K : Kind} {S : Store K} (L : Lister S) (w : S .Switches) (limit : ℕ)
   -- the calls as code, from a state
   abbrev pub run : Held (S .Cells) → Code K
   run h = record { State = Held (S .Cells); Input = Asked K; asks = asks K; call = ended; first = h }
+
+-- "Recordings and bindings, refused ones counted, are fewer than 2^64, the accepted ones on no more unlike named sets than the limit. Then ..": something
+-- holds of what is given, asked and answered in every run from a state that meets demand 3's premise
+abbrev pub EveryRun : {K : Kind} {S : Store K} → Lister S → S .Switches → ℕ → Option (List ℕ) → Held (S .Cells)
+    → (List (Asked K) → List (Call K) → List (Answer K) → Type 0) → Type 0
+EveryRun {K} {S} L w limit filter h Claim =
+    (xs : List (Asked K))
+    → let qs = asked K (run L w limit filter h) xs in
+    let ans = ran K (run L w limit filter h) xs in
+    Premise K (configOf S w limit filter) qs ans → Claim xs qs ans
 
 -- Cumulative collection is no call of demand 3's list; after any run of such calls, in any lent output, it answers as the map's collection that
 -- leaves the map, leaves state and stores as they were, and is never answered 8 or 12. So what `Tells` says of its points it lists.

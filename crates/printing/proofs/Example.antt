@@ -1,5 +1,5 @@
 -- Document 01's run of the gauge program: the point of its one collection, as it lies in the output, is printed as the two lines that it
--- gives. One computed test of the definitions. Assumes nothing.
+-- gives; and a collection of one sum. Two computed tests of the definitions. Assumes nothing.
 use Prim.Native.Nat.{ℕ}
 use mathlib.Core.Path.{_≡_, refl}
 use mathlib.Core.List.{List, [], _∷_}
@@ -14,7 +14,7 @@ use Rattle.listing.specs.Words.{figuresIn, boundsIn, extremeIn, pointIn, isPoin
 use Rattle.listing.specs.Listed.{Output, entryIn, pointAt}
 use Rattle.lines.specs.Written.{digitsWithin, decimal}
 use Rattle.printing.specs.Fields.{each, joined, listed, line, attributeField, setField, floatField, rowField}
-use Rattle.printing.specs.Printed.{pointLine, lineAt, nextAt, linesFrom, collectionHead, collectionLines}
+use Rattle.printing.specs.Printed.{pointLine, lineAt, nextAt, linesFrom, collectionHead, collectionLines, valueLine, valueAt, valuesFrom, valueLines}
 
 -- the set 1:5; 5 values, one of them zero, at scale 0; rows from index -1 on; min, max and sum
 abbrev pub example : Output
@@ -37,3 +37,10 @@ text =
 pub prints-exactly : collectionLines 100 200 1 example [] ≡ text
 unfolding collectionLines collectionHead linesFrom lineAt nextAt pointLine line joined each listed attributeField setField floatField rowField decimal digitsWithin glyphOf hexDigits scaleAnswer indexAnswer offsetAnswer setOf figuresIn boundsIn extremeIn pointIn isPoint entryIn pointAt allb isNan ofBits toBits pick
 prints-exactly = refl
+
+-- "c 0 1 1", "v 1:5 4014000000000000": the set 1:5 has the sum 5.0
+pub prints-a-sum : valueLines 0 1 1 (example .sets) (0x4014_0000_0000_0000 ∷ [])
+    ≡ 99 ∷ 32 ∷ 48 ∷ 32 ∷ 49 ∷ 32 ∷ 49 ∷ 10 ∷ 118 ∷ 32 ∷ 49 ∷ 58 ∷ 53 ∷ 32 ∷ 52 ∷ 48 ∷ 49 ∷ 52 ∷ 48 ∷ 48 ∷ 48 ∷ 48 ∷ 48 ∷ 48 ∷ 48 ∷ 48 ∷ 48 ∷
+    48 ∷ 48 ∷ 48 ∷ 10 ∷ []
+unfolding valueLines collectionHead valuesFrom valueAt valueLine line joined each listed attributeField setField decimal digitsWithin glyphOf hexDigits setOf pick
+prints-a-sum = refl

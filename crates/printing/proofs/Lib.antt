@@ -2,4 +2,5 @@
 pub mod Putting
 pub mod Sets
 pub mod Points
+pub mod Singles
 pub mod Example

@@ -1,13 +1,14 @@
 -- The lines that are printed. Document 01, "A run of the gauge program": 'A line that it can't read .. prints `? N`', and '`c` start, time,
--- points; `p` set, count, zero count, scale, min, max, sum, then positive and negative row'. The line `q`, of an explicit point, is that of
--- docs/REPLAY.md: 'q SET COUNT MIN MAX SUM BUCKETS BOUNDS'. The letters are ASCII. Assumes nothing.
-use Prim.Native.Nat.{ℕ, zero, suc}
+-- points; `p` set, count, zero count, scale, min, max, sum, then positive and negative row'. The lines `q`, of an explicit point, and `v`, of a
+-- sum or last value, are those of docs/REPLAY.md: 'q SET COUNT MIN MAX SUM BUCKETS BOUNDS', 'v SET VALUE'. The letters are ASCII. Assumes nothing.
+use Prim.Native.Nat.{ℕ, zero, suc, _+_}
 use mathlib.Core.Bool.{true, false}
 use mathlib.Core.List.{List, [], _∷_, _++_, map}
 use lib.Dec.{ltb}
 use lib.ListN.{length, getD, take}
 use lib.Ieee.{Float}
 use Rattle.laws.specs.Pick.{pick}
+use Rattle.text.specs.Numbers.{hexDigits}
 use Rattle.lines.specs.Written.{decimal}
 use Rattle.tally.specs.Sets.{Set}
 use Rattle.sets.specs.Rows.{setOf}
@@ -79,6 +80,22 @@ unfoldable pub linesFrom : ℕ → Cursor → Output → List Float → List ℕ
 linesFrom zero at o bounds = []
 linesFrom (suc k) at o bounds = lineAt at o bounds ++ linesFrom k (nextAt at o) o bounds
 
+-- ---- points that are one value (request L1)
+
+-- the line of a point, from its set and the bits of its value; `v` is the byte 118
+unfoldable pub valueLine : Set → ℕ → List ℕ
+valueLine s bits = line ((118 ∷ []) ∷ setField s ∷ hexDigits 16 bits ∷ [])
+
+-- the line at a place: nothing where there is no row of its set, or no value
+unfoldable pub valueAt : ℕ → List (List ℕ) → List ℕ → List ℕ
+valueAt k sets values =
+    pick (ltb k (length sets)) (pick (ltb k (length values)) (valueLine (take 8 (setOf (getD sets k []))) (getD values k 0)) []) []
+
+-- the lines of n points from place k on
+unfoldable pub valuesFrom : ℕ → ℕ → List (List ℕ) → List ℕ → List ℕ
+valuesFrom zero k sets values = []
+valuesFrom (suc n) k sets values = valueAt k sets values ++ valuesFrom n (k + 1) sets values
+
 -- ---- what the programs print
 
 -- `c START TIME POINTS`; `c` is the byte 99
@@ -89,6 +106,10 @@ collectionHead start time points = line ((99 ∷ []) ∷ decimal start ∷ decim
 unfoldable pub collectionLines : ℕ → ℕ → ℕ → Output → List Float → List ℕ
 collectionLines start time points o bounds =
     collectionHead start time points ++ linesFrom points (record { place = 0; pos = 0; neg = 0 }) o bounds
+
+-- the same of points that are one value
+unfoldable pub valueLines : ℕ → ℕ → ℕ → List (List ℕ) → List ℕ → List ℕ
+valueLines start time points sets values = collectionHead start time points ++ valuesFrom points 0 sets values
 
 -- `? N`; `?` is the byte 63
 unfoldable pub unreadLine : ℕ → List ℕ

@@ -2,6 +2,7 @@
 //
 //     p SET COUNT ZEROCOUNT SCALE MIN MAX SUM POSITIVE NEGATIVE      exponential
 //     q SET COUNT MIN MAX SUM BUCKETS BOUNDS                         explicit
+//     v SET VALUE                                                    sum or last value
 //
 // Each function puts its text behind the n bytes that are there, and says how many there are then.
 ghost use mathlib.Core.Path.{_≡_};
@@ -17,7 +18,7 @@ ghost use Rattle.sets.specs.Rows.{pair, setOf};
 ghost use Rattle.point.specs.Handing.{storedIn};
 ghost use Rattle.listing.specs.Listed.{output as listedIn, rowAt, boundsAt};
 ghost use Rattle.printing.specs.Fields.{each, joined, attributeField, setField, floatField, extremeField, integerField, rowField};
-ghost use Rattle.printing.specs.Printed.{heldFields, exponentialFields, explicitFields, pointLine, lineAt, nextAt, collectionHead, collectionLines, unreadLine};
+ghost use Rattle.printing.specs.Printed.{heldFields, exponentialFields, explicitFields, pointLine, lineAt, nextAt, collectionHead, collectionLines, valueAt, valueLines, unreadLine};
 use floats::Extreme;
 use index::signed::Integer;
 use lines::Block;
@@ -303,6 +304,45 @@ fn head(text: &mut Block, n: usize, start: u64, time: u64, many: u64) -> usize
     let c = number(text, b, time);
     let d = number(text, c, many);
     output::byte(text, d, b'\n')
+}
+
+// ---- points that are one value
+
+// The line of the point at a place; nothing where there is no row of its set, or no value.
+fn value(text: &mut Block, n: usize, k: usize, sets: &[[u64; 9]], values: &[u64]) -> usize
+    ensures { λ r. ⌜ waiting r (text .exit) ≡ valueAt k (now (sets .entry)) (now (values .entry)) behind waiting n (text .entry) ⌝ }
+{
+    if sets.len() <= k {
+        return n;
+    }
+    if values.len() <= k {
+        return n;
+    }
+    let a = output::byte(text, n, b'v');
+    let b = set(text, a, sets[k]);
+    let c = bits(text, b, values[k]);
+    output::byte(text, c, b'\n')
+}
+
+// Prints a collection of sums or last values: its head, and the first points from their sets and the bits of their values.
+pub fn values(
+    text: &mut Block,
+    n: usize,
+    start: u64,
+    time: u64,
+    many: usize,
+    sets: &[[u64; 9]],
+    values: &[u64],
+) -> usize
+    ensures { λ r. ⌜ waiting r (text .exit) ≡ valueLines start time many (now (sets .entry)) (now (values .entry)) behind waiting n (text .entry) ⌝ }
+{
+    let mut m = head(text, n, start, time, many as u64);
+    let mut i: usize = 0;
+    while i < many {
+        m = value(text, m, i, sets, values);
+        i += 1;
+    }
+    m
 }
 
 // Prints `?` and the number of a line of the input that can't be read.

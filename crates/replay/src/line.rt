@@ -104,7 +104,7 @@ fn scale_of(line: &[u8], k: usize) -> Natural {
 // What a cell is set to: bits where the store holds f64.
 fn cell_of(line: &[u8], k: usize) -> Natural {
     let store = byte_of(line, 1);
-    if store == b'm' || store == b'b' || store == b'B' {
+    if text::end(b"mbBl", 0, store) < 4 {
         return text::bits_at(line, k);
     }
     text::decimal_at(line, k)
@@ -121,7 +121,7 @@ fn plain(line: &[u8], k: usize, kind: u8) -> Natural {
         b's' => scale_of(line, k),
         b'x' => text::bits_at(line, k),
         b'D' => Natural::Is(byte_of(line, k) as u64),
-        b'K' => one_of(line, k, b"ex"),
+        b'K' => one_of(line, k, b"exsl"),
         b'F' => one_of(line, k, b"f"),
         b'-' => one_of(line, k, b"-"),
         b'T' => one_of(line, k, b"dcl"),

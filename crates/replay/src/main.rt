@@ -1,6 +1,6 @@
 // Replays call scripts and prints their answers: docs/REPLAY.md has the language.
 //
-// Kinds `e` and `x` of f64. Every script has stores of its own, so a new one finds them fresh.
+// Kinds `e`, `x`, `s` and `l` of f64. Every script has stores of its own, so a new one finds them fresh.
 mod line;
 mod show;
 
@@ -60,8 +60,10 @@ fn make(
         out_pos,
         out_neg,
     );
-    let e = kept::follow(d, bounds, out_sets, out_words, out_pos, out_neg);
-    damage::set(e, bounds, sets, entries, order, figures, extremes, pos, neg)
+    let e = replay_singles::follow(d, attrs, bounds, sets, entries, order);
+    let f = replay_singles::collect(e, bounds, sets, entries, order, out_sets, out_pos);
+    let g = kept::follow(f, bounds, out_sets, out_words, out_pos, out_neg);
+    damage::set(g, bounds, sets, entries, order, figures, extremes, pos, neg)
 }
 
 // Whether a script has a line behind one of a letter.
@@ -72,7 +74,7 @@ fn goes_on(letter: u8) -> bool {
 // Replays one script, up to the line that names the next or to the input's end. A proved loop has to end: no script uses up the numbers.
 fn script(ports: Ports, block: &mut Block, line: &mut Line, text: &mut Block) -> Ports {
     let mut attrs = [[0u32; 2]; 9];
-    let mut bounds = [0.0f64; 2200];
+    let mut bounds = [0.0f64; 2266];
     let mut sets = [[0u64; 9]; 66];
     let mut entries = [[0u64; 3]; 66];
     let mut order = [0u32; 66];
@@ -134,6 +136,7 @@ fn script(ports: Ports, block: &mut Block, line: &mut Line, text: &mut Block) ->
             &out_words,
             &out_pos,
             &out_neg,
+            &bounds,
         );
         if u64::MAX <= number {
             return now;

@@ -39,6 +39,9 @@ fn listed<'a>(
     pos: &'a stores::ListedCounts,
     neg: &'a stores::ListedCounts,
 ) -> usize {
+    if replay_state::is_single(s.collected) {
+        return printing::values(text, n, s.told, s.f[1], s.listed, sets, pos);
+    }
     let own = lent::bounds_in(bounds, 2, 200);
     printing::collection(
         text,

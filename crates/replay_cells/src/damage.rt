@@ -22,7 +22,7 @@ fn is_there(store: u8, place: u64, cell: u64) -> bool {
     match store {
         b's' => inside(place, 66, cell, 9),
         b'e' | b'm' => inside(place, 66, cell, 3),
-        b'o' | b't' => inside(place, 66, cell, 1),
+        b'o' | b't' | b'l' => inside(place, 66, cell, 1),
         b'f' => inside(place, 66, cell, 8),
         b'p' | b'n' => inside(place, 10560, cell, 1),
         b'b' => inside(place, 200, cell, 1),
@@ -100,6 +100,7 @@ pub fn set(
         b'n' => neg[within(place, 10559)] = n,
         b't' => neg[10560 + within(place, 65)] = n,
         b'b' => bounds[200 + within(place, 199)] = floats::of_bits(n),
+        b'l' => bounds[2200 + within(place, 65)] = floats::of_bits(n),
         _ => return in_state(s, cell, n),
     }
     s

@@ -101,7 +101,7 @@ fn move_counts(counts: &mut stores::ListedCounts, from: usize, to: usize, k: u64
     }
 }
 
-// Keeps the point at a place of the last collection.
+// Keeps the point at a place of the last collection; a sum or a last value is none that can be kept.
 fn keep(
     s: State,
     sets: &mut stores::ListedSets,
@@ -109,7 +109,7 @@ fn keep(
     pos: &mut stores::ListedCounts,
     neg: &mut stores::ListedCounts,
 ) -> State {
-    if s.listed as u64 <= s.f[2] {
+    if s.listed as u64 <= s.f[2] || replay_state::is_single(s.collected) {
         return after::refused(s, UNREAD);
     }
     let at = cursor_of(s.f[2], words, pos, neg);

@@ -1,5 +1,5 @@
 // The map shown (`s`): its state, and a checksum of every cell of each store, so that a stray write shows.
-ghost use Prim.Native.Nat.{_<_};
+ghost use Prim.Native.Nat.{_<_, _≤_};
 use lines::Block;
 use lines::output;
 use printing::number;
@@ -9,7 +9,17 @@ use replay_state::within;
 
 // The store of checksum i, by its letter in a line `d`; the output's sets are `S`.
 fn store_of(i: usize) -> u8 {
-    text::byte_at(b"seofmpntSwPN", i)
+    text::byte_at(b"seofmpntSwPNl", i)
+}
+
+// How many checksums a map of a kind has: only sums and last values have the last.
+fn sums_of(kind: u8) -> usize
+    ensures { λ r. ⌜ r ≤ 13 ⌝ }
+{
+    if replay_state::is_single(kind) {
+        return 13;
+    }
+    12
 }
 
 // How many cells a store has.
@@ -17,7 +27,7 @@ fn cells(store: u8) -> usize {
     match store {
         b's' => 594,
         b'e' | b'm' => 198,
-        b'o' | b't' => 66,
+        b'o' | b't' | b'l' => 66,
         b'f' => 528,
         b'p' | b'n' => 10560,
         b'S' => 666,
@@ -54,6 +64,7 @@ fn cell(
     out_words: &stores::ListedWords,
     out_pos: &stores::ListedCounts,
     out_neg: &stores::ListedCounts,
+    bounds: &stores::Bounds,
 ) -> u64 {
     let k = i as u64;
     match store {
@@ -68,6 +79,7 @@ fn cell(
         b'S' => out_sets[within(k / 9, 73)][i % 9],
         b'w' => out_words[within(k / 12, 73)][i % 12],
         b'P' => out_pos[within(k, 11839)],
+        b'l' => floats::bits_of(bounds[2200 + within(k, 65)]),
         _ => out_neg[within(k, 11839)],
     }
 }
@@ -92,6 +104,7 @@ fn sum(
     out_words: &stores::ListedWords,
     out_pos: &stores::ListedCounts,
     out_neg: &stores::ListedCounts,
+    bounds: &stores::Bounds,
 ) -> u64 {
     let n = cells(store);
     let mut sum: u64 = 0;
@@ -111,6 +124,7 @@ fn sum(
             out_words,
             out_pos,
             out_neg,
+            bounds,
         );
         sum = mix(sum, x);
         i += 1;
@@ -143,13 +157,15 @@ pub fn shown(
     out_words: &stores::ListedWords,
     out_pos: &stores::ListedCounts,
     out_neg: &stores::ListedCounts,
+    bounds: &stores::Bounds,
 ) -> usize {
     if s.letter != b's' {
         return n;
     }
+    let sums = sums_of(s.kind);
     let mut m = state(text, n, s);
     let mut i: usize = 0;
-    while i < 12 {
+    while i < sums {
         let x = sum(
             store_of(i),
             sets,
@@ -163,6 +179,7 @@ pub fn shown(
             out_words,
             out_pos,
             out_neg,
+            bounds,
         );
         m = number(text, m, x);
         i += 1;

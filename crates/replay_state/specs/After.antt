@@ -1,7 +1,7 @@
 -- BETWEEN OUR OWN CRATES: serves inner contracts and proofs; nobody needs it to believe the public calls or the theorems.
 -- The state of a script after a line: refused, accepted, and after each kind of call. Assumes nothing.
 use Prim.Native.Nat.{ℕ, min, _%_}
-use mathlib.Core.Bool.{false}
+use mathlib.Core.Bool.{Bool, false, _||_}
 use mathlib.Core.List.{List}
 use mathlib.Core.Option.{Option, none, some}
 use lib.Dec.{eqb}
@@ -11,13 +11,18 @@ use Rattle.laws.specs.Said.{Said, refusal, success}
 use Rattle.directory.specs.declared.Directory.{Directory}
 use Rattle.replay_state.specs.declared.State.{State}
 
+-- whether a kind's letter is that of sums, `s`, or of last values, `l`
+abbrev pub single : ℕ → Bool
+single kind = eqb kind 115 || eqb kind 108
+
 -- field k of the line that is followed
 abbrev pub field : State → ℕ → ℕ
 field s k = getD (s .f) k 0
 
--- with what a call can change: what the line comes to, the map's state, the handles, the held start, how many points were listed
-abbrev pub answered : State → ℕ → ℕ → Directory → List ℕ → ℕ → ℕ → State
-answered s n told dir handles start listed =
+-- with what a call can change: what the line comes to, the map's state, the handles, the held start, how many points were listed and of which
+-- kind they are
+abbrev pub answered : State → ℕ → ℕ → Directory → List ℕ → ℕ → ℕ → ℕ → State
+answered s n told dir handles start listed collected =
     record {
       letter = s .letter;
       of = s .of;
@@ -45,14 +50,15 @@ answered s n told dir handles start listed =
       counts = s .counts;
       entries = s .entries;
       listed = listed;
+      collected = collected;
     }
 
 abbrev pub refusedBy : ℕ → State → State
-refusedBy n s = answered s n (s .told) (s .dir) (s .handles) (s .start) (s .listed)
+refusedBy n s = answered s n (s .told) (s .dir) (s .handles) (s .start) (s .listed) (s .collected)
 
 -- accepted, with what it tells and another directory
 abbrev pub acceptedIn : Directory → ℕ → State → State
-acceptedIn dir told s = answered s 0 told dir (s .handles) (s .start) (s .listed)
+acceptedIn dir told s = answered s 0 told dir (s .handles) (s .start) (s .listed) (s .collected)
 
 -- ---- configuring
 
@@ -86,6 +92,7 @@ notBegun n s =
       counts = s .counts;
       entries = s .entries;
       listed = s .listed;
+      collected = s .collected;
     }
 
 -- after an accepted `n`: what was asked for, with what waited
@@ -118,6 +125,7 @@ begunAs kind size top dir s =
       counts = s .counts;
       entries = s .entries;
       listed = s .listed;
+      collected = s .collected;
     }
 
 abbrev pub newlyBegun : ℕ → Directory → State → State
@@ -129,11 +137,11 @@ newlyBegun top dir s = begunAs (field s 1 % 256) (field s 3 % 4294967296) top di
 abbrev pub doneBy : Said (Option ℕ) → Directory → State → State
 doneBy (refusal n) dir s = refusedBy n s
 doneBy (success none) dir s = acceptedIn dir 0 s
-doneBy (success (some birth)) dir s = answered s 0 birth dir (set (s .handles) (min (field s 1) 99) birth) (s .start) (s .listed)
+doneBy (success (some birth)) dir s = answered s 0 birth dir (set (s .handles) (min (field s 1) 99) birth) (s .start) (s .listed) (s .collected)
 
 -- ---- collecting
 
--- after a collection that says so: it tells the held start, and a delta collection holds the line's time
+-- after a collection that says so: it tells the held start, a delta collection holds the line's time, and its points are of the map's kind
 abbrev pub collectedBy : Said ℕ → Directory → State → State
 collectedBy (refusal n) dir s = refusedBy n s
-collectedBy (success many) dir s = answered s 0 (s .start) dir (s .handles) (pick (s .delta) (field s 1) (s .start)) many
+collectedBy (success many) dir s = answered s 0 (s .start) dir (s .handles) (pick (s .delta) (field s 1) (s .start)) many (s .kind)

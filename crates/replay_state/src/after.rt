@@ -99,13 +99,14 @@ pub fn done(s: State, reply: Reply) -> State
 
 // After a collection of so many points, which tells a start, and the clock holds another.
 fn listed(s: State, dir: Directory, many: usize, told: u64, start: u64) -> State
-    ensures { λ r. ⌜ r ≡ answered s 0 told dir (s .handles) start many ⌝ }
+    ensures { λ r. ⌜ r ≡ answered s 0 told dir (s .handles) start many (s .kind) ⌝ }
 {
     let mut next = s;
     next.no = 0;
     next.told = told;
     next.dir = dir;
     next.listed = many;
+    next.collected = s.kind;
     next.start = start;
     next
 }

@@ -67,6 +67,15 @@ pub fn totals<'a>(xs: &'a mut [u64], n: u64) -> &'a mut [u64]
     &mut xs[a..e]
 }
 
+// The values of sums or last values, which lie behind the bounds.
+pub fn values<'a>(xs: &'a mut [f64], n: u64) -> &'a mut [f64]
+    ensures { λ r. ⌜ now r ≡ take n (drop 2200 (now (xs .entry))) ⌝ }
+{
+    let a = within(2200, xs.len());
+    let e = a + within(n, xs.len() - a);
+    &mut xs[a..e]
+}
+
 // ---- to be read
 
 pub fn sets_in<'a>(xs: &'a [[u64; 9]], n: u64) -> &'a [[u64; 9]]
@@ -115,6 +124,14 @@ pub fn totals_in<'a>(xs: &'a [u64], n: u64) -> &'a [u64]
     ensures { λ r. ⌜ now r ≡ take n (drop 10560 (now (xs .entry))) ⌝ }
 {
     let a = within(10560, xs.len());
+    let e = a + within(n, xs.len() - a);
+    &xs[a..e]
+}
+
+pub fn values_in<'a>(xs: &'a [f64], n: u64) -> &'a [f64]
+    ensures { λ r. ⌜ now r ≡ take n (drop 2200 (now (xs .entry))) ⌝ }
+{
+    let a = within(2200, xs.len());
     let e = a + within(n, xs.len() - a);
     &xs[a..e]
 }

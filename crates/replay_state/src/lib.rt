@@ -1,5 +1,6 @@
 // What a script holds beside its stores; what the crates of the program `replay` share (docs/REPLAY.md).
 ghost use mathlib.Core.Path.{_≡_};
+ghost use Rattle.replay_state.specs.After.{single};
 ghost use Prim.Native.Nat.{min, _%_};
 use directory::Directory;
 
@@ -16,8 +17,8 @@ pub type Fields = [u64; 11];
 
 // The line that is followed, the kind whose call it makes, 0 where it makes none, and what it comes to: `no` is 0 where it is accepted,
 // document 01's number, or UNREAD; `told` the birth number of a binding or the start of a collection. What was configured, where `kind` is
-// `e`, `x`, or 0 before any accepted `n`; the map's and the clock's state, and the handles; what waits for the next `n`; how many counts
-// and entries are lent, and how many points the last collection has.
+// `e`, `x`, `s`, `l`, or 0 before any accepted `n`; the map's and the clock's state, and the handles; what waits for the next `n`; how many
+// counts and entries are lent; how many points the last collection has, and the kind that they are of.
 pub struct State {
     pub letter: u8,
     pub of: u8,
@@ -45,6 +46,7 @@ pub struct State {
     pub counts: u64,
     pub entries: u64,
     pub listed: usize,
+    pub collected: u8,
 }
 
 pub const UNREAD: u8 = 255;
@@ -89,7 +91,15 @@ pub fn first() -> State
         counts: 10560,
         entries: 66,
         listed: 0,
+        collected: 0,
     }
+}
+
+// Whether a series of a kind is one value: a sum or a last value.
+pub fn is_single(kind: u8) -> bool
+    ensures { λ r. ⌜ r ≡ single kind ⌝ }
+{
+    kind == b's' || kind == b'l'
 }
 
 // The lesser of a number and a most.

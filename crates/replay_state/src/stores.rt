@@ -17,13 +17,14 @@ pub type Counts = [u64; 10560];
 // Negative counts, and behind them the totals of the explicit kind, which has no negative counts.
 pub type Others = [u64; 10626];
 
-// The output: a collection may have the first 66 places and 10560 counts; behind them each of the eight kept points has a place and 160
-// counts of either sign.
+// The output: a collection may have the first 66 places and 10560 counts, one of sums or last values the bits of its points in the first 66
+// positive counts; behind them each of the eight kept points has a place and 160 counts of either sign.
 pub type ListedSets = [[u64; 9]; 74];
 
 pub type ListedWords = [[u64; 12]; 74];
 
 pub type ListedCounts = [u64; 11840];
 
-// Parts of 200 bounds: those that wait, the configured ones, those of the last collection, and those of each kept point.
-pub type Bounds = [f64; 2200];
+// Parts of 200 bounds: those that wait, the configured ones, those of the last collection, and those of each kept point; behind them the
+// values of a map of sums or last values, which has no bounds.
+pub type Bounds = [f64; 2266];

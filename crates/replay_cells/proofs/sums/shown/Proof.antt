@@ -5,13 +5,13 @@ use Rattle.replay_cells.proofs.sums.shown.Statement.{statement}
 use Rattle.replay_cells.proofs.sums.shown.Tie as tie
 
 abbrev Inv-loop : tie.InvT-loop
-Inv-loop text₀ n sets entries order figures extremes pos neg out-sets out-words out-pos out-neg m₀ i₀ text m i = i ≤ 12
+Inv-loop text₀ n sets entries order figures extremes pos neg out-sets out-words out-pos out-neg bounds sums m₀ i₀ text m i = i ≤ sums
 
 abbrev μ-loop : tie.MeasureT-loop
-μ-loop text₀ n sets entries order figures extremes pos neg out-sets out-words out-pos out-neg m₀ i₀ text m i = 12 - i
+μ-loop text₀ n sets entries order figures extremes pos neg out-sets out-words out-pos out-neg bounds sums m₀ i₀ text m i = sums - i
 
 pub shown-spec : {M : Type 1} → statement M
 shown-spec =
     tie.close
-    (tie.spec Inv-loop μ-loop (λ c. tt) (λ c κs. tt) (λ c. omega arith) (λ c κs. tt) (λ c κs. tt) (λ c κs. tt) (λ c. omega arith)
+    (tie.spec Inv-loop μ-loop (λ c. tt) (λ c κs. tt) (λ c κs. tt) (λ c. omega arith) (λ c κs. tt) (λ c κs. tt) (λ c κs. tt) (λ c. omega arith)
     (λ c. omega arith) (λ c. omega arith) (λ c κs. tt) (λ c. tt))

@@ -12,8 +12,9 @@ returns : tie.Need-returns
 returns c =
     let w = c .before .within in
     let a = c .before .before .before .args in
-    ap (λ (t : State). answered t (t .no) (t .told) (t .dir) (set (t .handles) (w .result) (a .birth)) (t .start) (t .listed)) (c .accepted .ensures)
-    ∙ ap (λ (k : ℕ). answered (a .t1) 0 (a .birth) (a .dir) (set (a .t1 .handles) k (a .birth)) (a .t1 .start) (a .t1 .listed)) (w .ensures)
+    ap (λ (t : State). answered t (t .no) (t .told) (t .dir) (set (t .handles) (w .result) (a .birth)) (t .start) (t .listed) (t .collected)) (c .accepted .ensures)
+    ∙ ap (λ (k : ℕ). answered (a .t1) 0 (a .birth) (a .dir) (set (a .t1 .handles) k (a .birth)) (a .t1 .start) (a .t1 .listed)
+    (a .t1 .collected)) (w .ensures)
 
 pub bound-spec : {M : Type 1} → statement M
 bound-spec =

@@ -17,8 +17,8 @@ returns c =
     let a = e .before .args in
     let s = a .t1 in
     c .listed .ensures
-    ∙ ap (λ (t : Turned). answered s 0 (t .start) (a .dir) (s .handles) (t .clock .start) (a .many)) (d .after-delta .ensures)
-    ∙ sym (ap (λ (b : Bool). answered s 0 (s .start) (a .dir) (s .handles) (pick b (field s 1) (s .start)) (a .many)) (e .if1 .taken))
+    ∙ ap (λ (t : Turned). answered s 0 (t .start) (a .dir) (s .handles) (t .clock .start) (a .many) (s .kind)) (d .after-delta .ensures)
+    ∙ sym (ap (λ (b : Bool). answered s 0 (s .start) (a .dir) (s .handles) (pick b (field s 1) (s .start)) (a .many) (s .kind)) (e .if1 .taken))
 
 returns-2 : tie.Need-returns-2
 unfolding pick
@@ -27,8 +27,8 @@ returns-2 c =
     let a = e .before .args in
     let s = a .t1 in
     c .listed2 .ensures
-    ∙ ap (λ (t : ℕ). answered s 0 t (a .dir) (s .handles) (s .start) (a .many)) (c .before .at-cumulative .ensures)
-    ∙ sym (ap (λ (b : Bool). answered s 0 (s .start) (a .dir) (s .handles) (pick b (field s 1) (s .start)) (a .many)) (e .if1 .left))
+    ∙ ap (λ (t : ℕ). answered s 0 t (a .dir) (s .handles) (s .start) (a .many) (s .kind)) (c .before .at-cumulative .ensures)
+    ∙ sym (ap (λ (b : Bool). answered s 0 (s .start) (a .dir) (s .handles) (pick b (field s 1) (s .start)) (a .many) (s .kind)) (e .if1 .left))
 
 pub turned-spec : {M : Type 1} → statement M
 turned-spec =

@@ -1,0 +1,3 @@
+-- The laws of `replay_singles`.
+pub mod Calls
+pub mod Lines

@@ -1,12 +1,11 @@
 """Random scripts with damage: what our program answers and leaves in every cell, against the model of the stores.
 
-    damage.py COUNT [--seed WORD] COMMAND       e.g. damage.py 1000 target/bin/replay
+    damage.py COUNT [OPTIONS] COMMAND       e.g. damage.py 1000 target/bin/replay; options as generate.py
 
 A script of generate.py gets lines `d` and `s` among its own. Prints the smallest script that differs, or how many lines were the same. Exit
 status 1 if any differs.
 """
 
-import argparse
 import random
 
 import generate
@@ -17,12 +16,13 @@ from runs import answered, smallest
 
 EDGES = (0, 1, 2, 3, 20, 21, 160, 161, 2**32 - 1, 2**32, 2**63, 2**64 - 2, 2**64 - 1)
 FLOATS = (0, SIGN, 1, GREATEST, INFINITY, CANONICAL_NAN, 0x3FF0000000000000, 0x4014000000000000)
-PLACES = {"s": 9, "e": 3, "o": 1, "f": 8, "m": 3, "t": 1}
+PLACES = {"s": 9, "e": 3, "o": 1, "f": 8, "m": 3, "t": 1, "l": 1}
+STORES, SINGLE_STORES = "sseeoofffmmpppnnttbvvwwPN", "sseeoollllllvvbtm"  # the more often, the more may come of it
 
 
-def damage(draw):
+def damage(draw, stores):
     """A cell that is in use more often than not."""
-    store = draw.choice("sseeoofffmmpppnnttbvvwwPN")
+    store = draw.choice(stores)
     number = draw.choice((draw.choice(EDGES), draw.randint(0, 8)))
     if store in script.FLOAT_STORES:
         number = draw.choice(FLOATS)
@@ -41,7 +41,7 @@ def damage(draw):
 
 
 def full(draw, held):
-    """Cells that make a count, a binding count or the last birth number as large as it can be, or one less, and still agree."""
+    """Cells that make a count, a binding count or the last birth number as large as it can be, or one less, and still agree; or a value of a sum or last value."""
     most = 2**64 - draw.choice((1, 1, 2))
     stores = held.map
     updated = [slot for slot in range(min(stores.used, 63) + 1) if stores.updated(slot)]
@@ -55,6 +55,8 @@ def full(draw, held):
     if not updated:
         return []
     slot = draw.choice(updated)
+    if stores.is_single():
+        return [script.Damage("l", slot, 0, draw.choice(FLOATS))]
     if stores.config.kind == "e":
         count, zeros = stores.rows["f"][slot][:2]
         return [script.Damage("f", slot, 0, most), script.Damage("f", slot, 1, (most - (count - zeros)) % 2**64)]
@@ -70,14 +72,14 @@ def full_words(k, held, most):
     return [script.Damage("w", k, 1, most), script.Damage("w", k, 2, (most - (words[1] - words[2])) % 2**64)]
 
 
-def make(name):
+def make(name, options=generate.Options()):
     """Damage is mostly shown at once, and the map after a good part of all lines. A model runs along, so that damage may agree."""
     draw, held, lines = random.Random(name), machine.Machine(), []
-    for line in generate.make(name):
+    for line in generate.make(name, options):
         added = [line]
         held.line(0, line)
         if draw.random() < 0.05:
-            cells = full(draw, held) if held.config and draw.random() < 0.3 else [damage(draw)]
+            cells = full(draw, held) if held.config and draw.random() < 0.3 else [damage(draw, SINGLE_STORES if held.map.is_single() else STORES)]
             added += map(script.write_line, cells)
         for more in added[1:]:
             held.line(0, more)
@@ -92,12 +94,8 @@ def differs(command, lines):
 
 
 def main():
-    parser = argparse.ArgumentParser(description=__doc__.splitlines()[0])
-    parser.add_argument("count", type=int)
-    parser.add_argument("command")
-    parser.add_argument("--seed", default="a")
-    given = parser.parse_args()
-    scripts = {name: make(name) for name in (f"{given.seed}.{i}" for i in range(given.count))}
+    names, options, given = generate.read_arguments(__doc__.splitlines()[0], "command")
+    scripts = {name: make(name, options) for name in names}
     ours = answered(given.command, scripts)
     said = {name: machine.answers(lines) for name, lines in scripts.items()}
     wrong = [name for name in scripts if ours.get(name) != said[name]]

@@ -7,13 +7,13 @@ Without damage the answers are those of reference.py, from lists of values.
 
 import script
 from bits import is_finite, to_bits, to_float
-from points import COUNT_MOST, Refused, merged
+from points import COUNT_MOST, Refused, SinglePoint, merged
 from reference import Reference, Rules
 from script import Unreadable
-from stores import COUNTS, ENTRIES, PLACES, Stores
+from stores import COUNTS, ENTRIES, PLACES, VALUES, Stores
 from words import decoded, encoded, is_point, lengths, point_agrees, set_of_words, words_of_set
 
-KEPT_COUNTS = 160  # of the program: crates/replay/src/state.rt
+KEPT_COUNTS = 160  # of the program: crates/replay_state/src/stores.rt
 PRIME = 2**31 - 1
 
 
@@ -35,7 +35,7 @@ class Machine(Reference):
         self.out_words = [[2] * 12 for _ in range(PLACES + script.KEPT)]
         self.out_counts = [[0] * (COUNTS + KEPT_COUNTS * script.KEPT) for _ in range(2)]
         self.out_bounds, self.kept_bounds = [0.0] * 200, [[0.0] * 200 for _ in range(script.KEPT)]
-        self.listed = 0
+        self.listed, self.listed_single = 0, False
         self.calls[script.Damage] = self.damage
         self.calls[script.Show] = self.show
 
@@ -114,14 +114,35 @@ class Machine(Reference):
         stores, delta = self.map, self.config.temporality == "d"
         if not stores.configured() or not stores.agrees() or not stores.touched_agree():
             raise Refused(8)
-        listed = [(slot, *stores.words_of(slot)) for slot in stores.listed(delta)]
-        self.check_places(listed, call)
-        self.put_list(listed)
+        slots = stores.listed(delta)
+        if stores.is_single():
+            self.list_values(slots, call)
+        else:
+            self.list_points(slots, call)
         start = self.start
         if delta:
             self.start = call.time
             stores.sweep()
-        return [f"c {start} {call.time} {len(listed)}", *(script.write_point(self.point_at(at, self.out_bounds)) for at in self.cursors())]
+        return [f"c {start} {call.time} {len(slots)}", *map(script.write_point, self.points())]
+
+    def list_values(self, slots, call):
+        """The bits of sums and last values lie in the positive counts, one a point; COUNTS says nothing for them."""
+        self.check_places([(slot, [], ([], [])) for slot in slots], call)
+        for place, slot in enumerate(slots):
+            self.out_sets[place] = words_of_set(self.map.set_at(slot))
+            self.out_counts[0][place] = to_bits(self.map.value_of(slot))
+        self.listed, self.listed_single = len(slots), True
+
+    def list_points(self, slots, call):
+        listed = [(slot, *self.map.words_of(slot)) for slot in slots]
+        self.check_places(listed, call)
+        self.put_list(listed)
+
+    def points(self):
+        """The points of the last collection."""
+        if not self.listed_single:
+            return [self.point_at(at, self.out_bounds) for at in self.cursors()]
+        return [SinglePoint(set_of_words(self.out_sets[k]), to_float(self.out_counts[0][k])) for k in range(self.listed)]
 
     def check_places(self, listed, call):
         if len(listed) > (PLACES if call.points is None else min(call.points, PLACES)):
@@ -134,7 +155,7 @@ class Machine(Reference):
         at = 0, 0, 0
         for slot, words, counts in listed:
             at = self.put(at, words_of_set(self.map.set_at(slot)), words, counts)
-        self.listed = len(listed)
+        self.listed, self.listed_single = len(listed), False
         self.out_bounds = list(self.map.bounds)
 
     def put(self, at, row, words, counts):
@@ -167,7 +188,7 @@ class Machine(Reference):
         return PLACES + k, COUNTS + KEPT_COUNTS * k, COUNTS + KEPT_COUNTS * k
 
     def keep(self, call):
-        if call.place >= self.listed:
+        if call.place >= self.listed or self.listed_single:
             raise Unreadable
         at = list(self.cursors())[call.place]
         self.put(self.kept_cursor(call.point), self.out_sets[at[0]], self.out_words[at[0]], self.counts_at(at))
@@ -220,6 +241,7 @@ class Machine(Reference):
         sums = [*map(mixed, self.map.cells())]
         sums += [mixed(cell for row in rows for cell in row) for rows in (self.out_sets, self.out_words)]
         sums += [mixed(counts) for counts in self.out_counts]
+        sums += [mixed(cell for row in self.map.rows[VALUES] for cell in row)] if self.map.is_single() else []
         return [" ".join(map(str, ["s", self.map.used, self.map.count, self.map.last, *sums]))]
 
 

@@ -17,14 +17,16 @@ import points
 import reference
 import sample
 from script import OVERFLOW
-from stores import ENTRIES, Stores
+from stores import ENTRIES, VALUES, Stores
 
 find_or_make = reference.Map.find_or_make
 finest_index = bits.finest_index
 row_of, drop_needed = points.row_of, points.drop_needed
 RESET, TOTAL, EXPLICIT, CANONICAL = reference.Map.reset, points.total, points.explicit_point, reference.Reference.canonical
+LAST = points.last_point
 COLLECT, LISTED = reference.Reference.collect, reference.Map.listed
 SWEEP, LAY, PLACES = Stores.sweep, Stores.lay, machine.Machine.check_places
+AGREES, FRESHEN, LIST_VALUES = Stores.series_agrees, Stores.freshen, machine.Machine.list_values
 
 # Of the reference.
 
@@ -184,6 +186,24 @@ MUTANTS = [
     ("points in the order of birth", reference.Map, "listed", in_order_of_birth),
     ("the empty set listed though not updated", reference.Map, "listed", empty_set_listed),
 ]
+
+
+def first_value(attributes, values, config):
+    return LAST(attributes, values[:1], config)
+
+
+def from_minus_zero(attributes, values, config):
+    total = -0.0
+    for value in values:
+        total += value
+    return points.SinglePoint(attributes, total)
+
+
+# Of sums and last values.
+SINGLE_MUTANTS = [
+    ("the first value handed out as the last", points.POINT_OF, "l", first_value),
+    ("a sum that starts at -0.0", points.POINT_OF, "s", from_minus_zero),
+]
 MISCUTS = [
     "miscut_power_of_two",
     "miscut_offset_halved_toward_zero",
@@ -247,6 +267,26 @@ def room_together(self, listed, call):
         raise points.Refused(10)
 
 
+def idle_value_handed_out(self, slot):
+    return self.rows[VALUES][slot][0]
+
+
+def any_value_agrees(self, slot):
+    return self.is_single() or AGREES(self, slot)
+
+
+def value_kept_at_a_reset(self, slot):
+    if not self.is_single():
+        FRESHEN(self, slot)
+
+
+def room_for_values(self, slots, call):
+    """COUNTS says how many points there is place for."""
+    if call.counts is not None and len(slots) > call.counts:
+        raise points.Refused(10)
+    LIST_VALUES(self, slots, call)
+
+
 MODELS = [
     ("a damaged series that is not updated is refused", Stores, "touched_agree", idle_refused),
     ("a damaged series is listed", Stores, "touched_agree", damage_listed),
@@ -259,6 +299,10 @@ MODELS = [
     ("the empty slot not reset", Stores, "sweep", not_reset),
     ("what lies behind a row is cleared", Stores, "lay", cleared_behind),
     ("room judged over both count stores together", machine.Machine, "check_places", room_together),
+    ("what lies in an idle slot handed out", Stores, "value_of", idle_value_handed_out),
+    ("a last value that isn't finite agrees", Stores, "series_agrees", any_value_agrees),
+    ("a sum not started anew", Stores, "freshen", value_kept_at_a_reset),
+    ("room for values judged by the counts", machine.Machine, "list_values", room_for_values),
 ]
 
 
@@ -266,12 +310,12 @@ def patched(place, name, wrong):
     return patch.dict(place, {name: wrong}) if isinstance(place, dict) else patch.object(place, name, wrong)
 
 
-def found_after(most):
+def found_after(most, options):
     """How many scripts it took until one was unexplained, None if none was."""
     comparer = compare.Comparer()
     for start in range(0, most, compare.BATCH):
         names = [f"mutant.{i}" for i in range(start, start + compare.BATCH)]
-        verdicts = comparer.compare({name: generate.make(name) for name in names})
+        verdicts = comparer.compare({name: generate.make(name, options) for name in names})
         for done, (_, verdict) in enumerate(verdicts, start + 1):
             if verdict == compare.UNEXPLAINED:
                 return done
@@ -298,7 +342,7 @@ def against_stored():
     """How many variants the stored scripts miss."""
     scripts, said = (sample.stored(sample.CRATES / "replay" / name) for name in ("stdin", "stdout"))
     plain, missed = sample.undamaged(scripts), 0
-    for place, (what, *where) in enumerate(MUTANTS):
+    for place, (what, *where) in enumerate(MUTANTS + SINGLE_MUTANTS):
         among = {MISCUTS[place]: plain[MISCUTS[place]]} if place < len(MISCUTS) else plain
         with patched(*where):
             missed += report(what, shown_by(reference.answers, among, said))
@@ -310,10 +354,11 @@ def against_stored():
 
 def against_the_rust(most):
     missed = 0
-    for what, *where in MUTANTS:
-        with patched(*where):
-            found = found_after(most)
-        missed += report(what, found and f"script {found}")
+    for mutants, options in ((MUTANTS, generate.Options()), (SINGLE_MUTANTS, sample.SINGLES)):
+        for what, *where in mutants:
+            with patched(*where):
+                found = found_after(most, options)
+            missed += report(what, found and f"script {found}")
     return missed
 
 

@@ -1,6 +1,6 @@
 """What random scripts reach: how often each call answers each number, how often each branch of document 01 is taken, and what never.
 
-    reach.py COUNT [--seed WORD]        COUNT random scripts without damage and COUNT/4 with
+    reach.py COUNT [--seed WORD]        COUNT random scripts of histograms and COUNT of sums and last values, and COUNT/4 of either with damage
 """
 
 import argparse
@@ -12,11 +12,15 @@ import points
 import script
 from bits import SIGN, to_bits
 from machine import Machine
+from sample import SINGLES
 from script import OVERFLOW
+from stores import VALUES
 
 NUMBERS = {
     "n e": (1, 2, 4, 12),
     "n x": (3, 4, 12),
+    "n s": (4, 12),
+    "n l": (4, 12),
     "r": (12, 6, 5, 8, 9),
     "h": (12, 6, 8, 7, 9),
     "b": (12, 5, 8, 9),
@@ -90,7 +94,7 @@ class Watched(Machine):
 
     def note_value(self, slot, call):
         bits, stores = int(call.value, 16), self.map
-        total = to_bits(stores.rows["m"][slot][2])
+        total = to_bits(stores.rows[VALUES][slot][0] if stores.is_single() else stores.rows["m"][slot][2])
         self.note(("recorded: zero", bits & ~SIGN == 0), ("recorded: sum infinite", total & ~SIGN == 0x7FF << 52))
         if self.config.kind == "x":
             bounds = stores.own_bounds()
@@ -171,13 +175,15 @@ def main():
     parser.add_argument("--seed", default="a")
     given = parser.parse_args()
     seen = Counter()
-    for i in range(given.count):
-        watch(seen, generate.make(f"{given.seed}.{i}"))
-    for i in range(given.count // 4):
-        watch(seen, [line for line in damage.make(f"{given.seed}.{i}") if line != "s"])
+    for options in (generate.Options(), SINGLES):
+        for i in range(given.count):
+            watch(seen, generate.make(f"{given.seed}.{i}", options))
+        for i in range(given.count // 4):
+            watch(seen, [line for line in damage.make(f"{given.seed}.{i}", options) if line != "s"])
     for call, numbers in NUMBERS.items():
-        for kind in ("",) if call[0] in "nj" else "ex":
-            said = (f"{number}: {seen[f'{call} {kind} {number}'] or 'NEVER'}" for number in (0, *numbers))
+        for kind in ("",) if call[0] in "nj" else "exsl":
+            asked = numbers[:-1] if call == "h" and kind in "sl" else numbers  # no 9 where nothing is counted and nothing made
+            said = (f"{number}: {seen[f'{call} {kind} {number}'] or 'NEVER'}" for number in (0, *asked))
             print(f"{call} {kind}".ljust(5), *said, sep="  ")
     for call, branches in BRANCHES.items():
         for what in branches.split(", "):

@@ -30,8 +30,9 @@ from script import join_scripts, split_scripts
 HERE = Path(__file__).resolve().parent / "sample"
 CRATES = HERE.parent.parent / "crates"
 STORED = {CRATES / "replay/stdin": CRATES / "replay/stdout", HERE / "scripts.txt": HERE / "answers.txt"}
-RANDOM_SCRIPTS = 250
-DAMAGED_SCRIPTS = 25
+SINGLES = generate.Options(kinds=("sf", "lf"))
+RANDOM = {"sample": (250, generate.Options()), "singles": (50, SINGLES)}
+DAMAGED = {"damage": (25, generate.Options()), "damaged_singles": (25, SINGLES)}
 
 
 def stored(path):
@@ -58,9 +59,13 @@ def expected(lines):
     return (machine if cases.is_damaged(lines) else reference).answers(lines)
 
 
+def drawn(maker, wanted):
+    """Random scripts: of each name so many with its options."""
+    return {f"{name}.{i}": maker.make(f"{name}.{i}", options) for name, (count, options) in wanted.items() for i in range(count)}
+
+
 def make():
-    random = {f"sample.{i}": generate.make(f"sample.{i}") for i in range(RANDOM_SCRIPTS)}
-    damaged = {f"damage.{i}": damage.make(f"damage.{i}") for i in range(DAMAGED_SCRIPTS)}
+    random, damaged = drawn(generate, RANDOM), drawn(damage, DAMAGED)
     for (inputs, outputs), scripts in zip(STORED.items(), (cases.scripts() | damaged, random)):
         store(inputs, scripts)
         store(outputs, {name: expected(lines) for name, lines in scripts.items()})

@@ -13,7 +13,8 @@ KEPT = 8
 WAITING_BOUNDS = 200
 WAITING_KEYS = 32
 OVERFLOW = ((4294967295, 1),)
-FLOAT_STORES = "mbB"
+FLOAT_STORES = "mbBl"
+SINGLE_KINDS = "sl"  # a series is one value
 
 
 class Unreadable(Exception):
@@ -225,7 +226,7 @@ READERS = {
     "k": (Keep, [kept, u32]),
     "j": (Merge, [kept, kept, kept, u32, optional(u32)]),
     "t": (NewSettings, [u32, i8]),
-    "d": (Damage, [read_word(*"seofmpntbvwPNB"), u32, u32, read_plain]),
+    "d": (Damage, [read_word(*"seofmpntbvwPNBl"), u32, u32, read_plain]),
     "s": (Show, []),
 }
 

@@ -6,16 +6,16 @@ no series. A row lies at the front of its slot's part of a count store, and what
 
 from collections import Counter
 
-from bits import GREATEST, index, to_bits, to_float
+from bits import GREATEST, index, is_finite, to_bits, to_float
 from points import COUNT_MOST, Refused, drop_needed, row_of
 from reference import Rules, rising
-from script import OVERFLOW, WAITING_BOUNDS, WAITING_KEYS
+from script import FLOAT_STORES, OVERFLOW, SINGLE_KINDS, WAITING_BOUNDS, WAITING_KEYS
 from words import TOP, bias, buckets_agree, extremes_agree, held_words, rows_agree, set_of_words, words_of_set
 
-PLACES, COUNTS = 66, 10560  # of the program: crates/replay/src/state.rt
+PLACES, COUNTS = 66, 10560  # of the program: crates/replay_state/src/stores.rt
 LARGEST = to_float(GREATEST)
-SETS, ENTRIES, ORDER, FIGURES, EXTREMES, POS, NEG, TOTALS = "seofmpnt"
-WIDTHS = {SETS: 9, ENTRIES: 3, ORDER: 1, FIGURES: 8, EXTREMES: 3, TOTALS: 1}
+SETS, ENTRIES, ORDER, FIGURES, EXTREMES, POS, NEG, TOTALS, VALUES = "seofmpntl"
+WIDTHS = {SETS: 9, ENTRIES: 3, ORDER: 1, FIGURES: 8, EXTREMES: 3, TOTALS: 1, VALUES: 1}
 STATE = ["used", "count", "last", "limit", "size", "level", "held", "keys"]
 
 
@@ -24,13 +24,18 @@ class Stores:
 
     def __init__(self):
         self.rows = {store: [[0] * width for _ in range(PLACES)] for store, width in WIDTHS.items()}
-        self.rows[EXTREMES] = [[0.0] * 3 for _ in range(PLACES)]
+        for store in (EXTREMES, VALUES):
+            self.rows[store] = [[0.0] * WIDTHS[store] for _ in range(PLACES)]
         self.counts = {POS: [0] * COUNTS, NEG: [0] * COUNTS}
         self.used = self.count = self.last = 0
         self.limit = self.size = self.level = self.held = self.keys = 0
         self.bounds = [0.0] * WAITING_BOUNDS
         self.filter = [0] * WAITING_KEYS
         self.config = None
+
+    def is_single(self):
+        """Whether a series is one value, a sum or a last value (request L1)."""
+        return self.config is not None and self.config.kind in SINGLE_KINDS
 
     def begin(self, config, bounds, keys):
         """After an accepted configuration; bounds and keys as they waited."""
@@ -59,12 +64,14 @@ class Stores:
         """What numbers 1 and 2, or 3, test, and the limit."""
         if self.config.kind == "e":
             return self.size in Rules.sizes and self.level <= TOP and self.limit in Rules.limits
+        if self.is_single():
+            return self.limit in Rules.limits
         return rising([to_bits(b) for b in self.own_bounds()], Rules.bounds_most) and self.limit in Rules.limits
 
     def width(self):
         if self.config.kind == "e":
             return self.size
-        bounds = self.own_bounds()
+        bounds = [] if self.is_single() else self.own_bounds()
         return len(bounds) + 1 if bounds else 0
 
     def short(self, lent, directory=False):
@@ -176,6 +183,8 @@ class Stores:
         return [self.part(store, slot, min(n, self.size + 1)) for store, n in ((POS, figures[4]), (NEG, figures[6]))]
 
     def series_agrees(self, slot):
+        if self.is_single():
+            return self.config.kind == "s" or is_finite(to_bits(self.rows[VALUES][slot][0]))
         if not extremes_agree(*self.rows[EXTREMES][slot][:2]):
             return False
         if self.config.kind == "x":
@@ -187,10 +196,13 @@ class Stores:
         if self.updated(slot):
             if not self.series_agrees(slot):
                 raise Refused(8)
-            if self.rows[FIGURES if self.config.kind == "e" else TOTALS][slot][0] == COUNT_MOST:
+            if not self.is_single() and self.rows[FIGURES if self.config.kind == "e" else TOTALS][slot][0] == COUNT_MOST:
                 raise Refused(9)
 
     def freshen(self, slot):
+        if self.is_single():
+            self.rows[VALUES][slot] = [0.0]
+            return
         self.rows[EXTREMES][slot] = [LARGEST, -LARGEST, 0.0]
         if self.config.kind == "e":
             self.rows[FIGURES][slot] = [0, 0, self.level, 0, 0, 0, 0, 0]
@@ -221,9 +233,12 @@ class Stores:
         if not self.updated(slot):
             self.freshen(slot)
         v = to_float(bits)
+        self.rows[ENTRIES][slot][2] = 1
+        if self.is_single():
+            self.rows[VALUES][slot] = [self.rows[VALUES][slot][0] + v if self.config.kind == "s" else v]
+            return
         low, high, total = self.rows[EXTREMES][slot]
         self.rows[EXTREMES][slot] = [v if v < low else low, v if v > high else high, total + v]
-        self.rows[ENTRIES][slot][2] = 1
         if self.config.kind == "x":
             self.rows[TOTALS][slot][0] += 1
             self.count_in_buckets(slot, v)
@@ -250,6 +265,10 @@ class Stores:
             return [0, 0, 0, self.level, 0, 0, 0, 0, *held], ([], [])
         return [0, *self.rows[FIGURES][slot][:7], *held], self.row_parts(slot)
 
+    def value_of(self, slot):
+        """The value of a sum's or last value's point."""
+        return self.rows[VALUES][slot][0] if self.updated(slot) else 0.0
+
     def listed(self, delta):
         """The slots that a collection lists, ascending by set: a delta the updated ones; the empty set's only if it is."""
         return [slot for slot in (0, *self.named()) if self.updated(slot) or (slot and not delta)]
@@ -263,7 +282,7 @@ class Stores:
         """Sets a cell of a store, f64 by its bits; False where there is none."""
         if store in self.rows and place < PLACES and cell < WIDTHS[store] and (store != ORDER or number < 2**32):
             self.rows[store][place] = list(self.rows[store][place])
-            self.rows[store][place][cell] = to_float(number) if store == EXTREMES else number
+            self.rows[store][place][cell] = to_float(number) if store in FLOAT_STORES else number
         elif store in self.counts and place < COUNTS and cell == 0:
             self.counts[store][place] = number
         elif store == "b" and place < WAITING_BOUNDS and cell == 0:

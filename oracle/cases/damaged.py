@@ -128,7 +128,7 @@ def filter_keys(book):
 
 def spent(book):
     """Number 9: birth numbers and binding counts."""
-    for kind in "ex":
+    for kind in "exsl":
         s = book.new(f"spent_numbers_{kind}")
         s.configure(kind)
         s.bind(0, "1:5")

@@ -44,12 +44,18 @@ class Script(list):
         self.waiting(script.Bounds, [bits_of(bound) for bound in bounds])
         self.call(script.Configure("x", "f", None, None, None, limit, temporality, extremes, sums, start))
 
+    def single(self, kind, limit=2, temporality="d", start=0):
+        """Sums (s) or last values (l)."""
+        self.call(script.Configure(kind, "f", None, None, None, limit, temporality, True, True, start))
+
     def configure(self, kind, **settings):
-        """Either kind: the explicit one with bounds 0 and 2."""
+        """Any kind: the explicit one with bounds 0 and 2."""
         if kind == "e":
             self.exponential(**settings)
-        else:
+        elif kind == "x":
             self.explicit(0.0, 2.0, **settings)
+        else:
+            self.single(kind, **settings)
 
     def filter(self, *keys):
         self.waiting(script.Filter, keys)

@@ -5,21 +5,31 @@ from itertools import combinations
 
 from cases.lines import MOST, NAN, NINE
 
-# Lines that make a number apply, and that undo it. The map holds one set, in slot 1, with a binding and the value 1.0.
+# Lines that make a number apply, and that undo it. The map holds one set, in slot 1, with a binding and the value 1.0. A sum or last value has
+# no count that could be full, so that 9 is a new set's when the birth numbers are spent; and any f64 may be a sum.
 SHORT = ["m 0 0"], ["m - -"]
 DIRECTORY = ["d o 0 0 7"], ["d o 0 0 1"]
 FULL = {
     "e": ([f"d f 1 0 {MOST}", f"d f 1 1 {MOST - 1}"], ["d f 1 0 1", "d f 1 1 0"]),
     "x": ([f"d t 1 0 {MOST}", f"d p 4 0 {MOST}"], ["d t 1 0 1", "d p 4 0 1"]),
 }
-SERIES = {"e": (["d f 1 2 21"], ["d f 1 2 20"]), "x": (["d p 3 0 5"], ["d p 3 0 0"])}
+SERIES = {
+    "e": (["d f 1 2 21"], ["d f 1 2 20"]),
+    "x": (["d p 3 0 5"], ["d p 3 0 0"]),
+    "l": ([f"d l 1 0 {NAN:016X}"], ["d l 1 0 3FF0000000000000"]),
+}
 UNBOUND = ["d e 1 1 0"], ["d e 1 1 1"]
 BOUND_FULL = [f"d e 1 1 {MOST}"], ["d e 1 1 1"]
+SPENT = [f"d v 0 2 {MOST}"], ["d v 0 2 1"]
 ARGUMENT = [], []  # said in the call itself
 
 
 def recording(active):
     return [f"r {'7FF0000000000000' if 6 in active else '3FF0000000000000'} {NINE if 5 in active else '1:1'}"]
+
+
+def recording_single(active):
+    return recording(active) if 5 in active or 9 not in active else [line.replace("1:1", "1:9") for line in recording(active)]
 
 
 def by_handle(active):
@@ -40,13 +50,19 @@ def collecting(active):
 
 def map_calls(kind):
     """Each call of the map with its numbers in order."""
-    yield "recording", recording, {12: SHORT, 6: ARGUMENT, 5: ARGUMENT, 8: DIRECTORY, 9: FULL[kind]}
-    yield "recording_series", recording, {12: SHORT, 6: ARGUMENT, 5: ARGUMENT, 8: SERIES[kind], 9: FULL[kind]}
-    yield "by_handle", by_handle, {12: SHORT, 6: ARGUMENT, 8: DIRECTORY, 7: UNBOUND, 9: FULL[kind]}
+    full = {9: FULL[kind]} if kind in FULL else {}
+    if full:
+        yield "recording", recording, {12: SHORT, 6: ARGUMENT, 5: ARGUMENT, 8: DIRECTORY} | full
+    else:
+        yield "recording", recording_single, {12: SHORT, 6: ARGUMENT, 5: ARGUMENT, 8: DIRECTORY, 9: SPENT}
+    if kind in SERIES:
+        yield "recording_series", recording, {12: SHORT, 6: ARGUMENT, 5: ARGUMENT, 8: SERIES[kind]} | full
+    yield "by_handle", by_handle, {12: SHORT, 6: ARGUMENT, 8: DIRECTORY, 7: UNBOUND} | full
     yield "binding", binding, {12: SHORT, 5: ARGUMENT, 8: DIRECTORY, 9: BOUND_FULL}
     yield "releasing", releasing, {12: SHORT, 8: DIRECTORY, 7: UNBOUND}
     yield "collecting", collecting, {12: SHORT, 8: DIRECTORY, 10: ARGUMENT}
-    yield "collecting_series", collecting, {12: SHORT, 8: SERIES[kind], 10: ARGUMENT}
+    if kind in SERIES:
+        yield "collecting_series", collecting, {12: SHORT, 8: SERIES[kind], 10: ARGUMENT}
 
 
 def tried(s, call, applies, pair):
@@ -60,7 +76,7 @@ def tried(s, call, applies, pair):
 
 
 def maps(book):
-    for kind in "ex":
+    for kind in "exsl":
         for name, call, applies in map_calls(kind):
             for pair in combinations(applies, 2):
                 if name.endswith("series") and 8 not in pair:
@@ -83,8 +99,12 @@ def explicit(active):
     return [f"g {bounds}", f"n x f - - - {63 if 4 in active else 2} d 1 1 0"]
 
 
+def single(active):
+    return [f"n s f - - - {63 if 4 in active else 2} d 1 1 0"]
+
+
 def configurings(book):
-    for call, numbers in ((exponential, (1, 2, 4, 12)), (explicit, (3, 4, 12))):
+    for call, numbers in ((exponential, (1, 2, 4, 12)), (explicit, (3, 4, 12)), (single, (4, 12))):
         applies = dict.fromkeys(numbers, ARGUMENT) | {12: SHORT}
         for pair in combinations(numbers, 2):
             s = book.new(f"order_configuring_{call.__name__}_{pair[0]}_{pair[1]}")

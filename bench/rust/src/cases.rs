@@ -76,6 +76,8 @@ pub fn all() -> Vec<Case> {
         by_handle("by handle, 62 sets of 8", many()),
         explicit("explicit, by set, 4 sets of 2", few()),
         explicit("explicit, by set, 62 sets of 8", many()),
+        sum("sum, by set, 4 sets of 2", few()),
+        sum_by_handle("sum, by handle, 4 sets of 2", few()),
     ]);
     let full = || Input::of(last(62, 2)).rows(160);
     cases.extend([
@@ -116,6 +118,20 @@ fn by_handle(name: &'static str, input: Input) -> Case {
 
 fn explicit(name: &'static str, input: Input) -> Case {
     both(name, VALUES, input, rust::explicit, ours::explicit)
+}
+
+fn sum(name: &'static str, input: Input) -> Case {
+    both(name, VALUES, input, rust::sum, ours::sum)
+}
+
+fn sum_by_handle(name: &'static str, input: Input) -> Case {
+    both(
+        name,
+        VALUES,
+        input,
+        rust::sum_by_handle,
+        ours::sum_by_handle,
+    )
 }
 
 fn delta(name: &'static str, input: Input) -> Case {

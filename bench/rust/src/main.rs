@@ -14,6 +14,7 @@ mod exponential_map;
 mod inputs;
 mod ours;
 mod rust;
+mod sum_map;
 
 use std::time::Instant;
 

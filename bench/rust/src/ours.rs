@@ -9,6 +9,7 @@ use crate::directory::{lent, shown, Lent};
 use crate::explicit_map;
 use crate::exponential_map::{Map, Output};
 use crate::inputs::{self, Input};
+use crate::sum_map;
 
 extern "C" {
     /// Crate index: the bin of a value at a level; see its contract.
@@ -107,6 +108,39 @@ pub fn explicit(input: Input) -> Side {
     Side::of(move || {
         for (v, set) in input.values.iter().zip(&input.order) {
             map.record(black_box(*v), black_box(&sets[*set]));
+        }
+    })
+}
+
+/// A map of sums with what comes first under every set.
+fn sums(input: &Input) -> sum_map::Map {
+    let mut map = sum_map::Map::new();
+    for set in pairs(input) {
+        for v in &input.first {
+            map.record(*v, &set);
+        }
+    }
+    map
+}
+
+pub fn sum(input: Input) -> Side {
+    let mut map = sums(&input);
+    let sets = pairs(&input);
+    Side::of(move || {
+        for (v, set) in input.values.iter().zip(&input.order) {
+            map.record(black_box(*v), black_box(&sets[*set]));
+        }
+    })
+}
+
+pub fn sum_by_handle(input: Input) -> Side {
+    let mut map = sums(&input);
+    let handles: Vec<u64> = (1..=input.sets.len())
+        .map(|x| map.directory.bind(x))
+        .collect();
+    Side::of(move || {
+        for (v, set) in input.values.iter().zip(&input.order) {
+            map.record_by(black_box(*v), black_box(handles[*set]));
         }
     })
 }

@@ -34,6 +34,13 @@ pub fn explicit(input: Input) -> Side {
     recording(aggregate, key_values(&input), input)
 }
 
+pub fn sum(input: Input) -> Side {
+    let aggregate = aggregate(Kind::Sum, Temporality::Delta);
+    let sets = key_values(&input);
+    fill(&aggregate, &sets, &input.first);
+    recording(aggregate, sets, input)
+}
+
 fn recording(aggregate: Aggregate<f64>, sets: Vec<Vec<KeyValue>>, input: Input) -> Side {
     Side::of(move || {
         for (v, set) in input.values.iter().zip(&input.order) {
@@ -43,7 +50,14 @@ fn recording(aggregate: Aggregate<f64>, sets: Vec<Vec<KeyValue>>, input: Input) 
 }
 
 pub fn by_handle(input: Input) -> Side {
-    let aggregate = exponential(Temporality::Delta);
+    bound(exponential(Temporality::Delta), input)
+}
+
+pub fn sum_by_handle(input: Input) -> Side {
+    bound(aggregate(Kind::Sum, Temporality::Delta), input)
+}
+
+fn bound(aggregate: Aggregate<f64>, input: Input) -> Side {
     let sets = key_values(&input);
     fill(&aggregate, &sets, &input.first);
     let bindings: Vec<_> = sets.iter().map(|set| aggregate.bind(set)).collect();

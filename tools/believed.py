@@ -11,6 +11,8 @@ CALLS = """exponential_collection lib configure delta cumulative
 explicit_collection lib configure delta cumulative
 value_map exponential_map start measure measure_by
 value_map explicit_map start measure measure_by
+singles lib configure delta cumulative
+singles map measure measure_by
 bindings lib start bind release
 exponential lib record
 explicit lib fresh record

@@ -54,8 +54,8 @@ module _ {K : Kind} {S : Store K} (L : Lister S) (w : S .Switches) (limit : ℕ)
   abbrev pub run : Held (S .Cells) → Code K
   run h = record { State = Held (S .Cells); Input = Asked K; asks = asks K; call = ended; first = h }
 
--- "Recordings and bindings, refused ones counted, are fewer than 2^64, the accepted ones on no more unlike named sets than the limit. Then ..": something
--- holds of what is given, asked and answered in every run from a state that meets demand 3's premise
+-- "Recordings and bindings, refused ones counted, are fewer than 2^64, the accepted ones on no more unlike named sets than the limit. Then ..": a claim about
+-- what is given, asked and answered holds of every run from a state, if the run meets this premise
 abbrev pub EveryRun : {K : Kind} {S : Store K} → Lister S → S .Switches → ℕ → Option (List ℕ) → Held (S .Cells)
     → (List (Asked K) → List (Call K) → List (Answer K) → Type 0) → Type 0
 EveryRun {K} {S} L w limit filter h Claim =

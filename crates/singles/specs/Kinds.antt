@@ -1,7 +1,7 @@
 -- SUMS AND LAST VALUES (request L1): kinds of series that are one f64. Assumes nothing.
 use Prim.Native.Nat.{ℕ}
 use mathlib.Core.Bool.{Bool, true}
-use mathlib.Core.List.{foldl}
+use mathlib.Core.List.{List, [], _∷_, foldl}
 use lib.Ieee.{Float, binary64, add}
 use lib.Ieee.Scale.{finite}
 use Rattle.floats.specs.Starts.{zeroFloat}
@@ -11,8 +11,19 @@ use Rattle.kinds.specs.Histograms.{histograms}
 use Rattle.singles.specs.declared.Aggregation.{Aggregation}
 use Rattle.singles.specs.declared.Aggregation.the-variants.{Sum, LastValue}
 
--- what a value makes of the f64 that is held. `Sum` of sum.rs: f64 addition in order of recording, one rounding each; `LastValue` of last_value.rs: the
--- value itself
+-- the last of a list of values; d if it has none
+abbrev pub lastOr : Float → List Float → Float
+lastOr d [] = d
+lastOr d (v ∷ []) = v
+lastOr d (v ∷ w ∷ vs) = lastOr d (w ∷ vs)
+
+-- what the values of a set come to: "the set's sum or last waiting value". A sum is f64 addition in order of recording from 0.0, one rounding each; without
+-- values either is 0.0, as in the Rust (`T::default()` in `Aggregator::create`)
+abbrev pub valueOf : Aggregation → List Float → Float
+valueOf Sum vs = foldl (add binary64) zeroFloat vs
+valueOf LastValue vs = lastOr zeroFloat vs
+
+-- what a value makes of the f64 that is held: `update` of sum.rs adds it, that of last_value.rs puts it in its place
 abbrev pub step : Aggregation → Float → Float → Float
 step Sum x v = add binary64 x v
 step LastValue x v = v
@@ -22,9 +33,8 @@ abbrev pub holds : Aggregation → Float → Bool
 holds Sum x = true
 holds LastValue x = finite x
 
--- THE KINDS. "A value that isn't finite is 6 here too." They have no settings; they keep no count, so no 9 is about one. A series starts at 0.0, as
--- `Aggregator::create` of the Rust does (`T::default()`). A point is the bits of the value, 7FF8000000000000 for a NaN, and has no counts: "Delta points
--- are the tally's, with the set's sum or last waiting value."
+-- THE KINDS. "A value that isn't finite is 6 here too." They have no settings; they keep no count, so no 9 is about one. A point is the bits of the value,
+-- 7FF8000000000000 for a NaN, and has no counts.
 abbrev pub singles : Aggregation → Kind
 singles a =
     record {
@@ -42,6 +52,6 @@ singles a =
       point = λ z x. bitsOf x;
       pos = λ p. 0;
       neg = λ p. 0;
-      pointOf = λ z vs. bitsOf (foldl (step a) zeroFloat vs);
+      pointOf = λ z vs. bitsOf (valueOf a vs);
       allowed = λ z vs v. true;
     }

@@ -7,3 +7,4 @@ pub mod Equal
 pub mod Choices
 pub mod Starts
 pub mod Sums
+pub mod Whole

@@ -43,7 +43,7 @@ sum-exact z (x ∷ xs) a h =
     ∙ sum-exact (z +ℤ steps x) xs (a .1) (omega (arith, abs-add z (steps x)))
     ∙ ap grid (+ℤ-assoc z (steps x) (exactTotal xs))
 
-zero-is : zeroFloat ≡ grid (pos 0)
+pub zero-is : zeroFloat ≡ grid (pos 0)
 unfolding grid round ofBits
 zero-is = refl
 
@@ -84,7 +84,7 @@ gridded-left xs ys g = record { whole = all-left Whole xs ys (g .whole); light =
 pub gridded-right : (xs ys : List Float) → Gridded (xs ++ ys) → Gridded ys
 gridded-right xs ys g = record { whole = all-right Whole xs ys (g .whole); light = omega (arith, weight-append xs ys, g .light) }
 
-total-weight : (xs : List Float) → natAbs (exactTotal xs) ≤ weight xs
+pub total-weight : (xs : List Float) → natAbs (exactTotal xs) ≤ weight xs
 unfolding exactTotal weight
 total-weight [] = omega arith
 total-weight (x ∷ xs) = omega (arith, total-weight xs, abs-add (steps x) (exactTotal xs))

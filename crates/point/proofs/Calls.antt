@@ -23,8 +23,8 @@ use Rattle.point.specs.declared.Point.{Point}
 use Rattle.point.specs.declared.Figures.the-variants.{Exponential, Explicit}
 use Rattle.point.specs.declared.Made.{Made}
 use Rattle.point.specs.declared.Made.the-variants.{Of, NoRoom}
-use Rattle.point.specs.Handing.{Stored, countsAs, countsIn, handedIn, figuresFor, Outcome, ended, laidOver, refusalBefore, merging}
-use Rattle.point.specs.Inner.{sizeFits, countIn, sameFigures, figuresAgree, pointAgrees, Over, madeOver, countsOver, madeOne, laidOne, finished}
+use Rattle.point.specs.Handing.{Stored, countsAs, countsIn, handedIn, figuresFor, Outcome, ended, laidOver, refusalBefore, merging, countIn}
+use Rattle.point.specs.Inner.{sizeFits, sameFigures, figuresAgree, pointAgrees, Over, madeOver, countsOver, madeOne, laidOne, finished}
 use Rattle.point.proofs.Laid.{addable, over-one}
 use Rattle.point.proofs.Means.{refusal-is}
 use Rattle.laws.specs.Counting.{mostCount}

@@ -9,7 +9,7 @@ use lib.Ieee.{Float}
 use Rattle.laws.specs.Pick.{pick}
 use Rattle.index.specs.Bins.{finest, lowestBin}
 use Rattle.points.specs.Figures as F
-use Rattle.points.specs.Figures.{Kind, sizePasses, settingsOf, exponentialCounts, explicitCounts, figuresOf}
+use Rattle.points.specs.Figures.{Kind, mostSize, sizePasses, settingsOf, exponentialCounts, explicitCounts, figuresOf}
 use Rattle.points.specs.Handed.{Handed, handedOut, handed, sameKind, mergeable, extremesAgree, countsAgree, handedAgrees, countOf, sizeAsked, unmergeable}
 use Rattle.exponential.specs.declared.Head as SH
 use Rattle.exponential.specs.Series.{read, agrees}
@@ -19,8 +19,8 @@ use Rattle.explicit.specs.Series as B
 use Rattle.explicit.specs.Series.{bucketsIn}
 use Rattle.point.specs.declared.Figures.{Figures}
 use Rattle.point.specs.declared.Figures.the-variants.{Exponential, Explicit}
-use Rattle.point.specs.Handing.{Stored, storedIn, countsAs, countsIn, handedIn, figuresShaped, inShape, exponentialPoint, explicitPoint, refusalBefore}
-use Rattle.point.specs.Inner.{figuresAgree, pointAgrees, countIn, sameFigures, sizeFits}
+use Rattle.point.specs.Handing.{Stored, storedIn, countsAs, countsIn, handedIn, figuresShaped, inShape, agreesAlone, exponentialPoint, explicitPoint, refusalBefore, countIn}
+use Rattle.point.specs.Inner.{figuresAgree, pointAgrees, sameFigures, sizeFits}
 use Rattle.laws.specs.Counting.{mostCount}
 
 -- ---- WHAT A SERIES HANDS OUT, by its two switches; the zero threshold is 0.0
@@ -76,6 +76,15 @@ module _ (size : ℕ) (x : Stored) where
   pub agrees-whole : sizeFor size (x .point .figures) ≡ true → inShape x ≡ true → pointAgrees size x ≡ agreesRead size (handedIn x)
   agrees-whole s w = agrees-is ∙ (λ j. (s j && w j) && agreesRead size (handedIn x))
 
+most-for : (f : Figures) → sizeFor mostSize f ≡ true
+most-for (Exponential c) = refl
+most-for (Explicit n) = refl
+
+-- by itself
+pub agrees-alone : (x : Stored) → pointAgrees mostSize x ≡ agreesAlone x
+unfolding agreesAlone
+agrees-alone x = agrees-is mostSize x ∙ ap (λ (b : Bool). (b && inShape x) && agreesRead mostSize (handedIn x)) (most-for (x .point .figures))
+
 -- ---- THE REFUSALS OF A MERGE
 swap : (i j g h : Bool) → (i && g) && (j && h) ≡ (i && j) && (g && h)
 swap true true g h = refl
@@ -103,7 +112,7 @@ second-size size (Exponential c) (Explicit m) h = refl
 second-size size (Explicit n) (Exponential d) h = h
 second-size size (Explicit n) (Explicit m) h = refl
 
-count-is : (f : Figures) (bs : List Float) (xs ys : List ℕ) → countIn f ≡ countOf (countsAs f bs xs ys)
+pub count-is : (f : Figures) (bs : List Float) (xs ys : List ℕ) → countIn f ≡ countOf (countsAs f bs xs ys)
 count-is (Exponential c) bs xs ys = refl
 count-is (Explicit n) bs xs ys = refl
 

@@ -9,12 +9,12 @@ use denote.Ref.{RefT, now}
 use Rattle.laws.specs.Pick.{pick}
 use Rattle.laws.specs.Said.{Said, refusal, success}
 use Rattle.laws.specs.Over.{over}
-use Rattle.index.specs.Bins.{finest}
+use Rattle.index.specs.Bins.{finest, lowestBin}
 use Rattle.floats.specs.Answers.{shownOf}
 use Rattle.floats.specs.Starts.{zeroFloat}
 use Rattle.points.specs.Figures as F
-use Rattle.points.specs.Figures.{exponentialCounts, explicitCounts}
-use Rattle.points.specs.Handed.{Handed, mergeHanded, unmergeable, posOf, negOf}
+use Rattle.points.specs.Figures.{mostSize, exponentialCounts, explicitCounts}
+use Rattle.points.specs.Handed.{Handed, mergeHanded, handedAgrees, unmergeable, posOf, negOf}
 use Rattle.exponential.specs.declared.Head as SH
 use Rattle.exponential.specs.Series.{read, countsFor}
 use Rattle.explicit.specs.declared.Head as BH
@@ -50,6 +50,11 @@ countsAs (Explicit n) bs xs ys = explicitCounts bs (bucketsIn bs n xs)
 abbrev pub countsIn : Stored → F.Counts
 countsIn x = countsAs (x .point .figures) (x .bounds) (x .pos) (x .neg)
 
+-- the count of values, as it is held
+abbrev pub countIn : Figures → ℕ
+countIn (Exponential c) = c .count
+countIn (Explicit n) = n
+
 -- a point holds no zero threshold: it is 0.0
 abbrev pub handedIn : Stored → Handed
 handedIn x =
@@ -69,6 +74,10 @@ figuresShaped (Explicit n) xs ys = true
 
 abbrev pub inShape : Stored → Bool
 inShape x = figuresShaped (x .point .figures) (x .pos) (x .neg)
+
+-- a point by itself, with no merge's max_size, agrees "under size 160 and scale 10", the finest level (request L2; L5 and L10 ask the same)
+unfoldable pub agreesAlone : Stored → Bool
+agreesAlone x = inShape x && handedAgrees mostSize finest (lowestBin finest) (handedIn x)
 
 -- ---- the point of a series: "with min/max off a point has neither, with the sum off it hands out 0.0"
 

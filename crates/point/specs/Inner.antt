@@ -38,10 +38,6 @@ abbrev pub isExplicit : Figures → Bool
 isExplicit (Exponential c) = false
 isExplicit (Explicit n) = true
 
-abbrev pub countIn : Figures → ℕ
-countIn (Exponential c) = c .count
-countIn (Explicit n) = n
-
 abbrev pub sameFigures : Figures → List Float → Figures → List Float → Bool
 sameFigures (Exponential c) bs (Exponential d) cs = true
 sameFigures (Exponential c) bs (Explicit m) cs = false

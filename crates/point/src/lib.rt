@@ -7,8 +7,8 @@ ghost use Rattle.floats.specs.Starts.{zeroFloat};
 ghost use Rattle.points.specs.Handed.{extremesAgree};
 ghost use Rattle.laws.specs.Pick.{pick};
 ghost use lib.Ieee.Scale.{finite};
-ghost use Rattle.point.specs.Handing.{stored, shownPoint, exponentialPoint, explicitPoint, refusalBefore, said, outcome, merging};
-ghost use Rattle.point.specs.Inner.{figuresAgree, pointAgrees, isExplicit, countIn, sameFigures, sizeFits};
+ghost use Rattle.point.specs.Handing.{stored, countIn, agreesAlone, shownPoint, exponentialPoint, explicitPoint, refusalBefore, said, outcome, merging};
+ghost use Rattle.point.specs.Inner.{figuresAgree, pointAgrees, isExplicit, sameFigures, sizeFits};
 ghost use Rattle.point.specs.Inner.{madeOver, countsOver, madeOne, laidOne, finished};
 ghost use lib.Dec.{leb};
 ghost use mathlib.Core.Bool.{Bool·beq, _&&_};
@@ -79,6 +79,16 @@ pub fn explicit_point(head: explicit::Head, extremes: bool, sums: bool) -> Point
     handed_out(f, head.min, head.max, head.sum, extremes, sums)
 }
 
+// The count of a point's values.
+pub fn count_in(f: Figures) -> u64
+    ensures { λ r. ⌜ r ≡ countIn f ⌝ }
+{
+    match f {
+        Figures::Exponential(c) => c.count,
+        Figures::Explicit(count) => count,
+    }
+}
+
 // ---- agreement
 
 fn extremes_agree(min: Extreme, max: Extreme) -> bool
@@ -114,8 +124,8 @@ fn figures_agree(size: usize, f: Figures, bounds: &[f64], pos: &[u64], neg: &[u6
     }
 }
 
-// Whether a point agrees with itself under a max_size, as number 8 asks; never refused.
-pub fn point_agrees(size: usize, p: Point, bounds: &[f64], pos: &[u64], neg: &[u64]) -> bool
+// Whether a point agrees with itself under a max_size, as number 8 asks.
+fn point_agrees(size: usize, p: Point, bounds: &[f64], pos: &[u64], neg: &[u64]) -> bool
     ensures { λ r. ⌜ r ≡ pointAgrees size (stored p (bounds .entry) (pos .entry) (neg .entry)) ⌝ }
 {
     let f = p.figures;
@@ -127,6 +137,13 @@ pub fn point_agrees(size: usize, p: Point, bounds: &[f64], pos: &[u64], neg: &[u
     extremes_agree(min, max)
 }
 
+// Whether a point agrees with itself under max_size 160 and the greatest scale, as number 8 asks where there is no merge; never refused.
+pub fn agrees_alone(p: Point, bounds: &[f64], pos: &[u64], neg: &[u64]) -> bool
+    ensures { λ r. ⌜ r ≡ agreesAlone (stored p (bounds .entry) (pos .entry) (neg .entry)) ⌝ }
+{
+    point_agrees(exponential::MOST_SIZE, p, bounds, pos, neg)
+}
+
 // ---- the refusals of a merge that need no room
 
 fn is_explicit(f: Figures) -> bool
@@ -135,15 +152,6 @@ fn is_explicit(f: Figures) -> bool
     match f {
         Figures::Exponential(c) => false,
         Figures::Explicit(count) => true,
-    }
-}
-
-fn count_in(f: Figures) -> u64
-    ensures { λ r. ⌜ r ≡ countIn f ⌝ }
-{
-    match f {
-        Figures::Exponential(c) => c.count,
-        Figures::Explicit(count) => count,
     }
 }
 

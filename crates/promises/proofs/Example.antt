@@ -6,12 +6,14 @@ use mathlib.Core.Bool.{Bool, true}
 use mathlib.Core.List.{List, [], _∷_, List·Permᴰ, Permᴰ·refl}
 use mathlib.Core.Option.{none}
 use native.Mathlib.Omega.{arith}
+use lib.IntN.{pos}
 use lib.ListN.{replicate, getD}
 use lib.Ieee.{Float, nan, binary64, ofBits, ofFields, toBits, lt, add, eq, isNan, fits, round}
 use Rattle.laws.specs.Over.{over}
 use Rattle.laws.specs.Pick.{pick}
 use Rattle.laws.specs.Said.{success}
 use Rattle.laws.specs.Trees.{leaf, node}
+use Rattle.floats.specs.Grid.{isWhole, exactTotal}
 use Rattle.floats.specs.Starts.{zeroFloat}
 use Rattle.floats.specs.declared.Extreme.the-variants.{Value}
 use Rattle.points.specs.Explicit.{bucketOf, bucketsOf, recordBucket, bucketsAgree, boundsPass, noNan, rising, mergeBuckets, added, sameBounds}
@@ -19,7 +21,10 @@ use Rattle.points.specs.Figures.{explicitCounts}
 use Rattle.points.specs.Handed.{Handed, handed, mergeable, mergeHanded, handedAgrees, unmergeable}
 use Rattle.points.specs.Stands.{Stands}
 use Rattle.point.specs.declared.Figures.the-variants.{Explicit}
-use Rattle.point.specs.Handing.{Stored, storedIn, handedIn, refusalBefore, laidOver, merging}
+use Rattle.point.specs.Handing.{Stored, storedIn, handedIn, agreesAlone, refusalBefore, laidOver, merging}
+use Rattle.mean.specs.Rounding.{rounded, nearest}
+use Rattle.mean.specs.Mean.{onGrid, meanOf, meanIn}
+use Rattle.mean.specs.Values.{meanOfAll}
 use Rattle.merging.proofs.Groups.{mergedStored}
 use Rattle.tally.specs.Sets.{Set, Lendable}
 use Rattle.tally.specs.Kind.{Room}
@@ -202,3 +207,8 @@ stands =
     subst (Stands (c .settings) (handedIn all)) values
     ((demanded .pools A 0 refl (ap (any histograms) values) .stands (node (leaf s₁) (leaf s₂)) (subst (λ l. List·Permᴰ l (s₁ ∷ s₂ ∷ [])) (sym points) (Permᴰ·refl (s₁ ∷ s₂ ∷ []))) all
     (s₁, s₂, 0 ∷ 0 ∷ 0 ∷ [], [], refl, refl, together)) .0)
+
+-- and its mean is theirs: 11 / 3, in hundredths
+mean : (meanIn all ≡ success (pos 367)) × (meanOfAll true (five ∷ less ∷ seven ∷ []) ≡ success (pos 367))
+unfolding meanIn agreesAlone meanOf meanOfAll exactTotal onGrid isWhole nearest rounded handedAgrees bucketsAgree boundsPass noNan rising isNan lt ofBits pick
+mean = (refl, refl)

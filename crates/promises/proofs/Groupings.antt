@@ -31,6 +31,7 @@ use Rattle.point.specs.Lists.{Configured, PointOf, Long}
 use Rattle.point.proofs.Lists.{long-enough}
 use Rattle.point.proofs.Means.{agreesRead, agrees-whole, sizeFor}
 use Rattle.point.proofs.Answers.{hasRoom, answers, no-room, sound}
+use Rattle.mean.proofs.Standing.{mean-stands}
 use Rattle.merging.specs.Merged.{Groups}
 use Rattle.merging.proofs.Groups.{mergedStored}
 use Rattle.value_map.proofs.Cases.{refusal-no-success}
@@ -358,6 +359,7 @@ module _ (z : Settings) where
         record {
           there = some;
           stands = λ t h x g. (whole size u t h x g .stands, shown z k size u vs x (whole size u t h x g));
+          mean = λ on t h x g. let f = whole size u t h x g in mean-stands z k x (f .shape) vs (f .stands) on;
           onlyTen = λ s t rest h x y g j us vs n e.
               let f = front (leaves s ++ leaves t) rest h in
               two-ten z k size u s t (f .pairs) (f .points-are) (f .each) (f .fewer) x y g j us vs n e;

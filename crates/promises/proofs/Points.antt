@@ -1,11 +1,17 @@
--- The terms of the promises about points of lists, under their names in small letters. Assumes nothing.
+-- The terms of the promises about points of lists and their means, under their names in small letters. Assumes nothing.
+use mathlib.Core.Path.{sym, subst}
+use Rattle.floats.proofs.Whole.{whole-is, is-whole}
+use Rattle.points.specs.Stands.{Stands}
+use Rattle.points.proofs.Stands.{handed-stands}
 use Rattle.point.proofs.Answers.{merged-reads}
 use Rattle.point.proofs.Lists.{exponential-recorded, explicit-recorded}
+use Rattle.mean.proofs.Rounding.{hundredths-nearest, hundredths-half}
+use Rattle.mean.proofs.Standing.{mean-stands}
 use Rattle.merging.proofs.Groups as Groups
 use Rattle.merging.proofs.Orders.{all-alike}
 use Rattle.merging.proofs.Fresh.{fresh-first, fresh-second}
 use Rattle.pooling.proofs.Merges.{as-stored, holds}
-use Rattle.promises.specs.Points.{ExponentialRecords, ExplicitRecords, MergeAnswers, ListsMerge, AnyGrouping, EveryGrouping, FreshMerges, ListedMerge}
+use Rattle.promises.specs.Points.{ExponentialRecords, ExplicitRecords, MergeAnswers, ListsMerge, AnyGrouping, EveryGrouping, FreshMerges, ListedMerge, PointMean, NearestMean, HalfMean, WholeTest}
 use Rattle.promises.proofs.Groupings.{two-lists}
 
 pub exponential-records : ExponentialRecords
@@ -32,3 +38,16 @@ fresh-merges size s top f y z none g us vs = (fresh-first size s top f y none g 
 
 pub listed-merge : ListedMerge
 listed-merge size a x b y at o e f s p q h = (as-stored size a x b y at o e f s p q h, λ z g. holds size a x b y at o e f s p q h z g)
+
+pub point-mean : PointMean
+point-mean s k vs x p g =
+    mean-stands s k x (p .shape) vs (subst (λ h. Stands s h vs) (sym (p .is)) (handed-stands s vs (p .values))) g
+
+pub nearest-mean : NearestMean
+nearest-mean = hundredths-nearest
+
+pub half-mean : HalfMean
+half-mean = hundredths-half
+
+pub whole-test : WholeTest
+whole-test x = (whole-is x, is-whole x)

@@ -1,15 +1,17 @@
--- POINTS OF LISTS, recorded and merged by code: each theorem as a type. A stored point is a point with its bounds and the lent rows that hold
--- its counts (`Stored`); it reads as a point of document 01 (`handedIn`). Assumes nothing.
-use Prim.Native.Nat.{ℕ, _+_, _^_, _≤_, _<_}
+-- POINTS OF LISTS, recorded and merged by code, and their means: each theorem as a type. A stored point is a point with its bounds and the
+-- lent rows that hold its counts (`Stored`); it reads as a point of document 01 (`handedIn`). Assumes nothing.
+use Prim.Native.Nat.{ℕ, _+_, _*_, _^_, _≤_, _<_}
 use mathlib.Core.Path.{_≡_}
 use mathlib.Core.Bool.{Bool, true}
 use mathlib.Core.List.{List, [], _++_, foldl, List·Permᴰ}
+use lib.IntN.{ℤ, pos, natAbs, _-ℤ_, _*ℤ_}
 use lib.ListN.{length, getD, drop, replicate}
 use lib.Ieee.{Float}
 use Rattle.laws.specs.Lists.{All}
 use Rattle.laws.specs.Said.{success}
 use Rattle.laws.specs.Trees.{Tree, leaves}
 use Rattle.index.specs.Bins.{finest}
+use Rattle.floats.specs.Grid.{Whole, isWhole, Gridded}
 use Rattle.floats.specs.Starts.{FiniteF64}
 use Rattle.points.specs.Explicit.{boundsPass, bucketCount}
 use Rattle.points.specs.Figures.{exponential, explicit, sizePasses, Settings, settingsOf}
@@ -29,6 +31,10 @@ use Rattle.listing.specs.declared.Cursor.{Cursor}
 use Rattle.listing.specs.declared.Entry.{Entry}
 use Rattle.listing.specs.declared.Found.the-variants.{Is}
 use Rattle.pooling.specs.Lists.{Source, wholeAt, hasPlace, putMerged, pooledAt, Holds}
+use Rattle.mean.specs.Rule.{half}
+use Rattle.mean.specs.Rounding.{hundredths}
+use Rattle.mean.specs.Mean.{meanIn}
+use Rattle.mean.specs.Values.{meanOfAll}
 use Rattle.merging.specs.Merged.{Good, AtTop, Groups}
 use Rattle.laws.specs.Counting.{mostCount, sum}
 
@@ -101,3 +107,24 @@ ListedMerge =
     let row = getD (x .list .sets) (a .place) [] in
     (pooledAt size a x b y at o ≡ putMerged at row (e .bounds) o m)
     × ((z : Stored) → m ≡ success z → Holds at row (e .bounds) (x .bounds) z (pooledAt size a x b y at o .output))
+
+-- ---- THE MEAN IN HUNDREDTHS (request L2)
+
+-- document 01's point of values that are whole 1/1024ths, magnitudes totalling at most 2^43, has their mean; with no values it is 13
+abbrev pub PointMean : Type 0
+PointMean =
+    (s : Settings) → Configured (s .kind) → (vs : List Float) (x : Stored) → PointOf s vs x → Gridded vs → meanIn x ≡ meanOfAll (s .sums) vs
+
+-- "rounded to the nearest whole number": of a sum of z / 1024 over a count, what is answered times 1024 * count is off 100 * z by no more
+-- than a half of 1024 * count. With the next theorem it leaves one number
+abbrev pub NearestMean : Type 0
+NearestMean = (z : ℤ) (count : ℕ) → 0 < count → natAbs (hundredths z count *ℤ pos (count * 1024) -ℤ z *ℤ pos 100) * 2 ≤ count * 1024
+
+-- and where the mean's magnitude is k and a half hundredths, it is the rule's
+abbrev pub HalfMean : Type 0
+HalfMean =
+    (z : ℤ) (count k : ℕ) → 0 < count → 2 * (natAbs z * 100) ≡ 2 * (k * (count * 1024)) + count * 1024 → natAbs (hundredths z count) ≡ half k
+
+-- what number 14 tests is demand 3's grid: a whole number of 1/1024
+abbrev pub WholeTest : Type 0
+WholeTest = (x : Float) → (isWhole x ≡ true → Whole x) × (Whole x → isWhole x ≡ true)

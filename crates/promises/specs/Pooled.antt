@@ -10,11 +10,14 @@ use lib.Ieee.{Float}
 use Rattle.laws.specs.Lists.{All}
 use Rattle.laws.specs.Said.{refusal, success}
 use Rattle.laws.specs.Trees.{Tree, leaves}
+use Rattle.floats.specs.Grid.{Gridded}
 use Rattle.points.specs.Figures.{Settings}
 use Rattle.points.specs.Same.{resized}
 use Rattle.points.specs.Stands.{Stands}
 use Rattle.point.specs.Handing.{Stored, handedIn, merging}
 use Rattle.point.specs.Lists.{PointOf, Long}
+use Rattle.mean.specs.Mean.{meanIn}
+use Rattle.mean.specs.Values.{meanOfAll}
 use Rattle.merging.specs.Merged.{Groups}
 use Rattle.tally.specs.Sets.{Set, ofSet}
 use Rattle.tally.specs.Map.{Config, Call, Answer}
@@ -60,6 +63,8 @@ pub record Pools (z : Settings) (ps : List Stored) (values : List Float) (size :
   -- sum too, if ..": `Stands` says each of them, `Shows` scale and offsets as they leave, signed
   pub stands : (t : Tree Stored) → List·Permᴰ ps (leaves t) → (x : Stored) → Groups size t x
       → Stands z (handedIn x) values × Shows (z .kind) (z .threshold) values (x .point .figures)
+  -- request L2: the card of what is merged is the card of all the values, where these are whole 1/1024ths whose magnitudes total at most 2^43
+  pub mean : Gridded values → (t : Tree Stored) → List·Permᴰ ps (leaves t) → (x : Stored) → Groups size t x → meanIn x ≡ meanOfAll (z .sums) values
   -- "A merge is refused only with 10": of what any groupings of some of the points left
   pub onlyTen : (s t : Tree Stored) (rest : List Stored) → List·Permᴰ ps ((leaves s ++ leaves t) ++ rest) → (x y : Stored)
       → Groups size s x → Groups size t y → (us vs : List ℕ) (n : ℕ) → merging size x y us vs .answer ≡ refusal n → n ≡ 10

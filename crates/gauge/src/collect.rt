@@ -98,6 +98,7 @@ pub fn collect(
             let end = printing::collection(
                 text,
                 n,
+                printing::Form::Point,
                 t.start,
                 time,
                 many,

@@ -15,7 +15,7 @@ fn scale_of(negative: bool, size: u64) -> i32 {
 fn answer(text: &mut Block, n: usize, bits: u64, scale: i32) -> usize {
     let found = index::signed::get_index(floats::of_bits(bits), scale);
     match found {
-        Index::At { negative: _, index } => output::signed(text, n, index),
+        Index::At { negative: _, index } => output::signed(text, n, index as i64),
         _ => output::byte(text, n, b'?'),
     }
 }

@@ -65,13 +65,13 @@ pub fn decimal(text: &mut Block, n: usize, x: u64) -> usize
     bytes(text, n, &digits[..k])
 }
 
-// A signed number in decimal.
-pub fn signed(text: &mut Block, n: usize, x: i32) -> usize
+// A signed number in decimal. The least has no i64 of the other sign: the next above it has.
+pub fn signed(text: &mut Block, n: usize, x: i64) -> usize
     ensures { λ r. ⌜ waiting r (text .exit) ≡ Written.signed x behind waiting n (text .entry) ⌝ }
 {
     if x < 0 {
         let m = byte(text, n, b'-');
-        return decimal(text, m, (0 - (x as i64)) as u64);
+        return decimal(text, m, (0 - (x + 1)) as u64 + 1);
     }
     decimal(text, n, x as u64)
 }

@@ -1,41 +1,47 @@
 -- The lines that are printed. Document 01, "A run of the gauge program": 'A line that it can't read .. prints `? N`', and '`c` start, time,
 -- points; `p` set, count, zero count, scale, min, max, sum, then positive and negative row'. The lines `q`, of an explicit point, and `v`, of a
--- sum or last value, are those of docs/REPLAY.md: 'q SET COUNT MIN MAX SUM BUCKETS BOUNDS', 'v SET VALUE'. The letters are ASCII. Assumes nothing.
+-- sum or last value, are those of docs/REPLAY.md: 'q SET COUNT MIN MAX SUM BUCKETS BOUNDS', 'v SET VALUE'; a card's line is 'SET MEAN' or
+-- 'SET ! N'. The letters are ASCII. Assumes nothing.
 use Prim.Native.Nat.{ℕ, zero, suc, _+_}
 use mathlib.Core.Bool.{true, false}
 use mathlib.Core.List.{List, [], _∷_, _++_, map}
 use lib.Dec.{ltb}
 use lib.ListN.{length, getD, take}
+use lib.IntN.{ℤ}
 use lib.Ieee.{Float}
 use Rattle.laws.specs.Pick.{pick}
+use Rattle.laws.specs.Said.{Said, refusal, success}
 use Rattle.text.specs.Numbers.{hexDigits}
-use Rattle.lines.specs.Written.{decimal}
+use Rattle.lines.specs.Written.{decimal, signed}
 use Rattle.tally.specs.Sets.{Set}
 use Rattle.sets.specs.Rows.{setOf}
 use Rattle.point.specs.Handing.{Stored}
 use Rattle.point.specs.Signed.{scaleShown, offsetShown}
 use Rattle.point.specs.declared.Figures.{Figures}
 use Rattle.point.specs.declared.Figures.the-variants.{Exponential, Explicit}
-use Rattle.point.specs.declared.Point.{Point}
+use Rattle.point.specs.declared.Point as P
+use Rattle.mean.specs.Mean.{meanIn}
 use Rattle.listing.specs.Listed.{Output, pointAt, storedAt}
 use Rattle.listing.specs.declared.Cursor.{Cursor}
 use Rattle.listing.specs.declared.Found.{Found}
 use Rattle.listing.specs.declared.Found.the-variants.{NoPoint, Is}
+use Rattle.printing.specs.declared.Form.{Form}
+use Rattle.printing.specs.declared.Form.the-variants.{Point, Card}
 use Rattle.printing.specs.Fields.{listed, line, setField, floatField, extremeField, integerField, rowField}
 
 -- ---- a point
 
 -- min, max, sum, and what follows
-abbrev pub heldFields : Point → List (List ℕ) → List (List ℕ)
+abbrev pub heldFields : P.Point → List (List ℕ) → List (List ℕ)
 heldFields p rest = extremeField (p .min) ∷ extremeField (p .max) ∷ floatField (p .sum) ∷ rest
 
 -- from the scale on, of the exponential kind; behind the count, of the explicit kind
-abbrev pub exponentialFields : Point → List ℕ → List ℕ → List (List ℕ)
+abbrev pub exponentialFields : P.Point → List ℕ → List ℕ → List (List ℕ)
 exponentialFields p xs ys =
     integerField (scaleShown (p .figures))
     ∷ heldFields p (rowField (offsetShown false (p .figures)) xs ∷ rowField (offsetShown true (p .figures)) ys ∷ [])
 
-abbrev pub explicitFields : Point → List ℕ → List Float → List (List ℕ)
+abbrev pub explicitFields : P.Point → List ℕ → List Float → List (List ℕ)
 explicitFields p xs bounds = heldFields p (listed (map decimal xs) ∷ listed (map floatField bounds) ∷ [])
 
 -- the fields behind the set
@@ -52,14 +58,30 @@ letter (Explicit n) = 113
 unfoldable pub pointLine : Set → Stored → List ℕ
 pointLine s x = line ((letter (x .point .figures) ∷ []) ∷ setField s ∷ figuresFields (x .point .figures) x)
 
+-- ---- its card. Request L2: "one line per blade: the mean deviation in whole hundredths of a millimetre"
+
+-- the mean as `-13`, a refusal as `! 13`; `!` is the byte 33
+abbrev pub meanFields : Said ℤ → List (List ℕ)
+meanFields (success z) = signed z ∷ []
+meanFields (refusal n) = (33 ∷ []) ∷ decimal n ∷ []
+
+-- the line of a point's card, with its set
+unfoldable pub cardLine : Set → Stored → List ℕ
+cardLine s x = line (setField s ∷ meanFields (meanIn x))
+
+-- the line of a point in a form
+abbrev pub lineOf : Form → Set → Stored → List ℕ
+lineOf Point = pointLine
+lineOf Card = cardLine
+
 -- ---- the points of a list
 
 -- The line of what was found at a cursor, and the cursor behind it. Nothing is printed where there is no point, or no row of its set. A row
 -- has words for eight attributes.
-abbrev pub foundLine : Cursor → Found → Output → List Float → List ℕ
-foundLine at NoPoint o bounds = []
-foundLine at (Is e) o bounds =
-    pick (ltb (at .place) (length (o .sets))) (pointLine (take 8 (setOf (getD (o .sets) (at .place) []))) (storedAt at e bounds o)) []
+abbrev pub foundLine : Form → Cursor → Found → Output → List Float → List ℕ
+foundLine form at NoPoint o bounds = []
+foundLine form at (Is e) o bounds =
+    pick (ltb (at .place) (length (o .sets))) (lineOf form (take 8 (setOf (getD (o .sets) (at .place) []))) (storedAt at e bounds o)) []
 
 abbrev pub foundNext : Cursor → Found → Output → Cursor
 foundNext at NoPoint o = at
@@ -69,16 +91,16 @@ abbrev pub found : Cursor → Output → Found
 found at o = pointAt at (o .words) (length (o .pos)) (length (o .neg))
 
 -- the same of the point at a cursor
-unfoldable pub lineAt : Cursor → Output → List Float → List ℕ
-lineAt at o bounds = foundLine at (found at o) o bounds
+unfoldable pub lineAt : Form → Cursor → Output → List Float → List ℕ
+lineAt form at o bounds = foundLine form at (found at o) o bounds
 
 unfoldable pub nextAt : Cursor → Output → Cursor
 nextAt at o = foundNext at (found at o) o
 
 -- the lines of k points from a cursor on
-unfoldable pub linesFrom : ℕ → Cursor → Output → List Float → List ℕ
-linesFrom zero at o bounds = []
-linesFrom (suc k) at o bounds = lineAt at o bounds ++ linesFrom k (nextAt at o) o bounds
+unfoldable pub linesFrom : Form → ℕ → Cursor → Output → List Float → List ℕ
+linesFrom form zero at o bounds = []
+linesFrom form (suc k) at o bounds = lineAt form at o bounds ++ linesFrom form k (nextAt at o) o bounds
 
 -- ---- points that are one value (request L1)
 
@@ -103,9 +125,9 @@ unfoldable pub collectionHead : ℕ → ℕ → ℕ → List ℕ
 collectionHead start time points = line ((99 ∷ []) ∷ decimal start ∷ decimal time ∷ decimal points ∷ [])
 
 -- and the lines of the first points of the list
-unfoldable pub collectionLines : ℕ → ℕ → ℕ → Output → List Float → List ℕ
-collectionLines start time points o bounds =
-    collectionHead start time points ++ linesFrom points (record { place = 0; pos = 0; neg = 0 }) o bounds
+unfoldable pub collectionLines : Form → ℕ → ℕ → ℕ → Output → List Float → List ℕ
+collectionLines form start time points o bounds =
+    collectionHead start time points ++ linesFrom form points (record { place = 0; pos = 0; neg = 0 }) o bounds
 
 -- the same of points that are one value
 unfoldable pub valueLines : ℕ → ℕ → ℕ → List (List ℕ) → List ℕ → List ℕ

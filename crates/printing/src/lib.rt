@@ -4,6 +4,8 @@
 //     q SET COUNT MIN MAX SUM BUCKETS BOUNDS                         explicit
 //     v SET VALUE                                                    sum or last value
 //
+// or a histogram's point by its card (request L2): `SET MEAN`, in whole hundredths, or `SET ! N` where the mean is refused.
+//
 // Each function puts its text behind the n bytes that are there, and says how many there are then.
 ghost use mathlib.Core.Path.{_≡_};
 ghost use mathlib.Core.Bool.{true, false};
@@ -16,9 +18,11 @@ ghost use Rattle.lines.specs.Gathered.{waiting, _behind_};
 ghost use Rattle.lines.specs.Written.{decimal};
 ghost use Rattle.sets.specs.Rows.{pair, setOf};
 ghost use Rattle.point.specs.Handing.{storedIn};
+ghost use Rattle.mean.specs.Mean.{said};
 ghost use Rattle.listing.specs.Listed.{output as listedIn, rowAt, boundsAt};
 ghost use Rattle.printing.specs.Fields.{each, joined, attributeField, setField, floatField, extremeField, integerField, rowField};
-ghost use Rattle.printing.specs.Printed.{heldFields, exponentialFields, explicitFields, pointLine, lineAt, nextAt, collectionHead, collectionLines, valueAt, valueLines, unreadLine};
+ghost use Rattle.printing.specs.Printed.{heldFields, exponentialFields, explicitFields, pointLine, meanFields, cardLine, lineOf};
+ghost use Rattle.printing.specs.Printed.{lineAt, nextAt, collectionHead, collectionLines, valueAt, valueLines, unreadLine};
 use floats::Extreme;
 use index::signed::Integer;
 use lines::Block;
@@ -26,8 +30,15 @@ use lines::output;
 use listing::Cursor;
 use listing::Entry;
 use listing::Found;
+use mean::Answer;
 use point::Figures;
 use point::Point;
+
+// How a point is shown: by all that it has, or by its card.
+pub enum Form {
+    Point,
+    Card,
+}
 
 // How much text there is, and where the next point lies.
 pub struct Printed {
@@ -85,15 +96,22 @@ fn attributes(text: &mut Block, n: usize, row: [u64; 9]) -> usize
     m
 }
 
-// A set behind a space, `-` the empty one.
+// A set, `-` the empty one.
+fn bare_set(text: &mut Block, n: usize, row: [u64; 9]) -> usize
+    ensures { λ r. ⌜ waiting r (text .exit) ≡ setField (take 8 (setOf row)) behind waiting n (text .entry) ⌝ }
+{
+    if row[8] == 0 {
+        return output::byte(text, n, b'-');
+    }
+    attributes(text, n, row)
+}
+
+// A set behind a space.
 fn set(text: &mut Block, n: usize, row: [u64; 9]) -> usize
     ensures { λ r. ⌜ waiting r (text .exit) ≡ 32 ∷ setField (take 8 (setOf row)) behind waiting n (text .entry) ⌝ }
 {
     let m = output::byte(text, n, b' ');
-    if row[8] == 0 {
-        return output::byte(text, m, b'-');
-    }
-    attributes(text, m, row)
+    bare_set(text, m, row)
 }
 
 // ---- what a point has
@@ -105,7 +123,7 @@ fn integer(text: &mut Block, n: usize, x: Integer) -> usize
     let m = output::byte(text, n, b' ');
     match x {
         Integer::OutOfRange => output::byte(text, m, b'-'),
-        Integer::Is(i) => output::signed(text, m, i),
+        Integer::Is(i) => output::signed(text, m, i as i64),
     }
 }
 
@@ -196,8 +214,8 @@ fn explicit(text: &mut Block, n: usize, p: Point, buckets: &[u64], bounds: &[f64
     all_bits(text, d, bounds)
 }
 
-// The line of a point that lies between two cursors.
-fn line<'a>(
+// The line of all that a point has, which lies between two cursors.
+fn point_line<'a>(
     text: &mut Block,
     n: usize,
     row: [u64; 9],
@@ -236,10 +254,75 @@ fn line<'a>(
     }
 }
 
+// A mean behind a space, or the number that refuses it behind its mark.
+fn mean_fields(text: &mut Block, n: usize, x: Answer) -> usize
+    ensures { λ r. ⌜ waiting r (text .exit) ≡ each 32 (meanFields (said x)) behind waiting n (text .entry) ⌝ }
+{
+    match x {
+        Answer::Mean(z) => {
+            let a = output::byte(text, n, b' ');
+            output::signed(text, a, z)
+        }
+        Answer::Refused(no) => {
+            let a = output::bytes(text, n, b" !");
+            number(text, a, no as u64)
+        }
+    }
+}
+
+// The line of the point's card.
+fn card_line<'a>(
+    text: &mut Block,
+    n: usize,
+    row: [u64; 9],
+    at: Cursor,
+    e: Entry,
+    pos: &'a [u64],
+    neg: &'a [u64],
+    bounds: &[f64],
+) -> usize
+    ensures { λ r. ⌜ waiting r (text .exit) ≡ cardLine (take 8 (setOf row)) (storedIn (e .point) (boundsAt (e .bounds) (now (bounds .entry)))
+        (rowAt at (e .next) false (now (pos .entry)) (now (neg .entry))) (rowAt at (e .next) true (now (pos .entry)) (now (neg .entry))))
+        behind waiting n (text .entry) ⌝ }
+{
+    let p = e.point;
+    let next = e.next;
+    let above = listing::read::row_at(at, next, false, pos, neg);
+    let below = listing::read::row_at(at, next, true, pos, neg);
+    let own = listing::read::bounds_at(e.bounds, bounds);
+    let x = mean::hundredths(p, own, above, below);
+    let a = bare_set(text, n, row);
+    let b = mean_fields(text, a, x);
+    output::byte(text, b, b'\n')
+}
+
+// The line of the point in a form.
+fn line<'a>(
+    text: &mut Block,
+    n: usize,
+    form: Form,
+    row: [u64; 9],
+    at: Cursor,
+    e: Entry,
+    pos: &'a [u64],
+    neg: &'a [u64],
+    bounds: &[f64],
+) -> usize
+    ensures { λ r. ⌜ waiting r (text .exit) ≡ lineOf form (take 8 (setOf row)) (storedIn (e .point) (boundsAt (e .bounds) (now (bounds .entry)))
+        (rowAt at (e .next) false (now (pos .entry)) (now (neg .entry))) (rowAt at (e .next) true (now (pos .entry)) (now (neg .entry))))
+        behind waiting n (text .entry) ⌝ }
+{
+    match form {
+        Form::Point => point_line(text, n, row, at, e, pos, neg, bounds),
+        Form::Card => card_line(text, n, row, at, e, pos, neg, bounds),
+    }
+}
+
 // Prints the line of the point at a cursor, whose bounds lie in a store of bounds; nothing where no point is there.
 pub fn point<'a>(
     text: &mut Block,
     n: usize,
+    form: Form,
     at: Cursor,
     sets: &[[u64; 9]],
     words: &[[u64; 12]],
@@ -247,7 +330,7 @@ pub fn point<'a>(
     neg: &'a [u64],
     bounds: &[f64],
 ) -> Printed
-    ensures { λ r. ⌜ waiting (r .n) (text .exit) ≡ lineAt at (listedIn (sets .entry) (words .entry) (pos .entry) (neg .entry)) (now (bounds .entry))
+    ensures { λ r. ⌜ waiting (r .n) (text .exit) ≡ lineAt form at (listedIn (sets .entry) (words .entry) (pos .entry) (neg .entry)) (now (bounds .entry))
         behind waiting n (text .entry) ⌝ }
     ensures { λ r. ⌜ r .at ≡ nextAt at (listedIn (sets .entry) (words .entry) (pos .entry) (neg .entry)) ⌝ }
 {
@@ -260,7 +343,7 @@ pub fn point<'a>(
     }
     let next = e.next;
     Printed {
-        n: line(text, n, sets[k], at, e, pos, neg, bounds),
+        n: line(text, n, form, sets[k], at, e, pos, neg, bounds),
         at: next,
     }
 }
@@ -269,6 +352,7 @@ pub fn point<'a>(
 pub fn collection<'a>(
     text: &mut Block,
     n: usize,
+    form: Form,
     start: u64,
     time: u64,
     many: usize,
@@ -278,7 +362,7 @@ pub fn collection<'a>(
     neg: &'a [u64],
     bounds: &[f64],
 ) -> usize
-    ensures { λ r. ⌜ waiting r (text .exit) ≡ collectionLines start time many (listedIn (sets .entry) (words .entry) (pos .entry) (neg .entry))
+    ensures { λ r. ⌜ waiting r (text .exit) ≡ collectionLines form start time many (listedIn (sets .entry) (words .entry) (pos .entry) (neg .entry))
         (now (bounds .entry)) behind waiting n (text .entry) ⌝ }
 {
     let m = head(text, n, start, time, many as u64);
@@ -290,7 +374,7 @@ pub fn collection<'a>(
     let mut done = Printed { n: m, at };
     let mut i: usize = 0;
     while i < many {
-        done = point(text, done.n, done.at, sets, words, pos, neg, bounds);
+        done = point(text, done.n, form, done.at, sets, words, pos, neg, bounds);
         i += 1;
     }
     done.n

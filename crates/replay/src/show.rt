@@ -46,6 +46,7 @@ fn listed<'a>(
     printing::collection(
         text,
         n,
+        printing::Form::Point,
         s.told,
         s.f[1],
         s.listed,

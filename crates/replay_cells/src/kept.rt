@@ -271,6 +271,7 @@ pub fn printed<'a>(
     let done = printing::point(
         text,
         n,
+        printing::Form::Point,
         cursor(k),
         sets,
         words,

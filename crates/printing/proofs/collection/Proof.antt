@@ -12,14 +12,14 @@ use Rattle.printing.proofs.collection.Statement.{statement}
 use Rattle.printing.proofs.collection.Tie as tie
 
 abbrev Inv-loop : tie.InvT-loop
-Inv-loop text₀ n start time many sets words pos neg bounds m done₀ i₀ text done i =
+Inv-loop text₀ n form start time many sets words pos neg bounds m done₀ i₀ text done i =
     let o : Output = record { sets = sets; words = words; pos = pos; neg = neg } in
     (i ≤ many)
-    × ((linesFrom (many - i) (done .at) o bounds behind record { count = done .n; block = text })
-    ≡ (linesFrom many (record { place = 0; pos = 0; neg = 0 }) o bounds behind record { count = m; block = text₀ }))
+    × ((linesFrom form (many - i) (done .at) o bounds behind record { count = done .n; block = text })
+    ≡ (linesFrom form many (record { place = 0; pos = 0; neg = 0 }) o bounds behind record { count = m; block = text₀ }))
 
 abbrev μ-loop : tie.MeasureT-loop
-μ-loop text₀ n start time many sets words pos neg bounds m done₀ i₀ text done i = many - i
+μ-loop text₀ n form start time many sets words pos neg bounds m done₀ i₀ text done i = many - i
 
 abbrev listed : tie.Start Inv-loop μ-loop → Output
 listed s = let a = s .args in output (a .sets) (a .words) (a .pos) (a .neg)
@@ -30,7 +30,7 @@ head-requires c κs = tt
 loop-holds : tie.Need-loop-holds Inv-loop μ-loop
 loop-holds c =
     let s = c .before .before .before .before .before in
-    (omega arith, lines-start (s .args .many) (listed s) (now (s .args .bounds)) _ _)
+    (omega arith, lines-start (s .args .form) (s .args .many) (listed s) (now (s .args .bounds)) _ _)
 
 point-requires : tie.Need-point-requires Inv-loop μ-loop
 point-requires c κs = tt
@@ -41,7 +41,7 @@ loop-again c =
     let l = t .before .loop in
     let s = t .before .before .before .before .before .before .before in (
       omega arith,
-      lines-turn (s .args .many) (l .i) (listed s) (now (s .args .bounds)) (l .done .at) _ (c .point .result .at) (t .loop-test .taken)
+      lines-turn (s .args .form) (s .args .many) (l .i) (listed s) (now (s .args .bounds)) (l .done .at) _ (c .point .result .at) (t .loop-test .taken)
           (c .point .ensures .0) (c .point .ensures .1) ∙ l .inv .1,
     )
 
@@ -53,7 +53,7 @@ returns c =
     let s = h .before .before .before .before .before in
     let a = s .args in
     then (collectionHead (a .start) (a .time) (a .many)) _ (waiting (a .n) (a .text)) (h .head .ensures)
-    (sym (lines-end (a .many) (l .i) (listed s) (now (a .bounds)) (l .done .at) _ (c .loop-test .left)) ∙ l .inv .1)
+    (sym (lines-end (a .form) (a .many) (l .i) (listed s) (now (a .bounds)) (l .done .at) _ (c .loop-test .left)) ∙ l .inv .1)
 
 pub collection-spec : {M : Type 1} → statement M
 collection-spec =

@@ -18,7 +18,7 @@ returns c =
     let q = c .before .before in
     let s = q .before .before .before .before in
     let a = s .args in
-    let p = none-found (a .at) (listed s) (now (a .bounds)) (sym (q .point-at .ensures) ∙ c .enum-told .given .1) in
+    let p = none-found (a .form) (a .at) (listed s) (now (a .bounds)) (sym (q .point-at .ensures) ∙ c .enum-told .given .1) in
     (spelt (p .0) (waiting (a .n) (a .text)) (nothing _), p .1)
 
 returns-2 : tie.Need-returns-2
@@ -27,7 +27,7 @@ returns-2 c =
     let q = e .before .before in
     let s = q .before .before .before .before in
     let a = s .args in
-    let p = no-set (a .at) (listed s) (now (a .bounds)) (e .e .given .0 .0) (sym (q .point-at .ensures) ∙ e .e .given .1) (c .if1 .taken) in
+    let p = no-set (a .form) (a .at) (listed s) (now (a .bounds)) (e .e .given .0 .0) (sym (q .point-at .ensures) ∙ e .e .given .1) (c .if1 .taken) in
     (spelt (p .0) (waiting (a .n) (a .text)) (nothing _), p .1)
 
 returns-3 : tie.Need-returns-3
@@ -37,7 +37,7 @@ returns-3 c =
     let q = e .before .before in
     let s = q .before .before .before .before in
     let a = s .args in
-    let p = point-found (a .at) (listed s) (now (a .bounds)) (e .e .given .0 .0) (sym (q .point-at .ensures) ∙ e .e .given .1) (i .if1 .left) in
+    let p = point-found (a .form) (a .at) (listed s) (now (a .bounds)) (e .e .given .0 .0) (sym (q .point-at .ensures) ∙ e .e .given .1) (i .if1 .left) in
     (spelt (p .0) (waiting (a .n) (a .text)) (c .line .ensures), p .1)
 
 pub point-spec : {M : Type 1} → statement M

@@ -45,13 +45,20 @@ def answer(program, text, piece):
         return out.read()
 
 
-def compare(program, name, text, piece):
-    ours, expected = answer(program, text, piece), gauge.answer(text).encode("latin-1")
+def compare(program, name, text, piece, exact=gauge.answer):
+    """How many lines an input has, on which a program prints what the exact script does."""
+    ours, expected = answer(program, text, piece), exact(text).encode("latin-1")
     if ours != expected:
-        (ROOT / "target/gauge_differs").write_text(text, encoding="latin-1", newline="")
+        kept = f"target/{Path(program).name}_differs"
+        (ROOT / kept).write_text(text, encoding="latin-1", newline="")
         line = next((i for i, (a, b) in enumerate(zip(ours.splitlines(), expected.splitlines())) if a != b), "the end")
-        sys.exit(f"{name}, in pieces of {piece}: the answers differ at line {line}; the input is in target/gauge_differs")
+        sys.exit(f"{name}, in pieces of {piece}: the answers differ at line {line}; the input is in {kept}")
     return text.count("\n") + 1
+
+
+def piece_of(draw, text):
+    """Of what size the pieces of an input are."""
+    return draw.choice((0, 0, 4096, 65535)) if len(text) > 4000 else draw.choice((0, 1, 7))
 
 
 def main():
@@ -62,7 +69,7 @@ def main():
     for i in range(count):
         name = f"{seed}.{i}"
         text = random_input(draw, name)
-        lines += compare(program, name, text, draw.choice((0, 0, 4096, 65535)) if len(text) > 4000 else draw.choice((0, 1, 7)))
+        lines += compare(program, name, text, piece_of(draw, text))
     print(f"{count + len(ENDS)} inputs, {lines} lines, all the same")
 
 

@@ -28,8 +28,9 @@ def as_script(line):
     raise Unreadable
 
 
-def run(lines):
-    reference = Reference()
+def run(lines, made=Reference):
+    """What is printed; the lines are answered by the reference, or by another that is made so (card.py)."""
+    reference = made()
     for number, line in enumerate(lines, 1):
         try:
             answers, refusal = reference.line(number, as_script(line))
@@ -38,9 +39,9 @@ def run(lines):
         yield from answers if refusal == 0 else [unreadable(number)]
 
 
-def answer(text):
+def answer(text, made=Reference):
     """All that the program prints for an input; bytes are read as Latin-1, so that each is one character."""
-    return "".join(f"{line}\n" for line in run(split_lines(text)))
+    return "".join(f"{line}\n" for line in run(split_lines(text), made))
 
 
 def main():

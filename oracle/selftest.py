@@ -5,12 +5,14 @@
 
 import random
 
+import card
 import cases
 import gauge
 import machine
 import reference
 import script
-from bits import BOUNDS, GREATEST, has_index, index
+from bits import BOUNDS, GREATEST, has_index, index, to_bits
+from mean_lines import answered
 
 ONE, TWO, THREE, ONE_AND_A_HALF = 0x3FF0000000000000, 0x4000000000000000, 0x4008000000000000, 0x3FF8000000000000
 TINY, TWO_TO_MINUS_1024 = 1, 0x0004000000000000
@@ -148,11 +150,15 @@ def check_examples():
 
 
 def check_requests():
-    """What the language has room for: totals and last values, whole numbers, a zero band, new settings."""
+    """What the language has room for: totals and last values, cards, whole numbers, a zero band, new settings."""
     total = ["n s f - - - 2 d 1 1 0", f"r {ONE:016X} 1:1", f"r {TWO:016X} 1:1", "c 1 - -", "c 2 - -"]
     check_answers("L1, a sum", total, ["c 0 1 1", f"v 1:1 {THREE:016X}", "c 1 2 0"])
     last = ["n l f - - - 2 c 1 1 0", f"r {ONE:016X} 1:1", f"r {TWO:016X} 1:1", "c 1 - -"]
     check_answers("L1, a last value", last, ["c 0 1 1", f"v 1:1 {TWO:016X}"])
+    boards = f"e 4 10 2 0\nr {to_bits(-0.125):016X} 1:1\nr {to_bits(-0.005):016X} 1:2\nc 1"
+    check("L2, a board of -0.125 and one of -0.005", card.answer(boards) == "c 0 1 2\n1:1 -13\n1:2 ! 14\n")
+    empty, disagreeing = (f"x 0 0 - - {TINY:016X} {ONE:016X} {count} 0" for count in (0, 1))
+    check("L2, a point of no values, and one that disagrees", [answered(empty), answered(disagreeing)] == ["! 13", "! 8"])
     whole = ["n e i 4 10 - 2 d 1 1 0", "r 9223372036854775807 -", "r 1 -", "r -3 -", "c 1 - -"]
     point = "p - 2 0 10 -3 9223372036854775807 9223372036854775804 64511:1 1623:1"
     check_answers("L6, whole numbers", whole, ["! 3 16", "c 0 1 1", point])

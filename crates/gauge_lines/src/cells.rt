@@ -1,5 +1,7 @@
 // The program's stores: 32 slots, for a limit of 30, and the empty and the overflow set; 160 counts of either sign a slot. The output has
 // as many places, so that no collection is refused for want of room.
+ghost use mathlib.Core.Path.{_≡_};
+ghost use Rattle.gauge_lines.specs.Followed.{unstarted, refusedOf, takenWith};
 use clock::Clock;
 use directory::Directory;
 use exponential_collection::Settings;
@@ -19,7 +21,7 @@ pub type Counts = [u64; 5120];
 pub type Words = [[u64; 12]; 32];
 
 // The greatest limit that the stores have slots for.
-pub const MOST_SETS: u64 = 30;
+pub const MOST_LIMIT: u64 = 30;
 
 // What is running: whether a map was configured, its settings, the directory's state, the clock.
 pub struct Gauge {
@@ -36,7 +38,9 @@ pub struct Outcome {
 }
 
 // Before any line.
-pub fn idle() -> Gauge {
+pub fn idle() -> Gauge
+    ensures { λ r. ⌜ r ≡ unstarted ⌝ }
+{
     let settings = Settings {
         size: 0,
         top: 0,
@@ -59,7 +63,9 @@ pub fn idle() -> Gauge {
 }
 
 // The gauge after a line that was refused: as it was.
-pub fn refused(gauge: Gauge) -> Outcome {
+pub fn refused(gauge: Gauge) -> Outcome
+    ensures { λ r. ⌜ r ≡ refusedOf gauge ⌝ }
+{
     Outcome {
         taken: false,
         gauge,
@@ -67,7 +73,9 @@ pub fn refused(gauge: Gauge) -> Outcome {
 }
 
 // The gauge after a call that left the directory so.
-pub fn with(g: Gauge, dir: Directory) -> Outcome {
+pub fn with(g: Gauge, dir: Directory) -> Outcome
+    ensures { λ r. ⌜ r ≡ takenWith g dir ⌝ }
+{
     let settings = g.settings;
     let clock = g.clock;
     Outcome {

@@ -1,4 +1,7 @@
 // What the lines say: `e SIZE SCALE LIMIT START`, `r BITS SET`, `c TIME`.
+ghost use mathlib.Core.Path.{_≡_};
+ghost use Prim.Native.Nat.{_≤_};
+ghost use Rattle.gauge_lines.specs.Lines.{sizeIn, withSign, scaleIn, settingsOf, boardOf, attributesIn, timeOf, letterOf, callOf};
 use lines::attributes::Attributes;
 use lines::attributes::Given;
 use text::Integer;
@@ -43,7 +46,9 @@ enum Scale {
     Is(i32),
 }
 
-fn size_of(n: Natural) -> Size {
+fn size_of(n: Natural) -> Size
+    ensures { λ r. ⌜ r ≡ sizeIn n ⌝ }
+{
     let Natural::Is(x) = n else {
         return Size::Unread;
     };
@@ -54,12 +59,17 @@ fn size_of(n: Natural) -> Size {
 }
 
 // A number with its sign; no scale has more than three digits.
-fn with_sign(negative: bool, size: u64) -> i32 {
+fn with_sign(negative: bool, size: u64) -> i32
+    requires { ⌜ size ≤ 999 ⌝ }
+    ensures { λ r. ⌜ r ≡ withSign negative size ⌝ }
+{
     let n = (size % 1000) as i32;
     if negative { 0 - n } else { n }
 }
 
-fn scale_of(n: Integer) -> Scale {
+fn scale_of(n: Integer) -> Scale
+    ensures { λ r. ⌜ r ≡ scaleIn n ⌝ }
+{
     let Integer::Is(negative, size) = n else {
         return Scale::Unread;
     };
@@ -70,7 +80,9 @@ fn scale_of(n: Integer) -> Scale {
 }
 
 // The settings of a line `e`.
-pub fn settings_in(line: &[u8]) -> Asked {
+pub fn settings_in(line: &[u8]) -> Asked
+    ensures { λ r. ⌜ r ≡ settingsOf (now (line .entry)) ⌝ }
+{
     if text::spaces(line) != 4 {
         return Asked::Unread;
     }
@@ -86,7 +98,7 @@ pub fn settings_in(line: &[u8]) -> Asked {
     let Natural::Is(start) = text::decimal_at(line, 4) else {
         return Asked::Unread;
     };
-    if limit > crate::cells::MOST_SETS {
+    if limit > crate::cells::MOST_LIMIT {
         return Asked::Unread;
     }
     Asked::Is(Wanted {
@@ -99,7 +111,10 @@ pub fn settings_in(line: &[u8]) -> Asked {
 
 // The value and the set of a line `r`: bits have 16 digits, so both stand at their places. The set is read first, so that the bits need
 // not be kept while it is.
-pub fn board_in(line: &[u8], attrs: &mut Attributes) -> Board {
+pub fn board_in(line: &[u8], attrs: &mut Attributes) -> Board
+    ensures { λ r. ⌜ r ≡ boardOf (now (line .entry)) ⌝ }
+    ensures { λ _. ⌜ now (attrs .exit) ≡ attributesIn (now (line .entry)) (now (attrs .entry)) ⌝ }
+{
     let n = line.len();
     if n < 20 {
         return Board::Unread;
@@ -117,7 +132,9 @@ pub fn board_in(line: &[u8], attrs: &mut Attributes) -> Board {
 }
 
 // The time of a line `c`.
-pub fn time_in(line: &[u8]) -> Natural {
+pub fn time_in(line: &[u8]) -> Natural
+    ensures { λ r. ⌜ r ≡ timeOf (now (line .entry)) ⌝ }
+{
     if text::spaces(line) != 1 {
         return Natural::None;
     }
@@ -125,7 +142,9 @@ pub fn time_in(line: &[u8]) -> Natural {
 }
 
 // The letter of a line, which a space follows; 0 where there is none.
-fn letter_in(line: &[u8]) -> u8 {
+fn letter_in(line: &[u8]) -> u8
+    ensures { λ r. ⌜ r ≡ letterOf (now (line .entry)) ⌝ }
+{
     if text::byte_at(line, 1) != b' ' {
         return 0;
     }
@@ -133,7 +152,9 @@ fn letter_in(line: &[u8]) -> u8 {
 }
 
 // The call that a line asks for, by its letter: before a map is running only `e` is followed. Where the input is over there may be no line.
-pub fn call_in(line: &[u8], running: bool, over: bool) -> Call {
+pub fn call_in(line: &[u8], running: bool, over: bool) -> Call
+    ensures { λ r. ⌜ r ≡ callOf (now (line .entry)) running over ⌝ }
+{
     let n = line.len();
     if n == 0 {
         return if over { Call::None } else { Call::Unread };

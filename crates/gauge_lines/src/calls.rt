@@ -1,4 +1,11 @@
 // The calls that lines make on the map.
+ghost use mathlib.Core.Path.{_≡_};
+ghost use lib.ListN.{take};
+ghost use Rattle.directory.specs.View.{stores};
+ghost use Rattle.exponential_slots.specs.Cells.{cells};
+ghost use Rattle.bindings.specs.Calls as bindings-calls;
+ghost use Rattle.exponential_collection.specs.Configured.{said};
+ghost use Rattle.gauge_lines.specs.Followed.{after, begunBy, answeredBy, afterStart, afterRecord};
 use crate::cells::Counts;
 use crate::cells::Entries;
 use crate::cells::Extremes;
@@ -17,7 +24,9 @@ use exponential_collection::Configured;
 use lines::attributes::Attributes;
 
 // A gauge with a map that was just configured; the one before where it was refused.
-fn begun(g: Gauge, c: Configured, start: u64) -> Outcome {
+fn begun(g: Gauge, c: Configured, start: u64) -> Outcome
+    ensures { λ r. ⌜ r ≡ begunBy g start (said c) ⌝ }
+{
     match c {
         Configured::Refused(no) => refused(g),
         Configured::Accepted(setup) => {
@@ -48,7 +57,12 @@ pub fn start(
     extremes: &Extremes,
     pos: &Counts,
     neg: &Counts,
-) -> Outcome {
+) -> Outcome
+    ensures { λ r. ⌜ after r (stores (sets .entry) (entries .exit) (order .entry))
+        (cells (figures .entry) (extremes .entry) (pos .entry) (neg .entry))
+        ≡ afterStart g (now (line .entry)) (stores (sets .entry) (entries .entry) (order .entry))
+        (cells (figures .entry) (extremes .entry) (pos .entry) (neg .entry)) ⌝ }
+{
     let Asked::Is(w) = crate::fields::settings_in(line) else {
         return refused(g);
     };
@@ -73,24 +87,31 @@ pub fn start(
 }
 
 // The first n attributes.
-fn given_of<'a>(attrs: &'a [[u32; 2]], n: usize) -> &'a [[u32; 2]] {
+fn given_of<'a>(attrs: &'a [[u32; 2]], n: usize) -> &'a [[u32; 2]]
+    ensures { λ r. ⌜ now r ≡ take n (now (attrs .entry)) ⌝ }
+{
     if n < attrs.len() {
         return &attrs[0..n];
     }
     attrs
 }
 
-fn given<'a>(attrs: &'a Attributes, n: usize) -> &'a [[u32; 2]] {
+fn given<'a>(attrs: &'a Attributes, n: usize) -> &'a [[u32; 2]]
+    ensures { λ r. ⌜ now r ≡ take n (now (attrs .entry)) ⌝ }
+{
     given_of(attrs, n)
 }
 
 // The gauge after a recording.
-fn answered(g: Gauge, reply: Reply) -> Outcome {
+fn answered(g: Gauge, reply: Reply) -> Outcome
+    ensures { λ r. ⌜ r ≡ answeredBy g (bindings-calls.said (reply .answer)) (reply .dir) ⌝ }
+{
     let answer = reply.answer;
     let dir = reply.dir;
     match answer {
         bindings::Answer::Refused(no) => refused(g),
-        _ => with(g, dir),
+        bindings::Answer::Done => with(g, dir),
+        bindings::Answer::Handle(h) => with(g, dir),
     }
 }
 
@@ -105,7 +126,12 @@ pub fn record(
     extremes: &mut Extremes,
     pos: &mut Counts,
     neg: &mut Counts,
-) -> Outcome {
+) -> Outcome
+    ensures { λ r. ⌜ after r (stores (sets .exit) (entries .exit) (order .exit))
+        (cells (figures .exit) (extremes .exit) (pos .exit) (neg .exit))
+        ≡ afterRecord g (now (line .entry)) (stores (sets .entry) (entries .entry) (order .entry))
+        (cells (figures .entry) (extremes .entry) (pos .entry) (neg .entry)) ⌝ }
+{
     let mut attrs = [[0u32; 2]; 9];
     let Board::Is(bits, n) = crate::fields::board_in(line, &mut attrs) else {
         return refused(g);

@@ -1,4 +1,12 @@
 // Delta collection by a line `c`: the points go into the program's own output stores, and from there into the text.
+ghost use mathlib.Core.Path.{_≡_};
+ghost use mathlib.Core.Bool.{false};
+ghost use Rattle.lines.specs.Gathered.{waiting};
+ghost use Rattle.directory.specs.View.{stores};
+ghost use Rattle.exponential_slots.specs.Cells.{cells};
+ghost use Rattle.listing.specs.Listed.{output};
+ghost use Rattle.clock.specs.Starts as clock-starts;
+ghost use Rattle.gauge_lines.specs.Followed.{followed, turnedBy, afterCollect};
 use crate::cells::Counts;
 use crate::cells::Entries;
 use crate::cells::Extremes;
@@ -10,6 +18,7 @@ use crate::cells::Words;
 use collecting::Answer;
 use directory::Directory;
 use lines::Block;
+use printing::Form;
 use text::Natural;
 
 // Whether a line was accepted, the gauge after it, and how much text there is then.
@@ -19,7 +28,9 @@ pub struct Collected {
     pub text: usize,
 }
 
-fn refused(gauge: Gauge, text: usize) -> Collected {
+fn refused(gauge: Gauge, text: usize) -> Collected
+    ensures { λ r. ⌜ r ≡ record { taken = false; gauge = gauge; text = text } ⌝ }
+{
     Collected {
         taken: false,
         gauge,
@@ -33,7 +44,9 @@ struct Turn {
     start: u64,
 }
 
-fn turned(g: Gauge, dir: Directory, time: u64) -> Turn {
+fn turned(g: Gauge, dir: Directory, time: u64) -> Turn
+    ensures { λ r. ⌜ r ≡ record { gauge = turnedBy g dir time; start = clock-starts.turned (g .clock) 0 time .start } ⌝ }
+{
     let settings = g.settings;
     let held = g.clock;
     let t = clock::after_delta(held, 0, time);
@@ -49,8 +62,9 @@ fn turned(g: Gauge, dir: Directory, time: u64) -> Turn {
     }
 }
 
-// Collects by a line `c`, and puts what is listed behind n bytes of text.
+// Collects by a line `c`, and puts what is listed, in a form, behind n bytes of text.
 pub fn collect(
+    form: Form,
     g: Gauge,
     line: &[u8],
     text: &mut Block,
@@ -66,7 +80,14 @@ pub fn collect(
     out_words: &mut Words,
     out_pos: &mut Counts,
     out_neg: &mut Counts,
-) -> Collected {
+) -> Collected
+    ensures { λ r. ⌜ followed r (text .exit) (stores (sets .exit) (entries .exit) (order .exit))
+        (cells (figures .entry) (extremes .entry) (pos .entry) (neg .entry))
+        (output («out_sets» .exit) («out_words» .exit) («out_pos» .exit) («out_neg» .exit))
+        ≡ afterCollect form g (now (line .entry)) (waiting n (text .entry)) (stores (sets .entry) (entries .entry) (order .entry))
+        (cells (figures .entry) (extremes .entry) (pos .entry) (neg .entry))
+        (output («out_sets» .entry) («out_words» .entry) («out_pos» .entry) («out_neg» .entry)) ⌝ }
+{
     let Natural::Is(time) = crate::fields::time_in(line) else {
         return refused(g, n);
     };
@@ -98,7 +119,7 @@ pub fn collect(
             let end = printing::collection(
                 text,
                 n,
-                printing::Form::Point,
+                form,
                 t.start,
                 time,
                 many,

@@ -1,7 +1,14 @@
-// The calls of the exponential kind that lines of a script make: configuring (`n`), recording (`r`, `h`), collecting (`c`).
+// The calls of the exponential kind that lines of a script make: configuring (`n`), recording (`r`, `h`), binding and releasing (`b`, `u`),
+// collecting (`c`).
 //
-// The map's stores are lent as long as a line `m` says, the output as long as the line `c` does: too few of any is number 12 or 10.
+// The map's stores are lent as long as a line `m` says, the output as long as the line `c` does: too few of any is number 12 or 10. A
+// function makes one call of the map: each is proved for itself.
 ghost use mathlib.Core.Path.{_≡_};
+ghost use Rattle.exponential_collection.specs.Configured.{said};
+ghost use Rattle.replay_state.specs.Bound.{lentStores, givenIn};
+ghost use Rattle.replay_exponential.specs.Followed.{cellsIn, scaleIn, configuredBy};
+ghost use Rattle.replay_exponential.specs.Followed.{afterConfigured, afterMeasured, afterMeasuredBy, afterFollowed};
+ghost use Rattle.replay_exponential.specs.Collected.{outputIn, afterDelta, afterCumulative, afterCollected};
 use exponential_collection::Configured;
 use exponential_collection::Settings;
 use replay_state::State;
@@ -9,8 +16,13 @@ use replay_state::after;
 use replay_state::binding;
 use replay_state::lent;
 
-// The scale of a number 128 above it. It has the bin of the finest level that lies as far above it: so nothing signed is reckoned with here.
-fn scale_of(n: u64) -> i32 {
+// ---- every line but collections
+
+// The scale of a number 128 above it. It has the bin of the finest level that lies as far above it: so nothing signed is reckoned with
+// here.
+fn scale_of(n: u64) -> i32
+    ensures { λ r. ⌜ r ≡ scaleIn n ⌝ }
+{
     let bin = replay_state::cut(2097152 - 128 + n % 256);
     let found = index::signed::index_of(index::FINEST, bin);
     match found {
@@ -19,8 +31,10 @@ fn scale_of(n: u64) -> i32 {
     }
 }
 
-fn configured(s: State, said: Configured) -> State {
-    match said {
+fn configured(s: State, reply: Configured) -> State
+    ensures { λ r. ⌜ r ≡ configuredBy (said reply) s ⌝ }
+{
+    match reply {
         Configured::Refused(no) => after::unbegun(s, no),
         Configured::Accepted(setup) => {
             let z = setup.settings;
@@ -30,16 +44,109 @@ fn configured(s: State, said: Configured) -> State {
     }
 }
 
-fn settings(s: State) -> Settings
-    ensures { λ r. ⌜ r .limit ≡ s .limit ⌝ }
+fn configure(
+    s: State,
+    sets: &[[u64; 9]],
+    entries: &mut [[u64; 3]],
+    order: &[u32],
+    figures: &[[u64; 8]],
+    extremes: &[[f64; 3]],
+    pos: &[u64],
+    neg: &[u64],
+) -> State
+    ensures { λ r. ⌜ r ≡ afterConfigured s (lentStores s (sets .entry) (entries .entry) (order .entry))
+        (cellsIn s (figures .entry) (extremes .entry) (pos .entry) (neg .entry)) ⌝ }
 {
-    Settings {
-        size: s.size,
-        top: s.top,
-        extremes: s.extremes,
-        sums: s.sums,
-        limit: s.limit,
-    }
+    let n = s.entries;
+    let m = s.counts;
+    let waiting = s.next_filter;
+    let reply = exponential_collection::configure(
+        replay_state::cut(s.f[3]),
+        scale_of(s.f[4]),
+        s.f[8] == 49,
+        s.f[9] == 49,
+        s.f[6],
+        s.next_filtered,
+        lent::keys(&waiting, s.next_keys),
+        lent::sets_in(sets, n),
+        lent::entries(entries, n),
+        lent::order_in(order, n),
+        lent::figures_in(figures, n),
+        lent::extremes_in(extremes, n),
+        lent::counts_in(pos, m),
+        lent::counts_in(neg, m),
+    );
+    configured(s, reply)
+}
+
+fn measure(
+    s: State,
+    attrs: &[[u32; 2]],
+    sets: &mut [[u64; 9]],
+    entries: &mut [[u64; 3]],
+    order: &mut [u32],
+    figures: &mut [[u64; 8]],
+    extremes: &mut [[f64; 3]],
+    pos: &mut [u64],
+    neg: &mut [u64],
+) -> State
+    ensures { λ r. ⌜ r ≡ afterMeasured s (givenIn s (attrs .entry)) (lentStores s (sets .entry) (entries .entry) (order .entry))
+        (cellsIn s (figures .entry) (extremes .entry) (pos .entry) (neg .entry)) ⌝ }
+{
+    let n = s.entries;
+    let m = s.counts;
+    let filter = s.filter;
+    let reply = value_map::exponential_map::measure(
+        s.size,
+        s.top,
+        s.limit,
+        s.dir,
+        lent::sets(sets, n),
+        lent::entries(entries, n),
+        lent::order(order, n),
+        lent::figures(figures, n),
+        lent::extremes(extremes, n),
+        lent::counts(pos, m),
+        lent::counts(neg, m),
+        floats::of_bits(s.f[1]),
+        lent::given(attrs, s.f[2]),
+        s.filtered,
+        lent::keys(&filter, s.keys as u64),
+    );
+    after::done(s, reply)
+}
+
+fn measure_by(
+    s: State,
+    sets: &mut [[u64; 9]],
+    entries: &mut [[u64; 3]],
+    order: &mut [u32],
+    figures: &mut [[u64; 8]],
+    extremes: &mut [[f64; 3]],
+    pos: &mut [u64],
+    neg: &mut [u64],
+) -> State
+    ensures { λ r. ⌜ r ≡ afterMeasuredBy s (lentStores s (sets .entry) (entries .entry) (order .entry))
+        (cellsIn s (figures .entry) (extremes .entry) (pos .entry) (neg .entry)) ⌝ }
+{
+    let n = s.entries;
+    let m = s.counts;
+    let reply = value_map::exponential_map::measure_by(
+        s.size,
+        s.top,
+        s.limit,
+        s.dir,
+        lent::sets(sets, n),
+        lent::entries(entries, n),
+        lent::order(order, n),
+        lent::figures(figures, n),
+        lent::extremes(extremes, n),
+        lent::counts(pos, m),
+        lent::counts(neg, m),
+        floats::of_bits(s.f[2]),
+        s.f[1],
+    );
+    after::done(s, reply)
 }
 
 // Makes the call of a line, if it is one of a map of this kind, but for collections.
@@ -53,80 +160,38 @@ pub fn follow(
     extremes: &mut [[f64; 3]],
     pos: &mut [u64],
     neg: &mut [u64],
-) -> State {
+) -> State
+    ensures { λ r. ⌜ r ≡ afterFollowed s (givenIn s (attrs .entry)) (lentStores s (sets .entry) (entries .entry) (order .entry))
+        (cellsIn s (figures .entry) (extremes .entry) (pos .entry) (neg .entry)) ⌝ }
+{
     if s.of != b'e' {
         return s;
     }
-    let n = s.entries;
-    let m = s.counts;
     let letter = s.letter;
     match letter {
-        b'n' => {
-            let waiting = s.next_filter;
-            let said = exponential_collection::configure(
-                replay_state::cut(s.f[3]),
-                scale_of(s.f[4]),
-                s.f[8] == 49,
-                s.f[9] == 49,
-                s.f[6],
-                s.next_filtered,
-                lent::keys(&waiting, s.next_keys),
-                lent::sets_in(sets, n),
-                lent::entries(entries, n),
-                lent::order_in(order, n),
-                lent::figures_in(figures, n),
-                lent::extremes_in(extremes, n),
-                lent::counts_in(pos, m),
-                lent::counts_in(neg, m),
-            );
-            configured(s, said)
-        }
-        b'r' => {
-            let filter = s.filter;
-            let reply = value_map::exponential_map::measure(
-                s.size,
-                s.top,
-                s.limit,
-                s.dir,
-                lent::sets(sets, n),
-                lent::entries(entries, n),
-                lent::order(order, n),
-                lent::figures(figures, n),
-                lent::extremes(extremes, n),
-                lent::counts(pos, m),
-                lent::counts(neg, m),
-                floats::of_bits(s.f[1]),
-                lent::given(attrs, s.f[2]),
-                s.filtered,
-                lent::keys(&filter, s.keys as u64),
-            );
-            after::done(s, reply)
-        }
-        b'h' => {
-            let reply = value_map::exponential_map::measure_by(
-                s.size,
-                s.top,
-                s.limit,
-                s.dir,
-                lent::sets(sets, n),
-                lent::entries(entries, n),
-                lent::order(order, n),
-                lent::figures(figures, n),
-                lent::extremes(extremes, n),
-                lent::counts(pos, m),
-                lent::counts(neg, m),
-                floats::of_bits(s.f[2]),
-                s.f[1],
-            );
-            after::done(s, reply)
-        }
+        b'n' => configure(s, sets, entries, order, figures, extremes, pos, neg),
+        b'r' => measure(s, attrs, sets, entries, order, figures, extremes, pos, neg),
+        b'h' => measure_by(s, sets, entries, order, figures, extremes, pos, neg),
         b'b' | b'u' => binding::bind(s, attrs, sets, entries, order),
         _ => s,
     }
 }
 
-// Collects, if a line asks that of a map of this kind. What lies behind a collection's part of the output is the kept points'.
-pub fn collect(
+// ---- collections. What lies behind a collection's part of the output is the kept points'.
+
+fn settings(s: State) -> Settings
+    ensures { λ r. ⌜ r ≡ record { size = s .size; top = s .top; extremes = s .extremes; sums = s .sums; limit = s .limit } ⌝ }
+{
+    Settings {
+        size: s.size,
+        top: s.top,
+        extremes: s.extremes,
+        sums: s.sums,
+        limit: s.limit,
+    }
+}
+
+fn delta(
     s: State,
     sets: &mut [[u64; 9]],
     entries: &mut [[u64; 3]],
@@ -139,37 +204,57 @@ pub fn collect(
     out_words: &mut [[u64; 12]],
     out_pos: &mut [u64],
     out_neg: &mut [u64],
-) -> State {
-    if s.of != b'e' {
-        return s;
-    }
-    if s.letter != b'c' {
-        return s;
-    }
+) -> State
+    ensures { λ r. ⌜ r ≡ afterDelta s (lentStores s (sets .entry) (entries .entry) (order .entry))
+        (cellsIn s (figures .entry) (extremes .entry) (pos .entry) (neg .entry))
+        (outputIn s («out_sets» .entry) («out_words» .entry) («out_pos» .entry) («out_neg» .entry)) ⌝ }
+{
     let n = s.entries;
     let m = s.counts;
     let i = replay_state::within(s.f[2], 66) as u64;
     let j = replay_state::within(s.f[3], 10560) as u64;
-    if s.delta {
-        let reply = exponential_collection::delta(
-            settings(s),
-            s.dir,
-            lent::sets(sets, n),
-            lent::entries(entries, n),
-            lent::order(order, n),
-            lent::figures_in(figures, n),
-            lent::extremes_in(extremes, n),
-            lent::counts_in(pos, m),
-            lent::counts_in(neg, m),
-            lent::sets(out_sets, i),
-            lent::words(out_words, i),
-            lent::counts(out_pos, j),
-            lent::counts(out_neg, j),
-        );
-        let answer = reply.answer;
-        let dir = reply.dir;
-        return after::collected(s, dir, answer);
-    }
+    let reply = exponential_collection::delta(
+        settings(s),
+        s.dir,
+        lent::sets(sets, n),
+        lent::entries(entries, n),
+        lent::order(order, n),
+        lent::figures_in(figures, n),
+        lent::extremes_in(extremes, n),
+        lent::counts_in(pos, m),
+        lent::counts_in(neg, m),
+        lent::sets(out_sets, i),
+        lent::words(out_words, i),
+        lent::counts(out_pos, j),
+        lent::counts(out_neg, j),
+    );
+    let answer = reply.answer;
+    let dir = reply.dir;
+    after::collected(s, dir, answer)
+}
+
+fn cumulative(
+    s: State,
+    sets: &[[u64; 9]],
+    entries: &[[u64; 3]],
+    order: &[u32],
+    figures: &[[u64; 8]],
+    extremes: &[[f64; 3]],
+    pos: &[u64],
+    neg: &[u64],
+    out_sets: &mut [[u64; 9]],
+    out_words: &mut [[u64; 12]],
+    out_pos: &mut [u64],
+    out_neg: &mut [u64],
+) -> State
+    ensures { λ r. ⌜ r ≡ afterCumulative s (lentStores s (sets .entry) (entries .entry) (order .entry))
+        (cellsIn s (figures .entry) (extremes .entry) (pos .entry) (neg .entry))
+        (outputIn s («out_sets» .entry) («out_words» .entry) («out_pos» .entry) («out_neg» .entry)) ⌝ }
+{
+    let n = s.entries;
+    let m = s.counts;
+    let i = replay_state::within(s.f[2], 66) as u64;
+    let j = replay_state::within(s.f[3], 10560) as u64;
     let answer = exponential_collection::cumulative(
         settings(s),
         s.dir,
@@ -186,4 +271,61 @@ pub fn collect(
         lent::counts(out_neg, j),
     );
     after::collected(s, s.dir, answer)
+}
+
+// Collects, if a line asks that of a map of this kind.
+pub fn collect(
+    s: State,
+    sets: &mut [[u64; 9]],
+    entries: &mut [[u64; 3]],
+    order: &mut [u32],
+    figures: &[[u64; 8]],
+    extremes: &[[f64; 3]],
+    pos: &[u64],
+    neg: &[u64],
+    out_sets: &mut [[u64; 9]],
+    out_words: &mut [[u64; 12]],
+    out_pos: &mut [u64],
+    out_neg: &mut [u64],
+) -> State
+    ensures { λ r. ⌜ r ≡ afterCollected s (lentStores s (sets .entry) (entries .entry) (order .entry))
+        (cellsIn s (figures .entry) (extremes .entry) (pos .entry) (neg .entry))
+        (outputIn s («out_sets» .entry) («out_words» .entry) («out_pos» .entry) («out_neg» .entry)) ⌝ }
+{
+    if s.of != b'e' {
+        return s;
+    }
+    if s.letter != b'c' {
+        return s;
+    }
+    if s.delta {
+        return delta(
+            s,
+            sets,
+            entries,
+            order,
+            figures,
+            extremes,
+            pos,
+            neg,
+            out_sets,
+            out_words,
+            out_pos,
+            out_neg,
+        );
+    }
+    cumulative(
+        s,
+        sets,
+        entries,
+        order,
+        figures,
+        extremes,
+        pos,
+        neg,
+        out_sets,
+        out_words,
+        out_pos,
+        out_neg,
+    )
 }

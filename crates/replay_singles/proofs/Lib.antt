@@ -1,3 +1,2 @@
 -- The laws of `replay_singles`.
 pub mod Calls
-pub mod Lines

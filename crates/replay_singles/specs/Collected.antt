@@ -2,11 +2,9 @@
 -- The state after a line that collects from a map of sums or last values. Assumes nothing.
 use Prim.Native.Nat.{ℕ, min}
 use mathlib.Core.List.{List, []}
-use lib.Dec.{eqb}
 use lib.ListN.{take}
 use lib.Ieee.{Float}
 use denote.Ref.{RefT, now}
-use Rattle.laws.specs.Pick.{pick}
 use Rattle.directory.specs.View.{Stores}
 use Rattle.value_map.specs.Calls.{held}
 use Rattle.listing.specs.Listed.{Output}
@@ -14,6 +12,7 @@ use Rattle.collecting.specs.Collected.{Collected, deltaCollected, cumulativeCol
 use Rattle.singles.specs.Points.{asWords, singleLister}
 use Rattle.replay_state.specs.declared.State.{State}
 use Rattle.replay_state.specs.After.{single, field, collectedBy}
+use Rattle.replay_state.specs.Lines.{collectedAs}
 use Rattle.replay_singles.specs.Followed.{kindOf}
 
 -- the output, as long as the line says, at most 66 points, whose bits are the first of its counts
@@ -31,5 +30,5 @@ unfoldable pub afterCumulative : State → Stores → List Float → Output → 
 afterCumulative s d c o = listed s (cumulativeCollected (singleLister (kindOf s)) tt (s .limit) (held (s .dir) d c) o)
 
 -- a line that is no `c`, or is not of these kinds, leaves the state
-unfoldable pub afterCollected : State → Stores → List Float → Output → State
-afterCollected s d c o = pick (single (s .of)) (pick (eqb (s .letter) 99) (pick (s .delta) (afterDelta s d c o) (afterCumulative s d c o)) s) s
+abbrev pub afterCollected : State → Stores → List Float → Output → State
+afterCollected s d c o = collectedAs (single (s .of)) s (afterDelta s d c o) (afterCumulative s d c o)

@@ -1,7 +1,5 @@
 -- BETWEEN OUR OWN CRATES: serves inner contracts and proofs; nobody needs it to believe the public calls or the theorems.
 -- The state after a line of a map of sums or last values that configures, records, binds or releases. Assumes nothing.
-use Prim.Native.Nat.{ℕ}
-use mathlib.Core.Bool.{_||_}
 use mathlib.Core.List.{List}
 use lib.Dec.{eqb}
 use lib.ListN.{take, drop}
@@ -21,6 +19,7 @@ use Rattle.singles.specs.declared.Setup.{Setup}
 use Rattle.replay_state.specs.declared.State.{State}
 use Rattle.replay_state.specs.After.{single, field, notBegun, newlyBegun, doneBy}
 use Rattle.replay_state.specs.Bound.{filterIn, afterBound}
+use Rattle.replay_state.specs.Lines.{followedBy}
 
 -- of which of the two kinds the map of a line is
 abbrev pub kindOf : State → Aggregation
@@ -56,12 +55,8 @@ afterMeasuredBy s d c =
 
 -- ---- any line
 
--- by a line's letter, after `n`, `r`, `h`, and `b` or `u`; any other leaves the state
-unfoldable pub byLetter : ℕ → State → State → State → State → State → State
-byLetter l n r h b s =
-    pick (eqb l 110) n (pick (eqb l 114) r (pick (eqb l 104) h (pick (eqb l 98 || eqb l 117) b s)))
-
--- a line that is not of these kinds leaves the state too
-unfoldable pub afterFollowed : State → Set → Stores → List Float → State
+-- by its letter; a line that is not of these kinds leaves the state
+abbrev pub afterFollowed : State → Set → Stores → List Float → State
 afterFollowed s attrs d c =
-    pick (single (s .of)) (byLetter (s .letter) (afterConfigured s d c) (afterMeasured s attrs d c) (afterMeasuredBy s d c) (afterBound s attrs d) s) s
+    followedBy (single (s .of)) (s .letter) (afterConfigured s d c) (afterMeasured s attrs d c) (afterMeasuredBy s d c)
+    (afterBound s attrs d) s

@@ -4,7 +4,7 @@ use mathlib.Core.Bool.{true, false}
 use borrow.Author.Needs.{needs}
 use borrow.Author.Tests.{not-true, not-false}
 use Rattle.replay_state.specs.After.{single}
-use Rattle.replay_singles.proofs.Lines.{follows-none, follows-n, follows-r, follows-h, follows-b-u, follows-other}
+use Rattle.replay_state.proofs.Lines.{follows-none, follows-n, follows-r, follows-h, follows-b-u, follows-other}
 use Rattle.replay_singles.proofs.follow.Statement.{statement}
 use Rattle.replay_singles.proofs.follow.Tie as tie
 
@@ -18,36 +18,36 @@ of-these : (e : tie.Else1) → single (start (e .before) .args .s .of) ≡ true
 of-these e = let j = e .before in sym (j .is-single .ensures) ∙ not-false (j .is-single .result) (e .if1 .left)
 
 returns : tie.Need-returns
-returns c = follows-none (start (c .before) .args .s) _ _ _ (of-others c)
+returns c = follows-none _ _ _ _ _ _ (of-others c)
 
 returns-2 : tie.Need-returns-2
 returns-2 c =
     let f = c .before in
     let m = f .before .before .before .before .before in
-    f .configure .ensures ∙ follows-n (start (m .before .before) .args .s) _ _ _ (of-these (m .before)) (m .match .keys1)
+    f .configure .ensures ∙ follows-n _ _ _ _ _ _ (of-these (m .before)) (m .match .keys1)
 
 returns-3 : tie.Need-returns-3
 returns-3 c =
     let f = c .before .before .before .before .before .before in
     let m = f .before .before .before .before .before in
-    f .measure .ensures ∙ follows-r (start (m .before .before) .args .s) _ _ _ (of-these (m .before)) (m .match .keys2)
+    f .measure .ensures ∙ follows-r _ _ _ _ _ _ (of-these (m .before)) (m .match .keys2)
 
 returns-4 : tie.Need-returns-4
 returns-4 c =
     let f = c .before .before .before .before .before .before in
     let m = f .before .before .before .before .before in
-    f .measure-by .ensures ∙ follows-h (start (m .before .before) .args .s) _ _ _ (of-these (m .before)) (m .match .keys3)
+    f .measure-by .ensures ∙ follows-h _ _ _ _ _ _ (of-these (m .before)) (m .match .keys3)
 
 returns-5 : tie.Need-returns-5
 returns-5 c =
     let f = c .before .before .before .before in
     let m = f .before .before .before .before in
-    f .bind .ensures ∙ follows-b-u (start (m .before .before) .args .s) _ _ _ (of-these (m .before)) (m .match .keys4)
+    f .bind .ensures ∙ follows-b-u _ _ _ _ _ _ (of-these (m .before)) (m .match .keys4)
 
 returns-6 : tie.Need-returns-6
 returns-6 c =
     let r = c .match .rest in
-    follows-other (start (c .before .before) .args .s) _ _ _ (of-these (c .before)) (r .0 .0 .0 .1) (r .0 .0 .1) (r .0 .1) (r .1)
+    follows-other _ _ _ _ _ _ (of-these (c .before)) (r .0 .0 .0 .1) (r .0 .0 .1) (r .0 .1) (r .1)
 
 pub follow-spec : {M : Type 1} → statement M
 follow-spec =

@@ -1,0 +1,2 @@
+-- The laws of `replay_explicit`.
+pub mod Calls

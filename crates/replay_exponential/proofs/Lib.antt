@@ -1,0 +1,3 @@
+-- The laws of `replay_exponential`.
+pub mod Scales
+pub mod Calls

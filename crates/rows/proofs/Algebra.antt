@@ -1,16 +1,16 @@
 -- The algebra of rows: what downscaling does to a row that is downscaled, recorded into or added to. Assumes nothing.
 use mathlib.Core.Path.{_≡_, refl, sym, ap, _∙_}
-use mathlib.Core.Logic.{⊎-elim, _⊎_, inl, inr}
+use mathlib.Core.Logic.{⊎-elim, _⊎_}
 use mathlib.Core.Bool.{Bool, true, false}
 use mathlib.Core.List.{List, [], _∷_, _++_}
 use Prim.Native.Nat.{ℕ, zero, suc, _+_, _-_, _/_, _^_, _≤_, _<_, min}
-use native.Mathlib.Nat.{not-suc-le-zero, zero-add, add-zero, add-suc, suc-add, add-assoc, sub-self, lt-of-not-le}
-use native.Mathlib.Decide.{decLe}
+use native.Mathlib.Nat.{not-suc-le-zero, zero-add, add-zero, add-suc, suc-add, add-assoc, sub-self}
 use native.Mathlib.Omega.{arith}
 use lib.Dec.{eqb}
 use lib.Pow.{pow-pos, shr-mono, shr-shr}
 use lib.ListN.{length, length-append, replicate}
 use borrow.Author.Tests.{eq-eqb, ne-eqb}
+pub use Rattle.laws.proofs.Differences.{le-or-lt}
 use Rattle.rows.specs.Rows.{addAt, addAll, onto, downscaled, recorded, recordedFrom}
 use Rattle.laws.specs.Pick.{pick}
 use Rattle.rows.proofs.Laws.{next-div, onto-nil, snoc-step}
@@ -95,15 +95,6 @@ addAll-step e q q' y g xs l w =
     same [] = refl
     same (z ∷ g) = ap (addAll (suc (q - e)) g) (addAt-twice (q - e) y z xs)
 
-pub downscaled-addAll : (d s k : ℕ) (ys xs : List ℕ)
-    → downscaled d s (addAll k ys xs) ≡ addAll ((s + k) / 2 ^ d - s / 2 ^ d) (downscaled d (s + k) ys) (downscaled d s xs)
-unfolding addAll downscaled
-downscaled-addAll d s k [] xs = refl
-downscaled-addAll d s k (y ∷ ys) xs =
-    downscaled-addAll d s (suc k) ys (addAt k y xs)
-    ∙ ap (addAll ((s + suc k) / 2 ^ d - s / 2 ^ d) (downscaled d (s + suc k) ys)) (downscaled-addAt d s k y xs)
-    ∙ rw add-suc (addAll-step (s / 2 ^ d) ((s + k) / 2 ^ d) (suc (s + k) / 2 ^ d) y (downscaled d (suc (s + k)) ys) (downscaled d s xs) (shr-mono d (omega arith)) (next-div (s + k) (2 ^ d) (pow-pos d)))
-
 -- ---- what each index counts
 
 -- the count at index i of the row that starts at s
@@ -153,7 +144,7 @@ unfolding onto
 length-onto-true x [] h = absurd (not-suc-le-zero h)
 length-onto-true x (y ∷ r) h = refl
 
-length-step : (q q' e x : ℕ) (r : List ℕ) → 0 < length r → length r + q' ≡ e → (q' ≡ q) ⊎ (q' ≡ suc q) → length (onto (eqb q q') x r) + q ≡ e
+pub length-step : (q q' e x : ℕ) (r : List ℕ) → 0 < length r → length r + q' ≡ e → (q' ≡ q) ⊎ (q' ≡ suc q) → length (onto (eqb q q') x r) + q ≡ e
 unfolding onto
 length-step q q' e x r h l w =
     ⊎-elim
@@ -204,14 +195,6 @@ pub recorded-some : (s i : ℕ) (xs : List ℕ) → 0 < length xs → recorded s
 unfolding recorded
 recorded-some s i [] h = absurd (not-suc-le-zero h)
 recorded-some s i (x ∷ xs) h = refl
-
--- two numbers compare
-pub le-or-lt : (m n : ℕ) → (m ≤ n) ⊎ (n < m)
-le-or-lt m n = go (decLe m n)
-  where
-    go : Dec (m ≤ n) → (m ≤ n) ⊎ (n < m)
-    go (yes p) = inl p
-    go (no np) = inr (lt-of-not-le np)
 
 -- the row that starts at the least of the two
 spans : (d s i : ℕ) → (i / 2 ^ d - min s i / 2 ^ d ≡ i / 2 ^ d - s / 2 ^ d) × (s / 2 ^ d - min s i / 2 ^ d ≡ s / 2 ^ d - i / 2 ^ d)

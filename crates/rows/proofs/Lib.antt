@@ -2,7 +2,9 @@
 pub mod Laws
 pub mod Moves
 pub mod Adds
+pub mod Groups
 pub mod Algebra
+pub mod Cuts
 pub mod Puts
 pub mod Change
 pub mod Parts

@@ -9,7 +9,7 @@ use lib.ListN.{length, take, drop, length-drop, take-append-drop}
 use lib.Seq.{length-take-le, take-append-le, drop-append-le, drop-drop, take-at, drop-at}
 use borrow.Rule.Slice.PartMut as Mid
 use Rattle.laws.proofs.Differences.{le-or-lt}
-use Rattle.rows.specs.Parts.{part, partAt, putAt}
+use Rattle.rows.specs.Parts.{partAt, putAt}
 
 -- a slot's part ends where the next one's begins
 pub slot-end : (x y n : ℕ) → x < y → x * n + n ≤ y * n

@@ -1,4 +1,5 @@
 -- The definitions that the contracts of `rows` cite.
 pub mod Rows
 pub mod Parts
+pub mod Groups
 pub mod Recording

@@ -1,4 +1,5 @@
--- BETWEEN OUR OWN CRATES: serves inner contracts and proofs; nobody needs it to believe the public calls or the theorems.
+-- BETWEEN OUR OWN CRATES: serves inner contracts and proofs; nobody needs it to believe the public calls or the theorems, but for `onto` and
+-- `downscaled`, which the theorem `PlainForm` is about.
 -- A row of bucket counts: a start index, and the counts of the indices from it on. Assumes nothing.
 use Prim.Native.Nat.{ℕ, zero, suc, _+_, _-_, _/_, _^_, min}
 use mathlib.Core.List.{List, [], _∷_, _++_}

@@ -1,4 +1,6 @@
 // Rows of bucket counts of an exponential histogram, each at the front of a slice that is lent: `ExpoBuckets` of exponential_histogram.rs.
+mod walk;
+
 ghost use mathlib.Core.Path.{_≡_};
 ghost use Prim.Native.Nat.{_+_, _/_, _^_, _<_, _≤_};
 ghost use lib.ListN.{length, take, getD};
@@ -21,22 +23,7 @@ pub fn downscale(counts: &mut [u64], start: u32, n: usize, delta: u32) -> Row
     ensures { λ r. ⌜ now (counts .exit) ≡ over (downscaled delta start (take n (now (counts .entry)))) (now (counts .entry)) ⌝ }
 {
     let base = start >> delta;
-    let first = (start as u64) >> delta;
-    let mut index = start as u64;
-    let mut len: usize = 0;
-    let mut i: usize = 0;
-    while i < n {
-        let x = counts[i];
-        let at = ((index >> delta) - first) as usize;
-        if at < len {
-            counts[at] += x;
-        } else {
-            counts[at] = x;
-            len = at + 1;
-        }
-        index += 1;
-        i += 1;
-    }
+    let len = walk::lower(counts, start, n, delta);
     Row { start: base, len }
 }
 
@@ -102,20 +89,26 @@ pub fn record(counts: &mut [u64], row: Row, index: u32) -> Row
     Row { start, len: k + 1 }
 }
 
-// The least number of levels lower at which the bins from lo to hi are at most size.
+// The least number of levels lower at which the bins from lo to hi are at most size. By how many binary digits hi - lo is longer than size - 1, so
+// many levels are right or one too few. For a size of 1, which no configuring accepts, the highest digit in which lo and hi differ tells it.
 pub fn scale_change(lo: u32, hi: u32, size: usize) -> u32
     requires { ⌜ (lo ≤ hi) × (0 < size) ⌝ }
     ensures { λ r. ⌜ r ≡ lowering size lo hi ⌝ }
 {
-    let mut a = lo as u64;
-    let mut b = hi as u64;
-    let mut delta: u32 = 0;
-    while size as u64 <= b - a {
-        a = a / 2;
-        b = b / 2;
-        delta += 1;
+    let far = (hi - lo) as u64;
+    let most = size as u64 - 1;
+    if far <= most {
+        return 0;
     }
-    delta
+    if most == 0 {
+        return 32 - u32::leading_zeros(lo ^ hi);
+    }
+    let k = u64::leading_zeros(most) - u64::leading_zeros(far);
+    let apart = (hi >> k) - (lo >> k);
+    if apart as u64 <= most {
+        return k;
+    }
+    k + 1
 }
 
 // v more at place k of the row of the first n, with zeros before it where it is past the end. Returns the row's length then.

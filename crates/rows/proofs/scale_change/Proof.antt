@@ -1,50 +1,69 @@
-use mathlib.Core.Path.{_≡_, sym, ap, _∙_}
-use Prim.Native.Nat.{ℕ, _-_, _/_, _^_, _≤_, _<_}
-use native.Mathlib.Nat.{div-one, div-eq-of-lt, lt-of-lt-of-le, lt-of-not-le}
+use mathlib.Core.Path.{_≡_, ap, _∙_}
+use Prim.Native.Nat.{ℕ, _+_, _-_, _/_, _^_, _≤_}
+use native.Mathlib.Nat.{div-one}
 use native.Mathlib.Omega.{arith}
 use borrow.Author.Needs.{needs}
 use borrow.Author.Count.{below-none, below-more}
-use lib.Pow.{shr-mono, shr-shr, pow-mono}
-use Rattle.rows.proofs.Change.{change-is}
+use lib.Bits.{bitXor}
+use lib.Count.{leadingZeros}
+use lib.Pow.{shr-mono, shr-le}
+use Rattle.rows.specs.Rows.{lowering}
+use Rattle.rows.proofs.Change.{change-is, Guess, guess, differing}
 use Rattle.rows.proofs.scale_change.Statement.{statement}
 use Rattle.rows.proofs.scale_change.Tie as tie
 
-abbrev Inv-loop : tie.InvT-loop
-Inv-loop lo hi size a₀ b₀ delta₀ a b delta =
-    (a ≡ lo / 2 ^ delta) × (b ≡ hi / 2 ^ delta) × ((d : ℕ) → d < delta → size ≤ hi / 2 ^ d - lo / 2 ^ d) × (delta ≤ 32)
+-- the levels that the digits give
+abbrev K : tie.Start → ℕ
+K c = leadingZeros 64 (c .args .size - 1) - leadingZeros 64 (c .args .hi - c .args .lo)
 
-abbrev μ-loop : tie.MeasureT-loop
-μ-loop lo hi size a₀ b₀ delta₀ a b delta = b
+guessed : (c : tie.Else2)
+    → (leadingZeros 64 (c .before .before .args .hi - c .before .before .args .lo) ≤ leadingZeros 64 (c .before .before .args .size - 1))
+    × Guess (c .before .before .args .lo) (c .before .before .args .hi) (c .before .before .args .size) (K (c .before .before))
+guessed c =
+    let s = c .before .before in
+    guess (s .args .lo) (s .args .hi) (s .args .size) (s .pre .0) (s .fits .hi .fits) (s .fits .size .fits) (omega arith) (omega arith)
 
--- a shift that leaves something of a u32 is below 32
-few : (x d : ℕ) → x < 2 ^ 32 → 0 < x / 2 ^ d → d < 32
-few x d h p = lt-of-not-le (λ (l : 32 ≤ d). let e : x / 2 ^ d ≡ 0 = div-eq-of-lt (lt-of-lt-of-le h (pow-mono l)) in omega arith)
+digits : (c : tie.Then2)
+    → (leadingZeros 32 (bitXor (c .before .before .args .lo) (c .before .before .args .hi)) ≤ 32)
+    × (32 - leadingZeros 32 (bitXor (c .before .before .args .lo) (c .before .before .args .hi)) ≡ lowering 1 (c .before .before .args .lo) (c .before .before .args .hi))
+digits c = differing (c .before .before .args .lo) (c .before .before .args .hi) (omega arith) (c .before .before .fits .hi .fits)
 
-loop-holds : tie.Need-loop-holds Inv-loop μ-loop
-loop-holds c = (sym (div-one (c .args .lo)), sym (div-one (c .args .hi)), below-none (λ (d : ℕ). c .args .size ≤ c .args .hi / 2 ^ d - c .args .lo / 2 ^ d), search needs)
-
-sub-loop : tie.Need-sub-loop Inv-loop μ-loop
-sub-loop c = omega (arith, shr-mono (c .loop .delta) (c .before .pre .0))
-
-add-delta : tie.Need-add-delta Inv-loop μ-loop
-add-delta c = omega (arith, few (c .before .before .args .hi) (c .before .loop .delta) (c .before .before .fits .hi .fits) (omega arith))
-
-loop-again : tie.Need-loop-again Inv-loop μ-loop
-loop-again c =
-    let l = c .before .loop in (
-      ap (λ (n : ℕ). n / 2) (l .inv .0) ∙ shr-shr (c .before .before .args .lo) (l .delta) 1,
-      ap (λ (n : ℕ). n / 2) (l .inv .1) ∙ shr-shr (c .before .before .args .hi) (l .delta) 1,
-      below-more (λ (d : ℕ). c .before .before .args .size ≤ c .before .before .args .hi / 2 ^ d - c .before .before .args .lo / 2 ^ d) (l .delta) (l .inv .2)
-          (rw (l .inv .0, l .inv .1) at (c .loop-test .taken)),
-      omega (arith, few (c .before .before .args .hi) (l .delta) (c .before .before .fits .hi .fits) (omega arith)),
-    )
-
-returns : tie.Need-returns Inv-loop μ-loop
+returns : tie.Need-returns
 returns c =
-    let l = c .before .loop in
+    let a = c .before .args in
+    change-is (a .size) (a .lo) (a .hi) 0 (omega arith) (omega (arith, div-one (a .hi), div-one (a .lo))) (below-none (λ (d : ℕ). a .size ≤ a .hi / 2 ^ d - a .lo / 2 ^ d))
+
+returns-2 : tie.Need-returns-2
+returns-2 c =
     let a = c .before .before .args in
-    change-is (a .size) (a .lo) (a .hi) (l .delta) (l .inv .3) (rw (l .inv .0, l .inv .1) at (c .loop-test .left)) (l .inv .2)
+    let e : 1 ≡ c .before .before .args .size = omega arith in
+    digits c .1 ∙ ap (λ (n : ℕ). lowering n (a .lo) (a .hi)) e
+
+sub-apart : tie.Need-sub-apart
+sub-apart c = shr-mono (K (c .before .before)) (c .before .before .pre .0)
+
+cast-if3 : tie.Need-cast-if3
+cast-if3 c = omega (arith, shr-le (c .before .before .args .hi) (K (c .before .before)))
+
+returns-3 : tie.Need-returns-3
+returns-3 c =
+    let a = c .before .before .before .args in
+    let g = guessed (c .before) .1 in
+    change-is (a .size) (a .lo) (a .hi) (K (c .before .before .before)) (omega (arith, g .few)) (omega arith) (g .under)
+
+add-result : tie.Need-add-result
+add-result c = omega (arith, guessed (c .before) .1 .few)
+
+returns-4 : tie.Need-returns-4
+returns-4 c =
+    let s = c .before .before .before in
+    let a = s .args in
+    let g = guessed (c .before) .1 in
+    change-is (a .size) (a .lo) (a .hi) (K s + 1) (omega (arith, g .few)) (g .next)
+    (below-more (λ (d : ℕ). a .size ≤ a .hi / 2 ^ d - a .lo / 2 ^ d) (K s) (g .under) (omega arith))
 
 pub scale-change-spec : {M : Type 1} → statement M
 scale-change-spec =
-    tie.close (tie.spec Inv-loop μ-loop loop-holds sub-loop add-delta (λ c. omega arith) loop-again returns)
+    tie.close
+    (tie.spec (λ c. search needs) (λ c. search needs) (λ c. search needs) returns (λ c. digits c .0) returns-2 (λ c. guessed c .0) (λ c. guessed c .1 .few)
+    (λ c. guessed c .1 .few) sub-apart cast-if3 returns-3 add-result returns-4)

@@ -1,0 +1,3 @@
+-- The laws of the plain form.
+pub mod Plain
+pub mod Halves

@@ -1,0 +1,3 @@
+-- The definitions that the contracts of `halving` and the theorem `PlainForm` cite.
+pub mod Plain
+pub mod Inner

@@ -1,17 +1,25 @@
 -- The terms of the promises, under their names in small letters; and demand 3 of any faithful code of the histogram kinds. Assumes nothing.
+use Prim.Native.Nat.{ℕ, _+_, _-_, _/_, _^_}
+use mathlib.Core.Path.{_≡_, sym, ap, _∙_}
+use native.Mathlib.Omega.{arith}
+use lib.IntN.{pos, _-ℤ_}
+use lib.Pow.{pow-add}
+use lib.Signed.{shrZ}
 use lib.Ieee.Bits.{is-true}
 use lib.Ieee.Scale.{finite}
+use Rattle.laws.proofs.Differences.{shift-sub}
 use Rattle.index.specs.Magnitude.{magnitude}
 use Rattle.index.specs.Bins.{binAt, indexOf}
 use Rattle.index.proofs.Indices.{one-index as only-index}
 use Rattle.index.proofs.Values.{value-is}
+use Rattle.halving.proofs.Plain as Plain
 use Rattle.tally.proofs.Faithful.{Demand, MergedDemand}
 use Rattle.tally.proofs.Demand.{demand, merged-demand}
 use Rattle.kinds.specs.Histograms.{histograms}
 use Rattle.kinds.proofs.Recorded.{lawful}
 use Rattle.kinds.proofs.Merges.{merging, mergeable}
 use Rattle.directory.proofs.Tied.{agreement}
-use Rattle.promises.specs.Promises.{ExponentialDemand, ExplicitDemand, SinglesDemand, Reaches, OneIndex, DirectoryAgrees}
+use Rattle.promises.specs.Promises.{ExponentialDemand, ExplicitDemand, SinglesDemand, Reaches, OneIndex, PlainForm, HalvedOffset, DirectoryAgrees}
 use Rattle.promises.proofs.Reaches as Reaching
 use Rattle.promises.proofs.Setups as Setups
 use Rattle.promises.proofs.Singles as Singles
@@ -33,6 +41,15 @@ one-index x scale level f z e =
     let r = value-is x scale level (f .fits) (is-true (finite x) (f .known)) z e in
     let i = indexOf level (binAt level (magnitude x)) in
     (i, r .0, r .1, λ j h. only-index scale (magnitude x) j i h (r .1))
+
+pub plain-form : PlainForm
+plain-form = Plain.plain-form
+
+pub halved-offset : HalvedOffset
+halved-offset level bin h =
+    let e : level - 1 + 1 ≡ level = omega arith in
+    ap (λ (n : ℕ). pos (bin / 2) -ℤ pos (2 ^ n)) e
+    ∙ sym (ap (λ (n : ℕ). shrZ (pos bin -ℤ pos n) 2) (pow-add 2 level 1) ∙ shift-sub bin (2 ^ level) 1)
 
 pub directory-agrees : DirectoryAgrees
 directory-agrees = agreement

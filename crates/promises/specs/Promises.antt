@@ -1,19 +1,23 @@
 -- THE PROMISES: each theorem about the code as a type, beside the sentence that it answers. Their terms are in proofs/Promises.antt, under the
 -- same names in small letters; docs/PROMISES.md lists them. Assumes nothing.
-use Prim.Native.Nat.{ℕ}
+use Prim.Native.Nat.{ℕ, _-_, _/_, _^_, _<_}
 use mathlib.Core.Path.{_≡_}
 use mathlib.Core.Bool.{Bool}
 use mathlib.Core.List.{List, []}
 use mathlib.Core.Option.{Option}
 use lib.IntN.{ℤ}
+use lib.Signed.{shrZ}
 use lib.Ieee.{Float}
 use Rattle.laws.specs.Said.{success}
 use Rattle.index.specs.Magnitude.{magnitude, isNegative}
 use Rattle.index.specs.DataModel.{IsIndex}
+use Rattle.index.specs.Bins.{indexOf}
 use Rattle.index.specs.Signed.{levelAnswer, valueIndex}
 use Rattle.index.specs.declared.signed.Natural.the-variants.{Is}
 use Rattle.index.specs.declared.signed.Index.the-variants.{At}
 use Rattle.floats.specs.Starts.{FiniteF64}
+use Rattle.rows.specs.Rows.{downscaled}
+use Rattle.halving.specs.Plain.{plainStart, plainCounts}
 use Rattle.tally.specs.Kind.{Kind}
 use Rattle.tally.specs.Map.{Config, Call}
 use Rattle.tally.specs.Demand.{Answered, InRange}
@@ -105,6 +109,17 @@ abbrev pub OneIndex : Type 0
 OneIndex =
     (x : Float) (scale : ℤ) (level : ℕ) → FiniteF64 x → (magnitude x ≡ 0 → ⊥) → levelAnswer scale ≡ Is level
     → (i : ℤ) × (valueIndex x scale ≡ At (isNegative x) i) × IsIndex scale (magnitude x) i × ((j : ℤ) → IsIndex scale (magnitude x) j → j ≡ i)
+
+-- ---- RESCALING (request L3)
+
+-- "Offset and counts are proved equal to the plain form's, kept as the definition, for every agreeing row and lower scale": where a row starts and its
+-- counts, d levels lower, as the contract of `rows::downscale` says them, are those of the row halved d times. Of every row there is
+abbrev pub PlainForm : Type 0
+PlainForm = (d start : ℕ) (counts : List ℕ) → (start / 2 ^ d ≡ plainStart d start) × (downscaled d start counts ≡ plainCounts d start counts)
+
+-- and a bin that is halved has its index halved, rounding down, at every level above the lowest
+abbrev pub HalvedOffset : Type 0
+HalvedOffset = (level bin : ℕ) → 0 < level → indexOf (level - 1) (bin / 2) ≡ shrZ (indexOf level bin) 2
 
 -- ---- NUMBER 8 OF A DIRECTORY
 

@@ -1,7 +1,7 @@
 //! The cases: what is measured, and how many operations a round has.
 
-use crate::inputs::{first, grid, last, unlike, Input, VALUES};
-use crate::{ours, rust};
+use crate::inputs::{first, grid, last, unlike, Input, ROWS, VALUES};
+use crate::{lowering, ours, rust};
 
 /// One side of a case. `prepare` is not measured.
 pub struct Side {
@@ -86,8 +86,35 @@ pub fn all() -> Vec<Case> {
         delta_cold("delta collection, 62 full series, cold", full()),
         cumulative("cumulative collection, 4 sets, rows of 20", few().rows(20)),
         cumulative("cumulative collection, 62 full series", full()),
+        rescale("rescaling, 1 level", 1),
+        rescale("rescaling, 2 levels", 2),
+        rescale("rescaling, 5 levels", 5),
+        rescale("rescaling, 20 levels", 20),
+        plain("rescaling, 1 level, plain form", 1),
+        plain("rescaling, 2 levels, plain form", 2),
+        plain("rescaling, 5 levels, plain form", 5),
+        plain("rescaling, 20 levels, plain form", 20),
     ]);
     cases
+}
+
+fn rescale(name: &'static str, levels: u32) -> Case {
+    Case {
+        name,
+        operations: ROWS,
+        rust: Some(Box::new(move || rust::downscale(levels))),
+        ours: Box::new(move || lowering::walk(levels)),
+    }
+}
+
+/// Ours by halving, which the Rust does not do.
+fn plain(name: &'static str, levels: u32) -> Case {
+    Case {
+        name,
+        operations: ROWS,
+        rust: None,
+        ours: Box::new(move || lowering::halves(levels)),
+    }
 }
 
 fn index(name: &'static str, scale: i8) -> Case {

@@ -13,6 +13,10 @@ pub const BOUNDS: [f64; 15] = [
     -8.0, -4.0, -2.0, -1.0, -0.5, -0.25, -0.125, 0.0, 0.125, 0.25, 0.5, 1.0, 2.0, 4.0, 8.0,
 ];
 
+/// Rows that are lowered in a round, and, at scale 10, the index of their first count: odd, so that both ends are cut.
+pub const ROWS: usize = 64;
+pub const FIRST_INDEX: i32 = 1;
+
 /// Attributes of a call: key and value.
 pub type Set = Vec<(u32, u32)>;
 
@@ -141,4 +145,9 @@ fn values() -> Vec<f64> {
 /// One value in each of `width` buckets upward from 1 at scale 10.
 fn row(width: u32) -> impl Iterator<Item = f64> {
     (0..width).map(|i| 2f64.powf((f64::from(i) + 0.5) / 1024.0))
+}
+
+/// The counts of a row that is full.
+pub fn full_row() -> [u64; MAX_SIZE as usize] {
+    std::array::from_fn(|i| 7 * i as u64 + 1)
 }

@@ -12,6 +12,7 @@ mod directory;
 mod explicit_map;
 mod exponential_map;
 mod inputs;
+mod lowering;
 mod ours;
 mod rust;
 mod sum_map;

@@ -5,7 +5,7 @@ use std::hint::black_box;
 use std::rc::Rc;
 
 use opentelemetry::KeyValue;
-use opentelemetry_sdk::door::{Aggregate, Bins, Kind, Settings};
+use opentelemetry_sdk::door::{Aggregate, Bins, Kind, Row, Settings};
 use opentelemetry_sdk::metrics::Temporality;
 
 use crate::cases::{Side, COLLECTIONS};
@@ -19,6 +19,32 @@ pub fn index(scale: i8) -> Side {
             black_box(bins.get_bin(black_box(*v)));
         }
     })
+}
+
+fn full_row() -> Row {
+    Row::new(inputs::FIRST_INDEX, &inputs::full_row())
+}
+
+/// A full row so many levels lower.
+pub fn lowered(levels: u32) -> Row {
+    let mut row = full_row();
+    row.downscale(levels);
+    row
+}
+
+pub fn downscale(levels: u32) -> Side {
+    let rows = Rc::new(RefCell::new(vec![]));
+    let fresh = rows.clone();
+    Side {
+        prepare: Box::new(move || {
+            *fresh.borrow_mut() = (0..inputs::ROWS).map(|_| full_row()).collect();
+        }),
+        run: Box::new(move || {
+            for row in rows.borrow_mut().iter_mut() {
+                black_box(&mut *row).downscale(black_box(levels));
+            }
+        }),
+    }
 }
 
 pub fn by_set(input: Input) -> Side {

@@ -16,8 +16,14 @@ pub trait Named {
 /// See metrics/internal/exponential_histogram.rs.
 pub struct IndexOfTheGivenFile;
 
+/// Likewise.
+pub struct RowOfTheGivenFile;
+
 /// `get_bin` of the given file.
 pub type Bins = <IndexOfTheGivenFile as Named>::Type;
+
+/// `ExpoBuckets` of the given file, with its `downscale`.
+pub type Row = <RowOfTheGivenFile as Named>::Type;
 
 /// Which keys are kept; absent: all.
 pub type Filter = Option<Arc<dyn Fn(&KeyValue) -> bool + Send + Sync>>;

@@ -14,7 +14,7 @@ import script
 from bits import GREATEST, index, is_finite, to_bits, to_float
 from points import Refused
 from reference import Reference, Rules
-from words import buckets_agree, extremes_agree
+from words import buckets_agree, shown_agrees
 
 SIZE_MOST = max(Rules().sizes)
 SUM_MOST = 2**43
@@ -66,9 +66,8 @@ def rows_agree(point):
 
 
 def agrees(point):
-    if point.kind == "x":
-        return buckets_agree(point.count, point.buckets, point.bounds) and extremes_agree(point.min, point.max)
-    return rows_agree(point) and extremes_agree(point.min, point.max)
+    counts = buckets_agree(point.count, point.buckets, point.bounds) if point.kind == "x" else rows_agree(point)
+    return counts and shown_agrees(point)
 
 
 # The card.

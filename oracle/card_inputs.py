@@ -9,7 +9,7 @@ from bits import CANONICAL_NAN, GREATEST, INFINITY, SIGN, to_bits
 from card import SUM_MOST
 from gauge_inputs import ANEW, EDGES, ONE, run_of, shift_of, spoiled
 from mean_lines import LENGTHS, SCALES
-from points import COUNT_MOST
+from points import COUNT_MOST, shown
 from selftest import WORKED_RUN
 
 EXAMPLE = Path(__file__).resolve().parent.parent / "examples/shift.txt"
@@ -79,7 +79,9 @@ def write_field(name, value):
 
 
 def held(count, bits):
-    return {"count": count, "switch": 1, "min": NEAR, "max": FAR, "sum": bits}
+    """A point of count 0 shows no extremes (request L4)."""
+    low, high = shown(NEAR, FAR, True, count)
+    return {"count": count, "switch": 1, "min": low, "max": high, "sum": bits}
 
 
 def explicit(draw, count, bits, /, **changed):
@@ -103,6 +105,7 @@ KINDS = (explicit, exponential)
 # Number 8: each reason, beside what still agrees.
 
 HELD_DAMAGE = [{"min": None}, {"max": None}, {"min": None, "max": None}, {"switch": 0, "min": None, "max": None}, {"switch": 0}]
+HELD_DAMAGE += [{"switch": switch, "min": NEAR, "max": FAR} for switch in (0, 1)] + [{"min": GREATEST, "max": GREATEST | SIGN}]
 EDGES_OF_F64 = (INFINITY, INFINITY | SIGN, CANONICAL_NAN, INFINITY + 1, GREATEST, 0, SIGN)
 HELD_DAMAGE += [{name: bits} for name in ("min", "max") for bits in EDGES_OF_F64]
 HELD_DAMAGE += [{"min": INFINITY, "max": INFINITY}, {"min": CANONICAL_NAN, "max": CANONICAL_NAN}, {"min": FAR, "max": NEAR}]
@@ -131,6 +134,7 @@ for SCALE in range(-10, -2):
 
 # Numbers 8, 13 and 14, each with those behind it: a point of no values whose sum is off the grid, and its counts don't add up.
 ORDER = [({}, {}), ({"first": 1}, {"zeros": 1}), ({"min": None}, {"min": None}), ({"bound": CANONICAL_NAN}, {"scale": 11})]
+ORDER += [({"min": NEAR, "max": FAR},) * 2]
 ORDER_SUMS = (0, to_bits(0.005), CANONICAL_NAN, INFINITY)
 
 
@@ -176,7 +180,8 @@ def stored_lines(draw):
     return lines + [*disagreeing(draw), *unread(draw)]
 
 
-FIELDS = {"switch": (0, 1), "bound": SUMS, "min": (None, *SUMS), "max": (None, *SUMS), "scale": SCALES, "len": LENGTHS}
+EXTREMES = None, NEAR, *SUMS
+FIELDS = {"switch": (0, 1), "bound": SUMS, "min": EXTREMES, "max": EXTREMES, "both": EXTREMES, "scale": SCALES, "len": LENGTHS}
 NAMES = {explicit: ("bound", "first", "second"), exponential: ("scale", "zeros", "first", "len", "neg")}
 
 
@@ -184,9 +189,10 @@ def random_line(draw):
     """A point that agrees, mostly; a field may be changed, or a byte."""
     kind = draw.choice(KINDS)
     count, bits = draw.choice(SOURCES)(draw)
-    name = draw.choice(("count", "switch", "min", "max", *NAMES[kind]))
+    name = draw.choice(("count", "switch", "min", "max", "both", *NAMES[kind]))
     value = draw.choice(FIELDS.get(name, (*COUNTS, draw.getrandbits(64))))
-    made = kind(draw, count, bits, **({name: value} if draw.random() < 0.2 else {}))
+    changed = {"min": value, "max": value} if name == "both" else {name: value}
+    made = kind(draw, count, bits, **(changed if draw.random() < 0.2 else {}))
     return spoiled(draw, made) if draw.random() < 0.03 else made
 
 

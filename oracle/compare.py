@@ -1,12 +1,13 @@
-"""Compares the reference with the Rust over random scripts, and with our program: same, beside a bound, key twice, unexplained or ours.
+"""Compares the reference with the Rust over random scripts, and with our program: a verdict for each script.
 
     compare.py COUNT [--seed WORD] [OPTIONS]        as generate.py
     compare.py COUNT .. --ours COMMAND              three ways: what our program answers to every line must be the reference's answer
 
-beside a bound: the answers differ, and are the same without the records of values that are a bound or the next value above it and
-whose index at the starting scale differs; these values are judged by the definition. key twice: likewise without the calls that
-give one key twice. ours: our program differs from the reference, whatever the Rust says. Everything else is unexplained and is printed
-with the smallest script found. Exit status 1 if anything is unexplained or ours.
+count 0: the same, but that points of count 0 have no extremes, and the Rust shows those that a series starts from
+(docs/DIFFERENCES.md). beside a bound: the answers differ otherwise, and are the same without the records of values that are a bound or
+the next value above it and whose index at the starting scale differs; these values are judged by the definition. key twice: likewise
+without the calls that give one key twice. ours: our program differs from the reference, whatever the Rust says. Everything else is
+unexplained and is printed with the smallest script found. Exit status 1 if anything is unexplained or ours.
 """
 
 import sys
@@ -21,7 +22,7 @@ from runs import answered, smallest
 from rust import asked, indices, replay
 
 BATCH = 250
-SAME, BESIDE, TWICE, UNEXPLAINED, OURS = "same", "beside a bound", "key twice", "unexplained", "ours"
+SAME, EMPTY, BESIDE, TWICE, UNEXPLAINED, OURS = "same", "count 0", "beside a bound", "key twice", "unexplained", "ours"
 
 
 class Comparer:
@@ -35,7 +36,7 @@ class Comparer:
         answers = replay({name: question.lines for name, question in questions.items()})
         for name, lines in scripts.items():
             same = answers[name] == questions[name].expected
-            yield name, SAME if same else self.explain(lines)
+            yield name, (EMPTY if questions[name].empty else SAME) if same else self.explain(lines)
 
     def same(self, lines):
         question = asked(lines, self.rules)
@@ -134,7 +135,7 @@ def main():
     names, options, given = generate.read_arguments(__doc__.splitlines()[0], "--ours")
     counts, lines = run(names, options, given.ours)
     print(f"compare.py {' '.join(sys.argv[1:])}: {len(names)} scripts, {lines} lines")
-    for verdict in (SAME, BESIDE, TWICE, UNEXPLAINED, OURS):
+    for verdict in (SAME, EMPTY, BESIDE, TWICE, UNEXPLAINED, OURS):
         print(f"  {verdict}: {counts[verdict]}")
     raise SystemExit(1 if counts[UNEXPLAINED] + counts[OURS] else 0)
 

@@ -21,12 +21,14 @@ REFUSED_BOUNDS = ([NAN], [0, 0], [0, SIGN], [5, 4], [1, NAN, 2], range(160), [NA
 
 @dataclass(frozen=True)
 class Options:
-    """What later requests widen: kinds (L1, L6), `rules` (limits L12, scales L13), thresholds (L7), new settings (L10)."""
+    """What requests widen: kinds (L1, L6), bound sets in cumulative collections (L4), `rules` (limits L12, scales L13), thresholds (L7), new
+    settings (L10)."""
 
     kinds: tuple = BASE_KINDS
     rules: Rules = Rules()
     thresholds: bool = False
     new_settings: bool = False
+    cumulative: bool = False
 
 
 # Values. Each kind of value is a function of the source and of the script's middle exponent.
@@ -233,7 +235,7 @@ def configure_line(draw, options, kind, limit, summed):
             threshold = normal(draw, 0) & ~SIGN
     switches = draw.random() < 0.85, summed or draw.random() < 0.85
     return script.Configure(
-        kind[0], kind[1], size, scale, threshold, limit, draw.choice("ddddcl"), *switches, draw.randrange(2**32)
+        kind[0], kind[1], size, scale, threshold, limit, draw.choice("cl" if options.cumulative else "ddddcl"), *switches, draw.randrange(2**32)
     )
 
 
@@ -279,7 +281,9 @@ class Maker:
 
     def script(self):
         calls = self.early() + self.configuration()
-        lively = self.draw.random() < 0.5  # with bindings
+        if self.options.cumulative:
+            calls.append(script.Bind(self.handles[0], self.set()))
+        lively = self.draw.random() < 0.5 or self.options.cumulative  # with bindings
         for _ in range(self.draw.choice((2, 5, 10, 20, 40, 80))):
             calls += self.step(lively)
         return [script.write_line(call) for call in calls + self.collection()]
@@ -371,11 +375,12 @@ def read_arguments(about, *more):
     parser.add_argument("--limit", type=int, default=Rules().limits[-1], help="the greatest limit (request L12)")
     parser.add_argument("--thresholds", action="store_true", help="zero thresholds (request L7)")
     parser.add_argument("--new-settings", action="store_true", help="new settings (request L10)")
+    parser.add_argument("--cumulative", action="store_true", help="cumulative collections only, and bindings in every script (request L4)")
     for name in more:
         parser.add_argument(name)
     given = parser.parse_args()
     rules = Rules(limits=range(0, given.limit + 1))
-    options = Options(tuple(given.kinds.split(",")), rules, given.thresholds, given.new_settings)
+    options = Options(tuple(given.kinds.split(",")), rules, given.thresholds, given.new_settings, given.cumulative)
     return [f"{given.seed}.{i}" for i in range(given.count)], options, given
 
 

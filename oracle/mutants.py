@@ -16,17 +16,18 @@ import machine
 import points
 import reference
 import sample
+import words
 from script import OVERFLOW
-from stores import ENTRIES, VALUES, Stores
+from stores import ENTRIES, EXTREMES, LARGEST, VALUES, Stores
 
 find_or_make = reference.Map.find_or_make
 finest_index = bits.finest_index
 row_of, drop_needed = points.row_of, points.drop_needed
 RESET, TOTAL, EXPLICIT, CANONICAL = reference.Map.reset, points.total, points.explicit_point, reference.Reference.canonical
-LAST = points.last_point
+LAST, JOIN = points.last_point, points.join_held
 COLLECT, LISTED = reference.Reference.collect, reference.Map.listed
 SWEEP, LAY, PLACES = Stores.sweep, Stores.lay, machine.Machine.check_places
-AGREES, FRESHEN, LIST_VALUES = Stores.series_agrees, Stores.freshen, machine.Machine.list_values
+AGREES, FRESHEN, LIST_VALUES, WORDS = Stores.series_agrees, Stores.freshen, machine.Machine.list_values, Stores.words_of
 
 # Of the reference.
 
@@ -81,6 +82,14 @@ def last_zero_held(values, numbers):
         low = value if value <= low else low
         high = value if value >= high else high
     return low, high
+
+
+def shown_at_count_0(low, high, switch, _count):
+    return (low, high) if switch else (None, None)
+
+
+def shown_with_the_switch_off(low, high, _switch, count):
+    return (low, high) if count else (None, None)
 
 
 def sum_backwards(values, numbers):
@@ -172,6 +181,7 @@ MUTANTS = [
     ("the count not lowered when entries go", reference.Map, "reset", count_kept),
     ("the overflow entry removed at a delta", reference.Map, "reset", overflow_removed),
     ("of equal zeros the last held as an extreme", points, "extremes", last_zero_held),
+    ("extremes shown with the switch off", points, "shown", shown_with_the_switch_off),
     ("the sum added backwards", points, "total", sum_backwards),
     ("a scale too coarse for a full row", points, "drop_needed", one_scale_too_coarse),
     ("a value on a bound put in the bucket above", points.POINT_OF, "x", bound_above),
@@ -198,6 +208,18 @@ def from_minus_zero(attributes, values, config):
         total += value
     return points.SinglePoint(attributes, total)
 
+
+def empty_extremes_taken(a, b):
+    """By a merge: none."""
+    joined = JOIN(a, b)
+    return joined if a.count and b.count else joined | {"min": None, "max": None}
+
+
+# What the Rust can't show: it has the starting extremes itself, and no merges.
+OUR_MUTANTS = [
+    ("the starting extremes shown at count 0", points, "shown", shown_at_count_0),
+    ("a merge takes the extremes of a point of count 0", points, "join_held", empty_extremes_taken),
+]
 
 # Of sums and last values.
 SINGLE_MUTANTS = [
@@ -271,6 +293,34 @@ def idle_value_handed_out(self, slot):
     return self.rows[VALUES][slot][0]
 
 
+def shown_disagreeing(point):
+    """Number 8 asks of a point's extremes no more than of a series'."""
+    return words.extremes_agree(point.min, point.max)
+
+
+def shown_when_updated(self, slot):
+    """Extremes by the entry's mark and not by the count."""
+    words, counts = WORDS(self, slot)
+    if self.updated(slot) and self.config.extremes:
+        words[8:11] = [3, *map(bits.to_bits, self.rows[EXTREMES][slot][:2])]
+    return words, counts
+
+
+def starts_refused(self, slot):
+    """A series that holds the starting extremes is taken to lack some."""
+    return AGREES(self, slot) and (self.is_single() or self.rows[EXTREMES][slot][:2] != [LARGEST, -LARGEST])
+
+
+def switched_off_not_asked(self, slot):
+    """The extremes of a series whose switch is off are not looked at."""
+    held = self.rows[EXTREMES][slot]
+    if not self.config.extremes:
+        self.rows[EXTREMES][slot] = [0.0, 0.0, held[2]]
+    agrees = AGREES(self, slot)
+    self.rows[EXTREMES][slot] = held
+    return agrees
+
+
 def any_value_agrees(self, slot):
     return self.is_single() or AGREES(self, slot)
 
@@ -298,6 +348,10 @@ MODELS = [
     ("the count not lowered by a sweep", Stores, "sweep", never_lowered),
     ("the empty slot not reset", Stores, "sweep", not_reset),
     ("what lies behind a row is cleared", Stores, "lay", cleared_behind),
+    ("a point that shows extremes at count 0 or with the switch off, or lacks them, is merged", words, "shown_agrees", shown_disagreeing),
+    ("extremes shown by the entry's mark and not by the count", Stores, "words_of", shown_when_updated),
+    ("a series that holds the starting extremes is refused", Stores, "series_agrees", starts_refused),
+    ("a series' extremes not asked with the switch off", Stores, "series_agrees", switched_off_not_asked),
     ("room judged over both count stores together", machine.Machine, "check_places", room_together),
     ("what lies in an idle slot handed out", Stores, "value_of", idle_value_handed_out),
     ("a last value that isn't finite agrees", Stores, "series_agrees", any_value_agrees),
@@ -342,7 +396,7 @@ def against_stored():
     """How many variants the stored scripts miss."""
     scripts, said = (sample.stored(sample.CRATES / "replay" / name) for name in ("stdin", "stdout"))
     plain, missed = sample.undamaged(scripts), 0
-    for place, (what, *where) in enumerate(MUTANTS + SINGLE_MUTANTS):
+    for place, (what, *where) in enumerate(MUTANTS + SINGLE_MUTANTS + OUR_MUTANTS):
         among = {MISCUTS[place]: plain[MISCUTS[place]]} if place < len(MISCUTS) else plain
         with patched(*where):
             missed += report(what, shown_by(reference.answers, among, said))

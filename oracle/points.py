@@ -132,10 +132,15 @@ def total(values, numbers):
     return result
 
 
+def shown(low, high, switch, count):
+    """The extremes that a point has: none with the switch off, and none at count 0 (request L4)."""
+    return (low, high) if switch and count else (None, None)
+
+
 def held(values, config):
     """min, max and sum as handed out under the switches."""
     numbers = NUMBERS[config.number]
-    low, high = extremes(values, numbers) if config.extremes else (None, None)
+    low, high = shown(*extremes(values, numbers), config.extremes, len(values))
     return low, high, total(values, numbers) if config.sum else numbers.zero
 
 

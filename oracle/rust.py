@@ -1,11 +1,12 @@
 """Asking the Rust: which lines of a script it is asked about, in which words, and what it answers."""
 
 import subprocess
-from dataclasses import dataclass
+from dataclasses import dataclass, replace
 from pathlib import Path
 
 import script
 from bits import to_float
+from points import NUMBERS, ExplicitPoint, ExponentialPoint
 from reference import Reference
 
 BUILT = Path(__file__).resolve().parent.parent / "target/oracle/build"
@@ -15,10 +16,21 @@ ASKED_SCALES = range(11, 21)  # accepted by the Rust's `validate`, refused by do
 
 @dataclass
 class Asked:
-    """A script as the Rust is asked it, line for line, and what the reference answers to those lines."""
+    """A script as the Rust is asked it, line for line, and what it should answer: what the reference does, but for `empty` points."""
 
     lines: list
     expected: list
+    empty: int  # points of count 0 whose extremes the Rust shows (docs/DIFFERENCES.md)
+
+
+def shows_starts(point):
+    """Whether the Rust shows the extremes that a series starts from, where request L4 shows none."""
+    return isinstance(point, (ExponentialPoint, ExplicitPoint)) and point.switch and point.count == 0
+
+
+def in_rust(point):
+    numbers = NUMBERS[point.number]
+    return replace(point, min=numbers.greatest, max=numbers.least)
 
 
 class Asking:
@@ -26,7 +38,7 @@ class Asking:
 
     def __init__(self, rules):
         self.reference = Reference(rules)
-        self.lines, self.expected = [], []
+        self.lines, self.expected, self.empty = [], [], 0
         self.waiting = []  # places of the g and f lines since the last n
         self.live = {}  # the Rust's own bindings: birth number to their numbers
         self.bindings = 0
@@ -68,13 +80,21 @@ class Asking:
         if isinstance(call, script.Record) and refusal in (0, 6):
             self.ask(text)
         elif isinstance(call, script.Collect) and refusal == 0:
-            self.ask(text, answers)
+            self.collection(text, answers)
         elif isinstance(call, script.Bind) and refusal == 0:
             self.live.setdefault(self.birth(call), []).append(self.bindings)
             self.ask(f"b {self.bindings} {script.write_set(call.set)}")
             self.bindings += 1
         elif isinstance(call, (script.RecordBound, script.Release)):
             self.by_handle(call, refusal)
+
+    def collection(self, text, answers):
+        head, *lines = answers
+        for place, point in enumerate(self.reference.collected):
+            if shows_starts(point):
+                self.empty += 1
+                lines[place] = script.write_point(in_rust(point))
+        self.ask(text, [head, *lines])
 
     def by_handle(self, call, refusal):
         """Any live binding of the same birth number serves: they all stand for one entry."""
@@ -100,7 +120,7 @@ def asked(lines, rules):
     asking = Asking(rules)
     for number, text in enumerate(lines, 1):
         asking.line(number, text)
-    return Asked(asking.lines, asking.expected)
+    return Asked(asking.lines, asking.expected, asking.empty)
 
 
 def replay(scripts):

@@ -8,7 +8,7 @@
     sample.py gauge COMMAND     likewise on the input of the gauge program, crates/gauge/stdin (tools/make_gauge_vectors.py)
 
 The answers are the reference's, over lists of values; to scripts that damage or show cells the model's of the stores, which must answer the
-others as the reference does. A script on which the Rust differs has values beside a bound.
+others as the reference does. A script on which the Rust differs has values beside a bound; the extremes that it shows at count 0 are expected.
 """
 
 import shlex
@@ -21,7 +21,7 @@ import damage
 import generate
 import machine
 import reference
-from compare import BESIDE, SAME, Comparer
+from compare import BESIDE, EMPTY, SAME, Comparer
 from reference import Rules
 from runs import answered
 from rust import asked, replay
@@ -71,7 +71,8 @@ def make():
         store(outputs, {name: expected(lines) for name, lines in scripts.items()})
     plain = undamaged(all_stored())
     verdicts = dict(Comparer().compare(plain))
-    assert set(verdicts.values()) <= {SAME, BESIDE}, [name for name in verdicts if verdicts[name] not in (SAME, BESIDE)]
+    explained = SAME, EMPTY, BESIDE
+    assert set(verdicts.values()) <= set(explained), [name for name in verdicts if verdicts[name] not in explained]
     store(HERE / "rust.txt", replay({name: asked(lines, Rules()).lines for name, lines in plain.items()}))
     store(HERE / "beyond_rust.txt", replay(stored(HERE / "beyond.txt")))
 

@@ -255,11 +255,12 @@ class Stores:
     def words_of(self, slot):
         """The twelve words of a slot's point (docs/LIST.md), and its counts in both stores."""
         updated = self.updated(slot)
-        low, high, total = self.rows[EXTREMES][slot] if updated else (LARGEST, -LARGEST, 0.0)
-        held = held_words((low, high) if self.config.extremes else None, total if self.config.sum else 0.0, self.config.extremes)
+        count = self.rows[TOTALS if self.config.kind == "x" else FIGURES][slot][0] if updated else 0
+        *extremes, total = self.rows[EXTREMES][slot]
+        shown = extremes if self.config.extremes and count else None
+        held = held_words(shown, total if self.config.sum and updated else 0.0, self.config.extremes)
         if self.config.kind == "x":
             n = self.width()
-            count = self.rows[TOTALS][slot][0] if updated else 0
             return [1, count, 0, 0, 0, len(self.own_bounds()), 0, 0, *held], (self.part(POS, slot, n) if updated else [0] * n, [])
         if not updated:
             return [0, 0, 0, self.level, 0, 0, 0, 0, *held], ([], [])

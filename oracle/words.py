@@ -70,8 +70,14 @@ def decoded(words, attributes, rows, bounds):
 
 
 def extremes_agree(low, high):
-    """Finite, both or neither."""
+    """Finite, both or neither: of a series, which holds numbers, and of a point."""
     return (low is None) == (high is None) and all(x is None or is_finite(to_bits(x)) for x in (low, high))
+
+
+def shown_agrees(point):
+    """Of a point also: there just where the switch is on and the count is not 0 (request L4)."""
+    due = point.switch and point.count > 0
+    return extremes_agree(point.min, point.max) and (point.min is not None) == due
 
 
 def row_agrees(start, counts, level, size):
@@ -97,7 +103,7 @@ def rows_agree(figures, rows, size, top):
 
 def point_agrees(point, words, size):
     """What number 8 asks of a point in a merge."""
-    if not extremes_agree(point.min, point.max):
+    if not shown_agrees(point):
         return False
     if point.kind == "x":
         return buckets_agree(point.count, point.buckets, point.bounds)

@@ -32,7 +32,7 @@ def scale_words(scale):
 
 
 def figures(point):
-    """The figures beside a title; a point that was bound and never recorded has starting extremes, which tell nothing."""
+    """The figures beside a title; a point that was bound and never recorded has no extremes and no mean."""
     rows = [("boards", spaced(point.count))]
     if point.scale is not None:
         rows.append(("at zero" if not point.threshold else "in the zero band", spaced(point.zeros)))

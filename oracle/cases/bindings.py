@@ -116,7 +116,7 @@ def overflow_bound(book):
 
 
 def bound_never_recorded(book):
-    """Cumulative: every named entry is listed, with its starting extremes; the empty series only if recorded into."""
+    """Cumulative: every named entry is listed, one without a value with no extremes; the empty series only if recorded into."""
     for temporality in "cl":
         for kind in "ex":
             s = book.new(f"bound_never_recorded_{temporality}_{kind}")

@@ -31,7 +31,40 @@ def each_damaged(s, words, cells):
     s.show()
 
 
+# Flags (1: the switch is on; 2 more: extremes are shown), minimum and maximum of a kept point; and of an explicit one without bounds, whose
+# count nothing else tells, the count.
+STARTS = GREATEST, GREATEST | SIGN
+SHOWN = [(flags, 0, 0) for flags in (0, 1)] + [(flags, *pair) for flags in (2, 3) for pair in ((0, 0), STARTS, (0, INFINITY))]
+COUNTS = (None, 0, 1, MOST)
+
+
+def shown_damaged(s, counts=(None,)):
+    """Request L4: point 0 of a bound set without a value, point 1 of values; each with other flags, extremes and counts, merged with both."""
+    s.bind(0, "1:1")
+    s.record("2:1", 3.0, -3.0)
+    s.collect()
+    for place in (0, 1):
+        for held in SHOWN:
+            for count in counts:
+                s.keep(0, 1)
+                for cell, number in zip((8, 9, 10), held):
+                    s.damage("w", place, cell, number)
+                if count is not None:
+                    s.damage("w", place, 1, count)
+                s.merge(2, place, 1 - place)
+                s.merge(2, 1 - place, place)
+                s.merge(2, place, place)
+    s.show()
+
+
 def write(book):
+    for kind in "ex":
+        s = book.new(f"kept_point_shown_{kind}")
+        s.configure(kind, temporality="c")
+        shown_damaged(s)
+    s = book.new("kept_point_shown_without_bounds")
+    s.explicit(temporality="c")
+    shown_damaged(s, COUNTS)
     s = book.new("kept_point_damaged")
     s.exponential(size=3, scale=0)
     each_damaged(s, WORDS, CELLS)

@@ -140,6 +140,26 @@ def series(book):
         damaged_series(s, cells)
 
 
+NO_VALUES = {"e": [figure(cell, 0) for cell in (0, 3, 4)], "x": [total(0), count(1, 0)]}
+
+
+def shown(book):
+    """Request L4: an updated series shows the extremes that it holds, the starting ones too, if it counts a value, and else none; numbers they
+    must be at any count and under either switch."""
+    for kind, cells in NO_VALUES.items():
+        for switch in (True, False):
+            s = book.new(f"series_shown_{kind}_{'on' if switch else 'off'}")
+            s.configure(kind, temporality="c", extremes=switch, **({"size": 3} if kind == "e" else {}))
+            s.record("1:5", 1.0)
+            starts = [extreme(0, GREATEST), extreme(1, GREATEST | SIGN)]
+            for damage in (starts, [extreme(0, NAN)], [extreme(0, 1.0)], cells, [extreme(1, INFINITY)], [extreme(1, 1.0)]):
+                for cell in damage:
+                    s.damage(*cell)
+                s.collect()
+            s.record("1:5", 0.5)
+            s.collect()
+
+
 ROWS = {
     "20_of_2_32": [2**32] * 20,
     "15_of_2_60": [2**60] * 15,
@@ -210,5 +230,5 @@ def no_buckets(book):
 
 
 def write(book):
-    for part in (series, full_rows, empty_slot, idle_damage, no_buckets):
+    for part in (series, shown, full_rows, empty_slot, idle_damage, no_buckets):
         part(book)

@@ -55,7 +55,7 @@ def overlapping_rows(book):
 
 
 def empty_points(book):
-    """A bound set that was never recorded has a point of its starting extremes, in a cumulative collection."""
+    """A bound set that was never recorded has a point of count 0, without extremes, in a cumulative collection."""
     for kind in "ex":
         s = book.new(f"merge_empty_points_{kind}")
         s.configure(kind, temporality="c")
@@ -66,6 +66,21 @@ def empty_points(book):
         for first, second in ((0, 0), (0, 1), (1, 0)):
             s.merge(2, first, second, 160, 3)
         s.merge(3, 2, 0)
+
+
+def empty_points_and_switches(book):
+    """The switch is compared as configured, though a point of count 0 shows no extremes either way: points 0 and 2 are empty, 1 and 3 are not."""
+    for kind in "ex":
+        s = book.new(f"merge_empty_points_and_switches_{kind}")
+        for extremes, point in ((True, 0), (False, 2)):
+            s.configure(kind, temporality="c", extremes=extremes)
+            s.bind(0, "1:1")
+            s.record("2:1", 3.0, -0.0)
+            s.collect()
+            s += [f"k {point} 0", f"k {point + 1} 1"]
+        for first in range(4):
+            for second in range(4):
+                s.merge(7, first, second)
 
 
 BOUNDS = {
@@ -217,7 +232,7 @@ def places(book):
 
 
 def write(book):
-    for part in (levels_apart, rows_apart, overlapping_rows, empty_points, explicit_bounds, signed_zeros, switches):
+    for part in (levels_apart, rows_apart, overlapping_rows, empty_points, empty_points_and_switches, explicit_bounds, signed_zeros, switches):
         part(book)
     for part in (sums_not_finite, counts_near_the_most, doubled, rooms, places):
         part(book)

@@ -3,7 +3,7 @@ without either it is accepted."""
 
 from itertools import combinations
 
-from cases.lines import MOST, NAN, NINE
+from cases.lines import MOST, NAN, NINE, bits_of
 
 # Lines that make a number apply, and that undo it. The map holds one set, in slot 1, with a binding and the value 1.0. A sum or last value has
 # no count that could be full, so that 9 is a new set's when the birth numbers are spent; and any f64 may be a sum.
@@ -113,8 +113,9 @@ def configurings(book):
             s.collect()
 
 
-# Points 0 and 1 of one value; the explicit ones have it in bucket 1.
-UNLIKE = ["d w 1 8 2"], ["d w 1 8 3"]
+# Points 0 and 1 of the value 1; the explicit ones have it in bucket 1. Unlike: the second's switch off, and then it shows no extremes.
+ONE = bits_of(1.0)
+UNLIKE = ["d w 1 8 0", "d w 1 9 0", "d w 1 10 0"], ["d w 1 8 3", f"d w 1 9 {ONE}", f"d w 1 10 {ONE}"]
 POINTS = {
     "e": {
         1: ARGUMENT,

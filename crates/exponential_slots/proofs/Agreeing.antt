@@ -14,7 +14,7 @@ use Rattle.index.specs.Bins.{finest, endBin}
 use Rattle.points.specs.Agreement as A
 use Rattle.points.proofs.Agreement as PA
 use Rattle.points.specs.Figures.{Kind, exponential, explicit, sizePasses, Counts, exponentialCounts}
-use Rattle.points.specs.Handed.{Handed, extremesAgree, countsAgree, handedAgrees}
+use Rattle.points.specs.Handed.{Handed, countsAgree, shownAgrees, handedAgrees}
 use Rattle.exponential.specs.Series.{lowestOfAll, read}
 use Rattle.exponential.specs.Series as S
 use Rattle.exponential.proofs.Facts.{size-in, agreed, agreed-agrees}
@@ -69,8 +69,7 @@ shapeless-held (explicit bounds) = refl
 pub shapeless-handed : (size top low : ℕ) (p : Handed) → p .counts ≡ shapeless → handedAgrees size top low p ≡ false
 unfolding handedAgrees
 shapeless-handed size top low p e =
-    let b = extremesAgree (p .min) (p .max) in
-    ap (λ (c : Counts). countsAgree size top low c && b) e ∙ ap (λ (a : Bool). a && b) (shapeless-counts size top low)
+    ap (λ (c : Counts). countsAgree size top low c && shownAgrees p) e ∙ ap (λ (a : Bool). a && shownAgrees p) (shapeless-counts size top low)
 
 -- ---- settings that configuring accepts
 

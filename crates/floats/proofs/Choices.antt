@@ -49,7 +49,7 @@ before-rank false f x y p q = lt-key f y x q p ∙ turned (big f + big f) (key f
 turned-inj : (g a b : ℕ) → a ≤ g → b ≤ g → g - a ≡ g - b → a ≡ b
 turned-inj g a b p q h = omega arith
 
-pub rank-key : (up : Bool) (f : Format) (x y : Float) → Ok f x → Ok f y → rank up f x ≡ rank up f y → key f x ≡ key f y
+rank-key : (up : Bool) (f : Format) (x y : Float) → Ok f x → Ok f y → rank up f x ≡ rank up f y → key f x ≡ key f y
 unfolding rank
 rank-key true f x y p q h = h
 rank-key false f x y p q h = turned-inj (big f + big f) (key f x) (key f y) (key-le f x p) (key-le f y q) h
@@ -81,7 +81,7 @@ module _ (up : Bool) (f : Format) where
   said : (x y : Float) → Ok f x → Ok f y → T (before up x y) → rank up f x < rank up f y
   said x y p q t = ltb→lt (rank up f x) (rank up f y) (subst T (before-rank up f x y p q) t)
 
-  pub unsaid : (x y : Float) → Ok f x → Ok f y → T (not (before up x y)) → rank up f y ≤ rank up f x
+  unsaid : (x y : Float) → Ok f x → Ok f y → T (not (before up x y)) → rank up f y ≤ rank up f x
   unsaid x y p q t = nltb→le (rank up f x) (rank up f y) (subst (λ (b : Bool). T (not b)) (before-rank up f x y p q) t)
 
   say : (x y : Float) → Ok f x → Ok f y → rank up f x < rank up f y → T (before up x y)

@@ -1,5 +1,4 @@
 pub mod Finite
-pub mod Same
 pub mod Fractions
 pub mod Exact
 pub mod Order

@@ -1,20 +1,16 @@
--- A natural number for each float that is no NaN, in the order of the floats: `lt` is `ltb` of the keys, and equal keys are of one
--- float or of two zeros. Assumes nothing.
+-- A natural number for each float that is no NaN, in the order of the floats: `lt` is `ltb` of the keys. Assumes nothing.
 use mathlib.Core.Path.{_≡_, refl, sym, ap, _∙_, subst}
 use Prim.Native.Nat.{ℕ, zero, suc, _+_, _-_, _*_, _/_, _%_, _^_, _≤_, _<_}
-use native.Mathlib.Nat.{lt-irrefl, zero-lt-suc, mul-assoc, mul-comm, mul-right-comm, mul-pos, zero-mul, zero-div, mul-div-cancel, mul-one, div-lt-iff-lt-mul, lt-of-not-le, not-le-of-lt, mul-lt-mul-of-pos-right, le-of-suc-le-suc}
+use native.Mathlib.Nat.{mul-assoc, mul-comm, mul-right-comm, mul-pos, zero-mul, zero-div, mul-div-cancel, mul-one, div-lt-iff-lt-mul, lt-of-not-le, not-le-of-lt, mul-lt-mul-of-pos-right, le-of-suc-le-suc}
 use native.Mathlib.Omega.{arith}
 use mathlib.Core.Bool.{Bool, true, false, _&&_}
 use lib.IntN.{ℤ, pos, negsuc}
 use lib.Dec.{T, ltb, leb, eqb, ltb→lt, leb→le, lt→ltb}
 use lib.Pow.{pow-add, pow-pos, pow-lt}
 use lib.Ieee.{Float, nan, inf, fin, Format, prec, emax, low, up, down, below, lt, fits}
-use lib.Ieee.Fits.{up-pos, down-pos, and-l, and-r}
+use lib.Ieee.Fits.{down-pos, and-l, and-r}
 use lib.Ieee.Digits.{back}
-use lib.Ieee.Exact.{HasValue}
-use mathlib.Core.Logic.{_⊎_, inl, inr}
 use Rattle.laws.specs.Pick.{pick}
-use Rattle.floats.proofs.Same.{same-value}
 use Rattle.floats.proofs.Fractions.{ltb-iff, ltb-same, plus-same}
 
 -- a magnitude in units of the format's smallest value, and what is above all of them
@@ -186,59 +182,6 @@ lt-key f (inf false) (fin t n d) p q = ltb-no (big f + big f) (key f (fin t n d)
 lt-key f (fin s m e) (inf true) p q = ltb-no (key f (fin s m e)) 0 (none-le (key f (fin s m e)))
 lt-key f (fin s m e) (inf false) p q = ltb-yes (key f (fin s m e)) (big f + big f) (key-below f s m e p)
 lt-key f (fin s m e) (fin t n d) p q = lt-fin f s m e t n d p q
-
--- ---- equal keys: the same float, or two zeros
-abbrev pub isZero : Float → Type 0
-isZero nan = ⊥
-isZero (inf s) = ⊥
-isZero (fin s m e) = m ≡ 0
-
-own : (f : Format) (s : Bool) (m : ℕ) (e : ℤ) → T (fits f (fin s m e)) → HasValue (fin s m e) s (unitsOf f m e) (2 ^ low f)
-own f s m e t = (refl, sym (exact f s m e t))
-
-same-sign : (f : Format) (s : Bool) (m : ℕ) (e : ℤ) (n : ℕ) (d : ℤ) → T (fits f (fin s m e)) → T (fits f (fin s n d)) → unitsOf f m e ≡ unitsOf f n d → fin s m e ≡ fin s n d
-same-sign f s m e n d p q h =
-    same-value f (fin s m e) (fin s n d) s (unitsOf f n d) (2 ^ low f) (pow-pos (low f)) p q (subst (λ (a : ℕ). HasValue (fin s m e) s a (2 ^ low f)) h (own f s m e p)) (own f s n d q)
-
-no-units : (f : Format) (s : Bool) (m : ℕ) (e : ℤ) → T (fits f (fin s m e)) → unitsOf f m e ≡ 0 → m ≡ 0
-no-units f s zero e t h = refl
-no-units f s (suc m) e t h =
-    absurd (lt-irrefl 0 (subst (λ (x : ℕ). 0 < x) (sym (exact f s (suc m) e t) ∙ ap (λ (x : ℕ). x * down e) h ∙ zero-mul (down e)) (mul-pos (mul-pos (zero-lt-suc m) (up-pos e)) (pow-pos (low f)))))
-
-up-inj : (g a b : ℕ) → g + a ≡ g + b → a ≡ b
-up-inj g a b h = omega arith
-
-down-inj : (g a b : ℕ) → a < g → b < g → g - a ≡ g - b → a ≡ b
-down-inj g a b p q h = omega arith
-
-none-left : (g a b : ℕ) → b < g → g + a ≡ g - b → a ≡ 0
-none-left g a b q h = omega arith
-
-none-right : (g a b : ℕ) → b < g → g + a ≡ g - b → b ≡ 0
-none-right g a b q h = omega arith
-
-not-same : (p q : ℕ) → p < q → p ≡ q → ⊥
-not-same p q h e = omega arith
-
-pub key-unique : (f : Format) (x y : Float) → Ok f x → Ok f y → key f x ≡ key f y → (x ≡ y) ⊎ (isZero x × isZero y)
-unfolding key
-key-unique f nan y p q h = absurd p
-key-unique f (inf s) nan p q h = absurd q
-key-unique f (fin s m e) nan p q h = absurd q
-key-unique f (inf true) (inf true) p q h = inl refl
-key-unique f (inf false) (inf false) p q h = inl refl
-key-unique f (inf true) (inf false) p q h = absurd (not-same 0 (big f + big f) (twice-pos (big f) (big-pos f)) h)
-key-unique f (inf false) (inf true) p q h = absurd (not-same 0 (big f + big f) (twice-pos (big f) (big-pos f)) (sym h))
-key-unique f (inf true) (fin t n d) p q h = absurd (not-same 0 (key f (fin t n d)) (key-above f t n d q) h)
-key-unique f (inf false) (fin t n d) p q h = absurd (not-same (key f (fin t n d)) (big f + big f) (key-below f t n d q) (sym h))
-key-unique f (fin s m e) (inf true) p q h = absurd (not-same 0 (key f (fin s m e)) (key-above f s m e p) (sym h))
-key-unique f (fin s m e) (inf false) p q h = absurd (not-same (key f (fin s m e)) (big f + big f) (key-below f s m e p) h)
-key-unique f (fin true m e) (fin true n d) p q h = inl (same-sign f true m e n d p q (down-inj (big f) (unitsOf f m e) (unitsOf f n d) (small f true m e p) (small f true n d q) h))
-key-unique f (fin false m e) (fin false n d) p q h = inl (same-sign f false m e n d p q (up-inj (big f) (unitsOf f m e) (unitsOf f n d) h))
-key-unique f (fin false m e) (fin true n d) p q h =
-    inr (no-units f false m e p (none-left (big f) (unitsOf f m e) (unitsOf f n d) (small f true n d q) h), no-units f true n d q (none-right (big f) (unitsOf f m e) (unitsOf f n d) (small f true n d q) h))
-key-unique f (fin true m e) (fin false n d) p q h =
-    inr (no-units f true m e p (none-right (big f) (unitsOf f n d) (unitsOf f m e) (small f true m e p) (sym h)), no-units f false n d q (none-left (big f) (unitsOf f n d) (unitsOf f m e) (small f true m e p) (sym h)))
 
 -- no key is above +inf's
 pub key-le : (f : Format) (x : Float) → Ok f x → key f x ≤ big f + big f

@@ -1,6 +1,7 @@
 -- What the functions of this crate answer. Assumes nothing.
 use Prim.Native.Nat.{ℕ}
-use mathlib.Core.Bool.{Bool, true, false}
+use mathlib.Core.Bool.{Bool, true, false, not, _&&_}
+use lib.Dec.{eqb}
 use lib.Ieee.{Float, binary64, lt, isNan, toBits}
 use Rattle.laws.specs.Pick.{pick}
 use Rattle.floats.specs.declared.Extreme.{Extreme}
@@ -13,12 +14,20 @@ lesserOf a v = pick (lt v a) v a
 abbrev pub greaterOf : Float → Float → Float
 greaterOf a v = pick (lt a v) v a
 
--- "with min/max off a point has neither"
-abbrev pub shownOf : Bool → Float → Extreme
-shownOf true x = Value x
-shownOf false x = None
+-- whether a point shows its extremes, by the min/max switch and its count: "with min/max off a point has neither", and document 02, L4:
+-- "a point with count 0 carries no minimum and no maximum"
+abbrev pub shows : Bool → ℕ → Bool
+shows switch count = switch && not (eqb count 0)
 
--- the smaller of two minima, and the larger of two maxima
+-- the extreme that it then has, of the number that is held
+abbrev pub shownOf : Bool → ℕ → Float → Extreme
+shownOf switch count x = pick (shows switch count) (Value x) None
+
+abbrev pub isShown : Extreme → Bool
+isShown None = false
+isShown (Value x) = true
+
+-- the smaller of two minima, and the larger of two maxima; document 02, L4: "Merging with such a point keeps the other's extremes"
 abbrev pub smallerOf : Extreme → Extreme → Extreme
 smallerOf None b = b
 smallerOf (Value x) None = Value x

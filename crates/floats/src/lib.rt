@@ -2,7 +2,7 @@
 ghost use mathlib.Core.Path.{_≡_};
 ghost use lib.Ieee.{ofBits, binary64};
 ghost use lib.Ieee.Scale.{finite};
-ghost use Rattle.floats.specs.Answers.{lesserOf, greaterOf, smallerOf, largerOf, shownOf, bitsOf};
+ghost use Rattle.floats.specs.Answers.{lesserOf, greaterOf, smallerOf, largerOf, shows, shownOf, bitsOf};
 
 // Whether x is a number: neither infinite nor a NaN.
 pub fn is_finite(x: f64) -> bool
@@ -31,37 +31,47 @@ pub enum Extreme {
     Value(f64),
 }
 
-// An extreme as it is handed out: x, or none with the switch off.
-pub fn shown(switch: bool, x: f64) -> Extreme
-    ensures { λ r. ⌜ r ≡ shownOf switch x ⌝ }
+// Whether a point shows its extremes: with the switch on and a value counted.
+pub fn shows_extremes(switch: bool, count: u64) -> bool
+    ensures { λ r. ⌜ r ≡ shows switch count ⌝ }
 {
     if switch {
+        return count != 0;
+    }
+    false
+}
+
+// An extreme as it is handed out: the number held, or none with the switch off or nothing counted.
+pub fn shown(switch: bool, count: u64, x: f64) -> Extreme
+    ensures { λ r. ⌜ r ≡ shownOf switch count x ⌝ }
+{
+    if shows_extremes(switch, count) {
         return Extreme::Value(x);
     }
     Extreme::None
 }
 
 // The smaller of two minima, the first where they compare equal; one that is there wins over none.
-pub fn smaller(a: Extreme, b: Extreme) -> Extreme
-    ensures { λ r. ⌜ r ≡ smallerOf a b ⌝ }
+pub fn smaller(low: Extreme, other: Extreme) -> Extreme
+    ensures { λ r. ⌜ r ≡ smallerOf low other ⌝ }
 {
-    match a {
-        Extreme::None => b,
-        Extreme::Value(x) => match b {
-            Extreme::None => a,
+    match low {
+        Extreme::None => other,
+        Extreme::Value(x) => match other {
+            Extreme::None => low,
             Extreme::Value(y) => Extreme::Value(lesser(x, y)),
         },
     }
 }
 
 // The larger of two maxima, the first where they compare equal; one that is there wins over none.
-pub fn larger(a: Extreme, b: Extreme) -> Extreme
-    ensures { λ r. ⌜ r ≡ largerOf a b ⌝ }
+pub fn larger(high: Extreme, other: Extreme) -> Extreme
+    ensures { λ r. ⌜ r ≡ largerOf high other ⌝ }
 {
-    match a {
-        Extreme::None => b,
-        Extreme::Value(x) => match b {
-            Extreme::None => a,
+    match high {
+        Extreme::None => other,
+        Extreme::Value(x) => match other {
+            Extreme::None => high,
             Extreme::Value(y) => Extreme::Value(greater(x, y)),
         },
     }

@@ -25,7 +25,8 @@ countsHold (exponential size top) (explicitCounts b p) = false
 countsHold (explicit bounds) (exponentialCounts p) = false
 countsHold (explicit bounds) (explicitCounts b p) = bucketsAgree bounds p
 
--- a value is an f64; "held extremes are finite"; nothing is refused after 9
+-- a value is an f64; "held extremes are finite". Document 02, L4: 8 also of a "series that lacks one above count 0": a series holds two
+-- numbers, and lacks none. Nothing is refused after 9
 abbrev pub histograms : Tally.Kind
 histograms =
     record {

@@ -1,8 +1,8 @@
--- Tests: cases by a test, and what `_&&_` and `pick` say. Assumes nothing.
+-- Tests: cases by a test, and what `_&&_`, `Bool·beq` and `pick` say. Assumes nothing.
 use Prim.Native.Nat.{ℕ, _<_}
-use mathlib.Core.Path.{_≡_, refl}
+use mathlib.Core.Path.{_≡_, refl, ap, sym}
 use mathlib.Core.Logic.{_⊎_, inl, inr}
-use mathlib.Core.Bool.{Bool, true, false, _&&_}
+use mathlib.Core.Bool.{Bool, true, false, Bool·beq, _&&_}
 use native.Mathlib.Omega.{arith}
 use Rattle.laws.specs.Pick.{pick}
 use mathlib.Core.Option.{Option, none, some}
@@ -28,6 +28,16 @@ and-right false b h = absurd (not-both false h refl)
 
 pub and-intro : (a b : Bool) → a ≡ true → b ≡ true → a && b ≡ true
 and-intro a b p q = rw p q
+
+pub beq-intro : (a b : Bool) → a ≡ b → Bool·beq a b ≡ true
+beq-intro true b e = ap (Bool·beq true) (sym e)
+beq-intro false b e = ap (Bool·beq false) (sym e)
+
+pub beq-says : (a b : Bool) → Bool·beq a b ≡ true → a ≡ b
+beq-says true true h = refl
+beq-says true false h = sym h
+beq-says false true h = h
+beq-says false false h = refl
 
 pub pick-true : {A : Type 0} (b : Bool) (x y : A) → b ≡ true → pick b x y ≡ x
 unfolding pick

@@ -13,13 +13,13 @@ use Rattle.laws.specs.Counting.{bit}
 use Rattle.laws.specs.Pick.{pick}
 use Rattle.laws.proofs.Cases.{true-not-false}
 use Rattle.sets.proofs.Alls.{allb-yes}
-use Rattle.floats.specs.Answers.{bitsOf}
+use Rattle.floats.specs.Answers.{isShown, bitsOf}
 use Rattle.floats.specs.declared.Extreme.{Extreme}
 use Rattle.floats.specs.declared.Extreme.the-variants.{None, Value}
 use Rattle.point.specs.declared.Point.{Point}
 use Rattle.point.specs.declared.Figures.{Figures}
 use Rattle.point.specs.declared.Figures.the-variants.{Exponential, Explicit}
-use Rattle.listing.specs.Words.{isShown, shownBits, figuresWords, wordsOf, figuresIn, boundsIn, extremeIn, pointIn, isPoint}
+use Rattle.listing.specs.Words.{shownBits, figuresWords, wordsOf, figuresIn, boundsIn, extremeIn, pointIn, isPoint}
 use Rattle.listing.specs.declared.Span.{Span}
 
 -- ---- what a point in code is

@@ -14,11 +14,11 @@ use Rattle.laws.specs.Counting.{bit}
 use Rattle.laws.specs.Over.{over}
 use Rattle.laws.proofs.Over.{over-snoc}
 use Rattle.laws.proofs.Differences.{le-or-lt}
-use Rattle.floats.specs.Answers.{bitsOf}
+use Rattle.floats.specs.Answers.{isShown, bitsOf}
 use Rattle.point.specs.declared.Point.{Point}
 use Rattle.point.specs.declared.Figures.{Figures}
 use Rattle.point.specs.declared.Figures.the-variants.{Explicit}
-use Rattle.listing.specs.Words.{isShown, shownBits, figuresWords, wordsOf}
+use Rattle.listing.specs.Words.{shownBits, figuresWords, wordsOf}
 use Rattle.listing.specs.Listed.{bucketsOf, posLen, negLen, within, overAt}
 use Rattle.listing.specs.declared.Cursor.{Cursor}
 use Rattle.listing.specs.declared.Span.{Span}

@@ -5,20 +5,22 @@ use mathlib.Core.Bool.{Bool, true, false}
 use lib.Ieee.{Float, binary64, fits}
 use lib.Ieee.Bits.{is-true, ofBits-fits}
 use Rattle.laws.specs.Pick.{pick}
-use Rattle.floats.specs.Answers.{shownOf}
+use Rattle.floats.specs.Answers.{shows, isShown}
 use Rattle.floats.specs.Starts.{zeroFloat}
+use Rattle.points.proofs.Numbers.{shownIf}
 use Rattle.exponential.specs.declared.Head as SH
 use Rattle.explicit.specs.declared.Head as BH
 use Rattle.point.specs.Handing.{exponentialPoint, explicitPoint}
-use Rattle.listing.specs.Words.{isShown}
 use Rattle.listing.specs.declared.Span.{Span}
 use Rattle.listing.proofs.Back.{Fitting, Held}
 
-shown-fits : (s : Bool) (x : Float) → fits binary64 x ≡ true → Fitting (shownOf s x)
+shown-fits : (due : Bool) (x : Float) → fits binary64 x ≡ true → Fitting (shownIf due x)
+unfolding pick
 shown-fits true x h = h
 shown-fits false x h = tt
 
-shown-alike : (s : Bool) (x y : Float) → isShown (shownOf s x) ≡ isShown (shownOf s y)
+shown-alike : (due : Bool) (x y : Float) → isShown (shownIf due x) ≡ isShown (shownIf due y)
+unfolding pick
 shown-alike true x y = refl
 shown-alike false x y = refl
 
@@ -35,9 +37,9 @@ module _ (extremes sums : Bool) where
   exponential-held h a b c l p n =
       record {
         figures = (l, p, n, refl);
-        both = shown-alike extremes (h .max) (h .min);
-        min = shown-fits extremes (h .min) a;
-        max = shown-fits extremes (h .max) b;
+        both = shown-alike (shows extremes (h .counts .count)) (h .max) (h .min);
+        min = shown-fits (shows extremes (h .counts .count)) (h .min) a;
+        max = shown-fits (shows extremes (h .counts .count)) (h .max) b;
         sum = sum-fits sums (h .sum) c;
       }
 
@@ -46,8 +48,8 @@ module _ (extremes sums : Bool) where
   explicit-held h s a b c =
       record {
         figures = tt;
-        both = shown-alike extremes (h .max) (h .min);
-        min = shown-fits extremes (h .min) a;
-        max = shown-fits extremes (h .max) b;
+        both = shown-alike (shows extremes (h .count)) (h .max) (h .min);
+        min = shown-fits (shows extremes (h .count)) (h .min) a;
+        max = shown-fits (shows extremes (h .count)) (h .max) b;
         sum = sum-fits sums (h .sum) c;
       }

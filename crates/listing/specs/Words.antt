@@ -1,6 +1,6 @@
 -- A point as twelve words, and back: docs/LIST.md says which word is what. Assumes nothing.
 use Prim.Native.Nat.{ℕ, _+_, _*_, _%_}
-use mathlib.Core.Bool.{Bool, true, false}
+use mathlib.Core.Bool.{Bool}
 use mathlib.Core.List.{List, [], _∷_, _++_}
 use lib.Dec.{leb, eqb}
 use lib.ListN.{getD}
@@ -8,7 +8,7 @@ use lib.Ieee.{binary64, ofBits}
 use Rattle.laws.specs.Pick.{pick}
 use Rattle.laws.specs.Counting.{bit}
 use Rattle.sets.specs.All.{allb}
-use Rattle.floats.specs.Answers.{bitsOf}
+use Rattle.floats.specs.Answers.{isShown, bitsOf}
 use Rattle.floats.specs.declared.Extreme.{Extreme}
 use Rattle.floats.specs.declared.Extreme.the-variants.{None, Value}
 use Rattle.point.specs.declared.Point.{Point}
@@ -17,10 +17,6 @@ use Rattle.point.specs.declared.Figures.the-variants.{Exponential, Explicit}
 use Rattle.listing.specs.declared.Span.{Span}
 
 -- ---- written
-
-abbrev pub isShown : Extreme → Bool
-isShown None = false
-isShown (Value x) = true
 
 -- the bits of an extreme, 0 where it is not shown
 abbrev pub shownBits : Extreme → ℕ

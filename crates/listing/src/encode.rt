@@ -2,7 +2,8 @@
 ghost use mathlib.Core.Path.{_≡_};
 ghost use Prim.Native.Nat.{_≤_};
 ghost use Rattle.laws.specs.Counting.{bit};
-ghost use Rattle.listing.specs.Words.{isShown, shownBits, wordsOf};
+ghost use Rattle.floats.specs.Answers.{isShown};
+ghost use Rattle.listing.specs.Words.{shownBits, wordsOf};
 use crate::Span;
 use floats::Extreme;
 use point::Figures;

@@ -23,12 +23,17 @@ use Rattle.index.proofs.Buckets.{Between}
 use Rattle.index.proofs.Finest.{Held}
 use Rattle.index.proofs.Indices.{bin-from}
 use Rattle.index.proofs.Values.{value-is}
+use Rattle.floats.specs.Answers.{shows}
 use Rattle.floats.specs.Starts.{zeroFloat}
+use Rattle.floats.specs.declared.Extreme.the-variants.{None, Value}
 use Rattle.points.specs.Points as P
-use Rattle.points.specs.Points.{Value, naught, plus, minus, build, scale, fitsBoth, row, rowOf}
+use Rattle.points.specs.Points.{naught, plus, minus, build, scale, fitsBoth, row, rowOf}
 use Rattle.points.specs.Values.{classOf, summaryOf}
 use Rattle.points.specs.Explicit.{bucketOf}
+use Rattle.points.specs.Figures.{exponential, exponentialCounts}
 use Rattle.points.specs.Handed.{handed}
+use Rattle.points.proofs.Figures.{count-is}
+use Rattle.points.proofs.Numbers.{shows-some}
 use Rattle.marks.specs.Marks.{f64, Line, lineOf, Mark, index, bucket, point, Holds, marks}
 use Rattle.marks.proofs.Equal.{same, same-is, sameList, sameRow, sameLine, line-is}
 
@@ -68,7 +73,7 @@ in-bin level w b t =
 guess : ℕ → ℕ
 guess bits = pick (eqb bits 0x4000_0000_0000_0000) 2098175 (pick (eqb bits 0x4008_0000_0000_0000) 2098775 2097151)
 
-classed : ℕ → ℕ → Value
+classed : ℕ → ℕ → P.Value
 classed bits b = pick (leb (magnitude (f64 bits)) (magnitude zeroFloat)) naught (pick (isNegative (f64 bits)) (minus b) (plus b))
 
 known : ℕ → Bool
@@ -113,7 +118,9 @@ rightIndex bits i (Is level) =
 
 rightPoint : ℕ → List ℕ → Line → Natural → Bool
 rightPoint size values line OutOfRange = false
-rightPoint size values line (Is top) =
+rightPoint size [] line (Is top) = false
+rightPoint size (b ∷ bs) line (Is top) =
+    let values = b ∷ bs in
     let m = summaryOf (map f64 values) in
     allKnown values
     && sameLine (lineOf (P.pointOf size (finest - top) (map (λ b. classed b (guess b)) values)) (m .min) (m .max) (m .sum)) line
@@ -158,17 +165,28 @@ both-index bits scale i (Is level) e t =
 point-holds : (size : ℕ) (scale : ℤ) (values : List ℕ) (line : Line) (found : Natural) → levelAnswer scale ≡ found → T (rightPoint size values line found) → Holds (point size scale values line)
 unfolding rightPoint handed pick
 point-holds size scale values line OutOfRange e t = absurd t
-point-holds size scale values line (Is top) e t =
+point-holds size scale [] line (Is top) e t = absurd t
+point-holds size scale (b ∷ bs) line (Is top) e t =
+    let values = b ∷ bs in
     let m = summaryOf (map f64 values) in
+    let c = P.pointOf size (finest - top) (map (classOf zeroFloat) (map f64 values)) in
+    let due : shows true (c .total) ≡ true = ap (shows true) (count-is (exponential size top) zeroFloat (map f64 values)) ∙ shows-some true (length (map f64 bs)) in
     let a = allKnown values in
     let o = lineOf (P.pointOf size (finest - top) (map (λ b. classed b (guess b)) values)) (m .min) (m .max) (m .sum) in (
       top,
-      P.pointOf size (finest - top) (map (classOf zeroFloat) (map f64 values)),
+      c,
       m .min,
       m .max,
       m .sum,
       e,
-      refl,
+      (λ j. record {
+        counts = exponentialCounts c;
+        extremes = true;
+        threshold = zeroFloat;
+        min = pick (due j) (Value (m .min)) None;
+        max = pick (due j) (Value (m .max)) None;
+        sum = m .sum;
+      }),
       (λ j. lineOf (P.pointOf size (finest - top) (guesses-are values (both-left a (sameLine o line) t) j)) (m .min) (m .max) (m .sum))
           ∙ line-is o line (both-right a (sameLine o line) t),
     )

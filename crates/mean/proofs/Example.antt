@@ -76,15 +76,19 @@ pub computed : map answered examples ≡ examples
 unfolding meanOf pick onGrid isWhole ofBits nearest rounded half
 computed = refl
 
--- ---- "after 8 .. 13 .., then 14": an explicit point without bounds whose sum is a NaN, by its minimum and its count
+-- ---- "after 8 .. 13 .., then 14": an explicit point without bounds whose sum is a NaN, by its extremes and its count
 abbrev stored : Extreme → ℕ → Stored
-stored min n =
-    storedIn (record { figures = Explicit n; extremes = true; min = min; max = None; sum = ofBits binary64 0x7ff8_0000_0000_0000 }) [] [] []
+stored e n =
+    storedIn (record { figures = Explicit n; extremes = true; min = e; max = e; sum = ofBits binary64 0x7ff8_0000_0000_0000 }) [] [] []
 
--- a minimum without a maximum; no values; one
+abbrev naught : Extreme
+naught = Value (ofBits binary64 0)
+
+-- request L4: extremes shown of no values are 8, and so is their lack where there is one
 order :
-    (meanIn (stored (Value (ofBits binary64 0)) 0) ≡ refusal 8)
+    (meanIn (stored naught 0) ≡ refusal 8)
     × (meanIn (stored None 0) ≡ refusal 13)
-    × (meanIn (stored None 1) ≡ refusal 14)
+    × (meanIn (stored None 1) ≡ refusal 8)
+    × (meanIn (stored naught 1) ≡ refusal 14)
 unfolding meanIn agreesAlone handedAgrees bucketsAgree boundsPass noNan rising meanOf onGrid isWhole ofBits pick
-order = (refl, refl, refl)
+order = (refl, refl, refl, refl)

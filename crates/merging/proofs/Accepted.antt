@@ -2,7 +2,7 @@
 -- than a count can be; and what is left agrees. Assumes nothing.
 use Prim.Native.Nat.{ℕ, _+_, _≤_}
 use mathlib.Core.Path.{_≡_, refl, ap, sym, subst, _∙_}
-use mathlib.Core.Bool.{Bool, true, false, Bool·beq, _&&_}
+use mathlib.Core.Bool.{true, Bool·beq, _&&_}
 use mathlib.Core.List.{List}
 use native.Mathlib.Omega.{arith}
 use lib.Dec.{leb}
@@ -10,16 +10,17 @@ use lib.ListN.{length}
 use borrow.Author.Tests.{le-leb}
 use Rattle.laws.specs.Pick.{pick}
 use Rattle.laws.specs.Said.{Said, success}
-use Rattle.laws.proofs.Bools.{not-both, and-left, and-intro}
+use Rattle.laws.proofs.Bools.{and-intro, beq-intro}
 use Rattle.index.specs.Bins.{finest, lowestBin}
-use Rattle.points.specs.Points.{build, bag, merge}
-use Rattle.points.specs.Explicit.{sameBounds, bucketCount, mergeBuckets}
+use Rattle.points.specs.Explicit.{sameBounds, bucketCount}
 use Rattle.points.specs.Figures as F
 use Rattle.points.specs.Figures.{Kind, exponential, explicit, Settings, exponentialCounts, explicitCounts}
-use Rattle.points.specs.Handed.{Handed, sameKind, mergeable, mergeCounts, mergeHanded, extremesAgree, countsAgree, handedAgrees, countOf, sizeAsked, unmergeable}
+use Rattle.points.specs.Handed.{Handed, sameKind, mergeable, mergeCounts, mergeHanded, countsAgree, handedAgrees, countOf, sizeAsked, unmergeable}
 use Rattle.points.specs.Same.{Shape, Of, resized}
 use Rattle.points.proofs.Agreement.{agrees-says}
 use Rattle.points.proofs.Explicit.{buckets-say, same-bounds}
+use Rattle.points.proofs.Figures.{kind-one, merged-count}
+use Rattle.points.proofs.Larger.{counts-agree}
 use Rattle.points.proofs.Grouping.{known, of-known, handed-commutes}
 use Rattle.kinds.proofs.Steady.{merged-agrees}
 use Rattle.point.specs.Handing.{Stored, countsIn, handedIn, refusalBefore}
@@ -42,13 +43,6 @@ same-kind size (explicit b) (explicitCounts c p) (exponentialCounts q) h k a = a
 same-kind size (explicit b) (explicitCounts c p) (explicitCounts d q) h k a =
     subst (λ e. sameBounds c e ≡ true) (h ∙ sym k) (same-bounds c (buckets-say c p a .passes))
 
-merged-count : (size : ℕ) (c d : F.Counts) → sameKind c d ≡ true → countOf (mergeCounts size c d) ≡ countOf c + countOf d
-unfolding merge build bag mergeBuckets
-merged-count size (exponentialCounts p) (exponentialCounts q) e = refl
-merged-count size (exponentialCounts p) (explicitCounts c q) e = absurd (not-both false e refl)
-merged-count size (explicitCounts b p) (exponentialCounts q) e = absurd (not-both false e refl)
-merged-count size (explicitCounts b p) (explicitCounts c q) e = refl
-
 roomy : (size : ℕ) (k : Kind) (c : F.Counts) (us vs : List ℕ) → Shape k c → countsAgree size finest low c ≡ true → Long (resized size k) us vs → hasRoom c us vs ≡ true
 roomy size (exponential m top) (exponentialCounts p) us vs h a l =
     let k = agrees-says size finest low p a in
@@ -70,14 +64,9 @@ size-asked size (explicit b) (exponentialCounts p) d e h j = absurd h
 size-asked size (explicit b) (explicitCounts c p) (exponentialCounts q) e h j = absurd j
 size-asked size (explicit b) (explicitCounts c p) (explicitCounts d q) e h j = refl
 
-beq-same : (a b : Bool) → a ≡ b → Bool·beq a b ≡ true
-beq-same true b e = ap (Bool·beq true) (sym e)
-beq-same false b e = ap (Bool·beq false) (sym e)
-
 -- ---- what a good point is known to be
 pub counts-ok : (size : ℕ) (s : Settings) (x : Stored) → Good size s x → countsAgree size finest low (handedIn x .counts) ≡ true
-unfolding handedAgrees
-counts-ok size s x g = and-left (countsAgree size finest low (handedIn x .counts)) (extremesAgree (x .point .min) (x .point .max)) (g .agree)
+counts-ok size s x g = counts-agree size low (handedIn x) (g .agree)
 
 -- what a merge leaves: a good point of both counts
 pub record Left (size : ℕ) (s : Settings) (n : ℕ) (o : Said Stored) : Type 0 where
@@ -101,7 +90,7 @@ module _ (size : ℕ) (s : Settings) (sized : Configured (resized size (s .kind)
   unfolding mergeable
   can =
       and-intro (sameKind (p .counts) (q .counts)) (Bool·beq (p .extremes) (q .extremes)) alike
-      (beq-same (p .extremes) (q .extremes) (g .of .same .extremes ∙ sym (h .of .same .extremes)))
+      (beq-intro (p .extremes) (q .extremes) (g .of .same .extremes ∙ sym (h .of .same .extremes)))
 
   asked : sizeAsked size (p .counts) (q .counts) ≡ true
   asked = size-asked size (s .kind) (p .counts) (q .counts) sized (g .of .shape) (h .of .shape)
@@ -114,10 +103,8 @@ module _ (size : ℕ) (s : Settings) (sized : Configured (resized size (s .kind)
   of = of-known s (mergeHanded size p q) (handed-commutes size s .kept p q (known s p (g .of)) (known s q (h .of)))
 
   room : hasRoom (mergeCounts size (p .counts) (q .counts)) us vs ≡ true
-  unfolding mergeHanded handedAgrees
-  room =
-      roomy size (s .kind) (mergeCounts size (p .counts) (q .counts)) us vs (of .shape)
-      (and-left (countsAgree size finest low (mergeCounts size (p .counts) (q .counts))) (extremesAgree (mergeHanded size p q .min) (mergeHanded size p q .max)) agree) long
+  unfolding mergeHanded
+  room = roomy size (s .kind) (mergeCounts size (p .counts) (q .counts)) us vs (of .shape) (counts-agree size low (mergeHanded size p q) agree) long
 
   free : refusalBefore size x y ≡ 0
   unfolding refusalBefore unmergeable pick
@@ -127,7 +114,7 @@ module _ (size : ℕ) (s : Settings) (sized : Configured (resized size (s .kind)
 
   sum-is : countOf (mergeHanded size p q .counts) ≡ countOf (countsIn x) + countOf (countsIn y)
   unfolding mergeHanded
-  sum-is = merged-count size (p .counts) (q .counts) alike
+  sum-is = merged-count size (p .counts) (q .counts) (kind-one (p .counts) (q .counts) alike)
 
   pub merges : Left size s (countOf (countsIn x) + countOf (countsIn y)) (mergedStored size us vs x y)
   merges =

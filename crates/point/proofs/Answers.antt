@@ -11,7 +11,7 @@ use lib.ListN.{length, take, drop, length-append}
 use borrow.Author.Tests.{le-leb, eq-eqb}
 use Rattle.laws.specs.Pick.{pick}
 use Rattle.laws.specs.Said.{Said, refusal, success}
-use Rattle.laws.proofs.Bools.{flag}
+use Rattle.laws.proofs.Bools.{flag, and-left, and-right, pick-left, pick-then}
 use Rattle.index.specs.Bins.{finest}
 use Rattle.floats.specs.Starts.{zeroFloat}
 use Rattle.rows.specs.Rows.{over}
@@ -19,7 +19,7 @@ use Rattle.rows.proofs.Laws.{take-over}
 use Rattle.points.specs.Explicit.{bucketCount, added, mergeBuckets}
 use Rattle.points.specs.Figures as F
 use Rattle.points.specs.Figures.{Kind, exponential, explicit, exponentialCounts, explicitCounts}
-use Rattle.points.specs.Handed.{Handed, mergeCounts, mergeHanded, posOf, negOf}
+use Rattle.points.specs.Handed.{Handed, mergeCounts, mergeHanded, sizeAsked, unmergeable, posOf, negOf}
 use Rattle.points.proofs.Kept.{merge-agrees}
 use Rattle.points.proofs.Explicit.{buckets-say, merge-buckets-ok}
 use Rattle.points.proofs.Stands.{Sound}
@@ -33,6 +33,7 @@ use Rattle.point.specs.declared.Figures.the-variants.{Exponential, Expli
 use Rattle.point.specs.Handing.{Stored, storedIn, countsAs, countsIn, handedIn, figuresShaped, inShape, figuresFor, pointFor, Outcome, ended, laidOver, refusalBefore, merging}
 use Rattle.point.specs.Lists.{Configured}
 use Rattle.point.proofs.Laid.{same-count}
+use Rattle.point.proofs.Means.{agreesRead}
 use Rattle.point.proofs.Calls as calls
 
 -- "10: room judged by the result's length"
@@ -148,22 +149,34 @@ module _ (size : ℕ) (a b : Stored) (e : refusalBefore size a b ≡ 0) (us vs :
   no-room r = by-room false r
 
 -- an accepted merge was not refused, and had room
-pub merged-reads : (size : ℕ) (x y z : Stored) (us vs : List ℕ) → merging size x y us vs .answer ≡ success z
-    → (handedIn z ≡ mergeHanded size (handedIn x) (handedIn y)) × (inShape z ≡ true)
-merged-reads size x y z us vs s =
-    ⊎-elim
-    (λ (e : refusalBefore size x y ≡ 0).
-    ⊎-elim
-    (λ (r : hasRoom (mergeCounts size (countsIn x) (countsIn y)) us vs ≡ true).
-    let m = answers size x y e us vs r in
-    let i : m .left ≡ z = success-is (m .left) z (sym (ap (λ o. o .answer) (m .is)) ∙ s) in
-    (ap handedIn (sym i) ∙ m .reads, ap inShape (sym i) ∙ m .shape))
-    (λ (r : hasRoom (mergeCounts size (countsIn x) (countsIn y)) us vs ≡ false).
-    absurd (refused-not 10 z (sym (ap (λ o. o .answer) (no-room size x y e us vs r)) ∙ s)))
-    (flag (hasRoom (mergeCounts size (countsIn x) (countsIn y)) us vs)))
-    (λ (p : 0 < refusalBefore size x y).
-    absurd (refused-not (refusalBefore size x y) z (ap (λ o. o .answer) (calls.refused-law size x y us vs (refusalBefore size x y) refl (λ n. omega (arith, n))) ∙ s)))
-    (eq-zero-or-pos (refusalBefore size x y))
+module _ (size : ℕ) (x y z : Stored) (us vs : List ℕ) (s : merging size x y us vs .answer ≡ success z) where
+  not-refused : refusalBefore size x y ≡ 0
+  not-refused =
+      ⊎-elim (λ (e : refusalBefore size x y ≡ 0). e)
+      (λ (p : 0 < refusalBefore size x y).
+      absurd (refused-not (refusalBefore size x y) z (ap (λ o. o .answer) (calls.refused-law size x y us vs (refusalBefore size x y) refl (λ n. omega (arith, n))) ∙ s)))
+      (eq-zero-or-pos (refusalBefore size x y))
+
+  pub merged-reads : (handedIn z ≡ mergeHanded size (handedIn x) (handedIn y)) × (inShape z ≡ true)
+  merged-reads =
+      ⊎-elim
+      (λ (r : hasRoom (mergeCounts size (countsIn x) (countsIn y)) us vs ≡ true).
+      let m = answers size x y not-refused us vs r in
+      let i : m .left ≡ z = success-is (m .left) z (sym (ap (λ o. o .answer) (m .is)) ∙ s) in
+      (ap handedIn (sym i) ∙ m .reads, ap inShape (sym i) ∙ m .shape))
+      (λ (r : hasRoom (mergeCounts size (countsIn x) (countsIn y)) us vs ≡ false).
+      absurd (refused-not 10 z (sym (ap (λ o. o .answer) (no-room size x y not-refused us vs r)) ∙ s)))
+      (flag (hasRoom (mergeCounts size (countsIn x) (countsIn y)) us vs))
+
+  -- and both of its points agree
+  pub merged-agree : (agreesRead size (handedIn x) ≡ true) × (agreesRead size (handedIn y) ≡ true)
+  unfolding refusalBefore unmergeable
+  merged-agree =
+      let p = agreesRead size (handedIn x) in
+      let q = agreesRead size (handedIn y) in
+      let e = pick-then (sizeAsked size (countsIn x) (countsIn y)) _ 1 (omega arith) not-refused in
+      let b = and-right (inShape x && inShape y) (p && q) (pick-left ((inShape x && inShape y) && (p && q)) _ 8 (omega arith) e) in
+      (and-left p q b, and-right p q b)
 
 -- ---- a kind that could be configured
 pub sound : (k : Kind) → Configured k → Sound k

@@ -13,7 +13,7 @@ use Rattle.laws.specs.Said.{Said, refusal}
 use Rattle.laws.proofs.Bools.{not-both, and-left, and-right, pick-left, pick-then}
 use Rattle.points.specs.Explicit.{sameBounds, bucketCount, bucketsAgree, mergeBuckets}
 use Rattle.points.specs.Figures.{exponentialCounts, explicitCounts}
-use Rattle.points.specs.Handed.{extremesAgree, mergeCounts, mergeHanded, posOf, negOf}
+use Rattle.points.specs.Handed.{mergeCounts, mergeHanded, posOf, negOf}
 use Rattle.points.proofs.Explicit.{buckets-say}
 use Rattle.exponential.specs.declared.Counts.{Counts}
 use Rattle.merges.specs.Merges.{Agreeing, mergedPoint}
@@ -24,7 +24,7 @@ use Rattle.point.specs.declared.Figures.the-variants.{Exponential, Expli
 use Rattle.point.specs.declared.Made.{Made}
 use Rattle.point.specs.declared.Made.the-variants.{Of, NoRoom}
 use Rattle.point.specs.Handing.{Stored, countsAs, countsIn, handedIn, figuresFor, Outcome, ended, laidOver, refusalBefore, merging, countIn}
-use Rattle.point.specs.Inner.{sizeFits, sameFigures, figuresAgree, pointAgrees, Over, madeOver, countsOver, madeOne, laidOne, finished}
+use Rattle.point.specs.Inner.{sizeFits, sameFigures, figuresAgree, extremesOk, pointAgrees, Over, madeOver, countsOver, madeOne, laidOne, finished}
 use Rattle.point.proofs.Laid.{addable, over-one}
 use Rattle.point.proofs.Means.{refusal-is}
 use Rattle.laws.specs.Counting.{mostCount}
@@ -110,11 +110,11 @@ module _ (size : ℕ) (a b : Stored) where
 
     pub first-agrees : figuresAgree size (a .point .figures) (a .bounds) (a .pos) (a .neg) ≡ true
     unfolding pointAgrees
-    first-agrees = and-left (figuresAgree size (a .point .figures) (a .bounds) (a .pos) (a .neg)) (extremesAgree (a .point .min) (a .point .max)) (and-left firstOk secondOk both)
+    first-agrees = and-left (figuresAgree size (a .point .figures) (a .bounds) (a .pos) (a .neg)) (extremesOk (a .point)) (and-left firstOk secondOk both)
 
     pub second-agrees : figuresAgree size (b .point .figures) (b .bounds) (b .pos) (b .neg) ≡ true
     unfolding pointAgrees
-    second-agrees = and-left (figuresAgree size (b .point .figures) (b .bounds) (b .pos) (b .neg)) (extremesAgree (b .point .min) (b .point .max)) (and-right firstOk secondOk both)
+    second-agrees = and-left (figuresAgree size (b .point .figures) (b .bounds) (b .pos) (b .neg)) (extremesOk (b .point)) (and-right firstOk secondOk both)
 
     pub alike : kindOk ≡ true
     alike = and-left kindOk switchOk (pick-left (kindOk && switchOk) _ 11 (omega arith) e₂)

@@ -8,6 +8,7 @@ use lib.ListN.{length}
 use lib.Ieee.{Float}
 use Rattle.laws.specs.Pick.{pick}
 use Rattle.index.specs.Bins.{finest, lowestBin}
+use Rattle.floats.specs.Answers.{shows}
 use Rattle.points.specs.Figures as F
 use Rattle.points.specs.Figures.{Kind, mostSize, sizePasses, settingsOf, exponentialCounts, explicitCounts, figuresOf}
 use Rattle.points.specs.Handed.{Handed, handedOut, handed, sameKind, mergeable, extremesAgree, countsAgree, handedAgrees, countOf, sizeAsked, unmergeable}
@@ -20,7 +21,7 @@ use Rattle.explicit.specs.Series.{bucketsIn}
 use Rattle.point.specs.declared.Figures.{Figures}
 use Rattle.point.specs.declared.Figures.the-variants.{Exponential, Explicit}
 use Rattle.point.specs.Handing.{Stored, storedIn, countsAs, countsIn, handedIn, figuresShaped, inShape, agreesAlone, exponentialPoint, explicitPoint, refusalBefore, countIn}
-use Rattle.point.specs.Inner.{figuresAgree, pointAgrees, sameFigures, sizeFits}
+use Rattle.point.specs.Inner.{figuresAgree, extremesOk, pointAgrees, sameFigures, sizeFits}
 use Rattle.laws.specs.Counting.{mostCount}
 
 -- ---- WHAT A SERIES HANDS OUT, by its two switches; the zero threshold is 0.0
@@ -65,12 +66,19 @@ figures-is size (Exponential c) bs xs ys =
     regroup (sizePasses size) (leb (c .level) finest) (leb (c .pos .len) (length xs)) (leb (c .neg .len) (length ys)) (countsAgree size finest (lowestBin finest) (exponentialCounts (read c xs ys)))
 figures-is size (Explicit n) bs xs ys = refl
 
+pub count-is : (f : Figures) (bs : List Float) (xs ys : List ℕ) → countIn f ≡ countOf (countsAs f bs xs ys)
+count-is (Exponential c) bs xs ys = refl
+count-is (Explicit n) bs xs ys = refl
+
 module _ (size : ℕ) (x : Stored) where
   pub agrees-is : pointAgrees size x ≡ (sizeFor size (x .point .figures) && inShape x) && agreesRead size (handedIn x)
   unfolding pointAgrees handedAgrees
   agrees-is =
-      ap (λ (b : Bool). b && extremesAgree (x .point .min) (x .point .max)) (figures-is size (x .point .figures) (x .bounds) (x .pos) (x .neg))
-      ∙ and-assoc (sizeFor size (x .point .figures) && inShape x) (countsAgree size finest (lowestBin finest) (countsIn x)) (extremesAgree (x .point .min) (x .point .max))
+      ap (λ (b : Bool). b && extremesOk (x .point)) (figures-is size (x .point .figures) (x .bounds) (x .pos) (x .neg))
+      ∙ and-assoc (sizeFor size (x .point .figures) && inShape x) (countsAgree size finest (lowestBin finest) (countsIn x)) (extremesOk (x .point))
+      ∙ ap (λ (n : ℕ). (sizeFor size (x .point .figures) && inShape x)
+      && (countsAgree size finest (lowestBin finest) (countsIn x) && extremesAgree (shows (x .point .extremes) n) (x .point .min) (x .point .max)))
+      (count-is (x .point .figures) (x .bounds) (x .pos) (x .neg))
 
   -- of a point that is in shape
   pub agrees-whole : sizeFor size (x .point .figures) ≡ true → inShape x ≡ true → pointAgrees size x ≡ agreesRead size (handedIn x)
@@ -111,10 +119,6 @@ second-size size (Exponential c) (Exponential d) h = h
 second-size size (Exponential c) (Explicit m) h = refl
 second-size size (Explicit n) (Exponential d) h = h
 second-size size (Explicit n) (Explicit m) h = refl
-
-pub count-is : (f : Figures) (bs : List Float) (xs ys : List ℕ) → countIn f ≡ countOf (countsAs f bs xs ys)
-count-is (Exponential c) bs xs ys = refl
-count-is (Explicit n) bs xs ys = refl
 
 module _ (size : ℕ) (bs : List Float) (xs ys : List ℕ) (cs : List Float) (zs ws : List ℕ) where
   size-is : (f g : Figures) → sizeFits size f g ≡ sizeAsked size (countsAs f bs xs ys) (countsAs g cs zs ws)

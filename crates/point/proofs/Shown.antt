@@ -16,7 +16,6 @@ use Rattle.laws.proofs.Bools.{and-left}
 use Rattle.index.specs.Bins.{finest, endBin, scaleOf, indexOf}
 use Rattle.index.specs.declared.signed.Integer.the-variants.{Is}
 use Rattle.index.proofs.SignedCases.{scale-is, index-is}
-use Rattle.points.specs.Handed.{extremesAgree}
 use Rattle.points.proofs.Agreement.{RowOk}
 use Rattle.rows.specs.declared.Row.{Row}
 use Rattle.exponential.specs.declared.Counts.{Counts}
@@ -24,7 +23,7 @@ use Rattle.exponential.specs.Series.{rowIn}
 use Rattle.exponential.proofs.Facts as Facts
 use Rattle.point.specs.declared.Figures.the-variants.{Exponential}
 use Rattle.point.specs.Handing.{Stored}
-use Rattle.point.specs.Inner.{figuresAgree, pointAgrees}
+use Rattle.point.specs.Inner.{figuresAgree, extremesOk, pointAgrees}
 use Rattle.point.specs.Signed.{scaleShown, offsetAnswer, offsetShown}
 use Rattle.point.proofs.Offsets.{offset-empty, offset-there}
 
@@ -52,7 +51,7 @@ module _ (size : ℕ) (x : Stored) (c : Counts) (f : x .point .figures ≡ Expon
   known =
       Facts.agreed size finest c (x .pos) (x .neg)
       (ap (λ h. figuresAgree size h (x .bounds) (x .pos) (x .neg)) (sym f)
-      ∙ and-left (figuresAgree size (x .point .figures) (x .bounds) (x .pos) (x .neg)) (extremesAgree (x .point .min) (x .point .max)) a)
+      ∙ and-left (figuresAgree size (x .point .figures) (x .bounds) (x .pos) (x .neg)) (extremesOk (x .point)) a)
 
   level-is : finest - (finest - c .level) ≡ c .level
   level-is = omega (arith, known .level)

@@ -79,15 +79,15 @@ inShape x = figuresShaped (x .point .figures) (x .pos) (x .neg)
 unfoldable pub agreesAlone : Stored → Bool
 agreesAlone x = inShape x && handedAgrees mostSize finest (lowestBin finest) (handedIn x)
 
--- ---- the point of a series: "with min/max off a point has neither, with the sum off it hands out 0.0"
+-- ---- the point of a series: "with min/max off a point has neither, with the sum off it hands out 0.0"; at count 0 it has no extremes either
 
 abbrev pub shownPoint : Figures → Float → Float → Float → Bool → Bool → Point
 shownPoint f min max sum extremes sums =
     record {
       figures = f;
       extremes = extremes;
-      min = shownOf extremes min;
-      max = shownOf extremes max;
+      min = shownOf extremes (countIn f) min;
+      max = shownOf extremes (countIn f) max;
       sum = pick sums sum zeroFloat;
     }
 

@@ -9,7 +9,7 @@ use lib.Ieee.{Float, binary64, add}
 use Rattle.laws.specs.Pick.{pick}
 use Rattle.laws.specs.Said.{Said, refusal, success}
 use Rattle.index.specs.Bins.{finest}
-use Rattle.floats.specs.Answers.{smallerOf, largerOf}
+use Rattle.floats.specs.Answers.{shows, smallerOf, largerOf}
 use Rattle.points.specs.Explicit.{added, sameBounds, bucketsAgree}
 use Rattle.points.specs.Figures as F
 use Rattle.points.specs.Figures.{sizePasses}
@@ -22,7 +22,7 @@ use Rattle.point.specs.declared.Figures.{Figures}
 use Rattle.point.specs.declared.Figures.the-variants.{Exponential, Explicit}
 use Rattle.point.specs.declared.Made.{Made}
 use Rattle.point.specs.declared.Made.the-variants.{Of, NoRoom}
-use Rattle.point.specs.Handing.{Stored, figuresFor}
+use Rattle.point.specs.Handing.{Stored, countIn, figuresFor}
 
 -- ---- the tests; that they make up `refusalBefore` is the law `refusal-is`
 
@@ -31,8 +31,11 @@ abbrev pub figuresAgree : ℕ → Figures → List Float → List ℕ → List �
 figuresAgree size (Exponential c) bs xs ys = agrees size finest c xs ys
 figuresAgree size (Explicit n) bs xs ys = bucketsAgree bs (bucketsIn bs n xs)
 
+abbrev pub extremesOk : Point → Bool
+extremesOk p = extremesAgree (shows (p .extremes) (countIn (p .figures))) (p .min) (p .max)
+
 unfoldable pub pointAgrees : ℕ → Stored → Bool
-pointAgrees size x = figuresAgree size (x .point .figures) (x .bounds) (x .pos) (x .neg) && extremesAgree (x .point .min) (x .point .max)
+pointAgrees size x = figuresAgree size (x .point .figures) (x .bounds) (x .pos) (x .neg) && extremesOk (x .point)
 
 abbrev pub isExplicit : Figures → Bool
 isExplicit (Exponential c) = false

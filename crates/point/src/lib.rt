@@ -6,12 +6,12 @@ ghost use Prim.Native.Nat.{_+_, _-_, _^_, _<_};
 ghost use Rattle.floats.specs.Starts.{zeroFloat};
 ghost use Rattle.points.specs.Handed.{extremesAgree};
 ghost use Rattle.laws.specs.Pick.{pick};
-ghost use lib.Ieee.Scale.{finite};
+ghost use Rattle.floats.specs.declared.Extreme.the-variants.{Value};
 ghost use Rattle.point.specs.Handing.{stored, countIn, agreesAlone, shownPoint, exponentialPoint, explicitPoint, refusalBefore, said, outcome, merging};
 ghost use Rattle.point.specs.Inner.{figuresAgree, pointAgrees, isExplicit, sameFigures, sizeFits};
 ghost use Rattle.point.specs.Inner.{madeOver, countsOver, madeOne, laidOne, finished};
 ghost use lib.Dec.{leb};
-ghost use mathlib.Core.Bool.{Bool·beq, _&&_};
+ghost use mathlib.Core.Bool.{Bool·beq};
 ghost use Rattle.points.specs.Explicit.{bucketCount};
 ghost use Rattle.points.specs.Figures.{exponentialCounts};
 ghost use Rattle.merges.specs.Merges.{Agreeing, mergedPoint};
@@ -35,6 +35,16 @@ pub struct Point {
     pub sum: f64,
 }
 
+// The count of a point's values.
+pub fn count_in(f: Figures) -> u64
+    ensures { λ r. ⌜ r ≡ countIn f ⌝ }
+{
+    match f {
+        Figures::Exponential(c) => c.count,
+        Figures::Explicit(count) => count,
+    }
+}
+
 // ---- the point of a series, by its two switches
 
 fn shown_sum(on: bool, sum: f64) -> f64
@@ -50,8 +60,9 @@ fn shown_sum(on: bool, sum: f64) -> f64
 fn handed_out(figures: Figures, min: f64, max: f64, sum: f64, extremes: bool, sums: bool) -> Point
     ensures { λ r. ⌜ r ≡ shownPoint figures min max sum extremes sums ⌝ }
 {
-    let low = floats::shown(extremes, min);
-    let high = floats::shown(extremes, max);
+    let count = count_in(figures);
+    let low = floats::shown(extremes, count, min);
+    let high = floats::shown(extremes, count, max);
     let total = shown_sum(sums, sum);
     Point {
         figures,
@@ -79,36 +90,31 @@ pub fn explicit_point(head: explicit::Head, extremes: bool, sums: bool) -> Point
     handed_out(f, head.min, head.max, head.sum, extremes, sums)
 }
 
-// The count of a point's values.
-pub fn count_in(f: Figures) -> u64
-    ensures { λ r. ⌜ r ≡ countIn f ⌝ }
-{
-    match f {
-        Figures::Exponential(c) => c.count,
-        Figures::Explicit(count) => count,
-    }
-}
-
 // ---- agreement
 
-fn extremes_agree(min: Extreme, max: Extreme) -> bool
-    ensures { λ r. ⌜ r ≡ extremesAgree min max ⌝ }
+// Whether both extremes are there and finite where they are due, and neither is elsewhere.
+fn extremes_agree(due: bool, min: Extreme, max: Extreme) -> bool
+    ensures { λ r. ⌜ r ≡ extremesAgree due min max ⌝ }
 {
     match min {
         Extreme::None => match max {
-            Extreme::None => true,
+            Extreme::None => !due,
             Extreme::Value(y) => false,
         },
         Extreme::Value(x) => match max {
             Extreme::None => false,
-            Extreme::Value(y) => both_finite(x, y),
+            Extreme::Value(y) => values_agree(due, x, y),
         },
     }
 }
 
-fn both_finite(x: f64, y: f64) -> bool
-    ensures { λ r. ⌜ r ≡ (finite x && finite y) ⌝ }
+// Two that are there.
+fn values_agree(due: bool, x: f64, y: f64) -> bool
+    ensures { λ r. ⌜ r ≡ extremesAgree due (Value x) (Value y) ⌝ }
 {
+    if !due {
+        return false;
+    }
     if !floats::is_finite(x) {
         return false;
     }
@@ -134,7 +140,8 @@ fn point_agrees(size: usize, p: Point, bounds: &[f64], pos: &[u64], neg: &[u64])
     if !figures_agree(size, f, bounds, pos, neg) {
         return false;
     }
-    extremes_agree(min, max)
+    let due = floats::shows_extremes(p.extremes, count_in(f));
+    extremes_agree(due, min, max)
 }
 
 // Whether a point agrees with itself under max_size 160 and the greatest scale, as number 8 asks where there is no merge; never refused.

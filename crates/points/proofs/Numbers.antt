@@ -1,24 +1,30 @@
--- Equal numbers, and extremes that are the same, a zero's sign aside. Assumes nothing.
-use mathlib.Core.Path.{_≡_, refl, ap, subst, _∙_}
-use mathlib.Core.Bool.{Bool, true, false}
+-- Equal numbers; extremes that are the same, a zero's sign aside; extremes shown by a switch and a count, and two of them merged. Assumes nothing.
+use Prim.Native.Nat.{ℕ, zero, suc, _+_}
+use mathlib.Core.Path.{_≡_, refl, ap, sym, subst, _∙_}
+use mathlib.Core.Bool.{Bool, true, false, not, _||_}
+use native.Mathlib.Nat.{zero-add, suc-add}
+use native.Mathlib.Omega.{arith}
+use borrow.Author.Tests.{ne-eqb}
 use lib.Ieee.{Float, binary64}
-use Rattle.floats.specs.Answers.{shownOf, smallerOf, largerOf}
-use Rattle.floats.specs.Starts.{FiniteF64}
+use Rattle.laws.specs.Pick.{pick}
+use Rattle.laws.proofs.Bools.{not-both}
+use Rattle.floats.specs.Answers.{shows, isShown, smallerOf, largerOf}
+use Rattle.floats.specs.Starts.{zeroFloat, FiniteF64}
 use Rattle.floats.specs.declared.Extreme.{Extreme}
 use Rattle.floats.specs.declared.Extreme.the-variants.{None, Value}
 use Rattle.floats.proofs.Choices.{chosen, eq-refl, eq-sym, eq-trans, chosen-cong, chosen-comm, chosen-assoc}
-use Rattle.floats.proofs.Starts.{start, start-first, finite-ok, chosen-finite}
+use Rattle.floats.proofs.Starts.{finite-ok, chosen-finite}
 use Rattle.points.specs.Same.{SameNumber, SameExtreme}
 
 -- ---- the same number
 pub number-refl : (x : Float) → FiniteF64 x → SameNumber x x
 number-refl x p = record { left = p; right = p; same = eq-refl binary64 x (finite-ok x p) }
 
-pub number-turn : (x y : Float) → SameNumber x y → SameNumber y x
+number-turn : (x y : Float) → SameNumber x y → SameNumber y x
 number-turn x y h =
     record { left = h .right; right = h .left; same = eq-sym binary64 x y (finite-ok x (h .left)) (finite-ok y (h .right)) (h .same) }
 
-pub number-trans : (x y z : Float) → SameNumber x y → SameNumber y z → SameNumber x z
+number-trans : (x y z : Float) → SameNumber x y → SameNumber y z → SameNumber x z
 number-trans x y z h k =
     record {
       left = h .left;
@@ -26,7 +32,7 @@ number-trans x y z h k =
       same = eq-trans binary64 x y z (finite-ok x (h .left)) (finite-ok y (h .right)) (finite-ok z (k .right)) (h .same) (k .same);
     }
 
-pub number-chosen : (up : Bool) (a b c d : Float) → SameNumber a c → SameNumber b d → SameNumber (chosen up a b) (chosen up c d)
+number-chosen : (up : Bool) (a b c d : Float) → SameNumber a c → SameNumber b d → SameNumber (chosen up a b) (chosen up c d)
 number-chosen up a b c d h k =
     record {
       left = chosen-finite up a b (h .left) (k .left);
@@ -34,33 +40,15 @@ number-chosen up a b c d h k =
       same = chosen-cong up binary64 a b c d (finite-ok a (h .left)) (finite-ok b (k .left)) (finite-ok c (h .right)) (finite-ok d (k .right)) (h .same) (k .same);
     }
 
--- ---- the same extreme, shown by a switch
-pub same-shown : (on : Bool) (x y : Float) → SameNumber x y → SameExtreme (shownOf on x) (shownOf on y)
-same-shown true x y h = h
-same-shown false x y h = tt
+number-turned : (up : Bool) (x y : Float) → FiniteF64 x → FiniteF64 y → SameNumber (chosen up x y) (chosen up y x)
+number-turned up x y p q =
+    record {
+      left = chosen-finite up x y p q;
+      right = chosen-finite up y x q p;
+      same = chosen-comm up binary64 x y (finite-ok x p) (finite-ok y q);
+    }
 
-pub shown-next : (on : Bool) (e : Extreme) (x y : Float) → SameExtreme e (shownOf on x) → SameNumber x y → SameExtreme e (shownOf on y)
-shown-next true (Value z) x y h k = number-trans z x y h k
-shown-next true None x y h k = absurd h
-shown-next false (Value z) x y h k = absurd h
-shown-next false None x y h k = tt
-
--- two extremes merged: the smaller where up, otherwise the larger
-abbrev pub nearer : Bool → Extreme → Extreme → Extreme
-nearer true a b = smallerOf a b
-nearer false a b = largerOf a b
-
-pub shown-merged : (up on : Bool) (a b : Extreme) (x y : Float) → SameExtreme a (shownOf on x) → SameExtreme b (shownOf on y) → SameExtreme (nearer up a b) (shownOf on (chosen up x y))
-shown-merged true true (Value a) (Value b) x y h k = number-chosen true a b x y h k
-shown-merged false true (Value a) (Value b) x y h k = number-chosen false a b x y h k
-shown-merged up true (Value a) None x y h k = absurd k
-shown-merged up true None b x y h k = absurd h
-shown-merged up false (Value a) b x y h k = absurd h
-shown-merged up false None (Value b) x y h k = absurd k
-shown-merged true false None None x y h k = tt
-shown-merged false false None None x y h k = tt
-
--- ---- extremes merged: both shown, or neither
+-- ---- the same extreme
 pub extreme-turn : (a b : Extreme) → SameExtreme a b → SameExtreme b a
 extreme-turn None None h = tt
 extreme-turn None (Value y) h = absurd h
@@ -75,62 +63,147 @@ extreme-trans (Value x) None c h k = absurd h
 extreme-trans (Value x) (Value y) None h k = absurd k
 extreme-trans (Value x) (Value y) (Value z) h k = number-trans x y z h k
 
-nearer-shown : (up on : Bool) (x y : Float) → nearer up (shownOf on x) (shownOf on y) ≡ shownOf on (chosen up x y)
+-- ---- a switch that is on shows where there is a value
+pub shows-none : (on : Bool) → shows on 0 ≡ false
+shows-none true = refl
+shows-none false = refl
+
+pub shows-some : (on : Bool) (n : ℕ) → shows on (suc n) ≡ on
+shows-some true n = ap not (ne-eqb (suc n) 0 (λ e. omega (arith, e)))
+shows-some false n = refl
+
+-- ---- shown where it is due: `shownOf` is this of what the switch and the count `shows`
+abbrev pub shownIf : Bool → Float → Extreme
+shownIf due x = pick due (Value x) None
+
+pub same-shown : (due : Bool) (x y : Float) → SameNumber x y → SameExtreme (shownIf due x) (shownIf due y)
+unfolding pick
+same-shown true x y h = h
+same-shown false x y h = tt
+
+pub shown-next : (due : Bool) (e : Extreme) (x y : Float) → SameExtreme e (shownIf due x) → SameNumber x y → SameExtreme e (shownIf due y)
+shown-next due e x y h k = extreme-trans e (shownIf due x) (shownIf due y) h (same-shown due x y k)
+
+-- ---- two extremes merged: the smaller where up, otherwise the larger
+abbrev pub nearer : Bool → Extreme → Extreme → Extreme
+nearer true a b = smallerOf a b
+nearer false a b = largerOf a b
+
+pub nearer-cong : (up : Bool) (a b c d : Extreme) → SameExtreme a c → SameExtreme b d → SameExtreme (nearer up a b) (nearer up c d)
+nearer-cong true None b None d h k = k
+nearer-cong false None b None d h k = k
+nearer-cong up None b (Value z) d h k = absurd h
+nearer-cong up (Value x) b None d h k = absurd h
+nearer-cong true (Value x) None (Value z) None h k = h
+nearer-cong false (Value x) None (Value z) None h k = h
+nearer-cong up (Value x) None (Value z) (Value w) h k = absurd k
+nearer-cong up (Value x) (Value y) (Value z) None h k = absurd k
+nearer-cong true (Value x) (Value y) (Value z) (Value w) h k = number-chosen true x y z w h k
+nearer-cong false (Value x) (Value y) (Value z) (Value w) h k = number-chosen false x y z w h k
+
+nearer-shown : (up due : Bool) (x y : Float) → nearer up (shownIf due x) (shownIf due y) ≡ shownIf due (chosen up x y)
+unfolding pick
 nearer-shown true true x y = refl
 nearer-shown true false x y = refl
 nearer-shown false true x y = refl
 nearer-shown false false x y = refl
 
--- an extreme that the switch shows of a finite f64
-pub record Shown (on : Bool) (e : Extreme) : Type 0 where
-  pub of : Float
-  pub known : FiniteF64 of
-  pub is : e ≡ shownOf on of
+pub shown-merged : (up due : Bool) (a b : Extreme) (x y : Float) → SameExtreme a (shownIf due x) → SameExtreme b (shownIf due y) → SameExtreme (nearer up a b) (shownIf due (chosen up x y))
+shown-merged up due a b x y h k = subst (SameExtreme (nearer up a b)) (nearer-shown up due x y) (nearer-cong up a b (shownIf due x) (shownIf due y) h k)
 
-pub shown-self : (on : Bool) (a : Extreme) → Shown on a → SameExtreme a a
-shown-self on a p = rw (p .is) (same-shown on (p .of) (p .of) (number-refl (p .of) (p .known)))
+-- one that is not there gives way
+pub nearer-none : (up : Bool) (a : Extreme) → (nearer up None a ≡ a) × (nearer up a None ≡ a)
+nearer-none true None = (refl, refl)
+nearer-none true (Value x) = (refl, refl)
+nearer-none false None = (refl, refl)
+nearer-none false (Value x) = (refl, refl)
 
-pub shown-nearer : (up on : Bool) (a b : Extreme) → Shown on a → Shown on b → Shown on (nearer up a b)
-shown-nearer up on a b p q =
-    record {
-      of = chosen up (p .of) (q .of);
-      known = chosen-finite up (p .of) (q .of) (p .known) (q .known);
-      is = rw (p .is, q .is) (nearer-shown up on (p .of) (q .of));
-    }
+-- ---- a finite f64, if it is there
+abbrev Numeric : Extreme → Type 0
+Numeric None = Unit {0}
+Numeric (Value x) = FiniteF64 x
 
-pub nearer-cong : (up on : Bool) (a b c d : Extreme) → Shown on c → Shown on d → SameExtreme a c → SameExtreme b d → SameExtreme (nearer up a b) (nearer up c d)
-nearer-cong up on a b c d p q h k =
-    rw (p .is, q .is, nearer-shown up on (p .of) (q .of)) (shown-merged up on a b (p .of) (q .of) (rw (p .is) at h) (rw (q .is) at k))
+numeric-self : (a : Extreme) → Numeric a → SameExtreme a a
+numeric-self None p = tt
+numeric-self (Value x) p = number-refl x p
 
-pub nearer-comm : (up on : Bool) (a b : Extreme) → Shown on a → Shown on b → SameExtreme (nearer up a b) (nearer up b a)
-nearer-comm up on a b p q =
-    let x = p .of in
-    let y = q .of in
-    rw (p .is, q .is, nearer-shown up on x y, nearer-shown up on y x)
-    (same-shown on (chosen up x y) (chosen up y x)
-    (record {
-      left = chosen-finite up x y (p .known) (q .known);
-      right = chosen-finite up y x (q .known) (p .known);
-      same = chosen-comm up binary64 x y (finite-ok x (p .known)) (finite-ok y (q .known));
-    }))
+numeric-nearer : (up : Bool) (a b : Extreme) → Numeric a → Numeric b → Numeric (nearer up a b)
+numeric-nearer true None b p q = q
+numeric-nearer false None b p q = q
+numeric-nearer true (Value x) None p q = p
+numeric-nearer false (Value x) None p q = p
+numeric-nearer true (Value x) (Value y) p q = chosen-finite true x y p q
+numeric-nearer false (Value x) (Value y) p q = chosen-finite false x y p q
 
-nearer-assoc : (up on : Bool) (a b c : Extreme) → Shown on a → Shown on b → Shown on c → nearer up (nearer up a b) c ≡ nearer up a (nearer up b c)
-nearer-assoc up on a b c p q r =
-    let x = p .of in
-    let y = q .of in
-    let z = r .of in
-    rw (p .is, q .is, r .is, nearer-shown up on x y, nearer-shown up on y z, nearer-shown up on (chosen up x y) z, nearer-shown up on x (chosen up y z))
-    (ap (shownOf on) (chosen-assoc up binary64 x y z (finite-ok x (p .known)) (finite-ok y (q .known)) (finite-ok z (r .known))))
+numeric-comm : (up : Bool) (a b : Extreme) → Numeric a → Numeric b → SameExtreme (nearer up a b) (nearer up b a)
+numeric-comm up None b p q = rw (nearer-none up b .0, nearer-none up b .1) (numeric-self b q)
+numeric-comm up (Value x) None p q = rw (nearer-none up (Value x) .0, nearer-none up (Value x) .1) (number-refl x p)
+numeric-comm true (Value x) (Value y) p q = number-turned true x y p q
+numeric-comm false (Value x) (Value y) p q = number-turned false x y p q
 
-pub nearer-assoc-same : (up on : Bool) (a b c : Extreme) → Shown on a → Shown on b → Shown on c
-    → SameExtreme (nearer up (nearer up a b) c) (nearer up a (nearer up b c))
-nearer-assoc-same up on a b c p q r =
-    subst (SameExtreme (nearer up (nearer up a b) c)) (nearer-assoc up on a b c p q r)
-    (shown-self on (nearer up (nearer up a b) c) (shown-nearer up on (nearer up a b) c (shown-nearer up on a b p q) r))
+numeric-assoc : (up : Bool) (a b c : Extreme) → Numeric a → Numeric b → Numeric c → nearer up (nearer up a b) c ≡ nearer up a (nearer up b c)
+numeric-assoc true None b c p q r = refl
+numeric-assoc false None b c p q r = refl
+numeric-assoc true (Value x) None c p q r = refl
+numeric-assoc false (Value x) None c p q r = refl
+numeric-assoc true (Value x) (Value y) None p q r = refl
+numeric-assoc false (Value x) (Value y) None p q r = refl
+numeric-assoc true (Value x) (Value y) (Value z) p q r = ap Value (chosen-assoc true binary64 x y z (finite-ok x p) (finite-ok y q) (finite-ok z r))
+numeric-assoc false (Value x) (Value y) (Value z) p q r = ap Value (chosen-assoc false binary64 x y z (finite-ok x p) (finite-ok y q) (finite-ok z r))
 
--- what a series starts from gives way
-nearer-start : (up on : Bool) (a : Extreme) → Shown on a → nearer up (shownOf on (start up)) a ≡ a
-nearer-start up on a p = rw (p .is) (nearer-shown up on (start up) (p .of) ∙ ap (shownOf on) (start-first up (p .of) (p .known)))
+-- ---- and it is there just where it is due
+pub record Shown (due : Bool) (e : Extreme) : Type 0 where
+  pub known : Numeric e
+  pub is : isShown e ≡ due
 
-pub start-same : (up on : Bool) (a : Extreme) → Shown on a → SameExtreme (nearer up (shownOf on (start up)) a) a
-start-same up on a p = rw (nearer-start up on a p) (shown-self on a p)
+pub shown-of : (due : Bool) (e : Extreme) (x : Float) → SameExtreme e (shownIf due x) → Shown due e
+unfolding pick
+shown-of true (Value y) x h = record { known = h .left; is = refl }
+shown-of true None x h = absurd h
+shown-of false (Value y) x h = absurd h
+shown-of false None x h = record { known = tt; is = refl }
+
+-- the number that it shows, if it does
+abbrev pub numberIn : Extreme → Float
+numberIn None = zeroFloat
+numberIn (Value x) = x
+
+pub of-shown : (due : Bool) (e : Extreme) → Shown due e → SameExtreme e (shownIf due (numberIn e))
+unfolding pick
+of-shown true (Value x) k = number-refl x (k .known)
+of-shown true None k = absurd (not-both true refl (sym (k .is)))
+of-shown false (Value x) k = absurd (not-both true refl (k .is))
+of-shown false None k = tt
+
+-- merged, where either was: two counts together are 0 where both are
+pub either-shown : (up : Bool) (a b : Extreme) → isShown (nearer up a b) ≡ isShown a || isShown b
+either-shown true None b = refl
+either-shown false None b = refl
+either-shown true (Value x) None = refl
+either-shown false (Value x) None = refl
+either-shown true (Value x) (Value y) = refl
+either-shown false (Value x) (Value y) = refl
+
+either-shows : (on : Bool) (m n : ℕ) → shows on m || shows on n ≡ shows on (m + n)
+either-shows false m n = refl
+either-shows true zero n = ap (shows true) (sym (zero-add n))
+either-shows true (suc m) n = ap (λ b. b || shows true n) (shows-some true m) ∙ sym (ap (shows true) (suc-add m n) ∙ shows-some true (m + n))
+
+pub due-nearer : (up on : Bool) (m n : ℕ) (a b : Extreme) → isShown a ≡ shows on m → isShown b ≡ shows on n → isShown (nearer up a b) ≡ shows on (m + n)
+due-nearer up on m n a b p q = either-shown up a b ∙ (λ j. p j || q j) ∙ either-shows on m n
+
+pub shown-nearer : (up on : Bool) (m n : ℕ) (a b : Extreme) → Shown (shows on m) a → Shown (shows on n) b → Shown (shows on (m + n)) (nearer up a b)
+shown-nearer up on m n a b p q = record { known = numeric-nearer up a b (p .known) (q .known); is = due-nearer up on m n a b (p .is) (q .is) }
+
+module _ {d : Bool} {a : Extreme} (p : Shown d a) where
+  pub shown-self : SameExtreme a a
+  shown-self = numeric-self a (p .known)
+
+  module _ (up : Bool) {e : Bool} {b : Extreme} (q : Shown e b) where
+    pub nearer-comm : SameExtreme (nearer up a b) (nearer up b a)
+    nearer-comm = numeric-comm up a b (p .known) (q .known)
+
+    pub nearer-assoc : {f : Bool} {c : Extreme} → Shown f c → SameExtreme (nearer up (nearer up a b) c) (nearer up a (nearer up b c))
+    nearer-assoc {f} {c} r =
+        subst (SameExtreme (nearer up (nearer up a b) c)) (numeric-assoc up a b c (p .known) (q .known) (r .known))
+        (numeric-self (nearer up (nearer up a b) c) (numeric-nearer up (nearer up a b) c (numeric-nearer up a b (p .known) (q .known)) (r .known)))

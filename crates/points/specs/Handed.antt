@@ -9,7 +9,7 @@ use lib.Ieee.Scale.{finite}
 use Rattle.laws.specs.Pick.{pick}
 use Rattle.laws.specs.Counting.{mostCount}
 use Rattle.index.specs.Bins.{finest, lowestBin}
-use Rattle.floats.specs.Answers.{shownOf, smallerOf, largerOf}
+use Rattle.floats.specs.Answers.{shows, shownOf, isShown, smallerOf, largerOf}
 use Rattle.floats.specs.Starts.{zeroFloat}
 use Rattle.floats.specs.declared.Extreme.{Extreme}
 use Rattle.floats.specs.declared.Extreme.the-variants.{None, Value}
@@ -26,15 +26,20 @@ pub record Handed : Type 0 where
   pub max : Extreme
   pub sum : Float
 
--- "with min/max off a point has neither, with the sum off it hands out 0.0"
+-- the count of values
+abbrev pub countOf : Counts → ℕ
+countOf (exponentialCounts p) = p .total
+countOf (explicitCounts b p) = p .total
+
+-- "with min/max off a point has neither, with the sum off it hands out 0.0"; nor has it extremes at count 0 (`shownOf`)
 abbrev pub handedOut : Settings → Figures → Handed
 handedOut s f =
     record {
       counts = f .counts;
       extremes = s .extremes;
       threshold = s .threshold;
-      min = shownOf (s .extremes) (f .summary .min);
-      max = shownOf (s .extremes) (f .summary .max);
+      min = shownOf (s .extremes) (countOf (f .counts)) (f .summary .min);
+      max = shownOf (s .extremes) (countOf (f .counts)) (f .summary .max);
       sum = pick (s .sums) (f .summary .sum) zeroFloat;
     }
 
@@ -76,24 +81,33 @@ mergeHanded size p q =
 -- ---- agreement
 
 -- "Held extremes are finite, both or neither"
-abbrev pub extremesAgree : Extreme → Extreme → Bool
-extremesAgree None None = true
-extremesAgree None (Value y) = false
-extremesAgree (Value x) None = false
-extremesAgree (Value x) (Value y) = finite x && finite y
+abbrev pub finiteOrNone : Extreme → Extreme → Bool
+finiteOrNone None None = true
+finiteOrNone None (Value y) = false
+finiteOrNone (Value x) None = false
+finiteOrNone (Value x) (Value y) = finite x && finite y
+
+-- each is there just where it is due
+abbrev pub shownAsDue : Bool → Extreme → Extreme → Bool
+shownAsDue due min max = Bool·beq (isShown min) due && Bool·beq (isShown max) due
+
+-- the second line is document 02's, L4: "A point that shows an extreme at count 0 or with the switch off, or a point or series that lacks one
+-- above count 0 with it on, gives 8". A series holds two numbers and lacks none
+abbrev pub extremesAgree : Bool → Extreme → Extreme → Bool
+extremesAgree due min max =
+    finiteOrNone min max
+    && shownAsDue due min max
 
 -- under a max_size, a greatest level (the finest in a merge) and the lowest finest bin
 abbrev pub countsAgree : ℕ → ℕ → ℕ → Counts → Bool
 countsAgree size top low (exponentialCounts p) = agrees size top low p
 countsAgree size top low (explicitCounts b p) = bucketsAgree b p
 
-unfoldable pub handedAgrees : ℕ → ℕ → ℕ → Handed → Bool
-handedAgrees size top low p = countsAgree size top low (p .counts) && extremesAgree (p .min) (p .max)
+abbrev pub shownAgrees : Handed → Bool
+shownAgrees p = extremesAgree (shows (p .extremes) (countOf (p .counts))) (p .min) (p .max)
 
--- the count of values
-abbrev pub countOf : Counts → ℕ
-countOf (exponentialCounts p) = p .total
-countOf (explicitCounts b p) = p .total
+unfoldable pub handedAgrees : ℕ → ℕ → ℕ → Handed → Bool
+handedAgrees size top low p = countsAgree size top low (p .counts) && shownAgrees p
 
 -- ---- the refusals of a merge
 

@@ -43,7 +43,11 @@ pub record Same (p q : Handed) : Type 0 where
   pub min : SameExtreme (p .min) (q .min)
   pub max : SameExtreme (p .max) (q .max)
 
--- a point of the settings: its kind and bounds, switch and zero threshold, and extremes as the switch has them of some finite f64s
+-- the point with another sum
+abbrev pub withSum : Float → Handed → Handed
+withSum x p = record { counts = p .counts; extremes = p .extremes; threshold = p .threshold; min = p .min; max = p .max; sum = x }
+
+-- a point of the settings: its kind and bounds, switch and zero threshold, and extremes as the switch and its count have them of some finite f64s
 pub record Of (s : Settings) (p : Handed) : Type 0 where
   pub shape : Shape (s .kind) (p .counts)
   pub shown : Summary

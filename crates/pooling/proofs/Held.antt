@@ -1,7 +1,7 @@
 -- A merged point is one that code holds: its words are read back as it is. Assumes nothing.
 use Prim.Native.Nat.{ℕ, _+_, _-_, _*_, _^_, _≤_, _<_}
 use mathlib.Core.Path.{_≡_, refl, sym, ap, _∙_}
-use mathlib.Core.Bool.{Bool, true, false}
+use mathlib.Core.Bool.{Bool, true, false, _||_}
 use mathlib.Core.List.{List}
 use native.Mathlib.Nat.{lt-of-le-of-lt, mul-le-mul}
 use native.Mathlib.Omega.{arith}
@@ -14,11 +14,12 @@ use lib.Ieee.Fits.{add-fits}
 use Rattle.laws.specs.Pick.{pick}
 use Rattle.laws.proofs.Cases.{true-not-false}
 use Rattle.index.specs.Bins.{finest, endBin}
-use Rattle.floats.specs.Answers.{smallerOf, largerOf}
+use Rattle.floats.specs.Answers.{isShown, smallerOf, largerOf}
 use Rattle.floats.specs.declared.Extreme.{Extreme}
 use Rattle.floats.specs.declared.Extreme.the-variants.{None, Value}
 use Rattle.points.specs.Handed.{mergeCounts}
 use Rattle.points.proofs.Kept.{merge-agrees}
+use Rattle.points.proofs.Numbers.{either-shown}
 use Rattle.exponential.specs.declared.Counts.{Counts}
 use Rattle.exponential.specs.Series.{lowestOfAll, read}
 use Rattle.exponential.proofs.Facts as Facts
@@ -28,7 +29,7 @@ use Rattle.point.specs.declared.Figures.the-variants.{Exponential, Explicit}
 use Rattle.point.specs.Handing.{Stored, countsAs, figuresFor, refusalBefore}
 use Rattle.point.specs.Inner.{isExplicit}
 use Rattle.point.proofs.Calls as calls
-use Rattle.listing.specs.Words.{isShown, figuresIn, boundsIn, extremeIn, pointIn}
+use Rattle.listing.specs.Words.{figuresIn, boundsIn, extremeIn, pointIn}
 use Rattle.listing.specs.declared.Span.{Span}
 use Rattle.listing.proofs.Back.{Narrow, Fitting, Held}
 use Rattle.pooling.proofs.Verdicts.{point}
@@ -68,20 +69,6 @@ words-read w =
     }
 
 -- ---- extremes of two
-
-abbrev either : Bool → Bool → Bool
-either true t = true
-either false t = t
-
-shown-smaller : (u v : Extreme) → isShown (smallerOf u v) ≡ either (isShown u) (isShown v)
-shown-smaller None v = refl
-shown-smaller (Value x) None = refl
-shown-smaller (Value x) (Value y) = refl
-
-shown-larger : (u v : Extreme) → isShown (largerOf u v) ≡ either (isShown u) (isShown v)
-shown-larger None v = refl
-shown-larger (Value x) None = refl
-shown-larger (Value x) (Value y) = refl
 
 fits-either : (t : Bool) (x y : Float) → fits binary64 x ≡ true → fits binary64 y ≡ true → fits binary64 (pick t x y) ≡ true
 unfolding pick
@@ -143,7 +130,7 @@ module _ (size : ℕ) (x y : Stored) (b : Span) (e : refusalBefore size x y ≡ 
       let q = y .point in
       record {
         figures = narrow (p .figures) (q .figures) refl refl;
-        both = shown-larger (p .max) (q .max) ∙ (λ i. either (r .shown i) (t .shown i)) ∙ sym (shown-smaller (p .min) (q .min));
+        both = either-shown false (p .max) (q .max) ∙ (λ i. r .shown i || t .shown i) ∙ sym (either-shown true (p .min) (q .min));
         min = fits-smaller (p .min) (q .min) (r .min) (t .min);
         max = fits-larger (p .max) (q .max) (r .max) (t .max);
         sum = is-true (fits binary64 (add binary64 (p .sum) (q .sum))) (add-fits binary64 (p .sum) (q .sum));

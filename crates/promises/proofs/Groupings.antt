@@ -19,7 +19,7 @@ use Rattle.index.specs.Bins.{finest, lowestBin}
 use Rattle.floats.specs.Starts.{FiniteF64}
 use Rattle.points.specs.Figures as F
 use Rattle.points.specs.Figures.{Kind, exponential, explicit, sizePasses, Settings, kindCounts}
-use Rattle.points.specs.Handed.{handed, mergeHanded, mergeCounts, countsAgree, extremesAgree, handedAgrees, countOf, sizeAsked, unmergeable}
+use Rattle.points.specs.Handed.{handed, mergeHanded, mergeCounts, countsAgree, shownAgrees, handedAgrees, countOf, sizeAsked, unmergeable}
 use Rattle.points.specs.Same.{resized}
 use Rattle.points.specs.Stands.{Stands}
 use Rattle.points.proofs.Figures as PF
@@ -108,7 +108,7 @@ module _ (z : Settings) (k : Configured (z .kind)) (size : ℕ) (u : Under (z .k
   agreeing : (v : List Float) (x : Stored) → For z v x → agreesRead size (handedIn x) ≡ true
   unfolding handedAgrees
   agreeing v x f =
-      ap (λ b. b && extremesAgree (x .point .min) (x .point .max)) (agrees-own (z .kind) (z .threshold) size u v (countsIn x) (f .stands .same .counts))
+      ap (λ b. b && shownAgrees (handedIn x)) (agrees-own (z .kind) (z .threshold) size u v (countsIn x) (f .stands .same .counts))
       ∙ stands-agrees z (handedIn x) v (sound (z .kind) k) (f .stands)
 
   shown : (v : List Float) (x : Stored) → For z v x → Shows (z .kind) (z .threshold) v (x .point .figures)

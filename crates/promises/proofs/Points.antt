@@ -9,9 +9,9 @@ use Rattle.mean.proofs.Rounding.{hundredths-nearest, hundredths-half}
 use Rattle.mean.proofs.Standing.{mean-stands}
 use Rattle.merging.proofs.Groups as Groups
 use Rattle.merging.proofs.Orders.{all-alike}
-use Rattle.merging.proofs.Fresh.{fresh-first, fresh-second}
+use Rattle.merging.proofs.Fresh.{empty-first, empty-second, fresh-good, fresh-first, fresh-second}
 use Rattle.pooling.proofs.Merges.{as-stored, holds}
-use Rattle.promises.specs.Points.{ExponentialRecords, ExplicitRecords, MergeAnswers, ListsMerge, AnyGrouping, EveryGrouping, FreshMerges, ListedMerge, PointMean, NearestMean, HalfMean, WholeTest}
+use Rattle.promises.specs.Points.{ExponentialRecords, ExplicitRecords, MergeAnswers, ListsMerge, AnyGrouping, EveryGrouping, EmptyMerges, FreshAgrees, FreshMerges, ListedMerge, PointMean, NearestMean, HalfMean, WholeTest}
 use Rattle.promises.proofs.Groupings.{two-lists}
 
 pub exponential-records : ExponentialRecords
@@ -32,6 +32,12 @@ any-grouping = Groups.any-grouping
 
 pub every-grouping : EveryGrouping
 every-grouping = all-alike
+
+pub empty-merges : EmptyMerges
+empty-merges size x y z us vs e = (empty-first size x y z us vs e, empty-second size x y z us vs e)
+
+pub fresh-agrees : FreshAgrees
+fresh-agrees = fresh-good
 
 pub fresh-merges : FreshMerges
 fresh-merges size s top f y z none g us vs = (fresh-first size s top f y none g z us vs, fresh-second size s top f y none g z us vs)

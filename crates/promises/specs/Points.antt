@@ -6,17 +6,17 @@ use mathlib.Core.Bool.{Bool, true}
 use mathlib.Core.List.{List, [], _++_, foldl, List·Permᴰ}
 use lib.IntN.{ℤ, pos, natAbs, _-ℤ_, _*ℤ_}
 use lib.ListN.{length, getD, drop, replicate}
-use lib.Ieee.{Float}
+use lib.Ieee.{Float, binary64, add}
 use Rattle.laws.specs.Lists.{All}
 use Rattle.laws.specs.Said.{success}
 use Rattle.laws.specs.Trees.{Tree, leaves}
 use Rattle.index.specs.Bins.{finest}
 use Rattle.floats.specs.Grid.{Whole, isWhole, Gridded}
-use Rattle.floats.specs.Starts.{FiniteF64}
+use Rattle.floats.specs.Starts.{zeroFloat, FiniteF64}
 use Rattle.points.specs.Explicit.{boundsPass, bucketCount}
 use Rattle.points.specs.Figures.{exponential, explicit, sizePasses, Settings, settingsOf}
 use Rattle.points.specs.Handed.{mergeHanded, countOf}
-use Rattle.points.specs.Same.{resized, Of, Same}
+use Rattle.points.specs.Same.{resized, withSum, Of, Same}
 use Rattle.points.specs.Stands.{Stands}
 use Rattle.laws.specs.Over.{over}
 use Rattle.exponential.specs.declared.Head as EH
@@ -90,11 +90,24 @@ EveryGrouping =
     → (t u : Tree Stored) → List·Permᴰ (leaves t) (leaves u) → All (Good size s) (leaves t) → sum (λ x. countOf (countsIn x)) (leaves t) ≤ mostCount
     → (x : Stored) × (y : Stored) × Groups size t x × Groups size u y × Same (handedIn x) (handedIn y)
 
--- "A fresh point at the greatest allowed scale changes none of these in the other", before it or after it
+-- Request L4: "Merging with such a point keeps the other's extremes", of any point of count 0, merged before another or after it
+abbrev pub EmptyMerges : Type 0
+EmptyMerges =
+    (size : ℕ) (x y z : Stored) (us vs : List ℕ) → merging size x y us vs .answer ≡ success z
+    → (countOf (countsIn x) ≡ 0 → (z .point .min ≡ y .point .min) × (z .point .max ≡ y .point .max))
+    × (countOf (countsIn y) ≡ 0 → (z .point .min ≡ x .point .min) × (z .point .max ≡ x .point .max))
+
+-- a fresh point is one that agrees, so that merges take it (`EveryGrouping`), under any max_size that passes number 1
+abbrev pub FreshAgrees : Type 0
+FreshAgrees = (size : ℕ) (s : Settings) → Configured (resized size (s .kind)) → (f : Stored) → PointOf s [] f → Good size s f
+
+-- "A fresh point at the greatest allowed scale changes none of these in the other", before it or after it: all is as it was, and the fresh point's
+-- sum, 0.0, is added to the other's once
 abbrev pub FreshMerges : Type 0
 FreshMerges =
     (size : ℕ) (s : Settings) → AtTop (s .kind) → (f y z : Stored) → PointOf s [] f → Good size s y → (us vs : List ℕ)
-    → (merging size f y us vs .answer ≡ success z → Same (handedIn z) (handedIn y)) × (merging size y f us vs .answer ≡ success z → Same (handedIn z) (handedIn y))
+    → (merging size f y us vs .answer ≡ success z → handedIn z ≡ withSum (add binary64 zeroFloat (y .point .sum)) (handedIn y))
+    × (merging size y f us vs .answer ≡ success z → handedIn z ≡ withSum (add binary64 (y .point .sum) zeroFloat) (handedIn y))
 
 -- "Sets are not compared; the result has the first's": where points lie at a and at b, and there is a place, `pooling::merge_at` answers as
 -- `point::merge` of the two points that the lists hold, refused with nothing changed; and the output then holds the merged point at the cursor,

@@ -282,7 +282,7 @@ class Maker:
     def script(self):
         calls = self.early() + self.configuration()
         if self.options.cumulative:
-            calls.append(script.Bind(self.handles[0], self.set()))
+            calls.append(script.Bind(self.handles[0], self.set()[: self.options.rules.attributes_most]))  # never refused
         lively = self.draw.random() < 0.5 or self.options.cumulative  # with bindings
         for _ in range(self.draw.choice((2, 5, 10, 20, 40, 80))):
             calls += self.step(lively)

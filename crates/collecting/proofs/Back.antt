@@ -17,11 +17,11 @@ use Rattle.directory.proofs.Rises.{In}
 use Rattle.value_map.specs.Store.{Store}
 use Rattle.value_map.specs.Calls.{Held}
 use Rattle.value_map.proofs.Owed.{was}
-use Rattle.listing.specs.Listed.{Output}
+use Rattle.listing.specs.Listed.{Output, readFrom}
 use Rattle.listing.specs.declared.Cursor.{Cursor}
 use Rattle.listing.proofs.There.{Lies}
 use Rattle.collecting.specs.Lister.{Lister}
-use Rattle.collecting.specs.Collected.{countsOf, laidOut, readFrom}
+use Rattle.collecting.specs.Collected.{countsOf, laidOut}
 use Rattle.collecting.specs.Slots.{behindAt}
 use Rattle.collecting.proofs.Owed.{Finds}
 

@@ -9,14 +9,13 @@ use Rattle.points.specs.Handed.{Handed}
 use Rattle.point.specs.Handing.{Stored, storedIn, handedIn}
 use Rattle.point.specs.declared.Point.{Point}
 use Rattle.listing.specs.Words.{wordsOf}
-use Rattle.listing.specs.Listed.{posLen, negLen, boundsAt, storedAt}
+use Rattle.listing.specs.Listed.{posLen, negLen, boundsAt, storedAt, foundAt}
 use Rattle.listing.specs.declared.Cursor.{Cursor}
 use Rattle.listing.specs.declared.Found.{Found}
 use Rattle.listing.specs.declared.Found.the-variants.{NoPoint, Is}
 use Rattle.listing.specs.declared.Span.{Span}
 use Rattle.listing.proofs.Back.{Held}
 use Rattle.listing.proofs.There.{point-there, stored-there}
-use Rattle.collecting.specs.Read.{foundAt}
 use Rattle.collecting.specs.Slots.{behindAt}
 use Rattle.collecting.proofs.Owed.{Finds}
 

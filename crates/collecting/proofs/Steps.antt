@@ -36,9 +36,9 @@ use Rattle.value_map.proofs.Cases.{lent-cells}
 use Rattle.value_map.specs.Maps.{mapOf, configOf}
 use Rattle.value_map.proofs.Steps.{Fair}
 use Rattle.value_map.proofs.Kept.{good, fair-on}
-use Rattle.listing.specs.Listed.{Output}
+use Rattle.listing.specs.Listed.{Output, readFrom}
 use Rattle.collecting.specs.Lister.{Lister}
-use Rattle.collecting.specs.Collected.{Collected, roomOf, slotsOf, dueOf, laidOut, agreeing, roomy, uncollected, collectedTo, deltaCollected, cumulativeCollected, readFrom, listedOr8, answered}
+use Rattle.collecting.specs.Collected.{Collected, roomOf, slotsOf, dueOf, laidOut, agreeing, roomy, uncollected, collectedTo, deltaCollected, cumulativeCollected, listedOr8, answered}
 use Rattle.collecting.proofs.Owed.{Listed, Lists}
 use Rattle.collecting.proofs.Back.{pointAt, reads-back}
 use Rattle.collecting.proofs.Ends.{collectedOn}

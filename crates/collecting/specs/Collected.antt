@@ -1,10 +1,10 @@
 -- What the collecting calls make of the map and of lent output: answer, state and every lent store, for any kind's store. Assumes nothing.
-use Prim.Native.Nat.{ℕ, zero, suc, min}
+use Prim.Native.Nat.{ℕ, min}
 use mathlib.Core.Bool.{Bool, true, false, not, _&&_, _||_}
 use mathlib.Core.List.{List, [], _∷_, _++_, map}
-use mathlib.Core.Option.{Option, none, some, Option·map}
+use mathlib.Core.Option.{Option, none, some}
 use lib.Dec.{leb, eqb}
-use lib.ListN.{length, getD}
+use lib.ListN.{length}
 use Rattle.laws.specs.Lists.{only}
 use Rattle.laws.specs.Over.{over}
 use Rattle.laws.specs.Pick.{pick}
@@ -13,13 +13,13 @@ use Rattle.laws.specs.Tests.{all}
 use Rattle.tally.specs.Sets.{Set}
 use Rattle.tally.specs.Kind.{Kind, Room}
 use Rattle.tally.specs.Map.{Points, Answer, refuse, listed}
-use Rattle.sets.specs.Rows.{span, setOf, rowOf}
+use Rattle.sets.specs.Rows.{span, rowOf}
 use Rattle.directory.specs.View.{setAt, agreesb, updatedIn}
 use Rattle.directory.specs.Calls.{Kept, mostSets}
 use Rattle.sweep.specs.Swept.{sweptKept}
 use Rattle.value_map.specs.Store.{Store}
 use Rattle.value_map.specs.Calls.{Held, passes, lent}
-use Rattle.listing.specs.Listed.{Output}
+use Rattle.listing.specs.Listed.{Output, readFrom}
 use Rattle.listing.specs.declared.Cursor.{Cursor}
 use Rattle.collecting.specs.Lister.{Lister}
 use Rattle.collecting.specs.declared.Answer as Declared
@@ -103,12 +103,6 @@ module _ {K : Kind} {S : Store K} (L : Lister S) (w : S .Switches) where
   -- CUMULATIVE (`LowMemory` too): the map stays
   unfoldable pub cumulativeCollected : ℕ → Held (S .Cells) → Output → Collected (S .Cells)
   cumulativeCollected limit h o = collectedTo true (h .kept) (uncollected true limit h o) h o
-
--- THE READER: n points of a list from a cursor on, each with its set, the next one at the cursor that the one before gives; none unless all n are found
-abbrev pub readFrom : {A : Type 0} → (Cursor → Output → Option (A × Cursor)) → ℕ → Cursor → Output → Option (List (Set × A))
-readFrom found zero at o = some []
-readFrom found (suc n) at o =
-    elim (found at o) [ none ↦ none | some x ↦ Option·map (λ l. (setOf (getD (o .sets) (at .place) []), x .0) ∷ l) (readFrom found n (x .1) o) ]
 
 -- the points that a collection handed out: as many as it said, from the first place on
 abbrev pub pointsOut : {A Cells : Type 0} → (Cursor → Output → Option (A × Cursor)) → Collected Cells → Option (List (Set × A))

@@ -3,25 +3,17 @@ use Prim.Native.Nat.{ℕ}
 use mathlib.Core.Path.{_≡_}
 use mathlib.Core.Bool.{Bool, true}
 use mathlib.Core.List.{List, []}
-use mathlib.Core.Option.{Option, none, some, Option·map}
+use mathlib.Core.Option.{Option·map}
 use lib.ListN.{length, getD}
 use lib.Ieee.{Float, nan, binary64, fits}
 use Rattle.kinds.specs.Histograms.{histograms}
-use Rattle.point.specs.Handing.{Stored, handedIn}
+use Rattle.point.specs.Handing.{handedIn}
 use Rattle.point.specs.declared.Point.{Point}
 use Rattle.value_map.specs.Store.{Store}
 use Rattle.listing.specs.Words.{wordsOf}
-use Rattle.listing.specs.Listed.{Output, pointAt, storedAt}
-use Rattle.listing.specs.declared.Cursor.{Cursor}
-use Rattle.listing.specs.declared.Found.the-variants.{NoPoint, Is}
+use Rattle.listing.specs.Listed.{foundAt}
 use Rattle.listing.specs.declared.Span.{Span}
 use Rattle.collecting.specs.Lister.{Lister}
-
--- as `listing::read` finds it: the point at a cursor and where the next one lies (`point_at`), its bounds (`bounds_at`, of a store beside the list)
--- and its counts (`row_at`); so it is handed to `point::merge`
-abbrev pub foundAt : List Float → Cursor → Output → Option (Stored × Cursor)
-foundAt bounds at o =
-    elim (pointAt at (o .words) (length (o .pos)) (length (o .neg))) [ NoPoint ↦ none | Is e ↦ some (storedAt at e bounds o, e .next) ]
 
 -- the bounds of every point lie at the front of the store of bounds, all of them
 abbrev pub spanOf : List Float → Span

@@ -24,11 +24,11 @@ use Rattle.value_map.proofs.Owed.{was}
 use Rattle.point.specs.Handing.{storedIn, handedIn, explicitPoint}
 use Rattle.point.specs.declared.Point.{Point}
 use Rattle.listing.specs.Words.{wordsOf}
-use Rattle.listing.specs.Listed.{boundsAt}
+use Rattle.listing.specs.Listed.{boundsAt, foundAt}
 use Rattle.listing.proofs.Back as Back
 use Rattle.listing.proofs.Given.{explicit-held}
 use Rattle.collecting.proofs.Fits.{Fitting, start-fits}
-use Rattle.collecting.specs.Read.{foundAt, spanOf, AllFit}
+use Rattle.collecting.specs.Read.{spanOf, AllFit}
 use Rattle.collecting.proofs.Owed.{Finds, Listed}
 use Rattle.collecting.proofs.Finds.{finds-stored, finds-handed}
 use Rattle.explicit_collection.specs.Points.{explicitLister}

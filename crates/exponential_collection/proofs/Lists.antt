@@ -36,7 +36,8 @@ use Rattle.point.specs.declared.Point as P
 use Rattle.listing.specs.Words.{wordsOf}
 use Rattle.listing.proofs.Back as Back
 use Rattle.listing.proofs.Given.{exponential-held}
-use Rattle.collecting.specs.Read.{foundAt, spanOf, AllFit}
+use Rattle.listing.specs.Listed.{foundAt}
+use Rattle.collecting.specs.Read.{spanOf, AllFit}
 use Rattle.collecting.proofs.Owed.{Finds, Listed, Lists}
 use Rattle.collecting.proofs.Finds.{finds-stored, finds-handed}
 use Rattle.collecting.proofs.Fits.{Fitting, start-fits, more-fits, put-fits}

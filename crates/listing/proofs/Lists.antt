@@ -9,13 +9,13 @@ use Rattle.laws.specs.Over.{over}
 use Rattle.laws.proofs.Over.{over-snoc}
 use Rattle.listing.specs.Listed.{overAt}
 
-pub over-behind-front : (a b old : List ℕ) → overAt (length a) b (over a old) ≡ over (a ++ b) old
+pub over-behind-front : {A : Type 0} (a b old : List A) → overAt (length a) b (over a old) ≡ over (a ++ b) old
 unfolding over overAt
 over-behind-front a b old =
     let r = drop (length a) old in
-    ap₂ (λ (x y : List ℕ). x ++ (b ++ drop (length b) y)) (take-append-seam a r) (drop-append-seam a r)
+    ap₂ (λ x y. x ++ (b ++ drop (length b) y)) (take-append-seam a r) (drop-append-seam a r)
     ∙ sym (append-assoc a b (drop (length b) r))
-    ∙ ap (λ (l : List ℕ). (a ++ b) ++ l) (drop-drop (length b) (length a) old)
+    ∙ ap (λ l. (a ++ b) ++ l) (drop-drop (length b) (length a) old)
     ∙ ap (λ (n : ℕ). (a ++ b) ++ drop n old) (sym (length-append a b))
 
 pub rows-snoc : {A : Type 0} (f : A → List ℕ) (l : List A) (i : A) (old : List (List ℕ)) → length l < length old

@@ -2,13 +2,16 @@
 -- docs/LIST.md tells it in words: one form for collections, merges and sheets.
 use Prim.Native.Nat.{ℕ, zero, suc, _+_, _-_}
 use mathlib.Core.Bool.{Bool, true, false, _&&_}
-use mathlib.Core.List.{List, [], _++_}
+use mathlib.Core.List.{List, [], _∷_, _++_}
+use mathlib.Core.Option.{Option, none, some, Option·map}
 use lib.Dec.{leb}
 use lib.ListN.{length, getD, set, take, drop}
 use lib.Ieee.{Float}
 use denote.Ref.{RefT, now}
 use Rattle.laws.specs.Over.{over}
 use Rattle.laws.specs.Pick.{pick}
+use Rattle.tally.specs.Sets.{Set}
+use Rattle.sets.specs.Rows.{setOf}
 use Rattle.point.specs.Handing.{Stored, storedIn}
 use Rattle.point.specs.declared.Point.{Point}
 use Rattle.point.specs.declared.Figures.{Figures}
@@ -51,7 +54,7 @@ behind at f b = record { place = at .place + 1; pos = at .pos + posLen f b; neg 
 -- ---- one point put at a cursor
 
 -- ys over the list from place a on
-unfoldable pub overAt : ℕ → List ℕ → List ℕ → List ℕ
+unfoldable pub overAt : {A : Type 0} → ℕ → List A → List A → List A
 overAt a ys xs = take a xs ++ over ys (drop a xs)
 
 -- a set's row, its point, where the point's bounds lie, and its counts, which are the first ones of two lists
@@ -92,3 +95,15 @@ boundsAt b bounds = take (b .len) (drop (b .start) bounds)
 abbrev pub storedAt : Cursor → Entry → List Float → Output → Stored
 storedAt at e bounds o =
     storedIn (e .point) (boundsAt (e .bounds) bounds) (rowAt at (e .next) false (o .pos) (o .neg)) (rowAt at (e .next) true (o .pos) (o .neg))
+
+-- as `listing::read` finds it: the point at a cursor and where the next one lies (`point_at`), its bounds (`bounds_at`, of a store beside the list)
+-- and its counts (`row_at`); so it is handed to `point::merge`
+abbrev pub foundAt : List Float → Cursor → Output → Option (Stored × Cursor)
+foundAt bounds at o =
+    elim (pointAt at (o .words) (length (o .pos)) (length (o .neg))) [ NoPoint ↦ none | Is e ↦ some (storedAt at e bounds o, e .next) ]
+
+-- THE READER: n points of a list from a cursor on, each with its set, the next one at the cursor that the one before gives; none unless all n are found
+abbrev pub readFrom : {A : Type 0} → (Cursor → Output → Option (A × Cursor)) → ℕ → Cursor → Output → Option (List (Set × A))
+readFrom found zero at o = some []
+readFrom found (suc n) at o =
+    elim (found at o) [ none ↦ none | some x ↦ Option·map (λ l. (setOf (getD (o .sets) (at .place) []), x .0) ∷ l) (readFrom found n (x .1) o) ]

@@ -1,6 +1,6 @@
 // A list of points in lent output (docs/LIST.md): for each point its set's row and twelve words, and its counts packed behind those of
 // the points before it. Collections write it, sheets copy it, and one reader reads it.
-mod decode;
+pub mod decode;
 pub mod encode;
 pub mod put;
 pub mod read;

@@ -1,5 +1,5 @@
 // Two points of lists in lent output merged into a third list (docs/LIST.md): "Sets are not compared; the result has the first's."
-mod entries;
+pub mod entries;
 mod write;
 
 ghost use mathlib.Core.Path.{_≡_};

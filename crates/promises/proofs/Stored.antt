@@ -27,11 +27,10 @@ use Rattle.sweep.specs.Swept.{sweptKept}
 use Rattle.value_map.specs.Store.{Store}
 use Rattle.value_map.specs.Calls.{Held, measured, measuredBy}
 use Rattle.value_map.proofs.Owed.{there, Owed}
-use Rattle.listing.specs.Listed.{Output}
+use Rattle.listing.specs.Listed.{Output, foundAt, readFrom}
 use Rattle.listing.specs.declared.Cursor.{Cursor}
 use Rattle.collecting.specs.Lister.{Lister}
-use Rattle.collecting.specs.Collected.{Collected, dueOf, deltaCollected, readFrom, pointsOut, listedOr8, answered}
-use Rattle.collecting.specs.Read.{foundAt}
+use Rattle.collecting.specs.Collected.{Collected, dueOf, deltaCollected, pointsOut, listedOr8, answered}
 use Rattle.collecting.proofs.Owed.{Finds, Lists}
 use Rattle.collecting.proofs.Back.{reads-back}
 use Rattle.collecting.proofs.Steps.{due-known, by-cases}

@@ -26,27 +26,31 @@ use Rattle.kinds.specs.Histograms.{histograms}
 use Rattle.value_map.specs.Store.{Store}
 use Rattle.value_map.specs.Calls.{Held}
 use Rattle.value_map.specs.Maps.{configOf}
+use Rattle.listing.specs.Listed.{foundAt}
 use Rattle.collecting.specs.Lister.{Lister}
-use Rattle.collecting.specs.Collected.{deltaCollected, pointsOut}
-use Rattle.collecting.specs.Read.{foundAt}
+use Rattle.collecting.specs.Collected.{Collected, deltaCollected, pointsOut}
 use Rattle.promises.specs.Seen.{Shows}
 use Rattle.promises.specs.Runs.{Asked, recording, recordingBy, binding, releasing, collecting, ended, EveryRun}
 
 -- ---- POINTS AS THEY LIE IN LENT OUTPUT
 
-module _ {S : Store histograms} (L : Lister S) (bounds : List Float) (w : S .Switches) (limit : ℕ) (filter : Option (List ℕ)) where
-  -- the set's points in the outputs of a run, each as its collection left it, and as it is handed to `point::merge`
-  abbrev pub storedOf : Set → Held (S .Cells) → List (Asked histograms) → List Stored
-  storedOf r h [] = []
-  storedOf r h (x ∷ xs) =
+module _ {S : Store histograms} (L : Lister S) (w : S .Switches) (limit : ℕ) (filter : Option (List ℕ)) where
+  -- a set's points in what the collections of a run left, by a reader of it
+  abbrev pub storedBy : (Collected (S .Cells) → List (Set × Stored)) → Set → Held (S .Cells) → List (Asked histograms) → List Stored
+  storedBy points r h [] = []
+  storedBy points r h (x ∷ xs) =
       elim x [
         | recording v attrs small ↦ []
         | recordingBy b v ↦ []
         | binding attrs small ↦ []
         | releasing b ↦ []
-        | collecting o ↦ ofSet r (Option·getD (pointsOut (foundAt bounds) (deltaCollected L w limit h o)) [])
+        | collecting o ↦ ofSet r (points (deltaCollected L w limit h o))
       ]
-      ++ storedOf r (ended L w limit filter h x .1) xs
+      ++ storedBy points r (ended L w limit filter h x .1) xs
+
+-- each as its collection left it, and as it is handed to `point::merge`
+abbrev pub storedOf : {S : Store histograms} → Lister S → List Float → S .Switches → ℕ → Option (List ℕ) → Set → Held (S .Cells) → List (Asked histograms) → List Stored
+storedOf L bounds w limit filter = storedBy L w limit filter (λ c. Option·getD (pointsOut (foundAt bounds) c) [])
 
 -- document 01's point of some values, which shows their scale and offsets
 abbrev pub Pointed : Settings → Stored → Type 0

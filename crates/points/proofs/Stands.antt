@@ -184,7 +184,7 @@ abbrev pub sizeOf : Kind → ℕ
 sizeOf (exponential size top) = size
 sizeOf (explicit bounds) = 0
 
-own-size : (k : Kind) → resized (sizeOf k) k ≡ k
+pub own-size : (k : Kind) → resized (sizeOf k) k ≡ k
 own-size (exponential size top) = refl
 own-size (explicit bounds) = refl
 

@@ -103,6 +103,7 @@ abbrev pub countsAgree : ℕ → ℕ → ℕ → Counts → Bool
 countsAgree size top low (exponentialCounts p) = agrees size top low p
 countsAgree size top low (explicitCounts b p) = bucketsAgree b p
 
+-- by the switch and the count
 abbrev pub shownAgrees : Handed → Bool
 shownAgrees p = extremesAgree (shows (p .extremes) (countOf (p .counts))) (p .min) (p .max)
 

@@ -23,7 +23,7 @@ use Rattle.points.specs.Handed.{handed, mergeHanded, mergeCounts, countsAgree, 
 use Rattle.points.specs.Same.{resized}
 use Rattle.points.specs.Stands.{Stands}
 use Rattle.points.proofs.Figures as PF
-use Rattle.points.proofs.Stands.{sizeOf, Allows, handed-stands, stands-order, stands-join, stands-agrees, stands-mergeable}
+use Rattle.points.proofs.Stands.{sizeOf, Allows, handed-stands, stands-order, stands-join, stands-agrees, stands-mergeable, own-size}
 use Rattle.point.specs.declared.Figures.{Figures}
 use Rattle.point.specs.declared.Figures.the-variants.{Exponential, Explicit}
 use Rattle.point.specs.Handing.{Stored, handedIn, countsAs, countsIn, inShape, refusalBefore}
@@ -66,10 +66,6 @@ refusal-number {A} n m e = ap of e
 -- ---- the size of a merge, where it is the configured one or none is asked
 abbrev Under : Kind → ℕ → Type 0
 Under k size = resized size k ≡ k
-
-own-size : (k : Kind) → Under k (sizeOf k)
-own-size (exponential m top) = refl
-own-size (explicit bounds) = refl
 
 same-size : (m top size : ℕ) → Under (exponential m top) size → size ≡ m
 same-size m top size u = ap sizeOf u

@@ -1,0 +1,14 @@
+-- `records::words::word_at` meets its contract. Assumes nothing.
+use Rattle.records.specs.Words.{wordAt}
+use borrow.Author.Needs.{needs}
+use Rattle.records.proofs.words.word_at.Statement.{statement}
+use Rattle.records.proofs.words.word_at.Tie as tie
+
+returns : tie.Need-returns
+unfolding wordAt
+returns c = search needs
+
+pub word-at-spec : {M : Type 1} → statement M
+word-at-spec =
+    tie.close
+    (tie.spec (λ c κs. search needs) (λ c. search needs) (λ c κs. search needs) (λ c. search needs) (λ c. search needs) returns)

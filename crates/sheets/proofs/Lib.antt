@@ -1,0 +1,20 @@
+-- The laws of `sheets`.
+pub mod Good
+pub mod SameLists
+pub mod SetLaws
+pub mod EntryParts
+pub mod PointLaws
+pub mod Entry
+pub mod Lengths
+pub mod Cuts
+pub mod Accepts
+pub mod Passes
+pub mod Sheets
+pub mod Back
+pub mod Holds
+pub mod Taken
+pub mod LaidBack
+pub mod Longer
+pub mod LaidLent
+pub mod Example
+pub mod Room

@@ -15,3 +15,4 @@ pub mod Promises
 pub mod Example
 pub mod SinglesExample
 pub mod Zeros
+pub mod Sheets

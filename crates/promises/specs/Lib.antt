@@ -4,3 +4,4 @@ pub mod Seen
 pub mod Pooled
 pub mod Points
 pub mod Promises
+pub mod Sheets

@@ -1,0 +1,2 @@
+-- Laws that the proofs of sheet_exports cite.
+pub mod Handed

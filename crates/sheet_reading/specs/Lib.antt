@@ -1,0 +1,3 @@
+-- The definitions that the contracts and laws of `sheet_reading` cite.
+pub mod Reading
+pub mod Inner

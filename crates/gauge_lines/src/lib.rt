@@ -1,10 +1,10 @@
 // The gauge's lines followed, from the input's first to its last: configuring (`e`), recording (`r`), collecting (`c`).
 //
 // A library, so that programs that read the same lines share it; crates/gauge/src/main.rt has the language. The stores are locals of `run`.
-mod calls;
-mod cells;
+pub mod calls;
+pub mod cells;
 mod collect;
-mod fields;
+pub mod fields;
 
 ghost use mathlib.Core.Path.{_≡_};
 ghost use mathlib.Core.List.{[]};

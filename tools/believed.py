@@ -20,14 +20,16 @@ point lib merge
 point signed scale offset sum_bits
 mean lib hundredths
 pooling lib merge_at
+sheet_writing lib write
+sheet_reading lib read
 listing read point_at row_at bounds_at
 clock lib after_delta at_cumulative turn held
 index lib get_bin
 index signed get_index"""
 # the files in which theorems are stated
-THEOREMS = [("promises", "specs.Promises"), ("promises", "specs.Points"), ("marks", "specs.Marks")]
+THEOREMS = [("promises", "specs.Promises"), ("promises", "specs.Points"), ("promises", "specs.Sheets"), ("marks", "specs.Marks")]
 # what the theorems of `promises` and the contracts share: proved on both sides, so who reads the theorems may pass over what they are made of
-LINKS = "measured measuredBy bound released deltaCollected cumulativeCollected started configured merging meanIn pointAt recording".split()
+LINKS = "measured measuredBy bound released deltaCollected cumulativeCollected started configured merging meanIn pointAt recording writing reading".split()
 KINDS = ["calls", "theorems", "inner", "proofs", "unused"]
 TOKEN = re.compile(r"[^\s(){}\[\],;λ⌜⌝\"]+")
 HEAD = re.compile(r" *(?:(?:abbrev|unfoldable) )?(?:pub )?(?:(record|data) )?(\S+)(?: \{.*\})?(?: \(.*\))* :(?: |$)")

@@ -1,7 +1,7 @@
 //! The cases: what is measured, and how many operations a round has.
 
 use crate::inputs::{first, grid, last, unlike, Input, ROWS, VALUES};
-use crate::{lowering, ours, rust};
+use crate::{lowering, ours, rust, sheets};
 
 /// One side of a case. `prepare` is not measured.
 pub struct Side {
@@ -94,6 +94,10 @@ pub fn all() -> Vec<Case> {
         plain("rescaling, 2 levels, plain form", 2),
         plain("rescaling, 5 levels, plain form", 5),
         plain("rescaling, 20 levels, plain form", 20),
+        sheet("sheet, exponential points, written", false, sheets::write),
+        sheet("sheet, exponential points, read", false, sheets::read),
+        sheet("sheet, explicit points, written", true, sheets::write),
+        sheet("sheet, explicit points, read", true, sheets::read),
     ]);
     cases
 }
@@ -114,6 +118,16 @@ fn plain(name: &'static str, levels: u32) -> Case {
         operations: ROWS,
         rust: None,
         ours: Box::new(move || lowering::halves(levels)),
+    }
+}
+
+/// A byte is an operation. The Rust has no sheets.
+fn sheet(name: &'static str, explicit: bool, side: fn(bool) -> Side) -> Case {
+    Case {
+        name,
+        operations: if explicit { sheets::EXPLICIT_BYTES } else { sheets::EXPONENTIAL_BYTES },
+        rust: None,
+        ours: Box::new(move || side(explicit)),
     }
 }
 

@@ -15,6 +15,7 @@ mod inputs;
 mod lowering;
 mod ours;
 mod rust;
+mod sheets;
 mod sum_map;
 
 use std::time::Instant;

@@ -88,6 +88,5 @@ lawful =
       agrees = agreeing;
       total = λ z x vs h. omega (arith, ap (λ y. countOf (y .counts)) (h .figures), count-is (z .kind) (z .threshold) vs);
       allows = λ z x vs v h f. refl;
-      barred = λ z x vs v h f n. true-not-false n;
       point = pointed;
     }

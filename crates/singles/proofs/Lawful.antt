@@ -53,7 +53,6 @@ module _ (a : Aggregation) where
         agrees = λ z x vs h. h .held;
         total = λ z x vs h. omega arith;
         allows = λ z x vs v h f. refl;
-        barred = λ z x vs v h f b. true-not-false b;
         point = λ z x vs h. ap bitsOf (h .is);
       }
 

@@ -18,9 +18,6 @@ pub record Lawful (K : Kind) : Type 1 where
   pub total : (z : K .Settings) (x : K .Series) (vs : List (K .Value)) → Has z x vs → K .total x ≤ length vs
   pub allows : (z : K .Settings) (x : K .Series) (vs : List (K .Value)) (v : K .Value) → Has z x vs → K .finite v ≡ true
       → K .allows z x v ≡ K .allowed z vs v
-  -- a value that some series refuses with 16, an empty one refuses: else overflow's series could refuse a value that the tally of its own set takes
-  pub barred : (z : K .Settings) (x : K .Series) (vs : List (K .Value)) (v : K .Value) → Has z x vs → K .finite v ≡ true
-      → K .allows z x v ≡ false → K .allowed z [] v ≡ false
   pub point : (z : K .Settings) (x : K .Series) (vs : List (K .Value)) → Has z x vs → K .point z x ≡ K .pointOf z vs
 
 -- what is asked of merging: the premise is one on the values as a bag, with its parts; a point handed out stands for its values; and

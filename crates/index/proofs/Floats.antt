@@ -24,7 +24,7 @@ pub record Is (x : Float) (s : Bool) (a : ℕ) : Type 0 where
   pub size : magnitude x ≡ a
 
 -- a units of 2 ^ -1074 are a * 2 ^ 974 of 2 ^ -2048
-in-units : (x : Float) (s : Bool) (a : ℕ) → HasValue x s a (2 ^ 1074) → Is x s (a * 2 ^ 974)
+pub in-units : (x : Float) (s : Bool) (a : ℕ) → HasValue x s a (2 ^ 1074) → Is x s (a * 2 ^ 974)
 unfolding magnitude
 in-units nan s a h = absurd h
 in-units (inf t) s a h = absurd h

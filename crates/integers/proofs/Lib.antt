@@ -1,0 +1,7 @@
+pub mod Range
+pub mod Closest
+pub mod Rounded
+pub mod NoNearer
+pub mod Class
+pub mod Order
+pub mod Totals

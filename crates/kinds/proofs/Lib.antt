@@ -1,5 +1,9 @@
+pub mod AnyRecorded
+pub mod AnyMerges
 pub mod Recorded
 pub mod Merges
 pub mod Steady
+pub mod Wholes
+pub mod WholeExample
 pub mod Example
 pub mod Exponential

@@ -1,28 +1,24 @@
--- Points of the histogram kinds merge, wherever there is room, to the point of the lists joined. Assumes nothing.
-use Prim.Native.Nat.{ℕ, _+_, _^_, _<_}
+-- Points of the histogram kinds over f64 merge, wherever there is room, to the point of the lists joined. Assumes nothing.
+use Prim.Native.Nat.{ℕ}
 use mathlib.Core.Path.{_≡_, refl}
-use mathlib.Core.Bool.{true}
-use mathlib.Core.List.{List, _++_}
+use mathlib.Core.Bool.{Bool, true}
 use mathlib.Core.Logic.{_⊎_, inl}
-use native.Mathlib.Omega.{arith}
-use lib.Dec.{leb, eqb}
-use lib.ListN.{length, length-append}
-use lib.Ieee.{Float}
-use borrow.Author.Tests.{le-leb}
+use lib.Dec.{eqb}
 use Rattle.laws.specs.Pick.{pick}
-use Rattle.laws.specs.Counting.{mostCount}
-use Rattle.laws.proofs.Cases.{and-true}
-use Rattle.index.specs.Bins.{finest}
-use Rattle.points.specs.Figures.{Kind, exponential, explicit, sizePasses, Settings, kindCounts}
-use Rattle.points.specs.Handed.{Handed, mergeHanded, sizeAsked, unmergeable}
+use Rattle.points.specs.Handed as H
+use Rattle.points.specs.Handed.{Handed, handed, mergeHanded, handedAgrees, unmergeable}
 use Rattle.points.specs.Stands.{Stands}
-use Rattle.points.proofs.Figures.{count-is}
-use Rattle.points.proofs.Stands.{sizeOf, handed-stands, stands-order, stands-merge, stands-agrees, stands-mergeable}
+use Rattle.points.specs.Any as Any
+use Rattle.points.specs.Real.{real}
+use Rattle.points.proofs.Real.{owed}
+use Rattle.points.proofs.Stands.{sizeOf}
 use Rattle.tally.specs.Kind.{Room}
 use Rattle.tally.proofs.Faithful.{Merging, fitting}
 use Rattle.tally.proofs.Lawful.{Mergeable}
 use Rattle.kinds.specs.Histograms.{passes, histograms}
-use Rattle.kinds.proofs.Recorded.{all-f64, sound-kind}
+use Rattle.kinds.proofs.Recorded.{point-is}
+use Rattle.kinds.proofs.AnyMerges as A
+use Rattle.kinds.proofs.AnyMerges.{Forms}
 
 -- two points merged under a max_size into lent output: a refusal's number, or the merged point
 unfoldable pub merged : ℕ → Handed → Handed → Room → ℕ ⊎ Handed
@@ -36,43 +32,17 @@ merging =
       merge = λ z. merged (sizeOf (z .kind));
     }
 
--- ---- no refusal but 10
-sized : (k : Kind) (t : Float) (vs ws : List Float) → passes k ≡ true → sizeAsked (sizeOf k) (kindCounts k t vs) (kindCounts k t ws) ≡ true
-sized (exponential size top) t vs ws e = and-true (sizePasses size) (leb top finest) e .0
-sized (explicit bounds) t vs ws e = refl
+merge-is : (size : ℕ) (p q : Handed) → mergeHanded size p q ≡ Any.mergeHanded real size p q
+unfolding mergeHanded
+merge-is size p q = refl
 
-unrefused : (z : Settings) (p q : Handed) (vs ws : List Float) → passes (z .kind) ≡ true → length (vs ++ ws) < 2 ^ 64 → Stands z p vs → Stands z q ws
-    → unmergeable (sizeOf (z .kind)) true p q ≡ 0
-unfolding unmergeable pick
-unrefused z p q vs ws e l h k =
-    let s = sound-kind (z .kind) e in
-    let n : leb (length vs + length ws) mostCount ≡ true = le-leb (length vs + length ws) mostCount (omega (arith, l, length-append vs ws)) in
-    rw (
-      stands-agrees z p vs s h,
-      stands-agrees z q ws s k,
-      stands-mergeable z p q vs ws s h k,
-      h .same .counts,
-      k .same .counts,
-      sized (z .kind) (z .threshold) vs ws e,
-      count-is (z .kind) (z .threshold) vs,
-      count-is (z .kind) (z .threshold) ws,
-      n,
-    )
+number-is : (size : ℕ) (there : Bool) (p q : Handed) → unmergeable size there p q ≡ Any.unmergeable real size there p q
+unfolding unmergeable H.mergeable handedAgrees
+number-is size there p q = refl
 
-accepted : (size : ℕ) (p q : Handed) (room : Room) → unmergeable size true p q ≡ 0 → merged size p q room ≡ fitting histograms (mergeHanded size p q) room
-unfolding merged pick
-accepted size p q room e = rw e
+abbrev forms : Forms real
+forms = record { pointOf = handed; point-is = point-is; merge = mergeHanded; merge-is = merge-is; number = unmergeable; number-is = number-is }
 
 pub mergeable : Mergeable histograms merging
-mergeable =
-    record {
-      parts = λ vs ws w. (tt, tt);
-      shuffled = λ vs ws h w. tt;
-      handed = λ z vs ok f l w. (ok, handed-stands z vs (all-f64 vs f));
-      order = λ z p vs ws h s. (s .0, stands-order z p h (s .1));
-      join = λ z p q vs ws f l w s r. (
-        mergeHanded (sizeOf (z .kind)) p q,
-        (s .0, stands-merge z p q vs ws (s .1) (r .1)),
-        λ room. accepted (sizeOf (z .kind)) p q room (unrefused z p q vs ws (s .0) l (s .1) (r .1)),
-      );
-    }
+unfolding merged
+mergeable = A.mergeable-is real owed forms

@@ -1,4 +1,4 @@
--- Agreement is kept: by a series that gets a value, and by two points that merge. Assumes nothing.
+-- Agreement is kept by two points that merge. Assumes nothing.
 use Prim.Native.Nat.{ℕ, _+_}
 use mathlib.Core.Path.{_≡_, sym, subst}
 use mathlib.Core.List.{[]}
@@ -27,42 +27,10 @@ use Rattle.points.proofs.Explicit.{buckets-say, buckets-agree, record-buckets-o
 use Rattle.points.proofs.Bounds.{same-count}
 use Rattle.points.proofs.Figures.{kind-one, merged-count}
 use Rattle.points.proofs.Numbers.{nearer, due-nearer}
-use Rattle.tally.proofs.Sound.{Steady}
-use Rattle.kinds.specs.Histograms.{passes, countsHold, histograms}
-use Rattle.kinds.proofs.Recorded.{f64, sound-kind, lawful}
+pub use Rattle.kinds.proofs.Recorded.{histograms-steady}
 
 abbrev low : ℕ
 low = lowestBin finest
-
--- ---- A SERIES THAT AGREES STAYS AGREEING
-counts-kept : (k : Kind) (t : Float) (c : Counts) (v : Float) → passes k ≡ true → FiniteF64 v → countsHold k c ≡ true → countsHold k (recordCounts k t c v) ≡ true
-counts-kept (exponential size top) t (exponentialCounts p) v e f h =
-    agreed-agrees size top low (record1 size p (classOf t v))
-    (record-agrees size size top low p (classOf t v) (sound-kind (exponential size top) e) (agrees-says size top low p h) (class-in t v f))
-counts-kept (exponential size top) t (explicitCounts b p) v e f h = h
-counts-kept (explicit bounds) t (exponentialCounts p) v e f h = h
-counts-kept (explicit bounds) t (explicitCounts b p) v e f h =
-    buckets-agree bounds (recordBucket bounds p v) (record-buckets-ok bounds p v (buckets-say bounds p h))
-
--- below size 3 a recording need not fit even at scale -10: hence `valid`
-pub stays-agreeing : (z : Settings) (x : Figures) (v : Float) → histograms .valid z ≡ true → histograms .finite v ≡ true
-    → histograms .agrees z x ≡ true → histograms .agrees z (recordFigures z x v) ≡ true
-stays-agreeing z x v e f h =
-    let a = and-true (countsHold (z .kind) (x .counts)) (finite (x .summary .min) && finite (x .summary .max)) h in
-    let b = and-true (finite (x .summary .min)) (finite (x .summary .max)) (a .1) in
-    let k = and-true (finite v) (fits binary64 v) f .0 in
-    and-intro (countsHold (z .kind) (recordCounts (z .kind) (z .threshold) (x .counts) v)) (finite (lesserOf (x .summary .min) v) && finite (greaterOf (x .summary .max) v))
-    (counts-kept (z .kind) (z .threshold) (x .counts) v e (f64 v f) (a .0))
-    (and-intro (finite (lesserOf (x .summary .min) v)) (finite (greaterOf (x .summary .max) v))
-    (finite-chosen true (x .summary .min) v (b .0) k) (finite-chosen false (x .summary .max) v (b .1) k))
-
--- the empty series agrees too: so number 8 never comes up of a map in which each series agrees
-pub histograms-steady : Steady histograms
-histograms-steady =
-    record {
-      fresh = λ z ok. lawful .agrees z (histograms .fresh z) [] (lawful .fresh z ok);
-      add = λ z x v ok f h. stays-agreeing z x v ok f h;
-    }
 
 -- ---- POINTS THAT AGREE AND MERGE MAKE ONE THAT AGREES
 counts-merged : (size : ℕ) (c d : Counts) → sizeAsked size c d ≡ true → sameKind c d ≡ true

@@ -1,1 +1,3 @@
+pub mod Any
 pub mod Histograms
+pub mod Wholes

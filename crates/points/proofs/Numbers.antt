@@ -101,7 +101,7 @@ nearer-cong up (Value x) (Value y) (Value z) None h k = absurd k
 nearer-cong true (Value x) (Value y) (Value z) (Value w) h k = number-chosen true x y z w h k
 nearer-cong false (Value x) (Value y) (Value z) (Value w) h k = number-chosen false x y z w h k
 
-nearer-shown : (up due : Bool) (x y : Float) → nearer up (shownIf due x) (shownIf due y) ≡ shownIf due (chosen up x y)
+pub nearer-shown : (up due : Bool) (x y : Float) → nearer up (shownIf due x) (shownIf due y) ≡ shownIf due (chosen up x y)
 unfolding pick
 nearer-shown true true x y = refl
 nearer-shown true false x y = refl
@@ -119,15 +119,15 @@ nearer-none false None = (refl, refl)
 nearer-none false (Value x) = (refl, refl)
 
 -- ---- a finite f64, if it is there
-abbrev Numeric : Extreme → Type 0
+abbrev pub Numeric : Extreme → Type 0
 Numeric None = Unit {0}
 Numeric (Value x) = FiniteF64 x
 
-numeric-self : (a : Extreme) → Numeric a → SameExtreme a a
+pub numeric-self : (a : Extreme) → Numeric a → SameExtreme a a
 numeric-self None p = tt
 numeric-self (Value x) p = number-refl x p
 
-numeric-nearer : (up : Bool) (a b : Extreme) → Numeric a → Numeric b → Numeric (nearer up a b)
+pub numeric-nearer : (up : Bool) (a b : Extreme) → Numeric a → Numeric b → Numeric (nearer up a b)
 numeric-nearer true None b p q = q
 numeric-nearer false None b p q = q
 numeric-nearer true (Value x) None p q = p
@@ -135,13 +135,13 @@ numeric-nearer false (Value x) None p q = p
 numeric-nearer true (Value x) (Value y) p q = chosen-finite true x y p q
 numeric-nearer false (Value x) (Value y) p q = chosen-finite false x y p q
 
-numeric-comm : (up : Bool) (a b : Extreme) → Numeric a → Numeric b → SameExtreme (nearer up a b) (nearer up b a)
+pub numeric-comm : (up : Bool) (a b : Extreme) → Numeric a → Numeric b → SameExtreme (nearer up a b) (nearer up b a)
 numeric-comm up None b p q = rw (nearer-none up b .0, nearer-none up b .1) (numeric-self b q)
 numeric-comm up (Value x) None p q = rw (nearer-none up (Value x) .0, nearer-none up (Value x) .1) (number-refl x p)
 numeric-comm true (Value x) (Value y) p q = number-turned true x y p q
 numeric-comm false (Value x) (Value y) p q = number-turned false x y p q
 
-numeric-assoc : (up : Bool) (a b c : Extreme) → Numeric a → Numeric b → Numeric c → nearer up (nearer up a b) c ≡ nearer up a (nearer up b c)
+pub numeric-assoc : (up : Bool) (a b c : Extreme) → Numeric a → Numeric b → Numeric c → nearer up (nearer up a b) c ≡ nearer up a (nearer up b c)
 numeric-assoc true None b c p q r = refl
 numeric-assoc false None b c p q r = refl
 numeric-assoc true (Value x) None c p q r = refl

@@ -189,7 +189,8 @@ fn count_in(bounds: &[f64], counts: &mut [u64], v: f64)
     counts[k] += 1;
 }
 
-fn refusal(bounds: &[f64], head: Head, counts: &[u64], v: f64) -> u8
+// The number with which a recording is refused, 0 if none.
+pub fn refusal(bounds: &[f64], head: Head, counts: &[u64], v: f64) -> u8
     ensures { λ r. ⌜ r ≡ refusalOf (now (bounds .entry)) head (now (counts .entry)) v ⌝ }
 {
     if counts.len() < bucket_count(bounds) {

@@ -256,7 +256,8 @@ pub enum Class {
 
 // ---- the call
 
-fn refusal(size: u32, top: u32, head: Head, pos: &[u64], neg: &[u64], v: f64) -> u8
+// The number with which a recording is refused, 0 if none.
+pub fn refusal(size: u32, top: u32, head: Head, pos: &[u64], neg: &[u64], v: f64) -> u8
     ensures { λ r. ⌜ r ≡ refusalOf size top head (now (pos .entry)) (now (neg .entry)) v ⌝ }
 {
     let n = size as usize;

@@ -207,7 +207,8 @@ fn counts_fit(f: Figures, g: Figures) -> bool
     y <= u64::MAX - x
 }
 
-fn refusal(
+// The number with which a merge is refused but for 10, 0 if none.
+pub fn refusal(
     size: u32,
     a: Point,
     abounds: &[f64],

@@ -89,7 +89,7 @@ module _ (size x : ℕ) (s : Cells) (p : Point) (m : Summary) (xs ys : List ℕ)
       }
 
 -- the words of a point that agrees read as that point
-counts-of : (size top : ℕ) (p : Point) (xs ys : List ℕ) → Agreed size top lowestOfAll p → p .total ≤ mostCount
+pub counts-of : (size top : ℕ) (p : Point) (xs ys : List ℕ) → Agreed size top lowestOfAll p → p .total ≤ mostCount
     → read (countsFor p) (over (p .pos .counts) xs) (over (p .neg .counts) ys) ≡ p
     → countsAt size (wordsOf (countsFor p)) (over (p .pos .counts) xs) (over (p .neg .counts) ys) ≡ exponentialCounts p
 counts-of size top p xs ys k n e =

@@ -77,7 +77,7 @@ pub fn head_of(top: u32, updated: bool, f: [u64; 8], m: [f64; 3]) -> Head
 }
 
 // The words of counts; the last is spare.
-fn words_of(c: Counts) -> [u64; 8]
+pub fn words_of(c: Counts) -> [u64; 8]
     ensures { λ r. ⌜ r ≡ wordsOf c ⌝ }
 {
     let p = c.pos;

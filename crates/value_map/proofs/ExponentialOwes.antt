@@ -42,7 +42,7 @@ module _ (size top : ℕ) where
     unfolding unset pick
     unset-0 h = rw (e, le-leb top finest h)
 
-  unset-valid : unset size top ≡ 0 → Kinds.passes (exponential size top) ≡ true
+  pub unset-valid : unset size top ≡ 0 → Kinds.passes (exponential size top) ≡ true
   unfolding unset
   unset-valid e =
       let b = leb top finest in

@@ -1,0 +1,2 @@
+pub mod ExponentialOwes
+pub mod ExplicitOwes

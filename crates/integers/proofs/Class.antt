@@ -1,38 +1,24 @@
--- Sign and magnitude of the f64 nearest to a whole number: the sign is the number's, only 0 gives a zero, and up to 2 ^ 53 nothing is rounded.
--- Assumes nothing.
+-- The magnitude of the f64 nearest to a whole number: only 0 gives a zero, and below 2 ^ 53 nothing is rounded. Assumes nothing.
 use mathlib.Core.Path.{_≡_, refl, sym, ap, subst, _∙_}
-use mathlib.Core.Logic.{_⊎_, inl, inr}
+use mathlib.Core.Logic.{inl, inr}
 use mathlib.Core.Bool.{Bool, true, false}
 use Prim.Native.Nat.{ℕ, zero, suc, _+_, _*_, _/_, _^_, _≤_, _<_}
-use native.Mathlib.Nat.{le-trans, lt-of-lt-of-le, lt-of-le-of-lt, add-comm, mul-assoc, mul-one, mul-pos, mul-right-comm, mul-div-cancel, zero-lt-suc}
+use native.Mathlib.Nat.{lt-of-lt-of-le, lt-of-le-of-lt, add-comm, mul-one, mul-pos, mul-right-comm, mul-div-cancel, zero-lt-suc}
 use native.Mathlib.Omega.{arith}
 use lib.Dec.{lit≤, lit<}
 use lib.IntN.{ℤ, pos, negsuc, natAbs}
 use lib.Signed.{mag}
-use lib.Pow.{pow-add, pow-pos, pow-mono, shl-lt}
-use lib.Ieee.{Float, nan, inf, fin, binary64, prec, low, emax, up, down, round, ofInt}
+use lib.Pow.{pow-pos, pow-mono, shl-lt}
+use lib.Ieee.{Float, nan, inf, fin, binary64, up, down, round, ofInt}
 use lib.Ieee.Fits.{down-pos}
 use lib.Ieee.Exact.{HasValue, round-exact}
-use Rattle.index.specs.Magnitude.{magnitude, isNegative}
+use Rattle.index.specs.Magnitude.{magnitude}
 use Rattle.index.proofs.Floats.{in-units}
 use Rattle.integers.specs.Answers.{nearestOf}
 use Rattle.integers.proofs.Rounded.{Kept, rounded}
 
-abbrev pub negative : ℤ → Bool
-negative (pos n) = false
-negative (negsuc n) = true
-
-sign-of : (s : Bool) (n : ℕ) (x : Float) → Kept s n x → isNegative x ≡ s
-sign-of s n x c = in-units x s (c .q * 2 ^ c .k) (c .value) .sign
-
 size-of : (s : Bool) (n : ℕ) (x : Float) (c : Kept s n x) → magnitude x ≡ c .q * 2 ^ c .k * 2 ^ 974
 size-of s n x c = in-units x s (c .q * 2 ^ c .k) (c .value) .size
-
--- ---- THE SIGN
-pub near-sign : (z : ℤ) → mag z < 2 ^ 63 → isNegative (nearestOf z) ≡ negative z
-unfolding ofInt
-near-sign (pos n) h = sign-of false n (round binary64 false n 1) (rounded n (lt-of-lt-of-le h (lit≤ tt)) false)
-near-sign (negsuc n) h = sign-of true (suc n) (round binary64 true (suc n) 1) (rounded (suc n) (lt-of-le-of-lt h (lit< tt)) true)
 
 -- ---- ONLY 0 GIVES A ZERO
 some : (a b c : ℕ) → 0 < a → 0 < b → 0 < c → a * b * c ≡ 0 → ⊥
@@ -62,7 +48,7 @@ near-zero (pos (suc n)) h e =
 near-zero (negsuc n) h e =
     absurd (not-zero true (suc n) (round binary64 true (suc n) 1) (zero-lt-suc n) (rounded (suc n) (lt-of-le-of-lt h (lit< tt)) true) e)
 
--- ---- UP TO 2 ^ 53 NOTHING IS ROUNDED: the magnitude, in units of 2 ^ -2048, is the number's
+-- ---- BELOW 2 ^ 53 NOTHING IS ROUNDED: the magnitude, in units of 2 ^ -2048, is the number's
 whole-size : (x : Float) (s : Bool) (n : ℕ) → HasValue x s n 1 → magnitude x ≡ n * 2 ^ 2048
 unfolding magnitude
 whole-size nan s n h = absurd h

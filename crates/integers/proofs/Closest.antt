@@ -1,10 +1,10 @@
 -- A fraction rounded to the nearest whole number, a tie to the even one: no whole number lies nearer, and where another lies as near it is
--- even. Over whole numbers only. Assumes nothing.
+-- even and the other odd. Over whole numbers only. Assumes nothing.
 use mathlib.Core.Path.{_≡_, refl, sym, ap, _∙_, subst}
 use mathlib.Core.Logic.{_⊎_, inl, inr}
 use mathlib.Core.Bool.{not}
 use Prim.Native.Nat.{ℕ, zero, suc, _+_, _-_, _*_, _/_, _%_, _≤_, _<_, compare, Ordering, Ordering·lt, Ordering·eq, Ordering·gt}
-use native.Mathlib.Nat.{le-trans, le-of-eq, add-mul, one-mul, zero-mul, mul-le-mul-right, div-add-mod', mod-lt}
+use native.Mathlib.Nat.{le-trans, le-of-eq, add-mul, one-mul, mul-le-mul-right, eq-of-mul-eq-mul-right, div-add-mod', mod-lt}
 use native.Mathlib.Omega.{arith}
 use lib.Dec.{T, isLe, isEq, eqb, leb→le, nleb→lt, eqb→eq, eqb-refl}
 use lib.Arith.{lt-of-le-ne}
@@ -30,48 +30,41 @@ cmp a b = go (compare a b) (leb→le a b) (nleb→lt a b) (eqb→eq a b) (λ (e 
 abbrev pub apart : ℕ → ℕ → ℕ
 apart a b = (a - b) + (b - a)
 
--- q, whose multiple Q is p off a, against the multiple P of another
-pub record Close (a Q P q : ℕ) : Type 0 where
+-- the multiple Q of q against the multiple P of p: no further off a, and if as far then they are one or q is even and p odd
+pub record Close (a Q P q p : ℕ) : Type 0 where
   pub least : apart Q a ≤ apart P a
-  pub tie : apart P a ≡ apart Q a → (P ≡ Q) ⊎ (q % 2 ≡ 0)
+  pub tie : apart P a ≡ apart Q a → (P ≡ Q) ⊎ ((q % 2 ≡ 0) × (p % 2 ≡ 1))
+
+even : (w : ℕ) → (w + w % 2) % 2 ≡ 0
+even w = omega arith
+
+after-even : (w p : ℕ) → w % 2 ≡ 0 → p ≡ suc w → p % 2 ≡ 1
+after-even w p v e = omega arith
 
 -- the multiples of u: W that of the whole part w, with r left over
-module _ (a u r w W P : ℕ) (e : W + r ≡ a) (l : r < u) (s : (P ≤ W) ⊎ (W + u ≤ P)) where
-  down : r * 2 < u → Close a W P w
+module _ (a u r w W P p : ℕ) (e : W + r ≡ a) (l : r < u) (s : (P ≤ W) ⊎ (W + u ≤ P)) where
+  down : r * 2 < u → Close a W P w p
   down h = record {
     least = elim s [ inl k ↦ omega arith | inr k ↦ omega arith ];
     tie = λ t. inl (elim s [ inl k ↦ omega arith | inr k ↦ omega arith ]);
   }
 
-  up : u < r * 2 → Close a (W + u) P (suc w)
+  up : u < r * 2 → Close a (W + u) P (suc w) p
   up h = record {
     least = elim s [ inl k ↦ omega arith | inr k ↦ omega arith ];
     tie = λ t. inl (elim s [ inl k ↦ omega arith | inr k ↦ omega arith ]);
   }
 
-  half : r * 2 ≡ u → (R : ℕ) → (R ≡ W) ⊎ (R ≡ W + u) → (w + w % 2) % 2 ≡ 0 → Close a R P (w + w % 2)
-  half h R d v = record {
-    least = elim d [ inl g ↦ elim s [ inl k ↦ omega arith | inr k ↦ omega arith ] | inr g ↦ elim s [ inl k ↦ omega arith | inr k ↦ omega arith ] ];
-    tie = λ t. inr v;
+  -- a half: to w where that is even, otherwise to the next
+  half : r * 2 ≡ u → (P ≡ W → p ≡ w) → (P ≡ W + u → p ≡ suc w) → (R : ℕ) → ((w % 2 ≡ 0) × (R ≡ W)) ⊎ ((w % 2 ≡ 1) × (R ≡ W + u)) → Close a R P (w + w % 2) p
+  half h i j R (inl (v, g)) = record {
+    least = elim s [ inl k ↦ omega arith | inr k ↦ omega arith ];
+    tie = λ t. elim s [ inl k ↦ inl (omega arith) | inr k ↦ inr (even w, after-even w p v (j (omega arith))) ];
   }
-
-even : (w : ℕ) → (w + w % 2) % 2 ≡ 0
-even w = omega arith
-
--- w + w % 2 is w or w + 1
-either : (w u : ℕ) → ((w + w % 2) * u ≡ w * u) ⊎ ((w + w % 2) * u ≡ w * u + u)
-either w u = go (w % 2) refl
-  where
-    two : (n : ℕ) → suc (suc n) ≡ w % 2 → ⊥
-    two n e = omega arith
-
-    go : (b : ℕ) → b ≡ w % 2 → ((w + b) * u ≡ w * u) ⊎ ((w + b) * u ≡ w * u + u)
-    go zero e = inl (ap (λ (n : ℕ). n * u) (none w))
-      where
-        none : (w : ℕ) → w + 0 ≡ w
-        none w = omega arith
-    go (suc zero) e = inr (add-mul w 1 u ∙ ap (λ (n : ℕ). w * u + n) (one-mul u))
-    go (suc (suc n)) e = absurd (two n e)
+  half h i j R (inr (v, g)) = record {
+    least = elim s [ inl k ↦ omega arith | inr k ↦ omega arith ];
+    tie = λ t. elim s [ inl k ↦ inr (even w, ap (λ (c : ℕ). c % 2) (i (omega arith)) ∙ v) | inr k ↦ inl (omega arith) ];
+  }
 
 more : (w u : ℕ) → suc w * u ≡ w * u + u
 more w u = ap (λ (n : ℕ). n * u) (one w) ∙ add-mul w 1 u ∙ ap (λ (n : ℕ). w * u + n) (one-mul u)
@@ -79,13 +72,25 @@ more w u = ap (λ (n : ℕ). n * u) (one w) ∙ add-mul w 1 u ∙ ap (λ (n : �
     one : (w : ℕ) → suc w ≡ w + 1
     one w = omega arith
 
+-- w + w % 2 is w or w + 1
+either : (w u : ℕ) → ((w % 2 ≡ 0) × ((w + w % 2) * u ≡ w * u)) ⊎ ((w % 2 ≡ 1) × ((w + w % 2) * u ≡ w * u + u))
+either w u = go (w % 2) refl
+  where
+    two : (n : ℕ) → suc (suc n) ≡ w % 2 → ⊥
+    two n e = omega arith
+
+    none : (w : ℕ) → w + 0 ≡ w
+    none w = omega arith
+
+    go : (b : ℕ) → b ≡ w % 2 → ((b ≡ 0) × ((w + b) * u ≡ w * u)) ⊎ ((b ≡ 1) × ((w + b) * u ≡ w * u + u))
+    go zero e = inl (refl, ap (λ (n : ℕ). n * u) (none w))
+    go (suc zero) e = inr (refl, add-mul w 1 u ∙ ap (λ (n : ℕ). w * u + n) (one-mul u))
+    go (suc (suc n)) e = absurd (two n e)
+
 -- OF ALL MULTIPLES OF u THE CLOSEST TO a
-pub close : (a u t : ℕ) → 0 < u → Close a (closest a u * u) (t * u) (closest a u)
+pub close : (a u t : ℕ) → 0 < u → Close a (closest a u * u) (t * u) (closest a u) t
 close a u t h = go (compare (a % u * 2) u) (cmp (a % u * 2) u)
   where
-    w : ℕ
-    w = a / u
-
     sides : (t * u ≤ a / u * u) ⊎ (a / u * u + u ≤ t * u)
     sides =
         elim (le-or-lt t (a / u)) [
@@ -93,10 +98,12 @@ close a u t h = go (compare (a % u * 2) u) (cmp (a % u * 2) u)
           | inr k ↦ inr (le-trans (le-of-eq (sym (more (a / u) u))) (mul-le-mul-right u k))
         ]
 
-    go : (o : Ordering) → Cmp o (a % u * 2) u → Close a (nearest (a / u) o * u) (t * u) (nearest (a / u) o)
-    go Ordering·lt k = down a u (a % u) (a / u) (a / u * u) (t * u) (div-add-mod' a u) (mod-lt a h) sides k
+    go : (o : Ordering) → Cmp o (a % u * 2) u → Close a (nearest (a / u) o * u) (t * u) (nearest (a / u) o) t
+    go Ordering·lt k = down a u (a % u) (a / u) (a / u * u) (t * u) t (div-add-mod' a u) (mod-lt a h) sides k
     go Ordering·eq k =
-        half a u (a % u) (a / u) (a / u * u) (t * u) (div-add-mod' a u) (mod-lt a h) sides k ((a / u + a / u % 2) * u) (either (a / u) u) (even (a / u))
+        half a u (a % u) (a / u) (a / u * u) (t * u) t (div-add-mod' a u) (mod-lt a h) sides k
+        (eq-of-mul-eq-mul-right u h t (a / u)) (λ e. eq-of-mul-eq-mul-right u h t (suc (a / u)) (e ∙ sym (more (a / u) u)))
+        ((a / u + a / u % 2) * u) (either (a / u) u)
     go Ordering·gt k =
-        subst (λ (n : ℕ). Close a n (t * u) (suc (a / u))) (sym (more (a / u) u))
-        (up a u (a % u) (a / u) (a / u * u) (t * u) (div-add-mod' a u) (mod-lt a h) sides k)
+        subst (λ (n : ℕ). Close a n (t * u) (suc (a / u)) t) (sym (more (a / u) u))
+        (up a u (a % u) (a / u) (a / u * u) (t * u) t (div-add-mod' a u) (mod-lt a h) sides k)

@@ -1,6 +1,7 @@
 pub mod Range
 pub mod Closest
 pub mod Rounded
+pub mod Same
 pub mod NoNearer
 pub mod Class
 pub mod Order

@@ -1,20 +1,20 @@
 -- What rounding a whole number to f64 keeps: a multiple of a power of two that is the closest to it. Assumes nothing.
-use mathlib.Core.Path.{_≡_, refl, sym, ap, _∙_, subst}
+use mathlib.Core.Path.{_≡_, sym, ap, _∙_, subst}
 use mathlib.Core.Logic.{_⊎_, inl, inr}
 use mathlib.Core.Bool.{Bool}
-use Prim.Native.Nat.{ℕ, zero, suc, _+_, _-_, _*_, _/_, _%_, _^_, _≤_, _<_, compare}
+use Prim.Native.Nat.{ℕ, _+_, _-_, _*_, _/_, _%_, _^_, _≤_, _<_, compare}
 use native.Mathlib.Nat.{le-trans, le-of-eq, lt-of-lt-of-le, lt-of-le-of-lt, mul-comm, mul-assoc, mul-one, one-mul, div-one, mul-lt-mul-of-pos-right, mul-le-mul-right, le-div-iff-mul-le, zero-lt-suc}
 use native.Mathlib.Omega.{arith}
 use lib.Dec.{lit≤, lit<}
 use lib.Pow.{pow-add, pow-pos, pow-mono}
 use lib.Ieee.{Float, binary64, size, round}
-use lib.Ieee.Digits.{size-lt, size-reaches}
+use lib.Ieee.Digits.{size-reaches}
 use lib.Ieee.Fits.{round-is, nearest-le, kept-lt}
 use lib.Ieee.Exact.{HasValue, units-val}
 use lib.Ieee.Nearest.{closest, closest-same, nearest-ge}
 use Rattle.laws.proofs.Differences.{le-or-lt}
 use Rattle.laws.proofs.Powers.{pow-lt-back}
-use Rattle.integers.proofs.Closest.{apart, Close, close}
+use Rattle.integers.proofs.Closest.{apart, close}
 
 -- n, rounded with the sign s: q * 2 ^ k units of 2 ^ -1074, q being the closest to n in units of 2 ^ k of them. Either nothing is dropped
 -- and q is n, or q has 53 digits or is 2 ^ 53

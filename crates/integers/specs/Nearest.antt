@@ -1,8 +1,8 @@
 -- The f64 nearest to a whole number, ties to the even mantissa, as IEEE 754 defines it and over whole numbers only. Assumes nothing.
 use mathlib.Core.Path.{_≡_}
-use mathlib.Core.Bool.{Bool}
+use mathlib.Core.Bool.{Bool, true, false}
 use Prim.Native.Nat.{ℕ, _*_, _%_, _^_, _≤_, _<_}
-use lib.IntN.{ℤ, pos, natAbs, _-ℤ_, _*ℤ_}
+use lib.IntN.{ℤ, pos, negsuc, natAbs, _-ℤ_, _*ℤ_}
 use lib.Ieee.{Float}
 use Rattle.index.specs.Magnitude.{magnitude, isNegative}
 use Rattle.floats.specs.Starts.{FiniteF64}
@@ -25,8 +25,15 @@ pub record EvenMantissa (x : Float) : Type 0 where
   pub most : m < 2 ^ 53
   pub even : m % 2 ≡ 0
 
--- x is a finite f64, no finite f64 lies nearer to z, and if another number lies as near then x's mantissa is even
+-- z is below 0
+abbrev pub negative : ℤ → Bool
+negative (pos n) = false
+negative (negsuc n) = true
+
+-- x is a finite f64 with z's sign (+0.0 for 0), no finite f64 lies nearer to z, and if another number lies as near then x's mantissa is even.
+-- Of every i64 that is one f64: `nearestOf` (the law `nearest-is`) and no other (the law `one-nearest`)
 pub record Nearest (z : ℤ) (x : Float) : Type 0 where
   pub finite : FiniteF64 x
+  pub sign : isNegative x ≡ negative z
   pub least : (y : Float) → FiniteF64 y → distance z x ≤ distance z y
   pub tie : (y : Float) → FiniteF64 y → distance z y ≡ distance z x → (inUnits y ≡ inUnits x → ⊥) → EvenMantissa x

@@ -4,5 +4,6 @@ pub mod Rounded
 pub mod Same
 pub mod NoNearer
 pub mod Class
+pub mod Examples
 pub mod Order
 pub mod Totals

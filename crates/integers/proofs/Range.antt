@@ -4,7 +4,7 @@ use mathlib.Core.Bool.{Bool, true, false, not}
 use Prim.Native.Nat.{ℕ, zero, suc, _+_, _-_, _^_, _≤_, _<_}
 use native.Mathlib.Omega.{arith}
 use borrow.Author.Tests.{ltb-true, ltb-false, lt-ltb, le-ltb}
-use lib.Dec.{T, ltb, ltb→lt, lt→ltb}
+use lib.Dec.{T, ltb, ltb→lt, lt→ltb, lit<}
 use lib.IntN.{ℤ, pos, negsuc, natAbs, subℕ, _+ℤ_, _-ℤ_}
 use lib.Signed.{mag, ltZ, nonNeg}
 use mir.Syntax.{w64}
@@ -88,11 +88,9 @@ module _ (m : ℕ) where
       clash : m - 1 < suc b → ⊥
       clash k = omega arith
 
-  pub high-fits : (b : ℕ) → b < m → mag (pos (m - 1) -ℤ pos b) < m
-  high-fits b h = subst (λ (z : ℤ). mag z < m) (sym (taken b h)) (less b h)
-    where
-      less : (b : ℕ) → b < m → m - 1 - b < m
-      less b h = omega arith
+  pub high-fits : (t b : ℕ) → t < m → b < m → mag (pos t -ℤ pos b) < m
+  high-fits t zero h g = omega arith
+  high-fits t (suc b) h g = sub-cases t (suc b) (λ z. mag z < m) (λ k. omega arith) (λ k. omega arith)
 
   pub high-test : (a : ℤ) (b : ℕ) → mag a < m → b < m → ltZ (pos (m - 1) -ℤ pos b) a ≡ not (ltb (mag (a +ℤ pos b)) m)
   high-test (pos n) b p q = ap (λ (z : ℤ). ltZ z (pos n)) (taken b q) ∙ ltb-not (m - 1 - b) n (n + b) m (λ x. omega arith) (λ x. omega arith)
@@ -150,10 +148,10 @@ module _ (a v : ℤ) (f : SFits w64 a) (g : SFits w64 v) where
       subst (λ (z : ℤ). ltZ a (negsuc 9223372036854775807 -ℤ z) ≡ not (inRange (a +ℤ z))) (sym (r .1))
       (low-test (2 ^ 63) a (r .0) (f .sfits) (subst (λ (z : ℤ). mag z < 2 ^ 63) (r .1) (g .sfits)))
 
-  pub high-sub : ltZ v (pos 0) ≡ false → mag (pos 9223372036854775807 -ℤ v) < 2 ^ 63
-  high-sub h =
+  pub high-sub : (t : ℕ) → t < 2 ^ 63 → ltZ v (pos 0) ≡ false → mag (pos t -ℤ v) < 2 ^ 63
+  high-sub t l h =
       let r = natural v h in
-      subst (λ (z : ℤ). mag (pos 9223372036854775807 -ℤ z) < 2 ^ 63) (sym (r .1)) (high-fits (2 ^ 63) (r .0) (subst (λ (z : ℤ). mag z < 2 ^ 63) (r .1) (g .sfits)))
+      subst (λ (z : ℤ). mag (pos t -ℤ z) < 2 ^ 63) (sym (r .1)) (high-fits (2 ^ 63) t (r .0) l (subst (λ (z : ℤ). mag z < 2 ^ 63) (r .1) (g .sfits)))
 
   pub high-is : ltZ v (pos 0) ≡ false → ltZ (pos 9223372036854775807 -ℤ v) a ≡ not (inRange (a +ℤ v))
   high-is h =
@@ -166,7 +164,7 @@ module _ (a v : ℤ) (f : SFits w64 a) (g : SFits w64 v) where
   low-held h = ap (λ (z : ℤ). toZ w64 (ofZ w64 (negsuc 9223372036854775807 -ℤ z))) (held v g) ∙ held (negsuc 9223372036854775807 -ℤ v) (record { sfits = low-sub h })
 
   high-held : ltZ v (pos 0) ≡ false → toZ w64 (ofZ w64 (pos 9223372036854775807 -ℤ toZ w64 (ofZ w64 v))) ≡ pos 9223372036854775807 -ℤ v
-  high-held h = ap (λ (z : ℤ). toZ w64 (ofZ w64 (pos 9223372036854775807 -ℤ z))) (held v g) ∙ held (pos 9223372036854775807 -ℤ v) (record { sfits = high-sub h })
+  high-held h = ap (λ (z : ℤ). toZ w64 (ofZ w64 (pos 9223372036854775807 -ℤ z))) (held v g) ∙ held (pos 9223372036854775807 -ℤ v) (record { sfits = high-sub 9223372036854775807 (lit< tt) h })
 
   zero-held : (t : Bool) → ltZ (toZ w64 (ofZ w64 v)) (pos 0) ≡ t → ltZ v (pos 0) ≡ t
   zero-held t h = sym (ap (λ (z : ℤ). ltZ z (pos 0)) (held v g)) ∙ h
@@ -186,8 +184,8 @@ module _ (a v : ℤ) (f : SFits w64 a) (g : SFits w64 v) where
   pub low-need : ltZ (toZ w64 (ofZ w64 v)) (pos 0) ≡ true → SFits w64 (negsuc 9223372036854775807 -ℤ toZ w64 (ofZ w64 v))
   low-need h = subst (λ (z : ℤ). SFits w64 (negsuc 9223372036854775807 -ℤ z)) (sym (held v g)) (record { sfits = low-sub (zero-held true h) })
 
-  pub high-need : ltZ (toZ w64 (ofZ w64 v)) (pos 0) ≡ false → SFits w64 (pos 9223372036854775807 -ℤ toZ w64 (ofZ w64 v))
-  high-need h = subst (λ (z : ℤ). SFits w64 (pos 9223372036854775807 -ℤ z)) (sym (held v g)) (record { sfits = high-sub (zero-held false h) })
+  pub high-need : (t : ℕ) → t < 2 ^ 63 → ltZ (toZ w64 (ofZ w64 v)) (pos 0) ≡ false → SFits w64 (pos t -ℤ toZ w64 (ofZ w64 v))
+  high-need t l h = subst (λ (z : ℤ). SFits w64 (pos t -ℤ z)) (sym (held v g)) (record { sfits = high-sub t l (zero-held false h) })
 
   outside : not (inRange (a +ℤ v)) ≡ true → Outside ≡ sumOf a v
   outside h = sum-outside a v (unlike (inRange (a +ℤ v)) h)

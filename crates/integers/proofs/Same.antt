@@ -31,5 +31,9 @@ bits-are (fin s m e) v = ap (bits s) (coarser s m e)
 pub same-f64 : (x y : Float) → FiniteF64 x → FiniteF64 y → isNegative x ≡ isNegative y → magnitude x ≡ magnitude y → x ≡ y
 same-f64 x y v w s m =
     sym (ofBits-toBits binary64 x (v .fits))
-    ∙ ap (ofBits binary64) (bits-are x v ∙ ap (λ (b : Bool). bits b (magnitude x / 2 ^ 974)) s ∙ ap (λ (a : ℕ). bits (isNegative y) (a / 2 ^ 974)) m ∙ sym (bits-are y w))
+    ∙ ap (ofBits binary64)
+    (bits-are x v
+    ∙ ap (λ (b : Bool). bits b (magnitude x / 2 ^ 974)) s
+    ∙ ap (λ (a : ℕ). bits (isNegative y) (a / 2 ^ 974)) m
+    ∙ sym (bits-are y w))
     ∙ ofBits-toBits binary64 y (w .fits)

@@ -12,7 +12,7 @@ use Rattle.integers.specs.declared.Extreme.the-variants.{None, Value}
 use Rattle.integers.specs.declared.Total.{Total}
 use Rattle.integers.specs.declared.Total.the-variants.{Outside, Is}
 
--- document 02, L6: "the f64 nearest to the whole number, ties to the even mantissa" (the law `nearest-is`)
+-- document 02, L6: "the f64 nearest to the whole number, ties to the even mantissa" (the laws `nearest-is`, `one-nearest`)
 abbrev pub nearestOf : ℤ → Float
 nearestOf z = ofInt binary64 z
 

@@ -1,4 +1,5 @@
 -- `sum` meets its contract. Assumes nothing.
+use lib.Dec.{lit<}
 use Rattle.integers.proofs.Range.{low-need, high-need, low-outside, high-outside, low-fine, high-fine, low-inside, high-inside}
 use Rattle.integers.proofs.sum.Statement.{statement}
 use Rattle.integers.proofs.sum.Tie as tie
@@ -16,7 +17,7 @@ returns-2 : tie.Need-returns-2
 returns-2 c = let s = c .before .before in low-inside (s .args .a) (s .args .v) (s .fits .a) (s .fits .v) (c .before .if1 .taken) (c .if2 .left)
 
 sub-if3 : tie.Need-sub-if3
-sub-if3 c = let s = c .before in high-need (s .args .a) (s .args .v) (s .fits .a) (s .fits .v) (c .if1 .left)
+sub-if3 c = let s = c .before in high-need (s .args .a) (s .args .v) (s .fits .a) (s .fits .v) _ (lit< tt) (c .if1 .left)
 
 returns-3 : tie.Need-returns-3
 returns-3 c = let s = c .before .before in high-outside (s .args .a) (s .args .v) (s .fits .a) (s .fits .v) (c .before .if1 .left) (c .if3 .taken)

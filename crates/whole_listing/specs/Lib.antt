@@ -1,0 +1,4 @@
+-- The definitions that the contracts and laws of `whole_listing` cite.
+pub mod Words
+pub mod Listed
+pub mod Read

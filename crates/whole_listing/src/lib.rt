@@ -1,5 +1,8 @@
 // Points of i64 values in a list of points in lent output (docs/LIST.md): crate `listing`'s list, in which a point's twelve words tell that its
 // numbers are i64s. Counts, sets, cursors and bounds are as those of an f64 point.
+pub mod encode;
+pub mod put;
+
 use listing::Cursor;
 use listing::Span;
 use whole_point::Point;

@@ -1,0 +1,2 @@
+-- The laws of `whole_listing`.
+pub mod Cases

@@ -1,16 +1,12 @@
 -- What the code's proofs cite: the words of a point by those of its shadow, and a point put by its shadow. Assumes nothing.
 use Prim.Native.Nat.{ℕ, _+_, _*_, _≤_}
-use mathlib.Core.Path.{_≡_, refl, sym, ap, ap₂, _∙_}
+use mathlib.Core.Path.{_≡_, refl, ap, _∙_}
 use mathlib.Core.List.{List, [], _∷_, _++_}
 use native.Mathlib.Omega.{arith}
 use lib.ListN.{getD, set, take}
 use lib.Seq.{set-set}
 use Rattle.laws.specs.Counting.{bit}
-use Rattle.points.specs.Shadow.{shadowOf}
-use Rattle.floats.specs.Answers as Floats
 use Rattle.integers.specs.Answers.{isShown, bitsOf}
-use Rattle.integers.specs.declared.Extreme.{Extreme}
-use Rattle.integers.specs.declared.Extreme.the-variants.{None, Value}
 use Rattle.point.specs.declared.Figures.{Figures}
 use Rattle.point.specs.declared.Figures.the-variants.{Exponential, Explicit}
 use Rattle.whole_point.specs.Handing.{shadowPoint}
@@ -25,10 +21,7 @@ use Rattle.listing.specs.declared.Cursor.{Cursor}
 use Rattle.listing.specs.declared.Span.{Span}
 use Rattle.whole_listing.specs.Words.{shownBits, raised, wordsOf}
 use Rattle.whole_listing.specs.Listed.{putAt}
-
-shown-alike : (x : Extreme) → Floats.isShown (shadowOf x) ≡ isShown x
-shown-alike None = refl
-shown-alike (Value x) = refl
+use Rattle.whole_listing.proofs.Shadow.{shown-alike}
 
 -- the first nine words of a shadow, the kind 2 more
 abbrev front : List ℕ → List ℕ → List ℕ

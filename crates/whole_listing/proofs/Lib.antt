@@ -1,2 +1,8 @@
 -- The laws of `whole_listing`.
+pub mod Shadow
 pub mod Cases
+pub mod Back
+pub mod Given
+pub mod Fits
+pub mod There
+pub mod Finds

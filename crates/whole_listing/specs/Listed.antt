@@ -1,7 +1,7 @@
 -- Points of i64 values in a list in lent output. The list's form, its cursors and its counts are those of crate `listing`; only a point's words are
 -- its own. Assumes nothing.
 use Prim.Native.Nat.{ℕ}
-use mathlib.Core.Bool.{Bool, true, false, _&&_}
+use mathlib.Core.Bool.{true, false, _&&_}
 use mathlib.Core.List.{List, []}
 use mathlib.Core.Option.{Option, none, some}
 use lib.Dec.{leb}

@@ -58,7 +58,7 @@ fn counts_lie(at: Cursor, f: Figures, b: Span, pos: usize, neg: usize) -> bool
 }
 
 // The point of twelve words, if they are one's and its counts are there.
-fn entry_in(at: Cursor, w: [u64; 12], pos: usize, neg: usize) -> Found
+pub fn entry_in(at: Cursor, w: [u64; 12], pos: usize, neg: usize) -> Found
     requires { ⌜ at .place + 1 < 2 ^ 64 ⌝ }
     ensures { λ r. ⌜ r ≡ entryIn at w pos neg ⌝ }
 {

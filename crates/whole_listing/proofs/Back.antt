@@ -84,15 +84,15 @@ module _ (b : Span) (k x y z : ℕ) where
   abbrev row : Figures → List ℕ
   row f = raised (figuresWords f b) ++ (k ∷ x ∷ y ∷ z ∷ [])
 
-  word-9 : (f : Figures) → getD (row f) 9 0 ≡ x
+  pub word-9 : (f : Figures) → getD (row f) 9 0 ≡ x
   word-9 (Exponential c) = refl
   word-9 (Explicit n) = refl
 
-  word-10 : (f : Figures) → getD (row f) 10 0 ≡ y
+  pub word-10 : (f : Figures) → getD (row f) 10 0 ≡ y
   word-10 (Exponential c) = refl
   word-10 (Explicit n) = refl
 
-  word-11 : (f : Figures) → getD (row f) 11 0 ≡ z
+  pub word-11 : (f : Figures) → getD (row f) 11 0 ≡ z
   word-11 (Exponential c) = refl
   word-11 (Explicit n) = refl
 

@@ -6,3 +6,6 @@ pub mod Given
 pub mod Fits
 pub mod There
 pub mod Finds
+pub mod Reading
+pub mod Calls
+pub mod Readers

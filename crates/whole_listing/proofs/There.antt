@@ -6,9 +6,8 @@ use mathlib.Core.List.{List, map}
 use native.Mathlib.Omega.{arith}
 use borrow.Author.Tests.{le-leb, lt-leb}
 use lib.Dec.{leb}
-use lib.ListN.{length, getD, length-map}
+use lib.ListN.{length, length-map}
 use lib.Ieee.{Float}
-use Rattle.laws.specs.Pick.{pick}
 use Rattle.laws.proofs.Bools.{pick-true, pick-false, and-intro}
 use Rattle.point.specs.Handing as Q
 use Rattle.whole_point.specs.Handing.{storedIn, shadowPoint}

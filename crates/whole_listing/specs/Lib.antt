@@ -2,3 +2,4 @@
 pub mod Words
 pub mod Listed
 pub mod Read
+pub mod Inner

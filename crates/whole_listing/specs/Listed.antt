@@ -1,7 +1,7 @@
 -- Points of i64 values in a list in lent output. The list's form, its cursors and its counts are those of crate `listing`; only a point's words are
 -- its own. Assumes nothing.
 use Prim.Native.Nat.{ℕ}
-use mathlib.Core.Bool.{true, false, _&&_}
+use mathlib.Core.Bool.{Bool, true, false, _&&_}
 use mathlib.Core.List.{List, []}
 use mathlib.Core.Option.{Option, none, some}
 use lib.Dec.{leb}
@@ -40,6 +40,10 @@ entryIn at w pos neg =
 unfoldable pub pointAt : Cursor → List (List ℕ) → ℕ → ℕ → Found
 pointAt at words pos neg =
     pick (leb (length words) (at .place)) NoPoint (entryIn at (getD words (at .place) []) pos neg)
+
+-- whether the words at a cursor have a kind that no f64 point has, 2 or more: a reader of points of either number looks there first
+unfoldable pub isWhole : Cursor → List (List ℕ) → Bool
+isWhole at words = leb 2 (getD (getD words (at .place) []) 0 0)
 
 -- as merging takes it: the point at a cursor with its bounds, of a store beside the list, and its counts
 abbrev pub storedAt : Cursor → Entry → List Float → Output → Stored

@@ -46,7 +46,7 @@ head-fits c x false l = start-fits
 
 -- ---- a slot's head and counts are its series, or a fresh one
 
-fresh-buckets : (bounds : List Float) → bucketsIn bounds 0 (replicate (bucketCount bounds) 0) ≡ bucketsOf bounds []
+pub fresh-buckets : (bounds : List Float) → bucketsIn bounds 0 (replicate (bucketCount bounds) 0) ≡ bucketsOf bounds []
 fresh-buckets bounds =
     let zeros : List ℕ = replicate (bucketCount bounds) 0 in
     let n = length-replicate {A = ℕ} (bucketCount bounds) 0 in
@@ -81,12 +81,12 @@ module _ (bounds : List Float) (extremes sums : Bool) (c : Cells) (x : ℕ) wher
 
     -- it is found as it is stored
     pub finds : Finds (foundAt bounds) (wordsOf p (spanOf bounds)) (countsAt bounds c x u) [] (storedIn p (boundsAt (spanOf bounds) bounds) (countsAt bounds c x u) [])
-    finds = finds-stored bounds p (spanOf bounds) (countsAt bounds c x u) [] held (counts-long bounds c x r u ∙ sym (buckets-are bounds)) refl
+    finds = finds-stored bounds p (spanOf bounds) (countsAt bounds c x u) [] held (counts-long bounds (c .counts) x (r .counts) u ∙ sym (buckets-are bounds)) refl
 
     -- THE EXPLICIT KIND PAYS what it owes of its points
     pub explicit-lists : Listed (explicitLister bounds) (extremes, sums) c x u
     explicit-lists =
-        let n = counts-long bounds c x r u in
+        let n = counts-long bounds (c .counts) x (r .counts) u in
         record {
           found = finds-handed bounds (wordsOf p (spanOf bounds)) (countsAt bounds c x u) [] _ _ finds out-is;
           pos = ap (λ (y : Figures). histograms .pos (handedOut z y)) (sym (series-is u))

@@ -1,5 +1,5 @@
 -- One slot: its series agrees exactly where the code's tests pass; its point has as many counts as there are buckets. Assumes nothing.
-use Prim.Native.Nat.{ℕ, _≤_}
+use Prim.Native.Nat.{ℕ, _+_, _*_, _≤_}
 use mathlib.Core.Path.{_≡_, refl, sym, ap, subst, _∙_}
 use mathlib.Core.Bool.{Bool, true, false, not, _&&_, _||_}
 use mathlib.Core.List.{List, [], _∷_}
@@ -22,20 +22,23 @@ use Rattle.points.specs.Explicit.{bucketCount, bucketsAgree}
 use Rattle.kinds.specs.Histograms.{histograms}
 use Rattle.explicit.specs.declared.Head.{Head}
 use Rattle.explicit.specs.Series.{Outcome, outcome, bucketsIn, freshHead, freshening}
-use Rattle.explicit_slots.specs.Cells.{Cells, Room, rowAt, headIn, seriesAt, headAt, countsAt}
+use Rattle.explicit_slots.specs.Cells.{Cells, headIn, seriesAt}
 use Rattle.point.specs.Handing.{explicitPoint}
-use Rattle.point.specs.declared.Point.{Point}
+use Rattle.point.specs.declared.Figures.{Figures}
+use Rattle.point.specs.declared.Figures.the-variants.{Explicit}
+use Rattle.tally.specs.Kind.{Kind}
+use Rattle.value_map.specs.Store.{Store}
 use Rattle.value_map.specs.Explicit.{explicitStore}
-use Rattle.listing.specs.Listed.{Output, bucketsOf, behind, putAt}
+use Rattle.listing.specs.Listed.{Output, bucketsOf, posLen, negLen, behind}
 use Rattle.listing.specs.Inner.{Put, left}
 use Rattle.listing.specs.Inner as ListedInner
 use Rattle.listing.specs.Words.{wordsOf}
 use Rattle.listing.specs.declared.Cursor.{Cursor}
+use Rattle.collecting.specs.Lister.{Lister}
 use Rattle.collecting.specs.Slots.{unsound, oneMore, Place, surveyedAt, laidAt, behindAt, putSlot}
 use Rattle.collecting.specs.Read.{spanOf}
 use Rattle.collecting.specs.declared.Survey.{Survey}
-use Rattle.explicit_collection.specs.Points.{explicitLister}
-use Rattle.explicit_collection.specs.Ready.{pointPut}
+use Rattle.explicit_collection.specs.Ready.{rowPut, pointPut}
 
 -- ---- agreement
 
@@ -66,17 +69,18 @@ module _ (bounds : List Float) (c : Cells) (x : ℕ) where
 
 -- ---- lengths
 
-module _ (bounds : List Float) (c : Cells) (x : ℕ) (r : Room bounds c x) where
-  pub row-long : length (rowAt bounds (c .counts) x) ≡ bucketCount bounds
-  row-long = part-length (bucketCount bounds) (c .counts) x (r .counts)
+-- the counts in a slot of a store, where its entry was updated, else as many zeros
+abbrev pub countsIn : List Float → List ℕ → ℕ → Bool → List ℕ
+countsIn bounds counts x u = pick u (partAt (bucketCount bounds) counts x) (replicate (bucketCount bounds) 0)
 
-  pub counts-long : (u : Bool) → length (countsAt bounds c x u) ≡ bucketCount bounds
+module _ (bounds : List Float) (counts : List ℕ) (x : ℕ) (r : x * bucketCount bounds + bucketCount bounds ≤ length counts) where
+  pub counts-long : (u : Bool) → length (countsIn bounds counts x u) ≡ bucketCount bounds
   unfolding pick
-  counts-long true = row-long
+  counts-long true = part-length (bucketCount bounds) counts x r
   counts-long false = length-replicate {A = ℕ} (bucketCount bounds) 0
 
   -- room for its point is room for as many counts as there are buckets
-  pub place-of : (u : Bool) (at : Cursor) (o : Output) → Place at o (length (countsAt bounds c x u)) 0 → Place at o (bucketCount bounds) 0
+  pub place-of : (u : Bool) (at : Cursor) (o : Output) → Place at o (length (countsIn bounds counts x u)) 0 → Place at o (bucketCount bounds) 0
   place-of u at o p = subst (λ (n : ℕ). Place at o n 0) (counts-long u) p
 
 -- the buckets of n bounds, as a list counts them
@@ -84,49 +88,80 @@ pub buckets-are : (bounds : List Float) → bucketsOf (length bounds) ≡ bucket
 buckets-are [] = refl
 buckets-are (b ∷ bounds) = refl
 
--- ---- the survey
+-- ---- the survey, over any number: of any store whose points have all their counts in one store
 
-module _ (bounds : List Float) (u due : Bool) (c : Cells) (s : Survey) (x : ℕ) (b : Bool) (e : b ≡ (not u || agreesAt bounds c x)) where
+module _ {K : Kind} {S : Store K} (L : Lister S) (w : S .Switches) (u due : Bool) (c : S .Cells) (s : Survey) (x : ℕ)
+    (b : Bool) (e : b ≡ (not u || K .agrees (S .settings w) (S .at c x))) where
   abbrev pub after : Survey
-  after = surveyedAt (explicitLister bounds) (true, true) u due c s x
+  after = surveyedAt L w u due c s x
 
   pub survey-none : b ≡ false → unsound ≡ after
   unfolding surveyedAt
-  survey-none p = sym (pick-false (not u || agreesAt bounds c x) _ unsound (sym e ∙ p))
+  survey-none p = sym (pick-false (not u || K .agrees (S .settings w) (S .at c x)) _ unsound (sym e ∙ p))
 
   module _ (p : b ≡ true) where
-    found : after ≡ pick due (oneMore s (length (countsAt bounds c x u)) 0) s
+    found : after ≡ pick due (oneMore s (length (L .pos c x u)) (length (L .neg c x u))) s
     unfolding surveyedAt
-    found = pick-true (not u || agreesAt bounds c x) _ unsound (sym e ∙ p)
+    found = pick-true (not u || K .agrees (S .settings w) (S .at c x)) _ unsound (sym e ∙ p)
 
     pub survey-idle : due ≡ false → s ≡ after
     survey-idle d = sym (found ∙ pick-false due _ s d)
 
-    pub survey-due : due ≡ true → Room bounds c x → (n : ℕ) → n ≡ bucketCount bounds → oneMore s n 0 ≡ after
-    survey-due d r n i = ap (λ (k : ℕ). oneMore s k 0) (i ∙ sym (counts-long bounds c x r u)) ∙ sym (found ∙ pick-true due _ s d)
+    pub survey-due : due ≡ true → (n : ℕ) → n ≡ length (L .pos c x u) → L .neg c x u ≡ [] → oneMore s n 0 ≡ after
+    survey-due d n i k = (λ j. oneMore s (i j) (length (sym k j))) ∙ sym (found ∙ pick-true due _ s d)
 
--- ---- the output
+-- ---- the output, over any number: of a point with these figures and words
 
--- a point put with its span is a point put with its counts
-module _ (bounds : List Float) (at : Cursor) (row : List ℕ) (h : Head) (show sums : Bool) (p : Point) (e : p ≡ explicitPoint h show sums) (xs : List ℕ) (o : Output) where
-  pub room-of : bucketCount bounds ≤ length xs → Place at o (bucketCount bounds) 0 → ListedInner.Room at (p .figures) (spanOf bounds) xs xs o
-  room-of l f =
+module _ (bounds : List Float) (at : Cursor) (f : Figures) (k : ℕ) (e : f ≡ Explicit k) (xs : List ℕ) (o : Output) where
+  pub room-of : bucketCount bounds ≤ length xs → Place at o (bucketCount bounds) 0 → ListedInner.Room at f (spanOf bounds) xs xs o
+  room-of l p =
       let b = buckets-are bounds in
-      subst (λ (p : Point). ListedInner.Room at (p .figures) (spanOf bounds) xs xs o) (sym e)
+      subst (λ (f : Figures). ListedInner.Room at f (spanOf bounds) xs xs o) (sym e)
       (record {
-        sets = f .sets;
-        words = f .words;
-        pos = omega (arith, f .pos, b);
-        neg = omega (arith, f .neg);
+        sets = p .sets;
+        words = p .words;
+        pos = omega (arith, p .pos, b);
+        neg = omega (arith, p .neg);
         lent = omega (arith, l, b);
         lentNeg = omega arith;
       })
 
-  pub point-laid : left (behind at (p .figures) (spanOf bounds)) (putAt at row p (spanOf bounds) xs xs o) ≡ pointPut bounds (explicitPoint h show sums) at row xs o
-  unfolding putAt laidAt
-  point-laid =
-      (λ j. left (behind at (e j .figures) (spanOf bounds)) (putAt at row (e j) (spanOf bounds) xs xs o))
-      ∙ (λ j. left (behindAt at (buckets-are bounds j) 0) (laidAt at row (wordsOf (explicitPoint h show sums) (spanOf bounds)) (take (buckets-are bounds j) xs) [] o))
+  -- a point put with its span is its words put with its counts
+  pub point-laid : (row ws : List ℕ)
+      → left (behind at f (spanOf bounds)) (laidAt at row ws (take (posLen f (spanOf bounds)) xs) (take (negLen f) xs) o) ≡ rowPut bounds ws at row xs o
+  point-laid row ws =
+      (λ j. left (behind at (e j) (spanOf bounds)) (laidAt at row ws (take (posLen (e j) (spanOf bounds)) xs) (take (negLen (e j)) xs) o))
+      ∙ (λ j. left (behindAt at (buckets-are bounds j) 0) (laidAt at row ws (take (buckets-are bounds j) xs) [] o))
+
+-- what is put at a slot
+module _ {K : Kind} {S : Store K} (L : Lister S) (w : S .Switches) (u due : Bool) (c : S .Cells) (x : ℕ) (row : List ℕ) (at : Cursor) (o : Output) where
+  abbrev pub putting : Put
+  putting = putSlot L w u due c x row at o
+
+  pub put-none : due ≡ false → left at o ≡ putting
+  unfolding putSlot
+  put-none d = sym (pick-false due _ (left at o) d)
+
+  -- its words, with the counts that its slot has in a store
+  module _ (bounds : List Float) (counts : List ℕ) (r : x * bucketCount bounds + bucketCount bounds ≤ length counts)
+      (pos : L .pos c x u ≡ countsIn bounds counts x u) (neg : L .neg c x u ≡ []) (d : due ≡ true) (ws : List ℕ) (e : ws ≡ L .words w c x u) where
+    abbrev n : ℕ
+    n = bucketCount bounds
+
+    put-some : (xs : List ℕ) → length xs ≡ n → countsIn bounds counts x u ≡ xs → rowPut bounds ws at row xs o ≡ putting
+    unfolding putSlot
+    put-some xs l i =
+        (λ j. left (behindAt at n 0) (laidAt at row (e j) ((take-all n xs (omega (arith, l)) ∙ sym (pos ∙ i)) j) (sym neg j) o))
+        ∙ (λ j. left (behindAt at ((sym l ∙ ap length (sym (pos ∙ i))) j) (length (sym neg j))) (laidAt at row (L .words w c x u) (L .pos c x u) (L .neg c x u) o))
+        ∙ sym (pick-true due _ (left at o) d)
+
+    pub put-held : u ≡ true → (m : ℕ) → m ≡ n → rowPut bounds ws at row (partAt m counts x) o ≡ putting
+    put-held t m i =
+        ap (λ (m : ℕ). rowPut bounds ws at row (partAt m counts x) o) i
+        ∙ put-some (partAt n counts x) (part-length n counts x r) (pick-true u _ (replicate n 0) t)
+
+    pub put-first : u ≡ false → rowPut bounds ws at row (replicate (bucketCount bounds) 0) o ≡ putting
+    put-first t = put-some (replicate n 0) (length-replicate {A = ℕ} n 0) (pick-false u (partAt n counts x) _ t)
 
 -- a fresh series in a row of its own: zeros
 module _ (bounds : List Float) (xs : List ℕ) (long : bucketCount bounds ≤ length xs) (a : Said Head) (ys : List ℕ) (e : outcome a ys ≡ freshening bounds xs) where
@@ -159,33 +194,3 @@ module _ (bounds : List Float) (xs : List ℕ) (long : bucketCount bounds ≤ le
   fresh-put h r show sums at row o =
       let p : h ≡ freshHead = sym (ap (valueIn freshHead) r) ∙ ap (λ (o : Outcome). valueIn freshHead (o .answer)) made in
       λ j. left (behindAt at (bucketCount bounds) 0) (laidAt at row (wordsOf (explicitPoint (p j) show sums) (spanOf bounds)) (fresh-counts j) [] o)
-
--- what is put at a slot
-module _ (bounds : List Float) (show sums u due : Bool) (c : Cells) (x : ℕ) (row : List ℕ) (at : Cursor) (o : Output) where
-  abbrev pub putting : Put
-  putting = putSlot (explicitLister bounds) (show, sums) u due c x row at o
-
-  pub put-none : due ≡ false → left at o ≡ putting
-  unfolding putSlot
-  put-none d = sym (pick-false due _ (left at o) d)
-
-  module _ (d : due ≡ true) (r : Room bounds c x) where
-    put-some : (h : Head) (xs : List ℕ) → headAt c x u ≡ h → countsAt bounds c x u ≡ take (bucketCount bounds) xs → pointPut bounds (explicitPoint h show sums) at row xs o ≡ putting
-    unfolding putSlot
-    put-some h xs i k =
-        sym (
-        pick-true due _ (left at o) d
-        ∙ (λ j. left (behindAt at (counts-long bounds c x r u j) 0) (laidAt at row (wordsOf (explicitPoint (i j) show sums) (spanOf bounds)) (k j) [] o))
-        )
-
-    pub put-held : u ≡ true → (n : ℕ) → n ≡ bucketCount bounds → (h : Head) → h ≡ headIn c x → pointPut bounds (explicitPoint h show sums) at row (partAt n (c .counts) x) o ≡ putting
-    put-held t n i h e =
-        (λ j. pointPut bounds (explicitPoint (e j) show sums) at row (partAt (i j) (c .counts) x) o)
-        ∙ put-some (headIn c x) (rowAt bounds (c .counts) x) (pick-true u _ freshHead t)
-        (pick-true u _ (replicate (bucketCount bounds) 0) t ∙ sym (take-all (bucketCount bounds) (rowAt bounds (c .counts) x) (omega (arith, row-long bounds c x r))))
-
-    pub put-first : u ≡ false → pointPut bounds (explicitPoint freshHead show sums) at row (replicate (bucketCount bounds) 0) o ≡ putting
-    put-first t =
-        let zeros : List ℕ = replicate (bucketCount bounds) 0 in
-        put-some freshHead zeros (pick-false u _ freshHead t)
-        (pick-false u (rowAt bounds (c .counts) x) _ t ∙ sym (take-all (bucketCount bounds) zeros (omega (arith, length-replicate {A = ℕ} (bucketCount bounds) 0))))

@@ -13,7 +13,9 @@ use Rattle.listing.specs.declared.Cursor.{Cursor}
 use Rattle.collecting.specs.Read.{spanOf}
 use Rattle.collecting.specs.Slots.{laidAt, behindAt}
 
--- a point put at a cursor with the first counts of a row, and the cursor behind it
+-- a point's words put at a cursor with the first counts of a row, and the cursor behind it
+abbrev pub rowPut : List Float → List ℕ → Cursor → List ℕ → List ℕ → Output → Put
+rowPut bounds ws at row xs o = left (behindAt at (bucketCount bounds) 0) (laidAt at row ws (take (bucketCount bounds) xs) [] o)
+
 abbrev pub pointPut : List Float → Point → Cursor → List ℕ → List ℕ → Output → Put
-pointPut bounds p at row xs o =
-    left (behindAt at (bucketCount bounds) 0) (laidAt at row (wordsOf p (spanOf bounds)) (take (bucketCount bounds) xs) [] o)
+pointPut bounds p at row xs o = rowPut bounds (wordsOf p (spanOf bounds)) at row xs o

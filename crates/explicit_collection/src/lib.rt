@@ -1,6 +1,6 @@
 // The public calls of the explicit kind around recording: configuring, delta and cumulative collection. `Histogram` of histogram.rs, and
 // its `ComputeAggregation`.
-mod slot;
+pub mod slot;
 mod walk;
 
 ghost use mathlib.Core.Path.{_≡_};
@@ -38,7 +38,7 @@ pub enum Configured {
 }
 
 // What configuring says by what the start of the map replied.
-fn set_up(settings: Settings, reply: bindings::Reply) -> Configured
+pub fn set_up(settings: Settings, reply: bindings::Reply) -> Configured
     ensures { λ r. ⌜ said r ≡ setUp (record { settings = settings; dir = reply .dir }) (Bindings.said (reply .answer)) ⌝ }
 {
     let dir = reply.dir;

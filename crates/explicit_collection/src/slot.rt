@@ -60,7 +60,7 @@ fn agrees_at(
 }
 
 // A survey with a point of n counts more.
-fn one_more(s: Survey, n: usize) -> Survey
+pub fn one_more(s: Survey, n: usize) -> Survey
     requires { ⌜ Few s × (n ≤ 160) ⌝ }
     ensures { λ r. ⌜ r ≡ oneMore s n 0 ⌝ }
 {

@@ -1,6 +1,6 @@
 -- `explicit_collection::slot::put` meets its contract. Assumes nothing.
 use Prim.Native.Nat.{ℕ, _+_, _*_, _≤_}
-use mathlib.Core.Path.{_≡_, sym, subst, _∙_}
+use mathlib.Core.Path.{_≡_, refl, sym, ap, subst, _∙_}
 use mathlib.Core.Bool.{true}
 use native.Mathlib.Omega.{arith}
 use denote.Ref.{now}
@@ -9,10 +9,17 @@ use borrow.Author.Needs.{needs}
 use borrow.Author.Tests.{not-true, not-false}
 use Rattle.rows.proofs.Parts.{part-length}
 use Rattle.points.specs.Explicit.{boundsPass, bucketCount}
-use Rattle.explicit_slots.specs.Cells.{Cells, cells}
+use Rattle.laws.proofs.Bools.{pick-true, pick-false}
+use Rattle.explicit.specs.declared.Head.{Head}
+use Rattle.explicit.specs.Series.{freshHead}
+use Rattle.point.specs.Handing.{explicitPoint}
+use Rattle.listing.specs.Words.{wordsOf}
+use Rattle.collecting.specs.Read.{spanOf}
+use Rattle.explicit_slots.specs.Cells.{Cells, cells, headAt}
 use Rattle.value_map.proofs.ExplicitOwes.{owed}
 use Rattle.listing.specs.Listed.{Output, output}
 use Rattle.collecting.specs.Slots.{Place}
+use Rattle.explicit_collection.specs.Points.{explicitLister}
 use Rattle.explicit_collection.proofs.Slots.{place-of, put-none, put-held, put-first}
 use Rattle.explicit_collection.proofs.slot.put.Statement.{statement}
 use Rattle.explicit_collection.proofs.slot.put.Tie as tie
@@ -40,17 +47,23 @@ place : (e : tie.Else1) → Place (start e .args .at) (out (start e)) (bucketCou
 place e =
     let s = start e in
     let a = s .args in
-    place-of (now (a .bounds)) (lent s) (a .x) (s .pre .0 .room) (a .updated) (a .at) (out s) (s .pre .1 (not-false (a .due) (e .if1 .left)))
+    place-of (now (a .bounds)) (now (a .counts)) (a .x) (s .pre .0 .room .counts) (a .updated) (a .at) (out s) (s .pre .1 (not-false (a .due) (e .if1 .left)))
 
 -- the slot's counts end within the store
 end : (b : tie.After-bucket-count) → from b .args .x * b .bucket-count .result + b .bucket-count .result ≤ length (now (from b .args .counts))
 end b = let a = from b .args in subst (λ (k : ℕ). a .x * k + k ≤ length (now (a .counts))) (sym (b .bucket-count .ensures)) (from b .pre .0 .room .counts)
 
+-- the words of the slot's point
+words-of : (s : tie.Start) (h : Head) → h ≡ headAt (lent s) (s .args .x) (s .args .updated)
+    → wordsOf (explicitPoint h (s .args .show) (s .args .sums)) (spanOf (now (s .args .bounds)))
+    ≡ explicitLister (now (s .args .bounds)) .words (s .args .show, s .args .sums) (lent s) (s .args .x) (s .args .updated)
+words-of s h e = let a = s .args in ap (λ (h : Head). wordsOf (explicitPoint h (a .show) (a .sums)) (spanOf (now (a .bounds)))) e
+
 returns : tie.Need-returns
 returns c =
     let s = c .before .before .before .before .before .before in
     let a = s .args in
-    put-none (now (a .bounds)) (a .show) (a .sums) (a .updated) (a .due) (lent s) (a .x) (a .row) (a .at) (out s) (not-true (a .due) (c .if1 .taken))
+    put-none (explicitLister (now (a .bounds))) (a .show, a .sums) (a .updated) (a .due) (lent s) (a .x) (a .row) (a .at) (out s) (not-true (a .due) (c .if1 .taken))
 
 put-fresh-requires : tie.Need-put-fresh-requires
 put-fresh-requires c κs =
@@ -66,8 +79,9 @@ returns-2 c =
     let s = start e in
     let a = s .args in
     f .put-fresh .ensures
-    ∙ put-first (now (a .bounds)) (a .show) (a .sums) (a .updated) (a .due) (lent s) (a .x) (a .row) (a .at) (out s) (not-false (a .due) (e .if1 .left)) (s .pre .0 .room)
-    (not-true (a .updated) (t .if2 .taken))
+    ∙ put-first (explicitLister (now (a .bounds))) (a .show, a .sums) (a .updated) (a .due) (lent s) (a .x) (a .row) (a .at) (out s) (now (a .bounds)) (now (a .counts))
+    (s .pre .0 .room .counts) refl refl (not-false (a .due) (e .if1 .left)) _
+    (words-of s freshHead (sym (pick-false (a .updated) _ freshHead (not-true (a .updated) (t .if2 .taken))))) (not-true (a .updated) (t .if2 .taken))
 
 mul-a : tie.Need-mul-a
 mul-a c = omega (arith, end c, from c .good .1 .1 .1 .1 .1 .1 .1 .1 .1 .1 .0 .0)
@@ -99,8 +113,10 @@ returns-3 c =
     let s = start e in
     let a = s .args in
     p .put-point .ensures
-    ∙ put-held (now (a .bounds)) (a .show) (a .sums) (a .updated) (a .due) (lent s) (a .x) (a .row) (a .at) (out s) (not-false (a .due) (e .if1 .left)) (s .pre .0 .room)
-    (not-false (a .updated) (other b .if2 .left)) (b .bucket-count .result) (b .bucket-count .ensures) (b .before .head-at .result) (b .before .head-at .ensures)
+    ∙ put-held (explicitLister (now (a .bounds))) (a .show, a .sums) (a .updated) (a .due) (lent s) (a .x) (a .row) (a .at) (out s) (now (a .bounds)) (now (a .counts))
+    (s .pre .0 .room .counts) refl refl (not-false (a .due) (e .if1 .left)) _
+    (words-of s (b .before .head-at .result) (b .before .head-at .ensures ∙ sym (pick-true (a .updated) _ freshHead (not-false (a .updated) (other b .if2 .left)))))
+    (not-false (a .updated) (other b .if2 .left)) (b .bucket-count .result) (b .bucket-count .ensures)
 
 pub put-spec : {M : Type 1} → statement M
 put-spec =

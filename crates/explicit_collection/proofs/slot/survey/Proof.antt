@@ -1,6 +1,7 @@
 -- `explicit_collection::slot::survey` meets its contract. Assumes nothing.
 use Prim.Native.Nat.{_≤_}
-use mathlib.Core.Path.{sym, subst, _∙_}
+use mathlib.Core.Path.{refl, sym, subst, _∙_}
+use mathlib.Core.Bool.{true}
 use native.Mathlib.Omega.{arith}
 use denote.Ref.{now}
 use borrow.Author.Needs.{needs}
@@ -9,7 +10,8 @@ use Rattle.explicit.proofs.Cases.{count-few}
 use Rattle.explicit_slots.specs.Cells.{Cells, cells}
 use Rattle.collecting.specs.Slots.{More}
 use Rattle.collecting.specs.declared.Survey.{Survey}
-use Rattle.explicit_collection.proofs.Slots.{survey-none, survey-idle, survey-due}
+use Rattle.explicit_collection.specs.Points.{explicitLister}
+use Rattle.explicit_collection.proofs.Slots.{counts-long, survey-none, survey-idle, survey-due}
 use Rattle.explicit_collection.proofs.slot.survey.Statement.{statement}
 use Rattle.explicit_collection.proofs.slot.survey.Tie as tie
 
@@ -28,7 +30,7 @@ returns c =
     let t = c .before in
     let s = start t in
     let a = s .args in (
-      survey-none (now (a .bounds)) (a .updated) (a .due) (lent s) (a .s) (a .x) (t .sound-at .result) (t .sound-at .ensures) (not-true (t .sound-at .result) (c .if1 .taken)),
+      survey-none (explicitLister (now (a .bounds))) (true, true) (a .updated) (a .due) (lent s) (a .s) (a .x) (t .sound-at .result) (t .sound-at .ensures) (not-true (t .sound-at .result) (c .if1 .taken)),
       (omega arith, omega arith, omega arith),
     )
 
@@ -38,7 +40,7 @@ returns-2 c =
     let t = e .before in
     let s = start t in
     let a = s .args in (
-      survey-idle (now (a .bounds)) (a .updated) (a .due) (lent s) (a .s) (a .x) (t .sound-at .result) (t .sound-at .ensures) (not-false (t .sound-at .result) (e .if1 .left))
+      survey-idle (explicitLister (now (a .bounds))) (true, true) (a .updated) (a .due) (lent s) (a .s) (a .x) (t .sound-at .result) (t .sound-at .ensures) (not-false (t .sound-at .result) (e .if1 .left))
           (not-true (a .due) (c .if2 .taken)),
       (omega arith, omega arith, omega arith),
     )
@@ -56,8 +58,9 @@ returns-3 c =
     let a = s .args in
     let q = c .one-more .ensures in (
       q
-          ∙ survey-due (now (a .bounds)) (a .updated) (a .due) (lent s) (a .s) (a .x) (t .sound-at .result) (t .sound-at .ensures) (not-false (t .sound-at .result) (e .if1 .left))
-          (not-false (a .due) (d .if2 .left)) (s .pre .0 .1) (b .bucket-count .result) (b .bucket-count .ensures),
+          ∙ survey-due (explicitLister (now (a .bounds))) (true, true) (a .updated) (a .due) (lent s) (a .s) (a .x) (t .sound-at .result) (t .sound-at .ensures) (not-false (t .sound-at .result) (e .if1 .left))
+          (not-false (a .due) (d .if2 .left)) (b .bucket-count .result)
+          (b .bucket-count .ensures ∙ sym (counts-long (now (a .bounds)) (now (a .counts)) (a .x) (s .pre .0 .1 .counts) (a .updated))) refl,
       subst (λ (r : Survey). More (a .s) r) (sym q) (omega arith, omega (arith, few b), omega arith),
     )
 

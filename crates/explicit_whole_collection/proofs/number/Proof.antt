@@ -1,0 +1,65 @@
+-- `explicit_whole_collection::number` meets its contract. Assumes nothing.
+use denote.Ref.{now}
+use borrow.Author.Needs.{needs}
+use mathlib.Core.Path.{refl, _∙_}
+use mathlib.Core.Bool.{true}
+use Rattle.directory.specs.View.{stores}
+use Rattle.explicit_whole_slots.specs.Cells.{Cells, cells}
+use Rattle.value_map.specs.Calls.{Held, held}
+use Rattle.whole_map.proofs.ExplicitOwes.{owed}
+use Rattle.listing.specs.Listed.{Output, output}
+use Rattle.collecting.proofs.Decides.{number-first, walk-here, number-then}
+use Rattle.explicit_whole_collection.specs.Points.{explicitWholeLister}
+use Rattle.explicit_whole_collection.proofs.Slots.{walk-counts, survey-counts}
+use Rattle.explicit_whole_collection.proofs.number.Statement.{statement}
+use Rattle.explicit_whole_collection.proofs.number.Tie as tie
+
+abbrev room : tie.After-barred → tie.After-cells-suffice
+room b = b .before .before
+
+abbrev start : tie.After-barred → tie.Start
+start b = room b .before .before .before .before .before .before .before
+
+abbrev map : tie.Start → Held Cells
+map s = let a = s .args in held (a .d) (stores (a .sets) (a .entries) (a .order)) (cells (a .totals) (a .extremes) (a .counts))
+
+abbrev out : tie.Start → Output
+out s = let a = s .args in output (a .out-sets) (a .out-words) (a .out-pos) (a .out-neg)
+
+returns : tie.Need-returns
+returns c =
+    let b = c .before in
+    let s = start b in
+    let a = s .args in
+    number-first (explicitWholeLister (now (a .bounds)) (a .s .sums)) (owed (now (a .bounds)) (a .s .sums)) (a .s .extremes) (a .cumulative) (a .s .limit) (map s) (out s)
+    (room b .cells-suffice .result) (b .before .unset-of .result) (b .barred .result)
+    (room b .cells-suffice .ensures) (b .before .unset-of .ensures) (b .barred .ensures) (c .if1 .taken)
+
+survey-requires : tie.Need-survey-requires
+survey-requires c κs =
+    let b = c .before in
+    let s = start b in
+    let a = s .args in
+    walk-counts (now (a .bounds)) (a .s .sums) (a .d .used) (now (a .entries)) (now (a .order)) (a .totals) (a .extremes) (a .counts)
+    (walk-here (explicitWholeLister (now (a .bounds)) (a .s .sums)) (owed (now (a .bounds)) (a .s .sums)) (a .s .extremes) (a .cumulative) (a .s .limit) (map s) (out s)
+    (room b .cells-suffice .result) (b .before .unset-of .result) (b .barred .result)
+    (room b .cells-suffice .ensures) (b .before .unset-of .ensures) (b .barred .ensures) (c .if1 .left))
+
+returns-2 : tie.Need-returns-2
+returns-2 c =
+    let f = c .before in
+    let e = f .before in
+    let b = e .before in
+    let s = start b in
+    let a = s .args in
+    number-then (explicitWholeLister (now (a .bounds)) (a .s .sums)) (owed (now (a .bounds)) (a .s .sums)) (a .s .extremes) (a .cumulative) (a .s .limit) (map s) (out s)
+    (room b .cells-suffice .result) (b .before .unset-of .result) (b .barred .result)
+    (room b .cells-suffice .ensures) (b .before .unset-of .ensures) (b .barred .ensures) (e .if1 .left)
+    true (λ x. refl) (f .survey .result) (c .number-of .result)
+    (f .survey .ensures ∙ survey-counts (now (a .bounds)) (a .s .sums) (a .d .used) (now (a .entries)) (now (a .order)) (a .totals) (a .extremes) (a .counts) (a .cumulative))
+    (c .number-of .ensures)
+
+pub number-spec : {M : Type 1} → statement M
+number-spec =
+    tie.close
+    (tie.spec (λ c κs. search needs) (λ c κs. search needs) (λ c κs. search needs) returns survey-requires (λ c κs. search needs) returns-2)

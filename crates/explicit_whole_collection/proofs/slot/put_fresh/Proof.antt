@@ -4,7 +4,7 @@ use mathlib.Core.Path.{ap, _∙_}
 use mathlib.Core.List.{List, []}
 use native.Mathlib.Omega.{arith}
 use denote.Ref.{now}
-use lib.ListN.{length, replicate, length-replicate}
+use lib.ListN.{length-replicate}
 use borrow.Author.Needs.{needs}
 use Rattle.points.specs.Explicit.{bucketCount}
 use Rattle.explicit.proofs.Cases.{count-few}

@@ -1,3 +1,4 @@
 -- The laws of `exponential_collection`.
+pub mod Counts
 pub mod Slots
 pub mod Lists

@@ -1,5 +1,5 @@
 -- The points of slots read back from lent output as the points of their series, and recording keeps cells that can be lent. Assumes nothing.
-use Prim.Native.Nat.{ℕ, _-_, _<_}
+use Prim.Native.Nat.{ℕ}
 use mathlib.Core.Path.{_≡_, refl, sym, ap, subst, _∙_}
 use mathlib.Core.Logic.{⊎-elim}
 use mathlib.Core.Bool.{Bool, true, false, not, _||_}
@@ -7,28 +7,24 @@ use mathlib.Core.List.{List, []}
 use native.Mathlib.Omega.{arith}
 use lib.Dec.{eqb}
 use lib.ListN.{getD, take}
-use lib.Seq.{take-take}
 use lib.Ieee.{Float}
 use lib.Ieee.Scale.{finite}
 use Rattle.laws.specs.Pick.{pick}
 use Rattle.laws.proofs.Bools.{flag, pick-true, pick-false}
 use Rattle.rows.specs.Parts.{partAt}
 use Rattle.rows.specs.Recording.{Recording}
-use Rattle.index.specs.Bins.{finest}
 use Rattle.points.specs.Points.{Point}
 use Rattle.points.specs.Values.{start}
-use Rattle.points.specs.Figures.{Counts, exponentialCounts, Figures}
+use Rattle.points.specs.Figures.{exponentialCounts, Figures}
 use Rattle.points.specs.Handed.{handedOut}
 use Rattle.exponential.specs.declared.Head.{Head}
 use Rattle.exponential.specs.Series.{read, refusalOf, Outcome, recording}
-use Rattle.exponential.specs.Runs.{freshHead}
-use Rattle.exponential.proofs.Lists.{fresh-holds, summary}
+use Rattle.exponential.proofs.Lists.{summary}
 use Rattle.kinds.specs.Histograms.{histograms}
 use Rattle.tally.specs.Map.{sound}
 use Rattle.exponential_slots.specs.Cells.{Cells, Room, readable, headIn, headAt, recordedAt}
-use Rattle.exponential_slots.specs.Meaning.{settings, seriesAt}
-use Rattle.exponential_slots.proofs.Cases.{into, head-held, head-fresh, narrow-says, unread, called}
-use Rattle.exponential_slots.proofs.Agreeing.{counts-in}
+use Rattle.exponential_slots.specs.Meaning.{settings}
+use Rattle.exponential_slots.proofs.Cases.{into, head-held, head-fresh, unread, called}
 use Rattle.value_map.specs.Exponential.{unset, exponentialStore}
 use Rattle.value_map.proofs.Owed.{there, was}
 use Rattle.point.specs.Handing.{storedIn, handedIn, exponentialPoint}
@@ -42,7 +38,8 @@ use Rattle.collecting.proofs.Owed.{Finds, Listed, Lists}
 use Rattle.collecting.proofs.Finds.{finds-stored, finds-handed}
 use Rattle.collecting.proofs.Fits.{Fitting, start-fits, more-fits, put-fits}
 use Rattle.exponential_collection.specs.Points.{exponentialLister}
-use Rattle.exponential_collection.proofs.Slots.{agreesAt, accepted, long-pos, long-neg, agreeing-of, pos-length, neg-length}
+use Rattle.exponential_collection.proofs.Counts.{read-first}
+use Rattle.exponential_collection.proofs.Slots.{agreesAt, laid, pos-length, neg-length}
 
 -- ---- the head of a slot
 
@@ -50,60 +47,17 @@ use Rattle.exponential_collection.proofs.Slots.{agreesAt, accepted, lon
 abbrev HeadFits : Head → Type 0
 HeadFits h = Fitting (h .min) (h .max) (h .sum)
 
--- as listing holds it
-pub record Sized (h : Head) : Type 0 where
-  pub floats : HeadFits h
-  pub level : h .counts .level < 4294967296
-  pub pos : h .counts .pos .start < 4294967296
-  pub neg : h .counts .neg .start < 4294967296
+head-fits : (top x : ℕ) (u : Bool) (c : Cells) → AllFit (c .extremes) → HeadFits (headAt top c x u)
+unfolding headIn
+head-fits top x true c l = subst HeadFits (sym (head-held top true _ _ refl)) (record { min = l x 0; max = l x 1; sum = l x 2 })
+head-fits top x false c l = subst HeadFits (sym (head-fresh top false _ _ refl)) start-fits
 
 module _ (size top : ℕ) (on : unset size top ≡ 0) (c : Cells) (x : ℕ) (r : Room size c x) (w : Bool × Bool) where
-  abbrev f : List ℕ
-  f = getD (c .figures) x []
-
-  abbrev m : List Float
-  m = getD (c .extremes) x []
-
   abbrev xs : List ℕ
   xs = partAt size (c .pos) x
 
   abbrev ys : List ℕ
   ys = partAt size (c .neg) x
-
-  -- head and rows are the slot's series, or a fresh one
-  abbrev Is : Head → Figures → Type 0
-  Is h y = y ≡ record { counts = exponentialCounts (read (h .counts) xs ys); summary = summary h }
-
-  is-held : agreesAt size top on c x r ≡ true → Is (headIn f m) (seriesAt size c x)
-  unfolding headIn
-  is-held a = ap (λ (k : Counts). record { counts = k; summary = seriesAt size c x .summary }) (counts-in size f xs ys (agreeing-of size top on c x r a .shape))
-
-  is-fresh : Is (freshHead top) (histograms .fresh (settings size top (w .0) (w .1)))
-  is-fresh =
-      let z = accepted size top on c x r in
-      let h = fresh-holds size top xs ys (z .least) (z .most) (z .fine) (omega (arith, long-pos size top on c x r)) (omega (arith, long-neg size top on c x r)) in
-      ap (λ (p : Point). record { counts = exponentialCounts p; summary = start }) (sym (h .rows))
-
-  sized-held : AllFit (c .extremes) → agreesAt size top on c x r ≡ true → Sized (headIn f m)
-  unfolding headIn
-  sized-held l a =
-      let n = narrow-says f (agreeing-of size top on c x r a .reads) in
-      record {
-        floats = record { min = l x 0; max = l x 1; sum = l x 2 };
-        level = omega (arith, n .level);
-        pos = omega (arith, n .pos);
-        neg = omega (arith, n .neg);
-      }
-
-  sized-fresh : Sized (freshHead top)
-  sized-fresh =
-      let z = accepted size top on c x r in
-      record {
-        floats = start-fits;
-        level = omega (arith, z .fine);
-        pos = omega arith;
-        neg = omega arith;
-      }
 
   abbrev pub sound-is : Bool → Type 0
   sound-is u = sound histograms (settings size top (w .0) (w .1)) (there (exponentialStore size top) c x u) ≡ true
@@ -113,28 +67,19 @@ module _ (size top : ℕ) (on : unset size top ≡ 0) (c : Cells) (x : ℕ) (r :
   sound-then true s = s
   sound-then false s = refl
 
-  series-is : (u : Bool) → sound-is u → Is (headAt top c x u) (was (exponentialStore size top) w c x u)
-  unfolding pick
-  series-is true s = is-held s ∙ ap (λ (h : Head). record { counts = exponentialCounts (read (h .counts) xs ys); summary = summary h }) (sym (head-held top true f m refl))
-  series-is false s = is-fresh ∙ ap (λ (h : Head). record { counts = exponentialCounts (read (h .counts) xs ys); summary = summary h }) (sym (head-fresh top false f m refl))
-
-  sized-at : AllFit (c .extremes) → (u : Bool) → sound-is u → Sized (headAt top c x u)
-  unfolding pick
-  sized-at l true s = subst Sized (sym (head-held top true f m refl)) (sized-held l s)
-  sized-at l false s = subst Sized (sym (head-fresh top false f m refl)) sized-fresh
-
-  -- the first counts of the rows are all that is read of them
-  read-first : (h : Head) → read (h .counts) (take (h .counts .pos .len) xs) (take (h .counts .neg .len) ys) ≡ read (h .counts) xs ys
-  read-first h =
-      let n = h .counts .pos .len in
-      let k = h .counts .neg .len in
-      λ i.
-      record {
-        d = finest - h .counts .level;
-        pos = record { start = h .counts .pos .start; counts = take-take n n xs (omega arith) i };
-        neg = record { start = h .counts .neg .start; counts = take-take k k ys (omega arith) i };
-        zeros = h .counts .zeros;
-        total = h .counts .count;
+  -- head and rows are the slot's series, or a fresh one
+  series-is : (u : Bool) → sound-is u
+      → was (exponentialStore size top) w c x u ≡ record { counts = exponentialCounts (read (headAt top c x u .counts) xs ys); summary = summary (headAt top c x u) }
+  unfolding pick headIn
+  series-is true s =
+      λ i. record {
+        counts = laid size top on c x r true (sound-then true s) .is i;
+        summary = summary (sym (head-held top true (getD (c .figures) x []) (getD (c .extremes) x []) refl) i);
+      }
+  series-is false s =
+      λ i. record {
+        counts = laid size top on c x r false (sound-then false s) .is i;
+        summary = summary (sym (head-fresh top false (getD (c .figures) x []) (getD (c .extremes) x []) refl) i);
       }
 
   module _ (l : AllFit (c .extremes)) (u : Bool) (s : sound-is u) where
@@ -146,8 +91,9 @@ module _ (size top : ℕ) (on : unset size top ≡ 0) (c : Cells) (x : ℕ) (r :
 
     held : Back.Held p (spanOf [])
     held =
-        let z = sized-at l u s in
-        exponential-held (w .0) (w .1) h (z .floats .min) (z .floats .max) (z .floats .sum) (z .level) (z .pos) (z .neg)
+        let z = head-fits top x u c l in
+        let k = laid size top on c x r u (sound-then u s) in
+        exponential-held (w .0) (w .1) h (z .min) (z .max) (z .sum) (omega (arith, k .level)) (k .pos) (k .neg)
 
     abbrev ps : List ℕ
     ps = take (headAt top c x u .counts .pos .len) xs
@@ -158,7 +104,7 @@ module _ (size top : ℕ) (on : unset size top ≡ 0) (c : Cells) (x : ℕ) (r :
     -- what the series hands out
     out-is : handedIn (storedIn p [] ps ns) ≡ handedOut (settings size top (w .0) (w .1)) (was (exponentialStore size top) w c x u)
     out-is =
-        ap (λ (q : Point). handedOut (settings size top (w .0) (w .1)) (record { counts = exponentialCounts q; summary = summary h })) (read-first h)
+        ap (λ (q : Point). handedOut (settings size top (w .0) (w .1)) (record { counts = exponentialCounts q; summary = summary h })) (read-first (h .counts) xs ys)
         ∙ ap (handedOut (settings size top (w .0) (w .1))) (sym (series-is u s))
 
     -- it is found as it is stored
@@ -181,11 +127,6 @@ exponential-lists size top w c x u on l r s = listed size top on c x r w l u s
 -- ---- recording keeps cells that can be lent
 
 module _ (size top x : ℕ) (v : Float) (t : histograms .finite v ≡ true) where
-  head-fits : (u : Bool) (c : Cells) → AllFit (c .extremes) → HeadFits (headAt top c x u)
-  unfolding headIn
-  head-fits true c l = subst HeadFits (sym (head-held top true _ _ refl)) (record { min = l x 0; max = l x 1; sum = l x 2 })
-  head-fits false c l = subst HeadFits (sym (head-fresh top false _ _ refl)) start-fits
-
   abbrev Keeps : Recording Cells → Type 0
   Keeps o = AllFit (o .cells .extremes)
 
@@ -207,6 +148,6 @@ module _ (size top x : ℕ) (v : Float) (t : histograms .finite v ≡ true) wher
   recording-keeps u c l =
       let b = readable u (getD (c .figures) x []) in
       ⊎-elim
-      (λ (e : b ≡ true). subst Keeps (sym (called size top x u c v e)) (into-keeps c l (headAt top c x u) (head-fits u c l)))
+      (λ (e : b ≡ true). subst Keeps (sym (called size top x u c v e)) (into-keeps c l (headAt top c x u) (head-fits top x u c l)))
       (λ (e : b ≡ false). subst Keeps (sym (unread size top x u c v e)) l)
       (flag b)

@@ -10,6 +10,7 @@ use Rattle.index.specs.Signed.{levelAnswer}
 use Rattle.index.specs.declared.signed.Natural.{Natural}
 use Rattle.index.specs.declared.signed.Natural.the-variants.{OutOfRange, Is}
 use Rattle.directory.specs.View.{Stores}
+use Rattle.directory.specs.declared.Directory.{Directory}
 use Rattle.exponential_slots.specs.Cells.{Cells}
 use Rattle.value_map.specs.Exponential.{exponentialStore}
 use Rattle.collecting.specs.Configured.{Configuring, configuredAs}
@@ -30,8 +31,11 @@ abbrev pub said : Configured → Said Setup
 said (Refused n) = refusal n
 said (Accepted s) = success s
 
+-- what is handed out: the settings, with the map's state
+abbrev pub setupOf : ℕ → ℕ → Bool → Bool → ℕ → Directory → Setup
+setupOf size top extremes sums limit d = record { settings = record { size = size; top = top; extremes = extremes; sums = sums; limit = limit }; dir = d }
+
 -- "Configuring: 1, 2, 3, 4, 12"
 unfoldable pub configured : ℕ → ℤ → Bool → Bool → ℕ → Option (List ℕ) → Stores → Cells → Configuring Setup
 configured size scale extremes sums limit filter s c =
-    configuredAs (exponentialStore size (topOf scale))
-    (λ d. record { settings = record { size = size; top = topOf scale; extremes = extremes; sums = sums; limit = limit }; dir = d }) limit filter s c
+    configuredAs (exponentialStore size (topOf scale)) (setupOf size (topOf scale) extremes sums limit) limit filter s c

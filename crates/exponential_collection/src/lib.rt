@@ -1,6 +1,6 @@
 // The public calls of the exponential kind around recording: configuring, delta and cumulative collection. `ExpoHistogram` of
 // exponential_histogram.rs, and its `ComputeAggregation`.
-mod slot;
+pub mod slot;
 mod walk;
 
 ghost use mathlib.Core.Path.{_≡_};
@@ -41,7 +41,7 @@ pub enum Configured {
 }
 
 // The greatest level of a max_scale; one above the finest where the scale is out of range, which number 2 refuses.
-fn level_or(found: Natural) -> u32
+pub fn level_or(found: Natural) -> u32
     ensures { λ r. ⌜ r ≡ levelOr found ⌝ }
 {
     match found {
@@ -51,7 +51,7 @@ fn level_or(found: Natural) -> u32
 }
 
 // What configuring says by what the start said: a refusal hands out no state.
-fn set_up(z: Settings, r: bindings::Reply) -> Configured
+pub fn set_up(z: Settings, r: bindings::Reply) -> Configured
     ensures { λ o. ⌜ said o ≡ setUp (record { settings = z; dir = r .dir }) (bindings-calls.said (r .answer)) ⌝ }
 {
     let answer = r.answer;

@@ -69,7 +69,7 @@ fn is_sound(
 }
 
 // The survey with a point more: that of a slot's words, or a fresh one, which has no counts.
-fn counted(s: Survey, updated: bool, f: [u64; 8]) -> Survey
+pub fn counted(s: Survey, updated: bool, f: [u64; 8]) -> Survey
     requires { ⌜ Few s ⌝ }
     requires { ⌜ (updated ≡ true → (getD f 4 0 ≤ 160) × (getD f 6 0 ≤ 160)) ⌝ }
     ensures { λ r. ⌜ r ≡ oneMore s (pick updated (getD f 4 0) 0) (pick updated (getD f 6 0) 0) ⌝ }

@@ -14,7 +14,7 @@ use Rattle.value_map.specs.Exponential.{exponentialStore}
 use Rattle.collecting.specs.Configured.{configuredAs}
 use Rattle.collecting.proofs.Configures.{configured-is}
 use Rattle.exponential_collection.specs.declared.Setup.{Setup}
-use Rattle.exponential_collection.specs.Configured.{levelOr, said, configured}
+use Rattle.exponential_collection.specs.Configured.{levelOr, said, setupOf, configured}
 use Rattle.exponential_collection.proofs.configure.Statement.{statement}
 use Rattle.exponential_collection.proofs.configure.Tie as tie
 
@@ -26,9 +26,7 @@ dirs s = let a = s .args in stores (a .sets) (a .entries) (a .order)
 
 -- what is handed out, by the greatest level
 abbrev handed : tie.Start → ℕ → Directory → Setup
-handed s top d =
-    let a = s .args in
-    record { settings = record { size = a .size; top = top; extremes = a .show; sums = a .sums; limit = a .limit }; dir = d }
+handed s top d = let a = s .args in setupOf (a .size) top (a .show) (a .sums) (a .limit) d
 
 returns : tie.Need-returns
 unfolding configured

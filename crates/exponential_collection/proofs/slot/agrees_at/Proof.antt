@@ -28,6 +28,9 @@ at k = k .before .before .before .before .before .before .before
 can : (e : tie.Else1) → narrow (getD (lent (start (e .before)) .figures) (start (e .before) .args .x) []) ≡ true
 can e = sym (reads-held true _ refl) ∙ sym (e .before .can-read .ensures) ∙ not-false (e .before .can-read .result) (e .if1 .left)
 
+read : (k : tie.After-counts-agree) → narrow (getD (lent (start (at k)) .figures) (start (at k) .args .x) []) ≡ true
+read k = can (k .before .before .before .before .before .before)
+
 head-is : (k : tie.After-counts-agree) → k .before .before .before .before .head-of .result
     ≡ headIn (getD (lent (start (at k)) .figures) (start (at k) .args .x) []) (getD (lent (start (at k)) .extremes) (start (at k) .args .x) [])
 head-is k = k .before .before .before .before .head-of .ensures ∙ head-held _ true _ _ refl
@@ -62,14 +65,16 @@ returns-2 c =
     let k = c .before in
     let s = start (at k) in
     let a = s .args in
-    uncounted (a .size) (a .top) (s .pre .0) (lent s) (a .x) (s .pre .1) (sym (counts-are k) ∙ not-true (k .counts-agree .result) (c .if2 .taken))
+    uncounted (a .size) (a .top) (s .pre .0) (lent s) (a .x) (s .pre .1) (read k) (sym (counts-are k) ∙ not-true (k .counts-agree .result) (c .if2 .taken))
 
 returns-3 : tie.Need-returns-3
 returns-3 c =
     let q = c .before in
-    let s = start (at (q .before .before)) in
+    let k = q .before .before in
+    let s = start (at k) in
     let a = s .args in
-    low-lost (a .size) (a .top) (s .pre .0) (lent s) (a .x) (s .pre .1) (sym (low-is q) ∙ not-true (q .is-finite .result) (c .if3 .taken))
+    low-lost (a .size) (a .top) (s .pre .0) (lent s) (a .x) (s .pre .1) (read k) (sym (counts-are k) ∙ not-false (k .counts-agree .result) (q .before .if2 .left))
+    (sym (low-is q) ∙ not-true (q .is-finite .result) (c .if3 .taken))
 
 returns-4 : tie.Need-returns-4
 unfolding headIn
@@ -80,7 +85,7 @@ returns-4 c =
     let a = s .args in
     c .is-finite2 .ensures
     ∙ ap (λ (h : Head). finite (h .max)) (head-is k)
-    ∙ by-high (a .size) (a .top) (s .pre .0) (lent s) (a .x) (s .pre .1) (can (k .before .before .before .before .before .before))
+    ∙ by-high (a .size) (a .top) (s .pre .0) (lent s) (a .x) (s .pre .1) (read k)
     (sym (counts-are k) ∙ not-false (k .counts-agree .result) (q .before .if2 .left))
     (sym (low-is q) ∙ not-false (q .is-finite .result) (c .before .if3 .left))
 

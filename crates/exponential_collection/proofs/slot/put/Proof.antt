@@ -7,7 +7,8 @@ use Rattle.exponential.specs.declared.Head.{Head}
 use Rattle.exponential_slots.specs.Cells.{Cells, cells, headAt}
 use Rattle.point.specs.Handing.{exponentialPoint}
 use Rattle.listing.specs.Listed.{Output, output}
-use Rattle.exponential_collection.proofs.Slots.{can-be-read, put-not, put-room, put-on}
+use Rattle.exponential_collection.specs.Points.{exponentialLister}
+use Rattle.exponential_collection.proofs.Slots.{laid, put-not, put-room, put-on}
 use Rattle.exponential_collection.proofs.slot.put.Statement.{statement}
 use Rattle.exponential_collection.proofs.slot.put.Tie as tie
 
@@ -28,13 +29,13 @@ returns : tie.Need-returns
 returns c =
     let s = c .before .before .before .before .before in
     let a = s .args in
-    put-not (a .size) (a .top) (s .pre .0 .set) (lent s) (a .x) (s .pre .0 .room) (a .updated) (a .due) (a .show, a .sums) (a .row) (a .at) (out s) (not-true (a .due) (c .if1 .taken))
+    put-not (exponentialLister (a .size) (a .top)) (a .show, a .sums) (a .updated) (a .due) (lent s) (a .x) (a .row) (a .at) (out s) (not-true (a .due) (c .if1 .taken))
 
 head-of-requires : tie.Need-head-of-requires
 head-of-requires c κs =
     let s = c .before .before .before .before .before .before .before in
     let a = s .args in
-    can-be-read (a .size) (a .top) (s .pre .0 .set) (lent s) (a .x) (s .pre .0 .room) (a .updated) (s .pre .0 .agrees)
+    laid (a .size) (a .top) (s .pre .0 .set) (lent s) (a .x) (s .pre .0 .room) (a .updated) (s .pre .0 .agrees) .reads
 
 mul-a : tie.Need-mul-a
 mul-a c = let s = start c in omega (arith, s .pre .0 .room .pos, s .pre .0 .room .neg, s .good .1 .1 .1 .1 .1 .1 .1 .1 .1 .1 .1 .0 .1, s .good .1 .1 .1 .1 .1 .1 .1 .1 .1 .1 .1 .1 .0 .1)
@@ -53,8 +54,8 @@ put-requires c κs =
     let p = c .before .before .before .before .before .before in
     let s = start p in
     let a = s .args in
-    put-room (a .size) (a .top) (s .pre .0 .set) (lent s) (a .x) (s .pre .0 .room) (a .updated) (a .due) (a .show, a .sums) (a .row) (a .at) (out s) (s .pre .0 .agrees)
-    (p .exponential-point .result) (point-is p) (s .pre .1 (not-false (a .due) (p .before .before .before .before .if1 .left)))
+    put-room (a .size) (a .top) (s .pre .0 .set) (lent s) (a .x) (s .pre .0 .room) (a .updated) (s .pre .0 .agrees) (a .show, a .sums)
+    (p .exponential-point .result) (point-is p) (a .row) (a .at) (out s) (s .pre .1 (not-false (a .due) (p .before .before .before .before .if1 .left)))
 
 returns-2 : tie.Need-returns-2
 returns-2 c =
@@ -63,8 +64,8 @@ returns-2 c =
     let s = start p in
     let a = s .args in
     q .put .ensures
-    ∙ put-on (a .size) (a .top) (s .pre .0 .set) (lent s) (a .x) (s .pre .0 .room) (a .updated) (a .due) (a .show, a .sums) (a .row) (a .at) (out s) (s .pre .0 .agrees)
-    (p .exponential-point .result) (point-is p) (not-false (a .due) (p .before .before .before .before .if1 .left))
+    ∙ put-on (a .size) (a .top) (s .pre .0 .set) (lent s) (a .x) (s .pre .0 .room) (a .updated) (s .pre .0 .agrees) (a .show, a .sums)
+    (p .exponential-point .result) (point-is p) (a .row) (a .at) (out s) (a .due) (not-false (a .due) (p .before .before .before .before .if1 .left))
 
 pub put-spec : {M : Type 1} → statement M
 put-spec =

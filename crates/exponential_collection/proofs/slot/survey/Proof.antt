@@ -6,7 +6,8 @@ use native.Mathlib.Omega.{arith}
 use borrow.Author.Tests.{not-true, not-false}
 use Rattle.exponential_slots.specs.Cells.{Cells, cells}
 use Rattle.collecting.specs.declared.Survey.{Survey}
-use Rattle.exponential_collection.proofs.Slots.{agreesAt, pos-few, neg-few, words-few, survey-8, survey-same, survey-more}
+use Rattle.exponential_collection.specs.Points.{exponentialLister}
+use Rattle.exponential_collection.proofs.Slots.{agreesAt, few, words-few, survey-8, survey-same, survey-due}
 use Rattle.exponential_collection.proofs.slot.survey.Statement.{statement}
 use Rattle.exponential_collection.proofs.slot.survey.Tie as tie
 
@@ -25,7 +26,7 @@ returns : tie.Need-returns
 returns c =
     let s = start (c .before) in
     let a = s .args in (
-      survey-8 (a .size) (a .top) (s .pre .0 .0) (lent s) (a .x) (s .pre .0 .1) (a .updated) (a .due) (a .s)
+      survey-8 (exponentialLister (a .size) (a .top)) (true, true) (a .updated) (a .due) (lent s) (a .x) (a .s)
           (sym (c .before .is-sound .ensures) ∙ not-true (c .before .is-sound .result) (c .if1 .taken)),
       search needs,
     )
@@ -35,7 +36,7 @@ returns-2 c =
     let e = c .before in
     let s = start (e .before) in
     let a = s .args in (
-      survey-same (a .size) (a .top) (s .pre .0 .0) (lent s) (a .x) (s .pre .0 .1) (a .updated) (a .due) (a .s) (sound e) (not-true (a .due) (c .if2 .taken)),
+      survey-same (exponentialLister (a .size) (a .top)) (true, true) (a .updated) (a .due) (lent s) (a .x) (a .s) (sound e) (not-true (a .due) (c .if2 .taken)),
       search needs,
     )
 
@@ -52,13 +53,12 @@ returns-3 c =
     let s = start (e .before) in
     let a = s .args in
     let q = c .counted .ensures in
-    let p = pos-few (a .size) (a .top) (s .pre .0 .0) (lent s) (a .x) (s .pre .0 .1) (a .updated) (sound e) in
-    let n = neg-few (a .size) (a .top) (s .pre .0 .0) (lent s) (a .x) (s .pre .0 .1) (a .updated) (sound e) in
+    let n = few (a .size) (a .top) (s .pre .0 .0) (lent s) (a .x) (s .pre .0 .1) (a .updated) (sound e) in
     let i = ap (λ (v : Survey). v .points) q in
     let j = ap (λ (v : Survey). v .pos) q in
     let k = ap (λ (v : Survey). v .neg) q in (
-      q ∙ survey-more (a .size) (a .top) (s .pre .0 .0) (lent s) (a .x) (s .pre .0 .1) (a .updated) (a .due) (a .s) (sound e) (not-false (a .due) (c .before .before .if2 .left)),
-      (omega (arith, i), omega (arith, j, p), omega (arith, k, n)),
+      q ∙ survey-due (a .size) (a .top) (s .pre .0 .0) (lent s) (a .x) (s .pre .0 .1) (a .updated) (sound e) (a .due) (a .s) (not-false (a .due) (c .before .before .if2 .left)),
+      (omega (arith, i), omega (arith, j, n .0), omega (arith, k, n .1)),
     )
 
 pub survey-spec : {M : Type 1} → statement M

@@ -1,0 +1,15 @@
+-- `exponential_whole_collection::slot::is_sound` meets its contract. Assumes nothing.
+use borrow.Author.Needs.{needs}
+use mathlib.Core.Path.{_∙_}
+use Rattle.exponential_collection.proofs.Slots.{sound-held, sound-fresh}
+use Rattle.exponential_whole_collection.proofs.slot.is_sound.Statement.{statement}
+use Rattle.exponential_whole_collection.proofs.slot.is_sound.Tie as tie
+
+returns : tie.Need-returns
+returns c = c .agrees-at .ensures ∙ sound-held (c .before .before .before .before .args .updated) _ (c .before .if1 .taken)
+
+returns-2 : tie.Need-returns-2
+returns-2 c = sound-fresh (c .before .before .before .args .updated) _ (c .if1 .left)
+
+pub is-sound-spec : {M : Type 1} → statement M
+is-sound-spec = tie.close (tie.spec (λ c κs. search needs) returns returns-2)

@@ -1,0 +1,121 @@
+-- `exponential_whole_collection::walk::survey` meets its contract. Assumes nothing.
+use Prim.Native.Nat.{_+_, _-_, _≤_}
+use mathlib.Core.Bool.{Bool, true}
+use mathlib.Core.List.{[]}
+use native.Mathlib.Omega.{arith}
+use borrow.Author.Needs.{needs}
+use borrow.Author.Tests.{not-true, not-false}
+use Rattle.exponential_whole_slots.specs.Cells.{Cells, cells}
+use Rattle.value_map.specs.Calls.{Held}
+use Rattle.whole_map.specs.Exponential.{exponentialWholes}
+use Rattle.collecting.specs.Lister.{Lister}
+use Rattle.collecting.specs.Slots.{walked}
+use Rattle.collecting.proofs.Turns.{Seen}
+use Rattle.collecting.proofs.Loops.{found-used, Surveyed, survey-start, survey-few, survey-next, survey-stop, survey-end}
+use Rattle.exponential_whole_collection.specs.Points.{exponentialWholeLister}
+use Rattle.exponential_whole_collection.proofs.walk.survey.Statement.{statement}
+use Rattle.exponential_whole_collection.proofs.walk.survey.Tie as tie
+
+abbrev Inv-loop : tie.InvT-loop
+Inv-loop cumulative used entries order figures extremes pos neg size top found₀ i₀ found i =
+    Surveyed (exponentialWholeLister size top true) true cumulative (walked used [] entries order (record { figures = figures; extremes = extremes; pos = pos; neg = neg })) i found
+
+abbrev μ-loop : tie.MeasureT-loop
+μ-loop cumulative used entries order figures extremes pos neg size top found₀ i₀ found i = used + 1 - i
+
+abbrev Start : Type 0
+Start = tie.Start Inv-loop μ-loop
+
+abbrev L : (s : Start) → Lister (exponentialWholes (s .args .s .size) (s .args .s .top) true)
+L s = exponentialWholeLister (s .args .s .size) (s .args .s .top) true
+
+abbrev on : Bool
+on = true
+
+abbrev map : Start → Held Cells
+map s = let a = s .args in walked (a .used) [] (a .entries .now) (a .order .now) (cells (a .figures) (a .extremes) (a .pos) (a .neg))
+
+abbrev start : tie.In-loop Inv-loop μ-loop → Start
+start t = t .before .before .before .before .before
+
+-- the slot of a turn lies in the stores
+in-use : (c : tie.After-slot-at Inv-loop μ-loop) → c .slot-at .result ≤ start (c .before) .args .used
+in-use c =
+    let t = c .before in
+    let s = start t in
+    found-used (exponentialWholes (s .args .s .size) (s .args .s .top) true) (map s) (s .pre) (t .before .loop .i) (c .slot-at .result) (t .loop-test .taken) (c .slot-at .ensures)
+
+-- what the turn has seen of it
+abbrev turn : tie.After-is-due Inv-loop μ-loop → tie.In-loop Inv-loop μ-loop
+turn c = c .before .before .before
+
+seen : (c : tie.After-is-due Inv-loop μ-loop)
+    → Seen (L (start (turn c))) true (start (turn c) .args .cumulative) (map (start (turn c)))
+    (turn c .before .loop .i) (c .before .before .slot-at .result) (c .before .is-updated .result) (c .is-due .result)
+seen c =
+    record {
+      place = turn c .loop-test .taken;
+      slot = c .before .before .slot-at .ensures;
+      updated-is = c .before .is-updated .ensures;
+      asked-is = c .is-due .ensures;
+    }
+
+loop-holds : tie.Need-loop-holds Inv-loop μ-loop
+loop-holds c = let s = c .before .before .before in survey-start (L s) on (s .args .cumulative) (map s)
+
+slot-at-requires : tie.Need-slot-at-requires Inv-loop μ-loop
+slot-at-requires c κs = omega (arith, c .loop-test .taken, start c .pre .order)
+
+is-updated-requires : tie.Need-is-updated-requires Inv-loop μ-loop
+is-updated-requires c κs = start (c .before) .pre .entries (c .slot-at .result) (in-use c)
+
+survey-requires : tie.Need-survey-requires Inv-loop μ-loop
+survey-requires c κs =
+    let t = turn c in
+    let s = start t in
+    let l = t .before .loop in (
+      (s .pre .set, s .pre .room (c .before .before .slot-at .result) (in-use (c .before .before))),
+      survey-few (L s) on (s .args .cumulative) (map s) (s .pre) (l .i) (l .found) (l .inv) (t .loop-test .taken),
+    )
+
+returns : tie.Need-returns Inv-loop μ-loop
+returns c =
+    let v = c .before .before in
+    let d = v .before in
+    let t = turn d in
+    let s = start t in
+    let l = t .before .loop in
+    survey-stop (L s) on (s .args .cumulative) (map s) (l .i) _ _ _ (seen d)
+    (l .found) (v .survey .result) (l .inv) (v .survey .ensures .0) (not-true (v .survey .result .sound) (c .if1 .taken))
+
+add-i : tie.Need-add-i Inv-loop μ-loop
+add-i c =
+    let t = turn (c .before .before .before) in
+    omega (arith, t .loop-test .taken, start t .pre .most)
+
+loop-less : tie.Need-loop-less Inv-loop μ-loop
+loop-less c =
+    let t = turn (c .before .before .before) in
+    omega (arith, t .loop-test .taken)
+
+loop-again : tie.Need-loop-again Inv-loop μ-loop
+loop-again c =
+    let v = c .before .before in
+    let d = v .before in
+    let t = turn d in
+    let s = start t in
+    let l = t .before .loop in
+    survey-next (L s) on (s .args .cumulative) (map s) (l .i) _ _ _ (seen d)
+    (l .found) (v .survey .result) (l .inv) (v .survey .ensures .0) (not-false (v .survey .result .sound) (c .if1 .left)) (v .survey .ensures .1)
+
+returns-2 : tie.Need-returns-2 Inv-loop μ-loop
+returns-2 c =
+    let s = c .before .before .before .before .before in
+    let l = c .before .loop in
+    survey-end (L s) on (s .args .cumulative) (map s) (l .i) (l .found) (l .inv) (omega (arith, c .loop-test .left))
+
+pub survey-spec : {M : Type 1} → statement M
+survey-spec =
+    tie.close
+    (tie.spec Inv-loop μ-loop loop-holds slot-at-requires is-updated-requires (λ c κs. search needs) survey-requires returns add-i loop-less
+    loop-again returns-2)

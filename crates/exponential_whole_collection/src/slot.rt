@@ -1,0 +1,142 @@
+// One slot of the stores: what a collection finds there, and its point put into the output.
+ghost use mathlib.Core.Path.{_≡_};
+ghost use mathlib.Core.Bool.{true, not, _||_};
+ghost use Rattle.kinds.specs.Wholes.{wholes};
+ghost use Rattle.exponential_whole_slots.specs.Cells.{cells, Room, settings, seriesAt};
+ghost use Rattle.value_map.specs.Exponential.{unset};
+ghost use Rattle.listing.specs.Listed.{output};
+ghost use Rattle.listing.specs.Inner.{left};
+ghost use Rattle.collecting.specs.Slots.{Few, More, surveyedAt, Sound, Free, putSlot};
+ghost use Rattle.exponential_whole_collection.specs.Points.{exponentialWholeLister};
+use collecting::Survey;
+use listing::Cursor;
+
+// Whether the series of slot x agrees: its words are a head, and head and rows agree. Of i64s none is out of place.
+fn agrees_at(
+    size: u32,
+    top: u32,
+    x: usize,
+    figures: &[[u64; 8]],
+    extremes: &[[i64; 3]],
+    pos: &[u64],
+    neg: &[u64],
+) -> bool
+    requires { ⌜ (unset size top ≡ 0) × Room size (cells figures extremes pos neg) x ⌝ }
+    ensures { λ r. ⌜ r ≡ wholes .agrees (settings size top true true)
+        (seriesAt size (cells (figures .entry) (extremes .entry) (pos .entry) (neg .entry)) x) ⌝ }
+{
+    let f = figures[x];
+    if !exponential_slots::can_read(true, f) {
+        return false;
+    }
+    let head = exponential_whole_slots::head_of(top, true, f, extremes[x]);
+    let n = size as usize;
+    let a = x * n;
+    let e = a + n;
+    let c = head.counts;
+    exponential::counts_agree(n, top, c, &pos[a..e], &neg[a..e])
+}
+
+// Whether the series of slot x agrees, if it holds one.
+fn is_sound(
+    size: u32,
+    top: u32,
+    x: usize,
+    updated: bool,
+    figures: &[[u64; 8]],
+    extremes: &[[i64; 3]],
+    pos: &[u64],
+    neg: &[u64],
+) -> bool
+    requires { ⌜ (unset size top ≡ 0) × Room size (cells figures extremes pos neg) x ⌝ }
+    ensures { λ r. ⌜ r ≡ (not updated || wholes .agrees (settings size top true true)
+        (seriesAt size (cells (figures .entry) (extremes .entry) (pos .entry) (neg .entry)) x)) ⌝ }
+{
+    if updated {
+        return agrees_at(size, top, x, figures, extremes, pos, neg);
+    }
+    true
+}
+
+// The survey with slot x more, which was updated or not and is due or not.
+pub fn survey(
+    size: u32,
+    top: u32,
+    s: Survey,
+    x: usize,
+    updated: bool,
+    due: bool,
+    figures: &[[u64; 8]],
+    extremes: &[[i64; 3]],
+    pos: &[u64],
+    neg: &[u64],
+) -> Survey
+    requires { ⌜ (unset size top ≡ 0) × Room size (cells figures extremes pos neg) x ⌝ }
+    requires { ⌜ Few s ⌝ }
+    ensures { λ r. ⌜ r ≡ surveyedAt (exponentialWholeLister size top true) true updated due
+        (cells (figures .entry) (extremes .entry) (pos .entry) (neg .entry)) s x ⌝ }
+    ensures { λ r. ⌜ More s r ⌝ }
+{
+    if !is_sound(size, top, x, updated, figures, extremes, pos, neg) {
+        return Survey {
+            sound: false,
+            points: 0,
+            pos: 0,
+            neg: 0,
+        };
+    }
+    if !due {
+        return s;
+    }
+    exponential_collection::slot::counted(s, updated, figures[x])
+}
+
+// Puts the point of slot x at the cursor, if it is due; the next cursor.
+pub fn put(
+    size: u32,
+    top: u32,
+    show: bool,
+    sums: bool,
+    at: Cursor,
+    x: usize,
+    updated: bool,
+    due: bool,
+    row: [u64; 9],
+    figures: &[[u64; 8]],
+    extremes: &[[i64; 3]],
+    pos: &[u64],
+    neg: &[u64],
+    out_sets: &mut [[u64; 9]],
+    out_words: &mut [[u64; 12]],
+    out_pos: &mut [u64],
+    out_neg: &mut [u64],
+) -> Cursor
+    requires { ⌜ Sound (exponentialWholeLister size top sums) show updated (cells figures extremes pos neg) x ⌝ }
+    requires { ⌜ (due ≡ true → Free (exponentialWholeLister size top sums) show updated (cells figures extremes pos neg) x at
+        (output «out_sets» «out_words» «out_pos» «out_neg»)) ⌝ }
+    ensures { λ r. ⌜ left r (output («out_sets» .exit) («out_words» .exit) («out_pos» .exit) («out_neg» .exit))
+        ≡ putSlot (exponentialWholeLister size top sums) show updated due (cells (figures .entry) (extremes .entry) (pos .entry) (neg .entry)) x row at
+        (output («out_sets» .entry) («out_words» .entry) («out_pos» .entry) («out_neg» .entry)) ⌝ }
+{
+    if !due {
+        return at;
+    }
+    let head = exponential_whole_slots::head_of(top, updated, figures[x], extremes[x]);
+    let p = whole_point::exponential_point(head, show, sums);
+    let n = size as usize;
+    let a = x * n;
+    let e = a + n;
+    let none = listing::Span { start: 0, len: 0 };
+    whole_listing::put::put(
+        at,
+        row,
+        p,
+        none,
+        &pos[a..e],
+        &neg[a..e],
+        out_sets,
+        out_words,
+        out_pos,
+        out_neg,
+    )
+}

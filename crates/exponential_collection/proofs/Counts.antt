@@ -6,10 +6,12 @@ use mathlib.Core.Logic.{⊎-elim}
 use mathlib.Core.Bool.{Bool, true, false, not, _&&_, _||_}
 use mathlib.Core.List.{List, []}
 use native.Mathlib.Omega.{arith}
+use borrow.Author.Tests.{le-leb}
+use lib.Dec.{leb}
 use lib.ListN.{length, getD, take}
 use lib.Seq.{length-take-le, take-take}
 use Rattle.laws.specs.Pick.{pick}
-use Rattle.laws.proofs.Bools.{flag, not-both, and-left, pick-true}
+use Rattle.laws.proofs.Bools.{flag, not-both, and-left, and-intro, pick-true}
 use Rattle.index.specs.Bins.{finest}
 use Rattle.points.specs.Points.{pointOf}
 use Rattle.points.specs.Counts.{exponential, exponentialCounts}
@@ -30,6 +32,7 @@ use Rattle.listing.specs.Listed.{Output}
 use Rattle.listing.specs.declared.Cursor.{Cursor}
 use Rattle.collecting.specs.Read.{spanOf}
 use Rattle.collecting.specs.Slots.{Place}
+use Rattle.point.specs.Handing.{figuresShaped}
 use Rattle.point.specs.declared.Figures.the-variants.{Exponential}
 
 -- what agrees with its numbers, if it is there, agrees without them
@@ -38,10 +41,10 @@ without true a b h = and-left a b h
 without false a b h = refl
 
 -- words and rows that agree
-pub record Agreeing (size top : ℕ) (f xs ys : List ℕ) : Type 0 where
-  pub shape : shaped size f ≡ true
-  pub reads : narrow f ≡ true
-  pub counts : S.agrees size top (countsIn f) xs ys ≡ true
+record Agreeing (size top : ℕ) (f xs ys : List ℕ) : Type 0 where
+  shape : shaped size f ≡ true
+  reads : narrow f ≡ true
+  counts : S.agrees size top (countsIn f) xs ys ≡ true
 
 -- the counts k of a slot that agrees, if it holds a series, else of a fresh one
 pub record Laid (size top : ℕ) (f xs ys : List ℕ) (updated : Bool) (k : Counts) : Type 0 where
@@ -61,13 +64,13 @@ pub record Laid (size top : ℕ) (f xs ys : List ℕ) (updated : Bool) (k : Coun
   pub is : pick updated (countsAt size f xs ys) (exponentialCounts (pointOf size (finest - top) [])) ≡ exponentialCounts (read k xs ys)
 
 module _ (size top : ℕ) (set : unset size top ≡ 0) (f xs ys : List ℕ) (p : length xs ≡ size) (q : length ys ≡ size) where
-  pub accepted : Accepted size top
+  accepted : Accepted size top
   accepted = accepted-of size top (unset-valid size top set)
 
   abbrev pub holds : Bool
   holds = countsHold (exponential size top) (countsAt size f xs ys)
 
-  pub agreeing-of : holds ≡ true → Agreeing size top f xs ys
+  agreeing-of : holds ≡ true → Agreeing size top f xs ys
   agreeing-of a =
       let s = in-shape size f xs ys top accepted a in
       let k = sym (holds-is size f xs ys top accepted s) ∙ a in
@@ -157,6 +160,14 @@ module _ (size top : ℕ) (set : unset size top ≡ 0) (f xs ys : List ℕ) (p :
           lent = omega (arith, l .posShort, p);
           lentNeg = omega (arith, l .negShort, q);
         }
+
+    -- it is a point in shape
+    pub point-shaped : figuresShaped (Exponential k) (take (k .pos .len) xs) (take (k .neg .len) ys) ≡ true
+    point-shaped =
+        let a = leb (k .pos .len) (length (take (k .pos .len) xs)) in
+        let b = leb (k .neg .len) (length (take (k .neg .len) ys)) in
+        and-intro (leb (k .level) finest) (a && b) (le-leb (k .level) finest (l .level))
+        (and-intro a b (le-leb (k .pos .len) _ (omega (arith, pos-length))) (le-leb (k .neg .len) _ (omega (arith, neg-length))))
 
 -- the first counts of the rows are all that is read of them
 pub read-first : (k : Counts) (xs ys : List ℕ) → read k (take (k .pos .len) xs) (take (k .neg .len) ys) ≡ read k xs ys

@@ -27,7 +27,7 @@ use Rattle.exponential_slots.specs.Meaning.{settings}
 use Rattle.exponential_slots.proofs.Cases.{into, head-held, head-fresh, unread, called}
 use Rattle.value_map.specs.Exponential.{unset, exponentialStore}
 use Rattle.value_map.proofs.Owed.{there, was}
-use Rattle.point.specs.Handing.{storedIn, handedIn, exponentialPoint}
+use Rattle.point.specs.Handing.{storedIn, handedIn, inShape, exponentialPoint}
 use Rattle.point.specs.declared.Point as P
 use Rattle.listing.specs.Words.{wordsOf}
 use Rattle.listing.proofs.Back as Back
@@ -38,8 +38,8 @@ use Rattle.collecting.proofs.Owed.{Finds, Listed, Lists}
 use Rattle.collecting.proofs.Finds.{finds-stored, finds-handed}
 use Rattle.collecting.proofs.Fits.{Fitting, start-fits, more-fits, put-fits}
 use Rattle.exponential_collection.specs.Points.{exponentialLister}
-use Rattle.exponential_collection.proofs.Counts.{read-first}
-use Rattle.exponential_collection.proofs.Slots.{agreesAt, laid, pos-length, neg-length}
+use Rattle.exponential_collection.proofs.Counts.{point-shaped, read-first}
+use Rattle.exponential_collection.proofs.Slots.{agreesAt, long-pos, long-neg, laid, pos-length, neg-length}
 
 -- ---- the head of a slot
 
@@ -62,7 +62,7 @@ module _ (size top : ℕ) (on : unset size top ≡ 0) (c : Cells) (x : ℕ) (r :
   abbrev pub sound-is : Bool → Type 0
   sound-is u = sound histograms (settings size top (w .0) (w .1)) (there (exponentialStore size top) c x u) ≡ true
 
-  pub sound-then : (u : Bool) → sound-is u → (not u || agreesAt size top on c x r) ≡ true
+  sound-then : (u : Bool) → sound-is u → (not u || agreesAt size top on c x r) ≡ true
   unfolding pick
   sound-then true s = s
   sound-then false s = refl
@@ -106,6 +106,12 @@ module _ (size top : ℕ) (on : unset size top ≡ 0) (c : Cells) (x : ℕ) (r :
     out-is =
         ap (λ (q : Point). handedOut (settings size top (w .0) (w .1)) (record { counts = exponentialCounts q; summary = summary h })) (read-first (h .counts) xs ys)
         ∙ ap (handedOut (settings size top (w .0) (w .1))) (sym (series-is u s))
+
+    -- a point in shape
+    pub shaped : inShape (storedIn p [] ps ns) ≡ true
+    shaped =
+        point-shaped size top on (getD (c .figures) x []) xs ys (long-pos size top on c x r) (long-neg size top on c x r) u (h .counts)
+        (laid size top on c x r u (sound-then u s))
 
     -- it is found as it is stored
     pub finds : Finds (foundAt []) (wordsOf p (spanOf [])) ps ns (storedIn p [] ps ns)

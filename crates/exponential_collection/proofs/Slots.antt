@@ -8,7 +8,7 @@ use lib.ListN.{length, getD}
 use lib.Ieee.{Float, nan}
 use lib.Ieee.Scale.{finite}
 use Rattle.laws.specs.Pick.{pick}
-use Rattle.laws.proofs.Bools.{and-left, pick-true, pick-false}
+use Rattle.laws.proofs.Bools.{pick-true, pick-false}
 use Rattle.rows.specs.Parts.{partAt}
 use Rattle.rows.proofs.Parts.{part-length}
 use Rattle.exponential.specs.declared.Head.{Head}
@@ -18,7 +18,6 @@ use Rattle.kinds.specs.Histograms.{histograms}
 use Rattle.exponential_slots.specs.Cells.{Cells, Room, countsIn, narrow, headIn, headAt}
 use Rattle.exponential_slots.specs.Meaning.{settings, seriesAt}
 use Rattle.exponential_slots.proofs.Cases.{head-held, head-fresh}
-use Rattle.exponential_slots.proofs.Agreeing.{Accepted}
 use Rattle.value_map.specs.Store.{Store}
 use Rattle.value_map.specs.Exponential.{unset}
 use Rattle.listing.specs.Inner as ListedInner
@@ -33,7 +32,7 @@ use Rattle.point.specs.Handing.{exponentialPoint}
 use Rattle.point.specs.declared.Point.{Point}
 use Rattle.exponential_collection.specs.Points.{exponentialLister}
 use Rattle.exponential_collection.proofs.Counts as Counts
-use Rattle.exponential_collection.proofs.Counts.{without, Agreeing, Laid, holds}
+use Rattle.exponential_collection.proofs.Counts.{without, Laid, holds}
 
 -- ---- any kind's slot
 
@@ -111,17 +110,11 @@ module _ (size top : ℕ) (set : unset size top ≡ 0) (c : Cells) (x : ℕ) (r 
   pub long-neg : length ys ≡ size
   long-neg = part-length size (c .neg) x (r .neg)
 
-  pub accepted : Accepted size top
-  accepted = Counts.accepted size top set f xs ys long-pos long-neg
-
   abbrev rowsHold : Bool
   rowsHold = holds size top set f xs ys long-pos long-neg
 
   abbrev finites : Bool
   finites = finite (getD m 0 nan) && finite (getD m 1 nan)
-
-  pub agreeing-of : agreesAt ≡ true → Agreeing size top f xs ys
-  agreeing-of a = Counts.agreeing-of size top set f xs ys long-pos long-neg (and-left rowsHold finites a)
 
   -- ---- the code's tests, in their order
 

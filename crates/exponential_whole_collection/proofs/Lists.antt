@@ -32,8 +32,8 @@ use Rattle.value_map.proofs.Owed.{there, was}
 use Rattle.whole_map.specs.Exponential.{exponentialWholes}
 use Rattle.collecting.specs.Read.{spanOf}
 use Rattle.collecting.proofs.Owed.{Finds, Listed, Lists}
-use Rattle.exponential_collection.proofs.Counts.{read-first}
-use Rattle.whole_point.specs.Handing.{storedIn, handedIn, exponentialPoint}
+use Rattle.exponential_collection.proofs.Counts.{point-shaped, read-first}
+use Rattle.whole_point.specs.Handing.{storedIn, handedIn, inShape, exponentialPoint}
 use Rattle.whole_point.specs.declared.Point as P
 use Rattle.whole_listing.specs.Words.{wordsOf}
 use Rattle.whole_listing.specs.Listed.{foundAt}
@@ -43,7 +43,7 @@ use Rattle.whole_listing.proofs.Given.{exponential-held}
 use Rattle.whole_listing.proofs.Finds.{finds-stored, finds-handed}
 use Rattle.whole_listing.proofs.Fits.{Fitting, start-fits, more-fits, put-fits}
 use Rattle.exponential_whole_collection.specs.Points.{exponentialWholeLister}
-use Rattle.exponential_whole_collection.proofs.Slots.{agreesAt, laid, pos-length, neg-length}
+use Rattle.exponential_whole_collection.proofs.Slots.{agreesAt, long-pos, long-neg, laid, pos-length, neg-length}
 
 -- ---- the head of a slot
 
@@ -65,7 +65,7 @@ module _ (size top : ℕ) (sums : Bool) (on : unset size top ≡ 0) (c : Cells) 
   abbrev pub sound-is : Bool → Type 0
   sound-is u = sound wholes (settings size top sums w) (there (exponentialWholes size top sums) c x u) ≡ true
 
-  pub sound-then : (u : Bool) → sound-is u → (not u || agreesAt size top on c x r) ≡ true
+  sound-then : (u : Bool) → sound-is u → (not u || agreesAt size top on c x r) ≡ true
   unfolding pick
   sound-then true s = s
   sound-then false s = refl
@@ -109,6 +109,12 @@ module _ (size top : ℕ) (sums : Bool) (on : unset size top ≡ 0) (c : Cells) 
     out-is =
         ap (λ (q : Point). handedOut whole (settings size top sums w) (record { counts = exponentialCounts q; summary = summary h })) (read-first (h .counts) xs ys)
         ∙ ap (handedOut whole (settings size top sums w)) (sym (series-is u s))
+
+    -- a point in shape
+    pub shaped : inShape (storedIn p [] ps ns) ≡ true
+    shaped =
+        point-shaped size top on (getD (c .figures) x []) xs ys (long-pos size top on c x r) (long-neg size top on c x r) u (h .counts)
+        (laid size top on c x r u (sound-then u s))
 
     -- it is found as it is stored
     pub finds : Finds (foundAt []) (wordsOf p (spanOf [])) ps ns (storedIn p [] ps ns)

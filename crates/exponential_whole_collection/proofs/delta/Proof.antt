@@ -5,8 +5,11 @@ use mathlib.Core.Bool.{false}
 use Rattle.directory.specs.View.{stores}
 use Rattle.exponential_whole_slots.specs.Cells.{Cells, cells}
 use Rattle.value_map.specs.Calls.{Held, held}
+use Rattle.value_map.proofs.Owed.{Owed}
+use Rattle.whole_map.specs.Exponential.{exponentialWholes}
 use Rattle.whole_map.proofs.ExponentialOwes.{owed}
 use Rattle.listing.specs.Listed.{Output, output}
+use Rattle.collecting.specs.Lister.{Lister}
 use Rattle.collecting.proofs.Ends.{delta-refused, delta-done}
 use Rattle.collecting.proofs.Decides.{listable, sweeps, listed-is}
 use Rattle.exponential_whole_collection.specs.Points.{exponentialWholeLister}
@@ -22,25 +25,31 @@ out s = let a = s .args in output (a .out-sets) (a .out-words) (a .out-pos) (a .
 abbrev start : tie.After-number → tie.Start
 start c = c .before .before .before .before .before .before .before .before .before .before .before .before .before
 
+abbrev L : (s : tie.Start) → Lister (exponentialWholes (s .args .s .size) (s .args .s .top) (s .args .s .sums))
+L s = let z = s .args .s in exponentialWholeLister (z .size) (z .top) (z .sums)
+
+abbrev W : (s : tie.Start) → Owed (exponentialWholes (s .args .s .size) (s .args .s .top) (s .args .s .sums))
+W s = let z = s .args .s in owed (z .size) (z .top) (z .sums)
+
 returns : tie.Need-returns
 returns c =
     let s = start (c .before) in
     let a = s .args in
-    delta-refused (exponentialWholeLister (a .s .size) (a .s .top) (a .s .sums)) (a .s .extremes) (a .s .limit) (map s) (out s) (c .before .number .result) (c .before .number .ensures) (c .if1 .taken)
+    delta-refused (L s) (a .s .extremes) (a .s .limit) (map s) (out s) (c .before .number .result) (c .before .number .ensures) (c .if1 .taken)
 
 list-requires : tie.Need-list-requires
 list-requires c κs =
     let e = c .before .before .before .before .before .before .before in
     let s = start (e .before) in
     let a = s .args in
-    listable (exponentialWholeLister (a .s .size) (a .s .top) (a .s .sums)) (owed (a .s .size) (a .s .top) (a .s .sums)) (a .s .extremes) false (a .s .limit) (map s) (out s) (e .before .number .result) (e .before .number .ensures) (e .if1 .left)
+    listable (L s) (W s) (a .s .extremes) false (a .s .limit) (map s) (out s) (e .before .number .result) (e .before .number .ensures) (e .if1 .left)
 
 sweep-requires : tie.Need-sweep-requires
 sweep-requires c κs =
     let e = c .before .before .before .before .before .before .before .before .before .before .before .before .before .before .before .before .before in
     let s = start (e .before) in
     let a = s .args in
-    sweeps (exponentialWholeLister (a .s .size) (a .s .top) (a .s .sums)) (owed (a .s .size) (a .s .top) (a .s .sums)) (a .s .extremes) false (a .s .limit) (map s) (out s) (e .before .number .result) (e .before .number .ensures) (e .if1 .left)
+    sweeps (L s) (W s) (a .s .extremes) false (a .s .limit) (map s) (out s) (e .before .number .result) (e .before .number .ensures) (e .if1 .left)
 
 returns-2 : tie.Need-returns-2
 returns-2 c =
@@ -49,8 +58,8 @@ returns-2 c =
     let e = l .before .before .before .before .before .before .before .before in
     let s = start (e .before) in
     let a = s .args in
-    delta-done (exponentialWholeLister (a .s .size) (a .s .top) (a .s .sums)) (a .s .extremes) (a .s .limit) (map s) (out s) _ _ (sym (e .before .number .ensures) ∙ e .if1 .left)
-    (listed-is (exponentialWholeLister (a .s .size) (a .s .top) (a .s .sums)) (owed (a .s .size) (a .s .top) (a .s .sums)) (a .s .extremes) false (a .s .limit) (map s) (out s) _ (l .list .ensures)) (w .sweep .ensures)
+    delta-done (L s) (a .s .extremes) (a .s .limit) (map s) (out s) _ _ (sym (e .before .number .ensures) ∙ e .if1 .left)
+    (listed-is (L s) (W s) (a .s .extremes) false (a .s .limit) (map s) (out s) _ (l .list .ensures)) (w .sweep .ensures)
 
 pub delta-spec : {M : Type 1} → statement M
 delta-spec =

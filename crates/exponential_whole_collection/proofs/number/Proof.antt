@@ -5,8 +5,11 @@ use mathlib.Core.Bool.{true}
 use Rattle.directory.specs.View.{stores}
 use Rattle.exponential_whole_slots.specs.Cells.{Cells, cells}
 use Rattle.value_map.specs.Calls.{Held, held}
+use Rattle.value_map.proofs.Owed.{Owed}
+use Rattle.whole_map.specs.Exponential.{exponentialWholes}
 use Rattle.whole_map.proofs.ExponentialOwes.{owed}
 use Rattle.listing.specs.Listed.{Output, output}
+use Rattle.collecting.specs.Lister.{Lister}
 use Rattle.collecting.proofs.Decides.{number-first, walk-here, number-then}
 use Rattle.exponential_whole_collection.specs.Points.{exponentialWholeLister}
 use Rattle.exponential_whole_collection.proofs.Slots.{sums-apart}
@@ -25,20 +28,28 @@ map s = let a = s .args in held (a .d) (stores (a .sets) (a .entries) (a .order)
 abbrev out : tie.Start → Output
 out s = let a = s .args in output (a .out-sets) (a .out-words) (a .out-pos) (a .out-neg)
 
+-- the slots are surveyed as if the sum's switch were on
+abbrev L : (s : tie.Start) → Lister (exponentialWholes (s .args .s .size) (s .args .s .top) true)
+L s = exponentialWholeLister (s .args .s .size) (s .args .s .top) true
+
+abbrev W : (s : tie.Start) → Owed (exponentialWholes (s .args .s .size) (s .args .s .top) true)
+W s = owed (s .args .s .size) (s .args .s .top) true
+
 returns : tie.Need-returns
 returns c =
     let b = c .before in
     let s = start b in
     let a = s .args in
-    number-first (exponentialWholeLister (a .s .size) (a .s .top) (a .s .sums)) (owed (a .s .size) (a .s .top) (a .s .sums)) (a .s .extremes) (a .cumulative) (a .s .limit) (map s) (out s)
+    number-first (L s) (W s) (a .s .extremes) (a .cumulative) (a .s .limit) (map s) (out s)
     (room b .cells-suffice .result) (b .before .unset-of .result) (b .barred .result) (room b .cells-suffice .ensures) (b .before .unset-of .ensures) (b .barred .ensures) (c .if1 .taken)
+    ∙ sums-apart (a .s .size) (a .s .top) (a .s .sums) (a .s .extremes) (a .cumulative) (a .s .limit) (map s) (out s)
 
 survey-requires : tie.Need-survey-requires
 survey-requires c κs =
     let b = c .before in
     let s = start b in
     let a = s .args in
-    walk-here (exponentialWholeLister (a .s .size) (a .s .top) true) (owed (a .s .size) (a .s .top) true) (a .s .extremes) (a .cumulative) (a .s .limit) (map s) (out s)
+    walk-here (L s) (W s) (a .s .extremes) (a .cumulative) (a .s .limit) (map s) (out s)
     (room b .cells-suffice .result) (b .before .unset-of .result) (b .barred .result) (room b .cells-suffice .ensures) (b .before .unset-of .ensures) (b .barred .ensures) (c .if1 .left)
 
 returns-2 : tie.Need-returns-2
@@ -48,7 +59,7 @@ returns-2 c =
     let b = e .before in
     let s = start b in
     let a = s .args in
-    number-then (exponentialWholeLister (a .s .size) (a .s .top) true) (owed (a .s .size) (a .s .top) true) (a .s .extremes) (a .cumulative) (a .s .limit) (map s) (out s)
+    number-then (L s) (W s) (a .s .extremes) (a .cumulative) (a .s .limit) (map s) (out s)
     (room b .cells-suffice .result) (b .before .unset-of .result) (b .barred .result) (room b .cells-suffice .ensures) (b .before .unset-of .ensures) (b .barred .ensures) (e .if1 .left)
     true (λ x. refl) (f .survey .result) (c .number-of .result) (f .survey .ensures) (c .number-of .ensures)
     ∙ sums-apart (a .s .size) (a .s .top) (a .s .sums) (a .s .extremes) (a .cumulative) (a .s .limit) (map s) (out s)

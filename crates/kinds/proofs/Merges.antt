@@ -11,7 +11,7 @@ use Rattle.points.specs.Stands.{Stands}
 use Rattle.points.specs.Any as Any
 use Rattle.points.specs.Real.{real}
 use Rattle.points.proofs.Real.{owed}
-use Rattle.points.proofs.Stands.{sizeOf}
+use Rattle.points.proofs.Counts.{sizeOf}
 use Rattle.tally.specs.Kind.{Room}
 use Rattle.tally.proofs.Faithful.{Merging, fitting}
 use Rattle.tally.proofs.Lawful.{Mergeable}

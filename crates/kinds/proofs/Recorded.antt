@@ -11,7 +11,11 @@ use Rattle.points.specs.Handed.{handed}
 use Rattle.points.specs.Any as Any
 use Rattle.points.specs.Real.{real}
 use Rattle.points.proofs.Real.{owed}
+use Rattle.tally.specs.Map.{Config}
+use Rattle.tally.specs.Demand.{Code, ran}
 use Rattle.tally.proofs.Lawful.{Lawful}
+use Rattle.tally.proofs.Faithful.{Faithful}
+use Rattle.tally.proofs.Unbarred.{unbarred, never-barred}
 use Rattle.tally.proofs.Sound.{Steady}
 use Rattle.kinds.specs.Histograms.{histograms}
 pub use Rattle.kinds.proofs.AnyRecorded.{sound-kind}
@@ -31,3 +35,7 @@ lawful = A.lawful real owed handed point-is
 
 pub histograms-steady : Steady histograms
 histograms-steady = A.steady real owed handed point-is
+
+-- no sum of f64s is refused: 16 is never answered, and so demand 3's premise counts the sets of accepted calls alone
+pub never-16 : (c : Config histograms) (C : Code histograms) → Faithful histograms c C → (xs : List (C .Input)) → all (unbarred histograms) (ran histograms C xs) ≡ true
+never-16 = never-barred histograms (λ z x v. refl)

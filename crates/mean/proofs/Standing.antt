@@ -6,37 +6,31 @@ use mathlib.Core.Bool.{Bool, true, false}
 use mathlib.Core.List.{List}
 use native.Mathlib.Nat.{le-trans}
 use native.Mathlib.Omega.{arith}
-use borrow.Author.Tests.{leb-true, le-leb}
+use borrow.Author.Tests.{le-leb}
 use lib.Dec.{leb, eqb}
 use lib.IntN.{ℤ, pos, natAbs}
 use lib.ListN.{length}
 use lib.Ieee.{Float}
 use Rattle.laws.specs.Pick.{pick}
 use Rattle.laws.specs.Said.{Said, refusal, success}
-use Rattle.laws.proofs.Bools.{and-right, and-intro, pick-true}
-use Rattle.index.specs.Bins.{finest, lowestBin}
+use Rattle.laws.proofs.Bools.{and-intro, pick-true}
 use Rattle.floats.specs.Grid.{grid, steps, mostSteps, exactTotal, OnGrid, Gridded}
 use Rattle.floats.proofs.Exact.{grid-exact}
 use Rattle.floats.proofs.Sums.{zero-is, total-weight}
 use Rattle.floats.proofs.Whole.{is-whole, steps-only, on-whole}
-use Rattle.points.specs.Figures.{Kind, exponential, explicit, mostSize, Settings}
-use Rattle.points.specs.Handed.{countOf}
+use Rattle.points.specs.Figures.{Settings}
+use Rattle.points.specs.Handed.{handedAgrees, countOf}
+use Rattle.points.specs.Real.{real}
 use Rattle.points.specs.Stands.{SumStands, Stands}
 use Rattle.points.proofs.Figures.{count-is}
-use Rattle.points.proofs.Larger.{larger}
-use Rattle.points.proofs.Stands.{sizeOf, stands-agrees}
+use Rattle.points.proofs.Real.{owed}
 use Rattle.point.specs.Handing.{Stored, handedIn, inShape, agreesAlone}
 use Rattle.point.specs.Lists.{Configured}
-use Rattle.point.proofs.Answers.{sound}
+use Rattle.point.proofs.Answers as Answers
 use Rattle.mean.specs.Rounding.{hundredths}
 use Rattle.mean.specs.Mean.{onGrid, meanOf, meanIn}
 use Rattle.mean.specs.Values.{meanOfAll}
 use Rattle.mean.proofs.Cases.{mean-agrees}
-
--- ---- IT AGREES BY ITSELF: under its own max_size, and so under the greatest
-size-most : (k : Kind) → Configured k → sizeOf k ≤ mostSize
-size-most (exponential size top) h = leb-true size mostSize (and-right (leb 3 size) (leb size mostSize) h)
-size-most (explicit bounds) h = omega arith
 
 -- ---- ITS SUM is on the grid, and so many steps
 grid-steps : (x : Float) (z : ℤ) → OnGrid x z → natAbs z ≤ mostSteps → (onGrid x ≡ true) × (steps x ≡ z)
@@ -62,11 +56,8 @@ mean-on count sum h = ap (λ (a : Said ℤ). pick (eqb count 0) (refusal 13) a) 
 module _ (s : Settings) (k : Configured (s .kind)) (x : Stored) (w : inShape x ≡ true) (vs : List Float)
     (h : Stands s (handedIn x) vs) where
   pub stands-alone : agreesAlone x ≡ true
-  unfolding agreesAlone
-  stands-alone =
-      and-intro _ _ w
-      (larger (sizeOf (s .kind)) mostSize (lowestBin finest) (handedIn x) (size-most (s .kind) k)
-      (stands-agrees s (handedIn x) vs (sound (s .kind) k) h))
+  unfolding agreesAlone handedAgrees
+  stands-alone = and-intro _ _ w (Answers.stands-alone real owed s k (handedIn x) vs h)
 
   pub mean-stands : Gridded vs → meanIn x ≡ meanOfAll (s .sums) vs
   unfolding meanOfAll

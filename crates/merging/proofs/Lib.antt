@@ -1,4 +1,5 @@
--- The laws of merging by code.
+-- The laws of merging by code, over any number.
+pub mod Owed
 pub mod Groups
 pub mod Accepted
 pub mod Orders

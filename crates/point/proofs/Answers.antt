@@ -1,28 +1,31 @@
 -- What an accepted merge leaves is the merge of the points read, in shape. Assumes nothing.
-use Prim.Native.Nat.{ℕ, _+_, _-_, _≤_, _<_}
+use Prim.Native.Nat.{ℕ, _+_, _-_, _≤_}
 use mathlib.Core.Path.{_≡_, refl, ap, sym, _∙_}
 use mathlib.Core.Bool.{Bool, true, false, _&&_}
 use mathlib.Core.List.{List}
-use mathlib.Core.Logic.{⊎-elim}
-use native.Mathlib.Nat.{eq-zero-or-pos}
 use native.Mathlib.Omega.{arith}
 use lib.Dec.{leb}
 use lib.ListN.{length, take, drop, length-append}
-use borrow.Author.Tests.{le-leb, eq-eqb}
+use borrow.Author.Tests.{leb-true, le-leb, eq-eqb}
 use Rattle.laws.specs.Pick.{pick}
-use Rattle.laws.specs.Said.{Said, refusal, success}
-use Rattle.laws.proofs.Bools.{flag, and-left, and-right, pick-left, pick-then}
-use Rattle.index.specs.Bins.{finest}
+use Rattle.laws.specs.Said.{refusal, success}
+use Rattle.laws.proofs.Bools.{and-right}
+use Rattle.index.specs.Bins.{finest, lowestBin}
 use Rattle.floats.specs.Starts.{zeroFloat}
 use Rattle.rows.specs.Rows.{over}
 use Rattle.rows.proofs.Laws.{take-over}
 use Rattle.points.specs.Explicit.{bucketCount, added, mergeBuckets}
 use Rattle.points.specs.Figures as F
-use Rattle.points.specs.Figures.{Kind, exponential, explicit, exponentialCounts, explicitCounts}
-use Rattle.points.specs.Handed.{Handed, mergeCounts, mergeHanded, sizeAsked, unmergeable, posOf, negOf}
+use Rattle.points.specs.Figures.{Kind, exponential, explicit, mostSize, Settings, exponentialCounts, explicitCounts}
+use Rattle.points.specs.Handed.{Handed, mergeCounts, mergeHanded, posOf, negOf}
+use Rattle.points.specs.Number.{Number}
+use Rattle.points.specs.Any as Any
 use Rattle.points.proofs.Kept.{merge-agrees}
 use Rattle.points.proofs.Explicit.{buckets-say, merge-buckets-ok}
-use Rattle.points.proofs.Stands.{Sound}
+use Rattle.points.proofs.Counts.{sizeOf, Sound}
+use Rattle.points.proofs.Owed.{Owed}
+use Rattle.points.proofs.AnyPoint.{stands-agrees}
+use Rattle.points.proofs.Larger.{larger}
 use Rattle.exponential.specs.declared.Counts.{Counts}
 use Rattle.exponential.specs.Series.{lowestOfAll, read}
 use Rattle.exponential.proofs.Facts as Facts
@@ -33,7 +36,6 @@ use Rattle.point.specs.declared.Figures.the-variants.{Exponential, Expli
 use Rattle.point.specs.Handing.{Stored, storedIn, countsAs, countsIn, handedIn, figuresShaped, inShape, figuresFor, pointFor, Outcome, ended, laidOver, refusalBefore, merging}
 use Rattle.point.specs.Lists.{Configured}
 use Rattle.point.proofs.Laid.{same-count}
-use Rattle.point.proofs.Means.{agreesRead}
 use Rattle.point.proofs.Calls as calls
 
 -- "10: room judged by the result's length"
@@ -45,26 +47,11 @@ unfolding over
 in-over new old = rw (length-append new (drop (length new) old)) (omega arith)
 
 -- counts laid over rows are in shape
-laid-shape : (c : F.Counts) (us vs : List ℕ) → figuresShaped (figuresFor c) (over (posOf c) us) (over (negOf c) vs) ≡ true
+pub laid-shape : (c : F.Counts) (us vs : List ℕ) → figuresShaped (figuresFor c) (over (posOf c) us) (over (negOf c) vs) ≡ true
 laid-shape (exponentialCounts p) us vs =
     λ j. le-leb (finest - p .d) finest (omega arith) j && (le-leb (length (p .pos .counts)) (length (over (p .pos .counts) us)) (in-over (p .pos .counts) us) j
     && le-leb (length (p .neg .counts)) (length (over (p .neg .counts) vs)) (in-over (p .neg .counts) vs) j)
 laid-shape (explicitCounts b p) us vs = refl
-
--- a success is one point's, and no refusal
-success-is : (a b : Stored) → success a ≡ success b → a ≡ b
-success-is a b e = ap of e
-  where
-    of : Said Stored → Stored
-    of (refusal n) = a
-    of (success x) = x
-
-refused-not : (n : ℕ) (z : Stored) → refusal n ≡ success z → ⊥
-refused-not n z e = let k : _≡_ {A = ℕ} 1 0 = ap of e in omega (arith, k)
-  where
-    of : Said Stored → ℕ
-    of (refusal i) = 1
-    of (success x) = 0
 
 -- what a merge that is not refused leaves: the point x
 abbrev pub leaves : Stored → Outcome
@@ -114,6 +101,9 @@ module _ (size : ℕ) (a b : Stored) (e : refusalBefore size a b ≡ 0) (us vs :
   back (Explicit n) (Exponential d) f g = absurd (calls.not-mixed-2 size a b e n d f g)
   back (Explicit n) (Explicit m) f g = explicit-back n m f g
 
+  pub laid-back : countsAs (figuresFor countsMade) (a .bounds) (over (posOf countsMade) us) (over (negOf countsMade) vs) ≡ countsMade
+  laid-back = back (a .point .figures) (b .point .figures) refl refl
+
   abbrev merged : Handed
   merged = mergeHanded size (handedIn a) (handedIn b)
 
@@ -134,12 +124,11 @@ module _ (size : ℕ) (a b : Stored) (e : refusalBefore size a b ≡ 0) (us vs :
   pub answers : hasRoom countsMade us vs ≡ true → Answers (merging size a b us vs) (mergeHanded size (handedIn a) (handedIn b))
   unfolding mergeHanded
   answers r =
-      let k = back (a .point .figures) (b .point .figures) refl refl in
       let z = storedIn (pointFor merged) (a .bounds) (over (posOf countsMade) us) (over (negOf countsMade) vs) in
       record {
         left = z;
         is = with-room r;
-        reads = λ j. record { counts = k j; extremes = z .point .extremes; threshold = zeroFloat; min = z .point .min; max = z .point .max; sum = z .point .sum };
+        reads = λ j. record { counts = laid-back j; extremes = z .point .extremes; threshold = zeroFloat; min = z .point .min; max = z .point .max; sum = z .point .sum };
         shape = laid-shape countsMade us vs;
       }
 
@@ -148,37 +137,17 @@ module _ (size : ℕ) (a b : Stored) (e : refusalBefore size a b ≡ 0) (us vs :
   unfolding pick
   no-room r = by-room false r
 
--- an accepted merge was not refused, and had room
-module _ (size : ℕ) (x y z : Stored) (us vs : List ℕ) (s : merging size x y us vs .answer ≡ success z) where
-  not-refused : refusalBefore size x y ≡ 0
-  not-refused =
-      ⊎-elim (λ (e : refusalBefore size x y ≡ 0). e)
-      (λ (p : 0 < refusalBefore size x y).
-      absurd (refused-not (refusalBefore size x y) z (ap (λ o. o .answer) (calls.refused-law size x y us vs (refusalBefore size x y) refl (λ n. omega (arith, n))) ∙ s)))
-      (eq-zero-or-pos (refusalBefore size x y))
-
-  pub merged-reads : (handedIn z ≡ mergeHanded size (handedIn x) (handedIn y)) × (inShape z ≡ true)
-  merged-reads =
-      ⊎-elim
-      (λ (r : hasRoom (mergeCounts size (countsIn x) (countsIn y)) us vs ≡ true).
-      let m = answers size x y not-refused us vs r in
-      let i : m .left ≡ z = success-is (m .left) z (sym (ap (λ o. o .answer) (m .is)) ∙ s) in
-      (ap handedIn (sym i) ∙ m .reads, ap inShape (sym i) ∙ m .shape))
-      (λ (r : hasRoom (mergeCounts size (countsIn x) (countsIn y)) us vs ≡ false).
-      absurd (refused-not 10 z (sym (ap (λ o. o .answer) (no-room size x y not-refused us vs r)) ∙ s)))
-      (flag (hasRoom (mergeCounts size (countsIn x) (countsIn y)) us vs))
-
-  -- and both of its points agree
-  pub merged-agree : (agreesRead size (handedIn x) ≡ true) × (agreesRead size (handedIn y) ≡ true)
-  unfolding refusalBefore unmergeable
-  merged-agree =
-      let p = agreesRead size (handedIn x) in
-      let q = agreesRead size (handedIn y) in
-      let e = pick-then (sizeAsked size (countsIn x) (countsIn y)) _ 1 (omega arith) not-refused in
-      let b = and-right (inShape x && inShape y) (p && q) (pick-left ((inShape x && inShape y) && (p && q)) _ 8 (omega arith) e) in
-      (and-left p q b, and-right p q b)
-
 -- ---- a kind that could be configured
 pub sound : (k : Kind) → Configured k → Sound k
 sound (exponential size top) h = Facts.size-in size h .0
 sound (explicit bounds) h = h
+
+-- a point that stands for values agrees by itself: under its own max_size, and so under the greatest
+size-most : (k : Kind) → Configured k → sizeOf k ≤ mostSize
+size-most (exponential size top) h = leb-true size mostSize (and-right (leb 3 size) (leb size mostSize) h)
+size-most (explicit bounds) h = omega arith
+
+pub stands-alone : (N : Number) → Owed N → (s : Settings) → Configured (s .kind) → (p : Any.Handed N) (vs : List (N .Value)) → Any.Stands N s p vs
+    → Any.handedAgrees N mostSize finest (lowestBin finest) p ≡ true
+stands-alone N O s k p vs h =
+    larger N (sizeOf (s .kind)) mostSize (lowestBin finest) p (size-most (s .kind) k) (stands-agrees N O s p vs (sound (s .kind) k) h)

@@ -11,7 +11,9 @@ use Rattle.index.specs.Bins.{finest, lowestBin}
 use Rattle.floats.specs.Answers.{shows}
 use Rattle.points.specs.Figures as F
 use Rattle.points.specs.Figures.{Kind, mostSize, sizePasses, settingsOf, exponentialCounts, explicitCounts, figuresOf}
-use Rattle.points.specs.Handed.{Handed, handedOut, handed, sameKind, mergeable, extremesAgree, countsAgree, handedAgrees, countOf, sizeAsked, unmergeable}
+use Rattle.points.specs.Handed.{Handed, handedOut, sameKind, mergeable, extremesAgree, countsAgree, handedAgrees, countOf, sizeAsked, unmergeable}
+use Rattle.points.specs.Any.{handed}
+use Rattle.points.specs.Real.{real}
 use Rattle.exponential.specs.declared.Head as SH
 use Rattle.exponential.specs.Series.{read, agrees}
 use Rattle.exponential.proofs.Lists as SRInnerLists
@@ -35,13 +37,11 @@ explicitIn bs h xs = record { counts = explicitCounts bs (bucketsIn bs (h .count
 -- of a series that holds the figures of a list, the point of the list
 module _ (k : Kind) (extremes sums : Bool) (bs : List Float) (xs ys : List ℕ) (vs : List Float) where
   pub exponential-list : (h : SH.Head) → exponentialIn h xs ys ≡ figuresOf (settingsOf k extremes sums) vs
-      → handedIn (storedIn (exponentialPoint h extremes sums) bs xs ys) ≡ handed (settingsOf k extremes sums) vs
-  unfolding handed
+      → handedIn (storedIn (exponentialPoint h extremes sums) bs xs ys) ≡ handed real (settingsOf k extremes sums) vs
   exponential-list h e = ap (handedOut (settingsOf k extremes sums)) e
 
   pub explicit-list : (h : BH.Head) → explicitIn bs h xs ≡ figuresOf (settingsOf k extremes sums) vs
-      → handedIn (storedIn (explicitPoint h extremes sums) bs xs ys) ≡ handed (settingsOf k extremes sums) vs
-  unfolding handed
+      → handedIn (storedIn (explicitPoint h extremes sums) bs xs ys) ≡ handed real (settingsOf k extremes sums) vs
   explicit-list h e = ap (handedOut (settingsOf k extremes sums)) e
 
 -- ---- AGREEMENT

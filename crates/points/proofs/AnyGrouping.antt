@@ -1,12 +1,10 @@
 -- Merging points of any number by any grouping and order, of one kind, switch and zero threshold: the same scale, rows, counts and extremes,
 -- a zero's sign aside; the fresh point changes nothing but the sum. Assumes nothing.
-use Prim.Native.Nat.{ℕ, zero, suc, _+_, _-_}
+use Prim.Native.Nat.{ℕ, zero, suc, _+_}
 use mathlib.Core.Path.{_≡_, refl, ap, sym, subst, _∙_}
-use mathlib.Core.Bool.{Bool, true, false, not, _||_}
-use mathlib.Core.List.{List, [], List·Permᴰ}
+use mathlib.Core.Bool.{Bool, true, false, _||_}
+use mathlib.Core.List.{[], List·Permᴰ}
 use native.Mathlib.Nat.{zero-add, suc-add}
-use native.Mathlib.Omega.{arith}
-use borrow.Author.Tests.{ne-eqb}
 use Rattle.laws.specs.Pick.{pick}
 use Rattle.laws.specs.Lists.{All}
 use Rattle.laws.specs.Trees.{Tree, leaves}
@@ -16,17 +14,10 @@ use Rattle.points.specs.Counts.{Settings, Counts, kindCounts, countOf, m
 use Rattle.points.specs.Number.{Number}
 use Rattle.points.specs.Any.{start, Handed, shownIf, handed, mergeHanded, Same, withSum, Of}
 use Rattle.points.proofs.Counts.{count-is, shape-one, merged-count, shape-kept, counts-comm, counts-assoc, Agreeing, counts-fresh, shape-of}
+use Rattle.points.proofs.Numbers.{shows-none, shows-some}
 use Rattle.points.proofs.Owed.{nearer, Owed}
 
--- ---- a switch that is on shows where there is a value: two counts together are 0 where both are
-shows-none : (on : Bool) → shows on 0 ≡ false
-shows-none true = refl
-shows-none false = refl
-
-shows-some : (on : Bool) (n : ℕ) → shows on (suc n) ≡ on
-shows-some true n = ap not (ne-eqb (suc n) 0 (λ e. omega (arith, e)))
-shows-some false n = refl
-
+-- ---- two counts together are 0 where both are
 either-shows : (on : Bool) (m n : ℕ) → shows on m || shows on n ≡ shows on (m + n)
 either-shows false m n = refl
 either-shows true zero n = ap (shows true) (sym (zero-add n))

@@ -1,11 +1,9 @@
 -- Points of any number: recorded one by one they are those of the list; a point handed out stands for its values in any order, and merged
 -- points for the lists joined. Assumes nothing.
-use Prim.Native.Nat.{ℕ, zero, suc, _+_}
+use Prim.Native.Nat.{ℕ, suc}
 use mathlib.Core.Path.{_≡_, refl, ap, sym, subst, _∙_}
-use mathlib.Core.Bool.{Bool, true, false, not, Bool·beq, _&&_}
+use mathlib.Core.Bool.{Bool, true, false, Bool·beq}
 use mathlib.Core.List.{List, [], _∷_, _++_, foldl, foldl-append, append-nil, append-assoc, List·Permᴰ}
-use native.Mathlib.Omega.{arith}
-use borrow.Author.Tests.{ne-eqb}
 use lib.ListN.{length}
 use Rattle.laws.specs.Pick.{pick}
 use Rattle.laws.specs.Lists.{All}
@@ -13,16 +11,12 @@ use Rattle.laws.proofs.Bools.{and-intro, beq-intro}
 use Rattle.laws.proofs.Lists.{all-append, all-perm}
 use Rattle.index.specs.Bins.{finest, lowestBin}
 use Rattle.floats.specs.Answers.{shows}
-use Rattle.points.specs.Counts.{Settings, kindCounts, recordCounts, countOf, sameKind, mergeCounts, countsAgree, resized}
+use Rattle.points.specs.Counts.{Settings, kindCounts, countOf, sameKind, mergeCounts, countsAgree, resized}
 use Rattle.points.specs.Number.{Number}
-use Rattle.points.specs.Any.{Summary, start, noted, summaryOf, figuresOf, recordFigures, Handed, shownIf, handed, mergeable, mergeHanded, extremesAgree, shownAgrees, handedAgrees, Stands}
+use Rattle.points.specs.Any.{start, noted, summaryOf, figuresOf, recordFigures, Handed, shownIf, handed, mergeable, mergeHanded, extremesAgree, shownAgrees, handedAgrees, Stands}
 use Rattle.points.proofs.Counts.{counts-append, count-is, counts-perm, Allows, counts-parts, under, sizeOf, own-size, allows-own, Sound, counts-agree, kind-same}
+use Rattle.points.proofs.Numbers.{shows-some}
 use Rattle.points.proofs.Owed.{chosen, nearer, extreme, Owed}
-
--- a switch that is on shows where there is a value
-shows-some : (on : Bool) (n : ℕ) → shows on (suc n) ≡ on
-shows-some true n = ap not (ne-eqb (suc n) 0 (λ e. omega (arith, e)))
-shows-some false n = refl
 
 module _ (N : Number) (O : Owed N) where
   abbrev Val : Type 0

@@ -1,8 +1,7 @@
 -- Equal numbers; extremes that are the same, a zero's sign aside; extremes shown by a switch and a count, and two of them merged. Assumes nothing.
-use Prim.Native.Nat.{ℕ, zero, suc, _+_}
-use mathlib.Core.Path.{_≡_, refl, ap, sym, subst, _∙_}
+use Prim.Native.Nat.{ℕ, suc}
+use mathlib.Core.Path.{_≡_, refl, ap, sym}
 use mathlib.Core.Bool.{Bool, true, false, not, _||_}
-use native.Mathlib.Nat.{zero-add, suc-add}
 use native.Mathlib.Omega.{arith}
 use borrow.Author.Tests.{ne-eqb}
 use lib.Ieee.{Float, binary64}
@@ -14,7 +13,7 @@ use Rattle.floats.specs.declared.Extreme.{Extreme}
 use Rattle.floats.specs.declared.Extreme.the-variants.{None, Value}
 use Rattle.floats.proofs.Choices.{chosen, eq-refl, eq-sym, eq-trans, chosen-cong, chosen-comm, chosen-assoc}
 use Rattle.floats.proofs.Starts.{finite-ok, chosen-finite}
-use Rattle.points.specs.Same.{SameNumber, SameExtreme}
+use Rattle.points.specs.Real.{SameNumber, SameExtreme}
 
 -- ---- the same number
 pub number-refl : (x : Float) → FiniteF64 x → SameNumber x x
@@ -81,9 +80,6 @@ unfolding pick
 same-shown true x y h = h
 same-shown false x y h = tt
 
-pub shown-next : (due : Bool) (e : Extreme) (x y : Float) → SameExtreme e (shownIf due x) → SameNumber x y → SameExtreme e (shownIf due y)
-shown-next due e x y h k = extreme-trans e (shownIf due x) (shownIf due y) h (same-shown due x y k)
-
 -- ---- two extremes merged: the smaller where up, otherwise the larger
 abbrev pub nearer : Bool → Extreme → Extreme → Extreme
 nearer true a b = smallerOf a b
@@ -107,9 +103,6 @@ nearer-shown true true x y = refl
 nearer-shown true false x y = refl
 nearer-shown false true x y = refl
 nearer-shown false false x y = refl
-
-pub shown-merged : (up due : Bool) (a b : Extreme) (x y : Float) → SameExtreme a (shownIf due x) → SameExtreme b (shownIf due y) → SameExtreme (nearer up a b) (shownIf due (chosen up x y))
-shown-merged up due a b x y h k = subst (SameExtreme (nearer up a b)) (nearer-shown up due x y) (nearer-cong up a b (shownIf due x) (shownIf due y) h k)
 
 -- one that is not there gives way
 pub nearer-none : (up : Bool) (a : Extreme) → (nearer up None a ≡ a) × (nearer up a None ≡ a)
@@ -175,7 +168,7 @@ of-shown true None k = absurd (not-both true refl (sym (k .is)))
 of-shown false (Value x) k = absurd (not-both true refl (k .is))
 of-shown false None k = tt
 
--- merged, where either was: two counts together are 0 where both are
+-- merged, where either was
 pub either-shown : (up : Bool) (a b : Extreme) → isShown (nearer up a b) ≡ isShown a || isShown b
 either-shown true None b = refl
 either-shown false None b = refl
@@ -183,27 +176,3 @@ either-shown true (Value x) None = refl
 either-shown false (Value x) None = refl
 either-shown true (Value x) (Value y) = refl
 either-shown false (Value x) (Value y) = refl
-
-either-shows : (on : Bool) (m n : ℕ) → shows on m || shows on n ≡ shows on (m + n)
-either-shows false m n = refl
-either-shows true zero n = ap (shows true) (sym (zero-add n))
-either-shows true (suc m) n = ap (λ b. b || shows true n) (shows-some true m) ∙ sym (ap (shows true) (suc-add m n) ∙ shows-some true (m + n))
-
-pub due-nearer : (up on : Bool) (m n : ℕ) (a b : Extreme) → isShown a ≡ shows on m → isShown b ≡ shows on n → isShown (nearer up a b) ≡ shows on (m + n)
-due-nearer up on m n a b p q = either-shown up a b ∙ (λ j. p j || q j) ∙ either-shows on m n
-
-pub shown-nearer : (up on : Bool) (m n : ℕ) (a b : Extreme) → Shown (shows on m) a → Shown (shows on n) b → Shown (shows on (m + n)) (nearer up a b)
-shown-nearer up on m n a b p q = record { known = numeric-nearer up a b (p .known) (q .known); is = due-nearer up on m n a b (p .is) (q .is) }
-
-module _ {d : Bool} {a : Extreme} (p : Shown d a) where
-  pub shown-self : SameExtreme a a
-  shown-self = numeric-self a (p .known)
-
-  module _ (up : Bool) {e : Bool} {b : Extreme} (q : Shown e b) where
-    pub nearer-comm : SameExtreme (nearer up a b) (nearer up b a)
-    nearer-comm = numeric-comm up a b (p .known) (q .known)
-
-    pub nearer-assoc : {f : Bool} {c : Extreme} → Shown f c → SameExtreme (nearer up (nearer up a b) c) (nearer up a (nearer up b c))
-    nearer-assoc {f} {c} r =
-        subst (SameExtreme (nearer up (nearer up a b) c)) (numeric-assoc up a b c (p .known) (q .known) (r .known))
-        (numeric-self (nearer up (nearer up a b) c) (numeric-nearer up (nearer up a b) c (numeric-nearer up a b (p .known) (q .known)) (r .known)))

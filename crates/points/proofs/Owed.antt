@@ -1,5 +1,4 @@
 -- WHAT A NUMBER OWES for the laws of points to hold of it: f64 (Real.antt) and i64 (Whole.antt) pay it. Assumes nothing.
-use Prim.Native.Nat.{ℕ}
 use mathlib.Core.Path.{_≡_}
 use mathlib.Core.Bool.{Bool, true, false, _||_}
 use mathlib.Core.List.{List, [], _∷_, _++_, List·Permᴰ}
@@ -52,8 +51,11 @@ module _ (N : Number) where
     pub nearer-shown : (up due : Bool) (x y : N .Value) → nearer up (shownIf N due x) (shownIf N due y) ≡ shownIf N due (chosen up x y)
     pub nearer-none : (up : Bool) (a : N .Extreme) → (nearer up (N .none) a ≡ a) × (nearer up a (N .none) ≡ a)
     pub not-shown : (e : N .Extreme) → N .SameExtreme e (N .none) → e ≡ N .none
+    pub unshown : (e : N .Extreme) → N .isShown e ≡ false → e ≡ N .none
     pub extremes-agree : (due : Bool) (a b : N .Extreme) (x y : N .Value) → N .SameExtreme a (shownIf N due x) → N .SameExtreme b (shownIf N due y)
         → extremesAgree N due a b ≡ true
+    -- of a minimum and a maximum that are finite, both or neither, and another two, the chosen ones are
+    pub finite-merged : (a b c d : N .Extreme) → N .finiteOrNone a b ≡ true → N .finiteOrNone c d ≡ true → N .finiteOrNone (N .smaller a c) (N .larger b d) ≡ true
     -- an extreme that is a value, if it is there
     pub Numeric : N .Extreme → Type 0
     pub numberIn : N .Extreme → N .Value
@@ -72,3 +74,8 @@ module _ (N : Number) where
     pub within-parts : (vs ws : List (N .Value)) → N .Within (vs ++ ws) → N .Within vs × N .Within ws
     pub within-perm : (vs ws : List (N .Value)) → List·Permᴰ vs ws → N .Within vs → N .Within ws
     pub sum-within : (on : Bool) (x y : N .Value) (vs ws : List (N .Value)) → N .SumStands on x vs → N .SumStands on y ws → N .Within (vs ++ ws) → N .beyond x y ≡ 0
+    -- sums added up two by two, whatever they are the sums of
+    pub Adds : N .Value → List (N .Value) → Type 0
+    pub adds-one : (x : N .Value) → Adds x (x ∷ [])
+    pub adds-join : (x y : N .Value) (vs ws : List (N .Value)) → Adds x vs → Adds y ws → Adds (N .add x y) (vs ++ ws)
+    pub adds-within : (x y : N .Value) (vs ws : List (N .Value)) → Adds x vs → Adds y ws → N .Within (vs ++ ws) → N .beyond x y ≡ 0

@@ -7,11 +7,12 @@ use lib.Ieee.Bits.{is-true}
 use lib.Ieee.Scale.{finite}
 use Rattle.laws.specs.Pick.{pick}
 use Rattle.laws.specs.Lists.{All}
-use Rattle.laws.proofs.Bools.{and-intro}
-use Rattle.laws.proofs.Cases.{and-true}
+use Rattle.laws.proofs.Bools.{and-left, and-right, and-intro, not-both}
+use Rattle.laws.proofs.Cases.{and-true, true-not-false}
 use Rattle.laws.proofs.Lists.{all-perm}
 use Rattle.floats.specs.declared.Extreme.{Extreme}
 use Rattle.floats.specs.declared.Extreme.the-variants.{None, Value}
+use Rattle.floats.specs.Answers.{lesserOf, greaterOf, isShown, smallerOf, largerOf}
 use Rattle.floats.specs.Grid.{grid}
 use Rattle.floats.specs.Starts.{zeroFloat, FiniteF64}
 use Rattle.floats.proofs.Choices.{finite-chosen}
@@ -19,7 +20,7 @@ use Rattle.floats.proofs.Starts.{finite-f64}
 use Rattle.floats.proofs.Sums.{total-perm, gridded-perm, gridded-left, gridded-right, grid-parts, zeros-add}
 use Rattle.points.specs.Values.{summaryOf}
 use Rattle.points.specs.Handed.{extremesAgree}
-use Rattle.points.specs.Real.{SameNumber, SameExtreme, SumStands, real}
+use Rattle.points.specs.Real.{finiteOrNone, SameNumber, SameExtreme, SumStands, real}
 use Rattle.points.proofs.Owed.{chosen, nearer, extreme, Owed}
 use Rattle.points.proofs.Numbers as X
 use Rattle.points.proofs.Numbers.{shownIf}
@@ -43,6 +44,22 @@ sum-join false x y vs ws h k = rw (h, k) zeros-add
 not-shown : (e : Extreme) → SameExtreme e None → e ≡ None
 not-shown None h = refl
 not-shown (Value y) h = absurd h
+
+unshown : (e : Extreme) → isShown e ≡ false → e ≡ None
+unshown None h = refl
+unshown (Value x) h = absurd (not-both true refl h)
+
+finite-merged : (a b c d : Extreme) → finiteOrNone a b ≡ true → finiteOrNone c d ≡ true → finiteOrNone (smallerOf a c) (largerOf b d) ≡ true
+finite-merged None None c d h k = k
+finite-merged None (Value y) c d h k = true-not-false (sym h)
+finite-merged (Value x) None c d h k = true-not-false (sym h)
+finite-merged (Value x) (Value y) None None h k = h
+finite-merged (Value x) (Value y) None (Value w) h k = true-not-false (sym k)
+finite-merged (Value x) (Value y) (Value z) None h k = true-not-false (sym k)
+finite-merged (Value x) (Value y) (Value z) (Value w) h k =
+    and-intro (finite (lesserOf x z)) (finite (greaterOf y w))
+    (finite-chosen true x z (and-left (finite x) (finite y) h) (and-left (finite z) (finite w) k))
+    (finite-chosen false y w (and-right (finite x) (finite y) h) (and-right (finite z) (finite w) k))
 
 extremes-agree : (due : Bool) (a b : Extreme) (x y : Float) → SameExtreme a (shownIf due x) → SameExtreme b (shownIf due y) → extremesAgree due a b ≡ true
 unfolding pick
@@ -97,7 +114,9 @@ owed =
       nearer-shown = shown;
       nearer-none = X.nearer-none;
       not-shown = not-shown;
+      unshown = unshown;
       extremes-agree = extremes-agree;
+      finite-merged = finite-merged;
       Numeric = X.Numeric;
       numberIn = X.numberIn;
       shown-of = λ due e x h. let r = X.shown-of due e x h in (r .known, r .is);
@@ -113,4 +132,8 @@ owed =
       within-parts = λ vs ws w. (tt, tt);
       within-perm = λ vs ws h w. tt;
       sum-within = λ on x y vs ws h k w. refl;
+      Adds = λ x vs. Unit;
+      adds-one = λ x. tt;
+      adds-join = λ x y vs ws h k. tt;
+      adds-within = λ x y vs ws h k w. refl;
     }

@@ -1,20 +1,20 @@
 -- i64 pays what a number owes. Assumes nothing.
-use Prim.Native.Nat.{ℕ, suc, _+_, _^_, _≤_, _<_}
+use Prim.Native.Nat.{ℕ, suc, _+_, _^_, _<_}
 use mathlib.Core.Path.{_≡_, refl, ap, sym, subst, _∙_}
 use mathlib.Core.Bool.{Bool, true, false, _||_}
 use mathlib.Core.List.{List, [], _∷_, _++_, map, map-append, foldl, List·Permᴰ}
 use native.Mathlib.Omega.{arith}
 use borrow.Author.Tests.{ltb-true}
 use lib.ListN.{length}
-use lib.Dec.{ltb}
-use lib.IntN.{ℤ, pos, negsuc, _+ℤ_}
+use lib.IntN.{ℤ, pos, negsuc, _+ℤ_, +ℤ-idr}
 use lib.Signed.{mag}
 use Rattle.laws.specs.Pick.{pick}
 use Rattle.laws.specs.Lists.{All}
 use Rattle.laws.proofs.Bools.{not-both}
+use Rattle.laws.proofs.Cases.{true-not-false}
 use Rattle.laws.proofs.Lists.{map-perm}
 use Rattle.floats.specs.Starts.{FiniteF64}
-use Rattle.integers.specs.Answers.{nearestOf, inRange, isShown}
+use Rattle.integers.specs.Answers.{nearestOf, inRange, isShown, smallerOf, largerOf}
 use Rattle.integers.specs.Totals.{total, weight}
 use Rattle.integers.specs.declared.Extreme.{Extreme}
 use Rattle.integers.specs.declared.Extreme.the-variants.{None, Value}
@@ -22,7 +22,7 @@ use Rattle.integers.proofs.Order as Z
 use Rattle.integers.proofs.NoNearer.{nearest-is}
 use Rattle.integers.proofs.Totals.{total-is, total-perm, total-append, weight-perm, weight-append, total-range}
 use Rattle.points.specs.Any.{Summary, start, noted, summaryOf, shownIf, extremesAgree}
-use Rattle.points.specs.Whole.{SameExtreme, SumStands, Light, whole}
+use Rattle.points.specs.Whole.{bothOrNone, SameExtreme, SumStands, Light, whole}
 use Rattle.points.proofs.Owed.{chosen, nearer, extreme, Owed}
 
 -- ---- the f64s
@@ -131,6 +131,15 @@ unfolding pick
 agree true x y = refl
 agree false x y = refl
 
+both-merged : (a b c d : Extreme) → bothOrNone a b ≡ true → bothOrNone c d ≡ true → bothOrNone (smallerOf a c) (largerOf b d) ≡ true
+both-merged None None c d h k = k
+both-merged None (Value y) c d h k = true-not-false (sym h)
+both-merged (Value x) None c d h k = true-not-false (sym h)
+both-merged (Value x) (Value y) None None h k = h
+both-merged (Value x) (Value y) None (Value w) h k = true-not-false (sym k)
+both-merged (Value x) (Value y) (Value z) None h k = true-not-false (sym k)
+both-merged (Value x) (Value y) (Value z) (Value w) h k = refl
+
 abbrev numberIn : Extreme → ℤ
 numberIn None = pos 0
 numberIn (Value x) = x
@@ -141,6 +150,10 @@ of-shown true (Value x) h = refl
 of-shown true None h = absurd (not-both true refl (sym h))
 of-shown false (Value x) h = absurd (not-both true refl h)
 of-shown false None h = refl
+
+unshown : (e : Extreme) → isShown e ≡ false → e ≡ None
+unfolding pick
+unshown e h = of-shown false e h
 
 either : (up : Bool) (a b : Extreme) → isShown (nearer whole up a b) ≡ isShown a || isShown b
 either true None b = refl
@@ -207,6 +220,10 @@ fine : (x y : ℤ) → inRange (x +ℤ y) ≡ true → whole .beyond x y ≡ 0
 unfolding pick
 fine x y e = rw e
 
+adds-one : (x : ℤ) → x ≡ total (x ∷ [])
+unfolding total
+adds-one x = sym (+ℤ-idr x)
+
 sum-within : (on : Bool) (x y : ℤ) (vs ws : List ℤ) → SumStands on x vs → SumStands on y ws → Light (vs ++ ws) → whole .beyond x y ≡ 0
 sum-within true x y vs ws h k l = fine x y (ap inRange ((λ i. h i +ℤ k i) ∙ sym (total-append vs ws)) ∙ total-range (vs ++ ws) (l .light))
 sum-within false x y vs ws h k l = fine x y (λ i. inRange (h i +ℤ k i))
@@ -235,8 +252,10 @@ owed =
       nearer-shown = shown;
       nearer-none = none;
       not-shown = λ e h. same-is e None h;
+      unshown = unshown;
       extremes-agree = λ due a b x y h k.
           (λ i. extremesAgree whole due (same-is a (shownIf whole due x) h i) (same-is b (shownIf whole due y) k i)) ∙ agree due x y;
+      finite-merged = both-merged;
       Numeric = λ e. Unit;
       numberIn = numberIn;
       shown-of = λ due e x h. (tt, ap isShown (same-is e (shownIf whole due x) h) ∙ shown-is due x);
@@ -252,4 +271,8 @@ owed =
       within-parts = light-parts;
       within-perm = light-perm;
       sum-within = sum-within;
+      Adds = λ x vs. x ≡ total vs;
+      adds-one = adds-one;
+      adds-join = sum-join true;
+      adds-within = sum-within true;
     }

@@ -89,7 +89,7 @@ module _ (size : ℕ) (x y : Stored) (us vs : List ℕ) where
   before = Q.refusalBefore size (shadowStored x) (shadowStored y)
 
   -- the number of the shadows, or else the sum's
-  number-is : refusalBefore size x y ≡ pick (eqb before 0) (whole .beyond (x .point .sum) (y .point .sum)) before
+  pub number-is : refusalBefore size x y ≡ pick (eqb before 0) (whole .beyond (x .point .sum) (y .point .sum)) before
   unfolding refusalBefore Q.refusalBefore R.unmergeable R.mergeable R.handedAgrees
   number-is = shadow-number size (inShape x && inShape y) (handedIn x) (handedIn y)
 

@@ -30,7 +30,7 @@ use Rattle.records.specs.Records.{padded, width}
 use Rattle.records.proofs.Records.{length-padded}
 use Rattle.sheets.specs.Entries.{Entry, ownSpan, headOf, entryWords, entriesWords, setFine, exact, entryFine, ascending}
 use Rattle.sheets.specs.Inner.{rowFine}
-use Rattle.sheets.specs.Sheet.{mostPoints, sameList, writable}
+use Rattle.sheets.specs.Sheet.{Sheet, mostPoints, sameList, writable}
 use Rattle.sheets.specs.declared.Header.{Header}
 use Rattle.sheets.proofs.EntryParts.{head-twelve}
 use Rattle.sheets.proofs.SameLists.{no-test}
@@ -39,7 +39,7 @@ use Rattle.sheet_writing.specs.declared.judge.Judged.{Judged}
 use Rattle.sheet_writing.specs.declared.judge.Judged.the-variants.{Bad, Fine}
 use Rattle.sheet_writing.specs.Inner.{origin, follows, rowTaken, stepAt, widthAt, judgedFrom, judged}
 use Rattle.sheets.specs.Lists.{wholeFound, listed}
-use Rattle.sheet_writing.specs.Writing.{ends, writingOf, writing}
+use Rattle.sheet_writing.specs.Writing.{Outcome, ends, writingOf, shadowed, noWhole, writing}
 use Rattle.sheet_writing.proofs.Steps.{present, agreeing-in, step-is, Passed, step-passed, step-width}
 use Rattle.sheet_writing.proofs.Steps.{whole-next, long-bounds, long-pos, long-neg, whole-exact, from-bad, from-more, judged-most, judged-over}
 
@@ -53,22 +53,22 @@ firstBehind i sets (e ∷ es) = eqb i 0 || below (cmp (setOf (getD sets (i - 1) 
 abbrev goodFrom : Cursor → Source → List Entry → Bool
 goodFrom at x es = firstBehind (at .place) (x .list .sets) es && (ascending es && all entryFine es)
 
-abbrev verdict : Cursor → ℕ → Source → Option (List Entry) → Judged
+abbrev pub verdict : Cursor → ℕ → Source → Option (List Entry) → Judged
 verdict at k x none = Bad
 verdict at k x (some es) = pick (goodFrom at x es) (Fine (k + length (entriesWords es))) Bad
 
 -- the points from a cursor on
-abbrev from : ℕ → Cursor → Source → Option (List Entry)
+abbrev pub from : ℕ → Cursor → Source → Option (List Entry)
 from n at x = readFrom (wholeFound (x .bounds)) n at (x .list)
 
 abbrev rowHere : Cursor → Source → List ℕ
 rowHere at x = getD (x .list .sets) (at .place) []
 
-abbrev entryHere : Cursor → Source → Listing.Entry → Entry
+abbrev pub entryHere : Cursor → Source → Listing.Entry → Entry
 entryHere at x e = (setOf (rowHere at x), storedAt at e (x .bounds) (x .list))
 
 -- the place has the row of a set
-abbrev rowThere : Cursor → Source → Bool
+abbrev pub rowThere : Cursor → Source → Bool
 rowThere at x = ltb (at .place) (length (x .list .sets)) && sameList (rowOf (setOf (rowHere at x))) (rowHere at x)
 
 -- ---- reading on
@@ -77,17 +77,17 @@ abbrev reading : ℕ → Cursor → Source → Option (Stored × Cursor) → Opt
 reading n at x y = elim y [ none ↦ none | some z ↦ Option·map (λ l. (setOf (rowHere at x), z .0) ∷ l) (from n (z .1) x) ]
 
 module _ (n : ℕ) (at : Cursor) (x : Source) where
-  rowless : rowThere at x ≡ false → from (suc n) at x ≡ none
+  pub rowless : rowThere at x ≡ false → from (suc n) at x ≡ none
   rowless t = ap (reading n at x) (pick-false (rowThere at x) _ none t)
 
   module _ (t : rowThere at x ≡ true) where
     abbrev whole : Found → Option (Stored × Cursor)
     whole f = elim f [ NoPoint ↦ none | Is e ↦ some (storedAt at e (x .bounds) (x .list), e .next) ]
 
-    pointless : wholeAt at x ≡ NoPoint → from (suc n) at x ≡ none
+    pub pointless : wholeAt at x ≡ NoPoint → from (suc n) at x ≡ none
     pointless h = ap (reading n at x) (pick-true (rowThere at x) (whole (wholeAt at x)) none t ∙ ap whole h)
 
-    read-on : (e : Listing.Entry) → wholeAt at x ≡ Is e → from (suc n) at x ≡ Option·map (λ l. entryHere at x e ∷ l) (from n (e .next) x)
+    pub read-on : (e : Listing.Entry) → wholeAt at x ≡ Is e → from (suc n) at x ≡ Option·map (λ l. entryHere at x e ∷ l) (from n (e .next) x)
     read-on e h = ap (reading n at x) (pick-true (rowThere at x) (whole (wholeAt at x)) none t ∙ ap whole h)
 
 -- ---- a point that passes
@@ -308,7 +308,7 @@ pub record Sheeted (h : Header) (n : ℕ) (x : Source) (c : ℕ) : Type 0 where
   pub words : length (entriesWords es) ≡ c
 
 module _ (h : Header) (n : ℕ) (x : Source) where
-  whole-verdict : n ≤ 64 → judged n x ≡ verdict origin 0 x (listed n x)
+  pub whole-verdict : n ≤ 64 → judged n x ≡ verdict origin 0 x (listed n x)
   whole-verdict l = sym (judged-most n x l) ∙ judged-is x n origin 0 (λ z. absurd (z refl))
 
   unwritable : judged n x ≡ Bad → (es : List Entry) → listed n x ≡ some es → writable (record { header = h; points = es }) ≡ false
@@ -325,16 +325,6 @@ module _ (h : Header) (n : ℕ) (x : Source) where
       let f : t ≡ false = lt-leb (length es) mostPoints (omega (arith, l, read-many x n origin es e)) in
       ap (λ (b : Bool). b && g) f)
       (le-or-lt n 64)
-
-  refused : (out : List ℕ) (y : Option (List Entry)) → ((es : List Entry) → y ≡ some es → writable (record { header = h; points = es }) ≡ false)
-      → elim y [ none ↦ ends (refusal 8) out | some es ↦ writingOf (record { header = h; points = es }) out ] ≡ ends (refusal 8) out
-  unfolding writingOf
-  refused out none f = refl
-  refused out (some es) f = pick-false (writable (record { header = h; points = es })) _ _ (f es refl)
-
-  pub judged-bad : judged n x ≡ Bad → (out : List ℕ) → writing h n x out ≡ ends (refusal 8) out
-  unfolding writing
-  judged-bad j out = refused out (listed n x) (unwritable j)
 
   of-fine : (c : ℕ) → n ≤ 64 → (y : Option (List Entry)) → listed n x ≡ y → verdict origin 0 x y ≡ Fine c → Sheeted h n x c
   unfolding writable
@@ -386,3 +376,29 @@ module _ (x : Source) (c : ℕ) where
       (λ (l : n ≤ 64). let f = judged-most n x l ∙ j in (l, f, omega (arith, l, from-few n origin 0 f .1)))
       (λ l. true-not-false (sym (ap isFine (judged-over n x l ∙ j))))
       (le-or-lt n 64)
+
+-- ---- a list that was judged bad
+
+module _ (h : Header) (n : ℕ) (x : Source) (out : List ℕ) where
+  -- 8 whether or not there is a point of i64 values
+  eight : (t w : Bool) (o : Outcome) → w ≡ false → o ≡ ends (refusal 8) out → pick t o (ends (refusal (pick w 11 8)) out) ≡ ends (refusal 8) out
+  unfolding pick
+  eight true w o e p = p
+  eight false w o e p = ap (λ (b : Bool). ends (refusal (pick b 11 8)) out) e
+
+  refused : (y : Option (List Entry)) → ((es : List Entry) → y ≡ some es → writable (record { header = h; points = es }) ≡ false)
+      → elim y [
+        | none ↦ ends (refusal 8) out
+        | some es ↦
+            let t : Sheet = record { header = h; points = es } in
+            pick (noWhole n x) (writingOf t out) (ends (refusal (pick (writable t) 11 8)) out)
+      ] ≡ ends (refusal 8) out
+  unfolding writingOf
+  refused none f = refl
+  refused (some es) f =
+      let t : Sheet = record { header = h; points = es } in
+      eight (noWhole n x) (writable t) (writingOf t out) (f es refl) (pick-false (writable t) _ _ (f es refl))
+
+  pub judged-bad : judged n (shadowed x) ≡ Bad → writing h n x out ≡ ends (refusal 8) out
+  unfolding writing
+  judged-bad j = refused (listed n (shadowed x)) (unwritable h n (shadowed x) j)

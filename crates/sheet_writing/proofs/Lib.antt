@@ -4,4 +4,5 @@ pub mod Judged
 pub mod Putting
 pub mod Walk
 pub mod PutLaws
+pub mod Wholes
 pub mod Answered

@@ -47,12 +47,12 @@ abbrev entryHere : Cursor → Source → Listing.Entry → Entry
 entryHere at x e = (setOf (rowHere at x), storedAt at e (x .bounds) (x .list))
 
 -- it is there, with its set's own row; then the others are read
-record Cut (n : ℕ) (at : Cursor) (x : Source) (es : List Entry) : Type 0 where
-  e : Listing.Entry
-  rest : List Entry
-  whole : wholeAt at x ≡ Is e
+pub record Cut (n : ℕ) (at : Cursor) (x : Source) (es : List Entry) : Type 0 where
+  pub e : Listing.Entry
+  pub rest : List Entry
+  pub whole : wholeAt at x ≡ Is e
   own : rowOf (setOf (rowHere at x)) ≡ rowHere at x
-  read : from n (e .next) x ≡ some rest
+  pub read : from n (e .next) x ≡ some rest
   are : entryHere at x e ∷ rest ≡ es
 
 mapped : (e : Entry) (y : Option (List Entry)) (es : List Entry) → Option·map (λ l. e ∷ l) y ≡ some es → (l : List Entry) × (y ≡ some l) × (e ∷ l ≡ es)
@@ -82,7 +82,7 @@ module _ (n : ℕ) (at : Cursor) (x : Source) (es : List Entry) where
         are = m .2;
       }
 
-  cut : from (suc n) at x ≡ some es → Cut n at x es
+  pub cut : from (suc n) at x ≡ some es → Cut n at x es
   cut h =
       ⊎-elim (λ t. by-found t (wholeAt at x) refl (sym (ap reading (pick-true test (found (wholeAt at x)) none t)) ∙ h))
       (λ t. none-not-some (sym (ap reading (pick-false test (found (wholeAt at x)) none t)) ∙ h))

@@ -2,22 +2,26 @@
 -- A list walked point by point, as the code walks it: judged, and put into bytes. Assumes nothing.
 use Prim.Native.Nat.{ℕ, zero, suc, _+_, _-_, _*_, _/_, _≤_}
 use mathlib.Core.Path.{_≡_}
-use mathlib.Core.Bool.{Bool, _&&_, _||_}
+use mathlib.Core.Bool.{Bool, not, _&&_, _||_}
 use mathlib.Core.List.{List, [], _∷_, _++_, map}
 use lib.Dec.{leb, ltb, eqb}
 use lib.ListN.{length, getD}
 use lib.Ieee.{Float}
 use denote.Ref.{RefT, now}
 use Rattle.laws.specs.Pick.{pick}
+use Rattle.sets.specs.All.{allb}
 use Rattle.sets.specs.Rows.{size, setOf, below}
 use Rattle.tally.specs.Sets.{cmp}
 use Rattle.floats.specs.Answers.{bitsOf}
 use Rattle.point.specs.Handing.{agreesAlone}
+use Rattle.whole_point.specs.Handing.{shadowPoint}
 use Rattle.listing.specs.Listed.{storedAt}
 use Rattle.listing.specs.declared.Cursor.{Cursor}
 use Rattle.listing.specs.declared.Entry as Listing
 use Rattle.listing.specs.declared.Found.{Found}
 use Rattle.listing.specs.declared.Found.the-variants.{NoPoint, Is}
+use Rattle.whole_listing.specs.declared.Found as W
+use Rattle.whole_listing.specs.declared.Found.the-variants as WF
 use Rattle.pooling.specs.Lists.{Source, wholeAt}
 use Rattle.pooling.specs.Entries.{Whole}
 use Rattle.records.specs.Records.{padded}
@@ -41,6 +45,11 @@ follows i a b = eqb i 0 || (leb (size a) 8 && (leb (size b) 8 && below (cmp (set
 -- a place has the row of a set that may be written there
 abbrev pub rowTaken : ℕ → List (List ℕ) → Bool
 rowTaken i sets = ltb i (length sets) && (rowFine (getD sets i []) && follows i (getD sets (i - 1) []) (getD sets i []))
+
+-- the shadow of a point of i64 values that was found
+abbrev pub shadowFound : W.Found → Found
+shadowFound WF.NoPoint = NoPoint
+shadowFound (WF.Is e) = Is (record { point = shadowPoint (e .point); bounds = e .bounds; next = e .next })
 
 abbrev pub agreeing : Cursor → Source → Found → Found
 agreeing at x NoPoint = NoPoint
@@ -73,6 +82,10 @@ judgedFrom (suc n) at k x = elim (stepAt at x) [ NoPoint ↦ Bad | Is e ↦ judg
 
 unfoldable pub judged : ℕ → Source → Judged
 judged n x = pick (leb n mostPoints) (judgedFrom n origin 0 x) Bad
+
+-- no words of the first n have the kind of a point of i64 values, 2 or more
+unfoldable pub noKind : ℕ → List (List ℕ) → Bool
+noKind n words = allb n (λ i. not (leb 2 (getD (getD words i []) 0 0)))
 
 -- ---- put
 

@@ -1,8 +1,9 @@
 // Whether points of a list can be written, and how many words they take: all that is asked before the first byte is written.
 ghost use mathlib.Core.Path.{_≡_};
 ghost use Prim.Native.Nat.{_-_};
-ghost use Rattle.pooling.specs.Lists.{source};
-ghost use Rattle.sheet_writing.specs.Inner.{follows, rowTaken, lentBeside, agreeing, stepAt, Spanned, widthAt, judged};
+ghost use Rattle.pooling.specs.Lists.{source, nameless, bounded, wholeAt};
+ghost use Rattle.sheet_writing.specs.Writing.{shadowed};
+ghost use Rattle.sheet_writing.specs.Inner.{follows, rowTaken, shadowFound, lentBeside, agreeing, stepAt, Spanned, widthAt, judged, noKind};
 use listing::Cursor;
 use listing::Entry;
 use listing::Found;
@@ -54,6 +55,40 @@ fn row_taken(i: usize, sets: &[[u64; 9]]) -> bool
     may_follow(i, &last, &row)
 }
 
+// The shadow of a point of i64 values that was found, if its bounds lie in a store of so many.
+fn shadow_found(many: usize, found: whole_listing::Found) -> Found
+    ensures { λ r. ⌜ r ≡ bounded many (shadowFound found) ⌝ }
+{
+    match found {
+        whole_listing::Found::NoPoint => Found::NoPoint,
+        whole_listing::Found::Is(e) => {
+            let b = e.bounds;
+            if !listing::read::lie(b.start, b.len, many) {
+                return Found::NoPoint;
+            }
+            let p = e.point;
+            let shadow = whole_point::shadow_of(p);
+            let next = e.next;
+            Found::Is(Entry {
+                point: shadow,
+                bounds: b,
+                next,
+            })
+        }
+    }
+}
+
+// The point at a cursor, one of i64 values as its shadow, if it is there with its counts and its bounds.
+fn shadow_at(at: Cursor, words: &[[u64; 12]], pos: &[u64], neg: &[u64], bounds: &[f64]) -> Found
+    ensures { λ r. ⌜ r ≡ wholeAt at (shadowed (nameless (words .entry) (pos .entry) (neg .entry) (bounds .entry))) ⌝ }
+{
+    if !whole_listing::decode::is_whole(at, words) {
+        return pooling::entries::whole_at(at, words, pos, neg, bounds);
+    }
+    let found = whole_listing::read::point_at(at, words, pos, neg);
+    shadow_found(bounds.len(), found)
+}
+
 // The point found at a cursor, if it agrees with itself.
 fn agreeing_at<'a>(
     at: Cursor,
@@ -80,7 +115,7 @@ fn agreeing_at<'a>(
     }
 }
 
-// The point at a cursor, if it can be written behind the one before it.
+// The point at a cursor, if it can be written behind the one before it; one of i64 values is judged by its shadow, which agrees where it does.
 fn step_at<'a>(
     at: Cursor,
     sets: &[[u64; 9]],
@@ -89,12 +124,12 @@ fn step_at<'a>(
     neg: &'a [u64],
     bounds: &[f64],
 ) -> Found
-    ensures { λ r. ⌜ r ≡ stepAt at (source (sets .entry) (words .entry) (pos .entry) (neg .entry) (bounds .entry)) ⌝ }
+    ensures { λ r. ⌜ r ≡ stepAt at (shadowed (source (sets .entry) (words .entry) (pos .entry) (neg .entry) (bounds .entry))) ⌝ }
 {
     if !row_taken(at.place, sets) {
         return Found::NoPoint;
     }
-    let found = pooling::entries::whole_at(at, words, pos, neg, bounds);
+    let found = shadow_at(at, words, pos, neg, bounds);
     agreeing_at(at, found, pos, neg, bounds)
 }
 
@@ -109,7 +144,7 @@ pub fn width_at(at: Cursor, e: Entry) -> usize
     21 + (records::chain::width_of(b.len) + records::chain::width_of(m))
 }
 
-// How many words the first n points of a list take, if they can be written.
+// How many words the first n points of a list take, if they can be written, or could were they not of i64 values.
 pub fn judge<'a>(
     n: usize,
     sets: &[[u64; 9]],
@@ -118,7 +153,7 @@ pub fn judge<'a>(
     neg: &'a [u64],
     bounds: &[f64],
 ) -> Judged
-    ensures { λ r. ⌜ r ≡ judged n (source (sets .entry) (words .entry) (pos .entry) (neg .entry) (bounds .entry)) ⌝ }
+    ensures { λ r. ⌜ r ≡ judged n (shadowed (source (sets .entry) (words .entry) (pos .entry) (neg .entry) (bounds .entry))) ⌝ }
 {
     if n > 64 {
         return Judged::Bad;
@@ -139,4 +174,23 @@ pub fn judge<'a>(
         i += 1;
     }
     Judged::Fine(cells)
+}
+
+// Whether no words of the first n have the kind of a point of i64 values; of points that were judged fine: whether none is one.
+pub fn no_kind(n: usize, words: &[[u64; 12]]) -> bool
+    ensures { λ r. ⌜ r ≡ noKind n (now (words .entry)) ⌝ }
+{
+    let mut i: usize = 0;
+    while i < n {
+        let at = Cursor {
+            place: i,
+            pos: 0,
+            neg: 0,
+        };
+        if whole_listing::decode::is_whole(at, words) {
+            return false;
+        }
+        i += 1;
+    }
+    true
 }

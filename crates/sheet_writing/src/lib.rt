@@ -16,7 +16,7 @@ pub enum Answer {
 
 // Writes the sheet of a header and the first n points of a list over the front of the lent bytes; or refuses, with nothing changed: 8 a
 // point is not there, disagrees with itself under size 160 and scale 10, or has an ill-formed set, sets do not ascend strictly, or there
-// are over 64 points; 10 the bytes are too few.
+// are over 64 points; 11 a point is of i64 values; 10 the bytes are too few.
 pub fn write<'a>(
     header: Header,
     n: usize,
@@ -33,6 +33,9 @@ pub fn write<'a>(
     match judged {
         Judged::Bad => Answer::Refused(8),
         Judged::Fine(cells) => {
+            if !judge::no_kind(n, words) {
+                return Answer::Refused(11);
+            }
             let records = cells / 3 + 1;
             let size = records * 32;
             if out.len() < size {

@@ -5,13 +5,14 @@ use mathlib.Core.Path.{sym, _∙_}
 use native.Mathlib.Omega.{arith}
 use Rattle.listing.specs.declared.Entry.{Entry}
 use Rattle.pooling.specs.Lists.{Source, source}
+use Rattle.sheet_writing.specs.Writing.{shadowed}
 use Rattle.sheet_writing.proofs.Steps.{Going, judged-over, going-start, going-next, going-bad, going-end, step-spanned}
 use Rattle.sheet_writing.proofs.judge.judge.Statement.{statement}
 use Rattle.sheet_writing.proofs.judge.judge.Tie as tie
 
 abbrev Inv-loop : tie.InvT-loop
 Inv-loop n sets words pos neg bounds at₀ cells₀ i₀ at cells i =
-    Going n i at cells (record { list = record { sets = sets; words = words; pos = pos; neg = neg }; bounds = bounds })
+    Going n i at cells (shadowed (record { list = record { sets = sets; words = words; pos = pos; neg = neg }; bounds = bounds }))
 
 abbrev μ-loop : tie.MeasureT-loop
 μ-loop n sets words pos neg bounds at₀ cells₀ i₀ at cells i = n - i
@@ -20,7 +21,7 @@ abbrev Start : Type 0
 Start = tie.Start Inv-loop μ-loop
 
 abbrev list : Start → Source
-list s = let a = s .args in source (a .sets) (a .words) (a .pos) (a .neg) (a .bounds)
+list s = let a = s .args in shadowed (source (a .sets) (a .words) (a .pos) (a .neg) (a .bounds))
 
 abbrev start : tie.At-loop Inv-loop μ-loop → Start
 start l = l .before .before .before .before .before

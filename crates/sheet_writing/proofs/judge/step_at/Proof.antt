@@ -3,6 +3,7 @@ use borrow.Author.Needs.{needs}
 use borrow.Author.Tests.{not-true, not-false}
 use mathlib.Core.Path.{refl, sym, ap, _∙_}
 use Rattle.pooling.specs.Lists.{Source, source, wholeAt}
+use Rattle.sheet_writing.specs.Writing.{shadowed}
 use Rattle.sheet_writing.specs.Inner.{agreeing, lentBeside}
 use Rattle.sheet_writing.proofs.Steps.{agreeing-alike, step-no, step-is}
 use Rattle.sheet_writing.proofs.judge.step_at.Statement.{statement}
@@ -12,7 +13,7 @@ abbrev start : tie.After-row-taken → tie.Start
 start c = c .before .before .before .before
 
 abbrev list : tie.After-row-taken → Source
-list c = let a = start c .args in source (a .sets) (a .words) (a .pos) (a .neg) (a .bounds)
+list c = let a = start c .args in shadowed (source (a .sets) (a .words) (a .pos) (a .neg) (a .bounds))
 
 returns : tie.Need-returns
 returns c =
@@ -26,7 +27,7 @@ returns-2 c =
     let t = e .before in
     let a = start t .args in
     c .agreeing-at .ensures
-    ∙ ap (agreeing (a .at) (lentBeside (a .pos) (a .neg) (a .bounds))) (w .whole-at .ensures)
+    ∙ ap (agreeing (a .at) (lentBeside (a .pos) (a .neg) (a .bounds))) (w .shadow-at .ensures)
     ∙ agreeing-alike (a .at) (lentBeside (a .pos) (a .neg) (a .bounds)) (list t) refl refl refl (wholeAt (a .at) (list t))
     ∙ step-is (a .at) (list t) (sym (t .row-taken .ensures) ∙ not-false _ (e .if1 .left))
 

@@ -2,7 +2,7 @@
 use Prim.Native.Nat.{ℕ, zero, suc, _≤_, _<_}
 use mathlib.Core.Path.{_≡_, refl, sym, ap, ap₂, subst, _∙_}
 use mathlib.Core.Bool.{Bool, true, false}
-use mathlib.Core.Logic.{_⊎_, inl, inr}
+use mathlib.Core.Logic.{_⊎_, inl, inr, ⊎-elim}
 use mathlib.Core.List.{List, [], _∷_, _++_}
 use mathlib.Core.Option.{Option, none, some, Option·getD}
 use native.Mathlib.Omega.{arith}
@@ -41,7 +41,8 @@ use Rattle.sheets.proofs.Room.{ample-roomy}
 use Rattle.sheets.proofs.LaidLent.{empty, laid-lent}
 use Rattle.sheets.proofs.Longer.{no-longer}
 use Rattle.sheet_writing.specs.Writing as W
-use Rattle.sheet_writing.specs.Writing.{writing, writingOf}
+use Rattle.sheet_writing.specs.Writing.{writing, writingOf, shadowed, noWhole}
+use Rattle.sheet_writing.proofs.Wholes.{of, all-real, writing-reals}
 use Rattle.sheet_reading.specs.Reading as R
 use Rattle.sheet_reading.specs.Reading.{reading, readingOf}
 use Rattle.sheet_reading.specs.declared.Listed.{Listed}
@@ -120,9 +121,21 @@ module _ (h : Header) (n : ℕ) (x : Source) (s : List ℕ) (out : List ℕ) whe
       let c : take (length s) (over (written t) out) ≡ written t = take-front (written t) out (length s) (p .size) in
       record { points = es; listed = e; takes = p .takes; bytes = sym c ∙ ap (take (length s)) (sym (p .bytes)) ∙ b }
 
+-- no point of it is of i64 values: these are refused
+module _ (h : Header) (n : ℕ) (x : Source) (out : List ℕ) (k : ℕ) where
+  whole-not : noWhole n x ≡ false → (o : Option (List Entry)) → of h n x out (noWhole n x) o .answer ≡ success k → noWhole n x ≡ true
+  whole-not r none a = refused-not a
+  whole-not r (some es) a = refused-not (sym (ap (λ (u : W.Outcome). u .answer) (pick-false (noWhole n x) _ _ r)) ∙ a)
+
+  reals-only : writing h n x out .answer ≡ success k → noWhole n x ≡ true
+  unfolding writing
+  reals-only a = ⊎-elim (λ r. r) (λ r. whole-not r (listed n (shadowed x)) a) (flag (noWhole n x))
+
 pub wrote : (h : Header) (n : ℕ) (x : Source) (s : List ℕ) → Writes h n x s → Wrote h n x s
-unfolding writing
-wrote h n x s w = wrote-from h n x s (w .out) (listed n x) refl (w .accepted) (w .bytes)
+wrote h n x s w =
+    let q = sym (writing-reals h n x (w .out) (reals-only h n x (w .out) (length s) (w .accepted))) in
+    wrote-from h n x s (w .out) (listed n x) refl (ap (λ (u : W.Outcome). u .answer) q ∙ w .accepted)
+    (ap (λ (u : W.Outcome). take (length s) (u .bytes)) q ∙ w .bytes)
 
 -- each that is taken is written
 module _ (h : Header) (n : ℕ) (x : Source) (es : List Entry) (l : listed n x ≡ some es) (w : writable (record { header = h; points = es }) ≡ true) (out : List ℕ)
@@ -134,9 +147,10 @@ module _ (h : Header) (n : ℕ) (x : Source) (es : List Entry) (l : listed n x �
   long = omega (arith, sheet-short made w)
 
   accepted-is : writing h n x out ≡ W.ends (success (length (written (record { header = h; points = es })))) (over (written (record { header = h; points = es })) out)
-  unfolding writing writingOf
+  unfolding writingOf
   accepted-is =
-      ap (by h n x [] out) l
+      writing-reals h n x out (all-real n x es l)
+      ∙ ap (by h n x [] out) l
       ∙ pick-true (writable made) _ _ w
       ∙ pick-true (leb (length (written made)) (length out)) _ _ (le-leb (length (written made)) (length out) long)
 
@@ -246,14 +260,16 @@ sheet-or (some t) = inl (t, refl)
 
 -- the list of its points is written as the same bytes
 written-again : (s : List ℕ) (t : Sheet) → AllBytes s → readSheet s ≡ some t → Writes (t .header) (length (t .points)) (laidOut (t .points) empty) s
-unfolding writing writingOf
+unfolding writingOf
 written-again s t b e =
     let k = Back.read-only s t e in
     let es = t .points in
     let g = read-held s t b e in
     let f = points-fine t (k .0) in
     let x = laidOut es empty in
-    let q : by (t .header) (length es) x s s (listed (length es) x) ≡ writingOf t s = ap (by (t .header) (length es) x s s) (laid-back es empty g f) in
+    let i = laid-back es empty g f in
+    let q : writing (t .header) (length es) x s ≡ writingOf t s =
+    writing-reals (t .header) (length es) x s (all-real (length es) x es i) ∙ ap (by (t .header) (length es) x s s) i in
     let l : leb (length (written t)) (length s) ≡ true = le-leb (length (written t)) (length s) (omega (arith, ap length (k .1))) in
     let r : writingOf t s ≡ W.ends (success (length s)) (over s s) =
     pick-true (writable t) _ _ (k .0)

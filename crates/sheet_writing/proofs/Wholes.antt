@@ -31,7 +31,7 @@ use Rattle.whole_listing.specs.declared.Entry as WE
 use Rattle.whole_listing.specs.declared.Found as WF
 use Rattle.whole_listing.specs.declared.Found.the-variants as WV
 use Rattle.whole_listing.proofs.Reading.{shadow-in, shadow-is}
-use Rattle.whole_listing.proofs.Readers.{shadowEntry, point-told, kind-whole, kind-real}
+use Rattle.whole_listing.proofs.Readers.{shadowEntry, kind-whole, kind-real}
 use Rattle.pooling.specs.Lists.{Source, bounded, wholeAt}
 use Rattle.pooling.proofs.Whole.{whole-told}
 use Rattle.sheets.specs.Entries as S
@@ -85,7 +85,8 @@ module _ (at : Cursor) (ws : List (List ℕ)) (pos neg : ℕ) where
   unfolding pointAt
   point-real h = by-row ∙ ap (λ (v : List ℕ). pick (leb (length ws) (at .place)) NoPoint (entryIn at v pos neg)) (row-real w h)
 
--- words of an i64 point's kind: the shadow of the point that they are
+-- ---- A POINT OF I64 VALUES AND ITS SHADOW
+
 either-found : (t : Bool) (e : WE.Entry) → shadowFound (pick t (WV.Is e) WV.NoPoint) ≡ pick t (Is (shadowEntry e)) NoPoint
 unfolding pick
 either-found true e = refl
@@ -126,6 +127,7 @@ if-there true f = refl
 if-there false f = refl
 
 module _ (at : Cursor) (ws : List (List ℕ)) (pos neg : ℕ) where
+  -- at words of its kind: where an i64 point lies, and there only, its shadow lies in the list of shadows
   pub point-shadow : leb 2 (getD (getD ws (at .place) []) 0 0) ≡ true → pointAt at (map shadowedRow ws) pos neg ≡ shadowFound (W.pointAt at ws pos neg)
   unfolding W.pointAt
   point-shadow k =
@@ -133,6 +135,12 @@ module _ (at : Cursor) (ws : List (List ℕ)) (pos neg : ℕ) where
       by-row at ws pos neg
       ∙ ap (pick (leb (length ws) (at .place)) NoPoint) (by-point at w pos neg k (isPoint w) refl)
       ∙ if-there (leb (length ws) (at .place)) (W.entryIn at w pos neg)
+
+-- and it agrees, under size 160 and scale 10, where its shadow does: 8 where it does not, and 11 where it does. "An i64 point gives 11 .. right
+-- after 8, in a card or sheet"
+pub shadow-alone : (at : Cursor) (x : Source) (e : WE.Entry)
+    → aloneNumber (W.storedAt at e (x .bounds) (x .list)) ≡ pick (agreesAlone (storedAt at (shadowEntry e) (x .bounds) (x .list))) 11 8
+shadow-alone at x e = sym (alone-law (W.storedAt at e (x .bounds) (x .list)) _ refl)
 
 -- ---- the words at a cursor, as the code reads them
 
@@ -147,21 +155,6 @@ module _ (at : Cursor) (x : Source) where
       → bounded (length (x .bounds)) (shadowFound (W.pointAt at (x .list .words) (length (x .list .pos)) (length (x .list .neg)))) ≡ wholeAt at (shadowed x)
   unfolding W.isWhole
   whole-shadow k = ap (bounded (length (x .bounds))) (sym (point-shadow at (x .list .words) (length (x .list .pos)) (length (x .list .neg)) k))
-
--- ---- A POINT OF I64 VALUES AND ITS SHADOW
-
--- it lies in the list where its shadow lies in the list of shadows
-pub shadow-there : (at : Cursor) (x : Source) (e : WE.Entry) → W.pointAt at (x .list .words) (length (x .list .pos)) (length (x .list .neg)) ≡ WV.Is e
-    → pointAt at (shadowed x .list .words) (length (x .list .pos)) (length (x .list .neg)) ≡ Is (shadowEntry e)
-shadow-there at x e h =
-    let p = length (x .list .pos) in
-    let n = length (x .list .neg) in
-    point-shadow at (x .list .words) p n (kind-whole _ (point-told at (x .list .words) p n e h .is)) ∙ ap shadowFound h
-
--- with 8 where the shadow disagrees under size 160 and scale 10, and 11 where it agrees: "An i64 point gives 11 .. right after 8, in a card or sheet"
-pub shadow-alone : (at : Cursor) (x : Source) (e : WE.Entry)
-    → aloneNumber (W.storedAt at e (x .bounds) (x .list)) ≡ pick (agreesAlone (storedAt at (shadowEntry e) (x .bounds) (x .list))) 11 8
-shadow-alone at x e = sym (alone-law (W.storedAt at e (x .bounds) (x .list)) _ refl)
 
 -- ---- without points of i64 values the list of shadows is the list
 

@@ -43,7 +43,7 @@ writingOf t out =
 -- ---- and points of i64 values among them
 
 -- twelve words, an i64 point's (`isPoint` of whole_listing) as its shadow's: the f64 point with the same counts and switch, which is there, and
--- agrees, exactly where the i64 point does (`shadow-there`, `shadow-alone` of proofs/Wholes.antt)
+-- agrees, exactly where the i64 point does (`point-shadow`, `shadow-alone` of proofs/Wholes.antt)
 abbrev pub shadowedRow : List ℕ → List ℕ
 shadowedRow w = pick (isPoint w) (shadowWords w) w
 

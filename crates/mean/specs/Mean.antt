@@ -9,6 +9,7 @@ use Rattle.laws.specs.Said.{Said, refusal, success}
 use Rattle.floats.specs.Grid.{steps, isWhole, mostSteps}
 use Rattle.points.specs.Handed.{countOf}
 use Rattle.point.specs.Handing.{Stored, countsIn, agreesAlone}
+use Rattle.whole_point.specs.Handing as W
 use Rattle.mean.specs.declared.Answer.{Answer}
 use Rattle.mean.specs.declared.Answer.the-variants.{Refused, Mean}
 use Rattle.mean.specs.Rounding.{hundredths}
@@ -24,6 +25,10 @@ meanOf count sum = pick (eqb count 0) (refusal 13) (pick (onGrid sum) (success (
 -- of a point as it is stored: "Answers, after 8 (under size 160 and scale 10)"
 unfoldable pub meanIn : Stored → Said ℤ
 meanIn x = pick (agreesAlone x) (meanOf (countOf (countsIn x)) (x .point .sum)) (refusal 8)
+
+-- of one of i64 values. Document 02, L6: "An i64 point gives 11 .. right after 8, in a card or sheet"
+abbrev pub wholeMeanIn : W.Stored → Said ℤ
+wholeMeanIn x = refusal (W.aloneNumber x)
 
 -- an answer in the documents' words: its number, or the mean
 abbrev pub said : Answer → Said ℤ

@@ -3,15 +3,16 @@ ghost use mathlib.Core.Path.{_≡_};
 ghost use Prim.Native.Nat.{_*_, _^_, _≤_, _<_};
 ghost use Rattle.floats.specs.Grid.{signed as withSign};
 ghost use Rattle.point.specs.Handing.{stored};
+ghost use Rattle.whole_point.specs.Handing as W;
 ghost use Rattle.mean.specs.Rule as Rule;
 ghost use Rattle.mean.specs.Rounding as Rounding;
-ghost use Rattle.mean.specs.Mean.{said, meanOf, meanIn};
+ghost use Rattle.mean.specs.Mean.{said, meanOf, meanIn, wholeMeanIn};
 ghost use Rattle.mean.specs.Inner.{sumOf, sumOfParts};
 use index::Parts;
 use point::Point;
 
-// The mean in hundredths, or a number: 8 the point disagrees, 13 it has no values, 14 its sum is no whole number of 1/1024 or its magnitude
-// is above 2^43.
+// The mean in hundredths, or a number: 8 the point disagrees, 11 it is of i64 values, 13 it has no values, 14 its sum is no whole number of
+// 1/1024 or its magnitude is above 2^43.
 pub enum Answer {
     Refused(u8),
     Mean(i64),
@@ -141,4 +142,12 @@ pub fn hundredths(p: Point, bounds: &[f64], pos: &[u64], neg: &[u64]) -> Answer
         return Answer::Refused(8);
     }
     mean_of(point::count_in(f), p.sum)
+}
+
+// The same of a point of i64 values, which has no card (request L6): 8 where it disagrees with itself, else 11. Nothing is changed.
+pub fn whole_hundredths(p: whole_point::Point, bounds: &[f64], pos: &[u64], neg: &[u64]) -> Answer
+    ensures { λ r. ⌜ said r ≡ wholeMeanIn (W.stored p (bounds .entry) (pos .entry) (neg .entry)) ⌝ }
+{
+    let no = whole_point::alone_number(p, bounds, pos, neg);
+    Answer::Refused(no)
 }

@@ -21,7 +21,7 @@ use Rattle.listing.specs.Listed.{Output, entryIn, pointAt}
 use Rattle.lines.specs.Written.{digitsWithin, decimal}
 use Rattle.printing.specs.declared.Form.the-variants.{Point, Card}
 use Rattle.printing.specs.Fields.{each, joined, listed, line, attributeField, setField, floatField, rowField}
-use Rattle.printing.specs.Printed.{pointLine, cardLine, lineAt, nextAt, linesFrom, collectionHead, collectionLines, valueLine, valueAt, valuesFrom, valueLines}
+use Rattle.printing.specs.Printed.{pointLine, cardLine, lineAt, nextAt, linesBy, collectionHead, collectionLines, valueLine, valueAt, valuesFrom, valueLines}
 
 -- the set 1:5; 5 values, one of them zero, at scale 0; rows from index -1 on; min, max and sum
 abbrev pub example : Output
@@ -42,13 +42,13 @@ text =
     44 ∷ 49 ∷ 32 ∷ 45 ∷ 49 ∷ 58 ∷ 49 ∷ 10 ∷ []
 
 pub prints-exactly : collectionLines Point 100 200 1 example [] ≡ text
-unfolding collectionLines collectionHead linesFrom lineAt nextAt pointLine line joined each listed attributeField setField floatField rowField decimal digitsWithin glyphOf hexDigits scaleAnswer indexAnswer offsetAnswer setOf figuresIn boundsIn extremeIn pointIn isPoint entryIn pointAt allb isNan ofBits toBits pick
+unfolding collectionLines collectionHead linesBy lineAt nextAt pointLine line joined each listed attributeField setField floatField rowField decimal digitsWithin glyphOf hexDigits scaleAnswer indexAnswer offsetAnswer setOf figuresIn boundsIn extremeIn pointIn isPoint entryIn pointAt allb isNan ofBits toBits pick
 prints-exactly = refl
 
 -- "c 100 200 1", "1:5 100": the card of the same point, whose sum is 5.0
 pub prints-a-card : collectionLines Card 100 200 1 example []
     ≡ 99 ∷ 32 ∷ 49 ∷ 48 ∷ 48 ∷ 32 ∷ 50 ∷ 48 ∷ 48 ∷ 32 ∷ 49 ∷ 10 ∷ 49 ∷ 58 ∷ 53 ∷ 32 ∷ 49 ∷ 48 ∷ 48 ∷ 10 ∷ []
-unfolding collectionLines collectionHead linesFrom lineAt nextAt cardLine line joined each listed attributeField setField decimal digitsWithin glyphOf setOf figuresIn boundsIn extremeIn pointIn isPoint entryIn pointAt allb meanIn meanOf onGrid isWhole nearest rounded agreesAlone handedAgrees agrees rowAgrees isNan ofBits toBits pick
+unfolding collectionLines collectionHead linesBy lineAt nextAt cardLine line joined each listed attributeField setField decimal digitsWithin glyphOf setOf figuresIn boundsIn extremeIn pointIn isPoint entryIn pointAt allb meanIn meanOf onGrid isWhole nearest rounded agreesAlone handedAgrees agrees rowAgrees isNan ofBits toBits pick
 prints-a-card = refl
 
 -- "c 0 1 1", "v 1:5 4014000000000000": the set 1:5 has the sum 5.0

@@ -23,7 +23,7 @@ use Rattle.listing.specs.declared.Found.{Found}
 use Rattle.listing.specs.declared.Found.the-variants.{NoPoint, Is}
 use Rattle.printing.specs.declared.Form.{Form}
 use Rattle.printing.specs.Fields.{line, setField}
-use Rattle.printing.specs.Printed.{exponentialFields, explicitFields, figuresFields, letter, pointLine, lineOf, foundLine, foundNext, found, lineAt, nextAt, linesFrom}
+use Rattle.printing.specs.Printed.{exponentialFields, explicitFields, figuresFields, letter, pointLine, lineOf, foundLine, foundNext, found, lineAt, nextAt, linesBy}
 use Rattle.printing.proofs.Putting.{nothing}
 
 -- ---- by kind
@@ -70,22 +70,23 @@ module _ (form : Form) (at : Cursor) (o : Output) (bounds : List Float) where
 
 -- ---- one after another
 
-pub lines-start : (form : Form) (n : ℕ) (o : Output) (bounds : List Float) (at : Cursor) (t : Text) → (linesFrom form (n - 0) at o bounds behind t) ≡ (linesFrom form n at o bounds behind t)
-lines-start form n o bounds at t =
-    let z : n - 0 ≡ n = omega arith in
-    ap (λ (m : ℕ). linesFrom form m at o bounds behind t) z
+module _ (printed : Cursor → List ℕ) (behind-it : Cursor → Cursor) (n : ℕ) (at : Cursor) (t : Text) where
+  pub lines-start : (linesBy printed behind-it (n - 0) at behind t) ≡ (linesBy printed behind-it n at behind t)
+  lines-start =
+      let z : n - 0 ≡ n = omega arith in
+      ap (λ (m : ℕ). linesBy printed behind-it m at behind t) z
 
-module _ (form : Form) (n i : ℕ) (o : Output) (bounds : List Float) (at : Cursor) (t : Text) where
-  pub lines-turn : (next : Cursor) {u : Text} → i < n → u ≡ (lineAt form at o bounds behind t) → next ≡ nextAt at o → (linesFrom form (n - (i + 1)) next o bounds behind u) ≡ (linesFrom form (n - i) at o bounds behind t)
-  unfolding linesFrom
-  lines-turn next {u} h p q =
+  pub lines-turn : (i : ℕ) (next : Cursor) {u : Text} → i < n → u ≡ (printed at behind t) → next ≡ behind-it at
+      → (linesBy printed behind-it (n - (i + 1)) next behind u) ≡ (linesBy printed behind-it (n - i) at behind t)
+  unfolding linesBy
+  lines-turn i next {u} h p q =
       let k : suc (n - (i + 1)) ≡ n - i = omega arith in
-      ap (λ (a : Cursor). linesFrom form (n - (i + 1)) a o bounds behind u) q
-      ∙ then (lineAt form at o bounds) (linesFrom form (n - (i + 1)) (nextAt at o) o bounds) t p refl
-      ∙ ap (λ (m : ℕ). linesFrom form m at o bounds behind t) k
+      ap (λ (a : Cursor). linesBy printed behind-it (n - (i + 1)) a behind u) q
+      ∙ then (printed at) (linesBy printed behind-it (n - (i + 1)) (behind-it at)) t p refl
+      ∙ ap (λ (m : ℕ). linesBy printed behind-it m at behind t) k
 
-  pub lines-end : n ≤ i → (linesFrom form (n - i) at o bounds behind t) ≡ t
-  unfolding linesFrom
-  lines-end h =
+  pub lines-end : (i : ℕ) → n ≤ i → (linesBy printed behind-it (n - i) at behind t) ≡ t
+  unfolding linesBy
+  lines-end i h =
       let z : n - i ≡ 0 = omega arith in
-      ap (λ (m : ℕ). linesFrom form m at o bounds behind t) z ∙ sym (nothing t)
+      ap (λ (m : ℕ). linesBy printed behind-it m at behind t) z ∙ sym (nothing t)

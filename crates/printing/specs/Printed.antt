@@ -97,10 +97,10 @@ lineAt form at o bounds = foundLine form at (found at o) o bounds
 unfoldable pub nextAt : Cursor → Output → Cursor
 nextAt at o = foundNext at (found at o) o
 
--- the lines of k points from a cursor on
-unfoldable pub linesFrom : Form → ℕ → Cursor → Output → List Float → List ℕ
-linesFrom form zero at o bounds = []
-linesFrom form (suc k) at o bounds = lineAt form at o bounds ++ linesFrom form k (nextAt at o) o bounds
+-- the lines of k points from a cursor on, of what is printed of the point at a cursor and of the cursor behind it
+unfoldable pub linesBy : (Cursor → List ℕ) → (Cursor → Cursor) → ℕ → Cursor → List ℕ
+linesBy printed next zero at = []
+linesBy printed next (suc k) at = printed at ++ linesBy printed next k (next at)
 
 -- ---- points that are one value (request L1)
 
@@ -127,7 +127,8 @@ collectionHead start time points = line ((99 ∷ []) ∷ decimal start ∷ decim
 -- and the lines of the first points of the list
 unfoldable pub collectionLines : Form → ℕ → ℕ → ℕ → Output → List Float → List ℕ
 collectionLines form start time points o bounds =
-    collectionHead start time points ++ linesFrom form points (record { place = 0; pos = 0; neg = 0 }) o bounds
+    collectionHead start time points
+    ++ linesBy (λ at. lineAt form at o bounds) (λ at. nextAt at o) points (record { place = 0; pos = 0; neg = 0 })
 
 -- the same of points that are one value
 unfoldable pub valueLines : ℕ → ℕ → ℕ → List (List ℕ) → List ℕ → List ℕ

@@ -107,7 +107,7 @@ fn bare_set(text: &mut Block, n: usize, row: [u64; 9]) -> usize
 }
 
 // A set behind a space.
-fn set(text: &mut Block, n: usize, row: [u64; 9]) -> usize
+pub fn set(text: &mut Block, n: usize, row: [u64; 9]) -> usize
     ensures { λ r. ⌜ waiting r (text .exit) ≡ 32 ∷ setField (take 8 (setOf row)) behind waiting n (text .entry) ⌝ }
 {
     let m = output::byte(text, n, b' ');
@@ -117,7 +117,7 @@ fn set(text: &mut Block, n: usize, row: [u64; 9]) -> usize
 // ---- what a point has
 
 // A scale or an offset behind a space.
-fn integer(text: &mut Block, n: usize, x: Integer) -> usize
+pub fn integer(text: &mut Block, n: usize, x: Integer) -> usize
     ensures { λ r. ⌜ waiting r (text .exit) ≡ 32 ∷ integerField x behind waiting n (text .entry) ⌝ }
 {
     let m = output::byte(text, n, b' ');
@@ -147,7 +147,7 @@ fn held(text: &mut Block, n: usize, p: Point) -> usize
     bits(text, b, point::signed::sum_bits(p))
 }
 
-fn counts(text: &mut Block, n: usize, row: &[u64]) -> usize
+pub fn counts(text: &mut Block, n: usize, row: &[u64]) -> usize
     ensures { λ r. ⌜ waiting r (text .exit) ≡ joined 44 (map decimal (now (row .entry))) behind waiting n (text .entry) ⌝ }
 {
     let mut m = n;
@@ -161,7 +161,7 @@ fn counts(text: &mut Block, n: usize, row: &[u64]) -> usize
 }
 
 // A row: its offset and its counts.
-fn row(text: &mut Block, n: usize, offset: Integer, row: &[u64]) -> usize
+pub fn row(text: &mut Block, n: usize, offset: Integer, row: &[u64]) -> usize
     ensures { λ r. ⌜ waiting r (text .exit) ≡ 32 ∷ rowField offset (now (row .entry)) behind waiting n (text .entry) ⌝ }
 {
     let a = integer(text, n, offset);
@@ -170,7 +170,7 @@ fn row(text: &mut Block, n: usize, offset: Integer, row: &[u64]) -> usize
 }
 
 // A space, and `-` if none of several follows.
-fn dash(text: &mut Block, n: usize, many: usize) -> usize
+pub fn dash(text: &mut Block, n: usize, many: usize) -> usize
     ensures { λ r. ⌜ waiting r (text .exit) ≡ 32 ∷ pick (eqb many 0) (45 ∷ []) [] behind waiting n (text .entry) ⌝ }
 {
     let m = output::byte(text, n, b' ');
@@ -180,7 +180,7 @@ fn dash(text: &mut Block, n: usize, many: usize) -> usize
     m
 }
 
-fn all_bits(text: &mut Block, n: usize, bounds: &[f64]) -> usize
+pub fn all_bits(text: &mut Block, n: usize, bounds: &[f64]) -> usize
     ensures { λ r. ⌜ waiting r (text .exit) ≡ joined 44 (map floatField (now (bounds .entry))) behind waiting n (text .entry) ⌝ }
 {
     let mut m = n;
@@ -380,7 +380,7 @@ pub fn collection<'a>(
     done.n
 }
 
-fn head(text: &mut Block, n: usize, start: u64, time: u64, many: u64) -> usize
+pub fn head(text: &mut Block, n: usize, start: u64, time: u64, many: u64) -> usize
     ensures { λ r. ⌜ waiting r (text .exit) ≡ collectionHead start time many behind waiting n (text .entry) ⌝ }
 {
     let a = output::byte(text, n, b'c');

@@ -1,12 +1,14 @@
 -- `printing::collection` meets its contract: what waits in the end is what the points left give from here. Assumes nothing.
-use Prim.Native.Nat.{_-_, _≤_}
+use Prim.Native.Nat.{ℕ, _-_, _≤_}
 use mathlib.Core.Path.{_≡_, sym, _∙_}
+use mathlib.Core.List.{List}
 use native.Mathlib.Omega.{arith}
 use denote.Ref.{now}
 use Rattle.listing.specs.Listed.{Output, output}
+use Rattle.listing.specs.declared.Cursor.{Cursor}
 use Rattle.lines.specs.Gathered.{waiting, _behind_}
 use Rattle.lines.proofs.Gathering.{then}
-use Rattle.printing.specs.Printed.{linesFrom, collectionHead, collectionLines}
+use Rattle.printing.specs.Printed.{lineAt, nextAt, linesBy, collectionHead, collectionLines}
 use Rattle.printing.proofs.Points.{lines-start, lines-turn, lines-end}
 use Rattle.printing.proofs.collection.Statement.{statement}
 use Rattle.printing.proofs.collection.Tie as tie
@@ -15,8 +17,8 @@ abbrev Inv-loop : tie.InvT-loop
 Inv-loop text₀ n form start time many sets words pos neg bounds m done₀ i₀ text done i =
     let o : Output = record { sets = sets; words = words; pos = pos; neg = neg } in
     (i ≤ many)
-    × ((linesFrom form (many - i) (done .at) o bounds behind record { count = done .n; block = text })
-    ≡ (linesFrom form many (record { place = 0; pos = 0; neg = 0 }) o bounds behind record { count = m; block = text₀ }))
+    × ((linesBy (λ c. lineAt form c o bounds) (λ c. nextAt c o) (many - i) (done .at) behind record { count = done .n; block = text })
+    ≡ (linesBy (λ c. lineAt form c o bounds) (λ c. nextAt c o) many (record { place = 0; pos = 0; neg = 0 }) behind record { count = m; block = text₀ }))
 
 abbrev μ-loop : tie.MeasureT-loop
 μ-loop text₀ n form start time many sets words pos neg bounds m done₀ i₀ text done i = many - i
@@ -24,13 +26,20 @@ abbrev μ-loop : tie.MeasureT-loop
 abbrev listed : tie.Start Inv-loop μ-loop → Output
 listed s = let a = s .args in output (a .sets) (a .words) (a .pos) (a .neg)
 
+-- what is printed of the point at a cursor, and the cursor behind it
+abbrev printed : tie.Start Inv-loop μ-loop → Cursor → List ℕ
+printed s at = lineAt (s .args .form) at (listed s) (now (s .args .bounds))
+
+abbrev next : tie.Start Inv-loop μ-loop → Cursor → Cursor
+next s at = nextAt at (listed s)
+
 head-requires : tie.Need-head-requires Inv-loop μ-loop
 head-requires c κs = tt
 
 loop-holds : tie.Need-loop-holds Inv-loop μ-loop
 loop-holds c =
     let s = c .before .before .before .before .before in
-    (omega arith, lines-start (s .args .form) (s .args .many) (listed s) (now (s .args .bounds)) _ _)
+    (omega arith, lines-start (printed s) (next s) (s .args .many) _ _)
 
 point-requires : tie.Need-point-requires Inv-loop μ-loop
 point-requires c κs = tt
@@ -41,8 +50,8 @@ loop-again c =
     let l = t .before .loop in
     let s = t .before .before .before .before .before .before .before in (
       omega arith,
-      lines-turn (s .args .form) (s .args .many) (l .i) (listed s) (now (s .args .bounds)) (l .done .at) _ (c .point .result .at) (t .loop-test .taken)
-          (c .point .ensures .0) (c .point .ensures .1) ∙ l .inv .1,
+      lines-turn (printed s) (next s) (s .args .many) (l .done .at) _ (l .i) (c .point .result .at) (t .loop-test .taken) (c .point .ensures .0) (c .point .ensures .1)
+          ∙ l .inv .1,
     )
 
 returns : tie.Need-returns Inv-loop μ-loop
@@ -53,7 +62,7 @@ returns c =
     let s = h .before .before .before .before .before in
     let a = s .args in
     then (collectionHead (a .start) (a .time) (a .many)) _ (waiting (a .n) (a .text)) (h .head .ensures)
-    (sym (lines-end (a .form) (a .many) (l .i) (listed s) (now (a .bounds)) (l .done .at) _ (c .loop-test .left)) ∙ l .inv .1)
+    (sym (lines-end (printed s) (next s) (a .many) (l .done .at) _ (l .i) (c .loop-test .left)) ∙ l .inv .1)
 
 pub collection-spec : {M : Type 1} → statement M
 collection-spec =

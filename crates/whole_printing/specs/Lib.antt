@@ -1,0 +1,2 @@
+-- The definitions that the contracts of `whole_printing` cite.
+pub mod Printed

@@ -4,7 +4,9 @@
     compare.py COUNT .. --ours COMMAND              three ways: what our program answers to every line must be the reference's answer
 
 count 0: the same, but that points of count 0 have no extremes, and the Rust shows those that a series starts from
-(docs/DIFFERENCES.md). beside a bound: the answers differ otherwise, and are the same without the records of values that are a bound or
+(docs/DIFFERENCES.md). 16: the same, but that values were refused because the sum would leave i64; the Rust is not asked to take them. sum off:
+the same of the Rust's build without overflow checks: with the sum off none is kept, and the Rust's, which it does not hand out, leaves i64
+(both: request L6; a script that is several of these is the last). beside a bound: the answers differ otherwise, and are the same without the records of values that are a bound or
 the next value above it and whose index at the starting scale differs; these values are judged by the definition. key twice: likewise
 without the calls that give one key twice. ours: our program differs from the reference, whatever the Rust says. Everything else is
 unexplained and is printed with the smallest script found. Exit status 1 if anything is unexplained or ours.
@@ -16,13 +18,15 @@ from collections import Counter
 
 import generate
 import script
-from bits import SIGN, beside_bound, index
+from bits import SIGN, beside_bound, index, to_bits
+from points import NUMBERS
 from reference import Reference, Rules, answers
 from runs import answered, smallest
-from rust import asked, indices, replay
+from rust import asked, indices, told
 
 BATCH = 250
-SAME, EMPTY, BESIDE, TWICE, UNEXPLAINED, OURS = "same", "count 0", "beside a bound", "key twice", "unexplained", "ours"
+SAME, EMPTY, BEYOND, WRAPS = AGREED = "same", "count 0", "16", "sum off"
+BESIDE, TWICE, UNEXPLAINED, OURS = "beside a bound", "key twice", "unexplained", "ours"
 
 
 class Comparer:
@@ -33,14 +37,14 @@ class Comparer:
     def compare(self, scripts):
         """The name and the verdict of each script, one after another."""
         questions = {name: asked(lines, self.rules) for name, lines in scripts.items()}
-        answers = replay({name: question.lines for name, question in questions.items()})
+        answers = told(questions)
         for name, lines in scripts.items():
             same = answers[name] == questions[name].expected
-            yield name, (EMPTY if questions[name].empty else SAME) if same else self.explain(lines)
+            yield name, agreed(questions[name]) if same else self.explain(lines)
 
     def same(self, lines):
         question = asked(lines, self.rules)
-        return replay({"one": question.lines})["one"] == question.expected
+        return told({"one": question})["one"] == question.expected
 
     def explain(self, lines):
         for verdict, excuse in ((BESIDE, self.differing), (TWICE, self.giving_twice)):
@@ -51,14 +55,15 @@ class Comparer:
         return BESIDE if both and self.same(without(lines, both)) else UNEXPLAINED
 
     def near_bounds(self, lines):
-        """(place, starting scale, bits of the magnitude) of each accepted record of an f64 beside a bound."""
+        """(place, starting scale, bits of the magnitude) of each accepted record of an f64 beside a bound, or of an i64 nearest to one."""
         reference = Reference(self.rules)
         for place, line in enumerate(lines):
             _, refusal = reference.line(place, line)
             config = reference.config
-            if refusal != 0 or line[:1] not in ("r", "h") or config.kind != "e" or config.number != "f":
+            if refusal != 0 or line[:1] not in ("r", "h") or config.kind != "e":
                 continue
-            bits = int(script.read_line(line).value, 16) & ~SIGN
+            numbers = NUMBERS[config.number]
+            bits = to_bits(numbers.nearest(numbers.parse(script.read_value(script.read_line(line).value, config.number)))) & ~SIGN
             if bits and beside_bound(bits):
                 yield place, config.scale, bits
 
@@ -77,6 +82,11 @@ class Comparer:
 
     def unexplained(self, lines):
         return not self.same(lines) and self.explain(lines) == UNEXPLAINED
+
+
+def agreed(question):
+    """The verdict of a script whose answers are the same."""
+    return WRAPS if question.wraps else BEYOND if question.beyond else EMPTY if question.empty else SAME
 
 
 def calls(lines):
@@ -100,7 +110,7 @@ def report(comparer, name, lines):
     print(f"UNEXPLAINED {name}, smallest script:")
     print("\n".join(f"    {line}" for line in fewest))
     print("  reference:", *question.expected, sep="\n    ")
-    print("  the Rust:", *(replay({"one": question.lines})["one"] or ["panicked"]), sep="\n    ", flush=True)
+    print("  the Rust:", *(told({"one": question})["one"] or ["panicked"]), sep="\n    ", flush=True)
 
 
 def judged(comparer, scripts, ours):
@@ -135,7 +145,7 @@ def main():
     names, options, given = generate.read_arguments(__doc__.splitlines()[0], "--ours")
     counts, lines = run(names, options, given.ours)
     print(f"compare.py {' '.join(sys.argv[1:])}: {len(names)} scripts, {lines} lines")
-    for verdict in (SAME, EMPTY, BESIDE, TWICE, UNEXPLAINED, OURS):
+    for verdict in (*AGREED, BESIDE, TWICE, UNEXPLAINED, OURS):
         print(f"  {verdict}: {counts[verdict]}")
     raise SystemExit(1 if counts[UNEXPLAINED] + counts[OURS] else 0)
 

@@ -16,60 +16,70 @@ from runs import answered, smallest
 
 EDGES = (0, 1, 2, 3, 20, 21, 160, 161, 2**32 - 1, 2**32, 2**63, 2**64 - 2, 2**64 - 1)
 FLOATS = (0, SIGN, 1, GREATEST, INFINITY, CANONICAL_NAN, 0x3FF0000000000000, 0x4014000000000000)
+WHOLES = (0, 1, -1, 2**62, 2**63 - 1, 2**63 - 2, -(2**63), 1 - 2**63, 10**6)
 PLACES = {"s": 9, "e": 3, "o": 1, "f": 8, "m": 3, "t": 1, "l": 1}
 STORES, SINGLE_STORES = "sseeoofffmmpppnnttbvvwwPN", "sseeoollllllvvbtm"  # the more often, the more may come of it
 
 
-def damage(draw, stores):
-    """A cell that is in use more often than not."""
+def damage(draw, stores, kind):
+    """A cell that is in use more often than not, under a number kind."""
     store = draw.choice(stores)
     number = draw.choice((draw.choice(EDGES), draw.randint(0, 8)))
     if store in script.FLOAT_STORES:
-        number = draw.choice(FLOATS)
+        number = draw.choice(FLOATS if script.holds_bits(store, kind) else WHOLES)
     if store in PLACES:
-        return script.Damage(store, draw.randint(0, 4), draw.randrange(PLACES[store]), number % 2**32 if store == "o" else number)
+        return script.damage(store, draw.randint(0, 4), draw.randrange(PLACES[store]), number % 2**32 if store == "o" else number, kind)
     if store in "pn":
-        return script.Damage(store, draw.choice((draw.randint(0, 12), draw.randint(0, 700))), 0, number)
+        return script.damage(store, draw.choice((draw.randint(0, 12), draw.randint(0, 700))), 0, number)
     if store == "b":
-        return script.Damage(store, draw.randint(0, 3), 0, number)
+        return script.damage(store, draw.randint(0, 3), 0, number)
     if store == "v":
-        return script.Damage(store, 0, draw.randrange(6), number)
+        return script.damage(store, 0, draw.randrange(6), number)
     if store == "w":
         cell = draw.randrange(12)
-        return script.Damage(store, draw.randrange(5), cell, draw.choice(FLOATS) if cell > 8 else number)
-    return script.Damage(store, draw.randrange(5), draw.randint(0, 9), number)
+        return script.damage(store, draw.randrange(5), cell, draw.choice(FLOATS if kind == "f" else FLOATS + WHOLES) if cell > 8 else number)
+    return script.damage(store, draw.randrange(5), draw.randint(0, 9), number)
+
+
+def some_damage(draw, stores):
+    return damage(draw, SINGLE_STORES if stores.is_single() else STORES, stores.number())
 
 
 def full(draw, held):
-    """Cells that make a count, a binding count or the last birth number as large as it can be, or one less, and still agree; or a value of a sum or last value."""
+    """Cells that make a count, a binding count or the last birth number as large as it can be, or one less, and still agree; or a value of a sum or
+    last value; or a sum of whole numbers at an end of i64."""
     most = 2**64 - draw.choice((1, 1, 2))
     stores = held.map
     updated = [slot for slot in range(min(stores.used, 63) + 1) if stores.updated(slot)]
-    what = draw.choice(("birth", "bindings", "series", "series", "point"))
+    what = draw.choice(("birth", "bindings", "series", "series", "point") + ("sum", "sum", "total") * (stores.number() == "i"))
     if what == "birth":
-        return [script.Damage("v", 0, 2, most)]
+        return [script.damage("v", 0, 2, most)]
     if what == "bindings":
-        return [script.Damage("e", draw.randint(0, min(stores.used, 63)), 1, most)]
+        return [script.damage("e", draw.randint(0, min(stores.used, 63)), 1, most)]
     if what == "point":
         return full_words(draw.randrange(5), held, most)
+    if what == "total":
+        return [script.damage("w", draw.randrange(5), 11, draw.choice(WHOLES))]
     if not updated:
         return []
     slot = draw.choice(updated)
+    if what == "sum":
+        return [script.damage("m", slot, 2, draw.choice(WHOLES), "i")]
     if stores.is_single():
-        return [script.Damage("l", slot, 0, draw.choice(FLOATS))]
+        return [script.damage("l", slot, 0, draw.choice(FLOATS))]
     if stores.config.kind == "e":
         count, zeros = stores.rows["f"][slot][:2]
-        return [script.Damage("f", slot, 0, most), script.Damage("f", slot, 1, (most - (count - zeros)) % 2**64)]
+        return [script.damage("f", slot, 0, most), script.damage("f", slot, 1, most - (count - zeros))]
     place = slot * stores.width()
     others = stores.rows["t"][slot][0] - stores.counts["p"][place]
-    return [script.Damage("t", slot, 0, most), script.Damage("p", place, 0, (most - others) % 2**64)]
+    return [script.damage("t", slot, 0, most), script.damage("p", place, 0, most - others)]
 
 
 def full_words(k, held, most):
     words = held.out_words[machine.PLACES + k]
-    if words[0] != 0:
+    if words[0] not in (0, 2):
         return []
-    return [script.Damage("w", k, 1, most), script.Damage("w", k, 2, (most - (words[1] - words[2])) % 2**64)]
+    return [script.damage("w", k, 1, most), script.damage("w", k, 2, most - (words[1] - words[2]))]
 
 
 def make(name, options=generate.Options()):
@@ -79,7 +89,7 @@ def make(name, options=generate.Options()):
         added = [line]
         held.line(0, line)
         if draw.random() < 0.05:
-            cells = full(draw, held) if held.config and draw.random() < 0.3 else [damage(draw, SINGLE_STORES if held.map.is_single() else STORES)]
+            cells = full(draw, held) if held.config and draw.random() < 0.3 else [some_damage(draw, held.map)]
             added += map(script.write_line, cells)
         for more in added[1:]:
             held.line(0, more)

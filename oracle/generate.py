@@ -117,14 +117,66 @@ def value_source(draw):
     return value
 
 
-def whole_source(draw, giants):
-    """Whole numbers whose sums stay in i64 in any script of ours; with `giants` now and then one whose sum may not."""
+# Whole numbers (request L6). Each kind of them is a function of the source and of the script's width.
+
+
+def narrow(draw, width):
+    """Sums of these stay in i64 in any script of ours."""
+    return draw.randint(-(2**width), 2**width)
+
+
+def few(draw, _width):
+    return draw.randint(-3, 3)
+
+
+def whole_power(draw, _width):
+    return either(draw, 2 ** draw.choice((53, 62, 63, draw.randint(1, 63))) + draw.choice((-1, 0, 0, 1)))
+
+
+def halfway(draw, _width):
+    """Between two f64, from 2^53 on, where the even mantissa is nearest; or a neighbour of that."""
+    drop = draw.choice((1, 1, 2, draw.randint(1, 10)))
+    mantissa = draw.choice((1 << 52, (1 << 53) - 1, (1 << 52) + draw.randint(0, 3), (1 << 52) + draw.getrandbits(52)))
+    return either(draw, (mantissa << drop) + (1 << drop - 1) + draw.choice((-1, 0, 0, 1)))
+
+
+def whole_beside_bound(draw, _width):
+    """Nearest to it, or to a neighbour, is a bound of the finest scale."""
+    drop = draw.randint(0, 10)
+    mantissa = draw.choice(BOUNDS) + draw.choice((-1, 0, 0, 1, 1, 2))
+    return either(draw, (mantissa << drop) + draw.randint(-(1 << drop) // 2, (1 << drop) // 2))
+
+
+def giant(draw, _width):
+    """Two of one sign have no sum."""
+    return either(draw, draw.choice((2**63, 2**63 - 1, 2**62, 2**62 - 1, 2**63 - draw.getrandbits(11))))
+
+
+def either(draw, magnitude):
+    return max(-(2**63), -magnitude) if draw.random() < 0.4 else min(2**63 - 1, magnitude)
+
+
+WHOLES = [narrow, narrow, few, whole_power, halfway, whole_beside_bound, giant]
+
+
+def whole_source(draw, wanted):
+    """One to three kinds of whole number, with zeros, opposites and what is left up to an end of i64 among them; unless none is wanted."""
     width = draw.randint(1, 55)
+    kinds = draw.sample(WHOLES, draw.choice((1, 1, 2, 3))) if wanted else []
+    pool = [1]
 
     def value():
-        if giants and draw.random() < 0.02:
-            return draw.choice((2**63 - 1, -(2**63), 2**62))
-        return draw.randint(-(2**width), 2**width)
+        rare = draw.random()
+        if rare < 0.04:
+            return 0
+        if rare < 0.10:
+            last = draw.choice(pool)
+            return -(2**63) - last if last < 0 else 2**63 - 1 - last
+        if rare < 0.20:
+            last = draw.choice(pool)
+            return draw.choice((last, min(2**63 - 1, -last)))
+        pool.append(draw.choice(kinds)(draw, width))
+        return pool[-1]
 
     return value
 
@@ -225,15 +277,15 @@ def outside(draw, allowed):
     return draw.choice([n for n in (allowed[0] - 1, allowed[-1] + 1) if allowed[0] < 0 or n >= 0])
 
 
-def configure_line(draw, options, kind, limit, summed):
-    """A configuration that is accepted; `summed`: with the sum on."""
+def configure_line(draw, options, kind, limit):
+    """A configuration that is accepted."""
     size = scale = threshold = None
     if kind[0] == "e":
         size = draw.choice((3, 4, 8, 20, 160, within(draw, options.rules.sizes)))
         scale = draw.choice((options.rules.scales[-1], draw.choice(options.rules.scales)))
         if options.thresholds and draw.random() < 0.5:
             threshold = normal(draw, 0) & ~SIGN
-    switches = draw.random() < 0.85, summed or draw.random() < 0.85
+    switches = draw.random() < 0.85, draw.random() < 0.85
     return script.Configure(
         kind[0], kind[1], size, scale, threshold, limit, draw.choice("cl" if options.cumulative else "ddddcl"), *switches, draw.randrange(2**32)
     )
@@ -268,12 +320,12 @@ class Maker:
         self.kind = draw.choice(options.kinds)
         self.limit = within(draw, options.rules.limits) if draw.random() < 0.3 else draw.randint(0, 6)
         self.bits = value_source(draw)
-        self.giants = self.kind[1] == "i" and draw.random() < 0.5  # with the sum off the Rust still adds, and overflows
-        self.whole = whole_source(draw, self.giants)
+        self.wholes = self.kind[1] == "i"  # then now and then f64 beside them, so that points of both meet
+        self.whole = whole_source(draw, self.wholes)
         self.keys = key_source(draw)
         self.set = set_source(draw, self.keys, self.limit)
         self.handles = draw.sample(range(script.HANDLES), 6)
-        self.bound, self.kept = [], set()
+        self.bound, self.kept, self.bounds = [], set(), []
         self.time = draw.randrange(2**32)
 
     def value(self):
@@ -294,13 +346,25 @@ class Maker:
             return []
         return [script.Configure("e", "f", 2, 0, None, 0, "d", True, True, 0), self.binding(), script.Record(self.value(), self.set()), *self.collection()]
 
-    def configuration(self):
+    def configuration(self, same_number=False):
+        if self.wholes and not same_number:
+            self.kind = self.kind[0] + self.draw.choice("iiiif")
         waiting = filter_lines(self.draw, self.keys)
         if self.kind[0] == "x":
-            waiting += in_pieces(script.Bounds, bounds_of(self.draw, self.bits), 12)
-        configure = configure_line(self.draw, self.options, self.kind, self.limit, self.giants)
+            waiting += in_pieces(script.Bounds, self.some_bounds(), 12)
+        configure = configure_line(self.draw, self.options, self.kind, self.limit)
         before = refused(self.draw, self.options, configure) if self.draw.random() < 0.1 else []
         return before + waiting + [configure]
+
+    def some_bounds(self):
+        """Of whole numbers those from before now and then, so that points of either number have like bounds."""
+        if not (self.wholes and self.bounds and self.draw.random() < 0.5):
+            self.bounds = bounds_of(self.draw, self.near_whole if self.wholes else self.bits)
+        return self.bounds
+
+    def near_whole(self):
+        """Bits of an f64 nearest to a whole number, or beside that."""
+        return max(0, to_bits(float(self.whole())) + self.draw.choice((-1, 0, 0, 0, 1)))
 
     def step(self, lively):
         chance = self.draw.random()
@@ -345,7 +409,8 @@ class Maker:
         lines = []
         if len(self.kept) < 2 or draw.random() < 0.7:
             new = draw.sample(range(5), draw.choice((1, 2)))
-            lines = [script.Record(self.value(), self.set()) for _ in range(draw.choice((1, 2, 4)))]
+            lines = self.configuration() if self.wholes and draw.random() < 0.3 else []
+            lines += [script.Record(self.value(), self.set()) for _ in range(draw.choice((1, 2, 4)))]
             lines += [script.Collect(self.time, None, None), *(script.Keep(point, place) for place, point in enumerate(new))]
             self.kept |= set(new)
         kept = sorted(self.kept)
@@ -355,10 +420,11 @@ class Maker:
         return [*lines, script.Merge(draw.randrange(5), *pair, size, counts)]
 
     def short_stores(self):
-        """Calls with stores of some length, perhaps too short."""
+        """Calls with stores of some length, perhaps too short. A configuration that is refused must not change the number of the values."""
         draw = self.draw
         lent = script.Stores(draw.choice((None, 0, 100)), draw.choice((None, 2, 8)))
-        calls = draw.choice(([self.binding()], [script.Record(self.value(), self.set())], self.collection(), self.configuration()))
+        by_set = [self.binding()], [script.Record(self.value(), self.set())]
+        calls = draw.choice((*by_set, self.collection(), self.configuration(same_number=True)))
         return [lent, *calls, script.Stores(None, None)]
 
 

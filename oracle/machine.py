@@ -6,21 +6,22 @@ Without damage the answers are those of reference.py, from lists of values.
 """
 
 import script
-from bits import is_finite, to_bits, to_float
+from bits import to_bits, to_float
 from points import COUNT_MOST, Refused, SinglePoint, merged
 from reference import Reference, Rules
 from script import Unreadable
-from stores import COUNTS, ENTRIES, PLACES, VALUES, Stores
-from words import decoded, encoded, is_point, lengths, point_agrees, set_of_words, words_of_set
+from stores import COUNTS, ENTRIES, PLACES, VALUES, WHOLES, Stores
+from words import KINDS, decoded, encoded, is_explicit, is_point, lengths, point_agrees, set_of_words, word_of, words_of_set
 
 KEPT_COUNTS = 160  # of the program: crates/replay_state/src/stores.rt
 PRIME = 2**31 - 1
+NO_KIND = len(KINDS)  # in every word before any is written, so that these are no point's
 
 
 def mixed(cells):
     total = 0
     for cell in cells:
-        total = (total * 31 + (to_bits(cell) if isinstance(cell, float) else cell) % PRIME) % PRIME
+        total = (total * 31 + (cell if type(cell) is int and cell >= 0 else word_of(cell))) % PRIME
     return total
 
 
@@ -32,16 +33,18 @@ class Machine(Reference):
         self.map = Stores()
         self.start = 0
         self.out_sets = [[0] * 9 for _ in range(PLACES + script.KEPT)]
-        self.out_words = [[2] * 12 for _ in range(PLACES + script.KEPT)]
+        self.out_words = [[NO_KIND] * 12 for _ in range(PLACES + script.KEPT)]
         self.out_counts = [[0] * (COUNTS + KEPT_COUNTS * script.KEPT) for _ in range(2)]
         self.out_bounds, self.kept_bounds = [0.0] * 200, [[0.0] * 200 for _ in range(script.KEPT)]
         self.listed, self.listed_single = 0, False
         self.calls[script.Damage] = self.damage
         self.calls[script.Show] = self.show
 
-    # Configuring: the tests are the reference's.
+    # Configuring: the tests are the reference's. Sums and last values are of f64.
 
     def configure(self, call):
+        if call.kind in script.SINGLE_KINDS and call.number != "f":
+            raise Unreadable
         bounds, keys, stores = self.bounds, self.filter or (), self.map
         super().configure(call)
         self.start, self.map = self.map.start, stores
@@ -56,18 +59,15 @@ class Machine(Reference):
     def own_filter(self):
         return self.map.own_filter()
 
-    # Recording: 12, 6, 5, 8, 9. By handle: 12, 6, 8, 7, 9. Binding: 12, 5, 8, 9. Releasing: 12, 8, 7.
+    # Recording: 12, 6, 5, 8, 9, 16. By handle: 12, 6, 8, 7, 9, 16. Binding: 12, 5, 8, 9. Releasing: 12, 8, 7.
 
-    def bits(self, call):
+    def given(self, call):
         self.readable(call)
         self.running()
-        bits = script.read_value(call.value, "f")
-        if not is_finite(bits):
-            raise Refused(6)
-        return bits
+        return self.value(call.value)
 
     def record(self, call):
-        bits, stores = self.bits(call), self.map
+        value, stores = self.given(call), self.map
         key = self.canonical(call.set)
         if not stores.configured() or not stores.accepted() or not stores.agrees():
             raise Refused(8)
@@ -76,15 +76,17 @@ class Machine(Reference):
             slot = stores.make(new, more)
         else:
             stores.check_series(slot)
-        stores.record_at(slot, bits)
+            stores.check_sum(slot, value)
+        stores.record_at(slot, value)
 
     def record_bound(self, call):
-        bits, stores = self.bits(call), self.map
+        value, stores = self.given(call), self.map
         if not stores.configured() or not stores.agrees():
             raise Refused(8)
         slot = stores.named_by(self.handles[call.handle])
         stores.check_series(slot)
-        stores.record_at(slot, bits)
+        stores.check_sum(slot, value)
+        stores.record_at(slot, value)
 
     def bind(self, call):
         self.running(directory=True)
@@ -199,16 +201,15 @@ class Machine(Reference):
         words = self.out_words[PLACES + k]
         if not is_point(words) or max(lengths(words)) > KEPT_COUNTS:
             raise Unreadable
-        start = words[4] if words[0] else 0
+        start = words[4] if is_explicit(words) else 0
         return self.point_at(self.kept_cursor(k), self.kept_bounds[k][start:])
 
     def merge(self, call):
         pair = self.kept_point(call.first), self.kept_point(call.second)
         words = [self.out_words[PLACES + k] for k in (call.first, call.second)]
-        if any(w[0] and w[4] + w[5] > script.WAITING_BOUNDS for w in words):  # bounds that are not lent
+        if any(is_explicit(w) and w[4] + w[5] > script.WAITING_BOUNDS for w in words):  # bounds that are not lent
             raise Refused(8)
-        both_explicit = words[0][0] == words[1][0] == 1
-        if not both_explicit and call.size not in self.rules.sizes:
+        if not all(map(is_explicit, words)) and call.size not in self.rules.sizes:
             raise Refused(1)
         if not all(point_agrees(point, w, call.size) for point, w in zip(pair, words)):
             raise Refused(8)
@@ -220,13 +221,14 @@ class Machine(Reference):
     # Damage, and what the stores hold.
 
     def damage(self, call):
+        number = script.read_cell(call, self.map.number())
         if call.store in "wPNB":
-            self.damage_kept(call)
-        elif not self.map.damage(call.store, call.place, call.cell, call.number):
+            self.damage_kept(call, number)
+        elif not self.map.damage(call.store, call.place, call.cell, number):
             raise Unreadable
 
-    def damage_kept(self, call):
-        k, cell, number = call.place, call.cell, call.number
+    def damage_kept(self, call, number):
+        k, cell = call.place, call.cell
         if k >= script.KEPT or cell >= {"w": 12, "P": KEPT_COUNTS, "N": KEPT_COUNTS, "B": 200}[call.store]:
             raise Unreadable
         if call.store == "w":
@@ -241,7 +243,8 @@ class Machine(Reference):
         sums = [*map(mixed, self.map.cells())]
         sums += [mixed(cell for row in rows for cell in row) for rows in (self.out_sets, self.out_words)]
         sums += [mixed(counts) for counts in self.out_counts]
-        sums += [mixed(cell for row in self.map.rows[VALUES] for cell in row)] if self.map.is_single() else []
+        more = VALUES if self.map.is_single() else WHOLES if self.map.number() == "i" else None
+        sums += [mixed(cell for row in self.map.rows[more] for cell in row)] if more else []
         return [" ".join(map(str, ["s", self.map.used, self.map.count, self.map.last, *sums]))]
 
 

@@ -7,6 +7,7 @@
 """
 
 import sys
+from dataclasses import replace
 from unittest.mock import patch
 
 import bits
@@ -17,8 +18,9 @@ import points
 import reference
 import sample
 import words
+from points import NUMBERS, Refused
 from script import OVERFLOW
-from stores import ENTRIES, EXTREMES, LARGEST, VALUES, Stores
+from stores import ENTRIES, EXTREMES, FIGURES, TOTALS, VALUES, WHOLES, Stores
 
 find_or_make = reference.Map.find_or_make
 finest_index = bits.finest_index
@@ -28,6 +30,8 @@ LAST, JOIN = points.last_point, points.join_held
 COLLECT, LISTED = reference.Reference.collect, reference.Map.listed
 SWEEP, LAY, PLACES = Stores.sweep, Stores.lay, machine.Machine.check_places
 AGREES, FRESHEN, LIST_VALUES, WORDS = Stores.series_agrees, Stores.freshen, machine.Machine.list_values, Stores.words_of
+EXTREME, HELD, RECORD, CHECK_MERGE, MERGED = points.extremes, points.held, reference.Reference.record, points.check_merge, points.merged
+GIVEN, CHECK_SUM, IS_POINT = machine.Machine.given, Stores.check_sum, words.is_point
 
 # Of the reference.
 
@@ -226,6 +230,132 @@ SINGLE_MUTANTS = [
     ("the first value handed out as the last", points.POINT_OF, "l", first_value),
     ("a sum that starts at -0.0", points.POINT_OF, "s", from_minus_zero),
 ]
+
+
+# Over i64.
+
+
+def half_to_odd(n):
+    return beside_tie(n, lambda below, above: above if below % 2 == 0 else below)
+
+
+def half_away(n):
+    return beside_tie(n, lambda _below, above: above)
+
+
+def half_to_zero(n):
+    return beside_tie(n, lambda below, _above: below)
+
+
+def beside_tie(n, choose):
+    """The nearest f64, but where two are as near that whose mantissa is chosen."""
+    drop = max(0, abs(n).bit_length() - 53)
+    below = abs(n) >> drop
+    if not drop or abs(n) != (2 * below + 1) << (drop - 1):
+        return float(n)
+    return float(choose(below, below + 1) << drop) * (-1 if n < 0 else 1)
+
+
+def cut_off(n):
+    drop = max(0, abs(n).bit_length() - 53)
+    return float(abs(n) >> drop << drop) * (-1 if n < 0 else 1)
+
+
+def rounded_extremes(values, numbers):
+    return EXTREME([v if isinstance(v, float) else max(-(2**63), min(2**63 - 1, int(float(v)))) for v in values], numbers)
+
+
+def extremes_from_zero(values, numbers):
+    return EXTREME(values, numbers if numbers is NUMBERS["f"] else replace(numbers, greatest=0, least=0))
+
+
+def sum_by_f64(values, numbers):
+    added = TOTAL([float(v) for v in values], NUMBERS["f"])
+    return added if numbers is NUMBERS["f"] else max(-(2**63), min(2**63 - 1, int(added)))
+
+
+def wrapping(a, b):
+    return words.number_of((a + b) % 2**64, "i")
+
+
+def within(low, high):
+    def add(a, b):
+        if not low <= a + b <= high:
+            raise Refused(16)
+        return a + b
+
+    return add
+
+
+def sum_with_the_switch_off(values, config):
+    low, high, total = HELD(values, config)
+    return low, high, total if config.number == "f" else sum(values)
+
+
+def refused_and_counted(self, call):
+    try:
+        RECORD(self, call)
+    except Refused as refused:
+        if refused.number == 16:
+            self.map.ends_in(self.canonical(call.set), self.config.limit).values.append(0)
+        raise
+
+
+def check_without_switch(self, entry, value):
+    if self.config.number == "i" and entry is not None:
+        NUMBERS["i"].add(sum(entry.values), value)
+
+
+def check_of_all_sets(self, _entry, value):
+    if self.config.number == "i" and self.config.sum:
+        NUMBERS["i"].add(sum(sum(entry.values) for entry in self.map.entries.values()), value)
+
+
+def whole(**wrong):
+    return replace(NUMBERS["i"], **wrong)
+
+
+WHOLE_MUTANTS = [
+    ("a half to the odd mantissa", NUMBERS, "i", whole(nearest=half_to_odd)),
+    ("a half away from zero", NUMBERS, "i", whole(nearest=half_away)),
+    ("a half toward zero", NUMBERS, "i", whole(nearest=half_to_zero)),
+    ("the f64 not nearest but next toward zero", NUMBERS, "i", whole(nearest=cut_off)),
+    ("a bound compared with the whole number itself", NUMBERS, "i", whole(nearest=int)),
+    ("extremes by their f64", points, "extremes", rounded_extremes),
+    ("extremes that start at 0", points, "extremes", extremes_from_zero),
+    ("a sum by f64 addition", points, "total", sum_by_f64),
+    ("a sum that wraps around", NUMBERS, "i", whole(add=wrapping)),
+    ("a sum handed out with the switch off", points, "held", sum_with_the_switch_off),
+    ("a value refused with 16 is counted", reference.Reference, "record", refused_and_counted),
+]
+
+
+def mixed_merged(point):
+    return point.kind, point.switch, point.threshold, [bits.to_float(b) for b in point.bounds] if point.kind == "x" else None
+
+
+def number_first(a, b, size, sizes):
+    """11 for unlike numbers before 1 and 8."""
+    if a.number != b.number:
+        raise Refused(11)
+    CHECK_MERGE(a, b, size, sizes)
+
+
+def sums_unchecked(a, b):
+    with patch.dict(NUMBERS, {"i": whole(add=wrapping)}):
+        return JOIN(a, b)
+
+
+# What the Rust can't show: it is not asked about a value that is refused, and has no merges.
+WHOLE_OURS = [
+    ("16 for the greatest i64", NUMBERS, "i", whole(add=within(-(2**63), 2**63 - 2))),
+    ("16 for the least i64", NUMBERS, "i", whole(add=within(1 - 2**63, 2**63 - 1))),
+    ("16 with the sum off", reference.Reference, "check_sum", check_without_switch),
+    ("16 by the sum of all sets", reference.Reference, "check_sum", check_of_all_sets),
+    ("an i64 point merged with an f64 one", points, "mark", mixed_merged),
+    ("11 for unlike numbers before 1 and 8", points, "check_merge", number_first),
+    ("a merged sum that wraps around", points, "join_held", sums_unchecked),
+]
 MISCUTS = [
     "miscut_power_of_two",
     "miscut_offset_halved_toward_zero",
@@ -308,7 +438,7 @@ def shown_when_updated(self, slot):
 
 def starts_refused(self, slot):
     """A series that holds the starting extremes is taken to lack some."""
-    return AGREES(self, slot) and (self.is_single() or self.rows[EXTREMES][slot][:2] != [LARGEST, -LARGEST])
+    return AGREES(self, slot) and (self.is_single() or self.rows[EXTREMES][slot][:2] != [NUMBERS["f"].greatest, NUMBERS["f"].least])
 
 
 def switched_off_not_asked(self, slot):
@@ -360,6 +490,85 @@ MODELS = [
 ]
 
 
+# Of the model over i64.
+
+
+def in_the_f64_store(_self):
+    return EXTREMES
+
+
+def summed_with_the_switch_off(self, total, v):
+    return NUMBERS[self.number()].add(total, v) if self.config.sum or self.number() == "f" else wrapping(total, v)
+
+
+def old_sum_kept(self, slot):
+    total = self.rows[WHOLES][slot][2]
+    FRESHEN(self, slot)
+    self.rows[WHOLES][slot][2] = total
+
+
+def counted_though_refused(self, slot, v):
+    try:
+        CHECK_SUM(self, slot, v)
+    except Refused:
+        self.rows[FIGURES if self.config.kind == "e" else TOTALS][slot][0] += 1
+        raise
+
+
+def sum_asked_first(self, call):
+    """16 before 5, 8, 7 and 9, where one set is held."""
+    value = GIVEN(self, call)
+    if self.map.used == 1:
+        self.map.check_sum(1, value)
+    return value
+
+
+def sums_before_counts(a, b, size, sizes):
+    """16 before 11 and 9."""
+    if a.number == b.number == "i":
+        NUMBERS["i"].add(a.sum, b.sum)
+    CHECK_MERGE(a, b, size, sizes)
+
+
+def room_before_sums(a, b, size, room, sizes):
+    """10 before 16."""
+    with patch.dict(NUMBERS, {"i": whole(add=wrapping)}):
+        MERGED(a, b, size, room, sizes)
+    return MERGED(a, b, size, room, sizes)
+
+
+def f64_kinds(self, slot):
+    words, counts = WORDS(self, slot)
+    return [words[0] % 2, *words[1:]], counts
+
+
+def no_nans(given):
+    """The words of an i64 point tested as an f64 point's are."""
+    return IS_POINT(given) and IS_POINT([given[0] % 2, *given[1:]])
+
+
+def starts_written(self, slot):
+    """Extremes that are not shown as what a series starts from."""
+    words, counts = WORDS(self, slot)
+    if words[0] > 1 and words[8] < 2:
+        words[9:11] = [2**63 - 1, 2**63]
+    return words, counts
+
+
+WHOLE_MODELS = [
+    ("whole numbers in the store of f64", Stores, "held_store", in_the_f64_store),
+    ("a sum kept with the switch off", Stores, "summed", summed_with_the_switch_off),
+    ("a sum of whole numbers not started anew", Stores, "freshen", old_sum_kept),
+    ("a value refused with 16 is counted in its slot", Stores, "check_sum", counted_though_refused),
+    ("16 before 5, 8, 7 and 9", machine.Machine, "given", sum_asked_first),
+    ("16 before 11 and 9 in a merge", points, "check_merge", sums_before_counts),
+    ("10 before 16 in a merge", machine, "merged", room_before_sums),
+    ("points over i64 with the kinds of f64", Stores, "words_of", f64_kinds),
+    ("words of an i64 point that would be a NaN's are none", machine, "is_point", no_nans),
+    ("the starts in the words of extremes that are not shown", Stores, "words_of", starts_written),
+]
+
+
 def patched(place, name, wrong):
     return patch.dict(place, {name: wrong}) if isinstance(place, dict) else patch.object(place, name, wrong)
 
@@ -388,7 +597,7 @@ def shown_by(answers, scripts, said):
 
 
 def report(what, found):
-    print(f"{'MISSED' if found is None else found:>36}  {what}", flush=True)
+    print(f"{'MISSED' if found is None else found:>44}  {what}", flush=True)
     return found is None
 
 
@@ -396,11 +605,11 @@ def against_stored():
     """How many variants the stored scripts miss."""
     scripts, said = (sample.stored(sample.CRATES / "replay" / name) for name in ("stdin", "stdout"))
     plain, missed = sample.undamaged(scripts), 0
-    for place, (what, *where) in enumerate(MUTANTS + SINGLE_MUTANTS + OUR_MUTANTS):
+    for place, (what, *where) in enumerate(MUTANTS + SINGLE_MUTANTS + OUR_MUTANTS + WHOLE_MUTANTS + WHOLE_OURS):
         among = {MISCUTS[place]: plain[MISCUTS[place]]} if place < len(MISCUTS) else plain
         with patched(*where):
             missed += report(what, shown_by(reference.answers, among, said))
-    for what, *where in MODELS:
+    for what, *where in MODELS + WHOLE_MODELS:
         with patched(*where):
             missed += report(what, shown_by(machine.answers, scripts, said))
     return missed
@@ -408,7 +617,7 @@ def against_stored():
 
 def against_the_rust(most):
     missed = 0
-    for mutants, options in ((MUTANTS, generate.Options()), (SINGLE_MUTANTS, sample.SINGLES)):
+    for mutants, options in ((MUTANTS, generate.Options()), (SINGLE_MUTANTS, sample.SINGLES), (WHOLE_MUTANTS, sample.WHOLES)):
         for what, *where in mutants:
             with patched(*where):
                 found = found_after(most, options)

@@ -26,7 +26,7 @@ class Numbers:
     least: object
     greatest: object
     parse: object  # from what a script holds
-    nearest: object  # bits of the nearest f64
+    nearest: object  # the nearest f64, of two the one with the even mantissa
     add: object
 
 
@@ -38,8 +38,8 @@ def add_whole(a, b):
 
 
 NUMBERS = {
-    "f": Numbers(0.0, to_float(0xFFEFFFFFFFFFFFFF), to_float(0x7FEFFFFFFFFFFFFF), to_float, to_bits, lambda a, b: a + b),
-    "i": Numbers(0, -(2**63), 2**63 - 1, int, lambda v: to_bits(float(v)), add_whole),
+    "f": Numbers(0.0, to_float(0xFFEFFFFFFFFFFFFF), to_float(0x7FEFFFFFFFFFFFFF), to_float, float, lambda a, b: a + b),
+    "i": Numbers(0, -(2**63), 2**63 - 1, int, float, add_whole),
 }
 
 
@@ -169,11 +169,11 @@ def row_of(counted, drop):
 
 def exponential_point(attributes, values, config):
     nearest = NUMBERS[config.number].nearest
-    outside = [v for v in values if abs(float(v)) > config.threshold]
+    outside = [v for v in values if abs(nearest(v)) > config.threshold]
     top = min(config.scale, FINEST)
     rows = [Counter(), Counter()]
     for value in outside:
-        rows[value < 0][index(nearest(value), top)] += 1
+        rows[value < 0][index(to_bits(nearest(value)), top)] += 1
     drop = drop_needed(rows, config.size)
     low, high, sum_ = held(values, config)
     zeros = len(values) - len(outside)
@@ -182,9 +182,9 @@ def exponential_point(attributes, values, config):
 
 
 def explicit_point(attributes, values, config):
-    bounds = [to_float(b) for b in config.bounds]
+    bounds, nearest = [to_float(b) for b in config.bounds], NUMBERS[config.number].nearest
     low, high, sum_ = held(values, config)
-    buckets = Counter(sum(b < float(v) for b in bounds) for v in values)
+    buckets = Counter(sum(b < nearest(v) for b in bounds) for v in values)
     counts = tuple(buckets[i] for i in range(len(bounds) + 1)) if bounds else ()
     figures = (len(values), low, high, sum_, counts, config.bounds)
     return ExplicitPoint(attributes, config.number, config.extremes, *figures)

@@ -1,6 +1,7 @@
 """What random scripts reach: how often each call answers each number, how often each branch of document 01 is taken, and what never.
 
-    reach.py COUNT [--seed WORD]        COUNT random scripts of histograms and COUNT of sums and last values, and COUNT/4 of either with damage
+    reach.py COUNT [--seed WORD]        COUNT random scripts of histograms, of sums and last values, of histograms over i64, and COUNT/4 of each
+                                        with damage
 """
 
 import argparse
@@ -8,32 +9,34 @@ from collections import Counter
 
 import damage
 import generate
+import machine
 import points
+import rust
 import script
-from bits import SIGN, to_bits
+import words
+from bits import to_bits
 from machine import Machine
-from sample import SINGLES
+from sample import SINGLES, WHOLES
 from script import OVERFLOW
 from stores import VALUES
 
+KINDS = "ef", "xf", "sf", "lf", "ei", "xi"
 NUMBERS = {
-    "n e": (1, 2, 4, 12),
-    "n x": (3, 4, 12),
-    "n s": (4, 12),
-    "n l": (4, 12),
-    "r": (12, 6, 5, 8, 9),
-    "h": (12, 6, 8, 7, 9),
+    "n": {"e": (1, 2, 4, 12), "x": (3, 4, 12), "s": (4, 12), "l": (4, 12)},
+    "r": (12, 6, 5, 8, 9, 16),
+    "h": (12, 6, 8, 7, 9, 16),
     "b": (12, 5, 8, 9),
     "u": (12, 8, 7),
     "c": (12, 8, 10),
-    "j": (1, 8, 11, 9, 10),
+    "j": (1, 8, 11, 9, 16, 10),
 }
 BRANCHES = {
     "recorded": "zero, one level lower, 2 to 9 levels lower, 10 to 20 levels lower, sum infinite, on a bound, no bounds",
+    "whole": "tie to below, tie to above, rounded otherwise, the greatest, the least, 16 at the top, 16 at the bottom, sum off beyond i64",
     "set": "empty by filter, key twice, found, made, sent to overflow, overflow made, overflow as a set",
     "delta": "removed, slots moved, idle bound stays, idle overflow stays, empty set listed, empty, count one more with overflow",
     "cumulative": "idle entry listed, empty set listed, empty set left out",
-    "merged": "levels apart, lower than both, an empty point, explicit, no bounds, zeros of both signs, sum NaN, sum infinite",
+    "merged": "levels apart, lower than both, an empty point, explicit, no bounds, zeros of both signs, sum NaN, sum infinite, 11 for the number alone",
     "handle": "of a removed set, of overflow, of the empty set, released twice",
 }
 
@@ -48,10 +51,17 @@ class Watched(Machine):
     def line(self, number, text):
         given, refusal = super().line(number, text)
         if refusal is not None and text[:1] in "nrhbucj":
-            letter = text[:3] if text[0] == "n" else text[0]
-            kind = self.config.kind if self.config and text[0] not in "nj" else ""
-            self.seen[f"{letter} {kind} {refusal}"] += 1
+            self.seen[f"{text[0]} {self.kind_of(text)} {refusal}"] += 1
         return given, refusal
+
+    def kind_of(self, text):
+        """The kind that a call is of, with its number; a merge's by its first point."""
+        if text[0] == "n":
+            return text[2] + text[4]
+        if text[0] == "j":
+            kind, number = words.KINDS[self.out_words[machine.PLACES + int(text.split()[2])][0]]
+            return kind + number
+        return self.config.kind + self.config.number
 
     def note(self, *branches):
         """Branches are counted over sound stores only."""
@@ -72,8 +82,16 @@ class Watched(Machine):
 
     def record(self, call):
         slot, new, _ = self.before(call)
-        super().record(call)
+        self.noting_16(super().record, call)
         self.note_value(self.map.find(new) if slot is None else slot, call)
+
+    def noting_16(self, recorded, call):
+        try:
+            recorded(call)
+        except points.Refused as refused:
+            ends = [refused.number == 16 and (int(call.value) > 0) == top for top in (True, False)]
+            self.note(("whole: 16 at the top", ends[0]), ("whole: 16 at the bottom", ends[1]))
+            raise
 
     def bind(self, call):
         self.before(call)
@@ -93,15 +111,24 @@ class Watched(Machine):
         return slot, new, more
 
     def note_value(self, slot, call):
-        bits, stores = int(call.value, 16), self.map
-        total = to_bits(stores.rows[VALUES][slot][0] if stores.is_single() else stores.rows["m"][slot][2])
-        self.note(("recorded: zero", bits & ~SIGN == 0), ("recorded: sum infinite", total & ~SIGN == 0x7FF << 52))
+        value, stores = self.value(call.value), self.map
+        total = stores.rows[VALUES][slot][0] if stores.is_single() else stores.rows[stores.held_store()][slot][2]
+        self.note(("recorded: zero", value == 0), ("recorded: sum infinite", abs(total) == float("inf")))
         if self.config.kind == "x":
             bounds = stores.own_bounds()
-            self.note(("recorded: no bounds", not bounds), ("recorded: on a bound", bits in map(to_bits, bounds)))
+            self.note(("recorded: no bounds", not bounds), ("recorded: on a bound", float(value) in bounds))
+        if self.config.number == "i":
+            self.note_whole(value)
+
+    def note_whole(self, value):
+        ulp = max(1, 1 << max(0, abs(value).bit_length() - 53))
+        off = int(float(value)) - value
+        tie = ulp > 1 and 2 * abs(off) == ulp
+        self.note(("whole: tie to below", tie and off < 0), ("whole: tie to above", tie and off > 0), ("whole: rounded otherwise", off and not tie))
+        self.note(("whole: the greatest", value == 2**63 - 1), ("whole: the least", value == -(2**63)))
 
     def record_bound(self, call):
-        super().record_bound(call)
+        self.noting_16(super().record_bound, call)
         birth = self.handles[call.handle]
         self.note(("handle: of the empty set", birth == 0), ("handle: of overflow", birth and self.map.set_at(self.map.named_by(birth)) == OVERFLOW))
 
@@ -136,7 +163,12 @@ class Watched(Machine):
         self.note(("delta: count one more with overflow", counted == len(before) - 1 and any(key == OVERFLOW for _, key, _, _ in before)))
 
     def merge(self, call):
-        lines = super().merge(call)
+        try:
+            lines = super().merge(call)
+        except points.Refused as refused:
+            marks = [points.mark(self.kept_point(k)) for k in (call.first, call.second)] if refused.number == 11 else [(), ()]
+            self.note(("merged: 11 for the number alone", refused.number == 11 and marks[0][2:] == marks[1][2:] and marks[0][0] == marks[1][0]))
+            raise
         a, b, c = (self.kept_point(k) for k in (call.first, call.second, call.point))
         if call.point in (call.first, call.second):
             return lines
@@ -164,9 +196,18 @@ def note_drops(seen, machine):
 
 
 def watch(seen, lines):
-    machine = Watched(seen)
-    note_drops(seen, machine)
-    machine.answers(lines)
+    watched = Watched(seen)
+    note_drops(seen, watched)
+    watched.answers(lines)
+
+
+def numbers_of(call, kind):
+    """The numbers that a call of a kind may answer."""
+    numbers = NUMBERS[call][kind[0]] if call == "n" else NUMBERS[call]
+    never = {16} if kind[1] == "f" else {6}
+    never |= {9} if call == "h" and kind[0] in "sl" else set()  # no 9 where nothing is counted and nothing made
+    never |= {1} if call == "j" and kind[0] == "x" else set()  # only beside an exponential point
+    return [number for number in numbers if number not in never]
 
 
 def main():
@@ -175,15 +216,16 @@ def main():
     parser.add_argument("--seed", default="a")
     given = parser.parse_args()
     seen = Counter()
-    for options in (generate.Options(), SINGLES):
+    for options in (generate.Options(), SINGLES, WHOLES):
         for i in range(given.count):
-            watch(seen, generate.make(f"{given.seed}.{i}", options))
+            lines = generate.make(f"{given.seed}.{i}", options)
+            watch(seen, lines)
+            seen["whole: sum off beyond i64"] += rust.asked(lines, options.rules).wraps
         for i in range(given.count // 4):
             watch(seen, [line for line in damage.make(f"{given.seed}.{i}", options) if line != "s"])
-    for call, numbers in NUMBERS.items():
-        for kind in ("",) if call[0] in "nj" else "exsl":
-            asked = numbers[:-1] if call == "h" and kind in "sl" else numbers  # no 9 where nothing is counted and nothing made
-            said = (f"{number}: {seen[f'{call} {kind} {number}'] or 'NEVER'}" for number in (0, *asked))
+    for call in NUMBERS:
+        for kind in KINDS if call != "j" else ("ef", "xf", "ei", "xi"):
+            said = (f"{number}: {seen[f'{call} {kind} {number}'] or 'NEVER'}" for number in (0, *numbers_of(call, kind)))
             print(f"{call} {kind}".ljust(5), *said, sep="  ")
     for call, branches in BRANCHES.items():
         for what in branches.split(", "):

@@ -11,6 +11,7 @@ from reference import Reference
 
 BUILT = Path(__file__).resolve().parent.parent / "target/oracle/build"
 REPLAY = BUILT / "checked/replay"
+UNCHECKED = BUILT / "release/replay"  # an overflow of i64 wraps around
 ASKED_SCALES = range(11, 21)  # accepted by the Rust's `validate`, refused by document 01
 
 
@@ -21,6 +22,8 @@ class Asked:
     lines: list
     expected: list
     empty: int  # points of count 0 whose extremes the Rust shows (docs/DIFFERENCES.md)
+    beyond: int  # values refused with 16: the Rust is not asked to take them
+    wraps: bool  # whether, with the sum off, a sum that the Rust adds up all the same leaves i64
 
 
 def shows_starts(point):
@@ -39,6 +42,7 @@ class Asking:
     def __init__(self, rules):
         self.reference = Reference(rules)
         self.lines, self.expected, self.empty = [], [], 0
+        self.beyond, self.wraps = 0, False
         self.waiting = []  # places of the g and f lines since the last n
         self.live = {}  # the Rust's own bindings: birth number to their numbers
         self.bindings = 0
@@ -60,6 +64,8 @@ class Asking:
             self.comparable = self.comparable and refusal != 0
         elif self.comparable:
             self.call(call, text, answers, refusal)
+            self.beyond += isinstance(call, (script.Record, script.RecordBound)) and refusal == 16
+            self.wraps = self.wraps or self.sum_leaves()
 
     def ask(self, text, answers=()):
         self.lines[-1] = text
@@ -107,6 +113,11 @@ class Asking:
     def birth(self, call):
         return self.reference.handles[call.handle]
 
+    def sum_leaves(self):
+        """Asked after each line, so of every sum that was ever held."""
+        config = self.reference.config
+        return config.number == "i" and not config.sum and not all(-(2**63) <= sum(entry.values) < 2**63 for entry in self.reference.map.entries.values())
+
 
 def refused_by_both(call, bounds, refusal):
     """Whether `validate` refuses what document 01 refuses with 2 or 3."""
@@ -120,19 +131,26 @@ def asked(lines, rules):
     asking = Asking(rules)
     for number, text in enumerate(lines, 1):
         asking.line(number, text)
-    return Asked(asking.lines, asking.expected, asking.empty)
+    return Asked(asking.lines, asking.expected, asking.empty, asking.beyond, asking.wraps)
 
 
-def replay(scripts):
+def told(questions):
     """The Rust's answers to scripts as asked: a dict from name to lines, None where it panicked."""
-    done = subprocess.run([REPLAY], input=script.join_scripts(scripts), capture_output=True, text=True)
+    answers = {}
+    for program, wraps in ((REPLAY, False), (UNCHECKED, True)):
+        answers |= replay({name: question.lines for name, question in questions.items() if question.wraps == wraps}, program)
+    return {name: answers[name] for name in questions}
+
+
+def replay(scripts, program=REPLAY):
+    done = subprocess.run([program], input=script.join_scripts(scripts), capture_output=True, text=True)
     if done.returncode == 0:
         return script.split_scripts(done.stdout)
     if len(scripts) == 1:
         return dict.fromkeys(scripts)
     answers = {}
     for name, lines in scripts.items():
-        answers |= replay({name: lines})
+        answers |= replay({name: lines}, program)
     return answers
 
 

@@ -21,18 +21,19 @@ import damage
 import generate
 import machine
 import reference
-from compare import BESIDE, EMPTY, SAME, Comparer
+from compare import AGREED, BESIDE, Comparer
 from reference import Rules
 from runs import answered
-from rust import asked, replay
+from rust import asked, replay, told
 from script import join_scripts, split_scripts
 
 HERE = Path(__file__).resolve().parent / "sample"
 CRATES = HERE.parent.parent / "crates"
 STORED = {CRATES / "replay/stdin": CRATES / "replay/stdout", HERE / "scripts.txt": HERE / "answers.txt"}
 SINGLES = generate.Options(kinds=("sf", "lf"))
-RANDOM = {"sample": (250, generate.Options()), "singles": (50, SINGLES)}
-DAMAGED = {"damage": (25, generate.Options()), "damaged_singles": (25, SINGLES)}
+WHOLES = generate.Options(kinds=("ei", "xi"))
+RANDOM = {"sample": (250, generate.Options()), "singles": (50, SINGLES), "wholes": (50, WHOLES)}
+DAMAGED = {"damage": (25, generate.Options()), "damaged_singles": (25, SINGLES), "damaged_wholes": (20, WHOLES)}
 
 
 def stored(path):
@@ -71,9 +72,9 @@ def make():
         store(outputs, {name: expected(lines) for name, lines in scripts.items()})
     plain = undamaged(all_stored())
     verdicts = dict(Comparer().compare(plain))
-    explained = SAME, EMPTY, BESIDE
+    explained = *AGREED, BESIDE
     assert set(verdicts.values()) <= set(explained), [name for name in verdicts if verdicts[name] not in explained]
-    store(HERE / "rust.txt", replay({name: asked(lines, Rules()).lines for name, lines in plain.items()}))
+    store(HERE / "rust.txt", told({name: asked(lines, Rules()) for name, lines in plain.items()}))
     store(HERE / "beyond_rust.txt", replay(stored(HERE / "beyond.txt")))
 
 

@@ -2,7 +2,7 @@
 
 import re
 import sys
-from dataclasses import dataclass, fields, replace
+from dataclasses import dataclass, fields
 from typing import Optional
 
 from bits import to_bits
@@ -14,6 +14,7 @@ WAITING_BOUNDS = 200
 WAITING_KEYS = 32
 OVERFLOW = ((4294967295, 1),)
 FLOAT_STORES = "mbBl"
+HELD_STORE = "m"  # min, max and sum: of f64, or of i64 where that is configured
 SINGLE_KINDS = "sl"  # a series is one value
 
 
@@ -107,7 +108,7 @@ class Damage:
     store: str
     place: int
     cell: int
-    number: int  # bits where the store holds f64
+    number: str  # as written: its form depends on the store, and on the number kind configured
 
 
 @dataclass(frozen=True)
@@ -257,8 +258,6 @@ def read_line(line):
     call = made(*(read(part) for read, part in zip(readers, parts)))
     if isinstance(call, Configure):
         check_form(call)
-    if isinstance(call, Damage):
-        return replace(call, number=(read_bits if call.store in FLOAT_STORES else u64)(call.number))
     return call
 
 
@@ -271,9 +270,6 @@ def check_form(configure):
 
 
 def write_line(call):
-    if isinstance(call, Damage) and call.store in FLOAT_STORES:
-        call = replace(call, number=write_bits(call.number))
-        return " ".join(["d", call.store, str(call.place), str(call.cell), call.number])
     parts = (WRITERS.get(f.name, write_number)(getattr(call, f.name)) for f in fields(call))
     return " ".join([LETTERS[type(call)], *parts])
 
@@ -281,6 +277,21 @@ def write_line(call):
 def read_value(field, number):
     """The value of a field as bits (number kind f) or as a whole number (i)."""
     return read_bits(field) if number == "f" else i64(field)
+
+
+def holds_bits(store, number):
+    """Whether a cell of a store is written as bits, under a number kind."""
+    return store in FLOAT_STORES and (store, number) != (HELD_STORE, "i")
+
+
+def read_cell(call, number):
+    """What a cell is set to: the bits of an f64, or a u64; an i64 by its two's complement."""
+    return read_bits(call.number) if holds_bits(call.store, number) else u64(call.number)
+
+
+def damage(store, place, cell, number, kind="f"):
+    """The line that sets a cell, under a number kind."""
+    return Damage(store, place, cell, write_bits(number) if holds_bits(store, kind) else str(number % 2**64))
 
 
 def split_lines(text):

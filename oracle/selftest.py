@@ -4,6 +4,7 @@
 """
 
 import random
+from fractions import Fraction
 
 import card
 import cases
@@ -11,8 +12,9 @@ import gauge
 import machine
 import reference
 import script
-from bits import BOUNDS, GREATEST, has_index, index, to_bits
+from bits import BOUNDS, GREATEST, has_index, index, to_bits, to_float
 from mean_lines import answered
+from points import NUMBERS
 
 ONE, TWO, THREE, ONE_AND_A_HALF = 0x3FF0000000000000, 0x4000000000000000, 0x4008000000000000, 0x3FF8000000000000
 TINY, TWO_TO_MINUS_1024 = 1, 0x0004000000000000
@@ -83,6 +85,26 @@ def check_index(count=3000):
     check(f"the index of {len(values)} values, half of them beside bounds, is the definition's", holds)
 
 
+def is_nearest(n, x):
+    """Whether no f64 lies nearer to a whole number than x, and one that lies as near has an odd mantissa, so that x's is the even one."""
+    bits, off = to_bits(abs(x)), abs(abs(n) - Fraction(abs(x)))
+    beside = [abs(abs(n) - Fraction(to_float(bits + step))) for step in (-1, 1) if bits + step >= 0]
+    return (x < 0) == (n < 0) and all(off < other or (off == other and bits % 2 == 0) for other in beside)
+
+
+def check_nearest(count=3000):
+    """Request L6: "The bucket comes from the f64 nearest to the whole number, ties to the even mantissa"."""
+    draw = random.Random("nearest")
+    near = [(2**power >> 1) + more for power in range(1, 65) for more in range(-3, 4)]
+    near += [(m << drop) + (1 << drop - 1) + more for drop in range(1, 11) for m in (2**52, 2**52 + 1, 2**53 - 1) for more in (-1, 0, 1)]
+    values = [n for n in near + [draw.getrandbits(draw.randint(1, 63)) for _ in range(count)] if n < 2**63]
+    values = [signed for n in values for signed in (n, -n)] + [-(2**63)]
+    nearest = NUMBERS["i"].nearest
+    check(f"the f64 nearest to {len(values)} whole numbers, ties to the even mantissa", all(is_nearest(n, nearest(n)) for n in values))
+    ties = {2**53 + 1: 2**53, 2**53 + 3: 2**53 + 4, 2**54 + 2: 2**54, 2**54 + 6: 2**54 + 8, 2**63 - 512: 2**63, 2**63 - 1: 2**63, 2**63 - 513: 2**63 - 1024}
+    check("  ties both ways, and the greatest i64", all(nearest(sign * n) == sign * x for n, x in ties.items() for sign in (1, -1)))
+
+
 def check_worked_run():
     check("the worked run prints exactly document 01's two lines", gauge.answer(WORKED_RUN) == WORKED_ANSWER)
     bad = ["r 3FF0000000000000 1:5", "e 4 10 31 0", "e 4 10 30 0", "r 7FF0000000000000 -", "", "c 01", "c 1", "c 1 "]
@@ -117,9 +139,9 @@ def check_run_marks(scripts):
 
 
 def check_orders(scripts):
-    """Document 01, "Order.": a script's name has the two numbers that apply, the earlier first."""
-    pairs = {name: [int(number) for number in name.split("_")[-2:]] for name in scripts if name.startswith("order_")}
-    check(f"{len(pairs)} pairs of numbers that apply together: the earlier, then the later", all(refusals(scripts[name]) == pairs[name] for name in pairs))
+    """Document 01, "Order.": a script's name ends in the numbers that apply, two or all that a call has, the earlier first."""
+    orders = {name: [int(part) for part in name.split("_") if part.isdigit()] for name in scripts if name.startswith("order_")}
+    check(f"{len(orders)} scripts of numbers that apply together: the earlier, then the later", all(refusals(scripts[name]) == orders[name] for name in orders))
 
 
 def check_rescales(scripts):
@@ -162,6 +184,10 @@ def check_requests():
     whole = ["n e i 4 10 - 2 d 1 1 0", "r 9223372036854775807 -", "r 1 -", "r -3 -", "c 1 - -"]
     point = "p - 2 0 10 -3 9223372036854775807 9223372036854775804 64511:1 1623:1"
     check_answers("L6, whole numbers", whole, ["! 3 16", "c 0 1 1", point])
+    corner = ["n e i 4 10 - 1 d 1 1 0", "r 9223372036854775807 4294967295:1", "r 1 1:5", "r -1 1:5"]
+    check_answers("L6, a set over the limit shares the sum of overflow", corner, ["! 3 16"])
+    unsummed = ["n x i - - - 1 d 1 0 0", "r 9223372036854775807 -", "r 9223372036854775807 -", "c 1 - -"]
+    check_answers("L6, with the sum off none is kept", unsummed, ["c 0 1 1", "q - 2 9223372036854775807 9223372036854775807 0 - -"])
     band = [f"n e f 4 10 {TWO:016X} 2 d 1 1 0", f"r {TWO:016X} -", f"r {TWO + 1:016X} -", "c 1 - -"]
     point = f"p - 2 1 10 {TWO:016X} {TWO + 1:016X} 4010000000000000 1024:1 0: {TWO:016X}"
     check_answers("L7, a zero band", band, ["c 0 1 1", point])
@@ -184,6 +210,7 @@ def main():
     check_table()
     check_marks()
     check_index()
+    check_nearest()
     check_worked_run()
     scripts = cases.scripts()
     check_run_marks(scripts)

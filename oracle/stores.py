@@ -6,16 +6,16 @@ no series. A row lies at the front of its slot's part of a count store, and what
 
 from collections import Counter
 
-from bits import GREATEST, index, is_finite, to_bits, to_float
-from points import COUNT_MOST, Refused, drop_needed, row_of
+from bits import index, is_finite, to_bits, to_float
+from points import COUNT_MOST, NUMBERS, Refused, drop_needed, row_of
 from reference import Rules, rising
-from script import FLOAT_STORES, OVERFLOW, SINGLE_KINDS, WAITING_BOUNDS, WAITING_KEYS
-from words import TOP, bias, buckets_agree, extremes_agree, held_words, rows_agree, set_of_words, words_of_set
+from script import FLOAT_STORES, HELD_STORE, OVERFLOW, SINGLE_KINDS, WAITING_BOUNDS, WAITING_KEYS
+from words import KINDS, TOP, bias, buckets_agree, extremes_agree, held_words, number_of, rows_agree, set_of_words, words_of_set
 
 PLACES, COUNTS = 66, 10560  # of the program: crates/replay_state/src/stores.rt
-LARGEST = to_float(GREATEST)
 SETS, ENTRIES, ORDER, FIGURES, EXTREMES, POS, NEG, TOTALS, VALUES = "seofmpntl"
-WIDTHS = {SETS: 9, ENTRIES: 3, ORDER: 1, FIGURES: 8, EXTREMES: 3, TOTALS: 1, VALUES: 1}
+WHOLES = "whole"  # min, max and sum of a map over i64; in a line `d` they have the letter of those over f64
+WIDTHS = {SETS: 9, ENTRIES: 3, ORDER: 1, FIGURES: 8, EXTREMES: 3, WHOLES: 3, TOTALS: 1, VALUES: 1}
 STATE = ["used", "count", "last", "limit", "size", "level", "held", "keys"]
 
 
@@ -36,6 +36,14 @@ class Stores:
     def is_single(self):
         """Whether a series is one value, a sum or a last value (request L1)."""
         return self.config is not None and self.config.kind in SINGLE_KINDS
+
+    def number(self):
+        """The number kind configured; f64 before anything is."""
+        return self.config.number if self.config else "f"
+
+    def held_store(self):
+        """The store of min, max and sum that is in use."""
+        return EXTREMES if self.number() == "f" else WHOLES
 
     def begin(self, config, bounds, keys):
         """After an accepted configuration; bounds and keys as they waited."""
@@ -185,7 +193,7 @@ class Stores:
     def series_agrees(self, slot):
         if self.is_single():
             return self.config.kind == "s" or is_finite(to_bits(self.rows[VALUES][slot][0]))
-        if not extremes_agree(*self.rows[EXTREMES][slot][:2]):
+        if not extremes_agree(*self.rows[self.held_store()][slot][:2]):
             return False
         if self.config.kind == "x":
             bounds = [to_bits(b) for b in self.own_bounds()]
@@ -199,11 +207,20 @@ class Stores:
             if not self.is_single() and self.rows[FIGURES if self.config.kind == "e" else TOTALS][slot][0] == COUNT_MOST:
                 raise Refused(9)
 
+    def summed(self, total, v):
+        """The sum with a value more: number 16 where it would leave i64, of which none is kept with the sum off."""
+        return total if self.number() == "i" and not self.config.sum else NUMBERS[self.number()].add(total, v)
+
+    def check_sum(self, slot, v):
+        if self.updated(slot) and not self.is_single():
+            self.summed(self.rows[self.held_store()][slot][2], v)
+
     def freshen(self, slot):
         if self.is_single():
             self.rows[VALUES][slot] = [0.0]
             return
-        self.rows[EXTREMES][slot] = [LARGEST, -LARGEST, 0.0]
+        numbers = NUMBERS[self.number()]
+        self.rows[self.held_store()][slot] = [numbers.greatest, numbers.least, numbers.zero]
         if self.config.kind == "e":
             self.rows[FIGURES][slot] = [0, 0, self.level, 0, 0, 0, 0, 0]
         else:
@@ -216,7 +233,7 @@ class Stores:
         rows = []
         for start, counts in zip(figures[3:6:2], self.row_parts(slot)):
             rows.append(+Counter({start - bias(level) + i: n for i, n in enumerate(counts)}))
-        rows[v < 0][index(to_bits(v), level - 10)] += 1
+        rows[v < 0][index(to_bits(NUMBERS[self.number()].nearest(v)), level - 10)] += 1
         drop = drop_needed(rows, self.size)
         figures[2] = level - drop
         for store, start, row in ((POS, 3, rows[0]), (NEG, 5, rows[1])):
@@ -225,20 +242,20 @@ class Stores:
             self.lay(store, slot, counts)
 
     def count_in_buckets(self, slot, v):
-        bounds = self.own_bounds()
+        bounds, nearest = self.own_bounds(), NUMBERS[self.number()].nearest(v)
         if bounds:
-            self.counts[POS][slot * self.width() + sum(b < v for b in bounds)] += 1
+            self.counts[POS][slot * self.width() + sum(b < nearest for b in bounds)] += 1
 
-    def record_at(self, slot, bits):
+    def record_at(self, slot, v):
         if not self.updated(slot):
             self.freshen(slot)
-        v = to_float(bits)
         self.rows[ENTRIES][slot][2] = 1
         if self.is_single():
             self.rows[VALUES][slot] = [self.rows[VALUES][slot][0] + v if self.config.kind == "s" else v]
             return
-        low, high, total = self.rows[EXTREMES][slot]
-        self.rows[EXTREMES][slot] = [v if v < low else low, v if v > high else high, total + v]
+        held = self.rows[self.held_store()]
+        low, high, total = held[slot]
+        held[slot] = [v if v < low else low, v if v > high else high, self.summed(total, v)]
         if self.config.kind == "x":
             self.rows[TOTALS][slot][0] += 1
             self.count_in_buckets(slot, v)
@@ -256,15 +273,16 @@ class Stores:
         """The twelve words of a slot's point (docs/LIST.md), and its counts in both stores."""
         updated = self.updated(slot)
         count = self.rows[TOTALS if self.config.kind == "x" else FIGURES][slot][0] if updated else 0
-        *extremes, total = self.rows[EXTREMES][slot]
+        *extremes, total = self.rows[self.held_store()][slot]
         shown = extremes if self.config.extremes and count else None
-        held = held_words(shown, total if self.config.sum and updated else 0.0, self.config.extremes)
+        held = held_words(shown, total if self.config.sum and updated else 0, self.config.extremes)
+        kind = KINDS.index((self.config.kind, self.number()))
         if self.config.kind == "x":
             n = self.width()
-            return [1, count, 0, 0, 0, len(self.own_bounds()), 0, 0, *held], (self.part(POS, slot, n) if updated else [0] * n, [])
+            return [kind, count, 0, 0, 0, len(self.own_bounds()), 0, 0, *held], (self.part(POS, slot, n) if updated else [0] * n, [])
         if not updated:
-            return [0, 0, 0, self.level, 0, 0, 0, 0, *held], ([], [])
-        return [0, *self.rows[FIGURES][slot][:7], *held], self.row_parts(slot)
+            return [kind, 0, 0, self.level, 0, 0, 0, 0, *held], ([], [])
+        return [kind, *self.rows[FIGURES][slot][:7], *held], self.row_parts(slot)
 
     def value_of(self, slot):
         """The value of a sum's or last value's point."""
@@ -280,10 +298,11 @@ class Stores:
     # Damage.
 
     def damage(self, store, place, cell, number):
-        """Sets a cell of a store, f64 by its bits; False where there is none."""
+        """Sets a cell of a store, f64 and i64 by their bits; False where there is none."""
+        store = self.held_store() if store == HELD_STORE else store
         if store in self.rows and place < PLACES and cell < WIDTHS[store] and (store != ORDER or number < 2**32):
             self.rows[store][place] = list(self.rows[store][place])
-            self.rows[store][place][cell] = to_float(number) if store in FLOAT_STORES else number
+            self.rows[store][place][cell] = number_of(number, "i") if store == WHOLES else to_float(number) if store in FLOAT_STORES else number
         elif store in self.counts and place < COUNTS and cell == 0:
             self.counts[store][place] = number
         elif store == "b" and place < WAITING_BOUNDS and cell == 0:

@@ -1,13 +1,14 @@
 """Points as twelve words and their counts (docs/LIST.md), and what number 8 asks of them.
 
-A level is a scale + 10; a row starts, in bins, at its lowest index + 2^(level + 1).
+A level is a scale + 10; a row starts, in bins, at its lowest index + 2^(level + 1). The kind of an i64 point is 2 above that of an f64 one.
 """
 
-from bits import GREATEST, index, is_finite, to_bits, to_float
+from bits import GREATEST, SIGN, index, is_finite, to_bits, to_float
 from points import ExplicitPoint, ExponentialPoint
 from reference import rising
 
 TOP = 20  # the level of scale 10
+KINDS = [("e", "f"), ("x", "f"), ("e", "i"), ("x", "i")]
 
 
 def bias(level):
@@ -23,55 +24,71 @@ def set_of_words(words):
     return tuple(divmod(word, 2**32) for word in words[: words[8]])
 
 
+def is_explicit(words):
+    return words[0] in (1, 3)
+
+
 def lengths(words):
     """The counts of a point in the two stores."""
-    return (words[5] + 1 if words[5] else 0, 0) if words[0] else (words[5], words[7])
+    return (words[5] + 1 if words[5] else 0, 0) if is_explicit(words) else (words[5], words[7])
 
 
 def is_point(words):
     kind, _, zeros, level, start, _, second, length, flags, low, high, total = words
-    if kind > 1 or flags > 3 or max(level, 0 if kind else max(start, second)) >= 2**32:
+    explicit = is_explicit(words)
+    if kind >= len(KINDS) or flags > 3 or max(level, 0 if explicit else max(start, second)) >= 2**32:
         return False
-    if kind and (zeros or level or second or length):
+    if explicit and (zeros or level or second or length):
         return False
     if flags < 2 and (low or high):
         return False
-    return all(to_bits(to_float(w)) == w for w in (low, high, total))
+    return all(word_of(number_of(w, KINDS[kind][1])) == w for w in (low, high, total))
+
+
+def word_of(number):
+    """The bits of an f64, every NaN as the one, or of an i64, two's complement."""
+    return to_bits(number) if isinstance(number, float) else number % 2**64
+
+
+def number_of(word, kind):
+    """The f64 or the i64 of a word."""
+    return to_float(word) if kind == "f" else (word ^ SIGN) - SIGN
 
 
 def held_words(extremes, sum_, switch):
     """Flags, minimum, maximum and sum; extremes are a pair or None."""
     flags = (1 if switch else 0) + (2 if extremes else 0)
-    return [flags, *map(to_bits, extremes or (0.0, 0.0)), to_bits(sum_)]
+    return [flags, *map(word_of, extremes or (0, 0)), word_of(sum_)]
 
 
 def encoded(point, start=0):
     """A point's words and counts; the bounds of an explicit one lie from `start` on."""
     extremes = None if point.min is None else (point.min, point.max)
-    held = held_words(extremes, point.sum, point.switch)
+    held, kind = held_words(extremes, point.sum, point.switch), KINDS.index((point.kind, point.number))
     if point.kind == "x":
-        return [1, point.count, 0, 0, start, len(point.bounds), 0, 0, *held], (point.buckets, ())
+        return [kind, point.count, 0, 0, start, len(point.bounds), 0, 0, *held], (point.buckets, ())
     level = point.scale + 10
     rows = [[offset + bias(level) if counts else 0, len(counts)] for offset, counts in (point.positive, point.negative)]
-    return [0, point.count, point.zeros, level, *rows[0], *rows[1], *held], (point.positive[1], point.negative[1])
+    return [kind, point.count, point.zeros, level, *rows[0], *rows[1], *held], (point.positive[1], point.negative[1])
 
 
 def decoded(words, attributes, rows, bounds):
     """The point of words that are one's, with its counts in the two stores and what bounds there are."""
-    extremes = [to_float(w) if words[8] & 2 else None for w in words[9:11]]
-    held, switch = (*extremes, to_float(words[11])), bool(words[8] & 1)
-    if words[0]:
-        return ExplicitPoint(attributes, "f", switch, words[1], *held, rows[0], tuple(map(to_bits, bounds[: words[5]])))
+    kind, number = KINDS[words[0]]
+    extremes = [number_of(w, number) if words[8] & 2 else None for w in words[9:11]]
+    held, switch = (*extremes, number_of(words[11], number)), bool(words[8] & 1)
+    if kind == "x":
+        return ExplicitPoint(attributes, number, switch, words[1], *held, rows[0], tuple(map(to_bits, bounds[: words[5]])))
     both = [(start - bias(words[3]) if counts else 0, counts) for start, counts in zip((words[4], words[6]), rows)]
-    return ExponentialPoint(attributes, "f", switch, 0.0, words[1], words[2], words[3] - 10, *held, *both)
+    return ExponentialPoint(attributes, number, switch, 0.0, words[1], words[2], words[3] - 10, *held, *both)
 
 
 # Agreement.
 
 
 def extremes_agree(low, high):
-    """Finite, both or neither: of a series, which holds numbers, and of a point."""
-    return (low is None) == (high is None) and all(x is None or is_finite(to_bits(x)) for x in (low, high))
+    """Finite, both or neither: of a series, which holds numbers, and of a point. Every i64 is finite."""
+    return (low is None) == (high is None) and all(is_finite(to_bits(x)) for x in (low, high) if isinstance(x, float))
 
 
 def shown_agrees(point):

@@ -1,4 +1,4 @@
-"""Writing scripts (docs/REPLAY.md) line by line: a value is a float or bits, a set is text as a script has it."""
+"""Writing scripts (docs/REPLAY.md) line by line: a value is a float or bits, over i64 a whole number; a set is text as a script has it."""
 
 import script
 from bits import BOUNDS, FINEST, SIGN, to_bits
@@ -13,10 +13,6 @@ IN_A_LINE = 12  # bounds or keys
 
 def bits_of(value):
     return to_bits(value) if isinstance(value, float) else value
-
-
-def written(value):
-    return script.write_bits(bits_of(value))
 
 
 def inside(index, scale=FINEST):
@@ -34,19 +30,26 @@ def negative(value):
 class Script(list):
     """The lines of one script."""
 
+    number = "f"  # the number kind of the configuration written last
+
     def call(self, made):
+        if isinstance(made, script.Configure):
+            self.number = made.number
         self.append(script.write_line(made))
 
-    def exponential(self, size=4, scale=10, limit=2, temporality="d", extremes=True, sums=True, start=0):
-        self.call(script.Configure("e", "f", size, scale, None, limit, temporality, extremes, sums, start))
+    def exponential(self, size=4, scale=10, limit=2, temporality="d", extremes=True, sums=True, start=0, number="f"):
+        self.call(script.Configure("e", number, size, scale, None, limit, temporality, extremes, sums, start))
 
-    def explicit(self, *bounds, limit=2, temporality="d", extremes=True, sums=True, start=0):
+    def explicit(self, *bounds, limit=2, temporality="d", extremes=True, sums=True, start=0, number="f"):
         self.waiting(script.Bounds, [bits_of(bound) for bound in bounds])
-        self.call(script.Configure("x", "f", None, None, None, limit, temporality, extremes, sums, start))
+        self.call(script.Configure("x", number, None, None, None, limit, temporality, extremes, sums, start))
 
     def single(self, kind, limit=2, temporality="d", start=0):
         """Sums (s) or last values (l)."""
         self.call(script.Configure(kind, "f", None, None, None, limit, temporality, True, True, start))
+
+    def written(self, value):
+        return str(value) if self.number == "i" else script.write_bits(bits_of(value))
 
     def configure(self, kind, **settings):
         """Any kind: the explicit one with bounds 0 and 2."""
@@ -70,13 +73,13 @@ class Script(list):
         self.call(script.Stores(counts, entries))
 
     def record(self, attributes, *values):
-        self += [f"r {written(value)} {attributes}" for value in values]
+        self += [f"r {self.written(value)} {attributes}" for value in values]
 
     def bind(self, handle, attributes):
         self.append(f"b {handle} {attributes}")
 
     def by(self, handle, *values):
-        self += [f"h {handle} {written(value)}" for value in values]
+        self += [f"h {handle} {self.written(value)}" for value in values]
 
     def release(self, handle):
         self.append(f"u {handle}")
@@ -92,7 +95,7 @@ class Script(list):
         self.call(script.Merge(point, first, second, size, counts))
 
     def damage(self, store, place, cell, number):
-        self.call(script.Damage(store, place, cell, bits_of(number)))
+        self.call(script.damage(store, place, cell, bits_of(number), self.number))
 
     def show(self):
         self.append("s")

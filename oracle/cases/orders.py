@@ -65,14 +65,14 @@ def map_calls(kind):
         yield "collecting_series", collecting, {12: SHORT, 8: SERIES[kind], 10: ARGUMENT}
 
 
-def tried(s, call, applies, pair):
-    """Both apply, then the later, then neither."""
-    for number in pair:
+def tried(s, call, applies, numbers):
+    """All apply, then all but the earliest, and so on, then none."""
+    for number in numbers:
         s += applies[number][0]
-    for place in (0, 1, 2):
-        s += call(pair[place:])
-        if place < 2:
-            s += applies[pair[place]][1]
+    for place in range(len(numbers) + 1):
+        s += call(numbers[place:])
+        if place < len(numbers):
+            s += applies[numbers[place]][1]
 
 
 def maps(book):

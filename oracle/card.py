@@ -2,8 +2,8 @@
 
     card.py < INPUT             prints exactly what the program card prints for an input of the gauge program's language
 
-The numbers are, in this order, 8 (the point disagrees under size 160 and scale 10), 13 (count 0) and 14 (the sum is not a whole number of
-1/1024, or its magnitude is above 2^43).
+The numbers are, in this order, 8 (the point disagrees under size 160 and scale 10), 11 (it is a point over i64), 13 (count 0) and 14 (the sum is
+not a whole number of 1/1024, or its magnitude is above 2^43).
 """
 
 import sys
@@ -77,6 +77,8 @@ def card(point):
     """Of a point of points.py."""
     if not agrees(point):
         raise Refused(8)
+    if point.number != "f":
+        raise Refused(11)
     return mean(point.count, to_bits(point.sum))
 
 

@@ -16,7 +16,7 @@ import sheet
 from sheet_calls import ARCHIVE, LENGTHS, Bytes, Library, Stores, listed, scattered
 from sheet_inputs import DAMAGES, OTHER_NANS, damaged, fixed_lists, is_small, some_list, wrong_lists
 
-NO_SHEET, TOO_SHORT, NO_LIST = 15, 10, 8
+NO_SHEET, UNLIKE, TOO_SHORT, NO_LIST = 15, 11, 10, 8
 ROOM = sheet.RECORD * sheet.RECORDS_MOST
 
 
@@ -140,7 +140,7 @@ def wrong_set_rows(row):
 
 def wrong_words(words, bounds):
     """Words that are no point's, extremes against request L4, counts and bounds that are not lent."""
-    yield "kind 2", replaced(words, 0, 2)
+    yield "kind 4", replaced(words, 0, 4)
     yield "flags above 3", replaced(words, 8, words[8] + 4)
     yield "extremes with the switch off", replaced(words, 8, 2)
     yield "a NaN sum of other bits", replaced(words, 11, OTHER_NANS[0])
@@ -166,6 +166,23 @@ def wrong_exponential_words(words):
         yield f"a row of 2^64 - 1 counts, word {place}", replaced(words, place, 2**64 - 1)
 
 
+def check_whole_points(run, made):
+    """Request L6: a point over i64, which its kind says, is 11, before 10, and after the 8 of any point and any set."""
+    list_ = listed(made.points)
+    for place in run.draw.sample(range(len(made.points)), min(len(made.points), 3)):
+        words = [list_.words[place][0] + 2, *list_.words[place][1:]]
+        any_numbers = [run.draw.getrandbits(64) if words[8] >= 2 or at == 11 else 0 for at in (9, 10, 11)]
+        for row in (words, [*words[:9], *any_numbers]):
+            wholes = list_._replace(words=replaced(list_.words, place, row))
+            run.write("a point over i64", made, wholes, UNLIKE)
+            run.write("a point over i64, and no bytes", made, wholes, UNLIKE, room=0)
+            for at in {place, run.draw.randrange(len(made.points))}:
+                wrong = replaced(wholes.words[at], 8, 2)
+                run.write("a point over i64, and extremes with the switch off", made, wholes._replace(words=replaced(wholes.words, at, wrong)), NO_LIST)
+                wrong = replaced(wholes.sets[at], 8, 9)
+                run.write("a point over i64, and 9 attributes", made, wholes._replace(sets=replaced(wholes.sets, at, wrong)), NO_LIST)
+
+
 def check_wrong_lists(run, made):
     """Lists that are wrong in one thing, or only nearly: the writer takes those whose bytes are a sheet."""
     for points in wrong_lists(run.draw, made.points if is_small(made) else made.points[:2]):
@@ -180,7 +197,7 @@ def can_be_listed(points):
 
 
 def check(run, made):
-    for checks in (check_room, check_short_stores, check_wrong_rows, check_wrong_lists):
+    for checks in (check_room, check_short_stores, check_wrong_rows, check_whole_points, check_wrong_lists):
         checks(run, made)
 
 
@@ -195,7 +212,7 @@ def damage(run, made):
 
 def report(run, lists):
     calls, tried, accepted = run.calls, run.tried.total(), run.accepted.total()
-    refused = f"refused with 8 {calls[NO_LIST]}, with 10 {calls[TOO_SHORT]}"
+    refused = f"refused with 8 {calls[NO_LIST]}, with 10 {calls[TOO_SHORT]}, with 11 {calls[UNLIKE]}"
     print(f"{lists} lists; writes {calls[0]}, {refused}; reads into short stores {calls['short']}\n")
     print("| damage | sheets | accepted |", "|---|---|---|", sep="\n")
     for kind in DAMAGES:

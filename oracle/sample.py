@@ -2,7 +2,8 @@
 
     sample.py make              writes them anew: crates/replay/{stdin,stdout}, the scripts of cases/ and random ones with damage;
                                 sample/{scripts,answers}.txt, random scripts without damage; sample/rust.txt, what the Rust answers to all
-                                that have no damage; sample/beyond_rust.txt, its answers to sample/beyond.txt, on which it is meant to differ
+                                that have no damage; sample/beyond_rust.txt, its answers to sample/beyond.txt, on which it is meant to differ,
+                                by the build without overflow checks
     sample.py check             needs no Rust: the reference and the model against the stored answers, and these against the Rust's
     sample.py check COMMAND     runs a command on all stored scripts and compares what it prints with the stored answers
     sample.py gauge COMMAND     likewise on the input of the gauge program, crates/gauge/stdin (tools/make_gauge_vectors.py)
@@ -24,7 +25,7 @@ import reference
 from compare import AGREED, BESIDE, Comparer
 from reference import Rules
 from runs import answered
-from rust import asked, replay, told
+from rust import UNCHECKED, asked, replay, told
 from script import join_scripts, split_scripts
 
 HERE = Path(__file__).resolve().parent / "sample"
@@ -75,7 +76,7 @@ def make():
     explained = *AGREED, BESIDE
     assert set(verdicts.values()) <= set(explained), [name for name in verdicts if verdicts[name] not in explained]
     store(HERE / "rust.txt", told({name: asked(lines, Rules()) for name, lines in plain.items()}))
-    store(HERE / "beyond_rust.txt", replay(stored(HERE / "beyond.txt")))
+    store(HERE / "beyond_rust.txt", replay(stored(HERE / "beyond.txt"), UNCHECKED))
 
 
 def compare_all(what, expected, given):

@@ -4,17 +4,20 @@
 """
 
 import random
+from dataclasses import replace
 from fractions import Fraction
 
 import card
 import cases
 import gauge
 import machine
+import points
 import reference
 import script
 from bits import BOUNDS, GREATEST, has_index, index, to_bits, to_float
 from mean_lines import answered
 from points import NUMBERS
+from reference import Config
 
 ONE, TWO, THREE, ONE_AND_A_HALF = 0x3FF0000000000000, 0x4000000000000000, 0x4008000000000000, 0x3FF8000000000000
 TINY, TWO_TO_MINUS_1024 = 1, 0x0004000000000000
@@ -188,6 +191,7 @@ def check_requests():
     check_answers("L6, a set over the limit shares the sum of overflow", corner, ["! 3 16"])
     unsummed = ["n x i - - - 1 d 1 0 0", "r 9223372036854775807 -", "r 9223372036854775807 -", "c 1 - -"]
     check_answers("L6, with the sum off none is kept", unsummed, ["c 0 1 1", "q - 2 9223372036854775807 9223372036854775807 0 - -"])
+    check("L6, cards of points over i64: 11, also at count 0, and 8 before it", [card.shown(point) for point in some_wholes()] == ["! 11", "! 11", "! 8"])
     band = [f"n e f 4 10 {TWO:016X} 2 d 1 1 0", f"r {TWO:016X} -", f"r {TWO + 1:016X} -", "c 1 - -"]
     point = f"p - 2 1 10 {TWO:016X} {TWO + 1:016X} 4010000000000000 1024:1 0: {TWO:016X}"
     check_answers("L7, a zero band", band, ["c 0 1 1", point])
@@ -196,6 +200,13 @@ def check_requests():
     changed = reference.answers([exponential(size=160), *values, "t 3 4", "c 1 - -"])
     check("L10, new settings give the point of the values under them", changed == reference.answers([exponential(3, 4), *values, "c 1 - -"]))
     check_answers("L10, a setting that would rise", [exponential(), "t 5 10"], ["! 2 19"])
+
+
+def some_wholes():
+    """A point over i64, one of no values, and one that disagrees."""
+    config = Config("e", "i", 4, 10, 0.0, 2, "d", True, True)
+    point = points.exponential_point((), [1, 2], config)
+    return point, points.exponential_point((), [], config), replace(point, count=3)
 
 
 def check_language():

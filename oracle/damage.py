@@ -13,6 +13,7 @@ import machine
 import script
 from bits import CANONICAL_NAN, GREATEST, INFINITY, SIGN
 from runs import answered, smallest
+from words import is_point
 
 EDGES = (0, 1, 2, 3, 20, 21, 160, 161, 2**32 - 1, 2**32, 2**63, 2**64 - 2, 2**64 - 1)
 FLOATS = (0, SIGN, 1, GREATEST, INFINITY, CANONICAL_NAN, 0x3FF0000000000000, 0x4014000000000000)
@@ -43,6 +44,20 @@ def damage(draw, stores, kind):
 
 def some_damage(draw, stores):
     return damage(draw, SINGLE_STORES if stores.is_single() else STORES, stores.number())
+
+
+def kept_damage(draw, held):
+    """A cell of a kept point, mostly a little off, and the point merged with another."""
+    kept = [k for k in range(5) if is_point(held.out_words[machine.PLACES + k])]
+    if not kept:
+        return []
+    k, store = draw.choice(kept), draw.choice("wwwwPPNB")
+    cell = draw.randrange(12) if store == "w" else draw.randint(0, 3)
+    number = draw.choice((*EDGES, *FLOATS, *WHOLES, *(held.out_words[machine.PLACES + k][cell] + more for more in (-1, -1, 1, 1, 2, 2))))
+    if store in "PN":
+        number = draw.randint(0, 3)
+    pair = draw.sample([k, draw.choice(kept)], 2)
+    return [script.damage(store, k, cell, number % 2**64), script.Merge(draw.randint(5, 7), *pair, draw.choice((160, 160, 160, 2)), draw.choice((None, None, 0)))]
 
 
 def full(draw, held):
@@ -85,12 +100,15 @@ def full_words(k, held, most):
 def make(name, options=generate.Options()):
     """Damage is mostly shown at once, and the map after a good part of all lines. A model runs along, so that damage may agree."""
     draw, held, lines = random.Random(name), machine.Machine(), []
+    wholes = any(kind[1] == "i" for kind in options.kinds)
     for line in generate.make(name, options):
         added = [line]
         held.line(0, line)
         if draw.random() < 0.05:
             cells = full(draw, held) if held.config and draw.random() < 0.3 else [some_damage(draw, held.map)]
             added += map(script.write_line, cells)
+        if wholes and line[0] in "jk" and draw.random() < 0.5:
+            added += map(script.write_line, kept_damage(draw, held))
         for more in added[1:]:
             held.line(0, more)
         if draw.random() < 0.1:

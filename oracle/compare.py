@@ -4,12 +4,13 @@
     compare.py COUNT .. --ours COMMAND              three ways: what our program answers to every line must be the reference's answer
 
 count 0: the same, but that points of count 0 have no extremes, and the Rust shows those that a series starts from
-(docs/DIFFERENCES.md). 16: the same, but that values were refused because the sum would leave i64; the Rust is not asked to take them. sum off:
-the same of the Rust's build without overflow checks: with the sum off none is kept, and the Rust's, which it does not hand out, leaves i64
-(both: request L6; a script that is several of these is the last). beside a bound: the answers differ otherwise, and are the same without the records of values that are a bound or
-the next value above it and whose index at the starting scale differs; these values are judged by the definition. key twice: likewise
-without the calls that give one key twice. ours: our program differs from the reference, whatever the Rust says. Everything else is
-unexplained and is printed with the smallest script found. Exit status 1 if anything is unexplained or ours.
+(docs/DIFFERENCES.md). 16: the same, but that values were refused because the sum would leave i64; the Rust is not asked to take them.
+sum off: the same of the Rust's build without overflow checks: with the sum off none is kept, and the Rust's, which it does not hand out,
+leaves i64 (both: request L6). A script that is several of these is counted as the last. beside a bound: the answers differ otherwise, and
+are the same without the records of values that are, or whose nearest f64 is, a bound or the next value above it and whose index at the
+starting scale differs; these values are judged by the definition. key twice: likewise without the calls that give one key twice. ours: our
+program differs from the reference, whatever the Rust says. Everything else is unexplained and is printed with the smallest script found.
+Exit status 1 if anything is unexplained or ours.
 """
 
 import sys

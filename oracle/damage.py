@@ -57,7 +57,8 @@ def kept_damage(draw, held):
     if store in "PN":
         number = draw.randint(0, 3)
     pair = draw.sample([k, draw.choice(kept)], 2)
-    return [script.damage(store, k, cell, number % 2**64), script.Merge(draw.randint(5, 7), *pair, draw.choice((160, 160, 160, 2)), draw.choice((None, None, 0)))]
+    size, counts = draw.choice((160, 160, 160, 2)), draw.choice((None, None, 0))
+    return [script.damage(store, k, cell, number % 2**64), script.Merge(draw.randint(5, 7), *pair, size, counts)]
 
 
 def full(draw, held):

@@ -39,6 +39,10 @@ class Config:
     bounds: tuple = ()
     filter: object = None  # a set of keys, None: all are kept
 
+    def keeps_sum(self):
+        """The switch is a histogram's; a last value has none."""
+        return self.kind == "s" or (self.kind != "l" and self.sum)
+
     def buckets(self):
         """Counts needed for one entry in each count store."""
         if self.kind == "e":
@@ -236,7 +240,7 @@ class Reference:
 
     def check_sum(self, entry, value):
         """Number 16, for whole numbers whose sum is kept."""
-        if self.config.number == "i" and self.config.sum and entry is not None:
+        if self.config.number == "i" and self.config.keeps_sum() and entry is not None:
             NUMBERS["i"].add(sum(entry.values), value)
 
     def record(self, call):

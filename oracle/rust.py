@@ -116,7 +116,9 @@ class Asking:
     def sum_leaves(self):
         """Asked after each line, so of every sum that was ever held."""
         config = self.reference.config
-        return config.number == "i" and not config.sum and not all(-(2**63) <= sum(entry.values) < 2**63 for entry in self.reference.map.entries.values())
+        if config.number != "i" or config.kind in script.SINGLE_KINDS or config.sum:
+            return False
+        return not all(-(2**63) <= sum(entry.values) < 2**63 for entry in self.reference.map.entries.values())
 
 
 def refused_by_both(call, bounds, refusal):

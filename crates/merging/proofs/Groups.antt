@@ -46,11 +46,13 @@ module _ {N : Number} (O : Owed N) (C : Coded N) (M : Merges C) where
       (all-read (C .handedIn) (Known N O s) (leaves t)
       (all-map (λ l. Of N s (C .handedIn l)) (λ l. Known N O s (C .handedIn l)) (λ l. known N O s (C .handedIn l)) (leaves t) a))))
 
-  -- THE SUMS, added up two by two
-  pub sums-add : (size : ℕ) (t : Tree (C .Stored)) (z : C .Stored) → Groups C size t z → O .Adds (C .handedIn z .sum) (map (λ x. C .handedIn x .sum) (leaves t))
-  sums-add size (leaf a) z g = subst (λ x. O .Adds (C .handedIn x .sum) (C .handedIn a .sum ∷ [])) g (O .adds-one (C .handedIn a .sum))
-  sums-add size (node s t) z (x, y, us, vs, g, h, e) =
-      let f : C .Stored → N .Value = λ l. C .handedIn l .sum in
-      subst (λ l. O .Adds (f z) l) (sym (map-append f (leaves s) (leaves t)))
-      (subst (λ r. O .Adds (r .sum) (map f (leaves s) ++ map f (leaves t))) (sym (merged-reads C M size x y z us vs e .0))
-      (O .adds-join (f x) (f y) (map f (leaves s)) (map f (leaves t)) (sums-add size s x g) (sums-add size t y h)))
+  -- THE SUMS, added up two by two: what holds of one sum, and of two added, holds of what is left
+  module _ (Adds : N .Value → List (N .Value) → Type 0) (one : (x : N .Value) → Adds x (x ∷ []))
+      (join : (x y : N .Value) (vs ws : List (N .Value)) → Adds x vs → Adds y ws → Adds (N .add x y) (vs ++ ws)) where
+    pub sums-add : (size : ℕ) (t : Tree (C .Stored)) (z : C .Stored) → Groups C size t z → Adds (C .handedIn z .sum) (map (λ x. C .handedIn x .sum) (leaves t))
+    sums-add size (leaf a) z g = subst (λ x. Adds (C .handedIn x .sum) (C .handedIn a .sum ∷ [])) g (one (C .handedIn a .sum))
+    sums-add size (node s t) z (x, y, us, vs, g, h, e) =
+        let f : C .Stored → N .Value = λ l. C .handedIn l .sum in
+        subst (λ l. Adds (f z) l) (sym (map-append f (leaves s) (leaves t)))
+        (subst (λ r. Adds (r .sum) (map f (leaves s) ++ map f (leaves t))) (sym (merged-reads C M size x y z us vs e .0))
+        (join (f x) (f y) (map f (leaves s)) (map f (leaves t)) (sums-add size s x g) (sums-add size t y h)))

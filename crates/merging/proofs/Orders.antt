@@ -36,6 +36,9 @@ module _ {N : Number} (O : Owed N) (C : Coded N) (M : Merges C) where
       pub good : Good C size s left
       pub count : counted left ≡ sum counted (leaves t)
 
+    adds : (t : Tree (C .Stored)) (x : C .Stored) → Groups C size t x → O .Adds (C .handedIn x .sum) (sums (leaves t))
+    adds = sums-add O C M (O .Adds) (O .adds-one) (O .adds-join) size
+
     pooled : (t : Tree (C .Stored)) → All (Good C size s) (leaves t) → sum counted (leaves t) ≤ mostCount → N .Within (sums (leaves t)) → Pooled t
     unfolding All
     pooled (leaf x) g n w = record { left = x; is = refl; good = g .0; count = omega arith }
@@ -46,7 +49,7 @@ module _ {N : Number} (O : Owed N) (C : Coded N) (M : Merges C) where
         let p = pooled a (all-left (Good C size s) (leaves a) (leaves b) g) (omega (arith, e)) (i .0) in
         let q = pooled b (all-right (Good C size s) (leaves a) (leaves b) g) (omega (arith, e)) (i .1) in
         let j = O .adds-within (C .handedIn (p .left) .sum) (C .handedIn (q .left) .sum) (sums (leaves a)) (sums (leaves b))
-        (sums-add O C M size a (p .left) (p .is)) (sums-add O C M size b (q .left) (q .is)) v in
+        (adds a (p .left) (p .is)) (adds b (q .left) (q .is)) v in
         let m = merges O C M size s sized (p .left) (q .left) (p .good) (q .good) (omega (arith, e, p .count, q .count)) j us vs long in
         record {
           left = m .left;

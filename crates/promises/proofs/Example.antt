@@ -25,7 +25,6 @@ use Rattle.point.specs.Handing.{Stored, storedIn, handedIn, agreesAlone, refusa
 use Rattle.mean.specs.Rounding.{rounded, nearest}
 use Rattle.mean.specs.Mean.{onGrid, meanOf, meanIn}
 use Rattle.mean.specs.Values.{meanOfAll}
-use Rattle.merging.proofs.Groups.{mergedStored}
 use Rattle.tally.specs.Sets.{Set, Lendable}
 use Rattle.tally.specs.Kind.{Room}
 use Rattle.tally.specs.Map.{Config, Call, measure, measureBy, bind, release, collect, Answer, refuse, done, handle, listed}
@@ -55,6 +54,7 @@ use Rattle.collecting.specs.Read.{AllFit}
 use Rattle.explicit_collection.specs.Points.{explicitLister}
 use Rattle.explicit_collection.specs.Configured.{configured}
 use Rattle.explicit_collection.specs.declared.Setup.{Setup}
+use Rattle.promises.specs.Numbers.{reals}
 use Rattle.promises.specs.Runs.{Asked, recording, recordingBy, binding, releasing, collecting, run}
 use Rattle.promises.specs.Pooled.{storedOf, Whole}
 use Rattle.promises.proofs.Promises.{explicit-demand}
@@ -172,7 +172,7 @@ premise =
     subst (λ (a : List (Answer histograms)). Premise histograms c (Demand.asked histograms code given) a) (sym answers)
     (record { fewer = omega arith; unlike = omega arith })
 
-demanded : Whole c (Demand.asked histograms code given) (ran histograms code given) (λ r. storedOf (explicitLister bounds) bounds w 1 none r first given)
+demanded : Whole reals c (Demand.asked histograms code given) (ran histograms code given) (λ r. storedOf reals (explicitLister bounds) bounds w 1 none r first given)
 demanded = explicit-demand bounds true true 1 none stores cells setup all-fit accepted .1 .demand given premise
 
 -- ---- THE SET'S POINTS, as they are stored, and merged
@@ -189,11 +189,11 @@ s₂ = stored (0 ∷ 0 ∷ 1 ∷ []) 1 seven seven seven
 abbrev all : Stored
 all = stored (1 ∷ 1 ∷ 1 ∷ []) 3 less seven (f 0x4026_0000_0000_0000)
 
-points : storedOf (explicitLister bounds) bounds w 1 none A first given ≡ s₁ ∷ s₂ ∷ []
+points : storedOf reals (explicitLister bounds) bounds w 1 none A first given ≡ s₁ ∷ s₂ ∷ []
 unfolding pointAt entryIn isPoint configured started begun Bindings.started bound boundIn boundTo released releasedIn measuredBy seatedBy boundsPass noNan rising isNan lt ofBits ofFields toBits fits add round eq pick over measured called entered unlessRefused barredBy unlessBarred newSeat seated marked committed located agreesb slotsb allb sought admitted setOf rowOf soundb inserted recordedAt Series.recording refusalOf bucketOf bucketsOf recordBucket bucketsAgree deltaCollected uncollected roomy sweptKept figuresIn boundsIn extremeIn pointIn
 points = refl
 
-together : mergedStored 0 (0 ∷ 0 ∷ 0 ∷ []) [] s₁ s₂ ≡ success all
+together : merging 0 s₁ s₂ (0 ∷ 0 ∷ 0 ∷ []) [] .answer ≡ success all
 unfolding merging refusalBefore unmergeable mergeable mergeHanded handedAgrees laidOver mergeBuckets added bucketsAgree boundsPass sameBounds noNan rising isNan lt eq add round ofBits pick over
 together = refl
 
@@ -205,7 +205,7 @@ values = ap (λ (a : List (Answer histograms)). gained histograms c asks a A) an
 stands : Stands (c .settings) (handedIn all) (five ∷ less ∷ seven ∷ [])
 stands =
     subst (Stands (c .settings) (handedIn all)) values
-    ((demanded .pools A 0 refl (ap (any histograms) values) .stands (node (leaf s₁) (leaf s₂)) (subst (λ l. List·Permᴰ l (s₁ ∷ s₂ ∷ [])) (sym points) (Permᴰ·refl (s₁ ∷ s₂ ∷ []))) all
+    ((demanded .pools A 0 refl (ap (any histograms) values) tt .stands (node (leaf s₁) (leaf s₂)) (subst (λ l. List·Permᴰ l (s₁ ∷ s₂ ∷ [])) (sym points) (Permᴰ·refl (s₁ ∷ s₂ ∷ []))) all
     (s₁, s₂, 0 ∷ 0 ∷ 0 ∷ [], [], refl, refl, together)) .0)
 
 -- and its mean is theirs: 11 / 3, in hundredths

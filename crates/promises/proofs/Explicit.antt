@@ -12,6 +12,7 @@ use Rattle.explicit_collection.specs.Points.{explicitLister}
 use Rattle.explicit_collection.proofs.Lists.{finds, explicit-lists}
 use Rattle.explicit_collection.proofs.Lent.{recording-keeps}
 use Rattle.collecting.proofs.Owed.{Lists}
+use Rattle.promises.specs.Numbers.{reals}
 use Rattle.promises.proofs.Runs.{Keeps}
 use Rattle.promises.proofs.Stored.{Storing}
 
@@ -21,7 +22,7 @@ keeps bounds c x u v f l = recording-keeps bounds v (f .value) x u c l
 pub lists : (bounds : List Float) (extremes sums : Bool) → Lists (explicitLister bounds) (extremes, sums)
 lists bounds extremes sums c x u on l r s = explicit-lists bounds extremes sums c x u l r
 
-pub storing : (bounds : List Float) → Storing (explicitLister bounds) bounds
+pub storing : (bounds : List Float) → Storing reals (explicitLister bounds) bounds
 storing bounds =
     record {
       found = λ at o. refl;

@@ -8,6 +8,7 @@ use Rattle.exponential_slots.specs.Cells.{Cells, headAt}
 use Rattle.point.specs.Handing.{Stored, storedIn, exponentialPoint}
 use Rattle.exponential_collection.specs.Points.{exponentialLister}
 use Rattle.exponential_collection.proofs.Lists.{shaped, finds, recording-keeps}
+use Rattle.promises.specs.Numbers.{reals}
 use Rattle.promises.proofs.Runs.{Keeps}
 use Rattle.promises.proofs.Stored.{Storing}
 
@@ -19,7 +20,7 @@ abbrev storedAt : (size top : ℕ) → Bool × Bool → Cells → ℕ → Bool �
 storedAt size top w c x u =
     storedIn (exponentialPoint (headAt top c x u) (w .0) (w .1)) [] (exponentialLister size top .pos c x u) (exponentialLister size top .neg c x u)
 
-pub storing : (size top : ℕ) → Storing (exponentialLister size top) []
+pub storing : (size top : ℕ) → Storing reals (exponentialLister size top) []
 storing size top =
     record {
       found = λ at o. refl;

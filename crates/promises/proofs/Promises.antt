@@ -18,8 +18,10 @@ use Rattle.tally.proofs.Demand.{demand, merged-demand}
 use Rattle.kinds.specs.Histograms.{histograms}
 use Rattle.kinds.proofs.Recorded.{lawful}
 use Rattle.kinds.proofs.Merges.{merging, mergeable}
+use Rattle.kinds.specs.Wholes.{wholes}
+use Rattle.kinds.proofs.Wholes.{wholes-lawful, wholes-merging, wholes-mergeable}
 use Rattle.directory.proofs.Tied.{agreement}
-use Rattle.promises.specs.Promises.{ExponentialDemand, ExplicitDemand, SinglesDemand, Reaches, OneIndex, PlainForm, HalvedOffset, DirectoryAgrees}
+use Rattle.promises.specs.Promises.{ExponentialDemand, ExplicitDemand, ExponentialWholesDemand, ExplicitWholesDemand, SinglesDemand, Reaches, OneIndex, PlainForm, HalvedOffset, DirectoryAgrees}
 use Rattle.promises.proofs.Reaches as Reaching
 use Rattle.promises.proofs.Setups as Setups
 use Rattle.promises.proofs.Singles as Singles
@@ -29,6 +31,12 @@ exponential-demand = Setups.exponential-demand
 
 pub explicit-demand : ExplicitDemand
 explicit-demand = Setups.explicit-demand
+
+pub exponential-wholes-demand : ExponentialWholesDemand
+exponential-wholes-demand = Setups.exponential-wholes-demand
+
+pub explicit-wholes-demand : ExplicitWholesDemand
+explicit-wholes-demand = Setups.explicit-wholes-demand
 
 pub singles-demand : SinglesDemand
 singles-demand = Singles.singles-demand
@@ -61,3 +69,10 @@ answers = demand histograms lawful
 -- and "each set with a collected value has a merged point (its points merged one by one in any order, under the configured max_size) .."
 pub merges : MergedDemand histograms merging
 merges = merged-demand histograms lawful merging mergeable
+
+-- over i64, where the magnitudes of each set's collected values total at most 2^63 - 1
+pub whole-answers : Demand wholes
+whole-answers = demand wholes wholes-lawful
+
+pub whole-merges : MergedDemand wholes wholes-merging
+whole-merges = merged-demand wholes wholes-lawful wholes-merging wholes-mergeable

@@ -47,6 +47,7 @@ use Rattle.sheet_reading.specs.Reading as R
 use Rattle.sheet_reading.specs.Reading.{reading, readingOf}
 use Rattle.sheet_reading.specs.declared.Listed.{Listed}
 use Rattle.promises.specs.Runs.{Asked, recording, recordingBy, binding, releasing, collecting, ended}
+use Rattle.promises.specs.Numbers.{reals}
 use Rattle.promises.specs.Pooled.{storedBy, Whole}
 use Rattle.promises.specs.Sheets.{Writes, EverySheet, SheetBack, SheetOnly, OneSheet, WholeSlice, Carried, pointsAt, SheetCarries, carriedOut, SheetMerges}
 
@@ -364,7 +365,7 @@ module _ {S : Store histograms} (L : Lister S) (w : S .Switches) (limit : ℕ) (
 pub sheet-merges : SheetMerges
 sheet-merges S L bounds w limit filter h holds carry kept xs premise =
     let f : Collected (S .Cells) → List (Set × Stored) = λ c. Option·getD (pointsOut (foundAt bounds) c) [] in
-    subst (Whole (configOf S w limit filter) _ _)
+    subst (Whole reals (configOf S w limit filter) _ _)
     (λ i r. same-stored L w limit filter f (carriedOut bounds carry) (λ c. sym (same-points bounds carry kept c)) r xs h i)
     (holds xs premise)
 

@@ -25,7 +25,6 @@ use Rattle.points.proofs.Rows as PointsRows
 use Rattle.points.specs.Values.{classOf}
 use Rattle.point.specs.declared.Figures.the-variants.{Exponential}
 use Rattle.point.specs.Handing.{Stored, storedIn, refusalBefore, laidOver, merging}
-use Rattle.merging.proofs.Groups.{mergedStored}
 use Rattle.tally.specs.Map.{Config, Answer, done, listed}
 use Rattle.tally.specs.Demand as Demand
 use Rattle.tally.specs.Demand.{Premise, Code, ran}
@@ -52,6 +51,7 @@ use Rattle.collecting.specs.Collected.{roomy, uncollected, deltaCollected}
 use Rattle.exponential_collection.specs.Points.{exponentialLister}
 use Rattle.exponential_collection.specs.Configured.{configured}
 use Rattle.exponential_collection.specs.declared.Setup.{Setup}
+use Rattle.promises.specs.Numbers.{reals}
 use Rattle.promises.specs.Runs.{Asked, recording, collecting, run}
 use Rattle.promises.specs.Pooled.{storedOf, Whole}
 use Rattle.promises.proofs.Promises.{exponential-demand}
@@ -116,7 +116,7 @@ premise =
     subst (λ (a : List (Answer histograms)). Premise histograms c (Demand.asked histograms code given) a) (sym answers)
     (record { fewer = omega arith; unlike = omega arith })
 
-demanded : Whole c (Demand.asked histograms code given) (ran histograms code given) (λ r. storedOf (exponentialLister 3 20) [] (true, true) 1 none r first given)
+demanded : Whole reals c (Demand.asked histograms code given) (ran histograms code given) (λ r. storedOf reals (exponentialLister 3 20) [] (true, true) 1 none r first given)
 unfolding levelAnswer pick
 demanded = exponential-demand 3 (pos 10) true true 1 none stores cells setup all-fit accepted .1 .demand given premise
 
@@ -139,10 +139,10 @@ stored n =
     })
     [] [] []
 
-points : storedOf (exponentialLister 3 20) [] (true, true) 1 none A first given ≡ stored 1 ∷ stored 1 ∷ []
+points : storedOf reals (exponentialLister 3 20) [] (true, true) 1 none A first given ≡ stored 1 ∷ stored 1 ∷ []
 unfolding pointAt entryIn isPoint configured levelAnswer started begun Bindings.started unset isNan lt ofBits ofFields toBits fits add round eq pick over measured called entered unlessRefused barredBy unlessBarred newSeat seated marked committed located agreesb slotsb allb sought admitted setOf rowOf soundb inserted recordedAt shaped countsAt headIn narrow readable headOf Series.agrees refusalOf Series.recording classOf magnitude Agreement.agrees rowAgrees placed lowBin highBin PointsRows.at Points.rowOf Points.row Points.fits Points.fitsBoth Points.scale Points.build Points.pointOf Points.indices Points.bag Points.record1 deltaCollected uncollected roomy sweptKept figuresIn boundsIn extremeIn pointIn
 points = refl
 
-together : mergedStored 3 [] [] (stored 1) (stored 1) ≡ success (stored 2)
+together : merging 3 (stored 1) (stored 1) [] [] .answer ≡ success (stored 2)
 unfolding merging refusalBefore unmergeable mergeable mergeHanded handedAgrees Series.agrees Agreement.agrees rowAgrees laidOver isNan lt eq add round ofBits ofFields pick over PointsRows.at Points.rowOf Points.row Points.fits Points.fitsBoth Points.scale Points.build Points.indices Points.bag Points.merge
 together = refl

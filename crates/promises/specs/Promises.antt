@@ -18,15 +18,17 @@ use Rattle.index.specs.declared.signed.Index.the-variants.{At}
 use Rattle.floats.specs.Starts.{FiniteF64}
 use Rattle.rows.specs.Rows.{downscaled}
 use Rattle.halving.specs.Plain.{plainStart, plainCounts}
+use Rattle.points.specs.Number.{Number}
 use Rattle.tally.specs.Kind.{Kind}
 use Rattle.tally.specs.Map.{Config, Call}
 use Rattle.tally.specs.Demand.{Answered, InRange}
 use Rattle.tally.specs.Runs.{Tells}
-use Rattle.kinds.specs.Histograms.{histograms}
 use Rattle.directory.specs.View.{Stores, Agreement}
 use Rattle.directory.specs.declared.Directory.{Directory}
 use Rattle.exponential_slots.specs.Cells as ExponentialCells
 use Rattle.explicit_slots.specs.Cells as ExplicitCells
+use Rattle.exponential_whole_slots.specs.Cells as ExponentialWholeCells
+use Rattle.explicit_whole_slots.specs.Cells as ExplicitWholeCells
 use Rattle.value_map.specs.Store.{Store}
 use Rattle.value_map.specs.Calls.{Held, held}
 use Rattle.value_map.specs.Maps.{mapOf, configOf}
@@ -39,10 +41,16 @@ use Rattle.exponential_collection.specs.declared.Setup as ExponentialSetup
 use Rattle.explicit_collection.specs.Points.{explicitLister}
 use Rattle.explicit_collection.specs.Configured as Explicit
 use Rattle.explicit_collection.specs.declared.Setup as ExplicitSetup
+use Rattle.whole_listing.specs.Read.{AllHeld}
+use Rattle.exponential_whole_collection.specs.Points.{exponentialWholeLister}
+use Rattle.exponential_whole_collection.specs.Configured as ExponentialWholes
+use Rattle.explicit_whole_collection.specs.Points.{explicitWholeLister}
+use Rattle.explicit_whole_collection.specs.Configured as ExplicitWholes
 use Rattle.singles.specs.Points.{singleLister}
 use Rattle.singles.specs.Configured as Singles
 use Rattle.singles.specs.declared.Aggregation.{Aggregation}
 use Rattle.singles.specs.declared.Setup as SinglesSetup
+use Rattle.promises.specs.Numbers.{InRuns, kindOf, reals, wholes}
 use Rattle.promises.specs.Runs.{Asked, asks, run, EveryRun, Cumulates}
 use Rattle.promises.specs.Pooled.{Holds}
 
@@ -59,9 +67,9 @@ module _ {K : Kind} {S : Store K} (L : Lister S) (w : S .Switches) (limit : ℕ)
     -- and of a cumulative collection after every run: "every named entry is listed, even one bound and never recorded .. cumulative leaves it"
     pub cumulative : Cumulates L w limit filter h
 
--- of a histogram kind, demand 3 whole
-abbrev pub PromisedWhole : {S : Store histograms} → Lister S → List Float → S .Switches → ℕ → Option (List ℕ) → Held (S .Cells) → Type 0
-PromisedWhole L bounds w limit filter h = Promised L w limit filter h (Holds L bounds w limit filter h)
+-- of a histogram kind over a number, demand 3 whole
+abbrev pub PromisedWhole : {N : Number} (P : InRuns N) {S : Store (kindOf P)} → Lister S → List Float → S .Switches → ℕ → Option (List ℕ) → Held (S .Cells) → Type 0
+PromisedWhole P L bounds w limit filter h = Promised L w limit filter h (Holds P L bounds w limit filter h)
 
 -- "Take any list of these calls, refused ones included: recording by set or handle, binding, releasing, delta collection. It runs from a fresh start under
 -- one configuration, and each call is given the state and lent stores as the last one left them." The start is configuring, answered 0, and nothing
@@ -72,7 +80,7 @@ ExponentialDemand =
     (size : ℕ) (scale : ℤ) (extremes sums : Bool) (limit : ℕ) (filter : Option (List ℕ)) (s : Stores) (x : ExponentialCells.Cells) (u : ExponentialSetup.Setup)
     → AllFit (x .extremes) → Exponential.configured size scale extremes sums limit filter s x .answer ≡ success u
     → (u .settings ≡ record { size = size; top = topOf scale; extremes = extremes; sums = sums; limit = limit })
-    × PromisedWhole (exponentialLister size (topOf scale)) [] (extremes, sums) limit filter
+    × PromisedWhole reals (exponentialLister size (topOf scale)) [] (extremes, sums) limit filter
     (held (u .dir) (Exponential.configured size scale extremes sums limit filter s x .stores) x)
 
 -- The explicit kind: under any bounds
@@ -81,8 +89,26 @@ ExplicitDemand =
     (bounds : List Float) (extremes sums : Bool) (limit : ℕ) (filter : Option (List ℕ)) (s : Stores) (x : ExplicitCells.Cells) (u : ExplicitSetup.Setup)
     → AllFit (x .extremes) → Explicit.configured bounds extremes sums limit filter s x .answer ≡ success u
     → (u .settings ≡ record { extremes = extremes; sums = sums; limit = limit })
-    × PromisedWhole (explicitLister bounds) bounds (extremes, sums) limit filter
+    × PromisedWhole reals (explicitLister bounds) bounds (extremes, sums) limit filter
     (held (u .dir) (Explicit.configured bounds extremes sums limit filter s x .stores) x)
+
+-- Request L6, "the two histogram kinds over i64": the same of maps of i64s, in any stores of i64s. (Why a call refused with 16 counts in the premise:
+-- `corner` and `told` of kinds/proofs/WholeExample.antt, where overflow's sum refuses what the tally takes)
+abbrev pub ExponentialWholesDemand : Type 0
+ExponentialWholesDemand =
+    (size : ℕ) (scale : ℤ) (extremes sums : Bool) (limit : ℕ) (filter : Option (List ℕ)) (s : Stores) (x : ExponentialWholeCells.Cells) (u : ExponentialSetup.Setup)
+    → AllHeld (x .extremes) → ExponentialWholes.configured size scale extremes sums limit filter s x .answer ≡ success u
+    → (u .settings ≡ record { size = size; top = topOf scale; extremes = extremes; sums = sums; limit = limit })
+    × PromisedWhole wholes (exponentialWholeLister size (topOf scale) sums) [] extremes limit filter
+    (held (u .dir) (ExponentialWholes.configured size scale extremes sums limit filter s x .stores) x)
+
+abbrev pub ExplicitWholesDemand : Type 0
+ExplicitWholesDemand =
+    (bounds : List Float) (extremes sums : Bool) (limit : ℕ) (filter : Option (List ℕ)) (s : Stores) (x : ExplicitWholeCells.Cells) (u : ExplicitSetup.Setup)
+    → AllHeld (x .extremes) → ExplicitWholes.configured bounds extremes sums limit filter s x .answer ≡ success u
+    → (u .settings ≡ record { extremes = extremes; sums = sums; limit = limit })
+    × PromisedWhole wholes (explicitWholeLister bounds sums) bounds extremes limit filter
+    (held (u .dir) (ExplicitWholes.configured bounds extremes sums limit filter s x .stores) x)
 
 -- Request L1: sums and last values, which no merge takes. Of them demand 3's first part: ".. each call's number and each list of points collected is that of
 -- document 01's tally"

@@ -27,6 +27,7 @@ use Rattle.sheets.specs.declared.Header.{Header}
 use Rattle.sheet_writing.specs.Writing.{writing}
 use Rattle.sheet_reading.specs.Reading.{reading}
 use Rattle.sheet_reading.specs.declared.Listed.{Listed}
+use Rattle.promises.specs.Numbers.{reals}
 use Rattle.promises.specs.Runs.{EveryRun}
 use Rattle.promises.specs.Pooled.{storedBy, Whole, Holds}
 
@@ -104,7 +105,7 @@ carriedOut bounds carry c =
 abbrev pub SheetMerges : Type 1
 SheetMerges =
     (S : Store histograms) (L : Lister S) (bounds : List Float) (w : S .Switches) (limit : ℕ) (filter : Option (List ℕ)) (h : Held (S .Cells))
-    → Holds L bounds w limit filter h
+    → Holds reals L bounds w limit filter h
     → (carry : ℕ → Source → Source) → ((n : ℕ) (x : Source) → (carry n x ≡ x) ⊎ Carried n x (carry n x))
     → EveryRun L w limit filter h
-    (λ xs qs ans. Whole (configOf S w limit filter) qs ans (λ r. storedBy L w limit filter (carriedOut bounds carry) r h xs))
+    (λ xs qs ans. Whole reals (configOf S w limit filter) qs ans (λ r. storedBy L w limit filter (carriedOut bounds carry) r h xs))

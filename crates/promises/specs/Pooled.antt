@@ -50,7 +50,8 @@ module _ {N : Number} (P : InRuns N) where
   Stored = P .coded .Stored
 
   -- each as its collection left it, and as it is handed to a merge
-  abbrev pub storedOf : {S : Store (kindOf P)} → Lister S → List Float → S .Switches → ℕ → Option (List ℕ) → Set → Held (S .Cells) → List (Asked (kindOf P)) → List Stored
+  abbrev pub storedOf : {S : Store (kindOf P)} → Lister S → List Float → S .Switches → ℕ → Option (List ℕ) → Set → Held (S .Cells) → List (Asked (kindOf P))
+      → List Stored
   storedOf L bounds w limit filter = storedBy L w limit filter (λ c. Option·getD (pointsOut (P .found bounds) c) [])
 
   -- document 01's point of some values, which shows their scale and offsets
@@ -75,7 +76,8 @@ module _ {N : Number} (P : InRuns N) where
         → Groups (P .coded) size s x → Groups (P .coded) size t y → (us vs : List ℕ) (n : ℕ) → P .coded .merging size x y us vs ≡ refusal n → n ≡ 10
     -- "and repeated with longer output": in rows with room for any point of the configuration it is accepted
     pub accepted : (s t : Tree Stored) (rest : List Stored) → List·Permᴰ ps ((leaves s ++ leaves t) ++ rest) → (x y : Stored)
-        → Groups (P .coded) size s x → Groups (P .coded) size t y → (us vs : List ℕ) → Long (z .kind) us vs → (a : Stored) × (P .coded .merging size x y us vs ≡ success a)
+        → Groups (P .coded) size s x → Groups (P .coded) size t y → (us vs : List ℕ) → Long (z .kind) us vs
+        → (a : Stored) × (P .coded .merging size x y us vs ≡ success a)
     -- so every grouping comes to an end, in such rows
     pub every : (t : Tree Stored) → List·Permᴰ ps (leaves t) → (us vs : List ℕ) → Long (z .kind) us vs → (x : Stored) × Groups (P .coded) size t x
 

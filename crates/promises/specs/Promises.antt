@@ -68,7 +68,8 @@ module _ {K : Kind} {S : Store K} (L : Lister S) (w : S .Switches) (limit : ℕ)
     pub cumulative : Cumulates L w limit filter h
 
 -- of a histogram kind over a number, demand 3 whole
-abbrev pub PromisedWhole : {N : Number} (P : InRuns N) {S : Store (kindOf P)} → Lister S → List Float → S .Switches → ℕ → Option (List ℕ) → Held (S .Cells) → Type 0
+abbrev pub PromisedWhole : {N : Number} (P : InRuns N) {S : Store (kindOf P)} → Lister S → List Float → S .Switches → ℕ → Option (List ℕ)
+    → Held (S .Cells) → Type 0
 PromisedWhole P L bounds w limit filter h = Promised L w limit filter h (Holds P L bounds w limit filter h)
 
 -- "Take any list of these calls, refused ones included: recording by set or handle, binding, releasing, delta collection. It runs from a fresh start under
@@ -96,8 +97,8 @@ ExplicitDemand =
 -- `corner` and `told` of kinds/proofs/WholeExample.antt, where overflow's sum refuses what the tally takes)
 abbrev pub ExponentialWholesDemand : Type 0
 ExponentialWholesDemand =
-    (size : ℕ) (scale : ℤ) (extremes sums : Bool) (limit : ℕ) (filter : Option (List ℕ)) (s : Stores) (x : ExponentialWholeCells.Cells) (u : ExponentialSetup.Setup)
-    → AllHeld (x .extremes) → ExponentialWholes.configured size scale extremes sums limit filter s x .answer ≡ success u
+    (size : ℕ) (scale : ℤ) (extremes sums : Bool) (limit : ℕ) (filter : Option (List ℕ)) (s : Stores) (x : ExponentialWholeCells.Cells)
+    → (u : ExponentialSetup.Setup) → AllHeld (x .extremes) → ExponentialWholes.configured size scale extremes sums limit filter s x .answer ≡ success u
     → (u .settings ≡ record { size = size; top = topOf scale; extremes = extremes; sums = sums; limit = limit })
     × PromisedWhole wholes (exponentialWholeLister size (topOf scale) sums) [] extremes limit filter
     (held (u .dir) (ExponentialWholes.configured size scale extremes sums limit filter s x .stores) x)

@@ -55,7 +55,8 @@ module _ {K : Kind} {S : Store K} (L : Lister S) (w : S .Switches) (limit : ℕ)
   run h = record { State = Held (S .Cells); Input = Asked K; asks = asks K; call = ended; first = h }
 
 -- "Recordings and bindings, refused ones counted, are fewer than 2^64, the accepted ones on no more unlike named sets than the limit. Then ..": a claim about
--- what is given, asked and answered holds of every run from a state, if the run meets this premise
+-- what is given, asked and answered holds of every run from a state, if the run meets this premise. With the accepted ones count those refused with 16,
+-- which over f64 there are none of (the law `never-16`, kinds/proofs/Recorded.antt)
 abbrev pub EveryRun : {K : Kind} {S : Store K} → Lister S → S .Switches → ℕ → Option (List ℕ) → Held (S .Cells)
     → (List (Asked K) → List (Call K) → List (Answer K) → Type 0) → Type 0
 EveryRun {K} {S} L w limit filter h Claim =

@@ -1,12 +1,16 @@
 -- What the code's proofs cite: the words of a point by those of its shadow, and a point put by its shadow. Assumes nothing.
 use Prim.Native.Nat.{ℕ, _+_, _*_, _≤_}
 use mathlib.Core.Path.{_≡_, refl, ap, _∙_}
+use mathlib.Core.Bool.{Bool}
 use mathlib.Core.List.{List, [], _∷_, _++_}
 use native.Mathlib.Omega.{arith}
+use lib.IntN.{ℤ}
 use lib.ListN.{getD, set, take}
 use lib.Seq.{set-set}
 use Rattle.laws.specs.Counting.{bit}
+use Rattle.floats.specs.Answers as Floats
 use Rattle.integers.specs.Answers.{isShown, bitsOf}
+use Rattle.integers.specs.declared.Extreme.{Extreme}
 use Rattle.point.specs.declared.Figures.{Figures}
 use Rattle.point.specs.declared.Figures.the-variants.{Exponential, Explicit}
 use Rattle.whole_point.specs.Handing.{shadowPoint}
@@ -21,33 +25,24 @@ use Rattle.listing.specs.declared.Cursor.{Cursor}
 use Rattle.listing.specs.declared.Span.{Span}
 use Rattle.whole_listing.specs.Words.{shownBits, raised, wordsOf}
 use Rattle.whole_listing.specs.Listed.{putAt}
-use Rattle.whole_listing.proofs.Shadow.{shown-alike}
+use Rattle.whole_listing.specs.Inner.{withNumbers}
 
--- the first nine words of a shadow, the kind 2 more
-abbrev front : List ℕ → List ℕ → List ℕ
-front w l =
-    (getD w 0 0 + 2) ∷ getD w 1 0 ∷ getD w 2 0 ∷ getD w 3 0 ∷ getD w 4 0 ∷ getD w 5 0 ∷ getD w 6 0 ∷ getD w 7 0 ∷ getD w 8 0 ∷ l
+-- a shadow's kind is 0 or 1
+pub kind-least : (f : Figures) (b : Span) (l : List ℕ) → getD (figuresWords f b ++ l) 0 0 ≤ 1
+kind-least (Exponential c) b l = omega arith
+kind-least (Explicit n) b l = omega arith
 
-front-is : (f : Figures) (b : Span) (k x y z : ℕ) (l : List ℕ) → front (figuresWords f b ++ (k ∷ x ∷ y ∷ z ∷ [])) l ≡ raised (figuresWords f b) ++ (k ∷ l)
-front-is (Exponential c) b k x y z l = refl
-front-is (Explicit n) b k x y z l = refl
+numbers-over : (f : Figures) (b : Span) (k x y z : ℕ) (min max : Extreme) (sum : ℤ)
+    → withNumbers (figuresWords f b ++ (k ∷ x ∷ y ∷ z ∷ [])) min max sum ≡ raised (figuresWords f b) ++ (k ∷ shownBits min ∷ shownBits max ∷ bitsOf sum ∷ [])
+numbers-over (Exponential c) b k x y z min max sum = refl
+numbers-over (Explicit n) b k x y z min max sum = refl
 
-module _ (p : Point) (b : Span) (w : List ℕ) (e : w ≡ F.wordsOf (shadowPoint p) b) where
-  -- a shadow's kind is 0 or 1
-  pub kind-least : getD w 0 0 ≤ 1
-  kind-least = rw e (kind (p .figures) _)
-    where
-      kind : (f : Figures) (l : List ℕ) → getD (figuresWords f b ++ l) 0 0 ≤ 1
-      kind (Exponential c) l = omega arith
-      kind (Explicit n) l = omega arith
-
-  pub words-made : (lo hi su : ℕ) → lo ≡ shownBits (p .min) → hi ≡ shownBits (p .max) → su ≡ bitsOf (p .sum)
-      → front w (lo ∷ hi ∷ su ∷ []) ≡ wordsOf p b
-  words-made lo hi su l h s =
-      ap (λ (v : List ℕ). front v (lo ∷ hi ∷ su ∷ [])) e
-      ∙ front-is (p .figures) b _ _ _ _ (lo ∷ hi ∷ su ∷ [])
-      ∙ ap (λ (k : ℕ). raised (figuresWords (p .figures) b) ++ ((bit (p .extremes) + 2 * k) ∷ lo ∷ hi ∷ su ∷ [])) (ap bit (shown-alike (p .min)))
-      ∙ (λ i. raised (figuresWords (p .figures) b) ++ ((bit (p .extremes) + 2 * bit (isShown (p .min))) ∷ l i ∷ h i ∷ s i ∷ []))
+-- numbers over the words of an f64 point that shows extremes where they do
+pub words-made : (q : P.Point) (b : Span) (min max : Extreme) (sum : ℤ) → Floats.isShown (q .min) ≡ isShown min
+    → withNumbers (F.wordsOf q b) min max sum ≡ wordsOf (record { figures = q .figures; extremes = q .extremes; min = min; max = max; sum = sum }) b
+words-made q b min max sum e =
+    numbers-over (q .figures) b _ _ _ _ min max sum
+    ∙ ap (λ (t : Bool). raised (figuresWords (q .figures) b) ++ ((bit (q .extremes) + 2 * bit t) ∷ shownBits min ∷ shownBits max ∷ bitsOf sum ∷ [])) e
 
 -- ---- a point put: its shadow's words written over
 pub put-over : (at : Cursor) (row : List ℕ) (p : Point) (q : P.Point) (b : Span) (xs ys : List ℕ) (o : Output) (next : Cursor) (made : Output) (w : List ℕ)

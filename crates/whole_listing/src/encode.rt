@@ -1,6 +1,9 @@
 // A point of i64 values as twelve words.
 ghost use mathlib.Core.Path.{_≡_};
+ghost use Prim.Native.Nat.{_≤_};
+ghost use lib.ListN.{getD};
 ghost use Rattle.whole_listing.specs.Words.{shownBits, wordsOf};
+ghost use Rattle.whole_listing.specs.Inner.{withNumbers};
 use integers::Extreme;
 use listing::Span;
 use whole_point::Point;
@@ -15,17 +18,14 @@ fn shown_bits(x: Extreme) -> u64
     }
 }
 
-// The words of a point whose bounds lie at b: its shadow's, with the kind 2 more and its own numbers.
-pub fn words_of(p: Point, b: Span) -> [u64; 12]
-    ensures { λ r. ⌜ r ≡ wordsOf p b ⌝ }
+// The words of a shadow with the kind 2 more and the bits of minimum, maximum and sum.
+pub fn with_numbers(w: [u64; 12], min: Extreme, max: Extreme, sum: i64) -> [u64; 12]
+    requires { ⌜ getD w 0 0 ≤ 1 ⌝ }
+    ensures { λ r. ⌜ r ≡ withNumbers w min max sum ⌝ }
 {
-    let shadow = whole_point::shadow_of(p);
-    let w = listing::encode::words_of(shadow, b);
-    let min = p.min;
-    let max = p.max;
     let low = shown_bits(min);
     let high = shown_bits(max);
-    let sum = integers::bits_of(p.sum);
+    let bits = integers::bits_of(sum);
     [
         w[0] + 2,
         w[1],
@@ -38,6 +38,17 @@ pub fn words_of(p: Point, b: Span) -> [u64; 12]
         w[8],
         low,
         high,
-        sum,
+        bits,
     ]
+}
+
+// The words of a point whose bounds lie at b: its shadow's, with its own numbers.
+pub fn words_of(p: Point, b: Span) -> [u64; 12]
+    ensures { λ r. ⌜ r ≡ wordsOf p b ⌝ }
+{
+    let shadow = whole_point::shadow_of(p);
+    let w = listing::encode::words_of(shadow, b);
+    let min = p.min;
+    let max = p.max;
+    with_numbers(w, min, max, p.sum)
 }

@@ -3,7 +3,6 @@ use Prim.Native.Nat.{ℕ, _+_}
 use mathlib.Core.Path.{_≡_, refl, sym, ap, subst, _∙_}
 use mathlib.Core.Bool.{Bool, true, false, _&&_}
 use mathlib.Core.List.{List}
-use native.Mathlib.Omega.{arith}
 use borrow.Author.Tests.{eqb-true, eqb-false, eq-eqb, ne-eqb}
 use lib.Dec.{T, leb, eqb}
 use lib.IntN.{ℤ, _+ℤ_}
@@ -29,7 +28,7 @@ use Rattle.points.proofs.Shadow.{shadow-agrees, shadow-number}
 use Rattle.point.specs.declared.Point as P
 use Rattle.point.specs.Handing as Q
 use Rattle.whole_point.specs.declared.Point.{Point}
-use Rattle.whole_point.specs.Handing.{Stored, storedIn, handedIn, inShape, shadowPoint, shadowStored, ended, pointFor, laidOver, refusalBefore, merging, mixedNumber, aloneNumber, finished}
+use Rattle.whole_point.specs.Handing.{Stored, storedIn, handedIn, inShape, shadowPoint, shadowStored, ended, pointFor, laidOver, refusalBefore, merging, mixedNumber, aloneNumber, finished, besideNumber}
 
 no : {A : Type 0} → true ≡ false → A
 no h = absurd (subst T h tt)
@@ -198,14 +197,13 @@ module _ (size : ℕ) (x y : Stored) (us vs : List ℕ) where
 abbrev firsts : Bool → Bool → ℕ
 firsts sized agreed = pick sized (pick agreed 11 8) 1
 
-by-first : (a b c d : Bool) (n : ℕ) → n ≡ mergeNumber a b c d 0
-    → (n ≡ 1 → 1 ≡ firsts a b) × (n ≡ 8 → 8 ≡ firsts a b) × ((n ≡ 1 → ⊥) → (n ≡ 8 → ⊥) → 11 ≡ firsts a b)
+by-first : (a b c d : Bool) → besideNumber (mergeNumber a b c d 0) ≡ firsts a b
 unfolding pick
-by-first false b c d n e = (λ h. refl, λ h. absurd (omega (arith, e, h)), λ h k. absurd (h e))
-by-first true false c d n e = (λ h. absurd (omega (arith, e, h)), λ h. refl, λ h k. absurd (k e))
-by-first true true false d n e = (λ h. absurd (omega (arith, e, h)), λ h. absurd (omega (arith, e, h)), λ h k. refl)
-by-first true true true false n e = (λ h. absurd (omega (arith, e, h)), λ h. absurd (omega (arith, e, h)), λ h k. refl)
-by-first true true true true n e = (λ h. absurd (omega (arith, e, h)), λ h. absurd (omega (arith, e, h)), λ h k. refl)
+by-first false b c d = refl
+by-first true false c d = refl
+by-first true true false d = refl
+by-first true true true false = refl
+by-first true true true true = refl
 
 module _ (size : ℕ) (x : Stored) (y : Q.Stored) where
   abbrev sized : Bool
@@ -214,24 +212,14 @@ module _ (size : ℕ) (x : Stored) (y : Q.Stored) where
   abbrev agreed : Bool
   agreed = (inShape x && Q.inShape y) && (handedAgrees whole size finest (lowestBin finest) (handedIn x) && handedAgrees real size finest (lowestBin finest) (Q.handedIn y))
 
-  firsts-are : mixedNumber size x y ≡ firsts sized agreed
-  unfolding mixedNumber
-  firsts-are = refl
-
-  pub record Firsts (n : ℕ) : Type 0 where
-    pub one : n ≡ 1 → 1 ≡ mixedNumber size x y
-    pub eight : n ≡ 8 → 8 ≡ mixedNumber size x y
-    pub other : (n ≡ 1 → ⊥) → (n ≡ 8 → ⊥) → 11 ≡ mixedNumber size x y
-
-  pub mixed-law : (n : ℕ) → n ≡ Q.refusalBefore size (shadowStored x) y → Firsts n
-  unfolding Q.refusalBefore R.unmergeable R.handedAgrees
+  pub mixed-law : (n : ℕ) → n ≡ Q.refusalBefore size (shadowStored x) y → besideNumber n ≡ mixedNumber size x y
+  unfolding mixedNumber Q.refusalBefore R.unmergeable R.handedAgrees
   mixed-law n e =
       let alike = R.mergeable (shadow (handedIn x)) (Q.handedIn y) in
       let few = leb (R.countOf (handedIn x .counts) + R.countOf (Q.handedIn y .counts)) mostCount in
-      let f : n ≡ mergeNumber sized agreed alike few 0 =
-      e ∙ (λ j. mergeNumber sized ((inShape x && Q.inShape y) && (shadow-agrees size finest (lowestBin finest) (handedIn x) j && handedAgrees real size finest (lowestBin finest) (Q.handedIn y))) alike few 0) in
-      let g = by-first sized agreed alike few n f in
-      record { one = λ h. g .0 h ∙ sym firsts-are; eight = λ h. g .1 h ∙ sym firsts-are; other = λ h k. g .2 h k ∙ sym firsts-are }
+      ap besideNumber e
+      ∙ (λ j. besideNumber (mergeNumber sized ((inShape x && Q.inShape y) && (shadow-agrees size finest (lowestBin finest) (handedIn x) j && handedAgrees real size finest (lowestBin finest) (Q.handedIn y))) alike few 0))
+      ∙ by-first sized agreed alike few
 
 -- in a card or sheet
 pub alone-law : (x : Stored) (b : Bool) → b ≡ Q.agreesAlone (shadowStored x) → pick b 11 8 ≡ aloneNumber x

@@ -146,3 +146,7 @@ abbrev pub finished : Point → Point → ℤ → Said P.Point → Said Point
 finished a b s (refusal n) = refusal n
 finished a b s (success p) =
     success (record { figures = p .figures; extremes = a .extremes; min = smallerOf (a .min) (b .min); max = largerOf (a .max) (b .max); sum = s })
+
+-- the number beside an f64 point, of that of the shadow
+abbrev pub besideNumber : ℕ → ℕ
+besideNumber n = pick (eqb n 1) 1 (pick (eqb n 8) 8 11)

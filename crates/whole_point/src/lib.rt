@@ -5,7 +5,7 @@ ghost use lib.IntN.{pos as whole};
 ghost use Rattle.laws.specs.Pick.{pick};
 ghost use Rattle.points.specs.Shadow.{shadowOf};
 ghost use Rattle.point.specs.Handing as P;
-ghost use Rattle.whole_point.specs.Handing.{stored, shadowPoint, exponentialPoint, explicitPoint, said, outcome, finished, merging, mixedNumber, aloneNumber};
+ghost use Rattle.whole_point.specs.Handing.{stored, shadowPoint, exponentialPoint, explicitPoint, said, outcome, finished, merging, besideNumber, mixedNumber, aloneNumber};
 use integers::Extreme;
 use integers::Total;
 use point::Figures;
@@ -177,6 +177,19 @@ pub fn merge(
 
 // ---- beside f64
 
+// The number of an i64 point beside an f64 point, of that of its shadow: 1 and 8 come first, else it is 11.
+pub fn beside(no: u8) -> u8
+    ensures { λ r. ⌜ r ≡ besideNumber no ⌝ }
+{
+    if no == 1 {
+        return 1;
+    }
+    if no == 8 {
+        return 8;
+    }
+    11
+}
+
 // The number with which an i64 point and an f64 point are refused, never 0: 1 max_size, 8 a point disagrees, else 11.
 pub fn mixed_number(
     size: u32,
@@ -194,13 +207,7 @@ pub fn mixed_number(
 {
     let x = shadow_of(a);
     let no = point::refusal(size, x, abounds, apos, aneg, b, bbounds, bpos, bneg);
-    if no == 1 {
-        return 1;
-    }
-    if no == 8 {
-        return 8;
-    }
-    11
+    beside(no)
 }
 
 // The number with which an i64 point is refused where only f64 points are taken, in a card or a sheet: 8 where it disagrees with itself under

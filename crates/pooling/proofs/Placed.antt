@@ -174,7 +174,7 @@ module _ (size : ℕ) (x y : Stored) (at : Cursor) (row : List ℕ) (b : Span) (
   unfolding pooled
   with-place h = sym (pick-true (hasPlace at o) _ _ h)
 
-  without-place : hasPlace at o ≡ false → ends (refusal (lastly (refusalBefore size x y))) o ≡ pooled size row b x y at o
+  pub without-place : hasPlace at o ≡ false → ends (refusal (lastly (refusalBefore size x y))) o ≡ pooled size row b x y at o
   unfolding pooled
   without-place h = sym (pick-false (hasPlace at o) _ _ h)
 

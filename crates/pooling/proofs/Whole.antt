@@ -15,7 +15,7 @@ use Rattle.laws.proofs.Cases.{true-not-false}
 use Rattle.listing.specs.Words.{pointIn, boundsIn, isPoint}
 use Rattle.laws.specs.Said.{Said}
 use Rattle.point.specs.declared.Point.{Point}
-use Rattle.point.specs.Handing.{Stored, storedIn, ended, merging}
+use Rattle.point.specs.Handing.{Stored, storedIn, ended, refusalBefore, merging}
 use Rattle.listing.specs.Listed.{Output, behind, within, entryIn, pointAt, boundsAt, storedAt}
 use Rattle.listing.proofs.There.{between}
 use Rattle.listing.specs.declared.Cursor.{Cursor}
@@ -136,3 +136,13 @@ module _ (size : ℕ) (a : Cursor) (e : Entry) (abounds : List Float) (x : Outpu
       (λ i. ended r (take (sym v i) (drop (e .bounds .start) abounds)) us' vs')
       ∙ h
       ∙ (λ i. merging size (partsOf a e abounds x (v i)) (partsOf b f bbounds y (w i)) us vs)
+
+  pub asked-law : (n : ℕ)
+      → n ≡ refusalBefore size (partsOf a e abounds x (e .bounds .start + e .bounds .len - e .bounds .start))
+      (partsOf b f bbounds y (f .bounds .start + f .bounds .len - f .bounds .start))
+      → n ≡ refusalBefore size (storedAt a e abounds x) (storedAt b f bbounds y)
+  unfolding pick
+  asked-law n h =
+      let v = part-is (e .bounds .start) (e .bounds .len) in
+      let w = part-is (f .bounds .start) (f .bounds .len) in
+      h ∙ (λ i. refusalBefore size (partsOf a e abounds x (v i)) (partsOf b f bbounds y (w i)))

@@ -1,10 +1,10 @@
 -- `pooling::merge_at` meets its contract. Assumes nothing.
-use mathlib.Core.Path.{sym, _∙_}
+use mathlib.Core.Path.{sym, ap, _∙_}
 use native.Mathlib.Omega.{arith}
+use Rattle.laws.specs.Said.{refusal}
 use Rattle.listing.specs.Listed.{Output}
-use Rattle.pooling.specs.Lists.{Source, source, nameless}
-use Rattle.pooling.proofs.Whole.{whole-lies}
-use Rattle.pooling.proofs.Calls.{no-set, no-first, no-second, both}
+use Rattle.pooling.specs.Lists.{Source, source, nameless, ends}
+use Rattle.pooling.proofs.Calls.{no-set, by-reals, by-wholes, by-mixed, by-mixed-2}
 use borrow.Author.Needs.{needs}
 use Rattle.pooling.proofs.merge_at.Statement.{statement}
 use Rattle.pooling.proofs.merge_at.Tie as tie
@@ -18,60 +18,61 @@ second s = nameless (s .args .bwords) (s .args .bpos) (s .args .bneg) (s .args .
 abbrev lent : tie.Start → Output
 lent s = record { sets = s .args .sets .now; words = s .args .words .now; pos = s .args .pos .now; neg = s .args .neg .now }
 
+-- where a row lies at the first's place
+abbrev start : tie.Else1 → tie.Start
+start e = e .before .before .before .before .before .before .before .before .before
+
 returns : tie.Need-returns
 returns c =
     let s = c .before .before .before .before .before .before .before .before .before in
     no-set (s .args .size) (s .args .a) (first s) (s .args .b) (second s) (s .args .at) (lent s) (c .if1 .taken)
 
-mul-pool : tie.Need-mul-pool
-mul-pool c =
-    let e = c .before .before .before .before .before .before .before .before in
-    let s = e .before .before .before .before .before .before .before .before .before in
-    omega (arith, e .if1 .left, s .good .1 .1 .0 .1)
-
-pool-requires : tie.Need-pool-requires
-pool-requires c κs =
-    let g = c .before .before .before .before .before .before in
-    let f = g .before .before .before in
-    let v = f .before .before in
-    let w = v .before in
-    let s = w .before .before .before .before .before .before .before .before .before .before in (
-      whole-lies (s .args .a) (first s) (f .first .given .0 .0) (sym (w .whole-at .ensures) ∙ f .first .given .1),
-      whole-lies (s .args .b) (second s) (g .second .given .0 .0) (sym (v .whole-at2 .ensures) ∙ g .second .given .1),
-    )
-
 returns-2 : tie.Need-returns-2
 returns-2 c =
-    let w = c .before .before .before in
+    let m = c .before .before .before .before .before .before in
+    let t = m .before .before .before .before .before .before in
+    let w = t .before .before .before in
     let e = w .before in
-    let s = e .before .before .before .before .before .before .before .before .before in
-    no-first (s .args .size) (s .args .a) (first s) (s .args .b) (second s) (s .args .at) (lent s) (omega (arith, e .if1 .left)) (sym (w .whole-at .ensures) ∙ c .enum-told .given .1)
+    let s = start e in
+    m .merge .ensures
+    ∙ by-wholes (s .args .size) (s .args .a) (first s) (s .args .b) (second s) (s .args .at) (lent s) (omega (arith, e .if1 .left))
+    (sym (w .is-whole .ensures) ∙ t .before .before .if2 .taken) (sym (t .before .is-whole2 .ensures) ∙ t .if3 .taken)
 
 returns-3 : tie.Need-returns-3
 returns-3 c =
-    let f = c .before .before .before in
-    let v = f .before .before in
-    let w = v .before in
+    let t = c .before in
+    let w = t .before .before .before in
     let e = w .before in
-    let s = e .before .before .before .before .before .before .before .before .before in
-    no-second (s .args .size) (s .args .a) (first s) (s .args .b) (second s) (s .args .at) (lent s) (omega (arith, e .if1 .left)) (f .first .given .0 .0) (sym (w .whole-at .ensures) ∙ f .first .given .1) (sym (v .whole-at2 .ensures) ∙ c .enum-told2 .given .1)
+    let s = start e in
+    ap (λ n. ends (refusal n) (lent s)) (c .mixed .ensures)
+    ∙ by-mixed (s .args .size) (s .args .a) (first s) (s .args .b) (second s) (s .args .at) (lent s) (omega (arith, e .if1 .left))
+    (sym (w .is-whole .ensures) ∙ t .before .before .if2 .taken) (sym (t .before .is-whole2 .ensures) ∙ t .if3 .left)
 
 returns-4 : tie.Need-returns-4
 returns-4 c =
-    let m = c .before .before .before .before .before .before in
-    let g = m .before .before .before .before .before .before .before in
-    let f = g .before .before .before in
-    let v = f .before .before in
-    let w = v .before in
+    let t = c .before in
+    let w = t .before .before .before in
     let e = w .before in
-    let s = e .before .before .before .before .before .before .before .before .before in
-    m .pool .ensures
-    ∙ both (s .args .size) (s .args .a) (first s) (s .args .b) (second s) (s .args .at) (lent s) (omega (arith, e .if1 .left)) (f .first .given .0 .0) (g .second .given .0 .0)
-    (sym (w .whole-at .ensures) ∙ f .first .given .1) (sym (v .whole-at2 .ensures) ∙ g .second .given .1)
+    let s = start e in
+    ap (λ n. ends (refusal n) (lent s)) (c .mixed2 .ensures)
+    ∙ by-mixed-2 (s .args .size) (s .args .a) (first s) (s .args .b) (second s) (s .args .at) (lent s) (omega (arith, e .if1 .left))
+    (sym (w .is-whole .ensures) ∙ t .before .before .if2 .left) (sym (t .before .is-whole3 .ensures) ∙ t .if4 .taken)
+
+returns-5 : tie.Need-returns-5
+returns-5 c =
+    let m = c .before .before .before .before .before .before in
+    let t = m .before .before .before .before .before .before in
+    let w = t .before .before .before in
+    let e = w .before in
+    let s = start e in
+    m .merge-reals .ensures
+    ∙ by-reals (s .args .size) (s .args .a) (first s) (s .args .b) (second s) (s .args .at) (lent s) (omega (arith, e .if1 .left))
+    (sym (w .is-whole .ensures) ∙ t .before .before .if2 .left) (sym (t .before .is-whole3 .ensures) ∙ t .if4 .left)
 
 pub merge-at-spec : {M : Type 1} → statement M
 merge-at-spec =
     tie.close
-    (tie.spec returns (λ c κs. search needs) (λ c κs. search needs) (λ c. search needs) (λ c. search needs) (λ c. search needs)
-    (λ c. search needs) mul-pool (λ c. search needs) pool-requires returns-2 returns-3 (λ c. search needs) (λ c. search needs)
-    (λ c. search needs) (λ c. search needs) returns-4)
+    (tie.spec returns (λ c κs. search needs) (λ c κs. search needs) (λ c. search needs) (λ c. search needs) (λ c κs. search needs) (λ c. search needs)
+    (λ c. search needs) (λ c. search needs) (λ c. search needs) returns-2 (λ c κs. search needs) returns-3 (λ c κs. search needs) (λ c κs. search needs)
+    returns-4 (λ c. search needs) (λ c. search needs) (λ c κs. search needs) (λ c. search needs) (λ c. search needs) (λ c. search needs)
+    (λ c. search needs) returns-5)

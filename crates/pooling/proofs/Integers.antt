@@ -1,9 +1,8 @@
 -- What a point of i64 values at a cursor is: its shadow is whole in the list of the shadows, and no point of f64 values lies there. Assumes nothing.
-use Prim.Native.Nat.{ℕ, _+_, _≤_}
+use Prim.Native.Nat.{ℕ, _+_}
 use mathlib.Core.Path.{_≡_, refl, sym, ap, subst, _∙_}
 use mathlib.Core.Bool.{Bool, true, false}
 use mathlib.Core.List.{List, []}
-use borrow.Author.Tests.{leb-true, le-leb}
 use lib.Dec.{leb}
 use lib.ListN.{length, getD}
 use Rattle.laws.specs.Pick.{pick}
@@ -19,7 +18,8 @@ use Rattle.whole_listing.specs.declared.Entry.{Entry}
 use Rattle.whole_listing.specs.declared.Found as WF
 use Rattle.whole_listing.specs.declared.Found.the-variants as WV
 use Rattle.whole_listing.proofs.There.{shadowOutput}
-use Rattle.whole_listing.proofs.Readers.{shadow-found, kind-real, whole-told}
+use Rattle.whole_listing.proofs.Readers as Readers
+use Rattle.whole_listing.proofs.Readers.{Told, shadow-found, kind-real, whole-told}
 use Rattle.pooling.specs.Lists.{Source, bounded, wholeAt, boundedInteger, integerAt}
 use Rattle.pooling.specs.Entries.{Whole, shadowEntry}
 use Rattle.pooling.proofs.Whole.{bounded-in, point-told, whole-lies}
@@ -72,6 +72,9 @@ module _ (at : Cursor) (x : Source) where
 
   pub integer-lies : (e : Entry) → integerAt at x ≡ WV.Is e → Whole at (shadowEntry e) (length (x .list .pos)) (length (x .list .neg)) (length (x .bounds))
   integer-lies e h = whole-lies at (shadowed x) (shadowEntry e) (shadow-whole e h)
+
+  pub integer-told : (e : Entry) → integerAt at x ≡ WV.Is e → Told at (x .list .words) (length (x .list .pos)) (length (x .list .neg)) e
+  integer-told e h = Readers.point-told at words m n e (bounded-says (length (x .bounds)) (WL.pointAt at words m n) e h .0)
 
   -- ---- of either number: the kind tells which one may lie there
 

@@ -8,3 +8,4 @@ pub mod Calls
 pub mod PutBack
 pub mod Held
 pub mod Merges
+pub mod WholeMerges

@@ -37,7 +37,7 @@ use Rattle.pooling.proofs.Held.{Read, words-read, merged-held}
 -- ---- a merged point's own counts are all that is read of it
 
 module _ (bs : List Float) (b : Span) (l : length bs ≡ b .len) (xs ys : List ℕ) where
-  own-counts : (f : Figures) → countsAs f bs (take (posLen f b) xs) (take (negLen f) ys) ≡ countsAs f bs xs ys
+  pub own-counts : (f : Figures) → countsAs f bs (take (posLen f b) xs) (take (negLen f) ys) ≡ countsAs f bs xs ys
   own-counts (Exponential c) =
       let p = take-take (c .pos .len) (c .pos .len) xs (omega arith) in
       let n = take-take (c .neg .len) (c .neg .len) ys (omega arith) in
@@ -125,7 +125,7 @@ module _ (size : ℕ) (a : Cursor) (x : Source) (b : Cursor) (y : Source) (at : 
     same-bounds : z .bounds ≡ boundsAt (e .bounds) (x .bounds)
     same-bounds = made size first second us vs (e .bounds) long z g .1
 
-    held : Held (z .point) (e .bounds)
+    pub held : Held (z .point) (e .bounds)
     held =
         let t = whole-told a x e p in
         let u = whole-told b y f q in
@@ -135,24 +135,24 @@ module _ (size : ℕ) (a : Cursor) (x : Source) (b : Cursor) (y : Source) (at : 
         (f .bounds)
         (subst (λ (d : Entry). Read (d .point) (d .bounds)) (u .entry) (words-read (getD (y .list .words) (b .place) []))))
 
-    pos-there : posLen (z .point .figures) (e .bounds) ≤ length (z .pos)
+    pub pos-there : posLen (z .point .figures) (e .bounds) ≤ length (z .pos)
     pos-there =
         let t = took in
         let c = posOf (mergeCounts size (countsIn first) (countsIn second)) in
         omega (arith, t .many, ap length (t .pos), length-over c us (t .room), t .room)
 
-    neg-there : negLen (z .point .figures) ≤ length (z .neg)
+    pub neg-there : negLen (z .point .figures) ≤ length (z .neg)
     neg-there =
         let t = took in
         let c = negOf (mergeCounts size (countsIn first) (countsIn second)) in
         omega (arith, t .manyNeg, ap length (t .neg), length-over c vs (t .roomNeg), t .roomNeg)
 
-    fits-pos : at .pos + posLen (z .point .figures) (e .bounds) ≤ length (o .pos)
+    pub fits-pos : at .pos + posLen (z .point .figures) (e .bounds) ≤ length (o .pos)
     fits-pos =
         let w = place-says at (length (o .sets)) (length (o .words)) (length (o .pos)) (length (o .neg)) h in
         omega (arith, took .many, took .room, length-drop (at .pos) (o .pos), w .2)
 
-    fits-neg : at .neg + negLen (z .point .figures) ≤ length (o .neg)
+    pub fits-neg : at .neg + negLen (z .point .figures) ≤ length (o .neg)
     fits-neg =
         let w = place-says at (length (o .sets)) (length (o .words)) (length (o .pos)) (length (o .neg)) h in
         omega (arith, took .manyNeg, took .roomNeg, length-drop (at .neg) (o .neg), w .3)

@@ -2,11 +2,9 @@
 use Prim.Native.Nat.{ℕ, _≤_, _<_}
 use mathlib.Core.Path.{_≡_, refl, sym, ap, ap₂, subst, _∙_}
 use mathlib.Core.Logic.{⊎-elim}
-use mathlib.Core.Bool.{Bool, true, false, _&&_}
+use mathlib.Core.Bool.{Bool, true, false}
 use mathlib.Core.List.{List, []}
 use native.Mathlib.Omega.{arith}
-use borrow.Author.Tests.{eq-eqb}
-use lib.Dec.{leb, eqb}
 use lib.IntN.{ℤ}
 use lib.ListN.{length, getD, set, take, drop, length-set}
 use lib.Seq.{set-set, getD-set-same}
@@ -15,7 +13,6 @@ use Rattle.laws.specs.Pick.{pick}
 use Rattle.laws.specs.Said.{Said, refusal, success}
 use Rattle.laws.specs.Over.{over}
 use Rattle.laws.proofs.Bools.{flag, pick-true, pick-false}
-use Rattle.laws.proofs.Cases.{true-not-false}
 use Rattle.floats.specs.Answers as Floats
 use Rattle.integers.specs.Answers.{isShown, smallerOf, largerOf, sumOf, lastNumber}
 use Rattle.integers.specs.declared.Extreme.{Extreme}
@@ -27,7 +24,7 @@ use Rattle.points.specs.Shadow.{shadowOf}
 use Rattle.point.specs.declared.Point as P
 use Rattle.point.specs.Handing as Q
 use Rattle.whole_point.specs.declared.Point.{Point}
-use Rattle.whole_point.specs.Handing.{Stored, storedIn, shadowStored, Outcome, ended, refusalBefore, merging, laidOver, finished}
+use Rattle.whole_point.specs.Handing.{Stored, storedIn, shadowStored, Outcome, ended, refusalBefore, merging, laidOver}
 use Rattle.whole_point.proofs.Call.{outside-law, inside-law}
 use Rattle.listing.specs.Words as F
 use Rattle.listing.specs.Listed as L
@@ -42,7 +39,7 @@ use Rattle.pooling.specs.Lists as Lists
 use Rattle.pooling.specs.Lists.{ends, hasPlace, pooled, putMergedWhole, pooledWholes}
 use Rattle.pooling.specs.Entries.{renumbered, Numberable}
 use Rattle.pooling.proofs.Verdicts.{point, lastly, Turned, Taken, verdict}
-use Rattle.pooling.proofs.Placed.{isSuccess, place-says, with-place, without-place}
+use Rattle.pooling.proofs.Placed.{place-says, with-place, without-place}
 
 -- ---- what merging answers, and the number without a place
 
@@ -97,11 +94,17 @@ module _ (size : ℕ) (row : List ℕ) (b : Span) (x y : Stored) (at : Cursor) (
   outside-pooled t n k e d = sym (refused k (sym (ap (λ (m : Outcome). m .answer) (outside-law size x y us vs t n k e d))))
 
 -- an extreme of two is shown where that of the shadows is
-shown-smaller : (u v : Extreme) → Floats.isShown (Floats.smallerOf (shadowOf u) (shadowOf v)) ≡ isShown (smallerOf u v)
+pub shown-smaller : (u v : Extreme) → Floats.isShown (Floats.smallerOf (shadowOf u) (shadowOf v)) ≡ isShown (smallerOf u v)
 shown-smaller None None = refl
 shown-smaller None (Value y) = refl
 shown-smaller (Value x) None = refl
 shown-smaller (Value x) (Value y) = refl
+
+pub shown-larger : (u v : Extreme) → Floats.isShown (Floats.largerOf (shadowOf u) (shadowOf v)) ≡ isShown (largerOf u v)
+shown-larger None None = refl
+shown-larger None (Value y) = refl
+shown-larger (Value x) None = refl
+shown-larger (Value x) (Value y) = refl
 
 -- ---- by the shadows
 module _ (size : ℕ) (x y : Stored) (us vs : List ℕ) (s : ℤ) (t : sumOf (x .point .sum) (y .point .sum) ≡ Is s) where

@@ -54,8 +54,8 @@ fn pool(
 ) -> Pooled
     requires { ⌜ wholeIn a (shadowEntry e) abounds apos aneg × wholeIn b (shadowEntry f) bbounds bpos bneg ⌝ }
     ensures { λ r. ⌜ ends (said r) (output (sets .exit) (words .exit) (pos .exit) (neg .exit))
-        ≡ pooledWholes size row (e .bounds) (wholeOf a e (abounds .entry) (apos .entry) (aneg .entry)) (wholeOf b f (bbounds .entry) (bpos .entry) (bneg .entry))
-        at (output (sets .entry) (words .entry) (pos .entry) (neg .entry)) ⌝ }
+        ≡ pooledWholes size row (e .bounds) (wholeOf a e (abounds .entry) (apos .entry) (aneg .entry))
+        (wholeOf b f (bbounds .entry) (bpos .entry) (bneg .entry)) at (output (sets .entry) (words .entry) (pos .entry) (neg .entry)) ⌝ }
 {
     let p = e.point;
     let q = f.point;

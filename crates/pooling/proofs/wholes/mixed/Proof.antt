@@ -1,5 +1,5 @@
 -- `pooling::wholes::mixed` meets its contract. Assumes nothing.
-use mathlib.Core.Path.{_≡_, refl, sym, subst, _∙_}
+use mathlib.Core.Path.{refl, sym, subst, _∙_}
 use Rattle.listing.specs.declared.Entry.{Entry}
 use Rattle.whole_point.proofs.Call.{mixed-law}
 use Rattle.point.specs.Handing.{refusalBefore}

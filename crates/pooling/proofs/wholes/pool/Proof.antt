@@ -4,7 +4,7 @@ use borrow.Author.Needs.{needs}
 use lib.ListN.{length}
 use mir.Syntax.{w64}
 use mir.Val.{SFits}
-use Rattle.integers.specs.Answers.{sumOf, smallerOf, largerOf}
+use Rattle.integers.specs.Answers.{sumOf}
 use Rattle.integers.proofs.Range.{held}
 use Rattle.point.specs.Handing.{refusalBefore}
 use Rattle.whole_point.specs.Handing.{Stored, shadowStored}

@@ -19,8 +19,9 @@ use Rattle.merging.proofs.Owed.{real-merges, whole-merges, merged-reads}
 use Rattle.merging.proofs.Groups as Groups
 use Rattle.merging.proofs.Orders.{all-alike}
 use Rattle.merging.proofs.Fresh.{empty-first, empty-second, fresh-good, fresh-first, fresh-second}
+use Rattle.pooling.proofs.WholeMerges.{wholes-as-stored, wholes-hold}
 use Rattle.pooling.proofs.Merges.{as-stored, holds}
-use Rattle.promises.specs.Points.{ExponentialRecords, ExplicitRecords, MergeAnswers, ListsMerge, AnyGrouping, EveryGrouping, EmptyMerges, FreshAgrees, FreshMerges, WholeSums, ListedMerge, PointMean, NearestMean, HalfMean, WholeTest}
+use Rattle.promises.specs.Points.{ExponentialRecords, ExplicitRecords, MergeAnswers, ListsMerge, AnyGrouping, EveryGrouping, EmptyMerges, FreshAgrees, FreshMerges, WholeSums, ListedMerge, ListedWholesMerge, PointMean, NearestMean, HalfMean, WholeTest}
 use Rattle.promises.proofs.Groupings.{two-lists}
 
 pub exponential-records : ExponentialRecords
@@ -87,6 +88,10 @@ whole-sums =
 -- ---- in lists
 pub listed-merge : ListedMerge
 listed-merge size a x b y at o e f s p q h = (as-stored size a x b y at o e f s p q h, λ z g. holds size a x b y at o e f s p q h z g)
+
+pub listed-wholes-merge : ListedWholesMerge
+listed-wholes-merge size a x b y at o e f s p q h =
+    (wholes-as-stored size a x b y at o e f s p q h, λ z g. wholes-hold size a x b y at o e f s p q h z g)
 
 pub point-mean : PointMean
 point-mean s k vs x p g =

@@ -2,9 +2,10 @@
 use Prim.Native.Nat.{ℕ, _+_, _-_, _/_, _^_}
 use mathlib.Core.Path.{_≡_, sym, ap, _∙_}
 use native.Mathlib.Omega.{arith}
+use borrow.Author.Tests.{ltb-true}
 use lib.IntN.{pos, _-ℤ_}
 use lib.Pow.{pow-add}
-use lib.Signed.{shrZ}
+use lib.Signed.{shrZ, mag}
 use lib.Ieee.Bits.{is-true}
 use lib.Ieee.Scale.{finite}
 use Rattle.laws.proofs.Differences.{shift-sub}
@@ -12,6 +13,8 @@ use Rattle.index.specs.Magnitude.{magnitude}
 use Rattle.index.specs.Bins.{binAt, indexOf}
 use Rattle.index.proofs.Indices.{one-index as only-index}
 use Rattle.index.proofs.Values.{value-is}
+use Rattle.integers.specs.Answers.{nearestOf}
+use Rattle.integers.proofs.NoNearer.{nearest-is, one-nearest as only-nearest}
 use Rattle.halving.proofs.Plain as Plain
 use Rattle.tally.proofs.Faithful.{Demand, MergedDemand}
 use Rattle.tally.proofs.Demand.{demand, merged-demand}
@@ -21,7 +24,7 @@ use Rattle.kinds.proofs.Merges.{merging, mergeable}
 use Rattle.kinds.specs.Wholes.{wholes}
 use Rattle.kinds.proofs.Wholes.{wholes-lawful, wholes-merging, wholes-mergeable}
 use Rattle.directory.proofs.Tied.{agreement}
-use Rattle.promises.specs.Promises.{ExponentialDemand, ExplicitDemand, ExponentialWholesDemand, ExplicitWholesDemand, SinglesDemand, Reaches, OneIndex, PlainForm, HalvedOffset, DirectoryAgrees}
+use Rattle.promises.specs.Promises.{ExponentialDemand, ExplicitDemand, ExponentialWholesDemand, ExplicitWholesDemand, SinglesDemand, Reaches, OneIndex, OneNearest, PlainForm, HalvedOffset, DirectoryAgrees}
 use Rattle.promises.proofs.Reaches as Reaching
 use Rattle.promises.proofs.Setups as Setups
 use Rattle.promises.proofs.Singles as Singles
@@ -49,6 +52,11 @@ one-index x scale level f z e =
     let r = value-is x scale level (f .fits) (is-true (finite x) (f .known)) z e in
     let i = indexOf level (binAt level (magnitude x)) in
     (i, r .0, r .1, λ j h. only-index scale (magnitude x) j i h (r .1))
+
+pub one-nearest : OneNearest
+one-nearest z h =
+    let n = nearest-is z (ltb-true (mag z) (2 ^ 63) h) in
+    (n, λ x m. only-nearest z x (nearestOf z) h m n)
 
 pub plain-form : PlainForm
 plain-form = Plain.plain-form

@@ -32,7 +32,11 @@ use Rattle.listing.specs.Listed.{Output, storedAt}
 use Rattle.listing.specs.declared.Cursor.{Cursor}
 use Rattle.listing.specs.declared.Entry.{Entry}
 use Rattle.listing.specs.declared.Found.the-variants.{Is}
-use Rattle.pooling.specs.Lists.{Source, wholeAt, hasPlace, putMerged, pooledAt, Holds}
+use Rattle.whole_point.specs.Handing as W
+use Rattle.whole_listing.specs.Listed as WL
+use Rattle.whole_listing.specs.declared.Entry as WE
+use Rattle.whole_listing.specs.declared.Found.the-variants as WV
+use Rattle.pooling.specs.Lists.{Source, wholeAt, integerAt, hasPlace, putMerged, putMergedWhole, pooledAt, Holds, HoldsWhole}
 use Rattle.mean.specs.Rule.{half}
 use Rattle.mean.specs.Rounding.{hundredths}
 use Rattle.mean.specs.Mean.{meanIn}
@@ -131,6 +135,16 @@ ListedMerge =
     let row = getD (x .list .sets) (a .place) [] in
     (pooledAt size a x b y at o ≡ putMerged at row (e .bounds) o m)
     × ((z : Stored) → m ≡ success z → Holds at row (e .bounds) (x .bounds) z (pooledAt size a x b y at o .output))
+
+-- the same of two points of i64 values, as `whole_point::merge` (request L6)
+abbrev pub ListedWholesMerge : Type 0
+ListedWholesMerge =
+    (size : ℕ) (a : Cursor) (x : Source) (b : Cursor) (y : Source) (at : Cursor) (o : Output) (e f : WE.Entry)
+    → a .place < length (x .list .sets) → integerAt a x ≡ WV.Is e → integerAt b y ≡ WV.Is f → hasPlace at o ≡ true
+    → let m = W.merging size (WL.storedAt a e (x .bounds) (x .list)) (WL.storedAt b f (y .bounds) (y .list)) (drop (at .pos) (o .pos)) (drop (at .neg) (o .neg)) .answer in
+    let row = getD (x .list .sets) (a .place) [] in
+    (pooledAt size a x b y at o ≡ putMergedWhole at row (e .bounds) o m)
+    × ((z : W.Stored) → m ≡ success z → HoldsWhole at row (e .bounds) (x .bounds) z (pooledAt size a x b y at o .output))
 
 -- ---- THE MEAN IN HUNDREDTHS (request L2)
 

@@ -2,7 +2,7 @@
 -- same names in small letters; docs/PROMISES.md lists them. Assumes nothing.
 use Prim.Native.Nat.{ℕ, _-_, _/_, _^_, _<_}
 use mathlib.Core.Path.{_≡_}
-use mathlib.Core.Bool.{Bool}
+use mathlib.Core.Bool.{Bool, true}
 use mathlib.Core.List.{List, []}
 use mathlib.Core.Option.{Option}
 use lib.IntN.{ℤ}
@@ -16,6 +16,8 @@ use Rattle.index.specs.Signed.{levelAnswer, valueIndex}
 use Rattle.index.specs.declared.signed.Natural.the-variants.{Is}
 use Rattle.index.specs.declared.signed.Index.the-variants.{At}
 use Rattle.floats.specs.Starts.{FiniteF64}
+use Rattle.integers.specs.Answers.{inRange, nearestOf}
+use Rattle.integers.specs.Nearest.{Nearest}
 use Rattle.rows.specs.Rows.{downscaled}
 use Rattle.halving.specs.Plain.{plainStart, plainCounts}
 use Rattle.points.specs.Number.{Number}
@@ -136,6 +138,11 @@ abbrev pub OneIndex : Type 0
 OneIndex =
     (x : Float) (scale : ℤ) (level : ℕ) → FiniteF64 x → (magnitude x ≡ 0 → ⊥) → levelAnswer scale ≡ Is level
     → (i : ℤ) × (valueIndex x scale ≡ At (isNegative x) i) × IsIndex scale (magnitude x) i × ((j : ℤ) → IsIndex scale (magnitude x) j → j ≡ i)
+
+-- Request L6: "The bucket comes from the f64 nearest to the whole number, ties to the even mantissa": what `integers::nearest` answers of any i64 is
+-- that, and no other f64 is
+abbrev pub OneNearest : Type 0
+OneNearest = (z : ℤ) → inRange z ≡ true → Nearest z (nearestOf z) × ((x : Float) → Nearest z x → x ≡ nearestOf z)
 
 -- ---- RESCALING (request L3)
 

@@ -109,13 +109,11 @@ written-is size top c xs ys v r g f =
     ap (placed size (read c xs ys)) (class-is v (c .level) (level-in size top c xs ys a) f)
     ∙ placed-is size (read c xs ys) (classOf zeroFloat v) (a .least) (a .point) (ranged-of v g f)
 
-pub accepted-law : (size top : ℕ) (h : Head) (xs ys : List ℕ) (v : Float) (k : Class) (c : Counts) (mn mx : Float) (xs' ys' : List ℕ)
-    → refusalOf size top h xs ys v ≡ 0 → agrees size top (h .counts) xs ys ≡ true → fits binary64 v ≡ true → k ≡ classAt (binOf v (h .counts .level))
-    → Written (placed size (read (h .counts) xs ys) (valueOf k)) xs ys c xs' ys'
+pub accepted-law : (size top : ℕ) (h : Head) (xs ys : List ℕ) (v : Float) (c : Counts) (mn mx : Float) (xs' ys' : List ℕ)
+    → refusalOf size top h xs ys v ≡ 0 → Written (record1 size (read (h .counts) xs ys) (classOf zeroFloat v)) xs ys c xs' ys'
     → mn ≡ lesserOf (h .min) v → mx ≡ greaterOf (h .max) v
     → outcome (success (record { counts = c; min = mn; max = mx; sum = add binary64 (h .sum) v })) xs' ys' ≡ recording size top h xs ys v
 unfolding recording pick
-accepted-law size top h xs ys v k c mn mx xs' ys' e r g q w a b =
+accepted-law size top h xs ys v c mn mx xs' ys' e w a b =
     (λ j. record { answer = success (record { counts = w .counts j; min = a j; max = b j; sum = add binary64 (h .sum) v }); pos = w .pos j; neg = w .neg j })
-    ∙ ap (λ p. accepted p h xs ys v) (ap (λ k. placed size (read (h .counts) xs ys) (valueOf k)) q ∙ written-is size top (h .counts) xs ys v r g (finite-of size top h xs ys v e))
     ∙ rw (eq-eqb (refusalOf size top h xs ys v) 0 e)

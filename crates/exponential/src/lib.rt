@@ -9,9 +9,12 @@ ghost use lib.ListN.{length, take};
 ghost use Rattle.laws.specs.Counting.{total};
 ghost use Rattle.exponential.specs.Steps.{lowered};
 ghost use Rattle.laws.specs.Pick.{pick};
+ghost use Rattle.floats.specs.Starts.{zeroFloat};
+ghost use Rattle.points.specs.Points.{record1};
+ghost use Rattle.points.specs.Values.{classOf};
 ghost use Rattle.exponential.specs.Runs.{freshHead};
-ghost use Rattle.exponential.specs.Series.{mostSize, sizePasses, rowIn, agrees};
-ghost use Rattle.exponential.specs.Inner.{Laid, rowAgrees, halved, addsUp};
+ghost use Rattle.exponential.specs.Series.{mostSize, sizePasses, rowIn, read, agrees};
+ghost use Rattle.exponential.specs.Inner.{Laid, Written, rowAgrees, halved, addsUp};
 ghost use Rattle.exponential.specs.Series.{refusalOf, said, outcome, recording};
 use rows::Row;
 
@@ -286,6 +289,17 @@ pub fn refusal(size: u32, top: u32, head: Head, pos: &[u64], neg: &[u64], v: f64
     0
 }
 
+// One value more, where `refusal` says 0: what is counted then.
+pub fn count_in(size: u32, top: u32, head: Head, pos: &mut [u64], neg: &mut [u64], v: f64) -> Counts
+    requires { ⌜ refusalOf size top head (now pos) (now neg) v ≡ 0 ⌝ }
+    ensures { λ r. ⌜ Written (record1 size (read (head .counts) (now (pos .entry)) (now (neg .entry))) (classOf zeroFloat v))
+        (now (pos .entry)) (now (neg .entry)) r (now (pos .exit)) (now (neg .exit)) ⌝ }
+{
+    let c = head.counts;
+    let class = adding::class_of(v, c.level);
+    adding::add(size as usize, top, c, pos, neg, class)
+}
+
 // Records a value into the series and returns its head then, or refuses it: 12 where a row lent is too short, 6 where the value is not
 // finite, 8 where the series disagrees with itself or its settings, 9 where its count is full.
 pub fn record(size: u32, top: u32, head: Head, pos: &mut [u64], neg: &mut [u64], v: f64) -> Answer
@@ -295,9 +309,7 @@ pub fn record(size: u32, top: u32, head: Head, pos: &mut [u64], neg: &mut [u64],
     if no != 0 {
         return Answer::Refused(no);
     }
-    let c = head.counts;
-    let class = adding::class_of(v, c.level);
-    let next = adding::add(size as usize, top, c, pos, neg, class);
+    let next = count_in(size, top, head, pos, neg, v);
     let least = floats::lesser(head.min, v);
     let greatest = floats::greater(head.max, v);
     Answer::Recorded(Head {

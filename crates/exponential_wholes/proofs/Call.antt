@@ -1,99 +1,56 @@
--- The call over i64: what crate `exponential` makes of the counts, and the sum that takes the value or does not. Assumes nothing.
+-- The call over i64: what crate `exponential` counts, and the sum that takes the value or does not. Assumes nothing.
 use Prim.Native.Nat.{ℕ}
-use mathlib.Core.Path.{_≡_, refl, sym, ap, subst, _∙_}
-use mathlib.Core.Bool.{Bool, true, false}
+use mir.Syntax.{w64}
+use mir.Val.{SFits}
+use mathlib.Core.Path.{_≡_, refl, sym, ap, _∙_}
+use mathlib.Core.Bool.{Bool, true, false, _&&_}
 use mathlib.Core.List.{List}
 use native.Mathlib.Omega.{arith}
-use borrow.Author.Tests.{eqb-true, eqb-false, eq-eqb, ne-eqb}
-use lib.Dec.{T, eqb}
-use lib.IntN.{ℤ, pos, _+ℤ_}
-use lib.Ieee.{Float}
+use borrow.Author.Tests.{eq-eqb, ne-eqb}
+use lib.Dec.{T, leb, eqb}
+use lib.ListN.{length}
+use lib.Ieee.{Float, ofBits}
+use lib.Ieee.Scale.{finite}
+use lib.IntN.{ℤ}
 use Rattle.laws.specs.Pick.{pick}
-use Rattle.laws.specs.Said.{Said, refusal, success}
-use Rattle.laws.specs.Over.{over}
+use Rattle.laws.specs.Counting.{mostCount}
+use Rattle.laws.specs.Said.{refusal, success}
 use Rattle.laws.proofs.Bools.{pick-true, pick-false}
 use Rattle.floats.specs.Starts.{zeroFloat}
 use Rattle.integers.specs.Answers.{nearestOf, keptSum, lastNumber}
-use Rattle.integers.specs.declared.Total.{Total}
 use Rattle.integers.specs.declared.Total.the-variants.{Outside, Is}
-use Rattle.points.specs.Points.{Point, record1}
+use Rattle.integers.proofs.NoNearer.{nearest-is}
+use Rattle.points.specs.Points.{record1}
 use Rattle.points.specs.Classes.{classOf}
-use Rattle.points.specs.Any.{noted}
 use Rattle.points.specs.Whole.{whole}
-use Rattle.points.proofs.WholeSums.{Takes, sum-takes, sum-leaves, last-some}
+use Rattle.points.proofs.WholeSums.{sum-takes, sum-leaves}
 use Rattle.exponential.specs.declared.Counts.{Counts}
 use Rattle.exponential.specs.declared.Head as F
 use Rattle.exponential.specs.Series as E
-use Rattle.exponential.specs.Series.{read, countsFor}
+use Rattle.exponential.specs.Series.{read}
+use Rattle.exponential.specs.Inner.{Written}
 use Rattle.exponential_wholes.specs.declared.Head.{Head}
-use Rattle.exponential_wholes.specs.Series.{under, refusalOf, outcome, accepted, recording, finished}
+use Rattle.exponential_wholes.specs.Series.{under, refusalOf, outcome, accepted, recording}
 
--- ---- what an answer says
-abbrev numberIn : {A : Type 0} → Said A → ℕ
-numberIn (refusal n) = n
-numberIn (success a) = 0
+-- what crate `exponential` refuses of one finite value it refuses of any
+finite-alike : (size top : ℕ) (h : F.Head) (xs ys : List ℕ) (x y : Float) → finite x ≡ finite y → E.refusalOf size top h xs ys x ≡ E.refusalOf size top h xs ys y
+unfolding E.refusalOf
+finite-alike size top h xs ys x y e = λ j. E.refusalBy (leb size (length xs) && leb size (length ys)) (e j) (E.agrees size top (h .counts) xs ys && (finite (h .min) && finite (h .max))) (eqb (h .counts .count) mostCount)
 
-abbrev headIn : {A : Type 0} → A → Said A → A
-headIn d (refusal n) = d
-headIn d (success a) = a
+near-finite : (v : ℤ) → SFits w64 v → finite zeroFloat ≡ finite (nearestOf v)
+unfolding ofBits
+near-finite v f = sym (known (finite (nearestOf v)) (nearest-is v (f .sfits) .finite .known))
+  where
+    known : (b : Bool) → T b → b ≡ true
+    known true t = refl
+    known false t = absurd t
 
-abbrev isRefused : {A : Type 0} → Said A → Bool
-isRefused (refusal n) = true
-isRefused (success a) = false
-
-no : {A : Type 0} → true ≡ false → A
-no h = absurd (subst T h tt)
-
--- ---- what crate `exponential` left of the counts
-module _ (size top : ℕ) (h : F.Head) (xs ys : List ℕ) (x : Float) where
-  abbrev number : ℕ
-  number = E.refusalOf size top h xs ys x
-
-  abbrev next : Point
-  next = record1 size (read (h .counts) xs ys) (classOf zeroFloat x)
-
-  taken : number ≡ 0 → E.recording size top h xs ys x ≡ E.accepted next h xs ys x
-  unfolding E.recording
-  taken e = pick-true _ _ _ (eq-eqb number 0 e)
-
-  left : (number ≡ 0 → ⊥) → E.recording size top h xs ys x ≡ E.outcome (refusal number) xs ys
-  unfolding E.recording
-  left e = pick-false _ _ _ (ne-eqb number 0 e)
-
-  record Refused (n : ℕ) (xs' ys' : List ℕ) : Type 0 where
-    is : n ≡ number
-    some : number ≡ 0 → ⊥
-    pos : xs' ≡ xs
-    neg : ys' ≡ ys
-
-  refused : (n : ℕ) (xs' ys' : List ℕ) → E.outcome (refusal n) xs' ys' ≡ E.recording size top h xs ys x → Refused n xs' ys'
-  refused n xs' ys' e = go (eqb number 0) refl
-    where
-      go : (b : Bool) → eqb number 0 ≡ b → Refused n xs' ys'
-      go true d = no (ap (λ o. isRefused (o .answer)) (e ∙ taken (eqb-true number 0 d)))
-      go false d =
-          let f = e ∙ left (eqb-false number 0 d) in
-          record { is = ap (λ o. numberIn (o .answer)) f; some = eqb-false number 0 d; pos = ap (λ o. o .pos) f; neg = ap (λ o. o .neg) f }
-
-  record Recorded (g : F.Head) (xs' ys' : List ℕ) : Type 0 where
-    none : number ≡ 0
-    counts : g .counts ≡ countsFor next
-    pos : xs' ≡ over (next .pos .counts) xs
-    neg : ys' ≡ over (next .neg .counts) ys
-
-  recorded : (g : F.Head) (xs' ys' : List ℕ) → E.outcome (success g) xs' ys' ≡ E.recording size top h xs ys x → Recorded g xs' ys'
-  recorded g xs' ys' e = go (eqb number 0) refl
-    where
-      go : (b : Bool) → eqb number 0 ≡ b → Recorded g xs' ys'
-      go true d =
-          let f = e ∙ taken (eqb-true number 0 d) in
-          record { none = eqb-true number 0 d; counts = ap (λ o. headIn g (o .answer) .counts) f; pos = ap (λ o. o .pos) f; neg = ap (λ o. o .neg) f }
-      go false d = no (sym (ap (λ o. isRefused (o .answer)) (e ∙ left (eqb-false number 0 d))))
-
--- ---- THE CALL
 module _ (size top : ℕ) (sums : Bool) (h : Head) (xs ys : List ℕ) (v : ℤ) where
   abbrev pub before : ℕ
   before = E.refusalOf size top (under (h .counts)) xs ys (nearestOf v)
+
+  pub before-is : SFits w64 v → E.refusalOf size top (under (h .counts)) xs ys zeroFloat ≡ before
+  before-is f = finite-alike size top (under (h .counts)) xs ys zeroFloat (nearestOf v) (near-finite v f)
 
   pub number-before : (before ≡ 0 → ⊥) → refusalOf size top sums h xs ys v ≡ before
   unfolding refusalOf
@@ -117,26 +74,23 @@ module _ (size top : ℕ) (sums : Bool) (h : Head) (xs ys : List ℕ) (v : ℤ) 
   unfolding recording
   goes-on e = pick-true _ _ _ (eq-eqb (refusalOf size top sums h xs ys v) 0 e)
 
+  pub refused-law : (n : ℕ) → n ≡ before → (n ≡ 0 → ⊥) → outcome (refusal n) xs ys ≡ recording size top sums h xs ys v
+  refused-law n e z = gives-up n (number-before (λ d. z (e ∙ d)) ∙ sym e) z
+
   -- where the sum would leave i64
-  pub outside-law : keptSum sums (h .sum) v ≡ Outside → (n k : ℕ) → n ≡ before → k ≡ lastNumber n → outcome (refusal k) xs ys ≡ recording size top sums h xs ys v
-  outside-law t n k e d =
-      ap (λ m. outcome (refusal m) xs ys) (d ∙ ap lastNumber e)
-      ∙ gives-up (lastNumber before) (number-last (sum-leaves sums (h .sum) v t)) (last-some before)
+  pub outside-law : before ≡ 0 → keptSum sums (h .sum) v ≡ Outside → outcome (refusal 16) xs ys ≡ recording size top sums h xs ys v
+  outside-law e t = gives-up 16 (number-last (sum-leaves sums (h .sum) v t) ∙ ap lastNumber e ∙ pick-true _ _ _ refl) (λ z. omega (arith, z))
 
   -- where it does not
-  pub inside-law : (s : ℤ) (r : Said F.Head) (a : Said Head) (xs' ys' : List ℕ) → keptSum sums (h .sum) v ≡ Is s
-      → E.outcome r xs' ys' ≡ E.recording size top (under (h .counts)) xs ys (nearestOf v) → a ≡ finished h v s r
-      → outcome a xs' ys' ≡ recording size top sums h xs ys v
-  inside-law s (refusal n) a xs' ys' t e f =
-      let q = refused size top (under (h .counts)) xs ys (nearestOf v) n xs' ys' e in
-      (λ j. outcome (f j) (q .pos j) (q .neg j)) ∙ gives-up n (number-before (q .some) ∙ sym (q .is)) (λ z. q .some (sym (q .is) ∙ z))
-  inside-law s (success g) a xs' ys' t e f =
-      let q = recorded size top (under (h .counts)) xs ys (nearestOf v) g xs' ys' e in
-      let w = sum-takes sums (h .sum) v s t in
-      ap (λ b. outcome b xs' ys') f
-      ∙ (λ j. record {
-        answer = success (record { counts = q .counts j; min = whole .lesser (h .min) v; max = whole .greater (h .max) v; sum = w .sum j });
-        pos = q .pos j;
-        neg = q .neg j;
+  pub inside-law : (s mn mx : ℤ) (c : Counts) (xs' ys' : List ℕ) → before ≡ 0 → keptSum sums (h .sum) v ≡ Is s
+      → Written (record1 size (read (h .counts) xs ys) (classOf zeroFloat (nearestOf v))) xs ys c xs' ys'
+      → mn ≡ whole .lesser (h .min) v → mx ≡ whole .greater (h .max) v
+      → outcome (success (record { counts = c; min = mn; max = mx; sum = s })) xs' ys' ≡ recording size top sums h xs ys v
+  inside-law s mn mx c xs' ys' e t w a b =
+      let k = sum-takes sums (h .sum) v s t in
+      (λ j. record {
+        answer = success (record { counts = w .counts j; min = a j; max = b j; sum = k .sum j });
+        pos = w .pos j;
+        neg = w .neg j;
       })
-      ∙ sym (goes-on (number-none (q .none) (w .takes)))
+      ∙ sym (goes-on (number-none e (k .takes)))

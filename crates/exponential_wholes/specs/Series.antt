@@ -8,7 +8,7 @@ use Rattle.laws.specs.Pick.{pick}
 use Rattle.laws.specs.Said.{Said, refusal, success}
 use Rattle.laws.specs.Over.{over}
 use Rattle.floats.specs.Starts.{zeroFloat}
-use Rattle.integers.specs.Answers.{nearestOf, lesserOf, greaterOf}
+use Rattle.integers.specs.Answers.{nearestOf}
 use Rattle.points.specs.Points.{Point, record1}
 use Rattle.points.specs.Classes.{classOf}
 use Rattle.points.specs.Any.{Summary, start, noted}
@@ -68,8 +68,3 @@ recording size top sums h xs ys v =
     pick (eqb (refusalOf size top sums h xs ys v) 0)
     (accepted (record1 size (read (h .counts) xs ys) (classOf zeroFloat (nearestOf v))) sums h xs ys v)
     (outcome (refusal (refusalOf size top sums h xs ys v)) xs ys)
-
--- ---- between functions: the head with counts that were recorded, and the sum s
-abbrev pub finished : Head → ℤ → ℤ → Said F.Head → Said Head
-finished h v s (refusal n) = refusal n
-finished h v s (success g) = success (record { counts = g .counts; min = lesserOf (h .min) v; max = greaterOf (h .max) v; sum = s })

@@ -1,8 +1,7 @@
 // One series of the exponential kind over i64: a head by value beside the same counts and rows as over f64. A value's bucket is that of the
-// f64 nearest to it, so its counts are recorded by crate `exponential`.
+// f64 nearest to it, so crate `exponential` counts it.
 ghost use mathlib.Core.Path.{_≡_};
-ghost use Rattle.exponential.specs.Series as E;
-ghost use Rattle.exponential_wholes.specs.Series.{freshHead, under, said, finished, outcome, recording};
+ghost use Rattle.exponential_wholes.specs.Series.{freshHead, under, said, outcome, recording};
 use exponential::Counts;
 use integers::Total;
 
@@ -32,7 +31,7 @@ pub fn fresh(top: u32) -> Head
     }
 }
 
-// The head under which crate `exponential` records the counts: its extremes and its sum are nobody's.
+// The head under which crate `exponential` counts: its extremes and its sum are nobody's.
 fn under_counts(c: Counts) -> exponential::Head
     ensures { λ r. ⌜ r ≡ under c ⌝ }
 {
@@ -44,28 +43,8 @@ fn under_counts(c: Counts) -> exponential::Head
     }
 }
 
-// The head after a value whose counts were recorded or refused, the sum being s.
-fn finish(head: Head, v: i64, s: i64, r: exponential::Answer) -> Answer
-    ensures { λ a. ⌜ said a ≡ finished head v s (E.said r) ⌝ }
-{
-    match r {
-        exponential::Answer::Refused(n) => Answer::Refused(n),
-        exponential::Answer::Recorded(g) => {
-            let c = g.counts;
-            let least = integers::lesser(head.min, v);
-            let greatest = integers::greater(head.max, v);
-            Answer::Recorded(Head {
-                counts: c,
-                min: least,
-                max: greatest,
-                sum: s,
-            })
-        }
-    }
-}
-
 // Records a value into the series and returns its head then, or refuses it: 12 where a row lent is too short, 8 where the series disagrees with
-// itself or its settings, 9 where its count is full, 16 where its sum would leave i64.
+// itself or its settings, 9 where its count is full, 16 where its sum would leave i64. The f64 nearest to any i64 is finite, as 0.0 is: 6 is never said.
 pub fn record(
     size: u32,
     top: u32,
@@ -81,16 +60,23 @@ pub fn record(
     let c = head.counts;
     let h = under_counts(c);
     let x = integers::nearest(v);
+    let no = exponential::refusal(size, top, h, pos, neg, x);
+    if no != 0 {
+        return Answer::Refused(no);
+    }
     let total = integers::kept_sum(sums, head.sum, v);
     match total {
-        Total::Outside => {
-            let no = exponential::refusal(size, top, h, pos, neg, x);
-            let n = integers::last_number(no);
-            Answer::Refused(n)
-        }
+        Total::Outside => Answer::Refused(16),
         Total::Is(s) => {
-            let r = exponential::record(size, top, h, pos, neg, x);
-            finish(head, v, s, r)
+            let least = integers::lesser(head.min, v);
+            let greatest = integers::greater(head.max, v);
+            let next = exponential::count_in(size, top, h, pos, neg, x);
+            Answer::Recorded(Head {
+                counts: next,
+                min: least,
+                max: greatest,
+                sum: s,
+            })
         }
     }
 }

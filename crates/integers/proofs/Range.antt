@@ -4,7 +4,8 @@ use mathlib.Core.Bool.{Bool, true, false, not}
 use Prim.Native.Nat.{ℕ, zero, suc, _+_, _-_, _^_, _≤_, _<_}
 use native.Mathlib.Omega.{arith}
 use borrow.Author.Tests.{ltb-true, ltb-false, lt-ltb, le-ltb}
-use lib.Dec.{T, ltb, ltb→lt, lt→ltb, lit<}
+use lib.Dec.{T, ltb, ltb→lt, lt→ltb, le→leb, lit<}
+use lib.Ieee.{binary64, inFloat}
 use lib.IntN.{ℤ, pos, negsuc, natAbs, subℕ, _+ℤ_, _-ℤ_}
 use lib.Signed.{mag, ltZ, nonNeg}
 use mir.Syntax.{w64}
@@ -12,7 +13,7 @@ use mir.Val.{SFits, Fits, toZ, ofZ}
 use mir.ValLaws.{toZ-ofZ, toZ-pos}
 use Rattle.laws.specs.Pick.{pick}
 use Rattle.laws.proofs.Bools.{pick-true, pick-false}
-use Rattle.integers.specs.Answers.{inRange, sumOf, bitsOf, ofBits}
+use Rattle.integers.specs.Answers.{between, inRange, sumOf, bitsOf, ofBits}
 use Rattle.integers.specs.declared.Total.the-variants.{Outside, Is}
 
 -- a difference of whole numbers, either way
@@ -97,6 +98,28 @@ module _ (m : ℕ) where
   high-test (negsuc n) b p q =
       ap (λ (z : ℤ). ltZ z (negsuc n)) (taken b q)
       ∙ sub-cases b (suc n) (λ z. false ≡ not (ltb (mag z) m)) (λ k. never (suc n - suc b) m (omega arith)) (λ k. never (b - suc n) m (omega arith))
+
+-- ---- the middle: from -m to m - 1, of which two have a sum from -2m to 2m - 1
+pub middling : (m : ℕ) (z : ℤ) → 0 < m → between (negsuc (m - 1)) z (pos m) ≡ true → mag z < m
+unfolding pick
+middling m (pos n) p h = ltb-true n m h
+middling m (negsuc n) p h = go (ltb (m - 1) n) refl h
+  where
+    go : (t : Bool) → ltb (m - 1) n ≡ t → pick t false true ≡ true → n < m
+    go true e k = absurd (subst (λ (b : Bool). T (not b)) k tt)
+    go false e k = omega (arith, ltb-false (m - 1) n e)
+
+middle-sum : (m : ℕ) (a v : ℤ) → mag a < m → mag v < m → mag (a +ℤ v) < m + m
+middle-sum m (pos a) (pos v) p q = omega arith
+middle-sum m (pos a) (negsuc v) p q = sub-cases a (suc v) (λ z. mag z < m + m) (λ k. omega arith) (λ k. omega arith)
+middle-sum m (negsuc a) (pos v) p q = sub-cases v (suc a) (λ z. mag z < m + m) (λ k. omega arith) (λ k. omega arith)
+middle-sum m (negsuc a) (negsuc v) p q = omega arith
+
+-- up to 2 ^ 53 a whole number is an f64
+pub exact : (z : ℤ) → mag z < 2 ^ 53 → T (inFloat binary64 z)
+unfolding inFloat
+exact (pos n) h = le→leb n (2 ^ 53) (omega (arith, h))
+exact (negsuc n) h = lt→ltb n (2 ^ 53) h
 
 -- ---- i64
 pub held : (z : ℤ) → SFits w64 z → toZ w64 (ofZ w64 z) ≡ z
@@ -216,6 +239,15 @@ module _ (a v : ℤ) (f : SFits w64 a) (g : SFits w64 v) where
 
   pub high-inside : ltZ (toZ w64 (ofZ w64 v)) (pos 0) ≡ false → HighTest false → Is (toZ w64 (ofZ w64 (toZ w64 (ofZ w64 a) +ℤ toZ w64 (ofZ w64 v)))) ≡ sumOf a v
   high-inside h k = inside (high-told false h k)
+
+  in-middle : mag a < 2 ^ 62 → mag v < 2 ^ 62 → not (inRange (a +ℤ v)) ≡ false
+  in-middle p q = ap not (lt-ltb (mag (a +ℤ v)) (2 ^ 63) (middle-sum (2 ^ 62) a v p q))
+
+  pub middle-fine : mag a < 2 ^ 62 → mag v < 2 ^ 62 → SFits w64 (toZ w64 (ofZ w64 a) +ℤ toZ w64 (ofZ w64 v))
+  middle-fine p q = fine (in-middle p q)
+
+  pub middle-inside : mag a < 2 ^ 62 → mag v < 2 ^ 62 → Is (toZ w64 (ofZ w64 (toZ w64 (ofZ w64 a) +ℤ toZ w64 (ofZ w64 v)))) ≡ sumOf a v
+  middle-inside p q = inside (in-middle p q)
 
 -- ---- bits
 minus-one : (b : ℕ) → negsuc 0 -ℤ negsuc b ≡ pos b

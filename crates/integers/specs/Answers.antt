@@ -16,6 +16,10 @@ use Rattle.integers.specs.declared.Total.the-variants.{Outside, Is}
 abbrev pub nearestOf : ℤ → Float
 nearestOf z = ofInt binary64 z
 
+-- low <= z < end
+abbrev pub between : ℤ → ℤ → ℤ → Bool
+between low z end = pick (ltZ z low) false (ltZ z end)
+
 abbrev pub lesserOf : ℤ → ℤ → ℤ
 lesserOf a v = pick (ltZ v a) v a
 

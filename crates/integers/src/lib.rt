@@ -1,11 +1,27 @@
 // i64 as histograms use it: the nearest f64, the lesser and the greater of two, a sum that may leave the range, bits.
 ghost use mathlib.Core.Path.{_≡_};
-ghost use Rattle.integers.specs.Answers.{nearestOf, lesserOf, greaterOf, sumOf, keptSum, lastNumber, bitsOf, ofBits, shownOf, smallerOf, largerOf};
+ghost use mathlib.Core.Bool.{true};
+ghost use Prim.Native.Nat.{_^_, _<_};
+ghost use lib.Signed.{mag};
+ghost use Rattle.integers.specs.Answers.{between, nearestOf, lesserOf, greaterOf, sumOf, keptSum, lastNumber, bitsOf, ofBits, shownOf, smallerOf, largerOf};
 
-// The f64 nearest to n, ties to the even mantissa (the law `nearest-is`).
+// Whether low <= n < end.
+fn is_between(low: i64, n: i64, end: i64) -> bool
+    ensures { λ r. ⌜ r ≡ between low n end ⌝ }
+{
+    if n < low {
+        return false;
+    }
+    n < end
+}
+
+// The f64 nearest to n, ties to the even mantissa (the law `nearest-is`). Below 2^53 each is an f64, and one instruction makes it.
 pub fn nearest(n: i64) -> f64
     ensures { λ r. ⌜ r ≡ nearestOf n ⌝ }
 {
+    if is_between(-9007199254740992, n, 9007199254740992) {
+        return n as f64;
+    }
     std::num::nearest_i64_to_f64(n)
 }
 
@@ -29,8 +45,18 @@ pub enum Total {
     Is(i64),
 }
 
-// a + v, if that is an i64.
-pub fn sum(a: i64, v: i64) -> Total
+// Whether both lie in the middle half of i64, where no sum leaves it.
+fn are_middling(a: i64, v: i64) -> bool
+    ensures { λ r. ⌜ (r ≡ true → (mag a < 2 ^ 62) × (mag v < 2 ^ 62)) ⌝ }
+{
+    if is_between(-4611686018427387904, a, 4611686018427387904) {
+        return is_between(-4611686018427387904, v, 4611686018427387904);
+    }
+    false
+}
+
+// a + v, if that is an i64: asked of the ends.
+fn end_sum(a: i64, v: i64) -> Total
     ensures { λ r. ⌜ r ≡ sumOf a v ⌝ }
 {
     if v < 0 {
@@ -43,6 +69,16 @@ pub fn sum(a: i64, v: i64) -> Total
         return Total::Outside;
     }
     Total::Is(a + v)
+}
+
+// a + v, if that is an i64. Most are middling: the ends, whose test reads the sign of v, are asked last.
+pub fn sum(a: i64, v: i64) -> Total
+    ensures { λ r. ⌜ r ≡ sumOf a v ⌝ }
+{
+    if are_middling(a, v) {
+        return Total::Is(a + v);
+    }
+    end_sum(a, v)
 }
 
 // The sum with a value more; with the sum off none is kept.

@@ -36,8 +36,8 @@ fn slots_of(size: u32, figures: usize, extremes: usize, pos: usize, neg: usize) 
     if n == 0 {
         return least;
     }
-    let rows = lesser(pos / n, neg / n);
-    lesser(least, rows)
+    let counts = lesser(pos, neg);
+    lesser(least, counts / n)
 }
 
 // Configures a map: a fresh start, or 1, 2, 4, 12.

@@ -1,32 +1,31 @@
 -- `sum` meets its contract. Assumes nothing.
-use lib.Dec.{lit<}
-use Rattle.integers.proofs.Range.{low-need, high-need, low-outside, high-outside, low-fine, high-fine, low-inside, high-inside}
+use Prim.Native.Nat.{_^_, _<_}
+use mathlib.Core.Path.{subst, _∙_}
+use borrow.Author.Needs.{needs}
+use lib.IntN.{ℤ}
+use lib.Signed.{mag}
+use Rattle.integers.specs.Answers.{sumOf}
+use Rattle.integers.proofs.Range.{held, middle-fine, middle-inside}
 use Rattle.integers.proofs.sum.Statement.{statement}
 use Rattle.integers.proofs.sum.Tie as tie
 
-sub-if2 : tie.Need-sub-if2
-sub-if2 c = let s = c .before in low-need (s .args .a) (s .args .v) (s .fits .a) (s .fits .v) (c .if1 .taken)
-
-returns : tie.Need-returns
-returns c = let s = c .before .before in low-outside (s .args .a) (s .args .v) (s .fits .a) (s .fits .v) (c .before .if1 .taken) (c .if2 .taken)
+-- both are in the middle
+both : (c : tie.Then1) → (let a = c .before .before .args in (mag (a .a) < 2 ^ 62) × (mag (a .v) < 2 ^ 62))
+both c =
+    let s = c .before .before in
+    let m = c .before .are-middling .ensures (c .if1 .taken) in
+    (subst (λ (z : ℤ). mag z < 2 ^ 62) (held (s .args .a) (s .fits .a)) (m .0), subst (λ (z : ℤ). mag z < 2 ^ 62) (held (s .args .v) (s .fits .v)) (m .1))
 
 add-t4 : tie.Need-add-t4
-add-t4 c = let s = c .before .before in low-fine (s .args .a) (s .args .v) (s .fits .a) (s .fits .v) (c .before .if1 .taken) (c .if2 .left)
+add-t4 c = let s = c .before .before in middle-fine (s .args .a) (s .args .v) (s .fits .a) (s .fits .v) (both c .0) (both c .1)
+
+returns : tie.Need-returns
+returns c = let s = c .before .before in middle-inside (s .args .a) (s .args .v) (s .fits .a) (s .fits .v) (both c .0) (both c .1)
 
 returns-2 : tie.Need-returns-2
-returns-2 c = let s = c .before .before in low-inside (s .args .a) (s .args .v) (s .fits .a) (s .fits .v) (c .before .if1 .taken) (c .if2 .left)
-
-sub-if3 : tie.Need-sub-if3
-sub-if3 c = let s = c .before in high-need (s .args .a) (s .args .v) (s .fits .a) (s .fits .v) _ (lit< tt) (c .if1 .left)
-
-returns-3 : tie.Need-returns-3
-returns-3 c = let s = c .before .before in high-outside (s .args .a) (s .args .v) (s .fits .a) (s .fits .v) (c .before .if1 .left) (c .if3 .taken)
-
-add-t6 : tie.Need-add-t6
-add-t6 c = let s = c .before .before in high-fine (s .args .a) (s .args .v) (s .fits .a) (s .fits .v) (c .before .if1 .left) (c .if3 .left)
-
-returns-4 : tie.Need-returns-4
-returns-4 c = let s = c .before .before in high-inside (s .args .a) (s .args .v) (s .fits .a) (s .fits .v) (c .before .if1 .left) (c .if3 .left)
+returns-2 c =
+    let s = c .before .before .before in
+    c .end-sum .ensures ∙ (λ j. sumOf (held (s .args .a) (s .fits .a) j) (held (s .args .v) (s .fits .v) j))
 
 pub sum-spec : {M : Type 1} → statement M
-sum-spec = tie.close (tie.spec sub-if2 returns add-t4 returns-2 sub-if3 returns-3 add-t6 returns-4)
+sum-spec = tie.close (tie.spec (λ c κs. search needs) add-t4 returns (λ c κs. search needs) returns-2)

@@ -1,6 +1,6 @@
 -- `whole_map::exponential_map::slots_of` meets its contract. Assumes nothing.
 use borrow.Author.Needs.{needs}
-use Prim.Native.Nat.{_+_, _/_, min}
+use Prim.Native.Nat.{_+_, _*_, _/_, min}
 use mathlib.Core.Path.{ap, _∙_}
 use mathlib.Core.Bool.{true, _&&_}
 use lib.Dec.{leb}
@@ -18,15 +18,16 @@ returns c limit =
 
 returns-2 : tie.Need-returns-2
 returns-2 c limit =
-    let rows = c .before in
-    let e = rows .before in
+    let m = c .before in
+    let e = m .before in
     let l = e .before in
     let a = l .before .args in
-    ap (leb (limit + 2)) (c .lesser3 .ensures ∙ (λ i. min (l .lesser .ensures i) (rows .lesser2 .ensures i)))
-    ∙ least-many limit (a .figures) (a .extremes) _ (min (a .pos / a .size) (a .neg / a .size))
-    (both-suffice (a .pos / a .size) (a .neg / a .size) (limit + 2) ∙ (λ i. rows-many limit (a .size) (a .pos) (e .if1 .left) i && (rows-many limit (a .size) (a .neg) (e .if1 .left) ∙ one-less _) i))
+    ap (leb (limit + 2)) (c .lesser3 .ensures ∙ (λ i. min (l .lesser .ensures i) (m .lesser2 .ensures i / a .size)))
+    ∙ least-many limit (a .figures) (a .extremes) _ (min (a .pos) (a .neg) / a .size)
+    (rows-many limit (a .size) (min (a .pos) (a .neg)) (e .if1 .left) ∙ both-suffice (a .pos) (a .neg) ((limit + 2) * a .size)
+    ∙ (λ i. leb ((limit + 2) * a .size) (a .pos) && one-less (leb ((limit + 2) * a .size) (a .neg)) i))
 
 pub slots-of-spec : {M : Type 1} → statement M
 slots-of-spec =
     tie.close
-    (tie.spec (λ c κs. search needs) returns (λ c. search needs) (λ c. search needs) (λ c κs. search needs) (λ c κs. search needs) returns-2)
+    (tie.spec (λ c κs. search needs) returns (λ c κs. search needs) (λ c. search needs) (λ c κs. search needs) returns-2)

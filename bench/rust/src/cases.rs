@@ -74,6 +74,15 @@ pub fn all() -> Vec<Case> {
         by_handle("by handle, 4 sets of 2, rows of 160", few().rows(160)),
         by_handle("by handle, 4 sets of 2", few()),
         by_handle("by handle, 62 sets of 8", many()),
+        whole_by_set("i64, by set, 4 sets of 2, rows of 20", few().rows(20)),
+        whole_by_set("i64, by set, 4 sets of 2, rows of 160", few().rows(160)),
+        whole_by_set("i64, by set, 4 sets of 2", few()),
+        whole_by_set("i64, by set, 62 sets of 8, rows of 20", many().rows(20)),
+        whole_by_set("i64, by set, 62 sets of 8", many()),
+        whole_by_handle("i64, by handle, 4 sets of 2, rows of 20", few().rows(20)),
+        whole_by_handle("i64, by handle, 4 sets of 2, rows of 160", few().rows(160)),
+        whole_by_handle("i64, by handle, 4 sets of 2", few()),
+        whole_by_handle("i64, by handle, 62 sets of 8", many()),
         explicit("explicit, by set, 4 sets of 2", few()),
         explicit("explicit, by set, 62 sets of 8", many()),
         sum("sum, by set, 4 sets of 2", few()),
@@ -155,6 +164,20 @@ fn by_set(name: &'static str, input: Input) -> Case {
 
 fn by_handle(name: &'static str, input: Input) -> Case {
     both(name, VALUES, input, rust::by_handle, ours::by_handle)
+}
+
+fn whole_by_set(name: &'static str, input: Input) -> Case {
+    both(name, VALUES, input, rust::whole_by_set, ours::whole_by_set)
+}
+
+fn whole_by_handle(name: &'static str, input: Input) -> Case {
+    both(
+        name,
+        VALUES,
+        input,
+        rust::whole_by_handle,
+        ours::whole_by_handle,
+    )
 }
 
 fn explicit(name: &'static str, input: Input) -> Case {

@@ -36,6 +36,7 @@ impl Map {
         }
     }
 
+    #[inline(always)]
     pub fn record(&mut self, v: f64, attrs: &[[u32; 2]]) {
         let d = &mut self.directory;
         let no = unsafe {

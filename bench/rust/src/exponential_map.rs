@@ -1,11 +1,12 @@
-//! Our map of the exponential kind, over the crates map_exports, handle_exports and collection_exports. A call returns document 01's number.
+//! Our map of the exponential kind over f64, over the crates map_exports, handle_exports and collection_exports. A call returns document 01's
+//! number. Its calls over i64 are in whole_map.
 
 use crate::directory::{lent, shown, Directory, Lent, ENTRIES};
 use crate::inputs::{LIMIT, MAX_SIZE};
 
-type Row = [u64; 9];
-type Entry = [u64; 3];
-type Figures = [u64; 8];
+pub type Row = [u64; 9];
+pub type Entry = [u64; 3];
+pub type Figures = [u64; 8];
 type Extremes = [f64; 3];
 type Words = [u64; 12];
 
@@ -82,14 +83,15 @@ extern "C" {
 }
 
 /// The level of scale 10.
-const TOP: u32 = 20;
+pub const TOP: u32 = 20;
 
-pub struct Map {
+/// A map of T, f64 or i64.
+pub struct Map<T> {
     pub directory: Directory,
-    figures: Vec<Figures>,
-    extremes: Vec<Extremes>,
-    pos: Vec<u64>,
-    neg: Vec<u64>,
+    pub figures: Vec<Figures>,
+    pub extremes: Vec<[T; 3]>,
+    pub pos: Vec<u64>,
+    pub neg: Vec<u64>,
 }
 
 /// Lent output (docs/LIST.md), with places for every slot.
@@ -115,17 +117,20 @@ impl Output {
     }
 }
 
-impl Map {
+impl<T: Copy + Default> Map<T> {
     pub fn new() -> Self {
         Map {
             directory: Directory::new(),
             figures: vec![[0; 8]; ENTRIES],
-            extremes: vec![[0.0; 3]; ENTRIES],
+            extremes: vec![[T::default(); 3]; ENTRIES],
             pos: counts(),
             neg: counts(),
         }
     }
+}
 
+impl Map<f64> {
+    #[inline(always)]
     pub fn record(&mut self, v: f64, attrs: &[[u32; 2]]) {
         let d = &mut self.directory;
         let no = unsafe {
@@ -148,6 +153,7 @@ impl Map {
         assert_eq!(no, 0);
     }
 
+    #[inline(always)]
     pub fn record_by(&mut self, v: f64, handle: u64) {
         let d = &mut self.directory;
         let no = unsafe {

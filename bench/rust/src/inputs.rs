@@ -122,6 +122,12 @@ impl Draw {
     }
 }
 
+/// The same values as whole numbers, 32 octaves up, so that rows are as long: a round's sum stays far within i64.
+pub fn wholes(values: &[f64]) -> Vec<i64> {
+    let up = 2f64.powi(32);
+    values.iter().map(|v| (v * up).round() as i64).collect()
+}
+
 /// Magnitudes of eight octaves around 1, as deviations in millimetres are.
 pub fn magnitudes() -> Vec<f64> {
     let mut draw = Draw::new();

@@ -17,6 +17,7 @@ mod ours;
 mod rust;
 mod sheets;
 mod sum_map;
+mod whole_map;
 
 use std::time::Instant;
 

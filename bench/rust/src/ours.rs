@@ -5,7 +5,7 @@ use std::hint::black_box;
 use std::rc::Rc;
 
 use crate::cases::{Side, COLLECTIONS};
-use crate::directory::{lent, shown, Lent};
+use crate::directory::{lent, shown, Directory, Lent};
 use crate::explicit_map;
 use crate::exponential_map::{Map, Output};
 use crate::inputs::{self, Input};
@@ -66,99 +66,122 @@ fn pairs(input: &Input) -> Vec<Vec<[u32; 2]>> {
 }
 
 /// A map with what comes first under every set, so that set i is in slot i + 1.
-fn filled(input: &Input) -> Map {
-    let mut map = Map::new();
-    fill(&mut map, &pairs(input), &input.first);
+fn filled(input: &Input) -> Map<f64> {
+    let mut map = Map::<f64>::new();
+    fill(&pairs(input), &input.first, |v, set| map.record(v, set));
     map
 }
 
-fn fill(map: &mut Map, sets: &[Vec<[u32; 2]>], first: &[f64]) {
+/// The same over i64.
+fn filled_wholes(input: &Input) -> Map<i64> {
+    let mut map = Map::<i64>::new();
+    let first = inputs::wholes(&input.first);
+    fill(&pairs(input), &first, |v, set| map.record(v, set));
+    map
+}
+
+/// The same of sums.
+fn sums(input: &Input) -> sum_map::Map {
+    let mut map = sum_map::Map::new();
+    fill(&pairs(input), &input.first, |v, set| map.record(v, set));
+    map
+}
+
+fn fill<V: Copy>(sets: &[Vec<[u32; 2]>], first: &[V], mut record: impl FnMut(V, &[[u32; 2]])) {
     for set in sets {
         for v in first {
-            map.record(*v, set);
+            record(*v, set);
         }
     }
+}
+
+/// Every value by its set.
+fn by_sets<V: Copy + 'static>(
+    input: &Input,
+    values: Vec<V>,
+    mut record: impl FnMut(V, &[[u32; 2]]) + 'static,
+) -> Side {
+    let sets = pairs(input);
+    let order = input.order.clone();
+    Side::of(move || {
+        for (v, set) in values.iter().zip(&order) {
+            record(black_box(*v), black_box(&sets[*set]));
+        }
+    })
+}
+
+/// Every value by its set's handle.
+fn by_handles<V: Copy + 'static>(
+    input: &Input,
+    values: Vec<V>,
+    handles: Vec<u64>,
+    mut record: impl FnMut(V, u64) + 'static,
+) -> Side {
+    let order = input.order.clone();
+    Side::of(move || {
+        for (v, set) in values.iter().zip(&order) {
+            record(black_box(*v), black_box(handles[*set]));
+        }
+    })
+}
+
+/// The handles of a filled map's sets.
+fn bound(directory: &mut Directory, input: &Input) -> Vec<u64> {
+    (1..=input.sets.len()).map(|x| directory.bind(x)).collect()
 }
 
 pub fn by_set(input: Input) -> Side {
     let mut map = filled(&input);
-    let sets = pairs(&input);
-    Side::of(move || {
-        for (v, set) in input.values.iter().zip(&input.order) {
-            map.record(black_box(*v), black_box(&sets[*set]));
-        }
-    })
+    by_sets(&input, input.values.clone(), move |v, set| map.record(v, set))
 }
 
 pub fn by_handle(input: Input) -> Side {
     let mut map = filled(&input);
-    let handles: Vec<u64> = (1..=input.sets.len())
-        .map(|x| map.directory.bind(x))
-        .collect();
-    Side::of(move || {
-        for (v, set) in input.values.iter().zip(&input.order) {
-            map.record_by(black_box(*v), black_box(handles[*set]));
-        }
-    })
+    let handles = bound(&mut map.directory, &input);
+    by_handles(&input, input.values.clone(), handles, move |v, h| map.record_by(v, h))
+}
+
+pub fn whole_by_set(input: Input) -> Side {
+    let mut map = filled_wholes(&input);
+    by_sets(&input, inputs::wholes(&input.values), move |v, set| map.record(v, set))
+}
+
+pub fn whole_by_handle(input: Input) -> Side {
+    let mut map = filled_wholes(&input);
+    let handles = bound(&mut map.directory, &input);
+    by_handles(&input, inputs::wholes(&input.values), handles, move |v, h| map.record_by(v, h))
 }
 
 pub fn explicit(input: Input) -> Side {
     let mut map = explicit_map::Map::new();
-    let sets = pairs(&input);
-    Side::of(move || {
-        for (v, set) in input.values.iter().zip(&input.order) {
-            map.record(black_box(*v), black_box(&sets[*set]));
-        }
-    })
-}
-
-/// A map of sums with what comes first under every set.
-fn sums(input: &Input) -> sum_map::Map {
-    let mut map = sum_map::Map::new();
-    for set in pairs(input) {
-        for v in &input.first {
-            map.record(*v, &set);
-        }
-    }
-    map
+    by_sets(&input, input.values.clone(), move |v, set| map.record(v, set))
 }
 
 pub fn sum(input: Input) -> Side {
     let mut map = sums(&input);
-    let sets = pairs(&input);
-    Side::of(move || {
-        for (v, set) in input.values.iter().zip(&input.order) {
-            map.record(black_box(*v), black_box(&sets[*set]));
-        }
-    })
+    by_sets(&input, input.values.clone(), move |v, set| map.record(v, set))
 }
 
 pub fn sum_by_handle(input: Input) -> Side {
     let mut map = sums(&input);
-    let handles: Vec<u64> = (1..=input.sets.len())
-        .map(|x| map.directory.bind(x))
-        .collect();
-    Side::of(move || {
-        for (v, set) in input.values.iter().zip(&input.order) {
-            map.record_by(black_box(*v), black_box(handles[*set]));
-        }
-    })
+    let handles = bound(&mut map.directory, &input);
+    by_handles(&input, input.values.clone(), handles, move |v, h| map.record_by(v, h))
 }
 
 /// The memory of the last collection is used again; warm: there was one just before.
 pub fn delta(input: Input, warm: bool) -> Side {
     let sets = pairs(&input);
     let points = sets.len() as u64;
-    let lent = Rc::new(RefCell::new((Map::new(), Output::new())));
+    let lent = Rc::new(RefCell::new((Map::<f64>::new(), Output::new())));
     let collecting = lent.clone();
     Side {
         prepare: Box::new(move || {
             let (map, out) = &mut *lent.borrow_mut();
             if warm {
-                fill(map, &sets, &input.first);
+                fill(&sets, &input.first, |v, set| map.record(v, set));
                 map.delta(out);
             }
-            fill(map, &sets, &input.first);
+            fill(&sets, &input.first, |v, set| map.record(v, set));
         }),
         run: Box::new(move || {
             let (map, out) = &mut *collecting.borrow_mut();

@@ -5,7 +5,7 @@ use std::hint::black_box;
 use std::rc::Rc;
 
 use opentelemetry::KeyValue;
-use opentelemetry_sdk::door::{Aggregate, Bins, Kind, Row, Settings};
+use opentelemetry_sdk::door::{Aggregate, Bins, Kind, Measurement, Row, Settings};
 use opentelemetry_sdk::metrics::Temporality;
 
 use crate::cases::{Side, COLLECTIONS};
@@ -49,46 +49,60 @@ pub fn downscale(levels: u32) -> Side {
 
 pub fn by_set(input: Input) -> Side {
     let aggregate = exponential(Temporality::Delta);
-    let sets = key_values(&input);
-    fill(&aggregate, &sets, &input.first);
-    recording(aggregate, sets, input)
+    by_sets(aggregate, &input, &input.first, input.values.clone())
+}
+
+pub fn by_handle(input: Input) -> Side {
+    let aggregate = exponential(Temporality::Delta);
+    by_handles(aggregate, &input, &input.first, input.values.clone())
+}
+
+pub fn whole_by_set(input: Input) -> Side {
+    let [first, values] = [&input.first, &input.values].map(|list| inputs::wholes(list));
+    by_sets(exponential(Temporality::Delta), &input, &first, values)
+}
+
+pub fn whole_by_handle(input: Input) -> Side {
+    let [first, values] = [&input.first, &input.values].map(|list| inputs::wholes(list));
+    by_handles(exponential(Temporality::Delta), &input, &first, values)
 }
 
 pub fn explicit(input: Input) -> Side {
     let bounds = inputs::BOUNDS.to_vec();
     let aggregate = aggregate(Kind::Explicit { bounds }, Temporality::Delta);
-    recording(aggregate, key_values(&input), input)
+    by_sets(aggregate, &input, &[], input.values.clone())
 }
 
 pub fn sum(input: Input) -> Side {
     let aggregate = aggregate(Kind::Sum, Temporality::Delta);
-    let sets = key_values(&input);
-    fill(&aggregate, &sets, &input.first);
-    recording(aggregate, sets, input)
+    by_sets(aggregate, &input, &input.first, input.values.clone())
 }
 
-fn recording(aggregate: Aggregate<f64>, sets: Vec<Vec<KeyValue>>, input: Input) -> Side {
+pub fn sum_by_handle(input: Input) -> Side {
+    let aggregate = aggregate(Kind::Sum, Temporality::Delta);
+    by_handles(aggregate, &input, &input.first, input.values.clone())
+}
+
+/// What comes first under every set, and then every value by its set.
+fn by_sets<T: Measurement>(aggregate: Aggregate<T>, input: &Input, first: &[T], values: Vec<T>) -> Side {
+    let sets = key_values(input);
+    fill(&aggregate, &sets, first);
+    let order = input.order.clone();
     Side::of(move || {
-        for (v, set) in input.values.iter().zip(&input.order) {
+        for (v, set) in values.iter().zip(&order) {
             aggregate.record(black_box(*v), black_box(&sets[*set]));
         }
     })
 }
 
-pub fn by_handle(input: Input) -> Side {
-    bound(exponential(Temporality::Delta), input)
-}
-
-pub fn sum_by_handle(input: Input) -> Side {
-    bound(aggregate(Kind::Sum, Temporality::Delta), input)
-}
-
-fn bound(aggregate: Aggregate<f64>, input: Input) -> Side {
-    let sets = key_values(&input);
-    fill(&aggregate, &sets, &input.first);
+/// The same by its set's handle.
+fn by_handles<T: Measurement>(aggregate: Aggregate<T>, input: &Input, first: &[T], values: Vec<T>) -> Side {
+    let sets = key_values(input);
+    fill(&aggregate, &sets, first);
     let bindings: Vec<_> = sets.iter().map(|set| aggregate.bind(set)).collect();
+    let order = input.order.clone();
     Side::of(move || {
-        for (v, set) in input.values.iter().zip(&input.order) {
+        for (v, set) in values.iter().zip(&order) {
             bindings[*set].record(black_box(*v));
         }
     })
@@ -96,7 +110,7 @@ fn bound(aggregate: Aggregate<f64>, input: Input) -> Side {
 
 /// The memory of the last collection is used again; warm: there was one just before.
 pub fn delta(input: Input, warm: bool) -> Side {
-    let aggregate = Rc::new(exponential(Temporality::Delta));
+    let aggregate = Rc::new(exponential::<f64>(Temporality::Delta));
     let sets = key_values(&input);
     let points = sets.len();
     let collected = Rc::new(RefCell::new(aggregate.collect()));
@@ -117,7 +131,7 @@ pub fn delta(input: Input, warm: bool) -> Side {
 }
 
 pub fn cumulative(input: Input) -> Side {
-    let aggregate = exponential(Temporality::Cumulative);
+    let aggregate = exponential::<f64>(Temporality::Cumulative);
     let sets = key_values(&input);
     fill(&aggregate, &sets, &input.first);
     let mut collected = aggregate.collect();
@@ -131,7 +145,7 @@ pub fn cumulative(input: Input) -> Side {
     })
 }
 
-fn fill(aggregate: &Aggregate<f64>, sets: &[Vec<KeyValue>], first: &[f64]) {
+fn fill<T: Measurement>(aggregate: &Aggregate<T>, sets: &[Vec<KeyValue>], first: &[T]) {
     for set in sets {
         for v in first {
             aggregate.record(*v, set);
@@ -139,7 +153,7 @@ fn fill(aggregate: &Aggregate<f64>, sets: &[Vec<KeyValue>], first: &[f64]) {
     }
 }
 
-fn exponential(temporality: Temporality) -> Aggregate<f64> {
+fn exponential<T: Measurement>(temporality: Temporality) -> Aggregate<T> {
     let kind = Kind::Exponential {
         max_size: inputs::MAX_SIZE,
         max_scale: inputs::MAX_SCALE,
@@ -147,7 +161,7 @@ fn exponential(temporality: Temporality) -> Aggregate<f64> {
     aggregate(kind, temporality)
 }
 
-fn aggregate(kind: Kind, temporality: Temporality) -> Aggregate<f64> {
+fn aggregate<T: Measurement>(kind: Kind, temporality: Temporality) -> Aggregate<T> {
     Aggregate::new(Settings {
         kind,
         temporality,

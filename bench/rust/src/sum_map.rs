@@ -40,6 +40,7 @@ impl Map {
         }
     }
 
+    #[inline(always)]
     pub fn record(&mut self, v: f64, attrs: &[[u32; 2]]) {
         let d = &mut self.directory;
         let no = unsafe {
@@ -57,6 +58,7 @@ impl Map {
         assert_eq!(no, 0);
     }
 
+    #[inline(always)]
     pub fn record_by(&mut self, v: f64, handle: u64) {
         let d = &mut self.directory;
         let no = unsafe {

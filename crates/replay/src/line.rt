@@ -20,7 +20,7 @@ pub const END: u8 = 1;
 
 // The kind of field k of a line, 0 behind the last; field 0 is the letter:
 //     u a u64, w a u32, h a handle, p a kept point; U, W likewise or `-`; s a scale, 128 above it, or `-`
-//     x bits, v the number or the bits that a cell is set to; H the birth number of a handle; of a set (a) or a list (g, f) how many are there
+//     x a value: its bits, or an i64's two's complement; v the number or the bits that a cell is set to; H the birth number of a handle; of a set (a) or a list (g, f) how many are there
 //     one byte: D of any store, K of a kind, F of a number kind, `-` itself, T of a temporality, S of a switch
 fn kind_of(letter: u8, k: usize) -> u8 {
     match letter {
@@ -101,13 +101,38 @@ fn scale_of(line: &[u8], k: usize) -> Natural {
     at_most(128 + size, 255)
 }
 
-// What a cell is set to: bits where the store holds f64.
-fn cell_of(line: &[u8], k: usize) -> Natural {
+// What a cell is set to: bits where the store holds f64; the minimum, maximum and sum of a map over i64 are not.
+fn cell_of(line: &[u8], k: usize, kind: u8) -> Natural {
     let store = byte_of(line, 1);
+    if store == b'm' && replay_state::is_whole(kind) {
+        return text::decimal_at(line, k);
+    }
     if text::end(b"mbBl", 0, store) < 4 {
         return text::bits_at(line, k);
     }
     text::decimal_at(line, k)
+}
+
+// The two's complement of a decimal i64.
+fn whole_at(line: &[u8], k: usize) -> Natural {
+    let Integer::Is(negative, size) = text::signed_at(line, k) else {
+        return Natural::None;
+    };
+    if !negative {
+        return at_most(size, 0x7FFF_FFFF_FFFF_FFFF);
+    }
+    if size == 0 || 0x8000_0000_0000_0000 < size {
+        return Natural::None;
+    }
+    Natural::Is(u64::MAX - (size - 1))
+}
+
+// A value, of the number kind that was configured.
+fn value_at(line: &[u8], k: usize, kind: u8) -> Natural {
+    if replay_state::is_whole(kind) {
+        return whole_at(line, k);
+    }
+    text::bits_at(line, k)
 }
 
 fn plain(line: &[u8], k: usize, kind: u8) -> Natural {
@@ -119,14 +144,12 @@ fn plain(line: &[u8], k: usize, kind: u8) -> Natural {
         b'U' => optional(line, k, u64::MAX),
         b'W' => optional(line, k, 0xFFFF_FFFF),
         b's' => scale_of(line, k),
-        b'x' => text::bits_at(line, k),
         b'D' => Natural::Is(byte_of(line, k) as u64),
         b'K' => one_of(line, k, b"exsl"),
-        b'F' => one_of(line, k, b"f"),
+        b'F' => one_of(line, k, b"fi"),
         b'-' => one_of(line, k, b"-"),
         b'T' => one_of(line, k, b"dcl"),
         b'S' => one_of(line, k, b"01"),
-        b'v' => cell_of(line, k),
         _ => Natural::Is(0),
     }
 }
@@ -221,6 +244,8 @@ fn value(
         b'a' => set(line, attrs),
         b'g' | b'f' => waiting(kind, line, s, bounds, keys),
         b'H' => birth(s, number(line, k, 99)),
+        b'x' => value_at(line, k, s.kind),
+        b'v' => cell_of(line, k, s.kind),
         _ => plain(line, k, kind),
     }
 }
@@ -247,11 +272,19 @@ fn take(
     true
 }
 
-// Whether an `n` has the fields of its kind, of which only `e` has a size and a scale, and a call of a map comes after an accepted `n`.
-fn is_form(letter: u8, kind: u8, f: &Fields) -> bool {
+// Whether an `n` has the fields of its kind, of which only `e` has a size and a scale, and only `e` and `x` a number kind `i`.
+fn is_kind(f: &Fields) -> bool {
     let sized = f[1] == 101;
+    if f[2] == 105 && !sized && f[1] != 120 {
+        return false;
+    }
+    sized == (f[3] != u64::MAX) && sized == (f[4] != u64::MAX)
+}
+
+// Whether an `n` has the fields of its kind, and a call of a map comes after an accepted `n`.
+fn is_form(letter: u8, kind: u8, f: &Fields) -> bool {
     match letter {
-        b'n' => sized == (f[3] != u64::MAX) && sized == (f[4] != u64::MAX),
+        b'n' => is_kind(f),
         b'r' | b'h' | b'c' | b'b' | b'u' => kind != 0,
         _ => true,
     }
@@ -280,12 +313,24 @@ fn unread(s: State) -> State {
     after::refused(bare(s, NONE), UNREAD)
 }
 
+// The kind that an `n` asks for, over i64 its capital letter.
+fn kind_in(f: &Fields) -> u8 {
+    let kind = byte(f[1]);
+    if f[2] == 105 && 32 <= kind {
+        return kind - 32;
+    }
+    kind
+}
+
 // A line of a letter with its fields, and what it says for lines behind it.
 fn told(s: State, letter: u8, f: Fields) -> State {
     let mut next = bare(s, letter);
     next.f = f;
     match letter {
-        b'n' => next.of = byte(f[1]),
+        b'n' => {
+            next.of = kind_in(&f);
+            next.f[1] = next.of as u64;
+        }
         b'r' | b'h' | b'c' | b'b' | b'u' => next.of = s.kind,
         b'g' => next.next_bounds = f[1],
         b'f' => {

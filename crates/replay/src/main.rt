@@ -1,6 +1,6 @@
 // Replays call scripts and prints their answers: docs/REPLAY.md has the language.
 //
-// Kinds `e`, `x`, `s` and `l` of f64. Every script has stores of its own, so a new one finds them fresh.
+// Kinds `e`, `x`, `s` and `l` of f64, `e` and `x` of i64. Every script has stores of its own, so a new one finds them fresh.
 mod line;
 mod show;
 
@@ -13,6 +13,75 @@ use replay_cells::kept;
 use replay_state::State;
 use replay_state::stores;
 
+// The calls of a map over i64.
+fn make_wholes(
+    s: State,
+    attrs: &Attributes,
+    bounds: &mut stores::Bounds,
+    sets: &mut stores::Sets,
+    entries: &mut stores::Entries,
+    order: &mut stores::Order,
+    figures: &mut stores::Figures,
+    wholes: &mut stores::Wholes,
+    pos: &mut stores::Counts,
+    neg: &mut stores::Others,
+    out_sets: &mut stores::ListedSets,
+    out_words: &mut stores::ListedWords,
+    out_pos: &mut stores::ListedCounts,
+    out_neg: &mut stores::ListedCounts,
+) -> State {
+    let a = replay_exponential_wholes::follow(
+        s,
+        attrs,
+        sets,
+        entries,
+        order,
+        figures,
+        wholes,
+        pos,
+        neg,
+    );
+    let b = replay_exponential_wholes::collect(
+        a,
+        sets,
+        entries,
+        order,
+        figures,
+        wholes,
+        pos,
+        neg,
+        out_sets,
+        out_words,
+        out_pos,
+        out_neg,
+    );
+    let c = replay_explicit_wholes::follow(
+        b,
+        attrs,
+        bounds,
+        sets,
+        entries,
+        order,
+        wholes,
+        pos,
+        neg,
+    );
+    replay_explicit_wholes::collect(
+        c,
+        bounds,
+        sets,
+        entries,
+        order,
+        wholes,
+        pos,
+        neg,
+        out_sets,
+        out_words,
+        out_pos,
+        out_neg,
+    )
+}
+
 // Makes what a line asks for: each call here follows the lines that are its own, and leaves the others.
 fn make(
     s: State,
@@ -23,6 +92,7 @@ fn make(
     order: &mut stores::Order,
     figures: &mut stores::Figures,
     extremes: &mut stores::Extremes,
+    wholes: &mut stores::Wholes,
     pos: &mut stores::Counts,
     neg: &mut stores::Others,
     out_sets: &mut stores::ListedSets,
@@ -62,8 +132,35 @@ fn make(
     );
     let e = replay_singles::follow(d, attrs, bounds, sets, entries, order);
     let f = replay_singles::collect(e, bounds, sets, entries, order, out_sets, out_pos);
-    let g = kept::follow(f, bounds, out_sets, out_words, out_pos, out_neg);
-    damage::set(g, bounds, sets, entries, order, figures, extremes, pos, neg)
+    let g = make_wholes(
+        f,
+        attrs,
+        bounds,
+        sets,
+        entries,
+        order,
+        figures,
+        wholes,
+        pos,
+        neg,
+        out_sets,
+        out_words,
+        out_pos,
+        out_neg,
+    );
+    let h = kept::follow(g, bounds, out_sets, out_words, out_pos, out_neg);
+    damage::set(
+        h,
+        bounds,
+        sets,
+        entries,
+        order,
+        figures,
+        extremes,
+        wholes,
+        pos,
+        neg,
+    )
 }
 
 // Whether a script has a line behind one of a letter.
@@ -80,10 +177,11 @@ fn script(ports: Ports, block: &mut Block, line: &mut Line, text: &mut Block) ->
     let mut order = [0u32; 66];
     let mut figures = [[0u64; 8]; 66];
     let mut extremes = [[0.0f64; 3]; 66];
+    let mut wholes = [[0i64; 3]; 66];
     let mut pos = [0u64; 10560];
     let mut neg = [0u64; 10626];
     let mut out_sets = [[0u64; 9]; 74];
-    let mut out_words = [[2u64; 12]; 74];
+    let mut out_words = [[4u64; 12]; 74];
     let mut out_pos = [0u64; 11840];
     let mut out_neg = [0u64; 11840];
     let mut now = ports;
@@ -101,6 +199,7 @@ fn script(ports: Ports, block: &mut Block, line: &mut Line, text: &mut Block) ->
             &mut order,
             &mut figures,
             &mut extremes,
+            &mut wholes,
             &mut pos,
             &mut neg,
             &mut out_sets,
@@ -130,6 +229,7 @@ fn script(ports: Ports, block: &mut Block, line: &mut Line, text: &mut Block) ->
             &order,
             &figures,
             &extremes,
+            &wholes,
             &pos,
             &neg,
             &out_sets,

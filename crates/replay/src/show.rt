@@ -43,10 +43,9 @@ fn listed<'a>(
         return printing::values(text, n, s.told, s.f[1], s.listed, sets, pos);
     }
     let own = lent::bounds_in(bounds, 2, 200);
-    printing::collection(
+    whole_printing::collection(
         text,
         n,
-        printing::Form::Point,
         s.told,
         s.f[1],
         s.listed,

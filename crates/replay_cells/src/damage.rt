@@ -68,6 +68,17 @@ fn in_state(s: State, cell: u64, n: u64) -> State {
     next
 }
 
+// Sets a minimum, a maximum or a sum: an i64 by its two's complement where the configured number kind is that.
+fn numbers(s: State, extremes: &mut stores::Extremes, wholes: &mut stores::Wholes) {
+    let i = within(s.f[2], 65);
+    let k = within(s.f[3], 2);
+    if replay_state::is_whole(s.kind) {
+        wholes[i][k] = integers::of_bits(s.f[4]);
+    } else {
+        extremes[i][k] = floats::of_bits(s.f[4]);
+    }
+}
+
 // Follows a line that damages the map, or the state.
 pub fn set(
     s: State,
@@ -77,6 +88,7 @@ pub fn set(
     order: &mut stores::Order,
     figures: &mut stores::Figures,
     extremes: &mut stores::Extremes,
+    wholes: &mut stores::Wholes,
     pos: &mut stores::Counts,
     neg: &mut stores::Others,
 ) -> State {
@@ -95,7 +107,7 @@ pub fn set(
         b'e' => entries[within(place, 65)][within(cell, 2)] = n,
         b'o' => order[within(place, 65)] = cut(n),
         b'f' => figures[within(place, 65)][within(cell, 7)] = n,
-        b'm' => extremes[within(place, 65)][within(cell, 2)] = floats::of_bits(n),
+        b'm' => numbers(s, extremes, wholes),
         b'p' => pos[within(place, 10559)] = n,
         b'n' => neg[within(place, 10559)] = n,
         b't' => neg[10560 + within(place, 65)] = n,

@@ -72,9 +72,18 @@ fn settled(s: State, bounds: &mut stores::Bounds, from: usize, to: usize) -> Sta
 
 // ---- keeping
 
+// The cursor behind a point of i64 values.
+fn behind_whole(at: Cursor, words: &[[u64; 12]], pos: &[u64], neg: &[u64]) -> Cursor {
+    let whole_listing::Found::Is(e) = whole_listing::read::point_at(at, words, pos, neg) else {
+        return at;
+    };
+    e.next
+}
+
+// The cursor behind a point of either number; the same where there is none.
 fn behind(at: Cursor, words: &[[u64; 12]], pos: &[u64], neg: &[u64]) -> Cursor {
     let Found::Is(e) = listing::read::point_at(at, words, pos, neg) else {
-        return at;
+        return behind_whole(at, words, pos, neg);
     };
     e.next
 }
@@ -127,13 +136,11 @@ fn keep(
 
 // ---- merging
 
-// Whether a point is kept there.
+// Whether a point is kept there: the one behind it lies elsewhere.
 fn is_kept(k: u64, words: &[[u64; 12]], pos: &[u64], neg: &[u64]) -> bool {
-    let found = listing::read::point_at(cursor(k), words, upto(pos, k), upto(neg, k));
-    match found {
-        Found::NoPoint => false,
-        Found::Is(e) => true,
-    }
+    let at = cursor(k);
+    let next = behind(at, words, upto(pos, k), upto(neg, k));
+    at.place < next.place
 }
 
 // Whether there are the two points that a line merges.
@@ -268,10 +275,9 @@ pub fn printed<'a>(
     pos: &'a [u64],
     neg: &'a [u64],
 ) -> usize {
-    let done = printing::point(
+    let done = whole_printing::point(
         text,
         n,
-        printing::Form::Point,
         cursor(k),
         sets,
         words,

@@ -7,16 +7,20 @@ use replay_state::State;
 use replay_state::stores;
 use replay_state::within;
 
-// The store of checksum i, by its letter in a line `d`; the output's sets are `S`.
-fn store_of(i: usize) -> u8 {
+// The store of checksum i, by its letter in a line `d`; the output's sets are `S`. The last is of the values of sums and last values, or of the
+// rows of i64s, `i`.
+fn store_of(i: usize, kind: u8) -> u8 {
+    if replay_state::is_whole(kind) {
+        return text::byte_at(b"seofmpntSwPNi", i);
+    }
     text::byte_at(b"seofmpntSwPNl", i)
 }
 
-// How many checksums a map of a kind has: only sums and last values have the last.
+// How many checksums a map of a kind has: those of f64 histograms have no last one.
 fn sums_of(kind: u8) -> usize
     ensures { λ r. ⌜ r ≤ 13 ⌝ }
 {
-    if replay_state::is_single(kind) {
+    if replay_state::is_single(kind) || replay_state::is_whole(kind) {
         return 13;
     }
     12
@@ -26,7 +30,7 @@ fn sums_of(kind: u8) -> usize
 fn cells(store: u8) -> usize {
     match store {
         b's' => 594,
-        b'e' | b'm' => 198,
+        b'e' | b'm' | b'i' => 198,
         b'o' | b't' | b'l' => 66,
         b'f' => 528,
         b'p' | b'n' => 10560,
@@ -49,7 +53,16 @@ fn bits(row: [f64; 3], i: usize) -> u64 {
     }
 }
 
-// The cell of a store at a place, counted through; its bits where it is an f64.
+// The two's complement of an i64 of a row.
+fn whole_bits(row: [i64; 3], i: usize) -> u64 {
+    match i {
+        0 => integers::bits_of(row[0]),
+        1 => integers::bits_of(row[1]),
+        _ => integers::bits_of(row[2]),
+    }
+}
+
+// The cell of a store at a place, counted through; its bits where it is an f64 or an i64.
 fn cell(
     store: u8,
     i: usize,
@@ -58,6 +71,7 @@ fn cell(
     order: &stores::Order,
     figures: &stores::Figures,
     extremes: &stores::Extremes,
+    wholes: &stores::Wholes,
     pos: &stores::Counts,
     neg: &stores::Others,
     out_sets: &stores::ListedSets,
@@ -73,6 +87,7 @@ fn cell(
         b'o' => wide(order[within(k, 65)]),
         b'f' => figures[within(k / 8, 65)][i % 8],
         b'm' => bits(extremes[within(k / 3, 65)], i % 3),
+        b'i' => whole_bits(wholes[within(k / 3, 65)], i % 3),
         b'p' => pos[within(k, 10559)],
         b'n' => neg[within(k, 10559)],
         b't' => neg[10560 + within(k, 65)],
@@ -98,6 +113,7 @@ fn sum(
     order: &stores::Order,
     figures: &stores::Figures,
     extremes: &stores::Extremes,
+    wholes: &stores::Wholes,
     pos: &stores::Counts,
     neg: &stores::Others,
     out_sets: &stores::ListedSets,
@@ -118,6 +134,7 @@ fn sum(
             order,
             figures,
             extremes,
+            wholes,
             pos,
             neg,
             out_sets,
@@ -151,6 +168,7 @@ pub fn shown(
     order: &stores::Order,
     figures: &stores::Figures,
     extremes: &stores::Extremes,
+    wholes: &stores::Wholes,
     pos: &stores::Counts,
     neg: &stores::Others,
     out_sets: &stores::ListedSets,
@@ -167,12 +185,13 @@ pub fn shown(
     let mut i: usize = 0;
     while i < sums {
         let x = sum(
-            store_of(i),
+            store_of(i, s.kind),
             sets,
             entries,
             order,
             figures,
             extremes,
+            wholes,
             pos,
             neg,
             out_sets,

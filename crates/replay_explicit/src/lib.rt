@@ -18,7 +18,7 @@ use replay_state::lent;
 
 // ---- every line but collections
 
-fn configured(s: State, reply: Configured) -> State
+pub fn configured(s: State, reply: Configured) -> State
     ensures { λ r. ⌜ r ≡ configuredBy (said reply) s ⌝ }
 {
     match reply {
@@ -156,7 +156,7 @@ pub fn follow(
 
 // ---- collections. What lies behind a collection's part of the output is the kept points'
 
-fn settings(s: State) -> Settings
+pub fn settings(s: State) -> Settings
     ensures { λ r. ⌜ r ≡ record { extremes = s .extremes; sums = s .sums; limit = s .limit } ⌝ }
 {
     Settings {

@@ -20,7 +20,7 @@ use replay_state::lent;
 
 // The scale of a number 128 above it. It has the bin of the finest level that lies as far above it: so nothing signed is reckoned with
 // here.
-fn scale_of(n: u64) -> i32
+pub fn scale_of(n: u64) -> i32
     ensures { λ r. ⌜ r ≡ scaleIn n ⌝ }
 {
     let bin = replay_state::cut(2097152 - 128 + n % 256);
@@ -31,7 +31,7 @@ fn scale_of(n: u64) -> i32
     }
 }
 
-fn configured(s: State, reply: Configured) -> State
+pub fn configured(s: State, reply: Configured) -> State
     ensures { λ r. ⌜ r ≡ configuredBy (said reply) s ⌝ }
 {
     match reply {
@@ -179,7 +179,7 @@ pub fn follow(
 
 // ---- collections. What lies behind a collection's part of the output is the kept points'.
 
-fn settings(s: State) -> Settings
+pub fn settings(s: State) -> Settings
     ensures { λ r. ⌜ r ≡ record { size = s .size; top = s .top; extremes = s .extremes; sums = s .sums; limit = s .limit } ⌝ }
 {
     Settings {

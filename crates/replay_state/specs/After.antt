@@ -15,6 +15,10 @@ use Rattle.replay_state.specs.declared.State.{State}
 abbrev pub single : ℕ → Bool
 single kind = eqb kind 115 || eqb kind 108
 
+-- whether it is that of a kind over i64, `E` or `X`, as lines are read
+abbrev pub whole : ℕ → Bool
+whole kind = eqb kind 69 || eqb kind 88
+
 -- field k of the line that is followed
 abbrev pub field : State → ℕ → ℕ
 field s k = getD (s .f) k 0

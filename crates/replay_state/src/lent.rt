@@ -44,6 +44,13 @@ pub fn extremes<'a>(xs: &'a mut [[f64; 3]], n: u64) -> &'a mut [[f64; 3]]
     &mut xs[0..e]
 }
 
+pub fn wholes<'a>(xs: &'a mut [[i64; 3]], n: u64) -> &'a mut [[i64; 3]]
+    ensures { λ r. ⌜ now r ≡ take n (now (xs .entry)) ⌝ }
+{
+    let e = within(n, xs.len());
+    &mut xs[0..e]
+}
+
 pub fn words<'a>(xs: &'a mut [[u64; 12]], n: u64) -> &'a mut [[u64; 12]]
     ensures { λ r. ⌜ now r ≡ take n (now (xs .entry)) ⌝ }
 {
@@ -107,6 +114,13 @@ pub fn figures_in<'a>(xs: &'a [[u64; 8]], n: u64) -> &'a [[u64; 8]]
 }
 
 pub fn extremes_in<'a>(xs: &'a [[f64; 3]], n: u64) -> &'a [[f64; 3]]
+    ensures { λ r. ⌜ now r ≡ take n (now (xs .entry)) ⌝ }
+{
+    let e = within(n, xs.len());
+    &xs[0..e]
+}
+
+pub fn wholes_in<'a>(xs: &'a [[i64; 3]], n: u64) -> &'a [[i64; 3]]
     ensures { λ r. ⌜ now r ≡ take n (now (xs .entry)) ⌝ }
 {
     let e = within(n, xs.len());

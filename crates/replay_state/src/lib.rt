@@ -1,6 +1,6 @@
 // What a script holds beside its stores; what the crates of the program `replay` share (docs/REPLAY.md).
 ghost use mathlib.Core.Path.{_≡_};
-ghost use Rattle.replay_state.specs.After.{single};
+ghost use Rattle.replay_state.specs.After.{single, whole};
 ghost use Prim.Native.Nat.{min, _%_};
 use directory::Directory;
 
@@ -17,8 +17,8 @@ pub type Fields = [u64; 11];
 
 // The line that is followed, the kind whose call it makes, 0 where it makes none, and what it comes to: `no` is 0 where it is accepted,
 // document 01's number, or UNREAD; `told` the birth number of a binding or the start of a collection. What was configured, where `kind` is
-// `e`, `x`, `s`, `l`, or 0 before any accepted `n`; the map's and the clock's state, and the handles; what waits for the next `n`; how many
-// counts and entries are lent; how many points the last collection has, and the kind that they are of.
+// `e`, `x`, `s`, `l`, over i64 `E` or `X`, or 0 before any accepted `n`; the map's and the clock's state, and the handles; what waits for the
+// next `n`; how many counts and entries are lent; how many points the last collection has, and the kind that they are of.
 pub struct State {
     pub letter: u8,
     pub of: u8,
@@ -100,6 +100,13 @@ pub fn is_single(kind: u8) -> bool
     ensures { λ r. ⌜ r ≡ single kind ⌝ }
 {
     kind == b's' || kind == b'l'
+}
+
+// Whether a series of a kind is over i64.
+pub fn is_whole(kind: u8) -> bool
+    ensures { λ r. ⌜ r ≡ whole kind ⌝ }
+{
+    kind == b'E' || kind == b'X'
 }
 
 // The lesser of a number and a most.

@@ -12,6 +12,8 @@ pub type Figures = [[u64; 8]; 66];
 
 pub type Extremes = [[f64; 3]; 66];
 
+pub type Wholes = [[i64; 3]; 66];
+
 pub type Counts = [u64; 10560];
 
 // Negative counts, and behind them the totals of the explicit kind, which has no negative counts.

@@ -5,10 +5,10 @@ use Rattle.replay_cells.proofs.sums.shown.Statement.{statement}
 use Rattle.replay_cells.proofs.sums.shown.Tie as tie
 
 abbrev Inv-loop : tie.InvT-loop
-Inv-loop text₀ n sets entries order figures extremes pos neg out-sets out-words out-pos out-neg bounds sums m₀ i₀ text m i = i ≤ sums
+Inv-loop text₀ n s sets entries order figures extremes wholes pos neg out-sets out-words out-pos out-neg bounds sums m₀ i₀ text m i = i ≤ sums
 
 abbrev μ-loop : tie.MeasureT-loop
-μ-loop text₀ n sets entries order figures extremes pos neg out-sets out-words out-pos out-neg bounds sums m₀ i₀ text m i = sums - i
+μ-loop text₀ n s sets entries order figures extremes wholes pos neg out-sets out-words out-pos out-neg bounds sums m₀ i₀ text m i = sums - i
 
 pub shown-spec : {M : Type 1} → statement M
 shown-spec =

@@ -5,10 +5,10 @@ use Rattle.replay_cells.proofs.sums.sum.Statement.{statement}
 use Rattle.replay_cells.proofs.sums.sum.Tie as tie
 
 abbrev Inv-loop : tie.InvT-loop
-Inv-loop store sets entries order figures extremes pos neg out-sets out-words out-pos out-neg bounds n sum₀ i₀ sum i = i ≤ n
+Inv-loop store sets entries order figures extremes wholes pos neg out-sets out-words out-pos out-neg bounds n sum₀ i₀ sum i = i ≤ n
 
 abbrev μ-loop : tie.MeasureT-loop
-μ-loop store sets entries order figures extremes pos neg out-sets out-words out-pos out-neg bounds n sum₀ i₀ sum i = n - i
+μ-loop store sets entries order figures extremes wholes pos neg out-sets out-words out-pos out-neg bounds n sum₀ i₀ sum i = n - i
 
 pub sum-spec : {M : Type 1} → statement M
 sum-spec =

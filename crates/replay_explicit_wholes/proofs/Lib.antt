@@ -1,0 +1,2 @@
+-- The laws of `replay_explicit_wholes`.
+pub mod Calls

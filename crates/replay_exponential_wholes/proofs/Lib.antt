@@ -1,0 +1,2 @@
+-- The laws of `replay_exponential_wholes`.
+pub mod Calls

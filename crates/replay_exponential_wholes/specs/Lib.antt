@@ -1,0 +1,3 @@
+-- The definitions that the contracts of `replay_exponential_wholes` cite.
+pub mod Followed
+pub mod Collected

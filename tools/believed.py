@@ -11,18 +11,26 @@ CALLS = """exponential_collection lib configure delta cumulative
 explicit_collection lib configure delta cumulative
 value_map exponential_map start measure measure_by
 value_map explicit_map start measure measure_by
+exponential_whole_collection lib configure delta cumulative
+explicit_whole_collection lib configure delta cumulative
+whole_map exponential_map start measure measure_by
+whole_map explicit_map start measure measure_by
 singles lib configure delta cumulative
 singles map measure measure_by
 bindings lib start bind release
 exponential lib record
 explicit lib fresh record
+exponential_wholes lib record
+explicit_wholes lib fresh record
 point lib merge
+whole_point lib merge mixed_number alone_number
 point signed scale offset sum_bits
-mean lib hundredths
+mean lib hundredths whole_hundredths
 pooling lib merge_at
 sheet_writing lib write
 sheet_reading lib read
 listing read point_at row_at bounds_at
+whole_listing read point_at
 clock lib after_delta at_cumulative turn held
 index lib get_bin
 index signed get_index"""

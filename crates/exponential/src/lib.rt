@@ -297,7 +297,8 @@ pub fn count_in(size: u32, top: u32, head: Head, pos: &mut [u64], neg: &mut [u64
 {
     let c = head.counts;
     let class = adding::class_of(v, c.level);
-    adding::add(size as usize, top, c, pos, neg, class)
+    let more = adding::add(size as usize, top, c, pos, neg, class);
+    more
 }
 
 // Records a value into the series and returns its head then, or refuses it: 12 where a row lent is too short, 6 where the value is not

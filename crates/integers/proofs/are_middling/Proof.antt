@@ -15,8 +15,7 @@ test z = between (negsuc 4611686018427387903) z (pos 4611686018427387904)
 returns : tie.Need-returns
 returns c h =
     let b = c .before .before in
-    let s = b .before in
-    (
+    let s = b .before in (
       middling 4611686018427387904 (s .args .a) (lit< tt) (sym (b .is-between .ensures ∙ ap test (held (s .args .a) (s .fits .a))) ∙ c .before .if1 .taken),
       middling 4611686018427387904 (s .args .v) (lit< tt) (sym (c .is-between2 .ensures ∙ ap test (held (s .args .v) (s .fits .v))) ∙ h),
     )

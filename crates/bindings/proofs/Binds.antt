@@ -24,7 +24,7 @@ use Rattle.directory.specs.declared.Target.{Target}
 use Rattle.directory.specs.declared.Target.the-variants.{Disagrees, Old, New, Over}
 use Rattle.directory.proofs.Admits.{room-rank, admit-put}
 use Rattle.directory.proofs.Laws.{slotsOf, few, slot-used, ascends, rebind-put}
-use Rattle.directory.proofs.Located.{Facts, facts, over-set, room-new, room-over, sought-held, place-held, place-over-held, place-new, place-over}
+use Rattle.directory.proofs.Located.{Facts, facts, located-no, over-set, room-new, room-over, sought-held, place-held, place-over-held, place-new, place-over}
 use Rattle.directory.proofs.Rises.{In}
 use Rattle.bindings.specs.Calls.{mapAnswer, refused, Outcome, boundAt, bornBound, boundIn, heldBound}
 use Rattle.bindings.proofs.Releases.{Steps}
@@ -142,6 +142,9 @@ module _ (K : Kind) (f : ℕ → K .Series) (z : K .Settings) where
 pub bound-at : (limit : ℕ) (d : Directory) (s : Stores) (row : List ℕ) (t : Target) → located limit d s row ≡ t → boundIn limit d s row ≡ boundAt d s row t
 unfolding boundIn
 bound-at limit d s row t e = ap (boundAt d s row) e
+
+pub bind-no : (limit : ℕ) (d : Directory) (s : Stores) (row : List ℕ) → agreesb limit d s ≡ false → boundIn limit d s row ≡ refused 8 d s
+bind-no limit d s row g = bound-at limit d s row Disagrees (located-no limit d s row g)
 
 module _ (d : Directory) (s : Stores) where
   module _ (x : ℕ) where

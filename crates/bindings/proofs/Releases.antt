@@ -14,9 +14,31 @@ use Rattle.directory.specs.View.{Stores, agreesb, entryAt, view}
 use Rattle.directory.specs.declared.Directory.{Directory}
 use Rattle.directory.specs.declared.Found.{Found}
 use Rattle.directory.specs.declared.Found.the-variants.{Held, Room}
+use Rattle.directory.proofs.Finds.{scan-bound}
 use Rattle.directory.proofs.Laws.{slotsOf, named-scan, entryOf, rebind-put, ascends, few, scan-in, slot-used}
 use Rattle.bindings.specs.Calls.{mapAnswer, releasedIn, releasedAt, refused, Outcome}
+use Rattle.bindings.specs.Inner.{Bound}
 use Rattle.laws.specs.Pick.{pick}
+
+-- the cases of a release
+module _ (limit : ℕ) (d : Directory) (s : Stores) (h : ℕ) where
+  pub release-no : agreesb limit d s ≡ false → releasedIn limit d s h ≡ refused 8 d s
+  unfolding releasedIn pick
+  release-no g = rw g
+
+  module _ (g : agreesb limit d s ≡ true) (o : Found) (e : scan h (s .entries) (slotsOf d s) ≡ o) where
+    pub release-at : releasedIn limit d s h ≡ releasedAt d s o
+    unfolding releasedIn pick
+    release-at = rw (g, e)
+
+-- what a handle is found to name is there and has a binding
+pub bound-there : (limit : ℕ) (d : Directory) (s : Stores) (h : ℕ) → agreesb limit d s ≡ true → limit + 2 ≤ length (s .entries)
+    → (o : Found) → scan h (s .entries) (slotsOf d s) ≡ o → Bound (s .entries) o
+bound-there limit d s h g l (Room r) e = tt
+bound-there limit d s h g l (Held x) e = (
+  omega (arith, l, few limit d s g, slot-used limit d s g x (scan-in h (s .entries) x (slotsOf d s) e)),
+  scan-bound h (s .entries) x (slotsOf d s) e,
+)
 
 module _ (K : Kind) (f : ℕ → K .Series) (z : K .Settings) where
   release-step : (c : Config K) (d : Directory) (s : Stores) (h : ℕ) → agreesb (c .limit) d s ≡ true → c .limit + 2 ≤ length (s .entries)
@@ -35,10 +57,6 @@ module _ (K : Kind) (f : ℕ → K .Series) (z : K .Settings) where
       let p = rebind-put K f s x (getD (getD (s .entries) x []) 1 0 - 1) (slotsOf d s) (ascends (c .limit) d s g) m (omega arith) in
       rw n (refl, ap (λ l. record { settings = z; count = d .count; last = d .last; entries = l }) p)
 
-  released-right : (limit : ℕ) (d : Directory) (s : Stores) (h : ℕ) → agreesb limit d s ≡ true → releasedIn limit d s h ≡ releasedAt d s (scan h (s .entries) (slotsOf d s))
-  unfolding releasedIn pick
-  released-right limit d s h g = rw g
-
   -- an outcome is the map's step: its answer, and the map that is then held
   abbrev pub Steps : Config K → Map K → Call K → Outcome → Type 0
   Steps c m x o = (mapAnswer K (o .answer) ≡ step K c m x .answer) × (view K f z (o .kept .dir) (o .kept .stores) ≡ step K c m x .map)
@@ -47,19 +65,4 @@ module _ (K : Kind) (f : ℕ → K .Series) (z : K .Settings) where
   pub release-faithful : (c : Config K) (d : Directory) (s : Stores) (h : ℕ) → agreesb (c .limit) d s ≡ true → c .limit + 2 ≤ length (s .entries)
       → Steps c (view K f z d s) (release h) (releasedIn (c .limit) d s h)
   release-faithful c d s h g r =
-      subst (λ o. Steps c (view K f z d s) (release h) o) (sym (released-right (c .limit) d s h g)) (release-step c d s h g r (scan h (s .entries) (slotsOf d s)) refl)
-
--- the cases of a release
-module _ (limit : ℕ) (d : Directory) (s : Stores) (h : ℕ) where
-  pub release-no : agreesb limit d s ≡ false → releasedIn limit d s h ≡ refused 8 d s
-  unfolding releasedIn pick
-  release-no g = rw g
-
-  module _ (g : agreesb limit d s ≡ true) where
-    pub release-none : (r : ℕ) → scan h (s .entries) (slotsOf d s) ≡ Room r → releasedIn limit d s h ≡ refused 7 d s
-    unfolding releasedIn pick
-    release-none r e = rw (g, e)
-
-    pub release-one : (x : ℕ) → scan h (s .entries) (slotsOf d s) ≡ Held x → releasedIn limit d s h ≡ releasedAt d s (Held x)
-    unfolding releasedIn pick
-    release-one x e = rw (g, e)
+      subst (λ o. Steps c (view K f z d s) (release h) o) (sym (release-at (c .limit) d s h g (scan h (s .entries) (slotsOf d s)) refl)) (release-step c d s h g r (scan h (s .entries) (slotsOf d s)) refl)

@@ -3,7 +3,9 @@ mod calls;
 
 ghost use mathlib.Core.Path.{_≡_};
 ghost use Rattle.sets.specs.Sorted.{given, filterOf};
+ghost use mathlib.Core.Option.{none};
 ghost use Rattle.bindings.specs.Calls.{gave, started, bound, released};
+ghost use Rattle.bindings.specs.Agreed.{Agreed};
 ghost use Rattle.directory.specs.View.{stores};
 use directory::Directory;
 
@@ -117,4 +119,47 @@ pub fn release(
         };
     }
     calls::release_in(limit, d, sets, entries, order, h)
+}
+
+// Requires a map known to agree. `bind` there: only 5 and 9 are left to ask.
+pub fn bind_agreed(
+    limit: u64,
+    d: Directory,
+    sets: &mut [[u64; 9]],
+    entries: &mut [[u64; 3]],
+    order: &mut [u32],
+    attrs: &[[u32; 2]],
+    present: bool,
+    filter: &[u32],
+) -> Reply
+    requires { ⌜ Agreed limit (filterOf present (now filter)) d (stores sets entries order) ⌝ }
+    ensures { λ r. ⌜ gave r (stores (sets .exit) (entries .exit) (order .exit))
+        ≡ bound limit (filterOf present (now (filter .entry))) d (stores (sets .entry) (entries .entry) (order .entry)) (given (now (attrs .entry))) ⌝ }
+{
+    if !sets::canon::few(attrs) {
+        return Reply {
+            answer: Answer::Refused(5),
+            dir: d,
+        };
+    }
+    let mut row: [u64; 9] = [0; 9];
+    sets::canon::sort_into(attrs, present, filter, &mut row);
+    calls::bind_right(limit, d, sets, entries, order, row)
+}
+
+// Requires a map known to agree. `release` there: only 7 is left to ask.
+pub fn release_agreed(
+    limit: u64,
+    d: Directory,
+    sets: &[[u64; 9]],
+    entries: &mut [[u64; 3]],
+    order: &[u32],
+    h: u64,
+) -> Reply
+    requires { ⌜ Agreed limit none d (stores sets entries order) ⌝ }
+    ensures { λ r. ⌜ gave r (stores (sets .entry) (entries .exit) (order .entry))
+        ≡ released limit d (stores (sets .entry) (entries .entry) (order .entry)) h ⌝ }
+{
+    let found = directory::find::by_birth(d, entries, order, h);
+    calls::free(d, entries, found)
 }

@@ -14,7 +14,7 @@ use Rattle.directory.specs.Calls.{overRow, scan, located}
 use Rattle.directory.specs.View.{Stores, birthAt, agreesb, sought}
 use Rattle.directory.specs.declared.Directory.{Directory}
 use Rattle.directory.specs.declared.Found.the-variants.{Held, Room}
-use Rattle.directory.specs.declared.Target.the-variants.{Disagrees, Old, New, Over}
+use Rattle.directory.specs.declared.Target.the-variants.{Old, New, Over}
 use Rattle.directory.proofs.Checks.{birth-named}
 use Rattle.laws.specs.Pick.{pick}
 
@@ -70,10 +70,6 @@ module _ (h : ℕ) (entries : List (List ℕ)) (x : ℕ) where
 
 -- where a call goes
 module _ (limit : ℕ) (d : Directory) (s : Stores) (row : List ℕ) where
-  pub located-no : agreesb limit d s ≡ false → located limit d s row ≡ Disagrees
-  unfolding located pick
-  located-no g = rw g
-
   module _ (g : agreesb limit d s ≡ true) where
     pub located-old : (x : ℕ) → sought (setOf row) (d .used) (s .sets) (s .order) ≡ Held x → located limit d s row ≡ Old x
     unfolding located pick

@@ -1,6 +1,6 @@
 -- BETWEEN OUR OWN CRATES: serves inner contracts and proofs; nobody needs it to believe the public calls or the theorems.
 -- The definitions of the crate's own functions. Assumes nothing.
-use Prim.Native.Nat.{ℕ, _-_, _≤_, _<_, Ordering·lt}
+use Prim.Native.Nat.{ℕ, _+_, _-_, _≤_, _<_, Ordering·lt}
 use mathlib.Core.Bool.{Bool, _&&_, true}
 use mathlib.Core.List.{List, [], _∷_}
 use lib.Bits.{bitOr, bitXor}
@@ -62,3 +62,13 @@ pub record Agreeing (d : Directory) (entries : List (List ℕ)) (order : List �
   pub limit : ℕ
   pub sets : List (List ℕ)
   pub right : agreesb limit d (record { sets = sets; entries = entries; order = order }) ≡ true
+
+-- birth numbers rise along the slots
+abbrev pub BirthsRise : ℕ → List (List ℕ) → Type 0
+BirthsRise used entries = (x : ℕ) → x < used → birthAt entries x < birthAt entries (x + 1)
+
+-- slot x is the last of those used that was born by the number h
+pub record LastBorn (h used : ℕ) (entries : List (List ℕ)) (x : ℕ) : Type 0 where
+  pub there : x ≤ used
+  pub born : birthAt entries x ≤ h
+  pub later : (y : ℕ) → x < y → y ≤ used → h < birthAt entries y

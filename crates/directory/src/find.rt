@@ -8,8 +8,8 @@ ghost use lib.ListN.{length, getD};
 ghost use Rattle.tally.specs.Sets.{cmp};
 ghost use Rattle.sets.specs.Rows.{span, size, setOf};
 ghost use Rattle.directory.specs.Calls.{located, scan};
-ghost use Rattle.directory.specs.View.{stores, birthAt, sought};
-ghost use Rattle.directory.specs.Inner.{Agreeing};
+ghost use Rattle.directory.specs.View.{stores, birthAt, sought, agreesb};
+ghost use Rattle.directory.specs.Inner.{Agreeing, BirthsRise, LastBorn};
 
 // Where a set stands in a directory whose places are right, by halving.
 fn find(used: usize, sets: &[[u64; 9]], order: &[u32], wanted: &[u64; 9]) -> crate::Found
@@ -103,8 +103,44 @@ pub fn by_handle(d: crate::Directory, entries: &[[u64; 3]], order: &[u32], h: u6
     by_places(used, entries, order, h)
 }
 
-// Where a call with a set goes: its own slot or a new one, that of overflow held or new; or `Disagrees`, which number 8 refuses.
-pub fn locate(
+// The last slot that was born by the number h: where birth numbers rise, the one that a handle h names, if any. By halving.
+fn born_by(used: usize, entries: &[[u64; 3]], h: u64) -> usize
+    requires { ⌜ (used < length (now entries)) × BirthsRise used (now entries) ⌝ }
+    ensures { λ r. ⌜ LastBorn h used (now (entries .entry)) r ⌝ }
+{
+    let mut low: usize = 0;
+    let mut high: usize = used + 1;
+    while low + 1 < high {
+        let mid = low + (high - low) / 2;
+        if entries[mid][0] <= h {
+            low = mid;
+        } else {
+            high = mid;
+        }
+    }
+    low
+}
+
+// Requires a directory known to agree, whose birth numbers rise along the slots. `by_handle` there: a slot that has moved is found by halving.
+pub fn by_birth(d: crate::Directory, entries: &[[u64; 3]], order: &[u32], h: u64) -> crate::Found
+    requires { ⌜ (d .used < length (now entries)) × Agreeing d (now entries) (now order) × BirthsRise (d .used) (now entries) ⌝ }
+    ensures { λ r. ⌜ r ≡ scan h (now (entries .entry)) (0 ∷ span (now (order .entry)) 0 (d .used)) ⌝ }
+{
+    let used = d.used;
+    let x = own_slot(used, entries, h);
+    if x > 0 {
+        return crate::Found::Held(x);
+    }
+    let y = born_by(used, entries, h);
+    let b = crate::write::birth_of(entries, y);
+    if names(b, entries[y][1], h) {
+        return crate::Found::Held(y);
+    }
+    crate::Found::Room(0)
+}
+
+// Where a call with a set goes in a directory that agrees: its own slot or a new one, that of overflow held or new.
+pub fn locate_agreed(
     limit: u64,
     d: crate::Directory,
     sets: &[[u64; 9]],
@@ -112,12 +148,10 @@ pub fn locate(
     order: &[u32],
     row: &[u64; 9],
 ) -> crate::Target
-    requires { ⌜ (limit + 2 ≤ length (now sets)) × (limit + 2 ≤ length (now entries)) × (limit + 2 ≤ length (now order)) × (size (now row) ≤ 8) ⌝ }
+    requires { ⌜ (limit + 2 ≤ length (now sets)) × (limit + 2 ≤ length (now entries)) × (limit + 2 ≤ length (now order)) × (size (now row) ≤ 8)
+        × (agreesb limit d (stores sets entries order) ≡ true) ⌝ }
     ensures { λ r. ⌜ r ≡ located limit d (stores (sets .entry) (entries .entry) (order .entry)) (now (row .entry)) ⌝ }
 {
-    if !crate::check::agrees(limit, d, sets, entries, order) {
-        return crate::Target::Disagrees;
-    }
     let used = d.used;
     match find(used, sets, order, row) {
         crate::Found::Held(x) => crate::Target::Old(x),

@@ -176,7 +176,7 @@ pub fn buckets_agree(bounds: &[f64], count: u64, counts: &[u64]) -> bool
 // ---- recording
 
 // One more in the bucket of v, if there are buckets.
-fn count_in(bounds: &[f64], counts: &mut [u64], v: f64)
+pub fn count_in(bounds: &[f64], counts: &mut [u64], v: f64)
     requires { ⌜ bucketCount (now bounds) ≤ length (now counts) ⌝ }
     requires { ⌜ total (take (bucketCount (now bounds)) (now counts)) < mostCount ⌝ }
     ensures { λ _. ⌜ now (counts .exit)

@@ -1,15 +1,19 @@
 -- What bars a recording before the directory is read, case by case; and the seating that is left. Assumes nothing.
-use Prim.Native.Nat.{ℕ, _≤_, _<_}
+use Prim.Native.Nat.{ℕ, _+_, _≤_, _<_}
 use mathlib.Core.Path.{_≡_, refl, ap, sym, _∙_}
 use mathlib.Core.Bool.{Bool, true, false, _&&_}
 use mathlib.Core.List.{List}
 use native.Mathlib.Omega.{arith}
 use lib.Dec.{leb, eqb}
+use lib.ListN.{length}
 use borrow.Author.Tests.{le-leb, lt-leb, leb-true, eq-eqb, ne-eqb, eqb-true, eqb-false}
 use Rattle.laws.specs.Pick.{pick}
 use Rattle.sets.specs.Sorted.{mostAttributes}
+use Rattle.directory.specs.View.{Stores}
+use Rattle.directory.specs.Calls.{storesSuffice}
+use Rattle.directory.specs.declared.Directory.{Directory}
 use Rattle.seats.specs.Seats.{away, barredBy, unlessBarred}
-use Rattle.seats.specs.Inner.{rowUnlessBarred}
+use Rattle.seats.specs.Inner.{barredAt, rowUnlessBarred, Sure}
 use Rattle.seats.specs.declared.Seating.{Seating}
 
 -- ---- two tests, one after another
@@ -74,6 +78,19 @@ unfolding barredBy numbered
 clear room fin n ok e =
     let p = passed room fin (leb n mostAttributes) ok e in
     record { room-is = p .0; value = p .1; few = leb-true n mostAttributes (p .2); ok-is = p .3 }
+
+-- ---- what is left to ask where the rest is known
+
+module _ (cells unset limit : ℕ) (d : Directory) (s : Stores) (ok : Bool) (k : Sure cells unset limit d s ok) where
+  pub sure-room : (storesSuffice limit s && leb (limit + 2) cells) ≡ true
+  sure-room =
+      rw (le-leb (limit + 2) (length (s .sets)) (k .sets), le-leb (limit + 2) (length (s .entries)) (k .entries), le-leb (limit + 2) (length (s .order)) (k .order), le-leb (limit + 2) cells (k .cells))
+
+  pub sure-ok : (eqb unset 0 && ok) ≡ true
+  sure-ok = both-are (eqb unset 0) ok (eq-eqb unset 0 (k .set)) (k .accepted)
+
+  pub sure-bar : (fin : Bool) (n : ℕ) → barredAt cells fin unset limit s n ok ≡ barredBy true fin n true
+  sure-bar fin n = λ j. barredBy (sure-room j) fin n (sure-ok j)
 
 -- ---- the seating that is left
 

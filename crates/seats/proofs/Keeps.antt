@@ -39,15 +39,15 @@ use Rattle.seats.proofs.Faithful.{measure-done, by-done}
 
 -- a mark leaves birth numbers, so the layout
 module _ (entries : List (List ℕ)) (x : ℕ) where
-  marked-long : length (marked entries x) ≡ length entries
+  pub marked-long : length (marked entries x) ≡ length entries
   unfolding marked
   marked-long = length-set entries x _
 
-  marked-births : x < length entries → (y : ℕ) → birthAt (marked entries x) y ≡ birthAt entries y
+  pub marked-births : x < length entries → (y : ℕ) → birthAt (marked entries x) y ≡ birthAt entries y
   unfolding marked
   marked-births h y = birth-set entries x y (getD (getD entries x []) 0 0 ∷ getD (getD entries x []) 1 0 ∷ 1 ∷ []) h refl
 
-  marked-bindings : x < length entries → (y : ℕ) → getD (getD (marked entries x) y []) 1 0 ≡ getD (getD entries y []) 1 0
+  pub marked-bindings : x < length entries → (y : ℕ) → getD (getD (marked entries x) y []) 1 0 ≡ getD (getD entries y []) 1 0
   unfolding marked
   marked-bindings h y = go (eqb y x) refl
     where

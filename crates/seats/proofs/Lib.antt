@@ -9,3 +9,4 @@ pub mod Faithful
 pub mod Keeps
 pub mod Owns
 pub mod Recording
+pub mod Again

@@ -18,7 +18,7 @@ returns c =
     let s = q .before .before in
     let a = s .pre .2 in
     let e = q .own-slot .ensures (c .if1 .taken) in
-    sym (scan-own (a .limit) (s .args .d) (stores s) (a .right) (s .args .h) (q .own-slot .result) (c .if1 .taken) (e .0) (e .1))
+    sym (scan-own (a .limit) (s .args .d) (stores s) (a .right) (s .args .h) (q .own-slot .result) (e .0) (e .1))
 
 by-places-requires : tie.Need-by-places-requires
 by-places-requires c κs =

@@ -1,0 +1,3 @@
+-- The laws.
+pub mod Steps
+pub mod AtSlot

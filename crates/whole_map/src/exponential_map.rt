@@ -28,7 +28,7 @@ pub fn takes(v: i64) -> bool
 }
 
 // How many slots the series' stores of these lengths have room for: by division, so that no product leaves its range.
-fn slots_of(size: u32, figures: usize, extremes: usize, pos: usize, neg: usize) -> usize
+pub fn slots_of(size: u32, figures: usize, extremes: usize, pos: usize, neg: usize) -> usize
     ensures { λ r. ⌜ ((limit : ℕ) → leb (limit + 2) r ≡ lengthsSuffice size limit (pos ∷ neg ∷ []) (figures ∷ extremes ∷ [])) ⌝ }
 {
     let least = lesser(figures, extremes);

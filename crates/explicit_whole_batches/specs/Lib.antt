@@ -1,0 +1,3 @@
+-- The definitions that the contracts of `explicit_whole_batches` cite.
+pub mod Values
+pub mod Slot

@@ -13,6 +13,7 @@ pub mod Loops
 pub mod Ends
 pub mod Decides
 pub mod Numbers
+pub mod Sure
 pub mod Handed
 pub mod Steps
 pub mod Configures

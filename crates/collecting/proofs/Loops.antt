@@ -13,12 +13,13 @@ use Rattle.sets.specs.Rows.{rowOf}
 use Rattle.directory.specs.View.{setAt}
 use Rattle.value_map.specs.Store.{Store}
 use Rattle.value_map.specs.Calls.{Held}
+use Rattle.batches.specs.Inner.{Known}
 use Rattle.listing.specs.Listed.{Output}
 use Rattle.listing.specs.Inner.{Put, left}
 use Rattle.listing.specs.declared.Cursor.{Cursor}
 use Rattle.collecting.specs.Lister.{Lister}
 use Rattle.collecting.specs.Collected.{slotsOf, due}
-use Rattle.collecting.specs.Slots.{unsound, oneMore, Walk, Few, More, surveyedAt, surveyed, Sound, Free, Listable, putSlot, listedTo}
+use Rattle.collecting.specs.Slots.{unsound, oneMore, Walk, AllKnown, Few, More, surveyedAt, surveyed, Sound, Free, Listable, putSlot, listedTo}
 use Rattle.collecting.specs.declared.Survey.{Survey}
 use Rattle.collecting.proofs.Nexts.{slot-is, slot-most}
 use Rattle.collecting.proofs.Surveys.{agree-at}
@@ -66,6 +67,10 @@ module _ {K : Kind} {S : Store K} (L : Lister S) (w : S .Switches) (cumulative :
   -- few enough for one more
   pub survey-few : Walk S h → (i : ℕ) (s : Survey) → Surveyed i s → i ≤ h .kept .dir .used → Few s
   survey-few g i s k n = (omega (arith, k .points, g .most), omega (arith, k .pos, g .most), omega (arith, k .neg, g .most))
+
+  -- what is known of the slot that code finds
+  pub survey-known : Walk S h → (known : Bool) → AllKnown S w known h → (i x : ℕ) (u d : Bool) → Seen L w cumulative h i x u d → Known S w known x u (h .cells)
+  survey-known g known a i x u d f k e = a x (found-used S h g i x (f .place) (f .slot)) k (sym (f .updated-is) ∙ e)
 
   module _ (i x : ℕ) (u d : Bool) (f : Seen L w cumulative h i x u d) (s t : Survey) (k : Surveyed i s) (e : t ≡ surveyedAt L w u d (h .cells) s x) where
     pub survey-next : t .sound ≡ true → More s t → Surveyed (i + 1) t

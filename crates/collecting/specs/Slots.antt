@@ -10,11 +10,12 @@ use Rattle.laws.specs.Lists.{only}
 use Rattle.laws.specs.Pick.{pick}
 use Rattle.tally.specs.Kind.{Kind}
 use Rattle.sets.specs.Rows.{size}
-use Rattle.directory.specs.View.{Stores, agreesb}
+use Rattle.directory.specs.View.{Stores, agreesb, updatedIn}
 use Rattle.directory.specs.Calls.{mostSets, storesSuffice}
 use Rattle.directory.specs.declared.Directory.{Directory}
 use Rattle.value_map.specs.Store.{Store}
 use Rattle.value_map.specs.Calls.{Held}
+use Rattle.batches.specs.Inner.{Known}
 use Rattle.listing.specs.declared.Cursor.{Cursor}
 use Rattle.listing.specs.Listed.{Output, overAt}
 use Rattle.listing.specs.Inner.{Put, left}
@@ -61,6 +62,10 @@ pub record Walk {K : Kind} (S : Store K) (h : Held (S .Cells)) : Type 0 where
   pub entries : (x : ℕ) → x ≤ h .kept .dir .used → x < length (h .kept .stores .entries)
   pub slots : (k : ℕ) → k < h .kept .dir .used → (1 ≤ getD (h .kept .stores .order) k 0) × (getD (h .kept .stores .order) k 0 ≤ h .kept .dir .used)
   pub room : (x : ℕ) → x ≤ h .kept .dir .used → S .Room (h .cells) x
+
+-- what a walk over the map may know: nothing, or that each series that is held agrees
+abbrev pub AllKnown : {K : Kind} (S : Store K) → S .Switches → Bool → Held (S .Cells) → Type 0
+AllKnown S w known h = (x : ℕ) → x ≤ h .kept .dir .used → Known S w known x (updatedIn (h .kept .stores .entries) x) (h .cells)
 
 -- a survey of slots that lie in the stores; and one with a slot more: a point has at most 160 counts in either store
 abbrev pub Few : Survey → Type 0

@@ -1,6 +1,6 @@
 // What every kind's collecting calls share: `collect_and_reset` and `collect_readonly` of internal/mod.rs, but for the series.
 ghost use mathlib.Core.Path.{_≡_};
-ghost use mathlib.Core.Bool.{not, _&&_, _||_};
+ghost use mathlib.Core.Bool.{true, not, _&&_, _||_};
 ghost use mathlib.Core.List.{[], _∷_};
 ghost use Prim.Native.Nat.{_<_, _≤_};
 ghost use lib.Dec.{eqb, ltb};
@@ -33,8 +33,9 @@ pub struct Survey {
 }
 
 // The number that refuses a collection before any series is read: 12, 8; 0 if none. Of the kind: whether its cells suffice, and the number
-// with which configuring refuses its settings, 0 if none.
+// with which configuring refuses its settings, 0 if none. Nothing is asked where it is known that there is none.
 pub fn barred(
+    known: bool,
     cells: bool,
     unset: u8,
     limit: u64,
@@ -43,8 +44,12 @@ pub fn barred(
     entries: &[[u64; 3]],
     order: &[u32],
 ) -> u8
+    requires { ⌜ (known ≡ true → unsurveyed cells unset limit d (stores sets entries order) ≡ 0) ⌝ }
     ensures { λ r. ⌜ r ≡ unsurveyed cells unset limit d (stores (sets .entry) (entries .entry) (order .entry)) ⌝ }
 {
+    if known {
+        return 0;
+    }
     if !directory::stores_suffice(limit, sets.len(), entries.len(), order.len()) {
         return 12;
     }

@@ -1,17 +1,21 @@
 // The public calls of the explicit kind around recording: configuring, delta and cumulative collection. `Histogram` of histogram.rs, and
 // its `ComputeAggregation`.
+mod collect;
 pub mod slot;
 mod walk;
 
 ghost use mathlib.Core.Path.{_≡_};
+ghost use mathlib.Core.Option.{none};
 ghost use Rattle.sets.specs.Sorted.{filterOf};
 ghost use Rattle.directory.specs.View.{stores};
 ghost use Rattle.bindings.specs.Calls as Bindings;
 ghost use Rattle.explicit_slots.specs.Cells.{cells};
 ghost use Rattle.value_map.specs.Calls.{held};
+ghost use Rattle.value_map.specs.Explicit.{explicitStore};
+ghost use Rattle.batches.specs.Owned.{Owned};
 ghost use Rattle.listing.specs.Listed.{output};
 ghost use Rattle.collecting.specs.Configured.{setUp, configuring};
-ghost use Rattle.collecting.specs.Collected.{gave, uncollected, deltaCollected, cumulativeCollected};
+ghost use Rattle.collecting.specs.Collected.{gave, deltaCollected, cumulativeCollected};
 ghost use Rattle.explicit_collection.specs.Points.{explicitLister};
 ghost use Rattle.explicit_collection.specs.Configured.{said, configured};
 use collecting::Answer;
@@ -89,59 +93,6 @@ pub fn configure(
     set_up(settings, reply)
 }
 
-// The number that refuses a collection: 12, 8, 10; 0 if none. Everything is decided here, by reading.
-fn number(
-    cumulative: bool,
-    bounds: &[f64],
-    s: Settings,
-    d: Directory,
-    sets: &[[u64; 9]],
-    entries: &[[u64; 3]],
-    order: &[u32],
-    totals: &[u64],
-    extremes: &[[f64; 3]],
-    counts: &[u64],
-    out_sets: &[[u64; 9]],
-    out_words: &[[u64; 12]],
-    out_pos: &[u64],
-    out_neg: &[u64],
-) -> u8
-    ensures { λ r. ⌜ r ≡ uncollected (explicitLister (now (bounds .entry))) (s .extremes, s .sums) cumulative (s .limit)
-        (held d (stores (sets .entry) (entries .entry) (order .entry)) (cells (totals .entry) (extremes .entry) (counts .entry)))
-        (output («out_sets» .entry) («out_words» .entry) («out_pos» .entry) («out_neg» .entry)) ⌝ }
-{
-    let limit = s.limit;
-    let room = value_map::explicit_map::cells_suffice(
-        bounds,
-        limit,
-        totals.len(),
-        extremes.len(),
-        counts.len(),
-    );
-    let unset = value_map::explicit_map::unset_of(bounds);
-    let no = collecting::barred(room, unset, limit, d, sets, entries, order);
-    if no != 0 {
-        return no;
-    }
-    let found = crate::walk::survey(
-        cumulative,
-        bounds,
-        d.used,
-        entries,
-        order,
-        totals,
-        extremes,
-        counts,
-    );
-    collecting::number_of(
-        found,
-        out_sets.len(),
-        out_words.len(),
-        out_pos.len(),
-        out_neg.len(),
-    )
-}
-
 // Delta collection: lists the updated entries and resets them; removes those that were neither updated nor bound, but for overflow; or 12, 8, 10.
 pub fn delta(
     bounds: &[f64],
@@ -165,7 +116,7 @@ pub fn delta(
         (held d (stores (sets .entry) (entries .entry) (order .entry)) (cells (totals .entry) (extremes .entry) (counts .entry)))
         (output («out_sets» .entry) («out_words» .entry) («out_pos» .entry) («out_neg» .entry)) ⌝ }
 {
-    let no = number(
+    crate::collect::delta(
         false,
         bounds,
         s,
@@ -180,19 +131,39 @@ pub fn delta(
         out_words,
         out_pos,
         out_neg,
-    );
-    if no != 0 {
-        return Reply {
-            answer: Answer::Refused(no),
-            dir: d,
-        };
-    }
-    let end = crate::walk::list(
-        false,
+    )
+}
+
+// Requires a map known to agree: delta collection of it, where only 10 is left to ask.
+pub fn delta_agreed(
+    bounds: &[f64],
+    s: Settings,
+    d: Directory,
+    sets: &mut [[u64; 9]],
+    entries: &mut [[u64; 3]],
+    order: &mut [u32],
+    totals: &[u64],
+    extremes: &[[f64; 3]],
+    counts: &[u64],
+    out_sets: &mut [[u64; 9]],
+    out_words: &mut [[u64; 12]],
+    out_pos: &mut [u64],
+    out_neg: &mut [u64],
+) -> Reply
+    requires { ⌜ Owned (explicitStore (now bounds)) (s .extremes, s .sums) (s .limit) none
+        (held d (stores sets entries order) (cells totals extremes counts)) ⌝ }
+    ensures { λ r. ⌜ gave (r .answer)
+        (held (r .dir) (stores (sets .exit) (entries .exit) (order .exit)) (cells (totals .entry) (extremes .entry) (counts .entry)))
+        (output («out_sets» .exit) («out_words» .exit) («out_pos» .exit) («out_neg» .exit))
+        ≡ deltaCollected (explicitLister (now (bounds .entry))) (s .extremes, s .sums) (s .limit)
+        (held d (stores (sets .entry) (entries .entry) (order .entry)) (cells (totals .entry) (extremes .entry) (counts .entry)))
+        (output («out_sets» .entry) («out_words» .entry) («out_pos» .entry) («out_neg» .entry)) ⌝ }
+{
+    crate::collect::delta(
+        true,
         bounds,
-        s.extremes,
-        s.sums,
-        d.used,
+        s,
+        d,
         sets,
         entries,
         order,
@@ -203,12 +174,7 @@ pub fn delta(
         out_words,
         out_pos,
         out_neg,
-    );
-    let dir = sweep::sweep(d, sets, entries, order);
-    Reply {
-        answer: Answer::Listed(end.place),
-        dir,
-    }
+    )
 }
 
 // Cumulative collection (`LowMemory` too): lists every named entry, and the empty set's if it was updated; or 12, 8, 10. The map stays.
@@ -234,7 +200,50 @@ pub fn cumulative(
         (held d (stores (sets .entry) (entries .entry) (order .entry)) (cells (totals .entry) (extremes .entry) (counts .entry)))
         (output («out_sets» .entry) («out_words» .entry) («out_pos» .entry) («out_neg» .entry)) ⌝ }
 {
-    let no = number(
+    crate::collect::cumulative(
+        false,
+        bounds,
+        s,
+        d,
+        sets,
+        entries,
+        order,
+        totals,
+        extremes,
+        counts,
+        out_sets,
+        out_words,
+        out_pos,
+        out_neg,
+    )
+}
+
+// Requires a map known to agree: cumulative collection of it, where only 10 is left to ask.
+pub fn cumulative_agreed(
+    bounds: &[f64],
+    s: Settings,
+    d: Directory,
+    sets: &[[u64; 9]],
+    entries: &[[u64; 3]],
+    order: &[u32],
+    totals: &[u64],
+    extremes: &[[f64; 3]],
+    counts: &[u64],
+    out_sets: &mut [[u64; 9]],
+    out_words: &mut [[u64; 12]],
+    out_pos: &mut [u64],
+    out_neg: &mut [u64],
+) -> Answer
+    requires { ⌜ Owned (explicitStore (now bounds)) (s .extremes, s .sums) (s .limit) none
+        (held d (stores sets entries order) (cells totals extremes counts)) ⌝ }
+    ensures { λ r. ⌜ gave r
+        (held d (stores (sets .entry) (entries .entry) (order .entry)) (cells (totals .entry) (extremes .entry) (counts .entry)))
+        (output («out_sets» .exit) («out_words» .exit) («out_pos» .exit) («out_neg» .exit))
+        ≡ cumulativeCollected (explicitLister (now (bounds .entry))) (s .extremes, s .sums) (s .limit)
+        (held d (stores (sets .entry) (entries .entry) (order .entry)) (cells (totals .entry) (extremes .entry) (counts .entry)))
+        (output («out_sets» .entry) («out_words» .entry) («out_pos» .entry) («out_neg» .entry)) ⌝ }
+{
+    crate::collect::cumulative(
         true,
         bounds,
         s,
@@ -249,26 +258,5 @@ pub fn cumulative(
         out_words,
         out_pos,
         out_neg,
-    );
-    if no != 0 {
-        return Answer::Refused(no);
-    }
-    let end = crate::walk::list(
-        true,
-        bounds,
-        s.extremes,
-        s.sums,
-        d.used,
-        sets,
-        entries,
-        order,
-        totals,
-        extremes,
-        counts,
-        out_sets,
-        out_words,
-        out_pos,
-        out_neg,
-    );
-    Answer::Listed(end.place)
+    )
 }

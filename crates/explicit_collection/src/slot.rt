@@ -10,6 +10,7 @@ ghost use Rattle.point.specs.Handing.{explicitPoint};
 ghost use Rattle.kinds.specs.Histograms.{histograms};
 ghost use Rattle.explicit_slots.specs.Cells.{cells, headIn, seriesAt, Room};
 ghost use Rattle.value_map.specs.Explicit.{explicitStore};
+ghost use Rattle.batches.specs.Inner.{Known};
 ghost use Rattle.listing.specs.Listed.{output};
 ghost use Rattle.listing.specs.Inner.{left};
 ghost use Rattle.collecting.specs.Slots.{oneMore, Few, More, Place, surveyedAt, Sound, Free, putSlot};
@@ -72,8 +73,9 @@ pub fn one_more(s: Survey, n: usize) -> Survey
     }
 }
 
-// Whether a slot's series agrees, if it holds one.
+// Whether a slot's series agrees, if it holds one. Where that is known, it is not asked.
 fn sound_at(
+    known: bool,
     bounds: &[f64],
     x: usize,
     updated: bool,
@@ -82,9 +84,13 @@ fn sound_at(
     counts: &[u64],
 ) -> bool
     requires { ⌜ Room (now bounds) (cells totals extremes counts) x ⌝ }
+    requires { ⌜ Known (explicitStore (now bounds)) (true, true) known x updated (cells totals extremes counts) ⌝ }
     ensures { λ r. ⌜ r ≡ (not updated || histograms .agrees (explicitStore (now (bounds .entry)) .settings (true, true))
         (seriesAt (now (bounds .entry)) (cells (totals .entry) (extremes .entry) (counts .entry)) x)) ⌝ }
 {
+    if known {
+        return true;
+    }
     if !updated {
         return true;
     }
@@ -93,6 +99,7 @@ fn sound_at(
 
 // The survey with slot x more, which was updated or not and is due or not.
 pub fn survey(
+    known: bool,
     bounds: &[f64],
     s: Survey,
     x: usize,
@@ -103,12 +110,12 @@ pub fn survey(
     counts: &[u64],
 ) -> Survey
     requires { ⌜ (boundsPass (now bounds) ≡ true) × Room (now bounds) (cells totals extremes counts) x ⌝ }
-    requires { ⌜ Few s ⌝ }
+    requires { ⌜ Few s × Known (explicitStore (now bounds)) (true, true) known x updated (cells totals extremes counts) ⌝ }
     ensures { λ r. ⌜ r ≡ surveyedAt (explicitLister (now (bounds .entry))) (true, true) updated due
         (cells (totals .entry) (extremes .entry) (counts .entry)) s x ⌝ }
     ensures { λ r. ⌜ More s r ⌝ }
 {
-    if !sound_at(bounds, x, updated, totals, extremes, counts) {
+    if !sound_at(known, bounds, x, updated, totals, extremes, counts) {
         return Survey {
             sound: false,
             points: 0,

@@ -6,13 +6,14 @@ ghost use Rattle.explicit_slots.specs.Cells.{cells};
 ghost use Rattle.value_map.specs.Explicit.{explicitStore};
 ghost use Rattle.listing.specs.Listed.{output};
 ghost use Rattle.listing.specs.Inner.{left};
-ghost use Rattle.collecting.specs.Slots.{walked, Walk, surveyed, Listable, listedTo};
+ghost use Rattle.collecting.specs.Slots.{walked, Walk, AllKnown, surveyed, Listable, listedTo};
 ghost use Rattle.explicit_collection.specs.Points.{explicitLister};
 use collecting::Survey;
 use listing::Cursor;
 
 // What the slots are found to be.
 pub fn survey(
+    known: bool,
     cumulative: bool,
     bounds: &[f64],
     used: usize,
@@ -23,6 +24,8 @@ pub fn survey(
     counts: &[u64],
 ) -> Survey
     requires { ⌜ Walk (explicitStore (now bounds)) (walked used [] (now entries) (now order) (cells totals extremes counts)) ⌝ }
+    requires { ⌜ AllKnown (explicitStore (now bounds)) (true, true) known
+        (walked used [] (now entries) (now order) (cells totals extremes counts)) ⌝ }
     ensures { λ r. ⌜ r ≡ surveyed (explicitLister (now (bounds .entry))) (true, true) cumulative
         (walked used [] (now (entries .entry)) (now (order .entry)) (cells (totals .entry) (extremes .entry) (counts .entry))) ⌝ }
 {
@@ -37,7 +40,17 @@ pub fn survey(
         let x = collecting::slot_at(order, i);
         let updated = directory::is_updated(entries, x);
         let due = collecting::is_due(cumulative, updated, x);
-        let next = crate::slot::survey(bounds, found, x, updated, due, totals, extremes, counts);
+        let next = crate::slot::survey(
+            known,
+            bounds,
+            found,
+            x,
+            updated,
+            due,
+            totals,
+            extremes,
+            counts,
+        );
         if !next.sound {
             return next;
         }

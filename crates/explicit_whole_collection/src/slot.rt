@@ -9,6 +9,7 @@ ghost use Rattle.explicit_wholes.specs.Series.{freshHead};
 ghost use Rattle.whole_point.specs.Handing.{explicitPoint};
 ghost use Rattle.kinds.specs.Wholes.{wholes};
 ghost use Rattle.explicit_whole_slots.specs.Cells.{cells, headIn, seriesAt, Room};
+ghost use Rattle.batches.specs.Inner.{Known};
 ghost use Rattle.whole_map.specs.Explicit.{explicitWholes};
 ghost use Rattle.listing.specs.Listed.{output};
 ghost use Rattle.listing.specs.Inner.{left};
@@ -33,12 +34,24 @@ fn head_at(x: usize, totals: &[u64], extremes: &[[i64; 3]]) -> Head
     }
 }
 
-// Whether a slot's series agrees, if it holds one: its bounds, count and counts do. Every i64 is finite, so its extremes are not read.
-fn sound_at(bounds: &[f64], x: usize, updated: bool, totals: &[u64], counts: &[u64]) -> bool
+// Whether a slot's series agrees, if it holds one: its bounds, count and counts do. Every i64 is finite, so its extremes are not read. Where it is
+// known, it is not asked.
+fn sound_at(
+    known: bool,
+    bounds: &[f64],
+    x: usize,
+    updated: bool,
+    totals: &[u64],
+    counts: &[u64],
+) -> bool
     requires { ⌜ Room (now bounds) (counting totals counts) x ⌝ }
+    requires { ⌜ Known (explicitWholes (now bounds) true) true known x updated (counting totals counts) ⌝ }
     ensures { λ r. ⌜ r ≡ (not updated || wholes .agrees (explicitWholes (now (bounds .entry)) true .settings true)
         (seriesAt (now (bounds .entry)) (counting (totals .entry) (counts .entry)) x)) ⌝ }
 {
+    if known {
+        return true;
+    }
     if !updated {
         return true;
     }
@@ -50,6 +63,7 @@ fn sound_at(bounds: &[f64], x: usize, updated: bool, totals: &[u64], counts: &[u
 
 // The survey with slot x more, which was updated or not and is due or not.
 pub fn survey(
+    known: bool,
     bounds: &[f64],
     s: Survey,
     x: usize,
@@ -59,12 +73,12 @@ pub fn survey(
     counts: &[u64],
 ) -> Survey
     requires { ⌜ (boundsPass (now bounds) ≡ true) × Room (now bounds) (counting totals counts) x ⌝ }
-    requires { ⌜ Few s ⌝ }
+    requires { ⌜ Few s × Known (explicitWholes (now bounds) true) true known x updated (counting totals counts) ⌝ }
     ensures { λ r. ⌜ r ≡ surveyedAt (explicitWholeLister (now (bounds .entry)) true) true updated due
         (counting (totals .entry) (counts .entry)) s x ⌝ }
     ensures { λ r. ⌜ More s r ⌝ }
 {
-    if !sound_at(bounds, x, updated, totals, counts) {
+    if !sound_at(known, bounds, x, updated, totals, counts) {
         return Survey {
             sound: false,
             points: 0,

@@ -6,7 +6,7 @@ ghost use Rattle.explicit_whole_slots.specs.Cells.{cells};
 ghost use Rattle.whole_map.specs.Explicit.{explicitWholes};
 ghost use Rattle.listing.specs.Listed.{output};
 ghost use Rattle.listing.specs.Inner.{left};
-ghost use Rattle.collecting.specs.Slots.{walked, Walk, surveyed, Listable, listedTo};
+ghost use Rattle.collecting.specs.Slots.{walked, Walk, AllKnown, surveyed, Listable, listedTo};
 ghost use Rattle.explicit_whole_collection.specs.Points.{explicitWholeLister};
 ghost use Rattle.explicit_whole_collection.specs.Ready.{counting};
 use collecting::Survey;
@@ -14,6 +14,7 @@ use listing::Cursor;
 
 // What the slots are found to be. Neither the sum's switch nor the extremes have a part in it.
 pub fn survey(
+    known: bool,
     cumulative: bool,
     bounds: &[f64],
     used: usize,
@@ -23,6 +24,8 @@ pub fn survey(
     counts: &[u64],
 ) -> Survey
     requires { ⌜ Walk (explicitWholes (now bounds) true) (walked used [] (now entries) (now order) (counting totals counts)) ⌝ }
+    requires { ⌜ AllKnown (explicitWholes (now bounds) true) true known
+        (walked used [] (now entries) (now order) (counting totals counts)) ⌝ }
     ensures { λ r. ⌜ r ≡ surveyed (explicitWholeLister (now (bounds .entry)) true) true cumulative
         (walked used [] (now (entries .entry)) (now (order .entry)) (counting (totals .entry) (counts .entry))) ⌝ }
 {
@@ -37,7 +40,7 @@ pub fn survey(
         let x = collecting::slot_at(order, i);
         let updated = directory::is_updated(entries, x);
         let due = collecting::is_due(cumulative, updated, x);
-        let next = crate::slot::survey(bounds, found, x, updated, due, totals, counts);
+        let next = crate::slot::survey(known, bounds, found, x, updated, due, totals, counts);
         if !next.sound {
             return next;
         }

@@ -1,17 +1,21 @@
 // The public calls of the exponential kind around recording: configuring, delta and cumulative collection. `ExpoHistogram` of
 // exponential_histogram.rs, and its `ComputeAggregation`.
+mod collect;
 pub mod slot;
 mod walk;
 
 ghost use mathlib.Core.Path.{_≡_};
+ghost use mathlib.Core.Option.{none};
 ghost use Rattle.sets.specs.Sorted.{filterOf};
 ghost use Rattle.directory.specs.View.{stores};
 ghost use Rattle.bindings.specs.Calls as bindings-calls;
 ghost use Rattle.exponential_slots.specs.Cells.{cells};
 ghost use Rattle.value_map.specs.Calls.{held};
+ghost use Rattle.value_map.specs.Exponential.{exponentialStore};
+ghost use Rattle.batches.specs.Owned.{Owned};
 ghost use Rattle.listing.specs.Listed.{output};
 ghost use Rattle.collecting.specs.Configured.{setUp, configuring};
-ghost use Rattle.collecting.specs.Collected.{gave, uncollected, deltaCollected, cumulativeCollected};
+ghost use Rattle.collecting.specs.Collected.{gave, deltaCollected, cumulativeCollected};
 ghost use Rattle.exponential_collection.specs.Points.{exponentialLister};
 ghost use Rattle.exponential_collection.specs.Configured.{levelOr, said, configured};
 use collecting::Answer;
@@ -110,62 +114,6 @@ pub fn configure(
     set_up(settings, reply)
 }
 
-// The number that refuses a collection: 12, 8, 10; 0 if none. Everything is decided here, by reading.
-fn number(
-    cumulative: bool,
-    s: Settings,
-    d: Directory,
-    sets: &[[u64; 9]],
-    entries: &[[u64; 3]],
-    order: &[u32],
-    figures: &[[u64; 8]],
-    extremes: &[[f64; 3]],
-    pos: &[u64],
-    neg: &[u64],
-    out_sets: &[[u64; 9]],
-    out_words: &[[u64; 12]],
-    out_pos: &[u64],
-    out_neg: &[u64],
-) -> u8
-    ensures { λ r. ⌜ r ≡ uncollected (exponentialLister (s .size) (s .top)) (s .extremes, s .sums) cumulative (s .limit)
-        (held d (stores (sets .entry) (entries .entry) (order .entry)) (cells (figures .entry) (extremes .entry) (pos .entry) (neg .entry)))
-        (output («out_sets» .entry) («out_words» .entry) («out_pos» .entry) («out_neg» .entry)) ⌝ }
-{
-    let size = s.size;
-    let limit = s.limit;
-    let room = value_map::exponential_map::cells_suffice(
-        size,
-        limit,
-        figures.len(),
-        extremes.len(),
-        pos.len(),
-        neg.len(),
-    );
-    let unset = value_map::exponential_map::unset_of(size, s.top);
-    let bar = collecting::barred(room, unset, limit, d, sets, entries, order);
-    if bar != 0 {
-        return bar;
-    }
-    let found = crate::walk::survey(
-        cumulative,
-        s,
-        d.used,
-        entries,
-        order,
-        figures,
-        extremes,
-        pos,
-        neg,
-    );
-    collecting::number_of(
-        found,
-        out_sets.len(),
-        out_words.len(),
-        out_pos.len(),
-        out_neg.len(),
-    )
-}
-
 // Delta collection: lists the updated entries and resets them; removes those that were neither updated nor bound, but for overflow; or
 // 12, 8, 10.
 pub fn delta(
@@ -190,7 +138,7 @@ pub fn delta(
         (held d (stores (sets .entry) (entries .entry) (order .entry)) (cells (figures .entry) (extremes .entry) (pos .entry) (neg .entry)))
         (output («out_sets» .entry) («out_words» .entry) («out_pos» .entry) («out_neg» .entry)) ⌝ }
 {
-    let no = number(
+    crate::collect::delta(
         false,
         s,
         d,
@@ -205,17 +153,38 @@ pub fn delta(
         out_words,
         out_pos,
         out_neg,
-    );
-    if no != 0 {
-        return Reply {
-            answer: Answer::Refused(no),
-            dir: d,
-        };
-    }
-    let at = crate::walk::list(
-        false,
+    )
+}
+
+// Requires a map known to agree: delta collection of it, where only 10 is left to ask.
+pub fn delta_agreed(
+    s: Settings,
+    d: Directory,
+    sets: &mut [[u64; 9]],
+    entries: &mut [[u64; 3]],
+    order: &mut [u32],
+    figures: &[[u64; 8]],
+    extremes: &[[f64; 3]],
+    pos: &[u64],
+    neg: &[u64],
+    out_sets: &mut [[u64; 9]],
+    out_words: &mut [[u64; 12]],
+    out_pos: &mut [u64],
+    out_neg: &mut [u64],
+) -> Reply
+    requires { ⌜ Owned (exponentialStore (s .size) (s .top)) (s .extremes, s .sums) (s .limit) none
+        (held d (stores sets entries order) (cells figures extremes pos neg)) ⌝ }
+    ensures { λ r. ⌜ gave (r .answer) (held (r .dir) (stores (sets .exit) (entries .exit) (order .exit))
+        (cells (figures .entry) (extremes .entry) (pos .entry) (neg .entry)))
+        (output («out_sets» .exit) («out_words» .exit) («out_pos» .exit) («out_neg» .exit))
+        ≡ deltaCollected (exponentialLister (s .size) (s .top)) (s .extremes, s .sums) (s .limit)
+        (held d (stores (sets .entry) (entries .entry) (order .entry)) (cells (figures .entry) (extremes .entry) (pos .entry) (neg .entry)))
+        (output («out_sets» .entry) («out_words» .entry) («out_pos» .entry) («out_neg» .entry)) ⌝ }
+{
+    crate::collect::delta(
+        true,
         s,
-        d.used,
+        d,
         sets,
         entries,
         order,
@@ -227,12 +196,7 @@ pub fn delta(
         out_words,
         out_pos,
         out_neg,
-    );
-    let dir = sweep::sweep(d, sets, entries, order);
-    Reply {
-        answer: Answer::Listed(at.place),
-        dir,
-    }
+    )
 }
 
 // Cumulative collection (`LowMemory` too): lists every named entry, and the empty set's if it was updated; or 12, 8, 10. The map stays.
@@ -258,7 +222,50 @@ pub fn cumulative(
         (held d (stores (sets .entry) (entries .entry) (order .entry)) (cells (figures .entry) (extremes .entry) (pos .entry) (neg .entry)))
         (output («out_sets» .entry) («out_words» .entry) («out_pos» .entry) («out_neg» .entry)) ⌝ }
 {
-    let no = number(
+    crate::collect::cumulative(
+        false,
+        s,
+        d,
+        sets,
+        entries,
+        order,
+        figures,
+        extremes,
+        pos,
+        neg,
+        out_sets,
+        out_words,
+        out_pos,
+        out_neg,
+    )
+}
+
+// Requires a map known to agree: cumulative collection of it, where only 10 is left to ask.
+pub fn cumulative_agreed(
+    s: Settings,
+    d: Directory,
+    sets: &[[u64; 9]],
+    entries: &[[u64; 3]],
+    order: &[u32],
+    figures: &[[u64; 8]],
+    extremes: &[[f64; 3]],
+    pos: &[u64],
+    neg: &[u64],
+    out_sets: &mut [[u64; 9]],
+    out_words: &mut [[u64; 12]],
+    out_pos: &mut [u64],
+    out_neg: &mut [u64],
+) -> Answer
+    requires { ⌜ Owned (exponentialStore (s .size) (s .top)) (s .extremes, s .sums) (s .limit) none
+        (held d (stores sets entries order) (cells figures extremes pos neg)) ⌝ }
+    ensures { λ r. ⌜ gave r
+        (held d (stores (sets .entry) (entries .entry) (order .entry)) (cells (figures .entry) (extremes .entry) (pos .entry) (neg .entry)))
+        (output («out_sets» .exit) («out_words» .exit) («out_pos» .exit) («out_neg» .exit))
+        ≡ cumulativeCollected (exponentialLister (s .size) (s .top)) (s .extremes, s .sums) (s .limit)
+        (held d (stores (sets .entry) (entries .entry) (order .entry)) (cells (figures .entry) (extremes .entry) (pos .entry) (neg .entry)))
+        (output («out_sets» .entry) («out_words» .entry) («out_pos» .entry) («out_neg» .entry)) ⌝ }
+{
+    crate::collect::cumulative(
         true,
         s,
         d,
@@ -273,25 +280,5 @@ pub fn cumulative(
         out_words,
         out_pos,
         out_neg,
-    );
-    if no != 0 {
-        return Answer::Refused(no);
-    }
-    let at = crate::walk::list(
-        true,
-        s,
-        d.used,
-        sets,
-        entries,
-        order,
-        figures,
-        extremes,
-        pos,
-        neg,
-        out_sets,
-        out_words,
-        out_pos,
-        out_neg,
-    );
-    Answer::Listed(at.place)
+    )
 }

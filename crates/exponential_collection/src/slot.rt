@@ -7,7 +7,8 @@ ghost use Rattle.laws.specs.Pick.{pick};
 ghost use Rattle.kinds.specs.Histograms.{histograms};
 ghost use Rattle.exponential_slots.specs.Cells.{cells, Room};
 ghost use Rattle.exponential_slots.specs.Meaning.{settings, seriesAt};
-ghost use Rattle.value_map.specs.Exponential.{unset};
+ghost use Rattle.value_map.specs.Exponential.{unset, exponentialStore};
+ghost use Rattle.batches.specs.Inner.{Known};
 ghost use Rattle.listing.specs.Listed.{output};
 ghost use Rattle.listing.specs.Inner.{left};
 ghost use Rattle.collecting.specs.Slots.{oneMore, Few, More, surveyedAt, Sound, Free, putSlot};
@@ -47,8 +48,9 @@ fn agrees_at(
     floats::is_finite(head.max)
 }
 
-// Whether the series of slot x agrees, if it holds one.
+// Whether the series of slot x agrees, if it holds one. Where that is known, it is not asked.
 fn is_sound(
+    known: bool,
     size: u32,
     top: u32,
     x: usize,
@@ -59,9 +61,13 @@ fn is_sound(
     neg: &[u64],
 ) -> bool
     requires { ⌜ (unset size top ≡ 0) × Room size (cells figures extremes pos neg) x ⌝ }
+    requires { ⌜ Known (exponentialStore size top) (true, true) known x updated (cells figures extremes pos neg) ⌝ }
     ensures { λ r. ⌜ r ≡ (not updated || histograms .agrees (settings size top true true)
         (seriesAt size (cells (figures .entry) (extremes .entry) (pos .entry) (neg .entry)) x)) ⌝ }
 {
+    if known {
+        return true;
+    }
     if updated {
         return agrees_at(size, top, x, figures, extremes, pos, neg);
     }
@@ -92,6 +98,7 @@ pub fn counted(s: Survey, updated: bool, f: [u64; 8]) -> Survey
 
 // The survey with slot x more, which was updated or not and is due or not.
 pub fn survey(
+    known: bool,
     size: u32,
     top: u32,
     s: Survey,
@@ -104,12 +111,12 @@ pub fn survey(
     neg: &[u64],
 ) -> Survey
     requires { ⌜ (unset size top ≡ 0) × Room size (cells figures extremes pos neg) x ⌝ }
-    requires { ⌜ Few s ⌝ }
+    requires { ⌜ Few s × Known (exponentialStore size top) (true, true) known x updated (cells figures extremes pos neg) ⌝ }
     ensures { λ r. ⌜ r ≡ surveyedAt (exponentialLister size top) (true, true) updated due
         (cells (figures .entry) (extremes .entry) (pos .entry) (neg .entry)) s x ⌝ }
     ensures { λ r. ⌜ More s r ⌝ }
 {
-    if !is_sound(size, top, x, updated, figures, extremes, pos, neg) {
+    if !is_sound(known, size, top, x, updated, figures, extremes, pos, neg) {
         return Survey {
             sound: false,
             points: 0,

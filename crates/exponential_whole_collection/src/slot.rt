@@ -4,6 +4,8 @@ ghost use mathlib.Core.Bool.{true, not, _||_};
 ghost use Rattle.kinds.specs.Wholes.{wholes};
 ghost use Rattle.exponential_whole_slots.specs.Cells.{cells, Room, settings, seriesAt};
 ghost use Rattle.value_map.specs.Exponential.{unset};
+ghost use Rattle.batches.specs.Inner.{Known};
+ghost use Rattle.whole_map.specs.Exponential.{exponentialWholes};
 ghost use Rattle.listing.specs.Listed.{output};
 ghost use Rattle.listing.specs.Inner.{left};
 ghost use Rattle.collecting.specs.Slots.{Few, More, surveyedAt, Sound, Free, putSlot};
@@ -37,8 +39,9 @@ fn agrees_at(
     exponential::counts_agree(n, top, c, &pos[a..e], &neg[a..e])
 }
 
-// Whether the series of slot x agrees, if it holds one.
+// Whether the series of slot x agrees, if it holds one. Where that is known, it is not asked.
 fn is_sound(
+    known: bool,
     size: u32,
     top: u32,
     x: usize,
@@ -49,9 +52,13 @@ fn is_sound(
     neg: &[u64],
 ) -> bool
     requires { ⌜ (unset size top ≡ 0) × Room size (cells figures extremes pos neg) x ⌝ }
+    requires { ⌜ Known (exponentialWholes size top true) true known x updated (cells figures extremes pos neg) ⌝ }
     ensures { λ r. ⌜ r ≡ (not updated || wholes .agrees (settings size top true true)
         (seriesAt size (cells (figures .entry) (extremes .entry) (pos .entry) (neg .entry)) x)) ⌝ }
 {
+    if known {
+        return true;
+    }
     if updated {
         return agrees_at(size, top, x, figures, extremes, pos, neg);
     }
@@ -60,6 +67,7 @@ fn is_sound(
 
 // The survey with slot x more, which was updated or not and is due or not.
 pub fn survey(
+    known: bool,
     size: u32,
     top: u32,
     s: Survey,
@@ -72,12 +80,12 @@ pub fn survey(
     neg: &[u64],
 ) -> Survey
     requires { ⌜ (unset size top ≡ 0) × Room size (cells figures extremes pos neg) x ⌝ }
-    requires { ⌜ Few s ⌝ }
+    requires { ⌜ Few s × Known (exponentialWholes size top true) true known x updated (cells figures extremes pos neg) ⌝ }
     ensures { λ r. ⌜ r ≡ surveyedAt (exponentialWholeLister size top true) true updated due
         (cells (figures .entry) (extremes .entry) (pos .entry) (neg .entry)) s x ⌝ }
     ensures { λ r. ⌜ More s r ⌝ }
 {
-    if !is_sound(size, top, x, updated, figures, extremes, pos, neg) {
+    if !is_sound(known, size, top, x, updated, figures, extremes, pos, neg) {
         return Survey {
             sound: false,
             points: 0,

@@ -1,17 +1,21 @@
 // Sums and last values of f64s: the public calls around recording: configuring, delta and cumulative collection. `Sum` of sum.rs and
 // `LastValue` of last_value.rs, and their `ComputeAggregation`. Their stores: the directory's (sets, entries, order), and each slot's
 // value.
+mod collect;
 pub mod map;
-mod slot;
+pub mod slot;
 mod walk;
 
 ghost use mathlib.Core.Path.{_≡_};
+ghost use mathlib.Core.Option.{none};
 ghost use Rattle.sets.specs.Sorted.{filterOf};
 ghost use Rattle.directory.specs.View.{stores};
 ghost use Rattle.bindings.specs.Calls as Bindings;
 ghost use Rattle.value_map.specs.Calls.{held};
+ghost use Rattle.batches.specs.Owned.{Owned};
 ghost use Rattle.collecting.specs.Configured.{setUp, configuring};
-ghost use Rattle.collecting.specs.Collected.{gave, uncollected, deltaCollected, cumulativeCollected};
+ghost use Rattle.collecting.specs.Collected.{gave, deltaCollected, cumulativeCollected};
+ghost use Rattle.singles.specs.Stores.{singleStore};
 ghost use Rattle.singles.specs.Points.{output, singleLister};
 ghost use Rattle.singles.specs.Configured.{said, configured};
 use collecting::Answer;
@@ -76,33 +80,6 @@ pub fn configure(
     set_up(settings, reply)
 }
 
-// The number that refuses a collection: 12, 8, 10; 0 if none. Everything is decided here, by reading.
-fn number(
-    cumulative: bool,
-    s: Settings,
-    d: Directory,
-    sets: &[[u64; 9]],
-    entries: &[[u64; 3]],
-    order: &[u32],
-    values: &[f64],
-    out_sets: &[[u64; 9]],
-    out_values: &[u64],
-) -> u8
-    ensures { λ r. ⌜ r ≡ uncollected (singleLister (s .aggregation)) tt cumulative (s .limit)
-        (held d (stores (sets .entry) (entries .entry) (order .entry)) (now (values .entry)))
-        (output («out_sets» .entry) («out_values» .entry)) ⌝ }
-{
-    let limit = s.limit;
-    let room = directory::suffices(limit, values.len());
-    let no = collecting::barred(room, 0, limit, d, sets, entries, order);
-    if no != 0 {
-        return no;
-    }
-    let aggregation = s.aggregation;
-    let found = crate::walk::survey(cumulative, aggregation, d.used, entries, order, values);
-    collecting::number_of(found, out_sets.len(), out_values.len(), 0, 0)
-}
-
 // Delta collection: lists the updated entries and resets them; removes those that were neither updated nor bound, but for overflow;
 // or 12, 8, 10.
 pub fn delta(
@@ -121,7 +98,7 @@ pub fn delta(
         (held d (stores (sets .entry) (entries .entry) (order .entry)) (now (values .entry)))
         (output («out_sets» .entry) («out_values» .entry)) ⌝ }
 {
-    let no = number(
+    crate::collect::delta(
         false,
         s,
         d,
@@ -131,28 +108,38 @@ pub fn delta(
         values,
         out_sets,
         out_values,
-    );
-    if no != 0 {
-        return Reply {
-            answer: Answer::Refused(no),
-            dir: d,
-        };
-    }
-    let end = crate::walk::list(
-        false,
-        d.used,
+    )
+}
+
+// Requires a map known to agree: delta collection of it, where only 10 is left to ask.
+pub fn delta_agreed(
+    s: Settings,
+    d: Directory,
+    sets: &mut [[u64; 9]],
+    entries: &mut [[u64; 3]],
+    order: &mut [u32],
+    values: &[f64],
+    out_sets: &mut [[u64; 9]],
+    out_values: &mut [u64],
+) -> Reply
+    requires { ⌜ Owned (singleStore (s .aggregation)) tt (s .limit) none (held d (stores sets entries order) (now values)) ⌝ }
+    ensures { λ r. ⌜ gave (r .answer) (held (r .dir) (stores (sets .exit) (entries .exit) (order .exit)) (now (values .entry)))
+        (output («out_sets» .exit) («out_values» .exit))
+        ≡ deltaCollected (singleLister (s .aggregation)) tt (s .limit)
+        (held d (stores (sets .entry) (entries .entry) (order .entry)) (now (values .entry)))
+        (output («out_sets» .entry) («out_values» .entry)) ⌝ }
+{
+    crate::collect::delta(
+        true,
+        s,
+        d,
         sets,
         entries,
         order,
         values,
         out_sets,
         out_values,
-    );
-    let dir = sweep::sweep(d, sets, entries, order);
-    Reply {
-        answer: Answer::Listed(end),
-        dir,
-    }
+    )
 }
 
 // Cumulative collection (`LowMemory` too): lists every named entry, 0.0 for one bound and never recorded, and the empty set's if it was
@@ -173,7 +160,38 @@ pub fn cumulative(
         (held d (stores (sets .entry) (entries .entry) (order .entry)) (now (values .entry)))
         (output («out_sets» .entry) («out_values» .entry)) ⌝ }
 {
-    let no = number(
+    crate::collect::cumulative(
+        false,
+        s,
+        d,
+        sets,
+        entries,
+        order,
+        values,
+        out_sets,
+        out_values,
+    )
+}
+
+// Requires a map known to agree: cumulative collection of it, where only 10 is left to ask.
+pub fn cumulative_agreed(
+    s: Settings,
+    d: Directory,
+    sets: &[[u64; 9]],
+    entries: &[[u64; 3]],
+    order: &[u32],
+    values: &[f64],
+    out_sets: &mut [[u64; 9]],
+    out_values: &mut [u64],
+) -> Answer
+    requires { ⌜ Owned (singleStore (s .aggregation)) tt (s .limit) none (held d (stores sets entries order) (now values)) ⌝ }
+    ensures { λ r. ⌜ gave r (held d (stores (sets .entry) (entries .entry) (order .entry)) (now (values .entry)))
+        (output («out_sets» .exit) («out_values» .exit))
+        ≡ cumulativeCollected (singleLister (s .aggregation)) tt (s .limit)
+        (held d (stores (sets .entry) (entries .entry) (order .entry)) (now (values .entry)))
+        (output («out_sets» .entry) («out_values» .entry)) ⌝ }
+{
+    crate::collect::cumulative(
         true,
         s,
         d,
@@ -183,19 +201,5 @@ pub fn cumulative(
         values,
         out_sets,
         out_values,
-    );
-    if no != 0 {
-        return Answer::Refused(no);
-    }
-    let end = crate::walk::list(
-        true,
-        d.used,
-        sets,
-        entries,
-        order,
-        values,
-        out_sets,
-        out_values,
-    );
-    Answer::Listed(end)
+    )
 }

@@ -4,10 +4,11 @@ ghost use mathlib.Core.Bool.{true};
 ghost use Prim.Native.Nat.{_<_};
 ghost use lib.ListN.{length};
 ghost use Rattle.rows.specs.Recording.{after};
+ghost use Rattle.batches.specs.Inner.{Known};
 ghost use Rattle.listing.specs.Inner.{left};
 ghost use Rattle.collecting.specs.Slots.{Few, More, surveyedAt, putSlot};
 ghost use Rattle.singles.specs.Kinds.{step, holds};
-ghost use Rattle.singles.specs.Stores.{heldAt, recordedAt};
+ghost use Rattle.singles.specs.Stores.{heldAt, recordedAt, singleStore};
 ghost use Rattle.singles.specs.Points.{output, singleLister};
 ghost use Rattle.singles.specs.Inner.{place};
 ghost use Rattle.singles.specs.declared.Aggregation.the-variants.{Sum};
@@ -15,7 +16,7 @@ use crate::Aggregation;
 use collecting::Survey;
 
 // What a value makes of what is held.
-fn stepped(aggregation: Aggregation, held: f64, v: f64) -> f64
+pub fn stepped(aggregation: Aggregation, held: f64, v: f64) -> f64
     ensures { λ r. ⌜ r ≡ step aggregation held v ⌝ }
 {
     match aggregation {
@@ -25,7 +26,7 @@ fn stepped(aggregation: Aggregation, held: f64, v: f64) -> f64
 }
 
 // Whether a map may hold a value: a sum may overflow, a last value is one that was recorded, and only finite ones are.
-fn holds(aggregation: Aggregation, held: f64) -> bool
+pub fn holds(aggregation: Aggregation, held: f64) -> bool
     ensures { λ r. ⌜ r ≡ holds aggregation held ⌝ }
 {
     match aggregation {
@@ -35,7 +36,7 @@ fn holds(aggregation: Aggregation, held: f64) -> bool
 }
 
 // What slot x holds, where its entry was updated; else 0.0.
-fn held_at(x: usize, updated: bool, values: &[f64]) -> f64
+pub fn held_at(x: usize, updated: bool, values: &[f64]) -> f64
     requires { ⌜ x < length (now values) ⌝ }
     ensures { λ r. ⌜ r ≡ heldAt (now (values .entry)) x updated ⌝ }
 {
@@ -58,8 +59,21 @@ pub fn record(aggregation: Aggregation, x: usize, updated: bool, values: &mut [f
     0
 }
 
+// Whether slot x may hold what it holds. Where that is known, it is not asked.
+fn is_sound(known: bool, aggregation: Aggregation, x: usize, updated: bool, values: &[f64]) -> bool
+    requires { ⌜ x < length (now values) ⌝ }
+    requires { ⌜ Known (singleStore aggregation) tt known x updated (now values) ⌝ }
+    ensures { λ r. ⌜ r ≡ holds aggregation (heldAt (now (values .entry)) x updated) ⌝ }
+{
+    if known {
+        return true;
+    }
+    holds(aggregation, held_at(x, updated, values))
+}
+
 // The survey with slot x more, which was updated or not and is due or not.
 pub fn survey(
+    known: bool,
     aggregation: Aggregation,
     s: Survey,
     x: usize,
@@ -68,11 +82,11 @@ pub fn survey(
     values: &[f64],
 ) -> Survey
     requires { ⌜ x < length (now values) ⌝ }
-    requires { ⌜ Few s ⌝ }
+    requires { ⌜ Few s × Known (singleStore aggregation) tt known x updated (now values) ⌝ }
     ensures { λ r. ⌜ r ≡ surveyedAt (singleLister aggregation) tt updated due (now (values .entry)) s x ⌝ }
     ensures { λ r. ⌜ More s r ⌝ }
 {
-    if !holds(aggregation, held_at(x, updated, values)) {
+    if !is_sound(known, aggregation, x, updated, values) {
         return Survey {
             sound: false,
             points: 0,

@@ -2,7 +2,7 @@
 ghost use mathlib.Core.Path.{_≡_};
 ghost use mathlib.Core.List.{[]};
 ghost use Rattle.listing.specs.Inner.{left};
-ghost use Rattle.collecting.specs.Slots.{walked, Walk, surveyed, Listable, listedTo};
+ghost use Rattle.collecting.specs.Slots.{walked, Walk, AllKnown, surveyed, Listable, listedTo};
 ghost use Rattle.singles.specs.Stores.{singleStore};
 ghost use Rattle.singles.specs.Points.{output, singleLister};
 ghost use Rattle.singles.specs.Inner.{place};
@@ -12,6 +12,7 @@ use collecting::Survey;
 
 // What the slots are found to be.
 pub fn survey(
+    known: bool,
     cumulative: bool,
     aggregation: Aggregation,
     used: usize,
@@ -20,6 +21,7 @@ pub fn survey(
     values: &[f64],
 ) -> Survey
     requires { ⌜ Walk (singleStore aggregation) (walked used [] (now entries) (now order) (now values)) ⌝ }
+    requires { ⌜ AllKnown (singleStore aggregation) tt known (walked used [] (now entries) (now order) (now values)) ⌝ }
     ensures { λ r. ⌜ r ≡ surveyed (singleLister aggregation) tt cumulative
         (walked used [] (now (entries .entry)) (now (order .entry)) (now (values .entry))) ⌝ }
 {
@@ -34,7 +36,7 @@ pub fn survey(
         let x = collecting::slot_at(order, i);
         let updated = directory::is_updated(entries, x);
         let due = collecting::is_due(cumulative, updated, x);
-        let next = crate::slot::survey(aggregation, found, x, updated, due, values);
+        let next = crate::slot::survey(known, aggregation, found, x, updated, due, values);
         if !next.sound {
             return next;
         }

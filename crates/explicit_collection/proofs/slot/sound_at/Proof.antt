@@ -5,16 +5,20 @@ use denote.Ref.{now}
 use borrow.Author.Needs.{needs}
 use borrow.Author.Tests.{not-false}
 use Rattle.explicit_slots.specs.Cells.{cells}
+use Rattle.collecting.proofs.Sure.{sound-known}
 use Rattle.explicit_collection.proofs.Slots.{agreesAt}
 use Rattle.explicit_collection.proofs.slot.sound_at.Statement.{statement}
 use Rattle.explicit_collection.proofs.slot.sound_at.Tie as tie
 
-returns-2 : tie.Need-returns-2
-returns-2 c =
+returns : tie.Need-returns
+returns c = let s = c .before .before .before .before in sound-known (s .args .updated) _ (s .pre .1 (c .if1 .taken))
+
+returns-3 : tie.Need-returns-3
+returns-3 c =
     let e = c .before in
-    let a = e .before .before .before .before .args in
+    let a = e .before .before .before .before .before .args in
     c .agrees-at .ensures
-    ∙ ap (λ (b : Bool). not b || agreesAt (now (a .bounds)) (cells (a .totals) (a .extremes) (a .counts)) (a .x)) (sym (not-false (a .updated) (e .if1 .left)))
+    ∙ ap (λ (b : Bool). not b || agreesAt (now (a .bounds)) (cells (a .totals) (a .extremes) (a .counts)) (a .x)) (sym (not-false (a .updated) (e .if2 .left)))
 
 pub sound-at-spec : {M : Type 1} → statement M
-sound-at-spec = tie.close (tie.spec (λ c. search needs) (λ c κs. search needs) returns-2)
+sound-at-spec = tie.close (tie.spec returns (λ c. search needs) (λ c κs. search needs) returns-3)

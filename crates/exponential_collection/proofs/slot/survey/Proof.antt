@@ -22,6 +22,9 @@ sound : (e : tie.Else1) → (not (start (e .before) .args .updated)
     || agreesAt (start (e .before) .args .size) (start (e .before) .args .top) (start (e .before) .pre .0 .0) (lent (start (e .before))) (start (e .before) .args .x) (start (e .before) .pre .0 .1)) ≡ true
 sound e = sym (e .before .is-sound .ensures) ∙ not-false (e .before .is-sound .result) (e .if1 .left)
 
+is-sound-requires : tie.Need-is-sound-requires
+is-sound-requires c κs = let s = c .before .before in (s .pre .0, s .pre .1 .1)
+
 returns : tie.Need-returns
 returns c =
     let s = start (c .before) in
@@ -45,7 +48,7 @@ counted-requires c κs =
     let e = c .before .before in
     let s = start (e .before) in
     let a = s .args in
-    (s .pre .1, words-few (a .size) (a .top) (s .pre .0 .0) (lent s) (a .x) (s .pre .0 .1) (a .updated) (sound e))
+    (s .pre .1 .0, words-few (a .size) (a .top) (s .pre .0 .0) (lent s) (a .x) (s .pre .0 .1) (a .updated) (sound e))
 
 returns-3 : tie.Need-returns-3
 returns-3 c =
@@ -64,4 +67,4 @@ returns-3 c =
 pub survey-spec : {M : Type 1} → statement M
 survey-spec =
     tie.close
-    (tie.spec (λ c κs. search needs) returns returns-2 (λ c. search needs) (λ c. search needs) counted-requires returns-3)
+    (tie.spec is-sound-requires returns returns-2 (λ c. search needs) (λ c. search needs) counted-requires returns-3)

@@ -1,0 +1,2 @@
+-- The definitions that the contracts of `single_batches` cite.
+pub mod Inner

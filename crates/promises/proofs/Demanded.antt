@@ -36,6 +36,7 @@ use Rattle.promises.specs.Promises.{PromisedWhole}
 use Rattle.collecting.proofs.Owed.{Lists}
 use Rattle.promises.proofs.Runs.{Keeps, begun, ready, faithful, runs}
 use Rattle.promises.proofs.Cumulates.{cumulates}
+use Rattle.promises.proofs.Owned.{owns}
 use Rattle.promises.proofs.Numbers.{Owes}
 use Rattle.promises.proofs.Pooling.{pointed, pooled}
 use Rattle.promises.proofs.Stored.{Storing, run-read, run-shaped}
@@ -110,4 +111,5 @@ module _ {N : Number} (P : InRuns N) (A : Owes P) where
           demand = demanded limit filter s x l zero;
           told = runs W L keeps w Q lawful-kind steady-kind limit filter s x l zero;
           cumulative = cumulates W L keeps w Q steady-kind limit filter s x l zero;
+          owned = owns W L keeps w Q steady-kind limit filter s x l zero;
         }

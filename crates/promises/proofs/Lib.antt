@@ -1,6 +1,7 @@
 -- The terms of the promises.
 pub mod Runs
 pub mod Cumulates
+pub mod Owned
 pub mod Seen
 pub mod Numbers
 pub mod Groupings

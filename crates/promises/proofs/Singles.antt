@@ -24,6 +24,7 @@ use Rattle.promises.specs.Promises.{PromisedAnswers, SinglesDemand}
 use Rattle.promises.specs.Runs.{run}
 use Rattle.promises.proofs.Runs.{Keeps, faithful, runs}
 use Rattle.promises.proofs.Cumulates.{cumulates}
+use Rattle.promises.proofs.Owned.{owns}
 
 -- every store of f64s can be lent
 keeps : (a : Aggregation) → Keeps (singleLister a)
@@ -42,6 +43,7 @@ module _ (a : Aggregation) (limit : ℕ) (filter : Option (List ℕ)) (s : Store
             (faithful (owed a) L (keeps a) tt (lists a) limit filter s x tt zero) xs p;
         told = runs (owed a) L (keeps a) tt (lists a) (lawful a) (steady a) limit filter s x tt zero;
         cumulative = cumulates (owed a) L (keeps a) tt (lists a) (steady a) limit filter s x tt zero;
+        owned = owns (owed a) L (keeps a) tt (lists a) (steady a) limit filter s x tt zero;
       }
 
   abbrev asked : Settings

@@ -1,5 +1,6 @@
 -- The theorems about the code, and the words that they use.
 pub mod Runs
+pub mod Owned
 pub mod Numbers
 pub mod Seen
 pub mod Pooled

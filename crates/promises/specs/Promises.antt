@@ -54,6 +54,7 @@ use Rattle.singles.specs.declared.Aggregation.{Aggregation}
 use Rattle.singles.specs.declared.Setup as SinglesSetup
 use Rattle.promises.specs.Numbers.{InRuns, kindOf, reals, wholes}
 use Rattle.promises.specs.Runs.{Asked, asks, run, EveryRun, Cumulates}
+use Rattle.promises.specs.Owned.{Owns}
 use Rattle.promises.specs.Pooled.{Holds}
 
 -- ---- ANY RUN of the code, from configuring that was accepted
@@ -68,6 +69,9 @@ module _ {K : Kind} {S : Store K} (L : Lister S) (w : S .Switches) (limit : ℕ)
     pub told : Tells K (configOf S w limit filter) (run L w limit filter h) (mapOf S w)
     -- and of a cumulative collection after every run: "every named entry is listed, even one bound and never recorded .. cumulative leaves it"
     pub cumulative : Cumulates L w limit filter h
+    -- "a map that only these calls touch never needs a check": it is owned after every run, and gives each call `.._agreed`, whose answer is by the same
+    -- definition as that of the call without, what that requires
+    pub owned : Owns L w limit filter h
 
 -- of a histogram kind over a number, demand 3 whole
 abbrev pub PromisedWhole : {N : Number} (P : InRuns N) {S : Store (kindOf P)} → Lister S → List Float → S .Switches → ℕ → Option (List ℕ)

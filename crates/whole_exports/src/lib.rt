@@ -1,5 +1,6 @@
-// Calls for programs in other languages: a value recorded by set into the map of the exponential kind over i64.
+// Calls for programs in other languages: a value recorded by set into the map of the exponential kind over i64, with the sum on.
 ghost use mathlib.Core.Path.{_≡_};
+ghost use mathlib.Core.Bool.{true};
 ghost use mathlib.Core.List.{[]};
 ghost use mathlib.Core.Option.{none};
 ghost use lib.ListN.{getD};
@@ -26,10 +27,9 @@ pub extern "C" fn whole_measure(
     neg: &mut [u64],
     v: i64,
     attrs: &[[u32; 2]],
-    sums: bool,
 ) -> u64
     ensures { λ r. ⌜ handed r (state .exit) (stores (sets .exit) (entries .exit) (order .exit)) (cells (figures .exit) (extremes .exit) (pos .exit) (neg .exit))
-        ≡ handedOut (now (state .entry)) (measured (exponentialWholes size top sums) limit none
+        ≡ handedOut (now (state .entry)) (measured (exponentialWholes size top true) limit none
         (held (stateOf (getD (now (state .entry)) 0 [])) (stores (sets .entry) (entries .entry) (order .entry))
         (cells (figures .entry) (extremes .entry) (pos .entry) (neg .entry))) v (given (now (attrs .entry)))) ⌝ }
 {
@@ -38,7 +38,7 @@ pub extern "C" fn whole_measure(
     let reply = whole_map::exponential_map::measure(
         size,
         top,
-        sums,
+        true,
         limit,
         d,
         sets,

@@ -1,5 +1,6 @@
-// Calls for programs in other languages: a value recorded by handle into the map of the exponential kind over i64.
+// Calls for programs in other languages: a value recorded by handle into the map of the exponential kind over i64, with the sum on.
 ghost use mathlib.Core.Path.{_≡_};
+ghost use mathlib.Core.Bool.{true};
 ghost use mathlib.Core.List.{[]};
 ghost use lib.ListN.{getD};
 ghost use Rattle.directory.specs.View.{stores};
@@ -24,10 +25,9 @@ pub extern "C" fn whole_measure_by(
     neg: &mut [u64],
     v: i64,
     handle: u64,
-    sums: bool,
 ) -> u64
     ensures { λ r. ⌜ handed r (state .exit) (stores (sets .exit) (entries .exit) (order .exit)) (cells (figures .exit) (extremes .exit) (pos .exit) (neg .exit))
-        ≡ handedOut (now (state .entry)) (measuredBy (exponentialWholes size top sums) limit
+        ≡ handedOut (now (state .entry)) (measuredBy (exponentialWholes size top true) limit
         (held (stateOf (getD (now (state .entry)) 0 [])) (stores (sets .entry) (entries .entry) (order .entry))
         (cells (figures .entry) (extremes .entry) (pos .entry) (neg .entry))) v handle) ⌝ }
 {
@@ -35,7 +35,7 @@ pub extern "C" fn whole_measure_by(
     let reply = whole_map::exponential_map::measure_by(
         size,
         top,
-        sums,
+        true,
         limit,
         d,
         sets,

@@ -1,5 +1,6 @@
 -- `whole_exports::whole_measure` meets its contract. Assumes nothing.
 use mathlib.Core.Path.{_∙_}
+use mathlib.Core.Bool.{true}
 use mathlib.Core.Option.{none}
 use denote.Ref.{now}
 use lib.IntN.{ℤ}
@@ -23,7 +24,7 @@ returns c =
     let a = b .args in
     let s = stores (a .sets) (a .entries) (a .order) in
     let x = cells (a .figures) (a .extremes) (a .pos) (a .neg) in
-    let by : Directory → ℤ → Outcome Cells = λ d v. measured (exponentialWholes (a .size) (a .top) (a .sums)) (a .limit) none (held d s x) v (given (now (a .attrs))) in
+    let by : Directory → ℤ → Outcome Cells = λ d v. measured (exponentialWholes (a .size) (a .top) true) (a .limit) none (held d s x) v (given (now (a .attrs))) in
     let e = m .measure .ensures ∙ (λ j. by (t .state-of .ensures j) (Range.held (a .v) (b .fits .v) j)) in
     handed (now (a .state)) _ _ (m .measure .result) _ (c .number-of .result) _ e (c .number-of .ensures) (c .before .words-of .ensures)
 

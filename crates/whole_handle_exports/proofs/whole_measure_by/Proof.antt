@@ -1,5 +1,6 @@
 -- `whole_handle_exports::whole_measure_by` meets its contract. Assumes nothing.
 use mathlib.Core.Path.{_∙_}
+use mathlib.Core.Bool.{true}
 use denote.Ref.{now}
 use lib.IntN.{ℤ}
 use Rattle.integers.proofs.Range as Range
@@ -21,7 +22,7 @@ returns c =
     let a = b .args in
     let s = stores (a .sets) (a .entries) (a .order) in
     let x = cells (a .figures) (a .extremes) (a .pos) (a .neg) in
-    let by : Directory → ℤ → Outcome Cells = λ d v. measuredBy (exponentialWholes (a .size) (a .top) (a .sums)) (a .limit) (held d s x) v (a .handle) in
+    let by : Directory → ℤ → Outcome Cells = λ d v. measuredBy (exponentialWholes (a .size) (a .top) true) (a .limit) (held d s x) v (a .handle) in
     let e = m .measure-by .ensures ∙ (λ j. by (t .state-of .ensures j) (Range.held (a .v) (b .fits .v) j)) in
     handed (now (a .state)) _ _ (m .measure-by .result) _ (c .number-of .result) _ e (c .number-of .ensures) (c .before .words-of .ensures)
 

@@ -1,0 +1,2 @@
+-- What the exported calls' contracts cite.
+pub mod Words

@@ -1,6 +1,6 @@
 //! The cases: what is measured, and how many operations a round has.
 
-use crate::inputs::{first, grid, last, unlike, Input, ROWS, VALUES};
+use crate::inputs::{first, grid, last, triples, unlike, Input, ROWS, VALUES};
 use crate::{lowering, ours, rust, sheets};
 
 /// One side of a case. `prepare` is not measured.
@@ -33,6 +33,9 @@ pub struct Case {
 pub const COLLECTIONS: usize = 16;
 
 pub fn all() -> Vec<Case> {
+    if cfg!(raised) {
+        return raised();
+    }
     let mut cases = vec![
         index("index, scale 10", 10),
         index("index, scale 3", 3),
@@ -87,6 +90,22 @@ pub fn all() -> Vec<Case> {
         explicit("explicit, by set, 62 sets of 8", many()),
         sum("sum, by set, 4 sets of 2", few()),
         sum_by_handle("sum, by handle, 4 sets of 2", few()),
+        agreed_by_set("agreed, by set, 4 sets of 2, rows of 20", few().rows(20)),
+        agreed_by_set("agreed, by set, 4 sets of 2", few()),
+        agreed_by_set("agreed, by set, 62 sets of 8", many()),
+        agreed_by_handle("agreed, by handle, 4 sets of 2, rows of 20", few().rows(20)),
+        agreed_by_handle("agreed, by handle, 4 sets of 2", few()),
+        agreed_by_handle("agreed, by handle, 62 sets of 8", many()),
+        batch_by_set("batch of 64, by set, 62 sets of 8", many().batches(64)),
+        batch_by_set("batch of 1024, by set, 62 sets of 8", many().batches(1024)),
+        batch_by_handle("batch of 64, by handle, 4 sets of 2", few().batches(64)),
+        batch_by_handle("batch of 64, by handle, 62 sets of 8", many().batches(64)),
+        batch_by_handle("batch of 1024, by handle, 4 sets of 2", few().batches(1024)),
+        batch_by_handle("batch of 1024, by handle, 62 sets of 8", many().batches(1024)),
+        batch_agreed("agreed batch of 64, by handle, 62 sets of 8", many().batches(64)),
+        batch_agreed("agreed batch of 1024, by handle, 62 sets of 8", many().batches(1024)),
+        whole_agreed("i64, agreed, by handle, 62 sets of 8", many()),
+        whole_batch("i64, batch of 1024, by handle, 62 sets of 8", many().batches(1024)),
     ]);
     let full = || Input::of(last(62, 2)).rows(160);
     cases.extend([
@@ -109,6 +128,25 @@ pub fn all() -> Vec<Case> {
         sheet("sheet, explicit points, read", true, sheets::read),
     ]);
     cases
+}
+
+/// Cases of more sets than document 01's limit allows, over the libraries of a copy in which it was raised.
+fn raised() -> Vec<Case> {
+    let three = || Input::of(triples(2000));
+    let eight = || Input::of(last(2000, 8));
+    vec![
+        by_set("by set, 2000 sets of 3", three()),
+        by_handle("by handle, 2000 sets of 3", three()),
+        agreed_by_set("agreed, by set, 2000 sets of 3, rows of 20", three().rows(20)),
+        agreed_by_set("agreed, by set, 2000 sets of 3", three()),
+        agreed_by_set("agreed, by set, 2000 sets of 8", eight()),
+        agreed_by_handle("agreed, by handle, 2000 sets of 3, rows of 20", three().rows(20)),
+        agreed_by_handle("agreed, by handle, 2000 sets of 3", three()),
+        agreed_by_handle("agreed, by handle, 2000 sets of 8", eight()),
+        batch_by_handle("batch of 1024, by handle, 2000 sets of 3", three().batches(1024)),
+        batch_agreed("agreed batch of 64, by handle, 2000 sets of 3", three().batches(64)),
+        batch_agreed("agreed batch of 1024, by handle, 2000 sets of 3", three().batches(1024)),
+    ]
 }
 
 fn rescale(name: &'static str, levels: u32) -> Case {
@@ -178,6 +216,36 @@ fn whole_by_handle(name: &'static str, input: Input) -> Case {
         rust::whole_by_handle,
         ours::whole_by_handle,
     )
+}
+
+/// Ours in a map that agrees, which asks nothing again; the Rust's calls are the same as without.
+fn agreed_by_set(name: &'static str, input: Input) -> Case {
+    both(name, VALUES, input, rust::by_set, ours::agreed_by_set)
+}
+
+fn agreed_by_handle(name: &'static str, input: Input) -> Case {
+    both(name, VALUES, input, rust::by_handle, ours::agreed_by_handle)
+}
+
+/// Ours many values a call; the Rust, which has no such call, one by one. An operation is a value.
+fn batch_by_set(name: &'static str, input: Input) -> Case {
+    both(name, VALUES, input, rust::by_set, ours::batch_by_set)
+}
+
+fn batch_by_handle(name: &'static str, input: Input) -> Case {
+    both(name, VALUES, input, rust::by_handle, ours::batch_by_handle)
+}
+
+fn batch_agreed(name: &'static str, input: Input) -> Case {
+    both(name, VALUES, input, rust::by_handle, ours::batch_agreed)
+}
+
+fn whole_agreed(name: &'static str, input: Input) -> Case {
+    both(name, VALUES, input, rust::whole_by_handle, ours::whole_agreed_by_handle)
+}
+
+fn whole_batch(name: &'static str, input: Input) -> Case {
+    both(name, VALUES, input, rust::whole_by_handle, ours::whole_batch_by_handle)
 }
 
 fn explicit(name: &'static str, input: Input) -> Case {

@@ -6,7 +6,8 @@ pub const VALUES: usize = 4096;
 /// Settings of the recording cases.
 pub const MAX_SIZE: u32 = 160;
 pub const MAX_SCALE: i8 = 10;
-pub const LIMIT: usize = 62;
+/// The limit: document 01's, or that of the copy in which it was raised (request L12 will have it so).
+pub const LIMIT: usize = if cfg!(raised) { 2000 } else { 62 };
 
 /// Bounds of the explicit kind, in millimetres.
 pub const BOUNDS: [f64; 15] = [
@@ -28,6 +29,8 @@ pub struct Input {
     pub values: Vec<f64>,
     /// Recorded under every set before anything is measured: values that fill its rows, or one value.
     pub first: Vec<f64>,
+    /// How many values go to one set before the next one.
+    pub batch: usize,
 }
 
 impl Input {
@@ -42,7 +45,15 @@ impl Input {
             order,
             values: values(),
             first: vec![1.0],
+            batch: 1,
         }
+    }
+
+    /// So many values after another under the set of the first of them.
+    pub fn batches(mut self, many: usize) -> Self {
+        self.batch = many;
+        self.order = (0..VALUES).map(|i| self.order[i - i % many]).collect();
+        self
     }
 
     /// In place of the benchmark's values such as keep both rows of every set at `width` counts.
@@ -92,16 +103,23 @@ fn apart(sets: u32, count: u32, by: u32) -> Vec<Set> {
     (0..sets).map(set).collect()
 }
 
-/// Eight blades and eight species, as many of their pairs as the limit allows.
+/// Eight blades and eight species, 62 of their pairs.
 pub fn grid() -> Vec<Set> {
-    (0..LIMIT as u32)
+    (0..62)
         .map(|x| vec![(1, x / 8), (2, x % 8)])
+        .collect()
+}
+
+/// Blade, species and supplier: so many of their triples.
+pub fn triples(sets: u32) -> Vec<Set> {
+    (0..sets)
+        .map(|x| vec![(1, x / 100), (2, x / 10 % 10), (3, x % 10)])
         .collect()
 }
 
 /// Sets of one to four attributes, no key of one in another.
 pub fn unlike() -> Vec<Set> {
-    (0..LIMIT as u32)
+    (0..62)
         .map(|x| (0..=x % 4).map(|i| (100 * i + x, 7)).collect())
         .collect()
 }

@@ -14,6 +14,7 @@ mod exponential_map;
 mod inputs;
 mod lowering;
 mod ours;
+mod owned;
 mod rust;
 mod sheets;
 mod sum_map;

@@ -141,6 +141,59 @@ pub fn by_handle(input: Input) -> Side {
     by_handles(&input, input.values.clone(), handles, move |v, h| map.record_by(v, h))
 }
 
+pub fn agreed_by_set(input: Input) -> Side {
+    let mut map = filled(&input);
+    by_sets(&input, input.values.clone(), move |v, set| map.record_agreed(v, set))
+}
+
+pub fn agreed_by_handle(input: Input) -> Side {
+    let mut map = filled(&input);
+    let handles = bound(&mut map.directory, &input);
+    by_handles(&input, input.values.clone(), handles, move |v, h| map.record_by_agreed(v, h))
+}
+
+/// Every batch by its set.
+pub fn batch_by_set(input: Input) -> Side {
+    let mut map = filled(&input);
+    let sets = pairs(&input);
+    batches(&input, input.values.clone(), move |values, x| map.record_all(values, &sets[x]))
+}
+
+/// Every batch by its set's handle.
+pub fn batch_by_handle(input: Input) -> Side {
+    let mut map = filled(&input);
+    let handles = bound(&mut map.directory, &input);
+    batches(&input, input.values.clone(), move |values, x| map.record_all_by(values, handles[x]))
+}
+
+pub fn batch_agreed(input: Input) -> Side {
+    let mut map = filled(&input);
+    let handles = bound(&mut map.directory, &input);
+    batches(&input, input.values.clone(), move |values, x| map.record_all_by_agreed(values, handles[x]))
+}
+
+pub fn whole_agreed_by_handle(input: Input) -> Side {
+    let mut map = filled_wholes(&input);
+    let handles = bound(&mut map.directory, &input);
+    by_handles(&input, inputs::wholes(&input.values), handles, move |v, h| map.record_by_agreed(v, h))
+}
+
+pub fn whole_batch_by_handle(input: Input) -> Side {
+    let mut map = filled_wholes(&input);
+    let handles = bound(&mut map.directory, &input);
+    batches(&input, inputs::wholes(&input.values), move |values, x| map.record_all_by(values, handles[x]))
+}
+
+/// Every batch by its place among the sets.
+fn batches<V: 'static>(input: &Input, values: Vec<V>, mut record: impl FnMut(&[V], usize) + 'static) -> Side {
+    let (order, many) = (input.order.clone(), input.batch);
+    Side::of(move || {
+        for (values, sets) in values.chunks(many).zip(order.chunks(many)) {
+            record(black_box(values), black_box(sets[0]));
+        }
+    })
+}
+
 pub fn whole_by_set(input: Input) -> Side {
     let mut map = filled_wholes(&input);
     by_sets(&input, inputs::wholes(&input.values), move |v, set| map.record(v, set))

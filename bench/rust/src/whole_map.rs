@@ -19,7 +19,6 @@ extern "C" {
         neg: Lent<u64>,
         v: i64,
         attrs: Lent<[u32; 2]>,
-        sums: bool,
     ) -> u64;
 
     fn whole_measure_by(
@@ -36,7 +35,6 @@ extern "C" {
         neg: Lent<u64>,
         v: i64,
         handle: u64,
-        sums: bool,
     ) -> u64;
 }
 
@@ -59,7 +57,6 @@ impl Map<i64> {
                 lent(&mut self.neg),
                 v,
                 shown(attrs),
-                true,
             )
         };
         assert_eq!(no, 0);
@@ -83,7 +80,6 @@ impl Map<i64> {
                 lent(&mut self.neg),
                 v,
                 handle,
-                true,
             )
         };
         assert_eq!(no, 0);

@@ -56,17 +56,18 @@ class Comparer:
         return BESIDE if both and self.same(without(lines, both)) else UNEXPLAINED
 
     def near_bounds(self, lines):
-        """(place, starting scale, bits of the magnitude) of each accepted record of an f64 beside a bound, or of an i64 nearest to one."""
+        """(place, starting scale, bits of the magnitude) of each f64 beside a bound, or i64 nearest to one, that was recorded."""
         reference = Reference(self.rules)
         for place, line in enumerate(lines):
-            _, refusal = reference.line(place, line)
+            answers, refusal = reference.line(place, line)
             config = reference.config
-            if refusal != 0 or line[:1] not in ("r", "h") or config.kind != "e":
+            if refusal != 0 or line[:1] not in ("r", "h", "R", "H") or config.kind != "e":
                 continue
             numbers = NUMBERS[config.number]
-            bits = to_bits(numbers.nearest(numbers.parse(script.read_value(script.read_line(line).value, config.number)))) & ~SIGN
-            if bits and beside_bound(bits):
-                yield place, config.scale, bits
+            for value in values_taken(script.read_line(line), answers):
+                bits = to_bits(numbers.nearest(numbers.parse(script.read_value(value, config.number)))) & ~SIGN
+                if bits and beside_bound(bits):
+                    yield place, config.scale, bits
 
     def differing(self, lines):
         """Places of the records beside a bound whose index at the starting scale is another in the Rust."""
@@ -78,11 +79,16 @@ class Comparer:
         return self.bins[scale, bits]
 
     def giving_twice(self, lines):
-        sets = [(place, call.set) for place, call in calls(lines) if isinstance(call, (script.Record, script.Bind))]
+        sets = [(place, call.set) for place, call in calls(lines) if isinstance(call, (script.Record, script.RecordAll, script.Bind))]
         return [place for place, attributes in sets if len(dict(attributes)) < len(attributes)]
 
     def unexplained(self, lines):
         return not self.same(lines) and self.explain(lines) == UNEXPLAINED
+
+
+def values_taken(call, answers):
+    """The values that an accepted call recorded, of a batch those before the first refused."""
+    return call.values[: script.read_taken(answers[0])[0]] if isinstance(call, script.BATCHES) else (call.value,)
 
 
 def agreed(question):

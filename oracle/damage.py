@@ -61,10 +61,10 @@ def kept_damage(draw, held):
     return [script.damage(store, k, cell, number % 2**64), script.Merge(draw.randint(5, 7), *pair, size, counts)]
 
 
-def full(draw, held):
+def full(draw, held, batches):
     """Cells that make a count, a binding count or the last birth number as large as it can be, or one less, and still agree; or a value of a sum or
-    last value; or a sum of whole numbers at an end of i64."""
-    most = 2**64 - draw.choice((1, 1, 2))
+    last value; or a sum of whole numbers at an end of i64. With batches a few less too, so that some of their values are counted."""
+    most = 2**64 - draw.choice((1, 2, 3, 6) if batches else (1, 1, 2))
     stores = held.map
     updated = [slot for slot in range(min(stores.used, 63) + 1) if stores.updated(slot)]
     what = draw.choice(("birth", "bindings", "series", "series", "point") + ("sum", "sum", "total") * (stores.number() == "i"))
@@ -91,6 +91,16 @@ def full(draw, held):
     return [script.damage("t", slot, 0, most), script.damage("p", place, 0, most - others)]
 
 
+def batch_into(draw, held):
+    """A batch into a set that is held or by a number that a place holds: it may meet a count that is nearly full."""
+    stores = held.map
+    values = [script.write_bits(FLOATS[-1]) if stores.number() == "f" else "5"] * draw.randint(1, 7)
+    births = [place for place, birth in enumerate(held.handles) if birth]
+    if births and draw.random() < 0.4:
+        return script.RecordAllBound(draw.choice(births), tuple(values))
+    return script.RecordAll(tuple(values), stores.set_at(draw.randint(0, min(stores.used, 63))))
+
+
 def full_words(k, held, most):
     words = held.out_words[machine.PLACES + k]
     if words[0] not in (0, 2):
@@ -106,7 +116,9 @@ def make(name, options=generate.Options()):
         added = [line]
         held.line(0, line)
         if draw.random() < 0.05:
-            cells = full(draw, held) if held.config and draw.random() < 0.3 else [some_damage(draw, held.map)]
+            filled = held.config and draw.random() < 0.3
+            cells = full(draw, held, options.batches) if filled else [some_damage(draw, held.map)]
+            cells += [batch_into(draw, held)] if filled and options.batches else []
             added += map(script.write_line, cells)
         if wholes and line[0] in "jk" and draw.random() < 0.5:
             added += map(script.write_line, kept_damage(draw, held))

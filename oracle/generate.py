@@ -22,13 +22,14 @@ REFUSED_BOUNDS = ([NAN], [0, 0], [0, SIGN], [5, 4], [1, NAN, 2], range(160), [NA
 @dataclass(frozen=True)
 class Options:
     """What requests widen: kinds (L1, L6), bound sets in cumulative collections (L4), `rules` (limits L12, scales L13), thresholds (L7), new
-    settings (L10)."""
+    settings (L10); batches, many values in one call."""
 
     kinds: tuple = BASE_KINDS
     rules: Rules = Rules()
     thresholds: bool = False
     new_settings: bool = False
     cumulative: bool = False
+    batches: bool = False
 
 
 # Values. Each kind of value is a function of the source and of the script's middle exponent.
@@ -331,6 +332,22 @@ class Maker:
     def value(self):
         return script.write_bits(self.bits()) if self.kind[1] == "f" else str(self.whole())
 
+    def values(self):
+        """None, a few or many; among f64s now and then one more that isn't finite, at the first place, at the last or between."""
+        draw = self.draw
+        values = [self.value() for _ in range(draw.choice((0, 1, 2, 3, 5, draw.randint(0, 14), 14 if self.kind[1] == "f" else 40)))]
+        if self.kind[1] == "f" and values and draw.random() < 0.1:
+            values[draw.choice((0, draw.randrange(len(values)), -1))] = script.write_bits(not_finite(draw, 0))
+        return tuple(values)
+
+    def in_batches(self):
+        return self.options.batches and self.draw.random() < 0.5
+
+    def recording(self):
+        if self.in_batches():
+            return fitted(script.RecordAll(self.values(), self.set()))
+        return script.Record(self.value(), self.set())
+
     def script(self):
         calls = self.early() + self.configuration()
         if self.options.cumulative:
@@ -344,7 +361,7 @@ class Maker:
         """Now and then calls before any accepted configuration: they can't be read."""
         if self.draw.random() > 0.03:
             return []
-        return [script.Configure("e", "f", 2, 0, None, 0, "d", True, True, 0), self.binding(), script.Record(self.value(), self.set()), *self.collection()]
+        return [script.Configure("e", "f", 2, 0, None, 0, "d", True, True, 0), self.binding(), self.recording(), *self.collection()]
 
     def configuration(self, same_number=False):
         if self.wholes and not same_number:
@@ -380,7 +397,7 @@ class Maker:
             return [script.NewSettings(self.draw.choice((3, 20, 160)), self.draw.randint(-10, 10))]
         if lively and chance < 0.45:
             return [self.binding()]
-        return [script.Record(self.value(), self.set())]
+        return [self.recording()]
 
     def binding(self):
         handle = self.draw.choice(self.handles)
@@ -392,6 +409,8 @@ class Maker:
             handle = self.draw.choice(self.bound)
         if chance < 0.5:
             return script.Release(handle)
+        if self.in_batches():
+            return fitted(script.RecordAllBound(handle, self.values()))
         return script.RecordBound(handle, self.value())
 
     def collection(self):
@@ -410,7 +429,7 @@ class Maker:
         if len(self.kept) < 2 or draw.random() < 0.7:
             new = draw.sample(range(5), draw.choice((1, 2)))
             lines = self.configuration() if self.wholes and draw.random() < 0.3 else []
-            lines += [script.Record(self.value(), self.set()) for _ in range(draw.choice((1, 2, 4)))]
+            lines += [self.recording() for _ in range(draw.choice((1, 2, 4)))]
             lines += [script.Collect(self.time, None, None), *(script.Keep(point, place) for place, point in enumerate(new))]
             self.kept |= set(new)
         kept = sorted(self.kept)
@@ -423,9 +442,16 @@ class Maker:
         """Calls with stores of some length, perhaps too short. A configuration that is refused must not change the number of the values."""
         draw = self.draw
         lent = script.Stores(draw.choice((None, 0, 100)), draw.choice((None, 2, 8)))
-        by_set = [self.binding()], [script.Record(self.value(), self.set())]
+        by_set = [self.binding()], [self.recording()]
         calls = draw.choice((*by_set, self.collection(), self.configuration(same_number=True)))
         return [lent, *calls, script.Stores(None, None)]
+
+
+def fitted(call):
+    """A batch with as many of its values as a line has place for."""
+    while len(script.write_line(call)) > script.LINE_MOST:
+        call = replace(call, values=call.values[:-1])
+    return call
 
 
 def make(name, options=Options()):
@@ -442,11 +468,12 @@ def read_arguments(about, *more):
     parser.add_argument("--thresholds", action="store_true", help="zero thresholds (request L7)")
     parser.add_argument("--new-settings", action="store_true", help="new settings (request L10)")
     parser.add_argument("--cumulative", action="store_true", help="cumulative collections only, and bindings in every script (request L4)")
+    parser.add_argument("--batches", action="store_true", help="many values in one call beside single recordings")
     for name in more:
         parser.add_argument(name)
     given = parser.parse_args()
     rules = Rules(limits=range(0, given.limit + 1))
-    options = Options(tuple(given.kinds.split(",")), rules, given.thresholds, given.new_settings, given.cumulative)
+    options = Options(tuple(given.kinds.split(",")), rules, given.thresholds, given.new_settings, given.cumulative, given.batches)
     return [f"{given.seed}.{i}" for i in range(given.count)], options, given
 
 

@@ -62,7 +62,7 @@ class Machine(Reference):
     # Recording: 12, 6, 5, 8, 9, 16. By handle: 12, 6, 8, 7, 9, 16. Binding: 12, 5, 8, 9. Releasing: 12, 8, 7.
 
     def given(self, call):
-        self.readable(call)
+        self.readable(call.value)
         self.running()
         return self.value(call.value)
 

@@ -7,6 +7,7 @@
 """
 
 import sys
+from copy import deepcopy
 from dataclasses import replace
 from unittest.mock import patch
 
@@ -19,7 +20,7 @@ import reference
 import sample
 import words
 from points import NUMBERS, Refused
-from script import OVERFLOW
+from script import OVERFLOW, read_taken, write_taken
 from stores import ENTRIES, EXTREMES, FIGURES, TOTALS, VALUES, WHOLES, Stores
 
 find_or_make = reference.Map.find_or_make
@@ -32,6 +33,7 @@ SWEEP, LAY, PLACES = Stores.sweep, Stores.lay, machine.Machine.check_places
 AGREES, FRESHEN, LIST_VALUES, WORDS = Stores.series_agrees, Stores.freshen, machine.Machine.list_values, Stores.words_of
 EXTREME, HELD, RECORD, CHECK_MERGE, MERGED = points.extremes, points.held, reference.Reference.record, points.check_merge, points.merged
 GIVEN, CHECK_SUM, IS_POINT = machine.Machine.given, Stores.check_sum, words.is_point
+EACH, RECORD_ALL, READABLE = reference.Reference.each, reference.Reference.record_all, reference.Reference.readable
 
 # Of the reference.
 
@@ -356,6 +358,102 @@ WHOLE_OURS = [
     ("11 for unlike numbers before 1 and 8", points, "check_merge", number_first),
     ("a merged sum that wraps around", points, "join_held", sums_unchecked),
 ]
+
+
+# Many values in one call.
+
+
+def skipped(self, values, recorded):
+    """A value that is refused is left out."""
+    self.readable(*values)
+    answers = [read_taken(EACH(self, [value], recorded)[0]) for value in values]
+    return [write_taken(sum(taken for taken, _ in answers), next((number for _, number in answers if number), 0))]
+
+
+def last_first(self, values, recorded):
+    return EACH(self, values[::-1], recorded)
+
+
+def first_alone(self, values, recorded):
+    self.readable(*values)
+    answer = EACH(self, values[:1], recorded)
+    return answer if answer != [write_taken(1, 0)] else [write_taken(len(values), 0)]
+
+
+def seated_first(self, call):
+    """The set is made whether or not a value is taken."""
+    if call.values and self.config and len(call.set) <= self.rules.attributes_most:
+        self.map.find_or_make(self.canonical(call.set), self.config.limit)
+    return RECORD_ALL(self, call)
+
+
+def asked_of_the_first(place, test):
+    """A test left out for all values of a batch but the first."""
+
+    def each(self, values, recorded):
+        self.readable(*values)
+        first = EACH(self, values[:1], recorded)
+        if first != [write_taken(1, 0)]:
+            return first
+        with patch.object(place, test, lambda *_: None):
+            taken, number = read_taken(EACH(self, values[1:], recorded)[0])
+        return [write_taken(taken + 1, number)]
+
+    return each
+
+
+BATCH_MUTANTS = [
+    ("a batch goes on behind a refused value", reference.Reference, "each", skipped),
+    ("the values of a batch taken from the last", reference.Reference, "each", last_first),
+    ("the first value of a batch taken alone", reference.Reference, "each", first_alone),
+    ("a batch makes its set though no value is taken", reference.Reference, "record_all", seated_first),
+    ("16 asked of the first value of a batch alone", reference.Reference, "each", asked_of_the_first(reference.Reference, "check_sum")),
+]
+
+
+def all_or_none(self, values, recorded):
+    held = deepcopy(self.map)
+    answer = EACH(self, values, recorded)
+    _, number = read_taken(answer[0])
+    if number:
+        self.map = held
+    return [write_taken(0, number)] if number else answer
+
+
+def refused_one_counted(self, values, recorded):
+    taken, number = read_taken(EACH(self, values, recorded)[0])
+    return [write_taken(taken + (number != 0), number)]
+
+
+def number_forgotten(self, values, recorded):
+    """Where some were taken."""
+    taken, number = read_taken(EACH(self, values, recorded)[0])
+    return [write_taken(taken, 0 if taken else number)]
+
+
+def empty_asked(self, call):
+    """An empty list is refused as a value would be."""
+    try:
+        self.running()
+        self.canonical(call.set)
+    except Refused as refused:
+        return [write_taken(0, refused.number)]
+    return RECORD_ALL(self, call)
+
+
+def read_as_asked(self, *values):
+    """A list is read only up to the first value that can't be."""
+    READABLE(self, *values[:1])
+
+
+# What the Rust can't show: it is asked the values that were taken, whatever is said of them.
+BATCH_OURS = [
+    ("a batch that is refused takes nothing", reference.Reference, "each", all_or_none),
+    ("the refused value counted as taken", reference.Reference, "each", refused_one_counted),
+    ("the number not said where some were taken", reference.Reference, "each", number_forgotten),
+    ("an empty list is asked", reference.Reference, "record_all", empty_asked),
+    ("a list read only as far as it is asked", reference.Reference, "readable", read_as_asked),
+]
 MISCUTS = [
     "miscut_power_of_two",
     "miscut_offset_halved_toward_zero",
@@ -569,6 +667,37 @@ WHOLE_MODELS = [
 ]
 
 
+# Of the model, with many values in one call.
+
+
+def marked_updated(self, call):
+    """The slot of a set that is there, though no value is taken."""
+    answer = RECORD_ALL(self, call)
+    taken, number = read_taken(answer[0])
+    if number == 6 and not taken and self.map.agrees():
+        slot = self.map.find(tuple(sorted(dict(call.set).items())))
+        if slot is not None:
+            self.map.rows[ENTRIES][slot][2] = 1
+    return answer
+
+
+def birth_for_each_value(self, call):
+    held = self.map.last
+    answer = RECORD_ALL(self, call)
+    taken, _ = read_taken(answer[0])
+    if self.map.last > held:
+        self.map.last += taken - 1
+    return answer
+
+
+BATCH_MODELS = [
+    ("a refused batch leaves no cell changed", machine.Machine, "each", all_or_none),
+    ("a batch asks once whether a count is full", machine.Machine, "each", asked_of_the_first(Stores, "check_series")),
+    ("a batch marks its slot though no value is taken", machine.Machine, "record_all", marked_updated),
+    ("a batch spends a birth number for each value", machine.Machine, "record_all", birth_for_each_value),
+]
+
+
 def patched(place, name, wrong):
     return patch.dict(place, {name: wrong}) if isinstance(place, dict) else patch.object(place, name, wrong)
 
@@ -605,11 +734,11 @@ def against_stored():
     """How many variants the stored scripts miss."""
     scripts, said = (sample.stored(sample.CRATES / "replay" / name) for name in ("stdin", "stdout"))
     plain, missed = sample.undamaged(scripts), 0
-    for place, (what, *where) in enumerate(MUTANTS + SINGLE_MUTANTS + OUR_MUTANTS + WHOLE_MUTANTS + WHOLE_OURS):
+    for place, (what, *where) in enumerate(MUTANTS + SINGLE_MUTANTS + OUR_MUTANTS + WHOLE_MUTANTS + WHOLE_OURS + BATCH_MUTANTS + BATCH_OURS):
         among = {MISCUTS[place]: plain[MISCUTS[place]]} if place < len(MISCUTS) else plain
         with patched(*where):
             missed += report(what, shown_by(reference.answers, among, said))
-    for what, *where in MODELS + WHOLE_MODELS:
+    for what, *where in MODELS + WHOLE_MODELS + BATCH_MODELS:
         with patched(*where):
             missed += report(what, shown_by(machine.answers, scripts, said))
     return missed
@@ -617,7 +746,8 @@ def against_stored():
 
 def against_the_rust(most):
     missed = 0
-    for mutants, options in ((MUTANTS, generate.Options()), (SINGLE_MUTANTS, sample.SINGLES), (WHOLE_MUTANTS, sample.WHOLES)):
+    asked = (MUTANTS, generate.Options()), (SINGLE_MUTANTS, sample.SINGLES), (WHOLE_MUTANTS, sample.WHOLES), (BATCH_MUTANTS, sample.BATCHES)
+    for mutants, options in asked:
         for what, *where in mutants:
             with patched(*where):
                 found = found_after(most, options)

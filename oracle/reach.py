@@ -1,7 +1,7 @@
 """What random scripts reach: how often each call answers each number, how often each branch of document 01 is taken, and what never.
 
-    reach.py COUNT [--seed WORD]        COUNT random scripts of histograms, of sums and last values, of histograms over i64, and COUNT/4 of each
-                                        with damage
+    reach.py COUNT [--seed WORD]        COUNT random scripts of histograms, of sums and last values, of histograms over i64, of all of these with
+                                        batches, and COUNT/4 of each with damage
 """
 
 import argparse
@@ -16,7 +16,7 @@ import script
 import words
 from bits import to_bits
 from machine import Machine
-from sample import SINGLES, WHOLES
+from sample import BATCHES, SINGLES, WHOLES
 from script import OVERFLOW
 from stores import VALUES
 
@@ -25,6 +25,8 @@ NUMBERS = {
     "n": {"e": (1, 2, 4, 12), "x": (3, 4, 12), "s": (4, 12), "l": (4, 12)},
     "r": (12, 6, 5, 8, 9, 16),
     "h": (12, 6, 8, 7, 9, 16),
+    "R": (12, 6, 5, 8, 9, 16),
+    "H": (12, 6, 8, 7, 9, 16),
     "b": (12, 5, 8, 9),
     "u": (12, 8, 7),
     "c": (12, 8, 10),
@@ -38,6 +40,7 @@ BRANCHES = {
     "cumulative": "idle entry listed, empty set listed, empty set left out",
     "merged": "levels apart, lower than both, an empty point, explicit, no bounds, zeros of both signs, sum NaN, sum infinite, 11 for the number alone",
     "handle": "of a removed set, of overflow, of the empty set, released twice",
+    "batch": "empty, several taken, 6 at the first, 6 within, 6 at the last, 9 within, 16 at the first, 16 within, 16 at the last",
 }
 
 
@@ -50,8 +53,9 @@ class Watched(Machine):
 
     def line(self, number, text):
         given, refusal = super().line(number, text)
-        if refusal is not None and text[:1] in "nrhbucj":
-            self.seen[f"{text[0]} {self.kind_of(text)} {refusal}"] += 1
+        if refusal is not None and text[:1] in "nrhRHbucj":
+            number = script.read_taken(given[0])[1] if text[0] in "RH" else refusal
+            self.seen[f"{text[0]} {self.kind_of(text)} {number}"] += 1
         return given, refusal
 
     def kind_of(self, text):
@@ -132,6 +136,13 @@ class Watched(Machine):
         birth = self.handles[call.handle]
         self.note(("handle: of the empty set", birth == 0), ("handle: of overflow", birth and self.map.set_at(self.map.named_by(birth)) == OVERFLOW))
 
+    def each(self, values, recorded):
+        answer = super().each(values, recorded)
+        taken, number = script.read_taken(answer[0])
+        place = "at the first" if not taken else "at the last" if taken == len(values) - 1 else "within"
+        self.seen.update([f"batch: {number} {place}" if number else "batch: several taken" if taken > 1 else "batch: empty" if not values else "batch: one"])
+        return answer
+
     def release(self, call):
         birth = self.handles[call.handle]
         try:
@@ -205,7 +216,7 @@ def numbers_of(call, kind):
     """The numbers that a call of a kind may answer."""
     numbers = NUMBERS[call][kind[0]] if call == "n" else NUMBERS[call]
     never = {16} if kind[1] == "f" else {6}
-    never |= {9} if call == "h" and kind[0] in "sl" else set()  # no 9 where nothing is counted and nothing made
+    never |= {9} if call in "hH" and kind[0] in "sl" else set()  # no 9 where nothing is counted and nothing made
     never |= {1} if call == "j" and kind[0] == "x" else set()  # only beside an exponential point
     return [number for number in numbers if number not in never]
 
@@ -216,7 +227,7 @@ def main():
     parser.add_argument("--seed", default="a")
     given = parser.parse_args()
     seen = Counter()
-    for options in (generate.Options(), SINGLES, WHOLES):
+    for options in (generate.Options(), SINGLES, WHOLES, BATCHES):
         for i in range(given.count):
             lines = generate.make(f"{given.seed}.{i}", options)
             watch(seen, lines)

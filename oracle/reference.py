@@ -121,6 +121,8 @@ class Reference:
             script.Record: self.record,
             script.Bind: self.bind,
             script.RecordBound: self.record_bound,
+            script.RecordAll: self.record_all,
+            script.RecordAllBound: self.record_all_bound,
             script.Release: self.release,
             script.Collect: self.collect,
             script.Keep: self.keep,
@@ -232,11 +234,12 @@ class Reference:
                 first.setdefault(key, value)
         return tuple(sorted(first.items()))
 
-    def readable(self, call):
-        """The form of a value is settled before anything is refused."""
+    def readable(self, *values):
+        """The form of values is settled before anything is refused."""
         if self.config is None:
             raise Unreadable
-        script.read_value(call.value, self.config.number)
+        for value in values:
+            script.read_value(value, self.config.number)
 
     def check_sum(self, entry, value):
         """Number 16, for whole numbers whose sum is kept."""
@@ -244,7 +247,7 @@ class Reference:
             NUMBERS["i"].add(sum(entry.values), value)
 
     def record(self, call):
-        self.readable(call)
+        self.readable(call.value)
         self.running()
         value = self.value(call.value)
         attributes = self.canonical(call.set)
@@ -265,12 +268,29 @@ class Reference:
         return entry
 
     def record_bound(self, call):
-        self.readable(call)
+        self.readable(call.value)
         self.running()
         value = self.value(call.value)
         entry = self.bound(call.handle)
         self.check_sum(entry, value)
         entry.values.append(value)
+
+    # Many values: the single calls one after another, up to the first that is refused. No value, no call.
+
+    def record_all(self, call):
+        return self.each(call.values, lambda value: self.record(script.Record(value, call.set)))
+
+    def record_all_bound(self, call):
+        return self.each(call.values, lambda value: self.record_bound(script.RecordBound(call.handle, value)))
+
+    def each(self, values, recorded):
+        self.readable(*values)
+        for taken, value in enumerate(values):
+            try:
+                recorded(value)
+            except Refused as refused:
+                return [script.write_taken(taken, refused.number)]
+        return [script.write_taken(len(values), 0)]
 
     def release(self, call):
         self.running(directory=True)

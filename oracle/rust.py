@@ -2,6 +2,7 @@
 
 import subprocess
 from dataclasses import dataclass, replace
+from itertools import accumulate
 from pathlib import Path
 
 import script
@@ -17,7 +18,7 @@ ASKED_SCALES = range(11, 21)  # accepted by the Rust's `validate`, refused by do
 
 @dataclass
 class Asked:
-    """A script as the Rust is asked it, line for line, and what it should answer: what the reference does, but for `empty` points."""
+    """A script as the Rust is asked it, and what it should answer: what the reference does, but for `empty` points."""
 
     lines: list
     expected: list
@@ -37,7 +38,7 @@ def in_rust(point):
 
 
 class Asking:
-    """Turns a script into what the Rust is asked. A line that it is not asked becomes a comment."""
+    """Turns a script into what the Rust is asked. A line that it is not asked becomes a comment; behind a batch stands a line for each value taken."""
 
     def __init__(self, rules):
         self.reference = Reference(rules)
@@ -48,9 +49,10 @@ class Asking:
         self.bindings = 0
         self.comparable = False  # between an accepted n and settings that the Rust does not know
 
-    def line(self, number, text):
+    def line(self, text):
+        """What the reference refuses has the number of the Rust's line."""
         waiting = self.reference.bounds
-        answers, refusal = self.reference.line(number, text)
+        answers, refusal = self.reference.line(len(self.lines) + 1, text)
         self.lines.append("#")
         if refusal is None or text.startswith("#"):
             return
@@ -64,7 +66,7 @@ class Asking:
             self.comparable = self.comparable and refusal != 0
         elif self.comparable:
             self.call(call, text, answers, refusal)
-            self.beyond += isinstance(call, (script.Record, script.RecordBound)) and refusal == 16
+            self.beyond += stopped_by(call, answers, refusal) == 16
             self.wraps = self.wraps or self.sum_leaves()
 
     def ask(self, text, answers=()):
@@ -93,6 +95,18 @@ class Asking:
             self.bindings += 1
         elif isinstance(call, (script.RecordBound, script.Release)):
             self.by_handle(call, refusal)
+        elif isinstance(call, script.BATCHES):
+            self.batch(call, answers)
+
+    def batch(self, call, answers):
+        """The values that were taken, one after another: the Rust has no batches."""
+        taken, _ = script.read_taken(answers[0])
+        for value in call.values[:taken]:
+            self.lines.append("#")
+            if isinstance(call, script.RecordAll):
+                self.ask(script.write_line(script.Record(value, call.set)))
+            else:
+                self.by_handle(script.RecordBound(call.handle, value), 0)
 
     def collection(self, text, answers):
         head, *lines = answers
@@ -114,11 +128,18 @@ class Asking:
         return self.reference.handles[call.handle]
 
     def sum_leaves(self):
-        """Asked after each line, so of every sum that was ever held."""
+        """Of every sum that was held since a reset, within a batch too."""
         config = self.reference.config
         if config.number != "i" or config.kind in script.SINGLE_KINDS or config.sum:
             return False
-        return not all(-(2**63) <= sum(entry.values) < 2**63 for entry in self.reference.map.entries.values())
+        return not all(-(2**63) <= total < 2**63 for entry in self.reference.map.entries.values() for total in accumulate(entry.values))
+
+
+def stopped_by(call, answers, refusal):
+    """The number that refused a value, 0 if none did."""
+    if isinstance(call, script.BATCHES):
+        return script.read_taken(answers[0])[1]
+    return refusal if isinstance(call, (script.Record, script.RecordBound)) else 0
 
 
 def refused_by_both(call, bounds, refusal):
@@ -131,8 +152,8 @@ def refused_by_both(call, bounds, refusal):
 
 def asked(lines, rules):
     asking = Asking(rules)
-    for number, text in enumerate(lines, 1):
-        asking.line(number, text)
+    for text in lines:
+        asking.line(text)
     return Asked(asking.lines, asking.expected, asking.empty, asking.beyond, asking.wraps)
 
 

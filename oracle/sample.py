@@ -33,8 +33,9 @@ CRATES = HERE.parent.parent / "crates"
 STORED = {CRATES / "replay/stdin": CRATES / "replay/stdout", HERE / "scripts.txt": HERE / "answers.txt"}
 SINGLES = generate.Options(kinds=("sf", "lf"))
 WHOLES = generate.Options(kinds=("ei", "xi"))
-RANDOM = {"sample": (250, generate.Options()), "singles": (50, SINGLES), "wholes": (50, WHOLES)}
-DAMAGED = {"damage": (25, generate.Options()), "damaged_singles": (25, SINGLES), "damaged_wholes": (20, WHOLES)}
+BATCHES = generate.Options(kinds=("ef", "xf", "sf", "lf", "ei", "xi"), batches=True)
+RANDOM = {"sample": (250, generate.Options()), "singles": (50, SINGLES), "wholes": (50, WHOLES), "batches": (60, BATCHES)}
+DAMAGED = {"damage": (25, generate.Options()), "damaged_singles": (25, SINGLES), "damaged_wholes": (20, WHOLES), "damaged_batches": (30, BATCHES)}
 
 
 def stored(path):

@@ -12,6 +12,7 @@ HANDLES = 100
 KEPT = 8
 WAITING_BOUNDS = 200
 WAITING_KEYS = 32
+VALUES_MOST = 100  # of one line
 OVERFLOW = ((4294967295, 1),)
 FLOAT_STORES = "mbBl"
 HELD_STORE = "m"  # min, max and sum: of f64, or of i64 where that is configured
@@ -68,6 +69,20 @@ class Bind:
 class RecordBound:
     handle: int
     value: str
+
+
+@dataclass(frozen=True)
+class RecordAll:
+    """Many values recorded one after another, up to the first that is refused."""
+
+    values: tuple  # as written
+    set: tuple
+
+
+@dataclass(frozen=True)
+class RecordAllBound:
+    handle: int
+    values: tuple
 
 
 @dataclass(frozen=True)
@@ -169,6 +184,13 @@ def read_plain(field):
     return field
 
 
+def read_values(field):
+    values = read_list(read_plain)(field)
+    if len(values) > VALUES_MOST:
+        raise Unreadable(field)
+    return values
+
+
 u32 = read_number(0, 2**32 - 1)
 u64 = read_number(0, 2**64 - 1)
 i8 = read_number(-128, 127)
@@ -222,6 +244,8 @@ READERS = {
     "r": (Record, [read_plain, read_set]),
     "b": (Bind, [handle, read_set]),
     "h": (RecordBound, [handle, read_plain]),
+    "R": (RecordAll, [read_values, read_set]),
+    "H": (RecordAllBound, [handle, read_values]),
     "u": (Release, [handle]),
     "c": (Collect, [u64, optional(u32), optional(u32)]),
     "k": (Keep, [kept, u32]),
@@ -231,6 +255,7 @@ READERS = {
     "s": (Show, []),
 }
 
+BATCHES = RecordAll, RecordAllBound
 LETTERS = {made: letter for letter, (made, _) in READERS.items()}
 WRITERS = {
     "set": write_set,
@@ -241,6 +266,7 @@ WRITERS = {
     "number": str,
     "temporality": str,
     "value": str,
+    "values": write_list,
     "store": str,
 }
 
@@ -330,6 +356,15 @@ def refusal(line, number):
 
 def unreadable(line):
     return f"? {line}"
+
+
+def write_taken(taken, number):
+    """Of many values: how many were taken, and the number that refused the next one, 0 if none did."""
+    return f"a {taken} {number}"
+
+
+def read_taken(answer):
+    return tuple(map(int, answer.split(" ")[1:]))
 
 
 def write_held(value):

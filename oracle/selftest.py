@@ -202,6 +202,36 @@ def check_requests():
     check_answers("L10, a setting that would rise", [exponential(), "t 5 10"], ["! 2 19"])
 
 
+def singly(held, call):
+    """The single calls of a batch, up to the first that is refused: what a batch answers."""
+    for taken, value in enumerate(call.values):
+        one = script.Record(value, call.set) if isinstance(call, script.RecordAll) else script.RecordBound(call.handle, value)
+        _, number = held.line(0, script.write_line(one))
+        if number:
+            return [script.write_taken(taken, number)]
+    return [script.write_taken(len(call.values), 0)]
+
+
+def is_singly(lines):
+    """Whether a script, damaged or not, answers as with single calls in place of its batches, and leaves the same in every cell."""
+    many, single = machine.Machine(), machine.Machine()
+    for number, line in enumerate([*lines, "s"], 1):
+        answers, refusal = many.line(number, line)
+        batch = refusal == 0 and line[0] in "RH"
+        if answers != (singly(single, script.read_line(line)) if batch else single.line(number, line)[0]):
+            return False
+    return True
+
+
+def check_batches(scripts):
+    batches = [lines for lines in scripts.values() if any(line[:2] in ("R ", "H ") for line in lines)]
+    check(f"{len(batches)} scripts with batches: as with the single calls, up to the first that is refused", all(map(is_singly, batches)))
+    values = [f"{bits:016X}" for bits in (ONE, 0x7FF0000000000000, TWO)]
+    given = [exponential(), f"R {','.join(values)} 1:1", f"R {values[2]},{values[0]} 1:1", "R - 1:1", f"H 1 {values[0]}", "H 1 -", "c 1 - -"]
+    point = f"p 1:1 3 0 1 {ONE:016X} {TWO:016X} 4010000000000000 -1:2,0,1 0:"
+    check_answers("batches", given, ["a 1 6", "a 2 0", "a 0 0", "a 0 7", "a 0 0", "c 0 1 1", point])
+
+
 def some_wholes():
     """A point over i64, one of no values, and one that disagrees."""
     config = Config("e", "i", 4, 10, 0.0, 2, "d", True, True)
@@ -211,7 +241,7 @@ def some_wholes():
 
 def check_language():
     lines = ["g 3FF0000000000000", "f -", "m 7 -", "n e f 4 -10 - 2 l 0 1 0", "r -12 1:2,1:3", "b 99 -", "h 0 5", "u 3"]
-    lines += ["c 18446744073709551615 0 -", "k 7 0", "j 0 1 2 160 4", "t 4 3"]
+    lines += ["c 18446744073709551615 0 -", "k 7 0", "j 0 1 2 160 4", "t 4 3", "R 1,-2 1:2", "R - -", "H 3 3FF0000000000000", "H 0 -"]
     check("each kind of line is written as it was read", [script.write_line(script.read_line(x)) for x in lines] == lines)
     bad = ["x", "u", "u 100", "u 01", "u +1", "c -1 - -", "c 1  - -", "n x f 3 - - 2 d 1 1 0", "g 3ff0000000000000", ""]
     check("lines that are not of the language", reference.answers(bad) == [f"? {n}" for n in range(1, len(bad) + 1)])
@@ -227,6 +257,7 @@ def main():
     check_run_marks(scripts)
     check_orders(scripts)
     check_rescales(scripts)
+    check_batches(scripts)
     check_examples()
     check_requests()
     check_language()

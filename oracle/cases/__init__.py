@@ -1,9 +1,9 @@
 """The scripts that crates/replay is held to, made by small functions, one subject a file."""
 
-from cases import bindings, damaged, damaged_points, damaged_series, marks, merges, orders, rescales, rooms, sets, singles, unread, wholes
+from cases import batches, bindings, damaged, damaged_points, damaged_series, marks, merges, orders, rescales, rooms, sets, singles, unread, wholes
 from cases.lines import Book
 
-PARTS = (marks, sets, unread, bindings, rooms, rescales, merges, orders, damaged, damaged_series, damaged_points, singles, wholes)
+PARTS = (marks, sets, unread, bindings, rooms, rescales, merges, orders, damaged, damaged_series, damaged_points, singles, wholes, batches)
 
 
 def scripts():

@@ -81,6 +81,16 @@ class Script(list):
     def by(self, handle, *values):
         self += [f"h {handle} {self.written(value)}" for value in values]
 
+    def all(self, attributes, *values):
+        """Many values in one call."""
+        self.append(f"R {self.list(values)} {attributes}")
+
+    def all_by(self, handle, *values):
+        self.append(f"H {handle} {self.list(values)}")
+
+    def list(self, values):
+        return script.write_list(map(self.written, values))
+
     def release(self, handle):
         self.append(f"u {handle}")
 

@@ -2,6 +2,8 @@
 use lines::Line;
 use lines::attributes::Attributes;
 use lines::attributes::Given;
+use replay_batches::Floats;
+use replay_batches::Integers;
 use replay_state::Fields;
 use replay_state::Keys;
 use replay_state::State;
@@ -20,7 +22,7 @@ pub const END: u8 = 1;
 
 // The kind of field k of a line, 0 behind the last; field 0 is the letter:
 //     u a u64, w a u32, h a handle, p a kept point; U, W likewise or `-`; s a scale, 128 above it, or `-`
-//     x a value: its bits, or an i64's two's complement; v the number or the bits that a cell is set to; H the birth number of a handle; of a set (a) or a list (g, f) how many are there
+//     x a value: its bits, or an i64's two's complement; l a list of values, read when all else is; v the number or the bits that a cell is set to; H the birth number of a handle; of a set (a) or a list (g, f) how many are there
 //     one byte: D of any store, K of a kind, F of a number kind, `-` itself, T of a temporality, S of a switch
 fn kind_of(letter: u8, k: usize) -> u8 {
     match letter {
@@ -32,6 +34,8 @@ fn kind_of(letter: u8, k: usize) -> u8 {
         b'r' => text::byte_at(b"rxa", k),
         b'b' => text::byte_at(b"bha", k),
         b'h' => text::byte_at(b"hHx", k),
+        b'R' => text::byte_at(b"Rla", k),
+        b'H' => text::byte_at(b"HHl", k),
         b'k' => text::byte_at(b"kpw", k),
         b'c' => text::byte_at(b"cuWW", k),
         b'd' => text::byte_at(b"dDwwv", k),
@@ -209,6 +213,63 @@ fn waiting(letter: u8, line: &[u8], s: State, bounds: &mut Bounds, keys: &mut Ke
     list(letter, line, n as usize, bounds, keys)
 }
 
+// A value put behind n of its line, into the store of its number: how many there are then, 0 if it can't be put.
+fn put_value(
+    bytes: &[u8],
+    n: usize,
+    kind: u8,
+    floats: &mut Floats,
+    integers: &mut Integers,
+) -> usize {
+    let Natural::Is(x) = value_at(bytes, 0, kind) else {
+        return 0;
+    };
+    if 100 <= n {
+        return 0;
+    }
+    if replay_state::is_whole(kind) {
+        integers[n] = integers::of_bits(x);
+        return n + 1;
+    }
+    floats[n] = floats::of_bits(x);
+    n + 1
+}
+
+// The values of a list: how many they are.
+fn values(list: &[u8], kind: u8, floats: &mut Floats, integers: &mut Integers) -> Natural {
+    let mut many: usize = 0;
+    let mut i: usize = 0;
+    while i < list.len() {
+        let e = text::end(list, i, b',');
+        many = put_value(&list[i..e], many, kind, floats, integers);
+        if many == 0 {
+            return Natural::None;
+        }
+        if list.len() <= e {
+            return Natural::Is(many as u64);
+        }
+        i = e + 1;
+    }
+    Natural::None
+}
+
+// The list of values of a field.
+fn values_at(
+    line: &[u8],
+    k: usize,
+    kind: u8,
+    floats: &mut Floats,
+    integers: &mut Integers,
+) -> Natural {
+    if byte_of(line, k) == b'-' {
+        return Natural::Is(0);
+    }
+    let p = text::field(line, k);
+    let a = p.from;
+    let e = p.to;
+    values(&line[a..e], kind, floats, integers)
+}
+
 // The set of a line, its second field: how many attributes it has.
 fn set(line: &[u8], attrs: &mut Attributes) -> Natural {
     let p = text::field(line, 2);
@@ -285,7 +346,7 @@ fn is_kind(f: &Fields) -> bool {
 fn is_form(letter: u8, kind: u8, f: &Fields) -> bool {
     match letter {
         b'n' => is_kind(f),
-        b'r' | b'h' | b'c' | b'b' | b'u' => kind != 0,
+        b'r' | b'h' | b'R' | b'H' | b'c' | b'b' | b'u' => kind != 0,
         _ => true,
     }
 }
@@ -331,7 +392,7 @@ fn told(s: State, letter: u8, f: Fields) -> State {
             next.of = kind_in(&f);
             next.f[1] = next.of as u64;
         }
-        b'r' | b'h' | b'c' | b'b' | b'u' => next.of = s.kind,
+        b'r' | b'h' | b'R' | b'H' | b'c' | b'b' | b'u' => next.of = s.kind,
         b'g' => next.next_bounds = f[1],
         b'f' => {
             next.next_keys = f[1];
@@ -369,6 +430,29 @@ fn whole(line: &[u8], s: State, attrs: &mut Attributes, bounds: &mut Bounds) -> 
     next
 }
 
+// The field of a line that is a list of values, 0 where none is.
+fn list_of(letter: u8) -> u64 {
+    match letter {
+        b'R' => 1,
+        b'H' => 2,
+        _ => 0,
+    }
+}
+
+// A line of which all but its list of values was read, with that list.
+fn with_values(line: &[u8], s: State, floats: &mut Floats, integers: &mut Integers) -> State {
+    let k = within(list_of(s.letter), 2);
+    if k == 0 {
+        return s;
+    }
+    let Natural::Is(many) = values_at(line, k, s.kind, floats, integers) else {
+        return unread(s);
+    };
+    let mut next = s;
+    next.f[k] = many;
+    next
+}
+
 // A line of len bytes. One that fills its store is too long; an empty one behind the input's last is its end.
 pub fn read(
     s: State,
@@ -377,6 +461,8 @@ pub fn read(
     over: bool,
     attrs: &mut Attributes,
     bounds: &mut Bounds,
+    floats: &mut Floats,
+    integers: &mut Integers,
 ) -> State {
     if len == 0 {
         return if over { bare(s, END) } else { unread(s) };
@@ -387,5 +473,7 @@ pub fn read(
     if 256 <= len {
         return unread(s);
     }
-    whole(lines::input::front(line, len), s, attrs, bounds)
+    let front = lines::input::front(line, len);
+    let next = whole(front, s, attrs, bounds);
+    with_values(front, next, floats, integers)
 }

@@ -8,6 +8,8 @@ use lines::Block;
 use lines::Line;
 use lines::attributes::Attributes;
 use lines::input::Ports;
+use replay_batches::Floats;
+use replay_batches::Integers;
 use replay_cells::damage;
 use replay_cells::kept;
 use replay_state::State;
@@ -82,9 +84,78 @@ fn make_wholes(
     )
 }
 
+// The calls with many values.
+fn make_batches(
+    s: State,
+    floats: &Floats,
+    integers: &Integers,
+    attrs: &Attributes,
+    bounds: &mut stores::Bounds,
+    sets: &mut stores::Sets,
+    entries: &mut stores::Entries,
+    order: &mut stores::Order,
+    figures: &mut stores::Figures,
+    extremes: &mut stores::Extremes,
+    wholes: &mut stores::Wholes,
+    pos: &mut stores::Counts,
+    neg: &mut stores::Others,
+) -> State {
+    let a = replay_batches::exponential_lines::follow(
+        s,
+        floats,
+        attrs,
+        sets,
+        entries,
+        order,
+        figures,
+        extremes,
+        pos,
+        neg,
+    );
+    let b = replay_batches::explicit_lines::follow(
+        a,
+        floats,
+        attrs,
+        bounds,
+        sets,
+        entries,
+        order,
+        extremes,
+        pos,
+        neg,
+    );
+    let c = replay_batches::single_lines::follow(b, floats, attrs, bounds, sets, entries, order);
+    let d = replay_whole_batches::exponential_lines::follow(
+        c,
+        integers,
+        attrs,
+        sets,
+        entries,
+        order,
+        figures,
+        wholes,
+        pos,
+        neg,
+    );
+    replay_whole_batches::explicit_lines::follow(
+        d,
+        integers,
+        attrs,
+        bounds,
+        sets,
+        entries,
+        order,
+        wholes,
+        pos,
+        neg,
+    )
+}
+
 // Makes what a line asks for: each call here follows the lines that are its own, and leaves the others.
 fn make(
     s: State,
+    floats: &Floats,
+    integers: &Integers,
     attrs: &Attributes,
     bounds: &mut stores::Bounds,
     sets: &mut stores::Sets,
@@ -148,9 +219,24 @@ fn make(
         out_pos,
         out_neg,
     );
-    let h = kept::follow(g, bounds, out_sets, out_words, out_pos, out_neg);
+    let h = make_batches(
+        g,
+        floats,
+        integers,
+        attrs,
+        bounds,
+        sets,
+        entries,
+        order,
+        figures,
+        extremes,
+        wholes,
+        pos,
+        neg,
+    );
+    let i = kept::follow(h, bounds, out_sets, out_words, out_pos, out_neg);
     damage::set(
-        h,
+        i,
         bounds,
         sets,
         entries,
@@ -171,6 +257,8 @@ fn goes_on(letter: u8) -> bool {
 // Replays one script, up to the line that names the next or to the input's end. A proved loop has to end: no script uses up the numbers.
 fn script(ports: Ports, block: &mut Block, line: &mut Line, text: &mut Block) -> Ports {
     let mut attrs = [[0u32; 2]; 9];
+    let mut floats = [0.0f64; 100];
+    let mut integers = [0i64; 100];
     let mut bounds = [0.0f64; 2266];
     let mut sets = [[0u64; 9]; 66];
     let mut entries = [[0u64; 3]; 66];
@@ -189,9 +277,20 @@ fn script(ports: Ports, block: &mut Block, line: &mut Line, text: &mut Block) ->
     let mut number: u64 = 1;
     while goes_on(s.letter) {
         now = lines::input::next(now, block, line, text);
-        let read = line::read(s, line, now.len, now.over, &mut attrs, &mut bounds);
+        let read = line::read(
+            s,
+            line,
+            now.len,
+            now.over,
+            &mut attrs,
+            &mut bounds,
+            &mut floats,
+            &mut integers,
+        );
         s = make(
             read,
+            &floats,
+            &integers,
             &attrs,
             &mut bounds,
             &mut sets,

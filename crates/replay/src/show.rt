@@ -20,6 +20,11 @@ fn name(text: &mut Block, n: usize, line: &Line, len: usize) -> usize {
     output::byte(text, a, b'\n')
 }
 
+// Whether a line of a letter has many values: it says how many were taken, refused or not.
+fn is_batch(letter: u8) -> bool {
+    letter == b'R' || letter == b'H'
+}
+
 // The lowest place that holds the birth number that a binding told.
 fn first_of(s: State) -> u64 {
     let mut i: usize = 0;
@@ -74,10 +79,13 @@ pub fn answer<'a>(
     if s.no == UNREAD {
         return printing::unread(text, n, number);
     }
+    let letter = s.letter;
+    if is_batch(letter) {
+        return pair(text, n, b'a', s.told, s.no as u64);
+    }
     if s.no != 0 {
         return pair(text, n, b'!', number, s.no as u64);
     }
-    let letter = s.letter;
     match letter {
         b'=' => name(text, n, line, len),
         b'b' => pair(text, n, letter, s.f[1], first_of(s)),

@@ -17,7 +17,7 @@ use singles::Aggregation;
 use singles::Configured;
 use singles::Settings;
 
-fn aggregation(s: State) -> Aggregation
+pub fn aggregation(s: State) -> Aggregation
     ensures { λ r. ⌜ r ≡ kindOf s ⌝ }
 {
     if s.of == b's' {

@@ -5,10 +5,10 @@ use Rattle.replay.proofs.script.Statement.{statement}
 use Rattle.replay.proofs.script.Tie as tie
 
 abbrev Inv-loop : tie.InvT-loop
-Inv-loop block₀ line₀ text₀ attrs₀ bounds₀ sets₀ entries₀ order₀ figures₀ extremes₀ wholes₀ pos₀ neg₀ out-sets₀ out-words₀ out-pos₀ out-neg₀ now₀ s₀ number₀ block line text attrs bounds sets entries order figures extremes wholes pos neg out-sets out-words out-pos out-neg now s number = Unit {0}
+Inv-loop block₀ line₀ text₀ attrs₀ floats₀ integers₀ bounds₀ sets₀ entries₀ order₀ figures₀ extremes₀ wholes₀ pos₀ neg₀ out-sets₀ out-words₀ out-pos₀ out-neg₀ now₀ s₀ number₀ block line text attrs floats integers bounds sets entries order figures extremes wholes pos neg out-sets out-words out-pos out-neg now s number = Unit {0}
 
 abbrev μ-loop : tie.MeasureT-loop
-μ-loop block₀ line₀ text₀ attrs₀ bounds₀ sets₀ entries₀ order₀ figures₀ extremes₀ wholes₀ pos₀ neg₀ out-sets₀ out-words₀ out-pos₀ out-neg₀ now₀ s₀ number₀ block line text attrs bounds sets entries order figures extremes wholes pos neg out-sets out-words out-pos out-neg now s number =
+μ-loop block₀ line₀ text₀ attrs₀ floats₀ integers₀ bounds₀ sets₀ entries₀ order₀ figures₀ extremes₀ wholes₀ pos₀ neg₀ out-sets₀ out-words₀ out-pos₀ out-neg₀ now₀ s₀ number₀ block line text attrs floats integers bounds sets entries order figures extremes wholes pos neg out-sets out-words out-pos out-neg now s number =
     18446744073709551615 - number
 
 pub script-spec : {M : Type 1} → statement M

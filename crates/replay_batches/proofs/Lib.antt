@@ -1,0 +1,2 @@
+-- The laws of `replay_batches`.
+pub mod Calls

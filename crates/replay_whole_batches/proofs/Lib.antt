@@ -1,0 +1,2 @@
+-- The laws of `replay_whole_batches`.
+pub mod Bounds

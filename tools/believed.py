@@ -7,17 +7,22 @@ import collections, glob, os, re, sys
 
 ROOT = os.path.join(os.path.dirname(os.path.abspath(__file__)), "..", "crates")
 # crate, file, functions: README.md, "The calls"; the calls that these stand on; one series; the index; how a point is shown
-CALLS = """exponential_collection lib configure delta cumulative
-explicit_collection lib configure delta cumulative
+CALLS = """exponential_collection lib configure delta cumulative delta_agreed cumulative_agreed
+explicit_collection lib configure delta cumulative delta_agreed cumulative_agreed
 value_map exponential_map start measure measure_by
 value_map explicit_map start measure measure_by
-exponential_whole_collection lib configure delta cumulative
-explicit_whole_collection lib configure delta cumulative
+exponential_whole_collection lib configure delta cumulative delta_agreed cumulative_agreed
+explicit_whole_collection lib configure delta cumulative delta_agreed cumulative_agreed
 whole_map exponential_map start measure measure_by
 whole_map explicit_map start measure measure_by
-singles lib configure delta cumulative
+singles lib configure delta cumulative delta_agreed cumulative_agreed
 singles map measure measure_by
-bindings lib start bind release
+bindings lib start bind release bind_agreed release_agreed
+exponential_batches lib measure_all measure_all_by measure_agreed measure_by_agreed measure_all_agreed measure_all_by_agreed
+explicit_batches lib measure_all measure_all_by measure_agreed measure_by_agreed measure_all_agreed measure_all_by_agreed
+single_batches lib measure_all measure_all_by measure_agreed measure_by_agreed measure_all_agreed measure_all_by_agreed
+exponential_whole_batches lib measure_all measure_all_by measure_agreed measure_by_agreed measure_all_agreed measure_all_by_agreed
+explicit_whole_batches lib measure_all measure_all_by measure_agreed measure_by_agreed measure_all_agreed measure_all_by_agreed
 exponential lib record
 explicit lib fresh record
 exponential_wholes lib record
@@ -37,7 +42,7 @@ index signed get_index"""
 # the files in which theorems are stated
 THEOREMS = [("promises", "specs.Promises"), ("promises", "specs.Points"), ("promises", "specs.Sheets"), ("marks", "specs.Marks")]
 # what the theorems of `promises` and the contracts share: proved on both sides, so who reads the theorems may pass over what they are made of
-LINKS = "measured measuredBy bound released deltaCollected cumulativeCollected started configured merging meanIn pointAt recording writing reading".split()
+LINKS = "measured measuredBy measuredAll measuredAllBy bound released deltaCollected cumulativeCollected started configured merging meanIn pointAt recording writing reading".split()
 KINDS = ["calls", "theorems", "inner", "proofs", "unused"]
 TOKEN = re.compile(r"[^\s(){}\[\],;λ⌜⌝\"]+")
 HEAD = re.compile(r" *(?:(?:abbrev|unfoldable) )?(?:pub )?(?:(record|data) )?(\S+)(?: \{.*\})?(?: \(.*\))* :(?: |$)")

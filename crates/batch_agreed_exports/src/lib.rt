@@ -4,11 +4,11 @@ ghost use Rattle.std.specs.Prelude.{◌≡◌, true, [], get_or};
 ghost use Rattle.directory.specs.View.{stores};
 ghost use Rattle.exponential_slots.specs.Cells.{cells};
 ghost use Rattle.value_map.specs.Calls.{held};
-ghost use Rattle.value_map.specs.Exponential.{exponentialStore};
+ghost use Rattle.value_map.specs.Exponential.{exponential_store};
 ghost use Rattle.map_words.specs.Words.{state_of};
 ghost use Rattle.batches.specs.Agreed.{AgreedBy};
-ghost use Rattle.batches.specs.Batch.{measuredAllBy};
-ghost use Rattle.batch_words.specs.Words.{handed, handedOut};
+ghost use Rattle.batches.specs.Batch.{measured_all_by};
+ghost use Rattle.batch_words.specs.Words.{handed, handed_out};
 
 // Records values into the series that the handle names, up to the first that is refused; how many were taken is put into `taken`. The state is
 // one entry of three words. The map must agree, as it does
@@ -30,11 +30,11 @@ pub extern "C" fn agreed_measure_all_by(
     handle: u64,
     taken: &mut [u64; 1],
 ) -> u64
-    requires { AgreedBy (exponentialStore size top) (true, true) limit (held (state_of (get_or state.old 0 []))
+    requires { AgreedBy (exponential_store size top) (true, true) limit (held (state_of (get_or state.old 0 []))
         (stores sets entries order) (cells figures extremes pos neg)) handle }
     ensures { handed result taken.exit state.exit (stores sets.exit entries.exit order.exit)
         (cells figures.exit extremes.exit pos.exit neg.exit)
-        ≡ handedOut taken.old state.old (measuredAllBy (exponentialStore size top) limit
+        ≡ handed_out taken.old state.old (measured_all_by (exponential_store size top) limit
         (held (state_of (get_or state.old 0 [])) (stores sets.entry entries.entry order.entry)
         (cells figures.entry extremes.entry pos.entry neg.entry)) values.now handle) }
 {

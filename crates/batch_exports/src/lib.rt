@@ -3,10 +3,10 @@ ghost use Rattle.std.specs.Prelude.{◌≡◌, [], get_or};
 ghost use Rattle.directory.specs.View.{stores};
 ghost use Rattle.exponential_slots.specs.Cells.{cells};
 ghost use Rattle.value_map.specs.Calls.{held};
-ghost use Rattle.value_map.specs.Exponential.{exponentialStore};
+ghost use Rattle.value_map.specs.Exponential.{exponential_store};
 ghost use Rattle.map_words.specs.Words.{state_of};
-ghost use Rattle.batches.specs.Batch.{measuredAllBy};
-ghost use Rattle.batch_words.specs.Words.{handed, handedOut};
+ghost use Rattle.batches.specs.Batch.{measured_all_by};
+ghost use Rattle.batch_words.specs.Words.{handed, handed_out};
 
 // Records values into the series that the handle names, up to the first that is refused; how many were taken is put into `taken`. The state is
 // one entry of three words. Returns document 01's number of the refusal, 0 if none.
@@ -29,7 +29,7 @@ pub extern "C" fn map_measure_all_by(
 ) -> u64
     ensures { handed result taken.exit state.exit (stores sets.exit entries.exit order.exit)
         (cells figures.exit extremes.exit pos.exit neg.exit)
-        ≡ handedOut taken.old state.old (measuredAllBy (exponentialStore size top) limit
+        ≡ handed_out taken.old state.old (measured_all_by (exponential_store size top) limit
         (held (state_of (get_or state.old 0 [])) (stores sets.entry entries.entry order.entry)
         (cells figures.entry extremes.entry pos.entry neg.entry)) values.now handle) }
 {

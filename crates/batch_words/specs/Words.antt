@@ -20,8 +20,8 @@ pub record Handed (Cells : Type 0) : Type 0 where
 abbrev pub handed : {Cells : Type 0} → ℕ → Bor (List ℕ) → Bor (List (List ℕ)) → Stores → Cells → Handed Cells
 handed n taken state s x = record { number = n; taken = taken.now; state = state.now; stores = s; cells = x }
 
-abbrev pub handedOut : {Cells : Type 0} → List ℕ → List (List ℕ) → Many (Held Cells) → Handed Cells
-handedOut taken state m =
+abbrev pub handed_out : {Cells : Type 0} → List ℕ → List (List ℕ) → Many (Held Cells) → Handed Cells
+handed_out taken state m =
     record {
       number = m.no;
       taken = set taken 0 m.taken;

@@ -16,11 +16,11 @@ use Rattle.tally.specs.Sets.{Set, cmp, same, canonical, Rising, Lendable}
 use Rattle.tally.specs.Map.{find}
 use Rattle.tally.proofs.Order.{cmp-self, same_self}
 use Rattle.tally.proofs.Entries.{find-set}
-use Rattle.sets.specs.Rows.{span, setOf, row_of}
+use Rattle.sets.specs.Rows.{span, set_of, row_of}
 use Rattle.sets.proofs.Spans.{span-inserted}
 use Rattle.sets.proofs.CallRow.{row-set, row-short}
-use Rattle.directory.specs.View.{Stores, set_at, agreesb, sought, updatedIn, entry_at, view}
-use Rattle.directory.specs.Calls.{Kept, overRow, located, admitted}
+use Rattle.directory.specs.View.{Stores, set_at, agreesb, sought, updated_in, entry_at, view}
+use Rattle.directory.specs.Calls.{Kept, over_row, located, admitted}
 use Rattle.directory.specs.declared.Directory.{Directory}
 use Rattle.directory.specs.declared.Found.{Found}
 use Rattle.directory.specs.declared.Found.TheVariants.{Held, Room}
@@ -29,12 +29,12 @@ use Rattle.directory.specs.declared.Target.TheVariants.{Disagrees, Old, New, Ove
 use Rattle.directory.proofs.Laws.{slots_of, slot-used, ascends, above_in}
 use Rattle.directory.proofs.Rises.{In}
 use Rattle.directory.proofs.Admits.{room-rank}
-use Rattle.directory.proofs.Laid.{in-around}
+use Rattle.directory.proofs.Laid.{in_around}
 use Rattle.directory.proofs.Located.{blank, told, sought-held, new-there, over-there}
 use Rattle.directory.proofs.Leaves.{Good, admit-leaves}
 use Rattle.directory.proofs.Refusals.{suffices}
 use Rattle.seats.specs.declared.Seating.{Seating}
-use Rattle.seats.specs.Seats.{seatAt, seated, seatedBy, marked, markedIn, committed}
+use Rattle.seats.specs.Seats.{seat_at, seated, seated_by, marked, marked_in, committed}
 use Rattle.seats.proofs.Commits.{commit-old, commit-new, commit-over}
 use Rattle.seats.proofs.Seatings.{new-either, seat-is, old-safe}
 use Rattle.seats.proofs.Owns.{new-set}
@@ -50,19 +50,19 @@ module _ (seat : Kept → Seating) (row : List ℕ) where
     pub seat-is : seat k ≡ record { no = 0; slot = x; updated = true; target = target }
     pub committed-is : committed k.dir k.stores row target ≡ k
 
-marked-in : (k : Kept) (x : ℕ) → x < length k.stores.entries → markedIn (markedIn k x) x ≡ markedIn k x
-marked-in k x h =
+marked_in_lem : (k : Kept) (x : ℕ) → x < length k.stores.entries → marked_in (marked_in k x) x ≡ marked_in k x
+marked_in_lem k x h =
     λ j. record { dir = k.dir; stores = record { sets = k.stores.sets; entries = marked-twice k.stores.entries x h j; order = k.stores.order } }
 
-marked-updated : (entries : List (List ℕ)) (x : ℕ) → x < length entries → updatedIn (marked entries x) x ≡ true
+marked-updated : (entries : List (List ℕ)) (x : ℕ) → x < length entries → updated_in (marked entries x) x ≡ true
 unfolding marked
 marked-updated entries x h = ap (λ (r : List ℕ). not (eqb (get_or r 2 0) 0)) (get_or-set_same entries x (get_or (get_or entries x []) 0 0 ∷ get_or (get_or entries x []) 1 0 ∷ 1 ∷ []) [] h)
 
 -- ---- a set is found in the slot that has it
 
-in-mid : (a b : List ℕ) (x : ℕ) → In x (a ++ (x ∷ b))
-in-mid [] b x = inl refl
-in-mid (y ∷ a) b x = inr (in-mid a b x)
+in_mid : (a b : List ℕ) (x : ℕ) → In x (a ++ (x ∷ b))
+in_mid [] b x = inl refl
+in_mid (y ∷ a) b x = inr (in_mid a b x)
 
 -- of slots that ascend by set no two have one
 alone : (g : ℕ → Set) (l : List ℕ) (x y : ℕ) → Rising (map g l) → In x l → In y l → g x ≡ g y → x ≡ y
@@ -75,10 +75,10 @@ alone g (z ∷ l) x y r (inr i) (inl q) e =
 alone g (z ∷ l) x y r (inr i) (inr j) e = alone g l x y r.1 i j e
 
 module _ (s : Stores) (w : Set) where
-  not-missing : (l : List ℕ) (x : ℕ) → In x l → set_at s.sets x ≡ w → find blank w (map (entry_at blank (λ k. tt) s) l) ≡ none → ⊥
+  not_missing : (l : List ℕ) (x : ℕ) → In x l → set_at s.sets x ≡ w → find blank w (map (entry_at blank (λ k. tt) s) l) ≡ none → ⊥
   unfolding pick
-  not-missing [] x i e n = i
-  not-missing (y ∷ l) x i e n = go (same (set_at s.sets y) w) refl i n (λ j q. not-missing l x j e q)
+  not_missing [] x i e n = i
+  not_missing (y ∷ l) x i e n = go (same (set_at s.sets y) w) refl i n (λ j q. not_missing l x j e q)
     where
       no : false ≡ true → ⊥
       no z = let k : ◌≡◌ {A = ℕ} 0 1 = cc in omega (arith, k)
@@ -94,7 +94,7 @@ module _ (limit : ℕ) (d : Directory) (s : Stores) (g : agreesb limit d s ≡ t
   sought-own x i e = go (sought w d.used s.sets s.order) refl
     where
       go : (o : Found) → sought w d.used s.sets s.order ≡ o → sought w d.used s.sets s.order ≡ Held x
-      go (Room r) p = absurd (not-missing s w (slots_of d s) x i e (room-rank blank (λ k. tt) tt limit d s g w r p).0)
+      go (Room r) p = absurd (not_missing s w (slots_of d s) x i e (room-rank blank (λ k. tt) tt limit d s g w r p).0)
       go (Held y) p =
           let h = sought-held blank (λ k. tt) tt d s w y p in
           let t = find-set blank w (view blank (λ k. tt) tt d s).entries (entry_at blank (λ k. tt) s y) h.1 in
@@ -103,12 +103,12 @@ module _ (limit : ℕ) (d : Directory) (s : Stores) (g : agreesb limit d s ≡ t
 -- ---- where a call goes, by what is found
 
 module _ (limit : ℕ) (d : Directory) (s : Stores) (g : agreesb limit d s ≡ true) (row : List ℕ) where
-  located-held : (x : ℕ) → sought (setOf row) d.used s.sets s.order ≡ Held x → located limit d s row ≡ Old x
+  located-held : (x : ℕ) → sought (set_of row) d.used s.sets s.order ≡ Held x → located limit d s row ≡ Old x
   unfolding located pick
   located-held x e = rw (g, e)
 
-  located-over : (r x : ℕ) → sought (setOf row) d.used s.sets s.order ≡ Room r → ltb d.count limit ≡ false
-      → sought (setOf overRow) d.used s.sets s.order ≡ Held x → located limit d s row ≡ Old x
+  located-over : (r x : ℕ) → sought (set_of row) d.used s.sets s.order ≡ Room r → ltb d.count limit ≡ false
+      → sought (set_of over_row) d.used s.sets s.order ≡ Held x → located limit d s row ≡ Old x
   unfolding located pick
   located-over r x e c o = rw (g, e, c, o)
 
@@ -126,7 +126,7 @@ module _ (limit : ℕ) (d : Directory) (s : Stores) (g : agreesb limit d s ≡ t
   unfolding admitted
   made-long = omega (arith, length-set s.entries x ((d.last + 1) ∷ 0 ∷ 0 ∷ []))
 
-  made-set : set_at k.stores.sets x ≡ setOf row
+  made-set : set_at k.stores.sets x ≡ set_of row
   unfolding admitted
   made-set = new-set s.sets d.used row ls
 
@@ -135,76 +135,76 @@ module _ (limit : ℕ) (d : Directory) (s : Stores) (g : agreesb limit d s ≡ t
   places = span-inserted s.order d.used r x rank lo
 
   made_in : In x (slots_of k.dir k.stores)
-  made_in = inr (subst (In x) (sym places) (in-mid (take r (span s.order 0 d.used)) (drop r (span s.order 0 d.used)) x))
+  made_in = inr (subst (In x) (sym places) (in_mid (take r (span s.order 0 d.used)) (drop r (span s.order 0 d.used)) x))
 
   -- every other slot was there before, with its set
-  old-or-made : (y : ℕ) → In y (slots_of k.dir k.stores) → (y ≡ x) ⊎ In y (slots_of d s)
-  old-or-made y (inl e) = inr (inl e)
-  old-or-made y (inr i) = ⊎_elim (λ e. inl e) (λ j. inr (inr j)) (in-around (span s.order 0 d.used) r x y (subst (In y) places i))
+  old_or-made : (y : ℕ) → In y (slots_of k.dir k.stores) → (y ≡ x) ⊎ In y (slots_of d s)
+  old_or-made y (inl e) = inr (inl e)
+  old_or-made y (inr i) = ⊎_elim (λ e. inl e) (λ j. inr (inr j)) (in_around (span s.order 0 d.used) r x y (subst (In y) places i))
 
   old-own : (y : ℕ) → In y (slots_of d s) → set_at k.stores.sets y ≡ set_at s.sets y
   old-own y i = (admit-leaves d s row r more 0 ls le lo rank room).own y (slot-used limit d s g y i)
 
-  module _ (q : agreesb limit (markedIn k x).dir (markedIn k x).stores ≡ true) where
+  module _ (q : agreesb limit (marked_in k x).dir (marked_in k x).stores ≡ true) where
     -- its set is found there
-    made_found : sought (setOf row) k.dir.used k.stores.sets k.stores.order ≡ Held x
-    made_found = sought-own limit (markedIn k x).dir (markedIn k x).stores q (setOf row) x made_in made-set
+    made_found : sought (set_of row) k.dir.used k.stores.sets k.stores.order ≡ Held x
+    made_found = sought-own limit (marked_in k x).dir (marked_in k x).stores q (set_of row) x made_in made-set
 
     -- and a set that was not held is found there or nowhere
-    none-else : (w : Set) (p y : ℕ) → sought w d.used s.sets s.order ≡ Room p → sought w k.dir.used k.stores.sets k.stores.order ≡ Held y → y ≡ x
-    none-else w p y e f =
+    none_else : (w : Set) (p y : ℕ) → sought w d.used s.sets s.order ≡ Room p → sought w k.dir.used k.stores.sets k.stores.order ≡ Held y → y ≡ x
+    none_else w p y e f =
         let h = sought-held blank (λ i. tt) tt k.dir k.stores w y f in
         let t = find-set blank w (view blank (λ i. tt) tt k.dir k.stores).entries (entry_at blank (λ i. tt) k.stores y) h.1 in
         ⊎_elim (λ (i : y ≡ x). i)
-        (λ i. absurd (not-missing s w (slots_of d s) y i (sym (old-own y i) ∙ t) (room-rank blank (λ j. tt) tt limit d s g w p e).0))
-        (old-or-made y h.0)
+        (λ i. absurd (not_missing s w (slots_of d s) y i (sym (old-own y i) ∙ t) (room-rank blank (λ j. tt) tt limit d s g w p e).0))
+        (old_or-made y h.0)
 
 -- the overflow series was just made: a call that went there goes there again
 module _ (limit : ℕ) (d : Directory) (s : Stores) (row : List ℕ) (p : ℕ) (full : ltb d.count limit ≡ false) where
   abbrev over : Kept
-  over = markedIn (admitted d s overRow p 0 0) (d.used + 1)
+  over = marked_in (admitted d s over_row p 0 0) (d.used + 1)
 
   still_full : ltb over.dir.count limit ≡ false
   unfolding admitted
   still_full = let e : d.count + 0 ≡ d.count = omega arith in ap (λ (n : ℕ). ltb n limit) e ∙ full
 
-  over-located : agreesb limit over.dir over.stores ≡ true → sought (setOf overRow) over.dir.used over.stores.sets over.stores.order ≡ Held (d.used + 1)
-      → ((y : ℕ) → sought (setOf row) over.dir.used over.stores.sets over.stores.order ≡ Held y → y ≡ d.used + 1)
-      → (o : Found) → sought (setOf row) over.dir.used over.stores.sets over.stores.order ≡ o → located limit over.dir over.stores row ≡ Old (d.used + 1)
+  over-located : agreesb limit over.dir over.stores ≡ true → sought (set_of over_row) over.dir.used over.stores.sets over.stores.order ≡ Held (d.used + 1)
+      → ((y : ℕ) → sought (set_of row) over.dir.used over.stores.sets over.stores.order ≡ Held y → y ≡ d.used + 1)
+      → (o : Found) → sought (set_of row) over.dir.used over.stores.sets over.stores.order ≡ o → located limit over.dir over.stores row ≡ Old (d.used + 1)
   over-located g h f (Held y) e = located-held limit over.dir over.stores g row y e ∙ ap (λ (x : ℕ). Old x) (f y e)
   over-located g h f (Room r) e = located-over limit over.dir over.stores g row r (d.used + 1) e still_full h
 
 -- ---- BY SET
 
 module _ (limit : ℕ) (row : List ℕ) where
-  abbrev pub seatOf : Kept → Seating
-  seatOf k = seated limit k.dir k.stores row
+  abbrev pub seat_of : Kept → Seating
+  seat_of k = seated limit k.dir k.stores row
 
   -- a slot that is marked, and to which the set's call goes
-  old-again : (k : Kept) (x : ℕ) → x < length k.stores.entries → located limit (markedIn k x).dir (markedIn k x).stores row ≡ Old x → Again seatOf row x (markedIn k x)
+  old-again : (k : Kept) (x : ℕ) → x < length k.stores.entries → located limit (marked_in k x).dir (marked_in k x).stores row ≡ Old x → Again seat_of row x (marked_in k x)
   old-again k x h e =
       record {
         target = Old x;
-        seat-is = seat-is limit k.dir (markedIn k x).stores row (Old x) e
+        seat-is = seat-is limit k.dir (marked_in k x).stores row (Old x) e
             ∙ (λ j. record { no = 0; slot = x; updated = marked-updated k.stores.entries x h j; target = Old x });
-        committed-is = commit-old k.dir (markedIn k x).stores row x ∙ marked-in k x h;
+        committed-is = commit-old k.dir (marked_in k x).stores row x ∙ marked_in_lem k x h;
       }
 
   module _ (d : Directory) (s : Stores) (g : agreesb limit d s ≡ true) (ls : limit + 2 ≤ length s.sets) (le : limit + 2 ≤ length s.entries) (lo : limit + 2 ≤ length s.order) where
     abbrev Claim : Seating → Type 0
     Claim a =
         a.no ≡ 0 → agreesb limit (committed d s row a.target).dir (committed d s row a.target).stores ≡ true
-        → Again seatOf row a.slot (committed d s row a.target)
+        → Again seat_of row a.slot (committed d s row a.target)
 
-    claim-at : (t : Target) → located limit d s row ≡ t → Claim (seatAt d s t)
+    claim-at : (t : Target) → located limit d s row ≡ t → Claim (seat_at d s t)
     claim-at Disagrees e = λ n q. absurd (omega (arith, n))
     claim-at (Old x) e = λ n q.
-        let k = markedIn (record { dir = d; stores = s }) x in
+        let k = marked_in (record { dir = d; stores = s }) x in
         let c = commit-old d s row x in
         let b : agreesb limit k.dir k.stores ≡ true = subst (λ (j : Kept). agreesb limit j.dir j.stores ≡ true) c q in
         let l : located limit k.dir k.stores row ≡ Old x =
         ⊎_elim (λ h. located-held limit k.dir k.stores b row x h) (λ h. located-over limit k.dir k.stores b row h.0 x h.1 h.2 h.3) (told limit d s row (Old x) e).1 in
-        subst (Again seatOf row x) (sym c) (old-again (record { dir = d; stores = s }) x (old-safe limit d s row x e le).1 l)
+        subst (Again seat_of row x) (sym c) (old-again (record { dir = d; stores = s }) x (old-safe limit d s row x e le).1 l)
     claim-at (New r) e =
         let n = new-there limit d s row r e in
         let k = admitted d s row r 1 0 in
@@ -212,32 +212,32 @@ module _ (limit : ℕ) (row : List ℕ) where
         let c = commit-new d s row r in
         new-either d (New r) Claim (λ h z. absurd (omega (arith, z)))
         (λ h z q.
-        let b : agreesb limit (markedIn k x).dir (markedIn k x).stores ≡ true = subst (λ (j : Kept). agreesb limit j.dir j.stores ≡ true) c q in
-        let l = located-held limit (markedIn k x).dir (markedIn k x).stores b row x (made_found limit d s g (omega (arith, n.1)) (omega (arith, n.1)) (omega (arith, n.1)) row r 1 n.0 h b) in
-        subst (Again seatOf row x) (sym c) (old-again k x (made-long limit d s g (omega (arith, n.1)) (omega (arith, n.1)) (omega (arith, n.1)) row r 1 n.0 h) l))
+        let b : agreesb limit (marked_in k x).dir (marked_in k x).stores ≡ true = subst (λ (j : Kept). agreesb limit j.dir j.stores ≡ true) c q in
+        let l = located-held limit (marked_in k x).dir (marked_in k x).stores b row x (made_found limit d s g (omega (arith, n.1)) (omega (arith, n.1)) (omega (arith, n.1)) row r 1 n.0 h b) in
+        subst (Again seat_of row x) (sym c) (old-again k x (made-long limit d s g (omega (arith, n.1)) (omega (arith, n.1)) (omega (arith, n.1)) row r 1 n.0 h) l))
     claim-at (Over p) e =
         let n = over-there limit d s row p e in
         let f = (told limit d s row (Over p) e).1 in
-        let k = admitted d s overRow p 0 0 in
+        let k = admitted d s over_row p 0 0 in
         let x = d.used + 1 in
         let c = commit-over d s row p in
         new-either d (Over p) Claim (λ h z. absurd (omega (arith, z)))
         (λ h z q.
-        let b : agreesb limit (markedIn k x).dir (markedIn k x).stores ≡ true = subst (λ (j : Kept). agreesb limit j.dir j.stores ≡ true) c q in
+        let b : agreesb limit (marked_in k x).dir (marked_in k x).stores ≡ true = subst (λ (j : Kept). agreesb limit j.dir j.stores ≡ true) c q in
         let l = over-located limit d s row p f.2 b
-        (made_found limit d s g (omega (arith, n.1)) (omega (arith, n.1)) (omega (arith, n.1)) overRow p 0 n.0 h b)
-        (λ y. none-else limit d s g (omega (arith, n.1)) (omega (arith, n.1)) (omega (arith, n.1)) overRow p 0 n.0 h b (setOf row) f.0 y f.1)
-        (sought (setOf row) k.dir.used k.stores.sets k.stores.order) refl in
-        subst (Again seatOf row x) (sym c) (old-again k x (made-long limit d s g (omega (arith, n.1)) (omega (arith, n.1)) (omega (arith, n.1)) overRow p 0 n.0 h) l))
+        (made_found limit d s g (omega (arith, n.1)) (omega (arith, n.1)) (omega (arith, n.1)) over_row p 0 n.0 h b)
+        (λ y. none_else limit d s g (omega (arith, n.1)) (omega (arith, n.1)) (omega (arith, n.1)) over_row p 0 n.0 h b (set_of row) f.0 y f.1)
+        (sought (set_of row) k.dir.used k.stores.sets k.stores.order) refl in
+        subst (Again seat_of row x) (sym c) (old-again k x (made-long limit d s g (omega (arith, n.1)) (omega (arith, n.1)) (omega (arith, n.1)) over_row p 0 n.0 h) l))
 
-    seat-again : Claim (seatOf (record { dir = d; stores = s }))
+    seat-again : Claim (seat_of (record { dir = d; stores = s }))
     unfolding seated
     seat-again = claim-at (located limit d s row) refl
 
 pub set-again : (limit : ℕ) (filter : Option (List ℕ)) (attrs : Set) → Lendable attrs → length attrs ≤ 8 → (k : Kept) → Good limit k
     → (let row = row_of (canonical filter attrs) in
-    let a = seatOf limit row k in
-    a.no ≡ 0 → Good limit (committed k.dir k.stores row a.target) × Again (seatOf limit row) row a.slot (committed k.dir k.stores row a.target))
+    let a = seat_of limit row k in
+    a.no ≡ 0 → Good limit (committed k.dir k.stores row a.target) × Again (seat_of limit row) row a.slot (committed k.dir k.stores row a.target))
 set-again limit filter attrs small few k g n =
     let row = row_of (canonical filter attrs) in
     let l = suffices limit k.stores g.lent in
@@ -246,26 +246,26 @@ set-again limit filter attrs small few k g n =
 
 -- ---- BY HANDLE
 
-abbrev pub seatBy : ℕ → ℕ → Kept → Seating
-seatBy limit b k = seatedBy limit k.dir k.stores b
+abbrev pub seat_by : ℕ → ℕ → Kept → Seating
+seat_by limit b k = seated_by limit k.dir k.stores b
 
 pub handle-again : (limit b : ℕ) (row : List ℕ) (k : Kept) → Good limit k
-    → (let a = seatBy limit b k in
-    a.no ≡ 0 → Good limit (committed k.dir k.stores row a.target) × Again (seatBy limit b) row a.slot (committed k.dir k.stores row a.target))
+    → (let a = seat_by limit b k in
+    a.no ≡ 0 → Good limit (committed k.dir k.stores row a.target) × Again (seat_by limit b) row a.slot (committed k.dir k.stores row a.target))
 handle-again limit b row k g n =
-    let a = seatBy limit b k in
+    let a = seat_by limit b k in
     let m = committed k.dir k.stores row a.target in
     let l = suffices limit k.stores g.lent in
     let q = by-good limit k g b row n in
     let v = suffices limit m.stores q.lent in
     let e = by-again limit k.dir k.stores b row l.entries g.agrees n q.agrees in
     let first = by-marks limit k.dir k.stores b row l.entries g.agrees n in
-    let next = subst (λ (c : Seating). c.no ≡ 0 → (committed m.dir m.stores row c.target ≡ markedIn m c.slot) × (c.slot < length m.stores.entries)) e
+    let next = subst (λ (c : Seating). c.no ≡ 0 → (committed m.dir m.stores row c.target ≡ marked_in m c.slot) × (c.slot < length m.stores.entries)) e
     (by-marks limit m.dir m.stores b row v.entries q.agrees) refl in (
       q,
       record {
         target = a.target;
         seat-is = e;
-        committed-is = next.0 ∙ ap (λ (j : Kept). markedIn j a.slot) first.0 ∙ marked-in k a.slot first.1 ∙ sym first.0;
+        committed-is = next.0 ∙ ap (λ (j : Kept). marked_in j a.slot) first.0 ∙ marked_in_lem k a.slot first.1 ∙ sym first.0;
       },
     )

@@ -17,44 +17,44 @@ use Rattle.many.proofs.Turns.{either, each_on, each-stop, each_none}
 use Rattle.many.proofs.Alike.{pick_first, pick_second, Answers, alike}
 use Rattle.tally.specs.Kind.{Kind}
 use Rattle.directory.specs.View.{Stores, agreesb}
-use Rattle.directory.specs.Calls.{Kept, kept, storesSuffice}
+use Rattle.directory.specs.Calls.{Kept, kept, stores_suffice}
 use Rattle.directory.specs.declared.Directory.{Directory}
 use Rattle.directory.proofs.Leaves.{Good}
 use Rattle.directory.specs.declared.Target.{Target}
 use Rattle.seats.specs.declared.Seating.{Seating}
-use Rattle.seats.specs.Seats.{barredBy, unlessBarred, committed}
+use Rattle.seats.specs.Seats.{barred_by, unless_barred, committed}
 use Rattle.seats.specs.Inner.{Fits}
-use Rattle.seats.proofs.Bars.{bar-6, bar-0, Clear, clear, barred-on, not-barred}
+use Rattle.seats.proofs.Bars.{bar_6, bar_0, Clear, clear, barred-on, not-barred}
 use Rattle.value_map.specs.Store.{Store}
 use Rattle.value_map.specs.Calls.{Held, passes, lent, entered, called}
 use Rattle.value_map.proofs.Owed.{Fit, Owed}
 use Rattle.value_map.proofs.Cases.{Seatable, lent-cells, entered-away, entered-refused, entered-done, called-barred, called_on}
 use Rattle.batches.specs.Batch.{one}
-use Rattle.batches.specs.Inner.{Part, part, recordedOne, recordedAll, unlessStopped, finishedAll}
+use Rattle.batches.specs.Inner.{Part, part, recorded_one, recorded_all, unless_stopped, finished_all}
 use Rattle.batches.proofs.Slotted.{one-wild, one_on, one-stop, took-is, cells_of}
 use Rattle.batches.proofs.Again.{Again}
 
 -- ---- by cases
 
-pub stop-on : {Left : Type 0} (n : ℕ) (l : Left) (m : Many Left) → n ≡ 0 → unlessStopped n l m ≡ m
-unfolding unlessStopped
+pub stop-on : {Left : Type 0} (n : ℕ) (l : Left) (m : Many Left) → n ≡ 0 → unless_stopped n l m ≡ m
+unfolding unless_stopped
 stop-on n l m z = pick_first n z m (stopped n l)
 
-pub stop-off : {Left : Type 0} (n : ℕ) (l : Left) (m : Many Left) → (n ≡ 0 → ⊥) → unlessStopped n l m ≡ stopped n l
-unfolding unlessStopped
+pub stop-off : {Left : Type 0} (n : ℕ) (l : Left) (m : Many Left) → (n ≡ 0 → ⊥) → unless_stopped n l m ≡ stopped n l
+unfolding unless_stopped
 stop-off n l m d = pick_second n d m (stopped n l)
 
 -- the directory's end
 module _ (n : ℕ) (d : Directory) (s : Stores) (row : List ℕ) (t : Target) where
-  pub finish-none : n ≡ 0 → kept d s ≡ finishedAll n d s row t
-  unfolding finishedAll
+  pub finish-none : n ≡ 0 → kept d s ≡ finished_all n d s row t
+  unfolding finished_all
   finish-none e = sym (pick_first n e (kept d s) (committed d s row t))
 
-  pub finish-some : (n ≡ 0 → ⊥) → committed d s row t ≡ finishedAll n d s row t
-  unfolding finishedAll
+  pub finish-some : (n ≡ 0 → ⊥) → committed d s row t ≡ finished_all n d s row t
+  unfolding finished_all
   finish-some d' = sym (pick_second n d' (kept d s) (committed d s row t))
 
-not-finished : (k : Kept) (row : List ℕ) (t : Target) → finishedAll 0 k.dir k.stores row t ≡ k
+not-finished : (k : Kept) (row : List ℕ) (t : Target) → finished_all 0 k.dir k.stores row t ≡ k
 not-finished k row t = sym (finish-none 0 k.dir k.stores row t refl)
 
 -- ---- a way to a slot: so many attributes, a configuration that was accepted or not, a row, and where a call goes
@@ -80,7 +80,7 @@ module _ {K : Kind} {S : Store K} (W : Owed S) (w : S.Switches) (limit n : ℕ) 
       record {
         taken = m.taken;
         no = m.no;
-        left = record { kept = finishedAll m.taken h.kept.dir h.kept.stores row a.target; cells = m.left };
+        left = record { kept = finished_all m.taken h.kept.dir h.kept.stores row a.target; cells = m.left };
       }
 
   -- ---- one call that is not barred, and whose seat is a
@@ -90,7 +90,7 @@ module _ {K : Kind} {S : Store K} (W : Owed S) (w : S.Switches) (limit n : ℕ) 
     p = part a.updated h.cells
 
     abbrev q : Recording (Part S.Cells)
-    q = recordedOne S a.slot p v
+    q = recorded_one S a.slot p v
 
     abbrev next : S.Cells → Held S.Cells
     next c = record { kept = committed h.kept.dir h.kept.stores row a.target; cells = c }
@@ -100,12 +100,12 @@ module _ {K : Kind} {S : Store K} (W : Owed S) (w : S.Switches) (limit n : ℕ) 
 
     wild : K.finite v ≡ false → step h v ≡ after 6 h
     wild f =
-        ap one (sym (called-barred S limit h v n ok row (y.seat h.kept) 6 (sym (bar-6 (lent S limit h) (K.finite v) n (passes S && ok) l f)) (λ i. omega (arith, i))))
+        ap one (sym (called-barred S limit h v n ok row (y.seat h.kept) 6 (sym (bar_6 (lent S limit h) (K.finite v) n (passes S && ok) l f)) (λ i. omega (arith, i))))
 
     module _ (f : K.finite v ≡ true) where
       goes : called S limit h v n ok row (y.seat h.kept) ≡ entered S h v row a
       goes =
-          sym (called_on S limit h v n ok row (y.seat h.kept) 0 (sym (bar-0 (lent S limit h) (K.finite v) n (passes S && ok) l f few okay)) refl)
+          sym (called_on S limit h v n ok row (y.seat h.kept) 0 (sym (bar_0 (lent S limit h) (K.finite v) n (passes S && ok) l f few okay)) refl)
           ∙ ap (entered S h v row) e
 
       fit : Fit S h.cells a.slot v
@@ -159,13 +159,13 @@ module _ {K : Kind} {S : Store K} (W : Owed S) (w : S.Switches) (limit n : ℕ) 
     here = record { no = 0; slot = x; updated = true; target = m.target }
 
     abbrev Next : Held S.Cells → Part S.Cells → K.Value → Type 0
-    Next h p v = Answers step (recordedOne S x) Sat h p v
+    Next h p v = Answers step (recorded_one S x) Sat h p v
 
     sat-next : (h : Held S.Cells) (p : Part S.Cells) (v : K.Value) → Sat h p → Unit {0} → Next h p v
     sat-next h p v s u =
         let c = p.cells in
         let g : Held S.Cells = record { kept = k; cells = c } in
-        let o = recordedOne S x (part true c) v in
+        let o = recorded_one S x (part true c) v in
         let q : Call g set accepted few (rw good.lent s.lent_is) here m.seat-is refl v o = call-is g set accepted few (rw good.lent s.lent_is) here m.seat-is refl v in
         subst (λ (i : Held S.Cells). Next i p v) (sym s.held-is)
         (subst (λ (i : Part S.Cells). Next g i v) (sym s.part-is)
@@ -195,53 +195,53 @@ module _ {K : Kind} {S : Store K} (W : Owed S) (w : S.Switches) (limit n : ℕ) 
     at = y.seat h.kept
 
     good : Good limit h.kept
-    good = record { agrees = y.agrees h.kept z; lent = (and-true (storesSuffice limit h.kept.stores) (S.suffices limit h.cells) l).0; last = small }
+    good = record { agrees = y.agrees h.kept z; lent = (and-true (stores_suffice limit h.kept.stores) (S.suffices limit h.cells) l).0; last = small }
 
     abbrev from : Part S.Cells
     from = part at.updated h.cells
 
-    batch-on : (vs : List K.Value) → each step h vs ≡ whole h at (recordedAll S at.slot at.updated h.cells vs)
-    unfolding recordedAll whole finishedAll pick
-    batch-on [] = each_none step h ∙ ap (λ (i : Many (Part S.Cells)). whole h at (cells_of i)) (sym (each_none (recordedOne S at.slot) from))
+    batch-on : (vs : List K.Value) → each step h vs ≡ whole h at (recorded_all S at.slot at.updated h.cells vs)
+    unfolding recorded_all whole finished_all pick
+    batch-on [] = each_none step h ∙ ap (λ (i : Many (Part S.Cells)). whole h at (cells_of i)) (sym (each_none (recorded_one S at.slot) from))
     batch-on (v ∷ vs) =
-        let o = recordedOne S at.slot from v in
+        let o = recorded_one S at.slot from v in
         let q = call-is h set accepted few l at refl z v in
         let k = committed h.kept.dir h.kept.stores row at.target in
         either o.no
         (λ t.
         let s = q.goes t in
         let w = y.again few h.kept good z in
-        let i = alike step (recordedOne S at.slot) (Sat set accepted few k w.0 at.slot w.1) (λ (j : K.Value). Unit {0}) v (sat-next set accepted few k w.0 at.slot w.1) vs (λ j. tt) (step h v).cells o.cells
+        let i = alike step (recorded_one S at.slot) (Sat set accepted few k w.0 at.slot w.1) (λ (j : K.Value). Unit {0}) v (sat-next set accepted few k w.0 at.slot w.1) vs (λ j. tt) (step h v).cells o.cells
         (record { held-is = ap (λ (j : Recording (Held S.Cells)). j.cells) s.0; part-is = ap (λ (j : Recording (Part S.Cells)). j.cells) s.1; lent_is = q.lent_is t }) in
-        let b = each (recordedOne S at.slot) o.cells vs in
+        let b = each (recorded_one S at.slot) o.cells vs in
         each_on step h v vs (ap (λ (j : Recording (Held S.Cells)). j.no) s.0)
         ∙ (λ j. record { taken = suc (i.taken j); no = i.no j; left = i.left.held-is j })
         ∙ (λ j. record { taken = suc b.taken; no = b.no; left = record { kept = sym (pick_second (suc b.taken) (λ e. omega (arith, e)) h.kept k) j; cells = b.left.cells } })
-        ∙ ap (λ (j : Many (Part S.Cells)). whole h at (cells_of j)) (sym (each_on (recordedOne S at.slot) from v vs t)))
+        ∙ ap (λ (j : Many (Part S.Cells)). whole h at (cells_of j)) (sym (each_on (recorded_one S at.slot) from v vs t)))
         (λ d.
         let s = q.stays d in
         each-stop step h v vs (λ i. d (ap (λ (j : Recording (Held S.Cells)). j.no) (sym s.0) ∙ i))
         ∙ ap (λ (j : Recording (Held S.Cells)). stopped j.no j.cells) s.0
         ∙ ap (λ (j : Recording (Part S.Cells)). whole h at (cells_of (stopped o.no j.cells))) (sym s.1)
-        ∙ ap (λ (j : Many (Part S.Cells)). whole h at (cells_of j)) (sym (each-stop (recordedOne S at.slot) from v vs d)))
+        ∙ ap (λ (j : Many (Part S.Cells)). whole h at (cells_of j)) (sym (each-stop (recorded_one S at.slot) from v vs d)))
 
   -- ---- at the seating a that the code came by for the first value: c says whether the cells suffice, f whether the value is finite, u is the
   -- number of the settings
 
   module _ (h : Held S.Cells) (v : K.Value) {c f : Bool} {u : ℕ} {a : Seating} (p : c ≡ S.suffices limit h.cells) (q : f ≡ K.finite v) (s : u ≡ S.unset)
-      (e : a ≡ unlessBarred (barredBy (storesSuffice limit h.kept.stores && c) f n (eqb u 0 && ok)) (y.seat h.kept)) where
+      (e : a ≡ unless_barred (barred_by (stores_suffice limit h.kept.stores && c) f n (eqb u 0 && ok)) (y.seat h.kept)) where
     abbrev bar : ℕ
-    bar = barredBy (storesSuffice limit h.kept.stores && c) f n (eqb u 0 && ok)
+    bar = barred_by (stores_suffice limit h.kept.stores && c) f n (eqb u 0 && ok)
 
-    same-bar : bar ≡ barredBy (lent S limit h) (K.finite v) n (passes S && ok)
-    same-bar = λ j. barredBy (storesSuffice limit h.kept.stores && p j) (q j) n (eqb (s j) 0 && ok)
+    same-bar : bar ≡ barred_by (lent S limit h) (K.finite v) n (passes S && ok)
+    same-bar = λ j. barred_by (stores_suffice limit h.kept.stores && p j) (q j) n (eqb (s j) 0 && ok)
 
     -- refused: the first value is, and nothing is changed
     pub off : (a.no ≡ 0 → ⊥) → (vs : List K.Value) → stopped a.no h ≡ each step h (v ∷ vs)
     unfolding called
     off d vs =
         let i : step h v ≡ after a.no h =
-        ap (λ (k : ℕ). one (entered S h v row (unlessBarred k (y.seat h.kept)))) (sym same-bar) ∙ ap (λ (k : Seating). one (entered S h v row k)) (sym e) ∙ ap one (sym (entered-away S h v row a d)) in
+        ap (λ (k : ℕ). one (entered S h v row (unless_barred k (y.seat h.kept)))) (sym same-bar) ∙ ap (λ (k : Seating). one (entered S h v row k)) (sym e) ∙ ap one (sym (entered-away S h v row a d)) in
         sym (each-stop step h v vs (λ k. d (ap (λ (j : Recording (Held S.Cells)). j.no) (sym i) ∙ k)) ∙ ap (λ (j : Recording (Held S.Cells)). stopped j.no j.cells) i)
 
     -- what one that is not refused shows
@@ -264,36 +264,36 @@ module _ {K : Kind} {S : Store K} (W : Owed S) (w : S.Switches) (limit n : ℕ) 
       pub sits-there : Seatable S h a
       sits-there = subst (Seatable S h) same-seat (y.sits h is-clear.room-is (and-true (passes S) ok is-clear.ok-is).1)
 
-      pub on : h.kept.dir.last < 2 ^ 64 → (vs : List K.Value) (m : Many S.Cells) → m ≡ recordedAll S a.slot a.updated h.cells (v ∷ vs)
+      pub on : h.kept.dir.last < 2 ^ 64 → (vs : List K.Value) (m : Many S.Cells) → m ≡ recorded_all S a.slot a.updated h.cells (v ∷ vs)
           → whole h a m ≡ each step h (v ∷ vs)
       on small vs m i =
           ap (whole h a) i
-          ∙ sym (subst (λ (k : Seating). each step h (v ∷ vs) ≡ whole h k (recordedAll S k.slot k.updated h.cells (v ∷ vs))) same-seat
+          ∙ sym (subst (λ (k : Seating). each step h (v ∷ vs) ≡ whole h k (recorded_all S k.slot k.updated h.cells (v ∷ vs))) same-seat
           (batch-on h small set_is (and-true (passes S) ok is-clear.ok-is).1 is-clear.few is-clear.room-is (ap (λ (k : Seating). k.no) same-seat ∙ z) (v ∷ vs)))
 
     -- the same at the end of the code: the slot left m, the directory's end r, for the row that was lent
-    module _ (l vs : List K.Value) (cut : l ≡ v ∷ vs) (m : Many S.Cells) (t : m ≡ unlessStopped a.no h.cells (recordedAll S a.slot a.updated h.cells l)) where
+    module _ (l vs : List K.Value) (cut : l ≡ v ∷ vs) (m : Many S.Cells) (t : m ≡ unless_stopped a.no h.cells (recorded_all S a.slot a.updated h.cells l)) where
       at-stop : (a.no ≡ 0 → ⊥) → m ≡ stopped a.no h.cells
-      at-stop d = t ∙ stop-off a.no h.cells (recordedAll S a.slot a.updated h.cells l) d
+      at-stop d = t ∙ stop-off a.no h.cells (recorded_all S a.slot a.updated h.cells l) d
 
       pub fits-there : (m.taken ≡ 0 → ⊥) → Fits h.kept.dir h.kept.stores a.target
       fits-there k = either a.no (λ z. (sits-there z z).1) (λ d. absurd (k (ap (λ (i : Many S.Cells). i.taken) (at-stop d))))
 
       pub ends : h.kept.dir.last < 2 ^ 64 → (given : List ℕ) → (a.no ≡ 0 → given ≡ row) → (r : Many Kept)
-          → r ≡ many m.taken m.no (finishedAll m.taken h.kept.dir h.kept.stores given a.target)
+          → r ≡ many m.taken m.no (finished_all m.taken h.kept.dir h.kept.stores given a.target)
           → many r.taken r.no (record { kept = r.left; cells = m.left }) ≡ each step h l
       unfolding whole
       ends small given same r g =
-          let o : (k : List ℕ) → Many (Held S.Cells) = λ k. many m.taken m.no (record { kept = finishedAll m.taken h.kept.dir h.kept.stores k a.target; cells = m.left }) in
+          let o : (k : List ℕ) → Many (Held S.Cells) = λ k. many m.taken m.no (record { kept = finished_all m.taken h.kept.dir h.kept.stores k a.target; cells = m.left }) in
           let first : many r.taken r.no (record { kept = r.left; cells = m.left }) ≡ o given = ap (λ (i : Many Kept). many i.taken i.no (record { kept = i.left; cells = m.left })) g in
           first
           ∙ either a.no
           (λ z.
-          let i : m ≡ recordedAll S a.slot a.updated h.cells (v ∷ vs) =
-          t ∙ stop-on a.no h.cells (recordedAll S a.slot a.updated h.cells l) z ∙ ap (recordedAll S a.slot a.updated h.cells) cut in
+          let i : m ≡ recorded_all S a.slot a.updated h.cells (v ∷ vs) =
+          t ∙ stop-on a.no h.cells (recorded_all S a.slot a.updated h.cells l) z ∙ ap (recorded_all S a.slot a.updated h.cells) cut in
           ap o (same z) ∙ on z small vs m i)
           (λ d.
-          ap (λ (i : Many S.Cells). many i.taken i.no (record { kept = finishedAll i.taken h.kept.dir h.kept.stores given a.target; cells = i.left })) (at-stop d)
+          ap (λ (i : Many S.Cells). many i.taken i.no (record { kept = finished_all i.taken h.kept.dir h.kept.stores given a.target; cells = i.left })) (at-stop d)
           ∙ (λ j. many 0 a.no (record { kept = not-finished h.kept given a.target j; cells = h.cells }))
           ∙ off d vs)
           ∙ ap (each step h) (sym cut)

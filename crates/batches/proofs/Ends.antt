@@ -16,7 +16,7 @@ use Rattle.laws.specs.Said.{refusal, success, number}
 use Rattle.laws.proofs.Bools.{flag}
 use Rattle.laws.proofs.Cases.{and-true}
 use Rattle.rows.specs.Recording.{Recording}
-use Rattle.many.specs.Many.{Many, many, oneMore, each}
+use Rattle.many.specs.Many.{Many, many, one_more, each}
 use Rattle.many.proofs.Turns.{either, each_on, each-stop, each_none}
 use Rattle.many.proofs.Alike.{pick_first, pick_second}
 use Rattle.tally.specs.Kind.{Kind}
@@ -24,22 +24,22 @@ use Rattle.tally.specs.Sets.{Set, canonical, Lendable}
 use Rattle.sets.specs.Rows.{row_of}
 use Rattle.sets.specs.Sorted.{given}
 use Rattle.directory.specs.View.{Stores, agreesb}
-use Rattle.directory.specs.Calls.{Kept, mostSets, fewKeys, accepts, storesSuffice}
+use Rattle.directory.specs.Calls.{Kept, most_sets, few_keys, accepts, stores_suffice}
 use Rattle.bindings.specs.Calls.{said}
 use Rattle.bindings.specs.declared.Reply.{Reply}
 use Rattle.seats.specs.declared.Seating.{Seating}
-use Rattle.seats.specs.Seats.{away, seated, seatedBy, barredBy, unlessBarred, committed}
+use Rattle.seats.specs.Seats.{away, seated, seated_by, barred_by, unless_barred, committed}
 use Rattle.seats.specs.Inner.{Sure, Fits}
 use Rattle.seats.proofs.Seatings.{seat-no, by-no}
 use Rattle.value_map.specs.Store.{Store}
-use Rattle.value_map.specs.Calls.{Held, Outcome, held, gave, unlessRefused, passes, lent, entered, called, measured, measuredBy}
+use Rattle.value_map.specs.Calls.{Held, Outcome, held, gave, unless_refused, passes, lent, entered, called, measured, measured_by}
 use Rattle.value_map.proofs.Owed.{Owed}
 use Rattle.value_map.proofs.Cases.{lent-dir, lent-cells, set-seatable, by-seatable, stop, on}
 use Rattle.batches.specs.Agreed.{Agreed, SoundAt, AgreedBy, AgreedFor}
-use Rattle.batches.specs.Batch.{one, measuredAll, measuredAllBy}
-use Rattle.batches.specs.Inner.{recordedAll, TakesAll, unlessStopped, finishedAll, answer_of}
+use Rattle.batches.specs.Batch.{one, measured_all, measured_all_by}
+use Rattle.batches.specs.Inner.{recorded_all, TakesAll, unless_stopped, finished_all, answer_of}
 use Rattle.batches.specs.declared.Batch.{Batch}
-use Rattle.batches.proofs.Again.{seatOf, seatBy, set-again, handle-again}
+use Rattle.batches.proofs.Again.{seat_of, seat_by, set-again, handle-again}
 use Rattle.batches.proofs.Batches as Batches
 use Rattle.batches.proofs.Batches.{Course}
 
@@ -58,12 +58,12 @@ module _ (limit : ℕ) (k : Kept) where
       (flag (agreesb limit k.dir k.stores))
 
 module _ {K : Kind} {S : Store K} (W : Owed S) (limit : ℕ) where
-  abbrev by-course : (b : ℕ) → Course S limit 0 (leb limit mostSets) (replicate 9 0)
+  abbrev by-course : (b : ℕ) → Course S limit 0 (leb limit most_sets) (replicate 9 0)
   by-course b =
       record {
-        seat = seatBy limit b;
-        agrees = λ k z. agreeing limit k (seatBy limit b k) z (by-no limit k.dir k.stores b);
-        sits = λ h l a. by-seatable W limit h l b (seatBy limit b h.kept) refl;
+        seat = seat_by limit b;
+        agrees = λ k z. agreeing limit k (seat_by limit b k) z (by-no limit k.dir k.stores b);
+        sits = λ h l a. by-seatable W limit h l b (seat_by limit b h.kept) refl;
         again = λ few k g n. handle-again limit b (replicate 9 0) k g n;
       }
 
@@ -71,9 +71,9 @@ module _ {K : Kind} {S : Store K} (W : Owed S) (limit : ℕ) where
   set-course filter attrs small =
       let row = row_of (canonical filter attrs) in
       record {
-        seat = seatOf limit row;
-        agrees = λ k z. agreeing limit k (seatOf limit row k) z (seat-no limit k.dir k.stores row);
-        sits = λ h l a. set-seatable W limit h l filter a row (seatOf limit row h.kept) refl;
+        seat = seat_of limit row;
+        agrees = λ k z. agreeing limit k (seat_of limit row k) z (seat-no limit k.dir k.stores row);
+        sits = λ h l a. set-seatable W limit h l filter a row (seat_of limit row h.kept) refl;
         again = λ few k g n. set-again limit filter attrs small few k g n;
       }
 
@@ -93,11 +93,11 @@ module _ {K : Kind} {S : Store K} (W : Owed S) (w : S.Switches) (limit : ℕ) (h
         agrees = g.agrees;
       }
 
-  pub sure-by : (b : ℕ) → AgreedBy S w limit h b → Sure slots u limit h.kept.dir h.kept.stores (leb limit mostSets)
-  sure-by b g = sure-of none (leb limit mostSets) (and-true (leb limit mostSets) (fewKeys none) g.0.accepted).0 g.0
+  pub sure-by : (b : ℕ) → AgreedBy S w limit h b → Sure slots u limit h.kept.dir h.kept.stores (leb limit most_sets)
+  sure-by b g = sure-of none (leb limit most_sets) (and-true (leb limit most_sets) (few_keys none) g.0.accepted).0 g.0
 
-  pub sure-for : (filter : Option (List ℕ)) (attrs : Set) → AgreedFor S w limit filter h attrs → Sure slots u limit h.kept.dir h.kept.stores (accepts limit filter)
-  sure-for filter attrs g = sure-of filter (accepts limit filter) g.0.accepted g.0
+  pub sure_for : (filter : Option (List ℕ)) (attrs : Set) → AgreedFor S w limit filter h attrs → Sure slots u limit h.kept.dir h.kept.stores (accepts limit filter)
+  sure_for filter attrs g = sure-of filter (accepts limit filter) g.0.accepted g.0
 
 -- the touched series is known to agree, if that is known where the call goes
 known_at : {K : Kind} (S : Store K) (w : S.Switches) (h : Held S.Cells) (known : Bool) (x a : Seating) → x ≡ a → (known ≡ true → SoundAt S w h x) → known ≡ true → SoundAt S w h a
@@ -107,31 +107,31 @@ known_at S w h known x a e f k = subst (SoundAt S w h) e (f k)
 
 module _ {K : Kind} {S : Store K} (W : Owed S) (w : S.Switches) (limit : ℕ) (h : Held S.Cells) (b : ℕ) where
   -- no value, no call
-  pub by-none : (l : List K.Value) → length l ≡ 0 → many 0 0 h ≡ measuredAllBy S limit h l b
-  unfolding measuredAllBy
-  by-none [] e = sym (each_none (λ m v. one (measuredBy S limit m v b)) h)
+  pub by-none : (l : List K.Value) → length l ≡ 0 → many 0 0 h ≡ measured_all_by S limit h l b
+  unfolding measured_all_by
+  by-none [] e = sym (each_none (λ m v. one (measured_by S limit m v b)) h)
   by-none (v ∷ vs) e = absurd (omega (arith, e))
 
   module _ (v : K.Value) {c f : Bool} {u : ℕ} {a : Seating} (p : c ≡ S.suffices limit h.cells) (q : f ≡ K.finite v) (s : u ≡ S.unset)
-      (e : a ≡ unlessBarred (barredBy (storesSuffice limit h.kept.stores && c) f 0 (eqb u 0 && leb limit mostSets)) (seatedBy limit h.kept.dir h.kept.stores b)) where
+      (e : a ≡ unless_barred (barred_by (stores_suffice limit h.kept.stores && c) f 0 (eqb u 0 && leb limit most_sets)) (seated_by limit h.kept.dir h.kept.stores b)) where
     pub by-takes : (known : Bool) → (known ≡ true → AgreedBy S w limit h b) → TakesAll S w known h.cells a.no a.slot a.updated
     by-takes known g z = (
       Batches.set_is W w limit 0 _ _ (by-course W limit b) h v p q s e z,
       (Batches.sits-there W w limit 0 _ _ (by-course W limit b) h v p q s e z z).0,
-      known_at S w h known (seatBy limit b h.kept) a (Batches.same-seat W w limit 0 _ _ (by-course W limit b) h v p q s e z) (λ k. (g k).1),
+      known_at S w h known (seat_by limit b h.kept) a (Batches.same-seat W w limit 0 _ _ (by-course W limit b) h v p q s e z) (λ k. (g k).1),
     )
 
     pub by-finite : a.no ≡ 0 → K.finite v ≡ true
     by-finite z = Batches.finite-first W w limit 0 _ _ (by-course W limit b) h v p q s e z
 
     -- the slot left m of the list l, which begins with v
-    module _ (l vs : List K.Value) (cut : l ≡ v ∷ vs) (m : Many S.Cells) (t : m ≡ unlessStopped a.no h.cells (recordedAll S a.slot a.updated h.cells l)) where
+    module _ (l vs : List K.Value) (cut : l ≡ v ∷ vs) (m : Many S.Cells) (t : m ≡ unless_stopped a.no h.cells (recorded_all S a.slot a.updated h.cells l)) where
       pub by_fits : (m.taken ≡ 0 → ⊥) → Fits h.kept.dir h.kept.stores a.target
       by_fits k = Batches.fits-there W w limit 0 _ _ (by-course W limit b) h v p q s e l vs cut m t k
 
-      pub by-ends : h.kept.dir.last < 2 ^ 64 → (r : Many Kept) → r ≡ many m.taken m.no (finishedAll m.taken h.kept.dir h.kept.stores (replicate 9 0) a.target)
-          → many r.taken r.no (record { kept = r.left; cells = m.left }) ≡ measuredAllBy S limit h l b
-      unfolding measuredAllBy measuredBy
+      pub by-ends : h.kept.dir.last < 2 ^ 64 → (r : Many Kept) → r ≡ many m.taken m.no (finished_all m.taken h.kept.dir h.kept.stores (replicate 9 0) a.target)
+          → many r.taken r.no (record { kept = r.left; cells = m.left }) ≡ measured_all_by S limit h l b
+      unfolding measured_all_by measured_by
       by-ends small r g = Batches.ends W w limit 0 _ _ (by-course W limit b) h v p q s e l vs cut m t small (replicate 9 0) (λ z. refl) r g
 
 -- ---- BY SET
@@ -140,13 +140,13 @@ module _ {K : Kind} {S : Store K} (W : Owed S) (w : S.Switches) (limit : ℕ) (f
   abbrev row : List ℕ
   row = row_of (canonical filter attrs)
 
-  pub for-none : (l : List K.Value) → length l ≡ 0 → many 0 0 h ≡ measuredAll S limit filter h l attrs
-  unfolding measuredAll
+  pub for-none : (l : List K.Value) → length l ≡ 0 → many 0 0 h ≡ measured_all S limit filter h l attrs
+  unfolding measured_all
   for-none [] e = sym (each_none (λ m v. one (measured S limit filter m v attrs)) h)
   for-none (v ∷ vs) e = absurd (omega (arith, e))
 
   module _ (small : Lendable attrs) (v : K.Value) {c f : Bool} {u : ℕ} {a : Seating} (p : c ≡ S.suffices limit h.cells) (q : f ≡ K.finite v) (s : u ≡ S.unset)
-      (e : a ≡ unlessBarred (barredBy (storesSuffice limit h.kept.stores && c) f (length attrs) (eqb u 0 && accepts limit filter)) (seated limit h.kept.dir h.kept.stores row)) where
+      (e : a ≡ unless_barred (barred_by (stores_suffice limit h.kept.stores && c) f (length attrs) (eqb u 0 && accepts limit filter)) (seated limit h.kept.dir h.kept.stores row)) where
     abbrev course : Course S limit (length attrs) (accepts limit filter) row
     course = set-course W limit filter attrs small
 
@@ -154,21 +154,21 @@ module _ {K : Kind} {S : Store K} (W : Owed S) (w : S.Switches) (limit : ℕ) (f
     for-takes known g z = (
       Batches.set_is W w limit _ _ _ course h v p q s e z,
       (Batches.sits-there W w limit _ _ _ course h v p q s e z z).0,
-      known_at S w h known (seatOf limit row h.kept) a (Batches.same-seat W w limit _ _ _ course h v p q s e z) (λ k. (g k).1),
+      known_at S w h known (seat_of limit row h.kept) a (Batches.same-seat W w limit _ _ _ course h v p q s e z) (λ k. (g k).1),
     )
 
     pub for-finite : a.no ≡ 0 → K.finite v ≡ true
     for-finite z = Batches.finite-first W w limit _ _ _ course h v p q s e z
 
-    module _ (l vs : List K.Value) (cut : l ≡ v ∷ vs) (m : Many S.Cells) (t : m ≡ unlessStopped a.no h.cells (recordedAll S a.slot a.updated h.cells l)) where
+    module _ (l vs : List K.Value) (cut : l ≡ v ∷ vs) (m : Many S.Cells) (t : m ≡ unless_stopped a.no h.cells (recorded_all S a.slot a.updated h.cells l)) where
       pub for-fits : (m.taken ≡ 0 → ⊥) → Fits h.kept.dir h.kept.stores a.target
       for-fits k = Batches.fits-there W w limit _ _ _ course h v p q s e l vs cut m t k
 
       -- `given` is the row that the seating left
       pub for-ends : h.kept.dir.last < 2 ^ 64 → (given : List ℕ) → (a.no ≡ 0 → given ≡ row) → (r : Many Kept)
-          → r ≡ many m.taken m.no (finishedAll m.taken h.kept.dir h.kept.stores given a.target)
-          → many r.taken r.no (record { kept = r.left; cells = m.left }) ≡ measuredAll S limit filter h l attrs
-      unfolding measuredAll measured
+          → r ≡ many m.taken m.no (finished_all m.taken h.kept.dir h.kept.stores given a.target)
+          → many r.taken r.no (record { kept = r.left; cells = m.left }) ≡ measured_all S limit filter h l attrs
+      unfolding measured_all measured
       for-ends last given same r g = Batches.ends W w limit _ _ _ course h v p q s e l vs cut m t last given same r g
 
 -- ---- A BATCH OF ONE VALUE is the single call
@@ -178,7 +178,7 @@ module _ {Cells : Type 0} where
   abbrev Told : Outcome Cells → Type 0
   Told o = o.answer ≡ answer_of (number o.answer)
 
-  unless-told : (h : Held Cells) (n : ℕ) (o : Outcome Cells) → Told o → Told (unlessRefused h n o)
+  unless-told : (h : Held Cells) (n : ℕ) (o : Outcome Cells) → Told o → Told (unless_refused h n o)
   unfolding answer_of
   unless-told h n o k =
       either n (λ z. subst Told (sym (on h n o z)) k)
@@ -188,7 +188,7 @@ module _ {Cells : Type 0} where
   one_left f h v =
       either (f h v).no
       (λ z.
-      let e = each_on f h v [] z ∙ ap oneMore (each_none f (f h v).cells) in
+      let e = each_on f h v [] z ∙ ap one_more (each_none f (f h v).cells) in
       (ap (λ (m : Many (Held Cells)). m.no) e ∙ sym z, ap (λ (m : Many (Held Cells)). m.left) e))
       (λ d. let e = each-stop f h v [] d in (ap (λ (m : Many (Held Cells)). m.no) e, ap (λ (m : Many (Held Cells)). m.left) e))
 
@@ -214,23 +214,23 @@ module _ {K : Kind} (S : Store K) (limit : ℕ) (h : Held S.Cells) (v : K.Value)
       let o = S.recorded a.slot a.updated h.cells v in
       let k = committed h.kept.dir h.kept.stores row a.target in
       let done : Outcome S.Cells = record { answer = success none; held = record { kept = k; cells = o.cells } } in
-      unless-told h a.no (unlessRefused h o.no done) (unless-told h o.no done (done-told k o.cells))
+      unless-told h a.no (unless_refused h o.no done) (unless-told h o.no done (done-told k o.cells))
 
   called-told : (n : ℕ) (ok : Bool) (row : List ℕ) (a : Seating) → Told (called S limit h v n ok row a)
   unfolding called
-  called-told n ok row a = entered-told row (unlessBarred (barredBy (lent S limit h) (K.finite v) n (passes S && ok)) a)
+  called-told n ok row a = entered-told row (unless_barred (barred_by (lent S limit h) (K.finite v) n (passes S && ok)) a)
 
   module _ (x : Batch) (r : Reply) (g : (said r.answer ≡ answer_of x.no) × (r.dir ≡ x.dir)) (s : Stores) (c : S.Cells) where
-    pub one-by : (b : ℕ) → many x.taken x.no (held x.dir s c) ≡ measuredAllBy S limit h (v ∷ []) b → gave r s c ≡ measuredBy S limit h v b
-    unfolding measuredAllBy measuredBy
+    pub one-by : (b : ℕ) → many x.taken x.no (held x.dir s c) ≡ measured_all_by S limit h (v ∷ []) b → gave r s c ≡ measured_by S limit h v b
+    unfolding measured_all_by measured_by
     one-by b e =
-        replied (λ m y. one (measuredBy S limit m y b)) h v (measuredBy S limit h v b) refl
-        (called-told 0 (leb limit mostSets) (replicate 9 0) (seatedBy limit h.kept.dir h.kept.stores b)) x r g s c e
+        replied (λ m y. one (measured_by S limit m y b)) h v (measured_by S limit h v b) refl
+        (called-told 0 (leb limit most_sets) (replicate 9 0) (seated_by limit h.kept.dir h.kept.stores b)) x r g s c e
 
-    pub one-for : (filter : Option (List ℕ)) (attrs : Set) → many x.taken x.no (held x.dir s c) ≡ measuredAll S limit filter h (v ∷ []) attrs
+    pub one_for : (filter : Option (List ℕ)) (attrs : Set) → many x.taken x.no (held x.dir s c) ≡ measured_all S limit filter h (v ∷ []) attrs
         → gave r s c ≡ measured S limit filter h v attrs
-    unfolding measuredAll measured
-    one-for filter attrs e =
+    unfolding measured_all measured
+    one_for filter attrs e =
         let row = row_of (canonical filter attrs) in
         replied (λ m y. one (measured S limit filter m y attrs)) h v (measured S limit filter h v attrs) refl
         (called-told (length attrs) (accepts limit filter) row (seated limit h.kept.dir h.kept.stores row)) x r g s c e

@@ -21,26 +21,26 @@ use Rattle.tally.proofs.Sound.{Steady}
 use Rattle.tally.proofs.MapSteps.{fits}
 use Rattle.value_map.specs.Store.{Store}
 use Rattle.value_map.proofs.Owed.{Fit, there, was, refusing, Took, Owed}
-use Rattle.batches.specs.Inner.{Part, part, recordedOne, recordedAll}
+use Rattle.batches.specs.Inner.{Part, part, recorded_one, recorded_all}
 
 -- ---- by cases
 
 module _ {K : Kind} (S : Store K) (x : ℕ) (p : Part S.Cells) (v : K.Value) where
-  pub one-wild : K.finite v ≡ false → recordedOne S x p v ≡ after 6 p
-  unfolding recordedOne pick
+  pub one-wild : K.finite v ≡ false → recorded_one S x p v ≡ after 6 p
+  unfolding recorded_one pick
   one-wild q = rw q
 
   module _ (q : K.finite v ≡ true) (o : Recording S.Cells) (e : S.recorded x p.updated p.cells v ≡ o) where
-    pub one_on : o.no ≡ 0 → recordedOne S x p v ≡ after 0 (part true o.cells)
-    unfolding recordedOne pick
+    pub one_on : o.no ≡ 0 → recorded_one S x p v ≡ after 0 (part true o.cells)
+    unfolding recorded_one pick
     one_on z = rw (q, e, eq-eqb o.no 0 z) (λ j. after (z j) (part (held p.updated j) o.cells))
       where
         held : (u : Bool) → (u || true) ≡ true
         held true = refl
         held false = refl
 
-    pub one-stop : (o.no ≡ 0 → ⊥) → recordedOne S x p v ≡ after o.no (part p.updated o.cells)
-    unfolding recordedOne pick
+    pub one-stop : (o.no ≡ 0 → ⊥) → recorded_one S x p v ≡ after o.no (part p.updated o.cells)
+    unfolding recorded_one pick
     one-stop d = rw (q, e, ne_eqb o.no 0 d) (λ j. after o.no (part (held p.updated j) o.cells))
       where
         held : (u : Bool) → (u || false) ≡ u
@@ -53,27 +53,27 @@ cells_of m = record { taken = m.taken; no = m.no; left = m.left.cells }
 
 module _ {K : Kind} (S : Store K) (x : ℕ) (u : Bool) (c : S.Cells) where
   -- no value, no call
-  pub none-all : recordedAll S x u c [] ≡ stopped 0 c
-  unfolding recordedAll
-  none-all = ap cells_of (each_none (recordedOne S x) (part u c))
+  pub none-all : recorded_all S x u c [] ≡ stopped 0 c
+  unfolding recorded_all
+  none-all = ap cells_of (each_none (recorded_one S x) (part u c))
 
   module _ (v : K.Value) (vs : List K.Value) where
     -- 6 comes before all that the slot asks
-    pub wild-all : K.finite v ≡ false → recordedAll S x u c (v ∷ vs) ≡ stopped 6 c
-    unfolding recordedAll
+    pub wild-all : K.finite v ≡ false → recorded_all S x u c (v ∷ vs) ≡ stopped 6 c
+    unfolding recorded_all
     wild-all q =
         let e = one-wild S x (part u c) v q in
-        let d : (recordedOne S x (part u c) v).no ≡ 0 → ⊥ = λ z. let i = ap (λ (o : Recording (Part S.Cells)). o.no) (sym e) ∙ z in omega (arith, i) in
-        ap cells_of (each-stop (recordedOne S x) (part u c) v vs d) ∙ ap (λ (o : Recording (Part S.Cells)). stopped o.no o.cells.cells) e
+        let d : (recorded_one S x (part u c) v).no ≡ 0 → ⊥ = λ z. let i = ap (λ (o : Recording (Part S.Cells)). o.no) (sym e) ∙ z in omega (arith, i) in
+        ap cells_of (each-stop (recorded_one S x) (part u c) v vs d) ∙ ap (λ (o : Recording (Part S.Cells)). stopped o.no o.cells.cells) e
 
     -- a first value that the slot refuses stops all, and nothing is changed
-    pub first_stops : Owed S → K.finite v ≡ true → (n : ℕ) → (S.recorded x u c v).no ≡ n → (n ≡ 0 → ⊥) → recordedAll S x u c (v ∷ vs) ≡ stopped n c
-    unfolding recordedAll
+    pub first_stops : Owed S → K.finite v ≡ true → (n : ℕ) → (S.recorded x u c v).no ≡ n → (n ≡ 0 → ⊥) → recorded_all S x u c (v ∷ vs) ≡ stopped n c
+    unfolding recorded_all
     first_stops W q n r d =
         let o = S.recorded x u c v in
         let k : o.no ≡ 0 → ⊥ = λ z. d (sym r ∙ z) in
         let e = one-stop S x (part u c) v q o refl k in
-        ap cells_of (each-stop (recordedOne S x) (part u c) v vs (λ z. k (ap (λ (y : Recording (Part S.Cells)). y.no) (sym e) ∙ z)))
+        ap cells_of (each-stop (recorded_one S x) (part u c) v vs (λ z. k (ap (λ (y : Recording (Part S.Cells)). y.no) (sym e) ∙ z)))
         ∙ ap (λ (y : Recording (Part S.Cells)). stopped y.no y.cells.cells) e
         ∙ (λ j. stopped (r j) (W.unchanged c x u v k j))
 
@@ -102,14 +102,14 @@ module _ {K : Kind} {S : Store K} (W : Owed S) (w : S.Switches) (x : ℕ) (u : B
 
   -- a series that disagrees stops the first finite value with 8
   pub unsound-all : S.unset ≡ 0 → S.Room c x → (v : K.Value) (vs : List K.Value) → K.finite v ≡ true → u ≡ true → K.agrees z (S.at c x) ≡ false
-      → recordedAll S x u c (v ∷ vs) ≡ stopped 8 c
+      → recorded_all S x u c (v ∷ vs) ≡ stopped 8 c
   unsound-all set room v vs q h k =
       let e = W.disagreeing w c x u v (record { set = set; room = room; value = q }) (disagrees-there u h k) in
       first_stops S x u c v vs W q 8 (ap (λ (o : Recording S.Cells). o.no) e) (λ i. omega (arith, i))
 
   -- a slot that does not answer 8 is ready
-  pub ready-if : S.unset ≡ 0 → S.Room c x → (v : K.Value) → K.finite v ≡ true → ((S.recorded x u c v).no ≡ 8 → ⊥) → Ready S w x u c
-  ready-if set room v q d =
+  pub ready_if : S.unset ≡ 0 → S.Room c x → (v : K.Value) → K.finite v ≡ true → ((S.recorded x u c v).no ≡ 8 → ⊥) → Ready S w x u c
+  ready_if set room v q d =
       record {
         set = set;
         room = room;
@@ -190,8 +190,8 @@ pub record Slotted {K : Kind} (S : Store K) (w : S.Switches) : Type 1 where
 module _ {K : Kind} {S : Store K} (w : S.Switches) (D : Slotted S w) (x : ℕ) where
   -- one value at a slot in which y lies: refused, it changes nothing; taken, what it leaves is put there
   record One (u : Bool) (c : S.Cells) (v : K.Value) (y : D.Series) : Type 0 where
-    pub stays : ((D.step y v).no ≡ 0 → ⊥) → (recordedOne S x (part u c) v ≡ after (D.step y v).no (part u c)) × ((D.step y v).cells ≡ y)
-    pub goes : (D.step y v).no ≡ 0 → recordedOne S x (part u c) v ≡ after 0 (part true (D.put c x (D.step y v).cells))
+    pub stays : ((D.step y v).no ≡ 0 → ⊥) → (recorded_one S x (part u c) v ≡ after (D.step y v).no (part u c)) × ((D.step y v).cells ≡ y)
+    pub goes : (D.step y v).no ≡ 0 → recorded_one S x (part u c) v ≡ after 0 (part true (D.put c x (D.step y v).cells))
     pub fitting : (D.step y v).no ≡ 0 → D.Fitting (D.step y v).cells
     pub ready : (D.step y v).no ≡ 0 → Ready S w x true (D.put c x (D.step y v).cells)
 
@@ -201,7 +201,7 @@ module _ {K : Kind} {S : Store K} (w : S.Switches) (D : Slotted S w) (x : ℕ) w
 
 module _ {K : Kind} {S : Store K} (W : Owed S) (T : Steady K) (w : S.Switches) (D : Slotted S w) (x : ℕ) where
   abbrev f : Part S.Cells → K.Value → Recording (Part S.Cells)
-  f = recordedOne S x
+  f = recorded_one S x
 
   module _ (u : Bool) (c : S.Cells) (r : Ready S w x u c) (v : K.Value) (s : D.Shape v) where
     abbrev l : D.Series
@@ -282,8 +282,8 @@ module _ {K : Kind} {S : Store K} (W : Owed S) (T : Steady K) (w : S.Switches) (
     pub slot-none : (vs : List K.Value) → Elements D.Shape D.nought vs → (each D.step (D.load c x u) vs).taken ≡ 0 → (each D.step (D.load c x u) vs).left ≡ D.load c x u
     slot-none = none-taken D.step D.Shape D.nought (D.load c x u) (λ v s d. D.unchanged c x u v r s d)
 
-    pub slot-all : (vs : List K.Value) → Elements D.Shape D.nought vs → recordedAll S x u c vs ≡ landed w D x c (each D.step (D.load c x u) vs)
-    unfolding recordedAll landed pick
+    pub slot-all : (vs : List K.Value) → Elements D.Shape D.nought vs → recorded_all S x u c vs ≡ landed w D x c (each D.step (D.load c x u) vs)
+    unfolding recorded_all landed pick
     slot-all [] s = none-all S x u c ∙ ap (landed w D x c) (sym (each_none D.step (D.load c x u)))
     slot-all (v ∷ vs) s =
         let y = D.load c x u in
@@ -310,7 +310,7 @@ module _ {K : Kind} {S : Store K} (W : Owed S) (T : Steady K) (w : S.Switches) (
     -- at the code's end: the loop left m, and the cells are as they were, or have what is left put
     pub slot-ends : (vs : List K.Value) → Elements D.Shape D.nought vs → (m : Many D.Series) → m ≡ each D.step (D.load c x u) vs
         → (end : S.Cells) → (m.taken ≡ 0 → m.left ≡ D.load c x u → end ≡ c) → ((m.taken ≡ 0 → ⊥) → end ≡ D.put c x m.left)
-        → many m.taken m.no end ≡ recordedAll S x u c vs
+        → many m.taken m.no end ≡ recorded_all S x u c vs
     unfolding landed
     slot-ends vs s m e end off on =
         let same : end ≡ pick (eqb m.taken 0) c (D.put c x m.left) =

@@ -8,7 +8,7 @@ use Rattle.sets.specs.Rows.{row_of}
 use Rattle.directory.specs.View.{agreesb}
 use Rattle.directory.specs.Calls.{accepts}
 use Rattle.seats.specs.declared.Seating.{Seating}
-use Rattle.seats.specs.Seats.{seated, seatedBy}
+use Rattle.seats.specs.Seats.{seated, seated_by}
 use Rattle.value_map.specs.Store.{Store}
 use Rattle.value_map.specs.Calls.{Held, lent}
 
@@ -27,7 +27,7 @@ module _ {K : Kind} (S : Store K) (w : S.Switches) where
 
   -- a map in which a recording by this handle, or with these attributes, meets nothing that disagrees
   abbrev pub AgreedBy : ℕ → Held S.Cells → ℕ → Type 0
-  AgreedBy limit h b = Agreed S limit none h × SoundAt h (seatedBy limit h.kept.dir h.kept.stores b)
+  AgreedBy limit h b = Agreed S limit none h × SoundAt h (seated_by limit h.kept.dir h.kept.stores b)
 
   abbrev pub AgreedFor : ℕ → Option (List ℕ) → Held S.Cells → Set → Type 0
   AgreedFor limit filter h attrs = Agreed S limit filter h × SoundAt h (seated limit h.kept.dir h.kept.stores (row_of (canonical filter attrs)))

@@ -24,15 +24,15 @@ part u c = record { updated = u; cells = c }
 
 module _ {K : Kind} (S : Store K) where
   -- one value at slot x: once it was taken, the slot holds a series
-  unfoldable pub recordedOne : ℕ → Part S.Cells → K.Value → Recording (Part S.Cells)
-  recordedOne x p v =
+  unfoldable pub recorded_one : ℕ → Part S.Cells → K.Value → Recording (Part S.Cells)
+  recorded_one x p v =
       let o = S.recorded x p.updated p.cells v in
       pick (K.finite v) (after o.no (part (p.updated || eqb o.no 0) o.cells)) (after 6 p)
 
   -- values one after another at slot x, which held a series or not
-  unfoldable pub recordedAll : ℕ → Bool → S.Cells → List K.Value → Many S.Cells
-  recordedAll x u c vs =
-      let m = each (recordedOne x) (part u c) vs in
+  unfoldable pub recorded_all : ℕ → Bool → S.Cells → List K.Value → Many S.Cells
+  recorded_all x u c vs =
+      let m = each (recorded_one x) (part u c) vs in
       record { taken = m.taken; no = m.no; left = m.left.cells }
 
   -- what recording at a slot may know: nothing, or that the series held there agrees
@@ -44,12 +44,12 @@ module _ {K : Kind} (S : Store K) where
   TakesAll w known c n x u = n ≡ 0 → (S.unset ≡ 0) × S.Room c x × Known w known x u c
 
 -- unless a number refused the first value before
-unfoldable pub unlessStopped : {Left : Type 0} → ℕ → Left → Many Left → Many Left
-unlessStopped n l m = pick (eqb n 0) m (stopped n l)
+unfoldable pub unless_stopped : {Left : Type 0} → ℕ → Left → Many Left → Many Left
+unless_stopped n l m = pick (eqb n 0) m (stopped n l)
 
 -- the end of a batch: the directory is written if anything was taken
-unfoldable pub finishedAll : ℕ → Directory → Stores → List ℕ → Target → Kept
-finishedAll taken d s row t = pick (eqb taken 0) (kept d s) (committed d s row t)
+unfoldable pub finished_all : ℕ → Directory → Stores → List ℕ → Target → Kept
+finished_all taken d s row t = pick (eqb taken 0) (kept d s) (committed d s row t)
 
 -- what a single call says where its number is n
 unfoldable pub answer_of : ℕ → Said (Option ℕ)

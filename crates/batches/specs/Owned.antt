@@ -3,7 +3,7 @@
 use Rattle.std.specs.Prelude.{ℕ, ◌^◌, ◌≤◌, ◌<◌, ◌≡◌, true, List}
 use Rattle.std.proofs.Math.Option.{Option}
 use Rattle.tally.specs.Kind.{Kind}
-use Rattle.directory.specs.View.{updatedIn}
+use Rattle.directory.specs.View.{updated_in}
 use Rattle.value_map.specs.Store.{Store}
 use Rattle.value_map.specs.Calls.{Held}
 use Rattle.batches.specs.Agreed.{Agreed}
@@ -14,4 +14,4 @@ module _ {K : Kind} (S : Store K) (w : S.Switches) where
     -- the last birth number is a u64
     pub last : h.kept.dir.last < 2 ^ 64
     -- each series that is held agrees
-    pub series : (x : ℕ) → x ≤ h.kept.dir.used → updatedIn h.kept.stores.entries x ≡ true → K.agrees (S.settings w) (S.at h.cells x) ≡ true
+    pub series : (x : ℕ) → x ≤ h.kept.dir.used → updated_in h.kept.stores.entries x ≡ true → K.agrees (S.settings w) (S.at h.cells x) ≡ true

@@ -10,7 +10,7 @@ ghost use Rattle.directory.specs.View.{stores};
 ghost use Rattle.directory.specs.Calls.{kept};
 ghost use Rattle.bindings.specs.Calls.{said};
 ghost use Rattle.seats.specs.Inner.{Fits};
-ghost use Rattle.batches.specs.Inner.{finishedAll, answer_of};
+ghost use Rattle.batches.specs.Inner.{finished_all, answer_of};
 
 use bindings::{Answer, Reply};
 use directory::{Directory, Target};
@@ -37,7 +37,7 @@ pub fn finish_all(
 ) -> Batch
     requires { (taken ≡ 0 → ⊥) → Fits d (stores sets entries order) target }
     ensures { many result.taken result.no (kept result.dir (stores sets.exit entries.exit order.exit))
-        ≡ many taken no (finishedAll taken d (stores sets.entry entries.entry order.entry) row.now target) }
+        ≡ many taken no (finished_all taken d (stores sets.entry entries.entry order.entry) row.now target) }
 {
     if taken == 0 {
         return Batch {

@@ -17,23 +17,23 @@ use Rattle.tally.specs.Map.{Config, bind, release, Agrees}
 use Rattle.tally.proofs.MapSteps.{start, upfront, act}
 use Rattle.tally.proofs.Agree.{step-agrees}
 use Rattle.sets.specs.All.{allb}
-use Rattle.sets.specs.Rows.{size, setOf, row_of}
-use Rattle.sets.specs.Sorted.{mostAttributes}
-use Rattle.sets.proofs.CallRow.{row-set, row-keyed, row-short}
+use Rattle.sets.specs.Rows.{size, set_of, row_of}
+use Rattle.sets.specs.Sorted.{most_attributes}
+use Rattle.sets.proofs.CallRow.{row-set, row_keyed, row-short}
 use Rattle.sets.proofs.Keyed.{keyed-sound}
-use Rattle.directory.specs.Calls.{Kept, overRow, located, scan, mostSets, accepts, storesSuffice}
+use Rattle.directory.specs.Calls.{Kept, over_row, located, scan, most_sets, accepts, stores_suffice}
 use Rattle.directory.specs.View.{Stores, Laid, slotsb, agreesb, view}
 use Rattle.directory.specs.declared.Directory.{Directory}
 use Rattle.directory.specs.declared.Found.{Found}
 use Rattle.directory.specs.declared.Found.TheVariants.{Held, Room}
 use Rattle.directory.specs.declared.Target.{Target}
 use Rattle.directory.specs.declared.Target.TheVariants.{Disagrees, Old, New, Over}
-use Rattle.directory.proofs.Laid.{laid, laid-agrees, laid-rebind, laid-admit}
-use Rattle.directory.proofs.Laws.{slots_of, few, slot-used, scan-in}
+use Rattle.directory.proofs.Laid.{laid, laid-agrees, laid_rebind, laid_admit}
+use Rattle.directory.proofs.Laws.{slots_of, few, slot-used, scan_in}
 use Rattle.directory.proofs.Located.{blank, told, old-there, new-there, over-there, some_words, sound-over}
 use Rattle.directory.proofs.Refusals.{suffices}
 use Rattle.directory.proofs.Tied.{agreed}
-use Rattle.bindings.specs.Calls.{Outcome, refused, releasedAt, releasedIn, bound_at, boundIn, fresh, started, bound, released}
+use Rattle.bindings.specs.Calls.{Outcome, refused, released_at, released_in, bound_at, bound_in, fresh, started, bound, released}
 use Rattle.bindings.proofs.Binds.{bind-faithful}
 use Rattle.bindings.proofs.Releases.{Steps, release-faithful}
 
@@ -53,49 +53,49 @@ AgreesIn limit o = agreesb limit o.kept.dir o.kept.stores ≡ true
 -- binding keeps the layout
 module _ (limit : ℕ) (d : Directory) (s : Stores) (row : List ℕ) (g : agreesb limit d s ≡ true)
     (ls : limit + 2 ≤ length s.sets) (le : limit + 2 ≤ length s.entries) (lo : limit + 2 ≤ length s.order)
-    (keyed : Keyed (setOf row)) (short : size row ≤ 8) where
+    (keyed : Keyed (set_of row)) (short : size row ≤ 8) where
   laid-at : (t : Target) → located limit d s row ≡ t → LaidIn (bound_at d s row t)
   laid-at Disagrees e = laid limit d s g
   laid-at (Old x) e =
       either LaidIn (leb 18446744073709551615 (get_or (get_or s.entries x []) 1 0)) _ _ (λ b. laid limit d s g)
-      (λ b. laid-rebind d s x (get_or (get_or s.entries x []) 1 0 + 1) (old-there limit d s row x e le) (laid limit d s g))
+      (λ b. laid_rebind d s x (get_or (get_or s.entries x []) 1 0 + 1) (old-there limit d s row x e le) (laid limit d s g))
   laid-at (New r) e =
       let n = new-there limit d s row r e in
       let w = some_words row d.used s.sets s.order r (told limit d s row (New r) e).1 in
       either LaidIn (leb 18446744073709551615 d.last) _ _ (λ b. laid limit d s g)
-      (λ b. laid-admit d s row r 1 1 (omega (arith, n.1)) (omega (arith, n.1)) (omega (arith, n.1)) n.0 (keyed-sound row w short keyed) (laid limit d s g))
+      (λ b. laid_admit d s row r 1 1 (omega (arith, n.1)) (omega (arith, n.1)) (omega (arith, n.1)) n.0 (keyed-sound row w short keyed) (laid limit d s g))
   laid-at (Over q) e =
       let n = over-there limit d s row q e in
       either LaidIn (leb 18446744073709551615 d.last) _ _ (λ b. laid limit d s g)
-      (λ b. laid-admit d s overRow q 0 1 (omega (arith, n.1)) (omega (arith, n.1)) (omega (arith, n.1)) n.0 sound-over (laid limit d s g))
+      (λ b. laid_admit d s over_row q 0 1 (omega (arith, n.1)) (omega (arith, n.1)) (omega (arith, n.1)) n.0 sound-over (laid limit d s g))
 
-  bound-laid : LaidIn (boundIn limit d s row)
-  unfolding boundIn
+  bound-laid : LaidIn (bound_in limit d s row)
+  unfolding bound_in
   bound-laid = laid-at (located limit d s row) refl
 
 -- releasing keeps it
 module _ (limit : ℕ) (d : Directory) (s : Stores) (h : ℕ) (g : agreesb limit d s ≡ true) (le : limit + 2 ≤ length s.entries) where
-  freed-laid : (o : Found) → scan h s.entries (slots_of d s) ≡ o → LaidIn (releasedAt d s o)
+  freed-laid : (o : Found) → scan h s.entries (slots_of d s) ≡ o → LaidIn (released_at d s o)
   freed-laid (Room r) e = laid limit d s g
   freed-laid (Held x) e =
-      let u = slot-used limit d s g x (scan-in h s.entries x (slots_of d s) e) in
-      laid-rebind d s x (get_or (get_or s.entries x []) 1 0 - 1) (omega (arith, few limit d s g)) (laid limit d s g)
+      let u = slot-used limit d s g x (scan_in h s.entries x (slots_of d s) e) in
+      laid_rebind d s x (get_or (get_or s.entries x []) 1 0 - 1) (omega (arith, few limit d s g)) (laid limit d s g)
 
-  released-laid : LaidIn (releasedIn limit d s h)
-  unfolding releasedIn
+  released-laid : LaidIn (released_in limit d s h)
+  unfolding released_in
   released-laid = either LaidIn (agreesb limit d s) _ _ (λ b. freed-laid (scan h s.entries (slots_of d s)) refl) (λ b. laid limit d s g)
 
 module _ (limit : ℕ) (filter : Option (List ℕ)) (d : Directory) (s : Stores) (attrs : Set) where
-  bound-is : storesSuffice limit s ≡ true → leb (length attrs) mostAttributes ≡ true → accepts limit filter ≡ true → bound limit filter d s attrs ≡ boundIn limit d s (row_of (canonical filter attrs))
+  bound-is : stores_suffice limit s ≡ true → leb (length attrs) most_attributes ≡ true → accepts limit filter ≡ true → bound limit filter d s attrs ≡ bound_in limit d s (row_of (canonical filter attrs))
   unfolding bound pick
   bound-is e h a = rw (e, h, a)
 
-  bound-many : storesSuffice limit s ≡ true → leb (length attrs) mostAttributes ≡ false → bound limit filter d s attrs ≡ refused 5 d s
+  bound-many : stores_suffice limit s ≡ true → leb (length attrs) most_attributes ≡ false → bound limit filter d s attrs ≡ refused 5 d s
   unfolding bound pick
   bound-many e h = rw (e, h)
 
 -- FAITHFUL. Each call is the map's step, wherever the directory agrees, in stores that suffice
-module _ (K : Kind) (f : ℕ → K.Series) (z : K.Settings) (c : Config K) (d : Directory) (s : Stores) (g : agreesb c.limit d s ≡ true) (e : storesSuffice c.limit s ≡ true) where
+module _ (K : Kind) (f : ℕ → K.Series) (z : K.Settings) (c : Config K) (d : Directory) (s : Stores) (g : agreesb c.limit d s ≡ true) (e : stores_suffice c.limit s ≡ true) where
   too_many : (attrs : Set) → leb (length attrs) 8 ≡ false → Steps K f z c (view K f z d s) (bind attrs) (refused 5 d s)
   unfolding upfront act
   too_many attrs h = rw h (refl, refl)
@@ -113,11 +113,11 @@ module _ (K : Kind) (f : ℕ → K.Series) (z : K.Settings) (c : Config K) (d : 
       go false h =
           subst (λ o. Steps K f z c (view K f z d s) (bind attrs) o) (sym (bound-many c.limit c.filter d s attrs e h)) (too_many attrs h)
 
-  released-is : (h : ℕ) → c.limit ≤ mostSets → released c.limit d s h ≡ releasedIn c.limit d s h
+  released-is : (h : ℕ) → c.limit ≤ most_sets → released c.limit d s h ≡ released_in c.limit d s h
   unfolding released pick
-  released-is h k = rw (e, le-leb c.limit mostSets k)
+  released-is h k = rw (e, le-leb c.limit most_sets k)
 
-  pub release-steps : (h : ℕ) → c.limit ≤ mostSets → Steps K f z c (view K f z d s) (release h) (released c.limit d s h)
+  pub release-steps : (h : ℕ) → c.limit ≤ most_sets → Steps K f z c (view K f z d s) (release h) (released c.limit d s h)
   release-steps h k =
       subst (λ o. Steps K f z c (view K f z d s) (release h) o) (sym (released-is h k)) (release-faithful K f z c d s h g (suffices c.limit s e).entries)
 
@@ -126,43 +126,43 @@ module _ (limit : ℕ) (d : Directory) (s : Stores) (g : agreesb limit d s ≡ t
   abbrev config : Option (List ℕ) → Config blank
   config filter = record { settings = tt; limit = limit; filter = filter }
 
-  before-it : (filter : Option (List ℕ)) → Agrees blank (config filter) (view blank (λ k. tt) tt d s)
-  before-it filter = agreed blank (λ k. tt) tt (config filter) d s g
+  before_it : (filter : Option (List ℕ)) → Agrees blank (config filter) (view blank (λ k. tt) tt d s)
+  before_it filter = agreed blank (λ k. tt) tt (config filter) d s g
 
   pub bind-keeps : (filter : Option (List ℕ)) (attrs : Set) → Lendable attrs → d.last < 2 ^ 64 → AgreesIn limit (bound limit filter d s attrs)
   unfolding bound
   bind-keeps filter attrs small last =
-      either (AgreesIn limit) (storesSuffice limit s) _ _
-      (λ e. either (AgreesIn limit) (leb (length attrs) mostAttributes) _ _
+      either (AgreesIn limit) (stores_suffice limit s) _ _
+      (λ e. either (AgreesIn limit) (leb (length attrs) most_attributes) _ _
       (λ h. either (AgreesIn limit) (accepts limit filter) _ _ (λ a. on e (leb-true (length attrs) 8 h)) (λ a. g))
       (λ h. g))
       (λ e. g)
     where
-      on : storesSuffice limit s ≡ true → length attrs ≤ 8 → AgreesIn limit (boundIn limit d s (row_of (canonical filter attrs)))
+      on : stores_suffice limit s ≡ true → length attrs ≤ 8 → AgreesIn limit (bound_in limit d s (row_of (canonical filter attrs)))
       on e n =
           let r = suffices limit s e in
           let row = row_of (canonical filter attrs) in
-          let o = boundIn limit d s row in
+          let o = bound_in limit d s row in
           let p = bind-faithful blank (λ k. tt) tt (config filter) d s row last r.sets r.entries r.order attrs n (row-set filter attrs small n) g in
           laid-agrees blank (λ k. tt) tt (config filter) o.kept.dir o.kept.stores
-          (bound-laid limit d s row g r.sets r.entries r.order (row-keyed filter attrs small n) (row-short filter attrs small n))
-          (subst (Agrees blank (config filter)) (sym p.1) (step-agrees blank (config filter) (view blank (λ k. tt) tt d s) (before-it filter) (bind attrs)))
+          (bound-laid limit d s row g r.sets r.entries r.order (row_keyed filter attrs small n) (row-short filter attrs small n))
+          (subst (Agrees blank (config filter)) (sym p.1) (step-agrees blank (config filter) (view blank (λ k. tt) tt d s) (before_it filter) (bind attrs)))
 
   pub release-keeps : (h : ℕ) → AgreesIn limit (released limit d s h)
   unfolding released
   release-keeps h =
-      either (AgreesIn limit) (storesSuffice limit s) _ _ (λ e. either (AgreesIn limit) (leb limit mostSets) _ _ (λ k. on e) (λ k. g)) (λ e. g)
+      either (AgreesIn limit) (stores_suffice limit s) _ _ (λ e. either (AgreesIn limit) (leb limit most_sets) _ _ (λ k. on e) (λ k. g)) (λ e. g)
     where
-      on : storesSuffice limit s ≡ true → AgreesIn limit (releasedIn limit d s h)
+      on : stores_suffice limit s ≡ true → AgreesIn limit (released_in limit d s h)
       on e =
           let r = suffices limit s e in
-          let o = releasedIn limit d s h in
+          let o = released_in limit d s h in
           let p = release-faithful blank (λ k. tt) tt (config none) d s h g r.entries in
           laid-agrees blank (λ k. tt) tt (config none) o.kept.dir o.kept.stores (released-laid limit d s h g r.entries)
-          (subst (Agrees blank (config none)) (sym p.1) (step-agrees blank (config none) (view blank (λ k. tt) tt d s) (before-it none) (release h)))
+          (subst (Agrees blank (config none)) (sym p.1) (step-agrees blank (config none) (view blank (λ k. tt) tt d s) (before_it none) (release h)))
 
 -- FRESH. A fresh start is the map's, and agrees
-module _ (limit : ℕ) (filter : Option (List ℕ)) (s : Stores) (a : accepts limit filter ≡ true) (e : storesSuffice limit s ≡ true) where
+module _ (limit : ℕ) (filter : Option (List ℕ)) (s : Stores) (a : accepts limit filter ≡ true) (e : stores_suffice limit s ≡ true) where
   abbrev pub wiped : Stores
   wiped = record { sets = s.sets; entries = set s.entries 0 (0 ∷ 0 ∷ 0 ∷ []); order = s.order }
 

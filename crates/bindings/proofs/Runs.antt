@@ -13,20 +13,20 @@ use Rattle.laws.specs.Said.{Said, number}
 use Rattle.laws.proofs.Cases.{true-not-false, and-true}
 use Rattle.tally.specs.Sets.{Set, canonical, Lendable}
 use Rattle.sets.specs.Rows.{row_of}
-use Rattle.sets.specs.Sorted.{mostAttributes}
-use Rattle.directory.specs.Calls.{Kept, overRow, located, scan, mostSets, accepts, fewKeys, storesSuffice}
+use Rattle.sets.specs.Sorted.{most_attributes}
+use Rattle.directory.specs.Calls.{Kept, over_row, located, scan, most_sets, accepts, few_keys, stores_suffice}
 use Rattle.directory.specs.View.{Stores, agreesb}
 use Rattle.directory.specs.declared.Directory.{Directory}
 use Rattle.directory.specs.declared.Found.{Found}
 use Rattle.directory.specs.declared.Found.TheVariants.{Held, Room}
 use Rattle.directory.specs.declared.Target.{Target}
 use Rattle.directory.specs.declared.Target.TheVariants.{Disagrees, Old, New, Over}
-use Rattle.directory.proofs.Laws.{slots_of, few, slot-used, scan-in}
+use Rattle.directory.proofs.Laws.{slots_of, few, slot-used, scan_in}
 use Rattle.directory.proofs.Leaves as lv
 use Rattle.directory.proofs.Leaves.{same-leaves, rebind-leaves, admit-leaves, Good, lasts}
 use Rattle.directory.proofs.Located.{told, old-there, new-there, over-there}
 use Rattle.directory.proofs.Refusals.{Suffice, suffices}
-use Rattle.bindings.specs.Calls.{Outcome, refused, releasedAt, releasedIn, bound_at, boundIn, started, bound, released}
+use Rattle.bindings.specs.Calls.{Outcome, refused, released_at, released_in, bound_at, bound_in, started, bound, released}
 use Rattle.bindings.proofs.Keeps.{either, bind-keeps, release-keeps, start-keeps, start_is}
 
 -- neither 8 nor 12
@@ -55,21 +55,21 @@ module _ (limit : ℕ) (d : Directory) (s : Stores) (g : agreesb limit d s ≡ t
   bound-leaves row (Over r) p =
       let n = over-there limit d s row r p in
       either (Leaves d s) (leb 18446744073709551615 d.last) _ _ (λ b. other-number d s small 9 (λ q. omega arith) (λ q. omega arith))
-      (λ b. (((λ q. omega arith), (λ q. omega arith)), admit-leaves d s overRow r 0 1 (omega (arith, n.1, e.sets)) (omega (arith, n.1, e.entries)) (omega (arith, n.1, e.order)) n.0 (leb-false 18446744073709551615 d.last b)))
+      (λ b. (((λ q. omega arith), (λ q. omega arith)), admit-leaves d s over_row r 0 1 (omega (arith, n.1, e.sets)) (omega (arith, n.1, e.entries)) (omega (arith, n.1, e.order)) n.0 (leb-false 18446744073709551615 d.last b)))
 
-  freed-leaves : (h : ℕ) (o : Found) → scan h s.entries (slots_of d s) ≡ o → Leaves d s (releasedAt d s o)
+  freed-leaves : (h : ℕ) (o : Found) → scan h s.entries (slots_of d s) ≡ o → Leaves d s (released_at d s o)
   freed-leaves h (Room r) p = other-number d s small 7 (λ q. omega arith) (λ q. omega arith)
   freed-leaves h (Held x) p =
-      let u = slot-used limit d s g x (scan-in h s.entries x (slots_of d s) p) in
+      let u = slot-used limit d s g x (scan_in h s.entries x (slots_of d s) p) in
       (((λ q. omega arith), (λ q. omega arith)), rebind-leaves d s small x (get_or (get_or s.entries x []) 1 0 - 1) (omega (arith, few limit d s g, e.entries)))
 
 -- in a state that a run comes by
 module _ (limit : ℕ) (filter : Option (List ℕ)) (a : accepts limit filter ≡ true) (k : Kept) (g : Good limit k) where
   pub bind-leaves : (attrs : Set) → Leaves k.dir k.stores (bound limit filter k.dir k.stores attrs)
-  unfolding bound boundIn
+  unfolding bound bound_in
   bind-leaves attrs =
-      either (Leaves k.dir k.stores) (storesSuffice limit k.stores) _ _
-      (λ e. either (Leaves k.dir k.stores) (leb (length attrs) mostAttributes) _ _
+      either (Leaves k.dir k.stores) (stores_suffice limit k.stores) _ _
+      (λ e. either (Leaves k.dir k.stores) (leb (length attrs) most_attributes) _ _
       (λ h. either (Leaves k.dir k.stores) (accepts limit filter) _ _
       (λ b. bound-leaves limit k.dir k.stores g.agrees g.last (suffices limit k.stores e) (row_of (canonical filter attrs)) (located limit k.dir k.stores (row_of (canonical filter attrs))) refl)
       (λ b. true-not-false (sym a ∙ b)))
@@ -77,14 +77,14 @@ module _ (limit : ℕ) (filter : Option (List ℕ)) (a : accepts limit filter �
       (λ e. true-not-false (sym g.lent ∙ e))
 
   pub release-leaves : (h : ℕ) → Leaves k.dir k.stores (released limit k.dir k.stores h)
-  unfolding released releasedIn
+  unfolding released released_in
   release-leaves h =
-      either (Leaves k.dir k.stores) (storesSuffice limit k.stores) _ _
-      (λ e. either (Leaves k.dir k.stores) (leb limit mostSets) _ _
+      either (Leaves k.dir k.stores) (stores_suffice limit k.stores) _ _
+      (λ e. either (Leaves k.dir k.stores) (leb limit most_sets) _ _
       (λ l. either (Leaves k.dir k.stores) (agreesb limit k.dir k.stores) _ _
       (λ b. freed-leaves limit k.dir k.stores g.agrees g.last (suffices limit k.stores e) h (scan h k.stores.entries (slots_of k.dir k.stores)) refl)
       (λ b. true-not-false (sym g.agrees ∙ b)))
-      (λ l. true-not-false (sym (and-true (leb limit mostSets) (fewKeys filter) a).0 ∙ l)))
+      (λ l. true-not-false (sym (and-true (leb limit most_sets) (few_keys filter) a).0 ∙ l)))
       (λ e. true-not-false (sym g.lent ∙ e))
 
 -- the calls, with attributes that can be lent
@@ -108,14 +108,14 @@ module _ (limit : ℕ) (filter : Option (List ℕ)) where
     move-good k g (releasing h) =
         lasts limit k g (made k (releasing h)).kept (move-leaves k g (releasing h)).1 (release-keeps limit k.dir k.stores g.agrees h)
 
-    pub start-good : (s : Stores) → storesSuffice limit s ≡ true → Good limit (started limit filter s).kept
+    pub start-good : (s : Stores) → stores_suffice limit s ≡ true → Good limit (started limit filter s).kept
     start-good s e =
         let r = suffices limit s e in
         let q : length (set s.entries 0 (0 ∷ 0 ∷ 0 ∷ [])) ≡ length s.entries = length-set s.entries 0 (0 ∷ 0 ∷ 0 ∷ []) in
         let p = start_is limit filter s a e in
         record {
           agrees = start-keeps limit filter s a e;
-          lent = subst (λ (k : Kept). storesSuffice limit k.stores ≡ true) (sym p)
+          lent = subst (λ (k : Kept). stores_suffice limit k.stores ≡ true) (sym p)
               (rw (le-leb (limit + 2) (length s.sets) r.sets, le-leb (limit + 2) (length (set s.entries 0 (0 ∷ 0 ∷ 0 ∷ []))) (omega (arith, q, r.entries)), le-leb (limit + 2) (length s.order) r.order));
           last = subst (λ (k : Kept). k.dir.last < 2 ^ 64) (sym p) (omega arith);
         }

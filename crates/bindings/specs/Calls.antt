@@ -6,9 +6,9 @@ use Rattle.laws.specs.Said.{Said, refusal, success}
 use Rattle.tally.specs.Sets.{Set, canonical}
 use Rattle.tally.specs.Kind as Map
 use Rattle.sets.specs.Rows.{span, row_of}
-use Rattle.sets.specs.Sorted.{mostAttributes}
-use Rattle.directory.specs.Calls.{Kept, kept, overRow, located, admitted, boundTo, scan, mostSets, accepts, storesSuffice}
-use Rattle.directory.specs.View.{Stores, birthAt, agreesb}
+use Rattle.sets.specs.Sorted.{most_attributes}
+use Rattle.directory.specs.Calls.{Kept, kept, over_row, located, admitted, bound_to, scan, most_sets, accepts, stores_suffice}
+use Rattle.directory.specs.View.{Stores, birth_at, agreesb}
 use Rattle.directory.specs.declared.Directory.{Directory}
 use Rattle.directory.specs.declared.Found.{Found}
 use Rattle.directory.specs.declared.Found.TheVariants.{Held, Room}
@@ -17,7 +17,7 @@ use Rattle.directory.specs.declared.Target.TheVariants.{Disagrees, Old, New, Ove
 use Rattle.bindings.specs.declared.Answer.{Answer}
 use Rattle.bindings.specs.declared.Answer.TheVariants.{Refused, Done, Handle}
 use Rattle.bindings.specs.declared.Reply.{Reply}
-use Rattle.laws.specs.Counting.{mostCount}
+use Rattle.laws.specs.Counting.{most_count}
 
 -- "a definition gives this paper's number and values for each case of that enum": success has no value, or a binding's birth number, which a
 -- handle holds
@@ -36,57 +36,57 @@ abbrev pub gave : Reply → Stores → Outcome
 gave r s = record { answer = said r.answer; kept = kept r.dir s }
 
 -- what is said, as the abstract map's answer
-abbrev pub mapAnswer : (K : Map.Kind) → Said (Option ℕ) → Map.Answer K
-mapAnswer K (refusal n) = Map.refuse n
-mapAnswer K (success none) = Map.done
-mapAnswer K (success (some b)) = Map.handle b
+abbrev pub map_answer : (K : Map.Kind) → Said (Option ℕ) → Map.Answer K
+map_answer K (refusal n) = Map.refuse n
+map_answer K (success none) = Map.done
+map_answer K (success (some b)) = Map.handle b
 
 abbrev pub refused : ℕ → Directory → Stores → Outcome
 refused n d s = record { answer = refusal n; kept = record { dir = d; stores = s } }
 
-abbrev pub releasedAt : Directory → Stores → Found → Outcome
-releasedAt d s (Room r) = refused 7 d s
-releasedAt d s (Held x) =
+abbrev pub released_at : Directory → Stores → Found → Outcome
+released_at d s (Room r) = refused 7 d s
+released_at d s (Held x) =
     record {
       answer = success none;
       kept = record {
         dir = d;
-        stores = record { sets = s.sets; entries = boundTo s.entries x (get_or (get_or s.entries x []) 1 0 - 1); order = s.order };
+        stores = record { sets = s.sets; entries = bound_to s.entries x (get_or (get_or s.entries x []) 1 0 - 1); order = s.order };
       };
     }
 
 -- releasing in stores that suffice: 8, 7, or one binding less
-unfoldable pub releasedIn : ℕ → Directory → Stores → ℕ → Outcome
-releasedIn limit d s h =
-    pick (agreesb limit d s) (releasedAt d s (scan h s.entries (0 ∷ span s.order 0 d.used))) (refused 8 d s)
+unfoldable pub released_in : ℕ → Directory → Stores → ℕ → Outcome
+released_in limit d s h =
+    pick (agreesb limit d s) (released_at d s (scan h s.entries (0 ∷ span s.order 0 d.used))) (refused 8 d s)
 
 -- a new entry with one binding, unless the birth numbers are spent
-abbrev pub bornBound : Directory → Stores → List ℕ → ℕ → ℕ → Outcome
-bornBound d s row rank more =
-    pick (leb mostCount d.last) (refused 9 d s)
+abbrev pub born_bound : Directory → Stores → List ℕ → ℕ → ℕ → Outcome
+born_bound d s row rank more =
+    pick (leb most_count d.last) (refused 9 d s)
     (record { answer = success (some (d.last + 1)); kept = admitted d s row rank more 1 })
 
 -- one binding more on a slot that is held, unless its bindings are 2 ^ 64 - 1
-abbrev pub heldBound : Directory → Stores → ℕ → Outcome
-heldBound d s x =
-    pick (leb mostCount (get_or (get_or s.entries x []) 1 0)) (refused 9 d s)
+abbrev pub held_bound : Directory → Stores → ℕ → Outcome
+held_bound d s x =
+    pick (leb most_count (get_or (get_or s.entries x []) 1 0)) (refused 9 d s)
     (record {
-      answer = success (some (birthAt s.entries x));
+      answer = success (some (birth_at s.entries x));
       kept = record {
         dir = d;
-        stores = record { sets = s.sets; entries = boundTo s.entries x (get_or (get_or s.entries x []) 1 0 + 1); order = s.order };
+        stores = record { sets = s.sets; entries = bound_to s.entries x (get_or (get_or s.entries x []) 1 0 + 1); order = s.order };
       };
     })
 
 abbrev pub bound_at : Directory → Stores → List ℕ → Target → Outcome
 bound_at d s row Disagrees = refused 8 d s
-bound_at d s row (Old x) = heldBound d s x
-bound_at d s row (New r) = bornBound d s row r 1
-bound_at d s row (Over r) = bornBound d s overRow r 0
+bound_at d s row (Old x) = held_bound d s x
+bound_at d s row (New r) = born_bound d s row r 1
+bound_at d s row (Over r) = born_bound d s over_row r 0
 
 -- binding the set of a row in stores that suffice: 8, 9, or one binding more, with the birth number for a handle
-unfoldable pub boundIn : ℕ → Directory → Stores → List ℕ → Outcome
-boundIn limit d s row = bound_at d s row (located limit d s row)
+unfoldable pub bound_in : ℕ → Directory → Stores → List ℕ → Outcome
+bound_in limit d s row = bound_at d s row (located limit d s row)
 
 -- a directory without named sets; the empty set has no bindings and was not updated
 abbrev pub fresh : Directory
@@ -96,7 +96,7 @@ fresh = record { used = 0; count = 0; last = 0 }
 unfoldable pub started : ℕ → Option (List ℕ) → Stores → Outcome
 started limit filter s =
     pick (accepts limit filter)
-    (pick (storesSuffice limit s)
+    (pick (stores_suffice limit s)
     (record {
       answer = success none;
       kept = record {
@@ -110,13 +110,13 @@ started limit filter s =
 -- "Binding: 12, 5, 8, 9". 8 also where configuring could not have accepted the limit and the filter.
 unfoldable pub bound : ℕ → Option (List ℕ) → Directory → Stores → Set → Outcome
 bound limit filter d s attrs =
-    pick (storesSuffice limit s)
-    (pick (leb (length attrs) mostAttributes)
-    (pick (accepts limit filter) (boundIn limit d s (row_of (canonical filter attrs))) (refused 8 d s))
+    pick (stores_suffice limit s)
+    (pick (leb (length attrs) most_attributes)
+    (pick (accepts limit filter) (bound_in limit d s (row_of (canonical filter attrs))) (refused 8 d s))
     (refused 5 d s))
     (refused 12 d s)
 
 -- "Releasing: 12, 8, 7"
 unfoldable pub released : ℕ → Directory → Stores → ℕ → Outcome
 released limit d s h =
-    pick (storesSuffice limit s) (pick (leb limit mostSets) (releasedIn limit d s h) (refused 8 d s)) (refused 12 d s)
+    pick (stores_suffice limit s) (pick (leb limit most_sets) (released_in limit d s h) (refused 8 d s)) (refused 12 d s)

@@ -1,7 +1,7 @@
 // Binding and releasing in stores that suffice.
 ghost use Rattle.std.specs.Prelude.{◌≡◌, ℕ, ◌+◌, ◌^◌, ◌<◌, ◌≤◌, length, true, List};
 ghost use Rattle.sets.specs.Rows.{size};
-ghost use Rattle.bindings.specs.Calls.{gave, releasedAt, releasedIn, heldBound, bornBound, boundIn};
+ghost use Rattle.bindings.specs.Calls.{gave, released_at, released_in, held_bound, born_bound, bound_in};
 ghost use Rattle.bindings.specs.Inner.{Bound};
 ghost use Rattle.directory.specs.View.{stores, agreesb};
 
@@ -13,7 +13,7 @@ pub fn free(
 ) -> crate::Reply
     requires { Bound entries.old found }
     ensures { (sets : List (List ℕ)) → ((order : List ℕ) → gave result (record { sets = sets; entries = entries.new; order = order })
-        ≡ releasedAt d (record { sets = sets; entries = entries.old; order = order }) found) }
+        ≡ released_at d (record { sets = sets; entries = entries.old; order = order }) found) }
 {
     match found {
         directory::Found::Room(_) => crate::Reply {
@@ -42,7 +42,7 @@ pub fn release_in(
 ) -> crate::Reply
     requires { (limit + 2 ≤ length sets.now) × (limit + 2 ≤ length entries.old) × (limit + 2 ≤ length order.now) }
     ensures { gave result (stores sets.entry entries.exit order.entry)
-        ≡ releasedIn limit d (stores sets.entry entries.entry order.entry) h }
+        ≡ released_in limit d (stores sets.entry entries.entry order.entry) h }
 {
     if !directory::check::agrees(limit, d, sets, entries, order) {
         return crate::Reply {
@@ -58,7 +58,7 @@ pub fn release_in(
 fn bind_held(d: directory::Directory, entries: &mut [[u64; 3]], x: usize) -> crate::Reply
     requires { x < length entries.old }
     ensures { (sets : List (List ℕ)) → ((order : List ℕ) → gave result (record { sets = sets; entries = entries.new; order = order })
-        ≡ heldBound d (record { sets = sets; entries = entries.old; order = order }) x) }
+        ≡ held_bound d (record { sets = sets; entries = entries.old; order = order }) x) }
 {
     let n = entries[x][1];
     if n >= u64::MAX {
@@ -88,7 +88,7 @@ fn bind_new(
     requires { (d.used + 1 < length sets.old) × (d.used + 1 < length entries.old) × (d.used < length order.old)
         × (rank ≤ d.used) × (d.used + 1 < 2 ^ 32) × (d.count + more < 2 ^ 64) }
     ensures { gave result (stores sets.exit entries.exit order.exit)
-        ≡ bornBound d (stores sets.entry entries.entry order.entry) row rank more }
+        ≡ born_bound d (stores sets.entry entries.entry order.entry) row rank more }
 {
     if d.last >= u64::MAX {
         return crate::Reply {
@@ -115,7 +115,7 @@ pub fn bind_right(
     requires { (limit + 2 ≤ length sets.old) × (limit + 2 ≤ length entries.old) × (limit + 2 ≤ length order.old)
         × (size row ≤ 8) × (limit + 2 < 2 ^ 32) × (agreesb limit d (stores sets entries order) ≡ true) }
     ensures { gave result (stores sets.exit entries.exit order.exit)
-        ≡ boundIn limit d (stores sets.entry entries.entry order.entry) row }
+        ≡ bound_in limit d (stores sets.entry entries.entry order.entry) row }
 {
     let t = directory::find::locate_agreed(limit, d, sets, entries, order, &row);
     match t {
@@ -144,7 +144,7 @@ pub fn bind_in(
     requires { (limit + 2 ≤ length sets.old) × (limit + 2 ≤ length entries.old) × (limit + 2 ≤ length order.old)
         × (size row ≤ 8) × (limit + 2 < 2 ^ 32) }
     ensures { gave result (stores sets.exit entries.exit order.exit)
-        ≡ boundIn limit d (stores sets.entry entries.entry order.entry) row }
+        ≡ bound_in limit d (stores sets.entry entries.entry order.entry) row }
 {
     if !directory::check::agrees(limit, d, sets, entries, order) {
         return crate::Reply {

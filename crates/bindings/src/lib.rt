@@ -2,7 +2,7 @@
 mod calls;
 
 ghost use Rattle.std.specs.Prelude.{◌≡◌};
-ghost use Rattle.sets.specs.Sorted.{given, filterOf};
+ghost use Rattle.sets.specs.Sorted.{given, filter_of};
 ghost use Rattle.std.proofs.Math.Option.{none};
 ghost use Rattle.bindings.specs.Calls.{gave, started, bound, released};
 ghost use Rattle.bindings.specs.Agreed.{Agreed};
@@ -34,7 +34,7 @@ pub fn start(
     order: &[u32],
 ) -> Reply
     ensures { gave result (stores sets.entry entries.exit order.entry)
-        ≡ started limit (filterOf present filter.now) (stores sets.entry entries.entry order.entry) }
+        ≡ started limit (filter_of present filter.now) (stores sets.entry entries.entry order.entry) }
 {
     let dir = Directory {
         used: 0,
@@ -72,7 +72,7 @@ pub fn bind(
     filter: &[u32],
 ) -> Reply
     ensures { gave result (stores sets.exit entries.exit order.exit)
-        ≡ bound limit (filterOf present filter.now) d (stores sets.entry entries.entry order.entry) (given attrs.now) }
+        ≡ bound limit (filter_of present filter.now) d (stores sets.entry entries.entry order.entry) (given attrs.now) }
 {
     if !directory::stores_suffice(limit, sets.len(), entries.len(), order.len()) {
         return Reply {
@@ -135,9 +135,9 @@ pub fn bind_agreed(
     present: bool,
     filter: &[u32],
 ) -> Reply
-    requires { Agreed limit (filterOf present filter.now) d (stores sets entries order) }
+    requires { Agreed limit (filter_of present filter.now) d (stores sets entries order) }
     ensures { gave result (stores sets.exit entries.exit order.exit)
-        ≡ bound limit (filterOf present filter.now) d (stores sets.entry entries.entry order.entry) (given attrs.now) }
+        ≡ bound limit (filter_of present filter.now) d (stores sets.entry entries.entry order.entry) (given attrs.now) }
 {
     if !sets::canon::few(attrs) {
         return Reply {

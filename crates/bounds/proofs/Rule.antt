@@ -70,69 +70,69 @@ join i p q = cut (row right) 1 i (rest i) p (subst (λ (n : ℕ). T (every (row 
     step : (i : ℕ) → suc i ≡ i + 1
     step i = omega arith
 
-row-0 : Row 0
+row_0 : Row 0
 unfolding right rest
-row-0 = tt
+row_0 = tt
 
-row-1 : Row 1
+row_1 : Row 1
 unfolding right rest
-row-1 = tt
+row_1 = tt
 
-row-2 : Row 2
+row_2 : Row 2
 unfolding right rest
-row-2 = tt
+row_2 = tt
 
-row-3 : Row 3
+row_3 : Row 3
 unfolding right rest
-row-3 = tt
+row_3 = tt
 
-row-4 : Row 4
+row_4 : Row 4
 unfolding right rest
-row-4 = tt
+row_4 = tt
 
-row-5 : Row 5
+row_5 : Row 5
 unfolding right rest
-row-5 = tt
+row_5 = tt
 
-row-6 : Row 6
+row_6 : Row 6
 unfolding right rest
-row-6 = tt
+row_6 = tt
 
-row-7 : Row 7
+row_7 : Row 7
 unfolding right rest
-row-7 = tt
+row_7 = tt
 
-row-8 : Row 8
+row_8 : Row 8
 unfolding right rest
-row-8 = tt
+row_8 = tt
 
-row-9 : Row 9
+row_9 : Row 9
 unfolding right rest
-row-9 = tt
+row_9 = tt
 
-row-10 : Row 10
+row_10 : Row 10
 unfolding right rest
-row-10 = tt
+row_10 = tt
 
-row-11 : Row 11
+row_11 : Row 11
 unfolding right rest
-row-11 = tt
+row_11 = tt
 
-row-12 : Row 12
+row_12 : Row 12
 unfolding right rest
-row-12 = tt
+row_12 = tt
 
-row-13 : Row 13
+row_13 : Row 13
 unfolding right rest
-row-13 = tt
+row_13 = tt
 
-row-14 : Row 14
+row_14 : Row 14
 unfolding right rest
-row-14 = tt
+row_14 = tt
 
-row-15 : Row 15
+row_15 : Row 15
 unfolding right rest
-row-15 = tt
+row_15 = tt
 
 end : Rest 16
 unfolding right rest
@@ -140,10 +140,10 @@ end = tt
 
 all_right : T (every (row right) 0 rows)
 unfolding rest
-all_right = join 0 row-0 (join 1 row-1 (join 2 row-2 (join 3 row-3 (join 4 row-4 (join 5 row-5 (join 6 row-6 (join 7 row-7 others)))))))
+all_right = join 0 row_0 (join 1 row_1 (join 2 row_2 (join 3 row_3 (join 4 row_4 (join 5 row_5 (join 6 row_6 (join 7 row_7 others)))))))
   where
     others : Rest 8
-    others = join 8 row-8 (join 9 row-9 (join 10 row-10 (join 11 row-11 (join 12 row-12 (join 13 row-13 (join 14 row-14 (join 15 row-15 end)))))))
+    others = join 8 row_8 (join 9 row_9 (join 10 row_10 (join 11 row_11 (join 12 row_12 (join 13 row_13 (join 14 row_14 (join 15 row_15 end)))))))
 
 as-bound : (k m : ℕ) → T (right k m) → BoundAt k m
 unfolding right

@@ -14,8 +14,8 @@ use Rattle.value_map.proofs.Owed.{Owed}
 use Rattle.listing.specs.Listed.{Output}
 use Rattle.listing.specs.Inner.{Put}
 use Rattle.collecting.specs.Lister.{Lister}
-use Rattle.collecting.specs.Collected.{dueOf, uncollected}
-use Rattle.collecting.specs.Slots.{unsurveyed, surveyedBy, walked, Walk, surveyed, Listable, putSlots, listedTo}
+use Rattle.collecting.specs.Collected.{due_of, uncollected}
+use Rattle.collecting.specs.Slots.{unsurveyed, surveyed_by, walked, Walk, surveyed, Listable, put_slots, listed_to}
 use Rattle.collecting.specs.declared.Survey.{Survey}
 use Rattle.collecting.proofs.Numbers.{or_else}
 use Rattle.collecting.proofs.Surveys.{survey-walked}
@@ -47,10 +47,10 @@ module _ {K : Kind} {S : Store K} (L : Lister S) (W : Owed S) (w : S.Switches) (
       -- the survey may be made under other switches, if they have no part in agreement
       pub number-then : (v : S.Switches) → ((x : ℕ) → K.agrees (S.settings v) (S.at h.cells x) ≡ K.agrees (S.settings w) (S.at h.cells x)) → (f : Survey) (r : ℕ)
           → f ≡ surveyed L v cumulative (walked h.kept.dir.used [] h.kept.stores.entries h.kept.stores.order h.cells)
-          → r ≡ surveyedBy f (length o.sets) (length o.words) (length o.pos) (length o.neg) → r ≡ uncollected L w cumulative limit h o
+          → r ≡ surveyed_by f (length o.sets) (length o.words) (length o.pos) (length o.neg) → r ≡ uncollected L w cumulative limit h o
       number-then v same f r p q =
           q
-          ∙ ap (λ (t : Survey). surveyedBy t (length o.sets) (length o.words) (length o.pos) (length o.neg)) (p ∙ survey-walked L w h cumulative v [] same)
+          ∙ ap (λ (t : Survey). surveyed_by t (length o.sets) (length o.words) (length o.pos) (length o.neg)) (p ∙ survey-walked L w h cumulative v [] same)
           ∙ or-then _ _ (sym bars ∙ z)
           ∙ number_is L w cumulative limit h o
 
@@ -65,13 +65,13 @@ module _ {K : Kind} {S : Store K} (L : Lister S) (W : Owed S) (w : S.Switches) (
           walk = walk_of S limit h clear.opened W h.kept.stores.sets;
           sets = row-there S limit h clear.opened;
           agrees = clear.agree;
-          room = room-walked L w h o w h.kept.stores.sets (dueOf cumulative h.kept) ∙ clear.room;
+          room = room-walked L w h o w h.kept.stores.sets (due_of cumulative h.kept) ∙ clear.room;
         }
 
     pub sweeps : Sweepable h.kept
     sweeps = sweepable S limit h clear.opened
 
   pub listed-is : (p : Put)
-      → p ≡ listedTo L w cumulative (walked h.kept.dir.used h.kept.stores.sets h.kept.stores.entries h.kept.stores.order h.cells) o
-      → p ≡ putSlots L w h (dueOf cumulative h.kept) o
-  listed-is p e = e ∙ put-walked L w h o (dueOf cumulative h.kept)
+      → p ≡ listed_to L w cumulative (walked h.kept.dir.used h.kept.stores.sets h.kept.stores.entries h.kept.stores.order h.cells) o
+      → p ≡ put_slots L w h (due_of cumulative h.kept) o
+  listed-is p e = e ∙ put-walked L w h o (due_of cumulative h.kept)

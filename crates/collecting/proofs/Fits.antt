@@ -10,8 +10,8 @@ use lib.Ieee.Fits.{nan-fits, add-fits}
 use lib.Ieee.Bits.{is_true, of_bits-fits}
 use Rattle.laws.specs.Pick.{pick}
 use Rattle.laws.proofs.Cases.{and-true}
-use Rattle.floats.specs.Starts.{greatestFinite, leastFinite, zeroFloat}
-use Rattle.floats.specs.Answers.{lesserOf, greater_of}
+use Rattle.floats.specs.Starts.{greatest_finite, least_finite, zero_float}
+use Rattle.floats.specs.Answers.{lesser_of, greater_of}
 use Rattle.kinds.specs.Histograms.{histograms}
 use Rattle.collecting.specs.Read.{AllFit}
 
@@ -34,11 +34,11 @@ pub record Fitting (a b s : Float) : Type 0 where
   pub sum : fits binary64 s ≡ true
 
 -- without values
-pub start_fits : Fitting greatestFinite leastFinite zeroFloat
+pub start_fits : Fitting greatest_finite least_finite zero_float
 start_fits = record { min = literal-fits 0x7fef_ffff_ffff_ffff; max = literal-fits 0xffef_ffff_ffff_ffff; sum = literal-fits 0 }
 
 -- with a value more
-pub more-fits : (a b s v : Float) → histograms.finite v ≡ true → Fitting a b s → Fitting (lesserOf a v) (greater_of b v) (add binary64 s v)
+pub more-fits : (a b s v : Float) → histograms.finite v ≡ true → Fitting a b s → Fitting (lesser_of a v) (greater_of b v) (add binary64 s v)
 more-fits a b s v t k =
     record {
       min = pick-fits (lt v a) v a (value-fits v t) k.min;

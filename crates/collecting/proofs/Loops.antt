@@ -19,7 +19,7 @@ use Rattle.listing.specs.Inner.{Put, left}
 use Rattle.listing.specs.declared.Cursor.{Cursor}
 use Rattle.collecting.specs.Lister.{Lister}
 use Rattle.collecting.specs.Collected.{slots_of, due}
-use Rattle.collecting.specs.Slots.{unsound, oneMore, Walk, AllKnown, Few, More, surveyedAt, surveyed, Sound, Free, Listable, putSlot, listedTo}
+use Rattle.collecting.specs.Slots.{unsound, one_more, Walk, AllKnown, Few, More, surveyed_at, surveyed, Sound, Free, Listable, put_slot, listed_to}
 use Rattle.collecting.specs.declared.Survey.{Survey}
 use Rattle.collecting.proofs.Nexts.{slot_is, slot-most}
 use Rattle.collecting.proofs.Surveys.{agree_at}
@@ -28,8 +28,8 @@ use Rattle.collecting.proofs.Turns.{Seen, seen-slot, seen-updated, Surveying, su
 use Rattle.collecting.proofs.Turns.{Putting, putting-start, putting-end, putting-room, putting-next}
 
 -- a survey that is not sound says nothing else
-unsound-is : (b d : Bool) (s : Survey) (p n : ℕ) → s.sound ≡ true → (pick b (pick d (oneMore s p n) s) unsound).sound ≡ false
-    → pick b (pick d (oneMore s p n) s) unsound ≡ unsound
+unsound-is : (b d : Bool) (s : Survey) (p n : ℕ) → s.sound ≡ true → (pick b (pick d (one_more s p n) s) unsound).sound ≡ false
+    → pick b (pick d (one_more s p n) s) unsound ≡ unsound
 unfolding pick
 unsound-is true true s p n a e = true-not-false e
 unsound-is true false s p n a e = true-not-false (sym a ∙ e)
@@ -72,7 +72,7 @@ module _ {K : Kind} {S : Store K} (L : Lister S) (w : S.Switches) (cumulative : 
   pub survey-known : Walk S h → (known : Bool) → AllKnown S w known h → (i x : ℕ) (u d : Bool) → Seen L w cumulative h i x u d → Known S w known x u h.cells
   survey-known g known a i x u d f k e = a x (found-used S h g i x f.place f.slot) k (sym f.updated-is ∙ e)
 
-  module _ (i x : ℕ) (u d : Bool) (f : Seen L w cumulative h i x u d) (s t : Survey) (k : Surveyed i s) (e : t ≡ surveyedAt L w u d h.cells s x) where
+  module _ (i x : ℕ) (u d : Bool) (f : Seen L w cumulative h i x u d) (s t : Survey) (k : Surveyed i s) (e : t ≡ surveyed_at L w u d h.cells s x) where
     pub survey-next : t.sound ≡ true → More s t → Surveyed (i + 1) t
     survey-next o m =
         record {
@@ -84,7 +84,7 @@ module _ {K : Kind} {S : Store K} (L : Lister S) (w : S.Switches) (cumulative : 
         }
 
     pub survey-stop : t.sound ≡ false → t ≡ surveyed L w cumulative h
-    unfolding surveyedAt
+    unfolding surveyed_at
     survey-stop o =
         e
         ∙ unsound-is (not u || K.agrees (S.settings w) (S.at h.cells x)) d s (length (L.pos h.cells x u)) (length (L.neg h.cells x u))
@@ -103,7 +103,7 @@ module _ {K : Kind} {S : Store K} (L : Lister S) (w : S.Switches) (cumulative : 
     pub list-start : Listing 0 (record { place = 0; pos = 0; neg = 0 }) o
     list-start = record { most = omega arith; is = putting-start L w cumulative h o }
 
-    pub list-end : (i : ℕ) (at : Cursor) (q : Output) → Listing i at q → h.kept.dir.used < i → left at q ≡ listedTo L w cumulative h o
+    pub list-end : (i : ℕ) (at : Cursor) (q : Output) → Listing i at q → h.kept.dir.used < i → left at q ≡ listed_to L w cumulative h o
     list-end i at q k l = putting-end L w cumulative h o i at q l k.most k.is
 
     module _ (g : Listable L w cumulative h o) where
@@ -132,6 +132,6 @@ module _ {K : Kind} {S : Store K} (L : Lister S) (w : S.Switches) (cumulative : 
           slot-free e = putting-room L w cumulative h o g.room i x u d f at q k.is e
 
           pub list-next : (row : List ℕ) → row ≡ row_of (set_at h.kept.stores.sets x) → (at' : Cursor) (q' : Output)
-              → left at' q' ≡ putSlot L w u d h.cells x row at q → Listing (i + 1) at' q'
+              → left at' q' ≡ put_slot L w u d h.cells x row at q → Listing (i + 1) at' q'
           list-next row r at' q' e =
               record { most = omega (arith, f.place); is = putting-next L w cumulative h o g.room i x u d f at q k.is row at' q' r e }

@@ -51,18 +51,18 @@ module _ (updated cumulative : Bool) (x : ℕ) (n : updated ≡ false) where
 pub take_next : (l : List ℕ) (i : ℕ) → i < length l → take (suc i) l ≡ take i l ++ (get_or l i 0 ∷ [])
 take_next l i h = take-suc l i 0 h
 
-pick-append : (b : Bool) (q : ℕ) (a c : List ℕ) → pick b (q ∷ (a ++ c)) (a ++ c) ≡ pick b (q ∷ a) a ++ c
+pick_append : (b : Bool) (q : ℕ) (a c : List ℕ) → pick b (q ∷ (a ++ c)) (a ++ c) ≡ pick b (q ∷ a) a ++ c
 unfolding pick
-pick-append true q a c = refl
-pick-append false q a c = refl
+pick_append true q a c = refl
+pick_append false q a c = refl
 
 module _ (p : ℕ → Bool) where
-  pub only-append : (a c : List ℕ) → only p (a ++ c) ≡ only p a ++ only p c
-  only-append [] c = refl
-  only-append (q ∷ a) c = ap (λ (t : List ℕ). pick (p q) (q ∷ t) t) (only-append a c) ∙ pick-append (p q) q (only p a) (only p c)
+  pub only_append : (a c : List ℕ) → only p (a ++ c) ≡ only p a ++ only p c
+  only_append [] c = refl
+  only_append (q ∷ a) c = ap (λ (t : List ℕ). pick (p q) (q ∷ t) t) (only_append a c) ∙ pick_append (p q) q (only p a) (only p c)
 
   only_step : (l : List ℕ) (i : ℕ) → i < length l → only p (take (suc i) l) ≡ only p (take i l) ++ pick (p (get_or l i 0)) (get_or l i 0 ∷ []) []
-  only_step l i h = ap (only p) (take_next l i h) ∙ only-append (take i l) (get_or l i 0 ∷ [])
+  only_step l i h = ap (only p) (take_next l i h) ∙ only_append (take i l) (get_or l i 0 ∷ [])
 
   module _ (l : List ℕ) (i : ℕ) (h : i < length l) where
     pub only_yes : p (get_or l i 0) ≡ true → only p (take (suc i) l) ≡ only p (take i l) ++ (get_or l i 0 ∷ [])
@@ -73,7 +73,7 @@ module _ (p : ℕ → Bool) where
 
   -- the first ones that pass are among all that pass
   pub only-front : (l : List ℕ) (i : ℕ) → only p l ≡ only p (take i l) ++ only p (drop i l)
-  only-front l i = ap (only p) (sym (take-append-drop i l)) ∙ only-append (take i l) (drop i l)
+  only-front l i = ap (only p) (sym (take-append-drop i l)) ∙ only_append (take i l) (drop i l)
 
   all_more : (a : List ℕ) (x : ℕ) → all p a ≡ true → p x ≡ true → all p (a ++ (x ∷ [])) ≡ true
   all_more [] x h e = rw e

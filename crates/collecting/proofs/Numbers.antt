@@ -6,10 +6,10 @@ use borrow.Author.Tests.{eq-eqb, ne_eqb, le-leb, lt-leb}
 use lib.Dec.{leb, eqb}
 use Rattle.laws.specs.Pick.{pick}
 use Rattle.directory.specs.View.{Stores, agreesb}
-use Rattle.directory.specs.Calls.{mostSets, storesSuffice}
+use Rattle.directory.specs.Calls.{most_sets, stores_suffice}
 use Rattle.directory.specs.declared.Directory.{Directory}
-use Rattle.seats.proofs.Least.{both-suffice}
-use Rattle.collecting.specs.Slots.{unsurveyed, surveyedBy}
+use Rattle.seats.proofs.Least.{both_suffice}
+use Rattle.collecting.specs.Slots.{unsurveyed, surveyed_by}
 use Rattle.collecting.specs.declared.Survey.{Survey}
 
 -- the number of the call: what comes before the survey comes first
@@ -19,73 +19,73 @@ or_else first then = pick (eqb first 0) then first
 -- ---- before any series is read
 
 module _ (cells : Bool) (unset limit : ℕ) (d : Directory) (s : Stores) where
-  pub bar-stores : storesSuffice limit s ≡ false → unsurveyed cells unset limit d s ≡ 12
+  pub bar-stores : stores_suffice limit s ≡ false → unsurveyed cells unset limit d s ≡ 12
   unfolding unsurveyed pick
-  bar-stores e = λ j. pick (e j && cells) (pick (eqb unset 0 && (leb limit mostSets && agreesb limit d s)) 0 8) 12
+  bar-stores e = λ j. pick (e j && cells) (pick (eqb unset 0 && (leb limit most_sets && agreesb limit d s)) 0 8) 12
 
-  module _ (r : storesSuffice limit s ≡ true) where
+  module _ (r : stores_suffice limit s ≡ true) where
     pub bar-cells : cells ≡ false → unsurveyed cells unset limit d s ≡ 12
     unfolding unsurveyed pick
-    bar-cells e = λ j. pick (r j && e j) (pick (eqb unset 0 && (leb limit mostSets && agreesb limit d s)) 0 8) 12
+    bar-cells e = λ j. pick (r j && e j) (pick (eqb unset 0 && (leb limit most_sets && agreesb limit d s)) 0 8) 12
 
     module _ (c : cells ≡ true) where
       pub bar-unset : (unset ≡ 0 → ⊥) → unsurveyed cells unset limit d s ≡ 8
       unfolding unsurveyed pick
-      bar-unset n = λ j. pick (r j && c j) (pick (ne_eqb unset 0 n j && (leb limit mostSets && agreesb limit d s)) 0 8) 12
+      bar-unset n = λ j. pick (r j && c j) (pick (ne_eqb unset 0 n j && (leb limit most_sets && agreesb limit d s)) 0 8) 12
 
       module _ (z : unset ≡ 0) where
-        pub bar-limit : mostSets < limit → unsurveyed cells unset limit d s ≡ 8
+        pub bar-limit : most_sets < limit → unsurveyed cells unset limit d s ≡ 8
         unfolding unsurveyed pick
-        bar-limit h = λ j. pick (r j && c j) (pick (eq-eqb unset 0 z j && (lt-leb limit mostSets h j && agreesb limit d s)) 0 8) 12
+        bar-limit h = λ j. pick (r j && c j) (pick (eq-eqb unset 0 z j && (lt-leb limit most_sets h j && agreesb limit d s)) 0 8) 12
 
-        module _ (m : limit ≤ mostSets) where
-          pub bar-directory : agreesb limit d s ≡ false → unsurveyed cells unset limit d s ≡ 8
+        module _ (m : limit ≤ most_sets) where
+          pub bar_directory : agreesb limit d s ≡ false → unsurveyed cells unset limit d s ≡ 8
           unfolding unsurveyed pick
-          bar-directory e = λ j. pick (r j && c j) (pick (eq-eqb unset 0 z j && (le-leb limit mostSets m j && e j)) 0 8) 12
+          bar_directory e = λ j. pick (r j && c j) (pick (eq-eqb unset 0 z j && (le-leb limit most_sets m j && e j)) 0 8) 12
 
           pub bar-none : agreesb limit d s ≡ true → unsurveyed cells unset limit d s ≡ 0
           unfolding unsurveyed pick
-          bar-none e = λ j. pick (r j && c j) (pick (eq-eqb unset 0 z j && (le-leb limit mostSets m j && e j)) 0 8) 12
+          bar-none e = λ j. pick (r j && c j) (pick (eq-eqb unset 0 z j && (le-leb limit most_sets m j && e j)) 0 8) 12
 
 -- ---- by what a survey found
 
 few-left : (n a b : ℕ) → a < n → leb n (min a b) ≡ false
-few-left n a b h = both-suffice a b n ∙ (λ i. lt-leb n a h i && leb n b)
+few-left n a b h = both_suffice a b n ∙ (λ i. lt-leb n a h i && leb n b)
 
 few-right : (n a b : ℕ) → b < n → leb n (min a b) ≡ false
-few-right n a b h = both-suffice a b n ∙ (λ i. leb n a && lt-leb n b h i) ∙ and-false (leb n a)
+few-right n a b h = both_suffice a b n ∙ (λ i. leb n a && lt-leb n b h i) ∙ and-false (leb n a)
 
 few-both : (n a b : ℕ) → n ≤ a → n ≤ b → leb n (min a b) ≡ true
-few-both n a b h k = both-suffice a b n ∙ (λ i. le-leb n a h i && le-leb n b k i)
+few-both n a b h k = both_suffice a b n ∙ (λ i. le-leb n a h i && le-leb n b k i)
 
 module _ (s : Survey) (sets words pos neg : ℕ) where
   abbrev counts : Bool
   counts = leb s.pos pos && leb s.neg neg
 
-  pub number-unsound : s.sound ≡ false → surveyedBy s sets words pos neg ≡ 8
-  unfolding surveyedBy pick
+  pub number-unsound : s.sound ≡ false → surveyed_by s sets words pos neg ≡ 8
+  unfolding surveyed_by pick
   number-unsound e = λ j. pick (e j) (pick (leb s.points (min sets words) && counts) 0 10) 8
 
   module _ (e : s.sound ≡ true) where
-    pub number-sets : sets < s.points → surveyedBy s sets words pos neg ≡ 10
-    unfolding surveyedBy pick
+    pub number-sets : sets < s.points → surveyed_by s sets words pos neg ≡ 10
+    unfolding surveyed_by pick
     number-sets h = λ j. pick (e j) (pick (few-left s.points sets words h j && counts) 0 10) 8
 
     module _ (a : s.points ≤ sets) where
-      pub number-words : words < s.points → surveyedBy s sets words pos neg ≡ 10
-      unfolding surveyedBy pick
+      pub number-words : words < s.points → surveyed_by s sets words pos neg ≡ 10
+      unfolding surveyed_by pick
       number-words h = λ j. pick (e j) (pick (few-right s.points sets words h j && counts) 0 10) 8
 
       module _ (b : s.points ≤ words) where
-        pub number-pos : pos < s.pos → surveyedBy s sets words pos neg ≡ 10
-        unfolding surveyedBy pick
+        pub number-pos : pos < s.pos → surveyed_by s sets words pos neg ≡ 10
+        unfolding surveyed_by pick
         number-pos h = λ j. pick (e j) (pick (few-both s.points sets words a b j && (lt-leb s.pos pos h j && leb s.neg neg)) 0 10) 8
 
         module _ (c : s.pos ≤ pos) where
-          pub number-neg : neg < s.neg → surveyedBy s sets words pos neg ≡ 10
-          unfolding surveyedBy pick
+          pub number-neg : neg < s.neg → surveyed_by s sets words pos neg ≡ 10
+          unfolding surveyed_by pick
           number-neg h = λ j. pick (e j) (pick (few-both s.points sets words a b j && (le-leb s.pos pos c j && lt-leb s.neg neg h j)) 0 10) 8
 
-          pub number-none : s.neg ≤ neg → surveyedBy s sets words pos neg ≡ 0
-          unfolding surveyedBy pick
+          pub number-none : s.neg ≤ neg → surveyed_by s sets words pos neg ≡ 0
+          unfolding surveyed_by pick
           number-none h = λ j. pick (e j) (pick (few-both s.points sets words a b j && (le-leb s.pos pos c j && le-leb s.neg neg h j)) 0 10) 8

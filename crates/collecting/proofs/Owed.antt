@@ -13,11 +13,11 @@ use Rattle.listing.specs.Listed.{Output}
 use Rattle.listing.specs.declared.Cursor.{Cursor}
 use Rattle.listing.proofs.There.{Lies}
 use Rattle.collecting.specs.Lister.{Lister}
-use Rattle.collecting.specs.Slots.{behindAt}
+use Rattle.collecting.specs.Slots.{behind_at}
 
 -- a reader finds x where words and counts lie, and the next cursor behind them
 abbrev pub Finds : {A : Type 0} → (Cursor → Output → Option (A × Cursor)) → List ℕ → List ℕ → List ℕ → A → Type 0
-Finds found ws ps ns x = (at : Cursor) (o : Output) → Lies at ws ps ns o → found at o ≡ some (x, behindAt at (length ps) (length ns))
+Finds found ws ps ns x = (at : Cursor) (o : Output) → Lies at ws ps ns o → found at o ≡ some (x, behind_at at (length ps) (length ns))
 
 module _ {K : Kind} {S : Store K} (L : Lister S) where
   -- the point of slot x, whose entry was updated or not

@@ -16,16 +16,16 @@ use Rattle.laws.proofs.Bools.{and_left, and_right, pick_true, pick-false}
 use Rattle.tally.specs.Kind.{Kind, Room, suffices}
 use Rattle.tally.specs.Sets.{Set, same}
 use Rattle.tally.specs.Map.{Entry, Points, points, sound, filled}
-use Rattle.directory.specs.View.{Stores, set_at, entry_at, updatedIn}
+use Rattle.directory.specs.View.{Stores, set_at, entry_at, updated_in}
 use Rattle.directory.proofs.Rises.{In}
-use Rattle.seats.proofs.Recording.{orFresh}
+use Rattle.seats.proofs.Recording.{or_fresh}
 use Rattle.value_map.specs.Store.{Store}
 use Rattle.value_map.specs.Calls.{Held}
 use Rattle.value_map.proofs.Owed.{there, was}
 use Rattle.collecting.specs.Lister.{Lister}
-use Rattle.collecting.specs.Collected.{countsOf, roomy}
+use Rattle.collecting.specs.Collected.{counts_of, roomy}
 use Rattle.collecting.proofs.Owed.{Listed}
-use Rattle.collecting.proofs.Back.{pointAt}
+use Rattle.collecting.proofs.Back.{point_at}
 
 -- ---- the points of entries that stand for slots: those that a test passes have a series
 module _ (K : Kind) (z : K.Settings) (F : ℕ → Entry K) (set : ℕ → Set) (p : ℕ → Bool) (y : ℕ → K.Series) where
@@ -55,17 +55,17 @@ module _ (K : Kind) (z : K.Settings) (F : ℕ → Entry K) (set : ℕ → Set) (
 
 -- ---- a delta's entries, and a cumulative collection's, by whether the slot was updated
 module _ (K : Kind) (z : K.Settings) (y : K.Series) where
-  delta-series : (b n : Bool) → pick b (some y) none ≡ pick (b || (false && n)) (some (orFresh K z (pick b (some y) none))) none
+  delta-series : (b n : Bool) → pick b (some y) none ≡ pick (b || (false && n)) (some (or_fresh K z (pick b (some y) none))) none
   unfolding pick
   delta-series true n = refl
   delta-series false n = refl
 
-  root-series : (b : Bool) → pick b (some y) none ≡ pick (b || (true && false)) (some (orFresh K z (pick b (some y) none))) none
+  root-series : (b : Bool) → pick b (some y) none ≡ pick (b || (true && false)) (some (or_fresh K z (pick b (some y) none))) none
   unfolding pick
   root-series true = refl
   root-series false = refl
 
-  named-series : (b : Bool) → some (orFresh K z (pick b (some y) none)) ≡ pick (b || (true && true)) (some (orFresh K z (pick b (some y) none))) none
+  named-series : (b : Bool) → some (or_fresh K z (pick b (some y) none)) ≡ pick (b || (true && true)) (some (or_fresh K z (pick b (some y) none))) none
   unfolding pick
   named-series true = refl
   named-series false = refl
@@ -86,9 +86,9 @@ module _ {K : Kind} (S : Store K) (w : S.Switches) (h : Held S.Cells) where
   s = h.kept.stores
 
   abbrev u : ℕ → Bool
-  u x = updatedIn s.entries x
+  u x = updated_in s.entries x
 
-  pub delta-points : (l : List ℕ) → points K z (map (entry_at K f s) l) ≡ map (pointAt S w h) (only (λ x. u x || (false && not (eqb x 0))) l)
+  pub delta-points : (l : List ℕ) → points K z (map (entry_at K f s) l) ≡ map (point_at S w h) (only (λ x. u x || (false && not (eqb x 0))) l)
   delta-points l =
       points-only K z (entry_at K f s) (set_at s.sets) (λ x. u x || (false && not (eqb x 0))) (λ x. was S w h.cells x (u x)) l
       (λ x i. (refl, delta-series K z (f x) (u x) (not (eqb x 0))))
@@ -103,7 +103,7 @@ module _ {K : Kind} (S : Store K) (w : S.Switches) (h : Held S.Cells) where
       ∙ sym (ap (λ b. pick (u (suc x) || (true && not b)) (some (was S w h.cells (suc x) (u (suc x)))) none) (eqb-suc-zero x))
 
   pub cumulative-points : (l : List ℕ) → ((x : ℕ) → In x l → 1 ≤ x → same (set_at s.sets x) [] ≡ false)
-      → points K z (map (filled K z) (map (entry_at K f s) l)) ≡ map (pointAt S w h) (only (λ x. u x || (true && not (eqb x 0))) l)
+      → points K z (map (filled K z) (map (entry_at K f s) l)) ≡ map (point_at S w h) (only (λ x. u x || (true && not (eqb x 0))) l)
   cumulative-points l n =
       ap (points K z) (both l)
       ∙ points-only K z (λ x. filled K z (entry_at K f s x)) (set_at s.sets) (λ x. u x || (true && not (eqb x 0))) (λ x. was S w h.cells x (u x)) l
@@ -119,8 +119,8 @@ module _ {K : Kind} (S : Store K) (w : S.Switches) (h : Held S.Cells) where
   sound-all (x ∷ l) = λ i. sound-either K z (f x) (u x) i && sound-all l i
 
   -- and of one that is among those that agree
-  pub sound-in : (l : List ℕ) → all (λ x. not (u x) || K.agrees z (f x)) l ≡ true → (x : ℕ) → In x l → sound K z (there S h.cells x (u x)) ≡ true
-  sound-in l a x i = sound-either K z (f x) (u x) ∙ all_in l a x i
+  pub sound_in : (l : List ℕ) → all (λ x. not (u x) || K.agrees z (f x)) l ≡ true → (x : ℕ) → In x l → sound K z (there S h.cells x (u x)) ≡ true
+  sound_in l a x i = sound-either K z (f x) (u x) ∙ all_in l a x i
     where
       all_in : (l : List ℕ) → all (λ x. not (u x) || K.agrees z (f x)) l ≡ true → (x : ℕ) → In x l → (not (u x) || K.agrees z (f x)) ≡ true
       all_in [] a x i = absurd i
@@ -129,20 +129,20 @@ module _ {K : Kind} (S : Store K) (w : S.Switches) (h : Held S.Cells) where
 
   -- ---- room
   module _ (L : Lister S) where
-    pos-all : (l : List ℕ) → ((x : ℕ) → In x l → Listed L w h.cells x (u x)) → sum K.pos (map (λ p. p.1) (map (pointAt S w h) l)) ≡ length (countsOf L.pos h l)
+    pos-all : (l : List ℕ) → ((x : ℕ) → In x l → Listed L w h.cells x (u x)) → sum K.pos (map (λ p. p.1) (map (point_at S w h) l)) ≡ length (counts_of L.pos h l)
     pos-all [] g = refl
     pos-all (x ∷ l) g =
         (λ i. (g x (inl refl)).pos i + pos-all l (λ y m. g y (inr m)) i)
-        ∙ sym (length-append (L.pos h.cells x (u x)) (countsOf L.pos h l))
+        ∙ sym (length-append (L.pos h.cells x (u x)) (counts_of L.pos h l))
 
-    neg-all : (l : List ℕ) → ((x : ℕ) → In x l → Listed L w h.cells x (u x)) → sum K.neg (map (λ p. p.1) (map (pointAt S w h) l)) ≡ length (countsOf L.neg h l)
+    neg-all : (l : List ℕ) → ((x : ℕ) → In x l → Listed L w h.cells x (u x)) → sum K.neg (map (λ p. p.1) (map (point_at S w h) l)) ≡ length (counts_of L.neg h l)
     neg-all [] g = refl
     neg-all (x ∷ l) g =
         (λ i. (g x (inl refl)).neg i + neg-all l (λ y m. g y (inr m)) i)
-        ∙ sym (length-append (L.neg h.cells x (u x)) (countsOf L.neg h l))
+        ∙ sym (length-append (L.neg h.cells x (u x)) (counts_of L.neg h l))
 
-    pub room-is : (l : List ℕ) (r : Room) → ((x : ℕ) → In x l → Listed L w h.cells x (u x)) → suffices K r (map (λ p. p.1) (map (pointAt S w h) l)) ≡ roomy L w h l r
+    pub room-is : (l : List ℕ) (r : Room) → ((x : ℕ) → In x l → Listed L w h.cells x (u x)) → suffices K r (map (λ p. p.1) (map (point_at S w h) l)) ≡ roomy L w h l r
     unfolding roomy
     room-is l r g =
-        let n : length (map (λ p. p.1) (map (pointAt S w h) l)) ≡ length l = length-map (map (pointAt S w h) l) (λ p. p.1) ∙ length-map l (pointAt S w h) in
+        let n : length (map (λ p. p.1) (map (point_at S w h) l)) ≡ length l = length-map (map (point_at S w h) l) (λ p. p.1) ∙ length-map l (point_at S w h) in
         λ i. leb (n i) r.points && (leb (pos-all l g i) r.pos && leb (neg-all l g i) r.neg)

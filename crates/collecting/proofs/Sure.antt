@@ -9,7 +9,7 @@ use lib.Dec.{leb}
 use Rattle.laws.proofs.Bools.{and_intro}
 use Rattle.laws.proofs.Cases.{and-true}
 use Rattle.tally.specs.Kind.{Kind}
-use Rattle.directory.specs.Calls.{mostSets, storesSuffice}
+use Rattle.directory.specs.Calls.{most_sets, stores_suffice}
 use Rattle.directory.proofs.Refusals.{within}
 use Rattle.value_map.specs.Store.{Store}
 use Rattle.value_map.specs.Calls.{Held}
@@ -34,7 +34,7 @@ module _ {K : Kind} (S : Store K) (w : S.Switches) (limit : ℕ) (filter : Optio
     opened : Open (S.suffices limit h.cells) S.unset limit h.kept.dir h.kept.stores
     opened =
         let a = own.agreed in
-        let e = and-true (storesSuffice limit h.kept.stores) (S.suffices limit h.cells) a.lent_is in
+        let e = and-true (stores_suffice limit h.kept.stores) (S.suffices limit h.cells) a.lent_is in
         record { stores = e.0; lent = e.1; set = a.set; few = within limit filter a.accepted; agrees = a.agrees }
 
     -- neither 12 nor 8 comes up before series are read
@@ -46,15 +46,15 @@ module _ {K : Kind} (S : Store K) (w : S.Switches) (limit : ℕ) (filter : Optio
         ∙ bar-none (S.suffices limit h.cells) S.unset limit h.kept.dir h.kept.stores g.stores g.lent g.set g.few g.agrees
 
     -- a collection asks for no filter
-    pub owned-unfiltered : Owned S w limit none h
-    owned-unfiltered =
+    pub owned_unfiltered : Owned S w limit none h
+    owned_unfiltered =
         let a = own.agreed in
         record {
           agreed = record {
             agrees = a.agrees;
             lent_is = a.lent_is;
             set = a.set;
-            accepted = and_intro (leb limit mostSets) true (le-leb limit mostSets opened.few) refl;
+            accepted = and_intro (leb limit most_sets) true (le-leb limit most_sets opened.few) refl;
           };
           last = own.last;
           series = own.series;

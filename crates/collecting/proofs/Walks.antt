@@ -13,7 +13,7 @@ use Rattle.laws.proofs.Cases.{and-true}
 use Rattle.tally.specs.Kind.{Kind}
 use Rattle.sets.specs.Rows.{size}
 use Rattle.directory.specs.View.{Stores, agreesb}
-use Rattle.directory.specs.Calls.{Kept, mostSets, storesSuffice}
+use Rattle.directory.specs.Calls.{Kept, most_sets, stores_suffice}
 use Rattle.directory.specs.declared.Directory.{Directory}
 use Rattle.directory.proofs.Agreed.{slot-sizes, place-slot}
 use Rattle.directory.proofs.Laws.{few, slots-right, places-right}
@@ -24,7 +24,7 @@ use Rattle.value_map.proofs.Owed.{Owed}
 use Rattle.listing.specs.Listed.{Output}
 use Rattle.collecting.specs.Lister.{Lister}
 use Rattle.collecting.specs.Collected.{slots_of, agreeing, roomy, uncollected}
-use Rattle.collecting.specs.Slots.{unsurveyed, unsound, surveyedBy, walked, Walk, counted, surveyed}
+use Rattle.collecting.specs.Slots.{unsurveyed, unsound, surveyed_by, walked, Walk, counted, surveyed}
 use Rattle.collecting.proofs.Numbers.{or_else}
 use Rattle.collecting.specs.declared.Survey.{Survey}
 
@@ -40,38 +40,38 @@ numbers true true true true true n = refl
 numbers true true true true false n = refl
 
 found : (e : Bool) (s : Survey) (sets words pos neg : ℕ) → s.sound ≡ true
-    → surveyedBy (pick e s unsound) sets words pos neg ≡ pick e (pick (leb s.points (min sets words) && (leb s.pos pos && leb s.neg neg)) 0 10) 8
-unfolding surveyedBy pick
+    → surveyed_by (pick e s unsound) sets words pos neg ≡ pick e (pick (leb s.points (min sets words) && (leb s.pos pos && leb s.neg neg)) 0 10) 8
+unfolding surveyed_by pick
 found true s sets words pos neg a = rw a
 found false s sets words pos neg a = refl
 
 pub number_is : {K : Kind} {S : Store K} (L : Lister S) (w : S.Switches) (cumulative : Bool) (limit : ℕ) (h : Held S.Cells) (o : Output)
     → or_else (unsurveyed (S.suffices limit h.cells) S.unset limit h.kept.dir h.kept.stores)
-    (surveyedBy (surveyed L w cumulative h) (length o.sets) (length o.words) (length o.pos) (length o.neg))
+    (surveyed_by (surveyed L w cumulative h) (length o.sets) (length o.words) (length o.pos) (length o.neg))
     ≡ uncollected L w cumulative limit h o
 unfolding surveyed unsurveyed uncollected roomy
 number_is {S = S} L w cumulative limit h o =
     ap (or_else (unsurveyed (S.suffices limit h.cells) S.unset limit h.kept.dir h.kept.stores))
     (found (agreeing L w h) (counted L w cumulative h (slots_of h.kept)) (length o.sets) (length o.words) (length o.pos) (length o.neg) refl)
-    ∙ numbers (storesSuffice limit h.kept.stores && S.suffices limit h.cells) (eqb S.unset 0) (leb limit mostSets) (agreesb limit h.kept.dir h.kept.stores) (agreeing L w h) _
+    ∙ numbers (stores_suffice limit h.kept.stores && S.suffices limit h.cells) (eqb S.unset 0) (leb limit most_sets) (agreesb limit h.kept.dir h.kept.stores) (agreeing L w h) _
 
 -- ---- what is known where nothing bars the call
 
 pub record Open (cells : Bool) (unset limit : ℕ) (d : Directory) (s : Stores) : Type 0 where
-  pub stores : storesSuffice limit s ≡ true
+  pub stores : stores_suffice limit s ≡ true
   pub lent : cells ≡ true
   pub set : unset ≡ 0
-  pub few : limit ≤ mostSets
+  pub few : limit ≤ most_sets
   pub agrees : agreesb limit d s ≡ true
 
 pub open_of : (cells : Bool) (unset limit : ℕ) (d : Directory) (s : Stores) → unsurveyed cells unset limit d s ≡ 0 → Open cells unset limit d s
 unfolding unsurveyed
 open_of cells unset limit d s e =
-    let a = and-true (storesSuffice limit s) cells (pick-left (storesSuffice limit s && cells) _ 12 (omega arith) e) in
-    let t = pick-left (eqb unset 0 && (leb limit mostSets && agreesb limit d s)) 0 8 (omega arith) (pick-then (storesSuffice limit s && cells) _ 12 (omega arith) e) in
+    let a = and-true (stores_suffice limit s) cells (pick-left (stores_suffice limit s && cells) _ 12 (omega arith) e) in
+    let t = pick-left (eqb unset 0 && (leb limit most_sets && agreesb limit d s)) 0 8 (omega arith) (pick-then (stores_suffice limit s && cells) _ 12 (omega arith) e) in
     let b = and-true (eqb unset 0) _ t in
-    let c = and-true (leb limit mostSets) (agreesb limit d s) b.1 in
-    record { stores = a.0; lent = a.1; set = eqb-true unset 0 b.0; few = leb-true limit mostSets c.0; agrees = c.1 }
+    let c = and-true (leb limit most_sets) (agreesb limit d s) b.1 in
+    record { stores = a.0; lent = a.1; set = eqb-true unset 0 b.0; few = leb-true limit most_sets c.0; agrees = c.1 }
 
 -- the call of `sweep::sweep`
 abbrev pub Sweepable : Kept → Type 0

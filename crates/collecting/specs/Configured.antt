@@ -19,11 +19,11 @@ abbrev pub configuring : {T : Type 0} → Said T → Stores → Configuring T
 configuring a s = record { answer = a; stores = s }
 
 -- what is handed out where the start was accepted; a refusal hands out no state
-abbrev pub setUp : {T : Type 0} → T → Said (Option ℕ) → Said T
-setUp t (refusal n) = refusal n
-setUp t (success b) = success t
+abbrev pub set_up : {T : Type 0} → T → Said (Option ℕ) → Said T
+set_up t (refusal n) = refusal n
+set_up t (success b) = success t
 
 -- "Configuring: 1, 2, 3, 4, 12": the start of a map, and what is handed out of its state
-abbrev pub configuredAs : {K : Kind} (S : Store K) {T : Type 0} → (Directory → T) → ℕ → Option (List ℕ) → Stores → S.Cells → Configuring T
-configuredAs S t limit filter s c =
-    let o = started S limit filter s c in record { answer = setUp (t o.held.kept.dir) o.answer; stores = o.held.kept.stores }
+abbrev pub configured_as : {K : Kind} (S : Store K) {T : Type 0} → (Directory → T) → ℕ → Option (List ℕ) → Stores → S.Cells → Configuring T
+configured_as S t limit filter s c =
+    let o = started S limit filter s c in record { answer = set_up (t o.held.kept.dir) o.answer; stores = o.held.kept.stores }

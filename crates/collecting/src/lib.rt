@@ -1,9 +1,9 @@
 // What every kind's collecting calls share: `collect_and_reset` and `collect_readonly` of internal/mod.rs, but for the series.
 ghost use Rattle.std.specs.Prelude.{◌≡◌, true, not, ◌&&◌, ◌||◌, [], ◌∷◌, ◌<◌, ◌≤◌, eqb, ltb, length, get_or};
 ghost use Rattle.laws.specs.Pick.{pick};
-ghost use Rattle.sets.specs.Rows.{size, setOf, row_of};
+ghost use Rattle.sets.specs.Rows.{size, set_of, row_of};
 ghost use Rattle.directory.specs.View.{set_at, stores};
-ghost use Rattle.collecting.specs.Slots.{unsurveyed, surveyedBy};
+ghost use Rattle.collecting.specs.Slots.{unsurveyed, surveyed_by};
 
 use directory::Directory;
 
@@ -69,7 +69,7 @@ pub fn barred(
 
 // The number that refuses it then, by what a survey of the slots found, in output of so many places: 8, 10; 0 if none.
 pub fn number_of(s: Survey, sets: usize, words: usize, pos: usize, neg: usize) -> u8
-    ensures { result ≡ surveyedBy s sets words pos neg }
+    ensures { result ≡ surveyed_by s sets words pos neg }
 {
     if !s.sound {
         return 8;
@@ -127,7 +127,7 @@ fn word_of(row: [u64; 9], i: usize) -> u64
 // A row with zeros behind its set's words.
 fn clean(row: [u64; 9]) -> [u64; 9]
     requires { size row ≤ 8 }
-    ensures { result ≡ row_of (setOf row) }
+    ensures { result ≡ row_of (set_of row) }
 {
     [
         word_of(row, 0),

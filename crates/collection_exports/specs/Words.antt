@@ -9,9 +9,9 @@ use Rattle.collecting.specs.Collected.{Collected}
 use Rattle.map_words.specs.Words.{words_of}
 
 -- how many points lie in the output
-abbrev pub pointsIn : Said ℕ → ℕ
-pointsIn (refusal n) = 0
-pointsIn (success n) = n
+abbrev pub points_in : Said ℕ → ℕ
+points_in (refusal n) = 0
+points_in (success n) = n
 
 -- document 01's number, how many points there are, and the lent output
 pub record Listed : Type 0 where
@@ -32,9 +32,9 @@ listed n points o = record { number = n; points = points.now; out = o }
 abbrev pub handed : ℕ → Bor (List (List ℕ)) → Bor (List ℕ) → Stores → Output → Handed
 handed n state points s o = record { listed = listed n points o; state = state.now; stores = s }
 
-abbrev pub listedOut : {Cells : Type 0} → List ℕ → Collected Cells → Listed
-listedOut points c = record { number = number c.answer; points = set points 0 (pointsIn c.answer); out = c.out }
+abbrev pub listed_out : {Cells : Type 0} → List ℕ → Collected Cells → Listed
+listed_out points c = record { number = number c.answer; points = set points 0 (points_in c.answer); out = c.out }
 
-abbrev pub handedOut : {Cells : Type 0} → List (List ℕ) → List ℕ → Collected Cells → Handed
-handedOut state points c =
-    record { listed = listedOut points c; state = set state 0 (words_of c.held.kept.dir); stores = c.held.kept.stores }
+abbrev pub handed_out : {Cells : Type 0} → List (List ℕ) → List ℕ → Collected Cells → Handed
+handed_out state points c =
+    record { listed = listed_out points c; state = set state 0 (words_of c.held.kept.dir); stores = c.held.kept.stores }

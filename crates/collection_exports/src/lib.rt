@@ -5,10 +5,10 @@ ghost use Rattle.directory.specs.View.{stores};
 ghost use Rattle.exponential_slots.specs.Cells.{cells};
 ghost use Rattle.value_map.specs.Calls.{held};
 ghost use Rattle.listing.specs.Listed.{output};
-ghost use Rattle.collecting.specs.Collected.{said, deltaCollected, cumulativeCollected};
-ghost use Rattle.exponential_collection.specs.Points.{exponentialLister};
+ghost use Rattle.collecting.specs.Collected.{said, delta_collected, cumulative_collected};
+ghost use Rattle.exponential_collection.specs.Points.{exponential_lister};
 ghost use Rattle.map_words.specs.Words.{state_of};
-ghost use Rattle.collection_exports.specs.Words.{pointsIn, listed, listedOut, handed, handedOut};
+ghost use Rattle.collection_exports.specs.Words.{points_in, listed, listed_out, handed, handed_out};
 
 use collecting::Answer;
 use exponential_collection::Settings;
@@ -25,7 +25,7 @@ fn number_of(answer: Answer) -> u64
 
 // How many points an answer tells of.
 fn points_of(answer: Answer) -> u64
-    ensures { result ≡ pointsIn (said answer) }
+    ensures { result ≡ points_in (said answer) }
 {
     match answer {
         Answer::Refused(_) => 0,
@@ -56,7 +56,7 @@ pub extern "C" fn map_delta(
 ) -> u64
     ensures { handed result state.exit points.exit (stores sets.exit entries.exit order.exit)
         (output out_sets.exit out_words.exit out_pos.exit out_neg.exit)
-        ≡ handedOut state.old points.old (deltaCollected (exponentialLister size top) (true, true) limit
+        ≡ handed_out state.old points.old (delta_collected (exponential_lister size top) (true, true) limit
         (held (state_of (get_or state.old 0 [])) (stores sets.entry entries.entry order.entry)
         (cells figures.entry extremes.entry pos.entry neg.entry))
         (output out_sets.entry out_words.entry out_pos.entry out_neg.entry)) }
@@ -101,7 +101,7 @@ pub extern "C" fn map_cumulative(
     points: &mut [u64; 1],
 ) -> u64
     ensures { listed result points.exit (output out_sets.exit out_words.exit out_pos.exit out_neg.exit)
-        ≡ listedOut points.old (cumulativeCollected (exponentialLister size top) (true, true) limit
+        ≡ listed_out points.old (cumulative_collected (exponential_lister size top) (true, true) limit
         (held (state_of (get_or state.now 0 [])) (stores sets.entry entries.entry order.entry)
         (cells figures.entry extremes.entry pos.entry neg.entry))
         (output out_sets.entry out_words.entry out_pos.entry out_neg.entry)) }

@@ -11,7 +11,7 @@ use Rattle.tally.proofs.Order.{same-flip}
 use Rattle.laws.proofs.Cases.{true-not-false}
 use Rattle.tally.proofs.Ranks.{rank, rank-le, put-new}
 use Rattle.sets.specs.Inserted.{inserted}
-use Rattle.sets.specs.Rows.{span, setOf}
+use Rattle.sets.specs.Rows.{span, set_of}
 use Rattle.sets.proofs.Spans.{span-inserted}
 use Rattle.directory.specs.Calls.{admitted, Kept}
 use Rattle.directory.specs.View.{Stores, set_at, agreesb, seek, sought, entry_at, view}
@@ -25,11 +25,11 @@ pub length-span : (g : ℕ → Set) (l : List ℕ) (i k : ℕ) → length (map g
 length-span g l i zero = refl
 length-span g l i (suc k) = ap suc (length-span g l (suc i) k)
 
-map-around : {A : Type 0} (g : ℕ → A) (l : List ℕ) (n x : ℕ) → map g (take n l ++ (x ∷ drop n l)) ≡ take n (map g l) ++ (g x ∷ drop n (map g l))
-map-around g [] zero x = refl
-map-around g [] (suc n) x = refl
-map-around g (y ∷ l) zero x = refl
-map-around g (y ∷ l) (suc n) x = ap (λ r. g y ∷ r) (map-around g l n x)
+map_around : {A : Type 0} (g : ℕ → A) (l : List ℕ) (n x : ℕ) → map g (take n l ++ (x ∷ drop n l)) ≡ take n (map g l) ++ (g x ∷ drop n (map g l))
+map_around g [] zero x = refl
+map_around g [] (suc n) x = refl
+map_around g (y ∷ l) zero x = refl
+map_around g (y ∷ l) (suc n) x = ap (λ r. g y ∷ r) (map_around g l n x)
 
 map_same : {A : Type 0} (g h : ℕ → A) (l : List ℕ) → ((y : ℕ) → In y l → g y ≡ h y) → map g l ≡ map h l
 map_same g h [] e = refl
@@ -81,7 +81,7 @@ module _ (K : Kind) (f : ℕ → K.Series) (z : K.Settings) (limit : ℕ) (d : D
         rw (get_or-set_other s.entries (d.used + 1) (suc y) ((d.last + 1) ∷ b ∷ 0 ∷ []) [] (λ e. omega arith), get_or-set_other s.sets (d.used + 1) (suc y) row [] (λ e. omega arith))
 
     abbrev made : Entry K
-    made = rebound K (new K (setOf row) (d.last + 1)) b
+    made = rebound K (new K (set_of row) (d.last + 1)) b
 
     pub new-entry : (y : ℕ) → suc y ≡ d.used + 1 → entry_at K f t (suc y) ≡ made
     unfolding pick
@@ -89,12 +89,12 @@ module _ (K : Kind) (f : ℕ → K.Series) (z : K.Settings) (limit : ℕ) (d : D
         rw (← e, get_or-set_same s.entries (suc y) ((d.last + 1) ∷ b ∷ 0 ∷ []) [] (rw (← e) at le), get_or-set_same s.sets (suc y) row [] (rw (← e) at ls))
 
     -- the map then: the entry put, the count raised by `more`, the birth number spent
-    pub admit-put : sought (setOf row) d.used s.sets s.order ≡ Room r
+    pub admit-put : sought (set_of row) d.used s.sets s.order ≡ Room r
         → view K f z (admitted d s row r more b).dir (admitted d s row r more b).stores
         ≡ record { settings = z; count = d.count + more; last = d.last + 1; entries = put K made (view K f z d s).entries }
     unfolding admitted
     admit-put e =
-        let q = room-rank (setOf row) r e in
+        let q = room-rank (set_of row) r e in
         let S = span s.order 0 d.used in
         let o = span-inserted s.order d.used r (d.used + 1) q.2 lo in
         let u : suc d.used ≡ d.used + 1 = omega arith in
@@ -102,7 +102,7 @@ module _ (K : Kind) (f : ℕ → K.Series) (z : K.Settings) (limit : ℕ) (d : D
         let same_old : map (entry_at K f t) (0 ∷ S) ≡ map (entry_at K f s) (0 ∷ S) = map_same (entry_at K f t) (entry_at K f s) (0 ∷ S) (λ y m. old-entry y (slot-used limit d s g y m)) in
         let a : map (entry_at K f t) (0 ∷ span t.order 0 (d.used + 1)) ≡ take (suc r) (map (entry_at K f s) (0 ∷ S)) ++ (made ∷ drop (suc r) (map (entry_at K f s) (0 ∷ S))) =
         ap (λ l. map (entry_at K f t) (0 ∷ l)) o
-        ∙ map-around (entry_at K f t) (0 ∷ S) (suc r) (d.used + 1)
+        ∙ map_around (entry_at K f t) (0 ∷ S) (suc r) (d.used + 1)
         ∙ ap (λ l. take (suc r) l ++ (entry_at K f t (d.used + 1) ∷ drop (suc r) l)) same_old
         ∙ ap (λ y. take (suc r) (map (entry_at K f s) (0 ∷ S)) ++ (y ∷ drop (suc r) (map (entry_at K f s) (0 ∷ S)))) n in
         let p : put K made (map (entry_at K f s) (0 ∷ S)) ≡ take (suc r) (map (entry_at K f s) (0 ∷ S)) ++ (made ∷ drop (suc r) (map (entry_at K f s) (0 ∷ S))) =

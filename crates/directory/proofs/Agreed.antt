@@ -11,8 +11,8 @@ use Rattle.sets.specs.Rows.{size, soundb, below}
 use Rattle.sets.proofs.Alls.{allb-at}
 use Rattle.sets.proofs.Keyed.{sound-some, sound-few}
 use Rattle.sets.proofs.Ways.{below-lt}
-use Rattle.directory.specs.View.{set_at, birthAt, slot_at, placeAt, plainly, slotsb, countsb}
-use Rattle.directory.specs.Inner.{placed, stepAt}
+use Rattle.directory.specs.View.{set_at, birth_at, slot_at, place_at, plainly, slotsb, countsb}
+use Rattle.directory.specs.Inner.{placed, step_at}
 use Rattle.directory.specs.declared.Placed.TheVariants.{Broken, Plain}
 
 -- the count
@@ -29,28 +29,28 @@ module _ (limit count used plain : ℕ) where
   pub count-more : count ≤ limit → (count ≡ plain → ⊥) → plain < used → count ≡ plain + 1 → countsb limit count used plain ≡ true
   count-more h n k e = rw (le-leb count limit h, ne_eqb count plain n, lt-ltb plain used k, eq-eqb count (plain + 1) e)
 
-  pub count-wrong : count ≤ limit → (count ≡ plain → ⊥) → (count ≡ plain + 1 → ⊥) → countsb limit count used plain ≡ false
-  count-wrong h n e = rw (le-leb count limit h, ne_eqb count plain n, ne_eqb count (plain + 1) e)
+  pub count_wrong : count ≤ limit → (count ≡ plain → ⊥) → (count ≡ plain + 1 → ⊥) → countsb limit count used plain ≡ false
+  count_wrong h n e = rw (le-leb count limit h, ne_eqb count plain n, ne_eqb count (plain + 1) e)
 
 -- the places' answer
-broken-inv : (b : Bool) (n : ℕ) → pick b (Plain n) Broken ≡ Broken → b ≡ false
+broken_inv : (b : Bool) (n : ℕ) → pick b (Plain n) Broken ≡ Broken → b ≡ false
 unfolding pick
-broken-inv true n e = cc
-broken-inv false n e = refl
+broken_inv true n e = cc
+broken_inv false n e = refl
 
-plain-inv : (b : Bool) (n m : ℕ) → pick b (Plain n) Broken ≡ Plain m → (b ≡ true) × (n ≡ m)
+plain_inv : (b : Bool) (n m : ℕ) → pick b (Plain n) Broken ≡ Plain m → (b ≡ true) × (n ≡ m)
 unfolding pick
-plain-inv true n m e = (refl, cc)
-plain-inv false n m e = (cc, cc)
+plain_inv true n m e = (refl, cc)
+plain_inv false n m e = (cc, cc)
 
 module _ (used : ℕ) (sets : List (List ℕ)) (order : List ℕ) where
-  pub placed-broken : placed used sets order ≡ Broken → allb used (stepAt sets order used) ≡ false
+  pub placed_broken : placed used sets order ≡ Broken → allb used (step_at sets order used) ≡ false
   unfolding placed
-  placed-broken e = broken-inv _ (plainly sets order used) e
+  placed_broken e = broken_inv _ (plainly sets order used) e
 
-  pub placed-plain : (n : ℕ) → placed used sets order ≡ Plain n → (allb used (stepAt sets order used) ≡ true) × (plainly sets order used ≡ n)
+  pub placed-plain : (n : ℕ) → placed used sets order ≡ Plain n → (allb used (step_at sets order used) ≡ true) × (plainly sets order used ≡ n)
   unfolding placed
-  placed-plain n e = plain-inv _ (plainly sets order used) n e
+  placed-plain n e = plain_inv _ (plainly sets order used) n e
 
 -- what right slots say
 module _ (used last : ℕ) (sets entries : List (List ℕ)) (e : slotsb used last sets entries ≡ true) where
@@ -58,7 +58,7 @@ module _ (used last : ℕ) (sets entries : List (List ℕ)) (e : slotsb used las
   unfolding slotsb
   all_slots = (and-true (allb used (slot_at sets entries)) _ e).0
 
-  pub last-birth : birthAt entries used ≤ last
+  pub last-birth : birth_at entries used ≤ last
   unfolding slotsb
   last-birth = leb-true _ _ (and-true (allb used (slot_at sets entries)) _ e).1
 
@@ -67,14 +67,14 @@ module _ (used last : ℕ) (sets entries : List (List ℕ)) (e : slotsb used las
       let y : x - 1 + 1 ≡ x = omega arith in
       ap (λ (i : ℕ). soundb (get_or sets i [])) (sym y) ∙ (and-true (soundb (get_or sets (x - 1 + 1) [])) _ (allb-at _ _ all_slots (x - 1) (omega arith))).0
 
-  pub birth-rise : (x : ℕ) → x < used → birthAt entries x < birthAt entries (x + 1)
+  pub birth-rise : (x : ℕ) → x < used → birth_at entries x < birth_at entries (x + 1)
   birth-rise x h = ltb-true _ _ (and-true (soundb (get_or sets (x + 1) [])) _ (allb-at _ _ all_slots x h)).1
 
   pub slot-sizes : (x : ℕ) → 1 ≤ x → x ≤ used → (1 ≤ size (get_or sets x [])) × (size (get_or sets x []) ≤ 8)
   slot-sizes x h k = (sound-some (get_or sets x []) (slot-sound x h k), sound-few (get_or sets x []) (slot-sound x h k))
 
 -- what right places say
-module _ (used : ℕ) (sets : List (List ℕ)) (order : List ℕ) (e : allb used (placeAt sets order used) ≡ true) where
+module _ (used : ℕ) (sets : List (List ℕ)) (order : List ℕ) (e : allb used (place_at sets order used) ≡ true) where
   halves : (k : ℕ) → k < used → ((leb 1 (get_or order k 0) && leb (get_or order k 0) used) ≡ true) × ((eqb k 0 || below (cmp (set_at sets (get_or order (k - 1) 0)) (set_at sets (get_or order k 0)))) ≡ true)
   halves k h = and-true (leb 1 (get_or order k 0) && leb (get_or order k 0) used) _ (allb-at _ _ e k h)
 

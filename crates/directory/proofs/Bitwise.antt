@@ -2,7 +2,7 @@
 use Rattle.std.proofs.Common.{◌≡◌, ℕ, zero, suc, ◌+◌, ◌-◌, ◌*◌, ◌/◌, ◌<◌, ◌≤◌, true, List, get_or, sym, ◌∙◌, arith, ltb-true, lt-ltb}
 use lib.Bits.{bit_and, bit_or, bit_xor, or_add_and, xor_add_and, and_le_l, and_le_r, xor_shr}
 use Rattle.sets.specs.Rows.{size, key_at, soundb}
-use Rattle.directory.specs.Inner.{joinAt, joined, SameKeys}
+use Rattle.directory.specs.Inner.{join_at, joined, SameKeys}
 use Rattle.sets.proofs.Alls.{allb-yes}
 use Rattle.sets.proofs.Keyed.{sound-some, sound-few, sound-keys, key-rise}
 
@@ -41,7 +41,7 @@ nine P p0 p1 p2 p3 p4 p5 p6 p7 p8 (suc (suc (suc (suc (suc (suc (suc (suc (suc j
 
 -- joined bits hold those of d and of the two rows' difference
 module _ (d a b : List ℕ) where
-  each : (j : ℕ) → (get_or d j 0 ≤ joinAt d a b j) × (bit_xor (get_or a j 0) (get_or b j 0) ≤ joinAt d a b j)
+  each : (j : ℕ) → (get_or d j 0 ≤ join_at d a b j) × (bit_xor (get_or a j 0) (get_or b j 0) ≤ join_at d a b j)
   each j = or-both (get_or d j 0) (bit_xor (get_or a j 0) (get_or b j 0))
 
   pub joined-each : (j : ℕ) → j < 9 → (get_or d j 0 ≤ get_or (joined d a b) j 0) × (bit_xor (get_or a j 0) (get_or b j 0) ≤ get_or (joined d a b) j 0)

@@ -1,10 +1,10 @@
 -- Turns of the scan for a handle, and the cases of where a call goes. Assumes nothing.
 use Rattle.std.proofs.Common.{◌≡◌, ℕ, ◌+◌, ◌-◌, ◌<◌, ◌≤◌, Bool, true, false, ◌&&◌, eqb, ltb, List, [], ◌∷◌, get_or, sym, refl, subst, arith, ltb-true, le-ltb, lt-ltb, eq-eqb, ne_eqb}
 use Rattle.laws.proofs.Cases.{and-true}
-use Rattle.sets.specs.Rows.{span, setOf}
+use Rattle.sets.specs.Rows.{span, set_of}
 use Rattle.sets.proofs.Spans.{span_more, span_none, span-all}
-use Rattle.directory.specs.Calls.{overRow, scan, located}
-use Rattle.directory.specs.View.{Stores, birthAt, agreesb, sought}
+use Rattle.directory.specs.Calls.{over_row, scan, located}
+use Rattle.directory.specs.View.{Stores, birth_at, agreesb, sought}
 use Rattle.directory.specs.declared.Directory.{Directory}
 use Rattle.directory.specs.declared.Found.TheVariants.{Held, Room}
 use Rattle.directory.specs.declared.Target.TheVariants.{Old, New, Over}
@@ -51,32 +51,32 @@ room-no : {A : Type 0} (r x : ℕ) → Room r ≡ Held x → A
 room-no r x e = let z : ◌≡◌ {A = ℕ} 0 1 = cc in absurd (omega arith)
 
 module _ (h : ℕ) (entries : List (List ℕ)) (x : ℕ) where
-  bound-step : (b : Bool) (y : ℕ) (l : List ℕ) → b ≡ (eqb (birthAt entries y) h && ltb 0 (get_or (get_or entries y []) 1 0)) → (scan h entries l ≡ Held x → 0 < get_or (get_or entries x []) 1 0) → pick b (Held y) (scan h entries l) ≡ Held x → 0 < get_or (get_or entries x []) 1 0
+  bound-step : (b : Bool) (y : ℕ) (l : List ℕ) → b ≡ (eqb (birth_at entries y) h && ltb 0 (get_or (get_or entries y []) 1 0)) → (scan h entries l ≡ Held x → 0 < get_or (get_or entries x []) 1 0) → pick b (Held y) (scan h entries l) ≡ Held x → 0 < get_or (get_or entries x []) 1 0
   unfolding pick
   bound-step true y l t k e =
-      subst (λ (j : ℕ). 0 < get_or (get_or entries j []) 1 0) (held-is y x e) (ltb-true 0 (get_or (get_or entries y []) 1 0) (and-true (eqb (birthAt entries y) h) (ltb 0 (get_or (get_or entries y []) 1 0)) (sym t)).1)
+      subst (λ (j : ℕ). 0 < get_or (get_or entries j []) 1 0) (held-is y x e) (ltb-true 0 (get_or (get_or entries y []) 1 0) (and-true (eqb (birth_at entries y) h) (ltb 0 (get_or (get_or entries y []) 1 0)) (sym t)).1)
   bound-step false y l t k e = k e
 
   pub scan-bound : (l : List ℕ) → scan h entries l ≡ Held x → 0 < get_or (get_or entries x []) 1 0
   scan-bound [] e = room-no 0 x e
-  scan-bound (y ∷ l) e = bound-step (eqb (birthAt entries y) h && ltb 0 (get_or (get_or entries y []) 1 0)) y l refl (scan-bound l) e
+  scan-bound (y ∷ l) e = bound-step (eqb (birth_at entries y) h && ltb 0 (get_or (get_or entries y []) 1 0)) y l refl (scan-bound l) e
 
 -- where a call goes
 module _ (limit : ℕ) (d : Directory) (s : Stores) (row : List ℕ) where
   module _ (g : agreesb limit d s ≡ true) where
-    pub located-old : (x : ℕ) → sought (setOf row) d.used s.sets s.order ≡ Held x → located limit d s row ≡ Old x
+    pub located-old : (x : ℕ) → sought (set_of row) d.used s.sets s.order ≡ Held x → located limit d s row ≡ Old x
     unfolding located pick
     located-old x e = rw (g, e)
 
-    module _ (r : ℕ) (e : sought (setOf row) d.used s.sets s.order ≡ Room r) where
+    module _ (r : ℕ) (e : sought (set_of row) d.used s.sets s.order ≡ Room r) where
       pub located-new : d.count < limit → located limit d s row ≡ New r
       unfolding located pick
       located-new h = rw (g, e, lt-ltb d.count limit h)
 
-      pub located-over-old : limit ≤ d.count → (x : ℕ) → sought (setOf overRow) d.used s.sets s.order ≡ Held x → located limit d s row ≡ Old x
+      pub located-over-old : limit ≤ d.count → (x : ℕ) → sought (set_of over_row) d.used s.sets s.order ≡ Held x → located limit d s row ≡ Old x
       unfolding located pick
       located-over-old h x o = rw (g, e, le-ltb d.count limit h, o)
 
-      pub located-over : limit ≤ d.count → (q : ℕ) → sought (setOf overRow) d.used s.sets s.order ≡ Room q → located limit d s row ≡ Over q
+      pub located-over : limit ≤ d.count → (q : ℕ) → sought (set_of over_row) d.used s.sets s.order ≡ Room q → located limit d s row ≡ Over q
       unfolding located pick
       located-over h q o = rw (g, e, le-ltb d.count limit h, o)

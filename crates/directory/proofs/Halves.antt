@@ -2,8 +2,8 @@
 use Rattle.std.proofs.Common.{◌≡◌, ℕ, zero, suc, ◌+◌, ◌-◌, ◌<◌, ◌≤◌, List, [], get_or, sym, refl, ap, ◌∙◌, subst, ⊎_elim, eq-or-lt_of_le, add-one, arith}
 use Prim.Native.Nat.{Ordering}
 use Rattle.tally.specs.Sets.{Set, cmp}
-use Rattle.tally.proofs.Order.{cmp-trans, cmp-eq, gt-lt, lt-gt}
-use Rattle.sets.specs.Rows.{span, setOf}
+use Rattle.tally.proofs.Order.{cmp-trans, cmp-eq, gt-lt, lt_gt}
+use Rattle.sets.specs.Rows.{span, set_of}
 use Rattle.directory.specs.View.{seek}
 use Rattle.directory.specs.declared.Found.TheVariants.{Held, Room}
 use Rattle.directory.proofs.Checks.{seek-over, seek-low, seek-here, seek-on}
@@ -11,7 +11,7 @@ use Rattle.directory.proofs.Checks.{seek-over, seek-low, seek-here, seek-on}
 module _ (w : Set) (used : ℕ) (sets : List (List ℕ)) (order : List ℕ) where
   -- the set at a place
   abbrev pub at : ℕ → Set
-  at k = setOf (get_or sets (get_or order k 0) [])
+  at k = set_of (get_or sets (get_or order k 0) [])
 
   module _ (rise : (k : ℕ) → suc k < used → cmp (at k) (at (suc k)) ≡ Ordering.lt) where
     climb : (j k : ℕ) → j + suc k < used → cmp (at j) (at (j + suc k)) ≡ Ordering.lt
@@ -30,7 +30,7 @@ module _ (w : Set) (used : ℕ) (sets : List (List ℕ)) (order : List ℕ) wher
     pub beneath : (m : ℕ) → m < used → cmp w (at m) ≡ Ordering.gt → (k : ℕ) → k < m + 1 → cmp w (at k) ≡ Ordering.gt
     beneath m u g k h =
         ⊎_elim (λ e. subst (λ (n : ℕ). cmp w (at n) ≡ Ordering.gt) (sym e) g)
-        (λ l. lt-gt (at k) w (cmp-trans (at k) (at m) w (rises k m l u) (gt-lt w (at m) g)))
+        (λ l. lt_gt (at k) w (cmp-trans (at k) (at m) w (rises k m l u) (gt-lt w (at m) g)))
         (eq-or-lt_of_le (let z : k ≤ m = omega arith in z))
 
     -- and one before it is before all behind it
@@ -59,4 +59,4 @@ module _ (w : Set) (used : ℕ) (sets : List (List ℕ)) (order : List ℕ) wher
 
   pub held-at : (rise : (k : ℕ) → suc k < used → cmp (at k) (at (suc k)) ≡ Ordering.lt) (slots : (k : ℕ) → k < used → (1 ≤ get_or order k 0) × (get_or order k 0 ≤ used)) (m : ℕ) → m < used → cmp w (at m) ≡ Ordering.eq → seek w sets (span order 0 (used - 0)) 0 ≡ Held (get_or order m 0)
   held-at rise slots m u e =
-      seek-held-at slots m u (λ k l. lt-gt (at k) w (subst (λ r. cmp (at k) r ≡ Ordering.lt) (sym (cmp-eq w (at m) e)) (rises rise k m l u))) e
+      seek-held-at slots m u (λ k l. lt_gt (at k) w (subst (λ r. cmp (at k) r ≡ Ordering.lt) (sym (cmp-eq w (at m) e)) (rises rise k m l u))) e

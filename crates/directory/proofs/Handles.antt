@@ -5,7 +5,7 @@ use Rattle.laws.specs.Pick.{pick}
 use Rattle.laws.proofs.Cases.{and-true, true-not-false}
 use Rattle.directory.specs.Calls.{scan}
 use Rattle.directory.specs.Inner.{BirthsRise, LastBorn}
-use Rattle.directory.specs.View.{Stores, birthAt, agreesb}
+use Rattle.directory.specs.View.{Stores, birth_at, agreesb}
 use Rattle.directory.specs.declared.Directory.{Directory}
 use Rattle.directory.specs.declared.Found.TheVariants.{Held, Room}
 use Rattle.directory.proofs.Births.{born-only}
@@ -15,7 +15,7 @@ use Rattle.directory.proofs.Rises.{In}
 use Rattle.directory.proofs.Sentence.{own-birth}
 
 abbrev named : ℕ → List (List ℕ) → ℕ → Bool
-named h entries y = eqb (birthAt entries y) h && ltb 0 (get_or (get_or entries y []) 1 0)
+named h entries y = eqb (birth_at entries y) h && ltb 0 (get_or (get_or entries y []) 1 0)
 
 module _ (h : ℕ) (entries : List (List ℕ)) (x : ℕ) where
   step : (b : Bool) (y : ℕ) (l : List ℕ) → (b ≡ true → y ≡ x) → (b ≡ false → scan h entries l ≡ Held x) → pick b (Held y) (scan h entries l) ≡ Held x
@@ -34,17 +34,17 @@ unfolding pick
 scan-none h entries [] f = refl
 scan-none h entries (y ∷ l) f = rw (f y (inl refl)) (scan-none h entries l (λ z m. f z (inr m)))
 
-born : (h : ℕ) (entries : List (List ℕ)) (y : ℕ) → named h entries y ≡ true → birthAt entries y ≡ h
-born h entries y q = eqb-true _ _ (and-true (eqb (birthAt entries y) h) _ q).0
+born : (h : ℕ) (entries : List (List ℕ)) (y : ℕ) → named h entries y ≡ true → birth_at entries y ≡ h
+born h entries y q = eqb-true _ _ (and-true (eqb (birth_at entries y) h) _ q).0
 
 module _ (limit : ℕ) (d : Directory) (s : Stores) (g : agreesb limit d s ≡ true) (h : ℕ) where
-  slot-in : (x : ℕ) → x ≤ d.used → In x (slots_of d s)
-  slot-in zero u = inl refl
-  slot-in (suc x) u = inr (covers limit d s g (suc x) (omega arith) u)
+  slot_in : (x : ℕ) → x ≤ d.used → In x (slots_of d s)
+  slot_in zero u = inl refl
+  slot_in (suc x) u = inr (covers limit d s g (suc x) (omega arith) u)
 
   pub scan-own : (x : ℕ) → x ≤ d.used → named h s.entries x ≡ true → scan h s.entries (slots_of d s) ≡ Held x
   scan-own x u e =
-      scan-only h s.entries x e (slots_of d s) (slot-in x u)
+      scan-only h s.entries x e (slots_of d s) (slot_in x u)
       (λ y m q. own-birth limit d s g y x (slot-used limit d s g y m) u (born h s.entries y q ∙ sym (born h s.entries x e)))
 
   -- where birth numbers rise, the last slot that was born by h is the only one that the handle can name

@@ -12,13 +12,13 @@ use Rattle.sets.specs.Inserted.{inserted}
 use Rattle.sets.specs.Rows.{span, soundb}
 use Rattle.sets.proofs.Alls.{allb-yes}
 use Rattle.sets.proofs.Spans.{span-inserted, span-length}
-use Rattle.directory.specs.Calls.{admitted, boundTo}
-use Rattle.directory.specs.View.{Stores, Laid, set_at, birthAt, slot_at, placeAt, plainly, slotsb, countsb, agreesb, entry_at, view}
+use Rattle.directory.specs.Calls.{admitted, bound_to}
+use Rattle.directory.specs.View.{Stores, Laid, set_at, birth_at, slot_at, place_at, plainly, slotsb, countsb, agreesb, entry_at, view}
 use Rattle.directory.specs.declared.Directory.{Directory}
 use Rattle.directory.proofs.Agreed.{slot-sound, birth-rise, last-birth, place-slot}
 use Rattle.directory.proofs.Checks.{birth-named}
 use Rattle.directory.proofs.Laws.{slots_of, slots-right, places-right}
-use Rattle.directory.proofs.Rises.{span-in, In, keys-map}
+use Rattle.directory.proofs.Rises.{span_in, In, keys-map}
 
 pub laid : (limit : ℕ) (d : Directory) (s : Stores) → agreesb limit d s ≡ true → Laid d s
 laid limit d s g =
@@ -82,12 +82,12 @@ module _ (K : Kind) (f : ℕ → K.Series) (z : K.Settings) (c : Config K) (d : 
   unfolding slotsb
   slots-ok =
       let t : allb d.used (slot_at s.sets s.entries) ≡ true = allb-yes (slot_at s.sets s.entries) d.used (λ x h. one x h) in
-      rw (t, le-leb (birthAt s.entries d.used) d.last a.last)
+      rw (t, le-leb (birth_at s.entries d.used) d.last a.last)
     where
       one : (x : ℕ) → x < d.used → slot_at s.sets s.entries x ≡ true
-      one x h = rw (a.sound x h, lt-ltb (birthAt s.entries x) (birthAt s.entries (x + 1)) (a.birth x h))
+      one x h = rw (a.sound x h, lt-ltb (birth_at s.entries x) (birth_at s.entries (x + 1)) (a.birth x h))
 
-  place_ok : (k : ℕ) → k < d.used → placeAt s.sets s.order d.used k ≡ true
+  place_ok : (k : ℕ) → k < d.used → place_at s.sets s.order d.used k ≡ true
   place_ok zero h = let p = a.slots zero h in rw (le-leb 1 (get_or s.order zero 0) p.0, le-leb (get_or s.order zero 0) d.used p.1)
   place_ok (suc k) h =
       let p = a.slots (suc k) h in
@@ -114,12 +114,12 @@ module _ (K : Kind) (f : ℕ → K.Series) (z : K.Settings) (c : Config K) (d : 
   pub laid-agrees : agreesb c.limit d s ≡ true
   unfolding agreesb
   laid-agrees =
-      let p : allb d.used (placeAt s.sets s.order d.used) ≡ true = allb-yes (placeAt s.sets s.order d.used) d.used place_ok in
+      let p : allb d.used (place_at s.sets s.order d.used) ≡ true = allb-yes (place_at s.sets s.order d.used) d.used place_ok in
       rw (le-leb d.used (c.limit + 1) used-few, slots-ok, p, counts-ok)
 
 -- another row in a slot, with its birth number, leaves them all
 pub birth-set : (entries : List (List ℕ)) (x y : ℕ) (new : List ℕ) → x < length entries → get_or new 0 0 ≡ get_or (get_or entries x []) 0 0
-    → birthAt (set entries x new) y ≡ birthAt entries y
+    → birth_at (set entries x new) y ≡ birth_at entries y
 birth-set entries x zero new h b = refl
 birth-set entries x (suc y) new h b = go (eqb (suc y) x) refl
   where
@@ -128,9 +128,9 @@ birth-set entries x (suc y) new h b = go (eqb (suc y) x) refl
     go false e = ap (λ r. get_or r 0 0) (get_or-set_other entries x (suc y) new [] (eqb-false (suc y) x e))
 
 -- and where they stay, the layout does
-pub laid-births : (d : Directory) (s : Stores) (entries : List (List ℕ)) → ((y : ℕ) → birthAt entries y ≡ birthAt s.entries y) → Laid d s
+pub laid_births : (d : Directory) (s : Stores) (entries : List (List ℕ)) → ((y : ℕ) → birth_at entries y ≡ birth_at s.entries y) → Laid d s
     → Laid d (record { sets = s.sets; entries = entries; order = s.order })
-laid-births d s entries k a =
+laid_births d s entries k a =
     record {
       sound = a.sound;
       birth = λ y u. rw (k y, k (y + 1)) (a.birth y u);
@@ -139,12 +139,12 @@ laid-births d s entries k a =
     }
 
 -- other bindings
-pub birth-kept : (entries : List (List ℕ)) (x n y : ℕ) → x < length entries → birthAt (boundTo entries x n) y ≡ birthAt entries y
-unfolding boundTo
+pub birth-kept : (entries : List (List ℕ)) (x n y : ℕ) → x < length entries → birth_at (bound_to entries x n) y ≡ birth_at entries y
+unfolding bound_to
 birth-kept entries x n y h = birth-set entries x y (get_or (get_or entries x []) 0 0 ∷ n ∷ get_or (get_or entries x []) 2 0 ∷ []) h refl
 
-pub laid-rebind : (d : Directory) (s : Stores) (x n : ℕ) → x < length s.entries → Laid d s → Laid d (record { sets = s.sets; entries = boundTo s.entries x n; order = s.order })
-laid-rebind d s x n h a = laid-births d s (boundTo s.entries x n) (λ y. birth-kept s.entries x n y h) a
+pub laid_rebind : (d : Directory) (s : Stores) (x n : ℕ) → x < length s.entries → Laid d s → Laid d (record { sets = s.sets; entries = bound_to s.entries x n; order = s.order })
+laid_rebind d s x n h a = laid_births d s (bound_to s.entries x n) (λ y. birth-kept s.entries x n y h) a
 
 -- a new entry extends it
 in_span : (l : List ℕ) (i n k : ℕ) → k < n → In (get_or l (i + k) 0) (span l i n)
@@ -152,31 +152,31 @@ in_span l i zero k h = absurd (omega arith)
 in_span l i (suc n) zero h = let e : i + 0 ≡ i = omega arith in inl (ap (λ (j : ℕ). get_or l j 0) e)
 in_span l i (suc n) (suc k) h = let e : suc i + k ≡ i + suc k = omega arith in inr (subst (λ (j : ℕ). In (get_or l j 0) (span l (suc i) n)) e (in_span l (suc i) n k (omega arith)))
 
-pub in-around : (l : List ℕ) (r x y : ℕ) → In y (take r l ++ (x ∷ drop r l)) → (y ≡ x) ⊎ In y l
-in-around [] zero x y m = m
-in-around [] (suc r) x y m = m
-in-around (a ∷ l) zero x y m = m
-in-around (a ∷ l) (suc r) x y m = ⊎_elim (λ e. inr (inl e)) (λ n. ⊎_elim (λ e. inl e) (λ q. inr (inr q)) (in-around l r x y n)) m
+pub in_around : (l : List ℕ) (r x y : ℕ) → In y (take r l ++ (x ∷ drop r l)) → (y ≡ x) ⊎ In y l
+in_around [] zero x y m = m
+in_around [] (suc r) x y m = m
+in_around (a ∷ l) zero x y m = m
+in_around (a ∷ l) (suc r) x y m = ⊎_elim (λ e. inr (inl e)) (λ n. ⊎_elim (λ e. inl e) (λ q. inr (inr q)) (in_around l r x y n)) m
 
 -- the birth numbers then
 module _ (d : Directory) (s : Stores) (b : ℕ) where
   abbrev pub entered : List (List ℕ)
   entered = set s.entries (d.used + 1) ((d.last + 1) ∷ b ∷ 0 ∷ [])
 
-  pub old-birth : (y : ℕ) → y ≤ d.used → birthAt entered y ≡ birthAt s.entries y
+  pub old-birth : (y : ℕ) → y ≤ d.used → birth_at entered y ≡ birth_at s.entries y
   old-birth zero h = refl
   old-birth (suc y) h = ap (λ t. get_or t 0 0) (get_or-set_other s.entries (d.used + 1) (suc y) ((d.last + 1) ∷ b ∷ 0 ∷ []) [] (λ e. omega arith))
 
-  pub new-birth : d.used + 1 < length s.entries → birthAt entered (d.used + 1) ≡ d.last + 1
+  pub new-birth : d.used + 1 < length s.entries → birth_at entered (d.used + 1) ≡ d.last + 1
   new-birth le = birth-named entered (d.used + 1) (omega arith) ∙ ap (λ t. get_or t 0 0) (get_or-set_same s.entries (d.used + 1) ((d.last + 1) ∷ b ∷ 0 ∷ []) [] le)
 
 module _ (d : Directory) (s : Stores) (row : List ℕ) (r more b : ℕ) (ls : d.used + 1 < length s.sets) (le : d.used + 1 < length s.entries) (lo : d.used < length s.order) (rank : r ≤ d.used) (good : soundb row ≡ true) (a : Laid d s) where
   abbrev entries' : List (List ℕ)
   entries' = entered d s b
 
-  pub laid-admit : Laid (admitted d s row r more b).dir (admitted d s row r more b).stores
+  pub laid_admit : Laid (admitted d s row r more b).dir (admitted d s row r more b).stores
   unfolding admitted
-  laid-admit = record { sound = sound; birth = birth; last = last; slots = slots }
+  laid_admit = record { sound = sound; birth = birth; last = last; slots = slots }
     where
       sound : (x : ℕ) → x < d.used + 1 → soundb (get_or (set s.sets (d.used + 1) row) (x + 1) []) ≡ true
       sound x h =
@@ -184,13 +184,13 @@ module _ (d : Directory) (s : Stores) (row : List ℕ) (r more b : ℕ) (ls : d.
           (λ u. ap soundb (get_or-set_other s.sets (d.used + 1) (x + 1) row [] (λ e. omega arith)) ∙ a.sound x u)
           (eq-or-lt_of_le (let w : x ≤ d.used = omega arith in w))
 
-      birth : (x : ℕ) → x < d.used + 1 → birthAt entries' x < birthAt entries' (x + 1)
+      birth : (x : ℕ) → x < d.used + 1 → birth_at entries' x < birth_at entries' (x + 1)
       birth x h =
-          ⊎_elim (λ e. subst (λ (i : ℕ). birthAt entries' i < birthAt entries' (i + 1)) (sym e) (omega (arith, old-birth d s b d.used (omega arith), new-birth d s b le, a.last)))
+          ⊎_elim (λ e. subst (λ (i : ℕ). birth_at entries' i < birth_at entries' (i + 1)) (sym e) (omega (arith, old-birth d s b d.used (omega arith), new-birth d s b le, a.last)))
           (λ u. omega (arith, old-birth d s b x (omega arith), old-birth d s b (x + 1) (omega arith), a.birth x u))
           (eq-or-lt_of_le (let w : x ≤ d.used = omega arith in w))
 
-      last : birthAt entries' (d.used + 1) ≤ d.last + 1
+      last : birth_at entries' (d.used + 1) ≤ d.last + 1
       last = omega (arith, new-birth d s b le)
 
       slots : (k : ℕ) → k < d.used + 1 → (1 ≤ get_or (inserted s.order d.used r (d.used + 1)) k 0) × (get_or (inserted s.order d.used r (d.used + 1)) k 0 ≤ d.used + 1)
@@ -200,5 +200,5 @@ module _ (d : Directory) (s : Stores) (row : List ℕ) (r more b : ℕ) (ls : d.
           let m : In (get_or o k 0) (span o 0 (d.used + 1)) = subst (λ (j : ℕ). In (get_or o j 0) (span o 0 (d.used + 1))) e (in_span o 0 (d.used + 1) k h) in
           let n : In (get_or o k 0) (take r (span s.order 0 d.used) ++ ((d.used + 1) ∷ drop r (span s.order 0 d.used))) = subst (In (get_or o k 0)) (span-inserted s.order d.used r (d.used + 1) rank lo) m in
           ⊎_elim (λ q. (omega arith, omega arith))
-          (λ q. let w = span-in (λ (y : ℕ). (1 ≤ y) × (y ≤ d.used)) s.order 0 d.used (λ j u v. a.slots j (omega arith)) (get_or o k 0) q in (w.0, omega (arith, w.1)))
-          (in-around (span s.order 0 d.used) r (d.used + 1) (get_or o k 0) n)
+          (λ q. let w = span_in (λ (y : ℕ). (1 ≤ y) × (y ≤ d.used)) s.order 0 d.used (λ j u v. a.slots j (omega arith)) (get_or o k 0) q in (w.0, omega (arith, w.1)))
+          (in_around (span s.order 0 d.used) r (d.used + 1) (get_or o k 0) n)

@@ -7,19 +7,19 @@ use Rattle.tally.specs.Kind.{Kind}
 use Rattle.tally.specs.Map.{Entry, named}
 use Rattle.tally.proofs.MapSteps.{put, rebound}
 use Rattle.laws.proofs.Cases.{lt-not-eq}
-use Rattle.tally.proofs.Order.{lt-gt, cmp-self}
+use Rattle.tally.proofs.Order.{lt_gt, cmp-self}
 use Rattle.laws.proofs.Cases.{and-true}
 use Rattle.sets.specs.All.{allb}
-use Rattle.sets.specs.Rows.{span, setOf}
+use Rattle.sets.specs.Rows.{span, set_of}
 use Rattle.sets.proofs.Keyed.{after-empty}
-use Rattle.directory.specs.Calls.{boundTo, scan}
-use Rattle.directory.specs.View.{Stores, set_at, birthAt, placeAt, slotsb, agreesb, entry_at}
+use Rattle.directory.specs.Calls.{bound_to, scan}
+use Rattle.directory.specs.View.{Stores, set_at, birth_at, place_at, slotsb, agreesb, entry_at}
 use Rattle.directory.specs.declared.Directory.{Directory}
 use Rattle.directory.specs.declared.Found.{Found}
 use Rattle.directory.specs.declared.Found.TheVariants.{Held, Room}
 use Rattle.directory.proofs.Agreed.{slot-sizes, place-slot, place-rise}
 use Rattle.directory.proofs.Checks.{set-named}
-use Rattle.directory.proofs.Rises.{In, rising-span, above-span, span-in}
+use Rattle.directory.proofs.Rises.{In, rising-span, above-span, span_in}
 use Rattle.laws.specs.Pick.{pick}
 
 -- the slots of a directory, ascending by set
@@ -36,9 +36,9 @@ module _ (limit : ℕ) (d : Directory) (s : Stores) (g : agreesb limit d s ≡ t
   unfolding agreesb
   slots-right = (and-true (slotsb d.used d.last s.sets s.entries) _ (and-true (leb d.used (limit + 1)) _ g).1).0
 
-  pub places-right : allb d.used (placeAt s.sets s.order d.used) ≡ true
+  pub places-right : allb d.used (place_at s.sets s.order d.used) ≡ true
   unfolding agreesb
-  places-right = (and-true (allb d.used (placeAt s.sets s.order d.used)) _ (and-true (slotsb d.used d.last s.sets s.entries) _ (and-true (leb d.used (limit + 1)) _ g).1).1).0
+  places-right = (and-true (allb d.used (place_at s.sets s.order d.used)) _ (and-true (slotsb d.used d.last s.sets s.entries) _ (and-true (leb d.used (limit + 1)) _ g).1).1).0
 
   -- its sets ascend
   pub ascends : Rising (map (set_at s.sets) (slots_of d s))
@@ -53,12 +53,12 @@ module _ (limit : ℕ) (d : Directory) (s : Stores) (g : agreesb limit d s ≡ t
           rw (set-named s.sets (get_or s.order j 0) p.0) (after-empty (get_or s.sets (get_or s.order j 0) []) (slot-sizes d.used d.last s.sets s.entries slots-right (get_or s.order j 0) p.0 p.1).0)
 
 -- the sets at the places, as rows
-pub place-climb : (used : ℕ) (sets : List (List ℕ)) (order : List ℕ) → allb used (placeAt sets order used) ≡ true → (k : ℕ) → suc k < used
-    → cmp (setOf (get_or sets (get_or order k 0) [])) (setOf (get_or sets (get_or order (suc k) 0) [])) ≡ Ordering.lt
+pub place-climb : (used : ℕ) (sets : List (List ℕ)) (order : List ℕ) → allb used (place_at sets order used) ≡ true → (k : ℕ) → suc k < used
+    → cmp (set_of (get_or sets (get_or order k 0) [])) (set_of (get_or sets (get_or order (suc k) 0) [])) ≡ Ordering.lt
 place-climb used sets order e k h =
     let a = set-named sets (get_or order k 0) (place-slot used sets order e k (omega arith)).0 in
     let b = set-named sets (get_or order (suc k) 0) (place-slot used sets order e (suc k) h).0 in
-    ap (λ r. cmp r (setOf (get_or sets (get_or order (suc k) 0) []))) (sym a)
+    ap (λ r. cmp r (set_of (get_or sets (get_or order (suc k) 0) []))) (sym a)
     ∙ ap (λ r. cmp (set_at sets (get_or order k 0)) r) (sym b)
     ∙ place-rise used sets order e k h
 
@@ -90,21 +90,21 @@ module _ (K : Kind) (g : ℕ → Set) (E F : ℕ → Entry K) (own : (y : ℕ) �
 
       there : (In x l → map F l ≡ put K (F x) (map E l)) → In x l → map F (y ∷ l) ≡ put K (F x) (map E (y ∷ l))
       there k i =
-          let c : cmp (F x).set (E y).set ≡ Ordering.gt = ap (λ w. cmp w (E y).set) same ∙ ap (cmp (g x)) (own y) ∙ lt-gt (g y) (g x) (above_in g (g y) l x r.0 i) in
+          let c : cmp (F x).set (E y).set ≡ Ordering.gt = ap (λ w. cmp w (E y).set) same ∙ ap (cmp (g x)) (own y) ∙ lt_gt (g y) (g x) (above_in g (g y) l x r.0 i) in
           rw (c, o y (inl refl) (λ e. self x (sym e) i)) (ap (λ t. E y ∷ t) (k i))
 
 module _ (K : Kind) (f : ℕ → K.Series) (s : Stores) (x n : ℕ) where
   abbrev s' : Stores
-  s' = record { sets = s.sets; entries = boundTo s.entries x n; order = s.order }
+  s' = record { sets = s.sets; entries = bound_to s.entries x n; order = s.order }
 
   -- other slots' entries stay
   rebind-other : (y : ℕ) → (y ≡ x → ⊥) → entry_at K f s' y ≡ entry_at K f s y
-  unfolding boundTo
+  unfolding bound_to
   rebind-other zero h = rw (get_or-set_other s.entries x zero (get_or (get_or s.entries x []) 0 0 ∷ n ∷ get_or (get_or s.entries x []) 2 0 ∷ []) [] h)
   rebind-other (suc y) h = rw (get_or-set_other s.entries x (suc y) (get_or (get_or s.entries x []) 0 0 ∷ n ∷ get_or (get_or s.entries x []) 2 0 ∷ []) [] h)
 
   rebind-same : (y : ℕ) → y ≡ x → x < length s.entries → entry_at K f s' y ≡ rebound K (entry_at K f s y) n
-  unfolding boundTo
+  unfolding bound_to
   rebind-same zero e h = rw (← e, get_or-set_same s.entries zero (get_or (get_or s.entries zero []) 0 0 ∷ n ∷ get_or (get_or s.entries zero []) 2 0 ∷ []) [] (rw (← e) at h))
   rebind-same (suc y) e h = rw (← e, get_or-set_same s.entries (suc y) (get_or (get_or s.entries (suc y) []) 0 0 ∷ n ∷ get_or (get_or s.entries (suc y) []) 2 0 ∷ []) [] (rw (← e) at h))
 
@@ -128,7 +128,7 @@ module _ (K : Kind) (f : ℕ → K.Series) (s : Stores) (h : ℕ) where
 
   pub named-scan : (l : List ℕ) → named K h (map (entry_at K f s) l) ≡ entry_of (scan h s.entries l)
   named-scan [] = refl
-  named-scan (y ∷ l) = named_step (eqb (birthAt s.entries y) h && ltb 0 (get_or (get_or s.entries y []) 1 0)) y l (named-scan l)
+  named-scan (y ∷ l) = named_step (eqb (birth_at s.entries y) h && ltb 0 (get_or (get_or s.entries y []) 1 0)) y l (named-scan l)
 
 held-is : (x y : ℕ) → Held x ≡ Held y → x ≡ y
 held-is x y e = cc
@@ -142,12 +142,12 @@ module _ (h : ℕ) (entries : List (List ℕ)) (x : ℕ) where
   in_step true y l k e = inl (sym (held-is y x e))
   in_step false y l k e = inr (k e)
 
-  pub scan-in : (l : List ℕ) → scan h entries l ≡ Held x → In x l
-  scan-in [] e = room-no 0 x e
-  scan-in (y ∷ l) e = in_step (eqb (birthAt entries y) h && ltb 0 (get_or (get_or entries y []) 1 0)) y l (scan-in l) e
+  pub scan_in : (l : List ℕ) → scan h entries l ≡ Held x → In x l
+  scan_in [] e = room-no 0 x e
+  scan_in (y ∷ l) e = in_step (eqb (birth_at entries y) h && ltb 0 (get_or (get_or entries y []) 1 0)) y l (scan_in l) e
 
 -- a slot of the directory is one of those used
 pub slot-used : (limit : ℕ) (d : Directory) (s : Stores) → agreesb limit d s ≡ true → (x : ℕ) → In x (slots_of d s) → x ≤ d.used
 slot-used limit d s g x m =
     ⊎_elim (λ e. omega arith)
-    (λ i. span-in (λ (y : ℕ). y ≤ d.used) s.order 0 d.used (λ j a b. (place-slot d.used s.sets s.order (places-right limit d s g) j (omega arith)).1) x i) m
+    (λ i. span_in (λ (y : ℕ). y ≤ d.used) s.order 0 d.used (λ j a b. (place-slot d.used s.sets s.order (places-right limit d s g) j (omega arith)).1) x i) m

@@ -1,10 +1,10 @@
 -- What a call leaves of the directory: stores as long as they were, each slot's set and birth number, unspent numbers for new slots; and a
 -- state that a run comes by. Assumes nothing.
 use Rattle.std.proofs.Common.{◌≡◌, ℕ, zero, suc, ◌+◌, ◌^◌, ◌<◌, ◌≤◌, true, List, [], ◌∷◌, length, set, refl, ap, ◌∙◌, subst, arith, length-set, get_or-set_other, le-leb}
-use Rattle.sets.specs.Rows.{setOf}
+use Rattle.sets.specs.Rows.{set_of}
 use Rattle.sets.proofs.Spans.{length_inserted}
-use Rattle.directory.specs.Calls.{Kept, admitted, boundTo, storesSuffice}
-use Rattle.directory.specs.View.{Stores, set_at, birthAt, agreesb}
+use Rattle.directory.specs.Calls.{Kept, admitted, bound_to, stores_suffice}
+use Rattle.directory.specs.View.{Stores, set_at, birth_at, agreesb}
 use Rattle.directory.specs.declared.Directory.{Directory}
 use Rattle.directory.proofs.Laid.{birth-kept, entered, old-birth, new-birth}
 use Rattle.directory.proofs.Refusals.{suffices}
@@ -17,14 +17,14 @@ pub record Leaves (d : Directory) (s : Stores) (k : Kept) : Type 0 where
   pub order : length k.stores.order ≡ length s.order
   pub last : k.dir.last < 2 ^ 64
   pub own : (x : ℕ) → x ≤ d.used → set_at k.stores.sets x ≡ set_at s.sets x
-  pub birth : (x : ℕ) → x ≤ d.used → birthAt k.stores.entries x ≡ birthAt s.entries x
-  pub newborn : (x : ℕ) → d.used < x → x ≤ k.dir.used → d.last < birthAt k.stores.entries x
+  pub birth : (x : ℕ) → x ≤ d.used → birth_at k.stores.entries x ≡ birth_at s.entries x
+  pub newborn : (x : ℕ) → d.used < x → x ≤ k.dir.used → d.last < birth_at k.stores.entries x
 
 module _ (d : Directory) (s : Stores) where
   -- other entries with the same birth numbers
-  pub births-leave : (k : Kept) (l : List (List ℕ)) → length l ≡ length k.stores.entries → ((y : ℕ) → birthAt l y ≡ birthAt k.stores.entries y) → Leaves d s k
+  pub births_leave : (k : Kept) (l : List (List ℕ)) → length l ≡ length k.stores.entries → ((y : ℕ) → birth_at l y ≡ birth_at k.stores.entries y) → Leaves d s k
       → Leaves d s (record { dir = k.dir; stores = record { sets = k.stores.sets; entries = l; order = k.stores.order } })
-  births-leave k l n b v =
+  births_leave k l n b v =
       record {
         sets = v.sets;
         entries = n ∙ v.entries;
@@ -40,18 +40,18 @@ module _ (d : Directory) (s : Stores) where
     same-leaves =
         record { sets = refl; entries = refl; order = refl; last = small; own = λ x h. refl; birth = λ x h. refl; newborn = λ x h k. absurd (omega arith) }
 
-    long-bound : (x n : ℕ) → length (boundTo s.entries x n) ≡ length s.entries
-    unfolding boundTo
+    long-bound : (x n : ℕ) → length (bound_to s.entries x n) ≡ length s.entries
+    unfolding bound_to
     long-bound x n = length-set s.entries x _
 
-    pub rebind-leaves : (x n : ℕ) → x < length s.entries → Leaves d s (record { dir = d; stores = record { sets = s.sets; entries = boundTo s.entries x n; order = s.order } })
+    pub rebind-leaves : (x n : ℕ) → x < length s.entries → Leaves d s (record { dir = d; stores = record { sets = s.sets; entries = bound_to s.entries x n; order = s.order } })
     rebind-leaves x n h =
-        births-leave (record { dir = d; stores = s }) (boundTo s.entries x n) (long-bound x n) (λ y. birth-kept s.entries x n y h) same-leaves
+        births_leave (record { dir = d; stores = s }) (bound_to s.entries x n) (long-bound x n) (λ y. birth-kept s.entries x n y h) same-leaves
 
   module _ (row : List ℕ) (r more b : ℕ) (ls : d.used + 1 < length s.sets) (le : d.used + 1 < length s.entries) (lo : d.used < length s.order) (rank : r ≤ d.used) (room : d.last < 18446744073709551615) where
     old-set : (x : ℕ) → x ≤ d.used → set_at (set s.sets (d.used + 1) row) x ≡ set_at s.sets x
     old-set zero h = refl
-    old-set (suc x) h = ap setOf (get_or-set_other s.sets (d.used + 1) (suc x) row [] (λ e. omega arith))
+    old-set (suc x) h = ap set_of (get_or-set_other s.sets (d.used + 1) (suc x) row [] (λ e. omega arith))
 
     pub admit-leaves : Leaves d s (admitted d s row r more b)
     unfolding admitted
@@ -63,13 +63,13 @@ module _ (d : Directory) (s : Stores) where
           last = omega arith;
           own = old-set;
           birth = old-birth d s b;
-          newborn = λ x h l. let e : d.used + 1 ≡ x = omega arith in subst (λ (y : ℕ). d.last < birthAt (entered d s b) y) e (omega (arith, new-birth d s b le));
+          newborn = λ x h l. let e : d.used + 1 ≡ x = omega arith in subst (λ (y : ℕ). d.last < birth_at (entered d s b) y) e (omega (arith, new-birth d s b le));
         }
 
 -- a state that a run comes by
 pub record Good (limit : ℕ) (k : Kept) : Type 0 where
   pub agrees : agreesb limit k.dir k.stores ≡ true
-  pub lent : storesSuffice limit k.stores ≡ true
+  pub lent : stores_suffice limit k.stores ≡ true
   pub last : k.dir.last < 2 ^ 64
 
 -- and the next one

@@ -5,13 +5,13 @@ use borrow.Author.Tests.{lt-leb, eqb-false}
 use lib.Bits.{bit_xor}
 use Rattle.laws.proofs.Cases.{and-true}
 use Rattle.tally.specs.Sets.{cmp}
-use Rattle.sets.specs.Rows.{size, setOf, soundb, below}
+use Rattle.sets.specs.Rows.{size, set_of, soundb, below}
 use Rattle.sets.proofs.Alls.{allb-yes}
 use Rattle.directory.proofs.Bitwise.{joined-each, word_same, size_same, sound-same}
 use Rattle.sets.proofs.Keyed.{sound-few}
 use Rattle.sets.proofs.Plains.{plain-many}
 use Rattle.directory.specs.View.{plainly}
-use Rattle.directory.specs.Inner.{placed, stepAt, joined, SameKeys, rowAt, Told, Alike}
+use Rattle.directory.specs.Inner.{placed, step_at, joined, SameKeys, row_at, Told, Alike}
 use Rattle.directory.specs.declared.Placed.TheVariants.{Plain}
 use Rattle.directory.proofs.Checks.{some, plainly-more, placed-yes, step-test}
 
@@ -46,11 +46,11 @@ module _ (sets : List (List ℕ)) (d : List ℕ) (n : ℕ) (r : List ℕ) (e : r
 -- what is known of a place that was passed
 abbrev pub Passed : ℕ → List (List ℕ) → List ℕ → ℕ → List ℕ → ℕ → Type 0
 Passed used sets order from d k =
-    (1 ≤ get_or order k 0) × (get_or order k 0 ≤ used) × Held sets d (get_or order k 0) × (1 ≤ k → Told (rowAt sets order (k - 1)) (rowAt sets order k) from)
+    (1 ≤ get_or order k 0) × (get_or order k 0 ≤ used) × Held sets d (get_or order k 0) × (1 ≤ k → Told (row_at sets order (k - 1)) (row_at sets order k) from)
 
-pub passed-more : (used : ℕ) (sets : List (List ℕ)) (order : List ℕ) (from : ℕ) (d r : List ℕ) (i : ℕ) → r ≡ joined d (rowAt sets order i) (get_or sets 1 [])
+pub passed-more : (used : ℕ) (sets : List (List ℕ)) (order : List ℕ) (from : ℕ) (d r : List ℕ) (i : ℕ) → r ≡ joined d (row_at sets order i) (get_or sets 1 [])
     → ((k : ℕ) → k < i → Passed used sets order from d k) → 1 ≤ get_or order i 0 → get_or order i 0 ≤ used
-    → (1 ≤ i → Told (rowAt sets order (i - 1)) (rowAt sets order i) from) → (k : ℕ) → k < i + 1 → Passed used sets order from r k
+    → (1 ≤ i → Told (row_at sets order (i - 1)) (row_at sets order i) from) → (k : ℕ) → k < i + 1 → Passed used sets order from r k
 passed-more used sets order from d r i e w a b t k h =
     ⊎_elim (λ q. subst (Passed used sets order from r) (sym q) (a, b, held_new sets d (get_or order i 0) r e, t))
     (λ u. let v = w k u in (v.0, v.1, held-old sets d (get_or order i 0) r e (get_or order k 0) v.2, v.3))
@@ -62,25 +62,25 @@ pub alike_is : (used : ℕ) (sets : List (List ℕ)) (order : List ℕ) (from : 
 alike_is used sets order from d w s sound few e =
     record {
       named = λ k h. ((w k h).0, (w k h).1);
-      sound = λ k h. sound-same (rowAt sets order k) (get_or sets 1 []) d (w k h).2 s sound;
-      long = λ k h. size_same (rowAt sets order k) (get_or sets 1 []) d (w k h).2 s;
-      word = λ k h j l. word_same (rowAt sets order k) (get_or sets 1 []) d (w k h).2 j (omega arith) (e j l);
+      sound = λ k h. sound-same (row_at sets order k) (get_or sets 1 []) d (w k h).2 s sound;
+      long = λ k h. size_same (row_at sets order k) (get_or sets 1 []) d (w k h).2 s;
+      word = λ k h j l. word_same (row_at sets order k) (get_or sets 1 []) d (w k h).2 j (omega arith) (e j l);
       told = λ k h. (w k h).3;
     }
 
 -- and so they ascend, and name plain sets
 module _ (used : ℕ) (sets : List (List ℕ)) (order : List ℕ) (from : ℕ) (a : Alike used sets order from) (many : 2 ≤ size (get_or sets 1 [])) (part : from < size (get_or sets 1 [])) where
-  lesser : (k : ℕ) → k < used → 1 ≤ k → cmp (setOf (rowAt sets order (k - 1))) (setOf (rowAt sets order k)) ≡ Ordering.lt
+  lesser : (k : ℕ) → k < used → 1 ≤ k → cmp (set_of (row_at sets order (k - 1))) (set_of (row_at sets order k)) ≡ Ordering.lt
   lesser k h l =
       let n = a.long k h in
       let m = a.long (k - 1) (omega arith) in
-      let f = sound-few (rowAt sets order (k - 1)) (a.sound (k - 1) (omega arith)) in
+      let f = sound-few (row_at sets order (k - 1)) (a.sound (k - 1) (omega arith)) in
       a.told k h l (omega (arith, m, part)) f (omega (arith, n, part)) (λ j u. a.word (k - 1) (omega arith) j u ∙ sym (a.word k h j u))
 
-  step : (k : ℕ) → k < used → stepAt sets order used k ≡ true
+  step : (k : ℕ) → k < used → step_at sets order used k ≡ true
   step k h = step-test sets order used k (get_or order (k - 1) 0) (a.named k h).0 (a.named k h).1 (λ n. let u = some k n in (refl, (a.named (k - 1) (omega arith)).0)) true (go (eqb k 0) refl)
     where
-      go : (b : Bool) → eqb k 0 ≡ b → true ≡ (soundb (rowAt sets order k) && (b || below (cmp (setOf (rowAt sets order (k - 1))) (setOf (rowAt sets order k)))))
+      go : (b : Bool) → eqb k 0 ≡ b → true ≡ (soundb (row_at sets order k) && (b || below (cmp (set_of (row_at sets order (k - 1))) (set_of (row_at sets order k)))))
       go true e = rw (a.sound k h)
       go false e = rw (a.sound k h, lesser k h (some k (eqb-false k 0 e)))
 
@@ -88,11 +88,11 @@ module _ (used : ℕ) (sets : List (List ℕ)) (order : List ℕ) (from : ℕ) (
   all_plain zero h = refl
   all_plain (suc i) h =
       let m = a.long i (omega arith) in
-      let q = plain-many (rowAt sets order i) (omega (arith, m, many)) (λ z. absurd (omega (arith, m, many, z))) in
+      let q = plain-many (row_at sets order i) (omega (arith, m, many)) (λ z. absurd (omega (arith, m, many, z))) in
       ap (plainly sets order) (sym (add-one i)) ∙ plainly-more sets order i (a.named i (omega arith)).0 ∙ sum _ _ (all_plain i (omega arith)) q
     where
       sum : (x y : ℕ) → x ≡ i → y ≡ 1 → x + y ≡ suc i
       sum x y p q = omega arith
 
   pub placed_alike : placed used sets order ≡ Plain used
-  placed_alike = placed-yes used sets order (allb-yes (stepAt sets order used) used step) ∙ ap Plain (all_plain used (omega arith))
+  placed_alike = placed-yes used sets order (allb-yes (step_at sets order used) used step) ∙ ap Plain (all_plain used (omega arith))

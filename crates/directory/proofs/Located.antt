@@ -7,15 +7,15 @@ use Rattle.tally.specs.Sets.{Set, overflow, three, cmp, same, mem, Rising, Above
 use Rattle.tally.specs.Kind.{Kind}
 use Rattle.tally.specs.Map.{Entry, Map, find, plain, plains, bit}
 use Rattle.tally.proofs.MapSteps.{new, held, place}
-use Rattle.tally.proofs.Order.{gt-lt, lt-gt, same-flip, same-eq}
+use Rattle.tally.proofs.Order.{gt-lt, lt_gt, same-flip, same-eq}
 use Rattle.laws.proofs.Cases.{true-not-false}
 use Rattle.tally.proofs.Rising.{above-trans, above-mem}
 use Rattle.laws.proofs.Cases.{and-true}
 use Rattle.sets.specs.All.{allb}
-use Rattle.sets.specs.Rows.{span, setOf, size, soundb}
+use Rattle.sets.specs.Rows.{span, set_of, size, soundb}
 use Rattle.sets.proofs.Keyed.{empty-row}
-use Rattle.directory.specs.Calls.{overRow, target_of, located}
-use Rattle.directory.specs.View.{Stores, set_at, placeAt, slotsb, agreesb, countsb, plainly, seek, sought, entry_at, view}
+use Rattle.directory.specs.Calls.{over_row, target_of, located}
+use Rattle.directory.specs.View.{Stores, set_at, place_at, slotsb, agreesb, countsb, plainly, seek, sought, entry_at, view}
 use Rattle.directory.specs.declared.Directory.{Directory}
 use Rattle.directory.specs.declared.Found.{Found}
 use Rattle.directory.specs.declared.Found.TheVariants.{Held, Room}
@@ -26,8 +26,8 @@ use Rattle.directory.proofs.Laws.{slots_of, few, slot-used, ascends}
 use Rattle.directory.proofs.Rises.{In, seek-held}
 use Rattle.laws.specs.Pick.{pick}
 
-pub over-set : setOf overRow ≡ overflow
-unfolding setOf
+pub over-set : set_of over_row ≡ overflow
+unfolding set_of
 over-set = refl
 
 -- what each target says
@@ -35,16 +35,16 @@ abbrev pub Facts : ℕ → Directory → Stores → List ℕ → Target → Type
 Facts limit d s row Disagrees = agreesb limit d s ≡ false
 Facts limit d s row (Old x) =
     (agreesb limit d s ≡ true)
-    × ((sought (setOf row) d.used s.sets s.order ≡ Held x)
-    ⊎ ((r : ℕ) × (sought (setOf row) d.used s.sets s.order ≡ Room r) × (ltb d.count limit ≡ false) × (sought (setOf overRow) d.used s.sets s.order ≡ Held x)))
+    × ((sought (set_of row) d.used s.sets s.order ≡ Held x)
+    ⊎ ((r : ℕ) × (sought (set_of row) d.used s.sets s.order ≡ Room r) × (ltb d.count limit ≡ false) × (sought (set_of over_row) d.used s.sets s.order ≡ Held x)))
 Facts limit d s row (New r) =
-    (agreesb limit d s ≡ true) × (sought (setOf row) d.used s.sets s.order ≡ Room r) × (ltb d.count limit ≡ true)
+    (agreesb limit d s ≡ true) × (sought (set_of row) d.used s.sets s.order ≡ Room r) × (ltb d.count limit ≡ true)
 Facts limit d s row (Over q) =
-    (agreesb limit d s ≡ true) × ((r : ℕ) × (sought (setOf row) d.used s.sets s.order ≡ Room r) × (ltb d.count limit ≡ false) × (sought (setOf overRow) d.used s.sets s.order ≡ Room q))
+    (agreesb limit d s ≡ true) × ((r : ℕ) × (sought (set_of row) d.used s.sets s.order ≡ Room r) × (ltb d.count limit ≡ false) × (sought (set_of over_row) d.used s.sets s.order ≡ Room q))
 
 module _ (limit : ℕ) (d : Directory) (s : Stores) (row : List ℕ) where
-  facts-of : (g : Bool) → agreesb limit d s ≡ g → (o : Found) → sought (setOf row) d.used s.sets s.order ≡ o → (b : Bool) → ltb d.count limit ≡ b
-      → (v : Found) → sought (setOf overRow) d.used s.sets s.order ≡ v → Facts limit d s row (pick g (target_of o b v) Disagrees)
+  facts-of : (g : Bool) → agreesb limit d s ≡ g → (o : Found) → sought (set_of row) d.used s.sets s.order ≡ o → (b : Bool) → ltb d.count limit ≡ b
+      → (v : Found) → sought (set_of over_row) d.used s.sets s.order ≡ v → Facts limit d s row (pick g (target_of o b v) Disagrees)
   unfolding pick
   facts-of false g o e b h v k = g
   facts-of true g (Held x) e b h v k = (g, inl e)
@@ -54,19 +54,19 @@ module _ (limit : ℕ) (d : Directory) (s : Stores) (row : List ℕ) where
 
   pub facts : Facts limit d s row (located limit d s row)
   unfolding located
-  facts = facts-of (agreesb limit d s) refl (sought (setOf row) d.used s.sets s.order) refl (ltb d.count limit) refl (sought (setOf overRow) d.used s.sets s.order) refl
+  facts = facts-of (agreesb limit d s) refl (sought (set_of row) d.used s.sets s.order) refl (ltb d.count limit) refl (sought (set_of over_row) d.used s.sets s.order) refl
 
 -- room: at most one set is overflow
 not_plain : (x : Set) → cmp [] x ≡ Ordering.lt → plain x ≡ false → x ≡ overflow
 not_plain x e p = same-eq x overflow (go (same x []) refl (same x overflow) refl p)
   where
     go : (a : Bool) → same x [] ≡ a → (b : Bool) → same x overflow ≡ b → not (a || b) ≡ false → b ≡ true
-    go true i b j q = true-not-false (sym i ∙ ap compare_is_eq (lt-gt [] x e))
+    go true i b j q = true-not-false (sym i ∙ ap compare_is_eq (lt_gt [] x e))
     go false i true j q = refl
     go false i false j q = true-not-false q
 
 plain_other : (x : Set) → cmp [] x ≡ Ordering.lt → same x overflow ≡ false → plain x ≡ true
-plain_other x e n = let i : same x [] ≡ false = ap compare_is_eq (lt-gt [] x e) in rw (i, n)
+plain_other x e n = let i : same x [] ≡ false = ap compare_is_eq (lt_gt [] x e) in rw (i, n)
 
 or-false : (a b : Bool) → (a || b) ≡ false → (a ≡ false) × (b ≡ false)
 or-false true b e = true-not-false e
@@ -93,7 +93,7 @@ seek-none s sets [] i r g e = refl
 seek-none s sets (y ∷ l) i r g e = go (cmp s (set_at sets y)) refl e (seek-none s sets l (suc i) r g.1)
   where
     go : (o : Ordering) → cmp s (set_at sets y) ≡ o → three o (Room i) (Held y) (seek s sets l (suc i)) ≡ Room r → (seek s sets l (suc i) ≡ Room r → mem s (map (set_at sets) l) ≡ false) → (same (set_at sets y) s || mem s (map (set_at sets) l)) ≡ false
-    go Ordering.lt d q ih = rw (ap compare_is_eq (lt-gt s (set_at sets y) d)) (above-mem s (map (set_at sets) l) (above-trans s (set_at sets y) (map (set_at sets) l) d g.0))
+    go Ordering.lt d q ih = rw (ap compare_is_eq (lt_gt s (set_at sets y) d)) (above-mem s (map (set_at sets) l) (above-trans s (set_at sets y) (map (set_at sets) l) d g.0))
     go Ordering.eq d q ih = let z : ◌≡◌ {A = ℕ} 0 1 = cc in absurd (omega arith)
     go Ordering.gt d q ih = rw (ap compare_is_eq (gt-lt s (set_at sets y) d)) (ih q)
 
@@ -105,7 +105,7 @@ module _ (limit : ℕ) (d : Directory) (s : Stores) (g : agreesb limit d s ≡ t
   counts-right : countsb limit d.count d.used (plainly s.sets s.order d.used) ≡ true
   unfolding agreesb
   counts-right =
-      (and-true (allb d.used (placeAt s.sets s.order d.used)) _ (and-true (slotsb d.used d.last s.sets s.entries) _ (and-true (leb d.used (limit + 1)) _ g).1).1).1
+      (and-true (allb d.used (place_at s.sets s.order d.used)) _ (and-true (slotsb d.used d.last s.sets s.entries) _ (and-true (leb d.used (limit + 1)) _ g).1).1).1
 
   pub counted : (d.count ≤ limit) × ((d.count ≡ plainly s.sets s.order d.used) ⊎ ((d.count ≡ plainly s.sets s.order d.used + 1) × (plainly s.sets s.order d.used < d.used)))
   counted =
@@ -122,9 +122,9 @@ module _ (limit : ℕ) (d : Directory) (s : Stores) (g : agreesb limit d s ≡ t
   pub room-new : d.count < limit → d.used ≤ limit
   room-new h = ⊎_elim (λ e. omega (arith, near)) (λ e. omega (arith, near, e.0)) counted.1
 
-  pub room-over : (q : ℕ) → sought (setOf overRow) d.used s.sets s.order ≡ Room q → d.used ≤ limit
+  pub room-over : (q : ℕ) → sought (set_of over_row) d.used s.sets s.order ≡ Room q → d.used ≤ limit
   room-over q e =
-      let m = seek-none (setOf overRow) s.sets (span s.order 0 d.used) 0 q (ascends limit d s g).1 (sought-room (setOf overRow) d.used s.sets s.order q e).1 in
+      let m = seek-none (set_of over_row) s.sets (span s.order 0 d.used) 0 q (ascends limit d s g).1 (sought-room (set_of over_row) d.used s.sets s.order q e).1 in
       let n : mem overflow (map (set_at s.sets) (span s.order 0 d.used)) ≡ false = subst (λ (w : Set). mem w (map (set_at s.sets) (span s.order 0 d.used)) ≡ false) over-set m in
       let p = plains_all (map (set_at s.sets) (span s.order 0 d.used)) (ascends limit d s g).0 n in
       let l = length-span (set_at s.sets) s.order 0 d.used in
@@ -211,28 +211,28 @@ module _ (limit : ℕ) (d : Directory) (s : Stores) (row : List ℕ) where
   old-there x e l =
       let z = told (Old x) e in
       let g = z.0 in
-      let i : In x (slots_of d s) = ⊎_elim (λ h. (sought-held blank (λ k. tt) tt d s (setOf row) x h).0) (λ h. (sought-held blank (λ k. tt) tt d s (setOf overRow) x h.3).0) z.1 in
+      let i : In x (slots_of d s) = ⊎_elim (λ h. (sought-held blank (λ k. tt) tt d s (set_of row) x h).0) (λ h. (sought-held blank (λ k. tt) tt d s (set_of over_row) x h.3).0) z.1 in
       omega (arith, slot-used limit d s g x i, few limit d s g)
 
   pub new-there : (r : ℕ) → located limit d s row ≡ New r → (r ≤ d.used) × (d.used ≤ limit) × (d.count < limit)
   new-there r e =
       let z = told (New r) e in
       let h : d.count < limit = ltb-true _ _ z.2 in
-      ((room-rank blank (λ k. tt) tt limit d s z.0 (setOf row) r z.1).2, room-new limit d s z.0 h, h)
+      ((room-rank blank (λ k. tt) tt limit d s z.0 (set_of row) r z.1).2, room-new limit d s z.0 h, h)
 
   pub over-there : (q : ℕ) → located limit d s row ≡ Over q → (q ≤ d.used) × (d.used ≤ limit)
   over-there q e =
       let z = told (Over q) e in
-      ((room-rank blank (λ k. tt) tt limit d s z.0 (setOf overRow) q z.1.3).2, room-over limit d s z.0 q z.1.3)
+      ((room-rank blank (λ k. tt) tt limit d s z.0 (set_of over_row) q z.1.3).2, room-over limit d s z.0 q z.1.3)
 
 -- a new set has an attribute
-pub some_words : (row : List ℕ) (used : ℕ) (sets : List (List ℕ)) (order : List ℕ) (r : ℕ) → sought (setOf row) used sets order ≡ Room r → 1 ≤ size row
+pub some_words : (row : List ℕ) (used : ℕ) (sets : List (List ℕ)) (order : List ℕ) (r : ℕ) → sought (set_of row) used sets order ≡ Room r → 1 ≤ size row
 some_words row used sets order r e = go (size row) refl
   where
     go : (n : ℕ) → size row ≡ n → 1 ≤ n
-    go zero p = true-not-false (sym (empty-row row p) ∙ (sought-room (setOf row) used sets order r e).0)
+    go zero p = true-not-false (sym (empty-row row p) ∙ (sought-room (set_of row) used sets order r e).0)
     go (suc n) p = omega arith
 
-pub sound-over : soundb overRow ≡ true
+pub sound-over : soundb over_row ≡ true
 unfolding soundb allb
 sound-over = refl

@@ -3,8 +3,8 @@ use Rattle.std.proofs.Common.{◌≡◌, ℕ, ◌+◌, ◌-◌, ◌<◌, ◌≤�
 use mathlib.Core.Option.{Option}
 use borrow.Author.Tests.{lt-leb, not-true, not-false}
 use Rattle.laws.proofs.Cases.{and-true}
-use Rattle.sets.specs.Sorted.{filterOf}
-use Rattle.directory.specs.Calls.{mostSets, mostKeys, fewKeys, accepts, storesSuffice}
+use Rattle.sets.specs.Sorted.{filter_of}
+use Rattle.directory.specs.Calls.{most_sets, most_keys, few_keys, accepts, stores_suffice}
 use Rattle.directory.specs.View.{Stores}
 
 -- limit + 2, without the sum
@@ -32,21 +32,21 @@ module _ (x y z a b c : Bool) (p : x ≡ a) where
 
 -- what configuring accepts
 module _ (limit : ℕ) (present : Bool) (l : List ℕ) where
-  pub over-limit : mostSets < limit → false ≡ accepts limit (filterOf present l)
-  over-limit h = rw (lt-leb limit mostSets h)
+  pub over-limit : most_sets < limit → false ≡ accepts limit (filter_of present l)
+  over-limit h = rw (lt-leb limit most_sets h)
 
-  module _ (h : limit ≤ mostSets) where
-    pub no-filter : present ≡ false → true ≡ accepts limit (filterOf present l)
-    no-filter e = rw (le-leb limit mostSets h, e)
+  module _ (h : limit ≤ most_sets) where
+    pub no-filter : present ≡ false → true ≡ accepts limit (filter_of present l)
+    no-filter e = rw (le-leb limit most_sets h, e)
 
-    pub many-keys : present ≡ true → mostKeys < length l → false ≡ accepts limit (filterOf present l)
-    many-keys e k = rw (le-leb limit mostSets h, e, lt-leb (length l) mostKeys k)
+    pub many-keys : present ≡ true → most_keys < length l → false ≡ accepts limit (filter_of present l)
+    many-keys e k = rw (le-leb limit most_sets h, e, lt-leb (length l) most_keys k)
 
-    pub few-keys : present ≡ true → length l ≤ mostKeys → true ≡ accepts limit (filterOf present l)
-    few-keys e k = rw (le-leb limit mostSets h, e, le-leb (length l) mostKeys k)
+    pub few-keys : present ≡ true → length l ≤ most_keys → true ≡ accepts limit (filter_of present l)
+    few-keys e k = rw (le-leb limit most_sets h, e, le-leb (length l) most_keys k)
 
-pub within : (limit : ℕ) (filter : Option (List ℕ)) → accepts limit filter ≡ true → limit ≤ mostSets
-within limit filter e = leb-true limit mostSets (and-true (leb limit mostSets) (fewKeys filter) e).0
+pub within : (limit : ℕ) (filter : Option (List ℕ)) → accepts limit filter ≡ true → limit ≤ most_sets
+within limit filter e = leb-true limit most_sets (and-true (leb limit most_sets) (few_keys filter) e).0
 
 -- stores that suffice
 pub record Suffice (limit : ℕ) (s : Stores) : Type 0 where
@@ -54,7 +54,7 @@ pub record Suffice (limit : ℕ) (s : Stores) : Type 0 where
   pub entries : limit + 2 ≤ length s.entries
   pub order : limit + 2 ≤ length s.order
 
-pub suffices : (limit : ℕ) (s : Stores) → storesSuffice limit s ≡ true → Suffice limit s
+pub suffices : (limit : ℕ) (s : Stores) → stores_suffice limit s ≡ true → Suffice limit s
 suffices limit s e =
     let a = and-true (leb (limit + 2) (length s.sets)) _ e in
     let b = and-true (leb (limit + 2) (length s.entries)) _ a.1 in

@@ -7,7 +7,7 @@ use Rattle.laws.specs.Pick.{pick}
 use Rattle.tally.specs.Sets.{Set, three, cmp, same, Rising, Above}
 use Rattle.tally.specs.Kind.{Kind}
 use Rattle.tally.specs.Map.{Entry, find, keys}
-use Rattle.tally.proofs.Order.{gt-lt, lt-gt, same-flip}
+use Rattle.tally.proofs.Order.{gt-lt, lt_gt, same-flip}
 use Rattle.tally.proofs.Rising.{above-trans, above-mem}
 use Rattle.tally.proofs.Entries.{find_none}
 use Rattle.tally.proofs.Ranks.{rank}
@@ -34,10 +34,10 @@ In x [] = ⊥
 In x (y ∷ l) = (x ≡ y) ⊎ In x l
 
 -- what holds at each place holds of each slot
-pub span-in : (P : ℕ → Type 0) (l : List ℕ) (i k : ℕ) → ((j : ℕ) → i ≤ j → j < i + k → P (get_or l j 0)) → (x : ℕ) → In x (span l i k) → P x
-span-in P l i zero h x m = absurd m
-span-in P l i (suc k) h x m =
-    ⊎_elim (λ e. subst P (sym e) (h i (omega arith) (omega arith))) (λ n. span-in P l (suc i) k (λ j a b. h j (omega arith) (omega arith)) x n) m
+pub span_in : (P : ℕ → Type 0) (l : List ℕ) (i k : ℕ) → ((j : ℕ) → i ≤ j → j < i + k → P (get_or l j 0)) → (x : ℕ) → In x (span l i k) → P x
+span_in P l i zero h x m = absurd m
+span_in P l i (suc k) h x m =
+    ⊎_elim (λ e. subst P (sym e) (h i (omega arith) (omega arith))) (λ n. span_in P l (suc i) k (λ j a b. h j (omega arith) (omega arith)) x n) m
 
 module _ (K : Kind) (f : ℕ → K.Series) (st : Stores) where
   abbrev E : ℕ → Entry K
@@ -48,11 +48,11 @@ module _ (K : Kind) (f : ℕ → K.Series) (st : Stores) where
   keys-map (x ∷ l) = ap (λ r. set_at st.sets x ∷ r) (keys-map l)
 
 -- what a search finds is there
-held-inj : (x y : ℕ) → Held x ≡ Held y → x ≡ y
-held-inj x y e = cc
+held_inj : (x y : ℕ) → Held x ≡ Held y → x ≡ y
+held_inj x y e = cc
 
-room-inj : (x y : ℕ) → Room x ≡ Room y → x ≡ y
-room-inj x y e = cc
+room_inj : (x y : ℕ) → Room x ≡ Room y → x ≡ y
+room_inj x y e = cc
 
 room-not-held : {A : Type 0} (x y : ℕ) → Room x ≡ Held y → A
 room-not-held x y e = let z : ◌≡◌ {A = ℕ} 0 1 = cc in absurd (omega arith)
@@ -72,7 +72,7 @@ module _ (K : Kind) (f : ℕ → K.Series) (st : Stores) (s : Set) where
       go Ordering.lt d q ih = room-not-held i x q
       go Ordering.eq d q ih =
           let n : same (set_at st.sets y) s ≡ true = same-flip s (set_at st.sets y) ∙ ap compare_is_eq d in
-          let z : y ≡ x = held-inj y x q in
+          let z : y ≡ x = held_inj y x q in
           (inl (sym z), rw n (ap (λ k. some (entry_at K f st k)) z))
       go Ordering.gt d q ih =
           let n : same (set_at st.sets y) s ≡ false = ap compare_is_eq (gt-lt s (set_at st.sets y) d) in
@@ -82,16 +82,16 @@ module _ (K : Kind) (f : ℕ → K.Series) (st : Stores) (s : Set) where
   -- and what it does not find is not, and would stand at that place
   pub seek-room : (l : List ℕ) (i r : ℕ) → Rising (map (set_at st.sets) l) → seek s st.sets l i ≡ Room r → (find K s (map (entry_at K f st) l) ≡ none) × (i + rank s (map (set_at st.sets) l) ≡ r)
   unfolding pick
-  seek-room [] i r g e = (refl, let z : i ≡ r = room-inj i r e in omega arith)
+  seek-room [] i r g e = (refl, let z : i ≡ r = room_inj i r e in omega arith)
   seek-room (y ∷ l) i r g e = go (cmp s (set_at st.sets y)) refl e (seek-room l (suc i) r g.1)
     where
       go : (o : Ordering) → cmp s (set_at st.sets y) ≡ o → three o (Room i) (Held y) (seek s st.sets l (suc i)) ≡ Room r
           → (seek s st.sets l (suc i) ≡ Room r → (find K s (map (entry_at K f st) l) ≡ none) × (suc i + rank s (map (set_at st.sets) l) ≡ r))
           → (find K s (map (entry_at K f st) (y ∷ l)) ≡ none) × (i + three o 0 0 (suc (rank s (map (set_at st.sets) l))) ≡ r)
       go Ordering.lt d q ih =
-          let n : same (set_at st.sets y) s ≡ false = ap compare_is_eq (lt-gt s (set_at st.sets y) d) in
+          let n : same (set_at st.sets y) s ≡ false = ap compare_is_eq (lt_gt s (set_at st.sets y) d) in
           let a = above-mem s (map (set_at st.sets) l) (above-trans s (set_at st.sets y) (map (set_at st.sets) l) d g.0) in
-          (rw n (find_none K s (map (entry_at K f st) l) (rw (keys-map K f st l) a)), let z : i ≡ r = room-inj i r q in omega arith)
+          (rw n (find_none K s (map (entry_at K f st) l) (rw (keys-map K f st l) a)), let z : i ≡ r = room_inj i r q in omega arith)
       go Ordering.eq d q ih = held-not-room y r q
       go Ordering.gt d q ih =
           let n : same (set_at st.sets y) s ≡ false = ap compare_is_eq (gt-lt s (set_at st.sets y) d) in

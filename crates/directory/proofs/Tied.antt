@@ -8,7 +8,7 @@ use Rattle.tally.specs.Sets.{Set, overflow, same, mem, Rising, Keyed}
 use Rattle.tally.specs.Kind.{Kind}
 use Rattle.tally.specs.Map.{bit, plains, Config, Entry, find, Agrees}
 use Rattle.tally.proofs.Order.{same-eq}
-use Rattle.sets.proofs.Keyed.{sound-few, sound-keyed, length-set-of}
+use Rattle.sets.proofs.Keyed.{sound-few, sound_keyed, length-set-of}
 use Rattle.directory.specs.View.{Stores, set_at, agreesb, entry_at, view, Agreement}
 use Rattle.directory.specs.declared.Directory.{Directory}
 use Rattle.directory.proofs.Agreed.{slot-sound}
@@ -25,10 +25,10 @@ module _ (K : Kind) (f : ℕ → K.Series) (s : Stores) (w : Set) where
     pub entry : entry_at K f s slot ≡ e
     pub set : set_at s.sets slot ≡ w
 
-  pub find-in : (l : List ℕ) (e : Entry K) → find K w (map (entry_at K f s) l) ≡ some e → Stands l e
+  pub find_in : (l : List ℕ) (e : Entry K) → find K w (map (entry_at K f s) l) ≡ some e → Stands l e
   unfolding pick
-  find-in [] e h = none-not-some h
-  find-in (y ∷ l) e h = go (same (set_at s.sets y) w) refl h (find-in l e)
+  find_in [] e h = none-not-some h
+  find_in (y ∷ l) e h = go (same (set_at s.sets y) w) refl h (find_in l e)
     where
       go : (b : Bool) → same (set_at s.sets y) w ≡ b → pick b (some (entry_at K f s y)) (find K w (map (entry_at K f s) l)) ≡ some e
           → (find K w (map (entry_at K f s) l) ≡ some e → Stands l e) → Stands (y ∷ l) e
@@ -37,12 +37,12 @@ module _ (K : Kind) (f : ℕ → K.Series) (s : Stores) (w : Set) where
 
 module _ (limit : ℕ) (d : Directory) (s : Stores) (g : agreesb limit d s ≡ true) where
   -- "each has 1 to 8 attributes with rising keys"
-  pub slot-keyed : (x : ℕ) → x ≤ d.used → Keyed (set_at s.sets x) × (length (set_at s.sets x) ≤ 8)
-  slot-keyed zero h = (tt, omega arith)
-  slot-keyed (suc x) h =
+  pub slot_keyed : (x : ℕ) → x ≤ d.used → Keyed (set_at s.sets x) × (length (set_at s.sets x) ≤ 8)
+  slot_keyed zero h = (tt, omega arith)
+  slot_keyed (suc x) h =
       let row = get_or s.sets (suc x) [] in
       let e = slot-sound d.used d.last s.sets s.entries (slots-right limit d s g) (suc x) (omega arith) h in
-      (sound-keyed row e, omega (arith, length-set-of row, sound-few row e))
+      (sound_keyed row e, omega (arith, length-set-of row, sound-few row e))
 
 -- the whole sentence
 module _ (K : Kind) (f : ℕ → K.Series) (z : K.Settings) (c : Config K) (d : Directory) (s : Stores) (g : agreesb c.limit d s ≡ true) where
@@ -54,8 +54,8 @@ module _ (K : Kind) (f : ℕ → K.Series) (z : K.Settings) (c : Config K) (d : 
       record {
         rising = subst Rising (sym k) (ascends c.limit d s g);
         root = (entry_at K f s 0, refl, refl);
-        each = λ w e p. each w e (find-in K f s w (slots_of d s) e p);
-        apart = λ w v e h p q r. apart w v e h (find-in K f s w (slots_of d s) e p) (find-in K f s v (slots_of d s) h q) r;
+        each = λ w e p. each w e (find_in K f s w (slots_of d s) e p);
+        apart = λ w v e h p q r. apart w v e h (find_in K f s w (slots_of d s) e p) (find_in K f s v (slots_of d s) h q) r;
         over = n.0;
         there = λ t. subst (λ l. mem overflow l ≡ true) (sym k) (n.1 t);
         count = subst (λ l. d.count ≡ bit n.0 + plains l) (sym k) n.2;
@@ -65,7 +65,7 @@ module _ (K : Kind) (f : ℕ → K.Series) (z : K.Settings) (c : Config K) (d : 
       each : (w : Set) (e : Entry K) → Stands K f s w (slots_of d s) e → Keyed w × (length w ≤ 8) × (e.birth ≤ d.last)
       each w e r =
           let u = slot-used c.limit d s g r.slot r.there in
-          let k = slot-keyed c.limit d s g r.slot u in (
+          let k = slot_keyed c.limit d s g r.slot u in (
             subst Keyed r.set k.0,
             subst (λ v. length v ≤ 8) r.set k.1,
             subst (λ h. h.birth ≤ d.last) r.entry (spent c.limit d s g r.slot u),

@@ -7,7 +7,7 @@ use Rattle.tally.specs.Sets.{Set, three, cmp, same}
 use Rattle.tally.specs.Kind.{Kind}
 use Rattle.tally.specs.Map.{Config, Entry, Map, plains, Agrees}
 use Rattle.sets.specs.All.{allb}
-use Rattle.sets.specs.Rows.{span, setOf, soundb, below}
+use Rattle.sets.specs.Rows.{span, set_of, soundb, below}
 use Rattle.directory.specs.declared.Directory.{Directory}
 use Rattle.directory.specs.declared.Found.{Found}
 use Rattle.directory.specs.declared.Found.TheVariants.{Held, Room}
@@ -25,32 +25,32 @@ stores sets entries order = record { sets = sets.now; entries = entries.now; ord
 -- never read, nor its birth cell but to write it back. The named slots, from 1 on, stand in the order of birth; `order` has their numbers ascending by set.
 abbrev pub set_at : List (List ℕ) → ℕ → Set
 set_at sets zero = []
-set_at sets (suc x) = setOf (slice_index_or sets (suc x) [])
+set_at sets (suc x) = set_of (slice_index_or sets (suc x) [])
 
-abbrev pub birthAt : List (List ℕ) → ℕ → ℕ
-birthAt entries zero = 0
-birthAt entries (suc x) = slice_index (slice_index_or entries (suc x) []) 0
+abbrev pub birth_at : List (List ℕ) → ℕ → ℕ
+birth_at entries zero = 0
+birth_at entries (suc x) = slice_index (slice_index_or entries (suc x) []) 0
 
 -- What the layout asks beside the map's own agreement: a named slot's row has "1 to 8 attributes with rising keys"; birth numbers rise
 -- along the slots and end among those spent, so that each slot has its own; and each place of the order names a named slot. Where
 -- the sets ascend along the places, no two of them name one slot, and so every slot is named.
 pub record Laid (d : Directory) (s : Stores) : Type 0 where
   pub sound : (x : ℕ) → x < d.used → soundb (slice_index_or s.sets (x + 1) []) ≡ true
-  pub birth : (x : ℕ) → x < d.used → birthAt s.entries x < birthAt s.entries (x + 1)
-  pub last : birthAt s.entries d.used ≤ d.last
+  pub birth : (x : ℕ) → x < d.used → birth_at s.entries x < birth_at s.entries (x + 1)
+  pub last : birth_at s.entries d.used ≤ d.last
   pub slots : (k : ℕ) → k < d.used → (1 ≤ slice_index s.order k) × (slice_index s.order k ≤ d.used)
 
 -- the slot after x has a later birth number
-abbrev pub bornAt : List (List ℕ) → ℕ → Bool
-bornAt entries x = nat_lt (birthAt entries x) (birthAt entries (x + 1))
+abbrev pub born_at : List (List ℕ) → ℕ → Bool
+born_at entries x = nat_lt (birth_at entries x) (birth_at entries (x + 1))
 
 -- "each has 1 to 8 attributes with rising keys .. and its own birth number": so has the slot after x, and its number is later than that of x
 abbrev pub slot_at : List (List ℕ) → List (List ℕ) → ℕ → Bool
-slot_at sets entries x = soundb (slice_index_or sets (x + 1) []) && bornAt entries x
+slot_at sets entries x = soundb (slice_index_or sets (x + 1) []) && born_at entries x
 
 -- "its sets are strictly ascending": place k names a slot of those used, whose set comes after that of the place before
-abbrev pub placeAt : List (List ℕ) → List ℕ → ℕ → ℕ → Bool
-placeAt sets order used k =
+abbrev pub place_at : List (List ℕ) → List ℕ → ℕ → ℕ → Bool
+place_at sets order used k =
     (nat_le 1 (slice_index order k) && nat_le (slice_index order k) used) && (k == 0 || below (cmp (set_at sets (slice_index order (k - 1))) (set_at sets (slice_index order k))))
 
 -- the sets that are neither empty nor overflow
@@ -58,7 +58,7 @@ abbrev pub plainly : List (List ℕ) → List ℕ → ℕ → ℕ
 plainly sets order used = plains (map (set_at sets) (span order 0 used))
 
 unfoldable pub slotsb : ℕ → ℕ → List (List ℕ) → List (List ℕ) → Bool
-slotsb used last sets entries = allb used (slot_at sets entries) && nat_le (birthAt entries used) last
+slotsb used last sets entries = allb used (slot_at sets entries) && nat_le (birth_at entries used) last
 
 -- "its stored count is that of the sets other than overflow, or one more if overflow is held, and is at most the limit": with the sets as
 -- many as the slots used, overflow is held where the plain ones are fewer
@@ -70,7 +70,7 @@ unfoldable pub agreesb : ℕ → Directory → Stores → Bool
 agreesb limit d s =
     nat_le d.used (limit + 1)
     && (slotsb d.used d.last s.sets s.entries
-    && (allb d.used (placeAt s.sets s.order d.used)
+    && (allb d.used (place_at s.sets s.order d.used)
     && countsb limit d.count d.used (plainly s.sets s.order d.used)))
 
 -- a scan of slots that ascend by set, from place i
@@ -83,8 +83,8 @@ unfoldable pub sought : Set → ℕ → List (List ℕ) → List ℕ → Found
 sought s used sets order = pick (same s []) (Held 0) (seek s sets (span order 0 used) 0)
 
 -- a slot holds a series: its third word is not 0
-abbrev pub updatedIn : List (List ℕ) → ℕ → Bool
-updatedIn entries x = not (slice_index (slice_index_or entries x []) 2 == 0)
+abbrev pub updated_in : List (List ℕ) → ℕ → Bool
+updated_in entries x = not (slice_index (slice_index_or entries x []) 2 == 0)
 
 -- the map that the stores hold: an entry that is not updated has no series; f gives the others', by slot
 module _ (K : Kind) (f : ℕ → K.Series) where
@@ -92,9 +92,9 @@ module _ (K : Kind) (f : ℕ → K.Series) where
   entry_at s x =
       record {
         set = set_at s.sets x;
-        birth = birthAt s.entries x;
+        birth = birth_at s.entries x;
         bindings = slice_index (slice_index_or s.entries x []) 1;
-        series = pick (updatedIn s.entries x) (some (f x)) none;
+        series = pick (updated_in s.entries x) (some (f x)) none;
       }
 
   abbrev pub view : K.Settings → Directory → Stores → Map K

@@ -2,7 +2,7 @@
 // by one.
 ghost use Rattle.std.specs.Prelude.{◌≡◌, ◌-◌, ◌<◌, ◌≤◌, true, ◌&&◌, length, nat_le, slice_index};
 ghost use Rattle.directory.specs.declared.Placed.TheVariants.{Plain};
-ghost use Rattle.directory.specs.Inner.{placed, joined, SameKeys, rowAt, Told, Alike};
+ghost use Rattle.directory.specs.Inner.{placed, joined, SameKeys, row_at, Told, Alike};
 
 // Whether a number is that of a named slot: one comparison, for 0 wraps.
 fn named(used: usize, q: usize) -> bool
@@ -57,8 +57,8 @@ fn lower(a: &[u64; 9], b: &[u64; 9], from: usize) -> bool
 // The same of the sets at place i and at the one before, whose words `from` are w and `prev`: mostly these tell.
 fn later(prev: u64, w: u64, sets: &[[u64; 9]], order: &[u32], i: usize, from: usize) -> bool
     requires { (1 ≤ i) × (i < length order.now) × (slice_index order.now (i - 1) < length sets.now) × (slice_index order.now i < length sets.now)
-        × (from ≤ 8) × (prev ≡ slice_index (rowAt sets.now order.now (i - 1)) from) × (w ≡ slice_index (rowAt sets.now order.now i) from) }
-    ensures { result ≡ true → Told (rowAt sets.now order.now (i - 1)) (rowAt sets.now order.now i) from }
+        × (from ≤ 8) × (prev ≡ slice_index (row_at sets.now order.now (i - 1)) from) × (w ≡ slice_index (row_at sets.now order.now i) from) }
+    ensures { result ≡ true → Told (row_at sets.now order.now (i - 1)) (row_at sets.now order.now i) from }
 {
     if prev < w {
         return true;

@@ -2,9 +2,9 @@
 ghost use Rattle.std.specs.Prelude.{◌≡◌, ℕ, suc, ◌+◌, ◌<◌, ◌≤◌, true, ◌&&◌, [], ◌∷◌, length, ◌==◌, nat_lt, slice_index, slice_index_or};
 ghost use Prim.Native.Nat.{Ordering};
 ghost use Rattle.tally.specs.Sets.{cmp};
-ghost use Rattle.sets.specs.Rows.{span, size, setOf};
+ghost use Rattle.sets.specs.Rows.{span, size, set_of};
 ghost use Rattle.directory.specs.Calls.{located, scan};
-ghost use Rattle.directory.specs.View.{stores, birthAt, sought, agreesb};
+ghost use Rattle.directory.specs.View.{stores, birth_at, sought, agreesb};
 ghost use Rattle.directory.specs.Inner.{Agreeing, BirthsRise, LastBorn};
 
 // Where a set stands in a directory whose places are right, by halving.
@@ -12,9 +12,9 @@ fn find(used: usize, sets: &[[u64; 9]], order: &[u32], wanted: &[u64; 9]) -> cra
     requires { (used < length sets.now) × (used ≤ length order.now) × (size wanted.now ≤ 8)
         × ((k : ℕ) → k < used → (1 ≤ slice_index order.now k) × (slice_index order.now k ≤ used))
         × ((x : ℕ) → 1 ≤ x → x ≤ used → size (slice_index_or sets.now x []) ≤ 8)
-        × ((k : ℕ) → suc k < used → cmp (setOf (slice_index_or sets.now (slice_index order.now k) []))
-        (setOf (slice_index_or sets.now (slice_index order.now (suc k)) [])) ≡ Ordering.lt) }
-    ensures { result ≡ sought (setOf wanted.now) used sets.now order.now }
+        × ((k : ℕ) → suc k < used → cmp (set_of (slice_index_or sets.now (slice_index order.now k) []))
+        (set_of (slice_index_or sets.now (slice_index order.now (suc k)) [])) ≡ Ordering.lt) }
+    ensures { result ≡ sought (set_of wanted.now) used sets.now order.now }
 {
     if wanted[8] == 0 {
         return crate::Found::Held(0);
@@ -70,7 +70,7 @@ fn by_places(used: usize, entries: &[[u64; 3]], order: &[u32], h: u64) -> crate:
 // The slot that has the handle's number, if the handle names it; else 0. Until a set is removed each slot's number is its birth number.
 fn own_slot(used: usize, entries: &[[u64; 3]], h: u64) -> usize
     requires { used < length entries.now }
-    ensures { 1 ≤ result → (result ≤ used) × ((birthAt entries.now result == h && nat_lt 0 (slice_index (slice_index_or entries.now result []) 1)) ≡ true) }
+    ensures { 1 ≤ result → (result ≤ used) × ((birth_at entries.now result == h && nat_lt 0 (slice_index (slice_index_or entries.now result []) 1)) ≡ true) }
 {
     if h < 1 {
         return 0;

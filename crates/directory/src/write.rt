@@ -1,8 +1,8 @@
 // What a call writes in the directory.
 ghost use Rattle.std.specs.Prelude.{◌≡◌, ◌+◌, ◌^◌, ◌<◌, ◌≤◌, length};
 ghost use Rattle.sets.specs.Inserted.{inserted};
-ghost use Rattle.directory.specs.Calls.{kept, admitted, boundTo};
-ghost use Rattle.directory.specs.View.{stores, birthAt};
+ghost use Rattle.directory.specs.Calls.{kept, admitted, bound_to};
+ghost use Rattle.directory.specs.View.{stores, birth_at};
 
 // Moves the places from `at` up and puts the slot there.
 fn insert(order: &mut [u32], used: usize, at: usize, slot: u32)
@@ -49,7 +49,7 @@ pub fn admit(
 // Writes a slot's bindings. It refuses nothing: the slot is there.
 pub fn rebind(entries: &mut [[u64; 3]], x: usize, n: u64)
     requires { x < length entries.old }
-    ensures { entries.new ≡ boundTo entries.old x n }
+    ensures { entries.new ≡ bound_to entries.old x n }
 {
     let b = entries[x][0];
     let u = entries[x][2];
@@ -59,7 +59,7 @@ pub fn rebind(entries: &mut [[u64; 3]], x: usize, n: u64)
 // A slot's birth number. It refuses nothing: the slot is there.
 pub fn birth_of(entries: &[[u64; 3]], x: usize) -> u64
     requires { x < length entries.now }
-    ensures { result ≡ birthAt entries.now x }
+    ensures { result ≡ birth_at entries.now x }
 {
     if x == 0 {
         return 0;

@@ -9,7 +9,7 @@ use lib.ListN.{length, take, get_or}
 use lib.Seq.{take-suc, length-take-le}
 use lib.Ieee.{Float, nan, lt, eq}
 use Rattle.laws.specs.Counting.{bit}
-use Rattle.points.specs.Explicit.{rising, sameBounds, bucketOf, bucketCount}
+use Rattle.points.specs.Explicit.{rising, same_bounds, bucket_of, bucket_count}
 use Rattle.points.proofs.Bounds.{rising-next, same_next, bucket-next}
 
 pub take_next : {A : Type 0} (xs : List A) (i : ℕ) (d : A) → i < length xs → take (i + 1) xs ≡ take i xs ++ get_or xs i d ∷ []
@@ -30,35 +30,35 @@ unfolding rising
 rising-one [] = refl
 rising-one (b ∷ bs) = refl
 
-pub same_turn : (cs bs : List Float) (i : ℕ) (ok r : Bool) → length cs ≡ length bs → i < length cs → ok ≡ sameBounds (take i cs) (take i bs)
-    → r ≡ (ok && eq (get_or cs i nan) (get_or bs i nan)) → r ≡ sameBounds (take (i + 1) cs) (take (i + 1) bs)
+pub same_turn : (cs bs : List Float) (i : ℕ) (ok r : Bool) → length cs ≡ length bs → i < length cs → ok ≡ same_bounds (take i cs) (take i bs)
+    → r ≡ (ok && eq (get_or cs i nan) (get_or bs i nan)) → r ≡ same_bounds (take (i + 1) cs) (take (i + 1) bs)
 same_turn cs bs i ok r l h e f =
     let a = get_or cs i nan in
     let b = get_or bs i nan in
     f ∙ ap (λ t. t && eq a b) e
     ∙ sym (same_next (take i cs) (take i bs) a b (length-take-le i cs (omega arith) ∙ sym (length-take-le i bs (omega arith))))
-    ∙ (λ j. sameBounds (sym (take_next cs i nan h) j) (sym (take_next bs i nan (omega arith)) j))
+    ∙ (λ j. same_bounds (sym (take_next cs i nan h) j) (sym (take_next bs i nan (omega arith)) j))
 
-pub same-other : (cs bs : List Float) → (length cs ≡ length bs → ⊥) → false ≡ sameBounds cs bs
-unfolding sameBounds
+pub same-other : (cs bs : List Float) → (length cs ≡ length bs → ⊥) → false ≡ same_bounds cs bs
+unfolding same_bounds
 same-other [] [] n = absurd (n refl)
 same-other [] (b ∷ bs) n = refl
 same-other (a ∷ cs) [] n = refl
 same-other (a ∷ cs) (b ∷ bs) n = sym (ap (λ t. eq a b && t) (sym (same-other cs bs (λ e. n (ap suc e)))) ∙ and-false (eq a b))
 
-pub same_none : (cs bs : List Float) → true ≡ sameBounds (take 0 cs) (take 0 bs)
-unfolding sameBounds
+pub same_none : (cs bs : List Float) → true ≡ same_bounds (take 0 cs) (take 0 bs)
+unfolding same_bounds
 same_none cs bs = refl
 
-pub bucket-turn : (bs : List Float) (v : Float) (i k r : ℕ) → i < length bs → k ≡ bucketOf (take i bs) v → r ≡ bit (lt (get_or bs i nan) v)
-    → k + r ≡ bucketOf (take (i + 1) bs) v
+pub bucket-turn : (bs : List Float) (v : Float) (i k r : ℕ) → i < length bs → k ≡ bucket_of (take i bs) v → r ≡ bit (lt (get_or bs i nan) v)
+    → k + r ≡ bucket_of (take (i + 1) bs) v
 bucket-turn bs v i k r h e f =
-    (λ j. e j + f j) ∙ sym (bucket-next (take i bs) (get_or bs i nan) v) ∙ ap (λ l. bucketOf l v) (sym (take_next bs i nan h))
+    (λ j. e j + f j) ∙ sym (bucket-next (take i bs) (get_or bs i nan) v) ∙ ap (λ l. bucket_of l v) (sym (take_next bs i nan h))
 
-pub count_none : (bs : List Float) → length bs ≡ 0 → 0 ≡ bucketCount bs
+pub count_none : (bs : List Float) → length bs ≡ 0 → 0 ≡ bucket_count bs
 count_none [] h = refl
 count_none (b ∷ bs) h = absurd (omega arith)
 
-pub count-some : (bs : List Float) → (length bs ≡ 0 → ⊥) → length bs + 1 ≡ bucketCount bs
+pub count-some : (bs : List Float) → (length bs ≡ 0 → ⊥) → length bs + 1 ≡ bucket_count bs
 count-some [] h = absurd (h refl)
 count-some (b ∷ bs) h = add-one (length (b ∷ bs))

@@ -1,11 +1,11 @@
 // One series of the explicit kind, `Buckets` of histogram.rs: bounds, a head by value, and its counts at the front of a lent slice.
 ghost use Rattle.std.specs.Prelude.{◌≡◌, ◌&&◌, ◌+◌, ◌-◌, ◌/◌, ◌<◌, ◌≤◌, length, take, eqb};
 ghost use Rattle.std.specs.Float.Ieee.{lt};
-ghost use Rattle.laws.specs.Counting.{bit, total, mostCount};
+ghost use Rattle.laws.specs.Counting.{bit, total, most_count};
 ghost use Rattle.rows.specs.Rows.{over};
-ghost use Rattle.points.specs.Explicit.{rising, boundsPass, sameBounds, bucketOf, bucketCount, recordBucket, added, bucketsAgree};
-ghost use Rattle.points.specs.Figures.{mostSize};
-ghost use Rattle.explicit.specs.Series.{bucketsIn, freshening, refusalOf, said, outcome, recording};
+ghost use Rattle.points.specs.Explicit.{rising, bounds_pass, same_bounds, bucket_of, bucket_count, record_bucket, added, buckets_agree};
+ghost use Rattle.points.specs.Figures.{most_size};
+ghost use Rattle.explicit.specs.Series.{buckets_in, freshening, refusal_of, said, outcome, recording};
 ghost use Rattle.explicit.specs.Inner.{Addable};
 
 use exponential::Halves;
@@ -51,7 +51,7 @@ fn rises(bounds: &[f64]) -> bool
 // Whether the bounds pass document 01's number 3: at most 159, no NaN, strictly rising. A NaN rises above nothing, so that only the first
 // is asked for.
 pub fn bounds_pass(bounds: &[f64]) -> bool
-    ensures { result ≡ boundsPass bounds.now }
+    ensures { result ≡ bounds_pass bounds.now }
 {
     let n = bounds.len();
     if 159 < n {
@@ -69,7 +69,7 @@ pub fn bounds_pass(bounds: &[f64]) -> bool
 
 // Whether two lists of bounds are the same as numbers.
 pub fn same_bounds(a: &[f64], b: &[f64]) -> bool
-    ensures { result ≡ sameBounds a.now b.now }
+    ensures { result ≡ same_bounds a.now b.now }
 {
     let n = a.len();
     if n != b.len() {
@@ -88,7 +88,7 @@ pub fn same_bounds(a: &[f64], b: &[f64]) -> bool
 
 // How many buckets the bounds make.
 pub fn bucket_count(bounds: &[f64]) -> usize
-    ensures { result ≡ bucketCount bounds.now }
+    ensures { result ≡ bucket_count bounds.now }
 {
     let n = bounds.len();
     if n == 0 {
@@ -109,7 +109,7 @@ fn below(b: f64, v: f64) -> usize
 
 // The bucket of v: how many bounds are below it.
 pub fn bucket_of(bounds: &[f64], v: f64) -> usize
-    ensures { result ≡ bucketOf bounds.now v }
+    ensures { result ≡ bucket_of bounds.now v }
 {
     let mut k: usize = 0;
     let mut i: usize = 0;
@@ -144,7 +144,7 @@ pub fn fresh(bounds: &[f64], counts: &mut [u64]) -> Answer
 
 // Whether the first n counts total count.
 fn adds_up(count: u64, counts: &[u64], n: usize) -> bool
-    requires { (n ≤ length counts.now) × (n ≤ mostSize) }
+    requires { (n ≤ length counts.now) × (n ≤ most_size) }
     ensures { result ≡ eqb (total (take n counts.now)) count }
 {
     let none = Halves { low: 0, high: 0 };
@@ -157,7 +157,7 @@ fn adds_up(count: u64, counts: &[u64], n: usize) -> bool
 
 // Whether bounds, count and counts agree: bounds that pass, counts that are lent and, where there are buckets, total count.
 pub fn buckets_agree(bounds: &[f64], count: u64, counts: &[u64]) -> bool
-    ensures { result ≡ bucketsAgree bounds.now (bucketsIn bounds.now count counts.now) }
+    ensures { result ≡ buckets_agree bounds.now (buckets_in bounds.now count counts.now) }
 {
     if !bounds_pass(bounds) {
         return false;
@@ -176,10 +176,10 @@ pub fn buckets_agree(bounds: &[f64], count: u64, counts: &[u64]) -> bool
 
 // One more in the bucket of v, if there are buckets.
 pub fn count_in(bounds: &[f64], counts: &mut [u64], v: f64)
-    requires bounds_in_bounds { bucketCount bounds.now ≤ length counts.old }
-    requires counts_bound { total (take (bucketCount bounds.now) counts.old) < mostCount }
+    requires bounds_in_bounds { bucket_count bounds.now ≤ length counts.old }
+    requires counts_bound { total (take (bucket_count bounds.now) counts.old) < most_count }
     ensures { counts.new
-        ≡ over (recordBucket bounds.now (bucketsIn bounds.now 0 counts.old) v).counts counts.old }
+        ≡ over (record_bucket bounds.now (buckets_in bounds.now 0 counts.old) v).counts counts.old }
 {
     if bounds.len() == 0 {
         return;
@@ -190,7 +190,7 @@ pub fn count_in(bounds: &[f64], counts: &mut [u64], v: f64)
 
 // The number with which a recording is refused, 0 if none.
 pub fn refusal(bounds: &[f64], head: Head, counts: &[u64], v: f64) -> u8
-    ensures { result ≡ refusalOf bounds.now head counts.now v }
+    ensures { result ≡ refusal_of bounds.now head counts.now v }
 {
     if counts.len() < bucket_count(bounds) {
         return 12;

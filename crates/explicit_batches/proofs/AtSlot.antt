@@ -15,36 +15,36 @@ use Rattle.laws.proofs.Bools.{flag, not-both, and_intro, pick_true, pick-false}
 use Rattle.rows.specs.Recording.{Recording, after}
 use Rattle.rows.proofs.Parts.{part_length, put-length, put-own}
 use Rattle.many.proofs.Turns.{either}
-use Rattle.points.specs.Explicit.{bucketCount}
+use Rattle.points.specs.Explicit.{bucket_count}
 use Rattle.kinds.specs.Histograms.{histograms}
 use Rattle.explicit.specs.declared.Head.{Head}
-use Rattle.explicit.specs.Series.{Outcome, refusalOf, recording}
+use Rattle.explicit.specs.Series.{Outcome, refusal_of, recording}
 use Rattle.explicit.proofs.Cases.{not_finite}
-use Rattle.explicit.proofs.Writes.{refused-law}
+use Rattle.explicit.proofs.Writes.{refused_law}
 use Rattle.explicit.proofs.Listed.{accepted-is, stays-long}
-use Rattle.explicit_slots.specs.Cells.{Cells, Room, rowAt, written, recordedAt}
-use Rattle.value_map.specs.Explicit.{explicitStore}
+use Rattle.explicit_slots.specs.Cells.{Cells, Room, row_at, written, recorded_at}
+use Rattle.value_map.specs.Explicit.{explicit_store}
 use Rattle.batches.proofs.Slotted.{Slotted}
 use Rattle.batches.proofs.Puts.{put-put}
-use Rattle.explicit_batches.specs.Values.{Series, headAfter, step}
-use Rattle.explicit_batches.specs.Slot.{load, extremesOf, put}
+use Rattle.explicit_batches.specs.Values.{Series, head_after, step}
+use Rattle.explicit_batches.specs.Slot.{load, extremes_of, put}
 
 -- ---- one value, whatever the series
 
 module _ (bs : List Float) (s : Series) (v : Float) where
   abbrev no : ℕ
-  no = refusalOf bs s.head s.counts v
+  no = refusal_of bs s.head s.counts v
 
   abbrev o : Outcome
   o = recording bs s.head s.counts v
 
   -- what an outcome leaves
   abbrev leaving : Outcome → Recording Series
-  leaving y = after (number y.answer) (record { head = headAfter y.answer s.head; counts = y.counts })
+  leaving y = after (number y.answer) (record { head = head_after y.answer s.head; counts = y.counts })
 
   stays : (no ≡ 0 → ⊥) → after no s ≡ step bs s v
   unfolding step
-  stays d = ap leaving (refused-law bs s.head s.counts v no refl d)
+  stays d = ap leaving (refused_law bs s.head s.counts v no refl d)
 
   pub kept : ((step bs s v).no ≡ 0 → ⊥) → (step bs s v).cells ≡ s
   unfolding step
@@ -56,7 +56,7 @@ module _ (bs : List Float) (s : Series) (v : Float) where
   taken_not : (step bs s v).no ≡ 0 → no ≡ 0
   taken_not z = either no (λ e. e) (λ k. absurd (k (ap (λ (y : Recording Series). y.no) (stays k) ∙ z)))
 
-  pub long-next : bucketCount bs ≤ length s.counts → (step bs s v).no ≡ 0 → length (step bs s v).cells.counts ≡ length s.counts
+  pub long-next : bucket_count bs ≤ length s.counts → (step bs s v).no ≡ 0 → length (step bs s v).cells.counts ≡ length s.counts
   unfolding step
   long-next l z =
       subst (λ (y : Outcome). length y.counts ≡ length s.counts) (sym (accepted-is bs s.head s.counts v (taken_not z)))
@@ -66,7 +66,7 @@ module _ (bs : List Float) (s : Series) (v : Float) where
 
 module _ (bs : List Float) (c : Cells) (x : ℕ) where
   abbrev n : ℕ
-  n = bucketCount bs
+  n = bucket_count bs
 
   module _ (u : Bool) (r : Room bs c x) where
     abbrev s : Series
@@ -75,8 +75,8 @@ module _ (bs : List Float) (c : Cells) (x : ℕ) where
     pub long : length s.counts ≡ n
     long =
         ⊎_elim
-        (λ (e : u ≡ true). ap (λ (l : List ℕ). length l) (pick_true u (rowAt bs c.counts x) (replicate n 0) e) ∙ part_length n c.counts x r.counts)
-        (λ (e : u ≡ false). ap (λ (l : List ℕ). length l) (pick-false u (rowAt bs c.counts x) (replicate n 0) e) ∙ length-replicate {A = ℕ} n 0)
+        (λ (e : u ≡ true). ap (λ (l : List ℕ). length l) (pick_true u (row_at bs c.counts x) (replicate n 0) e) ∙ part_length n c.counts x r.counts)
+        (λ (e : u ≡ false). ap (λ (l : List ℕ). length l) (pick-false u (row_at bs c.counts x) (replicate n 0) e) ∙ length-replicate {A = ℕ} n 0)
         (flag u)
 
     module _ (v : Float) where
@@ -86,18 +86,18 @@ module _ (bs : List Float) (c : Cells) (x : ℕ) where
           let e = not_finite bs s.head s.counts v (omega (arith, long)) k in
           ap (λ (y : Recording Series). y.no) (sym (stays bs s v (λ i. omega (arith, e, i)))) ∙ sym e
 
-      pub numbers : (recordedAt bs x u c v).no ≡ (step bs s v).no
-      unfolding recordedAt step
+      pub numbers : (recorded_at bs x u c v).no ≡ (step bs s v).no
+      unfolding recorded_at step
       numbers = go (o bs s v).answer
         where
           go : (a : Said Head) → (written bs x c a (o bs s v).counts).no ≡ number a
           go (refusal k) = refl
           go (success h) = refl
 
-      pub took : (step bs s v).no ≡ 0 → recordedAt bs x u c v ≡ after 0 (put bs c x (step bs s v).cells)
-      unfolding recordedAt step
+      pub took : (step bs s v).no ≡ 0 → recorded_at bs x u c v ≡ after 0 (put bs c x (step bs s v).cells)
+      unfolding recorded_at step
       took z =
-          subst (λ (y : Outcome). written bs x c y.answer y.counts ≡ after 0 (put bs c x (record { head = headAfter y.answer s.head; counts = y.counts })))
+          subst (λ (y : Outcome). written bs x c y.answer y.counts ≡ after 0 (put bs c x (record { head = head_after y.answer s.head; counts = y.counts })))
           (sym (accepted-is bs s.head s.counts v (taken_not bs s v z))) refl
 
   module _ (s : Series) (r : Room bs c x) (l : length s.counts ≡ n) where
@@ -105,7 +105,7 @@ module _ (bs : List Float) (c : Cells) (x : ℕ) where
     unfolding pick
     read_back =
         let t = get_or-set_same c.totals x s.head.count 0 r.totals in
-        let e = get_or-set_same c.extremes x (extremesOf s.head) [] r.extremes in
+        let e = get_or-set_same c.extremes x (extremes_of s.head) [] r.extremes in
         λ j. record {
           head = record { count = t j; min = get_or (e j) 0 nan; max = get_or (e j) 1 nan; sum = get_or (e j) 2 nan };
           counts = put-own n c.counts x r.counts s.counts l j;
@@ -115,7 +115,7 @@ module _ (bs : List Float) (c : Cells) (x : ℕ) where
     put-again t =
         λ j. record {
           totals = set-set c.totals x s.head.count t.head.count j;
-          extremes = set-set c.extremes x (extremesOf s.head) (extremesOf t.head) j;
+          extremes = set-set c.extremes x (extremes_of s.head) (extremes_of t.head) j;
           counts = put-put n c.counts x s.counts t.counts r.counts l j;
         }
 
@@ -123,13 +123,13 @@ module _ (bs : List Float) (c : Cells) (x : ℕ) where
     put-room =
         record {
           totals = omega (arith, r.totals, length-set c.totals x s.head.count);
-          extremes = omega (arith, r.extremes, length-set c.extremes x (extremesOf s.head));
+          extremes = omega (arith, r.extremes, length-set c.extremes x (extremes_of s.head));
           counts = omega (arith, r.counts, put-length n c.counts x r.counts s.counts l);
         }
 
 -- ---- the instance
 
-abbrev pub slotted : (bs : List Float) → Slotted (explicitStore bs) (true, true)
+abbrev pub slotted : (bs : List Float) → Slotted (explicit_store bs) (true, true)
 slotted bs =
     record {
       Series = Series;
@@ -138,7 +138,7 @@ slotted bs =
       step = step bs;
       Shape = λ v. fits binary64 v ≡ true;
       nought = nan;
-      Fitting = λ s. length s.counts ≡ bucketCount bs;
+      Fitting = λ s. length s.counts ≡ bucket_count bs;
       unchanged = λ c x u v r t d. kept bs (load bs c x u) v d;
       wild = λ c x u v r t q. wild bs c x u r.room v t q;
       refused = λ c x u v r t q d. numbers bs c x u r.room v;

@@ -20,29 +20,29 @@ use Rattle.rows.proofs.Parts.{part_length, put_same}
 use Rattle.many.specs.Many.{Many, many, stopped, each}
 use Rattle.many.proofs.Turns.{each_on}
 use Rattle.many.proofs.Alike.{pick_first, pick_second, Elements}
-use Rattle.points.specs.Explicit.{boundsPass, bucketCount, bucketsAgree}
+use Rattle.points.specs.Explicit.{bounds_pass, bucket_count, buckets_agree}
 use Rattle.kinds.proofs.Recorded.{histograms-steady}
 use Rattle.explicit.specs.declared.Head.{Head}
-use Rattle.explicit.specs.Series.{outcome, bucketsIn, freshHead, freshening}
+use Rattle.explicit.specs.Series.{outcome, buckets_in, fresh_head, freshening}
 use Rattle.explicit.proofs.Listed.{fin-min, fin-max}
-use Rattle.explicit_slots.specs.Cells.{Cells, headIn, rowAt}
-use Rattle.value_map.specs.Explicit.{explicitStore}
+use Rattle.explicit_slots.specs.Cells.{Cells, head_in, row_at}
+use Rattle.value_map.specs.Explicit.{explicit_store}
 use Rattle.value_map.proofs.ExplicitOwes.{owed}
 use Rattle.value_map.proofs.Values.{finite-is}
-use Rattle.batches.specs.Inner.{recordedAll}
+use Rattle.batches.specs.Inner.{recorded_all}
 use Rattle.batches.specs.Asked.{Asked}
 use Rattle.batches.proofs.Slotted.{Ready, unsound-all, slot-ends}
 use Rattle.batches.proofs.Ends.{cut-first}
 use Rattle.explicit_batches.specs.Values.{Series, step, Sound}
-use Rattle.explicit_batches.specs.Slot.{load, extremesOf, put, agreeing, agreesIf, begun, entering}
-use Rattle.explicit_batches.proofs.Values.{counted_none, bar-none, step-0}
+use Rattle.explicit_batches.specs.Slot.{load, extremes_of, put, agreeing, agrees_if, begun, entering}
+use Rattle.explicit_batches.proofs.Values.{counted_none, bar-none, step_0}
 use Rattle.explicit_batches.proofs.AtSlot.{slotted}
 
 -- ---- in a row
 
 module _ (bs : List Float) (h : Head) (xs : List ℕ) where
   abbrev a? : Bool
-  a? = bucketsAgree bs (bucketsIn bs h.count xs)
+  a? = buckets_agree bs (buckets_in bs h.count xs)
 
   pub bad-counts : a? ≡ false → false ≡ agreeing bs h xs
   unfolding agreeing
@@ -58,18 +58,18 @@ module _ (bs : List Float) (h : Head) (xs : List ℕ) where
     by-max m = rw (a, m)
 
   abbrev pub zeros : List ℕ
-  zeros = over (replicate (bucketCount bs) 0) xs
+  zeros = over (replicate (bucket_count bs) 0) xs
 
   abbrev pub empty : Series
-  empty = record { head = freshHead; counts = zeros }
+  empty = record { head = fresh_head; counts = zeros }
 
   module _ (u : Bool) where
-    pub if-held : u ≡ true → agreeing bs h xs ≡ agreesIf bs u h xs
-    unfolding agreesIf
+    pub if-held : u ≡ true → agreeing bs h xs ≡ agrees_if bs u h xs
+    unfolding agrees_if
     if-held e = sym (pick_true u _ _ e)
 
-    pub if_none : u ≡ false → true ≡ agreesIf bs u h xs
-    unfolding agreesIf
+    pub if_none : u ≡ false → true ≡ agrees_if bs u h xs
+    unfolding agrees_if
     if_none e = sym (pick-false u _ _ e)
 
     pub begun-held : u ≡ true → record { head = h; counts = xs } ≡ begun bs u h xs
@@ -81,16 +81,16 @@ module _ (bs : List Float) (h : Head) (xs : List ℕ) where
     begun-empty e = sym (pick-false u _ _ e)
 
   -- what `explicit::fresh` leaves
-  pub fresh-is : bucketCount bs ≤ length xs → (a : Said Head) (ys : List ℕ) → outcome a ys ≡ freshening bs xs → outcome a ys ≡ outcome (success freshHead) zeros
+  pub fresh-is : bucket_count bs ≤ length xs → (a : Said Head) (ys : List ℕ) → outcome a ys ≡ freshening bs xs → outcome a ys ≡ outcome (success fresh_head) zeros
   unfolding freshening pick
-  fresh-is l a ys e = e ∙ rw (le-leb (bucketCount bs) (length xs) l) refl
+  fresh-is l a ys e = e ∙ rw (le-leb (bucket_count bs) (length xs) l) refl
 
-  module _ (p : boundsPass bs ≡ true) (l : bucketCount bs ≤ length xs) where
+  module _ (p : bounds_pass bs ≡ true) (l : bucket_count bs ≤ length xs) where
     sound_empty : Sound bs empty
     sound_empty = record { counted = counted_none bs xs p l; min = fin-min; max = fin-max }
 
     -- a series to start from agrees
-    pub sound-begun : (u : Bool) → agreesIf bs u h xs ≡ true → Sound bs (begun bs u h xs)
+    pub sound-begun : (u : Bool) → agrees_if bs u h xs ≡ true → Sound bs (begun bs u h xs)
     unfolding agreeing
     sound-begun u a =
         ⊎_elim
@@ -108,28 +108,28 @@ module _ (bs : List Float) (h : Head) (xs : List ℕ) where
 
     -- and a fresh one takes a finite value
     pub empty-takes : (v : Float) → finite v ≡ true → (step bs empty v).no ≡ 0
-    empty-takes v f = step-0 bs empty v sound_empty (bar-none 0 v f (omega arith))
+    empty-takes v f = step_0 bs empty v sound_empty (bar-none 0 v f (omega arith))
 
   module _ (u : Bool) (vs : List Float) where
-    pub enters-8 : agreesIf bs u h xs ≡ false → stopped 8 (record { head = h; counts = xs }) ≡ entering bs u h xs vs
+    pub enters_8 : agrees_if bs u h xs ≡ false → stopped 8 (record { head = h; counts = xs }) ≡ entering bs u h xs vs
     unfolding entering
-    enters-8 a = sym (pick-false _ _ _ a)
+    enters_8 a = sym (pick-false _ _ _ a)
 
-    pub enters : agreesIf bs u h xs ≡ true → (s : Series) → s ≡ begun bs u h xs → each (step bs) s vs ≡ entering bs u h xs vs
+    pub enters : agrees_if bs u h xs ≡ true → (s : Series) → s ≡ begun bs u h xs → each (step bs) s vs ≡ entering bs u h xs vs
     unfolding entering
     enters a s e = ap (λ (y : Series). each (step bs) y vs) e ∙ sym (pick_true _ _ _ a)
 
 -- ---- at a slot
 
-module _ (known : Bool) (bs : List Float) (x : ℕ) (u : Bool) (c : Cells) (vs : List Float) (a : Asked (explicitStore bs) (true, true) nan known x u c vs) where
+module _ (known : Bool) (bs : List Float) (x : ℕ) (u : Bool) (c : Cells) (vs : List Float) (a : Asked (explicit_store bs) (true, true) nan known x u c vs) where
   abbrev n : ℕ
-  n = bucketCount bs
+  n = bucket_count bs
 
   abbrev h : Head
-  h = headIn c x
+  h = head_in c x
 
   abbrev xs : List ℕ
-  xs = rowAt bs c.counts x
+  xs = row_at bs c.counts x
 
   -- the first value
   abbrev one : Float
@@ -142,7 +142,7 @@ module _ (known : Bool) (bs : List Float) (x : ℕ) (u : Bool) (c : Cells) (vs :
   long-row = part_length n c.counts x a.room.counts
 
   -- what is known of the slot's series is known of its row
-  pub known-row : known ≡ true → agreesIf bs u h xs ≡ true
+  pub known-row : known ≡ true → agrees_if bs u h xs ≡ true
   unfolding agreeing
   known-row k =
       ⊎_elim
@@ -160,18 +160,18 @@ module _ (known : Bool) (bs : List Float) (x : ℕ) (u : Bool) (c : Cells) (vs :
   loaded : begun bs u h xs ≡ load bs c x u
   loaded =
       ⊎_elim
-      (λ (e : u ≡ true). sym (begun-held bs h xs u e) ∙ (λ j. record { head = sym (pick_true u h freshHead e) j; counts = sym (pick_true u xs (replicate n 0) e) j }))
+      (λ (e : u ≡ true). sym (begun-held bs h xs u e) ∙ (λ j. record { head = sym (pick_true u h fresh_head e) j; counts = sym (pick_true u xs (replicate n 0) e) j }))
       (λ (e : u ≡ false). sym (begun-empty bs h xs u e)
-      ∙ (λ j. record { head = sym (pick-false u h freshHead e) j; counts = (all-zeros ∙ sym (pick-false u xs (replicate n 0) e)) j }))
+      ∙ (λ j. record { head = sym (pick-false u h fresh_head e) j; counts = (all-zeros ∙ sym (pick-false u xs (replicate n 0) e)) j }))
       (flag u)
 
-  pub passes : boundsPass bs ≡ true
-  passes = pick-left (boundsPass bs) 0 3 (omega arith) a.set
+  pub passes : bounds_pass bs ≡ true
+  passes = pick-left (bounds_pass bs) 0 3 (omega arith) a.set
 
   -- the loop left m, and the head was kept if anything was taken
   module _ (k : Elements (λ v. fits binary64 v ≡ true) nan vs) (m : Many Series) (e : m ≡ entering bs u h xs vs)
       (ts : List ℕ) (t : ts ≡ pick (eqb m.taken 0) c.totals (set c.totals x m.left.head.count))
-      (es : List (List Float)) (r : es ≡ pick (eqb m.taken 0) c.extremes (set c.extremes x (extremesOf m.left.head)))
+      (es : List (List Float)) (r : es ≡ pick (eqb m.taken 0) c.extremes (set c.extremes x (extremes_of m.left.head)))
     where
       abbrev end : Cells
       end = record { totals = ts; extremes = es; counts = put_at n c.counts x m.left.counts }
@@ -181,7 +181,7 @@ module _ (known : Bool) (bs : List Float) (x : ℕ) (u : Bool) (c : Cells) (vs :
       same z l =
           λ j. record {
             totals = (t ∙ pick_first m.taken z c.totals (set c.totals x m.left.head.count)) j;
-            extremes = (r ∙ pick_first m.taken z c.extremes (set c.extremes x (extremesOf m.left.head))) j;
+            extremes = (r ∙ pick_first m.taken z c.extremes (set c.extremes x (extremes_of m.left.head))) j;
             counts = (ap (put_at n c.counts x) l ∙ put_same n c.counts x) j;
           }
 
@@ -189,12 +189,12 @@ module _ (known : Bool) (bs : List Float) (x : ℕ) (u : Bool) (c : Cells) (vs :
       on d =
           λ j. record {
             totals = (t ∙ pick_second m.taken d c.totals (set c.totals x m.left.head.count)) j;
-            extremes = (r ∙ pick_second m.taken d c.extremes (set c.extremes x (extremesOf m.left.head))) j;
+            extremes = (r ∙ pick_second m.taken d c.extremes (set c.extremes x (extremes_of m.left.head))) j;
             counts = put_at n c.counts x m.left.counts;
           }
 
-      module _ (g : agreesIf bs u h xs ≡ true) where
-        ready : Ready (explicitStore bs) (true, true) x u c
+      module _ (g : agrees_if bs u h xs ≡ true) where
+        ready : Ready (explicit_store bs) (true, true) x u c
         unfolding agreeing
         ready = record { set = a.set; room = a.room; series = λ i. if-held bs h xs u i ∙ g }
 
@@ -216,34 +216,34 @@ module _ (known : Bool) (bs : List Float) (x : ℕ) (u : Bool) (c : Cells) (vs :
             (λ (i : u ≡ false). absurd (took-first i z))
             (flag u)
 
-        agreed-law : many m.taken m.no end ≡ recordedAll (explicitStore bs) x u c vs
-        agreed-law = slot-ends (owed bs) histograms-steady (true, true) (slotted bs) x u c ready vs k m each-is end off on
+        agreed_law : many m.taken m.no end ≡ recorded_all (explicit_store bs) x u c vs
+        agreed_law = slot-ends (owed bs) histograms-steady (true, true) (slotted bs) x u c ready vs k m each-is end off on
 
-      module _ (g : agreesIf bs u h xs ≡ false) where
+      module _ (g : agrees_if bs u h xs ≡ false) where
         stops : m ≡ stopped 8 (record { head = h; counts = xs })
-        stops = e ∙ sym (enters-8 bs h xs u vs g)
+        stops = e ∙ sym (enters_8 bs h xs u vs g)
 
         held-is : u ≡ true
         held-is = ⊎_elim (λ (i : u ≡ true). i) (λ (i : u ≡ false). true-not-false (if_none bs h xs u i ∙ g)) (flag u)
 
-        refused-law : many m.taken m.no end ≡ recordedAll (explicitStore bs) x u c vs
+        refused_law : many m.taken m.no end ≡ recorded_all (explicit_store bs) x u c vs
         unfolding agreeing
-        refused-law =
+        refused_law =
             let z = ap (λ (b : Many Series). b.taken) stops in
             let w = same z (ap (λ (b : Many Series). b.left.counts) stops) in
             (λ j. record { taken = z j; no = (stops j).no; left = w j })
             ∙ sym (unsound-all (owed bs) (true, true) x u c a.set a.room one (drop 1 vs) a.first held-is (if-held bs h xs u held-is ∙ g))
-            ∙ ap (recordedAll (explicitStore bs) x u c) (sym cut)
+            ∙ ap (recorded_all (explicit_store bs) x u c) (sym cut)
 
-      slot-law : many m.taken m.no end ≡ recordedAll (explicitStore bs) x u c vs
-      slot-law = ⊎_elim agreed-law refused-law (flag (agreesIf bs u h xs))
+      slot_law : many m.taken m.no end ≡ recorded_all (explicit_store bs) x u c vs
+      slot_law = ⊎_elim agreed_law refused_law (flag (agrees_if bs u h xs))
 
   -- the same where the code counted the buckets
   module _ (b : ℕ) (is : b ≡ n) (k : Elements (λ v. fits binary64 v ≡ true) nan vs) (m : Many Series) (e : m ≡ entering bs u h (part_at b c.counts x) vs)
       (ts : List ℕ) (t : ts ≡ pick (eqb m.taken 0) c.totals (set c.totals x m.left.head.count))
-      (es : List (List Float)) (r : es ≡ pick (eqb m.taken 0) c.extremes (set c.extremes x (extremesOf m.left.head)))
+      (es : List (List Float)) (r : es ≡ pick (eqb m.taken 0) c.extremes (set c.extremes x (extremes_of m.left.head)))
     where
-      pub kept-law : many m.taken m.no (record { totals = ts; extremes = es; counts = put_at b c.counts x m.left.counts }) ≡ recordedAll (explicitStore bs) x u c vs
-      kept-law =
+      pub kept_law : many m.taken m.no (record { totals = ts; extremes = es; counts = put_at b c.counts x m.left.counts }) ≡ recorded_all (explicit_store bs) x u c vs
+      kept_law =
           (λ j. many m.taken m.no (record { totals = ts; extremes = es; counts = put_at (is j) c.counts x m.left.counts }))
-          ∙ slot-law k m (e ∙ ap (λ (i : ℕ). entering bs u h (part_at i c.counts x) vs) is) ts t es r
+          ∙ slot_law k m (e ∙ ap (λ (i : ℕ). entering bs u h (part_at i c.counts x) vs) is) ts t es r

@@ -6,15 +6,15 @@ use mathlib.Core.List.{List, [], ◌∷◌}
 use native.Mathlib.Omega.{arith}
 use lib.Dec.{leb}
 use Rattle.laws.specs.Pick.{pick}
-use Rattle.value_map.specs.Store.{lengthsSuffice}
+use Rattle.value_map.specs.Store.{lengths_suffice}
 use Rattle.value_map.proofs.Products.{entry_in}
 use Rattle.batches.proofs.Rooms.{room_for}
 
 -- of stores with k counts a slot, with so many counts, totals and extremes: b is what `cells_suffice` answers, n what `slots_if` does
-pub slots-suffice : (k limit counts totals extremes : ℕ) (b : Bool) (n : ℕ) → totals ≤ 18446744073709551615
-    → b ≡ lengthsSuffice k limit (counts ∷ []) (totals ∷ extremes ∷ []) → n ≡ pick b 18446744073709551615 0
-    → leb (limit + 2) n ≡ lengthsSuffice k limit (counts ∷ []) (totals ∷ extremes ∷ [])
-slots-suffice k limit counts totals extremes b n h e p = room_for limit b n p (λ t. enough t) ∙ e
+pub slots_suffice : (k limit counts totals extremes : ℕ) (b : Bool) (n : ℕ) → totals ≤ 18446744073709551615
+    → b ≡ lengths_suffice k limit (counts ∷ []) (totals ∷ extremes ∷ []) → n ≡ pick b 18446744073709551615 0
+    → leb (limit + 2) n ≡ lengths_suffice k limit (counts ∷ []) (totals ∷ extremes ∷ [])
+slots_suffice k limit counts totals extremes b n h e p = room_for limit b n p (λ t. enough t) ∙ e
   where
     enough : b ≡ true → limit + 2 ≤ 18446744073709551615
     enough t =

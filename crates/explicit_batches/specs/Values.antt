@@ -5,11 +5,11 @@ use Rattle.std.specs.Float.Ieee.Scale.{finite}
 use Rattle.std.specs.Borrow.{Bor}
 use Rattle.laws.specs.Pick.{pick}
 use Rattle.laws.specs.Said.{Said, refusal, success, number}
-use Rattle.laws.specs.Counting.{mostCount}
+use Rattle.laws.specs.Counting.{most_count}
 use Rattle.rows.specs.Recording.{Recording, after}
-use Rattle.points.specs.Explicit.{bucketCount, bucketsAgree}
+use Rattle.points.specs.Explicit.{bucket_count, buckets_agree}
 use Rattle.explicit.specs.declared.Head.{Head}
-use Rattle.explicit.specs.Series.{bucketsIn, recording}
+use Rattle.explicit.specs.Series.{buckets_in, recording}
 
 -- a series as the code holds it: its head and its lent row
 pub record Series : Type 0 where
@@ -21,20 +21,20 @@ abbrev pub series : Head → Bor (List ℕ) → Series
 series h counts = record { head = h; counts = counts.now }
 
 -- the head that a call leaves: a refused one leaves the old
-abbrev pub headAfter : {Head : Type 0} → Said Head → Head → Head
-headAfter (success h) old = h
-headAfter (refusal n) old = old
+abbrev pub head_after : {Head : Type 0} → Said Head → Head → Head
+head_after (success h) old = h
+head_after (refusal n) old = old
 
 -- a value more: what `explicit` says of it
 unfoldable pub step : List Float → Series → Float → Recording Series
 step bounds s v =
     let o = recording bounds s.head s.counts v in
-    after (number o.answer) (record { head = headAfter o.answer s.head; counts = o.counts })
+    after (number o.answer) (record { head = head_after o.answer s.head; counts = o.counts })
 
 -- counts that agree, in a row that is long enough
 pub record Counted (bounds : List Float) (count : ℕ) (xs : List ℕ) : Type 0 where
-  pub agree : bucketsAgree bounds (bucketsIn bounds count xs) ≡ true
-  pub long : bucketCount bounds ≤ length xs
+  pub agree : buckets_agree bounds (buckets_in bounds count xs) ≡ true
+  pub long : bucket_count bounds ≤ length xs
 
 -- a series that agrees
 pub record Sound (bounds : List Float) (s : Series) : Type 0 where
@@ -44,4 +44,4 @@ pub record Sound (bounds : List Float) (s : Series) : Type 0 where
 
 -- the number that refuses a value in such a series: of "12, 6, 5, 8, 9" 6 and 9 are left
 unfoldable pub barring : ℕ → Float → ℕ
-barring count v = pick (finite v) (pick (leb mostCount count) 9 0) 6
+barring count v = pick (finite v) (pick (leb most_count count) 9 0) 6

@@ -6,14 +6,14 @@ mod slot;
 ghost use Rattle.std.specs.Prelude.{◌≡◌, true};
 ghost use Rattle.std.specs.Float.{nan};
 ghost use Rattle.many.specs.Many.{many};
-ghost use Rattle.sets.specs.Sorted.{given, filterOf};
+ghost use Rattle.sets.specs.Sorted.{given, filter_of};
 ghost use Rattle.directory.specs.View.{stores};
 ghost use Rattle.explicit_slots.specs.Cells.{cells};
-ghost use Rattle.value_map.specs.Calls.{held, gave, measured, measuredBy};
-ghost use Rattle.value_map.specs.Explicit.{explicitStore};
+ghost use Rattle.value_map.specs.Calls.{held, gave, measured, measured_by};
+ghost use Rattle.value_map.specs.Explicit.{explicit_store};
 ghost use Rattle.batches.specs.Agreed.{AgreedBy, AgreedFor};
-ghost use Rattle.batches.specs.Batch.{measuredAll, measuredAllBy};
-ghost use Rattle.batches.specs.Inner.{recordedAll, unlessStopped};
+ghost use Rattle.batches.specs.Batch.{measured_all, measured_all_by};
+ghost use Rattle.batches.specs.Inner.{recorded_all, unless_stopped};
 ghost use Rattle.batches.specs.Asked.{Asked};
 
 use batches::Batch;
@@ -25,8 +25,8 @@ use value_map::first::takes;
 
 // The number with which configuring refuses the bounds, asked once for a list: where it is known to accept them, not at all.
 pub fn unset_if(known: bool, bounds: &[f64]) -> u8
-    requires { known ≡ true → (explicitStore bounds.now).unset ≡ 0 }
-    ensures { result ≡ (explicitStore bounds.now).unset }
+    requires { known ≡ true → (explicit_store bounds.now).unset ≡ 0 }
+    ensures { result ≡ (explicit_store bounds.now).unset }
 {
     if known {
         return 0;
@@ -46,10 +46,10 @@ fn take_all(
     counts: &mut [u64],
     values: &[f64],
 ) -> Taken
-    requires { no ≡ 0 → Asked (explicitStore bounds.now) (true, true) nan known x updated (cells totals extremes counts) values.now }
+    requires { no ≡ 0 → Asked (explicit_store bounds.now) (true, true) nan known x updated (cells totals extremes counts) values.now }
     ensures { many result.taken result.no (cells totals.exit extremes.exit counts.exit)
-        ≡ unlessStopped no (cells totals.entry extremes.entry counts.entry)
-        (recordedAll (explicitStore bounds.now) x updated (cells totals.entry extremes.entry counts.entry) values.now) }
+        ≡ unless_stopped no (cells totals.entry extremes.entry counts.entry)
+        (recorded_all (explicit_store bounds.now) x updated (cells totals.entry extremes.entry counts.entry) values.now) }
 {
     if no != 0 {
         return Taken { taken: 0, no: no };
@@ -74,11 +74,11 @@ fn all(
     present: bool,
     filter: &[u32],
 ) -> Batch
-    requires { known ≡ true → AgreedFor (explicitStore bounds.now) (true, true) limit (filterOf present filter.now)
+    requires { known ≡ true → AgreedFor (explicit_store bounds.now) (true, true) limit (filter_of present filter.now)
         (held d (stores sets entries order) (cells totals extremes counts)) (given attrs.now) }
     ensures { many result.taken result.no
         (held result.dir (stores sets.exit entries.exit order.exit) (cells totals.exit extremes.exit counts.exit))
-        ≡ measuredAll (explicitStore bounds.now) limit (filterOf present filter.now)
+        ≡ measured_all (explicit_store bounds.now) limit (filter_of present filter.now)
         (held d (stores sets.entry entries.entry order.entry) (cells totals.entry extremes.entry counts.entry))
         values.now (given attrs.now) }
 {
@@ -129,11 +129,11 @@ fn all_by(
     values: &[f64],
     h: u64,
 ) -> Batch
-    requires { known ≡ true → AgreedBy (explicitStore bounds.now) (true, true) limit
+    requires { known ≡ true → AgreedBy (explicit_store bounds.now) (true, true) limit
         (held d (stores sets entries order) (cells totals extremes counts)) h }
     ensures { many result.taken result.no
         (held result.dir (stores sets.exit entries.exit order.exit) (cells totals.exit extremes.exit counts.exit))
-        ≡ measuredAllBy (explicitStore bounds.now) limit
+        ≡ measured_all_by (explicit_store bounds.now) limit
         (held d (stores sets.entry entries.entry order.entry) (cells totals.entry extremes.entry counts.entry))
         values.now h }
 {
@@ -185,7 +185,7 @@ pub fn measure_all(
 ) -> Batch
     ensures { many result.taken result.no
         (held result.dir (stores sets.exit entries.exit order.exit) (cells totals.exit extremes.exit counts.exit))
-        ≡ measuredAll (explicitStore bounds.now) limit (filterOf present filter.now)
+        ≡ measured_all (explicit_store bounds.now) limit (filter_of present filter.now)
         (held d (stores sets.entry entries.entry order.entry) (cells totals.entry extremes.entry counts.entry))
         values.now (given attrs.now) }
 {
@@ -211,7 +211,7 @@ pub fn measure_all_by(
 ) -> Batch
     ensures { many result.taken result.no
         (held result.dir (stores sets.exit entries.exit order.exit) (cells totals.exit extremes.exit counts.exit))
-        ≡ measuredAllBy (explicitStore bounds.now) limit
+        ≡ measured_all_by (explicit_store bounds.now) limit
         (held d (stores sets.entry entries.entry order.entry) (cells totals.entry extremes.entry counts.entry))
         values.now h }
 {
@@ -236,11 +236,11 @@ pub fn measure_all_agreed(
     present: bool,
     filter: &[u32],
 ) -> Batch
-    requires { AgreedFor (explicitStore bounds.now) (true, true) limit (filterOf present filter.now)
+    requires { AgreedFor (explicit_store bounds.now) (true, true) limit (filter_of present filter.now)
         (held d (stores sets entries order) (cells totals extremes counts)) (given attrs.now) }
     ensures { many result.taken result.no
         (held result.dir (stores sets.exit entries.exit order.exit) (cells totals.exit extremes.exit counts.exit))
-        ≡ measuredAll (explicitStore bounds.now) limit (filterOf present filter.now)
+        ≡ measured_all (explicit_store bounds.now) limit (filter_of present filter.now)
         (held d (stores sets.entry entries.entry order.entry) (cells totals.entry extremes.entry counts.entry))
         values.now (given attrs.now) }
 {
@@ -264,11 +264,11 @@ pub fn measure_all_by_agreed(
     values: &[f64],
     h: u64,
 ) -> Batch
-    requires { AgreedBy (explicitStore bounds.now) (true, true) limit
+    requires { AgreedBy (explicit_store bounds.now) (true, true) limit
         (held d (stores sets entries order) (cells totals extremes counts)) h }
     ensures { many result.taken result.no
         (held result.dir (stores sets.exit entries.exit order.exit) (cells totals.exit extremes.exit counts.exit))
-        ≡ measuredAllBy (explicitStore bounds.now) limit
+        ≡ measured_all_by (explicit_store bounds.now) limit
         (held d (stores sets.entry entries.entry order.entry) (cells totals.entry extremes.entry counts.entry))
         values.now h }
 {
@@ -293,10 +293,10 @@ pub fn measure_agreed(
     present: bool,
     filter: &[u32],
 ) -> Reply
-    requires { AgreedFor (explicitStore bounds.now) (true, true) limit (filterOf present filter.now)
+    requires { AgreedFor (explicit_store bounds.now) (true, true) limit (filter_of present filter.now)
         (held d (stores sets entries order) (cells totals extremes counts)) (given attrs.now) }
     ensures { gave result (stores sets.exit entries.exit order.exit) (cells totals.exit extremes.exit counts.exit)
-        ≡ measured (explicitStore bounds.now) limit (filterOf present filter.now)
+        ≡ measured (explicit_store bounds.now) limit (filter_of present filter.now)
         (held d (stores sets.entry entries.entry order.entry) (cells totals.entry extremes.entry counts.entry))
         v (given attrs.now) }
 {
@@ -322,10 +322,10 @@ pub fn measure_by_agreed(
     v: f64,
     h: u64,
 ) -> Reply
-    requires { AgreedBy (explicitStore bounds.now) (true, true) limit
+    requires { AgreedBy (explicit_store bounds.now) (true, true) limit
         (held d (stores sets entries order) (cells totals extremes counts)) h }
     ensures { gave result (stores sets.exit entries.exit order.exit) (cells totals.exit extremes.exit counts.exit)
-        ≡ measuredBy (explicitStore bounds.now) limit
+        ≡ measured_by (explicit_store bounds.now) limit
         (held d (stores sets.entry entries.entry order.entry) (cells totals.entry extremes.entry counts.entry))
         v h }
 {

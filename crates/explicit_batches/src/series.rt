@@ -1,6 +1,6 @@
 // Many values into one series of the explicit kind that agrees: its head by value, its counts at the front of a lent slice.
 ghost use Rattle.std.specs.Prelude.{◌≡◌, ◌+◌, ◌<◌};
-ghost use Rattle.laws.specs.Counting.{mostCount};
+ghost use Rattle.laws.specs.Counting.{most_count};
 ghost use Rattle.many.specs.Many.{many, each};
 ghost use Rattle.points.specs.Values.{noted};
 ghost use Rattle.explicit.specs.Series.{head_of, summary};
@@ -31,7 +31,7 @@ fn barred(count: u64, v: f64) -> u8
 
 // The head with a value more.
 fn raised(h: Head, v: f64) -> Head
-    requires { h.count < mostCount }
+    requires { h.count < most_count }
     ensures { result ≡ head_of (h.count + 1) (noted (summary h) v) }
 {
     let least = floats::lesser(h.min, v);

@@ -3,13 +3,13 @@ ghost use Rattle.std.specs.Prelude.{◌≡◌, true, ◌<◌, ◌≤◌, eqb, le
 ghost use Rattle.std.specs.Float.{nan};
 ghost use Rattle.laws.specs.Pick.{pick};
 ghost use Rattle.many.specs.Many.{many};
-ghost use Rattle.points.specs.Explicit.{boundsPass, bucketCount};
+ghost use Rattle.points.specs.Explicit.{bounds_pass, bucket_count};
 ghost use Rattle.explicit_slots.specs.Cells.{cells};
-ghost use Rattle.value_map.specs.Explicit.{explicitStore};
-ghost use Rattle.batches.specs.Inner.{recordedAll};
+ghost use Rattle.value_map.specs.Explicit.{explicit_store};
+ghost use Rattle.batches.specs.Inner.{recorded_all};
 ghost use Rattle.batches.specs.Asked.{Asked};
 ghost use Rattle.explicit_batches.specs.Values.{series};
-ghost use Rattle.explicit_batches.specs.Slot.{extremesOf, agreeing, agreesIf, begun, entering};
+ghost use Rattle.explicit_batches.specs.Slot.{extremes_of, agreeing, agrees_if, begun, entering};
 
 use crate::series::Run;
 use explicit::{Answer, Head};
@@ -30,8 +30,8 @@ fn agrees(bounds: &[f64], head: Head, counts: &[u64]) -> bool
 
 // Whether the series agrees, where one is held: not asked again where it is known.
 fn agrees_if(known: bool, bounds: &[f64], updated: bool, head: Head, counts: &[u64]) -> bool
-    requires { known ≡ true → agreesIf bounds.now updated head counts.now ≡ true }
-    ensures { result ≡ agreesIf bounds.now updated head counts.now }
+    requires { known ≡ true → agrees_if bounds.now updated head counts.now ≡ true }
+    ensures { result ≡ agrees_if bounds.now updated head counts.now }
 {
     if known {
         return true;
@@ -44,7 +44,7 @@ fn agrees_if(known: bool, bounds: &[f64], updated: bool, head: Head, counts: &[u
 
 // The head to go on from: that of the series, or a fresh one with zeros in its row where none is held.
 fn begin(bounds: &[f64], updated: bool, head: Head, counts: &mut [u64]) -> Head
-    requires { bucketCount bounds.now ≤ length counts.old }
+    requires { bucket_count bounds.now ≤ length counts.old }
     ensures { series result counts.exit ≡ begun bounds.now updated head counts.old }
 {
     if updated {
@@ -66,8 +66,8 @@ fn enter_all(
     counts: &mut [u64],
     values: &[f64],
 ) -> Run
-    requires { (boundsPass bounds.now ≡ true) × (bucketCount bounds.now ≤ length counts.old)
-        × (known ≡ true → agreesIf bounds.now updated head counts.old ≡ true) }
+    requires { (bounds_pass bounds.now ≡ true) × (bucket_count bounds.now ≤ length counts.old)
+        × (known ≡ true → agrees_if bounds.now updated head counts.old ≡ true) }
     ensures { many result.taken result.no (series result.head counts.exit)
         ≡ entering bounds.now updated head counts.old values.now }
 {
@@ -86,7 +86,7 @@ fn enter_all(
 fn keep(x: usize, totals: &mut [u64], extremes: &mut [[f64; 3]], run: Run)
     requires { (x < length totals.old) × (x < length extremes.old) }
     ensures totals_after { totals.new ≡ pick (eqb run.taken 0) totals.old (set totals.old x run.head.count) }
-    ensures extremes_after { extremes.new ≡ pick (eqb run.taken 0) extremes.old (set extremes.old x (extremesOf run.head)) }
+    ensures extremes_after { extremes.new ≡ pick (eqb run.taken 0) extremes.old (set extremes.old x (extremes_of run.head)) }
 {
     if run.taken == 0 {
         return;
@@ -108,9 +108,9 @@ pub fn record_all(
     counts: &mut [u64],
     values: &[f64],
 ) -> Taken
-    requires { Asked (explicitStore bounds.now) (true, true) nan known x updated (cells totals extremes counts) values.now }
+    requires { Asked (explicit_store bounds.now) (true, true) nan known x updated (cells totals extremes counts) values.now }
     ensures { many result.taken result.no (cells totals.exit extremes.exit counts.exit)
-        ≡ recordedAll (explicitStore bounds.now) x updated (cells totals.entry extremes.entry counts.entry) values.now }
+        ≡ recorded_all (explicit_store bounds.now) x updated (cells totals.entry extremes.entry counts.entry) values.now }
 {
     let n = explicit::bucket_count(bounds);
     let a = x * n;

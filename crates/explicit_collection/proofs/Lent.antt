@@ -11,8 +11,8 @@ use Rattle.laws.specs.Said.{Said, refusal, success}
 use Rattle.laws.proofs.Bools.{flag, pick_true, pick-false}
 use Rattle.kinds.specs.Histograms.{histograms}
 use Rattle.explicit.specs.declared.Head.{Head}
-use Rattle.explicit.specs.Series.{Outcome, refusalOf, recording}
-use Rattle.explicit_slots.specs.Cells.{Cells, headAt, countsAt, written, recordedAt}
+use Rattle.explicit.specs.Series.{Outcome, refusal_of, recording}
+use Rattle.explicit_slots.specs.Cells.{Cells, head_at, counts_at, written, recorded_at}
 use Rattle.collecting.specs.Read.{AllFit}
 use Rattle.collecting.proofs.Fits.{more-fits, put-fits}
 use Rattle.explicit_collection.proofs.Lists.{HeadFits, head-fits}
@@ -30,7 +30,7 @@ module _ (bounds : List Float) (v : Float) (t : histograms.finite v ≡ true) wh
   recording-fits : (h : Head) → HeadFits h → (xs : List ℕ) → Said-fits (recording bounds h xs v).answer
   unfolding recording
   recording-fits h f xs =
-      let b = eqb (refusalOf bounds h xs v) 0 in
+      let b = eqb (refusal_of bounds h xs v) 0 in
       ⊎_elim
       (λ (e : b ≡ true). subst (λ (o : Outcome). Said-fits o.answer) (sym (pick_true b _ _ e))
       (more-fits h.min h.max h.sum v t f))
@@ -38,8 +38,8 @@ module _ (bounds : List Float) (v : Float) (t : histograms.finite v ≡ true) wh
       (flag b)
 
   -- RECORDING KEEPS IT, whatever is refused
-  pub recording-keeps : (x : ℕ) (u : Bool) (c : Cells) → AllFit c.extremes → AllFit (recordedAt bounds x u c v).cells.extremes
-  unfolding recordedAt
+  pub recording-keeps : (x : ℕ) (u : Bool) (c : Cells) → AllFit c.extremes → AllFit (recorded_at bounds x u c v).cells.extremes
+  unfolding recorded_at
   recording-keeps x u c l =
-      let o = recording bounds (headAt c x u) (countsAt bounds c x u) v in
-      written_keeps bounds x c l o.answer o.counts (recording-fits (headAt c x u) (head-fits c x u l) (countsAt bounds c x u))
+      let o = recording bounds (head_at c x u) (counts_at bounds c x u) v in
+      written_keeps bounds x c l o.answer o.counts (recording-fits (head_at c x u) (head-fits c x u l) (counts_at bounds c x u))

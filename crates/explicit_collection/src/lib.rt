@@ -6,17 +6,17 @@ mod walk;
 
 ghost use Rattle.std.specs.Prelude.{◌≡◌};
 ghost use Rattle.std.proofs.Math.Option.{none};
-ghost use Rattle.sets.specs.Sorted.{filterOf};
+ghost use Rattle.sets.specs.Sorted.{filter_of};
 ghost use Rattle.directory.specs.View.{stores};
 ghost use Rattle.bindings.specs.Calls as Bindings;
 ghost use Rattle.explicit_slots.specs.Cells.{cells};
 ghost use Rattle.value_map.specs.Calls.{held};
-ghost use Rattle.value_map.specs.Explicit.{explicitStore};
+ghost use Rattle.value_map.specs.Explicit.{explicit_store};
 ghost use Rattle.batches.specs.Owned.{Owned};
 ghost use Rattle.listing.specs.Listed.{output};
-ghost use Rattle.collecting.specs.Configured.{setUp, configuring};
-ghost use Rattle.collecting.specs.Collected.{gave, deltaCollected, cumulativeCollected};
-ghost use Rattle.explicit_collection.specs.Points.{explicitLister};
+ghost use Rattle.collecting.specs.Configured.{set_up, configuring};
+ghost use Rattle.collecting.specs.Collected.{gave, delta_collected, cumulative_collected};
+ghost use Rattle.explicit_collection.specs.Points.{explicit_lister};
 ghost use Rattle.explicit_collection.specs.Configured.{said, configured};
 
 use collecting::{Answer, Reply};
@@ -46,7 +46,7 @@ pub enum Configured {
 
 // What configuring says by what the start of the map replied.
 pub fn set_up(settings: Settings, reply: bindings::Reply) -> Configured
-    ensures { said result ≡ setUp (record { settings = settings; dir = reply.dir }) (Bindings.said reply.answer) }
+    ensures { said result ≡ set_up (record { settings = settings; dir = reply.dir }) (Bindings.said reply.answer) }
 {
     let dir = reply.dir;
     let answer = reply.answer;
@@ -73,7 +73,7 @@ pub fn configure(
     counts: &[u64],
 ) -> Configured
     ensures { configuring (said result) (stores sets.entry entries.exit order.entry)
-        ≡ configured bounds.now show sums limit (filterOf present filter.now)
+        ≡ configured bounds.now show sums limit (filter_of present filter.now)
         (stores sets.entry entries.entry order.entry) (cells totals.entry extremes.entry counts.entry) }
 {
     let reply = value_map::explicit_map::start(
@@ -106,7 +106,7 @@ pub fn delta(
     ensures { gave result.answer
         (held result.dir (stores sets.exit entries.exit order.exit) (cells totals.entry extremes.entry counts.entry))
         (output out_sets.exit out_words.exit out_pos.exit out_neg.exit)
-        ≡ deltaCollected (explicitLister bounds.now) (s.extremes, s.sums) s.limit
+        ≡ delta_collected (explicit_lister bounds.now) (s.extremes, s.sums) s.limit
         (held d (stores sets.entry entries.entry order.entry) (cells totals.entry extremes.entry counts.entry))
         (output out_sets.entry out_words.entry out_pos.entry out_neg.entry) }
 {
@@ -132,12 +132,12 @@ pub fn delta_agreed(
     out_pos: &mut [u64],
     out_neg: &mut [u64],
 ) -> Reply
-    requires { Owned (explicitStore bounds.now) (s.extremes, s.sums) s.limit none
+    requires { Owned (explicit_store bounds.now) (s.extremes, s.sums) s.limit none
         (held d (stores sets entries order) (cells totals extremes counts)) }
     ensures { gave result.answer
         (held result.dir (stores sets.exit entries.exit order.exit) (cells totals.entry extremes.entry counts.entry))
         (output out_sets.exit out_words.exit out_pos.exit out_neg.exit)
-        ≡ deltaCollected (explicitLister bounds.now) (s.extremes, s.sums) s.limit
+        ≡ delta_collected (explicit_lister bounds.now) (s.extremes, s.sums) s.limit
         (held d (stores sets.entry entries.entry order.entry) (cells totals.entry extremes.entry counts.entry))
         (output out_sets.entry out_words.entry out_pos.entry out_neg.entry) }
 {
@@ -166,7 +166,7 @@ pub fn cumulative(
     ensures { gave result
         (held d (stores sets.entry entries.entry order.entry) (cells totals.entry extremes.entry counts.entry))
         (output out_sets.exit out_words.exit out_pos.exit out_neg.exit)
-        ≡ cumulativeCollected (explicitLister bounds.now) (s.extremes, s.sums) s.limit
+        ≡ cumulative_collected (explicit_lister bounds.now) (s.extremes, s.sums) s.limit
         (held d (stores sets.entry entries.entry order.entry) (cells totals.entry extremes.entry counts.entry))
         (output out_sets.entry out_words.entry out_pos.entry out_neg.entry) }
 {
@@ -192,12 +192,12 @@ pub fn cumulative_agreed(
     out_pos: &mut [u64],
     out_neg: &mut [u64],
 ) -> Answer
-    requires { Owned (explicitStore bounds.now) (s.extremes, s.sums) s.limit none
+    requires { Owned (explicit_store bounds.now) (s.extremes, s.sums) s.limit none
         (held d (stores sets entries order) (cells totals extremes counts)) }
     ensures { gave result
         (held d (stores sets.entry entries.entry order.entry) (cells totals.entry extremes.entry counts.entry))
         (output out_sets.exit out_words.exit out_pos.exit out_neg.exit)
-        ≡ cumulativeCollected (explicitLister bounds.now) (s.extremes, s.sums) s.limit
+        ≡ cumulative_collected (explicit_lister bounds.now) (s.extremes, s.sums) s.limit
         (held d (stores sets.entry entries.entry order.entry) (cells totals.entry extremes.entry counts.entry))
         (output out_sets.entry out_words.entry out_pos.entry out_neg.entry) }
 {

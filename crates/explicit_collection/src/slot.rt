@@ -1,17 +1,17 @@
 // One slot of the stores: what a collection finds there, and its point put into the output.
 ghost use Rattle.std.specs.Prelude.{◌≡◌, true, not, ◌||◌, [], ◌<◌, ◌≤◌, length, replicate};
-ghost use Rattle.points.specs.Explicit.{boundsPass, bucketCount};
-ghost use Rattle.explicit.specs.Series.{freshHead};
-ghost use Rattle.point.specs.Handing.{explicitPoint};
+ghost use Rattle.points.specs.Explicit.{bounds_pass, bucket_count};
+ghost use Rattle.explicit.specs.Series.{fresh_head};
+ghost use Rattle.point.specs.Handing.{explicit_point};
 ghost use Rattle.kinds.specs.Histograms.{histograms};
-ghost use Rattle.explicit_slots.specs.Cells.{cells, headIn, seriesAt, Room};
-ghost use Rattle.value_map.specs.Explicit.{explicitStore};
+ghost use Rattle.explicit_slots.specs.Cells.{cells, head_in, series_at, Room};
+ghost use Rattle.value_map.specs.Explicit.{explicit_store};
 ghost use Rattle.batches.specs.Inner.{Known};
 ghost use Rattle.listing.specs.Listed.{output};
 ghost use Rattle.listing.specs.Inner.{left};
-ghost use Rattle.collecting.specs.Slots.{oneMore, Few, More, Place, surveyedAt, Sound, Free, putSlot};
-ghost use Rattle.explicit_collection.specs.Points.{explicitLister};
-ghost use Rattle.explicit_collection.specs.Ready.{pointPut};
+ghost use Rattle.collecting.specs.Slots.{one_more, Few, More, Place, surveyed_at, Sound, Free, put_slot};
+ghost use Rattle.explicit_collection.specs.Points.{explicit_lister};
+ghost use Rattle.explicit_collection.specs.Ready.{point_put};
 
 use collecting::Survey;
 use explicit::{Answer, Head};
@@ -20,7 +20,7 @@ use listing::{Cursor, Span};
 // The head of slot x.
 fn head_at(x: usize, totals: &[u64], extremes: &[[f64; 3]]) -> Head
     requires { (x < length totals.now) × (x < length extremes.now) }
-    ensures { result ≡ headIn (record { totals = totals.entry.now; extremes = extremes.now; counts = [] }) x }
+    ensures { result ≡ head_in (record { totals = totals.entry.now; extremes = extremes.now; counts = [] }) x }
 {
     Head {
         count: totals[x],
@@ -39,8 +39,8 @@ fn agrees_at(
     counts: &[u64],
 ) -> bool
     requires { Room bounds.now (cells totals extremes counts) x }
-    ensures { result ≡ histograms.agrees ((explicitStore bounds.now).settings (true, true))
-        (seriesAt bounds.now (cells totals.entry extremes.entry counts.entry) x) }
+    ensures { result ≡ histograms.agrees ((explicit_store bounds.now).settings (true, true))
+        (series_at bounds.now (cells totals.entry extremes.entry counts.entry) x) }
 {
     let n = explicit::bucket_count(bounds);
     let a = x * n;
@@ -58,7 +58,7 @@ fn agrees_at(
 // A survey with a point of n counts more.
 pub fn one_more(s: Survey, n: usize) -> Survey
     requires { Few s × (n ≤ 160) }
-    ensures { result ≡ oneMore s n 0 }
+    ensures { result ≡ one_more s n 0 }
 {
     Survey {
         sound: true,
@@ -79,9 +79,9 @@ fn sound_at(
     counts: &[u64],
 ) -> bool
     requires room { Room bounds.now (cells totals extremes counts) x }
-    requires known { Known (explicitStore bounds.now) (true, true) known x updated (cells totals extremes counts) }
-    ensures { result ≡ (not updated || histograms.agrees ((explicitStore bounds.now).settings (true, true))
-        (seriesAt bounds.now (cells totals.entry extremes.entry counts.entry) x)) }
+    requires known { Known (explicit_store bounds.now) (true, true) known x updated (cells totals extremes counts) }
+    ensures { result ≡ (not updated || histograms.agrees ((explicit_store bounds.now).settings (true, true))
+        (series_at bounds.now (cells totals.entry extremes.entry counts.entry) x)) }
 {
     if known {
         return true;
@@ -104,9 +104,9 @@ pub fn survey(
     extremes: &[[f64; 3]],
     counts: &[u64],
 ) -> Survey
-    requires bounds_value { (boundsPass bounds.now ≡ true) × Room bounds.now (cells totals extremes counts) x }
-    requires few { Few s × Known (explicitStore bounds.now) (true, true) known x updated (cells totals extremes counts) }
-    ensures value { result ≡ surveyedAt (explicitLister bounds.now) (true, true) updated due
+    requires bounds_value { (bounds_pass bounds.now ≡ true) × Room bounds.now (cells totals extremes counts) x }
+    requires few { Few s × Known (explicit_store bounds.now) (true, true) known x updated (cells totals extremes counts) }
+    ensures value { result ≡ surveyed_at (explicit_lister bounds.now) (true, true) updated due
         (cells totals.entry extremes.entry counts.entry) s x }
     ensures more { More s result }
 {
@@ -138,10 +138,10 @@ fn put_point(
     out_pos: &mut [u64],
     out_neg: &mut [u64],
 ) -> Cursor
-    requires bounds_value { (boundsPass bounds.now ≡ true) × (bucketCount bounds.now ≤ length counts.now) }
-    requires place { Place at (output out_sets out_words out_pos out_neg) (bucketCount bounds.now) 0 }
+    requires bounds_value { (bounds_pass bounds.now ≡ true) × (bucket_count bounds.now ≤ length counts.now) }
+    requires place { Place at (output out_sets out_words out_pos out_neg) (bucket_count bounds.now) 0 }
     ensures { left result (output out_sets.exit out_words.exit out_pos.exit out_neg.exit)
-        ≡ pointPut bounds.now (explicitPoint head show sums) at row counts.now
+        ≡ point_put bounds.now (explicit_point head show sums) at row counts.now
         (output out_sets.entry out_words.entry out_pos.entry out_neg.entry) }
 {
     let p = point::explicit_point(head, show, sums);
@@ -166,10 +166,10 @@ fn put_fresh(
     out_pos: &mut [u64],
     out_neg: &mut [u64],
 ) -> Cursor
-    requires bounds_value { boundsPass bounds.now ≡ true }
-    requires place { Place at (output out_sets out_words out_pos out_neg) (bucketCount bounds.now) 0 }
+    requires bounds_value { bounds_pass bounds.now ≡ true }
+    requires place { Place at (output out_sets out_words out_pos out_neg) (bucket_count bounds.now) 0 }
     ensures { left result (output out_sets.exit out_words.exit out_pos.exit out_neg.exit)
-        ≡ pointPut bounds.now (explicitPoint freshHead show sums) at row (replicate (bucketCount bounds.now) 0)
+        ≡ point_put bounds.now (explicit_point fresh_head show sums) at row (replicate (bucket_count bounds.now) 0)
         (output out_sets.entry out_words.entry out_pos.entry out_neg.entry) }
 {
     let mut zeros: [u64; 160] = [0; 160];
@@ -210,11 +210,11 @@ pub fn put(
     out_pos: &mut [u64],
     out_neg: &mut [u64],
 ) -> Cursor
-    requires sound { Sound (explicitLister bounds.now) (show, sums) updated (cells totals extremes counts) x }
-    requires free { due ≡ true → Free (explicitLister bounds.now) (show, sums) updated (cells totals extremes counts) x at
+    requires sound { Sound (explicit_lister bounds.now) (show, sums) updated (cells totals extremes counts) x }
+    requires free { due ≡ true → Free (explicit_lister bounds.now) (show, sums) updated (cells totals extremes counts) x at
         (output out_sets out_words out_pos out_neg) }
     ensures { left result (output out_sets.exit out_words.exit out_pos.exit out_neg.exit)
-        ≡ putSlot (explicitLister bounds.now) (show, sums) updated due (cells totals.entry extremes.entry counts.entry) x row at
+        ≡ put_slot (explicit_lister bounds.now) (show, sums) updated due (cells totals.entry extremes.entry counts.entry) x row at
         (output out_sets.entry out_words.entry out_pos.entry out_neg.entry) }
 {
     if !due {

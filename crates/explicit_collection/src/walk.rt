@@ -1,11 +1,11 @@
 // All slots, ascending by set: what a collection finds, and the points that are due put into the output.
 ghost use Rattle.std.specs.Prelude.{◌≡◌, true, []};
 ghost use Rattle.explicit_slots.specs.Cells.{cells};
-ghost use Rattle.value_map.specs.Explicit.{explicitStore};
+ghost use Rattle.value_map.specs.Explicit.{explicit_store};
 ghost use Rattle.listing.specs.Listed.{output};
 ghost use Rattle.listing.specs.Inner.{left};
-ghost use Rattle.collecting.specs.Slots.{walked, Walk, AllKnown, surveyed, Listable, listedTo};
-ghost use Rattle.explicit_collection.specs.Points.{explicitLister};
+ghost use Rattle.collecting.specs.Slots.{walked, Walk, AllKnown, surveyed, Listable, listed_to};
+ghost use Rattle.explicit_collection.specs.Points.{explicit_lister};
 
 use collecting::Survey;
 use listing::Cursor;
@@ -22,10 +22,10 @@ pub fn survey(
     extremes: &[[f64; 3]],
     counts: &[u64],
 ) -> Survey
-    requires walk { Walk (explicitStore bounds.now) (walked used [] entries.now order.now (cells totals extremes counts)) }
-    requires all_known { AllKnown (explicitStore bounds.now) (true, true) known
+    requires walk { Walk (explicit_store bounds.now) (walked used [] entries.now order.now (cells totals extremes counts)) }
+    requires all_known { AllKnown (explicit_store bounds.now) (true, true) known
         (walked used [] entries.now order.now (cells totals extremes counts)) }
-    ensures { result ≡ surveyed (explicitLister bounds.now) (true, true) cumulative
+    ensures { result ≡ surveyed (explicit_lister bounds.now) (true, true) cumulative
         (walked used [] entries.now order.now (cells totals.entry extremes.entry counts.entry)) }
 {
     let mut found = Survey {
@@ -69,10 +69,10 @@ pub fn list(
     out_pos: &mut [u64],
     out_neg: &mut [u64],
 ) -> Cursor
-    requires { Listable (explicitLister bounds.now) (show, sums) cumulative
+    requires { Listable (explicit_lister bounds.now) (show, sums) cumulative
         (walked used sets.now entries.now order.now (cells totals extremes counts)) (output out_sets out_words out_pos out_neg) }
     ensures { left result (output out_sets.exit out_words.exit out_pos.exit out_neg.exit)
-        ≡ listedTo (explicitLister bounds.now) (show, sums) cumulative
+        ≡ listed_to (explicit_lister bounds.now) (show, sums) cumulative
         (walked used sets.now entries.now order.now (cells totals.entry extremes.entry counts.entry))
         (output out_sets.entry out_words.entry out_pos.entry out_neg.entry) }
 {

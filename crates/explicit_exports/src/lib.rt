@@ -5,8 +5,8 @@ ghost use Rattle.sets.specs.Sorted.{given};
 ghost use Rattle.directory.specs.View.{stores};
 ghost use Rattle.explicit_slots.specs.Cells.{cells};
 ghost use Rattle.value_map.specs.Calls.{held, measured};
-ghost use Rattle.value_map.specs.Explicit.{explicitStore};
-ghost use Rattle.map_words.specs.Words.{state_of, handed, handedOut};
+ghost use Rattle.value_map.specs.Explicit.{explicit_store};
+ghost use Rattle.map_words.specs.Words.{state_of, handed, handed_out};
 
 // Records a value into the series of the attributes' set. The state is one entry of three words. Returns document 01's number.
 #[unsafe(no_mangle)]
@@ -24,7 +24,7 @@ pub extern "C" fn explicit_measure(
     attrs: &[[u32; 2]],
 ) -> u64
     ensures { handed result state.exit (stores sets.exit entries.exit order.exit) (cells totals.exit extremes.exit counts.exit)
-        ≡ handedOut state.old (measured (explicitStore bounds.now) limit none
+        ≡ handed_out state.old (measured (explicit_store bounds.now) limit none
         (held (state_of (get_or state.old 0 [])) (stores sets.entry entries.entry order.entry)
         (cells totals.entry extremes.entry counts.entry)) v (given attrs.now)) }
 {

@@ -2,16 +2,16 @@
 ghost use Rattle.std.specs.Prelude.{◌≡◌, true, ◌+◌, ◌*◌, ◌<◌, ◌≤◌, length};
 ghost use Rattle.std.specs.Float.Ieee.Scale.{finite};
 ghost use Rattle.rows.specs.Recording.{after};
-ghost use Rattle.points.specs.Explicit.{bucketCount};
+ghost use Rattle.points.specs.Explicit.{bucket_count};
 ghost use Rattle.explicit.specs.Series.{said, outcome};
-ghost use Rattle.explicit_slots.specs.Cells.{cells, recordedAt};
+ghost use Rattle.explicit_slots.specs.Cells.{cells, recorded_at};
 ghost use Rattle.explicit_slots.specs.Inner.{begun, entering};
 
 use explicit::{Answer, Head};
 
 // A value recorded into a series without values, whatever lies in its row.
 fn first(bounds: &[f64], counts: &mut [u64], v: f64) -> Answer
-    requires { bucketCount bounds.now ≤ length counts.old }
+    requires { bucket_count bounds.now ≤ length counts.old }
     ensures { outcome (said result) counts.new ≡ begun bounds.now counts.old v }
 {
     let empty = explicit::fresh(bounds, counts);
@@ -23,7 +23,7 @@ fn first(bounds: &[f64], counts: &mut [u64], v: f64) -> Answer
 
 // A value recorded into a series, or into a fresh one where the entry was not updated.
 fn enter(bounds: &[f64], updated: bool, head: Head, counts: &mut [u64], v: f64) -> Answer
-    requires { bucketCount bounds.now ≤ length counts.old }
+    requires { bucket_count bounds.now ≤ length counts.old }
     ensures { outcome (said result) counts.new ≡ entering bounds.now updated head counts.old v }
 {
     if updated {
@@ -47,9 +47,9 @@ pub fn record(
     v: f64,
 ) -> u8
     requires { (x < length totals.old) × (x < length extremes.old)
-        × (x * bucketCount bounds.now + bucketCount bounds.now ≤ length counts.old) × (finite v ≡ true) }
+        × (x * bucket_count bounds.now + bucket_count bounds.now ≤ length counts.old) × (finite v ≡ true) }
     ensures { after result (cells totals.exit extremes.exit counts.exit)
-        ≡ recordedAt bounds.now x updated (cells totals.entry extremes.entry counts.entry) v }
+        ≡ recorded_at bounds.now x updated (cells totals.entry extremes.entry counts.entry) v }
 {
     let n = explicit::bucket_count(bounds);
     let a = x * n;

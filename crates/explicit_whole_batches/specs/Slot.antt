@@ -5,41 +5,41 @@ use Rattle.laws.specs.Pick.{pick}
 use Rattle.laws.specs.Over.{over}
 use Rattle.rows.specs.Parts.{put_at}
 use Rattle.many.specs.Many.{Many, stopped, each}
-use Rattle.points.specs.Explicit.{bucketCount, bucketsAgree}
-use Rattle.explicit.specs.Series.{bucketsIn}
+use Rattle.points.specs.Explicit.{bucket_count, buckets_agree}
+use Rattle.explicit.specs.Series.{buckets_in}
 use Rattle.explicit_wholes.specs.declared.Head.{Head}
-use Rattle.explicit_wholes.specs.Series.{freshHead}
-use Rattle.explicit_whole_slots.specs.Cells.{Cells, headAt, countsAt}
+use Rattle.explicit_wholes.specs.Series.{fresh_head}
+use Rattle.explicit_whole_slots.specs.Cells.{Cells, head_at, counts_at}
 use Rattle.explicit_whole_batches.specs.Values.{Series, step}
 
 -- ---- at a slot
 
 abbrev pub load : List Float → Cells → ℕ → Bool → Series
-load bounds c x u = record { head = headAt c x u; counts = countsAt bounds c x u }
+load bounds c x u = record { head = head_at c x u; counts = counts_at bounds c x u }
 
-abbrev pub extremesOf : Head → List ℤ
-extremesOf h = h.min ∷ h.max ∷ h.sum ∷ []
+abbrev pub extremes_of : Head → List ℤ
+extremes_of h = h.min ∷ h.max ∷ h.sum ∷ []
 
 abbrev pub put : List Float → Cells → ℕ → Series → Cells
 put bounds c x s =
     record {
       totals = set c.totals x s.head.count;
-      extremes = set c.extremes x (extremesOf s.head);
-      counts = put_at (bucketCount bounds) c.counts x s.counts;
+      extremes = set c.extremes x (extremes_of s.head);
+      counts = put_at (bucket_count bounds) c.counts x s.counts;
     }
 
 -- ---- in a row
 
 -- whether a count and its counts agree; where no series is held, nothing disagrees
-unfoldable pub agreesIf : List Float → Bool → ℕ → List ℕ → Bool
-agreesIf bounds u count xs = pick u (bucketsAgree bounds (bucketsIn bounds count xs)) true
+unfoldable pub agrees_if : List Float → Bool → ℕ → List ℕ → Bool
+agrees_if bounds u count xs = pick u (buckets_agree bounds (buckets_in bounds count xs)) true
 
 -- the series that values go into: the one that is held, or a fresh one, zeros in its row
 unfoldable pub begun : List Float → Bool → Head → List ℕ → Series
 begun bounds u h xs =
-    pick u (record { head = h; counts = xs }) (record { head = freshHead; counts = over (replicate (bucketCount bounds) 0) xs })
+    pick u (record { head = h; counts = xs }) (record { head = fresh_head; counts = over (replicate (bucket_count bounds) 0) xs })
 
 -- 8, or one value after another
 unfoldable pub entering : List Float → Bool → Bool → Head → List ℕ → List ℤ → Many Series
 entering bounds sums u h xs vs =
-    pick (agreesIf bounds u h.count xs) (each (step bounds sums) (begun bounds u h xs) vs) (stopped 8 (record { head = h; counts = xs }))
+    pick (agrees_if bounds u h.count xs) (each (step bounds sums) (begun bounds u h xs) vs) (stopped 8 (record { head = h; counts = xs }))

@@ -4,14 +4,14 @@ use Rattle.std.specs.Prelude.{ℕ, ◌+◌, Bool, List, leb, ℤ, Float}
 use Rattle.std.specs.Borrow.{Bor}
 use Rattle.laws.specs.Pick.{pick}
 use Rattle.laws.specs.Said.{number}
-use Rattle.laws.specs.Counting.{mostCount}
+use Rattle.laws.specs.Counting.{most_count}
 use Rattle.integers.specs.Answers.{in_range}
 use Rattle.rows.specs.Recording.{Recording, after}
 use Rattle.points.specs.Any.{noted}
 use Rattle.points.specs.Whole.{whole}
 use Rattle.explicit_wholes.specs.declared.Head.{Head}
 use Rattle.explicit_wholes.specs.Series.{Outcome, head_of, summary, recording}
-use Rattle.explicit_batches.specs.Values.{headAfter}
+use Rattle.explicit_batches.specs.Values.{head_after}
 
 -- a series as the code holds it: its head and its lent row
 pub record Series : Type 0 where
@@ -24,7 +24,7 @@ series h counts = record { head = h; counts = counts.now }
 
 -- what a call's outcome leaves of a series
 abbrev pub leaving : Series → Outcome → Recording Series
-leaving s o = after (number o.answer) (record { head = headAfter o.answer s.head; counts = o.counts })
+leaving s o = after (number o.answer) (record { head = head_after o.answer s.head; counts = o.counts })
 
 -- a value more: what `explicit_wholes` says of it. No i64 is refused with 6
 unfoldable pub step : List Float → Bool → Series → ℤ → Recording Series
@@ -33,5 +33,5 @@ step bounds sums s v = pick (in_range v) (leaving s (recording bounds sums s.hea
 -- the head of a series that agrees with a value more: of "12, 5, 8, 9, 16" 9 and 16 are left
 unfoldable pub raising : Bool → Head → ℤ → Recording Head
 raising sums h v =
-    pick (leb mostCount h.count) (after 9 h)
+    pick (leb most_count h.count) (after 9 h)
     (pick (whole.takes sums h.sum v) (after 0 (head_of (h.count + 1) (noted whole sums (summary h) v))) (after 16 h))

@@ -5,14 +5,14 @@ mod slot;
 
 ghost use Rattle.std.specs.Prelude.{◌≡◌, true, pos};
 ghost use Rattle.many.specs.Many.{many};
-ghost use Rattle.sets.specs.Sorted.{given, filterOf};
+ghost use Rattle.sets.specs.Sorted.{given, filter_of};
 ghost use Rattle.directory.specs.View.{stores};
 ghost use Rattle.explicit_whole_slots.specs.Cells.{cells};
-ghost use Rattle.value_map.specs.Calls.{held, gave, measured, measuredBy};
-ghost use Rattle.whole_map.specs.Explicit.{explicitWholes};
+ghost use Rattle.value_map.specs.Calls.{held, gave, measured, measured_by};
+ghost use Rattle.whole_map.specs.Explicit.{explicit_wholes};
 ghost use Rattle.batches.specs.Agreed.{AgreedBy, AgreedFor};
-ghost use Rattle.batches.specs.Batch.{measuredAll, measuredAllBy};
-ghost use Rattle.batches.specs.Inner.{recordedAll, unlessStopped};
+ghost use Rattle.batches.specs.Batch.{measured_all, measured_all_by};
+ghost use Rattle.batches.specs.Inner.{recorded_all, unless_stopped};
 ghost use Rattle.batches.specs.Asked.{Asked};
 
 use batches::Batch;
@@ -36,10 +36,10 @@ fn take_all(
     counts: &mut [u64],
     values: &[i64],
 ) -> Taken
-    requires { no ≡ 0 → Asked (explicitWholes bounds.now sums) true (pos 0) known x updated (cells totals extremes counts) values.now }
+    requires { no ≡ 0 → Asked (explicit_wholes bounds.now sums) true (pos 0) known x updated (cells totals extremes counts) values.now }
     ensures { many result.taken result.no (cells totals.exit extremes.exit counts.exit)
-        ≡ unlessStopped no (cells totals.entry extremes.entry counts.entry)
-        (recordedAll (explicitWholes bounds.now sums) x updated (cells totals.entry extremes.entry counts.entry) values.now) }
+        ≡ unless_stopped no (cells totals.entry extremes.entry counts.entry)
+        (recorded_all (explicit_wholes bounds.now sums) x updated (cells totals.entry extremes.entry counts.entry) values.now) }
 {
     if no != 0 {
         return Taken { taken: 0, no: no };
@@ -67,11 +67,11 @@ fn all(
     present: bool,
     filter: &[u32],
 ) -> Batch
-    requires { known ≡ true → AgreedFor (explicitWholes bounds.now sums) true limit (filterOf present filter.now)
+    requires { known ≡ true → AgreedFor (explicit_wholes bounds.now sums) true limit (filter_of present filter.now)
         (held d (stores sets entries order) (cells totals extremes counts)) (given attrs.now) }
     ensures { many result.taken result.no
         (held result.dir (stores sets.exit entries.exit order.exit) (cells totals.exit extremes.exit counts.exit))
-        ≡ measuredAll (explicitWholes bounds.now sums) limit (filterOf present filter.now)
+        ≡ measured_all (explicit_wholes bounds.now sums) limit (filter_of present filter.now)
         (held d (stores sets.entry entries.entry order.entry) (cells totals.entry extremes.entry counts.entry))
         values.now (given attrs.now) }
 {
@@ -124,11 +124,11 @@ fn all_by(
     values: &[i64],
     h: u64,
 ) -> Batch
-    requires { known ≡ true → AgreedBy (explicitWholes bounds.now sums) true limit
+    requires { known ≡ true → AgreedBy (explicit_wholes bounds.now sums) true limit
         (held d (stores sets entries order) (cells totals extremes counts)) h }
     ensures { many result.taken result.no
         (held result.dir (stores sets.exit entries.exit order.exit) (cells totals.exit extremes.exit counts.exit))
-        ≡ measuredAllBy (explicitWholes bounds.now sums) limit
+        ≡ measured_all_by (explicit_wholes bounds.now sums) limit
         (held d (stores sets.entry entries.entry order.entry) (cells totals.entry extremes.entry counts.entry))
         values.now h }
 {
@@ -182,7 +182,7 @@ pub fn measure_all(
 ) -> Batch
     ensures { many result.taken result.no
         (held result.dir (stores sets.exit entries.exit order.exit) (cells totals.exit extremes.exit counts.exit))
-        ≡ measuredAll (explicitWholes bounds.now sums) limit (filterOf present filter.now)
+        ≡ measured_all (explicit_wholes bounds.now sums) limit (filter_of present filter.now)
         (held d (stores sets.entry entries.entry order.entry) (cells totals.entry extremes.entry counts.entry))
         values.now (given attrs.now) }
 {
@@ -209,7 +209,7 @@ pub fn measure_all_by(
 ) -> Batch
     ensures { many result.taken result.no
         (held result.dir (stores sets.exit entries.exit order.exit) (cells totals.exit extremes.exit counts.exit))
-        ≡ measuredAllBy (explicitWholes bounds.now sums) limit
+        ≡ measured_all_by (explicit_wholes bounds.now sums) limit
         (held d (stores sets.entry entries.entry order.entry) (cells totals.entry extremes.entry counts.entry))
         values.now h }
 {
@@ -235,11 +235,11 @@ pub fn measure_all_agreed(
     present: bool,
     filter: &[u32],
 ) -> Batch
-    requires { AgreedFor (explicitWholes bounds.now sums) true limit (filterOf present filter.now)
+    requires { AgreedFor (explicit_wholes bounds.now sums) true limit (filter_of present filter.now)
         (held d (stores sets entries order) (cells totals extremes counts)) (given attrs.now) }
     ensures { many result.taken result.no
         (held result.dir (stores sets.exit entries.exit order.exit) (cells totals.exit extremes.exit counts.exit))
-        ≡ measuredAll (explicitWholes bounds.now sums) limit (filterOf present filter.now)
+        ≡ measured_all (explicit_wholes bounds.now sums) limit (filter_of present filter.now)
         (held d (stores sets.entry entries.entry order.entry) (cells totals.entry extremes.entry counts.entry))
         values.now (given attrs.now) }
 {
@@ -264,11 +264,11 @@ pub fn measure_all_by_agreed(
     values: &[i64],
     h: u64,
 ) -> Batch
-    requires { AgreedBy (explicitWholes bounds.now sums) true limit
+    requires { AgreedBy (explicit_wholes bounds.now sums) true limit
         (held d (stores sets entries order) (cells totals extremes counts)) h }
     ensures { many result.taken result.no
         (held result.dir (stores sets.exit entries.exit order.exit) (cells totals.exit extremes.exit counts.exit))
-        ≡ measuredAllBy (explicitWholes bounds.now sums) limit
+        ≡ measured_all_by (explicit_wholes bounds.now sums) limit
         (held d (stores sets.entry entries.entry order.entry) (cells totals.entry extremes.entry counts.entry))
         values.now h }
 {
@@ -294,10 +294,10 @@ pub fn measure_agreed(
     present: bool,
     filter: &[u32],
 ) -> Reply
-    requires { AgreedFor (explicitWholes bounds.now sums) true limit (filterOf present filter.now)
+    requires { AgreedFor (explicit_wholes bounds.now sums) true limit (filter_of present filter.now)
         (held d (stores sets entries order) (cells totals extremes counts)) (given attrs.now) }
     ensures { gave result (stores sets.exit entries.exit order.exit) (cells totals.exit extremes.exit counts.exit)
-        ≡ measured (explicitWholes bounds.now sums) limit (filterOf present filter.now)
+        ≡ measured (explicit_wholes bounds.now sums) limit (filter_of present filter.now)
         (held d (stores sets.entry entries.entry order.entry) (cells totals.entry extremes.entry counts.entry))
         v (given attrs.now) }
 {
@@ -324,10 +324,10 @@ pub fn measure_by_agreed(
     v: i64,
     h: u64,
 ) -> Reply
-    requires { AgreedBy (explicitWholes bounds.now sums) true limit
+    requires { AgreedBy (explicit_wholes bounds.now sums) true limit
         (held d (stores sets entries order) (cells totals extremes counts)) h }
     ensures { gave result (stores sets.exit entries.exit order.exit) (cells totals.exit extremes.exit counts.exit)
-        ≡ measuredBy (explicitWholes bounds.now sums) limit
+        ≡ measured_by (explicit_wholes bounds.now sums) limit
         (held d (stores sets.entry entries.entry order.entry) (cells totals.entry extremes.entry counts.entry))
         v h }
 {

@@ -2,13 +2,13 @@
 ghost use Rattle.std.specs.Prelude.{◌≡◌, true, ◌<◌, ◌≤◌, eqb, pos, length, set};
 ghost use Rattle.laws.specs.Pick.{pick};
 ghost use Rattle.many.specs.Many.{many};
-ghost use Rattle.points.specs.Explicit.{boundsPass, bucketCount};
-ghost use Rattle.explicit_whole_slots.specs.Cells.{cells, headWith};
-ghost use Rattle.whole_map.specs.Explicit.{explicitWholes};
-ghost use Rattle.batches.specs.Inner.{recordedAll};
+ghost use Rattle.points.specs.Explicit.{bounds_pass, bucket_count};
+ghost use Rattle.explicit_whole_slots.specs.Cells.{cells, head_with};
+ghost use Rattle.whole_map.specs.Explicit.{explicit_wholes};
+ghost use Rattle.batches.specs.Inner.{recorded_all};
 ghost use Rattle.batches.specs.Asked.{Asked};
 ghost use Rattle.explicit_whole_batches.specs.Values.{series};
-ghost use Rattle.explicit_whole_batches.specs.Slot.{extremesOf, agreesIf, begun, entering};
+ghost use Rattle.explicit_whole_batches.specs.Slot.{extremes_of, agrees_if, begun, entering};
 
 use crate::series::Run;
 use explicit_wholes::{Answer, Head};
@@ -16,8 +16,8 @@ use many::Taken;
 
 // Whether the series agrees, where one is held: not asked again where it is known. Every i64 is an extreme.
 fn agrees_if(known: bool, bounds: &[f64], updated: bool, count: u64, counts: &[u64]) -> bool
-    requires { known ≡ true → agreesIf bounds.now updated count counts.now ≡ true }
-    ensures { result ≡ agreesIf bounds.now updated count counts.now }
+    requires { known ≡ true → agrees_if bounds.now updated count counts.now ≡ true }
+    ensures { result ≡ agrees_if bounds.now updated count counts.now }
 {
     if known {
         return true;
@@ -30,7 +30,7 @@ fn agrees_if(known: bool, bounds: &[f64], updated: bool, count: u64, counts: &[u
 
 // The head to go on from: that of the series, or a fresh one with zeros in its row where none is held.
 fn begin(bounds: &[f64], updated: bool, head: Head, counts: &mut [u64]) -> Head
-    requires { bucketCount bounds.now ≤ length counts.old }
+    requires { bucket_count bounds.now ≤ length counts.old }
     ensures { series result counts.exit ≡ begun bounds.now updated head counts.old }
 {
     if updated {
@@ -53,8 +53,8 @@ fn enter_all(
     counts: &mut [u64],
     values: &[i64],
 ) -> Run
-    requires { (boundsPass bounds.now ≡ true) × (bucketCount bounds.now ≤ length counts.old)
-        × (known ≡ true → agreesIf bounds.now updated head.count counts.old ≡ true) }
+    requires { (bounds_pass bounds.now ≡ true) × (bucket_count bounds.now ≤ length counts.old)
+        × (known ≡ true → agrees_if bounds.now updated head.count counts.old ≡ true) }
     ensures { many result.taken result.no (series result.head counts.exit)
         ≡ entering bounds.now sums updated head counts.old values.now }
 {
@@ -71,7 +71,7 @@ fn enter_all(
 
 // The head of a count and a slot's three numbers.
 fn head_with(count: u64, m: [i64; 3]) -> Head
-    ensures { result ≡ headWith count m }
+    ensures { result ≡ head_with count m }
 {
     Head {
         count,
@@ -85,7 +85,7 @@ fn head_with(count: u64, m: [i64; 3]) -> Head
 fn keep(x: usize, totals: &mut [u64], extremes: &mut [[i64; 3]], run: Run)
     requires { (x < length totals.old) × (x < length extremes.old) }
     ensures totals_after { totals.new ≡ pick (eqb run.taken 0) totals.old (set totals.old x run.head.count) }
-    ensures extremes_after { extremes.new ≡ pick (eqb run.taken 0) extremes.old (set extremes.old x (extremesOf run.head)) }
+    ensures extremes_after { extremes.new ≡ pick (eqb run.taken 0) extremes.old (set extremes.old x (extremes_of run.head)) }
 {
     if run.taken == 0 {
         return;
@@ -108,9 +108,9 @@ pub fn record_all(
     counts: &mut [u64],
     values: &[i64],
 ) -> Taken
-    requires { Asked (explicitWholes bounds.now sums) true (pos 0) known x updated (cells totals extremes counts) values.now }
+    requires { Asked (explicit_wholes bounds.now sums) true (pos 0) known x updated (cells totals extremes counts) values.now }
     ensures { many result.taken result.no (cells totals.exit extremes.exit counts.exit)
-        ≡ recordedAll (explicitWholes bounds.now sums) x updated (cells totals.entry extremes.entry counts.entry) values.now }
+        ≡ recorded_all (explicit_wholes bounds.now sums) x updated (cells totals.entry extremes.entry counts.entry) values.now }
 {
     let n = explicit::bucket_count(bounds);
     let a = x * n;

@@ -11,15 +11,15 @@ use lib.ListN.{length, get_or, take, replicate, length-replicate}
 use lib.Ieee.{Float}
 use Rattle.laws.specs.Pick.{pick}
 use Rattle.rows.specs.Parts.{part_at}
-use Rattle.points.specs.Explicit.{bucketCount, bucketsAgree}
+use Rattle.points.specs.Explicit.{bucket_count, buckets_agree}
 use Rattle.kinds.specs.Wholes.{wholes}
-use Rattle.explicit.specs.Series.{bucketsIn}
-use Rattle.directory.specs.View.{updatedIn}
-use Rattle.explicit_whole_slots.specs.Cells.{Cells, cells, countsAt, seriesAt}
-use Rattle.whole_map.specs.Explicit.{explicitWholes}
-use Rattle.collecting.specs.Collected.{dueOf, countsOf, agreeing}
+use Rattle.explicit.specs.Series.{buckets_in}
+use Rattle.directory.specs.View.{updated_in}
+use Rattle.explicit_whole_slots.specs.Cells.{Cells, cells, counts_at, series_at}
+use Rattle.whole_map.specs.Explicit.{explicit_wholes}
+use Rattle.collecting.specs.Collected.{due_of, counts_of, agreeing}
 use Rattle.collecting.specs.Slots.{unsound, walked, Walk, surveyed}
-use Rattle.explicit_whole_collection.specs.Points.{explicitWholeLister}
+use Rattle.explicit_whole_collection.specs.Points.{explicit_whole_lister}
 use Rattle.explicit_whole_collection.specs.Ready.{counting}
 
 -- ---- agreement
@@ -30,19 +30,19 @@ and-on false = refl
 
 module _ (bounds : List Float) (c : Cells) (x : ℕ) where
   -- whether the slot's series agrees: the switches have no part in it
-  abbrev pub agreesAt : Bool
-  agreesAt = wholes.agrees ((explicitWholes bounds true).settings true) (seriesAt bounds c x)
+  abbrev pub agrees_at : Bool
+  agrees_at = wholes.agrees ((explicit_wholes bounds true).settings true) (series_at bounds c x)
 
   -- as the code tests it
-  pub tested : (n : ℕ) → n ≡ bucketCount bounds → (b : Bool) → b ≡ bucketsAgree bounds (bucketsIn bounds (get_or c.totals x 0) (part_at n c.counts x))
-      → b ≡ agreesAt
-  tested n is b e = e ∙ ap (λ (n : ℕ). bucketsAgree bounds (bucketsIn bounds (get_or c.totals x 0) (part_at n c.counts x))) is ∙ and-on _
+  pub tested : (n : ℕ) → n ≡ bucket_count bounds → (b : Bool) → b ≡ buckets_agree bounds (buckets_in bounds (get_or c.totals x 0) (part_at n c.counts x))
+      → b ≡ agrees_at
+  tested n is b e = e ∙ ap (λ (n : ℕ). buckets_agree bounds (buckets_in bounds (get_or c.totals x 0) (part_at n c.counts x))) is ∙ and-on _
 
 -- ---- the survey reads counts alone
 
 module _ (bounds : List Float) (sums : Bool) (used : ℕ) (entries : List (List ℕ)) (order : List ℕ) (totals : Bor (List ℕ)) (extremes : Bor (List (List ℤ))) (counts : Bor (List ℕ)) where
-  pub walk-counts : Walk (explicitWholes bounds sums) (walked used [] entries order (cells totals extremes counts))
-      → Walk (explicitWholes bounds true) (walked used [] entries order (counting totals counts))
+  pub walk-counts : Walk (explicit_wholes bounds sums) (walked used [] entries order (cells totals extremes counts))
+      → Walk (explicit_wholes bounds true) (walked used [] entries order (counting totals counts))
   walk-counts w =
       record {
         set = w.set;
@@ -57,18 +57,18 @@ module _ (bounds : List Float) (sums : Bool) (used : ℕ) (entries : List (List 
 
   -- what is counted is the same of either
   counted : (count : Cells → ℕ → Bool → List ℕ) → ((x : ℕ) (u : Bool) → count (counting totals counts) x u ≡ count (cells totals extremes counts) x u) → (l : List ℕ)
-      → countsOf count (walked used [] entries order (counting totals counts)) l ≡ countsOf count (walked used [] entries order (cells totals extremes counts)) l
+      → counts_of count (walked used [] entries order (counting totals counts)) l ≡ counts_of count (walked used [] entries order (cells totals extremes counts)) l
   counted count same [] = refl
-  counted count same (x ∷ l) = λ j. same x (updatedIn entries x) j ++ counted count same l j
+  counted count same (x ∷ l) = λ j. same x (updated_in entries x) j ++ counted count same l j
 
-  pub survey-counts : (cumulative : Bool) → surveyed (explicitWholeLister bounds true) true cumulative (walked used [] entries order (counting totals counts))
-      ≡ surveyed (explicitWholeLister bounds sums) true cumulative (walked used [] entries order (cells totals extremes counts))
+  pub survey-counts : (cumulative : Bool) → surveyed (explicit_whole_lister bounds true) true cumulative (walked used [] entries order (counting totals counts))
+      ≡ surveyed (explicit_whole_lister bounds sums) true cumulative (walked used [] entries order (cells totals extremes counts))
   unfolding surveyed
   survey-counts cumulative =
       let h = walked used [] entries order (cells totals extremes counts) in
-      let l = dueOf cumulative h.kept in
-      λ j. pick (agreeing (explicitWholeLister bounds sums) true h)
-      (record { sound = true; points = length l; pos = length (counted (countsAt bounds) (λ x u. refl) l j); neg = length (counted (λ c x u. []) (λ x u. refl) l j) })
+      let l = due_of cumulative h.kept in
+      λ j. pick (agreeing (explicit_whole_lister bounds sums) true h)
+      (record { sound = true; points = length l; pos = length (counted (counts_at bounds) (λ x u. refl) l j); neg = length (counted (λ c x u. []) (λ x u. refl) l j) })
       unsound
 
 -- ---- zeros

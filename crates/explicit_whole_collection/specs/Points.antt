@@ -1,12 +1,12 @@
 -- The explicit kind's points over i64 in lent output. Assumes nothing.
 use Rattle.std.specs.Prelude.{Bool, List, [], Float}
-use Rattle.explicit_whole_slots.specs.Cells.{headAt, countsAt}
-use Rattle.whole_point.specs.Handing.{explicitPoint}
-use Rattle.whole_map.specs.Explicit.{explicitWholes}
+use Rattle.explicit_whole_slots.specs.Cells.{head_at, counts_at}
+use Rattle.whole_point.specs.Handing.{explicit_point}
+use Rattle.whole_map.specs.Explicit.{explicit_wholes}
 use Rattle.collecting.specs.Lister.{Lister}
-use Rattle.whole_listing.specs.Read.{wholeLister}
+use Rattle.whole_listing.specs.Read.{whole_lister}
 
 -- a slot's point with its bounds, and its counts
-abbrev pub explicitWholeLister : (bounds : List Float) (sums : Bool) → Lister (explicitWholes bounds sums)
-explicitWholeLister bounds sums =
-    wholeLister (explicitWholes bounds sums) (λ c. c.extremes) bounds (λ w c x u. explicitPoint (headAt c x u) w sums) (countsAt bounds) (λ c x u. [])
+abbrev pub explicit_whole_lister : (bounds : List Float) (sums : Bool) → Lister (explicit_wholes bounds sums)
+explicit_whole_lister bounds sums =
+    whole_lister (explicit_wholes bounds sums) (λ c. c.extremes) bounds (λ w c x u. explicit_point (head_at c x u) w sums) (counts_at bounds) (λ c x u. [])

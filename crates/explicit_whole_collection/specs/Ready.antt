@@ -9,12 +9,12 @@ use Rattle.listing.specs.Listed.{Output}
 use Rattle.listing.specs.Inner.{Put}
 use Rattle.listing.specs.declared.Cursor.{Cursor}
 use Rattle.collecting.specs.Read.{span_of}
-use Rattle.explicit_collection.specs.Ready.{rowPut}
+use Rattle.explicit_collection.specs.Ready.{row_put}
 
 -- the cells as far as agreement reads them: no extremes, for every i64 is finite
 abbrev pub counting : Bor (List ℕ) → Bor (List ℕ) → Cells
 counting totals counts = record { totals = totals.now; extremes = replicate (length totals.now) []; counts = counts.now }
 
 -- a point put at a cursor with the first counts of a row, and the cursor behind it
-abbrev pub pointPut : List Float → Point → Cursor → List ℕ → List ℕ → Output → Put
-pointPut bounds p at row xs o = rowPut bounds (words_of p (span_of bounds)) at row xs o
+abbrev pub point_put : List Float → Point → Cursor → List ℕ → List ℕ → Output → Put
+point_put bounds p at row xs o = row_put bounds (words_of p (span_of bounds)) at row xs o

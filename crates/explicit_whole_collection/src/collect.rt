@@ -5,10 +5,10 @@ ghost use Rattle.directory.specs.View.{stores};
 ghost use Rattle.explicit_whole_slots.specs.Cells.{cells};
 ghost use Rattle.value_map.specs.Calls.{held};
 ghost use Rattle.batches.specs.Owned.{Owned};
-ghost use Rattle.whole_map.specs.Explicit.{explicitWholes};
+ghost use Rattle.whole_map.specs.Explicit.{explicit_wholes};
 ghost use Rattle.listing.specs.Listed.{output};
-ghost use Rattle.collecting.specs.Collected.{gave, uncollected, deltaCollected, cumulativeCollected};
-ghost use Rattle.explicit_whole_collection.specs.Points.{explicitWholeLister};
+ghost use Rattle.collecting.specs.Collected.{gave, uncollected, delta_collected, cumulative_collected};
+ghost use Rattle.explicit_whole_collection.specs.Points.{explicit_whole_lister};
 
 use collecting::{Answer, Reply};
 use directory::Directory;
@@ -32,9 +32,9 @@ fn number(
     out_pos: &[u64],
     out_neg: &[u64],
 ) -> u8
-    requires { known ≡ true → Owned (explicitWholes bounds.now s.sums) s.extremes s.limit none
+    requires { known ≡ true → Owned (explicit_wholes bounds.now s.sums) s.extremes s.limit none
         (held d (stores sets entries order) (cells totals extremes counts)) }
-    ensures { result ≡ uncollected (explicitWholeLister bounds.now s.sums) s.extremes cumulative s.limit
+    ensures { result ≡ uncollected (explicit_whole_lister bounds.now s.sums) s.extremes cumulative s.limit
         (held d (stores sets.entry entries.entry order.entry) (cells totals.entry extremes.entry counts.entry))
         (output out_sets.entry out_words.entry out_pos.entry out_neg.entry) }
 {
@@ -80,12 +80,12 @@ pub fn delta(
     out_pos: &mut [u64],
     out_neg: &mut [u64],
 ) -> Reply
-    requires { known ≡ true → Owned (explicitWholes bounds.now s.sums) s.extremes s.limit none
+    requires { known ≡ true → Owned (explicit_wholes bounds.now s.sums) s.extremes s.limit none
         (held d (stores sets entries order) (cells totals extremes counts)) }
     ensures { gave result.answer
         (held result.dir (stores sets.exit entries.exit order.exit) (cells totals.entry extremes.entry counts.entry))
         (output out_sets.exit out_words.exit out_pos.exit out_neg.exit)
-        ≡ deltaCollected (explicitWholeLister bounds.now s.sums) s.extremes s.limit
+        ≡ delta_collected (explicit_whole_lister bounds.now s.sums) s.extremes s.limit
         (held d (stores sets.entry entries.entry order.entry) (cells totals.entry extremes.entry counts.entry))
         (output out_sets.entry out_words.entry out_pos.entry out_neg.entry) }
 {
@@ -127,12 +127,12 @@ pub fn cumulative(
     out_pos: &mut [u64],
     out_neg: &mut [u64],
 ) -> Answer
-    requires { known ≡ true → Owned (explicitWholes bounds.now s.sums) s.extremes s.limit none
+    requires { known ≡ true → Owned (explicit_wholes bounds.now s.sums) s.extremes s.limit none
         (held d (stores sets entries order) (cells totals extremes counts)) }
     ensures { gave result
         (held d (stores sets.entry entries.entry order.entry) (cells totals.entry extremes.entry counts.entry))
         (output out_sets.exit out_words.exit out_pos.exit out_neg.exit)
-        ≡ cumulativeCollected (explicitWholeLister bounds.now s.sums) s.extremes s.limit
+        ≡ cumulative_collected (explicit_whole_lister bounds.now s.sums) s.extremes s.limit
         (held d (stores sets.entry entries.entry order.entry) (cells totals.entry extremes.entry counts.entry))
         (output out_sets.entry out_words.entry out_pos.entry out_neg.entry) }
 {

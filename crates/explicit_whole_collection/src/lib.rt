@@ -6,17 +6,17 @@ mod walk;
 
 ghost use Rattle.std.specs.Prelude.{◌≡◌};
 ghost use Rattle.std.proofs.Math.Option.{none};
-ghost use Rattle.sets.specs.Sorted.{filterOf};
+ghost use Rattle.sets.specs.Sorted.{filter_of};
 ghost use Rattle.directory.specs.View.{stores};
 ghost use Rattle.explicit_whole_slots.specs.Cells.{cells};
 ghost use Rattle.value_map.specs.Calls.{held};
 ghost use Rattle.batches.specs.Owned.{Owned};
-ghost use Rattle.whole_map.specs.Explicit.{explicitWholes};
+ghost use Rattle.whole_map.specs.Explicit.{explicit_wholes};
 ghost use Rattle.listing.specs.Listed.{output};
 ghost use Rattle.collecting.specs.Configured.{configuring};
-ghost use Rattle.collecting.specs.Collected.{gave, deltaCollected, cumulativeCollected};
+ghost use Rattle.collecting.specs.Collected.{gave, delta_collected, cumulative_collected};
 ghost use Rattle.explicit_collection.specs.Configured.{said};
-ghost use Rattle.explicit_whole_collection.specs.Points.{explicitWholeLister};
+ghost use Rattle.explicit_whole_collection.specs.Points.{explicit_whole_lister};
 ghost use Rattle.explicit_whole_collection.specs.Configured.{configured};
 
 use collecting::{Answer, Reply};
@@ -39,7 +39,7 @@ pub fn configure(
     counts: &[u64],
 ) -> Configured
     ensures { configuring (said result) (stores sets.entry entries.exit order.entry)
-        ≡ configured bounds.now show sums limit (filterOf present filter.now)
+        ≡ configured bounds.now show sums limit (filter_of present filter.now)
         (stores sets.entry entries.entry order.entry) (cells totals.entry extremes.entry counts.entry) }
 {
     let reply = whole_map::explicit_map::start(
@@ -72,7 +72,7 @@ pub fn delta(
     ensures { gave result.answer
         (held result.dir (stores sets.exit entries.exit order.exit) (cells totals.entry extremes.entry counts.entry))
         (output out_sets.exit out_words.exit out_pos.exit out_neg.exit)
-        ≡ deltaCollected (explicitWholeLister bounds.now s.sums) s.extremes s.limit
+        ≡ delta_collected (explicit_whole_lister bounds.now s.sums) s.extremes s.limit
         (held d (stores sets.entry entries.entry order.entry) (cells totals.entry extremes.entry counts.entry))
         (output out_sets.entry out_words.entry out_pos.entry out_neg.entry) }
 {
@@ -98,12 +98,12 @@ pub fn delta_agreed(
     out_pos: &mut [u64],
     out_neg: &mut [u64],
 ) -> Reply
-    requires { Owned (explicitWholes bounds.now s.sums) s.extremes s.limit none
+    requires { Owned (explicit_wholes bounds.now s.sums) s.extremes s.limit none
         (held d (stores sets entries order) (cells totals extremes counts)) }
     ensures { gave result.answer
         (held result.dir (stores sets.exit entries.exit order.exit) (cells totals.entry extremes.entry counts.entry))
         (output out_sets.exit out_words.exit out_pos.exit out_neg.exit)
-        ≡ deltaCollected (explicitWholeLister bounds.now s.sums) s.extremes s.limit
+        ≡ delta_collected (explicit_whole_lister bounds.now s.sums) s.extremes s.limit
         (held d (stores sets.entry entries.entry order.entry) (cells totals.entry extremes.entry counts.entry))
         (output out_sets.entry out_words.entry out_pos.entry out_neg.entry) }
 {
@@ -132,7 +132,7 @@ pub fn cumulative(
     ensures { gave result
         (held d (stores sets.entry entries.entry order.entry) (cells totals.entry extremes.entry counts.entry))
         (output out_sets.exit out_words.exit out_pos.exit out_neg.exit)
-        ≡ cumulativeCollected (explicitWholeLister bounds.now s.sums) s.extremes s.limit
+        ≡ cumulative_collected (explicit_whole_lister bounds.now s.sums) s.extremes s.limit
         (held d (stores sets.entry entries.entry order.entry) (cells totals.entry extremes.entry counts.entry))
         (output out_sets.entry out_words.entry out_pos.entry out_neg.entry) }
 {
@@ -158,12 +158,12 @@ pub fn cumulative_agreed(
     out_pos: &mut [u64],
     out_neg: &mut [u64],
 ) -> Answer
-    requires { Owned (explicitWholes bounds.now s.sums) s.extremes s.limit none
+    requires { Owned (explicit_wholes bounds.now s.sums) s.extremes s.limit none
         (held d (stores sets entries order) (cells totals extremes counts)) }
     ensures { gave result
         (held d (stores sets.entry entries.entry order.entry) (cells totals.entry extremes.entry counts.entry))
         (output out_sets.exit out_words.exit out_pos.exit out_neg.exit)
-        ≡ cumulativeCollected (explicitWholeLister bounds.now s.sums) s.extremes s.limit
+        ≡ cumulative_collected (explicit_whole_lister bounds.now s.sums) s.extremes s.limit
         (held d (stores sets.entry entries.entry order.entry) (cells totals.entry extremes.entry counts.entry))
         (output out_sets.entry out_words.entry out_pos.entry out_neg.entry) }
 {

@@ -1,17 +1,17 @@
 // One slot of the stores: what a collection finds there, and its point put into the output.
 ghost use Rattle.std.specs.Prelude.{◌≡◌, true, not, ◌||◌, [], ◌<◌, ◌≤◌, length, replicate};
-ghost use Rattle.points.specs.Explicit.{boundsPass, bucketCount};
-ghost use Rattle.explicit_wholes.specs.Series.{freshHead};
-ghost use Rattle.whole_point.specs.Handing.{explicitPoint};
+ghost use Rattle.points.specs.Explicit.{bounds_pass, bucket_count};
+ghost use Rattle.explicit_wholes.specs.Series.{fresh_head};
+ghost use Rattle.whole_point.specs.Handing.{explicit_point};
 ghost use Rattle.kinds.specs.Wholes.{wholes};
-ghost use Rattle.explicit_whole_slots.specs.Cells.{cells, headIn, seriesAt, Room};
+ghost use Rattle.explicit_whole_slots.specs.Cells.{cells, head_in, series_at, Room};
 ghost use Rattle.batches.specs.Inner.{Known};
-ghost use Rattle.whole_map.specs.Explicit.{explicitWholes};
+ghost use Rattle.whole_map.specs.Explicit.{explicit_wholes};
 ghost use Rattle.listing.specs.Listed.{output};
 ghost use Rattle.listing.specs.Inner.{left};
-ghost use Rattle.collecting.specs.Slots.{Few, More, Place, surveyedAt, Sound, Free, putSlot};
-ghost use Rattle.explicit_whole_collection.specs.Points.{explicitWholeLister};
-ghost use Rattle.explicit_whole_collection.specs.Ready.{counting, pointPut};
+ghost use Rattle.collecting.specs.Slots.{Few, More, Place, surveyed_at, Sound, Free, put_slot};
+ghost use Rattle.explicit_whole_collection.specs.Points.{explicit_whole_lister};
+ghost use Rattle.explicit_whole_collection.specs.Ready.{counting, point_put};
 
 use collecting::Survey;
 use explicit_wholes::Head;
@@ -20,7 +20,7 @@ use listing::{Cursor, Span};
 // The head of slot x.
 fn head_at(x: usize, totals: &[u64], extremes: &[[i64; 3]]) -> Head
     requires { (x < length totals.now) × (x < length extremes.now) }
-    ensures { result ≡ headIn (record { totals = totals.entry.now; extremes = extremes.now; counts = [] }) x }
+    ensures { result ≡ head_in (record { totals = totals.entry.now; extremes = extremes.now; counts = [] }) x }
 {
     Head {
         count: totals[x],
@@ -41,9 +41,9 @@ fn sound_at(
     counts: &[u64],
 ) -> bool
     requires room { Room bounds.now (counting totals counts) x }
-    requires known { Known (explicitWholes bounds.now true) true known x updated (counting totals counts) }
-    ensures { result ≡ (not updated || wholes.agrees ((explicitWholes bounds.now true).settings true)
-        (seriesAt bounds.now (counting totals.entry counts.entry) x)) }
+    requires known { Known (explicit_wholes bounds.now true) true known x updated (counting totals counts) }
+    ensures { result ≡ (not updated || wholes.agrees ((explicit_wholes bounds.now true).settings true)
+        (series_at bounds.now (counting totals.entry counts.entry) x)) }
 {
     if known {
         return true;
@@ -68,9 +68,9 @@ pub fn survey(
     totals: &[u64],
     counts: &[u64],
 ) -> Survey
-    requires bounds_value { (boundsPass bounds.now ≡ true) × Room bounds.now (counting totals counts) x }
-    requires few { Few s × Known (explicitWholes bounds.now true) true known x updated (counting totals counts) }
-    ensures value { result ≡ surveyedAt (explicitWholeLister bounds.now true) true updated due
+    requires bounds_value { (bounds_pass bounds.now ≡ true) × Room bounds.now (counting totals counts) x }
+    requires few { Few s × Known (explicit_wholes bounds.now true) true known x updated (counting totals counts) }
+    ensures value { result ≡ surveyed_at (explicit_whole_lister bounds.now true) true updated due
         (counting totals.entry counts.entry) s x }
     ensures more { More s result }
 {
@@ -102,10 +102,10 @@ fn put_point(
     out_pos: &mut [u64],
     out_neg: &mut [u64],
 ) -> Cursor
-    requires bounds_value { (boundsPass bounds.now ≡ true) × (bucketCount bounds.now ≤ length counts.now) }
-    requires place { Place at (output out_sets out_words out_pos out_neg) (bucketCount bounds.now) 0 }
+    requires bounds_value { (bounds_pass bounds.now ≡ true) × (bucket_count bounds.now ≤ length counts.now) }
+    requires place { Place at (output out_sets out_words out_pos out_neg) (bucket_count bounds.now) 0 }
     ensures { left result (output out_sets.exit out_words.exit out_pos.exit out_neg.exit)
-        ≡ pointPut bounds.now (explicitPoint head show sums) at row counts.now
+        ≡ point_put bounds.now (explicit_point head show sums) at row counts.now
         (output out_sets.entry out_words.entry out_pos.entry out_neg.entry) }
 {
     let p = whole_point::explicit_point(head, show, sums);
@@ -130,10 +130,10 @@ fn put_fresh(
     out_pos: &mut [u64],
     out_neg: &mut [u64],
 ) -> Cursor
-    requires bounds_value { boundsPass bounds.now ≡ true }
-    requires place { Place at (output out_sets out_words out_pos out_neg) (bucketCount bounds.now) 0 }
+    requires bounds_value { bounds_pass bounds.now ≡ true }
+    requires place { Place at (output out_sets out_words out_pos out_neg) (bucket_count bounds.now) 0 }
     ensures { left result (output out_sets.exit out_words.exit out_pos.exit out_neg.exit)
-        ≡ pointPut bounds.now (explicitPoint freshHead show sums) at row (replicate (bucketCount bounds.now) 0)
+        ≡ point_put bounds.now (explicit_point fresh_head show sums) at row (replicate (bucket_count bounds.now) 0)
         (output out_sets.entry out_words.entry out_pos.entry out_neg.entry) }
 {
     let zeros: [u64; 160] = [0; 160];
@@ -176,11 +176,11 @@ pub fn put(
     out_pos: &mut [u64],
     out_neg: &mut [u64],
 ) -> Cursor
-    requires sound { Sound (explicitWholeLister bounds.now sums) show updated (cells totals extremes counts) x }
-    requires free { due ≡ true → Free (explicitWholeLister bounds.now sums) show updated (cells totals extremes counts) x at
+    requires sound { Sound (explicit_whole_lister bounds.now sums) show updated (cells totals extremes counts) x }
+    requires free { due ≡ true → Free (explicit_whole_lister bounds.now sums) show updated (cells totals extremes counts) x at
         (output out_sets out_words out_pos out_neg) }
     ensures { left result (output out_sets.exit out_words.exit out_pos.exit out_neg.exit)
-        ≡ putSlot (explicitWholeLister bounds.now sums) show updated due (cells totals.entry extremes.entry counts.entry) x row at
+        ≡ put_slot (explicit_whole_lister bounds.now sums) show updated due (cells totals.entry extremes.entry counts.entry) x row at
         (output out_sets.entry out_words.entry out_pos.entry out_neg.entry) }
 {
     if !due {

@@ -1,11 +1,11 @@
 // All slots, ascending by set: what a collection finds, and the points that are due put into the output.
 ghost use Rattle.std.specs.Prelude.{◌≡◌, true, []};
 ghost use Rattle.explicit_whole_slots.specs.Cells.{cells};
-ghost use Rattle.whole_map.specs.Explicit.{explicitWholes};
+ghost use Rattle.whole_map.specs.Explicit.{explicit_wholes};
 ghost use Rattle.listing.specs.Listed.{output};
 ghost use Rattle.listing.specs.Inner.{left};
-ghost use Rattle.collecting.specs.Slots.{walked, Walk, AllKnown, surveyed, Listable, listedTo};
-ghost use Rattle.explicit_whole_collection.specs.Points.{explicitWholeLister};
+ghost use Rattle.collecting.specs.Slots.{walked, Walk, AllKnown, surveyed, Listable, listed_to};
+ghost use Rattle.explicit_whole_collection.specs.Points.{explicit_whole_lister};
 ghost use Rattle.explicit_whole_collection.specs.Ready.{counting};
 
 use collecting::Survey;
@@ -22,10 +22,10 @@ pub fn survey(
     totals: &[u64],
     counts: &[u64],
 ) -> Survey
-    requires walk { Walk (explicitWholes bounds.now true) (walked used [] entries.now order.now (counting totals counts)) }
-    requires all_known { AllKnown (explicitWholes bounds.now true) true known
+    requires walk { Walk (explicit_wholes bounds.now true) (walked used [] entries.now order.now (counting totals counts)) }
+    requires all_known { AllKnown (explicit_wholes bounds.now true) true known
         (walked used [] entries.now order.now (counting totals counts)) }
-    ensures { result ≡ surveyed (explicitWholeLister bounds.now true) true cumulative
+    ensures { result ≡ surveyed (explicit_whole_lister bounds.now true) true cumulative
         (walked used [] entries.now order.now (counting totals.entry counts.entry)) }
 {
     let mut found = Survey {
@@ -67,10 +67,10 @@ pub fn list(
     out_pos: &mut [u64],
     out_neg: &mut [u64],
 ) -> Cursor
-    requires { Listable (explicitWholeLister bounds.now sums) show cumulative
+    requires { Listable (explicit_whole_lister bounds.now sums) show cumulative
         (walked used sets.now entries.now order.now (cells totals extremes counts)) (output out_sets out_words out_pos out_neg) }
     ensures { left result (output out_sets.exit out_words.exit out_pos.exit out_neg.exit)
-        ≡ listedTo (explicitWholeLister bounds.now sums) show cumulative
+        ≡ listed_to (explicit_whole_lister bounds.now sums) show cumulative
         (walked used sets.now entries.now order.now (cells totals.entry extremes.entry counts.entry))
         (output out_sets.entry out_words.entry out_pos.entry out_neg.entry) }
 {

@@ -16,53 +16,53 @@ use Rattle.laws.proofs.Bools.{flag, not-both, pick_true, pick-false}
 use Rattle.rows.specs.Parts.{part_at, put_at}
 use Rattle.rows.specs.Recording.{Recording}
 use Rattle.rows.proofs.Parts.{part_length, put_same}
-use Rattle.laws.proofs.Answers.{success?, valueIn, not-refused}
+use Rattle.laws.proofs.Answers.{success?, value_in, not-refused}
 use Rattle.rows.specs.Rows.{over}
 use Rattle.rows.proofs.Laws.{length_over}
-use Rattle.points.specs.Explicit.{bucketCount, boundsPass, bucketsOf, recordBucket, bucketsAgree}
+use Rattle.points.specs.Explicit.{bucket_count, bounds_pass, buckets_of, record_bucket, buckets_agree}
 use Rattle.points.proofs.Explicit.{buckets-agree, fresh-buckets-ok}
-use Rattle.explicit.specs.Series.{bucketsIn}
+use Rattle.explicit.specs.Series.{buckets_in}
 use Rattle.explicit.proofs.Cases.{refuse}
 use Rattle.explicit.proofs.Listed.{fresh-is}
 use Rattle.explicit_wholes.specs.declared.Head.{Head}
-use Rattle.explicit_wholes.specs.Series.{Outcome, outcome, freshHead, freshening, refusalOf, accepted, recording}
-use Rattle.integers.specs.Answers.{nearestOf}
+use Rattle.explicit_wholes.specs.Series.{Outcome, outcome, fresh_head, freshening, refusal_of, accepted, recording}
+use Rattle.integers.specs.Answers.{nearest_of}
 use Rattle.kinds.specs.Wholes.{wholes}
-use Rattle.explicit_whole_slots.specs.Cells.{Cells, Room, headIn, written, totalsAfter, extremesAfter, begun, entering, recordedAt}
-use Rattle.explicit_whole_slots.proofs.Numbers.{disagrees, none-refused, refused-law, accepted-is, zero-takes}
+use Rattle.explicit_whole_slots.specs.Cells.{Cells, Room, head_in, written, totals_after, extremes_after, begun, entering, recorded_at}
+use Rattle.explicit_whole_slots.proofs.Numbers.{disagrees, none-refused, refused_law, accepted-is, zero-takes}
 
 -- ---- a first value
 
-module _ (bs : List Float) (sums : Bool) (xs : List ℕ) (long : bucketCount bs ≤ length xs) where
+module _ (bs : List Float) (sums : Bool) (xs : List ℕ) (long : bucket_count bs ≤ length xs) where
   abbrev pub zeros : List ℕ
-  zeros = over (replicate (bucketCount bs) 0) xs
+  zeros = over (replicate (bucket_count bs) 0) xs
 
-  fresh-made : freshening bs xs ≡ outcome (success freshHead) zeros
+  fresh-made : freshening bs xs ≡ outcome (success fresh_head) zeros
   unfolding freshening pick
-  fresh-made = rw (le-leb (bucketCount bs) (length xs) long) refl
+  fresh-made = rw (le-leb (bucket_count bs) (length xs) long) refl
 
   module _ (a : Said Head) (ys : List ℕ) (e : outcome a ys ≡ freshening bs xs) where
-    made : outcome a ys ≡ outcome (success freshHead) zeros
+    made : outcome a ys ≡ outcome (success fresh_head) zeros
     made = e ∙ fresh-made
 
     pub first-never : (n : ℕ) → a ≡ refusal n → ⊥
     first-never n r = not-refused a n (ap (λ (o : Outcome). success? o.answer) made) r
 
-    pub first-law : (h : Head) (v : ℤ) → a ≡ success h → recording bs sums h ys v ≡ begun bs sums xs v
+    pub first_law : (h : Head) (v : ℤ) → a ≡ success h → recording bs sums h ys v ≡ begun bs sums xs v
     unfolding begun
-    first-law h v r =
-        let p : h ≡ freshHead = sym (ap (valueIn freshHead) r) ∙ ap (λ (o : Outcome). valueIn freshHead o.answer) made in
+    first_law h v r =
+        let p : h ≡ fresh_head = sym (ap (value_in fresh_head) r) ∙ ap (λ (o : Outcome). value_in fresh_head o.answer) made in
         let q : ys ≡ zeros = ap (λ (o : Outcome). o.counts) made in
         λ j. recording bs sums (p j) (q j) v
 
   -- it is never refused under bounds that pass
-  pub begun-taken : (v : ℤ) → boundsPass bs ≡ true → wholes.finite v ≡ true
-      → begun bs sums xs v ≡ accepted (recordBucket bs (bucketsIn bs 0 zeros) (nearestOf v)) sums freshHead zeros v
+  pub begun-taken : (v : ℤ) → bounds_pass bs ≡ true → wholes.finite v ≡ true
+      → begun bs sums xs v ≡ accepted (record_bucket bs (buckets_in bs 0 zeros) (nearest_of v)) sums fresh_head zeros v
   unfolding begun
   begun-taken v p f =
-      let agree : bucketsAgree bs (bucketsIn bs 0 zeros) ≡ true = ap (bucketsAgree bs) (fresh-is bs xs) ∙ buckets-agree bs (bucketsOf bs []) (fresh-buckets-ok bs p) in
-      let l : bucketCount bs ≤ length zeros = omega (arith, long, length_over (replicate (bucketCount bs) 0) xs (omega (arith, length-replicate {A = ℕ} (bucketCount bs) 0))) in
-      accepted-is bs sums freshHead zeros v (none-refused bs sums freshHead zeros v l f agree (omega arith) (zero-takes sums v f))
+      let agree : buckets_agree bs (buckets_in bs 0 zeros) ≡ true = ap (buckets_agree bs) (fresh-is bs xs) ∙ buckets-agree bs (buckets_of bs []) (fresh-buckets-ok bs p) in
+      let l : bucket_count bs ≤ length zeros = omega (arith, long, length_over (replicate (bucket_count bs) 0) xs (omega (arith, length-replicate {A = ℕ} (bucket_count bs) 0))) in
+      accepted-is bs sums fresh_head zeros v (none-refused bs sums fresh_head zeros v l f agree (omega arith) (zero-takes sums v f))
 
 -- ---- the cases of entering
 
@@ -72,13 +72,13 @@ module _ (bs : List Float) (sums u : Bool) (h : Head) (xs : List ℕ) (v : ℤ) 
   enters-held e = pick_true u _ _ e
 
   module _ (e : u ≡ false) where
-    pub enters-bad : boundsPass bs ≡ false → entering bs sums u h xs v ≡ outcome (refusal 8) xs
+    pub enters_bad : bounds_pass bs ≡ false → entering bs sums u h xs v ≡ outcome (refusal 8) xs
     unfolding entering
-    enters-bad p = pick-false u _ _ e ∙ pick-false (boundsPass bs) _ _ p
+    enters_bad p = pick-false u _ _ e ∙ pick-false (bounds_pass bs) _ _ p
 
-    pub enters-first : boundsPass bs ≡ true → entering bs sums u h xs v ≡ begun bs sums xs v
+    pub enters-first : bounds_pass bs ≡ true → entering bs sums u h xs v ≡ begun bs sums xs v
     unfolding entering
-    enters-first p = pick-false u _ _ e ∙ pick_true (boundsPass bs) _ _ p
+    enters-first p = pick-false u _ _ e ∙ pick_true (bounds_pass bs) _ _ p
 
   -- ---- a refusal leaves the row
 
@@ -89,18 +89,18 @@ module _ (bs : List Float) (sums u : Bool) (h : Head) (xs : List ℕ) (v : ℤ) 
   unfolding recording
   recording-kept =
       ⊎_elim
-      (λ (t : eqb (refusalOf bs sums h xs v) 0 ≡ true). subst Kept (sym (pick_true _ _ _ t)) (λ n r. absurd (not-refused _ n refl r)))
-      (λ (t : eqb (refusalOf bs sums h xs v) 0 ≡ false). subst Kept (sym (pick-false _ _ _ t)) (λ n r. refl))
-      (flag (eqb (refusalOf bs sums h xs v) 0))
+      (λ (t : eqb (refusal_of bs sums h xs v) 0 ≡ true). subst Kept (sym (pick_true _ _ _ t)) (λ n r. absurd (not-refused _ n refl r)))
+      (λ (t : eqb (refusal_of bs sums h xs v) 0 ≡ false). subst Kept (sym (pick-false _ _ _ t)) (λ n r. refl))
+      (flag (eqb (refusal_of bs sums h xs v) 0))
 
-  pub entering-kept : bucketCount bs ≤ length xs → wholes.finite v ≡ true → Kept (entering bs sums u h xs v)
+  pub entering-kept : bucket_count bs ≤ length xs → wholes.finite v ≡ true → Kept (entering bs sums u h xs v)
   entering-kept l f =
       ⊎_elim
       (λ (t : u ≡ true). subst Kept (sym (enters-held t)) recording-kept)
       (λ (t : u ≡ false). ⊎_elim
-      (λ (p : boundsPass bs ≡ true). subst Kept (sym (enters-first t p ∙ begun-taken bs sums xs l v p f)) (λ n r. absurd (not-refused _ n refl r)))
-      (λ (p : boundsPass bs ≡ false). subst Kept (sym (enters-bad t p)) (λ n r. refl))
-      (flag (boundsPass bs)))
+      (λ (p : bounds_pass bs ≡ true). subst Kept (sym (enters-first t p ∙ begun-taken bs sums xs l v p f)) (λ n r. absurd (not-refused _ n refl r)))
+      (λ (p : bounds_pass bs ≡ false). subst Kept (sym (enters_bad t p)) (λ n r. refl))
+      (flag (bounds_pass bs)))
       (flag u)
 
 -- ---- the call
@@ -117,56 +117,56 @@ module _ (bs : List Float) (sums : Bool) (x : ℕ) (u : Bool) (s : Cells) (v : �
 
   module _ (r : Room bs s x) (f : wholes.finite v ≡ true) where
     abbrev none : List ℕ
-    none = replicate (bucketCount bs) 0
+    none = replicate (bucket_count bs) 0
 
-    long : length (row (bucketCount bs)) ≡ bucketCount bs
-    long = part_length (bucketCount bs) s.counts x r.counts
+    long : length (row (bucket_count bs)) ≡ bucket_count bs
+    long = part_length (bucket_count bs) s.counts x r.counts
 
-    many : length none ≡ bucketCount bs
-    many = length-replicate {A = ℕ} (bucketCount bs) 0
+    many : length none ≡ bucket_count bs
+    many = length-replicate {A = ℕ} (bucket_count bs) 0
 
     -- in a row of its own length nothing lies behind zeros
-    all-zeros : zeros bs sums (row (bucketCount bs)) (omega (arith, long)) ≡ none
+    all-zeros : zeros bs sums (row (bucket_count bs)) (omega (arith, long)) ≡ none
     unfolding over
-    all-zeros = ap (λ (l : List ℕ). none ++ l) (drop_of_length-le (row (bucketCount bs)) {i = length none} (omega (arith, long, many))) ∙ append-nil none
+    all-zeros = ap (λ (l : List ℕ). none ++ l) (drop_of_length-le (row (bucket_count bs)) {i = length none} (omega (arith, long, many))) ∙ append-nil none
 
     -- bounds that do not pass are refused by the series too
-    fresh-bad : boundsPass bs ≡ false → recording bs sums freshHead none v ≡ outcome (refusal 8) none
-    fresh-bad b =
-        let no : bucketsAgree bs (bucketsIn bs 0 none) ≡ false = sym (refuse bs 0 none (λ k. not-both (boundsPass bs) k.passes b)) in
-        sym (refused-law bs sums freshHead none v 8 (disagrees bs sums freshHead none v (omega (arith, many)) f no) (λ z. omega (arith, z)))
+    fresh_bad : bounds_pass bs ≡ false → recording bs sums fresh_head none v ≡ outcome (refusal 8) none
+    fresh_bad b =
+        let no : buckets_agree bs (buckets_in bs 0 none) ≡ false = sym (refuse bs 0 none (λ k. not-both (bounds_pass bs) k.passes b)) in
+        sym (refused_law bs sums fresh_head none v 8 (disagrees bs sums fresh_head none v (omega (arith, many)) f no) (λ z. omega (arith, z)))
 
     -- what enters the row is what is recorded at the slot
-    entered : put (entering bs sums u (headIn s x) (row (bucketCount bs)) v) ≡ recordedAt bs sums x u s v
-    unfolding recordedAt begun
+    entered : put (entering bs sums u (head_in s x) (row (bucket_count bs)) v) ≡ recorded_at bs sums x u s v
+    unfolding recorded_at begun
     entered =
         ⊎_elim
-        (λ (t : u ≡ true). ap put (enters-held bs sums u (headIn s x) (row (bucketCount bs)) v t)
-        ∙ sym (λ j. put (recording bs sums (pick_true u (headIn s x) freshHead t j) (pick_true u (row (bucketCount bs)) none t j) v)))
+        (λ (t : u ≡ true). ap put (enters-held bs sums u (head_in s x) (row (bucket_count bs)) v t)
+        ∙ sym (λ j. put (recording bs sums (pick_true u (head_in s x) fresh_head t j) (pick_true u (row (bucket_count bs)) none t j) v)))
         (λ (t : u ≡ false). ⊎_elim
-        (λ (p : boundsPass bs ≡ true). ap put (enters-first bs sums u (headIn s x) (row (bucketCount bs)) v t p) ∙ ap (λ (ys : List ℕ). put (recording bs sums freshHead ys v)) all-zeros)
-        (λ (p : boundsPass bs ≡ false). ap put (enters-bad bs sums u (headIn s x) (row (bucketCount bs)) v t p) ∙ sym (ap put (fresh-bad p)))
-        (flag (boundsPass bs))
-        ∙ sym (λ j. put (recording bs sums (pick-false u (headIn s x) freshHead t j) (pick-false u (row (bucketCount bs)) none t j) v)))
+        (λ (p : bounds_pass bs ≡ true). ap put (enters-first bs sums u (head_in s x) (row (bucket_count bs)) v t p) ∙ ap (λ (ys : List ℕ). put (recording bs sums fresh_head ys v)) all-zeros)
+        (λ (p : bounds_pass bs ≡ false). ap put (enters_bad bs sums u (head_in s x) (row (bucket_count bs)) v t p) ∙ sym (ap put (fresh_bad p)))
+        (flag (bounds_pass bs))
+        ∙ sym (λ j. put (recording bs sums (pick-false u (head_in s x) fresh_head t j) (pick-false u (row (bucket_count bs)) none t j) v)))
         (flag u)
 
-    pub call : (a : Said Head) (ys : List ℕ) → outcome a ys ≡ entering bs sums u (headIn s x) (row (bucketCount bs)) v → written bs x s a ys ≡ recordedAt bs sums x u s v
+    pub call : (a : Said Head) (ys : List ℕ) → outcome a ys ≡ entering bs sums u (head_in s x) (row (bucket_count bs)) v → written bs x s a ys ≡ recorded_at bs sums x u s v
     call a ys e = ap put e ∙ entered
 
-  module _ (k : ℕ) (is : k ≡ bucketCount bs) (a : Said Head) (ys : List ℕ) (e : outcome a ys ≡ entering bs sums u (headIn s x) (row k) v) where
-    there : outcome a ys ≡ entering bs sums u (headIn s x) (row (bucketCount bs)) v
-    there = e ∙ ap (λ (k : ℕ). entering bs sums u (headIn s x) (row k) v) is
+  module _ (k : ℕ) (is : k ≡ bucket_count bs) (a : Said Head) (ys : List ℕ) (e : outcome a ys ≡ entering bs sums u (head_in s x) (row k) v) where
+    there : outcome a ys ≡ entering bs sums u (head_in s x) (row (bucket_count bs)) v
+    there = e ∙ ap (λ (k : ℕ). entering bs sums u (head_in s x) (row k) v) is
 
-    pub call_kept : (n : ℕ) (totals : List ℕ) (extremes : List (List ℤ)) → n ≡ number a → totals ≡ totalsAfter x s.totals a → extremes ≡ extremesAfter x s.extremes a
-        → bucketCount bs ≤ length (row k) → Room bs s x → wholes.finite v ≡ true
-        → record { no = n; cells = record { totals = totals; extremes = extremes; counts = back k ys } } ≡ recordedAt bs sums x u s v
+    pub call_kept : (n : ℕ) (totals : List ℕ) (extremes : List (List ℤ)) → n ≡ number a → totals ≡ totals_after x s.totals a → extremes ≡ extremes_after x s.extremes a
+        → bucket_count bs ≤ length (row k) → Room bs s x → wholes.finite v ≡ true
+        → record { no = n; cells = record { totals = totals; extremes = extremes; counts = back k ys } } ≡ recorded_at bs sums x u s v
     call_kept n totals extremes p q t l m f = go a refl p q t ∙ call m f a ys there
       where
-        go : (b : Said Head) → a ≡ b → n ≡ number b → totals ≡ totalsAfter x s.totals b → extremes ≡ extremesAfter x s.extremes b
+        go : (b : Said Head) → a ≡ b → n ≡ number b → totals ≡ totals_after x s.totals b → extremes ≡ extremes_after x s.extremes b
             → record { no = n; cells = record { totals = totals; extremes = extremes; counts = back k ys } } ≡ written bs x s a ys
         go (success h) r p q t =
             (λ j. record { no = p j; cells = record { totals = q j; extremes = t j; counts = back (is j) ys } }) ∙ ap (λ (b : Said Head). written bs x s b ys) (sym r)
         go (refusal i) r p q t =
-            let w : (entering bs sums u (headIn s x) (row k) v).counts ≡ row k = entering-kept bs sums u (headIn s x) (row k) v l f i (sym (ap (λ (o : Outcome). o.answer) e) ∙ r) in
+            let w : (entering bs sums u (head_in s x) (row k) v).counts ≡ row k = entering-kept bs sums u (head_in s x) (row k) v l f i (sym (ap (λ (o : Outcome). o.answer) e) ∙ r) in
             let same : back k ys ≡ s.counts = ap (back k) (ap (λ (o : Outcome). o.counts) e ∙ w) ∙ put_same k s.counts x in
             (λ j. record { no = p j; cells = record { totals = q j; extremes = t j; counts = same j } }) ∙ ap (λ (b : Said Head). written bs x s b ys) (sym r)

@@ -1,16 +1,16 @@
 // The explicit kind's part of the map over i64: recording a value into the series of one slot of the lent stores.
 ghost use Rattle.std.specs.Prelude.{◌≡◌, true, ◌+◌, ◌*◌, ◌<◌, ◌≤◌, length};
 ghost use Rattle.rows.specs.Recording.{after};
-ghost use Rattle.points.specs.Explicit.{bucketCount};
+ghost use Rattle.points.specs.Explicit.{bucket_count};
 ghost use Rattle.laws.specs.Said.{number};
 ghost use Rattle.explicit_wholes.specs.Series.{said, outcome};
-ghost use Rattle.explicit_whole_slots.specs.Cells.{cells, headWith, totalsAfter, extremesAfter, begun, entering, recordedAt};
+ghost use Rattle.explicit_whole_slots.specs.Cells.{cells, head_with, totals_after, extremes_after, begun, entering, recorded_at};
 
 use explicit_wholes::{Answer, Head};
 
 // The head of a count and a slot's three numbers.
 fn head_with(count: u64, m: [i64; 3]) -> Head
-    ensures { result ≡ headWith count m }
+    ensures { result ≡ head_with count m }
 {
     Head {
         count,
@@ -22,7 +22,7 @@ fn head_with(count: u64, m: [i64; 3]) -> Head
 
 // A value recorded into a series without values, whatever lies in its row.
 fn first(bounds: &[f64], sums: bool, counts: &mut [u64], v: i64) -> Answer
-    requires { bucketCount bounds.now ≤ length counts.old }
+    requires { bucket_count bounds.now ≤ length counts.old }
     ensures { outcome (said result) counts.new ≡ begun bounds.now sums counts.old v }
 {
     let empty = explicit_wholes::fresh(bounds, counts);
@@ -41,7 +41,7 @@ fn enter(
     counts: &mut [u64],
     v: i64,
 ) -> Answer
-    requires { bucketCount bounds.now ≤ length counts.old }
+    requires { bucket_count bounds.now ≤ length counts.old }
     ensures { outcome (said result) counts.new ≡ entering bounds.now sums updated head counts.old v }
 {
     if updated {
@@ -57,8 +57,8 @@ fn enter(
 fn keep(x: usize, totals: &mut [u64], extremes: &mut [[i64; 3]], got: Answer) -> u8
     requires { (x < length totals.old) × (x < length extremes.old) }
     ensures value { result ≡ number (said got) }
-    ensures totals_after { totals.new ≡ totalsAfter x totals.old (said got) }
-    ensures extremes_after { extremes.new ≡ extremesAfter x extremes.old (said got) }
+    ensures totals_after { totals.new ≡ totals_after x totals.old (said got) }
+    ensures extremes_after { extremes.new ≡ extremes_after x extremes.old (said got) }
 {
     match got {
         Answer::Refused(no) => no,
@@ -83,9 +83,9 @@ pub fn record(
     v: i64,
 ) -> u8
     requires { (x < length totals.old) × (x < length extremes.old)
-        × (x * bucketCount bounds.now + bucketCount bounds.now ≤ length counts.old) }
+        × (x * bucket_count bounds.now + bucket_count bounds.now ≤ length counts.old) }
     ensures { after result (cells totals.exit extremes.exit counts.exit)
-        ≡ recordedAt bounds.now sums x updated (cells totals.entry extremes.entry counts.entry) v }
+        ≡ recorded_at bounds.now sums x updated (cells totals.entry extremes.entry counts.entry) v }
 {
     let n = explicit::bucket_count(bounds);
     let a = x * n;

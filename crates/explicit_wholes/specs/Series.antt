@@ -3,14 +3,14 @@ use Rattle.std.specs.Prelude.{ℕ, Bool, List, leb, eqb, ℤ, length, replicate,
 use Rattle.laws.specs.Pick.{pick}
 use Rattle.laws.specs.Said.{Said, refusal, success}
 use Rattle.laws.specs.Over.{over}
-use Rattle.floats.specs.Starts.{zeroFloat}
-use Rattle.integers.specs.Answers.{nearestOf, lesserOf, greater_of}
-use Rattle.points.specs.Explicit.{Buckets, bucketCount, recordBucket}
+use Rattle.floats.specs.Starts.{zero_float}
+use Rattle.integers.specs.Answers.{nearest_of, lesser_of, greater_of}
+use Rattle.points.specs.Explicit.{Buckets, bucket_count, record_bucket}
 use Rattle.points.specs.Any.{Summary, start, noted}
 use Rattle.points.specs.Whole.{whole}
 use Rattle.explicit.specs.declared.Head as F
 use Rattle.explicit.specs.Series as E
-use Rattle.explicit.specs.Series.{bucketsIn}
+use Rattle.explicit.specs.Series.{buckets_in}
 use Rattle.explicit_wholes.specs.declared.Head.{Head}
 use Rattle.explicit_wholes.specs.declared.Answer.{Answer}
 use Rattle.explicit_wholes.specs.declared.Answer.TheVariants.{Recorded, Refused}
@@ -22,17 +22,17 @@ head_of count s = record { count = count; min = s.min; max = s.max; sum = s.sum 
 abbrev pub summary : Head → Summary whole
 summary h = record { min = h.min; max = h.max; sum = h.sum }
 
-abbrev pub freshHead : Head
-freshHead = head_of 0 (start whole)
+abbrev pub fresh_head : Head
+fresh_head = head_of 0 (start whole)
 
 -- the same count under a head of f64, whose extremes and sum are nobody's
 abbrev pub under : ℕ → F.Head
-under count = record { count = count; min = zeroFloat; max = zeroFloat; sum = zeroFloat }
+under count = record { count = count; min = zero_float; max = zero_float; sum = zero_float }
 
 -- document 01's number: 12, 8 and 9 as over f64, of the f64 nearest to the value, which is finite; then 16; 0 none
-unfoldable pub refusalOf : List Float → Bool → Head → List ℕ → ℤ → ℕ
-refusalOf bounds sums h xs v =
-    let n = E.refusalOf bounds (under h.count) xs (nearestOf v) in
+unfoldable pub refusal_of : List Float → Bool → Head → List ℕ → ℤ → ℕ
+refusal_of bounds sums h xs v =
+    let n = E.refusal_of bounds (under h.count) xs (nearest_of v) in
     pick (eqb n 0) (pick (whole.takes sums h.sum v) 0 16) n
 
 abbrev pub said : Answer → Said Head
@@ -53,15 +53,15 @@ accepted p sums h xs v = outcome (success (head_of p.total (noted whole sums (su
 -- refused with a number, all as it was; or one more in the value's bucket
 unfoldable pub recording : List Float → Bool → Head → List ℕ → ℤ → Outcome
 recording bounds sums h xs v =
-    pick (eqb (refusalOf bounds sums h xs v) 0)
-    (accepted (recordBucket bounds (bucketsIn bounds h.count xs) (nearestOf v)) sums h xs v)
-    (outcome (refusal (refusalOf bounds sums h xs v)) xs)
+    pick (eqb (refusal_of bounds sums h xs v) 0)
+    (accepted (record_bucket bounds (buckets_in bounds h.count xs) (nearest_of v)) sums h xs v)
+    (outcome (refusal (refusal_of bounds sums h xs v)) xs)
 
 -- a fresh series: zeros in its row, or 12 where the row is too short
 unfoldable pub freshening : List Float → List ℕ → Outcome
 freshening bounds xs =
-    pick (leb (bucketCount bounds) (length xs))
-    (outcome (success freshHead) (over (replicate (bucketCount bounds) 0) xs))
+    pick (leb (bucket_count bounds) (length xs))
+    (outcome (success fresh_head) (over (replicate (bucket_count bounds) 0) xs))
     (outcome (refusal 12) xs)
 
 -- ---- between functions
@@ -73,4 +73,4 @@ begun (success g) = success (head_of g.count (start whole))
 -- the head with the count that was recorded, and the sum s
 abbrev pub finished : Head → ℤ → ℤ → Said F.Head → Said Head
 finished h v s (refusal n) = refusal n
-finished h v s (success g) = success (record { count = g.count; min = lesserOf h.min v; max = greater_of h.max v; sum = s })
+finished h v s (success g) = success (record { count = g.count; min = lesser_of h.min v; max = greater_of h.max v; sum = s })

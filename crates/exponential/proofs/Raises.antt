@@ -6,7 +6,7 @@ use Rattle.laws.specs.Counting.{bit, total}
 use Rattle.laws.proofs.Bools.{pick_true, pick-false}
 use Rattle.rows.specs.Rows.{holds}
 use Rattle.rows.specs.declared.Row.{Row}
-use Rattle.rows.proofs.Laws.{getD-le-total}
+use Rattle.rows.proofs.Laws.{get_or-le-total}
 use Rattle.rows.proofs.Adds.{inside, holds-inside}
 use Rattle.exponential.specs.Inner.{Beside, Raised, Tried}
 
@@ -24,7 +24,7 @@ module _ (a : Row) (bin k : ℕ) (xs ys : List ℕ) (h : a.len ≤ length xs) (l
       }
 
 under : (a : Row) (k : ℕ) (xs : List ℕ) → k < a.len → total (take a.len xs) + 1 < 2 ^ 64 → get_or xs k 0 + 1 < 2 ^ 64
-under a k xs m t = omega (arith, get_or-take a.len xs k 0 m, getD-le-total (take a.len xs) k)
+under a k xs m t = omega (arith, get_or-take a.len xs k 0 m, get_or-le-total (take a.len xs) k)
 
 none : (a : Row) (bin : ℕ) (xs ys : List ℕ) → holds a.start a.len bin ≡ false → Raised a bin false xs ys xs ys
 none a bin xs ys h = record { has = sym h; here = sym (pick-false false _ _ refl); beside = refl }
@@ -41,11 +41,11 @@ module _ (a b row : Row) (bin k m : ℕ) (xs ys : List ℕ) (h : Beside a xs b y
   unfolding pick
   sums-fit true e l q f g =
       let z : row.len ≡ b.len = ap (λ (r : Row). r.len) e in
-      let t = under b k ys (omega arith) h.negCounts in
+      let t = under b k ys (omega arith) h.neg_counts in
       (omega arith, (omega arith, omega arith))
   sums-fit false e l q f g =
       let z : row.len ≡ a.len = ap (λ (r : Row). r.len) e in
-      let t = under a k xs (omega arith) h.posCounts in
+      let t = under a k xs (omega arith) h.pos_counts in
       (omega arith, (omega arith, omega arith))
 
   pub tried-yes : (negative : Bool) → row ≡ pick negative b a → row.start ≤ bin → k ≡ bin - row.start → k < row.len → m ≡ bit negative

@@ -6,21 +6,21 @@ use Rattle.points.proofs.Agreement.{RowOk, row-says, row-agrees}
 use Rattle.rows.specs.Rows.{over, downscaled, onto}
 use Rattle.rows.specs.declared.Row.{Row}
 use Rattle.rows.proofs.Adds.{over-self}
-use Rattle.exponential.specs.Steps.{lowered, lowBin, highBin}
+use Rattle.exponential.specs.Steps.{lowered, low_bin, high_bin}
 use Rattle.exponential.specs.Series.{row_in}
-use Rattle.exponential.specs.Inner.{Laid, rowAgrees, halved}
+use Rattle.exponential.specs.Inner.{Laid, row_agrees, halved}
 use Rattle.exponential.specs.declared.Halves.{Halves}
 use Rattle.laws.specs.Pick.{pick}
 use Rattle.laws.specs.Counting.{sum, total}
 
 -- ---- the bins of a row and of one more
 
-pub bins-empty : (s n b : ℕ) → n ≡ 0 → (lowBin s n b ≡ b) × (highBin s n b ≡ b)
-unfolding lowBin highBin pick
+pub bins-empty : (s n b : ℕ) → n ≡ 0 → (low_bin s n b ≡ b) × (high_bin s n b ≡ b)
+unfolding low_bin high_bin pick
 bins-empty s n b e = rw (eq-eqb n 0 e) (refl, refl)
 
-pub bins-some : (s n b : ℕ) → 0 < n → (lowBin s n b ≡ min s b) × (highBin s n b ≡ max (s + (n - 1)) b)
-unfolding lowBin highBin pick
+pub bins-some : (s n b : ℕ) → 0 < n → (low_bin s n b ≡ min s b) × (high_bin s n b ≡ max (s + (n - 1)) b)
+unfolding low_bin high_bin pick
 bins-some s n b h = let e : pred n ≡ n - 1 = omega arith in rw (ne_eqb n 0 (omega arith), e) (refl, refl)
 
 -- ---- not lowered at all
@@ -55,21 +55,21 @@ module _ (size lo hi : ℕ) (r : Row) (xs : List ℕ) where
   there? = leb r.len (length xs)
 
   abbrev fine? : Bool
-  fine? = A.rowAgrees size lo hi (row_in r xs)
+  fine? = A.row_agrees size lo hi (row_in r xs)
 
-  pub row-facts : rowAgrees size lo hi r xs ≡ true → RowFacts size lo hi r xs
+  pub row-facts : row_agrees size lo hi r xs ≡ true → RowFacts size lo hi r xs
   row-facts h =
       record {
         there = leb-true r.len (length xs) (and_left there? fine? h);
         ok = row-says size lo hi (row_in r xs) (and_right there? fine? h);
       }
 
-  pub facts-row : RowFacts size lo hi r xs → rowAgrees size lo hi r xs ≡ true
+  pub facts-row : RowFacts size lo hi r xs → row_agrees size lo hi r xs ≡ true
   facts-row f =
       and_intro there? fine? (le-leb r.len (length xs) f.there) (row-agrees size lo hi (row_in r xs) f.ok)
 
-  pub refuse : (RowFacts size lo hi r xs → ⊥) → false ≡ rowAgrees size lo hi r xs
-  refuse n = ⊎_elim (λ (t : rowAgrees size lo hi r xs ≡ true). absurd (n (row-facts t))) (λ (t : rowAgrees size lo hi r xs ≡ false). sym t) (flag (rowAgrees size lo hi r xs))
+  pub refuse : (RowFacts size lo hi r xs → ⊥) → false ≡ row_agrees size lo hi r xs
+  refuse n = ⊎_elim (λ (t : row_agrees size lo hi r xs ≡ true). absurd (n (row-facts t))) (λ (t : row_agrees size lo hi r xs ≡ false). sym t) (flag (row_agrees size lo hi r xs))
 
   -- in numbers
   module _ (f : RowFacts size lo hi r xs) where
@@ -95,13 +95,13 @@ module _ (size lo hi : ℕ) (r : Row) (xs : List ℕ) where
         (subst (λ (m : ℕ). 0 < get_or (take r.len xs) m 0) q (f.ok.canonical.last (omega (arith, long))))
 
   -- an empty row
-  pub empty-row : r.len ≡ 0 → eqb r.start 0 ≡ rowAgrees size lo hi r xs
-  unfolding A.rowAgrees pick
+  pub empty-row : r.len ≡ 0 → eqb r.start 0 ≡ row_agrees size lo hi r xs
+  unfolding A.row_agrees pick
   empty-row e = rw (e, le-leb 0 (length xs) (omega arith)) refl
 
   -- the last test
   pub by_last : 0 < r.len → r.len ≤ size → r.len ≤ length xs → lo ≤ r.start → r.start + r.len ≤ hi → 0 < get_or xs 0 0
-      → not (eqb (get_or xs (r.len - 1) 0) 0) ≡ rowAgrees size lo hi r xs
+      → not (eqb (get_or xs (r.len - 1) 0) 0) ≡ row_agrees size lo hi r xs
   by_last p a l d e z =
       let n : length (take r.len xs) ≡ r.len = length-take-le r.len xs l in
       ⊎_elim

@@ -3,7 +3,7 @@ use Rattle.std.proofs.Common.{◌≡◌, ℕ, ◌+◌, ◌*◌, ◌%◌, ◌<◌
 use lib.Bits.{bit_or, or_add_and, and_le_l, and_le_r}
 use Rattle.laws.specs.Counting.{total}
 use Rattle.exponential.specs.declared.Counts.{Counts}
-use Rattle.exponential.specs.Inner.{addsUp}
+use Rattle.exponential.specs.Inner.{adds_up}
 
 pub or_left : (a b : ℕ) → a ≤ bit_or a b
 or_left a b = omega (arith, or_add_and a b, and_le_r a b)
@@ -42,6 +42,6 @@ pub sums-exact : (z t u s₁ s₂ m b p n : ℕ) → s₁ ≡ (z + t) % 18446744
 sums-exact z t u s₁ s₂ m b p n e₁ e₂ a h g l k q w =
     exact z t u s₁ s₂ b e₁ e₂ (omega arith) (most t p m b h g l) (most u n b b k q (omega arith)) w
 
-pub adds-up-if : (c : Counts) (xs ys : List ℕ) (s : ℕ) → s ≡ c.zeros + (total (take c.pos.len xs) + total (take c.neg.len ys))
-    → eqb c.count s ≡ addsUp c xs ys
-adds-up-if c xs ys s e = ap (eqb c.count) e
+pub adds-up_if : (c : Counts) (xs ys : List ℕ) (s : ℕ) → s ≡ c.zeros + (total (take c.pos.len xs) + total (take c.neg.len ys))
+    → eqb c.count s ≡ adds_up c xs ys
+adds-up_if c xs ys s e = ap (eqb c.count) e

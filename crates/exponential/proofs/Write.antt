@@ -1,63 +1,63 @@
 -- What adding a value needs and leaves. Assumes nothing.
 use Rattle.std.proofs.Common.{◌≡◌, ℕ, ◌+◌, ◌-◌, ◌*◌, ◌/◌, ◌^◌, ◌<◌, ◌≤◌, ◌⊎◌, List, length, take, sym, ap, ◌∙◌, subst, ⊎_elim, mul_assoc, eq-or-lt_of_le, mul-lt-mul_of_pos_right, arith, length-take-le, pow_pos, pow-add}
-use Rattle.index.specs.Bins.{finest, endBin}
+use Rattle.index.specs.Bins.{finest, end_bin}
 use lib.Pow.{pow-lt, shl-shr}
 use Rattle.points.specs.Points.{naught, plus, minus}
 use Rattle.laws.specs.Counting.{total}
 use Rattle.rows.specs.declared.Row.{Row}
 use Rattle.rows.proofs.Adds.{over-self}
 use Rattle.exponential.specs.declared.Counts.{Counts}
-use Rattle.exponential.specs.Steps.{lowBin, highBin, lowering, placed}
+use Rattle.exponential.specs.Steps.{low_bin, high_bin, lowering, placed}
 use Rattle.exponential.specs.Series.{row_in, read}
-use Rattle.exponential.specs.Inner.{Laid, Written, lowerBy, rowTo, rowOther, Room}
+use Rattle.exponential.specs.Inner.{Laid, Written, lower_by, row_to, row_other, Room}
 use Rattle.exponential.proofs.Joint.{few, room-one}
 use Rattle.points.proofs.Agreement.{RowOk}
-use Rattle.index.specs.Bins.{lowestBin}
+use Rattle.index.specs.Bins.{lowest_bin}
 use Rattle.exponential.proofs.Rowed.{RowFacts, range}
 
-pub needed-in : (size : ℕ) (r : Row) (xs : List ℕ) (bin : ℕ) → r.len ≤ length xs
-    → lowering size (lowBin r.start r.len bin) (highBin r.start r.len bin) ≡ lowerBy size r xs bin
-needed-in size r xs bin h =
-    ap (λ n. lowering size (lowBin r.start n bin) (highBin r.start n bin)) (sym (length-take-le r.len xs h))
+pub needed_in : (size : ℕ) (r : Row) (xs : List ℕ) (bin : ℕ) → r.len ≤ length xs
+    → lowering size (low_bin r.start r.len bin) (high_bin r.start r.len bin) ≡ lower_by size r xs bin
+needed_in size r xs bin h =
+    ap (λ n. lowering size (low_bin r.start n bin) (high_bin r.start n bin)) (sym (length-take-le r.len xs h))
 
-pub level-pow : (level : ℕ) → level ≤ finest → 2 ^ level ≤ 2 ^ finest
-level-pow level h =
+pub level_pow : (level : ℕ) → level ≤ finest → 2 ^ level ≤ 2 ^ finest
+level_pow level h =
     ⊎_elim
     (λ (e : level ≡ finest). rw e (omega arith))
     (λ (l : level < finest). omega (arith, pow-lt l))
     (eq-or-lt_of_le h)
 
 -- a bin of the level as one of the finest
-top_of : (level bin : ℕ) → level ≤ finest → bin < endBin level → bin * 2 ^ (finest - level) < endBin finest
+top_of : (level bin : ℕ) → level ≤ finest → bin < end_bin level → bin * 2 ^ (finest - level) < end_bin finest
 top_of level bin h t =
     let q : level + (finest - level) ≡ finest = omega arith in
-    let e : endBin level * 2 ^ (finest - level) ≡ endBin finest = mul_assoc 3 (2 ^ level) (2 ^ (finest - level)) ∙ ap (λ n. 3 * n) (sym (pow-add 2 level (finest - level)) ∙ ap (λ n. 2 ^ n) q) in
+    let e : end_bin level * 2 ^ (finest - level) ≡ end_bin finest = mul_assoc 3 (2 ^ level) (2 ^ (finest - level)) ∙ ap (λ n. 3 * n) (sym (pow-add 2 level (finest - level)) ∙ ap (λ n. 2 ^ n) q) in
     subst (λ (n : ℕ). bin * 2 ^ (finest - level) < n) e (mul-lt-mul_of_pos_right t (pow_pos (finest - level)))
 
-module _ (size level bin : ℕ) (a : Row) (xs : List ℕ) (s : 3 ≤ size) (h : level ≤ finest) (f : RowFacts size (lowestBin level) (endBin level) a xs) (t : bin < endBin level) where
+module _ (size level bin : ℕ) (a : Row) (xs : List ℕ) (s : 3 ≤ size) (h : level ≤ finest) (f : RowFacts size (lowest_bin level) (end_bin level) a xs) (t : bin < end_bin level) where
   -- the row as one of the steps below the finest level
-  own : RowOk size (lowestBin level) (endBin (finest - (finest - level))) (row_in a xs)
-  own = let e : level ≡ finest - (finest - level) = omega arith in subst (λ (n : ℕ). RowOk size (lowestBin level) (endBin n) (row_in a xs)) e f.ok
+  own : RowOk size (lowest_bin level) (end_bin (finest - (finest - level))) (row_in a xs)
+  own = let e : level ≡ finest - (finest - level) = omega arith in subst (λ (n : ℕ). RowOk size (lowest_bin level) (end_bin n) (row_in a xs)) e f.ok
 
   same : bin * 2 ^ (finest - level) / 2 ^ (finest - level) ≡ bin
   same = shl-shr bin (finest - level)
 
   -- at most as many levels lower as there are
-  pub few-levels : lowerBy size a xs bin ≤ level
-  few-levels =
-      let g : lowerBy size a xs bin ≤ finest - (finest - level) = rw same at (few size (finest - level) (bin * 2 ^ (finest - level)) (row_in a xs) own.canonical s (omega arith) (top_of level bin h t) own) in
+  pub few_levels : lower_by size a xs bin ≤ level
+  few_levels =
+      let g : lower_by size a xs bin ≤ finest - (finest - level) = rw same at (few size (finest - level) (bin * 2 ^ (finest - level)) (row_in a xs) own.canonical s (omega arith) (top_of level bin h t) own) in
       omega arith
 
-  pub room : (b : Row) (ys : List ℕ) → RowFacts size (lowestBin level) (endBin level) b ys → size ≤ length xs
+  pub room : (b : Row) (ys : List ℕ) → RowFacts size (lowest_bin level) (end_bin level) b ys → size ≤ length xs
       → total (take a.len xs) + total (take b.len ys) < 18446744073709551615 → Room size a xs b ys bin
   room b ys g m n =
       let o = rw same at (room-one size (finest - level) (bin * 2 ^ (finest - level)) (row_in a xs) s (omega arith) (top_of level bin h t) own) in
       record {
         some = omega arith;
-        bins = omega (arith, range size (lowestBin level) (endBin level) a xs f, level-pow level h);
+        bins = omega (arith, range size (lowest_bin level) (end_bin level) a xs f, level_pow level h);
         short = f.there;
         other = g.there;
-        few = omega (arith, few-levels);
+        few = omega (arith, few_levels);
         fits = omega (arith, o);
         counts = omega arith;
         others = omega arith;
@@ -86,13 +86,13 @@ module _ (size : ℕ) (c : Counts) (xs ys : List ℕ) (g : c.level ≤ finest) w
       }
 
   pub written-plus : (bin k : ℕ) (to other : Row) (xs' ys' : List ℕ) → k ≤ c.level
-      → k ≡ lowerBy size c.pos xs bin
-      → Laid (rowTo size c.pos xs bin) xs to xs'
-      → Laid (rowOther size c.pos xs c.neg ys bin) ys other ys'
+      → k ≡ lower_by size c.pos xs bin
+      → Laid (row_to size c.pos xs bin) xs to xs'
+      → Laid (row_other size c.pos xs c.neg ys bin) ys other ys'
       → Written (placed size (read c xs ys) (plus bin)) xs ys (record { count = c.count + 1; zeros = c.zeros; level = c.level - k; pos = to; neg = other }) xs' ys'
   unfolding placed
   written-plus bin k to other xs' ys' h e p n =
-      let q = level-is c.level k (lowerBy size c.pos xs bin) e h g in
+      let q = level-is c.level k (lower_by size c.pos xs bin) e h g in
       record {
         counts = λ j. record {
           count = c.count + 1;

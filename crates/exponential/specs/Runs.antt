@@ -6,8 +6,8 @@ use Rattle.exponential.specs.declared.Head.{Head}
 use Rattle.exponential.specs.Series.{head_of}
 
 -- the head of a fresh series: nothing counted, and the extremes and the sum that document 01 starts from
-abbrev pub freshHead : ℕ → Head
-freshHead top =
+abbrev pub fresh_head : ℕ → Head
+fresh_head top =
     head_of (record { count = 0; zeros = 0; level = top; pos = record { start = 0; len = 0 }; neg = record { start = 0; len = 0 } }) start
 
 -- what the next call makes of the success of the one before; after a refusal there is no next call, and b is what there is

@@ -1,11 +1,11 @@
 // One value added to a series: its class, then its place in the row of its sign, both rows lowered where that needs it.
 ghost use Rattle.std.specs.Prelude.{◌≡◌, ◌+◌, ◌^◌, ◌<◌, ◌≤◌, length, take};
 ghost use Rattle.index.specs.Answers.{bin_of};
-ghost use Rattle.laws.specs.Counting.{bit, total, mostCount};
+ghost use Rattle.laws.specs.Counting.{bit, total, most_count};
 ghost use Rattle.laws.specs.Pick.{pick};
-ghost use Rattle.exponential.specs.Steps.{lowered, with1, lowBin, highBin, lowering, placed};
+ghost use Rattle.exponential.specs.Steps.{lowered, with1, low_bin, high_bin, lowering, placed};
 ghost use Rattle.exponential.specs.Series.{row_in, read};
-ghost use Rattle.exponential.specs.Inner.{Laid, Written, class_at, signed, value_of, lowerBy, rowTo, rowOther, Room, oneMore, Beside, Tried, Ready};
+ghost use Rattle.exponential.specs.Inner.{Laid, Written, class_at, signed, value_of, lower_by, row_to, row_other, Room, one_more, Beside, Tried, Ready};
 
 use crate::{Class, Counts, Moved};
 use rows::Row;
@@ -13,7 +13,7 @@ use rows::Row;
 // How many levels lower a row of n counts from start on, and one more at bin, are at most size counts.
 fn needed(size: usize, row: Row, bin: u32) -> u32
     requires { (0 < size) × (row.start + row.len < 2 ^ 32) }
-    ensures { result ≡ lowering size (lowBin row.start row.len bin) (highBin row.start row.len bin) }
+    ensures { result ≡ lowering size (low_bin row.start row.len bin) (high_bin row.start row.len bin) }
 {
     let n = row.len;
     let start = row.start;
@@ -40,9 +40,9 @@ fn place(counts: &mut [u64], row: Row, k: u32, bin: u32) -> Row
 // One more at bin in the row of a; both rows as many levels lower as that needs.
 fn put(size: usize, a: &mut [u64], to: Row, b: &mut [u64], other: Row, bin: u32) -> Moved
     requires { Room size to a.old other b.old bin }
-    ensures k_value { result.k ≡ lowerBy size to a.old bin }
-    ensures laid { Laid (rowTo size to a.old bin) a.old result.to a.new }
-    ensures laid_2 { Laid (rowOther size to a.old other b.old bin) b.old result.other b.new }
+    ensures k_value { result.k ≡ lower_by size to a.old bin }
+    ensures laid { Laid (row_to size to a.old bin) a.old result.to a.new }
+    ensures laid_2 { Laid (row_other size to a.old other b.old bin) b.old result.other b.new }
 {
     let k = needed(size, to, bin);
     let new = place(a, to, k, bin >> k);
@@ -69,8 +69,8 @@ pub fn class_of(v: f64, level: u32) -> Class
 
 // One value more that is not zero, the rows k levels lower.
 fn one_more(c: Counts, k: u32, pos: Row, neg: Row) -> Counts
-    requires { (c.count < mostCount) × (k ≤ c.level) }
-    ensures { result ≡ oneMore c k pos neg }
+    requires { (c.count < most_count) × (k ≤ c.level) }
+    ensures { result ≡ one_more c k pos neg }
 {
     Counts {
         count: c.count + 1,

@@ -7,13 +7,13 @@ ghost use Rattle.std.specs.Prelude.{◌≡◌, ◌+◌, ◌*◌, ◌^◌, ◌<�
 ghost use Rattle.laws.specs.Counting.{total};
 ghost use Rattle.exponential.specs.Steps.{lowered};
 ghost use Rattle.laws.specs.Pick.{pick};
-ghost use Rattle.floats.specs.Starts.{zeroFloat};
+ghost use Rattle.floats.specs.Starts.{zero_float};
 ghost use Rattle.points.specs.Points.{record1};
 ghost use Rattle.points.specs.Values.{class_of};
-ghost use Rattle.exponential.specs.Runs.{freshHead};
-ghost use Rattle.exponential.specs.Series.{mostSize, sizePasses, row_in, read, agrees};
-ghost use Rattle.exponential.specs.Inner.{Laid, Written, rowAgrees, halved, addsUp};
-ghost use Rattle.exponential.specs.Series.{refusalOf, said, outcome, recording};
+ghost use Rattle.exponential.specs.Runs.{fresh_head};
+ghost use Rattle.exponential.specs.Series.{most_size, size_passes, row_in, read, agrees};
+ghost use Rattle.exponential.specs.Inner.{Laid, Written, row_agrees, halved, adds_up};
+ghost use Rattle.exponential.specs.Series.{refusal_of, said, outcome, recording};
 
 use rows::Row;
 
@@ -47,7 +47,7 @@ pub enum Answer {
 
 // The head of a series that has counted nothing.
 pub fn fresh(top: u32) -> Head
-    ensures { result ≡ freshHead top }
+    ensures { result ≡ fresh_head top }
 {
     Head {
         counts: Counts {
@@ -84,7 +84,7 @@ pub fn row_of<'a>(c: Counts, negative: bool, pos: &'a [u64], neg: &'a [u64]) -> 
 
 // A row at a level whose bins run from low to the one before end.
 fn row_agrees(counts: &[u64], row: Row, size: usize, low: u32, end: u64) -> bool
-    ensures { result ≡ rowAgrees size low end row counts.now }
+    ensures { result ≡ row_agrees size low end row counts.now }
 {
     let n = row.len;
     let start = row.start;
@@ -118,7 +118,7 @@ pub struct Halves {
 
 // The first n counts added to what is there, the low and the high halves apart: nothing can overflow.
 pub fn sum_halves(counts: &[u64], n: usize, from: Halves) -> Halves
-    requires n_in_bounds { (n ≤ length counts.now) × (n ≤ mostSize) }
+    requires n_in_bounds { (n ≤ length counts.now) × (n ≤ most_size) }
     requires low_bound { (from.low ≤ 200 * 4294967295) × (from.high ≤ 200 * 4294967295) }
     ensures value { result ≡ halved from (take n counts.now) }
     ensures low_bound_2 { (result.low ≤ from.low + n * 4294967295) × (result.high ≤ from.high + n * 4294967295) }
@@ -137,9 +137,9 @@ pub fn sum_halves(counts: &[u64], n: usize, from: Halves) -> Halves
 
 // Whether count is zeros and the counts of both rows, whatever they are.
 fn halves_add_up(c: Counts, pos: &[u64], neg: &[u64]) -> bool
-    requires len_in_bounds { (c.pos.len ≤ length pos.now) × (c.pos.len ≤ mostSize) }
-    requires len_in_bounds_2 { (c.neg.len ≤ length neg.now) × (c.neg.len ≤ mostSize) }
-    ensures { result ≡ addsUp c pos.now neg.now }
+    requires len_in_bounds { (c.pos.len ≤ length pos.now) × (c.pos.len ≤ most_size) }
+    requires len_in_bounds_2 { (c.neg.len ≤ length neg.now) × (c.neg.len ≤ most_size) }
+    ensures { result ≡ adds_up c pos.now neg.now }
 {
     let p = c.pos;
     let n = c.neg;
@@ -159,9 +159,9 @@ fn halves_add_up(c: Counts, pos: &[u64], neg: &[u64]) -> bool
 
 // The same. A number that no count is above and that is below 2^55 leaves 320 counts and zeros below 2^64.
 fn adds_up(c: Counts, pos: &[u64], neg: &[u64]) -> bool
-    requires len_in_bounds { (c.pos.len ≤ length pos.now) × (c.pos.len ≤ mostSize) }
-    requires len_in_bounds_2 { (c.neg.len ≤ length neg.now) × (c.neg.len ≤ mostSize) }
-    ensures { result ≡ addsUp c pos.now neg.now }
+    requires len_in_bounds { (c.pos.len ≤ length pos.now) × (c.pos.len ≤ most_size) }
+    requires len_in_bounds_2 { (c.neg.len ≤ length neg.now) × (c.neg.len ≤ most_size) }
+    ensures { result ≡ adds_up c pos.now neg.now }
 {
     let p = c.pos;
     let n = c.neg;
@@ -181,7 +181,7 @@ fn adds_up(c: Counts, pos: &[u64], neg: &[u64]) -> bool
 
 // Whether a max_size could be configured: from 3 to 160.
 pub fn size_passes(size: usize) -> bool
-    ensures { result ≡ sizePasses size }
+    ensures { result ≡ size_passes size }
 {
     if size < LEAST_SIZE {
         return false;
@@ -266,7 +266,7 @@ pub enum Class {
 
 // The number with which a recording is refused, 0 if none.
 pub fn refusal(size: u32, top: u32, head: Head, pos: &[u64], neg: &[u64], v: f64) -> u8
-    ensures { result ≡ refusalOf size top head pos.now neg.now v }
+    ensures { result ≡ refusal_of size top head pos.now neg.now v }
 {
     let n = size as usize;
     if pos.len() < n {
@@ -296,8 +296,8 @@ pub fn refusal(size: u32, top: u32, head: Head, pos: &[u64], neg: &[u64], v: f64
 
 // One value more, where `refusal` says 0: what is counted then.
 pub fn count_in(size: u32, top: u32, head: Head, pos: &mut [u64], neg: &mut [u64], v: f64) -> Counts
-    requires { refusalOf size top head pos.old neg.old v ≡ 0 }
-    ensures { Written (record1 size (read head.counts pos.old neg.old) (class_of zeroFloat v))
+    requires { refusal_of size top head pos.old neg.old v ≡ 0 }
+    ensures { Written (record1 size (read head.counts pos.old neg.old) (class_of zero_float v))
         pos.old neg.old result pos.new neg.new }
 {
     let c = head.counts;

@@ -1,7 +1,7 @@
 // Totals of rows modulo 2^64, beside a number that no count is above: where that is small, nothing has wrapped.
 ghost use Rattle.std.specs.Prelude.{◌≡◌, ◌+◌, ◌*◌, ◌%◌, ◌^◌, ◌≤◌, length, take};
 ghost use Rattle.laws.specs.Counting.{total};
-ghost use Rattle.exponential.specs.Series.{mostSize};
+ghost use Rattle.exponential.specs.Series.{most_size};
 
 #[derive(Drop)]
 pub struct Wrapped {
@@ -11,7 +11,7 @@ pub struct Wrapped {
 
 // The first n counts added to what is there. No test and no carry: two vector instructions for two counts.
 pub fn add_row(counts: &[u64], n: usize, from: Wrapped) -> Wrapped
-    requires { (n ≤ length counts.now) × (n ≤ mostSize) }
+    requires { (n ≤ length counts.now) × (n ≤ most_size) }
     ensures sum_value { result.sum ≡ (from.sum + total (take n counts.now)) % 2 ^ 64 }
     ensures most_le_most { (from.most ≤ result.most) × (total (take n counts.now) ≤ n * result.most) }
 {

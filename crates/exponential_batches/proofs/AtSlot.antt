@@ -21,30 +21,30 @@ use Rattle.rows.proofs.Parts.{part_length, put-length, put-own, put_same}
 use Rattle.many.specs.Many.{Many}
 use Rattle.many.proofs.Alike.{pick_first, pick_second}
 use Rattle.points.specs.Figures.{exponential, Settings}
-use Rattle.kinds.specs.Histograms.{countsHold, histograms}
+use Rattle.kinds.specs.Histograms.{counts_hold, histograms}
 use Rattle.exponential.specs.declared.Head.{Head}
-use Rattle.exponential.specs.Series.{Outcome, recording, refusalOf}
-use Rattle.exponential.specs.Runs.{freshHead}
+use Rattle.exponential.specs.Series.{Outcome, recording, refusal_of}
+use Rattle.exponential.specs.Runs.{fresh_head}
 use Rattle.exponential.specs.Inner.{Series, after}
 use Rattle.exponential.proofs.Call.{not_finite}
 use Rattle.exponential.proofs.Lists.{accepted-is, fresh_holds}
-use Rattle.exponential_slots.specs.Cells.{Cells, Room, words_of, narrow, readable, headIn, head_of, headAt, written, recordedAt}
-use Rattle.exponential_slots.specs.Meaning.{settings, shaped, countsAt, seriesAt}
+use Rattle.exponential_slots.specs.Cells.{Cells, Room, words_of, narrow, readable, head_in, head_of, head_at, written, recorded_at}
+use Rattle.exponential_slots.specs.Meaning.{settings, shaped, counts_at, series_at}
 use Rattle.exponential_slots.proofs.Cases.{into, reads_held, reads-fresh, head-held, head-fresh, unread, called}
 use Rattle.exponential_slots.proofs.Agreeing.{Accepted, accepted-of, in-shape, holds-is, can-read, series-agrees}
-use Rattle.value_map.specs.Exponential.{exponentialStore}
+use Rattle.value_map.specs.Exponential.{exponential_store}
 use Rattle.value_map.proofs.ExponentialOwes.{unset-valid}
 use Rattle.batches.proofs.Slotted.{Ready, Slotted}
 use Rattle.batches.proofs.Puts.{put-put}
 use Rattle.exponential_batches.specs.Series.{Sound, step}
-use Rattle.exponential_batches.specs.Slot.{load, extremesOf, put}
+use Rattle.exponential_batches.specs.Slot.{load, extremes_of, put}
 use Rattle.exponential_batches.proofs.Steps as Steps
 
 -- ---- the number of a value, as the code asks for it
 
 module _ (size top : ℕ) (c : Cells) (x : ℕ) (u : Bool) (v : Float) where
   abbrev n : ℕ
-  n = (recordedAt size top x u c v).no
+  n = (recorded_at size top x u c v).no
 
   -- that of the series which is read
   pub read_no : readable u (get_or c.figures x []) ≡ true → n ≡ (step size top (load size top c x u) v).no
@@ -62,12 +62,12 @@ module _ (size top : ℕ) (c : Cells) (x : ℕ) (u : Bool) (v : Float) where
     pub asked-unread : readable u (get_or c.figures x []) ≡ false → 8 ≡ pick known 0 n
     asked-unread r = sym (pick-false known 0 n k ∙ ap (λ (y : Recording Cells). y.no) (unread size top x u c v r))
 
-    pub asked-read : readable u (get_or c.figures x []) ≡ true → refusalOf size top (headAt top c x u) (part_at size c.pos x) (part_at size c.neg x) v ≡ pick known 0 n
+    pub asked-read : readable u (get_or c.figures x []) ≡ true → refusal_of size top (head_at top c x u) (part_at size c.pos x) (part_at size c.neg x) v ≡ pick known 0 n
     asked-read r = sym (pick-false known 0 n k ∙ read_no r ∙ Steps.number_is size top (load size top c x u) v)
 
 -- ---- a slot that is ready: its words can be read, and its series agrees
 
-module _ (size top : ℕ) (c : Cells) (x : ℕ) (u : Bool) (r : Ready (exponentialStore size top) (true, true) x u c) where
+module _ (size top : ℕ) (c : Cells) (x : ℕ) (u : Bool) (r : Ready (exponential_store size top) (true, true) x u c) where
   abbrev f : List ℕ
   f = get_or c.figures x []
 
@@ -95,12 +95,12 @@ module _ (size top : ℕ) (c : Cells) (x : ℕ) (u : Bool) (r : Ready (exponenti
   abbrev under : Head → Series
   under h = record { head = h; pos = xs; neg = ys }
 
-  module _ (a : histograms.agrees z (seriesAt size c x) ≡ true) where
-    abbrev holds : countsHold (exponential size top) (countsAt size f xs ys) ≡ true
-    holds = (and-true (countsHold (exponential size top) (countsAt size f xs ys)) (finite (get_or l 0 nan) && finite (get_or l 1 nan)) a).0
+  module _ (a : histograms.agrees z (series_at size c x) ≡ true) where
+    abbrev holds : counts_hold (exponential size top) (counts_at size f xs ys) ≡ true
+    holds = (and-true (counts_hold (exponential size top) (counts_at size f xs ys)) (finite (get_or l 0 nan) && finite (get_or l 1 nan)) a).0
 
     ends : (finite (get_or l 0 nan) ≡ true) × (finite (get_or l 1 nan) ≡ true)
-    ends = and-true (finite (get_or l 0 nan)) (finite (get_or l 1 nan)) (and-true (countsHold (exponential size top) (countsAt size f xs ys)) (finite (get_or l 0 nan) && finite (get_or l 1 nan)) a).1
+    ends = and-true (finite (get_or l 0 nan)) (finite (get_or l 1 nan)) (and-true (counts_hold (exponential size top) (counts_at size f xs ys)) (finite (get_or l 0 nan) && finite (get_or l 1 nan)) a).1
 
     shape : shaped size f ≡ true
     shape = in-shape size f xs ys top ok holds
@@ -108,8 +108,8 @@ module _ (size top : ℕ) (c : Cells) (x : ℕ) (u : Bool) (r : Ready (exponenti
     narrow-is : narrow f ≡ true
     narrow-is = can-read size f xs ys top ok long-pos long-neg shape (sym (holds-is size f xs ys top ok shape) ∙ holds)
 
-    sound-held : Sound size top (under (headIn f l))
-    unfolding headIn
+    sound-held : Sound size top (under (head_in f l))
+    unfolding head_in
     sound-held =
         record {
           agree = series-agrees size f xs ys top ok long-pos long-neg shape (sym (holds-is size f xs ys top ok shape) ∙ holds);
@@ -119,10 +119,10 @@ module _ (size top : ℕ) (c : Cells) (x : ℕ) (u : Bool) (r : Ready (exponenti
           neg = omega (arith, long-neg);
         }
 
-  sound-fresh : Sound size top (under (freshHead top))
+  sound-fresh : Sound size top (under (fresh_head top))
   sound-fresh =
       let h = fresh_holds size top xs ys ok.least ok.most ok.fine (omega (arith, long-pos)) (omega (arith, long-neg)) in
-      record { agree = h.agree; min = h.finMin; max = h.finMax; pos = h.longPos; neg = h.longNeg }
+      record { agree = h.agree; min = h.fin_min; max = h.fin_max; pos = h.long_pos; neg = h.long_neg }
 
   pub reads : readable u f ≡ true
   reads =
@@ -153,10 +153,10 @@ module _ (size top : ℕ) (c : Cells) (x : ℕ) (u : Bool) (r : Ready (exponenti
         let e = not_finite size top s.head s.pos s.neg v (omega (arith, long-pos)) (omega (arith, long-neg)) k in
         ap (λ (y : Recording Series). y.no) (Steps.refused size top s v (λ i. let j = sym e ∙ i in omega (arith, j))) ∙ e
 
-    recorded-is : recordedAt size top x u c v ≡ into size x c o
+    recorded-is : recorded_at size top x u c v ≡ into size x c o
     recorded-is = called size top x u c v reads
 
-    pub took : (step size top s v).no ≡ 0 → recordedAt size top x u c v ≡ R.after 0 (put size c x (step size top s v).cells)
+    pub took : (step size top s v).no ≡ 0 → recorded_at size top x u c v ≡ R.after 0 (put size c x (step size top s v).cells)
     unfolding step
     took e =
         recorded-is
@@ -171,17 +171,17 @@ module _ (size top : ℕ) (c : Cells) (x : ℕ) (u : Bool) (r : Ready (exponenti
 
 module _ (size top : ℕ) (c : Cells) (x : ℕ) (s : Series) (r : Room size c x) (lp : length s.pos ≡ size) (ln : length s.neg ≡ size) where
   pub read_back : load size top (put size c x s) x true ≡ s
-  unfolding head_of pick headIn
+  unfolding head_of pick head_in
   read_back =
       let f = get_or-set_same c.figures x (words_of s.head.counts) [] r.figures in
-      let e = get_or-set_same c.extremes x (extremesOf s.head) [] r.extremes in
+      let e = get_or-set_same c.extremes x (extremes_of s.head) [] r.extremes in
       λ j. record { head = head_of top true (f j) (e j); pos = put-own size c.pos x r.pos s.pos lp j; neg = put-own size c.neg x r.neg s.neg ln j }
 
   pub put-again : (t : Series) → put size (put size c x s) x t ≡ put size c x t
   put-again t =
       λ j. record {
         figures = set-set c.figures x (words_of s.head.counts) (words_of t.head.counts) j;
-        extremes = set-set c.extremes x (extremesOf s.head) (extremesOf t.head) j;
+        extremes = set-set c.extremes x (extremes_of s.head) (extremes_of t.head) j;
         pos = put-put size c.pos x s.pos t.pos r.pos lp j;
         neg = put-put size c.neg x s.neg t.neg r.neg ln j;
       }
@@ -190,7 +190,7 @@ module _ (size top : ℕ) (c : Cells) (x : ℕ) (s : Series) (r : Room size c x)
   put-room =
       record {
         figures = omega (arith, r.figures, length-set c.figures x (words_of s.head.counts));
-        extremes = omega (arith, r.extremes, length-set c.extremes x (extremesOf s.head));
+        extremes = omega (arith, r.extremes, length-set c.extremes x (extremes_of s.head));
         pos = omega (arith, r.pos, put-length size c.pos x r.pos s.pos lp);
         neg = omega (arith, r.neg, put-length size c.neg x r.neg s.neg ln);
       }
@@ -199,14 +199,14 @@ module _ (size top : ℕ) (c : Cells) (x : ℕ) (s : Series) (r : Room size c x)
 
 module _ (size top : ℕ) (c : Cells) (x : ℕ) (u : Bool) (m : Many Series) (figures : List (List ℕ)) (extremes : List (List Float))
     (p : figures ≡ pick (eqb m.taken 0) c.figures (set c.figures x (words_of m.left.head.counts)))
-    (q : extremes ≡ pick (eqb m.taken 0) c.extremes (set c.extremes x (extremesOf m.left.head))) where
+    (q : extremes ≡ pick (eqb m.taken 0) c.extremes (set c.extremes x (extremes_of m.left.head))) where
   abbrev pub end : Cells
   end = record { figures = figures; extremes = extremes; pos = put_at size c.pos x m.left.pos; neg = put_at size c.neg x m.left.neg }
 
   pub kept_off : m.taken ≡ 0 → m.left ≡ load size top c x u → end ≡ c
   kept_off z l =
       let f = p ∙ pick_first m.taken z c.figures (set c.figures x (words_of m.left.head.counts)) in
-      let g = q ∙ pick_first m.taken z c.extremes (set c.extremes x (extremesOf m.left.head)) in
+      let g = q ∙ pick_first m.taken z c.extremes (set c.extremes x (extremes_of m.left.head)) in
       let a = ap (λ (y : Series). put_at size c.pos x y.pos) l ∙ put_same size c.pos x in
       let b = ap (λ (y : Series). put_at size c.neg x y.neg) l ∙ put_same size c.neg x in
       λ j. record { figures = f j; extremes = g j; pos = a j; neg = b j }
@@ -214,12 +214,12 @@ module _ (size top : ℕ) (c : Cells) (x : ℕ) (u : Bool) (m : Many Series) (fi
   pub kept_on : (m.taken ≡ 0 → ⊥) → end ≡ put size c x m.left
   kept_on d =
       let f = p ∙ pick_second m.taken d c.figures (set c.figures x (words_of m.left.head.counts)) in
-      let g = q ∙ pick_second m.taken d c.extremes (set c.extremes x (extremesOf m.left.head)) in
+      let g = q ∙ pick_second m.taken d c.extremes (set c.extremes x (extremes_of m.left.head)) in
       λ j. record { figures = f j; extremes = g j; pos = end.pos; neg = end.neg }
 
 -- ---- the instance
 
-abbrev pub slotted : (size top : ℕ) → Slotted (exponentialStore size top) (true, true)
+abbrev pub slotted : (size top : ℕ) → Slotted (exponential_store size top) (true, true)
 slotted size top =
     record {
       Series = Series;

@@ -5,7 +5,7 @@ use Rattle.std.specs.Float.Ieee.Scale.{finite}
 use Rattle.std.specs.Borrow.{Bor}
 use Rattle.laws.specs.Pick.{pick}
 use Rattle.laws.specs.Said.{number}
-use Rattle.laws.specs.Counting.{mostCount}
+use Rattle.laws.specs.Counting.{most_count}
 use Rattle.rows.specs.Recording.{Recording}
 use Rattle.rows.specs.Recording as R
 use Rattle.exponential.specs.declared.Head.{Head}
@@ -25,8 +25,8 @@ pub record Sound (size top : ℕ) (s : Series) : Type 0 where
   pub neg : size ≤ length s.neg
 
 -- the number that is left to ask for: 6 unless the value is finite, 9 if the count is full
-unfoldable pub leftToAsk : Head → Float → ℕ
-leftToAsk h v = pick (finite v) (pick (eqb h.counts.count mostCount) 9 0) 6
+unfoldable pub left_to_ask : Head → Float → ℕ
+left_to_ask h v = pick (finite v) (pick (eqb h.counts.count most_count) 9 0) 6
 
 -- `recording`: its number, and the series then
 unfoldable pub step : ℕ → ℕ → Series → Float → Recording Series

@@ -5,16 +5,16 @@ pub mod slot;
 
 ghost use Rattle.std.specs.Prelude.{◌≡◌, true, [], ◌∷◌, ◌+◌, leb};
 ghost use Rattle.std.specs.Float.{nan};
-ghost use Rattle.sets.specs.Sorted.{given, filterOf};
+ghost use Rattle.sets.specs.Sorted.{given, filter_of};
 ghost use Rattle.directory.specs.View.{stores};
 ghost use Rattle.exponential_slots.specs.Cells.{cells};
-ghost use Rattle.value_map.specs.Store.{lengthsSuffice};
-ghost use Rattle.value_map.specs.Calls.{held, gave, measured, measuredBy};
-ghost use Rattle.value_map.specs.Exponential.{exponentialStore};
+ghost use Rattle.value_map.specs.Store.{lengths_suffice};
+ghost use Rattle.value_map.specs.Calls.{held, gave, measured, measured_by};
+ghost use Rattle.value_map.specs.Exponential.{exponential_store};
 ghost use Rattle.many.specs.Many.{many};
 ghost use Rattle.batches.specs.Agreed.{AgreedBy, AgreedFor};
-ghost use Rattle.batches.specs.Batch.{measuredAll, measuredAllBy};
-ghost use Rattle.batches.specs.Inner.{recordedAll, unlessStopped};
+ghost use Rattle.batches.specs.Batch.{measured_all, measured_all_by};
+ghost use Rattle.batches.specs.Inner.{recorded_all, unless_stopped};
 ghost use Rattle.batches.specs.Asked.{Asked};
 
 use batches::Batch;
@@ -24,7 +24,7 @@ use many::Taken;
 
 // How many slots the series' stores of these lengths have room for, as a seating asks for it.
 fn slots_of(size: u32, limit: u64, figures: usize, extremes: usize, pos: usize, neg: usize) -> usize
-    ensures { leb (limit + 2) result ≡ lengthsSuffice size limit (pos ∷ neg ∷ []) (figures ∷ extremes ∷ []) }
+    ensures { leb (limit + 2) result ≡ lengths_suffice size limit (pos ∷ neg ∷ []) (figures ∷ extremes ∷ []) }
 {
     let suffice = value_map::exponential_map::cells_suffice(
         size, limit, figures, extremes, pos, neg,
@@ -46,10 +46,10 @@ fn take(
     neg: &mut [u64],
     values: &[f64],
 ) -> Taken
-    requires { no ≡ 0 → Asked (exponentialStore size top) (true, true) nan known x updated (cells figures extremes pos neg) values.now }
+    requires { no ≡ 0 → Asked (exponential_store size top) (true, true) nan known x updated (cells figures extremes pos neg) values.now }
     ensures { many result.taken result.no (cells figures.exit extremes.exit pos.exit neg.exit)
-        ≡ unlessStopped no (cells figures.entry extremes.entry pos.entry neg.entry)
-        (recordedAll (exponentialStore size top) x updated (cells figures.entry extremes.entry pos.entry neg.entry) values.now) }
+        ≡ unless_stopped no (cells figures.entry extremes.entry pos.entry neg.entry)
+        (recorded_all (exponential_store size top) x updated (cells figures.entry extremes.entry pos.entry neg.entry) values.now) }
 {
     if no != 0 {
         return Taken { taken: 0, no: no };
@@ -76,11 +76,11 @@ fn all_by(
     values: &[f64],
     h: u64,
 ) -> Batch
-    requires { known ≡ true → AgreedBy (exponentialStore size top) (true, true) limit
+    requires { known ≡ true → AgreedBy (exponential_store size top) (true, true) limit
         (held d (stores sets entries order) (cells figures extremes pos neg)) h }
     ensures { many result.taken result.no
         (held result.dir (stores sets.exit entries.exit order.exit) (cells figures.exit extremes.exit pos.exit neg.exit))
-        ≡ measuredAllBy (exponentialStore size top) limit
+        ≡ measured_all_by (exponential_store size top) limit
         (held d (stores sets.entry entries.entry order.entry) (cells figures.entry extremes.entry pos.entry neg.entry))
         values.now h }
 {
@@ -141,11 +141,11 @@ fn all(
     present: bool,
     filter: &[u32],
 ) -> Batch
-    requires { known ≡ true → AgreedFor (exponentialStore size top) (true, true) limit (filterOf present filter.now)
+    requires { known ≡ true → AgreedFor (exponential_store size top) (true, true) limit (filter_of present filter.now)
         (held d (stores sets entries order) (cells figures extremes pos neg)) (given attrs.now) }
     ensures { many result.taken result.no
         (held result.dir (stores sets.exit entries.exit order.exit) (cells figures.exit extremes.exit pos.exit neg.exit))
-        ≡ measuredAll (exponentialStore size top) limit (filterOf present filter.now)
+        ≡ measured_all (exponential_store size top) limit (filter_of present filter.now)
         (held d (stores sets.entry entries.entry order.entry) (cells figures.entry extremes.entry pos.entry neg.entry))
         values.now (given attrs.now) }
 {
@@ -209,7 +209,7 @@ pub fn measure_all(
 ) -> Batch
     ensures { many result.taken result.no
         (held result.dir (stores sets.exit entries.exit order.exit) (cells figures.exit extremes.exit pos.exit neg.exit))
-        ≡ measuredAll (exponentialStore size top) limit (filterOf present filter.now)
+        ≡ measured_all (exponential_store size top) limit (filter_of present filter.now)
         (held d (stores sets.entry entries.entry order.entry) (cells figures.entry extremes.entry pos.entry neg.entry))
         values.now (given attrs.now) }
 {
@@ -237,7 +237,7 @@ pub fn measure_all_by(
 ) -> Batch
     ensures { many result.taken result.no
         (held result.dir (stores sets.exit entries.exit order.exit) (cells figures.exit extremes.exit pos.exit neg.exit))
-        ≡ measuredAllBy (exponentialStore size top) limit
+        ≡ measured_all_by (exponential_store size top) limit
         (held d (stores sets.entry entries.entry order.entry) (cells figures.entry extremes.entry pos.entry neg.entry))
         values.now h }
 {
@@ -264,11 +264,11 @@ pub fn measure_all_agreed(
     present: bool,
     filter: &[u32],
 ) -> Batch
-    requires { AgreedFor (exponentialStore size top) (true, true) limit (filterOf present filter.now)
+    requires { AgreedFor (exponential_store size top) (true, true) limit (filter_of present filter.now)
         (held d (stores sets entries order) (cells figures extremes pos neg)) (given attrs.now) }
     ensures { many result.taken result.no
         (held result.dir (stores sets.exit entries.exit order.exit) (cells figures.exit extremes.exit pos.exit neg.exit))
-        ≡ measuredAll (exponentialStore size top) limit (filterOf present filter.now)
+        ≡ measured_all (exponential_store size top) limit (filter_of present filter.now)
         (held d (stores sets.entry entries.entry order.entry) (cells figures.entry extremes.entry pos.entry neg.entry))
         values.now (given attrs.now) }
 {
@@ -294,11 +294,11 @@ pub fn measure_all_by_agreed(
     values: &[f64],
     h: u64,
 ) -> Batch
-    requires { AgreedBy (exponentialStore size top) (true, true) limit
+    requires { AgreedBy (exponential_store size top) (true, true) limit
         (held d (stores sets entries order) (cells figures extremes pos neg)) h }
     ensures { many result.taken result.no
         (held result.dir (stores sets.exit entries.exit order.exit) (cells figures.exit extremes.exit pos.exit neg.exit))
-        ≡ measuredAllBy (exponentialStore size top) limit
+        ≡ measured_all_by (exponential_store size top) limit
         (held d (stores sets.entry entries.entry order.entry) (cells figures.entry extremes.entry pos.entry neg.entry))
         values.now h }
 {
@@ -325,10 +325,10 @@ pub fn measure_agreed(
     present: bool,
     filter: &[u32],
 ) -> Reply
-    requires { AgreedFor (exponentialStore size top) (true, true) limit (filterOf present filter.now)
+    requires { AgreedFor (exponential_store size top) (true, true) limit (filter_of present filter.now)
         (held d (stores sets entries order) (cells figures extremes pos neg)) (given attrs.now) }
     ensures { gave result (stores sets.exit entries.exit order.exit) (cells figures.exit extremes.exit pos.exit neg.exit)
-        ≡ measured (exponentialStore size top) limit (filterOf present filter.now)
+        ≡ measured (exponential_store size top) limit (filter_of present filter.now)
         (held d (stores sets.entry entries.entry order.entry) (cells figures.entry extremes.entry pos.entry neg.entry))
         v (given attrs.now) }
 {
@@ -356,10 +356,10 @@ pub fn measure_by_agreed(
     v: f64,
     h: u64,
 ) -> Reply
-    requires { AgreedBy (exponentialStore size top) (true, true) limit
+    requires { AgreedBy (exponential_store size top) (true, true) limit
         (held d (stores sets entries order) (cells figures extremes pos neg)) h }
     ensures { gave result (stores sets.exit entries.exit order.exit) (cells figures.exit extremes.exit pos.exit neg.exit)
-        ≡ measuredBy (exponentialStore size top) limit
+        ≡ measured_by (exponential_store size top) limit
         (held d (stores sets.entry entries.entry order.entry) (cells figures.entry extremes.entry pos.entry neg.entry))
         v h }
 {

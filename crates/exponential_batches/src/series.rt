@@ -1,6 +1,6 @@
 // Many values recorded into one series of the exponential kind that is known to agree: of its refusals only 6 and 9 are asked in each turn.
 ghost use Rattle.std.specs.Prelude.{◌≡◌};
-ghost use Rattle.exponential.specs.Series.{refusalOf};
+ghost use Rattle.exponential.specs.Series.{refusal_of};
 ghost use Rattle.rows.specs.Recording.{after};
 ghost use Rattle.many.specs.Many.{many, each};
 ghost use Rattle.exponential_batches.specs.Series.{series, Sound, step};
@@ -17,7 +17,7 @@ pub struct Run {
 
 // One value more, where nothing refuses it: the head then.
 fn noted(size: u32, top: u32, head: Head, pos: &mut [u64], neg: &mut [u64], v: f64) -> Head
-    requires { refusalOf size top head pos.old neg.old v ≡ 0 }
+    requires { refusal_of size top head pos.old neg.old v ≡ 0 }
     ensures { after 0 (series result pos.exit neg.exit) ≡ step size top (series head pos.entry neg.entry) v }
 {
     let next = exponential::count_in(size, top, head, pos, neg, v);

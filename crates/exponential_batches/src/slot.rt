@@ -3,11 +3,11 @@ ghost use Rattle.std.specs.Prelude.{◌≡◌, true, ◌<◌, eqb, length, set};
 ghost use Rattle.std.specs.Float.{nan};
 ghost use Rattle.laws.specs.Pick.{pick};
 ghost use Rattle.many.specs.Many.{many};
-ghost use Rattle.exponential_slots.specs.Cells.{cells, Room, words_of, recordedAt};
-ghost use Rattle.value_map.specs.Exponential.{exponentialStore};
-ghost use Rattle.batches.specs.Inner.{recordedAll};
+ghost use Rattle.exponential_slots.specs.Cells.{cells, Room, words_of, recorded_at};
+ghost use Rattle.value_map.specs.Exponential.{exponential_store};
+ghost use Rattle.batches.specs.Inner.{recorded_all};
 ghost use Rattle.batches.specs.Asked.{Asked};
-ghost use Rattle.exponential_batches.specs.Slot.{extremesOf};
+ghost use Rattle.exponential_batches.specs.Slot.{extremes_of};
 
 use many::Taken;
 
@@ -26,7 +26,7 @@ fn refusal(
     v: f64,
 ) -> u8
     requires { Room size (cells figures extremes pos neg) x }
-    ensures { result ≡ pick known 0 (recordedAt size top x updated (cells figures.entry extremes.entry pos.entry neg.entry) v).no }
+    ensures { result ≡ pick known 0 (recorded_at size top x updated (cells figures.entry extremes.entry pos.entry neg.entry) v).no }
 {
     if known {
         return 0;
@@ -48,7 +48,7 @@ fn keep(x: usize, figures: &mut [[u64; 8]], extremes: &mut [[f64; 3]], run: crat
     ensures figures_after { figures.new ≡ pick (eqb run.taken 0) figures.old
         (set figures.old x (words_of run.head.counts)) }
     ensures extremes_after { extremes.new ≡ pick (eqb run.taken 0) extremes.old
-        (set extremes.old x (extremesOf run.head)) }
+        (set extremes.old x (extremes_of run.head)) }
 {
     if run.taken == 0 {
         return;
@@ -73,9 +73,9 @@ pub fn record_all(
     neg: &mut [u64],
     values: &[f64],
 ) -> Taken
-    requires { Asked (exponentialStore size top) (true, true) nan known x updated (cells figures extremes pos neg) values.now }
+    requires { Asked (exponential_store size top) (true, true) nan known x updated (cells figures extremes pos neg) values.now }
     ensures { many result.taken result.no (cells figures.exit extremes.exit pos.exit neg.exit)
-        ≡ recordedAll (exponentialStore size top) x updated (cells figures.entry extremes.entry pos.entry neg.entry) values.now }
+        ≡ recorded_all (exponential_store size top) x updated (cells figures.entry extremes.entry pos.entry neg.entry) values.now }
 {
     let no = refusal(
         known, size, top, x, updated, figures, extremes, pos, neg, values[0],

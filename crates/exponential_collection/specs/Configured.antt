@@ -3,25 +3,25 @@ use Rattle.std.specs.Prelude.{ℕ, suc, Bool, List, ℤ}
 use Rattle.std.proofs.Math.Option.{Option}
 use Rattle.laws.specs.Said.{Said, refusal, success}
 use Rattle.index.specs.Bins.{finest}
-use Rattle.index.specs.Signed.{levelAnswer}
+use Rattle.index.specs.Signed.{level_answer}
 use Rattle.index.specs.declared.signed.Natural.{Natural}
 use Rattle.index.specs.declared.signed.Natural.TheVariants.{OutOfRange, Is}
 use Rattle.directory.specs.View.{Stores}
 use Rattle.directory.specs.declared.Directory.{Directory}
 use Rattle.exponential_slots.specs.Cells.{Cells}
-use Rattle.value_map.specs.Exponential.{exponentialStore}
-use Rattle.collecting.specs.Configured.{Configuring, configuredAs}
+use Rattle.value_map.specs.Exponential.{exponential_store}
+use Rattle.collecting.specs.Configured.{Configuring, configured_as}
 use Rattle.exponential_collection.specs.declared.Setup.{Setup}
 use Rattle.exponential_collection.specs.declared.Configured.{Configured}
 use Rattle.exponential_collection.specs.declared.Configured.TheVariants.{Refused, Accepted}
 
 -- the greatest level of a max_scale; one above the finest, which number 2 refuses, where there is none
-abbrev pub levelOr : Natural → ℕ
-levelOr OutOfRange = suc finest
-levelOr (Is n) = n
+abbrev pub level_or : Natural → ℕ
+level_or OutOfRange = suc finest
+level_or (Is n) = n
 
 abbrev pub top_of : ℤ → ℕ
-top_of scale = levelOr (levelAnswer scale)
+top_of scale = level_or (level_answer scale)
 
 -- "a definition gives this paper's number and values for each case of that enum": a refusal hands out no state
 abbrev pub said : Configured → Said Setup
@@ -29,10 +29,10 @@ said (Refused n) = refusal n
 said (Accepted s) = success s
 
 -- what is handed out: the settings, with the map's state
-abbrev pub setupOf : ℕ → ℕ → Bool → Bool → ℕ → Directory → Setup
-setupOf size top extremes sums limit d = record { settings = record { size = size; top = top; extremes = extremes; sums = sums; limit = limit }; dir = d }
+abbrev pub setup_of : ℕ → ℕ → Bool → Bool → ℕ → Directory → Setup
+setup_of size top extremes sums limit d = record { settings = record { size = size; top = top; extremes = extremes; sums = sums; limit = limit }; dir = d }
 
 -- "Configuring: 1, 2, 3, 4, 12"
 unfoldable pub configured : ℕ → ℤ → Bool → Bool → ℕ → Option (List ℕ) → Stores → Cells → Configuring Setup
 configured size scale extremes sums limit filter s c =
-    configuredAs (exponentialStore size (top_of scale)) (setupOf size (top_of scale) extremes sums limit) limit filter s c
+    configured_as (exponential_store size (top_of scale)) (setup_of size (top_of scale) extremes sums limit) limit filter s c

@@ -4,11 +4,11 @@ ghost use Rattle.std.proofs.Math.Option.{none};
 ghost use Rattle.directory.specs.View.{stores};
 ghost use Rattle.exponential_slots.specs.Cells.{cells};
 ghost use Rattle.value_map.specs.Calls.{held};
-ghost use Rattle.value_map.specs.Exponential.{exponentialStore};
+ghost use Rattle.value_map.specs.Exponential.{exponential_store};
 ghost use Rattle.batches.specs.Owned.{Owned};
 ghost use Rattle.listing.specs.Listed.{output};
-ghost use Rattle.collecting.specs.Collected.{gave, uncollected, deltaCollected, cumulativeCollected};
-ghost use Rattle.exponential_collection.specs.Points.{exponentialLister};
+ghost use Rattle.collecting.specs.Collected.{gave, uncollected, delta_collected, cumulative_collected};
+ghost use Rattle.exponential_collection.specs.Points.{exponential_lister};
 
 use crate::Settings;
 use collecting::{Answer, Reply};
@@ -32,9 +32,9 @@ fn number(
     out_pos: &[u64],
     out_neg: &[u64],
 ) -> u8
-    requires { known ≡ true → Owned (exponentialStore s.size s.top) (s.extremes, s.sums) s.limit none
+    requires { known ≡ true → Owned (exponential_store s.size s.top) (s.extremes, s.sums) s.limit none
         (held d (stores sets entries order) (cells figures extremes pos neg)) }
-    ensures { result ≡ uncollected (exponentialLister s.size s.top) (s.extremes, s.sums) cumulative s.limit
+    ensures { result ≡ uncollected (exponential_lister s.size s.top) (s.extremes, s.sums) cumulative s.limit
         (held d (stores sets.entry entries.entry order.entry) (cells figures.entry extremes.entry pos.entry neg.entry))
         (output out_sets.entry out_words.entry out_pos.entry out_neg.entry) }
 {
@@ -82,12 +82,12 @@ pub fn delta(
     out_pos: &mut [u64],
     out_neg: &mut [u64],
 ) -> Reply
-    requires { known ≡ true → Owned (exponentialStore s.size s.top) (s.extremes, s.sums) s.limit none
+    requires { known ≡ true → Owned (exponential_store s.size s.top) (s.extremes, s.sums) s.limit none
         (held d (stores sets entries order) (cells figures extremes pos neg)) }
     ensures { gave result.answer (held result.dir (stores sets.exit entries.exit order.exit)
         (cells figures.entry extremes.entry pos.entry neg.entry))
         (output out_sets.exit out_words.exit out_pos.exit out_neg.exit)
-        ≡ deltaCollected (exponentialLister s.size s.top) (s.extremes, s.sums) s.limit
+        ≡ delta_collected (exponential_lister s.size s.top) (s.extremes, s.sums) s.limit
         (held d (stores sets.entry entries.entry order.entry) (cells figures.entry extremes.entry pos.entry neg.entry))
         (output out_sets.entry out_words.entry out_pos.entry out_neg.entry) }
 {
@@ -129,12 +129,12 @@ pub fn cumulative(
     out_pos: &mut [u64],
     out_neg: &mut [u64],
 ) -> Answer
-    requires { known ≡ true → Owned (exponentialStore s.size s.top) (s.extremes, s.sums) s.limit none
+    requires { known ≡ true → Owned (exponential_store s.size s.top) (s.extremes, s.sums) s.limit none
         (held d (stores sets entries order) (cells figures extremes pos neg)) }
     ensures { gave result
         (held d (stores sets.entry entries.entry order.entry) (cells figures.entry extremes.entry pos.entry neg.entry))
         (output out_sets.exit out_words.exit out_pos.exit out_neg.exit)
-        ≡ cumulativeCollected (exponentialLister s.size s.top) (s.extremes, s.sums) s.limit
+        ≡ cumulative_collected (exponential_lister s.size s.top) (s.extremes, s.sums) s.limit
         (held d (stores sets.entry entries.entry order.entry) (cells figures.entry extremes.entry pos.entry neg.entry))
         (output out_sets.entry out_words.entry out_pos.entry out_neg.entry) }
 {

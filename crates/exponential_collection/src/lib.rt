@@ -6,18 +6,18 @@ mod walk;
 
 ghost use Rattle.std.specs.Prelude.{◌≡◌};
 ghost use Rattle.std.proofs.Math.Option.{none};
-ghost use Rattle.sets.specs.Sorted.{filterOf};
+ghost use Rattle.sets.specs.Sorted.{filter_of};
 ghost use Rattle.directory.specs.View.{stores};
 ghost use Rattle.bindings.specs.Calls as bindings-calls;
 ghost use Rattle.exponential_slots.specs.Cells.{cells};
 ghost use Rattle.value_map.specs.Calls.{held};
-ghost use Rattle.value_map.specs.Exponential.{exponentialStore};
+ghost use Rattle.value_map.specs.Exponential.{exponential_store};
 ghost use Rattle.batches.specs.Owned.{Owned};
 ghost use Rattle.listing.specs.Listed.{output};
-ghost use Rattle.collecting.specs.Configured.{setUp, configuring};
-ghost use Rattle.collecting.specs.Collected.{gave, deltaCollected, cumulativeCollected};
-ghost use Rattle.exponential_collection.specs.Points.{exponentialLister};
-ghost use Rattle.exponential_collection.specs.Configured.{levelOr, said, configured};
+ghost use Rattle.collecting.specs.Configured.{set_up, configuring};
+ghost use Rattle.collecting.specs.Collected.{gave, delta_collected, cumulative_collected};
+ghost use Rattle.exponential_collection.specs.Points.{exponential_lister};
+ghost use Rattle.exponential_collection.specs.Configured.{level_or, said, configured};
 
 use collecting::{Answer, Reply};
 use directory::Directory;
@@ -49,7 +49,7 @@ pub enum Configured {
 
 // The greatest level of a max_scale; one above the finest where the scale is out of range, which number 2 refuses.
 pub fn level_or(found: Natural) -> u32
-    ensures { result ≡ levelOr found }
+    ensures { result ≡ level_or found }
 {
     match found {
         Natural::OutOfRange => index::FINEST + 1,
@@ -59,7 +59,7 @@ pub fn level_or(found: Natural) -> u32
 
 // What configuring says by what the start said: a refusal hands out no state.
 pub fn set_up(z: Settings, r: bindings::Reply) -> Configured
-    ensures { said result ≡ setUp (record { settings = z; dir = r.dir }) (bindings-calls.said r.answer) }
+    ensures { said result ≡ set_up (record { settings = z; dir = r.dir }) (bindings-calls.said r.answer) }
 {
     let answer = r.answer;
     let dir = r.dir;
@@ -88,7 +88,7 @@ pub fn configure(
     neg: &[u64],
 ) -> Configured
     ensures { configuring (said result) (stores sets.entry entries.exit order.entry)
-        ≡ configured size scale show sums limit (filterOf present filter.now)
+        ≡ configured size scale show sums limit (filter_of present filter.now)
         (stores sets.entry entries.entry order.entry) (cells figures.entry extremes.entry pos.entry neg.entry) }
 {
     let found = index::signed::level_of(scale);
@@ -126,7 +126,7 @@ pub fn delta(
     ensures { gave result.answer (held result.dir (stores sets.exit entries.exit order.exit)
         (cells figures.entry extremes.entry pos.entry neg.entry))
         (output out_sets.exit out_words.exit out_pos.exit out_neg.exit)
-        ≡ deltaCollected (exponentialLister s.size s.top) (s.extremes, s.sums) s.limit
+        ≡ delta_collected (exponential_lister s.size s.top) (s.extremes, s.sums) s.limit
         (held d (stores sets.entry entries.entry order.entry) (cells figures.entry extremes.entry pos.entry neg.entry))
         (output out_sets.entry out_words.entry out_pos.entry out_neg.entry) }
 {
@@ -152,12 +152,12 @@ pub fn delta_agreed(
     out_pos: &mut [u64],
     out_neg: &mut [u64],
 ) -> Reply
-    requires { Owned (exponentialStore s.size s.top) (s.extremes, s.sums) s.limit none
+    requires { Owned (exponential_store s.size s.top) (s.extremes, s.sums) s.limit none
         (held d (stores sets entries order) (cells figures extremes pos neg)) }
     ensures { gave result.answer (held result.dir (stores sets.exit entries.exit order.exit)
         (cells figures.entry extremes.entry pos.entry neg.entry))
         (output out_sets.exit out_words.exit out_pos.exit out_neg.exit)
-        ≡ deltaCollected (exponentialLister s.size s.top) (s.extremes, s.sums) s.limit
+        ≡ delta_collected (exponential_lister s.size s.top) (s.extremes, s.sums) s.limit
         (held d (stores sets.entry entries.entry order.entry) (cells figures.entry extremes.entry pos.entry neg.entry))
         (output out_sets.entry out_words.entry out_pos.entry out_neg.entry) }
 {
@@ -186,7 +186,7 @@ pub fn cumulative(
     ensures { gave result
         (held d (stores sets.entry entries.entry order.entry) (cells figures.entry extremes.entry pos.entry neg.entry))
         (output out_sets.exit out_words.exit out_pos.exit out_neg.exit)
-        ≡ cumulativeCollected (exponentialLister s.size s.top) (s.extremes, s.sums) s.limit
+        ≡ cumulative_collected (exponential_lister s.size s.top) (s.extremes, s.sums) s.limit
         (held d (stores sets.entry entries.entry order.entry) (cells figures.entry extremes.entry pos.entry neg.entry))
         (output out_sets.entry out_words.entry out_pos.entry out_neg.entry) }
 {
@@ -212,12 +212,12 @@ pub fn cumulative_agreed(
     out_pos: &mut [u64],
     out_neg: &mut [u64],
 ) -> Answer
-    requires { Owned (exponentialStore s.size s.top) (s.extremes, s.sums) s.limit none
+    requires { Owned (exponential_store s.size s.top) (s.extremes, s.sums) s.limit none
         (held d (stores sets entries order) (cells figures extremes pos neg)) }
     ensures { gave result
         (held d (stores sets.entry entries.entry order.entry) (cells figures.entry extremes.entry pos.entry neg.entry))
         (output out_sets.exit out_words.exit out_pos.exit out_neg.exit)
-        ≡ cumulativeCollected (exponentialLister s.size s.top) (s.extremes, s.sums) s.limit
+        ≡ cumulative_collected (exponential_lister s.size s.top) (s.extremes, s.sums) s.limit
         (held d (stores sets.entry entries.entry order.entry) (cells figures.entry extremes.entry pos.entry neg.entry))
         (output out_sets.entry out_words.entry out_pos.entry out_neg.entry) }
 {

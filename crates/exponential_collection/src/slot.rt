@@ -3,13 +3,13 @@ ghost use Rattle.std.specs.Prelude.{◌≡◌, true, not, ◌||◌, ◌≤◌, g
 ghost use Rattle.laws.specs.Pick.{pick};
 ghost use Rattle.kinds.specs.Histograms.{histograms};
 ghost use Rattle.exponential_slots.specs.Cells.{cells, Room};
-ghost use Rattle.exponential_slots.specs.Meaning.{settings, seriesAt};
-ghost use Rattle.value_map.specs.Exponential.{unset, exponentialStore};
+ghost use Rattle.exponential_slots.specs.Meaning.{settings, series_at};
+ghost use Rattle.value_map.specs.Exponential.{unset, exponential_store};
 ghost use Rattle.batches.specs.Inner.{Known};
 ghost use Rattle.listing.specs.Listed.{output};
 ghost use Rattle.listing.specs.Inner.{left};
-ghost use Rattle.collecting.specs.Slots.{oneMore, Few, More, surveyedAt, Sound, Free, putSlot};
-ghost use Rattle.exponential_collection.specs.Points.{exponentialLister};
+ghost use Rattle.collecting.specs.Slots.{one_more, Few, More, surveyed_at, Sound, Free, put_slot};
+ghost use Rattle.exponential_collection.specs.Points.{exponential_lister};
 
 use collecting::Survey;
 use listing::Cursor;
@@ -26,7 +26,7 @@ fn agrees_at(
 ) -> bool
     requires { (unset size top ≡ 0) × Room size (cells figures extremes pos neg) x }
     ensures { result ≡ histograms.agrees (settings size top true true)
-        (seriesAt size (cells figures.entry extremes.entry pos.entry neg.entry) x) }
+        (series_at size (cells figures.entry extremes.entry pos.entry neg.entry) x) }
 {
     let f = figures[x];
     if !exponential_slots::can_read(true, f) {
@@ -59,9 +59,9 @@ fn is_sound(
     neg: &[u64],
 ) -> bool
     requires top_value { (unset size top ≡ 0) × Room size (cells figures extremes pos neg) x }
-    requires known { Known (exponentialStore size top) (true, true) known x updated (cells figures extremes pos neg) }
+    requires known { Known (exponential_store size top) (true, true) known x updated (cells figures extremes pos neg) }
     ensures { result ≡ (not updated || histograms.agrees (settings size top true true)
-        (seriesAt size (cells figures.entry extremes.entry pos.entry neg.entry) x)) }
+        (series_at size (cells figures.entry extremes.entry pos.entry neg.entry) x)) }
 {
     if known {
         return true;
@@ -76,7 +76,7 @@ fn is_sound(
 pub fn counted(s: Survey, updated: bool, f: [u64; 8]) -> Survey
     requires few { Few s }
     requires f_bound { updated ≡ true → (get_or f 4 0 ≤ 160) × (get_or f 6 0 ≤ 160) }
-    ensures { result ≡ oneMore s (pick updated (get_or f 4 0) 0) (pick updated (get_or f 6 0) 0) }
+    ensures { result ≡ one_more s (pick updated (get_or f 4 0) 0) (pick updated (get_or f 6 0) 0) }
 {
     if updated {
         return Survey {
@@ -109,8 +109,8 @@ pub fn survey(
     neg: &[u64],
 ) -> Survey
     requires top_value { (unset size top ≡ 0) × Room size (cells figures extremes pos neg) x }
-    requires few { Few s × Known (exponentialStore size top) (true, true) known x updated (cells figures extremes pos neg) }
-    ensures value { result ≡ surveyedAt (exponentialLister size top) (true, true) updated due
+    requires few { Few s × Known (exponential_store size top) (true, true) known x updated (cells figures extremes pos neg) }
+    ensures value { result ≡ surveyed_at (exponential_lister size top) (true, true) updated due
         (cells figures.entry extremes.entry pos.entry neg.entry) s x }
     ensures more { More s result }
 {
@@ -148,11 +148,11 @@ pub fn put(
     out_pos: &mut [u64],
     out_neg: &mut [u64],
 ) -> Cursor
-    requires sound { Sound (exponentialLister size top) (show, sums) updated (cells figures extremes pos neg) x }
-    requires free { due ≡ true → Free (exponentialLister size top) (show, sums) updated (cells figures extremes pos neg) x at
+    requires sound { Sound (exponential_lister size top) (show, sums) updated (cells figures extremes pos neg) x }
+    requires free { due ≡ true → Free (exponential_lister size top) (show, sums) updated (cells figures extremes pos neg) x at
         (output out_sets out_words out_pos out_neg) }
     ensures { left result (output out_sets.exit out_words.exit out_pos.exit out_neg.exit)
-        ≡ putSlot (exponentialLister size top) (show, sums) updated due (cells figures.entry extremes.entry pos.entry neg.entry) x row at
+        ≡ put_slot (exponential_lister size top) (show, sums) updated due (cells figures.entry extremes.entry pos.entry neg.entry) x row at
         (output out_sets.entry out_words.entry out_pos.entry out_neg.entry) }
 {
     if !due {

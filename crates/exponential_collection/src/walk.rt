@@ -1,11 +1,11 @@
 // All slots, ascending by set: what a collection finds, and the points that are due put into the output.
 ghost use Rattle.std.specs.Prelude.{◌≡◌, true, []};
 ghost use Rattle.exponential_slots.specs.Cells.{cells};
-ghost use Rattle.value_map.specs.Exponential.{exponentialStore};
+ghost use Rattle.value_map.specs.Exponential.{exponential_store};
 ghost use Rattle.listing.specs.Listed.{output};
 ghost use Rattle.listing.specs.Inner.{left};
-ghost use Rattle.collecting.specs.Slots.{walked, Walk, AllKnown, surveyed, Listable, listedTo};
-ghost use Rattle.exponential_collection.specs.Points.{exponentialLister};
+ghost use Rattle.collecting.specs.Slots.{walked, Walk, AllKnown, surveyed, Listable, listed_to};
+ghost use Rattle.exponential_collection.specs.Points.{exponential_lister};
 
 use crate::Settings;
 use collecting::Survey;
@@ -24,10 +24,10 @@ pub fn survey(
     pos: &[u64],
     neg: &[u64],
 ) -> Survey
-    requires walk { Walk (exponentialStore s.size s.top) (walked used [] entries.now order.now (cells figures extremes pos neg)) }
-    requires all_known { AllKnown (exponentialStore s.size s.top) (true, true) known
+    requires walk { Walk (exponential_store s.size s.top) (walked used [] entries.now order.now (cells figures extremes pos neg)) }
+    requires all_known { AllKnown (exponential_store s.size s.top) (true, true) known
         (walked used [] entries.now order.now (cells figures extremes pos neg)) }
-    ensures { result ≡ surveyed (exponentialLister s.size s.top) (true, true) cumulative
+    ensures { result ≡ surveyed (exponential_lister s.size s.top) (true, true) cumulative
         (walked used [] entries.now order.now (cells figures.entry extremes.entry pos.entry neg.entry)) }
 {
     let size = s.size;
@@ -72,10 +72,10 @@ pub fn list(
     out_pos: &mut [u64],
     out_neg: &mut [u64],
 ) -> Cursor
-    requires { Listable (exponentialLister s.size s.top) (s.extremes, s.sums) cumulative
+    requires { Listable (exponential_lister s.size s.top) (s.extremes, s.sums) cumulative
         (walked used sets.now entries.now order.now (cells figures extremes pos neg)) (output out_sets out_words out_pos out_neg) }
     ensures { left result (output out_sets.exit out_words.exit out_pos.exit out_neg.exit)
-        ≡ listedTo (exponentialLister s.size s.top) (s.extremes, s.sums) cumulative
+        ≡ listed_to (exponential_lister s.size s.top) (s.extremes, s.sums) cumulative
         (walked used sets.now entries.now order.now (cells figures.entry extremes.entry pos.entry neg.entry))
         (output out_sets.entry out_words.entry out_pos.entry out_neg.entry) }
 {

@@ -17,56 +17,56 @@ use Rattle.rows.specs.Recording.{Recording, after}
 use Rattle.rows.proofs.Parts.{put_same}
 use Rattle.laws.proofs.Answers.{not-refused}
 use Rattle.exponential.specs.declared.Head.{Head}
-use Rattle.exponential.specs.Series.{refusalOf, Outcome, recording}
-use Rattle.exponential.specs.Runs.{freshHead}
-use Rattle.exponential_slots.specs.Cells.{Cells, mostBin, narrow, readable, headIn, head_of, headAt, written, recordedAt}
-use Rattle.exponential_slots.specs.Inner.{figuresAfter, extremesAfter}
-use Rattle.laws.specs.Counting.{mostCount}
+use Rattle.exponential.specs.Series.{refusal_of, Outcome, recording}
+use Rattle.exponential.specs.Runs.{fresh_head}
+use Rattle.exponential_slots.specs.Cells.{Cells, most_bin, narrow, readable, head_in, head_of, head_at, written, recorded_at}
+use Rattle.exponential_slots.specs.Inner.{figures_after, extremes_after}
+use Rattle.laws.specs.Counting.{most_count}
 
 module _ (f : List ℕ) (h : get_or f 0 0 < 2 ^ 64) where
-  first : leb (get_or f 0 0) mostCount ≡ true
-  first = le-leb (get_or f 0 0) mostCount (omega arith)
+  first : leb (get_or f 0 0) most_count ≡ true
+  first = le-leb (get_or f 0 0) most_count (omega arith)
 
-  pub wide-level : mostBin < get_or f 2 0 → narrow f ≡ false
+  pub wide-level : most_bin < get_or f 2 0 → narrow f ≡ false
   unfolding narrow
-  wide-level p = rw (first, lt-leb (get_or f 2 0) mostBin p)
+  wide-level p = rw (first, lt-leb (get_or f 2 0) most_bin p)
 
-  module _ (p : get_or f 2 0 ≤ mostBin) where
-    pub wide-pos : mostBin < get_or f 3 0 → narrow f ≡ false
+  module _ (p : get_or f 2 0 ≤ most_bin) where
+    pub wide-pos : most_bin < get_or f 3 0 → narrow f ≡ false
     unfolding narrow
-    wide-pos q = rw (first, le-leb (get_or f 2 0) mostBin p, lt-leb (get_or f 3 0) mostBin q)
+    wide-pos q = rw (first, le-leb (get_or f 2 0) most_bin p, lt-leb (get_or f 3 0) most_bin q)
 
-    pub by-neg : get_or f 3 0 ≤ mostBin → narrow f ≡ leb (get_or f 5 0) mostBin
+    pub by-neg : get_or f 3 0 ≤ most_bin → narrow f ≡ leb (get_or f 5 0) most_bin
     unfolding narrow
-    by-neg q = rw (first, le-leb (get_or f 2 0) mostBin p, le-leb (get_or f 3 0) mostBin q)
+    by-neg q = rw (first, le-leb (get_or f 2 0) most_bin p, le-leb (get_or f 3 0) most_bin q)
 
 -- what words that are narrow are known to be
 pub record Narrow (f : List ℕ) : Type 0 where
-  pub count : get_or f 0 0 ≤ mostCount
-  pub level : get_or f 2 0 ≤ mostBin
-  pub pos : get_or f 3 0 ≤ mostBin
-  pub neg : get_or f 5 0 ≤ mostBin
+  pub count : get_or f 0 0 ≤ most_count
+  pub level : get_or f 2 0 ≤ most_bin
+  pub pos : get_or f 3 0 ≤ most_bin
+  pub neg : get_or f 5 0 ≤ most_bin
 
 pub narrow-says : (f : List ℕ) → narrow f ≡ true → Narrow f
 unfolding narrow
 narrow-says f h =
-    let t₁ = leb (get_or f 0 0) mostCount in
-    let t₂ = leb (get_or f 2 0) mostBin in
-    let t₃ = leb (get_or f 3 0) mostBin in
-    let t₄ = leb (get_or f 5 0) mostBin in
+    let t₁ = leb (get_or f 0 0) most_count in
+    let t₂ = leb (get_or f 2 0) most_bin in
+    let t₃ = leb (get_or f 3 0) most_bin in
+    let t₄ = leb (get_or f 5 0) most_bin in
     let h₂ = and_right t₁ (t₂ && (t₃ && t₄)) h in
     let h₃ = and_right t₂ (t₃ && t₄) h₂ in
     record {
-      count = leb-true (get_or f 0 0) mostCount (and_left t₁ (t₂ && (t₃ && t₄)) h);
-      level = leb-true (get_or f 2 0) mostBin (and_left t₂ (t₃ && t₄) h₂);
-      pos = leb-true (get_or f 3 0) mostBin (and_left t₃ t₄ h₃);
-      neg = leb-true (get_or f 5 0) mostBin (and_right t₃ t₄ h₃);
+      count = leb-true (get_or f 0 0) most_count (and_left t₁ (t₂ && (t₃ && t₄)) h);
+      level = leb-true (get_or f 2 0) most_bin (and_left t₂ (t₃ && t₄) h₂);
+      pos = leb-true (get_or f 3 0) most_bin (and_left t₃ t₄ h₃);
+      neg = leb-true (get_or f 5 0) most_bin (and_right t₃ t₄ h₃);
     }
 
 pub narrow-of : (f : List ℕ) → Narrow f → narrow f ≡ true
 unfolding narrow
 narrow-of f k =
-    rw (le-leb (get_or f 0 0) mostCount k.count, le-leb (get_or f 2 0) mostBin k.level, le-leb (get_or f 3 0) mostBin k.pos, le-leb (get_or f 5 0) mostBin k.neg)
+    rw (le-leb (get_or f 0 0) most_count k.count, le-leb (get_or f 2 0) most_bin k.level, le-leb (get_or f 3 0) most_bin k.pos, le-leb (get_or f 5 0) most_bin k.neg)
 
 -- ---- whether a series is there
 
@@ -78,11 +78,11 @@ pub reads-fresh : (updated : Bool) (f : List ℕ) → updated ≡ false → read
 unfolding readable pick
 reads-fresh updated f u = rw u
 
-pub head-held : (top : ℕ) (updated : Bool) (f : List ℕ) (m : List Float) → updated ≡ true → head_of top updated f m ≡ headIn f m
+pub head-held : (top : ℕ) (updated : Bool) (f : List ℕ) (m : List Float) → updated ≡ true → head_of top updated f m ≡ head_in f m
 unfolding head_of pick
 head-held top updated f m u = rw u
 
-pub head-fresh : (top : ℕ) (updated : Bool) (f : List ℕ) (m : List Float) → updated ≡ false → head_of top updated f m ≡ freshHead top
+pub head-fresh : (top : ℕ) (updated : Bool) (f : List ℕ) (m : List Float) → updated ≡ false → head_of top updated f m ≡ fresh_head top
 unfolding head_of pick
 head-fresh top updated f m u = rw u
 
@@ -93,14 +93,14 @@ abbrev pub into : ℕ → ℕ → Cells → Outcome → Recording Cells
 into size x c o = written size x c o.answer o.pos o.neg
 
 module _ (size top x : ℕ) (updated : Bool) (c : Cells) (v : Float) where
-  pub unread : readable updated (get_or c.figures x []) ≡ false → recordedAt size top x updated c v ≡ after 8 c
-  unfolding recordedAt pick
+  pub unread : readable updated (get_or c.figures x []) ≡ false → recorded_at size top x updated c v ≡ after 8 c
+  unfolding recorded_at pick
   unread h = rw h
 
   pub called : readable updated (get_or c.figures x []) ≡ true
-      → recordedAt size top x updated c v
-      ≡ into size x c (recording size top (headAt top c x updated) (part_at size c.pos x) (part_at size c.neg x) v)
-  unfolding recordedAt pick
+      → recorded_at size top x updated c v
+      ≡ into size x c (recording size top (head_at top c x updated) (part_at size c.pos x) (part_at size c.neg x) v)
+  unfolding recorded_at pick
   called h = rw h
 
 -- a refusal leaves both rows
@@ -112,14 +112,14 @@ module _ (size top : ℕ) (h : Head) (xs ys : List ℕ) (v : Float) where
   unfolding recording
   recording-kept =
       ⊎_elim
-      (λ (t : eqb (refusalOf size top h xs ys v) 0 ≡ true). subst Kept (sym (pick_true _ _ _ t)) (λ n r. absurd (not-refused _ n refl r)))
-      (λ (t : eqb (refusalOf size top h xs ys v) 0 ≡ false). subst Kept (sym (pick-false _ _ _ t)) (λ n r. (refl, refl)))
-      (flag (eqb (refusalOf size top h xs ys v) 0))
+      (λ (t : eqb (refusal_of size top h xs ys v) 0 ≡ true). subst Kept (sym (pick_true _ _ _ t)) (λ n r. absurd (not-refused _ n refl r)))
+      (λ (t : eqb (refusal_of size top h xs ys v) 0 ≡ false). subst Kept (sym (pick-false _ _ _ t)) (λ n r. (refl, refl)))
+      (flag (eqb (refusal_of size top h xs ys v) 0))
 
 -- what the series' call and the writing leave
 module _ (size x : ℕ) (c : Cells) (n : ℕ) (figures : List (List ℕ)) (extremes : List (List Float)) where
   by_answer : (a : Said Head) (xs ys : List ℕ) → ((k : ℕ) → a ≡ refusal k → (xs ≡ part_at size c.pos x) × (ys ≡ part_at size c.neg x))
-      → n ≡ number a → figures ≡ figuresAfter x c.figures a → extremes ≡ extremesAfter x c.extremes a
+      → n ≡ number a → figures ≡ figures_after x c.figures a → extremes ≡ extremes_after x c.extremes a
       → after n (record { figures = figures; extremes = extremes; pos = put_at size c.pos x xs; neg = put_at size c.neg x ys }) ≡ written size x c a xs ys
   by_answer (success h) xs ys k p q r =
       λ j. after (p j) (record { figures = q j; extremes = r j; pos = put_at size c.pos x xs; neg = put_at size c.neg x ys })
@@ -129,7 +129,7 @@ module _ (size x : ℕ) (c : Cells) (n : ℕ) (figures : List (List ℕ)) (extre
       λ j. after (p j) (record { figures = q j; extremes = r j; pos = e j; neg = f j })
 
   pub written-by : (top : ℕ) (h : Head) (v : Float) (o : Outcome) → o ≡ recording size top h (part_at size c.pos x) (part_at size c.neg x) v
-      → n ≡ number o.answer → figures ≡ figuresAfter x c.figures o.answer → extremes ≡ extremesAfter x c.extremes o.answer
+      → n ≡ number o.answer → figures ≡ figures_after x c.figures o.answer → extremes ≡ extremes_after x c.extremes o.answer
       → after n (record { figures = figures; extremes = extremes; pos = put_at size c.pos x o.pos; neg = put_at size c.neg x o.neg }) ≡ into size x c o
   written-by top h v o e p q r =
       let xs = part_at size c.pos x in

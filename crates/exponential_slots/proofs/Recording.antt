@@ -21,31 +21,31 @@ use Rattle.rows.specs.Recording.{Recording, after}
 use Rattle.rows.proofs.Parts.{part_length}
 use Rattle.points.specs.Points.{Point}
 use Rattle.points.specs.Values.{start}
-use Rattle.points.specs.Figures.{exponential, Settings, Counts, exponentialCounts, Figures}
+use Rattle.points.specs.Figures.{exponential, Settings, Counts, exponential_counts, Figures}
 use Rattle.exponential.specs.declared.Head.{Head}
-use Rattle.exponential.specs.Series.{refusalOf, recording}
+use Rattle.exponential.specs.Series.{refusal_of, recording}
 use Rattle.exponential.specs.Series as S
-use Rattle.exponential.specs.Runs.{freshHead}
+use Rattle.exponential.specs.Runs.{fresh_head}
 use Rattle.exponential.proofs.Call as Call
 use Rattle.exponential.proofs.Lists.{fresh_holds, summary}
 use Rattle.tally.specs.Map.{sound}
 use Rattle.tally.proofs.MapSteps.{fits}
-use Rattle.kinds.specs.Histograms.{countsHold, histograms}
-use Rattle.exponential_slots.specs.Cells.{Cells, countsIn, narrow, readable, headIn, headAt, written, recordedAt}
-use Rattle.exponential_slots.specs.Meaning.{settings, shaped, countsAt, seriesAt}
+use Rattle.kinds.specs.Histograms.{counts_hold, histograms}
+use Rattle.exponential_slots.specs.Cells.{Cells, counts_in, narrow, readable, head_in, head_at, written, recorded_at}
+use Rattle.exponential_slots.specs.Meaning.{settings, shaped, counts_at, series_at}
 use Rattle.exponential_slots.proofs.Cases.{into, reads_held, reads-fresh, head-held, head-fresh, unread, called}
-use Rattle.exponential_slots.proofs.Agreeing.{Accepted, accepted-of, shaped-says, counts-in, in-shape, holds-is, can-read, series-agrees, shape_of, point_agrees}
-use Rattle.exponential_slots.proofs.Written.{Fit, Held, Took, finite-v, into-refused, into-full, into-took}
-use Rattle.laws.specs.Counting.{mostCount}
+use Rattle.exponential_slots.proofs.Agreeing.{Accepted, accepted-of, shaped-says, counts_in_lem, in-shape, holds-is, can-read, series-agrees, shape_of, point_agrees}
+use Rattle.exponential_slots.proofs.Written.{Fit, Held, Took, finite_v, into-refused, into-full, into-took}
+use Rattle.laws.specs.Counting.{most_count}
 
 -- the count of a series is full exactly where one more does not fit
 count-is : (size top : ℕ) (h : Head) (xs ys : List ℕ) (y : Figures) → Held size top h xs ys y → histograms.total y ≡ h.counts.count
 count-is size top h xs ys y k = ap histograms.total k.is
 
-count-full : (c : ℕ) → c ≤ mostCount → fits (suc c) ≡ false → c ≡ mostCount
+count-full : (c : ℕ) → c ≤ most_count → fits (suc c) ≡ false → c ≡ most_count
 count-full c h n = omega (arith, h, ltb-false (suc c) (2 ^ 64) n)
 
-count_less : (c : ℕ) → fits (suc c) ≡ true → c < mostCount
+count_less : (c : ℕ) → fits (suc c) ≡ true → c < most_count
 count_less c n = omega (arith, ltb-true (suc c) (2 ^ 64) n)
 
 -- A REFUSAL CHANGES NOTHING, whatever is given
@@ -53,14 +53,14 @@ kept : (size x : ℕ) (s : Cells) (a : Said Head) (xs ys : List ℕ) → ((writt
 kept size x s (refusal n) xs ys d = refl
 kept size x s (success h) xs ys d = absurd (d refl)
 
-pub unchanged : (size top x : ℕ) (updated : Bool) (s : Cells) (v : Float) → ((recordedAt size top x updated s v).no ≡ 0 → ⊥)
-    → (recordedAt size top x updated s v).cells ≡ s
+pub unchanged : (size top x : ℕ) (updated : Bool) (s : Cells) (v : Float) → ((recorded_at size top x updated s v).no ≡ 0 → ⊥)
+    → (recorded_at size top x updated s v).cells ≡ s
 unchanged size top x updated s v d =
     let f = get_or s.figures x [] in
     ⊎_elim
     (λ (r : readable updated f ≡ true).
     let c = called size top x updated s v r in
-    let o = recording size top (headAt top s x updated) (part_at size s.pos x) (part_at size s.neg x) v in
+    let o = recording size top (head_at top s x updated) (part_at size s.pos x) (part_at size s.neg x) v in
     ap (λ (o : Recording Cells). o.cells) c
     ∙ kept size x s o.answer o.pos o.neg (λ n. d (ap (λ (o : Recording Cells). o.no) c ∙ n)))
     (λ (r : readable updated f ≡ false). ap (λ (o : Recording Cells). o.cells) (unread size top x updated s v r))
@@ -93,12 +93,12 @@ module _ (size top x : ℕ) (s : Cells) (v : Float) (e m : Bool) (g : Fit size t
 
   -- ---- a series that is there and agrees
 
-  module _ (a : histograms.agrees z (seriesAt size s x) ≡ true) where
-    holds : countsHold (exponential size top) (countsAt size f xs ys) ≡ true
-    holds = (and-true (countsHold (exponential size top) (countsAt size f xs ys)) (finite (get_or l 0 nan) && finite (get_or l 1 nan)) a).0
+  module _ (a : histograms.agrees z (series_at size s x) ≡ true) where
+    holds : counts_hold (exponential size top) (counts_at size f xs ys) ≡ true
+    holds = (and-true (counts_hold (exponential size top) (counts_at size f xs ys)) (finite (get_or l 0 nan) && finite (get_or l 1 nan)) a).0
 
     ends : (finite (get_or l 0 nan) ≡ true) × (finite (get_or l 1 nan) ≡ true)
-    ends = and-true (finite (get_or l 0 nan)) (finite (get_or l 1 nan)) (and-true (countsHold (exponential size top) (countsAt size f xs ys)) (finite (get_or l 0 nan) && finite (get_or l 1 nan)) a).1
+    ends = and-true (finite (get_or l 0 nan)) (finite (get_or l 1 nan)) (and-true (counts_hold (exponential size top) (counts_at size f xs ys)) (finite (get_or l 0 nan) && finite (get_or l 1 nan)) a).1
 
     shape : shaped size f ≡ true
     shape = in-shape size f xs ys top ok holds
@@ -106,105 +106,105 @@ module _ (size top x : ℕ) (s : Cells) (v : Float) (e m : Bool) (g : Fit size t
     narrow-is : narrow f ≡ true
     narrow-is = can-read size f xs ys top ok long-pos long-neg shape (sym (holds-is size f xs ys top ok shape) ∙ holds)
 
-    held-there : Held size top (headIn f l) xs ys (seriesAt size s x)
-    unfolding headIn
+    held-there : Held size top (head_in f l) xs ys (series_at size s x)
+    unfolding head_in
     held-there =
         record {
           agree = series-agrees size f xs ys top ok long-pos long-neg shape (sym (holds-is size f xs ys top ok shape) ∙ holds);
           min = ends.0;
           max = ends.1;
           count = (shaped-says size f shape).count;
-          is = ap (λ (c : Counts). record { counts = c; summary = (seriesAt size s x).summary }) (counts-in size f xs ys shape);
+          is = ap (λ (c : Counts). record { counts = c; summary = (series_at size s x).summary }) (counts_in_lem size f xs ys shape);
         }
 
   -- ---- a fresh one
 
-  held-fresh : Held size top (freshHead top) xs ys (histograms.fresh z)
+  held-fresh : Held size top (fresh_head top) xs ys (histograms.fresh z)
   held-fresh =
       let h = fresh_holds size top xs ys ok.least ok.most ok.fine (omega (arith, long-pos)) (omega (arith, long-neg)) in
       record {
         agree = h.agree;
-        min = h.finMin;
-        max = h.finMax;
+        min = h.fin_min;
+        max = h.fin_max;
         count = omega arith;
-        is = ap (λ (p : Point). record { counts = exponentialCounts p; summary = start }) (sym h.rows);
+        is = ap (λ (p : Point). record { counts = exponential_counts p; summary = start }) (sym h.rows);
       }
 
   -- ---- which head is read
 
-  from-there : narrow f ≡ true → recordedAt size top x true s v ≡ into size x s (recording size top (headIn f l) xs ys v)
+  from-there : narrow f ≡ true → recorded_at size top x true s v ≡ into size x s (recording size top (head_in f l) xs ys v)
   from-there n =
       called size top x true s v (reads_held true f refl ∙ n)
       ∙ ap (λ (h : Head). into size x s (recording size top h xs ys v)) (head-held top true f l refl)
 
-  from-fresh : recordedAt size top x false s v ≡ into size x s (recording size top (freshHead top) xs ys v)
+  from-fresh : recorded_at size top x false s v ≡ into size x s (recording size top (fresh_head top) xs ys v)
   from-fresh =
       called size top x false s v (reads-fresh false f refl)
       ∙ ap (λ (h : Head). into size x s (recording size top h xs ys v)) (head-fresh top false f l refl)
 
   -- ---- a series that disagrees
 
-  module _ (n : narrow f ≡ true) (a : histograms.agrees z (seriesAt size s x) ≡ false) where
-    both : S.agrees size top (countsIn f) xs ys ≡ true → finite (get_or l 0 nan) ≡ true → finite (get_or l 1 nan) ≡ true → ⊥
+  module _ (n : narrow f ≡ true) (a : histograms.agrees z (series_at size s x) ≡ false) where
+    both : S.agrees size top (counts_in f) xs ys ≡ true → finite (get_or l 0 nan) ≡ true → finite (get_or l 1 nan) ≡ true → ⊥
     both t p q =
         let h = shape_of size f xs ys top ok long-pos long-neg n t in
         let c = holds-is size f xs ys top ok h ∙ point_agrees size f xs ys top ok long-pos long-neg t in
-        not-both (histograms.agrees z (seriesAt size s x)) (rw (c, p, q)) a
+        not-both (histograms.agrees z (series_at size s x)) (rw (c, p, q)) a
 
-    eight : refusalOf size top (headIn f l) xs ys v ≡ 8
-    unfolding headIn
+    eight : refusal_of size top (head_in f l) xs ys v ≡ 8
+    unfolding head_in
     eight =
         let lp : size ≤ length xs = omega (arith, long-pos) in
         let ln : size ≤ length ys = omega (arith, long-neg) in
-        let w = finite-v size top x s v g (headIn f l) in
+        let w = finite_v size top x s v g (head_in f l) in
         ⊎_elim
-        (λ (t : S.agrees size top (countsIn f) xs ys ≡ true).
+        (λ (t : S.agrees size top (counts_in f) xs ys ≡ true).
         ⊎_elim
         (λ (p : finite (get_or l 0 nan) ≡ true).
         ⊎_elim
         (λ (q : finite (get_or l 1 nan) ≡ true). absurd (both t p q))
-        (λ (q : finite (get_or l 1 nan) ≡ false). Call.bad-max size top (headIn f l) xs ys v lp ln w t p q)
+        (λ (q : finite (get_or l 1 nan) ≡ false). Call.bad-max size top (head_in f l) xs ys v lp ln w t p q)
         (flag (finite (get_or l 1 nan))))
-        (λ (p : finite (get_or l 0 nan) ≡ false). Call.bad-min size top (headIn f l) xs ys v lp ln w t p)
+        (λ (p : finite (get_or l 0 nan) ≡ false). Call.bad-min size top (head_in f l) xs ys v lp ln w t p)
         (flag (finite (get_or l 0 nan))))
-        (λ (t : S.agrees size top (countsIn f) xs ys ≡ false). Call.disagrees size top (headIn f l) xs ys v lp ln w t)
-        (flag (S.agrees size top (countsIn f) xs ys))
+        (λ (t : S.agrees size top (counts_in f) xs ys ≡ false). Call.disagrees size top (head_in f l) xs ys v lp ln w t)
+        (flag (S.agrees size top (counts_in f) xs ys))
 
   -- ---- the laws: the slot's series, if its entry was updated, as tally's map has it
 
   abbrev pub there : Bool → Option Figures
-  there updated = pick updated (some (seriesAt size s x)) none
+  there updated = pick updated (some (series_at size s x)) none
 
-  pub disagreeing : (updated : Bool) → sound histograms z (there updated) ≡ false → recordedAt size top x updated s v ≡ after 8 s
+  pub disagreeing : (updated : Bool) → sound histograms z (there updated) ≡ false → recorded_at size top x updated s v ≡ after 8 s
   unfolding pick
   disagreeing false a = absurd (not-both true refl a)
   disagreeing true a =
       ⊎_elim
-      (λ (n : narrow f ≡ true). from-there n ∙ into-refused size top x s v (headIn f l) 8 (eight n a) (λ z. omega arith))
+      (λ (n : narrow f ≡ true). from-there n ∙ into-refused size top x s v (head_in f l) 8 (eight n a) (λ z. omega arith))
       (λ (n : narrow f ≡ false). unread size top x true s v (reads_held true f refl ∙ n))
       (flag (narrow f))
 
   pub full : (updated : Bool) → sound histograms z (there updated) ≡ true → fits (suc (histograms.total (Option.get_or (there updated) (histograms.fresh z)))) ≡ false
-      → recordedAt size top x updated s v ≡ after 9 s
+      → recorded_at size top x updated s v ≡ after 9 s
   unfolding pick
   full false a n =
       from-fresh
-      ∙ into-full size top x s v g (freshHead top) (histograms.fresh z) held-fresh
-      (count-full 0 (omega arith) (ap (λ c. fits (suc c)) (sym (count-is size top (freshHead top) xs ys (histograms.fresh z) held-fresh)) ∙ n))
+      ∙ into-full size top x s v g (fresh_head top) (histograms.fresh z) held-fresh
+      (count-full 0 (omega arith) (ap (λ c. fits (suc c)) (sym (count-is size top (fresh_head top) xs ys (histograms.fresh z) held-fresh)) ∙ n))
   full true a n =
       let k = held-there a in
       from-there (narrow-is a)
-      ∙ into-full size top x s v g (headIn f l) (seriesAt size s x) k
-      (count-full (headIn f l).counts.count k.count (ap (λ c. fits (suc c)) (sym (count-is size top (headIn f l) xs ys (seriesAt size s x) k)) ∙ n))
+      ∙ into-full size top x s v g (head_in f l) (series_at size s x) k
+      (count-full (head_in f l).counts.count k.count (ap (λ c. fits (suc c)) (sym (count-is size top (head_in f l) xs ys (series_at size s x) k)) ∙ n))
 
   pub took : (updated : Bool) → sound histograms z (there updated) ≡ true → fits (suc (histograms.total (Option.get_or (there updated) (histograms.fresh z)))) ≡ true
-      → Took size x s (recordedAt size top x updated s v) (histograms.add z (Option.get_or (there updated) (histograms.fresh z)) v)
+      → Took size x s (recorded_at size top x updated s v) (histograms.add z (Option.get_or (there updated) (histograms.fresh z)) v)
   unfolding pick
   took false a n =
       rw from-fresh
-      (into-took size top x s v g (freshHead top) (histograms.fresh z) held-fresh e m (omega arith))
+      (into-took size top x s v g (fresh_head top) (histograms.fresh z) held-fresh e m (omega arith))
   took true a n =
       let k = held-there a in
       rw (from-there (narrow-is a))
-      (into-took size top x s v g (headIn f l) (seriesAt size s x) k e m
-      (count_less (headIn f l).counts.count (ap (λ c. fits (suc c)) (sym (count-is size top (headIn f l) xs ys (seriesAt size s x) k)) ∙ n)))
+      (into-took size top x s v g (head_in f l) (series_at size s x) k e m
+      (count_less (head_in f l).counts.count (ap (λ c. fits (suc c)) (sym (count-is size top (head_in f l) xs ys (series_at size s x) k)) ∙ n)))

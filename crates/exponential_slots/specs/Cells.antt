@@ -9,8 +9,8 @@ use Rattle.rows.specs.Recording.{Recording, after}
 use Rattle.exponential.specs.declared.Counts.{Counts}
 use Rattle.exponential.specs.declared.Head.{Head}
 use Rattle.exponential.specs.Series.{recording}
-use Rattle.exponential.specs.Runs.{freshHead}
-use Rattle.laws.specs.Counting.{mostCount}
+use Rattle.exponential.specs.Runs.{fresh_head}
+use Rattle.laws.specs.Counting.{most_count}
 
 -- The kind's stores. A slot has eight words in `figures` (count, zero count, level, start and length of the positive and of the negative
 -- row, and a spare word, written 0), three f64 in `extremes` (minimum, maximum, sum), and max_size counts in `pos` and in `neg`.
@@ -33,8 +33,8 @@ pub record Room (size : ℕ) (c : Cells) (x : ℕ) : Type 0 where
 
 -- ---- a head as it lies in a slot
 
-abbrev pub countsIn : List ℕ → Counts
-countsIn f =
+abbrev pub counts_in : List ℕ → Counts
+counts_in f =
     record {
       count = get_or f 0 0;
       zeros = get_or f 1 0;
@@ -43,29 +43,29 @@ countsIn f =
       neg = record { start = get_or f 5 0; len = get_or f 6 0 };
     }
 
-unfoldable pub headIn : List ℕ → List Float → Head
-headIn f m = record { counts = countsIn f; min = get_or m 0 nan; max = get_or m 1 nan; sum = get_or m 2 nan }
+unfoldable pub head_in : List ℕ → List Float → Head
+head_in f m = record { counts = counts_in f; min = get_or m 0 nan; max = get_or m 1 nan; sum = get_or m 2 nan }
 
 abbrev pub words_of : Counts → List ℕ
 words_of c = c.count ∷ c.zeros ∷ c.level ∷ c.pos.start ∷ c.pos.len ∷ c.neg.start ∷ c.neg.len ∷ 0 ∷ []
 
 -- Words are u64, but a head's level and starts are u32: words that are none (a level of 2 ^ 32 + 5) are no head.
-abbrev pub mostBin : ℕ
-mostBin = 4294967295
+abbrev pub most_bin : ℕ
+most_bin = 4294967295
 
 unfoldable pub narrow : List ℕ → Bool
-narrow f = leb (get_or f 0 0) mostCount && (leb (get_or f 2 0) mostBin && (leb (get_or f 3 0) mostBin && leb (get_or f 5 0) mostBin))
+narrow f = leb (get_or f 0 0) most_count && (leb (get_or f 2 0) most_bin && (leb (get_or f 3 0) most_bin && leb (get_or f 5 0) most_bin))
 
 -- an entry that is not updated has no series: whatever lies in its slot, it counts as fresh (docs/DECISIONS.md, "Readings of document 01")
 unfoldable pub readable : Bool → List ℕ → Bool
 readable updated f = pick updated (narrow f) true
 
 unfoldable pub head_of : ℕ → Bool → List ℕ → List Float → Head
-head_of top updated f m = pick updated (headIn f m) (freshHead top)
+head_of top updated f m = pick updated (head_in f m) (fresh_head top)
 
 -- the head of slot x
-abbrev pub headAt : ℕ → Cells → ℕ → Bool → Head
-headAt top c x updated = head_of top updated (get_or c.figures x []) (get_or c.extremes x [])
+abbrev pub head_at : ℕ → Cells → ℕ → Bool → Head
+head_at top c x updated = head_of top updated (get_or c.figures x []) (get_or c.extremes x [])
 
 -- ---- a value recorded into slot x
 
@@ -81,7 +81,7 @@ written size x c (success h) xs ys =
     })
 
 -- 8 for words that are no head; else what `exponential` says of the head and of the slot's parts, with all the rest as it was
-unfoldable pub recordedAt : ℕ → ℕ → ℕ → Bool → Cells → Float → Recording Cells
-recordedAt size top x updated c v =
-    let o = recording size top (headAt top c x updated) (part_at size c.pos x) (part_at size c.neg x) v in
+unfoldable pub recorded_at : ℕ → ℕ → ℕ → Bool → Cells → Float → Recording Cells
+recorded_at size top x updated c v =
+    let o = recording size top (head_at top c x updated) (part_at size c.pos x) (part_at size c.neg x) v in
     pick (readable updated (get_or c.figures x [])) (written size x c o.answer o.pos o.neg) (after 8 c)

@@ -5,10 +5,10 @@ use Rattle.laws.specs.Said.{Said, refusal, success}
 use Rattle.exponential.specs.declared.Head.{Head}
 use Rattle.exponential_slots.specs.Cells.{words_of}
 
-abbrev pub figuresAfter : ℕ → List (List ℕ) → Said Head → List (List ℕ)
-figuresAfter x figures (refusal n) = figures
-figuresAfter x figures (success h) = set figures x (words_of h.counts)
+abbrev pub figures_after : ℕ → List (List ℕ) → Said Head → List (List ℕ)
+figures_after x figures (refusal n) = figures
+figures_after x figures (success h) = set figures x (words_of h.counts)
 
-abbrev pub extremesAfter : ℕ → List (List Float) → Said Head → List (List Float)
-extremesAfter x extremes (refusal n) = extremes
-extremesAfter x extremes (success h) = set extremes x (h.min ∷ h.max ∷ h.sum ∷ [])
+abbrev pub extremes_after : ℕ → List (List Float) → Said Head → List (List Float)
+extremes_after x extremes (refusal n) = extremes
+extremes_after x extremes (success h) = set extremes x (h.min ∷ h.max ∷ h.sum ∷ [])

@@ -4,8 +4,8 @@ ghost use Rattle.std.specs.Float.Ieee.Scale.{finite};
 ghost use Rattle.laws.specs.Said.{number};
 ghost use Rattle.rows.specs.Recording.{after};
 ghost use Rattle.exponential.specs.Series.{said};
-ghost use Rattle.exponential_slots.specs.Cells.{cells, narrow, readable, headIn, head_of, words_of, recordedAt};
-ghost use Rattle.exponential_slots.specs.Inner.{figuresAfter, extremesAfter};
+ghost use Rattle.exponential_slots.specs.Cells.{cells, narrow, readable, head_in, head_of, words_of, recorded_at};
+ghost use Rattle.exponential_slots.specs.Inner.{figures_after, extremes_after};
 
 use exponential::{Answer, Counts, Head};
 use rows::Row;
@@ -39,7 +39,7 @@ pub fn can_read(updated: bool, f: [u64; 8]) -> bool
 // The head that a slot's words are.
 fn head_in(f: [u64; 8], m: [f64; 3]) -> Head
     requires { narrow f ≡ true }
-    ensures { result ≡ headIn f m }
+    ensures { result ≡ head_in f m }
 {
     Head {
         counts: Counts {
@@ -94,8 +94,8 @@ pub fn words_of(c: Counts) -> [u64; 8]
 fn keep(x: usize, figures: &mut [[u64; 8]], extremes: &mut [[f64; 3]], got: Answer) -> u8
     requires { (x < length figures.old) × (x < length extremes.old) }
     ensures value { result ≡ number (said got) }
-    ensures figures_after { figures.new ≡ figuresAfter x figures.old (said got) }
-    ensures extremes_after { extremes.new ≡ extremesAfter x extremes.old (said got) }
+    ensures figures_after { figures.new ≡ figures_after x figures.old (said got) }
+    ensures extremes_after { extremes.new ≡ extremes_after x extremes.old (said got) }
 {
     match got {
         Answer::Refused(no) => no,
@@ -124,7 +124,7 @@ pub fn record(
     requires { (x < length figures.old) × (x < length extremes.old)
         × (x * size + size ≤ length pos.old) × (x * size + size ≤ length neg.old) × (finite v ≡ true) }
     ensures { after result (cells figures.exit extremes.exit pos.exit neg.exit)
-        ≡ recordedAt size top x updated (cells figures.entry extremes.entry pos.entry neg.entry) v }
+        ≡ recorded_at size top x updated (cells figures.entry extremes.entry pos.entry neg.entry) v }
 {
     let f = figures[x];
     if !can_read(updated, f) {

@@ -15,10 +15,10 @@ use borrow.Author.Tests.{lt-ltb, ltb-true}
 use mir.Syntax.{w64}
 use mir.Val.{SFits}
 use Rattle.laws.specs.Said.{refusal, number}
-use Rattle.laws.specs.Counting.{mostCount}
+use Rattle.laws.specs.Counting.{most_count}
 use Rattle.laws.proofs.Bools.{pick_true, pick-false}
-use Rattle.floats.specs.Starts.{zeroFloat}
-use Rattle.integers.specs.Answers.{in_range, nearestOf, keptSum}
+use Rattle.floats.specs.Starts.{zero_float}
+use Rattle.integers.specs.Answers.{in_range, nearest_of, kept_sum}
 use Rattle.integers.specs.declared.Total.TheVariants.{Outside, Is}
 use Rattle.integers.proofs.NoNearer.{nearest-is}
 use Rattle.points.specs.Points.{Point, record1}
@@ -28,45 +28,45 @@ use Rattle.points.proofs.Kept.{ValueIn}
 use Rattle.rows.specs.Recording.{Recording, after}
 use Rattle.rows.proofs.Laws.{length_over}
 use Rattle.exponential.specs.declared.Counts.{Counts}
-use Rattle.exponential.specs.Series.{read, agrees, lowestOfAll}
+use Rattle.exponential.specs.Series.{read, agrees, lowest_of_all}
 use Rattle.exponential.specs.Inner.{Written}
 use Rattle.exponential.proofs.Call as E
 use Rattle.exponential.proofs.Classes.{ranged-of}
 use Rattle.exponential.proofs.Stays.{next-ok, stays}
-use Rattle.exponential_wholes.specs.Series.{under, refusalOf, Outcome, outcome, accepted, recording}
+use Rattle.exponential_wholes.specs.Series.{under, refusal_of, Outcome, outcome, accepted, recording}
 use Rattle.exponential_wholes.proofs.Call as W
 use Rattle.many.proofs.Turns.{either}
 use Rattle.exponential_whole_batches.specs.Series.{Series, Sound, leaving, step}
 
-zero-finite : finite zeroFloat ≡ true
+zero-finite : finite zero_float ≡ true
 unfolding of_bits
 zero-finite = refl
 
 -- what is counted of a value has a place in the rows
-near-in : (v : ℤ) → SFits w64 v → ValueIn lowestOfAll (class_of zeroFloat (nearestOf v))
-near-in v f =
+near_in : (v : ℤ) → SFits w64 v → ValueIn lowest_of_all (class_of zero_float (nearest_of v))
+near_in v f =
     let k = (nearest-is v f.sfits).finite in
-    ranged-of (nearestOf v) (is_true (fits binary64 (nearestOf v)) k.fits) (is_true (finite (nearestOf v)) k.known)
+    ranged-of (nearest_of v) (is_true (fits binary64 (nearest_of v)) k.fits) (is_true (finite (nearest_of v)) k.known)
 
 pub in-range : (v : ℤ) → SFits w64 v → in_range v ≡ true
 in-range v f = lt-ltb (mag v) (2 ^ 63) f.sfits
 
-pub is-i64 : (v : ℤ) → in_range v ≡ true → SFits w64 v
-is-i64 v h = record { sfits = ltb-true (mag v) (2 ^ 63) h }
+pub is_i64 : (v : ℤ) → in_range v ≡ true → SFits w64 v
+is_i64 v h = record { sfits = ltb-true (mag v) (2 ^ 63) h }
 
 module _ (size top : ℕ) (sums : Bool) (s : Series) (v : ℤ) where
   abbrev o : Outcome
   o = recording size top sums s.head s.pos s.neg v
 
   abbrev no : ℕ
-  no = refusalOf size top sums s.head s.pos s.neg v
+  no = refusal_of size top sums s.head s.pos s.neg v
 
   abbrev before : ℕ
   before = W.before size top sums s.head s.pos s.neg v
 
-  pub no-i64 : in_range v ≡ false → step size top sums s v ≡ after 6 s
+  pub no_i64 : in_range v ≡ false → step size top sums s v ≡ after 6 s
   unfolding step
-  no-i64 h = pick-false _ _ _ h
+  no_i64 h = pick-false _ _ _ h
 
   module _ (f : SFits w64 v) where
     pub step_is : step size top sums s v ≡ leaving s o
@@ -94,34 +94,34 @@ module _ (size top : ℕ) (sums : Bool) (s : Series) (v : ℤ) where
         ∙ ap (λ (r : Recording Series). r.no) (sym step_is) ∙ z)))
 
     abbrev next : Point
-    next = record1 size (read s.head.counts s.pos s.neg) (class_of zeroFloat (nearestOf v))
+    next = record1 size (read s.head.counts s.pos s.neg) (class_of zero_float (nearest_of v))
 
     pub taken_is : (step size top sums s v).no ≡ 0 → o ≡ accepted next sums s.head s.pos s.neg v
     taken_is z = W.goes_on size top sums s.head s.pos s.neg v (not-refused z)
 
     -- in a series that agrees only 9 and 16 are left
     module _ (g : Sound size top s) where
-      full-before : s.head.counts.count ≡ mostCount → before ≡ 9
+      full-before : s.head.counts.count ≡ most_count → before ≡ 9
       full-before e =
           sym (W.before-is size top sums s.head s.pos s.neg v f)
-          ∙ E.full size top (under s.head.counts) s.pos s.neg zeroFloat g.pos g.neg zero-finite g.agree zero-finite zero-finite e
+          ∙ E.full size top (under s.head.counts) s.pos s.neg zero_float g.pos g.neg zero-finite g.agree zero-finite zero-finite e
 
-      pub free : (s.head.counts.count ≡ mostCount → ⊥) → before ≡ 0
+      pub free : (s.head.counts.count ≡ most_count → ⊥) → before ≡ 0
       free d =
           sym (W.before-is size top sums s.head s.pos s.neg v f)
-          ∙ E.none size top (under s.head.counts) s.pos s.neg zeroFloat g.pos g.neg zero-finite g.agree zero-finite zero-finite d
+          ∙ E.none size top (under s.head.counts) s.pos s.neg zero_float g.pos g.neg zero-finite g.agree zero-finite zero-finite d
 
-      pub full : s.head.counts.count ≡ mostCount → after 9 s ≡ step size top sums s v
-      full e = refused 9 (W.refused-law size top sums s.head s.pos s.neg v 9 (sym (full-before e)) (λ z. omega (arith, z)))
+      pub full : s.head.counts.count ≡ most_count → after 9 s ≡ step size top sums s v
+      full e = refused 9 (W.refused_law size top sums s.head s.pos s.neg v 9 (sym (full-before e)) (λ z. omega (arith, z)))
 
-      module _ (d : s.head.counts.count ≡ mostCount → ⊥) where
-        pub outside : keptSum sums s.head.sum v ≡ Outside → after 16 s ≡ step size top sums s v
-        outside t = refused 16 (W.outside-law size top sums s.head s.pos s.neg v (free d) t)
+      module _ (d : s.head.counts.count ≡ most_count → ⊥) where
+        pub outside : kept_sum sums s.head.sum v ≡ Outside → after 16 s ≡ step size top sums s v
+        outside t = refused 16 (W.outside_law size top sums s.head s.pos s.neg v (free d) t)
 
-        pub inside : (x mn mx : ℤ) (c : Counts) (xs ys : List ℕ) → keptSum sums s.head.sum v ≡ Is x → Written next s.pos s.neg c xs ys
+        pub inside : (x mn mx : ℤ) (c : Counts) (xs ys : List ℕ) → kept_sum sums s.head.sum v ≡ Is x → Written next s.pos s.neg c xs ys
             → mn ≡ whole.lesser s.head.min v → mx ≡ whole.greater s.head.max v
             → after 0 (record { head = record { counts = c; min = mn; max = mx; sum = x }; pos = xs; neg = ys }) ≡ step size top sums s v
-        inside x mn mx c xs ys t w a b = ap (leaving s) (W.inside-law size top sums s.head s.pos s.neg v x mn mx c xs ys (free d) t w a b) ∙ sym step_is
+        inside x mn mx c xs ys t w a b = ap (leaving s) (W.inside_law size top sums s.head s.pos s.neg v x mn mx c xs ys (free d) t w a b) ∙ sym step_is
 
       -- ---- the value was taken
       module _ (z : (step size top sums s v).no ≡ 0) where
@@ -133,7 +133,7 @@ module _ (size top : ℕ) (sums : Bool) (s : Series) (v : ℤ) where
 
         pub long : Long (step size top sums s v).cells
         long =
-            let ok = next-ok size top s.head.counts s.pos s.neg (class_of zeroFloat (nearestOf v)) g.agree (near-in v f) in
+            let ok = next-ok size top s.head.counts s.pos s.neg (class_of zero_float (nearest_of v)) g.agree (near_in v f) in
             subst (λ (r : Recording Series). Long r.cells) (sym left_is) (
               length_over next.pos.counts s.pos (omega (arith, ok.pos.short, g.pos)),
               length_over next.neg.counts s.neg (omega (arith, ok.neg.short, g.neg)),
@@ -142,7 +142,7 @@ module _ (size top : ℕ) (sums : Bool) (s : Series) (v : ℤ) where
         agree-next : (let t = (step size top sums s v).cells in agrees size top t.head.counts t.pos t.neg ≡ true)
         agree-next =
             subst (λ (r : Recording Series). let t = r.cells in agrees size top t.head.counts t.pos t.neg ≡ true) (sym left_is)
-            (stays size top s.head.counts s.pos s.neg (class_of zeroFloat (nearestOf v)) g.agree (near-in v f))
+            (stays size top s.head.counts s.pos s.neg (class_of zero_float (nearest_of v)) g.agree (near_in v f))
 
         -- a series that took a value agrees
         pub sound : Sound size top (step size top sums s v).cells

@@ -26,13 +26,13 @@ pub record Sound (size top : ℕ) (s : Series) : Type 0 where
   pub neg : size ≤ length s.neg
 
 -- a refused call leaves the old head
-abbrev pub headAfter : Said Head → Head → Head
-headAfter (success h) old = h
-headAfter (refusal n) old = old
+abbrev pub head_after : Said Head → Head → Head
+head_after (success h) old = h
+head_after (refusal n) old = old
 
 -- what a call's outcome leaves of the series
 abbrev pub leaving : Series → Outcome → Recording Series
-leaving s o = after (number o.answer) (record { head = headAfter o.answer s.head; pos = o.pos; neg = o.neg })
+leaving s o = after (number o.answer) (record { head = head_after o.answer s.head; pos = o.pos; neg = o.neg })
 
 -- `exponential_wholes::record` of one value. A number that is no i64 would be refused with 6, as the kind has it; the code meets none
 unfoldable pub step : ℕ → ℕ → Bool → Series → ℤ → Recording Series

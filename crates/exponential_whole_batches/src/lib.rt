@@ -5,14 +5,14 @@ mod slot;
 
 ghost use Rattle.std.specs.Prelude.{◌≡◌, true};
 ghost use Rattle.many.specs.Many.{many};
-ghost use Rattle.sets.specs.Sorted.{given, filterOf};
+ghost use Rattle.sets.specs.Sorted.{given, filter_of};
 ghost use Rattle.directory.specs.View.{stores};
 ghost use Rattle.exponential_whole_slots.specs.Cells.{cells};
-ghost use Rattle.value_map.specs.Calls.{held, gave, measured, measuredBy};
-ghost use Rattle.whole_map.specs.Exponential.{exponentialWholes};
+ghost use Rattle.value_map.specs.Calls.{held, gave, measured, measured_by};
+ghost use Rattle.whole_map.specs.Exponential.{exponential_wholes};
 ghost use Rattle.batches.specs.Agreed.{AgreedBy, AgreedFor};
-ghost use Rattle.batches.specs.Batch.{measuredAll, measuredAllBy};
-ghost use Rattle.batches.specs.Inner.{recordedAll, unlessStopped};
+ghost use Rattle.batches.specs.Batch.{measured_all, measured_all_by};
+ghost use Rattle.batches.specs.Inner.{recorded_all, unless_stopped};
 ghost use Rattle.exponential_whole_batches.specs.Slot.{Asks};
 
 use batches::Batch;
@@ -39,8 +39,8 @@ fn take_all(
 ) -> Taken
     requires { no ≡ 0 → Asks known size top sums x updated (cells figures extremes pos neg) values.now }
     ensures { many result.taken result.no (cells figures.exit extremes.exit pos.exit neg.exit)
-        ≡ unlessStopped no (cells figures.entry extremes.entry pos.entry neg.entry)
-        (recordedAll (exponentialWholes size top sums) x updated (cells figures.entry extremes.entry pos.entry neg.entry) values.now) }
+        ≡ unless_stopped no (cells figures.entry extremes.entry pos.entry neg.entry)
+        (recorded_all (exponential_wholes size top sums) x updated (cells figures.entry extremes.entry pos.entry neg.entry) values.now) }
 {
     if no != 0 {
         return Taken { taken: 0, no };
@@ -70,10 +70,10 @@ fn all(
     present: bool,
     filter: &[u32],
 ) -> Batch
-    requires { known ≡ true → AgreedFor (exponentialWholes size top sums) true limit (filterOf present filter.now)
+    requires { known ≡ true → AgreedFor (exponential_wholes size top sums) true limit (filter_of present filter.now)
         (held d (stores sets entries order) (cells figures extremes pos neg)) (given attrs.now) }
     ensures { many result.taken result.no (held result.dir (stores sets.exit entries.exit order.exit) (cells figures.exit extremes.exit pos.exit neg.exit))
-        ≡ measuredAll (exponentialWholes size top sums) limit (filterOf present filter.now)
+        ≡ measured_all (exponential_wholes size top sums) limit (filter_of present filter.now)
         (held d (stores sets.entry entries.entry order.entry) (cells figures.entry extremes.entry pos.entry neg.entry))
         values.now (given attrs.now) }
 {
@@ -129,9 +129,9 @@ fn all_by(
     values: &[i64],
     h: u64,
 ) -> Batch
-    requires { known ≡ true → AgreedBy (exponentialWholes size top sums) true limit (held d (stores sets entries order) (cells figures extremes pos neg)) h }
+    requires { known ≡ true → AgreedBy (exponential_wholes size top sums) true limit (held d (stores sets entries order) (cells figures extremes pos neg)) h }
     ensures { many result.taken result.no (held result.dir (stores sets.exit entries.exit order.exit) (cells figures.exit extremes.exit pos.exit neg.exit))
-        ≡ measuredAllBy (exponentialWholes size top sums) limit
+        ≡ measured_all_by (exponential_wholes size top sums) limit
         (held d (stores sets.entry entries.entry order.entry) (cells figures.entry extremes.entry pos.entry neg.entry))
         values.now h }
 {
@@ -187,7 +187,7 @@ pub fn measure_all(
     filter: &[u32],
 ) -> Batch
     ensures { many result.taken result.no (held result.dir (stores sets.exit entries.exit order.exit) (cells figures.exit extremes.exit pos.exit neg.exit))
-        ≡ measuredAll (exponentialWholes size top sums) limit (filterOf present filter.now)
+        ≡ measured_all (exponential_wholes size top sums) limit (filter_of present filter.now)
         (held d (stores sets.entry entries.entry order.entry) (cells figures.entry extremes.entry pos.entry neg.entry))
         values.now (given attrs.now) }
 {
@@ -215,7 +215,7 @@ pub fn measure_all_by(
     h: u64,
 ) -> Batch
     ensures { many result.taken result.no (held result.dir (stores sets.exit entries.exit order.exit) (cells figures.exit extremes.exit pos.exit neg.exit))
-        ≡ measuredAllBy (exponentialWholes size top sums) limit
+        ≡ measured_all_by (exponential_wholes size top sums) limit
         (held d (stores sets.entry entries.entry order.entry) (cells figures.entry extremes.entry pos.entry neg.entry))
         values.now h }
 {
@@ -244,10 +244,10 @@ pub fn measure_all_agreed(
     present: bool,
     filter: &[u32],
 ) -> Batch
-    requires { AgreedFor (exponentialWholes size top sums) true limit (filterOf present filter.now)
+    requires { AgreedFor (exponential_wholes size top sums) true limit (filter_of present filter.now)
         (held d (stores sets entries order) (cells figures extremes pos neg)) (given attrs.now) }
     ensures { many result.taken result.no (held result.dir (stores sets.exit entries.exit order.exit) (cells figures.exit extremes.exit pos.exit neg.exit))
-        ≡ measuredAll (exponentialWholes size top sums) limit (filterOf present filter.now)
+        ≡ measured_all (exponential_wholes size top sums) limit (filter_of present filter.now)
         (held d (stores sets.entry entries.entry order.entry) (cells figures.entry extremes.entry pos.entry neg.entry))
         values.now (given attrs.now) }
 {
@@ -274,9 +274,9 @@ pub fn measure_all_by_agreed(
     values: &[i64],
     h: u64,
 ) -> Batch
-    requires { AgreedBy (exponentialWholes size top sums) true limit (held d (stores sets entries order) (cells figures extremes pos neg)) h }
+    requires { AgreedBy (exponential_wholes size top sums) true limit (held d (stores sets entries order) (cells figures extremes pos neg)) h }
     ensures { many result.taken result.no (held result.dir (stores sets.exit entries.exit order.exit) (cells figures.exit extremes.exit pos.exit neg.exit))
-        ≡ measuredAllBy (exponentialWholes size top sums) limit
+        ≡ measured_all_by (exponential_wholes size top sums) limit
         (held d (stores sets.entry entries.entry order.entry) (cells figures.entry extremes.entry pos.entry neg.entry))
         values.now h }
 {
@@ -305,10 +305,10 @@ pub fn measure_agreed(
     present: bool,
     filter: &[u32],
 ) -> Reply
-    requires { AgreedFor (exponentialWholes size top sums) true limit (filterOf present filter.now)
+    requires { AgreedFor (exponential_wholes size top sums) true limit (filter_of present filter.now)
         (held d (stores sets entries order) (cells figures extremes pos neg)) (given attrs.now) }
     ensures { gave result (stores sets.exit entries.exit order.exit) (cells figures.exit extremes.exit pos.exit neg.exit)
-        ≡ measured (exponentialWholes size top sums) limit (filterOf present filter.now)
+        ≡ measured (exponential_wholes size top sums) limit (filter_of present filter.now)
         (held d (stores sets.entry entries.entry order.entry) (cells figures.entry extremes.entry pos.entry neg.entry))
         v (given attrs.now) }
 {
@@ -337,9 +337,9 @@ pub fn measure_by_agreed(
     v: i64,
     h: u64,
 ) -> Reply
-    requires { AgreedBy (exponentialWholes size top sums) true limit (held d (stores sets entries order) (cells figures extremes pos neg)) h }
+    requires { AgreedBy (exponential_wholes size top sums) true limit (held d (stores sets entries order) (cells figures extremes pos neg)) h }
     ensures { gave result (stores sets.exit entries.exit order.exit) (cells figures.exit extremes.exit pos.exit neg.exit)
-        ≡ measuredBy (exponentialWholes size top sums) limit
+        ≡ measured_by (exponential_wholes size top sums) limit
         (held d (stores sets.entry entries.entry order.entry) (cells figures.entry extremes.entry pos.entry neg.entry))
         v h }
 {

@@ -5,9 +5,9 @@ ghost use Rattle.many.specs.Many.{many};
 ghost use Rattle.exponential_slots.specs.Cells.{words_of};
 ghost use Rattle.exponential_whole_slots.specs.Cells.{cells};
 ghost use Rattle.value_map.specs.Exponential.{unset};
-ghost use Rattle.whole_map.specs.Exponential.{exponentialWholes};
-ghost use Rattle.batches.specs.Inner.{recordedAll};
-ghost use Rattle.exponential_whole_batches.specs.Slot.{agreesAt, Asks, extremesOf};
+ghost use Rattle.whole_map.specs.Exponential.{exponential_wholes};
+ghost use Rattle.batches.specs.Inner.{recorded_all};
+ghost use Rattle.exponential_whole_batches.specs.Slot.{agrees_at, Asks, extremes_of};
 
 use crate::series;
 use crate::series::Run;
@@ -24,8 +24,8 @@ fn agrees(
     neg: &[u64],
 ) -> bool
     requires top_value { (unset size top ≡ 0) × (length pos.now ≡ size) × (length neg.now ≡ size) }
-    requires neg_value { known ≡ true → agreesAt size top updated f pos.now neg.now ≡ true }
-    ensures { result ≡ agreesAt size top updated f pos.now neg.now }
+    requires neg_value { known ≡ true → agrees_at size top updated f pos.now neg.now ≡ true }
+    ensures { result ≡ agrees_at size top updated f pos.now neg.now }
 {
     if known {
         return true;
@@ -45,7 +45,7 @@ fn agrees(
 fn keep(x: usize, figures: &mut [[u64; 8]], extremes: &mut [[i64; 3]], run: Run)
     requires { (x < length figures.old) × (x < length extremes.old) }
     ensures figures_after { figures.new ≡ pick (eqb run.taken 0) figures.old (set figures.old x (words_of run.head.counts)) }
-    ensures extremes_after { extremes.new ≡ pick (eqb run.taken 0) extremes.old (set extremes.old x (extremesOf run.head)) }
+    ensures extremes_after { extremes.new ≡ pick (eqb run.taken 0) extremes.old (set extremes.old x (extremes_of run.head)) }
 {
     if run.taken == 0 {
         return;
@@ -73,7 +73,7 @@ pub fn record_all(
 ) -> Taken
     requires { Asks known size top sums x updated (cells figures extremes pos neg) values.now }
     ensures { many result.taken result.no (cells figures.exit extremes.exit pos.exit neg.exit)
-        ≡ recordedAll (exponentialWholes size top sums) x updated (cells figures.entry extremes.entry pos.entry neg.entry) values.now }
+        ≡ recorded_all (exponential_wholes size top sums) x updated (cells figures.entry extremes.entry pos.entry neg.entry) values.now }
 {
     let f = figures[x];
     let n = size as usize;

@@ -5,10 +5,10 @@ ghost use Rattle.directory.specs.View.{stores};
 ghost use Rattle.exponential_whole_slots.specs.Cells.{cells};
 ghost use Rattle.value_map.specs.Calls.{held};
 ghost use Rattle.batches.specs.Owned.{Owned};
-ghost use Rattle.whole_map.specs.Exponential.{exponentialWholes};
+ghost use Rattle.whole_map.specs.Exponential.{exponential_wholes};
 ghost use Rattle.listing.specs.Listed.{output};
-ghost use Rattle.collecting.specs.Collected.{gave, uncollected, deltaCollected, cumulativeCollected};
-ghost use Rattle.exponential_whole_collection.specs.Points.{exponentialWholeLister};
+ghost use Rattle.collecting.specs.Collected.{gave, uncollected, delta_collected, cumulative_collected};
+ghost use Rattle.exponential_whole_collection.specs.Points.{exponential_whole_lister};
 
 use collecting::{Answer, Reply};
 use directory::Directory;
@@ -32,9 +32,9 @@ fn number(
     out_pos: &[u64],
     out_neg: &[u64],
 ) -> u8
-    requires { known ≡ true → Owned (exponentialWholes s.size s.top s.sums) s.extremes s.limit none
+    requires { known ≡ true → Owned (exponential_wholes s.size s.top s.sums) s.extremes s.limit none
         (held d (stores sets entries order) (cells figures extremes pos neg)) }
-    ensures { result ≡ uncollected (exponentialWholeLister s.size s.top s.sums) s.extremes cumulative s.limit
+    ensures { result ≡ uncollected (exponential_whole_lister s.size s.top s.sums) s.extremes cumulative s.limit
         (held d (stores sets.entry entries.entry order.entry) (cells figures.entry extremes.entry pos.entry neg.entry))
         (output out_sets.entry out_words.entry out_pos.entry out_neg.entry) }
 {
@@ -82,12 +82,12 @@ pub fn delta(
     out_pos: &mut [u64],
     out_neg: &mut [u64],
 ) -> Reply
-    requires { known ≡ true → Owned (exponentialWholes s.size s.top s.sums) s.extremes s.limit none
+    requires { known ≡ true → Owned (exponential_wholes s.size s.top s.sums) s.extremes s.limit none
         (held d (stores sets entries order) (cells figures extremes pos neg)) }
     ensures { gave result.answer (held result.dir (stores sets.exit entries.exit order.exit)
         (cells figures.entry extremes.entry pos.entry neg.entry))
         (output out_sets.exit out_words.exit out_pos.exit out_neg.exit)
-        ≡ deltaCollected (exponentialWholeLister s.size s.top s.sums) s.extremes s.limit
+        ≡ delta_collected (exponential_whole_lister s.size s.top s.sums) s.extremes s.limit
         (held d (stores sets.entry entries.entry order.entry) (cells figures.entry extremes.entry pos.entry neg.entry))
         (output out_sets.entry out_words.entry out_pos.entry out_neg.entry) }
 {
@@ -129,12 +129,12 @@ pub fn cumulative(
     out_pos: &mut [u64],
     out_neg: &mut [u64],
 ) -> Answer
-    requires { known ≡ true → Owned (exponentialWholes s.size s.top s.sums) s.extremes s.limit none
+    requires { known ≡ true → Owned (exponential_wholes s.size s.top s.sums) s.extremes s.limit none
         (held d (stores sets entries order) (cells figures extremes pos neg)) }
     ensures { gave result
         (held d (stores sets.entry entries.entry order.entry) (cells figures.entry extremes.entry pos.entry neg.entry))
         (output out_sets.exit out_words.exit out_pos.exit out_neg.exit)
-        ≡ cumulativeCollected (exponentialWholeLister s.size s.top s.sums) s.extremes s.limit
+        ≡ cumulative_collected (exponential_whole_lister s.size s.top s.sums) s.extremes s.limit
         (held d (stores sets.entry entries.entry order.entry) (cells figures.entry extremes.entry pos.entry neg.entry))
         (output out_sets.entry out_words.entry out_pos.entry out_neg.entry) }
 {

@@ -6,17 +6,17 @@ mod walk;
 
 ghost use Rattle.std.specs.Prelude.{◌≡◌};
 ghost use Rattle.std.proofs.Math.Option.{none};
-ghost use Rattle.sets.specs.Sorted.{filterOf};
+ghost use Rattle.sets.specs.Sorted.{filter_of};
 ghost use Rattle.directory.specs.View.{stores};
 ghost use Rattle.exponential_whole_slots.specs.Cells.{cells};
 ghost use Rattle.value_map.specs.Calls.{held};
 ghost use Rattle.batches.specs.Owned.{Owned};
-ghost use Rattle.whole_map.specs.Exponential.{exponentialWholes};
+ghost use Rattle.whole_map.specs.Exponential.{exponential_wholes};
 ghost use Rattle.listing.specs.Listed.{output};
 ghost use Rattle.collecting.specs.Configured.{configuring};
-ghost use Rattle.collecting.specs.Collected.{gave, deltaCollected, cumulativeCollected};
+ghost use Rattle.collecting.specs.Collected.{gave, delta_collected, cumulative_collected};
 ghost use Rattle.exponential_collection.specs.Configured.{said};
-ghost use Rattle.exponential_whole_collection.specs.Points.{exponentialWholeLister};
+ghost use Rattle.exponential_whole_collection.specs.Points.{exponential_whole_lister};
 ghost use Rattle.exponential_whole_collection.specs.Configured.{configured};
 
 use collecting::{Answer, Reply};
@@ -41,7 +41,7 @@ pub fn configure(
     neg: &[u64],
 ) -> Configured
     ensures { configuring (said result) (stores sets.entry entries.exit order.entry)
-        ≡ configured size scale show sums limit (filterOf present filter.now)
+        ≡ configured size scale show sums limit (filter_of present filter.now)
         (stores sets.entry entries.entry order.entry) (cells figures.entry extremes.entry pos.entry neg.entry) }
 {
     let found = index::signed::level_of(scale);
@@ -79,7 +79,7 @@ pub fn delta(
     ensures { gave result.answer (held result.dir (stores sets.exit entries.exit order.exit)
         (cells figures.entry extremes.entry pos.entry neg.entry))
         (output out_sets.exit out_words.exit out_pos.exit out_neg.exit)
-        ≡ deltaCollected (exponentialWholeLister s.size s.top s.sums) s.extremes s.limit
+        ≡ delta_collected (exponential_whole_lister s.size s.top s.sums) s.extremes s.limit
         (held d (stores sets.entry entries.entry order.entry) (cells figures.entry extremes.entry pos.entry neg.entry))
         (output out_sets.entry out_words.entry out_pos.entry out_neg.entry) }
 {
@@ -105,12 +105,12 @@ pub fn delta_agreed(
     out_pos: &mut [u64],
     out_neg: &mut [u64],
 ) -> Reply
-    requires { Owned (exponentialWholes s.size s.top s.sums) s.extremes s.limit none
+    requires { Owned (exponential_wholes s.size s.top s.sums) s.extremes s.limit none
         (held d (stores sets entries order) (cells figures extremes pos neg)) }
     ensures { gave result.answer (held result.dir (stores sets.exit entries.exit order.exit)
         (cells figures.entry extremes.entry pos.entry neg.entry))
         (output out_sets.exit out_words.exit out_pos.exit out_neg.exit)
-        ≡ deltaCollected (exponentialWholeLister s.size s.top s.sums) s.extremes s.limit
+        ≡ delta_collected (exponential_whole_lister s.size s.top s.sums) s.extremes s.limit
         (held d (stores sets.entry entries.entry order.entry) (cells figures.entry extremes.entry pos.entry neg.entry))
         (output out_sets.entry out_words.entry out_pos.entry out_neg.entry) }
 {
@@ -139,7 +139,7 @@ pub fn cumulative(
     ensures { gave result
         (held d (stores sets.entry entries.entry order.entry) (cells figures.entry extremes.entry pos.entry neg.entry))
         (output out_sets.exit out_words.exit out_pos.exit out_neg.exit)
-        ≡ cumulativeCollected (exponentialWholeLister s.size s.top s.sums) s.extremes s.limit
+        ≡ cumulative_collected (exponential_whole_lister s.size s.top s.sums) s.extremes s.limit
         (held d (stores sets.entry entries.entry order.entry) (cells figures.entry extremes.entry pos.entry neg.entry))
         (output out_sets.entry out_words.entry out_pos.entry out_neg.entry) }
 {
@@ -165,12 +165,12 @@ pub fn cumulative_agreed(
     out_pos: &mut [u64],
     out_neg: &mut [u64],
 ) -> Answer
-    requires { Owned (exponentialWholes s.size s.top s.sums) s.extremes s.limit none
+    requires { Owned (exponential_wholes s.size s.top s.sums) s.extremes s.limit none
         (held d (stores sets entries order) (cells figures extremes pos neg)) }
     ensures { gave result
         (held d (stores sets.entry entries.entry order.entry) (cells figures.entry extremes.entry pos.entry neg.entry))
         (output out_sets.exit out_words.exit out_pos.exit out_neg.exit)
-        ≡ cumulativeCollected (exponentialWholeLister s.size s.top s.sums) s.extremes s.limit
+        ≡ cumulative_collected (exponential_whole_lister s.size s.top s.sums) s.extremes s.limit
         (held d (stores sets.entry entries.entry order.entry) (cells figures.entry extremes.entry pos.entry neg.entry))
         (output out_sets.entry out_words.entry out_pos.entry out_neg.entry) }
 {

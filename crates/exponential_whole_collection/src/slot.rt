@@ -1,14 +1,14 @@
 // One slot of the stores: what a collection finds there, and its point put into the output.
 ghost use Rattle.std.specs.Prelude.{◌≡◌, true, not, ◌||◌};
 ghost use Rattle.kinds.specs.Wholes.{wholes};
-ghost use Rattle.exponential_whole_slots.specs.Cells.{cells, Room, settings, seriesAt};
+ghost use Rattle.exponential_whole_slots.specs.Cells.{cells, Room, settings, series_at};
 ghost use Rattle.value_map.specs.Exponential.{unset};
 ghost use Rattle.batches.specs.Inner.{Known};
-ghost use Rattle.whole_map.specs.Exponential.{exponentialWholes};
+ghost use Rattle.whole_map.specs.Exponential.{exponential_wholes};
 ghost use Rattle.listing.specs.Listed.{output};
 ghost use Rattle.listing.specs.Inner.{left};
-ghost use Rattle.collecting.specs.Slots.{Few, More, surveyedAt, Sound, Free, putSlot};
-ghost use Rattle.exponential_whole_collection.specs.Points.{exponentialWholeLister};
+ghost use Rattle.collecting.specs.Slots.{Few, More, surveyed_at, Sound, Free, put_slot};
+ghost use Rattle.exponential_whole_collection.specs.Points.{exponential_whole_lister};
 
 use collecting::Survey;
 use listing::Cursor;
@@ -25,7 +25,7 @@ fn agrees_at(
 ) -> bool
     requires { (unset size top ≡ 0) × Room size (cells figures extremes pos neg) x }
     ensures { result ≡ wholes.agrees (settings size top true true)
-        (seriesAt size (cells figures.entry extremes.entry pos.entry neg.entry) x) }
+        (series_at size (cells figures.entry extremes.entry pos.entry neg.entry) x) }
 {
     let f = figures[x];
     if !exponential_slots::can_read(true, f) {
@@ -52,9 +52,9 @@ fn is_sound(
     neg: &[u64],
 ) -> bool
     requires top_value { (unset size top ≡ 0) × Room size (cells figures extremes pos neg) x }
-    requires known { Known (exponentialWholes size top true) true known x updated (cells figures extremes pos neg) }
+    requires known { Known (exponential_wholes size top true) true known x updated (cells figures extremes pos neg) }
     ensures { result ≡ (not updated || wholes.agrees (settings size top true true)
-        (seriesAt size (cells figures.entry extremes.entry pos.entry neg.entry) x)) }
+        (series_at size (cells figures.entry extremes.entry pos.entry neg.entry) x)) }
 {
     if known {
         return true;
@@ -80,8 +80,8 @@ pub fn survey(
     neg: &[u64],
 ) -> Survey
     requires top_value { (unset size top ≡ 0) × Room size (cells figures extremes pos neg) x }
-    requires few { Few s × Known (exponentialWholes size top true) true known x updated (cells figures extremes pos neg) }
-    ensures value { result ≡ surveyedAt (exponentialWholeLister size top true) true updated due
+    requires few { Few s × Known (exponential_wholes size top true) true known x updated (cells figures extremes pos neg) }
+    ensures value { result ≡ surveyed_at (exponential_whole_lister size top true) true updated due
         (cells figures.entry extremes.entry pos.entry neg.entry) s x }
     ensures more { More s result }
 {
@@ -119,11 +119,11 @@ pub fn put(
     out_pos: &mut [u64],
     out_neg: &mut [u64],
 ) -> Cursor
-    requires sound { Sound (exponentialWholeLister size top sums) show updated (cells figures extremes pos neg) x }
-    requires free { due ≡ true → Free (exponentialWholeLister size top sums) show updated (cells figures extremes pos neg) x at
+    requires sound { Sound (exponential_whole_lister size top sums) show updated (cells figures extremes pos neg) x }
+    requires free { due ≡ true → Free (exponential_whole_lister size top sums) show updated (cells figures extremes pos neg) x at
         (output out_sets out_words out_pos out_neg) }
     ensures { left result (output out_sets.exit out_words.exit out_pos.exit out_neg.exit)
-        ≡ putSlot (exponentialWholeLister size top sums) show updated due (cells figures.entry extremes.entry pos.entry neg.entry) x row at
+        ≡ put_slot (exponential_whole_lister size top sums) show updated due (cells figures.entry extremes.entry pos.entry neg.entry) x row at
         (output out_sets.entry out_words.entry out_pos.entry out_neg.entry) }
 {
     if !due {

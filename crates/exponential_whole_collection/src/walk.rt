@@ -1,11 +1,11 @@
 // All slots, ascending by set: what a collection finds, and the points that are due put into the output.
 ghost use Rattle.std.specs.Prelude.{◌≡◌, true, []};
 ghost use Rattle.exponential_whole_slots.specs.Cells.{cells};
-ghost use Rattle.whole_map.specs.Exponential.{exponentialWholes};
+ghost use Rattle.whole_map.specs.Exponential.{exponential_wholes};
 ghost use Rattle.listing.specs.Listed.{output};
 ghost use Rattle.listing.specs.Inner.{left};
-ghost use Rattle.collecting.specs.Slots.{walked, Walk, AllKnown, surveyed, Listable, listedTo};
-ghost use Rattle.exponential_whole_collection.specs.Points.{exponentialWholeLister};
+ghost use Rattle.collecting.specs.Slots.{walked, Walk, AllKnown, surveyed, Listable, listed_to};
+ghost use Rattle.exponential_whole_collection.specs.Points.{exponential_whole_lister};
 
 use collecting::Survey;
 use exponential_collection::Settings;
@@ -24,10 +24,10 @@ pub fn survey(
     pos: &[u64],
     neg: &[u64],
 ) -> Survey
-    requires walk { Walk (exponentialWholes s.size s.top true) (walked used [] entries.now order.now (cells figures extremes pos neg)) }
-    requires all_known { AllKnown (exponentialWholes s.size s.top true) true known
+    requires walk { Walk (exponential_wholes s.size s.top true) (walked used [] entries.now order.now (cells figures extremes pos neg)) }
+    requires all_known { AllKnown (exponential_wholes s.size s.top true) true known
         (walked used [] entries.now order.now (cells figures extremes pos neg)) }
-    ensures { result ≡ surveyed (exponentialWholeLister s.size s.top true) true cumulative
+    ensures { result ≡ surveyed (exponential_whole_lister s.size s.top true) true cumulative
         (walked used [] entries.now order.now (cells figures.entry extremes.entry pos.entry neg.entry)) }
 {
     let size = s.size;
@@ -72,10 +72,10 @@ pub fn list(
     out_pos: &mut [u64],
     out_neg: &mut [u64],
 ) -> Cursor
-    requires { Listable (exponentialWholeLister s.size s.top s.sums) s.extremes cumulative
+    requires { Listable (exponential_whole_lister s.size s.top s.sums) s.extremes cumulative
         (walked used sets.now entries.now order.now (cells figures extremes pos neg)) (output out_sets out_words out_pos out_neg) }
     ensures { left result (output out_sets.exit out_words.exit out_pos.exit out_neg.exit)
-        ≡ listedTo (exponentialWholeLister s.size s.top s.sums) s.extremes cumulative
+        ≡ listed_to (exponential_whole_lister s.size s.top s.sums) s.extremes cumulative
         (walked used sets.now entries.now order.now (cells figures.entry extremes.entry pos.entry neg.entry))
         (output out_sets.entry out_words.entry out_pos.entry out_neg.entry) }
 {

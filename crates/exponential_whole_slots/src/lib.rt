@@ -4,14 +4,14 @@ ghost use Rattle.laws.specs.Said.{number};
 ghost use Rattle.rows.specs.Recording.{after};
 ghost use Rattle.exponential_slots.specs.Cells.{readable};
 ghost use Rattle.exponential_wholes.specs.Series.{said};
-ghost use Rattle.exponential_whole_slots.specs.Cells.{cells, headIn, head_of, figuresAfter, extremesAfter, recordedAt};
+ghost use Rattle.exponential_whole_slots.specs.Cells.{cells, head_in, head_of, figures_after, extremes_after, recorded_at};
 
 use exponential::Counts;
 use exponential_wholes::{Answer, Head};
 
 // The head of counts and a slot's three numbers.
 fn head_with(c: Counts, m: [i64; 3]) -> Head
-    ensures { result ≡ headIn c m }
+    ensures { result ≡ head_in c m }
 {
     Head {
         counts: c,
@@ -38,8 +38,8 @@ pub fn head_of(top: u32, updated: bool, f: [u64; 8], m: [i64; 3]) -> Head
 fn keep(x: usize, figures: &mut [[u64; 8]], extremes: &mut [[i64; 3]], got: Answer) -> u8
     requires { (x < length figures.old) × (x < length extremes.old) }
     ensures value { result ≡ number (said got) }
-    ensures figures_after { figures.new ≡ figuresAfter x figures.old (said got) }
-    ensures extremes_after { extremes.new ≡ extremesAfter x extremes.old (said got) }
+    ensures figures_after { figures.new ≡ figures_after x figures.old (said got) }
+    ensures extremes_after { extremes.new ≡ extremes_after x extremes.old (said got) }
 {
     match got {
         Answer::Refused(no) => no,
@@ -69,7 +69,7 @@ pub fn record(
     requires { (x < length figures.old) × (x < length extremes.old)
         × (x * size + size ≤ length pos.old) × (x * size + size ≤ length neg.old) }
     ensures { after result (cells figures.exit extremes.exit pos.exit neg.exit)
-        ≡ recordedAt size top sums x updated (cells figures.entry extremes.entry pos.entry neg.entry) v }
+        ≡ recorded_at size top sums x updated (cells figures.entry extremes.entry pos.entry neg.entry) v }
 {
     let f = figures[x];
     if !exponential_slots::can_read(updated, f) {

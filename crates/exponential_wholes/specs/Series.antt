@@ -3,8 +3,8 @@ use Rattle.std.specs.Prelude.{ℕ, Bool, true, List, eqb, ℤ}
 use Rattle.laws.specs.Pick.{pick}
 use Rattle.laws.specs.Said.{Said, refusal, success}
 use Rattle.laws.specs.Over.{over}
-use Rattle.floats.specs.Starts.{zeroFloat}
-use Rattle.integers.specs.Answers.{nearestOf}
+use Rattle.floats.specs.Starts.{zero_float}
+use Rattle.integers.specs.Answers.{nearest_of}
 use Rattle.points.specs.Points.{Point, record1}
 use Rattle.points.specs.Classes.{class_of}
 use Rattle.points.specs.Any.{Summary, start, noted}
@@ -12,7 +12,7 @@ use Rattle.points.specs.Whole.{whole}
 use Rattle.exponential.specs.declared.Counts.{Counts}
 use Rattle.exponential.specs.declared.Head as F
 use Rattle.exponential.specs.Series as E
-use Rattle.exponential.specs.Series.{read, countsFor}
+use Rattle.exponential.specs.Series.{read, counts_for}
 use Rattle.exponential_wholes.specs.declared.Head.{Head}
 use Rattle.exponential_wholes.specs.declared.Answer.{Answer}
 use Rattle.exponential_wholes.specs.declared.Answer.TheVariants.{Recorded, Refused}
@@ -25,20 +25,20 @@ abbrev pub summary : Head → Summary whole
 summary h = record { min = h.min; max = h.max; sum = h.sum }
 
 -- the head of a fresh series
-abbrev pub freshHead : ℕ → Head
-freshHead top =
+abbrev pub fresh_head : ℕ → Head
+fresh_head top =
     head_of (record { count = 0; zeros = 0; level = top; pos = record { start = 0; len = 0 }; neg = record { start = 0; len = 0 } }) (start whole)
 
 -- the same counts under a head of f64, whose extremes and sum are nobody's
 abbrev pub under : Counts → F.Head
-under c = record { counts = c; min = zeroFloat; max = zeroFloat; sum = zeroFloat }
+under c = record { counts = c; min = zero_float; max = zero_float; sum = zero_float }
 
 -- ---- the call
 
 -- document 01's number: 12, 8 and 9 as over f64, of the f64 nearest to the value, which is finite; then 16; 0 none
-unfoldable pub refusalOf : ℕ → ℕ → Bool → Head → List ℕ → List ℕ → ℤ → ℕ
-refusalOf size top sums h xs ys v =
-    let n = E.refusalOf size top (under h.counts) xs ys (nearestOf v) in
+unfoldable pub refusal_of : ℕ → ℕ → Bool → Head → List ℕ → List ℕ → ℤ → ℕ
+refusal_of size top sums h xs ys v =
+    let n = E.refusal_of size top (under h.counts) xs ys (nearest_of v) in
     pick (eqb n 0) (pick (whole.takes sums h.sum v) 0 16) n
 
 abbrev pub said : Answer → Said Head
@@ -56,11 +56,11 @@ outcome r xs ys = record { answer = r; pos = xs; neg = ys }
 
 -- the point p laid over the rows, with the head's minimum, maximum and sum one value on
 abbrev pub accepted : Point → Bool → Head → List ℕ → List ℕ → ℤ → Outcome
-accepted p sums h xs ys v = outcome (success (head_of (countsFor p) (noted whole sums (summary h) v))) (over p.pos.counts xs) (over p.neg.counts ys)
+accepted p sums h xs ys v = outcome (success (head_of (counts_for p) (noted whole sums (summary h) v))) (over p.pos.counts xs) (over p.neg.counts ys)
 
 -- refused with a number, all as it was; or the point of what the series holds and the value, not above its level
 unfoldable pub recording : ℕ → ℕ → Bool → Head → List ℕ → List ℕ → ℤ → Outcome
 recording size top sums h xs ys v =
-    pick (eqb (refusalOf size top sums h xs ys v) 0)
-    (accepted (record1 size (read h.counts xs ys) (class_of zeroFloat (nearestOf v))) sums h xs ys v)
-    (outcome (refusal (refusalOf size top sums h xs ys v)) xs ys)
+    pick (eqb (refusal_of size top sums h xs ys v) 0)
+    (accepted (record1 size (read h.counts xs ys) (class_of zero_float (nearest_of v))) sums h xs ys v)
+    (outcome (refusal (refusal_of size top sums h xs ys v)) xs ys)

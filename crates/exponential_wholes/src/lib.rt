@@ -1,7 +1,7 @@
 // One series of the exponential kind over i64: a head by value beside the same counts and rows as over f64. A value's bucket is that of the
 // f64 nearest to it, so crate `exponential` counts it.
 ghost use Rattle.std.specs.Prelude.{◌≡◌};
-ghost use Rattle.exponential_wholes.specs.Series.{freshHead, under, said, outcome, recording};
+ghost use Rattle.exponential_wholes.specs.Series.{fresh_head, under, said, outcome, recording};
 
 use exponential::Counts;
 use integers::Total;
@@ -22,7 +22,7 @@ pub enum Answer {
 
 // The head of a series that has counted nothing.
 pub fn fresh(top: u32) -> Head
-    ensures { result ≡ freshHead top }
+    ensures { result ≡ fresh_head top }
 {
     let h = exponential::fresh(top);
     let c = h.counts;

@@ -1,14 +1,14 @@
 // Calls for programs in other languages: a list of values recorded into one exponential series.
 ghost use Rattle.std.specs.Prelude.{◌≡◌, min};
 ghost use Rattle.exponential.specs.Series.{said};
-ghost use Rattle.exponential.specs.Inner.{headAfter};
+ghost use Rattle.exponential.specs.Inner.{head_after};
 ghost use Rattle.exports.specs.Exports.{recorded};
 
 use exponential::{Answer, Head};
 
 // The head that a call leaves: a refused one leaves the old.
 fn head_after(answer: Answer, old: Head) -> Head
-    ensures { result ≡ headAfter (said answer) old }
+    ensures { result ≡ head_after (said answer) old }
 {
     match answer {
         Answer::Recorded(h) => h,

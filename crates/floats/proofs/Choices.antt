@@ -46,13 +46,13 @@ unfolding rank
 before-rank true f x y p q = lt-key f x y p q
 before-rank false f x y p q = lt-key f y x q p ∙ turned (big f + big f) (key f x) (key f y) (key-le f x p) (key-le f y q)
 
-turned-inj : (g a b : ℕ) → a ≤ g → b ≤ g → g - a ≡ g - b → a ≡ b
-turned-inj g a b p q h = omega arith
+turned_inj : (g a b : ℕ) → a ≤ g → b ≤ g → g - a ≡ g - b → a ≡ b
+turned_inj g a b p q h = omega arith
 
 rank-key : (up : Bool) (f : Format) (x y : Float) → Ok f x → Ok f y → rank up f x ≡ rank up f y → key f x ≡ key f y
 unfolding rank
 rank-key true f x y p q h = h
-rank-key false f x y p q h = turned-inj (big f + big f) (key f x) (key f y) (key-le f x p) (key-le f y q) h
+rank-key false f x y p q h = turned_inj (big f + big f) (key f x) (key f y) (key-le f x p) (key-le f y q) h
 
 -- of one rank: the same number
 pub rank-eq : (up : Bool) (f : Format) (x y : Float) → Ok f x → Ok f y → rank up f x ≡ rank up f y → eq x y ≡ true

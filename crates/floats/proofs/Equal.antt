@@ -9,7 +9,7 @@ use lib.Pow.{pow_pos}
 use lib.Ieee.{Float, nan, inf, fin, Format, low, up, down, level, eq}
 use lib.Ieee.Fits.{down_pos, and_i, and_l, and_r, eq→eqb}
 use Rattle.laws.specs.Pick.{pick}
-use Rattle.floats.proofs.Order.{key, big, Ok, unitsOf, small, key-fin, left-units, right-units, key_above, key_below, big-pos}
+use Rattle.floats.proofs.Order.{key, big, Ok, units_of, small, key-fin, left_units, right_units, key_above, key_below, big-pos}
 
 both_ways : (a b : Bool) → (T a → T b) → (T b → T a) → a ≡ b
 both_ways true true f g = refl
@@ -76,6 +76,6 @@ eq-key f (inf false) (fin t n d) p q = eqb_no (big f + big f) (key f (fin t n d)
 eq-key f (fin s m e) (inf true) p q = eqb_no (key f (fin s m e)) 0 (above-no (key f (fin s m e)) 0 (key_above f s m e p))
 eq-key f (fin s m e) (inf false) p q = eqb_no (key f (fin s m e)) (big f + big f) (below-no (key f (fin s m e)) (big f + big f) (key_below f s m e p))
 eq-key f (fin s m e) (fin t n d) p q =
-    signs (m * up e * down d) (n * up d * down e) (down e * down d) (unitsOf f m e) (unitsOf f n d) (2 ^ low f) (big f)
-    (mul-pos (down_pos e) (down_pos d)) (pow_pos (low f)) (left-units f s m e d p) (right-units f t n d e q) (small f s m e p) (small f t n d q) s t
-    ∙ sym (ap (λ (x : ℕ). eqb x (key f (fin t n d))) (key-fin f s m e) ∙ ap (eqb (pick s (big f - unitsOf f m e) (big f + unitsOf f m e))) (key-fin f t n d))
+    signs (m * up e * down d) (n * up d * down e) (down e * down d) (units_of f m e) (units_of f n d) (2 ^ low f) (big f)
+    (mul-pos (down_pos e) (down_pos d)) (pow_pos (low f)) (left_units f s m e d p) (right_units f t n d e q) (small f s m e p) (small f t n d q) s t
+    ∙ sym (ap (λ (x : ℕ). eqb x (key f (fin t n d))) (key-fin f s m e) ∙ ap (eqb (pick s (big f - units_of f m e) (big f + units_of f m e))) (key-fin f t n d))

@@ -53,8 +53,8 @@ sum-pos a true (suc b) = go (ltb a (suc b)) refl (ltb→lt a (suc b))
     go true e h = rw e (ap (λ (n : ℕ). round binary64 true n 1024) (more-one a b (h tt)))
     go false e h = rw e
 
-two-sucs : (a b : ℕ) → suc a + suc b ≡ suc (suc (a + b))
-two-sucs a b = omega arith
+two_sucs : (a b : ℕ) → suc a + suc b ≡ suc (suc (a + b))
+two_sucs a b = omega arith
 
 suc-none : (a : ℕ) → suc a + 0 ≡ suc (suc a - 1)
 suc-none a = omega arith
@@ -71,7 +71,7 @@ less_one a b h = omega arith
 sum-neg : (a : ℕ) (t : Bool) (b : ℕ) → sum binary64 true (suc a) t b 1024 ≡ grid (negsuc a +ℤ signed t b)
 unfolding sum grid
 sum-neg a true zero = rw (lt-ltb 0 (suc a) (zero-lt-suc a)) (ap (λ (n : ℕ). round binary64 true n 1024) (suc-none a))
-sum-neg a true (suc b) = ap (λ (n : ℕ). round binary64 true n 1024) (two-sucs a b)
+sum-neg a true (suc b) = ap (λ (n : ℕ). round binary64 true n 1024) (two_sucs a b)
 sum-neg a false b = go (ltb (suc a) b) (ltb b (suc a)) refl refl (ltb→lt (suc a) b) (nltb→le (suc a) b) (ltb→lt b (suc a)) (nltb→le b (suc a))
   where
     go : (c d : Bool) → ltb (suc a) b ≡ c → ltb b (suc a) ≡ d → (T c → suc a < b) → (T (not c) → b ≤ suc a) → (T d → b < suc a) → (T (not d) → suc a ≤ b)

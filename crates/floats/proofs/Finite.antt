@@ -13,10 +13,10 @@ use lib.Ieee.Compare.{differs_from_itself}
 use lib.Ieee.Fits.{down_pos}
 use lib.Ieee.Scale.{round_same, finite}
 
-abbrev zeroF : Float
-zeroF = fin false 0 (pos 0)
+abbrev zero_f : Float
+zero_f = fin false 0 (pos 0)
 
-round-zero : (c : ℕ) → 0 < c → round binary64 false 0 c ≡ zeroF
+round-zero : (c : ℕ) → 0 < c → round binary64 false 0 c ≡ zero_f
 unfolding round
 round-zero c C = round_same binary64 false 0 c 0 1 C (zero-lt-suc 0) (zero-mul 1 ∙ sym (zero-mul c))
 
@@ -33,14 +33,14 @@ not-self a = go (ltb a a) (ltb→lt a a)
 less-self : (a : ℕ) → a - a ≡ 0
 less-self a = omega arith
 
-sum_self : (s : Bool) (a c : ℕ) → 0 < c → sum binary64 s a (not s) a c ≡ zeroF
+sum_self : (s : Bool) (a c : ℕ) → 0 < c → sum binary64 s a (not s) a c ≡ zero_f
 unfolding sum
 sum_self true a c C =
     rw (not-self a, less-self a) (round-zero c C)
 sum_self false a c C =
     rw (not-self a, less-self a) (round-zero c C)
 
-sub_self : (s : Bool) (m : ℕ) (e : ℤ) → sub binary64 (fin s m e) (fin s m e) ≡ zeroF
+sub_self : (s : Bool) (m : ℕ) (e : ℤ) → sub binary64 (fin s m e) (fin s m e) ≡ zero_f
 unfolding sub
 sub_self s m e = sum_self s (m * up e * down e) (down e * down e) (mul-pos (down_pos e) (down_pos e))
 
@@ -50,7 +50,7 @@ unfolding eq sub
 finite-test nan = refl
 finite-test (inf true) = refl
 finite-test (inf false) = refl
-finite-test (fin s m e) = ap (λ (y : Float). eq y zeroF) (sub_self s m e)
+finite-test (fin s m e) = ap (λ (y : Float). eq y zero_f) (sub_self s m e)
 
 -- a NaN is what differs from itself
 pub nan-test : (x : Float) → ne x x ≡ is_nan x

@@ -14,8 +14,8 @@ use Rattle.laws.specs.Pick.{pick}
 use Rattle.floats.proofs.Fractions.{ltb_iff, ltb-same, plus-same}
 
 -- a magnitude in units of the format's smallest value, and what is above all of them
-abbrev pub unitsOf : Format → ℕ → ℤ → ℕ
-unitsOf f m e = m * up e * 2 ^ low f / down e
+abbrev pub units_of : Format → ℕ → ℤ → ℕ
+units_of f m e = m * up e * 2 ^ low f / down e
 
 unfoldable pub big : Format → ℕ
 big f = 2 ^ (low f + suc (emax f))
@@ -24,8 +24,8 @@ unfoldable pub key : Format → Float → ℕ
 key f nan = 0
 key f (inf true) = 0
 key f (inf false) = big f + big f
-key f (fin true m e) = big f - unitsOf f m e
-key f (fin false m e) = big f + unitsOf f m e
+key f (fin true m e) = big f - units_of f m e
+key f (fin false m e) = big f + units_of f m e
 
 -- ---- what `fits` says of an m above 0
 pub exponent : (f : Format) (s : Bool) (m : ℕ) (e : ℤ) → T (fits f (fin s (suc m) e)) → down e ≤ 2 ^ low f
@@ -47,7 +47,7 @@ divides f (negsuc k) h =
     (2 ^ (low f - suc k), ap (λ (x : ℕ). 2 ^ x) (sym (back (low f) (suc k) l)) ∙ pow-add 2 (low f - suc k) (suc k))
 
 -- a value that fits is a whole number of units
-pub exact : (f : Format) (s : Bool) (m : ℕ) (e : ℤ) → T (fits f (fin s m e)) → unitsOf f m e * down e ≡ m * up e * 2 ^ low f
+pub exact : (f : Format) (s : Bool) (m : ℕ) (e : ℤ) → T (fits f (fin s m e)) → units_of f m e * down e ≡ m * up e * 2 ^ low f
 exact f s zero e t =
     let v : 0 * up e * 2 ^ low f ≡ 0 = ap (λ (x : ℕ). x * 2 ^ low f) (zero-mul (up e)) ∙ zero-mul (2 ^ low f) in
     ap (λ (x : ℕ). x / down e * down e) v ∙ ap (λ (x : ℕ). x * down e) (zero-div (down e)) ∙ zero-mul (down e) ∙ sym v
@@ -56,7 +56,7 @@ exact f s (suc m) e t =
     let v : suc m * up e * 2 ^ low f ≡ suc m * up e * d.0 * down e = ap (λ (x : ℕ). suc m * up e * x) d.1 ∙ sym (mul_assoc (suc m * up e) d.0 (down e)) in
     ap (λ (x : ℕ). x / down e * down e) v ∙ ap (λ (x : ℕ). x * down e) (mul-div_cancel (suc m * up e * d.0) (down_pos e)) ∙ sym v
 
-pub small : (f : Format) (s : Bool) (m : ℕ) (e : ℤ) → T (fits f (fin s m e)) → unitsOf f m e < big f
+pub small : (f : Format) (s : Bool) (m : ℕ) (e : ℤ) → T (fits f (fin s m e)) → units_of f m e < big f
 unfolding big
 small f s zero e t = subst (λ (x : ℕ). x < 2 ^ (low f + suc (emax f))) (sym (ap (λ (x : ℕ). x / down e) (ap (λ (x : ℕ). x * 2 ^ low f) (zero-mul (up e)) ∙ zero-mul (2 ^ low f)) ∙ zero-div (down e))) (pow_pos (low f + suc (emax f)))
 small f s (suc m) e t = (div-lt_iff_lt-mul (down_pos e)).1
@@ -103,24 +103,24 @@ signs true false A B C a b c g P p h k x y =
     ltb-same 0 (A + B) C 0 (a + b) c P p (zero-mul c ∙ sym (zero-mul C)) (plus-same A B C a b c P p h k) ∙ apart g a b x
 signs true true A B C a b c g P p h k x y = ltb-same B A C b a c P p k h ∙ shift-down g a b x y
 
-pub key-fin : (f : Format) (s : Bool) (m : ℕ) (e : ℤ) → key f (fin s m e) ≡ pick s (big f - unitsOf f m e) (big f + unitsOf f m e)
+pub key-fin : (f : Format) (s : Bool) (m : ℕ) (e : ℤ) → key f (fin s m e) ≡ pick s (big f - units_of f m e) (big f + units_of f m e)
 unfolding key pick
 key-fin f true m e = refl
 key-fin f false m e = refl
 
 -- the two magnitudes over one denominator
-pub left-units : (f : Format) (s : Bool) (m : ℕ) (e d : ℤ) → T (fits f (fin s m e)) → m * up e * down d * 2 ^ low f ≡ unitsOf f m e * (down e * down d)
-left-units f s m e d t = mul_right_comm (m * up e) (down d) (2 ^ low f) ∙ ap (λ (x : ℕ). x * down d) (sym (exact f s m e t)) ∙ mul_assoc (unitsOf f m e) (down e) (down d)
+pub left_units : (f : Format) (s : Bool) (m : ℕ) (e d : ℤ) → T (fits f (fin s m e)) → m * up e * down d * 2 ^ low f ≡ units_of f m e * (down e * down d)
+left_units f s m e d t = mul_right_comm (m * up e) (down d) (2 ^ low f) ∙ ap (λ (x : ℕ). x * down d) (sym (exact f s m e t)) ∙ mul_assoc (units_of f m e) (down e) (down d)
 
-pub right-units : (f : Format) (s : Bool) (n : ℕ) (d e : ℤ) → T (fits f (fin s n d)) → n * up d * down e * 2 ^ low f ≡ unitsOf f n d * (down e * down d)
-right-units f s n d e t = left-units f s n d e t ∙ ap (λ (x : ℕ). unitsOf f n d * x) (mul_comm (down d) (down e))
+pub right_units : (f : Format) (s : Bool) (n : ℕ) (d e : ℤ) → T (fits f (fin s n d)) → n * up d * down e * 2 ^ low f ≡ units_of f n d * (down e * down d)
+right_units f s n d e t = left_units f s n d e t ∙ ap (λ (x : ℕ). units_of f n d * x) (mul_comm (down d) (down e))
 
 lt-fin : (f : Format) (s : Bool) (m : ℕ) (e : ℤ) (t : Bool) (n : ℕ) (d : ℤ) → T (fits f (fin s m e)) → T (fits f (fin t n d)) → lt (fin s m e) (fin t n d) ≡ ltb (key f (fin s m e)) (key f (fin t n d))
 unfolding lt
 lt-fin f s m e t n d p q =
-    signs s t (m * up e * down d) (n * up d * down e) (down e * down d) (unitsOf f m e) (unitsOf f n d) (2 ^ low f) (big f)
-    (mul-pos (down_pos e) (down_pos d)) (pow_pos (low f)) (left-units f s m e d p) (right-units f t n d e q) (small f s m e p) (small f t n d q)
-    ∙ sym (ap (λ (x : ℕ). ltb x (key f (fin t n d))) (key-fin f s m e) ∙ ap (ltb (pick s (big f - unitsOf f m e) (big f + unitsOf f m e))) (key-fin f t n d))
+    signs s t (m * up e * down d) (n * up d * down e) (down e * down d) (units_of f m e) (units_of f n d) (2 ^ low f) (big f)
+    (mul-pos (down_pos e) (down_pos d)) (pow_pos (low f)) (left_units f s m e d p) (right_units f t n d e q) (small f s m e p) (small f t n d q)
+    ∙ sym (ap (λ (x : ℕ). ltb x (key f (fin t n d))) (key-fin f s m e) ∙ ap (ltb (pick s (big f - units_of f m e) (big f + units_of f m e))) (key-fin f t n d))
 
 -- no NaN, and it fits
 abbrev pub Ok : Format → Float → Type 0
@@ -135,22 +135,22 @@ big-pos f = pow_pos (low f + suc (emax f))
 -- a finite value's key lies between the infinities'
 pub key_above : (f : Format) (s : Bool) (m : ℕ) (e : ℤ) → T (fits f (fin s m e)) → 0 < key f (fin s m e)
 unfolding key
-key_above f true m e t = go (big f) (unitsOf f m e) (small f true m e t)
+key_above f true m e t = go (big f) (units_of f m e) (small f true m e t)
   where
     go : (g a : ℕ) → a < g → 0 < g - a
     go g a h = omega arith
-key_above f false m e t = go (big f) (unitsOf f m e) (big-pos f)
+key_above f false m e t = go (big f) (units_of f m e) (big-pos f)
   where
     go : (g a : ℕ) → 0 < g → 0 < g + a
     go g a h = omega arith
 
 pub key_below : (f : Format) (s : Bool) (m : ℕ) (e : ℤ) → T (fits f (fin s m e)) → key f (fin s m e) < big f + big f
 unfolding key
-key_below f true m e t = go (big f) (unitsOf f m e) (small f true m e t)
+key_below f true m e t = go (big f) (units_of f m e) (small f true m e t)
   where
     go : (g a : ℕ) → a < g → g - a < g + g
     go g a h = omega arith
-key_below f false m e t = go (big f) (unitsOf f m e) (small f false m e t)
+key_below f false m e t = go (big f) (units_of f m e) (small f false m e t)
   where
     go : (g a : ℕ) → a < g → g + a < g + g
     go g a h = omega arith

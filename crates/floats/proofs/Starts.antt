@@ -8,7 +8,7 @@ use lib.Ieee.Scale.{finite}
 use lib.Ieee.Bits.{of_bits-fits}
 use Rattle.laws.specs.Pick.{pick}
 use Rattle.laws.specs.Lists.{All}
-use Rattle.floats.specs.Starts.{greatestFinite, leastFinite, FiniteF64}
+use Rattle.floats.specs.Starts.{greatest_finite, least_finite, FiniteF64}
 use Rattle.floats.proofs.Order.{Ok}
 use Rattle.floats.proofs.Choices.{before, chosen}
 
@@ -23,8 +23,8 @@ finite-ok (fin s m e) v = v.fits
 
 -- ---- the two starts
 abbrev pub start : Bool → Float
-start true = greatestFinite
-start false = leastFinite
+start true = greatest_finite
+start false = least_finite
 
 pub start-finite : (up : Bool) → FiniteF64 (start up)
 unfolding of_bits

@@ -16,8 +16,8 @@ abs-signed true zero = refl
 abs-signed true (suc n) = refl
 abs-signed false n = refl
 
-signed-abs : (s : Bool) (n : ℕ) → signed s (nat_abs (signed s n)) ≡ signed s n
-signed-abs s n = ap (signed s) (abs-signed s n)
+signed_abs : (s : Bool) (n : ℕ) → signed s (nat_abs (signed s n)) ≡ signed s n
+signed_abs s n = ap (signed s) (abs-signed s n)
 
 -- ---- the test is what `Whole` says
 module _ (a d : ℕ) where
@@ -40,7 +40,7 @@ whole_is (inf s) h = absurd (false≢true h)
 whole_is (fin s m e) h =
     let a = m * up e * 1024 in
     let d = down e in
-    (none_left a d (eqb-true (a % d) 0 h) ∙ ap (λ (n : ℕ). n * d) (sym (abs-signed s (a / d))), signed-abs s (a / d))
+    (none_left a d (eqb-true (a % d) 0 h) ∙ ap (λ (n : ℕ). n * d) (sym (abs-signed s (a / d))), signed_abs s (a / d))
 
 pub is-whole : (x : Float) → Whole x → is_whole x ≡ true
 unfolding is_whole

@@ -7,8 +7,8 @@ use Rattle.floats.specs.declared.Extreme.{Extreme}
 use Rattle.floats.specs.declared.Extreme.TheVariants.{None, Value}
 
 -- "the smaller min and larger max (equal: the first's)"; zeros compare equal, so the zero held first stays
-abbrev pub lesserOf : Float → Float → Float
-lesserOf a v = pick (lt v a) v a
+abbrev pub lesser_of : Float → Float → Float
+lesser_of a v = pick (lt v a) v a
 
 abbrev pub greater_of : Float → Float → Float
 greater_of a v = pick (lt a v) v a
@@ -19,24 +19,24 @@ abbrev pub shows : Bool → ℕ → Bool
 shows switch count = switch && not (eqb count 0)
 
 -- the extreme that it then has, of the number that is held
-abbrev pub shownOf : Bool → ℕ → Float → Extreme
-shownOf switch count x = pick (shows switch count) (Value x) None
+abbrev pub shown_of : Bool → ℕ → Float → Extreme
+shown_of switch count x = pick (shows switch count) (Value x) None
 
-abbrev pub isShown : Extreme → Bool
-isShown None = false
-isShown (Value x) = true
+abbrev pub is_shown : Extreme → Bool
+is_shown None = false
+is_shown (Value x) = true
 
 -- the smaller of two minima, and the larger of two maxima; document 02, L4: "Merging with such a point keeps the other's extremes"
-abbrev pub smallerOf : Extreme → Extreme → Extreme
-smallerOf None b = b
-smallerOf (Value x) None = Value x
-smallerOf (Value x) (Value y) = Value (lesserOf x y)
+abbrev pub smaller_of : Extreme → Extreme → Extreme
+smaller_of None b = b
+smaller_of (Value x) None = Value x
+smaller_of (Value x) (Value y) = Value (lesser_of x y)
 
-abbrev pub largerOf : Extreme → Extreme → Extreme
-largerOf None b = b
-largerOf (Value x) None = Value x
-largerOf (Value x) (Value y) = Value (greater_of x y)
+abbrev pub larger_of : Extreme → Extreme → Extreme
+larger_of None b = b
+larger_of (Value x) None = Value x
+larger_of (Value x) (Value y) = Value (greater_of x y)
 
 -- "A NaN sum is handed out as 7FF8000000000000"
-abbrev pub bitsOf : Float → ℕ
-bitsOf x = pick (is_nan x) 0x7ff8_0000_0000_0000 (to_bits binary64 x)
+abbrev pub bits_of : Float → ℕ
+bits_of x = pick (is_nan x) 0x7ff8_0000_0000_0000 (to_bits binary64 x)

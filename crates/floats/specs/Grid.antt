@@ -38,12 +38,12 @@ is_whole (inf s) = false
 is_whole (fin s m e) = eqb (m * up e * 1024 % down e) 0
 
 -- 2 ^ 43 in 1/1024ths
-abbrev pub mostSteps : ℕ
-mostSteps = 2 ^ 43 * 1024
+abbrev pub most_steps : ℕ
+most_steps = 2 ^ 43 * 1024
 
 -- the exact total, and the total of the magnitudes, in 1/1024ths
-unfoldable pub exactTotal : List Float → ℤ
-exactTotal = foldr (λ x t. steps x +ℤ t) (pos 0)
+unfoldable pub exact_total : List Float → ℤ
+exact_total = foldr (λ x t. steps x +ℤ t) (pos 0)
 
 unfoldable pub weight : List Float → ℕ
 weight = foldr (λ x t. nat_abs (steps x) + t) 0
@@ -51,4 +51,4 @@ weight = foldr (λ x t. nat_abs (steps x) + t) 0
 -- whole numbers of 1/1024 whose magnitudes total at most 2 ^ 43
 pub record Gridded (xs : List Float) : Type 0 where
   pub whole : All Whole xs
-  pub light : weight xs ≤ mostSteps
+  pub light : weight xs ≤ most_steps

@@ -10,12 +10,12 @@ pub record FiniteF64 (x : Float) : Type 0 where
   pub fits : T (fits binary64 x)
 
 -- "Min starts at the greatest finite f64 and max at the least"
-abbrev pub greatestFinite : Float
-greatestFinite = of_bits binary64 0x7fef_ffff_ffff_ffff
+abbrev pub greatest_finite : Float
+greatest_finite = of_bits binary64 0x7fef_ffff_ffff_ffff
 
-abbrev pub leastFinite : Float
-leastFinite = of_bits binary64 0xffef_ffff_ffff_ffff
+abbrev pub least_finite : Float
+least_finite = of_bits binary64 0xffef_ffff_ffff_ffff
 
 -- 0.0
-abbrev pub zeroFloat : Float
-zeroFloat = of_bits binary64 0
+abbrev pub zero_float : Float
+zero_float = of_bits binary64 0

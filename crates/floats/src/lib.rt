@@ -3,7 +3,7 @@ ghost use Rattle.std.specs.Prelude.{◌≡◌};
 ghost use Rattle.std.specs.Float.Ieee.{of_bits};
 ghost use Rattle.std.specs.Float.{binary64};
 ghost use Rattle.std.specs.Float.Ieee.Scale.{finite};
-ghost use Rattle.floats.specs.Answers.{lesserOf, greater_of, smallerOf, largerOf, shows, shownOf, bitsOf};
+ghost use Rattle.floats.specs.Answers.{lesser_of, greater_of, smaller_of, larger_of, shows, shown_of, bits_of};
 
 // Whether x is a number: neither infinite nor a NaN.
 pub fn is_finite(x: f64) -> bool
@@ -14,7 +14,7 @@ pub fn is_finite(x: f64) -> bool
 
 // The lesser of two, the first where they compare equal: a zero held first stays.
 pub fn lesser(a: f64, v: f64) -> f64
-    ensures { result ≡ lesserOf a v }
+    ensures { result ≡ lesser_of a v }
 {
     if v < a { v } else { a }
 }
@@ -45,7 +45,7 @@ pub fn shows_extremes(switch: bool, count: u64) -> bool
 
 // An extreme as it is handed out: the number held, or none with the switch off or nothing counted.
 pub fn shown(switch: bool, count: u64, x: f64) -> Extreme
-    ensures { result ≡ shownOf switch count x }
+    ensures { result ≡ shown_of switch count x }
 {
     if shows_extremes(switch, count) {
         return Extreme::Value(x);
@@ -55,7 +55,7 @@ pub fn shown(switch: bool, count: u64, x: f64) -> Extreme
 
 // The smaller of two minima, the first where they compare equal; one that is there wins over none.
 pub fn smaller(low: Extreme, other: Extreme) -> Extreme
-    ensures { result ≡ smallerOf low other }
+    ensures { result ≡ smaller_of low other }
 {
     match low {
         Extreme::None => other,
@@ -68,7 +68,7 @@ pub fn smaller(low: Extreme, other: Extreme) -> Extreme
 
 // The larger of two maxima, the first where they compare equal; one that is there wins over none.
 pub fn larger(high: Extreme, other: Extreme) -> Extreme
-    ensures { result ≡ largerOf high other }
+    ensures { result ≡ larger_of high other }
 {
     match high {
         Extreme::None => other,
@@ -81,7 +81,7 @@ pub fn larger(high: Extreme, other: Extreme) -> Extreme
 
 // The bits of x; those of a NaN are 7FF8000000000000.
 pub fn bits_of(x: f64) -> u64
-    ensures { result ≡ bitsOf x }
+    ensures { result ≡ bits_of x }
 {
     if x != x {
         return 0x7ff8_0000_0000_0000;

@@ -9,8 +9,8 @@ use lib.ListN.{length, get_or, take, drop, length-drop}
 use lib.Seq.{take_all}
 use borrow.Author.Tests.{le-leb, lt-leb, eq-eqb, ne_eqb}
 use Rattle.laws.proofs.Bools.{pick_true, pick-false}
-use Rattle.text.specs.Numbers.{decimalOf, signed_of}
-use Rattle.text.specs.Fields.{spacesOf, field_of}
+use Rattle.text.specs.Numbers.{decimal_of, signed_of}
+use Rattle.text.specs.Fields.{spaces_of, field_of}
 use Rattle.text.specs.declared.numbers.Natural.{Natural}
 use Rattle.lines.specs.Spelled.{spelled, kept}
 use Rattle.lines.specs.declared.attributes.Given.{Given}
@@ -20,21 +20,21 @@ use Rattle.gauge_lines.specs.declared.fields.Asked.TheVariants as A
 use Rattle.gauge_lines.specs.declared.fields.Board.TheVariants as B
 use Rattle.gauge_lines.specs.declared.fields.Call.{Call}
 use Rattle.gauge_lines.specs.declared.fields.Call.TheVariants as C
-use Rattle.gauge_lines.specs.Lines.{sizeIn, scaleIn, wantedOf, settingsOf, parted, bitsIn, setIn, bothOf, boardOf, attributesIn}
-use Rattle.gauge_lines.specs.Lines.{letterOf, byLetter, call_of}
+use Rattle.gauge_lines.specs.Lines.{size_in, scale_in, wanted_of, settings_of, parted, bits_in, set_in, both_of, board_of, attributes_in}
+use Rattle.gauge_lines.specs.Lines.{letter_of, by_letter, call_of}
 
 -- ---- `e SIZE SCALE LIMIT START`
 
 module _ (bs : List ℕ) where
-  pub settings-none : (spacesOf bs ≡ 4 → ⊥) → A.Unread ≡ settingsOf bs
-  unfolding settingsOf
-  settings-none h = sym (pick-false _ _ _ (ne_eqb (spacesOf bs) 4 h))
+  pub settings-none : (spaces_of bs ≡ 4 → ⊥) → A.Unread ≡ settings_of bs
+  unfolding settings_of
+  settings-none h = sym (pick-false _ _ _ (ne_eqb (spaces_of bs) 4 h))
 
-  pub settings-are : spacesOf bs ≡ 4 → (z : Size) (s : Scale) (l t : Natural) → sizeIn (decimalOf (field_of bs 1)) ≡ z
-      → scaleIn (signed_of (field_of bs 2)) ≡ s → decimalOf (field_of bs 3) ≡ l → decimalOf (field_of bs 4) ≡ t
-      → wantedOf z s l t ≡ settingsOf bs
-  unfolding settingsOf
-  settings-are h z s l t p q r e = sym (pick_true _ _ _ (eq-eqb (spacesOf bs) 4 h) ∙ (λ i. wantedOf (p i) (q i) (r i) (e i)))
+  pub settings-are : spaces_of bs ≡ 4 → (z : Size) (s : Scale) (l t : Natural) → size_in (decimal_of (field_of bs 1)) ≡ z
+      → scale_in (signed_of (field_of bs 2)) ≡ s → decimal_of (field_of bs 3) ≡ l → decimal_of (field_of bs 4) ≡ t
+      → wanted_of z s l t ≡ settings_of bs
+  unfolding settings_of
+  settings-are h z s l t p q r e = sym (pick_true _ _ _ (eq-eqb (spaces_of bs) 4 h) ∙ (λ i. wanted_of (p i) (q i) (r i) (e i)))
 
 -- ---- `r BITS SET`
 
@@ -54,21 +54,21 @@ module _ (bs : List ℕ) where
   pub rest-is : take (length bs - 19) (drop 19 bs) ≡ drop 19 bs
   rest-is = let l : length (drop 19 bs) ≤ length bs - 19 = omega (arith, length-drop 19 bs) in take_all (length bs - 19) (drop 19 bs) l
 
-  pub board-none : parted bs ≡ false → B.Unread ≡ boardOf bs
-  unfolding boardOf
+  pub board-none : parted bs ≡ false → B.Unread ≡ board_of bs
+  unfolding board_of
   board-none h = sym (pick-false (parted bs) _ _ h)
 
-  pub kept-none : (store : List (List ℕ)) → parted bs ≡ false → store ≡ attributesIn bs store
-  unfolding attributesIn
+  pub kept-none : (store : List (List ℕ)) → parted bs ≡ false → store ≡ attributes_in bs store
+  unfolding attributes_in
   kept-none store h = sym (pick-false (parted bs) _ _ h)
 
-  pub board-is : parted bs ≡ true → (g : Given) (x : Natural) → setIn bs ≡ g → bitsIn bs ≡ x → bothOf g x ≡ boardOf bs
-  unfolding boardOf
-  board-is h g x p q = sym (pick_true (parted bs) _ _ h ∙ (λ i. bothOf (p i) (q i)))
+  pub board-is : parted bs ≡ true → (g : Given) (x : Natural) → set_in bs ≡ g → bits_in bs ≡ x → both_of g x ≡ board_of bs
+  unfolding board_of
+  board-is h g x p q = sym (pick_true (parted bs) _ _ h ∙ (λ i. both_of (p i) (q i)))
 
   pub kept-are : (store : List (List ℕ)) → parted bs ≡ true
-      → kept 0 (spelled (take (length bs - 19) (drop 19 bs))) store ≡ attributesIn bs store
-  unfolding attributesIn
+      → kept 0 (spelled (take (length bs - 19) (drop 19 bs))) store ≡ attributes_in bs store
+  unfolding attributes_in
   kept-are store h = ap (λ (u : List ℕ). kept 0 (spelled u) store) rest-is ∙ sym (pick_true (parted bs) _ _ h)
 
 -- ---- any line
@@ -87,36 +87,36 @@ module _ (bs : List ℕ) (running over : Bool) where
     unfolding call_of
     long-line k = sym (pick-false _ _ _ (ne_eqb (length bs) 0 h) ∙ pick-false _ _ _ (lt-leb (length bs) 255 k))
 
-    pub lettered : length bs ≤ 255 → (l : ℕ) → l ≡ letterOf bs → (x : Call) → byLetter l running ≡ x → x ≡ call_of bs running over
+    pub lettered : length bs ≤ 255 → (l : ℕ) → l ≡ letter_of bs → (x : Call) → by_letter l running ≡ x → x ≡ call_of bs running over
     unfolding call_of
     lettered k l e x y =
         sym (pick-false _ _ _ (ne_eqb (length bs) 0 h) ∙ pick_true _ _ _ (le-leb (length bs) 255 k)
-        ∙ ap (λ (n : ℕ). byLetter n running) (sym e) ∙ y)
+        ∙ ap (λ (n : ℕ). by_letter n running) (sym e) ∙ y)
 
 module _ (l : ℕ) (running : Bool) where
-  pub by-e : l ≡ 101 → byLetter l running ≡ C.Start
-  unfolding byLetter
+  pub by-e : l ≡ 101 → by_letter l running ≡ C.Start
+  unfolding by_letter
   by-e h = pick_true _ _ _ (eq-eqb l 101 h)
 
   module _ (h : l ≡ 101 → ⊥) where
-    pub by-none : running ≡ false → byLetter l running ≡ C.Unread
-    unfolding byLetter
+    pub by-none : running ≡ false → by_letter l running ≡ C.Unread
+    unfolding by_letter
     by-none k = pick-false _ _ _ (ne_eqb l 101 h) ∙ pick-false running _ _ k
 
     module _ (k : running ≡ true) where
-      pub by-r : l ≡ 114 → byLetter l running ≡ C.Record
-      unfolding byLetter
+      pub by-r : l ≡ 114 → by_letter l running ≡ C.Record
+      unfolding by_letter
       by-r e = pick-false _ _ _ (ne_eqb l 101 h) ∙ pick_true running _ _ k ∙ pick_true _ _ _ (eq-eqb l 114 e)
 
       module _ (e : l ≡ 114 → ⊥) where
-        pub by-c : l ≡ 99 → byLetter l running ≡ C.Collect
-        unfolding byLetter
+        pub by-c : l ≡ 99 → by_letter l running ≡ C.Collect
+        unfolding by_letter
         by-c g =
             pick-false _ _ _ (ne_eqb l 101 h) ∙ pick_true running _ _ k ∙ pick-false _ _ _ (ne_eqb l 114 e)
             ∙ pick_true _ _ _ (eq-eqb l 99 g)
 
-        pub by-other : (l ≡ 99 → ⊥) → byLetter l running ≡ C.Unread
-        unfolding byLetter
+        pub by-other : (l ≡ 99 → ⊥) → by_letter l running ≡ C.Unread
+        unfolding by_letter
         by-other g =
             pick-false _ _ _ (ne_eqb l 101 h) ∙ pick_true running _ _ k ∙ pick-false _ _ _ (ne_eqb l 114 e)
             ∙ pick-false _ _ _ (ne_eqb l 99 g)

@@ -18,18 +18,18 @@ use Rattle.bindings.specs.Calls as Bindings
 use Rattle.bindings.specs.declared.Reply.{Reply}
 use Rattle.exponential_slots.specs.Cells.{Cells}
 use Rattle.value_map.specs.Calls.{held, gave, measured}
-use Rattle.value_map.specs.Exponential.{exponentialStore}
+use Rattle.value_map.specs.Exponential.{exponential_store}
 use Rattle.listing.specs.Listed.{Output}
 use Rattle.collecting.specs.Configured.{configuring}
 use Rattle.collecting.specs.Collected as Collecting
-use Rattle.collecting.specs.Collected.{deltaCollected}
+use Rattle.collecting.specs.Collected.{delta_collected}
 use Rattle.collecting.specs.declared.Answer.{Answer}
 use Rattle.collecting.specs.declared.Answer.TheVariants.{Refused, Listed}
 use Rattle.exponential_collection.specs.Configured.{said, configured}
-use Rattle.exponential_collection.specs.Points.{exponentialLister}
+use Rattle.exponential_collection.specs.Points.{exponential_lister}
 use Rattle.exponential_collection.specs.declared.Configured.{Configured}
 use Rattle.clock.specs.Starts.{turned}
-use Rattle.printing.specs.Printed.{collectionLines, unreadLine}
+use Rattle.printing.specs.Printed.{collection_lines, unread_line}
 use Rattle.printing.specs.declared.Form.{Form}
 use Rattle.gauge_lines.specs.declared.cells.Gauge.{Gauge}
 use Rattle.gauge_lines.specs.declared.cells.Outcome.{Outcome}
@@ -42,46 +42,46 @@ use Rattle.gauge_lines.specs.declared.fields.Board.{Board}
 use Rattle.gauge_lines.specs.declared.fields.Board.TheVariants as B
 use Rattle.gauge_lines.specs.declared.fields.Call.{Call}
 use Rattle.gauge_lines.specs.declared.fields.Call.TheVariants as C
-use Rattle.gauge_lines.specs.Lines.{settingsOf, boardOf, attributesIn, timeOf, call_of}
-use Rattle.gauge_lines.specs.Followed.{After, after, refusedOf, begunBy, configuredBy, startedBy, afterStart}
-use Rattle.gauge_lines.specs.Followed.{answeredBy, measuredBy, recordedBy, afterRecord}
-use Rattle.gauge_lines.specs.Followed.{Followed, turnedBy, noBounds, listedBy, collectedBy, afterCollect}
-use Rattle.gauge_lines.specs.Followed.{silentBy, byCall, after_call, numbered}
+use Rattle.gauge_lines.specs.Lines.{settings_of, board_of, attributes_in, time_of, call_of}
+use Rattle.gauge_lines.specs.Followed.{After, after, refused_of, begun_by, configured_by, started_by, after_start}
+use Rattle.gauge_lines.specs.Followed.{answered_by, measured_by, recorded_by, after_record}
+use Rattle.gauge_lines.specs.Followed.{Followed, turned_by, no_bounds, listed_by, collected_by, after_collect}
+use Rattle.gauge_lines.specs.Followed.{silent_by, by_call, after_call, numbered}
 
 -- ---- `e` and `r`
 
 module _ (g : Gauge) (bs : List ℕ) (s : Stores) (c : Cells) (r : Outcome) where
-  pub start-refused : settingsOf bs ≡ A.Unread → r ≡ refusedOf g → after r s c ≡ afterStart g bs s c
-  unfolding afterStart
-  start-refused e p = ap (λ (x : Outcome). after x s c) p ∙ sym (ap (λ (w : Asked). startedBy g w s c) e)
+  pub start-refused : settings_of bs ≡ A.Unread → r ≡ refused_of g → after r s c ≡ after_start g bs s c
+  unfolding after_start
+  start-refused e p = ap (λ (x : Outcome). after x s c) p ∙ sym (ap (λ (w : Asked). started_by g w s c) e)
 
-  pub start-made : (w : Wanted) → settingsOf bs ≡ A.Is w → (z : ℤ) → z ≡ w.scale → (k : Configured) (s' : Stores)
-      → configuring (said k) s' ≡ configured w.size z true true w.limit none s c → r ≡ begunBy g w.start (said k)
-      → after r s' c ≡ afterStart g bs s c
-  unfolding afterStart
+  pub start-made : (w : Wanted) → settings_of bs ≡ A.Is w → (z : ℤ) → z ≡ w.scale → (k : Configured) (s' : Stores)
+      → configuring (said k) s' ≡ configured w.size z true true w.limit none s c → r ≡ begun_by g w.start (said k)
+      → after r s' c ≡ after_start g bs s c
+  unfolding after_start
   start-made w e z y k s' q p =
       ap (λ (x : Outcome). after x s' c) p
-      ∙ ap (configuredBy g w.start c) (q ∙ ap (λ (x : ℤ). configured w.size x true true w.limit none s c) y)
-      ∙ sym (ap (λ (x : Asked). startedBy g x s c) e)
+      ∙ ap (configured_by g w.start c) (q ∙ ap (λ (x : ℤ). configured w.size x true true w.limit none s c) y)
+      ∙ sym (ap (λ (x : Asked). started_by g x s c) e)
 
-  pub record-refused : boardOf bs ≡ B.Unread → r ≡ refusedOf g → after r s c ≡ afterRecord g bs s c
-  unfolding afterRecord
+  pub record-refused : board_of bs ≡ B.Unread → r ≡ refused_of g → after r s c ≡ after_record g bs s c
+  unfolding after_record
   record-refused e p =
       ap (λ (x : Outcome). after x s c) p
-      ∙ sym (ap (λ (b : Board). recordedBy g b (attributesIn bs (replicate 9 (0 ∷ 0 ∷ []))) s c) e)
+      ∙ sym (ap (λ (b : Board). recorded_by g b (attributes_in bs (replicate 9 (0 ∷ 0 ∷ []))) s c) e)
 
-  pub record-made : (bits n : ℕ) → boardOf bs ≡ B.Is bits n → (v : Float) → v ≡ of_bits binary64 bits
-      → (attrs : List (List ℕ)) → attrs ≡ take n (attributesIn bs (replicate 9 (0 ∷ 0 ∷ []))) → (k : Reply) (s' : Stores) (c' : Cells)
+  pub record-made : (bits n : ℕ) → board_of bs ≡ B.Is bits n → (v : Float) → v ≡ of_bits binary64 bits
+      → (attrs : List (List ℕ)) → attrs ≡ take n (attributes_in bs (replicate 9 (0 ∷ 0 ∷ []))) → (k : Reply) (s' : Stores) (c' : Cells)
       → gave k s' c'
-      ≡ measured (exponentialStore g.settings.size g.settings.top) g.settings.limit none (held g.dir s c) v (given attrs)
-      → r ≡ answeredBy g (Bindings.said k.answer) k.dir → after r s' c' ≡ afterRecord g bs s c
-  unfolding afterRecord
+      ≡ measured (exponential_store g.settings.size g.settings.top) g.settings.limit none (held g.dir s c) v (given attrs)
+      → r ≡ answered_by g (Bindings.said k.answer) k.dir → after r s' c' ≡ after_record g bs s c
+  unfolding after_record
   record-made bits n e v y attrs t k s' c' q p =
       ap (λ (x : Outcome). after x s' c') p
-      ∙ ap (measuredBy g) (q
-      ∙ (λ i. measured (exponentialStore g.settings.size g.settings.top) g.settings.limit none (held g.dir s c) (y i)
+      ∙ ap (measured_by g) (q
+      ∙ (λ i. measured (exponential_store g.settings.size g.settings.top) g.settings.limit none (held g.dir s c) (y i)
       (given (t i))))
-      ∙ sym (ap (λ (b : Board). recordedBy g b (attributesIn bs (replicate 9 (0 ∷ 0 ∷ []))) s c) e)
+      ∙ sym (ap (λ (b : Board). recorded_by g b (attributes_in bs (replicate 9 (0 ∷ 0 ∷ []))) s c) e)
 
 -- ---- `c`
 
@@ -94,33 +94,33 @@ left r block s c o = record { taken = r.taken; gauge = r.gauge; text = text r.te
 
 module _ (form : Form) (g : Gauge) (bs : List ℕ) (n : ℕ) (block : List ℕ) (s : Stores) (c : Cells) (o : Output) where
   abbrev asked : Natural → Followed
-  asked x = collectedBy form g x (text n block) s c o
+  asked x = collected_by form g x (text n block) s c o
 
-  pub collect-refused : timeOf bs ≡ N.None → (r : Collected) → r ≡ record { taken = false; gauge = g; text = n }
-      → left r block s c o ≡ afterCollect form g bs (text n block) s c o
-  unfolding afterCollect
+  pub collect-refused : time_of bs ≡ N.None → (r : Collected) → r ≡ record { taken = false; gauge = g; text = n }
+      → left r block s c o ≡ after_collect form g bs (text n block) s c o
+  unfolding after_collect
   collect-refused e r p = ap (λ (x : Collected). left x block s c o) p ∙ sym (ap asked e)
 
-  module _ (time : ℕ) (e : timeOf bs ≡ N.Is time) (a : Answer) (d : Directory) (s' : Stores) (o' : Output)
-      (q : Collecting.gave a (held d s' c) o' ≡ deltaCollected (exponentialLister g.settings.size g.settings.top)
+  module _ (time : ℕ) (e : time_of bs ≡ N.Is time) (a : Answer) (d : Directory) (s' : Stores) (o' : Output)
+      (q : Collecting.gave a (held d s' c) o' ≡ delta_collected (exponential_lister g.settings.size g.settings.top)
       (g.settings.extremes, g.settings.sums) g.settings.limit (held g.dir s c) o) where
     collected : (x : Answer) → a ≡ x
-        → listedBy form g time (text n block) (Collecting.gave x (held d s' c) o') ≡ afterCollect form g bs (text n block) s c o
-    unfolding afterCollect
+        → listed_by form g time (text n block) (Collecting.gave x (held d s' c) o') ≡ after_collect form g bs (text n block) s c o
+    unfolding after_collect
     collected x y =
-        ap (λ (z : Answer). listedBy form g time (text n block) (Collecting.gave z (held d s' c) o')) (sym y)
-        ∙ ap (listedBy form g time (text n block)) q ∙ sym (ap asked e)
+        ap (λ (z : Answer). listed_by form g time (text n block) (Collecting.gave z (held d s' c) o')) (sym y)
+        ∙ ap (listed_by form g time (text n block)) q ∙ sym (ap asked e)
 
     pub collect-none : (x : ℕ) → a ≡ Refused x → (r : Collected) → r ≡ record { taken = false; gauge = g; text = n }
-        → left r block s' c o' ≡ afterCollect form g bs (text n block) s c o
+        → left r block s' c o' ≡ after_collect form g bs (text n block) s c o
     collect-none x y r p = ap (λ (z : Collected). left z block s' c o') p ∙ collected (Refused x) y
 
     pub collect-made : (many : ℕ) → a ≡ Listed many → (k : Turn)
-        → k ≡ record { gauge = turnedBy g d time; start = (turned g.clock 0 time).start } → (m : ℕ) (block' : List ℕ)
-        → text m block' ≡ collectionLines form k.start time many o' noBounds behind text n block
-        → left (record { taken = true; gauge = k.gauge; text = m }) block' s' c o' ≡ afterCollect form g bs (text n block) s c o
+        → k ≡ record { gauge = turned_by g d time; start = (turned g.clock 0 time).start } → (m : ℕ) (block' : List ℕ)
+        → text m block' ≡ collection_lines form k.start time many o' no_bounds behind text n block
+        → left (record { taken = true; gauge = k.gauge; text = m }) block' s' c o' ≡ after_collect form g bs (text n block) s c o
     collect-made many y k p m block' w =
-        ap (λ (x : Text). shown k x) w ∙ ap (λ (x : Turn). shown x (collectionLines form x.start time many o' noBounds behind text n block)) p
+        ap (λ (x : Text). shown k x) w ∙ ap (λ (x : Turn). shown x (collection_lines form x.start time many o' no_bounds behind text n block)) p
         ∙ collected (Listed many) y
       where
         shown : Turn → Text → Followed
@@ -129,9 +129,9 @@ module _ (form : Form) (g : Gauge) (bs : List ℕ) (n : ℕ) (block : List ℕ) 
 -- ---- any line
 
 module _ (form : Form) (g : Gauge) (bs : List ℕ) (over : Bool) (n : ℕ) (block : List ℕ) (s : Stores) (c : Cells) (o : Output) where
-  made : (k : Call) → call_of bs g.running over ≡ k → byCall form k g bs (text n block) s c o ≡ after_call form g bs over (text n block) s c o
+  made : (k : Call) → call_of bs g.running over ≡ k → by_call form k g bs (text n block) s c o ≡ after_call form g bs over (text n block) s c o
   unfolding after_call
-  made k e = sym (ap (λ (x : Call). byCall form x g bs (text n block) s c o) e)
+  made k e = sym (ap (λ (x : Call). by_call form x g bs (text n block) s c o) e)
 
   pub line-none : call_of bs g.running over ≡ C.None
       → left (record { taken = true; gauge = g; text = n }) block s c o ≡ after_call form g bs over (text n block) s c o
@@ -139,22 +139,22 @@ module _ (form : Form) (g : Gauge) (bs : List ℕ) (over : Bool) (n : ℕ) (bloc
 
   -- after a call that prints nothing, and says k
   module _ (k : Outcome) (r : Collected) (p : r ≡ record { taken = k.taken; gauge = k.gauge; text = n }) where
-    pub line-unread : call_of bs g.running over ≡ C.Unread → k ≡ refusedOf g
+    pub line-unread : call_of bs g.running over ≡ C.Unread → k ≡ refused_of g
         → left r block s c o ≡ after_call form g bs over (text n block) s c o
     line-unread e q =
-        ap (λ (x : Collected). left x block s c o) p ∙ ap (λ (x : Outcome). silentBy (after x s c) (text n block) o) q ∙ made C.Unread e
+        ap (λ (x : Collected). left x block s c o) p ∙ ap (λ (x : Outcome). silent_by (after x s c) (text n block) o) q ∙ made C.Unread e
 
     module _ (s' : Stores) (c' : Cells) where
-      pub line-record : call_of bs g.running over ≡ C.Record → after k s' c' ≡ afterRecord g bs s c
+      pub line_record : call_of bs g.running over ≡ C.Record → after k s' c' ≡ after_record g bs s c
           → left r block s' c' o ≡ after_call form g bs over (text n block) s c o
-      line-record e q =
-          ap (λ (x : Collected). left x block s' c' o) p ∙ ap (λ (x : After). silentBy x (text n block) o) q ∙ made C.Record e
+      line_record e q =
+          ap (λ (x : Collected). left x block s' c' o) p ∙ ap (λ (x : After). silent_by x (text n block) o) q ∙ made C.Record e
 
-      pub line-start : call_of bs g.running over ≡ C.Start → after k s' c' ≡ afterStart g bs s c
+      pub line-start : call_of bs g.running over ≡ C.Start → after k s' c' ≡ after_start g bs s c
           → left r block s' c' o ≡ after_call form g bs over (text n block) s c o
-      line-start e q = ap (λ (x : Collected). left x block s' c' o) p ∙ ap (λ (x : After). silentBy x (text n block) o) q ∙ made C.Start e
+      line-start e q = ap (λ (x : Collected). left x block s' c' o) p ∙ ap (λ (x : After). silent_by x (text n block) o) q ∙ made C.Start e
 
-  pub line-collect : call_of bs g.running over ≡ C.Collect → (x : Followed) → x ≡ afterCollect form g bs (text n block) s c o
+  pub line-collect : call_of bs g.running over ≡ C.Collect → (x : Followed) → x ≡ after_collect form g bs (text n block) s c o
       → x ≡ after_call form g bs over (text n block) s c o
   line-collect e x p = p ∙ made C.Collect e
 
@@ -163,7 +163,7 @@ module _ (form : Form) (g : Gauge) (bs : List ℕ) (over : Bool) (n : ℕ) (bloc
 -- a call that left m bytes of a block, and then `? N` or nothing behind them
 pub line-numbered : (number : ℕ) (x : Collected) (block : List ℕ) (s : Stores) (c : Cells) (o : Output) (y : Followed)
     → left x block s c o ≡ y → (m : ℕ) (block' : List ℕ)
-    → text m block' ≡ pick x.taken [] (unreadLine number) behind text x.text block
+    → text m block' ≡ pick x.taken [] (unread_line number) behind text x.text block
     → left (record { taken = x.taken; gauge = x.gauge; text = m }) block' s c o ≡ numbered number y
 line-numbered number x block s c o y p m block' w =
     ap (λ (t : Text). record { taken = x.taken; gauge = x.gauge; text = t; stores = s; cells = c; out = o }) w ∙ ap (numbered number) p

@@ -3,8 +3,8 @@
 -- `? N`'. A line is its bytes without the newline; `e` is the byte 101, `r` 114, `c` 99, a space 32. Assumes nothing.
 use Rattle.std.specs.Prelude.{ℕ, Bool, ◌&&◌, List, leb, eqb, ℤ, pos, ◌-ℤ◌, length, get_or, take, drop}
 use Rattle.laws.specs.Pick.{pick}
-use Rattle.text.specs.Numbers.{decimalOf, signed_of, bitsOf}
-use Rattle.text.specs.Fields.{spacesOf, field_of}
+use Rattle.text.specs.Numbers.{decimal_of, signed_of, bits_of}
+use Rattle.text.specs.Fields.{spaces_of, field_of}
 use Rattle.text.specs.declared.numbers.Natural.{Natural}
 use Rattle.text.specs.declared.numbers.Natural.TheVariants as N
 use Rattle.text.specs.declared.numbers.Integer.{Integer}
@@ -27,29 +27,29 @@ use Rattle.gauge_lines.specs.declared.fields.Call.TheVariants as C
 
 -- A SIZE above 999 can't be read, nor a SCALE above 999 or below -999. Configuring would refuse them (numbers 1 and 2): either way the line
 -- prints `? N` and changes nothing.
-abbrev pub sizeIn : Natural → Size
-sizeIn N.None = Z.Unread
-sizeIn (N.Is x) = pick (leb x 999) (Z.Is x) Z.Unread
+abbrev pub size_in : Natural → Size
+size_in N.None = Z.Unread
+size_in (N.Is x) = pick (leb x 999) (Z.Is x) Z.Unread
 
 unfoldable pub with_sign : Bool → ℕ → ℤ
 with_sign negative x = pick negative (pos 0 -ℤ pos x) (pos x)
 
-abbrev pub scaleIn : Integer → Scale
-scaleIn I.None = S.Unread
-scaleIn (I.Is negative x) = pick (leb x 999) (S.Is (with_sign negative x)) S.Unread
+abbrev pub scale_in : Integer → Scale
+scale_in I.None = S.Unread
+scale_in (I.Is negative x) = pick (leb x 999) (S.Is (with_sign negative x)) S.Unread
 
 -- where all four can be read, and LIMIT is not above 30
-abbrev pub wantedOf : Size → Scale → Natural → Natural → Asked
-wantedOf Z.Unread scale limit start = A.Unread
-wantedOf (Z.Is n) S.Unread limit start = A.Unread
-wantedOf (Z.Is n) (S.Is z) N.None start = A.Unread
-wantedOf (Z.Is n) (S.Is z) (N.Is l) N.None = A.Unread
-wantedOf (Z.Is n) (S.Is z) (N.Is l) (N.Is t) = pick (leb l 30) (A.Is (record { size = n; scale = z; limit = l; start = t })) A.Unread
+abbrev pub wanted_of : Size → Scale → Natural → Natural → Asked
+wanted_of Z.Unread scale limit start = A.Unread
+wanted_of (Z.Is n) S.Unread limit start = A.Unread
+wanted_of (Z.Is n) (S.Is z) N.None start = A.Unread
+wanted_of (Z.Is n) (S.Is z) (N.Is l) N.None = A.Unread
+wanted_of (Z.Is n) (S.Is z) (N.Is l) (N.Is t) = pick (leb l 30) (A.Is (record { size = n; scale = z; limit = l; start = t })) A.Unread
 
-unfoldable pub settingsOf : List ℕ → Asked
-settingsOf bs =
-    pick (eqb (spacesOf bs) 4)
-    (wantedOf (sizeIn (decimalOf (field_of bs 1))) (scaleIn (signed_of (field_of bs 2))) (decimalOf (field_of bs 3)) (decimalOf (field_of bs 4)))
+unfoldable pub settings_of : List ℕ → Asked
+settings_of bs =
+    pick (eqb (spaces_of bs) 4)
+    (wanted_of (size_in (decimal_of (field_of bs 1))) (scale_in (signed_of (field_of bs 2))) (decimal_of (field_of bs 3)) (decimal_of (field_of bs 4)))
     A.Unread
 
 -- ---- `r BITS SET`
@@ -59,42 +59,42 @@ settingsOf bs =
 unfoldable pub parted : List ℕ → Bool
 parted bs = leb 20 (length bs) && eqb (get_or bs 18 0) 32
 
-abbrev pub bitsIn : List ℕ → Natural
-bitsIn bs = bitsOf (take 16 (drop 2 bs))
+abbrev pub bits_in : List ℕ → Natural
+bits_in bs = bits_of (take 16 (drop 2 bs))
 
-abbrev pub setIn : List ℕ → Given
-setIn bs = told 0 (spelled (drop 19 bs))
+abbrev pub set_in : List ℕ → Given
+set_in bs = told 0 (spelled (drop 19 bs))
 
-abbrev pub bothOf : Given → Natural → Board
-bothOf G.Unread bits = B.Unread
-bothOf (G.Are n) N.None = B.Unread
-bothOf (G.Are n) (N.Is x) = B.Is x n
+abbrev pub both_of : Given → Natural → Board
+both_of G.Unread bits = B.Unread
+both_of (G.Are n) N.None = B.Unread
+both_of (G.Are n) (N.Is x) = B.Is x n
 
 -- the bits, and how many attributes the set has
-unfoldable pub boardOf : List ℕ → Board
-boardOf bs = pick (parted bs) (bothOf (setIn bs) (bitsIn bs)) B.Unread
+unfoldable pub board_of : List ℕ → Board
+board_of bs = pick (parted bs) (both_of (set_in bs) (bits_in bs)) B.Unread
 
 -- the set's attributes in a store
-unfoldable pub attributesIn : List ℕ → List (List ℕ) → List (List ℕ)
-attributesIn bs store = pick (parted bs) (kept 0 (spelled (drop 19 bs)) store) store
+unfoldable pub attributes_in : List ℕ → List (List ℕ) → List (List ℕ)
+attributes_in bs store = pick (parted bs) (kept 0 (spelled (drop 19 bs)) store) store
 
 -- ---- `c TIME`
 
-unfoldable pub timeOf : List ℕ → Natural
-timeOf bs = pick (eqb (spacesOf bs) 1) (decimalOf (field_of bs 1)) N.None
+unfoldable pub time_of : List ℕ → Natural
+time_of bs = pick (eqb (spaces_of bs) 1) (decimal_of (field_of bs 1)) N.None
 
 -- ---- any line
 
 -- the letter that a space follows; 0, which is no letter, where there is none
-unfoldable pub letterOf : List ℕ → ℕ
-letterOf bs = pick (eqb (get_or bs 1 0) 32) (get_or bs 0 0) 0
+unfoldable pub letter_of : List ℕ → ℕ
+letter_of bs = pick (eqb (get_or bs 1 0) 32) (get_or bs 0 0) 0
 
 -- before a map is running only `e` can be followed
-unfoldable pub byLetter : ℕ → Bool → Call
-byLetter letter running =
+unfoldable pub by_letter : ℕ → Bool → Call
+by_letter letter running =
     pick (eqb letter 101) C.Start (pick running (pick (eqb letter 114) C.Record (pick (eqb letter 99) C.Collect C.Unread)) C.Unread)
 
 -- The call that a line makes. 'A line's newline .. may be missing at the end': where the input is over, no byte is no line.
 unfoldable pub call_of : List ℕ → Bool → Bool → Call
 call_of bs running over =
-    pick (eqb (length bs) 0) (pick over C.None C.Unread) (pick (leb (length bs) 255) (byLetter (letterOf bs) running) C.Unread)
+    pick (eqb (length bs) 0) (pick over C.None C.Unread) (pick (leb (length bs) 255) (by_letter (letter_of bs) running) C.Unread)

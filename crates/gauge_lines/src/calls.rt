@@ -4,7 +4,7 @@ ghost use Rattle.directory.specs.View.{stores};
 ghost use Rattle.exponential_slots.specs.Cells.{cells};
 ghost use Rattle.bindings.specs.Calls as bindings-calls;
 ghost use Rattle.exponential_collection.specs.Configured.{said};
-ghost use Rattle.gauge_lines.specs.Followed.{after, begunBy, answeredBy, afterStart, afterRecord};
+ghost use Rattle.gauge_lines.specs.Followed.{after, begun_by, answered_by, after_start, after_record};
 
 use crate::cells::{
     Counts, Entries, Extremes, Figures, Gauge, Order, Outcome, Sets, refused, with,
@@ -17,7 +17,7 @@ use lines::attributes::Attributes;
 
 // A gauge with a map that was just configured; the one before where it was refused.
 fn begun(g: Gauge, c: Configured, start: u64) -> Outcome
-    ensures { result ≡ begunBy g start (said c) }
+    ensures { result ≡ begun_by g start (said c) }
 {
     match c {
         Configured::Refused(no) => refused(g),
@@ -52,7 +52,7 @@ pub fn start(
 ) -> Outcome
     ensures { after result (stores sets.entry entries.exit order.entry)
         (cells figures.entry extremes.entry pos.entry neg.entry)
-        ≡ afterStart g line.now (stores sets.entry entries.entry order.entry)
+        ≡ after_start g line.now (stores sets.entry entries.entry order.entry)
         (cells figures.entry extremes.entry pos.entry neg.entry) }
 {
     let Asked::Is(w) = crate::fields::settings_in(line) else {
@@ -84,7 +84,7 @@ fn given<'a>(attrs: &'a Attributes, n: usize) -> &'a [[u32; 2]]
 
 // The gauge after a recording.
 fn answered(g: Gauge, reply: Reply) -> Outcome
-    ensures { result ≡ answeredBy g (bindings-calls.said reply.answer) reply.dir }
+    ensures { result ≡ answered_by g (bindings-calls.said reply.answer) reply.dir }
 {
     let answer = reply.answer;
     let dir = reply.dir;
@@ -109,7 +109,7 @@ pub fn record(
 ) -> Outcome
     ensures { after result (stores sets.exit entries.exit order.exit)
         (cells figures.exit extremes.exit pos.exit neg.exit)
-        ≡ afterRecord g line.now (stores sets.entry entries.entry order.entry)
+        ≡ after_record g line.now (stores sets.entry entries.entry order.entry)
         (cells figures.entry extremes.entry pos.entry neg.entry) }
 {
     let mut attrs = [[0u32; 2]; 9];

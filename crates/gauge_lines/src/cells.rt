@@ -1,7 +1,7 @@
 // The program's stores: 32 slots, for a limit of 30, and the empty and the overflow set; 160 counts of either sign a slot. The output has
 // as many places, so that no collection is refused for want of room.
 ghost use Rattle.std.specs.Prelude.{◌≡◌};
-ghost use Rattle.gauge_lines.specs.Followed.{unstarted, refusedOf, takenWith};
+ghost use Rattle.gauge_lines.specs.Followed.{unstarted, refused_of, taken_with};
 
 use clock::Clock;
 use directory::Directory;
@@ -67,7 +67,7 @@ pub fn idle() -> Gauge
 
 // The gauge after a line that was refused: as it was.
 pub fn refused(gauge: Gauge) -> Outcome
-    ensures { result ≡ refusedOf gauge }
+    ensures { result ≡ refused_of gauge }
 {
     Outcome {
         taken: false,
@@ -77,7 +77,7 @@ pub fn refused(gauge: Gauge) -> Outcome
 
 // The gauge after a call that left the directory so.
 pub fn with(g: Gauge, dir: Directory) -> Outcome
-    ensures { result ≡ takenWith g dir }
+    ensures { result ≡ taken_with g dir }
 {
     let settings = g.settings;
     let clock = g.clock;

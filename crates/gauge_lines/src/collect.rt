@@ -5,7 +5,7 @@ ghost use Rattle.directory.specs.View.{stores};
 ghost use Rattle.exponential_slots.specs.Cells.{cells};
 ghost use Rattle.listing.specs.Listed.{output};
 ghost use Rattle.clock.specs.Starts as clock-starts;
-ghost use Rattle.gauge_lines.specs.Followed.{followed, turnedBy, afterCollect};
+ghost use Rattle.gauge_lines.specs.Followed.{followed, turned_by, after_collect};
 
 use crate::cells::{Counts, Entries, Extremes, Figures, Gauge, Order, Sets, Words};
 use collecting::Answer;
@@ -40,7 +40,7 @@ struct Turn {
 }
 
 fn turned(g: Gauge, dir: Directory, time: u64) -> Turn
-    ensures { result ≡ record { gauge = turnedBy g dir time; start = (clock-starts.turned g.clock 0 time).start } }
+    ensures { result ≡ record { gauge = turned_by g dir time; start = (clock-starts.turned g.clock 0 time).start } }
 {
     let settings = g.settings;
     let held = g.clock;
@@ -79,7 +79,7 @@ pub fn collect(
     ensures { followed result text.exit (stores sets.exit entries.exit order.exit)
         (cells figures.entry extremes.entry pos.entry neg.entry)
         (output out_sets.exit out_words.exit out_pos.exit out_neg.exit)
-        ≡ afterCollect form g line.now (waiting n text.entry) (stores sets.entry entries.entry order.entry)
+        ≡ after_collect form g line.now (waiting n text.entry) (stores sets.entry entries.entry order.entry)
         (cells figures.entry extremes.entry pos.entry neg.entry)
         (output out_sets.entry out_words.entry out_pos.entry out_neg.entry) }
 {

@@ -1,6 +1,6 @@
 // What the lines say: `e SIZE SCALE LIMIT START`, `r BITS SET`, `c TIME`.
 ghost use Rattle.std.specs.Prelude.{◌≡◌, ◌≤◌};
-ghost use Rattle.gauge_lines.specs.Lines.{sizeIn, with_sign, scaleIn, settingsOf, boardOf, attributesIn, timeOf, letterOf, call_of};
+ghost use Rattle.gauge_lines.specs.Lines.{size_in, with_sign, scale_in, settings_of, board_of, attributes_in, time_of, letter_of, call_of};
 
 use lines::attributes::{Attributes, Given};
 use text::{Integer, Natural};
@@ -51,7 +51,7 @@ enum Scale {
 }
 
 fn size_of(n: Natural) -> Size
-    ensures { result ≡ sizeIn n }
+    ensures { result ≡ size_in n }
 {
     let Natural::Is(x) = n else {
         return Size::Unread;
@@ -72,7 +72,7 @@ fn with_sign(negative: bool, size: u64) -> i32
 }
 
 fn scale_of(n: Integer) -> Scale
-    ensures { result ≡ scaleIn n }
+    ensures { result ≡ scale_in n }
 {
     let Integer::Is(negative, size) = n else {
         return Scale::Unread;
@@ -85,7 +85,7 @@ fn scale_of(n: Integer) -> Scale
 
 // The settings of a line `e`.
 pub fn settings_in(line: &[u8]) -> Asked
-    ensures { result ≡ settingsOf line.now }
+    ensures { result ≡ settings_of line.now }
 {
     if text::spaces(line) != 4 {
         return Asked::Unread;
@@ -116,8 +116,8 @@ pub fn settings_in(line: &[u8]) -> Asked
 // The value and the set of a line `r`: bits have 16 digits, so both stand at their places. The set is read first, so that the bits need
 // not be kept while it is.
 pub fn board_in(line: &[u8], attrs: &mut Attributes) -> Board
-    ensures value { result ≡ boardOf line.now }
-    ensures attrs_after { attrs.new ≡ attributesIn line.now attrs.old }
+    ensures value { result ≡ board_of line.now }
+    ensures attrs_after { attrs.new ≡ attributes_in line.now attrs.old }
 {
     let n = line.len();
     if n < 20 {
@@ -137,7 +137,7 @@ pub fn board_in(line: &[u8], attrs: &mut Attributes) -> Board
 
 // The time of a line `c`.
 pub fn time_in(line: &[u8]) -> Natural
-    ensures { result ≡ timeOf line.now }
+    ensures { result ≡ time_of line.now }
 {
     if text::spaces(line) != 1 {
         return Natural::None;
@@ -147,7 +147,7 @@ pub fn time_in(line: &[u8]) -> Natural
 
 // The letter of a line, which a space follows; 0 where there is none.
 fn letter_in(line: &[u8]) -> u8
-    ensures { result ≡ letterOf line.now }
+    ensures { result ≡ letter_of line.now }
 {
     if text::byte_at(line, 1) != b' ' {
         return 0;

@@ -12,8 +12,8 @@ ghost use Rattle.lines.specs.Gathered.{waiting, ◌behind◌};
 ghost use Rattle.directory.specs.View.{stores};
 ghost use Rattle.exponential_slots.specs.Cells.{cells as cells_in};
 ghost use Rattle.listing.specs.Listed.{output};
-ghost use Rattle.printing.specs.Printed.{unreadLine};
-ghost use Rattle.gauge_lines.specs.Followed.{followed, after_call, afterLine};
+ghost use Rattle.printing.specs.Printed.{unread_line};
+ghost use Rattle.gauge_lines.specs.Followed.{followed, after_call, after_line};
 
 use cells::{Counts, Entries, Extremes, Figures, Gauge, Order, Outcome, Sets, Words};
 use collect::Collected;
@@ -23,7 +23,7 @@ use printing::Form;
 
 // What is said of a line: nothing where it was accepted. How much text there is then.
 fn said(taken: bool, number: u64, text: &mut Block, n: usize) -> usize
-    ensures { waiting result text.exit ≡ pick taken [] (unreadLine number) behind waiting n text.entry }
+    ensures { waiting result text.exit ≡ pick taken [] (unread_line number) behind waiting n text.entry }
 {
     if taken {
         return n;
@@ -117,7 +117,7 @@ fn follow(
     ensures { followed result text.exit (stores sets.exit entries.exit order.exit)
         (cells_in figures.exit extremes.exit pos.exit neg.exit)
         (output out_sets.exit out_words.exit out_pos.exit out_neg.exit)
-        ≡ afterLine form number g line.now over (waiting n text.entry) (stores sets.entry entries.entry order.entry)
+        ≡ after_line form number g line.now over (waiting n text.entry) (stores sets.entry entries.entry order.entry)
         (cells_in figures.entry extremes.entry pos.entry neg.entry)
         (output out_sets.entry out_words.entry out_pos.entry out_neg.entry) }
 {

@@ -16,7 +16,7 @@ use Rattle.rows.specs.Parts.{part}
 use Rattle.rows.specs.Groups.{groups, gathered}
 use Rattle.rows.proofs.Laws.{length_over, over-behind, take-over, length-downscaled, total-downscaled}
 use Rattle.rows.proofs.Groups.{Group, group, two-are, part-below, front_length}
-use Rattle.halving.specs.Plain.{paired, halvedOnce, plainStart, plainCounts}
+use Rattle.halving.specs.Plain.{paired, halved_once, plain_start, plain_counts}
 use Rattle.halving.specs.Inner.{plain_over}
 use Rattle.halving.proofs.Plain.{parity, once_is}
 
@@ -36,22 +36,22 @@ paired-are (suc k) r (x ∷ y ∷ ys) h l =
     let e : suc k * 2 ≡ suc (suc (k * 2)) = omega arith in
     rw (twice k r, e, add-zero y) (ap (λ (r : List ℕ). (x + y) ∷ r) (paired-are k r ys (omega (arith, h)) l))
 
-even_is : (s : ℕ) (xs : List ℕ) → s % 2 ≡ 0 → halvedOnce s xs ≡ paired xs
-unfolding halvedOnce paired pick
+even_is : (s : ℕ) (xs : List ℕ) → s % 2 ≡ 0 → halved_once s xs ≡ paired xs
+unfolding halved_once paired pick
 even_is s [] h = refl
 even_is s (x ∷ xs) h = rw (eq-eqb (s % 2) 0 h)
 
-odd_is : (s x : ℕ) (xs : List ℕ) → s % 2 ≡ 1 → halvedOnce s (x ∷ xs) ≡ x ∷ paired xs
-unfolding halvedOnce pick
+odd_is : (s x : ℕ) (xs : List ℕ) → s % 2 ≡ 1 → halved_once s (x ∷ xs) ≡ x ∷ paired xs
+unfolding halved_once pick
 odd_is s x xs h = rw (ne_eqb (s % 2) 0 (omega arith))
 
 -- a first count of an odd bin, k pairs, and what is left
 cut : (s k r n : ℕ) (xs : List ℕ) → 0 < n → n ≤ length xs → n ≡ s % 2 + (k * 2 + r) → r ≤ 1
-    → halvedOnce s (take n xs) ≡ take (s % 2) xs ++ (groups 2 k (drop (s % 2) xs) ++ take r (drop (k * 2) (drop (s % 2) xs)))
+    → halved_once s (take n xs) ≡ take (s % 2) xs ++ (groups 2 k (drop (s % 2) xs) ++ take r (drop (k * 2) (drop (s % 2) xs)))
 cut s k r n xs p h e l = go xs h (parity s)
   where
     go : (xs : List ℕ) → n ≤ length xs → (s % 2 ≡ 0) ⊎ (s % 2 ≡ 1)
-        → halvedOnce s (take n xs) ≡ take (s % 2) xs ++ (groups 2 k (drop (s % 2) xs) ++ take r (drop (k * 2) (drop (s % 2) xs)))
+        → halved_once s (take n xs) ≡ take (s % 2) xs ++ (groups 2 k (drop (s % 2) xs) ++ take r (drop (k * 2) (drop (s % 2) xs)))
     go xs h (inl q) =
         let m : n ≡ k * 2 + r = omega (arith, e, q) in
         even_is s (take n xs) q ∙ rw (q, m) (paired-are k r xs (omega (arith, h, m)) l)
@@ -84,13 +84,13 @@ half xs cs p n i len l e h r t g =
 -- ---- how it ends
 
 abbrev pub Once : (xs : List ℕ) (s n len : ℕ) (ys : List ℕ) → Type 0
-Once xs s n len ys = (len ≡ length (halvedOnce s (take n xs))) × (ys ≡ over (halvedOnce s (take n xs)) xs)
+Once xs s n len ys = (len ≡ length (halved_once s (take n xs))) × (ys ≡ over (halved_once s (take n xs)) xs)
 
 pub none_left : (xs cs : List ℕ) (s n i len : ℕ) → 0 < n → n ≤ length xs → s % 2 ≤ len → i ≡ s % 2 + (len - s % 2) * 2 → i ≡ n
     → cs ≡ gathered 2 (s % 2) (s % 2) (len - s % 2) xs → Once xs s n len cs
 none_left xs cs s n i len p h l e q g =
     let k : ℕ = len - s % 2 in
-    let c : halvedOnce s (take n xs) ≡ take (s % 2) xs ++ groups 2 k (drop (s % 2) xs) =
+    let c : halved_once s (take n xs) ≡ take (s % 2) xs ++ groups 2 k (drop (s % 2) xs) =
     cut s k 0 n xs p h (omega arith) (omega arith) ∙ rw append-nil in
     (omega (arith, ap length c, front_length 2 (s % 2) (s % 2) k xs (omega arith)), g ∙ ap (λ (r : List ℕ). over r xs) (sym c))
 
@@ -103,7 +103,7 @@ one_left xs cs s n i len h l e q g =
     let v : get_or cs i 0 ≡ get_or xs i 0 = ap (λ (r : List ℕ). get_or r i 0) g ∙ over-behind front xs i 0 (omega (arith, f)) in
     let j : s % 2 + k * 2 ≡ i = omega arith in
     let last : take 1 (drop (k * 2) (drop (s % 2) xs)) ≡ get_or xs i 0 ∷ [] = ap (take 1) (drop-drop (k * 2) (s % 2) xs ∙ ap (λ (n : ℕ). drop n xs) j ∙ drop-cons xs i 0 (omega arith)) in
-    let c : halvedOnce s (take n xs) ≡ front ++ (get_or xs i 0 ∷ []) =
+    let c : halved_once s (take n xs) ≡ front ++ (get_or xs i 0 ∷ []) =
     cut s k 1 n xs (omega arith) h (omega arith) (omega arith) ∙ rw last (sym (append_assoc (take (s % 2) xs) (groups 2 k (drop (s % 2) xs)) (get_or xs i 0 ∷ []))) in (
       omega (arith, f, ap length c, length-append front (get_or xs i 0 ∷ [])),
       rw v (ap (λ (r : List ℕ). set r len (get_or xs i 0)) g)
@@ -115,41 +115,41 @@ one_left xs cs s n i len h l e q g =
 -- ---- halved k times, and once more
 
 pub record Lowered (xs cs : List ℕ) (s n d k s' len : ℕ) : Type 0 where
-  pub start : plainStart d s ≡ plainStart (d - k) s'
+  pub start : plain_start d s ≡ plain_start (d - k) s'
   pub few : len ≤ n
   pub kept : length cs ≡ length xs
   pub sums : total (take len cs) ≡ total (take n xs)
-  pub counts : plainCounts d s (take n xs) ≡ plainCounts (d - k) s' (take len cs)
+  pub counts : plain_counts d s (take n xs) ≡ plain_counts (d - k) s' (take len cs)
   pub store : plain_over d s n xs ≡ plain_over (d - k) s' len cs
 
 pub fresh : (xs : List ℕ) (s n d : ℕ) → Lowered xs xs s n d 0 s n
 fresh xs s n d =
     record {
-      start = ap (λ (m : ℕ). plainStart m s) (sym (sub-zero d));
+      start = ap (λ (m : ℕ). plain_start m s) (sym (sub-zero d));
       few = omega arith;
       kept = refl;
       sums = refl;
-      counts = ap (λ (m : ℕ). plainCounts m s (take n xs)) (sym (sub-zero d));
+      counts = ap (λ (m : ℕ). plain_counts m s (take n xs)) (sym (sub-zero d));
       store = ap (λ (m : ℕ). plain_over m s n xs) (sym (sub-zero d));
     }
 
-step_start : (m q s : ℕ) → m ≡ suc q → plainStart m s ≡ plainStart q (s / 2)
-unfolding plainStart
+step_start : (m q s : ℕ) → m ≡ suc q → plain_start m s ≡ plain_start q (s / 2)
+unfolding plain_start
 step_start m q s e = rw e
 
-step_counts : (m q s : ℕ) (xs : List ℕ) → m ≡ suc q → plainCounts m s xs ≡ plainCounts q (s / 2) (halvedOnce s xs)
-unfolding plainCounts
+step_counts : (m q s : ℕ) (xs : List ℕ) → m ≡ suc q → plain_counts m s xs ≡ plain_counts q (s / 2) (halved_once s xs)
+unfolding plain_counts
 step_counts m q s xs e = rw e
 
 step-over : (m q s n : ℕ) (xs : List ℕ) → m ≡ suc q
-    → plain_over m s n xs ≡ plain_over q (s / 2) (length (halvedOnce s (take n xs))) (over (halvedOnce s (take n xs)) xs)
+    → plain_over m s n xs ≡ plain_over q (s / 2) (length (halved_once s (take n xs))) (over (halved_once s (take n xs)) xs)
 unfolding plain_over
 step-over m q s n xs e = rw e
 
 pub once_more : (xs cs cs' : List ℕ) (s n d k s' len len' : ℕ) → n ≤ length xs → k < d → Lowered xs cs s n d k s' len → Once cs s' len len' cs'
     → Lowered xs cs' s n d (k + 1) (s' / 2) len'
 once_more xs cs cs' s n d k s' len len' r h w o =
-    let new : List ℕ = halvedOnce s' (take len cs) in
+    let new : List ℕ = halved_once s' (take len cs) in
     let e : d - k ≡ suc (d - (k + 1)) = omega arith in
     let i : new ≡ downscaled 1 s' (take len cs) = once_is s' (take len cs) in
     let l : length new ≤ len = omega (arith, ap length i, length-downscaled 1 s' (take len cs), length-take len cs) in
@@ -159,15 +159,15 @@ once_more xs cs cs' s n d k s' len len' r h w o =
       few = omega (arith, o.0, l, w.few);
       kept = ap length o.1 ∙ length_over new cs (omega (arith, l, w.few, w.kept)) ∙ w.kept;
       sums = ap total (f ∙ i) ∙ total-downscaled 1 s' (take len cs) ∙ w.sums;
-      counts = w.counts ∙ step_counts (d - k) (d - (k + 1)) s' (take len cs) e ∙ ap (plainCounts (d - (k + 1)) (s' / 2)) (sym f);
+      counts = w.counts ∙ step_counts (d - k) (d - (k + 1)) s' (take len cs) e ∙ ap (plain_counts (d - (k + 1)) (s' / 2)) (sym f);
       store = w.store ∙ rw (o.0, o.1) (step-over (d - k) (d - (k + 1)) s' len cs e);
     }
 
 -- and there is none left
 pub all_done : (xs cs : List ℕ) (s n d s' len : ℕ) → n ≤ length xs → Lowered xs cs s n d d s' len
-    → (s' ≡ plainStart d s) × ((len ≡ length (plainCounts d s (take n xs))) × ((take len cs ≡ plainCounts d s (take n xs)) × (cs ≡ plain_over d s n xs)))
-unfolding plainStart plainCounts plain_over
+    → (s' ≡ plain_start d s) × ((len ≡ length (plain_counts d s (take n xs))) × ((take len cs ≡ plain_counts d s (take n xs)) × (cs ≡ plain_over d s n xs)))
+unfolding plain_start plain_counts plain_over
 all_done xs cs s n d s' len r w =
     let z : d - d ≡ 0 = omega arith in
-    let c : plainCounts d s (take n xs) ≡ take len cs = rw z at w.counts in
+    let c : plain_counts d s (take n xs) ≡ take len cs = rw z at w.counts in
     (sym (rw z at w.start), (sym (ap length c ∙ length-take-le len cs (omega (arith, w.few, w.kept))), (sym c, sym (rw z at w.store))))

@@ -10,15 +10,15 @@ paired (x ∷ []) = x ∷ []
 paired (x ∷ y ∷ r) = (x + y) ∷ paired r
 
 -- the counts from bin s on, one scale lower: a first count of an odd bin has no neighbour below it
-unfoldable pub halvedOnce : ℕ → List ℕ → List ℕ
-halvedOnce s [] = []
-halvedOnce s (x ∷ xs) = pick (eqb (s % 2) 0) (paired (x ∷ xs)) (x ∷ paired xs)
+unfoldable pub halved_once : ℕ → List ℕ → List ℕ
+halved_once s [] = []
+halved_once s (x ∷ xs) = pick (eqb (s % 2) 0) (paired (x ∷ xs)) (x ∷ paired xs)
 
 -- d scales lower: where the row starts then, and its counts
-unfoldable pub plainStart : ℕ → ℕ → ℕ
-plainStart zero s = s
-plainStart (suc d) s = plainStart d (s / 2)
+unfoldable pub plain_start : ℕ → ℕ → ℕ
+plain_start zero s = s
+plain_start (suc d) s = plain_start d (s / 2)
 
-unfoldable pub plainCounts : ℕ → ℕ → List ℕ → List ℕ
-plainCounts zero s xs = xs
-plainCounts (suc d) s xs = plainCounts d (s / 2) (halvedOnce s xs)
+unfoldable pub plain_counts : ℕ → ℕ → List ℕ → List ℕ
+plain_counts zero s xs = xs
+plain_counts (suc d) s xs = plain_counts d (s / 2) (halved_once s xs)

@@ -3,9 +3,9 @@
 ghost use Rattle.std.specs.Prelude.{◌≡◌, true, [], get_or};
 ghost use Rattle.directory.specs.View.{stores};
 ghost use Rattle.exponential_slots.specs.Cells.{cells};
-ghost use Rattle.value_map.specs.Calls.{held, measuredBy};
-ghost use Rattle.value_map.specs.Exponential.{exponentialStore};
-ghost use Rattle.map_words.specs.Words.{state_of, handed, handedOut};
+ghost use Rattle.value_map.specs.Calls.{held, measured_by};
+ghost use Rattle.value_map.specs.Exponential.{exponential_store};
+ghost use Rattle.map_words.specs.Words.{state_of, handed, handed_out};
 ghost use Rattle.batches.specs.Agreed.{AgreedBy};
 
 // Records a value into the series that the handle names. The state is one entry of three words. The map must agree, as it does
@@ -26,11 +26,11 @@ pub extern "C" fn agreed_measure_by(
     v: f64,
     handle: u64,
 ) -> u64
-    requires { AgreedBy (exponentialStore size top) (true, true) limit (held (state_of (get_or state.old 0 []))
+    requires { AgreedBy (exponential_store size top) (true, true) limit (held (state_of (get_or state.old 0 []))
         (stores sets entries order) (cells figures extremes pos neg)) handle }
     ensures { handed result state.exit (stores sets.exit entries.exit order.exit)
         (cells figures.exit extremes.exit pos.exit neg.exit)
-        ≡ handedOut state.old (measuredBy (exponentialStore size top) limit
+        ≡ handed_out state.old (measured_by (exponential_store size top) limit
         (held (state_of (get_or state.old 0 [])) (stores sets.entry entries.entry order.entry)
         (cells figures.entry extremes.entry pos.entry neg.entry)) v handle) }
 {

@@ -65,8 +65,8 @@ coarser d k w b i =
     low : (d k : ℕ) → d - 10 + k ≡ d + k - 10 + min (10 - d) k
     low d k = omega arith
 
-pub from-10 : (d w b : ℕ) → Between 10 0 w b → Between (10 - d) (d - 10) w (b / 2 ^ d)
-from-10 d w b i = subst (λ (n : ℕ). Between (10 - n) (n - 10) w (b / 2 ^ d)) (zero-add d) (coarser 0 d w b i)
+pub from_10 : (d w b : ℕ) → Between 10 0 w b → Between (10 - d) (d - 10) w (b / 2 ^ d)
+from_10 d w b i = subst (λ (n : ℕ). Between (10 - n) (n - 10) w (b / 2 ^ d)) (zero-add d) (coarser 0 d w b i)
 
 -- a larger size has no smaller index, and a size has one index
 pub ordered : (u t v w a b : ℕ) → v ≤ w → Between u t v a → Between u t w b → a ≤ b

@@ -9,8 +9,8 @@ use lib.Ieee.{Float}
 use lib.Ieee.Scale.{finite}
 use lib.Pow.{pow_pos}
 use Rattle.laws.specs.Pick.{pick}
-use Rattle.index.specs.Magnitude.{magnitude, isNegative}
-use Rattle.index.specs.Bins.{finest, finestBin, binAt}
+use Rattle.index.specs.Magnitude.{magnitude, is_negative}
+use Rattle.index.specs.Bins.{finest, finest_bin, bin_at}
 use Rattle.index.specs.Frexp.{Split}
 use Rattle.index.specs.Answers.{bin_of}
 use Rattle.index.specs.declared.Bin.TheVariants.{NoLevel, NotFinite, Zero, At}
@@ -27,16 +27,16 @@ pub zero : (x : Float) (level : ℕ) → level ≤ finest → finite x ≡ true 
 unfolding bin_of pick
 zero x level h f z = simp (le-leb level finest h) (simp f (simp (eq-eqb (magnitude x) 0 z) refl))
 
-pub at : (x : Float) (level : ℕ) → level ≤ finest → finite x ≡ true → (magnitude x ≡ 0 → ⊥) → bin_of x level ≡ At (isNegative x) (binAt level (magnitude x))
+pub at : (x : Float) (level : ℕ) → level ≤ finest → finite x ≡ true → (magnitude x ≡ 0 → ⊥) → bin_of x level ≡ At (is_negative x) (bin_at level (magnitude x))
 unfolding bin_of pick
 at x level h f z = simp (le-leb level finest h) (simp f (simp (ne_eqb (magnitude x) 0 z) refl))
 
 -- from the parts of a number
-pub at_split : (x : Float) (level : ℕ) (s : Bool) (m e : ℕ) → level ≤ finest → Split x s m e → bin_of x level ≡ At s (finestBin (m * 2 ^ e) / 2 ^ (finest - level))
+pub at_split : (x : Float) (level : ℕ) (s : Bool) (m e : ℕ) → level ≤ finest → Split x s m e → bin_of x level ≡ At s (finest_bin (m * 2 ^ e) / 2 ^ (finest - level))
 at_split x level s m e h p =
     at x level h p.finite (λ (z : magnitude x ≡ 0). clash (m * 2 ^ e) (sym p.value ∙ z) positive)
-    ∙ ap (λ (b : Bool). At b (binAt level (magnitude x))) p.sign
-    ∙ ap (λ (w : ℕ). At s (binAt level w)) p.value
+    ∙ ap (λ (b : Bool). At b (bin_at level (magnitude x))) p.sign
+    ∙ ap (λ (w : ℕ). At s (bin_at level w)) p.value
   where
     positive : 0 < m * 2 ^ e
     positive = one-le-mul one (pow_pos e)

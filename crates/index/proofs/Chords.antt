@@ -8,7 +8,7 @@ use native.Mathlib.Omega.{arith}
 use lib.Dec.{T, leb, ltb, leb→le, ltb→lt}
 use lib.ListN.{get_or}
 use lib.Pow.{shr_mono}
-use Rattle.laws.proofs.Differences.{le-or-lt}
+use Rattle.laws.proofs.Differences.{le_or-lt}
 use Rattle.laws.proofs.Every.{every, at, both_left, both_right}
 use Rattle.bounds.specs.Table.{rows}
 use Rattle.bounds.proofs.Rule.{entry, row, at_entry, bounded}
@@ -49,7 +49,7 @@ climb zero p t h = absurd (none p h)
     none : (p : ℕ) → p < 0 → ⊥
     none p h = omega (arith, h)
 climb (suc n) p t h =
-    elim (le-or-lt n p) [
+    elim (le_or-lt n p) [
       | inl g ↦ subst (λ (i : ℕ). start i + rise i ≤ start (i + 1)) (same p n h g) (leb→le (start n + rise n) (start (n + 1)) (both_left (leb (start n + rise n) (start (n + 1))) (climbs n) t))
       | inr g ↦ climb n p (both_right (leb (start n + rise n) (start (n + 1))) (climbs n) t) g
     ]
@@ -75,7 +75,7 @@ rises f n s x zero h g = le_of_eq (ap f (none x h))
     none : (x : ℕ) → x ≤ 0 → x ≡ 0
     none x h = omega (arith, h)
 rises f n s x (suc y) h g =
-    elim (le-or-lt x y) [
+    elim (le_or-lt x y) [
       | inl k ↦ le_trans (rises f n s x y k (under y n g)) (subst (λ (i : ℕ). f y ≤ f i) (one y) (s y g))
       | inr k ↦ le_of_eq (ap f (same x y h k))
     ]
@@ -109,7 +109,7 @@ chord-end x = below_end (start (x / 4294967296)) (rise (x / 4294967296)) (x % 42
 chord-step : (x : ℕ) → x < 274877906943 → chord x ≤ chord (x + 1)
 unfolding chord
 chord-step x h =
-    elim (le-or-lt (x % 4294967296) 4294967294) [
+    elim (le_or-lt (x % 4294967296) 4294967294) [
       | inl g ↦
           subst (λ (p : ℕ). chord x ≤ height (start p) (rise p) ((x + 1) % 4294967296)) (stays x g)
           (steeper (start (x / 4294967296)) (rise (x / 4294967296)) (x % 4294967296) ((x + 1) % 4294967296) (part x g))
@@ -176,7 +176,7 @@ entry-small k h = under (entry k) (ltb→lt (suc (entry k)) (2 ^ 53) (both_right
 -- so each bound before the guess lies below m, and each bound behind it does not
 before-guess : (m k : ℕ) → k < guessed m → k < 1024 → 2 ^ (k + 1 + 53247) < m ^ 1024
 before-guess m k g h =
-    elim (le-or-lt m (entry k)) [
+    elim (le_or-lt m (entry k)) [
       | inl l ↦ absurd (clash k (guessed m) (guessed (entry k)) g (guessed-rises m (entry k) l (entry-small k h)) (fair-low k h))
       | inr l ↦ ranked-up m k (entry k) (bounded k h) l
     ]
@@ -186,7 +186,7 @@ before-guess m k g h =
 
 behind-guess : (m k : ℕ) → m < 2 ^ 53 → guessed m < k → k < 1024 → m ^ 1024 ≤ 2 ^ (k + 53248)
 behind-guess m k e g h =
-    elim (le-or-lt m (entry k)) [
+    elim (le_or-lt m (entry k)) [
       | inl l ↦ ranked-down m k (entry k) (bounded k h) l
       | inr l ↦ absurd (clash k (guessed m) (guessed (suc (entry k))) g (fair-high k h) (guessed-rises (suc (entry k)) m l e))
     ]
@@ -206,7 +206,7 @@ above-guess m (suc k) h e l = subst (λ (i : ℕ). 2 ^ (i + 53247) < m ^ 1024) (
 
 within-guess : (m g : ℕ) → m < 2 ^ 53 → guessed m ≡ g → g < 1024 → m ^ 1024 ≤ 2 ^ (g + 1 + 53248)
 within-guess m g h e l =
-    elim (le-or-lt 1023 g) [
+    elim (le_or-lt 1023 g) [
       | inl k ↦ subst (λ (i : ℕ). m ^ 1024 ≤ 2 ^ (i + 53248)) (last g k l) (ranked-last m h)
       | inr k ↦ behind-guess m (g + 1) h (next (guessed m) g e) (under g k)
     ]

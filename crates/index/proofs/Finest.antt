@@ -9,20 +9,20 @@ use borrow.Author.Tests.{lt-ltb, le-ltb}
 use lib.Dec.{ltb, lit<}
 use lib.Pow.{pow_mono}
 use Rattle.laws.specs.Counting.{bit}
-use Rattle.laws.proofs.Powers.{pow-mul}
-use Rattle.laws.proofs.Differences.{le-or-lt}
-use Rattle.index.specs.Bins.{howMany, finestBin}
+use Rattle.laws.proofs.Powers.{pow_mul}
+use Rattle.laws.proofs.Differences.{le_or-lt}
+use Rattle.index.specs.Bins.{how_many, finest_bin}
 use Rattle.index.proofs.Buckets.{Between}
 
 -- a test that passes below k, and not from there to n, passes k times below n
-how-many : (p : ℕ → Bool) (k n : ℕ) → k ≤ n → ((b : ℕ) → b < k → p b ≡ true) → ((b : ℕ) → k ≤ b → b < n → p b ≡ false) → howMany p n ≡ k
-unfolding howMany
+how-many : (p : ℕ → Bool) (k n : ℕ) → k ≤ n → ((b : ℕ) → b < k → p b ≡ true) → ((b : ℕ) → k ≤ b → b < n → p b ≡ false) → how_many p n ≡ k
+unfolding how_many
 how-many p k zero h pass fail = omega (arith, h)
 how-many p k (suc n) h pass fail =
-    elim (le-or-lt k n) [
-      | inl g ↦ ap (λ (b : Bool). bit b + howMany p n) (fail n g (omega arith)) ∙ zero-add (howMany p n) ∙ how-many p k n g pass (λ b l u. fail b l (omega (arith, u)))
+    elim (le_or-lt k n) [
+      | inl g ↦ ap (λ (b : Bool). bit b + how_many p n) (fail n g (omega arith)) ∙ zero-add (how_many p n) ∙ how-many p k n g pass (λ b l u. fail b l (omega (arith, u)))
       | inr g ↦
-          ap (λ (b : Bool). bit b + howMany p n) (pass n g)
+          ap (λ (b : Bool). bit b + how_many p n) (pass n g)
           ∙ ap (λ (m : ℕ). 1 + m) (how-many p n n (omega arith) (λ b l. pass b (omega (arith, l, g))) (λ b l u. absurd (not-le_of_lt u l)))
           ∙ last k n h g
     ]
@@ -31,8 +31,8 @@ how-many p k (suc n) h pass fail =
     last k n h g = omega (arith, h, g)
 
 -- the finest bin is the one whose bucket holds w
-pub finest-is : (w b : ℕ) → b < 3 * 2 ^ 20 → Between 10 0 w b → finestBin w ≡ b
-unfolding finestBin
+pub finest-is : (w b : ℕ) → b < 3 * 2 ^ 20 → Between 10 0 w b → finest_bin w ≡ b
+unfolding finest_bin
 finest-is w b h i = how-many (λ c. ltb (2 ^ (c + 1)) (w ^ 1024)) b (3 * 2 ^ 20) (omega (arith, h)) pass fail
   where
     pass : (c : ℕ) → c < b → ltb (2 ^ (c + 1)) (w ^ 1024) ≡ true
@@ -51,7 +51,7 @@ finest-is w b h i = how-many (λ c. ltb (2 ^ (c + 1)) (w ^ 1024)) b (3 * 2 ^ 20)
 between : (a n : ℕ) → 1 < a → a ≤ 2 ^ (n + 1) → (b : ℕ) × (b ≤ n) × (2 ^ (b * 1) < a) × (a ≤ 2 ^ ((b + 1) * 1))
 between a zero l h = (0, omega arith, l, h)
 between a (suc n) l h =
-    elim (le-or-lt a (2 ^ (n + 1))) [
+    elim (le_or-lt a (2 ^ (n + 1))) [
       | inl g ↦ let r = between a n l g in (r.0, weak r.0 n r.1, r.2, r.3)
       | inr g ↦ (suc n, omega arith, subst (λ (k : ℕ). 2 ^ k < a) (low n) g, subst (λ (k : ℕ). a ≤ 2 ^ k) (high n) h)
     ]
@@ -71,8 +71,8 @@ pub record Held (w : ℕ) : Type 0 where
   pub most : w ≤ 2 ^ 3072
 
 -- its finest bin's bucket holds it
-pub finest-in : (w : ℕ) → Held w → Between 10 0 w (finestBin w)
-finest-in w h =
+pub finest_in : (w : ℕ) → Held w → Between 10 0 w (finest_bin w)
+finest_in w h =
     let r = between (w ^ 1024) 3145727 one top in
     let i : Between 10 0 w r.0 = record { above = r.2; within = r.3 } in
     subst (λ (b : ℕ). Between 10 0 w b) (sym (finest-is w r.0 (small r.0 r.1) i)) i
@@ -81,7 +81,7 @@ finest-in w h =
     one = lt_of_lt_of_le (lit< tt) (pow-le-pow_left h.least 1024)
 
     top : w ^ 1024 ≤ 2 ^ (3145727 + 1)
-    top = le_trans (pow-le-pow_left h.most 1024) (le_of_eq (pow-mul 2 3072 1024))
+    top = le_trans (pow-le-pow_left h.most 1024) (le_of_eq (pow_mul 2 3072 1024))
 
     small : (b : ℕ) → b ≤ 3145727 → b < 3 * 2 ^ 20
     small b h = omega (arith, h)

@@ -14,21 +14,21 @@ use lib.Ieee.Bits.{of_bits-to_bits}
 use lib.Ieee.Exact.{HasValue, odd_sign}
 use lib.Ieee.Scale.{finite}
 use Rattle.laws.proofs.Powers.{pow_lt_back}
-use Rattle.index.specs.Magnitude.{magnitude, isNegative}
+use Rattle.index.specs.Magnitude.{magnitude, is_negative}
 use Rattle.index.specs.Frexp.{Split}
 
 -- x is finite, has the sign s, and is a units of 2 ^ -2048 in size
 pub record Is (x : Float) (s : Bool) (a : ℕ) : Type 0 where
   pub finite : finite x ≡ true
-  pub sign : isNegative x ≡ s
+  pub sign : is_negative x ≡ s
   pub size : magnitude x ≡ a
 
 -- a units of 2 ^ -1074 are a * 2 ^ 974 of 2 ^ -2048
-pub in-units : (x : Float) (s : Bool) (a : ℕ) → HasValue x s a (2 ^ 1074) → Is x s (a * 2 ^ 974)
+pub in_units_lem : (x : Float) (s : Bool) (a : ℕ) → HasValue x s a (2 ^ 1074) → Is x s (a * 2 ^ 974)
 unfolding magnitude
-in-units nan s a h = absurd h
-in-units (inf t) s a h = absurd h
-in-units (fin t m e) s a h = record {
+in_units_lem nan s a h = absurd h
+in_units_lem (inf t) s a h = absurd h
+in_units_lem (fin t m e) s a h = record {
   finite = refl;
   sign = h.0;
   size =
@@ -57,9 +57,9 @@ at_top s t = go (eqb t 0) refl
     go true e = rw e
     go false e = rw e
 
-pub at-bottom : (s : Bool) (t : ℕ) → Is (of_fields binary64 s 0 t) s (t * 2 ^ 974)
+pub at_bottom : (s : Bool) (t : ℕ) → Is (of_fields binary64 s 0 t) s (t * 2 ^ 974)
 unfolding of_fields
-at-bottom s t = subst (λ (k : ℕ). Is (of_fields binary64 s 0 t) s (k * 2 ^ 974)) (one t) (in-units (odd 53 s t 0 1074) s (t * 2 ^ 0) (odd_sign 53 s t 0 1074))
+at_bottom s t = subst (λ (k : ℕ). Is (of_fields binary64 s 0 t) s (k * 2 ^ 974)) (one t) (in_units_lem (odd 53 s t 0 1074) s (t * 2 ^ 0) (odd_sign 53 s t 0 1074))
   where
     one : (t : ℕ) → t * 1 ≡ t
     one t = omega arith
@@ -68,7 +68,7 @@ between : (s : Bool) (j t : ℕ) → (suc j ≡ 2047 → ⊥) → Is (of_fields 
 unfolding of_fields
 between s j t h =
     subst (λ (k : ℕ). Is (of_fields binary64 s (suc j) t) s k) (mul_assoc (2 ^ 52 + t) (2 ^ j) (2 ^ 974) ∙ ap (λ (k : ℕ). (2 ^ 52 + t) * k) (sym (pow-add 2 j 974)))
-    (rw (ne_eqb (suc j) 2047 h) (in-units (odd 53 s (2 ^ 52 + t) j 1074) s ((2 ^ 52 + t) * 2 ^ j) (odd_sign 53 s (2 ^ 52 + t) j 1074)))
+    (rw (ne_eqb (suc j) 2047 h) (in_units_lem (odd 53 s (2 ^ 52 + t) j 1074) s ((2 ^ 52 + t) * 2 ^ j) (odd_sign 53 s (2 ^ 52 + t) j 1074)))
 
 -- ---- a subnormal's digits, shifted up until they are 53
 
@@ -107,8 +107,8 @@ normalised t p h =
     let w : 2 ^ 52 ≤ 2 ^ 64 = lit≤ tt in
     go (count_leading_zeros 64 t) (leading_top 64 t p (lt_of_lt_of_le h w))
   where
-    storesSuffice : (z j : ℕ) → z + suc j ≡ 64 → j < 52 → 12 ≤ z
-    storesSuffice z j e g = omega arith
+    stores_suffice : (z j : ℕ) → z + suc j ≡ 64 → j < 52 → 12 ≤ z
+    stores_suffice z j e g = omega arith
 
     sum : (z j : ℕ) → z + suc j ≡ 64 → j < 52 → j + (z - 11) ≡ 52
     sum z j e g = omega arith
@@ -117,7 +117,7 @@ normalised t p h =
     go z r =
         let j = r.0 in
         let g : j < 52 = pow_lt_back j 52 (lt_of_le_of_lt r.2 h) in
-        (storesSuffice z j r.1 g, shifted t j (z - 11) (sum z j r.1 g) r.2 r.3)
+        (stores_suffice z j r.1 g, shifted t j (z - 11) (sum z j r.1 g) r.2 r.3)
 
 -- ---- what the code's tests of a pattern's fields tell
 
@@ -141,7 +141,7 @@ module _ (x : Float) (F : T (fits binary64 x)) where
   not_finite h = ap finite (as_fields x F ∙ ap (λ (k : ℕ). of_fields binary64 s k t) h) ∙ at_top s t
 
   pub subnormal : f ≡ 0 → Is x s (t * 2 ^ 974)
-  subnormal h = subst (λ (k : Float). Is k s (t * 2 ^ 974)) (sym (as_fields x F ∙ ap (λ (k : ℕ). of_fields binary64 s k t) h)) (at-bottom s t)
+  subnormal h = subst (λ (k : Float). Is k s (t * 2 ^ 974)) (sym (as_fields x F ∙ ap (λ (k : ℕ). of_fields binary64 s k t) h)) (at_bottom s t)
 
   pub normal : (f ≡ 2047 → ⊥) → (f ≡ 0 → ⊥) → Is x s ((t + 2 ^ 52) * 2 ^ (f + 973))
   normal g h = subst (λ (k : Float). Is k s ((t + 2 ^ 52) * 2 ^ (f + 973))) (sym (as_fields x F)) (go f g h)
@@ -186,7 +186,7 @@ exact-at (fin t m e) s a h = (
       ∙ sym (mul_assoc (m * up e) (2 ^ 1074) (2 ^ 974))
       ∙ ap (λ (k : ℕ). k * 2 ^ 974) h.1
       ∙ mul_right_comm a (down e) (2 ^ 974)
-      ∙ ap (λ (k : ℕ). k * down e) (sym (in-units (fin t m e) s a h).size),
+      ∙ ap (λ (k : ℕ). k * down e) (sym (in_units_lem (fin t m e) s a h).size),
 )
 
 exact-fields : (s : Bool) (f t : ℕ) → finite (of_fields binary64 s f t) ≡ true → (a : ℕ) × HasValue (of_fields binary64 s f t) s a (2 ^ 1074)

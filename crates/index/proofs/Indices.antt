@@ -6,11 +6,11 @@ use native.Mathlib.Omega.{arith}
 use lib.IntN.{ℤ, pos, negsuc, ◌-ℤ◌}
 use lib.Signed.{shr_z}
 use lib.Pow.{pow-add}
-use Rattle.laws.proofs.Differences.{difference, shift-sub, sub-cancel}
+use Rattle.laws.proofs.Differences.{difference, shift-sub, sub_cancel}
 use Rattle.index.specs.DataModel.{InBucket, IsIndex}
-use Rattle.index.specs.Bins.{finest, finestBin, binAt, scale_of, index_of}
-use Rattle.index.proofs.Buckets.{Between, from-10, only as one-bin}
-use Rattle.index.proofs.Finest.{Held, finest-in}
+use Rattle.index.specs.Bins.{finest, finest_bin, bin_at, scale_of, index_of}
+use Rattle.index.proofs.Buckets.{Between, from_10, only as one-bin}
+use Rattle.index.proofs.Finest.{Held, finest_in}
 use Rattle.index.proofs.Integers.{signed, only, shifted}
 use Rattle.index.proofs.Laws.{coarser}
 
@@ -32,22 +32,22 @@ bias level u t e = sym (pow-add 2 (level + 1) t) ∙ ap (λ (k : ℕ). 2 ^ k) (s
 
 -- the inequality holds of the bin's index at every level
 pub in-bucket : (level u t w : ℕ) → level ≤ finest → level + t ≡ 10 + u → (10 - (finest - level) ≡ u) × (finest - level - 10 ≡ t) → Held w
-    → InBucket u t w (index_of level (binAt level w))
+    → InBucket u t w (index_of level (bin_at level w))
 in-bucket level u t w h e r held =
-    signed u t w (binAt level w) (2 ^ (level + 1)) (bias level u t e)
-    (subst (λ (n : ℕ). Between n t w (binAt level w)) r.0
-    (subst (λ (n : ℕ). Between (10 - (finest - level)) n w (binAt level w)) r.1 (from-10 (finest - level) w (finestBin w) (finest-in w held))))
+    signed u t w (bin_at level w) (2 ^ (level + 1)) (bias level u t e)
+    (subst (λ (n : ℕ). Between n t w (bin_at level w)) r.0
+    (subst (λ (n : ℕ). Between (10 - (finest - level)) n w (bin_at level w)) r.1 (from_10 (finest - level) w (finest_bin w) (finest_in w held))))
 
 -- the bin's index is the Data Model's
-pub is-index : (level w : ℕ) → level ≤ finest → Held w → IsIndex (scale_of level) w (index_of level (binAt level w))
+pub is-index : (level w : ℕ) → level ≤ finest → Held w → IsIndex (scale_of level) w (index_of level (bin_at level w))
 is-index level w h held =
     elim (difference level 10) [
       | inl r ↦
-          subst (λ (s : ℤ). IsIndex s w (index_of level (binAt level w))) (sym r.2)
+          subst (λ (s : ℤ). IsIndex s w (index_of level (bin_at level w))) (sym r.2)
           (in-bucket level r.0 0 w h (up r.0 level r.1) (fine r.0 level h r.1) held)
       | inr r ↦
-          subst (λ (s : ℤ). IsIndex s w (index_of level (binAt level w))) (sym r.2) (
-            index_of 10 (binAt 10 w),
+          subst (λ (s : ℤ). IsIndex s w (index_of level (bin_at level w))) (sym r.2) (
+            index_of 10 (bin_at 10 w),
             in-bucket 10 0 0 w (omega arith) refl (refl, refl) held,
             coarse (suc r.0) level r.1,
           )
@@ -59,10 +59,10 @@ is-index level w h held =
     fine : (u level : ℕ) → level ≤ 20 → level ≡ u + 10 → (10 - (20 - level) ≡ u) × (20 - level - 10 ≡ 0)
     fine u level h e = (omega (arith, h, e), omega (arith, h, e))
 
-    coarse : (t level : ℕ) → 10 ≡ t + level → index_of level (binAt level w) ≡ shr_z (index_of 10 (binAt 10 w)) (2 ^ t)
+    coarse : (t level : ℕ) → 10 ≡ t + level → index_of level (bin_at level w) ≡ shr_z (index_of 10 (bin_at 10 w)) (2 ^ t)
     coarse t level e =
-        ap (λ (b : ℕ). pos b -ℤ pos (2 ^ (level + 1))) (coarser level t w (under t level e) ∙ ap (λ (n : ℕ). binAt n w / 2 ^ t) (ten t level e))
-        ∙ sym (ap (λ (n : ℕ). shr_z (pos (binAt 10 w) -ℤ pos n) (2 ^ t)) (half t level e) ∙ shift-sub (binAt 10 w) (2 ^ (level + 1)) t)
+        ap (λ (b : ℕ). pos b -ℤ pos (2 ^ (level + 1))) (coarser level t w (under t level e) ∙ ap (λ (n : ℕ). bin_at n w / 2 ^ t) (ten t level e))
+        ∙ sym (ap (λ (n : ℕ). shr_z (pos (bin_at 10 w) -ℤ pos n) (2 ^ t)) (half t level e) ∙ shift-sub (bin_at 10 w) (2 ^ (level + 1)) t)
       where
         under : (t level : ℕ) → 10 ≡ t + level → level + t ≤ 20
         under t level e = omega (arith, e)
@@ -77,26 +77,26 @@ is-index level w h held =
             eleven t level e = omega (arith, e)
 
 -- magnitudes with one bin are in one bucket, and magnitudes in one bucket have one bin
-pub same-bucket : (level v w : ℕ) → level ≤ finest → Held w → binAt level v ≡ binAt level w → IsIndex (scale_of level) w (index_of level (binAt level v))
+pub same-bucket : (level v w : ℕ) → level ≤ finest → Held w → bin_at level v ≡ bin_at level w → IsIndex (scale_of level) w (index_of level (bin_at level v))
 same-bucket level v w h held e = subst (λ (b : ℕ). IsIndex (scale_of level) w (index_of level b)) (sym e) (is-index level w h held)
 
-pub same_bin : (level v w : ℕ) (i : ℤ) → level ≤ finest → Held v → Held w → IsIndex (scale_of level) v i → IsIndex (scale_of level) w i → binAt level v ≡ binAt level w
+pub same_bin : (level v w : ℕ) (i : ℤ) → level ≤ finest → Held v → Held w → IsIndex (scale_of level) v i → IsIndex (scale_of level) w i → bin_at level v ≡ bin_at level w
 same_bin level v w i h a b p q =
-    sub-cancel (binAt level v) (binAt level w) (2 ^ (level + 1))
-    (one_index (scale_of level) v (index_of level (binAt level v)) i (is-index level v h a) p
-    ∙ one_index (scale_of level) w i (index_of level (binAt level w)) q (is-index level w h b))
+    sub_cancel (bin_at level v) (bin_at level w) (2 ^ (level + 1))
+    (one_index (scale_of level) v (index_of level (bin_at level v)) i (is-index level v h a) p
+    ∙ one_index (scale_of level) w i (index_of level (bin_at level w)) q (is-index level w h b))
 
 -- whatever index a magnitude has at the scale of a level, its bin there is that index and the bias
-pub bin-is : (level w : ℕ) (b : ℕ) → level ≤ finest → Held w → IsIndex (scale_of level) w (index_of level b) → binAt level w ≡ b
+pub bin-is : (level w : ℕ) (b : ℕ) → level ≤ finest → Held w → IsIndex (scale_of level) w (index_of level b) → bin_at level w ≡ b
 bin-is level w b h held p =
-    sub-cancel (binAt level w) b (2 ^ (level + 1)) (one_index (scale_of level) w (index_of level (binAt level w)) (index_of level b) (is-index level w h held) p)
+    sub_cancel (bin_at level w) b (2 ^ (level + 1)) (one_index (scale_of level) w (index_of level (bin_at level w)) (index_of level b) (is-index level w h held) p)
 
 -- a bin whose bucket holds the magnitude is its bin
-pub bin-from : (level w b : ℕ) → level ≤ finest → Held w → Between (level - 10) (10 - level) w b → binAt level w ≡ b
+pub bin-from : (level w b : ℕ) → level ≤ finest → Held w → Between (level - 10) (10 - level) w b → bin_at level w ≡ b
 bin-from level w b h held i =
-    one-bin (level - 10) (10 - level) w (binAt level w) b
-    (subst (λ (n : ℕ). Between n (10 - level) w (binAt level w)) (up level h)
-    (subst (λ (n : ℕ). Between (10 - (finest - level)) n w (binAt level w)) (down level h) (from-10 (finest - level) w (finestBin w) (finest-in w held))))
+    one-bin (level - 10) (10 - level) w (bin_at level w) b
+    (subst (λ (n : ℕ). Between n (10 - level) w (bin_at level w)) (up level h)
+    (subst (λ (n : ℕ). Between (10 - (finest - level)) n w (bin_at level w)) (down level h) (from_10 (finest - level) w (finest_bin w) (finest_in w held))))
     i
   where
     up : (level : ℕ) → level ≤ 20 → 10 - (20 - level) ≡ level - 10

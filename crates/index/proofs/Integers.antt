@@ -7,7 +7,7 @@ use native.Mathlib.Omega.{arith}
 use lib.IntN.{ℤ, pos, ◌-ℤ◌, ◌*ℤ◌}
 use lib.Signed.{shr_z}
 use lib.Pow.{pow-add, pow_pos, pow_mono}
-use Rattle.laws.proofs.Powers.{pow-mul, pow_lt_back}
+use Rattle.laws.proofs.Powers.{pow_mul, pow_lt_back}
 use Rattle.laws.proofs.Differences.{difference, times-sub, suc-sub, same-sub, as-sub, shift-sub}
 use Rattle.index.specs.DataModel.{Above, Within, InBucket}
 use Rattle.index.proofs.Buckets.{Between}
@@ -79,7 +79,7 @@ signed u t w b B e i =
     (le_trans (le_of_eq (ap (λ (k : ℕ). k * w ^ (2 ^ u)) (sym is) ∙ mul_comm (unit u) (w ^ (2 ^ u)))) (mul-le-mul_right (unit u) i.within))
   where
     is : unit u ≡ 2 ^ (B * 2 ^ t)
-    is = pow-mul 2 2048 (2 ^ u) ∙ ap (λ (k : ℕ). 2 ^ k) (sym e)
+    is = pow_mul 2 2048 (2 ^ u) ∙ ap (λ (k : ℕ). 2 ^ k) (sym e)
 
     whole : 0 < unit u
     whole = subst (λ (k : ℕ). 0 < k) (sym is) (pow_pos (B * 2 ^ t))

@@ -11,21 +11,21 @@ use lib.Ieee.Scale.{finite}
 use lib.Pow.{pow-add, pow_pos, pow_mono, shr-shr, shr_mono, high, ones_lt}
 use Rattle.laws.specs.Counting.{bit}
 use Rattle.index.specs.Magnitude.{magnitude}
-use Rattle.index.specs.Bins.{finest, howMany, finestBin, binAt, lowestBin, endBin}
+use Rattle.index.specs.Bins.{finest, how_many, finest_bin, bin_at, lowest_bin, end_bin}
 use Rattle.index.proofs.Finest.{Held}
 use Rattle.index.proofs.Ranks.{finest-from, ranked-last}
 use Rattle.index.proofs.Floats.{splits}
 
 -- ---- levels: coarser is division, and a larger magnitude has no smaller bin
 
-pub coarser : (level k w : ℕ) → level + k ≤ finest → binAt level w ≡ binAt (level + k) w / 2 ^ k
-coarser level k w h = ap (λ (n : ℕ). finestBin w / 2 ^ n) (steps level k h) ∙ sym (shr-shr (finestBin w) (finest - (level + k)) k)
+pub coarser : (level k w : ℕ) → level + k ≤ finest → bin_at level w ≡ bin_at (level + k) w / 2 ^ k
+coarser level k w h = ap (λ (n : ℕ). finest_bin w / 2 ^ n) (steps level k h) ∙ sym (shr-shr (finest_bin w) (finest - (level + k)) k)
   where
     steps : (level k : ℕ) → level + k ≤ 20 → 20 - level ≡ 20 - (level + k) + k
     steps level k h = omega (arith, h)
 
-more : (p q : ℕ → Bool) → ((b : ℕ) → p b ≡ true → q b ≡ true) → (n : ℕ) → howMany p n ≤ howMany q n
-unfolding howMany
+more : (p q : ℕ → Bool) → ((b : ℕ) → p b ≡ true → q b ≡ true) → (n : ℕ) → how_many p n ≤ how_many q n
+unfolding how_many
 more p q f zero = omega arith
 more p q f (suc n) = add-le-add (one (p n) (q n) (f n)) (more p q f n)
   where
@@ -33,13 +33,13 @@ more p q f (suc n) = add-le-add (one (p n) (q n) (f n)) (more p q f n)
     one true b g = subst (λ (c : Bool). 1 ≤ bit c) (sym (g refl)) (omega arith)
     one false b g = omega arith
 
-pub larger-finest : (v w : ℕ) → v ≤ w → finestBin v ≤ finestBin w
-unfolding finestBin
+pub larger-finest : (v w : ℕ) → v ≤ w → finest_bin v ≤ finest_bin w
+unfolding finest_bin
 larger-finest v w h =
     more (λ b. ltb (2 ^ (b + 1)) (v ^ 1024)) (λ b. ltb (2 ^ (b + 1)) (w ^ 1024))
     (λ b t. lt-ltb (2 ^ (b + 1)) (w ^ 1024) (lt_of_lt_of_le (ltb-true (2 ^ (b + 1)) (v ^ 1024) t) (pow-le-pow_left h 1024))) (3 * 2 ^ 20)
 
-pub larger : (level v w : ℕ) → v ≤ w → binAt level v ≤ binAt level w
+pub larger : (level v w : ℕ) → v ≤ w → bin_at level v ≤ bin_at level w
 larger level v w h = shr_mono (finest - level) (larger-finest v w h)
 
 -- ---- the ends: the bins of 2 ^ -1074 and of the greatest f64
@@ -59,10 +59,10 @@ pub greatest-is : magnitude (of_bits binary64 0x7fef_ffff_ffff_ffff) ≡ greates
 unfolding magnitude of_bits of_fields
 greatest-is = refl
 
-pub lowest-is : (level : ℕ) → binAt level least ≡ lowestBin level
+pub lowest-is : (level : ℕ) → bin_at level least ≡ lowest_bin level
 lowest-is level = ap (λ (b : ℕ). b / 2 ^ (finest - level)) (finest-from (2 ^ 52) 922 0 (lit≤ tt) (record { small = lit≤ tt; above = lit< tt; within = lit≤ tt }))
 
-pub highest-is : (level : ℕ) → level ≤ finest → suc (binAt level greatest) ≡ endBin level
+pub highest-is : (level : ℕ) → level ≤ finest → suc (bin_at level greatest) ≡ end_bin level
 highest-is level h =
     ap (λ (b : ℕ). suc (b / 2 ^ (finest - level))) (finest-from (2 ^ 53 - 1) 3019 1024 (lit≤ tt) (record { small = lit≤ tt; above = lit< tt; within = ranked-last (2 ^ 53 - 1) (lit< tt) }))
     ∙ last level h
@@ -112,7 +112,7 @@ held x F f z =
     record { least = lt_of_lt_of_le (lit< tt) r.0; most = le_trans r.1 (lit≤ tt) }
 
 pub bin-range : (level : ℕ) (x : Float) → level ≤ finest → T (fits binary64 x) → finite x ≡ true → (magnitude x ≡ 0 → ⊥)
-    → (lowestBin level ≤ binAt level (magnitude x)) × (binAt level (magnitude x) < endBin level)
+    → (lowest_bin level ≤ bin_at level (magnitude x)) × (bin_at level (magnitude x) < end_bin level)
 bin-range level x h F f z =
     let r = in-range x F f z in (
       le_trans (le_of_eq (sym (lowest-is level))) (larger level least (magnitude x) r.0),

@@ -5,10 +5,10 @@ use native.Mathlib.Nat.{pow-le-pow_left, lt_of_lt_of_le, lt_of_le_of_lt, le_tran
 use native.Mathlib.Omega.{arith}
 use lib.Dec.{lit<}
 use lib.Pow.{pow-add, pow_pos}
-use Rattle.laws.proofs.Powers.{mul-pow, pow-mul}
+use Rattle.laws.proofs.Powers.{mul_pow, pow_mul}
 use Rattle.bounds.specs.Bounds.{BoundAt}
 use Rattle.index.specs.Ranked.{Ranked}
-use Rattle.index.specs.Bins.{finestBin}
+use Rattle.index.specs.Bins.{finest_bin}
 use Rattle.index.proofs.Buckets.{Between}
 use Rattle.index.proofs.Finest.{finest-is}
 
@@ -20,7 +20,7 @@ ranked-first m h = lt_of_lt_of_le below (pow-le-pow_left h 1024)
     below = lit< tt
 
 pub ranked-last : (m : ℕ) → m < 2 ^ 53 → m ^ 1024 ≤ 2 ^ (1024 + 53248)
-ranked-last m h = le_trans (pow-le-pow_left (le_of_lt h) 1024) (le_of_eq (pow-mul 2 53 1024))
+ranked-last m h = le_trans (pow-le-pow_left (le_of_lt h) 1024) (le_of_eq (pow_mul 2 53 1024))
 
 -- a bound that is below m, and one that is not
 pub ranked-up : (m k b : ℕ) → BoundAt k b → b < m → 2 ^ (k + 1 + 53247) < m ^ 1024
@@ -34,7 +34,7 @@ ranked-down m k b i h = le_trans (pow-le-pow_left h 1024) i.reaches
 
 -- the finest bin of m * 2 ^ e, from the rank of m
 raised : (m e : ℕ) → (m * 2 ^ e) ^ 1024 ≡ m ^ 1024 * 2 ^ (e * 1024)
-raised m e = mul-pow m (2 ^ e) 1024 ∙ ap (λ (k : ℕ). m ^ 1024 * k) (pow-mul 2 e 1024)
+raised m e = mul_pow m (2 ^ e) 1024 ∙ ap (λ (k : ℕ). m ^ 1024 * k) (pow_mul 2 e 1024)
 
 pub bucket : (m e r : ℕ) → Ranked m r → Between 10 0 (m * 2 ^ e) ((e + 52) * 1024 + r - 1)
 bucket m e r i =
@@ -49,5 +49,5 @@ bucket m e r i =
     high : (e r : ℕ) → ((e + 52) * 1024 + r - 1 + 1) * 1 ≡ r + 53248 + e * 1024
     high e r = omega arith
 
-pub finest-from : (m e r : ℕ) → e ≤ 3019 → Ranked m r → finestBin (m * 2 ^ e) ≡ (e + 52) * 1024 + r - 1
+pub finest-from : (m e r : ℕ) → e ≤ 3019 → Ranked m r → finest_bin (m * 2 ^ e) ≡ (e + 52) * 1024 + r - 1
 finest-from m e r h i = finest-is (m * 2 ^ e) ((e + 52) * 1024 + r - 1) (omega (arith, h, i.small)) (bucket m e r i)

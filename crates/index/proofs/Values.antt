@@ -10,12 +10,12 @@ use lib.Signed.{lt_z}
 use lib.Ieee.{Float, binary64, fits}
 use lib.Ieee.Scale.{finite}
 use Rattle.laws.specs.Pick.{pick}
-use Rattle.index.specs.Magnitude.{magnitude, isNegative}
+use Rattle.index.specs.Magnitude.{magnitude, is_negative}
 use Rattle.index.specs.DataModel.{IsIndex}
-use Rattle.index.specs.Bins.{finest, binAt, index_of, scale_of}
+use Rattle.index.specs.Bins.{finest, bin_at, index_of, scale_of}
 use Rattle.index.specs.Answers.{bin_of}
-use Rattle.index.specs.Signed.{levelAnswer, atLevel, valueIndex}
-use Rattle.index.specs.Inner.{binIndex, signedAt}
+use Rattle.index.specs.Signed.{level_answer, at_level, value_index}
+use Rattle.index.specs.Inner.{bin_index, signed_at}
 use Rattle.index.specs.declared.signed.Natural.{Natural}
 use Rattle.index.specs.declared.signed.Natural.TheVariants as N
 use Rattle.index.specs.declared.signed.Index.TheVariants as X
@@ -34,8 +34,8 @@ Found N.OutOfRange = ⊥
 Found (N.Is n) = Unit
 
 -- every level that is answered is a level
-level-le : (scale : ℤ) → number (levelAnswer scale) ≤ finest
-unfolding levelAnswer pick
+level-le : (scale : ℤ) → number (level_answer scale) ≤ finest
+unfolding level_answer pick
 level-le scale = go (lt_z scale (negsuc 9)) (lt_z (pos 10) scale) refl refl
   where
     small : (z : ℤ) → lt_z z (negsuc 9) ≡ false → lt_z (pos 10) z ≡ false → nat_abs (z +ℤ pos 10) ≤ 20
@@ -56,31 +56,31 @@ level-le scale = go (lt_z scale (negsuc 9)) (lt_z (pos 10) scale) refl refl
     go false true h g = omega arith
     go false false h g = small scale h g
 
-pub no-scale : (x : Float) (scale : ℤ) → levelAnswer scale ≡ N.OutOfRange → valueIndex x scale ≡ X.NoScale
-unfolding valueIndex
-no-scale x scale e = ap (atLevel x) e
+pub no-scale : (x : Float) (scale : ℤ) → level_answer scale ≡ N.OutOfRange → value_index x scale ≡ X.NoScale
+unfolding value_index
+no-scale x scale e = ap (at_level x) e
 
 -- the bin's answer, with the index in place of the bin, is the index's answer
-pub from-bin : (x : Float) (scale : ℤ) (level : ℕ) → T (fits binary64 x) → levelAnswer scale ≡ N.Is level → valueIndex x scale ≡ binIndex level (bin_of x level)
-unfolding valueIndex pick
-from-bin x scale level F e = ap (atLevel x) e ∙ go (finite x) (eqb (magnitude x) 0) refl refl
+pub from-bin : (x : Float) (scale : ℤ) (level : ℕ) → T (fits binary64 x) → level_answer scale ≡ N.Is level → value_index x scale ≡ bin_index level (bin_of x level)
+unfolding value_index pick
+from-bin x scale level F e = ap (at_level x) e ∙ go (finite x) (eqb (magnitude x) 0) refl refl
   where
     h : level ≤ finest
     h = subst (λ (a : Natural). number a ≤ finest) e (level-le scale)
 
     go : (f z : Bool) → finite x ≡ f → eqb (magnitude x) 0 ≡ z
-        → pick f (pick z X.Zero (X.At (isNegative x) (index_of level (binAt level (magnitude x))))) X.NotFinite ≡ binIndex level (bin_of x level)
-    go false z p q = ap (binIndex level) (sym (not_finite x level h p))
-    go true true p q = ap (binIndex level) (sym (zero x level h p (eqb-true (magnitude x) 0 q)))
+        → pick f (pick z X.Zero (X.At (is_negative x) (index_of level (bin_at level (magnitude x))))) X.NotFinite ≡ bin_index level (bin_of x level)
+    go false z p q = ap (bin_index level) (sym (not_finite x level h p))
+    go true true p q = ap (bin_index level) (sym (zero x level h p (eqb-true (magnitude x) 0 q)))
     go true false p q =
         let n = eqb-false (magnitude x) 0 q in
-        ap (signedAt (isNegative x)) (sym (index_is level (binAt level (magnitude x)) h (bin-range level x h F p n).1))
-        ∙ ap (binIndex level) (sym (at x level h p n))
+        ap (signed_at (is_negative x)) (sym (index_is level (bin_at level (magnitude x)) h (bin-range level x h F p n).1))
+        ∙ ap (bin_index level) (sym (at x level h p n))
 
 -- ---- the index answered is the Data Model's
 
-level-scale : (scale : ℤ) (level : ℕ) → levelAnswer scale ≡ N.Is level → scale_of level ≡ scale
-unfolding levelAnswer pick
+level-scale : (scale : ℤ) (level : ℕ) → level_answer scale ≡ N.Is level → scale_of level ≡ scale
+unfolding level_answer pick
 level-scale scale level e = go (lt_z scale (negsuc 9)) (lt_z (pos 10) scale) refl refl e
   where
     back : (z : ℤ) → lt_z z (negsuc 9) ≡ false → scale_of (nat_abs (z +ℤ pos 10)) ≡ z
@@ -104,12 +104,12 @@ level-scale scale level e = go (lt_z scale (negsuc 9)) (lt_z (pos 10) scale) ref
     go false true h g e = absent e
     go false false h g e = ap (λ (n : ℕ). scale_of n) (sym (ap number e)) ∙ back scale h
 
-pub value-is : (x : Float) (scale : ℤ) (level : ℕ) → T (fits binary64 x) → finite x ≡ true → (magnitude x ≡ 0 → ⊥) → levelAnswer scale ≡ N.Is level
-    → (valueIndex x scale ≡ X.At (isNegative x) (index_of level (binAt level (magnitude x)))) × IsIndex scale (magnitude x) (index_of level (binAt level (magnitude x)))
+pub value-is : (x : Float) (scale : ℤ) (level : ℕ) → T (fits binary64 x) → finite x ≡ true → (magnitude x ≡ 0 → ⊥) → level_answer scale ≡ N.Is level
+    → (value_index x scale ≡ X.At (is_negative x) (index_of level (bin_at level (magnitude x)))) × IsIndex scale (magnitude x) (index_of level (bin_at level (magnitude x)))
 value-is x scale level F f z e =
     let h : level ≤ finest = subst (λ (a : Natural). number a ≤ finest) e (level-le scale) in (
       from-bin x scale level F e
-          ∙ ap (binIndex level) (at x level h f z)
-          ∙ ap (signedAt (isNegative x)) (index_is level (binAt level (magnitude x)) h (bin-range level x h F f z).1),
-      subst (λ (s : ℤ). IsIndex s (magnitude x) (index_of level (binAt level (magnitude x)))) (level-scale scale level e) (is-index level (magnitude x) h (held x F f z)),
+          ∙ ap (bin_index level) (at x level h f z)
+          ∙ ap (signed_at (is_negative x)) (index_is level (bin_at level (magnitude x)) h (bin-range level x h F f z).1),
+      subst (λ (s : ℤ). IsIndex s (magnitude x) (index_of level (bin_at level (magnitude x)))) (level-scale scale level e) (is-index level (magnitude x) h (held x F f z)),
     )

@@ -5,7 +5,7 @@ use native.Mathlib.Nat.{lt_of_lt_of_le, lt_of_le_of_lt, le_trans, le_of_eq, le_o
 use native.Mathlib.Omega.{arith}
 use lib.Dec.{lit<, lit≤}
 use lib.Pow.{pow-add, pow_pos, pow_mono, pow-lt}
-use Rattle.index.specs.Bins.{binAt}
+use Rattle.index.specs.Bins.{bin_at}
 use Rattle.index.proofs.Buckets.{Between}
 use Rattle.index.proofs.Finest.{Held}
 use Rattle.index.proofs.Indices.{bin-from}
@@ -31,7 +31,7 @@ plain w b h g =
       within = le_trans (le_of_eq (pow-one w)) (subst (λ (n : ℕ). w ≤ 2 ^ n) (sym (mul-one (b + 1))) g);
     }
 
-pub whole-power : (e : ℕ) → e ≤ 3019 → binAt 10 (2 ^ 52 * 2 ^ e) ≡ e + 51
+pub whole-power : (e : ℕ) → e ≤ 3019 → bin_at 10 (2 ^ 52 * 2 ^ e) ≡ e + 51
 whole-power e h =
     bin-from 10 (2 ^ 52 * 2 ^ e) (e + 51) (lit≤ tt) (held (2 ^ 52) e (lit≤ tt) (lit< tt) h)
     (plain (2 ^ 52 * 2 ^ e) (e + 51) (lt_of_lt_of_le (pow-lt (less e)) (le_of_eq (sym (power e)))) (le_of_eq (power e ∙ ap (λ (n : ℕ). 2 ^ n) (same e))))
@@ -42,7 +42,7 @@ whole-power e h =
     same : (e : ℕ) → e + 52 ≡ e + 51 + 1
     same e = omega arith
 
-pub whole-other : (m e : ℕ) → 2 ^ 52 < m → m < 2 ^ 53 → e ≤ 3019 → binAt 10 (m * 2 ^ e) ≡ e + 52
+pub whole-other : (m e : ℕ) → 2 ^ 52 < m → m < 2 ^ 53 → e ≤ 3019 → bin_at 10 (m * 2 ^ e) ≡ e + 52
 whole-other m e l h g =
     bin-from 10 (m * 2 ^ e) (e + 52) (lit≤ tt) (held m e (le_of_lt l) h g)
     (plain (m * 2 ^ e) (e + 52) (lt_of_le_of_lt (le_of_eq (sym (power e))) (mul-lt-mul_of_pos_right l (pow_pos e)))

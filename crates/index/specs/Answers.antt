@@ -2,8 +2,8 @@
 use Rattle.std.specs.Prelude.{ℕ, leb, eqb, Float}
 use Rattle.std.specs.Float.Ieee.Scale.{finite}
 use Rattle.laws.specs.Pick.{pick}
-use Rattle.index.specs.Magnitude.{magnitude, isNegative}
-use Rattle.index.specs.Bins.{finest, binAt}
+use Rattle.index.specs.Magnitude.{magnitude, is_negative}
+use Rattle.index.specs.Bins.{finest, bin_at}
 use Rattle.index.specs.declared.Bin.{Bin}
 use Rattle.index.specs.declared.Bin.TheVariants.{NoLevel, NotFinite, Zero, At}
 
@@ -14,6 +14,6 @@ bin_of x level =
     (pick (finite x)
     (pick (eqb (magnitude x) 0)
     Zero
-    (At (isNegative x) (binAt level (magnitude x))))
+    (At (is_negative x) (bin_at level (magnitude x))))
     NotFinite)
     NoLevel

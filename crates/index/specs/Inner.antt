@@ -8,22 +8,22 @@ use Rattle.index.specs.declared.signed.Integer.{Integer}
 use Rattle.index.specs.declared.signed.Integer.TheVariants as I
 use Rattle.index.specs.declared.signed.Index.{Index}
 use Rattle.index.specs.declared.signed.Index.TheVariants as X
-use Rattle.index.specs.Signed.{indexAnswer}
+use Rattle.index.specs.Signed.{index_answer}
 
 -- the bin alone, 0 where there is none
-abbrev pub binOrZero : Bin → ℕ
-binOrZero NoLevel = 0
-binOrZero NotFinite = 0
-binOrZero Zero = 0
-binOrZero (At negative bin) = bin
+abbrev pub bin_or_zero : Bin → ℕ
+bin_or_zero NoLevel = 0
+bin_or_zero NotFinite = 0
+bin_or_zero Zero = 0
+bin_or_zero (At negative bin) = bin
 
 -- a bin's answer with the index in place of the bin
-abbrev pub signedAt : Bool → Integer → Index
-signedAt negative I.OutOfRange = X.NoScale
-signedAt negative (I.Is index) = X.At negative index
+abbrev pub signed_at : Bool → Integer → Index
+signed_at negative I.OutOfRange = X.NoScale
+signed_at negative (I.Is index) = X.At negative index
 
-abbrev pub binIndex : ℕ → Bin → Index
-binIndex level B.NoLevel = X.NoScale
-binIndex level B.NotFinite = X.NotFinite
-binIndex level B.Zero = X.Zero
-binIndex level (B.At negative bin) = signedAt negative (indexAnswer level bin)
+abbrev pub bin_index : ℕ → Bin → Index
+bin_index level B.NoLevel = X.NoScale
+bin_index level B.NotFinite = X.NotFinite
+bin_index level B.Zero = X.Zero
+bin_index level (B.At negative bin) = signed_at negative (index_answer level bin)

@@ -10,7 +10,7 @@ magnitude (inf s) = 0
 magnitude (fin s m e) = m * up e * 2 ^ 2048 / down e
 
 -- the sign bit
-abbrev pub isNegative : Float → Bool
-isNegative nan = false
-isNegative (inf s) = s
-isNegative (fin s m e) = s
+abbrev pub is_negative : Float → Bool
+is_negative nan = false
+is_negative (inf s) = s
+is_negative (fin s m e) = s

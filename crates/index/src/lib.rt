@@ -6,8 +6,8 @@ pub mod signed;
 
 ghost use Rattle.std.specs.Prelude.{◌≡◌, ◌+◌, ◌*◌, ◌^◌, ◌≤◌, ◌<◌};
 ghost use Rattle.index.specs.Answers.{bin_of};
-ghost use Rattle.index.specs.Inner.{binOrZero};
-ghost use Rattle.index.specs.Bins.{finest, finestBin, binAt, lowestBin, endBin};
+ghost use Rattle.index.specs.Inner.{bin_or_zero};
+ghost use Rattle.index.specs.Bins.{finest, finest_bin, bin_at, lowest_bin, end_bin};
 ghost use Rattle.index.specs.Frexp.{PartsOf};
 
 // The greatest level, that of scale 10.
@@ -80,7 +80,7 @@ fn wide(x: u32) -> u64
 // The bin at the finest level of mantissa * 2^exponent units of 2^-2048.
 fn finest_bin(mantissa: u64, exponent: u64) -> u32
     requires { (2 ^ 52 ≤ mantissa) × (mantissa < 2 ^ 53) × (922 ≤ exponent) × (exponent ≤ 3019) }
-    ensures { result ≡ finestBin (mantissa * 2 ^ exponent) }
+    ensures { result ≡ finest_bin (mantissa * 2 ^ exponent) }
 {
     ((exponent + 52) * 1024 + rank::rank(mantissa) - 1) as u32
 }
@@ -88,7 +88,7 @@ fn finest_bin(mantissa: u64, exponent: u64) -> u32
 // The bin at scale 0, which the exponent tells: a power of two is the upper bound of the bucket below.
 fn whole_bin(mantissa: u64, exponent: u64) -> u32
     requires { (2 ^ 52 ≤ mantissa) × (mantissa < 2 ^ 53) × (922 ≤ exponent) × (exponent ≤ 3019) }
-    ensures { result ≡ binAt 10 (mantissa * 2 ^ exponent) }
+    ensures { result ≡ bin_at 10 (mantissa * 2 ^ exponent) }
 {
     if mantissa == 0x10_0000_0000_0000 {
         return (exponent + 51) as u32;
@@ -99,7 +99,7 @@ fn whole_bin(mantissa: u64, exponent: u64) -> u32
 // The bin at a level: the table is read for scales above 0 only.
 fn bin_from(mantissa: u64, exponent: u64, level: u32) -> u32
     requires { (2 ^ 52 ≤ mantissa) × (mantissa < 2 ^ 53) × (922 ≤ exponent) × (exponent ≤ 3019) × (level ≤ finest) }
-    ensures { result ≡ binAt level (mantissa * 2 ^ exponent) }
+    ensures { result ≡ bin_at level (mantissa * 2 ^ exponent) }
 {
     if level <= 10 {
         return whole_bin(mantissa, exponent) >> (10 - level);
@@ -135,7 +135,7 @@ const LOWEST: u32 = 997375;
 // The bins of a level run from this one ..
 pub fn lowest_bin(level: u32) -> u32
     requires { level ≤ finest }
-    ensures { result ≡ lowestBin level }
+    ensures { result ≡ lowest_bin level }
 {
     LOWEST >> (FINEST - level)
 }
@@ -143,7 +143,7 @@ pub fn lowest_bin(level: u32) -> u32
 // .. to the one before this.
 pub fn end_bin(level: u32) -> u64
     requires { level ≤ finest }
-    ensures { result ≡ endBin level }
+    ensures { result ≡ end_bin level }
 {
     3u64 << level
 }
@@ -151,7 +151,7 @@ pub fn end_bin(level: u32) -> u64
 // For programs in other languages: the bin of v at a level, 0 where there is none (no f64 has the bin 0 at a level above 0).
 #[unsafe(no_mangle)]
 pub extern "C" fn index_bin(v: f64, level: u32) -> u32
-    ensures { result ≡ binOrZero (bin_of v level) }
+    ensures { result ≡ bin_or_zero (bin_of v level) }
 {
     let found = get_bin(v, level);
     match found {

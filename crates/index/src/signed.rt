@@ -1,7 +1,7 @@
 // Scales and signed bucket indices, as callers and points hold them, beside levels and bins.
 ghost use Rattle.std.specs.Prelude.{◌≡◌};
-ghost use Rattle.index.specs.Signed.{levelAnswer, scaleAnswer, indexAnswer, valueIndex};
-ghost use Rattle.index.specs.Inner.{binIndex, signedAt};
+ghost use Rattle.index.specs.Signed.{level_answer, scale_answer, index_answer, value_index};
+ghost use Rattle.index.specs.Inner.{bin_index, signed_at};
 
 // A whole number, or none where what was asked for is out of range.
 #[derive(Drop)]
@@ -27,7 +27,7 @@ pub enum Index {
 
 // The level of a scale, OutOfRange outside -10 to 10.
 pub fn level_of(scale: i32) -> Natural
-    ensures { result ≡ levelAnswer scale }
+    ensures { result ≡ level_answer scale }
 {
     if scale < -10 {
         return Natural::OutOfRange;
@@ -40,7 +40,7 @@ pub fn level_of(scale: i32) -> Natural
 
 // The scale of a level, OutOfRange above the finest.
 pub fn scale_of(level: u32) -> Integer
-    ensures { result ≡ scaleAnswer level }
+    ensures { result ≡ scale_answer level }
 {
     if crate::FINEST < level {
         return Integer::OutOfRange;
@@ -50,7 +50,7 @@ pub fn scale_of(level: u32) -> Integer
 
 // The index of a bin at a level, OutOfRange where the level has no such bin.
 pub fn index_of(level: u32, bin: u32) -> Integer
-    ensures { result ≡ indexAnswer level bin }
+    ensures { result ≡ index_answer level bin }
 {
     if crate::FINEST < level {
         return Integer::OutOfRange;
@@ -63,7 +63,7 @@ pub fn index_of(level: u32, bin: u32) -> Integer
 
 // The sign of v and its index at a scale, the Data Model's; NoScale outside -10 to 10, NotFinite, Zero.
 pub fn get_index(v: f64, scale: i32) -> Index
-    ensures { result ≡ valueIndex v scale }
+    ensures { result ≡ value_index v scale }
 {
     let found = level_of(scale);
     match found {
@@ -73,7 +73,7 @@ pub fn get_index(v: f64, scale: i32) -> Index
 }
 
 fn signed_bin(level: u32, bin: crate::Bin) -> Index
-    ensures { result ≡ binIndex level bin }
+    ensures { result ≡ bin_index level bin }
 {
     match bin {
         crate::Bin::NoLevel => Index::NoScale,
@@ -84,7 +84,7 @@ fn signed_bin(level: u32, bin: crate::Bin) -> Index
 }
 
 fn signed_at(negative: bool, found: Integer) -> Index
-    ensures { result ≡ signedAt negative found }
+    ensures { result ≡ signed_at negative found }
 {
     match found {
         Integer::OutOfRange => Index::NoScale,

@@ -5,12 +5,12 @@ use lib.Ieee.{Float, nan, inf, fin, binary64, up, down, round, of_int}
 use lib.Ieee.Fits.{down_pos}
 use lib.Ieee.Exact.{HasValue, round_exact}
 use Rattle.index.specs.Magnitude.{magnitude}
-use Rattle.index.proofs.Floats.{in-units}
-use Rattle.integers.specs.Answers.{nearestOf}
+use Rattle.index.proofs.Floats.{in_units_lem}
+use Rattle.integers.specs.Answers.{nearest_of}
 use Rattle.integers.proofs.Rounded.{Kept, rounded}
 
 size_of : (s : Bool) (n : ℕ) (x : Float) (c : Kept s n x) → magnitude x ≡ c.q * 2 ^ c.k * 2 ^ 974
-size_of s n x c = (in-units x s (c.q * 2 ^ c.k) c.value).size
+size_of s n x c = (in_units_lem x s (c.q * 2 ^ c.k) c.value).size
 
 -- ---- ONLY 0 GIVES A ZERO
 some : (a b c : ℕ) → 0 < a → 0 < b → 0 < c → a * b * c ≡ 0 → ⊥
@@ -32,7 +32,7 @@ not-zero s n x p c e =
     two : (a : ℕ) → 0 < a → a * 2 ^ 974 ≡ 0 → ⊥
     two a h k = none (a * 2 ^ 974) (mul-pos h (pow_pos 974)) k
 
-pub near-zero : (z : ℤ) → mag z < 2 ^ 63 → magnitude (nearestOf z) ≡ 0 → z ≡ pos 0
+pub near-zero : (z : ℤ) → mag z < 2 ^ 63 → magnitude (nearest_of z) ≡ 0 → z ≡ pos 0
 unfolding of_int
 near-zero (pos zero) h e = refl
 near-zero (pos (suc n)) h e =
@@ -56,7 +56,7 @@ small-value s n h =
     (subst (λ (k : ℕ). n * 2 ^ 1074 < 2 ^ k) (add_comm 1024 1074) (lt_of_lt_of_le (shl_lt 53 1074 h) (pow_mono {i = 53 + 1074} {j = 1024 + 1074} (lit≤ tt))))
     (sym (mul-one (n * 2 ^ 1074)))
 
-pub near-exact : (z : ℤ) → nat_abs z < 2 ^ 53 → magnitude (nearestOf z) ≡ nat_abs z * 2 ^ 2048
+pub near-exact : (z : ℤ) → nat_abs z < 2 ^ 53 → magnitude (nearest_of z) ≡ nat_abs z * 2 ^ 2048
 unfolding of_int
 near-exact (pos n) h = whole-size (round binary64 false n 1) false n (small-value false n h)
 near-exact (negsuc n) h = whole-size (round binary64 true (suc n) 1) true (suc n) (small-value true (suc n) h)

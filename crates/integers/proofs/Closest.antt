@@ -7,7 +7,7 @@ use lib.Dec.{is_le, compare_is_eq, nleb→lt, eqb_refl}
 use lib.Arith.{lt_of_le-ne}
 use lib.Ieee.{nearest}
 use lib.Ieee.Nearest.{closest}
-use Rattle.laws.proofs.Differences.{le-or-lt}
+use Rattle.laws.proofs.Differences.{le_or-lt}
 
 -- ---- what `compare` says
 abbrev Cmp : Ordering → ℕ → ℕ → Type 0
@@ -90,7 +90,7 @@ close a u t h = go (compare (a % u * 2) u) (cmp (a % u * 2) u)
   where
     sides : (t * u ≤ a / u * u) ⊎ (a / u * u + u ≤ t * u)
     sides =
-        elim (le-or-lt t (a / u)) [
+        elim (le_or-lt t (a / u)) [
           | inl k ↦ inl (mul-le-mul_right u k)
           | inr k ↦ inr (le_trans (le_of_eq (sym (more (a / u) u))) (mul-le-mul_right u k))
         ]

@@ -2,8 +2,8 @@
 use Rattle.std.proofs.Common.{◌≡◌, ◌^◌, List, [], ◌∷◌, map, ℤ, pos, negsuc, ◌*ℤ◌, refl}
 use lib.Ieee.{of_int}
 use Rattle.index.specs.Magnitude.{magnitude}
-use Rattle.integers.specs.Answers.{nearestOf}
-use Rattle.integers.specs.Nearest.{inUnits}
+use Rattle.integers.specs.Answers.{nearest_of}
+use Rattle.integers.specs.Nearest.{in_units}
 
 -- an i64 and the nearest f64, which is a whole number here; `negsuc n` is -(n + 1)
 abbrev table : List (ℤ × ℤ)
@@ -26,6 +26,6 @@ table =
     ∷ (negsuc 9223372036854775807, negsuc 9223372036854775807)
     ∷ []
 
-examples : map (λ r. inUnits (nearestOf r.0)) table ≡ map (λ r. r.1 *ℤ pos (2 ^ 2048)) table
+examples : map (λ r. in_units (nearest_of r.0)) table ≡ map (λ r. r.1 *ℤ pos (2 ^ 2048)) table
 unfolding of_int magnitude
 examples = refl

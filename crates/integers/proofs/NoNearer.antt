@@ -7,14 +7,14 @@ use lib.Ieee.{Float, binary64, round, of_int, fits}
 use lib.Ieee.Scale.{finite}
 use lib.Ieee.Fits.{round-fits}
 use lib.Ieee.Nearest.{closest}
-use Rattle.laws.proofs.Differences.{le-or-lt}
-use Rattle.index.specs.Magnitude.{magnitude, isNegative}
+use Rattle.laws.proofs.Differences.{le_or-lt}
+use Rattle.index.specs.Magnitude.{magnitude, is_negative}
 use Rattle.index.specs.Frexp.{Split}
-use Rattle.index.proofs.Floats.{in-units, splits}
+use Rattle.index.proofs.Floats.{in_units_lem, splits}
 use Rattle.floats.specs.Starts.{FiniteF64}
 use Rattle.floats.specs.Grid.{signed}
-use Rattle.integers.specs.Answers.{nearestOf, in_range}
-use Rattle.integers.specs.Nearest.{inUnits, EvenMantissa, Nearest}
+use Rattle.integers.specs.Answers.{nearest_of, in_range}
+use Rattle.integers.specs.Nearest.{in_units, EvenMantissa, Nearest}
 use Rattle.integers.proofs.Range.{sub_cases}
 use Rattle.integers.proofs.Closest.{apart, Close, close}
 use Rattle.integers.proofs.Rounded.{Kept, rounded}
@@ -107,7 +107,7 @@ module _ (n : ℕ) (q k : ℕ) (is : q ≡ closest (n * 2 ^ 2048) (2 ^ (k + 974)
       elim kept [
         | inl h ↦ itself A (q * U) (m * 2 ^ e) q m (split q k 974 ∙ ap (λ (u : ℕ). u * 2 ^ 974) h ∙ sym (split n 1074 974))
         | inr h ↦
-            elim (le-or-lt (k + 974) e) [
+            elim (le_or-lt (k + 974) e) [
               | inl g ↦ subst (λ (P : ℕ). Near A (q * U) P q m) (sym (coarse m e g)) (multiple m (e - (k + 974)) (h.1, h.2))
               | inr g ↦
                   beneath A (q * U) (m * 2 ^ e) (2 ^ 52 * U) q m
@@ -145,9 +145,9 @@ digits y v = go (eqb (magnitude y) 0) refl
         (r.1, r.2, s.value, s.most)
 
 -- q * 2 ^ e with q even, of 53 digits or 2 ^ 53: an even mantissa
-even-mantissa : (x : Float) (q e : ℕ) → magnitude x ≡ q * 2 ^ e → Evened q → EvenMantissa x
-even-mantissa x q e h v =
-    elim (le-or-lt (2 ^ 53) q) [
+even_mantissa : (x : Float) (q e : ℕ) → magnitude x ≡ q * 2 ^ e → Evened q → EvenMantissa x
+even_mantissa x q e h v =
+    elim (le_or-lt (2 ^ 53) q) [
       | inl g ↦ record {
         m = 2 ^ 52;
         e = 1 + e;
@@ -177,18 +177,18 @@ module _ (s : Bool) (n : ℕ) (x : Float) (c : Kept s n x) (F : T (fits binary64
 
   -- how far a float lies from n with the sign s
   abbrev far : Float → ℕ
-  far y = nat_abs (inUnits y -ℤ signed s B)
+  far y = nat_abs (in_units y -ℤ signed s B)
 
   abbrev top : ℕ
   top = c.q * 2 ^ (c.k + 974)
 
   size : magnitude x ≡ top
-  size = (in-units x s (c.q * 2 ^ c.k) c.value).size ∙ mul_assoc c.q (2 ^ c.k) (2 ^ 974) ∙ ap (λ (u : ℕ). c.q * u) (sym (pow-add 2 c.k 974))
+  size = (in_units_lem x s (c.q * 2 ^ c.k) c.value).size ∙ mul_assoc c.q (2 ^ c.k) (2 ^ 974) ∙ ap (λ (u : ℕ). c.q * u) (sym (pow-add 2 c.k 974))
 
-  sign : isNegative x ≡ s
-  sign = (in-units x s (c.q * 2 ^ c.k) c.value).sign
+  sign : is_negative x ≡ s
+  sign = (in_units_lem x s (c.q * 2 ^ c.k) c.value).sign
 
-  units-are : inUnits x ≡ signed s top
+  units-are : in_units x ≡ signed s top
   units-are = ap (λ (b : Bool). signed b (magnitude x)) sign ∙ ap (signed s) size
 
   x-far : far x ≡ apart top B
@@ -196,9 +196,9 @@ module _ (s : Bool) (n : ℕ) (x : Float) (c : Kept s n x) (F : T (fits binary64
 
   -- against a float of either sign, of the digits m
   against : (y : Float) (m e : ℕ) → magnitude y ≡ m * 2 ^ e → m < 2 ^ 53
-      → (far x ≤ far y) × (far y ≡ far x → (inUnits y ≡ inUnits x) ⊎ (Evened c.q × (m % 2 ≡ 1)))
+      → (far x ≤ far y) × (far y ≡ far x → (in_units y ≡ in_units x) ⊎ (Evened c.q × (m % 2 ≡ 1)))
   against y m e is small =
-      elim (same_sign s (isNegative y)) [
+      elim (same_sign s (is_negative y)) [
         | inl g ↦
             let w = near n c.q c.k c.is c.kept m e small in
             let f : far y ≡ apart (m * 2 ^ e) B = ap (λ (b : Bool). nat_abs (signed b (magnitude y) -ℤ signed s B)) g ∙ like s (magnitude y) B ∙ ap (λ (a : ℕ). apart a B) is in (
@@ -210,36 +210,36 @@ module _ (s : Bool) (n : ℕ) (x : Float) (c : Kept s n x) (F : T (fits binary64
             )
         | inr g ↦
             let w = near n c.q c.k c.is c.kept 0 0 (lit< tt) in
-            let f : far y ≡ magnitude y + B = unlike s (isNegative y) (magnitude y) B g in (
+            let f : far y ≡ magnitude y + B = unlike s (is_negative y) (magnitude y) B g in (
               le_trans (le_of_eq x-far) (le_trans (across (apart top B) (apart 0 B) (magnitude y) B w.least (nothing B)) (le_of_eq (sym f))),
               λ h. let both = closing (magnitude y) B (apart top B) (apart 0 B) (sym f ∙ h ∙ x-far) w.least (nothing B) in
                   elim (w.tie (nothing B ∙ sym both.1)) [
-                    | inl d ↦ inl (ap (signed (isNegative y)) both.0 ∙ none-signed s (isNegative y) ∙ ap (signed s) d ∙ sym units-are)
+                    | inl d ↦ inl (ap (signed (is_negative y)) both.0 ∙ none-signed s (is_negative y) ∙ ap (signed s) d ∙ sym units-are)
                     | inr d ↦ absurd (not-both 0 refl d.1)
                   ],
             )
       ]
 
   is_finite : FiniteF64 x
-  is_finite = record { known = subst T (sym (in-units x s (c.q * 2 ^ c.k) c.value).finite) tt; fits = F }
+  is_finite = record { known = subst T (sym (in_units_lem x s (c.q * 2 ^ c.k) c.value).finite) tt; fits = F }
 
   no-nearer : (y : Float) → FiniteF64 y → far x ≤ far y
   no-nearer y v = let d = digits y v in (against y d.0 d.1 d.2 d.3).0
 
-  as-near : (y : Float) → FiniteF64 y → far y ≡ far x → (inUnits y ≡ inUnits x → ⊥) → EvenMantissa x
+  as-near : (y : Float) → FiniteF64 y → far y ≡ far x → (in_units y ≡ in_units x → ⊥) → EvenMantissa x
   as-near y v h g =
       let d = digits y v in
-      elim ((against y d.0 d.1 d.2 d.3).1 h) [ inl e ↦ absurd (g e) | inr e ↦ even-mantissa x c.q (c.k + 974) size e.0 ]
+      elim ((against y d.0 d.1 d.2 d.3).1 h) [ inl e ↦ absurd (g e) | inr e ↦ even_mantissa x c.q (c.k + 974) size e.0 ]
 
   -- of two as near one mantissa is odd
-  no_other : (y : Float) → FiniteF64 y → isNegative y ≡ s → far y ≤ far x → (far x ≡ far y → (inUnits x ≡ inUnits y → ⊥) → EvenMantissa y) → y ≡ x
+  no_other : (y : Float) → FiniteF64 y → is_negative y ≡ s → far y ≤ far x → (far x ≡ far y → (in_units x ≡ in_units y → ⊥) → EvenMantissa y) → y ≡ x
   no_other y v g l t = go (eqb (magnitude y) (magnitude x)) refl
     where
       level : far y ≡ far x
       level = le_antisymm l (no-nearer y v)
 
-      apart_from : (magnitude y ≡ magnitude x → ⊥) → inUnits y ≡ inUnits x → ⊥
-      apart_from h e = h (sym (size-signed (isNegative y) (magnitude y)) ∙ ap nat_abs e ∙ size-signed (isNegative x) (magnitude x))
+      apart_from : (magnitude y ≡ magnitude x → ⊥) → in_units y ≡ in_units x → ⊥
+      apart_from h e = h (sym (size-signed (is_negative y) (magnitude y)) ∙ ap nat_abs e ∙ size-signed (is_negative x) (magnitude x))
 
       go : (b : Bool) → eqb (magnitude y) (magnitude x) ≡ b → y ≡ x
       go true h = same-f64 y x v is_finite (g ∙ sym sign) (eqb-true (magnitude y) (magnitude x) h)
@@ -249,7 +249,7 @@ module _ (s : Bool) (n : ℕ) (x : Float) (c : Kept s n x) (F : T (fits binary64
           elim ((against y m.m m.e m.value m.most).1 level) [ inl e ↦ absurd (differ e) | inr e ↦ absurd (not-both m.m m.even e.1) ]
 
 -- for every i64, and more
-pub nearest-is : (z : ℤ) → mag z < 2 ^ 63 → Nearest z (nearestOf z)
+pub nearest-is : (z : ℤ) → mag z < 2 ^ 63 → Nearest z (nearest_of z)
 unfolding of_int
 nearest-is (pos n) h =
     let x = round binary64 false n 1 in
@@ -262,7 +262,7 @@ nearest-is (negsuc n) h =
     let F = round-fits binary64 true (suc n) 1 in
     record { finite = is_finite true (suc n) x c F; sign = sign true (suc n) x c F; least = no-nearer true (suc n) x c F; tie = as-near true (suc n) x c F }
 
-only-nearest : (z : ℤ) (x : Float) → mag z < 2 ^ 63 → Nearest z x → x ≡ nearestOf z
+only-nearest : (z : ℤ) (x : Float) → mag z < 2 ^ 63 → Nearest z x → x ≡ nearest_of z
 unfolding of_int
 only-nearest (pos n) x h N =
     let r = round binary64 false n 1 in

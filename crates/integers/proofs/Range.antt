@@ -6,7 +6,7 @@ use lib.Signed.{mag, lt_z, non_neg}
 use mir.ValLaws.{to_z-of_z, to_z_pos}
 use Rattle.laws.specs.Pick.{pick}
 use Rattle.laws.proofs.Bools.{pick_true, pick-false}
-use Rattle.integers.specs.Answers.{between, in_range, sum_of, bitsOf, of_bits}
+use Rattle.integers.specs.Answers.{between, in_range, sum_of, bits_of, of_bits}
 use Rattle.integers.specs.declared.Total.TheVariants.{Outside, Is}
 
 -- a difference of whole numbers, either way
@@ -197,11 +197,11 @@ module _ (a v : ℤ) (f : SFits w64 a) (g : SFits w64 v) where
   high-told : (t : Bool) → lt_z (to_z w64 (of_z w64 v)) (pos 0) ≡ false → HighTest t → not (in_range (a +ℤ v)) ≡ t
   high-told t h k = sym (high_is (zero_held false h)) ∙ sym (ap (λ (z : ℤ). lt_z z a) (high_held (zero_held false h))) ∙ sym (ap (lt_z (to_z w64 (of_z w64 (pos 9223372036854775807 -ℤ to_z w64 (of_z w64 v))))) (held a f)) ∙ k
 
-  pub low-need : lt_z (to_z w64 (of_z w64 v)) (pos 0) ≡ true → SFits w64 (negsuc 9223372036854775807 -ℤ to_z w64 (of_z w64 v))
-  low-need h = subst (λ (z : ℤ). SFits w64 (negsuc 9223372036854775807 -ℤ z)) (sym (held v g)) (record { sfits = low-sub (zero_held true h) })
+  pub low_need : lt_z (to_z w64 (of_z w64 v)) (pos 0) ≡ true → SFits w64 (negsuc 9223372036854775807 -ℤ to_z w64 (of_z w64 v))
+  low_need h = subst (λ (z : ℤ). SFits w64 (negsuc 9223372036854775807 -ℤ z)) (sym (held v g)) (record { sfits = low-sub (zero_held true h) })
 
-  pub high-need : (t : ℕ) → t < 2 ^ 63 → lt_z (to_z w64 (of_z w64 v)) (pos 0) ≡ false → SFits w64 (pos t -ℤ to_z w64 (of_z w64 v))
-  high-need t l h = subst (λ (z : ℤ). SFits w64 (pos t -ℤ z)) (sym (held v g)) (record { sfits = high-sub t l (zero_held false h) })
+  pub high_need : (t : ℕ) → t < 2 ^ 63 → lt_z (to_z w64 (of_z w64 v)) (pos 0) ≡ false → SFits w64 (pos t -ℤ to_z w64 (of_z w64 v))
+  high_need t l h = subst (λ (z : ℤ). SFits w64 (pos t -ℤ z)) (sym (held v g)) (record { sfits = high-sub t l (zero_held false h) })
 
   outside : not (in_range (a +ℤ v)) ≡ true → Outside ≡ sum_of a v
   outside h = sum-outside a v (unlike (in_range (a +ℤ v)) h)
@@ -233,14 +233,14 @@ module _ (a v : ℤ) (f : SFits w64 a) (g : SFits w64 v) where
   pub high-inside : lt_z (to_z w64 (of_z w64 v)) (pos 0) ≡ false → HighTest false → Is (to_z w64 (of_z w64 (to_z w64 (of_z w64 a) +ℤ to_z w64 (of_z w64 v)))) ≡ sum_of a v
   high-inside h k = inside (high-told false h k)
 
-  in-middle : mag a < 2 ^ 62 → mag v < 2 ^ 62 → not (in_range (a +ℤ v)) ≡ false
-  in-middle p q = ap not (lt-ltb (mag (a +ℤ v)) (2 ^ 63) (middle-sum (2 ^ 62) a v p q))
+  in_middle : mag a < 2 ^ 62 → mag v < 2 ^ 62 → not (in_range (a +ℤ v)) ≡ false
+  in_middle p q = ap not (lt-ltb (mag (a +ℤ v)) (2 ^ 63) (middle-sum (2 ^ 62) a v p q))
 
   pub middle-fine : mag a < 2 ^ 62 → mag v < 2 ^ 62 → SFits w64 (to_z w64 (of_z w64 a) +ℤ to_z w64 (of_z w64 v))
-  middle-fine p q = fine (in-middle p q)
+  middle-fine p q = fine (in_middle p q)
 
   pub middle-inside : mag a < 2 ^ 62 → mag v < 2 ^ 62 → Is (to_z w64 (of_z w64 (to_z w64 (of_z w64 a) +ℤ to_z w64 (of_z w64 v)))) ≡ sum_of a v
-  middle-inside p q = inside (in-middle p q)
+  middle-inside p q = inside (in_middle p q)
 
 -- ---- bits
 minus_one : (b : ℕ) → negsuc 0 -ℤ negsuc b ≡ pos b
@@ -283,8 +283,8 @@ module _ (x : ℤ) (f : SFits w64 x) (h : lt_z (to_z w64 (of_z w64 x)) (pos 0) �
       full : (b : ℕ) → b < 2 ^ 63 → b ≤ 18446744073709551615
       full b h = omega (arith, h)
 
-  pub turned-bits : 18446744073709551615 - nat_abs (to_z w64 (of_z w64 (negsuc 0 -ℤ to_z w64 (of_z w64 x)))) ≡ bitsOf x
-  turned-bits = ap (λ (z : ℤ). 18446744073709551615 - nat_abs z) turned-is ∙ same r.0 ∙ sym (ap bitsOf r.1)
+  pub turned-bits : 18446744073709551615 - nat_abs (to_z w64 (of_z w64 (negsuc 0 -ℤ to_z w64 (of_z w64 x)))) ≡ bits_of x
+  turned-bits = ap (λ (z : ℤ). 18446744073709551615 - nat_abs z) turned-is ∙ same r.0 ∙ sym (ap bits_of r.1)
     where
       same : (b : ℕ) → 18446744073709551615 - b ≡ 2 ^ 64 - suc b
       same b = omega arith
@@ -302,8 +302,8 @@ module _ (x : ℤ) (f : SFits w64 x) (h : lt_z (to_z w64 (of_z w64 x)) (pos 0) �
       full : (b : ℕ) → b < 2 ^ 63 → b < 2 ^ 64
       full b h = omega (arith, h)
 
-  pub plain-bits : nat_abs (to_z w64 (of_z w64 x)) ≡ bitsOf x
-  plain-bits = ap nat_abs (held x f ∙ p.1) ∙ sym (ap bitsOf p.1)
+  pub plain-bits : nat_abs (to_z w64 (of_z w64 x)) ≡ bits_of x
+  plain-bits = ap nat_abs (held x f ∙ p.1) ∙ sym (ap bits_of p.1)
 
 -- back: a whole number below 2 ^ 63 taken off -1
 back_is : (n : ℕ) → negsuc 0 -ℤ pos n ≡ negsuc n
@@ -340,7 +340,7 @@ unfolding of_bits
 low_bits b h = to_z_pos w64 b h ∙ sym (pick_true (ltb b (2 ^ 63)) (pos b) (negsuc (2 ^ 64 - suc b)) (lt-ltb b (2 ^ 63) h))
 
 -- there and back: the bits say the number, and every word is some number's
-pub of-bits-of : (z : ℤ) → mag z < 2 ^ 63 → of_bits (bitsOf z) ≡ z
+pub of-bits-of : (z : ℤ) → mag z < 2 ^ 63 → of_bits (bits_of z) ≡ z
 unfolding of_bits
 of-bits-of (pos n) h = pick_true (ltb n (2 ^ 63)) (pos n) (negsuc (2 ^ 64 - suc n)) (lt-ltb n (2 ^ 63) h)
 of-bits-of (negsuc n) h =

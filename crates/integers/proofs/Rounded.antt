@@ -6,7 +6,7 @@ use lib.Ieee.Digits.{size_reaches}
 use lib.Ieee.Fits.{round_is, nearest-le, kept-lt}
 use lib.Ieee.Exact.{HasValue, units_val}
 use lib.Ieee.Nearest.{closest, closest_same, nearest-ge}
-use Rattle.laws.proofs.Differences.{le-or-lt}
+use Rattle.laws.proofs.Differences.{le_or-lt}
 use Rattle.laws.proofs.Powers.{pow_lt_back}
 use Rattle.integers.proofs.Closest.{apart, close}
 
@@ -100,7 +100,7 @@ module _ (n : ℕ) (small : n < 2 ^ 64) where
       next k h = omega (arith, h)
 
   cases : (q * 2 ^ k ≡ N) ⊎ (2 ^ (52 + k) ≤ N)
-  cases = elim (le-or-lt (size (N / 1)) 53) [ inl h ↦ inl (exact h) | inr h ↦ inr (long h) ]
+  cases = elim (le_or-lt (size (N / 1)) 53) [ inl h ↦ inl (exact h) | inr h ↦ inr (long h) ]
 
   pub rounded : (s : Bool) → Kept s n (round binary64 s n 1)
   rounded s = record {

@@ -3,7 +3,7 @@ use Rattle.std.proofs.Common.{◌≡◌, ℕ, ◌+◌, ◌-◌, ◌*◌, ◌/◌
 use native.Mathlib.Nat.{div-div-eq-div-mul, mul-div-mul_right}
 use lib.Ieee.{Float, nan, inf, fin, binary64, up, down, size, to_bits, of_bits}
 use lib.Ieee.Bits.{of_bits-to_bits}
-use Rattle.index.specs.Magnitude.{magnitude, isNegative}
+use Rattle.index.specs.Magnitude.{magnitude, is_negative}
 use Rattle.floats.specs.Starts.{FiniteF64}
 
 -- the magnitude in units of 2 ^ -1074
@@ -18,18 +18,18 @@ coarser s m e =
 abbrev bits : Bool → ℕ → ℕ
 bits s n = cond s (2 ^ 63) 0 + (size n - 53) * 2 ^ 52 + n / 2 ^ (size n - 53)
 
-bits_are : (x : Float) → FiniteF64 x → to_bits binary64 x ≡ bits (isNegative x) (magnitude x / 2 ^ 974)
+bits_are : (x : Float) → FiniteF64 x → to_bits binary64 x ≡ bits (is_negative x) (magnitude x / 2 ^ 974)
 unfolding to_bits
 bits_are nan v = absurd v.known
 bits_are (inf s) v = absurd v.known
 bits_are (fin s m e) v = ap (bits s) (coarser s m e)
 
-pub same-f64 : (x y : Float) → FiniteF64 x → FiniteF64 y → isNegative x ≡ isNegative y → magnitude x ≡ magnitude y → x ≡ y
+pub same-f64 : (x y : Float) → FiniteF64 x → FiniteF64 y → is_negative x ≡ is_negative y → magnitude x ≡ magnitude y → x ≡ y
 same-f64 x y v w s m =
     sym (of_bits-to_bits binary64 x v.fits)
     ∙ ap (of_bits binary64)
     (bits_are x v
     ∙ ap (λ (b : Bool). bits b (magnitude x / 2 ^ 974)) s
-    ∙ ap (λ (a : ℕ). bits (isNegative y) (a / 2 ^ 974)) m
+    ∙ ap (λ (a : ℕ). bits (is_negative y) (a / 2 ^ 974)) m
     ∙ sym (bits_are y w))
     ∙ of_bits-to_bits binary64 y w.fits

@@ -11,15 +11,15 @@ use Rattle.integers.specs.declared.Total.{Total}
 use Rattle.integers.specs.declared.Total.TheVariants.{Outside, Is}
 
 -- document 02, L6: "the f64 nearest to the whole number, ties to the even mantissa" (the laws `nearest-is`, `one-nearest`)
-abbrev pub nearestOf : ℤ → Float
-nearestOf z = of_int binary64 z
+abbrev pub nearest_of : ℤ → Float
+nearest_of z = of_int binary64 z
 
 -- low <= z < end
 abbrev pub between : ℤ → ℤ → ℤ → Bool
 between low z end = pick (int_lt z low) false (int_lt z end)
 
-abbrev pub lesserOf : ℤ → ℤ → ℤ
-lesserOf a v = pick (int_lt v a) v a
+abbrev pub lesser_of : ℤ → ℤ → ℤ
+lesser_of a v = pick (int_lt v a) v a
 
 abbrev pub greater_of : ℤ → ℤ → ℤ
 greater_of a v = pick (int_lt a v) v a
@@ -33,36 +33,36 @@ unfoldable pub sum_of : ℤ → ℤ → Total
 sum_of a v = pick (in_range (a +ℤ v)) (Is (a +ℤ v)) Outside
 
 -- "(with the sum off none is kept)"
-abbrev pub keptSum : Bool → ℤ → ℤ → Total
-keptSum on held v = pick on (sum_of held v) (Is held)
+abbrev pub kept_sum : Bool → ℤ → ℤ → Total
+kept_sum on held v = pick on (sum_of held v) (Is held)
 
 -- 16 comes last
-abbrev pub lastNumber : ℕ → ℕ
-lastNumber n = pick (n == 0) 16 n
+abbrev pub last_number : ℕ → ℕ
+last_number n = pick (n == 0) 16 n
 
 -- two's complement
-abbrev pub bitsOf : ℤ → ℕ
-bitsOf (pos n) = n
-bitsOf (negsuc n) = 2 ^ 64 - suc n
+abbrev pub bits_of : ℤ → ℕ
+bits_of (pos n) = n
+bits_of (negsuc n) = 2 ^ 64 - suc n
 
 unfoldable pub of_bits : ℕ → ℤ
 of_bits b = pick (nat_lt b (2 ^ 63)) (pos b) (negsuc (2 ^ 64 - suc b))
 
 -- ---- extremes, as those of f64 (crate floats)
 
-abbrev pub shownOf : Bool → ℕ → ℤ → Extreme
-shownOf switch count x = pick (shows switch count) (Value x) None
+abbrev pub shown_of : Bool → ℕ → ℤ → Extreme
+shown_of switch count x = pick (shows switch count) (Value x) None
 
-abbrev pub isShown : Extreme → Bool
-isShown None = false
-isShown (Value x) = true
+abbrev pub is_shown : Extreme → Bool
+is_shown None = false
+is_shown (Value x) = true
 
-abbrev pub smallerOf : Extreme → Extreme → Extreme
-smallerOf None b = b
-smallerOf (Value x) None = Value x
-smallerOf (Value x) (Value y) = Value (lesserOf x y)
+abbrev pub smaller_of : Extreme → Extreme → Extreme
+smaller_of None b = b
+smaller_of (Value x) None = Value x
+smaller_of (Value x) (Value y) = Value (lesser_of x y)
 
-abbrev pub largerOf : Extreme → Extreme → Extreme
-largerOf None b = b
-largerOf (Value x) None = Value x
-largerOf (Value x) (Value y) = Value (greater_of x y)
+abbrev pub larger_of : Extreme → Extreme → Extreme
+larger_of None b = b
+larger_of (Value x) None = Value x
+larger_of (Value x) (Value y) = Value (greater_of x y)

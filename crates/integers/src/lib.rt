@@ -1,7 +1,7 @@
 // i64 as histograms use it: the nearest f64, the lesser and the greater of two, a sum that may leave the range, bits.
 ghost use Rattle.std.specs.Prelude.{◌≡◌, ◌^◌, ◌<◌, true};
 ghost use Rattle.std.specs.Int.Signed.{mag};
-ghost use Rattle.integers.specs.Answers.{between, nearestOf, lesserOf, greater_of, sum_of, keptSum, lastNumber, bitsOf, of_bits, shownOf, smallerOf, largerOf};
+ghost use Rattle.integers.specs.Answers.{between, nearest_of, lesser_of, greater_of, sum_of, kept_sum, last_number, bits_of, of_bits, shown_of, smaller_of, larger_of};
 
 // Whether low <= n < end.
 fn is_between(low: i64, n: i64, end: i64) -> bool
@@ -15,7 +15,7 @@ fn is_between(low: i64, n: i64, end: i64) -> bool
 
 // The f64 nearest to n, ties to the even mantissa (the law `nearest-is`). Below 2^53 each is an f64, and one instruction makes it.
 pub fn nearest(n: i64) -> f64
-    ensures { result ≡ nearestOf n }
+    ensures { result ≡ nearest_of n }
 {
     if is_between(-9007199254740992, n, 9007199254740992) {
         return n as f64;
@@ -25,7 +25,7 @@ pub fn nearest(n: i64) -> f64
 
 // The lesser of two.
 pub fn lesser(a: i64, v: i64) -> i64
-    ensures { result ≡ lesserOf a v }
+    ensures { result ≡ lesser_of a v }
 {
     if v < a { v } else { a }
 }
@@ -82,7 +82,7 @@ pub fn sum(a: i64, v: i64) -> Total
 
 // The sum with a value more; with the sum off none is kept.
 pub fn kept_sum(on: bool, held: i64, v: i64) -> Total
-    ensures { result ≡ keptSum on held v }
+    ensures { result ≡ kept_sum on held v }
 {
     if on {
         return sum(held, v);
@@ -92,7 +92,7 @@ pub fn kept_sum(on: bool, held: i64, v: i64) -> Total
 
 // The number of a value or a merge that the sum can't take: 16, unless another comes first.
 pub fn last_number(no: u8) -> u8
-    ensures { result ≡ lastNumber no }
+    ensures { result ≡ last_number no }
 {
     if no != 0 {
         return no;
@@ -102,7 +102,7 @@ pub fn last_number(no: u8) -> u8
 
 // The 64 bits of x, two's complement.
 pub fn bits_of(x: i64) -> u64
-    ensures { result ≡ bitsOf x }
+    ensures { result ≡ bits_of x }
 {
     if x < 0 {
         return 0xFFFF_FFFF_FFFF_FFFF - ((-1 - x) as u64);
@@ -129,7 +129,7 @@ pub enum Extreme {
 
 // An extreme as it is handed out: the number held, or none with the switch off or nothing counted.
 pub fn shown(switch: bool, count: u64, x: i64) -> Extreme
-    ensures { result ≡ shownOf switch count x }
+    ensures { result ≡ shown_of switch count x }
 {
     if floats::shows_extremes(switch, count) {
         return Extreme::Value(x);
@@ -139,7 +139,7 @@ pub fn shown(switch: bool, count: u64, x: i64) -> Extreme
 
 // The smaller of two minima; one that is there wins over none.
 pub fn smaller(low: Extreme, other: Extreme) -> Extreme
-    ensures { result ≡ smallerOf low other }
+    ensures { result ≡ smaller_of low other }
 {
     match low {
         Extreme::None => other,
@@ -152,7 +152,7 @@ pub fn smaller(low: Extreme, other: Extreme) -> Extreme
 
 // The larger of two maxima; one that is there wins over none.
 pub fn larger(high: Extreme, other: Extreme) -> Extreme
-    ensures { result ≡ largerOf high other }
+    ensures { result ≡ larger_of high other }
 {
     match high {
         Extreme::None => other,

@@ -10,36 +10,36 @@ use lib.ListN.{length, length-append}
 use lib.Ieee.{Float}
 use borrow.Author.Tests.{le-leb}
 use Rattle.laws.specs.Pick.{pick}
-use Rattle.laws.specs.Counting.{mostCount}
+use Rattle.laws.specs.Counting.{most_count}
 use Rattle.laws.proofs.Bools.{and_intro}
 use Rattle.laws.proofs.Cases.{and-true}
-use Rattle.index.specs.Bins.{finest, lowestBin}
-use Rattle.points.specs.Counts.{Kind, exponential, explicit, sizePasses, Settings, kindCounts, count_of, sizeAsked, mergeNumber}
+use Rattle.index.specs.Bins.{finest, lowest_bin}
+use Rattle.points.specs.Counts.{Kind, exponential, explicit, size_passes, Settings, kind_counts, count_of, size_asked, merge_number}
 use Rattle.points.specs.Number.{Number}
-use Rattle.points.specs.Any.{Handed, handed, handedAgrees, mergeable, mergeHanded, unmergeable, Stands}
+use Rattle.points.specs.Any.{Handed, handed, handed_agrees, mergeable, merge_handed, unmergeable, Stands}
 use Rattle.points.proofs.Counts.{size_of}
 use Rattle.points.proofs.Owed.{Owed}
 use Rattle.points.proofs.AnyPoint as P
 use Rattle.tally.specs.Kind.{Room}
 use Rattle.tally.proofs.Faithful.{Merging, fitting}
 use Rattle.tally.proofs.Lawful.{Mergeable}
-use Rattle.kinds.specs.Any.{passes, histogramsOf}
+use Rattle.kinds.specs.Any.{passes, histograms_of}
 use Rattle.kinds.proofs.AnyRecorded.{all_known, sound-kind}
 
-sized : (k : Kind) (t : Float) (vs ws : List Float) → passes k ≡ true → sizeAsked (size_of k) (kindCounts k t vs) (kindCounts k t ws) ≡ true
-sized (exponential size top) t vs ws e = (and-true (sizePasses size) (leb top finest) e).0
+sized : (k : Kind) (t : Float) (vs ws : List Float) → passes k ≡ true → size_asked (size_of k) (kind_counts k t vs) (kind_counts k t ws) ≡ true
+sized (exponential size top) t vs ws e = (and-true (size_passes size) (leb top finest) e).0
 sized (explicit bounds) t vs ws e = refl
 
-none_of : (a b c d : Bool) (n : ℕ) → a ≡ true → b ≡ true → c ≡ true → d ≡ true → n ≡ 0 → mergeNumber a b c d n ≡ 0
+none_of : (a b c d : Bool) (n : ℕ) → a ≡ true → b ≡ true → c ≡ true → d ≡ true → n ≡ 0 → merge_number a b c d n ≡ 0
 unfolding pick
 none_of a b c d n e f g h k = rw (e, f, g, h) k
 
--- `handed`, `mergeHanded` and `unmergeable` of the number, shut or not
+-- `handed`, `merge_handed` and `unmergeable` of the number, shut or not
 pub record Forms (N : Number) : Type 0 where
   pub point_of : Settings → List N.Value → Handed N
   pub point-is : (z : Settings) (vs : List N.Value) → point_of z vs ≡ handed N z vs
   pub merge : ℕ → Handed N → Handed N → Handed N
-  pub merge-is : (size : ℕ) (p q : Handed N) → merge size p q ≡ mergeHanded N size p q
+  pub merge-is : (size : ℕ) (p q : Handed N) → merge size p q ≡ merge_handed N size p q
   pub number : ℕ → Bool → Handed N → Handed N → ℕ
   pub number_is : (size : ℕ) (there : Bool) (p q : Handed N) → number size there p q ≡ unmergeable N size there p q
 
@@ -47,9 +47,9 @@ module _ (N : Number) (O : Owed N) (F : Forms N) where
   -- two points merged under a max_size into lent output: a refusal's number, or the merged point
   abbrev pub merged : ℕ → Handed N → Handed N → Room → ℕ ⊎ Handed N
   merged size p q room =
-      pick (eqb (F.number size true p q) 0) (fitting (histogramsOf N F.point_of) (F.merge size p q) room) (inl (F.number size true p q))
+      pick (eqb (F.number size true p q) 0) (fitting (histograms_of N F.point_of) (F.merge size p q) room) (inl (F.number size true p q))
 
-  abbrev pub merging : Merging (histogramsOf N F.point_of)
+  abbrev pub merging : Merging (histograms_of N F.point_of)
   merging =
       record {
         Within = N.Within;
@@ -63,22 +63,22 @@ module _ (N : Number) (O : Owed N) (F : Forms N) where
   unrefused z p q vs ws e l w h k =
       let s = sound-kind z.kind e in
       let size = size_of z.kind in
-      let n : leb (length vs + length ws) mostCount ≡ true = le-leb (length vs + length ws) mostCount (omega (arith, l, length-append vs ws)) in
-      let counts : leb (count_of p.counts + count_of q.counts) mostCount ≡ leb (length vs + length ws) mostCount =
-      λ i. leb ((ap count_of h.same.counts ∙ P.counted N O z vs) i + (ap count_of k.same.counts ∙ P.counted N O z ws) i) mostCount in
-      none_of (sizeAsked size p.counts q.counts) (true && (handedAgrees N size finest (lowestBin finest) p && handedAgrees N size finest (lowestBin finest) q)) (mergeable N p q)
-      (leb (count_of p.counts + count_of q.counts) mostCount) (N.beyond p.sum q.sum)
-      ((λ i. sizeAsked size (h.same.counts i) (k.same.counts i)) ∙ sized z.kind z.threshold (N.nears vs) (N.nears ws) e)
-      (and_intro (handedAgrees N size finest (lowestBin finest) p) (handedAgrees N size finest (lowestBin finest) q) (P.stands-agrees N O z p vs s h) (P.stands-agrees N O z q ws s k))
+      let n : leb (length vs + length ws) most_count ≡ true = le-leb (length vs + length ws) most_count (omega (arith, l, length-append vs ws)) in
+      let counts : leb (count_of p.counts + count_of q.counts) most_count ≡ leb (length vs + length ws) most_count =
+      λ i. leb ((ap count_of h.same.counts ∙ P.counted N O z vs) i + (ap count_of k.same.counts ∙ P.counted N O z ws) i) most_count in
+      none_of (size_asked size p.counts q.counts) (true && (handed_agrees N size finest (lowest_bin finest) p && handed_agrees N size finest (lowest_bin finest) q)) (mergeable N p q)
+      (leb (count_of p.counts + count_of q.counts) most_count) (N.beyond p.sum q.sum)
+      ((λ i. size_asked size (h.same.counts i) (k.same.counts i)) ∙ sized z.kind z.threshold (N.nears vs) (N.nears ws) e)
+      (and_intro (handed_agrees N size finest (lowest_bin finest) p) (handed_agrees N size finest (lowest_bin finest) q) (P.stands-agrees N O z p vs s h) (P.stands-agrees N O z q ws s k))
       (P.stands-mergeable N O z p q vs ws s h k)
       (counts ∙ n)
       (O.sum-within z.sums p.sum q.sum vs ws h.sum k.sum w)
 
-  accepted : (size : ℕ) (p q : Handed N) (room : Room) → F.number size true p q ≡ 0 → merged size p q room ≡ fitting (histogramsOf N F.point_of) (F.merge size p q) room
+  accepted : (size : ℕ) (p q : Handed N) (room : Room) → F.number size true p q ≡ 0 → merged size p q room ≡ fitting (histograms_of N F.point_of) (F.merge size p q) room
   unfolding pick
   accepted size p q room e = rw e
 
-  pub mergeable-is : Mergeable (histogramsOf N F.point_of) merging
+  pub mergeable-is : Mergeable (histograms_of N F.point_of) merging
   mergeable-is =
       record {
         parts = O.within-parts;

@@ -37,5 +37,5 @@ pub histograms-steady : Steady histograms
 histograms-steady = A.steady real owed handed point-is
 
 -- no sum of f64s is refused: 16 is never answered, and so demand 3's premise counts the sets of accepted calls alone
-pub never-16 : (c : Config histograms) (C : Code histograms) → Faithful histograms c C → (xs : List C.Input) → all (unbarred histograms) (ran histograms C xs) ≡ true
-never-16 = never-barred histograms (λ z x v. refl)
+pub never_16 : (c : Config histograms) (C : Code histograms) → Faithful histograms c C → (xs : List C.Input) → all (unbarred histograms) (ran histograms C xs) ≡ true
+never_16 = never-barred histograms (λ z x v. refl)

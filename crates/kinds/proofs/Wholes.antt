@@ -12,7 +12,7 @@ use Rattle.points.proofs.Whole.{owed}
 use Rattle.tally.proofs.Faithful.{Merging}
 use Rattle.tally.proofs.Lawful.{Lawful, Mergeable}
 use Rattle.tally.proofs.Sound.{Steady}
-use Rattle.kinds.specs.Wholes.{Handed, handed, mergeHanded, unmergeable, wholes}
+use Rattle.kinds.specs.Wholes.{Handed, handed, merge_handed, unmergeable, wholes}
 use Rattle.kinds.proofs.AnyRecorded as R
 use Rattle.kinds.proofs.AnyMerges as M
 use Rattle.kinds.proofs.AnyMerges.{Forms}
@@ -21,8 +21,8 @@ pub point-is : (z : Settings) (vs : List ℤ) → handed z vs ≡ Any.handed who
 unfolding handed
 point-is z vs = refl
 
-pub merge-is : (size : ℕ) (p q : Handed) → mergeHanded size p q ≡ Any.mergeHanded whole size p q
-unfolding mergeHanded
+pub merge-is : (size : ℕ) (p q : Handed) → merge_handed size p q ≡ Any.merge_handed whole size p q
+unfolding merge_handed
 merge-is size p q = refl
 
 pub number_is : (size : ℕ) (there : Bool) (p q : Handed) → unmergeable size there p q ≡ Any.unmergeable whole size there p q
@@ -30,7 +30,7 @@ unfolding unmergeable
 number_is size there p q = refl
 
 abbrev pub forms : Forms whole
-forms = record { point_of = handed; point-is = point-is; merge = mergeHanded; merge-is = merge-is; number = unmergeable; number_is = number_is }
+forms = record { point_of = handed; point-is = point-is; merge = merge_handed; merge-is = merge-is; number = unmergeable; number_is = number_is }
 
 pub wholes-lawful : Lawful wholes
 wholes-lawful = R.lawful whole owed handed point-is

@@ -4,7 +4,7 @@ use Rattle.points.specs.Counts.{Settings}
 use Rattle.points.specs.Any as Any
 use Rattle.points.specs.Whole.{whole}
 use Rattle.tally.specs.Kind as Tally
-use Rattle.kinds.specs.Any.{histogramsOf}
+use Rattle.kinds.specs.Any.{histograms_of}
 
 -- a point of i64 values
 abbrev pub Handed : Type 0
@@ -14,8 +14,8 @@ Handed = Any.Handed whole
 unfoldable pub handed : Settings → List ℤ → Handed
 handed s vs = Any.handed whole s vs
 
-unfoldable pub mergeHanded : ℕ → Handed → Handed → Handed
-mergeHanded size p q = Any.mergeHanded whole size p q
+unfoldable pub merge_handed : ℕ → Handed → Handed → Handed
+merge_handed size p q = Any.merge_handed whole size p q
 
 -- "Merging: 1, 8, 11, 9, 16, 10", the number but for 10
 unfoldable pub unmergeable : ℕ → Bool → Handed → Handed → ℕ
@@ -23,4 +23,4 @@ unmergeable size there p q = Any.unmergeable whole size there p q
 
 -- a value is an i64. 16 after 9
 abbrev pub wholes : Tally.Kind
-wholes = histogramsOf whole handed
+wholes = histograms_of whole handed

@@ -10,9 +10,9 @@ success? (success a) = true
 success? (refusal n) = false
 
 -- what was succeeded with, d where nothing was
-abbrev pub valueIn : {A : Type 0} → A → Said A → A
-valueIn d (success a) = a
-valueIn d (refusal n) = d
+abbrev pub value_in : {A : Type 0} → A → Said A → A
+value_in d (success a) = a
+value_in d (refusal n) = d
 
 pub not-refused : {A : Type 0} (s : Said A) (n : ℕ) → success? s ≡ true → s ≡ refusal n → ⊥
 not-refused s n r e = not-both (success? s) r (ap success? e)

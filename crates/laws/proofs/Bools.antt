@@ -29,9 +29,9 @@ and_right false b h = absurd (not-both false h refl)
 pub and_intro : (a b : Bool) → a ≡ true → b ≡ true → a && b ≡ true
 and_intro a b p q = rw p q
 
-pub beq-intro : (a b : Bool) → a ≡ b → beq a b ≡ true
-beq-intro true b e = ap (beq true) (sym e)
-beq-intro false b e = ap (beq false) (sym e)
+pub beq_intro : (a b : Bool) → a ≡ b → beq a b ≡ true
+beq_intro true b e = ap (beq true) (sym e)
+beq_intro false b e = ap (beq false) (sym e)
 
 pub beq-says : (a b : Bool) → beq a b ≡ true → a ≡ b
 beq-says true true h = refl

@@ -10,7 +10,7 @@ use native.Mathlib.Omega.{arith}
 use lib.Dec.{eqb}
 use lib.ListN.{length, get_or, set, replicate}
 use Rattle.laws.specs.Counting.{bit, sum, total, count, lowest, highest, table}
-use Rattle.laws.proofs.Same.{bit-same, bit-other, count-append}
+use Rattle.laws.proofs.Same.{bit-same, bit-other, count_append}
 
 pub bit_le : (b : Bool) → bit b ≤ 1
 bit_le true = omega arith
@@ -62,24 +62,24 @@ range x [] i h =
 range x (y ∷ ys) i h =
     elim (ℕ_discrete x i) [ yes e ↦ omega arith | no ne ↦ omega (arith, range y ys i (omega (arith, bit-other i x ne))) ]
 
-low-in : (x : ℕ) (xs : List ℕ) → 0 < count (lowest x xs) (x ∷ xs)
-low-in x [] = omega (arith, bit-same x)
-low-in x (y ∷ ys) =
+low_in : (x : ℕ) (xs : List ℕ) → 0 < count (lowest x xs) (x ∷ xs)
+low_in x [] = omega (arith, bit-same x)
+low_in x (y ∷ ys) =
     elim (dec_le x (lowest y ys)) [
       | yes h ↦ rw (min-eq_left h) (omega (arith, bit-same x))
-      | no h ↦ rw (min-eq_right {n = lowest y ys} {m = x} (omega arith)) (omega (arith, low-in y ys))
+      | no h ↦ rw (min-eq_right {n = lowest y ys} {m = x} (omega arith)) (omega (arith, low_in y ys))
     ]
 
-high-in : (x : ℕ) (xs : List ℕ) → 0 < count (highest x xs) (x ∷ xs)
-high-in x [] = omega (arith, bit-same x)
-high-in x (y ∷ ys) =
+high_in : (x : ℕ) (xs : List ℕ) → 0 < count (highest x xs) (x ∷ xs)
+high_in x [] = omega (arith, bit-same x)
+high_in x (y ∷ ys) =
     elim (dec_le x (highest y ys)) [
-      | yes h ↦ rw (max-eq_right h) (omega (arith, high-in y ys))
+      | yes h ↦ rw (max-eq_right h) (omega (arith, high_in y ys))
       | no h ↦ rw (max-eq_left {n = x} {m = highest y ys} (omega arith)) (omega (arith, bit-same x))
     ]
 
 pub ends_of : (x : ℕ) (xs : List ℕ) → Ends (lowest x xs) (highest x xs) (x ∷ xs)
-ends_of x xs = record { low = low-in x xs; high = high-in x xs; all = range x xs }
+ends_of x xs = record { low = low_in x xs; high = high_in x xs; all = range x xs }
 
 pub ends-unique : (a b c d : ℕ) (xs : List ℕ) → Ends a b xs → Ends c d xs → (a ≡ c) × (b ≡ d)
 ends-unique a b c d xs e f = omega (arith, e.all c f.low, e.all d f.high, f.all a e.low, f.all b e.high)
@@ -95,22 +95,22 @@ ends-map f mono lo hi xs e =
           omega (arith, mono lo r.0 b.0, mono r.0 hi b.1, r.2);
     }
 
-pub ends-append : (a b c d : ℕ) (xs ys : List ℕ) → Ends a b xs → Ends c d ys → Ends (min a c) (max b d) (xs ++ ys)
-ends-append a b c d xs ys e f =
+pub ends_append : (a b c d : ℕ) (xs ys : List ℕ) → Ends a b xs → Ends c d ys → Ends (min a c) (max b d) (xs ++ ys)
+ends_append a b c d xs ys e f =
     record {
       low =
           elim (dec_le a c) [
-            | yes h ↦ rw (min-eq_left h) (omega (arith, e.low, count-append a xs ys))
-            | no h ↦ rw (min-eq_right {n = c} {m = a} (omega arith)) (omega (arith, f.low, count-append c xs ys))
+            | yes h ↦ rw (min-eq_left h) (omega (arith, e.low, count_append a xs ys))
+            | no h ↦ rw (min-eq_right {n = c} {m = a} (omega arith)) (omega (arith, f.low, count_append c xs ys))
           ];
       high =
           elim (dec_le b d) [
-            | yes h ↦ rw (max-eq_right h) (omega (arith, f.high, count-append d xs ys))
-            | no h ↦ rw (max-eq_left {n = b} {m = d} (omega arith)) (omega (arith, e.high, count-append b xs ys))
+            | yes h ↦ rw (max-eq_right h) (omega (arith, f.high, count_append d xs ys))
+            | no h ↦ rw (max-eq_left {n = b} {m = d} (omega arith)) (omega (arith, e.high, count_append b xs ys))
           ];
       all = λ i p.
           elim (eq-zero-or-pos (count i xs)) [
-            | inl z ↦ omega (arith, f.all i (omega (arith, count-append i xs ys)))
+            | inl z ↦ omega (arith, f.all i (omega (arith, count_append i xs ys)))
             | inr q ↦ omega (arith, e.all i q)
           ];
     }
@@ -120,10 +120,10 @@ pub length-table : (f : ℕ → ℕ) (lo n : ℕ) → length (table f lo n) ≡ 
 length-table f lo zero = refl
 length-table f lo (suc n) = ap suc (length-table f (suc lo) n)
 
-pub getD-table : (f : ℕ → ℕ) (lo n k : ℕ) → k < n → get_or (table f lo n) k 0 ≡ f (lo + k)
-getD-table f lo zero k h = absurd (omega arith)
-getD-table f lo (suc n) zero h = ap f (omega arith)
-getD-table f lo (suc n) (suc k) h = getD-table f (suc lo) n k (omega arith) ∙ ap f (omega arith)
+pub get_or-table : (f : ℕ → ℕ) (lo n k : ℕ) → k < n → get_or (table f lo n) k 0 ≡ f (lo + k)
+get_or-table f lo zero k h = absurd (omega arith)
+get_or-table f lo (suc n) zero h = ap f (omega arith)
+get_or-table f lo (suc n) (suc k) h = get_or-table f (suc lo) n k (omega arith) ∙ ap f (omega arith)
 
 pub table-cong : (f g : ℕ → ℕ) (lo n : ℕ) → ((j : ℕ) → lo ≤ j → f j ≡ g j) → table f lo n ≡ table g lo n
 table-cong f g lo zero h = refl

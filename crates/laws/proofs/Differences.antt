@@ -9,10 +9,10 @@ use lib.IntN.{ℤ, pos, negsuc, neg_ℤ, nat_abs, suc_ℤ, ◌-ℤ◌, ◌*ℤ�
 use lib.Signed.{shr_z}
 use lib.Pow.{pow_pos}
 
-pub le-or-lt : (m n : ℕ) → (m ≤ n) ⊎ (n < m)
-le-or-lt zero n = inl (omega arith)
-le-or-lt (suc m) zero = inr (omega arith)
-le-or-lt (suc m) (suc n) = elim (le-or-lt m n) [ inl h ↦ inl (omega (arith, h)) | inr h ↦ inr (omega (arith, h)) ]
+pub le_or-lt : (m n : ℕ) → (m ≤ n) ⊎ (n < m)
+le_or-lt zero n = inl (omega arith)
+le_or-lt (suc m) zero = inr (omega arith)
+le_or-lt (suc m) (suc n) = elim (le_or-lt m n) [ inl h ↦ inl (omega (arith, h)) | inr h ↦ inr (omega (arith, h)) ]
 
 -- x - y is some d where x is d more than y, or -(d + 1) where y is d + 1 more than x
 abbrev pub Difference : ℕ → ℕ → Type 0
@@ -21,7 +21,7 @@ Difference x y = ((d : ℕ) × (x ≡ d + y) × (pos x -ℤ pos y ≡ pos d)) �
 pub difference : (x y : ℕ) → Difference x y
 difference x zero = inl (x, sym (add-zero x), ap pos (add-zero x))
 difference x (suc y) =
-    elim (le-or-lt (suc y) x) [
+    elim (le_or-lt (suc y) x) [
       | inl h ↦ inl (x - suc y, up x y h, rw (le-ltb x (suc y) h))
       | inr h ↦ inr (suc y - suc x, down x y h, rw (lt-ltb x (suc y) h))
     ]
@@ -106,8 +106,8 @@ abbrev Whole : ℤ → Type 0
 Whole (pos n) = Unit
 Whole (negsuc n) = ⊥
 
-pub sub-cancel : (x v y : ℕ) → pos x -ℤ pos y ≡ pos v -ℤ pos y → x ≡ v
-sub-cancel x v y e =
+pub sub_cancel : (x v y : ℕ) → pos x -ℤ pos y ≡ pos v -ℤ pos y → x ≡ v
+sub_cancel x v y e =
     elim (difference x y) [
       | inl r ↦ elim (difference v y) [ inl s ↦ up r.0 s.0 x v y r.1 s.1 (ap nat_abs (sym r.2 ∙ e ∙ s.2)) | inr s ↦ absurd (subst Whole (sym r.2 ∙ e ∙ s.2) tt) ]
       | inr r ↦ elim (difference v y) [ inl s ↦ absurd (subst Whole (sym s.2 ∙ sym e ∙ r.2) tt) | inr s ↦ down r.0 s.0 x v y r.1 s.1 (ap nat_abs (sym r.2 ∙ e ∙ s.2)) ]
@@ -125,11 +125,11 @@ as-sub k (pos n) = (n, 0, sym (ap (λ (m : ℕ). pos n -ℤ pos m) (zero-mul (2 
 as-sub k (negsuc n) = (
   suc n * 2 ^ k - suc n,
   suc n,
-  sym (ap (λ (m : ℕ). pos (suc n * 2 ^ k - suc n) -ℤ pos m) (whole (suc n) (suc n * 2 ^ k) (storesSuffice n)) ∙ sub_more (suc n) (suc n * 2 ^ k - suc n)),
+  sym (ap (λ (m : ℕ). pos (suc n * 2 ^ k - suc n) -ℤ pos m) (whole (suc n) (suc n * 2 ^ k) (stores_suffice n)) ∙ sub_more (suc n) (suc n * 2 ^ k - suc n)),
 )
   where
-    storesSuffice : (n : ℕ) → suc n ≤ suc n * 2 ^ k
-    storesSuffice n = le_trans (le_of_eq (sym (one (suc n)))) (mul-le-mul_left (suc n) (pow_pos k))
+    stores_suffice : (n : ℕ) → suc n ≤ suc n * 2 ^ k
+    stores_suffice n = le_trans (le_of_eq (sym (one (suc n)))) (mul-le-mul_left (suc n) (pow_pos k))
       where
         one : (m : ℕ) → m * 1 ≡ m
         one m = omega arith

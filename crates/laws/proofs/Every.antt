@@ -15,9 +15,9 @@ pub both_right : (a b : Bool) → T (a && b) → T b
 both_right true b t = t
 both_right false b t = absurd t
 
-both-in : (a b : Bool) → T a → T b → T (a && b)
-both-in true b s t = t
-both-in false b s t = s
+both_in : (a b : Bool) → T a → T b → T (a && b)
+both_in true b s t = t
+both_in false b s t = s
 
 module _ {A : Type 0} (f : ℕ → A → Bool) where
   -- the test f passes at each entry of the list and its place, counted from i
@@ -30,7 +30,7 @@ module _ {A : Type 0} (f : ℕ → A → Bool) where
   cut zero i xs p q = subst (λ (m : ℕ). T (every m xs)) (add-zero i) q
   cut (suc n) i [] p q = tt
   cut (suc n) i (x ∷ xs) p q =
-      both-in (f i x) (every (suc i) xs) (both_left (f i x) (every (suc i) (take n xs)) p)
+      both_in (f i x) (every (suc i) xs) (both_left (f i x) (every (suc i) (take n xs)) p)
       (cut n (suc i) xs (both_right (f i x) (every (suc i) (take n xs)) p)
       (subst (λ (m : ℕ). T (every m (drop n xs))) (add-suc i n ∙ sym (suc-add i n)) q))
 

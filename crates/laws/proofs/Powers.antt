@@ -5,11 +5,11 @@ use native.Mathlib.Nat.{pow-zero, pow-suc, mul-zero, mul-suc, mul_assoc, mul_rig
 use native.Mathlib.Omega.{arith}
 use lib.Pow.{pow-add, pow_mono}
 
-pub mul-pow : (a b n : ℕ) → (a * b) ^ n ≡ a ^ n * b ^ n
-mul-pow a b zero = pow-zero (a * b) ∙ sym (ap (λ (k : ℕ). k * b ^ 0) (pow-zero a) ∙ ap (λ (k : ℕ). 1 * k) (pow-zero b))
-mul-pow a b (suc n) =
+pub mul_pow : (a b n : ℕ) → (a * b) ^ n ≡ a ^ n * b ^ n
+mul_pow a b zero = pow-zero (a * b) ∙ sym (ap (λ (k : ℕ). k * b ^ 0) (pow-zero a) ∙ ap (λ (k : ℕ). 1 * k) (pow-zero b))
+mul_pow a b (suc n) =
     pow-suc (a * b) n
-    ∙ ap (λ (k : ℕ). k * (a * b)) (mul-pow a b n)
+    ∙ ap (λ (k : ℕ). k * (a * b)) (mul_pow a b n)
     ∙ swap (a ^ n) (b ^ n) a b
     ∙ ap (λ (k : ℕ). k * (b ^ n * b)) (sym (pow-suc a n))
     ∙ ap (λ (k : ℕ). a ^ suc n * k) (sym (pow-suc b n))
@@ -17,9 +17,9 @@ mul-pow a b (suc n) =
     swap : (p q a b : ℕ) → p * q * (a * b) ≡ p * a * (q * b)
     swap p q a b = sym (mul_assoc (p * q) a b) ∙ ap (λ (k : ℕ). k * b) (mul_right_comm p q a) ∙ mul_assoc (p * a) q b
 
-pub pow-mul : (a i j : ℕ) → (a ^ i) ^ j ≡ a ^ (i * j)
-pow-mul a i zero = pow-zero (a ^ i) ∙ sym (ap (λ (k : ℕ). a ^ k) (mul-zero i) ∙ pow-zero a)
-pow-mul a i (suc j) = pow-suc (a ^ i) j ∙ ap (λ (k : ℕ). k * a ^ i) (pow-mul a i j) ∙ sym (pow-add a (i * j) i) ∙ ap (λ (k : ℕ). a ^ k) (sym (mul-suc i j))
+pub pow_mul : (a i j : ℕ) → (a ^ i) ^ j ≡ a ^ (i * j)
+pow_mul a i zero = pow-zero (a ^ i) ∙ sym (ap (λ (k : ℕ). a ^ k) (mul-zero i) ∙ pow-zero a)
+pow_mul a i (suc j) = pow-suc (a ^ i) j ∙ ap (λ (k : ℕ). k * a ^ i) (pow_mul a i j) ∙ sym (pow-add a (i * j) i) ∙ ap (λ (k : ℕ). a ^ k) (sym (mul-suc i j))
 
 -- powers of two are ordered as their exponents
 pub pow_lt_back : (i p : ℕ) → 2 ^ i < 2 ^ p → i < p

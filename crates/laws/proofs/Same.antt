@@ -9,9 +9,9 @@ use lib.Dec.{eqb}
 use borrow.Author.Tests.{eq-eqb, ne_eqb}
 use Rattle.laws.specs.Counting.{bit, sum, count}
 
-pub sum-append : {A : Type 0} (w : A → ℕ) (xs ys : List A) → sum w (xs ++ ys) ≡ sum w xs + sum w ys
-sum-append w [] ys = omega arith
-sum-append w (x ∷ xs) ys = omega (arith, sum-append w xs ys)
+pub sum_append : {A : Type 0} (w : A → ℕ) (xs ys : List A) → sum w (xs ++ ys) ≡ sum w xs + sum w ys
+sum_append w [] ys = omega arith
+sum_append w (x ∷ xs) ys = omega (arith, sum_append w xs ys)
 
 pub sum-map : {A B : Type 0} (w : B → ℕ) (f : A → B) (xs : List A) → sum w (map f xs) ≡ sum (λ x. w (f x)) xs
 sum-map w f [] = refl
@@ -33,8 +33,8 @@ bit-same i = ap bit (eq-eqb i i refl)
 pub bit-other : (i x : ℕ) → x ≢ i → bit (eqb x i) ≡ 0
 bit-other i x ne = ap bit (ne_eqb x i ne)
 
-pub count-append : (i : ℕ) (xs ys : List ℕ) → count i (xs ++ ys) ≡ count i xs + count i ys
-count-append i = sum-append (λ x. bit (eqb x i))
+pub count_append : (i : ℕ) (xs ys : List ℕ) → count i (xs ++ ys) ≡ count i xs + count i ys
+count_append i = sum_append (λ x. bit (eqb x i))
 
 -- a number of the list, taken out
 pull : (a : ℕ) (xs : List ℕ) → 0 < count a xs → (ys : List ℕ) × ((w : ℕ → ℕ) → sum w xs ≡ w a + sum w ys)

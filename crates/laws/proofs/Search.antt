@@ -16,14 +16,14 @@ pub record Least (p : ℕ → Bool) (d n t : ℕ) : Type 0 where
   pub stop : (p t ≡ true) ⊎ (t ≡ d + n)
   pub first : (m : ℕ) → d ≤ m → p m ≡ true → t ≤ m
 
-pub least-spec : (p : ℕ → Bool) (d n : ℕ) → Least p d n (least p d n)
+pub least_spec : (p : ℕ → Bool) (d n : ℕ) → Least p d n (least p d n)
 unfolding pick
-least-spec p d zero = record { ge = omega arith; le = omega arith; stop = inr (omega arith); first = λ m h _. h }
-least-spec p d (suc n) =
+least_spec p d zero = record { ge = omega arith; le = omega arith; stop = inr (omega arith); first = λ m h _. h }
+least_spec p d (suc n) =
     elim (flag (p d)) [
       | inl e ↦ rw e (record { ge = omega arith; le = omega arith; stop = inl e; first = λ m h _. h })
       | inr e ↦
-          let r = least-spec p (suc d) n in
+          let r = least_spec p (suc d) n in
           rw e
           (record {
             ge = omega (arith, r.ge);
@@ -42,7 +42,7 @@ pub least-is : (p : ℕ → Bool) (d n t : ℕ) → Least p d n t → t ≡ leas
 least-is p d n t l = both-stop l.stop m.stop
   where
     m : Least p d n (least p d n)
-    m = least-spec p d n
+    m = least_spec p d n
 
     both-stop : (p t ≡ true) ⊎ (t ≡ d + n) → (p (least p d n) ≡ true) ⊎ (least p d n ≡ d + n) → t ≡ least p d n
     both-stop (inl a) (inl b) = omega (arith, l.first (least p d n) m.ge b, m.first t l.ge a)
@@ -55,8 +55,8 @@ least-cong p q d zero h = refl
 least-cong p q d (suc n) h = rw (h d (omega arith), least-cong p q (suc d) n (λ e g. h e (omega arith)))
 
 -- a search up to `last` may start anywhere up to its result
-pub least-restart : (last : ℕ) (p : ℕ → Bool) (d e : ℕ) → d ≤ e → e ≤ least p d (last - d) → least p e (last - e) ≡ least p d (last - d)
-least-restart last p d e h g =
+pub least_restart : (last : ℕ) (p : ℕ → Bool) (d e : ℕ) → d ≤ e → e ≤ least p d (last - d) → least p e (last - e) ≡ least p d (last - d)
+least_restart last p d e h g =
     elim a.stop [
       | inl s ↦
           elim b.stop [
@@ -71,16 +71,16 @@ least-restart last p d e h g =
     ]
   where
     a : Least p d (last - d) (least p d (last - d))
-    a = least-spec p d (last - d)
+    a = least_spec p d (last - d)
 
     b : Least p e (last - e) (least p e (last - e))
-    b = least-spec p e (last - e)
+    b = least_spec p e (last - e)
 
 -- where one test is stronger, its first is no earlier
 pub least-le : (last : ℕ) (p q : ℕ → Bool) (d e : ℕ) → d ≤ e → ((i : ℕ) → q i ≡ true → p i ≡ true) → least p d (last - d) ≤ least q e (last - e)
 least-le last p q d e h g =
-    let a = least-spec p d (last - d) in
-    let b = least-spec q e (last - e) in
+    let a = least_spec p d (last - d) in
+    let b = least_spec q e (last - e) in
     elim b.stop [
       | inl s ↦ a.first (least q e (last - e)) (omega (arith, b.ge)) (g (least q e (last - e)) s)
       | inr s ↦ omega (arith, a.le, s)

@@ -97,9 +97,9 @@ module _ {A : Type 0} (op : A → A → A) (P : A → Type 0) (R : A → A → T
   assoc' a b none p q r = C.self (op a b) (C.kept a b p q)
   assoc' a b (some c) p q r = C.assoc a b c p q r
 
-  list-append : (z : Option A) (xs ys : List A) → foldr op' z (xs ++ ys) ≡ foldr op' (foldr op' z ys) xs
-  list-append z [] ys = refl
-  list-append z (x ∷ xs) ys = ap (op' x) (list-append z xs ys)
+  list_append : (z : Option A) (xs ys : List A) → foldr op' z (xs ++ ys) ≡ foldr op' (foldr op' z ys) xs
+  list_append z [] ys = refl
+  list_append z (x ∷ xs) ys = ap (op' x) (list_append z xs ys)
 
   tree-list : (t : Tree A) (z : Option A) → All P (leaves t) → P' z → R' (op' (folded op t) z) (foldr op' z (leaves t))
   unfolding All
@@ -111,14 +111,14 @@ module _ {A : Type 0} (op : A → A → A) (P : A → Type 0) (R : A → A → T
       let j = all_right P (leaves s) (leaves t) p in
       let w = foldr op' z (leaves t) in
       let k = list-kept z (leaves t) q j in
-      rw (list-append z (leaves s) (leaves t))
+      rw (list_append z (leaves s) (leaves t))
       (then' (op' (op x y) z) (op' x (op' y z)) (foldr op' w (leaves s)) (assoc' x y z (tree-kept s i) (tree-kept t j) q)
       (then' (op' x (op' y z)) (op' x w) (foldr op' w (leaves s))
       (cong' x (op' y z) w (tree-kept s i) (kept' y z (tree-kept t j) q) k (tree-list t z j q)) (tree-list s w i k)))
 
   -- BY ANY GROUPING AND ORDER
-  pub any-grouping : (t u : Tree A) → Permᴰ (leaves t) (leaves u) → All P (leaves t) → R (folded op t) (folded op u)
-  any-grouping t u h p =
+  pub any_grouping : (t u : Tree A) → Permᴰ (leaves t) (leaves u) → All P (leaves t) → R (folded op t) (folded op u)
+  any_grouping t u h p =
       let l = foldr op' none (leaves t) in
       let m = foldr op' none (leaves u) in
       then' (some (folded op t)) l (some (folded op u)) (tree-list t none p tt)

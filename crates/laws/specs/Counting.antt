@@ -2,8 +2,8 @@
 use Rattle.std.specs.Prelude.{ℕ, zero, suc, ◌+◌, min, max, Bool, true, false, List, [], ◌∷◌, eqb}
 
 -- the greatest u64: "9: a count, binding count or birth number would pass 2^64 - 1"
-abbrev pub mostCount : ℕ
-mostCount = 18446744073709551615
+abbrev pub most_count : ℕ
+most_count = 18446744073709551615
 
 -- 1 where a test passes
 abbrev pub bit : Bool → ℕ

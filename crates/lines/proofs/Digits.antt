@@ -9,23 +9,23 @@ use borrow.Author.Tests.{lt-ltb, le-ltb}
 use lib.Dec.{lit<}
 use Rattle.io.specs.Digits.{hex_digit_ascii, last_digits, IsDigitCount}
 use Rattle.laws.proofs.Bools.{pick_true, pick-false}
-use Rattle.laws.proofs.Differences.{le-or-lt}
-use Rattle.lines.specs.Written.{digitsWithin, decimal}
+use Rattle.laws.proofs.Differences.{le_or-lt}
+use Rattle.lines.specs.Written.{digits_within, decimal}
 
 glyph-is : (d : ℕ) → d < 10 → hex_digit_ascii d ≡ 48 + d
 glyph-is d h = rw (lt-ltb d 10 h)
 
-one-is : (m x : ℕ) → x < 10 → hex_digit_ascii (x % 10) ∷ [] ≡ digitsWithin (suc m) x
-unfolding digitsWithin
+one-is : (m x : ℕ) → x < 10 → hex_digit_ascii (x % 10) ∷ [] ≡ digits_within (suc m) x
+unfolding digits_within
 one-is m x h =
     ap (λ (g : ℕ). g ∷ []) (ap hex_digit_ascii (mod-eq_of_lt h) ∙ glyph-is x h)
     ∙ sym (pick_true _ _ _ (lt-ltb x 10 h))
 
-more-is : (m x : ℕ) (front : List ℕ) → 10 ≤ x → front ≡ digitsWithin m (x / 10) → front ++ (hex_digit_ascii (x % 10) ∷ []) ≡ digitsWithin (suc m) x
-unfolding digitsWithin
+more-is : (m x : ℕ) (front : List ℕ) → 10 ≤ x → front ≡ digits_within m (x / 10) → front ++ (hex_digit_ascii (x % 10) ∷ []) ≡ digits_within (suc m) x
+unfolding digits_within
 more-is m x front h e =
     ap (λ (r : List ℕ). r ++ (hex_digit_ascii (x % 10) ∷ [])) e
-    ∙ ap (λ (g : ℕ). digitsWithin m (x / 10) ++ (g ∷ [])) (glyph-is (x % 10) (omega arith))
+    ∙ ap (λ (g : ℕ). digits_within m (x / 10) ++ (g ∷ [])) (glyph-is (x % 10) (omega arith))
     ∙ sym (pick-false _ _ _ (le-ltb x 10 h))
 
 -- x has suc k digits and no fewer
@@ -34,7 +34,7 @@ least k x h =
     let p : 0 < 10 ^ k = one-le-pow k 10 (lit< tt) in
     omega (arith, pow-suc 10 k)
 
-are : (k m x : ℕ) → suc k ≤ m → x < 10 ^ suc k → (1 < suc k → 10 ^ k ≤ x) → last_digits 10 (suc k) x ≡ digitsWithin m x
+are : (k m x : ℕ) → suc k ≤ m → x < 10 ^ suc k → (1 < suc k → 10 ^ k ≤ x) → last_digits 10 (suc k) x ≡ digits_within m x
 are k zero x l h g = absurd (omega arith)
 are zero (suc m) x l h g = one-is m x h
 are (suc k) (suc m) x l h g =
@@ -54,7 +54,7 @@ few k x h g =
     let a : 10 ^ 20 ≤ 10 ^ k = pow-le-pow_right (lit< tt) e in
     let b : 10 ^ k ≤ x = g (omega arith) in
     absurd (omega arith))
-    (le-or-lt (suc k) 20)
+    (le_or-lt (suc k) 20)
 
 pub decimal-is : (k x : ℕ) → x < 2 ^ 64 → IsDigitCount 10 1 x k → last_digits 10 k x ≡ decimal x
 unfolding decimal

@@ -15,14 +15,14 @@ module _ (bs : List ℕ) (i : ℕ) (t : Text) where
   unfolding ◌behind◌
   behind-none h = ap (λ (r : List ℕ). r behind t) (drop_of_length-le bs h)
 
-pub behind-append : (xs ys : List ℕ) (t : Text) → xs ++ ys behind t ≡ ys behind xs behind t
+pub behind_append : (xs ys : List ℕ) (t : Text) → xs ++ ys behind t ≡ ys behind xs behind t
 unfolding ◌behind◌
-behind-append [] ys t = refl
-behind-append (x ∷ xs) ys t = behind-append xs ys _
+behind_append [] ys t = refl
+behind_append (x ∷ xs) ys t = behind_append xs ys _
 
 -- two texts put one behind the other
 pub then : (xs ys : List ℕ) (t : Text) {u v : Text} → u ≡ (xs behind t) → v ≡ (ys behind u) → v ≡ (xs ++ ys behind t)
-then xs ys t p q = q ∙ ap (λ (w : Text). ys behind w) p ∙ sym (behind-append xs ys t)
+then xs ys t p q = q ∙ ap (λ (w : Text). ys behind w) p ∙ sym (behind_append xs ys t)
 
 -- a text by another spelling of its bytes
 pub spelt : {xs ys : List ℕ} → xs ≡ ys → (t : Text) {u : Text} → u ≡ (xs behind t) → u ≡ (ys behind t)

@@ -13,47 +13,47 @@ use borrow.Author.Tests.{lt-ltb, le-ltb, eq-eqb, ne_eqb}
 use Rattle.laws.specs.Pick.{pick}
 use Rattle.laws.proofs.Bools.{flag, not-both, pick_true, pick-false}
 use Rattle.lines.specs.declared.input.Ports.{Ports}
-use Rattle.lines.specs.Reading.{newlineIn, firstNewline, newlineOf, copied, end_of, at_of, stopOf, count_of, taken, takenLine, fresh, NextLine}
+use Rattle.lines.specs.Reading.{newline_in, first_newline, newline_of, copied, end_of, at_of, stop_of, count_of, taken, taken_line, fresh, NextLine}
 
 pub not-true : (b : Bool) → not b ≡ true → b ≡ false
 not-true true h = sym h
 not-true false h = refl
 
-pub in-none : (bs : List ℕ) (from : ℕ) → false ≡ newlineIn bs from 0
-unfolding newlineIn
+pub in-none : (bs : List ℕ) (from : ℕ) → false ≡ newline_in bs from 0
+unfolding newline_in
 in-none bs from = refl
 
-pub in-turn : (bs : List ℕ) (from i : ℕ) → newlineIn bs from (i + 1) ≡ pick (eqb (get_or bs (from + i) 0) 10) true (newlineIn bs from i)
-unfolding newlineIn
-in-turn bs from i = ap (newlineIn bs from) (add-one i)
+pub in-turn : (bs : List ℕ) (from i : ℕ) → newline_in bs from (i + 1) ≡ pick (eqb (get_or bs (from + i) 0) 10) true (newline_in bs from i)
+unfolding newline_in
+in-turn bs from i = ap (newline_in bs from) (add-one i)
 
 module _ (bs : List ℕ) (end : ℕ) where
-  pub of-turn : (i : ℕ) → i < end → (get_or bs i 0 ≡ 10 → ⊥) → newlineOf bs (i + 1) end ≡ newlineOf bs i end
-  unfolding newlineOf firstNewline
+  pub of-turn : (i : ℕ) → i < end → (get_or bs i 0 ≡ 10 → ⊥) → newline_of bs (i + 1) end ≡ newline_of bs i end
+  unfolding newline_of first_newline
   of-turn i h n =
       let e : end - i ≡ suc (end - (i + 1)) = omega arith in
-      sym (ap (firstNewline bs i) e ∙ pick-false _ _ _ (ne_eqb (get_or bs i 0) 10 n))
+      sym (ap (first_newline bs i) e ∙ pick-false _ _ _ (ne_eqb (get_or bs i 0) 10 n))
 
-  pub of-stop : (i : ℕ) → i < end → get_or bs i 0 ≡ 10 → newlineOf bs i end ≡ i
-  unfolding newlineOf firstNewline
+  pub of-stop : (i : ℕ) → i < end → get_or bs i 0 ≡ 10 → newline_of bs i end ≡ i
+  unfolding newline_of first_newline
   of-stop i h f =
       let e : end - i ≡ suc (end - (i + 1)) = omega arith in
-      ap (firstNewline bs i) e ∙ pick_true _ _ _ (eq-eqb (get_or bs i 0) 10 f)
+      ap (first_newline bs i) e ∙ pick_true _ _ _ (eq-eqb (get_or bs i 0) 10 f)
 
-  pub of_none : (i : ℕ) → end ≤ i → newlineOf bs i end ≡ i
-  unfolding newlineOf firstNewline
-  of_none i h = let e : end - i ≡ 0 = omega arith in ap (firstNewline bs i) e
+  pub of_none : (i : ℕ) → end ≤ i → newline_of bs i end ≡ i
+  unfolding newline_of first_newline
+  of_none i h = let e : end - i ≡ 0 = omega arith in ap (first_newline bs i) e
 
   -- n bytes without a newline
-  pub of-clear : (i n : ℕ) → i + n ≤ end → newlineIn bs i n ≡ false → newlineOf bs (i + n) end ≡ newlineOf bs i end
-  unfolding newlineIn
-  of-clear i zero h f = ap (λ (k : ℕ). newlineOf bs k end) (add-zero i)
+  pub of-clear : (i n : ℕ) → i + n ≤ end → newline_in bs i n ≡ false → newline_of bs (i + n) end ≡ newline_of bs i end
+  unfolding newline_in
+  of-clear i zero h f = ap (λ (k : ℕ). newline_of bs k end) (add-zero i)
   of-clear i (suc n) h f =
       let q : i + suc n ≡ i + n + 1 = omega arith in
       ⊎_elim
       (λ (e : eqb (get_or bs (i + n) 0) 10 ≡ true). absurd (not-both _ (pick_true _ _ _ e) f))
       (λ (e : eqb (get_or bs (i + n) 0) 10 ≡ false).
-      ap (λ (k : ℕ). newlineOf bs k end) q
+      ap (λ (k : ℕ). newline_of bs k end) q
       ∙ of-turn (i + n) (omega arith) (λ r. not-both _ (eq-eqb (get_or bs (i + n) 0) 10 r) e)
       ∙ of-clear i n (omega arith) (sym (pick-false _ _ _ e) ∙ f))
       (flag (eqb (get_or bs (i + n) 0) 10))
@@ -68,40 +68,40 @@ module _ (line : List ℕ) (len : ℕ) (bs : List ℕ) (from : ℕ) where
   copied-turn i = ap (copied line len bs from) (sym (add-one i))
 
 -- What `take` computes, by the names of its code.
-module _ (p : Ports) (bs : List ℕ) (end at len stop n : ℕ) (e : end ≡ min p.end 65536) (a : at ≡ min p.at end) (l : len ≡ min p.len 256) (s : stop ≡ newlineOf bs at end) (m : n ≡ min (stop - at) (256 - len)) where
+module _ (p : Ports) (bs : List ℕ) (end at len stop n : ℕ) (e : end ≡ min p.end 65536) (a : at ≡ min p.at end) (l : len ≡ min p.len 256) (s : stop ≡ newline_of bs at end) (m : n ≡ min (stop - at) (256 - len)) where
   at-is : at ≡ at_of p
   at-is = a ∙ ap (min p.at) e
 
-  stop_is : stop ≡ stopOf p bs
-  stop_is = s ∙ ap (λ (k : ℕ). newlineOf bs k end) at-is ∙ ap (newlineOf bs (at_of p)) e
+  stop_is : stop ≡ stop_of p bs
+  stop_is = s ∙ ap (λ (k : ℕ). newline_of bs k end) at-is ∙ ap (newline_of bs (at_of p)) e
 
   count-is : n ≡ count_of p bs
-  count-is = m ∙ ap (λ (k : ℕ). min (k - at) (256 - len)) stop_is ∙ ap (λ (k : ℕ). min (stopOf p bs - k) (256 - len)) at-is ∙ ap (λ (k : ℕ). min (stopOf p bs - at_of p) (256 - k)) l
+  count-is = m ∙ ap (λ (k : ℕ). min (k - at) (256 - len)) stop_is ∙ ap (λ (k : ℕ). min (stop_of p bs - k) (256 - len)) at-is ∙ ap (λ (k : ℕ). min (stop_of p bs - at_of p) (256 - k)) l
 
   pub taken-ended : stop < end → ◌≡◌ {A = Ports} (record { at = stop + 1; end = end; len = len + n; ended = true; over = false; waiting = p.waiting }) (taken p bs)
   unfolding taken
   taken-ended h =
-      let k : stopOf p bs < end_of p = omega (arith, stop_is, e) in
+      let k : stop_of p bs < end_of p = omega (arith, stop_is, e) in
       (λ i. record { at = stop_is i + 1; end = e i; len = l i + count-is i; ended = true; over = false; waiting = p.waiting })
-      ∙ sym (pick_true _ _ _ (lt-ltb (stopOf p bs) (end_of p) k))
+      ∙ sym (pick_true _ _ _ (lt-ltb (stop_of p bs) (end_of p) k))
 
-  pub taken-open : end ≤ stop → ◌≡◌ {A = Ports} (record { at = end; end = end; len = len + n; ended = false; over = false; waiting = p.waiting }) (taken p bs)
+  pub taken_open : end ≤ stop → ◌≡◌ {A = Ports} (record { at = end; end = end; len = len + n; ended = false; over = false; waiting = p.waiting }) (taken p bs)
   unfolding taken
-  taken-open h =
-      let k : end_of p ≤ stopOf p bs = omega (arith, stop_is, e) in
+  taken_open h =
+      let k : end_of p ≤ stop_of p bs = omega (arith, stop_is, e) in
       (λ i. record { at = e i; end = e i; len = l i + count-is i; ended = false; over = false; waiting = p.waiting })
-      ∙ sym (pick-false _ _ _ (le-ltb (stopOf p bs) (end_of p) k))
+      ∙ sym (pick-false _ _ _ (le-ltb (stop_of p bs) (end_of p) k))
 
-  pub line-is : (line : List ℕ) {line' : List ℕ} → line' ≡ copied line len bs at n → line' ≡ takenLine p bs line
-  unfolding takenLine
+  pub line-is : (line : List ℕ) {line' : List ℕ} → line' ≡ copied line len bs at n → line' ≡ taken_line p bs line
+  unfolding taken_line
   line-is line h = h ∙ (λ i. copied line (l i) bs (at-is i) (count-is i))
 
-ended-there : (p : Ports) (bs : List ℕ) → stopOf p bs < end_of p → (taken p bs).ended ≡ true
+ended-there : (p : Ports) (bs : List ℕ) → stop_of p bs < end_of p → (taken p bs).ended ≡ true
 unfolding taken
-ended-there p bs h = ap (λ (r : Ports). r.ended) (pick_true _ _ _ (lt-ltb (stopOf p bs) (end_of p) h))
+ended-there p bs h = ap (λ (r : Ports). r.ended) (pick_true _ _ _ (lt-ltb (stop_of p bs) (end_of p) h))
 
 -- The next line is the one that `take` found, where that has ended: nothing is read behind it.
-pub next-line : (p : Ports) (bs line : List ℕ) (r : Ports) (bs' line' : List ℕ) {t : Ports} {line₁ : List ℕ} → t ≡ taken (fresh p) bs → line₁ ≡ takenLine (fresh p) bs line → (t.ended ≡ true → (r ≡ t) × (line' ≡ line₁) × (bs' ≡ bs)) → NextLine p bs line r bs' line'
+pub next-line : (p : Ports) (bs line : List ℕ) (r : Ports) (bs' line' : List ℕ) {t : Ports} {line₁ : List ℕ} → t ≡ taken (fresh p) bs → line₁ ≡ taken_line (fresh p) bs line → (t.ended ≡ true → (r ≡ t) × (line' ≡ line₁) × (bs' ≡ bs)) → NextLine p bs line r bs' line'
 unfolding NextLine
 next-line p bs line r bs' line' e f same h =
     let s = same (ap (λ (q : Ports). q.ended) e ∙ ended-there (fresh p) bs h) in

@@ -9,21 +9,21 @@ use lib.Dec.{eqb}
 use lib.ListN.{length, drop, length-drop, drop_of_length-le}
 use lib.Seq.{drop-drop}
 use Rattle.laws.specs.Pick.{pick}
-use Rattle.laws.proofs.Differences.{le-or-lt}
+use Rattle.laws.proofs.Differences.{le_or-lt}
 use Rattle.text.specs.Fields.{until}
-use Rattle.text.specs.Numbers.{decimalOf, illLed}
+use Rattle.text.specs.Numbers.{decimal_of, ill_led}
 use Rattle.lines.specs.declared.attributes.Attribute.{Attribute}
 use Rattle.lines.specs.declared.attributes.Attribute.TheVariants as A
 use Rattle.lines.specs.declared.attributes.Word.{Word}
 use Rattle.lines.specs.declared.attributes.Word.TheVariants as W
 use Rattle.lines.specs.declared.attributes.Given.{Given}
 use Rattle.lines.specs.declared.attributes.Given.TheVariants as G
-use Rattle.lines.specs.Spelled.{bothOf, attributeOf, firstMore, parts, attributesOf, word_of, next, put, told, kept}
+use Rattle.lines.specs.Spelled.{both_of, attribute_of, first_more, parts, attributes_of, word_of, next, put, told, kept}
 
-last_step : (b : ℕ) (bs : List ℕ) → (length bs ≤ length (until 44 bs) → parts bs ≡ until 44 bs ∷ []) → (t : Bool) → suc (length bs) ≤ length (pick t [] (b ∷ until 44 bs)) → pick t ([] ∷ parts bs) (firstMore b (parts bs)) ≡ pick t [] (b ∷ until 44 bs) ∷ []
+last_step : (b : ℕ) (bs : List ℕ) → (length bs ≤ length (until 44 bs) → parts bs ≡ until 44 bs ∷ []) → (t : Bool) → suc (length bs) ≤ length (pick t [] (b ∷ until 44 bs)) → pick t ([] ∷ parts bs) (first_more b (parts bs)) ≡ pick t [] (b ∷ until 44 bs) ∷ []
 unfolding pick
 last_step b bs ih true h = absurd (omega arith)
-last_step b bs ih false h = ap (firstMore b) (ih (omega arith))
+last_step b bs ih false h = ap (first_more b) (ih (omega arith))
 
 -- no comma stands
 parts_last : (bs : List ℕ) → length bs ≤ length (until 44 bs) → parts bs ≡ until 44 bs ∷ []
@@ -34,10 +34,10 @@ parts_last (b ∷ bs) h = last_step b bs (parts_last bs) (eqb b 44) h
 Behind : List ℕ → List ℕ → List (List ℕ) → Type 0
 Behind bs front ps = ps ≡ front ∷ parts (drop (suc (length front)) bs)
 
-more-step : (b : ℕ) (bs : List ℕ) → (length (until 44 bs) < length bs → Behind bs (until 44 bs) (parts bs)) → (t : Bool) → length (pick t [] (b ∷ until 44 bs)) < suc (length bs) → Behind (b ∷ bs) (pick t [] (b ∷ until 44 bs)) (pick t ([] ∷ parts bs) (firstMore b (parts bs)))
+more-step : (b : ℕ) (bs : List ℕ) → (length (until 44 bs) < length bs → Behind bs (until 44 bs) (parts bs)) → (t : Bool) → length (pick t [] (b ∷ until 44 bs)) < suc (length bs) → Behind (b ∷ bs) (pick t [] (b ∷ until 44 bs)) (pick t ([] ∷ parts bs) (first_more b (parts bs)))
 unfolding pick Behind
 more-step b bs ih true h = refl
-more-step b bs ih false h = ap (firstMore b) (ih (omega arith))
+more-step b bs ih false h = ap (first_more b) (ih (omega arith))
 
 -- one does
 parts_more : (bs : List ℕ) → length (until 44 bs) < length bs → Behind bs (until 44 bs) (parts bs)
@@ -47,24 +47,24 @@ parts_more (b ∷ bs) h = more-step b bs (parts_more bs) (eqb b 44) h
 
 -- the attributes from a place on
 unfoldable pub from : List ℕ → ℕ → List Attribute
-from bs i = attributesOf (parts (drop i bs))
+from bs i = attributes_of (parts (drop i bs))
 
 -- the part from i on ends at e
 module _ (bs : List ℕ) (i e : ℕ) (q : e ≡ i + length (until 44 (drop i bs))) where
-  at_last : length bs ≤ e → from bs i ≡ attributeOf (until 44 (drop i bs)) ∷ []
-  unfolding from attributesOf
+  at_last : length bs ≤ e → from bs i ≡ attribute_of (until 44 (drop i bs)) ∷ []
+  unfolding from attributes_of
   at_last h =
       let l : length (drop i bs) ≤ length (until 44 (drop i bs)) = omega (arith, q, length-drop i bs) in
-      ap attributesOf (parts_last (drop i bs) l)
+      ap attributes_of (parts_last (drop i bs) l)
 
-  at_more : e < length bs → from bs i ≡ attributeOf (until 44 (drop i bs)) ∷ from bs (e + 1)
-  unfolding from attributesOf Behind
+  at_more : e < length bs → from bs i ≡ attribute_of (until 44 (drop i bs)) ∷ from bs (e + 1)
+  unfolding from attributes_of Behind
   at_more h =
       let u = until 44 (drop i bs) in
       let l : length u < length (drop i bs) = omega (arith, q, length-drop i bs) in
       let k : i + suc (length u) ≡ e + 1 = omega (arith, q) in
-      ap attributesOf (parts_more (drop i bs) l)
-      ∙ ap (λ (r : List ℕ). attributeOf u ∷ attributesOf (parts r)) (drop-drop (suc (length u)) i bs ∙ ap (λ (n : ℕ). drop n bs) k)
+      ap attributes_of (parts_more (drop i bs) l)
+      ∙ ap (λ (r : List ℕ). attribute_of u ∷ attributes_of (parts r)) (drop-drop (suc (length u)) i bs ∙ ap (λ (n : ℕ). drop n bs) k)
 
 -- What is told, and what is kept, of attributes behind n others, given the first of them.
 abbrev pub Both : ℕ → List Attribute → List (List ℕ) → Given → List (List ℕ) → Type 0
@@ -79,15 +79,15 @@ unfolding told kept
 first-is n a rest store k v p = (ap (λ (x : Attribute). told n (x ∷ rest)) p, ap (λ (x : Attribute). kept n (x ∷ rest) store) p)
 
 -- the same of those from a place on
-pub none_here : (bs : List ℕ) (i n : ℕ) (store : List (List ℕ)) → attributeOf (until 44 (drop i bs)) ≡ A.None → Both n (from bs i) store G.Unread store
+pub none_here : (bs : List ℕ) (i n : ℕ) (store : List (List ℕ)) → attribute_of (until 44 (drop i bs)) ≡ A.None → Both n (from bs i) store G.Unread store
 none_here bs i n store p =
     let e = i + length (until 44 (drop i bs)) in
     ⊎_elim
     (λ (l : length bs ≤ e). subst (λ (r : List Attribute). Both n r store G.Unread store) (sym (at_last bs i e refl l)) (first-none n _ [] store p))
     (λ (l : e < length bs). subst (λ (r : List Attribute). Both n r store G.Unread store) (sym (at_more bs i e refl l)) (first-none n _ (from bs (e + 1)) store p))
-    (le-or-lt (length bs) e)
+    (le_or-lt (length bs) e)
 
-module _ (bs : List ℕ) (i e n : ℕ) (store : List (List ℕ)) (q : e ≡ i + length (until 44 (drop i bs))) (k v : ℕ) (p : attributeOf (until 44 (drop i bs)) ≡ A.Is k v) where
+module _ (bs : List ℕ) (i e n : ℕ) (store : List (List ℕ)) (q : e ≡ i + length (until 44 (drop i bs))) (k v : ℕ) (p : attribute_of (until 44 (drop i bs)) ≡ A.Is k v) where
   pub last-here : length bs ≤ e → Both n (from bs i) store (G.Are (next n)) (put n (k ∷ v ∷ []) store)
   unfolding told kept
   last-here l =
@@ -98,18 +98,18 @@ module _ (bs : List ℕ) (i e n : ℕ) (store : List (List ℕ)) (q : e ≡ i + 
       subst (λ (r : List Attribute). Both n r store (told (next n) (from bs (e + 1))) (kept (next n) (from bs (e + 1)) (put n (k ∷ v ∷ []) store))) (sym (at_more bs i e q l)) (first-is n _ (from bs (e + 1)) store k v p)
 
 pub no_word : word_of [] ≡ W.None
-unfolding word_of decimalOf illLed pick
+unfolding word_of decimal_of ill_led pick
 no_word = refl
 
-no_part : attributeOf [] ≡ A.None
-unfolding attributeOf until
-no_part = ap (λ (w : Word). bothOf w (word_of [])) no_word
+no_part : attribute_of [] ≡ A.None
+unfolding attribute_of until
+no_part = ap (λ (w : Word). both_of w (word_of [])) no_word
 
 -- an empty part is no attribute
 pub none_left : (bs : List ℕ) (i n : ℕ) (store : List (List ℕ)) → length bs ≤ i → Both n (from bs i) store G.Unread store
-unfolding from attributesOf parts
+unfolding from attributes_of parts
 none_left bs i n store h =
-    subst (λ (r : List ℕ). Both n (attributesOf (parts r)) store G.Unread store) (sym (drop_of_length-le bs h)) (first-none n (attributeOf []) [] store no_part)
+    subst (λ (r : List ℕ). Both n (attributes_of (parts r)) store G.Unread store) (sym (drop_of_length-le bs h)) (first-none n (attribute_of []) [] store no_part)
 
 pub kept_same : {m n : ℕ} {a b : List (List ℕ)} (rest : List Attribute) → m ≡ n → a ≡ b → kept m rest a ≡ kept n rest b
 kept_same {m} {n} {a} {b} rest p q = ap (λ (k : ℕ). kept k rest a) p ∙ ap (kept n rest) q

@@ -2,27 +2,27 @@
 -- A set's text read in one pass: its digits, the number up to a mark, the attribute up to a comma. Assumes nothing.
 use Rattle.std.specs.Prelude.{ℕ, ◌+◌, ◌≤◌, ◌≡◌, ◌⊎◌, List, length, get_or, drop}
 use Rattle.text.specs.Fields.{until}
-use Rattle.text.specs.Numbers.{digitOf, spelledFrom}
+use Rattle.text.specs.Numbers.{digit_of, spelled_from}
 use Rattle.lines.specs.declared.attributes.Word.{Word}
 use Rattle.lines.specs.declared.attributes.Word.TheVariants as W
 use Rattle.lines.specs.declared.attributes.Attribute.{Attribute}
 use Rattle.lines.specs.declared.attributes.Attribute.TheVariants as A
-use Rattle.lines.specs.Spelled.{word_of, attributeOf}
+use Rattle.lines.specs.Spelled.{word_of, attribute_of}
 
 -- the bytes from one place up to another say x, whatever mark comes behind them
 unfoldable pub Says : List ℕ → ℕ → ℕ → ℕ → Type 0
 Says bs from x to =
     (m : ℕ)
-    → 10 ≤ digitOf m
+    → 10 ≤ digit_of m
     → (from + length (until m (drop from bs)) ≡ to + length (until m (drop to bs)))
-    × (spelledFrom 10 0 (until m (drop from bs)) ≡ spelledFrom 10 x (until m (drop to bs)))
+    × (spelled_from 10 0 (until m (drop from bs)) ≡ spelled_from 10 x (until m (drop to bs)))
 
 -- they are read up to a byte that is no digit, or to an end
 pub record Read (bs : List ℕ) (from end x to : ℕ) : Type 0 where
   pub low : from ≤ to
   pub high : to ≤ end
   pub says : Says bs from x to
-  pub stop : (10 ≤ digitOf (get_or bs to 0)) ⊎ (end ≤ to)
+  pub stop : (10 ≤ digit_of (get_or bs to 0)) ⊎ (end ≤ to)
 
 -- the number that a text spells, and where the text ends that starts at a place; 0 where there is no number
 abbrev pub behind : Word → ℕ → ℕ
@@ -38,4 +38,4 @@ after A.None e = 0
 after (A.Is k v) e = e
 
 abbrev pub Parted : List ℕ → ℕ → Attribute → ℕ → Type 0
-Parted u from a to = (a ≡ attributeOf u) × (to ≡ after a (from + length u))
+Parted u from a to = (a ≡ attribute_of u) × (to ≡ after a (from + length u))

@@ -3,7 +3,7 @@
 use Rattle.std.specs.Prelude.{ℕ, ◌+◌, ◌^◌, Bool, ◌&&◌, List, [], ◌∷◌, ltb, eqb, length, get_or, drop, set}
 use Rattle.laws.specs.Pick.{pick}
 use Rattle.text.specs.Fields.{until}
-use Rattle.text.specs.Numbers.{decimalOf}
+use Rattle.text.specs.Numbers.{decimal_of}
 use Rattle.text.specs.declared.numbers.Natural.{Natural}
 use Rattle.text.specs.declared.numbers.Natural.TheVariants as N
 use Rattle.lines.specs.declared.attributes.Word.{Word}
@@ -19,37 +19,37 @@ word_in N.None = W.None
 word_in (N.Is x) = pick (ltb x (2 ^ 32)) (W.Is x) W.None
 
 unfoldable pub word_of : List ℕ → Word
-word_of bs = word_in (decimalOf bs)
+word_of bs = word_in (decimal_of bs)
 
 -- KEY:VALUE, parted by the first colon; where there is none the value is empty, which is no decimal
-abbrev pub bothOf : Word → Word → Attribute
-bothOf W.None v = A.None
-bothOf (W.Is k) W.None = A.None
-bothOf (W.Is k) (W.Is v) = A.Is k v
+abbrev pub both_of : Word → Word → Attribute
+both_of W.None v = A.None
+both_of (W.Is k) W.None = A.None
+both_of (W.Is k) (W.Is v) = A.Is k v
 
-unfoldable pub attributeOf : List ℕ → Attribute
-attributeOf bs = bothOf (word_of (until 58 bs)) (word_of (drop (length (until 58 bs) + 1) bs))
+unfoldable pub attribute_of : List ℕ → Attribute
+attribute_of bs = both_of (word_of (until 58 bs)) (word_of (drop (length (until 58 bs) + 1) bs))
 
 -- parts of a text with one byte more before the first
-abbrev pub firstMore : ℕ → List (List ℕ) → List (List ℕ)
-firstMore b [] = []
-firstMore b (p ∷ ps) = (b ∷ p) ∷ ps
+abbrev pub first_more : ℕ → List (List ℕ) → List (List ℕ)
+first_more b [] = []
+first_more b (p ∷ ps) = (b ∷ p) ∷ ps
 
 -- the parts of a text between its commas
 unfoldable pub parts : List ℕ → List (List ℕ)
 parts [] = [] ∷ []
-parts (b ∷ bs) = pick (eqb b 44) ([] ∷ parts bs) (firstMore b (parts bs))
+parts (b ∷ bs) = pick (eqb b 44) ([] ∷ parts bs) (first_more b (parts bs))
 
 -- the attributes that the parts spell
-unfoldable pub attributesOf : List (List ℕ) → List Attribute
-attributesOf [] = []
-attributesOf (p ∷ ps) = attributeOf p ∷ attributesOf ps
+unfoldable pub attributes_of : List (List ℕ) → List Attribute
+attributes_of [] = []
+attributes_of (p ∷ ps) = attribute_of p ∷ attributes_of ps
 
-unfoldable pub isDash : List ℕ → Bool
-isDash bs = eqb (length bs) 1 && eqb (get_or bs 0 0) 45
+unfoldable pub is_dash : List ℕ → Bool
+is_dash bs = eqb (length bs) 1 && eqb (get_or bs 0 0) 45
 
 unfoldable pub spelled : List ℕ → List Attribute
-spelled bs = pick (isDash bs) [] (attributesOf (parts bs))
+spelled bs = pick (is_dash bs) [] (attributes_of (parts bs))
 
 -- one more than n, at most nine
 unfoldable pub next : ℕ → ℕ

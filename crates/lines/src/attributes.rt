@@ -1,10 +1,10 @@
 // Sets as they are spelled: KEY:VALUE joined by commas, `-` the empty one.
 ghost use Rattle.std.specs.Prelude.{◌≡◌, [], ◌∷◌, ◌+◌, ◌≤◌, min, ltb, length, drop};
 ghost use Rattle.text.specs.Fields.{until};
-ghost use Rattle.text.specs.Numbers.{digitOf};
+ghost use Rattle.text.specs.Numbers.{digit_of};
 ghost use Rattle.lines.specs.declared.attributes.Word.TheVariants as W;
 ghost use Rattle.lines.specs.declared.attributes.Attribute.TheVariants as Attr;
-ghost use Rattle.lines.specs.Spelled.{parts, attributesOf, isDash, spelled, next, put, told, kept};
+ghost use Rattle.lines.specs.Spelled.{parts, attributes_of, is_dash, spelled, next, put, told, kept};
 ghost use Rattle.lines.specs.Scanned.{Read, Scanned, Parted};
 
 // The attributes of a set, at most nine: one more than any call takes.
@@ -105,7 +105,7 @@ fn no_word() -> Scan
 
 // The number from a place up to a mark or the end.
 fn word_at(bytes: &[u8], from: usize, mark: u8) -> Scan
-    requires { (from ≤ length bytes.now) × (10 ≤ digitOf mark) }
+    requires { (from ≤ length bytes.now) × (10 ≤ digit_of mark) }
     ensures { Scanned (until mark (drop from bytes.now)) from result.word result.to }
 {
     let r = digits(bytes, from);
@@ -174,8 +174,8 @@ fn keep(attrs: &mut Attributes, n: usize, key: u32, value: u32) -> usize
 
 // The attributes of a text that isn't `-`, one or more.
 fn several(bytes: &[u8], attrs: &mut Attributes) -> Given
-    ensures value { result ≡ told 0 (attributesOf (parts bytes.now)) }
-    ensures attrs_after { attrs.new ≡ kept 0 (attributesOf (parts bytes.now)) attrs.old }
+    ensures value { result ≡ told 0 (attributes_of (parts bytes.now)) }
+    ensures attrs_after { attrs.new ≡ kept 0 (attributes_of (parts bytes.now)) attrs.old }
 {
     let mut n: usize = 0;
     let mut i: usize = 0;
@@ -196,7 +196,7 @@ fn several(bytes: &[u8], attrs: &mut Attributes) -> Given
 }
 
 fn is_dash(bytes: &[u8]) -> bool
-    ensures { result ≡ isDash bytes.now }
+    ensures { result ≡ is_dash bytes.now }
 {
     if bytes.len() != 1 {
         return false;

@@ -1,7 +1,7 @@
 // Lines from blocks of the input.
 ghost use Rattle.std.specs.Prelude.{◌≡◌, true, false, ◌⊎◌, min, ◌+◌, ◌≤◌, eqb, take};
 ghost use Rattle.laws.specs.Pick.{pick};
-ghost use Rattle.lines.specs.Reading.{Within, newlineIn, newlineOf, copied, taken, takenLine, NextLine};
+ghost use Rattle.lines.specs.Reading.{Within, newline_in, newline_of, copied, taken, taken_line, NextLine};
 
 use crate::{Block, Line};
 use libc::STDIN_FILENO;
@@ -52,7 +52,7 @@ fn or_newline(found: bool, byte: u8) -> bool
 // Whether one of eight bytes of the block is a newline. The loop goes on behind a newline, so that the compiler can test all eight at once.
 fn in_eight(block: &Block, from: usize) -> bool
     requires { from + 8 ≤ 65536 }
-    ensures { result ≡ newlineIn block.now from 8 }
+    ensures { result ≡ newline_in block.now from 8 }
 {
     let mut found = false;
     let mut i: usize = 0;
@@ -66,7 +66,7 @@ fn in_eight(block: &Block, from: usize) -> bool
 // How far there is no newline among the block's bytes from a place on, eight by eight.
 fn skipped(block: &Block, from: usize, end: usize) -> usize
     requires { (from ≤ end) × (end ≤ 65536) }
-    ensures { (from ≤ result) × (result ≤ end) × (newlineOf block.now result end ≡ newlineOf block.now from end) }
+    ensures { (from ≤ result) × (result ≤ end) × (newline_of block.now result end ≡ newline_of block.now from end) }
 {
     let mut i = from;
     while i + 8 <= end && !in_eight(block, i) {
@@ -78,7 +78,7 @@ fn skipped(block: &Block, from: usize, end: usize) -> usize
 // Where the next newline stands among the block's bytes from a place to an end; the end where there is none.
 fn newline(block: &Block, from: usize, end: usize) -> usize
     requires { (from ≤ end) × (end ≤ 65536) }
-    ensures { (from ≤ result) × (result ≤ end) × (result ≡ newlineOf block.now from end) }
+    ensures { (from ≤ result) × (result ≤ end) × (result ≡ newline_of block.now from end) }
 {
     let mut i = skipped(block, from, end);
     while i < end {
@@ -105,7 +105,7 @@ fn copy(block: &Block, from: usize, line: &mut Line, len: usize, n: usize)
 // Goes on with the line to its end or the block's. What a line has above 256 bytes is left out.
 fn take(p: Ports, block: &Block, line: &mut Line) -> Ports
     ensures { (Within result.at result.end result.len) × (result.waiting ≡ p.waiting)
-        × (result ≡ taken p block.now) × (line.new ≡ takenLine p block.now line.old) }
+        × (result ≡ taken p block.now) × (line.new ≡ taken_line p block.now line.old) }
 {
     let end = lesser(p.end, 65536);
     let at = lesser(p.at, end);

@@ -1,7 +1,7 @@
 // Text gathered in a block, which is written when it is full or when somebody may wait for it. What is written no contract can say; what
 // waits in the block, and how much, they say.
 ghost use Rattle.std.specs.Prelude.{◌≡◌, [], ◌∷◌, ◌<◌};
-ghost use Rattle.text.specs.Numbers.{hexDigits};
+ghost use Rattle.text.specs.Numbers.{hex_digits};
 ghost use Rattle.lines.specs.Gathered.{place, waiting, ◌behind◌};
 ghost use Rattle.lines.specs.Written as Written;
 
@@ -83,7 +83,7 @@ fn sixteen(text: &mut Block, n: usize, digits: &[u8; 16]) -> usize
 
 // Bits as 16 hexadecimal digits.
 pub fn bits(text: &mut Block, n: usize, x: u64) -> usize
-    ensures { waiting result text.exit ≡ hexDigits 16 x behind waiting n text.entry }
+    ensures { waiting result text.exit ≡ hex_digits 16 x behind waiting n text.entry }
 {
     let digits = text::hex_digits(x);
     sixteen(text, n, &digits)

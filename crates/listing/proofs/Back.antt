@@ -13,13 +13,13 @@ use Rattle.laws.specs.Counting.{bit}
 use Rattle.laws.specs.Pick.{pick}
 use Rattle.laws.proofs.Cases.{true-not-false}
 use Rattle.sets.proofs.Alls.{allb-yes}
-use Rattle.floats.specs.Answers.{isShown, bitsOf}
+use Rattle.floats.specs.Answers.{is_shown, bits_of}
 use Rattle.floats.specs.declared.Extreme.{Extreme}
 use Rattle.floats.specs.declared.Extreme.TheVariants.{None, Value}
 use Rattle.point.specs.declared.Point.{Point}
 use Rattle.point.specs.declared.Figures.{Figures}
 use Rattle.point.specs.declared.Figures.TheVariants.{Exponential, Explicit}
-use Rattle.listing.specs.Words.{shownBits, figuresWords, words_of, figuresIn, boundsIn, extremeIn, pointIn, isPoint}
+use Rattle.listing.specs.Words.{shown_bits, figures_words, words_of, figures_in, bounds_in, extreme_in, point_in, is_point}
 use Rattle.listing.specs.declared.Span.{Span}
 
 -- ---- what a point in code is
@@ -37,25 +37,25 @@ Fitting (Value x) = fits binary64 x ≡ true
 -- and extremes are both shown or neither
 pub record Held (p : Point) (b : Span) : Type 0 where
   pub figures : Narrow p.figures b
-  pub both : isShown p.max ≡ isShown p.min
+  pub both : is_shown p.max ≡ is_shown p.min
   pub min : Fitting p.min
   pub max : Fitting p.max
   pub sum : fits binary64 p.sum ≡ true
 
 -- ---- an f64
 
-to-T : (b : Bool) → b ≡ true → T b
-to-T true p = tt
-to-T false p = true-not-false (sym p)
+to-t : (b : Bool) → b ≡ true → T b
+to-t true p = tt
+to-t false p = true-not-false (sym p)
 
-pub bits_back : (x : Float) → fits binary64 x ≡ true → of_bits binary64 (bitsOf x) ≡ x
+pub bits_back : (x : Float) → fits binary64 x ≡ true → of_bits binary64 (bits_of x) ≡ x
 unfolding is_nan of_bits of_fields pick
 bits_back nan h = refl
-bits_back (inf s) h = of_bits-to_bits binary64 (inf s) (to-T _ h)
-bits_back (fin s m e) h = of_bits-to_bits binary64 (fin s m e) (to-T _ h)
+bits_back (inf s) h = of_bits-to_bits binary64 (inf s) (to-t _ h)
+bits_back (fin s m e) h = of_bits-to_bits binary64 (fin s m e) (to-t _ h)
 
-extreme-back : (x : Extreme) (s : Bool) → isShown x ≡ s → Fitting x → extremeIn s (shownBits x) ≡ x
-unfolding extremeIn pick
+extreme-back : (x : Extreme) (s : Bool) → is_shown x ≡ s → Fitting x → extreme_in s (shown_bits x) ≡ x
+unfolding extreme_in pick
 extreme-back None true e h = true-not-false (sym e)
 extreme-back None false e h = refl
 extreme-back (Value x) true e h = ap Value (bits_back x h)
@@ -79,26 +79,26 @@ shown-back false false = refl
 
 module _ (b : Span) (x y z u : ℕ) where
   abbrev row : Figures → List ℕ
-  row f = figuresWords f b ++ (x ∷ y ∷ z ∷ u ∷ [])
+  row f = figures_words f b ++ (x ∷ y ∷ z ∷ u ∷ [])
 
-  word-8 : (f : Figures) → get_or (row f) 8 0 ≡ x
-  word-8 (Exponential c) = refl
-  word-8 (Explicit n) = refl
+  word_8 : (f : Figures) → get_or (row f) 8 0 ≡ x
+  word_8 (Exponential c) = refl
+  word_8 (Explicit n) = refl
 
-  word-9 : (f : Figures) → get_or (row f) 9 0 ≡ y
-  word-9 (Exponential c) = refl
-  word-9 (Explicit n) = refl
+  word_9 : (f : Figures) → get_or (row f) 9 0 ≡ y
+  word_9 (Exponential c) = refl
+  word_9 (Explicit n) = refl
 
-  word-10 : (f : Figures) → get_or (row f) 10 0 ≡ z
-  word-10 (Exponential c) = refl
-  word-10 (Explicit n) = refl
+  word_10 : (f : Figures) → get_or (row f) 10 0 ≡ z
+  word_10 (Exponential c) = refl
+  word_10 (Explicit n) = refl
 
-  word-11 : (f : Figures) → get_or (row f) 11 0 ≡ u
-  word-11 (Exponential c) = refl
-  word-11 (Explicit n) = refl
+  word_11 : (f : Figures) → get_or (row f) 11 0 ≡ u
+  word_11 (Exponential c) = refl
+  word_11 (Explicit n) = refl
 
-  figures-back : (f : Figures) → Narrow f b → figuresIn (row f) ≡ f
-  unfolding figuresIn pick
+  figures-back : (f : Figures) → Narrow f b → figures_in (row f) ≡ f
+  unfolding figures_in pick
   figures-back (Exponential c) h =
       let l : c.level % 4294967296 ≡ c.level = omega (arith, h.0) in
       let p : c.pos.start % 4294967296 ≡ c.pos.start = omega (arith, h.1) in
@@ -113,8 +113,8 @@ module _ (b : Span) (x y z u : ℕ) where
       })
   figures-back (Explicit n) h = refl
 
-  bounds-back : (f : Figures) → Narrow f b → boundsIn (row f) ≡ b
-  unfolding boundsIn pick
+  bounds-back : (f : Figures) → Narrow f b → bounds_in (row f) ≡ b
+  unfolding bounds_in pick
   bounds-back (Exponential c) h = sym h.3
   bounds-back (Explicit n) h = refl
 
@@ -122,35 +122,35 @@ module _ (b : Span) (x y z u : ℕ) where
 
 module _ (p : Point) (b : Span) (h : Held p b) where
   abbrev flags : ℕ
-  flags = bit p.extremes + 2 * bit (isShown p.min)
+  flags = bit p.extremes + 2 * bit (is_shown p.min)
 
   abbrev w : List ℕ
   w = words_of p b
 
-  extreme-of : (x : Extreme) (k n : ℕ) → k ≡ bit p.extremes + 2 * bit (isShown p.min) → n ≡ shownBits x → isShown x ≡ isShown p.min → Fitting x
-      → extremeIn (leb 2 k) n ≡ x
+  extreme-of : (x : Extreme) (k n : ℕ) → k ≡ bit p.extremes + 2 * bit (is_shown p.min) → n ≡ shown_bits x → is_shown x ≡ is_shown p.min → Fitting x
+      → extreme_in (leb 2 k) n ≡ x
   extreme-of x k n e f s t =
-      ap₂ (λ (i j : ℕ). extremeIn (leb 2 i) j) e f
-      ∙ ap (λ (o : Bool). extremeIn o (shownBits x)) (shown-back p.extremes (isShown p.min))
-      ∙ extreme-back x (isShown p.min) s t
+      ap₂ (λ (i j : ℕ). extreme_in (leb 2 i) j) e f
+      ∙ ap (λ (o : Bool). extreme_in o (shown_bits x)) (shown-back p.extremes (is_shown p.min))
+      ∙ extreme-back x (is_shown p.min) s t
 
-  pub point-back : pointIn (words_of p b) ≡ p
-  unfolding pointIn
+  pub point-back : point_in (words_of p b) ≡ p
+  unfolding point_in
   point-back =
-      let f = figures-back b flags (shownBits p.min) (shownBits p.max) (bitsOf p.sum) p.figures h.figures in
-      let k = word-8 b flags (shownBits p.min) (shownBits p.max) (bitsOf p.sum) p.figures in
-      let x = ap (λ (n : ℕ). eqb (n % 2) 1) k ∙ switch_back p.extremes (isShown p.min) in
-      let l = extreme-of p.min (get_or w 8 0) (get_or w 9 0) k (word-9 b flags (shownBits p.min) (shownBits p.max) (bitsOf p.sum) p.figures) refl h.min in
-      let g = extreme-of p.max (get_or w 8 0) (get_or w 10 0) k (word-10 b flags (shownBits p.min) (shownBits p.max) (bitsOf p.sum) p.figures) h.both h.max in
-      let s = ap (of_bits binary64) (word-11 b flags (shownBits p.min) (shownBits p.max) (bitsOf p.sum) p.figures) ∙ bits_back p.sum h.sum in
+      let f = figures-back b flags (shown_bits p.min) (shown_bits p.max) (bits_of p.sum) p.figures h.figures in
+      let k = word_8 b flags (shown_bits p.min) (shown_bits p.max) (bits_of p.sum) p.figures in
+      let x = ap (λ (n : ℕ). eqb (n % 2) 1) k ∙ switch_back p.extremes (is_shown p.min) in
+      let l = extreme-of p.min (get_or w 8 0) (get_or w 9 0) k (word_9 b flags (shown_bits p.min) (shown_bits p.max) (bits_of p.sum) p.figures) refl h.min in
+      let g = extreme-of p.max (get_or w 8 0) (get_or w 10 0) k (word_10 b flags (shown_bits p.min) (shown_bits p.max) (bits_of p.sum) p.figures) h.both h.max in
+      let s = ap (of_bits binary64) (word_11 b flags (shown_bits p.min) (shown_bits p.max) (bits_of p.sum) p.figures) ∙ bits_back p.sum h.sum in
       λ i. record { figures = f i; extremes = x i; min = l i; max = g i; sum = s i }
 
-  pub span-back : boundsIn (words_of p b) ≡ b
-  span-back = bounds-back b flags (shownBits p.min) (shownBits p.max) (bitsOf p.sum) p.figures h.figures
+  pub span-back : bounds_in (words_of p b) ≡ b
+  span-back = bounds-back b flags (shown_bits p.min) (shown_bits p.max) (bits_of p.sum) p.figures h.figures
 
   -- its words are accepted
-  pub point-is : isPoint (words_of p b) ≡ true
-  unfolding isPoint
+  pub point-is : is_point (words_of p b) ≡ true
+  unfolding is_point
   point-is =
-      let e : words_of (pointIn w) (boundsIn w) ≡ w = ap₂ words_of point-back span-back in
-      allb-yes (λ i. eqb (get_or (words_of (pointIn w) (boundsIn w)) i 0) (get_or w i 0)) 12 (λ i l. eq-eqb _ _ (ap (λ (t : List ℕ). get_or t i 0) e))
+      let e : words_of (point_in w) (bounds_in w) ≡ w = ap₂ words_of point-back span-back in
+      allb-yes (λ i. eqb (get_or (words_of (point_in w) (bounds_in w)) i 0) (get_or w i 0)) 12 (λ i l. eq-eqb _ _ (ap (λ (t : List ℕ). get_or t i 0) e))

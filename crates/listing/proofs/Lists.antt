@@ -7,10 +7,10 @@ use lib.ListN.{length, set, drop, length-append, length-map}
 use lib.Seq.{take-append_seam, drop-append_seam, drop-drop}
 use Rattle.laws.specs.Over.{over}
 use Rattle.laws.proofs.Over.{over-snoc}
-use Rattle.listing.specs.Listed.{overAt}
+use Rattle.listing.specs.Listed.{over_at}
 
-pub over-behind-front : {A : Type 0} (a b old : List A) → overAt (length a) b (over a old) ≡ over (a ++ b) old
-unfolding over overAt
+pub over-behind-front : {A : Type 0} (a b old : List A) → over_at (length a) b (over a old) ≡ over (a ++ b) old
+unfolding over over_at
 over-behind-front a b old =
     let r = drop (length a) old in
     ap₂ (λ x y. x ++ (b ++ drop (length b) y)) (take-append_seam a r) (drop-append_seam a r)

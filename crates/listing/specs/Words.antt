@@ -5,7 +5,7 @@ use Rattle.std.specs.Float.Ieee.{of_bits}
 use Rattle.laws.specs.Pick.{pick}
 use Rattle.laws.specs.Counting.{bit}
 use Rattle.sets.specs.All.{allb}
-use Rattle.floats.specs.Answers.{isShown, bitsOf}
+use Rattle.floats.specs.Answers.{is_shown, bits_of}
 use Rattle.floats.specs.declared.Extreme.{Extreme}
 use Rattle.floats.specs.declared.Extreme.TheVariants.{None, Value}
 use Rattle.point.specs.declared.Point.{Point}
@@ -16,28 +16,28 @@ use Rattle.listing.specs.declared.Span.{Span}
 -- ---- written
 
 -- the bits of an extreme, 0 where it is not shown
-abbrev pub shownBits : Extreme → ℕ
-shownBits None = 0
-shownBits (Value x) = bitsOf x
+abbrev pub shown_bits : Extreme → ℕ
+shown_bits None = 0
+shown_bits (Value x) = bits_of x
 
 -- kind, count, zero count, level, start and length of the positive and of the negative row; of the explicit kind its count, and where its
 -- bounds lie: "Explicit points have bucket counts, no scale, rows or zero count"
-abbrev pub figuresWords : Figures → Span → List ℕ
-figuresWords (Exponential c) b =
+abbrev pub figures_words : Figures → Span → List ℕ
+figures_words (Exponential c) b =
     0 ∷ c.count ∷ c.zeros ∷ c.level ∷ c.pos.start ∷ c.pos.len ∷ c.neg.start ∷ c.neg.len ∷ []
-figuresWords (Explicit n) b = 1 ∷ n ∷ 0 ∷ 0 ∷ b.start ∷ b.len ∷ 0 ∷ 0 ∷ []
+figures_words (Explicit n) b = 1 ∷ n ∷ 0 ∷ 0 ∷ b.start ∷ b.len ∷ 0 ∷ 0 ∷ []
 
 -- then the flags (1: the min/max switch is on; 2 more: extremes are shown), the bits of minimum, maximum and sum: "A NaN sum is handed
 -- out as 7FF8000000000000"
 abbrev pub words_of : Point → Span → List ℕ
 words_of p b =
-    figuresWords p.figures b
-    ++ ((bit p.extremes + 2 * bit (isShown p.min)) ∷ shownBits p.min ∷ shownBits p.max ∷ bitsOf p.sum ∷ [])
+    figures_words p.figures b
+    ++ ((bit p.extremes + 2 * bit (is_shown p.min)) ∷ shown_bits p.min ∷ shown_bits p.max ∷ bits_of p.sum ∷ [])
 
 -- ---- read: level and starts are numbers of 32 bits
 
-unfoldable pub figuresIn : List ℕ → Figures
-figuresIn w =
+unfoldable pub figures_in : List ℕ → Figures
+figures_in w =
     pick (eqb (get_or w 0 0) 0)
     (Exponential (record {
       count = get_or w 1 0;
@@ -49,22 +49,22 @@ figuresIn w =
     (Explicit (get_or w 1 0))
 
 -- an exponential point has no bounds
-unfoldable pub boundsIn : List ℕ → Span
-boundsIn w = pick (eqb (get_or w 0 0) 0) (record { start = 0; len = 0 }) (record { start = get_or w 4 0; len = get_or w 5 0 })
+unfoldable pub bounds_in : List ℕ → Span
+bounds_in w = pick (eqb (get_or w 0 0) 0) (record { start = 0; len = 0 }) (record { start = get_or w 4 0; len = get_or w 5 0 })
 
-unfoldable pub extremeIn : Bool → ℕ → Extreme
-extremeIn shown bits = pick shown (Value (of_bits binary64 bits)) None
+unfoldable pub extreme_in : Bool → ℕ → Extreme
+extreme_in shown bits = pick shown (Value (of_bits binary64 bits)) None
 
-unfoldable pub pointIn : List ℕ → Point
-pointIn w =
+unfoldable pub point_in : List ℕ → Point
+point_in w =
     record {
-      figures = figuresIn w;
+      figures = figures_in w;
       extremes = eqb (get_or w 8 0 % 2) 1;
-      min = extremeIn (leb 2 (get_or w 8 0)) (get_or w 9 0);
-      max = extremeIn (leb 2 (get_or w 8 0)) (get_or w 10 0);
+      min = extreme_in (leb 2 (get_or w 8 0)) (get_or w 9 0);
+      max = extreme_in (leb 2 (get_or w 8 0)) (get_or w 10 0);
       sum = of_bits binary64 (get_or w 11 0);
     }
 
 -- words are a point's if the point that they read as is written as these words, and then only
-unfoldable pub isPoint : List ℕ → Bool
-isPoint w = allb 12 (λ i. eqb (get_or (words_of (pointIn w) (boundsIn w)) i 0) (get_or w i 0))
+unfoldable pub is_point : List ℕ → Bool
+is_point w = allb 12 (λ i. eqb (get_or (words_of (point_in w) (bounds_in w)) i 0) (get_or w i 0))

@@ -1,7 +1,7 @@
 // The point that twelve words are.
 ghost use Rattle.std.specs.Prelude.{◌≡◌, eqb, get_or};
 ghost use Rattle.sets.specs.All.{allb};
-ghost use Rattle.listing.specs.Words.{figuresIn, boundsIn, extremeIn, pointIn, isPoint};
+ghost use Rattle.listing.specs.Words.{figures_in, bounds_in, extreme_in, point_in, is_point};
 
 use crate::Span;
 use exponential::Counts;
@@ -11,7 +11,7 @@ use rows::Row;
 
 // An extreme, if it is shown.
 fn extreme_of(shown: bool, bits: u64) -> Extreme
-    ensures { result ≡ extremeIn shown bits }
+    ensures { result ≡ extreme_in shown bits }
 {
     if shown {
         let x = floats::of_bits(bits);
@@ -22,7 +22,7 @@ fn extreme_of(shown: bool, bits: u64) -> Extreme
 
 // The figures by the kind that the words tell.
 fn figures_of(w: [u64; 12]) -> Figures
-    ensures { result ≡ figuresIn w }
+    ensures { result ≡ figures_in w }
 {
     if w[0] == 0 {
         return Figures::Exponential(Counts {
@@ -44,7 +44,7 @@ fn figures_of(w: [u64; 12]) -> Figures
 
 // Where the words say that the bounds lie.
 pub fn bounds_of(w: [u64; 12]) -> Span
-    ensures { result ≡ boundsIn w }
+    ensures { result ≡ bounds_in w }
 {
     if w[0] == 0 {
         return Span { start: 0, len: 0 };
@@ -57,7 +57,7 @@ pub fn bounds_of(w: [u64; 12]) -> Span
 
 // The point that the words read as.
 pub fn point_of(w: [u64; 12]) -> Point
-    ensures { result ≡ pointIn w }
+    ensures { result ≡ point_in w }
 {
     let figures = figures_of(w);
     let shown = 2 <= w[8];
@@ -89,7 +89,7 @@ fn same(a: &[u64; 12], b: &[u64; 12]) -> bool
 
 // Whether the words are a point's: written again, it gives them.
 pub fn is_point(w: [u64; 12]) -> bool
-    ensures { result ≡ isPoint w }
+    ensures { result ≡ is_point w }
 {
     let p = point_of(w);
     let b = bounds_of(w);

@@ -1,8 +1,8 @@
 // A point as twelve words.
 ghost use Rattle.std.specs.Prelude.{◌≡◌, ◌≤◌};
 ghost use Rattle.laws.specs.Counting.{bit};
-ghost use Rattle.floats.specs.Answers.{isShown};
-ghost use Rattle.listing.specs.Words.{shownBits, words_of};
+ghost use Rattle.floats.specs.Answers.{is_shown};
+ghost use Rattle.listing.specs.Words.{shown_bits, words_of};
 
 use crate::Span;
 use floats::Extreme;
@@ -20,7 +20,7 @@ fn flag_of(b: bool) -> u64
 
 // Whether an extreme is shown.
 fn is_shown(x: Extreme) -> bool
-    ensures { result ≡ isShown x }
+    ensures { result ≡ is_shown x }
 {
     match x {
         Extreme::None => false,
@@ -30,7 +30,7 @@ fn is_shown(x: Extreme) -> bool
 
 // The bits of an extreme, 0 where it is not shown.
 fn shown_bits(x: Extreme) -> u64
-    ensures { result ≡ shownBits x }
+    ensures { result ≡ shown_bits x }
 {
     match x {
         Extreme::None => 0,

@@ -1,7 +1,7 @@
 // One point put into the list.
 ghost use Rattle.std.specs.Prelude.{◌≡◌, ◌^◌, ◌<◌, ◌≤◌, length, take};
 ghost use Rattle.laws.specs.Over.{over};
-ghost use Rattle.listing.specs.Listed.{output, posLen, negLen, behind, put_at};
+ghost use Rattle.listing.specs.Listed.{output, pos_len, neg_len, behind, put_at};
 ghost use Rattle.listing.specs.Inner.{Goes, Room, left};
 
 use crate::{Cursor, Span};
@@ -9,8 +9,8 @@ use point::{Figures, Point};
 
 // How many counts a point has in the first store.
 pub fn pos_len(f: Figures, b: Span) -> usize
-    requires { posLen f b < 2 ^ 64 }
-    ensures { result ≡ posLen f b }
+    requires { pos_len f b < 2 ^ 64 }
+    ensures { result ≡ pos_len f b }
 {
     match f {
         Figures::Exponential(c) => {
@@ -28,7 +28,7 @@ pub fn pos_len(f: Figures, b: Span) -> usize
 
 // How many it has in the second.
 pub fn neg_len(f: Figures) -> usize
-    ensures { result ≡ negLen f }
+    ensures { result ≡ neg_len f }
 {
     match f {
         Figures::Exponential(c) => {

@@ -1,6 +1,6 @@
 // Reading the list: the point at a cursor, and its counts.
 ghost use Rattle.std.specs.Prelude.{◌≡◌, ◌+◌, ◌-◌, ◌^◌, ◌<◌, min, leb, length};
-ghost use Rattle.listing.specs.Listed.{bucketsOf, within, entryIn, pointAt, rowAt, boundsAt};
+ghost use Rattle.listing.specs.Listed.{buckets_of, within, entry_in, point_at, row_at, bounds_at};
 
 use crate::{Cursor, Entry, Found, Span};
 use exponential::Counts;
@@ -19,7 +19,7 @@ pub fn lie(from: usize, n: usize, many: usize) -> bool
 
 // Whether the buckets of n bounds do.
 fn buckets_lie(from: usize, n: usize, many: usize) -> bool
-    ensures { result ≡ leb (from + bucketsOf n) many }
+    ensures { result ≡ leb (from + buckets_of n) many }
 {
     if n == 0 {
         return from <= many;
@@ -55,7 +55,7 @@ fn counts_lie(at: Cursor, f: Figures, b: Span, pos: usize, neg: usize) -> bool
 // The point of twelve words, if they are one's and its counts are there.
 pub fn entry_in(at: Cursor, w: [u64; 12], pos: usize, neg: usize) -> Found
     requires { at.place + 1 < 2 ^ 64 }
-    ensures { result ≡ entryIn at w pos neg }
+    ensures { result ≡ entry_in at w pos neg }
 {
     if !crate::decode::is_point(w) {
         return Found::NoPoint;
@@ -76,7 +76,7 @@ pub fn entry_in(at: Cursor, w: [u64; 12], pos: usize, neg: usize) -> Found
 
 // The point at a cursor, with the cursor of the point behind it; none where the words are no point's.
 pub fn point_at(at: Cursor, words: &[[u64; 12]], pos: &[u64], neg: &[u64]) -> Found
-    ensures { result ≡ pointAt at words.now (length pos.now) (length neg.now) }
+    ensures { result ≡ point_at at words.now (length pos.now) (length neg.now) }
 {
     let k = at.place;
     if k >= words.len() {
@@ -110,7 +110,7 @@ pub fn row_at<'a>(
     pos: &'a [u64],
     neg: &'a [u64],
 ) -> &'a [u64]
-    ensures { result.now ≡ rowAt at next negative pos.now neg.now }
+    ensures { result.now ≡ row_at at next negative pos.now neg.now }
 {
     let i = shorter(at.pos, pos.len());
     let j = shorter(at.neg, neg.len());
@@ -128,7 +128,7 @@ pub fn row_at<'a>(
 
 // The bounds of an explicit point, a part of the store of bounds that lies beside the list.
 pub fn bounds_at<'a>(b: Span, bounds: &'a [f64]) -> &'a [f64]
-    ensures { result.now ≡ boundsAt b bounds.now }
+    ensures { result.now ≡ bounds_at b bounds.now }
 {
     let i = shorter(b.start, bounds.len());
     let n = shorter(b.len, bounds.len() - i);

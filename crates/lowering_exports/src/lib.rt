@@ -2,7 +2,7 @@
 ghost use Rattle.std.specs.Prelude.{◌≡◌, ◌^◌, ◌<◌, ◌≤◌, length, take};
 ghost use Rattle.laws.specs.Counting.{total};
 ghost use Rattle.rows.specs.Rows.{over, downscaled};
-ghost use Rattle.halving.specs.Plain.{plainCounts};
+ghost use Rattle.halving.specs.Plain.{plain_counts};
 ghost use Rattle.halving.specs.Inner.{plain_over};
 
 use rows::Row;
@@ -24,8 +24,8 @@ pub extern "C" fn lower_by_walk(counts: &mut [u64], n: usize, start: u32, delta:
 #[unsafe(no_mangle)]
 pub extern "C" fn lower_by_halves(counts: &mut [u64], n: usize, start: u32, delta: u32) -> usize
     requires { (n ≤ length counts.old) × (total (take n counts.old) < 2 ^ 64) }
-    ensures value { result ≡ length (plainCounts delta start (take n counts.old)) }
-    ensures counts_after { take result counts.new ≡ plainCounts delta start (take n counts.old) }
+    ensures value { result ≡ length (plain_counts delta start (take n counts.old)) }
+    ensures counts_after { take result counts.new ≡ plain_counts delta start (take n counts.old) }
     ensures counts_after_2 { counts.new ≡ plain_over delta start n counts.old }
 {
     let row = halving::downscale(counts, start, n, delta);

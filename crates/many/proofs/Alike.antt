@@ -9,7 +9,7 @@ use lib.ListN.{get_or}
 use borrow.Author.Tests.{eq-eqb, ne_eqb}
 use Rattle.laws.specs.Pick.{pick}
 use Rattle.rows.specs.Recording.{Recording}
-use Rattle.many.specs.Many.{Many, stopped, oneMore, each}
+use Rattle.many.specs.Many.{Many, stopped, one_more, each}
 use Rattle.many.proofs.Turns.{either, each_on, each-stop, each_none}
 
 pub pick_first : {A : Type 0} (n : ℕ) → n ≡ 0 → (p q : A) → pick (eqb n 0) p q ≡ p
@@ -47,7 +47,7 @@ module _ {A L M : Type 0} (f : L → A → Recording L) (g : M → A → Recordi
         (λ z.
         let i = alike vs (λ j. s (suc j)) (f l v).cells (g m v).cells a.cells in
         subst (λ (p : Many L). Alike p (each g m (v ∷ vs))) (sym (each_on f l v vs z))
-        (subst (λ (q : Many M). Alike (oneMore (each f (f l v).cells vs)) q) (sym (each_on g m v vs (sym a.no ∙ z)))
+        (subst (λ (q : Many M). Alike (one_more (each f (f l v).cells vs)) q) (sym (each_on g m v vs (sym a.no ∙ z)))
         (record { taken = ap suc i.taken; no = i.no; left = i.left })))
         (λ d.
         subst (λ (p : Many L). Alike p (each g m (v ∷ vs))) (sym (each-stop f l v vs d))

@@ -10,7 +10,7 @@ use lib.Seq.{drop-cons}
 use borrow.Author.Tests.{eq-eqb, ne_eqb}
 use Rattle.laws.specs.Pick.{pick}
 use Rattle.rows.specs.Recording.{Recording}
-use Rattle.many.specs.Many.{Many, stopped, oneMore, each}
+use Rattle.many.specs.Many.{Many, stopped, one_more, each}
 
 -- by what holds of a number that is 0, and of one that is not
 pub either : {P : Type 0} (n : ℕ) → (n ≡ 0 → P) → ((n ≡ 0 → ⊥) → P) → P
@@ -23,7 +23,7 @@ later i r = record { taken = i + r.taken; no = r.no; left = r.left }
 
 module _ {A Left : Type 0} (f : Left → A → Recording Left) where
   module _ (l : Left) (v : A) (vs : List A) where
-    pub each_on : (f l v).no ≡ 0 → each f l (v ∷ vs) ≡ oneMore (each f (f l v).cells vs)
+    pub each_on : (f l v).no ≡ 0 → each f l (v ∷ vs) ≡ one_more (each f (f l v).cells vs)
     unfolding each pick
     each_on z = rw (eq-eqb (f l v).no 0 z)
 
@@ -53,7 +53,7 @@ module _ {A Left : Type 0} (f : Left → A → Recording Left) where
           let n : i + suc r.taken ≡ (i + 1) + r.taken = omega arith in
           ap (λ (ws : List A). later i (each f l ws)) at_turn
           ∙ ap (later i) (each_on l (get_or vs i nought) (drop (i + 1) vs) (ap (λ (y : Recording Left). y.no) (sym e) ∙ z))
-          ∙ ap (λ (y : Recording Left). later i (oneMore (each f y.cells (drop (i + 1) vs)))) (sym e)
+          ∙ ap (λ (y : Recording Left). later i (one_more (each f y.cells (drop (i + 1) vs)))) (sym e)
           ∙ (λ j. record { taken = n j; no = r.no; left = r.left })
 
       pub halt : (x.no ≡ 0 → ⊥) → later i (each f l (drop i vs)) ≡ record { taken = i; no = x.no; left = x.cells }

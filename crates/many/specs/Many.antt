@@ -18,12 +18,12 @@ many t n l = record { taken = t; no = n; left = l }
 abbrev pub stopped : {Left : Type 0} → ℕ → Left → Many Left
 stopped n l = record { taken = 0; no = n; left = l }
 
-abbrev pub oneMore : {Left : Type 0} → Many Left → Many Left
-oneMore r = record { taken = suc r.taken; no = r.no; left = r.left }
+abbrev pub one_more : {Left : Type 0} → Many Left → Many Left
+one_more r = record { taken = suc r.taken; no = r.no; left = r.left }
 
 -- THE DEFINITION: f is what one value makes of what is there, with its number, 0 where it took the value
 unfoldable pub each : {A Left : Type 0} → (Left → A → Recording Left) → Left → List A → Many Left
 each f l [] = stopped 0 l
 each f l (v ∷ vs) =
     let o = f l v in
-    pick (eqb o.no 0) (oneMore (each f o.cells vs)) (stopped o.no o.cells)
+    pick (eqb o.no 0) (one_more (each f o.cells vs)) (stopped o.no o.cells)

@@ -6,8 +6,8 @@ ghost use Rattle.sets.specs.Sorted.{given};
 ghost use Rattle.directory.specs.View.{stores};
 ghost use Rattle.exponential_slots.specs.Cells.{cells};
 ghost use Rattle.value_map.specs.Calls.{held, measured};
-ghost use Rattle.value_map.specs.Exponential.{exponentialStore};
-ghost use Rattle.map_words.specs.Words.{state_of, handed, handedOut};
+ghost use Rattle.value_map.specs.Exponential.{exponential_store};
+ghost use Rattle.map_words.specs.Words.{state_of, handed, handed_out};
 ghost use Rattle.batches.specs.Agreed.{AgreedFor};
 
 // Records a value into the series of the attributes' set. The state is one entry of three words. The map must agree, as it does
@@ -28,11 +28,11 @@ pub extern "C" fn agreed_measure(
     v: f64,
     attrs: &[[u32; 2]],
 ) -> u64
-    requires { AgreedFor (exponentialStore size top) (true, true) limit none (held (state_of (get_or state.old 0 []))
+    requires { AgreedFor (exponential_store size top) (true, true) limit none (held (state_of (get_or state.old 0 []))
         (stores sets entries order) (cells figures extremes pos neg)) (given attrs.now) }
     ensures { handed result state.exit (stores sets.exit entries.exit order.exit)
         (cells figures.exit extremes.exit pos.exit neg.exit)
-        ≡ handedOut state.old (measured (exponentialStore size top) limit none
+        ≡ handed_out state.old (measured (exponential_store size top) limit none
         (held (state_of (get_or state.old 0 [])) (stores sets.entry entries.entry order.entry)
         (cells figures.entry extremes.entry pos.entry neg.entry)) v (given attrs.now)) }
 {

@@ -5,8 +5,8 @@ ghost use Rattle.sets.specs.Sorted.{given};
 ghost use Rattle.directory.specs.View.{stores};
 ghost use Rattle.exponential_slots.specs.Cells.{cells};
 ghost use Rattle.value_map.specs.Calls.{held, measured};
-ghost use Rattle.value_map.specs.Exponential.{exponentialStore};
-ghost use Rattle.map_words.specs.Words.{state_of, handed, handedOut};
+ghost use Rattle.value_map.specs.Exponential.{exponential_store};
+ghost use Rattle.map_words.specs.Words.{state_of, handed, handed_out};
 
 // Records a value into the series of the attributes' set. The state is one entry of three words. Returns document 01's number.
 #[unsafe(no_mangle)]
@@ -26,7 +26,7 @@ pub extern "C" fn map_measure(
     attrs: &[[u32; 2]],
 ) -> u64
     ensures { handed result state.exit (stores sets.exit entries.exit order.exit) (cells figures.exit extremes.exit pos.exit neg.exit)
-        ≡ handedOut state.old (measured (exponentialStore size top) limit none
+        ≡ handed_out state.old (measured (exponential_store size top) limit none
         (held (state_of (get_or state.old 0 [])) (stores sets.entry entries.entry order.entry)
         (cells figures.entry extremes.entry pos.entry neg.entry)) v (given attrs.now)) }
 {

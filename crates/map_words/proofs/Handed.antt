@@ -8,11 +8,11 @@ use Rattle.bindings.specs.Calls.{said}
 use Rattle.bindings.specs.declared.Reply.{Reply}
 use Rattle.directory.specs.View.{Stores}
 use Rattle.value_map.specs.Calls.{Outcome, gave}
-use Rattle.map_words.specs.Words.{Handed, words_of, handedOut}
+use Rattle.map_words.specs.Words.{Handed, words_of, handed_out}
 
 pub handed : {Cells : Type 0} (state : List (List ℕ)) (s : Stores) (x : Cells) (r : Reply) (o : Outcome Cells) (n : ℕ) (w : List ℕ)
     → gave r s x ≡ o → n ≡ number (said r.answer) → w ≡ words_of r.dir
-    → record { number = n; state = set state 0 w; stores = s; cells = x } ≡ handedOut state o
+    → record { number = n; state = set state 0 w; stores = s; cells = x } ≡ handed_out state o
 handed {Cells} state s x r o n w e p q =
     let f : ℕ → List ℕ → Handed Cells = λ m l. record { number = m; state = set state 0 l; stores = s; cells = x } in
-    ap (λ (m : ℕ). f m w) p ∙ (ap (λ (l : List ℕ). f (number (said r.answer)) l) q ∙ ap (handedOut state) e)
+    ap (λ (m : ℕ). f m w) p ∙ (ap (λ (l : List ℕ). f (number (said r.answer)) l) q ∙ ap (handed_out state) e)

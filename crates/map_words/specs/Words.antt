@@ -25,8 +25,8 @@ pub record Handed (Cells : Type 0) : Type 0 where
 abbrev pub handed : {Cells : Type 0} → ℕ → Bor (List (List ℕ)) → Stores → Cells → Handed Cells
 handed n state s x = record { number = n; state = state.now; stores = s; cells = x }
 
-abbrev pub handedOut : {Cells : Type 0} → List (List ℕ) → Outcome Cells → Handed Cells
-handedOut state o =
+abbrev pub handed_out : {Cells : Type 0} → List (List ℕ) → Outcome Cells → Handed Cells
+handed_out state o =
     record {
       number = number o.answer;
       state = set state 0 (words_of o.held.kept.dir);

@@ -36,25 +36,25 @@ list-is (x ∷ xs) [] t = absurd t
 list-is (x ∷ xs) (y ∷ ys) t =
     λ j. eqb→eq x y (both_left (eqb x y) (same_list xs ys) t) j ∷ list-is xs ys (both_right (eqb x y) (same_list xs ys) t) j
 
-unfoldable pub sameRow : ℤ × List ℕ → ℤ × List ℕ → Bool
-sameRow (o, cs) (p, ds) = same o p && same_list cs ds
+unfoldable pub same_row : ℤ × List ℕ → ℤ × List ℕ → Bool
+same_row (o, cs) (p, ds) = same o p && same_list cs ds
 
-row_is : (r s : ℤ × List ℕ) → T (sameRow r s) → r ≡ s
-unfolding sameRow
+row_is : (r s : ℤ × List ℕ) → T (same_row r s) → r ≡ s
+unfolding same_row
 row_is (o, cs) (p, ds) t =
     λ j. (same-is o p (both_left (same o p) (same_list cs ds) t) j, list-is cs ds (both_right (same o p) (same_list cs ds) t) j)
 
-unfoldable pub sameLine : Line → Line → Bool
-sameLine (c, z, s, l, h, t, p, n) (c', z', s', l', h', t', p', n') =
-    same_list (c ∷ z ∷ l ∷ h ∷ t ∷ []) (c' ∷ z' ∷ l' ∷ h' ∷ t' ∷ []) && (same s s' && (sameRow p p' && sameRow n n'))
+unfoldable pub same_line : Line → Line → Bool
+same_line (c, z, s, l, h, t, p, n) (c', z', s', l', h', t', p', n') =
+    same_list (c ∷ z ∷ l ∷ h ∷ t ∷ []) (c' ∷ z' ∷ l' ∷ h' ∷ t' ∷ []) && (same s s' && (same_row p p' && same_row n n'))
 
-pub line-is : (l m : Line) → T (sameLine l m) → l ≡ m
-unfolding sameLine
+pub line-is : (l m : Line) → T (same_line l m) → l ≡ m
+unfolding same_line
 line-is (c, z, s, l, h, t, p, n) (c', z', s', l', h', t', p', n') k =
     let w = same_list (c ∷ z ∷ l ∷ h ∷ t ∷ []) (c' ∷ z' ∷ l' ∷ h' ∷ t' ∷ []) in
     let x = same s s' in
-    let y = sameRow p p' in
-    let u = sameRow n n' in
+    let y = same_row p p' in
+    let u = same_row n n' in
     let k2 = both_right w (x && (y && u)) k in
     let k3 = both_right x (y && u) k2 in
     let e = list-is (c ∷ z ∷ l ∷ h ∷ t ∷ []) (c' ∷ z' ∷ l' ∷ h' ∷ t' ∷ []) (both_left w (x && (y && u)) k) in

@@ -4,16 +4,16 @@ use Rattle.std.specs.Float.{binary64}
 use Rattle.std.specs.Float.Ieee.{of_bits}
 use Rattle.index.specs.Magnitude.{magnitude}
 use Rattle.index.specs.DataModel.{IsIndex}
-use Rattle.index.specs.Signed.{levelAnswer, valueIndex}
+use Rattle.index.specs.Signed.{level_answer, value_index}
 use Rattle.index.specs.declared.signed.Natural.TheVariants.{Is}
 use Rattle.index.specs.declared.signed.Index.TheVariants.{At}
-use Rattle.floats.specs.Answers.{bitsOf}
-use Rattle.floats.specs.Starts.{zeroFloat}
+use Rattle.floats.specs.Answers.{bits_of}
+use Rattle.floats.specs.Starts.{zero_float}
 use Rattle.floats.specs.declared.Extreme.TheVariants.{Value}
 use Rattle.points.specs.Points.{Point}
-use Rattle.points.specs.Signed.{scaleIn, offsetIn}
-use Rattle.points.specs.Explicit.{bucketOf}
-use Rattle.points.specs.Figures.{exponential, settingsOf, exponentialCounts}
+use Rattle.points.specs.Signed.{scale_in, offset_in}
+use Rattle.points.specs.Explicit.{bucket_of}
+use Rattle.points.specs.Figures.{exponential, settings_of, exponential_counts}
 use Rattle.points.specs.Handed.{handed}
 
 -- the f64 with these bits
@@ -28,7 +28,7 @@ Line = ℕ × ℕ × ℤ × ℕ × ℕ × ℕ × (ℤ × List ℕ) × (ℤ × Li
 
 abbrev pub line_of : Point → Float → Float → Float → Line
 line_of p low high total =
-    (p.total, p.zeros, scaleIn p, bitsOf low, bitsOf high, bitsOf total, (offsetIn p p.pos, p.pos.counts), (offsetIn p p.neg, p.neg.counts))
+    (p.total, p.zeros, scale_in p, bits_of low, bits_of high, bits_of total, (offset_in p p.pos, p.pos.counts), (offset_in p p.neg, p.neg.counts))
 
 -- ---- the marks
 
@@ -43,12 +43,12 @@ pub data Mark : Type 0 where
 -- by the Data Model's index, which is what the contract of `index::signed::get_index` says that the code answers, and by document 01's bucket and
 -- point, which contracts cite
 abbrev pub Holds : Mark → Type 0
-Holds (index bits scale i) = IsIndex scale (magnitude (f64 bits)) i × (valueIndex (f64 bits) scale ≡ At false i)
-Holds (bucket bounds bits k) = bucketOf (map f64 bounds) (f64 bits) ≡ k
+Holds (index bits scale i) = IsIndex scale (magnitude (f64 bits)) i × (value_index (f64 bits) scale ≡ At false i)
+Holds (bucket bounds bits k) = bucket_of (map f64 bounds) (f64 bits) ≡ k
 Holds (point size scale values line) =
-    (top : ℕ) × (p : Point) × (low : Float) × (high : Float) × (total : Float) × (levelAnswer scale ≡ Is top)
-    × (handed (settingsOf (exponential size top) true true) (map f64 values)
-    ≡ record { counts = exponentialCounts p; extremes = true; threshold = zeroFloat; min = Value low; max = Value high; sum = total })
+    (top : ℕ) × (p : Point) × (low : Float) × (high : Float) × (total : Float) × (level_answer scale ≡ Is top)
+    × (handed (settings_of (exponential size top) true true) (map f64 values)
+    ≡ record { counts = exponential_counts p; extremes = true; threshold = zero_float; min = Value low; max = Value high; sum = total })
     × (line_of p low high total ≡ line)
 
 abbrev pub marks : List Mark

@@ -10,44 +10,44 @@ use Rattle.laws.specs.Said.{Said, refusal, success}
 use Rattle.laws.proofs.Bools.{pick_true, pick-false}
 use Rattle.floats.specs.Grid.{signed, steps}
 use Rattle.points.specs.Handed.{count_of}
-use Rattle.point.specs.Handing.{Stored, countsIn, agreesAlone}
+use Rattle.point.specs.Handing.{Stored, counts_in, agrees_alone}
 use Rattle.mean.specs.declared.Sum.{Sum}
 use Rattle.mean.specs.declared.Sum.TheVariants.{OffGrid, Steps}
 use Rattle.mean.specs.Rounding.{nearest, hundredths}
-use Rattle.mean.specs.Mean.{onGrid, meanOf, meanIn}
+use Rattle.mean.specs.Mean.{on_grid, mean_of, mean_in}
 use Rattle.mean.specs.Inner.{as_sum, sum_of}
 
 -- by the sum as the code finds it
-abbrev pub meanBy : ℕ → Sum → Said ℤ
-meanBy count OffGrid = refusal 14
-meanBy count (Steps s n) = success (signed s (nearest (n * 100) (count * 1024)))
+abbrev pub mean_by : ℕ → Sum → Said ℤ
+mean_by count OffGrid = refusal 14
+mean_by count (Steps s n) = success (signed s (nearest (n * 100) (count * 1024)))
 
-by-steps : (count : ℕ) (z : ℤ) → meanBy count (as_sum z) ≡ success (hundredths z count)
+by-steps : (count : ℕ) (z : ℤ) → mean_by count (as_sum z) ≡ success (hundredths z count)
 by-steps count (pos n) = refl
 by-steps count (negsuc n) = refl
 
-by-sum : (count : ℕ) (x : Float) → meanBy count (sum_of x) ≡ pick (onGrid x) (success (hundredths (steps x) count)) (refusal 14)
+by-sum : (count : ℕ) (x : Float) → mean_by count (sum_of x) ≡ pick (on_grid x) (success (hundredths (steps x) count)) (refusal 14)
 unfolding sum_of pick
-by-sum count x = go (onGrid x)
+by-sum count x = go (on_grid x)
   where
-    go : (b : Bool) → meanBy count (pick b (as_sum (steps x)) OffGrid) ≡ pick b (success (hundredths (steps x) count)) (refusal 14)
+    go : (b : Bool) → mean_by count (pick b (as_sum (steps x)) OffGrid) ≡ pick b (success (hundredths (steps x) count)) (refusal 14)
     go true = by-steps count (steps x)
     go false = refl
 
 module _ (count : ℕ) (sum : Float) where
-  pub mean-none : count ≡ 0 → meanOf count sum ≡ refusal 13
-  unfolding meanOf
+  pub mean-none : count ≡ 0 → mean_of count sum ≡ refusal 13
+  unfolding mean_of
   mean-none h = pick_true _ _ _ (eq-eqb count 0 h)
 
-  pub mean-some : (count ≡ 0 → ⊥) → meanOf count sum ≡ meanBy count (sum_of sum)
-  unfolding meanOf
+  pub mean-some : (count ≡ 0 → ⊥) → mean_of count sum ≡ mean_by count (sum_of sum)
+  unfolding mean_of
   mean-some h = pick-false _ _ _ (ne_eqb count 0 h) ∙ sym (by-sum count sum)
 
 module _ (x : Stored) where
-  pub mean-disagrees : agreesAlone x ≡ false → meanIn x ≡ refusal 8
-  unfolding meanIn
+  pub mean-disagrees : agrees_alone x ≡ false → mean_in x ≡ refusal 8
+  unfolding mean_in
   mean-disagrees h = pick-false _ _ _ h
 
-  pub mean-agrees : agreesAlone x ≡ true → meanIn x ≡ meanOf (count_of (countsIn x)) x.point.sum
-  unfolding meanIn
+  pub mean-agrees : agrees_alone x ≡ true → mean_in x ≡ mean_of (count_of (counts_in x)) x.point.sum
+  unfolding mean_in
   mean-agrees h = pick_true _ _ _ h

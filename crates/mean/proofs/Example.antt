@@ -10,13 +10,13 @@ use Rattle.laws.specs.Said.{Said, refusal, success}
 use Rattle.floats.specs.Grid.{is_whole}
 use Rattle.floats.specs.declared.Extreme.{Extreme}
 use Rattle.floats.specs.declared.Extreme.TheVariants.{None, Value}
-use Rattle.points.specs.Explicit.{bucketsAgree, boundsPass, noNan, rising}
-use Rattle.points.specs.Handed.{handedAgrees}
+use Rattle.points.specs.Explicit.{buckets_agree, bounds_pass, no_nan, rising}
+use Rattle.points.specs.Handed.{handed_agrees}
 use Rattle.point.specs.declared.Figures.TheVariants.{Explicit}
-use Rattle.point.specs.Handing.{Stored, storedIn, agreesAlone}
+use Rattle.point.specs.Handing.{Stored, stored_in, agrees_alone}
 use Rattle.mean.specs.Rounding.{rounded, nearest}
 use Rattle.mean.specs.Rule.{half}
-use Rattle.mean.specs.Mean.{onGrid, meanOf, meanIn}
+use Rattle.mean.specs.Mean.{on_grid, mean_of, mean_in}
 
 pub record Example : Type 0 where
   pub count : ℕ
@@ -70,25 +70,25 @@ examples =
     ∷ []
 
 abbrev answered : Example → Example
-answered e = of e.count e.sum (meanOf e.count (of_bits binary64 e.sum))
+answered e = of e.count e.sum (mean_of e.count (of_bits binary64 e.sum))
 
 pub computed : map answered examples ≡ examples
-unfolding meanOf pick onGrid is_whole of_bits nearest rounded half
+unfolding mean_of pick on_grid is_whole of_bits nearest rounded half
 computed = refl
 
 -- ---- "after 8 .. 13 .., then 14": an explicit point without bounds whose sum is a NaN, by its extremes and its count
 abbrev stored : Extreme → ℕ → Stored
 stored e n =
-    storedIn (record { figures = Explicit n; extremes = true; min = e; max = e; sum = of_bits binary64 0x7ff8_0000_0000_0000 }) [] [] []
+    stored_in (record { figures = Explicit n; extremes = true; min = e; max = e; sum = of_bits binary64 0x7ff8_0000_0000_0000 }) [] [] []
 
 abbrev naught : Extreme
 naught = Value (of_bits binary64 0)
 
 -- request L4: extremes shown of no values are 8, and so is their lack where there is one
 order :
-    (meanIn (stored naught 0) ≡ refusal 8)
-    × (meanIn (stored None 0) ≡ refusal 13)
-    × (meanIn (stored None 1) ≡ refusal 8)
-    × (meanIn (stored naught 1) ≡ refusal 14)
-unfolding meanIn agreesAlone handedAgrees bucketsAgree boundsPass noNan rising meanOf onGrid is_whole of_bits pick
+    (mean_in (stored naught 0) ≡ refusal 8)
+    × (mean_in (stored None 0) ≡ refusal 13)
+    × (mean_in (stored None 1) ≡ refusal 8)
+    × (mean_in (stored naught 1) ≡ refusal 14)
+unfolding mean_in agrees_alone handed_agrees buckets_agree bounds_pass no_nan rising mean_of on_grid is_whole of_bits pick
 order = (refl, refl, refl, refl)

@@ -15,9 +15,9 @@ use Rattle.mean.specs.Rule.{half}
 use Rattle.mean.specs.Rounding.{rounded, nearest, hundredths}
 
 -- ---- THE RULE takes a half to one of its two neighbours: all that is used of it
-pub half-neighbour : (q : ℕ) → (half q ≡ q) ⊎ (half q ≡ q + 1)
+pub half_neighbour : (q : ℕ) → (half q ≡ q) ⊎ (half q ≡ q + 1)
 unfolding half
-half-neighbour q = inr refl
+half_neighbour q = inr refl
 
 -- ---- by the tests of the code
 module _ (q r d : ℕ) where
@@ -82,7 +82,7 @@ rounded-le q r d = go (ltb (2 * r) d) (ltb d (2 * r))
     go : (u v : Bool) → pick u q (pick v (q + 1) (half q)) ≤ q + 1
     go true v = omega arith
     go false true = omega arith
-    go false false = ruled (half q) (half-neighbour q)
+    go false false = ruled (half q) (half_neighbour q)
 
 -- THE ROUNDED NUMBER IS NEAREST
 pub nearest-is : (a d : ℕ) → 0 < d → Nearest (nearest a d) a d
@@ -99,7 +99,7 @@ nearest-is a d p = all (a / d) (a % d) (div-add-mod' a d) (mod-lt a p)
         go : (u v : Bool) → ltb (2 * r) d ≡ u → ltb d (2 * r) ≡ v → Nearest (pick u q (pick v (q + 1) (half q))) a d
         go true v h k = at q r a d e (le_of_lt (ltb-true (2 * r) d h))
         go false true h k = at_next q r a d e l (ltb-false (2 * r) d h)
-        go false false h k = to (half q) (half-neighbour q) (ltb-false (2 * r) d h) (ltb-false d (2 * r) k)
+        go false false h k = to (half q) (half_neighbour q) (ltb-false (2 * r) d h) (ltb-false d (2 * r) k)
 
 -- A HALF GOES WHERE THE RULE SAYS: a / d is k and a half
 pub half-goes : (k a d : ℕ) → 0 < d → 2 * a ≡ 2 * (k * d) + d → nearest a d ≡ half k

@@ -5,7 +5,7 @@ use Rattle.laws.specs.Pick.{pick}
 use Rattle.floats.specs.Grid.{steps}
 use Rattle.mean.specs.declared.Sum.{Sum}
 use Rattle.mean.specs.declared.Sum.TheVariants.{OffGrid, Steps}
-use Rattle.mean.specs.Mean.{onGrid}
+use Rattle.mean.specs.Mean.{on_grid}
 
 -- a whole number by its sign and its size; 0 has no sign, so -0.0 is as 0.0
 abbrev pub as_sum : ℤ → Sum
@@ -13,7 +13,7 @@ as_sum (pos n) = Steps false n
 as_sum (negsuc n) = Steps true (suc n)
 
 unfoldable pub sum_of : Float → Sum
-sum_of x = pick (onGrid x) (as_sum (steps x)) OffGrid
+sum_of x = pick (on_grid x) (as_sum (steps x)) OffGrid
 
 -- ---- of m * 2 ^ e units of 2 ^ -2048, m a mantissa of 53 digits: 1/1024 is 2 ^ 2038 of them
 
@@ -22,8 +22,8 @@ unfoldable pub shifted : Bool → ℕ → ℕ → Sum
 shifted negative m k = pick (eqb (m / 2 ^ k * 2 ^ k) m) (Steps negative (m / 2 ^ k)) OffGrid
 
 -- above 2 ^ 43 from the next mantissa on
-unfoldable pub sumOfParts : Bool → ℕ → ℕ → Sum
-sumOfParts negative m e =
+unfoldable pub sum_of_parts : Bool → ℕ → ℕ → Sum
+sum_of_parts negative m e =
     pick (leb e 2038)
     (pick (leb (2038 - e) 52) (shifted negative m (2038 - e)) OffGrid)
     (pick (eqb e 2039 && eqb m (2 ^ 52)) (Steps negative (2 ^ 53)) OffGrid)

@@ -5,8 +5,8 @@ ghost use Rattle.point.specs.Handing.{stored};
 ghost use Rattle.whole_point.specs.Handing as W;
 ghost use Rattle.mean.specs.Rule as Rule;
 ghost use Rattle.mean.specs.Rounding as Rounding;
-ghost use Rattle.mean.specs.Mean.{said, meanOf, meanIn, wholeMeanIn};
-ghost use Rattle.mean.specs.Inner.{sum_of, sumOfParts};
+ghost use Rattle.mean.specs.Mean.{said, mean_of, mean_in, whole_mean_in};
+ghost use Rattle.mean.specs.Inner.{sum_of, sum_of_parts};
 
 use index::Parts;
 use point::Point;
@@ -31,7 +31,7 @@ enum Sum {
 // Of mantissa * 2^exponent units of 2^-2048: 1/1024 is 2^2038 of them.
 fn sum_of_parts(negative: bool, mantissa: u64, exponent: u64) -> Sum
     requires { (2 ^ 52 ≤ mantissa) × (mantissa < 2 ^ 53) }
-    ensures { result ≡ sumOfParts negative mantissa exponent }
+    ensures { result ≡ sum_of_parts negative mantissa exponent }
 {
     if exponent > 2038 {
         if exponent == 2039 {
@@ -121,7 +121,7 @@ fn signed(negative: bool, size: u64) -> i64
 }
 
 fn mean_of(count: u64, sum: f64) -> Answer
-    ensures { said result ≡ meanOf count sum }
+    ensures { said result ≡ mean_of count sum }
 {
     if count == 0 {
         return Answer::Refused(13);
@@ -137,7 +137,7 @@ fn mean_of(count: u64, sum: f64) -> Answer
 
 // The mean of a point with its bounds and rows, of either kind, in whole hundredths; or 8, 13, 14. Nothing is changed.
 pub fn hundredths(p: Point, bounds: &[f64], pos: &[u64], neg: &[u64]) -> Answer
-    ensures { said result ≡ meanIn (stored p bounds.entry pos.entry neg.entry) }
+    ensures { said result ≡ mean_in (stored p bounds.entry pos.entry neg.entry) }
 {
     let f = p.figures;
     if !point::agrees_alone(p, bounds, pos, neg) {
@@ -148,7 +148,7 @@ pub fn hundredths(p: Point, bounds: &[f64], pos: &[u64], neg: &[u64]) -> Answer
 
 // The same of a point of i64 values, which has no card (request L6): 8 where it disagrees with itself, else 11. Nothing is changed.
 pub fn whole_hundredths(p: whole_point::Point, bounds: &[f64], pos: &[u64], neg: &[u64]) -> Answer
-    ensures { said result ≡ wholeMeanIn (W.stored p bounds.entry pos.entry neg.entry) }
+    ensures { said result ≡ whole_mean_in (W.stored p bounds.entry pos.entry neg.entry) }
 {
     let no = whole_point::alone_number(p, bounds, pos, neg);
     Answer::Refused(no)

@@ -8,7 +8,7 @@ use native.Mathlib.Omega.{arith}
 use lib.ListN.{length, take, replicate, length-append}
 use Rattle.laws.specs.Counting.{total}
 use Rattle.points.specs.Points as P
-use Rattle.points.proofs.Rows.{row-path}
+use Rattle.points.proofs.Rows.{row_path}
 use Rattle.rows.specs.Rows.{over, downscaled}
 use Rattle.rows.specs.declared.Row.{Row}
 use Rattle.rows.proofs.Laws.{take-over, over-over, length_over, total-downscaled}
@@ -33,7 +33,7 @@ module _ (a : Row) (j : ℕ) (xs us : List ℕ) (l : Layable a j xs us) where
 
   empty-same : a.len ≡ 0 → E ≡ A
   unfolding downscaled
-  empty-same z = row-path E A (sym (zero-div (2 ^ j)) ∙ ap (λ n. n / 2 ^ j) (sym (l.empty z))) (sym (ap (λ n. downscaled j a.start (take n xs)) z))
+  empty-same z = row_path E A (sym (zero-div (2 ^ j)) ∙ ap (λ n. n / 2 ^ j) (sym (l.empty z))) (sym (ap (λ n. downscaled j a.start (take n xs)) z))
 
   pub first-joined : joined E A ≡ A
   first-joined =
@@ -75,8 +75,8 @@ module _ (a : Row) (j : ℕ) (xs : List ℕ) (b : Row) (k : ℕ) (ys us : List �
   short : length F.counts ≤ length us
   short = omega (arith, joined-grows F B, l.room)
 
-  pub first-lay : Layable a j xs us
-  first-lay = record { short = l.short; few = l.few; sums = omega (arith, l.sums); empty = l.empty; room = short }
+  pub first_lay : Layable a j xs us
+  first_lay = record { short = l.short; few = l.few; sums = omega (arith, l.sums); empty = l.empty; room = short }
 
   module _ (r : Row) (us' : List ℕ) (h : Laid F us r us') where
     long : length us' ≡ length us
@@ -86,14 +86,14 @@ module _ (a : Row) (j : ℕ) (xs : List ℕ) (b : Row) (k : ℕ) (ys us : List �
     front = (λ i. take (h.len i) (h.now i)) ∙ take-over F.counts us
 
     same : row_in r us' ≡ F
-    same = row-path (row_in r us') F h.start front
+    same = row_path (row_in r us') F h.start front
 
     pub then-join : Joinable r us' b k ys
     then-join =
         record {
           short = omega (arith, h.len, long, short);
           other = l.other;
-          few = l.fewOther;
+          few = l.few_other;
           sums = omega (arith, l.sums, ap total front, total-downscaled j a.start (take a.len xs));
           room = subst (λ (o : P.Row). length (joined o B).counts ≤ length us') (sym same) (omega (arith, l.room, long));
         }

@@ -11,14 +11,14 @@ use lib.Pow.{shr_mono}
 use borrow.Author.Tests.{eq-eqb, ne_eqb}
 use Rattle.laws.specs.Pick.{pick}
 use Rattle.points.specs.Points.{Row}
-use Rattle.rows.specs.Rows.{addAll, downscaled}
+use Rattle.rows.specs.Rows.{add_all, downscaled}
 use Rattle.rows.specs.declared.Row as C
-use Rattle.rows.proofs.Algebra.{le-or-lt, length-downscaled-is, downscaled-some}
+use Rattle.rows.proofs.Algebra.{le_or-lt, length-downscaled-is, downscaled-some}
 use Rattle.exponential.specs.Steps.{lowered, lowering}
 use Rattle.exponential.specs.Series.{row_in}
 use Rattle.exponential.proofs.Counted.{length-replicate}
-use Rattle.merges.specs.Merges.{joined, low_end, highEnd, joinedLen}
-use Rattle.merges.proofs.Joined.{length-addAll, span}
+use Rattle.merges.specs.Merges.{joined, low_end, high_end, joined_len}
+use Rattle.merges.proofs.Joined.{length-add_all, span}
 use Rattle.merges.proofs.Wide.{join-none, join_first, join-both}
 
 -- the last bin of a row
@@ -46,12 +46,12 @@ module _ (k : ℕ) (r : C.Row) (xs : List ℕ) (h : r.len ≤ length xs) where
   lowered-some p = downscaled-some k r.start (take r.len xs) (omega (arith, len))
 
 -- of two rows joined
-pub long-add : (k : ℕ) (ys xs : List ℕ) → 0 < length ys → length (addAll k ys xs) ≡ max (length xs) (k + length ys)
+pub long-add : (k : ℕ) (ys xs : List ℕ) → 0 < length ys → length (add_all k ys xs) ≡ max (length xs) (k + length ys)
 long-add k [] xs h = absurd (omega arith)
-long-add k (y ∷ ys) xs h = length-addAll k y ys xs
+long-add k (y ∷ ys) xs h = length-add_all k y ys xs
 
 pred-max : (a b : ℕ) → 0 < a → 0 < b → pred (max a b) ≡ max (pred a) (pred b)
-pred-max a b h g = ⊎_elim (λ (l : a ≤ b). omega arith) (λ (l : b < a). omega arith) (le-or-lt a b)
+pred-max a b h g = ⊎_elim (λ (l : a ≤ b). omega arith) (λ (l : b < a). omega arith) (le_or-lt a b)
 
 pred-add : (d m : ℕ) → 0 < m → pred (d + m) ≡ d + pred m
 pred-add d m h = omega arith
@@ -59,8 +59,8 @@ pred-add d m h = omega arith
 low-end : (s t a b : ℕ) → s ≤ t → s + max (s - t + a) (t - s + b) ≡ max (s + a) (t + b)
 low-end s t a b l = let f : s - t + a ≡ a = omega arith in rw f (omega arith)
 
-high_end : (s t a b : ℕ) → t < s → t + max (s - t + a) (t - s + b) ≡ max (s + a) (t + b)
-high_end s t a b l = let f : t - s + b ≡ b = omega arith in rw f (omega arith)
+high_end_lem : (s t a b : ℕ) → t < s → t + max (s - t + a) (t - s + b) ≡ max (s + a) (t + b)
+high_end_lem s t a b l = let f : t - s + b ≡ b = omega arith in rw f (omega arith)
 
 both_end : (s t n m : ℕ) → 0 < n → 0 < m → min s t + pred (max (s - t + n) (t - s + m)) ≡ max (s + pred n) (t + pred m)
 both_end s t n m h g =
@@ -69,8 +69,8 @@ both_end s t n m h g =
     rw e
     (⊎_elim
     (λ (l : s ≤ t). rw (min-eq_left l) (low-end s t (pred n) (pred m) l))
-    (λ (l : t < s). rw (min-eq_right (le_of_lt l)) (high_end s t (pred n) (pred m) l))
-    (le-or-lt s t))
+    (λ (l : t < s). rw (min-eq_right (le_of_lt l)) (high_end_lem s t (pred n) (pred m) l))
+    (le_or-lt s t))
   where
     pos-add : (d n : ℕ) → 0 < n → 0 < d + n
     pos-add d n p = omega arith
@@ -96,20 +96,20 @@ module _ (a b : Row) (h : 0 < length a.counts) (g : 0 < length b.counts) where
 -- ---- by numbers
 
 module _ (a b : C.Row) (j k : ℕ) where
-  pub ends-first : b.len ≡ 0 → (low_end a j b k ≡ a.start / 2 ^ j) × (highEnd a j b k ≡ (a.start + pred a.len) / 2 ^ j)
-  unfolding low_end highEnd pick
+  pub ends-first : b.len ≡ 0 → (low_end a j b k ≡ a.start / 2 ^ j) × (high_end a j b k ≡ (a.start + pred a.len) / 2 ^ j)
+  unfolding low_end high_end pick
   ends-first z = rw (eq-eqb b.len 0 z) (refl, refl)
 
-  pub ends-second : 0 < b.len → a.len ≡ 0 → (low_end a j b k ≡ b.start / 2 ^ k) × (highEnd a j b k ≡ (b.start + pred b.len) / 2 ^ k)
-  unfolding low_end highEnd pick
+  pub ends-second : 0 < b.len → a.len ≡ 0 → (low_end a j b k ≡ b.start / 2 ^ k) × (high_end a j b k ≡ (b.start + pred b.len) / 2 ^ k)
+  unfolding low_end high_end pick
   ends-second p z = rw (ne_eqb b.len 0 (omega arith), eq-eqb a.len 0 z) (refl, refl)
 
   pub ends-both : 0 < b.len → 0 < a.len
-      → (low_end a j b k ≡ min (a.start / 2 ^ j) (b.start / 2 ^ k)) × (highEnd a j b k ≡ max ((a.start + pred a.len) / 2 ^ j) ((b.start + pred b.len) / 2 ^ k))
-  unfolding low_end highEnd pick
+      → (low_end a j b k ≡ min (a.start / 2 ^ j) (b.start / 2 ^ k)) × (high_end a j b k ≡ max ((a.start + pred a.len) / 2 ^ j) ((b.start + pred b.len) / 2 ^ k))
+  unfolding low_end high_end pick
   ends-both p q = rw (ne_eqb b.len 0 (omega arith), ne_eqb a.len 0 (omega arith)) (refl, refl)
 
-  pub ends-le : low_end a j b k ≤ highEnd a j b k
+  pub ends-le : low_end a j b k ≤ high_end a j b k
   ends-le =
       let p = shr_mono {a = a.start} {b = a.start + pred a.len} j (omega arith) in
       let q = shr_mono {a = b.start} {b = b.start + pred b.len} k (omega arith) in
@@ -122,12 +122,12 @@ module _ (a b : C.Row) (j k : ℕ) where
       (eq-zero-or-pos a.len))
       (eq-zero-or-pos b.len)
 
-  pub len-none : a.len + b.len ≡ 0 → 0 ≡ joinedLen a j b k
-  unfolding joinedLen pick
+  pub len-none : a.len + b.len ≡ 0 → 0 ≡ joined_len a j b k
+  unfolding joined_len pick
   len-none z = rw (eq-eqb (a.len + b.len) 0 z) refl
 
-  pub len-some : (a.len + b.len ≡ 0 → ⊥) → suc (highEnd a j b k - low_end a j b k) ≡ joinedLen a j b k
-  unfolding joinedLen pick
+  pub len-some : (a.len + b.len ≡ 0 → ⊥) → suc (high_end a j b k - low_end a j b k) ≡ joined_len a j b k
+  unfolding joined_len pick
   len-some z = rw (ne_eqb (a.len + b.len) 0 z) refl
 
 -- THE ENDS of what `join` makes, and how long it is
@@ -144,7 +144,7 @@ module _ (a : C.Row) (xs : List ℕ) (j : ℕ) (b : C.Row) (ys : List ℕ) (k : 
   abbrev B : Row
   B = lowered k (row_in b ys)
 
-  pub spans : Spanning (joined A B) (low_end a j b k) (highEnd a j b k) a.len b.len
+  pub spans : Spanning (joined A B) (low_end a j b k) (high_end a j b k) a.len b.len
   spans =
       ⊎_elim
       (λ (z : b.len ≡ 0).
@@ -180,15 +180,15 @@ module _ (a : C.Row) (xs : List ℕ) (j : ℕ) (b : C.Row) (ys : List ℕ) (k : 
       (eq-zero-or-pos a.len))
       (eq-zero-or-pos b.len)
 
-  pub span-is : (size : ℕ) → span size (joined A B) ≡ lowering size (low_end a j b k) (highEnd a j b k)
+  pub span-is : (size : ℕ) → span size (joined A B) ≡ lowering size (low_end a j b k) (high_end a j b k)
   span-is size = λ i. lowering size (spans.start i) (spans.last i)
 
-  pub len_is : length (joined A B).counts ≡ joinedLen a j b k
+  pub len_is : length (joined A B).counts ≡ joined_len a j b k
   len_is =
       ⊎_elim
       (λ (z : a.len + b.len ≡ 0). spans.none (omega arith) (omega arith) ∙ len-none a b j k z)
       (λ (p : 0 < a.len + b.len).
       let s = spans.some p in
-      let e : length (joined A B).counts ≡ suc (highEnd a j b k - low_end a j b k) = omega (arith, s, spans.start, spans.last) in
+      let e : length (joined A B).counts ≡ suc (high_end a j b k - low_end a j b k) = omega (arith, s, spans.start, spans.last) in
       e ∙ len-some a b j k (λ z. omega arith))
       (eq-zero-or-pos (a.len + b.len))

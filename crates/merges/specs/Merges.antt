@@ -2,7 +2,7 @@
 -- Two points merged, step by step, as code does it in lent rows. Assumes nothing.
 use Rattle.std.specs.Prelude.{ℕ, suc, ◌+◌, ◌-◌, ◌/◌, ◌^◌, ◌≤◌, ◌<◌, min, max, pred, ◌≡◌, true, List, [], ◌∷◌, ◌++◌, eqb, length, replicate, take}
 use Rattle.points.specs.Points.{Row, Point, merge}
-use Rattle.rows.specs.Rows.{addAt, addAll}
+use Rattle.rows.specs.Rows.{add_at, add_all}
 use Rattle.exponential.specs.Steps.{lowered, lowering}
 use Rattle.laws.specs.Counting.{total}
 use Rattle.rows.specs.declared.Row as C
@@ -17,31 +17,31 @@ unfoldable pub joined : Row → Row → Row
 joined a b =
     pick (eqb (length b.counts) 0) a
     (pick (eqb (length a.counts) 0) b
-    (record { start = min a.start b.start; counts = addAll (b.start - a.start) b.counts (replicate (a.start - b.start) 0 ++ a.counts) }))
+    (record { start = min a.start b.start; counts = add_all (b.start - a.start) b.counts (replicate (a.start - b.start) 0 ++ a.counts) }))
 
 -- the ends of two rows joined, of n counts from bin s on, j levels lower, and of m counts from bin t on, k levels lower
 unfoldable pub low_end : C.Row → ℕ → C.Row → ℕ → ℕ
 low_end a j b k = pick (eqb b.len 0) (a.start / 2 ^ j) (pick (eqb a.len 0) (b.start / 2 ^ k) (min (a.start / 2 ^ j) (b.start / 2 ^ k)))
 
-unfoldable pub highEnd : C.Row → ℕ → C.Row → ℕ → ℕ
-highEnd a j b k =
+unfoldable pub high_end : C.Row → ℕ → C.Row → ℕ → ℕ
+high_end a j b k =
     pick (eqb b.len 0) ((a.start + pred a.len) / 2 ^ j)
     (pick (eqb a.len 0) ((b.start + pred b.len) / 2 ^ k)
     (max ((a.start + pred a.len) / 2 ^ j) ((b.start + pred b.len) / 2 ^ k)))
 
 -- how long that row is
-unfoldable pub joinedLen : C.Row → ℕ → C.Row → ℕ → ℕ
-joinedLen a j b k = pick (eqb (a.len + b.len) 0) 0 (suc (highEnd a j b k - low_end a j b k))
+unfoldable pub joined_len : C.Row → ℕ → C.Row → ℕ → ℕ
+joined_len a j b k = pick (eqb (a.len + b.len) 0) 0 (suc (high_end a j b k - low_end a j b k))
 
 -- ---- the same by numbers: how much lower than the coarser's level two series' rows need it
 abbrev pub common : Counts → Counts → ℕ
 common a b = min a.level b.level
 
 abbrev pub span_of : ℕ → C.Row → ℕ → C.Row → ℕ → ℕ
-span_of size a j b k = lowering size (low_end a j b k) (highEnd a j b k)
+span_of size a j b k = lowering size (low_end a j b k) (high_end a j b k)
 
-unfoldable pub rowsLow : ℕ → Counts → Counts → ℕ
-rowsLow size a b =
+unfoldable pub rows_low : ℕ → Counts → Counts → ℕ
+rows_low size a b =
     max (span_of size a.pos (a.level - common a b) b.pos (b.level - common a b))
     (span_of size a.neg (a.level - common a b) b.neg (b.level - common a b))
 
@@ -49,17 +49,17 @@ rowsLow size a b =
 unfoldable pub plan_of : ℕ → Counts → Counts → Plan
 plan_of size a b =
     record {
-      level = common a b - rowsLow size a b;
-      first = a.level - (common a b - rowsLow size a b);
-      second = b.level - (common a b - rowsLow size a b);
+      level = common a b - rows_low size a b;
+      first = a.level - (common a b - rows_low size a b);
+      second = b.level - (common a b - rows_low size a b);
     }
 
 -- ---- in lent rows
 
 -- the counts ys from bin t on, each added k levels lower to the row xs from bin s on
-unfoldable pub addLow : ℕ → ℕ → ℕ → List ℕ → List ℕ → List ℕ
-addLow k s t [] xs = xs
-addLow k s t (y ∷ ys) xs = addLow k s (suc t) ys (addAt (t / 2 ^ k - s) y xs)
+unfoldable pub add_low : ℕ → ℕ → ℕ → List ℕ → List ℕ → List ℕ
+add_low k s t [] xs = xs
+add_low k s t (y ∷ ys) xs = add_low k s (suc t) ys (add_at (t / 2 ^ k - s) y xs)
 
 -- the row b of ys can be joined, k levels lower, to the row a of xs
 pub record Joinable (a : C.Row) (xs : List ℕ) (b : C.Row) (k : ℕ) (ys : List ℕ) : Type 0 where
@@ -82,7 +82,7 @@ pub record Lendable (a : C.Row) (j : ℕ) (xs : List ℕ) (b : C.Row) (k : ℕ) 
   pub short : a.len ≤ length xs
   pub other : b.len ≤ length ys
   pub few : j < 32
-  pub fewOther : k < 32
+  pub few_other : k < 32
   pub sums : total (take a.len xs) + total (take b.len ys) < 2 ^ 64
   pub empty : a.len ≡ 0 → a.start ≡ 0
   pub room : length (joined (lowered j (row_in a xs)) (lowered k (row_in b ys))).counts ≤ length zs
@@ -93,8 +93,8 @@ pub record Agreeing (size : ℕ) (a : Counts) (xs ys : List ℕ) (b : Counts) (z
   pub second : agrees size finest b zs ws ≡ true
   pub count : a.count + b.count < 2 ^ 64
 
-abbrev pub mergedPoint : ℕ → Counts → List ℕ → List ℕ → Counts → List ℕ → List ℕ → Point
-mergedPoint size a xs ys b zs ws = merge size (read a xs ys) (read b zs ws)
+abbrev pub merged_point : ℕ → Counts → List ℕ → List ℕ → Counts → List ℕ → List ℕ → Point
+merged_point size a xs ys b zs ws = merge size (read a xs ys) (read b zs ws)
 
 -- the rows of the merged point have room in these
 pub record Roomy (p : Point) (xs ys : List ℕ) : Type 0 where

@@ -6,8 +6,8 @@ ghost use Rattle.exponential.specs.Steps.{lowered};
 ghost use Rattle.exponential.specs.Series.{row_in};
 ghost use Rattle.exponential.specs.Inner.{Laid, Written};
 ghost use Rattle.index.specs.Bins.{finest};
-ghost use Rattle.merges.specs.Merges.{addLow, joined, Joinable, Lendable, Layable, low_end, highEnd, joinedLen};
-ghost use Rattle.merges.specs.Merges.{span_of, common, rowsLow, plan_of, Agreeing, mergedPoint, Roomy};
+ghost use Rattle.merges.specs.Merges.{add_low, joined, Joinable, Lendable, Layable, low_end, high_end, joined_len};
+ghost use Rattle.merges.specs.Merges.{span_of, common, rows_low, plan_of, Agreeing, merged_point, Roomy};
 
 use exponential::Counts;
 use rows::Row;
@@ -37,7 +37,7 @@ pub struct Ends {
 fn ends_of(a: Row, j: u32, b: Row, k: u32) -> Ends
     requires len_bound { (a.start + a.len < 2 ^ 32) × (b.start + b.len < 2 ^ 32) }
     requires j_bound { (j < 32) × (k < 32) }
-    ensures { (result.lo ≡ low_end a j b k) × (result.hi ≡ highEnd a j b k) }
+    ensures { (result.lo ≡ low_end a j b k) × (result.hi ≡ high_end a j b k) }
 {
     let n = a.len;
     let m = b.len;
@@ -74,7 +74,7 @@ fn span(size: usize, a: Row, j: u32, b: Row, k: u32) -> u32
 pub fn joined_len(a: Row, j: u32, b: Row, k: u32) -> usize
     requires len_bound { (a.start + a.len < 2 ^ 32) × (b.start + b.len < 2 ^ 32) }
     requires j_bound { (j < 32) × (k < 32) }
-    ensures { result ≡ joinedLen a j b k }
+    ensures { result ≡ joined_len a j b k }
 {
     let n = a.len;
     let m = b.len;
@@ -98,7 +98,7 @@ pub fn plan_of(size: usize, a: Counts, b: Counts) -> Plan
     requires size_nonzero { (0 < size) × (a.level ≤ finest) × (b.level ≤ finest) }
     requires len_bound { (a.pos.start + a.pos.len < 2 ^ 32) × (b.pos.start + b.pos.len < 2 ^ 32) }
     requires len_bound_2 { (a.neg.start + a.neg.len < 2 ^ 32) × (b.neg.start + b.neg.len < 2 ^ 32) }
-    requires b_bound { rowsLow size a b ≤ common a b }
+    requires b_bound { rows_low size a b ≤ common a b }
     ensures { result ≡ plan_of size a b }
 {
     let la = a.level;
@@ -127,8 +127,8 @@ fn add_low(counts: &mut [u64], n: usize, s: u32, other: &[u64], t: u32, m: usize
     requires k_bound { (k < 32) × (s ≤ t / 2 ^ k) }
     requires s_in_bounds { (t + (m - 1)) / 2 ^ k - s < length counts.old }
     requires other_bound { total (take n counts.old) + total (take m other.now) < 2 ^ 64 }
-    ensures value { result ≡ length (addLow k s t (take m other.now) (take n counts.old)) }
-    ensures counts_after { counts.new ≡ over (addLow k s t (take m other.now) (take n counts.old)) counts.old }
+    ensures value { result ≡ length (add_low k s t (take m other.now) (take n counts.old)) }
+    ensures counts_after { counts.new ≡ over (add_low k s t (take m other.now) (take n counts.old)) counts.old }
 {
     let first = s as u64;
     let mut index = t as u64;
@@ -214,8 +214,8 @@ pub fn merge_to(
 ) -> Counts
     requires agreeing { Agreeing size a apos.now aneg.now b bpos.now bneg.now }
     requires to_value { to ≡ plan_of size a b }
-    requires roomy { Roomy (mergedPoint size a apos.now aneg.now b bpos.now bneg.now) pos.old neg.old }
-    ensures { Written (mergedPoint size a apos.now aneg.now b bpos.now bneg.now)
+    requires roomy { Roomy (merged_point size a apos.now aneg.now b bpos.now bneg.now) pos.old neg.old }
+    ensures { Written (merged_point size a apos.now aneg.now b bpos.now bneg.now)
         pos.old neg.old result pos.new neg.new }
 {
     let ap = a.pos;

@@ -8,9 +8,9 @@ use lib.Ieee.{Float}
 use Rattle.laws.specs.Lists.{All}
 use Rattle.laws.specs.Said.{success}
 use Rattle.index.specs.Bins.{finest}
-use Rattle.points.specs.Counts.{Kind, exponential, explicit, Settings, Counts, exponentialCounts, explicitCounts, kindCounts, count_of, countsAgree, resized, Shape}
+use Rattle.points.specs.Counts.{Kind, exponential, explicit, Settings, Counts, exponential_counts, explicit_counts, kind_counts, count_of, counts_agree, resized, Shape}
 use Rattle.points.specs.Number.{Number}
-use Rattle.points.specs.Any.{Handed, handedOut, handed, mergeHanded, shownAgrees, handedAgrees, summaryOf, with_sum, Of}
+use Rattle.points.specs.Any.{Handed, handed_out, handed, merge_handed, shown_agrees, handed_agrees, summary_of, with_sum, Of}
 use Rattle.points.specs.Coded.{Coded, PointOf}
 use Rattle.points.proofs.Agreement.{agrees-says, fresh}
 use Rattle.points.proofs.Explicit.{buckets-say}
@@ -27,44 +27,44 @@ use Rattle.merging.proofs.Owed.{Merges, merged-reads, merged-agree}
 use Rattle.merging.proofs.Accepted.{low, counts-ok}
 
 -- ---- THE FRESH POINT agrees under any max_size that passes: it has no rows
-resized-fresh : (size : ℕ) (k : Kind) (t : Float) → kindCounts k t [] ≡ kindCounts (resized size k) t []
-resized-fresh size (exponential m top) t = ap exponentialCounts (fresh m (finest - top) ∙ sym (fresh size (finest - top)))
+resized-fresh : (size : ℕ) (k : Kind) (t : Float) → kind_counts k t [] ≡ kind_counts (resized size k) t []
+resized-fresh size (exponential m top) t = ap exponential_counts (fresh m (finest - top) ∙ sym (fresh size (finest - top)))
 resized-fresh size (explicit bounds) t = refl
 
 -- a max_size is asked of exponential counts alone
-own-size : (size : ℕ) (k : Kind) (c : Counts) → Shape k c → countsAgree (size_of (resized size k)) finest low c ≡ countsAgree size finest low c
-own-size size (exponential m top) (exponentialCounts p) h = refl
-own-size size (exponential m top) (explicitCounts b p) h = absurd h
-own-size size (explicit b) (exponentialCounts p) h = absurd h
-own-size size (explicit b) (explicitCounts c p) h = refl
+own-size : (size : ℕ) (k : Kind) (c : Counts) → Shape k c → counts_agree (size_of (resized size k)) finest low c ≡ counts_agree size finest low c
+own-size size (exponential m top) (exponential_counts p) h = refl
+own-size size (exponential m top) (explicit_counts b p) h = absurd h
+own-size size (explicit b) (exponential_counts p) h = absurd h
+own-size size (explicit b) (explicit_counts c p) h = refl
 
 -- "at the greatest allowed scale"
-agreeing : (size : ℕ) (k : Kind) (c : Counts) → AtTop k → Shape k c → countsAgree size finest low c ≡ true → Agreeing size low k c
-agreeing size (exponential m top) (exponentialCounts p) t h a = agrees-says size top low p (rw t a)
-agreeing size (exponential m top) (explicitCounts b p) t h a = absurd h
-agreeing size (explicit b) (exponentialCounts p) t h a = absurd h
-agreeing size (explicit b) (explicitCounts c p) t h a = rw (sym h) (buckets-say c p a)
+agreeing : (size : ℕ) (k : Kind) (c : Counts) → AtTop k → Shape k c → counts_agree size finest low c ≡ true → Agreeing size low k c
+agreeing size (exponential m top) (exponential_counts p) t h a = agrees-says size top low p (rw t a)
+agreeing size (exponential m top) (explicit_counts b p) t h a = absurd h
+agreeing size (explicit b) (exponential_counts p) t h a = absurd h
+agreeing size (explicit b) (explicit_counts c p) t h a = rw (sym h) (buckets-say c p a)
 
 module _ {N : Number} (O : Owed N) (C : Coded N) where
   -- ---- ANY POINT OF COUNT 0: the other's extremes stay
   module _ (M : Merges C) (size : ℕ) (x y z : C.Stored) (us vs : List ℕ) (e : C.merging size x y us vs ≡ success z) where
     abbrev p : Handed N
-    p = C.handedIn x
+    p = C.handed_in x
 
     abbrev q : Handed N
-    q = C.handedIn y
+    q = C.handed_in y
 
-    reads : C.handedIn z ≡ mergeHanded N size p q
+    reads : C.handed_in z ≡ merge_handed N size p q
     reads = (merged-reads C M size x y z us vs e).0
 
-    pub empty-first : count_of p.counts ≡ 0 → ((C.handedIn z).min ≡ q.min) × ((C.handedIn z).max ≡ q.max)
+    pub empty-first : count_of p.counts ≡ 0 → ((C.handed_in z).min ≡ q.min) × ((C.handed_in z).max ≡ q.max)
     empty-first n =
         let t = empty-shows N O size low p (merged-agree C M size x y z us vs e).0 n in (
           ap (λ (h : Handed N). h.min) reads ∙ ap (λ a. N.smaller a q.min) t.0 ∙ (O.nearer-none true q.min).0,
           ap (λ (h : Handed N). h.max) reads ∙ ap (λ a. N.larger a q.max) t.1 ∙ (O.nearer-none false q.max).0,
         )
 
-    pub empty-second : count_of q.counts ≡ 0 → ((C.handedIn z).min ≡ p.min) × ((C.handedIn z).max ≡ p.max)
+    pub empty-second : count_of q.counts ≡ 0 → ((C.handed_in z).min ≡ p.min) × ((C.handed_in z).max ≡ p.max)
     empty-second n =
         let t = empty-shows N O size low q (merged-agree C M size x y z us vs e).1 n in (
           ap (λ (h : Handed N). h.min) reads ∙ ap (N.smaller p.min) t.0 ∙ (O.nearer-none true p.min).1,
@@ -76,30 +76,30 @@ module _ {N : Number} (O : Owed N) (C : Coded N) where
     abbrev k : Kind
     k = resized size s.kind
 
-    empty-alike : kindCounts s.kind s.threshold (N.nears []) ≡ kindCounts k s.threshold (N.nears [])
+    empty-alike : kind_counts s.kind s.threshold (N.nears []) ≡ kind_counts k s.threshold (N.nears [])
     empty-alike =
-        ap (kindCounts s.kind s.threshold) O.nears-none ∙ resized-fresh size s.kind s.threshold ∙ ap (kindCounts k s.threshold) (sym O.nears-none)
+        ap (kind_counts s.kind s.threshold) O.nears-none ∙ resized-fresh size s.kind s.threshold ∙ ap (kind_counts k s.threshold) (sym O.nears-none)
 
-    fresh-agrees : Configured k → handedAgrees N size finest low (handed N s []) ≡ true
+    fresh-agrees : Configured k → handed_agrees N size finest low (handed N s []) ≡ true
     unfolding All
     fresh-agrees sized =
-        ap (λ b. b && shownAgrees N (handed N s []))
-        (sym (own-size size s.kind (kindCounts s.kind s.threshold (N.nears [])) (shape_of s.kind s.threshold (N.nears []))))
-        ∙ ap (λ c. handedAgrees N (size_of k) finest low (handedOut N s (record { counts = c; summary = summaryOf N s.sums [] }))) empty-alike
+        ap (λ b. b && shown_agrees N (handed N s []))
+        (sym (own-size size s.kind (kind_counts s.kind s.threshold (N.nears [])) (shape_of s.kind s.threshold (N.nears []))))
+        ∙ ap (λ c. handed_agrees N (size_of k) finest low (handed_out N s (record { counts = c; summary = summary_of N s.sums [] }))) empty-alike
         ∙ stands-agrees N O (under size s) (handed N (under size s) []) [] (sound k sized) (handed-stands N O (under size s) [] tt)
 
     pub fresh-good : Configured k → (f : C.Stored) → PointOf C s [] f → Good C size s f
     fresh-good sized f none =
         record {
           shape = none.shape;
-          agree = subst (λ h. handedAgrees N size finest low h ≡ true) (sym none.is) (fresh-agrees sized);
-          of = subst (Of N s) (sym none.is) (record { shape = shape_of s.kind s.threshold (N.nears []); shown = summaryOf N s.sums []; same = (handed-stands N O s [] none.values).same });
+          agree = subst (λ h. handed_agrees N size finest low h ≡ true) (sym none.is) (fresh-agrees sized);
+          of = subst (Of N s) (sym none.is) (record { shape = shape_of s.kind s.threshold (N.nears []); shown = summary_of N s.sums []; same = (handed-stands N O s [] none.values).same });
         }
 
   -- and at the greatest scale it changes nothing but the sum
   module _ (M : Merges C) (size : ℕ) (s : Settings) (top : AtTop s.kind) (f y : C.Stored) (none : PointOf C s [] f) (g : Good C size s y) where
     abbrev other : Handed N
-    other = C.handedIn y
+    other = C.handed_in y
 
     point-of : Known N O s other
     point-of = known N O s other g.of
@@ -108,10 +108,10 @@ module _ {N : Number} (O : Owed N) (C : Coded N) where
     counts_of = agreeing size s.kind other.counts top g.of.shape (counts-ok O C size s y g)
 
     -- merged with another, and another with it
-    pub fresh-first : (z : C.Stored) (us vs : List ℕ) → C.merging size f y us vs ≡ success z → C.handedIn z ≡ with_sum N (N.add N.zero other.sum) other
+    pub fresh-first : (z : C.Stored) (us vs : List ℕ) → C.merging size f y us vs ≡ success z → C.handed_in z ≡ with_sum N (N.add N.zero other.sum) other
     fresh-first z us vs e =
-        (merged-reads C M size f y z us vs e).0 ∙ ap (λ h. mergeHanded N size h other) none.is ∙ G.fresh-first N O size low s other point-of counts_of
+        (merged-reads C M size f y z us vs e).0 ∙ ap (λ h. merge_handed N size h other) none.is ∙ G.fresh-first N O size low s other point-of counts_of
 
-    pub fresh-second : (z : C.Stored) (us vs : List ℕ) → C.merging size y f us vs ≡ success z → C.handedIn z ≡ with_sum N (N.add other.sum N.zero) other
+    pub fresh-second : (z : C.Stored) (us vs : List ℕ) → C.merging size y f us vs ≡ success z → C.handed_in z ≡ with_sum N (N.add other.sum N.zero) other
     fresh-second z us vs e =
-        (merged-reads C M size y f z us vs e).0 ∙ ap (mergeHanded N size other) none.is ∙ G.fresh-second N O size low s other point-of counts_of
+        (merged-reads C M size y f z us vs e).0 ∙ ap (merge_handed N size other) none.is ∙ G.fresh-second N O size low s other point-of counts_of

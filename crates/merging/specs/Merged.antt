@@ -2,10 +2,10 @@
 use Rattle.std.specs.Prelude.{ℕ, ◌≡◌, true, List}
 use Rattle.laws.specs.Said.{success}
 use Rattle.laws.specs.Trees.{Tree, leaf, node}
-use Rattle.index.specs.Bins.{finest, lowestBin}
+use Rattle.index.specs.Bins.{finest, lowest_bin}
 use Rattle.points.specs.Counts.{Kind, exponential, explicit, Settings}
 use Rattle.points.specs.Number.{Number}
-use Rattle.points.specs.Any.{handedAgrees, Of}
+use Rattle.points.specs.Any.{handed_agrees, Of}
 use Rattle.points.specs.Coded.{Coded}
 
 -- "at the greatest allowed scale" (request L14)
@@ -16,9 +16,9 @@ AtTop (explicit bounds) = Unit {0}
 module _ {N : Number} (C : Coded N) where
   -- a point of the settings that agrees under the max_size
   pub record Good (size : ℕ) (s : Settings) (x : C.Stored) : Type 0 where
-    pub shape : C.inShape x ≡ true
-    pub agree : handedAgrees N size finest (lowestBin finest) (C.handedIn x) ≡ true
-    pub of : Of N s (C.handedIn x)
+    pub shape : C.in_shape x ≡ true
+    pub agree : handed_agrees N size finest (lowest_bin finest) (C.handed_in x) ≡ true
+    pub of : Of N s (C.handed_in x)
 
   -- by any grouping: z is what merging the leaves two by two by code has left, whatever rows were lent to each merge
   abbrev pub Groups : ℕ → Tree C.Stored → C.Stored → Type 0

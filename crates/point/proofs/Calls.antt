@@ -11,23 +11,23 @@ use Rattle.laws.specs.Over.{over}
 use Rattle.laws.specs.Pick.{pick}
 use Rattle.laws.specs.Said.{Said, refusal}
 use Rattle.laws.proofs.Bools.{not-both, and_left, and_right, pick-left, pick-then}
-use Rattle.points.specs.Explicit.{sameBounds, bucketCount, bucketsAgree, mergeBuckets}
-use Rattle.points.specs.Figures.{exponentialCounts, explicitCounts}
-use Rattle.points.specs.Handed.{mergeCounts, mergeHanded, posOf, neg_of}
+use Rattle.points.specs.Explicit.{same_bounds, bucket_count, buckets_agree, merge_buckets}
+use Rattle.points.specs.Figures.{exponential_counts, explicit_counts}
+use Rattle.points.specs.Handed.{merge_counts, merge_handed, pos_of, neg_of}
 use Rattle.points.proofs.Explicit.{buckets-say}
 use Rattle.exponential.specs.declared.Counts.{Counts}
-use Rattle.merges.specs.Merges.{Agreeing, mergedPoint}
-use Rattle.explicit.specs.Series.{bucketsIn}
+use Rattle.merges.specs.Merges.{Agreeing, merged_point}
+use Rattle.explicit.specs.Series.{buckets_in}
 use Rattle.explicit.specs.Inner.{Addable}
 use Rattle.point.specs.declared.Point.{Point}
 use Rattle.point.specs.declared.Figures.TheVariants.{Exponential, Explicit}
 use Rattle.point.specs.declared.Made.{Made}
 use Rattle.point.specs.declared.Made.TheVariants.{Of, NoRoom}
-use Rattle.point.specs.Handing.{Stored, countsAs, countsIn, handedIn, figuresFor, Outcome, ended, laidOver, refusalBefore, merging, countIn}
-use Rattle.point.specs.Inner.{sizeFits, sameFigures, figuresAgree, extremesOk, pointAgrees, Over, madeOver, countsOver, madeOne, laidOne, finished}
+use Rattle.point.specs.Handing.{Stored, counts_as, counts_in, handed_in, figures_for, Outcome, ended, laid_over, refusal_before, merging, count_in}
+use Rattle.point.specs.Inner.{size_fits, same_figures, figures_agree, extremes_ok, point_agrees, Over, made_over, counts_over, made_one, laid_one, finished}
 use Rattle.point.proofs.Laid.{addable, over-one}
 use Rattle.point.proofs.Means.{refusal_is}
-use Rattle.laws.specs.Counting.{mostCount}
+use Rattle.laws.specs.Counting.{most_count}
 
 -- the tests in their order
 abbrev chain : Bool → Bool → Bool → Bool → Bool → Bool → ℕ
@@ -43,154 +43,154 @@ through a b true o n = refl
 through a b false o n = refl
 
 module _ (size : ℕ) (a b : Stored) where
-  abbrev pub sizeOk : Bool
-  sizeOk = sizeFits size a.point.figures b.point.figures
+  abbrev pub size_ok : Bool
+  size_ok = size_fits size a.point.figures b.point.figures
 
-  abbrev pub firstOk : Bool
-  firstOk = pointAgrees size a
+  abbrev pub first_ok : Bool
+  first_ok = point_agrees size a
 
-  abbrev pub secondOk : Bool
-  secondOk = pointAgrees size b
+  abbrev pub second_ok : Bool
+  second_ok = point_agrees size b
 
-  abbrev pub kindOk : Bool
-  kindOk = sameFigures a.point.figures a.bounds b.point.figures b.bounds
+  abbrev pub kind_ok : Bool
+  kind_ok = same_figures a.point.figures a.bounds b.point.figures b.bounds
 
-  abbrev pub switchOk : Bool
-  switchOk = beq a.point.extremes b.point.extremes
+  abbrev pub switch_ok : Bool
+  switch_ok = beq a.point.extremes b.point.extremes
 
-  abbrev countOk : Bool
-  countOk = leb (countIn a.point.figures + countIn b.point.figures) mostCount
+  abbrev count_ok : Bool
+  count_ok = leb (count_in a.point.figures + count_in b.point.figures) most_count
 
-  is-chain : refusalBefore size a b ≡ chain sizeOk firstOk secondOk kindOk switchOk countOk
+  is-chain : refusal_before size a b ≡ chain size_ok first_ok second_ok kind_ok switch_ok count_ok
   is-chain = sym (refusal_is size a b)
 
-  pub bad-size : sizeOk ≡ false → 1 ≡ refusalBefore size a b
+  pub bad-size : size_ok ≡ false → 1 ≡ refusal_before size a b
   unfolding pick
-  bad-size t = sym (is-chain ∙ ap (λ t. chain t firstOk secondOk kindOk switchOk countOk) t)
+  bad-size t = sym (is-chain ∙ ap (λ t. chain t first_ok second_ok kind_ok switch_ok count_ok) t)
 
-  module _ (t : sizeOk ≡ true) where
-    pub bad-first : firstOk ≡ false → 8 ≡ refusalBefore size a b
+  module _ (t : size_ok ≡ true) where
+    pub bad-first : first_ok ≡ false → 8 ≡ refusal_before size a b
     unfolding pick
-    bad-first u = sym (is-chain ∙ (λ j. chain (t j) (u j) secondOk kindOk switchOk countOk))
+    bad-first u = sym (is-chain ∙ (λ j. chain (t j) (u j) second_ok kind_ok switch_ok count_ok))
 
-    module _ (u : firstOk ≡ true) where
-      pub bad-second : secondOk ≡ false → 8 ≡ refusalBefore size a b
+    module _ (u : first_ok ≡ true) where
+      pub bad-second : second_ok ≡ false → 8 ≡ refusal_before size a b
       unfolding pick
-      bad-second v = sym (is-chain ∙ (λ j. chain (t j) (u j) (v j) kindOk switchOk countOk))
+      bad-second v = sym (is-chain ∙ (λ j. chain (t j) (u j) (v j) kind_ok switch_ok count_ok))
 
-      module _ (v : secondOk ≡ true) where
-        pub unlike : kindOk ≡ false → 11 ≡ refusalBefore size a b
+      module _ (v : second_ok ≡ true) where
+        pub unlike : kind_ok ≡ false → 11 ≡ refusal_before size a b
         unfolding pick
-        unlike w = sym (is-chain ∙ (λ j. chain (t j) (u j) (v j) (w j) switchOk countOk))
+        unlike w = sym (is-chain ∙ (λ j. chain (t j) (u j) (v j) (w j) switch_ok count_ok))
 
-        module _ (w : kindOk ≡ true) where
-          pub unlike-switch : switchOk ≡ false → 11 ≡ refusalBefore size a b
+        module _ (w : kind_ok ≡ true) where
+          pub unlike_switch : switch_ok ≡ false → 11 ≡ refusal_before size a b
           unfolding pick
-          unlike-switch x = sym (is-chain ∙ (λ j. chain (t j) (u j) (v j) (w j) (x j) countOk))
+          unlike_switch x = sym (is-chain ∙ (λ j. chain (t j) (u j) (v j) (w j) (x j) count_ok))
 
-          module _ (x : switchOk ≡ true) where
-            pub too_many : countOk ≡ false → 9 ≡ refusalBefore size a b
+          module _ (x : switch_ok ≡ true) where
+            pub too_many : count_ok ≡ false → 9 ≡ refusal_before size a b
             unfolding pick
             too_many y = sym (is-chain ∙ (λ j. chain (t j) (u j) (v j) (w j) (x j) (y j)))
 
-            pub none : countOk ≡ true → 0 ≡ refusalBefore size a b
+            pub none : count_ok ≡ true → 0 ≡ refusal_before size a b
             unfolding pick
             none y = sym (is-chain ∙ (λ j. chain (t j) (u j) (v j) (w j) (x j) (y j)))
 
   -- where nothing is refused
-  module _ (e : refusalBefore size a b ≡ 0) where
-    e₁ : ◌≡◌ {A = ℕ} (pick (firstOk && secondOk) (pick (kindOk && switchOk) (pick countOk 0 9) 11) 8) 0
-    e₁ = pick-then sizeOk _ 1 (omega arith) (sym is-chain ∙ e)
+  module _ (e : refusal_before size a b ≡ 0) where
+    e₁ : ◌≡◌ {A = ℕ} (pick (first_ok && second_ok) (pick (kind_ok && switch_ok) (pick count_ok 0 9) 11) 8) 0
+    e₁ = pick-then size_ok _ 1 (omega arith) (sym is-chain ∙ e)
 
-    e₂ : ◌≡◌ {A = ℕ} (pick (kindOk && switchOk) (pick countOk 0 9) 11) 0
-    e₂ = pick-then (firstOk && secondOk) _ 8 (omega arith) e₁
+    e₂ : ◌≡◌ {A = ℕ} (pick (kind_ok && switch_ok) (pick count_ok 0 9) 11) 0
+    e₂ = pick-then (first_ok && second_ok) _ 8 (omega arith) e₁
 
-    both : firstOk && secondOk ≡ true
-    both = pick-left (firstOk && secondOk) _ 8 (omega arith) e₁
+    both : first_ok && second_ok ≡ true
+    both = pick-left (first_ok && second_ok) _ 8 (omega arith) e₁
 
-    pub first-agrees : figuresAgree size a.point.figures a.bounds a.pos a.neg ≡ true
-    unfolding pointAgrees
-    first-agrees = and_left (figuresAgree size a.point.figures a.bounds a.pos a.neg) (extremesOk a.point) (and_left firstOk secondOk both)
+    pub first-agrees : figures_agree size a.point.figures a.bounds a.pos a.neg ≡ true
+    unfolding point_agrees
+    first-agrees = and_left (figures_agree size a.point.figures a.bounds a.pos a.neg) (extremes_ok a.point) (and_left first_ok second_ok both)
 
-    pub second-agrees : figuresAgree size b.point.figures b.bounds b.pos b.neg ≡ true
-    unfolding pointAgrees
-    second-agrees = and_left (figuresAgree size b.point.figures b.bounds b.pos b.neg) (extremesOk b.point) (and_right firstOk secondOk both)
+    pub second-agrees : figures_agree size b.point.figures b.bounds b.pos b.neg ≡ true
+    unfolding point_agrees
+    second-agrees = and_left (figures_agree size b.point.figures b.bounds b.pos b.neg) (extremes_ok b.point) (and_right first_ok second_ok both)
 
-    pub alike : kindOk ≡ true
-    alike = and_left kindOk switchOk (pick-left (kindOk && switchOk) _ 11 (omega arith) e₂)
+    pub alike : kind_ok ≡ true
+    alike = and_left kind_ok switch_ok (pick-left (kind_ok && switch_ok) _ 11 (omega arith) e₂)
 
-    pub fit : countIn a.point.figures + countIn b.point.figures ≤ mostCount
-    fit = leb-true (countIn a.point.figures + countIn b.point.figures) mostCount (pick-left countOk 0 9 (omega arith) (pick-then (kindOk && switchOk) _ 11 (omega arith) e₂))
+    pub fit : count_in a.point.figures + count_in b.point.figures ≤ most_count
+    fit = leb-true (count_in a.point.figures + count_in b.point.figures) most_count (pick-left count_ok 0 9 (omega arith) (pick-then (kind_ok && switch_ok) _ 11 (omega arith) e₂))
 
     -- the exponential kind
     pub agreeing : (c d : Counts) → a.point.figures ≡ Exponential c → b.point.figures ≡ Exponential d → Agreeing size c a.pos a.neg d b.pos b.neg
     agreeing c d f g =
-        let n : c.count + d.count ≤ mostCount = subst (λ (n : ℕ). n ≤ mostCount) (λ j. countIn (f j) + countIn (g j)) fit in
+        let n : c.count + d.count ≤ most_count = subst (λ (n : ℕ). n ≤ most_count) (λ j. count_in (f j) + count_in (g j)) fit in
         record {
-          first = ap (λ h. figuresAgree size h a.bounds a.pos a.neg) (sym f) ∙ first-agrees;
-          second = ap (λ h. figuresAgree size h b.bounds b.pos b.neg) (sym g) ∙ second-agrees;
+          first = ap (λ h. figures_agree size h a.bounds a.pos a.neg) (sym f) ∙ first-agrees;
+          second = ap (λ h. figures_agree size h b.bounds b.pos b.neg) (sym g) ∙ second-agrees;
           count = omega (arith, n);
         }
 
     -- the explicit kind
     module _ (n m : ℕ) (f : a.point.figures ≡ Explicit n) (g : b.point.figures ≡ Explicit m) where
-      pub same : sameBounds a.bounds b.bounds ≡ true
-      same = (λ j. sameFigures (sym f j) a.bounds (sym g j) b.bounds) ∙ alike
+      pub same : same_bounds a.bounds b.bounds ≡ true
+      same = (λ j. same_figures (sym f j) a.bounds (sym g j) b.bounds) ∙ alike
 
-      pub ok-first : bucketsAgree a.bounds (bucketsIn a.bounds n a.pos) ≡ true
-      ok-first = ap (λ h. figuresAgree size h a.bounds a.pos a.neg) (sym f) ∙ first-agrees
+      pub ok-first : buckets_agree a.bounds (buckets_in a.bounds n a.pos) ≡ true
+      ok-first = ap (λ h. figures_agree size h a.bounds a.pos a.neg) (sym f) ∙ first-agrees
 
-      pub ok-second : bucketsAgree b.bounds (bucketsIn b.bounds m b.pos) ≡ true
-      ok-second = ap (λ h. figuresAgree size h b.bounds b.pos b.neg) (sym g) ∙ second-agrees
+      pub ok-second : buckets_agree b.bounds (buckets_in b.bounds m b.pos) ≡ true
+      ok-second = ap (λ h. figures_agree size h b.bounds b.pos b.neg) (sym g) ∙ second-agrees
 
-      pub can-add : Addable (bucketCount a.bounds) a.pos b.pos × (n + m < 2 ^ 64)
+      pub can-add : Addable (bucket_count a.bounds) a.pos b.pos × (n + m < 2 ^ 64)
       can-add =
-          let k : n + m ≤ mostCount = subst (λ (n : ℕ). n ≤ mostCount) (λ j. countIn (f j) + countIn (g j)) fit in
-          addable a.bounds n a.pos b.bounds m b.pos same (buckets-say a.bounds (bucketsIn a.bounds n a.pos) ok-first) (buckets-say b.bounds (bucketsIn b.bounds m b.pos) ok-second) (omega (arith, k))
+          let k : n + m ≤ most_count = subst (λ (n : ℕ). n ≤ most_count) (λ j. count_in (f j) + count_in (g j)) fit in
+          addable a.bounds n a.pos b.bounds m b.pos same (buckets-say a.bounds (buckets_in a.bounds n a.pos) ok-first) (buckets-say b.bounds (buckets_in b.bounds m b.pos) ok-second) (omega (arith, k))
 
-      pub one-is : (us vs : List ℕ) → countsOver (explicitCounts a.bounds (mergeBuckets (bucketsIn a.bounds n a.pos) (bucketsIn b.bounds m b.pos))) us vs
-          ≡ madeOver (laidOne (bucketCount a.bounds) n a.pos m b.pos us).made (laidOne (bucketCount a.bounds) n a.pos m b.pos us).counts vs
-      one-is = over-one a.bounds n a.pos b.bounds m b.pos same (buckets-say a.bounds (bucketsIn a.bounds n a.pos) ok-first) (buckets-say b.bounds (bucketsIn b.bounds m b.pos) ok-second)
+      pub one-is : (us vs : List ℕ) → counts_over (explicit_counts a.bounds (merge_buckets (buckets_in a.bounds n a.pos) (buckets_in b.bounds m b.pos))) us vs
+          ≡ made_over (laid_one (bucket_count a.bounds) n a.pos m b.pos us).made (laid_one (bucket_count a.bounds) n a.pos m b.pos us).counts vs
+      one-is = over-one a.bounds n a.pos b.bounds m b.pos same (buckets-say a.bounds (buckets_in a.bounds n a.pos) ok-first) (buckets-say b.bounds (buckets_in b.bounds m b.pos) ok-second)
 
     -- unlike kinds are refused before
-    pub not-mixed : (c : Counts) (m : ℕ) → a.point.figures ≡ Exponential c → b.point.figures ≡ Explicit m → ⊥
-    not-mixed c m f g = not-both kindOk alike (λ j. sameFigures (f j) a.bounds (g j) b.bounds)
+    pub not_mixed : (c : Counts) (m : ℕ) → a.point.figures ≡ Exponential c → b.point.figures ≡ Explicit m → ⊥
+    not_mixed c m f g = not-both kind_ok alike (λ j. same_figures (f j) a.bounds (g j) b.bounds)
 
-    pub not-mixed-2 : (n : ℕ) (d : Counts) → a.point.figures ≡ Explicit n → b.point.figures ≡ Exponential d → ⊥
-    not-mixed-2 n d f g = not-both kindOk alike (λ j. sameFigures (f j) a.bounds (g j) b.bounds)
+    pub not_mixed_2 : (n : ℕ) (d : Counts) → a.point.figures ≡ Explicit n → b.point.figures ≡ Exponential d → ⊥
+    not_mixed_2 n d f g = not-both kind_ok alike (λ j. same_figures (f j) a.bounds (g j) b.bounds)
 
   module _ (us vs : List ℕ) where
-    pub refused-law : (n : ℕ) → n ≡ refusalBefore size a b → (n ≡ 0 → ⊥) → ended (refusal n) a.bounds us vs ≡ merging size a b us vs
+    pub refused_law : (n : ℕ) → n ≡ refusal_before size a b → (n ≡ 0 → ⊥) → ended (refusal n) a.bounds us vs ≡ merging size a b us vs
     unfolding merging pick
-    refused-law n e z = rw (← e, ne_eqb n 0 z)
+    refused_law n e z = rw (← e, ne_eqb n 0 z)
 
     -- the merged counts over the rows are the merged point over the rows
-    laid-is : concluded a b (countsOver (mergeCounts size (countsIn a) (countsIn b)) us vs) ≡ laidOver (mergeHanded size (handedIn a) (handedIn b)) a.bounds us vs
-    unfolding countsOver laidOver mergeHanded
+    laid-is : concluded a b (counts_over (merge_counts size (counts_in a) (counts_in b)) us vs) ≡ laid_over (merge_handed size (handed_in a) (handed_in b)) a.bounds us vs
+    unfolding counts_over laid_over merge_handed
     laid-is =
-        let c = mergeCounts size (countsIn a) (countsIn b) in
-        through a b (leb (length (posOf c)) (length us) && leb (length (neg_of c)) (length vs)) (madeOver (Of (figuresFor c)) (over (posOf c) us) (over (neg_of c) vs)) (madeOver NoRoom us vs)
+        let c = merge_counts size (counts_in a) (counts_in b) in
+        through a b (leb (length (pos_of c)) (length us) && leb (length (neg_of c)) (length vs)) (made_over (Of (figures_for c)) (over (pos_of c) us) (over (neg_of c) vs)) (made_over NoRoom us vs)
 
-    pub accepted : refusalBefore size a b ≡ 0
-        → concluded a b (countsOver (mergeCounts size (countsIn a) (countsIn b)) us vs) ≡ merging size a b us vs
+    pub accepted : refusal_before size a b ≡ 0
+        → concluded a b (counts_over (merge_counts size (counts_in a) (counts_in b)) us vs) ≡ merging size a b us vs
     unfolding merging pick
-    accepted e = rw (eq-eqb (refusalBefore size a b) 0 e) laid-is
+    accepted e = rw (eq-eqb (refusal_before size a b) 0 e) laid-is
 
-    pub exponential-law : (c d : Counts) (m : Made) (r : Said Point) (us' vs' : List ℕ) → refusalBefore size a b ≡ 0 → a.point.figures ≡ Exponential c → b.point.figures ≡ Exponential d
-        → madeOver m us' vs' ≡ countsOver (exponentialCounts (mergedPoint size c a.pos a.neg d b.pos b.neg)) us vs → r ≡ finished a.point b.point m
+    pub exponential_law : (c d : Counts) (m : Made) (r : Said Point) (us' vs' : List ℕ) → refusal_before size a b ≡ 0 → a.point.figures ≡ Exponential c → b.point.figures ≡ Exponential d
+        → made_over m us' vs' ≡ counts_over (exponential_counts (merged_point size c a.pos a.neg d b.pos b.neg)) us vs → r ≡ finished a.point b.point m
         → ended r a.bounds us' vs' ≡ merging size a b us vs
-    exponential-law c d m r us' vs' e f g h k =
+    exponential_law c d m r us' vs' e f g h k =
         ap (λ r. ended r a.bounds us' vs') k
         ∙ ap (concluded a b) h
-        ∙ (λ j. concluded a b (countsOver (mergeCounts size (countsAs (sym f j) a.bounds a.pos a.neg) (countsAs (sym g j) b.bounds b.pos b.neg)) us vs))
+        ∙ (λ j. concluded a b (counts_over (merge_counts size (counts_as (sym f j) a.bounds a.pos a.neg) (counts_as (sym g j) b.bounds b.pos b.neg)) us vs))
         ∙ accepted e
 
-    pub explicit-law : (n m : ℕ) (t : Made) (r : Said Point) (us' : List ℕ) → refusalBefore size a b ≡ 0 → a.point.figures ≡ Explicit n → b.point.figures ≡ Explicit m
-        → madeOne t us' ≡ laidOne (bucketCount a.bounds) n a.pos m b.pos us → r ≡ finished a.point b.point t
+    pub explicit_law : (n m : ℕ) (t : Made) (r : Said Point) (us' : List ℕ) → refusal_before size a b ≡ 0 → a.point.figures ≡ Explicit n → b.point.figures ≡ Explicit m
+        → made_one t us' ≡ laid_one (bucket_count a.bounds) n a.pos m b.pos us → r ≡ finished a.point b.point t
         → ended r a.bounds us' vs ≡ merging size a b us vs
-    explicit-law n m t r us' e f g h k =
+    explicit_law n m t r us' e f g h k =
         ap (λ r. ended r a.bounds us' vs) k
-        ∙ (λ j. concluded a b (madeOver (h j).made (h j).counts vs))
+        ∙ (λ j. concluded a b (made_over (h j).made (h j).counts vs))
         ∙ ap (concluded a b) (sym (one-is e n m f g us vs))
-        ∙ (λ j. concluded a b (countsOver (mergeCounts size (countsAs (sym f j) a.bounds a.pos a.neg) (countsAs (sym g j) b.bounds b.pos b.neg)) us vs))
+        ∙ (λ j. concluded a b (counts_over (merge_counts size (counts_as (sym f j) a.bounds a.pos a.neg) (counts_as (sym g j) b.bounds b.pos b.neg)) us vs))
         ∙ accepted e

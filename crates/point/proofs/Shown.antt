@@ -13,7 +13,7 @@ use lib.IntN.{ℤ, pos}
 use borrow.Author.Tests.{eq-eqb, ne_eqb}
 use Rattle.laws.specs.Pick.{pick}
 use Rattle.laws.proofs.Bools.{and_left}
-use Rattle.index.specs.Bins.{finest, endBin, scale_of, index_of}
+use Rattle.index.specs.Bins.{finest, end_bin, scale_of, index_of}
 use Rattle.index.specs.declared.signed.Integer.TheVariants.{Is}
 use Rattle.index.proofs.SignedCases.{scale-is, index_is}
 use Rattle.points.proofs.Agreement.{RowOk}
@@ -23,15 +23,15 @@ use Rattle.exponential.specs.Series.{row_in}
 use Rattle.exponential.proofs.Facts as Facts
 use Rattle.point.specs.declared.Figures.TheVariants.{Exponential}
 use Rattle.point.specs.Handing.{Stored}
-use Rattle.point.specs.Inner.{figuresAgree, extremesOk, pointAgrees}
-use Rattle.point.specs.Signed.{scaleShown, offsetAnswer, offsetShown}
+use Rattle.point.specs.Inner.{figures_agree, extremes_ok, point_agrees}
+use Rattle.point.specs.Signed.{scale_shown, offset_answer, offset_shown}
 use Rattle.point.proofs.Offsets.{offset-empty, offset-there}
 
 -- the offset of a row: the index of its first bin; "an empty row has offset 0"
 abbrev pub offset_of : ℕ → Row → ℤ
 offset_of level r = pick (eqb r.len 0) (pos 0) (index_of level r.start)
 
-shown : (level : ℕ) (r : Row) → level ≤ finest → (0 < r.len → r.start < endBin level) → offsetAnswer level r ≡ Is (offset_of level r)
+shown : (level : ℕ) (r : Row) → level ≤ finest → (0 < r.len → r.start < end_bin level) → offset_answer level r ≡ Is (offset_of level r)
 unfolding pick
 shown level r l b =
     ⊎_elim
@@ -45,32 +45,32 @@ shown level r l b =
 starts : (size low end : ℕ) (r : Row) (xs : List ℕ) → r.len ≤ length xs → RowOk size low end (row_in r xs) → 0 < r.len → r.start < end
 starts size low end r xs l k p = omega (arith, k.below, length-take-le r.len xs l)
 
-module _ (size : ℕ) (x : Stored) (c : Counts) (f : x.point.figures ≡ Exponential c) (a : pointAgrees size x ≡ true) where
+module _ (size : ℕ) (x : Stored) (c : Counts) (f : x.point.figures ≡ Exponential c) (a : point_agrees size x ≡ true) where
   known : Facts.Agreed size finest c x.pos x.neg
-  unfolding pointAgrees
+  unfolding point_agrees
   known =
       Facts.agreed size finest c x.pos x.neg
-      (ap (λ h. figuresAgree size h x.bounds x.pos x.neg) (sym f)
-      ∙ and_left (figuresAgree size x.point.figures x.bounds x.pos x.neg) (extremesOk x.point) a)
+      (ap (λ h. figures_agree size h x.bounds x.pos x.neg) (sym f)
+      ∙ and_left (figures_agree size x.point.figures x.bounds x.pos x.neg) (extremes_ok x.point) a)
 
   level-is : finest - (finest - c.level) ≡ c.level
   level-is = omega (arith, known.level)
 
   -- THE SCALE, from -10 to 10
-  pub scale-there : scaleShown x.point.figures ≡ Is (scale_of c.level)
-  scale-there = ap scaleShown f ∙ scale-is c.level known.level
+  pub scale-there : scale_shown x.point.figures ≡ Is (scale_of c.level)
+  scale-there = ap scale_shown f ∙ scale-is c.level known.level
 
   -- BOTH OFFSETS
-  pub pos-there : offsetShown false x.point.figures ≡ Is (offset_of c.level c.pos)
+  pub pos-there : offset_shown false x.point.figures ≡ Is (offset_of c.level c.pos)
   unfolding pick
   pos-there =
-      ap (offsetShown false) f
+      ap (offset_shown false) f
       ∙ shown c.level c.pos known.level
-      (λ h. subst (λ (l : ℕ). c.pos.start < endBin l) level-is (starts size _ _ c.pos x.pos known.posThere known.point.pos h))
+      (λ h. subst (λ (l : ℕ). c.pos.start < end_bin l) level-is (starts size _ _ c.pos x.pos known.pos_there known.point.pos h))
 
-  pub neg-there : offsetShown true x.point.figures ≡ Is (offset_of c.level c.neg)
+  pub neg-there : offset_shown true x.point.figures ≡ Is (offset_of c.level c.neg)
   unfolding pick
   neg-there =
-      ap (offsetShown true) f
+      ap (offset_shown true) f
       ∙ shown c.level c.neg known.level
-      (λ h. subst (λ (l : ℕ). c.neg.start < endBin l) level-is (starts size _ _ c.neg x.neg known.negThere known.point.neg h))
+      (λ h. subst (λ (l : ℕ). c.neg.start < end_bin l) level-is (starts size _ _ c.neg x.neg known.neg_there known.point.neg h))

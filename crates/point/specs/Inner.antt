@@ -6,46 +6,46 @@ use Rattle.std.specs.Float.Ieee.{add}
 use Rattle.laws.specs.Pick.{pick}
 use Rattle.laws.specs.Said.{Said, refusal, success}
 use Rattle.index.specs.Bins.{finest}
-use Rattle.floats.specs.Answers.{shows, smallerOf, largerOf}
-use Rattle.points.specs.Explicit.{added, sameBounds, bucketsAgree}
+use Rattle.floats.specs.Answers.{shows, smaller_of, larger_of}
+use Rattle.points.specs.Explicit.{added, same_bounds, buckets_agree}
 use Rattle.points.specs.Figures as F
-use Rattle.points.specs.Figures.{sizePasses}
-use Rattle.points.specs.Handed.{extremesAgree, posOf, neg_of}
+use Rattle.points.specs.Figures.{size_passes}
+use Rattle.points.specs.Handed.{extremes_agree, pos_of, neg_of}
 use Rattle.rows.specs.Rows.{over}
 use Rattle.exponential.specs.Series.{agrees}
-use Rattle.explicit.specs.Series.{bucketsIn}
+use Rattle.explicit.specs.Series.{buckets_in}
 use Rattle.point.specs.declared.Point.{Point}
 use Rattle.point.specs.declared.Figures.{Figures}
 use Rattle.point.specs.declared.Figures.TheVariants.{Exponential, Explicit}
 use Rattle.point.specs.declared.Made.{Made}
 use Rattle.point.specs.declared.Made.TheVariants.{Of, NoRoom}
-use Rattle.point.specs.Handing.{Stored, countIn, figuresFor}
+use Rattle.point.specs.Handing.{Stored, count_in, figures_for}
 
--- ---- the tests; that they make up `refusalBefore` is the law `refusal_is`
+-- ---- the tests; that they make up `refusal_before` is the law `refusal_is`
 
 -- agreement, under a max_size; the greatest level of a merge is the finest
-abbrev pub figuresAgree : ℕ → Figures → List Float → List ℕ → List ℕ → Bool
-figuresAgree size (Exponential c) bs xs ys = agrees size finest c xs ys
-figuresAgree size (Explicit n) bs xs ys = bucketsAgree bs (bucketsIn bs n xs)
+abbrev pub figures_agree : ℕ → Figures → List Float → List ℕ → List ℕ → Bool
+figures_agree size (Exponential c) bs xs ys = agrees size finest c xs ys
+figures_agree size (Explicit n) bs xs ys = buckets_agree bs (buckets_in bs n xs)
 
-abbrev pub extremesOk : Point → Bool
-extremesOk p = extremesAgree (shows p.extremes (countIn p.figures)) p.min p.max
+abbrev pub extremes_ok : Point → Bool
+extremes_ok p = extremes_agree (shows p.extremes (count_in p.figures)) p.min p.max
 
-unfoldable pub pointAgrees : ℕ → Stored → Bool
-pointAgrees size x = figuresAgree size x.point.figures x.bounds x.pos x.neg && extremesOk x.point
+unfoldable pub point_agrees : ℕ → Stored → Bool
+point_agrees size x = figures_agree size x.point.figures x.bounds x.pos x.neg && extremes_ok x.point
 
-abbrev pub isExplicit : Figures → Bool
-isExplicit (Exponential c) = false
-isExplicit (Explicit n) = true
+abbrev pub is_explicit : Figures → Bool
+is_explicit (Exponential c) = false
+is_explicit (Explicit n) = true
 
-abbrev pub sameFigures : Figures → List Float → Figures → List Float → Bool
-sameFigures (Exponential c) bs (Exponential d) cs = true
-sameFigures (Exponential c) bs (Explicit m) cs = false
-sameFigures (Explicit n) bs (Exponential d) cs = false
-sameFigures (Explicit n) bs (Explicit m) cs = sameBounds bs cs
+abbrev pub same_figures : Figures → List Float → Figures → List Float → Bool
+same_figures (Exponential c) bs (Exponential d) cs = true
+same_figures (Exponential c) bs (Explicit m) cs = false
+same_figures (Explicit n) bs (Exponential d) cs = false
+same_figures (Explicit n) bs (Explicit m) cs = same_bounds bs cs
 
-abbrev pub sizeFits : ℕ → Figures → Figures → Bool
-sizeFits size f g = pick (isExplicit f) (pick (isExplicit g) true (sizePasses size)) (sizePasses size)
+abbrev pub size_fits : ℕ → Figures → Figures → Bool
+size_fits size f g = pick (is_explicit f) (pick (is_explicit g) true (size_passes size)) (size_passes size)
 
 -- ---- counts laid over lent rows, where there is room for them
 
@@ -54,26 +54,26 @@ pub record Over : Type 0 where
   pub pos : List ℕ
   pub neg : List ℕ
 
-abbrev pub madeOver : Made → List ℕ → List ℕ → Over
-madeOver m us vs = record { made = m; pos = us; neg = vs }
+abbrev pub made_over : Made → List ℕ → List ℕ → Over
+made_over m us vs = record { made = m; pos = us; neg = vs }
 
-unfoldable pub countsOver : F.Counts → List ℕ → List ℕ → Over
-countsOver c us vs =
-    pick (leb (length (posOf c)) (length us) && leb (length (neg_of c)) (length vs))
-    (madeOver (Of (figuresFor c)) (over (posOf c) us) (over (neg_of c) vs))
-    (madeOver NoRoom us vs)
+unfoldable pub counts_over : F.Counts → List ℕ → List ℕ → Over
+counts_over c us vs =
+    pick (leb (length (pos_of c)) (length us) && leb (length (neg_of c)) (length vs))
+    (made_over (Of (figures_for c)) (over (pos_of c) us) (over (neg_of c) vs))
+    (made_over NoRoom us vs)
 
 -- the explicit kind, whose counts need one row
 pub record One : Type 0 where
   pub made : Made
   pub counts : List ℕ
 
-abbrev pub madeOne : Made → List ℕ → One
-madeOne m us = record { made = m; counts = us }
+abbrev pub made_one : Made → List ℕ → One
+made_one m us = record { made = m; counts = us }
 
-unfoldable pub laidOne : ℕ → ℕ → List ℕ → ℕ → List ℕ → List ℕ → One
-laidOne k n xs m zs us =
-    pick (leb k (length us)) (madeOne (Of (Explicit (n + m))) (over (added (take k xs) (take k zs)) us)) (madeOne NoRoom us)
+unfoldable pub laid_one : ℕ → ℕ → List ℕ → ℕ → List ℕ → List ℕ → One
+laid_one k n xs m zs us =
+    pick (leb k (length us)) (made_one (Of (Explicit (n + m))) (over (added (take k xs) (take k zs)) us)) (made_one NoRoom us)
 
 -- ---- the merged point of the counts that were made; 10 where there is no room
 
@@ -83,7 +83,7 @@ finished a b (Of f) =
     success (record {
       figures = f;
       extremes = a.extremes;
-      min = smallerOf a.min b.min;
-      max = largerOf a.max b.max;
+      min = smaller_of a.min b.min;
+      max = larger_of a.max b.max;
       sum = add binary64 a.sum b.sum;
     })

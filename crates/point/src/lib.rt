@@ -2,19 +2,19 @@
 pub mod signed;
 
 ghost use Rattle.std.specs.Prelude.{◌≡◌, ◌+◌, ◌-◌, ◌^◌, ◌<◌, leb};
-ghost use Rattle.floats.specs.Starts.{zeroFloat};
-ghost use Rattle.points.specs.Handed.{extremesAgree};
+ghost use Rattle.floats.specs.Starts.{zero_float};
+ghost use Rattle.points.specs.Handed.{extremes_agree};
 ghost use Rattle.laws.specs.Pick.{pick};
 ghost use Rattle.floats.specs.declared.Extreme.TheVariants.{Value};
-ghost use Rattle.point.specs.Handing.{stored, countIn, agreesAlone, shownPoint, exponentialPoint, explicitPoint, refusalBefore, said, outcome, merging};
-ghost use Rattle.point.specs.Inner.{figuresAgree, pointAgrees, isExplicit, sameFigures, sizeFits};
-ghost use Rattle.point.specs.Inner.{madeOver, countsOver, madeOne, laidOne, finished};
+ghost use Rattle.point.specs.Handing.{stored, count_in, agrees_alone, shown_point, exponential_point, explicit_point, refusal_before, said, outcome, merging};
+ghost use Rattle.point.specs.Inner.{figures_agree, point_agrees, is_explicit, same_figures, size_fits};
+ghost use Rattle.point.specs.Inner.{made_over, counts_over, made_one, laid_one, finished};
 ghost use Rattle.std.specs.Bool.{beq};
-ghost use Rattle.points.specs.Explicit.{bucketCount};
-ghost use Rattle.points.specs.Figures.{exponentialCounts};
-ghost use Rattle.merges.specs.Merges.{Agreeing, mergedPoint};
+ghost use Rattle.points.specs.Explicit.{bucket_count};
+ghost use Rattle.points.specs.Figures.{exponential_counts};
+ghost use Rattle.merges.specs.Merges.{Agreeing, merged_point};
 ghost use Rattle.explicit.specs.Inner.{Addable};
-ghost use Rattle.laws.specs.Counting.{mostCount};
+ghost use Rattle.laws.specs.Counting.{most_count};
 
 use exponential::Counts;
 use floats::Extreme;
@@ -38,7 +38,7 @@ pub struct Point {
 
 // The count of a point's values.
 pub fn count_in(f: Figures) -> u64
-    ensures { result ≡ countIn f }
+    ensures { result ≡ count_in f }
 {
     match f {
         Figures::Exponential(c) => c.count,
@@ -49,7 +49,7 @@ pub fn count_in(f: Figures) -> u64
 // ---- the point of a series, by its two switches
 
 fn shown_sum(on: bool, sum: f64) -> f64
-    ensures { result ≡ pick on sum zeroFloat }
+    ensures { result ≡ pick on sum zero_float }
 {
     if on {
         return sum;
@@ -59,7 +59,7 @@ fn shown_sum(on: bool, sum: f64) -> f64
 
 // The point of a series' figures, by its two switches.
 fn handed_out(figures: Figures, min: f64, max: f64, sum: f64, extremes: bool, sums: bool) -> Point
-    ensures { result ≡ shownPoint figures min max sum extremes sums }
+    ensures { result ≡ shown_point figures min max sum extremes sums }
 {
     let count = count_in(figures);
     let low = floats::shown(extremes, count, min);
@@ -76,7 +76,7 @@ fn handed_out(figures: Figures, min: f64, max: f64, sum: f64, extremes: bool, su
 
 // The point that a series of the exponential kind hands out, by its two switches; never refused.
 pub fn exponential_point(head: exponential::Head, extremes: bool, sums: bool) -> Point
-    ensures { result ≡ exponentialPoint head extremes sums }
+    ensures { result ≡ exponential_point head extremes sums }
 {
     let c = head.counts;
     let f = Figures::Exponential(c);
@@ -85,7 +85,7 @@ pub fn exponential_point(head: exponential::Head, extremes: bool, sums: bool) ->
 
 // The point that a series of the explicit kind hands out, by its two switches; never refused.
 pub fn explicit_point(head: explicit::Head, extremes: bool, sums: bool) -> Point
-    ensures { result ≡ explicitPoint head extremes sums }
+    ensures { result ≡ explicit_point head extremes sums }
 {
     let f = Figures::Explicit(head.count);
     handed_out(f, head.min, head.max, head.sum, extremes, sums)
@@ -95,7 +95,7 @@ pub fn explicit_point(head: explicit::Head, extremes: bool, sums: bool) -> Point
 
 // Whether both extremes are there and finite where they are due, and neither is elsewhere.
 fn extremes_agree(due: bool, min: Extreme, max: Extreme) -> bool
-    ensures { result ≡ extremesAgree due min max }
+    ensures { result ≡ extremes_agree due min max }
 {
     match min {
         Extreme::None => match max {
@@ -111,7 +111,7 @@ fn extremes_agree(due: bool, min: Extreme, max: Extreme) -> bool
 
 // Two that are there.
 fn values_agree(due: bool, x: f64, y: f64) -> bool
-    ensures { result ≡ extremesAgree due (Value x) (Value y) }
+    ensures { result ≡ extremes_agree due (Value x) (Value y) }
 {
     if !due {
         return false;
@@ -123,7 +123,7 @@ fn values_agree(due: bool, x: f64, y: f64) -> bool
 }
 
 fn figures_agree(size: usize, f: Figures, bounds: &[f64], pos: &[u64], neg: &[u64]) -> bool
-    ensures { result ≡ figuresAgree size f bounds.now pos.now neg.now }
+    ensures { result ≡ figures_agree size f bounds.now pos.now neg.now }
 {
     match f {
         Figures::Exponential(c) => exponential::counts_agree(size, index::FINEST, c, pos, neg),
@@ -133,7 +133,7 @@ fn figures_agree(size: usize, f: Figures, bounds: &[f64], pos: &[u64], neg: &[u6
 
 // Whether a point agrees with itself under a max_size, as number 8 asks.
 fn point_agrees(size: usize, p: Point, bounds: &[f64], pos: &[u64], neg: &[u64]) -> bool
-    ensures { result ≡ pointAgrees size (stored p bounds.entry pos.entry neg.entry) }
+    ensures { result ≡ point_agrees size (stored p bounds.entry pos.entry neg.entry) }
 {
     let f = p.figures;
     let min = p.min;
@@ -147,7 +147,7 @@ fn point_agrees(size: usize, p: Point, bounds: &[f64], pos: &[u64], neg: &[u64])
 
 // Whether a point agrees with itself under max_size 160 and the greatest scale, as number 8 asks where there is no merge; never refused.
 pub fn agrees_alone(p: Point, bounds: &[f64], pos: &[u64], neg: &[u64]) -> bool
-    ensures { result ≡ agreesAlone (stored p bounds.entry pos.entry neg.entry) }
+    ensures { result ≡ agrees_alone (stored p bounds.entry pos.entry neg.entry) }
 {
     point_agrees(exponential::MOST_SIZE, p, bounds, pos, neg)
 }
@@ -155,7 +155,7 @@ pub fn agrees_alone(p: Point, bounds: &[f64], pos: &[u64], neg: &[u64]) -> bool
 // ---- the refusals of a merge that need no room
 
 fn is_explicit(f: Figures) -> bool
-    ensures { result ≡ isExplicit f }
+    ensures { result ≡ is_explicit f }
 {
     match f {
         Figures::Exponential(c) => false,
@@ -164,7 +164,7 @@ fn is_explicit(f: Figures) -> bool
 }
 
 fn same_kind(f: Figures, bounds: &[f64], g: Figures, others: &[f64]) -> bool
-    ensures { result ≡ sameFigures f bounds.now g others.now }
+    ensures { result ≡ same_figures f bounds.now g others.now }
 {
     match f {
         Figures::Exponential(c) => match g {
@@ -180,7 +180,7 @@ fn same_kind(f: Figures, bounds: &[f64], g: Figures, others: &[f64]) -> bool
 
 // Whether a max_size is asked of two points: unless both are explicit.
 fn size_fits(size: usize, f: Figures, g: Figures) -> bool
-    ensures { result ≡ sizeFits size f g }
+    ensures { result ≡ size_fits size f g }
 {
     if is_explicit(f) {
         if is_explicit(g) {
@@ -201,7 +201,7 @@ fn same_switch(a: bool, b: bool) -> bool
 }
 
 fn counts_fit(f: Figures, g: Figures) -> bool
-    ensures { result ≡ leb (countIn f + countIn g) mostCount }
+    ensures { result ≡ leb (count_in f + count_in g) most_count }
 {
     let x = count_in(f);
     let y = count_in(g);
@@ -220,7 +220,7 @@ pub fn refusal(
     bpos: &[u64],
     bneg: &[u64],
 ) -> u8
-    ensures { result ≡ refusalBefore size (stored a abounds.entry apos.entry aneg.entry)
+    ensures { result ≡ refusal_before size (stored a abounds.entry apos.entry aneg.entry)
         (stored b bbounds.entry bpos.entry bneg.entry) }
 {
     let f = a.figures;
@@ -274,8 +274,8 @@ fn merge_exponential(
     neg: &mut [u64],
 ) -> Made
     requires { Agreeing size c apos.now aneg.now d bpos.now bneg.now }
-    ensures { madeOver result pos.new neg.new
-        ≡ countsOver (exponentialCounts (mergedPoint size c apos.now aneg.now d bpos.now bneg.now))
+    ensures { made_over result pos.new neg.new
+        ≡ counts_over (exponential_counts (merged_point size c apos.now aneg.now d bpos.now bneg.now))
         pos.old neg.old }
 {
     let to = merges::plan_of(size, c, d);
@@ -301,9 +301,9 @@ fn merge_explicit(
     bpos: &[u64],
     pos: &mut [u64],
 ) -> Made
-    requires { Addable (bucketCount bounds.now) apos.now bpos.now × (n + m < 2 ^ 64) }
-    ensures { madeOne result pos.new
-        ≡ laidOne (bucketCount bounds.now) n apos.now m bpos.now pos.old }
+    requires { Addable (bucket_count bounds.now) apos.now bpos.now × (n + m < 2 ^ 64) }
+    ensures { made_one result pos.new
+        ≡ laid_one (bucket_count bounds.now) n apos.now m bpos.now pos.old }
 {
     let k = explicit::bucket_count(bounds);
     if pos.len() < k {

@@ -1,8 +1,8 @@
 // Scale, offsets and the sum's bits of a point, as they leave.
 ghost use Rattle.std.specs.Prelude.{◌≡◌};
 ghost use Rattle.laws.specs.Pick.{pick};
-ghost use Rattle.floats.specs.Answers.{bitsOf};
-ghost use Rattle.point.specs.Signed.{scaleShown, offsetAnswer, offsetShown};
+ghost use Rattle.floats.specs.Answers.{bits_of};
+ghost use Rattle.point.specs.Signed.{scale_shown, offset_answer, offset_shown};
 
 use exponential::Counts;
 use index::signed::Integer;
@@ -10,7 +10,7 @@ use rows::Row;
 
 // The scale; out of range for a point of the explicit kind, which has none.
 pub fn scale(p: crate::Point) -> Integer
-    ensures { result ≡ scaleShown p.figures }
+    ensures { result ≡ scale_shown p.figures }
 {
     let f = p.figures;
     match f {
@@ -21,7 +21,7 @@ pub fn scale(p: crate::Point) -> Integer
 
 // The offset of a row that starts at a level's bin.
 fn row_offset(level: u32, row: Row) -> Integer
-    ensures { result ≡ offsetAnswer level row }
+    ensures { result ≡ offset_answer level row }
 {
     if row.len == 0 {
         return Integer::Is(0);
@@ -40,7 +40,7 @@ fn row_of(c: Counts, negative: bool) -> Row
 
 // The offset of the positive or the negative row, 0 of an empty one; out of range for a point of the explicit kind.
 pub fn offset(p: crate::Point, negative: bool) -> Integer
-    ensures { result ≡ offsetShown negative p.figures }
+    ensures { result ≡ offset_shown negative p.figures }
 {
     let f = p.figures;
     match f {
@@ -54,7 +54,7 @@ pub fn offset(p: crate::Point, negative: bool) -> Integer
 
 // The bits of the sum, 7FF8000000000000 for every NaN; never refused.
 pub fn sum_bits(p: crate::Point) -> u64
-    ensures { result ≡ bitsOf p.sum }
+    ensures { result ≡ bits_of p.sum }
 {
     floats::bits_of(p.sum)
 }

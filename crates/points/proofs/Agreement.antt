@@ -10,13 +10,13 @@ use lib.ListN.{length, get_or}
 use borrow.Author.Tests.{leb-true, le-leb, eqb-true, eqb-false, eq-eqb, ne_eqb, not-true}
 use Rattle.laws.specs.Counting.{total}
 use Rattle.laws.proofs.Bools.{flag, and_left, and_right, and_intro, pick_true, pick-false}
-use Rattle.laws.proofs.Search.{least-spec}
-use Rattle.index.specs.Bins.{finest, endBin}
-use Rattle.points.specs.Points.{Row, row, row_of, expand, indices, fits, fitsBoth, scale, none, Point, pointAt, build, point_of, bag, merge}
-use Rattle.points.specs.Agreement.{rowAgrees, agrees}
-use Rattle.points.proofs.Rows.{Canonical, rowOf-cong, rowOf-expand}
+use Rattle.laws.proofs.Search.{least_spec}
+use Rattle.index.specs.Bins.{finest, end_bin}
+use Rattle.points.specs.Points.{Row, row, row_of, expand, indices, fits, fits_both, scale, none, Point, point_at, build, point_of, bag, merge}
+use Rattle.points.specs.Agreement.{row_agrees, agrees}
+use Rattle.points.proofs.Rows.{Canonical, row_of-cong, row_of-expand}
 use Rattle.points.proofs.Alike.{up-down}
-use Rattle.points.proofs.Merge.{merge-build, none-⊕}
+use Rattle.points.proofs.Merge.{merge-build, none_⊕}
 
 -- ---- the tests, and the facts that they stand for
 pub record RowOk (size low end : ℕ) (r : Row) : Type 0 where
@@ -28,8 +28,8 @@ pub record RowOk (size low end : ℕ) (r : Row) : Type 0 where
 pub record Agreed (size top low : ℕ) (p : Point) : Type 0 where
   pub fine : finest - top ≤ p.d
   pub coarse : p.d ≤ finest
-  pub pos : RowOk size (low / 2 ^ p.d) (endBin (finest - p.d)) p.pos
-  pub neg : RowOk size (low / 2 ^ p.d) (endBin (finest - p.d)) p.neg
+  pub pos : RowOk size (low / 2 ^ p.d) (end_bin (finest - p.d)) p.pos
+  pub neg : RowOk size (low / 2 ^ p.d) (end_bin (finest - p.d)) p.neg
   pub adds : p.total ≡ p.zeros + (total p.pos.counts + total p.neg.counts)
 
 nonzero : (n : ℕ) → not (eqb n 0) ≡ true → 0 < n
@@ -42,8 +42,8 @@ last-is : (n : ℕ) → n - 1 ≡ pred n
 last-is n = omega arith
 
 module _ (size low end : ℕ) (r : Row) where
-  pub row-says : rowAgrees size low end r ≡ true → RowOk size low end r
-  unfolding rowAgrees
+  pub row-says : row_agrees size low end r ≡ true → RowOk size low end r
+  unfolding row_agrees
   row-says h =
       let n = length r.counts in
       let a = leb n size in
@@ -79,8 +79,8 @@ module _ (size low end : ℕ) (r : Row) where
             }
       ]
 
-  pub row-agrees : RowOk size low end r → rowAgrees size low end r ≡ true
-  unfolding rowAgrees
+  pub row-agrees : RowOk size low end r → row_agrees size low end r ≡ true
+  unfolding row_agrees
   row-agrees k =
       let n = length r.counts in
       let a = leb n size in
@@ -107,12 +107,12 @@ module _ (size top low : ℕ) (p : Point) where
   unfolding agrees
   agrees-says h =
       let l = low / 2 ^ p.d in
-      let e = endBin (finest - p.d) in
+      let e = end_bin (finest - p.d) in
       let n = p.zeros + (total p.pos.counts + total p.neg.counts) in
       let a = leb (finest - top) p.d in
       let b = leb p.d finest in
-      let c = rowAgrees size l e p.pos in
-      let d = rowAgrees size l e p.neg in
+      let c = row_agrees size l e p.pos in
+      let d = row_agrees size l e p.neg in
       let t = eqb p.total n in
       let h2 = and_right a (b && (c && (d && t))) h in
       let h3 = and_right b (c && (d && t)) h2 in
@@ -129,12 +129,12 @@ module _ (size top low : ℕ) (p : Point) where
   unfolding agrees
   agreed-agrees k =
       let l = low / 2 ^ p.d in
-      let e = endBin (finest - p.d) in
+      let e = end_bin (finest - p.d) in
       let n = p.zeros + (total p.pos.counts + total p.neg.counts) in
       let a = leb (finest - top) p.d in
       let b = leb p.d finest in
-      let c = rowAgrees size l e p.pos in
-      let d = rowAgrees size l e p.neg in
+      let c = row_agrees size l e p.pos in
+      let d = row_agrees size l e p.neg in
       let t = eqb p.total n in
       and_intro a (b && (c && (d && t))) (le-leb (finest - top) p.d k.fine)
       (and_intro b (c && (d && t)) (le-leb p.d finest k.coarse)
@@ -145,19 +145,19 @@ module _ (size top low : ℕ) (p : Point) where
 pub row-indices : (d : ℕ) (r : Row) → Canonical r → row d (indices d r) ≡ r
 unfolding row indices
 row-indices d r c =
-    rowOf-cong (map (λ i. i / 2 ^ d) (map (λ i. i * 2 ^ d) (expand r.start r.counts))) (expand r.start r.counts)
+    row_of-cong (map (λ i. i / 2 ^ d) (map (λ i. i * 2 ^ d) (expand r.start r.counts))) (expand r.start r.counts)
     (λ w. up-down w d (expand r.start r.counts))
-    ∙ rowOf-expand r c
+    ∙ row_of-expand r c
 
 pub fits-valid : (size d : ℕ) (r : Row) → Canonical r → length r.counts ≤ size → fits size d (indices d r) ≡ true
 unfolding fits
 fits-valid size d r c h = rw (row-indices d r c) (le-leb (length r.counts) size h)
 
 pub scale-valid : (size top low : ℕ) (p : Point) → Agreed size top low p → scale size p.d (bag p) ≡ p.d
-unfolding scale bag fitsBoth
+unfolding scale bag fits_both
 scale-valid size top low p v =
-    let l = least-spec (fitsBoth size (bag p)) p.d (finest - p.d) in
-    let f : fitsBoth size (bag p) p.d ≡ true =
+    let l = least_spec (fits_both size (bag p)) p.d (finest - p.d) in
+    let f : fits_both size (bag p) p.d ≡ true =
     and_intro (fits size p.d (indices p.d p.pos)) (fits size p.d (indices p.d p.neg))
     (fits-valid size p.d p.pos v.pos.canonical v.pos.short) (fits-valid size p.d p.neg v.neg.canonical v.neg.short) in
     omega (arith, l.ge, l.first p.d (omega arith) f)
@@ -165,7 +165,7 @@ scale-valid size top low p v =
 pub build-bag : (size top low : ℕ) (p : Point) → Agreed size top low p → build size p.d (bag p) ≡ p
 unfolding build bag
 build-bag size top low p v =
-    ap (λ e. pointAt e (bag p)) (scale-valid size top low p v)
+    ap (λ e. point_at e (bag p)) (scale-valid size top low p v)
     ∙ (λ i. record {
       d = p.d;
       pos = row-indices p.d p.pos v.pos.canonical i;
@@ -176,18 +176,18 @@ build-bag size top low p v =
 
 -- ---- the fresh point: it has no rows, whatever the size, and changes nothing in an agreeing point no finer than it
 scale-none : (size d : ℕ) → scale size d none ≡ d
-unfolding scale fitsBoth fits row row_of
+unfolding scale fits_both fits row row_of
 scale-none size d =
-    let l = least-spec (fitsBoth size none) d (finest - d) in
+    let l = least_spec (fits_both size none) d (finest - d) in
     omega (arith, l.ge, l.first d (omega arith) (rw leb-zero))
 
-pub fresh : (size d : ℕ) → point_of size d [] ≡ pointAt d none
+pub fresh : (size d : ℕ) → point_of size d [] ≡ point_at d none
 unfolding point_of build
-fresh size d = ap (λ e. pointAt e none) (scale-none size d)
+fresh size d = ap (λ e. point_at e none) (scale-none size d)
 
-pub fresh-neutral : (size top low d : ℕ) (p : Point) → d ≤ p.d → Agreed size top low p → merge size (pointAt d none) p ≡ p
+pub fresh_neutral : (size top low d : ℕ) (p : Point) → d ≤ p.d → Agreed size top low p → merge size (point_at d none) p ≡ p
 unfolding point_of
-fresh-neutral size top low d p h v =
+fresh_neutral size top low d p h v =
     let e : max d p.d ≡ p.d = omega arith in
     ap (λ q. merge size q p) (sym (fresh size d))
-    ∙ merge-build size size d none p (omega arith) ∙ rw (e, none-⊕ (bag p)) (build-bag size top low p v)
+    ∙ merge-build size size d none p (omega arith) ∙ rw (e, none_⊕ (bag p)) (build-bag size top low p v)

@@ -8,11 +8,11 @@ use native.Mathlib.Nat.{zero-add, suc-add}
 use Rattle.laws.specs.Pick.{pick}
 use Rattle.laws.specs.Lists.{All}
 use Rattle.laws.specs.Trees.{Tree, leaves}
-use Rattle.laws.proofs.Trees.{Commutes, any-grouping, folded}
+use Rattle.laws.proofs.Trees.{Commutes, any_grouping, folded}
 use Rattle.floats.specs.Answers.{shows}
-use Rattle.points.specs.Counts.{Settings, Counts, kindCounts, count_of, mergeCounts, Shape}
+use Rattle.points.specs.Counts.{Settings, Counts, kind_counts, count_of, merge_counts, Shape}
 use Rattle.points.specs.Number.{Number}
-use Rattle.points.specs.Any.{start, Handed, shownIf, handed, mergeHanded, Same, with_sum, Of}
+use Rattle.points.specs.Any.{start, Handed, shown_if, handed, merge_handed, Same, with_sum, Of}
 use Rattle.points.proofs.Counts.{count-is, shape_one, merged-count, shape-kept, counts-comm, counts-assoc, Agreeing, counts-fresh, shape_of}
 use Rattle.points.proofs.Numbers.{shows-none, shows-some}
 use Rattle.points.proofs.Owed.{nearer, Owed}
@@ -27,12 +27,12 @@ module _ (N : Number) (O : Owed N) where
   -- ---- an extreme that is there just where it is due
   pub record Shown (due : Bool) (e : N.Extreme) : Type 0 where
     pub known : O.Numeric e
-    pub is : N.isShown e ≡ due
+    pub is : N.is_shown e ≡ due
 
-  shown_of : (due : Bool) (e : N.Extreme) (x : N.Value) → N.SameExtreme e (shownIf N due x) → Shown due e
+  shown_of : (due : Bool) (e : N.Extreme) (x : N.Value) → N.SameExtreme e (shown_if N due x) → Shown due e
   shown_of due e x h = let r = O.shown_of due e x h in record { known = r.0; is = r.1 }
 
-  pub due-nearer : (up on : Bool) (m n : ℕ) (a b : N.Extreme) → N.isShown a ≡ shows on m → N.isShown b ≡ shows on n → N.isShown (nearer N up a b) ≡ shows on (m + n)
+  pub due-nearer : (up on : Bool) (m n : ℕ) (a b : N.Extreme) → N.is_shown a ≡ shows on m → N.is_shown b ≡ shows on n → N.is_shown (nearer N up a b) ≡ shows on (m + n)
   due-nearer up on m n a b p q = O.either-shown up a b ∙ (λ j. p j || q j) ∙ either-shows on m n
 
   shown-nearer : (up on : Bool) (m n : ℕ) (a b : N.Extreme) → Shown (shows on m) a → Shown (shows on n) b → Shown (shows on (m + n)) (nearer N up a b)
@@ -89,8 +89,8 @@ module _ (N : Number) (O : Owed N) where
       }
 
   -- ---- COMMUTATIVE AND ASSOCIATIVE
-  pub handed-commutes : (size : ℕ) (s : Settings) → Commutes (mergeHanded N size) (Known s) (Same N)
-  handed-commutes size s =
+  pub handed_commutes : (size : ℕ) (s : Settings) → Commutes (merge_handed N size) (Known s) (Same N)
+  handed_commutes size s =
       record {
         kept = λ a b p q. record {
           shape = shape-kept size s.kind a.counts b.counts p.shape q.shape;
@@ -115,7 +115,7 @@ module _ (N : Number) (O : Owed N) where
           max = O.extreme-trans a.max b.max c.max h.max k.max;
         };
         cong = λ a b c d p q r t h k. record {
-          counts = ap (λ x. mergeCounts size x b.counts) h.counts ∙ ap (mergeCounts size c.counts) k.counts;
+          counts = ap (λ x. merge_counts size x b.counts) h.counts ∙ ap (merge_counts size c.counts) k.counts;
           extremes = h.extremes;
           threshold = h.threshold;
           min = O.nearer-cong true a.min b.min c.min d.min h.min k.min;
@@ -138,7 +138,7 @@ module _ (N : Number) (O : Owed N) where
       }
     where
       due-kept : (up : Bool) (a b : Handed N) (x y : N.Extreme) → Shape s.kind a.counts → Shape s.kind b.counts
-          → Shown (due s a) x → Shown (due s b) y → Shown (shows s.extremes (count_of (mergeCounts size a.counts b.counts))) (nearer N up x y)
+          → Shown (due s a) x → Shown (due s b) y → Shown (shows s.extremes (count_of (merge_counts size a.counts b.counts))) (nearer N up x y)
       due-kept up a b x y h k p q =
           subst (λ n. Shown (shows s.extremes n) (nearer N up x y))
           (sym (merged-count size a.counts b.counts (shape_one s.kind a.counts b.counts h k)))
@@ -146,8 +146,8 @@ module _ (N : Number) (O : Owed N) where
 
   -- BY ANY GROUPING AND ORDER
   pub merge-any : (size : ℕ) (s : Settings) (t u : Tree (Handed N)) → Permᴰ (leaves t) (leaves u) → All (Known s) (leaves t)
-      → Same N (folded (mergeHanded N size) t) (folded (mergeHanded N size) u)
-  merge-any size s t u h p = any-grouping (mergeHanded N size) (Known s) (Same N) (handed-commutes size s) t u h p
+      → Same N (folded (merge_handed N size) t) (folded (merge_handed N size) u)
+  merge-any size s t u h p = any_grouping (merge_handed N size) (Known s) (Same N) (handed_commutes size s) t u h p
 
   -- ---- THE FRESH POINT CHANGES NOTHING BUT THE SUM, in a point that agrees
   -- it shows no extreme, and its sum is 0
@@ -157,14 +157,14 @@ module _ (N : Number) (O : Owed N) where
   fresh-sum false = refl
 
   abbrev empty : Settings → Counts
-  empty s = kindCounts s.kind s.threshold []
+  empty s = kind_counts s.kind s.threshold []
 
   pub fresh-is : (s : Settings)
       → handed N s [] ≡ record { counts = empty s; extremes = s.extremes; threshold = s.threshold; min = N.none; max = N.none; sum = N.zero }
   unfolding pick
   fresh-is s =
-      let c : kindCounts s.kind s.threshold (N.nears []) ≡ empty s = ap (kindCounts s.kind s.threshold) O.nears-none in
-      let e : shows s.extremes (count_of (kindCounts s.kind s.threshold (N.nears []))) ≡ false =
+      let c : kind_counts s.kind s.threshold (N.nears []) ≡ empty s = ap (kind_counts s.kind s.threshold) O.nears-none in
+      let e : shows s.extremes (count_of (kind_counts s.kind s.threshold (N.nears []))) ≡ false =
       ap (λ x. shows s.extremes (count_of x)) c ∙ ap (shows s.extremes) (count-is s.kind s.threshold []) ∙ shows-none s.extremes in
       λ j. record {
         counts = c j;
@@ -176,13 +176,13 @@ module _ (N : Number) (O : Owed N) where
       }
 
   module _ (size low : ℕ) (s : Settings) (p : Handed N) (o : Known s p) (a : Agreeing size low s.kind p.counts) where
-    fresh-counts : mergeCounts size (empty s) p.counts ≡ p.counts
+    fresh-counts : merge_counts size (empty s) p.counts ≡ p.counts
     fresh-counts = counts-fresh size low s.kind s.threshold p.counts o.shape a
 
     -- before it, and after it
-    pub fresh-first : mergeHanded N size (handed N s []) p ≡ with_sum N (N.add N.zero p.sum) p
+    pub fresh-first : merge_handed N size (handed N s []) p ≡ with_sum N (N.add N.zero p.sum) p
     fresh-first =
-        ap (λ f. mergeHanded N size f p) (fresh-is s)
+        ap (λ f. merge_handed N size f p) (fresh-is s)
         ∙ (λ j. record {
           counts = fresh-counts j;
           extremes = sym o.extremes j;
@@ -192,9 +192,9 @@ module _ (N : Number) (O : Owed N) where
           sum = N.add N.zero p.sum;
         })
 
-    pub fresh-second : mergeHanded N size p (handed N s []) ≡ with_sum N (N.add p.sum N.zero) p
+    pub fresh-second : merge_handed N size p (handed N s []) ≡ with_sum N (N.add p.sum N.zero) p
     fresh-second =
-        ap (mergeHanded N size p) (fresh-is s)
+        ap (merge_handed N size p) (fresh-is s)
         ∙ (λ j. record {
           counts = (counts-comm size s.kind p.counts (empty s) o.shape (shape_of s.kind s.threshold []) ∙ fresh-counts) j;
           extremes = p.extremes;

@@ -18,46 +18,46 @@ use Rattle.laws.specs.Pick.{pick}
 use Rattle.laws.specs.Lists.{All}
 use Rattle.laws.specs.Counting.{lowest, highest}
 use Rattle.laws.proofs.Counting.{Ends, ends_of, ends-map, ends-unique}
-use Rattle.index.specs.Magnitude.{magnitude, isNegative}
-use Rattle.index.specs.Bins.{finest, finestBin, lowestBin, endBin}
+use Rattle.index.specs.Magnitude.{magnitude, is_negative}
+use Rattle.index.specs.Bins.{finest, finest_bin, lowest_bin, end_bin}
 use Rattle.index.proofs.Laws.{bin-range, larger-finest}
-use Rattle.floats.specs.Starts.{FiniteF64, zeroFloat}
-use Rattle.points.specs.Points.{Row, row, Bag, ◌⊕◌, Point, build, naught, plus, minus, one, bagOf, point_of}
-use Rattle.points.specs.Values.{class_of, countsOf}
+use Rattle.floats.specs.Starts.{FiniteF64, zero_float}
+use Rattle.points.specs.Points.{Row, row, Bag, ◌⊕◌, Point, build, naught, plus, minus, one, bag_of, point_of}
+use Rattle.points.specs.Values.{class_of, counts_of}
 use Rattle.points.proofs.Agreement.{Agreed}
-use Rattle.points.proofs.Kept.{ValueIn, ValuesIn, pointOf-agrees}
+use Rattle.points.proofs.Kept.{ValueIn, ValuesIn, point_of-agrees}
 use Rattle.points.proofs.Ends.{ends-row, Apart, why-coarse}
 
 -- ---- IN RANGE
-finest-range : (v : Float) → FiniteF64 v → (magnitude v ≡ 0 → ⊥) → (lowestBin finest ≤ finestBin (magnitude v)) × (finestBin (magnitude v) < endBin finest)
+finest-range : (v : Float) → FiniteF64 v → (magnitude v ≡ 0 → ⊥) → (lowest_bin finest ≤ finest_bin (magnitude v)) × (finest_bin (magnitude v) < end_bin finest)
 finest-range v p z =
     let r = bin-range finest v (omega arith) p.fits (is_true (finite v) p.known) z in
-    rw (div-one (finestBin (magnitude v))) at r
+    rw (div-one (finest_bin (magnitude v))) at r
 
-pub class-in : (threshold v : Float) → FiniteF64 v → ValueIn (lowestBin finest) (class_of threshold v)
+pub class_in : (threshold v : Float) → FiniteF64 v → ValueIn (lowest_bin finest) (class_of threshold v)
 unfolding class_of pick
-class-in threshold v p = go (leb (magnitude v) (magnitude threshold)) refl (isNegative v)
+class_in threshold v p = go (leb (magnitude v) (magnitude threshold)) refl (is_negative v)
   where
     i : ℕ
-    i = finestBin (magnitude v)
+    i = finest_bin (magnitude v)
 
-    range : leb (magnitude v) (magnitude threshold) ≡ false → (lowestBin finest ≤ i) × (i < endBin finest)
+    range : leb (magnitude v) (magnitude threshold) ≡ false → (lowest_bin finest ≤ i) × (i < end_bin finest)
     range h = finest-range v p (λ z. let l = leb-false (magnitude v) (magnitude threshold) h in omega arith)
 
-    go : (b : Bool) → leb (magnitude v) (magnitude threshold) ≡ b → (n : Bool) → ValueIn (lowestBin finest) (pick b naught (pick n (minus i) (plus i)))
+    go : (b : Bool) → leb (magnitude v) (magnitude threshold) ≡ b → (n : Bool) → ValueIn (lowest_bin finest) (pick b naught (pick n (minus i) (plus i)))
     go true h n = tt
     go false h true = range h
     go false h false = range h
 
-pub classes-in : (threshold : Float) (vs : List Float) → All FiniteF64 vs → ValuesIn (lowestBin finest) (map (class_of threshold) vs)
+pub classes_in : (threshold : Float) (vs : List Float) → All FiniteF64 vs → ValuesIn (lowest_bin finest) (map (class_of threshold) vs)
 unfolding All
-classes-in threshold [] p = tt
-classes-in threshold (v ∷ vs) p = (class-in threshold v p.0, classes-in threshold vs p.1)
+classes_in threshold [] p = tt
+classes_in threshold (v ∷ vs) p = (class_in threshold v p.0, classes_in threshold vs p.1)
 
 -- THE POINT OF FINITE VALUES AGREES
-pub countsOf-agrees : (size top : ℕ) (threshold : Float) (vs : List Float) → 3 ≤ size → All FiniteF64 vs
-    → Agreed size top (lowestBin finest) (countsOf size (finest - top) threshold vs)
-countsOf-agrees size top threshold vs h p = pointOf-agrees size top (lowestBin finest) (map (class_of threshold) vs) h (classes-in threshold vs p)
+pub counts_of-agrees : (size top : ℕ) (threshold : Float) (vs : List Float) → 3 ≤ size → All FiniteF64 vs
+    → Agreed size top (lowest_bin finest) (counts_of size (finest - top) threshold vs)
+counts_of-agrees size top threshold vs h p = point_of-agrees size top (lowest_bin finest) (map (class_of threshold) vs) h (classes_in threshold vs p)
 
 -- ---- BY MAGNITUDES: those of the values of a sign that are not zeros
 abbrev pub magnitudes : Bool → Float → List Float → List ℕ
@@ -65,29 +65,29 @@ magnitudes negative threshold [] = []
 magnitudes negative threshold (v ∷ vs) =
     pick (leb (magnitude v) (magnitude threshold))
     (magnitudes negative threshold vs)
-    (pick (beq (isNegative v) negative) (magnitude v ∷ magnitudes negative threshold vs) (magnitudes negative threshold vs))
+    (pick (beq (is_negative v) negative) (magnitude v ∷ magnitudes negative threshold vs) (magnitudes negative threshold vs))
 
 abbrev pub side : Bool → Bag → List ℕ
 side true b = b.neg
 side false b = b.pos
 
-abbrev pub rowSide : Bool → Point → Row
-rowSide true p = p.neg
-rowSide false p = p.pos
+abbrev pub row_side : Bool → Point → Row
+row_side true p = p.neg
+row_side false p = p.pos
 
-side-is : (negative : Bool) (threshold : Float) (vs : List Float) → side negative (bagOf (map (class_of threshold) vs)) ≡ map finestBin (magnitudes negative threshold vs)
+side-is : (negative : Bool) (threshold : Float) (vs : List Float) → side negative (bag_of (map (class_of threshold) vs)) ≡ map finest_bin (magnitudes negative threshold vs)
 unfolding class_of pick
 side-is true threshold [] = refl
 side-is false threshold [] = refl
 side-is negative threshold (v ∷ vs) =
-    go (leb (magnitude v) (magnitude threshold)) (isNegative v) negative (side-is negative threshold vs)
+    go (leb (magnitude v) (magnitude threshold)) (is_negative v) negative (side-is negative threshold vs)
   where
     i : ℕ
-    i = finestBin (magnitude v)
+    i = finest_bin (magnitude v)
 
-    go : (b n negative : Bool) → side negative (bagOf (map (class_of threshold) vs)) ≡ map finestBin (magnitudes negative threshold vs)
-        → side negative (one (pick b naught (pick n (minus i) (plus i))) ⊕ bagOf (map (class_of threshold) vs))
-        ≡ map finestBin (pick b (magnitudes negative threshold vs) (pick (beq n negative) (magnitude v ∷ magnitudes negative threshold vs) (magnitudes negative threshold vs)))
+    go : (b n negative : Bool) → side negative (bag_of (map (class_of threshold) vs)) ≡ map finest_bin (magnitudes negative threshold vs)
+        → side negative (one (pick b naught (pick n (minus i) (plus i))) ⊕ bag_of (map (class_of threshold) vs))
+        ≡ map finest_bin (pick b (magnitudes negative threshold vs) (pick (beq n negative) (magnitude v ∷ magnitudes negative threshold vs) (magnitudes negative threshold vs)))
     go true n true h = h
     go true n false h = h
     go false true true h = ap (λ l. i ∷ l) h
@@ -95,7 +95,7 @@ side-is negative threshold (v ∷ vs) =
     go false false true h = h
     go false false false h = ap (λ l. i ∷ l) h
 
-row-side : (negative : Bool) (size d : ℕ) (b : Bag) → rowSide negative (build size d b) ≡ row (build size d b).d (side negative b)
+row-side : (negative : Bool) (size d : ℕ) (b : Bag) → row_side negative (build size d b) ≡ row (build size d b).d (side negative b)
 unfolding build
 row-side true size d b = refl
 row-side false size d b = refl
@@ -103,48 +103,48 @@ row-side false size d b = refl
 module _ (size d : ℕ) (threshold : Float) (vs : List Float) (negative : Bool) where
   -- A ROW'S ENDS are the bins of the least and of the greatest magnitude of its sign
   pub row_ends : (lo hi : ℕ) → Ends lo hi (magnitudes negative threshold vs)
-      → ((rowSide negative (countsOf size d threshold vs)).start ≡ finestBin lo / 2 ^ (countsOf size d threshold vs).d)
-      × (length (rowSide negative (countsOf size d threshold vs)).counts ≡ suc (finestBin hi / 2 ^ (countsOf size d threshold vs).d - finestBin lo / 2 ^ (countsOf size d threshold vs).d))
+      → ((row_side negative (counts_of size d threshold vs)).start ≡ finest_bin lo / 2 ^ (counts_of size d threshold vs).d)
+      × (length (row_side negative (counts_of size d threshold vs)).counts ≡ suc (finest_bin hi / 2 ^ (counts_of size d threshold vs).d - finest_bin lo / 2 ^ (counts_of size d threshold vs).d))
   unfolding point_of row
   row_ends lo hi h =
-      let b = bagOf (map (class_of threshold) vs) in
+      let b = bag_of (map (class_of threshold) vs) in
       let e = (build size d b).d in
       rw (row-side negative size d b, side-is negative threshold vs)
-      (ends-row (finestBin lo / 2 ^ e) (finestBin hi / 2 ^ e) (map (λ i. i / 2 ^ e) (map finestBin (magnitudes negative threshold vs)))
-      (ends-map (λ i. i / 2 ^ e) (λ a b. shr_mono e) (finestBin lo) (finestBin hi) (map finestBin (magnitudes negative threshold vs))
-      (ends-map finestBin larger-finest lo hi (magnitudes negative threshold vs) h)))
+      (ends-row (finest_bin lo / 2 ^ e) (finest_bin hi / 2 ^ e) (map (λ i. i / 2 ^ e) (map finest_bin (magnitudes negative threshold vs)))
+      (ends-map (λ i. i / 2 ^ e) (λ a b. shr_mono e) (finest_bin lo) (finest_bin hi) (map finest_bin (magnitudes negative threshold vs))
+      (ends-map finest_bin larger-finest lo hi (magnitudes negative threshold vs) h)))
 
 -- ---- WHY THIS COARSE: two magnitudes of one sign whose bins lie size or more apart, e steps below the finest level
 pub record Wide (size e : ℕ) (ms : List ℕ) : Type 0 where
   pub lo : ℕ
   pub hi : ℕ
   pub ends : Ends lo hi ms
-  pub far : size ≤ finestBin hi / 2 ^ e - finestBin lo / 2 ^ e
+  pub far : size ≤ finest_bin hi / 2 ^ e - finest_bin lo / 2 ^ e
 
-wide : (size e : ℕ) (ms : List ℕ) → Apart size e (map finestBin ms) → Wide size e ms
+wide : (size e : ℕ) (ms : List ℕ) → Apart size e (map finest_bin ms) → Wide size e ms
 wide size e [] a = absurd (omega (arith, a.ends.low))
 wide size e (m ∷ ms) a =
     let lo = lowest m ms in
     let hi = highest m ms in
-    let u = ends-unique a.lo a.hi (finestBin lo) (finestBin hi) (map finestBin (m ∷ ms)) a.ends (ends-map finestBin larger-finest lo hi (m ∷ ms) (ends_of m ms)) in
+    let u = ends-unique a.lo a.hi (finest_bin lo) (finest_bin hi) (map finest_bin (m ∷ ms)) a.ends (ends-map finest_bin larger-finest lo hi (m ∷ ms) (ends_of m ms)) in
     record { lo = lo; hi = hi; ends = ends_of m ms; far = rw (u.0, u.1) at a.far }
 
-pub why-this-coarse : (size d e : ℕ) (threshold : Float) (vs : List Float) → (countsOf size d threshold vs).d ≡ suc e → d ≤ e
+pub why-this-coarse : (size d e : ℕ) (threshold : Float) (vs : List Float) → (counts_of size d threshold vs).d ≡ suc e → d ≤ e
     → (negative : Bool) × Wide size e (magnitudes negative threshold vs)
 unfolding point_of
 why-this-coarse size d e threshold vs h g =
-    elim (why-coarse size d e (bagOf (map (class_of threshold) vs)) h g) [
+    elim (why-coarse size d e (bag_of (map (class_of threshold) vs)) h g) [
       | inl a ↦ (false, wide size e (magnitudes false threshold vs) (rw (side-is false threshold vs) at a))
       | inr a ↦ (true, wide size e (magnitudes true threshold vs) (rw (side-is true threshold vs) at a))
     ]
 
 -- ---- THE THRESHOLD 0.0: only zeros are in its band
-zero-magnitude : magnitude zeroFloat ≡ 0
+zero-magnitude : magnitude zero_float ≡ 0
 unfolding magnitude of_bits
 zero-magnitude = refl
 
-pub zero-band : (v : Float) → leb (magnitude v) (magnitude zeroFloat) ≡ eqb (magnitude v) 0
-zero-band v =
+pub zero_band : (v : Float) → leb (magnitude v) (magnitude zero_float) ≡ eqb (magnitude v) 0
+zero_band v =
     ap (λ n. leb (magnitude v) n) zero-magnitude
     ∙ elim (eq-zero-or-pos (magnitude v)) [
       | inl z ↦ le-leb (magnitude v) 0 (omega arith) ∙ sym (eq-eqb (magnitude v) 0 z)

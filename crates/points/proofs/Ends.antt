@@ -14,28 +14,28 @@ use borrow.Author.Tests.{leb-true, leb-false, le-leb}
 use Rattle.laws.specs.Pick.{pick}
 use Rattle.laws.specs.Counting.{bit, sum, lowest, highest}
 use Rattle.laws.proofs.Bools.{flag, not-both, and_intro}
-use Rattle.laws.proofs.Same.{sum-append}
+use Rattle.laws.proofs.Same.{sum_append}
 use Rattle.laws.proofs.Counting.{Ends, ends_of, ends-map}
-use Rattle.laws.proofs.Search.{least-spec}
+use Rattle.laws.proofs.Search.{least_spec}
 use Rattle.index.specs.Bins.{finest}
-use Rattle.points.specs.Points.{row, row_of, expand, fits, fitsBoth, scale, Bag, build}
-use Rattle.points.proofs.Rows.{rowOf-canonical, at-rowOf, at_in, at-pos}
+use Rattle.points.specs.Points.{row, row_of, expand, fits, fits_both, scale, Bag, build}
+use Rattle.points.proofs.Rows.{row_of-canonical, at-row_of, at_in, at-pos}
 
 -- ---- THE ENDS OF A ROW
 pub ends-row : (lo hi : ℕ) (xs : List ℕ) → Ends lo hi xs → ((row_of xs).start ≡ lo) × (length (row_of xs).counts ≡ suc (hi - lo))
 ends-row lo hi xs e =
     let r = row_of xs in
-    let c = rowOf-canonical xs in
-    let a = at-pos r lo (omega (arith, at-rowOf xs lo, e.low)) in
-    let b = at-pos r hi (omega (arith, at-rowOf xs hi, e.high)) in
+    let c = row_of-canonical xs in
+    let a = at-pos r lo (omega (arith, at-row_of xs lo, e.low)) in
+    let b = at-pos r hi (omega (arith, at-row_of xs hi, e.high)) in
     let k = pred (length r.counts) in
     let p : 0 < length r.counts = omega (arith, a) in
     omega (
       arith,
       a,
       b,
-      e.all (r.start + 0) (omega (arith, at_in r 0, at-rowOf xs (r.start + 0), c.first p)),
-      e.all (r.start + k) (omega (arith, at_in r k, at-rowOf xs (r.start + k), c.last p)),
+      e.all (r.start + 0) (omega (arith, at_in r 0, at-row_of xs (r.start + 0), c.first p)),
+      e.all (r.start + k) (omega (arith, at_in r k, at-row_of xs (r.start + k), c.last p)),
     )
 
 -- whether a list with these ends fits
@@ -79,7 +79,7 @@ apart size e (x ∷ xs) h =
 
 -- below the level that the search began at, one sign does not fit one level finer
 pub why-coarse : (size d e : ℕ) (b : Bag) → (build size d b).d ≡ suc e → d ≤ e → Apart size e b.pos ⊎ Apart size e b.neg
-unfolding build scale fitsBoth
+unfolding build scale fits_both
 why-coarse size d e b h g =
     let p = fits size e b.pos in
     let n = fits size e b.neg in
@@ -88,7 +88,7 @@ why-coarse size d e b h g =
       | inl s ↦
           elim (flag n) [
             | inr f ↦ inr (apart size e b.neg f)
-            | inl t ↦ absurd (omega (arith, h, (least-spec (fitsBoth size b) d (finest - d)).first e g (and_intro p n s t)))
+            | inl t ↦ absurd (omega (arith, h, (least_spec (fits_both size b) d (finest - d)).first e g (and_intro p n s t)))
           ]
     ]
 
@@ -108,4 +108,4 @@ pub sum-expand : (k j s : ℕ) (cs : List ℕ) → sum (λ i. bit (eqb (i / 2 ^ 
 sum-expand k j s [] = refl
 sum-expand k j s (c ∷ cs) =
     let w : ℕ → ℕ = λ i. bit (eqb (i / 2 ^ k) j) in
-    omega (arith, sum-append w (replicate c s) (expand (suc s) cs), sum-replicate (eqb (s / 2 ^ k) j) w c s refl, sum-expand k j (suc s) cs)
+    omega (arith, sum_append w (replicate c s) (expand (suc s) cs), sum-replicate (eqb (s / 2 ^ k) j) w c s refl, sum-expand k j (suc s) cs)

@@ -13,11 +13,11 @@ use lib.Ieee.{Float, lt, eq, is_nan}
 use Rattle.floats.proofs.Finite.{eq_self}
 use Rattle.laws.specs.Pick.{pick}
 use Rattle.laws.specs.Counting.{bit, count, table, total}
-use Rattle.laws.proofs.Same.{count-append, same_perm}
+use Rattle.laws.proofs.Same.{count_append, same_perm}
 use Rattle.laws.proofs.Lists.{map-perm, length-perm}
 use Rattle.laws.proofs.Counting.{bit_le, length-table, table-cong, table-set, total-none, total-set}
 use Rattle.laws.proofs.Bools.{flag, and_left, and_right, and_intro, pick_true, pick-false}
-use Rattle.points.specs.Explicit.{bucketOf, bucketCount, Buckets, bucketsOf, recordBucket, added, mergeBuckets, noNan, rising, boundsPass, sameBounds, bucketsAgree}
+use Rattle.points.specs.Explicit.{bucket_of, bucket_count, Buckets, buckets_of, record_bucket, added, merge_buckets, no_nan, rising, bounds_pass, same_bounds, buckets_agree}
 
 -- ---- MERGING IS COMMUTATIVE AND ASSOCIATIVE, of any points
 added-comm : (xs ys : List ℕ) → added xs ys ≡ added ys xs
@@ -34,17 +34,17 @@ added-assoc (x ∷ xs) [] zs = refl
 added-assoc (x ∷ xs) (y ∷ ys) [] = refl
 added-assoc (x ∷ xs) (y ∷ ys) (z ∷ zs) = let e : x + y + z ≡ x + (y + z) = omega arith in rw (e, added-assoc xs ys zs)
 
-buckets-path : (p q : Buckets) → p.counts ≡ q.counts → p.total ≡ q.total → p ≡ q
-buckets-path p q h k = λ i. record { counts = h i; total = k i }
+buckets_path : (p q : Buckets) → p.counts ≡ q.counts → p.total ≡ q.total → p ≡ q
+buckets_path p q h k = λ i. record { counts = h i; total = k i }
 
-pub buckets-comm : (p q : Buckets) → mergeBuckets p q ≡ mergeBuckets q p
-unfolding mergeBuckets
-buckets-comm p q = buckets-path (mergeBuckets p q) (mergeBuckets q p) (added-comm p.counts q.counts) (omega arith)
+pub buckets-comm : (p q : Buckets) → merge_buckets p q ≡ merge_buckets q p
+unfolding merge_buckets
+buckets-comm p q = buckets_path (merge_buckets p q) (merge_buckets q p) (added-comm p.counts q.counts) (omega arith)
 
-pub buckets-assoc : (p q r : Buckets) → mergeBuckets (mergeBuckets p q) r ≡ mergeBuckets p (mergeBuckets q r)
-unfolding mergeBuckets
+pub buckets-assoc : (p q r : Buckets) → merge_buckets (merge_buckets p q) r ≡ merge_buckets p (merge_buckets q r)
+unfolding merge_buckets
 buckets-assoc p q r =
-    buckets-path (mergeBuckets (mergeBuckets p q) r) (mergeBuckets p (mergeBuckets q r)) (added-assoc p.counts q.counts r.counts) (omega arith)
+    buckets_path (merge_buckets (merge_buckets p q) r) (merge_buckets p (merge_buckets q r)) (added-assoc p.counts q.counts r.counts) (omega arith)
 
 -- ---- JOINED LISTS
 added-tables : (f g : ℕ → ℕ) (lo n : ℕ) → added (table f lo n) (table g lo n) ≡ table (λ j. f j + g j) lo n
@@ -52,47 +52,47 @@ unfolding added
 added-tables f g lo zero = refl
 added-tables f g lo (suc n) = rw (added-tables f g (suc lo) n)
 
-pub merge-bucketsOf : (bounds xs ys : List Float) → mergeBuckets (bucketsOf bounds xs) (bucketsOf bounds ys) ≡ bucketsOf bounds (xs ++ ys)
-unfolding mergeBuckets bucketsOf
-merge-bucketsOf bounds xs ys =
-    let f : List Float → ℕ → ℕ = λ vs j. count j (map (bucketOf bounds) vs) in
-    let n = bucketCount bounds in
-    buckets-path (mergeBuckets (bucketsOf bounds xs) (bucketsOf bounds ys)) (bucketsOf bounds (xs ++ ys))
+pub merge-buckets_of : (bounds xs ys : List Float) → merge_buckets (buckets_of bounds xs) (buckets_of bounds ys) ≡ buckets_of bounds (xs ++ ys)
+unfolding merge_buckets buckets_of
+merge-buckets_of bounds xs ys =
+    let f : List Float → ℕ → ℕ = λ vs j. count j (map (bucket_of bounds) vs) in
+    let n = bucket_count bounds in
+    buckets_path (merge_buckets (buckets_of bounds xs) (buckets_of bounds ys)) (buckets_of bounds (xs ++ ys))
     (added-tables (f xs) (f ys) 0 n
     ∙ table-cong (λ j. f xs j + f ys j) (f (xs ++ ys)) 0 n
-    (λ j _. sym (ap (λ l. count j l) (map-append (bucketOf bounds) xs ys) ∙ count-append j (map (bucketOf bounds) xs) (map (bucketOf bounds) ys))))
+    (λ j _. sym (ap (λ l. count j l) (map-append (bucket_of bounds) xs ys) ∙ count_append j (map (bucket_of bounds) xs) (map (bucket_of bounds) ys))))
     (sym (length-append xs ys))
 
 -- ---- ONE BY ONE
-pub record-bucketsOf : (bounds xs : List Float) (v : Float) → recordBucket bounds (bucketsOf bounds xs) v ≡ bucketsOf bounds (xs ++ v ∷ [])
-unfolding recordBucket bucketsOf
-record-bucketsOf bounds xs v =
-    let f : List Float → ℕ → ℕ = λ vs j. count j (map (bucketOf bounds) vs) in
-    let n = bucketCount bounds in
-    let k = bucketOf bounds v in
-    buckets-path (recordBucket bounds (bucketsOf bounds xs) v) (bucketsOf bounds (xs ++ v ∷ []))
+pub record-buckets_of : (bounds xs : List Float) (v : Float) → record_bucket bounds (buckets_of bounds xs) v ≡ buckets_of bounds (xs ++ v ∷ [])
+unfolding record_bucket buckets_of
+record-buckets_of bounds xs v =
+    let f : List Float → ℕ → ℕ = λ vs j. count j (map (bucket_of bounds) vs) in
+    let n = bucket_count bounds in
+    let k = bucket_of bounds v in
+    buckets_path (record_bucket bounds (buckets_of bounds xs) v) (buckets_of bounds (xs ++ v ∷ []))
     (table-set (f xs) 0 n k
     ∙ table-cong (λ j. f xs j + bit (eqb (0 + k) j)) (f (xs ++ v ∷ [])) 0 n
     (λ j _.
     let e : 0 + k ≡ k = omega arith in
-    rw (e, map-append (bucketOf bounds) xs (v ∷ [])) (omega (arith, count-append j (map (bucketOf bounds) xs) (k ∷ [])))))
+    rw (e, map-append (bucket_of bounds) xs (v ∷ [])) (omega (arith, count_append j (map (bucket_of bounds) xs) (k ∷ [])))))
     (sym (length-append xs (v ∷ [])))
 
-abbrev pub recordBuckets : List Float → Buckets → List Float → Buckets
-recordBuckets bounds = foldl (recordBucket bounds)
+abbrev pub record_buckets : List Float → Buckets → List Float → Buckets
+record_buckets bounds = foldl (record_bucket bounds)
 
-pub recordBuckets-of : (bounds xs vs : List Float) → recordBuckets bounds (bucketsOf bounds xs) vs ≡ bucketsOf bounds (xs ++ vs)
-recordBuckets-of bounds xs [] = ap (bucketsOf bounds) (sym (append-nil xs))
-recordBuckets-of bounds xs (v ∷ vs) =
-    rw (record-bucketsOf bounds xs v) (recordBuckets-of bounds (xs ++ v ∷ []) vs ∙ ap (bucketsOf bounds) (append_assoc xs (v ∷ []) vs))
+pub record_buckets-of : (bounds xs vs : List Float) → record_buckets bounds (buckets_of bounds xs) vs ≡ buckets_of bounds (xs ++ vs)
+record_buckets-of bounds xs [] = ap (buckets_of bounds) (sym (append-nil xs))
+record_buckets-of bounds xs (v ∷ vs) =
+    rw (record-buckets_of bounds xs v) (record_buckets-of bounds (xs ++ v ∷ []) vs ∙ ap (buckets_of bounds) (append_assoc xs (v ∷ []) vs))
 
 -- ---- IN ANOTHER ORDER
-pub bucketsOf-perm : (bounds : List Float) {xs ys : List Float} → Permᴰ xs ys → bucketsOf bounds xs ≡ bucketsOf bounds ys
-unfolding bucketsOf
-bucketsOf-perm bounds {xs} {ys} h =
-    let f : List Float → ℕ → ℕ = λ vs j. count j (map (bucketOf bounds) vs) in
-    buckets-path (bucketsOf bounds xs) (bucketsOf bounds ys)
-    (table-cong (f xs) (f ys) 0 (bucketCount bounds) (λ j _. same_perm (map-perm (bucketOf bounds) h) (λ x. bit (eqb x j)))) (length-perm h)
+pub buckets_of-perm : (bounds : List Float) {xs ys : List Float} → Permᴰ xs ys → buckets_of bounds xs ≡ buckets_of bounds ys
+unfolding buckets_of
+buckets_of-perm bounds {xs} {ys} h =
+    let f : List Float → ℕ → ℕ = λ vs j. count j (map (bucket_of bounds) vs) in
+    buckets_path (buckets_of bounds xs) (buckets_of bounds ys)
+    (table-cong (f xs) (f ys) 0 (bucket_count bounds) (λ j _. same_perm (map-perm (bucket_of bounds) h) (λ x. bit (eqb x j)))) (length-perm h)
 
 -- ---- THE FRESH POINT IS NEUTRAL for every point with as many buckets
 added_none : (lo : ℕ) (ys : List ℕ) → added (table (λ _. 0) lo (length ys)) ys ≡ ys
@@ -100,21 +100,21 @@ unfolding added
 added_none lo [] = refl
 added_none lo (y ∷ ys) = let e : 0 + y ≡ y = omega arith in rw (e, added_none (suc lo) ys)
 
-pub fresh-buckets : (bounds : List Float) (p : Buckets) → length p.counts ≡ bucketCount bounds → mergeBuckets (bucketsOf bounds []) p ≡ p
-unfolding mergeBuckets bucketsOf
-fresh-buckets bounds p h = buckets-path (mergeBuckets (bucketsOf bounds []) p) p (rw (← h) (added_none 0 p.counts)) (omega arith)
+pub fresh-buckets : (bounds : List Float) (p : Buckets) → length p.counts ≡ bucket_count bounds → merge_buckets (buckets_of bounds []) p ≡ p
+unfolding merge_buckets buckets_of
+fresh-buckets bounds p h = buckets_path (merge_buckets (buckets_of bounds []) p) p (rw (← h) (added_none 0 p.counts)) (omega arith)
 
 -- ---- AGREEMENT IS KEPT
 pub record BucketsOk (bounds : List Float) (p : Buckets) : Type 0 where
-  pub passes : boundsPass bounds ≡ true
-  pub whole : length p.counts ≡ bucketCount bounds
-  pub adds : 0 < bucketCount bounds → total p.counts ≡ p.total
+  pub passes : bounds_pass bounds ≡ true
+  pub whole : length p.counts ≡ bucket_count bounds
+  pub adds : 0 < bucket_count bounds → total p.counts ≡ p.total
 
-pub buckets-say : (bounds : List Float) (p : Buckets) → bucketsAgree bounds p ≡ true → BucketsOk bounds p
-unfolding bucketsAgree
+pub buckets-say : (bounds : List Float) (p : Buckets) → buckets_agree bounds p ≡ true → BucketsOk bounds p
+unfolding buckets_agree
 buckets-say bounds p h =
-    let n = bucketCount bounds in
-    let a = boundsPass bounds in
+    let n = bucket_count bounds in
+    let a = bounds_pass bounds in
     let b = eqb (length p.counts) n in
     let t = eqb (total p.counts) p.total in
     let c = pick (eqb n 0) true t in
@@ -125,14 +125,14 @@ buckets-say bounds p h =
       adds = λ l. eqb-true (total p.counts) p.total (sym (pick-false (eqb n 0) true t (ne_eqb n 0 (λ e. omega arith))) ∙ and_right b c k);
     }
 
-pub buckets-agree : (bounds : List Float) (p : Buckets) → BucketsOk bounds p → bucketsAgree bounds p ≡ true
-unfolding bucketsAgree
+pub buckets-agree : (bounds : List Float) (p : Buckets) → BucketsOk bounds p → buckets_agree bounds p ≡ true
+unfolding buckets_agree
 buckets-agree bounds p k =
-    let n = bucketCount bounds in
+    let n = bucket_count bounds in
     let b = eqb (length p.counts) n in
     let t = eqb (total p.counts) p.total in
     let c = pick (eqb n 0) true t in
-    and_intro (boundsPass bounds) (b && c) k.passes
+    and_intro (bounds_pass bounds) (b && c) k.passes
     (and_intro b c (eq-eqb (length p.counts) n k.whole)
     (elim (flag (eqb n 0)) [
       | inl e ↦ pick_true (eqb n 0) true t e
@@ -141,24 +141,24 @@ buckets-agree bounds p k =
           pick-false (eqb n 0) true t e ∙ eq-eqb (total p.counts) p.total (k.adds (omega arith))
     ]))
 
-pub bucket-le : (bounds : List Float) (v : Float) → bucketOf bounds v ≤ length bounds
-unfolding bucketOf
+pub bucket-le : (bounds : List Float) (v : Float) → bucket_of bounds v ≤ length bounds
+unfolding bucket_of
 bucket-le [] v = omega arith
 bucket-le (b ∷ bs) v = omega (arith, bit_le (lt b v), bucket-le bs v)
 
 -- with bounds, each value has a bucket
-bucket-in : (bounds : List Float) (v : Float) → 0 < bucketCount bounds → bucketOf bounds v < bucketCount bounds
-bucket-in [] v h = absurd (omega arith)
-bucket-in (b ∷ bs) v h = let l = bucket-le (b ∷ bs) v in omega arith
+bucket_in : (bounds : List Float) (v : Float) → 0 < bucket_count bounds → bucket_of bounds v < bucket_count bounds
+bucket_in [] v h = absurd (omega arith)
+bucket_in (b ∷ bs) v h = let l = bucket-le (b ∷ bs) v in omega arith
 
-pub record-buckets-ok : (bounds : List Float) (p : Buckets) (v : Float) → BucketsOk bounds p → BucketsOk bounds (recordBucket bounds p v)
-unfolding recordBucket
+pub record-buckets-ok : (bounds : List Float) (p : Buckets) (v : Float) → BucketsOk bounds p → BucketsOk bounds (record_bucket bounds p v)
+unfolding record_bucket
 record-buckets-ok bounds p v k =
-    let j = bucketOf bounds v in
+    let j = bucket_of bounds v in
     record {
       passes = k.passes;
       whole = length-set p.counts j (get_or p.counts j 0 + 1) ∙ k.whole;
-      adds = λ h. omega (arith, k.adds h, total-set p.counts j (omega (arith, k.whole, bucket-in bounds v h)));
+      adds = λ h. omega (arith, k.adds h, total-set p.counts j (omega (arith, k.whole, bucket_in bounds v h)));
     }
 
 total-added : (xs ys : List ℕ) → total (added xs ys) ≡ total xs + total ys
@@ -174,8 +174,8 @@ length-added (x ∷ xs) [] h = refl
 length-added (x ∷ xs) (y ∷ ys) h = ap suc (length-added xs ys (omega arith))
 
 -- the first's bounds stay; the second's are as many
-pub merge-buckets-ok : (bounds cs : List Float) (p q : Buckets) → bucketCount bounds ≡ bucketCount cs → BucketsOk bounds p → BucketsOk cs q → BucketsOk bounds (mergeBuckets p q)
-unfolding mergeBuckets
+pub merge-buckets-ok : (bounds cs : List Float) (p q : Buckets) → bucket_count bounds ≡ bucket_count cs → BucketsOk bounds p → BucketsOk cs q → BucketsOk bounds (merge_buckets p q)
+unfolding merge_buckets
 merge-buckets-ok bounds cs p q e k l =
     record {
       passes = k.passes;
@@ -183,28 +183,28 @@ merge-buckets-ok bounds cs p q e k l =
       adds = λ h. omega (arith, total-added p.counts q.counts, k.adds h, l.adds (omega arith));
     }
 
-pub fresh-buckets-ok : (bounds : List Float) → boundsPass bounds ≡ true → BucketsOk bounds (bucketsOf bounds [])
-unfolding bucketsOf
+pub fresh-buckets-ok : (bounds : List Float) → bounds_pass bounds ≡ true → BucketsOk bounds (buckets_of bounds [])
+unfolding buckets_of
 fresh-buckets-ok bounds h =
-    record { passes = h; whole = length-table (λ _. 0) 0 (bucketCount bounds); adds = λ _. total-none (λ _. 0) 0 (bucketCount bounds) (λ _ _. refl) }
+    record { passes = h; whole = length-table (λ _. 0) 0 (bucket_count bounds); adds = λ _. total-none (λ _. 0) 0 (bucket_count bounds) (λ _ _. refl) }
 
-pub bucketsOf-ok : (bounds vs : List Float) → boundsPass bounds ≡ true → BucketsOk bounds (bucketsOf bounds vs)
-bucketsOf-ok bounds vs h = subst (BucketsOk bounds) (recordBuckets-of bounds [] vs) (go (bucketsOf bounds []) vs (fresh-buckets-ok bounds h))
+pub buckets_of-ok : (bounds vs : List Float) → bounds_pass bounds ≡ true → BucketsOk bounds (buckets_of bounds vs)
+buckets_of-ok bounds vs h = subst (BucketsOk bounds) (record_buckets-of bounds [] vs) (go (buckets_of bounds []) vs (fresh-buckets-ok bounds h))
   where
-    go : (p : Buckets) (vs : List Float) → BucketsOk bounds p → BucketsOk bounds (recordBuckets bounds p vs)
+    go : (p : Buckets) (vs : List Float) → BucketsOk bounds p → BucketsOk bounds (record_buckets bounds p vs)
     go p [] k = k
-    go p (v ∷ vs) k = go (recordBucket bounds p v) vs (record-buckets-ok bounds p v k)
+    go p (v ∷ vs) k = go (record_bucket bounds p v) vs (record-buckets-ok bounds p v k)
 
 -- ---- bounds that pass are the same as themselves
-same_self : (bs : List Float) → noNan bs ≡ true → sameBounds bs bs ≡ true
-unfolding noNan sameBounds
+same_self : (bs : List Float) → no_nan bs ≡ true → same_bounds bs bs ≡ true
+unfolding no_nan same_bounds
 same_self [] h = refl
 same_self (b ∷ bs) h =
-    and_intro (eq b b) (sameBounds bs bs) (eq_self b (not-true (is_nan b) (and_left (not (is_nan b)) (noNan bs) h)))
-    (same_self bs (and_right (not (is_nan b)) (noNan bs) h))
+    and_intro (eq b b) (same_bounds bs bs) (eq_self b (not-true (is_nan b) (and_left (not (is_nan b)) (no_nan bs) h)))
+    (same_self bs (and_right (not (is_nan b)) (no_nan bs) h))
 
-pub same-bounds : (bs : List Float) → boundsPass bs ≡ true → sameBounds bs bs ≡ true
-unfolding boundsPass
+pub same-bounds : (bs : List Float) → bounds_pass bs ≡ true → same_bounds bs bs ≡ true
+unfolding bounds_pass
 same-bounds bs h =
     let l = leb (length bs) 159 in
-    same_self bs (and_left (noNan bs) (rising bs) (and_right l (noNan bs && rising bs) h))
+    same_self bs (and_left (no_nan bs) (rising bs) (and_right l (no_nan bs && rising bs) h))

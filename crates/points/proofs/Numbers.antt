@@ -7,8 +7,8 @@ use borrow.Author.Tests.{ne_eqb}
 use lib.Ieee.{Float, binary64}
 use Rattle.laws.specs.Pick.{pick}
 use Rattle.laws.proofs.Bools.{not-both}
-use Rattle.floats.specs.Answers.{shows, isShown, smallerOf, largerOf}
-use Rattle.floats.specs.Starts.{zeroFloat, FiniteF64}
+use Rattle.floats.specs.Answers.{shows, is_shown, smaller_of, larger_of}
+use Rattle.floats.specs.Starts.{zero_float, FiniteF64}
 use Rattle.floats.specs.declared.Extreme.{Extreme}
 use Rattle.floats.specs.declared.Extreme.TheVariants.{None, Value}
 use Rattle.floats.proofs.Choices.{chosen, eq_refl, eq-sym, eq_trans, chosen-cong, chosen-comm, chosen-assoc}
@@ -71,19 +71,19 @@ pub shows-some : (on : Bool) (n : ℕ) → shows on (suc n) ≡ on
 shows-some true n = ap not (ne_eqb (suc n) 0 (λ e. omega (arith, e)))
 shows-some false n = refl
 
--- ---- shown where it is due: `shownOf` is this of what the switch and the count `shows`
-abbrev pub shownIf : Bool → Float → Extreme
-shownIf due x = pick due (Value x) None
+-- ---- shown where it is due: `shown_of` is this of what the switch and the count `shows`
+abbrev pub shown_if : Bool → Float → Extreme
+shown_if due x = pick due (Value x) None
 
-pub same-shown : (due : Bool) (x y : Float) → SameNumber x y → SameExtreme (shownIf due x) (shownIf due y)
+pub same-shown : (due : Bool) (x y : Float) → SameNumber x y → SameExtreme (shown_if due x) (shown_if due y)
 unfolding pick
 same-shown true x y h = h
 same-shown false x y h = tt
 
 -- ---- two extremes merged: the smaller where up, otherwise the larger
 abbrev pub nearer : Bool → Extreme → Extreme → Extreme
-nearer true a b = smallerOf a b
-nearer false a b = largerOf a b
+nearer true a b = smaller_of a b
+nearer false a b = larger_of a b
 
 pub nearer-cong : (up : Bool) (a b c d : Extreme) → SameExtreme a c → SameExtreme b d → SameExtreme (nearer up a b) (nearer up c d)
 nearer-cong true None b None d h k = k
@@ -97,7 +97,7 @@ nearer-cong up (Value x) (Value y) (Value z) None h k = absurd k
 nearer-cong true (Value x) (Value y) (Value z) (Value w) h k = number-chosen true x y z w h k
 nearer-cong false (Value x) (Value y) (Value z) (Value w) h k = number-chosen false x y z w h k
 
-pub nearer-shown : (up due : Bool) (x y : Float) → nearer up (shownIf due x) (shownIf due y) ≡ shownIf due (chosen up x y)
+pub nearer-shown : (up due : Bool) (x y : Float) → nearer up (shown_if due x) (shown_if due y) ≡ shown_if due (chosen up x y)
 unfolding pick
 nearer-shown true true x y = refl
 nearer-shown true false x y = refl
@@ -147,9 +147,9 @@ numeric-assoc false (Value x) (Value y) (Value z) p q r = ap Value (chosen-assoc
 -- ---- and it is there just where it is due
 pub record Shown (due : Bool) (e : Extreme) : Type 0 where
   pub known : Numeric e
-  pub is : isShown e ≡ due
+  pub is : is_shown e ≡ due
 
-pub shown_of : (due : Bool) (e : Extreme) (x : Float) → SameExtreme e (shownIf due x) → Shown due e
+pub shown_of : (due : Bool) (e : Extreme) (x : Float) → SameExtreme e (shown_if due x) → Shown due e
 unfolding pick
 shown_of true (Value y) x h = record { known = h.left; is = refl }
 shown_of true None x h = absurd h
@@ -158,10 +158,10 @@ shown_of false None x h = record { known = tt; is = refl }
 
 -- the number that it shows, if it does
 abbrev pub number_in : Extreme → Float
-number_in None = zeroFloat
+number_in None = zero_float
 number_in (Value x) = x
 
-pub of-shown : (due : Bool) (e : Extreme) → Shown due e → SameExtreme e (shownIf due (number_in e))
+pub of-shown : (due : Bool) (e : Extreme) → Shown due e → SameExtreme e (shown_if due (number_in e))
 unfolding pick
 of-shown true (Value x) k = number-refl x k.known
 of-shown true None k = absurd (not-both true refl (sym k.is))
@@ -169,7 +169,7 @@ of-shown false (Value x) k = absurd (not-both true refl k.is)
 of-shown false None k = tt
 
 -- merged, where either was
-pub either-shown : (up : Bool) (a b : Extreme) → isShown (nearer up a b) ≡ isShown a || isShown b
+pub either-shown : (up : Bool) (a b : Extreme) → is_shown (nearer up a b) ≡ is_shown a || is_shown b
 either-shown true None b = refl
 either-shown false None b = refl
 either-shown true (Value x) None = refl

@@ -13,22 +13,22 @@ use Rattle.laws.proofs.Cases.{and-true, true-not-false}
 use Rattle.laws.proofs.Lists.{all-perm}
 use Rattle.floats.specs.declared.Extreme.{Extreme}
 use Rattle.floats.specs.declared.Extreme.TheVariants.{None, Value}
-use Rattle.floats.specs.Answers.{lesserOf, greater_of, isShown, smallerOf, largerOf}
+use Rattle.floats.specs.Answers.{lesser_of, greater_of, is_shown, smaller_of, larger_of}
 use Rattle.floats.specs.Grid.{grid}
-use Rattle.floats.specs.Starts.{zeroFloat, FiniteF64}
+use Rattle.floats.specs.Starts.{zero_float, FiniteF64}
 use Rattle.floats.proofs.Choices.{finite-chosen}
 use Rattle.floats.proofs.Starts.{finite-f64}
 use Rattle.floats.proofs.Sums.{total-perm, gridded-perm, gridded-left, gridded-right, grid-parts, zeros-add}
-use Rattle.points.specs.Values.{summaryOf}
-use Rattle.points.specs.Handed.{extremesAgree}
-use Rattle.points.specs.Real.{finiteOrNone, SameNumber, SameExtreme, SumStands, real}
+use Rattle.points.specs.Values.{summary_of}
+use Rattle.points.specs.Handed.{extremes_agree}
+use Rattle.points.specs.Real.{finite_or_none, SameNumber, SameExtreme, SumStands, real}
 use Rattle.points.proofs.Owed.{chosen, nearer, extreme, Owed}
 use Rattle.points.proofs.Numbers as X
-use Rattle.points.proofs.Numbers.{shownIf}
+use Rattle.points.proofs.Numbers.{shown_if}
 use Rattle.points.proofs.Summaries.{extreme-finite, extreme-parts, extreme-perm, sum-of}
 
 -- ---- the sum: exact on the grid
-sum-handed : (on : Bool) (vs : List Float) → SumStands on (pick on (summaryOf vs).sum zeroFloat) vs
+sum-handed : (on : Bool) (vs : List Float) → SumStands on (pick on (summary_of vs).sum zero_float) vs
 unfolding pick
 sum-handed true vs = sum-of vs
 sum-handed false vs = refl
@@ -46,11 +46,11 @@ not-shown : (e : Extreme) → SameExtreme e None → e ≡ None
 not-shown None h = refl
 not-shown (Value y) h = absurd h
 
-unshown : (e : Extreme) → isShown e ≡ false → e ≡ None
+unshown : (e : Extreme) → is_shown e ≡ false → e ≡ None
 unshown None h = refl
 unshown (Value x) h = absurd (not-both true refl h)
 
-finite-merged : (a b c d : Extreme) → finiteOrNone a b ≡ true → finiteOrNone c d ≡ true → finiteOrNone (smallerOf a c) (largerOf b d) ≡ true
+finite-merged : (a b c d : Extreme) → finite_or_none a b ≡ true → finite_or_none c d ≡ true → finite_or_none (smaller_of a c) (larger_of b d) ≡ true
 finite-merged None None c d h k = k
 finite-merged None (Value y) c d h k = true-not-false (sym h)
 finite-merged (Value x) None c d h k = true-not-false (sym h)
@@ -58,11 +58,11 @@ finite-merged (Value x) (Value y) None None h k = h
 finite-merged (Value x) (Value y) None (Value w) h k = true-not-false (sym k)
 finite-merged (Value x) (Value y) (Value z) None h k = true-not-false (sym k)
 finite-merged (Value x) (Value y) (Value z) (Value w) h k =
-    and_intro (finite (lesserOf x z)) (finite (greater_of y w))
+    and_intro (finite (lesser_of x z)) (finite (greater_of y w))
     (finite-chosen true x z (and_left (finite x) (finite y) h) (and_left (finite z) (finite w) k))
     (finite-chosen false y w (and_right (finite x) (finite y) h) (and_right (finite z) (finite w) k))
 
-extremes-agree : (due : Bool) (a b : Extreme) (x y : Float) → SameExtreme a (shownIf due x) → SameExtreme b (shownIf due y) → extremesAgree due a b ≡ true
+extremes-agree : (due : Bool) (a b : Extreme) (x y : Float) → SameExtreme a (shown_if due x) → SameExtreme b (shown_if due y) → extremes_agree due a b ≡ true
 unfolding pick
 extremes-agree true (Value a) (Value b) x y h k =
     and_intro (finite a && finite b) true (and_intro (finite a) (finite b) (is_true (finite a) h.left.known) (is_true (finite b) k.left.known)) refl
@@ -74,11 +74,11 @@ extremes-agree false None None x y h k = refl
 
 -- the minimum or the maximum, as `Owed` has it
 parts : (up : Bool) (xs ys : List Float) → All FiniteF64 xs → All FiniteF64 ys
-    → chosen real up (extreme real up (summaryOf xs)) (extreme real up (summaryOf ys)) ≡ extreme real up (summaryOf (xs ++ ys))
+    → chosen real up (extreme real up (summary_of xs)) (extreme real up (summary_of ys)) ≡ extreme real up (summary_of (xs ++ ys))
 parts true xs ys p q = extreme-parts true xs ys p q
 parts false xs ys p q = extreme-parts false xs ys p q
 
-shown : (up due : Bool) (x y : Float) → nearer real up (shownIf due x) (shownIf due y) ≡ shownIf due (chosen real up x y)
+shown : (up due : Bool) (x y : Float) → nearer real up (shown_if due x) (shown_if due y) ≡ shown_if due (chosen real up x y)
 shown true due x y = X.nearer-shown true due x y
 shown false due x y = X.nearer-shown false due x y
 
@@ -94,7 +94,7 @@ owed =
       chosen-finite = chosen-finite;
       nears-none = refl;
       nears-one = λ v. refl;
-      nears-append = λ vs ws. refl;
+      nears_append = λ vs ws. refl;
       nears-perm = λ h. h;
       nears-length = λ vs. refl;
       nears-known = λ vs h. h;

@@ -11,8 +11,8 @@ use lib.Seq.{ext_get_or}
 use borrow.Author.Tests.{le-leb, lt-leb}
 use Rattle.laws.specs.Pick.{pick}
 use Rattle.laws.specs.Counting.{bit, count, lowest, highest, table}
-use Rattle.laws.proofs.Same.{count-append, Same, same-of-count}
-use Rattle.laws.proofs.Counting.{ends_of, length-table, getD-table, count-replicate, count-replicate-same}
+use Rattle.laws.proofs.Same.{count_append, Same, same-of-count}
+use Rattle.laws.proofs.Counting.{ends_of, length-table, get_or-table, count-replicate, count-replicate-same}
 use Rattle.points.specs.Points.{Row, row_of, expand}
 use lib.Dec.{leb, eqb}
 
@@ -62,13 +62,13 @@ within r s c h p =
     let b = at-pos s (r.start + k) (h (r.start + k) (omega (arith, at_in r k, c.last p))) in
     omega (arith, a, b)
 
-pub row-path : (r s : Row) → r.start ≡ s.start → r.counts ≡ s.counts → r ≡ s
-row-path r s p q = λ i. record { start = p i; counts = q i }
+pub row_path : (r s : Row) → r.start ≡ s.start → r.counts ≡ s.counts → r ≡ s
+row_path r s p q = λ i. record { start = p i; counts = q i }
 
 -- Canonical rows with the same count at every index are the same data.
 pub canonical-unique : (r s : Row) → Canonical r → Canonical s → ((i : ℕ) → at r i ≡ at s i) → r ≡ s
 canonical-unique r s c d h =
-    row-path r s ends.0
+    row_path r s ends.0
     (ext_get_or 0 r.counts s.counts ends.1 (λ i b. sym (at_in r i) ∙ ap (λ n. at r (n + i)) ends.0 ∙ h (s.start + i) ∙ at_in s i))
   where
     up : (i : ℕ) → 0 < at r i → 0 < at s i
@@ -118,7 +118,7 @@ at-tabled f lo n out i =
     inside : (lo ≤ i) × (i < lo + n) → at (tabled f lo n) i ≡ f i
     inside b =
         let e : lo + (i - lo) ≡ i = omega arith in
-        rw e at (at_in (tabled f lo n) (i - lo) ∙ getD-table f lo n (i - lo) (omega arith))
+        rw e at (at_in (tabled f lo n) (i - lo) ∙ get_or-table f lo n (i - lo) (omega arith))
 
 tabled-canonical : (f : ℕ → ℕ) (lo n : ℕ) → 0 < f lo → 0 < f (lo + n) → Canonical (tabled f lo (suc n))
 tabled-canonical f lo n a b =
@@ -127,50 +127,50 @@ tabled-canonical f lo n a b =
       first = λ _. a;
       last = λ _.
           subst (λ (m : ℕ). 0 < get_or (table f lo (suc n)) m 0) (sym (length-table f (suc lo) n))
-          (omega (arith, getD-table f lo (suc n) n (omega arith), b));
+          (omega (arith, get_or-table f lo (suc n) n (omega arith), b));
     }
 
-pub at-rowOf : (xs : List ℕ) (i : ℕ) → at (row_of xs) i ≡ count i xs
+pub at-row_of : (xs : List ℕ) (i : ℕ) → at (row_of xs) i ≡ count i xs
 unfolding row_of
-at-rowOf [] i = elim (eq-zero-or-pos (at (row_of []) i)) [ inl z ↦ z | inr p ↦ absurd (omega (arith, at-pos (row_of []) i p)) ]
-at-rowOf (x ∷ xs) i =
+at-row_of [] i = elim (eq-zero-or-pos (at (row_of []) i)) [ inl z ↦ z | inr p ↦ absurd (omega (arith, at-pos (row_of []) i p)) ]
+at-row_of (x ∷ xs) i =
     at-tabled (λ j. count j (x ∷ xs)) (lowest x xs) (suc (highest x xs - lowest x xs)) (λ j p. omega (arith, (ends_of x xs).all j p)) i
 
-pub rowOf-canonical : (xs : List ℕ) → Canonical (row_of xs)
+pub row_of-canonical : (xs : List ℕ) → Canonical (row_of xs)
 unfolding row_of
-rowOf-canonical [] = record { empty = λ _. refl; first = λ h. absurd (omega arith); last = λ h. absurd (omega arith) }
-rowOf-canonical (x ∷ xs) =
+row_of-canonical [] = record { empty = λ _. refl; first = λ h. absurd (omega arith); last = λ h. absurd (omega arith) }
+row_of-canonical (x ∷ xs) =
     let e : lowest x xs + (highest x xs - lowest x xs) ≡ highest x xs = omega (arith, (ends_of x xs).all (lowest x xs) (ends_of x xs).low) in
     tabled-canonical (λ j. count j (x ∷ xs)) (lowest x xs) (highest x xs - lowest x xs) (ends_of x xs).low (rw e (ends_of x xs).high)
 
 -- a row is decided by the counts of its bins
-pub rowOf-cong : (xs ys : List ℕ) → Same xs ys → row_of xs ≡ row_of ys
-rowOf-cong xs ys h =
-    canonical-unique (row_of xs) (row_of ys) (rowOf-canonical xs) (rowOf-canonical ys)
-    (λ i. at-rowOf xs i ∙ h (λ x. bit (eqb x i)) ∙ sym (at-rowOf ys i))
+pub row_of-cong : (xs ys : List ℕ) → Same xs ys → row_of xs ≡ row_of ys
+row_of-cong xs ys h =
+    canonical-unique (row_of xs) (row_of ys) (row_of-canonical xs) (row_of-canonical ys)
+    (λ i. at-row_of xs i ∙ h (λ x. bit (eqb x i)) ∙ sym (at-row_of ys i))
 
-pub rowOf-length : (xs ys : List ℕ) → length (row_of xs).counts ≤ length (row_of (xs ++ ys)).counts
-rowOf-length xs ys =
-    within-length (row_of xs) (row_of (xs ++ ys)) (rowOf-canonical xs)
-    (λ i. omega (arith, at-rowOf xs i, at-rowOf (xs ++ ys) i, count-append i xs ys))
+pub row_of-length : (xs ys : List ℕ) → length (row_of xs).counts ≤ length (row_of (xs ++ ys)).counts
+row_of-length xs ys =
+    within-length (row_of xs) (row_of (xs ++ ys)) (row_of-canonical xs)
+    (λ i. omega (arith, at-row_of xs i, at-row_of (xs ++ ys) i, count_append i xs ys))
 
 -- the bins that a row stands for are counted as the row counts them
 count-expand-below : (i s : ℕ) (cs : List ℕ) → i < s → count i (expand s cs) ≡ 0
 count-expand-below i s [] h = refl
 count-expand-below i s (c ∷ cs) h =
-    omega (arith, count-append i (replicate c s) (expand (suc s) cs), count-replicate i c s (omega arith), count-expand-below i (suc s) cs (omega arith))
+    omega (arith, count_append i (replicate c s) (expand (suc s) cs), count-replicate i c s (omega arith), count-expand-below i (suc s) cs (omega arith))
 
 count-expand-at : (k s : ℕ) (cs : List ℕ) → count (s + k) (expand s cs) ≡ get_or cs k 0
 count-expand-at k s [] = refl
 count-expand-at zero s (c ∷ cs) =
     rw add-zero
-    (omega (arith, count-append s (replicate c s) (expand (suc s) cs), count-replicate-same s c, count-expand-below s (suc s) cs (omega arith)))
+    (omega (arith, count_append s (replicate c s) (expand (suc s) cs), count-replicate-same s c, count-expand-below s (suc s) cs (omega arith)))
 count-expand-at (suc k) s (c ∷ cs) =
     let e : s + suc k ≡ suc s + k = omega arith in
     rw e
     (omega (
       arith,
-      count-append (suc s + k) (replicate c s) (expand (suc s) cs),
+      count_append (suc s + k) (replicate c s) (expand (suc s) cs),
       count-replicate (suc s + k) c s (omega arith),
       count-expand-at k (suc s) cs,
     ))
@@ -185,10 +185,10 @@ count-expand r i =
     ]
 
 -- the row of the bins of a canonical row is that row, and the bins of a list's row are those of the list
-pub rowOf-expand : (r : Row) → Canonical r → row_of (expand r.start r.counts) ≡ r
-rowOf-expand r c =
-    canonical-unique (row_of (expand r.start r.counts)) r (rowOf-canonical (expand r.start r.counts)) c
-    (λ i. at-rowOf (expand r.start r.counts) i ∙ count-expand r i)
+pub row_of-expand : (r : Row) → Canonical r → row_of (expand r.start r.counts) ≡ r
+row_of-expand r c =
+    canonical-unique (row_of (expand r.start r.counts)) r (row_of-canonical (expand r.start r.counts)) c
+    (λ i. at-row_of (expand r.start r.counts) i ∙ count-expand r i)
 
-pub expand-rowOf : (xs : List ℕ) → Same (expand (row_of xs).start (row_of xs).counts) xs
-expand-rowOf xs = same-of-count (expand (row_of xs).start (row_of xs).counts) xs (λ i. count-expand (row_of xs) i ∙ at-rowOf xs i)
+pub expand-row_of : (xs : List ℕ) → Same (expand (row_of xs).start (row_of xs).counts) xs
+expand-row_of xs = same-of-count (expand (row_of xs).start (row_of xs).counts) xs (λ i. count-expand (row_of xs) i ∙ at-row_of xs i)

@@ -5,40 +5,40 @@ use mathlib.Core.Bool.{Bool, true, false, beq, ◌&&◌}
 use lib.Dec.{leb, eqb}
 use lib.Ieee.{of_bits}
 use Rattle.laws.specs.Pick.{pick}
-use Rattle.laws.specs.Counting.{mostCount}
-use Rattle.index.specs.Bins.{finest, lowestBin}
+use Rattle.laws.specs.Counting.{most_count}
+use Rattle.index.specs.Bins.{finest, lowest_bin}
 use Rattle.floats.specs.Answers as R
 use Rattle.floats.specs.Answers.{shows}
-use Rattle.integers.specs.Answers.{isShown}
+use Rattle.integers.specs.Answers.{is_shown}
 use Rattle.integers.specs.declared.Extreme.{Extreme}
 use Rattle.integers.specs.declared.Extreme.TheVariants.{None, Value}
-use Rattle.points.specs.Counts.{count_of, countsAgree, sizeAsked, sameKind, mergeNumber}
-use Rattle.points.specs.Any.{Handed, shownAsDue, extremesAgree, shownAgrees, handedAgrees, mergeable, mergeHanded, unmergeable}
-use Rattle.points.specs.Real.{finiteOrNone, real}
-use Rattle.points.specs.Whole.{bothOrNone, whole}
-use Rattle.points.specs.Shadow.{shadowOf, shadow}
+use Rattle.points.specs.Counts.{count_of, counts_agree, size_asked, same_kind, merge_number}
+use Rattle.points.specs.Any.{Handed, shown_as_due, extremes_agree, shown_agrees, handed_agrees, mergeable, merge_handed, unmergeable}
+use Rattle.points.specs.Real.{finite_or_none, real}
+use Rattle.points.specs.Whole.{both_or_none, whole}
+use Rattle.points.specs.Shadow.{shadow_of, shadow}
 
-shown : (e : Extreme) → R.isShown (shadowOf e) ≡ isShown e
+shown : (e : Extreme) → R.is_shown (shadow_of e) ≡ is_shown e
 shown None = refl
 shown (Value x) = refl
 
-both : (a b : Extreme) → finiteOrNone (shadowOf a) (shadowOf b) ≡ bothOrNone a b
+both : (a b : Extreme) → finite_or_none (shadow_of a) (shadow_of b) ≡ both_or_none a b
 unfolding of_bits
 both None None = refl
 both None (Value y) = refl
 both (Value x) None = refl
 both (Value x) (Value y) = refl
 
-extremes-alike : (due : Bool) (a b : Extreme) → extremesAgree real due (shadowOf a) (shadowOf b) ≡ extremesAgree whole due a b
+extremes-alike : (due : Bool) (a b : Extreme) → extremes_agree real due (shadow_of a) (shadow_of b) ≡ extremes_agree whole due a b
 extremes-alike due a b = λ j. both a b j && (beq (shown a j) due && beq (shown b j) due)
 
 -- IT AGREES WHERE THE POINT DOES
-pub shadow-agrees : (size top low : ℕ) (p : Handed whole) → handedAgrees real size top low (shadow p) ≡ handedAgrees whole size top low p
+pub shadow-agrees : (size top low : ℕ) (p : Handed whole) → handed_agrees real size top low (shadow p) ≡ handed_agrees whole size top low p
 shadow-agrees size top low p =
-    ap (λ b. countsAgree size top low p.counts && b) (extremes-alike (shows p.extremes (count_of p.counts)) p.min p.max)
+    ap (λ b. counts_agree size top low p.counts && b) (extremes-alike (shows p.extremes (count_of p.counts)) p.min p.max)
 
 -- THE NUMBER OF A MERGE: that of the shadows, or else 16
-after-number : (a b c d : Bool) (n : ℕ) → mergeNumber a b c d n ≡ pick (eqb (mergeNumber a b c d 0) 0) n (mergeNumber a b c d 0)
+after-number : (a b c d : Bool) (n : ℕ) → merge_number a b c d n ≡ pick (eqb (merge_number a b c d 0) 0) n (merge_number a b c d 0)
 unfolding pick
 after-number false b c d n = refl
 after-number true false c d n = refl
@@ -50,14 +50,14 @@ pub shadow-number : (size : ℕ) (there : Bool) (p q : Handed whole)
     → unmergeable whole size there p q
     ≡ pick (eqb (unmergeable real size there (shadow p) (shadow q)) 0) (whole.beyond p.sum q.sum) (unmergeable real size there (shadow p) (shadow q))
 shadow-number size there p q =
-    let sized = sizeAsked size p.counts q.counts in
-    let ok : Handed whole → Bool = handedAgrees whole size finest (lowestBin finest) in
+    let sized = size_asked size p.counts q.counts in
+    let ok : Handed whole → Bool = handed_agrees whole size finest (lowest_bin finest) in
     let alike = mergeable whole p q in
-    let few = leb (count_of p.counts + count_of q.counts) mostCount in
+    let few = leb (count_of p.counts + count_of q.counts) most_count in
     after-number sized (there && (ok p && ok q)) alike few (whole.beyond p.sum q.sum)
     ∙ ap (λ n. pick (eqb n 0) (whole.beyond p.sum q.sum) n)
-    (λ j. mergeNumber sized (there && (sym (shadow-agrees size finest (lowestBin finest) p) j && sym (shadow-agrees size finest (lowestBin finest) q) j)) alike few 0)
+    (λ j. merge_number sized (there && (sym (shadow-agrees size finest (lowest_bin finest) p) j && sym (shadow-agrees size finest (lowest_bin finest) q) j)) alike few 0)
 
 -- AND THE COUNTS OF A MERGED POINT
-pub shadow-merged : (size : ℕ) (p q : Handed whole) → (mergeHanded whole size p q).counts ≡ (mergeHanded real size (shadow p) (shadow q)).counts
+pub shadow-merged : (size : ℕ) (p q : Handed whole) → (merge_handed whole size p q).counts ≡ (merge_handed real size (shadow p) (shadow q)).counts
 shadow-merged size p q = refl

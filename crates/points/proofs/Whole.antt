@@ -14,26 +14,26 @@ use Rattle.laws.proofs.Bools.{not-both}
 use Rattle.laws.proofs.Cases.{true-not-false}
 use Rattle.laws.proofs.Lists.{map-perm}
 use Rattle.floats.specs.Starts.{FiniteF64}
-use Rattle.integers.specs.Answers.{nearestOf, in_range, isShown, smallerOf, largerOf}
+use Rattle.integers.specs.Answers.{nearest_of, in_range, is_shown, smaller_of, larger_of}
 use Rattle.integers.specs.Totals.{total, weight}
 use Rattle.integers.specs.declared.Extreme.{Extreme}
 use Rattle.integers.specs.declared.Extreme.TheVariants.{None, Value}
 use Rattle.integers.proofs.Order as Z
 use Rattle.integers.proofs.NoNearer.{nearest-is}
-use Rattle.integers.proofs.Totals.{total-is, total-perm, total-append, weight-perm, weight-append, total-range}
-use Rattle.points.specs.Any.{Summary, start, noted, summaryOf, shownIf, extremesAgree}
-use Rattle.points.specs.Whole.{bothOrNone, SameExtreme, SumStands, Light, whole}
+use Rattle.integers.proofs.Totals.{total-is, total-perm, total_append, weight-perm, weight_append, total-range}
+use Rattle.points.specs.Any.{Summary, start, noted, summary_of, shown_if, extremes_agree}
+use Rattle.points.specs.Whole.{both_or_none, SameExtreme, SumStands, Light, whole}
 use Rattle.points.proofs.Owed.{chosen, nearer, extreme, Owed}
 
 -- ---- the f64s
-nears-length : (vs : List ℤ) → length (map nearestOf vs) ≡ length vs
+nears-length : (vs : List ℤ) → length (map nearest_of vs) ≡ length vs
 nears-length [] = refl
 nears-length (v ∷ vs) = ap suc (nears-length vs)
 
-near-finite : (z : ℤ) → in_range z ≡ true → FiniteF64 (nearestOf z)
+near-finite : (z : ℤ) → in_range z ≡ true → FiniteF64 (nearest_of z)
 near-finite z h = (nearest-is z (ltb-true (mag z) (2 ^ 63) h)).finite
 
-nears-known : (vs : List ℤ) → All (λ z. in_range z ≡ true) vs → All FiniteF64 (map nearestOf vs)
+nears-known : (vs : List ℤ) → All (λ z. in_range z ≡ true) vs → All FiniteF64 (map nearest_of vs)
 unfolding All
 nears-known [] h = tt
 nears-known (v ∷ vs) h = (near-finite v h.0, nears-known vs h.1)
@@ -50,17 +50,17 @@ module _ (sums : Bool) where
   summary-from s [] = refl
   summary-from s (v ∷ vs) = summary-from (noted whole sums s v) vs
 
-  extreme-is : (up : Bool) (vs : List ℤ) → extreme whole up (summaryOf whole sums vs) ≡ foldl (Z.chosen up) (begin up) vs
+  extreme-is : (up : Bool) (vs : List ℤ) → extreme whole up (summary_of whole sums vs) ≡ foldl (Z.chosen up) (begin up) vs
   extreme-is true vs = ap (λ s. s.min) (summary-from (start whole) vs)
   extreme-is false vs = ap (λ s. s.max) (summary-from (start whole) vs)
 
-  sum_is : (vs : List ℤ) → (summaryOf whole sums vs).sum ≡ foldl (λ x v. pick sums (x +ℤ v) x) (pos 0) vs
+  sum_is : (vs : List ℤ) → (summary_of whole sums vs).sum ≡ foldl (λ x v. pick sums (x +ℤ v) x) (pos 0) vs
   sum_is vs = ap (λ s. s.sum) (summary-from (start whole) vs)
 
 -- ---- extremes of lists
-same-choice : (up : Bool) (x y : ℤ) → chosen whole up x y ≡ Z.chosen up x y
-same-choice true x y = refl
-same-choice false x y = refl
+same_choice : (up : Bool) (x y : ℤ) → chosen whole up x y ≡ Z.chosen up x y
+same_choice true x y = refl
+same_choice false x y = refl
 
 chosen-range : (up : Bool) (a v : ℤ) → in_range a ≡ true → in_range v ≡ true → in_range (Z.chosen up a v) ≡ true
 unfolding pick
@@ -79,19 +79,19 @@ begin-range : (up : Bool) → in_range (begin up) ≡ true
 begin-range true = refl
 begin-range false = refl
 
-known : (up sums : Bool) (vs : List ℤ) → All (λ z. in_range z ≡ true) vs → in_range (extreme whole up (summaryOf whole sums vs)) ≡ true
+known : (up sums : Bool) (vs : List ℤ) → All (λ z. in_range z ≡ true) vs → in_range (extreme whole up (summary_of whole sums vs)) ≡ true
 known up sums vs h = ap in_range (extreme-is sums up vs) ∙ fold-range up (begin up) vs (begin-range up) h
 
 parts : (up sums : Bool) (xs ys : List ℤ)
-    → chosen whole up (extreme whole up (summaryOf whole sums xs)) (extreme whole up (summaryOf whole sums ys)) ≡ extreme whole up (summaryOf whole sums (xs ++ ys))
+    → chosen whole up (extreme whole up (summary_of whole sums xs)) (extreme whole up (summary_of whole sums ys)) ≡ extreme whole up (summary_of whole sums (xs ++ ys))
 parts up sums xs ys =
-    same-choice up (extreme whole up (summaryOf whole sums xs)) (extreme whole up (summaryOf whole sums ys))
-    ∙ ap (λ (z : ℤ). Z.chosen up z (extreme whole up (summaryOf whole sums ys))) (extreme-is sums up xs)
+    same_choice up (extreme whole up (summary_of whole sums xs)) (extreme whole up (summary_of whole sums ys))
+    ∙ ap (λ (z : ℤ). Z.chosen up z (extreme whole up (summary_of whole sums ys))) (extreme-is sums up xs)
     ∙ ap (Z.chosen up (foldl (Z.chosen up) (begin up) xs)) (extreme-is sums up ys)
     ∙ Z.fold-parts up (begin up) xs ys
     ∙ sym (extreme-is sums up (xs ++ ys))
 
-perm : (up sums : Bool) {xs ys : List ℤ} → Permᴰ xs ys → extreme whole up (summaryOf whole sums xs) ≡ extreme whole up (summaryOf whole sums ys)
+perm : (up sums : Bool) {xs ys : List ℤ} → Permᴰ xs ys → extreme whole up (summary_of whole sums xs) ≡ extreme whole up (summary_of whole sums ys)
 perm up sums {xs} {ys} h = extreme-is sums up xs ∙ Z.fold-perm up (begin up) h ∙ sym (extreme-is sums up ys)
 
 -- ---- extremes as they are shown: the same where they are equal
@@ -108,7 +108,7 @@ is_same a b e = subst (SameExtreme a) e (self a)
     self None = tt
     self (Value x) = refl
 
-shown : (up due : Bool) (x y : ℤ) → nearer whole up (shownIf whole due x) (shownIf whole due y) ≡ shownIf whole due (chosen whole up x y)
+shown : (up due : Bool) (x y : ℤ) → nearer whole up (shown_if whole due x) (shown_if whole due y) ≡ shown_if whole due (chosen whole up x y)
 unfolding pick
 shown true true x y = refl
 shown true false x y = refl
@@ -121,17 +121,17 @@ none true (Value x) = (refl, refl)
 none false None = (refl, refl)
 none false (Value x) = (refl, refl)
 
-shown-is : (due : Bool) (x : ℤ) → isShown (shownIf whole due x) ≡ due
+shown-is : (due : Bool) (x : ℤ) → is_shown (shown_if whole due x) ≡ due
 unfolding pick
 shown-is true x = refl
 shown-is false x = refl
 
-agree : (due : Bool) (x y : ℤ) → extremesAgree whole due (shownIf whole due x) (shownIf whole due y) ≡ true
+agree : (due : Bool) (x y : ℤ) → extremes_agree whole due (shown_if whole due x) (shown_if whole due y) ≡ true
 unfolding pick
 agree true x y = refl
 agree false x y = refl
 
-both-merged : (a b c d : Extreme) → bothOrNone a b ≡ true → bothOrNone c d ≡ true → bothOrNone (smallerOf a c) (largerOf b d) ≡ true
+both-merged : (a b c d : Extreme) → both_or_none a b ≡ true → both_or_none c d ≡ true → both_or_none (smaller_of a c) (larger_of b d) ≡ true
 both-merged None None c d h k = k
 both-merged None (Value y) c d h k = true-not-false (sym h)
 both-merged (Value x) None c d h k = true-not-false (sym h)
@@ -144,18 +144,18 @@ abbrev number_in : Extreme → ℤ
 number_in None = pos 0
 number_in (Value x) = x
 
-of-shown : (due : Bool) (e : Extreme) → isShown e ≡ due → e ≡ shownIf whole due (number_in e)
+of-shown : (due : Bool) (e : Extreme) → is_shown e ≡ due → e ≡ shown_if whole due (number_in e)
 unfolding pick
 of-shown true (Value x) h = refl
 of-shown true None h = absurd (not-both true refl (sym h))
 of-shown false (Value x) h = absurd (not-both true refl h)
 of-shown false None h = refl
 
-unshown : (e : Extreme) → isShown e ≡ false → e ≡ None
+unshown : (e : Extreme) → is_shown e ≡ false → e ≡ None
 unfolding pick
 unshown e h = of-shown false e h
 
-either : (up : Bool) (a b : Extreme) → isShown (nearer whole up a b) ≡ isShown a || isShown b
+either : (up : Bool) (a b : Extreme) → is_shown (nearer whole up a b) ≡ is_shown a || is_shown b
 either true None b = refl
 either false None b = refl
 either true (Value x) None = refl
@@ -182,14 +182,14 @@ unfolding pick
 kept x [] = refl
 kept x (v ∷ vs) = kept x vs
 
-pub sum-total : (vs : List ℤ) → (summaryOf whole true vs).sum ≡ total vs
+pub sum-total : (vs : List ℤ) → (summary_of whole true vs).sum ≡ total vs
 unfolding pick
 sum-total vs = sum_is true vs ∙ total-is vs
 
-pub sum_kept : (vs : List ℤ) → (summaryOf whole false vs).sum ≡ pos 0
+pub sum_kept : (vs : List ℤ) → (summary_of whole false vs).sum ≡ pos 0
 sum_kept vs = sum_is false vs ∙ kept (pos 0) vs
 
-sum-handed : (on : Bool) (vs : List ℤ) → SumStands on (pick on (summaryOf whole on vs).sum (pos 0)) vs
+sum-handed : (on : Bool) (vs : List ℤ) → SumStands on (pick on (summary_of whole on vs).sum (pos 0)) vs
 unfolding pick
 sum-handed true vs = sum-total vs
 sum-handed false vs = refl
@@ -199,13 +199,13 @@ sum-order true x h k = k ∙ total-perm h
 sum-order false x h k = k
 
 sum-join : (on : Bool) (x y : ℤ) (vs ws : List ℤ) → SumStands on x vs → SumStands on y ws → SumStands on (x +ℤ y) (vs ++ ws)
-sum-join true x y vs ws h k = (λ i. h i +ℤ k i) ∙ sym (total-append vs ws)
+sum-join true x y vs ws h k = (λ i. h i +ℤ k i) ∙ sym (total_append vs ws)
 sum-join false x y vs ws h k = λ i. h i +ℤ k i
 
 -- magnitudes that total at most 2 ^ 63 - 1: of parts, in any order
 light-parts : (vs ws : List ℤ) → Light (vs ++ ws) → Light vs × Light ws
 light-parts vs ws h =
-    (record { light = less (weight vs) (weight ws) (weight (vs ++ ws)) (weight-append vs ws) h.light }, record { light = more (weight vs) (weight ws) (weight (vs ++ ws)) (weight-append vs ws) h.light })
+    (record { light = less (weight vs) (weight ws) (weight (vs ++ ws)) (weight_append vs ws) h.light }, record { light = more (weight vs) (weight ws) (weight (vs ++ ws)) (weight_append vs ws) h.light })
   where
     less : (a b c : ℕ) → c ≡ a + b → c < 2 ^ 63 → a < 2 ^ 63
     less a b c e k = omega (arith, e, k)
@@ -225,7 +225,7 @@ unfolding total
 adds_one x = sym (+ℤ_idr x)
 
 sum-within : (on : Bool) (x y : ℤ) (vs ws : List ℤ) → SumStands on x vs → SumStands on y ws → Light (vs ++ ws) → whole.beyond x y ≡ 0
-sum-within true x y vs ws h k l = fine x y (ap in_range ((λ i. h i +ℤ k i) ∙ sym (total-append vs ws)) ∙ total-range (vs ++ ws) l.light)
+sum-within true x y vs ws h k l = fine x y (ap in_range ((λ i. h i +ℤ k i) ∙ sym (total_append vs ws)) ∙ total-range (vs ++ ws) l.light)
 sum-within false x y vs ws h k l = fine x y (λ i. in_range (h i +ℤ k i))
 
 pub owed : Owed whole
@@ -236,8 +236,8 @@ owed =
       chosen-finite = λ up a v h k. refl;
       nears-none = refl;
       nears-one = λ v. refl;
-      nears-append = map-append nearestOf;
-      nears-perm = λ h. map-perm nearestOf h;
+      nears_append = map-append nearest_of;
+      nears-perm = λ h. map-perm nearest_of h;
       nears-length = nears-length;
       nears-known = nears-known;
       Same = λ x y. x ≡ y;
@@ -247,19 +247,19 @@ owed =
       extreme-perm = λ up sums h p. perm up sums h;
       extreme-turn = λ a b h. is_same b a (sym (same-is a b h));
       extreme-trans = λ a b c h k. is_same a c (same-is a b h ∙ same-is b c k);
-      same-shown = λ due x y h. is_same (shownIf whole due x) (shownIf whole due y) (ap (shownIf whole due) h);
+      same-shown = λ due x y h. is_same (shown_if whole due x) (shown_if whole due y) (ap (shown_if whole due) h);
       nearer-cong = λ up a b c d h k. is_same (nearer whole up a b) (nearer whole up c d) (λ i. nearer whole up (same-is a c h i) (same-is b d k i));
       nearer-shown = shown;
       nearer-none = none;
       not-shown = λ e h. same-is e None h;
       unshown = unshown;
       extremes-agree = λ due a b x y h k.
-          (λ i. extremesAgree whole due (same-is a (shownIf whole due x) h i) (same-is b (shownIf whole due y) k i)) ∙ agree due x y;
+          (λ i. extremes_agree whole due (same-is a (shown_if whole due x) h i) (same-is b (shown_if whole due y) k i)) ∙ agree due x y;
       finite-merged = both-merged;
       Numeric = λ e. Unit;
       number_in = number_in;
-      shown_of = λ due e x h. (tt, ap isShown (same-is e (shownIf whole due x) h) ∙ shown-is due x);
-      of-shown = λ due e p q. is_same e (shownIf whole due (number_in e)) (of-shown due e q);
+      shown_of = λ due e x h. (tt, ap is_shown (same-is e (shown_if whole due x) h) ∙ shown-is due x);
+      of-shown = λ due e p q. is_same e (shown_if whole due (number_in e)) (of-shown due e q);
       either-shown = either;
       numeric-self = λ a p. is_same a a refl;
       numeric-nearer = λ up a b p q. tt;

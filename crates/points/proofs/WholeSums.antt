@@ -8,7 +8,7 @@ use lib.Dec.{T, eqb}
 use lib.IntN.{ℤ, ◌+ℤ◌}
 use Rattle.laws.specs.Pick.{pick}
 use Rattle.laws.proofs.Bools.{pick_true, pick-false}
-use Rattle.integers.specs.Answers.{in_range, sum_of, keptSum, lastNumber}
+use Rattle.integers.specs.Answers.{in_range, sum_of, kept_sum, last_number}
 use Rattle.integers.specs.declared.Total.{Total}
 use Rattle.integers.specs.declared.Total.TheVariants.{Outside, Is}
 use Rattle.points.specs.Whole.{whole}
@@ -16,44 +16,44 @@ use Rattle.points.specs.Whole.{whole}
 no : {A : Type 0} → true ≡ false → A
 no h = absurd (subst T h tt)
 
-abbrev totalIn : ℤ → Total → ℤ
-totalIn d Outside = d
-totalIn d (Is s) = s
+abbrev total_in : ℤ → Total → ℤ
+total_in d Outside = d
+total_in d (Is s) = s
 
-abbrev isIn : Total → Bool
-isIn Outside = false
-isIn (Is s) = true
+abbrev is_in : Total → Bool
+is_in Outside = false
+is_in (Is s) = true
 
 -- it takes the value, or not
 pub record Takes (on : Bool) (x v s : ℤ) : Type 0 where
   pub takes : whole.takes on x v ≡ true
   pub sum : s ≡ whole.noted on x v
 
-pub sum-takes : (on : Bool) (x v s : ℤ) → keptSum on x v ≡ Is s → Takes on x v s
+pub sum-takes : (on : Bool) (x v s : ℤ) → kept_sum on x v ≡ Is s → Takes on x v s
 unfolding pick sum_of
 sum-takes true x v s e = go (in_range (x +ℤ v)) refl
   where
     go : (b : Bool) → in_range (x +ℤ v) ≡ b → Takes true x v s
-    go true d = record { takes = d; sum = sym (ap (totalIn s) (sym (pick_true (in_range (x +ℤ v)) (Is (x +ℤ v)) Outside d) ∙ e)) }
-    go false d = no (sym (ap isIn (sym (pick-false (in_range (x +ℤ v)) (Is (x +ℤ v)) Outside d) ∙ e)))
-sum-takes false x v s e = record { takes = refl; sum = sym (ap (totalIn s) e) }
+    go true d = record { takes = d; sum = sym (ap (total_in s) (sym (pick_true (in_range (x +ℤ v)) (Is (x +ℤ v)) Outside d) ∙ e)) }
+    go false d = no (sym (ap is_in (sym (pick-false (in_range (x +ℤ v)) (Is (x +ℤ v)) Outside d) ∙ e)))
+sum-takes false x v s e = record { takes = refl; sum = sym (ap (total_in s) e) }
 
-pub sum-leaves : (on : Bool) (x v : ℤ) → keptSum on x v ≡ Outside → whole.takes on x v ≡ false
+pub sum-leaves : (on : Bool) (x v : ℤ) → kept_sum on x v ≡ Outside → whole.takes on x v ≡ false
 unfolding pick sum_of
 sum-leaves true x v e = go (in_range (x +ℤ v)) refl
   where
     go : (b : Bool) → in_range (x +ℤ v) ≡ b → in_range (x +ℤ v) ≡ false
-    go true d = no (ap isIn (sym (pick_true (in_range (x +ℤ v)) (Is (x +ℤ v)) Outside d) ∙ e))
+    go true d = no (ap is_in (sym (pick_true (in_range (x +ℤ v)) (Is (x +ℤ v)) Outside d) ∙ e))
     go false d = d
-sum-leaves false x v e = no (ap isIn e)
+sum-leaves false x v e = no (ap is_in e)
 
 -- 16 is a refusal
-pub last_some : (n : ℕ) → lastNumber n ≡ 0 → ⊥
+pub last_some : (n : ℕ) → last_number n ≡ 0 → ⊥
 last_some n e = go (eqb n 0) refl
   where
     other : (m : ℕ) → m ≡ 16 → m ≡ 0 → ⊥
     other m d f = omega (arith, d, f)
 
     go : (b : Bool) → eqb n 0 ≡ b → ⊥
-    go true d = other (lastNumber n) (pick_true (eqb n 0) 16 n d) e
+    go true d = other (last_number n) (pick_true (eqb n 0) 16 n d) e
     go false d = eqb-false n 0 d (sym (pick-false (eqb n 0) 16 n d) ∙ e)

@@ -5,12 +5,12 @@
 use Rattle.std.specs.Prelude.{ℕ, ◌+◌, ◌-◌, ◌/◌, ◌^◌, Bool, not, ◌&&◌, leb, eqb, length, get_or}
 use Rattle.laws.specs.Pick.{pick}
 use Rattle.laws.specs.Counting.{total}
-use Rattle.index.specs.Bins.{finest, endBin}
+use Rattle.index.specs.Bins.{finest, end_bin}
 use Rattle.points.specs.Points.{Row, Point}
 
 -- a row of at most size counts, its bins from low on and before end
-unfoldable pub rowAgrees : ℕ → ℕ → ℕ → Row → Bool
-rowAgrees size low end r =
+unfoldable pub row_agrees : ℕ → ℕ → ℕ → Row → Bool
+row_agrees size low end r =
     pick (eqb (length r.counts) 0)
     (eqb r.start 0)
     (leb (length r.counts) size
@@ -24,6 +24,6 @@ unfoldable pub agrees : ℕ → ℕ → ℕ → Point → Bool
 agrees size top low p =
     leb (finest - top) p.d
     && (leb p.d finest
-    && (rowAgrees size (low / 2 ^ p.d) (endBin (finest - p.d)) p.pos
-    && (rowAgrees size (low / 2 ^ p.d) (endBin (finest - p.d)) p.neg
+    && (row_agrees size (low / 2 ^ p.d) (end_bin (finest - p.d)) p.pos
+    && (row_agrees size (low / 2 ^ p.d) (end_bin (finest - p.d)) p.neg
     && eqb p.total (p.zeros + (total p.pos.counts + total p.neg.counts)))))

@@ -8,9 +8,9 @@ use Rattle.laws.specs.Counting.{bit, count, table, total}
 
 -- ---- bounds
 
-unfoldable pub noNan : List Float → Bool
-noNan [] = true
-noNan (b ∷ bs) = not (is_nan b) && noNan bs
+unfoldable pub no_nan : List Float → Bool
+no_nan [] = true
+no_nan (b ∷ bs) = not (is_nan b) && no_nan bs
 
 -- as numbers: -0.0 then 0.0 does not rise
 unfoldable pub rising : List Float → Bool
@@ -19,42 +19,42 @@ rising (b ∷ []) = true
 rising (b ∷ c ∷ bs) = lt b c && rising (c ∷ bs)
 
 -- number 3: "over 159 bounds, a NaN, or not strictly rising"
-unfoldable pub boundsPass : List Float → Bool
-boundsPass bs = leb (length bs) 159 && (noNan bs && rising bs)
+unfoldable pub bounds_pass : List Float → Bool
+bounds_pass bs = leb (length bs) 159 && (no_nan bs && rising bs)
 
 -- the same bounds as numbers
-unfoldable pub sameBounds : List Float → List Float → Bool
-sameBounds [] [] = true
-sameBounds [] (c ∷ cs) = false
-sameBounds (b ∷ bs) [] = false
-sameBounds (b ∷ bs) (c ∷ cs) = eq b c && sameBounds bs cs
+unfoldable pub same_bounds : List Float → List Float → Bool
+same_bounds [] [] = true
+same_bounds [] (c ∷ cs) = false
+same_bounds (b ∷ bs) [] = false
+same_bounds (b ∷ bs) (c ∷ cs) = eq b c && same_bounds bs cs
 
 -- ---- buckets
 
 -- how many of the bounds lie below v
-unfoldable pub bucketOf : List Float → Float → ℕ
-bucketOf [] v = 0
-bucketOf (b ∷ bs) v = bit (lt b v) + bucketOf bs v
+unfoldable pub bucket_of : List Float → Float → ℕ
+bucket_of [] v = 0
+bucket_of (b ∷ bs) v = bit (lt b v) + bucket_of bs v
 
 -- how many buckets
-abbrev pub bucketCount : List Float → ℕ
-bucketCount [] = 0
-bucketCount (b ∷ bs) = suc (length (b ∷ bs))
+abbrev pub bucket_count : List Float → ℕ
+bucket_count [] = 0
+bucket_count (b ∷ bs) = suc (length (b ∷ bs))
 
 pub record Buckets : Type 0 where
   pub counts : List ℕ
   pub total : ℕ
 
 -- the point of a list
-unfoldable pub bucketsOf : List Float → List Float → Buckets
-bucketsOf bounds vs =
-    record { counts = table (λ j. count j (map (bucketOf bounds) vs)) 0 (bucketCount bounds); total = length vs }
+unfoldable pub buckets_of : List Float → List Float → Buckets
+buckets_of bounds vs =
+    record { counts = table (λ j. count j (map (bucket_of bounds) vs)) 0 (bucket_count bounds); total = length vs }
 
 -- one value recorded: one more in its bucket, if there are buckets
-unfoldable pub recordBucket : List Float → Buckets → Float → Buckets
-recordBucket bounds p v =
+unfoldable pub record_bucket : List Float → Buckets → Float → Buckets
+record_bucket bounds p v =
     record {
-      counts = set p.counts (bucketOf bounds v) (get_or p.counts (bucketOf bounds v) 0 + 1);
+      counts = set p.counts (bucket_of bounds v) (get_or p.counts (bucket_of bounds v) 0 + 1);
       total = p.total + 1;
     }
 
@@ -65,12 +65,12 @@ added [] ys = ys
 added (x ∷ xs) [] = x ∷ xs
 added (x ∷ xs) (y ∷ ys) = (x + y) ∷ added xs ys
 
-unfoldable pub mergeBuckets : Buckets → Buckets → Buckets
-mergeBuckets p q = record { counts = added p.counts q.counts; total = p.total + q.total }
+unfoldable pub merge_buckets : Buckets → Buckets → Buckets
+merge_buckets p q = record { counts = added p.counts q.counts; total = p.total + q.total }
 
 -- "Explicit bounds pass number 3, and with bounds the counts total count"
-unfoldable pub bucketsAgree : List Float → Buckets → Bool
-bucketsAgree bounds p =
-    boundsPass bounds
-    && (eqb (length p.counts) (bucketCount bounds)
-    && pick (eqb (bucketCount bounds) 0) true (eqb (total p.counts) p.total))
+unfoldable pub buckets_agree : List Float → Buckets → Bool
+buckets_agree bounds p =
+    bounds_pass bounds
+    && (eqb (length p.counts) (bucket_count bounds)
+    && pick (eqb (bucket_count bounds) 0) true (eqb (total p.counts) p.total))

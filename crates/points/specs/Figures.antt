@@ -1,6 +1,6 @@
 -- What a series of either kind holds of f64 values: its counts beside minimum, maximum and sum. Assumes nothing.
 use Rattle.std.specs.Prelude.{List, Float}
-pub use Rattle.points.specs.Counts.{Kind, exponential, explicit, mostSize, sizePasses, Settings, settingsOf, Counts, exponentialCounts, explicitCounts, kindCounts, recordCounts}
+pub use Rattle.points.specs.Counts.{Kind, exponential, explicit, most_size, size_passes, Settings, settings_of, Counts, exponential_counts, explicit_counts, kind_counts, record_counts}
 use Rattle.points.specs.Any as Any
 use Rattle.points.specs.Real.{real}
 
@@ -9,8 +9,8 @@ abbrev pub Figures : Type 0
 Figures = Any.Figures real
 
 -- of a list of values
-abbrev pub figuresOf : Settings → List Float → Figures
-figuresOf = Any.figuresOf real
+abbrev pub figures_of : Settings → List Float → Figures
+figures_of = Any.figures_of real
 
-abbrev pub recordFigures : Settings → Figures → Float → Figures
-recordFigures = Any.recordFigures real
+abbrev pub record_figures : Settings → Figures → Float → Figures
+record_figures = Any.record_figures real

@@ -30,11 +30,11 @@ pub record Number : Type 1 where
   pub Extreme : Type 0
   pub none : Extreme
   pub value : Value → Extreme
-  pub isShown : Extreme → Bool
+  pub is_shown : Extreme → Bool
   pub smaller : Extreme → Extreme → Extreme
   pub larger : Extreme → Extreme → Extreme
   -- "Held extremes are finite, both or neither"
-  pub finiteOrNone : Extreme → Extreme → Bool
+  pub finite_or_none : Extreme → Extreme → Bool
   -- neither is there, or both are and are the same number, a zero's sign aside
   pub SameExtreme : Extreme → Extreme → Type 0
   -- what is said of the sum of a point that stands for values, by the sum's switch

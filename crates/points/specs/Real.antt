@@ -3,19 +3,19 @@ use Rattle.std.specs.Prelude.{ℕ, ◌≡◌, Bool, true, false, ◌&&◌, List,
 use Rattle.std.specs.Float.{binary64}
 use Rattle.std.specs.Float.Ieee.{add, eq, fits}
 use Rattle.std.specs.Float.Ieee.Scale.{finite}
-use Rattle.floats.specs.Answers.{lesserOf, greater_of, isShown, smallerOf, largerOf}
-use Rattle.floats.specs.Grid.{grid, exactTotal, Gridded}
-use Rattle.floats.specs.Starts.{greatestFinite, leastFinite, zeroFloat, FiniteF64}
+use Rattle.floats.specs.Answers.{lesser_of, greater_of, is_shown, smaller_of, larger_of}
+use Rattle.floats.specs.Grid.{grid, exact_total, Gridded}
+use Rattle.floats.specs.Starts.{greatest_finite, least_finite, zero_float, FiniteF64}
 use Rattle.floats.specs.declared.Extreme.{Extreme}
 use Rattle.floats.specs.declared.Extreme.TheVariants.{None, Value}
 use Rattle.points.specs.Number.{Number}
 
 -- "Held extremes are finite, both or neither"
-abbrev pub finiteOrNone : Extreme → Extreme → Bool
-finiteOrNone None None = true
-finiteOrNone None (Value y) = false
-finiteOrNone (Value x) None = false
-finiteOrNone (Value x) (Value y) = finite x && finite y
+abbrev pub finite_or_none : Extreme → Extreme → Bool
+finite_or_none None None = true
+finite_or_none None (Value y) = false
+finite_or_none (Value x) None = false
+finite_or_none (Value x) (Value y) = finite x && finite y
 
 -- finite, and equal as numbers
 pub record SameNumber (x y : Float) : Type 0 where
@@ -33,8 +33,8 @@ SameExtreme (Value x) (Value y) = SameNumber x y
 -- "The sum under demand 3's premise is the exact total (switched off: 0.0)": `grid z` is z / 1024. Switched off it is 0.0 whatever the
 -- values; switched on and off the grid it depends on the order of recording and merging, and nothing is said of it here
 abbrev pub SumStands : Bool → Float → List Float → Type 0
-SumStands true x vs = Gridded vs → x ≡ grid (exactTotal vs)
-SumStands false x vs = x ≡ zeroFloat
+SumStands true x vs = Gridded vs → x ≡ grid (exact_total vs)
+SumStands false x vs = x ≡ zero_float
 
 -- "The sum is f64 addition in order of recording, one rounding each, from 0.0"; a series holds it whatever the switches say: they act where
 -- a point is handed out. No sum is refused
@@ -47,11 +47,11 @@ real =
       finite = finite;
       near = λ v. v;
       nears = λ vs. vs;
-      lesser = lesserOf;
+      lesser = lesser_of;
       greater = greater_of;
-      greatest = greatestFinite;
-      least = leastFinite;
-      zero = zeroFloat;
+      greatest = greatest_finite;
+      least = least_finite;
+      zero = zero_float;
       noted = λ sums x v. add binary64 x v;
       takes = λ sums x v. true;
       add = add binary64;
@@ -59,10 +59,10 @@ real =
       Extreme = Extreme;
       none = None;
       value = Value;
-      isShown = isShown;
-      smaller = smallerOf;
-      larger = largerOf;
-      finiteOrNone = finiteOrNone;
+      is_shown = is_shown;
+      smaller = smaller_of;
+      larger = larger_of;
+      finite_or_none = finite_or_none;
       SameExtreme = SameExtreme;
       SumStands = SumStands;
       Within = λ vs. Unit;

@@ -1,6 +1,6 @@
 -- A point of i64 values as one of f64 with the same counts, switch and threshold, that shows 0.0 where the other shows an extreme and has the
 -- sum 0.0: all refusals but 16 are the same of both, and so are merged counts (the laws of proofs/Shadow.antt). Assumes nothing.
-use Rattle.floats.specs.Starts.{zeroFloat}
+use Rattle.floats.specs.Starts.{zero_float}
 use Rattle.floats.specs.declared.Extreme as F
 use Rattle.floats.specs.declared.Extreme.TheVariants as E
 use Rattle.integers.specs.declared.Extreme.{Extreme}
@@ -9,10 +9,10 @@ use Rattle.points.specs.Any.{Handed}
 use Rattle.points.specs.Real.{real}
 use Rattle.points.specs.Whole.{whole}
 
-abbrev pub shadowOf : Extreme → F.Extreme
-shadowOf None = E.None
-shadowOf (Value x) = E.Value zeroFloat
+abbrev pub shadow_of : Extreme → F.Extreme
+shadow_of None = E.None
+shadow_of (Value x) = E.Value zero_float
 
 abbrev pub shadow : Handed whole → Handed real
 shadow p =
-    record { counts = p.counts; extremes = p.extremes; threshold = p.threshold; min = shadowOf p.min; max = shadowOf p.max; sum = zeroFloat }
+    record { counts = p.counts; extremes = p.extremes; threshold = p.threshold; min = shadow_of p.min; max = shadow_of p.max; sum = zero_float }

@@ -1,7 +1,7 @@
 -- What a series keeps of f64 values: the class of each, and minimum, maximum and sum. Assumes nothing.
 use Rattle.std.specs.Prelude.{true, List, Float}
 unfoldable pub use Rattle.points.specs.Classes.{class_of}
-pub use Rattle.points.specs.Classes.{countsOf}
+pub use Rattle.points.specs.Classes.{counts_of}
 use Rattle.points.specs.Any as Any
 use Rattle.points.specs.Real.{real}
 
@@ -15,5 +15,5 @@ start = Any.start real
 abbrev pub noted : Summary → Float → Summary
 noted = Any.noted real true
 
-abbrev pub summaryOf : List Float → Summary
-summaryOf = Any.summaryOf real true
+abbrev pub summary_of : List Float → Summary
+summary_of = Any.summary_of real true

@@ -2,18 +2,18 @@
 -- A sum is one of the integers of the logic, which have no end: what would leave i64 is refused with 16 (`takes`, `beyond`).
 use Rattle.std.specs.Prelude.{◌^◌, ◌<◌, ◌≡◌, Bool, true, false, List, map, ℤ, pos, negsuc, ◌+ℤ◌}
 use Rattle.laws.specs.Pick.{pick}
-use Rattle.integers.specs.Answers.{nearestOf, lesserOf, greater_of, in_range, isShown, smallerOf, largerOf}
+use Rattle.integers.specs.Answers.{nearest_of, lesser_of, greater_of, in_range, is_shown, smaller_of, larger_of}
 use Rattle.integers.specs.Totals.{total, weight}
 use Rattle.integers.specs.declared.Extreme.{Extreme}
 use Rattle.integers.specs.declared.Extreme.TheVariants.{None, Value}
 use Rattle.points.specs.Number.{Number}
 
 -- both or neither
-abbrev pub bothOrNone : Extreme → Extreme → Bool
-bothOrNone None None = true
-bothOrNone None (Value y) = false
-bothOrNone (Value x) None = false
-bothOrNone (Value x) (Value y) = true
+abbrev pub both_or_none : Extreme → Extreme → Bool
+both_or_none None None = true
+both_or_none None (Value y) = false
+both_or_none (Value x) None = false
+both_or_none (Value x) (Value y) = true
 
 -- neither is there, or both are and are the same number
 abbrev pub SameExtreme : Extreme → Extreme → Type 0
@@ -40,9 +40,9 @@ whole =
       taken = in_range;
       Known = λ z. in_range z ≡ true;
       finite = λ z. true;
-      near = nearestOf;
-      nears = map nearestOf;
-      lesser = lesserOf;
+      near = nearest_of;
+      nears = map nearest_of;
+      lesser = lesser_of;
       greater = greater_of;
       greatest = pos 9223372036854775807;
       least = negsuc 9223372036854775807;
@@ -54,10 +54,10 @@ whole =
       Extreme = Extreme;
       none = None;
       value = Value;
-      isShown = isShown;
-      smaller = smallerOf;
-      larger = largerOf;
-      finiteOrNone = bothOrNone;
+      is_shown = is_shown;
+      smaller = smaller_of;
+      larger = larger_of;
+      finite_or_none = both_or_none;
       SameExtreme = SameExtreme;
       SumStands = SumStands;
       Within = Light;

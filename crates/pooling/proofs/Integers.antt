@@ -8,7 +8,7 @@ use lib.ListN.{length, get_or}
 use Rattle.laws.specs.Pick.{pick}
 use Rattle.laws.proofs.Bools.{not-both, pick_true, pick-false}
 use Rattle.laws.proofs.Cases.{true-not-false}
-use Rattle.listing.specs.Listed.{pointAt}
+use Rattle.listing.specs.Listed.{point_at}
 use Rattle.listing.specs.declared.Cursor.{Cursor}
 use Rattle.listing.specs.declared.Found.{Found}
 use Rattle.listing.specs.declared.Found.TheVariants.{NoPoint, Is}
@@ -17,43 +17,43 @@ use Rattle.whole_listing.specs.Listed.{is_whole}
 use Rattle.whole_listing.specs.declared.Entry.{Entry}
 use Rattle.whole_listing.specs.declared.Found as WF
 use Rattle.whole_listing.specs.declared.Found.TheVariants as WV
-use Rattle.whole_listing.proofs.There.{shadowOutput}
+use Rattle.whole_listing.proofs.There.{shadow_output}
 use Rattle.whole_listing.proofs.Readers as Readers
 use Rattle.whole_listing.proofs.Readers.{Told, shadow-found, kind-real, whole-told}
-use Rattle.pooling.specs.Lists.{Source, bounded, whole_at, boundedInteger, integerAt}
-use Rattle.pooling.specs.Entries.{Whole, shadowEntry}
-use Rattle.pooling.proofs.Whole.{bounded-in, point-told, whole-lies}
+use Rattle.pooling.specs.Lists.{Source, bounded, whole_at, bounded_integer, integer_at}
+use Rattle.pooling.specs.Entries.{Whole, shadow_entry}
+use Rattle.pooling.proofs.Whole.{bounded_in, point-told, whole-lies}
 
 abbrev present : WF.Found → Bool
 present WV.NoPoint = false
 present (WV.Is e) = true
 
-abbrev entryOr : Entry → WF.Found → Entry
-entryOr d WV.NoPoint = d
-entryOr d (WV.Is e) = e
+abbrev entry_or : Entry → WF.Found → Entry
+entry_or d WV.NoPoint = d
+entry_or d (WV.Is e) = e
 
 chosen : (t : Bool) (x e : Entry) → pick t (WV.Is x) WV.NoPoint ≡ WV.Is e → (t ≡ true) × (x ≡ e)
 unfolding pick
-chosen true x e h = (refl, ap (entryOr x) h)
+chosen true x e h = (refl, ap (entry_or x) h)
 chosen false x e h = true-not-false (sym (ap present h))
 
-bounded-says : (n : ℕ) (f : WF.Found) (e : Entry) → boundedInteger n f ≡ WV.Is e → (f ≡ WV.Is e) × (leb (e.bounds.start + e.bounds.len) n ≡ true)
+bounded-says : (n : ℕ) (f : WF.Found) (e : Entry) → bounded_integer n f ≡ WV.Is e → (f ≡ WV.Is e) × (leb (e.bounds.start + e.bounds.len) n ≡ true)
 bounded-says n WV.NoPoint e h = true-not-false (sym (ap present h))
 bounded-says n (WV.Is x) e h =
     let c = chosen (leb (x.bounds.start + x.bounds.len) n) x e h in
     (ap WV.Is c.1, subst (λ (y : Entry). leb (y.bounds.start + y.bounds.len) n ≡ true) c.1 c.0)
 
 -- as the code finds it
-pub integer-in : (n : ℕ) (f : WF.Found) (e : Entry) → f ≡ WV.Is e → leb (e.bounds.start + e.bounds.len) n ≡ true → WV.Is e ≡ boundedInteger n f
-integer-in n f e p t = sym (ap (boundedInteger n) p ∙ pick_true (leb (e.bounds.start + e.bounds.len) n) (WV.Is e) WV.NoPoint t)
+pub integer_in : (n : ℕ) (f : WF.Found) (e : Entry) → f ≡ WV.Is e → leb (e.bounds.start + e.bounds.len) n ≡ true → WV.Is e ≡ bounded_integer n f
+integer_in n f e p t = sym (ap (bounded_integer n) p ∙ pick_true (leb (e.bounds.start + e.bounds.len) n) (WV.Is e) WV.NoPoint t)
 
-pub integer-out : (n : ℕ) (f : WF.Found) (e : Entry) → f ≡ WV.Is e → leb (e.bounds.start + e.bounds.len) n ≡ false → WV.NoPoint ≡ boundedInteger n f
-integer-out n f e p t = sym (ap (boundedInteger n) p ∙ pick-false (leb (e.bounds.start + e.bounds.len) n) (WV.Is e) WV.NoPoint t)
+pub integer-out : (n : ℕ) (f : WF.Found) (e : Entry) → f ≡ WV.Is e → leb (e.bounds.start + e.bounds.len) n ≡ false → WV.NoPoint ≡ bounded_integer n f
+integer-out n f e p t = sym (ap (bounded_integer n) p ∙ pick-false (leb (e.bounds.start + e.bounds.len) n) (WV.Is e) WV.NoPoint t)
 
 -- ---- the list of the shadows
 
 abbrev pub shadowed : Source → Source
-shadowed x = record { list = shadowOutput x.list; bounds = x.bounds }
+shadowed x = record { list = shadow_output x.list; bounds = x.bounds }
 
 module _ (at : Cursor) (x : Source) where
   abbrev words : List (List ℕ)
@@ -65,34 +65,34 @@ module _ (at : Cursor) (x : Source) where
   abbrev n : ℕ
   n = length x.list.neg
 
-  pub shadow-whole : (e : Entry) → integerAt at x ≡ WV.Is e → whole_at at (shadowed x) ≡ Is (shadowEntry e)
+  pub shadow-whole : (e : Entry) → integer_at at x ≡ WV.Is e → whole_at at (shadowed x) ≡ Is (shadow_entry e)
   shadow-whole e h =
-      let c = bounded-says (length x.bounds) (WL.pointAt at words m n) e h in
-      sym (bounded-in (length x.bounds) _ (shadowEntry e) (shadow-found at words m n e c.0) c.1)
+      let c = bounded-says (length x.bounds) (WL.point_at at words m n) e h in
+      sym (bounded_in (length x.bounds) _ (shadow_entry e) (shadow-found at words m n e c.0) c.1)
 
-  pub integer-lies : (e : Entry) → integerAt at x ≡ WV.Is e → Whole at (shadowEntry e) (length x.list.pos) (length x.list.neg) (length x.bounds)
-  integer-lies e h = whole-lies at (shadowed x) (shadowEntry e) (shadow-whole e h)
+  pub integer-lies : (e : Entry) → integer_at at x ≡ WV.Is e → Whole at (shadow_entry e) (length x.list.pos) (length x.list.neg) (length x.bounds)
+  integer-lies e h = whole-lies at (shadowed x) (shadow_entry e) (shadow-whole e h)
 
-  pub integer-told : (e : Entry) → integerAt at x ≡ WV.Is e → Told at x.list.words (length x.list.pos) (length x.list.neg) e
-  integer-told e h = Readers.point-told at words m n e (bounded-says (length x.bounds) (WL.pointAt at words m n) e h).0
+  pub integer-told : (e : Entry) → integer_at at x ≡ WV.Is e → Told at x.list.words (length x.list.pos) (length x.list.neg) e
+  integer-told e h = Readers.point-told at words m n e (bounded-says (length x.bounds) (WL.point_at at words m n) e h).0
 
   -- ---- of either number: the kind tells which one may lie there
 
   pub not-real : is_whole at x.list.words ≡ true → whole_at at x ≡ NoPoint
   unfolding is_whole
-  not-real k = ap (bounded (length x.bounds)) (go (pointAt at words m n) refl)
+  not-real k = ap (bounded (length x.bounds)) (go (point_at at words m n) refl)
     where
-      go : (f : Found) → pointAt at words m n ≡ f → f ≡ NoPoint
+      go : (f : Found) → point_at at words m n ≡ f → f ≡ NoPoint
       go NoPoint h = refl
       go (Is e) h = absurd (not-both _ k (kind-real (get_or words at.place []) (point-told at words m n e h).is))
 
-  pub not-whole : is_whole at x.list.words ≡ false → integerAt at x ≡ WV.NoPoint
-  not-whole k = ap (boundedInteger (length x.bounds)) (go (WL.pointAt at words m n) refl)
+  pub not-whole : is_whole at x.list.words ≡ false → integer_at at x ≡ WV.NoPoint
+  not-whole k = ap (bounded_integer (length x.bounds)) (go (WL.point_at at words m n) refl)
     where
-      go : (f : WF.Found) → WL.pointAt at words m n ≡ f → f ≡ WV.NoPoint
+      go : (f : WF.Found) → WL.point_at at words m n ≡ f → f ≡ WV.NoPoint
       go WV.NoPoint h = refl
       go (WV.Is e) h = absurd (not-both _ (whole-told at words m n e h) k)
 
   -- so never both
-  pub never_both : (e : Entry) → integerAt at x ≡ WV.Is e → whole_at at x ≡ NoPoint
-  never_both e h = not-real (whole-told at words m n e (bounded-says (length x.bounds) (WL.pointAt at words m n) e h).0)
+  pub never_both : (e : Entry) → integer_at at x ≡ WV.Is e → whole_at at x ≡ NoPoint
+  never_both e h = not-real (whole-told at words m n e (bounded-says (length x.bounds) (WL.point_at at words m n) e h).0)

@@ -16,14 +16,14 @@ use Rattle.laws.proofs.Bools.{and_left, and_right, pick_true, pick-false}
 use Rattle.laws.proofs.Cases.{true-not-false}
 use Rattle.laws.proofs.Over.{take-over}
 use Rattle.point.specs.declared.Point.{Point}
-use Rattle.point.specs.Handing.{Stored, refusalBefore, countsIn, Outcome, ended, merging}
-use Rattle.points.specs.Handed.{mergeCounts, posOf, neg_of}
+use Rattle.point.specs.Handing.{Stored, refusal_before, counts_in, Outcome, ended, merging}
+use Rattle.points.specs.Handed.{merge_counts, pos_of, neg_of}
 use Rattle.listing.specs.Words.{words_of}
-use Rattle.listing.specs.Listed.{Output, posLen, negLen, behind, overAt, put_at}
+use Rattle.listing.specs.Listed.{Output, pos_len, neg_len, behind, over_at, put_at}
 use Rattle.listing.specs.Inner.{Goes}
 use Rattle.listing.specs.declared.Cursor.{Cursor}
 use Rattle.listing.specs.declared.Span.{Span}
-use Rattle.pooling.specs.Lists.{ends, placed, hasPlace, putMerged, pooled}
+use Rattle.pooling.specs.Lists.{ends, placed, has_place, put_merged, pooled}
 use Rattle.pooling.proofs.Verdicts.{point, lastly, enough, Turned, Taken, verdict}
 
 -- ---- a place at the cursor
@@ -75,8 +75,8 @@ kept : (a : ℕ) (us xs : List ℕ) → us ≡ rest a xs → take a xs ++ (us ++
 kept a us xs e = again a us xs ∙ ap (λ (l : List ℕ). take a xs ++ l) (e ∙ rest-is a xs) ∙ take-append-drop a xs
 
 laid-at : (a n : ℕ) (cs us xs : List ℕ) → length cs ≡ n → us ≡ over cs (rest a xs)
-    → take a xs ++ (us ++ drop (length xs - a) (drop a xs)) ≡ overAt a (take n us) xs
-unfolding overAt
+    → take a xs ++ (us ++ drop (length xs - a) (drop a xs)) ≡ over_at a (take n us) xs
+unfolding over_at
 laid-at a n cs us xs e u =
     let d : us ≡ over cs (drop a xs) = u ∙ ap (over cs) (rest-is a xs) in
     let t : take n us ≡ cs = ap₂ take (sym e) d ∙ take-over cs (drop a xs) in
@@ -86,22 +86,22 @@ laid-at a n cs us xs e u =
 
 -- ---- a merge's answer by its outcome
 
-abbrev pub isSuccess : {A : Type 0} → Said A → Bool
-isSuccess (refusal n) = false
-isSuccess (success z) = true
+abbrev pub is_success : {A : Type 0} → Said A → Bool
+is_success (refusal n) = false
+is_success (success z) = true
 
-abbrev numberOr : {A : Type 0} → ℕ → Said A → ℕ
-numberOr d (refusal n) = n
-numberOr d (success z) = d
+abbrev number_or : {A : Type 0} → ℕ → Said A → ℕ
+number_or d (refusal n) = n
+number_or d (success z) = d
 
-abbrev pointOr : Point → Said Stored → Point
-pointOr d (refusal n) = d
-pointOr d (success z) = z.point
+abbrev point_or : Point → Said Stored → Point
+point_or d (refusal n) = d
+point_or d (success z) = z.point
 
 module _ (size : ℕ) (x y : Stored) (us vs : List ℕ) where
   -- refused
   pub record Back (n : ℕ) (us' vs' : List ℕ) : Type 0 where
-    pub number : lastly (refusalBefore size x y) ≡ n
+    pub number : lastly (refusal_before size x y) ≡ n
     pub pos : us' ≡ us
     pub neg : vs' ≡ vs
 
@@ -111,41 +111,41 @@ module _ (size : ℕ) (x y : Stored) (us vs : List ℕ) where
       (λ (t : (k : ℕ) × Turned size x y us vs k).
       let q = h ∙ t.1.is in
       record {
-        number = t.1.number ∙ sym (ap (λ (o : Outcome). numberOr 0 o.answer) q);
+        number = t.1.number ∙ sym (ap (λ (o : Outcome). number_or 0 o.answer) q);
         pos = ap (λ (o : Outcome). o.pos) q;
         neg = ap (λ (o : Outcome). o.neg) q;
       })
-      (λ (t : Taken size x y us vs). true-not-false (sym (ap (λ (o : Outcome). isSuccess o.answer) (h ∙ t.is))))
+      (λ (t : Taken size x y us vs). true-not-false (sym (ap (λ (o : Outcome). is_success o.answer) (h ∙ t.is))))
       (verdict size x y us vs)
 
   -- taken: counts over the rows, as many as the point says
   pub record Took (b : Span) (p : Point) (us' vs' : List ℕ) : Type 0 where
-    pub free : refusalBefore size x y ≡ 0
+    pub free : refusal_before size x y ≡ 0
     pub is : p ≡ point size x y
-    pub pos : us' ≡ over (posOf (mergeCounts size (countsIn x) (countsIn y))) us
-    pub neg : vs' ≡ over (neg_of (mergeCounts size (countsIn x) (countsIn y))) vs
-    pub many : length (posOf (mergeCounts size (countsIn x) (countsIn y))) ≡ posLen p.figures b
-    pub manyNeg : length (neg_of (mergeCounts size (countsIn x) (countsIn y))) ≡ negLen p.figures
-    pub room : length (posOf (mergeCounts size (countsIn x) (countsIn y))) ≤ length us
-    pub roomNeg : length (neg_of (mergeCounts size (countsIn x) (countsIn y))) ≤ length vs
+    pub pos : us' ≡ over (pos_of (merge_counts size (counts_in x) (counts_in y))) us
+    pub neg : vs' ≡ over (neg_of (merge_counts size (counts_in x) (counts_in y))) vs
+    pub many : length (pos_of (merge_counts size (counts_in x) (counts_in y))) ≡ pos_len p.figures b
+    pub many_neg : length (neg_of (merge_counts size (counts_in x) (counts_in y))) ≡ neg_len p.figures
+    pub room : length (pos_of (merge_counts size (counts_in x) (counts_in y))) ≤ length us
+    pub room_neg : length (neg_of (merge_counts size (counts_in x) (counts_in y))) ≤ length vs
 
   pub took : (b : Span) → length x.bounds ≡ b.len → (p : Point) (us' vs' : List ℕ) → ended (success p) x.bounds us' vs' ≡ merging size x y us vs → Took b p us' vs'
   took b l p us' vs' h =
       ⊎_elim
-      (λ (t : (k : ℕ) × Turned size x y us vs k). true-not-false (ap (λ (o : Outcome). isSuccess o.answer) (h ∙ t.1.is)))
+      (λ (t : (k : ℕ) × Turned size x y us vs k). true-not-false (ap (λ (o : Outcome). is_success o.answer) (h ∙ t.1.is)))
       (λ (t : Taken size x y us vs).
       let q = h ∙ t.is in
-      let e = ap (λ (o : Outcome). pointOr p o.answer) q in
+      let e = ap (λ (o : Outcome). point_or p o.answer) q in
       let m = enough size x y t.free b l in
       record {
         free = t.free;
         is = e;
         pos = ap (λ (o : Outcome). o.pos) q;
         neg = ap (λ (o : Outcome). o.neg) q;
-        many = m.pos ∙ ap (λ (z : Point). posLen z.figures b) (sym e);
-        manyNeg = m.neg ∙ ap (λ (z : Point). negLen z.figures) (sym e);
+        many = m.pos ∙ ap (λ (z : Point). pos_len z.figures b) (sym e);
+        many_neg = m.neg ∙ ap (λ (z : Point). neg_len z.figures) (sym e);
         room = t.pos;
-        roomNeg = t.neg;
+        room_neg = t.neg;
       })
       (verdict size x y us vs)
 
@@ -169,29 +169,29 @@ module _ (size : ℕ) (x y : Stored) (at : Cursor) (row : List ℕ) (b : Span) (
   same : (merging size x y (rest at.pos o.pos) (rest at.neg o.neg)).answer ≡ (merging size x y (drop at.pos o.pos) (drop at.neg o.neg)).answer
   same = ap₂ (λ (u v : List ℕ). (merging size x y u v).answer) (rest-is at.pos o.pos) (rest-is at.neg o.neg)
 
-  pub with-place : hasPlace at o ≡ true
-      → putMerged at row b o (merging size x y (drop at.pos o.pos) (drop at.neg o.neg)).answer ≡ pooled size row b x y at o
+  pub with-place : has_place at o ≡ true
+      → put_merged at row b o (merging size x y (drop at.pos o.pos) (drop at.neg o.neg)).answer ≡ pooled size row b x y at o
   unfolding pooled
-  with-place h = sym (pick_true (hasPlace at o) _ _ h)
+  with-place h = sym (pick_true (has_place at o) _ _ h)
 
-  pub without-place : hasPlace at o ≡ false → ends (refusal (lastly (refusalBefore size x y))) o ≡ pooled size row b x y at o
+  pub without-place : has_place at o ≡ false → ends (refusal (lastly (refusal_before size x y))) o ≡ pooled size row b x y at o
   unfolding pooled
-  without-place h = sym (pick-false (hasPlace at o) _ _ h)
+  without-place h = sym (pick-false (has_place at o) _ _ h)
 
   module _ (i j : ℕ) where
     -- refused, with a place or without
-    by_place : (ok : Bool) → hasPlace at o ≡ ok → i ≡ pick ok at.pos (length o.pos) → j ≡ pick ok at.neg (length o.neg)
-        → (n : ℕ) → lastly (refusalBefore size x y) ≡ n → (merging size x y (rest i o.pos) (rest j o.neg)).answer ≡ refusal n
+    by_place : (ok : Bool) → has_place at o ≡ ok → i ≡ pick ok at.pos (length o.pos) → j ≡ pick ok at.neg (length o.neg)
+        → (n : ℕ) → lastly (refusal_before size x y) ≡ n → (merging size x y (rest i o.pos) (rest j o.neg)).answer ≡ refusal n
         → ends (refusal n) o ≡ pooled size row b x y at o
     unfolding pick
     by_place true t e f n m h =
-        ap (putMerged at row b o) (sym h ∙ (λ k. (merging size x y (rest (e k) o.pos) (rest (f k) o.neg)).answer) ∙ same) ∙ with-place t
+        ap (put_merged at row b o) (sym h ∙ (λ k. (merging size x y (rest (e k) o.pos) (rest (f k) o.neg)).answer) ∙ same) ∙ with-place t
     by_place false t e f n m h = ap (λ (k : ℕ). ends (refusal k) o) (sym m) ∙ without-place t
 
-    module _ (ok : Bool) (t : ok ≡ hasPlace at o) (e : i ≡ pick ok at.pos (length o.pos)) (f : j ≡ pick ok at.neg (length o.neg)) (us vs : List ℕ) where
-      pub refused-law : (n : ℕ) → ended (refusal n) x.bounds us vs ≡ merging size x y (rest i o.pos) (rest j o.neg)
+    module _ (ok : Bool) (t : ok ≡ has_place at o) (e : i ≡ pick ok at.pos (length o.pos)) (f : j ≡ pick ok at.neg (length o.neg)) (us vs : List ℕ) where
+      pub refused_law : (n : ℕ) → ended (refusal n) x.bounds us vs ≡ merging size x y (rest i o.pos) (rest j o.neg)
           → ends (refusal n) (record { sets = o.sets; words = o.words; pos = written i us o.pos; neg = written j vs o.neg }) ≡ pooled size row b x y at o
-      refused-law n h =
+      refused_law n h =
           let q = turned-back size x y (rest i o.pos) (rest j o.neg) n us vs h in
           let p = kept i us o.pos q.pos in
           let m = kept j vs o.neg q.neg in
@@ -203,17 +203,17 @@ module _ (size : ℕ) (x y : Stored) (at : Cursor) (row : List ℕ) (b : Span) (
         taken = took size x y (rest i o.pos) (rest j o.neg) b l p us vs h
 
         -- merged into no counts at all: only the place is wanting
-        pub placeless-law : ok ≡ false
+        pub placeless_law : ok ≡ false
             → ends (refusal 10) (record { sets = o.sets; words = o.words; pos = written i us o.pos; neg = written j vs o.neg }) ≡ pooled size row b x y at o
         unfolding pick
-        placeless-law g =
+        placeless_law g =
             let q = taken in
             let ei : i ≡ length o.pos = e ∙ ap (λ (k : Bool). pick k at.pos (length o.pos)) g in
             let ej : j ≡ length o.neg = f ∙ ap (λ (k : Bool). pick k at.neg (length o.neg)) g in
             let a = ap length (rest-is i o.pos) ∙ length-drop i o.pos in
             let c = ap length (rest-is j o.neg) ∙ length-drop j o.neg in
             let u = kept i us o.pos (none_over _ us (rest i o.pos) (omega (arith, q.room, a, ei)) q.pos) in
-            let v = kept j vs o.neg (none_over _ vs (rest j o.neg) (omega (arith, q.roomNeg, c, ej)) q.neg) in
+            let v = kept j vs o.neg (none_over _ vs (rest j o.neg) (omega (arith, q.room_neg, c, ej)) q.neg) in
             (λ k. ends (refusal 10) (record { sets = o.sets; words = o.words; pos = u k; neg = v k }))
             ∙ ap (λ (k : ℕ). ends (refusal k) o) (sym (ap lastly q.free))
             ∙ without-place (sym t ∙ g)
@@ -233,9 +233,9 @@ module _ (size : ℕ) (x y : Stored) (at : Cursor) (row : List ℕ) (b : Span) (
               let q = taken in
               let a = ap length (rest-is i o.pos) ∙ length-drop i o.pos in
               let c = ap length (rest-is j o.neg) ∙ length-drop j o.neg in
-              (k, omega (arith, q.many, q.room, a, r, m, ei), omega (arith, q.manyNeg, q.roomNeg, c, s, n, ej))
+              (k, omega (arith, q.many, q.room, a, r, m, ei), omega (arith, q.many_neg, q.room_neg, c, s, n, ej))
 
-          pub accepted-law : (ws : List ℕ) (next : Cursor) → ws ≡ words_of p b → next ≡ behind at p.figures b
+          pub accepted_law : (ws : List ℕ) (next : Cursor) → ws ≡ words_of p b → next ≡ behind at p.figures b
               → ends (success next) (record {
                 sets = set o.sets at.place row;
                 words = set o.words at.place ws;
@@ -244,10 +244,10 @@ module _ (size : ℕ) (x y : Stored) (at : Cursor) (row : List ℕ) (b : Span) (
               })
               ≡ pooled size row b x y at o
           unfolding put_at
-          accepted-law ws next w c =
+          accepted_law ws next w c =
               let q = taken in
-              let a = laid-at i (posLen p.figures b) _ us o.pos q.many q.pos ∙ ap (λ (k : ℕ). overAt k (take (posLen p.figures b) us) o.pos) ei in
-              let n = laid-at j (negLen p.figures) _ vs o.neg q.manyNeg q.neg ∙ ap (λ (k : ℕ). overAt k (take (negLen p.figures) vs) o.neg) ej in
+              let a = laid-at i (pos_len p.figures b) _ us o.pos q.many q.pos ∙ ap (λ (k : ℕ). over_at k (take (pos_len p.figures b) us) o.pos) ei in
+              let n = laid-at j (neg_len p.figures) _ vs o.neg q.many_neg q.neg ∙ ap (λ (k : ℕ). over_at k (take (neg_len p.figures) vs) o.neg) ej in
               (λ k. ends (success (c k)) (record { sets = set o.sets at.place row; words = set o.words at.place (w k); pos = a k; neg = n k }))
-              ∙ ap (putMerged at row b o) (ap (λ (k : Outcome). k.answer) h ∙ (λ k. (merging size x y (rest (ei k) o.pos) (rest (ej k) o.neg)).answer) ∙ same)
+              ∙ ap (put_merged at row b o) (ap (λ (k : Outcome). k.answer) h ∙ (λ k. (merging size x y (rest (ei k) o.pos) (rest (ej k) o.neg)).answer) ∙ same)
               ∙ with-place (sym t ∙ g)

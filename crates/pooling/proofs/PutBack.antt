@@ -8,10 +8,10 @@ use lib.Seq.{length-take-le, drop-append_seam, get_or-set_same}
 use lib.Ieee.{Float}
 use Rattle.laws.specs.Over.{over}
 use Rattle.laws.proofs.Over.{length_over, take-over}
-use Rattle.point.specs.Handing.{storedIn}
+use Rattle.point.specs.Handing.{stored_in}
 use Rattle.point.specs.declared.Point.{Point}
 use Rattle.listing.specs.Words.{words_of}
-use Rattle.listing.specs.Listed.{Output, posLen, negLen, behind, overAt, put_at, pointAt, boundsAt, stored_at}
+use Rattle.listing.specs.Listed.{Output, pos_len, neg_len, behind, over_at, put_at, point_at, bounds_at, stored_at}
 use Rattle.listing.specs.declared.Cursor.{Cursor}
 use Rattle.listing.specs.declared.Entry.{Entry}
 use Rattle.listing.specs.declared.Found.TheVariants.{Is}
@@ -32,15 +32,15 @@ module _ (a : ℕ) (ys xs : List ℕ) (h : a + length ys ≤ length xs) where
   front : length (take a xs) ≡ a
   front = length-take-le a xs (omega (arith, h))
 
-  over-long : length (overAt a ys xs) ≡ length xs
-  unfolding overAt
+  over-long : length (over_at a ys xs) ≡ length xs
+  unfolding over_at
   over-long =
       let d = length-drop a xs in
       let l = length_over ys (drop a xs) (omega (arith, h, d)) in
       omega (arith, length-append (take a xs) (over ys (drop a xs)), front, d, l, h)
 
-  over-there : take (length ys) (drop a (overAt a ys xs)) ≡ ys
-  unfolding overAt
+  over-there : take (length ys) (drop a (over_at a ys xs)) ≡ ys
+  unfolding over_at
   over-there =
       let r = over ys (drop a xs) in
       ap (λ (k : ℕ). take (length ys) (drop k (take a xs ++ r))) (sym front)
@@ -56,8 +56,8 @@ module _ (at : Cursor) (row ws : List ℕ) (j k : ℕ) (xs ys : List ℕ) (o : O
       record {
         sets = set o.sets at.place row;
         words = set o.words at.place ws;
-        pos = overAt at.pos (take j xs) o.pos;
-        neg = overAt at.neg (take k ys) o.neg;
+        pos = over_at at.pos (take j xs) o.pos;
+        neg = over_at at.neg (take k ys) o.neg;
       }
 
   lies : Lies at ws (take j xs) (take k ys) laid
@@ -67,8 +67,8 @@ module _ (at : Cursor) (row ws : List ℕ) (j k : ℕ) (xs ys : List ℕ) (o : O
       record {
         place = omega (arith, w, length-set o.words at.place ws);
         words = get_or-set_same o.words at.place ws [] w;
-        posEnd = omega (arith, c, over-long at.pos (take j xs) o.pos c);
-        negEnd = omega (arith, d, over-long at.neg (take k ys) o.neg d);
+        pos_end = omega (arith, c, over-long at.pos (take j xs) o.pos c);
+        neg_end = omega (arith, d, over-long at.neg (take k ys) o.neg d);
         pos = over-there at.pos (take j xs) o.pos c;
         neg = over-there at.neg (take k ys) o.neg d;
       }
@@ -76,13 +76,13 @@ module _ (at : Cursor) (row ws : List ℕ) (j k : ℕ) (xs ys : List ℕ) (o : O
 -- ---- a point of f64 values
 
 module _ (at : Cursor) (row : List ℕ) (p : Point) (b : Span) (xs ys : List ℕ) (o : Output) (h : Held p b)
-    (x : posLen p.figures b ≤ length xs) (y : negLen p.figures ≤ length ys) (s : at.place < length o.sets) (w : at.place < length o.words)
-    (m : at.pos + posLen p.figures b ≤ length o.pos) (n : at.neg + negLen p.figures ≤ length o.neg) where
+    (x : pos_len p.figures b ≤ length xs) (y : neg_len p.figures ≤ length ys) (s : at.place < length o.sets) (w : at.place < length o.words)
+    (m : at.pos + pos_len p.figures b ≤ length o.pos) (n : at.neg + neg_len p.figures ≤ length o.neg) where
   abbrev ps : List ℕ
-  ps = take (posLen p.figures b) xs
+  ps = take (pos_len p.figures b) xs
 
   abbrev ns : List ℕ
-  ns = take (negLen p.figures) ys
+  ns = take (neg_len p.figures) ys
 
   abbrev put : Output
   put = put_at at row p b xs ys o
@@ -98,22 +98,22 @@ module _ (at : Cursor) (row : List ℕ) (p : Point) (b : Span) (xs ys : List ℕ
   unfolding put_at
   lies-there = lies at row (words_of p b) _ _ xs ys o x y w m n
 
-  pub point-there : pointAt at (put_at at row p b xs ys o).words (length (put_at at row p b xs ys o).pos) (length (put_at at row p b xs ys o).neg) ≡ Is entry
+  pub point-there : point_at at (put_at at row p b xs ys o).words (length (put_at at row p b xs ys o).pos) (length (put_at at row p b xs ys o).neg) ≡ Is entry
   point-there = There.point-there at p b ps ns put h (length-take-le _ xs x) (length-take-le _ ys y) lies-there
 
-  pub stored_there : (bounds : List Float) → stored_at at entry bounds put ≡ storedIn p (boundsAt b bounds) ps ns
+  pub stored_there : (bounds : List Float) → stored_at at entry bounds put ≡ stored_in p (bounds_at b bounds) ps ns
   stored_there bounds = There.stored_there at p b ps ns put h (length-take-le _ xs x) (length-take-le _ ys y) lies-there bounds
 
 -- ---- and one of i64 values
 
 module _ (at : Cursor) (row : List ℕ) (p : W.Point) (b : Span) (xs ys : List ℕ) (o : Output) (h : Wb.Held p b)
-    (x : posLen p.figures b ≤ length xs) (y : negLen p.figures ≤ length ys) (s : at.place < length o.sets) (w : at.place < length o.words)
-    (m : at.pos + posLen p.figures b ≤ length o.pos) (n : at.neg + negLen p.figures ≤ length o.neg) where
+    (x : pos_len p.figures b ≤ length xs) (y : neg_len p.figures ≤ length ys) (s : at.place < length o.sets) (w : at.place < length o.words)
+    (m : at.pos + pos_len p.figures b ≤ length o.pos) (n : at.neg + neg_len p.figures ≤ length o.neg) where
   abbrev whole-ps : List ℕ
-  whole-ps = take (posLen p.figures b) xs
+  whole-ps = take (pos_len p.figures b) xs
 
   abbrev whole-ns : List ℕ
-  whole-ns = take (negLen p.figures) ys
+  whole-ns = take (neg_len p.figures) ys
 
   abbrev whole-put : Output
   whole-put = WL.put_at at row p b xs ys o
@@ -129,8 +129,8 @@ module _ (at : Cursor) (row : List ℕ) (p : W.Point) (b : Span) (xs ys : List �
   unfolding WL.put_at
   whole-lies = lies at row (WW.words_of p b) _ _ xs ys o x y w m n
 
-  pub whole-there : WL.pointAt at (WL.put_at at row p b xs ys o).words (length (WL.put_at at row p b xs ys o).pos) (length (WL.put_at at row p b xs ys o).neg) ≡ WV.Is whole-entry
+  pub whole-there : WL.point_at at (WL.put_at at row p b xs ys o).words (length (WL.put_at at row p b xs ys o).pos) (length (WL.put_at at row p b xs ys o).neg) ≡ WV.Is whole-entry
   whole-there = WT.point-there at p b whole-ps whole-ns whole-put h (length-take-le _ xs x) (length-take-le _ ys y) whole-lies
 
-  pub whole-stored : (bounds : List Float) → WL.stored_at at whole-entry bounds whole-put ≡ WH.storedIn p (boundsAt b bounds) whole-ps whole-ns
+  pub whole-stored : (bounds : List Float) → WL.stored_at at whole-entry bounds whole-put ≡ WH.stored_in p (bounds_at b bounds) whole-ps whole-ns
   whole-stored bounds = WT.stored_there at p b whole-ps whole-ns whole-put h (length-take-le _ xs x) (length-take-le _ ys y) whole-lies bounds

@@ -13,27 +13,27 @@ use lib.Ieee.{Float, binary64, add}
 use Rattle.laws.specs.Said.{refusal, success}
 use Rattle.laws.specs.Pick.{pick}
 use Rattle.laws.proofs.Bools.{flag, and_left, and_right, pick_true, pick-false}
-use Rattle.floats.specs.Answers.{smallerOf, largerOf}
+use Rattle.floats.specs.Answers.{smaller_of, larger_of}
 use Rattle.rows.specs.Rows.{over}
-use Rattle.points.specs.Explicit.{bucketCount}
+use Rattle.points.specs.Explicit.{bucket_count}
 use Rattle.points.specs.Figures as F
-use Rattle.points.specs.Handed.{mergeCounts, mergeHanded, posOf, neg_of}
+use Rattle.points.specs.Handed.{merge_counts, merge_handed, pos_of, neg_of}
 use Rattle.points.proofs.Explicit.{buckets-say, merge-buckets-ok}
-use Rattle.explicit.specs.Series.{bucketsIn}
+use Rattle.explicit.specs.Series.{buckets_in}
 use Rattle.point.specs.declared.Point.{Point}
 use Rattle.point.specs.declared.Figures.{Figures}
 use Rattle.point.specs.declared.Figures.TheVariants.{Exponential, Explicit}
-use Rattle.point.specs.Handing.{Stored, countsAs, countsIn, figuresFor, ended, refusalBefore, merging}
+use Rattle.point.specs.Handing.{Stored, counts_as, counts_in, figures_for, ended, refusal_before, merging}
 use Rattle.point.proofs.Laid.{same_count}
 use Rattle.point.proofs.Calls as calls
-use Rattle.point.proofs.Answers.{hasRoom, with-room, no_room}
-use Rattle.listing.specs.Listed.{bucketsOf, posLen, negLen}
+use Rattle.point.proofs.Answers.{has_room, with-room, no_room}
+use Rattle.listing.specs.Listed.{buckets_of, pos_len, neg_len}
 use Rattle.listing.specs.declared.Span.{Span}
 
-pub buckets-are : (bs : List Float) (n : ℕ) → length bs ≡ n → bucketsOf n ≡ bucketCount bs
-buckets-are bs n e = sym (ap bucketsOf e) ∙ go bs
+pub buckets-are : (bs : List Float) (n : ℕ) → length bs ≡ n → buckets_of n ≡ bucket_count bs
+buckets-are bs n e = sym (ap buckets_of e) ∙ go bs
   where
-    go : (bs : List Float) → bucketsOf (length bs) ≡ bucketCount bs
+    go : (bs : List Float) → buckets_of (length bs) ≡ bucket_count bs
     go [] = refl
     go (b ∷ bs) = refl
 
@@ -46,82 +46,82 @@ lastly-some n h = pick-false (eqb n 0) 10 n (ne_eqb n 0 h)
 
 module _ (size : ℕ) (x y : Stored) where
   abbrev made : F.Counts
-  made = mergeCounts size (countsIn x) (countsIn y)
+  made = merge_counts size (counts_in x) (counts_in y)
 
   -- the merged point
   abbrev pub point : Point
   point =
       record {
-        figures = figuresFor (mergeCounts size (countsIn x) (countsIn y));
+        figures = figures_for (merge_counts size (counts_in x) (counts_in y));
         extremes = x.point.extremes;
-        min = smallerOf x.point.min y.point.min;
-        max = largerOf x.point.max y.point.max;
+        min = smaller_of x.point.min y.point.min;
+        max = larger_of x.point.max y.point.max;
         sum = add binary64 x.point.sum y.point.sum;
       }
 
   -- ---- its counts are as many as it says
   pub record Many (c : F.Counts) (b : Span) : Type 0 where
-    pub pos : length (posOf c) ≡ posLen (figuresFor c) b
-    pub neg : length (neg_of c) ≡ negLen (figuresFor c)
+    pub pos : length (pos_of c) ≡ pos_len (figures_for c) b
+    pub neg : length (neg_of c) ≡ neg_len (figures_for c)
 
-  module _ (e : refusalBefore size x y ≡ 0) (b : Span) (l : length x.bounds ≡ b.len) where
+  module _ (e : refusal_before size x y ≡ 0) (b : Span) (l : length x.bounds ≡ b.len) where
     abbrev Enough : Figures → Figures → Type 0
-    Enough f g = Many (mergeCounts size (countsAs f x.bounds x.pos x.neg) (countsAs g y.bounds y.pos y.neg)) b
+    Enough f g = Many (merge_counts size (counts_as f x.bounds x.pos x.neg) (counts_as g y.bounds y.pos y.neg)) b
 
     explicit-many : (n m : ℕ) → x.point.figures ≡ Explicit n → y.point.figures ≡ Explicit m → Enough (Explicit n) (Explicit m)
     explicit-many n m f g =
         let bs = x.bounds in
         let cs = y.bounds in
-        let p = buckets-say bs (bucketsIn bs n x.pos) (calls.ok-first size x y e n m f g) in
-        let q = buckets-say cs (bucketsIn cs m y.pos) (calls.ok-second size x y e n m f g) in
-        let w = (merge-buckets-ok bs cs (bucketsIn bs n x.pos) (bucketsIn cs m y.pos) (same_count bs cs (calls.same size x y e n m f g)) p q).whole in
+        let p = buckets-say bs (buckets_in bs n x.pos) (calls.ok-first size x y e n m f g) in
+        let q = buckets-say cs (buckets_in cs m y.pos) (calls.ok-second size x y e n m f g) in
+        let w = (merge-buckets-ok bs cs (buckets_in bs n x.pos) (buckets_in cs m y.pos) (same_count bs cs (calls.same size x y e n m f g)) p q).whole in
         record { pos = w ∙ sym (buckets-are bs b.len l); neg = refl }
 
     many : (f g : Figures) → x.point.figures ≡ f → y.point.figures ≡ g → Enough f g
     many (Exponential c) (Exponential d) f g = record { pos = refl; neg = refl }
-    many (Exponential c) (Explicit m) f g = absurd (calls.not-mixed size x y e c m f g)
-    many (Explicit n) (Exponential d) f g = absurd (calls.not-mixed-2 size x y e n d f g)
+    many (Exponential c) (Explicit m) f g = absurd (calls.not_mixed size x y e c m f g)
+    many (Explicit n) (Exponential d) f g = absurd (calls.not_mixed_2 size x y e n d f g)
     many (Explicit n) (Explicit m) f g = explicit-many n m f g
 
-    pub enough : Many (mergeCounts size (countsIn x) (countsIn y)) b
+    pub enough : Many (merge_counts size (counts_in x) (counts_in y)) b
     enough = many x.point.figures y.point.figures refl refl
 
   module _ (us vs : List ℕ) where
     -- ---- the verdict
 
     pub record Turned (n : ℕ) : Type 0 where
-      pub number : lastly (refusalBefore size x y) ≡ n
+      pub number : lastly (refusal_before size x y) ≡ n
       pub is : merging size x y us vs ≡ ended (refusal n) x.bounds us vs
 
     pub record Taken : Type 0 where
-      pub free : refusalBefore size x y ≡ 0
-      pub pos : length (posOf (mergeCounts size (countsIn x) (countsIn y))) ≤ length us
-      pub neg : length (neg_of (mergeCounts size (countsIn x) (countsIn y))) ≤ length vs
+      pub free : refusal_before size x y ≡ 0
+      pub pos : length (pos_of (merge_counts size (counts_in x) (counts_in y))) ≤ length us
+      pub neg : length (neg_of (merge_counts size (counts_in x) (counts_in y))) ≤ length vs
       pub is : merging size x y us vs
-          ≡ ended (success point) x.bounds (over (posOf (mergeCounts size (countsIn x) (countsIn y))) us) (over (neg_of (mergeCounts size (countsIn x) (countsIn y))) vs)
+          ≡ ended (success point) x.bounds (over (pos_of (merge_counts size (counts_in x) (counts_in y))) us) (over (neg_of (merge_counts size (counts_in x) (counts_in y))) vs)
 
-    taken : refusalBefore size x y ≡ 0 → hasRoom made us vs ≡ true → Taken
-    unfolding mergeHanded
+    taken : refusal_before size x y ≡ 0 → has_room made us vs ≡ true → Taken
+    unfolding merge_handed
     taken e h =
         record {
           free = e;
-          pos = leb-true _ _ (and_left (leb (length (posOf made)) (length us)) (leb (length (neg_of made)) (length vs)) h);
-          neg = leb-true _ _ (and_right (leb (length (posOf made)) (length us)) (leb (length (neg_of made)) (length vs)) h);
+          pos = leb-true _ _ (and_left (leb (length (pos_of made)) (length us)) (leb (length (neg_of made)) (length vs)) h);
+          neg = leb-true _ _ (and_right (leb (length (pos_of made)) (length us)) (leb (length (neg_of made)) (length vs)) h);
           is = with-room size x y e us vs h;
         }
 
-    turned-10 : refusalBefore size x y ≡ 0 → hasRoom made us vs ≡ false → Turned 10
-    turned-10 e h =
-        record { number = pick_true (eqb (refusalBefore size x y) 0) 10 _ (eq-eqb (refusalBefore size x y) 0 e); is = no_room size x y e us vs h }
+    turned_10 : refusal_before size x y ≡ 0 → has_room made us vs ≡ false → Turned 10
+    turned_10 e h =
+        record { number = pick_true (eqb (refusal_before size x y) 0) 10 _ (eq-eqb (refusal_before size x y) 0 e); is = no_room size x y e us vs h }
 
-    turned-before : (refusalBefore size x y ≡ 0 → ⊥) → Turned (refusalBefore size x y)
+    turned-before : (refusal_before size x y ≡ 0 → ⊥) → Turned (refusal_before size x y)
     turned-before h =
-        record { number = lastly-some (refusalBefore size x y) h; is = sym (calls.refused-law size x y us vs (refusalBefore size x y) refl h) }
+        record { number = lastly-some (refusal_before size x y) h; is = sym (calls.refused_law size x y us vs (refusal_before size x y) refl h) }
 
     pub verdict : ((n : ℕ) × Turned n) ⊎ Taken
     verdict =
         ⊎_elim
-        (λ (e : refusalBefore size x y ≡ 0).
-        ⊎_elim (λ (h : hasRoom made us vs ≡ true). inr (taken e h)) (λ (h : hasRoom made us vs ≡ false). inl (10, turned-10 e h)) (flag (hasRoom made us vs)))
-        (λ (p : 0 < refusalBefore size x y). inl (refusalBefore size x y, turned-before (λ e. omega arith)))
-        (eq-zero-or-pos (refusalBefore size x y))
+        (λ (e : refusal_before size x y ≡ 0).
+        ⊎_elim (λ (h : has_room made us vs ≡ true). inr (taken e h)) (λ (h : has_room made us vs ≡ false). inl (10, turned_10 e h)) (flag (has_room made us vs)))
+        (λ (p : 0 < refusal_before size x y). inl (refusal_before size x y, turned-before (λ e. omega arith)))
+        (eq-zero-or-pos (refusal_before size x y))

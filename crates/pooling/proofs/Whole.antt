@@ -12,11 +12,11 @@ use lib.Ieee.{Float}
 use Rattle.laws.specs.Pick.{pick}
 use Rattle.laws.proofs.Bools.{and_left, and_right, pick_true, pick-false}
 use Rattle.laws.proofs.Cases.{true-not-false}
-use Rattle.listing.specs.Words.{pointIn, boundsIn, isPoint}
+use Rattle.listing.specs.Words.{point_in, bounds_in, is_point}
 use Rattle.laws.specs.Said.{Said}
 use Rattle.point.specs.declared.Point.{Point}
-use Rattle.point.specs.Handing.{Stored, storedIn, ended, refusalBefore, merging}
-use Rattle.listing.specs.Listed.{Output, behind, within, entryIn, pointAt, boundsAt, stored_at}
+use Rattle.point.specs.Handing.{Stored, stored_in, ended, refusal_before, merging}
+use Rattle.listing.specs.Listed.{Output, behind, within, entry_in, point_at, bounds_at, stored_at}
 use Rattle.listing.proofs.There.{between}
 use Rattle.listing.specs.declared.Cursor.{Cursor}
 use Rattle.listing.specs.declared.Entry.{Entry}
@@ -33,14 +33,14 @@ abbrev present : Found → Bool
 present NoPoint = false
 present (Is e) = true
 
-abbrev entryOr : Entry → Found → Entry
-entryOr d NoPoint = d
-entryOr d (Is e) = e
+abbrev entry_or : Entry → Found → Entry
+entry_or d NoPoint = d
+entry_or d (Is e) = e
 
 -- of two choices, the one that is there
 chosen : (t : Bool) (x e : Entry) → pick t (Is x) NoPoint ≡ Is e → (t ≡ true) × (x ≡ e)
 unfolding pick
-chosen true x e h = (refl, ap (entryOr x) h)
+chosen true x e h = (refl, ap (entry_or x) h)
 chosen false x e h = true-not-false (sym (ap present h))
 
 other : (t : Bool) (f : Found) (e : Entry) → pick t NoPoint f ≡ Is e → (t ≡ false) × (f ≡ Is e)
@@ -55,38 +55,38 @@ bounded-says n (Is x) e h =
     (ap Is c.1, subst (λ (y : Entry). y.bounds.start + y.bounds.len ≤ n) c.1 (leb-true _ _ c.0))
 
 -- as the code finds it
-pub bounded-in : (n : ℕ) (f : Found) (e : Entry) → f ≡ Is e → leb (e.bounds.start + e.bounds.len) n ≡ true → Is e ≡ bounded n f
-bounded-in n f e p t = sym (ap (bounded n) p ∙ pick_true (leb (e.bounds.start + e.bounds.len) n) (Is e) NoPoint t)
+pub bounded_in : (n : ℕ) (f : Found) (e : Entry) → f ≡ Is e → leb (e.bounds.start + e.bounds.len) n ≡ true → Is e ≡ bounded n f
+bounded_in n f e p t = sym (ap (bounded n) p ∙ pick_true (leb (e.bounds.start + e.bounds.len) n) (Is e) NoPoint t)
 
 pub bounded-out : (n : ℕ) (f : Found) (e : Entry) → f ≡ Is e → leb (e.bounds.start + e.bounds.len) n ≡ false → NoPoint ≡ bounded n f
 bounded-out n f e p t = sym (ap (bounded n) p ∙ pick-false (leb (e.bounds.start + e.bounds.len) n) (Is e) NoPoint t)
 
 abbrev read : Cursor → List ℕ → Entry
-read at w = record { point = pointIn w; bounds = boundsIn w; next = behind at (pointIn w).figures (boundsIn w) }
+read at w = record { point = point_in w; bounds = bounds_in w; next = behind at (point_in w).figures (bounds_in w) }
 
 -- twelve words are a point's, and its counts are there
 pub record Told (at : Cursor) (words : List (List ℕ)) (pos neg : ℕ) (e : Entry) : Type 0 where
   pub there : at.place < length words
-  pub is : isPoint (get_or words at.place []) ≡ true
-  pub counts : within at (pointIn (get_or words at.place [])).figures (boundsIn (get_or words at.place [])) pos neg ≡ true
-  pub entry : record { point = pointIn (get_or words at.place []); bounds = boundsIn (get_or words at.place []); next = behind at (pointIn (get_or words at.place [])).figures (boundsIn (get_or words at.place [])) } ≡ e
+  pub is : is_point (get_or words at.place []) ≡ true
+  pub counts : within at (point_in (get_or words at.place [])).figures (bounds_in (get_or words at.place [])) pos neg ≡ true
+  pub entry : record { point = point_in (get_or words at.place []); bounds = bounds_in (get_or words at.place []); next = behind at (point_in (get_or words at.place [])).figures (bounds_in (get_or words at.place [])) } ≡ e
 
-pub point-told : (at : Cursor) (words : List (List ℕ)) (pos neg : ℕ) (e : Entry) → pointAt at words pos neg ≡ Is e → Told at words pos neg e
-unfolding pointAt entryIn
+pub point-told : (at : Cursor) (words : List (List ℕ)) (pos neg : ℕ) (e : Entry) → point_at at words pos neg ≡ Is e → Told at words pos neg e
+unfolding point_at entry_in
 point-told at words pos neg e h =
     let w = get_or words at.place [] in
-    let o = other (leb (length words) at.place) (entryIn at w pos neg) e h in
-    let c = chosen (isPoint w && within at (pointIn w).figures (boundsIn w) pos neg) (read at w) e o.1 in
+    let o = other (leb (length words) at.place) (entry_in at w pos neg) e h in
+    let c = chosen (is_point w && within at (point_in w).figures (bounds_in w) pos neg) (read at w) e o.1 in
     record {
       there = leb-false (length words) at.place o.0;
-      is = and_left (isPoint w) _ c.0;
-      counts = and_right (isPoint w) _ c.0;
+      is = and_left (is_point w) _ c.0;
+      counts = and_right (is_point w) _ c.0;
       entry = c.1;
     }
 
 module _ (at : Cursor) (x : Source) (e : Entry) (h : whole_at at x ≡ Is e) where
-  found : (pointAt at x.list.words (length x.list.pos) (length x.list.neg) ≡ Is e) × (e.bounds.start + e.bounds.len ≤ length x.bounds)
-  found = bounded-says (length x.bounds) (pointAt at x.list.words (length x.list.pos) (length x.list.neg)) e h
+  found : (point_at at x.list.words (length x.list.pos) (length x.list.neg) ≡ Is e) × (e.bounds.start + e.bounds.len ≤ length x.bounds)
+  found = bounded-says (length x.bounds) (point_at at x.list.words (length x.list.pos) (length x.list.neg)) e h
 
   pub whole-told : Told at x.list.words (length x.list.pos) (length x.list.neg) e
   whole-told = point-told at x.list.words (length x.list.pos) (length x.list.neg) e found.0
@@ -95,19 +95,19 @@ module _ (at : Cursor) (x : Source) (e : Entry) (h : whole_at at x ≡ Is e) whe
   whole-lies =
       let t = whole-told in
       let w = get_or x.list.words at.place [] in
-      let l = within-says at (pointIn w).figures (boundsIn w) (length x.list.pos) (length x.list.neg) t.counts in
+      let l = within-says at (point_in w).figures (bounds_in w) (length x.list.pos) (length x.list.neg) t.counts in
       let p = ap (λ (y : Entry). y.next.pos) t.entry in
       let n = ap (λ (y : Entry). y.next.neg) t.entry in
       record {
         pos = omega (arith, p);
-        posEnd = omega (arith, p, l.0);
+        pos_end = omega (arith, p, l.0);
         neg = omega (arith, n);
-        negEnd = omega (arith, n, l.1);
+        neg_end = omega (arith, n, l.1);
         bounds = found.1;
       }
 
 -- as many bounds as the span says
-pub bounds-long : (s : Span) (bounds : List Float) → s.start + s.len ≤ length bounds → length (boundsAt s bounds) ≡ s.len
+pub bounds-long : (s : Span) (bounds : List Float) → s.start + s.len ≤ length bounds → length (bounds_at s bounds) ≡ s.len
 bounds-long s bounds h = length-take-le s.len _ (omega (arith, h, length-drop s.start bounds))
 
 -- ---- the parts that the code lends are the stored points' bounds and rows
@@ -118,31 +118,31 @@ part-is k n = omega arith
 module _ (size : ℕ) (a : Cursor) (e : Entry) (abounds : List Float) (x : Output) (b : Cursor) (f : Entry) (bbounds : List Float) (y : Output) where
   abbrev parts_of : Cursor → Entry → List Float → Output → ℕ → Stored
   parts_of at d bounds z k =
-      storedIn d.point (take k (drop d.bounds.start bounds)) (between at.pos d.next.pos z.pos) (between at.neg d.next.neg z.neg)
+      stored_in d.point (take k (drop d.bounds.start bounds)) (between at.pos d.next.pos z.pos) (between at.neg d.next.neg z.neg)
 
-  pub lent-law : (r : Said Point) (us vs us' vs' : List ℕ)
+  pub lent_law : (r : Said Point) (us vs us' vs' : List ℕ)
       → ended r (take (e.bounds.start + e.bounds.len - e.bounds.start) (drop e.bounds.start abounds)) us' vs'
       ≡ merging size
-      (storedIn e.point (take (e.bounds.start + e.bounds.len - e.bounds.start) (drop e.bounds.start abounds))
+      (stored_in e.point (take (e.bounds.start + e.bounds.len - e.bounds.start) (drop e.bounds.start abounds))
       (between a.pos e.next.pos x.pos) (between a.neg e.next.neg x.neg))
-      (storedIn f.point (take (f.bounds.start + f.bounds.len - f.bounds.start) (drop f.bounds.start bbounds))
+      (stored_in f.point (take (f.bounds.start + f.bounds.len - f.bounds.start) (drop f.bounds.start bbounds))
       (between b.pos f.next.pos y.pos) (between b.neg f.next.neg y.neg))
       us vs
-      → ended r (boundsAt e.bounds abounds) us' vs' ≡ merging size (stored_at a e abounds x) (stored_at b f bbounds y) us vs
+      → ended r (bounds_at e.bounds abounds) us' vs' ≡ merging size (stored_at a e abounds x) (stored_at b f bbounds y) us vs
   unfolding pick
-  lent-law r us vs us' vs' h =
+  lent_law r us vs us' vs' h =
       let v = part-is e.bounds.start e.bounds.len in
       let w = part-is f.bounds.start f.bounds.len in
       (λ i. ended r (take (sym v i) (drop e.bounds.start abounds)) us' vs')
       ∙ h
       ∙ (λ i. merging size (parts_of a e abounds x (v i)) (parts_of b f bbounds y (w i)) us vs)
 
-  pub asked-law : (n : ℕ)
-      → n ≡ refusalBefore size (parts_of a e abounds x (e.bounds.start + e.bounds.len - e.bounds.start))
+  pub asked_law : (n : ℕ)
+      → n ≡ refusal_before size (parts_of a e abounds x (e.bounds.start + e.bounds.len - e.bounds.start))
       (parts_of b f bbounds y (f.bounds.start + f.bounds.len - f.bounds.start))
-      → n ≡ refusalBefore size (stored_at a e abounds x) (stored_at b f bbounds y)
+      → n ≡ refusal_before size (stored_at a e abounds x) (stored_at b f bbounds y)
   unfolding pick
-  asked-law n h =
+  asked_law n h =
       let v = part-is e.bounds.start e.bounds.len in
       let w = part-is f.bounds.start f.bounds.len in
-      h ∙ (λ i. refusalBefore size (parts_of a e abounds x (v i)) (parts_of b f bbounds y (w i)))
+      h ∙ (λ i. refusal_before size (parts_of a e abounds x (v i)) (parts_of b f bbounds y (w i)))

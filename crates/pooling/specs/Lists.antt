@@ -4,15 +4,15 @@ use Rattle.std.specs.Prelude.{ℕ, ◌+◌, ◌≡◌, Bool, ◌&&◌, List, [],
 use Rattle.std.specs.Borrow.{Bor}
 use Rattle.laws.specs.Pick.{pick}
 use Rattle.laws.specs.Said.{Said, refusal, success}
-use Rattle.point.specs.Handing.{Stored, storedIn, handedIn, refusalBefore, merging}
-use Rattle.listing.specs.Listed.{Output, output, posLen, negLen, behind, put_at, pointAt, stored_at}
+use Rattle.point.specs.Handing.{Stored, stored_in, handed_in, refusal_before, merging}
+use Rattle.listing.specs.Listed.{Output, output, pos_len, neg_len, behind, put_at, point_at, stored_at}
 use Rattle.listing.specs.declared.Cursor.{Cursor}
 use Rattle.listing.specs.declared.Entry.{Entry}
 use Rattle.listing.specs.declared.Found.{Found}
 use Rattle.listing.specs.declared.Found.TheVariants.{NoPoint, Is}
 use Rattle.listing.specs.declared.Span.{Span}
 use Rattle.whole_point.specs.Handing as W
-use Rattle.whole_point.specs.Handing.{mixedNumber}
+use Rattle.whole_point.specs.Handing.{mixed_number}
 use Rattle.whole_listing.specs.Listed as WL
 use Rattle.whole_listing.specs.declared.Entry as WE
 use Rattle.whole_listing.specs.declared.Found as WF
@@ -41,15 +41,15 @@ bounded n NoPoint = NoPoint
 bounded n (Is e) = pick (leb (e.bounds.start + e.bounds.len) n) (Is e) NoPoint
 
 abbrev pub whole_at : Cursor → Source → Found
-whole_at at x = bounded (length x.bounds) (pointAt at x.list.words (length x.list.pos) (length x.list.neg))
+whole_at at x = bounded (length x.bounds) (point_at at x.list.words (length x.list.pos) (length x.list.neg))
 
 -- the point of i64 values there, likewise
-abbrev pub boundedInteger : ℕ → WF.Found → WF.Found
-boundedInteger n WV.NoPoint = WV.NoPoint
-boundedInteger n (WV.Is e) = pick (leb (e.bounds.start + e.bounds.len) n) (WV.Is e) WV.NoPoint
+abbrev pub bounded_integer : ℕ → WF.Found → WF.Found
+bounded_integer n WV.NoPoint = WV.NoPoint
+bounded_integer n (WV.Is e) = pick (leb (e.bounds.start + e.bounds.len) n) (WV.Is e) WV.NoPoint
 
-abbrev pub integerAt : Cursor → Source → WF.Found
-integerAt at x = boundedInteger (length x.bounds) (WL.pointAt at x.list.words (length x.list.pos) (length x.list.neg))
+abbrev pub integer_at : Cursor → Source → WF.Found
+integer_at at x = bounded_integer (length x.bounds) (WL.point_at at x.list.words (length x.list.pos) (length x.list.neg))
 
 -- what lies at a cursor: no point, a point of f64 values or one of i64 values; never both (the law `never_both`)
 pub data Seen : Type 0 where
@@ -80,55 +80,55 @@ ends r o = record { answer = r; output = o }
 abbrev pub placed : Cursor → ℕ → ℕ → ℕ → ℕ → Bool
 placed at sets words pos neg = leb (at.place + 1) sets && (leb (at.place + 1) words && (leb at.pos pos && leb at.neg neg))
 
-abbrev pub hasPlace : Cursor → Output → Bool
-hasPlace at o = placed at (length o.sets) (length o.words) (length o.pos) (length o.neg)
+abbrev pub has_place : Cursor → Output → Bool
+has_place at o = placed at (length o.sets) (length o.words) (length o.pos) (length o.neg)
 
 -- "Every refusal changes nothing"; else the merged point is put at the cursor with a row and a span of bounds, and the next cursor answered
-abbrev pub putMerged : Cursor → List ℕ → Span → Output → Said Stored → Outcome
-putMerged at row b o (refusal n) = ends (refusal n) o
-putMerged at row b o (success z) =
+abbrev pub put_merged : Cursor → List ℕ → Span → Output → Said Stored → Outcome
+put_merged at row b o (refusal n) = ends (refusal n) o
+put_merged at row b o (success z) =
     ends (success (behind at z.point.figures b)) (put_at at row z.point b z.pos z.neg o)
 
 -- two points merged into the counts from the cursor on. "Merging: 1, 8, 11, 9, 10": without a place it is 10 unless a number comes before
 unfoldable pub pooled : ℕ → List ℕ → Span → Stored → Stored → Cursor → Output → Outcome
 pooled size row b x y at o =
-    let n = refusalBefore size x y in
-    pick (hasPlace at o)
-    (putMerged at row b o (merging size x y (drop at.pos o.pos) (drop at.neg o.neg)).answer)
+    let n = refusal_before size x y in
+    pick (has_place at o)
+    (put_merged at row b o (merging size x y (drop at.pos o.pos) (drop at.neg o.neg)).answer)
     (ends (refusal (pick (eqb n 0) 10 n)) o)
 
 -- the same of points of i64 values: "Merging: 1, 8, 11, 9, 16, 10"
-abbrev pub putMergedWhole : Cursor → List ℕ → Span → Output → Said W.Stored → Outcome
-putMergedWhole at row b o (refusal n) = ends (refusal n) o
-putMergedWhole at row b o (success z) =
+abbrev pub put_merged_whole : Cursor → List ℕ → Span → Output → Said W.Stored → Outcome
+put_merged_whole at row b o (refusal n) = ends (refusal n) o
+put_merged_whole at row b o (success z) =
     ends (success (behind at z.point.figures b)) (WL.put_at at row z.point b z.pos z.neg o)
 
-unfoldable pub pooledWholes : ℕ → List ℕ → Span → W.Stored → W.Stored → Cursor → Output → Outcome
-pooledWholes size row b x y at o =
-    let n = W.refusalBefore size x y in
-    pick (hasPlace at o)
-    (putMergedWhole at row b o (W.merging size x y (drop at.pos o.pos) (drop at.neg o.neg)).answer)
+unfoldable pub pooled_wholes : ℕ → List ℕ → Span → W.Stored → W.Stored → Cursor → Output → Outcome
+pooled_wholes size row b x y at o =
+    let n = W.refusal_before size x y in
+    pick (has_place at o)
+    (put_merged_whole at row b o (W.merging size x y (drop at.pos o.pos) (drop at.neg o.neg)).answer)
     (ends (refusal (pick (eqb n 0) 10 n)) o)
 
 -- 8 where no point lies. Else with a set's row and the first's bounds; "An i64 point gives 11 merged with an f64 one", after 1 and 8
-abbrev pub pooledSeen : ℕ → List ℕ → Cursor → Source → Cursor → Source → Cursor → Output → Seen → Seen → Outcome
-pooledSeen size row a x b y at o nothing f = ends (refusal 8) o
-pooledSeen size row a x b y at o (real e) nothing = ends (refusal 8) o
-pooledSeen size row a x b y at o (real e) (real f) =
+abbrev pub pooled_seen : ℕ → List ℕ → Cursor → Source → Cursor → Source → Cursor → Output → Seen → Seen → Outcome
+pooled_seen size row a x b y at o nothing f = ends (refusal 8) o
+pooled_seen size row a x b y at o (real e) nothing = ends (refusal 8) o
+pooled_seen size row a x b y at o (real e) (real f) =
     pooled size row e.bounds (stored_at a e x.bounds x.list) (stored_at b f y.bounds y.list) at o
-pooledSeen size row a x b y at o (real e) (whole f) =
-    ends (refusal (mixedNumber size (WL.stored_at b f y.bounds y.list) (stored_at a e x.bounds x.list))) o
-pooledSeen size row a x b y at o (whole e) nothing = ends (refusal 8) o
-pooledSeen size row a x b y at o (whole e) (real f) =
-    ends (refusal (mixedNumber size (WL.stored_at a e x.bounds x.list) (stored_at b f y.bounds y.list))) o
-pooledSeen size row a x b y at o (whole e) (whole f) =
-    pooledWholes size row e.bounds (WL.stored_at a e x.bounds x.list) (WL.stored_at b f y.bounds y.list) at o
+pooled_seen size row a x b y at o (real e) (whole f) =
+    ends (refusal (mixed_number size (WL.stored_at b f y.bounds y.list) (stored_at a e x.bounds x.list))) o
+pooled_seen size row a x b y at o (whole e) nothing = ends (refusal 8) o
+pooled_seen size row a x b y at o (whole e) (real f) =
+    ends (refusal (mixed_number size (WL.stored_at a e x.bounds x.list) (stored_at b f y.bounds y.list))) o
+pooled_seen size row a x b y at o (whole e) (whole f) =
+    pooled_wholes size row e.bounds (WL.stored_at a e x.bounds x.list) (WL.stored_at b f y.bounds y.list) at o
 
 -- "the result has the first's" set; 8 also where no set's row lies at the first's place
-unfoldable pub pooledAt : ℕ → Cursor → Source → Cursor → Source → Cursor → Output → Outcome
-pooledAt size a x b y at o =
+unfoldable pub pooled_at : ℕ → Cursor → Source → Cursor → Source → Cursor → Output → Outcome
+pooled_at size a x b y at o =
     pick (leb (length x.list.sets) a.place) (ends (refusal 8) o)
-    (pooledSeen size (get_or x.list.sets a.place []) a x b y at o (seen (whole_at a x) (integerAt a x)) (seen (whole_at b y) (integerAt b y)))
+    (pooled_seen size (get_or x.list.sets a.place []) a x b y at o (seen (whole_at a x) (integer_at a x)) (seen (whole_at b y) (integer_at b y)))
 
 -- ---- the merged point in the output
 
@@ -139,18 +139,18 @@ entry_of at b z = record { point = z.point; bounds = b; next = behind at z.point
 -- the output holds z there: its set's row, its point, and it reads as z
 pub record Holds (at : Cursor) (row : List ℕ) (b : Span) (bounds : List Float) (z : Stored) (o : Output) : Type 0 where
   pub set : get_or o.sets at.place [] ≡ row
-  pub point : pointAt at o.words (length o.pos) (length o.neg) ≡ Is (entry_of at b z)
+  pub point : point_at at o.words (length o.pos) (length o.neg) ≡ Is (entry_of at b z)
   pub stored : stored_at at (entry_of at b z) bounds o
-      ≡ storedIn z.point z.bounds (take (posLen z.point.figures b) z.pos) (take (negLen z.point.figures) z.neg)
-  pub reads : handedIn (stored_at at (entry_of at b z) bounds o) ≡ handedIn z
+      ≡ stored_in z.point z.bounds (take (pos_len z.point.figures b) z.pos) (take (neg_len z.point.figures) z.neg)
+  pub reads : handed_in (stored_at at (entry_of at b z) bounds o) ≡ handed_in z
 
 -- the same of a point of i64 values
-abbrev pub entryOfWhole : Cursor → Span → W.Stored → WE.Entry
-entryOfWhole at b z = record { point = z.point; bounds = b; next = behind at z.point.figures b }
+abbrev pub entry_of_whole : Cursor → Span → W.Stored → WE.Entry
+entry_of_whole at b z = record { point = z.point; bounds = b; next = behind at z.point.figures b }
 
 pub record HoldsWhole (at : Cursor) (row : List ℕ) (b : Span) (bounds : List Float) (z : W.Stored) (o : Output) : Type 0 where
   pub set : get_or o.sets at.place [] ≡ row
-  pub point : WL.pointAt at o.words (length o.pos) (length o.neg) ≡ WV.Is (entryOfWhole at b z)
-  pub stored : WL.stored_at at (entryOfWhole at b z) bounds o
-      ≡ W.storedIn z.point z.bounds (take (posLen z.point.figures b) z.pos) (take (negLen z.point.figures) z.neg)
-  pub reads : W.handedIn (WL.stored_at at (entryOfWhole at b z) bounds o) ≡ W.handedIn z
+  pub point : WL.point_at at o.words (length o.pos) (length o.neg) ≡ WV.Is (entry_of_whole at b z)
+  pub stored : WL.stored_at at (entry_of_whole at b z) bounds o
+      ≡ W.stored_in z.point z.bounds (take (pos_len z.point.figures b) z.pos) (take (neg_len z.point.figures) z.neg)
+  pub reads : W.handed_in (WL.stored_at at (entry_of_whole at b z) bounds o) ≡ W.handed_in z

@@ -1,10 +1,10 @@
 // The two points that are merged, read from their lists: of f64 values, or of i64 values and then merged by their shadows.
 ghost use Rattle.std.specs.Prelude.{◌≡◌};
-ghost use Rattle.point.specs.Handing.{ended, refusalBefore, merging};
+ghost use Rattle.point.specs.Handing.{ended, refusal_before, merging};
 ghost use Rattle.point.specs.Handing as Handing;
-ghost use Rattle.listing.specs.Listed.{boundsAt};
-ghost use Rattle.pooling.specs.Lists.{nameless, bounded, whole_at, boundedInteger, integerAt};
-ghost use Rattle.pooling.specs.Entries.{wholeIn, storedOf, shadowEntry};
+ghost use Rattle.listing.specs.Listed.{bounds_at};
+ghost use Rattle.pooling.specs.Lists.{nameless, bounded, whole_at, bounded_integer, integer_at};
+ghost use Rattle.pooling.specs.Entries.{whole_in, stored_of, shadow_entry};
 
 use listing::{Cursor, Entry, Found};
 use point::Answer;
@@ -35,7 +35,7 @@ pub fn whole_at(at: Cursor, words: &[[u64; 12]], pos: &[u64], neg: &[u64], bound
 
 // The same of a point of i64 values.
 fn bounded_integer(many: usize, found: whole_listing::Found) -> whole_listing::Found
-    ensures { result ≡ boundedInteger many found }
+    ensures { result ≡ bounded_integer many found }
 {
     match found {
         whole_listing::Found::NoPoint => whole_listing::Found::NoPoint,
@@ -56,7 +56,7 @@ pub fn integer_at(
     neg: &[u64],
     bounds: &[f64],
 ) -> whole_listing::Found
-    ensures { result ≡ integerAt at (nameless words.entry pos.entry neg.entry bounds.entry) }
+    ensures { result ≡ integer_at at (nameless words.entry pos.entry neg.entry bounds.entry) }
 {
     let found = whole_listing::read::point_at(at, words, pos, neg);
     bounded_integer(bounds.len(), found)
@@ -64,7 +64,7 @@ pub fn integer_at(
 
 // The entry of its shadow: the f64 point with the same counts and bounds.
 pub fn shadow_entry(e: whole_listing::Entry) -> Entry
-    ensures { result ≡ shadowEntry e }
+    ensures { result ≡ shadow_entry e }
 {
     let p = e.point;
     let shadow = whole_point::shadow_of(p);
@@ -91,9 +91,9 @@ pub fn refusal_entries(
     bpos: &[u64],
     bneg: &[u64],
 ) -> u8
-    requires { wholeIn a e abounds apos aneg × wholeIn b f bbounds bpos bneg }
-    ensures { result ≡ refusalBefore size (storedOf a e abounds.entry apos.entry aneg.entry)
-        (storedOf b f bbounds.entry bpos.entry bneg.entry) }
+    requires { whole_in a e abounds apos aneg × whole_in b f bbounds bpos bneg }
+    ensures { result ≡ refusal_before size (stored_of a e abounds.entry apos.entry aneg.entry)
+        (stored_of b f bbounds.entry bpos.entry bneg.entry) }
 {
     let s = e.bounds;
     let t = f.bounds;
@@ -142,9 +142,9 @@ pub fn merge_entries(
     pos: &mut [u64],
     neg: &mut [u64],
 ) -> Answer
-    requires { wholeIn a e abounds apos aneg × wholeIn b f bbounds bpos bneg }
-    ensures { ended (Handing.said result) (boundsAt e.bounds abounds.now) pos.new neg.new
-        ≡ merging size (storedOf a e abounds.entry apos.entry aneg.entry) (storedOf b f bbounds.entry bpos.entry bneg.entry)
+    requires { whole_in a e abounds apos aneg × whole_in b f bbounds bpos bneg }
+    ensures { ended (Handing.said result) (bounds_at e.bounds abounds.now) pos.new neg.new
+        ≡ merging size (stored_of a e abounds.entry apos.entry aneg.entry) (stored_of b f bbounds.entry bpos.entry bneg.entry)
         pos.old neg.old }
 {
     let s = e.bounds;

@@ -5,8 +5,8 @@ mod write;
 
 ghost use Rattle.std.specs.Prelude.{◌≡◌};
 ghost use Rattle.listing.specs.Listed.{output};
-ghost use Rattle.pooling.specs.Lists.{source, nameless, said, ends, pooledAt};
-ghost use Rattle.pooling.specs.Entries.{pooledReals};
+ghost use Rattle.pooling.specs.Lists.{source, nameless, said, ends, pooled_at};
+ghost use Rattle.pooling.specs.Entries.{pooled_reals};
 
 use listing::{Cursor, Found};
 
@@ -38,7 +38,7 @@ fn merge_reals(
     neg: &mut [u64],
 ) -> Pooled
     ensures { ends (said result) (output sets.exit words.exit pos.exit neg.exit)
-        ≡ pooledReals size row a (nameless awords.entry apos.entry aneg.entry abounds.entry)
+        ≡ pooled_reals size row a (nameless awords.entry apos.entry aneg.entry abounds.entry)
         b (nameless bwords.entry bpos.entry bneg.entry bbounds.entry)
         at (output sets.entry words.entry pos.entry neg.entry) }
 {
@@ -79,7 +79,7 @@ pub fn merge_at(
     neg: &mut [u64],
 ) -> Pooled
     ensures { ends (said result) (output sets.exit words.exit pos.exit neg.exit)
-        ≡ pooledAt size a (source asets.entry awords.entry apos.entry aneg.entry abounds.entry)
+        ≡ pooled_at size a (source asets.entry awords.entry apos.entry aneg.entry abounds.entry)
         b (nameless bwords.entry bpos.entry bneg.entry bbounds.entry)
         at (output sets.entry words.entry pos.entry neg.entry) }
 {

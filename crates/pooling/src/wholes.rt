@@ -1,8 +1,8 @@
 // Points of i64 values in the lists: two of them merged by their shadows, and one beside a point of f64 values.
 ghost use Rattle.std.specs.Prelude.{◌≡◌};
 ghost use Rattle.listing.specs.Listed.{output};
-ghost use Rattle.pooling.specs.Lists.{nameless, said, ends, pooledWholes};
-ghost use Rattle.pooling.specs.Entries.{wholeIn, whole_of, shadowEntry, renumbered, Numberable, pooledIntegers, mixedAt};
+ghost use Rattle.pooling.specs.Lists.{nameless, said, ends, pooled_wholes};
+ghost use Rattle.pooling.specs.Entries.{whole_in, whole_of, shadow_entry, renumbered, Numberable, pooled_integers, mixed_at};
 
 use crate::Pooled;
 use integers::{Extreme, Total};
@@ -51,9 +51,9 @@ fn pool(
     pos: &mut [u64],
     neg: &mut [u64],
 ) -> Pooled
-    requires { wholeIn a (shadowEntry e) abounds apos aneg × wholeIn b (shadowEntry f) bbounds bpos bneg }
+    requires { whole_in a (shadow_entry e) abounds apos aneg × whole_in b (shadow_entry f) bbounds bpos bneg }
     ensures { ends (said result) (output sets.exit words.exit pos.exit neg.exit)
-        ≡ pooledWholes size row e.bounds (whole_of a e abounds.entry apos.entry aneg.entry)
+        ≡ pooled_wholes size row e.bounds (whole_of a e abounds.entry apos.entry aneg.entry)
         (whole_of b f bbounds.entry bpos.entry bneg.entry) at (output sets.entry words.entry pos.entry neg.entry) }
 {
     let p = e.point;
@@ -106,7 +106,7 @@ pub fn merge(
     neg: &mut [u64],
 ) -> Pooled
     ensures { ends (said result) (output sets.exit words.exit pos.exit neg.exit)
-        ≡ pooledIntegers size row a (nameless awords.entry apos.entry aneg.entry abounds.entry)
+        ≡ pooled_integers size row a (nameless awords.entry apos.entry aneg.entry abounds.entry)
         b (nameless bwords.entry bpos.entry bneg.entry bbounds.entry)
         at (output sets.entry words.entry pos.entry neg.entry) }
 {
@@ -138,7 +138,7 @@ pub fn mixed(
     bneg: &[u64],
     bbounds: &[f64],
 ) -> u8
-    ensures { result ≡ mixedAt size a (nameless awords.entry apos.entry aneg.entry abounds.entry)
+    ensures { result ≡ mixed_at size a (nameless awords.entry apos.entry aneg.entry abounds.entry)
         b (nameless bwords.entry bpos.entry bneg.entry bbounds.entry) }
 {
     let first = crate::entries::integer_at(a, awords, apos, aneg, abounds);

@@ -3,7 +3,7 @@ ghost use Rattle.std.specs.Prelude.{◌≡◌};
 ghost use Rattle.laws.specs.Pick.{pick};
 ghost use Rattle.listing.specs.Listed.{output};
 ghost use Rattle.pooling.specs.Lists.{said, ends, placed, pooled};
-ghost use Rattle.pooling.specs.Entries.{wholeIn, storedOf};
+ghost use Rattle.pooling.specs.Entries.{whole_in, stored_of};
 
 use crate::Pooled;
 use listing::{Cursor, Entry};
@@ -55,9 +55,9 @@ pub fn pool(
     pos: &mut [u64],
     neg: &mut [u64],
 ) -> Pooled
-    requires { wholeIn a e abounds apos aneg × wholeIn b f bbounds bpos bneg }
+    requires { whole_in a e abounds apos aneg × whole_in b f bbounds bpos bneg }
     ensures { ends (said result) (output sets.exit words.exit pos.exit neg.exit)
-        ≡ pooled size row e.bounds (storedOf a e abounds.entry apos.entry aneg.entry) (storedOf b f bbounds.entry bpos.entry bneg.entry)
+        ≡ pooled size row e.bounds (stored_of a e abounds.entry apos.entry aneg.entry) (stored_of b f bbounds.entry bpos.entry bneg.entry)
         at (output sets.entry words.entry pos.entry neg.entry) }
 {
     let ok = has_place(at, sets.len(), words.len(), pos.len(), neg.len());

@@ -1,9 +1,9 @@
 -- The fields of the lines that are printed, each a list of bytes. Document 01: 'One space parts fields', '`-` is the empty set. Other sets are
 -- KEY:VALUE joined by commas', 'row as offset:counts'. Bytes are ASCII: newline 10, space 32, `,` 44, `-` 45, `:` 58. Assumes nothing.
 use Rattle.std.specs.Prelude.{ℕ, List, [], ◌∷◌, ◌++◌, map, Float}
-use Rattle.text.specs.Numbers.{hexDigits}
+use Rattle.text.specs.Numbers.{hex_digits}
 use Rattle.lines.specs.Written.{decimal, signed}
-use Rattle.floats.specs.Answers.{bitsOf}
+use Rattle.floats.specs.Answers.{bits_of}
 use Rattle.floats.specs.declared.Extreme.{Extreme}
 use Rattle.floats.specs.declared.Extreme.TheVariants.{None, Value}
 use Rattle.index.specs.declared.signed.Integer.{Integer}
@@ -33,26 +33,26 @@ line fields = joined 32 fields ++ (10 ∷ [])
 
 -- ---- one field
 
-unfoldable pub attributeField : ℕ × ℕ → List ℕ
-attributeField a = decimal a.0 ++ (58 ∷ decimal a.1)
+unfoldable pub attribute_field : ℕ × ℕ → List ℕ
+attribute_field a = decimal a.0 ++ (58 ∷ decimal a.1)
 
-unfoldable pub setField : Set → List ℕ
-setField s = listed (map attributeField s)
+unfoldable pub set_field : Set → List ℕ
+set_field s = listed (map attribute_field s)
 
 -- bits, 7FF8000000000000 for every NaN
-unfoldable pub floatField : Float → List ℕ
-floatField x = hexDigits 16 (bitsOf x)
+unfoldable pub float_field : Float → List ℕ
+float_field x = hex_digits 16 (bits_of x)
 
 -- docs/REPLAY.md: "an extreme that is not kept is `-`"
-abbrev pub extremeField : Extreme → List ℕ
-extremeField None = 45 ∷ []
-extremeField (Value x) = floatField x
+abbrev pub extreme_field : Extreme → List ℕ
+extreme_field None = 45 ∷ []
+extreme_field (Value x) = float_field x
 
 -- a scale or an offset, `-` where it is out of range
-abbrev pub integerField : Integer → List ℕ
-integerField OutOfRange = 45 ∷ []
-integerField (Is z) = signed z
+abbrev pub integer_field : Integer → List ℕ
+integer_field OutOfRange = 45 ∷ []
+integer_field (Is z) = signed z
 
 -- "row as offset:counts. An empty row is `0:`"
-unfoldable pub rowField : Integer → List ℕ → List ℕ
-rowField offset counts = integerField offset ++ (58 ∷ joined 44 (map decimal counts))
+unfoldable pub row_field : Integer → List ℕ → List ℕ
+row_field offset counts = integer_field offset ++ (58 ∷ joined 44 (map decimal counts))

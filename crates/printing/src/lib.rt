@@ -9,16 +9,16 @@
 // Each function puts its text behind the n bytes that are there, and says how many there are then.
 ghost use Rattle.std.specs.Prelude.{◌≡◌, true, false, [], ◌∷◌, map, eqb, take};
 ghost use Rattle.laws.specs.Pick.{pick};
-ghost use Rattle.text.specs.Numbers.{hexDigits};
+ghost use Rattle.text.specs.Numbers.{hex_digits};
 ghost use Rattle.lines.specs.Gathered.{waiting, ◌behind◌};
 ghost use Rattle.lines.specs.Written.{decimal};
-ghost use Rattle.sets.specs.Rows.{pair, setOf};
-ghost use Rattle.point.specs.Handing.{storedIn};
+ghost use Rattle.sets.specs.Rows.{pair, set_of};
+ghost use Rattle.point.specs.Handing.{stored_in};
 ghost use Rattle.mean.specs.Mean.{said};
-ghost use Rattle.listing.specs.Listed.{output as listedIn, rowAt, boundsAt};
-ghost use Rattle.printing.specs.Fields.{each, joined, attributeField, setField, floatField, extremeField, integerField, rowField};
-ghost use Rattle.printing.specs.Printed.{heldFields, exponentialFields, explicitFields, pointLine, meanFields, cardLine, line_of};
-ghost use Rattle.printing.specs.Printed.{line_at, next_at, collectionHead, collectionLines, value_at, valueLines, unreadLine};
+ghost use Rattle.listing.specs.Listed.{output as listed_in, row_at, bounds_at};
+ghost use Rattle.printing.specs.Fields.{each, joined, attribute_field, set_field, float_field, extreme_field, integer_field, row_field};
+ghost use Rattle.printing.specs.Printed.{held_fields, exponential_fields, explicit_fields, point_line, mean_fields, card_line, line_of};
+ghost use Rattle.printing.specs.Printed.{line_at, next_at, collection_head, collection_lines, value_at, value_lines, unread_line};
 
 use floats::Extreme;
 use index::signed::Integer;
@@ -51,7 +51,7 @@ pub fn number(text: &mut Block, n: usize, x: u64) -> usize
 
 // Bits behind a space.
 fn bits(text: &mut Block, n: usize, x: u64) -> usize
-    ensures { waiting result text.exit ≡ 32 ∷ hexDigits 16 x behind waiting n text.entry }
+    ensures { waiting result text.exit ≡ 32 ∷ hex_digits 16 x behind waiting n text.entry }
 {
     let m = output::byte(text, n, b' ');
     output::bits(text, m, x)
@@ -70,7 +70,7 @@ fn comma(text: &mut Block, n: usize, i: usize) -> usize
 // ---- sets
 
 fn attribute(text: &mut Block, n: usize, word: u64) -> usize
-    ensures { waiting result text.exit ≡ attributeField (pair word) behind waiting n text.entry }
+    ensures { waiting result text.exit ≡ attribute_field (pair word) behind waiting n text.entry }
 {
     let a = output::decimal(text, n, word / 4294967296);
     let b = output::byte(text, a, b':');
@@ -78,7 +78,7 @@ fn attribute(text: &mut Block, n: usize, word: u64) -> usize
 }
 
 fn attributes(text: &mut Block, n: usize, row: [u64; 9]) -> usize
-    ensures { waiting result text.exit ≡ joined 44 (map attributeField (take 8 (setOf row))) behind waiting n text.entry }
+    ensures { waiting result text.exit ≡ joined 44 (map attribute_field (take 8 (set_of row))) behind waiting n text.entry }
 {
     let many = row[8];
     let mut m = n;
@@ -93,7 +93,7 @@ fn attributes(text: &mut Block, n: usize, row: [u64; 9]) -> usize
 
 // A set, `-` the empty one.
 fn bare_set(text: &mut Block, n: usize, row: [u64; 9]) -> usize
-    ensures { waiting result text.exit ≡ setField (take 8 (setOf row)) behind waiting n text.entry }
+    ensures { waiting result text.exit ≡ set_field (take 8 (set_of row)) behind waiting n text.entry }
 {
     if row[8] == 0 {
         return output::byte(text, n, b'-');
@@ -103,7 +103,7 @@ fn bare_set(text: &mut Block, n: usize, row: [u64; 9]) -> usize
 
 // A set behind a space.
 pub fn set(text: &mut Block, n: usize, row: [u64; 9]) -> usize
-    ensures { waiting result text.exit ≡ 32 ∷ setField (take 8 (setOf row)) behind waiting n text.entry }
+    ensures { waiting result text.exit ≡ 32 ∷ set_field (take 8 (set_of row)) behind waiting n text.entry }
 {
     let m = output::byte(text, n, b' ');
     bare_set(text, m, row)
@@ -113,7 +113,7 @@ pub fn set(text: &mut Block, n: usize, row: [u64; 9]) -> usize
 
 // A scale or an offset behind a space.
 pub fn integer(text: &mut Block, n: usize, x: Integer) -> usize
-    ensures { waiting result text.exit ≡ 32 ∷ integerField x behind waiting n text.entry }
+    ensures { waiting result text.exit ≡ 32 ∷ integer_field x behind waiting n text.entry }
 {
     let m = output::byte(text, n, b' ');
     match x {
@@ -124,7 +124,7 @@ pub fn integer(text: &mut Block, n: usize, x: Integer) -> usize
 
 // An extreme behind a space, `-` where it isn't kept.
 fn extreme(text: &mut Block, n: usize, x: Extreme) -> usize
-    ensures { waiting result text.exit ≡ 32 ∷ extremeField x behind waiting n text.entry }
+    ensures { waiting result text.exit ≡ 32 ∷ extreme_field x behind waiting n text.entry }
 {
     match x {
         Extreme::None => output::bytes(text, n, b" -"),
@@ -133,7 +133,7 @@ fn extreme(text: &mut Block, n: usize, x: Extreme) -> usize
 }
 
 fn held(text: &mut Block, n: usize, p: Point) -> usize
-    ensures { waiting result text.exit ≡ each 32 (heldFields p []) behind waiting n text.entry }
+    ensures { waiting result text.exit ≡ each 32 (held_fields p []) behind waiting n text.entry }
 {
     let min = p.min;
     let max = p.max;
@@ -157,7 +157,7 @@ pub fn counts(text: &mut Block, n: usize, row: &[u64]) -> usize
 
 // A row: its offset and its counts.
 pub fn row(text: &mut Block, n: usize, offset: Integer, row: &[u64]) -> usize
-    ensures { waiting result text.exit ≡ 32 ∷ rowField offset row.now behind waiting n text.entry }
+    ensures { waiting result text.exit ≡ 32 ∷ row_field offset row.now behind waiting n text.entry }
 {
     let a = integer(text, n, offset);
     let b = output::byte(text, a, b':');
@@ -176,7 +176,7 @@ pub fn dash(text: &mut Block, n: usize, many: usize) -> usize
 }
 
 pub fn all_bits(text: &mut Block, n: usize, bounds: &[f64]) -> usize
-    ensures { waiting result text.exit ≡ joined 44 (map floatField bounds.now) behind waiting n text.entry }
+    ensures { waiting result text.exit ≡ joined 44 (map float_field bounds.now) behind waiting n text.entry }
 {
     let mut m = n;
     let mut i: usize = 0;
@@ -191,7 +191,7 @@ pub fn all_bits(text: &mut Block, n: usize, bounds: &[f64]) -> usize
 // ---- points
 
 fn exponential(text: &mut Block, n: usize, p: Point, pos: &[u64], neg: &[u64]) -> usize
-    ensures { waiting result text.exit ≡ each 32 (exponentialFields p pos.now neg.now) behind waiting n text.entry }
+    ensures { waiting result text.exit ≡ each 32 (exponential_fields p pos.now neg.now) behind waiting n text.entry }
 {
     let a = integer(text, n, point::signed::scale(p));
     let b = held(text, a, p);
@@ -200,7 +200,7 @@ fn exponential(text: &mut Block, n: usize, p: Point, pos: &[u64], neg: &[u64]) -
 }
 
 fn explicit(text: &mut Block, n: usize, p: Point, buckets: &[u64], bounds: &[f64]) -> usize
-    ensures { waiting result text.exit ≡ each 32 (explicitFields p buckets.now bounds.now) behind waiting n text.entry }
+    ensures { waiting result text.exit ≡ each 32 (explicit_fields p buckets.now bounds.now) behind waiting n text.entry }
 {
     let a = held(text, n, p);
     let b = dash(text, a, buckets.len());
@@ -220,8 +220,8 @@ fn point_line<'a>(
     neg: &'a [u64],
     bounds: &[f64],
 ) -> usize
-    ensures { waiting result text.exit ≡ pointLine (take 8 (setOf row)) (storedIn e.point (boundsAt e.bounds bounds.now)
-        (rowAt at e.next false pos.now neg.now) (rowAt at e.next true pos.now neg.now))
+    ensures { waiting result text.exit ≡ point_line (take 8 (set_of row)) (stored_in e.point (bounds_at e.bounds bounds.now)
+        (row_at at e.next false pos.now neg.now) (row_at at e.next true pos.now neg.now))
         behind waiting n text.entry }
 {
     let p = e.point;
@@ -251,7 +251,7 @@ fn point_line<'a>(
 
 // A mean behind a space, or the number that refuses it behind its mark.
 fn mean_fields(text: &mut Block, n: usize, x: Answer) -> usize
-    ensures { waiting result text.exit ≡ each 32 (meanFields (said x)) behind waiting n text.entry }
+    ensures { waiting result text.exit ≡ each 32 (mean_fields (said x)) behind waiting n text.entry }
 {
     match x {
         Answer::Mean(z) => {
@@ -276,8 +276,8 @@ fn card_line<'a>(
     neg: &'a [u64],
     bounds: &[f64],
 ) -> usize
-    ensures { waiting result text.exit ≡ cardLine (take 8 (setOf row)) (storedIn e.point (boundsAt e.bounds bounds.now)
-        (rowAt at e.next false pos.now neg.now) (rowAt at e.next true pos.now neg.now))
+    ensures { waiting result text.exit ≡ card_line (take 8 (set_of row)) (stored_in e.point (bounds_at e.bounds bounds.now)
+        (row_at at e.next false pos.now neg.now) (row_at at e.next true pos.now neg.now))
         behind waiting n text.entry }
 {
     let p = e.point;
@@ -303,8 +303,8 @@ fn line<'a>(
     neg: &'a [u64],
     bounds: &[f64],
 ) -> usize
-    ensures { waiting result text.exit ≡ line_of form (take 8 (setOf row)) (storedIn e.point (boundsAt e.bounds bounds.now)
-        (rowAt at e.next false pos.now neg.now) (rowAt at e.next true pos.now neg.now))
+    ensures { waiting result text.exit ≡ line_of form (take 8 (set_of row)) (stored_in e.point (bounds_at e.bounds bounds.now)
+        (row_at at e.next false pos.now neg.now) (row_at at e.next true pos.now neg.now))
         behind waiting n text.entry }
 {
     match form {
@@ -325,9 +325,9 @@ pub fn point<'a>(
     neg: &'a [u64],
     bounds: &[f64],
 ) -> Printed
-    ensures text_value { waiting result.n text.exit ≡ line_at form at (listedIn sets.entry words.entry pos.entry neg.entry) bounds.now
+    ensures text_value { waiting result.n text.exit ≡ line_at form at (listed_in sets.entry words.entry pos.entry neg.entry) bounds.now
         behind waiting n text.entry }
-    ensures at_value { result.at ≡ next_at at (listedIn sets.entry words.entry pos.entry neg.entry) }
+    ensures at_value { result.at ≡ next_at at (listed_in sets.entry words.entry pos.entry neg.entry) }
 {
     let k = at.place;
     let Found::Is(e) = listing::read::point_at(at, words, pos, neg) else {
@@ -357,7 +357,7 @@ pub fn collection<'a>(
     neg: &'a [u64],
     bounds: &[f64],
 ) -> usize
-    ensures { waiting result text.exit ≡ collectionLines form start time many (listedIn sets.entry words.entry pos.entry neg.entry)
+    ensures { waiting result text.exit ≡ collection_lines form start time many (listed_in sets.entry words.entry pos.entry neg.entry)
         bounds.now behind waiting n text.entry }
 {
     let m = head(text, n, start, time, many as u64);
@@ -376,7 +376,7 @@ pub fn collection<'a>(
 }
 
 pub fn head(text: &mut Block, n: usize, start: u64, time: u64, many: u64) -> usize
-    ensures { waiting result text.exit ≡ collectionHead start time many behind waiting n text.entry }
+    ensures { waiting result text.exit ≡ collection_head start time many behind waiting n text.entry }
 {
     let a = output::byte(text, n, b'c');
     let b = number(text, a, start);
@@ -413,7 +413,7 @@ pub fn values(
     sets: &[[u64; 9]],
     values: &[u64],
 ) -> usize
-    ensures { waiting result text.exit ≡ valueLines start time many sets.now values.now behind waiting n text.entry }
+    ensures { waiting result text.exit ≡ value_lines start time many sets.now values.now behind waiting n text.entry }
 {
     let mut m = head(text, n, start, time, many as u64);
     let mut i: usize = 0;
@@ -426,7 +426,7 @@ pub fn values(
 
 // Prints `?` and the number of a line of the input that can't be read.
 pub fn unread(text: &mut Block, n: usize, line: u64) -> usize
-    ensures { waiting result text.exit ≡ unreadLine line behind waiting n text.entry }
+    ensures { waiting result text.exit ≡ unread_line line behind waiting n text.entry }
 {
     let a = output::byte(text, n, b'?');
     let b = number(text, a, line);

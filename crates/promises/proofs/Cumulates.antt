@@ -10,7 +10,7 @@ use Rattle.laws.specs.Said.{refusal, number}
 use Rattle.laws.specs.Tests.{all}
 use Rattle.laws.proofs.Cases.{and-true}
 use Rattle.tally.specs.Kind.{Kind, unless, first_of, suffices}
-use Rattle.tally.specs.Map.{Answer, listed, Points, Config, Map, Out, sound, points, filled, orRefused, cumulate}
+use Rattle.tally.specs.Map.{Answer, listed, Points, Config, Map, Out, sound, points, filled, or_refused, cumulate}
 use Rattle.tally.proofs.MapSteps.{swept, upfront, act}
 use Rattle.tally.specs.Demand.{Code, answers, left}
 use Rattle.tally.proofs.Faithful.{Faithful}
@@ -20,13 +20,13 @@ use Rattle.tally.proofs.Sound.{Steady, never-damaged}
 use Rattle.directory.specs.View.{Stores}
 use Rattle.value_map.specs.Store.{Store}
 use Rattle.value_map.specs.Calls.{Held, started}
-use Rattle.value_map.specs.Maps.{mapOf, configOf}
+use Rattle.value_map.specs.Maps.{map_of, config_of}
 use Rattle.value_map.proofs.Owed.{Owed}
 use Rattle.listing.specs.Listed.{Output}
 use Rattle.collecting.specs.Lister.{Lister}
-use Rattle.collecting.specs.Collected.{roomOf, uncollected, cumulativeCollected}
+use Rattle.collecting.specs.Collected.{room_of, uncollected, cumulative_collected}
 use Rattle.collecting.proofs.Owed.{Lists}
-use Rattle.collecting.proofs.Ends.{collectedOn}
+use Rattle.collecting.proofs.Ends.{collected_on}
 use Rattle.collecting.proofs.Steps.{cumulative-steps}
 use Rattle.promises.specs.Runs.{collecting, run, Cumulates}
 use Rattle.promises.proofs.Runs.{Keeps, Ready, faithful}
@@ -40,18 +40,18 @@ last-passes {K} C q (x ∷ xs) y s h =
 
 -- two collections of one map are answered 8 alike
 alike : {K : Kind} (m : Map K) (b u v : Bool) (p q : Out K) → quiet K q.answer ≡ true
-    → quiet K (orRefused K m (first_of (unless b 8 ∷ unless u 10 ∷ [])) p).answer ≡ true
-    → quiet K (orRefused K m (first_of (unless b 8 ∷ unless v 10 ∷ [])) q).answer ≡ true
+    → quiet K (or_refused K m (first_of (unless b 8 ∷ unless u 10 ∷ [])) p).answer ≡ true
+    → quiet K (or_refused K m (first_of (unless b 8 ∷ unless v 10 ∷ [])) q).answer ≡ true
 alike m true u true p q r h = r
 alike m true u false p q r h = refl
 alike m false u v p q r h = h
 
 module _ {K : Kind} {S : Store K} (L : Lister S) (w : S.Switches) (limit : ℕ) (h : Held S.Cells) (o : Output) where
-  stays : (cumulativeCollected L w limit h o).held ≡ h
-  unfolding cumulativeCollected pick
+  stays : (cumulative_collected L w limit h o).held ≡ h
+  unfolding cumulative_collected pick
   stays = go (eqb (uncollected L w true limit h o) 0)
     where
-      go : (b : Bool) → (pick b (collectedOn L w limit h o true h.kept) (record { answer = refusal (uncollected L w true limit h o); held = h; out = o })).held ≡ h
+      go : (b : Bool) → (pick b (collected_on L w limit h o true h.kept) (record { answer = refusal (uncollected L w true limit h o); held = h; out = o })).held ≡ h
       go true = refl
       go false = refl
 
@@ -60,7 +60,7 @@ module _ {K : Kind} {S : Store K} (W : Owed S) (L : Lister S) (keeps : Keeps L) 
       → Cumulates L w limit filter (started S limit filter s x).held
   unfolding faithful upfront act cumulate
   cumulates T limit filter s x l zero xs o =
-      let c : Config K = configOf S w limit filter in
+      let c : Config K = config_of S w limit filter in
       let C : Code K = run L w limit filter (started S limit filter s x).held in
       let F : Faithful K c C = faithful W L keeps w Q limit filter s x l zero in
       let h : Held S.Cells = left K C C.first xs in
@@ -69,10 +69,10 @@ module _ {K : Kind} {S : Store K} (W : Owed S) (L : Lister S) (keeps : Keeps L) 
       let e = cumulative-steps W L w Q limit filter h r.fair r.lent o in
       let d = F.steps h (collecting o) k.0 k.1 in
       let n = last-passes C (quiet K) xs (collecting o) C.first (never-damaged K T c C F (xs ++ (collecting o ∷ []))) in
-      let m : Map K = mapOf S w h in
+      let m : Map K = map_of S w h in
       let ps : Points K = points K m.settings m.entries in
       let qs : Points K = points K m.settings (map (filled K m.settings) m.entries) in
-      let room : Points K → Bool = λ l. suffices K (roomOf o) (map (λ i. i.1) l) in (
+      let room : Points K → Bool = λ l. suffices K (room_of o) (map (λ i. i.1) l) in (
         sym e,
         stays L w limit h o,
         ap (λ (q : Out K). quiet K q.answer) (sym e)

@@ -10,7 +10,7 @@ use lib.Ieee.{Float}
 use Rattle.laws.specs.Lists.{All}
 use Rattle.laws.proofs.Cases.{and-true, true-not-false}
 use Rattle.index.specs.Bins.{finest}
-use Rattle.points.specs.Counts.{Kind, exponential, explicit, sizePasses}
+use Rattle.points.specs.Counts.{Kind, exponential, explicit, size_passes}
 use Rattle.points.specs.Number.{Number}
 use Rattle.point.specs.Lists.{Configured}
 use Rattle.tally.specs.Kind as T
@@ -26,12 +26,12 @@ use Rattle.kinds.specs.Any.{passes}
 use Rattle.kinds.proofs.AnyRecorded.{all_known, lawful, steady}
 use Rattle.value_map.specs.Store.{Store}
 use Rattle.value_map.specs.Calls.{started}
-use Rattle.value_map.specs.Maps.{configOf}
+use Rattle.value_map.specs.Maps.{config_of}
 use Rattle.value_map.proofs.Owed.{Owed}
 use Rattle.collecting.specs.Lister.{Lister}
 use Rattle.promises.specs.Numbers.{InRuns, kind_of}
 use Rattle.promises.specs.Runs.{run}
-use Rattle.promises.specs.Pooled.{storedOf, Holds}
+use Rattle.promises.specs.Pooled.{stored_of, Holds}
 use Rattle.promises.specs.Promises.{PromisedWhole}
 use Rattle.collecting.proofs.Owed.{Lists}
 use Rattle.promises.proofs.Runs.{Keeps, begun, ready, faithful, runs}
@@ -54,7 +54,7 @@ Demanded P {S} L bounds w =
 
 -- settings that configuring accepts
 configured : (k : Kind) → passes k ≡ true → Configured k
-configured (exponential size top) e = (and-true (sizePasses size) (leb top finest) e).0
+configured (exponential size top) e = (and-true (size_passes size) (leb top finest) e).0
 configured (explicit bounds) e = e
 
 -- points of some values are some
@@ -77,7 +77,7 @@ module _ {N : Number} (P : InRuns N) (A : Owes P) where
     demanded limit filter s x l zero xs p =
         let K = kind_of P in
         let h = (started S limit filter s x).held in
-        let c = configOf S w limit filter in
+        let c = config_of S w limit filter in
         let F = faithful W L keeps w Q limit filter s x l zero in
         let qs = asked K (run L w limit filter h) xs in
         let ans = ran K (run L w limit filter h) xs in
@@ -86,12 +86,12 @@ module _ {N : Number} (P : InRuns N) (A : Owes P) where
         let n : Clean K (0 + sum (counted K) qs) t = clean_after K c qs ans 0 (empty K c) (record { waiting = λ s. refl; collected = λ s. refl; long = omega arith }) in
         let z = S.settings w in
         let ok = configured z.kind F.valid in
-        let ps : Set → List P.coded.Stored = λ r. storedOf P L bounds w limit filter r h xs in
+        let ps : Set → List P.coded.Stored = λ r. stored_of P L bounds w limit filter r h xs in
         let vs : Set → List N.Value = λ r. gained K c qs ans r in
         let cuts : (r : Set) → Cut K z (points_of K r ans) (vs r) = D.cut in
-        let same : (r : Set) → map P.coded.handedIn (ps r) ≡ points_of K r ans = λ r. run-read P W L keeps bounds T w Q limit filter (begun S limit filter s x zero).accepted r xs h h in
-        let is : (r : Set) → map P.coded.handedIn (ps r) ≡ map (P.point_of z) (cuts r).parts = λ r. same r ∙ (cuts r).points in
-        let shaped : (r : Set) → All (λ y. P.coded.inShape y ≡ true) (ps r) = λ r. run-shaped P W L keeps bounds T w Q limit filter (begun S limit filter s x zero).accepted r xs h (ready L limit filter s x l zero) in
+        let same : (r : Set) → map P.coded.handed_in (ps r) ≡ points_of K r ans = λ r. run-read P W L keeps bounds T w Q limit filter (begun S limit filter s x zero).accepted r xs h h in
+        let is : (r : Set) → map P.coded.handed_in (ps r) ≡ map (P.point_of z) (cuts r).parts = λ r. same r ∙ (cuts r).points in
+        let shaped : (r : Set) → All (λ y. P.coded.in_shape y ≡ true) (ps r) = λ r. run-shaped P W L keeps bounds T w Q limit filter (begun S limit filter s x zero).accepted r xs h (ready L limit filter s x l zero) in
         let known : (r : Set) → All N.Known (vs r) = λ r. all_known N A.owed P.point_of A.point-is (vs r) (n.collected r) in
         record {
           answered = D;
@@ -100,7 +100,7 @@ module _ {N : Number} (P : InRuns N) (A : Owes P) where
           pools = λ r size k e within.
               let few : length (vs r) < 2 ^ 64 = omega (arith, length-values K r t.collected, n.long, p.fewer) in
               pooled P A z ok (ps r) (cuts r).parts (vs r) (is r) (shaped r) (cuts r).values (known r) few within
-              (some-point K P.coded.handedIn (ps r) (P.point_of z) (cuts r).parts (vs r) (cuts r).values e (is r)) size k;
+              (some-point K P.coded.handed_in (ps r) (P.point_of z) (cuts r).parts (vs r) (cuts r).values e (is r)) size k;
         }
 
     -- ---- all that is promised, from a start that was answered 0

@@ -4,23 +4,23 @@ use Prim.Native.Nat.{ℕ}
 use mathlib.Core.Path.{refl}
 use mathlib.Core.Bool.{Bool}
 use mathlib.Core.List.{[]}
-use Rattle.exponential_slots.specs.Cells.{Cells, headAt}
-use Rattle.point.specs.Handing.{Stored, storedIn, exponentialPoint}
-use Rattle.exponential_collection.specs.Points.{exponentialLister}
+use Rattle.exponential_slots.specs.Cells.{Cells, head_at}
+use Rattle.point.specs.Handing.{Stored, stored_in, exponential_point}
+use Rattle.exponential_collection.specs.Points.{exponential_lister}
 use Rattle.exponential_collection.proofs.Lists.{shaped, finds, recording-keeps}
 use Rattle.promises.specs.Numbers.{reals}
 use Rattle.promises.proofs.Runs.{Keeps}
 use Rattle.promises.proofs.Stored.{Storing}
 
-pub keeps : (size top : ℕ) → Keeps (exponentialLister size top)
+pub keeps : (size top : ℕ) → Keeps (exponential_lister size top)
 keeps size top c x u v f l = recording-keeps size top x v f.value u c l
 
 -- a slot's point as it is stored
 abbrev stored_at : (size top : ℕ) → Bool × Bool → Cells → ℕ → Bool → Stored
 stored_at size top w c x u =
-    storedIn (exponentialPoint (headAt top c x u) w.0 w.1) [] ((exponentialLister size top).pos c x u) ((exponentialLister size top).neg c x u)
+    stored_in (exponential_point (head_at top c x u) w.0 w.1) [] ((exponential_lister size top).pos c x u) ((exponential_lister size top).neg c x u)
 
-pub storing : (size top : ℕ) → Storing reals (exponentialLister size top) []
+pub storing : (size top : ℕ) → Storing reals (exponential_lister size top) []
 storing size top =
     record {
       found = λ at o. refl;

@@ -9,23 +9,23 @@ use lib.Dec.{leb}
 use lib.ListN.{length, length-append}
 use lib.Ieee.{Float}
 use borrow.Author.Tests.{le-leb}
-use Rattle.laws.specs.Counting.{mostCount}
+use Rattle.laws.specs.Counting.{most_count}
 use Rattle.laws.specs.Lists.{All}
 use Rattle.laws.specs.Pick.{pick}
 use Rattle.laws.specs.Said.{refusal, success}
 use Rattle.laws.specs.Trees.{Tree, leaf, node, leaves}
 use Rattle.laws.proofs.Lists.{all_left, all_right}
-use Rattle.index.specs.Bins.{finest, lowestBin}
-use Rattle.points.specs.Counts.{Kind, exponential, explicit, Settings, Counts, kindCounts, count_of, countsAgree, sizeAsked, mergeNumber}
+use Rattle.index.specs.Bins.{finest, lowest_bin}
+use Rattle.points.specs.Counts.{Kind, exponential, explicit, Settings, Counts, kind_counts, count_of, counts_agree, size_asked, merge_number}
 use Rattle.points.specs.Number.{Number}
-use Rattle.points.specs.Any.{mergeHanded, shownAgrees, handedAgrees, Stands}
+use Rattle.points.specs.Any.{merge_handed, shown_agrees, handed_agrees, Stands}
 use Rattle.points.specs.Coded.{Coded, PointOf}
 use Rattle.points.proofs.Counts.{size_of, Allows}
 use Rattle.points.proofs.Owed.{Owed}
 use Rattle.points.proofs.AnyPoint.{counted, handed-stands, stands-join, stands-agrees, stands-mergeable}
 use Rattle.point.specs.Lists.{Configured, Long}
 use Rattle.point.proofs.Lists.{long-enough}
-use Rattle.point.proofs.Answers.{hasRoom, sound}
+use Rattle.point.proofs.Answers.{has_room, sound}
 use Rattle.merging.specs.Merged.{Groups}
 use Rattle.merging.proofs.Owed.{refusal_is, not-both, before, room_for, Merges, merged-reads}
 use Rattle.promises.proofs.Numbers.{Under, same_size}
@@ -43,45 +43,45 @@ allowed : (k : Kind) (size : ℕ) → Under k size → Allows size k
 allowed (exponential m top) size u = omega (arith, same_size m top size u)
 allowed (explicit bounds) size u = tt
 
-agrees-own : (k : Kind) (t : Float) (size : ℕ) → Under k size → (v : List Float) (c : Counts) → c ≡ kindCounts k t v
-    → countsAgree size finest (lowestBin finest) c ≡ countsAgree (size_of k) finest (lowestBin finest) c
-agrees-own (exponential m top) t size u v c e = ap (λ n. countsAgree n finest (lowestBin finest) c) (same_size m top size u)
+agrees-own : (k : Kind) (t : Float) (size : ℕ) → Under k size → (v : List Float) (c : Counts) → c ≡ kind_counts k t v
+    → counts_agree size finest (lowest_bin finest) c ≡ counts_agree (size_of k) finest (lowest_bin finest) c
+agrees-own (exponential m top) t size u v c e = ap (λ n. counts_agree n finest (lowest_bin finest) c) (same_size m top size u)
 agrees-own (explicit bounds) t size u v c e =
-    ap (countsAgree size finest (lowestBin finest)) e ∙ ap (countsAgree 0 finest (lowestBin finest)) (sym e)
+    ap (counts_agree size finest (lowest_bin finest)) e ∙ ap (counts_agree 0 finest (lowest_bin finest)) (sym e)
 
-size-asked : (k : Kind) (t : Float) (size : ℕ) → Under k size → Configured k → (v w : List Float) → sizeAsked size (kindCounts k t v) (kindCounts k t w) ≡ true
-size-asked (exponential m top) t size u k v w = ap (λ n. sizeAsked n (kindCounts (exponential m top) t v) (kindCounts (exponential m top) t w)) (same_size m top size u) ∙ k
+size-asked : (k : Kind) (t : Float) (size : ℕ) → Under k size → Configured k → (v w : List Float) → size_asked size (kind_counts k t v) (kind_counts k t w) ≡ true
+size-asked (exponential m top) t size u k v w = ap (λ n. size_asked n (kind_counts (exponential m top) t v) (kind_counts (exponential m top) t w)) (same_size m top size u) ∙ k
 size-asked (explicit bounds) t size u k v w = refl
 
 module _ {N : Number} (O : Owed N) (C : Coded N) (M : Merges C) where
   -- a stored point that stands for values, and whose counts are there
   pub record For (z : Settings) (v : List N.Value) (x : C.Stored) : Type 0 where
-    pub stands : Stands N z (C.handedIn x) v
-    pub shape : C.inShape x ≡ true
+    pub stands : Stands N z (C.handed_in x) v
+    pub shape : C.in_shape x ≡ true
 
   pub for-list : (z : Settings) (v : List N.Value) (x : C.Stored) → PointOf C z v x → For z v x
   for-list z v x p = record { stands = subst (λ h. Stands N z h v) (sym p.is) (handed-stands N O z v p.values); shape = p.shape }
 
-  count-for : (z : Settings) (v : List N.Value) (x : C.Stored) → For z v x → count_of (C.handedIn x).counts ≡ length v
-  count-for z v x f = ap count_of f.stands.same.counts ∙ counted N O z v
+  count_for : (z : Settings) (v : List N.Value) (x : C.Stored) → For z v x → count_of (C.handed_in x).counts ≡ length v
+  count_for z v x f = ap count_of f.stands.same.counts ∙ counted N O z v
 
   -- ---- TWO OF THEM MERGED
   module _ (z : Settings) (k : Configured z.kind) (size : ℕ) (u : Under z.kind size) where
-    pub agreeing : (v : List N.Value) (x : C.Stored) → For z v x → handedAgrees N size finest (lowestBin finest) (C.handedIn x) ≡ true
+    pub agreeing : (v : List N.Value) (x : C.Stored) → For z v x → handed_agrees N size finest (lowest_bin finest) (C.handed_in x) ≡ true
     agreeing v x f =
-        ap (λ b. b && shownAgrees N (C.handedIn x)) (agrees-own z.kind z.threshold size u (N.nears v) (C.handedIn x).counts f.stands.same.counts)
-        ∙ stands-agrees N O z (C.handedIn x) v (sound z.kind k) f.stands
+        ap (λ b. b && shown_agrees N (C.handed_in x)) (agrees-own z.kind z.threshold size u (N.nears v) (C.handed_in x).counts f.stands.same.counts)
+        ∙ stands-agrees N O z (C.handed_in x) v (sound z.kind k) f.stands
 
     module _ (x y : C.Stored) (v w : List N.Value) (p : For z v x) (q : For z w y) where
-      joins : Stands N z (mergeHanded N size (C.handedIn x) (C.handedIn y)) (v ++ w)
+      joins : Stands N z (merge_handed N size (C.handed_in x) (C.handed_in y)) (v ++ w)
       joins =
-          subst (λ s. Stands N s (mergeHanded N size (C.handedIn x) (C.handedIn y)) (v ++ w))
+          subst (λ s. Stands N s (merge_handed N size (C.handed_in x) (C.handed_in y)) (v ++ w))
           (λ i. record { kind = u i; extremes = z.extremes; sums = z.sums; threshold = z.threshold })
-          (stands-join N O size z (C.handedIn x) (C.handedIn y) v w (allowed z.kind size u) p.stands q.stands)
+          (stands-join N O size z (C.handed_in x) (C.handed_in y) v w (allowed z.kind size u) p.stands q.stands)
 
       -- accepted: what is left stands for both
-      pub merged-for : (a : C.Stored) (us vs : List ℕ) → C.merging size x y us vs ≡ success a → For z (v ++ w) a
-      merged-for a us vs e =
+      pub merged_for : (a : C.Stored) (us vs : List ℕ) → C.merging size x y us vs ≡ success a → For z (v ++ w) a
+      merged_for a us vs e =
           let m = merged-reads C M size x y a us vs e in
           record { stands = subst (λ h. Stands N z h (v ++ w)) (sym m.0) joins; shape = m.1 }
 
@@ -89,20 +89,20 @@ module _ {N : Number} (O : Owed N) (C : Coded N) (M : Merges C) where
         free : before C size x y ≡ 0
         unfolding pick
         free =
-            let i = C.handedIn x in
-            let j = C.handedIn y in
-            let a : sizeAsked size i.counts j.counts ≡ true =
-            (λ t. sizeAsked size (p.stands.same.counts t) (q.stands.same.counts t)) ∙ size-asked z.kind z.threshold size u k (N.nears v) (N.nears w) in
-            let n : leb (count_of i.counts + count_of j.counts) mostCount ≡ true =
-            le-leb (count_of i.counts + count_of j.counts) mostCount (omega (arith, few, count-for z v x p, count-for z w y q)) in
-            λ t. mergeNumber (a t) ((p.shape t && q.shape t) && (agreeing v x p t && agreeing w y q t)) (stands-mergeable N O z i j v w (sound z.kind k) p.stands q.stands t) (n t)
+            let i = C.handed_in x in
+            let j = C.handed_in y in
+            let a : size_asked size i.counts j.counts ≡ true =
+            (λ t. size_asked size (p.stands.same.counts t) (q.stands.same.counts t)) ∙ size-asked z.kind z.threshold size u k (N.nears v) (N.nears w) in
+            let n : leb (count_of i.counts + count_of j.counts) most_count ≡ true =
+            le-leb (count_of i.counts + count_of j.counts) most_count (omega (arith, few, count_for z v x p, count_for z w y q)) in
+            λ t. merge_number (a t) ((p.shape t && q.shape t) && (agreeing v x p t && agreeing w y q t)) (stands-mergeable N O z i j v w (sound z.kind k) p.stands q.stands t) (n t)
             (O.sum-within z.sums i.sum j.sum v w p.stands.sum q.stands.sum within t)
 
         -- in rows with room for any point
         pub made : Long z.kind us vs → (a : C.Stored) × (C.merging size x y us vs ≡ success a)
         made l =
             let r : room_for C size x y us vs ≡ true =
-            ap (λ c. hasRoom c us vs) joins.same.counts
+            ap (λ c. has_room c us vs) joins.same.counts
             ∙ long-enough z.kind z.threshold (N.nears (v ++ w)) us vs k (O.nears-known (v ++ w) joins.values) l in
             let m = M.leaves size x y us vs free r in
             (m.left, m.is)
@@ -117,12 +117,12 @@ module _ {N : Number} (O : Owed N) (C : Coded N) (M : Merges C) where
 
     -- THE LAW OF TWO: the points of two lists, in rows with room for any list
     pub two-lists : (v w : List N.Value) → length v + length w < 2 ^ 64 → N.Within (v ++ w) → (x y : C.Stored) → PointOf C z v x → PointOf C z w y
-        → (us vs : List ℕ) → Long z.kind us vs → (a : C.Stored) × (C.merging size x y us vs ≡ success a) × Stands N z (C.handedIn a) (v ++ w)
+        → (us vs : List ℕ) → Long z.kind us vs → (a : C.Stored) × (C.merging size x y us vs ≡ success a) × Stands N z (C.handed_in a) (v ++ w)
     two-lists v w few within x y p q us vs l =
         let f = for-list z v x p in
         let g = for-list z w y q in
         let m = made x y v w f g few within us vs l in
-        (m.0, m.1, (merged-for x y v w f g m.0 us vs m.1).stands)
+        (m.0, m.1, (merged_for x y v w f g m.0 us vs m.1).stands)
 
   -- ---- BY ANY GROUPING: stored points with their values
   abbrev pub Pair : Type 0
@@ -134,10 +134,10 @@ module _ {N : Number} (O : Owed N) (C : Coded N) (M : Merges C) where
   abbrev pub values : List Pair → List N.Value
   values zs = flatten (map (λ q. q.1) zs)
 
-  pub values-append : (a b : List Pair) → values (a ++ b) ≡ values a ++ values b
+  pub values_append : (a b : List Pair) → values (a ++ b) ≡ values a ++ values b
   unfolding flatten
-  values-append [] b = refl
-  values-append (q ∷ a) b = ap (λ l. q.1 ++ l) (values-append a b) ∙ sym (append_assoc q.1 (values a) (values b))
+  values_append [] b = refl
+  values_append (q ∷ a) b = ap (λ l. q.1 ++ l) (values_append a b) ∙ sym (append_assoc q.1 (values a) (values b))
 
   abbrev pub Each : Settings → List Pair → Type 0
   Each z zs = All (λ (q : Pair). For z q.1 q.0) zs
@@ -178,7 +178,7 @@ module _ {N : Number} (O : Owed N) (C : Coded N) (M : Merges C) where
           second_is = r.4;
           first-each = all_left (λ (q : Pair). For z q.1 q.0) r.0 r.1 j;
           second-each = all_right (λ (q : Pair). For z q.1 q.0) r.0 r.1 j;
-          whole = ap values r.2 ∙ values-append r.0 r.1;
+          whole = ap values r.2 ∙ values_append r.0 r.1;
         }
 
     pub grouped : (t : Tree C.Stored) (zs : List Pair) → leaves t ≡ points zs → Each z zs → (x : C.Stored) → Groups C size t x → For z (values zs) x
@@ -191,7 +191,7 @@ module _ {N : Number} (O : Owed N) (C : Coded N) (M : Merges C) where
         let r = halves s t zs e f in
         let p = grouped s r.first r.first-is r.first-each a g in
         let q = grouped t r.second r.second_is r.second-each b h in
-        subst (λ v. For z v x) (sym r.whole) (merged-for z k size u a b (values r.first) (values r.second) p q x us vs m)
+        subst (λ v. For z v x) (sym r.whole) (merged_for z k size u a b (values r.first) (values r.second) p q x us vs m)
 
     -- what two groupings left, merged
     module _ (s t : Tree C.Stored) (zs : List Pair) (e : leaves s ++ leaves t ≡ points zs) (f : Each z zs) (n : Able (values zs)) (x y : C.Stored)

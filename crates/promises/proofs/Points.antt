@@ -4,14 +4,14 @@ use mathlib.Core.List.{[], ◌∷◌}
 use lib.IntN.{ℤ, ◌+ℤ◌, +ℤ_idr}
 use Rattle.floats.proofs.Whole.{whole_is, is-whole}
 use Rattle.integers.specs.Totals.{total}
-use Rattle.integers.proofs.Totals.{total-append}
+use Rattle.integers.proofs.Totals.{total_append}
 use Rattle.points.specs.Any.{Stands}
 use Rattle.points.specs.Real.{real}
 use Rattle.points.proofs.AnyPoint.{handed-stands}
 use Rattle.points.proofs.Real as Real
 use Rattle.points.proofs.Whole as Whole
-use Rattle.point.specs.Lists.{realPoints}
-use Rattle.whole_point.specs.Lists.{wholePoints}
+use Rattle.point.specs.Lists.{real_points}
+use Rattle.whole_point.specs.Lists.{whole_points}
 use Rattle.point.proofs.Lists.{exponential-recorded, explicit-recorded}
 use Rattle.mean.proofs.Rounding.{hundredths-nearest, hundredths-half}
 use Rattle.mean.proofs.Standing.{mean-stands}
@@ -19,7 +19,7 @@ use Rattle.merging.proofs.Owed.{real-merges, whole-merges, merged-reads}
 use Rattle.merging.proofs.Groups as Groups
 use Rattle.merging.proofs.Orders.{all_alike}
 use Rattle.merging.proofs.Fresh.{empty-first, empty-second, fresh-good, fresh-first, fresh-second}
-use Rattle.pooling.proofs.WholeMerges.{wholes-as-stored, wholes-hold}
+use Rattle.pooling.proofs.WholeMerges.{wholes_as-stored, wholes-hold}
 use Rattle.pooling.proofs.Merges.{as-stored, holds}
 use Rattle.promises.specs.Points.{ExponentialRecords, ExplicitRecords, MergeAnswers, ListsMerge, AnyGrouping, EveryGrouping, EmptyMerges, FreshAgrees, FreshMerges, WholeSums, ListedMerge, ListedWholesMerge, PointMean, NearestMean, HalfMean, WholeTest}
 use Rattle.promises.proofs.Groupings.{two-lists}
@@ -31,51 +31,51 @@ exponential-records size top sized known xs ys long long' vs values few bounds e
 pub explicit-records : ExplicitRecords
 explicit-records bounds passes xs long vs values few ys extremes sums = explicit-recorded bounds passes xs long vs values few ys extremes sums
 
-pub merge-answers : MergeAnswers realPoints
-merge-answers = merged-reads realPoints real-merges
+pub merge-answers : MergeAnswers real_points
+merge-answers = merged-reads real_points real-merges
 
-pub lists-merge : ListsMerge realPoints
-lists-merge s k size u = two-lists Real.owed realPoints real-merges s k size u
+pub lists-merge : ListsMerge real_points
+lists-merge s k size u = two-lists Real.owed real_points real-merges s k size u
 
-pub any-grouping : AnyGrouping realPoints
-any-grouping = Groups.any-grouping Real.owed realPoints real-merges
+pub any_grouping : AnyGrouping real_points
+any_grouping = Groups.any_grouping Real.owed real_points real-merges
 
-pub every-grouping : EveryGrouping realPoints
-every-grouping = all_alike Real.owed realPoints real-merges
+pub every_grouping : EveryGrouping real_points
+every_grouping = all_alike Real.owed real_points real-merges
 
-pub empty-merges : EmptyMerges realPoints
-empty-merges size x y z us vs e = (empty-first Real.owed realPoints real-merges size x y z us vs e, empty-second Real.owed realPoints real-merges size x y z us vs e)
+pub empty-merges : EmptyMerges real_points
+empty-merges size x y z us vs e = (empty-first Real.owed real_points real-merges size x y z us vs e, empty-second Real.owed real_points real-merges size x y z us vs e)
 
-pub fresh-agrees : FreshAgrees realPoints
-fresh-agrees = fresh-good Real.owed realPoints
+pub fresh-agrees : FreshAgrees real_points
+fresh-agrees = fresh-good Real.owed real_points
 
-pub fresh-merges : FreshMerges realPoints
+pub fresh-merges : FreshMerges real_points
 fresh-merges size s top f y z none g us vs =
-    (fresh-first Real.owed realPoints real-merges size s top f y none g z us vs, fresh-second Real.owed realPoints real-merges size s top f y none g z us vs)
+    (fresh-first Real.owed real_points real-merges size s top f y none g z us vs, fresh-second Real.owed real_points real-merges size s top f y none g z us vs)
 
 -- ---- over i64
-pub whole-merge-answers : MergeAnswers wholePoints
-whole-merge-answers = merged-reads wholePoints whole-merges
+pub whole-merge-answers : MergeAnswers whole_points
+whole-merge-answers = merged-reads whole_points whole-merges
 
-pub whole-lists-merge : ListsMerge wholePoints
-whole-lists-merge s k size u = two-lists Whole.owed wholePoints whole-merges s k size u
+pub whole-lists-merge : ListsMerge whole_points
+whole-lists-merge s k size u = two-lists Whole.owed whole_points whole-merges s k size u
 
-pub whole-any-grouping : AnyGrouping wholePoints
-whole-any-grouping = Groups.any-grouping Whole.owed wholePoints whole-merges
+pub whole-any_grouping : AnyGrouping whole_points
+whole-any_grouping = Groups.any_grouping Whole.owed whole_points whole-merges
 
-pub whole-every-grouping : EveryGrouping wholePoints
-whole-every-grouping = all_alike Whole.owed wholePoints whole-merges
+pub whole-every_grouping : EveryGrouping whole_points
+whole-every_grouping = all_alike Whole.owed whole_points whole-merges
 
-pub whole-empty-merges : EmptyMerges wholePoints
+pub whole-empty-merges : EmptyMerges whole_points
 whole-empty-merges size x y z us vs e =
-    (empty-first Whole.owed wholePoints whole-merges size x y z us vs e, empty-second Whole.owed wholePoints whole-merges size x y z us vs e)
+    (empty-first Whole.owed whole_points whole-merges size x y z us vs e, empty-second Whole.owed whole_points whole-merges size x y z us vs e)
 
-pub whole-fresh-agrees : FreshAgrees wholePoints
-whole-fresh-agrees = fresh-good Whole.owed wholePoints
+pub whole-fresh-agrees : FreshAgrees whole_points
+whole-fresh-agrees = fresh-good Whole.owed whole_points
 
-pub whole-fresh-merges : FreshMerges wholePoints
+pub whole-fresh-merges : FreshMerges whole_points
 whole-fresh-merges size s top f y z none g us vs =
-    (fresh-first Whole.owed wholePoints whole-merges size s top f y none g z us vs, fresh-second Whole.owed wholePoints whole-merges size s top f y none g z us vs)
+    (fresh-first Whole.owed whole_points whole-merges size s top f y none g z us vs, fresh-second Whole.owed whole_points whole-merges size s top f y none g z us vs)
 
 one-total : (x : ℤ) → x ≡ total (x ∷ [])
 unfolding total
@@ -83,7 +83,7 @@ one-total x = sym (+ℤ_idr x)
 
 pub whole-sums : WholeSums
 whole-sums =
-    Groups.sums-add Whole.owed wholePoints whole-merges (λ x vs. x ≡ total vs) one-total (λ x y vs ws h k. (λ i. h i +ℤ k i) ∙ sym (total-append vs ws))
+    Groups.sums-add Whole.owed whole_points whole-merges (λ x vs. x ≡ total vs) one-total (λ x y vs ws h k. (λ i. h i +ℤ k i) ∙ sym (total_append vs ws))
 
 -- ---- in lists
 pub listed-merge : ListedMerge
@@ -91,7 +91,7 @@ listed-merge size a x b y at o e f s p q h = (as-stored size a x b y at o e f s 
 
 pub listed-wholes-merge : ListedWholesMerge
 listed-wholes-merge size a x b y at o e f s p q h =
-    (wholes-as-stored size a x b y at o e f s p q h, λ z g. wholes-hold size a x b y at o e f s p q h z g)
+    (wholes_as-stored size a x b y at o e f s p q h, λ z g. wholes-hold size a x b y at o e f s p q h z g)
 
 pub point-mean : PointMean
 point-mean s k vs x p g =

@@ -60,7 +60,7 @@ module _ {N : Number} (P : InRuns N) (W : Owes P) (z : Settings) where
       W.shows z.kind z.threshold size u k (N.nears v) x f.shape (G.agreeing O C M z k size u v x f) f.stands.same.counts
 
   -- ---- THE POINTS OF PARTS, each with its part
-  point-of : (v : List N.Value) (x : P.coded.Stored) → P.coded.handedIn x ≡ P.point_of z v → P.coded.inShape x ≡ true → All N.Known v → PointOf C z v x
+  point-of : (v : List N.Value) (x : P.coded.Stored) → P.coded.handed_in x ≡ P.point_of z v → P.coded.in_shape x ≡ true → All N.Known v → PointOf C z v x
   point-of v x e s f = record { is = e ∙ W.point-is z v; shape = s; values = f }
 
   record Paired (ps : List P.coded.Stored) (parts : List (List N.Value)) : Type 0 where
@@ -69,8 +69,8 @@ module _ {N : Number} (P : InRuns N) (W : Owes P) (z : Settings) where
     parts_are : map (λ (q : Pair). q.1) pairs ≡ parts
     each : Each pairs
 
-  paired : (ps : List P.coded.Stored) (parts : List (List N.Value)) → map P.coded.handedIn ps ≡ map (P.point_of z) parts
-      → All (λ x. P.coded.inShape x ≡ true) ps → All N.Known (flatten parts) → Paired ps parts
+  paired : (ps : List P.coded.Stored) (parts : List (List N.Value)) → map P.coded.handed_in ps ≡ map (P.point_of z) parts
+      → All (λ x. P.coded.in_shape x ≡ true) ps → All N.Known (flatten parts) → Paired ps parts
   unfolding All flatten
   paired [] [] e s f = record { pairs = []; points-are = refl; parts_are = refl; each = tt }
   paired [] (v ∷ parts) e s f = absurd (nil≢cons e)
@@ -86,8 +86,8 @@ module _ {N : Number} (P : InRuns N) (W : Owes P) (z : Settings) where
       }
 
   -- each is pointed
-  pub pointed : Configured z.kind → (ps : List P.coded.Stored) (parts : List (List N.Value)) → map P.coded.handedIn ps ≡ map (P.point_of z) parts
-      → All (λ x. P.coded.inShape x ≡ true) ps → All N.Known (flatten parts) → All (Pointed P z) ps
+  pub pointed : Configured z.kind → (ps : List P.coded.Stored) (parts : List (List N.Value)) → map P.coded.handed_in ps ≡ map (P.point_of z) parts
+      → All (λ x. P.coded.in_shape x ≡ true) ps → All N.Known (flatten parts) → All (Pointed P z) ps
   unfolding All flatten
   pointed k [] parts e s f = tt
   pointed k (x ∷ ps) [] e s f = absurd (nil≢cons (sym e))
@@ -135,7 +135,7 @@ module _ {N : Number} (P : InRuns N) (W : Owes P) (z : Settings) where
     front ms rest h =
         let b = back (ms ++ rest) h in
         let r = split (λ (q : Pair). q.0) ms rest b.pairs b.points-are in
-        let e : values b.pairs ≡ values r.0 ++ values r.1 = ap values r.2 ∙ G.values-append O C M r.0 r.1 in
+        let e : values b.pairs ≡ values r.0 ++ values r.1 = ap values r.2 ∙ G.values_append O C M r.0 r.1 in
         record {
           pairs = r.0;
           points-are = r.3;
@@ -148,7 +148,7 @@ module _ {N : Number} (P : InRuns N) (W : Owes P) (z : Settings) where
     whole size u t h x g =
         let b = back (leaves t) h in
         let f = G.grouped O C M z k size u t b.pairs b.points-are b.each x g in
-        record { stands = stands-order N O z (P.coded.handedIn x) (mathlib.Core.List.Permᴰ.symm b.order) f.stands; shape = f.shape }
+        record { stands = stands-order N O z (P.coded.handed_in x) (mathlib.Core.List.Permᴰ.symm b.order) f.stands; shape = f.shape }
 
     all-pooled : 0 < length ps → (size : ℕ) → Under z.kind size → Pools P z ps vs size
     all-pooled some size u =
@@ -156,7 +156,7 @@ module _ {N : Number} (P : InRuns N) (W : Owes P) (z : Settings) where
           there = some;
           stands = λ t h x g. ((whole size u t h x g).stands, shown k size u vs x (whole size u t h x g));
           card = λ t h x g. let f = whole size u t h x g in W.card z k vs x f.shape f.stands;
-          onlyTen = λ s t rest h x y g j us vs n e.
+          only_ten = λ s t rest h x y g j us vs n e.
               let f = front (leaves s ++ leaves t) rest h in
               G.two-ten O C M z k size u s t f.pairs f.points-are f.each f.fewer x y g j us vs n e;
           accepted = λ s t rest h x y g j us vs l.
@@ -168,8 +168,8 @@ module _ {N : Number} (P : InRuns N) (W : Owes P) (z : Settings) where
         }
 
   -- THE LAW
-  pub pooled : Configured z.kind → (ps : List P.coded.Stored) (parts : List (List N.Value)) (vs : List N.Value) → map P.coded.handedIn ps ≡ map (P.point_of z) parts
-      → All (λ x. P.coded.inShape x ≡ true) ps → flatten parts ≡ vs → All N.Known vs → length vs < 2 ^ 64 → N.Within vs → 0 < length ps
+  pub pooled : Configured z.kind → (ps : List P.coded.Stored) (parts : List (List N.Value)) (vs : List N.Value) → map P.coded.handed_in ps ≡ map (P.point_of z) parts
+      → All (λ x. P.coded.in_shape x ≡ true) ps → flatten parts ≡ vs → All N.Known vs → length vs < 2 ^ 64 → N.Within vs → 0 < length ps
       → (size : ℕ) → Under z.kind size → Pools P z ps vs size
   pooled k ps parts vs e s cut f few within some =
       all-pooled k ps vs (record { few = few; within = within }) (reorder ps parts (paired ps parts e s (subst (All N.Known) (sym cut) f)) vs cut) some

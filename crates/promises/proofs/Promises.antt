@@ -10,10 +10,10 @@ use lib.Ieee.Bits.{is_true}
 use lib.Ieee.Scale.{finite}
 use Rattle.laws.proofs.Differences.{shift-sub}
 use Rattle.index.specs.Magnitude.{magnitude}
-use Rattle.index.specs.Bins.{binAt, index_of}
+use Rattle.index.specs.Bins.{bin_at, index_of}
 use Rattle.index.proofs.Indices.{one_index as only-index}
 use Rattle.index.proofs.Values.{value-is}
-use Rattle.integers.specs.Answers.{nearestOf}
+use Rattle.integers.specs.Answers.{nearest_of}
 use Rattle.integers.proofs.NoNearer.{nearest-is, one-nearest as only-nearest}
 use Rattle.halving.proofs.Plain as Plain
 use Rattle.tally.proofs.Faithful.{Demand, MergedDemand}
@@ -50,19 +50,19 @@ reaches = Reaching.reaches
 pub one_index : OneIndex
 one_index x scale level f z e =
     let r = value-is x scale level f.fits (is_true (finite x) f.known) z e in
-    let i = index_of level (binAt level (magnitude x)) in
+    let i = index_of level (bin_at level (magnitude x)) in
     (i, r.0, r.1, λ j h. only-index scale (magnitude x) j i h r.1)
 
 pub one-nearest : OneNearest
 one-nearest z h =
     let n = nearest-is z (ltb-true (mag z) (2 ^ 63) h) in
-    (n, λ x m. only-nearest z x (nearestOf z) h m n)
+    (n, λ x m. only-nearest z x (nearest_of z) h m n)
 
 pub plain_form : PlainForm
 plain_form = Plain.plain_form
 
-pub halved-offset : HalvedOffset
-halved-offset level bin h =
+pub halved_offset : HalvedOffset
+halved_offset level bin h =
     let e : level - 1 + 1 ≡ level = omega arith in
     ap (λ (n : ℕ). pos (bin / 2) -ℤ pos (2 ^ n)) e
     ∙ sym (ap (λ (n : ℕ). shr_z (pos bin -ℤ pos n) 2) (pow-add 2 level 1) ∙ shift-sub bin (2 ^ level) 1)

@@ -5,15 +5,15 @@ use mathlib.Core.List.{List}
 use native.Mathlib.Omega.{arith}
 use lib.ListN.{length, replicate, length-replicate}
 use Rattle.tally.specs.Kind.{Room}
-use Rattle.tally.specs.Map.{measure, measureBy, bind, release, collect}
+use Rattle.tally.specs.Map.{measure, measure_by, bind, release, collect}
 use Rattle.listing.specs.Listed.{Output}
-use Rattle.collecting.specs.Collected.{roomOf}
-use Rattle.promises.specs.Runs.{recording, recordingBy, binding, releasing, collecting}
+use Rattle.collecting.specs.Collected.{room_of}
+use Rattle.promises.specs.Runs.{recording, recording_by, binding, releasing, collecting}
 use Rattle.promises.specs.Promises.{Reaches}
 
 -- lent output of so many places
-abbrev outputOf : Room → Output
-outputOf r =
+abbrev output_of : Room → Output
+output_of r =
     record {
       sets = replicate r.points (replicate 9 0);
       words = replicate r.points (replicate 12 0);
@@ -24,7 +24,7 @@ outputOf r =
 min-same : (n : ℕ) → min n n ≡ n
 min-same n = omega arith
 
-room_back : (r : Room) → roomOf (outputOf r) ≡ r
+room_back : (r : Room) → room_of (output_of r) ≡ r
 room_back r =
     let row : List ℕ = replicate {A = ℕ} 9 0 in
     let words : List ℕ = replicate {A = ℕ} 12 0 in
@@ -34,7 +34,7 @@ room_back r =
 
 pub reaches : Reaches
 reaches K (measure v attrs) r = (recording v attrs r, refl)
-reaches K (measureBy h v) r = (recordingBy h v, refl)
+reaches K (measure_by h v) r = (recording_by h v, refl)
 reaches K (bind attrs) r = (binding attrs r, refl)
 reaches K (release h) r = (releasing h, refl)
-reaches K (collect room) r = (collecting (outputOf room), λ i. collect (room_back room i))
+reaches K (collect room) r = (collecting (output_of room), λ i. collect (room_back room i))

@@ -8,11 +8,11 @@ use Rattle.laws.specs.Said.{success, number}
 use Rattle.tally.proofs.Demand.{demand}
 use Rattle.directory.specs.View.{Stores}
 use Rattle.value_map.specs.Calls.{Outcome, held, started}
-use Rattle.value_map.specs.Maps.{configOf}
+use Rattle.value_map.specs.Maps.{config_of}
 use Rattle.collecting.proofs.Configures.{set-up-taken}
 use Rattle.singles.specs.Kinds.{singles}
-use Rattle.singles.specs.Stores.{singleStore}
-use Rattle.singles.specs.Points.{singleLister}
+use Rattle.singles.specs.Stores.{single_store}
+use Rattle.singles.specs.Points.{single_lister}
 use Rattle.singles.specs.Configured.{configured}
 use Rattle.singles.specs.declared.Aggregation.{Aggregation}
 use Rattle.singles.specs.declared.Settings.{Settings}
@@ -27,19 +27,19 @@ use Rattle.promises.proofs.Cumulates.{cumulates}
 use Rattle.promises.proofs.Owned.{owns}
 
 -- every store of f64s can be lent
-keeps : (a : Aggregation) → Keeps (singleLister a)
+keeps : (a : Aggregation) → Keeps (single_lister a)
 keeps a c x u v f l = tt
 
 module _ (a : Aggregation) (limit : ℕ) (filter : Option (List ℕ)) (s : Stores) (x : List Float) where
   abbrev begins : Outcome (List Float)
-  begins = started (singleStore a) limit filter s x
+  begins = started (single_store a) limit filter s x
 
-  promised : number begins.answer ≡ 0 → PromisedAnswers (singleLister a) tt limit filter begins.held
+  promised : number begins.answer ≡ 0 → PromisedAnswers (single_lister a) tt limit filter begins.held
   promised zero =
-      let L = singleLister a in
+      let L = single_lister a in
       record {
         demand = λ xs p.
-            demand (singles a) (lawful a) (configOf (singleStore a) tt limit filter) (run L tt limit filter begins.held)
+            demand (singles a) (lawful a) (config_of (single_store a) tt limit filter) (run L tt limit filter begins.held)
             (faithful (owed a) L (keeps a) tt (lists a) limit filter s x tt zero) xs p;
         told = runs (owed a) L (keeps a) tt (lists a) (lawful a) (steady a) limit filter s x tt zero;
         cumulative = cumulates (owed a) L (keeps a) tt (lists a) (steady a) limit filter s x tt zero;
@@ -56,8 +56,8 @@ module _ (a : Aggregation) (limit : ℕ) (filter : Option (List ℕ)) (s : Store
 pub singles-demand : SinglesDemand
 unfolding configured started
 singles-demand a limit filter s x u e =
-    let o = started (singleStore a) limit filter s x in
+    let o = started (single_store a) limit filter s x in
     let p = set-up a limit filter s x u e in (
       sym (ap (λ (t : Setup). t.settings) p.1),
-      subst (λ (t : Setup). PromisedAnswers (singleLister a) tt limit filter (held t.dir o.held.kept.stores x)) p.1 (promised a limit filter s x p.0),
+      subst (λ (t : Setup). PromisedAnswers (single_lister a) tt limit filter (held t.dir o.held.kept.stores x)) p.1 (promised a limit filter s x p.0),
     )

@@ -14,16 +14,16 @@ use Rattle.laws.specs.Over.{over}
 use Rattle.laws.specs.Pick.{pick}
 use Rattle.laws.specs.Said.{success}
 use Rattle.laws.specs.Trees.{leaf, node}
-use Rattle.floats.specs.Starts.{zeroFloat}
+use Rattle.floats.specs.Starts.{zero_float}
 use Rattle.integers.specs.Answers as Integers
 use Rattle.integers.specs.Totals.{weight}
 use Rattle.integers.specs.declared.Extreme.TheVariants.{Value}
-use Rattle.points.specs.Explicit.{bucketOf, bucketsOf, recordBucket, bucketsAgree, boundsPass, noNan, rising, mergeBuckets, added, sameBounds}
-use Rattle.points.specs.Counts.{explicitCounts}
+use Rattle.points.specs.Explicit.{bucket_of, buckets_of, record_bucket, buckets_agree, bounds_pass, no_nan, rising, merge_buckets, added, same_bounds}
+use Rattle.points.specs.Counts.{explicit_counts}
 use Rattle.points.specs.Any.{Handed, Stands}
 use Rattle.points.specs.Whole.{whole}
 use Rattle.point.specs.declared.Figures.TheVariants.{Explicit}
-use Rattle.whole_point.specs.Handing.{Stored, storedIn, handedIn, refusalBefore, laidOver, merging}
+use Rattle.whole_point.specs.Handing.{Stored, stored_in, handed_in, refusal_before, laid_over, merging}
 use Rattle.tally.specs.Kind.{Room}
 use Rattle.tally.specs.Map.{Config, Call, measure, collect, Answer, refuse, done, listed}
 use Rattle.tally.specs.Tally.{tell}
@@ -31,37 +31,37 @@ use Rattle.tally.specs.Demand as Demand
 use Rattle.tally.specs.Demand.{Premise, any, gained, Code, ran}
 use Rattle.kinds.specs.Wholes as Kinds
 use Rattle.sets.specs.All.{allb}
-use Rattle.sets.specs.Rows.{setOf, row_of, soundb}
+use Rattle.sets.specs.Rows.{set_of, row_of, soundb}
 use Rattle.sets.specs.Inserted.{inserted}
 use Rattle.directory.specs.View.{slotsb, agreesb, sought}
 use Rattle.directory.specs.Calls.{located, admitted}
 use Rattle.bindings.specs.Calls as Bindings
-use Rattle.seats.specs.Seats.{newSeat, seated, barredBy, unlessBarred, marked, committed}
-use Rattle.sweep.specs.Swept.{sweptKept}
+use Rattle.seats.specs.Seats.{new_seat, seated, barred_by, unless_barred, marked, committed}
+use Rattle.sweep.specs.Swept.{swept_kept}
 use Rattle.explicit.specs.Series as Real
 use Rattle.explicit_wholes.specs.Series as Series
-use Rattle.explicit_whole_slots.specs.Cells.{Cells, recordedAt}
-use Rattle.value_map.specs.Calls.{begun, unlessRefused, entered, called, measured, started, Held, held}
-use Rattle.value_map.specs.Maps.{configOf}
-use Rattle.whole_map.specs.Explicit.{explicitWholes}
+use Rattle.explicit_whole_slots.specs.Cells.{Cells, recorded_at}
+use Rattle.value_map.specs.Calls.{begun, unless_refused, entered, called, measured, started, Held, held}
+use Rattle.value_map.specs.Maps.{config_of}
+use Rattle.whole_map.specs.Explicit.{explicit_wholes}
 use Rattle.listing.specs.Listed.{Output}
 use Rattle.listing.specs.Words as Words
-use Rattle.whole_listing.specs.Listed.{pointAt, entryIn}
-use Rattle.whole_listing.specs.Words.{boundsIn, extremeIn, pointIn, isPoint}
+use Rattle.whole_listing.specs.Listed.{point_at, entry_in}
+use Rattle.whole_listing.specs.Words.{bounds_in, extreme_in, point_in, is_point}
 use Rattle.whole_listing.specs.Read.{AllHeld}
-use Rattle.collecting.specs.Collected.{roomy, uncollected, deltaCollected}
-use Rattle.explicit_whole_collection.specs.Points.{explicitWholeLister}
+use Rattle.collecting.specs.Collected.{roomy, uncollected, delta_collected}
+use Rattle.explicit_whole_collection.specs.Points.{explicit_whole_lister}
 use Rattle.explicit_whole_collection.specs.Configured.{configured}
 use Rattle.explicit_collection.specs.declared.Setup.{Setup}
 use Rattle.promises.specs.Numbers.{wholes}
 use Rattle.promises.specs.Runs.{Asked, recording, collecting, run}
-use Rattle.promises.specs.Pooled.{storedOf, Whole}
+use Rattle.promises.specs.Pooled.{stored_of, Whole}
 use Rattle.promises.proofs.Promises.{explicit-wholes-demand}
 use Rattle.promises.proofs.Example.{stores, A, small}
 
 -- the bounds 0.0 and 5.0
 abbrev bounds : List Float
-bounds = zeroFloat ∷ of_bits binary64 0x4014_0000_0000_0000 ∷ []
+bounds = zero_float ∷ of_bits binary64 0x4014_0000_0000_0000 ∷ []
 
 -- the greatest i64
 abbrev most : ℤ
@@ -78,7 +78,7 @@ abbrev setup : Setup
 setup = record { settings = record { extremes = true; sums = true; limit = 1 }; dir = record { used = 0; count = 0; last = 0 } }
 
 accepted : (configured bounds true true 1 none stores cells).answer ≡ success setup
-unfolding configured started begun Bindings.started boundsPass noNan rising is_nan lt of_bits pick
+unfolding configured started begun Bindings.started bounds_pass no_nan rising is_nan lt of_bits pick
 accepted = refl
 
 row-held : (i : ℕ) → Integers.in_range (get_or (replicate 3 (pos 0)) i (pos 0)) ≡ true
@@ -102,30 +102,30 @@ given =
     recording (pos 5) A small ∷ recording most A small ∷ recording (negsuc 2) A small ∷ collecting out ∷ recording (pos 7) A small ∷ collecting out ∷ []
 
 abbrev c : Config Kinds.wholes
-c = configOf (explicitWholes bounds true) true 1 none
+c = config_of (explicit_wholes bounds true) true 1 none
 
 -- a point with these counts, minimum, maximum and sum
 abbrev point : List ℕ → ℕ → ℤ → ℤ → ℤ → Handed whole
 point cs n low high sum =
     record {
-      counts = explicitCounts bounds (record { counts = cs; total = n });
+      counts = explicit_counts bounds (record { counts = cs; total = n });
       extremes = true;
-      threshold = zeroFloat;
+      threshold = zero_float;
       min = Value low;
       max = Value high;
       sum = sum;
     }
 
 abbrev code : Code Kinds.wholes
-code = run (explicitWholeLister bounds true) true 1 none first
+code = run (explicit_whole_lister bounds true) true 1 none first
 
-abbrev answersAre : List (Answer Kinds.wholes)
-answersAre =
+abbrev answers_are : List (Answer Kinds.wholes)
+answers_are =
     done ∷ refuse 16 ∷ done ∷ listed ((A, point (1 ∷ 1 ∷ 0 ∷ []) 2 (negsuc 2) (pos 5) (pos 2)) ∷ []) ∷ done
     ∷ listed ((A, point (0 ∷ 0 ∷ 1 ∷ []) 1 (pos 7) (pos 7) (pos 7)) ∷ []) ∷ []
 
-answers : ran Kinds.wholes code given ≡ answersAre
-unfolding pointAt entryIn isPoint configured started begun Bindings.started boundsPass noNan rising is_nan lt of_bits of_int round eq pick over measured called entered unlessRefused barredBy unlessBarred newSeat seated marked committed located agreesb slotsb allb sought admitted setOf row_of soundb inserted recordedAt Series.recording Series.refusalOf Real.refusalOf bucketOf bucketsOf recordBucket bucketsAgree deltaCollected uncollected roomy sweptKept Words.figuresIn Words.boundsIn boundsIn extremeIn pointIn Integers.of_bits
+answers : ran Kinds.wholes code given ≡ answers_are
+unfolding point_at entry_in is_point configured started begun Bindings.started bounds_pass no_nan rising is_nan lt of_bits of_int round eq pick over measured called entered unless_refused barred_by unless_barred new_seat seated marked committed located agreesb slotsb allb sought admitted set_of row_of soundb inserted recorded_at Series.recording Series.refusal_of Real.refusal_of bucket_of buckets_of record_bucket buckets_agree delta_collected uncollected roomy swept_kept Words.figures_in Words.bounds_in bounds_in extreme_in point_in Integers.of_bits
 answers = refl
 
 abbrev room : Room
@@ -141,13 +141,13 @@ premise =
     subst (λ (a : List (Answer Kinds.wholes)). Premise Kinds.wholes c (Demand.asked Kinds.wholes code given) a) (sym answers)
     (record { fewer = omega arith; unlike = omega arith })
 
-demanded : Whole wholes c (Demand.asked Kinds.wholes code given) (ran Kinds.wholes code given) (λ r. storedOf wholes (explicitWholeLister bounds true) bounds true 1 none r first given)
+demanded : Whole wholes c (Demand.asked Kinds.wholes code given) (ran Kinds.wholes code given) (λ r. stored_of wholes (explicit_whole_lister bounds true) bounds true 1 none r first given)
 demanded = (explicit-wholes-demand bounds true true 1 none stores cells setup all_held accepted).1.demand given premise
 
 -- ---- THE SET'S POINTS, as they are stored, and merged
 abbrev stored : List ℕ → ℕ → ℤ → ℤ → ℤ → Stored
 stored cs n low high sum =
-    storedIn (record { figures = Explicit n; extremes = true; min = Value low; max = Value high; sum = sum }) bounds cs []
+    stored_in (record { figures = Explicit n; extremes = true; min = Value low; max = Value high; sum = sum }) bounds cs []
 
 abbrev s₁ : Stored
 s₁ = stored (1 ∷ 1 ∷ 0 ∷ []) 2 (negsuc 2) (pos 5) (pos 2)
@@ -158,16 +158,16 @@ s₂ = stored (0 ∷ 0 ∷ 1 ∷ []) 1 (pos 7) (pos 7) (pos 7)
 abbrev all : Stored
 all = stored (1 ∷ 1 ∷ 1 ∷ []) 3 (negsuc 2) (pos 7) (pos 9)
 
-points : storedOf wholes (explicitWholeLister bounds true) bounds true 1 none A first given ≡ s₁ ∷ s₂ ∷ []
-unfolding pointAt entryIn isPoint configured started begun Bindings.started boundsPass noNan rising is_nan lt of_bits of_int round eq pick over measured called entered unlessRefused barredBy unlessBarred newSeat seated marked committed located agreesb slotsb allb sought admitted setOf row_of soundb inserted recordedAt Series.recording Series.refusalOf Real.refusalOf bucketOf bucketsOf recordBucket bucketsAgree deltaCollected uncollected roomy sweptKept Words.figuresIn Words.boundsIn boundsIn extremeIn pointIn Integers.of_bits
+points : stored_of wholes (explicit_whole_lister bounds true) bounds true 1 none A first given ≡ s₁ ∷ s₂ ∷ []
+unfolding point_at entry_in is_point configured started begun Bindings.started bounds_pass no_nan rising is_nan lt of_bits of_int round eq pick over measured called entered unless_refused barred_by unless_barred new_seat seated marked committed located agreesb slotsb allb sought admitted set_of row_of soundb inserted recorded_at Series.recording Series.refusal_of Real.refusal_of bucket_of buckets_of record_bucket buckets_agree delta_collected uncollected roomy swept_kept Words.figures_in Words.bounds_in bounds_in extreme_in point_in Integers.of_bits
 points = refl
 
 together : (merging 0 s₁ s₂ (0 ∷ 0 ∷ 0 ∷ []) []).answer ≡ success all
-unfolding merging refusalBefore laidOver mergeBuckets added bucketsAgree boundsPass sameBounds noNan rising is_nan lt eq round of_bits pick over
+unfolding merging refusal_before laid_over merge_buckets added buckets_agree bounds_pass same_bounds no_nan rising is_nan lt eq round of_bits pick over
 together = refl
 
 values : gained Kinds.wholes c (Demand.asked Kinds.wholes code given) (ran Kinds.wholes code given) A ≡ pos 5 ∷ negsuc 2 ∷ pos 7 ∷ []
-unfolding tell pick boundsPass of_bits of_int Kinds.handed bucketsOf bucketOf lt round
+unfolding tell pick bounds_pass of_bits of_int Kinds.handed buckets_of bucket_of lt round
 values = ap (λ (a : List (Answer Kinds.wholes)). gained Kinds.wholes c asks a A) answers
 
 -- their magnitudes total 15
@@ -176,8 +176,8 @@ unfolding weight
 light = record { light = omega arith }
 
 -- so the merged point stands for the three values, and its sum is theirs
-stands : Stands whole c.settings (handedIn all) (pos 5 ∷ negsuc 2 ∷ pos 7 ∷ [])
+stands : Stands whole c.settings (handed_in all) (pos 5 ∷ negsuc 2 ∷ pos 7 ∷ [])
 stands =
-    subst (Stands whole c.settings (handedIn all)) values
+    subst (Stands whole c.settings (handed_in all)) values
     ((demanded.pools A 0 refl (ap (any Kinds.wholes) values) (subst whole.Within (sym values) light)).stands (node (leaf s₁) (leaf s₂))
     (subst (λ l. Permᴰ l (s₁ ∷ s₂ ∷ [])) (sym points) (Permᴰ.refl (s₁ ∷ s₂ ∷ []))) all (s₁, s₂, 0 ∷ 0 ∷ 0 ∷ [], [], refl, refl, together)).0

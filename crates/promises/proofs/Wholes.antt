@@ -7,37 +7,37 @@ use mathlib.Core.List.{List, []}
 use lib.Ieee.{Float}
 use Rattle.exponential_whole_slots.specs.Cells as Exponential
 use Rattle.explicit_whole_slots.specs.Cells as Explicit
-use Rattle.whole_point.specs.Handing.{storedIn, exponentialPoint, explicitPoint}
-use Rattle.listing.specs.Listed.{boundsAt}
+use Rattle.whole_point.specs.Handing.{stored_in, exponential_point, explicit_point}
+use Rattle.listing.specs.Listed.{bounds_at}
 use Rattle.collecting.specs.Read.{span_of}
-use Rattle.exponential_whole_collection.specs.Points.{exponentialWholeLister}
+use Rattle.exponential_whole_collection.specs.Points.{exponential_whole_lister}
 use Rattle.exponential_whole_collection.proofs.Lists as ExponentialLists
-use Rattle.explicit_whole_collection.specs.Points.{explicitWholeLister}
+use Rattle.explicit_whole_collection.specs.Points.{explicit_whole_lister}
 use Rattle.explicit_whole_collection.proofs.Lists as ExplicitLists
 use Rattle.explicit_whole_collection.proofs.Lent as ExplicitLent
 use Rattle.promises.specs.Numbers.{wholes}
 use Rattle.promises.proofs.Runs.{Keeps}
 use Rattle.promises.proofs.Stored.{Storing}
 
-pub exponential-keeps : (size top : ℕ) (sums : Bool) → Keeps (exponentialWholeLister size top sums)
+pub exponential-keeps : (size top : ℕ) (sums : Bool) → Keeps (exponential_whole_lister size top sums)
 exponential-keeps size top sums c x u v f l = ExponentialLists.recording-keeps size top sums x v f.value u c l
 
-pub exponential-storing : (size top : ℕ) (sums : Bool) → Storing wholes (exponentialWholeLister size top sums) []
+pub exponential-storing : (size top : ℕ) (sums : Bool) → Storing wholes (exponential_whole_lister size top sums) []
 exponential-storing size top sums =
-    let L = exponentialWholeLister size top sums in
+    let L = exponential_whole_lister size top sums in
     record {
       found = λ at o. refl;
-      stored = λ w c x u. storedIn (exponentialPoint (Exponential.headAt top c x u) w sums) [] (L.pos c x u) (L.neg c x u);
+      stored = λ w c x u. stored_in (exponential_point (Exponential.head_at top c x u) w sums) [] (L.pos c x u) (L.neg c x u);
       lies = λ w c x u on l r s. (ExponentialLists.shaped size top sums on c x r w l u s, ExponentialLists.finds size top sums on c x r w l u s);
     }
 
-pub explicit-keeps : (bounds : List Float) (sums : Bool) → Keeps (explicitWholeLister bounds sums)
+pub explicit-keeps : (bounds : List Float) (sums : Bool) → Keeps (explicit_whole_lister bounds sums)
 explicit-keeps bounds sums c x u v f l = ExplicitLent.recording-keeps bounds sums v f.value x u c l
 
-pub explicit-storing : (bounds : List Float) (sums : Bool) → Storing wholes (explicitWholeLister bounds sums) bounds
+pub explicit-storing : (bounds : List Float) (sums : Bool) → Storing wholes (explicit_whole_lister bounds sums) bounds
 explicit-storing bounds sums =
     record {
       found = λ at o. refl;
-      stored = λ w c x u. storedIn (explicitPoint (Explicit.headAt c x u) w sums) (boundsAt (span_of bounds) bounds) (Explicit.countsAt bounds c x u) [];
+      stored = λ w c x u. stored_in (explicit_point (Explicit.head_at c x u) w sums) (bounds_at (span_of bounds) bounds) (Explicit.counts_at bounds c x u) [];
       lies = λ w c x u on l r s. (refl, ExplicitLists.finds bounds sums w c x u l r);
     }

@@ -11,13 +11,13 @@ use Rattle.points.specs.Real.{real}
 use Rattle.points.specs.Whole.{whole}
 use Rattle.points.specs.Handed as Real
 use Rattle.point.specs.declared.Figures.{Figures}
-use Rattle.point.specs.Lists.{realPoints}
-use Rattle.whole_point.specs.Handing.{aloneNumber}
-use Rattle.whole_point.specs.Lists.{wholePoints}
-use Rattle.mean.specs.Mean.{meanIn}
-use Rattle.mean.specs.Values.{meanOfAll}
+use Rattle.point.specs.Lists.{real_points}
+use Rattle.whole_point.specs.Handing.{alone_number}
+use Rattle.whole_point.specs.Lists.{whole_points}
+use Rattle.mean.specs.Mean.{mean_in}
+use Rattle.mean.specs.Values.{mean_of_all}
 use Rattle.tally.specs.Kind.{Kind}
-use Rattle.kinds.specs.Any.{histogramsOf}
+use Rattle.kinds.specs.Any.{histograms_of}
 use Rattle.kinds.specs.Wholes as Whole
 use Rattle.listing.specs.Listed as Listing
 use Rattle.listing.specs.Listed.{Output}
@@ -37,26 +37,26 @@ pub record InRuns (N : Number) : Type 1 where
 
 -- the two histogram kinds over the number
 abbrev pub kind_of : {N : Number} → InRuns N → Kind
-kind_of {N} P = histogramsOf N P.point_of
+kind_of {N} P = histograms_of N P.point_of
 
 -- Request L2: the card of a point is the card of its values, where these are whole 1/1024ths whose magnitudes total at most 2^43
 abbrev pub reals : InRuns real
 reals =
     record {
-      coded = realPoints;
+      coded = real_points;
       point_of = Real.handed;
       figures = λ x. x.point.figures;
       found = Listing.found_at;
-      Card = λ z vs x. Gridded vs → meanIn x ≡ meanOfAll z.sums vs;
+      Card = λ z vs x. Gridded vs → mean_in x ≡ mean_of_all z.sums vs;
     }
 
 -- Request L6: "An i64 point gives 11 .. right after 8, in a card or sheet"
 abbrev pub wholes : InRuns whole
 wholes =
     record {
-      coded = wholePoints;
+      coded = whole_points;
       point_of = Whole.handed;
       figures = λ x. x.point.figures;
       found = WholeListing.found_at;
-      Card = λ z vs x. aloneNumber x ≡ 11;
+      Card = λ z vs x. alone_number x ≡ 11;
     }

@@ -9,10 +9,10 @@ use Rattle.value_map.specs.Store.{Store}
 use Rattle.value_map.specs.Calls.{Held}
 use Rattle.many.specs.Many.{Many}
 use Rattle.batches.specs.Agreed.{AgreedFor, AgreedBy}
-use Rattle.batches.specs.Batch.{measuredAll, measuredAllBy}
+use Rattle.batches.specs.Batch.{measured_all, measured_all_by}
 use Rattle.batches.specs.Owned.{Owned}
 use Rattle.collecting.specs.Lister.{Lister}
-use Rattle.promises.specs.Runs.{Asked, recording, recordingBy, ended, run}
+use Rattle.promises.specs.Runs.{Asked, recording, recording_by, ended, run}
 
 module _ {K : Kind} {S : Store K} (L : Lister S) (w : S.Switches) (limit : ℕ) (filter : Option (List ℕ)) where
   -- owned, in cells that can be lent, as those of a program's are
@@ -37,6 +37,6 @@ module _ {K : Kind} {S : Store K} (L : Lister S) (w : S.Switches) (limit : ℕ) 
     pub collects : (h : Held S.Cells) → Own h → Owned S w limit none h
     -- batches
     pub all-by-set : (h : Held S.Cells) → Own h → (vs : List K.Value) (attrs : Set) (small : Lendable attrs)
-        → let m = measuredAll S limit filter h vs attrs in Own m.left × Flat h m vs (λ v. recording v attrs small)
+        → let m = measured_all S limit filter h vs attrs in Own m.left × Flat h m vs (λ v. recording v attrs small)
     pub all-by-handle : (h : Held S.Cells) → Own h → (vs : List K.Value) (b : ℕ)
-        → let m = measuredAllBy S limit h vs b in Own m.left × Flat h m vs (recordingBy b)
+        → let m = measured_all_by S limit h vs b in Own m.left × Flat h m vs (recording_by b)

@@ -13,42 +13,42 @@ use Rattle.points.specs.Coded.{PointOf}
 use Rattle.point.specs.Lists.{Long}
 use Rattle.merging.specs.Merged.{Groups}
 use Rattle.tally.specs.Kind.{Kind}
-use Rattle.tally.specs.Sets.{Set, ofSet}
+use Rattle.tally.specs.Sets.{Set, of_set}
 use Rattle.tally.specs.Map.{Config, Call, Answer}
 use Rattle.tally.specs.Demand.{Answered, any, gained, points_of}
 use Rattle.value_map.specs.Store.{Store}
 use Rattle.value_map.specs.Calls.{Held}
-use Rattle.value_map.specs.Maps.{configOf}
+use Rattle.value_map.specs.Maps.{config_of}
 use Rattle.collecting.specs.Lister.{Lister}
-use Rattle.collecting.specs.Collected.{Collected, deltaCollected, pointsOut}
+use Rattle.collecting.specs.Collected.{Collected, delta_collected, points_out}
 use Rattle.promises.specs.Numbers.{InRuns, kind_of}
 use Rattle.promises.specs.Seen.{Shows}
-use Rattle.promises.specs.Runs.{Asked, recording, recordingBy, binding, releasing, collecting, ended, EveryRun}
+use Rattle.promises.specs.Runs.{Asked, recording, recording_by, binding, releasing, collecting, ended, EveryRun}
 
 -- ---- POINTS AS THEY LIE IN LENT OUTPUT
 
 module _ {K : Kind} {S : Store K} (L : Lister S) (w : S.Switches) (limit : ℕ) (filter : Option (List ℕ)) {A : Type 0} where
   -- a set's points in what the collections of a run left, by a reader of it
-  abbrev pub storedBy : (Collected S.Cells → List (Set × A)) → Set → Held S.Cells → List (Asked K) → List A
-  storedBy points r h [] = []
-  storedBy points r h (x ∷ xs) =
+  abbrev pub stored_by : (Collected S.Cells → List (Set × A)) → Set → Held S.Cells → List (Asked K) → List A
+  stored_by points r h [] = []
+  stored_by points r h (x ∷ xs) =
       elim x [
         | recording v attrs small ↦ []
-        | recordingBy b v ↦ []
+        | recording_by b v ↦ []
         | binding attrs small ↦ []
         | releasing b ↦ []
-        | collecting o ↦ ofSet r (points (deltaCollected L w limit h o))
+        | collecting o ↦ of_set r (points (delta_collected L w limit h o))
       ]
-      ++ storedBy points r (ended L w limit filter h x).1 xs
+      ++ stored_by points r (ended L w limit filter h x).1 xs
 
 module _ {N : Number} (P : InRuns N) where
   abbrev Stored : Type 0
   Stored = P.coded.Stored
 
   -- each as its collection left it, and as it is handed to a merge
-  abbrev pub storedOf : {S : Store (kind_of P)} → Lister S → List Float → S.Switches → ℕ → Option (List ℕ) → Set → Held S.Cells → List (Asked (kind_of P))
+  abbrev pub stored_of : {S : Store (kind_of P)} → Lister S → List Float → S.Switches → ℕ → Option (List ℕ) → Set → Held S.Cells → List (Asked (kind_of P))
       → List Stored
-  storedOf L bounds w limit filter = storedBy L w limit filter (λ c. get_or (pointsOut (P.found bounds) c) [])
+  stored_of L bounds w limit filter = stored_by L w limit filter (λ c. get_or (points_out (P.found bounds) c) [])
 
   -- document 01's point of some values, which shows their scale and offsets
   abbrev pub Pointed : Settings → Stored → Type 0
@@ -64,11 +64,11 @@ module _ {N : Number} (P : InRuns N) where
     -- has "exactly the scale, offsets, all counts, minimum and maximum (a zero's sign aside) that document 01 defines from its collected values. The
     -- sum too, if ..": `Stands` says each of them, `Shows` scale and offsets as they leave, signed
     pub stands : (t : Tree Stored) → Permᴰ ps (leaves t) → (x : Stored) → Groups P.coded size t x
-        → Stands N z (P.coded.handedIn x) values × Shows z.kind z.threshold (N.nears values) (P.figures x)
+        → Stands N z (P.coded.handed_in x) values × Shows z.kind z.threshold (N.nears values) (P.figures x)
     -- the card of what is merged: over f64 that of all the values (request L2)
     pub card : (t : Tree Stored) → Permᴰ ps (leaves t) → (x : Stored) → Groups P.coded size t x → P.Card z values x
     -- "A merge is refused only with 10": of what any groupings of some of the points left
-    pub onlyTen : (s t : Tree Stored) (rest : List Stored) → Permᴰ ps ((leaves s ++ leaves t) ++ rest) → (x y : Stored)
+    pub only_ten : (s t : Tree Stored) (rest : List Stored) → Permᴰ ps ((leaves s ++ leaves t) ++ rest) → (x y : Stored)
         → Groups P.coded size s x → Groups P.coded size t y → (us vs : List ℕ) (n : ℕ) → P.coded.merging size x y us vs ≡ refusal n → n ≡ 10
     -- "and repeated with longer output": in rows with room for any point of the configuration it is accepted
     pub accepted : (s t : Tree Stored) (rest : List Stored) → Permᴰ ps ((leaves s ++ leaves t) ++ rest) → (x y : Stored)
@@ -84,7 +84,7 @@ module _ {N : Number} (P : InRuns N) where
     -- collections cut". Over i64 "the tally answers 16 too, after its other refusals, for the sum of the set's waiting values" (request L6)
     pub answered : Answered (kind_of P) c qs ans
     -- the points that are stored are those that were answered
-    pub stored : (r : Set) → map P.coded.handedIn (ps r) ≡ points_of (kind_of P) r ans
+    pub stored : (r : Set) → map P.coded.handed_in (ps r) ≡ points_of (kind_of P) r ans
     -- each of them is document 01's point of some values (of which, `answered` says), and shows their scale and offsets
     pub each : (r : Set) → All (Pointed c.settings) (ps r)
     -- "each set with a collected value has a merged point ..". `resized size k ≡ k`: "under the configured max_size"; no merge of explicit points asks
@@ -96,4 +96,4 @@ module _ {N : Number} (P : InRuns N) where
   -- it holds of every list of calls from a state
   abbrev pub Holds : {S : Store (kind_of P)} → Lister S → List Float → S.Switches → ℕ → Option (List ℕ) → Held S.Cells → Type 0
   Holds {S} L bounds w limit filter h =
-      EveryRun L w limit filter h (λ xs qs ans. Whole (configOf S w limit filter) qs ans (λ r. storedOf L bounds w limit filter r h xs))
+      EveryRun L w limit filter h (λ xs qs ans. Whole (config_of S w limit filter) qs ans (λ r. stored_of L bounds w limit filter r h xs))

@@ -3,18 +3,18 @@ use Rattle.std.specs.Prelude.{◌-◌, ◌≡◌, true, false, List, Float}
 use Rattle.index.specs.Bins.{finest}
 use Rattle.index.specs.declared.signed.Integer.TheVariants.{OutOfRange, Is}
 use Rattle.points.specs.Points.{Point}
-use Rattle.points.specs.Signed.{scaleIn, offsetIn}
-use Rattle.points.specs.Values.{countsOf}
+use Rattle.points.specs.Signed.{scale_in, offset_in}
+use Rattle.points.specs.Values.{counts_of}
 use Rattle.points.specs.Figures.{Kind, exponential, explicit}
 use Rattle.point.specs.declared.Figures.{Figures}
-use Rattle.point.specs.Signed.{scaleShown, offsetShown}
+use Rattle.point.specs.Signed.{scale_shown, offset_shown}
 
 pub record Seen (p : Point) (f : Figures) : Type 0 where
-  pub scale : scaleShown f ≡ Is (scaleIn p)
-  pub pos : offsetShown false f ≡ Is (offsetIn p p.pos)
-  pub neg : offsetShown true f ≡ Is (offsetIn p p.neg)
+  pub scale : scale_shown f ≡ Is (scale_in p)
+  pub pos : offset_shown false f ≡ Is (offset_in p p.pos)
+  pub neg : offset_shown true f ≡ Is (offset_in p p.neg)
 
 -- of a point of the values, under a kind and zero threshold; "Explicit points have bucket counts, no scale, rows or zero count"
 abbrev pub Shows : Kind → Float → List Float → Figures → Type 0
-Shows (exponential size top) t vs f = Seen (countsOf size (finest - top) t vs) f
-Shows (explicit bounds) t vs f = scaleShown f ≡ OutOfRange
+Shows (exponential size top) t vs f = Seen (counts_of size (finest - top) t vs) f
+Shows (explicit bounds) t vs f = scale_shown f ≡ OutOfRange

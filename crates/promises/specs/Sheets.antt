@@ -9,8 +9,8 @@ use Rattle.tally.specs.Sets.{Set}
 use Rattle.kinds.specs.Histograms.{histograms}
 use Rattle.value_map.specs.Store.{Store}
 use Rattle.value_map.specs.Calls.{Held}
-use Rattle.value_map.specs.Maps.{configOf}
-use Rattle.listing.specs.Listed.{found_at, readFrom}
+use Rattle.value_map.specs.Maps.{config_of}
+use Rattle.listing.specs.Listed.{found_at, read_from}
 use Rattle.pooling.specs.Lists.{Source}
 use Rattle.collecting.specs.Lister.{Lister}
 use Rattle.collecting.specs.Collected.{Collected}
@@ -23,7 +23,7 @@ use Rattle.sheet_reading.specs.Reading.{reading}
 use Rattle.sheet_reading.specs.declared.Listed.{Listed}
 use Rattle.promises.specs.Numbers.{reals}
 use Rattle.promises.specs.Runs.{EveryRun}
-use Rattle.promises.specs.Pooled.{storedBy, Whole, Holds}
+use Rattle.promises.specs.Pooled.{stored_by, Whole, Holds}
 
 -- ---- WRITTEN AND READ
 
@@ -79,19 +79,19 @@ pub record Carried (n : ℕ) (x y : Source) : Type 0 where
   pub is : (reading bytes into).lent ≡ y
 
 -- the points that a list hands to merges, each with its set
-abbrev pub pointsAt : ℕ → Source → Option (List (Set × Stored))
-pointsAt n y = readFrom (found_at y.bounds) n (record { place = 0; pos = 0; neg = 0 }) y.list
+abbrev pub points_at : ℕ → Source → Option (List (Set × Stored))
+points_at n y = read_from (found_at y.bounds) n (record { place = 0; pos = 0; neg = 0 }) y.list
 
 -- of any list, a collection's or one that merges made, they are the same after it was carried: so is whatever is merged of them
 abbrev pub SheetCarries : Type 0
-SheetCarries = (n : ℕ) (x y : Source) → Carried n x y → pointsAt n y ≡ pointsAt n x
+SheetCarries = (n : ℕ) (x y : Source) → Carried n x y → points_at n y ≡ points_at n x
 
 -- the points of a collection, in the list that theirs was carried to
-abbrev pub carriedOut : {Cells : Type 0} → List Float → (ℕ → Source → Source) → Collected Cells → List (Set × Stored)
-carriedOut bounds carry c =
+abbrev pub carried_out : {Cells : Type 0} → List Float → (ℕ → Source → Source) → Collected Cells → List (Set × Stored)
+carried_out bounds carry c =
     elim c.answer [
       | refusal k ↦ []
-      | success n ↦ get_or (pointsAt n (carry n (record { list = c.out; bounds = bounds }))) []
+      | success n ↦ get_or (points_at n (carry n (record { list = c.out; bounds = bounds }))) []
     ]
 
 -- and so demand 3: whichever of a run's lists go through a sheet and whichever stay (alike lists alike), it holds as it does of the points as they
@@ -102,4 +102,4 @@ SheetMerges =
     → Holds reals L bounds w limit filter h
     → (carry : ℕ → Source → Source) → ((n : ℕ) (x : Source) → (carry n x ≡ x) ⊎ Carried n x (carry n x))
     → EveryRun L w limit filter h
-    (λ xs qs ans. Whole reals (configOf S w limit filter) qs ans (λ r. storedBy L w limit filter (carriedOut bounds carry) r h xs))
+    (λ xs qs ans. Whole reals (config_of S w limit filter) qs ans (λ r. stored_by L w limit filter (carried_out bounds carry) r h xs))

@@ -11,20 +11,20 @@ use lib.ListN.{length, get_or, take, drop}
 use lib.Seq.{get_or-drop, drop-cons}
 use Rattle.laws.specs.Pick.{pick}
 use Rattle.laws.specs.Counting.{table}
-use Rattle.records.specs.Words.{bytes2, bytes4, bytes8, bytes_of, twoAt, fourAt, word_at, words_of}
+use Rattle.records.specs.Words.{bytes2, bytes4, bytes8, bytes_of, two_at, four_at, word_at, words_of}
 use Rattle.records.specs.Records.{next, chained, unchained}
 use Rattle.records.specs.Inner.{AllBytes, link_of, place_of, cell_at, run}
 use Rattle.records.specs.Records.{cells}
-use Rattle.records.proofs.Bytes.{word-drop, table-shift}
+use Rattle.records.proofs.Bytes.{word-drop, table_shift}
 
 -- ---- places
 
-pub getD-table : (f : ℕ → ℕ) (lo n i : ℕ) → i < n → get_or (table f lo n) i 0 ≡ f (lo + i)
-getD-table f lo zero i h = absurd (omega arith)
-getD-table f lo (suc n) zero h = ap f (sym (add-zero lo))
-getD-table f lo (suc n) (suc i) h =
+pub get_or-table : (f : ℕ → ℕ) (lo n i : ℕ) → i < n → get_or (table f lo n) i 0 ≡ f (lo + i)
+get_or-table f lo zero i h = absurd (omega arith)
+get_or-table f lo (suc n) zero h = ap f (sym (add-zero lo))
+get_or-table f lo (suc n) (suc i) h =
     let e : suc lo + i ≡ lo + suc i = omega arith in
-    getD-table f (suc lo) n i (omega arith) ∙ ap f e
+    get_or-table f (suc lo) n i (omega arith) ∙ ap f e
 
 pub length-table : (f : ℕ → ℕ) (lo n : ℕ) → length (table f lo n) ≡ n
 length-table f lo zero = refl
@@ -34,13 +34,13 @@ pub word-at : (s : List ℕ) (i : ℕ) → i < length s / 8 → get_or (words_of
 unfolding words_of
 word-at s i h =
     let e : 0 + i ≡ i = omega arith in
-    getD-table (λ j. word_at s (8 * j)) 0 (length s / 8) i h ∙ ap (λ (j : ℕ). word_at s (8 * j)) e
+    get_or-table (λ j. word_at s (8 * j)) 0 (length s / 8) i h ∙ ap (λ (j : ℕ). word_at s (8 * j)) e
 
 abbrev spot : ℕ → ℕ
 spot k = k / 3 * 4 + 1 + k % 3
 
-pub getD-four : (l a b c : ℕ) (ws : List ℕ) (i : ℕ) → get_or (l ∷ a ∷ b ∷ c ∷ ws) (4 + i) 0 ≡ get_or ws i 0
-getD-four l a b c ws i = sym (get_or-drop 4 (l ∷ a ∷ b ∷ c ∷ ws) i 0)
+pub get_or-four : (l a b c : ℕ) (ws : List ℕ) (i : ℕ) → get_or (l ∷ a ∷ b ∷ c ∷ ws) (4 + i) 0 ≡ get_or ws i 0
+get_or-four l a b c ws i = sym (get_or-drop 4 (l ∷ a ∷ b ∷ c ∷ ws) i 0)
 
 unchained-at : (ws : List ℕ) (k : ℕ) → k < length ws / 4 * 3 → get_or (unchained ws) k 0 ≡ get_or ws (spot k) 0
 unfolding unchained
@@ -54,7 +54,7 @@ unchained-at (l ∷ a ∷ b ∷ c ∷ ws) (suc (suc zero)) h = refl
 unchained-at (l ∷ a ∷ b ∷ c ∷ ws) (suc (suc (suc k))) h =
     let e : 4 + spot k ≡ spot (suc (suc (suc k))) = omega arith in
     unchained-at ws k (omega arith)
-    ∙ sym (getD-four l a b c ws (spot k))
+    ∙ sym (get_or-four l a b c ws (spot k))
     ∙ ap (λ (j : ℕ). get_or (l ∷ a ∷ b ∷ c ∷ ws) j 0) e
 
 length-unchained : (ws : List ℕ) → length (unchained ws) ≡ length ws / 4 * 3
@@ -114,7 +114,7 @@ eight-back p q h =
 
 word_back : (a b c d e f g h : ℕ) (t : List ℕ) → AllBytes (a ∷ b ∷ c ∷ d ∷ e ∷ f ∷ g ∷ h ∷ t)
     → bytes8 (word_at (a ∷ b ∷ c ∷ d ∷ e ∷ f ∷ g ∷ h ∷ t) 0) ≡ a ∷ b ∷ c ∷ d ∷ e ∷ f ∷ g ∷ h ∷ []
-unfolding word_at fourAt twoAt bytes2 AllBytes
+unfolding word_at four_at two_at bytes2 AllBytes
 word_back a b c d e f g h t k =
     let ka : a < 256 = k 0 in
     let kb : b < 256 = k 1 in
@@ -141,7 +141,7 @@ module _ (m : ℕ) (a b c d e f g h : ℕ) (t : List ℕ) (k : AllBytes (a ∷ b
   unfolding bytes_of
   one-back ih =
       ap₂ ◌++◌ (word_back a b c d e f g h t k)
-      (ap bytes_of (table-shift (λ i. word_at eight (8 * i)) (λ i. word_at t (8 * i)) (λ i. ap (word_at eight) (eight-more i) ∙ sym (word-drop 8 eight (8 * i))) m 0)
+      (ap bytes_of (table_shift (λ i. word_at eight (8 * i)) (λ i. word_at t (8 * i)) (λ i. ap (word_at eight) (eight-more i) ∙ sym (word-drop 8 eight (8 * i))) m 0)
       ∙ ih)
 
 bytes-from : (m : ℕ) (s : List ℕ) → length s ≡ 8 * m → AllBytes s → bytes_of (table (λ i. word_at s (8 * i)) 0 m) ≡ s
@@ -196,7 +196,7 @@ chain-from info n (suc m) k i (a ∷ b ∷ c ∷ d ∷ ws) h l g f =
     (λ r p.
     let e4 : 4 + r * 4 ≡ suc r * 4 = omega arith in
     let e1 : k + suc r ≡ suc k + r = omega arith in
-    sym (getD-four a b c d ws (r * 4)) ∙ ap (λ (j : ℕ). get_or (a ∷ b ∷ c ∷ d ∷ ws) j 0) e4 ∙ f (suc r) (omega arith) ∙ ap (link_of info n) e1))
+    sym (get_or-four a b c d ws (r * 4)) ∙ ap (λ (j : ℕ). get_or (a ∷ b ∷ c ∷ d ∷ ws) j 0) e4 ∙ f (suc r) (omega arith) ∙ ap (link_of info n) e1))
 
 -- n records of bytes with the right links are the sheet of their words
 pub cells-own : (info n : ℕ) (s : List ℕ) → length s ≡ n * 32 → AllBytes s → ((r : ℕ) → r < n → word_at s (r * 32) ≡ link_of info n r)
@@ -213,12 +213,12 @@ cells-own info n s h k f =
 
 -- ---- a word is below 2 ^ 64
 
-two-small : (s : List ℕ) → AllBytes s → (i : ℕ) → twoAt s i < 65536
-unfolding AllBytes twoAt
+two-small : (s : List ℕ) → AllBytes s → (i : ℕ) → two_at s i < 65536
+unfolding AllBytes two_at
 two-small s k i = omega (arith, k i, k (i + 1))
 
-four-small : (s : List ℕ) → AllBytes s → (i : ℕ) → fourAt s i < 4294967296
-unfolding fourAt
+four-small : (s : List ℕ) → AllBytes s → (i : ℕ) → four_at s i < 4294967296
+unfolding four_at
 four-small s k i = omega (arith, two-small s k i, two-small s k (i + 2))
 
 join-small : (a b : ℕ) → a < 4294967296 → b < 4294967296 → a + 4294967296 * b < 18446744073709551616
@@ -226,7 +226,7 @@ join-small a b h g = omega arith
 
 word_small : (s : List ℕ) → AllBytes s → (i : ℕ) → word_at s i < 18446744073709551616
 unfolding word_at
-word_small s k i = join-small (fourAt s i) (fourAt s (i + 4)) (four-small s k i) (four-small s k (i + 4))
+word_small s k i = join-small (four_at s i) (four_at s (i + 4)) (four-small s k i) (four-small s k (i + 4))
 
 pub cells-small : (s : List ℕ) → AllBytes s → (i : ℕ) → i < length (cells s) → get_or (cells s) i 0 < 18446744073709551616
 unfolding cell_at

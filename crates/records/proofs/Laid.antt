@@ -14,34 +14,34 @@ use lib.Seq.{take-suc, take-suc-set, length-take-le, sets-eq, length-sets, take_
 use Rattle.laws.specs.Pick.{pick}
 use Rattle.records.specs.Words.{bytes2, bytes4, bytes8, bytes_of}
 use Rattle.records.specs.Records.{next, chained}
-use Rattle.records.specs.Inner.{putWord, link_of, place_of, emitted, laid}
+use Rattle.records.specs.Inner.{put_word, link_of, place_of, emitted, laid}
 use Rattle.records.proofs.Records as C
 use Rattle.records.proofs.Records.{Whole}
 use Rattle.records.proofs.Links.{emit-first, emit-later}
 
 -- ---- lengths
 
-length-put : (i x : ℕ) (s : List ℕ) → length (putWord i x s) ≡ length s
-unfolding putWord
+length-put : (i x : ℕ) (s : List ℕ) → length (put_word i x s) ≡ length s
+unfolding put_word
 length-put i x s = length-sets s i (bytes8 x)
 
-length-picked : (b : Bool) (u v s : List ℕ) → length u ≡ length s → length v ≡ length s → length (pick b u v) ≡ length s
+length_picked : (b : Bool) (u v s : List ℕ) → length u ≡ length s → length v ≡ length s → length (pick b u v) ≡ length s
 unfolding pick
-length-picked true u v s p q = p
-length-picked false u v s p q = q
+length_picked true u v s p q = p
+length_picked false u v s p q = q
 
 pub length-emitted : (info n k x : ℕ) (s : List ℕ) → length (emitted info n k x s) ≡ length s
 unfolding emitted
 length-emitted info n k x s =
     length-put (place_of k) x _
-    ∙ length-picked (eqb (k % 3) 0) (putWord (k / 3 * 32) (link_of info n (k / 3)) s) s s (length-put (k / 3 * 32) (link_of info n (k / 3)) s) refl
+    ∙ length_picked (eqb (k % 3) 0) (put_word (k / 3 * 32) (link_of info n (k / 3)) s) s s (length-put (k / 3 * 32) (link_of info n (k / 3)) s) refl
 
-pub laid-append : (info n k : ℕ) (xs ys s : List ℕ) → laid info n k (xs ++ ys) s ≡ laid info n (k + length xs) ys (laid info n k xs s)
+pub laid_append : (info n k : ℕ) (xs ys s : List ℕ) → laid info n k (xs ++ ys) s ≡ laid info n (k + length xs) ys (laid info n k xs s)
 unfolding laid
-laid-append info n k [] ys s = ap (λ (j : ℕ). laid info n j ys s) (sym (add-zero k))
-laid-append info n k (x ∷ xs) ys s =
+laid_append info n k [] ys s = ap (λ (j : ℕ). laid info n j ys s) (sym (add-zero k))
+laid_append info n k (x ∷ xs) ys s =
     let e : suc k + length xs ≡ k + suc (length xs) = omega arith in
-    laid-append info n (suc k) xs ys (emitted info n k x s)
+    laid_append info n (suc k) xs ys (emitted info n k x s)
     ∙ ap (λ (j : ℕ). laid info n j ys (laid info n (suc k) xs (emitted info n k x s))) e
 
 length-eight : (x : ℕ) → length (bytes8 x) ≡ 8
@@ -50,8 +50,8 @@ length-eight x = refl
 
 -- ---- a word at the end of what is written
 
-put-end : (q r : List ℕ) (i x : ℕ) → length q ≡ i → 8 ≤ length r → putWord i x (q ++ r) ≡ (q ++ bytes8 x) ++ drop 8 r
-unfolding putWord
+put-end : (q r : List ℕ) (i x : ℕ) → length q ≡ i → 8 ≤ length r → put_word i x (q ++ r) ≡ (q ++ bytes8 x) ++ drop 8 r
+unfolding put_word
 put-end q r i x e h =
     let l : i + length (bytes8 x) ≤ length (q ++ r) = omega (arith, length-append q r, length-eight x) in
     let a : i + length (bytes8 x) ≡ length q + 8 = omega (arith, length-eight x) in
@@ -74,9 +74,9 @@ module _ (info n k a b c : ℕ) (q r : List ℕ) (at : length q ≡ k * 32) (roo
       let m : k * 3 / 3 * 32 ≡ k * 32 = omega arith in
       let l : length (q ++ bytes8 (link_of info n k)) ≡ k * 32 + 8 = omega (arith, length-append q (bytes8 (link_of info n k)), length-eight (link_of info n k)) in
       sym (emit-first info n (k * 3) a (q ++ r) z)
-      ∙ ap₂ (λ (u v : ℕ). putWord u a (putWord v (link_of info n (k * 3 / 3)) (q ++ r))) p m
-      ∙ ap (λ (u : ℕ). putWord (k * 32 + 8) a (putWord (k * 32) (link_of info n u) (q ++ r))) d
-      ∙ ap (putWord (k * 32 + 8) a) (put-end q r (k * 32) (link_of info n k) at (omega arith))
+      ∙ ap₂ (λ (u v : ℕ). put_word u a (put_word v (link_of info n (k * 3 / 3)) (q ++ r))) p m
+      ∙ ap (λ (u : ℕ). put_word (k * 32 + 8) a (put_word (k * 32) (link_of info n u) (q ++ r))) d
+      ∙ ap (put_word (k * 32 + 8) a) (put-end q r (k * 32) (link_of info n k) at (omega arith))
       ∙ put-end (q ++ bytes8 (link_of info n k)) (drop 8 r) (k * 32 + 8) a l (omega (arith, length-drop 8 r))
 
 later : (info n k j x : ℕ) (q r : List ℕ) → 0 < j → j < 3 → length q ≡ k * 32 + 8 + j * 8 → 8 ≤ length r
@@ -86,7 +86,7 @@ later info n k j x q r low high at room =
     let m : (k * 3 + j) % 3 ≡ j = omega arith in
     let p : (k * 3 + j) / 3 * 32 + 8 + (k * 3 + j) % 3 * 8 ≡ k * 32 + 8 + j * 8 = omega arith in
     sym (emit-later info n (k * 3 + j) x (q ++ r) (λ e. omega arith))
-    ∙ ap (λ (u : ℕ). putWord u x (q ++ r)) p
+    ∙ ap (λ (u : ℕ). put_word u x (q ++ r)) p
     ∙ put-end q r (k * 32 + 8 + j * 8) x at room
 
 regroup : (q a b c d : List ℕ) → (((q ++ a) ++ b) ++ c) ++ d ≡ q ++ (a ++ (b ++ (c ++ d)))
@@ -96,12 +96,12 @@ regroup' : (q a b c d e : List ℕ) → (q ++ (a ++ (b ++ (c ++ d)))) ++ e ≡ q
 regroup' q a b c d e = simp append_assoc
 
 -- the four words of record k
-abbrev recordBytes : ℕ → ℕ → ℕ → ℕ → List ℕ
-recordBytes l a b c = bytes8 l ++ (bytes8 a ++ (bytes8 b ++ bytes8 c))
+abbrev record_bytes : ℕ → ℕ → ℕ → ℕ → List ℕ
+record_bytes l a b c = bytes8 l ++ (bytes8 a ++ (bytes8 b ++ bytes8 c))
 
 module _ (info n k a b c : ℕ) (q r : List ℕ) (at : length q ≡ k * 32) (room : 32 ≤ length r) where
   record-laid : emitted info n (suc (suc (k * 3))) c (emitted info n (suc (k * 3)) b (emitted info n (k * 3) a (q ++ r)))
-      ≡ (q ++ recordBytes (link_of info n k) a b c) ++ drop 32 r
+      ≡ (q ++ record_bytes (link_of info n k) a b c) ++ drop 32 r
   record-laid =
       let l = link_of info n k in
       let q1 = (q ++ bytes8 l) ++ bytes8 a in
@@ -123,9 +123,9 @@ module _ (info n k a b c : ℕ) (q r : List ℕ) (at : length q ≡ k * 32) (roo
 
 -- ---- the whole
 
-length-record : (l a b c : ℕ) → length (recordBytes l a b c) ≡ 32
+length_record : (l a b c : ℕ) → length (record_bytes l a b c) ≡ 32
 unfolding bytes8 bytes4 bytes2
-length-record l a b c = refl
+length_record l a b c = refl
 
 pub link-is : (k n : ℕ) {ws : List ℕ} → Whole ws → suc k * 3 + length ws ≡ n * 3 → pick (eqb (k + 1) n) 0 (k + 1) ≡ next k ws
 unfolding next pick
@@ -142,12 +142,12 @@ laid_from info n k i C.none h g q r at room =
     sym (ap₂ (λ (u : List ℕ) (v : ℕ). u ++ drop v r) (append-nil q) e)
 laid_from info n k i (C.more {a = a} {b = b} {c = c} {ws = ws} p) h g q r at room =
     let l = link_of info n k in
-    let R = recordBytes l a b c in
+    let R = record_bytes l a b c in
     let e : suc (suc (suc (k * 3))) ≡ suc k * 3 = omega arith in
     let f : suc k * 3 + length ws ≡ n * 3 = omega arith in
     let m : l ≡ i * 4294967296 + next k ws = ap₂ ◌+◌ (sym g) (link-is k n p f) in
     let x : 32 ≤ length r = omega arith in
-    let y : length (q ++ R) ≡ suc k * 32 = omega (arith, length-append q R, length-record l a b c) in
+    let y : length (q ++ R) ≡ suc k * 32 = omega (arith, length-append q R, length_record l a b c) in
     let z : (n - suc k) * 32 ≤ length (drop 32 r) = omega (arith, length-drop 32 r) in
     let w : 32 + (n - suc k) * 32 ≡ (n - k) * 32 = omega arith in
     let t = bytes_of (chained 0 (suc k) ws) in
@@ -175,7 +175,7 @@ place-room k n m h l = omega arith
 
 laid_more : (info n k : ℕ) (xs : List ℕ) (x : ℕ) (s : List ℕ) → laid info n k (xs ++ (x ∷ [])) s ≡ emitted info n (k + length xs) x (laid info n k xs s)
 unfolding laid
-laid_more info n k xs x s = laid-append info n k xs (x ∷ []) s
+laid_more info n k xs x s = laid_append info n k xs (x ∷ []) s
 
 -- ---- the turns of loops
 

@@ -5,7 +5,7 @@ use mathlib.Core.List.{List}
 use native.Mathlib.Omega.{arith}
 use borrow.Author.Tests.{eq-eqb, ne_eqb}
 use Rattle.laws.specs.Pick.{pick}
-use Rattle.records.specs.Inner.{putWord, link_of, place_of, emitted}
+use Rattle.records.specs.Inner.{put_word, link_of, place_of, emitted}
 
 module _ (info n r : ℕ) where
   pub link-alone : r ≡ 0 → n ≡ 1 → info * 4294967296 ≡ link_of info n r
@@ -25,11 +25,11 @@ module _ (info n r : ℕ) where
   link-next a b = rw (ne_eqb r 0 a, ne_eqb (r + 1) n b) (omega arith)
 
 module _ (info n k x : ℕ) (s : List ℕ) where
-  pub emit-first : k % 3 ≡ 0 → putWord (place_of k) x (putWord (k / 3 * 32) (link_of info n (k / 3)) s) ≡ emitted info n k x s
+  pub emit-first : k % 3 ≡ 0 → put_word (place_of k) x (put_word (k / 3 * 32) (link_of info n (k / 3)) s) ≡ emitted info n k x s
   unfolding emitted pick
   emit-first e = rw (eq-eqb (k % 3) 0 e)
 
-  pub emit-later : (k % 3 ≡ 0 → ⊥) → putWord (place_of k) x s ≡ emitted info n k x s
+  pub emit-later : (k % 3 ≡ 0 → ⊥) → put_word (place_of k) x s ≡ emitted info n k x s
   unfolding emitted pick
   emit-later e = rw (ne_eqb (k % 3) 0 e)
 

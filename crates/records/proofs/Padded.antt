@@ -7,7 +7,7 @@ use lib.ListN.{length, replicate, length-append}
 use Rattle.records.specs.Records.{padded, width}
 use Rattle.records.specs.Inner.{laid, emitted, Room}
 use Rattle.records.proofs.Records.{length-padded}
-use Rattle.records.proofs.Laid.{laid-append}
+use Rattle.records.proofs.Laid.{laid_append}
 
 pub room-kept : (info n : ℕ) (s s' : List ℕ) → Room info n s → length s' ≡ length s → Room info n s'
 room-kept info n s s' r e = record { small = r.small; few = r.few; long = omega (arith, r.long, e) }
@@ -35,9 +35,9 @@ module _ (info n k : ℕ) (xs ys s₀ s₁ s₂ s₃ : List ℕ) where
       let l : length (xs ++ ys) ≡ m = length-append xs ys in
       let p : padded (xs ++ ys) ≡ (xs ++ ys) ++ z = padded-is (xs ++ ys) ∙ ap (λ (j : ℕ). (xs ++ ys) ++ replicate (width j - j) 0) l in
       c
-      ∙ ap (laid info n (k + m) z) (b ∙ ap (laid info n (k + length xs) ys) a ∙ sym (laid-append info n k xs ys s₀))
+      ∙ ap (laid info n (k + m) z) (b ∙ ap (laid info n (k + length xs) ys) a ∙ sym (laid_append info n k xs ys s₀))
       ∙ ap (λ (j : ℕ). laid info n (k + j) z (laid info n k (xs ++ ys) s₀)) (sym l)
-      ∙ sym (laid-append info n k (xs ++ ys) z s₀)
+      ∙ sym (laid_append info n k (xs ++ ys) z s₀)
       ∙ ap (λ (u : List ℕ). laid info n k u s₀) (sym p)
 
 pub header-laid : (info n a b : ℕ) (s₀ s₁ s₂ s₃ : List ℕ) → s₁ ≡ emitted info n 0 a s₀ → s₂ ≡ emitted info n 1 b s₁ → s₃ ≡ emitted info n 2 0 s₂
@@ -57,14 +57,14 @@ module _ (info n k j : ℕ) (set head bounds none first second s₀ s₁ s₂ s�
       let y : length none ≡ 0 = ap length z in
       let i1 : k + 9 ≡ k + length set = omega arith in
       let i2 : k + 21 ≡ k + length set + length head = omega arith in
-      let i3 : j ≡ k + length set + length head + length P = omega (arith, length-padded bounds, y, ap width (width-arg y)) in
+      let i3 : j ≡ k + length set + length head + length P = omega (arith, length-padded bounds, y, ap width (width_arg y)) in
       g
       ∙ ap₂ (λ (u : ℕ) (v : List ℕ). laid info n u Q v) i3
       (c ∙ ap₂ (λ (u : ℕ) (v : List ℕ). laid info n u (padded v) s₂) i2 x
       ∙ ap (laid info n (k + length set + length head) P) (b ∙ ap₂ (λ (u : ℕ) (v : List ℕ). laid info n u head v) i1 a))
-      ∙ sym (laid-append info n (k + length set + length head) P Q (laid info n (k + length set) head (laid info n k set s₀)))
-      ∙ sym (laid-append info n (k + length set) head (P ++ Q) (laid info n k set s₀))
-      ∙ sym (laid-append info n k set (head ++ (P ++ Q)) s₀)
+      ∙ sym (laid_append info n (k + length set + length head) P Q (laid info n (k + length set) head (laid info n k set s₀)))
+      ∙ sym (laid_append info n (k + length set) head (P ++ Q) (laid info n k set s₀))
+      ∙ sym (laid_append info n k set (head ++ (P ++ Q)) s₀)
     where
-      width-arg : length none ≡ 0 → length bounds + length none ≡ length bounds
-      width-arg y = omega arith
+      width_arg : length none ≡ 0 → length bounds + length none ≡ length bounds
+      width_arg y = omega arith

@@ -11,8 +11,8 @@ unfoldable pub AllBytes : List ℕ → Type 0
 AllBytes s = (i : ℕ) → get_or s i 0 < 256
 
 -- a word written from place i on
-unfoldable pub putWord : ℕ → ℕ → List ℕ → List ℕ
-putWord i x s = sets s i (bytes8 x)
+unfoldable pub put_word : ℕ → ℕ → List ℕ → List ℕ
+put_word i x s = sets s i (bytes8 x)
 
 -- the first word of record r of n
 unfoldable pub link_of : ℕ → ℕ → ℕ → ℕ
@@ -25,7 +25,7 @@ place_of k = k / 3 * 32 + 8 + k % 3 * 8
 -- the word k of a sheet of n records, with the link before it where it is a record's first
 unfoldable pub emitted : ℕ → ℕ → ℕ → ℕ → List ℕ → List ℕ
 emitted info n k x s =
-    putWord (place_of k) x (pick (eqb (k % 3) 0) (putWord (k / 3 * 32) (link_of info n (k / 3)) s) s)
+    put_word (place_of k) x (pick (eqb (k % 3) 0) (put_word (k / 3 * 32) (link_of info n (k / 3)) s) s)
 
 -- words from k on
 unfoldable pub laid : ℕ → ℕ → ℕ → List ℕ → List ℕ → List ℕ
@@ -47,9 +47,9 @@ abbrev pub run : List ℕ → ℕ → ℕ → List ℕ
 run s k m = table (cell_at s) k m
 
 -- link r of n is right
-abbrev pub linkHolds : ℕ → ℕ → List ℕ → ℕ → Bool
-linkHolds info n s r = eqb (word_at s (r * 32)) (link_of info n r)
+abbrev pub link_holds : ℕ → ℕ → List ℕ → ℕ → Bool
+link_holds info n s r = eqb (word_at s (r * 32)) (link_of info n r)
 
 -- the word k + i is zero
-abbrev pub zeroAt : List ℕ → ℕ → ℕ → Bool
-zeroAt s k i = eqb (cell_at s (k + i)) 0
+abbrev pub zero_at : List ℕ → ℕ → ℕ → Bool
+zero_at s k i = eqb (cell_at s (k + i)) 0

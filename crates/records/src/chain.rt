@@ -2,7 +2,7 @@
 ghost use Rattle.std.specs.Prelude.{◌≡◌, ◌+◌, ◌*◌, ◌/◌, ◌≤◌, ◌<◌, length, replicate};
 ghost use Rattle.sets.specs.All.{allb};
 ghost use Rattle.records.specs.Records.{width};
-ghost use Rattle.records.specs.Inner.{link_of, place_of, emitted, cell_at, laid, Room, run, linkHolds, zeroAt};
+ghost use Rattle.records.specs.Inner.{link_of, place_of, emitted, cell_at, laid, Room, run, link_holds, zero_at};
 
 // The first word of record r of n.
 pub fn link_of(info: u64, n: usize, r: usize) -> u64
@@ -91,7 +91,7 @@ pub fn read_run(s: &[u8], k: usize, out: &mut [u64])
 // Whether m words from k on are zeros.
 pub fn are_zeros(s: &[u8], k: usize, m: usize) -> bool
     requires { (k + m < 4294967296) × ((k + m + 2) / 3 * 32 ≤ length s.now) }
-    ensures { result ≡ allb m (zeroAt s.now k) }
+    ensures { result ≡ allb m (zero_at s.now k) }
 {
     let mut i: usize = 0;
     while i < m {
@@ -106,7 +106,7 @@ pub fn are_zeros(s: &[u8], k: usize, m: usize) -> bool
 // Whether the links of n records are right.
 pub fn links_hold(s: &[u8], info: u64, n: usize) -> bool
     requires { Room info n s.now }
-    ensures { result ≡ allb n (linkHolds info n s.now) }
+    ensures { result ≡ allb n (link_holds info n s.now) }
 {
     let mut r: usize = 0;
     while r < n {

@@ -1,8 +1,8 @@
 // Words of 64 bits as eight bytes, the low byte first.
 ghost use Rattle.std.specs.Prelude.{◌≡◌, ◌+◌, ◌*◌, ◌≤◌, ◌<◌, length};
 ghost use Rattle.std.proofs.lemmas.List.Edits.{sets};
-ghost use Rattle.records.specs.Words.{bytes2, bytes4, twoAt, fourAt, word_at};
-ghost use Rattle.records.specs.Inner.{AllBytes, putWord};
+ghost use Rattle.records.specs.Words.{bytes2, bytes4, two_at, four_at, word_at};
+ghost use Rattle.records.specs.Inner.{AllBytes, put_word};
 
 fn wide(x: u8) -> u64
     ensures { (result ≡ x) × (result < 256) }
@@ -23,14 +23,14 @@ pub fn know_bytes(s: &[u8])
 
 fn two_at(s: &[u8], i: usize) -> u64
     requires { i + 2 ≤ length s.now }
-    ensures { (result ≡ twoAt s.now i) × (result < 65536) }
+    ensures { (result ≡ two_at s.now i) × (result < 65536) }
 {
     wide(s[i]) + 256 * wide(s[i + 1])
 }
 
 fn four_at(s: &[u8], i: usize) -> u64
     requires { i + 4 ≤ length s.now }
-    ensures { (result ≡ fourAt s.now i) × (result < 4294967296) }
+    ensures { (result ≡ four_at s.now i) × (result < 4294967296) }
 {
     two_at(s, i) + 65536 * two_at(s, i + 2)
 }
@@ -64,7 +64,7 @@ fn put_four(s: &mut [u8], i: usize, x: u64)
 // A word written from place i on.
 pub fn put_word(s: &mut [u8], i: usize, x: u64)
     requires { i + 8 ≤ length s.old }
-    ensures { s.new ≡ putWord i x s.old }
+    ensures { s.new ≡ put_word i x s.old }
 {
     put_four(s, i, x % 4294967296);
     put_four(s, i + 4, x / 4294967296);

@@ -1,9 +1,9 @@
 // The explicit kind over f64.
 ghost use Rattle.std.specs.Prelude.{◌≡◌, eqb};
-ghost use Rattle.value_map.specs.Explicit.{explicitStore};
-ghost use Rattle.replay_state.specs.Bound.{lentStores, givenIn};
-ghost use Rattle.replay_explicit.specs.Followed.{boundsIn, cells_in};
-ghost use Rattle.replay_batches.specs.Batched.{listIn, afterAll, afterAllBy, afterBatch};
+ghost use Rattle.value_map.specs.Explicit.{explicit_store};
+ghost use Rattle.replay_state.specs.Bound.{lent_stores, given_in};
+ghost use Rattle.replay_explicit.specs.Followed.{bounds_in, cells_in};
+ghost use Rattle.replay_batches.specs.Batched.{list_in, after_all, after_all_by, after_batch};
 
 use replay_state::{State, lent};
 
@@ -19,8 +19,8 @@ fn measure_all(
     pos: &mut [u64],
     neg: &mut [u64],
 ) -> State
-    ensures { result ≡ afterAll (explicitStore (boundsIn s bounds.now)) s (listIn s 1 floats.entry) (givenIn s attrs.entry)
-        (lentStores s sets.entry entries.entry order.entry) (cells_in s neg.entry extremes.entry pos.entry) }
+    ensures { result ≡ after_all (explicit_store (bounds_in s bounds.now)) s (list_in s 1 floats.entry) (given_in s attrs.entry)
+        (lent_stores s sets.entry entries.entry order.entry) (cells_in s neg.entry extremes.entry pos.entry) }
 {
     let n = s.entries;
     let filter = s.filter;
@@ -53,8 +53,8 @@ fn measure_all_by(
     pos: &mut [u64],
     neg: &mut [u64],
 ) -> State
-    ensures { result ≡ afterAllBy (explicitStore (boundsIn s bounds.now)) s (listIn s 2 floats.entry)
-        (lentStores s sets.entry entries.entry order.entry) (cells_in s neg.entry extremes.entry pos.entry) }
+    ensures { result ≡ after_all_by (explicit_store (bounds_in s bounds.now)) s (list_in s 2 floats.entry)
+        (lent_stores s sets.entry entries.entry order.entry) (cells_in s neg.entry extremes.entry pos.entry) }
 {
     let n = s.entries;
     let reply = explicit_batches::measure_all_by(
@@ -86,8 +86,8 @@ pub fn follow(
     pos: &mut [u64],
     neg: &mut [u64],
 ) -> State
-    ensures { result ≡ afterBatch (explicitStore (boundsIn s bounds.now)) (eqb s.of 120) s floats.entry (givenIn s attrs.entry)
-        (lentStores s sets.entry entries.entry order.entry) (cells_in s neg.entry extremes.entry pos.entry) }
+    ensures { result ≡ after_batch (explicit_store (bounds_in s bounds.now)) (eqb s.of 120) s floats.entry (given_in s attrs.entry)
+        (lent_stores s sets.entry entries.entry order.entry) (cells_in s neg.entry extremes.entry pos.entry) }
 {
     if s.of != b'x' {
         return s;

@@ -1,9 +1,9 @@
 // The exponential kind over f64.
 ghost use Rattle.std.specs.Prelude.{◌≡◌, eqb};
-ghost use Rattle.value_map.specs.Exponential.{exponentialStore};
-ghost use Rattle.replay_state.specs.Bound.{lentStores, givenIn};
+ghost use Rattle.value_map.specs.Exponential.{exponential_store};
+ghost use Rattle.replay_state.specs.Bound.{lent_stores, given_in};
 ghost use Rattle.replay_exponential.specs.Followed.{cells_in};
-ghost use Rattle.replay_batches.specs.Batched.{listIn, afterAll, afterAllBy, afterBatch};
+ghost use Rattle.replay_batches.specs.Batched.{list_in, after_all, after_all_by, after_batch};
 
 use replay_state::{State, lent};
 
@@ -19,8 +19,8 @@ fn measure_all(
     pos: &mut [u64],
     neg: &mut [u64],
 ) -> State
-    ensures { result ≡ afterAll (exponentialStore s.size s.top) s (listIn s 1 floats.entry) (givenIn s attrs.entry)
-        (lentStores s sets.entry entries.entry order.entry) (cells_in s figures.entry extremes.entry pos.entry neg.entry) }
+    ensures { result ≡ after_all (exponential_store s.size s.top) s (list_in s 1 floats.entry) (given_in s attrs.entry)
+        (lent_stores s sets.entry entries.entry order.entry) (cells_in s figures.entry extremes.entry pos.entry neg.entry) }
 {
     let n = s.entries;
     let m = s.counts;
@@ -56,8 +56,8 @@ fn measure_all_by(
     pos: &mut [u64],
     neg: &mut [u64],
 ) -> State
-    ensures { result ≡ afterAllBy (exponentialStore s.size s.top) s (listIn s 2 floats.entry)
-        (lentStores s sets.entry entries.entry order.entry) (cells_in s figures.entry extremes.entry pos.entry neg.entry) }
+    ensures { result ≡ after_all_by (exponential_store s.size s.top) s (list_in s 2 floats.entry)
+        (lent_stores s sets.entry entries.entry order.entry) (cells_in s figures.entry extremes.entry pos.entry neg.entry) }
 {
     let n = s.entries;
     let m = s.counts;
@@ -92,8 +92,8 @@ pub fn follow(
     pos: &mut [u64],
     neg: &mut [u64],
 ) -> State
-    ensures { result ≡ afterBatch (exponentialStore s.size s.top) (eqb s.of 101) s floats.entry (givenIn s attrs.entry)
-        (lentStores s sets.entry entries.entry order.entry) (cells_in s figures.entry extremes.entry pos.entry neg.entry) }
+    ensures { result ≡ after_batch (exponential_store s.size s.top) (eqb s.of 101) s floats.entry (given_in s attrs.entry)
+        (lent_stores s sets.entry entries.entry order.entry) (cells_in s figures.entry extremes.entry pos.entry neg.entry) }
 {
     if s.of != b'e' {
         return s;

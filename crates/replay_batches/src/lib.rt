@@ -2,7 +2,7 @@
 //
 // The map's stores are lent as in the crates of the single calls, whose definitions the contracts cite.
 ghost use Rattle.std.specs.Prelude.{◌≡◌, take};
-ghost use Rattle.replay_batches.specs.Batched.{batchedIn};
+ghost use Rattle.replay_batches.specs.Batched.{batched_in};
 
 use batches::Batch;
 use replay_state::{State, within};
@@ -36,7 +36,7 @@ pub fn integers_in<'a>(xs: &'a [i64], n: u64) -> &'a [i64]
 
 // It tells how many values were taken, with the number that refused the next one and the directory that the call left.
 pub fn batched(s: State, reply: Batch) -> State
-    ensures { result ≡ batchedIn reply.taken reply.no reply.dir s }
+    ensures { result ≡ batched_in reply.taken reply.no reply.dir s }
 {
     let dir = reply.dir;
     let mut next = s;

@@ -1,10 +1,10 @@
 // Sums and last values. Their values lie behind the bounds.
 ghost use Rattle.std.specs.Prelude.{◌≡◌};
-ghost use Rattle.singles.specs.Stores.{singleStore};
+ghost use Rattle.singles.specs.Stores.{single_store};
 ghost use Rattle.replay_state.specs.After.{single};
-ghost use Rattle.replay_state.specs.Bound.{lentStores, givenIn};
-ghost use Rattle.replay_singles.specs.Followed.{kind_of, valuesIn};
-ghost use Rattle.replay_batches.specs.Batched.{listIn, afterAll, afterAllBy, afterBatch};
+ghost use Rattle.replay_state.specs.Bound.{lent_stores, given_in};
+ghost use Rattle.replay_singles.specs.Followed.{kind_of, values_in};
+ghost use Rattle.replay_batches.specs.Batched.{list_in, after_all, after_all_by, after_batch};
 
 use replay_state::{State, lent};
 
@@ -17,8 +17,8 @@ fn measure_all(
     entries: &mut [[u64; 3]],
     order: &mut [u32],
 ) -> State
-    ensures { result ≡ afterAll (singleStore (kind_of s)) s (listIn s 1 floats.entry) (givenIn s attrs.entry)
-        (lentStores s sets.entry entries.entry order.entry) (valuesIn s bounds.entry) }
+    ensures { result ≡ after_all (single_store (kind_of s)) s (list_in s 1 floats.entry) (given_in s attrs.entry)
+        (lent_stores s sets.entry entries.entry order.entry) (values_in s bounds.entry) }
 {
     let n = s.entries;
     let filter = s.filter;
@@ -46,8 +46,8 @@ fn measure_all_by(
     entries: &mut [[u64; 3]],
     order: &mut [u32],
 ) -> State
-    ensures { result ≡ afterAllBy (singleStore (kind_of s)) s (listIn s 2 floats.entry)
-        (lentStores s sets.entry entries.entry order.entry) (valuesIn s bounds.entry) }
+    ensures { result ≡ after_all_by (single_store (kind_of s)) s (list_in s 2 floats.entry)
+        (lent_stores s sets.entry entries.entry order.entry) (values_in s bounds.entry) }
 {
     let n = s.entries;
     let reply = single_batches::measure_all_by(
@@ -74,8 +74,8 @@ pub fn follow(
     entries: &mut [[u64; 3]],
     order: &mut [u32],
 ) -> State
-    ensures { result ≡ afterBatch (singleStore (kind_of s)) (single s.of) s floats.entry (givenIn s attrs.entry)
-        (lentStores s sets.entry entries.entry order.entry) (valuesIn s bounds.entry) }
+    ensures { result ≡ after_batch (single_store (kind_of s)) (single s.of) s floats.entry (given_in s attrs.entry)
+        (lent_stores s sets.entry entries.entry order.entry) (values_in s bounds.entry) }
 {
     if !replay_state::is_single(s.of) {
         return s;

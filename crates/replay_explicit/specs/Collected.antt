@@ -6,16 +6,16 @@ use Rattle.directory.specs.View.{Stores}
 use Rattle.explicit_slots.specs.Cells.{Cells}
 use Rattle.value_map.specs.Calls.{held}
 use Rattle.listing.specs.Listed.{Output}
-use Rattle.collecting.specs.Collected.{Collected, deltaCollected, cumulativeCollected}
-use Rattle.explicit_collection.specs.Points.{explicitLister}
+use Rattle.collecting.specs.Collected.{Collected, delta_collected, cumulative_collected}
+use Rattle.explicit_collection.specs.Points.{explicit_lister}
 use Rattle.replay_state.specs.declared.State.{State}
-use Rattle.replay_state.specs.After.{field, collectedBy}
-use Rattle.replay_state.specs.Lines.{collectedAs}
-use Rattle.replay_explicit.specs.Followed.{boundsIn}
+use Rattle.replay_state.specs.After.{field, collected_by}
+use Rattle.replay_state.specs.Lines.{collected_as}
+use Rattle.replay_explicit.specs.Followed.{bounds_in}
 
 -- the output, as long as the line says, at most 66 points and 10560 counts
-abbrev pub outputIn : State → Bor (List (List ℕ)) → Bor (List (List ℕ)) → Bor (List ℕ) → Bor (List ℕ) → Output
-outputIn s sets words pos neg =
+abbrev pub output_in : State → Bor (List (List ℕ)) → Bor (List (List ℕ)) → Bor (List ℕ) → Bor (List ℕ) → Output
+output_in s sets words pos neg =
     record {
       sets = take (min (field s 2) 66) sets.now;
       words = take (min (field s 2) 66) words.now;
@@ -24,16 +24,16 @@ outputIn s sets words pos neg =
     }
 
 abbrev pub listed : State → Collected Cells → State
-listed s x = collectedBy x.answer x.held.kept.dir s
+listed s x = collected_by x.answer x.held.kept.dir s
 
-unfoldable pub afterDelta : State → List Float → Stores → Cells → Output → State
-afterDelta s bounds d c o =
-    listed s (deltaCollected (explicitLister (boundsIn s bounds)) (s.extremes, s.sums) s.limit (held s.dir d c) o)
+unfoldable pub after_delta : State → List Float → Stores → Cells → Output → State
+after_delta s bounds d c o =
+    listed s (delta_collected (explicit_lister (bounds_in s bounds)) (s.extremes, s.sums) s.limit (held s.dir d c) o)
 
-unfoldable pub afterCumulative : State → List Float → Stores → Cells → Output → State
-afterCumulative s bounds d c o =
-    listed s (cumulativeCollected (explicitLister (boundsIn s bounds)) (s.extremes, s.sums) s.limit (held s.dir d c) o)
+unfoldable pub after_cumulative : State → List Float → Stores → Cells → Output → State
+after_cumulative s bounds d c o =
+    listed s (cumulative_collected (explicit_lister (bounds_in s bounds)) (s.extremes, s.sums) s.limit (held s.dir d c) o)
 
 -- a line that is no `c`, or is not of this kind, leaves the state
-abbrev pub afterCollected : State → List Float → Stores → Cells → Output → State
-afterCollected s bounds d c o = collectedAs (eqb s.of 120) s (afterDelta s bounds d c o) (afterCumulative s bounds d c o)
+abbrev pub after_collected : State → List Float → Stores → Cells → Output → State
+after_collected s bounds d c o = collected_as (eqb s.of 120) s (after_delta s bounds d c o) (after_cumulative s bounds d c o)

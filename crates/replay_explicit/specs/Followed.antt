@@ -6,25 +6,25 @@ use Rattle.std.specs.Float.Ieee.{of_bits}
 use Rattle.std.specs.Borrow.{Bor}
 use Rattle.laws.specs.Said.{Said, refusal, success}
 use Rattle.tally.specs.Sets.{Set}
-use Rattle.sets.specs.Sorted.{filterOf}
+use Rattle.sets.specs.Sorted.{filter_of}
 use Rattle.directory.specs.View.{Stores}
 use Rattle.explicit_slots.specs.Cells.{Cells}
-use Rattle.value_map.specs.Calls.{Outcome, held, measured, measuredBy}
-use Rattle.value_map.specs.Explicit.{explicitStore}
+use Rattle.value_map.specs.Calls.{Outcome, held, measured, measured_by}
+use Rattle.value_map.specs.Explicit.{explicit_store}
 use Rattle.explicit_collection.specs.Configured.{configured}
 use Rattle.explicit_collection.specs.declared.Setup.{Setup}
 use Rattle.replay_state.specs.declared.State.{State}
-use Rattle.replay_state.specs.After.{field, notBegun, newlyBegun, doneBy}
-use Rattle.replay_state.specs.Bound.{filterIn, afterBound}
-use Rattle.replay_state.specs.Lines.{followedBy}
+use Rattle.replay_state.specs.After.{field, not_begun, newly_begun, done_by}
+use Rattle.replay_state.specs.Bound.{filter_in, after_bound}
+use Rattle.replay_state.specs.Lines.{followed_by}
 
 -- of the store of bounds the first part, of 200 at most: those that wait for the next `n`
-abbrev pub waitingIn : State → List Float → List Float
-waitingIn s bounds = take (min s.next_bounds 200) bounds
+abbrev pub waiting_in : State → List Float → List Float
+waiting_in s bounds = take (min s.next_bounds 200) bounds
 
 -- and the second: those that were configured
-abbrev pub boundsIn : State → List Float → List Float
-boundsIn s bounds = take (min s.bounds 200) (drop 200 bounds)
+abbrev pub bounds_in : State → List Float → List Float
+bounds_in s bounds = take (min s.bounds 200) (drop 200 bounds)
 
 -- the series' stores, as long as a line `m` says; the totals lie behind the negative counts, which this kind has no use for
 abbrev pub cells_in : State → Bor (List ℕ) → Bor (List (List Float)) → Bor (List ℕ) → Cells
@@ -37,35 +37,35 @@ cells_in s neg extremes pos =
 
 -- ---- configuring
 
-abbrev pub configuredBy : Said Setup → State → State
-configuredBy (refusal n) s = notBegun n s
-configuredBy (success u) s = newlyBegun 0 u.dir s
+abbrev pub configured_by : Said Setup → State → State
+configured_by (refusal n) s = not_begun n s
+configured_by (success u) s = newly_begun 0 u.dir s
 
 -- with the bounds and the filter that wait
-unfoldable pub afterConfigured : State → List Float → Stores → Cells → State
-afterConfigured s bounds d c =
-    configuredBy
-    (configured (waitingIn s bounds) (eqb (field s 8) 49) (eqb (field s 9) 49) (field s 6)
-    (filterOf s.next_filtered (take s.next_keys s.next_filter)) d c).answer s
+unfoldable pub after_configured : State → List Float → Stores → Cells → State
+after_configured s bounds d c =
+    configured_by
+    (configured (waiting_in s bounds) (eqb (field s 8) 49) (eqb (field s 9) 49) (field s 6)
+    (filter_of s.next_filtered (take s.next_keys s.next_filter)) d c).answer s
 
 -- ---- recording
 
 abbrev pub recorded : State → Outcome Cells → State
-recorded s o = doneBy o.answer o.held.kept.dir s
+recorded s o = done_by o.answer o.held.kept.dir s
 
-unfoldable pub afterMeasured : State → List Float → Set → Stores → Cells → State
-afterMeasured s bounds attrs d c =
+unfoldable pub after_measured : State → List Float → Set → Stores → Cells → State
+after_measured s bounds attrs d c =
     recorded s
-    (measured (explicitStore (boundsIn s bounds)) s.limit (filterIn s) (held s.dir d c) (of_bits binary64 (field s 1)) attrs)
+    (measured (explicit_store (bounds_in s bounds)) s.limit (filter_in s) (held s.dir d c) (of_bits binary64 (field s 1)) attrs)
 
-unfoldable pub afterMeasuredBy : State → List Float → Stores → Cells → State
-afterMeasuredBy s bounds d c =
-    recorded s (measuredBy (explicitStore (boundsIn s bounds)) s.limit (held s.dir d c) (of_bits binary64 (field s 2)) (field s 1))
+unfoldable pub after_measured_by : State → List Float → Stores → Cells → State
+after_measured_by s bounds d c =
+    recorded s (measured_by (explicit_store (bounds_in s bounds)) s.limit (held s.dir d c) (of_bits binary64 (field s 2)) (field s 1))
 
 -- ---- any line
 
 -- by its letter; a line that is not of this kind, `x`, leaves the state
-abbrev pub afterFollowed : State → List Float → Set → Stores → Cells → State
-afterFollowed s bounds attrs d c =
-    followedBy (eqb s.of 120) s.letter (afterConfigured s bounds d c) (afterMeasured s bounds attrs d c)
-    (afterMeasuredBy s bounds d c) (afterBound s attrs d) s
+abbrev pub after_followed : State → List Float → Set → Stores → Cells → State
+after_followed s bounds attrs d c =
+    followed_by (eqb s.of 120) s.letter (after_configured s bounds d c) (after_measured s bounds attrs d c)
+    (after_measured_by s bounds d c) (after_bound s attrs d) s

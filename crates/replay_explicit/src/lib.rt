@@ -5,10 +5,10 @@
 // A function makes one call of the map: each is proved for itself.
 ghost use Rattle.std.specs.Prelude.{◌≡◌};
 ghost use Rattle.explicit_collection.specs.Configured.{said};
-ghost use Rattle.replay_state.specs.Bound.{lentStores, givenIn};
-ghost use Rattle.replay_explicit.specs.Followed.{cells_in, configuredBy};
-ghost use Rattle.replay_explicit.specs.Followed.{afterConfigured, afterMeasured, afterMeasuredBy, afterFollowed};
-ghost use Rattle.replay_explicit.specs.Collected.{outputIn, afterDelta, afterCumulative, afterCollected};
+ghost use Rattle.replay_state.specs.Bound.{lent_stores, given_in};
+ghost use Rattle.replay_explicit.specs.Followed.{cells_in, configured_by};
+ghost use Rattle.replay_explicit.specs.Followed.{after_configured, after_measured, after_measured_by, after_followed};
+ghost use Rattle.replay_explicit.specs.Collected.{output_in, after_delta, after_cumulative, after_collected};
 
 use explicit_collection::{Configured, Settings};
 use replay_state::{State, after, binding, lent};
@@ -16,7 +16,7 @@ use replay_state::{State, after, binding, lent};
 // ---- every line but collections
 
 pub fn configured(s: State, reply: Configured) -> State
-    ensures { result ≡ configuredBy (said reply) s }
+    ensures { result ≡ configured_by (said reply) s }
 {
     match reply {
         Configured::Refused(no) => after::unbegun(s, no),
@@ -37,7 +37,7 @@ fn configure(
     pos: &[u64],
     neg: &[u64],
 ) -> State
-    ensures { result ≡ afterConfigured s bounds.now (lentStores s sets.entry entries.entry order.entry)
+    ensures { result ≡ after_configured s bounds.now (lent_stores s sets.entry entries.entry order.entry)
         (cells_in s neg.entry extremes.entry pos.entry) }
 {
     let n = s.entries;
@@ -70,8 +70,8 @@ fn measure(
     pos: &mut [u64],
     neg: &mut [u64],
 ) -> State
-    ensures { result ≡ afterMeasured s bounds.now (givenIn s attrs.entry)
-        (lentStores s sets.entry entries.entry order.entry) (cells_in s neg.entry extremes.entry pos.entry) }
+    ensures { result ≡ after_measured s bounds.now (given_in s attrs.entry)
+        (lent_stores s sets.entry entries.entry order.entry) (cells_in s neg.entry extremes.entry pos.entry) }
 {
     let n = s.entries;
     let filter = s.filter;
@@ -103,7 +103,7 @@ fn measure_by(
     pos: &mut [u64],
     neg: &mut [u64],
 ) -> State
-    ensures { result ≡ afterMeasuredBy s bounds.now (lentStores s sets.entry entries.entry order.entry)
+    ensures { result ≡ after_measured_by s bounds.now (lent_stores s sets.entry entries.entry order.entry)
         (cells_in s neg.entry extremes.entry pos.entry) }
 {
     let n = s.entries;
@@ -135,8 +135,8 @@ pub fn follow(
     pos: &mut [u64],
     neg: &mut [u64],
 ) -> State
-    ensures { result ≡ afterFollowed s bounds.now (givenIn s attrs.entry)
-        (lentStores s sets.entry entries.entry order.entry) (cells_in s neg.entry extremes.entry pos.entry) }
+    ensures { result ≡ after_followed s bounds.now (given_in s attrs.entry)
+        (lent_stores s sets.entry entries.entry order.entry) (cells_in s neg.entry extremes.entry pos.entry) }
 {
     if s.of != b'x' {
         return s;
@@ -177,9 +177,9 @@ fn delta(
     out_pos: &mut [u64],
     out_neg: &mut [u64],
 ) -> State
-    ensures { result ≡ afterDelta s bounds.now (lentStores s sets.entry entries.entry order.entry)
+    ensures { result ≡ after_delta s bounds.now (lent_stores s sets.entry entries.entry order.entry)
         (cells_in s neg.entry extremes.entry pos.entry)
-        (outputIn s out_sets.entry out_words.entry out_pos.entry out_neg.entry) }
+        (output_in s out_sets.entry out_words.entry out_pos.entry out_neg.entry) }
 {
     let n = s.entries;
     let i = replay_state::within(s.f[2], 66) as u64;
@@ -218,9 +218,9 @@ fn cumulative(
     out_pos: &mut [u64],
     out_neg: &mut [u64],
 ) -> State
-    ensures { result ≡ afterCumulative s bounds.now (lentStores s sets.entry entries.entry order.entry)
+    ensures { result ≡ after_cumulative s bounds.now (lent_stores s sets.entry entries.entry order.entry)
         (cells_in s neg.entry extremes.entry pos.entry)
-        (outputIn s out_sets.entry out_words.entry out_pos.entry out_neg.entry) }
+        (output_in s out_sets.entry out_words.entry out_pos.entry out_neg.entry) }
 {
     let n = s.entries;
     let i = replay_state::within(s.f[2], 66) as u64;
@@ -258,9 +258,9 @@ pub fn collect(
     out_pos: &mut [u64],
     out_neg: &mut [u64],
 ) -> State
-    ensures { result ≡ afterCollected s bounds.now (lentStores s sets.entry entries.entry order.entry)
+    ensures { result ≡ after_collected s bounds.now (lent_stores s sets.entry entries.entry order.entry)
         (cells_in s neg.entry extremes.entry pos.entry)
-        (outputIn s out_sets.entry out_words.entry out_pos.entry out_neg.entry) }
+        (output_in s out_sets.entry out_words.entry out_pos.entry out_neg.entry) }
 {
     if s.of != b'x' {
         return s;

@@ -5,24 +5,24 @@ use Rattle.directory.specs.View.{Stores}
 use Rattle.explicit_whole_slots.specs.Cells.{Cells}
 use Rattle.value_map.specs.Calls.{held}
 use Rattle.listing.specs.Listed.{Output}
-use Rattle.collecting.specs.Collected.{Collected, deltaCollected, cumulativeCollected}
-use Rattle.explicit_whole_collection.specs.Points.{explicitWholeLister}
+use Rattle.collecting.specs.Collected.{Collected, delta_collected, cumulative_collected}
+use Rattle.explicit_whole_collection.specs.Points.{explicit_whole_lister}
 use Rattle.replay_state.specs.declared.State.{State}
-use Rattle.replay_state.specs.After.{field, collectedBy}
-use Rattle.replay_state.specs.Lines.{collectedAs}
-use Rattle.replay_explicit.specs.Followed.{boundsIn}
+use Rattle.replay_state.specs.After.{field, collected_by}
+use Rattle.replay_state.specs.Lines.{collected_as}
+use Rattle.replay_explicit.specs.Followed.{bounds_in}
 
 abbrev pub listed : State → Collected Cells → State
-listed s x = collectedBy x.answer x.held.kept.dir s
+listed s x = collected_by x.answer x.held.kept.dir s
 
-unfoldable pub afterDelta : State → List Float → Stores → Cells → Output → State
-afterDelta s bounds d c o =
-    listed s (deltaCollected (explicitWholeLister (boundsIn s bounds) s.sums) s.extremes s.limit (held s.dir d c) o)
+unfoldable pub after_delta : State → List Float → Stores → Cells → Output → State
+after_delta s bounds d c o =
+    listed s (delta_collected (explicit_whole_lister (bounds_in s bounds) s.sums) s.extremes s.limit (held s.dir d c) o)
 
-unfoldable pub afterCumulative : State → List Float → Stores → Cells → Output → State
-afterCumulative s bounds d c o =
-    listed s (cumulativeCollected (explicitWholeLister (boundsIn s bounds) s.sums) s.extremes s.limit (held s.dir d c) o)
+unfoldable pub after_cumulative : State → List Float → Stores → Cells → Output → State
+after_cumulative s bounds d c o =
+    listed s (cumulative_collected (explicit_whole_lister (bounds_in s bounds) s.sums) s.extremes s.limit (held s.dir d c) o)
 
 -- a line that is no `c`, or is not of this kind, leaves the state
-abbrev pub afterCollected : State → List Float → Stores → Cells → Output → State
-afterCollected s bounds d c o = collectedAs (eqb s.of 88) s (afterDelta s bounds d c o) (afterCumulative s bounds d c o)
+abbrev pub after_collected : State → List Float → Stores → Cells → Output → State
+after_collected s bounds d c o = collected_as (eqb s.of 88) s (after_delta s bounds d c o) (after_cumulative s bounds d c o)

@@ -4,11 +4,11 @@
 // The map's stores are lent as long as a line `m` says, the output as long as the line `c` does: too few of any is number 12 or 10.
 // A function makes one call of the map: each is proved for itself.
 ghost use Rattle.std.specs.Prelude.{◌≡◌};
-ghost use Rattle.replay_state.specs.Bound.{lentStores, givenIn};
-ghost use Rattle.replay_explicit.specs.Collected.{outputIn};
+ghost use Rattle.replay_state.specs.Bound.{lent_stores, given_in};
+ghost use Rattle.replay_explicit.specs.Collected.{output_in};
 ghost use Rattle.replay_explicit_wholes.specs.Followed.{cells_in};
-ghost use Rattle.replay_explicit_wholes.specs.Followed.{afterConfigured, afterMeasured, afterMeasuredBy, afterFollowed};
-ghost use Rattle.replay_explicit_wholes.specs.Collected.{afterDelta, afterCumulative, afterCollected};
+ghost use Rattle.replay_explicit_wholes.specs.Followed.{after_configured, after_measured, after_measured_by, after_followed};
+ghost use Rattle.replay_explicit_wholes.specs.Collected.{after_delta, after_cumulative, after_collected};
 
 use replay_state::{State, after, binding, lent};
 
@@ -24,7 +24,7 @@ fn configure(
     pos: &[u64],
     neg: &[u64],
 ) -> State
-    ensures { result ≡ afterConfigured s bounds.now (lentStores s sets.entry entries.entry order.entry)
+    ensures { result ≡ after_configured s bounds.now (lent_stores s sets.entry entries.entry order.entry)
         (cells_in s neg.entry extremes.entry pos.entry) }
 {
     let n = s.entries;
@@ -57,8 +57,8 @@ fn measure(
     pos: &mut [u64],
     neg: &mut [u64],
 ) -> State
-    ensures { result ≡ afterMeasured s bounds.now (givenIn s attrs.entry)
-        (lentStores s sets.entry entries.entry order.entry) (cells_in s neg.entry extremes.entry pos.entry) }
+    ensures { result ≡ after_measured s bounds.now (given_in s attrs.entry)
+        (lent_stores s sets.entry entries.entry order.entry) (cells_in s neg.entry extremes.entry pos.entry) }
 {
     let n = s.entries;
     let filter = s.filter;
@@ -91,7 +91,7 @@ fn measure_by(
     pos: &mut [u64],
     neg: &mut [u64],
 ) -> State
-    ensures { result ≡ afterMeasuredBy s bounds.now (lentStores s sets.entry entries.entry order.entry)
+    ensures { result ≡ after_measured_by s bounds.now (lent_stores s sets.entry entries.entry order.entry)
         (cells_in s neg.entry extremes.entry pos.entry) }
 {
     let n = s.entries;
@@ -124,8 +124,8 @@ pub fn follow(
     pos: &mut [u64],
     neg: &mut [u64],
 ) -> State
-    ensures { result ≡ afterFollowed s bounds.now (givenIn s attrs.entry)
-        (lentStores s sets.entry entries.entry order.entry) (cells_in s neg.entry extremes.entry pos.entry) }
+    ensures { result ≡ after_followed s bounds.now (given_in s attrs.entry)
+        (lent_stores s sets.entry entries.entry order.entry) (cells_in s neg.entry extremes.entry pos.entry) }
 {
     if s.of != b'X' {
         return s;
@@ -156,9 +156,9 @@ fn delta(
     out_pos: &mut [u64],
     out_neg: &mut [u64],
 ) -> State
-    ensures { result ≡ afterDelta s bounds.now (lentStores s sets.entry entries.entry order.entry)
+    ensures { result ≡ after_delta s bounds.now (lent_stores s sets.entry entries.entry order.entry)
         (cells_in s neg.entry extremes.entry pos.entry)
-        (outputIn s out_sets.entry out_words.entry out_pos.entry out_neg.entry) }
+        (output_in s out_sets.entry out_words.entry out_pos.entry out_neg.entry) }
 {
     let n = s.entries;
     let i = replay_state::within(s.f[2], 66) as u64;
@@ -197,9 +197,9 @@ fn cumulative(
     out_pos: &mut [u64],
     out_neg: &mut [u64],
 ) -> State
-    ensures { result ≡ afterCumulative s bounds.now (lentStores s sets.entry entries.entry order.entry)
+    ensures { result ≡ after_cumulative s bounds.now (lent_stores s sets.entry entries.entry order.entry)
         (cells_in s neg.entry extremes.entry pos.entry)
-        (outputIn s out_sets.entry out_words.entry out_pos.entry out_neg.entry) }
+        (output_in s out_sets.entry out_words.entry out_pos.entry out_neg.entry) }
 {
     let n = s.entries;
     let i = replay_state::within(s.f[2], 66) as u64;
@@ -237,9 +237,9 @@ pub fn collect(
     out_pos: &mut [u64],
     out_neg: &mut [u64],
 ) -> State
-    ensures { result ≡ afterCollected s bounds.now (lentStores s sets.entry entries.entry order.entry)
+    ensures { result ≡ after_collected s bounds.now (lent_stores s sets.entry entries.entry order.entry)
         (cells_in s neg.entry extremes.entry pos.entry)
-        (outputIn s out_sets.entry out_words.entry out_pos.entry out_neg.entry) }
+        (output_in s out_sets.entry out_words.entry out_pos.entry out_neg.entry) }
 {
     if s.of != b'X' {
         return s;

@@ -5,11 +5,11 @@ use native.Mathlib.Omega.{arith}
 use lib.IntN.{ℤ, pos}
 use Rattle.laws.proofs.Differences.{same-sub}
 use Rattle.index.specs.Bins.{finest}
-use Rattle.index.specs.Signed.{indexAnswer}
+use Rattle.index.specs.Signed.{index_answer}
 use Rattle.index.specs.declared.signed.Integer.{Integer}
 use Rattle.index.specs.declared.signed.Integer.TheVariants.{OutOfRange, Is}
 use Rattle.index.proofs.SignedCases.{index_is}
-use Rattle.replay_exponential.specs.Followed.{scaleIn}
+use Rattle.replay_exponential.specs.Followed.{scale_in}
 
 byte : (n : ℕ) → n % 256 < 256
 byte n = omega arith
@@ -20,20 +20,20 @@ above k h = omega (arith, h)
 back : (k : ℕ) → 2097024 + k + 128 ≡ k + 2097152
 back k = omega arith
 
-scale-is : (n : ℕ) → indexAnswer finest (2097024 + n % 256) ≡ Is (scaleIn n)
+scale-is : (n : ℕ) → index_answer finest (2097024 + n % 256) ≡ Is (scale_in n)
 scale-is n =
     index_is finest (2097024 + n % 256) (omega arith) (above (n % 256) (byte n))
     ∙ ap Is (same-sub (2097024 + n % 256) 2097152 (n % 256) 128 (back (n % 256)))
 
 -- as the code reads what it found
-abbrev pub scaleOr : Integer → ℤ
-scaleOr OutOfRange = pos 0
-scaleOr (Is x) = x
+abbrev pub scale_or : Integer → ℤ
+scale_or OutOfRange = pos 0
+scale_or (Is x) = x
 
 uncut : (k : ℕ) → k < 256 → (2097024 + k) % 4294967296 ≡ 2097024 + k
 uncut k h = omega (arith, h)
 
-pub scale-found : (n bin : ℕ) (found : Integer) → bin ≡ (2097024 + n % 256) % 4294967296 → found ≡ indexAnswer finest bin
-    → scaleOr found ≡ scaleIn n
+pub scale-found : (n bin : ℕ) (found : Integer) → bin ≡ (2097024 + n % 256) % 4294967296 → found ≡ index_answer finest bin
+    → scale_or found ≡ scale_in n
 scale-found n bin found b f =
-    ap scaleOr (f ∙ ap (indexAnswer finest) (b ∙ uncut (n % 256) (byte n)) ∙ scale-is n)
+    ap scale_or (f ∙ ap (index_answer finest) (b ∙ uncut (n % 256) (byte n)) ∙ scale-is n)

@@ -6,15 +6,15 @@ use Rattle.directory.specs.View.{Stores}
 use Rattle.exponential_slots.specs.Cells.{Cells}
 use Rattle.value_map.specs.Calls.{held}
 use Rattle.listing.specs.Listed.{Output}
-use Rattle.collecting.specs.Collected.{Collected, deltaCollected, cumulativeCollected}
-use Rattle.exponential_collection.specs.Points.{exponentialLister}
+use Rattle.collecting.specs.Collected.{Collected, delta_collected, cumulative_collected}
+use Rattle.exponential_collection.specs.Points.{exponential_lister}
 use Rattle.replay_state.specs.declared.State.{State}
-use Rattle.replay_state.specs.After.{field, collectedBy}
-use Rattle.replay_state.specs.Lines.{collectedAs}
+use Rattle.replay_state.specs.After.{field, collected_by}
+use Rattle.replay_state.specs.Lines.{collected_as}
 
 -- the output, as long as the line says, at most 66 points and 10560 counts of either sign
-abbrev pub outputIn : State → Bor (List (List ℕ)) → Bor (List (List ℕ)) → Bor (List ℕ) → Bor (List ℕ) → Output
-outputIn s sets words pos neg =
+abbrev pub output_in : State → Bor (List (List ℕ)) → Bor (List (List ℕ)) → Bor (List ℕ) → Bor (List ℕ) → Output
+output_in s sets words pos neg =
     record {
       sets = take (min (field s 2) 66) sets.now;
       words = take (min (field s 2) 66) words.now;
@@ -23,16 +23,16 @@ outputIn s sets words pos neg =
     }
 
 abbrev pub listed : State → Collected Cells → State
-listed s x = collectedBy x.answer x.held.kept.dir s
+listed s x = collected_by x.answer x.held.kept.dir s
 
-unfoldable pub afterDelta : State → Stores → Cells → Output → State
-afterDelta s d c o =
-    listed s (deltaCollected (exponentialLister s.size s.top) (s.extremes, s.sums) s.limit (held s.dir d c) o)
+unfoldable pub after_delta : State → Stores → Cells → Output → State
+after_delta s d c o =
+    listed s (delta_collected (exponential_lister s.size s.top) (s.extremes, s.sums) s.limit (held s.dir d c) o)
 
-unfoldable pub afterCumulative : State → Stores → Cells → Output → State
-afterCumulative s d c o =
-    listed s (cumulativeCollected (exponentialLister s.size s.top) (s.extremes, s.sums) s.limit (held s.dir d c) o)
+unfoldable pub after_cumulative : State → Stores → Cells → Output → State
+after_cumulative s d c o =
+    listed s (cumulative_collected (exponential_lister s.size s.top) (s.extremes, s.sums) s.limit (held s.dir d c) o)
 
 -- a line that is no `c`, or is not of this kind, leaves the state
-abbrev pub afterCollected : State → Stores → Cells → Output → State
-afterCollected s d c o = collectedAs (eqb s.of 101) s (afterDelta s d c o) (afterCumulative s d c o)
+abbrev pub after_collected : State → Stores → Cells → Output → State
+after_collected s d c o = collected_as (eqb s.of 101) s (after_delta s d c o) (after_cumulative s d c o)

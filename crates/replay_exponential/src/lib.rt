@@ -5,10 +5,10 @@
 // function makes one call of the map: each is proved for itself.
 ghost use Rattle.std.specs.Prelude.{◌≡◌};
 ghost use Rattle.exponential_collection.specs.Configured.{said};
-ghost use Rattle.replay_state.specs.Bound.{lentStores, givenIn};
-ghost use Rattle.replay_exponential.specs.Followed.{cells_in, scaleIn, configuredBy};
-ghost use Rattle.replay_exponential.specs.Followed.{afterConfigured, afterMeasured, afterMeasuredBy, afterFollowed};
-ghost use Rattle.replay_exponential.specs.Collected.{outputIn, afterDelta, afterCumulative, afterCollected};
+ghost use Rattle.replay_state.specs.Bound.{lent_stores, given_in};
+ghost use Rattle.replay_exponential.specs.Followed.{cells_in, scale_in, configured_by};
+ghost use Rattle.replay_exponential.specs.Followed.{after_configured, after_measured, after_measured_by, after_followed};
+ghost use Rattle.replay_exponential.specs.Collected.{output_in, after_delta, after_cumulative, after_collected};
 
 use exponential_collection::{Configured, Settings};
 use replay_state::{State, after, binding, lent};
@@ -18,7 +18,7 @@ use replay_state::{State, after, binding, lent};
 // The scale of a number 128 above it. It has the bin of the finest level that lies as far above it: so nothing signed is reckoned with
 // here.
 pub fn scale_of(n: u64) -> i32
-    ensures { result ≡ scaleIn n }
+    ensures { result ≡ scale_in n }
 {
     let bin = replay_state::cut(2097152 - 128 + n % 256);
     let found = index::signed::index_of(index::FINEST, bin);
@@ -29,7 +29,7 @@ pub fn scale_of(n: u64) -> i32
 }
 
 pub fn configured(s: State, reply: Configured) -> State
-    ensures { result ≡ configuredBy (said reply) s }
+    ensures { result ≡ configured_by (said reply) s }
 {
     match reply {
         Configured::Refused(no) => after::unbegun(s, no),
@@ -51,7 +51,7 @@ fn configure(
     pos: &[u64],
     neg: &[u64],
 ) -> State
-    ensures { result ≡ afterConfigured s (lentStores s sets.entry entries.entry order.entry)
+    ensures { result ≡ after_configured s (lent_stores s sets.entry entries.entry order.entry)
         (cells_in s figures.entry extremes.entry pos.entry neg.entry) }
 {
     let n = s.entries;
@@ -87,7 +87,7 @@ fn measure(
     pos: &mut [u64],
     neg: &mut [u64],
 ) -> State
-    ensures { result ≡ afterMeasured s (givenIn s attrs.entry) (lentStores s sets.entry entries.entry order.entry)
+    ensures { result ≡ after_measured s (given_in s attrs.entry) (lent_stores s sets.entry entries.entry order.entry)
         (cells_in s figures.entry extremes.entry pos.entry neg.entry) }
 {
     let n = s.entries;
@@ -123,7 +123,7 @@ fn measure_by(
     pos: &mut [u64],
     neg: &mut [u64],
 ) -> State
-    ensures { result ≡ afterMeasuredBy s (lentStores s sets.entry entries.entry order.entry)
+    ensures { result ≡ after_measured_by s (lent_stores s sets.entry entries.entry order.entry)
         (cells_in s figures.entry extremes.entry pos.entry neg.entry) }
 {
     let n = s.entries;
@@ -158,7 +158,7 @@ pub fn follow(
     pos: &mut [u64],
     neg: &mut [u64],
 ) -> State
-    ensures { result ≡ afterFollowed s (givenIn s attrs.entry) (lentStores s sets.entry entries.entry order.entry)
+    ensures { result ≡ after_followed s (given_in s attrs.entry) (lent_stores s sets.entry entries.entry order.entry)
         (cells_in s figures.entry extremes.entry pos.entry neg.entry) }
 {
     if s.of != b'e' {
@@ -202,9 +202,9 @@ fn delta(
     out_pos: &mut [u64],
     out_neg: &mut [u64],
 ) -> State
-    ensures { result ≡ afterDelta s (lentStores s sets.entry entries.entry order.entry)
+    ensures { result ≡ after_delta s (lent_stores s sets.entry entries.entry order.entry)
         (cells_in s figures.entry extremes.entry pos.entry neg.entry)
-        (outputIn s out_sets.entry out_words.entry out_pos.entry out_neg.entry) }
+        (output_in s out_sets.entry out_words.entry out_pos.entry out_neg.entry) }
 {
     let n = s.entries;
     let m = s.counts;
@@ -244,9 +244,9 @@ fn cumulative(
     out_pos: &mut [u64],
     out_neg: &mut [u64],
 ) -> State
-    ensures { result ≡ afterCumulative s (lentStores s sets.entry entries.entry order.entry)
+    ensures { result ≡ after_cumulative s (lent_stores s sets.entry entries.entry order.entry)
         (cells_in s figures.entry extremes.entry pos.entry neg.entry)
-        (outputIn s out_sets.entry out_words.entry out_pos.entry out_neg.entry) }
+        (output_in s out_sets.entry out_words.entry out_pos.entry out_neg.entry) }
 {
     let n = s.entries;
     let m = s.counts;
@@ -285,9 +285,9 @@ pub fn collect(
     out_pos: &mut [u64],
     out_neg: &mut [u64],
 ) -> State
-    ensures { result ≡ afterCollected s (lentStores s sets.entry entries.entry order.entry)
+    ensures { result ≡ after_collected s (lent_stores s sets.entry entries.entry order.entry)
         (cells_in s figures.entry extremes.entry pos.entry neg.entry)
-        (outputIn s out_sets.entry out_words.entry out_pos.entry out_neg.entry) }
+        (output_in s out_sets.entry out_words.entry out_pos.entry out_neg.entry) }
 {
     if s.of != b'e' {
         return s;

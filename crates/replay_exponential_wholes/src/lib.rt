@@ -4,11 +4,11 @@
 // The map's stores are lent as long as a line `m` says, the output as long as the line `c` does: too few of any is number 12 or 10. A
 // function makes one call of the map: each is proved for itself.
 ghost use Rattle.std.specs.Prelude.{◌≡◌};
-ghost use Rattle.replay_state.specs.Bound.{lentStores, givenIn};
-ghost use Rattle.replay_exponential.specs.Collected.{outputIn};
+ghost use Rattle.replay_state.specs.Bound.{lent_stores, given_in};
+ghost use Rattle.replay_exponential.specs.Collected.{output_in};
 ghost use Rattle.replay_exponential_wholes.specs.Followed.{cells_in};
-ghost use Rattle.replay_exponential_wholes.specs.Followed.{afterConfigured, afterMeasured, afterMeasuredBy, afterFollowed};
-ghost use Rattle.replay_exponential_wholes.specs.Collected.{afterDelta, afterCumulative, afterCollected};
+ghost use Rattle.replay_exponential_wholes.specs.Followed.{after_configured, after_measured, after_measured_by, after_followed};
+ghost use Rattle.replay_exponential_wholes.specs.Collected.{after_delta, after_cumulative, after_collected};
 
 use replay_state::{State, after, binding, lent};
 
@@ -24,7 +24,7 @@ fn configure(
     pos: &[u64],
     neg: &[u64],
 ) -> State
-    ensures { result ≡ afterConfigured s (lentStores s sets.entry entries.entry order.entry)
+    ensures { result ≡ after_configured s (lent_stores s sets.entry entries.entry order.entry)
         (cells_in s figures.entry extremes.entry pos.entry neg.entry) }
 {
     let n = s.entries;
@@ -60,7 +60,7 @@ fn measure(
     pos: &mut [u64],
     neg: &mut [u64],
 ) -> State
-    ensures { result ≡ afterMeasured s (givenIn s attrs.entry) (lentStores s sets.entry entries.entry order.entry)
+    ensures { result ≡ after_measured s (given_in s attrs.entry) (lent_stores s sets.entry entries.entry order.entry)
         (cells_in s figures.entry extremes.entry pos.entry neg.entry) }
 {
     let n = s.entries;
@@ -97,7 +97,7 @@ fn measure_by(
     pos: &mut [u64],
     neg: &mut [u64],
 ) -> State
-    ensures { result ≡ afterMeasuredBy s (lentStores s sets.entry entries.entry order.entry)
+    ensures { result ≡ after_measured_by s (lent_stores s sets.entry entries.entry order.entry)
         (cells_in s figures.entry extremes.entry pos.entry neg.entry) }
 {
     let n = s.entries;
@@ -133,7 +133,7 @@ pub fn follow(
     pos: &mut [u64],
     neg: &mut [u64],
 ) -> State
-    ensures { result ≡ afterFollowed s (givenIn s attrs.entry) (lentStores s sets.entry entries.entry order.entry)
+    ensures { result ≡ after_followed s (given_in s attrs.entry) (lent_stores s sets.entry entries.entry order.entry)
         (cells_in s figures.entry extremes.entry pos.entry neg.entry) }
 {
     if s.of != b'E' {
@@ -165,9 +165,9 @@ fn delta(
     out_pos: &mut [u64],
     out_neg: &mut [u64],
 ) -> State
-    ensures { result ≡ afterDelta s (lentStores s sets.entry entries.entry order.entry)
+    ensures { result ≡ after_delta s (lent_stores s sets.entry entries.entry order.entry)
         (cells_in s figures.entry extremes.entry pos.entry neg.entry)
-        (outputIn s out_sets.entry out_words.entry out_pos.entry out_neg.entry) }
+        (output_in s out_sets.entry out_words.entry out_pos.entry out_neg.entry) }
 {
     let n = s.entries;
     let m = s.counts;
@@ -207,9 +207,9 @@ fn cumulative(
     out_pos: &mut [u64],
     out_neg: &mut [u64],
 ) -> State
-    ensures { result ≡ afterCumulative s (lentStores s sets.entry entries.entry order.entry)
+    ensures { result ≡ after_cumulative s (lent_stores s sets.entry entries.entry order.entry)
         (cells_in s figures.entry extremes.entry pos.entry neg.entry)
-        (outputIn s out_sets.entry out_words.entry out_pos.entry out_neg.entry) }
+        (output_in s out_sets.entry out_words.entry out_pos.entry out_neg.entry) }
 {
     let n = s.entries;
     let m = s.counts;
@@ -248,9 +248,9 @@ pub fn collect(
     out_pos: &mut [u64],
     out_neg: &mut [u64],
 ) -> State
-    ensures { result ≡ afterCollected s (lentStores s sets.entry entries.entry order.entry)
+    ensures { result ≡ after_collected s (lent_stores s sets.entry entries.entry order.entry)
         (cells_in s figures.entry extremes.entry pos.entry neg.entry)
-        (outputIn s out_sets.entry out_words.entry out_pos.entry out_neg.entry) }
+        (output_in s out_sets.entry out_words.entry out_pos.entry out_neg.entry) }
 {
     if s.of != b'E' {
         return s;

@@ -5,10 +5,10 @@
 // bounds are a parameter here, the values lie behind them. A function makes one call of the map: each is proved for itself.
 ghost use Rattle.std.specs.Prelude.{◌≡◌};
 ghost use Rattle.singles.specs.Configured.{said};
-ghost use Rattle.replay_state.specs.Bound.{lentStores, givenIn};
-ghost use Rattle.replay_singles.specs.Followed.{kind_of, valuesIn, configuredBy};
-ghost use Rattle.replay_singles.specs.Followed.{afterConfigured, afterMeasured, afterMeasuredBy, afterFollowed};
-ghost use Rattle.replay_singles.specs.Collected.{outputIn, afterDelta, afterCumulative, afterCollected};
+ghost use Rattle.replay_state.specs.Bound.{lent_stores, given_in};
+ghost use Rattle.replay_singles.specs.Followed.{kind_of, values_in, configured_by};
+ghost use Rattle.replay_singles.specs.Followed.{after_configured, after_measured, after_measured_by, after_followed};
+ghost use Rattle.replay_singles.specs.Collected.{output_in, after_delta, after_cumulative, after_collected};
 
 use replay_state::{State, after, binding, lent};
 use singles::{Aggregation, Configured, Settings};
@@ -25,7 +25,7 @@ pub fn aggregation(s: State) -> Aggregation
 // ---- every line but collections
 
 fn configured(s: State, reply: Configured) -> State
-    ensures { result ≡ configuredBy (said reply) s }
+    ensures { result ≡ configured_by (said reply) s }
 {
     match reply {
         Configured::Refused(no) => after::unbegun(s, no),
@@ -43,7 +43,7 @@ fn configure(
     entries: &mut [[u64; 3]],
     order: &[u32],
 ) -> State
-    ensures { result ≡ afterConfigured s (lentStores s sets.entry entries.entry order.entry) (valuesIn s bounds.entry) }
+    ensures { result ≡ after_configured s (lent_stores s sets.entry entries.entry order.entry) (values_in s bounds.entry) }
 {
     let n = s.entries;
     let waiting = s.next_filter;
@@ -68,8 +68,8 @@ fn measure(
     entries: &mut [[u64; 3]],
     order: &mut [u32],
 ) -> State
-    ensures { result ≡ afterMeasured s (givenIn s attrs.entry)
-        (lentStores s sets.entry entries.entry order.entry) (valuesIn s bounds.entry) }
+    ensures { result ≡ after_measured s (given_in s attrs.entry)
+        (lent_stores s sets.entry entries.entry order.entry) (values_in s bounds.entry) }
 {
     let n = s.entries;
     let filter = s.filter;
@@ -96,7 +96,7 @@ fn measure_by(
     entries: &mut [[u64; 3]],
     order: &mut [u32],
 ) -> State
-    ensures { result ≡ afterMeasuredBy s (lentStores s sets.entry entries.entry order.entry) (valuesIn s bounds.entry) }
+    ensures { result ≡ after_measured_by s (lent_stores s sets.entry entries.entry order.entry) (values_in s bounds.entry) }
 {
     let n = s.entries;
     let reply = singles::map::measure_by(
@@ -122,8 +122,8 @@ pub fn follow(
     entries: &mut [[u64; 3]],
     order: &mut [u32],
 ) -> State
-    ensures { result ≡ afterFollowed s (givenIn s attrs.entry)
-        (lentStores s sets.entry entries.entry order.entry) (valuesIn s bounds.entry) }
+    ensures { result ≡ after_followed s (given_in s attrs.entry)
+        (lent_stores s sets.entry entries.entry order.entry) (values_in s bounds.entry) }
 {
     if !replay_state::is_single(s.of) {
         return s;
@@ -158,8 +158,8 @@ fn delta(
     out_sets: &mut [[u64; 9]],
     out_counts: &mut [u64],
 ) -> State
-    ensures { result ≡ afterDelta s (lentStores s sets.entry entries.entry order.entry) (valuesIn s bounds.entry)
-        (outputIn s out_sets.entry out_counts.entry) }
+    ensures { result ≡ after_delta s (lent_stores s sets.entry entries.entry order.entry) (values_in s bounds.entry)
+        (output_in s out_sets.entry out_counts.entry) }
 {
     let n = s.entries;
     let i = replay_state::within(s.f[2], 66) as u64;
@@ -187,8 +187,8 @@ fn cumulative(
     out_sets: &mut [[u64; 9]],
     out_counts: &mut [u64],
 ) -> State
-    ensures { result ≡ afterCumulative s (lentStores s sets.entry entries.entry order.entry) (valuesIn s bounds.entry)
-        (outputIn s out_sets.entry out_counts.entry) }
+    ensures { result ≡ after_cumulative s (lent_stores s sets.entry entries.entry order.entry) (values_in s bounds.entry)
+        (output_in s out_sets.entry out_counts.entry) }
 {
     let n = s.entries;
     let i = replay_state::within(s.f[2], 66) as u64;
@@ -215,8 +215,8 @@ pub fn collect(
     out_sets: &mut [[u64; 9]],
     out_counts: &mut [u64],
 ) -> State
-    ensures { result ≡ afterCollected s (lentStores s sets.entry entries.entry order.entry) (valuesIn s bounds.entry)
-        (outputIn s out_sets.entry out_counts.entry) }
+    ensures { result ≡ after_collected s (lent_stores s sets.entry entries.entry order.entry) (values_in s bounds.entry)
+        (output_in s out_sets.entry out_counts.entry) }
 {
     if !replay_state::is_single(s.of) {
         return s;

@@ -53,18 +53,18 @@ answered s n told dir handles start listed collected =
       collected = collected;
     }
 
-abbrev pub refusedBy : ℕ → State → State
-refusedBy n s = answered s n s.told s.dir s.handles s.start s.listed s.collected
+abbrev pub refused_by : ℕ → State → State
+refused_by n s = answered s n s.told s.dir s.handles s.start s.listed s.collected
 
 -- accepted, with what it tells and another directory
-abbrev pub acceptedIn : Directory → ℕ → State → State
-acceptedIn dir told s = answered s 0 told dir s.handles s.start s.listed s.collected
+abbrev pub accepted_in : Directory → ℕ → State → State
+accepted_in dir told s = answered s 0 told dir s.handles s.start s.listed s.collected
 
 -- ---- configuring
 
 -- after a refused `n` nothing waits
-abbrev pub notBegun : ℕ → State → State
-notBegun n s =
+abbrev pub not_begun : ℕ → State → State
+not_begun n s =
     record {
       letter = s.letter;
       of = s.of;
@@ -96,8 +96,8 @@ notBegun n s =
     }
 
 -- after an accepted `n`: what was asked for, with what waited
-abbrev pub begunAs : ℕ → ℕ → ℕ → Directory → State → State
-begunAs kind size top dir s =
+abbrev pub begun_as : ℕ → ℕ → ℕ → Directory → State → State
+begun_as kind size top dir s =
     record {
       letter = s.letter;
       of = s.of;
@@ -128,20 +128,20 @@ begunAs kind size top dir s =
       collected = s.collected;
     }
 
-abbrev pub newlyBegun : ℕ → Directory → State → State
-newlyBegun top dir s = begunAs (field s 1 % 256) (field s 3 % 4294967296) top dir s
+abbrev pub newly_begun : ℕ → Directory → State → State
+newly_begun top dir s = begun_as (field s 1 % 256) (field s 3 % 4294967296) top dir s
 
 -- ---- recording, binding and releasing
 
 -- after a call that says so, with the directory that it leaves: the place of the line's handle holds a binding's birth number
-abbrev pub doneBy : Said (Option ℕ) → Directory → State → State
-doneBy (refusal n) dir s = refusedBy n s
-doneBy (success none) dir s = acceptedIn dir 0 s
-doneBy (success (some birth)) dir s = answered s 0 birth dir (set s.handles (min (field s 1) 99) birth) s.start s.listed s.collected
+abbrev pub done_by : Said (Option ℕ) → Directory → State → State
+done_by (refusal n) dir s = refused_by n s
+done_by (success none) dir s = accepted_in dir 0 s
+done_by (success (some birth)) dir s = answered s 0 birth dir (set s.handles (min (field s 1) 99) birth) s.start s.listed s.collected
 
 -- ---- collecting
 
 -- after a collection that says so: it tells the held start, a delta collection holds the line's time, and its points are of the map's kind
-abbrev pub collectedBy : Said ℕ → Directory → State → State
-collectedBy (refusal n) dir s = refusedBy n s
-collectedBy (success many) dir s = answered s 0 s.start dir s.handles (pick s.delta (field s 1) s.start) many s.kind
+abbrev pub collected_by : Said ℕ → Directory → State → State
+collected_by (refusal n) dir s = refused_by n s
+collected_by (success many) dir s = answered s 0 s.start dir s.handles (pick s.delta (field s 1) s.start) many s.kind

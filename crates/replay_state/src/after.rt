@@ -4,7 +4,7 @@ ghost use Rattle.std.proofs.Math.Option.{some};
 ghost use Rattle.laws.specs.Said.{success};
 ghost use Rattle.bindings.specs.Calls as bindings-calls;
 ghost use Rattle.collecting.specs.Collected.{said};
-ghost use Rattle.replay_state.specs.After.{answered, refusedBy, acceptedIn, notBegun, newlyBegun, doneBy, collectedBy};
+ghost use Rattle.replay_state.specs.After.{answered, refused_by, accepted_in, not_begun, newly_begun, done_by, collected_by};
 
 use crate::State;
 use bindings::Reply;
@@ -13,7 +13,7 @@ use directory::Directory;
 
 // A line that is refused with a number, or can't be read.
 pub fn refused(s: State, no: u8) -> State
-    ensures { result ≡ refusedBy no s }
+    ensures { result ≡ refused_by no s }
 {
     let mut next = s;
     next.no = no;
@@ -22,7 +22,7 @@ pub fn refused(s: State, no: u8) -> State
 
 // A line that is accepted, with the directory that its call leaves, and what it tells.
 fn accepted(s: State, dir: Directory, told: u64) -> State
-    ensures { result ≡ acceptedIn dir told s }
+    ensures { result ≡ accepted_in dir told s }
 {
     let mut next = s;
     next.no = 0;
@@ -35,7 +35,7 @@ fn accepted(s: State, dir: Directory, told: u64) -> State
 
 // After an `n` that is refused: nothing waits.
 pub fn unbegun(s: State, no: u8) -> State
-    ensures { result ≡ notBegun no s }
+    ensures { result ≡ not_begun no s }
 {
     let mut next = s;
     next.no = no;
@@ -47,7 +47,7 @@ pub fn unbegun(s: State, no: u8) -> State
 
 // After an accepted `n`: what was asked for, with what waited.
 pub fn begun(s: State, top: u32, dir: Directory) -> State
-    ensures { result ≡ newlyBegun top dir s }
+    ensures { result ≡ newly_begun top dir s }
 {
     let mut next = s;
     let filter = s.next_filter;
@@ -76,7 +76,7 @@ pub fn begun(s: State, top: u32, dir: Directory) -> State
 
 // After a binding: the place of the line's handle holds the birth number.
 fn bound(s: State, dir: Directory, birth: u64) -> State
-    ensures { result ≡ doneBy (success (some birth)) dir s }
+    ensures { result ≡ done_by (success (some birth)) dir s }
 {
     let i = crate::within(s.f[1], 99);
     let mut next = accepted(s, dir, birth);
@@ -85,7 +85,7 @@ fn bound(s: State, dir: Directory, birth: u64) -> State
 }
 
 pub fn done(s: State, reply: Reply) -> State
-    ensures { result ≡ doneBy (bindings-calls.said reply.answer) reply.dir s }
+    ensures { result ≡ done_by (bindings-calls.said reply.answer) reply.dir s }
 {
     let answer = reply.answer;
     let dir = reply.dir;
@@ -113,7 +113,7 @@ fn listed(s: State, dir: Directory, many: usize, told: u64, start: u64) -> State
 }
 
 fn turned(s: State, dir: Directory, many: usize) -> State
-    ensures { result ≡ collectedBy (success many) dir s }
+    ensures { result ≡ collected_by (success many) dir s }
 {
     let held = Clock { start: s.start };
     if s.delta {
@@ -125,7 +125,7 @@ fn turned(s: State, dir: Directory, many: usize) -> State
 }
 
 pub fn collected(s: State, dir: Directory, answer: collecting::Answer) -> State
-    ensures { result ≡ collectedBy (said answer) dir s }
+    ensures { result ≡ collected_by (said answer) dir s }
 {
     match answer {
         collecting::Answer::Refused(no) => refused(s, no),

@@ -1,6 +1,6 @@
 // Binding (`b`) and releasing (`u`), for maps of every kind.
 ghost use Rattle.std.specs.Prelude.{◌≡◌};
-ghost use Rattle.replay_state.specs.Bound.{lentStores, givenIn, afterBound};
+ghost use Rattle.replay_state.specs.Bound.{lent_stores, given_in, after_bound};
 
 use crate::{State, after, lent};
 
@@ -11,7 +11,7 @@ pub fn bind(
     entries: &mut [[u64; 3]],
     order: &mut [u32],
 ) -> State
-    ensures { result ≡ afterBound s (givenIn s attrs.entry) (lentStores s sets.entry entries.entry order.entry) }
+    ensures { result ≡ after_bound s (given_in s attrs.entry) (lent_stores s sets.entry entries.entry order.entry) }
 {
     let n = s.entries;
     let filter = s.filter;

@@ -1,10 +1,10 @@
 // The explicit kind over i64.
 ghost use Rattle.std.specs.Prelude.{◌≡◌, eqb};
-ghost use Rattle.whole_map.specs.Explicit.{explicitWholes};
-ghost use Rattle.replay_state.specs.Bound.{lentStores, givenIn};
-ghost use Rattle.replay_explicit.specs.Followed.{boundsIn};
+ghost use Rattle.whole_map.specs.Explicit.{explicit_wholes};
+ghost use Rattle.replay_state.specs.Bound.{lent_stores, given_in};
+ghost use Rattle.replay_explicit.specs.Followed.{bounds_in};
 ghost use Rattle.replay_explicit_wholes.specs.Followed.{cells_in};
-ghost use Rattle.replay_batches.specs.Batched.{listIn, afterAll, afterAllBy, afterBatch};
+ghost use Rattle.replay_batches.specs.Batched.{list_in, after_all, after_all_by, after_batch};
 
 use replay_state::{State, lent};
 
@@ -20,8 +20,8 @@ fn measure_all(
     pos: &mut [u64],
     neg: &mut [u64],
 ) -> State
-    ensures { result ≡ afterAll (explicitWholes (boundsIn s bounds.now) s.sums) s (listIn s 1 integers.entry) (givenIn s attrs.entry)
-        (lentStores s sets.entry entries.entry order.entry) (cells_in s neg.entry extremes.entry pos.entry) }
+    ensures { result ≡ after_all (explicit_wholes (bounds_in s bounds.now) s.sums) s (list_in s 1 integers.entry) (given_in s attrs.entry)
+        (lent_stores s sets.entry entries.entry order.entry) (cells_in s neg.entry extremes.entry pos.entry) }
 {
     let n = s.entries;
     let filter = s.filter;
@@ -55,8 +55,8 @@ fn measure_all_by(
     pos: &mut [u64],
     neg: &mut [u64],
 ) -> State
-    ensures { result ≡ afterAllBy (explicitWholes (boundsIn s bounds.now) s.sums) s (listIn s 2 integers.entry)
-        (lentStores s sets.entry entries.entry order.entry) (cells_in s neg.entry extremes.entry pos.entry) }
+    ensures { result ≡ after_all_by (explicit_wholes (bounds_in s bounds.now) s.sums) s (list_in s 2 integers.entry)
+        (lent_stores s sets.entry entries.entry order.entry) (cells_in s neg.entry extremes.entry pos.entry) }
 {
     let n = s.entries;
     let reply = explicit_whole_batches::measure_all_by(
@@ -89,8 +89,8 @@ pub fn follow(
     pos: &mut [u64],
     neg: &mut [u64],
 ) -> State
-    ensures { result ≡ afterBatch (explicitWholes (boundsIn s bounds.now) s.sums) (eqb s.of 88) s integers.entry (givenIn s attrs.entry)
-        (lentStores s sets.entry entries.entry order.entry) (cells_in s neg.entry extremes.entry pos.entry) }
+    ensures { result ≡ after_batch (explicit_wholes (bounds_in s bounds.now) s.sums) (eqb s.of 88) s integers.entry (given_in s attrs.entry)
+        (lent_stores s sets.entry entries.entry order.entry) (cells_in s neg.entry extremes.entry pos.entry) }
 {
     if s.of != b'X' {
         return s;

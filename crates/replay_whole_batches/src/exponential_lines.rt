@@ -1,9 +1,9 @@
 // The exponential kind over i64.
 ghost use Rattle.std.specs.Prelude.{◌≡◌, eqb};
-ghost use Rattle.whole_map.specs.Exponential.{exponentialWholes};
-ghost use Rattle.replay_state.specs.Bound.{lentStores, givenIn};
+ghost use Rattle.whole_map.specs.Exponential.{exponential_wholes};
+ghost use Rattle.replay_state.specs.Bound.{lent_stores, given_in};
 ghost use Rattle.replay_exponential_wholes.specs.Followed.{cells_in};
-ghost use Rattle.replay_batches.specs.Batched.{listIn, afterAll, afterAllBy, afterBatch};
+ghost use Rattle.replay_batches.specs.Batched.{list_in, after_all, after_all_by, after_batch};
 
 use replay_state::{State, lent};
 
@@ -19,8 +19,8 @@ fn measure_all(
     pos: &mut [u64],
     neg: &mut [u64],
 ) -> State
-    ensures { result ≡ afterAll (exponentialWholes s.size s.top s.sums) s (listIn s 1 integers.entry) (givenIn s attrs.entry)
-        (lentStores s sets.entry entries.entry order.entry) (cells_in s figures.entry extremes.entry pos.entry neg.entry) }
+    ensures { result ≡ after_all (exponential_wholes s.size s.top s.sums) s (list_in s 1 integers.entry) (given_in s attrs.entry)
+        (lent_stores s sets.entry entries.entry order.entry) (cells_in s figures.entry extremes.entry pos.entry neg.entry) }
 {
     let n = s.entries;
     let m = s.counts;
@@ -57,8 +57,8 @@ fn measure_all_by(
     pos: &mut [u64],
     neg: &mut [u64],
 ) -> State
-    ensures { result ≡ afterAllBy (exponentialWholes s.size s.top s.sums) s (listIn s 2 integers.entry)
-        (lentStores s sets.entry entries.entry order.entry) (cells_in s figures.entry extremes.entry pos.entry neg.entry) }
+    ensures { result ≡ after_all_by (exponential_wholes s.size s.top s.sums) s (list_in s 2 integers.entry)
+        (lent_stores s sets.entry entries.entry order.entry) (cells_in s figures.entry extremes.entry pos.entry neg.entry) }
 {
     let n = s.entries;
     let m = s.counts;
@@ -94,8 +94,8 @@ pub fn follow(
     pos: &mut [u64],
     neg: &mut [u64],
 ) -> State
-    ensures { result ≡ afterBatch (exponentialWholes s.size s.top s.sums) (eqb s.of 69) s integers.entry (givenIn s attrs.entry)
-        (lentStores s sets.entry entries.entry order.entry) (cells_in s figures.entry extremes.entry pos.entry neg.entry) }
+    ensures { result ≡ after_batch (exponential_wholes s.size s.top s.sums) (eqb s.of 69) s integers.entry (given_in s attrs.entry)
+        (lent_stores s sets.entry entries.entry order.entry) (cells_in s figures.entry extremes.entry pos.entry neg.entry) }
 {
     if s.of != b'E' {
         return s;

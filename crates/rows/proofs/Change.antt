@@ -8,7 +8,7 @@ use lib.Bits.{bit_xor, xor_block, xor_lt, xor_self, xor_add_and, and_le_l, and_l
 use lib.Count.{count_leading_zeros, leading_top}
 use lib.Pow.{split, high, pow-add, pow_pos, pow_mono, shr_mono}
 use borrow.Author.Tests.{leb-true, le-leb}
-use Rattle.laws.proofs.Differences.{le-or-lt}
+use Rattle.laws.proofs.Differences.{le_or-lt}
 use Rattle.laws.proofs.Powers.{pow_lt_back}
 use Rattle.laws.proofs.Search.{least-is}
 use Rattle.rows.specs.Rows.{narrow, lowering}
@@ -25,7 +25,7 @@ change-is size lo hi r h g f =
           ⊎_elim
           (λ (k : r ≤ m). k)
           (λ (k : m < r). absurd (omega (arith, f m k, leb-true (suc (hi / 2 ^ m - lo / 2 ^ m)) size q)))
-          (le-or-lt r m);
+          (le_or-lt r m);
     })
 
 -- ---- by how many binary digits hi - lo has more than size - 1
@@ -78,8 +78,8 @@ guess lo hi size l u w p h = go (leading_top 64 (size - 1) p (omega arith)) (lea
 
 -- ---- by the highest digit in which lo and hi differ
 
-xor-shift : (a b k : ℕ) → bit_xor a b / 2 ^ k ≡ bit_xor (a / 2 ^ k) (b / 2 ^ k)
-xor-shift a b k =
+xor_shift : (a b k : ℕ) → bit_xor a b / 2 ^ k ≡ bit_xor (a / 2 ^ k) (b / 2 ^ k)
+xor_shift a b k =
     let p : a % 2 ^ k < 2 ^ k = mod-lt a (pow_pos k) in
     let q : b % 2 ^ k < 2 ^ k = mod-lt b (pow_pos k) in
     ap (λ (n : ℕ). n / 2 ^ k) (ap₂ bit_xor (sym (split a k)) (sym (split b k)) ∙ xor_block k (a / 2 ^ k) (b / 2 ^ k) (a % 2 ^ k) (b % 2 ^ k) p q)
@@ -94,7 +94,7 @@ differ lo hi l =
     ⊎_elim
     (λ (h : bit_xor lo hi ≤ 0). let e : bit_xor lo hi ≡ 0 = omega arith in absurd (omega (arith, xor-none lo hi e)))
     (λ (h : 0 < bit_xor lo hi). h)
-    (le-or-lt (bit_xor lo hi) 0)
+    (le_or-lt (bit_xor lo hi) 0)
 
 -- a digit differs at d or above it
 still-apart : (lo hi d : ℕ) → lo ≤ hi → 2 ^ d ≤ bit_xor lo hi → 1 ≤ hi / 2 ^ d - lo / 2 ^ d
@@ -104,8 +104,8 @@ still-apart lo hi d l h =
     (λ (k : 1 ≤ hi / 2 ^ d - lo / 2 ^ d). k)
     (λ (k : hi / 2 ^ d - lo / 2 ^ d < 1).
     let e : lo / 2 ^ d ≡ hi / 2 ^ d = omega (arith, shr_mono d l) in
-    absurd (omega (arith, g, xor-shift lo hi d ∙ ap (λ (n : ℕ). bit_xor n (hi / 2 ^ d)) e ∙ xor_self (hi / 2 ^ d))))
-    (le-or-lt 1 (hi / 2 ^ d - lo / 2 ^ d))
+    absurd (omega (arith, g, xor_shift lo hi d ∙ ap (λ (n : ℕ). bit_xor n (hi / 2 ^ d)) e ∙ xor_self (hi / 2 ^ d))))
+    (le_or-lt 1 (hi / 2 ^ d - lo / 2 ^ d))
 
 pub differing : (lo hi : ℕ) → lo < hi → hi < 2 ^ 32
     → (count_leading_zeros 32 (bit_xor lo hi) ≤ 32) × (32 - count_leading_zeros 32 (bit_xor lo hi) ≡ lowering 1 lo hi)
@@ -115,5 +115,5 @@ differing lo hi l u = go (leading_top 32 (bit_xor lo hi) (differ lo hi l) (xor_l
         → (count_leading_zeros 32 (bit_xor lo hi) ≤ 32) × (32 - count_leading_zeros 32 (bit_xor lo hi) ≡ lowering 1 lo hi)
     go (j, e, a, b) =
         let k : 32 - count_leading_zeros 32 (bit_xor lo hi) ≡ suc j = omega arith in
-        let same : lo / 2 ^ suc j ≡ hi / 2 ^ suc j = xor-none (lo / 2 ^ suc j) (hi / 2 ^ suc j) (sym (xor-shift lo hi (suc j)) ∙ div-eq_of_lt b) in
+        let same : lo / 2 ^ suc j ≡ hi / 2 ^ suc j = xor-none (lo / 2 ^ suc j) (hi / 2 ^ suc j) (sym (xor_shift lo hi (suc j)) ∙ div-eq_of_lt b) in
         (omega arith, rw k (change-is 1 lo hi (suc j) (omega arith) (omega (arith, same)) (λ d g. still-apart lo hi d (omega (arith, l)) (le_trans (pow_mono {i = d} {j = j} (omega (arith, g))) a))))

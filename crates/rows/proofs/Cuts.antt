@@ -16,7 +16,7 @@ use Rattle.rows.specs.Rows.{over, onto, downscaled}
 use Rattle.rows.specs.Parts.{part}
 use Rattle.rows.specs.Groups.{groups, gathered, Gatherable}
 use Rattle.laws.proofs.Over.{over-snoc, over-over, take-over}
-use Rattle.rows.proofs.Laws.{next-div, onto-nil}
+use Rattle.rows.proofs.Laws.{next-div, onto_nil}
 use Rattle.rows.proofs.Algebra.{length-step, downscaled-some}
 use Rattle.rows.proofs.Adds.{over-self}
 use Rattle.rows.proofs.Groups.{part-below, drop-over, length-groups, gathered-length}
@@ -38,33 +38,33 @@ first s d w h l e =
 
 -- ---- a row whose first part ends where a group ends
 
-onto-append : (t : Bool) (x : ℕ) (r ys : List ℕ) → 0 < length r → onto t x (r ++ ys) ≡ onto t x r ++ ys
+onto_append : (t : Bool) (x : ℕ) (r ys : List ℕ) → 0 < length r → onto t x (r ++ ys) ≡ onto t x r ++ ys
 unfolding onto
-onto-append t x [] ys h = absurd (not-suc-le-zero h)
-onto-append true x (y ∷ r) ys h = refl
-onto-append false x (y ∷ r) ys h = refl
+onto_append t x [] ys h = absurd (not-suc-le-zero h)
+onto_append true x (y ∷ r) ys h = refl
+onto_append false x (y ∷ r) ys h = refl
 
 -- where what xs is counted in ends before the group of the next index
-downscaled-append : (d s : ℕ) (xs ys : List ℕ) → length (downscaled d s xs) + s / 2 ^ d ≡ (s + length xs) / 2 ^ d
+downscaled_append : (d s : ℕ) (xs ys : List ℕ) → length (downscaled d s xs) + s / 2 ^ d ≡ (s + length xs) / 2 ^ d
     → downscaled d s (xs ++ ys) ≡ downscaled d s xs ++ downscaled d (s + length xs) ys
 unfolding downscaled onto
-downscaled-append d s [] ys h = rw add-zero
-downscaled-append d s (x ∷ []) ys h =
-    let h' : 1 + s / 2 ^ d ≡ suc s / 2 ^ d = rw (onto-nil (eqb (s / 2 ^ d) (suc s / 2 ^ d)) x, add-one s) at h in
+downscaled_append d s [] ys h = rw add-zero
+downscaled_append d s (x ∷ []) ys h =
+    let h' : 1 + s / 2 ^ d ≡ suc s / 2 ^ d = rw (onto_nil (eqb (s / 2 ^ d) (suc s / 2 ^ d)) x, add-one s) at h in
     rw (ne_eqb (s / 2 ^ d) (suc s / 2 ^ d) (omega arith), add-one s)
-downscaled-append d s (x ∷ y ∷ xs) ys h =
+downscaled_append d s (x ∷ y ∷ xs) ys h =
     let r : List ℕ = downscaled d (suc s) (y ∷ xs) in
     let some : 0 < length r = downscaled-some d (suc s) (y ∷ xs) (omega arith) in
     let e = length-step (s / 2 ^ d) (suc s / 2 ^ d) (length r + suc s / 2 ^ d) x r some refl (next-div s (2 ^ d) (pow_pos d)) in
-    ap (onto (eqb (s / 2 ^ d) (suc s / 2 ^ d)) x) (downscaled-append d (suc s) (y ∷ xs) ys (sym e ∙ h ∙ simp (suc-add, add-suc)))
-    ∙ onto-append (eqb (s / 2 ^ d) (suc s / 2 ^ d)) x r (downscaled d (suc s + length (y ∷ xs)) ys) some
+    ap (onto (eqb (s / 2 ^ d) (suc s / 2 ^ d)) x) (downscaled_append d (suc s) (y ∷ xs) ys (sym e ∙ h ∙ simp (suc-add, add-suc)))
+    ∙ onto_append (eqb (s / 2 ^ d) (suc s / 2 ^ d)) x r (downscaled d (suc s + length (y ∷ xs)) ys) some
     ∙ simp (suc-add, add-suc)
 
 -- ---- one group
 
 one-group : (d s x : ℕ) (xs : List ℕ) → (s + length xs) / 2 ^ d ≡ s / 2 ^ d → downscaled d s (x ∷ xs) ≡ total (x ∷ xs) ∷ []
 unfolding downscaled onto
-one-group d s x [] h = rw add-zero (onto-nil (eqb (s / 2 ^ d) (suc s / 2 ^ d)) x)
+one-group d s x [] h = rw add-zero (onto_nil (eqb (s / 2 ^ d) (suc s / 2 ^ d)) x)
 one-group d s x (y ∷ ys) h =
     let a : s / 2 ^ d ≤ suc s / 2 ^ d = shr_mono d (omega arith) in
     let b : suc s / 2 ^ d ≤ (s + length (y ∷ ys)) / 2 ^ d = shr_mono d (omega arith) in
@@ -82,7 +82,7 @@ first_group : (d s : ℕ) (xs ys : List ℕ) → 0 < length xs → s + length xs
     → downscaled d s (xs ++ ys) ≡ total xs ∷ downscaled d (s + length xs) ys
 first_group d s xs ys h e =
     let g : downscaled d s xs ≡ total xs ∷ [] = a-group d s xs h (omega arith) in
-    downscaled-append d s xs ys (ap (λ (r : List ℕ). length r + s / 2 ^ d) g ∙ omega arith ∙ sym (ap (λ (n : ℕ). n / 2 ^ d) e ∙ mul-div_cancel (s / 2 ^ d + 1) (pow_pos d)))
+    downscaled_append d s xs ys (ap (λ (r : List ℕ). length r + s / 2 ^ d) g ∙ omega arith ∙ sym (ap (λ (n : ℕ). n / 2 ^ d) e ∙ mul-div_cancel (s / 2 ^ d + 1) (pow_pos d)))
     ∙ ap (λ (r : List ℕ). r ++ downscaled d (s + length xs) ys) g
 
 -- ---- whole groups from a multiple q * 2 ^ d on, and r counts behind them

@@ -13,7 +13,7 @@ use Rattle.laws.specs.Over.{over}
 use Rattle.laws.proofs.Over.{length_over, over-snoc}
 use Rattle.rows.specs.Parts.{part}
 use Rattle.rows.specs.Groups.{groups, gathered, Gatherable}
-use Rattle.rows.proofs.Laws.{total-append, total-step}
+use Rattle.rows.proofs.Laws.{total_append, total-step}
 use Rattle.rows.proofs.Adds.{over-self}
 
 -- ---- the counts from i up to e together
@@ -31,7 +31,7 @@ pub part_join : (xs : List ℕ) (i j e : ℕ) → i ≤ j → j ≤ e → total 
 part_join xs i j e h l =
     let k : e - i ≡ (j - i) + (e - j) = omega arith in
     let n : i + (j - i) ≡ j = omega arith in
-    rw k (ap total (take-add (j - i) (e - j) (drop i xs)) ∙ total-append (take (j - i) (drop i xs)) (take (e - j) (drop (j - i) (drop i xs))) ∙ rw (drop-drop (j - i) i xs, n))
+    rw k (ap total (take-add (j - i) (e - j) (drop i xs)) ∙ total_append (take (j - i) (drop i xs)) (take (e - j) (drop (j - i) (drop i xs))) ∙ rw (drop-drop (j - i) i xs, n))
 
 -- a part of a part
 pub part-within : (xs : List ℕ) (i j e n : ℕ) → i ≤ j → j ≤ e → e ≤ n → total (part xs j e) ≤ total (part xs i n)

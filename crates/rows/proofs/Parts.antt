@@ -8,7 +8,7 @@ use native.Mathlib.Omega.{arith}
 use lib.ListN.{length, take, drop, length-drop, take-append-drop}
 use lib.Seq.{length-take-le, take-append-le, drop-append-le, drop-drop, take_at, drop_at}
 use borrow.Rule.Slice.PartMut as Mid
-use Rattle.laws.proofs.Differences.{le-or-lt}
+use Rattle.laws.proofs.Differences.{le_or-lt}
 use Rattle.rows.specs.Parts.{part_at, put_at}
 
 -- a slot's part ends where the next one's begins
@@ -73,7 +73,7 @@ module _ (n : ℕ) (xs : List ℕ) (x : ℕ) (h : x * n + n ≤ length xs) where
         ⊎_elim
         (λ (g : x ≤ y). after y (omega (arith, d)))
         (λ (g : y < x). before y g)
-        (le-or-lt x y)
+        (le_or-lt x y)
 
 -- a part put back as it was
 pub put_same : (n : ℕ) (xs : List ℕ) (x : ℕ) → put_at n xs x (part_at n xs x) ≡ xs

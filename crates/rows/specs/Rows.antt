@@ -6,16 +6,16 @@ use Rattle.laws.specs.Search.{least}
 unfoldable pub use Rattle.laws.specs.Over.{over}
 
 -- v more at place k, with zeros before it where the list is shorter
-unfoldable pub addAt : ℕ → ℕ → List ℕ → List ℕ
-addAt zero v [] = v ∷ []
-addAt zero v (x ∷ xs) = (x + v) ∷ xs
-addAt (suc k) v [] = 0 ∷ addAt k v []
-addAt (suc k) v (x ∷ xs) = x ∷ addAt k v xs
+unfoldable pub add_at : ℕ → ℕ → List ℕ → List ℕ
+add_at zero v [] = v ∷ []
+add_at zero v (x ∷ xs) = (x + v) ∷ xs
+add_at (suc k) v [] = 0 ∷ add_at k v []
+add_at (suc k) v (x ∷ xs) = x ∷ add_at k v xs
 
 -- the counts ys added to xs from place k on
-unfoldable pub addAll : ℕ → List ℕ → List ℕ → List ℕ
-addAll k [] xs = xs
-addAll k (y ∷ ys) xs = addAll (suc k) ys (addAt k y xs)
+unfoldable pub add_all : ℕ → List ℕ → List ℕ → List ℕ
+add_all k [] xs = xs
+add_all k (y ∷ ys) xs = add_all (suc k) ys (add_at k y xs)
 
 -- x counted with the first of the list, or in front of it
 unfoldable pub onto : Bool → ℕ → List ℕ → List ℕ
@@ -29,13 +29,13 @@ downscaled d s [] = []
 downscaled d s (x ∷ xs) = onto (eqb (s / 2 ^ d) (suc s / 2 ^ d)) x (downscaled d (suc s) xs)
 
 -- one more at index i: where the row starts then, and its counts
-unfoldable pub recordedFrom : ℕ → List ℕ → ℕ → ℕ
-recordedFrom s [] i = i
-recordedFrom s (x ∷ xs) i = min s i
+unfoldable pub recorded_from : ℕ → List ℕ → ℕ → ℕ
+recorded_from s [] i = i
+recorded_from s (x ∷ xs) i = min s i
 
 unfoldable pub recorded : ℕ → List ℕ → ℕ → List ℕ
 recorded s [] i = 1 ∷ []
-recorded s (x ∷ xs) i = addAt (i - s) 1 (replicate (s - i) 0 ++ x ∷ xs)
+recorded s (x ∷ xs) i = add_at (i - s) 1 (replicate (s - i) 0 ++ x ∷ xs)
 
 -- whether the row of n counts from s on has the index i
 unfoldable pub holds : ℕ → ℕ → ℕ → Bool

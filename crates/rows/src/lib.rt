@@ -2,7 +2,7 @@
 mod walk;
 
 ghost use Rattle.std.specs.Prelude.{◌≡◌, ◌+◌, ◌/◌, ◌^◌, ◌<◌, ◌≤◌, length, take, get_or};
-ghost use Rattle.rows.specs.Rows.{over, addAt, downscaled, recorded, recordedFrom, lowering, zeroed, shifted};
+ghost use Rattle.rows.specs.Rows.{over, add_at, downscaled, recorded, recorded_from, lowering, zeroed, shifted};
 ghost use Rattle.laws.specs.Counting.{total};
 
 // A row: the bin of its first count, and how many counts it has.
@@ -55,7 +55,7 @@ pub fn record(counts: &mut [u64], row: Row, index: u32) -> Row
     requires len_in_bounds { row.len ≤ length counts.old }
     requires index_in_bounds { length (recorded row.start (take row.len counts.old) index) ≤ length counts.old }
     requires counts_bound { total (take row.len counts.old) + 1 < 2 ^ 64 }
-    ensures start_value { result.start ≡ recordedFrom row.start (take row.len counts.old) index }
+    ensures start_value { result.start ≡ recorded_from row.start (take row.len counts.old) index }
     ensures len_value { result.len ≡ length (recorded row.start (take row.len counts.old) index) }
     ensures counts_after { counts.new ≡ over (recorded row.start (take row.len counts.old) index) counts.old }
 {
@@ -114,8 +114,8 @@ pub fn scale_change(lo: u32, hi: u32, size: usize) -> u32
 pub fn add_at(counts: &mut [u64], n: usize, k: usize, v: u64) -> usize
     requires n_in_bounds { (n ≤ length counts.old) × (k < length counts.old) }
     requires v_bound { get_or (take n counts.old) k 0 + v < 2 ^ 64 }
-    ensures value { result ≡ length (addAt k v (take n counts.old)) }
-    ensures counts_after { counts.new ≡ over (addAt k v (take n counts.old)) counts.old }
+    ensures value { result ≡ length (add_at k v (take n counts.old)) }
+    ensures counts_after { counts.new ≡ over (add_at k v (take n counts.old)) counts.old }
 {
     if k < n {
         counts[k] += v;

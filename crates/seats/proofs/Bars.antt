@@ -8,12 +8,12 @@ use lib.Dec.{leb, eqb}
 use lib.ListN.{length}
 use borrow.Author.Tests.{le-leb, lt-leb, leb-true, eq-eqb, ne_eqb, eqb-true, eqb-false}
 use Rattle.laws.specs.Pick.{pick}
-use Rattle.sets.specs.Sorted.{mostAttributes}
+use Rattle.sets.specs.Sorted.{most_attributes}
 use Rattle.directory.specs.View.{Stores}
-use Rattle.directory.specs.Calls.{storesSuffice}
+use Rattle.directory.specs.Calls.{stores_suffice}
 use Rattle.directory.specs.declared.Directory.{Directory}
-use Rattle.seats.specs.Seats.{away, barredBy, unlessBarred}
-use Rattle.seats.specs.Inner.{barredAt, rowUnlessBarred, Sure}
+use Rattle.seats.specs.Seats.{away, barred_by, unless_barred}
+use Rattle.seats.specs.Inner.{barred_at, row_unless_barred, Sure}
 use Rattle.seats.specs.declared.Seating.{Seating}
 
 -- ---- two tests, one after another
@@ -32,34 +32,34 @@ module _ (a b : Bool) where
 -- ---- the refusals
 
 module _ (room fin : Bool) (n : ℕ) (ok : Bool) where
-  pub bar-12 : room ≡ false → barredBy room fin n ok ≡ 12
-  unfolding barredBy pick
-  bar-12 e = rw e
+  pub bar_12 : room ≡ false → barred_by room fin n ok ≡ 12
+  unfolding barred_by pick
+  bar_12 e = rw e
 
   module _ (r : room ≡ true) where
-    pub bar-6 : fin ≡ false → barredBy room fin n ok ≡ 6
-    unfolding barredBy pick
-    bar-6 e = rw (r, e)
+    pub bar_6 : fin ≡ false → barred_by room fin n ok ≡ 6
+    unfolding barred_by pick
+    bar_6 e = rw (r, e)
 
     module _ (f : fin ≡ true) where
-      pub bar-5 : mostAttributes < n → barredBy room fin n ok ≡ 5
-      unfolding barredBy pick
-      bar-5 h = rw (r, f, lt-leb n mostAttributes h)
+      pub bar_5 : most_attributes < n → barred_by room fin n ok ≡ 5
+      unfolding barred_by pick
+      bar_5 h = rw (r, f, lt-leb n most_attributes h)
 
-      module _ (h : n ≤ mostAttributes) where
-        pub bar-8 : ok ≡ false → barredBy room fin n ok ≡ 8
-        unfolding barredBy pick
-        bar-8 e = rw (r, f, le-leb n mostAttributes h, e)
+      module _ (h : n ≤ most_attributes) where
+        pub bar_8 : ok ≡ false → barred_by room fin n ok ≡ 8
+        unfolding barred_by pick
+        bar_8 e = rw (r, f, le-leb n most_attributes h, e)
 
-        pub bar-0 : ok ≡ true → barredBy room fin n ok ≡ 0
-        unfolding barredBy pick
-        bar-0 e = rw (r, f, le-leb n mostAttributes h, e)
+        pub bar_0 : ok ≡ true → barred_by room fin n ok ≡ 0
+        unfolding barred_by pick
+        bar_0 e = rw (r, f, le-leb n most_attributes h, e)
 
 -- what is known where nothing is refused
 pub record Clear (room fin : Bool) (n : ℕ) (ok : Bool) : Type 0 where
   pub room-is : room ≡ true
   pub value : fin ≡ true
-  pub few : n ≤ mostAttributes
+  pub few : n ≤ most_attributes
   pub ok-is : ok ≡ true
 
 unfoldable numbered : Bool → Bool → Bool → Bool → ℕ
@@ -73,38 +73,38 @@ passed true true false d e = absurd (omega arith)
 passed true true true false e = absurd (omega arith)
 passed true true true true e = (refl, refl, refl, refl)
 
-pub clear : (room fin : Bool) (n : ℕ) (ok : Bool) → barredBy room fin n ok ≡ 0 → Clear room fin n ok
-unfolding barredBy numbered
+pub clear : (room fin : Bool) (n : ℕ) (ok : Bool) → barred_by room fin n ok ≡ 0 → Clear room fin n ok
+unfolding barred_by numbered
 clear room fin n ok e =
-    let p = passed room fin (leb n mostAttributes) ok e in
-    record { room-is = p.0; value = p.1; few = leb-true n mostAttributes p.2; ok-is = p.3 }
+    let p = passed room fin (leb n most_attributes) ok e in
+    record { room-is = p.0; value = p.1; few = leb-true n most_attributes p.2; ok-is = p.3 }
 
 -- ---- what is left to ask where the rest is known
 
 module _ (cells unset limit : ℕ) (d : Directory) (s : Stores) (ok : Bool) (k : Sure cells unset limit d s ok) where
-  pub sure-room : (storesSuffice limit s && leb (limit + 2) cells) ≡ true
+  pub sure-room : (stores_suffice limit s && leb (limit + 2) cells) ≡ true
   sure-room =
       rw (le-leb (limit + 2) (length s.sets) k.sets, le-leb (limit + 2) (length s.entries) k.entries, le-leb (limit + 2) (length s.order) k.order, le-leb (limit + 2) cells k.cells)
 
   pub sure-ok : (eqb unset 0 && ok) ≡ true
   sure-ok = both-are (eqb unset 0) ok (eq-eqb unset 0 k.set) k.accepted
 
-  pub sure-bar : (fin : Bool) (n : ℕ) → barredAt cells fin unset limit s n ok ≡ barredBy true fin n true
-  sure-bar fin n = λ j. barredBy (sure-room j) fin n (sure-ok j)
+  pub sure-bar : (fin : Bool) (n : ℕ) → barred_at cells fin unset limit s n ok ≡ barred_by true fin n true
+  sure-bar fin n = λ j. barred_by (sure-room j) fin n (sure-ok j)
 
 -- ---- the seating that is left
 
 module _ (n : ℕ) (a : Seating) where
-  pub barred-away : (n ≡ 0 → ⊥) → unlessBarred n a ≡ away n
-  unfolding unlessBarred pick
+  pub barred-away : (n ≡ 0 → ⊥) → unless_barred n a ≡ away n
+  unfolding unless_barred pick
   barred-away d = rw (ne_eqb n 0 d)
 
-  pub barred-on : n ≡ 0 → unlessBarred n a ≡ a
-  unfolding unlessBarred pick
+  pub barred-on : n ≡ 0 → unless_barred n a ≡ a
+  unfolding unless_barred pick
   barred-on e = rw (eq-eqb n 0 e)
 
   -- one that is not refused was not barred
-  pub not-barred : (unlessBarred n a).no ≡ 0 → n ≡ 0
+  pub not-barred : (unless_barred n a).no ≡ 0 → n ≡ 0
   not-barred z = go (eqb n 0) refl
     where
       go : (b : Bool) → eqb n 0 ≡ b → n ≡ 0
@@ -114,14 +114,14 @@ module _ (n : ℕ) (a : Seating) where
 -- ---- the row that is left
 
 module _ (n : ℕ) (row old : List ℕ) where
-  pub row_kept : (n ≡ 0 → ⊥) → old ≡ rowUnlessBarred n row old
-  unfolding rowUnlessBarred pick
+  pub row_kept : (n ≡ 0 → ⊥) → old ≡ row_unless_barred n row old
+  unfolding row_unless_barred pick
   row_kept d = rw (ne_eqb n 0 d)
 
-  pub row_written : n ≡ 0 → row ≡ rowUnlessBarred n row old
-  unfolding rowUnlessBarred pick
+  pub row_written : n ≡ 0 → row ≡ row_unless_barred n row old
+  unfolding row_unless_barred pick
   row_written e = rw (eq-eqb n 0 e)
 
   -- it is the set's, where a seating is not refused
-  pub row-seated : (a r : Seating) → r ≡ unlessBarred n a → (l : List ℕ) → l ≡ rowUnlessBarred n row old → r.no ≡ 0 → l ≡ row
+  pub row-seated : (a r : Seating) → r ≡ unless_barred n a → (l : List ℕ) → l ≡ row_unless_barred n row old → r.no ≡ 0 → l ≡ row
   row-seated a r e l q z = q ∙ sym (row_written (not-barred n a (ap (λ (s : Seating). s.no) (sym e) ∙ z)))

@@ -5,10 +5,10 @@ use mathlib.Core.List.{List, [], ◌∷◌}
 use native.Mathlib.Omega.{arith}
 use lib.ListN.{length, length-set}
 use Rattle.directory.specs.View.{Stores}
-use Rattle.directory.specs.Calls.{Kept, overRow, admitted}
+use Rattle.directory.specs.Calls.{Kept, over_row, admitted}
 use Rattle.directory.specs.declared.Directory.{Directory}
 use Rattle.directory.specs.declared.Target.TheVariants.{Disagrees, Old, New, Over}
-use Rattle.seats.specs.Seats.{marked, markedIn, committed}
+use Rattle.seats.specs.Seats.{marked, marked_in, committed}
 use Rattle.seats.specs.Inner.{Roomy}
 
 -- a new entry, then marked
@@ -24,9 +24,9 @@ module _ (d : Directory) (s : Stores) (k : Kept) where
         subst (λ (j : Kept). j.dir.used < length j.stores.entries) (sym e)
         (let p : d.used + 1 < length s.entries = h.entries in omega (arith, length-set s.entries (d.used + 1) ((d.last + 1) ∷ 0 ∷ 0 ∷ [])))
 
-    pub made-marked : (l : List (List ℕ)) → l ≡ marked k.stores.entries k.dir.used → Then l ≡ markedIn (admitted d s row r more 0) (d.used + 1)
+    pub made-marked : (l : List (List ℕ)) → l ≡ marked k.stores.entries k.dir.used → Then l ≡ marked_in (admitted d s row r more 0) (d.used + 1)
     unfolding admitted
-    made-marked l p = ap Then p ∙ ap (λ (j : Kept). markedIn j j.dir.used) e
+    made-marked l p = ap Then p ∙ ap (λ (j : Kept). marked_in j j.dir.used) e
 
 -- by cases
 module _ (d : Directory) (s : Stores) (row : List ℕ) where
@@ -34,14 +34,14 @@ module _ (d : Directory) (s : Stores) (row : List ℕ) where
   unfolding committed
   commit-none = refl
 
-  pub commit-old : (x : ℕ) → committed d s row (Old x) ≡ markedIn (record { dir = d; stores = s }) x
+  pub commit-old : (x : ℕ) → committed d s row (Old x) ≡ marked_in (record { dir = d; stores = s }) x
   unfolding committed
   commit-old x = refl
 
-  pub commit-new : (r : ℕ) → committed d s row (New r) ≡ markedIn (admitted d s row r 1 0) (d.used + 1)
+  pub commit-new : (r : ℕ) → committed d s row (New r) ≡ marked_in (admitted d s row r 1 0) (d.used + 1)
   unfolding committed
   commit-new r = refl
 
-  pub commit-over : (r : ℕ) → committed d s row (Over r) ≡ markedIn (admitted d s overRow r 0 0) (d.used + 1)
+  pub commit-over : (r : ℕ) → committed d s row (Over r) ≡ marked_in (admitted d s over_row r 0 0) (d.used + 1)
   unfolding committed
   commit-over r = refl

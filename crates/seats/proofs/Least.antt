@@ -31,8 +31,8 @@ module _ (a b : ℕ) where
         go false e = lt-leb n b (let p = leb-false n a e in omega arith)
 
     -- the lesser suffices where both do
-    pub both-suffice : leb n (min a b) ≡ (leb n a && leb n b)
-    both-suffice =
+    pub both_suffice : leb n (min a b) ≡ (leb n a && leb n b)
+    both_suffice =
         ⊎_elim
         (λ (e : leb a b ≡ true). let h = leb-true a b e in ap (leb n) (sym (lesser-first h)) ∙ up h)
         (λ (e : leb a b ≡ false). let h = leb-false a b e in ap (leb n) (sym (lesser-second h)) ∙ down h)
@@ -45,7 +45,7 @@ one_less true = refl
 one_less false = refl
 
 -- the least of four
-pub all-suffice : (n a b c d : ℕ) → leb n (min (min a b) (min c d)) ≡ ((leb n a && (leb n b && leb n c)) && leb n d)
-all-suffice n a b c d =
-    both-suffice (min a b) (min c d) n ∙ (λ i. both-suffice a b n i && both-suffice c d n i) ∙ and_assoc (leb n a) (leb n b) (leb n c && leb n d)
+pub all_suffice : (n a b c d : ℕ) → leb n (min (min a b) (min c d)) ≡ ((leb n a && (leb n b && leb n c)) && leb n d)
+all_suffice n a b c d =
+    both_suffice (min a b) (min c d) n ∙ (λ i. both_suffice a b n i && both_suffice c d n i) ∙ and_assoc (leb n a) (leb n b) (leb n c && leb n d)
     ∙ (λ i. leb n a && sym (and_assoc (leb n b) (leb n c) (leb n d)) i) ∙ sym (and_assoc (leb n a) (leb n b && leb n c) (leb n d))

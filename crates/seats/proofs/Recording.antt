@@ -16,13 +16,13 @@ module _ (K : Kind) where
   held_at f a = pick a.updated (some (f a.slot)) none
 
   -- the one that the value is added to: an entry that is not updated has no series and counts as fresh (docs/DECISIONS.md, "Readings of document 01")
-  abbrev pub orFresh : K.Settings → Option K.Series → K.Series
-  orFresh z o = get_or o (K.fresh z)
+  abbrev pub or_fresh : K.Settings → Option K.Series → K.Series
+  or_fresh z o = get_or o (K.fresh z)
 
   -- the series' own refusals, in order: "8: .. touched series disagrees with itself", "9: a count .. would pass 2^64 - 1", 16 (L6)
   abbrev pub refusal : K.Settings → Option K.Series → K.Value → Option ℕ
   refusal z o v =
-      first_of (unless (sound K z o) 8 ∷ unless (fits (suc (K.total (orFresh z o)))) 9 ∷ unless (K.allows z (orFresh z o) v) 16 ∷ [])
+      first_of (unless (sound K z o) 8 ∷ unless (fits (suc (K.total (or_fresh z o)))) 9 ∷ unless (K.allows z (or_fresh z o) v) 16 ∷ [])
 
   -- every other used slot's series stays
   abbrev pub Others : (ℕ → K.Series) → (ℕ → K.Series) → Directory → ℕ → Type 0

@@ -3,20 +3,20 @@
 use Rattle.std.specs.Prelude.{ℕ, ◌+◌, ◌^◌, ◌≤◌, ◌<◌, ◌≡◌, Bool, true, ◌&&◌, List, eqb, leb, length}
 use Rattle.laws.specs.Pick.{pick}
 use Rattle.directory.specs.View.{Stores, agreesb}
-use Rattle.directory.specs.Calls.{storesSuffice}
+use Rattle.directory.specs.Calls.{stores_suffice}
 use Rattle.directory.specs.declared.Directory.{Directory}
 use Rattle.directory.specs.declared.Target.{Target}
 use Rattle.directory.specs.declared.Target.TheVariants.{Disagrees, Old, New, Over}
-use Rattle.seats.specs.Seats.{barredBy}
+use Rattle.seats.specs.Seats.{barred_by}
 
--- `barredBy`, of what the kind found (how many slots its cells have room for, whether it takes the value, its settings' number), the
+-- `barred_by`, of what the kind found (how many slots its cells have room for, whether it takes the value, its settings' number), the
 -- directory's stores, a number of attributes, and a limit and a filter that configuring accepts or not
-abbrev pub barredAt : ℕ → Bool → ℕ → ℕ → Stores → ℕ → Bool → ℕ
-barredAt cells value unset limit s n ok = barredBy (storesSuffice limit s && leb (limit + 2) cells) value n (eqb unset 0 && ok)
+abbrev pub barred_at : ℕ → Bool → ℕ → ℕ → Stores → ℕ → Bool → ℕ
+barred_at cells value unset limit s n ok = barred_by (stores_suffice limit s && leb (limit + 2) cells) value n (eqb unset 0 && ok)
 
 -- the row that the call is lent: that of its set, unless a number bars the call, and then as it was
-unfoldable pub rowUnlessBarred : ℕ → List ℕ → List ℕ → List ℕ
-rowUnlessBarred n row old = pick (eqb n 0) row old
+unfoldable pub row_unless_barred : ℕ → List ℕ → List ℕ → List ℕ
+row_unless_barred n row old = pick (eqb n 0) row old
 
 -- what a call may know of the map that it is lent, so that 12 and 8 do not come up; `slots`: how many the kind's cells have room for
 pub record Sure (slots unset limit : ℕ) (d : Directory) (s : Stores) (ok : Bool) : Type 0 where

@@ -6,12 +6,12 @@ pub mod room;
 ghost use Rattle.std.specs.Prelude.{◌≡◌, true, List, ℕ, ◌+◌, ◌<◌, ◌≤◌, leb, length};
 ghost use Rattle.tally.specs.Sets.{canonical};
 ghost use Rattle.sets.specs.Rows.{size, row_of};
-ghost use Rattle.sets.specs.Sorted.{given, filterOf};
-ghost use Rattle.seats.specs.Seats.{away, heldSeat, newSeat, seated, seatBy, seatedBy, barredBy};
-ghost use Rattle.seats.specs.Seats.{unlessBarred, marked, committed};
-ghost use Rattle.seats.specs.Inner.{barredAt, rowUnlessBarred, Sure, Fits};
+ghost use Rattle.sets.specs.Sorted.{given, filter_of};
+ghost use Rattle.seats.specs.Seats.{away, held_seat, new_seat, seated, seat_by, seated_by, barred_by};
+ghost use Rattle.seats.specs.Seats.{unless_barred, marked, committed};
+ghost use Rattle.seats.specs.Inner.{barred_at, row_unless_barred, Sure, Fits};
 ghost use Rattle.directory.specs.View.{stores, agreesb};
-ghost use Rattle.directory.specs.Calls.{kept, mostSets, accepts};
+ghost use Rattle.directory.specs.Calls.{kept, most_sets, accepts};
 ghost use Rattle.directory.specs.declared.Found.TheVariants.{Held};
 
 // Where a recording goes. no: document 01's number of the refusal, 0 if none; slot: the slot that it goes to; updated: whether that slot
@@ -39,7 +39,7 @@ fn refused(no: u8) -> Seating
 // The seat at a slot that is held.
 fn held_seat(entries: &[[u64; 3]], x: usize) -> Seating
     requires { x < length entries.now }
-    ensures { result ≡ heldSeat entries.now x }
+    ensures { result ≡ held_seat entries.now x }
 {
     let u = directory::is_updated(entries, x);
     Seating {
@@ -53,7 +53,7 @@ fn held_seat(entries: &[[u64; 3]], x: usize) -> Seating
 // The seat at the next slot, unless the birth numbers are spent.
 fn new_seat(d: directory::Directory, target: directory::Target) -> Seating
     requires { d.used + 1 < 18446744073709551616 }
-    ensures { result ≡ newSeat d target }
+    ensures { result ≡ new_seat d target }
 {
     if d.last >= u64::MAX {
         return refused(9);
@@ -110,7 +110,7 @@ fn seat_in(
 fn found_seat(entries: &[[u64; 3]], found: directory::Found) -> Seating
     requires { (x : ℕ) → found ≡ Held x → x < length entries.now }
     ensures { (sets : List (List ℕ)) → ((order : List ℕ)
-        → result ≡ seatBy (record { sets = sets; entries = entries.now; order = order }) found) }
+        → result ≡ seat_by (record { sets = sets; entries = entries.now; order = order }) found) }
 {
     match found {
         directory::Found::Room(_) => refused(7),
@@ -128,7 +128,7 @@ fn seat_by_in(
     h: u64,
 ) -> Seating
     requires { (limit + 2 ≤ length sets.now) × (limit + 2 ≤ length entries.now) × (limit + 2 ≤ length order.now) }
-    ensures { result ≡ seatedBy limit d (stores sets.entry entries.entry order.entry) h }
+    ensures { result ≡ seated_by limit d (stores sets.entry entries.entry order.entry) h }
 {
     if !directory::check::agrees(limit, d, sets, entries, order) {
         return refused(8);
@@ -153,13 +153,13 @@ pub fn seat(
     filter: &[u32],
     row: &mut [u64; 9],
 ) -> Seating
-    ensures value { result ≡ unlessBarred (barredAt cells value unset limit (stores sets.entry entries.entry order.entry)
-        (length (given attrs.now)) (accepts limit (filterOf present filter.now)))
+    ensures value { result ≡ unless_barred (barred_at cells value unset limit (stores sets.entry entries.entry order.entry)
+        (length (given attrs.now)) (accepts limit (filter_of present filter.now)))
         (seated limit d (stores sets.entry entries.entry order.entry)
-        (row_of (canonical (filterOf present filter.now) (given attrs.now)))) }
-    ensures row_after { row.new ≡ rowUnlessBarred (barredAt cells value unset limit (stores sets.entry entries.entry order.entry)
-        (length (given attrs.now)) (accepts limit (filterOf present filter.now)))
-        (row_of (canonical (filterOf present filter.now) (given attrs.now))) row.old }
+        (row_of (canonical (filter_of present filter.now) (given attrs.now)))) }
+    ensures row_after { row.new ≡ row_unless_barred (barred_at cells value unset limit (stores sets.entry entries.entry order.entry)
+        (length (given attrs.now)) (accepts limit (filter_of present filter.now)))
+        (row_of (canonical (filter_of present filter.now) (given attrs.now))) row.old }
 {
     let lent = room::suffices(limit, sets.len(), entries.len(), order.len(), cells);
     let ok = directory::accepted(limit, present, filter);
@@ -183,8 +183,8 @@ pub fn seat_by(
     order: &[u32],
     h: u64,
 ) -> Seating
-    ensures { result ≡ unlessBarred (barredAt cells value unset limit (stores sets.entry entries.entry order.entry) 0 (leb limit mostSets))
-        (seatedBy limit d (stores sets.entry entries.entry order.entry) h) }
+    ensures { result ≡ unless_barred (barred_at cells value unset limit (stores sets.entry entries.entry order.entry) 0 (leb limit most_sets))
+        (seated_by limit d (stores sets.entry entries.entry order.entry) h) }
 {
     let lent = room::suffices(limit, sets.len(), entries.len(), order.len(), cells);
     let no = first::barred(lent, value, 0, unset, limit <= directory::MOST_SETS);
@@ -209,11 +209,11 @@ fn seat_agreed(
 ) -> Seating
     requires { (limit + 2 ≤ length sets.now) × (limit + 2 ≤ length entries.now) × (limit + 2 ≤ length order.now)
         × (agreesb limit d (stores sets entries order) ≡ true) }
-    ensures value { result ≡ unlessBarred (barredBy true value (length (given attrs.now)) true)
+    ensures value { result ≡ unless_barred (barred_by true value (length (given attrs.now)) true)
         (seated limit d (stores sets.entry entries.entry order.entry)
-        (row_of (canonical (filterOf present filter.now) (given attrs.now)))) }
-    ensures row_after { row.new ≡ rowUnlessBarred (barredBy true value (length (given attrs.now)) true)
-        (row_of (canonical (filterOf present filter.now) (given attrs.now))) row.old }
+        (row_of (canonical (filter_of present filter.now) (given attrs.now)))) }
+    ensures row_after { row.new ≡ row_unless_barred (barred_by true value (length (given attrs.now)) true)
+        (row_of (canonical (filter_of present filter.now) (given attrs.now))) row.old }
 {
     let no = first::barred(true, value, attrs.len(), 0, true);
     if no != 0 {
@@ -235,7 +235,7 @@ fn seat_by_agreed(
 ) -> Seating
     requires { (limit + 2 ≤ length sets.now) × (limit + 2 ≤ length entries.now) × (limit + 2 ≤ length order.now)
         × (agreesb limit d (stores sets entries order) ≡ true) }
-    ensures { result ≡ unlessBarred (barredBy true value 0 true) (seatedBy limit d (stores sets.entry entries.entry order.entry) h) }
+    ensures { result ≡ unless_barred (barred_by true value 0 true) (seated_by limit d (stores sets.entry entries.entry order.entry) h) }
 {
     let no = first::barred(true, value, 0, 0, true);
     if no != 0 {
@@ -261,14 +261,14 @@ pub fn seat_if(
     filter: &[u32],
     row: &mut [u64; 9],
 ) -> Seating
-    requires { known ≡ true → Sure cells unset limit d (stores sets entries order) (accepts limit (filterOf present filter.now)) }
-    ensures value { result ≡ unlessBarred (barredAt cells value unset limit (stores sets.entry entries.entry order.entry)
-        (length (given attrs.now)) (accepts limit (filterOf present filter.now)))
+    requires { known ≡ true → Sure cells unset limit d (stores sets entries order) (accepts limit (filter_of present filter.now)) }
+    ensures value { result ≡ unless_barred (barred_at cells value unset limit (stores sets.entry entries.entry order.entry)
+        (length (given attrs.now)) (accepts limit (filter_of present filter.now)))
         (seated limit d (stores sets.entry entries.entry order.entry)
-        (row_of (canonical (filterOf present filter.now) (given attrs.now)))) }
-    ensures row_after { row.new ≡ rowUnlessBarred (barredAt cells value unset limit (stores sets.entry entries.entry order.entry)
-        (length (given attrs.now)) (accepts limit (filterOf present filter.now)))
-        (row_of (canonical (filterOf present filter.now) (given attrs.now))) row.old }
+        (row_of (canonical (filter_of present filter.now) (given attrs.now)))) }
+    ensures row_after { row.new ≡ row_unless_barred (barred_at cells value unset limit (stores sets.entry entries.entry order.entry)
+        (length (given attrs.now)) (accepts limit (filter_of present filter.now)))
+        (row_of (canonical (filter_of present filter.now) (given attrs.now))) row.old }
 {
     if known {
         return seat_agreed(
@@ -293,9 +293,9 @@ pub fn seat_by_if(
     order: &[u32],
     h: u64,
 ) -> Seating
-    requires { known ≡ true → Sure cells unset limit d (stores sets entries order) (leb limit mostSets) }
-    ensures { result ≡ unlessBarred (barredAt cells value unset limit (stores sets.entry entries.entry order.entry) 0 (leb limit mostSets))
-        (seatedBy limit d (stores sets.entry entries.entry order.entry) h) }
+    requires { known ≡ true → Sure cells unset limit d (stores sets entries order) (leb limit most_sets) }
+    ensures { result ≡ unless_barred (barred_at cells value unset limit (stores sets.entry entries.entry order.entry) 0 (leb limit most_sets))
+        (seated_by limit d (stores sets.entry entries.entry order.entry) h) }
 {
     if known {
         return seat_by_agreed(value, limit, d, sets, entries, order, h);

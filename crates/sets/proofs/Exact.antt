@@ -7,7 +7,7 @@ use lib.ListN.{length, get_or, set, take, drop, replicate, length-set, length-ma
 use lib.Seq.{get_or-set_other, get_or-set_same, get_or-append-add, get_or-drop, length-take-le, take-append_seam}
 use Rattle.tally.specs.Sets.{Set, Lendable}
 use Rattle.sets.specs.Inserted.{inserted}
-use Rattle.sets.specs.Rows.{pair, size, span, setOf, word_of, row_of}
+use Rattle.sets.specs.Rows.{pair, size, span, set_of, word_of, row_of}
 use Rattle.sets.specs.Inner.{Clean}
 use Rattle.sets.proofs.Spans.{span-take, length_inserted, span-whole, span-length, span-zeros, span-split}
 
@@ -23,8 +23,8 @@ length_pairs : (l : List ℕ) → length (map pair l) ≡ length l
 length_pairs l = length-map l pair
 
 -- a clean row is the row of its set
-pub row-own : (row : List ℕ) → Clean row → size row ≤ 8 → row_of (setOf row) ≡ row
-unfolding row_of setOf
+pub row-own : (row : List ℕ) → Clean row → size row ≤ 8 → row_of (set_of row) ≡ row
+unfolding row_of set_of
 row-own row c h =
     let n = size row in
     let W = span row 0 n in
@@ -72,15 +72,15 @@ front s =
     span-take (map word_of s ++ r) (length (map word_of s)) (omega (arith, length-append (map word_of s) r))
     ∙ take-append_seam (map word_of s) r
 
-words-of : (s : Set) → length s ≤ 8 → setOf (row_of s) ≡ map pair (map word_of s)
-unfolding setOf
+words-of : (s : Set) → length s ≤ 8 → set_of (row_of s) ≡ map pair (map word_of s)
+unfolding set_of
 words-of s h = ap (λ (k : ℕ). map pair (span (row_of s) 0 k)) (size-row s h ∙ sym (length-map s word_of)) ∙ ap (map pair) (front s)
 
-pub set_own : (s : Set) → length s ≤ 8 → Lendable s → setOf (row_of s) ≡ s
+pub set_own : (s : Set) → length s ≤ 8 → Lendable s → set_of (row_of s) ≡ s
 set_own s h g = words-of s h ∙ own-pairs s g
 
-pub set-again : (row : List ℕ) → size row ≤ 8 → setOf (row_of (setOf row)) ≡ setOf row
-unfolding setOf
+pub set-again : (row : List ℕ) → size row ≤ 8 → set_of (row_of (set_of row)) ≡ set_of row
+unfolding set_of
 set-again row h =
     let W = span row 0 (size row) in
     let k : length (map pair W) ≤ 8 = omega (arith, length-map W pair, span-length row 0 (size row)) in
@@ -125,5 +125,5 @@ pub clean-start : Clean (0 ∷ 0 ∷ 0 ∷ 0 ∷ 0 ∷ 0 ∷ 0 ∷ 0 ∷ 0 ∷ [
 clean-start = record { long = refl; zeros = λ j a b. get_or-replicate 9 j 0 0 (omega arith) }
 
 -- what sorting makes of clean rows
-pub row_is : (row : List ℕ) (s : Set) → Clean row → size row ≤ 8 → setOf row ≡ s → row ≡ row_of s
+pub row_is : (row : List ℕ) (s : Set) → Clean row → size row ≤ 8 → set_of row ≡ s → row ≡ row_of s
 row_is row s c h e = sym (row-own row c h) ∙ ap row_of e

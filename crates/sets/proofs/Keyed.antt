@@ -14,17 +14,17 @@ use lib.ListN.{length, get_or, length-map}
 use Rattle.laws.proofs.Cases.{and-true}
 use Rattle.tally.specs.Sets.{cmp, same, Over, Keyed}
 use Rattle.sets.specs.All.{allb}
-use Rattle.sets.specs.Rows.{pair, size, span, setOf, key_at, soundb}
+use Rattle.sets.specs.Rows.{pair, size, span, set_of, key_at, soundb}
 use Rattle.sets.proofs.Alls.{allb-at, allb-yes}
 use Rattle.sets.proofs.Spans.{span-length}
 
 -- the empty set, and those with an attribute
-pub empty-row : (row : List ℕ) → size row ≡ 0 → same (setOf row) [] ≡ true
-unfolding setOf
+pub empty-row : (row : List ℕ) → size row ≡ 0 → same (set_of row) [] ≡ true
+unfolding set_of
 empty-row row e = ap (λ (k : ℕ). same (map pair (span row 0 k)) []) e
 
-pub named-row : (row : List ℕ) → (size row ≡ 0 → ⊥) → same (setOf row) [] ≡ false
-unfolding setOf
+pub named-row : (row : List ℕ) → (size row ≡ 0 → ⊥) → same (set_of row) [] ≡ false
+unfolding set_of
 named-row row n = let e : size row ≡ suc (size row - 1) = one (size row) n in ap (λ (k : ℕ). same (map pair (span row 0 k)) []) e
   where
     one : (k : ℕ) → (k ≡ 0 → ⊥) → k ≡ suc (k - 1)
@@ -32,8 +32,8 @@ named-row row n = let e : size row ≡ suc (size row - 1) = one (size row) n in 
     one (suc k) n = omega arith
 
 -- a set with an attribute comes after the empty one
-pub after-empty : (row : List ℕ) → 1 ≤ size row → cmp [] (setOf row) ≡ Ordering.lt
-unfolding setOf
+pub after-empty : (row : List ℕ) → 1 ≤ size row → cmp [] (set_of row) ≡ Ordering.lt
+unfolding set_of
 after-empty row h = let e : size row ≡ suc (size row - 1) = omega arith in ap (λ (k : ℕ). cmp [] (map pair (span row 0 k))) e
 
 -- what a sound row has
@@ -88,9 +88,9 @@ sound-keys row h k = simp (le-leb _ _ h, le-leb _ _ k)
 pub key-rise : (row : List ℕ) → soundb row ≡ true → (k : ℕ) → k + 1 < size row → key_at row k ≡ true
 key-rise row e k h = allb-at (key_at row) (size row - 1) (sym (sound-keys row (sound-some row e) (sound-few row e)) ∙ e) k (omega arith)
 
-pub sound-keyed : (row : List ℕ) → soundb row ≡ true → Keyed (setOf row)
-unfolding setOf soundb
-sound-keyed row e =
+pub sound_keyed : (row : List ℕ) → soundb row ≡ true → Keyed (set_of row)
+unfolding set_of soundb
+sound_keyed row e =
     let a = and-true (leb 1 (size row)) _ e in
     let b = and-true (leb (size row) 8) (allb (size row - 1) (key_at row)) a.1 in
     keyed-span row (size row)
@@ -106,12 +106,12 @@ keyed-at row i (suc (suc k)) h j a b =
     (λ l. keyed-at row (suc i) (suc k) h.1 j l (omega arith))
     (eq-or-lt_of_le a)
 
-pub keyed-sound : (row : List ℕ) → 1 ≤ size row → size row ≤ 8 → Keyed (setOf row) → soundb row ≡ true
-unfolding setOf soundb
+pub keyed-sound : (row : List ℕ) → 1 ≤ size row → size row ≤ 8 → Keyed (set_of row) → soundb row ≡ true
+unfolding set_of soundb
 keyed-sound row a b h =
     let t : allb (size row - 1) (key_at row) ≡ true = allb-yes (key_at row) (size row - 1) (λ j l. lt-ltb (key_of row j) (key_of row (j + 1)) (subst (λ (i : ℕ). key_of row j < key_of row i) (sym (add-one j)) (keyed-at row 0 (size row) h j (omega arith) (omega arith)))) in
     rw (le-leb 1 (size row) a, le-leb (size row) 8 b, t)
 
-pub length-set-of : (row : List ℕ) → length (setOf row) ≡ size row
-unfolding setOf
+pub length-set-of : (row : List ℕ) → length (set_of row) ≡ size row
+unfolding set_of
 length-set-of row = length-map (span row 0 (size row)) pair ∙ span-length row 0 (size row)

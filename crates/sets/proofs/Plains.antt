@@ -9,14 +9,14 @@ use lib.ListN.{get_or}
 use Rattle.laws.proofs.Compare.{compare-eq, compare_self}
 use Rattle.tally.specs.Sets.{overflow, three, same}
 use Rattle.tally.specs.Map.{plain, bit}
-use Rattle.sets.specs.Rows.{pair, size, span, setOf}
-use Rattle.sets.proofs.Words.{cmpWords, cmp-words}
+use Rattle.sets.specs.Rows.{pair, size, span, set_of}
+use Rattle.sets.proofs.Words.{cmp_words, cmp-words}
 
 -- plain rows
-over-words : (w : List ℕ) → same (map pair w) overflow ≡ compare_is_eq (cmpWords w (18446744069414584321 ∷ []))
+over-words : (w : List ℕ) → same (map pair w) overflow ≡ compare_is_eq (cmp_words w (18446744069414584321 ∷ []))
 over-words w = ap compare_is_eq (cmp-words w (18446744069414584321 ∷ []))
 
-plain-words : (x : ℕ) (l : List ℕ) → plain (map pair (x ∷ l)) ≡ not (compare_is_eq (cmpWords (x ∷ l) (18446744069414584321 ∷ [])))
+plain-words : (x : ℕ) (l : List ℕ) → plain (map pair (x ∷ l)) ≡ not (compare_is_eq (cmp_words (x ∷ l) (18446744069414584321 ∷ [])))
 plain-words x l = ap not (over-words (x ∷ l))
 
 two-other : (x y : ℕ) (l : List ℕ) → plain (map pair (x ∷ y ∷ l)) ≡ true
@@ -39,16 +39,16 @@ one-other x n = plain-words x [] ∙ go (compare x 18446744069414584321) refl
     go Ordering.gt e = refl
 
 module _ (row : List ℕ) where
-  pub plain_over : size row ≡ 1 → get_or row 0 0 ≡ 18446744069414584321 → bit (plain (setOf row)) ≡ 0
-  unfolding setOf
+  pub plain_over : size row ≡ 1 → get_or row 0 0 ≡ 18446744069414584321 → bit (plain (set_of row)) ≡ 0
+  unfolding set_of
   plain_over h e = ap bit (ap (λ (k : ℕ). plain (map pair (span row 0 k))) h ∙ one-over (get_or row 0 0) e)
 
-  pub plain-one : size row ≡ 1 → (get_or row 0 0 ≡ 18446744069414584321 → ⊥) → bit (plain (setOf row)) ≡ 1
-  unfolding setOf
+  pub plain-one : size row ≡ 1 → (get_or row 0 0 ≡ 18446744069414584321 → ⊥) → bit (plain (set_of row)) ≡ 1
+  unfolding set_of
   plain-one h e = ap bit (ap (λ (k : ℕ). plain (map pair (span row 0 k))) h ∙ one-other (get_or row 0 0) e)
 
-  pub plain-many : 1 ≤ size row → (size row ≡ 1 → ⊥) → bit (plain (setOf row)) ≡ 1
-  unfolding setOf
+  pub plain-many : 1 ≤ size row → (size row ≡ 1 → ⊥) → bit (plain (set_of row)) ≡ 1
+  unfolding set_of
   plain-many h n =
       let z : size row ≡ suc (suc (size row - 2)) = two (size row) h n in
       ap bit (ap (λ (k : ℕ). plain (map pair (span row 0 k))) z ∙ two-other (get_or row 0 0) (get_or row 1 0) (span row 2 (size row - 2)))

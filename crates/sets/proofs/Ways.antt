@@ -18,10 +18,10 @@ way-eq Ordering.lt e = cc
 way-eq Ordering.eq e = refl
 way-eq Ordering.gt e = cc
 
-pub way-gt : (o : Ordering) → way o ≡ After → o ≡ Ordering.gt
-way-gt Ordering.lt e = cc
-way-gt Ordering.eq e = cc
-way-gt Ordering.gt e = refl
+pub way_gt : (o : Ordering) → way o ≡ After → o ≡ Ordering.gt
+way_gt Ordering.lt e = cc
+way_gt Ordering.eq e = cc
+way_gt Ordering.gt e = refl
 
 pub below-lt : (o : Ordering) → below o ≡ true → o ≡ Ordering.lt
 below-lt Ordering.lt e = refl

@@ -3,7 +3,7 @@ ghost use Rattle.std.specs.Prelude.{◌≡◌, true, ◌&&◌, ◌||◌, ℕ, �
 ghost use Rattle.tally.specs.Sets.{cmp};
 ghost use Rattle.tally.specs.Map.{plain, bit};
 ghost use Rattle.sets.specs.All.{allb};
-ghost use Rattle.sets.specs.Rows.{size, setOf, below, key_at, soundb};
+ghost use Rattle.sets.specs.Rows.{size, set_of, below, key_at, soundb};
 ghost use Rattle.sets.specs.Inner.{way, Parted};
 
 // The first word from `from` on in which two rows differ, 8 if none does.
@@ -24,7 +24,7 @@ pub fn parting(a: &[u64; 9], b: &[u64; 9], from: usize) -> usize
 // Whether the first set comes before the second, after it, or is the same: by key, value, then the shorter first.
 pub fn compare(a: &[u64; 9], b: &[u64; 9]) -> crate::Way
     requires { (size a.now ≤ 8) × (size b.now ≤ 8) }
-    ensures { result ≡ way (cmp (setOf a.now) (setOf b.now)) }
+    ensures { result ≡ way (cmp (set_of a.now) (set_of b.now)) }
 {
     let n = a[8] as usize;
     let m = b[8] as usize;
@@ -79,7 +79,7 @@ pub fn sound(row: &[u64; 9]) -> bool
 // Whether b is sound and its set comes after that of a, which is sound: up to the word in which they part b's keys rise as a's do.
 fn after(a: &[u64; 9], b: &[u64; 9]) -> bool
     requires { soundb a.now ≡ true }
-    ensures { result ≡ (soundb b.now && below (cmp (setOf a.now) (setOf b.now))) }
+    ensures { result ≡ (soundb b.now && below (cmp (set_of a.now) (set_of b.now))) }
 {
     let n = a[8] as usize;
     let m = b[8] as usize;
@@ -105,7 +105,7 @@ fn after(a: &[u64; 9], b: &[u64; 9]) -> bool
 // Whether b is sound and may follow a at place i: at place 0 whatever a is.
 pub fn follows(i: usize, a: &[u64; 9], b: &[u64; 9]) -> bool
     requires { (i ≡ 0 → ⊥) → soundb a.now ≡ true }
-    ensures { result ≡ (soundb b.now && (eqb i 0 || below (cmp (setOf a.now) (setOf b.now)))) }
+    ensures { result ≡ (soundb b.now && (eqb i 0 || below (cmp (set_of a.now) (set_of b.now)))) }
 {
     if i == 0 {
         return sound(b);
@@ -116,7 +116,7 @@ pub fn follows(i: usize, a: &[u64; 9], b: &[u64; 9]) -> bool
 // How much a set adds to those other than overflow: 0 for the overflow set, else 1.
 pub fn plain_row(row: &[u64; 9]) -> usize
     requires { 1 ≤ size row.now }
-    ensures { result ≡ bit (plain (setOf row.now)) }
+    ensures { result ≡ bit (plain (set_of row.now)) }
 {
     if row[8] == 1 {
         if row[0] == crate::OVERFLOW {

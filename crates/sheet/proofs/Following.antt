@@ -16,25 +16,25 @@ use Rattle.value_map.specs.Calls.{held}
 use Rattle.listing.specs.Listed.{Output}
 use Rattle.pooling.specs.Lists.{Source}
 use Rattle.collecting.specs.Collected as Collecting
-use Rattle.collecting.specs.Collected.{deltaCollected}
+use Rattle.collecting.specs.Collected.{delta_collected}
 use Rattle.collecting.specs.declared.Answer.{Answer}
 use Rattle.collecting.specs.declared.Answer.TheVariants.{Refused, Listed}
-use Rattle.exponential_collection.specs.Points.{exponentialLister}
-use Rattle.printing.specs.Printed.{unreadLine}
-use Rattle.gauge_lines.specs.Lines.{timeOf, call_of}
-use Rattle.gauge_lines.specs.Followed.{After, after, turnedBy, afterStart, afterRecord}
+use Rattle.exponential_collection.specs.Points.{exponential_lister}
+use Rattle.printing.specs.Printed.{unread_line}
+use Rattle.gauge_lines.specs.Lines.{time_of, call_of}
+use Rattle.gauge_lines.specs.Followed.{After, after, turned_by, after_start, after_record}
 use Rattle.gauge_lines.specs.declared.cells.Gauge.{Gauge}
 use Rattle.gauge_lines.specs.declared.cells.Outcome.{Outcome}
 use Rattle.gauge_lines.specs.declared.fields.Call.{Call}
 use Rattle.gauge_lines.specs.declared.fields.Call.TheVariants as C
 use Rattle.sheet_writing.specs.Writing.{writing}
-use Rattle.sheet.specs.Shown.{Wrote, wrote, wroteBy, recordsOf}
-use Rattle.sheet.specs.Followed.{outsideOf, Went, wentOn, opened, recordPut, inSheet, Followed, headerOf, collectedWith, listedBy}
-use Rattle.sheet.specs.Followed.{collectedBy, afterCollect, silentBy, byCall, after_call, aside, byRecords, afterStep, numbered}
+use Rattle.sheet.specs.Shown.{Wrote, wrote, wrote_by, records_of}
+use Rattle.sheet.specs.Followed.{outside_of, Went, went_on, opened, record_put, in_sheet, Followed, header_of, collected_with, listed_by}
+use Rattle.sheet.specs.Followed.{collected_by, after_collect, silent_by, by_call, after_call, aside, by_records, after_step, numbered}
 use Rattle.sheet.specs.declared.collect.Turn.{Turn}
 use Rattle.sheet.specs.declared.state.State.{State}
 use Rattle.sheet.specs.declared.state.Done.{Done}
-use Rattle.sheet.proofs.Sheets.{text, goneBy}
+use Rattle.sheet.proofs.Sheets.{text, gone_by}
 
 -- what a line comes to, with a block of text and the stores
 abbrev left : Done → List ℕ → Stores → Cells → Source → List ℕ → Followed
@@ -44,67 +44,67 @@ left r block s c x b = record { taken = r.taken; state = r.state; text = text r.
 
 module _ (g : Gauge) (bs : List ℕ) (n : ℕ) (block : List ℕ) (s : Stores) (c : Cells) (x : Source) (b : List ℕ) where
   abbrev asked : Natural → Followed
-  asked y = collectedBy g y (text n block) s c x b
+  asked y = collected_by g y (text n block) s c x b
 
-  pub collect-refused : timeOf bs ≡ N.None → (r : Done) → r ≡ record { taken = false; state = outsideOf g; text = n }
-      → left r block s c x b ≡ afterCollect g bs (text n block) s c x b
-  unfolding afterCollect
+  pub collect-refused : time_of bs ≡ N.None → (r : Done) → r ≡ record { taken = false; state = outside_of g; text = n }
+      → left r block s c x b ≡ after_collect g bs (text n block) s c x b
+  unfolding after_collect
   collect-refused e r p = ap (λ (y : Done). left y block s c x b) p ∙ sym (ap asked e)
 
-  module _ (time : ℕ) (e : timeOf bs ≡ N.Is time) (a : Answer) (d : Directory) (s' : Stores) (o' : Output)
-      (q : Collecting.gave a (held d s' c) o' ≡ deltaCollected (exponentialLister g.settings.size g.settings.top)
+  module _ (time : ℕ) (e : time_of bs ≡ N.Is time) (a : Answer) (d : Directory) (s' : Stores) (o' : Output)
+      (q : Collecting.gave a (held d s' c) o' ≡ delta_collected (exponential_lister g.settings.size g.settings.top)
       (g.settings.extremes, g.settings.sums) g.settings.limit (held g.dir s c) x.list) where
     abbrev listed : Source
     listed = record { list = o'; bounds = x.bounds }
 
     collected : (y : Answer) → a ≡ y
-        → listedBy g time (text n block) x.bounds b (Collecting.gave y (held d s' c) o') ≡ afterCollect g bs (text n block) s c x b
-    unfolding afterCollect
+        → listed_by g time (text n block) x.bounds b (Collecting.gave y (held d s' c) o') ≡ after_collect g bs (text n block) s c x b
+    unfolding after_collect
     collected y p =
-        ap (λ (z : Answer). listedBy g time (text n block) x.bounds b (Collecting.gave z (held d s' c) o')) (sym p)
-        ∙ ap (listedBy g time (text n block) x.bounds b) q ∙ sym (ap asked e)
+        ap (λ (z : Answer). listed_by g time (text n block) x.bounds b (Collecting.gave z (held d s' c) o')) (sym p)
+        ∙ ap (listed_by g time (text n block) x.bounds b) q ∙ sym (ap asked e)
 
-    pub collect-none : (k : ℕ) → a ≡ Refused k → (r : Done) → r ≡ record { taken = false; state = outsideOf g; text = n }
-        → left r block s' c listed b ≡ afterCollect g bs (text n block) s c x b
+    pub collect-none : (k : ℕ) → a ≡ Refused k → (r : Done) → r ≡ record { taken = false; state = outside_of g; text = n }
+        → left r block s' c listed b ≡ after_collect g bs (text n block) s c x b
     collect-none k y r p = ap (λ (z : Done). left z block s' c listed b) p ∙ collected (Refused k) y
 
-    pub collect-made : (many : ℕ) → a ≡ Listed many → (k : Turn) → k ≡ record { gauge = turnedBy g d time; header = headerOf g time }
-        → (m : ℕ) (block' b' : List ℕ) → wrote (text m block') b' ≡ wroteBy (writing k.header many listed b) (text n block) → (r : Done)
-        → r ≡ record { taken = true; state = outsideOf k.gauge; text = m }
-        → left r block' s' c listed b' ≡ afterCollect g bs (text n block) s c x b
+    pub collect-made : (many : ℕ) → a ≡ Listed many → (k : Turn) → k ≡ record { gauge = turned_by g d time; header = header_of g time }
+        → (m : ℕ) (block' b' : List ℕ) → wrote (text m block') b' ≡ wrote_by (writing k.header many listed b) (text n block) → (r : Done)
+        → r ≡ record { taken = true; state = outside_of k.gauge; text = m }
+        → left r block' s' c listed b' ≡ after_collect g bs (text n block) s c x b
     collect-made many y k f m block' b' w r p =
-        ap (λ (z : Done). left z block' s' c listed b') p ∙ ap (λ (z : Wrote). collectedWith k.gauge z s' c listed) w
-        ∙ ap (λ (z : Turn). collectedWith z.gauge (wroteBy (writing z.header many listed b) (text n block)) s' c listed) f
+        ap (λ (z : Done). left z block' s' c listed b') p ∙ ap (λ (z : Wrote). collected_with k.gauge z s' c listed) w
+        ∙ ap (λ (z : Turn). collected_with z.gauge (wrote_by (writing z.header many listed b) (text n block)) s' c listed) f
         ∙ collected (Listed many) y
 
 -- ---- the gauge's lines
 
 module _ (g : Gauge) (bs : List ℕ) (over : Bool) (n : ℕ) (block : List ℕ) (s : Stores) (c : Cells) (x : Source) (b : List ℕ) where
-  made : (k : Call) → call_of bs g.running over ≡ k → byCall k g bs (text n block) s c x b ≡ after_call g bs over (text n block) s c x b
+  made : (k : Call) → call_of bs g.running over ≡ k → by_call k g bs (text n block) s c x b ≡ after_call g bs over (text n block) s c x b
   unfolding after_call
-  made k e = sym (ap (λ (y : Call). byCall y g bs (text n block) s c x b) e)
+  made k e = sym (ap (λ (y : Call). by_call y g bs (text n block) s c x b) e)
 
-  pub line-none : call_of bs g.running over ≡ C.None → (r : Done) → r ≡ record { taken = true; state = outsideOf g; text = n }
+  pub line-none : call_of bs g.running over ≡ C.None → (r : Done) → r ≡ record { taken = true; state = outside_of g; text = n }
       → left r block s c x b ≡ after_call g bs over (text n block) s c x b
   line-none e r p = ap (λ (z : Done). left z block s c x b) p ∙ made C.None e
 
-  pub line-unread : call_of bs g.running over ≡ C.Unread → (r : Done) → r ≡ record { taken = false; state = outsideOf g; text = n }
+  pub line-unread : call_of bs g.running over ≡ C.Unread → (r : Done) → r ≡ record { taken = false; state = outside_of g; text = n }
       → left r block s c x b ≡ after_call g bs over (text n block) s c x b
   line-unread e r p = ap (λ (z : Done). left z block s c x b) p ∙ made C.Unread e
 
   -- after a call that prints nothing, and says k
-  module _ (k : Outcome) (r : Done) (p : r ≡ record { taken = k.taken; state = outsideOf k.gauge; text = n }) (s' : Stores) (c' : Cells) where
-    pub line-record : call_of bs g.running over ≡ C.Record → after k s' c' ≡ afterRecord g bs s c
+  module _ (k : Outcome) (r : Done) (p : r ≡ record { taken = k.taken; state = outside_of k.gauge; text = n }) (s' : Stores) (c' : Cells) where
+    pub line_record : call_of bs g.running over ≡ C.Record → after k s' c' ≡ after_record g bs s c
         → left r block s' c' x b ≡ after_call g bs over (text n block) s c x b
-    line-record e q =
-        ap (λ (z : Done). left z block s' c' x b) p ∙ ap (λ (y : After). silentBy y (text n block) x b) q ∙ made C.Record e
+    line_record e q =
+        ap (λ (z : Done). left z block s' c' x b) p ∙ ap (λ (y : After). silent_by y (text n block) x b) q ∙ made C.Record e
 
-    pub line-start : call_of bs g.running over ≡ C.Start → after k s' c' ≡ afterStart g bs s c
+    pub line-start : call_of bs g.running over ≡ C.Start → after k s' c' ≡ after_start g bs s c
         → left r block s' c' x b ≡ after_call g bs over (text n block) s c x b
     line-start e q =
-        ap (λ (z : Done). left z block s' c' x b) p ∙ ap (λ (y : After). silentBy y (text n block) x b) q ∙ made C.Start e
+        ap (λ (z : Done). left z block s' c' x b) p ∙ ap (λ (y : After). silent_by y (text n block) x b) q ∙ made C.Start e
 
-  pub line-collect : call_of bs g.running over ≡ C.Collect → (y : Followed) → y ≡ afterCollect g bs (text n block) s c x b
+  pub line-collect : call_of bs g.running over ≡ C.Collect → (y : Followed) → y ≡ after_collect g bs (text n block) s c x b
       → y ≡ after_call g bs over (text n block) s c x b
   line-collect e y p = p ∙ made C.Collect e
 
@@ -112,25 +112,25 @@ module _ (g : Gauge) (bs : List ℕ) (over : Bool) (n : ℕ) (block : List ℕ) 
 
 module _ (st : State) (bs : List ℕ) (over : Bool) (n : ℕ) (block : List ℕ) (s : Stores) (c : Cells) (x : Source) (b : List ℕ) where
   pub step-inside : 0 < st.left → (r : Done) (block' : List ℕ) (x' : Source) (b' : List ℕ)
-      → (goneBy r block' x' ≡ inSheet st bs over (text n block) x b) × (b' ≡ recordPut st bs over b)
-      → left r block' s c x' b' ≡ afterStep st bs over (text n block) s c x b
-  unfolding afterStep
+      → (gone_by r block' x' ≡ in_sheet st bs over (text n block) x b) × (b' ≡ record_put st bs over b)
+      → left r block' s c x' b' ≡ after_step st bs over (text n block) s c x b
+  unfolding after_step
   step-inside h r block' x' b' q =
       (λ i. aside (q.0 i) s c (q.1 i)) ∙ sym (pick_true _ _ _ (lt-ltb 0 st.left h))
 
   module _ (h : st.left ≤ 0) where
-    outside : (y : Natural) → recordsOf bs ≡ y → byRecords y st.gauge bs over (text n block) s c x b ≡ afterStep st bs over (text n block) s c x b
-    unfolding afterStep
+    outside : (y : Natural) → records_of bs ≡ y → by_records y st.gauge bs over (text n block) s c x b ≡ after_step st bs over (text n block) s c x b
+    unfolding after_step
     outside y e =
-        sym (pick-false _ _ _ (le-ltb 0 st.left h) ∙ ap (λ (z : Natural). byRecords z st.gauge bs over (text n block) s c x b) e)
+        sym (pick-false _ _ _ (le-ltb 0 st.left h) ∙ ap (λ (z : Natural). by_records z st.gauge bs over (text n block) s c x b) e)
 
-    pub step-begins : (k : ℕ) → recordsOf bs ≡ N.Is k → (r : Done) (block' : List ℕ) (x' : Source)
-        → goneBy r block' x' ≡ wentOn (opened st.gauge k) (text n block) x b
-        → left r block' s c x' b ≡ afterStep st bs over (text n block) s c x b
+    pub step-begins : (k : ℕ) → records_of bs ≡ N.Is k → (r : Done) (block' : List ℕ) (x' : Source)
+        → gone_by r block' x' ≡ went_on (opened st.gauge k) (text n block) x b
+        → left r block' s c x' b ≡ after_step st bs over (text n block) s c x b
     step-begins k e r block' x' q = ap (λ (w : Went). aside w s c b) q ∙ outside (N.Is k) e
 
-    pub step-calls : recordsOf bs ≡ N.None → (y : Followed) → y ≡ after_call st.gauge bs over (text n block) s c x b
-        → y ≡ afterStep st bs over (text n block) s c x b
+    pub step-calls : records_of bs ≡ N.None → (y : Followed) → y ≡ after_call st.gauge bs over (text n block) s c x b
+        → y ≡ after_step st bs over (text n block) s c x b
     step-calls e y q = q ∙ outside N.None e
 
 -- ---- and its number
@@ -138,7 +138,7 @@ module _ (st : State) (bs : List ℕ) (over : Bool) (n : ℕ) (block : List ℕ)
 -- a line that left so many bytes of a block, and then `? N` or nothing behind them
 pub line-numbered : (number : ℕ) (z : Done) (block : List ℕ) (s : Stores) (c : Cells) (x : Source) (b : List ℕ) (y : Followed)
     → left z block s c x b ≡ y → (m : ℕ) (block' : List ℕ)
-    → text m block' ≡ pick z.taken [] (unreadLine number) behind text z.text block
+    → text m block' ≡ pick z.taken [] (unread_line number) behind text z.text block
     → left (record { taken = z.taken; state = z.state; text = m }) block' s c x b ≡ numbered number y
 line-numbered number z block s c x b y p m block' w =
     ap (λ (t : Text). record { taken = z.taken; state = z.state; text = t; stores = s; cells = c; list = x; bytes = b }) w

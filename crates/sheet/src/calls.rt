@@ -4,7 +4,7 @@ ghost use Rattle.lines.specs.Gathered.{waiting};
 ghost use Rattle.directory.specs.View.{stores};
 ghost use Rattle.exponential_slots.specs.Cells.{cells as cells_in};
 ghost use Rattle.pooling.specs.Lists.{source};
-ghost use Rattle.sheet.specs.Followed.{outsideOf, followed, after_call};
+ghost use Rattle.sheet.specs.Followed.{outside_of, followed, after_call};
 
 use crate::state::{Bytes, Done, ListedBounds, ListedCounts, ListedSets, ListedWords};
 use gauge_lines::calls;
@@ -14,7 +14,7 @@ use lines::Block;
 
 // What came of a line that printed nothing.
 fn silent(o: Outcome, text: usize) -> Done
-    ensures { result ≡ record { taken = o.taken; state = outsideOf o.gauge; text = text } }
+    ensures { result ≡ record { taken = o.taken; state = outside_of o.gauge; text = text } }
 {
     let gauge = o.gauge;
     crate::state::ended(o.taken, gauge, text)

@@ -4,8 +4,8 @@ ghost use Rattle.lines.specs.Gathered.{waiting};
 ghost use Rattle.directory.specs.View.{stores};
 ghost use Rattle.exponential_slots.specs.Cells.{cells};
 ghost use Rattle.pooling.specs.Lists.{source};
-ghost use Rattle.gauge_lines.specs.Followed.{turnedBy};
-ghost use Rattle.sheet.specs.Followed.{headerOf, followed, afterCollect};
+ghost use Rattle.gauge_lines.specs.Followed.{turned_by};
+ghost use Rattle.sheet.specs.Followed.{header_of, followed, after_collect};
 
 use crate::state::{Bytes, Done, ListedBounds, ListedCounts, ListedSets, ListedWords};
 use collecting::Answer;
@@ -23,7 +23,7 @@ struct Turn {
 }
 
 fn turned(g: Gauge, dir: Directory, time: u64) -> Turn
-    ensures { result ≡ record { gauge = turnedBy g dir time; header = headerOf g time } }
+    ensures { result ≡ record { gauge = turned_by g dir time; header = header_of g time } }
 {
     let settings = g.settings;
     let held = g.clock;
@@ -67,7 +67,7 @@ pub fn collect(
     ensures { followed result text.exit (stores sets.exit entries.exit order.exit)
         (cells figures.entry extremes.entry pos.entry neg.entry)
         (source out_sets.exit out_words.exit out_pos.exit out_neg.exit bounds.entry) sheet.new
-        ≡ afterCollect g line.now (waiting n text.entry) (stores sets.entry entries.entry order.entry)
+        ≡ after_collect g line.now (waiting n text.entry) (stores sets.entry entries.entry order.entry)
         (cells figures.entry extremes.entry pos.entry neg.entry)
         (source out_sets.entry out_words.entry out_pos.entry out_neg.entry bounds.entry) sheet.old }
 {

@@ -2,9 +2,9 @@
 ghost use Rattle.std.specs.Prelude.{◌≡◌, true, ◌+◌, ◌*◌, ◌/◌, ◌<◌, min, length};
 ghost use Rattle.std.proofs.lemmas.List.Edits.{sets};
 ghost use Rattle.laws.specs.Tests.{all as all_of};
-ghost use Rattle.text.specs.Numbers.{digitOf, glyphOf};
+ghost use Rattle.text.specs.Numbers.{digit_of, glyph_of};
 ghost use Rattle.lines.specs.Gathered.{waiting, ◌behind◌};
-ghost use Rattle.sheet.specs.Digits.{hexOf, recordLine, recordLines, isDigit, isRecord, bytesIn};
+ghost use Rattle.sheet.specs.Digits.{hex_of, record_line, record_lines, is_digit, is_record, bytes_in};
 
 use crate::state::Bytes;
 use lines::{Block, output};
@@ -13,7 +13,7 @@ use lines::{Block, output};
 
 fn glyph(d: u8) -> u8
     requires { d < 16 }
-    ensures { result ≡ glyphOf d }
+    ensures { result ≡ glyph_of d }
 {
     if d < 10 {
         return 48 + d;
@@ -23,7 +23,7 @@ fn glyph(d: u8) -> u8
 
 // Bytes behind n others; how many there are then.
 fn digits_of(text: &mut Block, n: usize, bytes: &[u8]) -> usize
-    ensures { waiting result text.exit ≡ hexOf bytes.now behind waiting n text.entry }
+    ensures { waiting result text.exit ≡ hex_of bytes.now behind waiting n text.entry }
 {
     let mut m = n;
     let mut i: usize = 0;
@@ -37,7 +37,7 @@ fn digits_of(text: &mut Block, n: usize, bytes: &[u8]) -> usize
 
 // The line of a record.
 fn record_line(text: &mut Block, n: usize, bytes: &[u8]) -> usize
-    ensures { waiting result text.exit ≡ recordLine bytes.now behind waiting n text.entry }
+    ensures { waiting result text.exit ≡ record_line bytes.now behind waiting n text.entry }
 {
     let m = digits_of(text, n, bytes);
     output::byte(text, m, b'\n')
@@ -45,7 +45,7 @@ fn record_line(text: &mut Block, n: usize, bytes: &[u8]) -> usize
 
 // The lines of all records.
 pub fn record_lines(text: &mut Block, n: usize, bytes: &[u8]) -> usize
-    ensures { waiting result text.exit ≡ recordLines (length bytes.now / 32) bytes.now behind waiting n text.entry }
+    ensures { waiting result text.exit ≡ record_lines (length bytes.now / 32) bytes.now behind waiting n text.entry }
 {
     let many = bytes.len() / 32;
     let mut m = n;
@@ -63,7 +63,7 @@ pub fn record_lines(text: &mut Block, n: usize, bytes: &[u8]) -> usize
 
 // The value of a digit; 16 where the byte is none.
 fn digit(byte: u8) -> u8
-    ensures { result ≡ digitOf byte }
+    ensures { result ≡ digit_of byte }
 {
     if byte < 48 {
         return 16;
@@ -81,7 +81,7 @@ fn digit(byte: u8) -> u8
 }
 
 fn are_digits(bytes: &[u8]) -> bool
-    ensures { result ≡ all_of isDigit bytes.now }
+    ensures { result ≡ all_of is_digit bytes.now }
 {
     let mut i: usize = 0;
     while i < bytes.len() {
@@ -95,7 +95,7 @@ fn are_digits(bytes: &[u8]) -> bool
 
 // Whether a line is a record.
 pub fn is_record(line: &[u8]) -> bool
-    ensures { result ≡ isRecord line.now }
+    ensures { result ≡ is_record line.now }
 {
     if line.len() != 64 {
         return false;
@@ -105,8 +105,8 @@ pub fn is_record(line: &[u8]) -> bool
 
 // The byte of two digits.
 fn byte_of(a: u8, b: u8) -> u8
-    requires { (digitOf a < 16) × (digitOf b < 16) }
-    ensures { result ≡ digitOf a * 16 + digitOf b }
+    requires { (digit_of a < 16) × (digit_of b < 16) }
+    ensures { result ≡ digit_of a * 16 + digit_of b }
 {
     digit(a) * 16 + digit(b)
 }
@@ -119,9 +119,9 @@ fn lesser(a: usize, b: usize) -> usize
 
 // Puts a record behind the bytes of a sheet that are there; how many there are then. No sheet has more than its store has room for.
 pub fn put(sheet: &mut Bytes, at: usize, line: &[u8]) -> usize
-    requires { isRecord line.now ≡ true }
+    requires { is_record line.now ≡ true }
     ensures value { result ≡ min at 233472 + 32 }
-    ensures sheet_after { sheet.new ≡ sets sheet.old (min at 233472) (bytesIn line.now) }
+    ensures sheet_after { sheet.new ≡ sets sheet.old (min at 233472) (bytes_in line.now) }
 {
     let from = lesser(at, 233472);
     let mut i: usize = 0;

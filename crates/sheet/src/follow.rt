@@ -5,8 +5,8 @@ ghost use Rattle.lines.specs.Gathered.{waiting, ◌behind◌};
 ghost use Rattle.directory.specs.View.{stores};
 ghost use Rattle.exponential_slots.specs.Cells.{cells as cells_in};
 ghost use Rattle.pooling.specs.Lists.{source};
-ghost use Rattle.printing.specs.Printed.{unreadLine};
-ghost use Rattle.sheet.specs.Followed.{followed, afterStep, afterLine};
+ghost use Rattle.printing.specs.Printed.{unread_line};
+ghost use Rattle.sheet.specs.Followed.{followed, after_step, after_line};
 
 use crate::reading;
 use crate::state::{Bytes, Done, ListedBounds, ListedCounts, ListedSets, ListedWords, State};
@@ -38,7 +38,7 @@ fn step(
     ensures { followed result text.exit (stores sets.exit entries.exit order.exit)
         (cells_in figures.exit extremes.exit pos.exit neg.exit)
         (source out_sets.exit out_words.exit out_pos.exit out_neg.exit bounds.exit) sheet.new
-        ≡ afterStep st line.now over (waiting n text.entry) (stores sets.entry entries.entry order.entry)
+        ≡ after_step st line.now over (waiting n text.entry) (stores sets.entry entries.entry order.entry)
         (cells_in figures.entry extremes.entry pos.entry neg.entry)
         (source out_sets.entry out_words.entry out_pos.entry out_neg.entry bounds.entry) sheet.old }
 {
@@ -62,7 +62,7 @@ fn step(
 
 // What is said of a line: nothing where it was followed. How much text there is then.
 fn said(taken: bool, number: u64, text: &mut Block, n: usize) -> usize
-    ensures { waiting result text.exit ≡ pick taken [] (unreadLine number) behind waiting n text.entry }
+    ensures { waiting result text.exit ≡ pick taken [] (unread_line number) behind waiting n text.entry }
 {
     if taken {
         return n;
@@ -95,7 +95,7 @@ pub fn follow(
     ensures { followed result text.exit (stores sets.exit entries.exit order.exit)
         (cells_in figures.exit extremes.exit pos.exit neg.exit)
         (source out_sets.exit out_words.exit out_pos.exit out_neg.exit bounds.exit) sheet.new
-        ≡ afterLine number st line.now over (waiting n text.entry) (stores sets.entry entries.entry order.entry)
+        ≡ after_line number st line.now over (waiting n text.entry) (stores sets.entry entries.entry order.entry)
         (cells_in figures.entry extremes.entry pos.entry neg.entry)
         (source out_sets.entry out_words.entry out_pos.entry out_neg.entry bounds.entry) sheet.old }
 {

@@ -3,8 +3,8 @@ ghost use Rattle.std.specs.Prelude.{◌≡◌, ◌<◌};
 ghost use Rattle.lines.specs.Gathered.{waiting};
 ghost use Rattle.pooling.specs.Lists.{source};
 ghost use Rattle.sheet_reading.specs.Reading.{reading};
-ghost use Rattle.sheet.specs.Shown.{fewIn, recordsOf, shown, shownBy};
-ghost use Rattle.sheet.specs.Followed.{went, wentOn, opened, noLine, inSheet, recordPut};
+ghost use Rattle.sheet.specs.Shown.{few_in, records_of, shown, shown_by};
+ghost use Rattle.sheet.specs.Followed.{went, went_on, opened, no_line, in_sheet, record_put};
 
 use crate::state::{Bytes, Done, ListedBounds, ListedCounts, ListedSets, ListedWords, State};
 use gauge_lines::cells::Gauge;
@@ -18,7 +18,7 @@ const MOST_RECORDS: u64 = 7297;
 
 // A number of records, if no sheet has more.
 fn few(n: Natural) -> Natural
-    ensures { result ≡ fewIn n }
+    ensures { result ≡ few_in n }
 {
     let Natural::Is(records) = n else {
         return Natural::None;
@@ -31,7 +31,7 @@ fn few(n: Natural) -> Natural
 
 // The records of a line `s RECORDS`, if it is one.
 pub fn records_in(line: &[u8]) -> Natural
-    ensures { result ≡ recordsOf line.now }
+    ensures { result ≡ records_of line.now }
 {
     if text::byte_at(line, 0) != b's' {
         return Natural::None;
@@ -57,7 +57,7 @@ fn show(
     bounds: &mut ListedBounds,
 ) -> usize
     ensures { shown (waiting result text.exit) (source sets.exit words.exit pos.exit neg.exit bounds.exit)
-        ≡ shownBy (reading bytes.now (source sets.entry words.entry pos.entry neg.entry bounds.entry))
+        ≡ shown_by (reading bytes.now (source sets.entry words.entry pos.entry neg.entry bounds.entry))
         (waiting n text.entry) }
 {
     let answer = sheet_reading::read(bytes, sets, words, pos, neg, bounds);
@@ -96,7 +96,7 @@ fn go_on(
     sheet: &Bytes,
 ) -> Done
     ensures { went result text.exit (source sets.exit words.exit pos.exit neg.exit bounds.exit)
-        ≡ wentOn st (waiting n text.entry) (source sets.entry words.entry pos.entry neg.entry bounds.entry)
+        ≡ went_on st (waiting n text.entry) (source sets.entry words.entry pos.entry neg.entry bounds.entry)
         sheet.now }
 {
     if st.left > 0 {
@@ -129,7 +129,7 @@ pub fn begin(
     sheet: &Bytes,
 ) -> Done
     ensures { went result text.exit (source sets.exit words.exit pos.exit neg.exit bounds.exit)
-        ≡ wentOn (opened gauge records) (waiting n text.entry)
+        ≡ went_on (opened gauge records) (waiting n text.entry)
         (source sets.entry words.entry pos.entry neg.entry bounds.entry) sheet.now }
 {
     let st = State {
@@ -142,7 +142,7 @@ pub fn begin(
 
 // Whether there is no line: the input is over, and nothing stands behind its last newline.
 fn is_none(line: &[u8], over: bool) -> bool
-    ensures { result ≡ noLine line.now over }
+    ensures { result ≡ no_line line.now over }
 {
     if line.len() == 0 {
         return over;
@@ -166,9 +166,9 @@ pub fn follow(
 ) -> Done
     requires { 0 < st.left }
     ensures bounds_value { went result text.exit (source sets.exit words.exit pos.exit neg.exit bounds.exit)
-        ≡ inSheet st line.now over (waiting n text.entry)
+        ≡ in_sheet st line.now over (waiting n text.entry)
         (source sets.entry words.entry pos.entry neg.entry bounds.entry) sheet.old }
-    ensures sheet_after { sheet.new ≡ recordPut st line.now over sheet.old }
+    ensures sheet_after { sheet.new ≡ record_put st line.now over sheet.old }
 {
     let gauge = st.gauge;
     if is_none(line, over) {

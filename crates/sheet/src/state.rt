@@ -1,7 +1,7 @@
 // The program's stores beside the gauge's, and how it stands between two lines.
 ghost use Rattle.std.specs.Prelude.{◌≡◌};
 ghost use Rattle.gauge_lines.specs.Followed.{unstarted};
-ghost use Rattle.sheet.specs.Followed.{outsideOf};
+ghost use Rattle.sheet.specs.Followed.{outside_of};
 
 use gauge_lines::cells::Gauge;
 
@@ -35,7 +35,7 @@ pub struct Done {
 
 // Outside a sheet.
 fn outside(gauge: Gauge) -> State
-    ensures { result ≡ outsideOf gauge }
+    ensures { result ≡ outside_of gauge }
 {
     State {
         gauge,
@@ -46,14 +46,14 @@ fn outside(gauge: Gauge) -> State
 
 // Before any line.
 pub fn first() -> State
-    ensures { result ≡ outsideOf unstarted }
+    ensures { result ≡ outside_of unstarted }
 {
     outside(gauge_lines::cells::idle())
 }
 
 // What came of a line behind which the program stands outside a sheet.
 pub fn ended(taken: bool, gauge: Gauge, text: usize) -> Done
-    ensures { result ≡ record { taken = taken; state = outsideOf gauge; text = text } }
+    ensures { result ≡ record { taken = taken; state = outside_of gauge; text = text } }
 {
     let state = outside(gauge);
     Done { taken, state, text }

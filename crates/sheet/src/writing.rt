@@ -3,7 +3,7 @@ ghost use Rattle.std.specs.Prelude.{◌≡◌, take};
 ghost use Rattle.lines.specs.Gathered.{waiting, ◌behind◌};
 ghost use Rattle.pooling.specs.Lists.{source};
 ghost use Rattle.sheet_writing.specs.Writing.{writing};
-ghost use Rattle.sheet.specs.Shown.{refusalLine, sheetLines, wrote, wroteBy};
+ghost use Rattle.sheet.specs.Shown.{refusal_line, sheet_lines, wrote, wrote_by};
 
 use crate::state::{Bytes, ListedBounds, ListedCounts, ListedSets, ListedWords};
 use lines::{Block, output};
@@ -12,7 +12,7 @@ use sheets::Header;
 
 // `! N` for a refusal, behind n bytes of text; how many there are then.
 pub fn refusal(text: &mut Block, n: usize, no: u8) -> usize
-    ensures { waiting result text.exit ≡ refusalLine no behind waiting n text.entry }
+    ensures { waiting result text.exit ≡ refusal_line no behind waiting n text.entry }
 {
     let a = output::byte(text, n, b'!');
     let b = printing::number(text, a, no as u64);
@@ -37,7 +37,7 @@ pub fn front<'a>(sheet: &'a Bytes, n: usize) -> &'a [u8]
 
 // The lines of a sheet.
 fn sheet_lines(text: &mut Block, n: usize, bytes: &[u8]) -> usize
-    ensures { waiting result text.exit ≡ sheetLines bytes.now behind waiting n text.entry }
+    ensures { waiting result text.exit ≡ sheet_lines bytes.now behind waiting n text.entry }
 {
     let a = output::byte(text, n, b's');
     let b = printing::number(text, a, (bytes.len() / 32) as u64);
@@ -60,7 +60,7 @@ pub fn write<'a>(
     sheet: &mut Bytes,
 ) -> usize
     ensures { wrote (waiting result text.exit) sheet.new
-        ≡ wroteBy (writing header many (source sets.entry words.entry pos.entry neg.entry bounds.entry) sheet.old)
+        ≡ wrote_by (writing header many (source sets.entry words.entry pos.entry neg.entry bounds.entry) sheet.old)
         (waiting n text.entry) }
 {
     let answer = sheet_writing::write(header, many, sets, words, pos, neg, bounds, sheet);

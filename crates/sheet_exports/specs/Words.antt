@@ -10,9 +10,9 @@ use Rattle.sheet_reading.specs.Reading as Reading
 use Rattle.sheet_reading.specs.declared.Listed.{Listed}
 
 -- how many bytes were written
-abbrev pub sizeIn : Said ℕ → ℕ
-sizeIn (refusal n) = 0
-sizeIn (success n) = n
+abbrev pub size_in : Said ℕ → ℕ
+size_in (refusal n) = 0
+size_in (success n) = n
 
 -- the number, the size, and the lent bytes
 pub record Put : Type 0 where
@@ -24,13 +24,13 @@ pub record Put : Type 0 where
 abbrev pub put : ℕ → Bor (List ℕ) → Bor (List ℕ) → Put
 put n size out = record { number = n; size = size.now; bytes = out.now }
 
-abbrev pub putOut : List ℕ → Writing.Outcome → Put
-putOut size o = record { number = number o.answer; size = set size 0 (sizeIn o.answer); bytes = o.bytes }
+abbrev pub put_out : List ℕ → Writing.Outcome → Put
+put_out size o = record { number = number o.answer; size = set size 0 (size_in o.answer); bytes = o.bytes }
 
 -- start, time, temporality and how many points; zeros where nothing was read
-abbrev pub headerIn : Said Listed → List ℕ
-headerIn (refusal n) = 0 ∷ 0 ∷ 0 ∷ 0 ∷ []
-headerIn (success l) = l.header.start ∷ l.header.time ∷ bit l.header.delta ∷ l.points ∷ []
+abbrev pub header_in : Said Listed → List ℕ
+header_in (refusal n) = 0 ∷ 0 ∷ 0 ∷ 0 ∷ []
+header_in (success l) = l.header.start ∷ l.header.time ∷ bit l.header.delta ∷ l.points ∷ []
 
 -- the number, these four, and the lent stores
 pub record Got : Type 0 where
@@ -41,5 +41,5 @@ pub record Got : Type 0 where
 abbrev pub got : ℕ → Bor (List ℕ) → Source → Got
 got n header o = record { number = n; header = header.now; lent = o }
 
-abbrev pub gotOut : Reading.Outcome → Got
-gotOut o = record { number = number o.answer; header = headerIn o.answer; lent = o.lent }
+abbrev pub got_out : Reading.Outcome → Got
+got_out o = record { number = number o.answer; header = header_in o.answer; lent = o.lent }

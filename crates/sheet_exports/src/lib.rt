@@ -5,7 +5,7 @@ ghost use Rattle.laws.specs.Said.{number};
 ghost use Rattle.pooling.specs.Lists.{source};
 ghost use Rattle.sheet_writing.specs.Writing as Writing;
 ghost use Rattle.sheet_reading.specs.Reading as Reading;
-ghost use Rattle.sheet_exports.specs.Words.{sizeIn, headerIn, put, putOut, got, gotOut};
+ghost use Rattle.sheet_exports.specs.Words.{size_in, header_in, put, put_out, got, got_out};
 
 use sheets::Header;
 
@@ -21,7 +21,7 @@ fn written_number(answer: sheet_writing::Answer) -> u64
 
 // How many bytes were written.
 fn size_of(answer: sheet_writing::Answer) -> u64
-    ensures { result ≡ sizeIn (Writing.said answer) }
+    ensures { result ≡ size_in (Writing.said answer) }
 {
     match answer {
         sheet_writing::Answer::Refused(_) => 0,
@@ -45,7 +45,7 @@ pub extern "C" fn sheet_write<'a>(
     size: &mut [u64; 1],
 ) -> u64
     ensures { put result size.exit out.exit
-        ≡ putOut size.old (Writing.writing (record { start = start; time = time; delta = eqb delta 1 }) points
+        ≡ put_out size.old (Writing.writing (record { start = start; time = time; delta = eqb delta 1 }) points
         (source sets.entry words.entry pos.entry neg.entry bounds.entry) out.old) }
 {
     let header = Header {
@@ -80,7 +80,7 @@ fn flag_of(b: bool) -> u64
 
 // Start, time, temporality and how many points; zeros where nothing was read.
 fn header_of(answer: sheet_reading::Answer) -> [u64; 4]
-    ensures { result ≡ headerIn (Reading.said answer) }
+    ensures { result ≡ header_in (Reading.said answer) }
 {
     match answer {
         sheet_reading::Answer::Refused(_) => [0; 4],
@@ -103,7 +103,7 @@ pub extern "C" fn sheet_read(
     header: &mut [u64; 4],
 ) -> u64
     ensures { got result header.exit (source sets.exit words.exit pos.exit neg.exit bounds.exit)
-        ≡ gotOut (Reading.reading s.now (source sets.entry words.entry pos.entry neg.entry bounds.entry)) }
+        ≡ got_out (Reading.reading s.now (source sets.entry words.entry pos.entry neg.entry bounds.entry)) }
 {
     let answer = sheet_reading::read(s, sets, words, pos, neg, bounds);
     *header = header_of(answer);

@@ -10,20 +10,20 @@ use lib.Seq.{drop-drop}
 use Rattle.laws.specs.Over.{over}
 use Rattle.laws.proofs.Over.{over-snoc}
 use Rattle.sets.specs.Rows.{row_of}
-use Rattle.listing.specs.Words.{words_of, pointIn}
-use Rattle.listing.specs.Listed.{overAt}
+use Rattle.listing.specs.Words.{words_of, point_in}
+use Rattle.listing.specs.Listed.{over_at}
 use Rattle.listing.proofs.Lists.{over-behind-front}
 use Rattle.pooling.specs.Lists.{Source}
 use Rattle.records.specs.Records.{width, cells}
 use Rattle.records.specs.Inner.{run}
 use Rattle.records.proofs.Found.{run_is}
-use Rattle.sheets.specs.Entries.{Entry, headIn, storedFrom, entry_of, entryLen, entriesOf}
+use Rattle.sheets.specs.Entries.{Entry, head_in, stored_from, entry_of, entry_len, entries_of}
 use Rattle.sheets.specs.Inner.{entry_at}
-use Rattle.sheets.specs.Lists.{joined, wordsFrom, laidOut}
-use Rattle.sheet_reading.specs.Inner.{floatsAt, sizesOf, words_in, more, judgedFrom, nothing, judged, copiedEntry, copied, Copyable}
+use Rattle.sheets.specs.Lists.{joined, words_from, laid_out}
+use Rattle.sheet_reading.specs.Inner.{floats_at, sizes_of, words_in, more, judged_from, nothing, judged, copied_entry, copied, Copyable}
 use Rattle.sheet_reading.specs.declared.judge.Judged.TheVariants.{Fine}
 use Rattle.sheet_reading.specs.declared.judge.Sizes.{Sizes}
-use Rattle.sheet_reading.proofs.CopyLaws.{length_run, length-floats}
+use Rattle.sheet_reading.proofs.CopyLaws.{length_run, length_floats}
 use Rattle.sheet_reading.proofs.EntryLaws.{entry_row, entry-within}
 use Rattle.sheet_reading.proofs.SizeLaws.{width-least}
 use Rattle.sheet_reading.proofs.WalkLaws.{judged-entry, judged-rest, fits-says}
@@ -37,10 +37,10 @@ put i y e o =
       list = record {
         sets = set o.list.sets i (row_of e.0);
         words = set o.list.words i (words_of e.1.point (record { start = y.bounds; len = length e.1.bounds }));
-        pos = overAt y.pos e.1.pos o.list.pos;
-        neg = overAt y.neg e.1.neg o.list.neg;
+        pos = over_at y.pos e.1.pos o.list.pos;
+        neg = over_at y.neg e.1.neg o.list.neg;
       };
-      bounds = overAt y.bounds e.1.bounds o.bounds;
+      bounds = over_at y.bounds e.1.bounds o.bounds;
     }
 
 module _ (s : List ℕ) (k : ℕ) (h : entry_at s k ≡ true) where
@@ -48,10 +48,10 @@ module _ (s : List ℕ) (k : ℕ) (h : entry_at s k ≡ true) where
   l = drop k (cells s)
 
   abbrev w : List ℕ
-  w = headIn l
+  w = head_in l
 
   abbrev z : Sizes
-  z = sizesOf w
+  z = sizes_of w
 
   abbrev c : ℕ
   c = k + (21 + width z.bounds)
@@ -64,24 +64,24 @@ module _ (s : List ℕ) (k : ℕ) (h : entry_at s k ≡ true) where
   counts = drop-drop (width z.bounds) 21 l ∙ drop-drop (21 + width z.bounds) k (cells s)
 
   -- bounds and counts of the entry are runs of words
-  bounds-are : floatsAt s (k + 21) z.bounds ≡ (entry_of l).1.bounds
-  unfolding entry_of storedFrom
+  bounds-are : floats_at s (k + 21) z.bounds ≡ (entry_of l).1.bounds
+  unfolding entry_of stored_from
   bounds-are =
       ap (map (of_bits binary64))
       (run_is s (k + 21) z.bounds (omega (arith, entry-within s k h, width-least z.bounds)) ∙ ap (take z.bounds) (sym behind))
 
   pos-are : run s c z.pos ≡ (entry_of l).1.pos
-  unfolding entry_of storedFrom
+  unfolding entry_of stored_from
   pos-are = run_is s c z.pos (omega (arith, entry-within s k h, width-least (z.pos + z.neg))) ∙ ap (take z.pos) (sym counts)
 
   neg-are : run s (c + z.pos) z.neg ≡ (entry_of l).1.neg
-  unfolding entry_of storedFrom
+  unfolding entry_of stored_from
   neg-are =
       run_is s (c + z.pos) z.neg (omega (arith, entry-within s k h, width-least (z.pos + z.neg)))
       ∙ ap (take z.neg) (sym (ap (drop z.pos) counts ∙ drop-drop z.pos c (cells s)))
 
   long-bounds : z.bounds ≡ length (entry_of l).1.bounds
-  long-bounds = sym (length-floats s (k + 21) z.bounds) ∙ ap length bounds-are
+  long-bounds = sym (length_floats s (k + 21) z.bounds) ∙ ap length bounds-are
 
   long-pos : z.pos ≡ length (entry_of l).1.pos
   long-pos = sym (length_run s c z.pos) ∙ ap length pos-are
@@ -93,21 +93,21 @@ module _ (s : List ℕ) (k : ℕ) (h : entry_at s k ≡ true) where
   unfolding entry_of
   row_is = entry_row s k h
 
-  point-is : pointIn w ≡ (entry_of l).1.point
-  unfolding entry_of storedFrom
+  point-is : point_in w ≡ (entry_of l).1.point
+  unfolding entry_of stored_from
   point-is = refl
 
-  copied-one : (i : ℕ) (y : Sizes) (o : Source) → copiedEntry s k i y o ≡ put i y (entry_of l) o
-  unfolding copiedEntry
+  copied-one : (i : ℕ) (y : Sizes) (o : Source) → copied_entry s k i y o ≡ put i y (entry_of l) o
+  unfolding copied_entry
   copied-one i y o j =
       record {
         list = record {
           sets = set o.list.sets i (row_is j);
           words = set o.list.words i (words_of (point-is j) (record { start = y.bounds; len = long-bounds j }));
-          pos = overAt y.pos (pos-are j) o.list.pos;
-          neg = overAt y.neg (neg-are j) o.list.neg;
+          pos = over_at y.pos (pos-are j) o.list.pos;
+          neg = over_at y.neg (neg-are j) o.list.neg;
         };
-        bounds = overAt y.bounds (bounds-are j) o.bounds;
+        bounds = over_at y.bounds (bounds-are j) o.bounds;
       }
 
 -- ---- entries behind a front
@@ -137,7 +137,7 @@ abbrev longer : Front → List Entry → Front
 longer f es =
     record {
       rows = f.rows ++ map (λ e. row_of e.0) es;
-      words = f.words ++ wordsFrom (length f.bounds) es;
+      words = f.words ++ words_from (length f.bounds) es;
       pos = f.pos ++ joined (λ x. x.pos) es;
       neg = f.neg ++ joined (λ x. x.neg) es;
       bounds = f.bounds ++ joined (λ x. x.bounds) es;
@@ -168,8 +168,8 @@ longer-snoc f e es =
     let w = words_of e.1.point (record { start = length f.bounds; len = length e.1.bounds }) in
     let a = append_assoc f.rows (row_of e.0 ∷ []) (map (λ e. row_of e.0) es) in
     let b =
-    append_assoc f.words (w ∷ []) (wordsFrom (length (f.bounds ++ e.1.bounds)) es)
-    ∙ ap (λ (n : ℕ). f.words ++ (w ∷ wordsFrom n es)) (length-append f.bounds e.1.bounds)
+    append_assoc f.words (w ∷ []) (words_from (length (f.bounds ++ e.1.bounds)) es)
+    ∙ ap (λ (n : ℕ). f.words ++ (w ∷ words_from n es)) (length-append f.bounds e.1.bounds)
     in
     let c = append_assoc f.pos e.1.pos (joined (λ x. x.pos) es) in
     let d = append_assoc f.neg e.1.neg (joined (λ x. x.neg) es) in
@@ -187,8 +187,8 @@ record Takes (f : Front) (i : ℕ) (y : Sizes) : Type 0 where
 set-behind : {A : Type 0} (a old : List A) (i : ℕ) (x : A) → length a ≡ i → i < length old → set (over a old) i x ≡ over (a ++ (x ∷ [])) old
 set-behind a old i x e h = ap (λ (j : ℕ). set (over a old) j x) (sym e) ∙ over-snoc a old x (omega arith)
 
-over-behind : {A : Type 0} (a b old : List A) (i : ℕ) → length a ≡ i → overAt i b (over a old) ≡ over (a ++ b) old
-over-behind a b old i e = ap (λ (j : ℕ). overAt j b (over a old)) (sym e) ∙ over-behind-front a b old
+over-behind : {A : Type 0} (a b old : List A) (i : ℕ) → length a ≡ i → over_at i b (over a old) ≡ over (a ++ b) old
+over-behind a b old i e = ap (λ (j : ℕ). over_at j b (over a old)) (sym e) ∙ over-behind-front a b old
 
 put-behind : (f : Front) (i : ℕ) (y : Sizes) (e : Entry) (o : Source) → Takes f i y → i < length o.list.sets → i < length o.list.words
     → put i y e (laid f o) ≡ laid (snoc f e) o
@@ -207,14 +207,14 @@ put-behind f i y e o t h g =
 -- ---- all entries
 
 copied_behind : (n : ℕ) (s : List ℕ) (k i : ℕ) (row : List ℕ) (y all : Sizes) (f : Front) (o : Source) → Takes f i y
-    → judgedFrom n s k i row y ≡ Fine all → i + n ≤ length o.list.sets → i + n ≤ length o.list.words
-    → copied n s k i y (laid f o) ≡ laid (longer f (entriesOf n (drop k (cells s)))) o
-unfolding entryLen
+    → judged_from n s k i row y ≡ Fine all → i + n ≤ length o.list.sets → i + n ≤ length o.list.words
+    → copied n s k i y (laid f o) ≡ laid (longer f (entries_of n (drop k (cells s)))) o
+unfolding entry_len
 copied_behind zero s k i row y all f o t h a b = ap (λ (g : Front). laid g o) (longer-none f)
 copied_behind (suc n) s k i row y all f o t h a b =
     let l = drop k (cells s) in
     let e = entry_of l in
-    let z = sizesOf (headIn l) in
+    let z = sizes_of (head_in l) in
     let p = judged-entry n s k i row y all h in
     let u : Takes (snoc f e) (suc i) (more y z) =
     record {
@@ -227,14 +227,14 @@ copied_behind (suc n) s k i row y all f o t h a b =
     in
     ap (copied n s (k + words_in z) (suc i) (more y z)) (copied-one s k p i y (laid f o) ∙ put-behind f i y e o t (omega arith) (omega arith))
     ∙ copied_behind n s (k + words_in z) (suc i) (take 9 l) (more y z) all (snoc f e) o u (judged-rest n s k i row y all h) (omega arith) (omega arith)
-    ∙ ap (λ (m : List ℕ). laid (longer (snoc f e) (entriesOf n m)) o) (sym (drop-drop (words_in z) k (cells s)))
-    ∙ ap (λ (g : Front). laid g o) (longer-snoc f e (entriesOf n (drop (words_in z) l)))
+    ∙ ap (λ (m : List ℕ). laid (longer (snoc f e) (entries_of n m)) o) (sym (drop-drop (words_in z) k (cells s)))
+    ∙ ap (λ (g : Front). laid g o) (longer-snoc f e (entries_of n (drop (words_in z) l)))
 
-pub copied_is : (s : List ℕ) (n : ℕ) (o : Source) → Copyable s n o → copied n s 3 0 nothing o ≡ laidOut (entriesOf n (drop 3 (cells s))) o
+pub copied_is : (s : List ℕ) (n : ℕ) (o : Source) → Copyable s n o → copied n s 3 0 nothing o ≡ laid_out (entries_of n (drop 3 (cells s))) o
 unfolding judged over
 copied_is s n o c =
     let r = fits-says n c.sizes o c.room in
     copied_behind n s 3 0 [] nothing c.sizes (record { rows = []; words = []; pos = []; neg = []; bounds = [] }) o
     (record { rows = refl; words = refl; pos = refl; neg = refl; bounds = refl })
-    (ap (λ (j : ℕ). judgedFrom j s 3 0 [] nothing) c.many ∙ c.fine)
+    (ap (λ (j : ℕ). judged_from j s 3 0 [] nothing) c.many ∙ c.fine)
     (omega (arith, r.sets)) (omega (arith, r.words))

@@ -9,9 +9,9 @@ use lib.Seq.{take-suc-set}
 use Rattle.laws.specs.Counting.{table}
 use Rattle.records.proofs.Laid.{table_more}
 
-pub turn-floats : (f : ℕ → ℕ) (k i : ℕ) (out : List Float) (b : ℕ) (x : Float) → i < length out → take i out ≡ map (of_bits binary64) (table f k i)
+pub turn_floats : (f : ℕ → ℕ) (k i : ℕ) (out : List Float) (b : ℕ) (x : Float) → i < length out → take i out ≡ map (of_bits binary64) (table f k i)
     → b ≡ f (k + i) → x ≡ of_bits binary64 b → take (i + 1) (set out i x) ≡ map (of_bits binary64) (table f k (i + 1))
-turn-floats f k i out b x h e q r =
+turn_floats f k i out b x h e q r =
     ap (λ (j : ℕ). take j (set out i x)) (add-one i)
     ∙ take-suc-set out i x h
     ∙ ap₂ (λ (u : List Float) (y : Float). u ++ (y ∷ [])) e (r ∙ ap (of_bits binary64) q)

@@ -14,26 +14,26 @@ use Rattle.laws.specs.Pick.{pick}
 use Rattle.sets.specs.All.{allb}
 use Rattle.exponential.specs.declared.Counts.{Counts}
 use Rattle.point.specs.declared.Figures.TheVariants.{Exponential, Explicit}
-use Rattle.point.specs.Handing.{Stored, storedIn, agreesAlone}
-use Rattle.listing.specs.Words.{figuresIn, pointIn, boundsIn, isPoint}
-use Rattle.listing.specs.Listed.{bucketsOf, posLen}
+use Rattle.point.specs.Handing.{Stored, stored_in, agrees_alone}
+use Rattle.listing.specs.Words.{figures_in, point_in, bounds_in, is_point}
+use Rattle.listing.specs.Listed.{buckets_of, pos_len}
 use Rattle.listing.specs.declared.Span.{Span}
 use Rattle.records.specs.Records.{width, cells}
-use Rattle.records.specs.Inner.{run, zeroAt}
+use Rattle.records.specs.Inner.{run, zero_at}
 use Rattle.records.proofs.Found.{run_is}
-use Rattle.sheets.specs.Entries.{posIn, negIn, storedFrom, entryLen}
-use Rattle.sheets.specs.Inner.{rowFine, headFine, filled, entry_at}
+use Rattle.sheets.specs.Entries.{pos_in, neg_in, stored_from, entry_len}
+use Rattle.sheets.specs.Inner.{row_fine, head_fine, filled, entry_at}
 use Rattle.sheets.specs.Lists.{room_for}
-use Rattle.sheet_reading.specs.Inner.{There, floatsAt, restHolds, sizesOf, words_in}
+use Rattle.sheet_reading.specs.Inner.{There, floats_at, rest_holds, sizes_of, words_in}
 use Rattle.sheet_reading.specs.declared.judge.Sizes.{Sizes}
 use Rattle.sheet_reading.proofs.EntryLaws.{head-run}
 use Rattle.sheet_reading.proofs.SizeLaws.{width-least}
 
 -- ---- room
 
-module _ (n pos neg bounds sets words manyPos manyNeg manyBounds : ℕ) where
+module _ (n pos neg bounds sets words many_pos many_neg many_bounds : ℕ) where
   abbrev roomy? : Bool
-  roomy? = room_for n pos neg bounds sets words manyPos manyNeg manyBounds
+  roomy? = room_for n pos neg bounds sets words many_pos many_neg many_bounds
 
   pub room-sets : sets < n → false ≡ roomy?
   room-sets h = rw (lt-leb n sets h)
@@ -41,71 +41,71 @@ module _ (n pos neg bounds sets words manyPos manyNeg manyBounds : ℕ) where
   pub room-words : n ≤ sets → words < n → false ≡ roomy?
   room-words h g = rw (le-leb n sets h, lt-leb n words g)
 
-  pub room-pos : n ≤ sets → n ≤ words → manyPos < pos → false ≡ roomy?
-  room-pos h g f = rw (le-leb n sets h, le-leb n words g, lt-leb pos manyPos f)
+  pub room-pos : n ≤ sets → n ≤ words → many_pos < pos → false ≡ roomy?
+  room-pos h g f = rw (le-leb n sets h, le-leb n words g, lt-leb pos many_pos f)
 
-  pub room-neg : n ≤ sets → n ≤ words → pos ≤ manyPos → manyNeg < neg → false ≡ roomy?
-  room-neg h g f e = rw (le-leb n sets h, le-leb n words g, le-leb pos manyPos f, lt-leb neg manyNeg e)
+  pub room-neg : n ≤ sets → n ≤ words → pos ≤ many_pos → many_neg < neg → false ≡ roomy?
+  room-neg h g f e = rw (le-leb n sets h, le-leb n words g, le-leb pos many_pos f, lt-leb neg many_neg e)
 
-  pub room-rest : n ≤ sets → n ≤ words → pos ≤ manyPos → neg ≤ manyNeg → leb bounds manyBounds ≡ roomy?
-  room-rest h g f e = rw (le-leb n sets h, le-leb n words g, le-leb pos manyPos f, le-leb neg manyNeg e)
+  pub room-rest : n ≤ sets → n ≤ words → pos ≤ many_pos → neg ≤ many_neg → leb bounds many_bounds ≡ roomy?
+  room-rest h g f e = rw (le-leb n sets h, le-leb n words g, le-leb pos many_pos f, le-leb neg many_neg e)
 
 -- ---- the head
 
-buckets-few : (n : ℕ) → n ≤ 159 → bucketsOf n < 2 ^ 64
+buckets-few : (n : ℕ) → n ≤ 159 → buckets_of n < 2 ^ 64
 buckets-few zero h = omega arith
 buckets-few (suc n) h = omega arith
 
-picked-pos : (b : Bool) (c : Counts) (n : ℕ) (x : Span) → c.pos.len < 2 ^ 64 → x.len ≤ 159 → posLen (pick b (Exponential c) (Explicit n)) x < 2 ^ 64
+picked-pos : (b : Bool) (c : Counts) (n : ℕ) (x : Span) → c.pos.len < 2 ^ 64 → x.len ≤ 159 → pos_len (pick b (Exponential c) (Explicit n)) x < 2 ^ 64
 unfolding pick
 picked-pos true c n x h g = h
 picked-pos false c n x h g = buckets-few x.len g
 
 module _ (w : List ℕ) where
-  pub head-no : isPoint w ≡ false → false ≡ headFine w
-  unfolding headFine
+  pub head-no : is_point w ≡ false → false ≡ head_fine w
+  unfolding head_fine
   head-no h = rw h
 
-  pub head-start : isPoint w ≡ true → ((boundsIn w).start ≡ 0 → ⊥) → false ≡ headFine w
-  unfolding headFine
-  head-start h g = rw (h, ne_eqb (boundsIn w).start 0 g)
+  pub head-start : is_point w ≡ true → ((bounds_in w).start ≡ 0 → ⊥) → false ≡ head_fine w
+  unfolding head_fine
+  head-start h g = rw (h, ne_eqb (bounds_in w).start 0 g)
 
-  pub head-bounds : isPoint w ≡ true → (boundsIn w).start ≡ 0 → 159 < (boundsIn w).len → false ≡ headFine w
-  unfolding headFine
-  head-bounds h g f = rw (h, eq-eqb (boundsIn w).start 0 g, lt-leb (boundsIn w).len 159 f)
+  pub head-bounds : is_point w ≡ true → (bounds_in w).start ≡ 0 → 159 < (bounds_in w).len → false ≡ head_fine w
+  unfolding head_fine
+  head-bounds h g f = rw (h, eq-eqb (bounds_in w).start 0 g, lt-leb (bounds_in w).len 159 f)
 
-  pub head-pos : isPoint w ≡ true → (boundsIn w).start ≡ 0 → (boundsIn w).len ≤ 159 → 160 < posIn w → false ≡ headFine w
-  unfolding headFine
-  head-pos h g f e = rw (h, eq-eqb (boundsIn w).start 0 g, le-leb (boundsIn w).len 159 f, lt-leb (posIn w) 160 e)
+  pub head-pos : is_point w ≡ true → (bounds_in w).start ≡ 0 → (bounds_in w).len ≤ 159 → 160 < pos_in w → false ≡ head_fine w
+  unfolding head_fine
+  head-pos h g f e = rw (h, eq-eqb (bounds_in w).start 0 g, le-leb (bounds_in w).len 159 f, lt-leb (pos_in w) 160 e)
 
-  pub head-rest : isPoint w ≡ true → (boundsIn w).start ≡ 0 → (boundsIn w).len ≤ 159 → posIn w ≤ 160 → leb (negIn w) 160 ≡ headFine w
-  unfolding headFine
-  head-rest h g f e = rw (h, eq-eqb (boundsIn w).start 0 g, le-leb (boundsIn w).len 159 f, le-leb (posIn w) 160 e)
+  pub head-rest : is_point w ≡ true → (bounds_in w).start ≡ 0 → (bounds_in w).len ≤ 159 → pos_in w ≤ 160 → leb (neg_in w) 160 ≡ head_fine w
+  unfolding head_fine
+  head-rest h g f e = rw (h, eq-eqb (bounds_in w).start 0 g, le-leb (bounds_in w).len 159 f, le-leb (pos_in w) 160 e)
 
   -- counts of a head are those of a u64
-  pub pos-wide : get_or w 5 0 < 2 ^ 64 → (boundsIn w).len ≤ 159 → posIn w < 2 ^ 64
-  unfolding pointIn figuresIn
-  pos-wide h g = picked-pos (eqb (get_or w 0 0) 0) _ _ (boundsIn w) h g
+  pub pos-wide : get_or w 5 0 < 2 ^ 64 → (bounds_in w).len ≤ 159 → pos_in w < 2 ^ 64
+  unfolding point_in figures_in
+  pos-wide h g = picked-pos (eqb (get_or w 0 0) 0) _ _ (bounds_in w) h g
 
 -- ---- the rest
 
 abbrev rest_at : List ℕ → ℕ → List ℕ → Bool
 rest_at s k w =
-    filled s (k + 21) (boundsIn w).len
-    && (filled s (k + (21 + width (boundsIn w).len)) (posIn w + negIn w)
-    && agreesAlone (storedFrom w (drop 21 (drop k (cells s)))))
+    filled s (k + 21) (bounds_in w).len
+    && (filled s (k + (21 + width (bounds_in w).len)) (pos_in w + neg_in w)
+    && agrees_alone (stored_from w (drop 21 (drop k (cells s)))))
 
-module _ (s w : List ℕ) (k : ℕ) (room : k + words_in (sizesOf w) ≤ length (cells s)) where
+module _ (s w : List ℕ) (k : ℕ) (room : k + words_in (sizes_of w) ≤ length (cells s)) where
   -- the point out of runs of words
-  stored_is : (let c = k + (21 + width (boundsIn w).len) in
-      storedIn (pointIn w) (floatsAt s (k + 21) (boundsIn w).len) (run s c (posIn w)) (run s (c + posIn w) (negIn w)))
-      ≡ storedFrom w (drop 21 (drop k (cells s)))
-  unfolding storedFrom
+  stored_is : (let c = k + (21 + width (bounds_in w).len) in
+      stored_in (point_in w) (floats_at s (k + 21) (bounds_in w).len) (run s c (pos_in w)) (run s (c + pos_in w) (neg_in w)))
+      ≡ stored_from w (drop 21 (drop k (cells s)))
+  unfolding stored_from
   stored_is =
       let cs = cells s in
-      let b = (boundsIn w).len in
-      let p = posIn w in
-      let n = negIn w in
+      let b = (bounds_in w).len in
+      let p = pos_in w in
+      let n = neg_in w in
       let c = k + (21 + width b) in
       let r = drop 21 (drop k cs) in
       let wb = width-least b in
@@ -117,51 +117,51 @@ module _ (s w : List ℕ) (k : ℕ) (room : k + words_in (sizesOf w) ≤ length 
       let y : run s c p ≡ take p (drop (width b) r) = run_is s c p (omega (arith, room, wp)) ∙ ap (take p) (sym dc) in
       let z : run s (c + p) n ≡ take n (drop p (drop (width b) r)) =
       run_is s (c + p) n (omega (arith, room, wp)) ∙ ap (take n) (sym (drop-drop p c cs) ∙ ap (drop p) (sym dc)) in
-      ap (λ (u : List ℕ). storedIn (pointIn w) (map (of_bits binary64) u) (run s c p) (run s (c + p) n)) x
-      ∙ ap₂ (storedIn (pointIn w) (map (of_bits binary64) (take b r))) y z
+      ap (λ (u : List ℕ). stored_in (point_in w) (map (of_bits binary64) u) (run s c p) (run s (c + p) n)) x
+      ∙ ap₂ (stored_in (point_in w) (map (of_bits binary64) (take b r))) y z
 
-  pub rest-is : restHolds s w k ≡ rest_at s k w
-  unfolding restHolds
+  pub rest-is : rest_holds s w k ≡ rest_at s k w
+  unfolding rest_holds
   rest-is =
-      ap (λ (x : Stored). filled s (k + 21) (boundsIn w).len && (filled s (k + (21 + width (boundsIn w).len)) (posIn w + negIn w) && agreesAlone x))
+      ap (λ (x : Stored). filled s (k + 21) (bounds_in w).len && (filled s (k + (21 + width (bounds_in w).len)) (pos_in w + neg_in w) && agrees_alone x))
       stored_is
 
 -- by the sizes that the code has read
-module _ (s w : List ℕ) (z : Sizes) (k : ℕ) (e : z ≡ sizesOf w) where
-  abbrev pointAt : ℕ → Bool
-  pointAt c = agreesAlone (storedIn (pointIn w) (floatsAt s (k + 21) z.bounds) (run s c z.pos) (run s (c + z.pos) z.neg))
+module _ (s w : List ℕ) (z : Sizes) (k : ℕ) (e : z ≡ sizes_of w) where
+  abbrev point_at : ℕ → Bool
+  point_at c = agrees_alone (stored_in (point_in w) (floats_at s (k + 21) z.bounds) (run s c z.pos) (run s (c + z.pos) z.neg))
 
-  rest-for : restHolds s w k
-      ≡ (filled s (k + 21) z.bounds && (filled s (k + (21 + width z.bounds)) (z.pos + z.neg) && pointAt (k + (21 + width z.bounds))))
-  unfolding restHolds
-  rest-for =
+  rest_for : rest_holds s w k
+      ≡ (filled s (k + 21) z.bounds && (filled s (k + (21 + width z.bounds)) (z.pos + z.neg) && point_at (k + (21 + width z.bounds))))
+  unfolding rest_holds
+  rest_for =
       ap (λ (y : Sizes). filled s (k + 21) y.bounds
       && (filled s (k + (21 + width y.bounds)) (y.pos + y.neg)
-      && agreesAlone (storedIn (pointIn w) (floatsAt s (k + 21) y.bounds) (run s (k + (21 + width y.bounds)) y.pos)
+      && agrees_alone (stored_in (point_in w) (floats_at s (k + 21) y.bounds) (run s (k + (21 + width y.bounds)) y.pos)
       (run s (k + (21 + width y.bounds) + y.pos) y.neg)))) (sym e)
 
-  abbrev zerosFrom : ℕ → ℕ → ℕ → Bool
-  zerosFrom b m v = allb (v - m) (zeroAt s (b + m))
+  abbrev zeros_from : ℕ → ℕ → ℕ → Bool
+  zeros_from b m v = allb (v - m) (zero_at s (b + m))
 
   module _ (v : ℕ) (ev : v ≡ width z.bounds) where
-    bounds-filled : zerosFrom (k + 21) z.bounds v ≡ filled s (k + 21) z.bounds
-    bounds-filled = ap (zerosFrom (k + 21) z.bounds) ev
+    bounds-filled : zeros_from (k + 21) z.bounds v ≡ filled s (k + 21) z.bounds
+    bounds-filled = ap (zeros_from (k + 21) z.bounds) ev
 
-    pub rest-bounds : zerosFrom (k + 21) z.bounds v ≡ false → false ≡ restHolds s w k
-    rest-bounds h = sym (rest-for ∙ rw (sym bounds-filled ∙ h))
+    pub rest-bounds : zeros_from (k + 21) z.bounds v ≡ false → false ≡ rest_holds s w k
+    rest-bounds h = sym (rest_for ∙ rw (sym bounds-filled ∙ h))
 
     module _ (u x : ℕ) (eu : u ≡ width z.bounds) (ex : x ≡ width (z.pos + z.neg)) where
       counts-from : k + 21 + u ≡ k + (21 + width z.bounds)
       counts-from = omega (arith, eu)
 
-      counts-filled : zerosFrom (k + 21 + u) (z.pos + z.neg) x ≡ filled s (k + (21 + width z.bounds)) (z.pos + z.neg)
-      counts-filled = ap₂ (λ (b y : ℕ). zerosFrom b (z.pos + z.neg) y) counts-from ex
+      counts-filled : zeros_from (k + 21 + u) (z.pos + z.neg) x ≡ filled s (k + (21 + width z.bounds)) (z.pos + z.neg)
+      counts-filled = ap₂ (λ (b y : ℕ). zeros_from b (z.pos + z.neg) y) counts-from ex
 
-      pub rest-counts : zerosFrom (k + 21) z.bounds v ≡ true → zerosFrom (k + 21 + u) (z.pos + z.neg) x ≡ false → false ≡ restHolds s w k
-      rest-counts h g = sym (rest-for ∙ rw (sym bounds-filled ∙ h, sym counts-filled ∙ g))
+      pub rest-counts : zeros_from (k + 21) z.bounds v ≡ true → zeros_from (k + 21 + u) (z.pos + z.neg) x ≡ false → false ≡ rest_holds s w k
+      rest-counts h g = sym (rest_for ∙ rw (sym bounds-filled ∙ h, sym counts-filled ∙ g))
 
-      pub rest-point : zerosFrom (k + 21) z.bounds v ≡ true → zerosFrom (k + 21 + u) (z.pos + z.neg) x ≡ true → pointAt (k + 21 + u) ≡ restHolds s w k
-      rest-point h g = ap pointAt counts-from ∙ sym (rest-for ∙ rw (sym bounds-filled ∙ h, sym counts-filled ∙ g))
+      pub rest-point : zeros_from (k + 21) z.bounds v ≡ true → zeros_from (k + 21 + u) (z.pos + z.neg) x ≡ true → point_at (k + 21 + u) ≡ rest_holds s w k
+      rest-point h g = ap point_at counts-from ∙ sym (rest_for ∙ rw (sym bounds-filled ∙ h, sym counts-filled ∙ g))
 
 -- ---- words that are there
 
@@ -194,28 +194,28 @@ module _ (s : List ℕ) (k : ℕ) where
   unfolding entry_at
   bad-short h = rw (lt-leb 21 (length (drop k (cells s))) (omega (arith, h, length-drop k (cells s))))
 
-  entry-as : k + 21 ≤ length (cells s)
-      → entry_at s k ≡ (rowFine row && (headFine head && (leb (words_in (sizesOf head)) (length (cells s) - k) && rest_at s k head)))
-  unfolding entry_at entryLen
-  entry-as h =
+  entry_as : k + 21 ≤ length (cells s)
+      → entry_at s k ≡ (row_fine row && (head_fine head && (leb (words_in (sizes_of head)) (length (cells s) - k) && rest_at s k head)))
+  unfolding entry_at entry_len
+  entry_as h =
       let l = drop k (cells s) in
       let e = le-leb 21 (length l) (omega (arith, h, length-drop k (cells s))) in
       rw e
-      (ap₂ (λ (r w : List ℕ). rowFine r && (headFine w && (leb (words_in (sizesOf w)) (length l) && rest_at s k w))) (sym (run_is s k 9 (omega arith)))
+      (ap₂ (λ (r w : List ℕ). row_fine r && (head_fine w && (leb (words_in (sizes_of w)) (length l) && rest_at s k w))) (sym (run_is s k 9 (omega arith)))
       (sym (head-run s k h))
-      ∙ ap (λ (j : ℕ). rowFine row && (headFine head && (leb (words_in (sizesOf head)) j && rest_at s k head))) (length-drop k (cells s)))
+      ∙ ap (λ (j : ℕ). row_fine row && (head_fine head && (leb (words_in (sizes_of head)) j && rest_at s k head))) (length-drop k (cells s)))
 
-  pub bad-row : k + 21 ≤ length (cells s) → rowFine row ≡ false → false ≡ entry_at s k
-  bad-row h a = sym (entry-as h ∙ rw a)
+  pub bad-row : k + 21 ≤ length (cells s) → row_fine row ≡ false → false ≡ entry_at s k
+  bad-row h a = sym (entry_as h ∙ rw a)
 
-  pub bad-head : k + 21 ≤ length (cells s) → rowFine row ≡ true → headFine head ≡ false → false ≡ entry_at s k
-  bad-head h a b = sym (entry-as h ∙ rw (a, b))
+  pub bad-head : k + 21 ≤ length (cells s) → row_fine row ≡ true → head_fine head ≡ false → false ≡ entry_at s k
+  bad-head h a b = sym (entry_as h ∙ rw (a, b))
 
-  pub bad-long : k + 21 ≤ length (cells s) → rowFine row ≡ true → headFine head ≡ true → length (cells s) - k < words_in (sizesOf head)
+  pub bad-long : k + 21 ≤ length (cells s) → row_fine row ≡ true → head_fine head ≡ true → length (cells s) - k < words_in (sizes_of head)
       → false ≡ entry_at s k
-  bad-long h a b g = sym (entry-as h ∙ rw (a, b, lt-leb (words_in (sizesOf head)) (length (cells s) - k) g))
+  bad-long h a b g = sym (entry_as h ∙ rw (a, b, lt-leb (words_in (sizes_of head)) (length (cells s) - k) g))
 
-  pub entry-is-rest : k + 21 ≤ length (cells s) → rowFine row ≡ true → headFine head ≡ true → k + words_in (sizesOf head) ≤ length (cells s)
-      → restHolds s head k ≡ entry_at s k
+  pub entry-is-rest : k + 21 ≤ length (cells s) → row_fine row ≡ true → head_fine head ≡ true → k + words_in (sizes_of head) ≤ length (cells s)
+      → rest_holds s head k ≡ entry_at s k
   entry-is-rest h a b g =
-      sym (entry-as h ∙ rw (a, b, le-leb (words_in (sizesOf head)) (length (cells s) - k) (omega (arith, g))) (sym (rest-is s head k g)))
+      sym (entry_as h ∙ rw (a, b, le-leb (words_in (sizes_of head)) (length (cells s) - k) (omega (arith, g))) (sym (rest-is s head k g)))

@@ -13,14 +13,14 @@ use Rattle.laws.specs.Counting.{sum}
 use Rattle.laws.specs.Pick.{pick}
 use Rattle.laws.proofs.Bools.{pick-false}
 use Rattle.laws.proofs.Cases.{true-not-false}
-use Rattle.sets.specs.Rows.{setOf, below}
+use Rattle.sets.specs.Rows.{set_of, below}
 use Rattle.tally.specs.Sets.{Set, cmp}
-use Rattle.listing.specs.Words.{boundsIn}
+use Rattle.listing.specs.Words.{bounds_in}
 use Rattle.records.specs.Records.{width, cells}
-use Rattle.sheets.specs.Entries.{Entry, headIn, posIn, negIn, storedFrom, entry_of, entryLen, entriesOf, ascending}
-use Rattle.sheets.specs.Sheet.{pointsIn}
+use Rattle.sheets.specs.Entries.{Entry, head_in, pos_in, neg_in, stored_from, entry_of, entry_len, entries_of, ascending}
+use Rattle.sheets.specs.Sheet.{points_in}
 use Rattle.sheets.specs.Inner.{entry_at, entries_at}
-use Rattle.sheet_reading.specs.Inner.{sizesOf, words_in, more, judgedFrom, nothing, judged}
+use Rattle.sheet_reading.specs.Inner.{sizes_of, words_in, more, judged_from, nothing, judged}
 use Rattle.sheet_reading.specs.declared.judge.Judged.{Judged}
 use Rattle.sheet_reading.specs.declared.judge.Judged.TheVariants.{Bad, Fine}
 use Rattle.sheet_reading.specs.declared.judge.Sizes.{Sizes}
@@ -49,17 +49,17 @@ behind-first (suc i) a e es = ap (λ (b : Bool). (b || below (cmp a e.0)) && asc
 
 -- ---- what entries take
 
-abbrev boundsLen : Entry → ℕ
-boundsLen e = length e.1.bounds
+abbrev bounds_len : Entry → ℕ
+bounds_len e = length e.1.bounds
 
-abbrev posLen : Entry → ℕ
-posLen e = length e.1.pos
+abbrev pos_len : Entry → ℕ
+pos_len e = length e.1.pos
 
-abbrev negLen : Entry → ℕ
-negLen e = length e.1.neg
+abbrev neg_len : Entry → ℕ
+neg_len e = length e.1.neg
 
 abbrev with : Sizes → List Entry → Sizes
-with y es = record { bounds = y.bounds + sum boundsLen es; pos = y.pos + sum posLen es; neg = y.neg + sum negLen es }
+with y es = record { bounds = y.bounds + sum bounds_len es; pos = y.pos + sum pos_len es; neg = y.neg + sum neg_len es }
 
 -- an entry that passes takes what its head says
 module _ (s : List ℕ) (k : ℕ) (h : entry_at s k ≡ true) where
@@ -67,35 +67,35 @@ module _ (s : List ℕ) (k : ℕ) (h : entry_at s k ≡ true) where
   l = drop k (cells s)
 
   abbrev w : List ℕ
-  w = headIn l
+  w = head_in l
 
-  rest-long : width (boundsIn w).len + width (posIn w + negIn w) ≤ length (drop 21 l)
+  rest-long : width (bounds_in w).len + width (pos_in w + neg_in w) ≤ length (drop 21 l)
   rest-long = omega (arith, entry-within s k h, length-drop 21 l, length-drop k (cells s))
 
-  own-bounds : boundsLen (entry_of l) ≡ (boundsIn w).len
-  unfolding entry_of storedFrom
+  own-bounds : bounds_len (entry_of l) ≡ (bounds_in w).len
+  unfolding entry_of stored_from
   own-bounds =
-      length-map (take (boundsIn w).len (drop 21 l)) (of_bits binary64)
-      ∙ length-take-le (boundsIn w).len (drop 21 l) (omega (arith, rest-long, width-least (boundsIn w).len))
+      length-map (take (bounds_in w).len (drop 21 l)) (of_bits binary64)
+      ∙ length-take-le (bounds_in w).len (drop 21 l) (omega (arith, rest-long, width-least (bounds_in w).len))
 
-  own-pos : posLen (entry_of l) ≡ posIn w
-  unfolding entry_of storedFrom
+  own-pos : pos_len (entry_of l) ≡ pos_in w
+  unfolding entry_of stored_from
   own-pos =
-      let c = drop (width (boundsIn w).len) (drop 21 l) in
-      length-take-le (posIn w) c (omega (arith, rest-long, width-least (posIn w + negIn w), length-drop (width (boundsIn w).len) (drop 21 l)))
+      let c = drop (width (bounds_in w).len) (drop 21 l) in
+      length-take-le (pos_in w) c (omega (arith, rest-long, width-least (pos_in w + neg_in w), length-drop (width (bounds_in w).len) (drop 21 l)))
 
-  own-neg : negLen (entry_of l) ≡ negIn w
-  unfolding entry_of storedFrom
+  own-neg : neg_len (entry_of l) ≡ neg_in w
+  unfolding entry_of stored_from
   own-neg =
-      let c = drop (width (boundsIn w).len) (drop 21 l) in
-      length-take-le (negIn w) (drop (posIn w) c)
-      (omega (arith, rest-long, width-least (posIn w + negIn w), length-drop (width (boundsIn w).len) (drop 21 l), length-drop (posIn w) c))
+      let c = drop (width (bounds_in w).len) (drop 21 l) in
+      length-take-le (neg_in w) (drop (pos_in w) c)
+      (omega (arith, rest-long, width-least (pos_in w + neg_in w), length-drop (width (bounds_in w).len) (drop 21 l), length-drop (pos_in w) c))
 
-  taken : (y : Sizes) (es : List Entry) → with (more y (sizesOf w)) es ≡ with y (entry_of l ∷ es)
+  taken : (y : Sizes) (es : List Entry) → with (more y (sizes_of w)) es ≡ with y (entry_of l ∷ es)
   taken y es =
-      let b : y.bounds + (boundsIn w).len + sum boundsLen es ≡ y.bounds + (boundsLen (entry_of l) + sum boundsLen es) = omega (arith, own-bounds) in
-      let p : y.pos + posIn w + sum posLen es ≡ y.pos + (posLen (entry_of l) + sum posLen es) = omega (arith, own-pos) in
-      let n : y.neg + negIn w + sum negLen es ≡ y.neg + (negLen (entry_of l) + sum negLen es) = omega (arith, own-neg) in
+      let b : y.bounds + (bounds_in w).len + sum bounds_len es ≡ y.bounds + (bounds_len (entry_of l) + sum bounds_len es) = omega (arith, own-bounds) in
+      let p : y.pos + pos_in w + sum pos_len es ≡ y.pos + (pos_len (entry_of l) + sum pos_len es) = omega (arith, own-pos) in
+      let n : y.neg + neg_in w + sum neg_len es ≡ y.neg + (neg_len (entry_of l) + sum neg_len es) = omega (arith, own-neg) in
       λ i. record { bounds = b i; pos = p i; neg = n i }
 
 -- ---- judged
@@ -115,63 +115,63 @@ one_left true false b c x z r h g = sym (pick-false (b && false) (Fine z) Bad (a
 one_left true true b c x z r h g = h ∙ ap (λ (y : Sizes). pick (b && c) (Fine y) Bad) (g refl)
 
 abbrev passes : ℕ → List ℕ → ℕ → ℕ → List ℕ → Bool
-passes n s k i row = entries_at n s k && behind i (setOf row) (entriesOf n (drop k (cells s)))
+passes n s k i row = entries_at n s k && behind i (set_of row) (entries_of n (drop k (cells s)))
 
 pub judged-is : (n : ℕ) (s : List ℕ) (k i : ℕ) (row : List ℕ) (y : Sizes)
-    → judgedFrom n s k i row y ≡ pick (passes n s k i row) (Fine (with y (entriesOf n (drop k (cells s))))) Bad
-unfolding entries_at entry_of entryLen
-judged-is zero s k i row y = none_left (eqb (length (drop k (cells s))) 0) (behind i (setOf row) []) y (behind-none i (setOf row))
+    → judged_from n s k i row y ≡ pick (passes n s k i row) (Fine (with y (entries_of n (drop k (cells s))))) Bad
+unfolding entries_at entry_of entry_len
+judged-is zero s k i row y = none_left (eqb (length (drop k (cells s))) 0) (behind i (set_of row) []) y (behind-none i (set_of row))
 judged-is (suc n) s k i row y =
     let l = drop k (cells s) in
-    let z = sizesOf (headIn l) in
+    let z = sizes_of (head_in l) in
     let m = words_in z in
-    let es = entriesOf n (drop m l) in
-    let d : entriesOf n (drop (k + m) (cells s)) ≡ es = ap (entriesOf n) (sym (drop-drop m k (cells s))) in
-    let f : Bool = eqb i 0 || below (cmp (setOf row) (setOf (take 9 l))) in
+    let es = entries_of n (drop m l) in
+    let d : entries_of n (drop (k + m) (cells s)) ≡ es = ap (entries_of n) (sym (drop-drop m k (cells s))) in
+    let f : Bool = eqb i 0 || below (cmp (set_of row) (set_of (take 9 l))) in
     let ih = judged-is n s (k + m) (suc i) (take 9 l) (more y z)
-    ∙ ap (λ (x : List Entry). pick (entries_at n s (k + m) && behind (suc i) (setOf (take 9 l)) x) (Fine (with (more y z) x)) Bad) d in
-    one_left (entry_at s k) f (entries_at n s (k + m)) (behind (suc i) (setOf (take 9 l)) es) (with (more y z) es) (with y (entry_of l ∷ es))
-    (judgedFrom n s (k + m) (suc i) (take 9 l) (more y z)) ih (λ h. taken s k h y es)
+    ∙ ap (λ (x : List Entry). pick (entries_at n s (k + m) && behind (suc i) (set_of (take 9 l)) x) (Fine (with (more y z) x)) Bad) d in
+    one_left (entry_at s k) f (entries_at n s (k + m)) (behind (suc i) (set_of (take 9 l)) es) (with (more y z) es) (with y (entry_of l ∷ es))
+    (judged_from n s (k + m) (suc i) (take 9 l) (more y z)) ih (λ h. taken s k h y es)
     ∙ ap (λ (b : Bool). pick ((entry_at s k && entries_at n s (k + m)) && b) (Fine (with y (entry_of l ∷ es))) Bad)
-    (sym (behind-first i (setOf row) (entry_of l) es ∙ ap (λ (b : Bool). f && b) (behind-next i (entry_of l) es)))
+    (sym (behind-first i (set_of row) (entry_of l) es ∙ ap (λ (b : Bool). f && b) (behind-next i (entry_of l) es)))
 
 -- ---- a whole sheet
 
-length-entries : (n : ℕ) (l : List ℕ) → length (entriesOf n l) ≡ n
+length-entries : (n : ℕ) (l : List ℕ) → length (entries_of n l) ≡ n
 length-entries zero l = refl
-length-entries (suc n) l = ap suc (length-entries n (drop (entryLen (headIn l)) l))
+length-entries (suc n) l = ap suc (length-entries n (drop (entry_len (head_in l)) l))
 
-abbrev sizesIn : Judged → Sizes
-sizesIn Bad = nothing
-sizesIn (Fine z) = z
+abbrev sizes_in : Judged → Sizes
+sizes_in Bad = nothing
+sizes_in (Fine z) = z
 
 abbrev fine? : Judged → Bool
 fine? Bad = false
 fine? (Fine z) = true
 
-picked-bad : (b : Bool) (z : Sizes) → pick b (Fine z) Bad ≡ Bad → b ≡ false
+picked_bad : (b : Bool) (z : Sizes) → pick b (Fine z) Bad ≡ Bad → b ≡ false
 unfolding pick
-picked-bad true z h = ap fine? h
-picked-bad false z h = refl
+picked_bad true z h = ap fine? h
+picked_bad false z h = refl
 
 picked-fine : (b : Bool) (x z : Sizes) → pick b (Fine x) Bad ≡ Fine z → (b ≡ true) × (x ≡ z)
 unfolding pick
-picked-fine true x z h = (refl, ap sizesIn h)
+picked-fine true x z h = (refl, ap sizes_in h)
 picked-fine false x z h = true-not-false (sym (ap fine? h))
 
 module _ (s : List ℕ) where
   abbrev n : ℕ
-  n = pointsIn s
+  n = points_in s
 
   abbrev entries : List Entry
-  entries = entriesOf (pointsIn s) (drop 3 (cells s))
+  entries = entries_of (points_in s) (drop 3 (cells s))
 
   judged-all : judged s ≡ pick (entries_at n s 3 && ascending entries) (Fine (with nothing entries)) Bad
   unfolding judged
   judged-all = judged-is n s 3 0 [] nothing
 
-  pub judged-bad : judged s ≡ Bad → (entries_at n s 3 && ascending entries) ≡ false
-  judged-bad h = picked-bad (entries_at n s 3 && ascending entries) (with nothing entries) (sym judged-all ∙ h)
+  pub judged_bad : judged s ≡ Bad → (entries_at n s 3 && ascending entries) ≡ false
+  judged_bad h = picked_bad (entries_at n s 3 && ascending entries) (with nothing entries) (sym judged-all ∙ h)
 
   pub judged-fine : (z : Sizes) → judged s ≡ Fine z
       → ((entries_at n s 3 && ascending entries) ≡ true)

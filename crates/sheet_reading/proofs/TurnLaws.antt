@@ -11,17 +11,17 @@ use lib.ListN.{length, take, drop, length-drop}
 use lib.Seq.{length-take-le}
 use Rattle.laws.specs.Pick.{pick}
 use Rattle.laws.proofs.Bools.{and_intro, pick_true, pick-false}
-use Rattle.sets.specs.Rows.{size, setOf, row_of, below}
+use Rattle.sets.specs.Rows.{size, set_of, row_of, below}
 use Rattle.sets.proofs.Keyed.{length-set-of}
 use Rattle.tally.specs.Sets.{cmp}
 use Rattle.records.specs.Records.{cells}
 use Rattle.records.specs.Inner.{run}
 use Rattle.records.proofs.Found.{cells-length, run_is}
-use Rattle.sheets.specs.Entries.{headIn}
-use Rattle.sheets.specs.Sheet.{pointsIn}
-use Rattle.sheets.specs.Inner.{framed, headFine, entry_at}
+use Rattle.sheets.specs.Entries.{head_in}
+use Rattle.sheets.specs.Sheet.{points_in}
+use Rattle.sheets.specs.Inner.{framed, head_fine, entry_at}
 use Rattle.sheets.proofs.SetLaws.{length-row}
-use Rattle.sheet_reading.specs.Inner.{There, sizesOf, words_in, more, Few, judgedFrom, Addable, nothing, judged}
+use Rattle.sheet_reading.specs.Inner.{There, sizes_of, words_in, more, Few, judged_from, Addable, nothing, judged}
 use Rattle.sheet_reading.specs.declared.judge.Judged.{Judged}
 use Rattle.sheet_reading.specs.declared.judge.Judged.TheVariants.{Bad, Fine}
 use Rattle.sheet_reading.specs.declared.judge.Sizes.{Sizes}
@@ -39,17 +39,17 @@ pub record Unjudged (s : List ℕ) (n : ℕ) (y : Sizes) (row : List ℕ) (k i :
   pub bounds : y.bounds ≤ i * 160
   pub pos : y.pos ≤ i * 160
   pub neg : y.neg ≤ i * 160
-  pub work : judged s ≡ judgedFrom (n - i) s k i row y
+  pub work : judged s ≡ judged_from (n - i) s k i row y
 
 -- the first entry follows any row
-no_row : (n : ℕ) (s : List ℕ) (k : ℕ) (a b : List ℕ) (y : Sizes) → judgedFrom n s k 0 a y ≡ judgedFrom n s k 0 b y
+no_row : (n : ℕ) (s : List ℕ) (k : ℕ) (a b : List ℕ) (y : Sizes) → judged_from n s k 0 a y ≡ judged_from n s k 0 b y
 no_row zero s k a b y = refl
 no_row (suc n) s k a b y = refl
 
-pub first-turn : (s : List ℕ) (n : ℕ) (row : List ℕ) → framed s ≡ true → n ≡ pointsIn s → size row ≤ 8 → Unjudged s n nothing row 3 0
+pub first-turn : (s : List ℕ) (n : ℕ) (row : List ℕ) → framed s ≡ true → n ≡ points_in s → size row ≤ 8 → Unjudged s n nothing row 3 0
 unfolding judged
 first-turn s n row f e h =
-    let m : pointsIn s ≡ n - 0 = omega (arith, e) in
+    let m : points_in s ≡ n - 0 = omega (arith, e) in
     record {
       low = omega arith;
       few = omega (arith, e, framed-points s f);
@@ -59,7 +59,7 @@ first-turn s n row f e h =
       bounds = omega arith;
       pos = omega arith;
       neg = omega arith;
-      work = no_row (pointsIn s) s 3 [] row nothing ∙ ap (λ (j : ℕ). judgedFrom j s 3 0 row nothing) m;
+      work = no_row (points_in s) s 3 [] row nothing ∙ ap (λ (j : ℕ). judged_from j s 3 0 row nothing) m;
     }
 
 module _ (s : List ℕ) (n : ℕ) (y : Sizes) (row : List ℕ) (k i : ℕ) (t : Unjudged s n y row k i) where
@@ -69,11 +69,11 @@ module _ (s : List ℕ) (n : ℕ) (y : Sizes) (row : List ℕ) (k i : ℕ) (t : 
   -- ---- the ends
 
   done : n ≤ i → judged s ≡ pick (eqb (length l) 0) (Fine y) Bad
-  done h = let e : n - i ≡ 0 = omega arith in t.work ∙ ap (λ (j : ℕ). judgedFrom j s k i row y) e
+  done h = let e : n - i ≡ 0 = omega arith in t.work ∙ ap (λ (j : ℕ). judged_from j s k i row y) e
 
   -- words are left
-  pub end-bad : n ≤ i → k < length (cells s) → Bad ≡ judged s
-  end-bad h g = sym (done h ∙ pick-false (eqb (length l) 0) (Fine y) Bad (ne_eqb (length l) 0 (λ e. omega (arith, e, g, length-drop k (cells s)))))
+  pub end_bad : n ≤ i → k < length (cells s) → Bad ≡ judged s
+  end_bad h g = sym (done h ∙ pick-false (eqb (length l) 0) (Fine y) Bad (ne_eqb (length l) 0 (λ e. omega (arith, e, g, length-drop k (cells s)))))
 
   pub end-fine : n ≤ i → length (cells s) ≤ k → Fine y ≡ judged s
   end-fine h g =
@@ -83,16 +83,16 @@ module _ (s : List ℕ) (n : ℕ) (y : Sizes) (row : List ℕ) (k i : ℕ) (t : 
   -- ---- a turn
   module _ (less : i < n) where
     abbrev follows : List ℕ → Bool
-    follows r = eqb i 0 || below (cmp (setOf row) (setOf r))
+    follows r = eqb i 0 || below (cmp (set_of row) (set_of r))
 
     abbrev rest : Judged
-    rest = judgedFrom (n - suc i) s (k + words_in (sizesOf (headIn l))) (suc i) (take 9 l) (more y (sizesOf (headIn l)))
+    rest = judged_from (n - suc i) s (k + words_in (sizes_of (head_in l))) (suc i) (take 9 l) (more y (sizes_of (head_in l)))
 
     turn : judged s ≡ pick (entry_at s k && follows (take 9 l)) rest Bad
-    turn = let e : n - i ≡ suc (n - suc i) = omega (arith, less) in t.work ∙ ap (λ (j : ℕ). judgedFrom j s k i row y) e
+    turn = let e : n - i ≡ suc (n - suc i) = omega (arith, less) in t.work ∙ ap (λ (j : ℕ). judged_from j s k i row y) e
 
-    pub entry-bad : entry_at s k ≡ false → Bad ≡ judged s
-    entry-bad h = sym (turn ∙ pick-false (entry_at s k && follows (take 9 l)) rest Bad (ap (λ (b : Bool). b && follows (take 9 l)) h))
+    pub entry_bad : entry_at s k ≡ false → Bad ≡ judged s
+    entry_bad h = sym (turn ∙ pick-false (entry_at s k && follows (take 9 l)) rest Bad (ap (λ (b : Bool). b && follows (take 9 l)) h))
 
     -- ---- the entry passes
     module _ (h : entry_at s k ≡ true) where
@@ -111,14 +111,14 @@ module _ (s : List ℕ) (n : ℕ) (y : Sizes) (row : List ℕ) (k i : ℕ) (t : 
       next-size : size (take 9 l) ≤ 8
       next-size =
           let a : length (take 9 l) ≡ 9 = length-take-le 9 l (omega (arith, long, length-drop k (cells s))) in
-          let b : length (take 9 l) ≡ length (row_of (setOf (take 9 l))) = ap length (entry_row s k h) in
-          omega (arith, a, b, length-row (setOf (take 9 l)), length-set-of (take 9 l))
+          let b : length (take 9 l) ≡ length (row_of (set_of (take 9 l))) = ap length (entry_row s k h) in
+          omega (arith, a, b, length-row (set_of (take 9 l)), length-set-of (take 9 l))
 
-      next-few : Few (sizesOf (headIn l))
-      next-few = head_few (headIn l) (entry-head s k h)
+      next-few : Few (sizes_of (head_in l))
+      next-few = head_few (head_in l) (entry-head s k h)
 
       next : follows (take 9 l) ≡ true
-          → Unjudged s n (more y (sizesOf (headIn l))) (take 9 l) (k + words_in (sizesOf (headIn l))) (suc i)
+          → Unjudged s n (more y (sizes_of (head_in l))) (take 9 l) (k + words_in (sizes_of (head_in l))) (suc i)
       next g =
           let f = next-few in
           record {
@@ -141,22 +141,22 @@ module _ (s : List ℕ) (n : ℕ) (y : Sizes) (row : List ℕ) (k i : ℕ) (t : 
         pub row_small : size r ≤ 8
         row_small = subst (λ (x : List ℕ). size x ≤ 8) (sym row_is) next-size
 
-        pub order-bad : follows r ≡ false → Bad ≡ judged s
-        order-bad g =
+        pub order_bad : follows r ≡ false → Bad ≡ judged s
+        order_bad g =
             sym (turn
             ∙ pick-false (entry_at s k && follows (take 9 l)) rest Bad
             (ap (λ (b : Bool). entry_at s k && b) (ap follows (sym row_is) ∙ g) ∙ and-false (entry_at s k)))
 
         module _ (w : List ℕ) (ew : w ≡ run s (k + 9) 12) where
-          head-is : w ≡ headIn l
+          head-is : w ≡ head_in l
           head-is = ew ∙ head-run s k long
 
-          pub head-passes : headFine w ≡ true
-          head-passes = subst (λ (v : List ℕ). headFine v ≡ true) (sym head-is) (entry-head s k h)
+          pub head-passes : head_fine w ≡ true
+          head-passes = subst (λ (v : List ℕ). head_fine v ≡ true) (sym head-is) (entry-head s k h)
 
-          module _ (z : Sizes) (ez : z ≡ sizesOf w) where
-            size_is : sizesOf (headIn l) ≡ z
-            size_is = sym (ez ∙ ap sizesOf head-is)
+          module _ (z : Sizes) (ez : z ≡ sizes_of w) where
+            size_is : sizes_of (head_in l) ≡ z
+            size_is = sym (ez ∙ ap sizes_of head-is)
 
             pub sizes-few : Few z
             sizes-few = subst Few size_is next-few
@@ -175,8 +175,8 @@ module _ (s : List ℕ) (n : ℕ) (y : Sizes) (row : List ℕ) (k i : ℕ) (t : 
 
             pub next-turn : (y' : Sizes) (m : ℕ) → follows r ≡ true → y' ≡ more y z → m ≡ words_in z → Unjudged s n y' r (k + m) (i + 1)
             next-turn y' m g p q =
-                let a : more y (sizesOf (headIn l)) ≡ y' = ap (more y) size_is ∙ sym p in
-                let b : k + words_in (sizesOf (headIn l)) ≡ k + m = ap (λ (j : ℕ). k + j) (ap words_in size_is ∙ sym q) in
+                let a : more y (sizes_of (head_in l)) ≡ y' = ap (more y) size_is ∙ sym p in
+                let b : k + words_in (sizes_of (head_in l)) ≡ k + m = ap (λ (j : ℕ). k + j) (ap words_in size_is ∙ sym q) in
                 let c : suc i ≡ i + 1 = sym (add-one i) in
                 let d : take 9 l ≡ r = sym row_is in
                 transport (λ j. Unjudged s n (a j) (d j) (b j) (c j)) (next (ap follows d ∙ g))

@@ -13,22 +13,22 @@ use Rattle.laws.specs.Over.{over}
 use Rattle.laws.specs.Pick.{pick}
 use Rattle.laws.proofs.Bools.{and_left, and_right}
 use Rattle.laws.proofs.Cases.{true-not-false}
-use Rattle.sets.specs.Rows.{setOf, below}
+use Rattle.sets.specs.Rows.{set_of, below}
 use Rattle.tally.specs.Sets.{cmp}
-use Rattle.listing.specs.Listed.{overAt}
+use Rattle.listing.specs.Listed.{over_at}
 use Rattle.pooling.specs.Lists.{Source}
 use Rattle.records.specs.Records.{width, cells}
 use Rattle.records.specs.Inner.{run}
 use Rattle.records.proofs.Found.{cells-length}
-use Rattle.sheets.specs.Entries.{headIn}
-use Rattle.sheets.specs.Sheet.{infoIn, pointsIn}
-use Rattle.sheets.specs.Inner.{recordsIn, goodShape, goodHeader, framed, headFine, entry_at}
-use Rattle.sheets.specs.Lists.{fitsIn}
-use Rattle.sheet_reading.specs.Inner.{There, sizesOf, words_in, more, Few, judgedFrom, Addable, nothing, judged, copiedEntry, copied, EntryRoom, Copyable}
+use Rattle.sheets.specs.Entries.{head_in}
+use Rattle.sheets.specs.Sheet.{info_in, points_in}
+use Rattle.sheets.specs.Inner.{records_in, good_shape, good_header, framed, head_fine, entry_at}
+use Rattle.sheets.specs.Lists.{fits_in}
+use Rattle.sheet_reading.specs.Inner.{There, sizes_of, words_in, more, Few, judged_from, Addable, nothing, judged, copied_entry, copied, EntryRoom, Copyable}
 use Rattle.sheet_reading.specs.declared.judge.Judged.{Judged}
 use Rattle.sheet_reading.specs.declared.judge.Judged.TheVariants.{Bad, Fine}
 use Rattle.sheet_reading.specs.declared.judge.Sizes.{Sizes}
-use Rattle.sheet_reading.proofs.CopyLaws.{length_run, length-floats}
+use Rattle.sheet_reading.proofs.CopyLaws.{length_run, length_floats}
 use Rattle.sheet_reading.proofs.EntryLaws.{within-there, head-run, entry-head, entry-within}
 use Rattle.sheet_reading.proofs.SizeLaws.{head_few}
 
@@ -38,9 +38,9 @@ abbrev fine? : Judged → Bool
 fine? Bad = false
 fine? (Fine z) = true
 
-abbrev sizesIn : Judged → Sizes
-sizesIn Bad = nothing
-sizesIn (Fine z) = z
+abbrev sizes_in : Judged → Sizes
+sizes_in Bad = nothing
+sizes_in (Fine z) = z
 
 pick-fine : (b : Bool) (x : Judged) (all : Sizes) → pick b x Bad ≡ Fine all → (b ≡ true) × (x ≡ Fine all)
 unfolding pick
@@ -48,15 +48,15 @@ pick-fine true x all h = (refl, h)
 pick-fine false x all h = true-not-false (sym (ap fine? h))
 
 -- the next entry passes its tests, and so do those behind it
-module _ (n : ℕ) (s : List ℕ) (k i : ℕ) (row : List ℕ) (y all : Sizes) (h : judgedFrom (suc n) s k i row y ≡ Fine all) where
+module _ (n : ℕ) (s : List ℕ) (k i : ℕ) (row : List ℕ) (y all : Sizes) (h : judged_from (suc n) s k i row y ≡ Fine all) where
   abbrev l : List ℕ
   l = drop k (cells s)
 
   abbrev test : Bool
-  test = entry_at s k && (eqb i 0 || below (cmp (setOf row) (setOf (take 9 l))))
+  test = entry_at s k && (eqb i 0 || below (cmp (set_of row) (set_of (take 9 l))))
 
   abbrev rest : Judged
-  rest = judgedFrom n s (k + words_in (sizesOf (headIn l))) (suc i) (take 9 l) (more y (sizesOf (headIn l)))
+  rest = judged_from n s (k + words_in (sizes_of (head_in l))) (suc i) (take 9 l) (more y (sizes_of (head_in l)))
 
   pub judged-entry : entry_at s k ≡ true
   judged-entry = and_left (entry_at s k) _ (pick-fine test rest all h).0
@@ -70,9 +70,9 @@ pub record AtMost (y all : Sizes) : Type 0 where
   pub pos : y.pos ≤ all.pos
   pub neg : y.neg ≤ all.neg
 
-judged-adds : (n : ℕ) (s : List ℕ) (k i : ℕ) (row : List ℕ) (y all : Sizes) → judgedFrom n s k i row y ≡ Fine all → AtMost y all
+judged-adds : (n : ℕ) (s : List ℕ) (k i : ℕ) (row : List ℕ) (y all : Sizes) → judged_from n s k i row y ≡ Fine all → AtMost y all
 judged-adds zero s k i row y all h =
-    let e : y ≡ all = ap sizesIn (pick-fine (eqb (length (drop k (cells s))) 0) (Fine y) all h).1 in
+    let e : y ≡ all = ap sizes_in (pick-fine (eqb (length (drop k (cells s))) 0) (Fine y) all h).1 in
     record {
       bounds = omega (arith, ap (λ (z : Sizes). z.bounds) e);
       pos = omega (arith, ap (λ (z : Sizes). z.pos) e);
@@ -80,23 +80,23 @@ judged-adds zero s k i row y all h =
     }
 judged-adds (suc n) s k i row y all h =
     let l = drop k (cells s) in
-    let z = sizesOf (headIn l) in
+    let z = sizes_of (head_in l) in
     let a = judged-adds n s (k + words_in z) (suc i) (take 9 l) (more y z) all (judged-rest n s k i row y all h) in
     record { bounds = omega (arith, a.bounds); pos = omega (arith, a.pos); neg = omega (arith, a.neg) }
 
 -- ---- a sheet in its frame
 
 framed-many : (s : List ℕ) → framed s ≡ true → length (cells s) ≤ 196608
-unfolding framed goodShape
+unfolding framed good_shape
 framed-many s h =
-    let f = leb-true (recordsIn s) 65536 (and_right (leb 1 (recordsIn s)) _ (and_right (eqb (length s % 32) 0) _ (and_left (goodShape s) _ h))) in
+    let f = leb-true (records_in s) 65536 (and_right (leb 1 (records_in s)) _ (and_right (eqb (length s % 32) 0) _ (and_left (good_shape s) _ h))) in
     omega (arith, f, cells-length s)
 
-framed-few : (s : List ℕ) → framed s ≡ true → pointsIn s ≤ 64
-unfolding framed goodHeader
+framed-few : (s : List ℕ) → framed s ≡ true → points_in s ≤ 64
+unfolding framed good_header
 framed-few s h =
-    leb-true (pointsIn s) 64
-    (and_left _ _ (and_right (leb (infoIn s / 256 % 256) 1) _ (and_right (eqb (infoIn s % 256) 0) _ (and_left _ _ (and_right (goodShape s) _ h)))))
+    leb-true (points_in s) 64
+    (and_left _ _ (and_right (leb (info_in s / 256 % 256) 1) _ (and_right (eqb (info_in s % 256) 0) _ (and_left _ _ (and_right (good_shape s) _ h)))))
 
 -- ---- room in the stores
 
@@ -107,7 +107,7 @@ pub record Roomy (n : ℕ) (all : Sizes) (o : Source) : Type 0 where
   pub neg : all.neg ≤ length o.list.neg
   pub bounds : all.bounds ≤ length o.bounds
 
-pub fits-says : (n : ℕ) (all : Sizes) (o : Source) → fitsIn n all.pos all.neg all.bounds o ≡ true → Roomy n all o
+pub fits-says : (n : ℕ) (all : Sizes) (o : Source) → fits_in n all.pos all.neg all.bounds o ≡ true → Roomy n all o
 fits-says n all o h =
     let a = and_right (leb n (length o.list.sets)) _ h in
     let b = and_right (leb n (length o.list.words)) _ a in
@@ -128,8 +128,8 @@ pub record AsLong (o₀ o : Source) : Type 0 where
   pub neg : length o.list.neg ≡ length o₀.list.neg
   pub bounds : length o.bounds ≡ length o₀.bounds
 
-length-over-at : {A : Type 0} (a n : ℕ) (ys xs : List A) → length ys ≡ n → a + n ≤ length xs → length (overAt a ys xs) ≡ length xs
-unfolding overAt over
+length-over-at : {A : Type 0} (a n : ℕ) (ys xs : List A) → length ys ≡ n → a + n ≤ length xs → length (over_at a ys xs) ≡ length xs
+unfolding over_at over
 length-over-at a n ys xs e h =
     omega (
       arith,
@@ -152,7 +152,7 @@ pub record Left (s : List ℕ) (n : ℕ) (o₀ : Source) (y : Sizes) (k i : ℕ)
   pub bounds : y.bounds ≤ i * 160
   pub pos : y.pos ≤ i * 160
   pub neg : y.neg ≤ i * 160
-  pub fine : judgedFrom (n - i) s k i row y ≡ Fine all
+  pub fine : judged_from (n - i) s k i row y ≡ Fine all
   pub room : Roomy n all o₀
   pub long : AsLong o₀ o
   pub work : copied n s 3 0 nothing o₀ ≡ copied (n - i) s k i y o
@@ -170,7 +170,7 @@ left-start s n o c =
       bounds = omega arith;
       pos = omega arith;
       neg = omega arith;
-      fine = ap (λ (j : ℕ). judgedFrom j s 3 0 [] nothing) (e ∙ c.many) ∙ c.fine;
+      fine = ap (λ (j : ℕ). judged_from j s 3 0 [] nothing) (e ∙ c.many) ∙ c.fine;
       room = fits-says n c.sizes o c.room;
       long = record { sets = refl; words = refl; pos = refl; neg = refl; bounds = refl };
       work = ap (λ (j : ℕ). copied j s 3 0 nothing o) (sym e);
@@ -185,16 +185,16 @@ left-done {s} {n} {o₀} {y} {k} {i} {o} t h =
 -- the next entry, by the words w that are read and the sizes z that they say
 module _ {s : List ℕ} {n : ℕ} {o₀ : Source} {y : Sizes} {k i : ℕ} {o : Source} (t : Left s n o₀ y k i o) (less : i < n) where
   abbrev head : List ℕ
-  head = headIn (drop k (cells s))
+  head = head_in (drop k (cells s))
 
   abbrev size : Sizes
-  size = sizesOf head
+  size = sizes_of head
 
   one_less : n - i ≡ suc (n - suc i)
   one_less = omega arith
 
-  next-fine : judgedFrom (suc (n - suc i)) s k i t.row y ≡ Fine t.all
-  next-fine = ap (λ (j : ℕ). judgedFrom j s k i t.row y) (sym one_less) ∙ t.fine
+  next-fine : judged_from (suc (n - suc i)) s k i t.row y ≡ Fine t.all
+  next-fine = ap (λ (j : ℕ). judged_from j s k i t.row y) (sym one_less) ∙ t.fine
 
   next-passes : entry_at s k ≡ true
   next-passes = judged-entry (n - suc i) s k i t.row y t.all next-fine
@@ -217,8 +217,8 @@ module _ {s : List ℕ} {n : ℕ} {o₀ : Source} {y : Sizes} {k i : ℕ} {o : S
   next_small = omega (arith, next-within, t.many)
 
   -- the stores after it
-  next-long : AsLong o₀ (copiedEntry s k i y o)
-  unfolding copiedEntry
+  next-long : AsLong o₀ (copied_entry s k i y o)
+  unfolding copied_entry
   next-long =
       let m = t.long in
       let r = t.room in
@@ -231,12 +231,12 @@ module _ {s : List ℕ} {n : ℕ} {o₀ : Source} {y : Sizes} {k i : ℕ} {o : S
             length-over-at y.neg size.neg _ o.list.neg (length_run s (c + size.pos) size.neg) (omega (arith, next-most.neg, r.neg, m.neg))
             ∙ m.neg;
         bounds =
-            length-over-at y.bounds size.bounds _ o.bounds (length-floats s (k + 21) size.bounds)
+            length-over-at y.bounds size.bounds _ o.bounds (length_floats s (k + 21) size.bounds)
             (omega (arith, next-most.bounds, r.bounds, m.bounds))
             ∙ m.bounds;
       }
 
-  next-left : Left s n o₀ (more y size) (k + words_in size) (suc i) (copiedEntry s k i y o)
+  next-left : Left s n o₀ (more y size) (k + words_in size) (suc i) (copied_entry s k i y o)
   next-left =
       let f = next-few in
       record {
@@ -258,12 +258,12 @@ module _ {s : List ℕ} {n : ℕ} {o₀ : Source} {y : Sizes} {k i : ℕ} {o : S
     head-is : w ≡ head
     head-is = e ∙ head-run s k (omega (arith, next-within))
 
-    pub head-passes : headFine w ≡ true
-    head-passes = subst (λ (v : List ℕ). headFine v ≡ true) (sym head-is) (entry-head s k next-passes)
+    pub head-passes : head_fine w ≡ true
+    head-passes = subst (λ (v : List ℕ). head_fine v ≡ true) (sym head-is) (entry-head s k next-passes)
 
-    module _ (z : Sizes) (f : z ≡ sizesOf w) where
+    module _ (z : Sizes) (f : z ≡ sizes_of w) where
       size_is : size ≡ z
-      size_is = sym (f ∙ ap sizesOf head-is)
+      size_is = sym (f ∙ ap sizes_of head-is)
 
       most : AtMost (more y z) t.all
       most = subst (λ (v : Sizes). AtMost (more y v) t.all) size_is next-most
@@ -299,11 +299,11 @@ module _ {s : List ℕ} {n : ℕ} {o₀ : Source} {y : Sizes} {k i : ℕ} {o : S
       pub words_small : (m : ℕ) → m ≡ words_in z → k + m < 4294967296
       words_small m g = let v = g ∙ ap words_in (sym size_is) in omega (arith, next-within, t.many, v)
 
-      pub left-next : (y' : Sizes) (m : ℕ) (o' : Source) → y' ≡ more y z → m ≡ words_in z → o' ≡ copiedEntry s k i y o
+      pub left-next : (y' : Sizes) (m : ℕ) (o' : Source) → y' ≡ more y z → m ≡ words_in z → o' ≡ copied_entry s k i y o
           → Left s n o₀ y' (k + m) (i + 1) o'
       left-next y' m o' p q r =
           let a : more y size ≡ y' = ap (more y) size_is ∙ sym p in
           let b : k + words_in size ≡ k + m = ap (λ (j : ℕ). k + j) (ap words_in size_is ∙ sym q) in
           let c : suc i ≡ i + 1 = sym (add-one i) in
-          let d : copiedEntry s k i y o ≡ o' = sym r in
+          let d : copied_entry s k i y o ≡ o' = sym r in
           transport (λ j. Left s n o₀ (a j) (b j) (c j) (d j)) next-left

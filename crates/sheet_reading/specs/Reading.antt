@@ -5,8 +5,8 @@ use Rattle.std.proofs.Math.Option.{none, some}
 use Rattle.laws.specs.Pick.{pick}
 use Rattle.laws.specs.Said.{Said, refusal, success}
 use Rattle.pooling.specs.Lists.{Source}
-use Rattle.sheets.specs.Sheet.{Sheet, readSheet}
-use Rattle.sheets.specs.Lists.{laidOut, roomy}
+use Rattle.sheets.specs.Sheet.{Sheet, read_sheet}
+use Rattle.sheets.specs.Lists.{laid_out, roomy}
 use Rattle.sheet_reading.specs.declared.Answer.{Answer}
 use Rattle.sheet_reading.specs.declared.Answer.TheVariants.{Refused, Is}
 use Rattle.sheet_reading.specs.declared.Listed.{Listed}
@@ -25,9 +25,9 @@ ends r o = record { answer = r; lent = o }
 
 unfoldable pub reading_of : Sheet → Source → Outcome
 reading_of t o =
-    pick (roomy t.points o) (ends (success (record { header = t.header; points = length t.points })) (laidOut t.points o))
+    pick (roomy t.points o) (ends (success (record { header = t.header; points = length t.points })) (laid_out t.points o))
     (ends (refusal 10) o)
 
 -- "15, 10": refused, all as it was
 unfoldable pub reading : List ℕ → Source → Outcome
-reading s o = elim (readSheet s) [ none ↦ ends (refusal 15) o | some t ↦ reading_of t o ]
+reading s o = elim (read_sheet s) [ none ↦ ends (refusal 15) o | some t ↦ reading_of t o ]

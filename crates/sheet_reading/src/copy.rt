@@ -1,7 +1,7 @@
 // The points of a sheet that was judged fine, copied into a list in lent stores.
 ghost use Rattle.std.specs.Prelude.{◌≡◌};
 ghost use Rattle.pooling.specs.Lists.{source};
-ghost use Rattle.sheet_reading.specs.Inner.{nothing, copiedEntry, copied, EntryRoom, Copyable};
+ghost use Rattle.sheet_reading.specs.Inner.{nothing, copied_entry, copied, EntryRoom, Copyable};
 
 use crate::judge::{Sizes, sizes_of, words_in};
 use crate::words::{head_at, read_floats, row_at};
@@ -24,7 +24,7 @@ fn copy_entry(
 )
     requires { EntryRoom s.now k i y z w (source sets words pos neg bounds) }
     ensures { source sets.exit words.exit pos.exit neg.exit bounds.exit
-        ≡ copiedEntry s.now k i y (source sets.entry words.entry pos.entry neg.entry bounds.entry) }
+        ≡ copied_entry s.now k i y (source sets.entry words.entry pos.entry neg.entry bounds.entry) }
 {
     sets[i] = row_at(s, k);
     let b = y.bounds;

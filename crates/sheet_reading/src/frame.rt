@@ -1,14 +1,14 @@
 // Whether bytes are whole records with the right links and a header of this form: all that is asked before the points.
 ghost use Rattle.std.specs.Prelude.{◌≡◌, true, ◌≤◌, ◌<◌, length};
-ghost use Rattle.sheets.specs.Sheet.{infoIn, pointsIn, decoded};
-ghost use Rattle.sheets.specs.Inner.{goodShape, goodHeader, framed};
+ghost use Rattle.sheets.specs.Sheet.{info_in, points_in, decoded};
+ghost use Rattle.sheets.specs.Inner.{good_shape, good_header, framed};
 
 use records::chain::{cell, links_hold};
 use records::words::word_at;
 use sheets::Header;
 
 fn shape_holds(s: &[u8]) -> bool
-    ensures { result ≡ goodShape s.now }
+    ensures { result ≡ good_shape s.now }
 {
     if s.len() % 32 != 0 {
         return false;
@@ -23,15 +23,15 @@ fn shape_holds(s: &[u8]) -> bool
 // The upper half of the first word.
 fn info_in(s: &[u8]) -> u64
     requires { 8 ≤ length s.now }
-    ensures { (result ≡ infoIn s.now) × (result < 4294967296) }
+    ensures { (result ≡ info_in s.now) × (result < 4294967296) }
 {
     word_at(s, 0) / 4294967296
 }
 
 fn header_holds(s: &[u8], info: u64) -> bool
     requires in_bounds { 32 ≤ length s.now }
-    requires info_value { info ≡ infoIn s.now }
-    ensures { result ≡ goodHeader s.now }
+    requires info_value { info ≡ info_in s.now }
+    ensures { result ≡ good_header s.now }
 {
     if info % 256 != 0 {
         return false;
@@ -61,7 +61,7 @@ pub fn frame_holds(s: &[u8]) -> bool
 // How many points the header says.
 pub fn points_in(s: &[u8]) -> usize
     requires { framed s.now ≡ true }
-    ensures { result ≡ pointsIn s.now }
+    ensures { result ≡ points_in s.now }
 {
     (info_in(s) / 65536) as usize
 }

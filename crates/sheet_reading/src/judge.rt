@@ -1,15 +1,15 @@
 // Whether a sheet's entries are those of points that could have been written, and what they take: all that is asked before the first write.
 ghost use Rattle.std.specs.Prelude.{◌≡◌, true, ◌||◌, ◌+◌, ◌≤◌, eqb, length};
-ghost use Rattle.point.specs.Handing.{agreesAlone, storedIn};
-ghost use Rattle.listing.specs.Words.{pointIn};
-ghost use Rattle.sets.specs.Rows.{size, setOf, below};
+ghost use Rattle.point.specs.Handing.{agrees_alone, stored_in};
+ghost use Rattle.listing.specs.Words.{point_in};
+ghost use Rattle.sets.specs.Rows.{size, set_of, below};
 ghost use Rattle.tally.specs.Sets.{cmp};
 ghost use Rattle.records.specs.Records.{cells};
 ghost use Rattle.records.specs.Inner.{run};
-ghost use Rattle.sheets.specs.Sheet.{pointsIn};
-ghost use Rattle.sheets.specs.Inner.{framed, headFine, entry_at};
+ghost use Rattle.sheets.specs.Sheet.{points_in};
+ghost use Rattle.sheets.specs.Inner.{framed, head_fine, entry_at};
 ghost use Rattle.sheets.specs.Lists.{room_for};
-ghost use Rattle.sheet_reading.specs.Inner.{There, floatsAt, restHolds, sizesOf, words_in, more, Few, Addable, judged};
+ghost use Rattle.sheet_reading.specs.Inner.{There, floats_at, rest_holds, sizes_of, words_in, more, Few, Addable, judged};
 
 use crate::words::{head_at, read_floats, row_at};
 use records::chain::{are_zeros, read_run, width_of};
@@ -31,7 +31,7 @@ pub enum Judged {
 
 // Whether twelve words are a point's, in the form of a sheet, with no more bounds and counts than agreement allows.
 fn head_fine(w: [u64; 12]) -> bool
-    ensures { result ≡ headFine w }
+    ensures { result ≡ head_fine w }
 {
     if !listing::decode::is_point(w) {
         return false;
@@ -53,8 +53,8 @@ fn head_fine(w: [u64; 12]) -> bool
 
 // How many bounds and counts twelve words say.
 pub fn sizes_of(w: [u64; 12]) -> Sizes
-    requires { headFine w ≡ true }
-    ensures { result ≡ sizesOf w }
+    requires { head_fine w ≡ true }
+    ensures { result ≡ sizes_of w }
 {
     let b = listing::decode::bounds_of(w);
     let p = listing::decode::point_of(w);
@@ -77,7 +77,7 @@ pub fn words_in(z: Sizes) -> usize
 // Whether the point of twelve words agrees with itself, its bounds lying from word b on and its counts from word c on.
 fn point_agrees(s: &[u8], w: [u64; 12], z: Sizes, b: usize, c: usize) -> bool
     requires { Few z × There s.now b z.bounds × There s.now c (z.pos + z.neg) }
-    ensures { result ≡ agreesAlone (storedIn (pointIn w) (floatsAt s.now b z.bounds) (run s.now c z.pos) (run s.now (c + z.pos) z.neg)) }
+    ensures { result ≡ agrees_alone (stored_in (point_in w) (floats_at s.now b z.bounds) (run s.now c z.pos) (run s.now (c + z.pos) z.neg)) }
 {
     let mut own = [0.0f64; 159];
     let mut pos = [0u64; 160];
@@ -98,8 +98,8 @@ fn point_agrees(s: &[u8], w: [u64; 12], z: Sizes, b: usize, c: usize) -> bool
 
 // The rest of an entry: its filling, and whether its point agrees with itself.
 fn rest_holds(s: &[u8], w: [u64; 12], z: Sizes, k: usize) -> bool
-    requires { Few z × There s.now k (words_in z) × (z ≡ sizesOf w) }
-    ensures { result ≡ restHolds s.now w k }
+    requires { Few z × There s.now k (words_in z) × (z ≡ sizes_of w) }
+    ensures { result ≡ rest_holds s.now w k }
 {
     let b = k + 21;
     let c = b + width_of(z.bounds);
@@ -139,7 +139,7 @@ fn entry_holds(s: &[u8], many: usize, k: usize) -> bool
 // Whether the set of row b may stand at place i, behind that of row a.
 fn may_follow(i: usize, a: &[u64; 9], b: &[u64; 9]) -> bool
     requires { (size a.now ≤ 8) × (size b.now ≤ 8) }
-    ensures { result ≡ (eqb i 0 || below (cmp (setOf a.now) (setOf b.now))) }
+    ensures { result ≡ (eqb i 0 || below (cmp (set_of a.now) (set_of b.now))) }
 {
     if i == 0 {
         return true;
@@ -161,7 +161,7 @@ pub fn added(y: Sizes, z: Sizes) -> Sizes
 
 // What the n points of a sheet take together, if its entries are those of points that could have been written, and nothing else follows.
 pub fn judge(s: &[u8], n: usize) -> Judged
-    requires { (framed s.now ≡ true) × (n ≡ pointsIn s.now) }
+    requires { (framed s.now ≡ true) × (n ≡ points_in s.now) }
     ensures { result ≡ judged s.now }
 {
     let many = s.len() / 32 * 3;

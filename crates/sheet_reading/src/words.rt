@@ -1,7 +1,7 @@
 // The words of an entry, by value and into lent rows.
 ghost use Rattle.std.specs.Prelude.{◌≡◌, length};
 ghost use Rattle.records.specs.Inner.{run};
-ghost use Rattle.sheet_reading.specs.Inner.{floatsAt, There};
+ghost use Rattle.sheet_reading.specs.Inner.{floats_at, There};
 
 use records::chain::{cell, read_run};
 
@@ -28,7 +28,7 @@ pub fn head_at(s: &[u8], k: usize) -> [u64; 12]
 // The f64s whose bits are the words from k on, as many as the lent part has.
 pub fn read_floats(s: &[u8], k: usize, out: &mut [f64])
     requires { There s.now k (length out.old) }
-    ensures { out.new ≡ floatsAt s.now k (length out.old) }
+    ensures { out.new ≡ floats_at s.now k (length out.old) }
 {
     let mut i: usize = 0;
     while i < out.len() {

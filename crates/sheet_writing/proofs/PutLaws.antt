@@ -13,10 +13,10 @@ use Rattle.laws.specs.Over.{over}
 use Rattle.laws.specs.Tests.{all}
 use Rattle.laws.proofs.Bools.{flag, and_left, and_right, pick_true, pick-false}
 use Rattle.laws.proofs.Cases.{none-not-some, some_inj}
-use Rattle.floats.specs.Answers.{bitsOf}
-use Rattle.sets.specs.Rows.{setOf, row_of}
+use Rattle.floats.specs.Answers.{bits_of}
+use Rattle.sets.specs.Rows.{set_of, row_of}
 use Rattle.point.specs.Handing.{Stored}
-use Rattle.listing.specs.Listed.{stored_at, readFrom}
+use Rattle.listing.specs.Listed.{stored_at, read_from}
 use Rattle.listing.specs.declared.Cursor.{Cursor}
 use Rattle.listing.specs.declared.Entry as Listing
 use Rattle.listing.specs.declared.Found.{Found}
@@ -25,36 +25,36 @@ use Rattle.pooling.specs.Lists.{Source, whole_at}
 use Rattle.records.specs.Words.{bytes_of}
 use Rattle.records.specs.Records.{width, padded, chained}
 use Rattle.records.specs.Inner.{laid}
-use Rattle.records.proofs.Laid.{laid-append, laid-is}
-use Rattle.sheets.specs.Entries.{Entry, head_of, entryWords, entriesWords, entryFine}
-use Rattle.sheets.specs.Sheet.{Sheet, infoFor, payload, written, writable, same_list}
+use Rattle.records.proofs.Laid.{laid_append, laid-is}
+use Rattle.sheets.specs.Entries.{Entry, head_of, entry_words, entries_words, entry_fine}
+use Rattle.sheets.specs.Sheet.{Sheet, info_for, payload, written, writable, same_list}
 use Rattle.sheets.specs.declared.Header.{Header}
 use Rattle.sheets.proofs.SameLists.{same-says}
 use Rattle.sheets.proofs.Lengths.{length-entry, fine-few, points-fine, payload-whole, written-records, whole_length}
-use Rattle.sheet_writing.specs.Inner.{origin, width_at, pointWords, putFrom, putSheet}
-use Rattle.sheets.specs.Lists.{wholeFound, listed}
+use Rattle.sheet_writing.specs.Inner.{origin, width_at, point_words, put_from, put_sheet}
+use Rattle.sheets.specs.Lists.{whole_found, listed}
 use Rattle.sheet_writing.proofs.Steps.{long-bounds, long-pos, long-neg}
 use Rattle.sheet_writing.proofs.Walk.{put-more}
 
 -- ---- the first point of those read
 
 abbrev from : ℕ → Cursor → Source → Option (List Entry)
-from n at x = readFrom (wholeFound x.bounds) n at x.list
+from n at x = read_from (whole_found x.bounds) n at x.list
 
-abbrev rowHere : Cursor → Source → List ℕ
-rowHere at x = get_or x.list.sets at.place []
+abbrev row_here : Cursor → Source → List ℕ
+row_here at x = get_or x.list.sets at.place []
 
-abbrev entryHere : Cursor → Source → Listing.Entry → Entry
-entryHere at x e = (setOf (rowHere at x), stored_at at e x.bounds x.list)
+abbrev entry_here : Cursor → Source → Listing.Entry → Entry
+entry_here at x e = (set_of (row_here at x), stored_at at e x.bounds x.list)
 
 -- it is there, with its set's own row; then the others are read
 pub record Cut (n : ℕ) (at : Cursor) (x : Source) (es : List Entry) : Type 0 where
   pub e : Listing.Entry
   pub rest : List Entry
   pub whole : whole_at at x ≡ Is e
-  own : row_of (setOf (rowHere at x)) ≡ rowHere at x
+  own : row_of (set_of (row_here at x)) ≡ row_here at x
   pub read : from n e.next x ≡ some rest
-  are : entryHere at x e ∷ rest ≡ es
+  are : entry_here at x e ∷ rest ≡ es
 
 mapped : (e : Entry) (y : Option (List Entry)) (es : List Entry) → Option.map (λ l. e ∷ l) y ≡ some es → (l : List Entry) × (y ≡ some l) × (e ∷ l ≡ es)
 mapped e none es h = none-not-some h
@@ -62,23 +62,23 @@ mapped e (some l) es h = (l, refl, some_inj h)
 
 module _ (n : ℕ) (at : Cursor) (x : Source) (es : List Entry) where
   abbrev test : Bool
-  test = ltb at.place (length x.list.sets) && same_list (row_of (setOf (rowHere at x))) (rowHere at x)
+  test = ltb at.place (length x.list.sets) && same_list (row_of (set_of (row_here at x))) (row_here at x)
 
   abbrev found : Found → Option (Stored × Cursor)
   found f = elim f [ NoPoint ↦ none | Is e ↦ some (stored_at at e x.bounds x.list, e.next) ]
 
   abbrev reading : Option (Stored × Cursor) → Option (List Entry)
-  reading y = elim y [ none ↦ none | some z ↦ Option.map (λ l. (setOf (rowHere at x), z.0) ∷ l) (from n z.1 x) ]
+  reading y = elim y [ none ↦ none | some z ↦ Option.map (λ l. (set_of (row_here at x), z.0) ∷ l) (from n z.1 x) ]
 
   by-found : test ≡ true → (f : Found) → whole_at at x ≡ f → reading (found f) ≡ some es → Cut n at x es
   by-found t NoPoint w h = none-not-some h
   by-found t (Is e) w h =
-      let m = mapped (entryHere at x e) (from n e.next x) es h in
+      let m = mapped (entry_here at x e) (from n e.next x) es h in
       record {
         e = e;
         rest = m.0;
         whole = w;
-        own = same-says (row_of (setOf (rowHere at x))) (rowHere at x) (and_right (ltb at.place (length x.list.sets)) _ t);
+        own = same-says (row_of (set_of (row_here at x))) (row_here at x) (and_right (ltb at.place (length x.list.sets)) _ t);
         read = m.1;
         are = m.2;
       }
@@ -99,42 +99,42 @@ read-many (suc n) at x es h =
 -- ---- its words
 
 module _ (at : Cursor) (x : Source) (e : Listing.Entry) (w : whole_at at x ≡ Is e) where
-  words_are : row_of (setOf (rowHere at x)) ≡ rowHere at x → pointWords at (rowHere at x) x e ≡ entryWords (entryHere at x e)
-  unfolding entryWords
+  words_are : row_of (set_of (row_here at x)) ≡ row_here at x → point_words at (row_here at x) x e ≡ entry_words (entry_here at x e)
+  unfolding entry_words
   words_are o =
       let p = stored_at at e x.bounds x.list in
-      ap (λ (r : List ℕ). r ++ (head_of p ++ (padded (map bitsOf p.bounds) ++ padded (p.pos ++ p.neg)))) (sym o)
+      ap (λ (r : List ℕ). r ++ (head_of p ++ (padded (map bits_of p.bounds) ++ padded (p.pos ++ p.neg)))) (sym o)
 
-  words-many : entryFine (entryHere at x e) ≡ true → length (entryWords (entryHere at x e)) ≡ width_at at e
+  words-many : entry_fine (entry_here at x e) ≡ true → length (entry_words (entry_here at x e)) ≡ width_at at e
   words-many f =
-      length-entry (entryHere at x e) (fine-few (entryHere at x e) f)
+      length-entry (entry_here at x e) (fine-few (entry_here at x e) f)
       ∙ (λ i. 21 + (width (long-bounds at x e w i) + width (long-pos at x e w i + long-neg at x e w i)))
 
 -- ---- all of them put
 
-put-from : (n : ℕ) (at : Cursor) (x : Source) (es : List Entry) → from n at x ≡ some es → all entryFine es ≡ true → (info records k : ℕ) (s : List ℕ)
-    → putFrom n at info records k x s ≡ laid info records k (entriesWords es) s
+put-from : (n : ℕ) (at : Cursor) (x : Source) (es : List Entry) → from n at x ≡ some es → all entry_fine es ≡ true → (info records k : ℕ) (s : List ℕ)
+    → put_from n at info records k x s ≡ laid info records k (entries_words es) s
 unfolding laid
-put-from zero at x es h f info records k s = ap (λ (l : List Entry). laid info records k (entriesWords l) s) (some_inj h)
+put-from zero at x es h f info records k s = ap (λ (l : List Entry). laid info records k (entries_words l) s) (some_inj h)
 put-from (suc n) at x es h f info records k s =
     let c = cut n at x es h in
-    let d = entryHere at x c.e in
-    let g : all entryFine (d ∷ c.rest) ≡ true = ap (all entryFine) c.are ∙ f in
+    let d = entry_here at x c.e in
+    let g : all entry_fine (d ∷ c.rest) ≡ true = ap (all entry_fine) c.are ∙ f in
     let a = words_are at x c.e c.whole c.own in
-    let b = words-many at x c.e c.whole (and_left (entryFine d) (all entryFine c.rest) g) in
+    let b = words-many at x c.e c.whole (and_left (entry_fine d) (all entry_fine c.rest) g) in
     put-more n at info records k x s c.e c.whole
-    ∙ put-from n c.e.next x c.rest c.read (and_right (entryFine d) (all entryFine c.rest) g) info records _ _
-    ∙ ap₂ (λ (m : ℕ) (u : List ℕ). laid info records (k + m) (entriesWords c.rest) (laid info records k u s)) (sym b) a
-    ∙ sym (laid-append info records k (entryWords d) (entriesWords c.rest) s)
-    ∙ ap (λ (l : List Entry). laid info records k (entriesWords l) s) c.are
+    ∙ put-from n c.e.next x c.rest c.read (and_right (entry_fine d) (all entry_fine c.rest) g) info records _ _
+    ∙ ap₂ (λ (m : ℕ) (u : List ℕ). laid info records (k + m) (entries_words c.rest) (laid info records k u s)) (sym b) a
+    ∙ sym (laid_append info records k (entry_words d) (entries_words c.rest) s)
+    ∙ ap (λ (l : List Entry). laid info records k (entries_words l) s) c.are
 
 module _ (h : Header) (n records cells : ℕ) (x : Source) (es : List Entry) (read : listed n x ≡ some es)
-    (fine : writable (record { header = h; points = es }) ≡ true) (many : length (entriesWords es) ≡ cells) (counted : records ≡ cells / 3 + 1) where
+    (fine : writable (record { header = h; points = es }) ≡ true) (many : length (entries_words es) ≡ cells) (counted : records ≡ cells / 3 + 1) where
   abbrev t : Sheet
   t = record { header = h; points = es }
 
   abbrev info : ℕ
-  info = infoFor h n
+  info = info_for h n
 
   abbrev first : List ℕ
   first = h.start ∷ h.time ∷ 0 ∷ []
@@ -147,12 +147,12 @@ module _ (h : Header) (n records cells : ℕ) (x : Source) (es : List Entry) (re
 
   bytes-are : bytes_of (chained info 0 (payload t)) ≡ written t
   unfolding written
-  bytes-are = ap (λ (m : ℕ). bytes_of (chained (infoFor h m) 0 (payload t))) (sym (read-many n origin x es read))
+  bytes-are = ap (λ (m : ℕ). bytes_of (chained (info_for h m) 0 (payload t))) (sym (read-many n origin x es read))
 
-  pub put_is : (s : List ℕ) → records * 32 ≤ length s → putSheet h n records x s ≡ over (written (record { header = h; points = es })) s
-  unfolding putSheet over
+  pub put_is : (s : List ℕ) → records * 32 ≤ length s → put_sheet h n records x s ≡ over (written (record { header = h; points = es })) s
+  unfolding put_sheet over
   put_is s room =
       put-from n origin x es read (points-fine t fine) info records 3 (laid info records 0 first s)
-      ∙ sym (laid-append info records 0 first (entriesWords es) s)
+      ∙ sym (laid_append info records 0 first (entries_words es) s)
       ∙ laid-is info records (payload-whole t fine) thirds s room
       ∙ ap₂ (λ (u : List ℕ) (m : ℕ). u ++ drop m s) bytes-are (sym written-long)

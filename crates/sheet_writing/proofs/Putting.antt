@@ -8,10 +8,10 @@ use lib.ListN.{length, get_or, take, drop, replicate, length-drop, length-map, g
 use lib.Seq.{length-take-le}
 use lib.Ieee.{Float}
 use Rattle.laws.specs.Pick.{pick}
-use Rattle.floats.specs.Answers.{bitsOf}
-use Rattle.point.specs.Handing.{Stored, storedIn}
+use Rattle.floats.specs.Answers.{bits_of}
+use Rattle.point.specs.Handing.{Stored, stored_in}
 use Rattle.point.specs.declared.Point.{Point}
-use Rattle.listing.specs.Listed.{boundsAt, rowAt}
+use Rattle.listing.specs.Listed.{bounds_at, row_at}
 use Rattle.listing.specs.declared.Cursor.{Cursor}
 use Rattle.listing.specs.declared.Entry.{Entry}
 use Rattle.pooling.specs.Entries.{Whole}
@@ -20,7 +20,7 @@ use Rattle.sheets.specs.Entries.{head_of}
 use Rattle.sheet_writing.specs.Inner.{width_at}
 use Rattle.records.specs.Records.{padded, width}
 use Rattle.records.specs.Inner.{laid, emitted}
-use Rattle.records.proofs.Laid.{laid-append, turn-run}
+use Rattle.records.proofs.Laid.{laid_append, turn-run}
 use Rattle.records.proofs.Padded.{padded-is, entry-laid}
 
 -- inside a list the default does not matter
@@ -29,13 +29,13 @@ inside [] i a b h = absurd (omega arith)
 inside (x ∷ l) zero a b h = refl
 inside (x ∷ l) (suc i) a b h = inside l i a b (omega arith)
 
-pub turn-floats : (info n k : ℕ) (xs : List Float) (d : Float) (s₀ s s' : List ℕ) (i : ℕ) → i < length xs
-    → s ≡ laid info n k (take i (map bitsOf xs)) s₀ → s' ≡ emitted info n (k + i) (bitsOf (get_or xs i d)) s
-    → s' ≡ laid info n k (take (i + 1) (map bitsOf xs)) s₀
-turn-floats info n k xs d s₀ s s' i h e f =
-    let l : i < length (map bitsOf xs) = omega (arith, length-map xs bitsOf) in
-    let g : bitsOf (get_or xs i d) ≡ get_or (map bitsOf xs) i 0 = sym (get_or-map bitsOf xs i d) ∙ inside (map bitsOf xs) i (bitsOf d) 0 l in
-    turn-run info n k (map bitsOf xs) s₀ s s' i l e (f ∙ ap (λ (x : ℕ). emitted info n (k + i) x s) g)
+pub turn_floats : (info n k : ℕ) (xs : List Float) (d : Float) (s₀ s s' : List ℕ) (i : ℕ) → i < length xs
+    → s ≡ laid info n k (take i (map bits_of xs)) s₀ → s' ≡ emitted info n (k + i) (bits_of (get_or xs i d)) s
+    → s' ≡ laid info n k (take (i + 1) (map bits_of xs)) s₀
+turn_floats info n k xs d s₀ s s' i h e f =
+    let l : i < length (map bits_of xs) = omega (arith, length-map xs bits_of) in
+    let g : bits_of (get_or xs i d) ≡ get_or (map bits_of xs) i 0 = sym (get_or-map bits_of xs i d) ∙ inside (map bits_of xs) i (bits_of d) 0 l in
+    turn-run info n k (map bits_of xs) s₀ s s' i l e (f ∙ ap (λ (x : ℕ). emitted info n (k + i) x s) g)
 
 -- a run, and zeros up to whole records
 pub run-laid : (info n k m : ℕ) (xs s₀ s₁ s₂ : List ℕ) → length xs ≡ m → s₁ ≡ laid info n k xs s₀
@@ -44,7 +44,7 @@ run-laid info n k m xs s₀ s₁ s₂ l a b =
     let z : ℕ → List ℕ = λ (j : ℕ). replicate (width j - j) 0 in
     b
     ∙ ap₂ (λ (j : ℕ) (u : List ℕ). laid info n (k + j) (replicate (width j - j) 0) u) (sym l) a
-    ∙ sym (laid-append info n k xs (z (length xs)) s₀)
+    ∙ sym (laid_append info n k xs (z (length xs)) s₀)
     ∙ ap (λ (u : List ℕ). laid info n k u s₀) (sym (padded-is xs))
 
 -- a point: row, head, bounds and counts one behind the other
@@ -59,24 +59,24 @@ module _ (info n k m : ℕ) (row head bits pos neg s₀ s₁ s₂ s₃ s₄ : Li
       (ap (λ (u : ℕ). k + 21 + width u) (sym z)) d
 
 -- the words of a point, as `put_point` has them
-abbrev wordsWith : List ℕ → Stored → List ℕ
-wordsWith row p = row ++ (head_of p ++ (padded (map bitsOf p.bounds) ++ padded (p.pos ++ p.neg)))
+abbrev words_with : List ℕ → Stored → List ℕ
+words_with row p = row ++ (head_of p ++ (padded (map bits_of p.bounds) ++ padded (p.pos ++ p.neg)))
 
 pub found-laid : (info n k : ℕ) (row : List ℕ) (p : Point) (bs bs' : List Float) (xs xs' ys ys' s s' : List ℕ) → bs ≡ bs' → xs ≡ xs' → ys ≡ ys'
-    → s' ≡ laid info n k (wordsWith row (storedIn p bs xs ys)) s → s' ≡ laid info n k (wordsWith row (storedIn p bs' xs' ys')) s
-found-laid info n k row p bs bs' xs xs' ys ys' s s' a b c h = h ∙ (λ i. laid info n k (wordsWith row (storedIn p (a i) (b i) (c i))) s)
+    → s' ≡ laid info n k (words_with row (stored_in p bs xs ys)) s → s' ≡ laid info n k (words_with row (stored_in p bs' xs' ys')) s
+found-laid info n k row p bs bs' xs xs' ys ys' s s' a b c h = h ∙ (λ i. laid info n k (words_with row (stored_in p (a i) (b i) (c i))) s)
 
 -- as long as the cursors say
 found_rows : (at : Cursor) (e : Entry) (pos neg : List ℕ) (n : ℕ) → Whole at e (length pos) (length neg) n
-    → (length (rowAt at e.next false pos neg) ≡ e.next.pos - at.pos) × (length (rowAt at e.next true pos neg) ≡ e.next.neg - at.neg)
+    → (length (row_at at e.next false pos neg) ≡ e.next.pos - at.pos) × (length (row_at at e.next true pos neg) ≡ e.next.neg - at.neg)
 unfolding pick
 found_rows at e pos neg n w = (
-  length-take-le (e.next.pos - at.pos) (drop at.pos pos) (omega (arith, length-drop at.pos pos, w.posEnd)),
-  length-take-le (e.next.neg - at.neg) (drop at.neg neg) (omega (arith, length-drop at.neg neg, w.negEnd)),
+  length-take-le (e.next.pos - at.pos) (drop at.pos pos) (omega (arith, length-drop at.pos pos, w.pos_end)),
+  length-take-le (e.next.neg - at.neg) (drop at.neg neg) (omega (arith, length-drop at.neg neg, w.neg_end)),
 )
 
 pub found-width : (at : Cursor) (e : Entry) (pos neg xs ys : List ℕ) (bounds bs : List Float) → Whole at e (length pos) (length neg) (length bounds)
-    → bs ≡ boundsAt e.bounds bounds → xs ≡ rowAt at e.next false pos neg → ys ≡ rowAt at e.next true pos neg
+    → bs ≡ bounds_at e.bounds bounds → xs ≡ row_at at e.next false pos neg → ys ≡ row_at at e.next true pos neg
     → 21 + (width (length bs) + width (length xs + length ys)) ≡ width_at at e
 found-width at e pos neg xs ys bounds bs w b x y =
     let r = found_rows at e pos neg (length bounds) w in

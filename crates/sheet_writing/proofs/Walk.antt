@@ -14,11 +14,11 @@ use Rattle.listing.specs.declared.Found.{Found}
 use Rattle.listing.specs.declared.Found.TheVariants.{NoPoint, Is}
 use Rattle.pooling.specs.Lists.{Source, whole_at}
 use Rattle.records.specs.Inner.{laid}
-use Rattle.sheets.specs.Sheet.{infoFor}
+use Rattle.sheets.specs.Sheet.{info_for}
 use Rattle.sheets.specs.declared.Header.{Header}
 use Rattle.sheets.proofs.Lengths.{payload-whole, whole_length}
 use Rattle.sheet_writing.specs.declared.judge.Judged.TheVariants.{Fine}
-use Rattle.sheet_writing.specs.Inner.{origin, stepAt, width_at, judgedFrom, pointWords, putFrom, putSheet, Judgement}
+use Rattle.sheet_writing.specs.Inner.{origin, step_at, width_at, judged_from, point_words, put_from, put_sheet, Judgement}
 use Rattle.sheet_writing.proofs.Steps.{present, step-passed, whole-next, from_more}
 use Rattle.sheet_writing.proofs.Judged.{judged-fine, from-fine, from-few, judged-few}
 
@@ -27,18 +27,18 @@ same-entry h = cc
 
 -- one point more
 pub put-more : (m : ℕ) (at : Cursor) (info records k : ℕ) (x : Source) (s : List ℕ) (e : Entry) → whole_at at x ≡ Is e
-    → putFrom (suc m) at info records k x s
-    ≡ putFrom m e.next info records (k + width_at at e) x (laid info records k (pointWords at (get_or x.list.sets at.place []) x e) s)
+    → put_from (suc m) at info records k x s
+    ≡ put_from m e.next info records (k + width_at at e) x (laid info records k (point_words at (get_or x.list.sets at.place []) x e) s)
 put-more m at info records k x s d h = ap (λ (f : Found). elim f [
   | NoPoint ↦ s
-  | Is e ↦ putFrom m e.next info records (k + width_at at e) x (laid info records k (pointWords at (get_or x.list.sets at.place []) x e) s)
+  | Is e ↦ put_from m e.next info records (k + width_at at e) x (laid info records k (point_words at (get_or x.list.sets at.place []) x e) s)
 ]) h
 
 -- ---- before turn i of n, at word k of a sheet of so many records: what is left is fine too
 
 pub record Left (n i records : ℕ) (at : Cursor) (k : ℕ) (x : Source) : Type 0 where
   pub cells : ℕ
-  pub fine : judgedFrom (n - i) at (k - 3) x ≡ Fine cells
+  pub fine : judged_from (n - i) at (k - 3) x ≡ Fine cells
   pub fits : records * 3 ≡ cells + 3
   pub few : records ≤ 7297
   pub most : n ≤ 64
@@ -53,7 +53,7 @@ left-start h n records x s j =
     let e : n - 0 ≡ n = omega arith in
     record {
       cells = j.cells;
-      fine = ap (λ (m : ℕ). judgedFrom m origin 0 x) e ∙ f.1;
+      fine = ap (λ (m : ℕ). judged_from m origin 0 x) e ∙ f.1;
       fits = omega (arith, j.counted, p.words, whole_length (payload-whole (record { header = h; points = p.es }) p.fine));
       few = omega (arith, j.counted, f.2);
       most = f.0;
@@ -63,8 +63,8 @@ left-start h n records x s j =
     }
 
 module _ (n i records : ℕ) (at : Cursor) (k : ℕ) (x : Source) (l : Left n i records at k x) (h : i < n) where
-  more : judgedFrom (suc (n - (i + 1))) at (k - 3) x ≡ Fine l.cells
-  more = let m : suc (n - (i + 1)) ≡ n - i = omega arith in ap (λ (j : ℕ). judgedFrom j at (k - 3) x) m ∙ l.fine
+  more : judged_from (suc (n - (i + 1))) at (k - 3) x ≡ Fine l.cells
+  more = let m : suc (n - (i + 1)) ≡ n - i = omega arith in ap (λ (j : ℕ). judged_from j at (k - 3) x) m ∙ l.fine
 
   -- there is a point
   pub turn-none : {A : Type 0} → whole_at at x ≡ NoPoint → A
@@ -73,12 +73,12 @@ module _ (n i records : ℕ) (at : Cursor) (k : ℕ) (x : Source) (l : Left n i 
       true-not-false (sym (ap present (step-passed at x t.e t.step).whole) ∙ ap present w)
 
   module _ (e : Entry) (w : whole_at at x ≡ Is e) where
-    pub turn_step : stepAt at x ≡ Is e
+    pub turn_step : step_at at x ≡ Is e
     turn_step =
         let t = from-fine x l.cells (n - (i + 1)) at (k - 3) more in
         t.step ∙ ap (λ (d : Entry). Is d) (same-entry (sym (step-passed at x t.e t.step).whole ∙ w))
 
-    rest : judgedFrom (n - (i + 1)) e.next (k - 3 + width_at at e) x ≡ Fine l.cells
+    rest : judged_from (n - (i + 1)) e.next (k - 3 + width_at at e) x ≡ Fine l.cells
     rest = sym (from_more (n - (i + 1)) at (k - 3) x e turn_step) ∙ more
 
     -- its set's row is there
@@ -97,7 +97,7 @@ module _ (n i records : ℕ) (at : Cursor) (k : ℕ) (x : Source) (l : Left n i 
           let j : k + v - 3 ≡ k - 3 + width_at at e = omega (arith, l.start, same) in
           record {
             cells = l.cells;
-            fine = ap (λ (u : ℕ). judgedFrom (n - (i + 1)) e.next u x) j ∙ rest;
+            fine = ap (λ (u : ℕ). judged_from (n - (i + 1)) e.next u x) j ∙ rest;
             fits = l.fits;
             few = l.few;
             most = l.most;
@@ -106,28 +106,28 @@ module _ (n i records : ℕ) (at : Cursor) (k : ℕ) (x : Source) (l : Left n i 
             start = omega (arith, l.start);
           }
 
-      pub turn-put : (info : ℕ) (s s' : List ℕ) → s' ≡ laid info records k (pointWords at (get_or x.list.sets i []) x e) s
-          → putFrom (n - i) at info records k x s ≡ putFrom (n - (i + 1)) e.next info records (k + v) x s'
+      pub turn-put : (info : ℕ) (s s' : List ℕ) → s' ≡ laid info records k (point_words at (get_or x.list.sets i []) x e) s
+          → put_from (n - i) at info records k x s ≡ put_from (n - (i + 1)) e.next info records (k + v) x s'
       turn-put info s s' p =
           let m : n - i ≡ suc (n - (i + 1)) = omega arith in
-          let q : laid info records k (pointWords at (get_or x.list.sets at.place []) x e) s ≡ s' =
-          ap (λ (j : ℕ). laid info records k (pointWords at (get_or x.list.sets j []) x e) s) l.place ∙ sym p in
-          ap (λ (j : ℕ). putFrom j at info records k x s) m
+          let q : laid info records k (point_words at (get_or x.list.sets at.place []) x e) s ≡ s' =
+          ap (λ (j : ℕ). laid info records k (point_words at (get_or x.list.sets j []) x e) s) l.place ∙ sym p in
+          ap (λ (j : ℕ). put_from j at info records k x s) m
           ∙ put-more (n - (i + 1)) at info records k x s e w
-          ∙ ap₂ (λ (u : ℕ) (t : List ℕ). putFrom (n - (i + 1)) e.next info records (k + u) x t) (sym same) q
+          ∙ ap₂ (λ (u : ℕ) (t : List ℕ). put_from (n - (i + 1)) e.next info records (k + u) x t) (sym same) q
 
 -- ---- before the first turn, and after the last
 
-pub put-start : (n : ℕ) (at : Cursor) (info records k : ℕ) (x : Source) (s : List ℕ) → putFrom n at info records k x s ≡ putFrom (n - 0) at info records k x s
-put-start n at info records k x s = let e : n ≡ n - 0 = omega arith in ap (λ (m : ℕ). putFrom m at info records k x s) e
+pub put-start : (n : ℕ) (at : Cursor) (info records k : ℕ) (x : Source) (s : List ℕ) → put_from n at info records k x s ≡ put_from (n - 0) at info records k x s
+put-start n at info records k x s = let e : n ≡ n - 0 = omega arith in ap (λ (m : ℕ). put_from m at info records k x s) e
 
 module _ (h : Header) (n info records : ℕ) (x : Source) (s s₀ s₁ : List ℕ) where
-  pub sheet-put : info ≡ infoFor h n → s₀ ≡ laid info records 0 (h.start ∷ h.time ∷ 0 ∷ []) s → (i : ℕ) → n ≤ i → (at : Cursor) (k : ℕ)
-      → putFrom n origin info records 3 x s₀ ≡ putFrom (n - i) at info records k x s₁ → s₁ ≡ putSheet h n records x s
-  unfolding putSheet
+  pub sheet-put : info ≡ info_for h n → s₀ ≡ laid info records 0 (h.start ∷ h.time ∷ 0 ∷ []) s → (i : ℕ) → n ≤ i → (at : Cursor) (k : ℕ)
+      → put_from n origin info records 3 x s₀ ≡ put_from (n - i) at info records k x s₁ → s₁ ≡ put_sheet h n records x s
+  unfolding put_sheet
   sheet-put a b i l at k c =
       let e : 0 ≡ n - i = omega arith in
-      ap (λ (m : ℕ). putFrom m at info records k x s₁) e
+      ap (λ (m : ℕ). put_from m at info records k x s₁) e
       ∙ sym c
-      ∙ ap (putFrom n origin info records 3 x) b
-      ∙ ap (λ (j : ℕ). putFrom n origin j records 3 x (laid j records 0 (h.start ∷ h.time ∷ 0 ∷ []) s)) a
+      ∙ ap (put_from n origin info records 3 x) b
+      ∙ ap (λ (j : ℕ). put_from n origin j records 3 x (laid j records 0 (h.start ∷ h.time ∷ 0 ∷ []) s)) a

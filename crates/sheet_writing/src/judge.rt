@@ -2,7 +2,7 @@
 ghost use Rattle.std.specs.Prelude.{◌≡◌, ◌-◌};
 ghost use Rattle.pooling.specs.Lists.{source, nameless, bounded, whole_at};
 ghost use Rattle.sheet_writing.specs.Writing.{shadowed};
-ghost use Rattle.sheet_writing.specs.Inner.{follows, rowTaken, shadowFound, lentBeside, agreeing, stepAt, Spanned, width_at, judged, noKind};
+ghost use Rattle.sheet_writing.specs.Inner.{follows, row_taken, shadow_found, lent_beside, agreeing, step_at, Spanned, width_at, judged, no_kind};
 
 use listing::{Cursor, Entry, Found};
 
@@ -41,7 +41,7 @@ fn before(i: usize) -> usize
 
 // Whether a place has the row of a set that may be written there.
 fn row_taken(i: usize, sets: &[[u64; 9]]) -> bool
-    ensures { result ≡ rowTaken i sets.now }
+    ensures { result ≡ row_taken i sets.now }
 {
     if sets.len() <= i {
         return false;
@@ -56,7 +56,7 @@ fn row_taken(i: usize, sets: &[[u64; 9]]) -> bool
 
 // The shadow of a point of i64 values that was found, if its bounds lie in a store of so many.
 fn shadow_found(many: usize, found: whole_listing::Found) -> Found
-    ensures { result ≡ bounded many (shadowFound found) }
+    ensures { result ≡ bounded many (shadow_found found) }
 {
     match found {
         whole_listing::Found::NoPoint => Found::NoPoint,
@@ -96,7 +96,7 @@ fn agreeing_at<'a>(
     neg: &'a [u64],
     bounds: &[f64],
 ) -> Found
-    ensures { result ≡ agreeing at (lentBeside pos.entry neg.entry bounds.entry) found }
+    ensures { result ≡ agreeing at (lent_beside pos.entry neg.entry bounds.entry) found }
 {
     match found {
         Found::NoPoint => Found::NoPoint,
@@ -123,7 +123,7 @@ fn step_at<'a>(
     neg: &'a [u64],
     bounds: &[f64],
 ) -> Found
-    ensures { result ≡ stepAt at (shadowed (source sets.entry words.entry pos.entry neg.entry bounds.entry)) }
+    ensures { result ≡ step_at at (shadowed (source sets.entry words.entry pos.entry neg.entry bounds.entry)) }
 {
     if !row_taken(at.place, sets) {
         return Found::NoPoint;
@@ -177,7 +177,7 @@ pub fn judge<'a>(
 
 // Whether no words of the first n have the kind of a point of i64 values; of points that were judged fine: whether none is one.
 pub fn no_kind(n: usize, words: &[[u64; 12]]) -> bool
-    ensures { result ≡ noKind n words.now }
+    ensures { result ≡ no_kind n words.now }
 {
     let mut i: usize = 0;
     while i < n {

@@ -1,13 +1,13 @@
 // Points of a list that were judged fine, put into the records of a sheet.
 ghost use Rattle.std.specs.Prelude.{◌≡◌, [], ◌∷◌, ◌++◌, map, ◌+◌, ◌*◌, ◌≤◌, ◌<◌, length};
-ghost use Rattle.floats.specs.Answers.{bitsOf};
+ghost use Rattle.floats.specs.Answers.{bits_of};
 ghost use Rattle.records.specs.Records.{padded, width};
 ghost use Rattle.records.specs.Inner.{laid, Room};
 ghost use Rattle.sheets.specs.Entries.{head_of};
-ghost use Rattle.sheets.specs.Sheet.{infoFor};
+ghost use Rattle.sheets.specs.Sheet.{info_for};
 ghost use Rattle.pooling.specs.Lists.{source};
 ghost use Rattle.point.specs.Handing.{stored};
-ghost use Rattle.sheet_writing.specs.Inner.{lentBeside, width_at, pointWords, wholeThere, Judgement, putSheet};
+ghost use Rattle.sheet_writing.specs.Inner.{lent_beside, width_at, point_words, whole_there, Judgement, put_sheet};
 
 use listing::{Cursor, Entry, Found, Span};
 use point::Point;
@@ -18,7 +18,7 @@ use sheets::Header;
 fn emit_floats(s: &mut [u8], info: u64, n: usize, k: usize, xs: &[f64])
     requires room { Room info n s.old }
     requires xs_bound { k + length xs.now ≤ n * 3 }
-    ensures { s.new ≡ laid info n k (map bitsOf xs.now) s.old }
+    ensures { s.new ≡ laid info n k (map bits_of xs.now) s.old }
 {
     let mut i: usize = 0;
     while i < xs.len() {
@@ -31,7 +31,7 @@ fn emit_floats(s: &mut [u8], info: u64, n: usize, k: usize, xs: &[f64])
 fn put_bounds(s: &mut [u8], info: u64, n: usize, k: usize, xs: &[f64])
     requires room { Room info n s.old }
     requires xs_bound { k + width (length xs.now) ≤ n * 3 }
-    ensures { s.new ≡ laid info n k (padded (map bitsOf xs.now)) s.old }
+    ensures { s.new ≡ laid info n k (padded (map bits_of xs.now)) s.old }
 {
     let a = xs.len();
     let w = width_of(a);
@@ -68,7 +68,7 @@ fn put_point(
     requires room { Room info n s.old }
     requires neg_bound { k + (21 + (width (length bounds.now) + width (length pos.now + length neg.now))) ≤ n * 3 }
     ensures { s.new ≡ laid info n k (row.now ++ (head_of (stored p bounds.entry pos.entry neg.entry)
-        ++ (padded (map bitsOf bounds.now) ++ padded (pos.now ++ neg.now)))) s.old }
+        ++ (padded (map bits_of bounds.now) ++ padded (pos.now ++ neg.now)))) s.old }
 {
     let span = Span {
         start: 0,
@@ -95,9 +95,9 @@ fn put_found<'a>(
     bounds: &[f64],
 )
     requires room { Room info n s.old }
-    requires whole_there { wholeThere at e pos neg bounds }
+    requires whole_there { whole_there at e pos neg bounds }
     requires e_bound { k + width_at at e ≤ n * 3 }
-    ensures { s.new ≡ laid info n k (pointWords at row.now (lentBeside pos.entry neg.entry bounds.entry) e) s.old }
+    ensures { s.new ≡ laid info n k (point_words at row.now (lent_beside pos.entry neg.entry bounds.entry) e) s.old }
 {
     let p = e.point;
     let next = e.next;
@@ -110,7 +110,7 @@ fn put_found<'a>(
 // The upper half of the first word.
 fn info_of(h: Header, points: usize) -> u64
     requires { points < 65536 }
-    ensures { (result ≡ infoFor h points) × (result < 4294967296) }
+    ensures { (result ≡ info_for h points) × (result < 4294967296) }
 {
     if h.delta {
         return 256 + 65536 * points as u64;
@@ -142,7 +142,7 @@ pub fn put_sheet<'a>(
     s: &mut [u8],
 )
     requires { Judgement n records (source sets words pos neg bounds) s.old }
-    ensures { s.new ≡ putSheet h n records (source sets.entry words.entry pos.entry neg.entry bounds.entry) s.old }
+    ensures { s.new ≡ put_sheet h n records (source sets.entry words.entry pos.entry neg.entry bounds.entry) s.old }
 {
     let info = info_of(h, n);
     put_header(s, info, records, h);

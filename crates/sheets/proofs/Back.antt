@@ -18,29 +18,29 @@ use Rattle.laws.specs.Lists.{All}
 use Rattle.laws.specs.Tests.{all}
 use Rattle.laws.proofs.Bools.{flag, and_left, and_right, and_intro, beq-says, pick_true, pick-false}
 use Rattle.laws.proofs.Cases.{some_inj, none-not-some}
-use Rattle.index.specs.Bins.{finest, lowestBin, endBin}
-use Rattle.floats.specs.Answers.{isShown, bitsOf}
+use Rattle.index.specs.Bins.{finest, lowest_bin, end_bin}
+use Rattle.floats.specs.Answers.{is_shown, bits_of}
 use Rattle.floats.specs.declared.Extreme.{Extreme}
-use Rattle.points.specs.Figures.{mostSize}
-use Rattle.points.specs.Handed.{countsAgree, finiteOrNone, shownAsDue, extremesAgree}
+use Rattle.points.specs.Figures.{most_size}
+use Rattle.points.specs.Handed.{counts_agree, finite_or_none, shown_as_due, extremes_agree}
 use Rattle.points.proofs.Agreement.{agrees-says}
 use Rattle.exponential.specs.Series.{read}
-use Rattle.point.specs.Handing.{Stored, storedIn, countsAs, figuresShaped}
+use Rattle.point.specs.Handing.{Stored, stored_in, counts_as, figures_shaped}
 use Rattle.point.specs.declared.Point.{Point}
 use Rattle.point.specs.declared.Figures.{Figures}
 use Rattle.point.specs.declared.Figures.TheVariants.{Exponential, Explicit}
 use Rattle.tally.specs.Sets.{Lendable}
-use Rattle.sets.specs.Rows.{setOf}
+use Rattle.sets.specs.Rows.{set_of}
 use Rattle.sets.proofs.Exact.{set_own}
-use Rattle.listing.specs.Words.{pointIn, boundsIn}
-use Rattle.listing.specs.Listed.{posLen, negLen}
+use Rattle.listing.specs.Words.{point_in, bounds_in}
+use Rattle.listing.specs.Listed.{pos_len, neg_len}
 use Rattle.listing.proofs.Back as B
 use Rattle.listing.proofs.Back.{Narrow, Fitting, bits_back, point-back, span-back}
 use Rattle.records.specs.Records.{padded, width, cells}
 use Rattle.records.proofs.Records.{length-padded, take-padded}
-use Rattle.sheets.specs.Entries.{Entry, ownSpan, head_of, entryWords, entriesWords, boundsFine, entryFine}
-use Rattle.sheets.specs.Entries.{headIn, posIn, negIn, storedFrom, entry_of, entryLen, entriesOf}
-use Rattle.sheets.specs.Sheet.{Sheet, written, writable, infoIn, pointsIn, decoded, same_list, readSheet}
+use Rattle.sheets.specs.Entries.{Entry, own_span, head_of, entry_words, entries_words, bounds_fine, entry_fine}
+use Rattle.sheets.specs.Entries.{head_in, pos_in, neg_in, stored_from, entry_of, entry_len, entries_of}
+use Rattle.sheets.specs.Sheet.{Sheet, written, writable, info_in, points_in, decoded, same_list, read_sheet}
 use Rattle.sheets.proofs.SameLists.{same_refl, same-says}
 use Rattle.sheets.proofs.Lengths as L
 use Rattle.sheets.proofs.Cuts.{cut-row, cut-head, cut-tail, len-by}
@@ -60,7 +60,7 @@ Held t = All HeldEntry t.points
 
 -- ---- a point that agrees has levels and starts of 32 bits, and both extremes or neither
 
-end-small : (level : ℕ) → level ≤ finest → endBin level < 4294967296
+end-small : (level : ℕ) → level ≤ finest → end_bin level < 4294967296
 end-small level h = lt_of_le_of_lt (mul-le-mul same (pow_mono h)) (lit< tt)
   where
     same : 3 ≤ 3
@@ -72,10 +72,10 @@ level_in d = omega arith
 start_small : (start n end : ℕ) → start + n ≤ end → end < 4294967296 → start < 4294967296
 start_small start n end h k = omega arith
 
-narrow : (f : Figures) (bs : List Float) (xs ys : List ℕ) → boundsFine f (length bs) ≡ true → figuresShaped f xs ys ≡ true
-    → countsAgree mostSize finest (lowestBin finest) (countsAs f bs xs ys) ≡ true → Narrow f (record { start = 0; len = length bs })
+narrow : (f : Figures) (bs : List Float) (xs ys : List ℕ) → bounds_fine f (length bs) ≡ true → figures_shaped f xs ys ≡ true
+    → counts_agree most_size finest (lowest_bin finest) (counts_as f bs xs ys) ≡ true → Narrow f (record { start = 0; len = length bs })
 narrow (Exponential c) bs xs ys b s h =
-    let a = agrees-says mostSize finest (lowestBin finest) (read c xs ys) h in
+    let a = agrees-says most_size finest (lowest_bin finest) (read c xs ys) h in
     let l : c.level ≤ finest = leb-true c.level finest (and_left (leb c.level finest) _ s) in (
       omega arith,
       start_small _ _ _ a.pos.below (end-small _ (level_in _)),
@@ -84,14 +84,14 @@ narrow (Exponential c) bs xs ys b s h =
     )
 narrow (Explicit m) bs xs ys b s h = tt
 
-both-shown : (due : Bool) (x y : Extreme) → extremesAgree due x y ≡ true → isShown y ≡ isShown x
+both-shown : (due : Bool) (x y : Extreme) → extremes_agree due x y ≡ true → is_shown y ≡ is_shown x
 both-shown due x y h =
-    let k : shownAsDue due x y ≡ true = and_right (finiteOrNone x y) (shownAsDue due x y) h in
-    let p = beq-says (isShown x) due (and_left (beq (isShown x) due) (beq (isShown y) due) k) in
-    let q = beq-says (isShown y) due (and_right (beq (isShown x) due) (beq (isShown y) due) k) in
+    let k : shown_as_due due x y ≡ true = and_right (finite_or_none x y) (shown_as_due due x y) h in
+    let p = beq-says (is_shown x) due (and_left (beq (is_shown x) due) (beq (is_shown y) due) k) in
+    let q = beq-says (is_shown y) due (and_right (beq (is_shown x) due) (beq (is_shown y) due) k) in
     q ∙ sym p
 
-pub point-held : (e : Entry) → entryFine e ≡ true → HeldEntry e → B.Held e.1.point (ownSpan e.1)
+pub point-held : (e : Entry) → entry_fine e ≡ true → HeldEntry e → B.Held e.1.point (own_span e.1)
 point-held e f h =
     let x = e.1 in
     let a = L.fine-agrees e f in
@@ -105,7 +105,7 @@ point-held e f h =
 
 -- ---- bounds and counts out of their words
 
-all-bits-back : (xs : List Float) → All (λ (x : Float). fits binary64 x ≡ true) xs → map (of_bits binary64) (map bitsOf xs) ≡ xs
+all-bits-back : (xs : List Float) → All (λ (x : Float). fits binary64 x ≡ true) xs → map (of_bits binary64) (map bits_of xs) ≡ xs
 unfolding All
 all-bits-back [] h = refl
 all-bits-back (x ∷ xs) h = ap₂ ◌∷◌ (bits_back x h.0) (all-bits-back xs h.1)
@@ -128,49 +128,49 @@ module _ (xs ys u : List ℕ) where
 
 -- ---- an entry out of its words, whatever follows them
 
-module _ (e : Entry) (u : List ℕ) (f : entryFine e ≡ true) (h : HeldEntry e) where
+module _ (e : Entry) (u : List ℕ) (f : entry_fine e ≡ true) (h : HeldEntry e) where
   abbrev x : Stored
   x = e.1
 
   abbrev bw : List ℕ
-  bw = map bitsOf x.bounds
+  bw = map bits_of x.bounds
 
   abbrev r : List ℕ
-  r = padded (map bitsOf e.1.bounds) ++ (padded (e.1.pos ++ e.1.neg) ++ u)
+  r = padded (map bits_of e.1.bounds) ++ (padded (e.1.pos ++ e.1.neg) ++ u)
 
-  point-own : pointIn (head_of e.1) ≡ e.1.point
-  point-own = point-back x.point (ownSpan x) (point-held e f h)
+  point-own : point_in (head_of e.1) ≡ e.1.point
+  point-own = point-back x.point (own_span x) (point-held e f h)
 
-  span-own : boundsIn (head_of e.1) ≡ ownSpan e.1
-  span-own = span-back x.point (ownSpan x) (point-held e f h)
+  span-own : bounds_in (head_of e.1) ≡ own_span e.1
+  span-own = span-back x.point (own_span x) (point-held e f h)
 
-  bounds-many : length (map bitsOf e.1.bounds) ≡ length e.1.bounds
-  bounds-many = length-map x.bounds bitsOf
+  bounds-many : length (map bits_of e.1.bounds) ≡ length e.1.bounds
+  bounds-many = length-map x.bounds bits_of
 
-  bounds-own : map (of_bits binary64) (take (length e.1.bounds) (padded (map bitsOf e.1.bounds) ++ (padded (e.1.pos ++ e.1.neg) ++ u)))
+  bounds-own : map (of_bits binary64) (take (length e.1.bounds) (padded (map bits_of e.1.bounds) ++ (padded (e.1.pos ++ e.1.neg) ++ u)))
       ≡ e.1.bounds
   bounds-own =
       ap (λ (k : ℕ). map (of_bits binary64) (take k r)) (sym bounds-many)
       ∙ ap (map (of_bits binary64)) (take-padded bw (padded (x.pos ++ x.neg) ++ u))
       ∙ all-bits-back x.bounds h.bounds
 
-  behind-bounds : drop (width (length e.1.bounds)) (padded (map bitsOf e.1.bounds) ++ (padded (e.1.pos ++ e.1.neg) ++ u))
+  behind-bounds : drop (width (length e.1.bounds)) (padded (map bits_of e.1.bounds) ++ (padded (e.1.pos ++ e.1.neg) ++ u))
       ≡ padded (e.1.pos ++ e.1.neg) ++ u
   behind-bounds = drop_at (padded bw) (padded (x.pos ++ x.neg) ++ u) (width (length x.bounds)) (length-padded bw ∙ ap width bounds-many)
 
-  pos-many : posIn (head_of e.1) ≡ length e.1.pos
-  pos-many = (λ i. posLen (point-own i).figures (span-own i)) ∙ sym (L.exact-pos x (L.fine-exact e f))
+  pos-many : pos_in (head_of e.1) ≡ length e.1.pos
+  pos-many = (λ i. pos_len (point-own i).figures (span-own i)) ∙ sym (L.exact-pos x (L.fine-exact e f))
 
-  neg-many : negIn (head_of e.1) ≡ length e.1.neg
-  neg-many = (λ i. negLen (point-own i).figures) ∙ sym (L.exact-neg x (L.fine-exact e f))
+  neg-many : neg_in (head_of e.1) ≡ length e.1.neg
+  neg-many = (λ i. neg_len (point-own i).figures) ∙ sym (L.exact-neg x (L.fine-exact e f))
 
   -- n bounds, i and j counts
   abbrev put : Point → ℕ → ℕ → ℕ → List ℕ → Stored
   put p n i j l =
-      storedIn p (map (of_bits binary64) (take n l)) (take i (drop (width n) l)) (take j (drop i (drop (width n) l)))
+      stored_in p (map (of_bits binary64) (take n l)) (take i (drop (width n) l)) (take j (drop i (drop (width n) l)))
 
-  stored-own : storedFrom (head_of e.1) (padded (map bitsOf e.1.bounds) ++ (padded (e.1.pos ++ e.1.neg) ++ u)) ≡ e.1
-  unfolding storedFrom
+  stored-own : stored_from (head_of e.1) (padded (map bits_of e.1.bounds) ++ (padded (e.1.pos ++ e.1.neg) ++ u)) ≡ e.1
+  unfolding stored_from
   stored-own =
       let a : take (length x.pos) (drop (width (length x.bounds)) r) ≡ x.pos =
       ap (take (length x.pos)) behind-bounds ∙ first_back x.pos x.neg u in
@@ -179,31 +179,31 @@ module _ (e : Entry) (u : List ℕ) (f : entryFine e ≡ true) (h : HeldEntry e)
       (λ i. put (point-own i) (span-own i).len (pos-many i) (neg-many i) r)
       ∙ (λ i. record { point = x.point; bounds = bounds-own i; pos = a i; neg = b i })
 
-  entry-back : entry_of (entryWords e ++ u) ≡ e
+  entry-back : entry_of (entry_words e ++ u) ≡ e
   unfolding entry_of
   entry-back =
       let few = L.fine-few e f in
-      let a : setOf (take 9 (entryWords e ++ u)) ≡ e.0 = ap setOf (cut-row e u few) ∙ set_own e.0 few h.set in
-      let b : storedFrom (headIn (entryWords e ++ u)) (drop 21 (entryWords e ++ u)) ≡ e.1 =
-      ap₂ storedFrom (cut-head e u few) (cut-tail e u few) ∙ stored-own in
+      let a : set_of (take 9 (entry_words e ++ u)) ≡ e.0 = ap set_of (cut-row e u few) ∙ set_own e.0 few h.set in
+      let b : stored_from (head_in (entry_words e ++ u)) (drop 21 (entry_words e ++ u)) ≡ e.1 =
+      ap₂ stored_from (cut-head e u few) (cut-tail e u few) ∙ stored-own in
       λ i. (a i, b i)
 
-  entry-len : entryLen (headIn (entryWords e ++ u)) ≡ length (entryWords e)
+  entry-len : entry_len (head_in (entry_words e ++ u)) ≡ length (entry_words e)
   entry-len =
-      ap entryLen (cut-head e u (L.fine-few e f))
+      ap entry_len (cut-head e u (L.fine-few e f))
       ∙ len-by (head_of x) x (ap (λ (p : Point). p.figures) point-own) span-own (L.fine-exact e f)
       ∙ sym (L.entry-words-length e f)
 
-entries-back : (es : List Entry) → all entryFine es ≡ true → All HeldEntry es → entriesOf (length es) (entriesWords es) ≡ es
+entries-back : (es : List Entry) → all entry_fine es ≡ true → All HeldEntry es → entries_of (length es) (entries_words es) ≡ es
 unfolding All
 entries-back [] f h = refl
 entries-back (e ∷ es) f h =
-    let u = entriesWords es in
-    let a = and_left (entryFine e) (all entryFine es) f in
+    let u = entries_words es in
+    let a = and_left (entry_fine e) (all entry_fine es) f in
     ap₂ ◌∷◌ (entry-back e u a h.0)
-    (ap (λ (n : ℕ). entriesOf (length es) (drop n (entryWords e ++ u))) (entry-len e u a h.0)
-    ∙ ap (entriesOf (length es)) (drop-append_seam (entryWords e) u)
-    ∙ entries-back es (and_right (entryFine e) (all entryFine es) f) h.1)
+    (ap (λ (n : ℕ). entries_of (length es) (drop n (entry_words e ++ u))) (entry-len e u a h.0)
+    ∙ ap (entries_of (length es)) (drop-append_seam (entry_words e) u)
+    ∙ entries-back es (and_right (entry_fine e) (all entry_fine es) f) h.1)
 
 -- ---- a sheet
 
@@ -217,14 +217,14 @@ decoded-own t h w =
     let c = cells-written t w in
     let a : get_or (cells (written t)) 0 0 ≡ t.header.start = ap (λ (l : List ℕ). get_or l 0 0) c in
     let b : get_or (cells (written t)) 1 0 ≡ t.header.time = ap (λ (l : List ℕ). get_or l 1 0) c in
-    let d : eqb (infoIn (written t) / 256 % 256) 1 ≡ t.header.delta = ap (λ (n : ℕ). eqb n 1) (delta-written t w) ∙ delta-back t.header.delta in
-    let e : entriesOf (pointsIn (written t)) (drop 3 (cells (written t))) ≡ t.points =
-    ap₂ (λ (n : ℕ) (l : List ℕ). entriesOf n (drop 3 l)) (points-written t w) c ∙ entries-back t.points (L.points-fine t w) h in
+    let d : eqb (info_in (written t) / 256 % 256) 1 ≡ t.header.delta = ap (λ (n : ℕ). eqb n 1) (delta-written t w) ∙ delta-back t.header.delta in
+    let e : entries_of (points_in (written t)) (drop 3 (cells (written t))) ≡ t.points =
+    ap₂ (λ (n : ℕ) (l : List ℕ). entries_of n (drop 3 l)) (points-written t w) c ∙ entries-back t.points (L.points-fine t w) h in
     λ i. record { header = record { start = a i; time = b i; delta = d i }; points = e i }
 
 -- what is written is read
-pub reads-written : (t : Sheet) → Held t → writable t ≡ true → readSheet (written t) ≡ some t
-unfolding readSheet
+pub reads-written : (t : Sheet) → Held t → writable t ≡ true → read_sheet (written t) ≡ some t
+unfolding read_sheet
 reads-written t h w =
     let e = decoded-own t h w in
     let s = written t in
@@ -240,15 +240,15 @@ unique t v a b c d e = sym (decoded-own t a b) ∙ ap decoded e ∙ decoded-own 
 abbrev tests : List ℕ → Bool
 tests s = writable (decoded s) && same_list (written (decoded s)) s
 
-by_tests : (s : List ℕ) (t : Sheet) → (tests s ≡ true) ⊎ (tests s ≡ false) → readSheet s ≡ some t → (tests s ≡ true) × (decoded s ≡ t)
-unfolding readSheet
+by_tests : (s : List ℕ) (t : Sheet) → (tests s ≡ true) ⊎ (tests s ≡ false) → read_sheet s ≡ some t → (tests s ≡ true) × (decoded s ≡ t)
+unfolding read_sheet
 by_tests s t (inl p) h = (p, some_inj (sym (pick_true (tests s) (some (decoded s)) none p) ∙ h))
 by_tests s t (inr p) h = none-not-some (sym (pick-false (tests s) (some (decoded s)) none p) ∙ h)
 
-pub read-decoded : (s : List ℕ) (t : Sheet) → readSheet s ≡ some t → decoded s ≡ t
+pub read-decoded : (s : List ℕ) (t : Sheet) → read_sheet s ≡ some t → decoded s ≡ t
 read-decoded s t h = (by_tests s t (flag (tests s)) h).1
 
-pub read_only : (s : List ℕ) (t : Sheet) → readSheet s ≡ some t → (writable t ≡ true) × (written t ≡ s)
+pub read_only : (s : List ℕ) (t : Sheet) → read_sheet s ≡ some t → (writable t ≡ true) × (written t ≡ s)
 read_only s t h =
     let k = by_tests s t (flag (tests s)) h in
     let w : writable (decoded s) ≡ true = and_left (writable (decoded s)) (same_list (written (decoded s)) s) k.0 in

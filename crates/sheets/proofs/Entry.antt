@@ -10,27 +10,27 @@ use lib.ListN.{length, get_or, take, drop, length-drop}
 use lib.Seq.{length-take-le, drop-drop, get_or-take, get_or-drop}
 use Rattle.laws.proofs.Bools.{and_right, and_intro}
 use Rattle.laws.proofs.Cases.{and-true}
-use Rattle.floats.specs.Answers.{bitsOf}
-use Rattle.points.specs.Explicit.{noNan}
-use Rattle.point.specs.Handing.{Stored, agreesAlone}
+use Rattle.floats.specs.Answers.{bits_of}
+use Rattle.points.specs.Explicit.{no_nan}
+use Rattle.point.specs.Handing.{Stored, agrees_alone}
 use Rattle.point.specs.declared.Point.{Point}
 use Rattle.sets.specs.All.{allb}
-use Rattle.sets.specs.Rows.{setOf, row_of}
-use Rattle.listing.specs.Words.{words_of, pointIn, boundsIn, isPoint}
-use Rattle.listing.specs.Listed.{posLen, negLen}
+use Rattle.sets.specs.Rows.{set_of, row_of}
+use Rattle.listing.specs.Words.{words_of, point_in, bounds_in, is_point}
+use Rattle.listing.specs.Listed.{pos_len, neg_len}
 use Rattle.listing.specs.declared.Span.{Span}
 use Rattle.records.specs.Records.{width, cells}
-use Rattle.records.specs.Inner.{AllBytes, zeroAt}
+use Rattle.records.specs.Inner.{AllBytes, zero_at}
 use Rattle.records.proofs.Padded.{width-le}
 use Rattle.records.proofs.Found.{cells-length, cells_at, cells-small}
-use Rattle.sheets.specs.Entries.{ownSpan, head_of, entryWords, headIn, posIn, negIn, storedFrom, entry_of, entryLen}
-use Rattle.sheets.specs.Entries.{setFine, boundsFine, exact, entryFine}
+use Rattle.sheets.specs.Entries.{own_span, head_of, entry_words, head_in, pos_in, neg_in, stored_from, entry_of, entry_len}
+use Rattle.sheets.specs.Entries.{set_fine, bounds_fine, exact, entry_fine}
 use Rattle.sheets.specs.Sheet.{same_list}
-use Rattle.sheets.specs.Inner.{rowFine, headFine, filled, entry_at}
-use Rattle.sheets.proofs.Good.{entryGood}
+use Rattle.sheets.specs.Inner.{row_fine, head_fine, filled, entry_at}
+use Rattle.sheets.proofs.Good.{entry_good}
 use Rattle.sheets.proofs.SameLists.{same-says, same-list, same_test}
 use Rattle.sheets.proofs.SetLaws.{row-few}
-use Rattle.sheets.proofs.EntryParts.{zerosIn, padded-fits, padded-says, Parts, entry-long, rest-long, counts-room, bounds-long, pos-long, neg-long}
+use Rattle.sheets.proofs.EntryParts.{zeros_in, padded-fits, padded-says, Parts, entry-long, rest-long, counts-room, bounds-long, pos-long, neg-long}
 use Rattle.sheets.proofs.EntryParts.{counts-are, counts-long, words_long, parts-joined, parts_cut}
 use Rattle.sheets.proofs.PointLaws.{AllWords, Few, agreed-few, words-again, bounds-fit, start-zero, point-says, point-is}
 
@@ -41,9 +41,9 @@ unfolding allb
 allb-same f g zero h = refl
 allb-same f g (suc n) h = ap₂ ◌&&◌ (allb-same f g n (λ i p. h i (omega arith))) (h n (omega arith))
 
-filled_is : (s : List ℕ) (k m : ℕ) → k + width m ≤ length (cells s) → filled s k m ≡ zerosIn (drop k (cells s)) m
+filled_is : (s : List ℕ) (k m : ℕ) → k + width m ≤ length (cells s) → filled s k m ≡ zeros_in (drop k (cells s)) m
 filled_is s k m h =
-    allb-same (zeroAt s (k + m)) (λ i. eqb (get_or (drop k (cells s)) (m + i) 0) 0) (width m - m)
+    allb-same (zero_at s (k + m)) (λ i. eqb (get_or (drop k (cells s)) (m + i) 0) 0) (width m - m)
     (λ i p.
     let e : k + (m + i) ≡ k + m + i = omega arith in
     ap (λ (x : ℕ). eqb x 0)
@@ -53,48 +53,48 @@ filled_is s k m h =
 
 -- ---- over the words from an entry's first on
 
-module _ (l : List ℕ) (long : entryLen (headIn l) ≤ length l) where
+module _ (l : List ℕ) (long : entry_len (head_in l) ≤ length l) where
   abbrev w : List ℕ
-  w = headIn l
+  w = head_in l
 
   abbrev r : List ℕ
   r = drop 21 l
 
   abbrev x : Stored
-  x = storedFrom w r
+  x = stored_from w r
 
   abbrev n : ℕ
-  n = (boundsIn w).len
+  n = (bounds_in w).len
 
   abbrev B : ℕ
   B = width n
 
   abbrev m : ℕ
-  m = posIn w + negIn w
+  m = pos_in w + neg_in w
 
-  same_point : x.point ≡ pointIn w
-  unfolding storedFrom
+  same_point : x.point ≡ point_in w
+  unfolding stored_from
   same_point = refl
 
   head-long : length w ≡ 12
   head-long = length-take-le 12 (drop 9 l) (omega (arith, entry-long l long, length-drop 9 l))
 
-  span-is : (boundsIn w).start ≡ 0 → ownSpan x ≡ boundsIn w
+  span-is : (bounds_in w).start ≡ 0 → own_span x ≡ bounds_in w
   span-is z = λ i. record { start = sym z i; len = bounds-long l long i }
 
   -- as many bounds as the point says
-  own-bounds : boundsFine x.point.figures (length x.bounds) ≡ true
-  own-bounds = ap₂ (λ (p : Point) (j : ℕ). boundsFine p.figures j) same_point (bounds-long l long) ∙ bounds-fit w
+  own-bounds : bounds_fine x.point.figures (length x.bounds) ≡ true
+  own-bounds = ap₂ (λ (p : Point) (j : ℕ). bounds_fine p.figures j) same_point (bounds-long l long) ∙ bounds-fit w
 
-  few : agreesAlone x ≡ true → Few x.point.figures x.bounds
+  few : agrees_alone x ≡ true → Few x.point.figures x.bounds
   few h = agreed-few x h own-bounds
 
-  is-exact : (boundsIn w).start ≡ 0 → exact x ≡ true
+  is-exact : (bounds_in w).start ≡ 0 → exact x ≡ true
   unfolding exact
   is-exact z =
-      let p : length x.pos ≡ posLen x.point.figures (ownSpan x) =
-      pos-long l long ∙ sym (ap₂ (λ (p : Point) (b : Span). posLen p.figures b) same_point (span-is z)) in
-      let q : length x.neg ≡ negLen x.point.figures = neg-long l long ∙ sym (ap (λ (p : Point). negLen p.figures) same_point) in
+      let p : length x.pos ≡ pos_len x.point.figures (own_span x) =
+      pos-long l long ∙ sym (ap₂ (λ (p : Point) (b : Span). pos_len p.figures b) same_point (span-is z)) in
+      let q : length x.neg ≡ neg_len x.point.figures = neg-long l long ∙ sym (ap (λ (p : Point). neg_len p.figures) same_point) in
       and_intro _ _ own-bounds (and_intro _ _ (eq-eqb _ _ p) (eq-eqb _ _ q))
 
   -- ---- the tests make up an entry's words
@@ -106,36 +106,36 @@ module _ (l : List ℕ) (long : entryLen (headIn l) ≤ length l) where
       (sym (get_or-take n r i 0 (omega arith) ∙ get_or-drop 21 l i 0))
       (h (21 + i) (omega (arith, rest-long l long, width-le n, length-drop 21 l)))
 
-  bounds-again : AllWords l → noNan x.bounds ≡ true → map bitsOf x.bounds ≡ take n r
-  unfolding storedFrom
+  bounds-again : AllWords l → no_nan x.bounds ≡ true → map bits_of x.bounds ≡ take n r
+  unfolding stored_from
   bounds-again h k = words-again (take n r) (bound-words h) k
 
-  to-parts : AllWords l → row_of (setOf (take 9 l)) ≡ take 9 l → isPoint w ≡ true → (boundsIn w).start ≡ 0
-      → zerosIn r n ≡ true → zerosIn (drop B r) m ≡ true → agreesAlone x ≡ true → Parts l w r x
+  to-parts : AllWords l → row_of (set_of (take 9 l)) ≡ take 9 l → is_point w ≡ true → (bounds_in w).start ≡ 0
+      → zeros_in r n ≡ true → zeros_in (drop B r) m ≡ true → agrees_alone x ≡ true → Parts l w r x
   to-parts small row point z fill fills agrees =
       record {
         row = row;
         head = ap₂ words_of same_point (span-is z) ∙ point-says w head-long point;
         bounds =
-            padded-fits (map bitsOf x.bounds) r n (words_long l long) (omega (arith, rest-long l long))
+            padded-fits (map bits_of x.bounds) r n (words_long l long) (omega (arith, rest-long l long))
             (bounds-again small (few agrees).numbers) fill;
         counts = padded-fits _ (drop B r) m (counts-long l long) (counts-room l long) (counts-are l long) fills;
       }
 
   -- ---- and an entry's words pass the tests
 
-  from-head : head_of x ≡ w → (boundsIn w).start ≡ 0
-  from-head h = start-zero w (length x.bounds) (ap (λ (p : Point). words_of p (ownSpan x)) (sym same_point) ∙ h)
+  from-head : head_of x ≡ w → (bounds_in w).start ≡ 0
+  from-head h = start-zero w (length x.bounds) (ap (λ (p : Point). words_of p (own_span x)) (sym same_point) ∙ h)
 
-  from_parts : Parts l w r x → agreesAlone x ≡ true → headFine w ≡ true
-  unfolding headFine
+  from_parts : Parts l w r x → agrees_alone x ≡ true → head_fine w ≡ true
+  unfolding head_fine
   from_parts t agrees =
       let z = from-head t.head in
       let s = span-is z in
       let f = few agrees in
-      let point : isPoint w ≡ true = point-is w (sym (ap₂ words_of same_point s) ∙ t.head) in
-      let p : posIn w ≤ 160 = subst (λ (j : ℕ). j ≤ 160) (ap₂ (λ (p : Point) (b : Span). posLen p.figures b) same_point s) f.pos in
-      let q : negIn w ≤ 160 = subst (λ (j : ℕ). j ≤ 160) (ap (λ (p : Point). negLen p.figures) same_point) f.neg in
+      let point : is_point w ≡ true = point-is w (sym (ap₂ words_of same_point s) ∙ t.head) in
+      let p : pos_in w ≤ 160 = subst (λ (j : ℕ). j ≤ 160) (ap₂ (λ (p : Point) (b : Span). pos_len p.figures b) same_point s) f.pos in
+      let q : neg_in w ≤ 160 = subst (λ (j : ℕ). j ≤ 160) (ap (λ (p : Point). neg_len p.figures) same_point) f.neg in
       let b : n ≤ 159 = omega (arith, bounds-long l long, f.bounds) in
       and_intro _ _ point (and_intro _ _ (eq-eqb _ _ z) (and_intro _ _ (le-leb _ _ b) (and_intro _ _ (le-leb _ _ p) (le-leb _ _ q))))
 
@@ -146,71 +146,71 @@ module _ (s : List ℕ) (k : ℕ) where
   cut = drop k (cells s)
 
   abbrev head : List ℕ
-  head = headIn cut
+  head = head_in cut
 
   abbrev behind : List ℕ
   behind = drop 21 cut
 
   abbrev ends : ℕ
-  ends = width (boundsIn head).len
+  ends = width (bounds_in head).len
 
   abbrev counted : ℕ
-  counted = posIn head + negIn head
+  counted = pos_in head + neg_in head
 
   small : AllBytes s → AllWords cut
   small h i p =
       subst (λ (j : ℕ). j < 18446744073709551616) (sym (get_or-drop k (cells s) i 0)) (cells-small s h (k + i) (omega (arith, p, length-drop k (cells s))))
 
   -- the words behind the head, and behind the bounds
-  first-filled : entryLen head ≤ length cut → filled s (k + 21) (boundsIn head).len ≡ zerosIn behind (boundsIn head).len
+  first-filled : entry_len head ≤ length cut → filled s (k + 21) (bounds_in head).len ≡ zeros_in behind (bounds_in head).len
   first-filled h =
-      filled_is s (k + 21) (boundsIn head).len (omega (arith, entry-long cut h, length-drop k (cells s)))
-      ∙ ap (λ (u : List ℕ). zerosIn u (boundsIn head).len) (sym (drop-drop 21 k (cells s)))
+      filled_is s (k + 21) (bounds_in head).len (omega (arith, entry-long cut h, length-drop k (cells s)))
+      ∙ ap (λ (u : List ℕ). zeros_in u (bounds_in head).len) (sym (drop-drop 21 k (cells s)))
 
-  then-filled : entryLen head ≤ length cut → filled s (k + (21 + ends)) counted ≡ zerosIn (drop ends behind) counted
+  then-filled : entry_len head ≤ length cut → filled s (k + (21 + ends)) counted ≡ zeros_in (drop ends behind) counted
   then-filled h =
       filled_is s (k + (21 + ends)) counted (omega (arith, entry-long cut h, length-drop k (cells s)))
-      ∙ ap (λ (u : List ℕ). zerosIn u counted) (sym (drop-drop ends 21 cut ∙ drop-drop (21 + ends) k (cells s)))
+      ∙ ap (λ (u : List ℕ). zeros_in u counted) (sym (drop-drop ends 21 cut ∙ drop-drop (21 + ends) k (cells s)))
 
-  good : AllBytes s → entry_at s k ≡ true → entryGood cut ≡ true
-  unfolding entry_at entryGood rowFine headFine entryFine entry_of
+  good : AllBytes s → entry_at s k ≡ true → entry_good cut ≡ true
+  unfolding entry_at entry_good row_fine head_fine entry_fine entry_of
   good bytes h =
-      let x = storedFrom head behind in
+      let x = stored_from head behind in
       let a = (and-true (leb 21 (length cut)) _ h).1 in
-      let b = and-true (rowFine (take 9 cut)) _ a in
-      let c = and-true (headFine head) _ b.1 in
-      let d = and-true (leb (entryLen head) (length cut)) _ c.1 in
-      let e = and-true (filled s (k + 21) (boundsIn head).len) _ d.1 in
-      let f = and-true (filled s (k + (21 + ends)) counted) (agreesAlone x) e.1 in
-      let row = and-true (same_list (row_of (setOf (take 9 cut))) (take 9 cut)) (setFine (setOf (take 9 cut))) b.0 in
-      let point = and-true (isPoint head) _ c.0 in
-      let z = eqb-true (boundsIn head).start 0 (and-true (eqb (boundsIn head).start 0) _ point.1).0 in
-      let long = leb-true (entryLen head) (length cut) d.0 in
+      let b = and-true (row_fine (take 9 cut)) _ a in
+      let c = and-true (head_fine head) _ b.1 in
+      let d = and-true (leb (entry_len head) (length cut)) _ c.1 in
+      let e = and-true (filled s (k + 21) (bounds_in head).len) _ d.1 in
+      let f = and-true (filled s (k + (21 + ends)) counted) (agrees_alone x) e.1 in
+      let row = and-true (same_list (row_of (set_of (take 9 cut))) (take 9 cut)) (set_fine (set_of (take 9 cut))) b.0 in
+      let point = and-true (is_point head) _ c.0 in
+      let z = eqb-true (bounds_in head).start 0 (and-true (eqb (bounds_in head).start 0) _ point.1).0 in
+      let long = leb-true (entry_len head) (length cut) d.0 in
       let t =
-      to-parts cut long (small bytes) (same-says (row_of (setOf (take 9 cut))) (take 9 cut) row.0) point.0 z
+      to-parts cut long (small bytes) (same-says (row_of (set_of (take 9 cut))) (take 9 cut) row.0) point.0 z
       (sym (first-filled long) ∙ e.0) (sym (then-filled long) ∙ f.0) f.1 in
       and_intro _ _ d.0
       (and_intro _ _ (and_intro _ _ row.1 (and_intro _ _ (is-exact cut long z) f.1))
-      (same-list (entryWords (entry_of cut)) (take (entryLen head) cut) (parts-joined cut long t)))
+      (same-list (entry_words (entry_of cut)) (take (entry_len head) cut) (parts-joined cut long t)))
 
-  passes : entryGood cut ≡ true → entry_at s k ≡ true
-  unfolding entry_at entryGood rowFine entryFine entry_of
+  passes : entry_good cut ≡ true → entry_at s k ≡ true
+  unfolding entry_at entry_good row_fine entry_fine entry_of
   passes h =
-      let x = storedFrom head behind in
-      let a = and-true (leb (entryLen head) (length cut)) _ h in
-      let b = and-true (entryFine (entry_of cut)) (same_list (entryWords (entry_of cut)) (take (entryLen head) cut)) a.1 in
-      let c = and-true (setFine (setOf (take 9 cut))) (exact x && agreesAlone x) b.0 in
-      let agrees = and_right (exact x) (agreesAlone x) c.1 in
-      let long = leb-true (entryLen head) (length cut) a.0 in
+      let x = stored_from head behind in
+      let a = and-true (leb (entry_len head) (length cut)) _ h in
+      let b = and-true (entry_fine (entry_of cut)) (same_list (entry_words (entry_of cut)) (take (entry_len head) cut)) a.1 in
+      let c = and-true (set_fine (set_of (take 9 cut))) (exact x && agrees_alone x) b.0 in
+      let agrees = and_right (exact x) (agrees_alone x) c.1 in
+      let long = leb-true (entry_len head) (length cut) a.0 in
       let t =
-      parts_cut cut long (row-few (take 9 cut) c.0) (same-says (entryWords (entry_of cut)) (take (entryLen head) cut) b.1) in
-      let row = and_intro _ _ (same-list (row_of (setOf (take 9 cut))) (take 9 cut) t.row) c.0 in
-      let fill = padded-says (map bitsOf x.bounds) behind (boundsIn head).len (words_long cut long) (omega (arith, rest-long cut long)) t.bounds in
+      parts_cut cut long (row-few (take 9 cut) c.0) (same-says (entry_words (entry_of cut)) (take (entry_len head) cut) b.1) in
+      let row = and_intro _ _ (same-list (row_of (set_of (take 9 cut))) (take 9 cut) t.row) c.0 in
+      let fill = padded-says (map bits_of x.bounds) behind (bounds_in head).len (words_long cut long) (omega (arith, rest-long cut long)) t.bounds in
       let fills = padded-says _ (drop ends behind) counted (counts-long cut long) (counts-room cut long) t.counts in
       and_intro _ _ (le-leb 21 (length cut) (omega (arith, entry-long cut long)))
       (and_intro _ _ row
       (and_intro _ _ (from_parts cut long t agrees)
       (and_intro _ _ a.0 (and_intro _ _ (first-filled long ∙ fill) (and_intro _ _ (then-filled long ∙ fills) agrees)))))
 
-pub entry-is : (s : List ℕ) (k : ℕ) → AllBytes s → entry_at s k ≡ entryGood (drop k (cells s))
-entry-is s k h = same_test (entry_at s k) (entryGood (drop k (cells s))) (good s k h) (passes s k)
+pub entry-is : (s : List ℕ) (k : ℕ) → AllBytes s → entry_at s k ≡ entry_good (drop k (cells s))
+entry-is s k h = same_test (entry_at s k) (entry_good (drop k (cells s))) (good s k h) (passes s k)

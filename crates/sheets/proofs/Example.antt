@@ -12,15 +12,15 @@ use Rattle.laws.specs.Pick.{pick}
 use Rattle.sets.specs.All.{allb}
 use Rattle.sets.specs.Rows.{row_of, soundb}
 use Rattle.floats.specs.declared.Extreme.TheVariants.{Value}
-use Rattle.points.specs.Agreement.{agrees, rowAgrees}
-use Rattle.points.specs.Explicit.{boundsPass, noNan, rising, bucketsAgree}
-use Rattle.points.specs.Handed.{handedAgrees}
-use Rattle.point.specs.Handing.{agreesAlone}
+use Rattle.points.specs.Agreement.{agrees, row_agrees}
+use Rattle.points.specs.Explicit.{bounds_pass, no_nan, rising, buckets_agree}
+use Rattle.points.specs.Handed.{handed_agrees}
+use Rattle.point.specs.Handing.{agrees_alone}
 use Rattle.point.specs.declared.Figures.TheVariants.{Exponential, Explicit}
 use Rattle.records.specs.Words.{bytes2, bytes4, bytes8, bytes_of}
 use Rattle.records.specs.Records.{next, chained, padded}
-use Rattle.sheets.specs.Entries.{entryWords, setFine, exact, entryFine}
-use Rattle.sheets.specs.Sheet.{Sheet, written, writable, readSheet}
+use Rattle.sheets.specs.Entries.{entry_words, set_fine, exact, entry_fine}
+use Rattle.sheets.specs.Sheet.{Sheet, written, writable, read_sheet}
 use Rattle.sheets.proofs.Back.{Held, reads-written}
 
 -- document 01's run
@@ -66,18 +66,18 @@ run-bytes =
     ∷ 0 ∷ 0 ∷ 0 ∷ 0 ∷ 0 ∷ 0 ∷ 0 ∷ 0 ∷ 1 ∷ 0 ∷ 0 ∷ 0 ∷ 0 ∷ 0 ∷ 0 ∷ 0 ∷ 0 ∷ 0 ∷ 0 ∷ 0 ∷ 0 ∷ 0 ∷ 0 ∷ 0 ∷ 0 ∷ 0 ∷ 0 ∷ 0 ∷ 0 ∷ 0 ∷ 0 ∷ 0 ∷ []
 
 pub run_is : written run ≡ run-bytes
-unfolding written bytes_of bytes8 bytes4 bytes2 chained next entryWords row_of padded is_nan of_bits of_fields to_bits pick
+unfolding written bytes_of bytes8 bytes4 bytes2 chained next entry_words row_of padded is_nan of_bits of_fields to_bits pick
 run_is = refl
 
 pub run-taken : writable run ≡ true
-unfolding writable entryFine setFine soundb allb exact agreesAlone handedAgrees agrees rowAgrees row_of finite is_nan of_bits of_fields to_bits pick
+unfolding writable entry_fine set_fine soundb allb exact agrees_alone handed_agrees agrees row_agrees row_of finite is_nan of_bits of_fields to_bits pick
 run-taken = refl
 
 pub run-held : Held run
 unfolding All fits of_bits of_fields
 run-held = (record { set = ((lit< tt, lit< tt), tt); min = refl; max = refl; sum = refl; bounds = tt }, tt)
 
-pub run-read : readSheet (written run) ≡ some run
+pub run-read : read_sheet (written run) ≡ some run
 run-read = reads-written run run-held run-taken
 
 -- an explicit point of the empty set
@@ -118,16 +118,16 @@ buckets-bytes =
     ∷ 0 ∷ 0 ∷ 0 ∷ 0 ∷ 0 ∷ 0 ∷ 0 ∷ 0 ∷ 1 ∷ 0 ∷ 0 ∷ 0 ∷ 0 ∷ 0 ∷ 0 ∷ 0 ∷ 0 ∷ 0 ∷ 0 ∷ 0 ∷ 0 ∷ 0 ∷ 0 ∷ 0 ∷ 0 ∷ 0 ∷ 0 ∷ 0 ∷ 0 ∷ 0 ∷ 0 ∷ 0 ∷ []
 
 pub buckets-is : written buckets ≡ buckets-bytes
-unfolding written bytes_of bytes8 bytes4 bytes2 chained next entryWords row_of padded is_nan of_bits of_fields to_bits pick
+unfolding written bytes_of bytes8 bytes4 bytes2 chained next entry_words row_of padded is_nan of_bits of_fields to_bits pick
 buckets-is = refl
 
 buckets-taken : writable buckets ≡ true
-unfolding writable entryFine setFine soundb allb exact agreesAlone handedAgrees bucketsAgree boundsPass noNan rising row_of finite lt is_nan of_bits of_fields to_bits pick
+unfolding writable entry_fine set_fine soundb allb exact agrees_alone handed_agrees buckets_agree bounds_pass no_nan rising row_of finite lt is_nan of_bits of_fields to_bits pick
 buckets-taken = refl
 
 buckets-held : Held buckets
 unfolding All fits of_bits of_fields
 buckets-held = (record { set = tt; min = refl; max = refl; sum = refl; bounds = (refl, (refl, (refl, tt))) }, tt)
 
-pub buckets-read : readSheet (written buckets) ≡ some buckets
+pub buckets-read : read_sheet (written buckets) ≡ some buckets
 buckets-read = reads-written buckets buckets-held buckets-taken

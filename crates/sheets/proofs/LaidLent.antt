@@ -14,8 +14,8 @@ use Rattle.laws.proofs.Lists.{all_append}
 use Rattle.tally.specs.Sets.{Set, Lendable}
 use Rattle.sets.specs.Rows.{word_of, row_of}
 use Rattle.pooling.specs.Lists.{Source}
-use Rattle.sheets.specs.Entries.{Entry, entryFine}
-use Rattle.sheets.specs.Lists.{Lent, joined, laidOut}
+use Rattle.sheets.specs.Entries.{Entry, entry_fine}
+use Rattle.sheets.specs.Lists.{Lent, joined, laid_out}
 use Rattle.sheets.proofs.Back.{HeldEntry}
 use Rattle.sheets.proofs.Holds.{Word}
 use Rattle.sheets.proofs.Lengths.{fine-few}
@@ -57,18 +57,18 @@ row_words s n h =
     all_append Word (map word_of s) (replicate (8 - length s) 0 ++ (length s ∷ [])) (set_words s h)
     (all_append Word (replicate (8 - length s) 0) (length s ∷ []) (all_same Word (8 - length s) 0 (omega arith)) (omega arith, tt))
 
-rows_words : (es : List Entry) → all entryFine es ≡ true → All HeldEntry es → All (All Word) (map (λ e. row_of e.0) es)
+rows_words : (es : List Entry) → all entry_fine es ≡ true → All HeldEntry es → All (All Word) (map (λ e. row_of e.0) es)
 unfolding All
 rows_words [] f h = tt
 rows_words (e ∷ es) f h =
-    (row_words e.0 (fine-few e (and_left (entryFine e) (all entryFine es) f)) h.0.set, rows_words es (and_right (entryFine e) (all entryFine es) f) h.1)
+    (row_words e.0 (fine-few e (and_left (entry_fine e) (all entry_fine es) f)) h.0.set, rows_words es (and_right (entry_fine e) (all entry_fine es) f) h.1)
 
 bounds-fit : (es : List Entry) → All HeldEntry es → All (λ b. fits binary64 b ≡ true) (joined (λ x. x.bounds) es)
 unfolding All
 bounds-fit [] h = tt
 bounds-fit (e ∷ es) h = all_append (λ b. fits binary64 b ≡ true) e.1.bounds (joined (λ x. x.bounds) es) h.0.bounds (bounds-fit es h.1)
 
-pub laid-lent : (es : List Entry) → all entryFine es ≡ true → All HeldEntry es → Lent (laidOut es empty)
+pub laid-lent : (es : List Entry) → all entry_fine es ≡ true → All HeldEntry es → Lent (laid_out es empty)
 unfolding All
 laid-lent es f h =
     record {

@@ -8,21 +8,21 @@ use borrow.Author.Tests.{eq-eqb, ne_eqb}
 use lib.Dec.{eqb}
 use lib.ListN.{length, length-append, get_or-append}
 use Rattle.laws.specs.Pick.{pick}
-use Rattle.records.specs.Words.{twoAt, fourAt, word_at}
+use Rattle.records.specs.Words.{two_at, four_at, word_at}
 use Rattle.records.specs.Inner.{link_of}
-use Rattle.sheets.specs.Sheet.{Sheet, infoFor, payload, written, writable}
+use Rattle.sheets.specs.Sheet.{Sheet, info_for, payload, written, writable}
 use Rattle.sheets.proofs.Lengths.{payload-whole, payload-short, whole_length, written-records}
 use Rattle.sheets.proofs.Passes.{link_at}
 
 -- ---- a word within the front of a list
 
 module _ (s u : List ℕ) where
-  two-front : (i : ℕ) → i + 2 ≤ length s → twoAt (s ++ u) i ≡ twoAt s i
-  unfolding twoAt
+  two-front : (i : ℕ) → i + 2 ≤ length s → two_at (s ++ u) i ≡ two_at s i
+  unfolding two_at
   two-front i h = ap₂ (λ (a b : ℕ). a + 256 * b) (get_or-append s u 0 i (omega arith)) (get_or-append s u 0 (i + 1) (omega arith))
 
-  four-front : (i : ℕ) → i + 4 ≤ length s → fourAt (s ++ u) i ≡ fourAt s i
-  unfolding fourAt
+  four-front : (i : ℕ) → i + 4 ≤ length s → four_at (s ++ u) i ≡ four_at s i
+  unfolding four_at
   four-front i h = ap₂ (λ (a b : ℕ). a + 65536 * b) (two-front i (omega arith)) (two-front (i + 2) (omega arith))
 
   word-front : (i : ℕ) → i + 8 ≤ length s → word_at (s ++ u) i ≡ word_at s i
@@ -67,7 +67,7 @@ no_longer t v b e p q h =
     let last : r + 1 ≡ n = omega arith in
     let own : word_at (written t) (r * 32) ≡ word_at (written v) (r * 32) =
     sym (word-front (written t) (b ∷ e) (r * 32) (omega (arith, written-records t p))) ∙ ap (λ (s : List ℕ). word_at s (r * 32)) (sym h) in
-    let i = infoFor t.header (length t.points) in
-    let j = infoFor v.header (length v.points) in
+    let i = info_for t.header (length t.points) in
+    let j = info_for v.header (length v.points) in
     not-both-halves (pick (eqb r 0) i 0) (pick (eqb r 0) j 0) (r + 1) (omega arith) (omega (arith, records-few t p))
     (sym (link-last i n r last) ∙ sym (link_at t p r (omega arith)) ∙ own ∙ link_at v q r (omega arith) ∙ link-more j m r (omega arith))

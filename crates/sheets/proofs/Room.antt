@@ -10,18 +10,18 @@ use Rattle.laws.specs.Counting.{sum}
 use Rattle.laws.specs.Tests.{all}
 use Rattle.laws.proofs.Bools.{and_left, and_right, and_intro}
 use Rattle.pooling.specs.Lists.{Source}
-use Rattle.sheets.specs.Entries.{Entry, entryFine}
+use Rattle.sheets.specs.Entries.{Entry, entry_fine}
 use Rattle.sheets.specs.Sheet.{Sheet, writable}
 use Rattle.sheets.specs.Lists.{roomy, Ample}
 use Rattle.sheets.proofs.Lengths.{fine-exact, fine-agrees, exact-bounds, exact-pos, exact-neg, points-few, points-fine}
 use Rattle.sheets.proofs.PointLaws.{agreed-few}
 
-sum-few : (w : Entry → ℕ) (m : ℕ) → ((e : Entry) → entryFine e ≡ true → w e ≤ m) → (es : List Entry) → all entryFine es ≡ true → sum w es ≤ m * length es
+sum-few : (w : Entry → ℕ) (m : ℕ) → ((e : Entry) → entry_fine e ≡ true → w e ≤ m) → (es : List Entry) → all entry_fine es ≡ true → sum w es ≤ m * length es
 sum-few w m h [] f = omega arith
 sum-few w m h (e ∷ es) f =
-    omega (arith, h e (and_left (entryFine e) (all entryFine es) f), sum-few w m h es (and_right (entryFine e) (all entryFine es) f))
+    omega (arith, h e (and_left (entry_fine e) (all entry_fine es) f), sum-few w m h es (and_right (entry_fine e) (all entry_fine es) f))
 
-module _ (e : Entry) (h : entryFine e ≡ true) where
+module _ (e : Entry) (h : entry_fine e ≡ true) where
   pos-few : length e.1.pos ≤ 160
   pos-few = omega (arith, (agreed-few e.1 (fine-agrees e h) (exact-bounds e.1 (fine-exact e h))).pos, exact-pos e.1 (fine-exact e h))
 

@@ -3,14 +3,14 @@
 use Rattle.std.specs.Prelude.{ℕ, zero, suc, ◌+◌, Bool, true, ◌&&◌, ◌||◌, List, [], ◌∷◌, ◌++◌, map, leb, eqb, length, take, drop}
 use Rattle.std.specs.Float.{binary64}
 use Rattle.std.specs.Float.Ieee.{of_bits}
-use Rattle.floats.specs.Answers.{bitsOf}
-use Rattle.point.specs.Handing.{Stored, storedIn, agreesAlone}
+use Rattle.floats.specs.Answers.{bits_of}
+use Rattle.point.specs.Handing.{Stored, stored_in, agrees_alone}
 use Rattle.point.specs.declared.Figures.{Figures}
 use Rattle.point.specs.declared.Figures.TheVariants.{Exponential, Explicit}
 use Rattle.tally.specs.Sets.{Set, cmp}
-use Rattle.sets.specs.Rows.{setOf, row_of, below, soundb}
-use Rattle.listing.specs.Words.{words_of, pointIn, boundsIn}
-use Rattle.listing.specs.Listed.{posLen, negLen}
+use Rattle.sets.specs.Rows.{set_of, row_of, below, soundb}
+use Rattle.listing.specs.Words.{words_of, point_in, bounds_in}
+use Rattle.listing.specs.Listed.{pos_len, neg_len}
 use Rattle.listing.specs.declared.Span.{Span}
 use Rattle.records.specs.Records.{padded, width}
 
@@ -21,73 +21,73 @@ Entry = Set × Stored
 -- ---- written
 
 -- the bounds follow their point: in a sheet they start at 0
-abbrev pub ownSpan : Stored → Span
-ownSpan x = record { start = 0; len = length x.bounds }
+abbrev pub own_span : Stored → Span
+own_span x = record { start = 0; len = length x.bounds }
 
 -- the twelve words of docs/LIST.md
 abbrev pub head_of : Stored → List ℕ
-head_of x = words_of x.point (ownSpan x)
+head_of x = words_of x.point (own_span x)
 
-unfoldable pub entryWords : Entry → List ℕ
-entryWords e = row_of e.0 ++ (head_of e.1 ++ (padded (map bitsOf e.1.bounds) ++ padded (e.1.pos ++ e.1.neg)))
+unfoldable pub entry_words : Entry → List ℕ
+entry_words e = row_of e.0 ++ (head_of e.1 ++ (padded (map bits_of e.1.bounds) ++ padded (e.1.pos ++ e.1.neg)))
 
-abbrev pub entriesWords : List Entry → List ℕ
-entriesWords [] = []
-entriesWords (e ∷ es) = entryWords e ++ entriesWords es
+abbrev pub entries_words : List Entry → List ℕ
+entries_words [] = []
+entries_words (e ∷ es) = entry_words e ++ entries_words es
 
 -- ---- read, of words that begin with an entry
 
 -- the twelve words of the point
-abbrev pub headIn : List ℕ → List ℕ
-headIn l = take 12 (drop 9 l)
+abbrev pub head_in : List ℕ → List ℕ
+head_in l = take 12 (drop 9 l)
 
 -- how many counts of either row they say
-abbrev pub posIn : List ℕ → ℕ
-posIn w = posLen (pointIn w).figures (boundsIn w)
+abbrev pub pos_in : List ℕ → ℕ
+pos_in w = pos_len (point_in w).figures (bounds_in w)
 
-abbrev pub negIn : List ℕ → ℕ
-negIn w = negLen (pointIn w).figures
+abbrev pub neg_in : List ℕ → ℕ
+neg_in w = neg_len (point_in w).figures
 
 -- the point that they are, with bounds and counts out of the words behind them
-unfoldable pub storedFrom : List ℕ → List ℕ → Stored
-storedFrom w r =
-    let c = drop (width (boundsIn w).len) r in
-    storedIn (pointIn w) (map (of_bits binary64) (take (boundsIn w).len r)) (take (posIn w) c) (take (negIn w) (drop (posIn w) c))
+unfoldable pub stored_from : List ℕ → List ℕ → Stored
+stored_from w r =
+    let c = drop (width (bounds_in w).len) r in
+    stored_in (point_in w) (map (of_bits binary64) (take (bounds_in w).len r)) (take (pos_in w) c) (take (neg_in w) (drop (pos_in w) c))
 
 unfoldable pub entry_of : List ℕ → Entry
-entry_of l = (setOf (take 9 l), storedFrom (headIn l) (drop 21 l))
+entry_of l = (set_of (take 9 l), stored_from (head_in l) (drop 21 l))
 
 -- how many words there are of so many bounds and counts, and of what the twelve words say
-abbrev pub wordsFor : ℕ → ℕ → ℕ
-wordsFor bounds counts = 21 + (width bounds + width counts)
+abbrev pub words_for : ℕ → ℕ → ℕ
+words_for bounds counts = 21 + (width bounds + width counts)
 
-unfoldable pub entryLen : List ℕ → ℕ
-entryLen w = wordsFor (boundsIn w).len (posIn w + negIn w)
+unfoldable pub entry_len : List ℕ → ℕ
+entry_len w = words_for (bounds_in w).len (pos_in w + neg_in w)
 
-abbrev pub entriesOf : ℕ → List ℕ → List Entry
-entriesOf zero l = []
-entriesOf (suc n) l = entry_of l ∷ entriesOf n (drop (entryLen (headIn l)) l)
+abbrev pub entries_of : ℕ → List ℕ → List Entry
+entries_of zero l = []
+entries_of (suc n) l = entry_of l ∷ entries_of n (drop (entry_len (head_in l)) l)
 
 -- ---- what is written
 
 -- "ill-formed (the empty set is allowed)": else 1 to 8 attributes with rising keys
-unfoldable pub setFine : Set → Bool
-setFine s = eqb (length s) 0 || (leb (length s) 8 && soundb (row_of s))
+unfoldable pub set_fine : Set → Bool
+set_fine s = eqb (length s) 0 || (leb (length s) 8 && soundb (row_of s))
 
 -- an exponential point has no bounds
-abbrev pub boundsFine : Figures → ℕ → Bool
-boundsFine (Exponential c) n = eqb n 0
-boundsFine (Explicit m) n = true
+abbrev pub bounds_fine : Figures → ℕ → Bool
+bounds_fine (Exponential c) n = eqb n 0
+bounds_fine (Explicit m) n = true
 
 -- the bounds and counts are those that the point says
 unfoldable pub exact : Stored → Bool
 exact x =
-    boundsFine x.point.figures (length x.bounds)
-    && (eqb (length x.pos) (posLen x.point.figures (ownSpan x)) && eqb (length x.neg) (negLen x.point.figures))
+    bounds_fine x.point.figures (length x.bounds)
+    && (eqb (length x.pos) (pos_len x.point.figures (own_span x)) && eqb (length x.neg) (neg_len x.point.figures))
 
 -- "points that agree (under size 160 and scale 10)"
-unfoldable pub entryFine : Entry → Bool
-entryFine e = setFine e.0 && (exact e.1 && agreesAlone e.1)
+unfoldable pub entry_fine : Entry → Bool
+entry_fine e = set_fine e.0 && (exact e.1 && agrees_alone e.1)
 
 -- else "sets not strictly ascending"
 abbrev pub ascending : List Entry → Bool

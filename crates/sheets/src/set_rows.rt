@@ -1,9 +1,9 @@
 // The row of a set in a list or a sheet: whether it is one, and whether the sets of two rows ascend.
 ghost use Rattle.std.specs.Prelude.{◌≡◌, ◌-◌, ◌+◌, ◌≤◌, eqb, get_or};
 ghost use Rattle.sets.specs.All.{allb};
-ghost use Rattle.sets.specs.Rows.{size, setOf, below};
+ghost use Rattle.sets.specs.Rows.{size, set_of, below};
 ghost use Rattle.tally.specs.Sets.{cmp};
-ghost use Rattle.sheets.specs.Inner.{rowFine};
+ghost use Rattle.sheets.specs.Inner.{row_fine};
 
 use sets::Way;
 
@@ -25,7 +25,7 @@ fn zeros_from(row: &[u64; 9], n: usize) -> bool
 // Whether a row is that of a set that a sheet takes: the empty set, or 1 to 8 attributes with rising keys; zeros behind them. By value:
 // behind a reference its length is not known.
 pub fn row_fine(row: [u64; 9]) -> bool
-    ensures { result ≡ rowFine row }
+    ensures { result ≡ row_fine row }
 {
     let n = row[8];
     if n > 8 {
@@ -43,7 +43,7 @@ pub fn row_fine(row: [u64; 9]) -> bool
 // Whether the first set comes before the second.
 pub fn ascends(a: &[u64; 9], b: &[u64; 9]) -> bool
     requires { (size a.now ≤ 8) × (size b.now ≤ 8) }
-    ensures { result ≡ below (cmp (setOf a.now) (setOf b.now)) }
+    ensures { result ≡ below (cmp (set_of a.now) (set_of b.now)) }
 {
     let way = sets::set_row::compare(a, b);
     match way {

@@ -14,12 +14,12 @@ use Rattle.laws.proofs.Cases.{true-not-false}
 use Rattle.rows.specs.Recording.{Recording, after}
 use Rattle.many.specs.Many.{Many, many, stopped, each}
 use Rattle.many.proofs.Turns.{each_on, each-stop, each_none}
-use Rattle.batches.specs.Inner.{recordedAll}
+use Rattle.batches.specs.Inner.{recorded_all}
 use Rattle.batches.proofs.Slotted.{Slotted, none-all, wild-all, first_stops, slot-ends}
 use Rattle.singles.specs.declared.Aggregation.{Aggregation}
 use Rattle.singles.specs.Kinds.{step, holds, singles}
-use Rattle.singles.specs.Stores.{held_at, singleStore}
-use Rattle.singles.proofs.Owes.{start-held, held-bad, held-good, owed}
+use Rattle.singles.specs.Stores.{held_at, single_store}
+use Rattle.singles.proofs.Owes.{start-held, held_bad, held-good, owed}
 use Rattle.singles.proofs.Lawful.{steady}
 use Rattle.single_batches.specs.Inner.{stepped}
 
@@ -52,7 +52,7 @@ module _ (a : Aggregation) (c : List Float) (x : ℕ) where
   sound-held true h e = h
   sound-held false h e = true-not-false (sym e)
 
-pub slotted : (a : Aggregation) → Slotted (singleStore a) tt
+pub slotted : (a : Aggregation) → Slotted (single_store a) tt
 slotted a =
     record {
       Series = Float;
@@ -90,32 +90,32 @@ module _ (a : Aggregation) (x : ℕ) (u : Bool) (c : List Float) where
   y = held_at c x u
 
   -- none would be taken: the list's number, whatever is held
-  pub ends-none : (vs : List Float) (m : Many Float) → m ≡ each (stepped a) y vs → m.taken ≡ 0 → stopped m.no c ≡ recordedAll (singleStore a) x u c vs
+  pub ends-none : (vs : List Float) (m : Many Float) → m ≡ each (stepped a) y vs → m.taken ≡ 0 → stopped m.no c ≡ recorded_all (single_store a) x u c vs
   ends-none vs m e t = go vs (ap (λ (i : Many Float). i.no) e) (ap (λ (i : Many Float). i.taken) (sym e) ∙ t)
     where
-      go : (vs : List Float) → m.no ≡ (each (stepped a) y vs).no → (each (stepped a) y vs).taken ≡ 0 → stopped m.no c ≡ recordedAll (singleStore a) x u c vs
-      go [] n t = ap (λ (k : ℕ). stopped k c) (n ∙ ap (λ (i : Many Float). i.no) (each_none (stepped a) y)) ∙ sym (none-all (singleStore a) x u c)
+      go : (vs : List Float) → m.no ≡ (each (stepped a) y vs).no → (each (stepped a) y vs).taken ≡ 0 → stopped m.no c ≡ recorded_all (single_store a) x u c vs
+      go [] n t = ap (λ (k : ℕ). stopped k c) (n ∙ ap (λ (i : Many Float). i.no) (each_none (stepped a) y)) ∙ sym (none-all (single_store a) x u c)
       go (v ∷ vs) n t =
           ⊎_elim (λ (q : (singles a).finite v ≡ true). first_taken a y v vs q t)
           (λ (q : (singles a).finite v ≡ false).
           ap (λ (k : ℕ). stopped k c) (n ∙ ap (λ (i : Many Float). i.no) (each-stop (stepped a) y v vs (wild-stops a y v q)) ∙ ap (λ (o : Recording Float). o.no) (sym (step-off a y v q)))
-          ∙ sym (wild-all (singleStore a) x u c v vs q))
+          ∙ sym (wild-all (single_store a) x u c v vs q))
           (flag ((singles a).finite v))
 
   -- some would, and the map may not hold what is held
-  pub ends-unsound : (vs : List Float) → ((each (stepped a) y vs).taken ≡ 0 → ⊥) → holds a y ≡ false → stopped 8 c ≡ recordedAll (singleStore a) x u c vs
+  pub ends-unsound : (vs : List Float) → ((each (stepped a) y vs).taken ≡ 0 → ⊥) → holds a y ≡ false → stopped 8 c ≡ recorded_all (single_store a) x u c vs
   ends-unsound [] d h = absurd (d (ap (λ (i : Many Float). i.taken) (each_none (stepped a) y)))
   ends-unsound (v ∷ vs) d h =
       ⊎_elim
       (λ (q : (singles a).finite v ≡ true).
-      sym (first_stops (singleStore a) x u c v vs (owed a) q 8 (ap (λ (o : Recording (List Float)). o.no) (sym (held-bad a c x u v h))) (λ i. omega (arith, i))))
+      sym (first_stops (single_store a) x u c v vs (owed a) q 8 (ap (λ (o : Recording (List Float)). o.no) (sym (held_bad a c x u v h))) (λ i. omega (arith, i))))
       (λ (q : (singles a).finite v ≡ false).
       absurd (d (ap (λ (i : Many Float). i.taken) (each-stop (stepped a) y v vs (wild-stops a y v q)))))
       (flag ((singles a).finite v))
 
   -- some were taken: what they left is put
   pub ends-put : x < length c → holds a y ≡ true → (vs : List Float) (m : Many Float) → m ≡ each (stepped a) y vs → (m.taken ≡ 0 → ⊥)
-      → many m.taken m.no (set c x m.left) ≡ recordedAll (singleStore a) x u c vs
+      → many m.taken m.no (set c x m.left) ≡ recorded_all (single_store a) x u c vs
   unfolding slotted
   ends-put r h vs m e d =
       slot-ends (owed a) (steady a) tt (slotted a) x u c (record { set = refl; room = r; series = sound-held a c x u h }) vs (λ i. tt) m e

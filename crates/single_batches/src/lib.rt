@@ -4,13 +4,13 @@ mod slot;
 
 ghost use Rattle.std.specs.Prelude.{◌≡◌, true};
 ghost use Rattle.many.specs.Many.{many};
-ghost use Rattle.sets.specs.Sorted.{given, filterOf};
+ghost use Rattle.sets.specs.Sorted.{given, filter_of};
 ghost use Rattle.directory.specs.View.{stores};
-ghost use Rattle.value_map.specs.Calls.{held, gave, measured, measuredBy};
+ghost use Rattle.value_map.specs.Calls.{held, gave, measured, measured_by};
 ghost use Rattle.batches.specs.Agreed.{AgreedBy, AgreedFor};
-ghost use Rattle.batches.specs.Batch.{measuredAll, measuredAllBy};
-ghost use Rattle.batches.specs.Inner.{recordedAll, TakesAll, unlessStopped};
-ghost use Rattle.singles.specs.Stores.{singleStore};
+ghost use Rattle.batches.specs.Batch.{measured_all, measured_all_by};
+ghost use Rattle.batches.specs.Inner.{recorded_all, TakesAll, unless_stopped};
+ghost use Rattle.singles.specs.Stores.{single_store};
 
 use batches::Batch;
 use bindings::Reply;
@@ -29,9 +29,9 @@ fn take_all(
     values: &mut [f64],
     list: &[f64],
 ) -> Taken
-    requires { TakesAll (singleStore aggregation) tt known values.old no x updated }
+    requires { TakesAll (single_store aggregation) tt known values.old no x updated }
     ensures { many result.taken result.no values.new
-        ≡ unlessStopped no values.old (recordedAll (singleStore aggregation) x updated values.old list.now) }
+        ≡ unless_stopped no values.old (recorded_all (single_store aggregation) x updated values.old list.now) }
 {
     if no != 0 {
         return Taken { taken: 0, no: no };
@@ -54,10 +54,10 @@ fn all(
     present: bool,
     filter: &[u32],
 ) -> Batch
-    requires { known ≡ true → AgreedFor (singleStore aggregation) tt limit (filterOf present filter.now)
+    requires { known ≡ true → AgreedFor (single_store aggregation) tt limit (filter_of present filter.now)
         (held d (stores sets entries order) values.old) (given attrs.now) }
     ensures { many result.taken result.no (held result.dir (stores sets.exit entries.exit order.exit) values.new)
-        ≡ measuredAll (singleStore aggregation) limit (filterOf present filter.now)
+        ≡ measured_all (single_store aggregation) limit (filter_of present filter.now)
         (held d (stores sets.entry entries.entry order.entry) values.old) list.now (given attrs.now) }
 {
     if list.len() == 0 {
@@ -100,9 +100,9 @@ fn all_by(
     list: &[f64],
     h: u64,
 ) -> Batch
-    requires { known ≡ true → AgreedBy (singleStore aggregation) tt limit (held d (stores sets entries order) values.old) h }
+    requires { known ≡ true → AgreedBy (single_store aggregation) tt limit (held d (stores sets entries order) values.old) h }
     ensures { many result.taken result.no (held result.dir (stores sets.exit entries.exit order.exit) values.new)
-        ≡ measuredAllBy (singleStore aggregation) limit
+        ≡ measured_all_by (single_store aggregation) limit
         (held d (stores sets.entry entries.entry order.entry) values.old) list.now h }
 {
     if list.len() == 0 {
@@ -144,7 +144,7 @@ pub fn measure_all(
     filter: &[u32],
 ) -> Batch
     ensures { many result.taken result.no (held result.dir (stores sets.exit entries.exit order.exit) values.new)
-        ≡ measuredAll (singleStore aggregation) limit (filterOf present filter.now)
+        ≡ measured_all (single_store aggregation) limit (filter_of present filter.now)
         (held d (stores sets.entry entries.entry order.entry) values.old) list.now (given attrs.now) }
 {
     all(
@@ -176,7 +176,7 @@ pub fn measure_all_by(
     h: u64,
 ) -> Batch
     ensures { many result.taken result.no (held result.dir (stores sets.exit entries.exit order.exit) values.new)
-        ≡ measuredAllBy (singleStore aggregation) limit
+        ≡ measured_all_by (single_store aggregation) limit
         (held d (stores sets.entry entries.entry order.entry) values.old) list.now h }
 {
     all_by(
@@ -207,10 +207,10 @@ pub fn measure_all_agreed(
     present: bool,
     filter: &[u32],
 ) -> Batch
-    requires { AgreedFor (singleStore aggregation) tt limit (filterOf present filter.now)
+    requires { AgreedFor (single_store aggregation) tt limit (filter_of present filter.now)
         (held d (stores sets entries order) values.old) (given attrs.now) }
     ensures { many result.taken result.no (held result.dir (stores sets.exit entries.exit order.exit) values.new)
-        ≡ measuredAll (singleStore aggregation) limit (filterOf present filter.now)
+        ≡ measured_all (single_store aggregation) limit (filter_of present filter.now)
         (held d (stores sets.entry entries.entry order.entry) values.old) list.now (given attrs.now) }
 {
     all(
@@ -241,9 +241,9 @@ pub fn measure_all_by_agreed(
     list: &[f64],
     h: u64,
 ) -> Batch
-    requires { AgreedBy (singleStore aggregation) tt limit (held d (stores sets entries order) values.old) h }
+    requires { AgreedBy (single_store aggregation) tt limit (held d (stores sets entries order) values.old) h }
     ensures { many result.taken result.no (held result.dir (stores sets.exit entries.exit order.exit) values.new)
-        ≡ measuredAllBy (singleStore aggregation) limit
+        ≡ measured_all_by (single_store aggregation) limit
         (held d (stores sets.entry entries.entry order.entry) values.old) list.now h }
 {
     all_by(
@@ -274,10 +274,10 @@ pub fn measure_agreed(
     present: bool,
     filter: &[u32],
 ) -> Reply
-    requires { AgreedFor (singleStore aggregation) tt limit (filterOf present filter.now)
+    requires { AgreedFor (single_store aggregation) tt limit (filter_of present filter.now)
         (held d (stores sets entries order) values.old) (given attrs.now) }
     ensures { gave result (stores sets.exit entries.exit order.exit) values.new
-        ≡ measured (singleStore aggregation) limit (filterOf present filter.now)
+        ≡ measured (single_store aggregation) limit (filter_of present filter.now)
         (held d (stores sets.entry entries.entry order.entry) values.old) v (given attrs.now) }
 {
     let one: [f64; 1] = [v];
@@ -310,9 +310,9 @@ pub fn measure_by_agreed(
     v: f64,
     h: u64,
 ) -> Reply
-    requires { AgreedBy (singleStore aggregation) tt limit (held d (stores sets entries order) values.old) h }
+    requires { AgreedBy (single_store aggregation) tt limit (held d (stores sets entries order) values.old) h }
     ensures { gave result (stores sets.exit entries.exit order.exit) values.new
-        ≡ measuredBy (singleStore aggregation) limit
+        ≡ measured_by (single_store aggregation) limit
         (held d (stores sets.entry entries.entry order.entry) values.old) v h }
 {
     let one: [f64; 1] = [v];

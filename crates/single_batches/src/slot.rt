@@ -1,9 +1,9 @@
 // Many values at one slot of the store: what it holds is read once, kept by value through the list, and written once.
 ghost use Rattle.std.specs.Prelude.{◌≡◌, true, ◌<◌, length};
 ghost use Rattle.many.specs.Many.{many, each};
-ghost use Rattle.batches.specs.Inner.{recordedAll, Known};
+ghost use Rattle.batches.specs.Inner.{recorded_all, Known};
 ghost use Rattle.singles.specs.Kinds.{holds};
-ghost use Rattle.singles.specs.Stores.{singleStore};
+ghost use Rattle.singles.specs.Stores.{single_store};
 ghost use Rattle.single_batches.specs.Inner.{stepped};
 
 use many::Taken;
@@ -65,9 +65,9 @@ pub fn record_all(
     list: &[f64],
 ) -> Taken
     requires x_in_bounds { x < length values.old }
-    requires known { Known (singleStore aggregation) tt known x updated values.old }
+    requires known { Known (single_store aggregation) tt known x updated values.old }
     ensures { many result.taken result.no values.new
-        ≡ recordedAll (singleStore aggregation) x updated values.old list.now }
+        ≡ recorded_all (single_store aggregation) x updated values.old list.now }
 {
     let held = singles::slot::held_at(x, updated, values);
     let run = fold(aggregation, held, list);

@@ -4,9 +4,9 @@ ghost use Rattle.std.proofs.Math.Option.{none};
 ghost use Rattle.sets.specs.Sorted.{given};
 ghost use Rattle.directory.specs.View.{stores};
 ghost use Rattle.value_map.specs.Calls.{held, measured};
-ghost use Rattle.singles.specs.Stores.{singleStore};
+ghost use Rattle.singles.specs.Stores.{single_store};
 ghost use Rattle.singles.specs.declared.Aggregation.TheVariants.{Sum};
-ghost use Rattle.map_words.specs.Words.{state_of, handed, handedOut};
+ghost use Rattle.map_words.specs.Words.{state_of, handed, handed_out};
 
 use singles::Aggregation;
 
@@ -23,7 +23,7 @@ pub extern "C" fn sum_measure(
     attrs: &[[u32; 2]],
 ) -> u64
     ensures { handed result state.exit (stores sets.exit entries.exit order.exit) values.new
-        ≡ handedOut state.old (measured (singleStore Sum) limit none
+        ≡ handed_out state.old (measured (single_store Sum) limit none
         (held (state_of (get_or state.old 0 [])) (stores sets.entry entries.entry order.entry) values.old)
         v (given attrs.now)) }
 {

@@ -1,10 +1,10 @@
 // Calls for programs in other languages: a value recorded by handle into a map of sums.
 ghost use Rattle.std.specs.Prelude.{◌≡◌, [], get_or};
 ghost use Rattle.directory.specs.View.{stores};
-ghost use Rattle.value_map.specs.Calls.{held, measuredBy};
-ghost use Rattle.singles.specs.Stores.{singleStore};
+ghost use Rattle.value_map.specs.Calls.{held, measured_by};
+ghost use Rattle.singles.specs.Stores.{single_store};
 ghost use Rattle.singles.specs.declared.Aggregation.TheVariants.{Sum};
-ghost use Rattle.map_words.specs.Words.{state_of, handed, handedOut};
+ghost use Rattle.map_words.specs.Words.{state_of, handed, handed_out};
 
 use singles::Aggregation;
 
@@ -21,7 +21,7 @@ pub extern "C" fn sum_measure_by(
     handle: u64,
 ) -> u64
     ensures { handed result state.exit (stores sets.exit entries.exit order.exit) values.new
-        ≡ handedOut state.old (measuredBy (singleStore Sum) limit
+        ≡ handed_out state.old (measured_by (single_store Sum) limit
         (held (state_of (get_or state.old 0 [])) (stores sets.entry entries.entry order.entry) values.old)
         v handle) }
 {

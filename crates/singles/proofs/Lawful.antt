@@ -6,8 +6,8 @@ use native.Mathlib.Omega.{arith}
 use lib.Ieee.{Float, binary64, fits, add}
 use lib.Ieee.Scale.{finite}
 use Rattle.laws.proofs.Cases.{and-true, true-not-false}
-use Rattle.floats.specs.Starts.{zeroFloat}
-use Rattle.floats.specs.Answers.{bitsOf}
+use Rattle.floats.specs.Starts.{zero_float}
+use Rattle.floats.specs.Answers.{bits_of}
 use Rattle.tally.proofs.Lawful.{Lawful}
 use Rattle.tally.proofs.Sound.{Steady}
 use Rattle.singles.specs.declared.Aggregation.{Aggregation}
@@ -31,10 +31,10 @@ last_snoc d (x ∷ y ∷ vs) v = last_snoc d (y ∷ vs) v
 
 -- a value more
 step_is : (a : Aggregation) (vs : List Float) (v : Float) → step a (value_of a vs) v ≡ value_of a (vs ++ v ∷ [])
-step_is Sum vs v = fold-snoc zeroFloat vs v
-step_is LastValue vs v = last_snoc zeroFloat vs v
+step_is Sum vs v = fold-snoc zero_float vs v
+step_is LastValue vs v = last_snoc zero_float vs v
 
-without : (a : Aggregation) → zeroFloat ≡ value_of a []
+without : (a : Aggregation) → zero_float ≡ value_of a []
 without Sum = refl
 without LastValue = refl
 
@@ -53,7 +53,7 @@ module _ (a : Aggregation) where
         agrees = λ z x vs h. h.held;
         total = λ z x vs h. omega arith;
         allows = λ z x vs v h f. refl;
-        point = λ z x vs h. ap bitsOf h.is;
+        point = λ z x vs h. ap bits_of h.is;
       }
 
   pub steady : Steady (singles a)

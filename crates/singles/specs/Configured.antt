@@ -3,8 +3,8 @@ use Rattle.std.specs.Prelude.{ℕ, List, Float}
 use Rattle.std.proofs.Math.Option.{Option}
 use Rattle.laws.specs.Said.{Said, refusal, success}
 use Rattle.directory.specs.View.{Stores}
-use Rattle.collecting.specs.Configured.{Configuring, configuredAs}
-use Rattle.singles.specs.Stores.{singleStore}
+use Rattle.collecting.specs.Configured.{Configuring, configured_as}
+use Rattle.singles.specs.Stores.{single_store}
 use Rattle.singles.specs.declared.Aggregation.{Aggregation}
 use Rattle.singles.specs.declared.Setup.{Setup}
 use Rattle.singles.specs.declared.Configured.{Configured}
@@ -18,4 +18,4 @@ said (Accepted s) = success s
 -- "Configuring: 1, 2, 3, 4, 12", of which there are 4 and 12
 unfoldable pub configured : Aggregation → ℕ → Option (List ℕ) → Stores → List Float → Configuring Setup
 configured a limit filter s c =
-    configuredAs (singleStore a) (λ d. record { settings = record { aggregation = a; limit = limit }; dir = d }) limit filter s c
+    configured_as (single_store a) (λ d. record { settings = record { aggregation = a; limit = limit }; dir = d }) limit filter s c

@@ -4,8 +4,8 @@ use mathlib.Core.List.{List, [], ◌∷◌, foldl}
 use Rattle.std.specs.Float.{binary64}
 use Rattle.std.specs.Float.Ieee.{add}
 use Rattle.std.specs.Float.Ieee.Scale.{finite}
-use Rattle.floats.specs.Starts.{zeroFloat}
-use Rattle.floats.specs.Answers.{bitsOf}
+use Rattle.floats.specs.Starts.{zero_float}
+use Rattle.floats.specs.Answers.{bits_of}
 use Rattle.tally.specs.Kind.{Kind}
 use Rattle.kinds.specs.Histograms.{histograms}
 use Rattle.singles.specs.declared.Aggregation.{Aggregation}
@@ -20,8 +20,8 @@ last_or d (v ∷ w ∷ vs) = last_or d (w ∷ vs)
 -- what the values of a set come to: "the set's sum or last waiting value". A sum is f64 addition in order of recording from 0.0, one rounding each; without
 -- values either is 0.0, as in the Rust (`T::default()` in `Aggregator::create`)
 abbrev pub value_of : Aggregation → List Float → Float
-value_of Sum vs = foldl (add binary64) zeroFloat vs
-value_of LastValue vs = last_or zeroFloat vs
+value_of Sum vs = foldl (add binary64) zero_float vs
+value_of LastValue vs = last_or zero_float vs
 
 -- what a value makes of the f64 that is held: `update` of sum.rs adds it, that of last_value.rs puts it in its place
 abbrev pub step : Aggregation → Float → Float → Float
@@ -44,14 +44,14 @@ singles a =
       Series = Float;
       Point = ℕ;
       finite = histograms.finite;
-      fresh = λ z. zeroFloat;
+      fresh = λ z. zero_float;
       add = λ z x v. step a x v;
       agrees = λ z x. holds a x;
       total = λ x. 0;
       allows = λ z x v. true;
-      point = λ z x. bitsOf x;
+      point = λ z x. bits_of x;
       pos = λ p. 0;
       neg = λ p. 0;
-      point_of = λ z vs. bitsOf (value_of a vs);
+      point_of = λ z vs. bits_of (value_of a vs);
       allowed = λ z vs v. true;
     }

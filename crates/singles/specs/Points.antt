@@ -2,26 +2,26 @@
 use Rattle.std.specs.Prelude.{ℕ, ◌+◌, List, [], ◌∷◌, map, get_or}
 use Rattle.std.proofs.Math.Option.{none, some}
 use Rattle.std.specs.Borrow.{Bor}
-use Rattle.floats.specs.Answers.{bitsOf}
+use Rattle.floats.specs.Answers.{bits_of}
 use Rattle.listing.specs.Listed.{Output}
 use Rattle.collecting.specs.Lister.{Lister}
 use Rattle.singles.specs.declared.Aggregation.{Aggregation}
-use Rattle.singles.specs.Stores.{held_at, singleStore}
+use Rattle.singles.specs.Stores.{held_at, single_store}
 
 -- each value is the one word of its point
-abbrev pub asWords : List ℕ → List (List ℕ)
-asWords values = map (λ b. b ∷ []) values
+abbrev pub as_words : List ℕ → List (List ℕ)
+as_words values = map (λ b. b ∷ []) values
 
 -- lent output as a contract writes it; there is no place for counts
 abbrev pub output : Bor (List (List ℕ)) → Bor (List ℕ) → Output
-output sets values = record { sets = sets.now; words = asWords values.now; pos = []; neg = [] }
+output sets values = record { sets = sets.now; words = as_words values.now; pos = []; neg = [] }
 
 -- a slot's point; the reader finds the word at a place, and the next point at the place behind it. Nothing is asked of the f64s that are lent
-abbrev pub singleLister : (a : Aggregation) → Lister (singleStore a)
-singleLister a =
+abbrev pub single_lister : (a : Aggregation) → Lister (single_store a)
+single_lister a =
     record {
       Lent = λ c. Unit;
-      words = λ w c x u. bitsOf (held_at c x u) ∷ [];
+      words = λ w c x u. bits_of (held_at c x u) ∷ [];
       pos = λ c x u. [];
       neg = λ c x u. [];
       found = λ at o.

@@ -4,9 +4,9 @@ ghost use Rattle.std.proofs.Math.Option.{none};
 ghost use Rattle.directory.specs.View.{stores};
 ghost use Rattle.value_map.specs.Calls.{held};
 ghost use Rattle.batches.specs.Owned.{Owned};
-ghost use Rattle.collecting.specs.Collected.{gave, uncollected, deltaCollected, cumulativeCollected};
-ghost use Rattle.singles.specs.Stores.{singleStore};
-ghost use Rattle.singles.specs.Points.{output, singleLister};
+ghost use Rattle.collecting.specs.Collected.{gave, uncollected, delta_collected, cumulative_collected};
+ghost use Rattle.singles.specs.Stores.{single_store};
+ghost use Rattle.singles.specs.Points.{output, single_lister};
 
 use crate::Settings;
 use collecting::{Answer, Reply};
@@ -25,8 +25,8 @@ fn number(
     out_sets: &[[u64; 9]],
     out_values: &[u64],
 ) -> u8
-    requires { known ≡ true → Owned (singleStore s.aggregation) tt s.limit none (held d (stores sets entries order) values.now) }
-    ensures { result ≡ uncollected (singleLister s.aggregation) tt cumulative s.limit
+    requires { known ≡ true → Owned (single_store s.aggregation) tt s.limit none (held d (stores sets entries order) values.now) }
+    ensures { result ≡ uncollected (single_lister s.aggregation) tt cumulative s.limit
         (held d (stores sets.entry entries.entry order.entry) values.now)
         (output out_sets.entry out_values.entry) }
 {
@@ -61,10 +61,10 @@ pub fn delta(
     out_sets: &mut [[u64; 9]],
     out_values: &mut [u64],
 ) -> Reply
-    requires { known ≡ true → Owned (singleStore s.aggregation) tt s.limit none (held d (stores sets entries order) values.now) }
+    requires { known ≡ true → Owned (single_store s.aggregation) tt s.limit none (held d (stores sets entries order) values.now) }
     ensures { gave result.answer (held result.dir (stores sets.exit entries.exit order.exit) values.now)
         (output out_sets.exit out_values.exit)
-        ≡ deltaCollected (singleLister s.aggregation) tt s.limit
+        ≡ delta_collected (single_lister s.aggregation) tt s.limit
         (held d (stores sets.entry entries.entry order.entry) values.now)
         (output out_sets.entry out_values.entry) }
 {
@@ -99,10 +99,10 @@ pub fn cumulative(
     out_sets: &mut [[u64; 9]],
     out_values: &mut [u64],
 ) -> Answer
-    requires { known ≡ true → Owned (singleStore s.aggregation) tt s.limit none (held d (stores sets entries order) values.now) }
+    requires { known ≡ true → Owned (single_store s.aggregation) tt s.limit none (held d (stores sets entries order) values.now) }
     ensures { gave result (held d (stores sets.entry entries.entry order.entry) values.now)
         (output out_sets.exit out_values.exit)
-        ≡ cumulativeCollected (singleLister s.aggregation) tt s.limit
+        ≡ cumulative_collected (single_lister s.aggregation) tt s.limit
         (held d (stores sets.entry entries.entry order.entry) values.now)
         (output out_sets.entry out_values.entry) }
 {

@@ -8,15 +8,15 @@ mod walk;
 
 ghost use Rattle.std.specs.Prelude.{◌≡◌};
 ghost use Rattle.std.proofs.Math.Option.{none};
-ghost use Rattle.sets.specs.Sorted.{filterOf};
+ghost use Rattle.sets.specs.Sorted.{filter_of};
 ghost use Rattle.directory.specs.View.{stores};
 ghost use Rattle.bindings.specs.Calls as Bindings;
 ghost use Rattle.value_map.specs.Calls.{held};
 ghost use Rattle.batches.specs.Owned.{Owned};
-ghost use Rattle.collecting.specs.Configured.{setUp, configuring};
-ghost use Rattle.collecting.specs.Collected.{gave, deltaCollected, cumulativeCollected};
-ghost use Rattle.singles.specs.Stores.{singleStore};
-ghost use Rattle.singles.specs.Points.{output, singleLister};
+ghost use Rattle.collecting.specs.Configured.{set_up, configuring};
+ghost use Rattle.collecting.specs.Collected.{gave, delta_collected, cumulative_collected};
+ghost use Rattle.singles.specs.Stores.{single_store};
+ghost use Rattle.singles.specs.Points.{output, single_lister};
 ghost use Rattle.singles.specs.Configured.{said, configured};
 
 use collecting::{Answer, Reply};
@@ -52,7 +52,7 @@ pub enum Configured {
 
 // What configuring says by what the start of the map replied.
 fn set_up(settings: Settings, reply: bindings::Reply) -> Configured
-    ensures { said result ≡ setUp (record { settings = settings; dir = reply.dir }) (Bindings.said reply.answer) }
+    ensures { said result ≡ set_up (record { settings = settings; dir = reply.dir }) (Bindings.said reply.answer) }
 {
     let dir = reply.dir;
     let answer = reply.answer;
@@ -75,7 +75,7 @@ pub fn configure(
     values: &[f64],
 ) -> Configured
     ensures { configuring (said result) (stores sets.entry entries.exit order.entry)
-        ≡ configured aggregation limit (filterOf present filter.now)
+        ≡ configured aggregation limit (filter_of present filter.now)
         (stores sets.entry entries.entry order.entry) values.now }
 {
     let room = directory::suffices(limit, values.len());
@@ -98,7 +98,7 @@ pub fn delta(
 ) -> Reply
     ensures { gave result.answer (held result.dir (stores sets.exit entries.exit order.exit) values.now)
         (output out_sets.exit out_values.exit)
-        ≡ deltaCollected (singleLister s.aggregation) tt s.limit
+        ≡ delta_collected (single_lister s.aggregation) tt s.limit
         (held d (stores sets.entry entries.entry order.entry) values.now)
         (output out_sets.entry out_values.entry) }
 {
@@ -118,10 +118,10 @@ pub fn delta_agreed(
     out_sets: &mut [[u64; 9]],
     out_values: &mut [u64],
 ) -> Reply
-    requires { Owned (singleStore s.aggregation) tt s.limit none (held d (stores sets entries order) values.now) }
+    requires { Owned (single_store s.aggregation) tt s.limit none (held d (stores sets entries order) values.now) }
     ensures { gave result.answer (held result.dir (stores sets.exit entries.exit order.exit) values.now)
         (output out_sets.exit out_values.exit)
-        ≡ deltaCollected (singleLister s.aggregation) tt s.limit
+        ≡ delta_collected (single_lister s.aggregation) tt s.limit
         (held d (stores sets.entry entries.entry order.entry) values.now)
         (output out_sets.entry out_values.entry) }
 {
@@ -144,7 +144,7 @@ pub fn cumulative(
 ) -> Answer
     ensures { gave result (held d (stores sets.entry entries.entry order.entry) values.now)
         (output out_sets.exit out_values.exit)
-        ≡ cumulativeCollected (singleLister s.aggregation) tt s.limit
+        ≡ cumulative_collected (single_lister s.aggregation) tt s.limit
         (held d (stores sets.entry entries.entry order.entry) values.now)
         (output out_sets.entry out_values.entry) }
 {
@@ -164,10 +164,10 @@ pub fn cumulative_agreed(
     out_sets: &mut [[u64; 9]],
     out_values: &mut [u64],
 ) -> Answer
-    requires { Owned (singleStore s.aggregation) tt s.limit none (held d (stores sets entries order) values.now) }
+    requires { Owned (single_store s.aggregation) tt s.limit none (held d (stores sets entries order) values.now) }
     ensures { gave result (held d (stores sets.entry entries.entry order.entry) values.now)
         (output out_sets.exit out_values.exit)
-        ≡ cumulativeCollected (singleLister s.aggregation) tt s.limit
+        ≡ cumulative_collected (single_lister s.aggregation) tt s.limit
         (held d (stores sets.entry entries.entry order.entry) values.now)
         (output out_sets.entry out_values.entry) }
 {

@@ -1,11 +1,11 @@
 // The map of sums and last values: recording by set and by handle.
 ghost use Rattle.std.specs.Prelude.{◌≡◌};
 ghost use Rattle.rows.specs.Recording.{after};
-ghost use Rattle.sets.specs.Sorted.{given, filterOf};
+ghost use Rattle.sets.specs.Sorted.{given, filter_of};
 ghost use Rattle.directory.specs.View.{stores};
-ghost use Rattle.value_map.specs.Calls.{held, gave, measured, measuredBy};
+ghost use Rattle.value_map.specs.Calls.{held, gave, measured, measured_by};
 ghost use Rattle.value_map.specs.Inner.{Takes, taken};
-ghost use Rattle.singles.specs.Stores.{singleStore};
+ghost use Rattle.singles.specs.Stores.{single_store};
 
 use crate::Aggregation;
 use bindings::Reply;
@@ -14,8 +14,8 @@ use value_map::first;
 
 // Records a value at the slot of a seating, unless that is refused; the number, 0 if the value was taken.
 fn take(aggregation: Aggregation, no: u8, x: usize, updated: bool, values: &mut [f64], v: f64) -> u8
-    requires { Takes (singleStore aggregation) values.old v no x }
-    ensures { after result values.new ≡ taken (singleStore aggregation) values.old v no no x updated }
+    requires { Takes (single_store aggregation) values.old v no x }
+    ensures { after result values.new ≡ taken (single_store aggregation) values.old v no no x updated }
 {
     if no != 0 {
         return no;
@@ -38,7 +38,7 @@ pub fn measure(
     filter: &[u32],
 ) -> Reply
     ensures { gave result (stores sets.exit entries.exit order.exit) values.new
-        ≡ measured (singleStore aggregation) limit (filterOf present filter.now)
+        ≡ measured (single_store aggregation) limit (filter_of present filter.now)
         (held d (stores sets.entry entries.entry order.entry) values.old) v (given attrs.now) }
 {
     let slots = values.len();
@@ -65,7 +65,7 @@ pub fn measure_by(
     h: u64,
 ) -> Reply
     ensures { gave result (stores sets.exit entries.exit order.exit) values.new
-        ≡ measuredBy (singleStore aggregation) limit
+        ≡ measured_by (single_store aggregation) limit
         (held d (stores sets.entry entries.entry order.entry) values.old) v h }
 {
     let slots = values.len();

@@ -3,10 +3,10 @@ ghost use Rattle.std.specs.Prelude.{◌≡◌, true, ◌<◌, length};
 ghost use Rattle.rows.specs.Recording.{after};
 ghost use Rattle.batches.specs.Inner.{Known};
 ghost use Rattle.listing.specs.Inner.{left};
-ghost use Rattle.collecting.specs.Slots.{Few, More, surveyedAt, putSlot};
+ghost use Rattle.collecting.specs.Slots.{Few, More, surveyed_at, put_slot};
 ghost use Rattle.singles.specs.Kinds.{step, holds};
-ghost use Rattle.singles.specs.Stores.{held_at, recordedAt, singleStore};
-ghost use Rattle.singles.specs.Points.{output, singleLister};
+ghost use Rattle.singles.specs.Stores.{held_at, recorded_at, single_store};
+ghost use Rattle.singles.specs.Points.{output, single_lister};
 ghost use Rattle.singles.specs.Inner.{place};
 ghost use Rattle.singles.specs.declared.Aggregation.TheVariants.{Sum};
 
@@ -47,7 +47,7 @@ pub fn held_at(x: usize, updated: bool, values: &[f64]) -> f64
 // Records a value at slot x: 8, or 0 and the slot holds what the value makes of it.
 pub fn record(aggregation: Aggregation, x: usize, updated: bool, values: &mut [f64], v: f64) -> u8
     requires { x < length values.old }
-    ensures { after result values.new ≡ recordedAt aggregation x updated values.old v }
+    ensures { after result values.new ≡ recorded_at aggregation x updated values.old v }
 {
     let held = held_at(x, updated, values);
     if !holds(aggregation, held) {
@@ -60,7 +60,7 @@ pub fn record(aggregation: Aggregation, x: usize, updated: bool, values: &mut [f
 // Whether slot x may hold what it holds. Where that is known, it is not asked.
 fn is_sound(known: bool, aggregation: Aggregation, x: usize, updated: bool, values: &[f64]) -> bool
     requires x_in_bounds { x < length values.now }
-    requires known { Known (singleStore aggregation) tt known x updated values.now }
+    requires known { Known (single_store aggregation) tt known x updated values.now }
     ensures { result ≡ holds aggregation (held_at values.now x updated) }
 {
     if known {
@@ -80,8 +80,8 @@ pub fn survey(
     values: &[f64],
 ) -> Survey
     requires x_in_bounds { x < length values.now }
-    requires few { Few s × Known (singleStore aggregation) tt known x updated values.now }
-    ensures value { result ≡ surveyedAt (singleLister aggregation) tt updated due values.now s x }
+    requires few { Few s × Known (single_store aggregation) tt known x updated values.now }
+    ensures value { result ≡ surveyed_at (single_lister aggregation) tt updated due values.now s x }
     ensures more { More s result }
 {
     if !is_sound(known, aggregation, x, updated, values) {
@@ -117,7 +117,7 @@ pub fn put(
     requires x_in_bounds { x < length values.now }
     requires at_in_bounds { due ≡ true → (at < length out_sets.old) × (at < length out_values.old) }
     ensures { left (place result) (output out_sets.exit out_values.exit)
-        ≡ putSlot (singleLister Sum) tt updated due values.now x row (place at)
+        ≡ put_slot (single_lister Sum) tt updated due values.now x row (place at)
         (output out_sets.entry out_values.entry) }
 {
     if !due {

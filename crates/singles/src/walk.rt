@@ -1,9 +1,9 @@
 // All slots, ascending by set: what a collection finds, and the points that are due put into the output.
 ghost use Rattle.std.specs.Prelude.{◌≡◌, []};
 ghost use Rattle.listing.specs.Inner.{left};
-ghost use Rattle.collecting.specs.Slots.{walked, Walk, AllKnown, surveyed, Listable, listedTo};
-ghost use Rattle.singles.specs.Stores.{singleStore};
-ghost use Rattle.singles.specs.Points.{output, singleLister};
+ghost use Rattle.collecting.specs.Slots.{walked, Walk, AllKnown, surveyed, Listable, listed_to};
+ghost use Rattle.singles.specs.Stores.{single_store};
+ghost use Rattle.singles.specs.Points.{output, single_lister};
 ghost use Rattle.singles.specs.Inner.{place};
 ghost use Rattle.singles.specs.declared.Aggregation.TheVariants.{Sum};
 
@@ -20,9 +20,9 @@ pub fn survey(
     order: &[u32],
     values: &[f64],
 ) -> Survey
-    requires walk { Walk (singleStore aggregation) (walked used [] entries.now order.now values.now) }
-    requires all_known { AllKnown (singleStore aggregation) tt known (walked used [] entries.now order.now values.now) }
-    ensures { result ≡ surveyed (singleLister aggregation) tt cumulative
+    requires walk { Walk (single_store aggregation) (walked used [] entries.now order.now values.now) }
+    requires all_known { AllKnown (single_store aggregation) tt known (walked used [] entries.now order.now values.now) }
+    ensures { result ≡ surveyed (single_lister aggregation) tt cumulative
         (walked used [] entries.now order.now values.now) }
 {
     let mut found = Survey {
@@ -57,10 +57,10 @@ pub fn list(
     out_sets: &mut [[u64; 9]],
     out_values: &mut [u64],
 ) -> usize
-    requires { Listable (singleLister Sum) tt cumulative (walked used sets.now entries.now order.now values.now)
+    requires { Listable (single_lister Sum) tt cumulative (walked used sets.now entries.now order.now values.now)
         (output out_sets out_values) }
     ensures { left (place result) (output out_sets.exit out_values.exit)
-        ≡ listedTo (singleLister Sum) tt cumulative
+        ≡ listed_to (single_lister Sum) tt cumulative
         (walked used sets.now entries.now order.now values.now)
         (output out_sets.entry out_values.entry) }
 {

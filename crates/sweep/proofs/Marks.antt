@@ -61,10 +61,10 @@ few-one true x l n h = omega arith
 few-one false x l n h = omega arith
 
 module _ (m : ℕ → ℕ) where
-  pub renumbered-append : (l r : List ℕ) → renumbered m (l ++ r) ≡ renumbered m l ++ renumbered m r
-  renumbered-append [] r = refl
-  renumbered-append (q ∷ l) r =
-      ap (λ (t : List ℕ). pick (eqb (m q) 0) t (m q ∷ t)) (renumbered-append l r)
+  pub renumbered_append : (l r : List ℕ) → renumbered m (l ++ r) ≡ renumbered m l ++ renumbered m r
+  renumbered_append [] r = refl
+  renumbered_append (q ∷ l) r =
+      ap (λ (t : List ℕ). pick (eqb (m q) 0) t (m q ∷ t)) (renumbered_append l r)
       ∙ renumbered-one (eqb (m q) 0) (m q) (renumbered m l) (renumbered m r)
 
   pub renumbered-few : (l : List ℕ) → length (renumbered m l) ≤ length l
@@ -72,16 +72,16 @@ module _ (m : ℕ → ℕ) where
   renumbered-few (q ∷ l) = few-one (eqb (m q) 0) (m q) (renumbered m l) (length l) (renumbered-few l)
 
 -- places that hold small numbers, with small marks over them
-few-in : (b : Bool) (x j n : ℕ) (l : List ℕ) → x < n → ((k : ℕ) → k < length l → get_or l k 0 < n) → j < length (pick b l (x ∷ l)) → get_or (pick b l (x ∷ l)) j 0 < n
+few_in_lem : (b : Bool) (x j n : ℕ) (l : List ℕ) → x < n → ((k : ℕ) → k < length l → get_or l k 0 < n) → j < length (pick b l (x ∷ l)) → get_or (pick b l (x ∷ l)) j 0 < n
 unfolding pick
-few-in true x j n l h g k = g j k
-few-in false x zero n l h g k = h
-few-in false x (suc j) n l h g k = g j (omega arith)
+few_in_lem true x j n l h g k = g j k
+few_in_lem false x zero n l h g k = h
+few_in_lem false x (suc j) n l h g k = g j (omega arith)
 
 pub renumbered-small : (m : ℕ → ℕ) (n : ℕ) (l : List ℕ) → ((q : ℕ) → In q l → m q < n) → (j : ℕ) → j < length (renumbered m l) → get_or (renumbered m l) j 0 < n
 renumbered-small m n [] g j h = absurd (omega arith)
 renumbered-small m n (q ∷ l) g j h =
-    few-in (eqb (m q) 0) (m q) j n (renumbered m l) (g q (inl refl)) (λ k a. renumbered-small m n l (λ x i. g x (inr i)) k a) h
+    few_in_lem (eqb (m q) 0) (m q) j n (renumbered m l) (g q (inl refl)) (λ k a. renumbered-small m n l (λ x i. g x (inr i)) k a) h
 
 pub over-small : (new old : List ℕ) (n : ℕ) → ((j : ℕ) → j < length new → get_or new j 0 < n) → (j : ℕ) → get_or old j 0 < n → get_or (over new old) j 0 < n
 over-small new old n g j h = go (leb (length new) j) refl

@@ -12,27 +12,27 @@ use Rattle.laws.specs.Over.{over}
 use Rattle.laws.specs.Pick.{pick}
 use Rattle.laws.proofs.Bools.{pick_true, pick-false}
 use Rattle.tally.specs.Map.{bit, plain}
-use Rattle.sets.specs.Rows.{span, pair, size, setOf}
+use Rattle.sets.specs.Rows.{span, pair, size, set_of}
 use Rattle.sets.proofs.Spans.{span-snoc, span-length}
-use Rattle.directory.proofs.Rises.{span-in}
+use Rattle.directory.proofs.Rises.{span_in}
 use Rattle.sweep.specs.Swept.{goes, staying, rank}
-use Rattle.sweep.specs.Passes.{mark_of, markIn, packed, lows, renumbered, moved_to, settled}
+use Rattle.sweep.specs.Passes.{mark_of, mark_in, packed, lows, renumbered, moved_to, settled}
 use Rattle.laws.proofs.Over.{length_over, over-snoc, over-behind, over_none}
-use Rattle.sweep.proofs.Marks.{rank-more, renumbered-append, renumbered-few, renumbered-small, over-small, settled-past}
+use Rattle.sweep.proofs.Marks.{rank-more, renumbered_append, renumbered-few, renumbered-small, over-small, settled-past}
 use Rattle.sweep.proofs.Packs.{edited-length, edited-at, edited-past, by_parts, packed-at, packed-length, packed-past, packed-low, packed-high, packed-set}
 
 -- whether a slot stays
 module _ (u b : ℕ) (c : Bool) where
-  abbrev staysIf : Bool
-  staysIf = not (eqb u 0 && (eqb b 0 && c))
+  abbrev stays_if : Bool
+  stays_if = not (eqb u 0 && (eqb b 0 && c))
 
-  pub stays-used : (u ≡ 0 → ⊥) → 1 ≡ bit staysIf
+  pub stays-used : (u ≡ 0 → ⊥) → 1 ≡ bit stays_if
   stays-used n = rw (ne_eqb u 0 n)
 
-  pub stays-bound : u ≡ 0 → (b ≡ 0 → ⊥) → 1 ≡ bit staysIf
+  pub stays-bound : u ≡ 0 → (b ≡ 0 → ⊥) → 1 ≡ bit stays_if
   stays-bound e n = rw (eq-eqb u 0 e, ne_eqb b 0 n)
 
-  pub stays-other : u ≡ 0 → b ≡ 0 → bit (not c) ≡ bit staysIf
+  pub stays-other : u ≡ 0 → b ≡ 0 → bit (not c) ≡ bit stays_if
   stays-other e n = rw (eq-eqb u 0 e, eq-eqb b 0 n)
 
 -- the empty set stays, and of the others those that are not plain
@@ -40,8 +40,8 @@ pub less-bit : (b : Bool) → 1 - bit b ≡ bit (not b)
 less-bit true = refl
 less-bit false = refl
 
-pub empty-other : (row : List ℕ) → size row ≡ 0 → 1 ≡ bit (not (plain (setOf row)))
-unfolding setOf
+pub empty-other : (row : List ℕ) → size row ≡ 0 → 1 ≡ bit (not (plain (set_of row)))
+unfolding set_of
 empty-other row e = ap (λ (k : ℕ). bit (not (plain (map pair (span row 0 k))))) (sym e)
 
 -- a rank
@@ -87,7 +87,7 @@ module _ (m : ℕ → ℕ) (o order : List ℕ) (w i : ℕ) (v : order ≡ over 
   next : renumbered m (span o 0 (suc i)) ≡ R ++ pick (eqb (m (get_or o i 0)) 0) [] (m (get_or o i 0) ∷ [])
   next =
       let z : 0 + i ≡ i = omega arith in
-      ap (renumbered m) (span-snoc o 0 i ∙ ap (λ (j : ℕ). span o 0 i ++ (get_or o j 0 ∷ [])) z) ∙ renumbered-append m (span o 0 i) (get_or o i 0 ∷ [])
+      ap (renumbered m) (span-snoc o 0 i ∙ ap (λ (j : ℕ). span o 0 i ++ (get_or o j 0 ∷ [])) z) ∙ renumbered_append m (span o 0 i) (get_or o i 0 ∷ [])
 
   abbrev Places : ℕ → ℕ → Type 0
   Places n j =
@@ -121,13 +121,13 @@ pick-packed true m n x y = refl
 pick-packed false m n x y = refl
 
 module _ (used : ℕ) (o : List ℕ) (lo : used ≤ length o) (small : used < 65536)
-    (g : (k : ℕ) → k < used → (1 ≤ get_or o k 0 % 65536) × (get_or o k 0 % 65536 ≤ used)) (h : (x : ℕ) → 1 ≤ x → x ≤ used → markIn o x ≤ used) where
+    (g : (k : ℕ) → k < used → (1 ≤ get_or o k 0 % 65536) × (get_or o k 0 % 65536 ≤ used)) (h : (x : ℕ) → 1 ≤ x → x ≤ used → mark_in o x ≤ used) where
   abbrev L : List ℕ
   L = lows used o
 
   -- the places up to i, under the new numbers
   abbrev pub X : ℕ → List ℕ
-  X i = over (renumbered (markIn o) (span (lows used o) 0 i)) (lows used o)
+  X i = over (renumbered (mark_in o) (span (lows used o) 0 i)) (lows used o)
 
   low-long : length (lows used o) ≡ length o
   low-long = edited-length (λ i w. w % 65536) o used
@@ -140,65 +140,65 @@ module _ (used : ℕ) (o : List ℕ) (lo : used ≤ length o) (small : used < 65
 
   X-small : (i : ℕ) → i ≤ used → (j : ℕ) → j < used → get_or (X i) j 0 < 65536
   X-small i k j a =
-      over-small (renumbered (markIn o) (span (lows used o) 0 i)) (lows used o) 65536
-      (renumbered-small (markIn o) 65536 (span (lows used o) 0 i) (span-in (λ (q : ℕ). markIn o q < 65536) (lows used o) 0 i (λ n b c. let w = low-slot n (omega arith) in omega (arith, h (get_or (lows used o) n 0) w.0 w.1))))
+      over-small (renumbered (mark_in o) (span (lows used o) 0 i)) (lows used o) 65536
+      (renumbered-small (mark_in o) 65536 (span (lows used o) 0 i) (span_in (λ (q : ℕ). mark_in o q < 65536) (lows used o) 0 i (λ n b c. let w = low-slot n (omega arith) in omega (arith, h (get_or (lows used o) n 0) w.0 w.1))))
       j (omega (arith, (low-slot j a).1))
 
   X-long : (i : ℕ) → i ≤ used → length (X i) ≡ length o
-  X-long i k = places-length (markIn o) (lows used o) i (omega (arith, low-long)) ∙ low-long
+  X-long i k = places-length (mark_in o) (lows used o) i (omega (arith, low-long)) ∙ low-long
 
-  pub words_long : (i : ℕ) → i ≤ used → length (packed (markIn o) used (X i)) ≡ length o
-  words_long i k = packed-length (markIn o) used (X i) (omega (arith, X-long i k)) ∙ X-long i k
+  pub words_long : (i : ℕ) → i ≤ used → length (packed (mark_in o) used (X i)) ≡ length o
+  words_long i k = packed-length (mark_in o) used (X i) (omega (arith, X-long i k)) ∙ X-long i k
 
-  pub first : o ≡ packed (markIn o) used (X 0)
+  pub first : o ≡ packed (mark_in o) used (X 0)
   first =
       let n : used ≤ length (lows used o) = omega (arith, low-long) in
-      by_parts used o (packed (markIn o) used (X 0)) (sym (packed-length (markIn o) used (X 0) (omega (arith, X-long 0 (omega arith))) ∙ X-long 0 (omega arith)))
-      (λ j a. split (get_or o j 0) ∙ sym (packed-at (markIn o) used (X 0) (omega (arith, X-long 0 (omega arith))) j a ∙ ap (λ (q : ℕ). q + 65536 * (get_or o j 0 / 65536)) (ap (λ (t : List ℕ). get_or t j 0) (over_none (lows used o)) ∙ low-at j a)))
-      (λ j a. sym (packed-past (markIn o) used (X 0) (omega (arith, X-long 0 (omega arith))) j a ∙ ap (λ (t : List ℕ). get_or t j 0) (over_none (lows used o)) ∙ edited-past (λ i w. w % 65536) o used j a))
+      by_parts used o (packed (mark_in o) used (X 0)) (sym (packed-length (mark_in o) used (X 0) (omega (arith, X-long 0 (omega arith))) ∙ X-long 0 (omega arith)))
+      (λ j a. split (get_or o j 0) ∙ sym (packed-at (mark_in o) used (X 0) (omega (arith, X-long 0 (omega arith))) j a ∙ ap (λ (q : ℕ). q + 65536 * (get_or o j 0 / 65536)) (ap (λ (t : List ℕ). get_or t j 0) (over_none (lows used o)) ∙ low-at j a)))
+      (λ j a. sym (packed-past (mark_in o) used (X 0) (omega (arith, X-long 0 (omega arith))) j a ∙ ap (λ (t : List ℕ). get_or t j 0) (over_none (lows used o)) ∙ edited-past (λ i w. w % 65536) o used j a))
     where
       split : (w : ℕ) → w ≡ w % 65536 + 65536 * (w / 65536)
       split w = omega arith
 
-  module _ (order : List ℕ) (w i : ℕ) (v : order ≡ packed (markIn o) used (X i)) (e : w ≡ length (renumbered (markIn o) (span (lows used o) 0 i))) (a : i < used) where
+  module _ (order : List ℕ) (w i : ℕ) (v : order ≡ packed (mark_in o) used (X i)) (e : w ≡ length (renumbered (mark_in o) (span (lows used o) 0 i))) (a : i < used) where
     fits : used ≤ length (X i)
     fits = omega (arith, X-long i (omega arith))
 
     pub word-long : length order ≡ length o
-    word-long = ap length v ∙ packed-length (markIn o) used (X i) fits ∙ X-long i (omega arith)
+    word-long = ap length v ∙ packed-length (mark_in o) used (X i) fits ∙ X-long i (omega arith)
 
     pub word-few : w ≤ i
-    word-few = place-few (markIn o) (lows used o) (X i) w i refl e (omega (arith, low-long))
+    word-few = place-few (mark_in o) (lows used o) (X i) w i refl e (omega (arith, low-long))
 
     pub word_low : get_or order i 0 % 65536 ≡ get_or (lows used o) i 0
     word_low =
         ap (λ (t : List ℕ). get_or t i 0 % 65536) v
-        ∙ packed-low (markIn o) used (X i) fits (X-small i (omega arith)) i a
-        ∙ place_read (markIn o) (lows used o) (X i) w i refl e (omega (arith, low-long))
+        ∙ packed-low (mark_in o) used (X i) fits (X-small i (omega arith)) i a
+        ∙ place_read (mark_in o) (lows used o) (X i) w i refl e (omega (arith, low-long))
 
     module _ (q : ℕ) (c : q ≡ get_or order i 0 % 65536) where
       pub word-slot : (1 ≤ q) × (q ≤ used)
       word-slot = let s = low-slot i a in (omega (arith, c, word_low, s.0), omega (arith, c, word_low, s.1))
 
-      word-high : get_or order (q - 1) 0 / 65536 ≡ markIn o (get_or (lows used o) i 0)
+      word-high : get_or order (q - 1) 0 / 65536 ≡ mark_in o (get_or (lows used o) i 0)
       word-high =
           let z : suc (q - 1) ≡ q = omega (arith, word-slot.0) in
           ap (λ (t : List ℕ). get_or t (q - 1) 0 / 65536) v
-          ∙ packed-high (markIn o) used (X i) fits (X-small i (omega arith)) (q - 1) (omega (arith, word-slot.0, word-slot.1))
-          ∙ ap (markIn o) (z ∙ c ∙ word_low)
+          ∙ packed-high (mark_in o) used (X i) fits (X-small i (omega arith)) (q - 1) (omega (arith, word-slot.0, word-slot.1))
+          ∙ ap (mark_in o) (z ∙ c ∙ word_low)
 
       pub words : (n : ℕ) → n ≡ get_or order (q - 1) 0 / 65536
-          → (pick (eqb n 0) w (w + 1) ≡ length (renumbered (markIn o) (span (lows used o) 0 (i + 1)))) × (pick (eqb n 0) order (set order w (n + 65536 * (get_or order w 0 / 65536))) ≡ packed (markIn o) used (X (i + 1)))
+          → (pick (eqb n 0) w (w + 1) ≡ length (renumbered (mark_in o) (span (lows used o) 0 (i + 1)))) × (pick (eqb n 0) order (set order w (n + 65536 * (get_or order w 0 / 65536))) ≡ packed (mark_in o) used (X (i + 1)))
       words n b =
-          let t = places (markIn o) (lows used o) (X i) w i refl e (omega (arith, low-long)) n (b ∙ word-high) in
+          let t = places (mark_in o) (lows used o) (X i) w i refl e (omega (arith, low-long)) n (b ∙ word-high) in
           let k : w < used = omega (arith, word-few) in
-          let u : get_or order w 0 / 65536 ≡ markIn o (suc w) = ap (λ (x : List ℕ). get_or x w 0 / 65536) v ∙ packed-high (markIn o) used (X i) fits (X-small i (omega arith)) w k in (
+          let u : get_or order w 0 / 65536 ≡ mark_in o (suc w) = ap (λ (x : List ℕ). get_or x w 0 / 65536) v ∙ packed-high (mark_in o) used (X i) fits (X-small i (omega arith)) w k in (
             t.0,
             ap (λ (x : ℕ). pick (eqb n 0) order (set order w (n + 65536 * x))) u
-                ∙ ap (λ (x : List ℕ). pick (eqb n 0) x (set x w (n + 65536 * markIn o (suc w)))) v
-                ∙ ap (λ (x : List ℕ). pick (eqb n 0) (packed (markIn o) used (X i)) x) (packed-set (markIn o) used (X i) fits w n k)
-                ∙ pick-packed (eqb n 0) (markIn o) used (X i) (set (X i) w n)
-                ∙ ap (packed (markIn o) used) t.1,
+                ∙ ap (λ (x : List ℕ). pick (eqb n 0) x (set x w (n + 65536 * mark_in o (suc w)))) v
+                ∙ ap (λ (x : List ℕ). pick (eqb n 0) (packed (mark_in o) used (X i)) x) (packed-set (mark_in o) used (X i) fits w n k)
+                ∙ pick-packed (eqb n 0) (mark_in o) used (X i) (set (X i) w n)
+                ∙ ap (packed (mark_in o) used) t.1,
           )
 
 -- a row

@@ -14,9 +14,9 @@ use Rattle.laws.proofs.Bools.{pick_true, pick-false}
 use Rattle.tally.specs.Map.{bit}
 use Rattle.sets.specs.Rows.{span}
 use Rattle.directory.specs.declared.Directory.{Directory}
-use Rattle.directory.proofs.Rises.{In, span-in}
-use Rattle.sweep.specs.Swept.{staying, stayers, rank, down, clear, sweptKept}
-use Rattle.sweep.specs.Passes.{markIn, mark_of, packed, lows, renumbered, settled}
+use Rattle.directory.proofs.Rises.{In, span_in}
+use Rattle.sweep.specs.Swept.{staying, stayers, rank, down, clear, swept_kept}
+use Rattle.sweep.specs.Passes.{mark_in, mark_of, packed, lows, renumbered, settled}
 use Rattle.laws.proofs.Over.{length_over, over-front, over-snoc}
 use Rattle.sweep.proofs.Marks.{rank-more, rank-le, rank-some, mark-stays, mark-goes, mark-le, renumbered-small, over-small}
 use Rattle.sweep.proofs.Packs.{packed-length, packed-low, packed-mark, packed-same, lows-packed}
@@ -102,8 +102,8 @@ module _ (d : Directory) (sets entries : List (List ℕ)) (order : List ℕ) (ls
 
   -- once the slots are marked
   module _ (o : List ℕ) (e : o ≡ packed (mark_of (staying sets entries)) d.used order) where
-    marks : (x : ℕ) → 1 ≤ x → x ≤ d.used → markIn o x ≡ mark_of (staying sets entries) x
-    marks x a b = ap (λ (t : List ℕ). markIn t x) e ∙ packed-mark (mark_of p) u order lo places-small x a b
+    marks : (x : ℕ) → 1 ≤ x → x ≤ d.used → mark_in o x ≡ mark_of (staying sets entries) x
+    marks x a b = ap (λ (t : List ℕ). mark_in t x) e ∙ packed-mark (mark_of p) u order lo places-small x a b
 
     pub marked-long : d.used ≤ length o
     marked-long = omega (arith, ap length e, packed-length (mark_of p) u order lo)
@@ -113,7 +113,7 @@ module _ (d : Directory) (sets entries : List (List ℕ)) (order : List ℕ) (ls
         let q = ap (λ (t : List ℕ). get_or t k 0 % 65536) e ∙ packed-low (mark_of p) u order lo places-small k h in
         (omega (arith, q, (g k h).0), omega (arith, q, (g k h).1))
 
-    pub marked-le : (x : ℕ) → 1 ≤ x → x ≤ d.used → markIn o x ≤ d.used
+    pub marked-le : (x : ℕ) → 1 ≤ x → x ≤ d.used → mark_in o x ≤ d.used
     marked-le x a b = omega (arith, marks x a b, mark-le p x)
 
     -- once the places are renumbered
@@ -121,26 +121,26 @@ module _ (d : Directory) (sets entries : List (List ℕ)) (order : List ℕ) (ls
     Z = over (map (rank (staying sets entries)) (only (staying sets entries) (span order 0 d.used))) order
 
     here : (q : ℕ) → In q (span order 0 d.used) → (1 ≤ q) × (q ≤ d.used)
-    here q i = span-in (λ (x : ℕ). (1 ≤ x) × (x ≤ d.used)) order 0 u (λ j x y. g j (omega arith)) q i
+    here q i = span_in (λ (x : ℕ). (1 ≤ x) × (x ≤ d.used)) order 0 u (λ j x y. g j (omega arith)) q i
 
-    named : renumbered (markIn o) (span order 0 d.used) ≡ map (rank (staying sets entries)) (only (staying sets entries) (span order 0 d.used))
-    named = renumbered-only p (markIn o) (span order 0 u) (λ q i. let w = here q i in (w.0, marks q w.0 w.1))
+    named : renumbered (mark_in o) (span order 0 d.used) ≡ map (rank (staying sets entries)) (only (staying sets entries) (span order 0 d.used))
+    named = renumbered-only p (mark_in o) (span order 0 u) (λ q i. let w = here q i in (w.0, marks q w.0 w.1))
 
     Z-long : length Z ≡ length order
-    Z-long = ap (λ (t : List ℕ). length (over t order)) (sym named) ∙ places-length (markIn o) order u lo
+    Z-long = ap (λ (t : List ℕ). length (over t order)) (sym named) ∙ places-length (mark_in o) order u lo
 
     Z-small : (j : ℕ) → j < d.used → get_or Z j 0 < 65536
     Z-small j h =
         subst (λ (t : List ℕ). get_or (over t order) j 0 < 65536) named
-        (over-small (renumbered (markIn o) (span order 0 u)) order 65536 (renumbered-small (markIn o) 65536 (span order 0 u) (λ q i. let w = here q i in omega (arith, marked-le q w.0 w.1))) j (places-small j h))
+        (over-small (renumbered (mark_in o) (span order 0 u)) order 65536 (renumbered-small (mark_in o) 65536 (span order 0 u) (λ q i. let w = here q i in omega (arith, marked-le q w.0 w.1))) j (places-small j h))
 
-    module _ (r : List ℕ) (f : r ≡ packed (markIn o) d.used (over (renumbered (markIn o) (span (lows d.used o) 0 d.used)) (lows d.used o))) where
+    module _ (r : List ℕ) (f : r ≡ packed (mark_in o) d.used (over (renumbered (mark_in o) (span (lows d.used o) 0 d.used)) (lows d.used o))) where
       words_are : r ≡ packed (mark_of (staying sets entries)) d.used Z
       words_are =
           let l : lows u o ≡ order = ap (lows u) e ∙ lows-packed (mark_of p) u order lo places-small in
-          f ∙ ap (λ (t : List ℕ). packed (markIn o) u (over (renumbered (markIn o) (span t 0 u)) t)) l
-          ∙ ap (λ (t : List ℕ). packed (markIn o) u (over t order)) named
-          ∙ packed-same (markIn o) (mark_of p) u Z marks
+          f ∙ ap (λ (t : List ℕ). packed (mark_in o) u (over (renumbered (mark_in o) (span t 0 u)) t)) l
+          ∙ ap (λ (t : List ℕ). packed (mark_in o) u (over t order)) named
+          ∙ packed-same (mark_in o) (mark_of p) u Z marks
 
       room : d.used ≤ length Z
       room = omega (arith, Z-long)
@@ -148,20 +148,20 @@ module _ (d : Directory) (sets entries : List (List ℕ)) (order : List ℕ) (ls
       pub moves_long : d.used ≤ length r
       moves_long = omega (arith, ap length words_are, packed-length (mark_of p) u Z room, Z-long)
 
-      moves-mark : (x : ℕ) → 1 ≤ x → x ≤ d.used → markIn r x ≡ mark_of (staying sets entries) x
-      moves-mark x a b = ap (λ (t : List ℕ). markIn t x) words_are ∙ packed-mark (mark_of p) u Z room Z-small x a b
+      moves-mark : (x : ℕ) → 1 ≤ x → x ≤ d.used → mark_in r x ≡ mark_of (staying sets entries) x
+      moves-mark x a b = ap (λ (t : List ℕ). mark_in t x) words_are ∙ packed-mark (mark_of p) u Z room Z-small x a b
 
-      pub moves-le : (x : ℕ) → 1 ≤ x → x ≤ d.used → markIn r x ≤ x
+      pub moves-le : (x : ℕ) → 1 ≤ x → x ≤ d.used → mark_in r x ≤ x
       moves-le x a b = omega (arith, moves-mark x a b, mark-le p x)
 
       -- and then moved, and the marks taken away
       pub swept-is : (kept count : ℕ) (sets₁ entries₁ : List (List ℕ)) (order₁ : List ℕ) → kept ≡ rank (staying sets entries) d.used
-          → sets₁ ≡ settled (λ row. row) (markIn r) d.used sets → entries₁ ≡ settled clear (markIn r) d.used entries → order₁ ≡ lows d.used r → count ≡ d.count - (d.used - kept)
-          → record { dir = record { used = kept; count = count; last = d.last }; stores = record { sets = sets₁; entries = entries₁; order = order₁ } } ≡ sweptKept (record { dir = d; stores = record { sets = sets; entries = entries; order = order } })
-      unfolding sweptKept
+          → sets₁ ≡ settled (λ row. row) (mark_in r) d.used sets → entries₁ ≡ settled clear (mark_in r) d.used entries → order₁ ≡ lows d.used r → count ≡ d.count - (d.used - kept)
+          → record { dir = record { used = kept; count = count; last = d.last }; stores = record { sets = sets₁; entries = entries₁; order = order₁ } } ≡ swept_kept (record { dir = d; stores = record { sets = sets; entries = entries; order = order } })
+      unfolding swept_kept
       swept-is kept count sets₁ entries₁ order₁ k s t c n =
-          let b : sets₁ ≡ down (λ row. row) p u sets = s ∙ settled-down (λ row. row) p (markIn r) sets u ls moves-mark in
-          let i : entries₁ ≡ down clear p u entries = t ∙ settled-down clear p (markIn r) entries u le moves-mark in
+          let b : sets₁ ≡ down (λ row. row) p u sets = s ∙ settled-down (λ row. row) p (mark_in r) sets u ls moves-mark in
+          let i : entries₁ ≡ down clear p u entries = t ∙ settled-down clear p (mark_in r) entries u le moves-mark in
           let a : order₁ ≡ Z = c ∙ ap (lows u) words_are ∙ lows-packed (mark_of p) u Z room Z-small in
           let j : count ≡ d.count - (u - rank p u) = n ∙ ap (λ (x : ℕ). d.count - (u - x)) k in
           ap (λ (x : ℕ). record { dir = record { used = x; count = count; last = d.last }; stores = record { sets = sets₁; entries = entries₁; order = order₁ } }) k

@@ -4,12 +4,12 @@ use Rattle.laws.specs.Lists.{only}
 use Rattle.laws.specs.Over.{over}
 use Rattle.laws.specs.Pick.{pick}
 use Rattle.tally.specs.Map.{plain}
-use Rattle.sets.specs.Rows.{span, setOf}
+use Rattle.sets.specs.Rows.{span, set_of}
 use Rattle.directory.specs.Calls.{Kept}
 
 -- "others, without bindings and not overflow, are removed": whether the slot of a set's row and an entry's goes
 abbrev pub goes : List ℕ → List ℕ → Bool
-goes row entry = eqb (get_or entry 2 0) 0 && (eqb (get_or entry 1 0) 0 && plain (setOf row))
+goes row entry = eqb (get_or entry 2 0) 0 && (eqb (get_or entry 1 0) 0 && plain (set_of row))
 
 abbrev pub staying : List (List ℕ) → List (List ℕ) → ℕ → Bool
 staying sets entries x = not (goes (get_or sets x []) (get_or entries x []))
@@ -33,8 +33,8 @@ clear entry = get_or entry 0 0 ∷ get_or entry 1 0 ∷ 0 ∷ []
 
 -- The slots that stay keep their order and move down, reset; `order` keeps its sequence without the others, under the new numbers; "the
 -- count falls by them". What lies behind the new slots and places stays exactly as it was.
-unfoldable pub sweptKept : Kept → Kept
-sweptKept k =
+unfoldable pub swept_kept : Kept → Kept
+swept_kept k =
     let used = k.dir.used in
     let p = staying k.stores.sets k.stores.entries in
     record {

@@ -7,7 +7,7 @@ mod words;
 ghost use Rattle.std.specs.Prelude.{◌≡◌, ℕ, ◌-◌, ◌<◌, ◌≤◌, length, get_or};
 ghost use Rattle.directory.specs.Calls.{kept};
 ghost use Rattle.directory.specs.View.{stores};
-ghost use Rattle.sweep.specs.Swept.{sweptKept};
+ghost use Rattle.sweep.specs.Swept.{swept_kept};
 
 // The count without those that went.
 fn less(count: u64, gone: u64) -> u64
@@ -30,7 +30,7 @@ pub fn sweep(
     requires { (d.used < length sets.old) × (d.used < length entries.old) × (d.used ≤ length order.old) × (d.used < 65536)
         × ((k : ℕ) → k < d.used → (1 ≤ get_or order.old k 0) × (get_or order.old k 0 ≤ d.used)) }
     ensures { kept result (stores sets.exit entries.exit order.exit)
-        ≡ sweptKept (kept d (stores sets.entry entries.entry order.entry)) }
+        ≡ swept_kept (kept d (stores sets.entry entries.entry order.entry)) }
 {
     let used = d.used;
     let kept = crate::passes::rank(used, sets, entries, order);

@@ -1,7 +1,7 @@
 // Moving down the slots that stay, by their marks.
 ghost use Rattle.std.specs.Prelude.{◌≡◌, [], ℕ, ◌<◌, ◌≤◌, length, get_or};
 ghost use Rattle.sweep.specs.Swept.{clear};
-ghost use Rattle.sweep.specs.Passes.{markIn, moved_to, settled};
+ghost use Rattle.sweep.specs.Passes.{mark_in, moved_to, settled};
 
 // Moves a set from slot x to slot m, if it stays.
 fn move_set(sets: &mut [[u64; 9]], x: usize, m: usize)
@@ -20,8 +20,8 @@ fn move_set(sets: &mut [[u64; 9]], x: usize, m: usize)
 // Moves the sets of the slots that stay.
 pub fn move_sets(used: usize, sets: &mut [[u64; 9]], order: &[u32])
     requires { (used < length sets.old) × (used ≤ length order.now)
-        × ((x : ℕ) → 1 ≤ x → x ≤ used → markIn order.now x ≤ x) }
-    ensures { sets.new ≡ settled (λ row. row) (markIn order.now) used sets.old }
+        × ((x : ℕ) → 1 ≤ x → x ≤ used → mark_in order.now x ≤ x) }
+    ensures { sets.new ≡ settled (λ row. row) (mark_in order.now) used sets.old }
 {
     let mut x: usize = 0;
     while x < used {
@@ -47,8 +47,8 @@ fn move_entry(entries: &mut [[u64; 3]], x: usize, m: usize)
 // Moves the entries of the slots that stay, reset, and resets that of slot 0.
 pub fn move_entries(used: usize, entries: &mut [[u64; 3]], order: &[u32])
     requires { (used < length entries.old) × (used ≤ length order.now)
-        × ((x : ℕ) → 1 ≤ x → x ≤ used → markIn order.now x ≤ x) }
-    ensures { entries.new ≡ settled clear (markIn order.now) used entries.old }
+        × ((x : ℕ) → 1 ≤ x → x ≤ used → mark_in order.now x ≤ x) }
+    ensures { entries.new ≡ settled clear (mark_in order.now) used entries.old }
 {
     let b = entries[0][0];
     let n = entries[0][1];

@@ -3,13 +3,13 @@ ghost use Rattle.std.specs.Prelude.{◌≡◌, not, ◌&&◌, ℕ, ◌+◌, ◌*
 ghost use Rattle.laws.specs.Over.{over};
 ghost use Rattle.laws.specs.Pick.{pick};
 ghost use Rattle.tally.specs.Map.{plain, bit};
-ghost use Rattle.sets.specs.Rows.{span, setOf};
+ghost use Rattle.sets.specs.Rows.{span, set_of};
 ghost use Rattle.sweep.specs.Swept.{staying, rank};
-ghost use Rattle.sweep.specs.Passes.{mark_of, markIn, packed, lows, renumbered};
+ghost use Rattle.sweep.specs.Passes.{mark_of, mark_in, packed, lows, renumbered};
 
 // 1 if a slot stays, 0 if it goes.
 fn stays(bindings: u64, updated: u64, row: &[u64; 9]) -> usize
-    ensures { result ≡ bit (not (eqb updated 0 && (eqb bindings 0 && plain (setOf row.now)))) }
+    ensures { result ≡ bit (not (eqb updated 0 && (eqb bindings 0 && plain (set_of row.now)))) }
 {
     if updated != 0 {
         return 1;
@@ -74,9 +74,9 @@ fn put_place(order: &mut [u32], w: usize, m: usize) -> usize
 pub fn renumber(used: usize, order: &mut [u32])
     requires { (used ≤ length order.old) × (used < 65536)
         × ((k : ℕ) → k < used → (1 ≤ get_or order.old k 0 % 65536) × (get_or order.old k 0 % 65536 ≤ used))
-        × ((x : ℕ) → 1 ≤ x → x ≤ used → markIn order.old x ≤ used) }
-    ensures { order.new ≡ packed (markIn order.old) used
-        (over (renumbered (markIn order.old) (span (lows used order.old) 0 used)) (lows used order.old)) }
+        × ((x : ℕ) → 1 ≤ x → x ≤ used → mark_in order.old x ≤ used) }
+    ensures { order.new ≡ packed (mark_in order.old) used
+        (over (renumbered (mark_in order.old) (span (lows used order.old) 0 used)) (lows used order.old)) }
 {
     let mut w: usize = 0;
     let mut i: usize = 0;

@@ -10,7 +10,7 @@ use Rattle.laws.specs.Lists.{only}
 use Rattle.laws.specs.Tests.{all}
 use Rattle.laws.proofs.Bools.{some?}
 use Rattle.laws.proofs.Cases.{none-not-some}
-use Rattle.tally.specs.Sets.{Set, ofSet, ascending}
+use Rattle.tally.specs.Sets.{Set, of_set, ascending}
 use Rattle.tally.specs.Kind.{Kind}
 use Rattle.tally.specs.Map.{Entry, Map, find, sound, points, keys}
 use Rattle.tally.proofs.MapSteps.{sweep, reset, swept}
@@ -27,7 +27,7 @@ use Rattle.tally.proofs.Places.{sound-now}
 module _ (K : Kind) (L : Lawful K) (U : List Set) (top k : ℕ) (m : Map K) (t : Tally K) (h : Holds K L U top k m t) where
   -- the values of the set s that wait
   abbrev vs : Set → List K.Value
-  vs s = ofSet s t.waiting
+  vs s = of_set s t.waiting
 
   shown : (s : Set) (o : Option (Entry K)) → find K s m.entries ≡ o → (some? o && any K (vs s)) ≡ any K (vs s)
   shown s none p = rw (h.gone s p)

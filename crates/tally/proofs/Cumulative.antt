@@ -8,7 +8,7 @@ use Rattle.laws.specs.Pick.{pick}
 use Rattle.laws.specs.Lists.{only}
 use Rattle.laws.proofs.Bools.{some?}
 use Rattle.laws.proofs.Cases.{some_inj, none-not-some}
-use Rattle.tally.specs.Sets.{Set, ofSet, same}
+use Rattle.tally.specs.Sets.{Set, of_set, same}
 use Rattle.tally.specs.Kind.{Kind}
 use Rattle.tally.specs.Map.{Entry, Map, find, current, filled, keys}
 use Rattle.tally.specs.Tally.{Tally}
@@ -36,7 +36,7 @@ module _ (K : Kind) (z : K.Settings) where
 
 module _ (K : Kind) (L : Lawful K) (U : List Set) (top k : ℕ) (m : Map K) (t : Tally K) (h : Holds K L U top k m t) where
   abbrev vs : Set → List K.Value
-  vs s = ofSet s t.waiting
+  vs s = of_set s t.waiting
 
   shown : (s : Set) (b : Bool) (o : Option K.Series) → Kept K L m.settings o (vs s)
       → Shown K m.settings (pick b o (some (get_or o (K.fresh m.settings)))) (not b || any K (vs s)) (K.point_of m.settings (vs s))

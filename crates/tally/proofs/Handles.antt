@@ -12,14 +12,14 @@ use Rattle.laws.specs.Counting.{bit, sum}
 use Rattle.laws.proofs.Cases.{some_inj, none-not-some, true-not-false}
 use Rattle.tally.specs.Sets.{Set, overflow, same, canonical}
 use Rattle.tally.specs.Kind.{Kind, unless}
-use Rattle.tally.specs.Map.{Config, Entry, Map, Call, measure, measureBy, bind, release, collect, Out, orRefused, named, find, points, unlisted, Agrees}
-use Rattle.tally.proofs.MapSteps.{byHandle, put, Place, place, held, recorded, rebound, reset, sweep, fits, unfit, measureAt, bindAt, releaseAt, upfront, act, step}
+use Rattle.tally.specs.Map.{Config, Entry, Map, Call, measure, measure_by, bind, release, collect, Out, or_refused, named, find, points, unlisted, Agrees}
+use Rattle.tally.proofs.MapSteps.{by_handle, put, Place, place, held, recorded, rebound, reset, sweep, fits, unfit, measure_at, bind_at, release_at, upfront, act, step}
 use Rattle.tally.specs.Demand.{Code, asked, left}
 use Rattle.tally.proofs.Faithful.{Faithful}
 use Rattle.tally.specs.Runs.{Names, releasing}
 use Rattle.tally.proofs.Order.{same-eq}
 use Rattle.tally.proofs.Entries.{find-set, find-put, named_some, named_none}
-use Rattle.tally.proofs.Placed.{Placed, heldOwn, madeOwn, heldOver, madeOver, placed}
+use Rattle.tally.proofs.Placed.{Placed, held_own, made_own, held_over, made_over, placed}
 use Rattle.tally.proofs.Sweep.{stays, kept}
 use Rattle.tally.proofs.Agree.{step-agrees}
 
@@ -50,9 +50,9 @@ module _ (K : Kind) (c : Config K) (m : Map K) (g : Agrees K c m) (h : ℕ) (e :
   unfolding Bound
   bound = (e, its.2, its.0, more)
 
-  bound-or : (o : Option ℕ) (r : Out K) → Bound r.map.entries → Bound (orRefused K m o r).map.entries
-  bound-or none r b = b
-  bound-or (some i) r b = bound
+  bound_or : (o : Option ℕ) (r : Out K) → Bound r.map.entries → Bound (or_refused K m o r).map.entries
+  bound_or none r b = b
+  bound_or (some i) r b = bound
 
   -- an entry put in: another set's, or the same with a binding
   bound-put : (x : Entry K) → (x.set ≡ e.set → (x.birth ≡ h) × (k < x.bindings)) → Bound (put K x m.entries)
@@ -82,15 +82,15 @@ module _ (K : Kind) (c : Config K) (m : Map K) (g : Agrees K c m) (h : ℕ) (e :
       fresh s f q = none-not-some (sym f ∙ ap (λ t. find K t m.entries) q ∙ its.2)
 
       go : (p : Place K) → Placed K m c.limit s p → p.entry.set ≡ e.set → (p.entry.birth ≡ h) × (k < p.entry.bindings)
-      go p (heldOwn x f q) w = is p x q (own s x f (sym (ap (λ y. y.entry.set) q) ∙ w))
-      go p (madeOwn f l q) w = fresh s f (sym (ap (λ y. y.entry.set) q) ∙ w)
-      go p (heldOver x f l i q) w = is p x q (own overflow x i (sym (ap (λ y. y.entry.set) q) ∙ w))
-      go p (madeOver f l i q) w = fresh overflow i (sym (ap (λ y. y.entry.set) q) ∙ w)
+      go p (held_own x f q) w = is p x q (own s x f (sym (ap (λ y. y.entry.set) q) ∙ w))
+      go p (made_own f l q) w = fresh s f (sym (ap (λ y. y.entry.set) q) ∙ w)
+      go p (held_over x f l i q) w = is p x q (own overflow x i (sym (ap (λ y. y.entry.set) q) ∙ w))
+      go p (made_over f l i q) w = fresh overflow i (sym (ap (λ y. y.entry.set) q) ∙ w)
 
-  by : (i : ℕ) (f : Entry K → Out K) → ((x : Entry K) → named K i m.entries ≡ some x → Bound (f x).map.entries) → Bound (byHandle K m (named K i m.entries) f).map.entries
+  by : (i : ℕ) (f : Entry K → Out K) → ((x : Entry K) → named K i m.entries ≡ some x → Bound (f x).map.entries) → Bound (by_handle K m (named K i m.entries) f).map.entries
   by i f leaves = go (named K i m.entries) refl
     where
-      go : (o : Option (Entry K)) → named K i m.entries ≡ o → Bound (byHandle K m o f).map.entries
+      go : (o : Option (Entry K)) → named K i m.entries ≡ o → Bound (by_handle K m o f).map.entries
       go none q = bound
       go (some x) q = leaves x q
 
@@ -103,20 +103,20 @@ module _ (K : Kind) (c : Config K) (m : Map K) (g : Agrees K c m) (h : ℕ) (e :
       (reset K e, kept K m.entries g.rising e.set e its.2 (stays K e (λ i. omega (arith, i.unbound, its.1))), its.0, more)
 
   acted : (x : Call K) → k + releasing K h x < e.bindings → Bound (act K c m x).map.entries
-  unfolding act measureAt bindAt releaseAt
+  unfolding act measure_at bind_at release_at
   acted (measure v attrs) l =
       let p = place K c.limit m (canonical c.filter attrs) in
-      bound-or (unfit K m v p) _ (bound-put (recorded K m.settings p.entry v) (there c (canonical c.filter attrs)))
-  acted (measureBy i v) l =
-      by i (λ x. measureAt K m v (held K m x))
-      (λ x q. bound-or (unfit K m v (held K m x)) _
+      bound_or (unfit K m v p) _ (bound-put (recorded K m.settings p.entry v) (there c (canonical c.filter attrs)))
+  acted (measure_by i v) l =
+      by i (λ x. measure_at K m v (held K m x))
+      (λ x q. bound_or (unfit K m v (held K m x)) _
       (bound-put (recorded K m.settings x v) (λ w. subst (λ y. (y.birth ≡ h) × (k < y.bindings)) (sym (named-own i x q w)) (its.0, more))))
   acted (bind attrs) l =
       let p = place K c.limit m (canonical c.filter attrs) in
-      bound-or (unless (fits p.last && fits (suc p.entry.bindings)) 9) _
+      bound_or (unless (fits p.last && fits (suc p.entry.bindings)) 9) _
       (bound-put (rebound K p.entry (suc p.entry.bindings)) (λ w. let t = there c (canonical c.filter attrs) w in (t.0, one_more k p.entry.bindings t.1)))
   acted (release i) l =
-      by i (λ x. releaseAt K m x)
+      by i (λ x. release_at K m x)
       (λ x q. bound-put (rebound K x (x.bindings - 1))
       (λ w.
       let y = named-own i x q w in
@@ -124,12 +124,12 @@ module _ (K : Kind) (c : Config K) (m : Map K) (g : Agrees K c m) (h : ℕ) (e :
       let d = one_less k (eqb i h) e.bindings (eq-eqb i h (sym b ∙ ap (λ t. t.birth) y ∙ its.0)) l in
       (ap (λ t. t.birth) y ∙ its.0, subst (λ t. k < t.bindings - 1) (sym y) d)))
   acted (collect room) l =
-      bound-or (unlisted K m room (points K m.settings m.entries)) _ swept-bound
+      bound_or (unlisted K m room (points K m.settings m.entries)) _ swept-bound
 
   -- one call
   pub still-named : (x : Call K) → k + releasing K h x < e.bindings → Names K h e.set k (step K c m x).map
   unfolding Bound
-  still-named x l = go (bound-or (upfront K x) (act K c m x) (acted x l)) (named K h m'.entries) refl
+  still-named x l = go (bound_or (upfront K x) (act K c m x) (acted x l)) (named K h m'.entries) refl
     where
       m' : Map K
       m' = (step K c m x).map

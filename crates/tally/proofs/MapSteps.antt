@@ -8,8 +8,8 @@ use lib.ListN.{length}
 use Rattle.laws.specs.Pick.{pick}
 use Rattle.laws.proofs.Bools.{some?}
 use Rattle.tally.specs.Sets.{Set, overflow, three, cmp, canonical}
-use Rattle.tally.specs.Kind.{Kind, unless, first_of, Config, Call, measure, measureBy, bind, release, collect, refuse, done, handle, listed}
-use Rattle.tally.specs.Map.{Entry, Map, Out, current, find, named, orRefused, plain, points, sound, unlisted}
+use Rattle.tally.specs.Kind.{Kind, unless, first_of, Config, Call, measure, measure_by, bind, release, collect, refuse, done, handle, listed}
+use Rattle.tally.specs.Map.{Entry, Map, Out, current, find, named, or_refused, plain, points, sound, unlisted}
 
 -- "9: a count, binding count or birth number would pass 2^64 - 1"
 abbrev pub fits : ℕ → Bool
@@ -37,17 +37,17 @@ module _ (K : Kind) where
   abbrev pub held : Map K → Entry K → Place
   held m e = record { entry = e; count = m.count; last = m.last }
 
-  abbrev pub heldOr : Map K → Option (Entry K) → Place → Place
-  heldOr m o p = elim o [ none ↦ p | some e ↦ held m e ]
+  abbrev pub held_or : Map K → Option (Entry K) → Place → Place
+  held_or m o p = elim o [ none ↦ p | some e ↦ held m e ]
 
   -- "A new set is made while the map's count is below the limit; otherwise the value goes to the overflow series, which doesn't
   -- raise the count when made that way. Recorded as an ordinary set under the limit, the overflow set does raise it."
   -- "A birth number is spent on each new entry and never again."
   unfoldable pub place : ℕ → Map K → Set → Place
   place limit m s =
-      heldOr m (find K s m.entries) (pick (ltb m.count limit)
+      held_or m (find K s m.entries) (pick (ltb m.count limit)
       (record { entry = new s (suc m.last); count = suc m.count; last = suc m.last })
-      (heldOr m (find K overflow m.entries)
+      (held_or m (find K overflow m.entries)
       (record { entry = new overflow (suc m.last); count = m.count; last = suc m.last })))
 
   abbrev pub write : Map K → Place → Entry K → Map K
@@ -66,22 +66,22 @@ module _ (K : Kind) where
       first_of (unless (sound K m.settings p.entry.series) 8 ∷ unless (fits p.last && fits (suc (K.total x))) 9
       ∷ unless (K.allows m.settings x v) 16 ∷ [])
 
-  unfoldable pub measureAt : Map K → K.Value → Place → Out K
-  measureAt m v p =
-      orRefused K m (unfit m v p) (record { answer = done; map = write m p (recorded m.settings p.entry v) })
+  unfoldable pub measure_at : Map K → K.Value → Place → Out K
+  measure_at m v p =
+      or_refused K m (unfit m v p) (record { answer = done; map = write m p (recorded m.settings p.entry v) })
 
   -- "Binding: .. 9"
-  unfoldable pub bindAt : Map K → Place → Out K
-  bindAt m p =
-      orRefused K m (unless (fits p.last && fits (suc p.entry.bindings)) 9)
+  unfoldable pub bind_at : Map K → Place → Out K
+  bind_at m p =
+      or_refused K m (unless (fits p.last && fits (suc p.entry.bindings)) 9)
       (record { answer = handle p.entry.birth; map = write m p (rebound p.entry (suc p.entry.bindings)) })
 
   -- "Releasing takes one binding off"
-  unfoldable pub releaseAt : Map K → Entry K → Out K
-  releaseAt m e = record { answer = done; map = write m (held m e) (rebound e (e.bindings - 1)) }
+  unfoldable pub release_at : Map K → Entry K → Out K
+  release_at m e = record { answer = done; map = write m (held m e) (rebound e (e.bindings - 1)) }
 
-  abbrev pub byHandle : Map K → Option (Entry K) → (Entry K → Out K) → Out K
-  byHandle m o f = elim o [ none ↦ record { answer = refuse 7; map = m } | some e ↦ f e ]
+  abbrev pub by_handle : Map K → Option (Entry K) → (Entry K → Out K) → Out K
+  by_handle m o f = elim o [ none ↦ record { answer = refuse 7; map = m } | some e ↦ f e ]
 
   -- to be removed: not updated, without bindings, and neither the empty set's, which is always there, nor overflow
   abbrev pub idle : Entry K → Bool
@@ -106,20 +106,20 @@ module _ (K : Kind) where
   -- The refusals that a call's arguments decide: "6: value NaN or infinite; 5: over 8 attributes, counted before the filter"
   unfoldable pub upfront : Call K → Option ℕ
   upfront (measure v attrs) = first_of (unless (K.finite v) 6 ∷ unless (leb (length attrs) 8) 5 ∷ [])
-  upfront (measureBy h v) = unless (K.finite v) 6
+  upfront (measure_by h v) = unless (K.finite v) 6
   upfront (bind attrs) = unless (leb (length attrs) 8) 5
   upfront (release h) = none
   upfront (collect room) = none
 
   -- what a call does then, where the directory agrees
   unfoldable pub act : Config K → Map K → Call K → Out K
-  act c m (measure v attrs) = measureAt m v (place c.limit m (canonical c.filter attrs))
-  act c m (measureBy h v) = byHandle m (named K h m.entries) (λ e. measureAt m v (held m e))
-  act c m (bind attrs) = bindAt m (place c.limit m (canonical c.filter attrs))
-  act c m (release h) = byHandle m (named K h m.entries) (λ e. releaseAt m e)
+  act c m (measure v attrs) = measure_at m v (place c.limit m (canonical c.filter attrs))
+  act c m (measure_by h v) = by_handle m (named K h m.entries) (λ e. measure_at m v (held m e))
+  act c m (bind attrs) = bind_at m (place c.limit m (canonical c.filter attrs))
+  act c m (release h) = by_handle m (named K h m.entries) (λ e. release_at m e)
   act c m (collect room) =
       let ps = points K m.settings m.entries in
-      orRefused K m (unlisted K m room ps) (record { answer = listed ps; map = swept m })
+      or_refused K m (unlisted K m room ps) (record { answer = listed ps; map = swept m })
 
   abbrev pub step : Config K → Map K → Call K → Out K
-  step c m x = orRefused K m (upfront x) (act c m x)
+  step c m x = or_refused K m (upfront x) (act c m x)

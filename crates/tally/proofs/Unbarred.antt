@@ -11,9 +11,9 @@ use Rattle.laws.proofs.Bools.{and_intro}
 use Rattle.laws.proofs.Cases.{true-not-false}
 use Rattle.tally.specs.Sets.{canonical}
 use Rattle.tally.specs.Kind.{Kind, unless, first_of, suffices}
-use Rattle.tally.specs.Map.{Config, Entry, Map, Call, measure, measureBy, bind, release, collect, Answer, refuse, done, handle, listed, Out, orRefused, named, current, sound, points, Agrees}
+use Rattle.tally.specs.Map.{Config, Entry, Map, Call, measure, measure_by, bind, release, collect, Answer, refuse, done, handle, listed, Out, or_refused, named, current, sound, points, Agrees}
 use Rattle.tally.specs.Demand.{Code, answers, ran}
-use Rattle.tally.proofs.MapSteps.{byHandle, Place, place, held, write, recorded, rebound, swept, fits, measureAt, bindAt, releaseAt, upfront, act, step}
+use Rattle.tally.proofs.MapSteps.{by_handle, Place, place, held, write, recorded, rebound, swept, fits, measure_at, bind_at, release_at, upfront, act, step}
 use Rattle.tally.proofs.Faithful.{Faithful}
 use Rattle.tally.proofs.Agree.{begins, step-agrees}
 
@@ -25,36 +25,36 @@ module _ (K : Kind) where
     abbrev Free : Out K → Type 0
     Free o = unbarred o.answer ≡ true
 
-    measured : (m : Map K) (v : K.Value) (p : Place K) → Free (measureAt K m v p)
-    unfolding measureAt
+    measured : (m : Map K) (v : K.Value) (p : Place K) → Free (measure_at K m v p)
+    unfolding measure_at
     measured m v p =
         let x = current K m.settings p.entry in
         go (sound K m.settings p.entry.series) (fits p.last && fits (suc (K.total x))) (K.allows m.settings x v) (free m.settings x v)
       where
-        go : (b u w : Bool) → w ≡ true → Free (orRefused K m (first_of (unless b 8 ∷ unless u 9 ∷ unless w 16 ∷ [])) (record { answer = done; map = write K m p (recorded K m.settings p.entry v) }))
+        go : (b u w : Bool) → w ≡ true → Free (or_refused K m (first_of (unless b 8 ∷ unless u 9 ∷ unless w 16 ∷ [])) (record { answer = done; map = write K m p (recorded K m.settings p.entry v) }))
         go true true true e = refl
         go true true false e = true-not-false (sym e)
         go true false w e = refl
         go false u w e = refl
 
-    by : (m : Map K) (o : Option (Entry K)) (f : Entry K → Out K) → ((e : Entry K) → Free (f e)) → Free (byHandle K m o f)
+    by : (m : Map K) (o : Option (Entry K)) (f : Entry K → Out K) → ((e : Entry K) → Free (f e)) → Free (by_handle K m o f)
     by m none f g = refl
     by m (some e) f g = g e
 
     acted : (c : Config K) (m : Map K) (x : Call K) → Free (act K c m x)
-    unfolding act bindAt releaseAt
+    unfolding act bind_at release_at
     acted c m (measure v attrs) = measured m v (place K c.limit m (canonical c.filter attrs))
-    acted c m (measureBy i v) = by m (named K i m.entries) (λ e. measureAt K m v (held K m e)) (λ e. measured m v (held K m e))
+    acted c m (measure_by i v) = by m (named K i m.entries) (λ e. measure_at K m v (held K m e)) (λ e. measured m v (held K m e))
     acted c m (bind attrs) = let p = place K c.limit m (canonical c.filter attrs) in go p (fits p.last && fits (suc p.entry.bindings))
       where
-        go : (p : Place K) (b : Bool) → Free (orRefused K m (unless b 9) (record { answer = handle p.entry.birth; map = write K m p (rebound K p.entry (suc p.entry.bindings)) }))
+        go : (p : Place K) (b : Bool) → Free (or_refused K m (unless b 9) (record { answer = handle p.entry.birth; map = write K m p (rebound K p.entry (suc p.entry.bindings)) }))
         go p true = refl
         go p false = refl
-    acted c m (release i) = by m (named K i m.entries) (λ e. releaseAt K m e) (λ e. refl)
+    acted c m (release i) = by m (named K i m.entries) (λ e. release_at K m e) (λ e. refl)
     acted c m (collect room) =
         let ps = points K m.settings m.entries in go (all (λ e. sound K m.settings e.series) m.entries) (suffices K room (map (λ p. p.1) ps))
       where
-        go : (b u : Bool) → Free (orRefused K m (first_of (unless b 8 ∷ unless u 10 ∷ [])) (record { answer = listed (points K m.settings m.entries); map = swept K m }))
+        go : (b u : Bool) → Free (or_refused K m (first_of (unless b 8 ∷ unless u 10 ∷ [])) (record { answer = listed (points K m.settings m.entries); map = swept K m }))
         go true true = refl
         go true false = refl
         go false u = refl
@@ -63,18 +63,18 @@ module _ (K : Kind) where
     unfolding upfront
     stepped c m (measure v attrs) = go (K.finite v) (leb (length attrs) 8)
       where
-        go : (b u : Bool) → Free (orRefused K m (first_of (unless b 6 ∷ unless u 5 ∷ [])) (act K c m (measure v attrs)))
+        go : (b u : Bool) → Free (or_refused K m (first_of (unless b 6 ∷ unless u 5 ∷ [])) (act K c m (measure v attrs)))
         go true true = acted c m (measure v attrs)
         go true false = refl
         go false u = refl
-    stepped c m (measureBy i v) = go (K.finite v)
+    stepped c m (measure_by i v) = go (K.finite v)
       where
-        go : (b : Bool) → Free (orRefused K m (unless b 6) (act K c m (measureBy i v)))
-        go true = acted c m (measureBy i v)
+        go : (b : Bool) → Free (or_refused K m (unless b 6) (act K c m (measure_by i v)))
+        go true = acted c m (measure_by i v)
         go false = refl
     stepped c m (bind attrs) = go (leb (length attrs) 8)
       where
-        go : (u : Bool) → Free (orRefused K m (unless u 5) (act K c m (bind attrs)))
+        go : (u : Bool) → Free (or_refused K m (unless u 5) (act K c m (bind attrs)))
         go true = acted c m (bind attrs)
         go false = refl
     stepped c m (release i) = acted c m (release i)

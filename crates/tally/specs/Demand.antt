@@ -5,19 +5,19 @@ use Rattle.std.proofs.Math.Option.{some}
 use Rattle.laws.specs.Pick.{pick}
 use Rattle.laws.specs.Tests.{all}
 use Rattle.laws.specs.Counting.{sum}
-use Rattle.tally.specs.Sets.{Set, Lendable, ofSet, ascending, canonical}
+use Rattle.tally.specs.Sets.{Set, Lendable, of_set, ascending, canonical}
 use Rattle.tally.specs.Kind.{Kind}
-use Rattle.tally.specs.Map.{Config, Call, measure, measureBy, bind, release, collect, Answer, refuse, done, handle, listed}
+use Rattle.tally.specs.Map.{Config, Call, measure, measure_by, bind, release, collect, Answer, refuse, done, handle, listed}
 use Rattle.tally.specs.Tally.{Tally, empty, tell, fed, after}
 
 -- a set, unless it is the empty one
-abbrev pub ifNamed : Set → List Set
-ifNamed s = elim s [ [] ↦ [] | x ∷ l ↦ (x ∷ l) ∷ [] ]
+abbrev pub if_named : Set → List Set
+if_named s = elim s [ [] ↦ [] | x ∷ l ↦ (x ∷ l) ∷ [] ]
 
 module _ (K : Kind) where
   -- THE PREMISE. "Recordings and bindings, refused ones counted, are fewer than 2^64"
   abbrev pub counted : Call K → ℕ
-  counted x = elim x [ measure v attrs ↦ 1 | measureBy h v ↦ 1 | bind attrs ↦ 1 | release h ↦ 0 | collect room ↦ 0 ]
+  counted x = elim x [ measure v attrs ↦ 1 | measure_by h v ↦ 1 | bind attrs ↦ 1 | release h ↦ 0 | collect room ↦ 0 ]
 
   -- "Accepted: answered 0". Counted with them are the calls refused with 16 (L6), which no f64 kind gives: 16 is of the sum of the series that
   -- the value comes to, so a value on one set too many could be refused for the sum of overflow's, which the tally does not know
@@ -25,16 +25,16 @@ module _ (K : Kind) where
   seated a = elim a [ refuse n ↦ eqb n 16 | done ↦ true | handle b ↦ true | listed ps ↦ true ]
 
   -- the named set that a call is on; a handle's is that of a binding accepted before
-  abbrev pub setOf : Config K → Call K → List Set
-  setOf c x =
-      let on : Set → List Set = λ attrs. ifNamed (canonical c.filter attrs) in
-      elim x [ measure v attrs ↦ on attrs | measureBy h v ↦ [] | bind attrs ↦ on attrs | release h ↦ [] | collect room ↦ [] ]
+  abbrev pub set_of : Config K → Call K → List Set
+  set_of c x =
+      let on : Set → List Set = λ attrs. if_named (canonical c.filter attrs) in
+      elim x [ measure v attrs ↦ on attrs | measure_by h v ↦ [] | bind attrs ↦ on attrs | release h ↦ [] | collect room ↦ [] ]
 
   -- the named sets of these calls
   abbrev pub sets : Config K → List (Call K) → List (Answer K) → List Set
   sets c [] ans = []
   sets c (x ∷ xs) [] = []
-  sets c (x ∷ xs) (a ∷ ans) = pick (seated a) (setOf c x) [] ++ sets c xs ans
+  sets c (x ∷ xs) (a ∷ ans) = pick (seated a) (set_of c x) [] ++ sets c xs ans
 
   -- "the accepted ones on no more unlike named sets than the limit"
   pub record Premise (c : Config K) (xs : List (Call K)) (ans : List (Answer K)) : Type 0 where
@@ -60,14 +60,14 @@ module _ (K : Kind) where
   -- THE POINTS. Those of the set s among the answers, in order
   abbrev pub points_of : Set → List (Answer K) → List K.Point
   points_of s [] = []
-  points_of s (a ∷ ans) = elim a [ refuse n ↦ [] | done ↦ [] | handle b ↦ [] | listed ps ↦ ofSet s ps ] ++ points_of s ans
+  points_of s (a ∷ ans) = elim a [ refuse n ↦ [] | done ↦ [] | handle b ↦ [] | listed ps ↦ of_set s ps ] ++ points_of s ans
 
   abbrev pub any : List K.Value → Bool
   any vs = elim vs [ [] ↦ false | v ∷ l ↦ true ]
 
   -- the set's collected values
   abbrev pub gained : Config K → List (Call K) → List (Answer K) → Set → List K.Value
-  gained c xs ans s = ofSet s (after K c (empty K c) xs ans).collected
+  gained c xs ans s = of_set s (after K c (empty K c) xs ans).collected
 
   -- "wherever collections cut": the points are those of the parts, none empty, of a cutting of the values
   pub record Cut (z : K.Settings) (ps : List K.Point) (vs : List K.Value) : Type 0 where
@@ -84,7 +84,7 @@ module _ (K : Kind) where
   -- the calls whose arguments can be lent: attributes of u32s and a handle that is a u64, any value, any room
   abbrev pub InRange : Call K → Type 0
   InRange x =
-      elim x [ measure v attrs ↦ Lendable attrs | measureBy h v ↦ h < 2 ^ 64 | bind attrs ↦ Lendable attrs | release h ↦ h < 2 ^ 64 | collect room ↦ Unit ]
+      elim x [ measure v attrs ↦ Lendable attrs | measure_by h v ↦ h < 2 ^ 64 | bind attrs ↦ Lendable attrs | release h ↦ h < 2 ^ 64 | collect room ↦ Unit ]
 
   -- CODE, after configuring: its states with the lent stores, what its calls are given (arguments in range, times, lent output), which call of
   -- demand 3 each asks, what each answers and leaves, and the state that configuring left

@@ -69,7 +69,7 @@ module _ (K : Kind) where
   -- the calls of demand 3: recording by set or handle, binding, releasing, delta collection (L10: a change of settings)
   pub data Call : Type 0 where
     measure : K.Value → Set → Call
-    measureBy : ℕ → K.Value → Call
+    measure_by : ℕ → K.Value → Call
     bind : Set → Call
     release : ℕ → Call
     collect : Room → Call

@@ -4,9 +4,9 @@ use Rattle.std.proofs.Math.Option.{some}
 use Rattle.laws.specs.Lists.{only}
 use Rattle.laws.specs.Counting.{bit, sum}
 use Rattle.laws.specs.Tests.{all}
-use Rattle.tally.specs.Sets.{Set, same, ofSet, mem}
+use Rattle.tally.specs.Sets.{Set, same, of_set, mem}
 use Rattle.tally.specs.Kind.{Kind}
-use Rattle.tally.specs.Map.{Config, Entry, Map, Call, measure, measureBy, bind, release, collect}
+use Rattle.tally.specs.Map.{Config, Entry, Map, Call, measure, measure_by, bind, release, collect}
 use Rattle.tally.specs.Map.{Answer, refuse, done, handle, listed, named, points, filled, keys}
 use Rattle.tally.specs.Tally.{Tally, empty, after}
 use Rattle.tally.specs.Demand.{any, Premise, Code, asked, left, ran}
@@ -23,8 +23,8 @@ module _ (K : Kind) where
   -- a cumulative collection of the map m would list the points of the values that wait in the tally t, and every set that has any is there
   pub record Listed (m : Map K) (t : Tally K) : Type 0 where
     pub shown : points K m.settings (map (filled K m.settings) m.entries)
-        ≡ map (λ s. (s, K.point_of m.settings (ofSet s t.waiting))) (only (λ s. listed? (any K (ofSet s t.waiting)) s) (keys K m.entries))
-    pub every : (s : Set) → any K (ofSet s t.waiting) ≡ true → mem s (keys K m.entries) ≡ true
+        ≡ map (λ s. (s, K.point_of m.settings (of_set s t.waiting))) (only (λ s. listed? (any K (of_set s t.waiting)) s) (keys K m.entries))
+    pub every : (s : Set) → any K (of_set s t.waiting) ≡ true → mem s (keys K m.entries) ≡ true
 
   -- the handle h names an entry of the set s, with more than n bindings
   abbrev pub Names : ℕ → Set → ℕ → Map K → Type 0
@@ -32,7 +32,7 @@ module _ (K : Kind) where
 
   -- 1 for a call that releases h
   abbrev pub releasing : ℕ → Call K → ℕ
-  releasing h x = elim x [ measure v attrs ↦ 0 | measureBy i v ↦ 0 | bind attrs ↦ 0 | release i ↦ bit (eqb i h) | collect room ↦ 0 ]
+  releasing h x = elim x [ measure v attrs ↦ 0 | measure_by i v ↦ 0 | bind attrs ↦ 0 | release i ↦ bit (eqb i h) | collect room ↦ 0 ]
 
   -- of code whose states stand for maps
   pub record Tells (c : Config K) (C : Code K) (view : C.State → Map K) : Type 0 where

@@ -5,12 +5,12 @@ use native.Mathlib.Nat.{pow-le-pow_right}
 use borrow.Author.Tests.{lt-leb}
 use Rattle.laws.specs.Pick.{pick}
 use Rattle.laws.proofs.Bools.{not-both, and_left, and_right, and_intro, pick_true, pick-false}
-use Rattle.laws.proofs.Differences.{le-or-lt}
-use Rattle.text.specs.Numbers.{digitOf, spelledFrom}
-use Rattle.text.specs.Pairs.{isDecimal, isLetter, areHex, pair_of, Paired, joinedTo}
+use Rattle.laws.proofs.Differences.{le_or-lt}
+use Rattle.text.specs.Numbers.{digit_of, spelled_from}
+use Rattle.text.specs.Pairs.{is_decimal, is_letter, are_hex, pair_of, Paired, joined_to}
 use Rattle.text.specs.declared.numbers.Natural.{Natural}
 use Rattle.text.specs.declared.numbers.Natural.TheVariants as N
-use Rattle.text.proofs.Spelling.{from-here, next-digit}
+use Rattle.text.proofs.Spelling.{from-here, next_digit}
 
 -- the n numbers from a to m, tested by a difference that wraps
 pub in-range : (w b a n m : ℕ) → w < 256 → a + n ≤ 256 → a + n ≡ m + 1 → (w + a) % 256 ≡ b → ltb w n ≡ leb a b && leb b m
@@ -21,119 +21,119 @@ in-range w b a n m f t e q =
     ∙ sym (⊎_elim
     (λ (g : 256 ≤ w + a). ap (λ (t : Bool). t && leb b m) (lt-leb a b (omega (arith, q))))
     (λ (g : w + a < 256). ap (λ (t : Bool). leb a b && t) (lt-leb b m (omega (arith, q))) ∙ and-false (leb a b))
-    (le-or-lt 256 (w + a))))
+    (le_or-lt 256 (w + a))))
     (λ (l : w < n).
     let g : b ≡ w + a = omega (arith, q) in
     lt-ltb w n l ∙ sym (and_intro (leb a b) (leb b m) (le-leb a b (omega arith)) (le-leb b m (omega arith))))
-    (le-or-lt n w)
+    (le_or-lt n w)
 
-decimal_digit : (b : ℕ) → 48 ≤ b → b ≤ 57 → digitOf b ≡ b - 48
-unfolding digitOf pick
+decimal_digit : (b : ℕ) → 48 ≤ b → b ≤ 57 → digit_of b ≡ b - 48
+unfolding digit_of pick
 decimal_digit b h g = simp (le-ltb b 48 h, le-leb b 57 g) refl
 
-letter-digit : (b : ℕ) → 65 ≤ b → b ≤ 70 → digitOf b ≡ b - 55
-unfolding digitOf pick
-letter-digit b h g =
+letter_digit : (b : ℕ) → 65 ≤ b → b ≤ 70 → digit_of b ≡ b - 55
+unfolding digit_of pick
+letter_digit b h g =
     let k : 48 ≤ b = omega arith in
     let l : 57 < b = omega arith in
     simp (le-ltb b 48 k, lt-leb b 57 l, le-ltb b 65 h, le-leb b 70 g) refl
 
-decimal-is : (b : ℕ) → isDecimal b ≡ true → digitOf b < 16
-unfolding isDecimal
+decimal-is : (b : ℕ) → is_decimal b ≡ true → digit_of b < 16
+unfolding is_decimal
 decimal-is b h =
     let l = leb-true 48 b (and_left (leb 48 b) (leb b 57) h) in
     let g = leb-true b 57 (and_right (leb 48 b) (leb b 57) h) in
     omega (arith, decimal_digit b l g)
 
-letter-is : (b : ℕ) → isLetter b ≡ true → digitOf b < 16
-unfolding isLetter
+letter-is : (b : ℕ) → is_letter b ≡ true → digit_of b < 16
+unfolding is_letter
 letter-is b h =
     let l = leb-true 65 b (and_left (leb 65 b) (leb b 70) h) in
     let g = leb-true b 70 (and_right (leb 65 b) (leb b 70) h) in
-    omega (arith, letter-digit b l g)
+    omega (arith, letter_digit b l g)
 
-pub below-digits : (b : ℕ) → b < 48 → digitOf b ≡ 16
-unfolding digitOf pick
+pub below-digits : (b : ℕ) → b < 48 → digit_of b ≡ 16
+unfolding digit_of pick
 below-digits b h = simp (lt-ltb b 48 h) refl
 
-between-digits : (b : ℕ) → 57 < b → b < 65 → digitOf b ≡ 16
-unfolding digitOf pick
+between-digits : (b : ℕ) → 57 < b → b < 65 → digit_of b ≡ 16
+unfolding digit_of pick
 between-digits b h g =
     let k : 48 ≤ b = omega arith in
     simp (le-ltb b 48 k, lt-leb b 57 h, lt-ltb b 65 g) refl
 
-above-digits : (b : ℕ) → 70 < b → digitOf b ≡ 16
-unfolding digitOf pick
+above-digits : (b : ℕ) → 70 < b → digit_of b ≡ 16
+unfolding digit_of pick
 above-digits b h =
     let k : 48 ≤ b = omega arith in
     let l : 57 < b = omega arith in
     let m : 65 ≤ b = omega arith in
     simp (le-ltb b 48 k, lt-leb b 57 l, le-ltb b 65 m, lt-leb b 70 h) refl
 
-pub above-decimals : (b : ℕ) → 57 < b → 10 ≤ digitOf b
-above-decimals b h =
+pub above_decimals : (b : ℕ) → 57 < b → 10 ≤ digit_of b
+above_decimals b h =
     ⊎_elim
     (λ (k : 65 ≤ b).
     ⊎_elim
-    (λ (l : b ≤ 70). omega (arith, letter-digit b k l))
+    (λ (l : b ≤ 70). omega (arith, letter_digit b k l))
     (λ (l : 70 < b). omega (arith, above-digits b l))
-    (le-or-lt b 70))
+    (le_or-lt b 70))
     (λ (k : b < 65). omega (arith, between-digits b h k))
-    (le-or-lt 65 b)
+    (le_or-lt 65 b)
 
 -- one digit is 0
-pub digit-zero : (b : ℕ) → digitOf b ≡ 0 → b ≡ 48
+pub digit-zero : (b : ℕ) → digit_of b ≡ 0 → b ≡ 48
 digit-zero b h =
     ⊎_elim
     (λ (k : 48 ≤ b).
     ⊎_elim
     (λ (l : b ≤ 57). omega (arith, decimal_digit b k l))
-    (λ (l : 57 < b). absurd (omega (arith, above-decimals b l)))
-    (le-or-lt b 57))
+    (λ (l : 57 < b). absurd (omega (arith, above_decimals b l)))
+    (le_or-lt b 57))
     (λ (k : b < 48). absurd (omega (arith, below-digits b k)))
-    (le-or-lt 48 b)
+    (le_or-lt 48 b)
 
 -- what the code's digit is
-pub digit-none : (b : ℕ) → 10 ≤ digitOf b → 10 ≡ pick (ltb (digitOf b) 10) (digitOf b) 10
-digit-none b h = sym (pick-false _ _ _ (le-ltb (digitOf b) 10 h))
+pub digit-none : (b : ℕ) → 10 ≤ digit_of b → 10 ≡ pick (ltb (digit_of b) 10) (digit_of b) 10
+digit-none b h = sym (pick-false _ _ _ (le-ltb (digit_of b) 10 h))
 
-pub digit-some : (b : ℕ) → 48 ≤ b → b ≤ 57 → b - 48 ≡ pick (ltb (digitOf b) 10) (digitOf b) 10
+pub digit-some : (b : ℕ) → 48 ≤ b → b ≤ 57 → b - 48 ≡ pick (ltb (digit_of b) 10) (digit_of b) 10
 digit-some b h g =
     let e = decimal_digit b h g in
-    sym (pick_true _ _ _ (lt-ltb (digitOf b) 10 (omega (arith, e))) ∙ e)
+    sym (pick_true _ _ _ (lt-ltb (digit_of b) 10 (omega (arith, e))) ∙ e)
 
-pub digit_low : (b d : ℕ) → d ≡ pick (ltb (digitOf b) 10) (digitOf b) 10 → d ≤ 9 → d ≡ digitOf b
+pub digit_low : (b d : ℕ) → d ≡ pick (ltb (digit_of b) 10) (digit_of b) 10 → d ≤ 9 → d ≡ digit_of b
 digit_low b d e h =
     ⊎_elim
-    (λ (l : 10 ≤ digitOf b). absurd (omega (arith, e ∙ pick-false _ _ _ (le-ltb (digitOf b) 10 l))))
-    (λ (l : digitOf b < 10). e ∙ pick_true _ _ _ (lt-ltb (digitOf b) 10 l))
-    (le-or-lt 10 (digitOf b))
+    (λ (l : 10 ≤ digit_of b). absurd (omega (arith, e ∙ pick-false _ _ _ (le-ltb (digit_of b) 10 l))))
+    (λ (l : digit_of b < 10). e ∙ pick_true _ _ _ (lt-ltb (digit_of b) 10 l))
+    (le_or-lt 10 (digit_of b))
 
-pub digit-high : (b d : ℕ) → d ≡ pick (ltb (digitOf b) 10) (digitOf b) 10 → 9 < d → 10 ≤ digitOf b
+pub digit-high : (b d : ℕ) → d ≡ pick (ltb (digit_of b) 10) (digit_of b) 10 → 9 < d → 10 ≤ digit_of b
 digit-high b d e h =
     ⊎_elim
-    (λ (l : 10 ≤ digitOf b). l)
-    (λ (l : digitOf b < 10). absurd (omega (arith, e ∙ pick_true _ _ _ (lt-ltb (digitOf b) 10 l))))
-    (le-or-lt 10 (digitOf b))
+    (λ (l : 10 ≤ digit_of b). l)
+    (λ (l : digit_of b < 10). absurd (omega (arith, e ∙ pick_true _ _ _ (lt-ltb (digit_of b) 10 l))))
+    (le_or-lt 10 (digit_of b))
 
-no-decimal : (b : ℕ) → isDecimal b ≡ false → 48 ≤ b → 57 < b
-unfolding isDecimal
+no-decimal : (b : ℕ) → is_decimal b ≡ false → 48 ≤ b → 57 < b
+unfolding is_decimal
 no-decimal b h l =
     ⊎_elim
-    (λ (g : b ≤ 57). absurd (not-both (isDecimal b) (and_intro (leb 48 b) (leb b 57) (le-leb 48 b l) (le-leb b 57 g)) h))
+    (λ (g : b ≤ 57). absurd (not-both (is_decimal b) (and_intro (leb 48 b) (leb b 57) (le-leb 48 b l) (le-leb b 57 g)) h))
     (λ (g : 57 < b). g)
-    (le-or-lt b 57)
+    (le_or-lt b 57)
 
-no-letter : (b : ℕ) → isLetter b ≡ false → 65 ≤ b → 70 < b
-unfolding isLetter
+no-letter : (b : ℕ) → is_letter b ≡ false → 65 ≤ b → 70 < b
+unfolding is_letter
 no-letter b h l =
     ⊎_elim
-    (λ (g : b ≤ 70). absurd (not-both (isLetter b) (and_intro (leb 65 b) (leb b 70) (le-leb 65 b l) (le-leb b 70 g)) h))
+    (λ (g : b ≤ 70). absurd (not-both (is_letter b) (and_intro (leb 65 b) (leb b 70) (le-leb 65 b l) (le-leb b 70 g)) h))
     (λ (g : 70 < b). g)
-    (le-or-lt b 70)
+    (le_or-lt b 70)
 
 -- a byte that is neither is no digit
-neither : (b : ℕ) → isDecimal b ≡ false → isLetter b ≡ false → 16 ≤ digitOf b
+neither : (b : ℕ) → is_decimal b ≡ false → is_letter b ≡ false → 16 ≤ digit_of b
 neither b h g =
     ⊎_elim
     (λ (k : 65 ≤ b). omega (arith, above-digits b (no-letter b g k)))
@@ -141,8 +141,8 @@ neither b h g =
     ⊎_elim
     (λ (l : 48 ≤ b). omega (arith, between-digits b (no-decimal b h l) k))
     (λ (l : b < 48). omega (arith, below-digits b l))
-    (le-or-lt 48 b))
-    (le-or-lt 65 b)
+    (le_or-lt 48 b))
+    (le_or-lt 65 b)
 
 -- what is said by digits tested two ways
 hex-cases : (d l r : Bool) → pick d r (pick l r false) ≡ false → ((d ≡ false) × (l ≡ false)) ⊎ (r ≡ false)
@@ -164,21 +164,21 @@ pick-none true n h = refl
 pick-none false n h = h
 
 -- one that is no digit makes all none
-pub hex-none : (x : ℕ) (bs : List ℕ) → areHex bs ≡ false → spelledFrom 16 x bs ≡ N.None
-unfolding areHex spelledFrom
+pub hex-none : (x : ℕ) (bs : List ℕ) → are_hex bs ≡ false → spelled_from 16 x bs ≡ N.None
+unfolding are_hex spelled_from
 hex-none x [] h = absurd (not-both true refl h)
 hex-none x (b ∷ bs) h =
     ⊎_elim
-    (λ (g : (isDecimal b ≡ false) × (isLetter b ≡ false)). pick_true _ _ _ (le-leb 16 (digitOf b) (neither b g.0 g.1)))
-    (λ (g : areHex bs ≡ false). pick-none _ _ (pick-none _ _ (hex-none (x * 16 + digitOf b) bs g)))
-    (hex-cases (isDecimal b) (isLetter b) (areHex bs) h)
+    (λ (g : (is_decimal b ≡ false) × (is_letter b ≡ false)). pick_true _ _ _ (le-leb 16 (digit_of b) (neither b g.0 g.1)))
+    (λ (g : are_hex bs ≡ false). pick-none _ _ (pick-none _ _ (hex-none (x * 16 + digit_of b) bs g)))
+    (hex-cases (is_decimal b) (is_letter b) (are_hex bs) h)
 
 -- each is one
-pub hex-at : (bs : List ℕ) (j : ℕ) → areHex bs ≡ true → j < length bs → digitOf (get_or bs j 0) < 16
-unfolding areHex
+pub hex-at : (bs : List ℕ) (j : ℕ) → are_hex bs ≡ true → j < length bs → digit_of (get_or bs j 0) < 16
+unfolding are_hex
 hex-at [] j h l = absurd (omega arith)
-hex-at (b ∷ bs) zero h l = ⊎_elim (decimal-is b) (letter-is b) (hex-both (isDecimal b) (isLetter b) (areHex bs) h).0
-hex-at (b ∷ bs) (suc j) h l = hex-at bs j (hex-both (isDecimal b) (isLetter b) (areHex bs) h).1 (omega arith)
+hex-at (b ∷ bs) zero h l = ⊎_elim (decimal-is b) (letter-is b) (hex-both (is_decimal b) (is_letter b) (are_hex bs) h).0
+hex-at (b ∷ bs) (suc j) h l = hex-at bs j (hex-both (is_decimal b) (is_letter b) (are_hex bs) h).1 (omega arith)
 
 swapped : (all d l r : Bool) → pick (pick d all (pick l all false)) r false ≡ pick all (pick d r (pick l r false)) false
 unfolding pick
@@ -198,54 +198,54 @@ pick_same false = refl
 
 -- a turn of the test, and its end
 pub hex-turn : (all : Bool) (bs : List ℕ) (i : ℕ) → i < length bs
-    → pick (pick (isDecimal (get_or bs i 0)) all (pick (isLetter (get_or bs i 0)) all false)) (areHex (drop (i + 1) bs)) false ≡ pick all (areHex (drop i bs)) false
-unfolding areHex
+    → pick (pick (is_decimal (get_or bs i 0)) all (pick (is_letter (get_or bs i 0)) all false)) (are_hex (drop (i + 1) bs)) false ≡ pick all (are_hex (drop i bs)) false
+unfolding are_hex
 hex-turn all bs i h =
-    swapped all (isDecimal (get_or bs i 0)) (isLetter (get_or bs i 0)) (areHex (drop (i + 1) bs))
-    ∙ ap (λ (r : List ℕ). pick all (areHex r) false) (sym (from-here i bs h))
+    swapped all (is_decimal (get_or bs i 0)) (is_letter (get_or bs i 0)) (are_hex (drop (i + 1) bs))
+    ∙ ap (λ (r : List ℕ). pick all (are_hex r) false) (sym (from-here i bs h))
 
-pub hex-end : (all : Bool) (bs : List ℕ) (i : ℕ) → length bs ≤ i → pick all (areHex (drop i bs)) false ≡ all
-unfolding areHex
-hex-end all bs i h = ap (λ (r : List ℕ). pick all (areHex r) false) (drop_of_length-le bs h) ∙ pick_same all
+pub hex-end : (all : Bool) (bs : List ℕ) (i : ℕ) → length bs ≤ i → pick all (are_hex (drop i bs)) false ≡ all
+unfolding are_hex
+hex-end all bs i h = ap (λ (r : List ℕ). pick all (are_hex r) false) (drop_of_length-le bs h) ∙ pick_same all
 
 -- a digit's value without a test
-pub value-is : (b : ℕ) → digitOf b < 16 → b % 16 + 9 * (b / 64) ≡ digitOf b
+pub value-is : (b : ℕ) → digit_of b < 16 → b % 16 + 9 * (b / 64) ≡ digit_of b
 value-is b h =
     ⊎_elim
     (λ (k : 65 ≤ b).
-    let g : b ≤ 70 = ⊎_elim (λ (l : b ≤ 70). l) (λ (l : 70 < b). absurd (omega (arith, above-digits b l))) (le-or-lt b 70) in
-    omega (arith, letter-digit b k g))
+    let g : b ≤ 70 = ⊎_elim (λ (l : b ≤ 70). l) (λ (l : 70 < b). absurd (omega (arith, above-digits b l))) (le_or-lt b 70) in
+    omega (arith, letter_digit b k g))
     (λ (k : b < 65).
-    let l : 48 ≤ b = ⊎_elim (λ (l : 48 ≤ b). l) (λ (l : b < 48). absurd (omega (arith, below-digits b l))) (le-or-lt 48 b) in
-    let g : b ≤ 57 = ⊎_elim (λ (g : b ≤ 57). g) (λ (g : 57 < b). absurd (omega (arith, between-digits b g k))) (le-or-lt b 57) in
+    let l : 48 ≤ b = ⊎_elim (λ (l : 48 ≤ b). l) (λ (l : b < 48). absurd (omega (arith, below-digits b l))) (le_or-lt 48 b) in
+    let g : b ≤ 57 = ⊎_elim (λ (g : b ≤ 57). g) (λ (g : 57 < b). absurd (omega (arith, between-digits b g k))) (le_or-lt b 57) in
     omega (arith, decimal_digit b l g))
-    (le-or-lt 65 b)
+    (le_or-lt 65 b)
 
 -- two digits more
-pair_turn : (bs : List ℕ) (j x : ℕ) → areHex bs ≡ true → 2 * j + 1 < length bs → x * 256 + 255 < 2 ^ 64
-    → spelledFrom 16 x (drop (2 * j) bs) ≡ spelledFrom 16 (x * 256 + pair_of (get_or bs (2 * j) 0) (get_or bs (2 * j + 1) 0)) (drop (2 * j + 1 + 1) bs)
+pair_turn : (bs : List ℕ) (j x : ℕ) → are_hex bs ≡ true → 2 * j + 1 < length bs → x * 256 + 255 < 2 ^ 64
+    → spelled_from 16 x (drop (2 * j) bs) ≡ spelled_from 16 (x * 256 + pair_of (get_or bs (2 * j) 0) (get_or bs (2 * j + 1) 0)) (drop (2 * j + 1 + 1) bs)
 unfolding pair_of
 pair_turn bs j x h l g =
-    let a = digitOf (get_or bs (2 * j) 0) in
-    let b = digitOf (get_or bs (2 * j + 1) 0) in
+    let a = digit_of (get_or bs (2 * j) 0) in
+    let b = digit_of (get_or bs (2 * j + 1) 0) in
     let p : a < 16 = hex-at bs (2 * j) h (omega arith) in
     let q : b < 16 = hex-at bs (2 * j + 1) h l in
     let e : (x * 16 + a) * 16 + b ≡ x * 256 + (a * 16 + b) = omega arith in
-    next-digit 16 x (2 * j) bs (omega arith) p (omega arith)
-    ∙ next-digit 16 (x * 16 + a) (2 * j + 1) bs l q (omega arith)
-    ∙ ap (λ (n : ℕ). spelledFrom 16 n (drop (2 * j + 1 + 1) bs)) e
+    next_digit 16 x (2 * j) bs (omega arith) p (omega arith)
+    ∙ next_digit 16 (x * 16 + a) (2 * j + 1) bs l q (omega arith)
+    ∙ ap (λ (n : ℕ). spelled_from 16 n (drop (2 * j + 1 + 1) bs)) e
 
-pair_small : (a b : ℕ) → digitOf a < 16 → digitOf b < 16 → pair_of a b < 256
+pair_small : (a b : ℕ) → digit_of a < 16 → digit_of b < 16 → pair_of a b < 256
 unfolding pair_of
 pair_small a b h g = omega arith
 
-pub spelled-pairs : (k : ℕ) (bs out : List ℕ) → areHex bs ≡ true → k ≤ 8 → 2 * k ≤ length bs → Paired bs k out
-    → (joinedTo k out < 256 ^ k) × (spelledFrom 16 0 bs ≡ spelledFrom 16 (joinedTo k out) (drop (2 * k) bs))
-unfolding joinedTo Paired
+pub spelled-pairs : (k : ℕ) (bs out : List ℕ) → are_hex bs ≡ true → k ≤ 8 → 2 * k ≤ length bs → Paired bs k out
+    → (joined_to k out < 256 ^ k) × (spelled_from 16 0 bs ≡ spelled_from 16 (joined_to k out) (drop (2 * k) bs))
+unfolding joined_to Paired
 spelled-pairs zero bs out h s l p = (lit< tt, refl)
 spelled-pairs (suc k) bs out h s l p =
     let q = spelled-pairs k bs out h (omega arith) (omega arith) (λ j g. p j (omega arith)) in
-    let x = joinedTo k out in
+    let x = joined_to k out in
     let y = pair_of (get_or bs (2 * k) 0) (get_or bs (2 * k + 1) 0) in
     let n : k ≤ 7 = omega arith in
     let m : 256 ^ k ≤ 256 ^ 7 = pow-le-pow_right (lit< tt) n in
@@ -255,8 +255,8 @@ spelled-pairs (suc k) bs out h s l p =
       omega (arith, pow-suc 256 k, q.0, r),
       q.1
           ∙ pair_turn bs k x h (omega arith) (omega (arith, m, q.0))
-          ∙ ap (λ (n : ℕ). spelledFrom 16 (x * 256 + n) (drop (2 * k + 1 + 1) bs)) (sym r)
-          ∙ ap (λ (n : ℕ). spelledFrom 16 (x * 256 + get_or out k 0) (drop n bs)) d,
+          ∙ ap (λ (n : ℕ). spelled_from 16 (x * 256 + n) (drop (2 * k + 1 + 1) bs)) (sym r)
+          ∙ ap (λ (n : ℕ). spelled_from 16 (x * 256 + get_or out k 0) (drop n bs)) d,
     )
 
 -- one pair more, put behind those that stand
@@ -270,7 +270,7 @@ pair_put bs out i y h p e j l =
     (λ (g : j < i).
     let q : j ≡ i → ⊥ = λ r. omega arith in
     get_or-set_other out i j y 0 q ∙ p j g)
-    (le-or-lt i j)
+    (le_or-lt i j)
 
 -- a byte more stays below 2^64
 pub joined-fits : (x i : ℕ) → i < 8 → x < 256 ^ i → x * 256 + 255 < 2 ^ 64
@@ -279,18 +279,18 @@ joined-fits x i h l =
     let m : 256 ^ i ≤ 256 ^ 7 = pow-le-pow_right (lit< tt) n in
     omega (arith, m, l)
 
-joined-more : (x i y : ℕ) (bs : List ℕ) → x ≡ joinedTo i bs → y ≡ get_or bs i 0 → x * 256 + y ≡ joinedTo (i + 1) bs
-unfolding joinedTo
-joined-more x i y bs e q = ap (λ (n : ℕ). n * 256 + y) e ∙ ap (λ (n : ℕ). joinedTo i bs * 256 + n) q ∙ sym (ap (λ (n : ℕ). joinedTo n bs) (add-one i))
+joined-more : (x i y : ℕ) (bs : List ℕ) → x ≡ joined_to i bs → y ≡ get_or bs i 0 → x * 256 + y ≡ joined_to (i + 1) bs
+unfolding joined_to
+joined-more x i y bs e q = ap (λ (n : ℕ). n * 256 + y) e ∙ ap (λ (n : ℕ). joined_to i bs * 256 + n) q ∙ sym (ap (λ (n : ℕ). joined_to n bs) (add-one i))
 
-pub joined-turn : (x i y : ℕ) (bs : List ℕ) → x < 256 ^ i → x ≡ joinedTo i bs → y < 256 → y ≡ get_or bs i 0 → (x * 256 + y < 256 ^ (i + 1)) × (x * 256 + y ≡ joinedTo (i + 1) bs)
+pub joined-turn : (x i y : ℕ) (bs : List ℕ) → x < 256 ^ i → x ≡ joined_to i bs → y < 256 → y ≡ get_or bs i 0 → (x * 256 + y < 256 ^ (i + 1)) × (x * 256 + y ≡ joined_to (i + 1) bs)
 joined-turn x i y bs l e s q =
     let r : 256 ^ (i + 1) ≡ 256 ^ i * 256 = ap (λ (n : ℕ). 256 ^ n) (add-one i) ∙ pow-suc 256 i in
     (omega (arith, r, l), joined-more x i y bs e q)
 
 -- all eight
-pub bits-joined : (bs out : List ℕ) → areHex bs ≡ true → length bs ≡ 16 → Paired bs 8 out → spelledFrom 16 0 bs ≡ N.Is (joinedTo 8 out)
-unfolding spelledFrom
+pub bits-joined : (bs out : List ℕ) → are_hex bs ≡ true → length bs ≡ 16 → Paired bs 8 out → spelled_from 16 0 bs ≡ N.Is (joined_to 8 out)
+unfolding spelled_from
 bits-joined bs out h l p =
     let g : length bs ≤ 2 * 8 = omega arith in
-    (spelled-pairs 8 bs out h (omega arith) (omega arith) p).1 ∙ ap (spelledFrom 16 (joinedTo 8 out)) (drop_of_length-le bs g)
+    (spelled-pairs 8 bs out h (omega arith) (omega arith) p).1 ∙ ap (spelled_from 16 (joined_to 8 out)) (drop_of_length-le bs g)

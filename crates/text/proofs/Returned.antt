@@ -5,13 +5,13 @@ use lib.Arith.{mod-mul}
 use borrow.Author.Tests.{lt-leb}
 use Rattle.laws.specs.Pick.{pick}
 use Rattle.laws.proofs.Bools.{pick_true, pick-false}
-use Rattle.laws.proofs.Differences.{le-or-lt}
-use Rattle.text.specs.Numbers.{digitOf, spelledFrom, bitsOf, glyphOf, hexDigits}
+use Rattle.laws.proofs.Differences.{le_or-lt}
+use Rattle.text.specs.Numbers.{digit_of, spelled_from, bits_of, glyph_of, hex_digits}
 use Rattle.text.specs.declared.numbers.Natural.TheVariants as N
 
-glyph-digit : (d : ℕ) → d < 16 → digitOf (glyphOf d) ≡ d
-unfolding digitOf glyphOf pick
-glyph-digit d h =
+glyph_digit : (d : ℕ) → d < 16 → digit_of (glyph_of d) ≡ d
+unfolding digit_of glyph_of pick
+glyph_digit d h =
     ⊎_elim
     (λ (l : 10 ≤ d).
     let a : 57 < 55 + d = omega arith in
@@ -20,7 +20,7 @@ glyph-digit d h =
     (λ (l : d < 10).
     let b : 48 + d ≤ 57 = omega arith in
     simp (lt-ltb d 10 l, le-ltb (48 + d) 48 (omega arith), le-leb (48 + d) 57 b) (omega arith))
-    (le-or-lt 10 d)
+    (le_or-lt 10 d)
 
 -- a digit more, as a number
 total : (k x n : ℕ) → x * 16 ^ suc k + n % 16 ^ suc k ≡ (x * 16 + n / 16 ^ k % 16) * 16 ^ k + n % 16 ^ k
@@ -31,32 +31,32 @@ total k x n =
     let s : x * 16 ^ suc k ≡ x * 16 * q = ap (λ (m : ℕ). x * m) (pow-succ' 16 k) ∙ sym (mul_assoc x 16 q) in
     omega (arith, p, s, add-mul (x * 16) d q)
 
-spelled-hex : (k x n : ℕ) → x * 16 ^ k + n % 16 ^ k < 2 ^ 64 → spelledFrom 16 x (hexDigits k n) ≡ N.Is (x * 16 ^ k + n % 16 ^ k)
-unfolding spelledFrom hexDigits
-spelled-hex zero x n h = let e : x ≡ x * 1 + n % 1 = omega arith in ap N.Is e
-spelled-hex (suc k) x n h =
+spelled_hex : (k x n : ℕ) → x * 16 ^ k + n % 16 ^ k < 2 ^ 64 → spelled_from 16 x (hex_digits k n) ≡ N.Is (x * 16 ^ k + n % 16 ^ k)
+unfolding spelled_from hex_digits
+spelled_hex zero x n h = let e : x ≡ x * 1 + n % 1 = omega arith in ap N.Is e
+spelled_hex (suc k) x n h =
     let d = n / 16 ^ k % 16 in
     let l : d < 16 = mod-lt (n / 16 ^ k) (lit< tt) in
-    let e = glyph-digit d l in
+    let e = glyph_digit d l in
     let t = total k x n in
     let b : (x * 16 + d) * 16 ^ k + n % 16 ^ k < 2 ^ 64 = omega (arith, t, h) in
     let m : x * 16 + d < 2 ^ 64 = omega (arith, b, le-mul_of_pos_right {m = 16 ^ k} (x * 16 + d) (one-le-pow k 16 (lit< tt))) in
-    pick-false _ _ _ (lt-leb 16 (digitOf (glyphOf d)) (subst (λ (y : ℕ). y < 16) (sym e) l))
-    ∙ pick-false _ _ _ (lt-leb (2 ^ 64) (x * 16 + digitOf (glyphOf d)) (subst (λ (y : ℕ). x * 16 + y < 2 ^ 64) (sym e) m))
-    ∙ ap (λ (y : ℕ). spelledFrom 16 (x * 16 + y) (hexDigits k n)) e
-    ∙ spelled-hex k (x * 16 + d) n b
+    pick-false _ _ _ (lt-leb 16 (digit_of (glyph_of d)) (subst (λ (y : ℕ). y < 16) (sym e) l))
+    ∙ pick-false _ _ _ (lt-leb (2 ^ 64) (x * 16 + digit_of (glyph_of d)) (subst (λ (y : ℕ). x * 16 + y < 2 ^ 64) (sym e) m))
+    ∙ ap (λ (y : ℕ). spelled_from 16 (x * 16 + y) (hex_digits k n)) e
+    ∙ spelled_hex k (x * 16 + d) n b
     ∙ ap N.Is (sym t)
 
-length-hex : (k n : ℕ) → length (hexDigits k n) ≡ k
-unfolding hexDigits
-length-hex zero n = refl
-length-hex (suc k) n = ap suc (length-hex k n)
+length_hex : (k n : ℕ) → length (hex_digits k n) ≡ k
+unfolding hex_digits
+length_hex zero n = refl
+length_hex (suc k) n = ap suc (length_hex k n)
 
-pub read_back : (n : ℕ) → n < 2 ^ 64 → bitsOf (hexDigits 16 n) ≡ N.Is n
-unfolding bitsOf
+pub read_back : (n : ℕ) → n < 2 ^ 64 → bits_of (hex_digits 16 n) ≡ N.Is n
+unfolding bits_of
 read_back n h =
     let e : n % 16 ^ 16 ≡ n = mod-eq_of_lt h in
     let t : 0 * 16 ^ 16 + n % 16 ^ 16 ≡ n = omega (arith, e) in
-    pick_true _ _ _ (eq-eqb (length (hexDigits 16 n)) 16 (length-hex 16 n))
-    ∙ spelled-hex 16 0 n (omega (arith, t, h))
+    pick_true _ _ _ (eq-eqb (length (hex_digits 16 n)) 16 (length_hex 16 n))
+    ∙ spelled_hex 16 0 n (omega (arith, t, h))
     ∙ ap N.Is t

@@ -4,7 +4,7 @@ use native.Mathlib.Nat.{div-div-eq-div-mul}
 use borrow.Author.Tests.{lt-leb}
 use Rattle.laws.specs.Pick.{pick}
 use Rattle.laws.proofs.Bools.{not-both, pick_true, pick-false}
-use Rattle.text.specs.Numbers.{digitOf, spelledFrom, hasMinus, glyphOf, hexDigits}
+use Rattle.text.specs.Numbers.{digit_of, spelled_from, has_minus, glyph_of, hex_digits}
 use Rattle.text.specs.declared.numbers.Natural.TheVariants as N
 
 -- the list from a place on, by the element there
@@ -12,26 +12,26 @@ pub from-here : (i : ℕ) (bs : List ℕ) → i < length bs → drop i bs ≡ ge
 from-here i bs h = drop-cons bs i 0 h ∙ ap (λ (k : ℕ). get_or bs i 0 ∷ drop k bs) (sym (add-one i))
 
 module _ (base x i : ℕ) (bs : List ℕ) (h : i < length bs) where
-  pub no_digit : base ≤ digitOf (get_or bs i 0) → spelledFrom base x (drop i bs) ≡ N.None
-  unfolding spelledFrom
-  no_digit l = ap (spelledFrom base x) (from-here i bs h) ∙ pick_true _ _ _ (le-leb base (digitOf (get_or bs i 0)) l)
+  pub no_digit : base ≤ digit_of (get_or bs i 0) → spelled_from base x (drop i bs) ≡ N.None
+  unfolding spelled_from
+  no_digit l = ap (spelled_from base x) (from-here i bs h) ∙ pick_true _ _ _ (le-leb base (digit_of (get_or bs i 0)) l)
 
-  pub too_large : digitOf (get_or bs i 0) < base → 2 ^ 64 ≤ x * base + digitOf (get_or bs i 0) → spelledFrom base x (drop i bs) ≡ N.None
-  unfolding spelledFrom
+  pub too_large : digit_of (get_or bs i 0) < base → 2 ^ 64 ≤ x * base + digit_of (get_or bs i 0) → spelled_from base x (drop i bs) ≡ N.None
+  unfolding spelled_from
   too_large l g =
-      ap (spelledFrom base x) (from-here i bs h)
-      ∙ pick-false _ _ _ (lt-leb base (digitOf (get_or bs i 0)) l)
-      ∙ pick_true _ _ _ (le-leb (2 ^ 64) (x * base + digitOf (get_or bs i 0)) g)
+      ap (spelled_from base x) (from-here i bs h)
+      ∙ pick-false _ _ _ (lt-leb base (digit_of (get_or bs i 0)) l)
+      ∙ pick_true _ _ _ (le-leb (2 ^ 64) (x * base + digit_of (get_or bs i 0)) g)
 
-  pub next-digit : digitOf (get_or bs i 0) < base → x * base + digitOf (get_or bs i 0) < 2 ^ 64 → spelledFrom base x (drop i bs) ≡ spelledFrom base (x * base + digitOf (get_or bs i 0)) (drop (i + 1) bs)
-  unfolding spelledFrom
-  next-digit l g =
-      ap (spelledFrom base x) (from-here i bs h)
-      ∙ pick-false _ _ _ (lt-leb base (digitOf (get_or bs i 0)) l)
-      ∙ pick-false _ _ _ (lt-leb (2 ^ 64) (x * base + digitOf (get_or bs i 0)) g)
+  pub next_digit : digit_of (get_or bs i 0) < base → x * base + digit_of (get_or bs i 0) < 2 ^ 64 → spelled_from base x (drop i bs) ≡ spelled_from base (x * base + digit_of (get_or bs i 0)) (drop (i + 1) bs)
+  unfolding spelled_from
+  next_digit l g =
+      ap (spelled_from base x) (from-here i bs h)
+      ∙ pick-false _ _ _ (lt-leb base (digit_of (get_or bs i 0)) l)
+      ∙ pick-false _ _ _ (lt-leb (2 ^ 64) (x * base + digit_of (get_or bs i 0)) g)
 
-pub minus-length : (bs : List ℕ) → hasMinus bs ≡ true → 1 ≤ length bs
-unfolding hasMinus pick
+pub minus-length : (bs : List ℕ) → has_minus bs ≡ true → 1 ≤ length bs
+unfolding has_minus pick
 minus-length [] h = absurd (not-both false h refl)
 minus-length (b ∷ bs) h = omega arith
 
@@ -43,10 +43,10 @@ pub step-passes : (base x d most : ℕ) → 0 < base → (most - d) / base < x �
 step-passes base x d most b l = (div-lt_iff_lt-mul {k = base} {x = most - d} {y = x} b).0 l
 
 -- a digit put before those that stand
-pub digit-put : (out : List ℕ) (i k n : ℕ) → i < length out → drop (i + 1) out ≡ hexDigits k n → drop i (set out i (glyphOf (n / 16 ^ k % 16))) ≡ hexDigits (suc k) n
-unfolding hexDigits
+pub digit-put : (out : List ℕ) (i k n : ℕ) → i < length out → drop (i + 1) out ≡ hex_digits k n → drop i (set out i (glyph_of (n / 16 ^ k % 16))) ≡ hex_digits (suc k) n
+unfolding hex_digits
 digit-put out i k n h e =
-    let g = glyphOf (n / 16 ^ k % 16) in
+    let g = glyph_of (n / 16 ^ k % 16) in
     from-here i (set out i g) (lt-length-set out i g h)
     ∙ ap (λ (x : ℕ). x ∷ drop (i + 1) (set out i g)) (get_or-set_same out i g 0 h)
     ∙ ap (λ (r : List ℕ). g ∷ r) (drop-set-lt (i + 1) out i g (omega arith) ∙ e)

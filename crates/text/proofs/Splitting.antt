@@ -2,7 +2,7 @@
 use Rattle.std.proofs.Common.{◌≡◌, ℕ, zero, suc, ◌+◌, ◌-◌, ◌<◌, ◌≤◌, Bool, true, false, eqb, List, [], ◌∷◌, length, get_or, take, drop, refl, ap, ◌∙◌, arith, drop_of_length-le, eq-eqb, ne_eqb}
 use Rattle.laws.specs.Pick.{pick}
 use Rattle.laws.proofs.Bools.{pick_true, pick-false}
-use Rattle.text.specs.Fields.{space, spacesOf, until, start_of}
+use Rattle.text.specs.Fields.{space, spaces_of, until, start_of}
 use Rattle.text.proofs.Spelling.{from-here}
 
 pub start-here : (xs : List ℕ) → start_of xs 0 ≡ 0
@@ -20,12 +20,12 @@ unfolding start_of
 start-turn line i zero h l = absurd (omega arith)
 start-turn line i (suc k) h l = ap (λ (xs : List ℕ). start_of xs (suc k)) (from-here i line h)
 
-pub spaces-turn : (line : List ℕ) (i : ℕ) → i < length line → spacesOf (drop i line) ≡ space (get_or line i 0) + spacesOf (drop (i + 1) line)
-unfolding spacesOf
-spaces-turn line i h = ap spacesOf (from-here i line h)
+pub spaces-turn : (line : List ℕ) (i : ℕ) → i < length line → spaces_of (drop i line) ≡ space (get_or line i 0) + spaces_of (drop (i + 1) line)
+unfolding spaces_of
+spaces-turn line i h = ap spaces_of (from-here i line h)
 
-pub spaces-none : (line : List ℕ) (i : ℕ) → length line ≤ i → spacesOf (drop i line) ≡ 0
-unfolding spacesOf
+pub spaces-none : (line : List ℕ) (i : ℕ) → length line ≤ i → spaces_of (drop i line) ≡ 0
+unfolding spaces_of
 spaces-none line i h = rw (drop_of_length-le line h) refl
 
 module _ (s : ℕ) (line : List ℕ) (i : ℕ) where

@@ -8,9 +8,9 @@ unfoldable pub space : ℕ → ℕ
 space b = bit (b == 32)
 
 -- how many spaces a line has: it has one field more
-unfoldable pub spacesOf : List ℕ → ℕ
-spacesOf [] = 0
-spacesOf (b ∷ bs) = space b + spacesOf bs
+unfoldable pub spaces_of : List ℕ → ℕ
+spaces_of [] = 0
+spaces_of (b ∷ bs) = space b + spaces_of bs
 
 -- the bytes before the first byte s, all where there is none
 unfoldable pub until : ℕ → List ℕ → List ℕ

@@ -1,7 +1,7 @@
 // A line's fields.
 ghost use Rattle.std.specs.Prelude.{◌≡◌, ◌+◌, ◌-◌, ◌≤◌, length, drop, slice_index, slice_range};
-ghost use Rattle.text.specs.Numbers.{decimalOf, bitsOf, signed_of};
-ghost use Rattle.text.specs.Fields.{space, spacesOf, until, start_of, field_of};
+ghost use Rattle.text.specs.Numbers.{decimal_of, bits_of, signed_of};
+ghost use Rattle.text.specs.Fields.{space, spaces_of, until, start_of, field_of};
 
 use crate::numbers::{Integer, Natural};
 
@@ -31,7 +31,7 @@ fn is_space(byte: u8) -> usize
 
 // How many spaces a line has.
 pub fn spaces(line: &[u8]) -> usize
-    ensures { result ≡ spacesOf line.now }
+    ensures { result ≡ spaces_of line.now }
 {
     let mut n: usize = 0;
     let mut i: usize = 0;
@@ -82,7 +82,7 @@ pub fn field(line: &[u8], k: usize) -> Part
 
 // The number that field k spells in decimal, or none.
 pub fn decimal_at(line: &[u8], k: usize) -> Natural
-    ensures { result ≡ decimalOf (field_of line.now k) }
+    ensures { result ≡ decimal_of (field_of line.now k) }
 {
     let p = field(line, k);
     let a = p.from;
@@ -92,7 +92,7 @@ pub fn decimal_at(line: &[u8], k: usize) -> Natural
 
 // The bits that field k spells in 16 hexadecimal digits, or none.
 pub fn bits_at(line: &[u8], k: usize) -> Natural
-    ensures { result ≡ bitsOf (field_of line.now k) }
+    ensures { result ≡ bits_of (field_of line.now k) }
 {
     let p = field(line, k);
     let a = p.from;

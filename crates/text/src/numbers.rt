@@ -1,8 +1,8 @@
 // Numbers as they are spelled.
 ghost use Rattle.std.specs.Prelude.{◌≡◌, ◌<◌, true, false, length, nat_lt};
 ghost use Rattle.laws.specs.Pick.{pick};
-ghost use Rattle.text.specs.Numbers.{digitOf, spelledFrom, illLed, decimalOf, bitsOf, hasMinus, withMinus, withoutMinus, signed_of};
-ghost use Rattle.text.specs.Pairs.{isDecimal, isLetter, areHex, pair_of, Paired, joinedTo};
+ghost use Rattle.text.specs.Numbers.{digit_of, spelled_from, ill_led, decimal_of, bits_of, has_minus, with_minus, without_minus, signed_of};
+ghost use Rattle.text.specs.Pairs.{is_decimal, is_letter, are_hex, pair_of, Paired, joined_to};
 
 #[derive(Drop)]
 pub enum Natural {
@@ -18,7 +18,7 @@ pub enum Integer {
 
 // The value of a digit 0-9; 10 where the byte is none.
 pub fn digit(byte: u8) -> u64
-    ensures { result ≡ pick (nat_lt (digitOf byte) 10) (digitOf byte) 10 }
+    ensures { result ≡ pick (nat_lt (digit_of byte) 10) (digit_of byte) 10 }
 {
     if byte < b'0' {
         return 10;
@@ -31,7 +31,7 @@ pub fn digit(byte: u8) -> u64
 
 // The number that decimal digits spell.
 fn spelled(bytes: &[u8]) -> Natural
-    ensures { result ≡ spelledFrom 10 0 bytes.now }
+    ensures { result ≡ spelled_from 10 0 bytes.now }
 {
     let mut x: u64 = 0;
     let mut i: usize = 0;
@@ -51,7 +51,7 @@ fn spelled(bytes: &[u8]) -> Natural
 
 // Whether there is no byte, or a zero before others.
 pub fn ill_led(bytes: &[u8]) -> bool
-    ensures { result ≡ illLed bytes.now }
+    ensures { result ≡ ill_led bytes.now }
 {
     let n = bytes.len();
     if n == 0 {
@@ -65,7 +65,7 @@ pub fn ill_led(bytes: &[u8]) -> bool
 
 // A decimal up to 2^64 - 1.
 pub fn decimal(bytes: &[u8]) -> Natural
-    ensures { result ≡ decimalOf bytes.now }
+    ensures { result ≡ decimal_of bytes.now }
 {
     if ill_led(bytes) {
         return Natural::None;
@@ -75,14 +75,14 @@ pub fn decimal(bytes: &[u8]) -> Natural
 
 // Whether a byte is a digit 0-9.
 fn is_decimal(byte: u8) -> bool
-    ensures { result ≡ isDecimal byte }
+    ensures { result ≡ is_decimal byte }
 {
     std::num::wrapping_sub_u8(byte, 48) < 10
 }
 
 // Whether a byte is a digit A-F.
 fn is_letter(byte: u8) -> bool
-    ensures { result ≡ isLetter byte }
+    ensures { result ≡ is_letter byte }
 {
     std::num::wrapping_sub_u8(byte, 65) < 6
 }
@@ -104,7 +104,7 @@ fn still(all: bool, decimal: bool, letter: bool) -> bool
 // bytes at once.
 fn are_hex(bytes: &[u8]) -> bool
     requires { length bytes.now ≡ 16 }
-    ensures { result ≡ areHex bytes.now }
+    ensures { result ≡ are_hex bytes.now }
 {
     let mut all = true;
     let mut i: usize = 0;
@@ -117,15 +117,15 @@ fn are_hex(bytes: &[u8]) -> bool
 
 // The value of a byte that is a hexadecimal digit.
 fn value(byte: u8) -> u8
-    requires { digitOf byte < 16 }
-    ensures { result ≡ digitOf byte }
+    requires { digit_of byte < 16 }
+    ensures { result ≡ digit_of byte }
 {
     byte % 16 + 9 * (byte / 64)
 }
 
 // Two hexadecimal digits as a byte.
 fn pair(a: u8, b: u8) -> u8
-    requires { (digitOf a < 16) × (digitOf b < 16) }
+    requires { (digit_of a < 16) × (digit_of b < 16) }
     ensures { result ≡ pair_of a b }
 {
     value(a) * 16 + value(b)
@@ -133,7 +133,7 @@ fn pair(a: u8, b: u8) -> u8
 
 // 16 hexadecimal digits as eight bytes, two digits to a byte. No byte depends on another, so that the compiler can compute all of them at once.
 fn pairs(bytes: &[u8]) -> [u8; 8]
-    requires { (length bytes.now ≡ 16) × (areHex bytes.now ≡ true) }
+    requires { (length bytes.now ≡ 16) × (are_hex bytes.now ≡ true) }
     ensures { Paired bytes.now 8 result }
 {
     let mut out = [0u8; 8];
@@ -154,7 +154,7 @@ fn wide(byte: u8) -> u64
 
 // The number of eight bytes, the most significant first.
 fn joined(bytes: [u8; 8]) -> u64
-    ensures { result ≡ joinedTo 8 bytes }
+    ensures { result ≡ joined_to 8 bytes }
 {
     let mut x: u64 = 0;
     let mut i: usize = 0;
@@ -167,7 +167,7 @@ fn joined(bytes: [u8; 8]) -> u64
 
 // 16 hexadecimal digits.
 pub fn bits(bytes: &[u8]) -> Natural
-    ensures { result ≡ bitsOf bytes.now }
+    ensures { result ≡ bits_of bytes.now }
 {
     if bytes.len() != 16 {
         return Natural::None;
@@ -179,7 +179,7 @@ pub fn bits(bytes: &[u8]) -> Natural
 }
 
 fn with_minus(n: Natural) -> Integer
-    ensures { result ≡ withMinus n }
+    ensures { result ≡ with_minus n }
 {
     match n {
         Natural::None => Integer::None,
@@ -193,7 +193,7 @@ fn with_minus(n: Natural) -> Integer
 }
 
 fn without_minus(n: Natural) -> Integer
-    ensures { result ≡ withoutMinus n }
+    ensures { result ≡ without_minus n }
 {
     match n {
         Natural::None => Integer::None,
@@ -202,7 +202,7 @@ fn without_minus(n: Natural) -> Integer
 }
 
 fn has_minus(bytes: &[u8]) -> bool
-    ensures { result ≡ hasMinus bytes.now }
+    ensures { result ≡ has_minus bytes.now }
 {
     if bytes.len() == 0 {
         return false;

@@ -15,28 +15,28 @@ use Rattle.tally.specs.Sets.{Set, canonical}
 use Rattle.tally.specs.Kind.{Kind}
 use Rattle.sets.specs.Rows.{row_of}
 use Rattle.directory.specs.View.{Stores}
-use Rattle.directory.specs.Calls.{Kept, mostSets, accepts, storesSuffice}
+use Rattle.directory.specs.Calls.{Kept, most_sets, accepts, stores_suffice}
 use Rattle.directory.proofs.Refusals.{Suffice, suffices, within}
 use Rattle.bindings.specs.Calls as Bindings
 use Rattle.bindings.specs.Calls.{fresh}
 use Rattle.seats.specs.declared.Seating.{Seating}
-use Rattle.seats.specs.Seats.{away, seated, seatedBy, barredBy, unlessBarred, committed}
+use Rattle.seats.specs.Seats.{away, seated, seated_by, barred_by, unless_barred, committed}
 use Rattle.seats.specs.Inner.{Fits}
 use Rattle.seats.proofs.Bars.{barred-away, barred-on}
 use Rattle.seats.proofs.Seatings.{Safe, seat-safe, by-safe}
 use Rattle.value_map.specs.Store.{Store, Recording}
-use Rattle.value_map.specs.Calls.{Held, Outcome, held, refused, unlessRefused, begun, beside, passes, lent, entered, called, measured, measuredBy, started}
+use Rattle.value_map.specs.Calls.{Held, Outcome, held, refused, unless_refused, begun, beside, passes, lent, entered, called, measured, measured_by, started}
 use Rattle.value_map.proofs.Owed.{Owed}
 
 -- ---- a number that refuses, or none
 
 module _ {Cells : Type 0} (h : Held Cells) (n : ℕ) (o : Outcome Cells) where
-  pub stop : (n ≡ 0 → ⊥) → unlessRefused h n o ≡ refused n h
-  unfolding unlessRefused pick
+  pub stop : (n ≡ 0 → ⊥) → unless_refused h n o ≡ refused n h
+  unfolding unless_refused pick
   stop d = rw (ne_eqb n 0 d)
 
-  pub on : n ≡ 0 → unlessRefused h n o ≡ o
-  unfolding unlessRefused pick
+  pub on : n ≡ 0 → unless_refused h n o ≡ o
+  unfolding unless_refused pick
   on e = rw (eq-eqb n 0 e)
 
 -- a refusal is no success
@@ -55,10 +55,10 @@ Seatable S h a = a.no ≡ 0 → S.Room h.cells a.slot × Fits h.kept.dir h.kept.
 
 module _ {K : Kind} {S : Store K} (W : Owed S) (limit : ℕ) (h : Held S.Cells) (e : lent S limit h ≡ true) where
   pub lent-dir : Suffice limit h.kept.stores
-  lent-dir = suffices limit h.kept.stores (and-true (storesSuffice limit h.kept.stores) (S.suffices limit h.cells) e).0
+  lent-dir = suffices limit h.kept.stores (and-true (stores_suffice limit h.kept.stores) (S.suffices limit h.cells) e).0
 
   pub lent-cells : S.suffices limit h.cells ≡ true
-  lent-cells = (and-true (storesSuffice limit h.kept.stores) (S.suffices limit h.cells) e).1
+  lent-cells = (and-true (stores_suffice limit h.kept.stores) (S.suffices limit h.cells) e).1
 
   seatable : (a : Seating) → Safe limit h.kept.dir h.kept.stores a → Seatable S h a
   seatable a safe n = let g = safe n in (W.room limit h.cells a.slot lent-cells g.0, g.1)
@@ -69,7 +69,7 @@ module _ {K : Kind} {S : Store K} (W : Owed S) (limit : ℕ) (h : Held S.Cells) 
       let l = lent-dir in
       seatable a (subst (Safe limit h.kept.dir h.kept.stores) (sym i) (seat-safe limit h.kept.dir h.kept.stores row l.sets l.entries l.order small))
 
-  pub by-seatable : (handle : ℕ) (a : Seating) → a ≡ seatedBy limit h.kept.dir h.kept.stores handle → Seatable S h a
+  pub by-seatable : (handle : ℕ) (a : Seating) → a ≡ seated_by limit h.kept.dir h.kept.stores handle → Seatable S h a
   by-seatable handle a i = seatable a (subst (Safe limit h.kept.dir h.kept.stores) (sym i) (by-safe limit h.kept.dir h.kept.stores handle lent-dir.entries))
 
 -- ---- at a seating
@@ -84,7 +84,7 @@ module _ {K : Kind} {S : Store K} (W : Owed S) (h : Held S.Cells) (v : K.Value) 
   done o = record { answer = success none; held = record { kept = committed h.kept.dir h.kept.stores row a.target; cells = o.cells } }
 
   abbrev next : Recording S.Cells → Outcome S.Cells
-  next o = unlessRefused h o.no (done o)
+  next o = unless_refused h o.no (done o)
 
   abbrev there : Recording S.Cells
   there = S.recorded a.slot a.updated h.cells v
@@ -108,9 +108,9 @@ module _ {K : Kind} {S : Store K} (W : Owed S) (h : Held S.Cells) (v : K.Value) 
 -- ---- the calls: k is the number that comes first
 
 module _ {K : Kind} (S : Store K) (limit : ℕ) (h : Held S.Cells) (v : K.Value) where
-  module _ (n : ℕ) (ok : Bool) (row : List ℕ) (a : Seating) (k : ℕ) (e : k ≡ barredBy (lent S limit h) (K.finite v) n (passes S && ok)) where
+  module _ (n : ℕ) (ok : Bool) (row : List ℕ) (a : Seating) (k : ℕ) (e : k ≡ barred_by (lent S limit h) (K.finite v) n (passes S && ok)) where
     abbrev bar : ℕ
-    bar = barredBy (lent S limit h) (K.finite v) n (passes S && ok)
+    bar = barred_by (lent S limit h) (K.finite v) n (passes S && ok)
 
     pub called-barred : (k ≡ 0 → ⊥) → refused k h ≡ called S limit h v n ok row a
     unfolding called
@@ -137,11 +137,11 @@ module _ {K : Kind} (S : Store K) (limit : ℕ) (h : Held S.Cells) (v : K.Value)
     set_here = set_is (row_of (canonical filter attrs)) _ refl refl
 
   -- by handle
-  pub by-is : (b : ℕ) (a : Seating) → a ≡ seatedBy limit h.kept.dir h.kept.stores b → called S limit h v 0 (leb limit mostSets) (replicate 9 0) a ≡ measuredBy S limit h v b
-  unfolding measuredBy
-  by-is b a q = ap (called S limit h v 0 (leb limit mostSets) (replicate 9 0)) q
+  pub by-is : (b : ℕ) (a : Seating) → a ≡ seated_by limit h.kept.dir h.kept.stores b → called S limit h v 0 (leb limit most_sets) (replicate 9 0) a ≡ measured_by S limit h v b
+  unfolding measured_by
+  by-is b a q = ap (called S limit h v 0 (leb limit most_sets) (replicate 9 0)) q
 
-  pub by-here : (b : ℕ) → called S limit h v 0 (leb limit mostSets) (replicate 9 0) (seatedBy limit h.kept.dir h.kept.stores b) ≡ measuredBy S limit h v b
+  pub by-here : (b : ℕ) → called S limit h v 0 (leb limit most_sets) (replicate 9 0) (seated_by limit h.kept.dir h.kept.stores b) ≡ measured_by S limit h v b
   by-here b = by-is b _ refl
 
 -- ---- configuring
@@ -152,14 +152,14 @@ module _ (unset : ℕ) (cells : Bool) (limit : ℕ) (filter : Option (List ℕ))
   begin-unset d = rw (ne_eqb unset 0 d)
 
   module _ (p : unset ≡ 0) where
-    pub begin-4 : accepts limit filter ≡ false → Bindings.refused 4 fresh s ≡ begun unset cells limit filter s
+    pub begin_4 : accepts limit filter ≡ false → Bindings.refused 4 fresh s ≡ begun unset cells limit filter s
     unfolding begun pick
-    begin-4 a = rw (eq-eqb unset 0 p, a)
+    begin_4 a = rw (eq-eqb unset 0 p, a)
 
     module _ (a : accepts limit filter ≡ true) where
-      pub begin-12 : cells ≡ false → Bindings.refused 12 fresh s ≡ begun unset cells limit filter s
+      pub begin_12 : cells ≡ false → Bindings.refused 12 fresh s ≡ begun unset cells limit filter s
       unfolding begun pick
-      begin-12 l = rw (eq-eqb unset 0 p, a, l)
+      begin_12 l = rw (eq-eqb unset 0 p, a, l)
 
       pub begin-on : cells ≡ true → Bindings.started limit filter s ≡ begun unset cells limit filter s
       unfolding begun pick
@@ -174,11 +174,11 @@ module _ {K : Kind} (S : Store K) (limit : ℕ) (filter : Option (List ℕ)) (s 
   pub start-unset : (S.unset ≡ 0 → ⊥) → refused S.unset (held fresh s c) ≡ started S limit filter s c
   start-unset d = start_is (Bindings.refused S.unset fresh s) refl refl (begin-unset S.unset (S.suffices limit c) limit filter s d)
 
-  pub start-4 : S.unset ≡ 0 → accepts limit filter ≡ false → refused 4 (held fresh s c) ≡ started S limit filter s c
-  start-4 p a = start_is (Bindings.refused 4 fresh s) refl refl (begin-4 S.unset (S.suffices limit c) limit filter s p a)
+  pub start_4 : S.unset ≡ 0 → accepts limit filter ≡ false → refused 4 (held fresh s c) ≡ started S limit filter s c
+  start_4 p a = start_is (Bindings.refused 4 fresh s) refl refl (begin_4 S.unset (S.suffices limit c) limit filter s p a)
 
-  pub start-12 : S.unset ≡ 0 → accepts limit filter ≡ true → S.suffices limit c ≡ false → refused 12 (held fresh s c) ≡ started S limit filter s c
-  start-12 p a l = start_is (Bindings.refused 12 fresh s) refl refl (begin-12 S.unset (S.suffices limit c) limit filter s p a l)
+  pub start_12 : S.unset ≡ 0 → accepts limit filter ≡ true → S.suffices limit c ≡ false → refused 12 (held fresh s c) ≡ started S limit filter s c
+  start_12 p a l = start_is (Bindings.refused 12 fresh s) refl refl (begin_12 S.unset (S.suffices limit c) limit filter s p a l)
 
   pub start-on : S.unset ≡ 0 → accepts limit filter ≡ true → S.suffices limit c ≡ true → (o : Bindings.Outcome) → o ≡ Bindings.started limit filter s → beside o c ≡ started S limit filter s c
   start-on p a l o q = start_is o refl refl (q ∙ begin-on S.unset (S.suffices limit c) limit filter s p a l)

@@ -11,11 +11,11 @@ use borrow.Author.Tests.{eq-eqb, ne_eqb, le-leb, lt-leb}
 use Rattle.laws.specs.Pick.{pick}
 use Rattle.laws.proofs.Bools.{flag, pick_true, pick-false}
 use Rattle.tally.specs.Kind.{Kind}
-use Rattle.sets.specs.Sorted.{mostAttributes}
-use Rattle.directory.specs.Calls.{storesSuffice}
+use Rattle.sets.specs.Sorted.{most_attributes}
+use Rattle.directory.specs.Calls.{stores_suffice}
 use Rattle.bindings.specs.Calls as Bindings
 use Rattle.seats.specs.declared.Seating.{Seating}
-use Rattle.seats.specs.Seats.{barredBy, unlessBarred}
+use Rattle.seats.specs.Seats.{barred_by, unless_barred}
 use Rattle.seats.proofs.Bars.{barred-away, barred-on}
 use Rattle.seats.proofs.Seatings.{Late}
 use Rattle.value_map.specs.Store.{Store, Recording}
@@ -23,7 +23,7 @@ use Rattle.value_map.specs.Calls.{Held, Outcome, refused, beside, passes, lent, 
 use Rattle.value_map.specs.Inner.{finished, taken, turned}
 use Rattle.value_map.proofs.Owed.{Owed}
 use Rattle.value_map.proofs.Cases.{called-barred, called_on}
-use Rattle.value_map.proofs.Ways.{either, take_no, take_on, Way, Seats, ends-no, ends-in, row_as}
+use Rattle.value_map.proofs.Ways.{either, take_no, take_on, Way, Seats, ends-no, ends_in, row_as}
 
 -- ---- the number that bars a call, without the settings and with them
 
@@ -50,20 +50,20 @@ stays true true true false true = refl
 stays true true true true p = refl
 
 module _ (room fin : Bool) (n : ℕ) (ok : Bool) where
-  turned-bar : (p : Bool) → turned p (barredBy room fin n ok) ≡ barredBy room fin n ok
-  unfolding barredBy numbered
-  turned-bar p = stays room fin (leb n mostAttributes) ok p
+  turned-bar : (p : Bool) → turned p (barred_by room fin n ok) ≡ barred_by room fin n ok
+  unfolding barred_by numbered
+  turned-bar p = stays room fin (leb n most_attributes) ok p
 
   module _ (p : Bool) where
-    bar-late : barredBy room fin n (p && ok) ≡ pick (eqb (barredBy room fin n ok) 0) (pick p 0 8) (barredBy room fin n ok)
-    unfolding barredBy numbered
-    bar-late = later room fin (leb n mostAttributes) p ok
+    bar-late : barred_by room fin n (p && ok) ≡ pick (eqb (barred_by room fin n ok) 0) (pick p 0 8) (barred_by room fin n ok)
+    unfolding barred_by numbered
+    bar-late = later room fin (leb n most_attributes) p ok
 
-    bar-same : (barredBy room fin n ok ≡ 0 → ⊥) → barredBy room fin n ok ≡ barredBy room fin n (p && ok)
-    bar-same d = sym (bar-late ∙ pick-false (eqb (barredBy room fin n ok) 0) _ _ (ne_eqb (barredBy room fin n ok) 0 d))
+    bar-same : (barred_by room fin n ok ≡ 0 → ⊥) → barred_by room fin n ok ≡ barred_by room fin n (p && ok)
+    bar-same d = sym (bar-late ∙ pick-false (eqb (barred_by room fin n ok) 0) _ _ (ne_eqb (barred_by room fin n ok) 0 d))
 
-    bar-by : barredBy room fin n ok ≡ 0 → pick p 0 8 ≡ barredBy room fin n (p && ok)
-    bar-by z = sym (bar-late ∙ pick_true (eqb (barredBy room fin n ok) 0) _ _ (eq-eqb (barredBy room fin n ok) 0 z))
+    bar-by : barred_by room fin n ok ≡ 0 → pick p 0 8 ≡ barred_by room fin n (p && ok)
+    bar-by z = sym (bar-late ∙ pick_true (eqb (barred_by room fin n ok) 0) _ _ (eq-eqb (barred_by room fin n ok) 0 z))
 
 -- ---- the number of a seating that is refused
 
@@ -85,9 +85,9 @@ module _ (p : Bool) (n : ℕ) where
   unfolding turned
   turned_same e = sym (ap (λ (k : ℕ). pick (leb 7 n && leb n 9) k n) (pick_true p n 8 e) ∙ either_way (leb 7 n && leb n 9) n)
 
-  pub turned-8 : 7 ≤ n → n ≤ 9 → p ≡ false → 8 ≡ turned p n
+  pub turned_8 : 7 ≤ n → n ≤ 9 → p ≡ false → 8 ≡ turned p n
   unfolding turned pick
-  turned-8 a b e = rw (le-leb 7 n a, le-leb n 9 b, e)
+  turned_8 a b e = rw (le-leb 7 n a, le-leb n 9 b, e)
 
 some_number : (n : ℕ) → (n ≡ 0 → ⊥) → (t q : Bool) → pick t (pick q n 8) n ≡ 0 → ⊥
 unfolding pick
@@ -105,7 +105,7 @@ module _ {K : Kind} {S : Store K} (W : Owed S) (limit : ℕ) (h : Held S.Cells) 
     (a : Seating) (row : List ℕ) (o : Recording S.Cells) (r : Bindings.Outcome) (g : r ≡ finished o.no h.kept.dir h.kept.stores row a.target)
     (t : o ≡ taken S h.cells v a.no (turned p a.no) a.slot a.updated) where
   abbrev bar : ℕ
-  bar = barredBy (lent S limit h) (K.finite v) y.attributes y.accepted
+  bar = barred_by (lent S limit h) (K.finite v) y.attributes y.accepted
 
   abbrev all : Outcome S.Cells
   all = called S limit h v y.attributes y.accepted y.row y.seat
@@ -115,19 +115,19 @@ module _ {K : Kind} {S : Store K} (W : Owed S) (limit : ℕ) (h : Held S.Cells) 
       let q = t ∙ sym (take_no S h.cells v a.no (turned p a.no) a.slot a.updated k) in
       ends-no W limit h v y a row o r g n d (ap (λ (i : Recording S.Cells). i.no) q ∙ e) (ap (λ (i : Recording S.Cells). i.cells) q)
 
-  barred : a ≡ unlessBarred bar y.seat → (bar ≡ 0 → ⊥) → beside r o.cells ≡ all
+  barred : a ≡ unless_barred bar y.seat → (bar ≡ 0 → ⊥) → beside r o.cells ≡ all
   barred e d =
       let n : a.no ≡ bar = ap (λ (s : Seating). s.no) (e ∙ barred-away bar y.seat d) in
       away bar d (λ z. d (sym n ∙ z)) (ap (turned p) n ∙ turned-bar (lent S limit h) (K.finite v) y.attributes y.accepted p)
       ∙ called-barred S limit h v y.attributes y.accepted y.row y.seat bar (bar-same (lent S limit h) (K.finite v) y.attributes y.accepted (passes S) d) d
 
   module _ (s : a ≡ y.seat) (z : bar ≡ 0) where
-    by : pick p 0 8 ≡ barredBy (lent S limit h) (K.finite v) y.attributes (passes S && y.accepted)
+    by : pick p 0 8 ≡ barred_by (lent S limit h) (K.finite v) y.attributes (passes S && y.accepted)
     by = ap (λ (q : Bool). pick q 0 8) w ∙ bar-by (lent S limit h) (K.finite v) y.attributes y.accepted (passes S) z
 
     good : p ≡ true → (a.no ≡ 0 → row ≡ y.row) → beside r o.cells ≡ all
     good i k =
-        ends-in W limit h v y a row o r g (t ∙ ap (λ (n : ℕ). taken S h.cells v a.no n a.slot a.updated) (sym (turned_same p a.no i)))
+        ends_in W limit h v y a row o r g (t ∙ ap (λ (n : ℕ). taken S h.cells v a.no n a.slot a.updated) (sym (turned_same p a.no i)))
         ∙ row_as W limit h v y a row o r g k ∙ ap (entered S h v y.row) s
         ∙ called_on S limit h v y.attributes y.accepted y.row y.seat 0 (sym (pick_true p 0 8 i) ∙ by) refl
 
@@ -138,14 +138,14 @@ module _ {K : Kind} {S : Store K} (W : Owed S) (limit : ℕ) (h : Held S.Cells) 
         (λ n. let q = t ∙ sym (take_on S h.cells v a.no (turned p a.no) a.slot a.updated n) in
         ends-no W limit h v y a row o r g 8 (λ x. omega (arith, x)) (ap (λ (i : Recording S.Cells). i.no) q ∙ bad n)
         (ap (λ (i : Recording S.Cells). i.cells) q ∙ W.unchanged h.cells a.slot a.updated v (λ x. omega (arith, x, bad n))))
-        (λ d. let m = subst Late (sym s) y.late d in away 8 (λ x. omega (arith, x)) d (sym (turned-8 p a.no m.0 m.1 i)))
+        (λ d. let m = subst Late (sym s) y.late d in away 8 (λ x. omega (arith, x)) d (sym (turned_8 p a.no m.0 m.1 i)))
         ∙ called-barred S limit h v y.attributes y.accepted y.row y.seat 8 (sym (pick-false p 0 8 i) ∙ by) (λ x. omega (arith, x))
 
   pub late-ends : {c f : Bool} → c ≡ S.suffices limit h.cells → f ≡ K.finite v → Seats W limit h v y c f 0 a → (a.no ≡ 0 → row ≡ y.row)
       → (p ≡ false → a.no ≡ 0 → (S.recorded a.slot a.updated h.cells v).no ≡ 8) → beside r o.cells ≡ all
   late-ends c f e k bad =
-      let e₁ : a ≡ unlessBarred bar y.seat =
-      e ∙ (λ j. unlessBarred (barredBy (storesSuffice limit h.kept.stores && c j) (f j) y.attributes y.accepted) y.seat) in
+      let e₁ : a ≡ unless_barred bar y.seat =
+      e ∙ (λ j. unless_barred (barred_by (stores_suffice limit h.kept.stores && c j) (f j) y.attributes y.accepted) y.seat) in
       either bar
       (λ z. let s = e₁ ∙ barred-on bar y.seat z in ⊎_elim (λ (i : p ≡ true). good s z i k) (λ (i : p ≡ false). eight s z i (bad i)) (flag p))
       (barred e₁)

@@ -8,7 +8,7 @@ use Rattle.laws.specs.Pick.{pick}
 use Rattle.tally.specs.Kind.{Kind}
 use Rattle.tally.specs.Map.{sound}
 use Rattle.tally.proofs.MapSteps.{fits}
-use Rattle.seats.proofs.Recording.{orFresh}
+use Rattle.seats.proofs.Recording.{or_fresh}
 use Rattle.value_map.specs.Store.{Store, Recording}
 
 module _ {K : Kind} (S : Store K) where
@@ -23,7 +23,7 @@ module _ {K : Kind} (S : Store K) where
   there c x u = pick u (some (S.at c x)) none
 
   abbrev pub was : S.Switches → S.Cells → ℕ → Bool → K.Series
-  was w c x u = orFresh K (S.settings w) (there c x u)
+  was w c x u = or_fresh K (S.settings w) (there c x u)
 
   -- refused with the number n: nothing is written
   abbrev pub refusing : ℕ → S.Cells → Recording S.Cells

@@ -14,8 +14,8 @@ use Rattle.laws.specs.Tests.{all}
 use Rattle.laws.proofs.Bools.{flag}
 use Rattle.laws.proofs.Cases.{and-true}
 use Rattle.rows.proofs.Parts.{within}
-use Rattle.seats.proofs.Least.{both-suffice, one_less}
-use Rattle.value_map.specs.Store.{lengthsSuffice}
+use Rattle.seats.proofs.Least.{both_suffice, one_less}
+use Rattle.value_map.specs.Store.{lengths_suffice}
 
 pub rows_none : (limit n length : ℕ) → n ≡ 0 → true ≡ leb ((limit + 2) * n) length
 rows_none limit n length e = sym (le-leb ((limit + 2) * n) length (rw e (omega arith)))
@@ -39,10 +39,10 @@ module _ (limit a b : ℕ) (t : Bool) where
   two = λ i. leb (limit + 2) a && one_less (leb (limit + 2) b) i
 
   pub least-none : true ≡ t → leb (limit + 2) (min a b) ≡ (all (leb (limit + 2)) (a ∷ b ∷ []) && t)
-  least-none e = both-suffice a b (limit + 2) ∙ two ∙ one_less (all (leb (limit + 2)) (a ∷ b ∷ [])) ∙ (λ i. all (leb (limit + 2)) (a ∷ b ∷ []) && e i)
+  least-none e = both_suffice a b (limit + 2) ∙ two ∙ one_less (all (leb (limit + 2)) (a ∷ b ∷ [])) ∙ (λ i. all (leb (limit + 2)) (a ∷ b ∷ []) && e i)
 
   pub least-many : (m : ℕ) → leb (limit + 2) m ≡ t → leb (limit + 2) (min (min a b) m) ≡ (all (leb (limit + 2)) (a ∷ b ∷ []) && t)
-  least-many m e = both-suffice (min a b) m (limit + 2) ∙ (λ i. (both-suffice a b (limit + 2) ∙ two) i && e i)
+  least-many m e = both_suffice (min a b) m (limit + 2) ∙ (λ i. (both_suffice a b (limit + 2) ∙ two) i && e i)
 
 -- ---- slot x of stores that suffice lies in each of them
 
@@ -51,13 +51,13 @@ all-at p [] e k b = absurd (omega arith)
 all-at p (y ∷ l) e zero b = (and-true (p y) (all p l) e).0
 all-at p (y ∷ l) e (suc k) b = all-at p l (and-true (p y) (all p l) e).1 k (omega arith)
 
-module _ (n limit x : ℕ) (counts others : List ℕ) (e : lengthsSuffice n limit counts others ≡ true) (h : x ≤ limit + 1) where
+module _ (n limit x : ℕ) (counts others : List ℕ) (e : lengths_suffice n limit counts others ≡ true) (h : x ≤ limit + 1) where
   pub entry_in : (k : ℕ) → k < length others → x < get_or others k 0
   entry_in k b =
       let t = leb-true (limit + 2) (get_or others k 0) (all-at (leb (limit + 2)) others (and-true (all (leb (limit + 2)) others) _ e).0 k b) in
       omega (arith, h, t)
 
-  pub counts-in : (k : ℕ) → k < length counts → x * n + n ≤ get_or counts k 0
-  counts-in k b =
+  pub counts_in_lem : (k : ℕ) → k < length counts → x * n + n ≤ get_or counts k 0
+  counts_in_lem k b =
       within x (limit + 2) n (get_or counts k 0) (omega (arith, h))
       (leb-true ((limit + 2) * n) (get_or counts k 0) (all-at (leb ((limit + 2) * n)) counts (and-true (all (leb (limit + 2)) others) _ e).1 k b))

@@ -16,27 +16,27 @@ use Rattle.laws.proofs.Cases.{and-true, true-not-false}
 use Rattle.tally.specs.Kind.{Kind}
 use Rattle.tally.specs.Sets.{Set, canonical, Lendable}
 use Rattle.tally.proofs.MapSteps as MapMapSteps
-use Rattle.tally.specs.Map.{Config, Map, Out, measure, measureBy, refuse, done, sound}
+use Rattle.tally.specs.Map.{Config, Map, Out, measure, measure_by, refuse, done, sound}
 use Rattle.tally.proofs.MapSteps.{upfront, act, step}
 use Rattle.sets.specs.Rows.{row_of}
 use Rattle.sets.proofs.CallRow.{row-set}
 use Rattle.directory.specs.View.{agreesb, view}
-use Rattle.directory.specs.Calls.{Kept, mostSets, fewKeys, accepts}
+use Rattle.directory.specs.Calls.{Kept, most_sets, few_keys, accepts}
 use Rattle.seats.specs.declared.Seating.{Seating}
-use Rattle.seats.specs.Seats.{seated, seatedBy, committed}
-use Rattle.seats.proofs.Recording.{held_at, orFresh, refusal, Others}
+use Rattle.seats.specs.Seats.{seated, seated_by, committed}
+use Rattle.seats.proofs.Recording.{held_at, or_fresh, refusal, Others}
 use Rattle.seats.proofs.Faithful.{measure-away, measure-refused, measure-done, by-away, by-refused, by-done}
 use Rattle.value_map.specs.Store.{Store, Recording}
-use Rattle.value_map.specs.Calls.{Held, Outcome, refused, passes, lent, entered, called, measured, measuredBy}
-use Rattle.value_map.specs.Maps.{mapOf, configOf}
+use Rattle.value_map.specs.Calls.{Held, Outcome, refused, passes, lent, entered, called, measured, measured_by}
+use Rattle.value_map.specs.Maps.{map_of, config_of}
 use Rattle.value_map.proofs.Owed.{Fit, refusing, Took, Owed}
-use Rattle.seats.proofs.Bars.{bar-6, bar-5, bar-0}
+use Rattle.seats.proofs.Bars.{bar_6, bar_5, bar_0}
 use Rattle.value_map.proofs.Cases.{Seatable, lent-dir, set-seatable, by-seatable, entered-away, entered-refused, entered-done, called-barred, called_on}
-use Rattle.bindings.specs.Calls.{mapAnswer}
+use Rattle.bindings.specs.Calls.{map_answer}
 
 module _ {K : Kind} (S : Store K) (w : S.Switches) where
   abbrev pub told : Outcome S.Cells → Out K
-  told o = record { answer = mapAnswer K o.answer; map = mapOf S w o.held }
+  told o = record { answer = map_answer K o.answer; map = map_of S w o.held }
 
 -- a state that agrees
 pub record Fair {K : Kind} (S : Store K) (limit : ℕ) (filter : Option (List ℕ)) (h : Held S.Cells) : Type 0 where
@@ -50,18 +50,18 @@ pub record Fair {K : Kind} (S : Store K) (limit : ℕ) (filter : Option (List �
 abbrev pub row_in : Option (List ℕ) → Set → List ℕ
 row_in filter attrs = row_of (canonical filter attrs)
 
-abbrev pub seatOf : {Cells : Type 0} → ℕ → Option (List ℕ) → Held Cells → Set → Seating
-seatOf limit filter h attrs = seated limit h.kept.dir h.kept.stores (row_in filter attrs)
+abbrev pub seat_of : {Cells : Type 0} → ℕ → Option (List ℕ) → Held Cells → Set → Seating
+seat_of limit filter h attrs = seated limit h.kept.dir h.kept.stores (row_in filter attrs)
 
-abbrev pub seatBy : {Cells : Type 0} → ℕ → Held Cells → ℕ → Seating
-seatBy limit h b = seatedBy limit h.kept.dir h.kept.stores b
+abbrev pub seat_by : {Cells : Type 0} → ℕ → Held Cells → ℕ → Seating
+seat_by limit h b = seated_by limit h.kept.dir h.kept.stores b
 
 module _ {K : Kind} (S : Store K) (w : S.Switches) where
   -- at a seating: the series takes the value, and what is left then
   abbrev pub Takes : Held S.Cells → K.Value → Seating → Type 0
   Takes h v a =
       Took S h.cells a.slot (S.recorded a.slot a.updated h.cells v)
-      (K.add (S.settings w) (orFresh K (S.settings w) (held_at K (S.at h.cells) a)) v)
+      (K.add (S.settings w) (or_fresh K (S.settings w) (held_at K (S.at h.cells) a)) v)
 
   abbrev pub taken : Held S.Cells → K.Value → List ℕ → Seating → Outcome S.Cells
   taken h v row a =
@@ -89,7 +89,7 @@ module _ {K : Kind} {S : Store K} (W : Owed S) (w : S.Switches) where
     kept = committed h.kept.dir h.kept.stores row a.target
 
     abbrev was : K.Series
-    was = orFresh K z (held_at K f a)
+    was = or_fresh K z (held_at K f a)
 
     -- what holds of each case holds of the outcome
     module _ (fin : K.finite v ≡ true) (P : Outcome S.Cells → Type 0) (away : (a.no ≡ 0 → ⊥) → P (refused a.no h))
@@ -124,8 +124,8 @@ module _ {K : Kind} {S : Store K} (W : Owed S) (w : S.Switches) where
           (flag (eqb a.no 0))
 
     -- x is what the map does there
-    entered-steps : K.finite v ≡ true → (x : Out K) → ((a.no ≡ 0 → ⊥) → x ≡ record { answer = refuse a.no; map = mapOf S w h })
-        → (a.no ≡ 0 → (i : ℕ) → refusal K z (held_at K f a) v ≡ some i → x ≡ record { answer = refuse i; map = mapOf S w h })
+    entered-steps : K.finite v ≡ true → (x : Out K) → ((a.no ≡ 0 → ⊥) → x ≡ record { answer = refuse a.no; map = map_of S w h })
+        → (a.no ≡ 0 → (i : ℕ) → refusal K z (held_at K f a) v ≡ some i → x ≡ record { answer = refuse i; map = map_of S w h })
         → (a.no ≡ 0 → refusal K z (held_at K f a) v ≡ none → (g : ℕ → K.Series) → g a.slot ≡ K.add z was v → Others K f g h.kept.dir a.slot
         → x ≡ record { answer = done; map = view K g z kept.dir kept.stores })
         → x ≡ told S w (entered S h v row a)
@@ -143,16 +143,16 @@ module _ {K : Kind} {S : Store K} (W : Owed S) (w : S.Switches) where
         where
           at-few : K.finite v ≡ true → (b : Bool) → leb n 8 ≡ b → P (called S limit h v n ok row a)
           at-few q false k =
-              let r = bar-5 (lent S limit h) (K.finite v) n (passes S && ok) l q (leb-false n 8 k) in
+              let r = bar_5 (lent S limit h) (K.finite v) n (passes S && ok) l q (leb-false n 8 k) in
               subst P (called-barred S limit h v n ok row a 5 (sym r) (λ e. omega (arith, e))) (five q k)
           at-few q true k =
-              let r = bar-0 (lent S limit h) (K.finite v) n (passes S && ok) l q (leb-true n 8 k) okay in
+              let r = bar_0 (lent S limit h) (K.finite v) n (passes S && ok) l q (leb-true n 8 k) okay in
               subst P (called_on S limit h v n ok row a 0 (sym r) refl) (on q k)
 
           at_value : (b : Bool) → K.finite v ≡ b → P (called S limit h v n ok row a)
           at_value true q = at-few q (leb n 8) refl
           at_value false q =
-              let r = bar-6 (lent S limit h) (K.finite v) n (passes S && ok) l q in
+              let r = bar_6 (lent S limit h) (K.finite v) n (passes S && ok) l q in
               subst P (called-barred S limit h v n ok row a 6 (sym r) (λ e. omega (arith, e))) (six q)
 
       -- refused, or taken
@@ -163,92 +163,92 @@ module _ {K : Kind} {S : Store K} (W : Owed S) (w : S.Switches) where
 -- ---- the calls in a state that agrees
 module _ {K : Kind} {S : Store K} (W : Owed S) (w : S.Switches) (limit : ℕ) (filter : Option (List ℕ)) (h : Held S.Cells) (g : Fair S limit filter h) (v : K.Value) where
   abbrev config : Config K
-  config = configOf S w limit filter
+  config = config_of S w limit filter
 
-  sits : (attrs : Set) → Seatable S h (seatOf limit filter h attrs)
-  sits attrs = set-seatable W limit h g.lent_is filter g.accepted (row_in filter attrs) (seatOf limit filter h attrs) refl
+  sits : (attrs : Set) → Seatable S h (seat_of limit filter h attrs)
+  sits attrs = set-seatable W limit h g.lent_is filter g.accepted (row_in filter attrs) (seat_of limit filter h attrs) refl
 
-  sits-by : (b : ℕ) → Seatable S h (seatBy limit h b)
-  sits-by b = by-seatable W limit h g.lent_is b (seatBy limit h b) refl
+  sits-by : (b : ℕ) → Seatable S h (seat_by limit h b)
+  sits-by b = by-seatable W limit h g.lent_is b (seat_by limit h b) refl
 
-  few-sets : leb limit mostSets ≡ true
-  few-sets = (and-true (leb limit mostSets) (fewKeys filter) g.accepted).0
+  few-sets : leb limit most_sets ≡ true
+  few-sets = (and-true (leb limit most_sets) (few_keys filter) g.accepted).0
 
   -- refused, or taken
   pub set-either : (attrs : Set) (P : Outcome S.Cells → Type 0) → ((n : ℕ) → P (refused n h))
-      → (let a = seatOf limit filter h attrs in
+      → (let a = seat_of limit filter h attrs in
       length attrs ≤ 8 → a.no ≡ 0 → Takes S w h v a → P (taken S w h v (row_in filter attrs) a))
       → P (measured S limit filter h v attrs)
   unfolding measured
   set-either attrs P off on =
-      called-either W w h v (row_in filter attrs) (seatOf limit filter h attrs) g.set (sits attrs) limit g.lent_is (length attrs) (accepts limit filter) g.accepted P off on
+      called-either W w h v (row_in filter attrs) (seat_of limit filter h attrs) g.set (sits attrs) limit g.lent_is (length attrs) (accepts limit filter) g.accepted P off on
 
   pub handle-either : (b : ℕ) (P : Outcome S.Cells → Type 0) → ((n : ℕ) → P (refused n h))
-      → (let a = seatBy limit h b in
+      → (let a = seat_by limit h b in
       a.no ≡ 0 → Takes S w h v a → P (taken S w h v (replicate 9 0) a))
-      → P (measuredBy S limit h v b)
-  unfolding measuredBy
+      → P (measured_by S limit h v b)
+  unfolding measured_by
   handle-either b P off on =
-      called-either W w h v (replicate 9 0) (seatBy limit h b) g.set (sits-by b) limit g.lent_is 0 (leb limit mostSets) few-sets P off (λ k. on)
+      called-either W w h v (replicate 9 0) (seat_by limit h b) g.set (sits-by b) limit g.lent_is 0 (leb limit most_sets) few-sets P off (λ k. on)
 
   -- the map's refusals that the arguments decide
-  step-6 : K.finite v ≡ false → (attrs : Set) → step K config (mapOf S w h) (measure v attrs) ≡ record { answer = refuse 6; map = mapOf S w h }
+  step_6 : K.finite v ≡ false → (attrs : Set) → step K config (map_of S w h) (measure v attrs) ≡ record { answer = refuse 6; map = map_of S w h }
   unfolding upfront
-  step-6 q attrs = rw q
+  step_6 q attrs = rw q
 
-  step-5 : K.finite v ≡ true → (attrs : Set) → leb (length attrs) 8 ≡ false → step K config (mapOf S w h) (measure v attrs) ≡ record { answer = refuse 5; map = mapOf S w h }
+  step_5 : K.finite v ≡ true → (attrs : Set) → leb (length attrs) 8 ≡ false → step K config (map_of S w h) (measure v attrs) ≡ record { answer = refuse 5; map = map_of S w h }
   unfolding upfront
-  step-5 q attrs k = rw (q, k)
+  step_5 q attrs k = rw (q, k)
 
-  step-0 : K.finite v ≡ true → (attrs : Set) → leb (length attrs) 8 ≡ true → step K config (mapOf S w h) (measure v attrs) ≡ act K config (mapOf S w h) (measure v attrs)
+  step_0 : K.finite v ≡ true → (attrs : Set) → leb (length attrs) 8 ≡ true → step K config (map_of S w h) (measure v attrs) ≡ act K config (map_of S w h) (measure v attrs)
   unfolding upfront
-  step-0 q attrs k = rw (q, k)
+  step_0 q attrs k = rw (q, k)
 
-  by-step-6 : K.finite v ≡ false → (b : ℕ) → step K config (mapOf S w h) (measureBy b v) ≡ record { answer = refuse 6; map = mapOf S w h }
+  by-step_6 : K.finite v ≡ false → (b : ℕ) → step K config (map_of S w h) (measure_by b v) ≡ record { answer = refuse 6; map = map_of S w h }
   unfolding upfront
-  by-step-6 q b = rw q
+  by-step_6 q b = rw q
 
-  by-step-0 : K.finite v ≡ true → (b : ℕ) → step K config (mapOf S w h) (measureBy b v) ≡ act K config (mapOf S w h) (measureBy b v)
+  by-step_0 : K.finite v ≡ true → (b : ℕ) → step K config (map_of S w h) (measure_by b v) ≡ act K config (map_of S w h) (measure_by b v)
   unfolding upfront
-  by-step-0 q b = rw q
+  by-step_0 q b = rw q
 
-  set-acts : K.finite v ≡ true → (attrs : Set) → Lendable attrs → length attrs ≤ 8
-      → act K config (mapOf S w h) (measure v attrs) ≡ told S w (entered S h v (row_in filter attrs) (seatOf limit filter h attrs))
-  set-acts fin attrs small few =
+  set_acts : K.finite v ≡ true → (attrs : Set) → Lendable attrs → length attrs ≤ 8
+      → act K config (map_of S w h) (measure v attrs) ≡ told S w (entered S h v (row_in filter attrs) (seat_of limit filter h attrs))
+  set_acts fin attrs small few =
       let d = h.kept.dir in
       let s = h.kept.stores in
       let row = row_in filter attrs in
       let r = row-set filter attrs small few in
       let l = lent-dir W limit h g.lent_is in
       let fs = S.at h.cells in
-      entered-steps W w h v row (seatOf limit filter h attrs) g.set (sits attrs) fin (act K config (mapOf S w h) (measure v attrs))
+      entered-steps W w h v row (seat_of limit filter h attrs) g.set (sits attrs) fin (act K config (map_of S w h) (measure v attrs))
       (λ n. measure-away K fs (S.settings w) config d s g.agrees g.last l.sets l.entries l.order row attrs r v n)
       (λ n i q. measure-refused K fs (S.settings w) config d s g.agrees g.last l.sets l.entries l.order row attrs r v n i q)
       (λ n q y p k. measure-done K fs (S.settings w) config d s g.agrees g.last l.sets l.entries l.order row attrs r v n q y p k)
 
-  handle-acts : K.finite v ≡ true → (b : ℕ) → act K config (mapOf S w h) (measureBy b v) ≡ told S w (entered S h v (replicate 9 0) (seatBy limit h b))
-  handle-acts fin b =
+  handle_acts : K.finite v ≡ true → (b : ℕ) → act K config (map_of S w h) (measure_by b v) ≡ told S w (entered S h v (replicate 9 0) (seat_by limit h b))
+  handle_acts fin b =
       let d = h.kept.dir in
       let s = h.kept.stores in
       let row : List ℕ = replicate 9 0 in
       let l = lent-dir W limit h g.lent_is in
       let fs = S.at h.cells in
-      entered-steps W w h v row (seatBy limit h b) g.set (sits-by b) fin (act K config (mapOf S w h) (measureBy b v))
+      entered-steps W w h v row (seat_by limit h b) g.set (sits-by b) fin (act K config (map_of S w h) (measure_by b v))
       (λ n. by-away K fs (S.settings w) config d s g.agrees g.last l.sets l.entries l.order b row v n)
       (λ n i q. by-refused K fs (S.settings w) config d s g.agrees g.last l.sets l.entries l.order b row v n i q)
       (λ n q y p k. by-done K fs (S.settings w) config d s g.agrees g.last l.sets l.entries l.order b row v n q y p k)
 
   -- BY SET
-  pub measure-steps : (attrs : Set) → Lendable attrs → step K config (mapOf S w h) (measure v attrs) ≡ told S w (measured S limit filter h v attrs)
+  pub measure-steps : (attrs : Set) → Lendable attrs → step K config (map_of S w h) (measure v attrs) ≡ told S w (measured S limit filter h v attrs)
   unfolding measured
   measure-steps attrs small =
-      called-cases W w h v (row_in filter attrs) (seatOf limit filter h attrs) g.set (sits attrs) limit g.lent_is (length attrs) (accepts limit filter) g.accepted
-      (λ (o : Outcome S.Cells). step K config (mapOf S w h) (measure v attrs) ≡ told S w o) (λ q. step-6 q attrs) (λ q k. step-5 q attrs k)
-      (λ q k. step-0 q attrs k ∙ set-acts q attrs small (leb-true (length attrs) 8 k))
+      called-cases W w h v (row_in filter attrs) (seat_of limit filter h attrs) g.set (sits attrs) limit g.lent_is (length attrs) (accepts limit filter) g.accepted
+      (λ (o : Outcome S.Cells). step K config (map_of S w h) (measure v attrs) ≡ told S w o) (λ q. step_6 q attrs) (λ q k. step_5 q attrs k)
+      (λ q k. step_0 q attrs k ∙ set_acts q attrs small (leb-true (length attrs) 8 k))
 
   -- BY HANDLE
-  pub handle-steps : (b : ℕ) → step K config (mapOf S w h) (measureBy b v) ≡ told S w (measuredBy S limit h v b)
-  unfolding measuredBy
+  pub handle-steps : (b : ℕ) → step K config (map_of S w h) (measure_by b v) ≡ told S w (measured_by S limit h v b)
+  unfolding measured_by
   handle-steps b =
-      called-cases W w h v (replicate 9 0) (seatBy limit h b) g.set (sits-by b) limit g.lent_is 0 (leb limit mostSets) few-sets
-      (λ (o : Outcome S.Cells). step K config (mapOf S w h) (measureBy b v) ≡ told S w o) (λ q. by-step-6 q b) (λ q k. true-not-false k) (λ q k. by-step-0 q b ∙ handle-acts q b)
+      called-cases W w h v (replicate 9 0) (seat_by limit h b) g.set (sits-by b) limit g.lent_is 0 (leb limit most_sets) few-sets
+      (λ (o : Outcome S.Cells). step K config (map_of S w h) (measure_by b v) ≡ told S w o) (λ q. by-step_6 q b) (λ q k. true-not-false k) (λ q k. by-step_0 q b ∙ handle_acts q b)

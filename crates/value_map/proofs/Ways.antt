@@ -15,12 +15,12 @@ use Rattle.tally.specs.Kind.{Kind}
 use Rattle.tally.specs.Sets.{Set, canonical}
 use Rattle.sets.specs.Rows.{row_of}
 use Rattle.directory.specs.View.{Stores}
-use Rattle.directory.specs.Calls.{mostSets, accepts, storesSuffice}
+use Rattle.directory.specs.Calls.{most_sets, accepts, stores_suffice}
 use Rattle.directory.specs.declared.Directory.{Directory}
 use Rattle.directory.specs.declared.Target.{Target}
 use Rattle.bindings.specs.Calls as Bindings
 use Rattle.seats.specs.declared.Seating.{Seating}
-use Rattle.seats.specs.Seats.{seated, seatedBy, barredBy, unlessBarred, committed}
+use Rattle.seats.specs.Seats.{seated, seated_by, barred_by, unless_barred, committed}
 use Rattle.seats.specs.Inner.{Fits}
 use Rattle.seats.proofs.Bars.{Clear, clear, barred-on, not-barred}
 use Rattle.seats.proofs.Seatings.{Late, seat-late, by-late}
@@ -88,10 +88,10 @@ abbrev pub by_way : {K : Kind} {S : Store K} → Owed S → (limit : ℕ) (h : H
 by_way W limit h b =
     record {
       attributes = 0;
-      accepted = leb limit mostSets;
+      accepted = leb limit most_sets;
       row = replicate 9 0;
-      seat = seatedBy limit h.kept.dir h.kept.stores b;
-      sits = λ l k. by-seatable W limit h l b (seatedBy limit h.kept.dir h.kept.stores b) refl;
+      seat = seated_by limit h.kept.dir h.kept.stores b;
+      sits = λ l k. by-seatable W limit h l b (seated_by limit h.kept.dir h.kept.stores b) refl;
       late = by-late limit h.kept.dir h.kept.stores b;
     }
 
@@ -104,17 +104,17 @@ pub record Sits {K : Kind} (S : Store K) (h : Held S.Cells) (v : K.Value) (a : S
 
 module _ {K : Kind} {S : Store K} (W : Owed S) (limit : ℕ) (h : Held S.Cells) (v : K.Value) (y : Way S limit h) where
   abbrev pub Seats : Bool → Bool → ℕ → Seating → Type 0
-  Seats c f u a = a ≡ unlessBarred (barredBy (storesSuffice limit h.kept.stores && c) f y.attributes (eqb u 0 && y.accepted)) y.seat
+  Seats c f u a = a ≡ unless_barred (barred_by (stores_suffice limit h.kept.stores && c) f y.attributes (eqb u 0 && y.accepted)) y.seat
 
   pub allows : {c f : Bool} (u : ℕ) {a : Seating} → c ≡ S.suffices limit h.cells → f ≡ K.finite v → Seats c f u a → Sits S h v a
   allows {c} {f} u {a} p q e =
-      let bar = barredBy (storesSuffice limit h.kept.stores && c) f y.attributes (eqb u 0 && y.accepted) in
+      let bar = barred_by (stores_suffice limit h.kept.stores && c) f y.attributes (eqb u 0 && y.accepted) in
       let unbarred : a.no ≡ 0 → bar ≡ 0 = λ z. not-barred bar y.seat (ap (λ (s : Seating). s.no) (sym e) ∙ z) in
-      let known : (z : a.no ≡ 0) → Clear (storesSuffice limit h.kept.stores && c) f y.attributes (eqb u 0 && y.accepted) =
-      λ z. clear (storesSuffice limit h.kept.stores && c) f y.attributes (eqb u 0 && y.accepted) (unbarred z) in
+      let known : (z : a.no ≡ 0) → Clear (stores_suffice limit h.kept.stores && c) f y.attributes (eqb u 0 && y.accepted) =
+      λ z. clear (stores_suffice limit h.kept.stores && c) f y.attributes (eqb u 0 && y.accepted) (unbarred z) in
       let same : (z : a.no ≡ 0) → y.seat ≡ a = λ z. sym (e ∙ barred-on bar y.seat (unbarred z)) in
       let there : (z : a.no ≡ 0) → S.Room h.cells a.slot × Fits h.kept.dir h.kept.stores a.target =
-      λ z. subst (Seatable S h) (same z) (y.sits (ap (λ (b : Bool). storesSuffice limit h.kept.stores && b) (sym p) ∙ (known z).room-is)
+      λ z. subst (Seatable S h) (same z) (y.sits (ap (λ (b : Bool). stores_suffice limit h.kept.stores && b) (sym p) ∙ (known z).room-is)
       (and-true (eqb u 0) y.accepted (known z).ok-is).1) z in
       record { takes = λ z. ((there z).0, sym q ∙ (known z).value); fits = λ z. (there z).1 }
 
@@ -131,8 +131,8 @@ module _ {K : Kind} {S : Store K} (W : Owed S) (limit : ℕ) (h : Held S.Cells) 
         (λ z. ap (λ (x : Bindings.Outcome). beside x o.cells) (g ∙ sym (finish-done o.no h.kept.dir h.kept.stores row a.target z)) ∙ entered-done W h v row a n o e z (committed h.kept.dir h.kept.stores row a.target) refl)
         (λ d. ap (λ (x : Bindings.Outcome). beside x o.cells) (g ∙ sym (finish-no o.no h.kept.dir h.kept.stores row a.target d)) ∙ entered-refused W h v row a n o e d)
 
-    pub ends-in : o ≡ taken S h.cells v a.no a.no a.slot a.updated → beside r o.cells ≡ entered S h v row a
-    ends-in e =
+    pub ends_in : o ≡ taken S h.cells v a.no a.no a.slot a.updated → beside r o.cells ≡ entered S h v row a
+    ends_in e =
         either a.no (λ z. ends_at z (e ∙ sym (take_on S h.cells v a.no a.no a.slot a.updated z)))
         (λ d. let q = e ∙ sym (take_no S h.cells v a.no a.no a.slot a.updated d) in
         ends-no a.no d (ap (λ (i : Recording S.Cells). i.no) q) (ap (λ (i : Recording S.Cells). i.cells) q) ∙ entered-away S h v row a d)
@@ -145,5 +145,5 @@ module _ {K : Kind} {S : Store K} (W : Owed S) (limit : ℕ) (h : Held S.Cells) 
         → o ≡ taken S h.cells v a.no a.no a.slot a.updated → beside r o.cells ≡ called S limit h v y.attributes y.accepted y.row y.seat
     unfolding called
     ends p q w e k t =
-        ends-in t ∙ row_as k ∙ ap (entered S h v y.row) e
-        ∙ (λ j. entered S h v y.row (unlessBarred (barredBy (storesSuffice limit h.kept.stores && p j) (q j) y.attributes (eqb (w j) 0 && y.accepted)) y.seat))
+        ends_in t ∙ row_as k ∙ ap (entered S h v y.row) e
+        ∙ (λ j. entered S h v y.row (unless_barred (barred_by (stores_suffice limit h.kept.stores && p j) (q j) y.attributes (eqb (w j) 0 && y.accepted)) y.seat))

@@ -7,13 +7,13 @@ use Rattle.tally.specs.Sets.{Set, canonical}
 use Rattle.tally.specs.Kind.{Kind}
 use Rattle.sets.specs.Rows.{row_of}
 use Rattle.directory.specs.View.{Stores}
-use Rattle.directory.specs.Calls.{Kept, kept, mostSets, accepts, storesSuffice}
+use Rattle.directory.specs.Calls.{Kept, kept, most_sets, accepts, stores_suffice}
 use Rattle.directory.specs.declared.Directory.{Directory}
 use Rattle.bindings.specs.Calls as Bindings
 use Rattle.bindings.specs.Calls.{said, fresh}
 use Rattle.bindings.specs.declared.Reply.{Reply}
 use Rattle.seats.specs.declared.Seating.{Seating}
-use Rattle.seats.specs.Seats.{seated, seatedBy, barredBy, unlessBarred, committed}
+use Rattle.seats.specs.Seats.{seated, seated_by, barred_by, unless_barred, committed}
 use Rattle.value_map.specs.Store.{Store}
 
 -- the map as it is lent: the directory with its stores, and the series' stores
@@ -38,8 +38,8 @@ abbrev pub refused : {Cells : Type 0} → ℕ → Held Cells → Outcome Cells
 refused n h = record { answer = refusal n; held = h }
 
 -- what is done unless the number refuses it
-unfoldable pub unlessRefused : {Cells : Type 0} → Held Cells → ℕ → Outcome Cells → Outcome Cells
-unlessRefused h n o = pick (eqb n 0) o (refused n h)
+unfoldable pub unless_refused : {Cells : Type 0} → Held Cells → ℕ → Outcome Cells → Outcome Cells
+unless_refused h n o = pick (eqb n 0) o (refused n h)
 
 -- Configuring: "1, 2, 3, 4, 12", with the kind's number for its settings, and whether its cells suffice
 unfoldable pub begun : ℕ → Bool → ℕ → Option (List ℕ) → Stores → Bindings.Outcome
@@ -58,19 +58,19 @@ module _ {K : Kind} (S : Store K) where
   passes = eqb S.unset 0
 
   abbrev pub lent : ℕ → Held S.Cells → Bool
-  lent limit h = storesSuffice limit h.kept.stores && S.suffices limit h.cells
+  lent limit h = stores_suffice limit h.kept.stores && S.suffices limit h.cells
 
   -- the directory refused with its number, or named a slot; the series there refused with its own, or took the value and left its cells; then
   -- the directory is written
   unfoldable pub entered : Held S.Cells → K.Value → List ℕ → Seating → Outcome S.Cells
   entered h v row a =
       let o = S.recorded a.slot a.updated h.cells v in
-      unlessRefused h a.no (unlessRefused h o.no
+      unless_refused h a.no (unless_refused h o.no
       (record { answer = success none; held = record { kept = committed h.kept.dir h.kept.stores row a.target; cells = o.cells } }))
 
   -- a recording with n attributes, under a limit and a filter that configuring accepted or not, which goes to a seating
   unfoldable pub called : ℕ → Held S.Cells → K.Value → ℕ → Bool → List ℕ → Seating → Outcome S.Cells
-  called limit h v n ok row a = entered h v row (unlessBarred (barredBy (lent limit h) (K.finite v) n (passes && ok)) a)
+  called limit h v n ok row a = entered h v row (unless_barred (barred_by (lent limit h) (K.finite v) n (passes && ok)) a)
 
   -- "Recording: 12, 6, 5, 8, 9". 8 also where configuring could not have accepted the settings, the limit and the filter.
   unfoldable pub measured : ℕ → Option (List ℕ) → Held S.Cells → K.Value → Set → Outcome S.Cells
@@ -79,9 +79,9 @@ module _ {K : Kind} (S : Store K) where
       called limit h v (length attrs) (accepts limit filter) row (seated limit h.kept.dir h.kept.stores row)
 
   -- "Recording by handle: 12, 6, 8, 7, 9". No set is named: no row is written.
-  unfoldable pub measuredBy : ℕ → Held S.Cells → K.Value → ℕ → Outcome S.Cells
-  measuredBy limit h v handle =
-      called limit h v 0 (leb limit mostSets) (replicate 9 0) (seatedBy limit h.kept.dir h.kept.stores handle)
+  unfoldable pub measured_by : ℕ → Held S.Cells → K.Value → ℕ → Outcome S.Cells
+  measured_by limit h v handle =
+      called limit h v 0 (leb limit most_sets) (replicate 9 0) (seated_by limit h.kept.dir h.kept.stores handle)
 
   -- Configuring. The series' stores are left as they are: no entry is updated, so nobody reads them.
   unfoldable pub started : ℕ → Option (List ℕ) → Stores → S.Cells → Outcome S.Cells

@@ -9,8 +9,8 @@ use Rattle.value_map.specs.Calls.{Held}
 
 module _ {K : Kind} (S : Store K) (w : S.Switches) where
   -- the slots' series, where their entries were updated
-  abbrev pub mapOf : Held S.Cells → Map K
-  mapOf h = view K (S.at h.cells) (S.settings w) h.kept.dir h.kept.stores
+  abbrev pub map_of : Held S.Cells → Map K
+  map_of h = view K (S.at h.cells) (S.settings w) h.kept.dir h.kept.stores
 
-  abbrev pub configOf : ℕ → Option (List ℕ) → Config K
-  configOf limit filter = record { settings = S.settings w; limit = limit; filter = filter }
+  abbrev pub config_of : ℕ → Option (List ℕ) → Config K
+  config_of limit filter = record { settings = S.settings w; limit = limit; filter = filter }

@@ -24,5 +24,5 @@ pub record Store (K : Kind) : Type 1 where
 
 -- "12: a lent count store under (limit + 2) × max_size counts (explicit: × buckets, one store), or any other lent store under limit + 2
 -- entries": by the lengths of the count stores, which have n counts a slot, and of the others
-abbrev pub lengthsSuffice : ℕ → ℕ → List ℕ → List ℕ → Bool
-lengthsSuffice n limit counts others = all (leb (limit + 2)) others && all (leb ((limit + 2) * n)) counts
+abbrev pub lengths_suffice : ℕ → ℕ → List ℕ → List ℕ → Bool
+lengths_suffice n limit counts others = all (leb (limit + 2)) others && all (leb ((limit + 2) * n)) counts

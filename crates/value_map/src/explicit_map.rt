@@ -2,15 +2,15 @@
 // each slot's count, its minimum, maximum and sum, and its bucket counts.
 ghost use Rattle.std.specs.Prelude.{◌≡◌, [], ◌∷◌, ℕ, ◌+◌, leb};
 ghost use Rattle.laws.specs.Pick.{pick};
-ghost use Rattle.points.specs.Explicit.{boundsPass, bucketCount};
+ghost use Rattle.points.specs.Explicit.{bounds_pass, bucket_count};
 ghost use Rattle.rows.specs.Recording.{after};
-ghost use Rattle.sets.specs.Sorted.{given, filterOf};
+ghost use Rattle.sets.specs.Sorted.{given, filter_of};
 ghost use Rattle.directory.specs.View.{stores};
 ghost use Rattle.explicit_slots.specs.Cells.{cells};
-ghost use Rattle.value_map.specs.Store.{lengthsSuffice};
-ghost use Rattle.value_map.specs.Calls.{held, gave, started, measured, measuredBy};
+ghost use Rattle.value_map.specs.Store.{lengths_suffice};
+ghost use Rattle.value_map.specs.Calls.{held, gave, started, measured, measured_by};
 ghost use Rattle.value_map.specs.Inner.{Takes, taken, turned};
-ghost use Rattle.value_map.specs.Explicit.{explicitStore};
+ghost use Rattle.value_map.specs.Explicit.{explicit_store};
 
 use bindings::Reply;
 use directory::Directory;
@@ -18,7 +18,7 @@ use seats::room::lesser;
 
 // The number with which configuring refuses the bounds, 3; 0 if it accepts them.
 pub fn unset_of(bounds: &[f64]) -> u8
-    ensures { result ≡ pick (boundsPass bounds.now) 0 3 }
+    ensures { result ≡ pick (bounds_pass bounds.now) 0 3 }
 {
     if !explicit::bounds_pass(bounds) {
         return 3;
@@ -28,7 +28,7 @@ pub fn unset_of(bounds: &[f64]) -> u8
 
 // How many slots the series' stores of these lengths have room for.
 fn slots_of(bounds: &[f64], totals: usize, extremes: usize, counts: usize) -> usize
-    ensures { (limit : ℕ) → leb (limit + 2) result ≡ lengthsSuffice (bucketCount bounds.now) limit (counts ∷ []) (totals ∷ extremes ∷ []) }
+    ensures { (limit : ℕ) → leb (limit + 2) result ≡ lengths_suffice (bucket_count bounds.now) limit (counts ∷ []) (totals ∷ extremes ∷ []) }
 {
     let least = lesser(totals, extremes);
     let n = explicit::bucket_count(bounds);
@@ -46,7 +46,7 @@ pub fn cells_suffice(
     extremes: usize,
     counts: usize,
 ) -> bool
-    ensures { result ≡ lengthsSuffice (bucketCount bounds.now) limit (counts ∷ []) (totals ∷ extremes ∷ []) }
+    ensures { result ≡ lengths_suffice (bucket_count bounds.now) limit (counts ∷ []) (totals ∷ extremes ∷ []) }
 {
     let slots = slots_of(bounds, totals, extremes, counts);
     directory::suffices(limit, slots)
@@ -66,7 +66,7 @@ pub fn start(
     counts: &[u64],
 ) -> Reply
     ensures { gave result (stores sets.entry entries.exit order.entry) (cells totals.entry extremes.entry counts.entry)
-        ≡ started (explicitStore bounds.now) limit (filterOf present filter.now)
+        ≡ started (explicit_store bounds.now) limit (filter_of present filter.now)
         (stores sets.entry entries.entry order.entry) (cells totals.entry extremes.entry counts.entry) }
 {
     let room = cells_suffice(bounds, limit, totals.len(), extremes.len(), counts.len());
@@ -77,7 +77,7 @@ pub fn start(
 // The number of a seating that is refused: the bounds are asked last, for the series does it. 8 where configuring could not have accepted
 // them, unless a number stands that comes before: 12, 6, 5.
 fn turned_by(bounds: &[f64], no: u8) -> u8
-    ensures { result ≡ turned (boundsPass bounds.now) no }
+    ensures { result ≡ turned (bounds_pass bounds.now) no }
 {
     if no < 7 {
         return no;
@@ -102,10 +102,10 @@ fn take(
     counts: &mut [u64],
     v: f64,
 ) -> u8
-    requires { Takes (explicitStore bounds.now) (cells totals extremes counts) v no x }
+    requires { Takes (explicit_store bounds.now) (cells totals extremes counts) v no x }
     ensures { after result (cells totals.exit extremes.exit counts.exit)
-        ≡ taken (explicitStore bounds.now) (cells totals.entry extremes.entry counts.entry) v no
-        (turned (boundsPass bounds.now) no) x updated }
+        ≡ taken (explicit_store bounds.now) (cells totals.entry extremes.entry counts.entry) v no
+        (turned (bounds_pass bounds.now) no) x updated }
 {
     if no != 0 {
         return turned_by(bounds, no);
@@ -130,7 +130,7 @@ pub fn measure(
     filter: &[u32],
 ) -> Reply
     ensures { gave result (stores sets.exit entries.exit order.exit) (cells totals.exit extremes.exit counts.exit)
-        ≡ measured (explicitStore bounds.now) limit (filterOf present filter.now)
+        ≡ measured (explicit_store bounds.now) limit (filter_of present filter.now)
         (held d (stores sets.entry entries.entry order.entry) (cells totals.entry extremes.entry counts.entry))
         v (given attrs.now) }
 {
@@ -169,7 +169,7 @@ pub fn measure_by(
     h: u64,
 ) -> Reply
     ensures { gave result (stores sets.exit entries.exit order.exit) (cells totals.exit extremes.exit counts.exit)
-        ≡ measuredBy (explicitStore bounds.now) limit
+        ≡ measured_by (explicit_store bounds.now) limit
         (held d (stores sets.entry entries.entry order.entry) (cells totals.entry extremes.entry counts.entry))
         v h }
 {

@@ -2,13 +2,13 @@
 // and each slot's figures, extremes and rows of counts.
 ghost use Rattle.std.specs.Prelude.{◌≡◌, [], ◌∷◌, ℕ, ◌+◌, leb};
 ghost use Rattle.rows.specs.Recording.{after};
-ghost use Rattle.sets.specs.Sorted.{given, filterOf};
+ghost use Rattle.sets.specs.Sorted.{given, filter_of};
 ghost use Rattle.directory.specs.View.{stores};
 ghost use Rattle.exponential_slots.specs.Cells.{cells};
-ghost use Rattle.value_map.specs.Store.{lengthsSuffice};
-ghost use Rattle.value_map.specs.Calls.{held, gave, started, measured, measuredBy};
+ghost use Rattle.value_map.specs.Store.{lengths_suffice};
+ghost use Rattle.value_map.specs.Calls.{held, gave, started, measured, measured_by};
 ghost use Rattle.value_map.specs.Inner.{Takes, taken};
-ghost use Rattle.value_map.specs.Exponential.{unset, exponentialStore};
+ghost use Rattle.value_map.specs.Exponential.{unset, exponential_store};
 
 use bindings::Reply;
 use directory::Directory;
@@ -33,7 +33,7 @@ pub fn unset_of(size: u32, top: u32) -> u8
 
 // How many slots the series' stores of these lengths have room for: by division, so that no product leaves its range.
 fn slots_of(size: u32, figures: usize, extremes: usize, pos: usize, neg: usize) -> usize
-    ensures { (limit : ℕ) → leb (limit + 2) result ≡ lengthsSuffice size limit (pos ∷ neg ∷ []) (figures ∷ extremes ∷ []) }
+    ensures { (limit : ℕ) → leb (limit + 2) result ≡ lengths_suffice size limit (pos ∷ neg ∷ []) (figures ∷ extremes ∷ []) }
 {
     let least = lesser(figures, extremes);
     let n = size as usize;
@@ -53,7 +53,7 @@ pub fn cells_suffice(
     pos: usize,
     neg: usize,
 ) -> bool
-    ensures { result ≡ lengthsSuffice size limit (pos ∷ neg ∷ []) (figures ∷ extremes ∷ []) }
+    ensures { result ≡ lengths_suffice size limit (pos ∷ neg ∷ []) (figures ∷ extremes ∷ []) }
 {
     let slots = slots_of(size, figures, extremes, pos, neg);
     directory::suffices(limit, slots)
@@ -75,7 +75,7 @@ pub fn start(
     neg: &[u64],
 ) -> Reply
     ensures { gave result (stores sets.entry entries.exit order.entry) (cells figures.entry extremes.entry pos.entry neg.entry)
-        ≡ started (exponentialStore size top) limit (filterOf present filter.now)
+        ≡ started (exponential_store size top) limit (filter_of present filter.now)
         (stores sets.entry entries.entry order.entry) (cells figures.entry extremes.entry pos.entry neg.entry) }
 {
     let room = cells_suffice(
@@ -103,9 +103,9 @@ fn take(
     neg: &mut [u64],
     v: f64,
 ) -> u8
-    requires { Takes (exponentialStore size top) (cells figures extremes pos neg) v no x }
+    requires { Takes (exponential_store size top) (cells figures extremes pos neg) v no x }
     ensures { after result (cells figures.exit extremes.exit pos.exit neg.exit)
-        ≡ taken (exponentialStore size top) (cells figures.entry extremes.entry pos.entry neg.entry) v no no x updated }
+        ≡ taken (exponential_store size top) (cells figures.entry extremes.entry pos.entry neg.entry) v no no x updated }
 {
     if no != 0 {
         return no;
@@ -132,7 +132,7 @@ pub fn measure(
     filter: &[u32],
 ) -> Reply
     ensures { gave result (stores sets.exit entries.exit order.exit) (cells figures.exit extremes.exit pos.exit neg.exit)
-        ≡ measured (exponentialStore size top) limit (filterOf present filter.now)
+        ≡ measured (exponential_store size top) limit (filter_of present filter.now)
         (held d (stores sets.entry entries.entry order.entry) (cells figures.entry extremes.entry pos.entry neg.entry))
         v (given attrs.now) }
 {
@@ -176,7 +176,7 @@ pub fn measure_by(
     h: u64,
 ) -> Reply
     ensures { gave result (stores sets.exit entries.exit order.exit) (cells figures.exit extremes.exit pos.exit neg.exit)
-        ≡ measuredBy (exponentialStore size top) limit
+        ≡ measured_by (exponential_store size top) limit
         (held d (stores sets.entry entries.entry order.entry) (cells figures.entry extremes.entry pos.entry neg.entry))
         v h }
 {

@@ -1,7 +1,7 @@
 // What the calls of every kind share, those of other crates too: whether a value is recorded at all, how a recording ends, configuring.
 ghost use Rattle.std.specs.Prelude.{◌≡◌};
 ghost use Rattle.kinds.specs.Histograms.{histograms};
-ghost use Rattle.sets.specs.Sorted.{filterOf};
+ghost use Rattle.sets.specs.Sorted.{filter_of};
 ghost use Rattle.directory.specs.View.{stores};
 ghost use Rattle.bindings.specs.Calls.{gave};
 ghost use Rattle.seats.specs.Inner.{Fits};
@@ -57,7 +57,7 @@ pub fn begin(
     order: &[u32],
 ) -> Reply
     ensures { gave result (stores sets.entry entries.exit order.entry)
-        ≡ begun unset cells limit (filterOf present filter.now) (stores sets.entry entries.entry order.entry) }
+        ≡ begun unset cells limit (filter_of present filter.now) (stores sets.entry entries.entry order.entry) }
 {
     let d = Directory {
         used: 0,

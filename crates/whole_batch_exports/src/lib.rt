@@ -3,10 +3,10 @@ ghost use Rattle.std.specs.Prelude.{◌≡◌, true, [], get_or};
 ghost use Rattle.directory.specs.View.{stores};
 ghost use Rattle.exponential_whole_slots.specs.Cells.{cells};
 ghost use Rattle.value_map.specs.Calls.{held};
-ghost use Rattle.whole_map.specs.Exponential.{exponentialWholes};
+ghost use Rattle.whole_map.specs.Exponential.{exponential_wholes};
 ghost use Rattle.map_words.specs.Words.{state_of};
-ghost use Rattle.batches.specs.Batch.{measuredAllBy};
-ghost use Rattle.batch_words.specs.Words.{handed, handedOut};
+ghost use Rattle.batches.specs.Batch.{measured_all_by};
+ghost use Rattle.batch_words.specs.Words.{handed, handed_out};
 
 // Records values into the series that the handle names, up to the first that is refused; how many were taken is put into `taken`. The state is
 // one entry of three words. Returns document 01's number of the refusal, 0 if none.
@@ -28,7 +28,7 @@ pub extern "C" fn whole_measure_all_by(
     taken: &mut [u64; 1],
 ) -> u64
     ensures { handed result taken.exit state.exit (stores sets.exit entries.exit order.exit) (cells figures.exit extremes.exit pos.exit neg.exit)
-        ≡ handedOut taken.old state.old (measuredAllBy (exponentialWholes size top true) limit
+        ≡ handed_out taken.old state.old (measured_all_by (exponential_wholes size top true) limit
         (held (state_of (get_or state.old 0 [])) (stores sets.entry entries.entry order.entry)
         (cells figures.entry extremes.entry pos.entry neg.entry)) values.now handle) }
 {

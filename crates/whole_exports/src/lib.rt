@@ -5,8 +5,8 @@ ghost use Rattle.sets.specs.Sorted.{given};
 ghost use Rattle.directory.specs.View.{stores};
 ghost use Rattle.exponential_whole_slots.specs.Cells.{cells};
 ghost use Rattle.value_map.specs.Calls.{held, measured};
-ghost use Rattle.whole_map.specs.Exponential.{exponentialWholes};
-ghost use Rattle.map_words.specs.Words.{state_of, handed, handedOut};
+ghost use Rattle.whole_map.specs.Exponential.{exponential_wholes};
+ghost use Rattle.map_words.specs.Words.{state_of, handed, handed_out};
 
 // Records a value into the series of the attributes' set. The state is one entry of three words. Returns document 01's number.
 #[unsafe(no_mangle)]
@@ -26,7 +26,7 @@ pub extern "C" fn whole_measure(
     attrs: &[[u32; 2]],
 ) -> u64
     ensures { handed result state.exit (stores sets.exit entries.exit order.exit) (cells figures.exit extremes.exit pos.exit neg.exit)
-        ≡ handedOut state.old (measured (exponentialWholes size top true) limit none
+        ≡ handed_out state.old (measured (exponential_wholes size top true) limit none
         (held (state_of (get_or state.old 0 [])) (stores sets.entry entries.entry order.entry)
         (cells figures.entry extremes.entry pos.entry neg.entry)) v (given attrs.now)) }
 {

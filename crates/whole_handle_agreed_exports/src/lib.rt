@@ -2,9 +2,9 @@
 ghost use Rattle.std.specs.Prelude.{◌≡◌, true, [], get_or};
 ghost use Rattle.directory.specs.View.{stores};
 ghost use Rattle.exponential_whole_slots.specs.Cells.{cells};
-ghost use Rattle.value_map.specs.Calls.{held, measuredBy};
-ghost use Rattle.whole_map.specs.Exponential.{exponentialWholes};
-ghost use Rattle.map_words.specs.Words.{state_of, handed, handedOut};
+ghost use Rattle.value_map.specs.Calls.{held, measured_by};
+ghost use Rattle.whole_map.specs.Exponential.{exponential_wholes};
+ghost use Rattle.map_words.specs.Words.{state_of, handed, handed_out};
 ghost use Rattle.batches.specs.Agreed.{AgreedBy};
 
 // Records a value into the series that the handle names. The state is one entry of three words. The map must agree, as it does
@@ -25,10 +25,10 @@ pub extern "C" fn agreed_whole_measure_by(
     v: i64,
     handle: u64,
 ) -> u64
-    requires { AgreedBy (exponentialWholes size top true) true limit (held (state_of (get_or state.old 0 []))
+    requires { AgreedBy (exponential_wholes size top true) true limit (held (state_of (get_or state.old 0 []))
         (stores sets entries order) (cells figures extremes pos neg)) handle }
     ensures { handed result state.exit (stores sets.exit entries.exit order.exit) (cells figures.exit extremes.exit pos.exit neg.exit)
-        ≡ handedOut state.old (measuredBy (exponentialWholes size top true) limit
+        ≡ handed_out state.old (measured_by (exponential_wholes size top true) limit
         (held (state_of (get_or state.old 0 [])) (stores sets.entry entries.entry order.entry)
         (cells figures.entry extremes.entry pos.entry neg.entry)) v handle) }
 {

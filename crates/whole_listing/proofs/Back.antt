@@ -12,23 +12,23 @@ use Rattle.laws.specs.Pick.{pick}
 use Rattle.laws.proofs.Cases.{true-not-false}
 use Rattle.sets.proofs.Alls.{allb-yes}
 use Rattle.floats.specs.Answers as Floats
-use Rattle.integers.specs.Answers.{in_range, isShown, bitsOf, of_bits}
+use Rattle.integers.specs.Answers.{in_range, is_shown, bits_of, of_bits}
 use Rattle.integers.specs.declared.Extreme.{Extreme}
 use Rattle.integers.specs.declared.Extreme.TheVariants.{None, Value}
 use Rattle.integers.proofs.Range.{of-bits-of}
-use Rattle.points.specs.Shadow.{shadowOf}
+use Rattle.points.specs.Shadow.{shadow_of}
 use Rattle.point.specs.declared.Point as P
 use Rattle.point.specs.declared.Figures.{Figures}
 use Rattle.point.specs.declared.Figures.TheVariants.{Exponential, Explicit}
-use Rattle.whole_point.specs.Handing.{shadowPoint}
+use Rattle.whole_point.specs.Handing.{shadow_point}
 use Rattle.whole_point.specs.declared.Point.{Point}
 use Rattle.listing.specs.Words as F
-use Rattle.listing.specs.Words.{figuresWords, figuresIn}
+use Rattle.listing.specs.Words.{figures_words, figures_in}
 use Rattle.listing.specs.declared.Span.{Span}
 use Rattle.listing.proofs.Back as L
 use Rattle.listing.proofs.Back.{Narrow}
 use Rattle.collecting.proofs.Fits.{literal-fits}
-use Rattle.whole_listing.specs.Words.{shownBits, raised, words_of, shadowWords, boundsIn, extremeIn, pointIn, isPoint}
+use Rattle.whole_listing.specs.Words.{shown_bits, raised, words_of, shadow_words, bounds_in, extreme_in, point_in, is_point}
 use Rattle.whole_listing.proofs.Shadow.{shown-alike, shadow-words}
 
 -- ---- what a point in code is
@@ -40,18 +40,18 @@ Ranged (Value x) = in_range x ≡ true
 -- level and starts are u32, an exponential point has no bounds, extremes are both shown or neither, and the numbers are i64s
 pub record Held (p : Point) (b : Span) : Type 0 where
   pub figures : Narrow p.figures b
-  pub both : isShown p.max ≡ isShown p.min
+  pub both : is_shown p.max ≡ is_shown p.min
   pub min : Ranged p.min
   pub max : Ranged p.max
   pub sum : in_range p.sum ≡ true
 
 -- ---- its shadow is held as well
 
-shadow-fits : (x : Extreme) → L.Fitting (shadowOf x)
+shadow-fits : (x : Extreme) → L.Fitting (shadow_of x)
 shadow-fits None = tt
 shadow-fits (Value x) = literal-fits 0
 
-pub shadow-held : (p : Point) (b : Span) → Held p b → L.Held (shadowPoint p) b
+pub shadow-held : (p : Point) (b : Span) → Held p b → L.Held (shadow_point p) b
 shadow-held p b h =
     record {
       figures = h.figures;
@@ -63,38 +63,38 @@ shadow-held p b h =
 
 -- ---- the numbers
 
-number-back : (z : ℤ) → in_range z ≡ true → of_bits (bitsOf z) ≡ z
+number-back : (z : ℤ) → in_range z ≡ true → of_bits (bits_of z) ≡ z
 number-back z h = of-bits-of z (ltb-true (mag z) (2 ^ 63) h)
 
-extreme-back : (x : Extreme) (s : Bool) → isShown x ≡ s → Ranged x → extremeIn s (shownBits x) ≡ x
-unfolding extremeIn pick
+extreme-back : (x : Extreme) (s : Bool) → is_shown x ≡ s → Ranged x → extreme_in s (shown_bits x) ≡ x
+unfolding extreme_in pick
 extreme-back None true e h = true-not-false (sym e)
 extreme-back None false e h = refl
 extreme-back (Value x) true e h = ap Value (number-back x h)
 extreme-back (Value x) false e h = true-not-false e
 
 -- an extreme is shown where the flags say so
-flagged : (s : Bool) (n : ℕ) → Floats.isShown (F.extremeIn s n) ≡ s
-unfolding F.extremeIn pick
+flagged : (s : Bool) (n : ℕ) → Floats.is_shown (F.extreme_in s n) ≡ s
+unfolding F.extreme_in pick
 flagged true n = refl
 flagged false n = refl
 
 -- the words of the numbers
 module _ (b : Span) (k x y z : ℕ) where
   abbrev row : Figures → List ℕ
-  row f = raised (figuresWords f b) ++ (k ∷ x ∷ y ∷ z ∷ [])
+  row f = raised (figures_words f b) ++ (k ∷ x ∷ y ∷ z ∷ [])
 
-  pub word-9 : (f : Figures) → get_or (row f) 9 0 ≡ x
-  word-9 (Exponential c) = refl
-  word-9 (Explicit n) = refl
+  pub word_9 : (f : Figures) → get_or (row f) 9 0 ≡ x
+  word_9 (Exponential c) = refl
+  word_9 (Explicit n) = refl
 
-  pub word-10 : (f : Figures) → get_or (row f) 10 0 ≡ y
-  word-10 (Exponential c) = refl
-  word-10 (Explicit n) = refl
+  pub word_10 : (f : Figures) → get_or (row f) 10 0 ≡ y
+  word_10 (Exponential c) = refl
+  word_10 (Explicit n) = refl
 
-  pub word-11 : (f : Figures) → get_or (row f) 11 0 ≡ z
-  word-11 (Exponential c) = refl
-  word-11 (Explicit n) = refl
+  pub word_11 : (f : Figures) → get_or (row f) 11 0 ≡ z
+  word_11 (Exponential c) = refl
+  word_11 (Explicit n) = refl
 
 -- ---- a point
 
@@ -102,39 +102,39 @@ module _ (p : Point) (b : Span) (h : Held p b) where
   abbrev w : List ℕ
   w = words_of p b
 
-  shadow-back : F.pointIn (shadowWords w) ≡ shadowPoint p
-  shadow-back = ap F.pointIn (shadow-words p b) ∙ L.point-back (shadowPoint p) b (shadow-held p b h)
+  shadow-back : F.point_in (shadow_words w) ≡ shadow_point p
+  shadow-back = ap F.point_in (shadow-words p b) ∙ L.point-back (shadow_point p) b (shadow-held p b h)
 
-  figures-back : figuresIn (shadowWords w) ≡ p.figures
-  unfolding F.pointIn
+  figures-back : figures_in (shadow_words w) ≡ p.figures
+  unfolding F.point_in
   figures-back = ap (λ (q : P.Point). q.figures) shadow-back
 
   switch_back : eqb (get_or w 8 0 % 2) 1 ≡ p.extremes
-  unfolding F.pointIn
+  unfolding F.point_in
   switch_back = ap (λ (q : P.Point). q.extremes) shadow-back
 
-  shown-back : leb 2 (get_or w 8 0) ≡ isShown p.min
-  unfolding F.pointIn
-  shown-back = sym (flagged (leb 2 (get_or w 8 0)) 0) ∙ ap (λ (q : P.Point). Floats.isShown q.min) shadow-back ∙ shown-alike p.min
+  shown-back : leb 2 (get_or w 8 0) ≡ is_shown p.min
+  unfolding F.point_in
+  shown-back = sym (flagged (leb 2 (get_or w 8 0)) 0) ∙ ap (λ (q : P.Point). Floats.is_shown q.min) shadow-back ∙ shown-alike p.min
 
-  extreme-of : (x : Extreme) (n : ℕ) → n ≡ shownBits x → isShown x ≡ isShown p.min → Ranged x → extremeIn (leb 2 (get_or w 8 0)) n ≡ x
-  extreme-of x n e s t = ap₂ extremeIn shown-back e ∙ extreme-back x (isShown p.min) s t
+  extreme-of : (x : Extreme) (n : ℕ) → n ≡ shown_bits x → is_shown x ≡ is_shown p.min → Ranged x → extreme_in (leb 2 (get_or w 8 0)) n ≡ x
+  extreme-of x n e s t = ap₂ extreme_in shown-back e ∙ extreme-back x (is_shown p.min) s t
 
-  pub point-back : pointIn (words_of p b) ≡ p
-  unfolding pointIn
+  pub point-back : point_in (words_of p b) ≡ p
+  unfolding point_in
   point-back =
-      let l = extreme-of p.min (get_or w 9 0) (word-9 b _ _ _ _ p.figures) refl h.min in
-      let g = extreme-of p.max (get_or w 10 0) (word-10 b _ _ _ _ p.figures) h.both h.max in
-      let s = ap of_bits (word-11 b _ _ _ _ p.figures) ∙ number-back p.sum h.sum in
+      let l = extreme-of p.min (get_or w 9 0) (word_9 b _ _ _ _ p.figures) refl h.min in
+      let g = extreme-of p.max (get_or w 10 0) (word_10 b _ _ _ _ p.figures) h.both h.max in
+      let s = ap of_bits (word_11 b _ _ _ _ p.figures) ∙ number-back p.sum h.sum in
       λ i. record { figures = figures-back i; extremes = switch_back i; min = l i; max = g i; sum = s i }
 
-  pub span-back : boundsIn (words_of p b) ≡ b
-  unfolding boundsIn
-  span-back = ap F.boundsIn (shadow-words p b) ∙ L.span-back (shadowPoint p) b (shadow-held p b h)
+  pub span-back : bounds_in (words_of p b) ≡ b
+  unfolding bounds_in
+  span-back = ap F.bounds_in (shadow-words p b) ∙ L.span-back (shadow_point p) b (shadow-held p b h)
 
   -- its words are accepted
-  pub point-is : isPoint (words_of p b) ≡ true
-  unfolding isPoint
+  pub point-is : is_point (words_of p b) ≡ true
+  unfolding is_point
   point-is =
-      let e : words_of (pointIn w) (boundsIn w) ≡ w = ap₂ words_of point-back span-back in
-      allb-yes (λ i. eqb (get_or (words_of (pointIn w) (boundsIn w)) i 0) (get_or w i 0)) 12 (λ i l. eq-eqb _ _ (ap (λ (t : List ℕ). get_or t i 0) e))
+      let e : words_of (point_in w) (bounds_in w) ≡ w = ap₂ words_of point-back span-back in
+      allb-yes (λ i. eqb (get_or (words_of (point_in w) (bounds_in w)) i 0) (get_or w i 0)) 12 (λ i l. eq-eqb _ _ (ap (λ (t : List ℕ). get_or t i 0) e))

@@ -15,55 +15,55 @@ use Rattle.listing.specs.Listed.{behind, within}
 use Rattle.listing.specs.declared.Cursor.{Cursor}
 use Rattle.listing.specs.declared.Entry as Le
 use Rattle.listing.specs.declared.Found.TheVariants as LF
-use Rattle.whole_listing.specs.Words.{shadowWords, boundsIn, pointIn, isPoint}
-use Rattle.whole_listing.specs.Listed.{entryIn, pointAt, is_whole}
-use Rattle.whole_listing.specs.Inner.{blank, own_words, numberedFound}
+use Rattle.whole_listing.specs.Words.{shadow_words, bounds_in, point_in, is_point}
+use Rattle.whole_listing.specs.Listed.{entry_in, point_at, is_whole}
+use Rattle.whole_listing.specs.Inner.{blank, own_words, numbered_found}
 use Rattle.whole_listing.specs.declared.Found.TheVariants.{NoPoint, Is}
 use Rattle.whole_listing.proofs.Reading.{Wide, shadow-is, own_is, whole_is}
 
 module _ (at : Cursor) (w : List ℕ) (pos neg : ℕ) where
   abbrev lies : Bool
-  lies = within at (pointIn w).figures (boundsIn w) pos neg
+  lies = within at (point_in w).figures (bounds_in w) pos neg
 
-  not_own : (t : Bool) → isPoint w ≡ t → own_words w ≡ false → t ≡ false
+  not_own : (t : Bool) → is_point w ≡ t → own_words w ≡ false → t ≡ false
   not_own true e h = absurd (not-both (own_words w) (own_is w e) h)
   not_own false e h = refl
 
-  pub entry-no : own_words w ≡ false → NoPoint ≡ entryIn at w pos neg
-  unfolding entryIn
-  entry-no h = sym (pick-false (isPoint w && lies) _ _ (ap (λ (t : Bool). t && lies) (not_own (isPoint w) refl h)))
+  pub entry-no : own_words w ≡ false → NoPoint ≡ entry_in at w pos neg
+  unfolding entry_in
+  entry-no h = sym (pick-false (is_point w && lies) _ _ (ap (λ (t : Bool). t && lies) (not_own (is_point w) refl h)))
 
   module _ (n : Wide w) (o : own_words w ≡ true) where
-    same_test : F.isPoint (shadowWords w) ≡ isPoint w
-    same_test = go (F.isPoint (shadowWords w)) (isPoint w) refl refl
+    same_test : F.is_point (shadow_words w) ≡ is_point w
+    same_test = go (F.is_point (shadow_words w)) (is_point w) refl refl
       where
-        go : (s t : Bool) → F.isPoint (shadowWords w) ≡ s → isPoint w ≡ t → s ≡ t
+        go : (s t : Bool) → F.is_point (shadow_words w) ≡ s → is_point w ≡ t → s ≡ t
         go true true p q = refl
-        go true false p q = absurd (not-both (isPoint w) (whole_is w n o p) q)
-        go false true p q = absurd (not-both (F.isPoint (shadowWords w)) (shadow-is w q) p)
+        go true false p q = absurd (not-both (is_point w) (whole_is w n o p) q)
+        go false true p q = absurd (not-both (F.is_point (shadow_words w)) (shadow-is w q) p)
         go false false p q = refl
 
-    found-either : (t : Bool) (e : Le.Entry) → numberedFound w (pick t (LF.Is e) LF.NoPoint) ≡ pick t (numberedFound w (LF.Is e)) NoPoint
+    found-either : (t : Bool) (e : Le.Entry) → numbered_found w (pick t (LF.Is e) LF.NoPoint) ≡ pick t (numbered_found w (LF.Is e)) NoPoint
     unfolding pick
     found-either true e = refl
     found-either false e = refl
 
     -- by its shadow
-    pub entry-by : numberedFound w (L.entryIn at (shadowWords w) pos neg) ≡ entryIn at w pos neg
-    unfolding entryIn L.entryIn pointIn F.pointIn boundsIn
+    pub entry-by : numbered_found w (L.entry_in at (shadow_words w) pos neg) ≡ entry_in at w pos neg
+    unfolding entry_in L.entry_in point_in F.point_in bounds_in
     entry-by =
-        let v = shadowWords w in
-        found-either (F.isPoint v && within at (F.pointIn v).figures (F.boundsIn v) pos neg)
-        (record { point = F.pointIn v; bounds = F.boundsIn v; next = behind at (F.pointIn v).figures (F.boundsIn v) })
-        ∙ ap (λ (t : Bool). pick (t && lies) (Is (record { point = pointIn w; bounds = boundsIn w; next = behind at (pointIn w).figures (boundsIn w) })) NoPoint) same_test
+        let v = shadow_words w in
+        found-either (F.is_point v && within at (F.point_in v).figures (F.bounds_in v) pos neg)
+        (record { point = F.point_in v; bounds = F.bounds_in v; next = behind at (F.point_in v).figures (F.bounds_in v) })
+        ∙ ap (λ (t : Bool). pick (t && lies) (Is (record { point = point_in w; bounds = bounds_in w; next = behind at (point_in w).figures (bounds_in w) })) NoPoint) same_test
 
 module _ (at : Cursor) (words : List (List ℕ)) (pos neg : ℕ) where
-  pub nothing-there : length words ≤ at.place → NoPoint ≡ pointAt at words pos neg
-  unfolding pointAt
+  pub nothing-there : length words ≤ at.place → NoPoint ≡ point_at at words pos neg
+  unfolding point_at
   nothing-there h = sym (pick_true (leb (length words) at.place) _ _ (le-leb (length words) at.place h))
 
-  pub words-there : at.place + 1 ≤ length words → entryIn at (get_or words at.place []) pos neg ≡ pointAt at words pos neg
-  unfolding pointAt
+  pub words-there : at.place + 1 ≤ length words → entry_in at (get_or words at.place []) pos neg ≡ point_at at words pos neg
+  unfolding point_at
   words-there h = sym (pick-false (leb (length words) at.place) _ _ (lt-leb (length words) at.place (omega arith)))
 
 -- ---- own words, test by test

@@ -7,20 +7,20 @@ use lib.IntN.{ℤ}
 use lib.ListN.{get_or, set}
 use lib.Signed.{lt_z}
 use Rattle.laws.specs.Pick.{pick}
-use Rattle.integers.specs.Answers.{in_range, lesserOf, greater_of}
+use Rattle.integers.specs.Answers.{in_range, lesser_of, greater_of}
 use Rattle.points.specs.Whole.{whole}
 use Rattle.whole_listing.specs.Read.{AllHeld}
 
-pick-ranged : (b : Bool) (x y : ℤ) → in_range x ≡ true → in_range y ≡ true → in_range (pick b x y) ≡ true
+pick_ranged : (b : Bool) (x y : ℤ) → in_range x ≡ true → in_range y ≡ true → in_range (pick b x y) ≡ true
 unfolding pick
-pick-ranged true x y p q = p
-pick-ranged false x y p q = q
+pick_ranged true x y p q = p
+pick_ranged false x y p q = q
 
 -- the sum with a value more, which is taken: it stays in i64, or none is kept
-sum-ranged : (b : Bool) (s v : ℤ) → in_range s ≡ true → whole.takes b s v ≡ true → in_range (whole.noted b s v) ≡ true
+sum_ranged : (b : Bool) (s v : ℤ) → in_range s ≡ true → whole.takes b s v ≡ true → in_range (whole.noted b s v) ≡ true
 unfolding pick
-sum-ranged true s v h t = t
-sum-ranged false s v h t = h
+sum_ranged true s v h t = t
+sum_ranged false s v h t = h
 
 -- ---- a series' minimum, maximum and sum
 
@@ -35,12 +35,12 @@ start_fits = record { min = refl; max = refl; sum = refl }
 
 -- with a value more
 pub more-fits : (sums : Bool) (a b s v : ℤ) → in_range v ≡ true → whole.takes sums s v ≡ true → Fitting a b s
-    → Fitting (lesserOf a v) (greater_of b v) (whole.noted sums s v)
+    → Fitting (lesser_of a v) (greater_of b v) (whole.noted sums s v)
 more-fits sums a b s v t h k =
     record {
-      min = pick-ranged (lt_z v a) v a t k.min;
-      max = pick-ranged (lt_z b v) v b t k.max;
-      sum = sum-ranged sums s v k.sum h;
+      min = pick_ranged (lt_z v a) v a t k.min;
+      max = pick_ranged (lt_z b v) v b t k.max;
+      sum = sum_ranged sums s v k.sum h;
     }
 
 -- a row of three, and a store with it at one place

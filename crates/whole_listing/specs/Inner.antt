@@ -1,21 +1,21 @@
 -- BETWEEN OUR OWN CRATES: serves inner contracts and proofs; nobody needs it to believe the public calls or the theorems.
 -- A point of i64 values written and read by its shadow: what the shadow's words do not tell. Assumes nothing.
 use Rattle.std.specs.Prelude.{ℕ, ◌+◌, Bool, ◌&&◌, ◌||◌, List, [], ◌∷◌, leb, eqb, ℤ, get_or}
-use Rattle.integers.specs.Answers.{bitsOf, of_bits}
+use Rattle.integers.specs.Answers.{bits_of, of_bits}
 use Rattle.integers.specs.declared.Extreme.{Extreme}
 use Rattle.point.specs.declared.Point as P
 use Rattle.whole_point.specs.declared.Point.{Point}
 use Rattle.listing.specs.declared.Found as L
 use Rattle.listing.specs.declared.Found.TheVariants as F
-use Rattle.whole_listing.specs.Words.{shownBits, extremeIn}
+use Rattle.whole_listing.specs.Words.{shown_bits, extreme_in}
 use Rattle.whole_listing.specs.declared.Found.{Found}
 use Rattle.whole_listing.specs.declared.Found.TheVariants.{NoPoint, Is}
 
 -- the words of a shadow with the kind 2 more and the bits of minimum, maximum and sum
-abbrev pub withNumbers : List ℕ → Extreme → Extreme → ℤ → List ℕ
-withNumbers w min max sum =
+abbrev pub with_numbers : List ℕ → Extreme → Extreme → ℤ → List ℕ
+with_numbers w min max sum =
     (get_or w 0 0 + 2) ∷ get_or w 1 0 ∷ get_or w 2 0 ∷ get_or w 3 0 ∷ get_or w 4 0 ∷ get_or w 5 0 ∷ get_or w 6 0 ∷ get_or w 7 0 ∷ get_or w 8 0
-    ∷ shownBits min ∷ shownBits max ∷ bitsOf sum ∷ []
+    ∷ shown_bits min ∷ shown_bits max ∷ bits_of sum ∷ []
 
 -- an extreme's word is 0 where it is not shown
 abbrev pub blank : Bool → ℕ → Bool
@@ -31,12 +31,12 @@ numbered q w =
     record {
       figures = q.figures;
       extremes = q.extremes;
-      min = extremeIn (leb 2 (get_or w 8 0)) (get_or w 9 0);
-      max = extremeIn (leb 2 (get_or w 8 0)) (get_or w 10 0);
+      min = extreme_in (leb 2 (get_or w 8 0)) (get_or w 9 0);
+      max = extreme_in (leb 2 (get_or w 8 0)) (get_or w 10 0);
       sum = of_bits (get_or w 11 0);
     }
 
 -- what is found, of what is found of the shadow
-abbrev pub numberedFound : List ℕ → L.Found → Found
-numberedFound w F.NoPoint = NoPoint
-numberedFound w (F.Is e) = Is (record { point = numbered e.point w; bounds = e.bounds; next = e.next })
+abbrev pub numbered_found : List ℕ → L.Found → Found
+numbered_found w F.NoPoint = NoPoint
+numbered_found w (F.Is e) = Is (record { point = numbered e.point w; bounds = e.bounds; next = e.next })

@@ -4,7 +4,7 @@ use Rattle.std.proofs.Math.Option.{map}
 use Rattle.integers.specs.Answers.{in_range}
 use Rattle.points.specs.Whole.{whole}
 use Rattle.kinds.specs.Wholes.{wholes}
-use Rattle.whole_point.specs.Handing.{handedIn}
+use Rattle.whole_point.specs.Handing.{handed_in}
 use Rattle.whole_point.specs.declared.Point.{Point}
 use Rattle.value_map.specs.Store.{Store}
 use Rattle.collecting.specs.Lister.{Lister}
@@ -18,13 +18,13 @@ AllHeld rows = (x i : ℕ) → in_range (get_or (get_or rows x []) i whole.zero)
 
 -- THE LISTER of a kind over i64, made of: its cells' rows of i64s, the bounds of its points, a slot's point under the switches, and the point's
 -- counts in either store. A point is read back with its bounds, which lie in a store beside the list
-abbrev pub wholeLister : (S : Store wholes) → (S.Cells → List (List ℤ)) → List Float → (S.Switches → S.Cells → ℕ → Bool → Point)
+abbrev pub whole_lister : (S : Store wholes) → (S.Cells → List (List ℤ)) → List Float → (S.Switches → S.Cells → ℕ → Bool → Point)
     → (pos neg : S.Cells → ℕ → Bool → List ℕ) → Lister S
-wholeLister S numbers bounds point pos neg =
+whole_lister S numbers bounds point pos neg =
     record {
       Lent = λ c. AllHeld (numbers c);
       words = λ w c x u. words_of (point w c x u) (span_of bounds);
       pos = pos;
       neg = neg;
-      found = λ at o. map (λ x. (handedIn x.0, x.1)) (found_at bounds at o);
+      found = λ at o. map (λ x. (handed_in x.0, x.1)) (found_at bounds at o);
     }

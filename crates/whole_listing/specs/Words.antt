@@ -4,20 +4,20 @@ use Rattle.std.specs.Prelude.{ℕ, ◌+◌, ◌-◌, ◌*◌, ◌%◌, Bool, Lis
 use Rattle.laws.specs.Pick.{pick}
 use Rattle.laws.specs.Counting.{bit}
 use Rattle.sets.specs.All.{allb}
-use Rattle.integers.specs.Answers.{isShown, bitsOf, of_bits}
+use Rattle.integers.specs.Answers.{is_shown, bits_of, of_bits}
 use Rattle.integers.specs.declared.Extreme.{Extreme}
 use Rattle.integers.specs.declared.Extreme.TheVariants.{None, Value}
 use Rattle.whole_point.specs.declared.Point.{Point}
 use Rattle.listing.specs.Words as F
-use Rattle.listing.specs.Words.{figuresWords, figuresIn}
+use Rattle.listing.specs.Words.{figures_words, figures_in}
 use Rattle.listing.specs.declared.Span.{Span}
 
 -- ---- written
 
 -- the bits of an extreme, two's complement; 0 where it is not shown
-abbrev pub shownBits : Extreme → ℕ
-shownBits None = 0
-shownBits (Value x) = bitsOf x
+abbrev pub shown_bits : Extreme → ℕ
+shown_bits None = 0
+shown_bits (Value x) = bits_of x
 
 -- word 0 is the kind, 2 more than that of f64: 2 exponential, 3 explicit
 abbrev pub raised : List ℕ → List ℕ
@@ -28,32 +28,32 @@ raised (kind ∷ ws) = (kind + 2) ∷ ws
 -- maximum and sum
 abbrev pub words_of : Point → Span → List ℕ
 words_of p b =
-    raised (figuresWords p.figures b)
-    ++ ((bit p.extremes + 2 * bit (isShown p.min)) ∷ shownBits p.min ∷ shownBits p.max ∷ bitsOf p.sum ∷ [])
+    raised (figures_words p.figures b)
+    ++ ((bit p.extremes + 2 * bit (is_shown p.min)) ∷ shown_bits p.min ∷ shown_bits p.max ∷ bits_of p.sum ∷ [])
 
 -- ---- read
 
 -- the words of the shadow, the f64 point with the same figures: the kind 2 less, and 0 for every number
-abbrev pub shadowWords : List ℕ → List ℕ
-shadowWords w =
+abbrev pub shadow_words : List ℕ → List ℕ
+shadow_words w =
     (get_or w 0 0 - 2) ∷ get_or w 1 0 ∷ get_or w 2 0 ∷ get_or w 3 0 ∷ get_or w 4 0 ∷ get_or w 5 0 ∷ get_or w 6 0 ∷ get_or w 7 0 ∷ get_or w 8 0 ∷ 0 ∷ 0 ∷ 0 ∷ []
 
-unfoldable pub boundsIn : List ℕ → Span
-boundsIn w = F.boundsIn (shadowWords w)
+unfoldable pub bounds_in : List ℕ → Span
+bounds_in w = F.bounds_in (shadow_words w)
 
-unfoldable pub extremeIn : Bool → ℕ → Extreme
-extremeIn shown bits = pick shown (Value (of_bits bits)) None
+unfoldable pub extreme_in : Bool → ℕ → Extreme
+extreme_in shown bits = pick shown (Value (of_bits bits)) None
 
-unfoldable pub pointIn : List ℕ → Point
-pointIn w =
+unfoldable pub point_in : List ℕ → Point
+point_in w =
     record {
-      figures = figuresIn (shadowWords w);
+      figures = figures_in (shadow_words w);
       extremes = eqb (get_or w 8 0 % 2) 1;
-      min = extremeIn (leb 2 (get_or w 8 0)) (get_or w 9 0);
-      max = extremeIn (leb 2 (get_or w 8 0)) (get_or w 10 0);
+      min = extreme_in (leb 2 (get_or w 8 0)) (get_or w 9 0);
+      max = extreme_in (leb 2 (get_or w 8 0)) (get_or w 10 0);
       sum = of_bits (get_or w 11 0);
     }
 
 -- words are a point's if the point that they read as is written as these words, and then only
-unfoldable pub isPoint : List ℕ → Bool
-isPoint w = allb 12 (λ i. eqb (get_or (words_of (pointIn w) (boundsIn w)) i 0) (get_or w i 0))
+unfoldable pub is_point : List ℕ → Bool
+is_point w = allb 12 (λ i. eqb (get_or (words_of (point_in w) (bounds_in w)) i 0) (get_or w i 0))

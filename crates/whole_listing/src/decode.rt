@@ -1,6 +1,6 @@
 // The point of i64 values that twelve words are, by its shadow.
 ghost use Rattle.std.specs.Prelude.{◌≡◌, ◌≤◌, get_or};
-ghost use Rattle.whole_listing.specs.Words.{shadowWords, extremeIn};
+ghost use Rattle.whole_listing.specs.Words.{shadow_words, extreme_in};
 ghost use Rattle.whole_listing.specs.Listed.{is_whole};
 ghost use Rattle.whole_listing.specs.Inner.{blank, own_words, numbered};
 
@@ -47,7 +47,7 @@ pub fn own_words(w: [u64; 12]) -> bool
 // The words of the shadow.
 pub fn shadow_words(w: [u64; 12]) -> [u64; 12]
     requires { 2 ≤ get_or w 0 0 }
-    ensures { result ≡ shadowWords w }
+    ensures { result ≡ shadow_words w }
 {
     [
         w[0] - 2,
@@ -67,7 +67,7 @@ pub fn shadow_words(w: [u64; 12]) -> [u64; 12]
 
 // An extreme, if it is shown.
 fn extreme_of(shown: bool, bits: u64) -> Extreme
-    ensures { result ≡ extremeIn shown bits }
+    ensures { result ≡ extreme_in shown bits }
 {
     if shown {
         let x = integers::of_bits(bits);

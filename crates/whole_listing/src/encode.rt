@@ -1,7 +1,7 @@
 // A point of i64 values as twelve words.
 ghost use Rattle.std.specs.Prelude.{◌≡◌, ◌≤◌, get_or};
-ghost use Rattle.whole_listing.specs.Words.{shownBits, words_of};
-ghost use Rattle.whole_listing.specs.Inner.{withNumbers};
+ghost use Rattle.whole_listing.specs.Words.{shown_bits, words_of};
+ghost use Rattle.whole_listing.specs.Inner.{with_numbers};
 
 use integers::Extreme;
 use listing::Span;
@@ -9,7 +9,7 @@ use whole_point::Point;
 
 // The bits of an extreme, 0 where it is not shown.
 fn shown_bits(x: Extreme) -> u64
-    ensures { result ≡ shownBits x }
+    ensures { result ≡ shown_bits x }
 {
     match x {
         Extreme::None => 0,
@@ -20,7 +20,7 @@ fn shown_bits(x: Extreme) -> u64
 // The words of a shadow with the kind 2 more and the bits of minimum, maximum and sum.
 pub fn with_numbers(w: [u64; 12], min: Extreme, max: Extreme, sum: i64) -> [u64; 12]
     requires { get_or w 0 0 ≤ 1 }
-    ensures { result ≡ withNumbers w min max sum }
+    ensures { result ≡ with_numbers w min max sum }
 {
     let low = shown_bits(min);
     let high = shown_bits(max);

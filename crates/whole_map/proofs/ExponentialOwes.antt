@@ -9,30 +9,30 @@ use lib.IntN.{ℤ}
 use lib.ListN.{length}
 use Rattle.exponential_whole_slots.specs.Cells.{Cells, Room}
 use Rattle.exponential_whole_slots.proofs.Recording as Laws
-use Rattle.value_map.specs.Store.{lengthsSuffice}
+use Rattle.value_map.specs.Store.{lengths_suffice}
 use Rattle.value_map.proofs.Owed.{Fit, Owed}
-use Rattle.value_map.proofs.Products.{entry_in, counts-in}
+use Rattle.value_map.proofs.Products.{entry_in, counts_in_lem}
 use Rattle.value_map.proofs.ExponentialOwes.{unset-valid}
-use Rattle.whole_map.specs.Exponential.{cellsSuffice, exponentialWholes}
+use Rattle.whole_map.specs.Exponential.{cells_suffice, exponential_wholes}
 
 -- each of limit + 2 slots lies in stores that suffice
-room : (size limit : ℕ) (c : Cells) (x : ℕ) → cellsSuffice size limit c ≡ true → x ≤ limit + 1 → Room size c x
+room : (size limit : ℕ) (c : Cells) (x : ℕ) → cells_suffice size limit c ≡ true → x ≤ limit + 1 → Room size c x
 room size limit c x e h =
     let counts : List ℕ = length c.pos ∷ length c.neg ∷ [] in
     let others : List ℕ = length c.figures ∷ length c.extremes ∷ [] in
     record {
       figures = entry_in size limit x counts others e h 0 (omega arith);
       extremes = entry_in size limit x counts others e h 1 (omega arith);
-      pos = counts-in size limit x counts others e h 0 (omega arith);
-      neg = counts-in size limit x counts others e h 1 (omega arith);
+      pos = counts_in_lem size limit x counts others e h 0 (omega arith);
+      neg = counts_in_lem size limit x counts others e h 1 (omega arith);
     }
 
-fit : (size top : ℕ) (sums : Bool) (c : Cells) (x : ℕ) (v : ℤ) → Fit (exponentialWholes size top sums) c x v → Laws.Fit size top x c v
+fit : (size top : ℕ) (sums : Bool) (c : Cells) (x : ℕ) (v : ℤ) → Fit (exponential_wholes size top sums) c x v → Laws.Fit size top x c v
 fit size top sums c x v f =
     let r = f.room in
     record { valid = unset-valid size top f.set; figures = r.figures; extremes = r.extremes; pos = r.pos; neg = r.neg; value = f.value }
 
-pub owed : (size top : ℕ) (sums : Bool) → Owed (exponentialWholes size top sums)
+pub owed : (size top : ℕ) (sums : Bool) → Owed (exponential_wholes size top sums)
 owed size top sums =
     record {
       valid = λ e w. unset-valid size top e;
@@ -47,6 +47,6 @@ owed size top sums =
             no = t.no;
             own = t.own;
             others = t.others;
-            lent = λ limit l. (λ j. lengthsSuffice size limit (t.pos j ∷ t.neg j ∷ []) (t.figures j ∷ t.extremes j ∷ [])) ∙ l;
+            lent = λ limit l. (λ j. lengths_suffice size limit (t.pos j ∷ t.neg j ∷ []) (t.figures j ∷ t.extremes j ∷ [])) ∙ l;
           };
     }

@@ -1,25 +1,25 @@
 -- The explicit kind's store over i64. Assumes nothing.
 use Rattle.std.specs.Prelude.{ℕ, Bool, List, [], ◌∷◌, length, Float}
 use Rattle.laws.specs.Pick.{pick}
-use Rattle.points.specs.Explicit.{boundsPass, bucketCount}
-use Rattle.points.specs.Counts.{explicit, settingsOf}
+use Rattle.points.specs.Explicit.{bounds_pass, bucket_count}
+use Rattle.points.specs.Counts.{explicit, settings_of}
 use Rattle.kinds.specs.Wholes.{wholes}
-use Rattle.value_map.specs.Store.{Store, lengthsSuffice}
-use Rattle.explicit_whole_slots.specs.Cells.{Cells, Room, seriesAt, recordedAt}
+use Rattle.value_map.specs.Store.{Store, lengths_suffice}
+use Rattle.explicit_whole_slots.specs.Cells.{Cells, Room, series_at, recorded_at}
 
-abbrev pub cellsSuffice : List Float → ℕ → Cells → Bool
-cellsSuffice bounds limit c = lengthsSuffice (bucketCount bounds) limit (length c.counts ∷ []) (length c.totals ∷ length c.extremes ∷ [])
+abbrev pub cells_suffice : List Float → ℕ → Cells → Bool
+cells_suffice bounds limit c = lengths_suffice (bucket_count bounds) limit (length c.counts ∷ []) (length c.totals ∷ length c.extremes ∷ [])
 
 -- the switch that recording does not read: extremes. The zero threshold, which this kind has no use for, is 0.0
-abbrev pub explicitWholes : List Float → Bool → Store wholes
-explicitWholes bounds sums =
+abbrev pub explicit_wholes : List Float → Bool → Store wholes
+explicit_wholes bounds sums =
     record {
       Switches = Bool;
-      settings = λ w. settingsOf (explicit bounds) w sums;
-      unset = pick (boundsPass bounds) 0 3;
+      settings = λ w. settings_of (explicit bounds) w sums;
+      unset = pick (bounds_pass bounds) 0 3;
       Cells = Cells;
-      suffices = cellsSuffice bounds;
+      suffices = cells_suffice bounds;
       Room = Room bounds;
-      at = seriesAt bounds;
-      recorded = recordedAt bounds sums;
+      at = series_at bounds;
+      recorded = recorded_at bounds sums;
     }

@@ -1,15 +1,15 @@
 // The map of the explicit kind over i64: configuring, and recording by set and by handle. Its stores: the directory's (sets, entries, order),
 // and each slot's count, its minimum, maximum and sum, and its bucket counts.
 ghost use Rattle.std.specs.Prelude.{◌≡◌, [], ◌∷◌, ℕ, ◌+◌, leb};
-ghost use Rattle.points.specs.Explicit.{boundsPass, bucketCount};
+ghost use Rattle.points.specs.Explicit.{bounds_pass, bucket_count};
 ghost use Rattle.rows.specs.Recording.{after};
-ghost use Rattle.sets.specs.Sorted.{given, filterOf};
+ghost use Rattle.sets.specs.Sorted.{given, filter_of};
 ghost use Rattle.directory.specs.View.{stores};
 ghost use Rattle.explicit_whole_slots.specs.Cells.{cells};
-ghost use Rattle.value_map.specs.Store.{lengthsSuffice};
-ghost use Rattle.value_map.specs.Calls.{held, gave, started, measured, measuredBy};
+ghost use Rattle.value_map.specs.Store.{lengths_suffice};
+ghost use Rattle.value_map.specs.Calls.{held, gave, started, measured, measured_by};
 ghost use Rattle.value_map.specs.Inner.{Takes, taken, turned};
-ghost use Rattle.whole_map.specs.Explicit.{explicitWholes};
+ghost use Rattle.whole_map.specs.Explicit.{explicit_wholes};
 
 use crate::exponential_map::takes;
 use bindings::Reply;
@@ -20,7 +20,7 @@ use value_map::first;
 
 // How many slots the series' stores of these lengths have room for.
 fn slots_of(bounds: &[f64], totals: usize, extremes: usize, counts: usize) -> usize
-    ensures { (limit : ℕ) → leb (limit + 2) result ≡ lengthsSuffice (bucketCount bounds.now) limit (counts ∷ []) (totals ∷ extremes ∷ []) }
+    ensures { (limit : ℕ) → leb (limit + 2) result ≡ lengths_suffice (bucket_count bounds.now) limit (counts ∷ []) (totals ∷ extremes ∷ []) }
 {
     let least = lesser(totals, extremes);
     let n = explicit::bucket_count(bounds);
@@ -45,7 +45,7 @@ pub fn start(
     counts: &[u64],
 ) -> Reply
     ensures { gave result (stores sets.entry entries.exit order.entry) (cells totals.entry extremes.entry counts.entry)
-        ≡ started (explicitWholes bounds.now sums) limit (filterOf present filter.now)
+        ≡ started (explicit_wholes bounds.now sums) limit (filter_of present filter.now)
         (stores sets.entry entries.entry order.entry) (cells totals.entry extremes.entry counts.entry) }
 {
     let room = cells_suffice(bounds, limit, totals.len(), extremes.len(), counts.len());
@@ -56,7 +56,7 @@ pub fn start(
 // The number of a seating that is refused: the bounds are asked last, for the series does it. 8 where configuring could not have accepted
 // them, unless a number stands that comes before: 12, 6, 5.
 fn turned_by(bounds: &[f64], no: u8) -> u8
-    ensures { result ≡ turned (boundsPass bounds.now) no }
+    ensures { result ≡ turned (bounds_pass bounds.now) no }
 {
     if no < 7 {
         return no;
@@ -82,10 +82,10 @@ fn take(
     counts: &mut [u64],
     v: i64,
 ) -> u8
-    requires { Takes (explicitWholes bounds.now sums) (cells totals extremes counts) v no x }
+    requires { Takes (explicit_wholes bounds.now sums) (cells totals extremes counts) v no x }
     ensures { after result (cells totals.exit extremes.exit counts.exit)
-        ≡ taken (explicitWholes bounds.now sums) (cells totals.entry extremes.entry counts.entry) v no
-        (turned (boundsPass bounds.now) no) x updated }
+        ≡ taken (explicit_wholes bounds.now sums) (cells totals.entry extremes.entry counts.entry) v no
+        (turned (bounds_pass bounds.now) no) x updated }
 {
     if no != 0 {
         return turned_by(bounds, no);
@@ -111,7 +111,7 @@ pub fn measure(
     filter: &[u32],
 ) -> Reply
     ensures { gave result (stores sets.exit entries.exit order.exit) (cells totals.exit extremes.exit counts.exit)
-        ≡ measured (explicitWholes bounds.now sums) limit (filterOf present filter.now)
+        ≡ measured (explicit_wholes bounds.now sums) limit (filter_of present filter.now)
         (held d (stores sets.entry entries.entry order.entry) (cells totals.entry extremes.entry counts.entry))
         v (given attrs.now) }
 {
@@ -152,7 +152,7 @@ pub fn measure_by(
     h: u64,
 ) -> Reply
     ensures { gave result (stores sets.exit entries.exit order.exit) (cells totals.exit extremes.exit counts.exit)
-        ≡ measuredBy (explicitWholes bounds.now sums) limit
+        ≡ measured_by (explicit_wholes bounds.now sums) limit
         (held d (stores sets.entry entries.entry order.entry) (cells totals.entry extremes.entry counts.entry))
         v h }
 {

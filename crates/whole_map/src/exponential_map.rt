@@ -2,14 +2,14 @@
 // order), and each slot's figures, extremes and rows of counts.
 ghost use Rattle.std.specs.Prelude.{◌≡◌, [], ◌∷◌, ℕ, ◌+◌, leb};
 ghost use Rattle.rows.specs.Recording.{after};
-ghost use Rattle.sets.specs.Sorted.{given, filterOf};
+ghost use Rattle.sets.specs.Sorted.{given, filter_of};
 ghost use Rattle.directory.specs.View.{stores};
 ghost use Rattle.kinds.specs.Wholes.{wholes};
 ghost use Rattle.exponential_whole_slots.specs.Cells.{cells};
-ghost use Rattle.value_map.specs.Store.{lengthsSuffice};
-ghost use Rattle.value_map.specs.Calls.{held, gave, started, measured, measuredBy};
+ghost use Rattle.value_map.specs.Store.{lengths_suffice};
+ghost use Rattle.value_map.specs.Calls.{held, gave, started, measured, measured_by};
 ghost use Rattle.value_map.specs.Inner.{Takes, taken};
-ghost use Rattle.whole_map.specs.Exponential.{exponentialWholes};
+ghost use Rattle.whole_map.specs.Exponential.{exponential_wholes};
 
 use bindings::Reply;
 use directory::Directory;
@@ -26,7 +26,7 @@ pub fn takes(v: i64) -> bool
 
 // How many slots the series' stores of these lengths have room for: by division, so that no product leaves its range.
 pub fn slots_of(size: u32, figures: usize, extremes: usize, pos: usize, neg: usize) -> usize
-    ensures { (limit : ℕ) → leb (limit + 2) result ≡ lengthsSuffice size limit (pos ∷ neg ∷ []) (figures ∷ extremes ∷ []) }
+    ensures { (limit : ℕ) → leb (limit + 2) result ≡ lengths_suffice size limit (pos ∷ neg ∷ []) (figures ∷ extremes ∷ []) }
 {
     let least = lesser(figures, extremes);
     let n = size as usize;
@@ -54,7 +54,7 @@ pub fn start(
     neg: &[u64],
 ) -> Reply
     ensures { gave result (stores sets.entry entries.exit order.entry) (cells figures.entry extremes.entry pos.entry neg.entry)
-        ≡ started (exponentialWholes size top sums) limit (filterOf present filter.now)
+        ≡ started (exponential_wholes size top sums) limit (filter_of present filter.now)
         (stores sets.entry entries.entry order.entry) (cells figures.entry extremes.entry pos.entry neg.entry) }
 {
     let room = cells_suffice(
@@ -83,9 +83,9 @@ fn take(
     neg: &mut [u64],
     v: i64,
 ) -> u8
-    requires { Takes (exponentialWholes size top sums) (cells figures extremes pos neg) v no x }
+    requires { Takes (exponential_wholes size top sums) (cells figures extremes pos neg) v no x }
     ensures { after result (cells figures.exit extremes.exit pos.exit neg.exit)
-        ≡ taken (exponentialWholes size top sums) (cells figures.entry extremes.entry pos.entry neg.entry) v no no x updated }
+        ≡ taken (exponential_wholes size top sums) (cells figures.entry extremes.entry pos.entry neg.entry) v no no x updated }
 {
     if no != 0 {
         return no;
@@ -113,7 +113,7 @@ pub fn measure(
     filter: &[u32],
 ) -> Reply
     ensures { gave result (stores sets.exit entries.exit order.exit) (cells figures.exit extremes.exit pos.exit neg.exit)
-        ≡ measured (exponentialWholes size top sums) limit (filterOf present filter.now)
+        ≡ measured (exponential_wholes size top sums) limit (filter_of present filter.now)
         (held d (stores sets.entry entries.entry order.entry) (cells figures.entry extremes.entry pos.entry neg.entry))
         v (given attrs.now) }
 {
@@ -159,7 +159,7 @@ pub fn measure_by(
     h: u64,
 ) -> Reply
     ensures { gave result (stores sets.exit entries.exit order.exit) (cells figures.exit extremes.exit pos.exit neg.exit)
-        ≡ measuredBy (exponentialWholes size top sums) limit
+        ≡ measured_by (exponential_wholes size top sums) limit
         (held d (stores sets.entry entries.entry order.entry) (cells figures.entry extremes.entry pos.entry neg.entry))
         v h }
 {

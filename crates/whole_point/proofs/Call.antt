@@ -11,15 +11,15 @@ use lib.Ieee.{Float}
 use Rattle.laws.specs.Pick.{pick}
 use Rattle.laws.specs.Said.{Said, refusal, success}
 use Rattle.laws.specs.Over.{over}
-use Rattle.laws.specs.Counting.{mostCount}
+use Rattle.laws.specs.Counting.{most_count}
 use Rattle.laws.proofs.Bools.{pick_true, pick-false}
-use Rattle.index.specs.Bins.{finest, lowestBin}
-use Rattle.integers.specs.Answers.{in_range, sum_of, lastNumber}
+use Rattle.index.specs.Bins.{finest, lowest_bin}
+use Rattle.integers.specs.Answers.{in_range, sum_of, last_number}
 use Rattle.integers.specs.declared.Total.{Total}
 use Rattle.integers.specs.declared.Total.TheVariants.{Outside, Is}
-use Rattle.points.specs.Counts.{Counts, mostSize, sizeAsked, posOf, neg_of, mergeNumber}
+use Rattle.points.specs.Counts.{Counts, most_size, size_asked, pos_of, neg_of, merge_number}
 use Rattle.points.specs.Handed as R
-use Rattle.points.specs.Any.{Handed, handedAgrees, mergeHanded, unmergeable}
+use Rattle.points.specs.Any.{Handed, handed_agrees, merge_handed, unmergeable}
 use Rattle.points.specs.Real.{real}
 use Rattle.points.specs.Whole.{whole}
 use Rattle.points.specs.Shadow.{shadow}
@@ -28,19 +28,19 @@ use Rattle.points.proofs.Shadow.{shadow-agrees, shadow-number}
 use Rattle.point.specs.declared.Point as P
 use Rattle.point.specs.Handing as Q
 use Rattle.whole_point.specs.declared.Point.{Point}
-use Rattle.whole_point.specs.Handing.{Stored, storedIn, handedIn, inShape, shadowPoint, shadowStored, ended, pointFor, laidOver, refusalBefore, merging, mixedNumber, aloneNumber, finished, besideNumber}
+use Rattle.whole_point.specs.Handing.{Stored, stored_in, handed_in, in_shape, shadow_point, shadow_stored, ended, point_for, laid_over, refusal_before, merging, mixed_number, alone_number, finished, beside_number}
 
 no : {A : Type 0} → true ≡ false → A
 no h = absurd (subst T h tt)
 
 -- ---- the sum
-abbrev totalIn : ℤ → Total → ℤ
-totalIn d Outside = d
-totalIn d (Is s) = s
+abbrev total_in : ℤ → Total → ℤ
+total_in d Outside = d
+total_in d (Is s) = s
 
-abbrev isIn : Total → Bool
-isIn Outside = false
-isIn (Is s) = true
+abbrev is_in : Total → Bool
+is_in Outside = false
+is_in (Is s) = true
 
 record Stays (x y s : ℤ) : Type 0 where
   none : whole.beyond x y ≡ 0
@@ -51,15 +51,15 @@ unfolding sum_of
 stays x y s e = go (in_range (x +ℤ y)) refl
   where
     go : (b : Bool) → in_range (x +ℤ y) ≡ b → Stays x y s
-    go true d = record { none = pick_true _ 0 16 d; sum = sym (ap (totalIn s) (sym (pick_true (in_range (x +ℤ y)) (Is (x +ℤ y)) Outside d) ∙ e)) }
-    go false d = no (sym (ap isIn (sym (pick-false (in_range (x +ℤ y)) (Is (x +ℤ y)) Outside d) ∙ e)))
+    go true d = record { none = pick_true _ 0 16 d; sum = sym (ap (total_in s) (sym (pick_true (in_range (x +ℤ y)) (Is (x +ℤ y)) Outside d) ∙ e)) }
+    go false d = no (sym (ap is_in (sym (pick-false (in_range (x +ℤ y)) (Is (x +ℤ y)) Outside d) ∙ e)))
 
 leaves : (x y : ℤ) → sum_of x y ≡ Outside → whole.beyond x y ≡ 16
 unfolding sum_of
 leaves x y e = go (in_range (x +ℤ y)) refl
   where
     go : (b : Bool) → in_range (x +ℤ y) ≡ b → whole.beyond x y ≡ 16
-    go true d = no (ap isIn (sym (pick_true (in_range (x +ℤ y)) (Is (x +ℤ y)) Outside d) ∙ e))
+    go true d = no (ap is_in (sym (pick_true (in_range (x +ℤ y)) (Is (x +ℤ y)) Outside d) ∙ e))
     go false d = pick-false _ 0 16 d
 
 -- ---- what an f64 outcome says
@@ -71,45 +71,45 @@ abbrev number_in : {A : Type 0} → Said A → ℕ
 number_in (refusal n) = n
 number_in (success a) = 0
 
-abbrev pointIn : P.Point → Said Q.Stored → P.Point
-pointIn d (refusal n) = d
-pointIn d (success x) = x.point
+abbrev point_in : P.Point → Said Q.Stored → P.Point
+point_in d (refusal n) = d
+point_in d (success x) = x.point
 
 -- the answer of an outcome is the one that it was made of
 same_answer : (r q : Said P.Point) (bs : List Float) (us vs us' vs' : List ℕ) → Q.ended r bs us' vs' ≡ Q.ended q bs us vs → r ≡ q
 same_answer (refusal n) (refusal m) bs us vs us' vs' e = ap refusal (ap (λ o. number_in o.answer) e)
 same_answer (refusal n) (success h) bs us vs us' vs' e = no (ap (λ o. is_refused o.answer) e)
 same_answer (success g) (refusal m) bs us vs us' vs' e = no (sym (ap (λ o. is_refused o.answer) e))
-same_answer (success g) (success h) bs us vs us' vs' e = ap success (ap (λ o. pointIn g o.answer) e)
+same_answer (success g) (success h) bs us vs us' vs' e = ap success (ap (λ o. point_in g o.answer) e)
 
 -- ---- THE CALL
 module _ (size : ℕ) (x y : Stored) (us vs : List ℕ) where
   abbrev before : ℕ
-  before = Q.refusalBefore size (shadowStored x) (shadowStored y)
+  before = Q.refusal_before size (shadow_stored x) (shadow_stored y)
 
   -- the number of the shadows, or else the sum's
-  pub number_is : refusalBefore size x y ≡ pick (eqb before 0) (whole.beyond x.point.sum y.point.sum) before
-  unfolding refusalBefore Q.refusalBefore R.unmergeable R.mergeable R.handedAgrees
-  number_is = shadow-number size (inShape x && inShape y) (handedIn x) (handedIn y)
+  pub number_is : refusal_before size x y ≡ pick (eqb before 0) (whole.beyond x.point.sum y.point.sum) before
+  unfolding refusal_before Q.refusal_before R.unmergeable R.mergeable R.handed_agrees
+  number_is = shadow-number size (in_shape x && in_shape y) (handed_in x) (handed_in y)
 
   abbrev merged : Handed whole
-  merged = mergeHanded whole size (handedIn x) (handedIn y)
+  merged = merge_handed whole size (handed_in x) (handed_in y)
 
-  gives_up : (n : ℕ) → refusalBefore size x y ≡ n → (n ≡ 0 → ⊥) → ended (refusal n) x.bounds us vs ≡ merging size x y us vs
+  gives_up : (n : ℕ) → refusal_before size x y ≡ n → (n ≡ 0 → ⊥) → ended (refusal n) x.bounds us vs ≡ merging size x y us vs
   unfolding merging
   gives_up n e z =
-      sym (pick-false _ _ _ (ne_eqb (refusalBefore size x y) 0 (λ d. z (sym e ∙ d))) ∙ ap (λ m. ended (refusal m) x.bounds us vs) e)
+      sym (pick-false _ _ _ (ne_eqb (refusal_before size x y) 0 (λ d. z (sym e ∙ d))) ∙ ap (λ m. ended (refusal m) x.bounds us vs) e)
 
-  goes_on : refusalBefore size x y ≡ 0 → merging size x y us vs ≡ laidOver merged x.bounds us vs
+  goes_on : refusal_before size x y ≡ 0 → merging size x y us vs ≡ laid_over merged x.bounds us vs
   unfolding merging
-  goes_on e = pick_true _ _ _ (eq-eqb (refusalBefore size x y) 0 e)
+  goes_on e = pick_true _ _ _ (eq-eqb (refusal_before size x y) 0 e)
 
   -- where the sum would leave i64
-  pub outside-law : sum_of x.point.sum y.point.sum ≡ Outside → (n k : ℕ) → n ≡ before → k ≡ lastNumber n
+  pub outside_law : sum_of x.point.sum y.point.sum ≡ Outside → (n k : ℕ) → n ≡ before → k ≡ last_number n
       → ended (refusal k) x.bounds us vs ≡ merging size x y us vs
-  outside-law t n k e d =
-      ap (λ m. ended (refusal m) x.bounds us vs) (d ∙ ap lastNumber e)
-      ∙ gives_up (lastNumber before) (number_is ∙ ap (λ m. pick (eqb before 0) m before) (leaves x.point.sum y.point.sum t)) (last_some before)
+  outside_law t n k e d =
+      ap (λ m. ended (refusal m) x.bounds us vs) (d ∙ ap last_number e)
+      ∙ gives_up (last_number before) (number_is ∙ ap (λ m. pick (eqb before 0) m before) (leaves x.point.sum y.point.sum t)) (last_some before)
 
   -- where it does not
   module _ (s : ℤ) (t : sum_of x.point.sum y.point.sum ≡ Is s) where
@@ -123,45 +123,45 @@ module _ (size : ℕ) (x y : Stored) (us vs : List ℕ) where
     by_number : (before ≡ 0 → ⊥) → ended (done (refusal before)) x.bounds us vs ≡ merging size x y us vs
     by_number z = gives_up before (number_is ∙ pick-false _ _ _ (ne_eqb before 0 z)) z
 
-    free : before ≡ 0 → refusalBefore size x y ≡ 0
+    free : before ≡ 0 → refusal_before size x y ≡ 0
     free e = number_is ∙ pick_true _ _ _ (eq-eqb before 0 e) ∙ stay.none
 
     abbrev room : Bool
-    room = leb (length (posOf merged.counts)) (length us) && leb (length (neg_of merged.counts)) (length vs)
+    room = leb (length (pos_of merged.counts)) (length us) && leb (length (neg_of merged.counts)) (length vs)
 
     abbrev shadows : R.Handed
-    shadows = R.mergeHanded size (Q.handedIn (shadowStored x)) (Q.handedIn (shadowStored y))
+    shadows = R.merge_handed size (Q.handed_in (shadow_stored x)) (Q.handed_in (shadow_stored y))
 
     counts-are : shadows.counts ≡ merged.counts
-    unfolding R.mergeHanded
+    unfolding R.merge_handed
     counts-are = refl
 
-    laid : room ≡ true → laidOver merged x.bounds us vs ≡ ended (success (pointFor merged)) x.bounds (over (posOf merged.counts) us) (over (neg_of merged.counts) vs)
-    unfolding laidOver
+    laid : room ≡ true → laid_over merged x.bounds us vs ≡ ended (success (point_for merged)) x.bounds (over (pos_of merged.counts) us) (over (neg_of merged.counts) vs)
+    unfolding laid_over
     laid e = pick_true _ _ _ e
 
-    short : room ≡ false → laidOver merged x.bounds us vs ≡ ended (refusal 10) x.bounds us vs
-    unfolding laidOver
+    short : room ≡ false → laid_over merged x.bounds us vs ≡ ended (refusal 10) x.bounds us vs
+    unfolding laid_over
     short e = pick-false _ _ _ e
 
-    f64-left : (before ≡ 0 → ⊥) → Q.merging size (shadowStored x) (shadowStored y) us vs ≡ Q.ended (refusal before) x.bounds us vs
+    f64-left : (before ≡ 0 → ⊥) → Q.merging size (shadow_stored x) (shadow_stored y) us vs ≡ Q.ended (refusal before) x.bounds us vs
     unfolding Q.merging
     f64-left z = pick-false _ _ _ (ne_eqb before 0 z)
 
     f64-laid : before ≡ 0 → room ≡ true
-        → Q.merging size (shadowStored x) (shadowStored y) us vs ≡ Q.ended (success (Q.pointFor shadows)) x.bounds (over (posOf merged.counts) us) (over (neg_of merged.counts) vs)
-    unfolding Q.merging Q.laidOver R.mergeHanded
+        → Q.merging size (shadow_stored x) (shadow_stored y) us vs ≡ Q.ended (success (Q.point_for shadows)) x.bounds (over (pos_of merged.counts) us) (over (neg_of merged.counts) vs)
+    unfolding Q.merging Q.laid_over R.merge_handed
     f64-laid e d = pick_true _ _ _ (eq-eqb before 0 e) ∙ pick_true _ _ _ d
 
-    f64-short : before ≡ 0 → room ≡ false → Q.merging size (shadowStored x) (shadowStored y) us vs ≡ Q.ended (refusal 10) x.bounds us vs
-    unfolding Q.merging Q.laidOver R.mergeHanded
+    f64-short : before ≡ 0 → room ≡ false → Q.merging size (shadow_stored x) (shadow_stored y) us vs ≡ Q.ended (refusal 10) x.bounds us vs
+    unfolding Q.merging Q.laid_over R.merge_handed
     f64-short e d = pick_true _ _ _ (eq-eqb before 0 e) ∙ pick-false _ _ _ d
 
-    made : done (success (Q.pointFor shadows)) ≡ success (pointFor merged)
-    unfolding R.mergeHanded
+    made : done (success (Q.point_for shadows)) ≡ success (point_for merged)
+    unfolding R.merge_handed
     made =
         λ j. success (record {
-          figures = (pointFor merged).figures;
+          figures = (point_for merged).figures;
           extremes = merged.extremes;
           min = merged.min;
           max = merged.max;
@@ -175,9 +175,9 @@ module _ (size : ℕ) (x y : Stored) (us vs : List ℕ) where
         let a = same_answer r q x.bounds ps qs us' vs' e in
         λ j. ended (done (a j)) x.bounds (e j).pos (e j).neg
 
-    pub inside-law : (r : Said P.Point) (a : Said Point) (us' vs' : List ℕ)
-        → Q.ended r x.bounds us' vs' ≡ Q.merging size (shadowStored x) (shadowStored y) us vs → a ≡ done r → ended a x.bounds us' vs' ≡ merging size x y us vs
-    inside-law r a us' vs' e f = ap (λ b. ended b x.bounds us' vs') f ∙ go (eqb before 0) room refl refl
+    pub inside_law : (r : Said P.Point) (a : Said Point) (us' vs' : List ℕ)
+        → Q.ended r x.bounds us' vs' ≡ Q.merging size (shadow_stored x) (shadow_stored y) us vs → a ≡ done r → ended a x.bounds us' vs' ≡ merging size x y us vs
+    inside_law r a us' vs' e f = ap (λ b. ended b x.bounds us' vs') f ∙ go (eqb before 0) room refl refl
       where
         go : (b c : Bool) → eqb before 0 ≡ b → room ≡ c → ended (done r) x.bounds us' vs' ≡ merging size x y us vs
         go false c d h =
@@ -185,8 +185,8 @@ module _ (size : ℕ) (x y : Stored) (us vs : List ℕ) where
             from (refusal before) us vs r us' vs' (e ∙ f64-left z) ∙ by_number z
         go true true d h =
             let z = eqb-true before 0 d in
-            from (success (Q.pointFor shadows)) (over (posOf merged.counts) us) (over (neg_of merged.counts) vs) r us' vs' (e ∙ f64-laid z h)
-            ∙ ap (λ b. ended b x.bounds (over (posOf merged.counts) us) (over (neg_of merged.counts) vs)) made
+            from (success (Q.point_for shadows)) (over (pos_of merged.counts) us) (over (neg_of merged.counts) vs) r us' vs' (e ∙ f64-laid z h)
+            ∙ ap (λ b. ended b x.bounds (over (pos_of merged.counts) us) (over (neg_of merged.counts) vs)) made
             ∙ sym (goes_on (free z) ∙ laid h)
         go true false d h =
             let z = eqb-true before 0 d in
@@ -197,7 +197,7 @@ module _ (size : ℕ) (x y : Stored) (us vs : List ℕ) where
 abbrev firsts : Bool → Bool → ℕ
 firsts sized agreed = pick sized (pick agreed 11 8) 1
 
-by_first : (a b c d : Bool) → besideNumber (mergeNumber a b c d 0) ≡ firsts a b
+by_first : (a b c d : Bool) → beside_number (merge_number a b c d 0) ≡ firsts a b
 unfolding pick
 by_first false b c d = refl
 by_first true false c d = refl
@@ -207,21 +207,21 @@ by_first true true true true = refl
 
 module _ (size : ℕ) (x : Stored) (y : Q.Stored) where
   abbrev sized : Bool
-  sized = sizeAsked size (handedIn x).counts (Q.handedIn y).counts
+  sized = size_asked size (handed_in x).counts (Q.handed_in y).counts
 
   abbrev agreed : Bool
-  agreed = (inShape x && Q.inShape y) && (handedAgrees whole size finest (lowestBin finest) (handedIn x) && handedAgrees real size finest (lowestBin finest) (Q.handedIn y))
+  agreed = (in_shape x && Q.in_shape y) && (handed_agrees whole size finest (lowest_bin finest) (handed_in x) && handed_agrees real size finest (lowest_bin finest) (Q.handed_in y))
 
-  pub mixed-law : (n : ℕ) → n ≡ Q.refusalBefore size (shadowStored x) y → besideNumber n ≡ mixedNumber size x y
-  unfolding mixedNumber Q.refusalBefore R.unmergeable R.handedAgrees
-  mixed-law n e =
-      let alike = R.mergeable (shadow (handedIn x)) (Q.handedIn y) in
-      let few = leb (R.count_of (handedIn x).counts + R.count_of (Q.handedIn y).counts) mostCount in
-      ap besideNumber e
-      ∙ (λ j. besideNumber (mergeNumber sized ((inShape x && Q.inShape y) && (shadow-agrees size finest (lowestBin finest) (handedIn x) j && handedAgrees real size finest (lowestBin finest) (Q.handedIn y))) alike few 0))
+  pub mixed_law : (n : ℕ) → n ≡ Q.refusal_before size (shadow_stored x) y → beside_number n ≡ mixed_number size x y
+  unfolding mixed_number Q.refusal_before R.unmergeable R.handed_agrees
+  mixed_law n e =
+      let alike = R.mergeable (shadow (handed_in x)) (Q.handed_in y) in
+      let few = leb (R.count_of (handed_in x).counts + R.count_of (Q.handed_in y).counts) most_count in
+      ap beside_number e
+      ∙ (λ j. beside_number (merge_number sized ((in_shape x && Q.in_shape y) && (shadow-agrees size finest (lowest_bin finest) (handed_in x) j && handed_agrees real size finest (lowest_bin finest) (Q.handed_in y))) alike few 0))
       ∙ by_first sized agreed alike few
 
 -- in a card or sheet
-pub alone-law : (x : Stored) (b : Bool) → b ≡ Q.agreesAlone (shadowStored x) → pick b 11 8 ≡ aloneNumber x
-unfolding aloneNumber Q.agreesAlone R.handedAgrees
-alone-law x b e = ap (λ c. pick c 11 8) (e ∙ ap (λ c. inShape x && c) (shadow-agrees mostSize finest (lowestBin finest) (handedIn x)))
+pub alone_law : (x : Stored) (b : Bool) → b ≡ Q.agrees_alone (shadow_stored x) → pick b 11 8 ≡ alone_number x
+unfolding alone_number Q.agrees_alone R.handed_agrees
+alone_law x b e = ap (λ c. pick c 11 8) (e ∙ ap (λ c. in_shape x && c) (shadow-agrees most_size finest (lowest_bin finest) (handed_in x)))

@@ -2,9 +2,9 @@
 // point with the same counts and 0.0 for each number, is what crate `point` tests and merges.
 ghost use Rattle.std.specs.Prelude.{◌≡◌, pos as whole};
 ghost use Rattle.laws.specs.Pick.{pick};
-ghost use Rattle.points.specs.Shadow.{shadowOf};
+ghost use Rattle.points.specs.Shadow.{shadow_of};
 ghost use Rattle.point.specs.Handing as P;
-ghost use Rattle.whole_point.specs.Handing.{stored, shadowPoint, exponentialPoint, explicitPoint, said, outcome, finished, merging, besideNumber, mixedNumber, aloneNumber};
+ghost use Rattle.whole_point.specs.Handing.{stored, shadow_point, exponential_point, explicit_point, said, outcome, finished, merging, beside_number, mixed_number, alone_number};
 
 use integers::{Extreme, Total};
 use point::Figures;
@@ -39,7 +39,7 @@ fn shown_sum(on: bool, sum: i64) -> i64
 
 // The point that a series of the exponential kind hands out, by its two switches; never refused.
 pub fn exponential_point(head: exponential_wholes::Head, extremes: bool, sums: bool) -> Point
-    ensures { result ≡ exponentialPoint head extremes sums }
+    ensures { result ≡ exponential_point head extremes sums }
 {
     let c = head.counts;
     let f = Figures::Exponential(c);
@@ -57,7 +57,7 @@ pub fn exponential_point(head: exponential_wholes::Head, extremes: bool, sums: b
 
 // The point that a series of the explicit kind hands out, by its two switches; never refused.
 pub fn explicit_point(head: explicit_wholes::Head, extremes: bool, sums: bool) -> Point
-    ensures { result ≡ explicitPoint head extremes sums }
+    ensures { result ≡ explicit_point head extremes sums }
 {
     let f = Figures::Explicit(head.count);
     let low = integers::shown(extremes, head.count, head.min);
@@ -75,7 +75,7 @@ pub fn explicit_point(head: explicit_wholes::Head, extremes: bool, sums: bool) -
 // ---- the shadow
 
 fn shadow_extreme(e: Extreme) -> floats::Extreme
-    ensures { result ≡ shadowOf e }
+    ensures { result ≡ shadow_of e }
 {
     match e {
         Extreme::None => floats::Extreme::None,
@@ -85,7 +85,7 @@ fn shadow_extreme(e: Extreme) -> floats::Extreme
 
 // The f64 point with the same counts, which shows 0.0 for each number that is shown.
 pub fn shadow_of(p: Point) -> point::Point
-    ensures { result ≡ shadowPoint p }
+    ensures { result ≡ shadow_point p }
 {
     let f = p.figures;
     let min = p.min;
@@ -170,7 +170,7 @@ pub fn merge(
 
 // The number of an i64 point beside an f64 point, of that of its shadow: 1 and 8 come first, else it is 11.
 pub fn beside(no: u8) -> u8
-    ensures { result ≡ besideNumber no }
+    ensures { result ≡ beside_number no }
 {
     if no == 1 {
         return 1;
@@ -193,7 +193,7 @@ pub fn mixed_number(
     bpos: &[u64],
     bneg: &[u64],
 ) -> u8
-    ensures { result ≡ mixedNumber size (stored a abounds.entry apos.entry aneg.entry)
+    ensures { result ≡ mixed_number size (stored a abounds.entry apos.entry aneg.entry)
         (P.stored b bbounds.entry bpos.entry bneg.entry) }
 {
     let x = shadow_of(a);
@@ -204,7 +204,7 @@ pub fn mixed_number(
 // The number with which an i64 point is refused where only f64 points are taken, in a card or a sheet: 8 where it disagrees with itself under
 // max_size 160 and the greatest scale, else 11.
 pub fn alone_number(p: Point, bounds: &[f64], pos: &[u64], neg: &[u64]) -> u8
-    ensures { result ≡ aloneNumber (stored p bounds.entry pos.entry neg.entry) }
+    ensures { result ≡ alone_number (stored p bounds.entry pos.entry neg.entry) }
 {
     let x = shadow_of(p);
     if point::agrees_alone(x, bounds, pos, neg) {

@@ -8,7 +8,7 @@ use lib.Ieee.{Float}
 use Rattle.laws.proofs.Bools.{pick_true, pick-false}
 use Rattle.lines.specs.Written.{decimal}
 use Rattle.tally.specs.Sets.{Set}
-use Rattle.sets.specs.Rows.{setOf}
+use Rattle.sets.specs.Rows.{set_of}
 use Rattle.exponential.specs.declared.Counts.{Counts}
 use Rattle.whole_point.specs.Handing.{Stored}
 use Rattle.point.specs.declared.Figures.{Figures}
@@ -20,21 +20,21 @@ use Rattle.whole_listing.specs.declared.Entry.{Entry}
 use Rattle.whole_listing.specs.declared.Found.{Found}
 use Rattle.whole_listing.specs.declared.Found.TheVariants.{NoPoint, Is}
 use Rattle.printing.specs.declared.Form.TheVariants.{Point}
-use Rattle.printing.specs.Fields.{line, setField}
+use Rattle.printing.specs.Fields.{line, set_field}
 use Rattle.printing.specs.Printed as F
 use Rattle.printing.specs.Printed.{letter}
-use Rattle.whole_printing.specs.Printed.{exponentialFields, explicitFields, figuresFields, pointLine, foundLine, foundNext, found, line_at, next_at}
+use Rattle.whole_printing.specs.Printed.{exponential_fields, explicit_fields, figures_fields, point_line, found_line, found_next, found, line_at, next_at}
 
 -- ---- by kind
 
 module _ (s : Set) (x : Stored) where
-  pub exponential-line : (c : Counts) → x.point.figures ≡ Exponential c → line ((112 ∷ []) ∷ setField s ∷ decimal c.count ∷ decimal c.zeros ∷ exponentialFields x.point x.pos x.neg) ≡ pointLine s x
-  unfolding pointLine
-  exponential-line c p = ap (λ (f : Figures). line ((letter f ∷ []) ∷ setField s ∷ figuresFields f x)) (sym p)
+  pub exponential-line : (c : Counts) → x.point.figures ≡ Exponential c → line ((112 ∷ []) ∷ set_field s ∷ decimal c.count ∷ decimal c.zeros ∷ exponential_fields x.point x.pos x.neg) ≡ point_line s x
+  unfolding point_line
+  exponential-line c p = ap (λ (f : Figures). line ((letter f ∷ []) ∷ set_field s ∷ figures_fields f x)) (sym p)
 
-  pub explicit-line : (n : ℕ) → x.point.figures ≡ Explicit n → line ((113 ∷ []) ∷ setField s ∷ decimal n ∷ explicitFields x.point x.pos x.bounds) ≡ pointLine s x
-  unfolding pointLine
-  explicit-line n p = ap (λ (f : Figures). line ((letter f ∷ []) ∷ setField s ∷ figuresFields f x)) (sym p)
+  pub explicit-line : (n : ℕ) → x.point.figures ≡ Explicit n → line ((113 ∷ []) ∷ set_field s ∷ decimal n ∷ explicit_fields x.point x.pos x.bounds) ≡ point_line s x
+  unfolding point_line
+  explicit-line n p = ap (λ (f : Figures). line ((letter f ∷ []) ∷ set_field s ∷ figures_fields f x)) (sym p)
 
 -- ---- by what is found
 
@@ -46,19 +46,19 @@ module _ (at : Cursor) (o : Output) (bounds : List Float) where
   -- by `printing`
   pub none_found : found at o ≡ NoPoint → Prints (F.line_at Point at o bounds) (F.next_at at o)
   unfolding line_at next_at
-  none_found p = (ap (λ (f : Found). foundLine at f o bounds) (sym p), ap (λ (f : Found). foundNext at f o) (sym p))
+  none_found p = (ap (λ (f : Found). found_line at f o bounds) (sym p), ap (λ (f : Found). found_next at f o) (sym p))
 
   module _ (e : Entry) (p : found at o ≡ Is e) where
     pub no-set : length o.sets ≤ at.place → Prints [] at
     unfolding line_at next_at
     no-set h = (
-      sym (ap (λ (f : Found). foundLine at f o bounds) p ∙ pick-false _ _ _ (le-ltb at.place (length o.sets) h)),
-      sym (ap (λ (f : Found). foundNext at f o) p ∙ pick-false _ _ _ (le-ltb at.place (length o.sets) h)),
+      sym (ap (λ (f : Found). found_line at f o bounds) p ∙ pick-false _ _ _ (le-ltb at.place (length o.sets) h)),
+      sym (ap (λ (f : Found). found_next at f o) p ∙ pick-false _ _ _ (le-ltb at.place (length o.sets) h)),
     )
 
-    pub point-found : at.place < length o.sets → Prints (pointLine (take 8 (setOf (get_or o.sets at.place []))) (stored_at at e bounds o)) e.next
+    pub point-found : at.place < length o.sets → Prints (point_line (take 8 (set_of (get_or o.sets at.place []))) (stored_at at e bounds o)) e.next
     unfolding line_at next_at
     point-found h = (
-      sym (ap (λ (f : Found). foundLine at f o bounds) p ∙ pick_true _ _ _ (lt-ltb at.place (length o.sets) h)),
-      sym (ap (λ (f : Found). foundNext at f o) p ∙ pick_true _ _ _ (lt-ltb at.place (length o.sets) h)),
+      sym (ap (λ (f : Found). found_line at f o bounds) p ∙ pick_true _ _ _ (lt-ltb at.place (length o.sets) h)),
+      sym (ap (λ (f : Found). found_next at f o) p ∙ pick_true _ _ _ (lt-ltb at.place (length o.sets) h)),
     )

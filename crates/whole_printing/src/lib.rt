@@ -5,12 +5,12 @@
 ghost use Rattle.std.specs.Prelude.{◌≡◌, true, false, [], ◌∷◌, take};
 ghost use Rattle.lines.specs.Gathered.{waiting, ◌behind◌};
 ghost use Rattle.lines.specs.Written.{signed};
-ghost use Rattle.sets.specs.Rows.{setOf};
-ghost use Rattle.whole_point.specs.Handing.{storedIn};
-ghost use Rattle.listing.specs.Listed.{output as listedIn, rowAt, boundsAt};
+ghost use Rattle.sets.specs.Rows.{set_of};
+ghost use Rattle.whole_point.specs.Handing.{stored_in};
+ghost use Rattle.listing.specs.Listed.{output as listed_in, row_at, bounds_at};
 ghost use Rattle.printing.specs.Fields.{each};
-ghost use Rattle.whole_printing.specs.Printed.{extremeField, heldFields, exponentialFields, explicitFields, pointLine};
-ghost use Rattle.whole_printing.specs.Printed.{line_at, next_at, collectionLines};
+ghost use Rattle.whole_printing.specs.Printed.{extreme_field, held_fields, exponential_fields, explicit_fields, point_line};
+ghost use Rattle.whole_printing.specs.Printed.{line_at, next_at, collection_lines};
 
 use integers::Extreme;
 use lines::{Block, output};
@@ -30,7 +30,7 @@ fn integer(text: &mut Block, n: usize, x: i64) -> usize
 
 // An extreme behind a space, `-` where it isn't kept.
 fn extreme(text: &mut Block, n: usize, x: Extreme) -> usize
-    ensures { waiting result text.exit ≡ 32 ∷ extremeField x behind waiting n text.entry }
+    ensures { waiting result text.exit ≡ 32 ∷ extreme_field x behind waiting n text.entry }
 {
     match x {
         Extreme::None => output::bytes(text, n, b" -"),
@@ -39,7 +39,7 @@ fn extreme(text: &mut Block, n: usize, x: Extreme) -> usize
 }
 
 fn held(text: &mut Block, n: usize, p: Point) -> usize
-    ensures { waiting result text.exit ≡ each 32 (heldFields p []) behind waiting n text.entry }
+    ensures { waiting result text.exit ≡ each 32 (held_fields p []) behind waiting n text.entry }
 {
     let min = p.min;
     let max = p.max;
@@ -51,7 +51,7 @@ fn held(text: &mut Block, n: usize, p: Point) -> usize
 // ---- points: scale and offsets are the shadow's, whose figures are the point's
 
 fn exponential(text: &mut Block, n: usize, p: Point, pos: &[u64], neg: &[u64]) -> usize
-    ensures { waiting result text.exit ≡ each 32 (exponentialFields p pos.now neg.now) behind waiting n text.entry }
+    ensures { waiting result text.exit ≡ each 32 (exponential_fields p pos.now neg.now) behind waiting n text.entry }
 {
     let q = whole_point::shadow_of(p);
     let a = printing::integer(text, n, point::signed::scale(q));
@@ -61,7 +61,7 @@ fn exponential(text: &mut Block, n: usize, p: Point, pos: &[u64], neg: &[u64]) -
 }
 
 fn explicit(text: &mut Block, n: usize, p: Point, buckets: &[u64], bounds: &[f64]) -> usize
-    ensures { waiting result text.exit ≡ each 32 (explicitFields p buckets.now bounds.now) behind waiting n text.entry }
+    ensures { waiting result text.exit ≡ each 32 (explicit_fields p buckets.now bounds.now) behind waiting n text.entry }
 {
     let a = held(text, n, p);
     let b = printing::dash(text, a, buckets.len());
@@ -81,8 +81,8 @@ fn point_line<'a>(
     neg: &'a [u64],
     bounds: &[f64],
 ) -> usize
-    ensures { waiting result text.exit ≡ pointLine (take 8 (setOf row)) (storedIn e.point (boundsAt e.bounds bounds.now)
-        (rowAt at e.next false pos.now neg.now) (rowAt at e.next true pos.now neg.now))
+    ensures { waiting result text.exit ≡ point_line (take 8 (set_of row)) (stored_in e.point (bounds_at e.bounds bounds.now)
+        (row_at at e.next false pos.now neg.now) (row_at at e.next true pos.now neg.now))
         behind waiting n text.entry }
 {
     let p = e.point;
@@ -121,9 +121,9 @@ pub fn point<'a>(
     neg: &'a [u64],
     bounds: &[f64],
 ) -> Printed
-    ensures text_value { waiting result.n text.exit ≡ line_at at (listedIn sets.entry words.entry pos.entry neg.entry) bounds.now
+    ensures text_value { waiting result.n text.exit ≡ line_at at (listed_in sets.entry words.entry pos.entry neg.entry) bounds.now
         behind waiting n text.entry }
-    ensures at_value { result.at ≡ next_at at (listedIn sets.entry words.entry pos.entry neg.entry) }
+    ensures at_value { result.at ≡ next_at at (listed_in sets.entry words.entry pos.entry neg.entry) }
 {
     let k = at.place;
     let Found::Is(e) = whole_listing::read::point_at(at, words, pos, neg) else {
@@ -162,7 +162,7 @@ pub fn collection<'a>(
     neg: &'a [u64],
     bounds: &[f64],
 ) -> usize
-    ensures { waiting result text.exit ≡ collectionLines start time many (listedIn sets.entry words.entry pos.entry neg.entry)
+    ensures { waiting result text.exit ≡ collection_lines start time many (listed_in sets.entry words.entry pos.entry neg.entry)
         bounds.now behind waiting n text.entry }
 {
     let m = printing::head(text, n, start, time, many as u64);

@@ -6,10 +6,10 @@ use Rattle.directory.specs.declared.Directory.{Directory}
 use Rattle.directory.specs.View.{stores}
 use Rattle.exponential_slots.specs.Cells.{Cells, cells}
 use Rattle.value_map.specs.Calls.{Held, held}
-use Rattle.value_map.specs.Exponential.{exponentialStore}
+use Rattle.value_map.specs.Exponential.{exponential_store}
 use Rattle.many.specs.Many.{Many}
 use Rattle.batches.specs.Agreed.{AgreedBy}
-use Rattle.batches.specs.Batch.{measuredAllBy}
+use Rattle.batches.specs.Batch.{measured_all_by}
 use Rattle.batch_words.proofs.Handed.{handed}
 use Rattle.batch_agreed_exports.proofs.agreed_measure_all_by.Statement.{statement}
 use Rattle.batch_agreed_exports.proofs.agreed_measure_all_by.Tie as tie
@@ -20,7 +20,7 @@ measure-all-by-agreed-requires c κs =
     let s = t.before.before.before.before.before.before in
     let a = s.args in
     let h : Directory → Held Cells = λ d. held d (stores a.sets a.entries a.order) (cells a.figures a.extremes a.pos a.neg) in
-    subst (λ d. AgreedBy (exponentialStore a.size a.top) (true, true) a.limit (h d) a.handle) (sym t.state-of.ensures) s.requires
+    subst (λ d. AgreedBy (exponential_store a.size a.top) (true, true) a.limit (h d) a.handle) (sym t.state-of.ensures) s.requires
 
 returns : tie.Need-returns
 returns c =
@@ -30,7 +30,7 @@ returns c =
     let a = t.before.before.before.before.before.before.args in
     let s = stores a.sets a.entries a.order in
     let x = cells a.figures a.extremes a.pos a.neg in
-    let by : Directory → Many (Held Cells) = λ d. measuredAllBy (exponentialStore a.size a.top) a.limit (held d s x) a.values.now a.handle in
+    let by : Directory → Many (Held Cells) = λ d. measured_all_by (exponential_store a.size a.top) a.limit (held d s x) a.values.now a.handle in
     let e = m.measure-all-by-agreed.ensures ∙ ap by t.state-of.ensures in
     handed a.taken.now a.state.now _ _ m.measure-all-by-agreed.result _ _ e w.words-of.ensures
 

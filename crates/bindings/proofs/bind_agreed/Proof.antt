@@ -9,11 +9,11 @@ use borrow.Author.Tests.{leb-true, not-true, not-false}
 use native.Mathlib.Omega.{arith}
 use lib.Dec.{leb}
 use lib.ListN.{length}
-use Rattle.sets.specs.Sorted.{filterOf, mostAttributes}
+use Rattle.sets.specs.Sorted.{filter_of, most_attributes}
 use Rattle.directory.specs.View.{Stores}
 use Rattle.directory.proofs.Refusals.{suffices, within}
-use Rattle.bindings.specs.Calls.{boundIn}
-use Rattle.bindings.proofs.Refusals.{bound-5, bound-on}
+use Rattle.bindings.specs.Calls.{bound_in}
+use Rattle.bindings.proofs.Refusals.{bound_5, bound-on}
 use Rattle.bindings.proofs.bind_agreed.Statement.{statement}
 use Rattle.bindings.proofs.bind_agreed.Tie as tie
 
@@ -21,18 +21,18 @@ abbrev stores : tie.Start → Stores
 stores s = record { sets = s.args.sets.now; entries = s.args.entries.now; order = s.args.order.now }
 
 abbrev filter : tie.Start → Option (List ℕ)
-filter s = filterOf s.args.present s.args.filter.now
+filter s = filter_of s.args.present s.args.filter.now
 
 abbrev at : tie.After-few → tie.Start
 at f = f.before.before.before
 
-short : (e : tie.Else1) → leb (length (at e.before).args.attrs.now) mostAttributes ≡ true
+short : (e : tie.Else1) → leb (length (at e.before).args.attrs.now) most_attributes ≡ true
 short e = sym e.before.few.ensures ∙ not-false _ e.if1.false
 
 returns : tie.Need-returns
 returns c =
     let s = at c.before in
-    sym (bound-5 s.args.limit (filter s) s.args.d (stores s) s.args.attrs.now s.pre.lent (sym c.before.few.ensures ∙ not-true _ c.if1.true))
+    sym (bound_5 s.args.limit (filter s) s.args.d (stores s) s.args.attrs.now s.pre.lent (sym c.before.few.ensures ∙ not-true _ c.if1.true))
 
 sort-into-requires : tie.Need-sort-into-requires
 sort-into-requires c κs = leb-true _ _ (short c.before)
@@ -51,7 +51,7 @@ returns-2 c =
     let e = r.before.before in
     let s = at e.before in
     b.bind-right.ensures
-    ∙ ap (λ (l : List ℕ). boundIn s.args.limit s.args.d (stores s) l) r.sort-into.ensures.0
+    ∙ ap (λ (l : List ℕ). bound_in s.args.limit s.args.d (stores s) l) r.sort-into.ensures.0
     ∙ sym (bound-on s.args.limit (filter s) s.args.d (stores s) s.args.attrs.now s.pre.lent (short e) s.pre.accepted)
 
 pub bind-agreed-spec : {M : Type 1} → statement M

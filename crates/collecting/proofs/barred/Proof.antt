@@ -4,9 +4,9 @@ use mathlib.Core.Path.{◌≡◌, sym, ◌∙◌}
 use mathlib.Core.Bool.{true}
 use borrow.Author.Tests.{not-true, not-false}
 use Rattle.directory.specs.View.{Stores, stores}
-use Rattle.directory.specs.Calls.{storesSuffice}
+use Rattle.directory.specs.Calls.{stores_suffice}
 use Rattle.directory.proofs.Refusals.{suffices}
-use Rattle.collecting.proofs.Numbers.{bar-stores, bar-cells, bar-unset, bar-limit, bar-directory, bar-none}
+use Rattle.collecting.proofs.Numbers.{bar-stores, bar-cells, bar-unset, bar-limit, bar_directory, bar-none}
 use Rattle.collecting.proofs.barred.Statement.{statement}
 use Rattle.collecting.proofs.barred.Tie as tie
 
@@ -16,7 +16,7 @@ lent s = stores s.args.sets s.args.entries s.args.order
 abbrev at : tie.Else2 → tie.Start
 at e = e.before.before.before.before
 
-room : (e : tie.Else2) → storesSuffice (at e).args.limit (lent (at e)) ≡ true
+room : (e : tie.Else2) → stores_suffice (at e).args.limit (lent (at e)) ≡ true
 room e = sym e.before.stores-suffice.ensures ∙ not-false _ e.if2.false
 
 cells : (e : tie.Else3) → (at e.before).args.cells ≡ true
@@ -62,7 +62,7 @@ returns-6 c =
     let f = g.before.before in
     let e = f.before in
     let s = at e in
-    sym (bar-directory s.args.cells s.args.unset s.args.limit s.args.d (lent s) (room e) (cells f) g.before.if4.false g.if5.false (sym c.before.agrees.ensures ∙ not-true _ c.if6.true))
+    sym (bar_directory s.args.cells s.args.unset s.args.limit s.args.d (lent s) (room e) (cells f) g.before.if4.false g.if5.false (sym c.before.agrees.ensures ∙ not-true _ c.if6.true))
 
 returns-7 : tie.Need-returns-7
 returns-7 c =

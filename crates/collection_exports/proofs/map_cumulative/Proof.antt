@@ -6,8 +6,8 @@ use Rattle.directory.specs.View.{stores}
 use Rattle.exponential_slots.specs.Cells.{Cells, cells}
 use Rattle.value_map.specs.Calls.{held}
 use Rattle.listing.specs.Listed.{output}
-use Rattle.collecting.specs.Collected.{Collected, cumulativeCollected}
-use Rattle.exponential_collection.specs.Points.{exponentialLister}
+use Rattle.collecting.specs.Collected.{Collected, cumulative_collected}
+use Rattle.exponential_collection.specs.Points.{exponential_lister}
 use Rattle.collection_exports.proofs.Handed.{listed}
 use borrow.Author.Rules.{rules}
 use Rattle.collection_exports.proofs.map_cumulative.Statement.{statement}
@@ -21,7 +21,7 @@ returns c =
     let s = stores a.sets a.entries a.order in
     let x = cells a.figures a.extremes a.pos a.neg in
     let o = output a.out-sets a.out-words a.out-pos a.out-neg in
-    let by : Directory → Collected Cells = λ d. cumulativeCollected (exponentialLister a.size a.top) (true, true) a.limit (held d s x) o in
+    let by : Directory → Collected Cells = λ d. cumulative_collected (exponential_lister a.size a.top) (true, true) a.limit (held d s x) o in
     let e = m.cumulative.ensures ∙ ap by t.state-of.ensures in
     listed a.points.now (held t.state-of.result s x) _ m.cumulative.result _ c.number_of.result _ e
     c.number_of.ensures c.before.points-of.ensures

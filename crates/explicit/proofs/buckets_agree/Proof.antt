@@ -8,7 +8,7 @@ use lib.Dec.{eqb}
 use Rattle.laws.specs.Counting.{total}
 use Rattle.laws.proofs.Bools.{not-both}
 use Rattle.exponential.proofs.Facts.{not-true, not-false}
-use Rattle.points.specs.Explicit.{boundsPass}
+use Rattle.points.specs.Explicit.{bounds_pass}
 use Rattle.explicit.proofs.Cases.{refuse, too_short, no-buckets, by_total, count-few}
 use Rattle.explicit.proofs.buckets_agree.Statement.{statement}
 use Rattle.explicit.proofs.buckets_agree.Tie as tie
@@ -18,7 +18,7 @@ returns c =
     let a = c.before.before.before.before.args in
     refuse a.bounds.now a.count a.counts.now (λ k. not-both _ (c.before.bounds-pass.ensures ∙ k.passes) (not-true _ c.if1.true))
 
-passed : (e : tie.Else1) → boundsPass e.before.before.before.before.args.bounds.now ≡ true
+passed : (e : tie.Else1) → bounds_pass e.before.before.before.before.args.bounds.now ≡ true
 passed e = sym e.before.bounds-pass.ensures ∙ not-false _ e.if1.false
 
 returns-2 : tie.Need-returns-2

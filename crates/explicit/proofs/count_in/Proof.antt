@@ -2,7 +2,7 @@ use Prim.Native.Nat.{◌<◌}
 use native.Mathlib.Omega.{arith}
 use lib.ListN.{length}
 use borrow.Author.Rules.{rules}
-use Rattle.explicit.proofs.Writes.{no-bucket, bucket-in, one_more, one-fits}
+use Rattle.explicit.proofs.Writes.{no-bucket, bucket_in, one_more, one-fits}
 use Rattle.explicit.proofs.count_in.Statement.{statement}
 use Rattle.explicit.proofs.count_in.Tie as tie
 
@@ -15,7 +15,7 @@ inside : (b : tie.After-bucket-of) → b.bucket-of.result < length b.before.befo
 inside b =
     let e = b.before in
     let st = e.before.before.before in
-    omega (arith, b.bucket-of.ensures, st.requires.0, bucket-in st.args.bounds.now st.args.counts.now st.args.v st.requires.0 (omega (arith, e.if1.false)))
+    omega (arith, b.bucket-of.ensures, st.requires.0, bucket_in st.args.bounds.now st.args.counts.now st.args.v st.requires.0 (omega (arith, e.if1.false)))
 
 mul-counts : tie.Need-overflow-mul-counts
 mul-counts c = omega (arith, inside c)

@@ -1,7 +1,7 @@
 use mathlib.Core.Path.{sym, ◌∙◌}
 use native.Mathlib.Omega.{arith}
 use borrow.Author.Rules.{rules}
-use Rattle.explicit.proofs.Writes.{Ready, ready, total-below, refused-law, accepted-law}
+use Rattle.explicit.proofs.Writes.{Ready, ready, total-below, refused_law, accepted_law}
 use Rattle.explicit.proofs.record.Statement.{statement}
 use Rattle.explicit.proofs.record.Tie as tie
 
@@ -14,7 +14,7 @@ good e = let a = (start e).args in ready a.bounds.now a.head a.counts.now a.v (s
 returns : tie.Need-returns
 returns c =
     let a = c.before.before.before.before.before.args in
-    refused-law a.bounds.now a.head a.counts.now a.v c.before.refusal.result c.before.refusal.ensures c.if1.true
+    refused_law a.bounds.now a.head a.counts.now a.v c.before.refusal.result c.before.refusal.ensures c.if1.true
 
 count-in-requires : tie.Need-count-in-requires
 count-in-requires c κs =
@@ -31,7 +31,7 @@ returns-2 c =
     let d = g.before.before.before.before in
     let e = d.before.before in
     let a = (start e).args in
-    accepted-law a.bounds.now a.head a.counts.now a.v g.before.lesser.result g.greater.result d.count-in.new.1.0 (sym e.before.refusal.ensures ∙ e.if1.false) d.count-in.ensures g.before.lesser.ensures g.greater.ensures
+    accepted_law a.bounds.now a.head a.counts.now a.v g.before.lesser.result g.greater.result d.count-in.new.1.0 (sym e.before.refusal.ensures ∙ e.if1.false) d.count-in.ensures g.before.lesser.ensures g.greater.ensures
 
 pub record-spec : {M : Type 1} → statement M
 record-spec = tie.close (tie.spec (λ c κs. search rules) (λ c. search rules) returns count-in-requires (λ c κs. search rules) (λ c κs. search rules) add-t14 (λ c. search rules) returns-2)

@@ -4,13 +4,13 @@ use native.Mathlib.Omega.{arith}
 use lib.ListN.{take}
 use lib.Seq.{take_all}
 use borrow.Author.Rules.{rules}
-use Rattle.points.specs.Explicit.{sameBounds}
+use Rattle.points.specs.Explicit.{same_bounds}
 use Rattle.explicit.proofs.Turns.{same_turn, same-other, same_none}
 use Rattle.explicit.proofs.same_bounds.Statement.{statement}
 use Rattle.explicit.proofs.same_bounds.Tie as tie
 
 abbrev invariant-loop : tie.invariant-loop
-invariant-loop a b n ok₀ i₀ ok i = (i ≤ n) × (ok ≡ sameBounds (take i a) (take i b))
+invariant-loop a b n ok₀ i₀ ok i = (i ≤ n) × (ok ≡ same_bounds (take i a) (take i b))
 
 abbrev decreases-loop : tie.decreases-loop
 decreases-loop a b n ok₀ i₀ ok i = n - i
@@ -34,7 +34,7 @@ returns-2 c =
     let l = c.before in
     let e = l.before in
     let a = e.before.before.before.args in
-    l.loop.invariant.1 ∙ (λ j. sameBounds (take_all l.loop.i a.a.now c.loop-test.false j) (take_all l.loop.i a.b.now (omega (arith, e.if1.false, c.loop-test.false)) j))
+    l.loop.invariant.1 ∙ (λ j. same_bounds (take_all l.loop.i a.a.now c.loop-test.false j) (take_all l.loop.i a.b.now (omega (arith, e.if1.false, c.loop-test.false)) j))
 
 pub same-bounds-spec : {M : Type 1} → statement M
 same-bounds-spec =

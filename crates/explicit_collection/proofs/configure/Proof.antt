@@ -1,9 +1,9 @@
 -- `explicit_collection::configure` meets its contract. Assumes nothing.
 use borrow.Author.Rules.{rules}
-use Rattle.sets.specs.Sorted.{filterOf}
+use Rattle.sets.specs.Sorted.{filter_of}
 use Rattle.directory.specs.View.{stores}
 use Rattle.explicit_slots.specs.Cells.{cells}
-use Rattle.value_map.specs.Explicit.{explicitStore}
+use Rattle.value_map.specs.Explicit.{explicit_store}
 use Rattle.collecting.proofs.Configures.{configured-is}
 use Rattle.explicit_collection.specs.Configured.{said, configured}
 use Rattle.explicit_collection.proofs.configure.Statement.{statement}
@@ -14,8 +14,8 @@ unfolding configured
 returns c =
     let b = c.before.before in
     let a = b.before.before.before.before.before.before.before.args in
-    configured-is (explicitStore a.bounds.now) (λ d. record { settings = record { extremes = a.show; sums = a.sums; limit = a.limit }; dir = d }) a.limit
-    (filterOf a.present a.filter.now) (stores a.sets a.entries a.order) (cells a.totals a.extremes a.counts) b.start.result _ (said c.set-up.result)
+    configured-is (explicit_store a.bounds.now) (λ d. record { settings = record { extremes = a.show; sums = a.sums; limit = a.limit }; dir = d }) a.limit
+    (filter_of a.present a.filter.now) (stores a.sets a.entries a.order) (cells a.totals a.extremes a.counts) b.start.result _ (said c.set-up.result)
     b.start.ensures c.set-up.ensures
 
 pub configure-spec : {M : Type 1} → statement M

@@ -6,7 +6,7 @@ use Rattle.directory.specs.declared.Directory.{Directory}
 use Rattle.directory.specs.View.{stores}
 use Rattle.explicit_slots.specs.Cells.{Cells, cells}
 use Rattle.value_map.specs.Calls.{Outcome, held, measured}
-use Rattle.value_map.specs.Explicit.{explicitStore}
+use Rattle.value_map.specs.Explicit.{explicit_store}
 use Rattle.map_words.proofs.Handed.{handed}
 use borrow.Author.Rules.{rules}
 use Rattle.explicit_exports.proofs.explicit_measure.Statement.{statement}
@@ -19,7 +19,7 @@ returns c =
     let a = t.before.before.before.before.before.before.args in
     let s = stores a.sets a.entries a.order in
     let x = cells a.totals a.extremes a.counts in
-    let by : Directory → Outcome Cells = λ d. measured (explicitStore a.bounds.now) a.limit none (held d s x) a.v (given a.attrs.now) in
+    let by : Directory → Outcome Cells = λ d. measured (explicit_store a.bounds.now) a.limit none (held d s x) a.v (given a.attrs.now) in
     let e = m.measure.ensures ∙ ap by t.state-of.ensures in
     handed a.state.now _ _ m.measure.result _ c.number_of.result _ e c.number_of.ensures c.before.words-of.ensures
 

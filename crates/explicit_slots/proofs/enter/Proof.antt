@@ -2,7 +2,7 @@
 use mathlib.Core.Path.{sym, ◌∙◌}
 use borrow.Author.Tests.{not-true, not-false}
 use borrow.Author.Rules.{rules}
-use Rattle.explicit_slots.proofs.Enters.{enters-held, enters-bad, enters-first}
+use Rattle.explicit_slots.proofs.Enters.{enters-held, enters_bad, enters-first}
 use Rattle.explicit_slots.proofs.enter.Statement.{statement}
 use Rattle.explicit_slots.proofs.enter.Tie as tie
 
@@ -18,7 +18,7 @@ returns-2 c =
     let b = c.before in
     let e = b.before in
     let a = e.before.before.before.args in
-    sym (enters-bad a.bounds.now a.updated a.head a.counts.now a.v e.if1.false (sym b.bounds-pass.ensures ∙ not-true _ c.if2.true))
+    sym (enters_bad a.bounds.now a.updated a.head a.counts.now a.v e.if1.false (sym b.bounds-pass.ensures ∙ not-true _ c.if2.true))
 
 returns-3 : tie.Need-returns-3
 returns-3 c =

@@ -2,7 +2,7 @@
 use mathlib.Core.Path.{ap, ◌∙◌}
 use borrow.Author.Rules.{rules}
 use Rattle.explicit.specs.Series.{said}
-use Rattle.explicit_slots.proofs.Enters.{first-never, first-law}
+use Rattle.explicit_slots.proofs.Enters.{first-never, first_law}
 use Rattle.explicit_slots.proofs.first.Statement.{statement}
 use Rattle.explicit_slots.proofs.first.Tie as tie
 
@@ -21,7 +21,7 @@ returns-2 c =
     let s = f.before.before.before.before in
     let a = s.args in
     r.«record».ensures
-    ∙ first-law a.bounds.now a.counts.now s.requires (said f.fresh.result) f.fresh.new.1.0 f.fresh.ensures _ a.v (ap said k.before.empty2.given.1)
+    ∙ first_law a.bounds.now a.counts.now s.requires (said f.fresh.result) f.fresh.new.1.0 f.fresh.ensures _ a.v (ap said k.before.empty2.given.1)
 
 pub first_spec : {M : Type 1} → statement M
 first_spec =

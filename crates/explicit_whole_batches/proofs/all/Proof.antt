@@ -10,26 +10,26 @@ use lib.ListN.{length, get_or, drop}
 use lib.IntN.{ℤ, pos}
 use borrow.Author.Rules.{rules}
 use Rattle.integers.proofs.Range as Range
-use Rattle.points.specs.Explicit.{bucketCount}
+use Rattle.points.specs.Explicit.{bucket_count}
 use Rattle.kinds.specs.Wholes.{wholes}
 use Rattle.tally.specs.Sets.{Set}
-use Rattle.sets.specs.Sorted.{given, filterOf}
+use Rattle.sets.specs.Sorted.{given, filter_of}
 use Rattle.seats.proofs.Bars.{row-seated}
 use Rattle.directory.specs.View.{stores}
 use Rattle.explicit_whole_slots.specs.Cells.{Cells, cells}
 use Rattle.value_map.specs.Calls.{Held, held}
-use Rattle.whole_map.specs.Explicit.{cellsSuffice}
+use Rattle.whole_map.specs.Explicit.{cells_suffice}
 use Rattle.whole_map.proofs.ExplicitOwes.{owed}
-use Rattle.batches.proofs.Ends.{cut-first, sure-for, for-none, for-takes, for-finite, for-fits, for-ends}
-use Rattle.explicit_batches.proofs.Suffices.{slots-suffice}
+use Rattle.batches.proofs.Ends.{cut-first, sure_for, for-none, for-takes, for-finite, for-fits, for-ends}
+use Rattle.explicit_batches.proofs.Suffices.{slots_suffice}
 use Rattle.explicit_whole_batches.proofs.all.Statement.{statement}
 use Rattle.explicit_whole_batches.proofs.all.Tie as tie
 
-abbrev lentMap : tie.Start → Held Cells
-lentMap s = let a = s.args in held a.d (stores a.sets a.entries a.order) (cells a.totals a.extremes a.counts)
+abbrev lent_map : tie.Start → Held Cells
+lent_map s = let a = s.args in held a.d (stores a.sets a.entries a.order) (cells a.totals a.extremes a.counts)
 
 abbrev filter : tie.Start → Option (List ℕ)
-filter s = filterOf s.args.present s.args.filter.now
+filter s = filter_of s.args.present s.args.filter.now
 
 abbrev attributes : tie.Start → Set
 attributes s = given s.args.attrs.now
@@ -44,7 +44,7 @@ returns : tie.Need-returns
 returns c =
     let s = c.before.before.before.before.before.before in
     let a = s.args in
-    for-none (owed a.bounds.now a.sums) true a.limit (filter s) (lentMap s) (attributes s) (list s) c.if1.true
+    for-none (owed a.bounds.now a.sums) true a.limit (filter s) (lent_map s) (attributes s) (list s) c.if1.true
 
 -- ---- before the seat
 
@@ -78,11 +78,11 @@ at t = begun (else (told t))
 first_taken : (t : tie.After-takes) → t.takes.result ≡ wholes.finite (first (at t))
 first_taken t = t.takes.ensures ∙ ap wholes.finite (Range.held (first (at t)) (record { sfits = t.before.takes-arg.given }))
 
-suffices : (l : tie.After-slots-if) → let s = begun (else l) in leb (s.args.limit + 2) l.slots-if.result ≡ cellsSuffice s.args.bounds.now s.args.limit (lentMap s).cells
+suffices : (l : tie.After-slots-if) → let s = begun (else l) in leb (s.args.limit + 2) l.slots-if.result ≡ cells_suffice s.args.bounds.now s.args.limit (lent_map s).cells
 suffices l =
     let s = begun (else l) in
     let a = s.args in
-    slots-suffice (bucketCount a.bounds.now) a.limit (length a.counts.now) (length a.totals.now) (length a.extremes.now) l.before.cells-suffice.result l.slots-if.result (few s)
+    slots_suffice (bucket_count a.bounds.now) a.limit (length a.counts.now) (length a.totals.now) (length a.extremes.now) l.before.cells-suffice.result l.slots-if.result (few s)
     l.before.cells-suffice.ensures l.slots-if.ensures
 
 seat-if-requires : tie.Need-seat-if-requires
@@ -91,7 +91,7 @@ seat-if-requires c κs k =
     let l = told t in
     let s = at t in
     let a = s.args in
-    sure-for (owed a.bounds.now a.sums) true a.limit (lentMap s) l.slots-if.result l.before.before.unset-if.result (suffices l) l.before.before.unset-if.ensures (filter s) (attributes s) (s.pre k)
+    sure_for (owed a.bounds.now a.sums) true a.limit (lent_map s) l.slots-if.result l.before.before.unset-if.result (suffices l) l.before.before.unset-if.ensures (filter s) (attributes s) (s.pre k)
 
 -- ---- at the seat
 
@@ -105,12 +105,12 @@ take-all-requires c κs z =
     let l = told t in
     let s = at t in
     let a = s.args in
-    let k = for-takes (owed a.bounds.now a.sums) true a.limit (filter s) (lentMap s) (attributes s) (lent_of l).all-lent.ensures (first s) (suffices l) (first_taken t) l.before.before.unset-if.ensures q.seat-if.ensures.0 a.known s.pre z in
+    let k = for-takes (owed a.bounds.now a.sums) true a.limit (filter s) (lent_map s) (attributes s) (lent_of l).all-lent.ensures (first s) (suffices l) (first_taken t) l.before.before.unset-if.ensures q.seat-if.ensures.0 a.known s.pre z in
     record {
       room = k.1;
       set = k.0;
       some = some (else l);
-      first = for-finite (owed a.bounds.now a.sums) true a.limit (filter s) (lentMap s) (attributes s) (lent_of l).all-lent.ensures (first s) (suffices l) (first_taken t) l.before.before.unset-if.ensures q.seat-if.ensures.0 z;
+      first = for-finite (owed a.bounds.now a.sums) true a.limit (filter s) (lent_map s) (attributes s) (lent_of l).all-lent.ensures (first s) (suffices l) (first_taken t) l.before.before.unset-if.ensures q.seat-if.ensures.0 z;
       series = k.2;
     }
 
@@ -125,7 +125,7 @@ finish-all-requires c κs k =
     let l = told t in
     let s = at t in
     let a = s.args in
-    for-fits (owed a.bounds.now a.sums) true a.limit (filter s) (lentMap s) (attributes s) (lent_of l).all-lent.ensures (first s) (suffices l) (first_taken t) l.before.before.unset-if.ensures q.seat-if.ensures.0
+    for-fits (owed a.bounds.now a.sums) true a.limit (filter s) (lent_map s) (attributes s) (lent_of l).all-lent.ensures (first s) (suffices l) (first_taken t) l.before.before.unset-if.ensures q.seat-if.ensures.0
     (list s) (drop 1 (list s)) (cut-first (list s) (pos 0) (some (else l))) _ r.take_all.ensures k
 
 returns-2 : tie.Need-returns-2
@@ -137,7 +137,7 @@ returns-2 c =
     let l = told t in
     let s = at t in
     let a = s.args in
-    for-ends (owed a.bounds.now a.sums) true a.limit (filter s) (lentMap s) (attributes s) (lent_of l).all-lent.ensures (first s) (suffices l) (first_taken t) l.before.before.unset-if.ensures q.seat-if.ensures.0
+    for-ends (owed a.bounds.now a.sums) true a.limit (filter s) (lent_map s) (attributes s) (lent_of l).all-lent.ensures (first s) (suffices l) (first_taken t) l.before.before.unset-if.ensures q.seat-if.ensures.0
     (list s) (drop 1 (list s)) (cut-first (list s) (pos 0) (some (else l))) _ r.take_all.ensures (last s) _ (row-seated _ _ _ _ _ q.seat-if.ensures.0 _ q.seat-if.ensures.1) _ f.finish-all.ensures
 
 pub all-spec : {M : Type 1} → statement M

@@ -9,20 +9,20 @@ use lib.ListN.{length, get_or, drop}
 use lib.IntN.{ℤ, pos}
 use borrow.Author.Rules.{rules}
 use Rattle.integers.proofs.Range as Range
-use Rattle.points.specs.Explicit.{bucketCount}
+use Rattle.points.specs.Explicit.{bucket_count}
 use Rattle.kinds.specs.Wholes.{wholes}
 use Rattle.directory.specs.View.{stores}
 use Rattle.explicit_whole_slots.specs.Cells.{Cells, cells}
 use Rattle.value_map.specs.Calls.{Held, held}
-use Rattle.whole_map.specs.Explicit.{cellsSuffice}
+use Rattle.whole_map.specs.Explicit.{cells_suffice}
 use Rattle.whole_map.proofs.ExplicitOwes.{owed}
 use Rattle.batches.proofs.Ends.{cut-first, sure-by, by-none, by-takes, by-finite, by_fits, by-ends}
-use Rattle.explicit_batches.proofs.Suffices.{slots-suffice}
+use Rattle.explicit_batches.proofs.Suffices.{slots_suffice}
 use Rattle.explicit_whole_batches.proofs.all_by.Statement.{statement}
 use Rattle.explicit_whole_batches.proofs.all_by.Tie as tie
 
-abbrev lentMap : tie.Start → Held Cells
-lentMap s = let a = s.args in held a.d (stores a.sets a.entries a.order) (cells a.totals a.extremes a.counts)
+abbrev lent_map : tie.Start → Held Cells
+lent_map s = let a = s.args in held a.d (stores a.sets a.entries a.order) (cells a.totals a.extremes a.counts)
 
 abbrev list : tie.Start → List ℤ
 list s = s.args.values.now
@@ -34,7 +34,7 @@ returns : tie.Need-returns
 returns c =
     let s = c.before.before.before.before.before in
     let a = s.args in
-    by-none (owed a.bounds.now a.sums) true a.limit (lentMap s) a.h (list s) c.if1.true
+    by-none (owed a.bounds.now a.sums) true a.limit (lent_map s) a.h (list s) c.if1.true
 
 -- ---- before the seat
 
@@ -65,11 +65,11 @@ at t = begun (else (told t))
 first_taken : (t : tie.After-takes) → t.takes.result ≡ wholes.finite (first (at t))
 first_taken t = t.takes.ensures ∙ ap wholes.finite (Range.held (first (at t)) (record { sfits = t.before.takes-arg.given }))
 
-suffices : (l : tie.After-slots-if) → let s = begun (else l) in leb (s.args.limit + 2) l.slots-if.result ≡ cellsSuffice s.args.bounds.now s.args.limit (lentMap s).cells
+suffices : (l : tie.After-slots-if) → let s = begun (else l) in leb (s.args.limit + 2) l.slots-if.result ≡ cells_suffice s.args.bounds.now s.args.limit (lent_map s).cells
 suffices l =
     let s = begun (else l) in
     let a = s.args in
-    slots-suffice (bucketCount a.bounds.now) a.limit (length a.counts.now) (length a.totals.now) (length a.extremes.now) l.before.cells-suffice.result l.slots-if.result (few s)
+    slots_suffice (bucket_count a.bounds.now) a.limit (length a.counts.now) (length a.totals.now) (length a.extremes.now) l.before.cells-suffice.result l.slots-if.result (few s)
     l.before.cells-suffice.ensures l.slots-if.ensures
 
 seat-by-if-requires : tie.Need-seat-by-if-requires
@@ -78,7 +78,7 @@ seat-by-if-requires c κs k =
     let l = told t in
     let s = at t in
     let a = s.args in
-    sure-by (owed a.bounds.now a.sums) true a.limit (lentMap s) l.slots-if.result l.before.before.unset-if.result (suffices l) l.before.before.unset-if.ensures a.h (s.pre k)
+    sure-by (owed a.bounds.now a.sums) true a.limit (lent_map s) l.slots-if.result l.before.before.unset-if.result (suffices l) l.before.before.unset-if.ensures a.h (s.pre k)
 
 -- ---- at the seat
 
@@ -92,12 +92,12 @@ take-all-requires c κs z =
     let l = told t in
     let s = at t in
     let a = s.args in
-    let k = by-takes (owed a.bounds.now a.sums) true a.limit (lentMap s) a.h (first s) (suffices l) (first_taken t) l.before.before.unset-if.ensures q.seat-by-if.ensures a.known s.pre z in
+    let k = by-takes (owed a.bounds.now a.sums) true a.limit (lent_map s) a.h (first s) (suffices l) (first_taken t) l.before.before.unset-if.ensures q.seat-by-if.ensures a.known s.pre z in
     record {
       room = k.1;
       set = k.0;
       some = some (else l);
-      first = by-finite (owed a.bounds.now a.sums) true a.limit (lentMap s) a.h (first s) (suffices l) (first_taken t) l.before.before.unset-if.ensures q.seat-by-if.ensures z;
+      first = by-finite (owed a.bounds.now a.sums) true a.limit (lent_map s) a.h (first s) (suffices l) (first_taken t) l.before.before.unset-if.ensures q.seat-by-if.ensures z;
       series = k.2;
     }
 
@@ -112,7 +112,7 @@ finish-all-requires c κs k =
     let l = told t in
     let s = at t in
     let a = s.args in
-    by_fits (owed a.bounds.now a.sums) true a.limit (lentMap s) a.h (first s) (suffices l) (first_taken t) l.before.before.unset-if.ensures q.seat-by-if.ensures
+    by_fits (owed a.bounds.now a.sums) true a.limit (lent_map s) a.h (first s) (suffices l) (first_taken t) l.before.before.unset-if.ensures q.seat-by-if.ensures
     (list s) (drop 1 (list s)) (cut-first (list s) (pos 0) (some (else l))) _ r.take_all.ensures k
 
 returns-2 : tie.Need-returns-2
@@ -124,7 +124,7 @@ returns-2 c =
     let l = told t in
     let s = at t in
     let a = s.args in
-    by-ends (owed a.bounds.now a.sums) true a.limit (lentMap s) a.h (first s) (suffices l) (first_taken t) l.before.before.unset-if.ensures q.seat-by-if.ensures
+    by-ends (owed a.bounds.now a.sums) true a.limit (lent_map s) a.h (first s) (suffices l) (first_taken t) l.before.before.unset-if.ensures q.seat-by-if.ensures
     (list s) (drop 1 (list s)) (cut-first (list s) (pos 0) (some (else l))) _ r.take_all.ensures (last s) _ f.finish-all.ensures
 
 pub all-by-spec : {M : Type 1} → statement M

@@ -4,26 +4,26 @@ use mathlib.Core.List.{[], ◌∷◌}
 use lib.IntN.{ℤ}
 use borrow.Author.Rules.{rules}
 use Rattle.integers.proofs.Range as Range
-use Rattle.sets.specs.Sorted.{given, filterOf}
+use Rattle.sets.specs.Sorted.{given, filter_of}
 use Rattle.directory.specs.View.{stores}
 use Rattle.explicit_whole_slots.specs.Cells.{Cells, cells}
 use Rattle.value_map.specs.Calls.{Held, held}
-use Rattle.whole_map.specs.Explicit.{explicitWholes}
-use Rattle.batches.specs.Batch.{measuredAll}
-use Rattle.batches.proofs.Ends.{one-for}
+use Rattle.whole_map.specs.Explicit.{explicit_wholes}
+use Rattle.batches.specs.Batch.{measured_all}
+use Rattle.batches.proofs.Ends.{one_for}
 use Rattle.explicit_whole_batches.proofs.measure_agreed.Statement.{statement}
 use Rattle.explicit_whole_batches.proofs.measure_agreed.Tie as tie
 
-abbrev lentMap : tie.Start → Held Cells
-lentMap s = let a = s.args in held a.d (stores a.sets a.entries a.order) (cells a.totals a.extremes a.counts)
+abbrev lent_map : tie.Start → Held Cells
+lent_map s = let a = s.args in held a.d (stores a.sets a.entries a.order) (cells a.totals a.extremes a.counts)
 
 returns : tie.Need-returns
 returns c =
     let b = c.before.before.before.before.before.before.before.before.before.before in
     let s = b.before.before.before.before.before.before.before.before.before.before.before.before.before in
     let a = s.args in
-    one-for (explicitWholes a.bounds.now a.sums) a.limit (lentMap s) a.v b.all.result c.single.result c.single.ensures _ _ (filterOf a.present a.filter.now) (given a.attrs.now)
-    (b.all.ensures ∙ ap (λ (z : ℤ). measuredAll (explicitWholes a.bounds.now a.sums) a.limit (filterOf a.present a.filter.now) (lentMap s) (z ∷ []) (given a.attrs.now)) (Range.held a.v s.ranges.v))
+    one_for (explicit_wholes a.bounds.now a.sums) a.limit (lent_map s) a.v b.all.result c.single.result c.single.ensures _ _ (filter_of a.present a.filter.now) (given a.attrs.now)
+    (b.all.ensures ∙ ap (λ (z : ℤ). measured_all (explicit_wholes a.bounds.now a.sums) a.limit (filter_of a.present a.filter.now) (lent_map s) (z ∷ []) (given a.attrs.now)) (Range.held a.v s.ranges.v))
 
 pub measure-agreed-spec : {M : Type 1} → statement M
 measure-agreed-spec =

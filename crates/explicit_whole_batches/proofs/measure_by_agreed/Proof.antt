@@ -7,22 +7,22 @@ use Rattle.integers.proofs.Range as Range
 use Rattle.directory.specs.View.{stores}
 use Rattle.explicit_whole_slots.specs.Cells.{Cells, cells}
 use Rattle.value_map.specs.Calls.{Held, held}
-use Rattle.whole_map.specs.Explicit.{explicitWholes}
-use Rattle.batches.specs.Batch.{measuredAllBy}
+use Rattle.whole_map.specs.Explicit.{explicit_wholes}
+use Rattle.batches.specs.Batch.{measured_all_by}
 use Rattle.batches.proofs.Ends.{one-by}
 use Rattle.explicit_whole_batches.proofs.measure_by_agreed.Statement.{statement}
 use Rattle.explicit_whole_batches.proofs.measure_by_agreed.Tie as tie
 
-abbrev lentMap : tie.Start → Held Cells
-lentMap s = let a = s.args in held a.d (stores a.sets a.entries a.order) (cells a.totals a.extremes a.counts)
+abbrev lent_map : tie.Start → Held Cells
+lent_map s = let a = s.args in held a.d (stores a.sets a.entries a.order) (cells a.totals a.extremes a.counts)
 
 returns : tie.Need-returns
 returns c =
     let b = c.before.before.before.before.before.before.before.before.before.before in
     let s = b.before.before.before.before.before.before.before.before.before.before.before.before in
     let a = s.args in
-    one-by (explicitWholes a.bounds.now a.sums) a.limit (lentMap s) a.v b.all-by.result c.single.result c.single.ensures _ _ a.h
-    (b.all-by.ensures ∙ ap (λ (z : ℤ). measuredAllBy (explicitWholes a.bounds.now a.sums) a.limit (lentMap s) (z ∷ []) a.h) (Range.held a.v s.ranges.v))
+    one-by (explicit_wholes a.bounds.now a.sums) a.limit (lent_map s) a.v b.all-by.result c.single.result c.single.ensures _ _ a.h
+    (b.all-by.ensures ∙ ap (λ (z : ℤ). measured_all_by (explicit_wholes a.bounds.now a.sums) a.limit (lent_map s) (z ∷ []) a.h) (Range.held a.v s.ranges.v))
 
 pub measure-by-agreed-spec : {M : Type 1} → statement M
 measure-by-agreed-spec =

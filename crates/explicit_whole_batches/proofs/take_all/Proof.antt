@@ -2,8 +2,8 @@
 use mathlib.Core.Path.{sym, ◌∙◌}
 use borrow.Author.Rules.{rules}
 use Rattle.explicit_whole_slots.specs.Cells.{Cells, cells}
-use Rattle.whole_map.specs.Explicit.{explicitWholes}
-use Rattle.batches.specs.Inner.{recordedAll}
+use Rattle.whole_map.specs.Explicit.{explicit_wholes}
+use Rattle.batches.specs.Inner.{recorded_all}
 use Rattle.batches.proofs.Batches.{stop-on, stop-off}
 use Rattle.explicit_whole_batches.proofs.take_all.Statement.{statement}
 use Rattle.explicit_whole_batches.proofs.take_all.Tie as tie
@@ -15,7 +15,7 @@ returns : tie.Need-returns
 returns c =
     let s = c.before.before.before.before in
     let a = s.args in
-    sym (stop-off a.no (lent s) (recordedAll (explicitWholes a.bounds.now a.sums) a.x a.updated (lent s) a.values.now) c.if1.true)
+    sym (stop-off a.no (lent s) (recorded_all (explicit_wholes a.bounds.now a.sums) a.x a.updated (lent s) a.values.now) c.if1.true)
 
 abbrev at : tie.Else1 → tie.Start
 at e = e.before.before.before.before
@@ -30,7 +30,7 @@ returns-2 c =
     let s = at e in
     let a = s.args in
     r.record-all.ensures
-    ∙ sym (stop-on a.no (lent s) (recordedAll (explicitWholes a.bounds.now a.sums) a.x a.updated (lent s) a.values.now) e.if1.false)
+    ∙ sym (stop-on a.no (lent s) (recorded_all (explicit_wholes a.bounds.now a.sums) a.x a.updated (lent s) a.values.now) e.if1.false)
 
 pub take_all_spec : {M : Type 1} → statement M
 take_all_spec =

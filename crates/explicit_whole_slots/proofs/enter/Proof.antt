@@ -5,7 +5,7 @@ use borrow.Author.Rules.{rules}
 use Rattle.integers.proofs.Range.{held}
 use Rattle.explicit_wholes.specs.Series.{recording}
 use Rattle.explicit_whole_slots.specs.Cells.{begun}
-use Rattle.explicit_whole_slots.proofs.Enters.{enters-held, enters-bad, enters-first}
+use Rattle.explicit_whole_slots.proofs.Enters.{enters-held, enters_bad, enters-first}
 use Rattle.explicit_whole_slots.proofs.enter.Statement.{statement}
 use Rattle.explicit_whole_slots.proofs.enter.Tie as tie
 
@@ -24,7 +24,7 @@ returns-2 c =
     let b = c.before in
     let e = b.before in
     let a = e.before.before.before.args in
-    sym (enters-bad a.bounds.now a.sums a.updated a.head a.counts.now a.v e.if1.false (sym b.bounds-pass.ensures ∙ not-true _ c.if2.true))
+    sym (enters_bad a.bounds.now a.sums a.updated a.head a.counts.now a.v e.if1.false (sym b.bounds-pass.ensures ∙ not-true _ c.if2.true))
 
 returns-3 : tie.Need-returns-3
 returns-3 c =

@@ -3,7 +3,7 @@ use mathlib.Core.Path.{ap, ◌∙◌}
 use borrow.Author.Rules.{rules}
 use Rattle.integers.proofs.Range.{held}
 use Rattle.explicit_wholes.specs.Series.{said, recording}
-use Rattle.explicit_whole_slots.proofs.Enters.{first-never, first-law}
+use Rattle.explicit_whole_slots.proofs.Enters.{first-never, first_law}
 use Rattle.explicit_whole_slots.proofs.first.Statement.{statement}
 use Rattle.explicit_whole_slots.proofs.first.Tie as tie
 
@@ -24,7 +24,7 @@ returns-2 c =
     let a = s.args in
     r.«record».ensures
     ∙ ap (recording a.bounds.now a.sums k.before.empty2.given.0.0 f.fresh.new.1.0) (held a.v s.ranges.v)
-    ∙ first-law a.bounds.now a.sums a.counts.now s.requires (said f.fresh.result) f.fresh.new.1.0 f.fresh.ensures _ a.v (ap said k.before.empty2.given.1)
+    ∙ first_law a.bounds.now a.sums a.counts.now s.requires (said f.fresh.result) f.fresh.new.1.0 f.fresh.ensures _ a.v (ap said k.before.empty2.given.1)
 
 pub first_spec : {M : Type 1} → statement M
 first_spec =

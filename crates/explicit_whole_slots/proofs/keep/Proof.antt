@@ -8,7 +8,7 @@ use mir.Val.{SFits}
 use Rattle.laws.specs.Said.{number}
 use Rattle.integers.proofs.Range.{held}
 use Rattle.explicit_wholes.specs.Series.{said}
-use Rattle.explicit_whole_slots.specs.Cells.{totalsAfter, extremesAfter}
+use Rattle.explicit_whole_slots.specs.Cells.{totals_after, extremes_after}
 use Rattle.explicit_whole_slots.proofs.keep.Statement.{statement}
 use Rattle.explicit_whole_slots.proofs.keep.Tie as tie
 
@@ -26,7 +26,7 @@ returns : tie.Need-returns
 returns c =
     let g = ap said c.before.got.given.1 in
     let a = c.before.before.before.args in
-    (sym (ap number g), (sym (ap (totalsAfter a.x a.totals.now) g), sym (ap (extremesAfter a.x a.extremes.now) g)))
+    (sym (ap number g), (sym (ap (totals_after a.x a.totals.now) g), sym (ap (extremes_after a.x a.extremes.now) g)))
 
 returns-2 : tie.Need-returns-2
 returns-2 c =
@@ -37,9 +37,9 @@ returns-2 c =
     let a = m.before.before.args in (
       sym (ap number g),
       (
-        sym (ap (totalsAfter a.x a.totals.now) g),
+        sym (ap (totals_after a.x a.totals.now) g),
         (λ j. set a.extremes.now a.x (held h.min (least k) j ∷ held h.max (greatest k) j ∷ held h.sum (sum k) j ∷ []))
-            ∙ sym (ap (extremesAfter a.x a.extremes.now) g),
+            ∙ sym (ap (extremes_after a.x a.extremes.now) g),
       ),
     )
 

@@ -10,7 +10,7 @@ use borrow.Author.Rules.{rules}
 use Rattle.rows.specs.Parts.{part_at}
 use Rattle.rows.proofs.Parts.{part_length}
 use Rattle.integers.proofs.Range.{held}
-use Rattle.points.specs.Explicit.{bucketCount}
+use Rattle.points.specs.Explicit.{bucket_count}
 use Rattle.kinds.specs.Wholes.{wholes}
 use Rattle.explicit_wholes.specs.Series.{said}
 use Rattle.explicit_whole_slots.specs.Cells.{Cells, Room, cells, entering}
@@ -31,11 +31,11 @@ lent c = let a = (start c).args in record { totals = a.totals.now; extremes = a.
 room : (s : tie.Start) → Room s.args.bounds.now (cells s.args.totals s.args.extremes s.args.counts) s.args.x
 room s = record { totals = s.requires.0; extremes = s.requires.1; counts = s.requires.2 }
 
-long : (c : tie.After-bucket-count) → bucketCount (start c).args.bounds.now ≤ length (part_at c.bucket-count.result (start c).args.counts.now (start c).args.x)
+long : (c : tie.After-bucket-count) → bucket_count (start c).args.bounds.now ≤ length (part_at c.bucket-count.result (start c).args.counts.now (start c).args.x)
 long c =
     let a = (start c).args in
     let n = c.bucket-count.result in
-    let i : n ≡ bucketCount a.bounds.now = c.bucket-count.ensures in
+    let i : n ≡ bucket_count a.bounds.now = c.bucket-count.ensures in
     omega (arith, i, part_length n a.counts.now a.x (end c))
 
 finite : (s : tie.Start) → wholes.finite s.args.v ≡ true

@@ -4,7 +4,7 @@ use borrow.Author.Rules.{rules}
 use mir.Syntax.{w64}
 use mir.Val.{SFits}
 use Rattle.laws.specs.Said.{success}
-use Rattle.integers.specs.Answers.{lesserOf, greater_of}
+use Rattle.integers.specs.Answers.{lesser_of, greater_of}
 use Rattle.integers.proofs.Range.{held}
 use Rattle.explicit.specs.Series as E
 use Rattle.explicit_wholes.specs.Series.{finished}
@@ -27,7 +27,7 @@ returns-2 c =
     let n : SFits w64 h.max = search rules in
     (λ j. success (record {
       count = k.r2.given.0.0.count;
-      min = (held c.before.before.lesser.result l ∙ c.before.before.lesser.ensures ∙ (λ i. lesserOf (held h.min m i) (held s.args.v s.ranges.v i))) j;
+      min = (held c.before.before.lesser.result l ∙ c.before.before.lesser.ensures ∙ (λ i. lesser_of (held h.min m i) (held s.args.v s.ranges.v i))) j;
       max = (held c.greater.result g ∙ c.greater.ensures ∙ (λ i. greater_of (held h.max n i) (held s.args.v s.ranges.v i))) j;
       sum = held s.args.s s.ranges.s j;
     }))

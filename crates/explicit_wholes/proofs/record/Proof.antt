@@ -3,11 +3,11 @@ use mathlib.Core.Path.{◌≡◌, sym, ap, ◌∙◌}
 use borrow.Author.Rules.{rules}
 use mir.Syntax.{w64}
 use mir.Val.{SFits}
-use Rattle.integers.specs.Answers.{nearestOf, keptSum}
+use Rattle.integers.specs.Answers.{nearest_of, kept_sum}
 use Rattle.integers.proofs.Range.{held}
 use Rattle.explicit.specs.Series as E
 use Rattle.explicit_wholes.specs.Series.{said, finished}
-use Rattle.explicit_wholes.proofs.Call.{outside-law, inside-law}
+use Rattle.explicit_wholes.proofs.Call.{outside_law, inside_law}
 use Rattle.explicit_wholes.proofs.record.Statement.{statement}
 use Rattle.explicit_wholes.proofs.record.Tie as tie
 
@@ -16,13 +16,13 @@ held-sum : (s : tie.Start) → SFits w64 s.args.head.sum
 held-sum s = search rules
 
 -- the sum, and the f64
-told : (n : tie.After-kept-sum) → (let a = n.before.before.before.before.before.before.args in n.kept-sum.result ≡ keptSum a.sums a.head.sum a.v)
+told : (n : tie.After-kept-sum) → (let a = n.before.before.before.before.before.before.args in n.kept-sum.result ≡ kept_sum a.sums a.head.sum a.v)
 told n =
     let s = n.before.before.before.before.before.before in
-    n.kept-sum.ensures ∙ (λ j. keptSum s.args.sums (held s.args.head.sum (held-sum s) j) (held s.args.v s.ranges.v j))
+    n.kept-sum.ensures ∙ (λ j. kept_sum s.args.sums (held s.args.head.sum (held-sum s) j) (held s.args.v s.ranges.v j))
 
-near : (n : tie.After-nearest) → n.nearest.result ≡ nearestOf n.before.before.before.before.args.v
-near n = let s = n.before.before.before.before in n.nearest.ensures ∙ ap nearestOf (held s.args.v s.ranges.v)
+near : (n : tie.After-nearest) → n.nearest.result ≡ nearest_of n.before.before.before.before.args.v
+near n = let s = n.before.before.before.before in n.nearest.ensures ∙ ap nearest_of (held s.args.v s.ranges.v)
 
 -- the sum that fits is an i64
 whole_sum : (k : tie.After-known-told) → SFits w64 k.before.total.given.0.0
@@ -34,10 +34,10 @@ returns c =
     let x = n.before.before in
     let u = x.before in
     let a = u.before.before.before.args in
-    outside-law a.bounds.now a.sums a.head a.counts.now a.v
+    outside_law a.bounds.now a.sums a.head a.counts.now a.v
     (sym (told n) ∙ c.before.before.before.enum_told.given.1)
     c.before.refusal.result c.last-number.result
-    (c.before.refusal.ensures ∙ (λ j. E.refusalOf a.bounds.now (u.under-count.ensures j) a.counts.now (near x j)))
+    (c.before.refusal.ensures ∙ (λ j. E.refusal_of a.bounds.now (u.under-count.ensures j) a.counts.now (near x j)))
     c.last-number.ensures
 
 returns-2 : tie.Need-returns-2
@@ -51,7 +51,7 @@ returns-2 c =
     let st = u.before.before.before in
     let a = st.args in
     let s = t.total.given.0.0 in
-    inside-law a.bounds.now a.sums a.head a.counts.now a.v
+    inside_law a.bounds.now a.sums a.head a.counts.now a.v
     s (E.said r.«record».result) (said c.finish.result) r.«record».new.1.1.0
     (sym (told n) ∙ t.total.given.1)
     (r.«record».ensures ∙ (λ j. E.recording a.bounds.now (u.under-count.ensures j) a.counts.now (near x j)))

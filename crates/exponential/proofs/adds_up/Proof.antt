@@ -1,7 +1,7 @@
 -- `exponential::adds_up` meets its contract. Assumes nothing.
 use Rattle.std.proofs.Common.{take, arith, rules}
 use Rattle.laws.specs.Counting.{total}
-use Rattle.exponential.proofs.Wraps.{sums-exact, adds-up-if}
+use Rattle.exponential.proofs.Wraps.{sums-exact, adds-up_if}
 use Rattle.exponential.proofs.adds_up.Statement.{statement}
 use Rattle.exponential.proofs.adds_up.Tie as tie
 
@@ -18,7 +18,7 @@ returns c =
     let ys = st.args.neg.now in
     let p = a.add_row in
     let n = s.add-row2 in
-    adds-up-if k xs ys n.result.sum
+    adds-up_if k xs ys n.result.sum
     (sums-exact k.zeros (total (take k.pos.len xs)) (total (take k.neg.len ys)) p.result.sum n.result.sum p.result.most n.result.most k.pos.len k.neg.len
     p.ensures.0 n.ensures.0 p.ensures.1.0 p.ensures.1.1 st.requires.0.1 n.ensures.1.0 n.ensures.1.1 st.requires.1.1 (omega (arith, c.before.if1.true)))
 

@@ -1,6 +1,6 @@
 use Rattle.std.proofs.Common.{◌≡◌, ◌-◌, arith, rules}
-use Rattle.exponential.specs.Series.{refusalOf}
-use Rattle.exponential.proofs.Call.{refused-law, accepted-law}
+use Rattle.exponential.specs.Series.{refusal_of}
+use Rattle.exponential.proofs.Call.{refused_law, accepted_law}
 use Rattle.exponential.proofs.record.Statement.{statement}
 use Rattle.exponential.proofs.record.Tie as tie
 
@@ -8,13 +8,13 @@ abbrev start : tie.Else1 → tie.Start
 start e = e.before.before.before.before.before.before
 
 passed : (e : tie.Else1)
-    → refusalOf (start e).args.size (start e).args.top (start e).args.head (start e).args.pos.now (start e).args.neg.now (start e).args.v ≡ 0
+    → refusal_of (start e).args.size (start e).args.top (start e).args.head (start e).args.pos.now (start e).args.neg.now (start e).args.v ≡ 0
 passed e = omega (arith, e.before.refusal.ensures, e.if1.false)
 
 returns : tie.Need-returns
 returns c =
     let a = c.before.before.before.before.before.before.args in
-    refused-law a.size a.top a.head a.pos.now a.neg.now a.v c.before.refusal.result c.before.refusal.ensures (λ z. omega (arith, z, c.if1.true))
+    refused_law a.size a.top a.head a.pos.now a.neg.now a.v c.before.refusal.result c.before.refusal.ensures (λ z. omega (arith, z, c.if1.true))
 
 count-in-requires : tie.Need-count-in-requires
 count-in-requires c κs = passed c.before.before
@@ -25,7 +25,7 @@ returns-2 c =
     let d = g.before.before.before.before.before.before in
     let e = d.before.before.before in
     let a = (start e).args in
-    accepted-law a.size a.top a.head a.pos.now a.neg.now a.v d.count-in.result g.before.lesser.result g.greater.result d.count-in.new.1.1.1.0 d.count-in.new.1.1.1.1.0
+    accepted_law a.size a.top a.head a.pos.now a.neg.now a.v d.count-in.result g.before.lesser.result g.greater.result d.count-in.new.1.1.1.0 d.count-in.new.1.1.1.1.0
     (passed e) d.count-in.ensures g.before.lesser.ensures g.greater.ensures
 
 pub record-spec : {M : Type 1} → statement M

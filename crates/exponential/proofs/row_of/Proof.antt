@@ -1,6 +1,6 @@
 use Rattle.std.proofs.Common.{◌≡◌, ℕ, ◌-◌, ◌<◌, ◌≤◌, min, Bool, List, length, take, drop, sym, ap, ◌∙◌, ⊎_elim, arith, take_all, rules}
 use Rattle.laws.specs.Pick.{pick}
-use Rattle.rows.proofs.Algebra.{le-or-lt}
+use Rattle.rows.proofs.Algebra.{le_or-lt}
 use Rattle.exponential.proofs.row_of.Statement.{statement}
 use Rattle.exponential.proofs.row_of.Tie as tie
 
@@ -12,7 +12,7 @@ part-is k j xs e =
     ∙ ⊎_elim
     (λ (l : k ≤ length xs). let q : j ≡ k = omega (arith, e) in ap (λ (n : ℕ). take n xs) q)
     (λ (l : length xs < k). take_all j xs (omega (arith, e)) ∙ sym (take_all k xs (omega arith)))
-    (le-or-lt k (length xs))
+    (le_or-lt k (length xs))
 
 returns : tie.Need-returns
 unfolding pick

@@ -8,21 +8,21 @@ use lib.ListN.{length, get_or, drop}
 use lib.Ieee.{Float, nan}
 use borrow.Author.Rules.{rules}
 use Rattle.tally.specs.Sets.{Set}
-use Rattle.sets.specs.Sorted.{given, filterOf}
+use Rattle.sets.specs.Sorted.{given, filter_of}
 use Rattle.seats.proofs.Bars.{row-seated}
 use Rattle.directory.specs.View.{stores}
 use Rattle.exponential_slots.specs.Cells.{Cells, cells}
 use Rattle.value_map.specs.Calls.{Held, held}
 use Rattle.value_map.proofs.ExponentialOwes.{owed}
-use Rattle.batches.proofs.Ends.{cut-first, sure-for, for-none, for-takes, for-finite, for-fits, for-ends}
+use Rattle.batches.proofs.Ends.{cut-first, sure_for, for-none, for-takes, for-finite, for-fits, for-ends}
 use Rattle.exponential_batches.proofs.all.Statement.{statement}
 use Rattle.exponential_batches.proofs.all.Tie as tie
 
-abbrev lentMap : tie.Start → Held Cells
-lentMap s = let a = s.args in held a.d (stores a.sets a.entries a.order) (cells a.figures a.extremes a.pos a.neg)
+abbrev lent_map : tie.Start → Held Cells
+lent_map s = let a = s.args in held a.d (stores a.sets a.entries a.order) (cells a.figures a.extremes a.pos a.neg)
 
 abbrev filter : tie.Start → Option (List ℕ)
-filter s = filterOf s.args.present s.args.filter.now
+filter s = filter_of s.args.present s.args.filter.now
 
 abbrev attributes : tie.Start → Set
 attributes s = given s.args.attrs.now
@@ -37,7 +37,7 @@ returns : tie.Need-returns
 returns c =
     let s = c.before.before.before.before.before.before in
     let a = s.args in
-    for-none (owed a.size a.top) (true, true) a.limit (filter s) (lentMap s) (attributes s) (list s) c.if1.true
+    for-none (owed a.size a.top) (true, true) a.limit (filter s) (lent_map s) (attributes s) (list s) c.if1.true
 
 -- ---- before the seat
 
@@ -68,7 +68,7 @@ seat-if-requires c κs k =
     let l = told t in
     let s = at t in
     let a = s.args in
-    sure-for (owed a.size a.top) (true, true) a.limit (lentMap s) l.slots-of.result l.before.unset-of.result l.slots-of.ensures l.before.unset-of.ensures (filter s) (attributes s) (s.pre k)
+    sure_for (owed a.size a.top) (true, true) a.limit (lent_map s) l.slots-of.result l.before.unset-of.result l.slots-of.ensures l.before.unset-of.ensures (filter s) (attributes s) (s.pre k)
 
 -- ---- at the seat
 
@@ -82,12 +82,12 @@ take-requires c κs z =
     let l = told t in
     let s = at t in
     let a = s.args in
-    let k = for-takes (owed a.size a.top) (true, true) a.limit (filter s) (lentMap s) (attributes s) (lent_of l).all-lent.ensures (first s) l.slots-of.ensures t.takes.ensures l.before.unset-of.ensures q.seat-if.ensures.0 a.known s.pre z in
+    let k = for-takes (owed a.size a.top) (true, true) a.limit (filter s) (lent_map s) (attributes s) (lent_of l).all-lent.ensures (first s) l.slots-of.ensures t.takes.ensures l.before.unset-of.ensures q.seat-if.ensures.0 a.known s.pre z in
     record {
       room = k.1;
       set = k.0;
       some = some (else l);
-      first = for-finite (owed a.size a.top) (true, true) a.limit (filter s) (lentMap s) (attributes s) (lent_of l).all-lent.ensures (first s) l.slots-of.ensures t.takes.ensures l.before.unset-of.ensures q.seat-if.ensures.0 z;
+      first = for-finite (owed a.size a.top) (true, true) a.limit (filter s) (lent_map s) (attributes s) (lent_of l).all-lent.ensures (first s) l.slots-of.ensures t.takes.ensures l.before.unset-of.ensures q.seat-if.ensures.0 z;
       series = k.2;
     }
 
@@ -102,7 +102,7 @@ finish-all-requires c κs k =
     let l = told t in
     let s = at t in
     let a = s.args in
-    for-fits (owed a.size a.top) (true, true) a.limit (filter s) (lentMap s) (attributes s) (lent_of l).all-lent.ensures (first s) l.slots-of.ensures t.takes.ensures l.before.unset-of.ensures q.seat-if.ensures.0
+    for-fits (owed a.size a.top) (true, true) a.limit (filter s) (lent_map s) (attributes s) (lent_of l).all-lent.ensures (first s) l.slots-of.ensures t.takes.ensures l.before.unset-of.ensures q.seat-if.ensures.0
     (list s) (drop 1 (list s)) (cut-first (list s) nan (some (else l))) _ r.take.ensures k
 
 returns-2 : tie.Need-returns-2
@@ -114,7 +114,7 @@ returns-2 c =
     let l = told t in
     let s = at t in
     let a = s.args in
-    for-ends (owed a.size a.top) (true, true) a.limit (filter s) (lentMap s) (attributes s) (lent_of l).all-lent.ensures (first s) l.slots-of.ensures t.takes.ensures l.before.unset-of.ensures q.seat-if.ensures.0
+    for-ends (owed a.size a.top) (true, true) a.limit (filter s) (lent_map s) (attributes s) (lent_of l).all-lent.ensures (first s) l.slots-of.ensures t.takes.ensures l.before.unset-of.ensures q.seat-if.ensures.0
     (list s) (drop 1 (list s)) (cut-first (list s) nan (some (else l))) _ r.take.ensures (last s) _ (row-seated _ _ _ _ _ q.seat-if.ensures.0 _ q.seat-if.ensures.1) _ f.finish-all.ensures
 
 pub all-spec : {M : Type 1} → statement M

@@ -14,8 +14,8 @@ use Rattle.batches.proofs.Ends.{cut-first, sure-by, by-none, by-takes, by-finite
 use Rattle.exponential_batches.proofs.all_by.Statement.{statement}
 use Rattle.exponential_batches.proofs.all_by.Tie as tie
 
-abbrev lentMap : tie.Start → Held Cells
-lentMap s = let a = s.args in held a.d (stores a.sets a.entries a.order) (cells a.figures a.extremes a.pos a.neg)
+abbrev lent_map : tie.Start → Held Cells
+lent_map s = let a = s.args in held a.d (stores a.sets a.entries a.order) (cells a.figures a.extremes a.pos a.neg)
 
 abbrev list : tie.Start → List Float
 list s = s.args.values.now
@@ -27,7 +27,7 @@ returns : tie.Need-returns
 returns c =
     let s = c.before.before.before.before.before in
     let a = s.args in
-    by-none (owed a.size a.top) (true, true) a.limit (lentMap s) a.h (list s) c.if1.true
+    by-none (owed a.size a.top) (true, true) a.limit (lent_map s) a.h (list s) c.if1.true
 
 -- ---- before the seat
 
@@ -55,7 +55,7 @@ seat-by-if-requires c κs k =
     let l = told t in
     let s = at t in
     let a = s.args in
-    sure-by (owed a.size a.top) (true, true) a.limit (lentMap s) l.slots-of.result l.before.unset-of.result l.slots-of.ensures l.before.unset-of.ensures a.h (s.pre k)
+    sure-by (owed a.size a.top) (true, true) a.limit (lent_map s) l.slots-of.result l.before.unset-of.result l.slots-of.ensures l.before.unset-of.ensures a.h (s.pre k)
 
 -- ---- at the seat
 
@@ -69,12 +69,12 @@ take-requires c κs z =
     let l = told t in
     let s = at t in
     let a = s.args in
-    let k = by-takes (owed a.size a.top) (true, true) a.limit (lentMap s) a.h (first s) l.slots-of.ensures t.takes.ensures l.before.unset-of.ensures q.seat-by-if.ensures a.known s.pre z in
+    let k = by-takes (owed a.size a.top) (true, true) a.limit (lent_map s) a.h (first s) l.slots-of.ensures t.takes.ensures l.before.unset-of.ensures q.seat-by-if.ensures a.known s.pre z in
     record {
       room = k.1;
       set = k.0;
       some = some (else l);
-      first = by-finite (owed a.size a.top) (true, true) a.limit (lentMap s) a.h (first s) l.slots-of.ensures t.takes.ensures l.before.unset-of.ensures q.seat-by-if.ensures z;
+      first = by-finite (owed a.size a.top) (true, true) a.limit (lent_map s) a.h (first s) l.slots-of.ensures t.takes.ensures l.before.unset-of.ensures q.seat-by-if.ensures z;
       series = k.2;
     }
 
@@ -89,7 +89,7 @@ finish-all-requires c κs k =
     let l = told t in
     let s = at t in
     let a = s.args in
-    by_fits (owed a.size a.top) (true, true) a.limit (lentMap s) a.h (first s) l.slots-of.ensures t.takes.ensures l.before.unset-of.ensures q.seat-by-if.ensures
+    by_fits (owed a.size a.top) (true, true) a.limit (lent_map s) a.h (first s) l.slots-of.ensures t.takes.ensures l.before.unset-of.ensures q.seat-by-if.ensures
     (list s) (drop 1 (list s)) (cut-first (list s) nan (some (else l))) _ r.take.ensures k
 
 returns-2 : tie.Need-returns-2
@@ -101,7 +101,7 @@ returns-2 c =
     let l = told t in
     let s = at t in
     let a = s.args in
-    by-ends (owed a.size a.top) (true, true) a.limit (lentMap s) a.h (first s) l.slots-of.ensures t.takes.ensures l.before.unset-of.ensures q.seat-by-if.ensures
+    by-ends (owed a.size a.top) (true, true) a.limit (lent_map s) a.h (first s) l.slots-of.ensures t.takes.ensures l.before.unset-of.ensures q.seat-by-if.ensures
     (list s) (drop 1 (list s)) (cut-first (list s) nan (some (else l))) _ r.take.ensures (last s) _ f.finish-all.ensures
 
 pub all-by-spec : {M : Type 1} → statement M

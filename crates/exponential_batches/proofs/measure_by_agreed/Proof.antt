@@ -3,20 +3,20 @@ use borrow.Author.Rules.{rules}
 use Rattle.directory.specs.View.{stores}
 use Rattle.exponential_slots.specs.Cells.{Cells, cells}
 use Rattle.value_map.specs.Calls.{Held, held}
-use Rattle.value_map.specs.Exponential.{exponentialStore}
+use Rattle.value_map.specs.Exponential.{exponential_store}
 use Rattle.batches.proofs.Ends.{one-by}
 use Rattle.exponential_batches.proofs.measure_by_agreed.Statement.{statement}
 use Rattle.exponential_batches.proofs.measure_by_agreed.Tie as tie
 
-abbrev lentMap : tie.Start → Held Cells
-lentMap s = let a = s.args in held a.d (stores a.sets a.entries a.order) (cells a.figures a.extremes a.pos a.neg)
+abbrev lent_map : tie.Start → Held Cells
+lent_map s = let a = s.args in held a.d (stores a.sets a.entries a.order) (cells a.figures a.extremes a.pos a.neg)
 
 returns : tie.Need-returns
 returns c =
     let b = c.before.before.before.before.before.before.before.before.before.before.before in
     let s = b.before.before.before.before.before.before.before.before.before.before.before.before in
     let a = s.args in
-    one-by (exponentialStore a.size a.top) a.limit (lentMap s) a.v b.all-by.result c.single.result c.single.ensures _ _ a.h b.all-by.ensures
+    one-by (exponential_store a.size a.top) a.limit (lent_map s) a.v b.all-by.result c.single.result c.single.ensures _ _ a.h b.all-by.ensures
 
 pub measure-by-agreed-spec : {M : Type 1} → statement M
 measure-by-agreed-spec =

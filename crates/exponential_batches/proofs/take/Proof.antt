@@ -2,8 +2,8 @@
 use mathlib.Core.Path.{sym, ◌∙◌}
 use borrow.Author.Rules.{rules}
 use Rattle.exponential_slots.specs.Cells.{Cells, cells}
-use Rattle.value_map.specs.Exponential.{exponentialStore}
-use Rattle.batches.specs.Inner.{recordedAll}
+use Rattle.value_map.specs.Exponential.{exponential_store}
+use Rattle.batches.specs.Inner.{recorded_all}
 use Rattle.batches.proofs.Batches.{stop-on, stop-off}
 use Rattle.exponential_batches.proofs.take.Statement.{statement}
 use Rattle.exponential_batches.proofs.take.Tie as tie
@@ -18,7 +18,7 @@ returns : tie.Need-returns
 returns c =
     let s = c.before.before.before.before in
     let a = s.args in
-    sym (stop-off a.no (lent s) (recordedAll (exponentialStore a.size a.top) a.x a.updated (lent s) a.values.now) c.if1.true)
+    sym (stop-off a.no (lent s) (recorded_all (exponential_store a.size a.top) a.x a.updated (lent s) a.values.now) c.if1.true)
 
 record-all-requires : tie.Need-record-all-requires
 record-all-requires c κs = let e = c.before.before.before.before in (at e).requires e.if1.false
@@ -30,7 +30,7 @@ returns-2 c =
     let s = at e in
     let a = s.args in
     r.record-all.ensures
-    ∙ sym (stop-on a.no (lent s) (recordedAll (exponentialStore a.size a.top) a.x a.updated (lent s) a.values.now) e.if1.false)
+    ∙ sym (stop-on a.no (lent s) (recorded_all (exponential_store a.size a.top) a.x a.updated (lent s) a.values.now) e.if1.false)
 
 pub take_spec : {M : Type 1} → statement M
 take_spec =

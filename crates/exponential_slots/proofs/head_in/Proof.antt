@@ -4,7 +4,7 @@ use Rattle.exponential_slots.proofs.head_in.Statement.{statement}
 use Rattle.exponential_slots.proofs.head_in.Tie as tie
 use mathlib.Core.Path.{refl}
 use native.Mathlib.Omega.{arith}
-use Rattle.exponential_slots.specs.Cells.{headIn}
+use Rattle.exponential_slots.specs.Cells.{head_in}
 use Rattle.exponential_slots.proofs.Cases.{narrow-says}
 
 cast-t14 : tie.Need-overflow-cast-t14
@@ -17,7 +17,7 @@ cast-t27 : tie.Need-overflow-cast-t27
 cast-t27 c = omega (arith, (narrow-says c.args.t1 c.requires).neg)
 
 returns : tie.Need-returns
-unfolding headIn
+unfolding head_in
 returns c = refl
 
 pub head-in-spec : {M : Type 1} → statement M

@@ -5,7 +5,7 @@ use Rattle.exponential_slots.proofs.keep.Tie as tie
 use mathlib.Core.Path.{sym, ap}
 use Rattle.laws.specs.Said.{number}
 use Rattle.exponential.specs.Series.{said}
-use Rattle.exponential_slots.specs.Inner.{figuresAfter, extremesAfter}
+use Rattle.exponential_slots.specs.Inner.{figures_after, extremes_after}
 use mathlib.Core.Path.{◌∙◌}
 use mathlib.Core.List.{List}
 use Prim.Native.Nat.{ℕ}
@@ -15,7 +15,7 @@ returns : tie.Need-returns
 returns c =
     let g = ap said c.before.got.given.1 in
     let a = c.before.before.before.args in
-    (sym (ap number g), (sym (ap (figuresAfter a.x a.figures.now) g), sym (ap (extremesAfter a.x a.extremes.now) g)))
+    (sym (ap number g), (sym (ap (figures_after a.x a.figures.now) g), sym (ap (extremes_after a.x a.extremes.now) g)))
 
 returns-2 : tie.Need-returns-2
 returns-2 c =
@@ -24,8 +24,8 @@ returns-2 c =
     let a = m.before.before.args in (
       sym (ap number g),
       (
-        ap (λ (r : List ℕ). set a.figures.now a.x r) c.words-of.ensures ∙ sym (ap (figuresAfter a.x a.figures.now) g),
-        sym (ap (extremesAfter a.x a.extremes.now) g),
+        ap (λ (r : List ℕ). set a.figures.now a.x r) c.words-of.ensures ∙ sym (ap (figures_after a.x a.figures.now) g),
+        sym (ap (extremes_after a.x a.extremes.now) g),
       ),
     )
 

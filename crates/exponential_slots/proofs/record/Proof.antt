@@ -9,7 +9,7 @@ use borrow.Author.Tests.{not-true, not-false}
 use lib.ListN.{get_or}
 use Rattle.rows.specs.Parts.{part_at}
 use Rattle.exponential.specs.Series.{said, Outcome, recording}
-use Rattle.exponential_slots.specs.Cells.{Cells, readable, recordedAt}
+use Rattle.exponential_slots.specs.Cells.{Cells, readable, recorded_at}
 use Rattle.exponential_slots.proofs.Cases.{into, unread, called, written-by}
 
 abbrev start : tie.After-can-read → tie.Start
@@ -33,7 +33,7 @@ abbrev left : tie.After-record → Outcome
 left r = record { answer = said r.«record».result; pos = r.«record».new.1.1.1.0; neg = r.«record».new.1.1.1.1.0 }
 
 recorded : (r : tie.After-record)
-    → recordedAt (at r).args.size (at r).args.top (at r).args.x (at r).args.updated (lent (at r)) (at r).args.v
+    → recorded_at (at r).args.size (at r).args.top (at r).args.x (at r).args.updated (lent (at r)) (at r).args.v
     ≡ into (at r).args.size (at r).args.x (lent (at r)) (left r)
 recorded r =
     let a = (at r).args in

@@ -11,22 +11,22 @@ use Rattle.integers.proofs.Range as Range
 use Rattle.kinds.specs.Wholes.{wholes}
 use mathlib.Core.Option.{Option}
 use Rattle.tally.specs.Sets.{Set}
-use Rattle.sets.specs.Sorted.{given, filterOf}
+use Rattle.sets.specs.Sorted.{given, filter_of}
 use Rattle.seats.proofs.Bars.{row-seated}
 use Rattle.directory.specs.View.{stores}
 use Rattle.exponential_whole_slots.specs.Cells.{Cells, cells}
 use Rattle.value_map.specs.Calls.{Held, held}
 use Rattle.whole_map.proofs.ExponentialOwes.{owed}
 use Rattle.exponential_whole_batches.specs.Slot.{Asks}
-use Rattle.batches.proofs.Ends.{cut-first, sure-for, for-none, for-takes, for-finite, for-fits, for-ends}
+use Rattle.batches.proofs.Ends.{cut-first, sure_for, for-none, for-takes, for-finite, for-fits, for-ends}
 use Rattle.exponential_whole_batches.proofs.all.Statement.{statement}
 use Rattle.exponential_whole_batches.proofs.all.Tie as tie
 
-abbrev lentMap : tie.Start → Held Cells
-lentMap s = let a = s.args in held a.d (stores a.sets a.entries a.order) (cells a.figures a.extremes a.pos a.neg)
+abbrev lent_map : tie.Start → Held Cells
+lent_map s = let a = s.args in held a.d (stores a.sets a.entries a.order) (cells a.figures a.extremes a.pos a.neg)
 
 abbrev filter : tie.Start → Option (List ℕ)
-filter s = let a = s.args in filterOf a.present a.filter.now
+filter s = let a = s.args in filter_of a.present a.filter.now
 
 abbrev attrs : tie.Start → Set
 attrs s = given s.args.attrs.now
@@ -72,27 +72,27 @@ returns : tie.Need-returns
 returns c =
     let s = c.before.before.before.before.before in
     let a = s.args in
-    for-none (owed a.size a.top a.sums) true a.limit (filter s) (lentMap s) (attrs s) a.values.now c.if1.true
+    for-none (owed a.size a.top a.sums) true a.limit (filter s) (lent_map s) (attrs s) a.values.now c.if1.true
 
 seat-if-requires : tie.Need-seat-if-requires
 seat-if-requires c κs k =
     let u = c.before.before.before.before in
     let s = at u in
     let a = s.args in
-    sure-for (owed a.size a.top a.sums) true a.limit (lentMap s) _ _ ((slots u).slots-of.ensures a.limit) (unset u).unset-of.ensures (filter s) (attrs s) (s.pre k)
+    sure_for (owed a.size a.top a.sums) true a.limit (lent_map s) _ _ ((slots u).slots-of.ensures a.limit) (unset u).unset-of.ensures (filter s) (attrs s) (s.pre k)
 
 asked : (q : tie.After-seat-if) → (let s = at (own q) in let a = s.args in let r = q.seat-if.result in r.no ≡ 0
-    → Asks a.known a.size a.top a.sums r.slot r.updated (lentMap s).cells a.values.now)
+    → Asks a.known a.size a.top a.sums r.slot r.updated (lent_map s).cells a.values.now)
 asked q z =
     let u = own q in
     let s = at u in
     let a = s.args in
-    let t = for-takes (owed a.size a.top a.sums) true a.limit (filter s) (lentMap s) (attrs s) (known u).all-lent.ensures (one s) ((slots u).slots-of.ensures a.limit) (first_taken u) (unset u).unset-of.ensures q.seat-if.ensures.0 a.known s.pre z in
+    let t = for-takes (owed a.size a.top a.sums) true a.limit (filter s) (lent_map s) (attrs s) (known u).all-lent.ensures (one s) ((slots u).slots-of.ensures a.limit) (first_taken u) (unset u).unset-of.ensures q.seat-if.ensures.0 a.known s.pre z in
     record {
       room = t.1;
       set = t.0;
       some = some (else1 u);
-      first = for-finite (owed a.size a.top a.sums) true a.limit (filter s) (lentMap s) (attrs s) (known u).all-lent.ensures (one s) ((slots u).slots-of.ensures a.limit) (first_taken u) (unset u).unset-of.ensures q.seat-if.ensures.0 z;
+      first = for-finite (owed a.size a.top a.sums) true a.limit (filter s) (lent_map s) (attrs s) (known u).all-lent.ensures (one s) ((slots u).slots-of.ensures a.limit) (first_taken u) (unset u).unset-of.ensures q.seat-if.ensures.0 z;
       series = t.2;
     }
 
@@ -106,7 +106,7 @@ finish-all-requires c κs =
     let u = own q in
     let s = at u in
     let a = s.args in
-    for-fits (owed a.size a.top a.sums) true a.limit (filter s) (lentMap s) (attrs s) (known u).all-lent.ensures (one s) ((slots u).slots-of.ensures a.limit) (first_taken u) (unset u).unset-of.ensures q.seat-if.ensures.0
+    for-fits (owed a.size a.top a.sums) true a.limit (filter s) (lent_map s) (attrs s) (known u).all-lent.ensures (one s) ((slots u).slots-of.ensures a.limit) (first_taken u) (unset u).unset-of.ensures q.seat-if.ensures.0
     a.values.now (drop 1 a.values.now) (cut (else1 u)) _ t.take_all.ensures
 
 returns-2 : tie.Need-returns-2
@@ -117,7 +117,7 @@ returns-2 c =
     let u = own q in
     let s = at u in
     let a = s.args in
-    for-ends (owed a.size a.top a.sums) true a.limit (filter s) (lentMap s) (attrs s) (known u).all-lent.ensures (one s) ((slots u).slots-of.ensures a.limit) (first_taken u) (unset u).unset-of.ensures q.seat-if.ensures.0
+    for-ends (owed a.size a.top a.sums) true a.limit (filter s) (lent_map s) (attrs s) (known u).all-lent.ensures (one s) ((slots u).slots-of.ensures a.limit) (first_taken u) (unset u).unset-of.ensures q.seat-if.ensures.0
     a.values.now (drop 1 a.values.now) (cut (else1 u)) _ t.take_all.ensures
     (small s) _ (row-seated _ _ _ _ _ q.seat-if.ensures.0 _ q.seat-if.ensures.1) _ f.finish-all.ensures
 

@@ -18,8 +18,8 @@ use Rattle.batches.proofs.Ends.{cut-first, sure-by, by-none, by-takes, by-finite
 use Rattle.exponential_whole_batches.proofs.all_by.Statement.{statement}
 use Rattle.exponential_whole_batches.proofs.all_by.Tie as tie
 
-abbrev lentMap : tie.Start → Held Cells
-lentMap s = let a = s.args in held a.d (stores a.sets a.entries a.order) (cells a.figures a.extremes a.pos a.neg)
+abbrev lent_map : tie.Start → Held Cells
+lent_map s = let a = s.args in held a.d (stores a.sets a.entries a.order) (cells a.figures a.extremes a.pos a.neg)
 
 abbrev slots : tie.After-takes → tie.After-slots-of
 slots u = u.before.before
@@ -59,27 +59,27 @@ returns : tie.Need-returns
 returns c =
     let s = c.before.before.before.before in
     let a = s.args in
-    by-none (owed a.size a.top a.sums) true a.limit (lentMap s) a.h a.values.now c.if1.true
+    by-none (owed a.size a.top a.sums) true a.limit (lent_map s) a.h a.values.now c.if1.true
 
 seat-by-if-requires : tie.Need-seat-by-if-requires
 seat-by-if-requires c κs k =
     let u = c.before.before.before in
     let s = at u in
     let a = s.args in
-    sure-by (owed a.size a.top a.sums) true a.limit (lentMap s) _ _ ((slots u).slots-of.ensures a.limit) (unset u).unset-of.ensures a.h (s.pre k)
+    sure-by (owed a.size a.top a.sums) true a.limit (lent_map s) _ _ ((slots u).slots-of.ensures a.limit) (unset u).unset-of.ensures a.h (s.pre k)
 
 asked : (q : tie.After-seat-by-if) → (let s = at (own q) in let a = s.args in let r = q.seat-by-if.result in r.no ≡ 0
-    → Asks a.known a.size a.top a.sums r.slot r.updated (lentMap s).cells a.values.now)
+    → Asks a.known a.size a.top a.sums r.slot r.updated (lent_map s).cells a.values.now)
 asked q z =
     let u = own q in
     let s = at u in
     let a = s.args in
-    let t = by-takes (owed a.size a.top a.sums) true a.limit (lentMap s) a.h (one s) ((slots u).slots-of.ensures a.limit) (first_taken u) (unset u).unset-of.ensures q.seat-by-if.ensures a.known s.pre z in
+    let t = by-takes (owed a.size a.top a.sums) true a.limit (lent_map s) a.h (one s) ((slots u).slots-of.ensures a.limit) (first_taken u) (unset u).unset-of.ensures q.seat-by-if.ensures a.known s.pre z in
     record {
       room = t.1;
       set = t.0;
       some = some (else1 u);
-      first = by-finite (owed a.size a.top a.sums) true a.limit (lentMap s) a.h (one s) ((slots u).slots-of.ensures a.limit) (first_taken u) (unset u).unset-of.ensures q.seat-by-if.ensures z;
+      first = by-finite (owed a.size a.top a.sums) true a.limit (lent_map s) a.h (one s) ((slots u).slots-of.ensures a.limit) (first_taken u) (unset u).unset-of.ensures q.seat-by-if.ensures z;
       series = t.2;
     }
 
@@ -93,7 +93,7 @@ finish-all-requires c κs =
     let u = own q in
     let s = at u in
     let a = s.args in
-    by_fits (owed a.size a.top a.sums) true a.limit (lentMap s) a.h (one s) ((slots u).slots-of.ensures a.limit) (first_taken u) (unset u).unset-of.ensures q.seat-by-if.ensures
+    by_fits (owed a.size a.top a.sums) true a.limit (lent_map s) a.h (one s) ((slots u).slots-of.ensures a.limit) (first_taken u) (unset u).unset-of.ensures q.seat-by-if.ensures
     a.values.now (drop 1 a.values.now) (cut (else1 u)) _ t.take_all.ensures
 
 returns-2 : tie.Need-returns-2
@@ -104,7 +104,7 @@ returns-2 c =
     let u = own q in
     let s = at u in
     let a = s.args in
-    by-ends (owed a.size a.top a.sums) true a.limit (lentMap s) a.h (one s) ((slots u).slots-of.ensures a.limit) (first_taken u) (unset u).unset-of.ensures q.seat-by-if.ensures
+    by-ends (owed a.size a.top a.sums) true a.limit (lent_map s) a.h (one s) ((slots u).slots-of.ensures a.limit) (first_taken u) (unset u).unset-of.ensures q.seat-by-if.ensures
     a.values.now (drop 1 a.values.now) (cut (else1 u)) _ t.take_all.ensures
     (small s) _ f.finish-all.ensures
 

@@ -4,30 +4,30 @@ use mathlib.Core.Path.{ap, ◌∙◌}
 use mathlib.Core.List.{[], ◌∷◌}
 use lib.IntN.{ℤ}
 use Rattle.integers.proofs.Range as Range
-use Rattle.sets.specs.Sorted.{given, filterOf}
+use Rattle.sets.specs.Sorted.{given, filter_of}
 use Rattle.directory.specs.View.{stores}
 use Rattle.exponential_whole_slots.specs.Cells.{Cells, cells}
 use Rattle.value_map.specs.Calls.{Held, held}
-use Rattle.whole_map.specs.Exponential.{exponentialWholes}
-use Rattle.batches.specs.Batch.{measuredAll}
-use Rattle.batches.proofs.Ends.{one-for}
+use Rattle.whole_map.specs.Exponential.{exponential_wholes}
+use Rattle.batches.specs.Batch.{measured_all}
+use Rattle.batches.proofs.Ends.{one_for}
 use Rattle.exponential_whole_batches.proofs.measure_agreed.Statement.{statement}
 use Rattle.exponential_whole_batches.proofs.measure_agreed.Tie as tie
 
 abbrev at : tie.After-all → tie.Start
 at m = m.before.before.before.before.before.before.before.before.before.before.before.before.before
 
-abbrev lentMap : tie.Start → Held Cells
-lentMap s = let a = s.args in held a.d (stores a.sets a.entries a.order) (cells a.figures a.extremes a.pos a.neg)
+abbrev lent_map : tie.Start → Held Cells
+lent_map s = let a = s.args in held a.d (stores a.sets a.entries a.order) (cells a.figures a.extremes a.pos a.neg)
 
 returns : tie.Need-returns
 returns c =
     let m = c.before.before.before.before.before.before.before.before.before.before.before in
     let s = at m in
     let a = s.args in
-    let S = exponentialWholes a.size a.top a.sums in
-    one-for S a.limit (lentMap s) a.v m.all.result c.single.result c.single.ensures _ _ (filterOf a.present a.filter.now) (given a.attrs.now)
-    (m.all.ensures ∙ ap (λ (z : ℤ). measuredAll S a.limit (filterOf a.present a.filter.now) (lentMap s) (z ∷ []) (given a.attrs.now)) (Range.held a.v s.fits.v))
+    let S = exponential_wholes a.size a.top a.sums in
+    one_for S a.limit (lent_map s) a.v m.all.result c.single.result c.single.ensures _ _ (filter_of a.present a.filter.now) (given a.attrs.now)
+    (m.all.ensures ∙ ap (λ (z : ℤ). measured_all S a.limit (filter_of a.present a.filter.now) (lent_map s) (z ∷ []) (given a.attrs.now)) (Range.held a.v s.fits.v))
 
 pub measure-agreed-spec : {M : Type 1} → statement M
 measure-agreed-spec =

@@ -4,16 +4,16 @@ use Prim.Native.Nat.{ℕ}
 use mathlib.Core.Path.{ap, ◌∙◌}
 use mir.Syntax.{w32}
 use mir.ValLaws.{to_z-of_z}
-use Rattle.index.specs.Signed.{levelAnswer}
-use Rattle.sets.specs.Sorted.{filterOf}
+use Rattle.index.specs.Signed.{level_answer}
+use Rattle.sets.specs.Sorted.{filter_of}
 use Rattle.directory.specs.View.{Stores, stores}
 use Rattle.directory.specs.declared.Directory.{Directory}
 use Rattle.exponential_whole_slots.specs.Cells.{Cells, cells}
-use Rattle.whole_map.specs.Exponential.{exponentialWholes}
-use Rattle.collecting.specs.Configured.{configuredAs}
+use Rattle.whole_map.specs.Exponential.{exponential_wholes}
+use Rattle.collecting.specs.Configured.{configured_as}
 use Rattle.collecting.proofs.Configures.{configured-is}
 use Rattle.exponential_collection.specs.declared.Setup.{Setup}
-use Rattle.exponential_collection.specs.Configured.{levelOr, said, setupOf}
+use Rattle.exponential_collection.specs.Configured.{level_or, said, setup_of}
 use Rattle.exponential_whole_collection.specs.Configured.{configured}
 use Rattle.exponential_whole_collection.proofs.configure.Statement.{statement}
 use Rattle.exponential_whole_collection.proofs.configure.Tie as tie
@@ -26,7 +26,7 @@ dirs s = let a = s.args in stores a.sets a.entries a.order
 
 -- what is handed out, by the greatest level
 abbrev handed : tie.Start → ℕ → Directory → Setup
-handed s top d = let a = s.args in setupOf a.size top a.show a.sums a.limit d
+handed s top d = let a = s.args in setup_of a.size top a.show a.sums a.limit d
 
 returns : tie.Need-returns
 unfolding configured
@@ -35,11 +35,11 @@ returns c =
     let l = b.before.before in
     let s = l.before.before.before.before.before.before in
     let a = s.args in
-    let f = filterOf a.present a.filter.now in
-    let level = l.level-or.ensures ∙ ap levelOr (l.before.level-of.ensures ∙ ap levelAnswer (to_z-of_z w32 a.scale s.ranges.scale)) in
-    configured-is (exponentialWholes a.size l.level-or.result a.sums) (handed s l.level-or.result) a.limit f (dirs s) (lent s) b.start.result _ (said c.set-up.result)
+    let f = filter_of a.present a.filter.now in
+    let level = l.level-or.ensures ∙ ap level_or (l.before.level-of.ensures ∙ ap level_answer (to_z-of_z w32 a.scale s.ranges.scale)) in
+    configured-is (exponential_wholes a.size l.level-or.result a.sums) (handed s l.level-or.result) a.limit f (dirs s) (lent s) b.start.result _ (said c.set-up.result)
     b.start.ensures c.set-up.ensures
-    ∙ ap (λ (n : ℕ). configuredAs (exponentialWholes a.size n a.sums) (handed s n) a.limit f (dirs s) (lent s)) level
+    ∙ ap (λ (n : ℕ). configured_as (exponential_wholes a.size n a.sums) (handed s n) a.limit f (dirs s) (lent s)) level
 
 pub configure-spec : {M : Type 1} → statement M
 configure-spec =

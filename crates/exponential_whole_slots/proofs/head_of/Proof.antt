@@ -3,27 +3,27 @@ use borrow.Author.Rules.{rules}
 use mathlib.Core.Path.{sym, ap, ◌∙◌}
 use mathlib.Core.List.{List, [], ◌∷◌}
 use lib.Ieee.{Float}
-use Rattle.floats.specs.Starts.{zeroFloat}
-use Rattle.exponential_slots.specs.Cells.{headIn as wordsHead}
+use Rattle.floats.specs.Starts.{zero_float}
+use Rattle.exponential_slots.specs.Cells.{head_in as words_head}
 use Rattle.exponential_slots.proofs.Cases as P
 use Rattle.exponential.specs.declared.Head as F
 use Rattle.exponential.specs.declared.Counts.{Counts}
-use Rattle.exponential_whole_slots.specs.Cells.{headIn}
+use Rattle.exponential_whole_slots.specs.Cells.{head_in}
 use Rattle.exponential_whole_slots.proofs.Cases.{head-held, head-fresh}
 use Rattle.exponential_whole_slots.proofs.head_of.Statement.{statement}
 use Rattle.exponential_whole_slots.proofs.head_of.Tie as tie
 
 abbrev zeros : List Float
-zeros = zeroFloat ∷ zeroFloat ∷ zeroFloat ∷ []
+zeros = zero_float ∷ zero_float ∷ zero_float ∷ []
 
 returns : tie.Need-returns
-unfolding wordsHead
+unfolding words_head
 returns c =
     let h = c.before.before in
     let s = h.before.before in
     let a = s.args in
     c.head-with.ensures
-    ∙ ap (λ (g : F.Head). headIn g.counts a.m) (h.head_of.ensures ∙ P.head-held a.top a.updated a.f zeros h.before.if1.true)
+    ∙ ap (λ (g : F.Head). head_in g.counts a.m) (h.head_of.ensures ∙ P.head-held a.top a.updated a.f zeros h.before.if1.true)
     ∙ sym (head-held a.top a.updated a.f a.m h.before.if1.true)
 
 returns-2 : tie.Need-returns-2

@@ -10,7 +10,7 @@ use mir.Val.{SFits}
 use Rattle.laws.specs.Said.{number}
 use Rattle.integers.proofs.Range.{held}
 use Rattle.exponential_wholes.specs.Series.{said}
-use Rattle.exponential_whole_slots.specs.Cells.{figuresAfter, extremesAfter}
+use Rattle.exponential_whole_slots.specs.Cells.{figures_after, extremes_after}
 use Rattle.exponential_whole_slots.proofs.keep.Statement.{statement}
 use Rattle.exponential_whole_slots.proofs.keep.Tie as tie
 
@@ -28,7 +28,7 @@ returns : tie.Need-returns
 returns c =
     let g = ap said c.before.got.given.1 in
     let a = c.before.before.before.args in
-    (sym (ap number g), (sym (ap (figuresAfter a.x a.figures.now) g), sym (ap (extremesAfter a.x a.extremes.now) g)))
+    (sym (ap number g), (sym (ap (figures_after a.x a.figures.now) g), sym (ap (extremes_after a.x a.extremes.now) g)))
 
 returns-2 : tie.Need-returns-2
 returns-2 c =
@@ -39,9 +39,9 @@ returns-2 c =
     let a = m.before.before.args in (
       sym (ap number g),
       (
-        ap (λ (r : List ℕ). set a.figures.now a.x r) c.before.words-of.ensures ∙ sym (ap (figuresAfter a.x a.figures.now) g),
+        ap (λ (r : List ℕ). set a.figures.now a.x r) c.before.words-of.ensures ∙ sym (ap (figures_after a.x a.figures.now) g),
         (λ j. set a.extremes.now a.x (held h.min (least k) j ∷ held h.max (greatest k) j ∷ held h.sum (sum k) j ∷ []))
-            ∙ sym (ap (extremesAfter a.x a.extremes.now) g),
+            ∙ sym (ap (extremes_after a.x a.extremes.now) g),
       ),
     )
 

@@ -11,7 +11,7 @@ use Rattle.rows.specs.Parts.{part_at}
 use Rattle.integers.proofs.Range.{held}
 use Rattle.exponential_wholes.specs.Series.{said, Outcome, recording}
 use Rattle.exponential_slots.specs.Cells.{readable}
-use Rattle.exponential_whole_slots.specs.Cells.{Cells, recordedAt}
+use Rattle.exponential_whole_slots.specs.Cells.{Cells, recorded_at}
 use Rattle.exponential_whole_slots.proofs.Cases.{into, unread, called, written-by}
 
 abbrev start : tie.After-can-read → tie.Start
@@ -45,7 +45,7 @@ series r =
     ∙ ap (recording a.size a.top a.sums r.before.before.before.head_of.result (part_at a.size (lent s).pos a.x) (part_at a.size (lent s).neg a.x)) (held a.v s.fits.v)
 
 recorded : (r : tie.After-record)
-    → recordedAt (at r).args.size (at r).args.top (at r).args.sums (at r).args.x (at r).args.updated (lent (at r)) (at r).args.v
+    → recorded_at (at r).args.size (at r).args.top (at r).args.sums (at r).args.x (at r).args.updated (lent (at r)) (at r).args.v
     ≡ into (at r).args.size (at r).args.x (lent (at r)) (left r)
 recorded r =
     let a = (at r).args in

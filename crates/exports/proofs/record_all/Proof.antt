@@ -5,7 +5,7 @@ use lib.ListN.{length, take, drop}
 use native.Mathlib.Omega.{arith}
 use Rattle.exponential.specs.declared.Head.{Head}
 use Rattle.exponential.specs.Series.{said, outcome}
-use Rattle.exponential.specs.Inner.{Series, runAll}
+use Rattle.exponential.specs.Inner.{Series, run_all}
 use Rattle.exports.specs.Exports.{recorded}
 use Rattle.exports.proofs.Following.{turn, ended}
 use Rattle.exports.proofs.record_all.Statement.{statement}
@@ -14,7 +14,7 @@ use Rattle.exports.proofs.record_all.Tie as tie
 abbrev invariant-loop : tie.invariant-loop
 invariant-loop size top pos₀ neg₀ values head₀ n i₀ pos neg head i =
     (i ≤ n) × (length pos ≡ length pos₀) × (length neg ≡ length neg₀)
-    × (recorded size top pos₀ neg₀ values ≡ runAll size top (record { head = head; pos = pos; neg = neg }) (take (1000000 - i) (drop i values)))
+    × (recorded size top pos₀ neg₀ values ≡ run_all size top (record { head = head; pos = pos; neg = neg }) (take (1000000 - i) (drop i values)))
 
 abbrev decreases-loop : tie.decreases-loop
 decreases-loop size top pos₀ neg₀ values head₀ n i₀ pos neg head i = n - i
@@ -31,7 +31,7 @@ loop-holds c =
     let f = c.before in
     let a = f.before.before.before.before.args in
     let vs = take 1000000 a.values.now in
-    let from : Head → Series = λ h. runAll a.size a.top (record { head = h; pos = a.pos.now; neg = a.neg.now }) vs in
+    let from : Head → Series = λ h. run_all a.size a.top (record { head = h; pos = a.pos.now; neg = a.neg.now }) vs in
     (omega arith, refl, refl, ap from (sym f.fresh.ensures))
 
 -- in a turn the place is in the list

@@ -1,20 +1,20 @@
 -- `smaller` meets its contract. Assumes nothing.
 use mathlib.Core.Path.{sym, ap, ◌∙◌}
 use borrow.Author.Rules.{rules}
-use Rattle.floats.specs.Answers.{smallerOf}
+use Rattle.floats.specs.Answers.{smaller_of}
 use Rattle.floats.specs.declared.Extreme.TheVariants.{Value}
 use Rattle.floats.proofs.smaller.Statement.{statement}
 use Rattle.floats.proofs.smaller.Tie as tie
 
 -- the second is not there: the first
 returns-2 : tie.Need-returns-2
-returns-2 c = sym (λ j. smallerOf (c.before.before.before.low.given.1 j) (c.enum-told2.given.1 j))
+returns-2 c = sym (λ j. smaller_of (c.before.before.before.low.given.1 j) (c.enum-told2.given.1 j))
 
 -- both are
 returns-3 : tie.Need-returns-3
 returns-3 c =
     let o = c.before.before in
-    ap Value c.lesser.ensures ∙ sym (λ j. smallerOf (o.before.before.before.low.given.1 j) (o.other.given.1 j))
+    ap Value c.lesser.ensures ∙ sym (λ j. smaller_of (o.before.before.before.low.given.1 j) (o.other.given.1 j))
 
 pub smaller-spec : {M : Type 1} → statement M
 smaller-spec =

@@ -4,7 +4,7 @@ use borrow.Author.Rules.{rules}
 use Rattle.directory.specs.View.{Stores, stores}
 use Rattle.exponential_slots.specs.Cells.{Cells, cells}
 use Rattle.listing.specs.Listed.{Output, output}
-use Rattle.gauge_lines.proofs.Following.{line-none, line-unread, line-record, line-start, line-collect}
+use Rattle.gauge_lines.proofs.Following.{line-none, line-unread, line_record, line-start, line-collect}
 use Rattle.gauge_lines.proofs.make.Statement.{statement}
 use Rattle.gauge_lines.proofs.make.Tie as tie
 
@@ -42,7 +42,7 @@ returns-3 c =
     let e = r.before.before.before.before.before.before.before.before in
     let j = e.before.before in
     let a = (start j).args in
-    line-record a.form a.g a.line.now a.over a.n a.text.now (dirs j) (lent j) (outs j) r.«record».result
+    line_record a.form a.g a.line.now a.over a.n a.text.now (dirs j) (lent j) (outs j) r.«record».result
     c.silent2.result c.silent2.ensures _ _ (sym j.call-in.ensures ∙ e.enum-told3.given.1) r.«record».ensures
 
 returns-4 : tie.Need-returns-4

@@ -12,8 +12,8 @@ abbrev decreases-loop : tie.decreases-loop
 decreases-loop form block₀ text₀ line₀ sets₀ entries₀ order₀ figures₀ extremes₀ pos₀ neg₀ out-sets₀ out-words₀ out-pos₀ out-neg₀ ports₀ gauge₀ number₀ block text line sets entries order figures extremes pos neg out-sets out-words out-pos out-neg ports gauge number =
     18446744073709551615 - number
 
-first-requires : tie.Need-first-requires invariant-loop decreases-loop
-first-requires c κs = tt
+first_requires : tie.Need-first-requires invariant-loop decreases-loop
+first_requires c κs = tt
 
 idle-requires : tie.Need-idle-requires invariant-loop decreases-loop
 idle-requires c κs = tt
@@ -46,5 +46,5 @@ returns c = tt
 pub run_spec : {M : Type 1} → statement M
 run_spec =
     tie.close
-    (tie.spec invariant-loop decreases-loop first-requires idle-requires loop-holds (λ c. omega arith) next-requires front-requires follow-requires
+    (tie.spec invariant-loop decreases-loop first_requires idle-requires loop-holds (λ c. omega arith) next-requires front-requires follow-requires
     loop-less loop-again write-requires returns)

@@ -6,7 +6,7 @@ use lib.ListN.{length, length-set}
 use Rattle.rows.specs.Rows.{over}
 use Rattle.rows.specs.Groups.{gathered}
 use Rattle.rows.proofs.Groups.{gathered_none}
-use Rattle.halving.specs.Plain.{halvedOnce}
+use Rattle.halving.specs.Plain.{halved_once}
 use Rattle.halving.proofs.Halves.{Half, half, none_left, one_left}
 use Rattle.halving.proofs.halve.Statement.{statement}
 use Rattle.halving.proofs.halve.Tie as tie
@@ -31,7 +31,7 @@ in-turn c =
     half a.counts.now l.counts (a.start % 2) a.n l.i l.len l.invariant.0 l.invariant.1 c.loop-test.true p.0 p.1 l.invariant.4
 
 returns : tie.Need-returns invariant-loop decreases-loop
-unfolding halvedOnce over
+unfolding halved_once over
 returns c = rw c.if1.true (refl, refl)
 
 loop-holds : tie.Need-loop-init invariant-loop decreases-loop

@@ -5,8 +5,8 @@ use borrow.Author.Rules.{rules}
 use Rattle.directory.specs.declared.Directory.{Directory}
 use Rattle.directory.specs.View.{stores}
 use Rattle.exponential_slots.specs.Cells.{Cells, cells}
-use Rattle.value_map.specs.Calls.{Held, Outcome, held, measuredBy}
-use Rattle.value_map.specs.Exponential.{exponentialStore}
+use Rattle.value_map.specs.Calls.{Held, Outcome, held, measured_by}
+use Rattle.value_map.specs.Exponential.{exponential_store}
 use Rattle.batches.specs.Agreed.{AgreedBy}
 use Rattle.map_words.proofs.Handed.{handed}
 use Rattle.handle_agreed_exports.proofs.agreed_measure_by.Statement.{statement}
@@ -18,7 +18,7 @@ measure-by-agreed-requires c κs =
     let s = t.before.before.before.before.before in
     let a = s.args in
     let h : Directory → Held Cells = λ d. held d (stores a.sets a.entries a.order) (cells a.figures a.extremes a.pos a.neg) in
-    subst (λ d. AgreedBy (exponentialStore a.size a.top) (true, true) a.limit (h d) a.handle) (sym t.state-of.ensures) s.requires
+    subst (λ d. AgreedBy (exponential_store a.size a.top) (true, true) a.limit (h d) a.handle) (sym t.state-of.ensures) s.requires
 
 returns : tie.Need-returns
 returns c =
@@ -27,7 +27,7 @@ returns c =
     let a = t.before.before.before.before.before.args in
     let s = stores a.sets a.entries a.order in
     let x = cells a.figures a.extremes a.pos a.neg in
-    let by : Directory → Outcome Cells = λ d. measuredBy (exponentialStore a.size a.top) a.limit (held d s x) a.v a.handle in
+    let by : Directory → Outcome Cells = λ d. measured_by (exponential_store a.size a.top) a.limit (held d s x) a.v a.handle in
     let e = m.measure-by-agreed.ensures ∙ ap by t.state-of.ensures in
     handed a.state.now _ _ m.measure-by-agreed.result _ c.number_of.result _ e c.number_of.ensures c.before.words-of.ensures
 

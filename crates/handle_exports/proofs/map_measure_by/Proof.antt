@@ -3,8 +3,8 @@ use mathlib.Core.Path.{ap, ◌∙◌}
 use Rattle.directory.specs.declared.Directory.{Directory}
 use Rattle.directory.specs.View.{stores}
 use Rattle.exponential_slots.specs.Cells.{Cells, cells}
-use Rattle.value_map.specs.Calls.{Outcome, held, measuredBy}
-use Rattle.value_map.specs.Exponential.{exponentialStore}
+use Rattle.value_map.specs.Calls.{Outcome, held, measured_by}
+use Rattle.value_map.specs.Exponential.{exponential_store}
 use Rattle.map_words.proofs.Handed.{handed}
 use borrow.Author.Rules.{rules}
 use Rattle.handle_exports.proofs.map_measure_by.Statement.{statement}
@@ -17,7 +17,7 @@ returns c =
     let a = t.before.before.before.before.before.args in
     let s = stores a.sets a.entries a.order in
     let x = cells a.figures a.extremes a.pos a.neg in
-    let by : Directory → Outcome Cells = λ d. measuredBy (exponentialStore a.size a.top) a.limit (held d s x) a.v a.handle in
+    let by : Directory → Outcome Cells = λ d. measured_by (exponential_store a.size a.top) a.limit (held d s x) a.v a.handle in
     let e = m.measure-by.ensures ∙ ap by t.state-of.ensures in
     handed a.state.now _ _ m.measure-by.result _ c.number_of.result _ e c.number_of.ensures c.before.words-of.ensures
 

@@ -2,7 +2,7 @@
 use mathlib.Core.Path.{◌≡◌, sym, ap, ◌∙◌}
 use Prim.Native.Nat.{ℕ, ◌+◌, ◌-◌, ◌*◌, ◌/◌, ◌^◌, ◌≤◌}
 use native.Mathlib.Omega.{arith}
-use Rattle.index.specs.Bins.{finest, binAt}
+use Rattle.index.specs.Bins.{finest, bin_at}
 use Rattle.index.proofs.Laws.{coarser}
 use borrow.Author.Rules.{rules}
 use Rattle.index.proofs.bin_from.Statement.{statement}
@@ -13,7 +13,7 @@ returns c =
     let s = c.before.before in
     let w = s.args.mantissa * 2 ^ s.args.exponent in
     ap (λ (b : ℕ). b / 2 ^ (10 - s.args.level)) c.whole-bin.ensures
-    ∙ sym (coarser s.args.level (10 - s.args.level) w (under s.args.level c.before.if1.true) ∙ ap (λ (n : ℕ). binAt n w / 2 ^ (10 - s.args.level)) (ten s.args.level c.before.if1.true))
+    ∙ sym (coarser s.args.level (10 - s.args.level) w (under s.args.level c.before.if1.true) ∙ ap (λ (n : ℕ). bin_at n w / 2 ^ (10 - s.args.level)) (ten s.args.level c.before.if1.true))
   where
     under : (level : ℕ) → level ≤ 10 → level + (10 - level) ≤ 20
     under level h = omega (arith, h)

@@ -2,7 +2,7 @@
 use mathlib.Core.Path.{◌≡◌, sym, ap, ◌∙◌}
 use Prim.Native.Nat.{ℕ, ◌*◌, ◌^◌, ◌≤◌, ◌<◌}
 use native.Mathlib.Omega.{arith}
-use Rattle.index.specs.Bins.{binAt}
+use Rattle.index.specs.Bins.{bin_at}
 use Rattle.index.proofs.Whole.{whole-power, whole-other}
 use borrow.Author.Rules.{rules}
 use Rattle.index.proofs.whole_bin.Statement.{statement}
@@ -11,7 +11,7 @@ use Rattle.index.proofs.whole_bin.Tie as tie
 returns : tie.Need-returns
 returns c =
     let s = c.before in
-    sym (ap (λ (m : ℕ). binAt 10 (m * 2 ^ s.args.exponent)) c.if1.true ∙ whole-power s.args.exponent s.requires.3)
+    sym (ap (λ (m : ℕ). bin_at 10 (m * 2 ^ s.args.exponent)) c.if1.true ∙ whole-power s.args.exponent s.requires.3)
 
 returns-2 : tie.Need-returns-2
 returns-2 c =

@@ -9,8 +9,8 @@ invariant-loop block₀ text₀ line₀ ports₀ turns₀ block text line ports 
 abbrev decreases-loop : tie.decreases-loop
 decreases-loop block₀ text₀ line₀ ports₀ turns₀ block text line ports turns = turns
 
-first-requires : tie.Need-first-requires invariant-loop decreases-loop
-first-requires c κs = tt
+first_requires : tie.Need-first-requires invariant-loop decreases-loop
+first_requires c κs = tt
 
 loop-holds : tie.Need-loop-init invariant-loop decreases-loop
 loop-holds c = tt
@@ -36,5 +36,5 @@ returns c = tt
 pub main_spec : {M : Type 1} → statement M
 main_spec =
     tie.close
-    (tie.spec invariant-loop decreases-loop first-requires loop-holds next-requires front-requires said-requires (λ c. omega arith) (λ c. omega arith)
+    (tie.spec invariant-loop decreases-loop first_requires loop-holds next-requires front-requires said-requires (λ c. omega arith) (λ c. omega arith)
     loop-again write-requires returns)

@@ -1,6 +1,6 @@
 -- `larger` meets its contract. Assumes nothing.
 use Rattle.std.proofs.Common.{ℤ, sym, ap, ◌∙◌, w64, SFits, to_z, of_z, rules}
-use Rattle.integers.specs.Answers.{greater_of, largerOf}
+use Rattle.integers.specs.Answers.{greater_of, larger_of}
 use Rattle.integers.specs.declared.Extreme.TheVariants.{Value}
 use Rattle.integers.proofs.Range.{held}
 use Rattle.integers.proofs.larger.Statement.{statement}
@@ -8,7 +8,7 @@ use Rattle.integers.proofs.larger.Tie as tie
 
 -- the second is not there: the first
 returns-2 : tie.Need-returns-2
-returns-2 c = sym (λ j. largerOf (c.before.before.before.high.given.1 j) (c.enum-told2.given.1 j))
+returns-2 c = sym (λ j. larger_of (c.before.before.before.high.given.1 j) (c.enum-told2.given.1 j))
 
 -- both are
 returns-3 : tie.Need-returns-3
@@ -21,7 +21,7 @@ returns-3 c =
     let g : SFits w64 y = search rules in
     let r : SFits w64 c.greater.result = search rules in
     ap Value (held c.greater.result r ∙ c.greater.ensures ∙ ap (λ (z : ℤ). greater_of z (to_z w64 (of_z w64 y))) (held x f) ∙ ap (greater_of x) (held y g))
-    ∙ sym (λ j. largerOf (l.high.given.1 j) (o.other.given.1 j))
+    ∙ sym (λ j. larger_of (l.high.given.1 j) (o.other.given.1 j))
 
 pub larger-spec : {M : Type 1} → statement M
 larger-spec =

@@ -1,7 +1,7 @@
 -- `nearest` meets its contract. Assumes nothing.
 use Rattle.std.proofs.Common.{T, ℤ, pos, negsuc, sym, ap, ◌∙◌, subst, lit<, rules}
 use lib.Ieee.{binary64, in_float}
-use Rattle.integers.specs.Answers.{between, nearestOf}
+use Rattle.integers.specs.Answers.{between, nearest_of}
 use Rattle.integers.proofs.Range.{held, middling, exact}
 use Rattle.integers.proofs.nearest.Statement.{statement}
 use Rattle.integers.proofs.nearest.Tie as tie
@@ -16,10 +16,10 @@ int-to-float-result c =
     subst (λ (z : ℤ). T (in_float binary64 z)) (sym e) (exact n (middling 9007199254740992 n (lit< tt) b))
 
 returns : tie.Need-returns
-returns c = let s = c.before.before.before in ap nearestOf (held s.args.n s.ranges.n)
+returns c = let s = c.before.before.before in ap nearest_of (held s.args.n s.ranges.n)
 
 returns-2 : tie.Need-returns-2
-returns-2 c = let s = c.before.before.before in c.nearest-i64-to-f64.ensures ∙ ap nearestOf (held s.args.n s.ranges.n)
+returns-2 c = let s = c.before.before.before in c.nearest-i64-to-f64.ensures ∙ ap nearest_of (held s.args.n s.ranges.n)
 
 pub nearest-spec : {M : Type 1} → statement M
 nearest-spec = tie.close (tie.spec (λ c κs. search rules) int-to-float-result returns (λ c κs. search rules) returns-2)

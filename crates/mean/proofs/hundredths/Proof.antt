@@ -4,7 +4,7 @@ use mathlib.Core.Path.{sym, ap, ◌∙◌}
 use borrow.Author.Tests.{not-true, not-false}
 use Rattle.point.specs.Handing.{stored}
 use Rattle.point.proofs.Means.{count-is}
-use Rattle.mean.specs.Mean.{meanOf}
+use Rattle.mean.specs.Mean.{mean_of}
 use Rattle.mean.proofs.Cases.{mean-disagrees, mean-agrees}
 use borrow.Author.Rules.{rules}
 use Rattle.mean.proofs.hundredths.Statement.{statement}
@@ -20,7 +20,7 @@ returns-2 c =
     let e = c.before.before in
     let a = e.before.before.before.before.before.args in
     c.mean-of.ensures
-    ∙ ap (λ (n : ℕ). meanOf n a.p.sum) (c.before.count-in.ensures ∙ count-is a.p.figures a.bounds.now a.pos.now a.neg.now)
+    ∙ ap (λ (n : ℕ). mean_of n a.p.sum) (c.before.count-in.ensures ∙ count-is a.p.figures a.bounds.now a.pos.now a.neg.now)
     ∙ sym (mean-agrees (stored a.p a.bounds a.pos a.neg) (sym e.before.agrees-alone.ensures ∙ not-false _ e.if1.false))
 
 pub hundredths-spec : {M : Type 1} → statement M

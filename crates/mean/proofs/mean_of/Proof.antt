@@ -10,7 +10,7 @@ use Rattle.floats.specs.Grid.{signed}
 use Rattle.mean.specs.declared.Sum.TheVariants.{Steps}
 use Rattle.mean.specs.Inner.{sum_of}
 use Rattle.mean.proofs.Sums.{steps-le}
-use Rattle.mean.proofs.Cases.{meanBy, mean-none, mean-some}
+use Rattle.mean.proofs.Cases.{mean_by, mean-none, mean-some}
 use borrow.Author.Rules.{rules}
 use Rattle.mean.proofs.mean_of.Statement.{statement}
 use Rattle.mean.proofs.mean_of.Tie as tie
@@ -30,7 +30,7 @@ nearest-requires c κs =
 returns-2 : tie.Need-returns-2
 returns-2 c =
     let a = c.before.before.before.before.args in
-    sym (mean-some a.count a.sum c.before.before.before.if1.false ∙ ap (meanBy a.count) (sym c.before.before.sum-of.ensures ∙ c.enum_told.given.1))
+    sym (mean-some a.count a.sum c.before.before.before.if1.false ∙ ap (mean_by a.count) (sym c.before.before.sum-of.ensures ∙ c.enum_told.given.1))
 
 returns-3 : tie.Need-returns-3
 returns-3 c =
@@ -39,7 +39,7 @@ returns-3 c =
     let r = c.signed.result in
     let held : SFits w64 r = search rules in
     ap success (to_z-of_z w64 r held ∙ c.signed.ensures ∙ ap (λ (n : ℕ). signed f.found.given.0.0 n) c.before.nearest.ensures.0)
-    ∙ sym (mean-some a.count a.sum f.before.before.before.if1.false ∙ ap (meanBy a.count) (told f))
+    ∙ sym (mean-some a.count a.sum f.before.before.before.if1.false ∙ ap (mean_by a.count) (told f))
 
 pub mean-of-spec : {M : Type 1} → statement M
 mean-of-spec =

@@ -2,7 +2,7 @@
 use mathlib.Core.Path.{sym, ◌∙◌}
 use Prim.Native.Nat.{◌-◌, ◌<◌, ◌^◌}
 use native.Mathlib.Omega.{arith}
-use Rattle.mean.proofs.Sums.{parts-top, parts-over, parts-far, parts_low, parts-shift, shifted-whole, shifted_none}
+use Rattle.mean.proofs.Sums.{parts-top, parts-over, parts-far, parts_low, parts_shift, shifted-whole, shifted_none}
 use borrow.Author.Rules.{rules}
 use Rattle.mean.proofs.sum_of_parts.Statement.{statement}
 use Rattle.mean.proofs.sum_of_parts.Tie as tie
@@ -33,13 +33,13 @@ returns-4 c =
 returns-5 : tie.Need-returns-5
 returns-5 c =
     let a = c.before.before.before.args in
-    sym (parts-shift a.negative a.mantissa a.exponent (omega (arith, c.before.before.if1.false)) (omega (arith, c.before.if4.false))
+    sym (parts_shift a.negative a.mantissa a.exponent (omega (arith, c.before.before.if1.false)) (omega (arith, c.before.if4.false))
     ∙ shifted-whole a.negative a.mantissa (2038 - a.exponent) (most c.before.before.before) c.if5.true)
 
 returns-6 : tie.Need-returns-6
 returns-6 c =
     let a = c.before.before.before.args in
-    sym (parts-shift a.negative a.mantissa a.exponent (omega (arith, c.before.before.if1.false)) (omega (arith, c.before.if4.false))
+    sym (parts_shift a.negative a.mantissa a.exponent (omega (arith, c.before.before.if1.false)) (omega (arith, c.before.if4.false))
     ∙ shifted_none a.negative a.mantissa (2038 - a.exponent) (most c.before.before.before) c.if5.false)
 
 pub sum-of-parts-spec : {M : Type 1} → statement M

@@ -1,17 +1,17 @@
 use mathlib.Core.Path.{◌≡◌}
 use native.Mathlib.Omega.{arith}
 use borrow.Author.Rules.{rules}
-use Rattle.merges.specs.Merges.{rowsLow}
-use Rattle.merges.proofs.Merging.{plan-law, plan-made}
+use Rattle.merges.specs.Merges.{rows_low}
+use Rattle.merges.proofs.Merging.{plan_law, plan-made}
 use Rattle.merges.proofs.plan_of.Statement.{statement}
 use Rattle.merges.proofs.plan_of.Tie as tie
 
-low : (c : tie.After-greater) → c.greater.result ≡ rowsLow c.before.before.before.before.before.before.before.before.args.size c.before.before.before.before.before.before.before.before.args.a c.before.before.before.before.before.before.before.before.args.b
+low : (c : tie.After-greater) → c.greater.result ≡ rows_low c.before.before.before.before.before.before.before.before.args.size c.before.before.before.before.before.before.before.before.args.a c.before.before.before.before.before.before.before.before.args.b
 low c =
     let s = c.before.before in
     let l = s.before.before.before.before.before in
     let a = l.before.args in
-    plan-law a.size a.a a.b l.lesser.result s.span.result c.before.span2.result c.greater.result l.lesser.ensures s.span.ensures c.before.span2.ensures c.greater.ensures
+    plan_law a.size a.a a.b l.lesser.result s.span.result c.before.span2.result c.greater.result l.lesser.ensures s.span.ensures c.before.span2.ensures c.greater.ensures
 
 sub-span : tie.Need-overflow-sub-span
 sub-span c = omega (arith, c.before.before.before.before.lesser.ensures)

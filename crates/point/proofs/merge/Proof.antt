@@ -1,5 +1,5 @@
 use mathlib.Core.Path.{◌≡◌, sym, ◌∙◌}
-use Rattle.point.specs.Handing.{Stored, stored, refusalBefore, said}
+use Rattle.point.specs.Handing.{Stored, stored, refusal_before, said}
 use Rattle.point.proofs.Calls as calls
 use borrow.Author.Rules.{rules}
 use Rattle.point.proofs.merge.Statement.{statement}
@@ -14,7 +14,7 @@ second s = stored s.args.b s.args.bbounds s.args.bpos s.args.bneg
 abbrev start : tie.Else1 → tie.Start
 start e = e.before.before.before.before.before.before.before.before.before.before
 
-free : (e : tie.Else1) → refusalBefore (start e).args.size (first (start e)) (second (start e)) ≡ 0
+free : (e : tie.Else1) → refusal_before (start e).args.size (first (start e)) (second (start e)) ≡ 0
 free e = sym e.before.refusal.ensures ∙ e.if1.false
 
 returns : tie.Need-returns

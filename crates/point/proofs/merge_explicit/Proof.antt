@@ -2,10 +2,10 @@ use Prim.Native.Nat.{ℕ}
 use mathlib.Core.Path.{sym, ap, ◌∙◌, subst}
 use native.Mathlib.Omega.{arith}
 use lib.ListN.{take}
-use Rattle.points.specs.Explicit.{bucketCount, added}
+use Rattle.points.specs.Explicit.{bucket_count, added}
 use Rattle.rows.specs.Rows.{over}
 use Rattle.explicit.specs.Inner.{Addable}
-use Rattle.point.proofs.Laid.{no_one, laid_one}
+use Rattle.point.proofs.Laid.{no_one, laid_one_lem}
 use borrow.Author.Rules.{rules}
 use Rattle.point.proofs.merge_explicit.Statement.{statement}
 use Rattle.point.proofs.merge_explicit.Tie as tie
@@ -14,7 +14,7 @@ returns : tie.Need-returns
 returns c =
     let k = c.before in
     let a = k.before.before.before.before.before.args in
-    no_one (bucketCount a.bounds.now) a.n a.apos.now a.m a.bpos.now a.pos.now (omega (arith, c.if1.true, k.bucket-count.ensures))
+    no_one (bucket_count a.bounds.now) a.n a.apos.now a.m a.bpos.now a.pos.now (omega (arith, c.if1.true, k.bucket-count.ensures))
 
 add-counts-requires : tie.Need-add-counts-requires
 add-counts-requires c κs =
@@ -36,7 +36,7 @@ returns-2 c =
     let k = e.before in
     let a = k.before.before.before.before.before.args in
     let q = k.bucket-count.ensures in
-    laid_one (bucketCount a.bounds.now) a.n a.apos.now a.m a.bpos.now a.pos.now (omega (arith, e.if1.false, q)) d.add-counts.new.1.1.1.0
+    laid_one_lem (bucket_count a.bounds.now) a.n a.apos.now a.m a.bpos.now a.pos.now (omega (arith, e.if1.false, q)) d.add-counts.new.1.1.1.0
     (d.add-counts.ensures ∙ ap (λ (k : ℕ). over (added (take k a.apos.now) (take k a.bpos.now)) a.pos.now) q)
 
 pub merge-explicit-spec : {M : Type 1} → statement M

@@ -21,19 +21,19 @@ start e = e.before.before.before.before.before.before.before.before
 abbrev Passed : (ℕ → Stored → Stored → Bool) → tie.Start → Type 0
 Passed test s = test s.args.size (first s) (second s) ≡ true
 
-sized : (e : tie.Else1) → Passed calls.sizeOk (start e)
+sized : (e : tie.Else1) → Passed calls.size_ok (start e)
 sized e = sym e.before.size_fits.ensures ∙ not-false _ e.if1.false
 
-first-agrees : (e : tie.Else2) → Passed calls.firstOk (start e.before.before)
+first-agrees : (e : tie.Else2) → Passed calls.first_ok (start e.before.before)
 first-agrees e = sym e.before.point_agrees.ensures ∙ not-false _ e.if2.false
 
-second-agrees : (e : tie.Else3) → Passed calls.secondOk (start e.before.before.before.before)
+second-agrees : (e : tie.Else3) → Passed calls.second_ok (start e.before.before.before.before)
 second-agrees e = sym e.before.point-agrees2.ensures ∙ not-false _ e.if3.false
 
-alike : (e : tie.Else4) → Passed calls.kindOk (start e.before.before.before.before.before.before)
+alike : (e : tie.Else4) → Passed calls.kind_ok (start e.before.before.before.before.before.before)
 alike e = sym e.before.same_kind.ensures ∙ not-false _ e.if4.false
 
-switched : (e : tie.Else5) → Passed calls.switchOk (start e.before.before.before.before.before.before.before.before)
+switched : (e : tie.Else5) → Passed calls.switch_ok (start e.before.before.before.before.before.before.before.before)
 switched e = sym e.before.same_switch.ensures ∙ not-false _ e.if5.false
 
 returns : tie.Need-returns

@@ -4,7 +4,7 @@ use native.Mathlib.Omega.{arith}
 use Rattle.laws.specs.Said.{refusal}
 use Rattle.listing.specs.Listed.{Output}
 use Rattle.pooling.specs.Lists.{Source, source, nameless, ends}
-use Rattle.pooling.proofs.Calls.{no-set, by-reals, by-wholes, by-mixed, by-mixed-2}
+use Rattle.pooling.proofs.Calls.{no-set, by-reals, by-wholes, by_mixed, by_mixed_2}
 use borrow.Author.Rules.{rules}
 use Rattle.pooling.proofs.merge_at.Statement.{statement}
 use Rattle.pooling.proofs.merge_at.Tie as tie
@@ -45,7 +45,7 @@ returns-3 c =
     let e = w.before in
     let s = start e in
     ap (λ n. ends (refusal n) (lent s)) c.mixed.ensures
-    ∙ by-mixed s.args.size s.args.a (first s) s.args.b (second s) s.args.at (lent s) (omega (arith, e.if1.false))
+    ∙ by_mixed s.args.size s.args.a (first s) s.args.b (second s) s.args.at (lent s) (omega (arith, e.if1.false))
     (sym w.is-whole.ensures ∙ t.before.before.if2.true) (sym t.before.is-whole2.ensures ∙ t.if3.false)
 
 returns-4 : tie.Need-returns-4
@@ -55,7 +55,7 @@ returns-4 c =
     let e = w.before in
     let s = start e in
     ap (λ n. ends (refusal n) (lent s)) c.mixed2.ensures
-    ∙ by-mixed-2 s.args.size s.args.a (first s) s.args.b (second s) s.args.at (lent s) (omega (arith, e.if1.false))
+    ∙ by_mixed_2 s.args.size s.args.a (first s) s.args.b (second s) s.args.at (lent s) (omega (arith, e.if1.false))
     (sym w.is-whole.ensures ∙ t.before.before.if2.false) (sym t.before.is-whole3.ensures ∙ t.if4.true)
 
 returns-5 : tie.Need-returns-5

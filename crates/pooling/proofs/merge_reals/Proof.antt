@@ -3,7 +3,7 @@ use mathlib.Core.Path.{refl, sym, ◌∙◌}
 use Rattle.listing.specs.Listed.{Output}
 use Rattle.pooling.specs.Lists.{Source, nameless}
 use Rattle.pooling.proofs.Whole.{whole-lies}
-use Rattle.pooling.proofs.Calls.{reals-law}
+use Rattle.pooling.proofs.Calls.{reals_law}
 use borrow.Author.Rules.{rules}
 use Rattle.pooling.proofs.merge_reals.Statement.{statement}
 use Rattle.pooling.proofs.merge_reals.Tie as tie
@@ -35,7 +35,7 @@ returns : tie.Need-returns
 returns c =
     let v = c.before.before in
     let s = start v in
-    reals-law s.args.size s.args.row s.args.a (first s) s.args.b (second s) s.args.at (lent s) _ _
+    reals_law s.args.size s.args.row s.args.a (first s) s.args.b (second s) s.args.at (lent s) _ _
     (sym c.enum_told.given.1 ∙ v.before.whole-at.ensures) refl
 
 returns-2 : tie.Need-returns-2
@@ -43,7 +43,7 @@ returns-2 c =
     let f = c.before.before.before in
     let v = f.before.before in
     let s = start v in
-    reals-law s.args.size s.args.row s.args.a (first s) s.args.b (second s) s.args.at (lent s) _ _
+    reals_law s.args.size s.args.row s.args.a (first s) s.args.b (second s) s.args.at (lent s) _ _
     (sym f.first.given.1 ∙ v.before.whole-at.ensures) (sym c.enum-told2.given.1 ∙ v.whole-at2.ensures)
 
 returns-3 : tie.Need-returns-3
@@ -54,7 +54,7 @@ returns-3 c =
     let v = f.before.before in
     let s = start v in
     m.pool.ensures
-    ∙ reals-law s.args.size s.args.row s.args.a (first s) s.args.b (second s) s.args.at (lent s) _ _
+    ∙ reals_law s.args.size s.args.row s.args.a (first s) s.args.b (second s) s.args.at (lent s) _ _
     (sym f.first.given.1 ∙ v.before.whole-at.ensures) (sym g.second.given.1 ∙ v.whole-at2.ensures)
 
 pub merge-reals-spec : {M : Type 1} → statement M

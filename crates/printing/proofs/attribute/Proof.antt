@@ -4,13 +4,13 @@ use mathlib.Core.List.{[], ◌∷◌}
 use Rattle.lines.specs.Gathered.{waiting}
 use Rattle.lines.specs.Written.{decimal}
 use Rattle.lines.proofs.Gathering.{then}
-use Rattle.printing.specs.Fields.{attributeField}
+use Rattle.printing.specs.Fields.{attribute_field}
 use borrow.Author.Rules.{rules}
 use Rattle.printing.proofs.attribute.Statement.{statement}
 use Rattle.printing.proofs.attribute.Tie as tie
 
 returns : tie.Need-returns
-unfolding attributeField
+unfolding attribute_field
 returns c =
     let a = c.before.before.before.before.before.before.args in
     let value = decimal (a.word % 4294967296) in

@@ -7,7 +7,7 @@ use Rattle.listing.specs.Listed.{Output, output}
 use Rattle.listing.specs.declared.Cursor.{Cursor}
 use Rattle.lines.specs.Gathered.{waiting, ◌behind◌}
 use Rattle.lines.proofs.Gathering.{then}
-use Rattle.printing.specs.Printed.{line_at, next_at, linesBy, collectionHead, collectionLines}
+use Rattle.printing.specs.Printed.{line_at, next_at, lines_by, collection_head, collection_lines}
 use Rattle.printing.proofs.Points.{lines_start, lines-turn, lines_end}
 use Rattle.printing.proofs.collection.Statement.{statement}
 use Rattle.printing.proofs.collection.Tie as tie
@@ -16,8 +16,8 @@ abbrev invariant-loop : tie.invariant-loop
 invariant-loop text₀ n form start time many sets words pos neg bounds m done₀ i₀ text done i =
     let o : Output = record { sets = sets; words = words; pos = pos; neg = neg } in
     (i ≤ many)
-    × ((linesBy (λ c. line_at form c o bounds) (λ c. next_at c o) (many - i) done.at behind record { count = done.n; block = text })
-    ≡ (linesBy (λ c. line_at form c o bounds) (λ c. next_at c o) many (record { place = 0; pos = 0; neg = 0 }) behind record { count = m; block = text₀ }))
+    × ((lines_by (λ c. line_at form c o bounds) (λ c. next_at c o) (many - i) done.at behind record { count = done.n; block = text })
+    ≡ (lines_by (λ c. line_at form c o bounds) (λ c. next_at c o) many (record { place = 0; pos = 0; neg = 0 }) behind record { count = m; block = text₀ }))
 
 abbrev decreases-loop : tie.decreases-loop
 decreases-loop text₀ n form start time many sets words pos neg bounds m done₀ i₀ text done i = many - i
@@ -54,13 +54,13 @@ loop-again c =
     )
 
 returns : tie.Need-returns invariant-loop decreases-loop
-unfolding collectionLines
+unfolding collection_lines
 returns c =
     let l = c.before.loop in
     let h = c.before.before in
     let s = h.before.before.before.before.before in
     let a = s.args in
-    then (collectionHead a.start a.time a.many) _ (waiting a.n a.text) h.head.ensures
+    then (collection_head a.start a.time a.many) _ (waiting a.n a.text) h.head.ensures
     (sym (lines_end (printed s) (next s) a.many l.done.at _ l.i c.loop-test.false) ∙ l.invariant.1)
 
 pub collection-spec : {M : Type 1} → statement M

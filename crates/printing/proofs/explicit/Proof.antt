@@ -5,8 +5,8 @@ use mathlib.Core.List.{List, [], ◌∷◌, map}
 use Rattle.lines.specs.Gathered.{waiting}
 use Rattle.lines.specs.Written.{decimal}
 use Rattle.lines.proofs.Gathering.{then, spelt}
-use Rattle.printing.specs.Fields.{joined, listed, floatField}
-use Rattle.printing.specs.Printed.{heldFields}
+use Rattle.printing.specs.Fields.{joined, listed, float_field}
+use Rattle.printing.specs.Printed.{held_fields}
 use Rattle.printing.proofs.Putting.{a-field, fields, no_field, listed-is}
 use borrow.Author.Rules.{rules}
 use Rattle.printing.proofs.explicit.Statement.{statement}
@@ -21,11 +21,11 @@ returns c =
     let a = h.before.before.before.before.args in
     let xs = a.buckets.now in
     let ys = a.bounds.now in
-    fields 32 (waiting a.n a.text) (heldFields a.p []) (listed (map decimal xs) ∷ listed (map floatField ys) ∷ []) h.held.ensures
-    (a-field 32 _ (listed (map decimal xs)) (listed (map floatField ys) ∷ [])
+    fields 32 (waiting a.n a.text) (held_fields a.p []) (listed (map decimal xs) ∷ listed (map float_field ys) ∷ []) h.held.ensures
+    (a-field 32 _ (listed (map decimal xs)) (listed (map float_field ys) ∷ [])
     (spelt (ap (λ (r : List ℕ). 32 ∷ r) (listed-is decimal xs)) _ (then _ (joined 44 (map decimal xs)) _ b.dash.ensures d.counts.ensures))
-    (a-field 32 _ (listed (map floatField ys)) []
-    (spelt (ap (λ (r : List ℕ). 32 ∷ r) (listed-is floatField ys)) _ (then _ (joined 44 (map floatField ys)) _ e.dash2.ensures c.all-bits.ensures))
+    (a-field 32 _ (listed (map float_field ys)) []
+    (spelt (ap (λ (r : List ℕ). 32 ∷ r) (listed-is float_field ys)) _ (then _ (joined 44 (map float_field ys)) _ e.dash2.ensures c.all-bits.ensures))
     (no_field 32 _)))
 
 pub explicit-spec : {M : Type 1} → statement M

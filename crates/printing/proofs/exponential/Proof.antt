@@ -3,11 +3,11 @@ use mathlib.Core.Path.{ap}
 use mathlib.Core.Bool.{true, false}
 use mathlib.Core.List.{[], ◌∷◌}
 use Rattle.index.specs.declared.signed.Integer.{Integer}
-use Rattle.point.specs.Signed.{scaleShown, offsetShown}
+use Rattle.point.specs.Signed.{scale_shown, offset_shown}
 use Rattle.lines.specs.Gathered.{waiting}
 use Rattle.lines.proofs.Gathering.{spelt}
-use Rattle.printing.specs.Fields.{integerField, rowField}
-use Rattle.printing.specs.Printed.{heldFields}
+use Rattle.printing.specs.Fields.{integer_field, row_field}
+use Rattle.printing.specs.Printed.{held_fields}
 use Rattle.printing.proofs.Putting.{a-field, fields, no_field}
 use borrow.Author.Rules.{rules}
 use Rattle.printing.proofs.exponential.Statement.{statement}
@@ -20,13 +20,13 @@ returns c =
     let i = h.before.before in
     let a = i.before.before.before.before.before.args in
     let p = a.p in
-    let above = rowField (offsetShown false p.figures) a.pos.now in
-    let below = rowField (offsetShown true p.figures) a.neg.now in
-    a-field 32 (waiting a.n a.text) (integerField (scaleShown p.figures)) (heldFields p (above ∷ below ∷ []))
-    (spelt (ap (λ (x : Integer). 32 ∷ integerField x) i.before.scale.ensures) _ i.integer.ensures)
-    (fields 32 _ (heldFields p []) (above ∷ below ∷ []) h.held.ensures
-    (a-field 32 _ above (below ∷ []) (spelt (ap (λ (x : Integer). 32 ∷ rowField x a.pos.now) k.before.offset.ensures) _ k.row.ensures)
-    (a-field 32 _ below [] (spelt (ap (λ (x : Integer). 32 ∷ rowField x a.neg.now) c.before.offset2.ensures) _ c.row2.ensures) (no_field 32 _))))
+    let above = row_field (offset_shown false p.figures) a.pos.now in
+    let below = row_field (offset_shown true p.figures) a.neg.now in
+    a-field 32 (waiting a.n a.text) (integer_field (scale_shown p.figures)) (held_fields p (above ∷ below ∷ []))
+    (spelt (ap (λ (x : Integer). 32 ∷ integer_field x) i.before.scale.ensures) _ i.integer.ensures)
+    (fields 32 _ (held_fields p []) (above ∷ below ∷ []) h.held.ensures
+    (a-field 32 _ above (below ∷ []) (spelt (ap (λ (x : Integer). 32 ∷ row_field x a.pos.now) k.before.offset.ensures) _ k.row.ensures)
+    (a-field 32 _ below [] (spelt (ap (λ (x : Integer). 32 ∷ row_field x a.neg.now) c.before.offset2.ensures) _ c.row2.ensures) (no_field 32 _))))
 
 pub exponential-spec : {M : Type 1} → statement M
 exponential-spec =

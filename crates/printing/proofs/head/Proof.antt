@@ -2,14 +2,14 @@
 use mathlib.Core.List.{[], ◌∷◌}
 use Rattle.lines.specs.Gathered.{waiting}
 use Rattle.lines.specs.Written.{decimal}
-use Rattle.printing.specs.Printed.{collectionHead}
+use Rattle.printing.specs.Printed.{collection_head}
 use Rattle.printing.proofs.Putting.{a-line, a-field, no_field}
 use borrow.Author.Rules.{rules}
 use Rattle.printing.proofs.head.Statement.{statement}
 use Rattle.printing.proofs.head.Tie as tie
 
 returns : tie.Need-returns
-unfolding collectionHead
+unfolding collection_head
 returns c =
     let n3 = c.before.before in
     let n2 = n3.before.before in

@@ -9,7 +9,7 @@ use Rattle.lines.specs.Gathered.{waiting}
 use Rattle.lines.specs.Written.{signed}
 use Rattle.lines.proofs.Gathering.{then, spelt}
 use Rattle.lines.proofs.Signs.{wide_fits, wide_is}
-use Rattle.printing.specs.Fields.{integerField}
+use Rattle.printing.specs.Fields.{integer_field}
 use borrow.Author.Rules.{rules}
 use Rattle.printing.proofs.integer.Statement.{statement}
 use Rattle.printing.proofs.integer.Tie as tie
@@ -25,7 +25,7 @@ returns c =
     let s = c.before.before.before.before in
     let a = s.before.before.args in
     let t = waiting a.n a.text in
-    spelt (ap (λ (i : Integer). 32 ∷ integerField i) (sym c.before.before.enum_told.given.1)) t
+    spelt (ap (λ (i : Integer). 32 ∷ integer_field i) (sym c.before.before.enum_told.given.1)) t
     (then (32 ∷ []) (45 ∷ []) t s.byte.ensures c.byte2.ensures)
 
 returns-2 : tie.Need-returns-2
@@ -35,7 +35,7 @@ returns-2 c =
     let t = waiting a.n a.text in
     let x = c.before.before.before.x.given in
     let f : SFits w32 x.0.0 = search rules in
-    spelt (ap (λ (z : ℤ). 32 ∷ signed z) (wide_is x.0.0 f) ∙ ap (λ (i : Integer). 32 ∷ integerField i) (sym x.1)) t
+    spelt (ap (λ (z : ℤ). 32 ∷ signed z) (wide_is x.0.0 f) ∙ ap (λ (i : Integer). 32 ∷ integer_field i) (sym x.1)) t
     (then (32 ∷ []) _ t s.byte.ensures c.signed.ensures)
 
 pub integer-spec : {M : Type 1} → statement M

@@ -11,7 +11,7 @@ use Rattle.lines.specs.Gathered.{waiting}
 use Rattle.lines.specs.Written.{decimal, signed}
 use Rattle.lines.proofs.Gathering.{then, spelt}
 use Rattle.printing.specs.Fields.{each}
-use Rattle.printing.specs.Printed.{meanFields}
+use Rattle.printing.specs.Printed.{mean_fields}
 use Rattle.printing.proofs.Putting.{a-field, no_field}
 use borrow.Author.Rules.{rules}
 use Rattle.printing.proofs.mean_fields.Statement.{statement}
@@ -26,7 +26,7 @@ returns c =
     let x = m.x.given in
     let z = x.0.0 in
     let f : SFits w64 z = search rules in
-    spelt (ap (λ (y : Answer). each 32 (meanFields (said y))) (sym x.1)) t
+    spelt (ap (λ (y : Answer). each 32 (mean_fields (said y))) (sym x.1)) t
     (a-field 32 t (signed z) []
     (spelt (ap (λ (y : ℤ). 32 ∷ signed y) (to_z-of_z w64 z f)) t (then (32 ∷ []) _ t b.byte.ensures c.signed.ensures)) (no_field 32 _))
 
@@ -38,7 +38,7 @@ returns-2 c =
     let t = waiting a.n a.text in
     let x = m.x2.given in
     let no = decimal x.0.0 in
-    spelt (ap (λ (y : Answer). each 32 (meanFields (said y))) (sym x.1)) t
+    spelt (ap (λ (y : Answer). each 32 (mean_fields (said y))) (sym x.1)) t
     (a-field 32 t (33 ∷ []) (no ∷ []) b.bytes.ensures (a-field 32 _ no [] c.number.ensures (no_field 32 _)))
 
 pub mean-fields-spec : {M : Type 1} → statement M

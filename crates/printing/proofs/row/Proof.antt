@@ -2,17 +2,17 @@
 use mathlib.Core.List.{[], ◌∷◌}
 use Rattle.lines.specs.Gathered.{waiting}
 use Rattle.lines.proofs.Gathering.{then}
-use Rattle.printing.specs.Fields.{integerField, rowField}
+use Rattle.printing.specs.Fields.{integer_field, row_field}
 use borrow.Author.Rules.{rules}
 use Rattle.printing.proofs.row.Statement.{statement}
 use Rattle.printing.proofs.row.Tie as tie
 
 returns : tie.Need-returns
-unfolding rowField
+unfolding row_field
 returns c =
     let i = c.before.before.before.before in
     let a = i.before.before.before.args in
-    then (32 ∷ integerField a.offset) _ (waiting a.n a.text) i.integer.ensures
+    then (32 ∷ integer_field a.offset) _ (waiting a.n a.text) i.integer.ensures
     (then (58 ∷ []) _ _ c.before.before.byte.ensures c.counts.ensures)
 
 pub row-spec : {M : Type 1} → statement M

@@ -2,14 +2,14 @@
 use mathlib.Core.List.{[], ◌∷◌}
 use Rattle.lines.specs.Gathered.{waiting}
 use Rattle.lines.specs.Written.{decimal}
-use Rattle.printing.specs.Printed.{unreadLine}
+use Rattle.printing.specs.Printed.{unread_line}
 use Rattle.printing.proofs.Putting.{a-line, a-field, no_field}
 use borrow.Author.Rules.{rules}
 use Rattle.printing.proofs.unread.Statement.{statement}
 use Rattle.printing.proofs.unread.Tie as tie
 
 returns : tie.Need-returns
-unfolding unreadLine
+unfolding unread_line
 returns c =
     let a = c.before.before.before.before.before.before.args in
     a-line (63 ∷ []) (decimal a.line ∷ []) (waiting a.n a.text) c.before.before.before.before.byte.ensures

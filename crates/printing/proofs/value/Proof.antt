@@ -1,11 +1,11 @@
 -- `printing::value` meets its contract. Assumes nothing.
 use mathlib.Core.List.{[], ◌∷◌}
 use lib.ListN.{get_or}
-use Rattle.text.specs.Numbers.{hexDigits}
+use Rattle.text.specs.Numbers.{hex_digits}
 use Rattle.lines.specs.Gathered.{waiting}
 use Rattle.lines.proofs.Gathering.{spelt}
-use Rattle.printing.specs.Fields.{setField}
-use Rattle.printing.specs.Printed.{valueLine}
+use Rattle.printing.specs.Fields.{set_field}
+use Rattle.printing.specs.Printed.{value_line}
 use Rattle.printing.proofs.Putting.{nothing, a-line, a-field, no_field}
 use Rattle.printing.proofs.Sets.{eight}
 use Rattle.printing.proofs.Singles.{no_row, no_value, value_there}
@@ -25,7 +25,7 @@ returns-2 c =
     spelt (no_value a.k a.sets.now a.values.now e.if1.false c.if2.true) (waiting a.n a.text) (nothing _)
 
 returns-3 : tie.Need-returns-3
-unfolding valueLine
+unfolding value_line
 returns-3 c =
     let x = c.before.before in
     let s = x.before.before.before in
@@ -33,8 +33,8 @@ returns-3 c =
     let f = b.before.before in
     let e = f.before in
     let a = e.before.before.args in
-    let row = setField (eight (get_or a.sets.now a.k [])) in
-    let bits = hexDigits 16 (get_or a.values.now a.k 0) in
+    let row = set_field (eight (get_or a.sets.now a.k [])) in
+    let bits = hex_digits 16 (get_or a.values.now a.k 0) in
     spelt (value_there a.k a.sets.now a.values.now e.if1.false f.if2.false) (waiting a.n a.text)
     (a-line (118 ∷ []) (row ∷ bits ∷ []) _ b.byte.ensures
     (a-field 32 _ row (bits ∷ []) s.set.ensures (a-field 32 _ bits [] x.bits.ensures (no_field 32 _))) c.byte2.ensures)

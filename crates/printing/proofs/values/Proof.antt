@@ -4,7 +4,7 @@ use mathlib.Core.Path.{◌≡◌, sym, ◌∙◌}
 use native.Mathlib.Omega.{arith}
 use Rattle.lines.specs.Gathered.{waiting, ◌behind◌}
 use Rattle.lines.proofs.Gathering.{then}
-use Rattle.printing.specs.Printed.{valuesFrom, collectionHead, valueLines}
+use Rattle.printing.specs.Printed.{values_from, collection_head, value_lines}
 use Rattle.printing.proofs.Singles.{values-start, values-turn, values-end}
 use Rattle.printing.proofs.values.Statement.{statement}
 use Rattle.printing.proofs.values.Tie as tie
@@ -12,8 +12,8 @@ use Rattle.printing.proofs.values.Tie as tie
 abbrev invariant-loop : tie.invariant-loop
 invariant-loop text₀ n start time many sets values m₀ i₀ text m i =
     (i ≤ many)
-    × ((valuesFrom (many - i) i sets values behind record { count = m; block = text })
-    ≡ (valuesFrom many 0 sets values behind record { count = m₀; block = text₀ }))
+    × ((values_from (many - i) i sets values behind record { count = m; block = text })
+    ≡ (values_from many 0 sets values behind record { count = m₀; block = text₀ }))
 
 abbrev decreases-loop : tie.decreases-loop
 decreases-loop text₀ n start time many sets values m₀ i₀ text m i = many - i
@@ -39,12 +39,12 @@ loop-again c =
     )
 
 returns : tie.Need-returns invariant-loop decreases-loop
-unfolding valueLines
+unfolding value_lines
 returns c =
     let l = c.before.loop in
     let h = c.before.before in
     let a = h.before.before.before.args in
-    then (collectionHead a.start a.time a.many) _ (waiting a.n a.text) h.head.ensures
+    then (collection_head a.start a.time a.many) _ (waiting a.n a.text) h.head.ensures
     (sym (values-end a.many l.i a.sets.now a.values.now _ c.loop-test.false) ∙ l.invariant.1)
 
 pub values-spec : {M : Type 1} → statement M

@@ -2,7 +2,7 @@
 use mathlib.Core.Path.{◌∙◌}
 use borrow.Author.Rules.{rules}
 use borrow.Author.Tests.{eq-eqb, ne_eqb}
-use Rattle.replay_state.proofs.Lines.{collects-none, collects-other, collects-delta, collects-cumulative}
+use Rattle.replay_state.proofs.Lines.{collects-none, collects-other, collects_delta, collects-cumulative}
 use Rattle.replay_explicit.proofs.collect.Statement.{statement}
 use Rattle.replay_explicit.proofs.collect.Tie as tie
 
@@ -21,7 +21,7 @@ returns-3 c =
     let l = h.before in
     let e = l.before.before in
     f.delta.ensures
-    ∙ collects-delta _ _ _ (eq-eqb _ _ e.if1.false) (eq-eqb _ _ l.if2.false) h.if3.true
+    ∙ collects_delta _ _ _ (eq-eqb _ _ e.if1.false) (eq-eqb _ _ l.if2.false) h.if3.true
 
 returns-4 : tie.Need-returns-4
 returns-4 c =

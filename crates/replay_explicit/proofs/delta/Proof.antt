@@ -4,7 +4,7 @@ use mathlib.Core.Path.{ap, ◌∙◌}
 use lib.ListN.{take}
 use borrow.Author.Rules.{rules}
 use Rattle.replay_state.proofs.Same.{stores-are}
-use Rattle.replay_explicit.proofs.Calls.{series-are, output-is, lists-delta}
+use Rattle.replay_explicit.proofs.Calls.{series-are, output-is, lists_delta}
 use Rattle.replay_explicit.proofs.delta.Statement.{statement}
 use Rattle.replay_explicit.proofs.delta.Tie as tie
 
@@ -27,7 +27,7 @@ returns c =
     let i = j.before.before in
     let a = i.before.before.before.before.before.before.before.before.args in
     c.collected.ensures
-    ∙ lists-delta a.t1 _ b.bounds-in.result.now _ _ _ _
+    ∙ lists_delta a.t1 _ b.bounds-in.result.now _ _ _ _
     (stores-are t.sets.ensures e.entries.ensures o.order.ensures)
     (series-are w.totals-in.ensures x.extremes-in.ensures n.counts-in.ensures)
     b.bounds-in.ensures y.settings.result _ _ y.settings.ensures

@@ -5,7 +5,7 @@ use lib.ListN.{take}
 use borrow.Author.Rules.{rules}
 use Rattle.replay_state.proofs.Same.{stores-are}
 use Rattle.replay_explicit.proofs.Calls.{output-is}
-use Rattle.replay_explicit_wholes.proofs.Calls.{series-are, lists-delta}
+use Rattle.replay_explicit_wholes.proofs.Calls.{series-are, lists_delta}
 use Rattle.replay_explicit_wholes.proofs.delta.Statement.{statement}
 use Rattle.replay_explicit_wholes.proofs.delta.Tie as tie
 
@@ -28,7 +28,7 @@ returns c =
     let i = j.before.before in
     let a = i.before.before.before.before.before.before.before.before.args in
     c.collected.ensures
-    ∙ lists-delta a.t1 _ b.bounds-in.result.now _ _ _ _
+    ∙ lists_delta a.t1 _ b.bounds-in.result.now _ _ _ _
     (stores-are t.sets.ensures e.entries.ensures o.order.ensures)
     (series-are w.totals-in.ensures x.wholes-in.ensures n.counts-in.ensures)
     b.bounds-in.ensures y.settings.result _ _ y.settings.ensures

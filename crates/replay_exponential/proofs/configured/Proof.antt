@@ -3,7 +3,7 @@ use mathlib.Core.Path.{sym, ap, ◌∙◌}
 use borrow.Author.Rules.{rules}
 use Rattle.exponential_collection.specs.Configured.{said}
 use Rattle.exponential_collection.specs.declared.Configured.{Configured}
-use Rattle.replay_exponential.specs.Followed.{configuredBy}
+use Rattle.replay_exponential.specs.Followed.{configured_by}
 use Rattle.replay_exponential.proofs.configured.Statement.{statement}
 use Rattle.replay_exponential.proofs.configured.Tie as tie
 
@@ -11,13 +11,13 @@ returns : tie.Need-returns
 returns c =
     let d = c.before.before in
     let a = d.before.before.args in
-    c.unbegun.ensures ∙ sym (ap (λ (x : Configured). configuredBy (said x) a.s) d.reply.given.1)
+    c.unbegun.ensures ∙ sym (ap (λ (x : Configured). configured_by (said x) a.s) d.reply.given.1)
 
 returns-2 : tie.Need-returns-2
 returns-2 c =
     let d = c.before.before.before.before in
     let a = d.before.before.args in
-    c.begun.ensures ∙ sym (ap (λ (x : Configured). configuredBy (said x) a.s) d.reply2.given.1)
+    c.begun.ensures ∙ sym (ap (λ (x : Configured). configured_by (said x) a.s) d.reply2.given.1)
 
 pub configured-spec : {M : Type 1} → statement M
 configured-spec =

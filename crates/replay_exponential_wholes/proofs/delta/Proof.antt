@@ -5,7 +5,7 @@ use lib.ListN.{take}
 use borrow.Author.Rules.{rules}
 use Rattle.replay_state.proofs.Same.{stores-are}
 use Rattle.replay_exponential.proofs.Calls.{same-output}
-use Rattle.replay_exponential_wholes.proofs.Calls.{same-cells, lists-delta}
+use Rattle.replay_exponential_wholes.proofs.Calls.{same-cells, lists_delta}
 use Rattle.replay_exponential_wholes.proofs.delta.Statement.{statement}
 use Rattle.replay_exponential_wholes.proofs.delta.Tie as tie
 
@@ -28,7 +28,7 @@ returns c =
     let i = j.before.before in
     let a = i.before.before.before.before.before.before.before.args in
     c.collected.ensures
-    ∙ lists-delta a.t1 _ _ _ _ (stores-are t.sets.ensures e.entries.ensures o.order.ensures)
+    ∙ lists_delta a.t1 _ _ _ _ (stores-are t.sets.ensures e.entries.ensures o.order.ensures)
     (same-cells g.figures-in.ensures v.wholes-in.ensures x.counts-in.ensures y.counts-in2.ensures)
     z.settings.result z.settings.ensures _ _
     (same-output (u.sets2.ensures ∙ ap (λ (k : ℕ). take k a.out-sets.now) i.within.ensures)

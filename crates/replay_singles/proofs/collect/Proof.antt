@@ -4,7 +4,7 @@ use mathlib.Core.Bool.{true, false}
 use borrow.Author.Rules.{rules}
 use borrow.Author.Tests.{eq-eqb, ne_eqb, not-true, not-false}
 use Rattle.replay_state.specs.After.{single}
-use Rattle.replay_state.proofs.Lines.{collects-none, collects-other, collects-delta, collects-cumulative}
+use Rattle.replay_state.proofs.Lines.{collects-none, collects-other, collects_delta, collects-cumulative}
 use Rattle.replay_singles.proofs.collect.Statement.{statement}
 use Rattle.replay_singles.proofs.collect.Tie as tie
 
@@ -30,7 +30,7 @@ returns-3 c =
     let h = f.before.before.before.before.before.before in
     let l = h.before in
     let e = l.before.before in
-    f.delta.ensures ∙ collects-delta _ _ _ (of-these e) (eq-eqb _ _ l.if2.false) h.if3.true
+    f.delta.ensures ∙ collects_delta _ _ _ (of-these e) (eq-eqb _ _ l.if2.false) h.if3.true
 
 returns-4 : tie.Need-returns-4
 returns-4 c =

@@ -3,7 +3,7 @@ use Prim.Native.Nat.{ℕ}
 use mathlib.Core.Path.{ap, ◌∙◌}
 use lib.ListN.{take}
 use borrow.Author.Rules.{rules}
-use Rattle.replay_singles.proofs.Calls.{lists-delta}
+use Rattle.replay_singles.proofs.Calls.{lists_delta}
 use Rattle.replay_singles.proofs.delta.Statement.{statement}
 use Rattle.replay_singles.proofs.delta.Tie as tie
 
@@ -20,7 +20,7 @@ returns c =
     let i = y.before in
     let a = i.before.before.before.before.before.args in
     c.collected.ensures
-    ∙ lists-delta a.t1 t.sets.result.now _ e.entries.result.now _ o.order.result.now _ v.values-in.result.now _
+    ∙ lists_delta a.t1 t.sets.result.now _ e.entries.result.now _ o.order.result.now _ v.values-in.result.now _
     t.sets.ensures e.entries.ensures o.order.ensures v.values-in.ensures
     y.settings.result u.sets2.result.now _ n.counts.result.now _ y.settings.ensures
     (u.sets2.ensures ∙ ap (λ (k : ℕ). take k a.out-sets.now) i.within.ensures)

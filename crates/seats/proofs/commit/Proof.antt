@@ -4,7 +4,7 @@ use Prim.Native.Nat.{◌<◌}
 use mathlib.Core.Path.{ap, sym, subst, ◌∙◌}
 use lib.ListN.{length}
 use Rattle.directory.specs.View.{Stores}
-use Rattle.directory.specs.Calls.{overRow}
+use Rattle.directory.specs.Calls.{over_row}
 use Rattle.seats.specs.Seats.{committed}
 use Rattle.seats.specs.Inner.{Roomy, Fits}
 use Rattle.seats.proofs.Commits.{made-there, made-marked, commit-none, commit-old, commit-new, commit-over}
@@ -57,7 +57,7 @@ mark-requires-3 c κs =
     let a = c.before.before.before.before.before in
     let t = a.before.before.before.before.before in
     let s = at3 t in
-    made-there s.args.d (stores s) _ overRow t.target3.given.0.0 0 a.admit2.ensures (fits-over t)
+    made-there s.args.d (stores s) _ over_row t.target3.given.0.0 0 a.admit2.ensures (fits-over t)
 
 -- the target that was told, in the place of the one that was given
 returns : tie.Need-returns
@@ -88,7 +88,7 @@ returns-4 c =
     let a = m.before.before.before.before.before.before in
     let t = a.before.before.before.before.before in
     let s = at3 t in
-    made-marked s.args.d (stores s) _ overRow t.target3.given.0.0 0 a.admit2.ensures _ m.mark3.ensures
+    made-marked s.args.d (stores s) _ over_row t.target3.given.0.0 0 a.admit2.ensures _ m.mark3.ensures
     ∙ sym (ap (committed s.args.d (stores s) s.args.row.now) t.target3.given.1 ∙ commit-over s.args.d (stores s) s.args.row.now t.target3.given.0.0)
 
 pub commit-spec : {M : Type 1} → statement M

@@ -4,7 +4,7 @@ use Prim.Native.Nat.{ℕ}
 use mathlib.Core.Path.{ap, sym, ◌∙◌}
 use mathlib.Core.List.{List}
 use Rattle.directory.specs.View.{Stores}
-use Rattle.seats.specs.Seats.{seatBy}
+use Rattle.seats.specs.Seats.{seat_by}
 use Rattle.seats.proofs.found_seat.Statement.{statement}
 use Rattle.seats.proofs.found_seat.Tie as tie
 
@@ -18,13 +18,13 @@ returns : tie.Need-returns
 returns c sets order =
     let e = c.before in
     let s = e.before.before in
-    c.refused.ensures ∙ sym (ap (seatBy (stores s sets order)) e.enum_told.given.1)
+    c.refused.ensures ∙ sym (ap (seat_by (stores s sets order)) e.enum_told.given.1)
 
 returns-2 : tie.Need-returns-2
 returns-2 c sets order =
     let f = c.before.before in
     let s = f.before.before in
-    c.held-seat.ensures ∙ sym (ap (seatBy (stores s sets order)) f.found.given.1)
+    c.held-seat.ensures ∙ sym (ap (seat_by (stores s sets order)) f.found.given.1)
 
 pub found-seat-spec : {M : Type 1} → statement M
 found-seat-spec = tie.close (tie.spec (λ c. search rules) (λ c κs. search rules) (λ c. search rules) held-seat-requires returns returns-2)

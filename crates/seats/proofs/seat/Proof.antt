@@ -11,12 +11,12 @@ use lib.ListN.{length, length-map}
 use Rattle.laws.proofs.Cases.{and-true}
 use Rattle.tally.specs.Sets.{canonical}
 use Rattle.sets.specs.Rows.{row_of}
-use Rattle.sets.specs.Sorted.{attribute, given, filterOf}
+use Rattle.sets.specs.Sorted.{attribute, given, filter_of}
 use Rattle.directory.specs.View.{Stores, stores}
-use Rattle.directory.specs.Calls.{accepts, storesSuffice}
+use Rattle.directory.specs.Calls.{accepts, stores_suffice}
 use Rattle.directory.proofs.Refusals.{suffices}
-use Rattle.seats.specs.Seats.{away, barredBy, seated}
-use Rattle.seats.specs.Inner.{barredAt}
+use Rattle.seats.specs.Seats.{away, barred_by, seated}
+use Rattle.seats.specs.Inner.{barred_at}
 use Rattle.seats.specs.declared.Seating.{Seating}
 use Rattle.seats.proofs.Bars.{Clear, clear, barred-away, barred-on, row_kept, row_written}
 use Rattle.seats.proofs.seat.Statement.{statement}
@@ -29,7 +29,7 @@ abbrev lent : tie.Start → Stores
 lent s = stores s.args.sets s.args.entries s.args.order
 
 abbrev filter : tie.Start → Option (List ℕ)
-filter s = filterOf s.args.present s.args.filter.now
+filter s = filter_of s.args.present s.args.filter.now
 
 abbrev attrs : tie.Start → List (ℕ × ℕ)
 attrs s = given s.args.attrs.now
@@ -43,18 +43,18 @@ goes s = seated s.args.limit s.args.d (lent s) (set_row s)
 
 -- all stores have room
 abbrev room : tie.Start → Bool
-room s = storesSuffice s.args.limit (lent s) && leb (s.args.limit + 2) s.args.cells
+room s = stores_suffice s.args.limit (lent s) && leb (s.args.limit + 2) s.args.cells
 
 -- the number that comes first, and what is known where it is none
 abbrev first : tie.Start → ℕ
-first s = let a = s.args in barredAt a.cells a.value a.unset a.limit (lent s) (length (attrs s)) (accepts a.limit (filter s))
+first s = let a = s.args in barred_at a.cells a.value a.unset a.limit (lent s) (length (attrs s)) (accepts a.limit (filter s))
 
 number : (b : tie.After-barred) → b.barred.result ≡ first (at b)
 number b =
     let s = at b in
     let k = b.before in
     b.barred.ensures
-    ∙ (λ j. barredBy (k.before.suffices.ensures j) s.args.value (sym (length-map s.args.attrs.now attribute) j) (eqb s.args.unset 0 && k.accepted.ensures j))
+    ∙ (λ j. barred_by (k.before.suffices.ensures j) s.args.value (sym (length-map s.args.attrs.now attribute) j) (eqb s.args.unset 0 && k.accepted.ensures j))
 
 known : (e : tie.Else1) → let s = at e.before in Clear (room s) s.args.value (length (attrs s)) (eqb s.args.unset 0 && accepts s.args.limit (filter s))
 known e = clear _ _ _ _ (sym (number e.before) ∙ e.if1.false)
@@ -75,7 +75,7 @@ seat-in-requires c κs =
     let o = c.before in
     let e = o.before.before in
     let s = at e.before in
-    let l = suffices s.args.limit (lent s) (and-true (storesSuffice s.args.limit (lent s)) (leb (s.args.limit + 2) s.args.cells) (known e).room-is).0 in
+    let l = suffices s.args.limit (lent s) (and-true (stores_suffice s.args.limit (lent s)) (leb (s.args.limit + 2) s.args.cells) (known e).room-is).0 in
     (l.sets, l.entries, l.order, o.sort-into.ensures.1)
 
 returns-2 : tie.Need-returns-2

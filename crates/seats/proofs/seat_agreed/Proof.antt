@@ -8,9 +8,9 @@ use native.Mathlib.Omega.{arith}
 use lib.ListN.{length, length-map}
 use Rattle.tally.specs.Sets.{canonical}
 use Rattle.sets.specs.Rows.{row_of}
-use Rattle.sets.specs.Sorted.{attribute, given, filterOf}
+use Rattle.sets.specs.Sorted.{attribute, given, filter_of}
 use Rattle.directory.specs.View.{Stores, stores}
-use Rattle.seats.specs.Seats.{away, barredBy, seated}
+use Rattle.seats.specs.Seats.{away, barred_by, seated}
 use Rattle.seats.specs.declared.Seating.{Seating}
 use Rattle.seats.proofs.Bars.{Clear, clear, barred-away, barred-on, row_kept, row_written}
 use Rattle.seats.proofs.seat_agreed.Statement.{statement}
@@ -26,7 +26,7 @@ abbrev attrs : tie.Start → List (ℕ × ℕ)
 attrs s = given s.args.attrs.now
 
 abbrev set_row : tie.Start → List ℕ
-set_row s = row_of (canonical (filterOf s.args.present s.args.filter.now) (attrs s))
+set_row s = row_of (canonical (filter_of s.args.present s.args.filter.now) (attrs s))
 
 -- where the call goes, unless it is barred
 abbrev goes : tie.Start → Seating
@@ -34,12 +34,12 @@ goes s = seated s.args.limit s.args.d (lent s) (set_row s)
 
 -- the number that comes first, and what is known where it is none
 abbrev first : tie.Start → ℕ
-first s = barredBy true s.args.value (length (attrs s)) true
+first s = barred_by true s.args.value (length (attrs s)) true
 
 number : (b : tie.After-barred) → b.barred.result ≡ first (at b)
 number b =
     let s = at b in
-    b.barred.ensures ∙ (λ j. barredBy true s.args.value (sym (length-map s.args.attrs.now attribute) j) true)
+    b.barred.ensures ∙ (λ j. barred_by true s.args.value (sym (length-map s.args.attrs.now attribute) j) true)
 
 known : (e : tie.Else1) → let s = at e.before in Clear true s.args.value (length (attrs s)) true
 known e = clear _ _ _ _ (sym (number e.before) ∙ e.if1.false)

@@ -6,10 +6,10 @@ use mathlib.Core.Bool.{◌&&◌}
 use lib.Dec.{eqb, leb}
 use Rattle.laws.proofs.Cases.{and-true}
 use Rattle.directory.specs.View.{Stores, stores}
-use Rattle.directory.specs.Calls.{mostSets, storesSuffice}
+use Rattle.directory.specs.Calls.{most_sets, stores_suffice}
 use Rattle.directory.proofs.Refusals.{suffices}
-use Rattle.seats.specs.Seats.{away, barredBy, seatedBy}
-use Rattle.seats.specs.Inner.{barredAt}
+use Rattle.seats.specs.Seats.{away, barred_by, seated_by}
+use Rattle.seats.specs.Inner.{barred_at}
 use Rattle.seats.specs.declared.Seating.{Seating}
 use Rattle.seats.proofs.Bars.{clear, barred-away, barred-on}
 use Rattle.seats.proofs.seat_by.Statement.{statement}
@@ -23,16 +23,16 @@ lent s = stores s.args.sets s.args.entries s.args.order
 
 -- where the call goes, unless it is barred
 abbrev goes : tie.Start → Seating
-goes s = seatedBy s.args.limit s.args.d (lent s) s.args.h
+goes s = seated_by s.args.limit s.args.d (lent s) s.args.h
 
 -- the number that comes first
 abbrev first : tie.Start → ℕ
-first s = let a = s.args in barredAt a.cells a.value a.unset a.limit (lent s) 0 (leb a.limit mostSets)
+first s = let a = s.args in barred_at a.cells a.value a.unset a.limit (lent s) 0 (leb a.limit most_sets)
 
 number : (b : tie.After-barred) → b.barred.result ≡ first (at b)
 number b =
     let s = at b in
-    b.barred.ensures ∙ (λ j. barredBy (b.before.suffices.ensures j) s.args.value 0 (eqb s.args.unset 0 && leb s.args.limit mostSets))
+    b.barred.ensures ∙ (λ j. barred_by (b.before.suffices.ensures j) s.args.value 0 (eqb s.args.unset 0 && leb s.args.limit most_sets))
 
 returns : tie.Need-returns
 returns c =
@@ -43,8 +43,8 @@ returns c =
 seat-by-in-requires : tie.Need-seat-by-in-requires
 seat-by-in-requires c κs =
     let s = at c.before in
-    let k = clear (storesSuffice s.args.limit (lent s) && leb (s.args.limit + 2) s.args.cells) s.args.value 0 (eqb s.args.unset 0 && leb s.args.limit mostSets) (sym (number c.before) ∙ c.if1.false) in
-    let l = suffices s.args.limit (lent s) (and-true (storesSuffice s.args.limit (lent s)) (leb (s.args.limit + 2) s.args.cells) k.room-is).0 in
+    let k = clear (stores_suffice s.args.limit (lent s) && leb (s.args.limit + 2) s.args.cells) s.args.value 0 (eqb s.args.unset 0 && leb s.args.limit most_sets) (sym (number c.before) ∙ c.if1.false) in
+    let l = suffices s.args.limit (lent s) (and-true (stores_suffice s.args.limit (lent s)) (leb (s.args.limit + 2) s.args.cells) k.room-is).0 in
     (l.sets, l.entries, l.order)
 
 returns-2 : tie.Need-returns-2

@@ -7,7 +7,7 @@ use native.Mathlib.Omega.{arith}
 use Rattle.directory.specs.View.{Stores, stores}
 use Rattle.directory.proofs.Births.{agreed-rise}
 use Rattle.directory.proofs.Laws.{few}
-use Rattle.seats.specs.Seats.{away, barredBy, seatedBy}
+use Rattle.seats.specs.Seats.{away, barred_by, seated_by}
 use Rattle.seats.specs.declared.Seating.{Seating}
 use Rattle.seats.proofs.Bars.{barred-away, barred-on}
 use Rattle.seats.proofs.Seatings.{by-is, by-there}
@@ -22,11 +22,11 @@ lent s = stores s.args.sets s.args.entries s.args.order
 
 -- where the call goes, unless it is barred
 abbrev goes : tie.Start → Seating
-goes s = seatedBy s.args.limit s.args.d (lent s) s.args.h
+goes s = seated_by s.args.limit s.args.d (lent s) s.args.h
 
 -- the number that comes first
 abbrev first : tie.Start → ℕ
-first s = barredBy true s.args.value 0 true
+first s = barred_by true s.args.value 0 true
 
 number : (b : tie.After-barred) → b.barred.result ≡ first (at b)
 number b = b.barred.ensures

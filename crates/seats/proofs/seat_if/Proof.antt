@@ -8,11 +8,11 @@ use mathlib.Core.Option.{Option}
 use lib.ListN.{length}
 use Rattle.tally.specs.Sets.{canonical}
 use Rattle.sets.specs.Rows.{row_of}
-use Rattle.sets.specs.Sorted.{given, filterOf}
+use Rattle.sets.specs.Sorted.{given, filter_of}
 use Rattle.directory.specs.View.{Stores, stores}
 use Rattle.directory.specs.Calls.{accepts}
-use Rattle.seats.specs.Seats.{barredBy, seated, unlessBarred}
-use Rattle.seats.specs.Inner.{barredAt, rowUnlessBarred, Sure}
+use Rattle.seats.specs.Seats.{barred_by, seated, unless_barred}
+use Rattle.seats.specs.Inner.{barred_at, row_unless_barred, Sure}
 use Rattle.seats.specs.declared.Seating.{Seating}
 use Rattle.seats.proofs.Bars.{sure-bar}
 use Rattle.seats.proofs.seat_if.Statement.{statement}
@@ -22,7 +22,7 @@ abbrev lent : tie.Start → Stores
 lent s = stores s.args.sets s.args.entries s.args.order
 
 abbrev filter : tie.Start → Option (List ℕ)
-filter s = filterOf s.args.present s.args.filter.now
+filter s = filter_of s.args.present s.args.filter.now
 
 abbrev attrs : tie.Start → List (ℕ × ℕ)
 attrs s = given s.args.attrs.now
@@ -46,8 +46,8 @@ seat-agreed-requires c κs = let k = sure c.before in (k.sets, k.entries, k.orde
 -- what is left to ask is all that bars
 same : (t : tie.Then1) →
     let s = at t in
-    barredAt s.args.cells s.args.value s.args.unset s.args.limit (lent s) (length (attrs s)) (accepts s.args.limit (filter s))
-    ≡ barredBy true s.args.value (length (attrs s)) true
+    barred_at s.args.cells s.args.value s.args.unset s.args.limit (lent s) (length (attrs s)) (accepts s.args.limit (filter s))
+    ≡ barred_by true s.args.value (length (attrs s)) true
 same t =
     let s = at t in
     sure-bar s.args.cells s.args.unset s.args.limit s.args.d (lent s) (accepts s.args.limit (filter s)) (sure t) s.args.value (length (attrs s))
@@ -56,8 +56,8 @@ returns : tie.Need-returns
 returns c =
     let t = c.before.before in
     let s = at t in (
-      c.seat-agreed.ensures.0 ∙ sym (λ j. unlessBarred (same t j) (goes s)),
-      c.seat-agreed.ensures.1 ∙ sym (λ j. rowUnlessBarred (same t j) (set_row s) s.args.row.now),
+      c.seat-agreed.ensures.0 ∙ sym (λ j. unless_barred (same t j) (goes s)),
+      c.seat-agreed.ensures.1 ∙ sym (λ j. row_unless_barred (same t j) (set_row s) s.args.row.now),
     )
 
 pub seat-if-spec : {M : Type 1} → statement M

@@ -7,9 +7,9 @@ use Rattle.directory.specs.declared.Directory.{Directory}
 use Rattle.directory.specs.View.{stores}
 use Rattle.exponential_slots.specs.Cells.{Cells, cells}
 use Rattle.value_map.specs.Calls.{Held, held}
-use Rattle.value_map.specs.Exponential.{exponentialStore}
+use Rattle.value_map.specs.Exponential.{exponential_store}
 use Rattle.many.specs.Many.{Many}
-use Rattle.batches.specs.Batch.{measuredAll}
+use Rattle.batches.specs.Batch.{measured_all}
 use Rattle.batch_words.proofs.Handed.{handed}
 use Rattle.set_batch_exports.proofs.map_measure_all.Statement.{statement}
 use Rattle.set_batch_exports.proofs.map_measure_all.Tie as tie
@@ -22,7 +22,7 @@ returns c =
     let a = t.before.before.before.before.before.before.args in
     let s = stores a.sets a.entries a.order in
     let x = cells a.figures a.extremes a.pos a.neg in
-    let by : Directory → Many (Held Cells) = λ d. measuredAll (exponentialStore a.size a.top) a.limit none (held d s x) a.values.now (given a.attrs.now) in
+    let by : Directory → Many (Held Cells) = λ d. measured_all (exponential_store a.size a.top) a.limit none (held d s x) a.values.now (given a.attrs.now) in
     let e = m.measure-all.ensures ∙ ap by t.state-of.ensures in
     handed a.taken.now a.state.now _ _ m.measure-all.result _ _ e w.words-of.ensures
 

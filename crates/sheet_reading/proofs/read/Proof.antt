@@ -4,7 +4,7 @@ use Prim.Native.Nat.{ℕ}
 use mathlib.Core.Path.{sym, ap, ◌∙◌}
 use borrow.Author.Tests.{not-true, not-false}
 use Rattle.pooling.specs.Lists.{Source, source}
-use Rattle.sheets.specs.Lists.{fitsIn}
+use Rattle.sheets.specs.Lists.{fits_in}
 use Rattle.sheet_reading.proofs.Answered.{bad-frame, bad-points, no_room, was_read}
 use Rattle.sheet_reading.proofs.read.Statement.{statement}
 use Rattle.sheet_reading.proofs.read.Tie as tie
@@ -50,7 +50,7 @@ returns-2 c =
     let z = v.verdict.given.0.0 in
     no_room s.args.s.now f.before.know-bytes.ensures (lent s) (sym f.frame-holds.ensures ∙ not-false _ e.if1.false) z
     (sym j.judge.ensures ∙ v.verdict.given.1)
-    (ap (λ (n : ℕ). fitsIn n z.pos z.neg z.bounds (lent s)) (sym p.points-in.ensures) ∙ sym x.fits2.ensures ∙ not-true _ c.if2.true)
+    (ap (λ (n : ℕ). fits_in n z.pos z.neg z.bounds (lent s)) (sym p.points-in.ensures) ∙ sym x.fits2.ensures ∙ not-true _ c.if2.true)
 
 header-in-requires : tie.Need-header-in-requires
 header-in-requires c κs =
@@ -91,7 +91,7 @@ returns-4 c =
     let z = v.verdict.given.0.0 in
     was_read s.args.s.now f.before.know-bytes.ensures (lent s) (sym f.frame-holds.ensures ∙ not-false _ e.if1.false) z
     (sym j.judge.ensures ∙ v.verdict.given.1)
-    (ap (λ (n : ℕ). fitsIn n z.pos z.neg z.bounds (lent s)) (sym p.points-in.ensures) ∙ sym x.fits2.ensures ∙ not-false _ i.if2.false)
+    (ap (λ (n : ℕ). fits_in n z.pos z.neg z.bounds (lent s)) (sym p.points-in.ensures) ∙ sym x.fits2.ensures ∙ not-false _ i.if2.false)
     _ _ _ h.header-in.ensures p.points-in.ensures k.copy-points.ensures
 
 pub read_spec : {M : Type 1} → statement M

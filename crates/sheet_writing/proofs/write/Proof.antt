@@ -7,7 +7,7 @@ use Rattle.sheet_writing.specs.declared.judge.Judged.TheVariants.{Fine}
 use Rattle.pooling.specs.Lists.{Source, source}
 use Rattle.sheet_writing.specs.Inner.{judged}
 use Rattle.sheet_writing.specs.Writing.{shadowed}
-use Rattle.sheet_writing.proofs.Judged.{judged-bad, judged-few}
+use Rattle.sheet_writing.proofs.Judged.{judged_bad, judged-few}
 use Rattle.sheet_writing.proofs.Wholes.{kinds-real}
 use Rattle.sheet_writing.proofs.Answered.{too_short, sheet-written, whole-refused}
 use Rattle.sheet_writing.proofs.write.Statement.{statement}
@@ -62,7 +62,7 @@ returns-3 : tie.Need-returns-3
 returns-3 c =
     let g = c.before.before in
     let s = start g in
-    sym (judged-bad s.args.header s.args.n (list s) s.args.out.now (sym g.judge.ensures ∙ c.enum_told.given.1))
+    sym (judged_bad s.args.header s.args.n (list s) s.args.out.now (sym g.judge.ensures ∙ c.enum_told.given.1))
 
 returns-4 : tie.Need-returns-4
 returns-4 c =

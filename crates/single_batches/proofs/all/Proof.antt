@@ -8,20 +8,20 @@ use native.Mathlib.Omega.{arith}
 use lib.ListN.{get_or, drop}
 use lib.Ieee.{Float, nan}
 use Rattle.tally.specs.Sets.{Set}
-use Rattle.sets.specs.Sorted.{given, filterOf}
+use Rattle.sets.specs.Sorted.{given, filter_of}
 use Rattle.directory.specs.View.{stores}
 use Rattle.seats.proofs.Bars.{row-seated}
 use Rattle.value_map.specs.Calls.{Held, held}
-use Rattle.batches.proofs.Ends.{cut-first, sure-for, for-none, for-takes, for-fits, for-ends}
+use Rattle.batches.proofs.Ends.{cut-first, sure_for, for-none, for-takes, for-fits, for-ends}
 use Rattle.singles.proofs.Owes.{owed}
 use Rattle.single_batches.proofs.all.Statement.{statement}
 use Rattle.single_batches.proofs.all.Tie as tie
 
-abbrev lentMap : tie.Start → Held (List Float)
-lentMap s = let a = s.args in held a.d (stores a.sets a.entries a.order) a.values.now
+abbrev lent_map : tie.Start → Held (List Float)
+lent_map s = let a = s.args in held a.d (stores a.sets a.entries a.order) a.values.now
 
 abbrev filter : tie.Start → Option (List ℕ)
-filter s = let a = s.args in filterOf a.present a.filter.now
+filter s = let a = s.args in filter_of a.present a.filter.now
 
 abbrev attrs : tie.Start → Set
 attrs s = given s.args.attrs.now
@@ -52,13 +52,13 @@ returns : tie.Need-returns
 returns c =
     let s = c.before.before.before.before.before in
     let a = s.args in
-    for-none (owed a.aggregation) tt a.limit (filter s) (lentMap s) (attrs s) a.list.now c.if1.true
+    for-none (owed a.aggregation) tt a.limit (filter s) (lent_map s) (attrs s) a.list.now c.if1.true
 
 seat-if-requires : tie.Need-seat-if-requires
 seat-if-requires c κs k =
     let s = at c.before.before.before.before in
     let a = s.args in
-    sure-for (owed a.aggregation) tt a.limit (lentMap s) _ 0 refl refl (filter s) (attrs s) (s.pre k)
+    sure_for (owed a.aggregation) tt a.limit (lent_map s) _ 0 refl refl (filter s) (attrs s) (s.pre k)
 
 take-all-requires : tie.Need-take-all-requires
 take-all-requires c κs =
@@ -66,7 +66,7 @@ take-all-requires c κs =
     let u = own q in
     let s = at u in
     let a = s.args in
-    for-takes (owed a.aggregation) tt a.limit (filter s) (lentMap s) (attrs s) (known u).all-lent.ensures (one s) refl u.takes.ensures refl q.seat-if.ensures.0
+    for-takes (owed a.aggregation) tt a.limit (filter s) (lent_map s) (attrs s) (known u).all-lent.ensures (one s) refl u.takes.ensures refl q.seat-if.ensures.0
     a.known s.pre
 
 finish-all-requires : tie.Need-finish-all-requires
@@ -76,7 +76,7 @@ finish-all-requires c κs =
     let u = own q in
     let s = at u in
     let a = s.args in
-    for-fits (owed a.aggregation) tt a.limit (filter s) (lentMap s) (attrs s) (known u).all-lent.ensures (one s) refl u.takes.ensures refl q.seat-if.ensures.0
+    for-fits (owed a.aggregation) tt a.limit (filter s) (lent_map s) (attrs s) (known u).all-lent.ensures (one s) refl u.takes.ensures refl q.seat-if.ensures.0
     a.list.now (drop 1 a.list.now) (cut (known u).before) _ t.take_all.ensures
 
 returns-2 : tie.Need-returns-2
@@ -87,7 +87,7 @@ returns-2 c =
     let u = own q in
     let s = at u in
     let a = s.args in
-    for-ends (owed a.aggregation) tt a.limit (filter s) (lentMap s) (attrs s) (known u).all-lent.ensures (one s) refl u.takes.ensures refl q.seat-if.ensures.0
+    for-ends (owed a.aggregation) tt a.limit (filter s) (lent_map s) (attrs s) (known u).all-lent.ensures (one s) refl u.takes.ensures refl q.seat-if.ensures.0
     a.list.now (drop 1 a.list.now) (cut (known u).before) _ t.take_all.ensures
     (small s) _ (row-seated _ _ _ _ _ q.seat-if.ensures.0 _ q.seat-if.ensures.1) _ f.finish-all.ensures
 

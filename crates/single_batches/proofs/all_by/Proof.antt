@@ -13,8 +13,8 @@ use Rattle.singles.proofs.Owes.{owed}
 use Rattle.single_batches.proofs.all_by.Statement.{statement}
 use Rattle.single_batches.proofs.all_by.Tie as tie
 
-abbrev lentMap : tie.Start → Held (List Float)
-lentMap s = let a = s.args in held a.d (stores a.sets a.entries a.order) a.values.now
+abbrev lent_map : tie.Start → Held (List Float)
+lent_map s = let a = s.args in held a.d (stores a.sets a.entries a.order) a.values.now
 
 abbrev own : tie.After-seat-by-if → tie.After-takes
 own q = q.before.before.before.before
@@ -39,13 +39,13 @@ returns : tie.Need-returns
 returns c =
     let s = c.before.before.before.before in
     let a = s.args in
-    by-none (owed a.aggregation) tt a.limit (lentMap s) a.h a.list.now c.if1.true
+    by-none (owed a.aggregation) tt a.limit (lent_map s) a.h a.list.now c.if1.true
 
 seat-by-if-requires : tie.Need-seat-by-if-requires
 seat-by-if-requires c κs k =
     let s = at c.before.before.before in
     let a = s.args in
-    sure-by (owed a.aggregation) tt a.limit (lentMap s) _ 0 refl refl a.h (s.pre k)
+    sure-by (owed a.aggregation) tt a.limit (lent_map s) _ 0 refl refl a.h (s.pre k)
 
 take-all-requires : tie.Need-take-all-requires
 take-all-requires c κs =
@@ -53,7 +53,7 @@ take-all-requires c κs =
     let u = own q in
     let s = at u in
     let a = s.args in
-    by-takes (owed a.aggregation) tt a.limit (lentMap s) a.h (one s) refl u.takes.ensures refl q.seat-by-if.ensures a.known s.pre
+    by-takes (owed a.aggregation) tt a.limit (lent_map s) a.h (one s) refl u.takes.ensures refl q.seat-by-if.ensures a.known s.pre
 
 finish-all-requires : tie.Need-finish-all-requires
 finish-all-requires c κs =
@@ -62,7 +62,7 @@ finish-all-requires c κs =
     let u = own q in
     let s = at u in
     let a = s.args in
-    by_fits (owed a.aggregation) tt a.limit (lentMap s) a.h (one s) refl u.takes.ensures refl q.seat-by-if.ensures
+    by_fits (owed a.aggregation) tt a.limit (lent_map s) a.h (one s) refl u.takes.ensures refl q.seat-by-if.ensures
     a.list.now (drop 1 a.list.now) (cut u.before.before) _ t.take_all.ensures
 
 returns-2 : tie.Need-returns-2
@@ -73,7 +73,7 @@ returns-2 c =
     let u = own q in
     let s = at u in
     let a = s.args in
-    by-ends (owed a.aggregation) tt a.limit (lentMap s) a.h (one s) refl u.takes.ensures refl q.seat-by-if.ensures
+    by-ends (owed a.aggregation) tt a.limit (lent_map s) a.h (one s) refl u.takes.ensures refl q.seat-by-if.ensures
     a.list.now (drop 1 a.list.now) (cut u.before.before) _ t.take_all.ensures (small s) _ f.finish-all.ensures
 
 pub all-by-spec : {M : Type 1} → statement M

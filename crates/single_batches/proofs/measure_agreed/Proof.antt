@@ -1,10 +1,10 @@
 -- `single_batches::measure_agreed` meets its contract: a list of one value is the single call. Assumes nothing.
 use borrow.Author.Rules.{rules}
-use Rattle.sets.specs.Sorted.{given, filterOf}
+use Rattle.sets.specs.Sorted.{given, filter_of}
 use Rattle.directory.specs.View.{stores}
 use Rattle.value_map.specs.Calls.{held}
-use Rattle.batches.proofs.Ends.{one-for}
-use Rattle.singles.specs.Stores.{singleStore}
+use Rattle.batches.proofs.Ends.{one_for}
+use Rattle.singles.specs.Stores.{single_store}
 use Rattle.single_batches.proofs.measure_agreed.Statement.{statement}
 use Rattle.single_batches.proofs.measure_agreed.Tie as tie
 
@@ -15,8 +15,8 @@ returns : tie.Need-returns
 returns c =
     let m = c.before.before.before.before.before.before.before in
     let a = (at m).args in
-    one-for (singleStore a.aggregation) a.limit (held a.d (stores a.sets a.entries a.order) a.values.now) a.v
-    m.all.result c.single.result c.single.ensures _ _ (filterOf a.present a.filter.now) (given a.attrs.now) m.all.ensures
+    one_for (single_store a.aggregation) a.limit (held a.d (stores a.sets a.entries a.order) a.values.now) a.v
+    m.all.result c.single.result c.single.ensures _ _ (filter_of a.present a.filter.now) (given a.attrs.now) m.all.ensures
 
 pub measure-agreed-spec : {M : Type 1} → statement M
 measure-agreed-spec =

@@ -7,7 +7,7 @@ use Rattle.sets.specs.Sorted.{given}
 use Rattle.directory.specs.declared.Directory.{Directory}
 use Rattle.directory.specs.View.{stores}
 use Rattle.value_map.specs.Calls.{Outcome, held, measured}
-use Rattle.singles.specs.Stores.{singleStore}
+use Rattle.singles.specs.Stores.{single_store}
 use Rattle.singles.specs.declared.Aggregation.TheVariants.{Sum}
 use Rattle.map_words.proofs.Handed.{handed}
 use borrow.Author.Rules.{rules}
@@ -21,7 +21,7 @@ returns c =
     let a = t.before.before.before.before.args in
     let s = stores a.sets a.entries a.order in
     let by : Directory → Outcome (List Float) =
-    λ d. measured (singleStore Sum) a.limit none (held d s a.values.now) a.v (given a.attrs.now) in
+    λ d. measured (single_store Sum) a.limit none (held d s a.values.now) a.v (given a.attrs.now) in
     let e = m.measure.ensures ∙ ap by t.state-of.ensures in
     handed a.state.now _ _ m.measure.result _ c.number_of.result _ e c.number_of.ensures c.before.words-of.ensures
 

@@ -4,8 +4,8 @@ use mathlib.Core.List.{List}
 use lib.Ieee.{Float}
 use Rattle.directory.specs.declared.Directory.{Directory}
 use Rattle.directory.specs.View.{stores}
-use Rattle.value_map.specs.Calls.{Outcome, held, measuredBy}
-use Rattle.singles.specs.Stores.{singleStore}
+use Rattle.value_map.specs.Calls.{Outcome, held, measured_by}
+use Rattle.singles.specs.Stores.{single_store}
 use Rattle.singles.specs.declared.Aggregation.TheVariants.{Sum}
 use Rattle.map_words.proofs.Handed.{handed}
 use borrow.Author.Rules.{rules}
@@ -18,7 +18,7 @@ returns c =
     let t = m.before.before.before.before.before in
     let a = t.before.before.before.before.args in
     let s = stores a.sets a.entries a.order in
-    let by : Directory → Outcome (List Float) = λ d. measuredBy (singleStore Sum) a.limit (held d s a.values.now) a.v a.handle in
+    let by : Directory → Outcome (List Float) = λ d. measured_by (single_store Sum) a.limit (held d s a.values.now) a.v a.handle in
     let e = m.measure-by.ensures ∙ ap by t.state-of.ensures in
     handed a.state.now _ _ m.measure-by.result _ c.number_of.result _ e c.number_of.ensures c.before.words-of.ensures
 

@@ -1,11 +1,11 @@
 -- `singles::configure` meets its contract. Assumes nothing.
 use mathlib.Core.Path.{refl}
 use borrow.Author.Rules.{rules}
-use Rattle.sets.specs.Sorted.{filterOf}
+use Rattle.sets.specs.Sorted.{filter_of}
 use Rattle.directory.specs.View.{stores}
 use Rattle.value_map.proofs.Cases.{start_is}
 use Rattle.collecting.proofs.Configures.{configured-is}
-use Rattle.singles.specs.Stores.{singleStore}
+use Rattle.singles.specs.Stores.{single_store}
 use Rattle.singles.specs.Configured.{said, configured}
 use Rattle.singles.proofs.configure.Statement.{statement}
 use Rattle.singles.proofs.configure.Tie as tie
@@ -16,8 +16,8 @@ returns c =
     let b = c.before.before in
     let u = b.before.before in
     let a = u.before.before.before.before.args in
-    let S = singleStore a.aggregation in
-    let filter = filterOf a.present a.filter.now in
+    let S = single_store a.aggregation in
+    let filter = filter_of a.present a.filter.now in
     let s = stores a.sets a.entries a.order in
     configured-is S (λ d. record { settings = record { aggregation = a.aggregation; limit = a.limit }; dir = d }) a.limit filter s
     a.values.now b.begin.result _ (said c.set-up.result)

@@ -3,7 +3,7 @@ use borrow.Author.Rules.{rules}
 use mathlib.Core.Path.{sym, ap}
 use Rattle.bindings.specs.Calls as Bindings
 use Rattle.bindings.specs.declared.Answer.{Answer}
-use Rattle.collecting.specs.Configured.{setUp}
+use Rattle.collecting.specs.Configured.{set_up}
 use Rattle.singles.specs.declared.Setup.{Setup}
 use Rattle.singles.proofs.set_up.Statement.{statement}
 use Rattle.singles.proofs.set_up.Tie as tie
@@ -12,13 +12,13 @@ abbrev handed : tie.Start → Setup
 handed s = record { settings = s.args.settings; dir = s.args.reply.dir }
 
 returns : tie.Need-returns
-returns c = sym (ap (λ (x : Answer). setUp (handed c.before.before.before.before) (Bindings.said x)) c.before.answer.given.1)
+returns c = sym (ap (λ (x : Answer). set_up (handed c.before.before.before.before) (Bindings.said x)) c.before.answer.given.1)
 
 returns-2 : tie.Need-returns-2
-returns-2 c = sym (ap (λ (x : Answer). setUp (handed c.before.before.before) (Bindings.said x)) c.enum_told.given.1)
+returns-2 c = sym (ap (λ (x : Answer). set_up (handed c.before.before.before) (Bindings.said x)) c.enum_told.given.1)
 
 returns-3 : tie.Need-returns-3
-returns-3 c = sym (ap (λ (x : Answer). setUp (handed c.before.before.before.before) (Bindings.said x)) c.before.answer2.given.1)
+returns-3 c = sym (ap (λ (x : Answer). set_up (handed c.before.before.before.before) (Bindings.said x)) c.before.answer2.given.1)
 
 pub set-up-spec : {M : Type 1} → statement M
 set-up-spec = tie.close (tie.spec (λ c. search rules) (λ c. search rules) (λ c. search rules) returns returns-2 returns-3)

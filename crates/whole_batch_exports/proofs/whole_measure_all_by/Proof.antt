@@ -6,9 +6,9 @@ use Rattle.directory.specs.declared.Directory.{Directory}
 use Rattle.directory.specs.View.{stores}
 use Rattle.exponential_whole_slots.specs.Cells.{Cells, cells}
 use Rattle.value_map.specs.Calls.{Held, held}
-use Rattle.whole_map.specs.Exponential.{exponentialWholes}
+use Rattle.whole_map.specs.Exponential.{exponential_wholes}
 use Rattle.many.specs.Many.{Many}
-use Rattle.batches.specs.Batch.{measuredAllBy}
+use Rattle.batches.specs.Batch.{measured_all_by}
 use Rattle.batch_words.proofs.Handed.{handed}
 use Rattle.whole_batch_exports.proofs.whole_measure_all_by.Statement.{statement}
 use Rattle.whole_batch_exports.proofs.whole_measure_all_by.Tie as tie
@@ -21,7 +21,7 @@ returns c =
     let a = t.before.before.before.before.before.args in
     let s = stores a.sets a.entries a.order in
     let x = cells a.figures a.extremes a.pos a.neg in
-    let by : Directory → Many (Held Cells) = λ d. measuredAllBy (exponentialWholes a.size a.top true) a.limit (held d s x) a.values.now a.handle in
+    let by : Directory → Many (Held Cells) = λ d. measured_all_by (exponential_wholes a.size a.top true) a.limit (held d s x) a.values.now a.handle in
     let e = m.measure-all-by.ensures ∙ ap by t.state-of.ensures in
     handed a.taken.now a.state.now _ _ m.measure-all-by.result _ _ e w.words-of.ensures
 

@@ -7,8 +7,8 @@ use Rattle.integers.proofs.Range as Range
 use Rattle.directory.specs.declared.Directory.{Directory}
 use Rattle.directory.specs.View.{stores}
 use Rattle.exponential_whole_slots.specs.Cells.{Cells, cells}
-use Rattle.value_map.specs.Calls.{Held, Outcome, held, measuredBy}
-use Rattle.whole_map.specs.Exponential.{exponentialWholes}
+use Rattle.value_map.specs.Calls.{Held, Outcome, held, measured_by}
+use Rattle.whole_map.specs.Exponential.{exponential_wholes}
 use Rattle.batches.specs.Agreed.{AgreedBy}
 use Rattle.map_words.proofs.Handed.{handed}
 use Rattle.whole_handle_agreed_exports.proofs.agreed_whole_measure_by.Statement.{statement}
@@ -20,7 +20,7 @@ measure-by-agreed-requires c κs =
     let s = t.before.before.before.before.before in
     let a = s.args in
     let h : Directory → Held Cells = λ d. held d (stores a.sets a.entries a.order) (cells a.figures a.extremes a.pos a.neg) in
-    subst (λ d. AgreedBy (exponentialWholes a.size a.top true) true a.limit (h d) a.handle) (sym t.state-of.ensures) s.requires
+    subst (λ d. AgreedBy (exponential_wholes a.size a.top true) true a.limit (h d) a.handle) (sym t.state-of.ensures) s.requires
 
 returns : tie.Need-returns
 returns c =
@@ -30,7 +30,7 @@ returns c =
     let a = b.args in
     let s = stores a.sets a.entries a.order in
     let x = cells a.figures a.extremes a.pos a.neg in
-    let by : Directory → ℤ → Outcome Cells = λ d v. measuredBy (exponentialWholes a.size a.top true) a.limit (held d s x) v a.handle in
+    let by : Directory → ℤ → Outcome Cells = λ d v. measured_by (exponential_wholes a.size a.top true) a.limit (held d s x) v a.handle in
     let e = m.measure-by-agreed.ensures ∙ (λ j. by (t.state-of.ensures j) (Range.held a.v b.ranges.v j)) in
     handed a.state.now _ _ m.measure-by-agreed.result _ c.number_of.result _ e c.number_of.ensures c.before.words-of.ensures
 

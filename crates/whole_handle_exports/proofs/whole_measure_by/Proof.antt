@@ -6,8 +6,8 @@ use Rattle.integers.proofs.Range as Range
 use Rattle.directory.specs.declared.Directory.{Directory}
 use Rattle.directory.specs.View.{stores}
 use Rattle.exponential_whole_slots.specs.Cells.{Cells, cells}
-use Rattle.value_map.specs.Calls.{Outcome, held, measuredBy}
-use Rattle.whole_map.specs.Exponential.{exponentialWholes}
+use Rattle.value_map.specs.Calls.{Outcome, held, measured_by}
+use Rattle.whole_map.specs.Exponential.{exponential_wholes}
 use Rattle.map_words.proofs.Handed.{handed}
 use borrow.Author.Rules.{rules}
 use Rattle.whole_handle_exports.proofs.whole_measure_by.Statement.{statement}
@@ -21,7 +21,7 @@ returns c =
     let a = b.args in
     let s = stores a.sets a.entries a.order in
     let x = cells a.figures a.extremes a.pos a.neg in
-    let by : Directory → ℤ → Outcome Cells = λ d v. measuredBy (exponentialWholes a.size a.top true) a.limit (held d s x) v a.handle in
+    let by : Directory → ℤ → Outcome Cells = λ d v. measured_by (exponential_wholes a.size a.top true) a.limit (held d s x) v a.handle in
     let e = m.measure-by.ensures ∙ (λ j. by (t.state-of.ensures j) (Range.held a.v b.ranges.v j)) in
     handed a.state.now _ _ m.measure-by.result _ c.number_of.result _ e c.number_of.ensures c.before.words-of.ensures
 

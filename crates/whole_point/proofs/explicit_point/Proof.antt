@@ -5,7 +5,7 @@ use lib.IntN.{ℤ, pos}
 use mir.Syntax.{w64}
 use mir.Val.{SFits}
 use Rattle.laws.specs.Pick.{pick}
-use Rattle.integers.specs.Answers.{shownOf}
+use Rattle.integers.specs.Answers.{shown_of}
 use Rattle.integers.proofs.Range.{held}
 use Rattle.point.specs.declared.Figures.TheVariants.{Explicit}
 use Rattle.whole_point.proofs.explicit_point.Statement.{statement}
@@ -30,8 +30,8 @@ returns c =
     λ j. record {
       figures = Explicit h.count;
       extremes = s.args.extremes;
-      min = (a.shown.ensures ∙ ap (shownOf s.args.extremes h.count) (held h.min (least s))) j;
-      max = (b.shown2.ensures ∙ ap (shownOf s.args.extremes h.count) (held h.max (greatest s))) j;
+      min = (a.shown.ensures ∙ ap (shown_of s.args.extremes h.count) (held h.min (least s))) j;
+      max = (b.shown2.ensures ∙ ap (shown_of s.args.extremes h.count) (held h.max (greatest s))) j;
       sum = (held c.shown-sum.result r ∙ c.shown-sum.ensures ∙ ap (λ (z : ℤ). pick s.args.sums z (pos 0)) (held h.sum (sum s))) j;
     }
 

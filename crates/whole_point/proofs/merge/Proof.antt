@@ -7,7 +7,7 @@ use Rattle.integers.specs.Answers.{sum_of}
 use Rattle.integers.proofs.Range.{held}
 use Rattle.point.specs.Handing as P
 use Rattle.whole_point.specs.Handing.{Stored, stored, said, finished}
-use Rattle.whole_point.proofs.Call.{outside-law, inside-law}
+use Rattle.whole_point.proofs.Call.{outside_law, inside_law}
 use Rattle.whole_point.proofs.merge.Statement.{statement}
 use Rattle.whole_point.proofs.merge.Tie as tie
 
@@ -44,11 +44,11 @@ returns c =
     let u = shadows n in
     let s = start n in
     let a = s.args in
-    outside-law a.size (first s) (second s) a.pos.now a.neg.now
+    outside_law a.size (first s) (second s) a.pos.now a.neg.now
     (sym (told n) ∙ c.before.before.enum_told.given.1)
     c.before.refusal.result c.last-number.result
     (c.before.refusal.ensures
-    ∙ (λ j. P.refusalBefore a.size (P.stored (u.before.shadow-of.ensures j) a.abounds a.apos a.aneg) (P.stored (u.shadow-of2.ensures j) a.bbounds a.bpos a.bneg)))
+    ∙ (λ j. P.refusal_before a.size (P.stored (u.before.shadow-of.ensures j) a.abounds a.apos a.aneg) (P.stored (u.shadow-of2.ensures j) a.bbounds a.bpos a.bneg)))
     c.last-number.ensures
 
 returns-2 : tie.Need-returns-2
@@ -61,7 +61,7 @@ returns-2 c =
     let s = start n in
     let a = s.args in
     let z = t.total.given.0.0 in
-    inside-law a.size (first s) (second s) a.pos.now a.neg.now z (sym (told n) ∙ t.total.given.1)
+    inside_law a.size (first s) (second s) a.pos.now a.neg.now z (sym (told n) ∙ t.total.given.1)
     (P.said r.merge.result) (said c.finish.result) r.merge.new.1.1.1.1.1.1.1.1.1.0 r.merge.new.1.1.1.1.1.1.1.1.1.1.0
     (r.merge.ensures
     ∙ (λ j. P.merging a.size (P.stored (u.before.shadow-of.ensures j) a.abounds a.apos a.aneg) (P.stored (u.shadow-of2.ensures j) a.bbounds a.bpos a.bneg) a.pos.now a.neg.now))

@@ -1,6 +1,6 @@
 -- `shadow_of` meets its contract. Assumes nothing.
 use borrow.Author.Rules.{rules}
-use Rattle.floats.specs.Starts.{zeroFloat}
+use Rattle.floats.specs.Starts.{zero_float}
 use Rattle.whole_point.proofs.shadow_of.Statement.{statement}
 use Rattle.whole_point.proofs.shadow_of.Tie as tie
 
@@ -12,7 +12,7 @@ returns c =
       extremes = p.extremes;
       min = c.before.shadow-extreme.ensures j;
       max = c.shadow-extreme2.ensures j;
-      sum = zeroFloat;
+      sum = zero_float;
     }
 
 pub shadow-of-spec : {M : Type 1} → statement M

@@ -9,7 +9,7 @@ use Rattle.lines.specs.Gathered.{waiting}
 use Rattle.lines.specs.Written.{signed}
 use Rattle.lines.proofs.Gathering.{spelt}
 use Rattle.integers.proofs.Range.{held}
-use Rattle.whole_printing.specs.Printed.{extremeField}
+use Rattle.whole_printing.specs.Printed.{extreme_field}
 use borrow.Author.Rules.{rules}
 use Rattle.whole_printing.proofs.extreme.Statement.{statement}
 use Rattle.whole_printing.proofs.extreme.Tie as tie
@@ -17,14 +17,14 @@ use Rattle.whole_printing.proofs.extreme.Tie as tie
 returns : tie.Need-returns
 returns c =
     let a = c.before.before.before.before.before.args in
-    spelt (ap (λ (x : Extreme). 32 ∷ extremeField x) (sym c.before.before.before.enum_told.given.1)) (waiting a.n a.text) c.bytes.ensures
+    spelt (ap (λ (x : Extreme). 32 ∷ extreme_field x) (sym c.before.before.before.enum_told.given.1)) (waiting a.n a.text) c.bytes.ensures
 
 returns-2 : tie.Need-returns-2
 returns-2 c =
     let x = c.before.before.before.x.given in
     let a = c.before.before.before.before.before.args in
     let f : SFits w64 x.0.0 = search rules in
-    spelt (ap (λ (z : ℤ). 32 ∷ signed z) (held x.0.0 f) ∙ ap (λ (e : Extreme). 32 ∷ extremeField e) (sym x.1)) (waiting a.n a.text) c.integer.ensures
+    spelt (ap (λ (z : ℤ). 32 ∷ signed z) (held x.0.0 f) ∙ ap (λ (e : Extreme). 32 ∷ extreme_field e) (sym x.1)) (waiting a.n a.text) c.integer.ensures
 
 pub extreme-spec : {M : Type 1} → statement M
 extreme-spec =

@@ -8,7 +8,7 @@ use Rattle.lines.specs.Gathered.{waiting}
 use Rattle.lines.proofs.Gathering.{spelt}
 use Rattle.integers.proofs.Range.{held}
 use Rattle.lines.specs.Written.{signed}
-use Rattle.whole_printing.specs.Printed.{extremeField}
+use Rattle.whole_printing.specs.Printed.{extreme_field}
 use Rattle.printing.proofs.Putting.{a-field, no_field}
 use borrow.Author.Rules.{rules}
 use Rattle.whole_printing.proofs.held.Statement.{statement}
@@ -24,8 +24,8 @@ returns c =
     let s = x.before.before in
     let a = s.args in
     let total = signed a.p.sum in
-    let max = extremeField a.p.max in
-    a-field 32 (waiting a.n a.text) (extremeField a.p.min) (max ∷ total ∷ []) x.extreme.ensures
+    let max = extreme_field a.p.max in
+    a-field 32 (waiting a.n a.text) (extreme_field a.p.min) (max ∷ total ∷ []) x.extreme.ensures
     (a-field 32 _ max (total ∷ []) y.extreme2.ensures
     (a-field 32 _ total [] (spelt (ap (λ (z : ℤ). 32 ∷ signed z) (held a.p.sum (sum_fits s))) _ c.integer.ensures) (no_field 32 _)))
 

@@ -4,13 +4,13 @@ use mathlib.Core.Path.{ap, ◌∙◌}
 use mathlib.Core.Bool.{true, false}
 use mathlib.Core.List.{List, [], ◌∷◌}
 use lib.Ieee.{Float}
-use Rattle.whole_point.specs.Handing.{Stored, storedIn}
-use Rattle.listing.specs.Listed.{rowAt, boundsAt}
+use Rattle.whole_point.specs.Handing.{Stored, stored_in}
+use Rattle.listing.specs.Listed.{row_at, bounds_at}
 use Rattle.lines.specs.Gathered.{waiting}
 use Rattle.lines.specs.Written.{decimal}
 use Rattle.lines.proofs.Gathering.{spelt}
-use Rattle.printing.specs.Fields.{each, setField}
-use Rattle.whole_printing.specs.Printed.{exponentialFields, explicitFields}
+use Rattle.printing.specs.Fields.{each, set_field}
+use Rattle.whole_printing.specs.Printed.{exponential_fields, explicit_fields}
 use Rattle.printing.proofs.Putting.{a-line, a-field}
 use Rattle.whole_printing.proofs.Points.{exponential-line, explicit-line}
 use Rattle.printing.proofs.Sets.{eight}
@@ -22,8 +22,8 @@ use Rattle.whole_printing.proofs.point_line.Tie as tie
 abbrev stored : tie.Start → Stored
 stored s =
     let a = s.args in
-    storedIn a.e.point (boundsAt a.e.bounds a.bounds.now) (rowAt a.at a.e.next false a.pos.now a.neg.now)
-    (rowAt a.at a.e.next true a.pos.now a.neg.now)
+    stored_in a.e.point (bounds_at a.e.bounds a.bounds.now) (row_at a.at a.e.next false a.pos.now a.neg.now)
+    (row_at a.at a.e.next true a.pos.now a.neg.now)
 
 returns : tie.Need-returns
 returns c =
@@ -40,13 +40,13 @@ returns c =
     let x = stored s in
     let p = a.e.point in
     let n = f.f.given.0.0 in
-    let rest = exponentialFields p x.pos x.neg in
+    let rest = exponential_fields p x.pos x.neg in
     let rows =
-    ap (λ (l : List ℕ). each 32 (exponentialFields p l below.row-at2.result.now)) above.row_at.ensures
-    ∙ ap (λ (l : List ℕ). each 32 (exponentialFields p x.pos l)) below.row-at2.ensures in
+    ap (λ (l : List ℕ). each 32 (exponential_fields p l below.row-at2.result.now)) above.row_at.ensures
+    ∙ ap (λ (l : List ℕ). each 32 (exponential_fields p x.pos l)) below.row-at2.ensures in
     spelt (exponential-line (eight a.row) x n f.f.given.1) (waiting a.n a.text)
-    (a-line (112 ∷ []) (setField (eight a.row) ∷ decimal n.count ∷ decimal n.zeros ∷ rest) _ b.byte.ensures
-    (a-field 32 _ (setField (eight a.row)) (decimal n.count ∷ decimal n.zeros ∷ rest) r.set.ensures
+    (a-line (112 ∷ []) (set_field (eight a.row) ∷ decimal n.count ∷ decimal n.zeros ∷ rest) _ b.byte.ensures
+    (a-field 32 _ (set_field (eight a.row)) (decimal n.count ∷ decimal n.zeros ∷ rest) r.set.ensures
     (a-field 32 _ (decimal n.count) (decimal n.zeros ∷ rest) k.number.ensures
     (a-field 32 _ (decimal n.zeros) rest z.number2.ensures (spelt rows _ e.exponential.ensures))))
     c.byte2.ensures)
@@ -65,13 +65,13 @@ returns-2 c =
     let x = stored s in
     let p = a.e.point in
     let n = f.f2.given.0.0 in
-    let rest = explicitFields p x.pos x.bounds in
+    let rest = explicit_fields p x.pos x.bounds in
     let rows =
-    ap (λ (l : List ℕ). each 32 (explicitFields p l own.bounds-at.result.now)) above.row_at.ensures
-    ∙ ap (λ (l : List Float). each 32 (explicitFields p x.pos l)) own.bounds-at.ensures in
+    ap (λ (l : List ℕ). each 32 (explicit_fields p l own.bounds-at.result.now)) above.row_at.ensures
+    ∙ ap (λ (l : List Float). each 32 (explicit_fields p x.pos l)) own.bounds-at.ensures in
     spelt (explicit-line (eight a.row) x n f.f2.given.1) (waiting a.n a.text)
-    (a-line (113 ∷ []) (setField (eight a.row) ∷ decimal n ∷ rest) _ b.byte3.ensures
-    (a-field 32 _ (setField (eight a.row)) (decimal n ∷ rest) r.set2.ensures
+    (a-line (113 ∷ []) (set_field (eight a.row) ∷ decimal n ∷ rest) _ b.byte3.ensures
+    (a-field 32 _ (set_field (eight a.row)) (decimal n ∷ rest) r.set2.ensures
     (a-field 32 _ (decimal n) rest k.number3.ensures (spelt rows _ e.explicit.ensures)))
     c.byte4.ensures)
 

@@ -5,7 +5,7 @@ use mathlib.Core.Path.{ap, sym, ◌∙◌}
 use mathlib.Core.List.{List, []}
 use mathlib.Core.Option.{some}
 use lib.ListN.{get_or}
-use Rattle.directory.specs.Calls.{boundTo}
+use Rattle.directory.specs.Calls.{bound_to}
 use Rattle.directory.specs.View.{Stores}
 use Rattle.laws.specs.Said.{success}
 use Rattle.bindings.proofs.Binds.{held-full, held_more}
@@ -27,7 +27,7 @@ returns-2 c sets order =
     let e = b.before.before in
     let s = e.before.before in
     ap (λ l. record { answer = success (some b.birth-of.result); kept = record { dir = s.args.d; stores = record { sets = sets; entries = l; order = order } } }) r.rebind.ensures
-    ∙ ap (λ (h : ℕ). record { answer = success (some h); kept = record { dir = s.args.d; stores = record { sets = sets; entries = boundTo s.args.entries.now s.args.x (get_or (get_or s.args.entries.now s.args.x []) 1 0 + 1); order = order } } }) b.birth-of.ensures
+    ∙ ap (λ (h : ℕ). record { answer = success (some h); kept = record { dir = s.args.d; stores = record { sets = sets; entries = bound_to s.args.entries.now s.args.x (get_or (get_or s.args.entries.now s.args.x []) 1 0 + 1); order = order } } }) b.birth-of.ensures
     ∙ sym (held_more s.args.d (stores s sets order) s.args.x e.if1.false)
 
 pub bind-held-spec : {M : Type 1} → statement M

@@ -8,7 +8,7 @@ use native.Mathlib.Omega.{arith}
 use lib.ListN.{length, get_or}
 use Rattle.directory.specs.View.{Stores}
 use Rattle.laws.specs.Said.{success}
-use Rattle.bindings.specs.Calls.{releasedAt}
+use Rattle.bindings.specs.Calls.{released_at}
 use Rattle.bindings.specs.Inner.{Bound}
 use Rattle.bindings.proofs.calls.free.Statement.{statement}
 use Rattle.bindings.proofs.calls.free.Tie as tie
@@ -36,7 +36,7 @@ rebind-requires : tie.Need-rebind-requires
 rebind-requires c κs = (there c.before.before.before).0
 
 returns : tie.Need-returns
-returns c sets order = let s = c.before.before in sym (ap (releasedAt s.args.d (stores s sets order)) c.enum_told.given.1)
+returns c sets order = let s = c.before.before in sym (ap (released_at s.args.d (stores s sets order)) c.enum_told.given.1)
 
 returns-2 : tie.Need-returns-2
 returns-2 c sets order =
@@ -44,7 +44,7 @@ returns-2 c sets order =
     let f = r.before.before.before.before in
     let s = start f in
     ap (λ l. record { answer = success none; kept = record { dir = s.args.d; stores = record { sets = sets; entries = l; order = order } } }) r.rebind.ensures
-    ∙ sym (ap (releasedAt s.args.d (stores s sets order)) f.found.given.1)
+    ∙ sym (ap (released_at s.args.d (stores s sets order)) f.found.given.1)
 
 pub free_spec : {M : Type 1} → statement M
 free_spec =

@@ -4,14 +4,14 @@ use borrow.Author.Rules.{scaled_Fits}
 use borrow.Author.Tests.{not-false}
 use lib.ListN.{get_or-replicate}
 use Rattle.laws.proofs.Cases.{true-not-false}
-use Rattle.directory.specs.Inner.{rowAt}
+use Rattle.directory.specs.Inner.{row_at}
 use Rattle.directory.proofs.Likes.{in-range, Passed, passed-more, alike_is}
 use Rattle.directory.proofs.alike.pass.Statement.{statement}
 use Rattle.directory.proofs.alike.pass.Tie as tie
 
 abbrev invariant-loop : tie.invariant-loop
 invariant-loop used sets order from first d₀ prev₀ i₀ d prev i =
-    (1 ≤ i) × (i ≤ used) × (prev ≡ get_or (rowAt sets order (i - 1)) from 0) × ((k : ℕ) → k < i → Passed used sets order from d k)
+    (1 ≤ i) × (i ≤ used) × (prev ≡ get_or (row_at sets order (i - 1)) from 0) × ((k : ℕ) → k < i → Passed used sets order from d k)
 
 abbrev decreases-loop : tie.decreases-loop
 decreases-loop used sets order from first d₀ prev₀ i₀ d prev i = used - i
@@ -92,7 +92,7 @@ loop-again c =
     let v = l.loop.inv in
     let i = l.loop.i in
     let n : i ≡ i + 1 - 1 = omega arith in
-    (omega (arith, v.0), omega (arith, e.before.before.before.loop-test.true), ap (λ (k : ℕ). get_or (rowAt s.args.sets.now s.args.order.now k) s.args.from 0) n, passed-more s.args.used s.args.sets.now s.args.order.now s.args.from l.loop.d f.differing2.result i f.differing2.ensures v.3 (named e).0 (named e).1 (λ u. c.before.later.ensures (not-false _ c.if2.false)))
+    (omega (arith, v.0), omega (arith, e.before.before.before.loop-test.true), ap (λ (k : ℕ). get_or (row_at s.args.sets.now s.args.order.now k) s.args.from 0) n, passed-more s.args.used s.args.sets.now s.args.order.now s.args.from l.loop.d f.differing2.result i f.differing2.ensures v.3 (named e).0 (named e).1 (λ u. c.before.later.ensures (not-false _ c.if2.false)))
 
 returns-3 : tie.Need-returns-3 invariant-loop decreases-loop
 returns-3 c = λ e. true-not-false (sym e)

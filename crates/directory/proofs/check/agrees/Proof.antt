@@ -3,8 +3,8 @@ use Rattle.std.proofs.Common.{◌≡◌, true, sym, ◌∙◌, rules}
 use borrow.Author.Tests.{not-true, not-false}
 use Rattle.directory.specs.View.{Stores}
 use Rattle.directory.specs.Inner.{bornb}
-use Rattle.directory.proofs.Agreed.{placed-broken, placed-plain}
-use Rattle.directory.proofs.Walks.{agree-far, agree-births, agree-places, agree-counts}
+use Rattle.directory.proofs.Agreed.{placed_broken, placed-plain}
+use Rattle.directory.proofs.Walks.{agree-far, agree_births, agree-places, agree-counts}
 use Rattle.directory.proofs.check.agrees.Statement.{statement}
 use Rattle.directory.proofs.check.agrees.Tie as tie
 
@@ -21,14 +21,14 @@ returns c = let s = c.before.before in sym (agree-far s.args.limit s.args.d (sto
 returns-2 : tie.Need-returns-2
 returns-2 c =
     let s = c.before.before.before.before in
-    sym (agree-births s.args.limit s.args.d (stores s) (sym c.before.births.ensures ∙ not-true _ c.if2.true))
+    sym (agree_births s.args.limit s.args.d (stores s) (sym c.before.births.ensures ∙ not-true _ c.if2.true))
 
 returns-3 : tie.Need-returns-3
 returns-3 c =
     let p = c.before.before in
     let e = p.before in
     let s = e.before.before.before.before in
-    sym (agree-places s.args.limit s.args.d (stores s) (placed-broken s.args.d.used s.args.sets.now s.args.order.now (sym p.places.ensures ∙ c.enum_told.given.1)))
+    sym (agree-places s.args.limit s.args.d (stores s) (placed_broken s.args.d.used s.args.sets.now s.args.order.now (sym p.places.ensures ∙ c.enum_told.given.1)))
 
 returns-4 : tie.Need-returns-4
 returns-4 c =

@@ -4,11 +4,11 @@ use borrow.Author.Tests.{not-true, not-false}
 use borrow.Author.Rules.{scaled_Fits}
 use Rattle.tally.specs.Map.{plain}
 use Rattle.sets.specs.All.{allb}
-use Rattle.sets.specs.Rows.{setOf, soundb}
+use Rattle.sets.specs.Rows.{set_of, soundb}
 use Rattle.sets.proofs.Alls.{allb-none, allb-more, allb-no}
 use Rattle.sets.proofs.Keyed.{sound-some}
 use Rattle.directory.specs.View.{plainly}
-use Rattle.directory.specs.Inner.{stepAt}
+use Rattle.directory.specs.Inner.{step_at}
 use Rattle.directory.specs.declared.Placed.TheVariants.{Plain}
 use Rattle.directory.proofs.Checks.{step-low, step-high, step-test, plainly-more, placed-no, placed-yes, bit-one}
 use Rattle.laws.proofs.Cases.{and-true}
@@ -17,7 +17,7 @@ use Rattle.directory.proofs.check.one_by_one.Tie as tie
 
 abbrev invariant-loop : tie.invariant-loop
 invariant-loop used sets order plain₀ p₀ i₀ plain p i =
-    (i ≤ used) × (p ≤ used) × ((i ≡ 0 → ⊥) → (p ≡ get_or order (i - 1) 0) × (1 ≤ p)) × ((i ≡ 0 → ⊥) → soundb (get_or sets p []) ≡ true) × (allb i (stepAt sets order used) ≡ true) × (plain ≡ plainly sets order i) × (plain ≤ i)
+    (i ≤ used) × (p ≤ used) × ((i ≡ 0 → ⊥) → (p ≡ get_or order (i - 1) 0) × (1 ≤ p)) × ((i ≡ 0 → ⊥) → soundb (get_or sets p []) ≡ true) × (allb i (step_at sets order used) ≡ true) × (plain ≡ plainly sets order i) × (plain ≤ i)
 
 abbrev decreases-loop : tie.decreases-loop
 decreases-loop used sets order plain₀ p₀ i₀ plain p i = used - i
@@ -45,13 +45,13 @@ returns : tie.Need-returns invariant-loop decreases-loop
 returns c =
     let t = c.before.before in
     let s = t.before.before.before in
-    sym (placed-no s.args.used s.args.sets.now s.args.order.now (allb-no (stepAt s.args.sets.now s.args.order.now s.args.used) s.args.used t.before.loop.i t.loop-test.true (step-low s.args.sets.now s.args.order.now s.args.used t.before.loop.i c.if1.true)))
+    sym (placed-no s.args.used s.args.sets.now s.args.order.now (allb-no (step_at s.args.sets.now s.args.order.now s.args.used) s.args.used t.before.loop.i t.loop-test.true (step-low s.args.sets.now s.args.order.now s.args.used t.before.loop.i c.if1.true)))
 
 returns-2 : tie.Need-returns-2 invariant-loop decreases-loop
 returns-2 c =
     let t = c.before.before.before in
     let s = t.before.before.before in
-    sym (placed-no s.args.used s.args.sets.now s.args.order.now (allb-no (stepAt s.args.sets.now s.args.order.now s.args.used) s.args.used t.before.loop.i t.loop-test.true (step-high s.args.sets.now s.args.order.now s.args.used t.before.loop.i c.before.if1.false c.if2.true)))
+    sym (placed-no s.args.used s.args.sets.now s.args.order.now (allb-no (step_at s.args.sets.now s.args.order.now s.args.used) s.args.used t.before.loop.i t.loop-test.true (step-high s.args.sets.now s.args.order.now s.args.used t.before.loop.i c.before.if1.false c.if2.true)))
 
 mul-follows : tie.Need-overflow-mul-follows invariant-loop decreases-loop
 mul-follows c = scaled_Fits _ _ 72 (in_p c) (start c).well-formed.1.0.1
@@ -76,7 +76,7 @@ returns-3 c =
     let t = e.before.before.before in
     let v = t.before.loop.invariant in
     let s = start e in
-    sym (placed-no s.args.used s.args.sets.now s.args.order.now (allb-no (stepAt s.args.sets.now s.args.order.now s.args.used) s.args.used t.before.loop.i t.loop-test.true (step-test s.args.sets.now s.args.order.now s.args.used t.before.loop.i t.before.loop.p e.before.if1.false e.if2.false v.2 false (sym (not-true _ c.if3.true) ∙ c.before.follows.ensures))))
+    sym (placed-no s.args.used s.args.sets.now s.args.order.now (allb-no (step_at s.args.sets.now s.args.order.now s.args.used) s.args.used t.before.loop.i t.loop-test.true (step-test s.args.sets.now s.args.order.now s.args.used t.before.loop.i t.before.loop.p e.before.if1.false e.if2.false v.2 false (sym (not-true _ c.if3.true) ∙ c.before.follows.ensures))))
 
 mul-plain-row : tie.Need-overflow-mul-plain-row invariant-loop decreases-loop
 mul-plain-row c = let e = c.before.before.before.before in scaled_Fits _ _ 72 (in-q e) (start e).well-formed.1.0.1
@@ -92,7 +92,7 @@ add-plain c =
     let e = c.before.before.before.before.before.before in
     let t = e.before.before.before in
     let s = start e in
-    omega (arith, bit-one (plain (setOf (get_or s.args.sets.now (get_or s.args.order.now t.before.loop.i 0) []))), c.plain-Row.ensures, t.before.loop.invariant.6, t.loop-test.true)
+    omega (arith, bit-one (plain (set_of (get_or s.args.sets.now (get_or s.args.order.now t.before.loop.i 0) []))), c.plain-Row.ensures, t.before.loop.invariant.6, t.loop-test.true)
 
 add-i : tie.Need-overflow-add-i invariant-loop decreases-loop
 add-i c = let t = c.before.before.before.before.before.before.before.before.before in omega (arith, t.loop-test.true)
@@ -115,9 +115,9 @@ loop-again c =
       e.if2.false,
       (λ n. (ap (λ (k : ℕ). get_or s.args.order.now k 0) d, e.before.if1.false)),
       (λ n. firm f),
-      allb-more (stepAt s.args.sets.now s.args.order.now s.args.used) i v.4 (step-test s.args.sets.now s.args.order.now s.args.used t.before.loop.i t.before.loop.p e.before.if1.false e.if2.false v.2 true (sym (not-false _ f.if3.false) ∙ f.before.follows.ensures)),
+      allb-more (step_at s.args.sets.now s.args.order.now s.args.used) i v.4 (step-test s.args.sets.now s.args.order.now s.args.used t.before.loop.i t.before.loop.p e.before.if1.false e.if2.false v.2 true (sym (not-false _ f.if3.false) ∙ f.before.follows.ensures)),
       ap (λ (k : ℕ). k + c.plain-Row.result) v.5 ∙ ap (λ (k : ℕ). plainly s.args.sets.now s.args.order.now i + k) b ∙ sym (plainly-more s.args.sets.now s.args.order.now i e.before.if1.false),
-      omega (arith, bit-one (plain (setOf (get_or s.args.sets.now q []))), b, v.6),
+      omega (arith, bit-one (plain (set_of (get_or s.args.sets.now q []))), b, v.6),
     )
 
 returns-4 : tie.Need-returns-4 invariant-loop decreases-loop
@@ -127,7 +127,7 @@ returns-4 c =
     let v = l.loop.invariant in
     let e : l.loop.i ≡ s.args.used = omega (arith, c.loop-test.false) in
     ap Plain (v.5 ∙ ap (plainly s.args.sets.now s.args.order.now) e)
-    ∙ sym (placed-yes s.args.used s.args.sets.now s.args.order.now (subst (λ (k : ℕ). allb k (stepAt s.args.sets.now s.args.order.now s.args.used) ≡ true) e v.4))
+    ∙ sym (placed-yes s.args.used s.args.sets.now s.args.order.now (subst (λ (k : ℕ). allb k (step_at s.args.sets.now s.args.order.now s.args.used) ≡ true) e v.4))
 
 pub one-by-one-spec : {M : Type 1} → statement M
 one-by-one-spec =

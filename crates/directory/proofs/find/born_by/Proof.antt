@@ -1,7 +1,7 @@
 -- `directory::find::born_by` meets its contract: the last slot that was born by a number, found by halving. Assumes nothing.
 use Rattle.std.proofs.Common.{ℕ, ◌+◌, ◌-◌, ◌/◌, ◌<◌, ◌≤◌, length, arith, rules}
 use borrow.Author.Rules.{scaled_Fits}
-use Rattle.directory.specs.View.{birthAt}
+use Rattle.directory.specs.View.{birth_at}
 use Rattle.directory.proofs.Births.{behind}
 use Rattle.directory.proofs.Checks.{birth-named}
 use Rattle.directory.proofs.find.born_by.Statement.{statement}
@@ -10,7 +10,7 @@ use Rattle.directory.proofs.find.born_by.Tie as tie
 -- slot `low` was born by h, those from `high` on were not
 abbrev invariant-loop : tie.invariant-loop
 invariant-loop used entries h low₀ high₀ low high =
-    (low < high) × (high ≤ used + 1) × (birthAt entries low ≤ h) × ((y : ℕ) → high ≤ y → y ≤ used → h < birthAt entries y)
+    (low < high) × (high ≤ used + 1) × (birth_at entries low ≤ h) × ((y : ℕ) → high ≤ y → y ≤ used → h < birth_at entries y)
 
 abbrev decreases-loop : tie.decreases-loop
 decreases-loop used entries h low₀ high₀ low high = high - low

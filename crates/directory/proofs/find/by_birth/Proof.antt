@@ -1,7 +1,7 @@
 -- `directory::find::by_birth` meets its contract. Assumes nothing.
 use Rattle.std.proofs.Common.{◌≡◌, ℕ, ◌<◌, Bool, ◌&&◌, eqb, ltb, [], length, get_or, sym, ap, ◌∙◌, arith, rules}
 use borrow.Author.Rules.{scaled_Fits}
-use Rattle.directory.specs.View.{Stores, birthAt}
+use Rattle.directory.specs.View.{Stores, birth_at}
 use Rattle.directory.proofs.Handles.{scan-own, scan-last}
 use Rattle.directory.proofs.find.by_birth.Statement.{statement}
 use Rattle.directory.proofs.find.by_birth.Tie as tie
@@ -22,7 +22,7 @@ bound b = ltb 0 (get_or (get_or (at b).args.entries.now b.born-by.result []) 1 0
 -- the slot is asked for the handle
 asked : (n : tie.After-names) →
     let b = n.before.before.before in
-    (eqb (birthAt (at b).args.entries.now b.born-by.result) (at b).args.h && bound b) ≡ n.names.result
+    (eqb (birth_at (at b).args.entries.now b.born-by.result) (at b).args.h && bound b) ≡ n.names.result
 asked n =
     let o = n.before.before in
     let b = o.before in

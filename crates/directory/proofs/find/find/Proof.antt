@@ -3,9 +3,9 @@ use Rattle.std.proofs.Common.{◌≡◌, ℕ, ◌+◌, ◌-◌, ◌/◌, ◌<◌
 use borrow.Author.Rules.{scaled_Fits}
 use Prim.Native.Nat.{Ordering}
 use Rattle.tally.specs.Sets.{cmp}
-use Rattle.sets.specs.Rows.{span, setOf}
+use Rattle.sets.specs.Rows.{span, set_of}
 use Rattle.sets.proofs.Keyed.{empty-row, named-row}
-use Rattle.sets.proofs.Ways.{way-lt, way-eq, way-gt}
+use Rattle.sets.proofs.Ways.{way-lt, way-eq, way_gt}
 use Rattle.directory.specs.View.{seek, sought}
 use Rattle.directory.proofs.Checks.{sought-empty, sought-named}
 use Rattle.directory.proofs.Halves.{beneath, beyond, held-at, seek-room-at}
@@ -16,9 +16,9 @@ use Rattle.directory.proofs.find.find.Tie as tie
 abbrev invariant-loop : tie.invariant-loop
 invariant-loop used sets order wanted low₀ high₀ low high =
     (low ≤ high) × (high ≤ used)
-    × ((k : ℕ) → k < low → cmp (setOf wanted) (setOf (get_or sets (get_or order k 0) [])) ≡ Ordering.gt)
-    × ((k : ℕ) → high ≤ k → k < used → cmp (setOf wanted) (setOf (get_or sets (get_or order k 0) [])) ≡ Ordering.lt)
-    × (sought (setOf wanted) used sets order ≡ seek (setOf wanted) sets (span order 0 (used - 0)) 0)
+    × ((k : ℕ) → k < low → cmp (set_of wanted) (set_of (get_or sets (get_or order k 0) [])) ≡ Ordering.gt)
+    × ((k : ℕ) → high ≤ k → k < used → cmp (set_of wanted) (set_of (get_or sets (get_or order k 0) [])) ≡ Ordering.lt)
+    × (sought (set_of wanted) used sets order ≡ seek (set_of wanted) sets (span order 0 (used - 0)) 0)
 
 abbrev decreases-loop : tie.decreases-loop
 decreases-loop used sets order wanted low₀ high₀ low high = high - low
@@ -42,7 +42,7 @@ slot_of : (t : tie.In-loop invariant-loop decreases-loop) → (1 ≤ get_or (sta
 slot_of t = (start t).requires.3 (mid t) (inside t)
 
 abbrev lie : tie.In-loop invariant-loop decreases-loop → Ordering
-lie t = cmp (setOf (start t).args.wanted.now) (setOf (get_or (start t).args.sets.now (get_or (start t).args.order.now (mid t) 0) []))
+lie t = cmp (set_of (start t).args.wanted.now) (set_of (get_or (start t).args.sets.now (get_or (start t).args.order.now (mid t) 0) []))
 
 in-q : (t : tie.In-loop invariant-loop decreases-loop) → get_or (start t).args.order.now (mid t) 0 < length (start t).args.sets.now
 in-q t = omega (arith, (start t).requires.0, (slot_of t).1)
@@ -91,7 +91,7 @@ loop-again c =
       (half t.before.loop.low t.before.loop.high t.loop-test.true).0,
       omega (arith, inside t),
       v.2,
-      beyond (setOf s.args.wanted.now) s.args.used s.args.sets.now s.args.order.now s.pre.5 (mid t) (way-lt (lie t) (sym a.compare.ensures ∙ c.enum_told.given.1)),
+      beyond (set_of s.args.wanted.now) s.args.used s.args.sets.now s.args.order.now s.pre.5 (mid t) (way-lt (lie t) (sym a.compare.ensures ∙ c.enum_told.given.1)),
       v.4,
     )
 
@@ -100,7 +100,7 @@ returns-2 c =
     let a = c.before.before in
     let t = a.before.before.before in
     let s = start t in
-    sym (t.before.loop.invariant.4 ∙ held-at (setOf s.args.wanted.now) s.args.used s.args.sets.now s.args.order.now s.pre.5 s.pre.3 (mid t) (inside t) (way-eq (lie t) (sym a.compare.ensures ∙ c.enum-told2.given.1)))
+    sym (t.before.loop.invariant.4 ∙ held-at (set_of s.args.wanted.now) s.args.used s.args.sets.now s.args.order.now s.pre.5 s.pre.3 (mid t) (inside t) (way-eq (lie t) (sym a.compare.ensures ∙ c.enum-told2.given.1)))
 
 add_low : tie.Need-overflow-add-low invariant-loop decreases-loop
 add_low c = let t = c.before.before.before.before.before in omega (arith, in_order t, (start t).well-formed.1.1.0.1)
@@ -116,7 +116,7 @@ loop-again-2 c =
     let v = t.before.loop.invariant in (
       omega (arith, below-high t),
       v.1,
-      beneath (setOf s.args.wanted.now) s.args.used s.args.sets.now s.args.order.now s.pre.5 (mid t) (inside t) (way-gt (lie t) (sym a.compare.ensures ∙ c.enum-told3.given.1)),
+      beneath (set_of s.args.wanted.now) s.args.used s.args.sets.now s.args.order.now s.pre.5 (mid t) (inside t) (way_gt (lie t) (sym a.compare.ensures ∙ c.enum-told3.given.1)),
       v.3,
       v.4,
     )
@@ -127,7 +127,7 @@ returns-3 c =
     let s = l.before.before.before.before in
     let v = l.loop.invariant in
     let e : l.loop.high ≤ l.loop.low = omega (arith, c.loop-test.false) in
-    sym (v.4 ∙ seek-room-at (setOf s.args.wanted.now) s.args.used s.args.sets.now s.args.order.now s.requires.3 l.loop.low (omega (arith, v.0, v.1)) v.2 (λ k h u. v.3 k (omega (arith, h, e)) u))
+    sym (v.4 ∙ seek-room-at (set_of s.args.wanted.now) s.args.used s.args.sets.now s.args.order.now s.requires.3 l.loop.low (omega (arith, v.0, v.1)) v.2 (λ k h u. v.3 k (omega (arith, h, e)) u))
 
 pub find_spec : {M : Type 1} → statement M
 find_spec =

@@ -1,7 +1,7 @@
 -- `directory::find::locate_agreed` meets its contract. Assumes nothing.
 use Rattle.std.proofs.Common.{◌≡◌, ℕ, suc, ◌<◌, ◌≤◌, true, [], length, get_or, sym, ◌∙◌, arith, rules}
 use Prim.Native.Nat.{Ordering}
-use Rattle.sets.specs.Rows.{size, setOf}
+use Rattle.sets.specs.Rows.{size, set_of}
 use Rattle.directory.specs.View.{Stores, agreesb}
 use Rattle.directory.proofs.Agreed.{slot-sizes, place-slot}
 use Rattle.directory.proofs.Finds.{located-old, located-new, located-over-old, located-over}
@@ -29,7 +29,7 @@ sizes-of : (e : tie.Start) → (x : ℕ) → 1 ≤ x → x ≤ e.args.d.used →
 sizes-of e x h k = (slot-sizes e.args.d.used e.args.d.last e.args.sets.now e.args.entries.now (slots-right e.args.limit e.args.d (stores e) (right e)) x h k).1
 
 rise-of : (e : tie.Start) → (k : ℕ) → suc k < e.args.d.used
-    → cmp (setOf (get_or e.args.sets.now (get_or e.args.order.now k 0) [])) (setOf (get_or e.args.sets.now (get_or e.args.order.now (suc k) 0) [])) ≡ Ordering.lt
+    → cmp (set_of (get_or e.args.sets.now (get_or e.args.order.now k 0) [])) (set_of (get_or e.args.sets.now (get_or e.args.order.now (suc k) 0) [])) ≡ Ordering.lt
 rise-of e = place-climb e.args.d.used e.args.sets.now e.args.order.now (places-right e.args.limit e.args.d (stores e) (right e))
 
 find-requires : tie.Need-find-requires

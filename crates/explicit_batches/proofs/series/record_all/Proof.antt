@@ -4,7 +4,7 @@ use mathlib.Core.Path.{◌≡◌, refl, sym, subst, ◌∙◌}
 use native.Mathlib.Omega.{arith}
 use lib.ListN.{length, get_or, drop}
 use lib.Ieee.{Float, nan}
-use Rattle.laws.specs.Counting.{mostCount}
+use Rattle.laws.specs.Counting.{most_count}
 use Rattle.rows.specs.Recording.{Recording, after}
 use Rattle.many.specs.Many.{each}
 use Rattle.many.proofs.Turns.{later, begins, turn, halt, ended}
@@ -54,7 +54,7 @@ turn-of e = e.before.before.before
 unbarred : (e : tie.Else1 invariant-loop decreases-loop) → 0 ≡ barring (turn-of e).before.loop.h.count (one (turn-of e))
 unbarred e = sym e.if1.false ∙ e.before.barred.ensures
 
-found : (e : tie.Else1 invariant-loop decreases-loop) → (turn-of e).before.loop.h.count < mostCount
+found : (e : tie.Else1 invariant-loop decreases-loop) → (turn-of e).before.loop.h.count < most_count
 found e = let t = turn-of e in free t.before.loop.h.count (one t) (sym (unbarred e))
 
 same_length : tie.Need-same-length invariant-loop decreases-loop

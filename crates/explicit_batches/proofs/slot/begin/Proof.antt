@@ -1,8 +1,8 @@
 -- `slot::begin` meets its contract. Assumes nothing.
 use mathlib.Core.Path.{sym, ap, ◌∙◌}
 use borrow.Author.Rules.{rules}
-use Rattle.laws.proofs.Answers.{valueIn}
-use Rattle.explicit.specs.Series.{said, Outcome, freshHead}
+use Rattle.laws.proofs.Answers.{value_in}
+use Rattle.explicit.specs.Series.{said, Outcome, fresh_head}
 use Rattle.explicit_slots.proofs.Enters.{first-never}
 use Rattle.explicit_batches.specs.Values.{Series}
 use Rattle.explicit_batches.proofs.Entered.{empty, begun-held, begun-empty, fresh-is}
@@ -28,7 +28,7 @@ returns-3 c =
     let a = (start f).args in
     let e = fresh-is a.bounds.now a.head a.counts.now (start f).requires (said f.fresh.result) f.fresh.new.1.0 f.fresh.ensures in
     (λ j. record {
-      head = (sym (ap (λ y. valueIn freshHead (said y)) k.empty.given.1) ∙ ap (λ (o : Outcome). valueIn freshHead o.answer) e) j;
+      head = (sym (ap (λ y. value_in fresh_head (said y)) k.empty.given.1) ∙ ap (λ (o : Outcome). value_in fresh_head o.answer) e) j;
       counts = ap (λ (o : Outcome). o.counts) e j;
     })
     ∙ begun-empty a.bounds.now a.head a.counts.now a.updated f.before.before.if1.false

@@ -9,7 +9,7 @@ use Rattle.value_map.proofs.ExplicitOwes.{owed}
 use Rattle.listing.specs.Listed.{Output, output}
 use Rattle.collecting.proofs.Ends.{cumulative-refused, cumulative-done}
 use Rattle.collecting.proofs.Decides.{listable, listed-is}
-use Rattle.explicit_collection.specs.Points.{explicitLister}
+use Rattle.explicit_collection.specs.Points.{explicit_lister}
 use Rattle.explicit_collection.proofs.collect.cumulative.Statement.{statement}
 use Rattle.explicit_collection.proofs.collect.cumulative.Tie as tie
 
@@ -30,7 +30,7 @@ returns c =
     let n = c.before in
     let s = start n in
     let a = s.args in
-    cumulative-refused (explicitLister a.bounds.now) (a.s.extremes, a.s.sums) a.s.limit (map s) (out s) n.number.result n.number.ensures c.if1.true
+    cumulative-refused (explicit_lister a.bounds.now) (a.s.extremes, a.s.sums) a.s.limit (map s) (out s) n.number.result n.number.ensures c.if1.true
 
 list-requires : tie.Need-list-requires
 list-requires c κs =
@@ -38,7 +38,7 @@ list-requires c κs =
     let n = e.before in
     let s = start n in
     let a = s.args in
-    listable (explicitLister a.bounds.now) (owed a.bounds.now) (a.s.extremes, a.s.sums) true a.s.limit (map s) (out s) n.number.result n.number.ensures e.if1.false
+    listable (explicit_lister a.bounds.now) (owed a.bounds.now) (a.s.extremes, a.s.sums) true a.s.limit (map s) (out s) n.number.result n.number.ensures e.if1.false
 
 returns-2 : tie.Need-returns-2
 returns-2 c =
@@ -47,8 +47,8 @@ returns-2 c =
     let n = e.before in
     let s = start n in
     let a = s.args in
-    cumulative-done (explicitLister a.bounds.now) (a.s.extremes, a.s.sums) a.s.limit (map s) (out s) _ (sym n.number.ensures ∙ e.if1.false)
-    (listed-is (explicitLister a.bounds.now) (owed a.bounds.now) (a.s.extremes, a.s.sums) true a.s.limit (map s) (out s) _ p.list.ensures)
+    cumulative-done (explicit_lister a.bounds.now) (a.s.extremes, a.s.sums) a.s.limit (map s) (out s) _ (sym n.number.ensures ∙ e.if1.false)
+    (listed-is (explicit_lister a.bounds.now) (owed a.bounds.now) (a.s.extremes, a.s.sums) true a.s.limit (map s) (out s) _ p.list.ensures)
 
 pub cumulative-spec : {M : Type 1} → statement M
 cumulative-spec =

@@ -6,12 +6,12 @@ use mathlib.Core.Option.{none}
 use Rattle.directory.specs.View.{stores}
 use Rattle.explicit_slots.specs.Cells.{Cells, cells}
 use Rattle.value_map.specs.Calls.{Held, held}
-use Rattle.value_map.specs.Explicit.{explicitStore}
+use Rattle.value_map.specs.Explicit.{explicit_store}
 use Rattle.value_map.proofs.ExplicitOwes.{owed}
 use Rattle.listing.specs.Listed.{Output, output}
 use Rattle.collecting.proofs.Decides.{number-first, walk_here, number-then}
 use Rattle.collecting.proofs.Sure.{unbarred, walk-known}
-use Rattle.explicit_collection.specs.Points.{explicitLister}
+use Rattle.explicit_collection.specs.Points.{explicit_lister}
 use Rattle.explicit_collection.proofs.collect.number.Statement.{statement}
 use Rattle.explicit_collection.proofs.collect.number.Tie as tie
 
@@ -32,7 +32,7 @@ barred-requires c κs k =
     let r = c.before in
     let s = r.before.before.before.before.before.before.before in
     let a = s.args in
-    unbarred (explicitStore a.bounds.now) (a.s.extremes, a.s.sums) a.s.limit none (map s) (s.requires k)
+    unbarred (explicit_store a.bounds.now) (a.s.extremes, a.s.sums) a.s.limit none (map s) (s.requires k)
     r.cells-suffice.result c.unset-of.result r.cells-suffice.ensures c.unset-of.ensures
 
 returns : tie.Need-returns
@@ -40,7 +40,7 @@ returns c =
     let b = c.before in
     let s = start b in
     let a = s.args in
-    number-first (explicitLister a.bounds.now) (owed a.bounds.now) (a.s.extremes, a.s.sums) a.cumulative a.s.limit (map s) (out s)
+    number-first (explicit_lister a.bounds.now) (owed a.bounds.now) (a.s.extremes, a.s.sums) a.cumulative a.s.limit (map s) (out s)
     (room b).cells-suffice.result b.before.unset-of.result b.barred.result
     (room b).cells-suffice.ensures b.before.unset-of.ensures b.barred.ensures c.if1.true
 
@@ -49,10 +49,10 @@ survey-requires c κs =
     let b = c.before in
     let s = start b in
     let a = s.args in (
-      walk_here (explicitLister a.bounds.now) (owed a.bounds.now) (a.s.extremes, a.s.sums) a.cumulative a.s.limit (map s) (out s)
+      walk_here (explicit_lister a.bounds.now) (owed a.bounds.now) (a.s.extremes, a.s.sums) a.cumulative a.s.limit (map s) (out s)
           (room b).cells-suffice.result b.before.unset-of.result b.barred.result
           (room b).cells-suffice.ensures b.before.unset-of.ensures b.barred.ensures c.if1.false,
-      walk-known (explicitStore a.bounds.now) (a.s.extremes, a.s.sums) a.s.limit none (map s) a.known s.pre (true, true) (λ x. refl),
+      walk-known (explicit_store a.bounds.now) (a.s.extremes, a.s.sums) a.s.limit none (map s) a.known s.pre (true, true) (λ x. refl),
     )
 
 returns-2 : tie.Need-returns-2
@@ -62,7 +62,7 @@ returns-2 c =
     let b = e.before in
     let s = start b in
     let a = s.args in
-    number-then (explicitLister a.bounds.now) (owed a.bounds.now) (a.s.extremes, a.s.sums) a.cumulative a.s.limit (map s) (out s)
+    number-then (explicit_lister a.bounds.now) (owed a.bounds.now) (a.s.extremes, a.s.sums) a.cumulative a.s.limit (map s) (out s)
     (room b).cells-suffice.result b.before.unset-of.result b.barred.result
     (room b).cells-suffice.ensures b.before.unset-of.ensures b.barred.ensures e.if1.false
     (true, true) (λ x. refl) f.survey.result c.number_of.result f.survey.ensures c.number_of.ensures

@@ -6,7 +6,7 @@ use lib.ListN.{length}
 use borrow.Author.Rules.{rules}
 use borrow.Author.Tests.{not-true, not-false}
 use Rattle.explicit_slots.specs.Cells.{Cells, cells}
-use Rattle.explicit_collection.proofs.Slots.{uncounted, low-lost, by_high}
+use Rattle.explicit_collection.proofs.Slots.{uncounted, low_lost, by_high}
 use Rattle.explicit_collection.proofs.slot.agrees_at.Statement.{statement}
 use Rattle.explicit_collection.proofs.slot.agrees_at.Tie as tie
 
@@ -54,7 +54,7 @@ returns-2 c =
     let b = counted k in
     let s = start b in
     let a = s.args in
-    low-lost a.bounds.now (lent s) a.x b.bucket-count.result b.bucket-count.ensures (read k).head_at.result (read k).head_at.ensures
+    low_lost a.bounds.now (lent s) a.x b.bucket-count.result b.bucket-count.ensures (read k).head_at.result (read k).head_at.ensures
     k.buckets-agree.result k.buckets-agree.ensures (not-false k.buckets-agree.result q.before.if1.false)
     (sym q.is_finite.ensures ∙ not-true q.is_finite.result c.if2.true)
 

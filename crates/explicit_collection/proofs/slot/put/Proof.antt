@@ -7,18 +7,18 @@ use lib.ListN.{length}
 use borrow.Author.Rules.{rules}
 use borrow.Author.Tests.{not-true, not-false}
 use Rattle.rows.proofs.Parts.{part_length}
-use Rattle.points.specs.Explicit.{boundsPass, bucketCount}
+use Rattle.points.specs.Explicit.{bounds_pass, bucket_count}
 use Rattle.laws.proofs.Bools.{pick_true, pick-false}
 use Rattle.explicit.specs.declared.Head.{Head}
-use Rattle.explicit.specs.Series.{freshHead}
-use Rattle.point.specs.Handing.{explicitPoint}
+use Rattle.explicit.specs.Series.{fresh_head}
+use Rattle.point.specs.Handing.{explicit_point}
 use Rattle.listing.specs.Words.{words_of}
 use Rattle.collecting.specs.Read.{span_of}
-use Rattle.explicit_slots.specs.Cells.{Cells, cells, headAt}
+use Rattle.explicit_slots.specs.Cells.{Cells, cells, head_at}
 use Rattle.value_map.proofs.ExplicitOwes.{owed}
 use Rattle.listing.specs.Listed.{Output, output}
 use Rattle.collecting.specs.Slots.{Place}
-use Rattle.explicit_collection.specs.Points.{explicitLister}
+use Rattle.explicit_collection.specs.Points.{explicit_lister}
 use Rattle.explicit_collection.proofs.Slots.{place_of, put-none, put-held, put_first}
 use Rattle.explicit_collection.proofs.slot.put.Statement.{statement}
 use Rattle.explicit_collection.proofs.slot.put.Tie as tie
@@ -39,10 +39,10 @@ abbrev from : tie.After-bucket-count → tie.Start
 from b = start b.before.before.before
 
 -- the bounds pass, and there is room for the point
-passing : (s : tie.Start) → boundsPass s.args.bounds.now ≡ true
+passing : (s : tie.Start) → bounds_pass s.args.bounds.now ≡ true
 passing s = (owed s.args.bounds.now).valid s.requires.0.set (s.args.show, s.args.sums)
 
-place : (e : tie.Else1) → Place (start e).args.at (out (start e)) (bucketCount (start e).args.bounds.now) 0
+place : (e : tie.Else1) → Place (start e).args.at (out (start e)) (bucket_count (start e).args.bounds.now) 0
 place e =
     let s = start e in
     let a = s.args in
@@ -53,16 +53,16 @@ end : (b : tie.After-bucket-count) → (from b).args.x * b.bucket-count.result +
 end b = let a = (from b).args in subst (λ (k : ℕ). a.x * k + k ≤ length a.counts.now) (sym b.bucket-count.ensures) (from b).requires.0.room.counts
 
 -- the words of the slot's point
-words-of : (s : tie.Start) (h : Head) → h ≡ headAt (lent s) s.args.x s.args.updated
-    → words_of (explicitPoint h s.args.show s.args.sums) (span_of s.args.bounds.now)
-    ≡ (explicitLister s.args.bounds.now).words (s.args.show, s.args.sums) (lent s) s.args.x s.args.updated
-words-of s h e = let a = s.args in ap (λ (h : Head). words_of (explicitPoint h a.show a.sums) (span_of a.bounds.now)) e
+words-of : (s : tie.Start) (h : Head) → h ≡ head_at (lent s) s.args.x s.args.updated
+    → words_of (explicit_point h s.args.show s.args.sums) (span_of s.args.bounds.now)
+    ≡ (explicit_lister s.args.bounds.now).words (s.args.show, s.args.sums) (lent s) s.args.x s.args.updated
+words-of s h e = let a = s.args in ap (λ (h : Head). words_of (explicit_point h a.show a.sums) (span_of a.bounds.now)) e
 
 returns : tie.Need-returns
 returns c =
     let s = c.before.before.before.before.before.before in
     let a = s.args in
-    put-none (explicitLister a.bounds.now) (a.show, a.sums) a.updated a.due (lent s) a.x a.row a.at (out s) (not-true a.due c.if1.true)
+    put-none (explicit_lister a.bounds.now) (a.show, a.sums) a.updated a.due (lent s) a.x a.row a.at (out s) (not-true a.due c.if1.true)
 
 put-fresh-requires : tie.Need-put-fresh-requires
 put-fresh-requires c κs =
@@ -78,9 +78,9 @@ returns-2 c =
     let s = start e in
     let a = s.args in
     f.put-fresh.ensures
-    ∙ put_first (explicitLister a.bounds.now) (a.show, a.sums) a.updated a.due (lent s) a.x a.row a.at (out s) a.bounds.now a.counts.now
+    ∙ put_first (explicit_lister a.bounds.now) (a.show, a.sums) a.updated a.due (lent s) a.x a.row a.at (out s) a.bounds.now a.counts.now
     s.pre.0.room.counts refl refl (not-false a.due e.if1.false) _
-    (words-of s freshHead (sym (pick-false a.updated _ freshHead (not-true a.updated t.if2.true)))) (not-true a.updated t.if2.true)
+    (words-of s fresh_head (sym (pick-false a.updated _ fresh_head (not-true a.updated t.if2.true)))) (not-true a.updated t.if2.true)
 
 mul-a : tie.Need-overflow-mul-a
 mul-a c = omega (arith, end c, (from c).well-formed.1.1.1.1.1.1.1.1.1.1.0.0)
@@ -112,9 +112,9 @@ returns-3 c =
     let s = start e in
     let a = s.args in
     p.put-point.ensures
-    ∙ put-held (explicitLister a.bounds.now) (a.show, a.sums) a.updated a.due (lent s) a.x a.row a.at (out s) a.bounds.now a.counts.now
+    ∙ put-held (explicit_lister a.bounds.now) (a.show, a.sums) a.updated a.due (lent s) a.x a.row a.at (out s) a.bounds.now a.counts.now
     s.pre.0.room.counts refl refl (not-false a.due e.if1.left) _
-    (words-of s b.before.head_at.result (b.before.head_at.ensures ∙ sym (pick_true a.updated _ freshHead (not-false a.updated (other b).if2.false))))
+    (words-of s b.before.head_at.result (b.before.head_at.ensures ∙ sym (pick_true a.updated _ fresh_head (not-false a.updated (other b).if2.false))))
     (not-false a.updated (other b).if2.false) b.bucket-count.result b.bucket-count.ensures
 
 pub put_spec : {M : Type 1} → statement M

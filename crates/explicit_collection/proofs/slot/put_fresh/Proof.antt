@@ -4,7 +4,7 @@ use mathlib.Core.Path.{ap, ◌∙◌}
 use native.Mathlib.Omega.{arith}
 use lib.ListN.{length, replicate, length-replicate}
 use borrow.Author.Rules.{rules}
-use Rattle.points.specs.Explicit.{bucketCount}
+use Rattle.points.specs.Explicit.{bucket_count}
 use Rattle.explicit.proofs.Cases.{count-few}
 use Rattle.explicit.specs.Series.{said}
 use Rattle.listing.specs.Listed.{Output, output}
@@ -19,7 +19,7 @@ abbrev lent : tie.Start → Output
 lent s = let a = s.args in output a.out-sets a.out-words a.out-pos a.out-neg
 
 -- 160 places are enough
-enough : (f : tie.After-fresh) → bucketCount (start f).args.bounds.now ≤ length (replicate {A = ℕ} 160 0)
+enough : (f : tie.After-fresh) → bucket_count (start f).args.bounds.now ≤ length (replicate {A = ℕ} 160 0)
 enough f = let s = start f in omega (arith, count-few s.args.bounds.now s.pre.0, length-replicate {A = ℕ} 160 0)
 
 put-point-requires : tie.Need-put-point-requires

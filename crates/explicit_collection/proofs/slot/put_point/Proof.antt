@@ -6,8 +6,8 @@ use Rattle.point.specs.declared.Figures.TheVariants.{Explicit}
 use Rattle.listing.specs.Words.{words_of}
 use Rattle.listing.specs.Listed.{Output, output, put_at}
 use Rattle.collecting.specs.Read.{span_of}
-use Rattle.collecting.specs.Slots.{laidAt}
-use Rattle.explicit_collection.specs.Ready.{pointPut}
+use Rattle.collecting.specs.Slots.{laid_at}
+use Rattle.explicit_collection.specs.Ready.{point_put}
 use Rattle.explicit_collection.proofs.Slots.{room_of, point-laid}
 use Rattle.explicit_collection.proofs.slot.put_point.Statement.{statement}
 use Rattle.explicit_collection.proofs.slot.put_point.Tie as tie
@@ -32,7 +32,7 @@ put-requires c κs =
     room_of a.bounds.now a.at (made c).explicit-point.result.figures a.head.count (figures (made c)) a.counts.now (lent s) s.pre.0.1 s.pre.1
 
 returns : tie.Need-returns
-unfolding put_at laidAt
+unfolding put_at laid_at
 returns c =
     let p = c.before.before.before.before.before.before in
     let s = start p.before in
@@ -40,7 +40,7 @@ returns c =
     let a = s.args in
     p.put.ensures
     ∙ point-laid a.bounds.now a.at m.result.figures a.head.count (figures (made p.before)) a.counts.now (lent s) a.row (words_of m.result (span_of a.bounds.now))
-    ∙ ap (λ (q : Point). pointPut a.bounds.now q a.at a.row a.counts.now (lent s)) m.ensures
+    ∙ ap (λ (q : Point). point_put a.bounds.now q a.at a.row a.counts.now (lent s)) m.ensures
 
 pub put-point-spec : {M : Type 1} → statement M
 put-point-spec =

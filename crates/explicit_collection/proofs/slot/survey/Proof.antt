@@ -9,7 +9,7 @@ use Rattle.explicit.proofs.Cases.{count-few}
 use Rattle.explicit_slots.specs.Cells.{Cells, cells}
 use Rattle.collecting.specs.Slots.{More}
 use Rattle.collecting.specs.declared.Survey.{Survey}
-use Rattle.explicit_collection.specs.Points.{explicitLister}
+use Rattle.explicit_collection.specs.Points.{explicit_lister}
 use Rattle.explicit_collection.proofs.Slots.{counts-long, survey-none, survey-idle, survey-due}
 use Rattle.explicit_collection.proofs.slot.survey.Statement.{statement}
 use Rattle.explicit_collection.proofs.slot.survey.Tie as tie
@@ -32,7 +32,7 @@ returns c =
     let t = c.before in
     let s = start t in
     let a = s.args in (
-      survey-none (explicitLister a.bounds.now) (true, true) a.updated a.due (lent s) a.s a.x t.sound-at.result t.sound-at.ensures (not-true t.sound-at.result c.if1.true),
+      survey-none (explicit_lister a.bounds.now) (true, true) a.updated a.due (lent s) a.s a.x t.sound-at.result t.sound-at.ensures (not-true t.sound-at.result c.if1.true),
       (omega arith, omega arith, omega arith),
     )
 
@@ -42,7 +42,7 @@ returns-2 c =
     let t = e.before in
     let s = start t in
     let a = s.args in (
-      survey-idle (explicitLister a.bounds.now) (true, true) a.updated a.due (lent s) a.s a.x t.sound-at.result t.sound-at.ensures (not-false t.sound-at.result e.if1.false)
+      survey-idle (explicit_lister a.bounds.now) (true, true) a.updated a.due (lent s) a.s a.x t.sound-at.result t.sound-at.ensures (not-false t.sound-at.result e.if1.false)
           (not-true a.due c.if2.true),
       (omega arith, omega arith, omega arith),
     )
@@ -60,7 +60,7 @@ returns-3 c =
     let a = s.args in
     let q = c.one_more.ensures in (
       q
-          ∙ survey-due (explicitLister a.bounds.now) (true, true) a.updated a.due (lent s) a.s a.x t.sound-at.result t.sound-at.ensures (not-false t.sound-at.result e.if1.false)
+          ∙ survey-due (explicit_lister a.bounds.now) (true, true) a.updated a.due (lent s) a.s a.x t.sound-at.result t.sound-at.ensures (not-false t.sound-at.result e.if1.false)
           (not-false a.due d.if2.false) b.bucket-count.result
           (b.bucket-count.ensures ∙ sym (counts-long a.bounds.now a.counts.now a.x s.pre.0.1.counts a.updated)) refl,
       subst (λ (r : Survey). More a.s r) (sym q) (omega arith, omega (arith, few b), omega arith),

@@ -4,19 +4,19 @@ use native.Mathlib.Omega.{arith}
 use borrow.Author.Rules.{rules}
 use Rattle.explicit_slots.specs.Cells.{Cells, cells}
 use Rattle.value_map.specs.Calls.{Held}
-use Rattle.value_map.specs.Explicit.{explicitStore}
+use Rattle.value_map.specs.Explicit.{explicit_store}
 use Rattle.listing.specs.Listed.{Output, output}
 use Rattle.collecting.specs.Lister.{Lister}
 use Rattle.collecting.specs.Slots.{walked}
 use Rattle.collecting.proofs.Turns.{Seen}
 use Rattle.collecting.proofs.Loops.{found-used, Alike, Listing, list-start, list-end, list-alike, slot-sound, slot-free, list-next}
-use Rattle.explicit_collection.specs.Points.{explicitLister}
+use Rattle.explicit_collection.specs.Points.{explicit_lister}
 use Rattle.explicit_collection.proofs.walk.list.Statement.{statement}
 use Rattle.explicit_collection.proofs.walk.list.Tie as tie
 
 abbrev invariant-loop : tie.invariant-loop
 invariant-loop cumulative bounds show sums used sets entries order totals extremes counts out-sets₀ out-words₀ out-pos₀ out-neg₀ at₀ i₀ out-sets out-words out-pos out-neg at i =
-    Listing (explicitLister bounds) (show, sums) cumulative (walked used sets entries order (record { totals = totals; extremes = extremes; counts = counts }))
+    Listing (explicit_lister bounds) (show, sums) cumulative (walked used sets entries order (record { totals = totals; extremes = extremes; counts = counts }))
     (record { sets = out-sets₀; words = out-words₀; pos = out-pos₀; neg = out-neg₀ }) i at
     (record { sets = out-sets; words = out-words; pos = out-pos; neg = out-neg })
 
@@ -27,8 +27,8 @@ decreases-loop cumulative bounds show sums used sets entries order totals extrem
 abbrev Start : Type 0
 Start = tie.Start invariant-loop decreases-loop
 
-abbrev L : (s : Start) → Lister (explicitStore s.args.bounds.now)
-L s = explicitLister s.args.bounds.now
+abbrev L : (s : Start) → Lister (explicit_store s.args.bounds.now)
+L s = explicit_lister s.args.bounds.now
 
 abbrev map : Start → Held Cells
 map s = let a = s.args in walked a.used a.sets.now a.entries.now a.order.now (cells a.totals a.extremes a.counts)
@@ -57,15 +57,15 @@ seen c =
       asked_is = c.is-due.ensures;
     }
 
-abbrev outNow : tie.At-loop invariant-loop decreases-loop → Output
-outNow l = record { sets = l.loop.out-sets; words = l.loop.out-words; pos = l.loop.out-pos; neg = l.loop.out-neg }
+abbrev out_now : tie.At-loop invariant-loop decreases-loop → Output
+out_now l = record { sets = l.loop.out-sets; words = l.loop.out-words; pos = l.loop.out-pos; neg = l.loop.out-neg }
 
 -- the slot lies in the stores
 in_use : (c : tie.After-slot-at invariant-loop decreases-loop) → c.slot_at.result ≤ (start c.before).args.used
 in_use c =
     let t = c.before in
     let s = start t in
-    found-used (explicitStore s.args.bounds.now) (map s) s.pre.walk t.before.loop.i c.slot_at.result t.loop-test.true c.slot_at.ensures
+    found-used (explicit_store s.args.bounds.now) (map s) s.pre.walk t.before.loop.i c.slot_at.result t.loop-test.true c.slot_at.ensures
 
 loop-holds : tie.Need-loop-init invariant-loop decreases-loop
 loop-holds c =
@@ -90,7 +90,7 @@ put-requires c κs =
     let a = s.args in
     let l = t.before.loop in (
       slot-sound (L s) (a.show, a.sums) a.cumulative (map s) (out s) s.pre l.i _ _ _ (seen d),
-      slot-free (L s) (a.show, a.sums) a.cumulative (map s) (out s) s.pre l.i _ _ _ (seen d) l.at (outNow t.before) l.inv,
+      slot-free (L s) (a.show, a.sums) a.cumulative (map s) (out s) s.pre l.i _ _ _ (seen d) l.at (out_now t.before) l.inv,
     )
 
 abbrev put : tie.After-slice-known4 invariant-loop decreases-loop → tie.After-put invariant-loop decreases-loop
@@ -115,22 +115,22 @@ loop-again c =
     let a = s.args in
     let l = t.before.loop in
     list-next (L s) (a.show, a.sums) a.cumulative (map s) (out s) s.pre l.i _ _ _ (seen d)
-    l.at (outNow t.before) l.inv r.row_at.result r.row_at.ensures p.put.result _ p.put.ensures
+    l.at (out_now t.before) l.inv r.row_at.result r.row_at.ensures p.put.result _ p.put.ensures
 
 -- the output keeps its lengths
-long : (c : tie.After-loop invariant-loop decreases-loop) → Alike (outNow c.before) (out (entry c.before))
+long : (c : tie.After-loop invariant-loop decreases-loop) → Alike (out_now c.before) (out (entry c.before))
 long c =
     let s = entry c.before in
     let a = s.args in
     let l = c.before.loop in
-    list-alike (L s) (a.show, a.sums) a.cumulative (map s) (out s) s.pre l.i l.at (outNow c.before) l.invariant
+    list-alike (L s) (a.show, a.sums) a.cumulative (map s) (out s) s.pre l.i l.at (out_now c.before) l.invariant
 
 returns : tie.Need-returns invariant-loop decreases-loop
 returns c =
     let s = entry c.before in
     let a = s.args in
     let l = c.before.loop in
-    list-end (L s) (a.show, a.sums) a.cumulative (map s) (out s) l.i l.at (outNow c.before) l.invariant (omega (arith, c.loop-test.false))
+    list-end (L s) (a.show, a.sums) a.cumulative (map s) (out s) l.i l.at (out_now c.before) l.invariant (omega (arith, c.loop-test.false))
 
 pub list-spec : {M : Type 1} → statement M
 list-spec =

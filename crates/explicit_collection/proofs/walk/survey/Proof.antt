@@ -7,19 +7,19 @@ use borrow.Author.Rules.{rules}
 use borrow.Author.Tests.{not-true, not-false}
 use Rattle.explicit_slots.specs.Cells.{Cells, cells}
 use Rattle.value_map.specs.Calls.{Held}
-use Rattle.value_map.specs.Explicit.{explicitStore}
+use Rattle.value_map.specs.Explicit.{explicit_store}
 use Rattle.value_map.proofs.ExplicitOwes.{owed}
 use Rattle.collecting.specs.Lister.{Lister}
 use Rattle.collecting.specs.Slots.{walked}
 use Rattle.collecting.proofs.Turns.{Seen}
 use Rattle.collecting.proofs.Loops.{found-used, Surveyed, survey-start, survey-few, survey-known, survey-next, survey-stop, survey-end}
-use Rattle.explicit_collection.specs.Points.{explicitLister}
+use Rattle.explicit_collection.specs.Points.{explicit_lister}
 use Rattle.explicit_collection.proofs.walk.survey.Statement.{statement}
 use Rattle.explicit_collection.proofs.walk.survey.Tie as tie
 
 abbrev invariant-loop : tie.invariant-loop
 invariant-loop known cumulative bounds used entries order totals extremes counts found₀ i₀ found i =
-    Surveyed (explicitLister bounds) (true, true) cumulative (walked used [] entries order (record { totals = totals; extremes = extremes; counts = counts })) i found
+    Surveyed (explicit_lister bounds) (true, true) cumulative (walked used [] entries order (record { totals = totals; extremes = extremes; counts = counts })) i found
 
 abbrev decreases-loop : tie.decreases-loop
 decreases-loop known cumulative bounds used entries order totals extremes counts found₀ i₀ found i = used + 1 - i
@@ -27,8 +27,8 @@ decreases-loop known cumulative bounds used entries order totals extremes counts
 abbrev Start : Type 0
 Start = tie.Start invariant-loop decreases-loop
 
-abbrev L : (s : Start) → Lister (explicitStore s.args.bounds.now)
-L s = explicitLister s.args.bounds.now
+abbrev L : (s : Start) → Lister (explicit_store s.args.bounds.now)
+L s = explicit_lister s.args.bounds.now
 
 abbrev on : Bool × Bool
 on = (true, true)
@@ -44,7 +44,7 @@ in_use : (c : tie.After-slot-at invariant-loop decreases-loop) → c.slot_at.res
 in_use c =
     let t = c.before in
     let s = start t in
-    found-used (explicitStore s.args.bounds.now) (map s) s.pre.0 t.before.loop.i c.slot_at.result t.loop-test.true c.slot_at.ensures
+    found-used (explicit_store s.args.bounds.now) (map s) s.pre.0 t.before.loop.i c.slot_at.result t.loop-test.true c.slot_at.ensures
 
 -- what the turn has seen of it
 abbrev turn : tie.After-is-due invariant-loop decreases-loop → tie.In-loop invariant-loop decreases-loop

@@ -3,9 +3,9 @@ use mathlib.Core.Path.{◌≡◌, sym, ◌∙◌}
 use borrow.Author.Rules.{rules}
 use mir.Syntax.{w64}
 use mir.Val.{SFits}
-use Rattle.integers.specs.Answers.{lesserOf, greater_of, keptSum}
+use Rattle.integers.specs.Answers.{lesser_of, greater_of, kept_sum}
 use Rattle.integers.proofs.Range.{held}
-use Rattle.explicit_whole_batches.proofs.Values.{raise-9, raise-outside, raise-inside}
+use Rattle.explicit_whole_batches.proofs.Values.{raise_9, raise-outside, raise-inside}
 use Rattle.explicit_whole_batches.proofs.series.raised.Statement.{statement}
 use Rattle.explicit_whole_batches.proofs.series.raised.Tie as tie
 
@@ -22,13 +22,13 @@ held-max s = search rules
 abbrev start : tie.After-kept-sum → tie.Start
 start n = n.before.before.before.before
 
-told : (n : tie.After-kept-sum) → (let a = (start n).args in n.kept-sum.result ≡ keptSum a.sums a.head.sum a.v)
+told : (n : tie.After-kept-sum) → (let a = (start n).args in n.kept-sum.result ≡ kept_sum a.sums a.head.sum a.v)
 told n =
     let s = start n in
-    n.kept-sum.ensures ∙ (λ j. keptSum s.args.sums (held s.args.head.sum (held-sum s) j) (held s.args.v s.fits.v j))
+    n.kept-sum.ensures ∙ (λ j. kept_sum s.args.sums (held s.args.head.sum (held-sum s) j) (held s.args.v s.fits.v j))
 
 returns : tie.Need-returns
-returns c = let a = c.before.before.args in raise-9 a.sums a.head a.v c.if1.true
+returns c = let a = c.before.before.args in raise_9 a.sums a.head a.v c.if1.true
 
 returns-2 : tie.Need-returns-2
 returns-2 c =
@@ -48,7 +48,7 @@ returns-3 c =
     let most : SFits w64 g.greater.result = search rules in
     let whole : SFits w64 t.total.given.0.0 = search rules in
     raise-inside a.sums a.head a.v n.before.before.if1.false _ _ _ _
-    (held l.lesser.result least ∙ l.lesser.ensures ∙ (λ j. lesserOf (held a.head.min (held-min s) j) (held a.v s.fits.v j)))
+    (held l.lesser.result least ∙ l.lesser.ensures ∙ (λ j. lesser_of (held a.head.min (held-min s) j) (held a.v s.fits.v j)))
     (held g.greater.result most ∙ g.greater.ensures ∙ (λ j. greater_of (held a.head.max (held-max s) j) (held a.v s.fits.v j)))
     (held t.total.given.0.0 whole)
     (sym (told n) ∙ t.total.given.1)

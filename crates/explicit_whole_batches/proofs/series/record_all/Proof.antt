@@ -10,15 +10,15 @@ use lib.Signed.{mag}
 use borrow.Author.Tests.{lt-ltb}
 use mir.Syntax.{w64}
 use mir.Val.{SFits}
-use Rattle.integers.specs.Answers.{nearestOf}
+use Rattle.integers.specs.Answers.{nearest_of}
 use Rattle.integers.proofs.Range.{held}
 use Rattle.kinds.specs.Wholes.{wholes}
 use Rattle.rows.specs.Recording.{Recording, after}
 use Rattle.rows.specs.Rows.{over}
 use Rattle.many.specs.Many.{each}
 use Rattle.many.proofs.Turns.{later, begins, turn, halt, ended}
-use Rattle.points.specs.Explicit.{recordBucket}
-use Rattle.explicit.specs.Series.{bucketsIn}
+use Rattle.points.specs.Explicit.{record_bucket}
+use Rattle.explicit.specs.Series.{buckets_in}
 use Rattle.explicit_wholes.specs.declared.Head.{Head}
 use Rattle.explicit_batches.specs.Values.{Counted}
 use Rattle.explicit_whole_batches.specs.Values.{Series, step, raising}
@@ -93,8 +93,8 @@ turn-of e = e.before.before.before
 none : (e : tie.Else1 invariant-loop decreases-loop) → (let t = turn-of e in (raising (start t).args.sums t.before.loop.h (one t)).no ≡ 0)
 none e = ap (λ (o : Recording Head). o.no) (sym (lifted e.before)) ∙ e.if1.false
 
-near : (n : tie.After-nearest invariant-loop decreases-loop) → n.nearest.result ≡ nearestOf (one (turn-of n.before))
-near n = let e = n.before in n.nearest.ensures ∙ ap nearestOf (held (one (turn-of e)) (fits e.before.before))
+near : (n : tie.After-nearest invariant-loop decreases-loop) → n.nearest.result ≡ nearest_of (one (turn-of n.before))
+near n = let e = n.before in n.nearest.ensures ∙ ap nearest_of (held (one (turn-of e)) (fits e.before.before))
 
 count-in-requires : tie.Need-count-in-requires invariant-loop decreases-loop
 count-in-requires c κs =
@@ -124,7 +124,7 @@ loop-again c =
     let x : Recording Series = after 0 (record { head = r.raised.result.head; counts = k.count-in.last.1.0 }) in
     let is : x ≡ step bs a.sums (there t) (one t) =
     step-taken bs a.sums (there t) (one t) l.inv.2 f (none e) r.raised.result.head k.count-in.last.1.0 (ap (λ (o : Recording Head). o.cells) (lifted r))
-    (k.count-in.ensures ∙ ap (λ (y : Float). over (recordBucket bs (bucketsIn bs 0 l.counts) y).counts l.counts) (near n)) in (
+    (k.count-in.ensures ∙ ap (λ (y : Float). over (record_bucket bs (buckets_in bs 0 l.counts) y).counts l.counts) (near n)) in (
       omega (arith, inside t),
       k.count-in.kept.1.0 ∙ l.inv.1,
       subst (λ (o : Recording Series). Counted bs o.cells.head.count o.cells.counts) (sym is) (counted_step bs a.sums (there t) (one t) l.inv.2 f (none e)),

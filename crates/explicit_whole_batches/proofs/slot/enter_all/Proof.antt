@@ -5,8 +5,8 @@ use borrow.Author.Rules.{rules}
 use borrow.Author.Tests.{not-true, not-false}
 use Rattle.explicit_batches.specs.Values.{Counted}
 use Rattle.explicit_whole_batches.specs.Values.{Series}
-use Rattle.explicit_whole_batches.specs.Slot.{agreesIf}
-use Rattle.explicit_whole_batches.proofs.Entered.{begun-counted, enters-8, enters}
+use Rattle.explicit_whole_batches.specs.Slot.{agrees_if}
+use Rattle.explicit_whole_batches.proofs.Entered.{begun-counted, enters_8, enters}
 use Rattle.explicit_whole_batches.proofs.slot.enter_all.Statement.{statement}
 use Rattle.explicit_whole_batches.proofs.slot.enter_all.Tie as tie
 
@@ -20,12 +20,12 @@ returns : tie.Need-returns
 returns c =
     let g = c.before in
     let a = (start g).args in
-    enters-8 a.bounds.now a.head a.counts.now a.sums a.updated a.values.now (sym g.agrees_if.ensures ∙ not-true _ c.if1.true)
+    enters_8 a.bounds.now a.head a.counts.now a.sums a.updated a.values.now (sym g.agrees_if.ensures ∙ not-true _ c.if1.true)
 
 begin-requires : tie.Need-begin-requires
 begin-requires c κs = (start c.before.before).requires.1
 
-agreed : (e : tie.Else1) → (let a = (start e.before).args in agreesIf a.bounds.now a.updated a.head.count a.counts.now ≡ true)
+agreed : (e : tie.Else1) → (let a = (start e.before).args in agrees_if a.bounds.now a.updated a.head.count a.counts.now ≡ true)
 agreed e = sym e.before.agrees_if.ensures ∙ not-false _ e.if1.false
 
 abbrev chosen : tie.After-begin → tie.Else1

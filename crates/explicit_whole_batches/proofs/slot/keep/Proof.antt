@@ -7,7 +7,7 @@ use mir.Syntax.{w64}
 use mir.Val.{SFits}
 use Rattle.integers.proofs.Range.{held}
 use Rattle.many.proofs.Alike.{pick_first, pick_second}
-use Rattle.explicit_whole_batches.specs.Slot.{extremesOf}
+use Rattle.explicit_whole_batches.specs.Slot.{extremes_of}
 use Rattle.explicit_whole_batches.proofs.slot.keep.Statement.{statement}
 use Rattle.explicit_whole_batches.proofs.slot.keep.Tie as tie
 
@@ -33,7 +33,7 @@ returns-2 c =
     let es = a.extremes.now in (
       sym (pick_second _ e.if1.false _ _),
       (λ j. set es a.x (held h.min (least s) j ∷ held h.max (greatest s) j ∷ held h.sum (sum s) j ∷ []))
-          ∙ sym (pick_second a.run.taken e.if1.false es (set es a.x (extremesOf h))),
+          ∙ sym (pick_second a.run.taken e.if1.false es (set es a.x (extremes_of h))),
     )
 
 pub keep_spec : {M : Type 1} → statement M

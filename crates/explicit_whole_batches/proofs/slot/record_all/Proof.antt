@@ -8,12 +8,12 @@ use borrow.Author.Rules.{rules}
 use Rattle.rows.specs.Parts.{part_at}
 use Rattle.rows.proofs.Parts.{part_length}
 use Rattle.many.specs.Many.{Many}
-use Rattle.points.specs.Explicit.{bucketCount}
+use Rattle.points.specs.Explicit.{bucket_count}
 use Rattle.explicit_wholes.specs.declared.Head.{Head}
-use Rattle.explicit_whole_slots.specs.Cells.{Cells, cells, headIn}
+use Rattle.explicit_whole_slots.specs.Cells.{Cells, cells, head_in}
 use Rattle.explicit_whole_batches.specs.Values.{Series}
-use Rattle.explicit_whole_batches.specs.Slot.{agreesIf, entering}
-use Rattle.explicit_whole_batches.proofs.Entered.{passes, known-row, kept-law}
+use Rattle.explicit_whole_batches.specs.Slot.{agrees_if, entering}
+use Rattle.explicit_whole_batches.proofs.Entered.{passes, known-row, kept_law}
 use Rattle.explicit_whole_batches.proofs.slot.record_all.Statement.{statement}
 use Rattle.explicit_whole_batches.proofs.slot.record_all.Tie as tie
 
@@ -49,12 +49,12 @@ enter-all-requires c κs =
     let a = s.args in
     let bs = a.bounds.now in
     let k = b.bucket-count.result in
-    let i : k ≡ bucketCount bs = b.bucket-count.ensures in (
+    let i : k ≡ bucket_count bs = b.bucket-count.ensures in (
       passes a.known bs a.sums a.x a.updated (lent s) a.values.now s.pre,
       omega (arith, i, part_length k a.counts.now a.x (end b)),
       λ e.
-          subst (λ (y : Head). agreesIf bs a.updated y.count (part_at k a.counts.now a.x) ≡ true) (sym c.before.head-with.ensures)
-          (subst (λ (n : ℕ). agreesIf bs a.updated (headIn (lent s) a.x).count (part_at n a.counts.now a.x) ≡ true) (sym i)
+          subst (λ (y : Head). agrees_if bs a.updated y.count (part_at k a.counts.now a.x) ≡ true) (sym c.before.head-with.ensures)
+          (subst (λ (n : ℕ). agrees_if bs a.updated (head_in (lent s) a.x).count (part_at n a.counts.now a.x) ≡ true) (sym i)
           (known-row a.known bs a.sums a.x a.updated (lent s) a.values.now s.pre e)),
     )
 
@@ -73,7 +73,7 @@ returns c =
     let a = s.args in
     let y = r.enter-all.result in
     let m : Many Series = record { taken = y.taken; no = y.no; left = record { head = y.head; counts = r.enter-all.new.1.1.1.1.1.0 } } in
-    kept-law a.known a.bounds.now a.sums a.x a.updated (lent s) a.values.now s.pre b.bucket-count.result b.bucket-count.ensures
+    kept_law a.known a.bounds.now a.sums a.x a.updated (lent s) a.values.now s.pre b.bucket-count.result b.bucket-count.ensures
     m (r.enter-all.ensures ∙ ap (λ (y : Head). entering a.bounds.now a.sums a.updated y (part_at b.bucket-count.result a.counts.now a.x) a.values.now) r.before.before.head-with.ensures) k.keep.new.1.0 k.keep.ensures.0 k.keep.new.1.1.0 k.keep.ensures.1
 
 pub record-all-spec : {M : Type 1} → statement M

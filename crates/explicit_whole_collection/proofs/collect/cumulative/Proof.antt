@@ -9,7 +9,7 @@ use Rattle.whole_map.proofs.ExplicitOwes.{owed}
 use Rattle.listing.specs.Listed.{Output, output}
 use Rattle.collecting.proofs.Ends.{cumulative-refused, cumulative-done}
 use Rattle.collecting.proofs.Decides.{listable, listed-is}
-use Rattle.explicit_whole_collection.specs.Points.{explicitWholeLister}
+use Rattle.explicit_whole_collection.specs.Points.{explicit_whole_lister}
 use Rattle.explicit_whole_collection.proofs.collect.cumulative.Statement.{statement}
 use Rattle.explicit_whole_collection.proofs.collect.cumulative.Tie as tie
 
@@ -30,7 +30,7 @@ returns c =
     let n = c.before in
     let s = start n in
     let a = s.args in
-    cumulative-refused (explicitWholeLister a.bounds.now a.s.sums) a.s.extremes a.s.limit (map s) (out s) n.number.result n.number.ensures c.if1.true
+    cumulative-refused (explicit_whole_lister a.bounds.now a.s.sums) a.s.extremes a.s.limit (map s) (out s) n.number.result n.number.ensures c.if1.true
 
 list-requires : tie.Need-list-requires
 list-requires c κs =
@@ -38,7 +38,7 @@ list-requires c κs =
     let n = e.before in
     let s = start n in
     let a = s.args in
-    listable (explicitWholeLister a.bounds.now a.s.sums) (owed a.bounds.now a.s.sums) a.s.extremes true a.s.limit (map s) (out s) n.number.result n.number.ensures e.if1.false
+    listable (explicit_whole_lister a.bounds.now a.s.sums) (owed a.bounds.now a.s.sums) a.s.extremes true a.s.limit (map s) (out s) n.number.result n.number.ensures e.if1.false
 
 returns-2 : tie.Need-returns-2
 returns-2 c =
@@ -47,8 +47,8 @@ returns-2 c =
     let n = e.before in
     let s = start n in
     let a = s.args in
-    cumulative-done (explicitWholeLister a.bounds.now a.s.sums) a.s.extremes a.s.limit (map s) (out s) _ (sym n.number.ensures ∙ e.if1.false)
-    (listed-is (explicitWholeLister a.bounds.now a.s.sums) (owed a.bounds.now a.s.sums) a.s.extremes true a.s.limit (map s) (out s) _ p.list.ensures)
+    cumulative-done (explicit_whole_lister a.bounds.now a.s.sums) a.s.extremes a.s.limit (map s) (out s) _ (sym n.number.ensures ∙ e.if1.false)
+    (listed-is (explicit_whole_lister a.bounds.now a.s.sums) (owed a.bounds.now a.s.sums) a.s.extremes true a.s.limit (map s) (out s) _ p.list.ensures)
 
 pub cumulative-spec : {M : Type 1} → statement M
 cumulative-spec =

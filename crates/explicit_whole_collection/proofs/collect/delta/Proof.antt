@@ -9,7 +9,7 @@ use Rattle.whole_map.proofs.ExplicitOwes.{owed}
 use Rattle.listing.specs.Listed.{Output, output}
 use Rattle.collecting.proofs.Ends.{delta-refused, delta-done}
 use Rattle.collecting.proofs.Decides.{listable, sweeps, listed-is}
-use Rattle.explicit_whole_collection.specs.Points.{explicitWholeLister}
+use Rattle.explicit_whole_collection.specs.Points.{explicit_whole_lister}
 use Rattle.explicit_whole_collection.proofs.collect.delta.Statement.{statement}
 use Rattle.explicit_whole_collection.proofs.collect.delta.Tie as tie
 
@@ -34,7 +34,7 @@ returns c =
     let n = c.before in
     let s = start n in
     let a = s.args in
-    delta-refused (explicitWholeLister a.bounds.now a.s.sums) a.s.extremes a.s.limit (map s) (out s) n.number.result n.number.ensures c.if1.true
+    delta-refused (explicit_whole_lister a.bounds.now a.s.sums) a.s.extremes a.s.limit (map s) (out s) n.number.result n.number.ensures c.if1.true
 
 list-requires : tie.Need-list-requires
 list-requires c κs =
@@ -42,7 +42,7 @@ list-requires c κs =
     let n = e.before in
     let s = start n in
     let a = s.args in
-    listable (explicitWholeLister a.bounds.now a.s.sums) (owed a.bounds.now a.s.sums) a.s.extremes false a.s.limit (map s) (out s) n.number.result n.number.ensures e.if1.false
+    listable (explicit_whole_lister a.bounds.now a.s.sums) (owed a.bounds.now a.s.sums) a.s.extremes false a.s.limit (map s) (out s) n.number.result n.number.ensures e.if1.false
 
 sweep-requires : tie.Need-sweep-requires
 sweep-requires c κs =
@@ -50,7 +50,7 @@ sweep-requires c κs =
     let n = e.before in
     let s = start n in
     let a = s.args in
-    sweeps (explicitWholeLister a.bounds.now a.s.sums) (owed a.bounds.now a.s.sums) a.s.extremes false a.s.limit (map s) (out s) n.number.result n.number.ensures e.if1.left
+    sweeps (explicit_whole_lister a.bounds.now a.s.sums) (owed a.bounds.now a.s.sums) a.s.extremes false a.s.limit (map s) (out s) n.number.result n.number.ensures e.if1.left
 
 returns-2 : tie.Need-returns-2
 returns-2 c =
@@ -60,8 +60,8 @@ returns-2 c =
     let n = e.before in
     let s = start n in
     let a = s.args in
-    delta-done (explicitWholeLister a.bounds.now a.s.sums) a.s.extremes a.s.limit (map s) (out s) _ _ (sym n.number.ensures ∙ e.if1.left)
-    (listed-is (explicitWholeLister a.bounds.now a.s.sums) (owed a.bounds.now a.s.sums) a.s.extremes false a.s.limit (map s) (out s) _ p.list.ensures) w.sweep.ensures
+    delta-done (explicit_whole_lister a.bounds.now a.s.sums) a.s.extremes a.s.limit (map s) (out s) _ _ (sym n.number.ensures ∙ e.if1.left)
+    (listed-is (explicit_whole_lister a.bounds.now a.s.sums) (owed a.bounds.now a.s.sums) a.s.extremes false a.s.limit (map s) (out s) _ p.list.ensures) w.sweep.ensures
 
 pub delta-spec : {M : Type 1} → statement M
 delta-spec =

@@ -6,12 +6,12 @@ use mathlib.Core.Option.{none}
 use Rattle.directory.specs.View.{stores}
 use Rattle.explicit_whole_slots.specs.Cells.{Cells, cells}
 use Rattle.value_map.specs.Calls.{Held, held}
-use Rattle.whole_map.specs.Explicit.{explicitWholes}
+use Rattle.whole_map.specs.Explicit.{explicit_wholes}
 use Rattle.whole_map.proofs.ExplicitOwes.{owed}
 use Rattle.listing.specs.Listed.{Output, output}
 use Rattle.collecting.proofs.Decides.{number-first, walk_here, number-then}
 use Rattle.collecting.proofs.Sure.{unbarred, walk-known}
-use Rattle.explicit_whole_collection.specs.Points.{explicitWholeLister}
+use Rattle.explicit_whole_collection.specs.Points.{explicit_whole_lister}
 use Rattle.explicit_whole_collection.proofs.Slots.{walk-counts, survey-counts}
 use Rattle.explicit_whole_collection.proofs.collect.number.Statement.{statement}
 use Rattle.explicit_whole_collection.proofs.collect.number.Tie as tie
@@ -33,7 +33,7 @@ barred-requires c κs k =
     let r = c.before in
     let s = r.before.before.before.before.before.before.before in
     let a = s.args in
-    unbarred (explicitWholes a.bounds.now a.s.sums) a.s.extremes a.s.limit none (map s) (s.requires k)
+    unbarred (explicit_wholes a.bounds.now a.s.sums) a.s.extremes a.s.limit none (map s) (s.requires k)
     r.cells-suffice.result c.unset-of.result r.cells-suffice.ensures c.unset-of.ensures
 
 returns : tie.Need-returns
@@ -41,7 +41,7 @@ returns c =
     let b = c.before in
     let s = start b in
     let a = s.args in
-    number-first (explicitWholeLister a.bounds.now a.s.sums) (owed a.bounds.now a.s.sums) a.s.extremes a.cumulative a.s.limit (map s) (out s)
+    number-first (explicit_whole_lister a.bounds.now a.s.sums) (owed a.bounds.now a.s.sums) a.s.extremes a.cumulative a.s.limit (map s) (out s)
     (room b).cells-suffice.result b.before.unset-of.result b.barred.result
     (room b).cells-suffice.ensures b.before.unset-of.ensures b.barred.ensures c.if1.true
 
@@ -51,10 +51,10 @@ survey-requires c κs =
     let s = start b in
     let a = s.args in (
       walk-counts a.bounds.now a.s.sums a.d.used a.entries.now a.order.now a.totals a.extremes a.counts
-          (walk_here (explicitWholeLister a.bounds.now a.s.sums) (owed a.bounds.now a.s.sums) a.s.extremes a.cumulative a.s.limit (map s) (out s)
+          (walk_here (explicit_whole_lister a.bounds.now a.s.sums) (owed a.bounds.now a.s.sums) a.s.extremes a.cumulative a.s.limit (map s) (out s)
           (room b).cells-suffice.result b.before.unset-of.result b.barred.result
           (room b).cells-suffice.ensures b.before.unset-of.ensures b.barred.ensures c.if1.false),
-      walk-known (explicitWholes a.bounds.now a.s.sums) a.s.extremes a.s.limit none (map s) a.known s.pre true (λ x. refl),
+      walk-known (explicit_wholes a.bounds.now a.s.sums) a.s.extremes a.s.limit none (map s) a.known s.pre true (λ x. refl),
     )
 
 returns-2 : tie.Need-returns-2
@@ -64,7 +64,7 @@ returns-2 c =
     let b = e.before in
     let s = start b in
     let a = s.args in
-    number-then (explicitWholeLister a.bounds.now a.s.sums) (owed a.bounds.now a.s.sums) a.s.extremes a.cumulative a.s.limit (map s) (out s)
+    number-then (explicit_whole_lister a.bounds.now a.s.sums) (owed a.bounds.now a.s.sums) a.s.extremes a.cumulative a.s.limit (map s) (out s)
     (room b).cells-suffice.result b.before.unset-of.result b.barred.result
     (room b).cells-suffice.ensures b.before.unset-of.ensures b.barred.ensures e.if1.false
     true (λ x. refl) f.survey.result c.number_of.result

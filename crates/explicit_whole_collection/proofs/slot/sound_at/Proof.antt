@@ -9,7 +9,7 @@ use borrow.Author.Tests.{not-false}
 use Rattle.explicit_whole_slots.specs.Cells.{Cells}
 use Rattle.collecting.proofs.Sure.{sound-known}
 use Rattle.explicit_whole_collection.specs.Ready.{counting}
-use Rattle.explicit_whole_collection.proofs.Slots.{agreesAt, tested}
+use Rattle.explicit_whole_collection.proofs.Slots.{agrees_at, tested}
 use Rattle.explicit_whole_collection.proofs.slot.sound_at.Statement.{statement}
 use Rattle.explicit_whole_collection.proofs.slot.sound_at.Tie as tie
 
@@ -44,7 +44,7 @@ returns-3 c =
     let s = start b in
     let a = s.args in
     tested a.bounds.now (lent s) a.x b.bucket-count.result b.bucket-count.ensures c.buckets-agree.result c.buckets-agree.ensures
-    ∙ ap (λ (u : Bool). not u || agreesAt a.bounds.now (lent s) a.x) (sym (not-false a.updated b.before.if2.false))
+    ∙ ap (λ (u : Bool). not u || agrees_at a.bounds.now (lent s) a.x) (sym (not-false a.updated b.before.if2.false))
 
 pub sound-at-spec : {M : Type 1} → statement M
 sound-at-spec =

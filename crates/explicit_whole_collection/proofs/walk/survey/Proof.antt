@@ -8,20 +8,20 @@ use borrow.Author.Rules.{rules}
 use borrow.Author.Tests.{not-true, not-false}
 use Rattle.explicit_whole_slots.specs.Cells.{Cells}
 use Rattle.value_map.specs.Calls.{Held}
-use Rattle.whole_map.specs.Explicit.{explicitWholes}
+use Rattle.whole_map.specs.Explicit.{explicit_wholes}
 use Rattle.whole_map.proofs.ExplicitOwes.{owed}
 use Rattle.collecting.specs.Lister.{Lister}
 use Rattle.collecting.specs.Slots.{walked}
 use Rattle.collecting.proofs.Turns.{Seen}
 use Rattle.collecting.proofs.Loops.{found-used, Surveyed, survey-start, survey-few, survey-known, survey-next, survey-stop, survey-end}
-use Rattle.explicit_whole_collection.specs.Points.{explicitWholeLister}
+use Rattle.explicit_whole_collection.specs.Points.{explicit_whole_lister}
 use Rattle.explicit_whole_collection.specs.Ready.{counting}
 use Rattle.explicit_whole_collection.proofs.walk.survey.Statement.{statement}
 use Rattle.explicit_whole_collection.proofs.walk.survey.Tie as tie
 
 abbrev invariant-loop : tie.invariant-loop
 invariant-loop known cumulative bounds used entries order totals counts found₀ i₀ found i =
-    Surveyed (explicitWholeLister bounds true) true cumulative (walked used [] entries order (record { totals = totals; extremes = replicate (length totals) []; counts = counts })) i found
+    Surveyed (explicit_whole_lister bounds true) true cumulative (walked used [] entries order (record { totals = totals; extremes = replicate (length totals) []; counts = counts })) i found
 
 abbrev decreases-loop : tie.decreases-loop
 decreases-loop known cumulative bounds used entries order totals counts found₀ i₀ found i = used + 1 - i
@@ -29,8 +29,8 @@ decreases-loop known cumulative bounds used entries order totals counts found₀
 abbrev Start : Type 0
 Start = tie.Start invariant-loop decreases-loop
 
-abbrev L : (s : Start) → Lister (explicitWholes s.args.bounds.now true)
-L s = explicitWholeLister s.args.bounds.now true
+abbrev L : (s : Start) → Lister (explicit_wholes s.args.bounds.now true)
+L s = explicit_whole_lister s.args.bounds.now true
 
 abbrev map : Start → Held Cells
 map s = let a = s.args in walked a.used [] a.entries.now a.order.now (counting a.totals a.counts)
@@ -43,7 +43,7 @@ in_use : (c : tie.After-slot-at invariant-loop decreases-loop) → c.slot_at.res
 in_use c =
     let t = c.before in
     let s = start t in
-    found-used (explicitWholes s.args.bounds.now true) (map s) s.pre.0 t.before.loop.i c.slot_at.result t.loop-test.true c.slot_at.ensures
+    found-used (explicit_wholes s.args.bounds.now true) (map s) s.pre.0 t.before.loop.i c.slot_at.result t.loop-test.true c.slot_at.ensures
 
 -- what the turn has seen of it
 abbrev turn : tie.After-is-due invariant-loop decreases-loop → tie.In-loop invariant-loop decreases-loop

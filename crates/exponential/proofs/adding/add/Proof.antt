@@ -4,10 +4,10 @@ use Rattle.exponential.specs.declared.Class.TheVariants.{At}
 use Rattle.exponential.specs.declared.Counts.{Counts}
 use Rattle.exponential.specs.Steps.{placed}
 use Rattle.exponential.specs.Series.{read}
-use Rattle.exponential.specs.Inner.{Ready, Written, value_of, oneMore, signed}
+use Rattle.exponential.specs.Inner.{Ready, Written, value_of, one_more, signed}
 use Rattle.exponential.proofs.Facts.{Agreed, agreed, level_in}
 use Rattle.exponential.proofs.Write.{written-zero}
-use Rattle.exponential.proofs.Warm.{beside-of, tried-in, still-ready, still-written}
+use Rattle.exponential.proofs.Warm.{beside-of, tried_in, still-ready, still-written}
 use Rattle.exponential.proofs.adding.add.Statement.{statement}
 use Rattle.exponential.proofs.adding.add.Tie as tie
 
@@ -31,7 +31,7 @@ returns-2 c =
     let ys = a.neg.now in
     subst (λ (k : Class). Written (placed a.size (read a.c xs ys) (value_of k)) xs ys (record { count = a.c.count + 1; zeros = a.c.zeros + 1; level = a.c.level; pos = a.c.pos; neg = a.c.neg }) xs ys)
     (sym c.before.before.enum_told.given.1)
-    (written-zero a.size a.c xs ys (level_in a.size a.top a.c xs ys f) f.posThere f.negThere)
+    (written-zero a.size a.c xs ys (level_in a.size a.top a.c xs ys f) f.pos_there f.neg_there)
 
 -- ---- a value above or below it
 
@@ -69,7 +69,7 @@ returns c =
     let ys' = r.raise.last.1.1.1.0 in
     subst (λ (k : Class). Written (placed a.size (read a.c xs ys) (value_of k)) xs ys c.one_more.result xs' ys') (sym g.1)
     (subst (λ (q : Counts). Written (placed a.size (read a.c xs ys) (signed g.0.0 g.0.1.0)) xs ys q xs' ys') (sym c.one_more.ensures)
-    (tried-in a.size a.top a.c xs ys g.0.1.0 r.raise.result xs' ys' g.0.0 (ready m) r.raise.ensures t.if1.true))
+    (tried_in a.size a.top a.c xs ys g.0.1.0 r.raise.result xs' ys' g.0.0 (ready m) r.raise.ensures t.if1.true))
 
 place-at-requires : tie.Need-place-at-requires
 place-at-requires c κs =

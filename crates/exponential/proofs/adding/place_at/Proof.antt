@@ -3,7 +3,7 @@ use Rattle.exponential.specs.declared.Class.TheVariants.{At}
 use Rattle.exponential.specs.declared.Counts.{Counts}
 use Rattle.exponential.specs.Steps.{placed}
 use Rattle.exponential.specs.Series.{read}
-use Rattle.exponential.specs.Inner.{Ready, Written, oneMore, signed}
+use Rattle.exponential.specs.Inner.{Ready, Written, one_more, signed}
 use Rattle.exponential.proofs.Write.{swapped, written-swap}
 use Rattle.exponential.proofs.Warm.{room_at, levels-at, put-at, ready-swap}
 use Rattle.exponential.proofs.adding.place_at.Statement.{statement}
@@ -49,7 +49,7 @@ returns c =
     let ys' = p.new.1.0 in
     subst (λ (b : Bool). Written (placed a.size (read a.c xs ys) (signed b a.bin)) xs ys c.one_more.result xs' ys') (sym t.if1.true)
     (subst (λ (r : Counts). Written (placed a.size (read a.c xs ys) (signed true a.bin)) xs ys r xs' ys') (sym c.one_more.ensures)
-    (written-swap a.size a.bin a.c (oneMore (swapped a.c) p.result.k p.result.to p.result.other) xs ys xs' ys'
+    (written-swap a.size a.bin a.c (one_more (swapped a.c) p.result.k p.result.to p.result.other) xs ys xs' ys'
     (put-at a.size a.top (swapped a.c) ys xs a.bin (below t) p.result.k p.result.to p.result.other ys' xs' p.ensures.0 p.ensures.1.0 p.ensures.1.1)))
 
 -- ---- above zero

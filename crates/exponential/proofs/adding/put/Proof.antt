@@ -1,19 +1,19 @@
 use Rattle.std.proofs.Common.{◌≡◌, ℕ, ◌-◌, ◌/◌, ◌^◌, ◌≤◌, length, sym, ◌∙◌, subst, arith, rules}
 use Rattle.exponential.specs.Steps.{lowered, with1}
 use Rattle.exponential.specs.Series.{row_in}
-use Rattle.exponential.specs.Inner.{Laid, lowerBy}
-use Rattle.exponential.proofs.Write.{needed-in}
+use Rattle.exponential.specs.Inner.{Laid, lower_by}
+use Rattle.exponential.proofs.Write.{needed_in}
 use Rattle.exponential.proofs.adding.put.Statement.{statement}
 use Rattle.exponential.proofs.adding.put.Tie as tie
 
 -- the lowering found
 abbrev K : tie.After-needed → ℕ
-K n = lowerBy n.before.before.before.args.size n.before.before.before.args.to n.before.before.before.args.a.now n.before.before.before.args.bin
+K n = lower_by n.before.before.before.args.size n.before.before.before.args.to n.before.before.before.args.a.now n.before.before.before.args.bin
 
 found : (n : tie.After-needed) → n.needed.result ≡ K n
 found n =
     let st = n.before.before.before in
-    n.needed.ensures ∙ needed-in st.args.size st.args.to st.args.a.now st.args.bin st.requires.short
+    n.needed.ensures ∙ needed_in st.args.size st.args.to st.args.a.now st.args.bin st.requires.short
 
 needed-requires : tie.Need-needed-requires
 needed-requires c κs = let st = c.before.before in (st.requires.some, st.requires.bins)

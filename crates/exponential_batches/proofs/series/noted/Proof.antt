@@ -1,7 +1,7 @@
 -- `exponential_batches::series::noted` meets its contract. Assumes nothing.
 use borrow.Author.Rules.{rules}
 use Rattle.exponential_batches.specs.Series.{series}
-use Rattle.exponential_batches.proofs.Steps.{noted-law}
+use Rattle.exponential_batches.proofs.Steps.{noted_law}
 use Rattle.exponential_batches.proofs.series.noted.Statement.{statement}
 use Rattle.exponential_batches.proofs.series.noted.Tie as tie
 
@@ -11,7 +11,7 @@ returns c =
     let d = g.before.before.before.before.before.before in
     let s = d.before.before.before.before.before in
     let a = s.args in
-    noted-law a.size a.top (series a.head a.pos a.neg) a.v d.count-in.result g.before.lesser.result g.greater.result
+    noted_law a.size a.top (series a.head a.pos a.neg) a.v d.count-in.result g.before.lesser.result g.greater.result
     d.count-in.new.1.1.1.0 d.count-in.new.1.1.1.1.0 s.requires d.count-in.ensures g.before.lesser.ensures g.greater.ensures
 
 pub noted-spec : {M : Type 1} → statement M

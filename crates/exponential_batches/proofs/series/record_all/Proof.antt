@@ -11,10 +11,10 @@ use native.Mathlib.Omega.{arith}
 use Rattle.rows.specs.Recording.{after}
 use Rattle.many.specs.Many.{each}
 use Rattle.many.proofs.Turns.{later, begins, turn, halt, ended}
-use Rattle.exponential.specs.Series.{refusalOf}
+use Rattle.exponential.specs.Series.{refusal_of}
 use Rattle.exponential.specs.Inner.{Series}
-use Rattle.exponential_batches.specs.Series.{Sound, series, leftToAsk, step}
-use Rattle.exponential_batches.proofs.Steps.{asks-6, asks-9, asks-0, only, refused-by, sound-after}
+use Rattle.exponential_batches.specs.Series.{Sound, series, left_to_ask, step}
+use Rattle.exponential_batches.proofs.Steps.{asks_6, asks_9, asks_0, only, refused-by, sound-after}
 use Rattle.exponential_batches.proofs.series.record_all.Statement.{statement}
 use Rattle.exponential_batches.proofs.series.record_all.Tie as tie
 
@@ -67,7 +67,7 @@ finite-there : (e : tie.Else1 invariant-loop decreases-loop) → finite (value (
 finite-there e = sym e.before.is_finite.ensures ∙ not-false _ e.if1.false
 
 -- a value that n refuses ends the list
-stops : (t : tie.In-loop invariant-loop decreases-loop) (n : ℕ) → n ≡ leftToAsk (here t).head (value t) → (n ≡ 0 → ⊥)
+stops : (t : tie.In-loop invariant-loop decreases-loop) (n : ℕ) → n ≡ left_to_ask (here t).head (value t) → (n ≡ 0 → ⊥)
     → let l = t.before.loop in let a = (start t).args in
     record { taken = l.i; no = n; left = here t }
     ≡ each (step a.size a.top) (series a.head a.pos a.neg) a.values.now
@@ -86,7 +86,7 @@ same-length-2 c = c.before.before.before.before.loop.invariant.2
 returns : tie.Need-returns invariant-loop decreases-loop
 returns c =
     let t = c.before.before.before in
-    stops t 6 (sym (asks-6 (here t).head (value t) (sym c.before.is_finite.ensures ∙ not-true _ c.if1.true))) (λ z. omega (arith, z))
+    stops t 6 (sym (asks_6 (here t).head (value t) (sym c.before.is_finite.ensures ∙ not-true _ c.if1.true))) (λ z. omega (arith, z))
 
 same-length-3 : tie.Need-same-length-3 invariant-loop decreases-loop
 same-length-3 c = (asked c.before.before.before).before.loop.inv.1
@@ -98,17 +98,17 @@ returns-2 : tie.Need-returns-2 invariant-loop decreases-loop
 returns-2 c =
     let e = c.before.before.before in
     let t = asked e in
-    stops t 9 (sym (asks-9 (here t).head (value t) (finite-there e) c.if2.true)) (λ z. omega (arith, z))
+    stops t 9 (sym (asks_9 (here t).head (value t) (finite-there e) c.if2.true)) (λ z. omega (arith, z))
 
 -- ---- taken
 
 passed : (e : tie.Else2 invariant-loop decreases-loop) → let t = asked e.before.before.before in let a = (start t).args in
-    refusalOf a.size a.top (here t).head (here t).pos (here t).neg (value t) ≡ 0
+    refusal_of a.size a.top (here t).head (here t).pos (here t).neg (value t) ≡ 0
 passed e =
     let q = e.before.before.before in
     let t = asked q in
     let a = (start t).args in
-    only a.size a.top (here t) (value t) t.before.loop.inv.3 ∙ asks-0 (here t).head (value t) (finite-there q) e.if2.false
+    only a.size a.top (here t) (value t) t.before.loop.inv.3 ∙ asks_0 (here t).head (value t) (finite-there q) e.if2.false
 
 noted-requires : tie.Need-noted-requires invariant-loop decreases-loop
 noted-requires c κs = passed c.before.before

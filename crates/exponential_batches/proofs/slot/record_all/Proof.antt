@@ -13,7 +13,7 @@ use Rattle.exponential.specs.Inner.{Series}
 use Rattle.exponential_slots.specs.Cells.{Cells, Room, cells}
 use Rattle.value_map.proofs.ExponentialOwes.{owed}
 use Rattle.kinds.proofs.Recorded.{histograms-steady}
-use Rattle.value_map.specs.Exponential.{exponentialStore}
+use Rattle.value_map.specs.Exponential.{exponential_store}
 use Rattle.batches.proofs.Slotted.{Ready, slot-ends}
 use Rattle.batches.proofs.Asking.{asked-ready, asked-stops}
 use Rattle.exponential_batches.specs.Series.{Sound, step}
@@ -40,7 +40,7 @@ returns c =
 abbrev begun : tie.Else1 → tie.Start
 begun e = at e.before
 
-ready : (e : tie.Else1) → let s = begun e in let a = s.args in Ready (exponentialStore a.size a.top) (true, true) a.x a.updated (lent s)
+ready : (e : tie.Else1) → let s = begun e in let a = s.args in Ready (exponential_store a.size a.top) (true, true) a.x a.updated (lent s)
 ready e =
     let r = e.before in
     let s = at r in

@@ -8,7 +8,7 @@ use borrow.Author.Tests.{not-true, not-false}
 use Rattle.laws.proofs.Bools.{pick_true}
 use Rattle.rows.specs.Parts.{part_at}
 use Rattle.exponential.specs.declared.Head.{Head}
-use Rattle.exponential.specs.Series.{refusalOf}
+use Rattle.exponential.specs.Series.{refusal_of}
 use Rattle.exponential_slots.specs.Cells.{Cells, cells, readable}
 use Rattle.exponential_batches.proofs.AtSlot.{asked-unread, asked-read}
 use Rattle.exponential_batches.proofs.slot.refusal.Statement.{statement}
@@ -48,7 +48,7 @@ returns-3 c =
     let s = at e.before in
     let a = s.args in
     c.refusal.ensures
-    ∙ ap (λ (y : Head). refusalOf a.size a.top y (part_at a.size (lent s).pos a.x) (part_at a.size (lent s).neg a.x) a.v) h.head_of.ensures
+    ∙ ap (λ (y : Head). refusal_of a.size a.top y (part_at a.size (lent s).pos a.x) (part_at a.size (lent s).neg a.x) a.v) h.head_of.ensures
     ∙ asked-read a.size a.top (lent s) a.x a.updated a.v a.known (unknown (asked e.before)) (can e)
 
 pub refusal-spec : {M : Type 1} → statement M

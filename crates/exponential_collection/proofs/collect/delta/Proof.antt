@@ -9,7 +9,7 @@ use Rattle.value_map.proofs.ExponentialOwes.{owed}
 use Rattle.listing.specs.Listed.{Output, output}
 use Rattle.collecting.proofs.Ends.{delta-refused, delta-done}
 use Rattle.collecting.proofs.Decides.{listable, sweeps, listed-is}
-use Rattle.exponential_collection.specs.Points.{exponentialLister}
+use Rattle.exponential_collection.specs.Points.{exponential_lister}
 use Rattle.exponential_collection.proofs.collect.delta.Statement.{statement}
 use Rattle.exponential_collection.proofs.collect.delta.Tie as tie
 
@@ -29,21 +29,21 @@ returns : tie.Need-returns
 returns c =
     let s = start c.before in
     let a = s.args in
-    delta-refused (exponentialLister a.s.size a.s.top) (a.s.extremes, a.s.sums) a.s.limit (map s) (out s) c.before.number.result c.before.number.ensures c.if1.true
+    delta-refused (exponential_lister a.s.size a.s.top) (a.s.extremes, a.s.sums) a.s.limit (map s) (out s) c.before.number.result c.before.number.ensures c.if1.true
 
 list-requires : tie.Need-list-requires
 list-requires c κs =
     let e = c.before.before.before.before.before.before.before in
     let s = start e.before in
     let a = s.args in
-    listable (exponentialLister a.s.size a.s.top) (owed a.s.size a.s.top) (a.s.extremes, a.s.sums) false a.s.limit (map s) (out s) e.before.number.result e.before.number.ensures e.if1.false
+    listable (exponential_lister a.s.size a.s.top) (owed a.s.size a.s.top) (a.s.extremes, a.s.sums) false a.s.limit (map s) (out s) e.before.number.result e.before.number.ensures e.if1.false
 
 sweep-requires : tie.Need-sweep-requires
 sweep-requires c κs =
     let e = c.before.before.before.before.before.before.before.before.before.before.before.before.before.before.before.before.before in
     let s = start e.before in
     let a = s.args in
-    sweeps (exponentialLister a.s.size a.s.top) (owed a.s.size a.s.top) (a.s.extremes, a.s.sums) false a.s.limit (map s) (out s) e.before.number.result e.before.number.ensures e.if1.false
+    sweeps (exponential_lister a.s.size a.s.top) (owed a.s.size a.s.top) (a.s.extremes, a.s.sums) false a.s.limit (map s) (out s) e.before.number.result e.before.number.ensures e.if1.false
 
 returns-2 : tie.Need-returns-2
 returns-2 c =
@@ -52,8 +52,8 @@ returns-2 c =
     let e = l.before.before.before.before.before.before.before.before in
     let s = start e.before in
     let a = s.args in
-    delta-done (exponentialLister a.s.size a.s.top) (a.s.extremes, a.s.sums) a.s.limit (map s) (out s) _ _ (sym e.before.number.ensures ∙ e.if1.false)
-    (listed-is (exponentialLister a.s.size a.s.top) (owed a.s.size a.s.top) (a.s.extremes, a.s.sums) false a.s.limit (map s) (out s) _ l.list.ensures) w.sweep.ensures
+    delta-done (exponential_lister a.s.size a.s.top) (a.s.extremes, a.s.sums) a.s.limit (map s) (out s) _ _ (sym e.before.number.ensures ∙ e.if1.false)
+    (listed-is (exponential_lister a.s.size a.s.top) (owed a.s.size a.s.top) (a.s.extremes, a.s.sums) false a.s.limit (map s) (out s) _ l.list.ensures) w.sweep.ensures
 
 pub delta-spec : {M : Type 1} → statement M
 delta-spec =

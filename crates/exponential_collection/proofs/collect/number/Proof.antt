@@ -6,12 +6,12 @@ use mathlib.Core.Option.{none}
 use Rattle.directory.specs.View.{stores}
 use Rattle.exponential_slots.specs.Cells.{Cells, cells}
 use Rattle.value_map.specs.Calls.{Held, held}
-use Rattle.value_map.specs.Exponential.{exponentialStore}
+use Rattle.value_map.specs.Exponential.{exponential_store}
 use Rattle.value_map.proofs.ExponentialOwes.{owed}
 use Rattle.listing.specs.Listed.{Output, output}
 use Rattle.collecting.proofs.Decides.{number-first, walk_here, number-then}
 use Rattle.collecting.proofs.Sure.{unbarred, walk-known}
-use Rattle.exponential_collection.specs.Points.{exponentialLister}
+use Rattle.exponential_collection.specs.Points.{exponential_lister}
 use Rattle.exponential_collection.proofs.collect.number.Statement.{statement}
 use Rattle.exponential_collection.proofs.collect.number.Tie as tie
 
@@ -32,7 +32,7 @@ barred-requires c κs k =
     let r = c.before in
     let s = r.before.before.before.before.before.before in
     let a = s.args in
-    unbarred (exponentialStore a.s.size a.s.top) (a.s.extremes, a.s.sums) a.s.limit none (map s) (s.requires k)
+    unbarred (exponential_store a.s.size a.s.top) (a.s.extremes, a.s.sums) a.s.limit none (map s) (s.requires k)
     r.cells-suffice.result c.unset-of.result r.cells-suffice.ensures c.unset-of.ensures
 
 returns : tie.Need-returns
@@ -40,7 +40,7 @@ returns c =
     let b = c.before in
     let s = start b in
     let a = s.args in
-    number-first (exponentialLister a.s.size a.s.top) (owed a.s.size a.s.top) (a.s.extremes, a.s.sums) a.cumulative a.s.limit (map s) (out s)
+    number-first (exponential_lister a.s.size a.s.top) (owed a.s.size a.s.top) (a.s.extremes, a.s.sums) a.cumulative a.s.limit (map s) (out s)
     (room b).cells-suffice.result b.before.unset-of.result b.barred.result (room b).cells-suffice.ensures b.before.unset-of.ensures b.barred.ensures c.if1.true
 
 survey-requires : tie.Need-survey-requires
@@ -48,9 +48,9 @@ survey-requires c κs =
     let b = c.before in
     let s = start b in
     let a = s.args in (
-      walk_here (exponentialLister a.s.size a.s.top) (owed a.s.size a.s.top) (a.s.extremes, a.s.sums) a.cumulative a.s.limit (map s) (out s)
+      walk_here (exponential_lister a.s.size a.s.top) (owed a.s.size a.s.top) (a.s.extremes, a.s.sums) a.cumulative a.s.limit (map s) (out s)
           (room b).cells-suffice.result b.before.unset-of.result b.barred.result (room b).cells-suffice.ensures b.before.unset-of.ensures b.barred.ensures c.if1.false,
-      walk-known (exponentialStore a.s.size a.s.top) (a.s.extremes, a.s.sums) a.s.limit none (map s) a.known s.pre (true, true) (λ x. refl),
+      walk-known (exponential_store a.s.size a.s.top) (a.s.extremes, a.s.sums) a.s.limit none (map s) a.known s.pre (true, true) (λ x. refl),
     )
 
 returns-2 : tie.Need-returns-2
@@ -60,7 +60,7 @@ returns-2 c =
     let b = e.before in
     let s = start b in
     let a = s.args in
-    number-then (exponentialLister a.s.size a.s.top) (owed a.s.size a.s.top) (a.s.extremes, a.s.sums) a.cumulative a.s.limit (map s) (out s)
+    number-then (exponential_lister a.s.size a.s.top) (owed a.s.size a.s.top) (a.s.extremes, a.s.sums) a.cumulative a.s.limit (map s) (out s)
     (room b).cells-suffice.result b.before.unset-of.result b.barred.result (room b).cells-suffice.ensures b.before.unset-of.ensures b.barred.ensures e.if1.false
     (true, true) (λ x. refl) f.survey.result c.number_of.result f.survey.ensures c.number_of.ensures
 

@@ -10,9 +10,9 @@ use lib.Ieee.Scale.{finite}
 use Rattle.rows.specs.Parts.{part_at}
 use Rattle.exponential.specs.declared.Head.{Head}
 use Rattle.exponential.specs.Series as S
-use Rattle.exponential_slots.specs.Cells.{Cells, cells, countsIn, narrow, headIn}
+use Rattle.exponential_slots.specs.Cells.{Cells, cells, counts_in, narrow, head_in}
 use Rattle.exponential_slots.proofs.Cases.{reads_held, head-held}
-use Rattle.exponential_collection.proofs.Slots.{unread, uncounted, low-lost, by_high}
+use Rattle.exponential_collection.proofs.Slots.{unread, uncounted, low_lost, by_high}
 use Rattle.exponential_collection.proofs.slot.agrees_at.Statement.{statement}
 use Rattle.exponential_collection.proofs.slot.agrees_at.Tie as tie
 
@@ -32,14 +32,14 @@ read : (k : tie.After-counts-agree) → narrow (get_or (lent (start (at k))).fig
 read k = can k.before.before.before.before.before.before
 
 head-is : (k : tie.After-counts-agree) → k.before.before.before.before.head_of.result
-    ≡ headIn (get_or (lent (start (at k))).figures (start (at k)).args.x []) (get_or (lent (start (at k))).extremes (start (at k)).args.x [])
+    ≡ head_in (get_or (lent (start (at k))).figures (start (at k)).args.x []) (get_or (lent (start (at k))).extremes (start (at k)).args.x [])
 head-is k = k.before.before.before.before.head_of.ensures ∙ head-held _ true _ _ refl
 
 counts-are : (k : tie.After-counts-agree)
     → k.counts-agree.result
-    ≡ S.agrees (start (at k)).args.size (start (at k)).args.top (countsIn (get_or (lent (start (at k))).figures (start (at k)).args.x []))
+    ≡ S.agrees (start (at k)).args.size (start (at k)).args.top (counts_in (get_or (lent (start (at k))).figures (start (at k)).args.x []))
     (part_at (start (at k)).args.size (lent (start (at k))).pos (start (at k)).args.x) (part_at (start (at k)).args.size (lent (start (at k))).neg (start (at k)).args.x)
-unfolding headIn
+unfolding head_in
 counts-are k =
     let s = start (at k) in
     let a = s.args in
@@ -47,7 +47,7 @@ counts-are k =
     ∙ ap (λ (h : Head). S.agrees a.size a.top h.counts (part_at a.size (lent s).pos a.x) (part_at a.size (lent s).neg a.x)) (head-is k)
 
 low-is : (q : tie.After-is-finite) → q.is_finite.result ≡ finite (get_or (get_or (lent (start (at q.before.before))).extremes (start (at q.before.before)).args.x []) 0 nan)
-unfolding headIn
+unfolding head_in
 low-is q = q.is_finite.ensures ∙ ap (λ (h : Head). finite h.min) (head-is q.before.before)
 
 returns : tie.Need-returns
@@ -73,11 +73,11 @@ returns-3 c =
     let k = q.before.before in
     let s = start (at k) in
     let a = s.args in
-    low-lost a.size a.top s.pre.0 (lent s) a.x s.pre.1 (read k) (sym (counts-are k) ∙ not-false k.counts-agree.result q.before.if2.false)
+    low_lost a.size a.top s.pre.0 (lent s) a.x s.pre.1 (read k) (sym (counts-are k) ∙ not-false k.counts-agree.result q.before.if2.false)
     (sym (low-is q) ∙ not-true q.is_finite.result c.if3.true)
 
 returns-4 : tie.Need-returns-4
-unfolding headIn
+unfolding head_in
 returns-4 c =
     let q = c.before.before in
     let k = q.before.before in

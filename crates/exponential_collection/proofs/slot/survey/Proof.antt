@@ -6,8 +6,8 @@ use native.Mathlib.Omega.{arith}
 use borrow.Author.Tests.{not-true, not-false}
 use Rattle.exponential_slots.specs.Cells.{Cells, cells}
 use Rattle.collecting.specs.declared.Survey.{Survey}
-use Rattle.exponential_collection.specs.Points.{exponentialLister}
-use Rattle.exponential_collection.proofs.Slots.{agreesAt, few, words-few, survey-8, survey-same, survey-due}
+use Rattle.exponential_collection.specs.Points.{exponential_lister}
+use Rattle.exponential_collection.proofs.Slots.{agrees_at, few, words-few, survey_8, survey-same, survey-due}
 use Rattle.exponential_collection.proofs.slot.survey.Statement.{statement}
 use Rattle.exponential_collection.proofs.slot.survey.Tie as tie
 
@@ -19,7 +19,7 @@ lent s = let a = s.args in cells a.figures a.extremes a.pos a.neg
 
 -- the slot's series agrees, if it holds one
 sound : (e : tie.Else1) → (not (start e.before).args.updated
-    || agreesAt (start e.before).args.size (start e.before).args.top (start e.before).requires.0.0 (lent (start e.before)) (start e.before).args.x (start e.before).requires.0.1) ≡ true
+    || agrees_at (start e.before).args.size (start e.before).args.top (start e.before).requires.0.0 (lent (start e.before)) (start e.before).args.x (start e.before).requires.0.1) ≡ true
 sound e = sym e.before.is-sound.ensures ∙ not-false e.before.is-sound.result e.if1.false
 
 is-sound-requires : tie.Need-is-sound-requires
@@ -29,7 +29,7 @@ returns : tie.Need-returns
 returns c =
     let s = start c.before in
     let a = s.args in (
-      survey-8 (exponentialLister a.size a.top) (true, true) a.updated a.due (lent s) a.x a.s
+      survey_8 (exponential_lister a.size a.top) (true, true) a.updated a.due (lent s) a.x a.s
           (sym c.before.is-sound.ensures ∙ not-true c.before.is-sound.result c.if1.true),
       search rules,
     )
@@ -39,7 +39,7 @@ returns-2 c =
     let e = c.before in
     let s = start e.before in
     let a = s.args in (
-      survey-same (exponentialLister a.size a.top) (true, true) a.updated a.due (lent s) a.x a.s (sound e) (not-true a.due c.if2.true),
+      survey-same (exponential_lister a.size a.top) (true, true) a.updated a.due (lent s) a.x a.s (sound e) (not-true a.due c.if2.true),
       search rules,
     )
 

@@ -4,19 +4,19 @@ use native.Mathlib.Omega.{arith}
 use borrow.Author.Rules.{rules}
 use Rattle.exponential_slots.specs.Cells.{Cells, cells}
 use Rattle.value_map.specs.Calls.{Held}
-use Rattle.value_map.specs.Exponential.{exponentialStore}
+use Rattle.value_map.specs.Exponential.{exponential_store}
 use Rattle.listing.specs.Listed.{Output, output}
 use Rattle.collecting.specs.Lister.{Lister}
 use Rattle.collecting.specs.Slots.{walked}
 use Rattle.collecting.proofs.Turns.{Seen}
 use Rattle.collecting.proofs.Loops.{found-used, Alike, Listing, list-start, list-end, list-alike, slot-sound, slot-free, list-next}
-use Rattle.exponential_collection.specs.Points.{exponentialLister}
+use Rattle.exponential_collection.specs.Points.{exponential_lister}
 use Rattle.exponential_collection.proofs.walk.list.Statement.{statement}
 use Rattle.exponential_collection.proofs.walk.list.Tie as tie
 
 abbrev invariant-loop : tie.invariant-loop
 invariant-loop cumulative used sets entries order figures extremes pos neg out-sets₀ out-words₀ out-pos₀ out-neg₀ size top show sums at₀ i₀ out-sets out-words out-pos out-neg at i =
-    Listing (exponentialLister size top) (show, sums) cumulative (walked used sets entries order (record { figures = figures; extremes = extremes; pos = pos; neg = neg }))
+    Listing (exponential_lister size top) (show, sums) cumulative (walked used sets entries order (record { figures = figures; extremes = extremes; pos = pos; neg = neg }))
     (record { sets = out-sets₀; words = out-words₀; pos = out-pos₀; neg = out-neg₀ }) i at
     (record { sets = out-sets; words = out-words; pos = out-pos; neg = out-neg })
 
@@ -27,8 +27,8 @@ decreases-loop cumulative used sets entries order figures extremes pos neg out-s
 abbrev Start : Type 0
 Start = tie.Start invariant-loop decreases-loop
 
-abbrev L : (s : Start) → Lister (exponentialStore s.args.s.size s.args.s.top)
-L s = exponentialLister s.args.s.size s.args.s.top
+abbrev L : (s : Start) → Lister (exponential_store s.args.s.size s.args.s.top)
+L s = exponential_lister s.args.s.size s.args.s.top
 
 abbrev map : Start → Held Cells
 map s = let a = s.args in walked a.used a.sets.now a.entries.now a.order.now (cells a.figures a.extremes a.pos a.neg)
@@ -57,15 +57,15 @@ seen c =
       asked_is = c.is-due.ensures;
     }
 
-abbrev outNow : tie.At-loop invariant-loop decreases-loop → Output
-outNow l = record { sets = l.loop.out-sets; words = l.loop.out-words; pos = l.loop.out-pos; neg = l.loop.out-neg }
+abbrev out_now : tie.At-loop invariant-loop decreases-loop → Output
+out_now l = record { sets = l.loop.out-sets; words = l.loop.out-words; pos = l.loop.out-pos; neg = l.loop.out-neg }
 
 -- the slot lies in the stores
 in_use : (c : tie.After-slot-at invariant-loop decreases-loop) → c.slot_at.result ≤ (start c.before).args.used
 in_use c =
     let t = c.before in
     let s = start t in
-    found-used (exponentialStore s.args.s.size s.args.s.top) (map s) s.pre.walk t.before.loop.i c.slot_at.result t.loop-test.true c.slot_at.ensures
+    found-used (exponential_store s.args.s.size s.args.s.top) (map s) s.pre.walk t.before.loop.i c.slot_at.result t.loop-test.true c.slot_at.ensures
 
 loop-holds : tie.Need-loop-init invariant-loop decreases-loop
 loop-holds c =
@@ -91,7 +91,7 @@ put-requires c κs =
     let l = t.before.loop in (
       slot-sound (L s) (a.s.extremes, a.s.sums) a.cumulative (map s) (out s) s.pre l.i _ _ _ (seen d),
       slot-free (L s) (a.s.extremes, a.s.sums) a.cumulative (map s) (out s) s.pre l.i _ _ _ (seen d)
-          l.at (outNow t.before) l.invariant,
+          l.at (out_now t.before) l.invariant,
     )
 
 abbrev put : tie.After-slice-known4 invariant-loop decreases-loop → tie.After-put invariant-loop decreases-loop
@@ -116,15 +116,15 @@ loop-again c =
     let a = s.args in
     let l = t.before.loop in
     list-next (L s) (a.s.extremes, a.s.sums) a.cumulative (map s) (out s) s.pre l.i _ _ _ (seen d)
-    l.at (outNow t.before) l.inv r.row_at.result r.row_at.ensures p.put.result _ p.put.ensures
+    l.at (out_now t.before) l.inv r.row_at.result r.row_at.ensures p.put.result _ p.put.ensures
 
 -- the output keeps its lengths
-long : (c : tie.After-loop invariant-loop decreases-loop) → Alike (outNow c.before) (out (entry c.before))
+long : (c : tie.After-loop invariant-loop decreases-loop) → Alike (out_now c.before) (out (entry c.before))
 long c =
     let s = entry c.before in
     let a = s.args in
     let l = c.before.loop in
-    list-alike (L s) (a.s.extremes, a.s.sums) a.cumulative (map s) (out s) s.pre l.i l.at (outNow c.before) l.invariant
+    list-alike (L s) (a.s.extremes, a.s.sums) a.cumulative (map s) (out s) s.pre l.i l.at (out_now c.before) l.invariant
 
 same_length : tie.Need-same-length invariant-loop decreases-loop
 same_length c = (long c).sets
@@ -143,7 +143,7 @@ returns c =
     let s = entry c.before in
     let a = s.args in
     let l = c.before.loop in
-    list-end (L s) (a.s.extremes, a.s.sums) a.cumulative (map s) (out s) l.i l.at (outNow c.before) l.invariant
+    list-end (L s) (a.s.extremes, a.s.sums) a.cumulative (map s) (out s) l.i l.at (out_now c.before) l.invariant
     (omega (arith, c.loop-test.false))
 
 pub list-spec : {M : Type 1} → statement M

@@ -3,8 +3,8 @@ use borrow.Author.Rules.{rules}
 use mathlib.Core.Path.{◌≡◌, sym, ap, subst, ◌∙◌}
 use mir.Syntax.{w64}
 use mir.Val.{SFits, to_z, of_z}
-use Rattle.floats.specs.Starts.{zeroFloat}
-use Rattle.integers.specs.Answers.{nearestOf, keptSum, lesserOf, greater_of}
+use Rattle.floats.specs.Starts.{zero_float}
+use Rattle.integers.specs.Answers.{nearest_of, kept_sum, lesser_of, greater_of}
 use Rattle.integers.specs.declared.Total.TheVariants.{Is}
 use Rattle.integers.proofs.Range.{held}
 use Rattle.points.specs.Points.{Point, record1}
@@ -32,11 +32,11 @@ else1 k = k.before.before
 abbrev at : tie.After-kept-sum → tie.Start
 at k = (else1 k).before.before.before.before.before
 
-summed : (k : tie.After-kept-sum) → (let a = (at k).args in k.kept-sum.result ≡ keptSum a.sums a.head.sum a.v)
+summed : (k : tie.After-kept-sum) → (let a = (at k).args in k.kept-sum.result ≡ kept_sum a.sums a.head.sum a.v)
 summed k =
     let s = at k in
     let f : SFits w64 s.args.head.sum = search rules in
-    k.kept-sum.ensures ∙ (λ j. keptSum s.args.sums (held s.args.head.sum f j) (held s.args.v s.fits.v j))
+    k.kept-sum.ensures ∙ (λ j. kept_sum s.args.sums (held s.args.head.sum f j) (held s.args.v s.fits.v j))
 
 returns-2 : tie.Need-returns-2
 returns-2 c =
@@ -52,24 +52,24 @@ whole_sum k = search rules
 abbrev sum : tie.After-nearest → tie.After-kept-sum
 sum n = n.before.before.before.before.before
 
-near : (n : tie.After-nearest) → n.nearest.result ≡ nearestOf (at (sum n)).args.v
-near n = let s = at (sum n) in n.nearest.ensures ∙ ap nearestOf (held s.args.v s.fits.v)
+near : (n : tie.After-nearest) → n.nearest.result ≡ nearest_of (at (sum n)).args.v
+near n = let s = at (sum n) in n.nearest.ensures ∙ ap nearest_of (held s.args.v s.fits.v)
 
 count-in-requires : tie.Need-count-in-requires
 count-in-requires c κs =
     let n = c.before.before.before.before.before.before in
     let s = at (sum n) in
     let a = s.args in
-    (λ j. E.refusalOf a.size a.top (n.before.under-counts.ensures j) a.pos.now a.neg.now (near n j))
+    (λ j. E.refusal_of a.size a.top (n.before.under-counts.ensures j) a.pos.now a.neg.now (near n j))
     ∙ free a.size a.top a.sums (lent s) a.v s.fits.v s.pre (else1 (sum n)).if1.false
 
 -- ---- the minimum and the maximum
-least : (l : tie.After-lesser) → (let a = (at (sum l.before.before)).args in to_z w64 (of_z w64 l.lesser.result) ≡ lesserOf a.head.min a.v)
+least : (l : tie.After-lesser) → (let a = (at (sum l.before.before)).args in to_z w64 (of_z w64 l.lesser.result) ≡ lesser_of a.head.min a.v)
 least l =
     let s = at (sum l.before.before) in
     let r : SFits w64 l.lesser.result = search rules in
     let m : SFits w64 s.args.head.min = search rules in
-    held l.lesser.result r ∙ l.lesser.ensures ∙ (λ i. lesserOf (held s.args.head.min m i) (held s.args.v s.fits.v i))
+    held l.lesser.result r ∙ l.lesser.ensures ∙ (λ i. lesser_of (held s.args.head.min m i) (held s.args.v s.fits.v i))
 
 greatest : (g : tie.After-greater) → (let a = (at (sum g.before.before.before.before)).args in to_z w64 (of_z w64 g.greater.result) ≡ greater_of a.head.max a.v)
 greatest g =
@@ -93,7 +93,7 @@ returns-3 c =
     inside a.size a.top a.sums (lent s) a.v s.fits.v s.pre (else1 (sum n)).if1.false _ _ _ d.count-in.result d.count-in.new.1.1.1.0 d.count-in.new.1.1.1.1.0
     (sym (summed (sum n)) ∙ t.1 ∙ ap Is (sym (held t.0.0 (whole_sum k))))
     (subst (λ (p : Point). Written p xs ys d.count-in.result d.count-in.new.1.1.1.0 d.count-in.new.1.1.1.1.0)
-    (λ j. record1 a.size (E.read (n.before.under-counts.ensures j).counts xs ys) (class_of zeroFloat (near n j))) d.count-in.ensures)
+    (λ j. record1 a.size (E.read (n.before.under-counts.ensures j).counts xs ys) (class_of zero_float (near n j))) d.count-in.ensures)
     (least l) (greatest g)
 
 pub next-spec : {M : Type 1} → statement M

@@ -60,8 +60,8 @@ turn-of r = r.before.before.before.before
 abbrev value : tie.In-loop invariant-loop decreases-loop → Whole.ℤ
 value t = get_or (start t).args.values.now t.before.loop.i (Whole.pos 0)
 
-is-i64 : (r : tie.After-next invariant-loop decreases-loop) → SFits w64 (value (turn-of r))
-is-i64 r = record { sfits = r.before.next-arg3.given }
+is_i64 : (r : tie.After-next invariant-loop decreases-loop) → SFits w64 (value (turn-of r))
+is_i64 r = record { sfits = r.before.next-arg3.given }
 
 -- what the call left
 abbrev gone : tie.After-next invariant-loop decreases-loop → Recording Series
@@ -71,7 +71,7 @@ went : (r : tie.After-next invariant-loop decreases-loop) → (let t = turn-of r
 went r =
     let t = turn-of r in
     let a = (start t).args in
-    r.next.ensures ∙ ap (step a.size a.top a.sums (there t)) (held (value t) (is-i64 r))
+    r.next.ensures ∙ ap (step a.size a.top a.sums (there t)) (held (value t) (is_i64 r))
 
 same_length : tie.Need-same-length invariant-loop decreases-loop
 same_length c = let r = c.before.before.before.before.before.before in r.next.auto.1.1.1.1.0 ∙ (turn-of r).before.loop.invariant.1
@@ -104,7 +104,7 @@ loop-again c =
       r.next.auto.1.1.1.1.0 ∙ l.inv.1,
       r.next.auto.1.1.1.1.1.0 ∙ l.inv.2,
       subst (λ (x : Recording Series). Sound a.size a.top x.cells) (sym (went r))
-          (sound a.size a.top a.sums (there t) (value t) (is-i64 r) l.inv.3 (ap (λ (x : Recording Series). x.no) (sym (went r)) ∙ z)),
+          (sound a.size a.top a.sums (there t) (value t) (is_i64 r) l.inv.3 (ap (λ (x : Recording Series). x.no) (sym (went r)) ∙ z)),
       l.inv.4 ∙ turn (step a.size a.top a.sums) (there t) a.values.now l.i (Whole.pos 0) (inside t) (gone r) (went r) z,
     )
 

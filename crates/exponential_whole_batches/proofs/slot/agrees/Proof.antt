@@ -5,10 +5,10 @@ use mathlib.Core.Path.{◌≡◌, sym, ap, ◌∙◌}
 use mathlib.Core.Bool.{true}
 use mathlib.Core.List.{List, [], ◌∷◌}
 use lib.Ieee.{Float}
-use Rattle.floats.specs.Starts.{zeroFloat}
+use Rattle.floats.specs.Starts.{zero_float}
 use Rattle.exponential.specs.declared.Head.{Head}
 use Rattle.exponential.specs.Series as Series
-use Rattle.exponential_slots.specs.Cells.{readable, headIn}
+use Rattle.exponential_slots.specs.Cells.{readable, head_in}
 use Rattle.exponential_slots.proofs.Cases.{reads_held, head-held}
 use Rattle.exponential_slots.proofs.Agreeing.{Accepted, accepted-of}
 use Rattle.value_map.proofs.ExponentialOwes.{unset-valid}
@@ -17,7 +17,7 @@ use Rattle.exponential_whole_batches.proofs.slot.agrees.Statement.{statement}
 use Rattle.exponential_whole_batches.proofs.slot.agrees.Tie as tie
 
 abbrev zeros : List Float
-zeros = zeroFloat ∷ zeroFloat ∷ zeroFloat ∷ []
+zeros = zero_float ∷ zero_float ∷ zero_float ∷ []
 
 abbrev start : tie.After-can-read → tie.Start
 start r = r.before.before.before.before.before
@@ -51,7 +51,7 @@ head-of-requires : tie.Need-head-of-requires
 head-of-requires c κs = can c
 
 returns-4 : tie.Need-returns-4
-unfolding headIn
+unfolding head_in
 returns-4 c =
     let h = c.before.before in
     let e = h.before in

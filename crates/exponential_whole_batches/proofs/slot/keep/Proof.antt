@@ -8,7 +8,7 @@ use mir.Val.{SFits}
 use Rattle.integers.proofs.Range.{held}
 use Rattle.many.proofs.Alike.{pick_first, pick_second}
 use Rattle.exponential_slots.specs.Cells.{words_of}
-use Rattle.exponential_whole_batches.specs.Slot.{extremesOf}
+use Rattle.exponential_whole_batches.specs.Slot.{extremes_of}
 use Rattle.exponential_whole_batches.proofs.slot.keep.Statement.{statement}
 use Rattle.exponential_whole_batches.proofs.slot.keep.Tie as tie
 
@@ -27,7 +27,7 @@ returns c =
     let a = c.before.before.args in
     let h = a.run.head in (
       sym (pick_first a.run.taken c.if1.true a.figures.now (set a.figures.now a.x (words_of h.counts))),
-      sym (pick_first a.run.taken c.if1.true a.extremes.now (set a.extremes.now a.x (extremesOf h))),
+      sym (pick_first a.run.taken c.if1.true a.extremes.now (set a.extremes.now a.x (extremes_of h))),
     )
 
 returns-2 : tie.Need-returns-2
@@ -40,7 +40,7 @@ returns-2 c =
       ap (set a.figures.now a.x) w.words-of.ensures
           ∙ sym (pick_second a.run.taken e.if1.false a.figures.now (set a.figures.now a.x (words_of h.counts))),
       (λ j. set a.extremes.now a.x (held h.min (least s) j ∷ held h.max (greatest s) j ∷ held h.sum (sum s) j ∷ []))
-          ∙ sym (pick_second a.run.taken e.if1.false a.extremes.now (set a.extremes.now a.x (extremesOf h))),
+          ∙ sym (pick_second a.run.taken e.if1.false a.extremes.now (set a.extremes.now a.x (extremes_of h))),
     )
 
 pub keep_spec : {M : Type 1} → statement M

@@ -7,7 +7,7 @@ use Rattle.rows.specs.Parts.{part_at}
 use Rattle.many.specs.Many.{Many, each}
 use Rattle.exponential_wholes.specs.declared.Head.{Head}
 use Rattle.exponential_whole_slots.specs.Cells.{Cells}
-use Rattle.whole_map.specs.Exponential.{exponentialWholes}
+use Rattle.whole_map.specs.Exponential.{exponential_wholes}
 use Rattle.batches.proofs.Slotted.{Ready}
 use Rattle.exponential_whole_batches.specs.Series.{Series, Sound, step}
 use Rattle.exponential_whole_batches.specs.Slot.{load}
@@ -43,7 +43,7 @@ returns c =
     (sym r.agrees.ensures ∙ not-true r.agrees.result c.if1.true)
 
 -- the series agrees
-agreed : (e : tie.Else1) → (let s = start e.before in let a = s.args in Ready (exponentialWholes a.size a.top a.sums) true a.x a.updated (lent s))
+agreed : (e : tie.Else1) → (let s = start e.before in let a = s.args in Ready (exponential_wholes a.size a.top a.sums) true a.x a.updated (lent s))
 agreed e =
     let r = e.before in
     let s = start r in

@@ -6,13 +6,13 @@ use Rattle.directory.specs.View.{stores}
 use Rattle.exponential_whole_slots.specs.Cells.{Cells, cells}
 use Rattle.value_map.specs.Calls.{Held, held}
 use Rattle.value_map.proofs.Owed.{Owed}
-use Rattle.whole_map.specs.Exponential.{exponentialWholes}
+use Rattle.whole_map.specs.Exponential.{exponential_wholes}
 use Rattle.whole_map.proofs.ExponentialOwes.{owed}
 use Rattle.listing.specs.Listed.{Output, output}
 use Rattle.collecting.specs.Lister.{Lister}
 use Rattle.collecting.proofs.Ends.{delta-refused, delta-done}
 use Rattle.collecting.proofs.Decides.{listable, sweeps, listed-is}
-use Rattle.exponential_whole_collection.specs.Points.{exponentialWholeLister}
+use Rattle.exponential_whole_collection.specs.Points.{exponential_whole_lister}
 use Rattle.exponential_whole_collection.proofs.collect.delta.Statement.{statement}
 use Rattle.exponential_whole_collection.proofs.collect.delta.Tie as tie
 
@@ -25,10 +25,10 @@ out s = let a = s.args in output a.out-sets a.out-words a.out-pos a.out-neg
 abbrev start : tie.After-number → tie.Start
 start c = c.before.before.before.before.before.before.before.before.before.before.before.before.before
 
-abbrev L : (s : tie.Start) → Lister (exponentialWholes s.args.s.size s.args.s.top s.args.s.sums)
-L s = let z = s.args.s in exponentialWholeLister z.size z.top z.sums
+abbrev L : (s : tie.Start) → Lister (exponential_wholes s.args.s.size s.args.s.top s.args.s.sums)
+L s = let z = s.args.s in exponential_whole_lister z.size z.top z.sums
 
-abbrev W : (s : tie.Start) → Owed (exponentialWholes s.args.s.size s.args.s.top s.args.s.sums)
+abbrev W : (s : tie.Start) → Owed (exponential_wholes s.args.s.size s.args.s.top s.args.s.sums)
 W s = let z = s.args.s in owed z.size z.top z.sums
 
 number-requires : tie.Need-number-requires

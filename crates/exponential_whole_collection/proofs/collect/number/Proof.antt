@@ -7,13 +7,13 @@ use Rattle.directory.specs.View.{stores}
 use Rattle.exponential_whole_slots.specs.Cells.{Cells, cells}
 use Rattle.value_map.specs.Calls.{Held, held}
 use Rattle.value_map.proofs.Owed.{Owed}
-use Rattle.whole_map.specs.Exponential.{exponentialWholes}
+use Rattle.whole_map.specs.Exponential.{exponential_wholes}
 use Rattle.whole_map.proofs.ExponentialOwes.{owed}
 use Rattle.listing.specs.Listed.{Output, output}
 use Rattle.collecting.specs.Lister.{Lister}
 use Rattle.collecting.proofs.Decides.{number-first, walk_here, number-then}
 use Rattle.collecting.proofs.Sure.{unbarred, walk-known}
-use Rattle.exponential_whole_collection.specs.Points.{exponentialWholeLister}
+use Rattle.exponential_whole_collection.specs.Points.{exponential_whole_lister}
 use Rattle.exponential_whole_collection.proofs.Slots.{sums_apart}
 use Rattle.exponential_whole_collection.proofs.collect.number.Statement.{statement}
 use Rattle.exponential_whole_collection.proofs.collect.number.Tie as tie
@@ -31,10 +31,10 @@ abbrev out : tie.Start → Output
 out s = let a = s.args in output a.out-sets a.out-words a.out-pos a.out-neg
 
 -- the slots are surveyed as if the sum's switch were on
-abbrev L : (s : tie.Start) → Lister (exponentialWholes s.args.s.size s.args.s.top true)
-L s = exponentialWholeLister s.args.s.size s.args.s.top true
+abbrev L : (s : tie.Start) → Lister (exponential_wholes s.args.s.size s.args.s.top true)
+L s = exponential_whole_lister s.args.s.size s.args.s.top true
 
-abbrev W : (s : tie.Start) → Owed (exponentialWholes s.args.s.size s.args.s.top true)
+abbrev W : (s : tie.Start) → Owed (exponential_wholes s.args.s.size s.args.s.top true)
 W s = owed s.args.s.size s.args.s.top true
 
 barred-requires : tie.Need-barred-requires
@@ -42,7 +42,7 @@ barred-requires c κs k =
     let r = c.before in
     let s = r.before.before.before.before.before.before in
     let a = s.args in
-    unbarred (exponentialWholes a.s.size a.s.top a.s.sums) a.s.extremes a.s.limit none (map s) (s.requires k)
+    unbarred (exponential_wholes a.s.size a.s.top a.s.sums) a.s.extremes a.s.limit none (map s) (s.requires k)
     r.cells-suffice.result c.unset-of.result r.cells-suffice.ensures c.unset-of.ensures
 
 returns : tie.Need-returns
@@ -61,7 +61,7 @@ survey-requires c κs =
     let a = s.args in (
       walk_here (L s) (W s) a.s.extremes a.cumulative a.s.limit (map s) (out s)
           (room b).cells-suffice.result b.before.unset-of.result b.barred.result (room b).cells-suffice.ensures b.before.unset-of.ensures b.barred.ensures c.if1.false,
-      walk-known (exponentialWholes a.s.size a.s.top a.s.sums) a.s.extremes a.s.limit none (map s) a.known s.pre true (λ x. refl),
+      walk-known (exponential_wholes a.s.size a.s.top a.s.sums) a.s.extremes a.s.limit none (map s) a.known s.pre true (λ x. refl),
     )
 
 returns-2 : tie.Need-returns-2

@@ -8,9 +8,9 @@ use lib.ListN.{get_or}
 use Rattle.rows.specs.Parts.{part_at}
 use Rattle.exponential_wholes.specs.declared.Head.{Head}
 use Rattle.exponential.specs.Series as S
-use Rattle.exponential_slots.specs.Cells.{countsIn, narrow}
+use Rattle.exponential_slots.specs.Cells.{counts_in, narrow}
 use Rattle.exponential_slots.proofs.Cases.{reads_held}
-use Rattle.exponential_whole_slots.specs.Cells.{Cells, cells, headIn}
+use Rattle.exponential_whole_slots.specs.Cells.{Cells, cells, head_in}
 use Rattle.exponential_whole_slots.proofs.Cases.{head-held}
 use Rattle.exponential_whole_collection.proofs.Slots.{unread, by-counts}
 use Rattle.exponential_whole_collection.proofs.slot.agrees_at.Statement.{statement}
@@ -32,12 +32,12 @@ read : (k : tie.After-counts-agree) → narrow (get_or (lent (start (at k))).fig
 read k = can k.before.before.before.before.before.before
 
 head-is : (k : tie.After-counts-agree) → k.before.before.before.before.head_of.result
-    ≡ headIn (countsIn (get_or (lent (start (at k))).figures (start (at k)).args.x [])) (get_or (lent (start (at k))).extremes (start (at k)).args.x [])
+    ≡ head_in (counts_in (get_or (lent (start (at k))).figures (start (at k)).args.x [])) (get_or (lent (start (at k))).extremes (start (at k)).args.x [])
 head-is k = k.before.before.before.before.head_of.ensures ∙ head-held _ true _ _ refl
 
 counts-are : (k : tie.After-counts-agree)
     → k.counts-agree.result
-    ≡ S.agrees (start (at k)).args.size (start (at k)).args.top (countsIn (get_or (lent (start (at k))).figures (start (at k)).args.x []))
+    ≡ S.agrees (start (at k)).args.size (start (at k)).args.top (counts_in (get_or (lent (start (at k))).figures (start (at k)).args.x []))
     (part_at (start (at k)).args.size (lent (start (at k))).pos (start (at k)).args.x) (part_at (start (at k)).args.size (lent (start (at k))).neg (start (at k)).args.x)
 counts-are k =
     let s = start (at k) in

@@ -4,10 +4,10 @@ use mathlib.Core.Path.{◌≡◌, ap, ◌∙◌}
 use native.Mathlib.Omega.{arith}
 use borrow.Author.Tests.{not-true, not-false}
 use Rattle.exponential_wholes.specs.declared.Head.{Head}
-use Rattle.exponential_whole_slots.specs.Cells.{Cells, cells, headAt}
-use Rattle.whole_point.specs.Handing.{exponentialPoint}
+use Rattle.exponential_whole_slots.specs.Cells.{Cells, cells, head_at}
+use Rattle.whole_point.specs.Handing.{exponential_point}
 use Rattle.listing.specs.Listed.{Output, output}
-use Rattle.exponential_whole_collection.specs.Points.{exponentialWholeLister}
+use Rattle.exponential_whole_collection.specs.Points.{exponential_whole_lister}
 use Rattle.exponential_collection.proofs.Slots.{put-not}
 use Rattle.exponential_whole_collection.proofs.Slots.{laid, put-room, put_on}
 use Rattle.exponential_whole_collection.proofs.slot.put.Statement.{statement}
@@ -23,14 +23,14 @@ abbrev start : tie.After-exponential-point → tie.Start
 start c = c.before.before.before.before.before.before.before.before.before
 
 point-is : (c : tie.After-exponential-point) → c.exponential-point.result
-    ≡ exponentialPoint (headAt (start c).args.top (lent (start c)) (start c).args.x (start c).args.updated) (start c).args.show (start c).args.sums
-point-is c = c.exponential-point.ensures ∙ ap (λ (h : Head). exponentialPoint h (start c).args.show (start c).args.sums) c.before.head_of.ensures
+    ≡ exponential_point (head_at (start c).args.top (lent (start c)) (start c).args.x (start c).args.updated) (start c).args.show (start c).args.sums
+point-is c = c.exponential-point.ensures ∙ ap (λ (h : Head). exponential_point h (start c).args.show (start c).args.sums) c.before.head_of.ensures
 
 returns : tie.Need-returns
 returns c =
     let s = c.before.before.before.before.before in
     let a = s.args in
-    put-not (exponentialWholeLister a.size a.top a.sums) a.show a.updated a.due (lent s) a.x a.row a.at (out s) (not-true a.due c.if1.true)
+    put-not (exponential_whole_lister a.size a.top a.sums) a.show a.updated a.due (lent s) a.x a.row a.at (out s) (not-true a.due c.if1.true)
 
 head-of-requires : tie.Need-head-of-requires
 head-of-requires c κs =

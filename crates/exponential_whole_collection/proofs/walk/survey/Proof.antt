@@ -7,18 +7,18 @@ use borrow.Author.Rules.{rules}
 use borrow.Author.Tests.{not-true, not-false}
 use Rattle.exponential_whole_slots.specs.Cells.{Cells, cells}
 use Rattle.value_map.specs.Calls.{Held}
-use Rattle.whole_map.specs.Exponential.{exponentialWholes}
+use Rattle.whole_map.specs.Exponential.{exponential_wholes}
 use Rattle.collecting.specs.Lister.{Lister}
 use Rattle.collecting.specs.Slots.{walked}
 use Rattle.collecting.proofs.Turns.{Seen}
 use Rattle.collecting.proofs.Loops.{found-used, Surveyed, survey-start, survey-few, survey-known, survey-next, survey-stop, survey-end}
-use Rattle.exponential_whole_collection.specs.Points.{exponentialWholeLister}
+use Rattle.exponential_whole_collection.specs.Points.{exponential_whole_lister}
 use Rattle.exponential_whole_collection.proofs.walk.survey.Statement.{statement}
 use Rattle.exponential_whole_collection.proofs.walk.survey.Tie as tie
 
 abbrev invariant-loop : tie.invariant-loop
 invariant-loop known cumulative used entries order figures extremes pos neg size top found₀ i₀ found i =
-    Surveyed (exponentialWholeLister size top true) true cumulative (walked used [] entries order (record { figures = figures; extremes = extremes; pos = pos; neg = neg })) i found
+    Surveyed (exponential_whole_lister size top true) true cumulative (walked used [] entries order (record { figures = figures; extremes = extremes; pos = pos; neg = neg })) i found
 
 abbrev decreases-loop : tie.decreases-loop
 decreases-loop known cumulative used entries order figures extremes pos neg size top found₀ i₀ found i = used + 1 - i
@@ -26,8 +26,8 @@ decreases-loop known cumulative used entries order figures extremes pos neg size
 abbrev Start : Type 0
 Start = tie.Start invariant-loop decreases-loop
 
-abbrev L : (s : Start) → Lister (exponentialWholes s.args.s.size s.args.s.top true)
-L s = exponentialWholeLister s.args.s.size s.args.s.top true
+abbrev L : (s : Start) → Lister (exponential_wholes s.args.s.size s.args.s.top true)
+L s = exponential_whole_lister s.args.s.size s.args.s.top true
 
 abbrev on : Bool
 on = true
@@ -43,7 +43,7 @@ in_use : (c : tie.After-slot-at invariant-loop decreases-loop) → c.slot_at.res
 in_use c =
     let t = c.before in
     let s = start t in
-    found-used (exponentialWholes s.args.s.size s.args.s.top true) (map s) s.pre.0 t.before.loop.i c.slot_at.result t.loop-test.true c.slot_at.ensures
+    found-used (exponential_wholes s.args.s.size s.args.s.top true) (map s) s.pre.0 t.before.loop.i c.slot_at.result t.loop-test.true c.slot_at.ensures
 
 -- what the turn has seen of it
 abbrev turn : tie.After-is-due invariant-loop decreases-loop → tie.In-loop invariant-loop decreases-loop

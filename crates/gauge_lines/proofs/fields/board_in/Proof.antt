@@ -5,7 +5,7 @@ use mathlib.Core.List.{List}
 use mathlib.Core.Bool.{true}
 use borrow.Author.Rules.{rules}
 use Rattle.lines.specs.Spelled.{spelled, told}
-use Rattle.gauge_lines.specs.Lines.{parted, setIn, attributesIn}
+use Rattle.gauge_lines.specs.Lines.{parted, set_in, attributes_in}
 use Rattle.gauge_lines.proofs.Asking.{short, joined, apart, rest-is, board-none, kept-none, board-is, kept-are}
 use Rattle.gauge_lines.proofs.fields.board_in.Statement.{statement}
 use Rattle.gauge_lines.proofs.fields.board_in.Tie as tie
@@ -34,10 +34,10 @@ parts : (r : tie.After-read) → parted (line r) ≡ true
 parts r = let e = r.before.before.before in apart (line r) e.before.before.if1.false e.if2.false
 
 -- what the set is, and its attributes
-set : (r : tie.After-read) → setIn (line r) ≡ r.read.result
+set : (r : tie.After-read) → set_in (line r) ≡ r.read.result
 set r = sym (r.read.ensures.0 ∙ ap (λ (u : List ℕ). told 0 (spelled u)) (rest-is (line r)))
 
-attributes : (r : tie.After-read) → r.read.new.1.0 ≡ attributesIn (line r) (start r).args.attrs.now
+attributes : (r : tie.After-read) → r.read.new.1.0 ≡ attributes_in (line r) (start r).args.attrs.now
 attributes r = r.read.ensures.1 ∙ kept-are (line r) (start r).args.attrs.now (parts r)
 
 returns-3 : tie.Need-returns-3

@@ -3,7 +3,7 @@ use mathlib.Core.Path.{◌≡◌}
 use borrow.Author.Rules.{rules}
 use borrow.Author.Tests.{not-true, not-false}
 use Rattle.gauge_lines.specs.declared.fields.Call.{Call}
-use Rattle.gauge_lines.specs.Lines.{byLetter, call_of}
+use Rattle.gauge_lines.specs.Lines.{by_letter, call_of}
 use Rattle.gauge_lines.proofs.Asking.{no_line, empty-line, long-line, lettered, by-e, by-none, by-r, by-c, by-other}
 use Rattle.gauge_lines.proofs.fields.call_in.Statement.{statement}
 use Rattle.gauge_lines.proofs.fields.call_in.Tie as tie
@@ -26,7 +26,7 @@ returns-3 c =
 abbrev start : tie.After-letter-in → tie.Start
 start j = j.before.before.before.before
 
-by : (j : tie.After-letter-in) (x : Call) → byLetter j.letter-in.result (start j).args.running ≡ x
+by : (j : tie.After-letter-in) (x : Call) → by_letter j.letter-in.result (start j).args.running ≡ x
     → x ≡ call_of (start j).args.line.now (start j).args.running (start j).args.over
 by j =
     let a = (start j).args in

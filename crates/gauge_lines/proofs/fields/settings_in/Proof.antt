@@ -5,8 +5,8 @@ use mathlib.Core.List.{List}
 use borrow.Author.Rules.{rules}
 use borrow.Author.Tests.{le-leb, lt-leb}
 use Rattle.laws.proofs.Bools.{pick_true, pick-false}
-use Rattle.text.specs.Fields.{spacesOf, field_of}
-use Rattle.text.specs.Numbers.{decimalOf, signed_of}
+use Rattle.text.specs.Fields.{spaces_of, field_of}
+use Rattle.text.specs.Numbers.{decimal_of, signed_of}
 use lib.IntN.{ℤ}
 use mir.Syntax.{w32}
 use mir.Val.{SFits}
@@ -17,7 +17,7 @@ use Rattle.text.specs.declared.numbers.Natural.{Natural}
 use Rattle.text.specs.declared.numbers.Natural.TheVariants as N
 use Rattle.gauge_lines.specs.declared.fields.Size.TheVariants as Z
 use Rattle.gauge_lines.specs.declared.fields.Scale.TheVariants as S
-use Rattle.gauge_lines.specs.Lines.{sizeIn, scaleIn, wantedOf, settingsOf}
+use Rattle.gauge_lines.specs.Lines.{size_in, scale_in, wanted_of, settings_of}
 use Rattle.gauge_lines.proofs.Asking.{settings-none, settings-are}
 use Rattle.gauge_lines.proofs.fields.settings_in.Statement.{statement}
 use Rattle.gauge_lines.proofs.fields.settings_in.Tie as tie
@@ -37,21 +37,21 @@ size_at s = s.before.before.before.before.before
 abbrev scale_at : tie.After-decimal-at2 → tie.After-scale-of
 scale_at l = l.before.before.before.before
 
-abbrev limitAt : tie.After-decimal-at3 → tie.After-decimal-at2
-limitAt t = t.before.before.before.before
+abbrev limit_at : tie.After-decimal-at3 → tie.After-decimal-at2
+limit_at t = t.before.before.before.before
 
 -- the line, and that it has four spaces
 abbrev line : tie.Else1 → List ℕ
 line e = e.before.before.before.args.line.now
 
-four : (e : tie.Else1) → spacesOf (line e) ≡ 4
+four : (e : tie.Else1) → spaces_of (line e) ≡ 4
 four e = sym e.before.spaces.ensures ∙ e.if1.false
 
-size : (j : tie.After-size-of) → sizeIn (decimalOf (field_of (line (top j)) 1)) ≡ j.size_of.result
-size j = sym (j.size_of.ensures ∙ ap sizeIn j.before.decimal-at.ensures)
+size : (j : tie.After-size-of) → size_in (decimal_of (field_of (line (top j)) 1)) ≡ j.size_of.result
+size j = sym (j.size_of.ensures ∙ ap size_in j.before.decimal-at.ensures)
 
-scale : (s : tie.After-scale-of) → scaleIn (signed_of (field_of (line (top (size_at s))) 2)) ≡ s.scale_of.result
-scale s = sym (s.scale_of.ensures ∙ ap scaleIn s.before.signed-at.ensures)
+scale : (s : tie.After-scale-of) → scale_in (signed_of (field_of (line (top (size_at s))) 2)) ≡ s.scale_of.result
+scale s = sym (s.scale_of.ensures ∙ ap scale_in s.before.signed-at.ensures)
 
 returns-2 : tie.Need-returns-2
 returns-2 c =
@@ -75,11 +75,11 @@ returns-4 c =
 
 -- by the last field, where the others are numbers
 last : (t : tie.After-decimal-at3) (x : Natural) → t.decimal-at3.result ≡ x
-    → wantedOf (Z.Is (scale_at (limitAt t)).before.before.before.size.given.0.0)
-    (S.Is (limitAt t).before.before.scale.given.0.0) (N.Is t.before.before.limit.given.0.0) x
-    ≡ settingsOf (line (top (size_at (scale_at (limitAt t)))))
+    → wanted_of (Z.Is (scale_at (limit_at t)).before.before.before.size.given.0.0)
+    (S.Is (limit_at t).before.before.scale.given.0.0) (N.Is t.before.before.limit.given.0.0) x
+    ≡ settings_of (line (top (size_at (scale_at (limit_at t)))))
 last t x e =
-    let l = limitAt t in
+    let l = limit_at t in
     let s = scale_at l in
     let j = size_at s in
     settings-are (line (top j)) (four (top j)) _ _ _ _ (size j ∙ s.before.before.before.size.given.1)
@@ -98,7 +98,7 @@ returns-7 : tie.Need-returns-7
 returns-7 c =
     let u = c.before.before in
     let t = u.before.before in
-    let l = limitAt t in
+    let l = limit_at t in
     let z = l.before.before.scale.given.0.0 in
     let f : SFits w32 z = search rules in
     let w : ℤ → Asked = λ x. A.Is (record {

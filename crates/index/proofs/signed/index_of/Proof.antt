@@ -7,7 +7,7 @@ use borrow.Author.Rules.{rules}
 use lib.Dec.{lit≤}
 use lib.IntN.{pos, ◌-ℤ◌}
 use lib.Pow.{pow_mono}
-use Rattle.index.specs.Bins.{finest, endBin}
+use Rattle.index.specs.Bins.{finest, end_bin}
 use Rattle.index.specs.declared.signed.Integer.TheVariants as I
 use Rattle.index.proofs.Casts.{shifted, doubled, bias-small, difference-fits, difference-is}
 use Rattle.index.proofs.SignedCases.{index-none, index-high, index_is}
@@ -17,7 +17,7 @@ use Rattle.index.proofs.signed.index_of.Tie as tie
 held : (c : tie.Else1) → c.before.args.level ≤ finest
 held c = omega arith
 
-below : (c : tie.Else2) → c.before.before.args.bin < endBin c.before.before.args.level
+below : (c : tie.Else2) → c.before.before.args.bin < end_bin c.before.before.args.level
 below c =
     let s = c.before.before in
     subst (λ (n : ℕ). s.args.bin < n) (shifted 3 s.args.level (lit≤ tt) (held c.before)) (omega (arith, c.if2.false))

@@ -7,7 +7,7 @@ use borrow.Author.Rules.{rules}
 use Rattle.text.specs.Fields.{until}
 use Rattle.lines.specs.declared.attributes.Word.{Word}
 use Rattle.lines.specs.declared.attributes.Word.TheVariants as W
-use Rattle.lines.specs.Spelled.{bothOf}
+use Rattle.lines.specs.Spelled.{both_of}
 use Rattle.lines.specs.Scanned.{behind}
 use Rattle.lines.proofs.Scanning.{colon-mark, comma-mark}
 use Rattle.lines.proofs.Colons.{no_key, at-end, at_value, parted-none}
@@ -54,7 +54,7 @@ returns-3 c =
     let q = w.word-at.ensures.1 ∙ ap (λ (x : Word). behind x (a.from + length (until 58 xs))) k.key.given.1 in
     let f = at_value bs a.from w.word-at.result.to _ (sym w.word-at.ensures.0 ∙ k.key.given.1) q (omega (arith, t.if1.false)) in
     parted-none (until 44 xs) a.from c.no-attribute3.result.attribute c.no-attribute3.result.to c.no-attribute3.ensures.0 c.no-attribute3.ensures.1
-    (f.0 ∙ ap (bothOf (W.Is _)) (sym v.word-at2.ensures.0 ∙ g.enum-told2.given.1))
+    (f.0 ∙ ap (both_of (W.Is _)) (sym v.word-at2.ensures.0 ∙ g.enum-told2.given.1))
 
 returns-4 : tie.Need-returns-4
 returns-4 c =
@@ -69,7 +69,7 @@ returns-4 c =
     let colon = w.word-at.result.to in
     let q = w.word-at.ensures.1 ∙ ap (λ (x : Word). behind x (a.from + length (until 58 xs))) k.key.given.1 in
     let f = at_value bs a.from colon _ (sym w.word-at.ensures.0 ∙ k.key.given.1) q (omega (arith, t.if1.false)) in (
-      sym (f.0 ∙ ap (bothOf (W.Is _)) (sym v.word-at2.ensures.0 ∙ y.value.given.1)),
+      sym (f.0 ∙ ap (both_of (W.Is _)) (sym v.word-at2.ensures.0 ∙ y.value.given.1)),
       v.word-at2.ensures.1 ∙ ap (λ (x : Word). behind x (colon + 1 + length (until 44 (drop (colon + 1) bs)))) y.value.given.1 ∙ sym f.1,
     )
 

@@ -2,17 +2,17 @@
 use mathlib.Core.Path.{refl}
 use lib.ListN.{length}
 use borrow.Author.Tests.{eq-eqb, ne_eqb}
-use Rattle.lines.specs.Spelled.{isDash}
+use Rattle.lines.specs.Spelled.{is_dash}
 use borrow.Author.Rules.{rules}
 use Rattle.lines.proofs.attributes.is_dash.Statement.{statement}
 use Rattle.lines.proofs.attributes.is_dash.Tie as tie
 
 returns : tie.Need-returns
-unfolding isDash
+unfolding is_dash
 returns c = simp (ne_eqb (length c.before.args.bytes.now) 1 c.if1.true) refl
 
 returns-2 : tie.Need-returns-2
-unfolding isDash
+unfolding is_dash
 returns-2 c = simp (eq-eqb (length c.before.before.args.bytes.now) 1 c.before.if1.false) refl
 
 pub is-dash-spec : {M : Type 1} → statement M

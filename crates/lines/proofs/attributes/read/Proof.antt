@@ -2,7 +2,7 @@
 use mathlib.Core.Path.{◌≡◌, sym, ap, ◌∙◌}
 use mathlib.Core.List.{List, []}
 use Rattle.laws.proofs.Bools.{pick_true, pick-false}
-use Rattle.lines.specs.Spelled.{parts, attributesOf, spelled, told, kept}
+use Rattle.lines.specs.Spelled.{parts, attributes_of, spelled, told, kept}
 use Rattle.lines.specs.declared.attributes.Attribute.{Attribute}
 use borrow.Author.Rules.{rules}
 use Rattle.lines.proofs.attributes.read.Statement.{statement}
@@ -20,7 +20,7 @@ unfolding spelled
 returns-2 c =
     let t = c.before.before in
     let a = t.before.before.before.args in
-    let e : spelled a.bytes.now ≡ attributesOf (parts a.bytes.now) = pick-false _ _ _ (sym t.before.is-dash.ensures ∙ t.if1.false) in
+    let e : spelled a.bytes.now ≡ attributes_of (parts a.bytes.now) = pick-false _ _ _ (sym t.before.is-dash.ensures ∙ t.if1.false) in
     (c.several.ensures.0 ∙ sym (ap (told 0) e), c.several.ensures.1 ∙ sym (ap (λ (r : List Attribute). kept 0 r a.attrs.now) e))
 
 pub read_spec : {M : Type 1} → statement M

@@ -7,7 +7,7 @@ use borrow.Author.Rules.{rules}
 use borrow.Author.Tests.{lt-ltb, le-ltb, ltb-true, ltb-false}
 use Rattle.laws.proofs.Bools.{pick_true, pick-false}
 use Rattle.text.specs.Fields.{until}
-use Rattle.text.specs.Numbers.{illLed}
+use Rattle.text.specs.Numbers.{ill_led}
 use Rattle.text.specs.declared.numbers.Natural.TheVariants as N
 use Rattle.lines.proofs.Scanning.{goes_none, stops-there, led-none, word-is, scanned-none}
 use Rattle.lines.proofs.attributes.word_at.Statement.{statement}
@@ -43,7 +43,7 @@ returns-2 c =
     let z = ltb-false 0 (length (until a.mark (drop d.digits.result.to bs))) (sym e.before.goes_on.ensures ∙ e.if1.false) in
     let s = stops-there bs a.from a.mark d.digits.result.x d.digits.result.to d.before.before.requires.1 d.digits.ensures (omega arith) in
     scanned-none u a.from c.no-word2.result.word c.no-word2.result.to c.no-word2.ensures.0 c.no-word2.ensures.1
-    (led-none u (ap illLed (sym s.2) ∙ sym i.ill-led.ensures ∙ t.if2.true))
+    (led-none u (ap ill_led (sym s.2) ∙ sym i.ill-led.ensures ∙ t.if2.true))
 
 returns-3 : tie.Need-returns-3
 returns-3 c =
@@ -59,7 +59,7 @@ returns-3 c =
     let z = ltb-false 0 (length (until a.mark (drop d.digits.result.to bs))) (sym e.before.goes_on.ensures ∙ e.if1.false) in
     let s = stops-there bs a.from a.mark x d.digits.result.to d.before.before.requires.1 d.digits.ensures (omega arith) in
     scanned-none u a.from c.no-word3.result.word c.no-word3.result.to c.no-word3.ensures.0 c.no-word3.ensures.1
-    (word-is u (N.Is x) (ap illLed (sym s.2) ∙ sym i.ill-led.ensures ∙ f.if2.false) s.1 ∙ pick-false _ _ _ (le-ltb x (2 ^ 32) t.if3.true))
+    (word-is u (N.Is x) (ap ill_led (sym s.2) ∙ sym i.ill-led.ensures ∙ f.if2.false) s.1 ∙ pick-false _ _ _ (le-ltb x (2 ^ 32) t.if3.true))
 
 returns-4 : tie.Need-returns-4
 returns-4 c =
@@ -74,7 +74,7 @@ returns-4 c =
     let x = d.digits.result.x in
     let z = ltb-false 0 (length (until a.mark (drop d.digits.result.to bs))) (sym e.before.goes_on.ensures ∙ e.if1.false) in
     let s = stops-there bs a.from a.mark x d.digits.result.to d.before.before.requires.1 d.digits.ensures (omega arith) in
-    (sym (word-is u (N.Is x) (ap illLed (sym s.2) ∙ sym i.ill-led.ensures ∙ f.if2.false) s.1 ∙ pick_true _ _ _ (lt-ltb x (2 ^ 32) t.if3.false)), s.0)
+    (sym (word-is u (N.Is x) (ap ill_led (sym s.2) ∙ sym i.ill-led.ensures ∙ f.if2.false) s.1 ∙ pick_true _ _ _ (lt-ltb x (2 ^ 32) t.if3.false)), s.0)
 
 pub word-at-spec : {M : Type 1} → statement M
 word-at-spec =

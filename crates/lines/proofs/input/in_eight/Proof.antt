@@ -6,13 +6,13 @@ use mathlib.Core.Bool.{true}
 use lib.Dec.{eqb}
 use lib.ListN.{get_or}
 use Rattle.laws.specs.Pick.{pick}
-use Rattle.lines.specs.Reading.{newlineIn}
+use Rattle.lines.specs.Reading.{newline_in}
 use Rattle.lines.proofs.Newlines.{in-none, in-turn}
 use Rattle.lines.proofs.input.in_eight.Statement.{statement}
 use Rattle.lines.proofs.input.in_eight.Tie as tie
 
 abbrev invariant-loop : tie.invariant-loop
-invariant-loop block from found₀ i₀ found i = (i ≤ 8) × (found ≡ newlineIn block from i)
+invariant-loop block from found₀ i₀ found i = (i ≤ 8) × (found ≡ newline_in block from i)
 
 abbrev decreases-loop : tie.decreases-loop
 decreases-loop block from found₀ i₀ found i = 8 - i
@@ -34,7 +34,7 @@ returns c =
     let l = c.before.loop in
     let a = c.before.before.args in
     let e : l.i ≡ 8 = omega arith in
-    l.invariant.1 ∙ ap (newlineIn a.block.now a.from) e
+    l.invariant.1 ∙ ap (newline_in a.block.now a.from) e
 
 pub in-eight-spec : {M : Type 1} → statement M
 in-eight-spec =

@@ -2,13 +2,13 @@
 use native.Mathlib.Omega.{arith}
 use Prim.Native.Nat.{◌-◌, ◌≤◌}
 use mathlib.Core.Path.{◌≡◌, ◌∙◌}
-use Rattle.lines.specs.Reading.{newlineOf}
+use Rattle.lines.specs.Reading.{newline_of}
 use Rattle.lines.proofs.Newlines.{of-turn, of-stop, of_none}
 use Rattle.lines.proofs.input.newline.Statement.{statement}
 use Rattle.lines.proofs.input.newline.Tie as tie
 
 abbrev invariant-loop : tie.invariant-loop
-invariant-loop block from end i₀ i = (from ≤ i) × (i ≤ end) × (newlineOf block i end ≡ newlineOf block from end)
+invariant-loop block from end i₀ i = (from ≤ i) × (i ≤ end) × (newline_of block i end ≡ newline_of block from end)
 
 abbrev decreases-loop : tie.decreases-loop
 decreases-loop block from end i₀ i = end - i

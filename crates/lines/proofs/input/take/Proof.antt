@@ -2,7 +2,7 @@
 use mathlib.Core.Path.{refl}
 use native.Mathlib.Omega.{arith}
 use borrow.Author.Rules.{rules}
-use Rattle.lines.proofs.Newlines.{taken-ended, taken-open, line-is}
+use Rattle.lines.proofs.Newlines.{taken-ended, taken_open, line-is}
 use Rattle.lines.proofs.input.take.Statement.{statement}
 use Rattle.lines.proofs.input.take.Tie as tie
 
@@ -34,7 +34,7 @@ returns-2 c =
     let n = d.lesser4 in (
       (omega arith, omega arith, omega arith),
       refl,
-      taken-open p bs end.result at.result len.result b.newline.result n.result end.ensures at.ensures len.ensures b.newline.ensures.2 n.ensures c.if1.false,
+      taken_open p bs end.result at.result len.result b.newline.result n.result end.ensures at.ensures len.ensures b.newline.ensures.2 n.ensures c.if1.false,
       line-is p bs end.result at.result len.result b.newline.result n.result end.ensures at.ensures len.ensures b.newline.ensures.2 n.ensures _ c.before.copy.ensures,
     )
 

@@ -5,16 +5,16 @@ use borrow.Author.Tests.{eq-eqb, ne_eqb}
 use lib.Dec.{eqb}
 use lib.ListN.{get_or}
 use Rattle.laws.proofs.Bools.{pick_true, pick-false}
-use Rattle.listing.specs.Words.{boundsIn}
+use Rattle.listing.specs.Words.{bounds_in}
 use Rattle.listing.proofs.decode.bounds_of.Statement.{statement}
 use Rattle.listing.proofs.decode.bounds_of.Tie as tie
 
 returns : tie.Need-returns
-unfolding boundsIn
+unfolding bounds_in
 returns c = let w = c.before.args.t1 in sym (pick_true (eqb (get_or w 0 0) 0) _ _ (eq-eqb (get_or w 0 0) 0 c.if1.true))
 
 returns-2 : tie.Need-returns-2
-unfolding boundsIn
+unfolding bounds_in
 returns-2 c = let w = c.before.args.t1 in sym (pick-false (eqb (get_or w 0 0) 0) _ _ (ne_eqb (get_or w 0 0) 0 c.if1.false))
 
 pub bounds-of-spec : {M : Type 1} → statement M

@@ -6,12 +6,12 @@ use mathlib.Core.List.{List}
 use lib.Dec.{eqb}
 use lib.ListN.{get_or}
 use Rattle.sets.specs.All.{allb}
-use Rattle.listing.specs.Words.{words_of, isPoint}
+use Rattle.listing.specs.Words.{words_of, is_point}
 use Rattle.listing.proofs.decode.is_point.Statement.{statement}
 use Rattle.listing.proofs.decode.is_point.Tie as tie
 
 returns : tie.Need-returns
-unfolding isPoint
+unfolding is_point
 returns c =
     let w = c.before.before.before.before.before.before.args.t1 in
     c.same.ensures

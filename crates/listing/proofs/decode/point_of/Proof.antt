@@ -1,11 +1,11 @@
 -- `listing::decode::point_of` meets its contract. Assumes nothing.
 use borrow.Author.Rules.{rules}
-use Rattle.listing.specs.Words.{pointIn}
+use Rattle.listing.specs.Words.{point_in}
 use Rattle.listing.proofs.decode.point_of.Statement.{statement}
 use Rattle.listing.proofs.decode.point_of.Tie as tie
 
 returns : tie.Need-returns
-unfolding pointIn
+unfolding point_in
 returns c =
     let f = c.before.before.before.figures-of.ensures in
     let a = c.before.before.extreme-of.ensures in

@@ -1,6 +1,6 @@
 -- `point::signed::offset` meets its contract. Assumes nothing.
 use mathlib.Core.Path.{sym, ap, ◌∙◌}
-use Rattle.point.specs.Signed.{offsetAnswer, offsetShown}
+use Rattle.point.specs.Signed.{offset_answer, offset_shown}
 use borrow.Author.Rules.{rules}
 use Rattle.point.proofs.signed.offset.Statement.{statement}
 use Rattle.point.proofs.signed.offset.Tie as tie
@@ -10,8 +10,8 @@ returns c =
     let f = c.before.before.before in
     let a = f.before.before.args in
     c.row-offset.ensures
-    ∙ ap (offsetAnswer f.f.given.0.0.level) c.before.row_of.ensures
-    ∙ sym (ap (offsetShown a.negative) f.f.given.1)
+    ∙ ap (offset_answer f.f.given.0.0.level) c.before.row_of.ensures
+    ∙ sym (ap (offset_shown a.negative) f.f.given.1)
 
 pub offset-spec : {M : Type 1} → statement M
 offset-spec =

@@ -1,6 +1,6 @@
 -- `pooling::entries::bounded_by` meets its contract. Assumes nothing.
 use mathlib.Core.Path.{sym, ◌∙◌}
-use Rattle.pooling.proofs.Whole.{bounded-in, bounded-out}
+use Rattle.pooling.proofs.Whole.{bounded_in, bounded-out}
 use borrow.Author.Rules.{rules}
 use Rattle.pooling.proofs.entries.bounded_by.Statement.{statement}
 use Rattle.pooling.proofs.entries.bounded_by.Tie as tie
@@ -9,7 +9,7 @@ returns : tie.Need-returns
 returns c =
     let f = c.before.before.before.before in
     let a = f.before.before.args in
-    bounded-in a.many a.found f.found.given.0.0 f.found.given.1 (sym c.before.lie.ensures ∙ c.if1.true)
+    bounded_in a.many a.found f.found.given.0.0 f.found.given.1 (sym c.before.lie.ensures ∙ c.if1.true)
 
 returns-3 : tie.Need-returns-3
 returns-3 c =

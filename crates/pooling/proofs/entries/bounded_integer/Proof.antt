@@ -1,6 +1,6 @@
 -- `pooling::entries::bounded_integer` meets its contract. Assumes nothing.
 use mathlib.Core.Path.{sym, ◌∙◌}
-use Rattle.pooling.proofs.Integers.{integer-in, integer-out}
+use Rattle.pooling.proofs.Integers.{integer_in, integer-out}
 use borrow.Author.Rules.{rules}
 use Rattle.pooling.proofs.entries.bounded_integer.Statement.{statement}
 use Rattle.pooling.proofs.entries.bounded_integer.Tie as tie
@@ -9,7 +9,7 @@ returns : tie.Need-returns
 returns c =
     let f = c.before.before.before.before in
     let a = f.before.before.args in
-    integer-in a.many a.found f.found.given.0.0 f.found.given.1 (sym c.before.lie.ensures ∙ c.if1.true)
+    integer_in a.many a.found f.found.given.0.0 f.found.given.1 (sym c.before.lie.ensures ∙ c.if1.true)
 
 returns-3 : tie.Need-returns-3
 returns-3 c =

@@ -2,7 +2,7 @@
 use mathlib.Core.List.{[]}
 use native.Mathlib.Omega.{arith}
 use Rattle.point.specs.Handing.{said}
-use Rattle.pooling.proofs.Whole.{lent-law}
+use Rattle.pooling.proofs.Whole.{lent_law}
 use borrow.Author.Rules.{rules}
 use Rattle.pooling.proofs.entries.merge_entries.Statement.{statement}
 use Rattle.pooling.proofs.entries.merge_entries.Tie as tie
@@ -20,18 +20,18 @@ mul-merge-4 c =
 mul-merge-5 : tie.Need-overflow-mul-merge-5
 mul-merge-5 c =
     let s = c.before.before.before.before.before.before.before.before.before.before.before.before.before.before.before.before.before.before.before.before in
-    omega (arith, s.requires.1.posEnd, s.well-formed.1.1.1.1.1.1.1.1.1.0.1)
+    omega (arith, s.requires.1.pos_end, s.well-formed.1.1.1.1.1.1.1.1.1.0.1)
 
 mul-merge-6 : tie.Need-overflow-mul-merge-6
 mul-merge-6 c =
     let s = c.before.before.before.before.before.before.before.before.before.before.before.before.before.before.before.before.before.before.before.before.before in
-    omega (arith, s.requires.1.negEnd, s.well-formed.1.1.1.1.1.1.1.1.1.1.0.1)
+    omega (arith, s.requires.1.neg_end, s.well-formed.1.1.1.1.1.1.1.1.1.1.0.1)
 
 returns : tie.Need-returns
 returns c =
     let m = c.before.before.before.before in
     let a = m.before.before.before.before.before.before.before.before.before.before.before.before.before.before.before.before.before.before.before.before.before.before.before.before.before.args in
-    lent-law a.size a.a a.e a.abounds.now (record { sets = []; words = []; pos = a.apos.now; neg = a.aneg.now })
+    lent_law a.size a.a a.e a.abounds.now (record { sets = []; words = []; pos = a.apos.now; neg = a.aneg.now })
     a.b a.f a.bbounds.now (record { sets = []; words = []; pos = a.bpos.now; neg = a.bneg.now })
     (said m.merge.result) a.pos.now a.neg.now m.merge.new.1.1.1.1.1.1.1.1.1.0 m.merge.new.1.1.1.1.1.1.1.1.1.1.0 m.merge.ensures
 

@@ -1,7 +1,7 @@
 -- `pooling::entries::refusal_entries` meets its contract. Assumes nothing.
 use mathlib.Core.List.{[]}
 use native.Mathlib.Omega.{arith}
-use Rattle.pooling.proofs.Whole.{asked-law}
+use Rattle.pooling.proofs.Whole.{asked_law}
 use borrow.Author.Rules.{rules}
 use Rattle.pooling.proofs.entries.refusal_entries.Statement.{statement}
 use Rattle.pooling.proofs.entries.refusal_entries.Tie as tie
@@ -14,17 +14,17 @@ mul-refusal-4 c =
 mul-refusal-5 : tie.Need-overflow-mul-refusal-5
 mul-refusal-5 c =
     let s = c.before.before.before.before.before.before.before.before.before.before.before.before.before.before.before.before.before.before in
-    omega (arith, s.requires.1.posEnd, s.well-formed.1.1.1.1.1.1.1.1.1.0.1)
+    omega (arith, s.requires.1.pos_end, s.well-formed.1.1.1.1.1.1.1.1.1.0.1)
 
 mul-refusal-6 : tie.Need-overflow-mul-refusal-6
 mul-refusal-6 c =
     let s = c.before.before.before.before.before.before.before.before.before.before.before.before.before.before.before.before.before.before.before in
-    omega (arith, s.requires.1.negEnd, s.well-formed.1.1.1.1.1.1.1.1.1.1.0)
+    omega (arith, s.requires.1.neg_end, s.well-formed.1.1.1.1.1.1.1.1.1.1.0)
 
 returns : tie.Need-returns
 returns c =
     let a = c.before.before.before.before.before.before.before.before.before.before.before.before.before.before.before.before.before.before.before.before.before.args in
-    asked-law a.size a.a a.e a.abounds.now (record { sets = []; words = []; pos = a.apos.now; neg = a.aneg.now })
+    asked_law a.size a.a a.e a.abounds.now (record { sets = []; words = []; pos = a.apos.now; neg = a.aneg.now })
     a.b a.f a.bbounds.now (record { sets = []; words = []; pos = a.bpos.now; neg = a.bneg.now }) c.refusal.result c.refusal.ensures
 
 pub refusal-entries-spec : {M : Type 1} → statement M

@@ -3,7 +3,7 @@ use mathlib.Core.Path.{refl, sym, ◌∙◌}
 use Rattle.listing.specs.Listed.{Output}
 use Rattle.pooling.specs.Lists.{Source, nameless}
 use Rattle.pooling.proofs.Integers.{integer-lies}
-use Rattle.pooling.proofs.Calls.{integers-law}
+use Rattle.pooling.proofs.Calls.{integers_law}
 use borrow.Author.Rules.{rules}
 use Rattle.pooling.proofs.wholes.merge.Statement.{statement}
 use Rattle.pooling.proofs.wholes.merge.Tie as tie
@@ -35,7 +35,7 @@ returns : tie.Need-returns
 returns c =
     let v = c.before.before in
     let s = start v in
-    integers-law s.args.size s.args.row s.args.a (first s) s.args.b (second s) s.args.at (lent s) _ _
+    integers_law s.args.size s.args.row s.args.a (first s) s.args.b (second s) s.args.at (lent s) _ _
     (sym c.enum_told.given.1 ∙ v.before.integer-at.ensures) refl
 
 returns-2 : tie.Need-returns-2
@@ -43,7 +43,7 @@ returns-2 c =
     let f = c.before.before.before in
     let v = f.before.before in
     let s = start v in
-    integers-law s.args.size s.args.row s.args.a (first s) s.args.b (second s) s.args.at (lent s) _ _
+    integers_law s.args.size s.args.row s.args.a (first s) s.args.b (second s) s.args.at (lent s) _ _
     (sym f.first.given.1 ∙ v.before.integer-at.ensures) (sym c.enum-told2.given.1 ∙ v.integer-at2.ensures)
 
 returns-3 : tie.Need-returns-3
@@ -54,7 +54,7 @@ returns-3 c =
     let v = f.before.before in
     let s = start v in
     m.pool.ensures
-    ∙ integers-law s.args.size s.args.row s.args.a (first s) s.args.b (second s) s.args.at (lent s) _ _
+    ∙ integers_law s.args.size s.args.row s.args.a (first s) s.args.b (second s) s.args.at (lent s) _ _
     (sym f.first.given.1 ∙ v.before.integer-at.ensures) (sym g.second.given.1 ∙ v.integer-at2.ensures)
 
 pub merge-spec : {M : Type 1} → statement M

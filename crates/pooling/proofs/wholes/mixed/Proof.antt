@@ -1,12 +1,12 @@
 -- `pooling::wholes::mixed` meets its contract. Assumes nothing.
 use mathlib.Core.Path.{refl, sym, subst, ◌∙◌}
 use Rattle.listing.specs.declared.Entry.{Entry}
-use Rattle.whole_point.proofs.Call.{mixed-law}
-use Rattle.point.specs.Handing.{refusalBefore}
+use Rattle.whole_point.proofs.Call.{mixed_law}
+use Rattle.point.specs.Handing.{refusal_before}
 use Rattle.whole_listing.specs.Listed as WL
 use Rattle.listing.specs.Listed.{stored_at}
 use Rattle.pooling.specs.Lists.{Source, nameless}
-use Rattle.pooling.specs.Entries.{wholeIn, storedOf}
+use Rattle.pooling.specs.Entries.{whole_in, stored_of}
 use Rattle.pooling.proofs.Whole.{whole-lies}
 use Rattle.pooling.proofs.Integers.{integer-lies}
 use Rattle.pooling.proofs.Calls.{mixed-found}
@@ -30,7 +30,7 @@ refusal-entries-requires c κs =
     let f = g.before.before.before in
     let v = f.before.before in
     let s = start v in (
-      subst (λ (d : Entry). wholeIn s.args.a d s.args.abounds s.args.apos s.args.aneg) (sym c.shadow-entry.ensures)
+      subst (λ (d : Entry). whole_in s.args.a d s.args.abounds s.args.apos s.args.aneg) (sym c.shadow-entry.ensures)
           (integer-lies s.args.a (first s) f.first.given.0.0 (sym v.before.integer-at.ensures ∙ f.first.given.1)),
       whole-lies s.args.b (second s) g.second.given.0.0 (sym v.whole-at.ensures ∙ g.second.given.1),
     )
@@ -58,11 +58,11 @@ returns-3 c =
     let v = f.before.before in
     let s = start v in
     let a = s.args in
-    let y = storedOf a.b g.second.given.0.0 a.bbounds a.bpos a.bneg in
+    let y = stored_of a.b g.second.given.0.0 a.bbounds a.bpos a.bneg in
     c.beside.ensures
-    ∙ mixed-law a.size (WL.stored_at a.a f.first.given.0.0 (first s).bounds (first s).list) y n.refusal-entries.result
+    ∙ mixed_law a.size (WL.stored_at a.a f.first.given.0.0 (first s).bounds (first s).list) y n.refusal-entries.result
     (n.refusal-entries.ensures
-    ∙ (λ i. refusalBefore a.size (storedOf a.a (p.shadow-entry.ensures i) a.abounds a.apos a.aneg) y))
+    ∙ (λ i. refusal_before a.size (stored_of a.a (p.shadow-entry.ensures i) a.abounds a.apos a.aneg) y))
     ∙ mixed-found a.size a.a (first s) a.b (second s) _ _
     (sym f.first.given.1 ∙ v.before.integer-at.ensures) (sym g.second.given.1 ∙ v.whole-at.ensures)
 

@@ -6,12 +6,12 @@ use mir.Syntax.{w64}
 use mir.Val.{SFits}
 use Rattle.integers.specs.Answers.{sum_of}
 use Rattle.integers.proofs.Range.{held}
-use Rattle.point.specs.Handing.{refusalBefore}
-use Rattle.whole_point.specs.Handing.{Stored, shadowStored}
+use Rattle.point.specs.Handing.{refusal_before}
+use Rattle.whole_point.specs.Handing.{Stored, shadow_stored}
 use Rattle.listing.specs.Listed.{Output}
 use Rattle.listing.specs.declared.Entry.{Entry}
 use Rattle.pooling.specs.Lists.{said, ends, pooled}
-use Rattle.pooling.specs.Entries.{wholeIn, storedOf, whole_of, shadowEntry, renumbered}
+use Rattle.pooling.specs.Entries.{whole_in, stored_of, whole_of, shadow_entry, renumbered}
 use Rattle.pooling.specs.declared.Pooled.{Pooled}
 use Rattle.pooling.proofs.Whole.{bounds-long}
 use Rattle.pooling.proofs.Shadows.{outside-pooled, numberable, inside-pooled}
@@ -35,13 +35,13 @@ abbrev start : tie.After-shadow-entry2 → tie.Start
 start y = y.before.before.before.before.before.before.before.before.before.before.before.before
 
 abbrev Wholes : tie.Start → Entry → Entry → Type 0
-Wholes s d g = wholeIn s.args.a d s.args.abounds s.args.apos s.args.aneg × wholeIn s.args.b g s.args.bbounds s.args.bpos s.args.bneg
+Wholes s d g = whole_in s.args.a d s.args.abounds s.args.apos s.args.aneg × whole_in s.args.b g s.args.bbounds s.args.bpos s.args.bneg
 
 both-whole : (y : tie.After-shadow-entry2) → Wholes (start y) y.before.shadow-entry.result y.shadow-entry2.result
 both-whole y =
     let s = start y in
     subst (λ (d : Entry). Wholes s d y.shadow-entry2.result) (sym y.before.shadow-entry.ensures)
-    (subst (Wholes s (shadowEntry s.args.e)) (sym y.shadow-entry2.ensures) s.pre)
+    (subst (Wholes s (shadow_entry s.args.e)) (sym y.shadow-entry2.ensures) s.pre)
 
 refusal-entries-requires : tie.Need-refusal-entries-requires
 refusal-entries-requires c κs = both-whole c.before.before.before.before.before
@@ -75,8 +75,8 @@ returns c =
     outside-pooled a.size a.row a.e.bounds (first s) (second s) a.at (lent s) (sym (told n) ∙ e.enum_told.given.1)
     r.refusal-entries.result c.last-number.result
     (r.refusal-entries.ensures
-    ∙ (λ i. refusalBefore a.size (storedOf a.a (y.before.shadow-entry.ensures i) a.abounds a.apos a.aneg)
-    (storedOf a.b (y.shadow-entry2.ensures i) a.bbounds a.bpos a.bneg)))
+    ∙ (λ i. refusal_before a.size (stored_of a.a (y.before.shadow-entry.ensures i) a.abounds a.apos a.aneg)
+    (stored_of a.b (y.shadow-entry2.ensures i) a.bbounds a.bpos a.bneg)))
     c.last-number.ensures
 
 -- what pooling the shadows came to
@@ -93,14 +93,14 @@ left m =
 
 pooled-shadows : (m : tie.After-pool)
     → (let s = start (shadows m) in let a = s.args in
-    ends (said m.pool.result) (left m) ≡ pooled a.size a.row a.e.bounds (shadowStored (first s)) (shadowStored (second s)) a.at (lent s))
+    ends (said m.pool.result) (left m) ≡ pooled a.size a.row a.e.bounds (shadow_stored (first s)) (shadow_stored (second s)) a.at (lent s))
 pooled-shadows m =
     let y = shadows m in
     let s = start y in
     let a = s.args in
     m.pool.ensures
-    ∙ (λ i. pooled a.size a.row (y.before.shadow-entry.ensures i).bounds (storedOf a.a (y.before.shadow-entry.ensures i) a.abounds a.apos a.aneg)
-    (storedOf a.b (y.shadow-entry2.ensures i) a.bbounds a.bpos a.bneg) a.at (lent s))
+    ∙ (λ i. pooled a.size a.row (y.before.shadow-entry.ensures i).bounds (stored_of a.a (y.before.shadow-entry.ensures i) a.abounds a.apos a.aneg)
+    (stored_of a.b (y.shadow-entry2.ensures i) a.bbounds a.bpos a.bneg) a.at (lent s))
 
 renumber-requires : tie.Need-renumber-requires
 renumber-requires c κs =

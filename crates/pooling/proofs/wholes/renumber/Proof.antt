@@ -6,7 +6,7 @@ use native.Mathlib.Omega.{arith}
 use lib.ListN.{length, get_or, set}
 use borrow.Author.Rules.{rules}
 use Rattle.integers.proofs.Range.{held}
-use Rattle.whole_listing.specs.Inner.{withNumbers}
+use Rattle.whole_listing.specs.Inner.{with_numbers}
 use Rattle.pooling.specs.Lists.{said}
 use Rattle.pooling.specs.Entries.{Numberable, renumbered}
 use Rattle.pooling.specs.declared.Pooled.{Pooled}
@@ -47,7 +47,7 @@ returns-2 c =
     let a = s.args in (
       sym k.before.r2.given.1,
       ap (set a.words.now a.k)
-          (c.with-numbers.ensures ∙ ap (withNumbers (get_or a.words.now a.k []) a.min a.max) (held a.sum s.fits.sum))
+          (c.with-numbers.ensures ∙ ap (with_numbers (get_or a.words.now a.k []) a.min a.max) (held a.sum s.fits.sum))
           ∙ ap (λ (q : Pooled). renumbered a.k a.min a.max a.sum (said q) a.words.now) (sym k.before.r2.given.1),
     )
 

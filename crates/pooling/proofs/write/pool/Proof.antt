@@ -9,17 +9,17 @@ use lib.ListN.{length}
 use Rattle.point.specs.declared.Answer.{Answer}
 use Rattle.point.specs.Handing.{Stored, said, ended}
 use Rattle.listing.specs.Listed.{Output}
-use Rattle.pooling.specs.Entries.{storedOf}
+use Rattle.pooling.specs.Entries.{stored_of}
 use Rattle.pooling.proofs.Whole.{bounds-long}
-use Rattle.pooling.proofs.Placed.{place-says, start-le, refused-law, placeless-law, goes, accepted-law}
+use Rattle.pooling.proofs.Placed.{place-says, start-le, refused_law, placeless_law, goes, accepted_law}
 use Rattle.pooling.proofs.write.pool.Statement.{statement}
 use Rattle.pooling.proofs.write.pool.Tie as tie
 
 abbrev first : tie.Start → Stored
-first s = storedOf s.args.a s.args.e s.args.abounds s.args.apos s.args.aneg
+first s = stored_of s.args.a s.args.e s.args.abounds s.args.apos s.args.aneg
 
 abbrev second : tie.Start → Stored
-second s = storedOf s.args.b s.args.f s.args.bbounds s.args.bpos s.args.bneg
+second s = stored_of s.args.b s.args.f s.args.bbounds s.args.bpos s.args.bneg
 
 long : (s : tie.Start) → length (first s).bounds ≡ s.args.e.bounds.len
 long s = bounds-long s.args.e.bounds s.args.abounds.now s.requires.0.bounds
@@ -76,7 +76,7 @@ returns c =
     let s = start w in
     let us = m.merge-entries.new.1.1.1.1.1.1.1.1.1.1.1.0 in
     let vs = m.merge-entries.new.1.1.1.1.1.1.1.1.1.1.1.1.0 in
-    placeless-law s.args.size (first s) (second s) s.args.at s.args.row s.args.e.bounds (long s) (lent s) w.before.start_of_lem.result w.start-of2.result
+    placeless_law s.args.size (first s) (second s) s.args.at s.args.row s.args.e.bounds (long s) (lent s) w.before.start_of_lem.result w.start-of2.result
     h.has-place.result h.has-place.ensures w.before.start_of_lem.ensures w.start-of2.ensures us vs r.r2.given.0.0
     (ap (λ (k : Answer). ended (said k) (first s).bounds us vs) (sym r.r2.given.1) ∙ m.merge-entries.ensures) (not-true h.has-place.result c.if1.true)
 
@@ -124,7 +124,7 @@ returns-2 c =
     let s = start w in
     let us = m.merge-entries.new.1.1.1.1.1.1.1.1.1.1.1.0 in
     let vs = m.merge-entries.new.1.1.1.1.1.1.1.1.1.1.1.1.0 in
-    refused-law s.args.size (first s) (second s) s.args.at s.args.row s.args.e.bounds (long s) (lent s) w.before.start_of_lem.result w.start-of2.result
+    refused_law s.args.size (first s) (second s) s.args.at s.args.row s.args.e.bounds (long s) (lent s) w.before.start_of_lem.result w.start-of2.result
     h.has-place.result h.has-place.ensures w.before.start_of_lem.ensures w.start-of2.ensures us vs r.r.given.0.0
     (ap (λ (k : Answer). ended (said k) (first s).bounds us vs) (sym r.r.given.1) ∙ m.merge-entries.ensures)
 
@@ -138,7 +138,7 @@ returns-3 c =
     let s = start w in
     let us = m.merge-entries.new.1.1.1.1.1.1.1.1.1.1.1.0 in
     let vs = m.merge-entries.new.1.1.1.1.1.1.1.1.1.1.1.1.0 in
-    accepted-law s.args.size (first s) (second s) s.args.at s.args.row s.args.e.bounds (long s) (lent s) w.before.start_of_lem.result w.start-of2.result
+    accepted_law s.args.size (first s) (second s) s.args.at s.args.row s.args.e.bounds (long s) (lent s) w.before.start_of_lem.result w.start-of2.result
     h.has-place.result h.has-place.ensures w.before.start_of_lem.ensures w.start-of2.ensures us vs r.r2.given.0.0
     (ap (λ (k : Answer). ended (said k) (first s).bounds us vs) (sym r.r2.given.1) ∙ m.merge-entries.ensures) (there b)
     c.words-of.result b.cursor-behind.result c.words-of.ensures b.cursor-behind.ensures

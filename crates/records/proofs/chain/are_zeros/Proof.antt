@@ -6,14 +6,14 @@ use native.Mathlib.Omega.{arith}
 use lib.ListN.{length}
 use Rattle.sets.specs.All.{allb}
 use Rattle.sets.proofs.Alls.{allb-none, allb-more, allb-no}
-use Rattle.records.specs.Inner.{cell_at, zeroAt}
+use Rattle.records.specs.Inner.{cell_at, zero_at}
 use Rattle.records.proofs.Laid.{cell_room}
 use Rattle.records.proofs.chain.are_zeros.Statement.{statement}
 use Rattle.records.proofs.chain.are_zeros.Tie as tie
 use borrow.Author.Tests.{eq-eqb, ne_eqb}
 
 abbrev invariant-loop : tie.invariant-loop
-invariant-loop s k m i₀ i = (i ≤ m) × (allb i (zeroAt s k) ≡ true)
+invariant-loop s k m i₀ i = (i ≤ m) × (allb i (zero_at s k) ≡ true)
 
 abbrev decreases-loop : tie.decreases-loop
 decreases-loop s k m i₀ i = m - i
@@ -35,7 +35,7 @@ returns c =
     let l = c.before.before.before in
     let t = l.before.before in
     let f = c.before.cell.ensures in
-    sym (allb-no (zeroAt t.args.s.now t.args.k) t.args.m l.loop.i c.before.before.loop-test.true (ne_eqb (cell_at t.args.s.now (t.args.k + l.loop.i)) 0 (λ e. omega (arith, f, c.if1.true))))
+    sym (allb-no (zero_at t.args.s.now t.args.k) t.args.m l.loop.i c.before.before.loop-test.true (ne_eqb (cell_at t.args.s.now (t.args.k + l.loop.i)) 0 (λ e. omega (arith, f, c.if1.true))))
 
 add-i : tie.Need-overflow-add-i invariant-loop decreases-loop
 add-i c = omega arith
@@ -49,14 +49,14 @@ loop-again c =
     let t = l.before.before in
     let f = c.before.cell.ensures in
     let z : cell_at t.args.s.now (t.args.k + l.loop.i) ≡ 0 = omega (arith, f, c.if1.false) in
-    (omega (arith, c.before.before.loop-test.true), allb-more (zeroAt t.args.s.now t.args.k) l.loop.i l.loop.invariant.1 (eq-eqb _ 0 z))
+    (omega (arith, c.before.before.loop-test.true), allb-more (zero_at t.args.s.now t.args.k) l.loop.i l.loop.invariant.1 (eq-eqb _ 0 z))
 
 returns-2 : tie.Need-returns-2 invariant-loop decreases-loop
 returns-2 c =
     let l = c.before in
     let t = l.before.before in
     let e : l.loop.i ≡ t.args.m = omega (arith, c.loop-test.false) in
-    sym (subst (λ (j : ℕ). allb j (zeroAt t.args.s.now t.args.k) ≡ true) e l.loop.invariant.1)
+    sym (subst (λ (j : ℕ). allb j (zero_at t.args.s.now t.args.k) ≡ true) e l.loop.invariant.1)
 
 pub are-zeros-spec : {M : Type 1} → statement M
 are-zeros-spec =

@@ -5,14 +5,14 @@ use Prim.Native.Nat.{ℕ, ◌-◌, ◌*◌, ◌≤◌}
 use native.Mathlib.Omega.{arith}
 use Rattle.sets.specs.All.{allb}
 use Rattle.sets.proofs.Alls.{allb-none, allb-more, allb-no}
-use Rattle.records.specs.Inner.{linkHolds, link_of}
+use Rattle.records.specs.Inner.{link_holds, link_of}
 use Rattle.records.specs.Words.{word_at}
 use Rattle.records.proofs.chain.links_hold.Statement.{statement}
 use Rattle.records.proofs.chain.links_hold.Tie as tie
 use borrow.Author.Tests.{eq-eqb, ne_eqb}
 
 abbrev invariant-loop : tie.invariant-loop
-invariant-loop s info n r₀ r = (r ≤ n) × (allb r (linkHolds info n s) ≡ true)
+invariant-loop s info n r₀ r = (r ≤ n) × (allb r (link_holds info n s) ≡ true)
 
 abbrev decreases-loop : tie.decreases-loop
 decreases-loop s info n r₀ r = n - r
@@ -38,7 +38,7 @@ returns c =
     let t = l.before.before in
     let f = k.before.word-at.ensures in
     let g = k.link-of.ensures in
-    sym (allb-no (linkHolds t.args.info t.args.n t.args.s.now) t.args.n l.loop.r k.before.before.loop-test.true
+    sym (allb-no (link_holds t.args.info t.args.n t.args.s.now) t.args.n l.loop.r k.before.before.loop-test.true
     (ne_eqb (word_at t.args.s.now (l.loop.r * 32)) (link_of t.args.info t.args.n l.loop.r) (λ e. omega (arith, f, g, c.if1.true))))
 
 add_r : tie.Need-overflow-add-r invariant-loop decreases-loop
@@ -55,14 +55,14 @@ loop-again c =
     let f = k.before.word-at.ensures in
     let g = k.link-of.ensures in
     let z : word_at t.args.s.now (l.loop.r * 32) ≡ link_of t.args.info t.args.n l.loop.r = omega (arith, f, g, c.if1.false) in
-    (omega (arith, k.before.before.loop-test.true), allb-more (linkHolds t.args.info t.args.n t.args.s.now) l.loop.r l.loop.invariant.1 (eq-eqb _ _ z))
+    (omega (arith, k.before.before.loop-test.true), allb-more (link_holds t.args.info t.args.n t.args.s.now) l.loop.r l.loop.invariant.1 (eq-eqb _ _ z))
 
 returns-2 : tie.Need-returns-2 invariant-loop decreases-loop
 returns-2 c =
     let l = c.before in
     let t = l.before.before in
     let e : l.loop.r ≡ t.args.n = omega (arith, c.loop-test.false) in
-    sym (subst (λ (j : ℕ). allb j (linkHolds t.args.info t.args.n t.args.s.now) ≡ true) e l.loop.invariant.1)
+    sym (subst (λ (j : ℕ). allb j (link_holds t.args.info t.args.n t.args.s.now) ≡ true) e l.loop.invariant.1)
 
 pub links-hold-spec : {M : Type 1} → statement M
 links-hold-spec =

@@ -1,11 +1,11 @@
 -- `records::words::two_at` meets its contract. Assumes nothing.
-use Rattle.records.specs.Words.{twoAt}
+use Rattle.records.specs.Words.{two_at}
 use borrow.Author.Rules.{rules}
 use Rattle.records.proofs.words.two_at.Statement.{statement}
 use Rattle.records.proofs.words.two_at.Tie as tie
 
 returns : tie.Need-returns
-unfolding twoAt
+unfolding two_at
 returns c = search rules
 
 pub two-at-spec : {M : Type 1} → statement M

@@ -1,9 +1,9 @@
 -- `replay_batches::explicit_lines::measure_all_by` meets its contract. Assumes nothing.
 use mathlib.Core.Path.{◌∙◌}
 use borrow.Author.Rules.{rules}
-use Rattle.value_map.specs.Explicit.{explicitStore}
+use Rattle.value_map.specs.Explicit.{explicit_store}
 use Rattle.replay_state.proofs.Same.{stores-are}
-use Rattle.replay_explicit.specs.Followed.{boundsIn}
+use Rattle.replay_explicit.specs.Followed.{bounds_in}
 use Rattle.replay_explicit.proofs.Calls.{series-are}
 use Rattle.replay_batches.proofs.Calls.{takes-all-by, of-bounds-by}
 use Rattle.replay_batches.proofs.explicit_lines.measure_all_by.Statement.{statement}
@@ -22,7 +22,7 @@ returns c =
     let b = t.before.before.before in
     let a = b.before.before.before.before.before.before.args in
     c.batched.ensures
-    ∙ takes-all-by (explicitStore (boundsIn a.t1 a.bounds.now)) a.t1 _ _ _ _ _ _ (stores-are t.sets.ensures e.entries.ensures o.order.ensures)
+    ∙ takes-all-by (explicit_store (bounds_in a.t1 a.bounds.now)) a.t1 _ _ _ _ _ _ (stores-are t.sets.ensures e.entries.ensures o.order.ensures)
     (series-are g.totals.ensures v.extremes.ensures x.counts.ensures) w.floats-in.ensures
     _ (m.measure-all-by.ensures ∙ of-bounds-by b.bounds-in.ensures _ _ _ _)
 

@@ -1,7 +1,7 @@
 -- `replay_batches::exponential_lines::measure_all_by` meets its contract. Assumes nothing.
 use mathlib.Core.Path.{◌∙◌}
 use borrow.Author.Rules.{rules}
-use Rattle.value_map.specs.Exponential.{exponentialStore}
+use Rattle.value_map.specs.Exponential.{exponential_store}
 use Rattle.replay_state.proofs.Same.{stores-are}
 use Rattle.replay_exponential.proofs.Calls.{same-cells}
 use Rattle.replay_batches.proofs.Calls.{takes-all-by}
@@ -21,7 +21,7 @@ returns c =
     let t = e.before.before in
     let a = t.before.before.before.before.before.before.before.args in
     c.batched.ensures
-    ∙ takes-all-by (exponentialStore a.t1.size a.t1.top) a.t1 _ _ _ _ _ _ (stores-are t.sets.ensures e.entries.ensures o.order.ensures)
+    ∙ takes-all-by (exponential_store a.t1.size a.t1.top) a.t1 _ _ _ _ _ _ (stores-are t.sets.ensures e.entries.ensures o.order.ensures)
     (same-cells g.figures.ensures v.extremes.ensures x.counts.ensures y.counts2.ensures) w.floats-in.ensures
     _ m.measure-all-by.ensures
 

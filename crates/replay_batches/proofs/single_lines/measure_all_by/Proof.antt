@@ -1,10 +1,10 @@
 -- `replay_batches::single_lines::measure_all_by` meets its contract. Assumes nothing.
 use mathlib.Core.Path.{◌∙◌}
 use borrow.Author.Rules.{rules}
-use Rattle.singles.specs.Stores.{singleStore}
+use Rattle.singles.specs.Stores.{single_store}
 use Rattle.replay_state.proofs.Same.{stores-are}
 use Rattle.replay_singles.specs.Followed.{kind_of}
-use Rattle.replay_batches.proofs.Calls.{takes-all-by, of-aggregation-by}
+use Rattle.replay_batches.proofs.Calls.{takes-all-by, of_aggregation-by}
 use Rattle.replay_batches.proofs.single_lines.measure_all_by.Statement.{statement}
 use Rattle.replay_batches.proofs.single_lines.measure_all_by.Tie as tie
 
@@ -19,9 +19,9 @@ returns c =
     let y = t.before.before.before in
     let a = y.before.before.before.before.args in
     c.batched.ensures
-    ∙ takes-all-by (singleStore (kind_of a.t1)) a.t1 _ _ _ _ _ _ (stores-are t.sets.ensures e.entries.ensures o.order.ensures)
+    ∙ takes-all-by (single_store (kind_of a.t1)) a.t1 _ _ _ _ _ _ (stores-are t.sets.ensures e.entries.ensures o.order.ensures)
     g.values.ensures w.floats-in.ensures
-    _ (m.measure-all-by.ensures ∙ of-aggregation-by y.aggregation.ensures _ _ _ _)
+    _ (m.measure-all-by.ensures ∙ of_aggregation-by y.aggregation.ensures _ _ _ _)
 
 pub measure-all-by-spec : {M : Type 1} → statement M
 measure-all-by-spec =

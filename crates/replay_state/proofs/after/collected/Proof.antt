@@ -2,7 +2,7 @@
 use mathlib.Core.Path.{sym, ap, ◌∙◌}
 use Rattle.collecting.specs.Collected.{said}
 use Rattle.collecting.specs.declared.Answer.{Answer}
-use Rattle.replay_state.specs.After.{collectedBy}
+use Rattle.replay_state.specs.After.{collected_by}
 use borrow.Author.Rules.{rules}
 use Rattle.replay_state.proofs.after.collected.Statement.{statement}
 use Rattle.replay_state.proofs.after.collected.Tie as tie
@@ -11,13 +11,13 @@ returns : tie.Need-returns
 returns c =
     let d = c.before.before in
     let a = d.before.before.args in
-    c.refused.ensures ∙ sym (ap (λ (x : Answer). collectedBy (said x) a.dir a.s) d.answer.given.1)
+    c.refused.ensures ∙ sym (ap (λ (x : Answer). collected_by (said x) a.dir a.s) d.answer.given.1)
 
 returns-2 : tie.Need-returns-2
 returns-2 c =
     let d = c.before.before in
     let a = d.before.before.args in
-    c.turned.ensures ∙ sym (ap (λ (x : Answer). collectedBy (said x) a.dir a.s) d.answer2.given.1)
+    c.turned.ensures ∙ sym (ap (λ (x : Answer). collected_by (said x) a.dir a.s) d.answer2.given.1)
 
 pub collected-spec : {M : Type 1} → statement M
 collected-spec =

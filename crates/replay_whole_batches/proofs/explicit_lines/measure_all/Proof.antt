@@ -1,9 +1,9 @@
 -- `replay_whole_batches::explicit_lines::measure_all` meets its contract. Assumes nothing.
 use mathlib.Core.Path.{◌∙◌}
 use borrow.Author.Rules.{rules}
-use Rattle.whole_map.specs.Explicit.{explicitWholes}
+use Rattle.whole_map.specs.Explicit.{explicit_wholes}
 use Rattle.replay_state.proofs.Same.{stores-are}
-use Rattle.replay_explicit.specs.Followed.{boundsIn}
+use Rattle.replay_explicit.specs.Followed.{bounds_in}
 use Rattle.replay_explicit_wholes.proofs.Calls.{series-are}
 use Rattle.replay_batches.proofs.Calls.{takes_all}
 use Rattle.replay_whole_batches.proofs.Bounds.{of-bounds}
@@ -25,7 +25,7 @@ returns c =
     let b = t.before.before.before in
     let a = b.before.before.before.before.before.before.args in
     c.batched.ensures
-    ∙ takes_all (explicitWholes (boundsIn a.t1 a.bounds.now) a.t1.sums) a.t1 _ _ _ _ _ _ (stores-are t.sets.ensures e.entries.ensures o.order.ensures)
+    ∙ takes_all (explicit_wholes (bounds_in a.t1 a.bounds.now) a.t1.sums) a.t1 _ _ _ _ _ _ (stores-are t.sets.ensures e.entries.ensures o.order.ensures)
     (series-are g.totals.ensures v.wholes.ensures x.counts.ensures) w.integers-in.ensures
     h.given.result.now _ k.keys.result.now h.given.ensures k.keys.ensures _ (m.measure-all.ensures ∙ of-bounds b.bounds-in.ensures _ _ _ _ _ _)
 

@@ -1,7 +1,7 @@
 -- `replay_whole_batches::exponential_lines::measure_all_by` meets its contract. Assumes nothing.
 use mathlib.Core.Path.{◌∙◌}
 use borrow.Author.Rules.{rules}
-use Rattle.whole_map.specs.Exponential.{exponentialWholes}
+use Rattle.whole_map.specs.Exponential.{exponential_wholes}
 use Rattle.replay_state.proofs.Same.{stores-are}
 use Rattle.replay_exponential_wholes.proofs.Calls.{same-cells}
 use Rattle.replay_batches.proofs.Calls.{takes-all-by}
@@ -21,7 +21,7 @@ returns c =
     let t = e.before.before in
     let a = t.before.before.before.before.before.before.args in
     c.batched.ensures
-    ∙ takes-all-by (exponentialWholes a.t1.size a.t1.top a.t1.sums) a.t1 _ _ _ _ _ _ (stores-are t.sets.ensures e.entries.ensures o.order.ensures)
+    ∙ takes-all-by (exponential_wholes a.t1.size a.t1.top a.t1.sums) a.t1 _ _ _ _ _ _ (stores-are t.sets.ensures e.entries.ensures o.order.ensures)
     (same-cells g.figures.ensures v.wholes.ensures x.counts.ensures y.counts2.ensures) w.integers-in.ensures
     _ m.measure-all-by.ensures
 

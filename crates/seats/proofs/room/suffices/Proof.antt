@@ -3,7 +3,7 @@ use borrow.Author.Rules.{rules}
 use Prim.Native.Nat.{◌+◌, min}
 use mathlib.Core.Path.{ap, ◌∙◌}
 use lib.Dec.{leb}
-use Rattle.seats.proofs.Least.{all-suffice}
+use Rattle.seats.proofs.Least.{all_suffice}
 use Rattle.seats.proofs.room.suffices.Statement.{statement}
 use Rattle.seats.proofs.room.suffices.Tie as tie
 
@@ -15,7 +15,7 @@ returns c =
     let a = rest.before.args in
     c.suffices.ensures
     ∙ ap (leb (a.limit + 2)) (least.lesser3.ensures ∙ (λ i. min (first.lesser2.ensures i) (rest.lesser.ensures i)))
-    ∙ all-suffice (a.limit + 2) a.sets a.entries a.order a.cells
+    ∙ all_suffice (a.limit + 2) a.sets a.entries a.order a.cells
 
 pub suffices-spec : {M : Type 1} → statement M
 suffices-spec =

@@ -9,7 +9,7 @@ use mathlib.Core.List.{List}
 use native.Mathlib.Omega.{arith}
 use native.Mathlib.Nat.{eq-or-lt_of_le}
 use Rattle.tally.specs.Sets.{cmp}
-use Rattle.sets.specs.Rows.{size, setOf, below, soundb}
+use Rattle.sets.specs.Rows.{size, set_of, below, soundb}
 use Rattle.sets.proofs.Keyed.{sound-some, sound-few}
 use Rattle.sets.proofs.Partings.{part-shorter, part-longer, part_same, part_low, part-high, keys-low, keys-longer, after-many, after-high, after_same, after-low}
 use Rattle.sets.proofs.set_row.after.Statement.{statement}
@@ -19,8 +19,8 @@ abbrev at : tie.After-parting → tie.Start
 at q = q.before.before.before.before
 
 -- b ends no later than a
-no : (a b : List ℕ) → size b ≤ size a → (size b < size a → cmp (setOf a) (setOf b) ≡ Ordering.gt) → (size a ≤ size b → cmp (setOf a) (setOf b) ≡ Ordering.eq)
-    → false ≡ (soundb b && below (cmp (setOf a) (setOf b)))
+no : (a b : List ℕ) → size b ≤ size a → (size b < size a → cmp (set_of a) (set_of b) ≡ Ordering.gt) → (size a ≤ size b → cmp (set_of a) (set_of b) ≡ Ordering.eq)
+    → false ≡ (soundb b && below (cmp (set_of a) (set_of b)))
 no a b h f g = ⊎_elim (λ e. after_same a b (g (omega (arith, e)))) (λ l. after-high a b (f l)) (eq-or-lt_of_le h)
 
 returns : tie.Need-returns

@@ -10,8 +10,8 @@ returns c =
     let s = c.before.before in
     follow-first s.args.i (soundb s.args.b.now) _ c.before.if1.true _ c.sound.ensures
 
-after-requires : tie.Need-after-requires
-after-requires c κs = c.before.requires c.if1.false
+after_requires : tie.Need-after-requires
+after_requires c κs = c.before.requires c.if1.false
 
 returns-2 : tie.Need-returns-2
 returns-2 c =
@@ -19,4 +19,4 @@ returns-2 c =
     follow-next s.args.i (soundb s.args.b.now) _ c.before.if1.false _ c.after.ensures
 
 pub follows-spec : {M : Type 1} → statement M
-follows-spec = tie.close (tie.spec (λ c κs. search rules) returns after-requires returns-2)
+follows-spec = tie.close (tie.spec (λ c κs. search rules) returns after_requires returns-2)

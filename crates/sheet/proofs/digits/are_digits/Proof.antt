@@ -4,13 +4,13 @@ use mathlib.Core.Path.{◌≡◌, refl, sym, ◌∙◌}
 use native.Mathlib.Omega.{arith}
 use lib.ListN.{length, drop}
 use Rattle.laws.specs.Tests.{all}
-use Rattle.sheet.specs.Digits.{isDigit}
+use Rattle.sheet.specs.Digits.{is_digit}
 use Rattle.sheet.proofs.Hex.{all-turn, all-no, all_end}
 use Rattle.sheet.proofs.digits.are_digits.Statement.{statement}
 use Rattle.sheet.proofs.digits.are_digits.Tie as tie
 
 abbrev invariant-loop : tie.invariant-loop
-invariant-loop bytes i₀ i = (i ≤ length bytes) × (all isDigit (drop i bytes) ≡ all isDigit bytes)
+invariant-loop bytes i₀ i = (i ≤ length bytes) × (all is_digit (drop i bytes) ≡ all is_digit bytes)
 
 abbrev decreases-loop : tie.decreases-loop
 decreases-loop bytes i₀ i = length bytes - i

@@ -4,14 +4,14 @@ use mathlib.Core.Path.{◌≡◌, refl, sym, ◌∙◌}
 use native.Mathlib.Omega.{arith}
 use lib.ListN.{length, drop}
 use Rattle.lines.specs.Gathered.{◌behind◌}
-use Rattle.sheet.specs.Digits.{hexOf}
+use Rattle.sheet.specs.Digits.{hex_of}
 use Rattle.sheet.proofs.Hex.{hex-turn, hex-end}
 use Rattle.sheet.proofs.digits.digits_of.Statement.{statement}
 use Rattle.sheet.proofs.digits.digits_of.Tie as tie
 
 abbrev invariant-loop : tie.invariant-loop
 invariant-loop text₀ n bytes m₀ i₀ text m i =
-    (i ≤ length bytes) × ((hexOf (drop i bytes) behind record { count = m; block = text }) ≡ (hexOf bytes behind record { count = n; block = text₀ }))
+    (i ≤ length bytes) × ((hex_of (drop i bytes) behind record { count = m; block = text }) ≡ (hex_of bytes behind record { count = n; block = text₀ }))
 
 abbrev decreases-loop : tie.decreases-loop
 decreases-loop text₀ n bytes m₀ i₀ text m i = length bytes - i

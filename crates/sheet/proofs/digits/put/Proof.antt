@@ -4,14 +4,14 @@ use mathlib.Core.Path.{◌≡◌, sym, ap, ◌∙◌}
 use native.Mathlib.Omega.{arith}
 use lib.ListN.{length, drop}
 use lib.Seq.{sets}
-use Rattle.sheet.specs.Digits.{bytesIn}
-use Rattle.sheet.proofs.Hex.{record-length, record-digit, put-start, put-turn, put-end}
+use Rattle.sheet.specs.Digits.{bytes_in}
+use Rattle.sheet.proofs.Hex.{record-length, record_digit, put-start, put-turn, put-end}
 use Rattle.sheet.proofs.digits.put.Statement.{statement}
 use Rattle.sheet.proofs.digits.put.Tie as tie
 
 abbrev invariant-loop : tie.invariant-loop
 invariant-loop sheet₀ at line from i₀ sheet i =
-    (i ≤ 32) × (length line ≡ 64) × (from ≤ 233472) × (sets sheet (from + i) (bytesIn (drop (2 * i) line)) ≡ sets sheet₀ from (bytesIn line))
+    (i ≤ 32) × (length line ≡ 64) × (from ≤ 233472) × (sets sheet (from + i) (bytes_in (drop (2 * i) line)) ≡ sets sheet₀ from (bytes_in line))
 
 abbrev decreases-loop : tie.decreases-loop
 decreases-loop sheet₀ at line from i₀ sheet i = 32 - i
@@ -31,7 +31,7 @@ byte-of-requires c κs =
     let l = t.before.loop in
     let s = t.before.before.before.before in
     let bs = s.args.line.now in
-    (record-digit bs s.requires (2 * l.i) (omega arith), record-digit bs s.requires (2 * l.i + 1) (omega arith))
+    (record_digit bs s.requires (2 * l.i) (omega arith), record_digit bs s.requires (2 * l.i + 1) (omega arith))
 
 loop-again : tie.Need-loop-preserved invariant-loop decreases-loop
 loop-again c =
@@ -49,7 +49,7 @@ returns c =
     let bs = a.line.now in (
       omega (arith, r.lesser.ensures),
       sym (put-end bs l.i r.lesser.result l.sheet (omega arith)) ∙ l.invariant.3
-          ∙ ap (λ k. sets a.sheet.now k (bytesIn bs)) r.lesser.ensures,
+          ∙ ap (λ k. sets a.sheet.now k (bytes_in bs)) r.lesser.ensures,
     )
 
 pub put_spec : {M : Type 1} → statement M

@@ -5,14 +5,14 @@ use native.Mathlib.Omega.{arith}
 use lib.ListN.{take, drop}
 use Rattle.lines.specs.Gathered.{◌behind◌}
 use Rattle.lines.proofs.Gathering.{spelt}
-use Rattle.sheet.specs.Digits.{recordLine, recordLines}
+use Rattle.sheet.specs.Digits.{record_line, record_lines}
 use Rattle.sheet.proofs.Hex.{lines_from, lines_start, lines-turn, lines_end}
 use Rattle.sheet.proofs.digits.record_lines.Statement.{statement}
 use Rattle.sheet.proofs.digits.record_lines.Tie as tie
 
 abbrev invariant-loop : tie.invariant-loop
 invariant-loop text₀ n bytes many m₀ k₀ text m k =
-    (k ≤ many) × ((lines_from many k bytes behind record { count = m; block = text }) ≡ (recordLines many bytes behind record { count = n; block = text₀ }))
+    (k ≤ many) × ((lines_from many k bytes behind record { count = m; block = text }) ≡ (record_lines many bytes behind record { count = n; block = text₀ }))
 
 abbrev decreases-loop : tie.decreases-loop
 decreases-loop text₀ n bytes many m₀ k₀ text m k = many - k
@@ -29,7 +29,7 @@ loop-again c =
     let l = t.before.loop in
     let bs = t.before.before.before.args.bytes.now in
     let e : l.k * 32 + 32 - l.k * 32 ≡ 32 = omega arith in
-    let f = spelt (ap (λ (j : ℕ). recordLine (take j (drop (l.k * 32) bs))) e) _ c.record-line.ensures in
+    let f = spelt (ap (λ (j : ℕ). record_line (take j (drop (l.k * 32) bs))) e) _ c.record-line.ensures in
     (omega arith, lines-turn _ l.k bs _ t.loop-test.true f ∙ l.invariant.1)
 
 returns : tie.Need-returns invariant-loop decreases-loop

@@ -3,7 +3,7 @@ use mathlib.Core.Path.{sym, ◌∙◌}
 use borrow.Author.Rules.{rules}
 use borrow.Author.Tests.{not-true, not-false}
 use Rattle.pooling.specs.Lists.{Source, source}
-use Rattle.sheet.proofs.Sheets.{input-ends, no_record, a-record}
+use Rattle.sheet.proofs.Sheets.{input-ends, no_record, a_record}
 use Rattle.sheet.proofs.reading.follow.Statement.{statement}
 use Rattle.sheet.proofs.reading.follow.Tie as tie
 
@@ -45,7 +45,7 @@ returns-3 c =
     let i = e.before in
     let s = i.before.before.before in
     let a = s.args in
-    a-record a.st a.line.now a.over a.n a.text.now (listed s) a.sheet.now
+    a_record a.st a.line.now a.over a.n a.text.now (listed s) a.sheet.now
     (sym i.is_none.ensures ∙ e.if1.false) (sym k.is-record.ensures ∙ not-false _ l.if2.false) p.put.result
     p.put.ensures.0 _ p.put.ensures.1 _ c.go_on.ensures
 

@@ -4,12 +4,12 @@ use borrow.Author.Rules.{rules}
 use Rattle.lines.specs.Gathered.{waiting}
 use Rattle.lines.specs.Written.{decimal}
 use Rattle.printing.proofs.Putting.{a-line, a-field, no_field}
-use Rattle.sheet.specs.Shown.{refusalLine}
+use Rattle.sheet.specs.Shown.{refusal_line}
 use Rattle.sheet.proofs.writing.refusal.Statement.{statement}
 use Rattle.sheet.proofs.writing.refusal.Tie as tie
 
 returns : tie.Need-returns
-unfolding refusalLine
+unfolding refusal_line
 returns c =
     let a = c.before.before.before.before.before.before.args in
     a-line (33 ∷ []) (decimal a.no ∷ []) (waiting a.n a.text) c.before.before.before.before.byte.ensures

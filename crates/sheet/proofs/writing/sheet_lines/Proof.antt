@@ -8,13 +8,13 @@ use Rattle.lines.specs.Written.{decimal}
 use Rattle.lines.proofs.Gathering.{then}
 use Rattle.printing.specs.Fields.{line}
 use Rattle.printing.proofs.Putting.{a-line, a-field, no_field}
-use Rattle.sheet.specs.Digits.{recordLines}
-use Rattle.sheet.specs.Shown.{sheetLines}
+use Rattle.sheet.specs.Digits.{record_lines}
+use Rattle.sheet.specs.Shown.{sheet_lines}
 use Rattle.sheet.proofs.writing.sheet_lines.Statement.{statement}
 use Rattle.sheet.proofs.writing.sheet_lines.Tie as tie
 
 returns : tie.Need-returns
-unfolding sheetLines
+unfolding sheet_lines
 returns c =
     let e = c.before.before in
     let d = e.before.before in
@@ -22,7 +22,7 @@ returns c =
     let a = b.before.before.before.args in
     let bs = a.bytes.now in
     let n = length bs / 32 in
-    then (line ((115 ∷ []) ∷ decimal n ∷ [])) (recordLines n bs) (waiting a.n a.text)
+    then (line ((115 ∷ []) ∷ decimal n ∷ [])) (record_lines n bs) (waiting a.n a.text)
     (a-line (115 ∷ []) (decimal n ∷ []) (waiting a.n a.text) b.byte.ensures
     (a-field 32 _ (decimal n) [] d.number.ensures (no_field 32 _)) e.byte2.ensures)
     c.record-lines.ensures

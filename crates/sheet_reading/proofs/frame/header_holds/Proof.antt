@@ -5,27 +5,27 @@ use native.Mathlib.Omega.{arith}
 use lib.Dec.{eqb}
 use lib.ListN.{length}
 use Rattle.records.proofs.Laid.{place-room}
-use Rattle.sheets.specs.Sheet.{infoIn}
-use Rattle.sheet_reading.proofs.FrameLaws.{header-form, header-delta, header-many, header-rest}
+use Rattle.sheets.specs.Sheet.{info_in}
+use Rattle.sheet_reading.proofs.FrameLaws.{header_form, header_delta, header-many, header-rest}
 use Rattle.sheet_reading.proofs.frame.header_holds.Statement.{statement}
 use Rattle.sheet_reading.proofs.frame.header_holds.Tie as tie
 
 returns : tie.Need-returns
-returns c = let t = c.before.before in header-form t.args.s.now (λ e. omega (arith, t.requires.1))
+returns c = let t = c.before.before in header_form t.args.s.now (λ e. omega (arith, t.requires.1))
 
 returns-2 : tie.Need-returns-2
 returns-2 c =
     let t = c.before.before.before in
     let i = t.requires.1 in
-    let a : infoIn t.args.s.now % 256 ≡ 0 = omega (arith, i, c.before.if1.false) in
-    header-delta t.args.s.now a (omega (arith, i, c.if2.true))
+    let a : info_in t.args.s.now % 256 ≡ 0 = omega (arith, i, c.before.if1.false) in
+    header_delta t.args.s.now a (omega (arith, i, c.if2.true))
 
 returns-3 : tie.Need-returns-3
 returns-3 c =
     let t = c.before.before.before.before in
     let i = t.requires.1 in
-    let a : infoIn t.args.s.now % 256 ≡ 0 = omega (arith, i, c.before.before.if1.false) in
-    let b : infoIn t.args.s.now / 256 % 256 ≤ 1 = omega (arith, i, c.before.if2.false) in
+    let a : info_in t.args.s.now % 256 ≡ 0 = omega (arith, i, c.before.before.if1.false) in
+    let b : info_in t.args.s.now / 256 % 256 ≤ 1 = omega (arith, i, c.before.if2.false) in
     header-many t.args.s.now a b (omega (arith, i, c.if3.true))
 
 cell-requires : tie.Need-cell-requires
@@ -36,9 +36,9 @@ returns-4 : tie.Need-returns-4
 returns-4 c =
     let t = c.before.before.before.before.before in
     let i = t.requires.1 in
-    let a : infoIn t.args.s.now % 256 ≡ 0 = omega (arith, i, c.before.before.before.if1.false) in
-    let b : infoIn t.args.s.now / 256 % 256 ≤ 1 = omega (arith, i, c.before.before.if2.false) in
-    let d : infoIn t.args.s.now / 65536 ≤ 64 = omega (arith, i, c.before.if3.false) in
+    let a : info_in t.args.s.now % 256 ≡ 0 = omega (arith, i, c.before.before.before.if1.false) in
+    let b : info_in t.args.s.now / 256 % 256 ≤ 1 = omega (arith, i, c.before.before.if2.false) in
+    let d : info_in t.args.s.now / 65536 ≤ 64 = omega (arith, i, c.before.if3.false) in
     ap (λ (x : ℕ). eqb x 0) c.cell.ensures ∙ header-rest t.args.s.now a b d
 
 pub header-holds-spec : {M : Type 1} → statement M

@@ -8,8 +8,8 @@ use native.Mathlib.Omega.{arith}
 use lib.ListN.{length}
 use Rattle.records.specs.Records.{cells}
 use Rattle.records.specs.Inner.{run}
-use Rattle.sheets.specs.Inner.{rowFine, headFine}
-use Rattle.sheet_reading.specs.Inner.{restHolds, sizesOf, words_in, Few}
+use Rattle.sheets.specs.Inner.{row_fine, head_fine}
+use Rattle.sheet_reading.specs.Inner.{rest_holds, sizes_of, words_in, Few}
 use Rattle.sheet_reading.proofs.EntryLaws.{within-there}
 use Rattle.sheet_reading.proofs.JudgeLaws.{bad-short, bad-row, bad-head, bad-long, entry-is-rest}
 use Rattle.sheet_reading.proofs.SizeLaws.{head_few}
@@ -33,7 +33,7 @@ returns-2 c =
     let e1 = r.before in
     let t = e1.before.before in
     bad-row t.args.s.now t.args.k (omega (arith, t.requires.0, t.requires.1, e1.if1.false))
-    (ap rowFine (sym r.row_at.ensures) ∙ sym f.row_fine.ensures ∙ not-true _ c.if2.true)
+    (ap row_fine (sym r.row_at.ensures) ∙ sym f.row_fine.ensures ∙ not-true _ c.if2.true)
 
 head-at-requires : tie.Need-head-at-requires
 head-at-requires c κs =
@@ -51,8 +51,8 @@ returns-3 c =
     let e1 = r.before in
     let t = e1.before.before in
     bad-head t.args.s.now t.args.k (omega (arith, t.requires.0, t.requires.1, e1.if1.false))
-    (ap rowFine (sym r.row_at.ensures) ∙ sym f.row_fine.ensures ∙ not-false _ e2.if2.false)
-    (ap headFine (sym h.head_at.ensures) ∙ sym g.head-fine.ensures ∙ not-true _ c.if3.true)
+    (ap row_fine (sym r.row_at.ensures) ∙ sym f.row_fine.ensures ∙ not-false _ e2.if2.false)
+    (ap head_fine (sym h.head_at.ensures) ∙ sym g.head-fine.ensures ∙ not-true _ c.if3.true)
 
 sizes-of-requires : tie.Need-sizes-of-requires
 sizes-of-requires c κs = sym c.before.head-fine.ensures ∙ not-false _ c.if3.false
@@ -77,11 +77,11 @@ returns-4 c =
     let t = e1.before.before in
     let s = t.args.s.now in
     let k = t.args.k in
-    let q : n.words-in.result ≡ words_in (sizesOf (run s (k + 9) 12)) =
-    n.words-in.ensures ∙ ap words_in (z.sizes-of.ensures ∙ ap sizesOf h.head_at.ensures) in
+    let q : n.words-in.result ≡ words_in (sizes_of (run s (k + 9) 12)) =
+    n.words-in.ensures ∙ ap words_in (z.sizes-of.ensures ∙ ap sizes_of h.head_at.ensures) in
     bad-long s k (omega (arith, t.requires.0, t.requires.1, e1.if1.false))
-    (ap rowFine (sym r.row_at.ensures) ∙ sym f.row_fine.ensures ∙ not-false _ e2.if2.false)
-    (ap headFine (sym h.head_at.ensures) ∙ sym g.head-fine.ensures ∙ not-false _ e3.if3.false)
+    (ap row_fine (sym r.row_at.ensures) ∙ sym f.row_fine.ensures ∙ not-false _ e2.if2.false)
+    (ap head_fine (sym h.head_at.ensures) ∙ sym g.head-fine.ensures ∙ not-false _ e3.if3.false)
     (subst (λ (x : ℕ). length (cells s) - k < x) q (omega (arith, t.requires.0, c.if4.true)))
 
 rest-holds-requires : tie.Need-rest-holds-requires
@@ -115,13 +115,13 @@ returns-5 c =
     let t = e1.before.before in
     let s = t.args.s.now in
     let k = t.args.k in
-    let q : n.words-in.result ≡ words_in (sizesOf (run s (k + 9) 12)) =
-    n.words-in.ensures ∙ ap words_in (z.sizes-of.ensures ∙ ap sizesOf h.head_at.ensures) in
+    let q : n.words-in.result ≡ words_in (sizes_of (run s (k + 9) 12)) =
+    n.words-in.ensures ∙ ap words_in (z.sizes-of.ensures ∙ ap sizes_of h.head_at.ensures) in
     c.rest-holds.ensures
-    ∙ ap (λ (w : List ℕ). restHolds s w k) h.head_at.ensures
+    ∙ ap (λ (w : List ℕ). rest_holds s w k) h.head_at.ensures
     ∙ entry-is-rest s k (omega (arith, t.requires.0, t.requires.1, e1.if1.false))
-    (ap rowFine (sym r.row_at.ensures) ∙ sym f.row_fine.ensures ∙ not-false _ e2.if2.false)
-    (ap headFine (sym h.head_at.ensures) ∙ sym g.head-fine.ensures ∙ not-false _ e3.if3.false)
+    (ap row_fine (sym r.row_at.ensures) ∙ sym f.row_fine.ensures ∙ not-false _ e2.if2.false)
+    (ap head_fine (sym h.head_at.ensures) ∙ sym g.head-fine.ensures ∙ not-false _ e3.if3.false)
     (subst (λ (x : ℕ). k + x ≤ length (cells s)) q (omega (arith, t.requires.0, t.requires.1, e4.if4.false)))
 
 pub entry-holds-spec : {M : Type 1} → statement M

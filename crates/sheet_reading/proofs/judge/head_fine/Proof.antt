@@ -8,10 +8,10 @@ use mir.Val.{Fits}
 use lib.Dec.{leb}
 use lib.ListN.{get_or}
 use Rattle.point.specs.declared.Point.{Point}
-use Rattle.listing.specs.Words.{pointIn}
-use Rattle.listing.specs.Listed.{posLen, negLen}
+use Rattle.listing.specs.Words.{point_in}
+use Rattle.listing.specs.Listed.{pos_len, neg_len}
 use Rattle.listing.specs.declared.Span.{Span}
-use Rattle.sheets.specs.Entries.{posIn, negIn}
+use Rattle.sheets.specs.Entries.{pos_in, neg_in}
 use Rattle.sheet_reading.proofs.JudgeLaws.{head-no, head-start, head-bounds, head-pos, head-rest, pos-wide}
 use Rattle.sheet_reading.proofs.judge.head_fine.Statement.{statement}
 use Rattle.sheet_reading.proofs.judge.head_fine.Tie as tie
@@ -45,8 +45,8 @@ pos-len-requires c κs =
     let b = e3.before.before.before.before in
     let w = b.before.before.before.args.w in
     let g : Fits w64 (get_or w 5 0) = search rules in
-    subst (λ (p : Point). posLen p.figures b.bounds_of.result < 2 ^ 64) (sym c.point-of.ensures)
-    (subst (λ (x : Span). posLen (pointIn w).figures x < 2 ^ 64) (sym b.bounds_of.ensures)
+    subst (λ (p : Point). pos_len p.figures b.bounds_of.result < 2 ^ 64) (sym c.point-of.ensures)
+    (subst (λ (x : Span). pos_len (point_in w).figures x < 2 ^ 64) (sym b.bounds_of.ensures)
     (pos-wide w g.fits (subst (λ (x : Span). x.len ≤ 159) b.bounds_of.ensures e3.if3.false)))
 
 returns-4 : tie.Need-returns-4
@@ -59,8 +59,8 @@ returns-4 c =
     let e1 = b.before in
     let p = e1.before in
     let w = p.before.args.w in
-    let n : q.pos-len.result ≡ posIn w =
-    q.pos-len.ensures ∙ ap₂ (λ (x : Point) (y : Span). posLen x.figures y) o.point-of.ensures b.bounds_of.ensures in
+    let n : q.pos-len.result ≡ pos_in w =
+    q.pos-len.ensures ∙ ap₂ (λ (x : Point) (y : Span). pos_len x.figures y) o.point-of.ensures b.bounds_of.ensures in
     head-pos w (sym p.is-point.ensures ∙ not-false _ e1.if1.false)
     (ap (λ (x : Span). x.start) (sym b.bounds_of.ensures) ∙ e2.if2.false)
     (subst (λ (x : Span). x.len ≤ 159) b.bounds_of.ensures e3.if3.false)
@@ -77,9 +77,9 @@ returns-5 c =
     let e1 = b.before in
     let p = e1.before in
     let w = p.before.args.w in
-    let n : q.pos-len.result ≡ posIn w =
-    q.pos-len.ensures ∙ ap₂ (λ (x : Point) (y : Span). posLen x.figures y) o.point-of.ensures b.bounds_of.ensures in
-    let m : c.neg-len.result ≡ negIn w = c.neg-len.ensures ∙ ap (λ (x : Point). negLen x.figures) o.point-of.ensures in
+    let n : q.pos-len.result ≡ pos_in w =
+    q.pos-len.ensures ∙ ap₂ (λ (x : Point) (y : Span). pos_len x.figures y) o.point-of.ensures b.bounds_of.ensures in
+    let m : c.neg-len.result ≡ neg_in w = c.neg-len.ensures ∙ ap (λ (x : Point). neg_len x.figures) o.point-of.ensures in
     ap (λ (x : ℕ). leb x 160) m
     ∙ head-rest w (sym p.is-point.ensures ∙ not-false _ e1.if1.false)
     (ap (λ (x : Span). x.start) (sym b.bounds_of.ensures) ∙ e2.if2.false)

@@ -6,8 +6,8 @@ use mathlib.Core.Path.{sym, ◌∙◌}
 use native.Mathlib.Omega.{arith}
 use lib.ListN.{replicate}
 use Rattle.records.proofs.Found.{cells-length}
-use Rattle.sheet_reading.proofs.TurnLaws.{Unjudged, first-turn, end-bad, end-fine, entry-bad, row-there, head-there, next_small}
-use Rattle.sheet_reading.proofs.TurnLaws.{row_small, order-bad, head-passes, sizes-few, addable, words_small, next-turn}
+use Rattle.sheet_reading.proofs.TurnLaws.{Unjudged, first-turn, end_bad, end-fine, entry_bad, row-there, head-there, next_small}
+use Rattle.sheet_reading.proofs.TurnLaws.{row_small, order_bad, head-passes, sizes-few, addable, words_small, next-turn}
 use Rattle.sheet_reading.proofs.judge.judge.Statement.{statement}
 use Rattle.sheet_reading.proofs.judge.judge.Tie as tie
 
@@ -33,7 +33,7 @@ returns c =
     let a = e.before.before in
     let m = a.before.before.args in
     let l = a.loop in
-    entry-bad m.s.now m.n l.all l.last l.k l.i l.invariant e.before.loop-test.true
+    entry_bad m.s.now m.n l.all l.last l.k l.i l.invariant e.before.loop-test.true
     (sym e.entry-holds.ensures ∙ not-true _ c.if1.true)
 
 row-at-requires : tie.Need-row-at-requires invariant-loop decreases-loop
@@ -67,7 +67,7 @@ returns-2 c =
     let a = e.before.before in
     let m = a.before.before.args in
     let l = a.loop in
-    order-bad m.s.now m.n l.all l.last l.k l.i l.invariant e.before.loop-test.true
+    order_bad m.s.now m.n l.all l.last l.k l.i l.invariant e.before.loop-test.true
     (sym e.entry-holds.ensures ∙ not-false _ o.if1.false) r.row_at.result r.row_at.ensures
     (sym f.may-follow.ensures ∙ not-true _ c.if2.true)
 
@@ -173,7 +173,7 @@ returns-3 c =
     let a = d.before in
     let m = a.before.before.args in
     let l = a.loop in
-    end-bad m.s.now m.n l.all l.last l.k l.i l.invariant d.loop-test.false (omega (arith, c.if3.true, cells-length m.s.now))
+    end_bad m.s.now m.n l.all l.last l.k l.i l.invariant d.loop-test.false (omega (arith, c.if3.true, cells-length m.s.now))
 
 returns-4 : tie.Need-returns-4 invariant-loop decreases-loop
 returns-4 c =

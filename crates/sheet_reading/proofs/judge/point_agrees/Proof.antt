@@ -4,9 +4,9 @@ use Prim.Native.Nat.{◌+◌}
 use mathlib.Core.Path.{◌∙◌}
 use lib.ListN.{replicate}
 use lib.Ieee.{binary64, of_bits}
-use Rattle.point.specs.Handing.{storedIn, agreesAlone}
+use Rattle.point.specs.Handing.{stored_in, agrees_alone}
 use Rattle.records.specs.Inner.{run}
-use Rattle.sheet_reading.specs.Inner.{floatsAt}
+use Rattle.sheet_reading.specs.Inner.{floats_at}
 use Rattle.sheet_reading.proofs.JudgeLaws.{front-end, front-is}
 use Rattle.sheet_reading.proofs.judge.point_agrees.Statement.{statement}
 use Rattle.sheet_reading.proofs.judge.point_agrees.Tie as tie
@@ -44,13 +44,13 @@ returns c =
     let s = t.args.s.now in
     let z = t.args.z in
     let own = front-is z.bounds (replicate 159 (of_bits binary64 0)) o1.read-floats.new.1.1.0 t.requires.0.bounds o2.own2.given
-    (floatsAt s t.args.b) o1.read-floats.ensures in
+    (floats_at s t.args.b) o1.read-floats.ensures in
     let pos = front-is z.pos (replicate 160 0) p1.read-run.new.1.1.0 t.requires.0.pos p2.pos2.given
     (run s t.args.c) p1.read-run.ensures in
     let neg = front-is z.neg (replicate 160 0) n1.read-run2.new.1.1.0 t.requires.0.neg n2.neg2.given
     (run s (t.args.c + z.pos)) n1.read-run2.ensures in
     let point = c.before.before.before.before.before.before.before.point-of.ensures in
-    c.agrees-alone.ensures ∙ (λ i. agreesAlone (storedIn (point i) (own i) (pos i) (neg i)))
+    c.agrees-alone.ensures ∙ (λ i. agrees_alone (stored_in (point i) (own i) (pos i) (neg i)))
 
 pub point-agrees-spec : {M : Type 1} → statement M
 point-agrees-spec =

@@ -7,13 +7,13 @@ use lib.ListN.{length, take, length-set}
 use lib.Seq.{take-length}
 use Rattle.records.specs.Inner.{cell_at}
 use Rattle.records.proofs.Laid.{cell_room}
-use Rattle.sheet_reading.specs.Inner.{floatsAt}
-use Rattle.sheet_reading.proofs.FloatLaws.{turn-floats}
+use Rattle.sheet_reading.specs.Inner.{floats_at}
+use Rattle.sheet_reading.proofs.FloatLaws.{turn_floats}
 use Rattle.sheet_reading.proofs.words.read_floats.Statement.{statement}
 use Rattle.sheet_reading.proofs.words.read_floats.Tie as tie
 
 abbrev invariant-loop : tie.invariant-loop
-invariant-loop s k out₀ i₀ out i = (i ≤ length out₀) × (length out ≡ length out₀) × (take i out ≡ floatsAt s k i)
+invariant-loop s k out₀ i₀ out i = (i ≤ length out₀) × (length out ≡ length out₀) × (take i out ≡ floats_at s k i)
 
 abbrev decreases-loop : tie.decreases-loop
 decreases-loop s k out₀ i₀ out i = length out₀ - i
@@ -44,7 +44,7 @@ loop-again c =
     let h : l.loop.i + 1 ≤ length l.loop.out = omega (arith, i.loop-test.true) in (
       omega arith,
       length-set l.loop.out l.loop.i c.of-bits.result ∙ l.loop.invariant.1,
-      turn-floats (cell_at t.args.s.now) t.args.k l.loop.i l.loop.out c.before.cell.result c.of-bits.result (omega arith)
+      turn_floats (cell_at t.args.s.now) t.args.k l.loop.i l.loop.out c.before.cell.result c.of-bits.result (omega arith)
           l.loop.invariant.2 c.before.cell.ensures c.of-bits.ensures,
     )
 
@@ -57,7 +57,7 @@ returns c =
     let t = l.before.before.before in
     let e : l.loop.i ≡ length l.loop.out = omega (arith, c.loop-test.false) in
     let f : l.loop.i ≡ length t.args.out.now = omega arith in
-    sym (take-length l.loop.out) ∙ ap (λ (j : ℕ). take j l.loop.out) (sym e) ∙ l.loop.invariant.2 ∙ ap (floatsAt t.args.s.now t.args.k) f
+    sym (take-length l.loop.out) ∙ ap (λ (j : ℕ). take j l.loop.out) (sym e) ∙ l.loop.invariant.2 ∙ ap (floats_at t.args.s.now t.args.k) f
 
 pub read-floats-spec : {M : Type 1} → statement M
 read-floats-spec =

@@ -6,7 +6,7 @@ use native.Mathlib.Omega.{arith}
 use Rattle.listing.specs.declared.Entry.{Entry}
 use Rattle.pooling.specs.Lists.{Source, source}
 use Rattle.sheet_writing.specs.Writing.{shadowed}
-use Rattle.sheet_writing.proofs.Steps.{Going, judged-over, going_start, going_next, going-bad, going_end, step-spanned}
+use Rattle.sheet_writing.proofs.Steps.{Going, judged-over, going_start, going_next, going_bad, going_end, step_spanned}
 use Rattle.sheet_writing.proofs.judge.judge.Statement.{statement}
 use Rattle.sheet_writing.proofs.judge.judge.Tie as tie
 
@@ -41,7 +41,7 @@ returns-2 c =
     let t = a.before in
     let l = t.before in
     let s = start l in
-    going-bad s.args.n l.loop.i l.loop.at l.loop.cells (list s) l.loop.invariant t.loop-test.true
+    going_bad s.args.n l.loop.i l.loop.at l.loop.cells (list s) l.loop.invariant t.loop-test.true
     (sym a.step-at.ensures ∙ c.enum_told.given.1)
 
 width-at-requires : tie.Need-width-at-requires invariant-loop decreases-loop
@@ -51,7 +51,7 @@ width-at-requires c κs =
     let s = start l in
     let a = c.before.before.before in
     let e = c.before.e.given in
-    step-spanned l.loop.at (list s) e.0.0 (sym a.step-at.ensures ∙ e.1)
+    step_spanned l.loop.at (list s) e.0.0 (sym a.step-at.ensures ∙ e.1)
 
 -- behind the point
 abbrev onward : tie.After-width-at invariant-loop decreases-loop → Entry

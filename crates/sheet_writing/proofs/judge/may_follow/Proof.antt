@@ -1,7 +1,7 @@
 -- `sheet_writing::judge::may_follow` meets its contract. Assumes nothing.
 use borrow.Author.Rules.{rules}
 use mathlib.Core.Path.{◌∙◌}
-use Rattle.sheet_writing.proofs.Steps.{follow-first, follow-long, follow-long-2, follow-is}
+use Rattle.sheet_writing.proofs.Steps.{follow-first, follow-long, follow-long_2, follow-is}
 use Rattle.sheet_writing.proofs.judge.may_follow.Statement.{statement}
 use Rattle.sheet_writing.proofs.judge.may_follow.Tie as tie
 
@@ -19,7 +19,7 @@ returns-3 c =
     let f = c.before.before in
     let e = f.before.before in
     let a = e.before.args in
-    follow-long-2 a.i a.a.now a.b.now e.if1.false f.if2.false c.if3.true
+    follow-long_2 a.i a.a.now a.b.now e.if1.false f.if2.false c.if3.true
 
 returns-4 : tie.Need-returns-4
 returns-4 c =

@@ -4,13 +4,13 @@ use Prim.Native.Nat.{◌-◌, ◌≤◌}
 use mathlib.Core.Path.{◌≡◌, sym, ◌∙◌}
 use mathlib.Core.Bool.{true}
 use native.Mathlib.Omega.{arith}
-use Rattle.sheet_writing.specs.Inner.{noKind}
+use Rattle.sheet_writing.specs.Inner.{no_kind}
 use Rattle.sheet_writing.proofs.Wholes.{kinds-start, kinds-next, kinds-stop, kinds-end}
 use Rattle.sheet_writing.proofs.judge.no_kind.Statement.{statement}
 use Rattle.sheet_writing.proofs.judge.no_kind.Tie as tie
 
 abbrev invariant-loop : tie.invariant-loop
-invariant-loop n words i₀ i = (i ≤ n) × (noKind i words ≡ true)
+invariant-loop n words i₀ i = (i ≤ n) × (no_kind i words ≡ true)
 
 abbrev decreases-loop : tie.decreases-loop
 decreases-loop n words i₀ i = n - i

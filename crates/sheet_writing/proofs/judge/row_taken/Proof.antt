@@ -2,7 +2,7 @@
 use borrow.Author.Rules.{rules}
 use borrow.Author.Tests.{not-true, not-false}
 use mathlib.Core.Path.{sym, ◌∙◌}
-use Rattle.sheet_writing.proofs.Steps.{row-absent, row-bad, row_is}
+use Rattle.sheet_writing.proofs.Steps.{row-absent, row_bad, row_is}
 use Rattle.sheet_writing.proofs.judge.row_taken.Statement.{statement}
 use Rattle.sheet_writing.proofs.judge.row_taken.Tie as tie
 
@@ -14,7 +14,7 @@ returns-2 c =
     let f = c.before in
     let e = f.before.before in
     let a = e.before.args in
-    row-bad a.i a.sets.now e.if1.false (sym f.row_fine.ensures ∙ not-true _ c.if2.true)
+    row_bad a.i a.sets.now e.if1.false (sym f.row_fine.ensures ∙ not-true _ c.if2.true)
 
 returns-3 : tie.Need-returns-3
 returns-3 c =

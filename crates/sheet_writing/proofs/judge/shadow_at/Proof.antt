@@ -4,7 +4,7 @@ use borrow.Author.Tests.{not-true, not-false}
 use mathlib.Core.Path.{sym, ap, ◌∙◌}
 use lib.ListN.{length}
 use Rattle.pooling.specs.Lists.{Source, nameless, bounded}
-use Rattle.sheet_writing.specs.Inner.{shadowFound}
+use Rattle.sheet_writing.specs.Inner.{shadow_found}
 use Rattle.sheet_writing.proofs.Wholes.{whole-real, whole-shadow}
 use Rattle.sheet_writing.proofs.judge.shadow_at.Statement.{statement}
 use Rattle.sheet_writing.proofs.judge.shadow_at.Tie as tie
@@ -27,7 +27,7 @@ returns-2 c =
     let e = p.before in
     let i = e.before in
     c.shadow-found.ensures
-    ∙ ap (λ f. bounded (length (list i).bounds) (shadowFound f)) p.point_at.ensures
+    ∙ ap (λ f. bounded (length (list i).bounds) (shadow_found f)) p.point_at.ensures
     ∙ whole-shadow (start i).args.at (list i) (sym i.is-whole.ensures ∙ not-false _ e.if1.false)
 
 pub shadow-at-spec : {M : Type 1} → statement M

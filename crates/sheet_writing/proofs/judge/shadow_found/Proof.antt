@@ -4,9 +4,9 @@ use borrow.Author.Tests.{not-true, not-false}
 use mathlib.Core.Path.{sym, ap, ◌∙◌}
 use Rattle.point.specs.declared.Point.{Point}
 use Rattle.listing.specs.declared.Found.TheVariants.{Is}
-use Rattle.whole_listing.proofs.Readers.{shadowEntry}
-use Rattle.pooling.proofs.Whole.{bounded-in, bounded-out}
-use Rattle.sheet_writing.specs.Inner.{shadowFound}
+use Rattle.whole_listing.proofs.Readers.{shadow_entry}
+use Rattle.pooling.proofs.Whole.{bounded_in, bounded-out}
+use Rattle.sheet_writing.specs.Inner.{shadow_found}
 use Rattle.sheet_writing.proofs.judge.shadow_found.Statement.{statement}
 use Rattle.sheet_writing.proofs.judge.shadow_found.Tie as tie
 
@@ -18,7 +18,7 @@ returns c =
     let l = c.before in
     let f = found l in
     let a = f.before.before.args in
-    bounded-out a.many (shadowFound a.found) (shadowEntry f.found.given.0.0) (ap shadowFound f.found.given.1)
+    bounded-out a.many (shadow_found a.found) (shadow_entry f.found.given.0.0) (ap shadow_found f.found.given.1)
     (sym l.lie.ensures ∙ not-true _ c.if1.true)
 
 returns-3 : tie.Need-returns-3
@@ -30,7 +30,7 @@ returns-3 c =
     let a = f.before.before.args in
     let d = f.found.given.0.0 in
     ap (λ (q : Point). Is (record { point = q; bounds = d.bounds; next = d.next })) s.shadow-of.ensures
-    ∙ bounded-in a.many (shadowFound a.found) (shadowEntry d) (ap shadowFound f.found.given.1) (sym l.lie.ensures ∙ not-false _ e.if1.false)
+    ∙ bounded_in a.many (shadow_found a.found) (shadow_entry d) (ap shadow_found f.found.given.1) (sym l.lie.ensures ∙ not-false _ e.if1.false)
 
 pub shadow-found-spec : {M : Type 1} → statement M
 shadow-found-spec =

@@ -4,7 +4,7 @@ use borrow.Author.Tests.{not-true, not-false}
 use mathlib.Core.Path.{refl, sym, ap, ◌∙◌}
 use Rattle.pooling.specs.Lists.{Source, source, whole_at}
 use Rattle.sheet_writing.specs.Writing.{shadowed}
-use Rattle.sheet_writing.specs.Inner.{agreeing, lentBeside}
+use Rattle.sheet_writing.specs.Inner.{agreeing, lent_beside}
 use Rattle.sheet_writing.proofs.Steps.{agreeing-alike, step-no, step_is}
 use Rattle.sheet_writing.proofs.judge.step_at.Statement.{statement}
 use Rattle.sheet_writing.proofs.judge.step_at.Tie as tie
@@ -27,8 +27,8 @@ returns-2 c =
     let t = e.before in
     let a = (start t).args in
     c.agreeing-at.ensures
-    ∙ ap (agreeing a.at (lentBeside a.pos a.neg a.bounds)) w.shadow-at.ensures
-    ∙ agreeing-alike a.at (lentBeside a.pos a.neg a.bounds) (list t) refl refl refl (whole_at a.at (list t))
+    ∙ ap (agreeing a.at (lent_beside a.pos a.neg a.bounds)) w.shadow-at.ensures
+    ∙ agreeing-alike a.at (lent_beside a.pos a.neg a.bounds) (list t) refl refl refl (whole_at a.at (list t))
     ∙ step_is a.at (list t) (sym t.row-taken.ensures ∙ not-false _ e.if1.false)
 
 pub step-at-spec : {M : Type 1} → statement M

@@ -6,15 +6,15 @@ use Prim.Native.Nat.{ℕ, ◌+◌, ◌-◌, ◌≤◌}
 use native.Mathlib.Omega.{arith}
 use lib.ListN.{length, take, length-map}
 use lib.Seq.{take-length}
-use Rattle.floats.specs.Answers.{bitsOf}
+use Rattle.floats.specs.Answers.{bits_of}
 use Rattle.records.specs.Inner.{laid, emitted}
 use Rattle.records.proofs.Laid.{length-emitted, place-room}
-use Rattle.sheet_writing.proofs.Putting.{turn-floats}
+use Rattle.sheet_writing.proofs.Putting.{turn_floats}
 use Rattle.sheet_writing.proofs.put.emit_floats.Statement.{statement}
 use Rattle.sheet_writing.proofs.put.emit_floats.Tie as tie
 
 abbrev invariant-loop : tie.invariant-loop
-invariant-loop s₀ info n k xs i₀ s i = (i ≤ length xs) × (s ≡ laid info n k (take i (map bitsOf xs)) s₀) × (length s ≡ length s₀)
+invariant-loop s₀ info n k xs i₀ s i = (i ≤ length xs) × (s ≡ laid info n k (take i (map bits_of xs)) s₀) × (length s ≡ length s₀)
 
 abbrev decreases-loop : tie.decreases-loop
 decreases-loop s₀ info n k xs i₀ s i = length xs - i
@@ -46,7 +46,7 @@ loop-again c =
     let t = l.before.before.before in
     let h : l.loop.i + 1 ≤ length t.args.xs.now = omega (arith, b.before.before.before.loop-test.true) in (
       h,
-      turn-floats t.args.info t.args.n t.args.k t.args.xs.now _ t.args.s.now l.loop.s _ l.loop.i (omega arith) l.loop.invariant.1
+      turn_floats t.args.info t.args.n t.args.k t.args.xs.now _ t.args.s.now l.loop.s _ l.loop.i (omega arith) l.loop.invariant.1
           (e.emit.ensures ∙ ap (λ (x : ℕ). emitted t.args.info t.args.n (t.args.k + l.loop.i) x l.loop.s) b.bits_of.ensures),
       ap length e.emit.ensures ∙ length-emitted t.args.info t.args.n (t.args.k + l.loop.i) b.bits_of.result l.loop.s ∙ l.loop.invariant.2,
     )
@@ -58,8 +58,8 @@ returns : tie.Need-returns invariant-loop decreases-loop
 returns c =
     let l = c.before in
     let t = l.before.before.before in
-    let bits = map bitsOf t.args.xs.now in
-    let e : l.loop.i ≡ length bits = omega (arith, c.loop-test.false, length-map t.args.xs.now bitsOf) in
+    let bits = map bits_of t.args.xs.now in
+    let e : l.loop.i ≡ length bits = omega (arith, c.loop-test.false, length-map t.args.xs.now bits_of) in
     l.loop.invariant.1 ∙ ap (λ u. laid t.args.info t.args.n t.args.k u t.args.s.now) (ap (λ (j : ℕ). take j bits) e ∙ take-length bits)
 
 pub emit-floats-spec : {M : Type 1} → statement M

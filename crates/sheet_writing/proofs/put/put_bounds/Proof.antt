@@ -5,7 +5,7 @@ use mathlib.Core.List.{map}
 use Prim.Native.Nat.{ℕ, ◌+◌, ◌-◌}
 use native.Mathlib.Omega.{arith}
 use lib.ListN.{length, replicate, length-map}
-use Rattle.floats.specs.Answers.{bitsOf}
+use Rattle.floats.specs.Answers.{bits_of}
 use Rattle.records.specs.Inner.{laid}
 use Rattle.records.proofs.Padded.{room-kept, width-le}
 use Rattle.sheet_writing.proofs.Putting.{run-laid}
@@ -43,7 +43,7 @@ returns c =
     let w = f.before.before in
     let a = w.before.before.before.args in
     let m = length a.xs.now in
-    run-laid a.info a.n a.k m (map bitsOf a.xs.now) a.s.now _ _ (length-map a.xs.now bitsOf) f.emit-floats.ensures
+    run-laid a.info a.n a.k m (map bits_of a.xs.now) a.s.now _ _ (length-map a.xs.now bits_of) f.emit-floats.ensures
     (z.emit-zeros.ensures ∙ ap (λ (v : ℕ). laid a.info a.n (a.k + m) (replicate (v - m) 0) f.emit-floats.new.0) w.width_of_lem.ensures)
 
 pub put-bounds-spec : {M : Type 1} → statement M

@@ -5,7 +5,7 @@ use mathlib.Core.List.{List, ◌++◌, map}
 use Prim.Native.Nat.{ℕ, ◌+◌}
 use native.Mathlib.Omega.{arith}
 use lib.ListN.{length, length-map}
-use Rattle.floats.specs.Answers.{bitsOf}
+use Rattle.floats.specs.Answers.{bits_of}
 use Rattle.listing.specs.Words.{words_of}
 use Rattle.records.specs.Records.{padded}
 use Rattle.records.specs.Inner.{laid}
@@ -44,7 +44,7 @@ returns c =
     let nine : length a.row.now ≡ 9 = search in
     let counts = a.pos.now ++ a.neg.now in
     point-laid a.info a.n a.k (length a.bounds.now) a.row.now (words_of a.p (record { start = 0; len = length a.bounds.now }))
-    (map bitsOf a.bounds.now) a.pos.now a.neg.now a.s.now _ _ _ _ nine (head-twelve a.p _) (length-map a.bounds.now bitsOf)
+    (map bits_of a.bounds.now) a.pos.now a.neg.now a.s.now _ _ _ _ nine (head-twelve a.p _) (length-map a.bounds.now bits_of)
     s.emit-run.ensures
     (h.emit-run2.ensures ∙ ap (λ (u : List ℕ). laid a.info a.n (a.k + 9) u s.emit-run.last.0) o.words-of.ensures)
     b.put-bounds.ensures

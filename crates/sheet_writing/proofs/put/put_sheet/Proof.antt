@@ -8,8 +8,8 @@ use Rattle.listing.specs.declared.Entry.{Entry}
 use Rattle.listing.specs.declared.Found.TheVariants.{Is}
 use Rattle.pooling.specs.Lists.{Source, source, whole_at}
 use Rattle.pooling.proofs.Whole.{whole-lies}
-use Rattle.sheet_writing.specs.Inner.{origin, putFrom}
-use Rattle.sheet_writing.proofs.Steps.{step-spanned}
+use Rattle.sheet_writing.specs.Inner.{origin, put_from}
+use Rattle.sheet_writing.proofs.Steps.{step_spanned}
 use Rattle.sheet_writing.proofs.Walk.{Left, left-start, turn-none, turn_step, turn-row, turn-room, turn-left, turn-put, put-start, sheet-put}
 use Rattle.sheet_writing.proofs.put.put_sheet.Statement.{statement}
 use Rattle.sheet_writing.proofs.put.put_sheet.Tie as tie
@@ -18,7 +18,7 @@ abbrev invariant-loop : tie.invariant-loop
 invariant-loop n records sets words pos neg bounds s₀ info at₀ k₀ i₀ s at k i =
     let x : Source = record { list = record { sets = sets; words = words; pos = pos; neg = neg }; bounds = bounds } in
     Left n i records at k x
-    × (putFrom n at₀ info records k₀ x s₀ ≡ putFrom (n - i) at info records k x s)
+    × (put_from n at₀ info records k₀ x s₀ ≡ put_from (n - i) at info records k x s)
     × (length s ≡ length s₀)
 
 abbrev decreases-loop : tie.decreases-loop
@@ -122,7 +122,7 @@ width-at-requires c κs =
     let t = turn e in
     let l = t.before in
     let s = start l in
-    step-spanned l.loop.at (list s) (entry e)
+    step_spanned l.loop.at (list s) (entry e)
     (turn_step s.args.n l.loop.i s.args.records l.loop.at l.loop.k (list s) l.loop.inv.0 t.loop-test.taken (entry e) (found e))
 
 add-k : tie.Need-overflow-add-k invariant-loop decreases-loop

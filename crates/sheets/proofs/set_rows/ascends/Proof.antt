@@ -2,28 +2,28 @@
 use borrow.Author.Rules.{rules}
 use mathlib.Core.Path.{sym, ap, ◌∙◌}
 use Rattle.tally.specs.Sets.{cmp}
-use Rattle.sets.specs.Rows.{setOf, below}
-use Rattle.sets.proofs.Ways.{way-lt, way-eq, way-gt}
+use Rattle.sets.specs.Rows.{set_of, below}
+use Rattle.sets.proofs.Ways.{way-lt, way-eq, way_gt}
 use Rattle.sheets.proofs.set_rows.ascends.Statement.{statement}
 use Rattle.sheets.proofs.set_rows.ascends.Tie as tie
 
 returns : tie.Need-returns
 returns c =
     let t = c.before.before in
-    let o = cmp (setOf t.before.args.a.now) (setOf t.before.args.b.now) in
+    let o = cmp (set_of t.before.args.a.now) (set_of t.before.args.b.now) in
     sym (ap below (way-lt o (sym t.compare.ensures ∙ c.enum_told.given.1)))
 
 returns-2 : tie.Need-returns-2
 returns-2 c =
     let t = c.before.before in
-    let o = cmp (setOf t.before.args.a.now) (setOf t.before.args.b.now) in
+    let o = cmp (set_of t.before.args.a.now) (set_of t.before.args.b.now) in
     sym (ap below (way-eq o (sym t.compare.ensures ∙ c.enum-told2.given.1)))
 
 returns-3 : tie.Need-returns-3
 returns-3 c =
     let t = c.before.before in
-    let o = cmp (setOf t.before.args.a.now) (setOf t.before.args.b.now) in
-    sym (ap below (way-gt o (sym t.compare.ensures ∙ c.enum-told3.given.1)))
+    let o = cmp (set_of t.before.args.a.now) (set_of t.before.args.b.now) in
+    sym (ap below (way_gt o (sym t.compare.ensures ∙ c.enum-told3.given.1)))
 
 pub ascends-spec : {M : Type 1} → statement M
 ascends-spec =

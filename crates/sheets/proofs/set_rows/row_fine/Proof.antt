@@ -3,7 +3,7 @@ use borrow.Author.Rules.{rules}
 use mathlib.Core.Path.{◌≡◌, sym, ◌∙◌}
 use borrow.Author.Tests.{not-true, not-false}
 use lib.ListN.{length}
-use Rattle.sheets.proofs.SetLaws.{row-long, row-unclean, row-empty, row_named}
+use Rattle.sheets.proofs.SetLaws.{row-long, row_unclean, row-empty, row_named}
 use Rattle.sheets.proofs.set_rows.row_fine.Statement.{statement}
 use Rattle.sheets.proofs.set_rows.row_fine.Tie as tie
 
@@ -15,7 +15,7 @@ returns-2 c =
     let z = c.before in
     let e = z.before.before in
     let s = e.before in
-    row-unclean s.args.t1 e.if1.false (sym z.zeros-from.ensures ∙ not-true _ c.if2.true)
+    row_unclean s.args.t1 e.if1.false (sym z.zeros-from.ensures ∙ not-true _ c.if2.true)
 
 returns-3 : tie.Need-returns-3
 returns-3 c =

@@ -6,19 +6,19 @@ use mathlib.Core.Bool.{true}
 use native.Mathlib.Omega.{arith}
 use Rattle.sets.specs.All.{allb}
 use Rattle.sets.proofs.Alls.{allb-none}
-use Rattle.sheets.proofs.SetLaws.{zeroFrom, zero_more, zero-not}
+use Rattle.sheets.proofs.SetLaws.{zero_from, zero_more, zero-not}
 use Rattle.sheets.proofs.set_rows.zeros_from.Statement.{statement}
 use Rattle.sheets.proofs.set_rows.zeros_from.Tie as tie
 
 abbrev invariant-loop : tie.invariant-loop
-invariant-loop row n i₀ i = (n ≤ i) × (i ≤ 8) × (allb (i - n) (zeroFrom row n) ≡ true)
+invariant-loop row n i₀ i = (n ≤ i) × (i ≤ 8) × (allb (i - n) (zero_from row n) ≡ true)
 
 abbrev decreases-loop : tie.decreases-loop
 decreases-loop row n i₀ i = 8 - i
 
 loop-holds : tie.Need-loop-init invariant-loop decreases-loop
 loop-holds c =
-    let f = zeroFrom c.args.row.now c.args.n in
+    let f = zero_from c.args.row.now c.args.n in
     let e : 0 ≡ c.args.n - c.args.n = omega arith in
     (omega arith, c.requires, subst (λ (k : ℕ). allb k f ≡ true) e (allb-none f))
 
@@ -41,7 +41,7 @@ returns-2 c =
     let l = c.before in
     let s = l.before in
     let e : l.loop.i - s.args.n ≡ 8 - s.args.n = omega arith in
-    sym (subst (λ (k : ℕ). allb k (zeroFrom s.args.row.now s.args.n) ≡ true) e l.loop.invariant.2)
+    sym (subst (λ (k : ℕ). allb k (zero_from s.args.row.now s.args.n) ≡ true) e l.loop.invariant.2)
 
 pub zeros-from-spec : {M : Type 1} → statement M
 zeros-from-spec =

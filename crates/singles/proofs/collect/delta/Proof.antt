@@ -11,8 +11,8 @@ use Rattle.collecting.specs.Lister.{Lister}
 use Rattle.collecting.specs.Slots.{walked}
 use Rattle.collecting.proofs.Ends.{delta-refused, delta-done}
 use Rattle.collecting.proofs.Decides.{listable, sweeps, listed-is}
-use Rattle.singles.specs.Stores.{singleStore}
-use Rattle.singles.specs.Points.{output, singleLister}
+use Rattle.singles.specs.Stores.{single_store}
+use Rattle.singles.specs.Points.{output, single_lister}
 use Rattle.singles.proofs.Owes.{owed}
 use Rattle.singles.proofs.Alike.{listable-sums}
 use Rattle.singles.proofs.collect.delta.Statement.{statement}
@@ -21,8 +21,8 @@ use Rattle.singles.proofs.collect.delta.Tie as tie
 abbrev start : tie.After-number → tie.Start
 start n = n.before.before.before.before.before.before.before.before.before
 
-abbrev L : (s : tie.Start) → Lister (singleStore s.args.s.aggregation)
-L s = singleLister s.args.s.aggregation
+abbrev L : (s : tie.Start) → Lister (single_store s.args.s.aggregation)
+L s = single_lister s.args.s.aggregation
 
 abbrev map : tie.Start → Held (List Float)
 map s = let a = s.args in held a.d (stores a.sets a.entries a.order) a.values.now

@@ -9,7 +9,7 @@ use Rattle.value_map.specs.Calls.{Held, held}
 use Rattle.value_map.proofs.Cases.{by-here}
 use Rattle.value_map.proofs.Ways.{took, Way, by_way, Sits, allows, ends}
 use Rattle.singles.specs.Kinds.{singles}
-use Rattle.singles.specs.Stores.{singleStore}
+use Rattle.singles.specs.Stores.{single_store}
 use Rattle.singles.proofs.Owes.{owed}
 use Rattle.singles.proofs.map.measure_by.Statement.{statement}
 use Rattle.singles.proofs.map.measure_by.Tie as tie
@@ -21,19 +21,19 @@ abbrev at : tie.After-seat-by → tie.Start
 at q = (own q).before.before.before
 
 abbrev kind : (s : tie.Start) → Store (singles s.args.aggregation)
-kind s = singleStore s.args.aggregation
+kind s = single_store s.args.aggregation
 
-abbrev lentMap : tie.Start → Held (List Float)
-lentMap s = let a = s.args in held a.d (stores a.sets a.entries a.order) a.values.now
+abbrev lent_map : tie.Start → Held (List Float)
+lent_map s = let a = s.args in held a.d (stores a.sets a.entries a.order) a.values.now
 
-abbrev way : (s : tie.Start) → Way (kind s) s.args.limit (lentMap s)
-way s = let a = s.args in by_way (owed a.aggregation) a.limit (lentMap s) a.h
+abbrev way : (s : tie.Start) → Way (kind s) s.args.limit (lent_map s)
+way s = let a = s.args in by_way (owed a.aggregation) a.limit (lent_map s) a.h
 
-known : (q : tie.After-seat-by) → Sits (kind (at q)) (lentMap (at q)) (at q).args.v q.seat-by.result
+known : (q : tie.After-seat-by) → Sits (kind (at q)) (lent_map (at q)) (at q).args.v q.seat-by.result
 known q =
     let s = at q in
     let a = s.args in
-    allows (owed a.aggregation) a.limit (lentMap s) a.v (way s) 0 refl (own q).takes.ensures q.seat-by.ensures
+    allows (owed a.aggregation) a.limit (lent_map s) a.v (way s) 0 refl (own q).takes.ensures q.seat-by.ensures
 
 take-requires : tie.Need-take-requires
 take-requires c κs = (known c.before).takes
@@ -43,7 +43,7 @@ finish-requires c κs z =
     let t = c.before.before.before.before.before.before in
     let q = t.before.before in
     let s = at q in
-    (known q).ranges (took (kind s) (lentMap s).cells s.args.v q.seat-by.result.no q.seat-by.result.no q.seat-by.result.slot q.seat-by.result.updated (λ d. d) _ t.take.ensures z)
+    (known q).ranges (took (kind s) (lent_map s).cells s.args.v q.seat-by.result.no q.seat-by.result.no q.seat-by.result.slot q.seat-by.result.updated (λ d. d) _ t.take.ensures z)
 
 returns : tie.Need-returns
 returns c =
@@ -52,9 +52,9 @@ returns c =
     let q = t.before.before in
     let s = at q in
     let a = s.args in
-    ends (owed a.aggregation) a.limit (lentMap s) a.v (way s) q.seat-by.result _ _ _ f.finish.ensures
+    ends (owed a.aggregation) a.limit (lent_map s) a.v (way s) q.seat-by.result _ _ _ f.finish.ensures
     refl (own q).takes.ensures refl q.seat-by.ensures (λ z. refl) t.take.ensures
-    ∙ by-here (kind s) a.limit (lentMap s) a.v a.h
+    ∙ by-here (kind s) a.limit (lent_map s) a.v a.h
 
 pub measure-by-spec : {M : Type 1} → statement M
 measure-by-spec =

@@ -5,7 +5,7 @@ use Prim.Native.Nat.{◌<◌}
 use mathlib.Core.Path.{ap, ◌∙◌}
 use native.Mathlib.Omega.{arith}
 use lib.ListN.{length}
-use Rattle.floats.specs.Answers.{bitsOf}
+use Rattle.floats.specs.Answers.{bits_of}
 use Rattle.singles.proofs.Slots.{put-none, put_some}
 use Rattle.singles.proofs.slot.put.Statement.{statement}
 use Rattle.singles.proofs.slot.put.Tie as tie
@@ -28,7 +28,7 @@ returns-2 c =
     let e = h.before in
     let a = (start e).args in
     put_some a.updated a.due a.values.now a.x a.row a.at a.out-sets.now a.out-values.now (not-false a.due e.if1.false)
-    c.bits_of.result (c.bits_of.ensures ∙ ap bitsOf h.held-at.ensures)
+    c.bits_of.result (c.bits_of.ensures ∙ ap bits_of h.held-at.ensures)
 
 pub put_spec : {M : Type 1} → statement M
 put_spec =

@@ -7,7 +7,7 @@ use lib.Ieee.{Float}
 use Rattle.rows.specs.Recording.{after}
 use Rattle.singles.specs.Kinds.{step, holds}
 use Rattle.singles.specs.Stores.{held_at}
-use Rattle.singles.proofs.Owes.{held-bad, held-good}
+use Rattle.singles.proofs.Owes.{held_bad, held-good}
 use Rattle.singles.proofs.slot.record.Statement.{statement}
 use Rattle.singles.proofs.slot.record.Tie as tie
 
@@ -22,7 +22,7 @@ returns : tie.Need-returns
 returns c =
     let h = c.before in
     let a = (start h).args in
-    held-bad a.aggregation a.values.now a.x a.updated a.v (tested h ∙ not-true h.holds.result c.if1.true)
+    held_bad a.aggregation a.values.now a.x a.updated a.v (tested h ∙ not-true h.holds.result c.if1.true)
 
 returns-2 : tie.Need-returns-2
 returns-2 c =

@@ -11,22 +11,22 @@ use Rattle.collecting.specs.Lister.{Lister}
 use Rattle.collecting.specs.Slots.{walked}
 use Rattle.collecting.proofs.Turns.{Seen}
 use Rattle.collecting.proofs.Loops.{found-used, Alike, Listing, list-start, list-end, list-alike, slot-free, list-next}
-use Rattle.singles.specs.Stores.{singleStore}
-use Rattle.singles.specs.Points.{asWords, output, singleLister}
+use Rattle.singles.specs.Stores.{single_store}
+use Rattle.singles.specs.Points.{as_words, output, single_lister}
 use Rattle.singles.specs.Inner.{place}
 use Rattle.singles.specs.declared.Aggregation.TheVariants.{Sum}
 use Rattle.singles.proofs.Alike.{words_long}
 use Rattle.singles.proofs.walk.list.Statement.{statement}
 use Rattle.singles.proofs.walk.list.Tie as tie
 
-abbrev L : Lister (singleStore Sum)
-L = singleLister Sum
+abbrev L : Lister (single_store Sum)
+L = single_lister Sum
 
 abbrev invariant-loop : tie.invariant-loop
 invariant-loop cumulative used sets entries order values out-sets₀ out-values₀ at₀ i₀ out-sets out-values at i =
     Listing L tt cumulative (walked used sets entries order values)
-    (record { sets = out-sets₀; words = asWords out-values₀; pos = []; neg = [] }) i (place at)
-    (record { sets = out-sets; words = asWords out-values; pos = []; neg = [] })
+    (record { sets = out-sets₀; words = as_words out-values₀; pos = []; neg = [] }) i (place at)
+    (record { sets = out-sets; words = as_words out-values; pos = []; neg = [] })
 
 abbrev decreases-loop : tie.decreases-loop
 decreases-loop cumulative used sets entries order values out-sets₀ out-values₀ at₀ i₀ out-sets out-values at i = used + 1 - i
@@ -61,15 +61,15 @@ seen c =
       asked_is = c.is-due.ensures;
     }
 
-abbrev outNow : tie.At-loop invariant-loop decreases-loop → Output
-outNow l = record { sets = l.loop.out-sets; words = asWords l.loop.out-values; pos = []; neg = [] }
+abbrev out_now : tie.At-loop invariant-loop decreases-loop → Output
+out_now l = record { sets = l.loop.out-sets; words = as_words l.loop.out-values; pos = []; neg = [] }
 
 -- the slot lies in the stores
 in_use : (c : tie.After-slot-at invariant-loop decreases-loop) → c.slot_at.result ≤ (start c.before).args.used
 in_use c =
     let t = c.before in
     let s = start t in
-    found-used (singleStore Sum) (map s) s.pre.walk t.before.loop.i c.slot_at.result
+    found-used (single_store Sum) (map s) s.pre.walk t.before.loop.i c.slot_at.result
     t.loop-test.true c.slot_at.ensures
 
 loop-holds : tie.Need-loop-init invariant-loop decreases-loop
@@ -90,7 +90,7 @@ put-requires c κs =
     let t = turn_of d in
     let s = start t in
     let l = t.before.loop in
-    let o = outNow t.before in
+    let o = out_now t.before in
     let free = slot-free L tt s.args.cumulative (map s) (out s) s.pre l.i _ _ _ (seen d) (place l.at) o l.inv in (
       s.pre.walk.room d.before.before.slot_at.result (in_use d.before.before),
       λ e. ((free e).sets, omega (arith, (free e).words, words_long l.out-values)),
@@ -117,14 +117,14 @@ loop-again c =
     let s = start t in
     let l = t.before.loop in
     list-next L tt s.args.cumulative (map s) (out s) s.pre l.i _ _ _ (seen d)
-    (place l.at) (outNow t.before) l.inv r.row_at.result r.row_at.ensures (place p.put.result) _ p.put.ensures
+    (place l.at) (out_now t.before) l.inv r.row_at.result r.row_at.ensures (place p.put.result) _ p.put.ensures
 
 -- the output keeps its lengths
-long : (c : tie.After-loop invariant-loop decreases-loop) → Alike (outNow c.before) (out (entry c.before))
+long : (c : tie.After-loop invariant-loop decreases-loop) → Alike (out_now c.before) (out (entry c.before))
 long c =
     let s = entry c.before in
     let l = c.before.loop in
-    list-alike L tt s.args.cumulative (map s) (out s) s.pre l.i (place l.at) (outNow c.before) l.invariant
+    list-alike L tt s.args.cumulative (map s) (out s) s.pre l.i (place l.at) (out_now c.before) l.invariant
 
 same-length-2 : tie.Need-same-length-2 invariant-loop decreases-loop
 same-length-2 c = sym (words_long c.before.loop.out-values) ∙ (long c).words ∙ words_long (entry c.before).args.out-values.now
@@ -133,7 +133,7 @@ returns : tie.Need-returns invariant-loop decreases-loop
 returns c =
     let s = entry c.before in
     let l = c.before.loop in
-    list-end L tt s.args.cumulative (map s) (out s) l.i (place l.at) (outNow c.before) l.invariant
+    list-end L tt s.args.cumulative (map s) (out s) l.i (place l.at) (out_now c.before) l.invariant
     (omega (arith, c.loop-test.false))
 
 pub list-spec : {M : Type 1} → statement M

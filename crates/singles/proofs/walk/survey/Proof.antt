@@ -10,14 +10,14 @@ use Rattle.collecting.specs.Lister.{Lister}
 use Rattle.collecting.specs.Slots.{walked}
 use Rattle.collecting.proofs.Turns.{Seen}
 use Rattle.collecting.proofs.Loops.{found-used, Surveyed, survey-start, survey-few, survey-known, survey-next, survey-stop, survey-end}
-use Rattle.singles.specs.Stores.{singleStore}
-use Rattle.singles.specs.Points.{singleLister}
+use Rattle.singles.specs.Stores.{single_store}
+use Rattle.singles.specs.Points.{single_lister}
 use Rattle.singles.proofs.walk.survey.Statement.{statement}
 use Rattle.singles.proofs.walk.survey.Tie as tie
 
 abbrev invariant-loop : tie.invariant-loop
 invariant-loop known cumulative aggregation used entries order values found₀ i₀ found i =
-    Surveyed (singleLister aggregation) tt cumulative (walked used [] entries order values) i found
+    Surveyed (single_lister aggregation) tt cumulative (walked used [] entries order values) i found
 
 abbrev decreases-loop : tie.decreases-loop
 decreases-loop known cumulative aggregation used entries order values found₀ i₀ found i = used + 1 - i
@@ -25,8 +25,8 @@ decreases-loop known cumulative aggregation used entries order values found₀ i
 abbrev Start : Type 0
 Start = tie.Start invariant-loop decreases-loop
 
-abbrev L : (s : Start) → Lister (singleStore s.args.aggregation)
-L s = singleLister s.args.aggregation
+abbrev L : (s : Start) → Lister (single_store s.args.aggregation)
+L s = single_lister s.args.aggregation
 
 abbrev map : Start → Held (List Float)
 map s = let a = s.args in walked a.used [] a.entries.now a.order.now a.values.now
@@ -39,7 +39,7 @@ in_use : (c : tie.After-slot-at invariant-loop decreases-loop) → c.slot_at.res
 in_use c =
     let t = c.before in
     let s = start t in
-    found-used (singleStore s.args.aggregation) (map s) s.pre.0 t.before.loop.i c.slot_at.result
+    found-used (single_store s.args.aggregation) (map s) s.pre.0 t.before.loop.i c.slot_at.result
     t.loop-test.true c.slot_at.ensures
 
 -- what the turn has seen of it

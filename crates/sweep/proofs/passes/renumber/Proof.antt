@@ -7,14 +7,14 @@ use borrow.Author.Rules.{scaled_Fits}
 use lib.ListN.{length}
 use Rattle.laws.specs.Over.{over}
 use Rattle.sets.specs.Rows.{span}
-use Rattle.sweep.specs.Passes.{markIn, packed, lows, renumbered}
+use Rattle.sweep.specs.Passes.{mark_in, packed, lows, renumbered}
 use Rattle.sweep.proofs.Turns.{first, words_long, word-long, word-few, word-slot, words}
 use Rattle.sweep.proofs.passes.renumber.Statement.{statement}
 use Rattle.sweep.proofs.passes.renumber.Tie as tie
 
 abbrev invariant-loop : tie.invariant-loop
 invariant-loop used order₀ w₀ i₀ order w i =
-    (i ≤ used) × (w ≡ length (renumbered (markIn order₀) (span (lows used order₀) 0 i))) × (length order ≡ length order₀) × (order ≡ packed (markIn order₀) used (over (renumbered (markIn order₀) (span (lows used order₀) 0 i)) (lows used order₀)))
+    (i ≤ used) × (w ≡ length (renumbered (mark_in order₀) (span (lows used order₀) 0 i))) × (length order ≡ length order₀) × (order ≡ packed (mark_in order₀) used (over (renumbered (mark_in order₀) (span (lows used order₀) 0 i)) (lows used order₀)))
 
 abbrev decreases-loop : tie.decreases-loop
 decreases-loop used order₀ w₀ i₀ order w i = used - i
@@ -79,7 +79,7 @@ returns c =
     let s = l.before.before in
     let o = s.args.order.now in
     let e : l.loop.i ≡ s.args.used = omega (arith, c.loop-test.false) in
-    l.loop.invariant.3 ∙ ap (λ (n : ℕ). packed (markIn o) s.args.used (over (renumbered (markIn o) (span (lows s.args.used o) 0 n)) (lows s.args.used o))) e
+    l.loop.invariant.3 ∙ ap (λ (n : ℕ). packed (mark_in o) s.args.used (over (renumbered (mark_in o) (span (lows s.args.used o) 0 n)) (lows s.args.used o))) e
 
 pub renumber-spec : {M : Type 1} → statement M
 renumber-spec =

@@ -1,12 +1,12 @@
 -- `text::fields::spaces` meets its contract. Assumes nothing.
 use Rattle.std.proofs.Common.{◌≡◌, ◌+◌, ◌-◌, ◌≤◌, length, drop, arith}
-use Rattle.text.specs.Fields.{spacesOf}
+use Rattle.text.specs.Fields.{spaces_of}
 use Rattle.text.proofs.Splitting.{spaces-turn, spaces-none}
 use Rattle.text.proofs.fields.spaces.Statement.{statement}
 use Rattle.text.proofs.fields.spaces.Tie as tie
 
 abbrev invariant-loop : tie.invariant-loop
-invariant-loop line n₀ i₀ n i = (i ≤ length line) × (n ≤ i) × (n + spacesOf (drop i line) ≡ spacesOf line)
+invariant-loop line n₀ i₀ n i = (i ≤ length line) × (n ≤ i) × (n + spaces_of (drop i line) ≡ spaces_of line)
 
 abbrev decreases-loop : tie.decreases-loop
 decreases-loop line n₀ i₀ n i = length line - i

@@ -1,13 +1,13 @@
 -- `text::numbers::are_hex` meets its contract: those that are left decide what all do, where those before are. Assumes nothing.
 use Rattle.std.proofs.Common.{◌≡◌, ◌+◌, ◌-◌, ◌≤◌, Bool, false, get_or, drop, sym, refl, ap, ◌∙◌, arith}
 use Rattle.laws.specs.Pick.{pick}
-use Rattle.text.specs.Pairs.{areHex, isDecimal, isLetter}
+use Rattle.text.specs.Pairs.{are_hex, is_decimal, is_letter}
 use Rattle.text.proofs.Pairing.{hex-turn, hex-end}
 use Rattle.text.proofs.numbers.are_hex.Statement.{statement}
 use Rattle.text.proofs.numbers.are_hex.Tie as tie
 
 abbrev invariant-loop : tie.invariant-loop
-invariant-loop bytes all₀ i₀ all i = (i ≤ 16) × (pick all (areHex (drop i bytes)) false ≡ areHex bytes)
+invariant-loop bytes all₀ i₀ all i = (i ≤ 16) × (pick all (are_hex (drop i bytes)) false ≡ are_hex bytes)
 
 abbrev decreases-loop : tie.decreases-loop
 decreases-loop bytes all₀ i₀ all i = 16 - i
@@ -37,11 +37,11 @@ loop-again c =
     let t = d.before.before in
     let l = t.before.loop in
     let bs = t.before.before.before.args.bytes.now in
-    let r = areHex (drop (l.i + 1) bs) in
-    let e : c.still.result ≡ pick (isDecimal (get_or bs l.i 0)) l.all (pick (isLetter (get_or bs l.i 0)) l.all false) =
+    let r = are_hex (drop (l.i + 1) bs) in
+    let e : c.still.result ≡ pick (is_decimal (get_or bs l.i 0)) l.all (pick (is_letter (get_or bs l.i 0)) l.all false) =
     c.still.ensures
     ∙ ap (λ (x : Bool). pick x l.all (pick c.before.is-letter.result l.all false)) d.is-decimal.ensures
-    ∙ ap (λ (x : Bool). pick (isDecimal (get_or bs l.i 0)) l.all (pick x l.all false)) c.before.is-letter.ensures in
+    ∙ ap (λ (x : Bool). pick (is_decimal (get_or bs l.i 0)) l.all (pick x l.all false)) c.before.is-letter.ensures in
     (omega arith, ap (λ (x : Bool). pick x r false) e ∙ hex-turn l.all bs l.i (omega arith) ∙ l.invariant.1)
 
 returns : tie.Need-returns invariant-loop decreases-loop

@@ -1,21 +1,21 @@
 -- `text::numbers::bits` meets its contract. Assumes nothing.
 use Rattle.std.proofs.Common.{length, sym, ap, ◌∙◌, rules, eq-eqb, ne_eqb}
 use Rattle.laws.proofs.Bools.{pick_true, pick-false}
-use Rattle.text.specs.Numbers.{bitsOf}
+use Rattle.text.specs.Numbers.{bits_of}
 use Rattle.text.specs.declared.numbers.Natural.TheVariants as N
 use Rattle.text.proofs.Pairing.{hex-none, bits-joined}
 use Rattle.text.proofs.numbers.bits.Statement.{statement}
 use Rattle.text.proofs.numbers.bits.Tie as tie
 
 returns : tie.Need-returns
-unfolding bitsOf
+unfolding bits_of
 returns c = sym (pick-false _ _ _ (ne_eqb (length c.before.before.args.bytes.now) 16 c.if1.true))
 
 pairs-requires : tie.Need-pairs-requires
 pairs-requires c κs = (c.before.before.if1.false, sym c.before.are-hex.ensures ∙ c.if2.true)
 
 returns-2 : tie.Need-returns-2
-unfolding bitsOf
+unfolding bits_of
 returns-2 c =
     let t = c.before.before in
     let l = t.before.before in
@@ -25,7 +25,7 @@ returns-2 c =
     ∙ sym (pick_true _ _ _ (eq-eqb (length bs) 16 l.if1.false))
 
 returns-3 : tie.Need-returns-3
-unfolding bitsOf
+unfolding bits_of
 returns-3 c =
     let l = c.before.before in
     let bs = l.before.before.args.bytes.now in

@@ -1,18 +1,18 @@
 -- `text::numbers::joined` meets its contract. Assumes nothing.
 use Rattle.std.proofs.Common.{◌≡◌, ℕ, ◌-◌, ◌^◌, ◌<◌, ◌≤◌, refl, ap, ◌∙◌, arith, lit<}
-use Rattle.text.specs.Pairs.{joinedTo}
+use Rattle.text.specs.Pairs.{joined_to}
 use Rattle.text.proofs.Pairing.{joined-fits, joined-turn}
 use Rattle.text.proofs.numbers.joined.Statement.{statement}
 use Rattle.text.proofs.numbers.joined.Tie as tie
 
 abbrev invariant-loop : tie.invariant-loop
-invariant-loop bytes x₀ i₀ x i = (i ≤ 8) × (x < 256 ^ i) × (x ≡ joinedTo i bytes)
+invariant-loop bytes x₀ i₀ x i = (i ≤ 8) × (x < 256 ^ i) × (x ≡ joined_to i bytes)
 
 abbrev decreases-loop : tie.decreases-loop
 decreases-loop bytes x₀ i₀ x i = 8 - i
 
 loop-holds : tie.Need-loop-init invariant-loop decreases-loop
-unfolding joinedTo
+unfolding joined_to
 loop-holds c = (omega arith, lit< tt, refl)
 
 mul-x : tie.Need-overflow-mul-x invariant-loop decreases-loop
@@ -36,7 +36,7 @@ returns : tie.Need-returns invariant-loop decreases-loop
 returns c =
     let l = c.before.loop in
     let e : l.i ≡ 8 = omega arith in
-    l.invariant.2 ∙ ap (λ (n : ℕ). joinedTo n c.before.before.args.t1) e
+    l.invariant.2 ∙ ap (λ (n : ℕ). joined_to n c.before.before.args.t1) e
 
 pub joined-spec : {M : Type 1} → statement M
 joined-spec =

@@ -1,13 +1,13 @@
 -- `text::numbers::spelled` meets its contract: what is left says the same behind x as all of it behind 0. Assumes nothing.
 use Rattle.std.proofs.Common.{◌≡◌, ℕ, ◌+◌, ◌-◌, ◌*◌, ◌^◌, ◌<◌, ◌≤◌, length, get_or, drop, sym, refl, ap, ◌∙◌, subst, arith, lit<, drop_of_length-le}
-use Rattle.text.specs.Numbers.{spelledFrom}
-use Rattle.text.proofs.Spelling.{no_digit, too_large, next-digit, step_fits, step-passes}
+use Rattle.text.specs.Numbers.{spelled_from}
+use Rattle.text.proofs.Spelling.{no_digit, too_large, next_digit, step_fits, step-passes}
 use Rattle.text.proofs.Pairing.{digit_low, digit-high}
 use Rattle.text.proofs.numbers.spelled.Statement.{statement}
 use Rattle.text.proofs.numbers.spelled.Tie as tie
 
 abbrev invariant-loop : tie.invariant-loop
-invariant-loop bytes x₀ i₀ x i = (i ≤ length bytes) × (x < 2 ^ 64) × (spelledFrom 10 0 bytes ≡ spelledFrom 10 x (drop i bytes))
+invariant-loop bytes x₀ i₀ x i = (i ≤ length bytes) × (x < 2 ^ 64) × (spelled_from 10 0 bytes ≡ spelled_from 10 x (drop i bytes))
 
 abbrev decreases-loop : tie.decreases-loop
 decreases-loop bytes x₀ i₀ x i = length bytes - i
@@ -68,16 +68,16 @@ loop-again c =
       omega arith,
       step c,
       l.invariant.2
-          ∙ next-digit 10 l.x l.i bs t.loop-test.true (omega (arith, p)) (subst (λ (k : ℕ). l.x * 10 + k < 2 ^ 64) p (step c))
-          ∙ ap (λ (k : ℕ). spelledFrom 10 (l.x * 10 + k) (drop (l.i + 1) bs)) (sym p),
+          ∙ next_digit 10 l.x l.i bs t.loop-test.true (omega (arith, p)) (subst (λ (k : ℕ). l.x * 10 + k < 2 ^ 64) p (step c))
+          ∙ ap (λ (k : ℕ). spelled_from 10 (l.x * 10 + k) (drop (l.i + 1) bs)) (sym p),
     )
 
 returns-3 : tie.Need-returns-3 invariant-loop decreases-loop
-unfolding spelledFrom
+unfolding spelled_from
 returns-3 c =
     let l = c.before.loop in
     let bs = c.before.before.before.args.bytes.now in
-    sym (l.invariant.2 ∙ ap (spelledFrom 10 l.x) (drop_of_length-le bs c.loop-test.false))
+    sym (l.invariant.2 ∙ ap (spelled_from 10 l.x) (drop_of_length-le bs c.loop-test.false))
 
 pub spelled-spec : {M : Type 1} → statement M
 spelled-spec =

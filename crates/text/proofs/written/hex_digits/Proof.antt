@@ -1,30 +1,30 @@
 -- `text::written::hex_digits` meets its contract: the digits from place i on stand. Assumes nothing.
 use Rattle.std.proofs.Common.{◌≡◌, ℕ, suc, ◌+◌, ◌-◌, ◌/◌, ◌%◌, ◌^◌, ◌≤◌, List, length, drop, set, sym, refl, ap, ◌∙◌, subst, div-one, arith, length-set}
-use Rattle.text.specs.Numbers.{glyphOf, hexDigits}
+use Rattle.text.specs.Numbers.{glyph_of, hex_digits}
 use Rattle.text.proofs.Spelling.{digit-put, digit-less}
 use Rattle.text.proofs.written.hex_digits.Statement.{statement}
 use Rattle.text.proofs.written.hex_digits.Tie as tie
 
 abbrev invariant-loop : tie.invariant-loop
-invariant-loop bits out₀ rest₀ i₀ out rest i = (i ≤ 16) × (rest ≡ bits / 16 ^ (16 - i)) × (drop i out ≡ hexDigits (16 - i) bits) × (length out ≡ 16)
+invariant-loop bits out₀ rest₀ i₀ out rest i = (i ≤ 16) × (rest ≡ bits / 16 ^ (16 - i)) × (drop i out ≡ hex_digits (16 - i) bits) × (length out ≡ 16)
 
 abbrev decreases-loop : tie.decreases-loop
 decreases-loop bits out₀ rest₀ i₀ out rest i = i
 
 -- a turn, over plain numbers: the place is p + 1
-turn : (out : List ℕ) (bits rest p g : ℕ) → p + 1 ≤ 16 → rest ≡ bits / 16 ^ (16 - (p + 1)) → drop (p + 1) out ≡ hexDigits (16 - (p + 1)) bits → length out ≡ 16 → g ≡ glyphOf (rest % 16)
-    → (rest / 16 ≡ bits / 16 ^ (16 - p)) × (drop p (set out p g) ≡ hexDigits (16 - p) bits) × (length (set out p g) ≡ 16)
+turn : (out : List ℕ) (bits rest p g : ℕ) → p + 1 ≤ 16 → rest ≡ bits / 16 ^ (16 - (p + 1)) → drop (p + 1) out ≡ hex_digits (16 - (p + 1)) bits → length out ≡ 16 → g ≡ glyph_of (rest % 16)
+    → (rest / 16 ≡ bits / 16 ^ (16 - p)) × (drop p (set out p g) ≡ hex_digits (16 - p) bits) × (length (set out p g) ≡ 16)
 turn out bits rest p g h r d n e =
     let k = 16 - (p + 1) in
     let s : suc k ≡ 16 - p = omega arith in
-    let f : g ≡ glyphOf (bits / 16 ^ k % 16) = e ∙ ap (λ (x : ℕ). glyphOf (x % 16)) r in (
+    let f : g ≡ glyph_of (bits / 16 ^ k % 16) = e ∙ ap (λ (x : ℕ). glyph_of (x % 16)) r in (
       ap (λ (x : ℕ). x / 16) r ∙ digit-less bits k ∙ ap (λ (x : ℕ). bits / 16 ^ x) s,
-      ap (λ (x : ℕ). drop p (set out p x)) f ∙ digit-put out p k bits (omega arith) d ∙ ap (λ (x : ℕ). hexDigits x bits) s,
+      ap (λ (x : ℕ). drop p (set out p x)) f ∙ digit-put out p k bits (omega arith) d ∙ ap (λ (x : ℕ). hex_digits x bits) s,
       length-set out p g ∙ n,
     )
 
 loop-holds : tie.Need-loop-init invariant-loop decreases-loop
-unfolding hexDigits
+unfolding hex_digits
 loop-holds c = (omega arith, sym (div-one c.args.bits), refl, refl)
 
 glyph-requires : tie.Need-glyph-requires invariant-loop decreases-loop
@@ -39,7 +39,7 @@ loop-again c =
     let q : l.i ≡ p + 1 = omega (arith, t.loop-test.true) in
     let z = turn l.out a.bits l.rest p c.glyph.result (omega (arith, q, l.invariant.0))
     (subst (λ (n : ℕ). l.rest ≡ a.bits / 16 ^ (16 - n)) q l.invariant.1)
-    (subst (λ (n : ℕ). drop n l.out ≡ hexDigits (16 - n) a.bits) q l.invariant.2)
+    (subst (λ (n : ℕ). drop n l.out ≡ hex_digits (16 - n) a.bits) q l.invariant.2)
     l.invariant.3 c.glyph.ensures in
     (omega arith, z.0, z.1, z.2)
 
@@ -47,7 +47,7 @@ returns : tie.Need-returns invariant-loop decreases-loop
 returns c =
     let l = c.before.loop in
     let z : l.i ≡ 0 = omega (arith, c.loop-test.false) in
-    subst (λ (n : ℕ). drop n l.out ≡ hexDigits (16 - n) c.before.before.args.bits) z l.invariant.2
+    subst (λ (n : ℕ). drop n l.out ≡ hex_digits (16 - n) c.before.before.args.bits) z l.invariant.2
 
 pub hex-digits-spec : {M : Type 1} → statement M
 hex-digits-spec =

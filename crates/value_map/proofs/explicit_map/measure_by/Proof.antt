@@ -3,17 +3,17 @@ use borrow.Author.Rules.{rules}
 use mathlib.Core.Path.{refl, ◌∙◌}
 use Rattle.kinds.specs.Histograms.{histograms}
 use Rattle.directory.specs.View.{stores}
-use Rattle.points.specs.Explicit.{boundsPass}
+use Rattle.points.specs.Explicit.{bounds_pass}
 use Rattle.explicit_slots.specs.Cells.{Cells, cells}
 use Rattle.value_map.specs.Store.{Store}
 use Rattle.value_map.specs.Calls.{Held, held}
-use Rattle.value_map.specs.Explicit.{explicitStore}
+use Rattle.value_map.specs.Explicit.{explicit_store}
 use Rattle.value_map.specs.Inner.{turned}
 use Rattle.value_map.proofs.Cases.{by-here}
 use Rattle.value_map.proofs.Ways.{took, Way, by_way, Sits, allows}
 use Rattle.value_map.proofs.Late.{turned-some, late-ends}
 use Rattle.value_map.proofs.Values.{finite-is}
-use Rattle.value_map.proofs.ExplicitOwes.{passes-is, owed, bad-8}
+use Rattle.value_map.proofs.ExplicitOwes.{passes-is, owed, bad_8}
 use Rattle.value_map.proofs.explicit_map.measure_by.Statement.{statement}
 use Rattle.value_map.proofs.explicit_map.measure_by.Tie as tie
 
@@ -24,20 +24,20 @@ abbrev at : tie.After-seat-by → tie.Start
 at q = (own q).before.before.before.before.before.before
 
 abbrev kind : tie.Start → Store histograms
-kind s = explicitStore s.args.bounds.now
+kind s = explicit_store s.args.bounds.now
 
-abbrev lentMap : tie.Start → Held Cells
-lentMap s = let a = s.args in held a.d (stores a.sets a.entries a.order) (cells a.totals a.extremes a.counts)
+abbrev lent_map : tie.Start → Held Cells
+lent_map s = let a = s.args in held a.d (stores a.sets a.entries a.order) (cells a.totals a.extremes a.counts)
 
-abbrev way : (s : tie.Start) → Way (kind s) s.args.limit (lentMap s)
-way s = let a = s.args in by_way (owed a.bounds.now) a.limit (lentMap s) a.h
+abbrev way : (s : tie.Start) → Way (kind s) s.args.limit (lent_map s)
+way s = let a = s.args in by_way (owed a.bounds.now) a.limit (lent_map s) a.h
 
-known : (q : tie.After-seat-by) → Sits (kind (at q)) (lentMap (at q)) (at q).args.v q.seat-by.result
+known : (q : tie.After-seat-by) → Sits (kind (at q)) (lent_map (at q)) (at q).args.v q.seat-by.result
 known q =
     let s = at q in
     let a = s.args in
     let u = own q in
-    allows (owed a.bounds.now) a.limit (lentMap s) a.v (way s) 0 (u.before.slots-of.ensures a.limit) u.takes.ensures q.seat-by.ensures
+    allows (owed a.bounds.now) a.limit (lent_map s) a.v (way s) 0 (u.before.slots-of.ensures a.limit) u.takes.ensures q.seat-by.ensures
 
 take-requires : tie.Need-take-requires
 take-requires c κs = (known c.before.before.before).takes
@@ -47,8 +47,8 @@ finish-requires c κs z =
     let t = c.before.before.before.before.before.before.before.before.before in
     let q = t.before.before.before.before in
     let s = at q in
-    (known q).ranges (took (kind s) (lentMap s).cells s.args.v q.seat-by.result.no (turned (boundsPass s.args.bounds.now) q.seat-by.result.no) q.seat-by.result.slot q.seat-by.result.updated
-    (turned-some (boundsPass s.args.bounds.now) q.seat-by.result.no) _ t.take.ensures z)
+    (known q).ranges (took (kind s) (lent_map s).cells s.args.v q.seat-by.result.no (turned (bounds_pass s.args.bounds.now) q.seat-by.result.no) q.seat-by.result.slot q.seat-by.result.updated
+    (turned-some (bounds_pass s.args.bounds.now) q.seat-by.result.no) _ t.take.ensures z)
 
 returns : tie.Need-returns
 returns c =
@@ -59,10 +59,10 @@ returns c =
     let a = s.args in
     let u = own q in
     let b = a.bounds.now in
-    late-ends (owed b) a.limit (lentMap s) a.v (way s) (boundsPass b) (passes-is b) q.seat-by.result _ _ _ f.finish.ensures t.take.ensures
+    late-ends (owed b) a.limit (lent_map s) a.v (way s) (bounds_pass b) (passes-is b) q.seat-by.result _ _ _ f.finish.ensures t.take.ensures
     (u.before.slots-of.ensures a.limit) u.takes.ensures q.seat-by.ensures (λ z. refl)
-    (λ i z. let m = (known q).takes z in bad-8 b (lentMap s).cells q.seat-by.result.slot q.seat-by.result.updated a.v m.0 (finite-is a.v m.1) i)
-    ∙ by-here (kind s) a.limit (lentMap s) a.v a.h
+    (λ i z. let m = (known q).takes z in bad_8 b (lent_map s).cells q.seat-by.result.slot q.seat-by.result.updated a.v m.0 (finite-is a.v m.1) i)
+    ∙ by-here (kind s) a.limit (lent_map s) a.v a.h
 
 pub measure-by-spec : {M : Type 1} → statement M
 measure-by-spec =

@@ -2,10 +2,10 @@
 use borrow.Author.Rules.{rules}
 use Prim.Native.Nat.{ℕ}
 use mathlib.Core.Path.{ap, ◌∙◌}
-use Rattle.points.specs.Explicit.{boundsPass}
+use Rattle.points.specs.Explicit.{bounds_pass}
 use Rattle.explicit_slots.specs.Cells.{Cells, cells}
 use Rattle.rows.specs.Recording.{after}
-use Rattle.value_map.specs.Explicit.{explicitStore}
+use Rattle.value_map.specs.Explicit.{explicit_store}
 use Rattle.value_map.specs.Inner.{turned}
 use Rattle.value_map.proofs.Ways.{take_no, take_on}
 use Rattle.value_map.proofs.Values.{finite-is}
@@ -19,7 +19,7 @@ abbrev lent : tie.Start → Cells
 lent s = let a = s.args in cells a.totals a.extremes a.counts
 
 abbrev number : tie.Start → ℕ
-number s = turned (boundsPass s.args.bounds.now) s.args.no
+number s = turned (bounds_pass s.args.bounds.now) s.args.no
 
 returns : tie.Need-returns
 returns c =
@@ -27,7 +27,7 @@ returns c =
     let s = t.before.before.before.before in
     let a = s.args in
     ap (λ (n : ℕ). after n (lent s)) c.turned_by.ensures
-    ∙ take_no (explicitStore a.bounds.now) (lent s) a.v a.no (number s) a.x a.updated t.if1.true
+    ∙ take_no (explicit_store a.bounds.now) (lent s) a.v a.no (number s) a.x a.updated t.if1.true
 
 record-requires : tie.Need-record-requires
 record-requires c κs =
@@ -43,7 +43,7 @@ returns-2 c =
     let e = r.before.before.before.before in
     let s = at e in
     let a = s.args in
-    r.«record».ensures ∙ take_on (explicitStore a.bounds.now) (lent s) a.v a.no (number s) a.x a.updated e.if1.false
+    r.«record».ensures ∙ take_on (explicit_store a.bounds.now) (lent s) a.v a.no (number s) a.x a.updated e.if1.false
 
 pub take_spec : {M : Type 1} → statement M
 take_spec =

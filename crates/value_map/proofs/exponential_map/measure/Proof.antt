@@ -2,13 +2,13 @@
 use borrow.Author.Rules.{rules}
 use mathlib.Core.Path.{◌∙◌}
 use Rattle.kinds.specs.Histograms.{histograms}
-use Rattle.sets.specs.Sorted.{given, filterOf}
+use Rattle.sets.specs.Sorted.{given, filter_of}
 use Rattle.directory.specs.View.{stores}
 use Rattle.exponential_slots.specs.Cells.{Cells, cells}
 use Rattle.seats.proofs.Bars.{row-seated}
 use Rattle.value_map.specs.Store.{Store}
 use Rattle.value_map.specs.Calls.{Held, held}
-use Rattle.value_map.specs.Exponential.{exponentialStore}
+use Rattle.value_map.specs.Exponential.{exponential_store}
 use Rattle.value_map.proofs.Cases.{set_here}
 use Rattle.value_map.proofs.Ways.{took, Way, set-way, Sits, allows, ends}
 use Rattle.value_map.proofs.ExponentialOwes.{owed}
@@ -25,20 +25,20 @@ abbrev at : tie.After-seat → tie.Start
 at q = (unset q).before.before.before.before.before
 
 abbrev kind : tie.Start → Store histograms
-kind s = exponentialStore s.args.size s.args.top
+kind s = exponential_store s.args.size s.args.top
 
-abbrev lentMap : tie.Start → Held Cells
-lentMap s = let a = s.args in held a.d (stores a.sets a.entries a.order) (cells a.figures a.extremes a.pos a.neg)
+abbrev lent_map : tie.Start → Held Cells
+lent_map s = let a = s.args in held a.d (stores a.sets a.entries a.order) (cells a.figures a.extremes a.pos a.neg)
 
-abbrev way : (s : tie.Start) → Way (kind s) s.args.limit (lentMap s)
-way s = let a = s.args in set-way (owed a.size a.top) a.limit (lentMap s) (filterOf a.present a.filter.now) (given a.attrs.now)
+abbrev way : (s : tie.Start) → Way (kind s) s.args.limit (lent_map s)
+way s = let a = s.args in set-way (owed a.size a.top) a.limit (lent_map s) (filter_of a.present a.filter.now) (given a.attrs.now)
 
-known : (q : tie.After-seat) → Sits (kind (at q)) (lentMap (at q)) (at q).args.v q.seat.result
+known : (q : tie.After-seat) → Sits (kind (at q)) (lent_map (at q)) (at q).args.v q.seat.result
 known q =
     let s = at q in
     let a = s.args in
     let u = own q in
-    allows (owed a.size a.top) a.limit (lentMap s) a.v (way s) (unset q).unset-of.result (u.before.slots-of.ensures a.limit) u.takes.ensures q.seat.ensures.0
+    allows (owed a.size a.top) a.limit (lent_map s) a.v (way s) (unset q).unset-of.result (u.before.slots-of.ensures a.limit) u.takes.ensures q.seat.ensures.0
 
 take-requires : tie.Need-take-requires
 take-requires c κs = (known c.before.before.before.before).takes
@@ -48,7 +48,7 @@ finish-requires c κs z =
     let t = c.before.before.before.before.before.before.before.before.before.before in
     let q = t.before.before.before.before.before in
     let s = at q in
-    (known q).ranges (took (kind s) (lentMap s).cells s.args.v q.seat.result.no q.seat.result.no q.seat.result.slot q.seat.result.updated (λ d. d) _ t.take.ensures z)
+    (known q).ranges (took (kind s) (lent_map s).cells s.args.v q.seat.result.no q.seat.result.no q.seat.result.slot q.seat.result.updated (λ d. d) _ t.take.ensures z)
 
 returns : tie.Need-returns
 returns c =
@@ -58,9 +58,9 @@ returns c =
     let s = at q in
     let a = s.args in
     let u = own q in
-    ends (owed a.size a.top) a.limit (lentMap s) a.v (way s) q.seat.result _ _ _ f.finish.ensures
+    ends (owed a.size a.top) a.limit (lent_map s) a.v (way s) q.seat.result _ _ _ f.finish.ensures
     (u.before.slots-of.ensures a.limit) u.takes.ensures (unset q).unset-of.ensures q.seat.ensures.0 (row-seated _ _ _ _ _ q.seat.ensures.0 _ q.seat.ensures.1) t.take.ensures
-    ∙ set_here (kind s) a.limit (lentMap s) a.v (filterOf a.present a.filter.now) (given a.attrs.now)
+    ∙ set_here (kind s) a.limit (lent_map s) a.v (filter_of a.present a.filter.now) (given a.attrs.now)
 
 pub measure-spec : {M : Type 1} → statement M
 measure-spec =

@@ -1,9 +1,9 @@
 -- `value_map::exponential_map::start` meets its contract. Assumes nothing.
 use borrow.Author.Rules.{rules}
-use Rattle.sets.specs.Sorted.{filterOf}
+use Rattle.sets.specs.Sorted.{filter_of}
 use Rattle.directory.specs.View.{stores}
 use Rattle.exponential_slots.specs.Cells.{cells}
-use Rattle.value_map.specs.Exponential.{exponentialStore}
+use Rattle.value_map.specs.Exponential.{exponential_store}
 use Rattle.value_map.proofs.Cases.{start_is}
 use Rattle.value_map.proofs.exponential_map.start.Statement.{statement}
 use Rattle.value_map.proofs.exponential_map.start.Tie as tie
@@ -13,7 +13,7 @@ returns c =
     let b = c.before in
     let u = b.before.before in
     let a = u.before.before.before.before.before.before.args in
-    start_is (exponentialStore a.size a.top) a.limit (filterOf a.present a.filter.now) (stores a.sets a.entries a.order)
+    start_is (exponential_store a.size a.top) a.limit (filter_of a.present a.filter.now) (stores a.sets a.entries a.order)
     (cells a.figures a.extremes a.pos a.neg) _ u.unset-of.ensures u.before.cells-suffice.ensures b.begin.ensures
 
 pub start_spec : {M : Type 1} → statement M

@@ -2,7 +2,7 @@
 use borrow.Author.Rules.{rules}
 use mathlib.Core.Path.{◌∙◌}
 use Rattle.exponential_slots.specs.Cells.{Cells, cells}
-use Rattle.value_map.specs.Exponential.{exponentialStore}
+use Rattle.value_map.specs.Exponential.{exponential_store}
 use Rattle.value_map.proofs.Ways.{take_no, take_on}
 use Rattle.value_map.proofs.Values.{finite-is}
 use Rattle.value_map.proofs.exponential_map.take.Statement.{statement}
@@ -15,7 +15,7 @@ abbrev lent : tie.Start → Cells
 lent s = let a = s.args in cells a.figures a.extremes a.pos a.neg
 
 returns : tie.Need-returns
-returns c = let s = c.before.before.before in let a = s.args in take_no (exponentialStore a.size a.top) (lent s) a.v a.no a.no a.x a.updated c.if1.true
+returns c = let s = c.before.before.before in let a = s.args in take_no (exponential_store a.size a.top) (lent s) a.v a.no a.no a.x a.updated c.if1.true
 
 record-requires : tie.Need-record-requires
 record-requires c κs =
@@ -30,7 +30,7 @@ returns-2 c =
     let e = r.before.before.before.before.before in
     let s = at e in
     let a = s.args in
-    r.«record».ensures ∙ take_on (exponentialStore a.size a.top) (lent s) a.v a.no a.no a.x a.updated e.if1.false
+    r.«record».ensures ∙ take_on (exponential_store a.size a.top) (lent s) a.v a.no a.no a.x a.updated e.if1.false
 
 pub take_spec : {M : Type 1} → statement M
 take_spec =

@@ -6,10 +6,10 @@ use mathlib.Core.Bool.{true}
 use mathlib.Core.List.{List}
 use mathlib.Core.Option.{Option}
 use borrow.Author.Tests.{not-true, not-false}
-use Rattle.sets.specs.Sorted.{filterOf}
+use Rattle.sets.specs.Sorted.{filter_of}
 use Rattle.directory.specs.View.{Stores, stores}
 use Rattle.directory.specs.Calls.{accepts}
-use Rattle.value_map.proofs.Cases.{begin-unset, begin-4, begin-12, begin-on}
+use Rattle.value_map.proofs.Cases.{begin-unset, begin_4, begin_12, begin-on}
 use Rattle.value_map.proofs.first.begin.Statement.{statement}
 use Rattle.value_map.proofs.first.begin.Tie as tie
 
@@ -20,7 +20,7 @@ abbrev lent : tie.Start → Stores
 lent s = stores s.args.sets s.args.entries s.args.order
 
 abbrev filter : tie.Start → Option (List ℕ)
-filter s = filterOf s.args.present s.args.filter.now
+filter s = filter_of s.args.present s.args.filter.now
 
 accept : (d : tie.Else2) → let s = at d.before.before in accepts s.args.limit (filter s) ≡ true
 accept d = sym d.before.accepted.ensures ∙ not-false _ d.if2.false
@@ -32,14 +32,14 @@ returns-2 : tie.Need-returns-2
 returns-2 c =
     let e = c.before.before in
     let s = at e in
-    begin-4 s.args.unset s.args.cells s.args.limit (filter s) (lent s) e.if1.false (sym c.before.accepted.ensures ∙ not-true _ c.if2.true)
+    begin_4 s.args.unset s.args.cells s.args.limit (filter s) (lent s) e.if1.false (sym c.before.accepted.ensures ∙ not-true _ c.if2.true)
 
 returns-3 : tie.Need-returns-3
 returns-3 c =
     let d = c.before in
     let e = d.before.before in
     let s = at e in
-    begin-12 s.args.unset s.args.cells s.args.limit (filter s) (lent s) e.if1.false (accept d) (not-true _ c.if3.true)
+    begin_12 s.args.unset s.args.cells s.args.limit (filter s) (lent s) e.if1.false (accept d) (not-true _ c.if3.true)
 
 returns-4 : tie.Need-returns-4
 returns-4 c =

@@ -7,19 +7,19 @@ use mir.Val.{SFits}
 use Rattle.laws.specs.Pick.{pick}
 use Rattle.integers.specs.declared.Extreme.TheVariants.{Value}
 use Rattle.integers.proofs.Range.{held}
-use Rattle.whole_listing.specs.Words.{extremeIn}
+use Rattle.whole_listing.specs.Words.{extreme_in}
 use Rattle.whole_listing.proofs.decode.extreme_of.Statement.{statement}
 use Rattle.whole_listing.proofs.decode.extreme_of.Tie as tie
 
 returns : tie.Need-returns
-unfolding extremeIn pick
+unfolding extreme_in pick
 returns c =
     let r : SFits w64 c.of-bits.result = search rules in
-    ap Value (held c.of-bits.result r ∙ c.of-bits.ensures) ∙ sym (ap (λ (b : Bool). extremeIn b c.before.before.args.bits) c.before.if1.true)
+    ap Value (held c.of-bits.result r ∙ c.of-bits.ensures) ∙ sym (ap (λ (b : Bool). extreme_in b c.before.before.args.bits) c.before.if1.true)
 
 returns-2 : tie.Need-returns-2
-unfolding extremeIn pick
-returns-2 c = sym (ap (λ (b : Bool). extremeIn b c.before.args.bits) c.if1.false)
+unfolding extreme_in pick
+returns-2 c = sym (ap (λ (b : Bool). extreme_in b c.before.args.bits) c.if1.false)
 
 pub extreme-of-spec : {M : Type 1} → statement M
 extreme-of-spec = tie.close (tie.spec (λ c κs. search rules) returns returns-2)

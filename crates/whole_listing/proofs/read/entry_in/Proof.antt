@@ -10,8 +10,8 @@ use mir.Syntax.{w64}
 use mir.Val.{Fits}
 use Rattle.whole_point.specs.declared.Point.{Point}
 use Rattle.listing.specs.Listed as L
-use Rattle.whole_listing.specs.Listed.{entryIn}
-use Rattle.whole_listing.specs.Inner.{own_words, numberedFound}
+use Rattle.whole_listing.specs.Listed.{entry_in}
+use Rattle.whole_listing.specs.Inner.{own_words, numbered_found}
 use Rattle.whole_listing.specs.declared.Found.TheVariants.{Is}
 use Rattle.whole_listing.proofs.Reading.{Wide, kind-own}
 use Rattle.whole_listing.proofs.Calls.{entry-no, entry-by}
@@ -31,13 +31,13 @@ wide s =
 -- what is found of the shadow, with its numbers
 by-shadow : (n : tie.After-entry-in)
     → let s = n.before.before.before.before in
-    numberedFound s.args.w n.entry_in.result ≡ entryIn s.args.at s.args.w s.args.pos s.args.neg
+    numbered_found s.args.w n.entry_in.result ≡ entry_in s.args.at s.args.w s.args.pos s.args.neg
 by-shadow n =
     let v = n.before in
     let e = v.before in
     let s = e.before.before in
     let a = s.args in
-    ap (numberedFound a.w) (n.entry_in.ensures ∙ ap (λ (x : List ℕ). L.entryIn a.at x a.pos a.neg) v.shadow-words.ensures)
+    ap (numbered_found a.w) (n.entry_in.ensures ∙ ap (λ (x : List ℕ). L.entry_in a.at x a.pos a.neg) v.shadow-words.ensures)
     ∙ entry-by a.at a.w a.pos a.neg (wide s) (own e)
 
 returns : tie.Need-returns
@@ -53,7 +53,7 @@ returns-2 : tie.Need-returns-2
 returns-2 c =
     let n = c.before.before in
     let a = n.before.before.before.before.args in
-    sym (ap (numberedFound a.w) c.enum_told.given.1) ∙ by-shadow n
+    sym (ap (numbered_found a.w) c.enum_told.given.1) ∙ by-shadow n
 
 returns-3 : tie.Need-returns-3
 returns-3 c =
@@ -63,7 +63,7 @@ returns-3 c =
     let a = n.before.before.before.before.args in
     let e = f.found.given.0.0 in
     ap (λ (q : Point). Is (record { point = q; bounds = e.bounds; next = e.next })) p.point-of.ensures
-    ∙ sym (ap (numberedFound a.w) f.found.given.1)
+    ∙ sym (ap (numbered_found a.w) f.found.given.1)
     ∙ by-shadow n
 
 pub entry-in-spec : {M : Type 1} → statement M

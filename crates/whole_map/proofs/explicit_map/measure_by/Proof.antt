@@ -3,7 +3,7 @@ use borrow.Author.Rules.{rules}
 use mathlib.Core.Path.{◌≡◌, refl, sym, ap, subst, ◌∙◌}
 use Rattle.kinds.specs.Wholes.{wholes}
 use Rattle.directory.specs.View.{stores}
-use Rattle.points.specs.Explicit.{boundsPass}
+use Rattle.points.specs.Explicit.{bounds_pass}
 use Rattle.explicit_whole_slots.specs.Cells.{Cells, cells}
 use Rattle.value_map.specs.Store.{Store}
 use lib.IntN.{ℤ}
@@ -12,12 +12,12 @@ use mir.Val.{to_z, of_z}
 use Rattle.rows.specs.Recording.{Recording, after}
 use Rattle.integers.proofs.Range as Range
 use Rattle.value_map.specs.Calls.{Held, held}
-use Rattle.whole_map.specs.Explicit.{explicitWholes}
+use Rattle.whole_map.specs.Explicit.{explicit_wholes}
 use Rattle.value_map.specs.Inner.{Takes, taken, turned}
 use Rattle.value_map.proofs.Cases.{by-here}
 use Rattle.value_map.proofs.Ways.{took, Way, by_way, Sits, allows}
 use Rattle.value_map.proofs.Late.{turned-some, late-ends}
-use Rattle.whole_map.proofs.ExplicitOwes.{passes-is, owed, bad-8}
+use Rattle.whole_map.proofs.ExplicitOwes.{passes-is, owed, bad_8}
 use Rattle.whole_map.proofs.explicit_map.measure_by.Statement.{statement}
 use Rattle.whole_map.proofs.explicit_map.measure_by.Tie as tie
 
@@ -28,13 +28,13 @@ abbrev at : tie.After-seat-by → tie.Start
 at q = (own q).before.before.before.before.before.before
 
 abbrev kind : tie.Start → Store wholes
-kind s = explicitWholes s.args.bounds.now s.args.sums
+kind s = explicit_wholes s.args.bounds.now s.args.sums
 
-abbrev lentMap : tie.Start → Held Cells
-lentMap s = let a = s.args in held a.d (stores a.sets a.entries a.order) (cells a.totals a.extremes a.counts)
+abbrev lent_map : tie.Start → Held Cells
+lent_map s = let a = s.args in held a.d (stores a.sets a.entries a.order) (cells a.totals a.extremes a.counts)
 
-abbrev way : (s : tie.Start) → Way (kind s) s.args.limit (lentMap s)
-way s = let a = s.args in by_way (owed a.bounds.now a.sums) a.limit (lentMap s) a.h
+abbrev way : (s : tie.Start) → Way (kind s) s.args.limit (lent_map s)
+way s = let a = s.args in by_way (owed a.bounds.now a.sums) a.limit (lent_map s) a.h
 
 -- the value as it is passed on
 same-value : (s : tie.Start) → to_z w64 (of_z w64 s.args.v) ≡ s.args.v
@@ -43,38 +43,38 @@ same-value s = Range.held s.args.v s.ranges.v
 all-taken : (u : tie.After-takes) → u.takes.result ≡ wholes.finite u.before.before.before.before.before.before.args.v
 all-taken u = u.takes.ensures ∙ ap wholes.finite (same-value (u.before.before.before.before.before.before))
 
-known : (q : tie.After-seat-by) → Sits (kind (at q)) (lentMap (at q)) (at q).args.v q.seat-by.result
+known : (q : tie.After-seat-by) → Sits (kind (at q)) (lent_map (at q)) (at q).args.v q.seat-by.result
 known q =
     let s = at q in
     let a = s.args in
     let u = own q in
-    allows (owed a.bounds.now a.sums) a.limit (lentMap s) a.v (way s) 0 (u.before.slots-of.ensures a.limit) (all-taken u) q.seat-by.ensures
+    allows (owed a.bounds.now a.sums) a.limit (lent_map s) a.v (way s) 0 (u.before.slots-of.ensures a.limit) (all-taken u) q.seat-by.ensures
 
 take-requires : tie.Need-take-requires
 take-requires c κs =
     let q = c.before.before.before in
     let s = at q in
-    subst (λ (z : ℤ). Takes (kind s) (lentMap s).cells z q.seat-by.result.no q.seat-by.result.slot) (sym (same-value s)) (known q).takes
+    subst (λ (z : ℤ). Takes (kind s) (lent_map s).cells z q.seat-by.result.no q.seat-by.result.slot) (sym (same-value s)) (known q).takes
 
 took_it : (t : tie.After-take)
     → (let q = t.before.before.before.before in
     let s = at q in
     let r = q.seat-by.result in
     after t.take.result (record { totals = t.take.new.1.1.1.1.1.0; extremes = t.take.new.1.1.1.1.1.1.0; counts = t.take.new.1.1.1.1.1.1.1.0 })
-    ≡ taken (kind s) (lentMap s).cells s.args.v r.no (turned (boundsPass s.args.bounds.now) r.no) r.slot r.updated)
+    ≡ taken (kind s) (lent_map s).cells s.args.v r.no (turned (bounds_pass s.args.bounds.now) r.no) r.slot r.updated)
 took_it t =
     let q = t.before.before.before.before in
     let s = at q in
     let r = q.seat-by.result in
-    t.take.ensures ∙ ap (λ (z : ℤ). taken (kind s) (lentMap s).cells z r.no (turned (boundsPass s.args.bounds.now) r.no) r.slot r.updated) (same-value s)
+    t.take.ensures ∙ ap (λ (z : ℤ). taken (kind s) (lent_map s).cells z r.no (turned (bounds_pass s.args.bounds.now) r.no) r.slot r.updated) (same-value s)
 
 finish-requires : tie.Need-finish-requires
 finish-requires c κs z =
     let t = c.before.before.before.before.before.before.before.before.before in
     let q = t.before.before.before.before in
     let s = at q in
-    (known q).ranges (took (kind s) (lentMap s).cells s.args.v q.seat-by.result.no (turned (boundsPass s.args.bounds.now) q.seat-by.result.no) q.seat-by.result.slot q.seat-by.result.updated
-    (turned-some (boundsPass s.args.bounds.now) q.seat-by.result.no) _ (took_it t) z)
+    (known q).ranges (took (kind s) (lent_map s).cells s.args.v q.seat-by.result.no (turned (bounds_pass s.args.bounds.now) q.seat-by.result.no) q.seat-by.result.slot q.seat-by.result.updated
+    (turned-some (bounds_pass s.args.bounds.now) q.seat-by.result.no) _ (took_it t) z)
 
 returns : tie.Need-returns
 returns c =
@@ -85,10 +85,10 @@ returns c =
     let a = s.args in
     let u = own q in
     let b = a.bounds.now in
-    late-ends (owed b a.sums) a.limit (lentMap s) a.v (way s) (boundsPass b) (passes-is b a.sums) q.seat-by.result _ _ _ f.finish.ensures (took_it t)
+    late-ends (owed b a.sums) a.limit (lent_map s) a.v (way s) (bounds_pass b) (passes-is b a.sums) q.seat-by.result _ _ _ f.finish.ensures (took_it t)
     (u.before.slots-of.ensures a.limit) (all-taken u) q.seat-by.ensures (λ z. refl)
-    (λ i z. let m = (known q).takes z in bad-8 b a.sums (lentMap s).cells q.seat-by.result.slot q.seat-by.result.updated a.v m.0 m.1 i)
-    ∙ by-here (kind s) a.limit (lentMap s) a.v a.h
+    (λ i z. let m = (known q).takes z in bad_8 b a.sums (lent_map s).cells q.seat-by.result.slot q.seat-by.result.updated a.v m.0 m.1 i)
+    ∙ by-here (kind s) a.limit (lent_map s) a.v a.h
 
 pub measure-by-spec : {M : Type 1} → statement M
 measure-by-spec =

@@ -2,11 +2,11 @@
 use borrow.Author.Rules.{rules}
 use Prim.Native.Nat.{ℕ}
 use mathlib.Core.Path.{ap, ◌∙◌}
-use Rattle.points.specs.Explicit.{boundsPass}
-use Rattle.explicit_whole_slots.specs.Cells.{Cells, cells, recordedAt}
+use Rattle.points.specs.Explicit.{bounds_pass}
+use Rattle.explicit_whole_slots.specs.Cells.{Cells, cells, recorded_at}
 use Rattle.rows.specs.Recording.{after}
 use Rattle.integers.proofs.Range.{held}
-use Rattle.whole_map.specs.Explicit.{explicitWholes}
+use Rattle.whole_map.specs.Explicit.{explicit_wholes}
 use Rattle.value_map.specs.Inner.{turned}
 use Rattle.value_map.proofs.Ways.{take_no, take_on}
 use Rattle.whole_map.proofs.explicit_map.take.Statement.{statement}
@@ -19,7 +19,7 @@ abbrev lent : tie.Start → Cells
 lent s = let a = s.args in cells a.totals a.extremes a.counts
 
 abbrev number : tie.Start → ℕ
-number s = turned (boundsPass s.args.bounds.now) s.args.no
+number s = turned (bounds_pass s.args.bounds.now) s.args.no
 
 returns : tie.Need-returns
 returns c =
@@ -27,7 +27,7 @@ returns c =
     let s = t.before.before.before.before in
     let a = s.args in
     ap (λ (n : ℕ). after n (lent s)) c.turned_by.ensures
-    ∙ take_no (explicitWholes a.bounds.now a.sums) (lent s) a.v a.no (number s) a.x a.updated t.if1.true
+    ∙ take_no (explicit_wholes a.bounds.now a.sums) (lent s) a.v a.no (number s) a.x a.updated t.if1.true
 
 record-requires : tie.Need-record-requires
 record-requires c κs =
@@ -44,8 +44,8 @@ returns-2 c =
     let s = at e in
     let a = s.args in
     r.«record».ensures
-    ∙ ap (recordedAt a.bounds.now a.sums a.x a.updated (lent s)) (held a.v s.fits.v)
-    ∙ take_on (explicitWholes a.bounds.now a.sums) (lent s) a.v a.no (number s) a.x a.updated e.if1.false
+    ∙ ap (recorded_at a.bounds.now a.sums a.x a.updated (lent s)) (held a.v s.fits.v)
+    ∙ take_on (explicit_wholes a.bounds.now a.sums) (lent s) a.v a.no (number s) a.x a.updated e.if1.false
 
 pub take_spec : {M : Type 1} → statement M
 take_spec =

@@ -2,7 +2,7 @@
 use borrow.Author.Rules.{rules}
 use mathlib.Core.Path.{◌≡◌, sym, ap, subst, ◌∙◌}
 use Rattle.kinds.specs.Wholes.{wholes}
-use Rattle.sets.specs.Sorted.{given, filterOf}
+use Rattle.sets.specs.Sorted.{given, filter_of}
 use Rattle.directory.specs.View.{stores}
 use Rattle.exponential_whole_slots.specs.Cells.{Cells, cells}
 use Rattle.seats.proofs.Bars.{row-seated}
@@ -14,7 +14,7 @@ use Rattle.rows.specs.Recording.{Recording, after}
 use Rattle.integers.proofs.Range as Range
 use Rattle.value_map.specs.Inner.{Takes, taken}
 use Rattle.value_map.specs.Calls.{Held, held}
-use Rattle.whole_map.specs.Exponential.{exponentialWholes}
+use Rattle.whole_map.specs.Exponential.{exponential_wholes}
 use Rattle.value_map.proofs.Cases.{set_here}
 use Rattle.value_map.proofs.Ways.{took, Way, set-way, Sits, allows, ends}
 use Rattle.whole_map.proofs.ExponentialOwes.{owed}
@@ -31,13 +31,13 @@ abbrev at : tie.After-seat → tie.Start
 at q = (unset q).before.before.before.before.before
 
 abbrev kind : tie.Start → Store wholes
-kind s = exponentialWholes s.args.size s.args.top s.args.sums
+kind s = exponential_wholes s.args.size s.args.top s.args.sums
 
-abbrev lentMap : tie.Start → Held Cells
-lentMap s = let a = s.args in held a.d (stores a.sets a.entries a.order) (cells a.figures a.extremes a.pos a.neg)
+abbrev lent_map : tie.Start → Held Cells
+lent_map s = let a = s.args in held a.d (stores a.sets a.entries a.order) (cells a.figures a.extremes a.pos a.neg)
 
-abbrev way : (s : tie.Start) → Way (kind s) s.args.limit (lentMap s)
-way s = let a = s.args in set-way (owed a.size a.top a.sums) a.limit (lentMap s) (filterOf a.present a.filter.now) (given a.attrs.now)
+abbrev way : (s : tie.Start) → Way (kind s) s.args.limit (lent_map s)
+way s = let a = s.args in set-way (owed a.size a.top a.sums) a.limit (lent_map s) (filter_of a.present a.filter.now) (given a.attrs.now)
 
 -- the value as it is passed on
 same-value : (s : tie.Start) → to_z w64 (of_z w64 s.args.v) ≡ s.args.v
@@ -46,36 +46,36 @@ same-value s = Range.held s.args.v s.ranges.v
 all-taken : (u : tie.After-takes) → u.takes.result ≡ wholes.finite u.before.before.before.before.before.before.before.args.v
 all-taken u = u.takes.ensures ∙ ap wholes.finite (same-value (u.before.before.before.before.before.before.before))
 
-known : (q : tie.After-seat) → Sits (kind (at q)) (lentMap (at q)) (at q).args.v q.seat.result
+known : (q : tie.After-seat) → Sits (kind (at q)) (lent_map (at q)) (at q).args.v q.seat.result
 known q =
     let s = at q in
     let a = s.args in
     let u = own q in
-    allows (owed a.size a.top a.sums) a.limit (lentMap s) a.v (way s) (unset q).unset-of.result (u.before.slots-of.ensures a.limit) (all-taken u) q.seat.ensures.0
+    allows (owed a.size a.top a.sums) a.limit (lent_map s) a.v (way s) (unset q).unset-of.result (u.before.slots-of.ensures a.limit) (all-taken u) q.seat.ensures.0
 
 take-requires : tie.Need-take-requires
 take-requires c κs =
     let q = c.before.before.before.before in
     let s = at q in
-    subst (λ (z : ℤ). Takes (kind s) (lentMap s).cells z q.seat.result.no q.seat.result.slot) (sym (same-value s)) (known q).takes
+    subst (λ (z : ℤ). Takes (kind s) (lent_map s).cells z q.seat.result.no q.seat.result.slot) (sym (same-value s)) (known q).takes
 
 took_it : (t : tie.After-take)
     → (let q = t.before.before.before.before.before in
     let s = at q in
     let r = q.seat.result in
-    after t.take.result (record { figures = t.take.new.1.1.1.1.1.1.0; extremes = t.take.new.1.1.1.1.1.1.1.0; pos = t.take.new.1.1.1.1.1.1.1.1.0; neg = t.take.new.1.1.1.1.1.1.1.1.1.0 }) ≡ taken (kind s) (lentMap s).cells s.args.v r.no r.no r.slot r.updated)
+    after t.take.result (record { figures = t.take.new.1.1.1.1.1.1.0; extremes = t.take.new.1.1.1.1.1.1.1.0; pos = t.take.new.1.1.1.1.1.1.1.1.0; neg = t.take.new.1.1.1.1.1.1.1.1.1.0 }) ≡ taken (kind s) (lent_map s).cells s.args.v r.no r.no r.slot r.updated)
 took_it t =
     let q = t.before.before.before.before.before in
     let s = at q in
     let r = q.seat.result in
-    t.take.ensures ∙ ap (λ (z : ℤ). taken (kind s) (lentMap s).cells z r.no r.no r.slot r.updated) (same-value s)
+    t.take.ensures ∙ ap (λ (z : ℤ). taken (kind s) (lent_map s).cells z r.no r.no r.slot r.updated) (same-value s)
 
 finish-requires : tie.Need-finish-requires
 finish-requires c κs z =
     let t = c.before.before.before.before.before.before.before.before.before.before in
     let q = t.before.before.before.before.before in
     let s = at q in
-    (known q).ranges (took (kind s) (lentMap s).cells s.args.v q.seat.result.no q.seat.result.no q.seat.result.slot q.seat.result.updated (λ d. d) _ (took_it t) z)
+    (known q).ranges (took (kind s) (lent_map s).cells s.args.v q.seat.result.no q.seat.result.no q.seat.result.slot q.seat.result.updated (λ d. d) _ (took_it t) z)
 
 returns : tie.Need-returns
 returns c =
@@ -85,9 +85,9 @@ returns c =
     let s = at q in
     let a = s.args in
     let u = own q in
-    ends (owed a.size a.top a.sums) a.limit (lentMap s) a.v (way s) q.seat.result _ _ _ f.finish.ensures
+    ends (owed a.size a.top a.sums) a.limit (lent_map s) a.v (way s) q.seat.result _ _ _ f.finish.ensures
     (u.before.slots-of.ensures a.limit) (all-taken u) (unset q).unset-of.ensures q.seat.ensures.0 (row-seated _ _ _ _ _ q.seat.ensures.0 _ q.seat.ensures.1) (took_it t)
-    ∙ set_here (kind s) a.limit (lentMap s) a.v (filterOf a.present a.filter.now) (given a.attrs.now)
+    ∙ set_here (kind s) a.limit (lent_map s) a.v (filter_of a.present a.filter.now) (given a.attrs.now)
 
 pub measure-spec : {M : Type 1} → statement M
 measure-spec =

@@ -4,7 +4,7 @@ use Prim.Native.Nat.{◌+◌, ◌*◌, ◌/◌, min}
 use mathlib.Core.Path.{ap, ◌∙◌}
 use mathlib.Core.Bool.{true, ◌&&◌}
 use lib.Dec.{leb}
-use Rattle.seats.proofs.Least.{both-suffice, one_less}
+use Rattle.seats.proofs.Least.{both_suffice, one_less}
 use Rattle.value_map.proofs.Products.{rows_none, rows-many, least-none, least-many}
 use Rattle.whole_map.proofs.exponential_map.slots_of.Statement.{statement}
 use Rattle.whole_map.proofs.exponential_map.slots_of.Tie as tie
@@ -24,7 +24,7 @@ returns-2 c limit =
     let a = l.before.args in
     ap (leb (limit + 2)) (c.lesser3.ensures ∙ (λ i. min (l.lesser.ensures i) (m.lesser2.ensures i / a.size)))
     ∙ least-many limit a.figures a.extremes _ (min a.pos a.neg / a.size)
-    (rows-many limit a.size (min a.pos a.neg) e.if1.false ∙ both-suffice a.pos a.neg ((limit + 2) * a.size)
+    (rows-many limit a.size (min a.pos a.neg) e.if1.false ∙ both_suffice a.pos a.neg ((limit + 2) * a.size)
     ∙ (λ i. leb ((limit + 2) * a.size) a.pos && one_less (leb ((limit + 2) * a.size) a.neg) i))
 
 pub slots-of-spec : {M : Type 1} → statement M

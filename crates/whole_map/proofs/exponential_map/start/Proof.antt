@@ -1,9 +1,9 @@
 -- `whole_map::exponential_map::start` meets its contract. Assumes nothing.
 use borrow.Author.Rules.{rules}
-use Rattle.sets.specs.Sorted.{filterOf}
+use Rattle.sets.specs.Sorted.{filter_of}
 use Rattle.directory.specs.View.{stores}
 use Rattle.exponential_whole_slots.specs.Cells.{cells}
-use Rattle.whole_map.specs.Exponential.{exponentialWholes}
+use Rattle.whole_map.specs.Exponential.{exponential_wholes}
 use Rattle.value_map.proofs.Cases.{start_is}
 use Rattle.whole_map.proofs.exponential_map.start.Statement.{statement}
 use Rattle.whole_map.proofs.exponential_map.start.Tie as tie
@@ -13,7 +13,7 @@ returns c =
     let b = c.before in
     let u = b.before.before in
     let a = u.before.before.before.before.before.before.args in
-    start_is (exponentialWholes a.size a.top a.sums) a.limit (filterOf a.present a.filter.now) (stores a.sets a.entries a.order)
+    start_is (exponential_wholes a.size a.top a.sums) a.limit (filter_of a.present a.filter.now) (stores a.sets a.entries a.order)
     (cells a.figures a.extremes a.pos a.neg) _ u.unset-of.ensures u.before.cells-suffice.ensures b.begin.ensures
 
 pub start_spec : {M : Type 1} → statement M

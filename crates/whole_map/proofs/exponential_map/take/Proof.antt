@@ -1,8 +1,8 @@
 -- `whole_map::exponential_map::take` meets its contract. Assumes nothing.
 use borrow.Author.Rules.{rules}
 use mathlib.Core.Path.{ap, ◌∙◌}
-use Rattle.exponential_whole_slots.specs.Cells.{Cells, cells, recordedAt}
-use Rattle.whole_map.specs.Exponential.{exponentialWholes}
+use Rattle.exponential_whole_slots.specs.Cells.{Cells, cells, recorded_at}
+use Rattle.whole_map.specs.Exponential.{exponential_wholes}
 use Rattle.value_map.proofs.Ways.{take_no, take_on}
 use Rattle.integers.proofs.Range.{held}
 use Rattle.whole_map.proofs.exponential_map.take.Statement.{statement}
@@ -15,7 +15,7 @@ abbrev lent : tie.Start → Cells
 lent s = let a = s.args in cells a.figures a.extremes a.pos a.neg
 
 returns : tie.Need-returns
-returns c = let s = c.before.before.before in let a = s.args in take_no (exponentialWholes a.size a.top a.sums) (lent s) a.v a.no a.no a.x a.updated c.if1.true
+returns c = let s = c.before.before.before in let a = s.args in take_no (exponential_wholes a.size a.top a.sums) (lent s) a.v a.no a.no a.x a.updated c.if1.true
 
 record-requires : tie.Need-record-requires
 record-requires c κs =
@@ -31,8 +31,8 @@ returns-2 c =
     let s = at e in
     let a = s.args in
     r.«record».ensures
-    ∙ ap (recordedAt a.size a.top a.sums a.x a.updated (lent s)) (held a.v s.fits.v)
-    ∙ take_on (exponentialWholes a.size a.top a.sums) (lent s) a.v a.no a.no a.x a.updated e.if1.false
+    ∙ ap (recorded_at a.size a.top a.sums a.x a.updated (lent s)) (held a.v s.fits.v)
+    ∙ take_on (exponential_wholes a.size a.top a.sums) (lent s) a.v a.no a.no a.x a.updated e.if1.false
 
 pub take_spec : {M : Type 1} → statement M
 take_spec =

@@ -1,5 +1,7 @@
 // Many values in one call, and calls in a map that is known to agree: what every kind shares. What the calls `.._agreed` require is in
 // specs/Agreed.antt, what a batch is in specs/Batch.antt.
+#![tactic(auto)]
+
 pub mod room;
 
 ghost use Rattle.std.specs.Prelude.{◌≡◌, ◌<◌, get_or};
@@ -17,7 +19,7 @@ use directory::{Directory, Target};
 
 // What a call with many values says: how many were taken, document 01's number that refused the next one (0 if none was refused), and the
 // directory's state.
-#[derive(Drop)]
+#[derive(Clone, Copy)]
 pub struct Batch {
     pub taken: usize,
     pub no: u8,
@@ -36,8 +38,8 @@ pub fn finish_all(
     target: Target,
 ) -> Batch
     requires { (taken ≡ 0 → ⊥) → Fits d (stores sets entries order) target }
-    ensures { many result.taken result.no (kept result.dir (stores sets.exit entries.exit order.exit))
-        ≡ many taken no (finished_all taken d (stores sets.entry entries.entry order.entry) row.now target) }
+    ensures { many result.taken result.no (kept result.dir (stores sets.new entries.new order.new))
+        ≡ many taken no (finished_all taken d (stores sets.old entries.old order.old) row.now target) }
 {
     if taken == 0 {
         return Batch {

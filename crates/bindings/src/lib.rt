@@ -1,4 +1,6 @@
 // Binding a set to a handle and releasing it, in the directory of the map: `bind` of internal/mod.rs.
+#![tactic(auto)]
+
 mod calls;
 
 ghost use Rattle.std.specs.Prelude.{◌≡◌};
@@ -11,14 +13,14 @@ ghost use Rattle.directory.specs.View.{stores};
 use directory::Directory;
 
 // A refusal's number, or success.
-#[derive(Drop)]
+#[derive(Clone, Copy)]
 pub enum Answer {
     Refused(u8),
     Done,
     Handle(u64),
 }
 
-#[derive(Drop)]
+#[derive(Clone, Copy)]
 pub struct Reply {
     pub answer: Answer,
     pub dir: Directory,
@@ -33,8 +35,8 @@ pub fn start(
     entries: &mut [[u64; 3]],
     order: &[u32],
 ) -> Reply
-    ensures { gave result (stores sets.entry entries.exit order.entry)
-        ≡ started limit (filter_of present filter.now) (stores sets.entry entries.entry order.entry) }
+    ensures { gave result (stores sets.old entries.new order.old)
+        ≡ started limit (filter_of present filter.now) (stores sets.old entries.old order.old) }
 {
     let dir = Directory {
         used: 0,
@@ -71,8 +73,8 @@ pub fn bind(
     present: bool,
     filter: &[u32],
 ) -> Reply
-    ensures { gave result (stores sets.exit entries.exit order.exit)
-        ≡ bound limit (filter_of present filter.now) d (stores sets.entry entries.entry order.entry) (given attrs.now) }
+    ensures { gave result (stores sets.new entries.new order.new)
+        ≡ bound limit (filter_of present filter.now) d (stores sets.old entries.old order.old) (given attrs.now) }
 {
     if !directory::stores_suffice(limit, sets.len(), entries.len(), order.len()) {
         return Reply {
@@ -106,8 +108,8 @@ pub fn release(
     order: &[u32],
     h: u64,
 ) -> Reply
-    ensures { gave result (stores sets.entry entries.exit order.entry)
-        ≡ released limit d (stores sets.entry entries.entry order.entry) h }
+    ensures { gave result (stores sets.old entries.new order.old)
+        ≡ released limit d (stores sets.old entries.old order.old) h }
 {
     if !directory::stores_suffice(limit, sets.len(), entries.len(), order.len()) {
         return Reply {
@@ -136,8 +138,8 @@ pub fn bind_agreed(
     filter: &[u32],
 ) -> Reply
     requires { Agreed limit (filter_of present filter.now) d (stores sets entries order) }
-    ensures { gave result (stores sets.exit entries.exit order.exit)
-        ≡ bound limit (filter_of present filter.now) d (stores sets.entry entries.entry order.entry) (given attrs.now) }
+    ensures { gave result (stores sets.new entries.new order.new)
+        ≡ bound limit (filter_of present filter.now) d (stores sets.old entries.old order.old) (given attrs.now) }
 {
     if !sets::canon::few(attrs) {
         return Reply {
@@ -160,8 +162,8 @@ pub fn release_agreed(
     h: u64,
 ) -> Reply
     requires { Agreed limit none d (stores sets entries order) }
-    ensures { gave result (stores sets.entry entries.exit order.entry)
-        ≡ released limit d (stores sets.entry entries.entry order.entry) h }
+    ensures { gave result (stores sets.old entries.new order.old)
+        ≡ released limit d (stores sets.old entries.old order.old) h }
 {
     let found = directory::find::by_birth(d, entries, order, h);
     calls::free(d, entries, found)

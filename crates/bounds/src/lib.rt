@@ -1,4 +1,6 @@
 // The bounds of scale 10's buckets within a power of two. Made by tools/make_bounds.py.
+#![tactic(auto)]
+
 ghost use Rattle.std.specs.Prelude.{◌≡◌, [], ◌<◌, get_or};
 ghost use Rattle.laws.specs.NoneOf.{NoneOf};
 ghost use Rattle.bounds.specs.Bounds.{BoundAt};

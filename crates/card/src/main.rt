@@ -6,6 +6,8 @@
 //
 // A card that is refused is `! N`: 14, a sum that is no whole number of 1/1024 mm or whose magnitude is above 2^43. (13, no boards, and 8
 // do not come up here: a delta collection lists what was recorded.) A line that can't be followed prints `? N`, as the gauge does.
+#![tactic(auto)]
+
 use printing::Form;
 
 fn main() {

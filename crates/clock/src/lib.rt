@@ -1,17 +1,19 @@
 // The collections' clock, a struct lent by `&mut` whose start a delta collection replaces in place and a cumulative one only reads:
 // `AggregateTimeInitiator` of aggregate.rs. A reference to a struct is not covered, so all but `next`, which chooses, are thin and proved by hand.
 // `after_delta` and `at_cumulative` lend a clock that they are passed by value: whoever calls them is covered.
+#![tactic(auto)]
+
 ghost use Rattle.std.specs.Prelude.{◌≡◌};
 ghost use Rattle.clock.specs.Starts.{gave, turned};
 
 // The start that the next collection hands out.
-#[derive(Drop)]
+#[derive(Clone, Copy)]
 pub struct Clock {
     pub start: u64,
 }
 
 // The clock after a delta collection, and the start that it handed out.
-#[derive(Drop)]
+#[derive(Clone, Copy)]
 pub struct Turned {
     pub clock: Clock,
     pub start: u64,

@@ -1,4 +1,6 @@
 // What every kind's collecting calls share: `collect_and_reset` and `collect_readonly` of internal/mod.rs, but for the series.
+#![tactic(auto)]
+
 ghost use Rattle.std.specs.Prelude.{◌≡◌, true, not, ◌&&◌, ◌||◌, [], ◌∷◌, ◌<◌, ◌≤◌, eqb, ltb, length, get_or};
 ghost use Rattle.laws.specs.Pick.{pick};
 ghost use Rattle.sets.specs.Rows.{size, set_of, row_of};
@@ -8,14 +10,14 @@ ghost use Rattle.collecting.specs.Slots.{unsurveyed, surveyed_by};
 use directory::Directory;
 
 // What a collection says: a refusal's number, or how many points lie in the output.
-#[derive(Drop)]
+#[derive(Clone, Copy)]
 pub enum Answer {
     Refused(u8),
     Listed(usize),
 }
 
 // And the directory's state after it.
-#[derive(Drop)]
+#[derive(Clone, Copy)]
 pub struct Reply {
     pub answer: Answer,
     pub dir: Directory,
@@ -23,7 +25,7 @@ pub struct Reply {
 
 // What the slots are found to be: whether each series that is held agrees; then how many points are due, and how many counts they have in
 // either store.
-#[derive(Drop)]
+#[derive(Clone, Copy)]
 pub struct Survey {
     pub sound: bool,
     pub points: usize,
@@ -44,7 +46,7 @@ pub fn barred(
     order: &[u32],
 ) -> u8
     requires { known ≡ true → unsurveyed cells unset limit d (stores sets entries order) ≡ 0 }
-    ensures { result ≡ unsurveyed cells unset limit d (stores sets.entry entries.entry order.entry) }
+    ensures { result ≡ unsurveyed cells unset limit d (stores sets.old entries.old order.old) }
 {
     if known {
         return 0;

@@ -1,4 +1,6 @@
 // One series of the explicit kind, `Buckets` of histogram.rs: bounds, a head by value, and its counts at the front of a lent slice.
+#![tactic(auto)]
+
 ghost use Rattle.std.specs.Prelude.{◌≡◌, ◌&&◌, ◌+◌, ◌-◌, ◌/◌, ◌<◌, ◌≤◌, length, take, eqb};
 ghost use Rattle.std.specs.Float.Ieee.{lt};
 ghost use Rattle.laws.specs.Counting.{bit, total, most_count};
@@ -10,7 +12,7 @@ ghost use Rattle.explicit.specs.Inner.{Addable};
 
 use exponential::Halves;
 
-#[derive(Drop)]
+#[derive(Clone, Copy)]
 pub struct Head {
     pub count: u64,
     pub min: f64,
@@ -18,7 +20,7 @@ pub struct Head {
     pub sum: f64,
 }
 
-#[derive(Drop)]
+#[derive(Clone, Copy)]
 pub enum Answer {
     Recorded(Head),
     Refused(u8),

@@ -9,7 +9,7 @@ ghost use Rattle.explicit_batches.specs.Values.{series, step, Sound, barring};
 use explicit::Head;
 
 // What a list of values left: the head, how many were taken, and the number that refused the next one, 0 if none was refused.
-#[derive(Drop)]
+#[derive(Clone, Copy)]
 pub struct Run {
     pub head: Head,
     pub taken: usize,
@@ -47,8 +47,8 @@ fn raised(h: Head, v: f64) -> Head
 // Records values into a series that agrees, one after another, up to the first that is refused: 6, 9.
 pub fn record_all(bounds: &[f64], head: Head, counts: &mut [u64], values: &[f64]) -> Run
     requires { Sound bounds.now (series head counts) }
-    ensures { many result.taken result.no (series result.head counts.exit)
-        ≡ each (step bounds.now) (series head counts.entry) values.now }
+    ensures { many result.taken result.no (series result.head counts.new)
+        ≡ each (step bounds.now) (series head counts.old) values.now }
 {
     let mut h = head;
     let mut i: usize = 0;

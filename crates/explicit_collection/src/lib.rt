@@ -1,5 +1,7 @@
 // The public calls of the explicit kind around recording: configuring, delta and cumulative collection. `Histogram` of histogram.rs, and
 // its `ComputeAggregation`.
+#![tactic(auto)]
+
 mod collect;
 pub mod slot;
 mod walk;
@@ -23,7 +25,7 @@ use collecting::{Answer, Reply};
 use directory::Directory;
 
 // What was configured: the two switches and the cardinality limit; the bounds are lent at every call.
-#[derive(Drop)]
+#[derive(Clone, Copy)]
 pub struct Settings {
     pub extremes: bool,
     pub sums: bool,
@@ -31,14 +33,14 @@ pub struct Settings {
 }
 
 // The settings of a map, and its state.
-#[derive(Drop)]
+#[derive(Clone, Copy)]
 pub struct Setup {
     pub settings: Settings,
     pub dir: Directory,
 }
 
 // What configuring says: a refusal's number, or a fresh map.
-#[derive(Drop)]
+#[derive(Clone, Copy)]
 pub enum Configured {
     Refused(u8),
     Accepted(Setup),
@@ -72,9 +74,9 @@ pub fn configure(
     extremes: &[[f64; 3]],
     counts: &[u64],
 ) -> Configured
-    ensures { configuring (said result) (stores sets.entry entries.exit order.entry)
+    ensures { configuring (said result) (stores sets.old entries.new order.old)
         ≡ configured bounds.now show sums limit (filter_of present filter.now)
-        (stores sets.entry entries.entry order.entry) (cells totals.entry extremes.entry counts.entry) }
+        (stores sets.old entries.old order.old) (cells totals.old extremes.old counts.old) }
 {
     let reply = value_map::explicit_map::start(
         bounds, limit, present, filter, sets, entries, order, totals, extremes, counts,
@@ -104,11 +106,11 @@ pub fn delta(
     out_neg: &mut [u64],
 ) -> Reply
     ensures { gave result.answer
-        (held result.dir (stores sets.exit entries.exit order.exit) (cells totals.entry extremes.entry counts.entry))
-        (output out_sets.exit out_words.exit out_pos.exit out_neg.exit)
+        (held result.dir (stores sets.new entries.new order.new) (cells totals.old extremes.old counts.old))
+        (output out_sets.new out_words.new out_pos.new out_neg.new)
         ≡ delta_collected (explicit_lister bounds.now) (s.extremes, s.sums) s.limit
-        (held d (stores sets.entry entries.entry order.entry) (cells totals.entry extremes.entry counts.entry))
-        (output out_sets.entry out_words.entry out_pos.entry out_neg.entry) }
+        (held d (stores sets.old entries.old order.old) (cells totals.old extremes.old counts.old))
+        (output out_sets.old out_words.old out_pos.old out_neg.old) }
 {
     crate::collect::delta(
         false, bounds, s, d, sets, entries, order, totals, extremes, counts, out_sets, out_words,
@@ -135,11 +137,11 @@ pub fn delta_agreed(
     requires { Owned (explicit_store bounds.now) (s.extremes, s.sums) s.limit none
         (held d (stores sets entries order) (cells totals extremes counts)) }
     ensures { gave result.answer
-        (held result.dir (stores sets.exit entries.exit order.exit) (cells totals.entry extremes.entry counts.entry))
-        (output out_sets.exit out_words.exit out_pos.exit out_neg.exit)
+        (held result.dir (stores sets.new entries.new order.new) (cells totals.old extremes.old counts.old))
+        (output out_sets.new out_words.new out_pos.new out_neg.new)
         ≡ delta_collected (explicit_lister bounds.now) (s.extremes, s.sums) s.limit
-        (held d (stores sets.entry entries.entry order.entry) (cells totals.entry extremes.entry counts.entry))
-        (output out_sets.entry out_words.entry out_pos.entry out_neg.entry) }
+        (held d (stores sets.old entries.old order.old) (cells totals.old extremes.old counts.old))
+        (output out_sets.old out_words.old out_pos.old out_neg.old) }
 {
     crate::collect::delta(
         true, bounds, s, d, sets, entries, order, totals, extremes, counts, out_sets, out_words,
@@ -164,11 +166,11 @@ pub fn cumulative(
     out_neg: &mut [u64],
 ) -> Answer
     ensures { gave result
-        (held d (stores sets.entry entries.entry order.entry) (cells totals.entry extremes.entry counts.entry))
-        (output out_sets.exit out_words.exit out_pos.exit out_neg.exit)
+        (held d (stores sets.old entries.old order.old) (cells totals.old extremes.old counts.old))
+        (output out_sets.new out_words.new out_pos.new out_neg.new)
         ≡ cumulative_collected (explicit_lister bounds.now) (s.extremes, s.sums) s.limit
-        (held d (stores sets.entry entries.entry order.entry) (cells totals.entry extremes.entry counts.entry))
-        (output out_sets.entry out_words.entry out_pos.entry out_neg.entry) }
+        (held d (stores sets.old entries.old order.old) (cells totals.old extremes.old counts.old))
+        (output out_sets.old out_words.old out_pos.old out_neg.old) }
 {
     crate::collect::cumulative(
         false, bounds, s, d, sets, entries, order, totals, extremes, counts, out_sets, out_words,
@@ -195,11 +197,11 @@ pub fn cumulative_agreed(
     requires { Owned (explicit_store bounds.now) (s.extremes, s.sums) s.limit none
         (held d (stores sets entries order) (cells totals extremes counts)) }
     ensures { gave result
-        (held d (stores sets.entry entries.entry order.entry) (cells totals.entry extremes.entry counts.entry))
-        (output out_sets.exit out_words.exit out_pos.exit out_neg.exit)
+        (held d (stores sets.old entries.old order.old) (cells totals.old extremes.old counts.old))
+        (output out_sets.new out_words.new out_pos.new out_neg.new)
         ≡ cumulative_collected (explicit_lister bounds.now) (s.extremes, s.sums) s.limit
-        (held d (stores sets.entry entries.entry order.entry) (cells totals.entry extremes.entry counts.entry))
-        (output out_sets.entry out_words.entry out_pos.entry out_neg.entry) }
+        (held d (stores sets.old entries.old order.old) (cells totals.old extremes.old counts.old))
+        (output out_sets.old out_words.old out_pos.old out_neg.old) }
 {
     crate::collect::cumulative(
         true, bounds, s, d, sets, entries, order, totals, extremes, counts, out_sets, out_words,

@@ -10,14 +10,14 @@ use explicit_wholes::Head;
 use integers::Total;
 
 // What a value left: the head, and the number that refused it, 0 if it was taken.
-#[derive(Drop)]
+#[derive(Clone, Copy)]
 pub struct Step {
     pub head: Head,
     pub no: u8,
 }
 
 // What a list of values left: the head, how many were taken, and the number that refused the next one, 0 if none was refused.
-#[derive(Drop)]
+#[derive(Clone, Copy)]
 pub struct Run {
     pub head: Head,
     pub taken: usize,
@@ -53,8 +53,8 @@ fn raised(sums: bool, head: Head, v: i64) -> Step
 // Records values into a series that agrees, one after another, up to the first that is refused: 9, 16.
 pub fn record_all(bounds: &[f64], sums: bool, head: Head, counts: &mut [u64], values: &[i64]) -> Run
     requires { Counted bounds.now head.count counts.old }
-    ensures { many result.taken result.no (series result.head counts.exit)
-        ≡ each (step bounds.now sums) (series head counts.entry) values.now }
+    ensures { many result.taken result.no (series result.head counts.new)
+        ≡ each (step bounds.now sums) (series head counts.old) values.now }
 {
     let mut h = head;
     let mut i: usize = 0;

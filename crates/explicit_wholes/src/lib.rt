@@ -1,12 +1,14 @@
 // One series of the explicit kind over i64: a head by value beside the same row of counts as over f64. A value's bucket is that of the f64
 // nearest to it, so its counts are recorded by crate `explicit`.
+#![tactic(auto)]
+
 ghost use Rattle.std.specs.Prelude.{◌≡◌};
 ghost use Rattle.explicit.specs.Series as E;
 ghost use Rattle.explicit_wholes.specs.Series.{under, begun, said, finished, outcome, freshening, recording};
 
 use integers::Total;
 
-#[derive(Drop)]
+#[derive(Clone, Copy)]
 pub struct Head {
     pub count: u64,
     pub min: i64,
@@ -14,7 +16,7 @@ pub struct Head {
     pub sum: i64,
 }
 
-#[derive(Drop)]
+#[derive(Clone, Copy)]
 pub enum Answer {
     Recorded(Head),
     Refused(u8),

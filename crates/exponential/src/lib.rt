@@ -1,5 +1,7 @@
 // One series of the exponential kind, `ExpoHistogramDataPoint` of exponential_histogram.rs: a head by value, and its rows of
 // counts at the front of two lent slices.
+#![tactic(auto)]
+
 mod adding;
 mod sums;
 
@@ -22,7 +24,7 @@ pub const LEAST_SIZE: usize = 3;
 
 pub const MOST_SIZE: usize = 160;
 
-#[derive(Drop)]
+#[derive(Clone, Copy)]
 pub struct Counts {
     pub count: u64,
     pub zeros: u64,
@@ -31,7 +33,7 @@ pub struct Counts {
     pub neg: Row,
 }
 
-#[derive(Drop)]
+#[derive(Clone, Copy)]
 pub struct Head {
     pub counts: Counts,
     pub min: f64,
@@ -39,7 +41,7 @@ pub struct Head {
     pub sum: f64,
 }
 
-#[derive(Drop)]
+#[derive(Clone, Copy)]
 pub enum Answer {
     Recorded(Head),
     Refused(u8),
@@ -110,7 +112,7 @@ fn row_agrees(counts: &[u64], row: Row, size: usize, low: u32, end: u64) -> bool
 }
 
 // Two sums of counts: of their low and of their high 32 bits.
-#[derive(Drop)]
+#[derive(Clone, Copy)]
 pub struct Halves {
     pub low: u64,
     pub high: u64,
@@ -248,7 +250,7 @@ pub fn lower(counts: &mut [u64], row: Row, k: u32) -> Row
     rows::downscale(counts, start, n, k)
 }
 
-#[derive(Drop)]
+#[derive(Clone, Copy)]
 pub struct Moved {
     pub k: u32,
     pub to: Row,
@@ -256,7 +258,7 @@ pub struct Moved {
 }
 
 // What is counted of a value: a zero, or its bin at the series' level in the row of its sign.
-#[derive(Drop)]
+#[derive(Clone, Copy)]
 pub enum Class {
     Naught,
     At { negative: bool, bin: u32 },

@@ -3,7 +3,7 @@ ghost use Rattle.std.specs.Prelude.{◌≡◌, ◌+◌, ◌*◌, ◌%◌, ◌^�
 ghost use Rattle.laws.specs.Counting.{total};
 ghost use Rattle.exponential.specs.Series.{most_size};
 
-#[derive(Drop)]
+#[derive(Clone, Copy)]
 pub struct Wrapped {
     pub sum: u64,
     pub most: u64,

@@ -1,5 +1,7 @@
 // Many values in one call, and recordings in a map that is known to agree: the exponential kind over f64. A call `.._agreed` asks nothing of
 // the memory that it is lent: it requires a map that agrees.
+#![tactic(auto)]
+
 pub mod series;
 pub mod slot;
 
@@ -47,9 +49,9 @@ fn take(
     values: &[f64],
 ) -> Taken
     requires { no ≡ 0 → Asked (exponential_store size top) (true, true) nan known x updated (cells figures extremes pos neg) values.now }
-    ensures { many result.taken result.no (cells figures.exit extremes.exit pos.exit neg.exit)
-        ≡ unless_stopped no (cells figures.entry extremes.entry pos.entry neg.entry)
-        (recorded_all (exponential_store size top) x updated (cells figures.entry extremes.entry pos.entry neg.entry) values.now) }
+    ensures { many result.taken result.no (cells figures.new extremes.new pos.new neg.new)
+        ≡ unless_stopped no (cells figures.old extremes.old pos.old neg.old)
+        (recorded_all (exponential_store size top) x updated (cells figures.old extremes.old pos.old neg.old) values.now) }
 {
     if no != 0 {
         return Taken { taken: 0, no: no };
@@ -79,9 +81,9 @@ fn all_by(
     requires { known ≡ true → AgreedBy (exponential_store size top) (true, true) limit
         (held d (stores sets entries order) (cells figures extremes pos neg)) h }
     ensures { many result.taken result.no
-        (held result.dir (stores sets.exit entries.exit order.exit) (cells figures.exit extremes.exit pos.exit neg.exit))
+        (held result.dir (stores sets.new entries.new order.new) (cells figures.new extremes.new pos.new neg.new))
         ≡ measured_all_by (exponential_store size top) limit
-        (held d (stores sets.entry entries.entry order.entry) (cells figures.entry extremes.entry pos.entry neg.entry))
+        (held d (stores sets.old entries.old order.old) (cells figures.old extremes.old pos.old neg.old))
         values.now h }
 {
     if values.len() == 0 {
@@ -144,9 +146,9 @@ fn all(
     requires { known ≡ true → AgreedFor (exponential_store size top) (true, true) limit (filter_of present filter.now)
         (held d (stores sets entries order) (cells figures extremes pos neg)) (given attrs.now) }
     ensures { many result.taken result.no
-        (held result.dir (stores sets.exit entries.exit order.exit) (cells figures.exit extremes.exit pos.exit neg.exit))
+        (held result.dir (stores sets.new entries.new order.new) (cells figures.new extremes.new pos.new neg.new))
         ≡ measured_all (exponential_store size top) limit (filter_of present filter.now)
-        (held d (stores sets.entry entries.entry order.entry) (cells figures.entry extremes.entry pos.entry neg.entry))
+        (held d (stores sets.old entries.old order.old) (cells figures.old extremes.old pos.old neg.old))
         values.now (given attrs.now) }
 {
     if values.len() == 0 {
@@ -208,9 +210,9 @@ pub fn measure_all(
     filter: &[u32],
 ) -> Batch
     ensures { many result.taken result.no
-        (held result.dir (stores sets.exit entries.exit order.exit) (cells figures.exit extremes.exit pos.exit neg.exit))
+        (held result.dir (stores sets.new entries.new order.new) (cells figures.new extremes.new pos.new neg.new))
         ≡ measured_all (exponential_store size top) limit (filter_of present filter.now)
-        (held d (stores sets.entry entries.entry order.entry) (cells figures.entry extremes.entry pos.entry neg.entry))
+        (held d (stores sets.old entries.old order.old) (cells figures.old extremes.old pos.old neg.old))
         values.now (given attrs.now) }
 {
     all(
@@ -236,9 +238,9 @@ pub fn measure_all_by(
     h: u64,
 ) -> Batch
     ensures { many result.taken result.no
-        (held result.dir (stores sets.exit entries.exit order.exit) (cells figures.exit extremes.exit pos.exit neg.exit))
+        (held result.dir (stores sets.new entries.new order.new) (cells figures.new extremes.new pos.new neg.new))
         ≡ measured_all_by (exponential_store size top) limit
-        (held d (stores sets.entry entries.entry order.entry) (cells figures.entry extremes.entry pos.entry neg.entry))
+        (held d (stores sets.old entries.old order.old) (cells figures.old extremes.old pos.old neg.old))
         values.now h }
 {
     all_by(
@@ -267,9 +269,9 @@ pub fn measure_all_agreed(
     requires { AgreedFor (exponential_store size top) (true, true) limit (filter_of present filter.now)
         (held d (stores sets entries order) (cells figures extremes pos neg)) (given attrs.now) }
     ensures { many result.taken result.no
-        (held result.dir (stores sets.exit entries.exit order.exit) (cells figures.exit extremes.exit pos.exit neg.exit))
+        (held result.dir (stores sets.new entries.new order.new) (cells figures.new extremes.new pos.new neg.new))
         ≡ measured_all (exponential_store size top) limit (filter_of present filter.now)
-        (held d (stores sets.entry entries.entry order.entry) (cells figures.entry extremes.entry pos.entry neg.entry))
+        (held d (stores sets.old entries.old order.old) (cells figures.old extremes.old pos.old neg.old))
         values.now (given attrs.now) }
 {
     all(
@@ -297,9 +299,9 @@ pub fn measure_all_by_agreed(
     requires { AgreedBy (exponential_store size top) (true, true) limit
         (held d (stores sets entries order) (cells figures extremes pos neg)) h }
     ensures { many result.taken result.no
-        (held result.dir (stores sets.exit entries.exit order.exit) (cells figures.exit extremes.exit pos.exit neg.exit))
+        (held result.dir (stores sets.new entries.new order.new) (cells figures.new extremes.new pos.new neg.new))
         ≡ measured_all_by (exponential_store size top) limit
-        (held d (stores sets.entry entries.entry order.entry) (cells figures.entry extremes.entry pos.entry neg.entry))
+        (held d (stores sets.old entries.old order.old) (cells figures.old extremes.old pos.old neg.old))
         values.now h }
 {
     all_by(
@@ -327,9 +329,9 @@ pub fn measure_agreed(
 ) -> Reply
     requires { AgreedFor (exponential_store size top) (true, true) limit (filter_of present filter.now)
         (held d (stores sets entries order) (cells figures extremes pos neg)) (given attrs.now) }
-    ensures { gave result (stores sets.exit entries.exit order.exit) (cells figures.exit extremes.exit pos.exit neg.exit)
+    ensures { gave result (stores sets.new entries.new order.new) (cells figures.new extremes.new pos.new neg.new)
         ≡ measured (exponential_store size top) limit (filter_of present filter.now)
-        (held d (stores sets.entry entries.entry order.entry) (cells figures.entry extremes.entry pos.entry neg.entry))
+        (held d (stores sets.old entries.old order.old) (cells figures.old extremes.old pos.old neg.old))
         v (given attrs.now) }
 {
     let one: [f64; 1] = [v];
@@ -358,9 +360,9 @@ pub fn measure_by_agreed(
 ) -> Reply
     requires { AgreedBy (exponential_store size top) (true, true) limit
         (held d (stores sets entries order) (cells figures extremes pos neg)) h }
-    ensures { gave result (stores sets.exit entries.exit order.exit) (cells figures.exit extremes.exit pos.exit neg.exit)
+    ensures { gave result (stores sets.new entries.new order.new) (cells figures.new extremes.new pos.new neg.new)
         ≡ measured_by (exponential_store size top) limit
-        (held d (stores sets.entry entries.entry order.entry) (cells figures.entry extremes.entry pos.entry neg.entry))
+        (held d (stores sets.old entries.old order.old) (cells figures.old extremes.old pos.old neg.old))
         v h }
 {
     let one: [f64; 1] = [v];

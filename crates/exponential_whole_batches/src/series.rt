@@ -10,14 +10,14 @@ use exponential_wholes::Head;
 use integers::Total;
 
 // The head that one value leaves, and the number that refused it, 0 if it was taken.
-#[derive(Drop)]
+#[derive(Clone, Copy)]
 pub struct Step {
     pub head: Head,
     pub no: u8,
 }
 
 // What a list of values leaves: the head, how many were taken, and the number that refused the next one, 0 if none was refused.
-#[derive(Drop)]
+#[derive(Clone, Copy)]
 pub struct Run {
     pub head: Head,
     pub taken: usize,
@@ -47,7 +47,7 @@ fn next(
     v: i64,
 ) -> Step
     requires { Sound size top (series head pos neg) }
-    ensures { after result.no (series result.head pos.exit neg.exit) ≡ step size top sums (series head pos.entry neg.entry) v }
+    ensures { after result.no (series result.head pos.new neg.new) ≡ step size top sums (series head pos.old neg.old) v }
 {
     let c = head.counts;
     if c.count == u64::MAX {
@@ -86,8 +86,8 @@ pub fn record_all(
     values: &[i64],
 ) -> Run
     requires { Sound size top (series head pos neg) }
-    ensures { many result.taken result.no (series result.head pos.exit neg.exit)
-        ≡ each (step size top sums) (series head pos.entry neg.entry) values.now }
+    ensures { many result.taken result.no (series result.head pos.new neg.new)
+        ≡ each (step size top sums) (series head pos.old neg.old) values.now }
 {
     let mut h = head;
     let mut i: usize = 0;

@@ -1,12 +1,14 @@
 // One series of the exponential kind over i64: a head by value beside the same counts and rows as over f64. A value's bucket is that of the
 // f64 nearest to it, so crate `exponential` counts it.
+#![tactic(auto)]
+
 ghost use Rattle.std.specs.Prelude.{◌≡◌};
 ghost use Rattle.exponential_wholes.specs.Series.{fresh_head, under, said, outcome, recording};
 
 use exponential::Counts;
 use integers::Total;
 
-#[derive(Drop)]
+#[derive(Clone, Copy)]
 pub struct Head {
     pub counts: Counts,
     pub min: i64,
@@ -14,7 +16,7 @@ pub struct Head {
     pub sum: i64,
 }
 
-#[derive(Drop)]
+#[derive(Clone, Copy)]
 pub enum Answer {
     Recorded(Head),
     Refused(u8),

@@ -1,4 +1,6 @@
 // Calls for programs in other languages: a list of values recorded into one exponential series.
+#![tactic(auto)]
+
 ghost use Rattle.std.specs.Prelude.{◌≡◌, min};
 ghost use Rattle.exponential.specs.Series.{said};
 ghost use Rattle.exponential.specs.Inner.{head_after};

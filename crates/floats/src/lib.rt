@@ -1,4 +1,6 @@
 // f64 as histograms use it: finite or not, the lesser and the greater of two, extremes of a point, bits.
+#![tactic(auto)]
+
 ghost use Rattle.std.specs.Prelude.{◌≡◌};
 ghost use Rattle.std.specs.Float.Ieee.{of_bits};
 ghost use Rattle.std.specs.Float.{binary64};
@@ -27,7 +29,7 @@ pub fn greater(a: f64, v: f64) -> f64
 }
 
 // The minimum or the maximum of a point.
-#[derive(Drop)]
+#[derive(Clone, Copy)]
 pub enum Extreme {
     None,
     Value(f64),

@@ -6,6 +6,8 @@
 //
 // A line that can't be followed prints `? N`, N its number. Input is read and output written in blocks: memory stays the same however
 // long a shift is.
+#![tactic(auto)]
+
 use printing::Form;
 
 fn main() {

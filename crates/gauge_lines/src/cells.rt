@@ -25,7 +25,7 @@ pub type Words = [[u64; 12]; 32];
 pub const MOST_LIMIT: u64 = 30;
 
 // What is running: whether a map was configured, its settings, the directory's state, the clock.
-#[derive(Drop)]
+#[derive(Clone, Copy)]
 pub struct Gauge {
     pub running: bool,
     pub settings: Settings,
@@ -34,7 +34,7 @@ pub struct Gauge {
 }
 
 // Whether a line was accepted, and the gauge after it.
-#[derive(Drop)]
+#[derive(Clone, Copy)]
 pub struct Outcome {
     pub taken: bool,
     pub gauge: Gauge,

@@ -15,7 +15,7 @@ use printing::Form;
 use text::Natural;
 
 // Whether a line was accepted, the gauge after it, and how much text there is then.
-#[derive(Drop)]
+#[derive(Clone, Copy)]
 pub struct Collected {
     pub taken: bool,
     pub gauge: Gauge,
@@ -33,7 +33,7 @@ fn refused(gauge: Gauge, text: usize) -> Collected
 }
 
 // The gauge after a collection that left the directory so, and the start that it hands out.
-#[derive(Drop)]
+#[derive(Clone, Copy)]
 struct Turn {
     gauge: Gauge,
     start: u64,
@@ -76,12 +76,12 @@ pub fn collect(
     out_pos: &mut Counts,
     out_neg: &mut Counts,
 ) -> Collected
-    ensures { followed result text.exit (stores sets.exit entries.exit order.exit)
-        (cells figures.entry extremes.entry pos.entry neg.entry)
-        (output out_sets.exit out_words.exit out_pos.exit out_neg.exit)
-        ≡ after_collect form g line.now (waiting n text.entry) (stores sets.entry entries.entry order.entry)
-        (cells figures.entry extremes.entry pos.entry neg.entry)
-        (output out_sets.entry out_words.entry out_pos.entry out_neg.entry) }
+    ensures { followed result text.new (stores sets.new entries.new order.new)
+        (cells figures.old extremes.old pos.old neg.old)
+        (output out_sets.new out_words.new out_pos.new out_neg.new)
+        ≡ after_collect form g line.now (waiting n text.old) (stores sets.old entries.old order.old)
+        (cells figures.old extremes.old pos.old neg.old)
+        (output out_sets.old out_words.old out_pos.old out_neg.old) }
 {
     let Natural::Is(time) = crate::fields::time_in(line) else {
         return refused(g, n);

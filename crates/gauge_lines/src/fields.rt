@@ -6,7 +6,7 @@ use lines::attributes::{Attributes, Given};
 use text::{Integer, Natural};
 
 // What a line asks for: there is no line; it can't be followed; a call.
-#[derive(Drop)]
+#[derive(Clone, Copy)]
 pub enum Call {
     None,
     Unread,
@@ -16,7 +16,7 @@ pub enum Call {
 }
 
 // What a line `e` asks for.
-#[derive(Drop)]
+#[derive(Clone, Copy)]
 pub struct Wanted {
     pub size: u32,
     pub scale: i32,
@@ -24,27 +24,27 @@ pub struct Wanted {
     pub start: u64,
 }
 
-#[derive(Drop)]
+#[derive(Clone, Copy)]
 pub enum Asked {
     Unread,
     Is(Wanted),
 }
 
 // What a line `r` brings: the value's bits, and how many attributes.
-#[derive(Drop)]
+#[derive(Clone, Copy)]
 pub enum Board {
     Unread,
     Is(u64, usize),
 }
 
 // A map's size; no size has more than three digits.
-#[derive(Drop)]
+#[derive(Clone, Copy)]
 enum Size {
     Unread,
     Is(u32),
 }
 
-#[derive(Drop)]
+#[derive(Clone, Copy)]
 enum Scale {
     Unread,
     Is(i32),

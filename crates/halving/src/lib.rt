@@ -1,4 +1,6 @@
 // A row lowered the plain way, halved over and over: what `rows::downscale` is proved equal to and measured against. For bench/ only.
+#![tactic(auto)]
+
 ghost use Rattle.std.specs.Prelude.{◌≡◌, ◌^◌, ◌<◌, ◌≤◌, length, take};
 ghost use Rattle.laws.specs.Counting.{total};
 ghost use Rattle.rows.specs.Rows.{over};

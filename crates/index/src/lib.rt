@@ -1,4 +1,6 @@
 // The exact bucket index of an f64: `frexp` and `get_bin` of exponential_histogram.rs.
+#![tactic(auto)]
+
 mod guess;
 mod pieces;
 mod rank;
@@ -14,7 +16,7 @@ ghost use Rattle.index.specs.Frexp.{PartsOf};
 pub const FINEST: u32 = 20;
 
 // An f64 taken apart: a mantissa of 53 binary digits, and the exponent of two, plus 2048, that it is multiplied by.
-#[derive(Drop)]
+#[derive(Clone, Copy)]
 pub enum Parts {
     NotFinite,
     Zero,
@@ -26,7 +28,7 @@ pub enum Parts {
 }
 
 // What an f64 has at a level: no such level, not a finite number, zero, or a bin.
-#[derive(Drop)]
+#[derive(Clone, Copy)]
 pub enum Bin {
     NoLevel,
     NotFinite,

@@ -4,20 +4,20 @@ ghost use Rattle.index.specs.Signed.{level_answer, scale_answer, index_answer, v
 ghost use Rattle.index.specs.Inner.{bin_index, signed_at};
 
 // A whole number, or none where what was asked for is out of range.
-#[derive(Drop)]
+#[derive(Clone, Copy)]
 pub enum Natural {
     OutOfRange,
     Is(u32),
 }
 
-#[derive(Drop)]
+#[derive(Clone, Copy)]
 pub enum Integer {
     OutOfRange,
     Is(i32),
 }
 
 // What an f64 has at a scale: no such scale, not a finite number, zero, or the Data Model's index.
-#[derive(Drop)]
+#[derive(Clone, Copy)]
 pub enum Index {
     NoScale,
     NotFinite,

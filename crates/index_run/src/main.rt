@@ -1,4 +1,6 @@
 // Prints the bucket index of each line `SCALE BITS` of its input, or `?` where the line cannot be read or has no index.
+#![tactic(auto)]
+
 use index::signed::Index;
 use lines::{Block, output};
 use text::{Integer, Natural};

@@ -1,4 +1,6 @@
 // i64 as histograms use it: the nearest f64, the lesser and the greater of two, a sum that may leave the range, bits.
+#![tactic(auto)]
+
 ghost use Rattle.std.specs.Prelude.{◌≡◌, ◌^◌, ◌<◌, true};
 ghost use Rattle.std.specs.Int.Signed.{mag};
 ghost use Rattle.integers.specs.Answers.{between, nearest_of, lesser_of, greater_of, sum_of, kept_sum, last_number, bits_of, of_bits, shown_of, smaller_of, larger_of};
@@ -38,7 +40,7 @@ pub fn greater(a: i64, v: i64) -> i64
 }
 
 // A sum: outside the range of i64, or it.
-#[derive(Drop)]
+#[derive(Clone, Copy)]
 pub enum Total {
     Outside,
     Is(i64),
@@ -121,7 +123,7 @@ pub fn of_bits(bits: u64) -> i64
 }
 
 // The minimum or the maximum of a point.
-#[derive(Drop)]
+#[derive(Clone, Copy)]
 pub enum Extreme {
     None,
     Value(i64),

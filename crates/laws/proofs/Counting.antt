@@ -1,6 +1,6 @@
 -- Counts in mapped lists, the ends of a list of numbers, tables. Assumes nothing.
 use Prim.Native.Nat.{ℕ, zero, suc, ◌+◌, ◌≤◌, ◌<◌, min, max}
-use mathlib.Core.Path.{◌≡◌, refl, ap, ◌∙◌}
+use mathlib.Core.Path.{◌≡◌, refl, ap, sym, subst, ◌∙◌}
 use mathlib.Core.Logic.{◌≢◌, inl, inr}
 use mathlib.Core.Bool.{Bool, true, false}
 use mathlib.Core.List.{List, [], ◌∷◌, ◌++◌, map}
@@ -66,16 +66,18 @@ low_in : (x : ℕ) (xs : List ℕ) → 0 < count (lowest x xs) (x ∷ xs)
 low_in x [] = omega (arith, bit-same x)
 low_in x (y ∷ ys) =
     elim (dec_le x (lowest y ys)) [
-      | yes h ↦ rw (min-eq_left h) (omega (arith, bit-same x))
-      | no h ↦ rw (min-eq_right {n = lowest y ys} {m = x} (omega arith)) (omega (arith, low_in y ys))
+      | yes h ↦ subst (λ m. 0 < count m (x ∷ y ∷ ys)) (sym (min-eq_left h)) (omega (arith, bit-same x))
+      | no h ↦
+          subst (λ m. 0 < count m (x ∷ y ∷ ys)) (sym (min-eq_right {n = lowest y ys} {m = x} (omega arith))) (omega (arith, low_in y ys))
     ]
 
 high_in : (x : ℕ) (xs : List ℕ) → 0 < count (highest x xs) (x ∷ xs)
 high_in x [] = omega (arith, bit-same x)
 high_in x (y ∷ ys) =
     elim (dec_le x (highest y ys)) [
-      | yes h ↦ rw (max-eq_right h) (omega (arith, high_in y ys))
-      | no h ↦ rw (max-eq_left {n = x} {m = highest y ys} (omega arith)) (omega (arith, bit-same x))
+      | yes h ↦ subst (λ m. 0 < count m (x ∷ y ∷ ys)) (sym (max-eq_right h)) (omega (arith, high_in y ys))
+      | no h ↦
+          subst (λ m. 0 < count m (x ∷ y ∷ ys)) (sym (max-eq_left {n = x} {m = highest y ys} (omega arith))) (omega (arith, bit-same x))
     ]
 
 pub ends_of : (x : ℕ) (xs : List ℕ) → Ends (lowest x xs) (highest x xs) (x ∷ xs)
@@ -134,11 +136,14 @@ pub table-set : (f : ℕ → ℕ) (lo n k : ℕ) → set (table f lo n) k (get_o
 table-set f lo zero k = refl
 table-set f lo (suc n) zero =
     let e : lo + 0 ≡ lo = omega arith in
-    rw (e, bit-same lo) (ap (λ l. (f lo + 1) ∷ l) (table-cong f (λ j. f j + bit (eqb lo j)) (suc lo) n (λ j l. omega (arith, bit-other j lo (λ q. omega arith)))))
+    subst (λ (m : ℕ). (f lo + 1) ∷ table f (suc lo) n ≡ (f lo + bit (eqb m lo)) ∷ table (λ j. f j + bit (eqb m j)) (suc lo) n) (sym e)
+    (rw (bit-same lo) (ap (λ l. (f lo + 1) ∷ l) (table-cong f (λ j. f j + bit (eqb lo j)) (suc lo) n (λ j l. omega (arith, bit-other j lo (λ q. omega arith))))))
 table-set f lo (suc n) (suc k) =
     let e : lo + suc k ≡ suc lo + k = omega arith in
     let z : f lo ≡ f lo + bit (eqb (suc lo + k) lo) = omega (arith, bit-other lo (suc lo + k) (λ q. omega arith)) in
-    rw (e, ← z) (ap (λ l. f lo ∷ l) (table-set f (suc lo) n k))
+    subst (λ (m : ℕ). f lo ∷ set (table f (suc lo) n) k (get_or (table f (suc lo) n) k 0 + 1)
+    ≡ (f lo + bit (eqb m lo)) ∷ table (λ j. f j + bit (eqb m j)) (suc lo) n)
+    (sym e) (rw (← z) (ap (λ l. f lo ∷ l) (table-set f (suc lo) n k)))
 
 -- ---- totals
 pub total-none : (f : ℕ → ℕ) (lo n : ℕ) → ((j : ℕ) → lo ≤ j → f j ≡ 0) → total (table f lo n) ≡ 0

@@ -11,42 +11,42 @@ ghost use Rattle.lines.specs.Scanned.{Read, Scanned, Parted};
 pub type Attributes = [[u32; 2]; 9];
 
 // How many attributes a set has, 9 where there are more; or it can't be read.
-#[derive(Drop)]
+#[derive(Clone, Copy)]
 pub enum Given {
     Unread,
     Are(usize),
 }
 
 // A number below 2^32, or none.
-#[derive(Drop)]
+#[derive(Clone, Copy)]
 enum Word {
     None,
     Is(u32),
 }
 
 // A key and a value, or none.
-#[derive(Drop)]
+#[derive(Clone, Copy)]
 enum Attribute {
     None,
     Is(u32, u32),
 }
 
 // The digits from a place on: what they say, and where they end.
-#[derive(Drop)]
+#[derive(Clone, Copy)]
 struct Number {
     x: u64,
     to: usize,
 }
 
 // A number, and where the mark behind it stands.
-#[derive(Drop)]
+#[derive(Clone, Copy)]
 struct Scan {
     word: Word,
     to: usize,
 }
 
 // An attribute, and where its part ends.
-#[derive(Drop)]
+#[derive(Clone, Copy)]
 struct Part {
     attribute: Attribute,
     to: usize,

@@ -8,7 +8,7 @@ use libc::STDIN_FILENO;
 
 // How far a program has read and written: the block's bytes from `at` to `end` are to be read; `len` bytes of the line are there, 256 of
 // one that is too long; whether the line has ended, and whether the input has; `waiting` bytes of text are to be written.
-#[derive(Drop)]
+#[derive(Clone, Copy)]
 pub struct Ports {
     pub at: usize,
     pub end: usize,

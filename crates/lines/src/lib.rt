@@ -1,6 +1,8 @@
 // What the programs that follow lines of calls share: lines read from blocks of the input, text written in blocks, sets of attributes.
 //
 // A line has at most 255 bytes; its newline isn't counted and may be missing at the input's end. Any bytes may come.
+#![tactic(auto)]
+
 pub mod attributes;
 pub mod input;
 pub mod output;

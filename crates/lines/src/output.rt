@@ -35,7 +35,7 @@ fn room(text: &Block, n: usize) -> usize
 
 // A byte behind n others; how many there are then.
 pub fn byte(text: &mut Block, n: usize, b: u8) -> usize
-    ensures { waiting result text.exit ≡ b ∷ [] behind waiting n text.entry }
+    ensures { waiting result text.new ≡ b ∷ [] behind waiting n text.old }
 {
     let at = room(text, n);
     text[at] = b;
@@ -44,7 +44,7 @@ pub fn byte(text: &mut Block, n: usize, b: u8) -> usize
 
 // Bytes behind n others.
 pub fn bytes(text: &mut Block, n: usize, all: &[u8]) -> usize
-    ensures { waiting result text.exit ≡ all.now behind waiting n text.entry }
+    ensures { waiting result text.new ≡ all.now behind waiting n text.old }
 {
     let mut m = n;
     let mut i: usize = 0;
@@ -57,7 +57,7 @@ pub fn bytes(text: &mut Block, n: usize, all: &[u8]) -> usize
 
 // A number in decimal.
 pub fn decimal(text: &mut Block, n: usize, x: u64) -> usize
-    ensures { waiting result text.exit ≡ Written.decimal x behind waiting n text.entry }
+    ensures { waiting result text.new ≡ Written.decimal x behind waiting n text.old }
 {
     let mut digits = [0u8; 20];
     let k = io::decimal(x, &mut digits);
@@ -66,7 +66,7 @@ pub fn decimal(text: &mut Block, n: usize, x: u64) -> usize
 
 // A signed number in decimal. The least has no i64 of the other sign: the next above it has.
 pub fn signed(text: &mut Block, n: usize, x: i64) -> usize
-    ensures { waiting result text.exit ≡ Written.signed x behind waiting n text.entry }
+    ensures { waiting result text.new ≡ Written.signed x behind waiting n text.old }
 {
     if x < 0 {
         let m = byte(text, n, b'-');
@@ -76,14 +76,14 @@ pub fn signed(text: &mut Block, n: usize, x: i64) -> usize
 }
 
 fn sixteen(text: &mut Block, n: usize, digits: &[u8; 16]) -> usize
-    ensures { waiting result text.exit ≡ digits.now behind waiting n text.entry }
+    ensures { waiting result text.new ≡ digits.now behind waiting n text.old }
 {
     bytes(text, n, digits)
 }
 
 // Bits as 16 hexadecimal digits.
 pub fn bits(text: &mut Block, n: usize, x: u64) -> usize
-    ensures { waiting result text.exit ≡ hex_digits 16 x behind waiting n text.entry }
+    ensures { waiting result text.new ≡ hex_digits 16 x behind waiting n text.old }
 {
     let digits = text::hex_digits(x);
     sixteen(text, n, &digits)

@@ -1,4 +1,6 @@
 // Calls for bench/: a row lowered by the walk from group to group, and by halving it over and over. What they require is the driver's to keep.
+#![tactic(auto)]
+
 ghost use Rattle.std.specs.Prelude.{◌≡◌, ◌^◌, ◌<◌, ◌≤◌, length, take};
 ghost use Rattle.laws.specs.Counting.{total};
 ghost use Rattle.rows.specs.Rows.{over, downscaled};

@@ -1,4 +1,6 @@
 // The directory's state and an answer's number as words, for calls that programs in other languages make.
+#![tactic(auto)]
+
 ghost use Rattle.std.specs.Prelude.{◌≡◌};
 ghost use Rattle.laws.specs.Said.{number};
 ghost use Rattle.bindings.specs.Calls.{said};

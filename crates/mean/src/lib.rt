@@ -1,4 +1,6 @@
 // The mean of a point's values in whole hundredths, for the blade card (request L2): the sum must be a whole number of 1/1024.
+#![tactic(auto)]
+
 ghost use Rattle.std.specs.Prelude.{◌≡◌, ◌*◌, ◌^◌, ◌≤◌, ◌<◌};
 ghost use Rattle.floats.specs.Grid.{signed as with_sign};
 ghost use Rattle.point.specs.Handing.{stored};
@@ -13,14 +15,14 @@ use point::Point;
 
 // The mean in hundredths, or a number: 8 the point disagrees, 11 it is of i64 values, 13 it has no values, 14 its sum is no whole number of
 // 1/1024 or its magnitude is above 2^43.
-#[derive(Drop)]
+#[derive(Clone, Copy)]
 pub enum Answer {
     Refused(u8),
     Mean(i64),
 }
 
 // A sum as so many 1/1024ths; off the grid where it is no whole number of them, or its magnitude is above 2^43.
-#[derive(Drop)]
+#[derive(Clone, Copy)]
 enum Sum {
     OffGrid,
     Steps { negative: bool, steps: u64 },
@@ -137,7 +139,7 @@ fn mean_of(count: u64, sum: f64) -> Answer
 
 // The mean of a point with its bounds and rows, of either kind, in whole hundredths; or 8, 13, 14. Nothing is changed.
 pub fn hundredths(p: Point, bounds: &[f64], pos: &[u64], neg: &[u64]) -> Answer
-    ensures { said result ≡ mean_in (stored p bounds.entry pos.entry neg.entry) }
+    ensures { said result ≡ mean_in (stored p bounds.old pos.old neg.old) }
 {
     let f = p.figures;
     if !point::agrees_alone(p, bounds, pos, neg) {
@@ -148,7 +150,7 @@ pub fn hundredths(p: Point, bounds: &[f64], pos: &[u64], neg: &[u64]) -> Answer
 
 // The same of a point of i64 values, which has no card (request L6): 8 where it disagrees with itself, else 11. Nothing is changed.
 pub fn whole_hundredths(p: whole_point::Point, bounds: &[f64], pos: &[u64], neg: &[u64]) -> Answer
-    ensures { said result ≡ whole_mean_in (W.stored p bounds.entry pos.entry neg.entry) }
+    ensures { said result ≡ whole_mean_in (W.stored p bounds.old pos.old neg.old) }
 {
     let no = whole_point::alone_number(p, bounds, pos, neg);
     Answer::Refused(no)

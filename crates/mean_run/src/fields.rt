@@ -3,7 +3,7 @@ use floats::Extreme;
 use text::{Integer, Natural};
 
 // What a point of either kind has.
-#[derive(Drop)]
+#[derive(Clone, Copy)]
 pub struct Held {
     pub count: u64,
     pub extremes: bool,
@@ -12,14 +12,14 @@ pub struct Held {
     pub sum: f64,
 }
 
-#[derive(Drop)]
+#[derive(Clone, Copy)]
 pub enum Common {
     Unread,
     Is(Held),
 }
 
 // A minimum or a maximum as it is spelled: bits, or `-` where there is none.
-#[derive(Drop)]
+#[derive(Clone, Copy)]
 enum Spelled {
     Unread,
     Is(Extreme),

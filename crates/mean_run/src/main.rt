@@ -8,6 +8,8 @@
 // SWITCH is 0 or 1; MIN and MAX are bits or `-` for none, SUM and BOUND bits. SCALE is -10 to 20 and LEN at most 200, so that a point can
 // disagree by them. With LEN 0 a FIRST other than 0 makes an empty row that starts at
 // index 0's bin, and disagrees.
+#![tactic(auto)]
+
 mod fields;
 
 use exponential::Counts;

@@ -1,4 +1,6 @@
 // Two series of the exponential kind merged into lent rows.
+#![tactic(auto)]
+
 ghost use Rattle.std.specs.Prelude.{◌≡◌, ◌+◌, ◌-◌, ◌/◌, ◌^◌, ◌<◌, ◌≤◌, pred, length, take, replicate, ◌++◌};
 ghost use Rattle.rows.specs.Rows.{over};
 ghost use Rattle.laws.specs.Counting.{total};
@@ -27,7 +29,7 @@ fn last_bin(row: Row) -> u32
     start + (n - 1) as u32
 }
 
-#[derive(Drop)]
+#[derive(Clone, Copy)]
 pub struct Ends {
     pub lo: u32,
     pub hi: u32,
@@ -86,7 +88,7 @@ pub fn joined_len(a: Row, j: u32, b: Row, k: u32) -> usize
 }
 
 // The level of the merged series, and how many levels lower that is than either's.
-#[derive(Drop)]
+#[derive(Clone, Copy)]
 pub struct Plan {
     pub level: u32,
     pub first: u32,

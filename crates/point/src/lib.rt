@@ -1,4 +1,6 @@
 // A point as it is handed out, of either kind, and two such points merged.
+#![tactic(auto)]
+
 pub mod signed;
 
 ghost use Rattle.std.specs.Prelude.{◌≡◌, ◌+◌, ◌-◌, ◌^◌, ◌<◌, leb};
@@ -20,14 +22,14 @@ use exponential::Counts;
 use floats::Extreme;
 
 // The counts of either kind; the case is the kind's tag.
-#[derive(Drop)]
+#[derive(Clone, Copy)]
 pub enum Figures {
     Exponential(Counts),
     Explicit(u64),
 }
 
 // A point; its bounds and its rows of counts lie beside it.
-#[derive(Drop)]
+#[derive(Clone, Copy)]
 pub struct Point {
     pub figures: Figures,
     pub extremes: bool,
@@ -133,7 +135,7 @@ fn figures_agree(size: usize, f: Figures, bounds: &[f64], pos: &[u64], neg: &[u6
 
 // Whether a point agrees with itself under a max_size, as number 8 asks.
 fn point_agrees(size: usize, p: Point, bounds: &[f64], pos: &[u64], neg: &[u64]) -> bool
-    ensures { result ≡ point_agrees size (stored p bounds.entry pos.entry neg.entry) }
+    ensures { result ≡ point_agrees size (stored p bounds.old pos.old neg.old) }
 {
     let f = p.figures;
     let min = p.min;
@@ -147,7 +149,7 @@ fn point_agrees(size: usize, p: Point, bounds: &[f64], pos: &[u64], neg: &[u64])
 
 // Whether a point agrees with itself under max_size 160 and the greatest scale, as number 8 asks where there is no merge; never refused.
 pub fn agrees_alone(p: Point, bounds: &[f64], pos: &[u64], neg: &[u64]) -> bool
-    ensures { result ≡ agrees_alone (stored p bounds.entry pos.entry neg.entry) }
+    ensures { result ≡ agrees_alone (stored p bounds.old pos.old neg.old) }
 {
     point_agrees(exponential::MOST_SIZE, p, bounds, pos, neg)
 }
@@ -220,8 +222,8 @@ pub fn refusal(
     bpos: &[u64],
     bneg: &[u64],
 ) -> u8
-    ensures { result ≡ refusal_before size (stored a abounds.entry apos.entry aneg.entry)
-        (stored b bbounds.entry bpos.entry bneg.entry) }
+    ensures { result ≡ refusal_before size (stored a abounds.old apos.old aneg.old)
+        (stored b bbounds.old bpos.old bneg.old) }
 {
     let f = a.figures;
     let g = b.figures;
@@ -249,14 +251,14 @@ pub fn refusal(
 // ---- merging
 
 // What a merge makes: figures, or none for want of room.
-#[derive(Drop)]
+#[derive(Clone, Copy)]
 pub enum Made {
     Of(Figures),
     NoRoom,
 }
 
 // What a merge answers: the merged point, or document 01's number.
-#[derive(Drop)]
+#[derive(Clone, Copy)]
 pub enum Answer {
     Merged(Point),
     Refused(u8),
@@ -351,8 +353,8 @@ pub fn merge(
     pos: &mut [u64],
     neg: &mut [u64],
 ) -> Answer
-    ensures { outcome result abounds.entry pos.exit neg.exit
-        ≡ merging size (stored a abounds.entry apos.entry aneg.entry) (stored b bbounds.entry bpos.entry bneg.entry)
+    ensures { outcome result abounds.old pos.new neg.new
+        ≡ merging size (stored a abounds.old apos.old aneg.old) (stored b bbounds.old bpos.old bneg.old)
         pos.old neg.old }
 {
     let no = refusal(size, a, abounds, apos, aneg, b, bbounds, bpos, bneg);

@@ -7,6 +7,8 @@
 // or a histogram's point by its card (request L2): `SET MEAN`, in whole hundredths, or `SET ! N` where the mean is refused.
 //
 // Each function puts its text behind the n bytes that are there, and says how many there are then.
+#![tactic(auto)]
+
 ghost use Rattle.std.specs.Prelude.{◌≡◌, true, false, [], ◌∷◌, map, eqb, take};
 ghost use Rattle.laws.specs.Pick.{pick};
 ghost use Rattle.text.specs.Numbers.{hex_digits};
@@ -28,14 +30,14 @@ use mean::Answer;
 use point::{Figures, Point};
 
 // How a point is shown: by all that it has, or by its card.
-#[derive(Drop)]
+#[derive(Clone, Copy)]
 pub enum Form {
     Point,
     Card,
 }
 
 // How much text there is, and where the next point lies.
-#[derive(Drop)]
+#[derive(Clone, Copy)]
 pub struct Printed {
     pub n: usize,
     pub at: Cursor,
@@ -43,7 +45,7 @@ pub struct Printed {
 
 // A number behind a space.
 pub fn number(text: &mut Block, n: usize, x: u64) -> usize
-    ensures { waiting result text.exit ≡ 32 ∷ decimal x behind waiting n text.entry }
+    ensures { waiting result text.new ≡ 32 ∷ decimal x behind waiting n text.old }
 {
     let m = output::byte(text, n, b' ');
     output::decimal(text, m, x)
@@ -51,7 +53,7 @@ pub fn number(text: &mut Block, n: usize, x: u64) -> usize
 
 // Bits behind a space.
 fn bits(text: &mut Block, n: usize, x: u64) -> usize
-    ensures { waiting result text.exit ≡ 32 ∷ hex_digits 16 x behind waiting n text.entry }
+    ensures { waiting result text.new ≡ 32 ∷ hex_digits 16 x behind waiting n text.old }
 {
     let m = output::byte(text, n, b' ');
     output::bits(text, m, x)
@@ -59,7 +61,7 @@ fn bits(text: &mut Block, n: usize, x: u64) -> usize
 
 // A comma before all but the first of several.
 fn comma(text: &mut Block, n: usize, i: usize) -> usize
-    ensures { waiting result text.exit ≡ pick (eqb i 0) [] (44 ∷ []) behind waiting n text.entry }
+    ensures { waiting result text.new ≡ pick (eqb i 0) [] (44 ∷ []) behind waiting n text.old }
 {
     if i == 0 {
         return n;
@@ -70,7 +72,7 @@ fn comma(text: &mut Block, n: usize, i: usize) -> usize
 // ---- sets
 
 fn attribute(text: &mut Block, n: usize, word: u64) -> usize
-    ensures { waiting result text.exit ≡ attribute_field (pair word) behind waiting n text.entry }
+    ensures { waiting result text.new ≡ attribute_field (pair word) behind waiting n text.old }
 {
     let a = output::decimal(text, n, word / 4294967296);
     let b = output::byte(text, a, b':');
@@ -78,7 +80,7 @@ fn attribute(text: &mut Block, n: usize, word: u64) -> usize
 }
 
 fn attributes(text: &mut Block, n: usize, row: [u64; 9]) -> usize
-    ensures { waiting result text.exit ≡ joined 44 (map attribute_field (take 8 (set_of row))) behind waiting n text.entry }
+    ensures { waiting result text.new ≡ joined 44 (map attribute_field (take 8 (set_of row))) behind waiting n text.old }
 {
     let many = row[8];
     let mut m = n;
@@ -93,7 +95,7 @@ fn attributes(text: &mut Block, n: usize, row: [u64; 9]) -> usize
 
 // A set, `-` the empty one.
 fn bare_set(text: &mut Block, n: usize, row: [u64; 9]) -> usize
-    ensures { waiting result text.exit ≡ set_field (take 8 (set_of row)) behind waiting n text.entry }
+    ensures { waiting result text.new ≡ set_field (take 8 (set_of row)) behind waiting n text.old }
 {
     if row[8] == 0 {
         return output::byte(text, n, b'-');
@@ -103,7 +105,7 @@ fn bare_set(text: &mut Block, n: usize, row: [u64; 9]) -> usize
 
 // A set behind a space.
 pub fn set(text: &mut Block, n: usize, row: [u64; 9]) -> usize
-    ensures { waiting result text.exit ≡ 32 ∷ set_field (take 8 (set_of row)) behind waiting n text.entry }
+    ensures { waiting result text.new ≡ 32 ∷ set_field (take 8 (set_of row)) behind waiting n text.old }
 {
     let m = output::byte(text, n, b' ');
     bare_set(text, m, row)
@@ -113,7 +115,7 @@ pub fn set(text: &mut Block, n: usize, row: [u64; 9]) -> usize
 
 // A scale or an offset behind a space.
 pub fn integer(text: &mut Block, n: usize, x: Integer) -> usize
-    ensures { waiting result text.exit ≡ 32 ∷ integer_field x behind waiting n text.entry }
+    ensures { waiting result text.new ≡ 32 ∷ integer_field x behind waiting n text.old }
 {
     let m = output::byte(text, n, b' ');
     match x {
@@ -124,7 +126,7 @@ pub fn integer(text: &mut Block, n: usize, x: Integer) -> usize
 
 // An extreme behind a space, `-` where it isn't kept.
 fn extreme(text: &mut Block, n: usize, x: Extreme) -> usize
-    ensures { waiting result text.exit ≡ 32 ∷ extreme_field x behind waiting n text.entry }
+    ensures { waiting result text.new ≡ 32 ∷ extreme_field x behind waiting n text.old }
 {
     match x {
         Extreme::None => output::bytes(text, n, b" -"),
@@ -133,7 +135,7 @@ fn extreme(text: &mut Block, n: usize, x: Extreme) -> usize
 }
 
 fn held(text: &mut Block, n: usize, p: Point) -> usize
-    ensures { waiting result text.exit ≡ each 32 (held_fields p []) behind waiting n text.entry }
+    ensures { waiting result text.new ≡ each 32 (held_fields p []) behind waiting n text.old }
 {
     let min = p.min;
     let max = p.max;
@@ -143,7 +145,7 @@ fn held(text: &mut Block, n: usize, p: Point) -> usize
 }
 
 pub fn counts(text: &mut Block, n: usize, row: &[u64]) -> usize
-    ensures { waiting result text.exit ≡ joined 44 (map decimal row.now) behind waiting n text.entry }
+    ensures { waiting result text.new ≡ joined 44 (map decimal row.now) behind waiting n text.old }
 {
     let mut m = n;
     let mut i: usize = 0;
@@ -157,7 +159,7 @@ pub fn counts(text: &mut Block, n: usize, row: &[u64]) -> usize
 
 // A row: its offset and its counts.
 pub fn row(text: &mut Block, n: usize, offset: Integer, row: &[u64]) -> usize
-    ensures { waiting result text.exit ≡ 32 ∷ row_field offset row.now behind waiting n text.entry }
+    ensures { waiting result text.new ≡ 32 ∷ row_field offset row.now behind waiting n text.old }
 {
     let a = integer(text, n, offset);
     let b = output::byte(text, a, b':');
@@ -166,7 +168,7 @@ pub fn row(text: &mut Block, n: usize, offset: Integer, row: &[u64]) -> usize
 
 // A space, and `-` if none of several follows.
 pub fn dash(text: &mut Block, n: usize, many: usize) -> usize
-    ensures { waiting result text.exit ≡ 32 ∷ pick (eqb many 0) (45 ∷ []) [] behind waiting n text.entry }
+    ensures { waiting result text.new ≡ 32 ∷ pick (eqb many 0) (45 ∷ []) [] behind waiting n text.old }
 {
     let m = output::byte(text, n, b' ');
     if many == 0 {
@@ -176,7 +178,7 @@ pub fn dash(text: &mut Block, n: usize, many: usize) -> usize
 }
 
 pub fn all_bits(text: &mut Block, n: usize, bounds: &[f64]) -> usize
-    ensures { waiting result text.exit ≡ joined 44 (map float_field bounds.now) behind waiting n text.entry }
+    ensures { waiting result text.new ≡ joined 44 (map float_field bounds.now) behind waiting n text.old }
 {
     let mut m = n;
     let mut i: usize = 0;
@@ -191,7 +193,7 @@ pub fn all_bits(text: &mut Block, n: usize, bounds: &[f64]) -> usize
 // ---- points
 
 fn exponential(text: &mut Block, n: usize, p: Point, pos: &[u64], neg: &[u64]) -> usize
-    ensures { waiting result text.exit ≡ each 32 (exponential_fields p pos.now neg.now) behind waiting n text.entry }
+    ensures { waiting result text.new ≡ each 32 (exponential_fields p pos.now neg.now) behind waiting n text.old }
 {
     let a = integer(text, n, point::signed::scale(p));
     let b = held(text, a, p);
@@ -200,7 +202,7 @@ fn exponential(text: &mut Block, n: usize, p: Point, pos: &[u64], neg: &[u64]) -
 }
 
 fn explicit(text: &mut Block, n: usize, p: Point, buckets: &[u64], bounds: &[f64]) -> usize
-    ensures { waiting result text.exit ≡ each 32 (explicit_fields p buckets.now bounds.now) behind waiting n text.entry }
+    ensures { waiting result text.new ≡ each 32 (explicit_fields p buckets.now bounds.now) behind waiting n text.old }
 {
     let a = held(text, n, p);
     let b = dash(text, a, buckets.len());
@@ -220,9 +222,9 @@ fn point_line<'a>(
     neg: &'a [u64],
     bounds: &[f64],
 ) -> usize
-    ensures { waiting result text.exit ≡ point_line (take 8 (set_of row)) (stored_in e.point (bounds_at e.bounds bounds.now)
+    ensures { waiting result text.new ≡ point_line (take 8 (set_of row)) (stored_in e.point (bounds_at e.bounds bounds.now)
         (row_at at e.next false pos.now neg.now) (row_at at e.next true pos.now neg.now))
-        behind waiting n text.entry }
+        behind waiting n text.old }
 {
     let p = e.point;
     let next = e.next;
@@ -251,7 +253,7 @@ fn point_line<'a>(
 
 // A mean behind a space, or the number that refuses it behind its mark.
 fn mean_fields(text: &mut Block, n: usize, x: Answer) -> usize
-    ensures { waiting result text.exit ≡ each 32 (mean_fields (said x)) behind waiting n text.entry }
+    ensures { waiting result text.new ≡ each 32 (mean_fields (said x)) behind waiting n text.old }
 {
     match x {
         Answer::Mean(z) => {
@@ -276,9 +278,9 @@ fn card_line<'a>(
     neg: &'a [u64],
     bounds: &[f64],
 ) -> usize
-    ensures { waiting result text.exit ≡ card_line (take 8 (set_of row)) (stored_in e.point (bounds_at e.bounds bounds.now)
+    ensures { waiting result text.new ≡ card_line (take 8 (set_of row)) (stored_in e.point (bounds_at e.bounds bounds.now)
         (row_at at e.next false pos.now neg.now) (row_at at e.next true pos.now neg.now))
-        behind waiting n text.entry }
+        behind waiting n text.old }
 {
     let p = e.point;
     let next = e.next;
@@ -303,9 +305,9 @@ fn line<'a>(
     neg: &'a [u64],
     bounds: &[f64],
 ) -> usize
-    ensures { waiting result text.exit ≡ line_of form (take 8 (set_of row)) (stored_in e.point (bounds_at e.bounds bounds.now)
+    ensures { waiting result text.new ≡ line_of form (take 8 (set_of row)) (stored_in e.point (bounds_at e.bounds bounds.now)
         (row_at at e.next false pos.now neg.now) (row_at at e.next true pos.now neg.now))
-        behind waiting n text.entry }
+        behind waiting n text.old }
 {
     match form {
         Form::Point => point_line(text, n, row, at, e, pos, neg, bounds),
@@ -325,9 +327,9 @@ pub fn point<'a>(
     neg: &'a [u64],
     bounds: &[f64],
 ) -> Printed
-    ensures text_value { waiting result.n text.exit ≡ line_at form at (listed_in sets.entry words.entry pos.entry neg.entry) bounds.now
-        behind waiting n text.entry }
-    ensures at_value { result.at ≡ next_at at (listed_in sets.entry words.entry pos.entry neg.entry) }
+    ensures text_value { waiting result.n text.new ≡ line_at form at (listed_in sets.old words.old pos.old neg.old) bounds.now
+        behind waiting n text.old }
+    ensures at_value { result.at ≡ next_at at (listed_in sets.old words.old pos.old neg.old) }
 {
     let k = at.place;
     let Found::Is(e) = listing::read::point_at(at, words, pos, neg) else {
@@ -357,8 +359,8 @@ pub fn collection<'a>(
     neg: &'a [u64],
     bounds: &[f64],
 ) -> usize
-    ensures { waiting result text.exit ≡ collection_lines form start time many (listed_in sets.entry words.entry pos.entry neg.entry)
-        bounds.now behind waiting n text.entry }
+    ensures { waiting result text.new ≡ collection_lines form start time many (listed_in sets.old words.old pos.old neg.old)
+        bounds.now behind waiting n text.old }
 {
     let m = head(text, n, start, time, many as u64);
     let at = Cursor {
@@ -376,7 +378,7 @@ pub fn collection<'a>(
 }
 
 pub fn head(text: &mut Block, n: usize, start: u64, time: u64, many: u64) -> usize
-    ensures { waiting result text.exit ≡ collection_head start time many behind waiting n text.entry }
+    ensures { waiting result text.new ≡ collection_head start time many behind waiting n text.old }
 {
     let a = output::byte(text, n, b'c');
     let b = number(text, a, start);
@@ -389,7 +391,7 @@ pub fn head(text: &mut Block, n: usize, start: u64, time: u64, many: u64) -> usi
 
 // The line of the point at a place; nothing where there is no row of its set, or no value.
 fn value(text: &mut Block, n: usize, k: usize, sets: &[[u64; 9]], values: &[u64]) -> usize
-    ensures { waiting result text.exit ≡ value_at k sets.now values.now behind waiting n text.entry }
+    ensures { waiting result text.new ≡ value_at k sets.now values.now behind waiting n text.old }
 {
     if sets.len() <= k {
         return n;
@@ -413,7 +415,7 @@ pub fn values(
     sets: &[[u64; 9]],
     values: &[u64],
 ) -> usize
-    ensures { waiting result text.exit ≡ value_lines start time many sets.now values.now behind waiting n text.entry }
+    ensures { waiting result text.new ≡ value_lines start time many sets.now values.now behind waiting n text.old }
 {
     let mut m = head(text, n, start, time, many as u64);
     let mut i: usize = 0;
@@ -426,7 +428,7 @@ pub fn values(
 
 // Prints `?` and the number of a line of the input that can't be read.
 pub fn unread(text: &mut Block, n: usize, line: u64) -> usize
-    ensures { waiting result text.exit ≡ unread_line line behind waiting n text.entry }
+    ensures { waiting result text.new ≡ unread_line line behind waiting n text.old }
 {
     let a = output::byte(text, n, b'?');
     let b = number(text, a, line);

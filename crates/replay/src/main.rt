@@ -1,6 +1,8 @@
 // Replays call scripts and prints their answers: docs/REPLAY.md has the language.
 //
 // Kinds `e`, `x`, `s` and `l` of f64, `e` and `x` of i64. Every script has stores of its own, so a new one finds them fresh.
+#![tactic(auto)]
+
 mod line;
 mod show;
 

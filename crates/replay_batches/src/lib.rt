@@ -1,6 +1,8 @@
 // Lines with many values (`R`, `H`): the calls of each kind over f64 that they make, and what those over i64 share with them (docs/REPLAY.md).
 //
 // The map's stores are lent as in the crates of the single calls, whose definitions the contracts cite.
+#![tactic(auto)]
+
 ghost use Rattle.std.specs.Prelude.{◌≡◌, take};
 ghost use Rattle.replay_batches.specs.Batched.{batched_in};
 

@@ -3,6 +3,8 @@
 //
 // The map's stores are lent as long as a line `m` says, the output as long as the line `c` does: too few of any is number 12 or 10. A
 // function makes one call of the map: each is proved for itself.
+#![tactic(auto)]
+
 ghost use Rattle.std.specs.Prelude.{◌≡◌};
 ghost use Rattle.exponential_collection.specs.Configured.{said};
 ghost use Rattle.replay_state.specs.Bound.{lent_stores, given_in};
@@ -51,8 +53,8 @@ fn configure(
     pos: &[u64],
     neg: &[u64],
 ) -> State
-    ensures { result ≡ after_configured s (lent_stores s sets.entry entries.entry order.entry)
-        (cells_in s figures.entry extremes.entry pos.entry neg.entry) }
+    ensures { result ≡ after_configured s (lent_stores s sets.old entries.old order.old)
+        (cells_in s figures.old extremes.old pos.old neg.old) }
 {
     let n = s.entries;
     let m = s.counts;
@@ -87,8 +89,8 @@ fn measure(
     pos: &mut [u64],
     neg: &mut [u64],
 ) -> State
-    ensures { result ≡ after_measured s (given_in s attrs.entry) (lent_stores s sets.entry entries.entry order.entry)
-        (cells_in s figures.entry extremes.entry pos.entry neg.entry) }
+    ensures { result ≡ after_measured s (given_in s attrs.old) (lent_stores s sets.old entries.old order.old)
+        (cells_in s figures.old extremes.old pos.old neg.old) }
 {
     let n = s.entries;
     let m = s.counts;
@@ -123,8 +125,8 @@ fn measure_by(
     pos: &mut [u64],
     neg: &mut [u64],
 ) -> State
-    ensures { result ≡ after_measured_by s (lent_stores s sets.entry entries.entry order.entry)
-        (cells_in s figures.entry extremes.entry pos.entry neg.entry) }
+    ensures { result ≡ after_measured_by s (lent_stores s sets.old entries.old order.old)
+        (cells_in s figures.old extremes.old pos.old neg.old) }
 {
     let n = s.entries;
     let m = s.counts;
@@ -158,8 +160,8 @@ pub fn follow(
     pos: &mut [u64],
     neg: &mut [u64],
 ) -> State
-    ensures { result ≡ after_followed s (given_in s attrs.entry) (lent_stores s sets.entry entries.entry order.entry)
-        (cells_in s figures.entry extremes.entry pos.entry neg.entry) }
+    ensures { result ≡ after_followed s (given_in s attrs.old) (lent_stores s sets.old entries.old order.old)
+        (cells_in s figures.old extremes.old pos.old neg.old) }
 {
     if s.of != b'e' {
         return s;
@@ -202,9 +204,9 @@ fn delta(
     out_pos: &mut [u64],
     out_neg: &mut [u64],
 ) -> State
-    ensures { result ≡ after_delta s (lent_stores s sets.entry entries.entry order.entry)
-        (cells_in s figures.entry extremes.entry pos.entry neg.entry)
-        (output_in s out_sets.entry out_words.entry out_pos.entry out_neg.entry) }
+    ensures { result ≡ after_delta s (lent_stores s sets.old entries.old order.old)
+        (cells_in s figures.old extremes.old pos.old neg.old)
+        (output_in s out_sets.old out_words.old out_pos.old out_neg.old) }
 {
     let n = s.entries;
     let m = s.counts;
@@ -244,9 +246,9 @@ fn cumulative(
     out_pos: &mut [u64],
     out_neg: &mut [u64],
 ) -> State
-    ensures { result ≡ after_cumulative s (lent_stores s sets.entry entries.entry order.entry)
-        (cells_in s figures.entry extremes.entry pos.entry neg.entry)
-        (output_in s out_sets.entry out_words.entry out_pos.entry out_neg.entry) }
+    ensures { result ≡ after_cumulative s (lent_stores s sets.old entries.old order.old)
+        (cells_in s figures.old extremes.old pos.old neg.old)
+        (output_in s out_sets.old out_words.old out_pos.old out_neg.old) }
 {
     let n = s.entries;
     let m = s.counts;
@@ -285,9 +287,9 @@ pub fn collect(
     out_pos: &mut [u64],
     out_neg: &mut [u64],
 ) -> State
-    ensures { result ≡ after_collected s (lent_stores s sets.entry entries.entry order.entry)
-        (cells_in s figures.entry extremes.entry pos.entry neg.entry)
-        (output_in s out_sets.entry out_words.entry out_pos.entry out_neg.entry) }
+    ensures { result ≡ after_collected s (lent_stores s sets.old entries.old order.old)
+        (cells_in s figures.old extremes.old pos.old neg.old)
+        (output_in s out_sets.old out_words.old out_pos.old out_neg.old) }
 {
     if s.of != b'e' {
         return s;

@@ -3,6 +3,8 @@
 //
 // The map's stores are lent as long as a line `m` says, the output as long as the line `c` does: too few of any is number 12 or 10. Where
 // bounds are a parameter here, the values lie behind them. A function makes one call of the map: each is proved for itself.
+#![tactic(auto)]
+
 ghost use Rattle.std.specs.Prelude.{◌≡◌};
 ghost use Rattle.singles.specs.Configured.{said};
 ghost use Rattle.replay_state.specs.Bound.{lent_stores, given_in};
@@ -43,7 +45,7 @@ fn configure(
     entries: &mut [[u64; 3]],
     order: &[u32],
 ) -> State
-    ensures { result ≡ after_configured s (lent_stores s sets.entry entries.entry order.entry) (values_in s bounds.entry) }
+    ensures { result ≡ after_configured s (lent_stores s sets.old entries.old order.old) (values_in s bounds.old) }
 {
     let n = s.entries;
     let waiting = s.next_filter;
@@ -68,8 +70,8 @@ fn measure(
     entries: &mut [[u64; 3]],
     order: &mut [u32],
 ) -> State
-    ensures { result ≡ after_measured s (given_in s attrs.entry)
-        (lent_stores s sets.entry entries.entry order.entry) (values_in s bounds.entry) }
+    ensures { result ≡ after_measured s (given_in s attrs.old)
+        (lent_stores s sets.old entries.old order.old) (values_in s bounds.old) }
 {
     let n = s.entries;
     let filter = s.filter;
@@ -96,7 +98,7 @@ fn measure_by(
     entries: &mut [[u64; 3]],
     order: &mut [u32],
 ) -> State
-    ensures { result ≡ after_measured_by s (lent_stores s sets.entry entries.entry order.entry) (values_in s bounds.entry) }
+    ensures { result ≡ after_measured_by s (lent_stores s sets.old entries.old order.old) (values_in s bounds.old) }
 {
     let n = s.entries;
     let reply = singles::map::measure_by(
@@ -122,8 +124,8 @@ pub fn follow(
     entries: &mut [[u64; 3]],
     order: &mut [u32],
 ) -> State
-    ensures { result ≡ after_followed s (given_in s attrs.entry)
-        (lent_stores s sets.entry entries.entry order.entry) (values_in s bounds.entry) }
+    ensures { result ≡ after_followed s (given_in s attrs.old)
+        (lent_stores s sets.old entries.old order.old) (values_in s bounds.old) }
 {
     if !replay_state::is_single(s.of) {
         return s;
@@ -158,8 +160,8 @@ fn delta(
     out_sets: &mut [[u64; 9]],
     out_counts: &mut [u64],
 ) -> State
-    ensures { result ≡ after_delta s (lent_stores s sets.entry entries.entry order.entry) (values_in s bounds.entry)
-        (output_in s out_sets.entry out_counts.entry) }
+    ensures { result ≡ after_delta s (lent_stores s sets.old entries.old order.old) (values_in s bounds.old)
+        (output_in s out_sets.old out_counts.old) }
 {
     let n = s.entries;
     let i = replay_state::within(s.f[2], 66) as u64;
@@ -187,8 +189,8 @@ fn cumulative(
     out_sets: &mut [[u64; 9]],
     out_counts: &mut [u64],
 ) -> State
-    ensures { result ≡ after_cumulative s (lent_stores s sets.entry entries.entry order.entry) (values_in s bounds.entry)
-        (output_in s out_sets.entry out_counts.entry) }
+    ensures { result ≡ after_cumulative s (lent_stores s sets.old entries.old order.old) (values_in s bounds.old)
+        (output_in s out_sets.old out_counts.old) }
 {
     let n = s.entries;
     let i = replay_state::within(s.f[2], 66) as u64;
@@ -215,8 +217,8 @@ pub fn collect(
     out_sets: &mut [[u64; 9]],
     out_counts: &mut [u64],
 ) -> State
-    ensures { result ≡ after_collected s (lent_stores s sets.entry entries.entry order.entry) (values_in s bounds.entry)
-        (output_in s out_sets.entry out_counts.entry) }
+    ensures { result ≡ after_collected s (lent_stores s sets.old entries.old order.old) (values_in s bounds.old)
+        (output_in s out_sets.old out_counts.old) }
 {
     if !replay_state::is_single(s.of) {
         return s;

@@ -1,4 +1,6 @@
 // What a script holds beside its stores; what the crates of the program `replay` share (docs/REPLAY.md).
+#![tactic(auto)]
+
 ghost use Rattle.std.specs.Prelude.{◌≡◌, min, ◌%◌};
 ghost use Rattle.replay_state.specs.After.{single, whole};
 
@@ -19,7 +21,7 @@ pub type Fields = [u64; 11];
 // document 01's number, or UNREAD; `told` the birth number of a binding or the start of a collection. What was configured, where `kind` is
 // `e`, `x`, `s`, `l`, over i64 `E` or `X`, or 0 before any accepted `n`; the map's and the clock's state, and the handles; what waits for the
 // next `n`; how many counts and entries are lent; how many points the last collection has, and the kind that they are of.
-#[derive(Drop)]
+#[derive(Clone, Copy)]
 pub struct State {
     pub letter: u8,
     pub of: u8,

@@ -1,4 +1,6 @@
 // Rows of bucket counts of an exponential histogram, each at the front of a slice that is lent: `ExpoBuckets` of exponential_histogram.rs.
+#![tactic(auto)]
+
 mod walk;
 
 ghost use Rattle.std.specs.Prelude.{◌≡◌, ◌+◌, ◌/◌, ◌^◌, ◌<◌, ◌≤◌, length, take, get_or};
@@ -6,7 +8,7 @@ ghost use Rattle.rows.specs.Rows.{over, add_at, downscaled, recorded, recorded_f
 ghost use Rattle.laws.specs.Counting.{total};
 
 // A row: the bin of its first count, and how many counts it has.
-#[derive(Drop)]
+#[derive(Clone, Copy)]
 pub struct Row {
     pub start: u32,
     pub len: usize,

@@ -1,5 +1,7 @@
 // The directory's part of a recording, the same for every kind of series: the slot that it goes to, decided by reading alone, and what the
 // directory writes once the series took the value. `measure` of `ValueMap`, and a bound handle's, of internal/mod.rs.
+#![tactic(auto)]
+
 mod first;
 pub mod room;
 
@@ -16,7 +18,7 @@ ghost use Rattle.directory.specs.declared.Found.TheVariants.{Held};
 
 // Where a recording goes. no: document 01's number of the refusal, 0 if none; slot: the slot that it goes to; updated: whether that slot
 // holds a series; target: what the directory is to write.
-#[derive(Drop)]
+#[derive(Clone, Copy)]
 pub struct Seating {
     pub no: u8,
     pub slot: usize,
@@ -77,7 +79,7 @@ fn seat_right(
 ) -> Seating
     requires { (limit + 2 ≤ length sets.now) × (limit + 2 ≤ length entries.now) × (limit + 2 ≤ length order.now) × (size row.now ≤ 8)
         × (agreesb limit d (stores sets entries order) ≡ true) }
-    ensures { result ≡ seated limit d (stores sets.entry entries.entry order.entry) row.now }
+    ensures { result ≡ seated limit d (stores sets.old entries.old order.old) row.now }
 {
     let t = directory::find::locate_agreed(limit, d, sets, entries, order, row);
     match t {
@@ -98,7 +100,7 @@ fn seat_in(
     row: &[u64; 9],
 ) -> Seating
     requires { (limit + 2 ≤ length sets.now) × (limit + 2 ≤ length entries.now) × (limit + 2 ≤ length order.now) × (size row.now ≤ 8) }
-    ensures { result ≡ seated limit d (stores sets.entry entries.entry order.entry) row.now }
+    ensures { result ≡ seated limit d (stores sets.old entries.old order.old) row.now }
 {
     if !directory::check::agrees(limit, d, sets, entries, order) {
         return refused(8);
@@ -128,7 +130,7 @@ fn seat_by_in(
     h: u64,
 ) -> Seating
     requires { (limit + 2 ≤ length sets.now) × (limit + 2 ≤ length entries.now) × (limit + 2 ≤ length order.now) }
-    ensures { result ≡ seated_by limit d (stores sets.entry entries.entry order.entry) h }
+    ensures { result ≡ seated_by limit d (stores sets.old entries.old order.old) h }
 {
     if !directory::check::agrees(limit, d, sets, entries, order) {
         return refused(8);
@@ -153,11 +155,11 @@ pub fn seat(
     filter: &[u32],
     row: &mut [u64; 9],
 ) -> Seating
-    ensures value { result ≡ unless_barred (barred_at cells value unset limit (stores sets.entry entries.entry order.entry)
+    ensures value { result ≡ unless_barred (barred_at cells value unset limit (stores sets.old entries.old order.old)
         (length (given attrs.now)) (accepts limit (filter_of present filter.now)))
-        (seated limit d (stores sets.entry entries.entry order.entry)
+        (seated limit d (stores sets.old entries.old order.old)
         (row_of (canonical (filter_of present filter.now) (given attrs.now)))) }
-    ensures row_after { row.new ≡ row_unless_barred (barred_at cells value unset limit (stores sets.entry entries.entry order.entry)
+    ensures row_after { row.new ≡ row_unless_barred (barred_at cells value unset limit (stores sets.old entries.old order.old)
         (length (given attrs.now)) (accepts limit (filter_of present filter.now)))
         (row_of (canonical (filter_of present filter.now) (given attrs.now))) row.old }
 {
@@ -183,8 +185,8 @@ pub fn seat_by(
     order: &[u32],
     h: u64,
 ) -> Seating
-    ensures { result ≡ unless_barred (barred_at cells value unset limit (stores sets.entry entries.entry order.entry) 0 (leb limit most_sets))
-        (seated_by limit d (stores sets.entry entries.entry order.entry) h) }
+    ensures { result ≡ unless_barred (barred_at cells value unset limit (stores sets.old entries.old order.old) 0 (leb limit most_sets))
+        (seated_by limit d (stores sets.old entries.old order.old) h) }
 {
     let lent = room::suffices(limit, sets.len(), entries.len(), order.len(), cells);
     let no = first::barred(lent, value, 0, unset, limit <= directory::MOST_SETS);
@@ -210,7 +212,7 @@ fn seat_agreed(
     requires { (limit + 2 ≤ length sets.now) × (limit + 2 ≤ length entries.now) × (limit + 2 ≤ length order.now)
         × (agreesb limit d (stores sets entries order) ≡ true) }
     ensures value { result ≡ unless_barred (barred_by true value (length (given attrs.now)) true)
-        (seated limit d (stores sets.entry entries.entry order.entry)
+        (seated limit d (stores sets.old entries.old order.old)
         (row_of (canonical (filter_of present filter.now) (given attrs.now)))) }
     ensures row_after { row.new ≡ row_unless_barred (barred_by true value (length (given attrs.now)) true)
         (row_of (canonical (filter_of present filter.now) (given attrs.now))) row.old }
@@ -235,7 +237,7 @@ fn seat_by_agreed(
 ) -> Seating
     requires { (limit + 2 ≤ length sets.now) × (limit + 2 ≤ length entries.now) × (limit + 2 ≤ length order.now)
         × (agreesb limit d (stores sets entries order) ≡ true) }
-    ensures { result ≡ unless_barred (barred_by true value 0 true) (seated_by limit d (stores sets.entry entries.entry order.entry) h) }
+    ensures { result ≡ unless_barred (barred_by true value 0 true) (seated_by limit d (stores sets.old entries.old order.old) h) }
 {
     let no = first::barred(true, value, 0, 0, true);
     if no != 0 {
@@ -262,11 +264,11 @@ pub fn seat_if(
     row: &mut [u64; 9],
 ) -> Seating
     requires { known ≡ true → Sure cells unset limit d (stores sets entries order) (accepts limit (filter_of present filter.now)) }
-    ensures value { result ≡ unless_barred (barred_at cells value unset limit (stores sets.entry entries.entry order.entry)
+    ensures value { result ≡ unless_barred (barred_at cells value unset limit (stores sets.old entries.old order.old)
         (length (given attrs.now)) (accepts limit (filter_of present filter.now)))
-        (seated limit d (stores sets.entry entries.entry order.entry)
+        (seated limit d (stores sets.old entries.old order.old)
         (row_of (canonical (filter_of present filter.now) (given attrs.now)))) }
-    ensures row_after { row.new ≡ row_unless_barred (barred_at cells value unset limit (stores sets.entry entries.entry order.entry)
+    ensures row_after { row.new ≡ row_unless_barred (barred_at cells value unset limit (stores sets.old entries.old order.old)
         (length (given attrs.now)) (accepts limit (filter_of present filter.now)))
         (row_of (canonical (filter_of present filter.now) (given attrs.now))) row.old }
 {
@@ -294,8 +296,8 @@ pub fn seat_by_if(
     h: u64,
 ) -> Seating
     requires { known ≡ true → Sure cells unset limit d (stores sets entries order) (leb limit most_sets) }
-    ensures { result ≡ unless_barred (barred_at cells value unset limit (stores sets.entry entries.entry order.entry) 0 (leb limit most_sets))
-        (seated_by limit d (stores sets.entry entries.entry order.entry) h) }
+    ensures { result ≡ unless_barred (barred_at cells value unset limit (stores sets.old entries.old order.old) 0 (leb limit most_sets))
+        (seated_by limit d (stores sets.old entries.old order.old) h) }
 {
     if known {
         return seat_by_agreed(value, limit, d, sets, entries, order, h);
@@ -323,8 +325,8 @@ pub fn commit(
     target: directory::Target,
 ) -> directory::Directory
     requires { Fits d (stores sets entries order) target }
-    ensures { kept result (stores sets.exit entries.exit order.exit)
-        ≡ committed d (stores sets.entry entries.entry order.entry) row.now target }
+    ensures { kept result (stores sets.new entries.new order.new)
+        ≡ committed d (stores sets.old entries.old order.old) row.now target }
 {
     match target {
         directory::Target::Disagrees => d,

@@ -1,4 +1,6 @@
 // A set of attributes in a row of nine words: how two sets lie to each other, whether one is sound, and the row of a call's attributes.
+#![tactic(auto)]
+
 pub mod canon;
 pub mod set_row;
 
@@ -8,7 +10,7 @@ pub const OVERFLOW: u64 = 18446744069414584321;
 pub const OVERFLOW_ROW: [u64; 9] = [OVERFLOW, 0, 0, 0, 0, 0, 0, 0, 1];
 
 // How one set lies to another.
-#[derive(Drop)]
+#[derive(Clone, Copy)]
 pub enum Way {
     Before,
     Same,

@@ -8,6 +8,8 @@
 //
 // A line that can't be followed prints `? N`, N its number; in a sheet it ends the sheet, which is not read. Nor is one that the input's end
 // cuts short. Input is read and output written in blocks: memory stays the same however long a shift is.
+#![tactic(auto)]
+
 mod calls;
 mod collect;
 mod digits;

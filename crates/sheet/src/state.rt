@@ -18,7 +18,7 @@ pub type ListedBounds = [f64; 10176];
 pub type Bytes = [u8; 233504];
 
 // The gauge, and a sheet that is being read: how many of its records are still to come, none outside a sheet, and how many bytes are there.
-#[derive(Drop)]
+#[derive(Clone, Copy)]
 pub struct State {
     pub gauge: Gauge,
     pub left: usize,
@@ -26,7 +26,7 @@ pub struct State {
 }
 
 // What came of a line: whether it was followed, how the program stands, and how much text there is then.
-#[derive(Drop)]
+#[derive(Clone, Copy)]
 pub struct Done {
     pub taken: bool,
     pub state: State,

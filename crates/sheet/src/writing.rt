@@ -12,7 +12,7 @@ use sheets::Header;
 
 // `! N` for a refusal, behind n bytes of text; how many there are then.
 pub fn refusal(text: &mut Block, n: usize, no: u8) -> usize
-    ensures { waiting result text.exit ≡ refusal_line no behind waiting n text.entry }
+    ensures { waiting result text.new ≡ refusal_line no behind waiting n text.old }
 {
     let a = output::byte(text, n, b'!');
     let b = printing::number(text, a, no as u64);
@@ -37,7 +37,7 @@ pub fn front<'a>(sheet: &'a Bytes, n: usize) -> &'a [u8]
 
 // The lines of a sheet.
 fn sheet_lines(text: &mut Block, n: usize, bytes: &[u8]) -> usize
-    ensures { waiting result text.exit ≡ sheet_lines bytes.now behind waiting n text.entry }
+    ensures { waiting result text.new ≡ sheet_lines bytes.now behind waiting n text.old }
 {
     let a = output::byte(text, n, b's');
     let b = printing::number(text, a, (bytes.len() / 32) as u64);
@@ -59,9 +59,9 @@ pub fn write<'a>(
     bounds: &ListedBounds,
     sheet: &mut Bytes,
 ) -> usize
-    ensures { wrote (waiting result text.exit) sheet.new
-        ≡ wrote_by (writing header many (source sets.entry words.entry pos.entry neg.entry bounds.entry) sheet.old)
-        (waiting n text.entry) }
+    ensures { wrote (waiting result text.new) sheet.new
+        ≡ wrote_by (writing header many (source sets.old words.old pos.old neg.old bounds.old) sheet.old)
+        (waiting n text.old) }
 {
     let answer = sheet_writing::write(header, many, sets, words, pos, neg, bounds, sheet);
     match answer {

@@ -15,7 +15,7 @@ use crate::words::{head_at, read_floats, row_at};
 use records::chain::{are_zeros, read_run, width_of};
 
 // How many bounds, and counts of either row.
-#[derive(Drop)]
+#[derive(Clone, Copy)]
 pub struct Sizes {
     pub bounds: usize,
     pub pos: usize,
@@ -23,7 +23,7 @@ pub struct Sizes {
 }
 
 // What the points take together, if the entries are such.
-#[derive(Drop)]
+#[derive(Clone, Copy)]
 pub enum Judged {
     Bad,
     Fine(Sizes),

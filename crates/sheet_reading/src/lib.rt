@@ -1,4 +1,6 @@
 // Reading a shift sheet (docs/SHEET.md): bytes into a list of points in lent stores (docs/LIST.md).
+#![tactic(auto)]
+
 mod copy;
 mod frame;
 mod judge;
@@ -12,14 +14,14 @@ use judge::Judged;
 use sheets::Header;
 
 // A sheet's header, and how many points of it lie in the list.
-#[derive(Drop)]
+#[derive(Clone, Copy)]
 pub struct Listed {
     pub header: Header,
     pub points: usize,
 }
 
 // What was read, or document 02's number.
-#[derive(Drop)]
+#[derive(Clone, Copy)]
 pub enum Answer {
     Refused(u8),
     Is(Listed),
@@ -35,8 +37,8 @@ pub fn read(
     neg: &mut [u64],
     bounds: &mut [f64],
 ) -> Answer
-    ensures { ends (said result) (source sets.exit words.exit pos.exit neg.exit bounds.exit)
-        ≡ reading s.now (source sets.entry words.entry pos.entry neg.entry bounds.entry) }
+    ensures { ends (said result) (source sets.new words.new pos.new neg.new bounds.new)
+        ≡ reading s.now (source sets.old words.old pos.old neg.old bounds.old) }
 {
     records::words::know_bytes(s);
     if !frame::frame_holds(s) {

@@ -1,4 +1,6 @@
 // Writing a shift sheet (docs/SHEET.md): points of a list, in the form that collections hand out (docs/LIST.md), into lent bytes.
+#![tactic(auto)]
+
 mod judge;
 mod put;
 
@@ -10,7 +12,7 @@ use judge::Judged;
 use sheets::Header;
 
 // How many bytes the sheet has, or document 02's number.
-#[derive(Drop)]
+#[derive(Clone, Copy)]
 pub enum Answer {
     Refused(u8),
     Written(usize),
@@ -29,7 +31,7 @@ pub fn write<'a>(
     bounds: &[f64],
     out: &mut [u8],
 ) -> Answer
-    ensures { ends (said result) out.new ≡ writing header n (source sets.entry words.entry pos.entry neg.entry bounds.entry) out.old }
+    ensures { ends (said result) out.new ≡ writing header n (source sets.old words.old pos.old neg.old bounds.old) out.old }
 {
     let judged = judge::judge(n, sets, words, pos, neg, bounds);
     match judged {

@@ -11,7 +11,7 @@ use singles::Aggregation;
 use value_map::first;
 
 // What a list of values left: what is held then, how many were taken, and the number that refused the next one, 0 if none was refused.
-#[derive(Drop)]
+#[derive(Clone, Copy)]
 struct Run {
     held: f64,
     taken: usize,

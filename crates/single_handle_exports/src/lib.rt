@@ -1,4 +1,6 @@
 // Calls for programs in other languages: a value recorded by handle into a map of sums.
+#![tactic(auto)]
+
 ghost use Rattle.std.specs.Prelude.{◌≡◌, [], get_or};
 ghost use Rattle.directory.specs.View.{stores};
 ghost use Rattle.value_map.specs.Calls.{held, measured_by};
@@ -20,9 +22,9 @@ pub extern "C" fn sum_measure_by(
     v: f64,
     handle: u64,
 ) -> u64
-    ensures { handed result state.exit (stores sets.exit entries.exit order.exit) values.new
+    ensures { handed result state.new (stores sets.new entries.new order.new) values.new
         ≡ handed_out state.old (measured_by (single_store Sum) limit
-        (held (state_of (get_or state.old 0 [])) (stores sets.entry entries.entry order.entry) values.old)
+        (held (state_of (get_or state.old 0 [])) (stores sets.old entries.old order.old) values.old)
         v handle) }
 {
     let d = map_words::state_of(state[0]);

@@ -1,6 +1,8 @@
 // Sums and last values of f64s: the public calls around recording: configuring, delta and cumulative collection. `Sum` of sum.rs and
 // `LastValue` of last_value.rs, and their `ComputeAggregation`. Their stores: the directory's (sets, entries, order), and each slot's
 // value.
+#![tactic(auto)]
+
 mod collect;
 pub mod map;
 pub mod slot;
@@ -23,28 +25,28 @@ use collecting::{Answer, Reply};
 use directory::Directory;
 
 // What a map keeps of the values of a set: their sum, or the last of them.
-#[derive(Drop)]
+#[derive(Clone, Copy)]
 pub enum Aggregation {
     Sum,
     LastValue,
 }
 
 // What was configured.
-#[derive(Drop)]
+#[derive(Clone, Copy)]
 pub struct Settings {
     pub aggregation: Aggregation,
     pub limit: u64,
 }
 
 // The settings of a map, and its state.
-#[derive(Drop)]
+#[derive(Clone, Copy)]
 pub struct Setup {
     pub settings: Settings,
     pub dir: Directory,
 }
 
 // What configuring says: a refusal's number, or a fresh map.
-#[derive(Drop)]
+#[derive(Clone, Copy)]
 pub enum Configured {
     Refused(u8),
     Accepted(Setup),
@@ -74,9 +76,9 @@ pub fn configure(
     order: &[u32],
     values: &[f64],
 ) -> Configured
-    ensures { configuring (said result) (stores sets.entry entries.exit order.entry)
+    ensures { configuring (said result) (stores sets.old entries.new order.old)
         ≡ configured aggregation limit (filter_of present filter.now)
-        (stores sets.entry entries.entry order.entry) values.now }
+        (stores sets.old entries.old order.old) values.now }
 {
     let room = directory::suffices(limit, values.len());
     let reply = value_map::first::begin(0, room, limit, present, filter, sets, entries, order);
@@ -96,11 +98,11 @@ pub fn delta(
     out_sets: &mut [[u64; 9]],
     out_values: &mut [u64],
 ) -> Reply
-    ensures { gave result.answer (held result.dir (stores sets.exit entries.exit order.exit) values.now)
-        (output out_sets.exit out_values.exit)
+    ensures { gave result.answer (held result.dir (stores sets.new entries.new order.new) values.now)
+        (output out_sets.new out_values.new)
         ≡ delta_collected (single_lister s.aggregation) tt s.limit
-        (held d (stores sets.entry entries.entry order.entry) values.now)
-        (output out_sets.entry out_values.entry) }
+        (held d (stores sets.old entries.old order.old) values.now)
+        (output out_sets.old out_values.old) }
 {
     crate::collect::delta(
         false, s, d, sets, entries, order, values, out_sets, out_values,
@@ -119,11 +121,11 @@ pub fn delta_agreed(
     out_values: &mut [u64],
 ) -> Reply
     requires { Owned (single_store s.aggregation) tt s.limit none (held d (stores sets entries order) values.now) }
-    ensures { gave result.answer (held result.dir (stores sets.exit entries.exit order.exit) values.now)
-        (output out_sets.exit out_values.exit)
+    ensures { gave result.answer (held result.dir (stores sets.new entries.new order.new) values.now)
+        (output out_sets.new out_values.new)
         ≡ delta_collected (single_lister s.aggregation) tt s.limit
-        (held d (stores sets.entry entries.entry order.entry) values.now)
-        (output out_sets.entry out_values.entry) }
+        (held d (stores sets.old entries.old order.old) values.now)
+        (output out_sets.old out_values.old) }
 {
     crate::collect::delta(
         true, s, d, sets, entries, order, values, out_sets, out_values,
@@ -142,11 +144,11 @@ pub fn cumulative(
     out_sets: &mut [[u64; 9]],
     out_values: &mut [u64],
 ) -> Answer
-    ensures { gave result (held d (stores sets.entry entries.entry order.entry) values.now)
-        (output out_sets.exit out_values.exit)
+    ensures { gave result (held d (stores sets.old entries.old order.old) values.now)
+        (output out_sets.new out_values.new)
         ≡ cumulative_collected (single_lister s.aggregation) tt s.limit
-        (held d (stores sets.entry entries.entry order.entry) values.now)
-        (output out_sets.entry out_values.entry) }
+        (held d (stores sets.old entries.old order.old) values.now)
+        (output out_sets.old out_values.old) }
 {
     crate::collect::cumulative(
         false, s, d, sets, entries, order, values, out_sets, out_values,
@@ -165,11 +167,11 @@ pub fn cumulative_agreed(
     out_values: &mut [u64],
 ) -> Answer
     requires { Owned (single_store s.aggregation) tt s.limit none (held d (stores sets entries order) values.now) }
-    ensures { gave result (held d (stores sets.entry entries.entry order.entry) values.now)
-        (output out_sets.exit out_values.exit)
+    ensures { gave result (held d (stores sets.old entries.old order.old) values.now)
+        (output out_sets.new out_values.new)
         ≡ cumulative_collected (single_lister s.aggregation) tt s.limit
-        (held d (stores sets.entry entries.entry order.entry) values.now)
-        (output out_sets.entry out_values.entry) }
+        (held d (stores sets.old entries.old order.old) values.now)
+        (output out_sets.old out_values.old) }
 {
     crate::collect::cumulative(
         true, s, d, sets, entries, order, values, out_sets, out_values,

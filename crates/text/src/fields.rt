@@ -6,7 +6,7 @@ ghost use Rattle.text.specs.Fields.{space, spaces_of, until, start_of, field_of}
 use crate::numbers::{Integer, Natural};
 
 // Where a field starts and ends.
-#[derive(Drop)]
+#[derive(Clone, Copy)]
 pub struct Part {
     pub from: usize,
     pub to: usize,

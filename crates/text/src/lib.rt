@@ -1,6 +1,8 @@
 // Lines of text: their fields, the numbers that fields spell, and bits as digits. What the programs share.
 //
 // One space parts fields. Decimals have no plus sign, no leading zero and no -0; bits are 16 digits 0-9 and A-F.
+#![tactic(auto)]
+
 mod fields;
 mod numbers;
 mod written;

@@ -4,13 +4,13 @@ ghost use Rattle.laws.specs.Pick.{pick};
 ghost use Rattle.text.specs.Numbers.{digit_of, spelled_from, ill_led, decimal_of, bits_of, has_minus, with_minus, without_minus, signed_of};
 ghost use Rattle.text.specs.Pairs.{is_decimal, is_letter, are_hex, pair_of, Paired, joined_to};
 
-#[derive(Drop)]
+#[derive(Clone, Copy)]
 pub enum Natural {
     None,
     Is(u64),
 }
 
-#[derive(Drop)]
+#[derive(Clone, Copy)]
 pub enum Integer {
     None,
     Is(bool, u64),

@@ -1,5 +1,7 @@
 // A point of i64 values as it is handed out, of either kind, and two such points merged. Its counts are an f64 point's, so its shadow, an f64
 // point with the same counts and 0.0 for each number, is what crate `point` tests and merges.
+#![tactic(auto)]
+
 ghost use Rattle.std.specs.Prelude.{◌≡◌, pos as whole};
 ghost use Rattle.laws.specs.Pick.{pick};
 ghost use Rattle.points.specs.Shadow.{shadow_of};
@@ -10,7 +12,7 @@ use integers::{Extreme, Total};
 use point::Figures;
 
 // A point; its bounds and its rows of counts lie beside it.
-#[derive(Drop)]
+#[derive(Clone, Copy)]
 pub struct Point {
     pub figures: Figures,
     pub extremes: bool,
@@ -20,7 +22,7 @@ pub struct Point {
 }
 
 // What a merge answers: the merged point, or document 01's number.
-#[derive(Drop)]
+#[derive(Clone, Copy)]
 pub enum Answer {
     Merged(Point),
     Refused(u8),
@@ -144,8 +146,8 @@ pub fn merge(
     pos: &mut [u64],
     neg: &mut [u64],
 ) -> Answer
-    ensures { outcome result abounds.entry pos.exit neg.exit
-        ≡ merging size (stored a abounds.entry apos.entry aneg.entry) (stored b bbounds.entry bpos.entry bneg.entry)
+    ensures { outcome result abounds.old pos.new neg.new
+        ≡ merging size (stored a abounds.old apos.old aneg.old) (stored b bbounds.old bpos.old bneg.old)
         pos.old neg.old }
 {
     let x = shadow_of(a);
@@ -193,8 +195,8 @@ pub fn mixed_number(
     bpos: &[u64],
     bneg: &[u64],
 ) -> u8
-    ensures { result ≡ mixed_number size (stored a abounds.entry apos.entry aneg.entry)
-        (P.stored b bbounds.entry bpos.entry bneg.entry) }
+    ensures { result ≡ mixed_number size (stored a abounds.old apos.old aneg.old)
+        (P.stored b bbounds.old bpos.old bneg.old) }
 {
     let x = shadow_of(a);
     let no = point::refusal(size, x, abounds, apos, aneg, b, bbounds, bpos, bneg);
@@ -204,7 +206,7 @@ pub fn mixed_number(
 // The number with which an i64 point is refused where only f64 points are taken, in a card or a sheet: 8 where it disagrees with itself under
 // max_size 160 and the greatest scale, else 11.
 pub fn alone_number(p: Point, bounds: &[f64], pos: &[u64], neg: &[u64]) -> u8
-    ensures { result ≡ alone_number (stored p bounds.entry pos.entry neg.entry) }
+    ensures { result ≡ alone_number (stored p bounds.old pos.old neg.old) }
 {
     let x = shadow_of(p);
     if point::agrees_alone(x, bounds, pos, neg) {

@@ -2,6 +2,8 @@
 // but that minimum, maximum and sum are decimals.
 //
 // Each function puts its text behind the n bytes that are there, and says how many there are then.
+#![tactic(auto)]
+
 ghost use Rattle.std.specs.Prelude.{◌≡◌, true, false, [], ◌∷◌, take};
 ghost use Rattle.lines.specs.Gathered.{waiting, ◌behind◌};
 ghost use Rattle.lines.specs.Written.{signed};
@@ -22,7 +24,7 @@ use whole_point::Point;
 
 // A whole number behind a space.
 fn integer(text: &mut Block, n: usize, x: i64) -> usize
-    ensures { waiting result text.exit ≡ 32 ∷ signed x behind waiting n text.entry }
+    ensures { waiting result text.new ≡ 32 ∷ signed x behind waiting n text.old }
 {
     let m = output::byte(text, n, b' ');
     output::signed(text, m, x)
@@ -30,7 +32,7 @@ fn integer(text: &mut Block, n: usize, x: i64) -> usize
 
 // An extreme behind a space, `-` where it isn't kept.
 fn extreme(text: &mut Block, n: usize, x: Extreme) -> usize
-    ensures { waiting result text.exit ≡ 32 ∷ extreme_field x behind waiting n text.entry }
+    ensures { waiting result text.new ≡ 32 ∷ extreme_field x behind waiting n text.old }
 {
     match x {
         Extreme::None => output::bytes(text, n, b" -"),
@@ -39,7 +41,7 @@ fn extreme(text: &mut Block, n: usize, x: Extreme) -> usize
 }
 
 fn held(text: &mut Block, n: usize, p: Point) -> usize
-    ensures { waiting result text.exit ≡ each 32 (held_fields p []) behind waiting n text.entry }
+    ensures { waiting result text.new ≡ each 32 (held_fields p []) behind waiting n text.old }
 {
     let min = p.min;
     let max = p.max;
@@ -51,7 +53,7 @@ fn held(text: &mut Block, n: usize, p: Point) -> usize
 // ---- points: scale and offsets are the shadow's, whose figures are the point's
 
 fn exponential(text: &mut Block, n: usize, p: Point, pos: &[u64], neg: &[u64]) -> usize
-    ensures { waiting result text.exit ≡ each 32 (exponential_fields p pos.now neg.now) behind waiting n text.entry }
+    ensures { waiting result text.new ≡ each 32 (exponential_fields p pos.now neg.now) behind waiting n text.old }
 {
     let q = whole_point::shadow_of(p);
     let a = printing::integer(text, n, point::signed::scale(q));
@@ -61,7 +63,7 @@ fn exponential(text: &mut Block, n: usize, p: Point, pos: &[u64], neg: &[u64]) -
 }
 
 fn explicit(text: &mut Block, n: usize, p: Point, buckets: &[u64], bounds: &[f64]) -> usize
-    ensures { waiting result text.exit ≡ each 32 (explicit_fields p buckets.now bounds.now) behind waiting n text.entry }
+    ensures { waiting result text.new ≡ each 32 (explicit_fields p buckets.now bounds.now) behind waiting n text.old }
 {
     let a = held(text, n, p);
     let b = printing::dash(text, a, buckets.len());
@@ -81,9 +83,9 @@ fn point_line<'a>(
     neg: &'a [u64],
     bounds: &[f64],
 ) -> usize
-    ensures { waiting result text.exit ≡ point_line (take 8 (set_of row)) (stored_in e.point (bounds_at e.bounds bounds.now)
+    ensures { waiting result text.new ≡ point_line (take 8 (set_of row)) (stored_in e.point (bounds_at e.bounds bounds.now)
         (row_at at e.next false pos.now neg.now) (row_at at e.next true pos.now neg.now))
-        behind waiting n text.entry }
+        behind waiting n text.old }
 {
     let p = e.point;
     let next = e.next;
@@ -121,9 +123,9 @@ pub fn point<'a>(
     neg: &'a [u64],
     bounds: &[f64],
 ) -> Printed
-    ensures text_value { waiting result.n text.exit ≡ line_at at (listed_in sets.entry words.entry pos.entry neg.entry) bounds.now
-        behind waiting n text.entry }
-    ensures at_value { result.at ≡ next_at at (listed_in sets.entry words.entry pos.entry neg.entry) }
+    ensures text_value { waiting result.n text.new ≡ line_at at (listed_in sets.old words.old pos.old neg.old) bounds.now
+        behind waiting n text.old }
+    ensures at_value { result.at ≡ next_at at (listed_in sets.old words.old pos.old neg.old) }
 {
     let k = at.place;
     let Found::Is(e) = whole_listing::read::point_at(at, words, pos, neg) else {
@@ -162,8 +164,8 @@ pub fn collection<'a>(
     neg: &'a [u64],
     bounds: &[f64],
 ) -> usize
-    ensures { waiting result text.exit ≡ collection_lines start time many (listed_in sets.entry words.entry pos.entry neg.entry)
-        bounds.now behind waiting n text.entry }
+    ensures { waiting result text.new ≡ collection_lines start time many (listed_in sets.old words.old pos.old neg.old)
+        bounds.now behind waiting n text.old }
 {
     let m = printing::head(text, n, start, time, many as u64);
     let at = Cursor {

@@ -1,0 +1,16 @@
+pub mod Cases
+pub mod Compare
+pub mod Perms
+pub mod Bools
+pub mod Choices
+pub mod Same
+pub mod Lists
+pub mod Over
+pub mod Trees
+pub mod Counting
+pub mod Search
+pub mod Every
+pub mod Powers
+pub mod Differences
+pub mod NoneOf
+pub mod Answers

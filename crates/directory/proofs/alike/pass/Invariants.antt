@@ -1,0 +1,16 @@
+-- `directory::alike::pass` meets its contract. Assumes nothing.
+use Rattle.std.proofs.Common.{◌≡◌, ℕ, ◌+◌, ◌-◌, ◌<◌, ◌≤◌, [], length, get_or, sym, refl, ap, ◌∙◌, arith, rules}
+use borrow.Author.Rules.{scaled_Fits}
+use borrow.Author.Tests.{not-false}
+use lib.ListN.{get_or-replicate}
+use Rattle.laws.proofs.Cases.{true-not-false}
+use Rattle.directory.specs.Inner.{row_at}
+use Rattle.directory.proofs.Likes.{in-range, Passed, passed-more, alike_is}
+use Rattle.directory.proofs.alike.pass.Given as goal
+
+abbrev pub invariant-loop-i : goal.invariant-loop-i
+invariant-loop-i l =
+    (1 ≤ l.i) × (l.i ≤ l.used) × (l.prev ≡ get_or (row_at l.sets l.order (l.i - 1)) l.from 0) × ((k : ℕ) → k < l.i → Passed l.used l.sets l.order l.from l.d k)
+
+abbrev pub decreases-loop-i : goal.decreases-loop-i
+decreases-loop-i l = l.used - l.i

@@ -1,0 +1,13 @@
+-- `directory::find::by_places` meets its contract. Assumes nothing.
+use Rattle.std.proofs.Common.{◌≡◌, ◌-◌, ◌<◌, ◌≤◌, ◌∷◌, length, get_or, sym, ◌∙◌, arith, rules}
+use borrow.Author.Rules.{scaled_Fits}
+use Rattle.sets.specs.Rows.{span}
+use Rattle.directory.specs.Calls.{scan}
+use Rattle.directory.proofs.Finds.{scan-first, scan-skip, scan-over, scan-here, scan-on}
+use Rattle.directory.proofs.find.by_places.Given as goal
+
+abbrev pub invariant-loop-i : goal.invariant-loop-i
+invariant-loop-i l = (l.i ≤ l.used) × (scan l.h l.entries (0 ∷ span l.order 0 l.used) ≡ scan l.h l.entries (span l.order l.i (l.used - l.i)))
+
+abbrev pub decreases-loop-i : goal.decreases-loop-i
+decreases-loop-i l = l.used - l.i

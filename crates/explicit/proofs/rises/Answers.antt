@@ -1,0 +1,19 @@
+use Prim.Native.Nat.{◌+◌, ◌-◌, ◌≤◌}
+use mathlib.Core.Path.{◌≡◌, ap, ◌∙◌}
+use native.Mathlib.Omega.{arith}
+use lib.ListN.{length, take}
+use lib.Seq.{take_all}
+use borrow.Author.Rules.{rules}
+use Rattle.points.specs.Explicit.{rising}
+use Rattle.explicit.proofs.Turns.{rising-turn, rising-one}
+use Rattle.explicit.proofs.rises.Goals as goal
+
+pub loop-i-init : goal.loop-i-init
+loop-i-init c = (omega arith, omega arith, rising-one c.args.bounds.now)
+
+pub loop-i-preserved : goal.loop-i-preserved
+loop-i-preserved c =
+    (omega arith, omega arith, rising-turn c.args.bounds.now c.loop-i.i c.loop-i.ok c.both-ok.result c.loop-i.invariant.0 c.loop-i-test.true c.loop-i.invariant.2 c.both-ok.ensures)
+
+pub returns : goal.returns
+returns c = c.loop-i.invariant.2 ∙ ap rising (take_all c.loop-i.i c.args.bounds.now c.loop-i-test.false)

@@ -1,0 +1,104 @@
+-- `explicit_batches::all` meets its contract. Assumes nothing.
+-- ---- before the seat
+-- ---- at the seat
+use Prim.Native.Nat.{ℕ, ◌+◌, ◌^◌, ◌≤◌, ◌<◌}
+use mathlib.Core.Path.{◌≡◌}
+use mathlib.Core.Bool.{true}
+use mathlib.Core.List.{List}
+use mathlib.Core.Option.{Option}
+use native.Mathlib.Omega.{arith}
+use lib.Dec.{leb}
+use lib.ListN.{length, get_or, drop}
+use lib.Ieee.{Float, nan}
+use borrow.Author.Rules.{rules}
+use Rattle.points.specs.Explicit.{bucket_count}
+use Rattle.tally.specs.Sets.{Set}
+use Rattle.sets.specs.Sorted.{given, filter_of}
+use Rattle.seats.proofs.Bars.{row-seated}
+use Rattle.directory.specs.View.{stores}
+use Rattle.explicit_slots.specs.Cells.{Cells, cells}
+use Rattle.value_map.specs.Calls.{Held, held}
+use Rattle.value_map.specs.Explicit.{cells_suffice}
+use Rattle.value_map.proofs.ExplicitOwes.{owed}
+use Rattle.batches.proofs.Ends.{cut-first, sure_for, for-none, for-takes, for-finite, for-fits, for-ends}
+use Rattle.explicit_batches.proofs.Suffices.{slots_suffice}
+use Rattle.explicit_batches.proofs.all.Goals as goal
+
+pub returns-then-values-eq0 : goal.returns-then-values-eq0
+returns-then-values-eq0 c =
+    let filter : Option (List ℕ) = filter_of c.args.present c.args.filter.now in
+    let lent_map : Held Cells = let a = c.args in held a.d (stores a.sets a.entries a.order) (cells a.totals a.extremes a.counts) in
+    let attributes : Set = given c.args.attrs.now in
+    let a = c.args in
+    for-none (owed a.bounds.now) (true, true) a.limit (filter) (lent_map) (attributes) c.args.values.now c.if-values-eq0.true
+
+pub unset_if-unset-requires : goal.unset_if-unset-requires
+unset_if-unset-requires c k = (c.requires k).0.set
+
+pub seat_if-seat-requires : goal.seat_if-seat-requires
+seat_if-seat-requires c k =
+    let lent_map : Held Cells = let a = c.args in held a.d (stores a.sets a.entries a.order) (cells a.totals a.extremes a.counts) in
+    let few : length c.args.totals.now ≤ 18446744073709551615 = omega (arith, c) in
+    let suffices : leb (c.args.limit + 2) c.slots_if-slots.result ≡ cells_suffice c.args.bounds.now c.args.limit (lent_map).cells = 
+    let a = c.args in
+    slots_suffice (bucket_count a.bounds.now) a.limit (length a.counts.now) (length a.totals.now) (length a.extremes.now) c.cells_suffice-suffice.result c.slots_if-slots.result (few)
+    c.cells_suffice-suffice.ensures c.slots_if-slots.ensures in
+    let filter : Option (List ℕ) = filter_of c.args.present c.args.filter.now in
+    let attributes : Set = given c.args.attrs.now in
+    let a = c.args in
+    sure_for (owed a.bounds.now) (true, true) a.limit (lent_map) c.slots_if-slots.result c.unset_if-unset.result (suffices) c.unset_if-unset.ensures (filter) (attributes) (c.requires k)
+
+pub take_all-got-requires : goal.take_all-got-requires
+take_all-got-requires c z =
+    let filter : Option (List ℕ) = filter_of c.args.present c.args.filter.now in
+    let lent_map : Held Cells = let a = c.args in held a.d (stores a.sets a.entries a.order) (cells a.totals a.extremes a.counts) in
+    let attributes : Set = given c.args.attrs.now in
+    let first : Float = get_or c.args.values.now 0 nan in
+    let few : length c.args.totals.now ≤ 18446744073709551615 = omega (arith, c) in
+    let suffices : leb (c.args.limit + 2) c.slots_if-slots.result ≡ cells_suffice c.args.bounds.now c.args.limit (lent_map).cells = 
+    let a = c.args in
+    slots_suffice (bucket_count a.bounds.now) a.limit (length a.counts.now) (length a.totals.now) (length a.extremes.now) c.cells_suffice-suffice.result c.slots_if-slots.result (few)
+    c.cells_suffice-suffice.ensures c.slots_if-slots.ensures in
+    let some : 0 < length c.args.values.now = omega (arith, c.if-values-eq0.false) in
+    let a = c.args in
+    let k = for-takes (owed a.bounds.now) (true, true) a.limit (filter) (lent_map) (attributes) c.all_lent.ensures (first) (suffices) c.takes-value.ensures c.unset_if-unset.ensures c.seat_if-seat.ensures.value a.known c.requires z in
+    record {
+      room = k.1;
+      set = k.0;
+      some = some;
+      first = for-finite (owed a.bounds.now) (true, true) a.limit (filter) (lent_map) (attributes) c.all_lent.ensures (first) (suffices) c.takes-value.ensures c.unset_if-unset.ensures c.seat_if-seat.ensures.value z;
+      series = k.2;
+    }
+
+pub finish_all-requires : goal.finish_all-requires
+finish_all-requires c k =
+    let filter : Option (List ℕ) = filter_of c.args.present c.args.filter.now in
+    let lent_map : Held Cells = let a = c.args in held a.d (stores a.sets a.entries a.order) (cells a.totals a.extremes a.counts) in
+    let attributes : Set = given c.args.attrs.now in
+    let first : Float = get_or c.args.values.now 0 nan in
+    let few : length c.args.totals.now ≤ 18446744073709551615 = omega (arith, c) in
+    let suffices : leb (c.args.limit + 2) c.slots_if-slots.result ≡ cells_suffice c.args.bounds.now c.args.limit (lent_map).cells = 
+    let a = c.args in
+    slots_suffice (bucket_count a.bounds.now) a.limit (length a.counts.now) (length a.totals.now) (length a.extremes.now) c.cells_suffice-suffice.result c.slots_if-slots.result (few)
+    c.cells_suffice-suffice.ensures c.slots_if-slots.ensures in
+    let some : 0 < length c.args.values.now = omega (arith, c.if-values-eq0.false) in
+    let a = c.args in
+    for-fits (owed a.bounds.now) (true, true) a.limit (filter) (lent_map) (attributes) c.all_lent.ensures (first) (suffices) c.takes-value.ensures c.unset_if-unset.ensures c.seat_if-seat.ensures.value
+    c.args.values.now (drop 1 c.args.values.now) (cut-first c.args.values.now nan (some)) _ c.take_all-got.ensures k
+
+pub returns : goal.returns
+returns c =
+    let filter : Option (List ℕ) = filter_of c.args.present c.args.filter.now in
+    let lent_map : Held Cells = let a = c.args in held a.d (stores a.sets a.entries a.order) (cells a.totals a.extremes a.counts) in
+    let attributes : Set = given c.args.attrs.now in
+    let first : Float = get_or c.args.values.now 0 nan in
+    let few : length c.args.totals.now ≤ 18446744073709551615 = omega (arith, c) in
+    let suffices : leb (c.args.limit + 2) c.slots_if-slots.result ≡ cells_suffice c.args.bounds.now c.args.limit (lent_map).cells = 
+    let a = c.args in
+    slots_suffice (bucket_count a.bounds.now) a.limit (length a.counts.now) (length a.totals.now) (length a.extremes.now) c.cells_suffice-suffice.result c.slots_if-slots.result (few)
+    c.cells_suffice-suffice.ensures c.slots_if-slots.ensures in
+    let some : 0 < length c.args.values.now = omega (arith, c.if-values-eq0.false) in
+    let last : c.args.d.last < 2 ^ 64 = omega (arith, c) in
+    let a = c.args in
+    for-ends (owed a.bounds.now) (true, true) a.limit (filter) (lent_map) (attributes) c.all_lent.ensures (first) (suffices) c.takes-value.ensures c.unset_if-unset.ensures c.seat_if-seat.ensures.value
+    c.args.values.now (drop 1 c.args.values.now) (cut-first c.args.values.now nan (some)) _ c.take_all-got.ensures (last) _ (row-seated _ _ _ _ _ c.seat_if-seat.ensures.value _ c.seat_if-seat.ensures.row_after) _ c.finish_all.ensures

@@ -1,0 +1,15 @@
+-- `explicit_batches::measure_agreed` meets its contract. Assumes nothing.
+use borrow.Author.Rules.{rules}
+use Rattle.sets.specs.Sorted.{given, filter_of}
+use Rattle.directory.specs.View.{stores}
+use Rattle.explicit_slots.specs.Cells.{Cells, cells}
+use Rattle.value_map.specs.Calls.{Held, held}
+use Rattle.value_map.specs.Explicit.{explicit_store}
+use Rattle.batches.proofs.Ends.{one_for}
+use Rattle.explicit_batches.proofs.measure_agreed.Goals as goal
+
+pub returns : goal.returns
+returns c =
+    let lent_map : Held Cells = let a = c.args in held a.d (stores a.sets a.entries a.order) (cells a.totals a.extremes a.counts) in
+    let a = c.args in
+    one_for (explicit_store a.bounds.now) a.limit (lent_map) a.v c.all-got.result c.single.result c.single.ensures _ _ (filter_of a.present a.filter.now) (given a.attrs.now) c.all-got.ensures

@@ -1,0 +1,14 @@
+-- `explicit_batches::measure_by_agreed` meets its contract. Assumes nothing.
+use borrow.Author.Rules.{rules}
+use Rattle.directory.specs.View.{stores}
+use Rattle.explicit_slots.specs.Cells.{Cells, cells}
+use Rattle.value_map.specs.Calls.{Held, held}
+use Rattle.value_map.specs.Explicit.{explicit_store}
+use Rattle.batches.proofs.Ends.{one-by}
+use Rattle.explicit_batches.proofs.measure_by_agreed.Goals as goal
+
+pub returns : goal.returns
+returns c =
+    let lent_map : Held Cells = let a = c.args in held a.d (stores a.sets a.entries a.order) (cells a.totals a.extremes a.counts) in
+    let a = c.args in
+    one-by (explicit_store a.bounds.now) a.limit (lent_map) a.v c.all_by-got.result c.single.result c.single.ensures _ _ a.h c.all_by-got.ensures

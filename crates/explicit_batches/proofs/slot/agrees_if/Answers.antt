@@ -1,0 +1,18 @@
+-- `slot::agrees_if` meets its contract. Assumes nothing.
+use mathlib.Core.Path.{sym, ◌∙◌}
+use borrow.Author.Rules.{rules}
+use Rattle.explicit_batches.proofs.Entered.{if-held, if_none}
+use Rattle.explicit_batches.proofs.slot.agrees_if.Goals as goal
+
+pub returns-then-known : goal.returns-then-known
+returns-then-known c = sym (c.requires c.if-known.true)
+
+pub returns-then-updated : goal.returns-then-updated
+returns-then-updated c =
+    let a = c.args in
+    c.agrees.ensures ∙ if-held a.bounds.now a.head a.counts.now a.updated c.if-updated.true
+
+pub returns : goal.returns
+returns c =
+    let a = c.args in
+    if_none a.bounds.now a.head a.counts.now a.updated c.if-updated.false

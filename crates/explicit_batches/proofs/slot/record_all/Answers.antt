@@ -1,0 +1,64 @@
+-- `slot::record_all` meets its contract. Assumes nothing.
+use Prim.Native.Nat.{ℕ, ◌+◌, ◌*◌, ◌≤◌}
+use mathlib.Core.Path.{◌≡◌, sym, subst}
+use mathlib.Core.Bool.{true}
+use native.Mathlib.Omega.{arith}
+use lib.ListN.{length, get_or}
+use lib.Ieee.{nan, binary64, fits}
+use lib.Ieee.Bits.{is_true}
+use borrow.Author.Rules.{rules}
+use Rattle.rows.specs.Parts.{part_at}
+use Rattle.rows.proofs.Parts.{part_length}
+use Rattle.many.specs.Many.{Many}
+use Rattle.points.specs.Explicit.{bucket_count}
+use Rattle.explicit_slots.specs.Cells.{Cells, cells, head_in}
+use Rattle.explicit_batches.specs.Values.{Series}
+use Rattle.explicit_batches.specs.Slot.{agrees_if}
+use Rattle.explicit_batches.proofs.Entered.{passes, known-row, kept_law}
+use Rattle.explicit_batches.proofs.slot.record_all.Goals as goal
+
+pub overflow_mul-a : goal.overflow_mul-a
+overflow_mul-a c =
+    let end : c.args.x * c.bucket_count-n.result + c.bucket_count-n.result ≤ length c.args.counts.now = let a = c.args in subst (λ (k : ℕ). a.x * k + k ≤ length a.counts.now) (sym c.bucket_count-n.ensures) c.requires.room.counts in
+    omega (arith, end, c.well-formed.1.1.1.1.1.1.0.0)
+
+pub overflow_add-e : goal.overflow_add-e
+overflow_add-e c =
+    let end : c.args.x * c.bucket_count-n.result + c.bucket_count-n.result ≤ length c.args.counts.now = let a = c.args in subst (λ (k : ℕ). a.x * k + k ≤ length a.counts.now) (sym c.bucket_count-n.ensures) c.requires.room.counts in
+    omega (arith, end, c.well-formed.1.1.1.1.1.1.0.0)
+
+pub offset_bounds-counts-a : goal.offset_bounds-counts-a
+offset_bounds-counts-a c =
+    let end : c.args.x * c.bucket_count-n.result + c.bucket_count-n.result ≤ length c.args.counts.now = let a = c.args in subst (λ (k : ℕ). a.x * k + k ≤ length a.counts.now) (sym c.bucket_count-n.ensures) c.requires.room.counts in
+    omega (arith, end, c.good.1.1.1.1.1.1.0.1)
+
+pub slice_bounds-enter_all-end : goal.slice_bounds-enter_all-end
+slice_bounds-enter_all-end c =
+    let end : c.args.x * c.bucket_count-n.result + c.bucket_count-n.result ≤ length c.args.counts.now = let a = c.args in subst (λ (k : ℕ). a.x * k + k ≤ length a.counts.now) (sym c.bucket_count-n.ensures) c.requires.room.counts in
+    end
+
+pub enter_all-run-requires : goal.enter_all-run-requires
+enter_all-run-requires c =
+    let lent : Cells = let a = c.args in cells a.totals a.extremes a.counts in
+    let end : c.args.x * c.bucket_count-n.result + c.bucket_count-n.result ≤ length c.args.counts.now = let a = c.args in subst (λ (k : ℕ). a.x * k + k ≤ length a.counts.now) (sym c.bucket_count-n.ensures) c.requires.room.counts in
+    let a = c.args in
+    let bs = a.bounds.now in
+    let i : c.bucket_count-n.result ≡ bucket_count bs = c.bucket_count-n.ensures in (
+      passes a.known bs a.x a.updated (lent) a.values.now c.requires,
+      omega (arith, i, part_length c.bucket_count-n.result a.counts.now a.x (end)),
+      λ e.
+          subst (λ (n : ℕ). agrees_if bs a.updated (head_in (lent) a.x) (part_at n a.counts.now a.x) ≡ true) (sym i)
+          (known-row a.known bs a.x a.updated (lent) a.values.now c.requires e),
+    )
+
+pub keep-requires : goal.keep-requires
+keep-requires c = (c.requires.room.totals, c.requires.room.extremes)
+
+pub returns : goal.returns
+returns c =
+    let lent : Cells = let a = c.args in cells a.totals a.extremes a.counts in
+    let a = c.args in
+    let m : Many Series = record { taken = c.enter_all-run.result.taken; no = c.enter_all-run.result.no; left = record { head = c.enter_all-run.result.head; counts = c.enter_all-run.new.counts } } in
+    kept_law a.known a.bounds.now a.x a.updated (lent) a.values.now c.requires c.bucket_count-n.result c.bucket_count-n.ensures
+    (λ i. is_true (fits binary64 (get_or a.values.now i nan)) (c.shared_slice_known-2-1.given i))
+    m c.enter_all-run.ensures c.keep.new.totals c.keep.ensures.totals_after c.keep.new.extremes c.keep.ensures.extremes_after

@@ -1,0 +1,38 @@
+-- `explicit_collection::collect::cumulative` meets its contract. Assumes nothing.
+use mathlib.Core.Path.{sym, ◌∙◌}
+use mathlib.Core.Bool.{true}
+use borrow.Author.Rules.{rules}
+use Rattle.directory.specs.View.{stores}
+use Rattle.explicit_slots.specs.Cells.{Cells, cells}
+use Rattle.value_map.specs.Calls.{Held, held}
+use Rattle.value_map.proofs.ExplicitOwes.{owed}
+use Rattle.listing.specs.Listed.{Output, output}
+use Rattle.collecting.proofs.Ends.{cumulative-refused, cumulative-done}
+use Rattle.collecting.proofs.Decides.{listable, listed-is}
+use Rattle.explicit_collection.specs.Points.{explicit_lister}
+use Rattle.explicit_collection.proofs.collect.cumulative.Goals as goal
+
+pub number-no-requires : goal.number-no-requires
+number-no-requires c = c.requires
+
+pub returns-then-no-ne0 : goal.returns-then-no-ne0
+returns-then-no-ne0 c =
+    let map : Held Cells = let a = c.args in held a.d (stores a.sets a.entries a.order) (cells a.totals a.extremes a.counts) in
+    let out : Output = let a = c.args in output a.out-sets a.out-words a.out-pos a.out-neg in
+    let a = c.args in
+    cumulative-refused (explicit_lister a.bounds.now) (a.s.extremes, a.s.sums) a.s.limit (map) (out) c.number-no.result c.number-no.ensures c.if-no-ne0.true
+
+pub list-end-requires : goal.list-end-requires
+list-end-requires c =
+    let map : Held Cells = let a = c.args in held a.d (stores a.sets a.entries a.order) (cells a.totals a.extremes a.counts) in
+    let out : Output = let a = c.args in output a.out-sets a.out-words a.out-pos a.out-neg in
+    let a = c.args in
+    listable (explicit_lister a.bounds.now) (owed a.bounds.now) (a.s.extremes, a.s.sums) true a.s.limit (map) (out) c.number-no.result c.number-no.ensures c.if-no-ne0.false
+
+pub returns : goal.returns
+returns c =
+    let map : Held Cells = let a = c.args in held a.d (stores a.sets a.entries a.order) (cells a.totals a.extremes a.counts) in
+    let out : Output = let a = c.args in output a.out-sets a.out-words a.out-pos a.out-neg in
+    let a = c.args in
+    cumulative-done (explicit_lister a.bounds.now) (a.s.extremes, a.s.sums) a.s.limit (map) (out) _ (sym c.number-no.ensures ∙ c.if-no-ne0.false)
+    (listed-is (explicit_lister a.bounds.now) (owed a.bounds.now) (a.s.extremes, a.s.sums) true a.s.limit (map) (out) _ c.list-end.ensures)

@@ -1,0 +1,49 @@
+-- `explicit_collection::collect::number` meets its contract. Assumes nothing.
+use borrow.Author.Rules.{rules}
+use mathlib.Core.Path.{refl}
+use mathlib.Core.Bool.{true}
+use mathlib.Core.Option.{none}
+use Rattle.directory.specs.View.{stores}
+use Rattle.explicit_slots.specs.Cells.{Cells, cells}
+use Rattle.value_map.specs.Calls.{Held, held}
+use Rattle.value_map.specs.Explicit.{explicit_store}
+use Rattle.value_map.proofs.ExplicitOwes.{owed}
+use Rattle.listing.specs.Listed.{Output, output}
+use Rattle.collecting.proofs.Decides.{number-first, walk_here, number-then}
+use Rattle.collecting.proofs.Sure.{unbarred, walk-known}
+use Rattle.explicit_collection.specs.Points.{explicit_lister}
+use Rattle.explicit_collection.proofs.collect.number.Goals as goal
+
+pub barred-no-requires : goal.barred-no-requires
+barred-no-requires c k =
+    let map : Held Cells = let a = c.args in held a.d (stores a.sets a.entries a.order) (cells a.totals a.extremes a.counts) in
+    let a = c.args in
+    unbarred (explicit_store a.bounds.now) (a.s.extremes, a.s.sums) a.s.limit none (map) (c.requires k)
+    c.cells_suffice-room.result c.unset_of-unset.result c.cells_suffice-room.ensures c.unset_of-unset.ensures
+
+pub returns-then-no-ne0 : goal.returns-then-no-ne0
+returns-then-no-ne0 c =
+    let map : Held Cells = let a = c.args in held a.d (stores a.sets a.entries a.order) (cells a.totals a.extremes a.counts) in
+    let out : Output = let a = c.args in output a.out-sets a.out-words a.out-pos a.out-neg in
+    let a = c.args in
+    number-first (explicit_lister a.bounds.now) (owed a.bounds.now) (a.s.extremes, a.s.sums) a.cumulative a.s.limit (map) (out)
+    c.cells_suffice-room.result c.unset_of-unset.result c.barred-no.result
+    c.cells_suffice-room.ensures c.unset_of-unset.ensures c.barred-no.ensures c.if-no-ne0.true
+
+pub survey-found-requires : goal.survey-found-requires
+survey-found-requires c =
+    let map : Held Cells = let a = c.args in held a.d (stores a.sets a.entries a.order) (cells a.totals a.extremes a.counts) in
+    let out : Output = let a = c.args in output a.out-sets a.out-words a.out-pos a.out-neg in
+    let a = c.args in record { walk = walk_here (explicit_lister a.bounds.now) (owed a.bounds.now) (a.s.extremes, a.s.sums) a.cumulative a.s.limit (map) (out)
+          c.cells_suffice-room.result c.unset_of-unset.result c.barred-no.result
+          c.cells_suffice-room.ensures c.unset_of-unset.ensures c.barred-no.ensures c.if-no-ne0.false; all_known = walk-known (explicit_store a.bounds.now) (a.s.extremes, a.s.sums) a.s.limit none (map) a.known c.requires (true, true) (λ x. refl) }
+
+pub returns : goal.returns
+returns c =
+    let map : Held Cells = let a = c.args in held a.d (stores a.sets a.entries a.order) (cells a.totals a.extremes a.counts) in
+    let out : Output = let a = c.args in output a.out-sets a.out-words a.out-pos a.out-neg in
+    let a = c.args in
+    number-then (explicit_lister a.bounds.now) (owed a.bounds.now) (a.s.extremes, a.s.sums) a.cumulative a.s.limit (map) (out)
+    c.cells_suffice-room.result c.unset_of-unset.result c.barred-no.result
+    c.cells_suffice-room.ensures c.unset_of-unset.ensures c.barred-no.ensures c.if-no-ne0.false
+    (true, true) (λ x. refl) c.survey-found.result c.number_of.result c.survey-found.ensures c.number_of.ensures

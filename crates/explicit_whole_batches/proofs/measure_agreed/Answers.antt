@@ -1,0 +1,21 @@
+-- `explicit_whole_batches::measure_agreed` meets its contract. Assumes nothing.
+use mathlib.Core.Path.{ap, ◌∙◌}
+use mathlib.Core.List.{[], ◌∷◌}
+use lib.IntN.{ℤ}
+use borrow.Author.Rules.{rules}
+use Rattle.integers.proofs.Range as Range
+use Rattle.sets.specs.Sorted.{given, filter_of}
+use Rattle.directory.specs.View.{stores}
+use Rattle.explicit_whole_slots.specs.Cells.{Cells, cells}
+use Rattle.value_map.specs.Calls.{Held, held}
+use Rattle.whole_map.specs.Explicit.{explicit_wholes}
+use Rattle.batches.specs.Batch.{measured_all}
+use Rattle.batches.proofs.Ends.{one_for}
+use Rattle.explicit_whole_batches.proofs.measure_agreed.Goals as goal
+
+pub returns : goal.returns
+returns c =
+    let lent_map : Held Cells = let a = c.args in held a.d (stores a.sets a.entries a.order) (cells a.totals a.extremes a.counts) in
+    let a = c.args in
+    one_for (explicit_wholes a.bounds.now a.sums) a.limit (lent_map) a.v c.all-got.result c.single.result c.single.ensures _ _ (filter_of a.present a.filter.now) (given a.attrs.now)
+    (c.all-got.ensures ∙ ap (λ (z : ℤ). measured_all (explicit_wholes a.bounds.now a.sums) a.limit (filter_of a.present a.filter.now) (lent_map) (z ∷ []) (given a.attrs.now)) (Range.held a.v c.ranges.v))

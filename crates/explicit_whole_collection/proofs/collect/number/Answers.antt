@@ -1,0 +1,53 @@
+-- `explicit_whole_collection::collect::number` meets its contract. Assumes nothing.
+use borrow.Author.Rules.{rules}
+use mathlib.Core.Path.{refl, ◌∙◌}
+use mathlib.Core.Bool.{true}
+use mathlib.Core.Option.{none}
+use Rattle.directory.specs.View.{stores}
+use Rattle.explicit_whole_slots.specs.Cells.{Cells, cells}
+use Rattle.value_map.specs.Calls.{Held, held}
+use Rattle.whole_map.specs.Explicit.{explicit_wholes}
+use Rattle.whole_map.proofs.ExplicitOwes.{owed}
+use Rattle.listing.specs.Listed.{Output, output}
+use Rattle.collecting.proofs.Decides.{number-first, walk_here, number-then}
+use Rattle.collecting.proofs.Sure.{unbarred, walk-known}
+use Rattle.explicit_whole_collection.specs.Points.{explicit_whole_lister}
+use Rattle.explicit_whole_collection.proofs.Slots.{walk-counts, survey-counts}
+use Rattle.explicit_whole_collection.proofs.collect.number.Goals as goal
+
+pub barred-no-requires : goal.barred-no-requires
+barred-no-requires c k =
+    let map : Held Cells = let a = c.args in held a.d (stores a.sets a.entries a.order) (cells a.totals a.extremes a.counts) in
+    let a = c.args in
+    unbarred (explicit_wholes a.bounds.now a.s.sums) a.s.extremes a.s.limit none (map) (c.requires k)
+    c.cells_suffice-room.result c.unset_of-unset.result c.cells_suffice-room.ensures c.unset_of-unset.ensures
+
+pub returns-then-no-ne0 : goal.returns-then-no-ne0
+returns-then-no-ne0 c =
+    let map : Held Cells = let a = c.args in held a.d (stores a.sets a.entries a.order) (cells a.totals a.extremes a.counts) in
+    let out : Output = let a = c.args in output a.out-sets a.out-words a.out-pos a.out-neg in
+    let a = c.args in
+    number-first (explicit_whole_lister a.bounds.now a.s.sums) (owed a.bounds.now a.s.sums) a.s.extremes a.cumulative a.s.limit (map) (out)
+    c.cells_suffice-room.result c.unset_of-unset.result c.barred-no.result
+    c.cells_suffice-room.ensures c.unset_of-unset.ensures c.barred-no.ensures c.if-no-ne0.true
+
+pub survey-found-requires : goal.survey-found-requires
+survey-found-requires c =
+    let map : Held Cells = let a = c.args in held a.d (stores a.sets a.entries a.order) (cells a.totals a.extremes a.counts) in
+    let out : Output = let a = c.args in output a.out-sets a.out-words a.out-pos a.out-neg in
+    let a = c.args in record { walk = walk-counts a.bounds.now a.s.sums a.d.used a.entries.now a.order.now a.totals a.extremes a.counts
+          (walk_here (explicit_whole_lister a.bounds.now a.s.sums) (owed a.bounds.now a.s.sums) a.s.extremes a.cumulative a.s.limit (map) (out)
+          c.cells_suffice-room.result c.unset_of-unset.result c.barred-no.result
+          c.cells_suffice-room.ensures c.unset_of-unset.ensures c.barred-no.ensures c.if-no-ne0.false); all_known = walk-known (explicit_wholes a.bounds.now a.s.sums) a.s.extremes a.s.limit none (map) a.known c.requires true (λ x. refl) }
+
+pub returns : goal.returns
+returns c =
+    let map : Held Cells = let a = c.args in held a.d (stores a.sets a.entries a.order) (cells a.totals a.extremes a.counts) in
+    let out : Output = let a = c.args in output a.out-sets a.out-words a.out-pos a.out-neg in
+    let a = c.args in
+    number-then (explicit_whole_lister a.bounds.now a.s.sums) (owed a.bounds.now a.s.sums) a.s.extremes a.cumulative a.s.limit (map) (out)
+    c.cells_suffice-room.result c.unset_of-unset.result c.barred-no.result
+    c.cells_suffice-room.ensures c.unset_of-unset.ensures c.barred-no.ensures c.if-no-ne0.false
+    true (λ x. refl) c.survey-found.result c.number_of.result
+    (c.survey-found.ensures ∙ survey-counts a.bounds.now a.s.sums a.d.used a.entries.now a.order.now a.totals a.extremes a.counts a.cumulative)
+    c.number_of.ensures

@@ -1,0 +1,18 @@
+-- `explicit_whole_collection::configure` meets its contract. Assumes nothing.
+use borrow.Author.Rules.{rules}
+use Rattle.sets.specs.Sorted.{filter_of}
+use Rattle.directory.specs.View.{stores}
+use Rattle.explicit_whole_slots.specs.Cells.{cells}
+use Rattle.whole_map.specs.Explicit.{explicit_wholes}
+use Rattle.collecting.proofs.Configures.{configured-is}
+use Rattle.explicit_collection.specs.Configured.{said}
+use Rattle.explicit_whole_collection.specs.Configured.{configured}
+use Rattle.explicit_whole_collection.proofs.configure.Goals as goal
+
+pub returns : goal.returns
+unfolding configured
+returns c =
+    let a = c.args in
+    configured-is (explicit_wholes a.bounds.now a.sums) (λ d. record { settings = record { extremes = a.show; sums = a.sums; limit = a.limit }; dir = d }) a.limit
+    (filter_of a.present a.filter.now) (stores a.sets a.entries a.order) (cells a.totals a.extremes a.counts) c.start-reply.result _ (said c.set_up.result)
+    c.start-reply.ensures c.set_up.ensures

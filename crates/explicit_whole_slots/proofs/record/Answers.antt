@@ -1,0 +1,53 @@
+-- `record` meets its contract. Assumes nothing.
+use Prim.Native.Nat.{ℕ, ◌+◌, ◌-◌, ◌*◌, ◌^◌, ◌≤◌}
+use mathlib.Core.Path.{◌≡◌, ap, sym, subst, ◌∙◌}
+use mathlib.Core.Bool.{true}
+use native.Mathlib.Omega.{arith}
+use borrow.Author.Tests.{lt-ltb}
+use lib.ListN.{length}
+use lib.Signed.{mag}
+use borrow.Author.Rules.{rules}
+use Rattle.rows.specs.Parts.{part_at}
+use Rattle.rows.proofs.Parts.{part_length}
+use Rattle.integers.proofs.Range.{held}
+use Rattle.points.specs.Explicit.{bucket_count}
+use Rattle.kinds.specs.Wholes.{wholes}
+use Rattle.explicit_wholes.specs.Series.{said}
+use Rattle.explicit_whole_slots.specs.Cells.{Cells, Room, cells, entering}
+use Rattle.explicit_whole_slots.proofs.Enters.{call_kept}
+use Rattle.explicit_whole_slots.proofs.record.Goals as goal
+
+pub overflow_mul-a : goal.overflow_mul-a
+overflow_mul-a c =
+    let end : c.args.x * c.bucket_count-n.result + c.bucket_count-n.result ≤ length c.args.counts.now = let a = c.args in subst (λ (k : ℕ). a.x * k + k ≤ length a.counts.now) (sym c.bucket_count-n.ensures) c.requires.2 in
+    omega (arith, end, c.well-formed.1.1.1.1.1.1.0.0)
+
+pub overflow_add-e : goal.overflow_add-e
+overflow_add-e c =
+    let end : c.args.x * c.bucket_count-n.result + c.bucket_count-n.result ≤ length c.args.counts.now = let a = c.args in subst (λ (k : ℕ). a.x * k + k ≤ length a.counts.now) (sym c.bucket_count-n.ensures) c.requires.2 in
+    omega (arith, end, c.well-formed.1.1.1.1.1.1.0.0)
+
+pub offset_bounds-counts-a : goal.offset_bounds-counts-a
+offset_bounds-counts-a c =
+    let end : c.args.x * c.bucket_count-n.result + c.bucket_count-n.result ≤ length c.args.counts.now = let a = c.args in subst (λ (k : ℕ). a.x * k + k ≤ length a.counts.now) (sym c.bucket_count-n.ensures) c.requires.2 in
+    omega (arith, end, c.well-formed.1.1.1.1.1.1.0.1)
+
+pub slice_bounds-enter-end : goal.slice_bounds-enter-end
+slice_bounds-enter-end c =
+    let end : c.args.x * c.bucket_count-n.result + c.bucket_count-n.result ≤ length c.args.counts.now = let a = c.args in subst (λ (k : ℕ). a.x * k + k ≤ length a.counts.now) (sym c.bucket_count-n.ensures) c.requires.2 in
+    end
+
+pub returns : goal.returns
+returns c =
+    let lent : Cells = let a = c.args in record { totals = a.totals.now; extremes = a.extremes.now; counts = a.counts.now } in
+    let end : c.args.x * c.bucket_count-n.result + c.bucket_count-n.result ≤ length c.args.counts.now = let a = c.args in subst (λ (k : ℕ). a.x * k + k ≤ length a.counts.now) (sym c.bucket_count-n.ensures) c.requires.2 in
+    let long : bucket_count c.args.bounds.now ≤ length (part_at c.bucket_count-n.result c.args.counts.now c.args.x) = 
+    let a = c.args in
+    let i : c.bucket_count-n.result ≡ bucket_count a.bounds.now = c.bucket_count-n.ensures in
+    omega (arith, i, part_length c.bucket_count-n.result a.counts.now a.x (end)) in
+    let room : Room c.args.bounds.now (cells c.args.totals c.args.extremes c.args.counts) c.args.x = record { totals = c.requires.0; extremes = c.requires.1; counts = c.requires.2 } in
+    let finite : wholes.finite c.args.v ≡ true = lt-ltb (mag c.args.v) (2 ^ 63) c.ranges.v.sfits in
+    let a = c.args in
+    call_kept a.bounds.now a.sums a.x a.updated (lent) a.v c.bucket_count-n.result c.bucket_count-n.ensures (said c.enter-got.result) c.enter-got.new.counts
+    (c.enter-got.ensures ∙ (λ j. entering a.bounds.now a.sums a.updated (c.head_with-held.ensures j) (part_at c.bucket_count-n.result a.counts.now a.x) (held a.v c.fits.v j)))
+    c.keep.result c.keep.new.totals c.keep.new.extremes c.keep.ensures.value c.keep.ensures.totals_after c.keep.ensures.extremes_after (long) (room) (finite)

@@ -1,0 +1,12 @@
+-- `begin` meets its contract. Assumes nothing.
+use mathlib.Core.Path.{sym, ap}
+use borrow.Author.Rules.{rules}
+use Rattle.explicit.specs.Series as E
+use Rattle.explicit_wholes.specs.Series.{begun}
+use Rattle.explicit_wholes.proofs.begin.Goals as goal
+
+pub returns-in-Refused : goal.returns-in-Refused
+returns-in-Refused c = sym (ap (λ q. begun (E.said q)) c.r-1.given.1)
+
+pub returns-in-Recorded : goal.returns-in-Recorded
+returns-in-Recorded c = sym (ap (λ q. begun (E.said q)) c.r-in-Recorded-1.given.1)

@@ -1,0 +1,62 @@
+-- `exponential_batches::all_by` meets its contract. Assumes nothing.
+-- ---- before the seat
+-- ---- at the seat
+use Prim.Native.Nat.{◌^◌, ◌<◌}
+use mathlib.Core.Bool.{true}
+use mathlib.Core.List.{List}
+use native.Mathlib.Omega.{arith}
+use lib.ListN.{length, get_or, drop}
+use lib.Ieee.{Float, nan}
+use borrow.Author.Rules.{rules}
+use Rattle.directory.specs.View.{stores}
+use Rattle.exponential_slots.specs.Cells.{Cells, cells}
+use Rattle.value_map.specs.Calls.{Held, held}
+use Rattle.value_map.proofs.ExponentialOwes.{owed}
+use Rattle.batches.proofs.Ends.{cut-first, sure-by, by-none, by-takes, by-finite, by_fits, by-ends}
+use Rattle.exponential_batches.proofs.all_by.Goals as goal
+
+pub returns-then-values-eq0 : goal.returns-then-values-eq0
+returns-then-values-eq0 c =
+    let lent_map : Held Cells = let a = c.args in held a.d (stores a.sets a.entries a.order) (cells a.figures a.extremes a.pos a.neg) in
+    let a = c.args in
+    by-none (owed a.size a.top) (true, true) a.limit (lent_map) a.h c.args.values.now c.if-values-eq0.true
+
+pub seat_by_if-seat-requires : goal.seat_by_if-seat-requires
+seat_by_if-seat-requires c k =
+    let lent_map : Held Cells = let a = c.args in held a.d (stores a.sets a.entries a.order) (cells a.figures a.extremes a.pos a.neg) in
+    let a = c.args in
+    sure-by (owed a.size a.top) (true, true) a.limit (lent_map) c.slots_of-slots.result c.unset_of-unset.result c.slots_of-slots.ensures c.unset_of-unset.ensures a.h (c.requires k)
+
+pub take-got-requires : goal.take-got-requires
+take-got-requires c z =
+    let lent_map : Held Cells = let a = c.args in held a.d (stores a.sets a.entries a.order) (cells a.figures a.extremes a.pos a.neg) in
+    let first : Float = get_or c.args.values.now 0 nan in
+    let some : 0 < length c.args.values.now = omega (arith, c.if-values-eq0.false) in
+    let a = c.args in
+    let k = by-takes (owed a.size a.top) (true, true) a.limit (lent_map) a.h (first) c.slots_of-slots.ensures c.takes-value.ensures c.unset_of-unset.ensures c.seat_by_if-seat.ensures a.known c.requires z in
+    record {
+      room = k.1;
+      set = k.0;
+      some = some;
+      first = by-finite (owed a.size a.top) (true, true) a.limit (lent_map) a.h (first) c.slots_of-slots.ensures c.takes-value.ensures c.unset_of-unset.ensures c.seat_by_if-seat.ensures z;
+      series = k.2;
+    }
+
+pub finish_all-requires : goal.finish_all-requires
+finish_all-requires c k =
+    let lent_map : Held Cells = let a = c.args in held a.d (stores a.sets a.entries a.order) (cells a.figures a.extremes a.pos a.neg) in
+    let first : Float = get_or c.args.values.now 0 nan in
+    let some : 0 < length c.args.values.now = omega (arith, c.if-values-eq0.false) in
+    let a = c.args in
+    by_fits (owed a.size a.top) (true, true) a.limit (lent_map) a.h (first) c.slots_of-slots.ensures c.takes-value.ensures c.unset_of-unset.ensures c.seat_by_if-seat.ensures
+    c.args.values.now (drop 1 c.args.values.now) (cut-first c.args.values.now nan (some)) _ c.take-got.ensures k
+
+pub returns : goal.returns
+returns c =
+    let lent_map : Held Cells = let a = c.args in held a.d (stores a.sets a.entries a.order) (cells a.figures a.extremes a.pos a.neg) in
+    let first : Float = get_or c.args.values.now 0 nan in
+    let some : 0 < length c.args.values.now = omega (arith, c.if-values-eq0.false) in
+    let last : c.args.d.last < 2 ^ 64 = omega (arith, c) in
+    let a = c.args in
+    by-ends (owed a.size a.top) (true, true) a.limit (lent_map) a.h (first) c.slots_of-slots.ensures c.takes-value.ensures c.unset_of-unset.ensures c.seat_by_if-seat.ensures
+    c.args.values.now (drop 1 c.args.values.now) (cut-first c.args.values.now nan (some)) _ c.take-got.ensures (last) _ c.finish_all.ensures

@@ -1,0 +1,9 @@
+-- `exponential_batches::measure_all` meets its contract. Assumes nothing.
+use borrow.Author.Rules.{rules}
+use Rattle.laws.proofs.Cases.{true-not-false}
+use mathlib.Core.Path.{sym}
+use Rattle.exponential_batches.proofs.measure_all.Goals as goal
+
+-- nothing is known
+pub all-requires : goal.all-requires
+all-requires c k = true-not-false (sym k)

@@ -1,0 +1,14 @@
+-- `exponential_batches::measure_by_agreed` meets its contract. Assumes nothing.
+use borrow.Author.Rules.{rules}
+use Rattle.directory.specs.View.{stores}
+use Rattle.exponential_slots.specs.Cells.{Cells, cells}
+use Rattle.value_map.specs.Calls.{Held, held}
+use Rattle.value_map.specs.Exponential.{exponential_store}
+use Rattle.batches.proofs.Ends.{one-by}
+use Rattle.exponential_batches.proofs.measure_by_agreed.Goals as goal
+
+pub returns : goal.returns
+returns c =
+    let lent_map : Held Cells = let a = c.args in held a.d (stores a.sets a.entries a.order) (cells a.figures a.extremes a.pos a.neg) in
+    let a = c.args in
+    one-by (exponential_store a.size a.top) a.limit (lent_map) a.v c.all_by-got.result c.single.result c.single.ensures _ _ a.h c.all_by-got.ensures

@@ -1,0 +1,24 @@
+-- `exponential_batches::take` meets its contract. Assumes nothing.
+use mathlib.Core.Path.{sym, ◌∙◌}
+use borrow.Author.Rules.{rules}
+use Rattle.exponential_slots.specs.Cells.{Cells, cells}
+use Rattle.value_map.specs.Exponential.{exponential_store}
+use Rattle.batches.specs.Inner.{recorded_all}
+use Rattle.batches.proofs.Batches.{stop-on, stop-off}
+use Rattle.exponential_batches.proofs.take.Goals as goal
+
+pub returns-then-no-ne0 : goal.returns-then-no-ne0
+returns-then-no-ne0 c =
+    let lent : Cells = let a = c.args in cells a.figures a.extremes a.pos a.neg in
+    let a = c.args in
+    sym (stop-off a.no (lent) (recorded_all (exponential_store a.size a.top) a.x a.updated (lent) a.values.now) c.if-no-ne0.true)
+
+pub record_all-requires : goal.record_all-requires
+record_all-requires c = c.requires c.if-no-ne0.false
+
+pub returns : goal.returns
+returns c =
+    let lent : Cells = let a = c.args in cells a.figures a.extremes a.pos a.neg in
+    let a = c.args in
+    c.record_all.ensures
+    ∙ sym (stop-on a.no (lent) (recorded_all (exponential_store a.size a.top) a.x a.updated (lent) a.values.now) c.if-no-ne0.false)

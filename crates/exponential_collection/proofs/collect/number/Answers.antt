@@ -1,0 +1,46 @@
+-- `exponential_collection::collect::number` meets its contract. Assumes nothing.
+use borrow.Author.Rules.{rules}
+use mathlib.Core.Path.{refl}
+use mathlib.Core.Bool.{true}
+use mathlib.Core.Option.{none}
+use Rattle.directory.specs.View.{stores}
+use Rattle.exponential_slots.specs.Cells.{Cells, cells}
+use Rattle.value_map.specs.Calls.{Held, held}
+use Rattle.value_map.specs.Exponential.{exponential_store}
+use Rattle.value_map.proofs.ExponentialOwes.{owed}
+use Rattle.listing.specs.Listed.{Output, output}
+use Rattle.collecting.proofs.Decides.{number-first, walk_here, number-then}
+use Rattle.collecting.proofs.Sure.{unbarred, walk-known}
+use Rattle.exponential_collection.specs.Points.{exponential_lister}
+use Rattle.exponential_collection.proofs.collect.number.Goals as goal
+
+pub barred-bar-requires : goal.barred-bar-requires
+barred-bar-requires c k =
+    let map : Held Cells = let a = c.args in held a.d (stores a.sets a.entries a.order) (cells a.figures a.extremes a.pos a.neg) in
+    let a = c.args in
+    unbarred (exponential_store a.s.size a.s.top) (a.s.extremes, a.s.sums) a.s.limit none (map) (c.requires k)
+    c.cells_suffice-room.result c.unset_of-unset.result c.cells_suffice-room.ensures c.unset_of-unset.ensures
+
+pub returns-then-bar-ne0 : goal.returns-then-bar-ne0
+returns-then-bar-ne0 c =
+    let map : Held Cells = let a = c.args in held a.d (stores a.sets a.entries a.order) (cells a.figures a.extremes a.pos a.neg) in
+    let out : Output = let a = c.args in output a.out-sets a.out-words a.out-pos a.out-neg in
+    let a = c.args in
+    number-first (exponential_lister a.s.size a.s.top) (owed a.s.size a.s.top) (a.s.extremes, a.s.sums) a.cumulative a.s.limit (map) (out)
+    c.cells_suffice-room.result c.unset_of-unset.result c.barred-bar.result c.cells_suffice-room.ensures c.unset_of-unset.ensures c.barred-bar.ensures c.if-bar-ne0.true
+
+pub survey-found-requires : goal.survey-found-requires
+survey-found-requires c =
+    let map : Held Cells = let a = c.args in held a.d (stores a.sets a.entries a.order) (cells a.figures a.extremes a.pos a.neg) in
+    let out : Output = let a = c.args in output a.out-sets a.out-words a.out-pos a.out-neg in
+    let a = c.args in record { walk = walk_here (exponential_lister a.s.size a.s.top) (owed a.s.size a.s.top) (a.s.extremes, a.s.sums) a.cumulative a.s.limit (map) (out)
+          c.cells_suffice-room.result c.unset_of-unset.result c.barred-bar.result c.cells_suffice-room.ensures c.unset_of-unset.ensures c.barred-bar.ensures c.if-bar-ne0.false; all_known = walk-known (exponential_store a.s.size a.s.top) (a.s.extremes, a.s.sums) a.s.limit none (map) a.known c.requires (true, true) (λ x. refl) }
+
+pub returns : goal.returns
+returns c =
+    let map : Held Cells = let a = c.args in held a.d (stores a.sets a.entries a.order) (cells a.figures a.extremes a.pos a.neg) in
+    let out : Output = let a = c.args in output a.out-sets a.out-words a.out-pos a.out-neg in
+    let a = c.args in
+    number-then (exponential_lister a.s.size a.s.top) (owed a.s.size a.s.top) (a.s.extremes, a.s.sums) a.cumulative a.s.limit (map) (out)
+    c.cells_suffice-room.result c.unset_of-unset.result c.barred-bar.result c.cells_suffice-room.ensures c.unset_of-unset.ensures c.barred-bar.ensures c.if-bar-ne0.false
+    (true, true) (λ x. refl) c.survey-found.result c.number_of.result c.survey-found.ensures c.number_of.ensures

@@ -1,0 +1,23 @@
+-- `exponential_collection::set_up` meets its contract. Assumes nothing.
+use borrow.Author.Rules.{rules}
+use mathlib.Core.Path.{sym, ap}
+use Rattle.bindings.specs.Calls as Bindings
+use Rattle.bindings.specs.declared.Answer.{Answer}
+use Rattle.collecting.specs.Configured.{set_up}
+use Rattle.exponential_collection.specs.declared.Setup.{Setup}
+use Rattle.exponential_collection.proofs.set_up.Goals as goal
+
+pub returns-in-Refused : goal.returns-in-Refused
+returns-in-Refused c =
+    let handed : Setup = record { settings = c.args.z; dir = c.args.r.dir } in
+    sym (ap (λ (x : Answer). set_up (handed) (Bindings.said x)) c.answer-1.given.1)
+
+pub returns-in-Done : goal.returns-in-Done
+returns-in-Done c =
+    let handed : Setup = record { settings = c.args.z; dir = c.args.r.dir } in
+    sym (ap (λ (x : Answer). set_up (handed) (Bindings.said x)) c.enum_told-1.given.1)
+
+pub returns-in-Handle : goal.returns-in-Handle
+returns-in-Handle c =
+    let handed : Setup = record { settings = c.args.z; dir = c.args.r.dir } in
+    sym (ap (λ (x : Answer). set_up (handed) (Bindings.said x)) c.answer-in-Handle-1.given.1)

@@ -1,0 +1,21 @@
+-- `exponential_whole_batches::measure_by_agreed` meets its contract: a list of one value is the single call. Assumes nothing.
+use borrow.Author.Rules.{rules}
+use mathlib.Core.Path.{ap, ◌∙◌}
+use mathlib.Core.List.{[], ◌∷◌}
+use lib.IntN.{ℤ}
+use Rattle.integers.proofs.Range as Range
+use Rattle.directory.specs.View.{stores}
+use Rattle.exponential_whole_slots.specs.Cells.{Cells, cells}
+use Rattle.value_map.specs.Calls.{Held, held}
+use Rattle.whole_map.specs.Exponential.{exponential_wholes}
+use Rattle.batches.specs.Batch.{measured_all_by}
+use Rattle.batches.proofs.Ends.{one-by}
+use Rattle.exponential_whole_batches.proofs.measure_by_agreed.Goals as goal
+
+pub returns : goal.returns
+returns c =
+    let lent_map : Held Cells = let a = c.args in held a.d (stores a.sets a.entries a.order) (cells a.figures a.extremes a.pos a.neg) in
+    let a = c.args in
+    let S = exponential_wholes a.size a.top a.sums in
+    one-by S a.limit (lent_map) a.v c.all_by-got.result c.single.result c.single.ensures _ _ a.h
+    (c.all_by-got.ensures ∙ ap (λ (z : ℤ). measured_all_by S a.limit (lent_map) (z ∷ []) a.h) (Range.held a.v c.fits.v))

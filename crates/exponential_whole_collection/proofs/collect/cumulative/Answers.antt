@@ -1,0 +1,46 @@
+-- `exponential_whole_collection::collect::cumulative` meets its contract. Assumes nothing.
+use borrow.Author.Rules.{rules}
+use mathlib.Core.Path.{sym, ◌∙◌}
+use mathlib.Core.Bool.{true}
+use Rattle.directory.specs.View.{stores}
+use Rattle.exponential_whole_slots.specs.Cells.{Cells, cells}
+use Rattle.value_map.specs.Calls.{Held, held}
+use Rattle.value_map.proofs.Owed.{Owed}
+use Rattle.whole_map.specs.Exponential.{exponential_wholes}
+use Rattle.whole_map.proofs.ExponentialOwes.{owed}
+use Rattle.listing.specs.Listed.{Output, output}
+use Rattle.collecting.specs.Lister.{Lister}
+use Rattle.collecting.proofs.Ends.{cumulative-refused, cumulative-done}
+use Rattle.collecting.proofs.Decides.{listable, listed-is}
+use Rattle.exponential_whole_collection.specs.Points.{exponential_whole_lister}
+use Rattle.exponential_whole_collection.proofs.collect.cumulative.Goals as goal
+
+pub number-no-requires : goal.number-no-requires
+number-no-requires c = c.requires
+
+pub returns-then-no-ne0 : goal.returns-then-no-ne0
+returns-then-no-ne0 c =
+    let L : Lister (exponential_wholes c.args.s.size c.args.s.top c.args.s.sums) = exponential_whole_lister c.args.s.size c.args.s.top c.args.s.sums in
+    let map : Held Cells = let a = c.args in held a.d (stores a.sets a.entries a.order) (cells a.figures a.extremes a.pos a.neg) in
+    let out : Output = let a = c.args in output a.out-sets a.out-words a.out-pos a.out-neg in
+    let a = c.args in
+    cumulative-refused (L) a.s.extremes a.s.limit (map) (out) c.number-no.result c.number-no.ensures c.if-no-ne0.true
+
+pub list-at-requires : goal.list-at-requires
+list-at-requires c =
+    let L : Lister (exponential_wholes c.args.s.size c.args.s.top c.args.s.sums) = exponential_whole_lister c.args.s.size c.args.s.top c.args.s.sums in
+    let W : Owed (exponential_wholes c.args.s.size c.args.s.top c.args.s.sums) = owed c.args.s.size c.args.s.top c.args.s.sums in
+    let map : Held Cells = let a = c.args in held a.d (stores a.sets a.entries a.order) (cells a.figures a.extremes a.pos a.neg) in
+    let out : Output = let a = c.args in output a.out-sets a.out-words a.out-pos a.out-neg in
+    let a = c.args in
+    listable (L) (W) a.s.extremes true a.s.limit (map) (out) c.number-no.result c.number-no.ensures c.if-no-ne0.false
+
+pub returns : goal.returns
+returns c =
+    let L : Lister (exponential_wholes c.args.s.size c.args.s.top c.args.s.sums) = exponential_whole_lister c.args.s.size c.args.s.top c.args.s.sums in
+    let map : Held Cells = let a = c.args in held a.d (stores a.sets a.entries a.order) (cells a.figures a.extremes a.pos a.neg) in
+    let out : Output = let a = c.args in output a.out-sets a.out-words a.out-pos a.out-neg in
+    let W : Owed (exponential_wholes c.args.s.size c.args.s.top c.args.s.sums) = owed c.args.s.size c.args.s.top c.args.s.sums in
+    let a = c.args in
+    cumulative-done (L) a.s.extremes a.s.limit (map) (out) _ (sym c.number-no.ensures ∙ c.if-no-ne0.false)
+    (listed-is (L) (W) a.s.extremes true a.s.limit (map) (out) _ c.list-at.ensures)

@@ -1,0 +1,21 @@
+-- `gauge_lines::calls::given_of` meets its contract. Assumes nothing.
+use Prim.Native.Nat.{ℕ, ◌-◌}
+use mathlib.Core.Path.{◌≡◌, sym, ap}
+use mathlib.Core.List.{List}
+use native.Mathlib.Omega.{arith}
+use lib.ListN.{take, drop}
+use lib.Seq.{take_all}
+use borrow.Author.Rules.{rules}
+use Rattle.gauge_lines.proofs.calls.given_of.Goals as goal
+
+-- a part from 0 on
+from-0 : (n : ℕ) (xs : List (List ℕ)) → take (n - 0) (drop 0 xs) ≡ take n xs
+from-0 n xs =
+    let z : n - 0 ≡ n = omega arith in
+    ap (λ (k : ℕ). take k xs) z
+
+pub returns-then-n-attrs : goal.returns-then-n-attrs
+returns-then-n-attrs c = from-0 c.args.n c.args.attrs.now
+
+pub returns : goal.returns
+returns c = sym (take_all c.args.n c.args.attrs.now (search rules))

@@ -1,0 +1,11 @@
+use mathlib.Core.Path.{◌≡◌}
+use Prim.Native.Nat.{◌-◌, ◌≤◌}
+use native.Mathlib.Omega.{arith}
+use Rattle.halving.proofs.Halves.{Lowered, fresh, once_more, all_done}
+use Rattle.halving.proofs.downscale.Given as goal
+
+abbrev pub invariant-loop-k : goal.invariant-loop-k
+invariant-loop-k l = (l.k ≤ l.delta) × Lowered l.initial.counts l.counts l.start l.n l.delta l.k l.s l.len
+
+abbrev pub decreases-loop-k : goal.decreases-loop-k
+decreases-loop-k l = l.delta - l.k

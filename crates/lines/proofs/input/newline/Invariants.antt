@@ -1,0 +1,13 @@
+-- `lines::input::newline` meets its contract. Assumes nothing.
+use native.Mathlib.Omega.{arith}
+use Prim.Native.Nat.{◌-◌, ◌≤◌}
+use mathlib.Core.Path.{◌≡◌, ◌∙◌}
+use Rattle.lines.specs.Reading.{newline_of}
+use Rattle.lines.proofs.Newlines.{of-turn, of-stop, of_none}
+use Rattle.lines.proofs.input.newline.Given as goal
+
+abbrev pub invariant-loop-i : goal.invariant-loop-i
+invariant-loop-i l = (l.from ≤ l.i) × (l.i ≤ l.end) × (newline_of l.block l.i l.end ≡ newline_of l.block l.from l.end)
+
+abbrev pub decreases-loop-i : goal.decreases-loop-i
+decreases-loop-i l = l.end - l.i

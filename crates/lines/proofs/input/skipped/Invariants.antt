@@ -1,0 +1,13 @@
+-- `lines::input::skipped` meets its contract. Assumes nothing.
+use native.Mathlib.Omega.{arith}
+use Prim.Native.Nat.{◌-◌, ◌≤◌}
+use mathlib.Core.Path.{◌≡◌, sym, ◌∙◌}
+use Rattle.lines.specs.Reading.{newline_of}
+use Rattle.lines.proofs.Newlines.{not-true, of-clear}
+use Rattle.lines.proofs.input.skipped.Given as goal
+
+abbrev pub invariant-loop-i : goal.invariant-loop-i
+invariant-loop-i l = (l.from ≤ l.i) × (l.i ≤ l.end) × (newline_of l.block l.i l.end ≡ newline_of l.block l.from l.end)
+
+abbrev pub decreases-loop-i : goal.decreases-loop-i
+decreases-loop-i l = l.end - l.i

@@ -1,0 +1,14 @@
+-- `lines::output::bytes` meets its contract: what waits in the end is what the bytes left give from here. Assumes nothing.
+use native.Mathlib.Omega.{arith}
+use Prim.Native.Nat.{◌+◌, ◌-◌, ◌≤◌}
+use mathlib.Core.Path.{◌≡◌, refl, sym, ap, ◌∙◌}
+use lib.ListN.{length, drop}
+use Rattle.lines.specs.Gathered.{Text, ◌behind◌}
+use Rattle.lines.proofs.Gathering.{behind-turn, behind-none}
+use Rattle.lines.proofs.output.bytes.Given as goal
+
+abbrev pub invariant-loop-i : goal.invariant-loop-i
+invariant-loop-i l = (l.i ≤ length l.all) × ((drop l.i l.all behind record { count = l.m; block = l.text }) ≡ (l.all behind record { count = l.n; block = l.initial.text }))
+
+abbrev pub decreases-loop-i : goal.decreases-loop-i
+decreases-loop-i l = length l.all - l.i

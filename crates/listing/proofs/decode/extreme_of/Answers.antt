@@ -1,0 +1,16 @@
+-- `listing::decode::extreme_of` meets its contract. Assumes nothing.
+use borrow.Author.Rules.{rules}
+use mathlib.Core.Path.{sym, ap, ◌∙◌}
+use mathlib.Core.Bool.{Bool}
+use Rattle.laws.specs.Pick.{pick}
+use Rattle.floats.specs.declared.Extreme.TheVariants.{Value}
+use Rattle.listing.specs.Words.{extreme_in}
+use Rattle.listing.proofs.decode.extreme_of.Goals as goal
+
+pub returns-then-shown : goal.returns-then-shown
+unfolding extreme_in pick
+returns-then-shown c = ap Value c.of_bits-x.ensures ∙ sym (ap (λ (b : Bool). extreme_in b c.args.bits) c.if-shown.true)
+
+pub returns : goal.returns
+unfolding extreme_in pick
+returns c = sym (ap (λ (b : Bool). extreme_in b c.args.bits) c.if-shown.false)

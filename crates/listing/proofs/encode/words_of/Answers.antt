@@ -1,0 +1,20 @@
+-- `listing::encode::words_of` meets its contract. Assumes nothing.
+use borrow.Author.Rules.{rules}
+use Prim.Native.Nat.{ℕ, ◌+◌, ◌*◌}
+use mathlib.Core.Path.{ap, ap₂, ◌∙◌}
+use Rattle.point.specs.declared.Figures.TheVariants.{Exponential, Explicit}
+use Rattle.laws.specs.Counting.{bit}
+use Rattle.listing.proofs.Cases.{words-by}
+use Rattle.listing.proofs.encode.words_of.Goals as goal
+
+pub returns-in-Exponential : goal.returns-in-Exponential
+returns-in-Exponential c =
+    words-by c.args.p c.args.b _ _ _ _
+    (ap₂ (λ (x y : ℕ). x + 2 * y) c.flag_of.ensures.0 (c.flag_of-2.ensures.0 ∙ ap bit c.is_shown.ensures))
+    c.shown_bits-low.ensures c.shown_bits-high.ensures c.bits_of-sum.ensures (Exponential _) c.f-1.given.1
+
+pub returns-in-Explicit : goal.returns-in-Explicit
+returns-in-Explicit c =
+    words-by c.args.p c.args.b _ _ _ _
+    (ap₂ (λ (x y : ℕ). x + 2 * y) c.flag_of.ensures.0 (c.flag_of-2.ensures.0 ∙ ap bit c.is_shown.ensures))
+    c.shown_bits-low.ensures c.shown_bits-high.ensures c.bits_of-sum.ensures (Explicit _) c.f-in-Explicit-1.given.1

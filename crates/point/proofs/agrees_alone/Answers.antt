@@ -1,0 +1,11 @@
+-- `point::agrees_alone` meets its contract. Assumes nothing.
+use mathlib.Core.Path.{◌∙◌}
+use Rattle.point.specs.Handing.{stored}
+use Rattle.point.proofs.Means.{agrees-alone}
+use borrow.Author.Rules.{rules}
+use Rattle.point.proofs.agrees_alone.Goals as goal
+
+pub returns : goal.returns
+returns c =
+    let a = c.args in
+    c.point_agrees.ensures ∙ agrees-alone (stored a.p a.bounds a.pos a.neg)

@@ -1,0 +1,6 @@
+use borrow.Author.Rules.{rules}
+use Rattle.point.proofs.explicit_point.Goals as goal
+
+-- the point that is handed out is that of the head's own counts
+pub returns : goal.returns
+returns c = c.Handed-out.ensures

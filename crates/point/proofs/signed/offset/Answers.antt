@@ -1,0 +1,12 @@
+-- `point::signed::offset` meets its contract. Assumes nothing.
+use mathlib.Core.Path.{sym, ap, ◌∙◌}
+use Rattle.point.specs.Signed.{offset_answer, offset_shown}
+use borrow.Author.Rules.{rules}
+use Rattle.point.proofs.signed.offset.Goals as goal
+
+pub returns-in-Exponential : goal.returns-in-Exponential
+returns-in-Exponential c =
+    let a = c.args in
+    c.row_offset.ensures
+    ∙ ap (offset_answer c.f-1.given.0.0.level) c.row_of-row.ensures
+    ∙ sym (ap (offset_shown a.negative) c.f-1.given.1)

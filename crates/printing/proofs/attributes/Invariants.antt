@@ -1,0 +1,23 @@
+-- `printing::attributes` meets its contract: what waits in the end is what the attributes left give from here. Assumes nothing.
+use Prim.Native.Nat.{◌-◌, ◌≤◌, ◌<◌}
+use mathlib.Core.Path.{◌≡◌, sym, ap, ◌∙◌}
+use mathlib.Core.List.{map}
+use native.Mathlib.Omega.{arith}
+use borrow.Author.Rules.{rules}
+use borrow.Author.Tests.{ltb-true, ltb-false}
+use Rattle.sets.specs.Rows.{pair, size}
+use Rattle.lines.specs.Gathered.{◌behind◌}
+use Rattle.lines.proofs.Gathering.{spelt}
+use Rattle.printing.specs.Fields.{joined, attribute_field}
+use Rattle.printing.proofs.Putting.{from, from_start, joined-turn, joined_end}
+use Rattle.printing.proofs.Sets.{eight, eight-length, eight-at}
+use Rattle.printing.proofs.attributes.Given as goal
+
+abbrev pub invariant-loop-i : goal.invariant-loop-i
+invariant-loop-i l =
+    (l.i ≤ 8)
+    × ((from 44 (map attribute_field (eight l.row)) l.i behind record { count = l.m; block = l.text })
+    ≡ (joined 44 (map attribute_field (eight l.row)) behind record { count = l.n; block = l.initial.text }))
+
+abbrev pub decreases-loop-i : goal.decreases-loop-i
+decreases-loop-i l = 8 - l.i

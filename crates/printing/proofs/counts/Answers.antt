@@ -1,0 +1,30 @@
+-- `printing::counts` meets its contract: what waits in the end is what the counts left give from here. Assumes nothing.
+use Prim.Native.Nat.{◌-◌, ◌≤◌}
+use mathlib.Core.Path.{◌≡◌, sym, ◌∙◌}
+use mathlib.Core.List.{map}
+use native.Mathlib.Omega.{arith}
+use lib.ListN.{length}
+use Rattle.lines.specs.Gathered.{◌behind◌}
+use Rattle.lines.specs.Written.{decimal}
+use Rattle.printing.specs.Fields.{joined}
+use Rattle.printing.proofs.Putting.{from, from_start, joined-turn, joined_end}
+use Rattle.printing.proofs.counts.Goals as goal
+
+pub loop-i-init : goal.loop-i-init
+loop-i-init c = (omega arith, from_start 44 (map decimal c.args.row.now) _)
+
+pub comma-a-requires : goal.comma-a-requires
+comma-a-requires c = tt
+
+pub decimal-m-requires : goal.decimal-m-requires
+decimal-m-requires c = tt
+
+pub loop-i-preserved : goal.loop-i-preserved
+loop-i-preserved c =
+    let l = c.loop-i in
+    (omega arith, joined-turn decimal c.args.row.now 44 l.i _ 0 c.loop-i-test.true c.comma-a.ensures c.decimal-m.ensures ∙ l.invariant.1)
+
+pub returns : goal.returns
+returns c =
+    let l = c.loop-i in
+    sym (joined_end decimal c.args.row.now 44 l.i _ c.loop-i-test.false) ∙ l.invariant.1

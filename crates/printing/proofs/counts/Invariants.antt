@@ -1,0 +1,19 @@
+-- `printing::counts` meets its contract: what waits in the end is what the counts left give from here. Assumes nothing.
+use Prim.Native.Nat.{◌-◌, ◌≤◌}
+use mathlib.Core.Path.{◌≡◌, sym, ◌∙◌}
+use mathlib.Core.List.{map}
+use native.Mathlib.Omega.{arith}
+use lib.ListN.{length}
+use Rattle.lines.specs.Gathered.{◌behind◌}
+use Rattle.lines.specs.Written.{decimal}
+use Rattle.printing.specs.Fields.{joined}
+use Rattle.printing.proofs.Putting.{from, from_start, joined-turn, joined_end}
+use Rattle.printing.proofs.counts.Given as goal
+
+abbrev pub invariant-loop-i : goal.invariant-loop-i
+invariant-loop-i l =
+    (l.i ≤ length l.row)
+    × ((from 44 (map decimal l.row) l.i behind record { count = l.m; block = l.text }) ≡ (joined 44 (map decimal l.row) behind record { count = l.n; block = l.initial.text }))
+
+abbrev pub decreases-loop-i : goal.decreases-loop-i
+decreases-loop-i l = length l.row - l.i

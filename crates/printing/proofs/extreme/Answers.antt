@@ -1,0 +1,25 @@
+-- `printing::extreme` meets its contract. Assumes nothing.
+use Prim.Native.Nat.{ℕ}
+use mathlib.Core.Path.{sym, ap, ◌∙◌}
+use mathlib.Core.List.{◌∷◌}
+use Rattle.text.specs.Numbers.{hex_digits}
+use Rattle.floats.specs.declared.Extreme.{Extreme}
+use Rattle.lines.specs.Gathered.{waiting}
+use Rattle.lines.proofs.Gathering.{spelt}
+use Rattle.printing.specs.Fields.{float_field, extreme_field}
+use borrow.Author.Rules.{rules}
+use Rattle.printing.proofs.extreme.Goals as goal
+
+pub returns-in-None : goal.returns-in-None
+returns-in-None c =
+    let a = c.args in
+    spelt (ap (λ (x : Extreme). 32 ∷ extreme_field x) (sym c.enum_told-1.given.1)) (waiting a.n a.text) c.bytes.ensures
+
+pub returns-in-Value : goal.returns-in-Value
+unfolding float_field
+returns-in-Value c =
+    let a = c.args in
+    spelt
+    (ap (λ (k : ℕ). 32 ∷ hex_digits 16 k) c.bits_of.ensures
+    ∙ ap (λ (x : Extreme). 32 ∷ extreme_field x) (sym c.x-1.given.1))
+    (waiting a.n a.text) c.bits.ensures

@@ -1,0 +1,35 @@
+-- `printing::integer` meets its contract. Assumes nothing.
+use mathlib.Core.Path.{sym, ap, ◌∙◌}
+use mathlib.Core.List.{[], ◌∷◌}
+use lib.IntN.{ℤ}
+use mir.Syntax.{w32}
+use mir.Val.{SFits}
+use Rattle.index.specs.declared.signed.Integer.{Integer}
+use Rattle.lines.specs.Gathered.{waiting}
+use Rattle.lines.specs.Written.{signed}
+use Rattle.lines.proofs.Gathering.{then, spelt}
+use Rattle.lines.proofs.Signs.{wide_fits, wide_is}
+use Rattle.printing.specs.Fields.{integer_field}
+use borrow.Author.Rules.{rules}
+use Rattle.printing.proofs.integer.Goals as goal
+
+pub overflow_cast-i : goal.overflow_cast-i
+overflow_cast-i c =
+    let z : ℤ = c.x-1.given.0.0 in
+    let f : SFits w32 z = search rules in
+    wide_fits z f
+
+pub returns-in-OutOfRange : goal.returns-in-OutOfRange
+returns-in-OutOfRange c =
+    let a = c.args in
+    let t = waiting a.n a.text in
+    spelt (ap (λ (i : Integer). 32 ∷ integer_field i) (sym c.enum_told-1.given.1)) t
+    (then (32 ∷ []) (45 ∷ []) t c.byte-m.ensures c.byte.ensures)
+
+pub returns-in-Is : goal.returns-in-Is
+returns-in-Is c =
+    let a = c.args in
+    let t = waiting a.n a.text in
+    let f : SFits w32 c.x-1.given.0.0 = search rules in
+    spelt (ap (λ (z : ℤ). 32 ∷ signed z) (wide_is c.x-1.given.0.0 f) ∙ ap (λ (i : Integer). 32 ∷ integer_field i) (sym c.x-1.given.1)) t
+    (then (32 ∷ []) _ t c.byte-m.ensures c.signed.ensures)

@@ -1,0 +1,16 @@
+-- `printing::line` meets its contract. Assumes nothing.
+use Rattle.lines.specs.Gathered.{waiting}
+use Rattle.lines.proofs.Gathering.{spelt}
+use Rattle.printing.proofs.Points.{in_form}
+use borrow.Author.Rules.{rules}
+use Rattle.printing.proofs.line.Goals as goal
+
+pub returns-in-Point : goal.returns-in-Point
+returns-in-Point c =
+    let a = c.args in
+    spelt (in_form c.enum_told-1.given.1 _ _) (waiting a.n a.text) c.point_line.ensures
+
+pub returns-in-Card : goal.returns-in-Card
+returns-in-Card c =
+    let a = c.args in
+    spelt (in_form c.enum_told-in-Card-1.given.1 _ _) (waiting a.n a.text) c.card_line.ensures

@@ -1,0 +1,27 @@
+-- `printing::point` meets its contract. Assumes nothing.
+use mathlib.Core.Path.{sym, ◌∙◌}
+use Rattle.listing.specs.Listed.{Output, output}
+use Rattle.lines.specs.Gathered.{waiting}
+use Rattle.lines.proofs.Gathering.{spelt}
+use Rattle.printing.proofs.Putting.{nothing}
+use Rattle.printing.proofs.Points.{none_found, no-set, point-found}
+use borrow.Author.Rules.{rules}
+use Rattle.printing.proofs.point.Goals as goal
+
+pub returns-in_default : goal.returns-in_default
+returns-in_default c =
+    let listed : Output = let a = c.args in output a.sets a.words a.pos a.neg in
+    let a = c.args in
+    let p = none_found a.form a.at (listed) a.bounds.now (sym c.point_at.ensures ∙ c.enum_told-1.given.1) in record { text_value = spelt p.0 (waiting a.n a.text) (nothing _); at_value = p.1 }
+
+pub returns-then-sets-k : goal.returns-then-sets-k
+returns-then-sets-k c =
+    let listed : Output = let a = c.args in output a.sets a.words a.pos a.neg in
+    let a = c.args in
+    let p = no-set a.form a.at (listed) a.bounds.now c.e-1.given.0.0 (sym c.point_at.ensures ∙ c.e-1.given.1) c.if-sets-k.true in record { text_value = spelt p.0 (waiting a.n a.text) (nothing _); at_value = p.1 }
+
+pub returns : goal.returns
+returns c =
+    let listed : Output = let a = c.args in output a.sets a.words a.pos a.neg in
+    let a = c.args in
+    let p = point-found a.form a.at (listed) a.bounds.now c.e-1.given.0.0 (sym c.point_at.ensures ∙ c.e-1.given.1) c.if-sets-k.false in record { text_value = spelt p.0 (waiting a.n a.text) c.line.ensures; at_value = p.1 }

@@ -1,0 +1,18 @@
+-- `printing::values` meets its contract: what waits in the end is what the points left give from here. Assumes nothing.
+use Prim.Native.Nat.{◌-◌, ◌≤◌}
+use mathlib.Core.Path.{◌≡◌, sym, ◌∙◌}
+use native.Mathlib.Omega.{arith}
+use Rattle.lines.specs.Gathered.{waiting, ◌behind◌}
+use Rattle.lines.proofs.Gathering.{then}
+use Rattle.printing.specs.Printed.{values_from, collection_head, value_lines}
+use Rattle.printing.proofs.Singles.{values-start, values-turn, values-end}
+use Rattle.printing.proofs.values.Given as goal
+
+abbrev pub invariant-loop-i : goal.invariant-loop-i
+invariant-loop-i l =
+    (l.i ≤ l.many)
+    × ((values_from (l.many - l.i) l.i l.sets l.values behind record { count = l.m; block = l.text })
+    ≡ (values_from l.many 0 l.sets l.values behind record { count = l.initial.m; block = l.initial.text }))
+
+abbrev pub decreases-loop-i : goal.decreases-loop-i
+decreases-loop-i l = l.many - l.i

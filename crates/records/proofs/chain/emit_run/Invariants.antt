@@ -1,0 +1,16 @@
+-- `records::chain::emit_run` meets its contract. Assumes nothing.
+use borrow.Author.Rules.{rules}
+use mathlib.Core.Path.{◌≡◌, refl, ap, ◌∙◌}
+use Prim.Native.Nat.{ℕ, ◌+◌, ◌-◌, ◌≤◌}
+use native.Mathlib.Omega.{arith}
+use lib.ListN.{length, get_or, take}
+use lib.Seq.{take-length}
+use Rattle.records.specs.Inner.{laid}
+use Rattle.records.proofs.Laid.{length-emitted, place-room, turn-run}
+use Rattle.records.proofs.chain.emit_run.Given as goal
+
+abbrev pub invariant-loop-i : goal.invariant-loop-i
+invariant-loop-i l = (l.i ≤ length l.xs) × (l.s ≡ laid l.info l.n l.k (take l.i l.xs) l.initial.s) × (length l.s ≡ length l.initial.s)
+
+abbrev pub decreases-loop-i : goal.decreases-loop-i
+decreases-loop-i l = length l.xs - l.i

@@ -1,0 +1,21 @@
+-- `replay_batches::explicit_lines::follow` meets its contract. Assumes nothing.
+use mathlib.Core.Path.{◌∙◌}
+use borrow.Author.Rules.{rules}
+use borrow.Author.Tests.{eq-eqb, ne_eqb}
+use Rattle.replay_batches.proofs.Calls.{batches-none, batches-set, batches-handle, batches-other}
+use Rattle.replay_batches.proofs.explicit_lines.follow.Goals as goal
+
+pub returns-then-s-ne120 : goal.returns-then-s-ne120
+returns-then-s-ne120 c = batches-none _ _ _ (ne_eqb _ _ c.if-s-ne120.true)
+
+pub returns-in-82 : goal.returns-in-82
+returns-in-82 c =
+    c.measure_all.ensures ∙ batches-set _ _ _ (eq-eqb _ _ c.if-s-ne120.false) c.in-82.keys1
+
+pub returns-in-72 : goal.returns-in-72
+returns-in-72 c =
+    c.measure_all_by.ensures ∙ batches-handle _ _ _ (eq-eqb _ _ c.if-s-ne120.false) c.in-72.keys2
+
+pub returns-in_default : goal.returns-in_default
+returns-in_default c =
+    batches-other _ _ _ (eq-eqb _ _ c.if-s-ne120.false) c.in_default.rest.0.1 c.in_default.rest.1

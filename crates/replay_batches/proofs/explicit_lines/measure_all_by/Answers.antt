@@ -1,0 +1,17 @@
+-- `replay_batches::explicit_lines::measure_all_by` meets its contract. Assumes nothing.
+use mathlib.Core.Path.{◌∙◌}
+use borrow.Author.Rules.{rules}
+use Rattle.value_map.specs.Explicit.{explicit_store}
+use Rattle.replay_state.proofs.Same.{stores-are}
+use Rattle.replay_explicit.specs.Followed.{bounds_in}
+use Rattle.replay_explicit.proofs.Calls.{series-are}
+use Rattle.replay_batches.proofs.Calls.{takes-all-by, of-bounds-by}
+use Rattle.replay_batches.proofs.explicit_lines.measure_all_by.Goals as goal
+
+pub returns : goal.returns
+returns c =
+    let a = c.args in
+    c.batched.ensures
+    ∙ takes-all-by (explicit_store (bounds_in a.t1 a.bounds.now)) a.t1 _ _ _ _ _ _ (stores-are c.sets.ensures c.entries.ensures c.order.ensures)
+    (series-are c.totals.ensures c.extremes.ensures c.counts.ensures) c.floats_in.ensures
+    _ (c.measure_all_by-reply.ensures ∙ of-bounds-by c.bounds_in.ensures _ _ _ _)

@@ -1,0 +1,15 @@
+-- `replay_exponential::measure` meets its contract. Assumes nothing.
+use mathlib.Core.Path.{◌∙◌}
+use borrow.Author.Rules.{rules}
+use Rattle.replay_state.proofs.Same.{stores-are}
+use Rattle.replay_exponential.proofs.Calls.{same-cells, measures}
+use Rattle.replay_exponential.proofs.measure.Goals as goal
+
+pub returns : goal.returns
+returns c =
+    let a = c.args in
+    c.done.ensures
+    ∙ measures a.t1 _ _ _ _ (stores-are c.sets.ensures c.entries.ensures c.order.ensures)
+    (same-cells c.figures.ensures c.extremes.ensures c.counts.ensures c.counts-2.ensures)
+    c.of_bits.result c.given.result.now _ c.keys.result.now c.of_bits.ensures c.given.ensures c.keys.ensures _
+    c.measure-reply.ensures

@@ -1,0 +1,18 @@
+-- `replay_exponential::scale_of` meets its contract. Assumes nothing.
+use mathlib.Core.Path.{sym, ◌∙◌}
+use mir.Syntax.{w32}
+use mir.Val.{SFits}
+use mir.ValLaws.{to_z-of_z}
+use borrow.Author.Rules.{rules}
+use Rattle.replay_exponential.proofs.Scales.{scale-found}
+use Rattle.replay_exponential.proofs.scale_of.Goals as goal
+
+pub returns-in-OutOfRange : goal.returns-in-OutOfRange
+returns-in-OutOfRange c =
+    scale-found c.args.n _ _ c.cut-bin.ensures (sym c.enum_told-1.given.1 ∙ c.index_of-found.ensures)
+
+pub returns-in-Is : goal.returns-in-Is
+returns-in-Is c =
+    let h : SFits w32 c.found-1.given.0.0 = search rules in
+    to_z-of_z w32 c.found-1.given.0.0 h
+    ∙ scale-found c.args.n _ _ c.cut-bin.ensures (sym c.found-1.given.1 ∙ c.index_of-found.ensures)

@@ -1,0 +1,21 @@
+-- `replay_exponential_wholes::cumulative` meets its contract. Assumes nothing.
+use Prim.Native.Nat.{ℕ}
+use mathlib.Core.Path.{ap, ◌∙◌}
+use lib.ListN.{take}
+use borrow.Author.Rules.{rules}
+use Rattle.replay_state.proofs.Same.{stores-are}
+use Rattle.replay_exponential.proofs.Calls.{same-output}
+use Rattle.replay_exponential_wholes.proofs.Calls.{same-cells, lists-cumulative}
+use Rattle.replay_exponential_wholes.proofs.cumulative.Goals as goal
+
+pub returns : goal.returns
+returns c =
+    let a = c.args in
+    c.collected.ensures
+    ∙ lists-cumulative a.t1 _ _ _ _ (stores-are c.sets_in.ensures c.entries_in.ensures c.order_in.ensures)
+    (same-cells c.figures_in.ensures c.wholes_in.ensures c.counts_in.ensures c.counts_in-2.ensures)
+    c.settings.result c.settings.ensures _ _
+    (same-output (c.sets.ensures ∙ ap (λ (k : ℕ). take k a.out-sets.now) c.within-i.ensures)
+    (c.words.ensures ∙ ap (λ (k : ℕ). take k a.out-words.now) c.within-i.ensures)
+    (c.counts.ensures ∙ ap (λ (k : ℕ). take k a.out-pos.now) c.within-j.ensures)
+    (c.counts-2.ensures ∙ ap (λ (k : ℕ). take k a.out-neg.now) c.within-j.ensures)) _ c.cumulative-answer.ensures

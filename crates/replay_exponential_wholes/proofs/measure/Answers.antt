@@ -1,0 +1,19 @@
+-- `replay_exponential_wholes::measure` meets its contract. Assumes nothing.
+use mathlib.Core.Path.{◌∙◌}
+use mir.Syntax.{w64}
+use mir.Val.{SFits}
+use borrow.Author.Rules.{rules}
+use Rattle.integers.proofs.Range.{held}
+use Rattle.replay_state.proofs.Same.{stores-are}
+use Rattle.replay_exponential_wholes.proofs.Calls.{same-cells, measures}
+use Rattle.replay_exponential_wholes.proofs.measure.Goals as goal
+
+pub returns : goal.returns
+returns c =
+    let value-fits : SFits w64 c.of_bits.result = search rules in
+    let a = c.args in
+    c.done.ensures
+    ∙ measures a.t1 _ _ _ _ (stores-are c.sets.ensures c.entries.ensures c.order.ensures)
+    (same-cells c.figures.ensures c.wholes.ensures c.counts.ensures c.counts-2.ensures)
+    _ c.given.result.now _ c.keys.result.now (held c.of_bits.result (value-fits) ∙ c.of_bits.ensures) c.given.ensures c.keys.ensures _
+    c.measure-reply.ensures

@@ -1,0 +1,75 @@
+-- `seats::seat` meets its contract. Assumes nothing.
+use borrow.Author.Rules.{rules}
+use Prim.Native.Nat.{ℕ, ◌+◌}
+use mathlib.Core.Path.{◌≡◌, ap, sym, ◌∙◌}
+use mathlib.Core.Bool.{Bool, ◌&&◌}
+use mathlib.Core.List.{List}
+use mathlib.Core.Option.{Option}
+use native.Mathlib.Omega.{arith}
+use lib.Dec.{eqb, leb}
+use lib.ListN.{length, length-map}
+use Rattle.laws.proofs.Cases.{and-true}
+use Rattle.tally.specs.Sets.{canonical}
+use Rattle.sets.specs.Rows.{row_of}
+use Rattle.sets.specs.Sorted.{attribute, given, filter_of}
+use Rattle.directory.specs.View.{Stores, stores}
+use Rattle.directory.specs.Calls.{accepts, stores_suffice}
+use Rattle.directory.proofs.Refusals.{suffices}
+use Rattle.seats.specs.Seats.{away, barred_by, seated}
+use Rattle.seats.specs.Inner.{barred_at}
+use Rattle.seats.specs.declared.Seating.{Seating}
+use Rattle.seats.proofs.Bars.{Clear, clear, barred-away, barred-on, row_kept, row_written}
+use Rattle.seats.proofs.seat.Goals as goal
+
+pub returns-then-no-ne0 : goal.returns-then-no-ne0
+returns-then-no-ne0 c =
+    let lent : Stores = stores c.args.sets c.args.entries c.args.order in
+    let attrs : List (ℕ × ℕ) = given c.args.attrs.now in
+    let filter : Option (List ℕ) = filter_of c.args.present c.args.filter.now in
+    let first : ℕ = let a = c.args in barred_at a.cells a.value a.unset a.limit (lent) (length (attrs)) (accepts a.limit (filter)) in
+    let number : c.barred-no.result ≡ first = 
+    c.barred-no.ensures
+    ∙ (λ j. barred_by (c.suffices-lent.ensures j) c.args.value (sym (length-map c.args.attrs.now attribute) j) (eqb c.args.unset 0 && c.accepted-ok.ensures j)) in
+    let set_row : List ℕ = row_of (canonical (filter) (attrs)) in
+    let goes : Seating = seated c.args.limit c.args.d (lent) (set_row) in
+    let d : first ≡ 0 → ⊥ = λ z. c.if-no-ne0.true (number ∙ z) in record { value = c.refused.ensures ∙ ap away (number) ∙ sym (barred-away (first) (goes) d); row_after = row_kept (first) (set_row) c.args.row.now d }
+
+pub sort_into-requires : goal.sort_into-requires
+sort_into-requires c =
+    let lent : Stores = stores c.args.sets c.args.entries c.args.order in
+    let room : Bool = stores_suffice c.args.limit (lent) && leb (c.args.limit + 2) c.args.cells in
+    let attrs : List (ℕ × ℕ) = given c.args.attrs.now in
+    let filter : Option (List ℕ) = filter_of c.args.present c.args.filter.now in
+    let first : ℕ = let a = c.args in barred_at a.cells a.value a.unset a.limit (lent) (length (attrs)) (accepts a.limit (filter)) in
+    let number : c.barred-no.result ≡ first = 
+    c.barred-no.ensures
+    ∙ (λ j. barred_by (c.suffices-lent.ensures j) c.args.value (sym (length-map c.args.attrs.now attribute) j) (eqb c.args.unset 0 && c.accepted-ok.ensures j)) in
+    let known : Clear (room) c.args.value (length (attrs)) (eqb c.args.unset 0 && accepts c.args.limit (filter)) = clear _ _ _ _ (sym (number) ∙ c.if-no-ne0.false) in
+    omega (arith, (known).few, length-map c.args.attrs.now attribute)
+
+pub seat_in-requires : goal.seat_in-requires
+seat_in-requires c =
+    let lent : Stores = stores c.args.sets c.args.entries c.args.order in
+    let room : Bool = stores_suffice c.args.limit (lent) && leb (c.args.limit + 2) c.args.cells in
+    let attrs : List (ℕ × ℕ) = given c.args.attrs.now in
+    let filter : Option (List ℕ) = filter_of c.args.present c.args.filter.now in
+    let first : ℕ = let a = c.args in barred_at a.cells a.value a.unset a.limit (lent) (length (attrs)) (accepts a.limit (filter)) in
+    let number : c.barred-no.result ≡ first = 
+    c.barred-no.ensures
+    ∙ (λ j. barred_by (c.suffices-lent.ensures j) c.args.value (sym (length-map c.args.attrs.now attribute) j) (eqb c.args.unset 0 && c.accepted-ok.ensures j)) in
+    let known : Clear (room) c.args.value (length (attrs)) (eqb c.args.unset 0 && accepts c.args.limit (filter)) = clear _ _ _ _ (sym (number) ∙ c.if-no-ne0.false) in
+    let l = suffices c.args.limit (lent) (and-true (stores_suffice c.args.limit (lent)) (leb (c.args.limit + 2) c.args.cells) (known).room-is).0 in
+    (l.sets, l.entries, l.order, c.sort_into.ensures.1)
+
+pub returns : goal.returns
+returns c =
+    let lent : Stores = stores c.args.sets c.args.entries c.args.order in
+    let attrs : List (ℕ × ℕ) = given c.args.attrs.now in
+    let filter : Option (List ℕ) = filter_of c.args.present c.args.filter.now in
+    let first : ℕ = let a = c.args in barred_at a.cells a.value a.unset a.limit (lent) (length (attrs)) (accepts a.limit (filter)) in
+    let number : c.barred-no.result ≡ first = 
+    c.barred-no.ensures
+    ∙ (λ j. barred_by (c.suffices-lent.ensures j) c.args.value (sym (length-map c.args.attrs.now attribute) j) (eqb c.args.unset 0 && c.accepted-ok.ensures j)) in
+    let set_row : List ℕ = row_of (canonical (filter) (attrs)) in
+    let goes : Seating = seated c.args.limit c.args.d (lent) (set_row) in
+    let z : first ≡ 0 = sym (number) ∙ c.if-no-ne0.false in record { value = c.seat_in.ensures ∙ ap (seated c.args.limit c.args.d (lent)) c.sort_into.ensures.0 ∙ sym (barred-on (first) (goes) z); row_after = c.sort_into.ensures.0 ∙ row_written (first) (set_row) c.args.row.now z }

@@ -1,0 +1,53 @@
+-- `seats::seat_right` meets its contract. Assumes nothing.
+use borrow.Author.Rules.{rules}
+use mathlib.Core.Path.{◌≡◌, sym, ◌∙◌}
+use native.Mathlib.Omega.{arith}
+use Rattle.directory.specs.View.{Stores}
+use Rattle.directory.specs.Calls.{located}
+use Rattle.directory.specs.declared.Target.TheVariants.{Disagrees, Old, New, Over}
+use Rattle.directory.proofs.Located.{new-there, over-there}
+use Rattle.seats.proofs.Seatings.{seat-is, old-safe}
+use Rattle.seats.proofs.seat_right.Goals as goal
+
+pub held_seat-requires : goal.held_seat-requires
+held_seat-requires c =
+    let stores : Stores = record { sets = c.args.sets.now; entries = c.args.entries.now; order = c.args.order.now } in
+    let old : located c.args.limit c.args.d (stores) c.args.row.now ≡ Old c.t-1.given.0.0 = sym c.locate_agreed-t.ensures ∙ c.t-1.given.1 in
+    (old-safe c.args.limit c.args.d (stores) c.args.row.now c.t-1.given.0.0 (old) c.requires.1).1
+
+pub new_seat-requires : goal.new_seat-requires
+new_seat-requires c =
+    let stores : Stores = record { sets = c.args.sets.now; entries = c.args.entries.now; order = c.args.order.now } in
+    let new : located c.args.limit c.args.d (stores) c.args.row.now ≡ New c.t-in-New-1.given.0.0 = sym c.locate_agreed-t.ensures ∙ c.t-in-New-1.given.1 in
+    let n = new-there c.args.limit c.args.d (stores) c.args.row.now c.t-in-New-1.given.0.0 (new) in
+    omega (arith, n.1, c.requires.0)
+
+pub new_seat-requires-in-Over : goal.new_seat-requires-in-Over
+new_seat-requires-in-Over c =
+    let stores : Stores = record { sets = c.args.sets.now; entries = c.args.entries.now; order = c.args.order.now } in
+    let over : located c.args.limit c.args.d (stores) c.args.row.now ≡ Over c.t-in-Over-1.given.0.0 = sym c.locate_agreed-t.ensures ∙ c.t-in-Over-1.given.1 in
+    let n = over-there c.args.limit c.args.d (stores) c.args.row.now c.t-in-Over-1.given.0.0 (over) in
+    omega (arith, n.1, c.requires.0)
+
+pub returns-in-Disagrees : goal.returns-in-Disagrees
+returns-in-Disagrees c =
+    let stores : Stores = record { sets = c.args.sets.now; entries = c.args.entries.now; order = c.args.order.now } in
+    c.refused.ensures ∙ sym (seat-is c.args.limit c.args.d (stores) c.args.row.now Disagrees (sym c.locate_agreed-t.ensures ∙ c.enum_told-1.given.1))
+
+pub returns-in-Old : goal.returns-in-Old
+returns-in-Old c =
+    let stores : Stores = record { sets = c.args.sets.now; entries = c.args.entries.now; order = c.args.order.now } in
+    let old : located c.args.limit c.args.d (stores) c.args.row.now ≡ Old c.t-1.given.0.0 = sym c.locate_agreed-t.ensures ∙ c.t-1.given.1 in
+    c.held_seat.ensures ∙ sym (seat-is c.args.limit c.args.d (stores) c.args.row.now (Old c.t-1.given.0.0) (old))
+
+pub returns-in-New : goal.returns-in-New
+returns-in-New c =
+    let stores : Stores = record { sets = c.args.sets.now; entries = c.args.entries.now; order = c.args.order.now } in
+    let new : located c.args.limit c.args.d (stores) c.args.row.now ≡ New c.t-in-New-1.given.0.0 = sym c.locate_agreed-t.ensures ∙ c.t-in-New-1.given.1 in
+    c.new_seat.ensures ∙ sym (seat-is c.args.limit c.args.d (stores) c.args.row.now (New c.t-in-New-1.given.0.0) (new))
+
+pub returns-in-Over : goal.returns-in-Over
+returns-in-Over c =
+    let stores : Stores = record { sets = c.args.sets.now; entries = c.args.entries.now; order = c.args.order.now } in
+    let over : located c.args.limit c.args.d (stores) c.args.row.now ≡ Over c.t-in-Over-1.given.0.0 = sym c.locate_agreed-t.ensures ∙ c.t-in-Over-1.given.1 in
+    c.new_seat-in-Over.ensures ∙ sym (seat-is c.args.limit c.args.d (stores) c.args.row.now (Over c.t-in-Over-1.given.0.0) (over))

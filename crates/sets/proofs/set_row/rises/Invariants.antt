@@ -1,0 +1,17 @@
+-- `sets::set_row::rises` meets its contract. Assumes nothing.
+use borrow.Author.Rules.{rules}
+use Prim.Native.Nat.{ℕ, ◌-◌, ◌≤◌}
+use mathlib.Core.Path.{◌≡◌, sym, subst}
+use mathlib.Core.Bool.{true}
+use native.Mathlib.Omega.{arith}
+use borrow.Author.Tests.{lt-ltb, le-ltb}
+use Rattle.sets.specs.All.{allb}
+use Rattle.sets.specs.Rows.{key_at}
+use Rattle.sets.proofs.Alls.{allb-yes, allb-more, allb-no}
+use Rattle.sets.proofs.set_row.rises.Given as goal
+
+abbrev pub invariant-loop-i : goal.invariant-loop-i
+invariant-loop-i l = (l.i ≤ l.n - 1) × (1 ≤ l.n) × (l.n ≤ 8) × (allb l.i (key_at l.row) ≡ true)
+
+abbrev pub decreases-loop-i : goal.decreases-loop-i
+decreases-loop-i l = l.n - l.i

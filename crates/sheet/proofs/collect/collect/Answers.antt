@@ -1,0 +1,38 @@
+-- `sheet::collect::collect` meets its contract. Assumes nothing.
+use mathlib.Core.Path.{sym, ◌∙◌}
+use borrow.Author.Rules.{rules}
+use Rattle.directory.specs.View.{Stores, stores}
+use Rattle.exponential_slots.specs.Cells.{Cells, cells}
+use Rattle.pooling.specs.Lists.{Source, source}
+use Rattle.sheet.proofs.Following.{collect-refused, collect-none, collect-made}
+use Rattle.sheet.proofs.collect.collect.Goals as goal
+
+pub returns-in_default : goal.returns-in_default
+returns-in_default c =
+    let dirs : Stores = let a = c.args in stores a.sets a.entries a.order in
+    let lent : Cells = let a = c.args in cells a.figures a.extremes a.pos a.neg in
+    let outs : Source = let a = c.args in source a.out-sets a.out-words a.out-pos a.out-neg a.bounds in
+    let a = c.args in
+    collect-refused a.g a.line.now a.n a.text.now (dirs) (lent) (outs) a.sheet.now
+    (sym c.time_in.ensures ∙ c.enum_told-1.given.1) c.ended.result c.ended.ensures
+
+pub returns-in-Refused : goal.returns-in-Refused
+returns-in-Refused c =
+    let dirs : Stores = let a = c.args in stores a.sets a.entries a.order in
+    let lent : Cells = let a = c.args in cells a.figures a.extremes a.pos a.neg in
+    let outs : Source = let a = c.args in source a.out-sets a.out-words a.out-pos a.out-neg a.bounds in
+    let a = c.args in
+    collect-none a.g a.line.now a.n a.text.now (dirs) (lent) (outs) a.sheet.now c.time-1.given.0.0
+    (sym c.time_in.ensures ∙ c.time-1.given.1) c.delta-reply.result.answer c.delta-reply.result.dir _ _ c.delta-reply.ensures
+    _ c.answer-1.given.1 c.ended-in-Refused.result c.ended-in-Refused.ensures
+
+pub returns-in-Listed : goal.returns-in-Listed
+returns-in-Listed c =
+    let dirs : Stores = let a = c.args in stores a.sets a.entries a.order in
+    let lent : Cells = let a = c.args in cells a.figures a.extremes a.pos a.neg in
+    let outs : Source = let a = c.args in source a.out-sets a.out-words a.out-pos a.out-neg a.bounds in
+    let a = c.args in
+    collect-made a.g a.line.now a.n a.text.now (dirs) (lent) (outs) a.sheet.now c.time-1.given.0.0
+    (sym c.time_in.ensures ∙ c.time-1.given.1) c.delta-reply.result.answer c.delta-reply.result.dir _ _ c.delta-reply.ensures
+    c.answer-in-Listed-1.given.0.0 c.answer-in-Listed-1.given.1 c.turned-t.result c.turned-t.ensures
+    c.write-end.result _ _ c.write-end.ensures c.ended-in-Listed.result c.ended-in-Listed.ensures

@@ -1,0 +1,18 @@
+-- `sheet_reading::words::read_floats` meets its contract. Assumes nothing.
+use borrow.Author.Rules.{rules}
+use Prim.Native.Nat.{ℕ, ◌+◌, ◌-◌, ◌≤◌}
+use mathlib.Core.Path.{◌≡◌, refl, sym, ap, ◌∙◌}
+use native.Mathlib.Omega.{arith}
+use lib.ListN.{length, take, length-set}
+use lib.Seq.{take-length}
+use Rattle.records.specs.Inner.{cell_at}
+use Rattle.records.proofs.Laid.{cell_room}
+use Rattle.sheet_reading.specs.Inner.{floats_at}
+use Rattle.sheet_reading.proofs.FloatLaws.{turn_floats}
+use Rattle.sheet_reading.proofs.words.read_floats.Given as goal
+
+abbrev pub invariant-loop-i : goal.invariant-loop-i
+invariant-loop-i l = (l.i ≤ length l.initial.out) × (length l.out ≡ length l.initial.out) × (take l.i l.out ≡ floats_at l.s l.k l.i)
+
+abbrev pub decreases-loop-i : goal.decreases-loop-i
+decreases-loop-i l = length l.initial.out - l.i

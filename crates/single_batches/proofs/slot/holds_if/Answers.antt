@@ -1,0 +1,7 @@
+-- `single_batches::slot::holds_if` meets its contract. Assumes nothing.
+use borrow.Author.Rules.{rules}
+use mathlib.Core.Path.{sym}
+use Rattle.single_batches.proofs.slot.holds_if.Goals as goal
+
+pub returns-then-known : goal.returns-then-known
+returns-then-known c = sym (c.requires c.if-known.true)

@@ -1,0 +1,56 @@
+-- `singles::collect::delta` meets its contract. Assumes nothing.
+use mathlib.Core.Path.{sym, ◌∙◌}
+use mathlib.Core.Bool.{false}
+use mathlib.Core.List.{List}
+use lib.Ieee.{Float}
+use borrow.Author.Rules.{rules}
+use Rattle.directory.specs.View.{stores}
+use Rattle.value_map.specs.Calls.{Held, held}
+use Rattle.listing.specs.Listed.{Output}
+use Rattle.collecting.specs.Lister.{Lister}
+use Rattle.collecting.specs.Slots.{walked}
+use Rattle.collecting.proofs.Ends.{delta-refused, delta-done}
+use Rattle.collecting.proofs.Decides.{listable, sweeps, listed-is}
+use Rattle.singles.specs.Stores.{single_store}
+use Rattle.singles.specs.Points.{output, single_lister}
+use Rattle.singles.proofs.Owes.{owed}
+use Rattle.singles.proofs.Alike.{listable-sums}
+use Rattle.singles.proofs.collect.delta.Goals as goal
+
+pub number-no-requires : goal.number-no-requires
+number-no-requires c = c.requires
+
+pub returns-then-no-ne0 : goal.returns-then-no-ne0
+returns-then-no-ne0 c =
+    let L : Lister (single_store c.args.s.aggregation) = single_lister c.args.s.aggregation in
+    let map : Held (List Float) = let a = c.args in held a.d (stores a.sets a.entries a.order) a.values.now in
+    let out : Output = output c.args.out-sets c.args.out-values in
+    delta-refused (L) tt c.args.s.limit (map) (out) c.number-no.result c.number-no.ensures c.if-no-ne0.true
+
+pub list-end-requires : goal.list-end-requires
+list-end-requires c =
+    let out : Output = output c.args.out-sets c.args.out-values in
+    let L : Lister (single_store c.args.s.aggregation) = single_lister c.args.s.aggregation in
+    let map : Held (List Float) = let a = c.args in held a.d (stores a.sets a.entries a.order) a.values.now in
+    let a = c.args in
+    let m = walked a.d.used a.sets.now a.entries.now a.order.now a.values.now in
+    listable-sums a.s.aggregation false m (out)
+    (listable (L) (owed a.s.aggregation) tt false a.s.limit (map) (out) c.number-no.result c.number-no.ensures
+    c.if-no-ne0.false)
+
+pub sweep-dir-requires : goal.sweep-dir-requires
+sweep-dir-requires c =
+    let L : Lister (single_store c.args.s.aggregation) = single_lister c.args.s.aggregation in
+    let map : Held (List Float) = let a = c.args in held a.d (stores a.sets a.entries a.order) a.values.now in
+    let out : Output = output c.args.out-sets c.args.out-values in
+    let a = c.args in
+    sweeps (L) (owed a.s.aggregation) tt false a.s.limit (map) (out) c.number-no.result c.number-no.ensures c.if-no-ne0.left
+
+pub returns : goal.returns
+returns c =
+    let L : Lister (single_store c.args.s.aggregation) = single_lister c.args.s.aggregation in
+    let map : Held (List Float) = let a = c.args in held a.d (stores a.sets a.entries a.order) a.values.now in
+    let out : Output = output c.args.out-sets c.args.out-values in
+    let a = c.args in
+    delta-done (L) tt a.s.limit (map) (out) _ _ (sym c.number-no.ensures ∙ c.if-no-ne0.left)
+    (listed-is (L) (owed a.s.aggregation) tt false a.s.limit (map) (out) _ c.list-end.ensures) c.sweep-dir.ensures

@@ -1,0 +1,55 @@
+-- `singles::collect::number` meets its contract. Assumes nothing.
+use Prim.Native.Nat.{ℕ}
+use mathlib.Core.Path.{refl, sym, ap, ◌∙◌}
+use mathlib.Core.List.{List}
+use mathlib.Core.Option.{none}
+use lib.Ieee.{Float}
+use lib.ListN.{length}
+use borrow.Author.Rules.{rules}
+use Rattle.directory.specs.View.{stores}
+use Rattle.value_map.specs.Calls.{Held, held}
+use Rattle.listing.specs.Listed.{Output}
+use Rattle.collecting.specs.Lister.{Lister}
+use Rattle.collecting.specs.Slots.{surveyed_by}
+use Rattle.collecting.proofs.Decides.{number-first, walk_here, number-then}
+use Rattle.collecting.proofs.Sure.{unbarred, walk-known}
+use Rattle.singles.specs.Stores.{single_store}
+use Rattle.singles.specs.Points.{output, single_lister}
+use Rattle.singles.proofs.Owes.{owed}
+use Rattle.singles.proofs.Alike.{words_long}
+use Rattle.singles.proofs.collect.number.Goals as goal
+
+pub barred-no-requires : goal.barred-no-requires
+barred-no-requires c k =
+    let map : Held (List Float) = let a = c.args in held a.d (stores a.sets a.entries a.order) a.values.now in
+    let a = c.args in
+    unbarred (single_store a.s.aggregation) tt a.s.limit none (map) (c.requires k) c.suffices-room.result 0 c.suffices-room.ensures refl
+
+pub returns-then-no-ne0 : goal.returns-then-no-ne0
+returns-then-no-ne0 c =
+    let L : Lister (single_store c.args.s.aggregation) = single_lister c.args.s.aggregation in
+    let map : Held (List Float) = let a = c.args in held a.d (stores a.sets a.entries a.order) a.values.now in
+    let out : Output = output c.args.out-sets c.args.out-values in
+    let a = c.args in
+    number-first (L) (owed a.s.aggregation) tt a.cumulative a.s.limit (map) (out)
+    c.suffices-room.result 0 c.barred-no.result c.suffices-room.ensures refl c.barred-no.ensures c.if-no-ne0.true
+
+pub survey-found-requires : goal.survey-found-requires
+survey-found-requires c =
+    let L : Lister (single_store c.args.s.aggregation) = single_lister c.args.s.aggregation in
+    let map : Held (List Float) = let a = c.args in held a.d (stores a.sets a.entries a.order) a.values.now in
+    let out : Output = output c.args.out-sets c.args.out-values in
+    let a = c.args in record { walk = walk_here (L) (owed a.s.aggregation) tt a.cumulative a.s.limit (map) (out)
+          c.suffices-room.result 0 c.barred-no.result c.suffices-room.ensures refl c.barred-no.ensures c.if-no-ne0.false; all_known = walk-known (single_store a.s.aggregation) tt a.s.limit none (map) a.known c.requires tt (λ x. refl) }
+
+pub returns : goal.returns
+returns c =
+    let L : Lister (single_store c.args.s.aggregation) = single_lister c.args.s.aggregation in
+    let map : Held (List Float) = let a = c.args in held a.d (stores a.sets a.entries a.order) a.values.now in
+    let out : Output = output c.args.out-sets c.args.out-values in
+    let a = c.args in
+    number-then (L) (owed a.s.aggregation) tt a.cumulative a.s.limit (map) (out)
+    c.suffices-room.result 0 c.barred-no.result c.suffices-room.ensures refl c.barred-no.ensures c.if-no-ne0.false
+    tt (λ x. refl) c.survey-found.result c.number_of.result c.survey-found.ensures
+    (c.number_of.ensures
+    ∙ ap (λ (n : ℕ). surveyed_by c.survey-found.result (length a.out-sets.now) n 0 0) (sym (words_long a.out-values.now)))

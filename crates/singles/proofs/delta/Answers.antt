@@ -1,0 +1,9 @@
+-- `singles::delta` meets its contract. Assumes nothing.
+use borrow.Author.Rules.{rules}
+use mathlib.Core.Path.{sym}
+use Rattle.laws.proofs.Cases.{true-not-false}
+use Rattle.singles.proofs.delta.Goals as goal
+
+-- nothing is known
+pub delta-requires : goal.delta-requires
+delta-requires c known = true-not-false (sym known)

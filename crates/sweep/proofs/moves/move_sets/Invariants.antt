@@ -1,0 +1,19 @@
+-- `sweep::moves::move_sets` meets its contract. Assumes nothing.
+use borrow.Author.Rules.{rules}
+use native.Mathlib.Omega.{arith}
+use mathlib.Core.Path.{◌≡◌, refl, ap, sym, ◌∙◌}
+use Prim.Native.Nat.{ℕ, suc, ◌+◌, ◌-◌, ◌≤◌}
+use mathlib.Core.List.{[]}
+use lib.ListN.{length, get_or}
+use lib.Seq.{set-get_or}
+use Rattle.sweep.specs.Passes.{mark_in, settled}
+use Rattle.sweep.proofs.Marks.{moved_length}
+use Rattle.sweep.proofs.Turns.{settles}
+use Rattle.sweep.proofs.moves.move_sets.Given as goal
+
+abbrev pub invariant-loop-x : goal.invariant-loop-x
+invariant-loop-x l =
+    (l.x ≤ l.used) × (length l.sets ≡ length l.initial.sets) × (l.sets ≡ settled (λ row. row) (mark_in l.order) l.x l.initial.sets)
+
+abbrev pub decreases-loop-x : goal.decreases-loop-x
+decreases-loop-x l = l.used - l.x

@@ -1,0 +1,11 @@
+-- `text::fields::end` meets its contract. Assumes nothing.
+use Rattle.std.proofs.Common.{◌≡◌, ◌+◌, ◌-◌, ◌≤◌, length, drop, refl, arith}
+use Rattle.text.specs.Fields.{until}
+use Rattle.text.proofs.Splitting.{until-turn, until_stop, until_none}
+use Rattle.text.proofs.fields.end.Given as goal
+
+abbrev pub invariant-loop-i : goal.invariant-loop-i
+invariant-loop-i l = (l.i ≤ length l.line) × (l.i + length (until l.mark (drop l.i l.line)) ≡ l.from + length (until l.mark (drop l.from l.line)))
+
+abbrev pub decreases-loop-i : goal.decreases-loop-i
+decreases-loop-i l = length l.line - l.i

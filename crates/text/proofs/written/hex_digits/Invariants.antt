@@ -1,0 +1,11 @@
+-- `text::written::hex_digits` meets its contract: the digits from place i on stand. Assumes nothing.
+use Rattle.std.proofs.Common.{◌≡◌, ℕ, suc, ◌+◌, ◌-◌, ◌/◌, ◌%◌, ◌^◌, ◌≤◌, List, length, drop, set, sym, refl, ap, ◌∙◌, subst, div-one, arith, length-set}
+use Rattle.text.specs.Numbers.{glyph_of, hex_digits}
+use Rattle.text.proofs.Spelling.{digit-put, digit-less}
+use Rattle.text.proofs.written.hex_digits.Given as goal
+
+abbrev pub invariant-loop-i : goal.invariant-loop-i
+invariant-loop-i l = (l.i ≤ 16) × (l.rest ≡ l.bits / 16 ^ (16 - l.i)) × (drop l.i l.out ≡ hex_digits (16 - l.i) l.bits) × (length l.out ≡ 16)
+
+abbrev pub decreases-loop-i : goal.decreases-loop-i
+decreases-loop-i l = l.i

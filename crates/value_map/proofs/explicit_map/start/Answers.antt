@@ -1,0 +1,14 @@
+-- `value_map::explicit_map::start` meets its contract. Assumes nothing.
+use borrow.Author.Rules.{rules}
+use Rattle.sets.specs.Sorted.{filter_of}
+use Rattle.directory.specs.View.{stores}
+use Rattle.explicit_slots.specs.Cells.{cells}
+use Rattle.value_map.specs.Explicit.{explicit_store}
+use Rattle.value_map.proofs.Cases.{start_is}
+use Rattle.value_map.proofs.explicit_map.start.Goals as goal
+
+pub returns : goal.returns
+returns c =
+    let a = c.args in
+    start_is (explicit_store a.bounds.now) a.limit (filter_of a.present a.filter.now) (stores a.sets a.entries a.order)
+    (cells a.totals a.extremes a.counts) _ c.unset_of-no.ensures c.cells_suffice-room.ensures c.begin.ensures

@@ -1,0 +1,33 @@
+-- `value_map::explicit_map::take` meets its contract. Assumes nothing.
+use borrow.Author.Rules.{rules}
+use Prim.Native.Nat.{ℕ}
+use mathlib.Core.Path.{ap, ◌∙◌}
+use Rattle.points.specs.Explicit.{bounds_pass}
+use Rattle.explicit_slots.specs.Cells.{Cells, cells}
+use Rattle.rows.specs.Recording.{after}
+use Rattle.value_map.specs.Explicit.{explicit_store}
+use Rattle.value_map.specs.Inner.{turned}
+use Rattle.value_map.proofs.Ways.{take_no, take_on}
+use Rattle.value_map.proofs.Values.{finite-is}
+use Rattle.value_map.proofs.explicit_map.take.Goals as goal
+
+pub returns-then-no-ne0 : goal.returns-then-no-ne0
+returns-then-no-ne0 c =
+    let lent : Cells = let a = c.args in cells a.totals a.extremes a.counts in
+    let number : ℕ = turned (bounds_pass c.args.bounds.now) c.args.no in
+    let a = c.args in
+    ap (λ (n : ℕ). after n (lent)) c.turned_by.ensures
+    ∙ take_no (explicit_store a.bounds.now) (lent) a.v a.no (number) a.x a.updated c.if-no-ne0.true
+
+pub record-requires : goal.record-requires
+record-requires c =
+    let m = c.requires c.if-no-ne0.false in
+    let r = m.0 in
+    (r.totals, r.extremes, r.counts, finite-is c.args.v m.1)
+
+pub returns : goal.returns
+returns c =
+    let lent : Cells = let a = c.args in cells a.totals a.extremes a.counts in
+    let number : ℕ = turned (bounds_pass c.args.bounds.now) c.args.no in
+    let a = c.args in
+    c.«record».ensures ∙ take_on (explicit_store a.bounds.now) (lent) a.v a.no (number) a.x a.updated c.if-no-ne0.false

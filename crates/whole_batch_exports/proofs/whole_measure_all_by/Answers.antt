@@ -1,0 +1,22 @@
+-- `whole_batch_exports::whole_measure_all_by` meets its contract. Assumes nothing.
+use mathlib.Core.Bool.{true}
+use mathlib.Core.Path.{ap, ◌∙◌}
+use borrow.Author.Rules.{rules}
+use Rattle.directory.specs.declared.Directory.{Directory}
+use Rattle.directory.specs.View.{stores}
+use Rattle.exponential_whole_slots.specs.Cells.{Cells, cells}
+use Rattle.value_map.specs.Calls.{Held, held}
+use Rattle.whole_map.specs.Exponential.{exponential_wholes}
+use Rattle.many.specs.Many.{Many}
+use Rattle.batches.specs.Batch.{measured_all_by}
+use Rattle.batch_words.proofs.Handed.{handed}
+use Rattle.whole_batch_exports.proofs.whole_measure_all_by.Goals as goal
+
+pub returns : goal.returns
+returns c =
+    let a = c.args in
+    let s = stores a.sets a.entries a.order in
+    let x = cells a.figures a.extremes a.pos a.neg in
+    let by : Directory → Many (Held Cells) = λ d. measured_all_by (exponential_wholes a.size a.top true) a.limit (held d s x) a.values.now a.handle in
+    let e = c.measure_all_by-got.ensures ∙ ap by c.state_of-d.ensures in
+    handed a.taken.now a.state.now _ _ c.measure_all_by-got.result _ _ e c.words_of.ensures

@@ -1,0 +1,22 @@
+-- `whole_handle_exports::whole_measure_by` meets its contract. Assumes nothing.
+use mathlib.Core.Path.{◌∙◌}
+use mathlib.Core.Bool.{true}
+use lib.IntN.{ℤ}
+use Rattle.integers.proofs.Range as Range
+use Rattle.directory.specs.declared.Directory.{Directory}
+use Rattle.directory.specs.View.{stores}
+use Rattle.exponential_whole_slots.specs.Cells.{Cells, cells}
+use Rattle.value_map.specs.Calls.{Outcome, held, measured_by}
+use Rattle.whole_map.specs.Exponential.{exponential_wholes}
+use Rattle.map_words.proofs.Handed.{handed}
+use borrow.Author.Rules.{rules}
+use Rattle.whole_handle_exports.proofs.whole_measure_by.Goals as goal
+
+pub returns : goal.returns
+returns c =
+    let a = c.args in
+    let s = stores a.sets a.entries a.order in
+    let x = cells a.figures a.extremes a.pos a.neg in
+    let by : Directory → ℤ → Outcome Cells = λ d v. measured_by (exponential_wholes a.size a.top true) a.limit (held d s x) v a.handle in
+    let e = c.measure_by-reply.ensures ∙ (λ j. by (c.state_of-d.ensures j) (Range.held a.v c.ranges.v j)) in
+    handed a.state.now _ _ c.measure_by-reply.result _ c.number_of.result _ e c.number_of.ensures c.words_of.ensures

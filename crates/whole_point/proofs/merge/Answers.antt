@@ -1,0 +1,41 @@
+-- `merge` meets its contract. Assumes nothing.
+use mathlib.Core.Path.{◌≡◌, sym, ap, ◌∙◌}
+use borrow.Author.Rules.{rules}
+use mir.Syntax.{w64}
+use mir.Val.{SFits}
+use Rattle.integers.specs.Answers.{sum_of}
+use Rattle.integers.proofs.Range.{held}
+use Rattle.point.specs.Handing as P
+use Rattle.whole_point.specs.Handing.{Stored, stored, said, finished}
+use Rattle.whole_point.proofs.Call.{outside_law, inside_law}
+use Rattle.whole_point.proofs.merge.Goals as goal
+
+pub returns-in-Outside : goal.returns-in-Outside
+returns-in-Outside c =
+    let first : Stored = stored c.args.a c.args.abounds c.args.apos c.args.aneg in
+    let second : Stored = stored c.args.b c.args.bbounds c.args.bpos c.args.bneg in
+    let first-sum : SFits w64 c.args.a.sum = search rules in
+    let second-sum : SFits w64 c.args.b.sum = search rules in
+    let told : c.sum-total.result ≡ sum_of c.args.a.sum c.args.b.sum = c.sum-total.ensures ∙ (λ j. sum_of (held c.args.a.sum (first-sum) j) (held c.args.b.sum (second-sum) j)) in
+    let a = c.args in
+    outside_law a.size (first) (second) a.pos.now a.neg.now
+    (sym (told) ∙ c.enum_told-1.given.1)
+    c.refusal-no.result c.last_number-n.result
+    (c.refusal-no.ensures
+    ∙ (λ j. P.refusal_before a.size (P.stored (c.shadow_of-x.ensures j) a.abounds a.apos a.aneg) (P.stored (c.shadow_of-y.ensures j) a.bbounds a.bpos a.bneg)))
+    c.last_number-n.ensures
+
+pub returns-in-Is : goal.returns-in-Is
+returns-in-Is c =
+    let first : Stored = stored c.args.a c.args.abounds c.args.apos c.args.aneg in
+    let second : Stored = stored c.args.b c.args.bbounds c.args.bpos c.args.bneg in
+    let first-sum : SFits w64 c.args.a.sum = search rules in
+    let second-sum : SFits w64 c.args.b.sum = search rules in
+    let told : c.sum-total.result ≡ sum_of c.args.a.sum c.args.b.sum = c.sum-total.ensures ∙ (λ j. sum_of (held c.args.a.sum (first-sum) j) (held c.args.b.sum (second-sum) j)) in
+    let whole_sum : SFits w64 c.total-1.given.0.0 = search rules in
+    let a = c.args in
+    inside_law a.size (first) (second) a.pos.now a.neg.now c.total-1.given.0.0 (sym (told) ∙ c.total-1.given.1)
+    (P.said c.merge-r.result) (said c.finish.result) c.merge-r.new.pos c.merge-r.new.neg
+    (c.merge-r.ensures
+    ∙ (λ j. P.merging a.size (P.stored (c.shadow_of-x.ensures j) a.abounds a.apos a.aneg) (P.stored (c.shadow_of-y.ensures j) a.bbounds a.bpos a.bneg) a.pos.now a.neg.now))
+    (c.finish.ensures ∙ ap (λ y. finished a.a a.b y (P.said c.merge-r.result)) (held c.total-1.given.0.0 (whole_sum)))

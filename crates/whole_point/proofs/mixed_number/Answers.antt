@@ -1,0 +1,15 @@
+-- `mixed_number` meets its contract. Assumes nothing.
+use mathlib.Core.Path.{◌∙◌}
+use borrow.Author.Rules.{rules}
+use Rattle.point.specs.Handing as P
+use Rattle.whole_point.specs.Handing.{stored}
+use Rattle.whole_point.proofs.Call.{mixed_law}
+use Rattle.whole_point.proofs.mixed_number.Goals as goal
+
+pub returns : goal.returns
+returns c =
+    let a = c.args in
+    c.beside.ensures
+    ∙ mixed_law a.size (stored a.a a.abounds a.apos a.aneg) (P.stored a.b a.bbounds a.bpos a.bneg) c.refusal-no.result
+    (c.refusal-no.ensures
+    ∙ (λ j. P.refusal_before a.size (P.stored (c.shadow_of-x.ensures j) a.abounds a.apos a.aneg) (P.stored a.b a.bbounds a.bpos a.bneg)))

@@ -1,0 +1,11 @@
+-- `shadow_extreme` meets its contract. Assumes nothing.
+use mathlib.Core.Path.{sym, ap}
+use borrow.Author.Rules.{rules}
+use Rattle.points.specs.Shadow.{shadow_of}
+use Rattle.whole_point.proofs.shadow_extreme.Goals as goal
+
+pub returns-in-None : goal.returns-in-None
+returns-in-None c = sym (ap shadow_of c.enum_told-1.given.1)
+
+pub returns-in-Value : goal.returns-in-Value
+returns-in-Value c = sym (ap shadow_of c.e-1.given.1)

@@ -1,0 +1,23 @@
+-- `whole_printing::collection` meets its contract: what waits in the end is what the points left give from here. Assumes nothing.
+use Prim.Native.Nat.{ℕ, ◌-◌, ◌≤◌}
+use mathlib.Core.Path.{◌≡◌, sym, ◌∙◌}
+use mathlib.Core.List.{List}
+use native.Mathlib.Omega.{arith}
+use Rattle.listing.specs.Listed.{Output, output}
+use Rattle.listing.specs.declared.Cursor.{Cursor}
+use Rattle.lines.specs.Gathered.{waiting, ◌behind◌}
+use Rattle.lines.proofs.Gathering.{then}
+use Rattle.printing.specs.Printed.{lines_by, collection_head}
+use Rattle.whole_printing.specs.Printed.{line_at, next_at, collection_lines}
+use Rattle.printing.proofs.Points.{lines_start, lines-turn, lines_end}
+use Rattle.whole_printing.proofs.collection.Given as goal
+
+abbrev pub invariant-loop-i : goal.invariant-loop-i
+invariant-loop-i l =
+    let o : Output = record { l.sets = l.sets; l.words = l.words; l.pos = l.pos; l.neg = l.neg } in
+    (l.i ≤ l.many)
+    × ((lines_by (λ c. line_at c o l.bounds) (λ c. next_at c o) (l.many - l.i) l.done.at behind record { count = l.done.n; block = l.text })
+    ≡ (lines_by (λ c. line_at c o l.bounds) (λ c. next_at c o) l.many (record { place = 0; l.pos = 0; l.neg = 0 }) behind record { count = l.m; block = l.initial.text }))
+
+abbrev pub decreases-loop-i : goal.decreases-loop-i
+decreases-loop-i l = l.many - l.i

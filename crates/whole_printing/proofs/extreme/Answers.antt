@@ -1,0 +1,25 @@
+-- `whole_printing::extreme` meets its contract. Assumes nothing.
+use mathlib.Core.Path.{sym, ap, ◌∙◌}
+use mathlib.Core.List.{◌∷◌}
+use lib.IntN.{ℤ}
+use mir.Syntax.{w64}
+use mir.Val.{SFits}
+use Rattle.integers.specs.declared.Extreme.{Extreme}
+use Rattle.lines.specs.Gathered.{waiting}
+use Rattle.lines.specs.Written.{signed}
+use Rattle.lines.proofs.Gathering.{spelt}
+use Rattle.integers.proofs.Range.{held}
+use Rattle.whole_printing.specs.Printed.{extreme_field}
+use borrow.Author.Rules.{rules}
+use Rattle.whole_printing.proofs.extreme.Goals as goal
+
+pub returns-in-None : goal.returns-in-None
+returns-in-None c =
+    let a = c.args in
+    spelt (ap (λ (x : Extreme). 32 ∷ extreme_field x) (sym c.enum_told-1.given.1)) (waiting a.n a.text) c.bytes.ensures
+
+pub returns-in-Value : goal.returns-in-Value
+returns-in-Value c =
+    let a = c.args in
+    let f : SFits w64 c.x-1.given.0.0 = search rules in
+    spelt (ap (λ (z : ℤ). 32 ∷ signed z) (held c.x-1.given.0.0 f) ∙ ap (λ (e : Extreme). 32 ∷ extreme_field e) (sym c.x-1.given.1)) (waiting a.n a.text) c.integer.ensures

@@ -1,7 +1,7 @@
 #!/usr/bin/env python3
 """The programs mean_run and card against exact fractions, and the law of merging among the exact points.
 
-    python3 oracle/compare_card.py COUNT [SEED] [DIRECTORY]     after `rt check mean_run card`; DIRECTORY is target/bin unless named
+    python3 oracle/compare_card.py COUNT [SEED] [DIRECTORY]     after `tools/build mean_run card`; DIRECTORY is target/bin unless named
 
 COUNT times: random lines of mean_run; a random input of card; gridded values cut into collections, whose points, merged in any order, have
 the card of all values. Prints where a program differs first (the input is kept in target/NAME_differs), or how many were the same."""

@@ -1,7 +1,7 @@
 #!/usr/bin/env python3
 """The gauge program against the reference, on inputs that end in every way and come in pieces of any size.
 
-    python3 oracle/compare_gauge.py COUNT [SEED] [PROGRAM]      after `rt check gauge`; PROGRAM is target/bin/gauge unless named
+    python3 oracle/compare_gauge.py COUNT [SEED] [PROGRAM]      after `tools/build gauge`; PROGRAM is target/bin/gauge unless named
 
 Prints the first input on which they differ (it is kept in target/gauge_differs), or how many lines were the same."""
 

@@ -1,6 +1,6 @@
 """Damaged shift sheets: what our library answers and leaves in lent memory, against docs/SHEET.md as oracle/sheet.py has it.
 
-    damage_sheet.py COUNT --seed WORD [--library PATH]      after `rt staticlib sheet_exports`; PATH is that library unless named
+    damage_sheet.py COUNT --seed WORD [--library PATH]      after `tools/build sheet_exports`; PATH is that library unless named
 
 Random lists are written and read, with enough room and with too little, and lists that are wrong in one thing are refused. Then each sheet
 is damaged in every way of sheet_inputs.py, until there are COUNT damaged sheets. Prints how many of each kind of damage there were, and how

@@ -131,7 +131,7 @@ class Stores(Block):
 def shared(archive):
     """The shared library of a static one. A shared one is taken as it is."""
     if not archive.exists():
-        raise SystemExit(f"{archive} is not there: rt staticlib sheet_exports")
+        raise SystemExit(f"{archive} is not there: tools/build sheet_exports")
     if archive.suffix == ".so":
         return archive
     SHARED.parent.mkdir(parents=True, exist_ok=True)

@@ -1,4 +1,4 @@
-//! Links our static libraries, OURS_LIBRARIES in OURS_DIRECTORY, as `rt staticlib` wrote them. OURS_LIMIT is set where they are those of a copy
+//! Links our static libraries, OURS_LIBRARIES in OURS_DIRECTORY, as `tools/build` wrote them. OURS_LIMIT is set where they are those of a copy
 //! whose limit was raised: `raised`.
 
 use std::env::var;

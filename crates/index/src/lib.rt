@@ -150,9 +150,8 @@ pub fn end_bin(level: u32) -> u64
     3u64 << level
 }
 
-// For programs in other languages: the bin of v at a level, 0 where there is none (no f64 has the bin 0 at a level above 0).
-#[unsafe(no_mangle)]
-pub extern "C" fn index_bin(v: f64, level: u32) -> u32
+// For programs in other languages, by index_c: the bin of v at a level, 0 where there is none (no f64 has the bin 0 at a level above 0).
+pub fn index_bin(v: f64, level: u32) -> u32
     ensures { result ≡ bin_or_zero (bin_of v level) }
 {
     let found = get_bin(v, level);

@@ -1,7 +1,7 @@
 -- The laws that a kind owes, and that merging owes, for demand 3 to hold. Assumes nothing.
 use Prim.Native.Nat.{suc, ◌^◌, ◌≤◌, ◌<◌}
 use mathlib.Core.Path.{◌≡◌}
-use mathlib.Core.Bool.{true, false}
+use mathlib.Core.Bool.{true}
 use mathlib.Core.List.{List, [], ◌∷◌, ◌++◌, Permᴰ}
 use lib.ListN.{length}
 use Rattle.laws.specs.Tests.{all}

@@ -1,7 +1,7 @@
 -- THE MAP'S STEPS: each call's answer and the map after it, for any kind of series. Assumes nothing.
 use Prim.Native.Nat.{ℕ, suc, ◌-◌, ◌^◌}
 use mathlib.Core.Bool.{Bool, not, ◌&&◌}
-use mathlib.Core.List.{List, [], ◌∷◌, map}
+use mathlib.Core.List.{List, [], ◌∷◌}
 use mathlib.Core.Option.{Option, none, some}
 use lib.Dec.{eqb, leb, ltb}
 use lib.ListN.{length}

@@ -141,7 +141,8 @@ unfolding row_of
 row_of-canonical [] = record { empty = λ _. refl; first = λ h. absurd (omega arith); last = λ h. absurd (omega arith) }
 row_of-canonical (x ∷ xs) =
     let e : lowest x xs + (highest x xs - lowest x xs) ≡ highest x xs = omega (arith, (ends_of x xs).all (lowest x xs) (ends_of x xs).low) in
-    tabled-canonical (λ j. count j (x ∷ xs)) (lowest x xs) (highest x xs - lowest x xs) (ends_of x xs).low (rw e (ends_of x xs).high)
+    tabled-canonical (λ j. count j (x ∷ xs)) (lowest x xs) (highest x xs - lowest x xs) (ends_of x xs).low
+    (subst (λ m. 0 < count m (x ∷ xs)) (sym e) (ends_of x xs).high)
 
 -- a row is decided by the counts of its bins
 pub row_of-cong : (xs ys : List ℕ) → Same xs ys → row_of xs ≡ row_of ys

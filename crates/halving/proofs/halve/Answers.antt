@@ -12,7 +12,7 @@ use Rattle.halving.proofs.halve.Goals as goal
 
 pub returns-then-n-eq0 : goal.returns-then-n-eq0
 unfolding halved_once over
-returns-then-n-eq0 c = record { value = ((refl, refl)).0; counts_after = rw c.if-n-eq0.true ((refl, refl)).1 }
+returns-then-n-eq0 c = record { value = rw c.if-n-eq0.true refl; counts_after = rw c.if-n-eq0.true refl }
 
 pub loop-i-init : goal.loop-i-init
 loop-i-init c =

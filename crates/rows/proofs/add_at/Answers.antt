@@ -1,7 +1,6 @@
 use native.Mathlib.Omega.{arith}
 use lib.Seq.{get_or-take}
 use Rattle.rows.proofs.Puts.{put_in, put-out}
-use borrow.Author.Rules.{rules}
 use Rattle.rows.proofs.add_at.Goals as goal
 
 pub overflow_add-counts : goal.overflow_add-counts

@@ -1,13 +1,11 @@
 use mathlib.Core.Path.{◌≡◌, ap, ◌∙◌}
-use mathlib.Core.List.{List}
-use Prim.Native.Nat.{ℕ, ◌+◌, ◌-◌, ◌≤◌, ◌<◌}
+use Prim.Native.Nat.{◌+◌, ◌-◌, ◌≤◌, ◌<◌}
 use native.Mathlib.Omega.{arith}
 use lib.ListN.{length, take, get_or, length-set}
 use lib.Seq.{get_or-take}
 use Rattle.rows.specs.Rows.{zeroed, shifted}
 use Rattle.rows.proofs.Laws.{get_or-le-total}
 use Rattle.rows.proofs.Adds as adds
-use borrow.Author.Rules.{rules}
 use Rattle.rows.proofs.record.Goals as goal
 
 pub bounds-counts-0 : goal.bounds-counts-0

@@ -1,9 +1,9 @@
 use mathlib.Core.Path.{◌≡◌, refl, sym, ◌∙◌}
-use Prim.Native.Nat.{◌-◌, ◌≤◌}
+use Prim.Native.Nat.{◌-◌}
 use native.Mathlib.Omega.{arith}
-use lib.ListN.{length, length-set}
+use lib.ListN.{length-set}
 use borrow.Author.Rules.{rules}
-use Rattle.rows.proofs.Moves.{moved, moved_none, moved_all, moved-turn}
+use Rattle.rows.proofs.Moves.{moved_none, moved_all, moved-turn}
 use Rattle.rows.proofs.shift.Goals as goal
 
 pub loop-j-init : goal.loop-j-init

@@ -1,9 +1,7 @@
-use mathlib.Core.Path.{◌≡◌, refl, sym, ◌∙◌}
-use Prim.Native.Nat.{◌-◌, ◌≤◌}
-use native.Mathlib.Omega.{arith}
-use lib.ListN.{length, length-set}
-use borrow.Author.Rules.{rules}
-use Rattle.rows.proofs.Moves.{moved, moved_none, moved_all, moved-turn}
+use mathlib.Core.Path.{◌≡◌}
+use Prim.Native.Nat.{◌≤◌}
+use lib.ListN.{length}
+use Rattle.rows.proofs.Moves.{moved}
 use Rattle.rows.proofs.shift.Given as goal
 
 abbrev pub invariant-loop-j : goal.invariant-loop-j

@@ -1,9 +1,7 @@
 use mathlib.Core.Path.{◌≡◌, refl, sym}
-use Prim.Native.Nat.{◌-◌, ◌≤◌}
 use native.Mathlib.Omega.{arith}
-use lib.ListN.{length, length-set}
+use lib.ListN.{length-set}
 use borrow.Author.Rules.{rules}
-use Rattle.rows.specs.Rows.{zeroed}
 use Rattle.rows.proofs.Moves.{zeroed-none, zeroed-more}
 use Rattle.rows.proofs.zero.Goals as goal
 

@@ -1,10 +1,7 @@
-use mathlib.Core.Path.{◌≡◌, refl, sym}
+use mathlib.Core.Path.{◌≡◌}
 use Prim.Native.Nat.{◌-◌, ◌≤◌}
-use native.Mathlib.Omega.{arith}
-use lib.ListN.{length, length-set}
-use borrow.Author.Rules.{rules}
+use lib.ListN.{length}
 use Rattle.rows.specs.Rows.{zeroed}
-use Rattle.rows.proofs.Moves.{zeroed-none, zeroed-more}
 use Rattle.rows.proofs.zero.Given as goal
 
 abbrev pub invariant-loop-i : goal.invariant-loop-i

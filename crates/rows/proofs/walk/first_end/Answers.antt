@@ -1,6 +1,5 @@
 use Prim.Native.Nat.{◌/◌, ◌^◌, ◌≤◌}
 use native.Mathlib.Omega.{arith}
-use borrow.Author.Rules.{rules}
 use lib.Pow.{shr_le}
 use Rattle.rows.proofs.Cuts.{First, first}
 use Rattle.rows.proofs.walk.first_end.Goals as goal
@@ -18,7 +17,7 @@ overflow_add-result c =
 pub overflow_mul-result : goal.overflow_mul-result
 overflow_mul-result c =
     let met : First c.args.start c.args.delta c.args.width = first c.args.start c.args.delta c.args.width c.ranges.start.fits c.requires.0 c.requires.1 in
-    record { fits = (met).ranges }
+    record { fits = met.fits }
 
 pub overflow_sub-result : goal.overflow_sub-result
 overflow_sub-result c =

@@ -1,9 +1,7 @@
 use mathlib.Core.Path.{◌≡◌}
 use Prim.Native.Nat.{◌+◌, ◌-◌, ◌%◌, ◌≤◌}
-use native.Mathlib.Omega.{arith}
 use Rattle.laws.specs.Counting.{total}
 use Rattle.rows.specs.Parts.{part}
-use Rattle.rows.proofs.Groups.{part-within, Fours, fours}
 use Rattle.rows.proofs.walk.group_total.Given as goal
 
 abbrev pub invariant-loop-j : goal.invariant-loop-j

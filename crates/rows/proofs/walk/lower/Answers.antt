@@ -1,7 +1,6 @@
 use mathlib.Core.Path.{refl}
 use Prim.Native.Nat.{◌-◌, ◌/◌, ◌^◌}
 use native.Mathlib.Omega.{arith}
-use borrow.Author.Rules.{rules}
 use lib.ListN.{length-set}
 use Rattle.rows.proofs.Groups.{part-below}
 use Rattle.rows.proofs.Cuts.{same-level, no-counts, only-group, gatherable, Cut, cut-is}
@@ -25,47 +24,50 @@ part_total-x-requires-2 c =
     (omega arith, omega (arith, c.requires.n_in_bounds.0), omega (arith, part-below c.args.counts.now 0 c.first_end-first.result c.args.n (omega arith) (omega arith), c.requires.counts_bound))
 
 pub whole_groups-requires : goal.whole_groups-requires
-whole_groups-requires c = record { delta_nonzero = (omega arith, c.width_of-width.ensures); gatherable = gatherable c.args.counts.now c.args.delta c.args.start c.args.n c.first_end-first.result c.width_of-width.result c.part_total-x-2.result ((c.args.n - c.first_end-first.result) / 2 ^ c.args.delta)
-          (omega arith) c.requires.n_in_bounds.0 c.requires.counts_bound c.first_end-first.ensures c.width_of-width.ensures c.part_total-x-2.ensures refl }
+whole_groups-requires c = record {
+  delta_nonzero = (omega arith, c.width_of-width.ensures);
+  gatherable = gatherable c.args.counts.now c.args.delta c.args.start c.args.n c.first_end-first.result c.width_of-width.result c.part_total-x-2.result ((c.args.n - c.first_end-first.result) / 2 ^ c.args.delta)
+      (omega arith) c.requires.n_in_bounds.0 c.requires.counts_bound c.first_end-first.ensures c.width_of-width.ensures c.part_total-x-2.ensures refl;
+}
 
 pub overflow_mul-i : goal.overflow_mul-i
 overflow_mul-i c =
-    let at_rest : Cut c.args.counts.now c.whole_groups.new.counts c.args.delta c.args.start c.args.n c.first_end-first.result c.width_of-width.result ((c.args.n - c.first_end-first.result) / 2 ^ c.args.delta) = 
+    let at_rest : Cut c.args.counts.now c.whole_groups.new.counts c.args.delta c.args.start c.args.n c.first_end-first.result c.width_of-width.result ((c.args.n - c.first_end-first.result) / 2 ^ c.args.delta) =
     cut-is c.args.counts.now c.args.delta c.args.start c.args.n c.first_end-first.result c.width_of-width.result c.part_total-x-2.result ((c.args.n - c.first_end-first.result) / 2 ^ c.args.delta)
     (omega arith) c.requires.n_in_bounds.0 c.requires.counts_bound c.first_end-first.ensures c.width_of-width.ensures c.part_total-x-2.ensures refl c.whole_groups.new.counts c.whole_groups.ensures in
     omega (arith, (at_rest).inside)
 
 pub overflow_add-i : goal.overflow_add-i
 overflow_add-i c =
-    let at_rest : Cut c.args.counts.now c.whole_groups.new.counts c.args.delta c.args.start c.args.n c.first_end-first.result c.width_of-width.result ((c.args.n - c.first_end-first.result) / 2 ^ c.args.delta) = 
+    let at_rest : Cut c.args.counts.now c.whole_groups.new.counts c.args.delta c.args.start c.args.n c.first_end-first.result c.width_of-width.result ((c.args.n - c.first_end-first.result) / 2 ^ c.args.delta) =
     cut-is c.args.counts.now c.args.delta c.args.start c.args.n c.first_end-first.result c.width_of-width.result c.part_total-x-2.result ((c.args.n - c.first_end-first.result) / 2 ^ c.args.delta)
     (omega arith) c.requires.n_in_bounds.0 c.requires.counts_bound c.first_end-first.ensures c.width_of-width.ensures c.part_total-x-2.ensures refl c.whole_groups.new.counts c.whole_groups.ensures in
     omega (arith, (at_rest).inside)
 
 pub overflow_add-result : goal.overflow_add-result
 overflow_add-result c =
-    let at_rest : Cut c.args.counts.now c.whole_groups.new.counts c.args.delta c.args.start c.args.n c.first_end-first.result c.width_of-width.result ((c.args.n - c.first_end-first.result) / 2 ^ c.args.delta) = 
+    let at_rest : Cut c.args.counts.now c.whole_groups.new.counts c.args.delta c.args.start c.args.n c.first_end-first.result c.width_of-width.result ((c.args.n - c.first_end-first.result) / 2 ^ c.args.delta) =
     cut-is c.args.counts.now c.args.delta c.args.start c.args.n c.first_end-first.result c.width_of-width.result c.part_total-x-2.result ((c.args.n - c.first_end-first.result) / 2 ^ c.args.delta)
     (omega arith) c.requires.n_in_bounds.0 c.requires.counts_bound c.first_end-first.ensures c.width_of-width.ensures c.part_total-x-2.ensures refl c.whole_groups.new.counts c.whole_groups.ensures in
     omega (arith, (at_rest).few)
 
 pub shape_of-counts-then-i-n : goal.shape_of-counts-then-i-n
 shape_of-counts-then-i-n c =
-    let at_rest : Cut c.args.counts.now c.whole_groups.new.counts c.args.delta c.args.start c.args.n c.first_end-first.result c.width_of-width.result ((c.args.n - c.first_end-first.result) / 2 ^ c.args.delta) = 
+    let at_rest : Cut c.args.counts.now c.whole_groups.new.counts c.args.delta c.args.start c.args.n c.first_end-first.result c.width_of-width.result ((c.args.n - c.first_end-first.result) / 2 ^ c.args.delta) =
     cut-is c.args.counts.now c.args.delta c.args.start c.args.n c.first_end-first.result c.width_of-width.result c.part_total-x-2.result ((c.args.n - c.first_end-first.result) / 2 ^ c.args.delta)
     (omega arith) c.requires.n_in_bounds.0 c.requires.counts_bound c.first_end-first.ensures c.width_of-width.ensures c.part_total-x-2.ensures refl c.whole_groups.new.counts c.whole_groups.ensures in
     (at_rest).kept
 
 pub returns-then-i-n : goal.returns-then-i-n
 returns-then-i-n c =
-    let at_rest : Cut c.args.counts.now c.whole_groups.new.counts c.args.delta c.args.start c.args.n c.first_end-first.result c.width_of-width.result ((c.args.n - c.first_end-first.result) / 2 ^ c.args.delta) = 
+    let at_rest : Cut c.args.counts.now c.whole_groups.new.counts c.args.delta c.args.start c.args.n c.first_end-first.result c.width_of-width.result ((c.args.n - c.first_end-first.result) / 2 ^ c.args.delta) =
     cut-is c.args.counts.now c.args.delta c.args.start c.args.n c.first_end-first.result c.width_of-width.result c.part_total-x-2.result ((c.args.n - c.first_end-first.result) / 2 ^ c.args.delta)
     (omega arith) c.requires.n_in_bounds.0 c.requires.counts_bound c.first_end-first.ensures c.width_of-width.ensures c.part_total-x-2.ensures refl c.whole_groups.new.counts c.whole_groups.ensures in
     let all = (at_rest).no-rest c.if-i-n.true in record { value = all.0; counts_after = all.1 }
 
 pub part_total-y-requires : goal.part_total-y-requires
 part_total-y-requires c =
-    let at_rest : Cut c.args.counts.now c.whole_groups.new.counts c.args.delta c.args.start c.args.n c.first_end-first.result c.width_of-width.result ((c.args.n - c.first_end-first.result) / 2 ^ c.args.delta) = 
+    let at_rest : Cut c.args.counts.now c.whole_groups.new.counts c.args.delta c.args.start c.args.n c.first_end-first.result c.width_of-width.result ((c.args.n - c.first_end-first.result) / 2 ^ c.args.delta) =
     cut-is c.args.counts.now c.args.delta c.args.start c.args.n c.first_end-first.result c.width_of-width.result c.part_total-x-2.result ((c.args.n - c.first_end-first.result) / 2 ^ c.args.delta)
     (omega arith) c.requires.n_in_bounds.0 c.requires.counts_bound c.first_end-first.ensures c.width_of-width.ensures c.part_total-x-2.ensures refl c.whole_groups.new.counts c.whole_groups.ensures in
     let r = at_rest in
@@ -73,14 +75,14 @@ part_total-y-requires c =
 
 pub bounds-counts-m : goal.bounds-counts-m
 bounds-counts-m c =
-    let at_rest : Cut c.args.counts.now c.whole_groups.new.counts c.args.delta c.args.start c.args.n c.first_end-first.result c.width_of-width.result ((c.args.n - c.first_end-first.result) / 2 ^ c.args.delta) = 
+    let at_rest : Cut c.args.counts.now c.whole_groups.new.counts c.args.delta c.args.start c.args.n c.first_end-first.result c.width_of-width.result ((c.args.n - c.first_end-first.result) / 2 ^ c.args.delta) =
     cut-is c.args.counts.now c.args.delta c.args.start c.args.n c.first_end-first.result c.width_of-width.result c.part_total-x-2.result ((c.args.n - c.first_end-first.result) / 2 ^ c.args.delta)
     (omega arith) c.requires.n_in_bounds.0 c.requires.counts_bound c.first_end-first.ensures c.width_of-width.ensures c.part_total-x-2.ensures refl c.whole_groups.new.counts c.whole_groups.ensures in
     omega (arith, (at_rest).few, (at_rest).inside, (at_rest).kept)
 
 pub offset_bounds-counts-m : goal.offset_bounds-counts-m
 offset_bounds-counts-m c =
-    let at_rest : Cut c.args.counts.now c.whole_groups.new.counts c.args.delta c.args.start c.args.n c.first_end-first.result c.width_of-width.result ((c.args.n - c.first_end-first.result) / 2 ^ c.args.delta) = 
+    let at_rest : Cut c.args.counts.now c.whole_groups.new.counts c.args.delta c.args.start c.args.n c.first_end-first.result c.width_of-width.result ((c.args.n - c.first_end-first.result) / 2 ^ c.args.delta) =
     cut-is c.args.counts.now c.args.delta c.args.start c.args.n c.first_end-first.result c.width_of-width.result c.part_total-x-2.result ((c.args.n - c.first_end-first.result) / 2 ^ c.args.delta)
     (omega arith) c.requires.n_in_bounds.0 c.requires.counts_bound c.first_end-first.ensures c.width_of-width.ensures c.part_total-x-2.ensures refl c.whole_groups.new.counts c.whole_groups.ensures in
     omega (arith, bounds-counts-m c, (at_rest).kept)
@@ -93,14 +95,14 @@ overflow_add-result-2 c = omega (arith, offset_bounds-counts-m c)
 
 pub shape_of-counts : goal.shape_of-counts
 shape_of-counts c =
-    let at_rest : Cut c.args.counts.now c.whole_groups.new.counts c.args.delta c.args.start c.args.n c.first_end-first.result c.width_of-width.result ((c.args.n - c.first_end-first.result) / 2 ^ c.args.delta) = 
+    let at_rest : Cut c.args.counts.now c.whole_groups.new.counts c.args.delta c.args.start c.args.n c.first_end-first.result c.width_of-width.result ((c.args.n - c.first_end-first.result) / 2 ^ c.args.delta) =
     cut-is c.args.counts.now c.args.delta c.args.start c.args.n c.first_end-first.result c.width_of-width.result c.part_total-x-2.result ((c.args.n - c.first_end-first.result) / 2 ^ c.args.delta)
     (omega arith) c.requires.n_in_bounds.0 c.requires.counts_bound c.first_end-first.ensures c.width_of-width.ensures c.part_total-x-2.ensures refl c.whole_groups.new.counts c.whole_groups.ensures in
     rw length-set (at_rest).kept
 
 pub returns : goal.returns
 returns c =
-    let at_rest : Cut c.args.counts.now c.whole_groups.new.counts c.args.delta c.args.start c.args.n c.first_end-first.result c.width_of-width.result ((c.args.n - c.first_end-first.result) / 2 ^ c.args.delta) = 
+    let at_rest : Cut c.args.counts.now c.whole_groups.new.counts c.args.delta c.args.start c.args.n c.first_end-first.result c.width_of-width.result ((c.args.n - c.first_end-first.result) / 2 ^ c.args.delta) =
     cut-is c.args.counts.now c.args.delta c.args.start c.args.n c.first_end-first.result c.width_of-width.result c.part_total-x-2.result ((c.args.n - c.first_end-first.result) / 2 ^ c.args.delta)
     (omega arith) c.requires.n_in_bounds.0 c.requires.counts_bound c.first_end-first.ensures c.width_of-width.ensures c.part_total-x-2.ensures refl c.whole_groups.new.counts c.whole_groups.ensures in
     record { value = (((at_rest).a-rest (omega (arith, (at_rest).inside)))).0; counts_after = rw c.part_total-y.ensures (((at_rest).a-rest (omega (arith, (at_rest).inside)))).1 }

@@ -1,5 +1,5 @@
 use mathlib.Core.Path.{◌≡◌, ap, ◌∙◌}
-use Prim.Native.Nat.{ℕ, ◌+◌, ◌*◌, ◌<◌}
+use Prim.Native.Nat.{ℕ, ◌+◌, ◌<◌}
 use native.Mathlib.Omega.{arith}
 use lib.ListN.{length, length-set}
 use Rattle.rows.specs.Groups.{gathered}
@@ -12,7 +12,7 @@ loop-left-init c =
 
 pub two_total-a-requires : goal.two_total-a-requires
 two_total-a-requires c =
-    let in-turn : Two c.args.counts.now c.loop-left.counts c.args.i c.loop-left.k c.loop-left.j = 
+    let in-turn : Two c.args.counts.now c.loop-left.counts c.args.i c.loop-left.k c.loop-left.j =
     let a = c.args in
     let l = c.loop-left in
     two a.counts.now l.counts a.i a.m l.k l.j c.requires (omega arith) l.invariant.1 l.invariant.2 in
@@ -20,7 +20,7 @@ two_total-a-requires c =
 
 pub overflow_add-j : goal.overflow_add-j
 overflow_add-j c =
-    let in-turn : Two c.args.counts.now c.loop-left.counts c.args.i c.loop-left.k c.loop-left.j = 
+    let in-turn : Two c.args.counts.now c.loop-left.counts c.args.i c.loop-left.k c.loop-left.j =
     let a = c.args in
     let l = c.loop-left in
     two a.counts.now l.counts a.i a.m l.k l.j c.requires (omega arith) l.invariant.1 l.invariant.2 in
@@ -28,7 +28,7 @@ overflow_add-j c =
 
 pub two_total-b-requires : goal.two_total-b-requires
 two_total-b-requires c =
-    let in-turn : Two c.args.counts.now c.loop-left.counts c.args.i c.loop-left.k c.loop-left.j = 
+    let in-turn : Two c.args.counts.now c.loop-left.counts c.args.i c.loop-left.k c.loop-left.j =
     let a = c.args in
     let l = c.loop-left in
     two a.counts.now l.counts a.i a.m l.k l.j c.requires (omega arith) l.invariant.1 l.invariant.2 in
@@ -36,7 +36,7 @@ two_total-b-requires c =
 
 pub overflow_add-counts : goal.overflow_add-counts
 overflow_add-counts c =
-    let in-turn : Two c.args.counts.now c.loop-left.counts c.args.i c.loop-left.k c.loop-left.j = 
+    let in-turn : Two c.args.counts.now c.loop-left.counts c.args.i c.loop-left.k c.loop-left.j =
     let a = c.args in
     let l = c.loop-left in
     two a.counts.now l.counts a.i a.m l.k l.j c.requires (omega arith) l.invariant.1 l.invariant.2 in
@@ -45,7 +45,7 @@ overflow_add-counts c =
 
 pub offset_bounds-counts-k : goal.offset_bounds-counts-k
 offset_bounds-counts-k c =
-    let in-turn : Two c.args.counts.now c.loop-left.counts c.args.i c.loop-left.k c.loop-left.j = 
+    let in-turn : Two c.args.counts.now c.loop-left.counts c.args.i c.loop-left.k c.loop-left.j =
     let a = c.args in
     let l = c.loop-left in
     two a.counts.now l.counts a.i a.m l.k l.j c.requires (omega arith) l.invariant.1 l.invariant.2 in
@@ -54,7 +54,7 @@ offset_bounds-counts-k c =
 
 pub bounds-counts-k : goal.bounds-counts-k
 bounds-counts-k c =
-    let in-turn : Two c.args.counts.now c.loop-left.counts c.args.i c.loop-left.k c.loop-left.j = 
+    let in-turn : Two c.args.counts.now c.loop-left.counts c.args.i c.loop-left.k c.loop-left.j =
     let a = c.args in
     let l = c.loop-left in
     two a.counts.now l.counts a.i a.m l.k l.j c.requires (omega arith) l.invariant.1 l.invariant.2 in
@@ -63,7 +63,7 @@ bounds-counts-k c =
 
 pub overflow_add-counts-in-loop-left : goal.overflow_add-counts-in-loop-left
 overflow_add-counts-in-loop-left c =
-    let in-turn : Two c.args.counts.now c.loop-left.counts c.args.i c.loop-left.k c.loop-left.j = 
+    let in-turn : Two c.args.counts.now c.loop-left.counts c.args.i c.loop-left.k c.loop-left.j =
     let a = c.args in
     let l = c.loop-left in
     two a.counts.now l.counts a.i a.m l.k l.j c.requires (omega arith) l.invariant.1 l.invariant.2 in
@@ -72,7 +72,7 @@ overflow_add-counts-in-loop-left c =
 
 pub offset_bounds-counts-k-in-loop-left : goal.offset_bounds-counts-k-in-loop-left
 offset_bounds-counts-k-in-loop-left c =
-    let in-turn : Two c.args.counts.now c.loop-left.counts c.args.i c.loop-left.k c.loop-left.j = 
+    let in-turn : Two c.args.counts.now c.loop-left.counts c.args.i c.loop-left.k c.loop-left.j =
     let a = c.args in
     let l = c.loop-left in
     two a.counts.now l.counts a.i a.m l.k l.j c.requires (omega arith) l.invariant.1 l.invariant.2 in
@@ -81,7 +81,7 @@ offset_bounds-counts-k-in-loop-left c =
 
 pub bounds-counts-k-in-loop-left : goal.bounds-counts-k-in-loop-left
 bounds-counts-k-in-loop-left c =
-    let in-turn : Two c.args.counts.now c.loop-left.counts c.args.i c.loop-left.k c.loop-left.j = 
+    let in-turn : Two c.args.counts.now c.loop-left.counts c.args.i c.loop-left.k c.loop-left.j =
     let a = c.args in
     let l = c.loop-left in
     two a.counts.now l.counts a.i a.m l.k l.j c.requires (omega arith) l.invariant.1 l.invariant.2 in
@@ -90,7 +90,7 @@ bounds-counts-k-in-loop-left c =
 
 pub overflow_add-j-in-loop-left : goal.overflow_add-j-in-loop-left
 overflow_add-j-in-loop-left c =
-    let in-turn : Two c.args.counts.now c.loop-left.counts c.args.i c.loop-left.k c.loop-left.j = 
+    let in-turn : Two c.args.counts.now c.loop-left.counts c.args.i c.loop-left.k c.loop-left.j =
     let a = c.args in
     let l = c.loop-left in
     two a.counts.now l.counts a.i a.m l.k l.j c.requires (omega arith) l.invariant.1 l.invariant.2 in
@@ -98,7 +98,7 @@ overflow_add-j-in-loop-left c =
 
 pub loop-left-preserved : goal.loop-left-preserved
 loop-left-preserved c =
-    let in-turn : Two c.args.counts.now c.loop-left.counts c.args.i c.loop-left.k c.loop-left.j = 
+    let in-turn : Two c.args.counts.now c.loop-left.counts c.args.i c.loop-left.k c.loop-left.j =
     let a = c.args in
     let l = c.loop-left in
     two a.counts.now l.counts a.i a.m l.k l.j c.requires (omega arith) l.invariant.1 l.invariant.2 in
@@ -118,7 +118,7 @@ returns-then-left-eq0 c =
 
 pub two_total-a-requires-2 : goal.two_total-a-requires-2
 two_total-a-requires-2 c =
-    let at_last : Group c.args.counts.now c.loop-left.counts 2 1 c.args.i c.loop-left.k c.loop-left.j = 
+    let at_last : Group c.args.counts.now c.loop-left.counts 2 1 c.args.i c.loop-left.k c.loop-left.j =
     let a = c.args in
     let l = c.loop-left in
     group a.counts.now l.counts 2 1 a.i a.m l.k l.j c.requires (omega arith) (omega arith) l.invariant.1 l.invariant.2 in
@@ -126,7 +126,7 @@ two_total-a-requires-2 c =
 
 pub overflow_add-counts-2 : goal.overflow_add-counts-2
 overflow_add-counts-2 c =
-    let at_last : Group c.args.counts.now c.loop-left.counts 2 1 c.args.i c.loop-left.k c.loop-left.j = 
+    let at_last : Group c.args.counts.now c.loop-left.counts 2 1 c.args.i c.loop-left.k c.loop-left.j =
     let a = c.args in
     let l = c.loop-left in
     group a.counts.now l.counts 2 1 a.i a.m l.k l.j c.requires (omega arith) (omega arith) l.invariant.1 l.invariant.2 in
@@ -135,7 +135,7 @@ overflow_add-counts-2 c =
 
 pub offset_bounds-counts-k-2 : goal.offset_bounds-counts-k-2
 offset_bounds-counts-k-2 c =
-    let at_last : Group c.args.counts.now c.loop-left.counts 2 1 c.args.i c.loop-left.k c.loop-left.j = 
+    let at_last : Group c.args.counts.now c.loop-left.counts 2 1 c.args.i c.loop-left.k c.loop-left.j =
     let a = c.args in
     let l = c.loop-left in
     group a.counts.now l.counts 2 1 a.i a.m l.k l.j c.requires (omega arith) (omega arith) l.invariant.1 l.invariant.2 in
@@ -144,7 +144,7 @@ offset_bounds-counts-k-2 c =
 
 pub bounds-counts-k-2 : goal.bounds-counts-k-2
 bounds-counts-k-2 c =
-    let at_last : Group c.args.counts.now c.loop-left.counts 2 1 c.args.i c.loop-left.k c.loop-left.j = 
+    let at_last : Group c.args.counts.now c.loop-left.counts 2 1 c.args.i c.loop-left.k c.loop-left.j =
     let a = c.args in
     let l = c.loop-left in
     group a.counts.now l.counts 2 1 a.i a.m l.k l.j c.requires (omega arith) (omega arith) l.invariant.1 l.invariant.2 in
@@ -153,7 +153,7 @@ bounds-counts-k-2 c =
 
 pub shape_of-counts : goal.shape_of-counts
 shape_of-counts c =
-    let at_last : Group c.args.counts.now c.loop-left.counts 2 1 c.args.i c.loop-left.k c.loop-left.j = 
+    let at_last : Group c.args.counts.now c.loop-left.counts 2 1 c.args.i c.loop-left.k c.loop-left.j =
     let a = c.args in
     let l = c.loop-left in
     group a.counts.now l.counts 2 1 a.i a.m l.k l.j c.requires (omega arith) (omega arith) l.invariant.1 l.invariant.2 in
@@ -161,7 +161,7 @@ shape_of-counts c =
 
 pub returns : goal.returns
 returns c =
-    let at_last : Group c.args.counts.now c.loop-left.counts 2 1 c.args.i c.loop-left.k c.loop-left.j = 
+    let at_last : Group c.args.counts.now c.loop-left.counts 2 1 c.args.i c.loop-left.k c.loop-left.j =
     let a = c.args in
     let l = c.loop-left in
     group a.counts.now l.counts 2 1 a.i a.m l.k l.j c.requires (omega arith) (omega arith) l.invariant.1 l.invariant.2 in

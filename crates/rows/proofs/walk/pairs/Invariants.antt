@@ -1,9 +1,6 @@
-use mathlib.Core.Path.{◌≡◌, ap, ◌∙◌}
-use Prim.Native.Nat.{ℕ, ◌+◌, ◌*◌, ◌<◌}
-use native.Mathlib.Omega.{arith}
-use lib.ListN.{length, length-set}
+use mathlib.Core.Path.{◌≡◌}
+use Prim.Native.Nat.{◌+◌, ◌*◌}
 use Rattle.rows.specs.Groups.{gathered}
-use Rattle.rows.proofs.Groups.{Group, group, Two, two, gathered_none, gathered-length}
 use Rattle.rows.proofs.walk.pairs.Given as goal
 
 abbrev pub invariant-loop-left : goal.invariant-loop-left

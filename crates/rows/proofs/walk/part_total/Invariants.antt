@@ -1,10 +1,7 @@
-use mathlib.Core.Path.{◌≡◌, sym}
-use Prim.Native.Nat.{◌+◌, ◌-◌, ◌^◌, ◌≤◌, ◌<◌}
-use native.Mathlib.Omega.{arith}
-use lib.ListN.{get_or}
+use mathlib.Core.Path.{◌≡◌}
+use Prim.Native.Nat.{◌-◌, ◌≤◌}
 use Rattle.laws.specs.Counting.{total}
 use Rattle.rows.specs.Parts.{part}
-use Rattle.rows.proofs.Groups.{part_none, part-turn}
 use Rattle.rows.proofs.walk.part_total.Given as goal
 
 abbrev pub invariant-loop-j : goal.invariant-loop-j

@@ -1,9 +1,8 @@
 use mathlib.Core.Path.{◌≡◌, ap, ◌∙◌}
-use Prim.Native.Nat.{◌+◌, ◌-◌, ◌*◌, ◌≤◌, ◌<◌}
+use Prim.Native.Nat.{◌+◌, ◌<◌}
 use native.Mathlib.Nat.{zero-mul}
 use native.Mathlib.Omega.{arith}
 use lib.ListN.{length}
-use Rattle.rows.specs.Groups.{gathered}
 use Rattle.rows.proofs.Groups.{Group, group, next-group, gathered_none, gathered-length, few-groups}
 use Rattle.rows.proofs.walk.wide_groups.Goals as goal
 
@@ -14,7 +13,7 @@ loop-k-init c =
 
 pub group_total-x-requires : goal.group_total-x-requires
 group_total-x-requires c =
-    let in-turn : Group c.args.counts.now c.loop-k.counts c.args.width 1 c.args.i c.loop-k.k c.loop-k.j = 
+    let in-turn : Group c.args.counts.now c.loop-k.counts c.args.width 1 c.args.i c.loop-k.k c.loop-k.j =
     let a = c.args in
     let l = c.loop-k in
     group a.counts.now l.counts a.width 1 a.i a.m l.k l.j c.requires.gatherable c.requires.width_nonzero.0 c.loop-k-test.true l.invariant.1 l.invariant.2 in
@@ -22,40 +21,40 @@ group_total-x-requires c =
 
 pub overflow_add-counts : goal.overflow_add-counts
 overflow_add-counts c =
-    let in-turn : Group c.args.counts.now c.loop-k.counts c.args.width 1 c.args.i c.loop-k.k c.loop-k.j = 
+    let in-turn : Group c.args.counts.now c.loop-k.counts c.args.width 1 c.args.i c.loop-k.k c.loop-k.j =
     let a = c.args in
     let l = c.loop-k in
     group a.counts.now l.counts a.width 1 a.i a.m l.k l.j c.requires.gatherable c.requires.width_nonzero.0 c.loop-k-test.true l.invariant.1 l.invariant.2 in
-    let place : c.loop-k.k + 1 < length c.loop-k.counts = 
+    let place : c.loop-k.k + 1 < length c.loop-k.counts =
     let g = in-turn in
     omega (arith, g.inside, g.behind, c.requires.width_nonzero.0) in
     omega (arith, place, (in-turn).kept)
 
 pub offset_bounds-counts-k : goal.offset_bounds-counts-k
 offset_bounds-counts-k c =
-    let in-turn : Group c.args.counts.now c.loop-k.counts c.args.width 1 c.args.i c.loop-k.k c.loop-k.j = 
+    let in-turn : Group c.args.counts.now c.loop-k.counts c.args.width 1 c.args.i c.loop-k.k c.loop-k.j =
     let a = c.args in
     let l = c.loop-k in
     group a.counts.now l.counts a.width 1 a.i a.m l.k l.j c.requires.gatherable c.requires.width_nonzero.0 c.loop-k-test.true l.invariant.1 l.invariant.2 in
-    let place : c.loop-k.k + 1 < length c.loop-k.counts = 
+    let place : c.loop-k.k + 1 < length c.loop-k.counts =
     let g = in-turn in
     omega (arith, g.inside, g.behind, c.requires.width_nonzero.0) in
     omega (arith, place, (in-turn).kept)
 
 pub bounds-counts-k : goal.bounds-counts-k
 bounds-counts-k c =
-    let in-turn : Group c.args.counts.now c.loop-k.counts c.args.width 1 c.args.i c.loop-k.k c.loop-k.j = 
+    let in-turn : Group c.args.counts.now c.loop-k.counts c.args.width 1 c.args.i c.loop-k.k c.loop-k.j =
     let a = c.args in
     let l = c.loop-k in
     group a.counts.now l.counts a.width 1 a.i a.m l.k l.j c.requires.gatherable c.requires.width_nonzero.0 c.loop-k-test.true l.invariant.1 l.invariant.2 in
-    let place : c.loop-k.k + 1 < length c.loop-k.counts = 
+    let place : c.loop-k.k + 1 < length c.loop-k.counts =
     let g = in-turn in
     omega (arith, g.inside, g.behind, c.requires.width_nonzero.0) in
     place
 
 pub overflow_add-j : goal.overflow_add-j
 overflow_add-j c =
-    let in-turn : Group c.args.counts.now c.loop-k.counts c.args.width 1 c.args.i c.loop-k.k c.loop-k.j = 
+    let in-turn : Group c.args.counts.now c.loop-k.counts c.args.width 1 c.args.i c.loop-k.k c.loop-k.j =
     let a = c.args in
     let l = c.loop-k in
     group a.counts.now l.counts a.width 1 a.i a.m l.k l.j c.requires.gatherable c.requires.width_nonzero.0 c.loop-k-test.true l.invariant.1 l.invariant.2 in
@@ -63,7 +62,7 @@ overflow_add-j c =
 
 pub loop-k-preserved : goal.loop-k-preserved
 loop-k-preserved c =
-    let in-turn : Group c.args.counts.now c.loop-k.counts c.args.width 1 c.args.i c.loop-k.k c.loop-k.j = 
+    let in-turn : Group c.args.counts.now c.loop-k.counts c.args.width 1 c.args.i c.loop-k.k c.loop-k.j =
     let a = c.args in
     let l = c.loop-k in
     group a.counts.now l.counts a.width 1 a.i a.m l.k l.j c.requires.gatherable c.requires.width_nonzero.0 c.loop-k-test.true l.invariant.1 l.invariant.2 in

@@ -1,10 +1,6 @@
-use mathlib.Core.Path.{◌≡◌, ap, ◌∙◌}
-use Prim.Native.Nat.{◌+◌, ◌-◌, ◌*◌, ◌≤◌, ◌<◌}
-use native.Mathlib.Nat.{zero-mul}
-use native.Mathlib.Omega.{arith}
-use lib.ListN.{length}
+use mathlib.Core.Path.{◌≡◌}
+use Prim.Native.Nat.{◌+◌, ◌-◌, ◌*◌, ◌≤◌}
 use Rattle.rows.specs.Groups.{gathered}
-use Rattle.rows.proofs.Groups.{Group, group, next-group, gathered_none, gathered-length, few-groups}
 use Rattle.rows.proofs.walk.wide_groups.Given as goal
 
 abbrev pub invariant-loop-k : goal.invariant-loop-k

@@ -142,7 +142,7 @@ table-set f lo (suc n) (suc k) =
     let e : lo + suc k ≡ suc lo + k = omega arith in
     let z : f lo ≡ f lo + bit (eqb (suc lo + k) lo) = omega (arith, bit-other lo (suc lo + k) (λ q. omega arith)) in
     subst (λ (m : ℕ). f lo ∷ set (table f (suc lo) n) k (get_or (table f (suc lo) n) k 0 + 1)
-    ≡ (f lo + bit (eqb m lo)) ∷ table (λ j. f j + bit (eqb m j)) (suc lo) n)
+        ≡ (f lo + bit (eqb m lo)) ∷ table (λ j. f j + bit (eqb m j)) (suc lo) n)
     (sym e) (rw (← z) (ap (λ l. f lo ∷ l) (table-set f (suc lo) n k)))
 
 -- ---- totals

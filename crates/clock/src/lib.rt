@@ -1,6 +1,5 @@
 // The collections' clock, a struct lent by `&mut` whose start a delta collection replaces in place and a cumulative one only reads:
-// `AggregateTimeInitiator` of aggregate.rs. A reference to a struct is not covered, so all but `next`, which chooses, are thin and proved by hand.
-// `after_delta` and `at_cumulative` lend a clock that they are passed by value: whoever calls them is covered.
+// `AggregateTimeInitiator` of aggregate.rs. `after_delta` and `at_cumulative` lend a clock that they are passed by value.
 #![tactic(auto)]
 
 ghost use Rattle.std.specs.Prelude.{◌≡◌};

@@ -1,9 +1,0 @@
-pub mod Tests
-pub mod Pick
-pub mod Said
-pub mod Over
-pub mod Lists
-pub mod Trees
-pub mod Counting
-pub mod Search
-pub mod NoneOf

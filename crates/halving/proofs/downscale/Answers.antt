@@ -1,7 +1,6 @@
 use mathlib.Core.Path.{◌≡◌}
-use Prim.Native.Nat.{◌-◌, ◌≤◌}
 use native.Mathlib.Omega.{arith}
-use Rattle.halving.proofs.Halves.{Lowered, fresh, once_more, all_done}
+use Rattle.halving.proofs.Halves.{fresh, once_more, all_done}
 use Rattle.halving.proofs.downscale.Goals as goal
 
 pub loop-k-init : goal.loop-k-init
@@ -16,8 +15,7 @@ halve-len-requires c =
 pub loop-k-preserved : goal.loop-k-preserved
 loop-k-preserved c =
     let a = c.args in
-    let l = c.loop-k in
-    (
+    let l = c.loop-k in (
       omega arith,
       once_more a.counts.now l.counts c.halve-len.new.counts a.start a.n a.delta l.k l.s l.len c.halve-len.result c.requires.0 (omega arith) l.invariant.1
           (c.halve-len.ensures.value, c.halve-len.ensures.counts_after),

@@ -1,7 +1,5 @@
-use mathlib.Core.Path.{◌≡◌}
 use Prim.Native.Nat.{◌-◌, ◌≤◌}
-use native.Mathlib.Omega.{arith}
-use Rattle.halving.proofs.Halves.{Lowered, fresh, once_more, all_done}
+use Rattle.halving.proofs.Halves.{Lowered}
 use Rattle.halving.proofs.downscale.Given as goal
 
 abbrev pub invariant-loop-k : goal.invariant-loop-k

@@ -1,10 +1,9 @@
 use mathlib.Core.Path.{◌≡◌, refl}
-use Prim.Native.Nat.{◌+◌, ◌-◌, ◌*◌, ◌%◌, ◌≤◌, ◌<◌}
+use Prim.Native.Nat.{◌+◌, ◌-◌, ◌%◌, ◌≤◌, ◌<◌}
 use native.Mathlib.Nat.{sub_self}
 use native.Mathlib.Omega.{arith}
 use lib.ListN.{length, length-set}
 use Rattle.rows.specs.Rows.{over}
-use Rattle.rows.specs.Groups.{gathered}
 use Rattle.rows.proofs.Groups.{gathered_none}
 use Rattle.halving.specs.Plain.{halved_once}
 use Rattle.halving.proofs.Halves.{Half, half, none_left, one_left}
@@ -22,7 +21,7 @@ loop-i-init c =
 
 pub overflow_add-counts-in-loop-i : goal.overflow_add-counts-in-loop-i
 overflow_add-counts-in-loop-i c =
-    let in-turn : Half c.args.counts.now c.loop-i.counts (c.args.start % 2) c.loop-i.i c.loop-i.len = 
+    let in-turn : Half c.args.counts.now c.loop-i.counts (c.args.start % 2) c.loop-i.i c.loop-i.len =
     let a = c.args in
     let l = c.loop-i in
     half a.counts.now l.counts (a.start % 2) a.n l.i l.len l.invariant.0 l.invariant.1 c.loop-i-test.true c.requires.0 c.requires.1 l.invariant.4 in
@@ -30,7 +29,7 @@ overflow_add-counts-in-loop-i c =
 
 pub offset_bounds-counts-len : goal.offset_bounds-counts-len
 offset_bounds-counts-len c =
-    let in-turn : Half c.args.counts.now c.loop-i.counts (c.args.start % 2) c.loop-i.i c.loop-i.len = 
+    let in-turn : Half c.args.counts.now c.loop-i.counts (c.args.start % 2) c.loop-i.i c.loop-i.len =
     let a = c.args in
     let l = c.loop-i in
     half a.counts.now l.counts (a.start % 2) a.n l.i l.len l.invariant.0 l.invariant.1 c.loop-i-test.true c.requires.0 c.requires.1 l.invariant.4 in
@@ -39,7 +38,7 @@ offset_bounds-counts-len c =
 
 pub bounds-counts-len : goal.bounds-counts-len
 bounds-counts-len c =
-    let in-turn : Half c.args.counts.now c.loop-i.counts (c.args.start % 2) c.loop-i.i c.loop-i.len = 
+    let in-turn : Half c.args.counts.now c.loop-i.counts (c.args.start % 2) c.loop-i.i c.loop-i.len =
     let a = c.args in
     let l = c.loop-i in
     half a.counts.now l.counts (a.start % 2) a.n l.i l.len l.invariant.0 l.invariant.1 c.loop-i-test.true c.requires.0 c.requires.1 l.invariant.4 in
@@ -48,7 +47,7 @@ bounds-counts-len c =
 
 pub overflow_add-len : goal.overflow_add-len
 overflow_add-len c =
-    let in-turn : Half c.args.counts.now c.loop-i.counts (c.args.start % 2) c.loop-i.i c.loop-i.len = 
+    let in-turn : Half c.args.counts.now c.loop-i.counts (c.args.start % 2) c.loop-i.i c.loop-i.len =
     let a = c.args in
     let l = c.loop-i in
     half a.counts.now l.counts (a.start % 2) a.n l.i l.len l.invariant.0 l.invariant.1 c.loop-i-test.true c.requires.0 c.requires.1 l.invariant.4 in
@@ -57,7 +56,7 @@ overflow_add-len c =
 
 pub loop-i-preserved : goal.loop-i-preserved
 loop-i-preserved c =
-    let in-turn : Half c.args.counts.now c.loop-i.counts (c.args.start % 2) c.loop-i.i c.loop-i.len = 
+    let in-turn : Half c.args.counts.now c.loop-i.counts (c.args.start % 2) c.loop-i.i c.loop-i.len =
     let a = c.args in
     let l = c.loop-i in
     half a.counts.now l.counts (a.start % 2) a.n l.i l.len l.invariant.0 l.invariant.1 c.loop-i-test.true c.requires.0 c.requires.1 l.invariant.4 in

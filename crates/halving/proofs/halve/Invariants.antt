@@ -1,13 +1,7 @@
-use mathlib.Core.Path.{◌≡◌, refl}
-use Prim.Native.Nat.{◌+◌, ◌-◌, ◌*◌, ◌%◌, ◌≤◌, ◌<◌}
-use native.Mathlib.Nat.{sub_self}
-use native.Mathlib.Omega.{arith}
-use lib.ListN.{length, length-set}
-use Rattle.rows.specs.Rows.{over}
+use mathlib.Core.Path.{◌≡◌}
+use Prim.Native.Nat.{◌+◌, ◌-◌, ◌*◌, ◌%◌, ◌≤◌}
+use lib.ListN.{length}
 use Rattle.rows.specs.Groups.{gathered}
-use Rattle.rows.proofs.Groups.{gathered_none}
-use Rattle.halving.specs.Plain.{halved_once}
-use Rattle.halving.proofs.Halves.{Half, half, none_left, one_left}
 use Rattle.halving.proofs.halve.Given as goal
 
 abbrev pub invariant-loop-i : goal.invariant-loop-i

@@ -10,6 +10,8 @@
 
 use printing::Form;
 
-fn main() {
-    gauge_lines::run(Form::Card);
+fn main(rt: HostRuntime) {
+    let input = rt.stdin();
+    let out = rt.stdout();
+    gauge_lines::run(&input, &out, Form::Card);
 }

@@ -12,6 +12,7 @@ use collecting::Answer;
 use directory::Directory;
 use lines::Block;
 use printing::Form;
+use std::io::Stdout;
 use text::Natural;
 
 // Whether a line was accepted, the gauge after it, and how much text there is then.
@@ -59,6 +60,7 @@ fn turned(g: Gauge, dir: Directory, time: u64) -> Turn
 
 // Collects by a line `c`, and puts what is listed, in a form, behind n bytes of text.
 pub fn collect(
+    out: &Stdout,
     form: Form,
     g: Gauge,
     line: &[u8],
@@ -101,7 +103,7 @@ pub fn collect(
             let gauge = t.gauge;
             let no_bounds = [0.0f64; 1];
             let end = printing::collection(
-                text, n, form, t.start, time, many, out_sets, out_words, out_pos, out_neg,
+                out, text, n, form, t.start, time, many, out_sets, out_words, out_pos, out_neg,
                 &no_bounds,
             );
             Collected {

@@ -22,15 +22,16 @@ use collect::Collected;
 use fields::Call;
 use lines::Block;
 use printing::Form;
+use std::io::{Stdin, Stdout};
 
 // What is said of a line: nothing where it was accepted. How much text there is then.
-fn said(taken: bool, number: u64, text: &mut Block, n: usize) -> usize
+fn said(out: &Stdout, taken: bool, number: u64, text: &mut Block, n: usize) -> usize
     ensures { waiting result text.new ≡ pick taken [] (unread_line number) behind waiting n text.old }
 {
     if taken {
         return n;
     }
-    printing::unread(text, n, number)
+    printing::unread(out, text, n, number)
 }
 
 // What came of a line that printed nothing.
@@ -47,6 +48,7 @@ fn silent(o: Outcome, text: usize) -> Collected
 
 // Makes the call that a line asks for.
 fn make(
+    out: &Stdout,
     form: Form,
     g: Gauge,
     line: &[u8],
@@ -89,14 +91,15 @@ fn make(
             silent(o, n)
         }
         Call::Collect => collect::collect(
-            form, g, line, text, n, sets, entries, order, figures, extremes, pos, neg, out_sets,
-            out_words, out_pos, out_neg,
+            out, form, g, line, text, n, sets, entries, order, figures, extremes, pos, neg,
+            out_sets, out_words, out_pos, out_neg,
         ),
     }
 }
 
 // Follows a line: makes its call, and says `? N`, N its number, where it was not accepted.
 fn follow(
+    out: &Stdout,
     form: Form,
     number: u64,
     g: Gauge,
@@ -124,19 +127,19 @@ fn follow(
         (output out_sets.old out_words.old out_pos.old out_neg.old) }
 {
     let made = make(
-        form, g, line, over, text, n, sets, entries, order, figures, extremes, pos, neg, out_sets,
-        out_words, out_pos, out_neg,
+        out, form, g, line, over, text, n, sets, entries, order, figures, extremes, pos, neg,
+        out_sets, out_words, out_pos, out_neg,
     );
     let gauge = made.gauge;
     Collected {
         taken: made.taken,
         gauge,
-        text: said(made.taken, number, text, made.text),
+        text: said(out, made.taken, number, text, made.text),
     }
 }
 
 // Follows the input to its end. A proved loop has to end, and nothing says that the input does: no run has so many lines.
-pub fn run(form: Form) {
+pub fn run(input: &Stdin, out: &Stdout, form: Form) {
     let mut block = [0u8; 65536];
     let mut text = [0u8; 65536];
     let mut line = [0u8; 256];
@@ -156,8 +159,9 @@ pub fn run(form: Form) {
     let mut number: u64 = 0;
     while number < u64::MAX && !ports.over {
         number += 1;
-        ports = lines::input::next(ports, &mut block, &mut line, &text);
+        ports = lines::input::next(input, out, ports, &mut block, &mut line, &text);
         let done = follow(
+            out,
             form,
             number,
             gauge,
@@ -181,5 +185,5 @@ pub fn run(form: Form) {
         gauge = next;
         ports.waiting = done.text;
     }
-    lines::output::write(&text, ports.waiting);
+    lines::output::write(out, &text, ports.waiting);
 }

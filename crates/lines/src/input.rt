@@ -4,7 +4,7 @@ ghost use Rattle.laws.specs.Pick.{pick};
 ghost use Rattle.lines.specs.Reading.{Within, newline_in, newline_of, copied, taken, taken_line, NextLine};
 
 use crate::{Block, Line};
-use libc::STDIN_FILENO;
+use std::io::{Read, Stdin, Stdout};
 
 // How far a program has read and written: the block's bytes from `at` to `end` are to be read; `len` bytes of the line are there, 256 of
 // one that is too long; whether the line has ended, and whether the input has; `waiting` bytes of text are to be written.
@@ -133,20 +133,30 @@ fn take(p: Ports, block: &Block, line: &mut Line) -> Ports
     }
 }
 
-// Fills the block by one read: how many bytes there are, 0 where there are no more.
-fn fill(block: &mut Block) -> usize {
-    let got = libc::read(STDIN_FILENO, block);
-    io::count(got, block)
+// Fills the block by one read: how many bytes there are, 0 where there are no more. A read that fails counts as the input's end.
+fn fill(input: &Stdin, block: &mut Block) -> usize {
+    let mut from = input;
+    match from.read(block) {
+        Ok(n) => n,
+        Err(_) => 0,
+    }
 }
 
 // Goes on with the line in a new block. The text that waits is written before the read, which may wait for input: whoever sends that input may want
 // to see the answers to the lines before it.
-fn go_on(p: Ports, block: &mut Block, line: &mut Line, text: &Block) -> Ports
+fn go_on(
+    input: &Stdin,
+    out: &Stdout,
+    p: Ports,
+    block: &mut Block,
+    line: &mut Line,
+    text: &Block,
+) -> Ports
     requires { p.len ≤ 256 }
     ensures { (Within result.at result.end result.len) × (result.waiting ≡ 0) }
 {
-    crate::output::write(text, p.waiting);
-    let n = fill(block);
+    crate::output::write(out, text, p.waiting);
+    let n = fill(input, block);
     if n == 0 {
         return Ports {
             at: 0,
@@ -170,7 +180,14 @@ fn go_on(p: Ports, block: &mut Block, line: &mut Line, text: &Block) -> Ports
 
 // Reads the next line. At the input's end it has no bytes where there was none.
 // A proved loop has to end, and nothing says that the input does: no run uses up the turns.
-pub fn next(p: Ports, block: &mut Block, line: &mut Line, text: &Block) -> Ports
+pub fn next(
+    input: &Stdin,
+    out: &Stdout,
+    p: Ports,
+    block: &mut Block,
+    line: &mut Line,
+    text: &Block,
+) -> Ports
     ensures { (Within result.at result.end result.len) × ((result.waiting ≡ p.waiting) ⊎ (result.waiting ≡ 0))
         × (NextLine p block.old line.old result block.new line.new) }
 {
@@ -185,7 +202,7 @@ pub fn next(p: Ports, block: &mut Block, line: &mut Line, text: &Block) -> Ports
     let mut now = take(fresh, block, line);
     let mut turns = u64::MAX;
     while turns > 0 && !now.ended {
-        now = go_on(now, block, line, text);
+        now = go_on(input, out, now, block, line, text);
         turns -= 1;
     }
     now

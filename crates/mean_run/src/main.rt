@@ -18,6 +18,7 @@ use lines::{Block, output};
 use mean::Answer;
 use point::{Figures, Point};
 use rows::Row;
+use std::io::Stdout;
 use text::Natural;
 
 fn point_of(held: Held, figures: Figures) -> Point {
@@ -72,46 +73,46 @@ fn counts_of(count: u64, level: u64, zeros: u64, first: u64, len: u64, neg: u64)
 
 // ---- answers
 
-fn unread(text: &mut Block, n: usize) -> usize {
-    output::byte(text, n, b'?')
+fn unread(out: &Stdout, text: &mut Block, n: usize) -> usize {
+    output::byte(out, text, n, b'?')
 }
 
-fn refusal(text: &mut Block, n: usize, no: u8) -> usize {
-    let m = output::bytes(text, n, b"! ");
-    output::decimal(text, m, no as u64)
+fn refusal(out: &Stdout, text: &mut Block, n: usize, no: u8) -> usize {
+    let m = output::bytes(out, text, n, b"! ");
+    output::decimal(out, text, m, no as u64)
 }
 
 // An answer behind n bytes of text; how many there are then.
-fn shown(text: &mut Block, n: usize, answer: Answer) -> usize {
+fn shown(out: &Stdout, text: &mut Block, n: usize, answer: Answer) -> usize {
     match answer {
-        Answer::Refused(no) => refusal(text, n, no),
-        Answer::Mean(x) => output::signed(text, n, x),
+        Answer::Refused(no) => refusal(out, text, n, no),
+        Answer::Mean(x) => output::signed(out, text, n, x),
     }
 }
 
 // The answer to a line `x`.
-fn explicit_line(text: &mut Block, n: usize, line: &[u8]) -> usize {
+fn explicit_line(out: &Stdout, text: &mut Block, n: usize, line: &[u8]) -> usize {
     if text::spaces(line) != 8 {
-        return unread(text, n);
+        return unread(out, text, n);
     }
     let Common::Is(held) = fields::held_in(line) else {
-        return unread(text, n);
+        return unread(out, text, n);
     };
     let Natural::Is(bound) = text::bits_at(line, 6) else {
-        return unread(text, n);
+        return unread(out, text, n);
     };
     let Natural::Is(first) = text::decimal_at(line, 7) else {
-        return unread(text, n);
+        return unread(out, text, n);
     };
     let Natural::Is(second) = text::decimal_at(line, 8) else {
-        return unread(text, n);
+        return unread(out, text, n);
     };
     let bounds = [floats::of_bits(bound); 1];
     let pos = [first, second];
     let neg = [0u64; 1];
     let p = point_of(held, Figures::Explicit(held.count));
     let answer = mean::hundredths(p, &bounds, &pos, &neg);
-    shown(text, n, answer)
+    shown(out, text, n, answer)
 }
 
 // The answer to a point whose positive row is `first` and then ones, and whose negative row is the count `below`.
@@ -124,44 +125,44 @@ fn rows_answer(p: Point, first: u64, below: u64) -> Answer {
 }
 
 // The answer to a line `e`.
-fn exponential_line(text: &mut Block, n: usize, line: &[u8]) -> usize {
+fn exponential_line(out: &Stdout, text: &mut Block, n: usize, line: &[u8]) -> usize {
     if text::spaces(line) != 10 {
-        return unread(text, n);
+        return unread(out, text, n);
     }
     let Common::Is(held) = fields::held_in(line) else {
-        return unread(text, n);
+        return unread(out, text, n);
     };
     let Natural::Is(level) = fields::level_at(line, 6) else {
-        return unread(text, n);
+        return unread(out, text, n);
     };
     let Natural::Is(zeros) = text::decimal_at(line, 7) else {
-        return unread(text, n);
+        return unread(out, text, n);
     };
     let Natural::Is(first) = text::decimal_at(line, 8) else {
-        return unread(text, n);
+        return unread(out, text, n);
     };
     let Natural::Is(len) = fields::number_at(line, 9, 200) else {
-        return unread(text, n);
+        return unread(out, text, n);
     };
     let Natural::Is(neg) = text::decimal_at(line, 10) else {
-        return unread(text, n);
+        return unread(out, text, n);
     };
     let counts = counts_of(held.count, level, zeros, first, len, neg);
     let p = point_of(held, Figures::Exponential(counts));
     let answer = rows_answer(p, first, neg);
-    shown(text, n, answer)
+    shown(out, text, n, answer)
 }
 
 // The answer to a line behind n bytes of text; how many there are then.
-fn answer_to(text: &mut Block, n: usize, line: &[u8]) -> usize {
+fn answer_to(out: &Stdout, text: &mut Block, n: usize, line: &[u8]) -> usize {
     let letter = fields::letter_in(line);
     if letter == b'x' {
-        return explicit_line(text, n, line);
+        return explicit_line(out, text, n, line);
     }
     if letter == b'e' {
-        return exponential_line(text, n, line);
+        return exponential_line(out, text, n, line);
     }
-    unread(text, n)
+    unread(out, text, n)
 }
 
 // ---- the run
@@ -171,24 +172,27 @@ fn is_none(len: usize, over: bool) -> bool {
     if len == 0 { over } else { false }
 }
 
-fn said(text: &mut Block, n: usize, line: &[u8], over: bool) -> usize {
+fn said(out: &Stdout, text: &mut Block, n: usize, line: &[u8], over: bool) -> usize {
     if is_none(line.len(), over) {
         return n;
     }
-    let m = answer_to(text, n, line);
-    output::byte(text, m, b'\n')
+    let m = answer_to(out, text, n, line);
+    output::byte(out, text, m, b'\n')
 }
 
 // Reads to the input's end. A proved loop has to end, and nothing says that the input does: no run uses up the turns.
-fn main() {
+fn main(rt: HostRuntime) {
+    let input = rt.stdin();
+    let out = rt.stdout();
     let mut block = [0u8; 65536];
     let mut text = [0u8; 65536];
     let mut line = [0u8; 256];
     let mut ports = lines::input::first();
     let mut turns = u64::MAX;
     while turns > 0 && !ports.over {
-        ports = lines::input::next(ports, &mut block, &mut line, &text);
+        ports = lines::input::next(&input, &out, ports, &mut block, &mut line, &text);
         ports.waiting = said(
+            &out,
             &mut text,
             ports.waiting,
             lines::input::front(&line, ports.len),
@@ -196,5 +200,5 @@ fn main() {
         );
         turns -= 1;
     }
-    output::write(&text, ports.waiting);
+    output::write(&out, &text, ports.waiting);
 }

@@ -28,6 +28,7 @@ use lines::{Block, output};
 use listing::{Cursor, Entry, Found};
 use mean::Answer;
 use point::{Figures, Point};
+use std::io::Stdout;
 
 // How a point is shown: by all that it has, or by its card.
 #[derive(Clone, Copy)]
@@ -44,147 +45,147 @@ pub struct Printed {
 }
 
 // A number behind a space.
-pub fn number(text: &mut Block, n: usize, x: u64) -> usize
+pub fn number(out: &Stdout, text: &mut Block, n: usize, x: u64) -> usize
     ensures { waiting result text.new ≡ 32 ∷ decimal x behind waiting n text.old }
 {
-    let m = output::byte(text, n, b' ');
-    output::decimal(text, m, x)
+    let m = output::byte(out, text, n, b' ');
+    output::decimal(out, text, m, x)
 }
 
 // Bits behind a space.
-fn bits(text: &mut Block, n: usize, x: u64) -> usize
+fn bits(out: &Stdout, text: &mut Block, n: usize, x: u64) -> usize
     ensures { waiting result text.new ≡ 32 ∷ hex_digits 16 x behind waiting n text.old }
 {
-    let m = output::byte(text, n, b' ');
-    output::bits(text, m, x)
+    let m = output::byte(out, text, n, b' ');
+    output::bits(out, text, m, x)
 }
 
 // A comma before all but the first of several.
-fn comma(text: &mut Block, n: usize, i: usize) -> usize
+fn comma(out: &Stdout, text: &mut Block, n: usize, i: usize) -> usize
     ensures { waiting result text.new ≡ pick (eqb i 0) [] (44 ∷ []) behind waiting n text.old }
 {
     if i == 0 {
         return n;
     }
-    output::byte(text, n, b',')
+    output::byte(out, text, n, b',')
 }
 
 // ---- sets
 
-fn attribute(text: &mut Block, n: usize, word: u64) -> usize
+fn attribute(out: &Stdout, text: &mut Block, n: usize, word: u64) -> usize
     ensures { waiting result text.new ≡ attribute_field (pair word) behind waiting n text.old }
 {
-    let a = output::decimal(text, n, word / 4294967296);
-    let b = output::byte(text, a, b':');
-    output::decimal(text, b, word % 4294967296)
+    let a = output::decimal(out, text, n, word / 4294967296);
+    let b = output::byte(out, text, a, b':');
+    output::decimal(out, text, b, word % 4294967296)
 }
 
-fn attributes(text: &mut Block, n: usize, row: [u64; 9]) -> usize
+fn attributes(out: &Stdout, text: &mut Block, n: usize, row: [u64; 9]) -> usize
     ensures { waiting result text.new ≡ joined 44 (map attribute_field (take 8 (set_of row))) behind waiting n text.old }
 {
     let many = row[8];
     let mut m = n;
     let mut i: usize = 0;
     while i < 8 && (i as u64) < many {
-        let a = comma(text, m, i);
-        m = attribute(text, a, row[i]);
+        let a = comma(out, text, m, i);
+        m = attribute(out, text, a, row[i]);
         i += 1;
     }
     m
 }
 
 // A set, `-` the empty one.
-fn bare_set(text: &mut Block, n: usize, row: [u64; 9]) -> usize
+fn bare_set(out: &Stdout, text: &mut Block, n: usize, row: [u64; 9]) -> usize
     ensures { waiting result text.new ≡ set_field (take 8 (set_of row)) behind waiting n text.old }
 {
     if row[8] == 0 {
-        return output::byte(text, n, b'-');
+        return output::byte(out, text, n, b'-');
     }
-    attributes(text, n, row)
+    attributes(out, text, n, row)
 }
 
 // A set behind a space.
-pub fn set(text: &mut Block, n: usize, row: [u64; 9]) -> usize
+pub fn set(out: &Stdout, text: &mut Block, n: usize, row: [u64; 9]) -> usize
     ensures { waiting result text.new ≡ 32 ∷ set_field (take 8 (set_of row)) behind waiting n text.old }
 {
-    let m = output::byte(text, n, b' ');
-    bare_set(text, m, row)
+    let m = output::byte(out, text, n, b' ');
+    bare_set(out, text, m, row)
 }
 
 // ---- what a point has
 
 // A scale or an offset behind a space.
-pub fn integer(text: &mut Block, n: usize, x: Integer) -> usize
+pub fn integer(out: &Stdout, text: &mut Block, n: usize, x: Integer) -> usize
     ensures { waiting result text.new ≡ 32 ∷ integer_field x behind waiting n text.old }
 {
-    let m = output::byte(text, n, b' ');
+    let m = output::byte(out, text, n, b' ');
     match x {
-        Integer::OutOfRange => output::byte(text, m, b'-'),
-        Integer::Is(i) => output::signed(text, m, i as i64),
+        Integer::OutOfRange => output::byte(out, text, m, b'-'),
+        Integer::Is(i) => output::signed(out, text, m, i as i64),
     }
 }
 
 // An extreme behind a space, `-` where it isn't kept.
-fn extreme(text: &mut Block, n: usize, x: Extreme) -> usize
+fn extreme(out: &Stdout, text: &mut Block, n: usize, x: Extreme) -> usize
     ensures { waiting result text.new ≡ 32 ∷ extreme_field x behind waiting n text.old }
 {
     match x {
-        Extreme::None => output::bytes(text, n, b" -"),
-        Extreme::Value(v) => bits(text, n, floats::bits_of(v)),
+        Extreme::None => output::bytes(out, text, n, b" -"),
+        Extreme::Value(v) => bits(out, text, n, floats::bits_of(v)),
     }
 }
 
-fn held(text: &mut Block, n: usize, p: Point) -> usize
+fn held(out: &Stdout, text: &mut Block, n: usize, p: Point) -> usize
     ensures { waiting result text.new ≡ each 32 (held_fields p []) behind waiting n text.old }
 {
     let min = p.min;
     let max = p.max;
-    let a = extreme(text, n, min);
-    let b = extreme(text, a, max);
-    bits(text, b, point::signed::sum_bits(p))
+    let a = extreme(out, text, n, min);
+    let b = extreme(out, text, a, max);
+    bits(out, text, b, point::signed::sum_bits(p))
 }
 
-pub fn counts(text: &mut Block, n: usize, row: &[u64]) -> usize
+pub fn counts(out: &Stdout, text: &mut Block, n: usize, row: &[u64]) -> usize
     ensures { waiting result text.new ≡ joined 44 (map decimal row.now) behind waiting n text.old }
 {
     let mut m = n;
     let mut i: usize = 0;
     while i < row.len() {
-        let a = comma(text, m, i);
-        m = output::decimal(text, a, row[i]);
+        let a = comma(out, text, m, i);
+        m = output::decimal(out, text, a, row[i]);
         i += 1;
     }
     m
 }
 
 // A row: its offset and its counts.
-pub fn row(text: &mut Block, n: usize, offset: Integer, row: &[u64]) -> usize
+pub fn row(out: &Stdout, text: &mut Block, n: usize, offset: Integer, row: &[u64]) -> usize
     ensures { waiting result text.new ≡ 32 ∷ row_field offset row.now behind waiting n text.old }
 {
-    let a = integer(text, n, offset);
-    let b = output::byte(text, a, b':');
-    counts(text, b, row)
+    let a = integer(out, text, n, offset);
+    let b = output::byte(out, text, a, b':');
+    counts(out, text, b, row)
 }
 
 // A space, and `-` if none of several follows.
-pub fn dash(text: &mut Block, n: usize, many: usize) -> usize
+pub fn dash(out: &Stdout, text: &mut Block, n: usize, many: usize) -> usize
     ensures { waiting result text.new ≡ 32 ∷ pick (eqb many 0) (45 ∷ []) [] behind waiting n text.old }
 {
-    let m = output::byte(text, n, b' ');
+    let m = output::byte(out, text, n, b' ');
     if many == 0 {
-        return output::byte(text, m, b'-');
+        return output::byte(out, text, m, b'-');
     }
     m
 }
 
-pub fn all_bits(text: &mut Block, n: usize, bounds: &[f64]) -> usize
+pub fn all_bits(out: &Stdout, text: &mut Block, n: usize, bounds: &[f64]) -> usize
     ensures { waiting result text.new ≡ joined 44 (map float_field bounds.now) behind waiting n text.old }
 {
     let mut m = n;
     let mut i: usize = 0;
     while i < bounds.len() {
-        let a = comma(text, m, i);
-        m = output::bits(text, a, floats::bits_of(bounds[i]));
+        let a = comma(out, text, m, i);
+        m = output::bits(out, text, a, floats::bits_of(bounds[i]));
         i += 1;
     }
     m
@@ -192,27 +193,42 @@ pub fn all_bits(text: &mut Block, n: usize, bounds: &[f64]) -> usize
 
 // ---- points
 
-fn exponential(text: &mut Block, n: usize, p: Point, pos: &[u64], neg: &[u64]) -> usize
+fn exponential(
+    out: &Stdout,
+    text: &mut Block,
+    n: usize,
+    p: Point,
+    pos: &[u64],
+    neg: &[u64],
+) -> usize
     ensures { waiting result text.new ≡ each 32 (exponential_fields p pos.now neg.now) behind waiting n text.old }
 {
-    let a = integer(text, n, point::signed::scale(p));
-    let b = held(text, a, p);
-    let c = row(text, b, point::signed::offset(p, false), pos);
-    row(text, c, point::signed::offset(p, true), neg)
+    let a = integer(out, text, n, point::signed::scale(p));
+    let b = held(out, text, a, p);
+    let c = row(out, text, b, point::signed::offset(p, false), pos);
+    row(out, text, c, point::signed::offset(p, true), neg)
 }
 
-fn explicit(text: &mut Block, n: usize, p: Point, buckets: &[u64], bounds: &[f64]) -> usize
+fn explicit(
+    out: &Stdout,
+    text: &mut Block,
+    n: usize,
+    p: Point,
+    buckets: &[u64],
+    bounds: &[f64],
+) -> usize
     ensures { waiting result text.new ≡ each 32 (explicit_fields p buckets.now bounds.now) behind waiting n text.old }
 {
-    let a = held(text, n, p);
-    let b = dash(text, a, buckets.len());
-    let c = counts(text, b, buckets);
-    let d = dash(text, c, bounds.len());
-    all_bits(text, d, bounds)
+    let a = held(out, text, n, p);
+    let b = dash(out, text, a, buckets.len());
+    let c = counts(out, text, b, buckets);
+    let d = dash(out, text, c, bounds.len());
+    all_bits(out, text, d, bounds)
 }
 
 // The line of all that a point has, which lies between two cursors.
 fn point_line<'a>(
+    out: &Stdout,
     text: &mut Block,
     n: usize,
     row: [u64; 9],
@@ -233,42 +249,43 @@ fn point_line<'a>(
     match f {
         Figures::Exponential(c) => {
             let below = listing::read::row_at(at, next, true, pos, neg);
-            let a = output::byte(text, n, b'p');
-            let b = set(text, a, row);
-            let d = number(text, b, c.count);
-            let g = number(text, d, c.zeros);
-            let h = exponential(text, g, p, above, below);
-            output::byte(text, h, b'\n')
+            let a = output::byte(out, text, n, b'p');
+            let b = set(out, text, a, row);
+            let d = number(out, text, b, c.count);
+            let g = number(out, text, d, c.zeros);
+            let h = exponential(out, text, g, p, above, below);
+            output::byte(out, text, h, b'\n')
         }
         Figures::Explicit(count) => {
             let own = listing::read::bounds_at(e.bounds, bounds);
-            let a = output::byte(text, n, b'q');
-            let b = set(text, a, row);
-            let d = number(text, b, count);
-            let g = explicit(text, d, p, above, own);
-            output::byte(text, g, b'\n')
+            let a = output::byte(out, text, n, b'q');
+            let b = set(out, text, a, row);
+            let d = number(out, text, b, count);
+            let g = explicit(out, text, d, p, above, own);
+            output::byte(out, text, g, b'\n')
         }
     }
 }
 
 // A mean behind a space, or the number that refuses it behind its mark.
-fn mean_fields(text: &mut Block, n: usize, x: Answer) -> usize
+fn mean_fields(out: &Stdout, text: &mut Block, n: usize, x: Answer) -> usize
     ensures { waiting result text.new ≡ each 32 (mean_fields (said x)) behind waiting n text.old }
 {
     match x {
         Answer::Mean(z) => {
-            let a = output::byte(text, n, b' ');
-            output::signed(text, a, z)
+            let a = output::byte(out, text, n, b' ');
+            output::signed(out, text, a, z)
         }
         Answer::Refused(no) => {
-            let a = output::bytes(text, n, b" !");
-            number(text, a, no as u64)
+            let a = output::bytes(out, text, n, b" !");
+            number(out, text, a, no as u64)
         }
     }
 }
 
 // The line of the point's card.
 fn card_line<'a>(
+    out: &Stdout,
     text: &mut Block,
     n: usize,
     row: [u64; 9],
@@ -288,13 +305,14 @@ fn card_line<'a>(
     let below = listing::read::row_at(at, next, true, pos, neg);
     let own = listing::read::bounds_at(e.bounds, bounds);
     let x = mean::hundredths(p, own, above, below);
-    let a = bare_set(text, n, row);
-    let b = mean_fields(text, a, x);
-    output::byte(text, b, b'\n')
+    let a = bare_set(out, text, n, row);
+    let b = mean_fields(out, text, a, x);
+    output::byte(out, text, b, b'\n')
 }
 
 // The line of the point in a form.
 fn line<'a>(
+    out: &Stdout,
     text: &mut Block,
     n: usize,
     form: Form,
@@ -310,13 +328,14 @@ fn line<'a>(
         behind waiting n text.old }
 {
     match form {
-        Form::Point => point_line(text, n, row, at, e, pos, neg, bounds),
-        Form::Card => card_line(text, n, row, at, e, pos, neg, bounds),
+        Form::Point => point_line(out, text, n, row, at, e, pos, neg, bounds),
+        Form::Card => card_line(out, text, n, row, at, e, pos, neg, bounds),
     }
 }
 
 // Prints the line of the point at a cursor, whose bounds lie in a store of bounds; nothing where no point is there.
 pub fn point<'a>(
+    out: &Stdout,
     text: &mut Block,
     n: usize,
     form: Form,
@@ -340,13 +359,14 @@ pub fn point<'a>(
     }
     let next = e.next;
     Printed {
-        n: line(text, n, form, sets[k], at, e, pos, neg, bounds),
+        n: line(out, text, n, form, sets[k], at, e, pos, neg, bounds),
         at: next,
     }
 }
 
 // Prints a collection: `c START TIME POINTS`, and the first points of the list.
 pub fn collection<'a>(
+    out: &Stdout,
     text: &mut Block,
     n: usize,
     form: Form,
@@ -362,7 +382,7 @@ pub fn collection<'a>(
     ensures { waiting result text.new ≡ collection_lines form start time many (listed_in sets.old words.old pos.old neg.old)
         bounds.now behind waiting n text.old }
 {
-    let m = head(text, n, start, time, many as u64);
+    let m = head(out, text, n, start, time, many as u64);
     let at = Cursor {
         place: 0,
         pos: 0,
@@ -371,26 +391,35 @@ pub fn collection<'a>(
     let mut done = Printed { n: m, at };
     let mut i: usize = 0;
     while i < many {
-        done = point(text, done.n, form, done.at, sets, words, pos, neg, bounds);
+        done = point(
+            out, text, done.n, form, done.at, sets, words, pos, neg, bounds,
+        );
         i += 1;
     }
     done.n
 }
 
-pub fn head(text: &mut Block, n: usize, start: u64, time: u64, many: u64) -> usize
+pub fn head(out: &Stdout, text: &mut Block, n: usize, start: u64, time: u64, many: u64) -> usize
     ensures { waiting result text.new ≡ collection_head start time many behind waiting n text.old }
 {
-    let a = output::byte(text, n, b'c');
-    let b = number(text, a, start);
-    let c = number(text, b, time);
-    let d = number(text, c, many);
-    output::byte(text, d, b'\n')
+    let a = output::byte(out, text, n, b'c');
+    let b = number(out, text, a, start);
+    let c = number(out, text, b, time);
+    let d = number(out, text, c, many);
+    output::byte(out, text, d, b'\n')
 }
 
 // ---- points that are one value
 
 // The line of the point at a place; nothing where there is no row of its set, or no value.
-fn value(text: &mut Block, n: usize, k: usize, sets: &[[u64; 9]], values: &[u64]) -> usize
+fn value(
+    out: &Stdout,
+    text: &mut Block,
+    n: usize,
+    k: usize,
+    sets: &[[u64; 9]],
+    values: &[u64],
+) -> usize
     ensures { waiting result text.new ≡ value_at k sets.now values.now behind waiting n text.old }
 {
     if sets.len() <= k {
@@ -399,14 +428,15 @@ fn value(text: &mut Block, n: usize, k: usize, sets: &[[u64; 9]], values: &[u64]
     if values.len() <= k {
         return n;
     }
-    let a = output::byte(text, n, b'v');
-    let b = set(text, a, sets[k]);
-    let c = bits(text, b, values[k]);
-    output::byte(text, c, b'\n')
+    let a = output::byte(out, text, n, b'v');
+    let b = set(out, text, a, sets[k]);
+    let c = bits(out, text, b, values[k]);
+    output::byte(out, text, c, b'\n')
 }
 
 // Prints a collection of sums or last values: its head, and the first points from their sets and the bits of their values.
 pub fn values(
+    out: &Stdout,
     text: &mut Block,
     n: usize,
     start: u64,
@@ -417,20 +447,20 @@ pub fn values(
 ) -> usize
     ensures { waiting result text.new ≡ value_lines start time many sets.now values.now behind waiting n text.old }
 {
-    let mut m = head(text, n, start, time, many as u64);
+    let mut m = head(out, text, n, start, time, many as u64);
     let mut i: usize = 0;
     while i < many {
-        m = value(text, m, i, sets, values);
+        m = value(out, text, m, i, sets, values);
         i += 1;
     }
     m
 }
 
 // Prints `?` and the number of a line of the input that can't be read.
-pub fn unread(text: &mut Block, n: usize, line: u64) -> usize
+pub fn unread(out: &Stdout, text: &mut Block, n: usize, line: u64) -> usize
     ensures { waiting result text.new ≡ unread_line line behind waiting n text.old }
 {
-    let a = output::byte(text, n, b'?');
-    let b = number(text, a, line);
-    output::byte(text, b, b'\n')
+    let a = output::byte(out, text, n, b'?');
+    let b = number(out, text, a, line);
+    output::byte(out, text, b, b'\n')
 }

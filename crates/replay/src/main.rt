@@ -12,6 +12,7 @@ use lines::{Block, Line};
 use replay_batches::{Floats, Integers};
 use replay_cells::{damage, kept};
 use replay_state::{State, stores};
+use std::io::{Stdin, Stdout};
 
 // The calls of a map over i64.
 fn make_wholes(
@@ -125,7 +126,14 @@ fn goes_on(letter: u8) -> bool {
 }
 
 // Replays one script, up to the line that names the next or to the input's end. A proved loop has to end: no script uses up the numbers.
-fn script(ports: Ports, block: &mut Block, line: &mut Line, text: &mut Block) -> Ports {
+fn script(
+    input: &Stdin,
+    out: &Stdout,
+    ports: Ports,
+    block: &mut Block,
+    line: &mut Line,
+    text: &mut Block,
+) -> Ports {
     let mut attrs = [[0u32; 2]; 9];
     let mut floats = [0.0f64; 100];
     let mut integers = [0i64; 100];
@@ -146,7 +154,7 @@ fn script(ports: Ports, block: &mut Block, line: &mut Line, text: &mut Block) ->
     let mut s = replay_state::first();
     let mut number: u64 = 1;
     while goes_on(s.letter) {
-        now = lines::input::next(now, block, line, text);
+        now = lines::input::next(input, out, now, block, line, text);
         let read = line::read(
             s,
             line,
@@ -177,6 +185,7 @@ fn script(ports: Ports, block: &mut Block, line: &mut Line, text: &mut Block) ->
             &mut out_neg,
         );
         let n = show::answer(
+            out,
             text,
             now.waiting,
             number,
@@ -190,7 +199,7 @@ fn script(ports: Ports, block: &mut Block, line: &mut Line, text: &mut Block) ->
             &out_neg,
         );
         now.waiting = replay_cells::sums::shown(
-            text, n, s, &sets, &entries, &order, &figures, &extremes, &wholes, &pos, &neg,
+            out, text, n, s, &sets, &entries, &order, &figures, &extremes, &wholes, &pos, &neg,
             &out_sets, &out_words, &out_pos, &out_neg, &bounds,
         );
         if u64::MAX <= number {
@@ -206,15 +215,17 @@ fn is_over(p: Ports) -> bool {
 }
 
 // Replays all scripts. A proved loop has to end, and nothing says that the input does: no run uses up the turns.
-fn main() {
+fn main(rt: HostRuntime) {
+    let input = rt.stdin();
+    let out = rt.stdout();
     let mut block = [0u8; 65536];
     let mut text = [0u8; 65536];
     let mut line = [0u8; 256];
     let mut ports = lines::input::first();
     let mut turns = u64::MAX;
     while turns > 0 && !is_over(ports) {
-        ports = script(ports, &mut block, &mut line, &mut text);
+        ports = script(&input, &out, ports, &mut block, &mut line, &mut text);
         turns -= 1;
     }
-    lines::output::write(&text, ports.waiting);
+    lines::output::write(&out, &text, ports.waiting);
 }

@@ -5,6 +5,7 @@ use lines::Block;
 use listing::{Cursor, Found};
 use pooling::Pooled;
 use replay_state::{State, UNREAD, after, lent, stores, within};
+use std::io::Stdout;
 
 // A list's first cursor.
 fn first() -> Cursor
@@ -251,6 +252,7 @@ pub fn follow(
 
 // Prints a kept point behind n bytes of text; how many bytes there are then.
 pub fn printed<'a>(
+    out: &Stdout,
     text: &mut Block,
     n: usize,
     k: u64,
@@ -261,6 +263,7 @@ pub fn printed<'a>(
     neg: &'a [u64],
 ) -> usize {
     let done = whole_printing::point(
+        out,
         text,
         n,
         cursor(k),

@@ -4,6 +4,7 @@ ghost use Rattle.std.specs.Prelude.{◌<◌, ◌≤◌};
 use lines::{Block, output};
 use printing::number;
 use replay_state::{State, stores, within};
+use std::io::Stdout;
 
 // The store of checksum i, by its letter in a line `d`; the output's sets are `S`. The last is of the values of sums and last values, or of the
 // rows of i64s, `i`.
@@ -135,16 +136,17 @@ fn sum(
 }
 
 // The state's numbers.
-fn state(text: &mut Block, n: usize, s: State) -> usize {
+fn state(out: &Stdout, text: &mut Block, n: usize, s: State) -> usize {
     let dir = s.dir;
-    let a = output::byte(text, n, b's');
-    let b = number(text, a, dir.used as u64);
-    let c = number(text, b, dir.count);
-    number(text, c, dir.last)
+    let a = output::byte(out, text, n, b's');
+    let b = number(out, text, a, dir.used as u64);
+    let c = number(out, text, b, dir.count);
+    number(out, text, c, dir.last)
 }
 
 // Prints the map behind n bytes of text, if that is what a line asks for; how many bytes there are then.
 pub fn shown(
+    out: &Stdout,
     text: &mut Block,
     n: usize,
     s: State,
@@ -166,7 +168,7 @@ pub fn shown(
         return n;
     }
     let sums = sums_of(s.kind);
-    let mut m = state(text, n, s);
+    let mut m = state(out, text, n, s);
     let mut i: usize = 0;
     while i < sums {
         let x = sum(
@@ -185,8 +187,8 @@ pub fn shown(
             out_neg,
             bounds,
         );
-        m = number(text, m, x);
+        m = number(out, text, m, x);
         i += 1;
     }
-    output::byte(text, m, b'\n')
+    output::byte(out, text, m, b'\n')
 }

@@ -11,6 +11,7 @@ use gauge_lines::calls;
 use gauge_lines::cells::{Counts, Entries, Extremes, Figures, Gauge, Order, Outcome, Sets};
 use gauge_lines::fields::Call;
 use lines::Block;
+use std::io::Stdout;
 
 // What came of a line that printed nothing.
 fn silent(o: Outcome, text: usize) -> Done
@@ -22,6 +23,7 @@ fn silent(o: Outcome, text: usize) -> Done
 
 // Makes the call that a line asks for.
 pub fn make(
+    out: &Stdout,
     g: Gauge,
     line: &[u8],
     over: bool,
@@ -61,7 +63,7 @@ pub fn make(
             silent(o, n)
         }
         Call::Collect => crate::collect::collect(
-            g, line, text, n, sets, entries, order, figures, extremes, pos, neg, out_sets,
+            out, g, line, text, n, sets, entries, order, figures, extremes, pos, neg, out_sets,
             out_words, out_pos, out_neg, bounds, sheet,
         ),
     }

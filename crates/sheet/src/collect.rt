@@ -13,6 +13,7 @@ use directory::Directory;
 use gauge_lines::cells::{Counts, Entries, Extremes, Figures, Gauge, Order, Sets};
 use lines::Block;
 use sheets::Header;
+use std::io::Stdout;
 use text::Natural;
 
 // The gauge after a collection that left the directory so, and the header of its sheet.
@@ -46,6 +47,7 @@ fn turned(g: Gauge, dir: Directory, time: u64) -> Turn
 
 // Collects by a line `c`, and puts the sheet's lines behind n bytes of text.
 pub fn collect(
+    out: &Stdout,
     g: Gauge,
     line: &[u8],
     text: &mut Block,
@@ -89,7 +91,7 @@ pub fn collect(
             let gauge = t.gauge;
             let header = t.header;
             let end = crate::writing::write(
-                text, n, header, many, out_sets, out_words, out_pos, out_neg, bounds, sheet,
+                out, text, n, header, many, out_sets, out_words, out_pos, out_neg, bounds, sheet,
             );
             crate::state::ended(true, gauge, end)
         }

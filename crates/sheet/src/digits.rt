@@ -8,6 +8,7 @@ ghost use Rattle.sheet.specs.Digits.{hex_of, record_line, record_lines, is_digit
 
 use crate::state::Bytes;
 use lines::{Block, output};
+use std::io::Stdout;
 
 // ---- written
 
@@ -22,29 +23,29 @@ fn glyph(d: u8) -> u8
 }
 
 // Bytes behind n others; how many there are then.
-fn digits_of(text: &mut Block, n: usize, bytes: &[u8]) -> usize
+fn digits_of(out: &Stdout, text: &mut Block, n: usize, bytes: &[u8]) -> usize
     ensures { waiting result text.new ≡ hex_of bytes.now behind waiting n text.old }
 {
     let mut m = n;
     let mut i: usize = 0;
     while i < bytes.len() {
-        let a = output::byte(text, m, glyph(bytes[i] / 16));
-        m = output::byte(text, a, glyph(bytes[i] % 16));
+        let a = output::byte(out, text, m, glyph(bytes[i] / 16));
+        m = output::byte(out, text, a, glyph(bytes[i] % 16));
         i += 1;
     }
     m
 }
 
 // The line of a record.
-fn record_line(text: &mut Block, n: usize, bytes: &[u8]) -> usize
+fn record_line(out: &Stdout, text: &mut Block, n: usize, bytes: &[u8]) -> usize
     ensures { waiting result text.new ≡ record_line bytes.now behind waiting n text.old }
 {
-    let m = digits_of(text, n, bytes);
-    output::byte(text, m, b'\n')
+    let m = digits_of(out, text, n, bytes);
+    output::byte(out, text, m, b'\n')
 }
 
 // The lines of all records.
-pub fn record_lines(text: &mut Block, n: usize, bytes: &[u8]) -> usize
+pub fn record_lines(out: &Stdout, text: &mut Block, n: usize, bytes: &[u8]) -> usize
     ensures { waiting result text.new ≡ record_lines (length bytes.now / 32) bytes.now behind waiting n text.old }
 {
     let many = bytes.len() / 32;
@@ -53,7 +54,7 @@ pub fn record_lines(text: &mut Block, n: usize, bytes: &[u8]) -> usize
     while k < many {
         let a = k * 32;
         let e = a + 32;
-        m = record_line(text, m, &bytes[a..e]);
+        m = record_line(out, text, m, &bytes[a..e]);
         k += 1;
     }
     m

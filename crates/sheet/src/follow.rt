@@ -12,10 +12,12 @@ use crate::reading;
 use crate::state::{Bytes, Done, ListedBounds, ListedCounts, ListedSets, ListedWords, State};
 use gauge_lines::cells::{Counts, Entries, Extremes, Figures, Order, Sets};
 use lines::Block;
+use std::io::Stdout;
 use text::Natural;
 
 // Makes what a line asks for.
 fn step(
+    out: &Stdout,
     st: State,
     line: &[u8],
     over: bool,
@@ -44,34 +46,35 @@ fn step(
 {
     if st.left > 0 {
         return reading::follow(
-            st, line, over, text, n, out_sets, out_words, out_pos, out_neg, bounds, sheet,
+            out, st, line, over, text, n, out_sets, out_words, out_pos, out_neg, bounds, sheet,
         );
     }
     let g = st.gauge;
     let asked = reading::records_in(line);
     match asked {
         Natural::Is(records) => reading::begin(
-            g, records, text, n, out_sets, out_words, out_pos, out_neg, bounds, sheet,
+            out, g, records, text, n, out_sets, out_words, out_pos, out_neg, bounds, sheet,
         ),
         Natural::None => crate::calls::make(
-            g, line, over, text, n, sets, entries, order, figures, extremes, pos, neg, out_sets,
-            out_words, out_pos, out_neg, bounds, sheet,
+            out, g, line, over, text, n, sets, entries, order, figures, extremes, pos, neg,
+            out_sets, out_words, out_pos, out_neg, bounds, sheet,
         ),
     }
 }
 
 // What is said of a line: nothing where it was followed. How much text there is then.
-fn said(taken: bool, number: u64, text: &mut Block, n: usize) -> usize
+fn said(out: &Stdout, taken: bool, number: u64, text: &mut Block, n: usize) -> usize
     ensures { waiting result text.new ≡ pick taken [] (unread_line number) behind waiting n text.old }
 {
     if taken {
         return n;
     }
-    printing::unread(text, n, number)
+    printing::unread(out, text, n, number)
 }
 
 // Follows a line: makes what it asks for, and says `? N`, N its number, where it can't be followed.
 pub fn follow(
+    out: &Stdout,
     number: u64,
     st: State,
     line: &[u8],
@@ -100,13 +103,13 @@ pub fn follow(
         (source out_sets.old out_words.old out_pos.old out_neg.old bounds.old) sheet.old }
 {
     let made = step(
-        st, line, over, text, n, sets, entries, order, figures, extremes, pos, neg, out_sets,
+        out, st, line, over, text, n, sets, entries, order, figures, extremes, pos, neg, out_sets,
         out_words, out_pos, out_neg, bounds, sheet,
     );
     let state = made.state;
     Done {
         taken: made.taken,
         state,
-        text: said(made.taken, number, text, made.text),
+        text: said(out, made.taken, number, text, made.text),
     }
 }

@@ -19,7 +19,9 @@ mod state;
 mod writing;
 
 // Follows the input to its end. A proved loop has to end, and nothing says that the input does: no run has so many lines.
-fn main() {
+fn main(rt: HostRuntime) {
+    let input = rt.stdin();
+    let out = rt.stdout();
     let mut block = [0u8; 65536];
     let mut text = [0u8; 65536];
     let mut line = [0u8; 256];
@@ -41,8 +43,9 @@ fn main() {
     let mut number: u64 = 0;
     while number < u64::MAX && !ports.over {
         number += 1;
-        ports = lines::input::next(ports, &mut block, &mut line, &text);
+        ports = lines::input::next(&input, &out, ports, &mut block, &mut line, &text);
         let done = follow::follow(
+            &out,
             number,
             state,
             lines::input::front(&line, ports.len),
@@ -67,5 +70,5 @@ fn main() {
         state = next;
         ports.waiting = done.text;
     }
-    lines::output::write(&text, ports.waiting);
+    lines::output::write(&out, &text, ports.waiting);
 }

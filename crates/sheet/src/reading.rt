@@ -11,6 +11,7 @@ use gauge_lines::cells::Gauge;
 use lines::Block;
 use printing::Form;
 use sheet_reading::Answer;
+use std::io::Stdout;
 use text::Natural;
 
 // The most records that a sheet has: the header, and 114 for each of 64 points.
@@ -47,6 +48,7 @@ pub fn records_in(line: &[u8]) -> Natural
 
 // Reads a sheet into the list, and puts what the gauge prints of it behind n bytes of text, or `! 15` where it is none.
 fn show(
+    out: &Stdout,
     text: &mut Block,
     n: usize,
     bytes: &[u8],
@@ -62,11 +64,12 @@ fn show(
 {
     let answer = sheet_reading::read(bytes, sets, words, pos, neg, bounds);
     match answer {
-        Answer::Refused(no) => crate::writing::refusal(text, n, no),
+        Answer::Refused(no) => crate::writing::refusal(out, text, n, no),
         Answer::Is(listed) => {
             let h = listed.header;
             let many = listed.points;
             printing::collection(
+                out,
                 text,
                 n,
                 Form::Point,
@@ -85,6 +88,7 @@ fn show(
 
 // Goes on with a sheet: it is read if no record is still to come.
 fn go_on(
+    out: &Stdout,
     st: State,
     text: &mut Block,
     n: usize,
@@ -107,7 +111,7 @@ fn go_on(
         };
     }
     let bytes = crate::writing::front(sheet, st.at);
-    let end = show(text, n, bytes, sets, words, pos, neg, bounds);
+    let end = show(out, text, n, bytes, sets, words, pos, neg, bounds);
     Done {
         taken: true,
         state: st,
@@ -117,6 +121,7 @@ fn go_on(
 
 // Begins a sheet of so many records.
 pub fn begin(
+    out: &Stdout,
     gauge: Gauge,
     records: u64,
     text: &mut Block,
@@ -137,7 +142,7 @@ pub fn begin(
         left: records as usize,
         at: 0,
     };
-    go_on(st, text, n, sets, words, pos, neg, bounds, sheet)
+    go_on(out, st, text, n, sets, words, pos, neg, bounds, sheet)
 }
 
 // Whether there is no line: the input is over, and nothing stands behind its last newline.
@@ -152,6 +157,7 @@ fn is_none(line: &[u8], over: bool) -> bool
 
 // Follows a line in a sheet: one that is no record ends it.
 pub fn follow(
+    out: &Stdout,
     st: State,
     line: &[u8],
     over: bool,
@@ -183,5 +189,5 @@ pub fn follow(
         left: st.left - 1,
         at,
     };
-    go_on(next, text, n, sets, words, pos, neg, bounds, sheet)
+    go_on(out, next, text, n, sets, words, pos, neg, bounds, sheet)
 }

@@ -9,14 +9,15 @@ use crate::state::{Bytes, ListedBounds, ListedCounts, ListedSets, ListedWords};
 use lines::{Block, output};
 use sheet_writing::Answer;
 use sheets::Header;
+use std::io::Stdout;
 
 // `! N` for a refusal, behind n bytes of text; how many there are then.
-pub fn refusal(text: &mut Block, n: usize, no: u8) -> usize
+pub fn refusal(out: &Stdout, text: &mut Block, n: usize, no: u8) -> usize
     ensures { waiting result text.new ≡ refusal_line no behind waiting n text.old }
 {
-    let a = output::byte(text, n, b'!');
-    let b = printing::number(text, a, no as u64);
-    output::byte(text, b, b'\n')
+    let a = output::byte(out, text, n, b'!');
+    let b = printing::number(out, text, a, no as u64);
+    output::byte(out, text, b, b'\n')
 }
 
 fn first_of<'a>(bytes: &'a [u8], n: usize) -> &'a [u8]
@@ -36,18 +37,19 @@ pub fn front<'a>(sheet: &'a Bytes, n: usize) -> &'a [u8]
 }
 
 // The lines of a sheet.
-fn sheet_lines(text: &mut Block, n: usize, bytes: &[u8]) -> usize
+fn sheet_lines(out: &Stdout, text: &mut Block, n: usize, bytes: &[u8]) -> usize
     ensures { waiting result text.new ≡ sheet_lines bytes.now behind waiting n text.old }
 {
-    let a = output::byte(text, n, b's');
-    let b = printing::number(text, a, (bytes.len() / 32) as u64);
-    let c = output::byte(text, b, b'\n');
-    crate::digits::record_lines(text, c, bytes)
+    let a = output::byte(out, text, n, b's');
+    let b = printing::number(out, text, a, (bytes.len() / 32) as u64);
+    let c = output::byte(out, text, b, b'\n');
+    crate::digits::record_lines(out, text, c, bytes)
 }
 
 // Writes the sheet of a header and the first points of the list, and puts its lines behind n bytes of text; `! N` where it is refused, which no
 // collection was seen to be.
 pub fn write<'a>(
+    out: &Stdout,
     text: &mut Block,
     n: usize,
     header: Header,
@@ -65,7 +67,7 @@ pub fn write<'a>(
 {
     let answer = sheet_writing::write(header, many, sets, words, pos, neg, bounds, sheet);
     match answer {
-        Answer::Refused(no) => refusal(text, n, no),
-        Answer::Written(size) => sheet_lines(text, n, front(sheet, size)),
+        Answer::Refused(no) => refusal(out, text, n, no),
+        Answer::Written(size) => sheet_lines(out, text, n, front(sheet, size)),
     }
 }

@@ -19,61 +19,77 @@ use lines::{Block, output};
 use listing::Cursor;
 use point::Figures;
 use printing::Printed;
+use std::io::Stdout;
 use whole_listing::{Entry, Found};
 use whole_point::Point;
 
 // A whole number behind a space.
-fn integer(text: &mut Block, n: usize, x: i64) -> usize
+fn integer(out: &Stdout, text: &mut Block, n: usize, x: i64) -> usize
     ensures { waiting result text.new ≡ 32 ∷ signed x behind waiting n text.old }
 {
-    let m = output::byte(text, n, b' ');
-    output::signed(text, m, x)
+    let m = output::byte(out, text, n, b' ');
+    output::signed(out, text, m, x)
 }
 
 // An extreme behind a space, `-` where it isn't kept.
-fn extreme(text: &mut Block, n: usize, x: Extreme) -> usize
+fn extreme(out: &Stdout, text: &mut Block, n: usize, x: Extreme) -> usize
     ensures { waiting result text.new ≡ 32 ∷ extreme_field x behind waiting n text.old }
 {
     match x {
-        Extreme::None => output::bytes(text, n, b" -"),
-        Extreme::Value(v) => integer(text, n, v),
+        Extreme::None => output::bytes(out, text, n, b" -"),
+        Extreme::Value(v) => integer(out, text, n, v),
     }
 }
 
-fn held(text: &mut Block, n: usize, p: Point) -> usize
+fn held(out: &Stdout, text: &mut Block, n: usize, p: Point) -> usize
     ensures { waiting result text.new ≡ each 32 (held_fields p []) behind waiting n text.old }
 {
     let min = p.min;
     let max = p.max;
-    let a = extreme(text, n, min);
-    let b = extreme(text, a, max);
-    integer(text, b, p.sum)
+    let a = extreme(out, text, n, min);
+    let b = extreme(out, text, a, max);
+    integer(out, text, b, p.sum)
 }
 
 // ---- points: scale and offsets are the shadow's, whose figures are the point's
 
-fn exponential(text: &mut Block, n: usize, p: Point, pos: &[u64], neg: &[u64]) -> usize
+fn exponential(
+    out: &Stdout,
+    text: &mut Block,
+    n: usize,
+    p: Point,
+    pos: &[u64],
+    neg: &[u64],
+) -> usize
     ensures { waiting result text.new ≡ each 32 (exponential_fields p pos.now neg.now) behind waiting n text.old }
 {
     let q = whole_point::shadow_of(p);
-    let a = printing::integer(text, n, point::signed::scale(q));
-    let b = held(text, a, p);
-    let c = printing::row(text, b, point::signed::offset(q, false), pos);
-    printing::row(text, c, point::signed::offset(q, true), neg)
+    let a = printing::integer(out, text, n, point::signed::scale(q));
+    let b = held(out, text, a, p);
+    let c = printing::row(out, text, b, point::signed::offset(q, false), pos);
+    printing::row(out, text, c, point::signed::offset(q, true), neg)
 }
 
-fn explicit(text: &mut Block, n: usize, p: Point, buckets: &[u64], bounds: &[f64]) -> usize
+fn explicit(
+    out: &Stdout,
+    text: &mut Block,
+    n: usize,
+    p: Point,
+    buckets: &[u64],
+    bounds: &[f64],
+) -> usize
     ensures { waiting result text.new ≡ each 32 (explicit_fields p buckets.now bounds.now) behind waiting n text.old }
 {
-    let a = held(text, n, p);
-    let b = printing::dash(text, a, buckets.len());
-    let c = printing::counts(text, b, buckets);
-    let d = printing::dash(text, c, bounds.len());
-    printing::all_bits(text, d, bounds)
+    let a = held(out, text, n, p);
+    let b = printing::dash(out, text, a, buckets.len());
+    let c = printing::counts(out, text, b, buckets);
+    let d = printing::dash(out, text, c, bounds.len());
+    printing::all_bits(out, text, d, bounds)
 }
 
 // The line of all that a point has, which lies between two cursors.
 fn point_line<'a>(
+    out: &Stdout,
     text: &mut Block,
     n: usize,
     row: [u64; 9],
@@ -94,26 +110,27 @@ fn point_line<'a>(
     match f {
         Figures::Exponential(c) => {
             let below = listing::read::row_at(at, next, true, pos, neg);
-            let a = output::byte(text, n, b'p');
-            let b = printing::set(text, a, row);
-            let d = printing::number(text, b, c.count);
-            let g = printing::number(text, d, c.zeros);
-            let h = exponential(text, g, p, above, below);
-            output::byte(text, h, b'\n')
+            let a = output::byte(out, text, n, b'p');
+            let b = printing::set(out, text, a, row);
+            let d = printing::number(out, text, b, c.count);
+            let g = printing::number(out, text, d, c.zeros);
+            let h = exponential(out, text, g, p, above, below);
+            output::byte(out, text, h, b'\n')
         }
         Figures::Explicit(count) => {
             let own = listing::read::bounds_at(e.bounds, bounds);
-            let a = output::byte(text, n, b'q');
-            let b = printing::set(text, a, row);
-            let d = printing::number(text, b, count);
-            let g = explicit(text, d, p, above, own);
-            output::byte(text, g, b'\n')
+            let a = output::byte(out, text, n, b'q');
+            let b = printing::set(out, text, a, row);
+            let d = printing::number(out, text, b, count);
+            let g = explicit(out, text, d, p, above, own);
+            output::byte(out, text, g, b'\n')
         }
     }
 }
 
 // Prints the line of the point at a cursor, whose bounds lie in a store of bounds; nothing where no point is there.
 pub fn point<'a>(
+    out: &Stdout,
     text: &mut Block,
     n: usize,
     at: Cursor,
@@ -130,6 +147,7 @@ pub fn point<'a>(
     let k = at.place;
     let Found::Is(e) = whole_listing::read::point_at(at, words, pos, neg) else {
         return printing::point(
+            out,
             text,
             n,
             printing::Form::Point,
@@ -146,13 +164,14 @@ pub fn point<'a>(
     }
     let next = e.next;
     Printed {
-        n: point_line(text, n, sets[k], at, e, pos, neg, bounds),
+        n: point_line(out, text, n, sets[k], at, e, pos, neg, bounds),
         at: next,
     }
 }
 
 // Prints a collection: `c START TIME POINTS`, and the first points of the list.
 pub fn collection<'a>(
+    out: &Stdout,
     text: &mut Block,
     n: usize,
     start: u64,
@@ -167,7 +186,7 @@ pub fn collection<'a>(
     ensures { waiting result text.new ≡ collection_lines start time many (listed_in sets.old words.old pos.old neg.old)
         bounds.now behind waiting n text.old }
 {
-    let m = printing::head(text, n, start, time, many as u64);
+    let m = printing::head(out, text, n, start, time, many as u64);
     let at = Cursor {
         place: 0,
         pos: 0,
@@ -176,7 +195,7 @@ pub fn collection<'a>(
     let mut done = Printed { n: m, at };
     let mut i: usize = 0;
     while i < many {
-        done = point(text, done.n, done.at, sets, words, pos, neg, bounds);
+        done = point(out, text, done.n, done.at, sets, words, pos, neg, bounds);
         i += 1;
     }
     done.n

@@ -1,7 +1,6 @@
 -- `shown` meets its contract. Assumes nothing.
 use mathlib.Core.Path.{sym, ◌∙◌}
 use Rattle.laws.proofs.Bools.{pick_true, pick-false}
-use borrow.Author.Rules.{rules}
 use Rattle.floats.proofs.shown.Goals as goal
 
 pub returns-then-shows_extremes : goal.returns-then-shows_extremes

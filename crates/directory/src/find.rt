@@ -146,7 +146,7 @@ pub fn locate_agreed(
 ) -> crate::Target
     requires { (limit + 2 ≤ length sets.now) × (limit + 2 ≤ length entries.now) × (limit + 2 ≤ length order.now) × (size row.now ≤ 8)
         × (agreesb limit d (stores sets entries order) ≡ true) }
-    ensures { result ≡ located limit d (stores sets.old entries.old order.old) row.now }
+    ensures { result ≡ located limit d (stores sets.entry entries.entry order.entry) row.now }
 {
     let used = d.used;
     match find(used, sets, order, row) {

@@ -79,7 +79,7 @@ fn seat_right(
 ) -> Seating
     requires { (limit + 2 ≤ length sets.now) × (limit + 2 ≤ length entries.now) × (limit + 2 ≤ length order.now) × (size row.now ≤ 8)
         × (agreesb limit d (stores sets entries order) ≡ true) }
-    ensures { result ≡ seated limit d (stores sets.old entries.old order.old) row.now }
+    ensures { result ≡ seated limit d (stores sets.entry entries.entry order.entry) row.now }
 {
     let t = directory::find::locate_agreed(limit, d, sets, entries, order, row);
     match t {
@@ -100,7 +100,7 @@ fn seat_in(
     row: &[u64; 9],
 ) -> Seating
     requires { (limit + 2 ≤ length sets.now) × (limit + 2 ≤ length entries.now) × (limit + 2 ≤ length order.now) × (size row.now ≤ 8) }
-    ensures { result ≡ seated limit d (stores sets.old entries.old order.old) row.now }
+    ensures { result ≡ seated limit d (stores sets.entry entries.entry order.entry) row.now }
 {
     if !directory::check::agrees(limit, d, sets, entries, order) {
         return refused(8);
@@ -130,7 +130,7 @@ fn seat_by_in(
     h: u64,
 ) -> Seating
     requires { (limit + 2 ≤ length sets.now) × (limit + 2 ≤ length entries.now) × (limit + 2 ≤ length order.now) }
-    ensures { result ≡ seated_by limit d (stores sets.old entries.old order.old) h }
+    ensures { result ≡ seated_by limit d (stores sets.entry entries.entry order.entry) h }
 {
     if !directory::check::agrees(limit, d, sets, entries, order) {
         return refused(8);
@@ -155,11 +155,11 @@ pub fn seat(
     filter: &[u32],
     row: &mut [u64; 9],
 ) -> Seating
-    ensures value { result ≡ unless_barred (barred_at cells value unset limit (stores sets.old entries.old order.old)
+    ensures value { result ≡ unless_barred (barred_at cells value unset limit (stores sets.entry entries.entry order.entry)
         (length (given attrs.now)) (accepts limit (filter_of present filter.now)))
-        (seated limit d (stores sets.old entries.old order.old)
+        (seated limit d (stores sets.entry entries.entry order.entry)
         (row_of (canonical (filter_of present filter.now) (given attrs.now)))) }
-    ensures row_after { row.new ≡ row_unless_barred (barred_at cells value unset limit (stores sets.old entries.old order.old)
+    ensures row_after { row.new ≡ row_unless_barred (barred_at cells value unset limit (stores sets.entry entries.entry order.entry)
         (length (given attrs.now)) (accepts limit (filter_of present filter.now)))
         (row_of (canonical (filter_of present filter.now) (given attrs.now))) row.old }
 {
@@ -185,8 +185,8 @@ pub fn seat_by(
     order: &[u32],
     h: u64,
 ) -> Seating
-    ensures { result ≡ unless_barred (barred_at cells value unset limit (stores sets.old entries.old order.old) 0 (leb limit most_sets))
-        (seated_by limit d (stores sets.old entries.old order.old) h) }
+    ensures { result ≡ unless_barred (barred_at cells value unset limit (stores sets.entry entries.entry order.entry) 0 (leb limit most_sets))
+        (seated_by limit d (stores sets.entry entries.entry order.entry) h) }
 {
     let lent = room::suffices(limit, sets.len(), entries.len(), order.len(), cells);
     let no = first::barred(lent, value, 0, unset, limit <= directory::MOST_SETS);
@@ -212,7 +212,7 @@ fn seat_agreed(
     requires { (limit + 2 ≤ length sets.now) × (limit + 2 ≤ length entries.now) × (limit + 2 ≤ length order.now)
         × (agreesb limit d (stores sets entries order) ≡ true) }
     ensures value { result ≡ unless_barred (barred_by true value (length (given attrs.now)) true)
-        (seated limit d (stores sets.old entries.old order.old)
+        (seated limit d (stores sets.entry entries.entry order.entry)
         (row_of (canonical (filter_of present filter.now) (given attrs.now)))) }
     ensures row_after { row.new ≡ row_unless_barred (barred_by true value (length (given attrs.now)) true)
         (row_of (canonical (filter_of present filter.now) (given attrs.now))) row.old }
@@ -237,7 +237,7 @@ fn seat_by_agreed(
 ) -> Seating
     requires { (limit + 2 ≤ length sets.now) × (limit + 2 ≤ length entries.now) × (limit + 2 ≤ length order.now)
         × (agreesb limit d (stores sets entries order) ≡ true) }
-    ensures { result ≡ unless_barred (barred_by true value 0 true) (seated_by limit d (stores sets.old entries.old order.old) h) }
+    ensures { result ≡ unless_barred (barred_by true value 0 true) (seated_by limit d (stores sets.entry entries.entry order.entry) h) }
 {
     let no = first::barred(true, value, 0, 0, true);
     if no != 0 {
@@ -264,11 +264,11 @@ pub fn seat_if(
     row: &mut [u64; 9],
 ) -> Seating
     requires { known ≡ true → Sure cells unset limit d (stores sets entries order) (accepts limit (filter_of present filter.now)) }
-    ensures value { result ≡ unless_barred (barred_at cells value unset limit (stores sets.old entries.old order.old)
+    ensures value { result ≡ unless_barred (barred_at cells value unset limit (stores sets.entry entries.entry order.entry)
         (length (given attrs.now)) (accepts limit (filter_of present filter.now)))
-        (seated limit d (stores sets.old entries.old order.old)
+        (seated limit d (stores sets.entry entries.entry order.entry)
         (row_of (canonical (filter_of present filter.now) (given attrs.now)))) }
-    ensures row_after { row.new ≡ row_unless_barred (barred_at cells value unset limit (stores sets.old entries.old order.old)
+    ensures row_after { row.new ≡ row_unless_barred (barred_at cells value unset limit (stores sets.entry entries.entry order.entry)
         (length (given attrs.now)) (accepts limit (filter_of present filter.now)))
         (row_of (canonical (filter_of present filter.now) (given attrs.now))) row.old }
 {
@@ -296,8 +296,8 @@ pub fn seat_by_if(
     h: u64,
 ) -> Seating
     requires { known ≡ true → Sure cells unset limit d (stores sets entries order) (leb limit most_sets) }
-    ensures { result ≡ unless_barred (barred_at cells value unset limit (stores sets.old entries.old order.old) 0 (leb limit most_sets))
-        (seated_by limit d (stores sets.old entries.old order.old) h) }
+    ensures { result ≡ unless_barred (barred_at cells value unset limit (stores sets.entry entries.entry order.entry) 0 (leb limit most_sets))
+        (seated_by limit d (stores sets.entry entries.entry order.entry) h) }
 {
     if known {
         return seat_by_agreed(value, limit, d, sets, entries, order, h);
@@ -325,8 +325,8 @@ pub fn commit(
     target: directory::Target,
 ) -> directory::Directory
     requires { Fits d (stores sets entries order) target }
-    ensures { kept result (stores sets.new entries.new order.new)
-        ≡ committed d (stores sets.old entries.old order.old) row.now target }
+    ensures { kept result (stores sets.exit entries.exit order.exit)
+        ≡ committed d (stores sets.entry entries.entry order.entry) row.now target }
 {
     match target {
         directory::Target::Disagrees => d,

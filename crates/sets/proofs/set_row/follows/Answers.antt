@@ -1,5 +1,4 @@
 -- `sets::set_row::follows` meets its contract. Assumes nothing.
-use borrow.Author.Rules.{rules}
 use Rattle.sets.specs.Rows.{soundb}
 use Rattle.sets.proofs.Ways.{follow-first, follow-next}
 use Rattle.sets.proofs.set_row.follows.Goals as goal

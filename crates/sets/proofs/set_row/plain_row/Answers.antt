@@ -1,5 +1,4 @@
 -- `sets::set_row::plain_row` meets its contract. Assumes nothing.
-use borrow.Author.Rules.{rules}
 use mathlib.Core.Path.{sym}
 use Rattle.sets.proofs.Plains.{plain_over, plain-one, plain-many}
 use Rattle.sets.proofs.set_row.plain_row.Goals as goal

@@ -1,13 +1,9 @@
 -- `sets::set_row::rises` meets its contract. Assumes nothing.
-use borrow.Author.Rules.{rules}
-use Prim.Native.Nat.{ℕ, ◌-◌, ◌≤◌}
-use mathlib.Core.Path.{◌≡◌, sym, subst}
+use Prim.Native.Nat.{◌-◌, ◌≤◌}
+use mathlib.Core.Path.{◌≡◌}
 use mathlib.Core.Bool.{true}
-use native.Mathlib.Omega.{arith}
-use borrow.Author.Tests.{lt-ltb, le-ltb}
 use Rattle.sets.specs.All.{allb}
 use Rattle.sets.specs.Rows.{key_at}
-use Rattle.sets.proofs.Alls.{allb-yes, allb-more, allb-no}
 use Rattle.sets.proofs.set_row.rises.Given as goal
 
 abbrev pub invariant-loop-i : goal.invariant-loop-i

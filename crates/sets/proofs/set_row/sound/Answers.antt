@@ -1,5 +1,4 @@
 -- `sets::set_row::sound` meets its contract. Assumes nothing.
-use borrow.Author.Rules.{rules}
 use mathlib.Core.Path.{sym, ◌∙◌}
 use native.Mathlib.Omega.{arith}
 use Rattle.sets.proofs.Keyed.{unsound-none, unsound-many, sound-keys}

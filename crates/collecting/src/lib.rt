@@ -46,7 +46,7 @@ pub fn barred(
     order: &[u32],
 ) -> u8
     requires { known ≡ true → unsurveyed cells unset limit d (stores sets entries order) ≡ 0 }
-    ensures { result ≡ unsurveyed cells unset limit d (stores sets.old entries.old order.old) }
+    ensures { result ≡ unsurveyed cells unset limit d (stores sets.entry entries.entry order.entry) }
 {
     if known {
         return 0;

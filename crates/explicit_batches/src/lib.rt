@@ -49,9 +49,9 @@ fn take_all(
     values: &[f64],
 ) -> Taken
     requires { no ≡ 0 → Asked (explicit_store bounds.now) (true, true) nan known x updated (cells totals extremes counts) values.now }
-    ensures { many result.taken result.no (cells totals.new extremes.new counts.new)
-        ≡ unless_stopped no (cells totals.old extremes.old counts.old)
-        (recorded_all (explicit_store bounds.now) x updated (cells totals.old extremes.old counts.old) values.now) }
+    ensures { many result.taken result.no (cells totals.exit extremes.exit counts.exit)
+        ≡ unless_stopped no (cells totals.entry extremes.entry counts.entry)
+        (recorded_all (explicit_store bounds.now) x updated (cells totals.entry extremes.entry counts.entry) values.now) }
 {
     if no != 0 {
         return Taken { taken: 0, no: no };
@@ -79,9 +79,9 @@ fn all(
     requires { known ≡ true → AgreedFor (explicit_store bounds.now) (true, true) limit (filter_of present filter.now)
         (held d (stores sets entries order) (cells totals extremes counts)) (given attrs.now) }
     ensures { many result.taken result.no
-        (held result.dir (stores sets.new entries.new order.new) (cells totals.new extremes.new counts.new))
+        (held result.dir (stores sets.exit entries.exit order.exit) (cells totals.exit extremes.exit counts.exit))
         ≡ measured_all (explicit_store bounds.now) limit (filter_of present filter.now)
-        (held d (stores sets.old entries.old order.old) (cells totals.old extremes.old counts.old))
+        (held d (stores sets.entry entries.entry order.entry) (cells totals.entry extremes.entry counts.entry))
         values.now (given attrs.now) }
 {
     if values.len() == 0 {
@@ -134,9 +134,9 @@ fn all_by(
     requires { known ≡ true → AgreedBy (explicit_store bounds.now) (true, true) limit
         (held d (stores sets entries order) (cells totals extremes counts)) h }
     ensures { many result.taken result.no
-        (held result.dir (stores sets.new entries.new order.new) (cells totals.new extremes.new counts.new))
+        (held result.dir (stores sets.exit entries.exit order.exit) (cells totals.exit extremes.exit counts.exit))
         ≡ measured_all_by (explicit_store bounds.now) limit
-        (held d (stores sets.old entries.old order.old) (cells totals.old extremes.old counts.old))
+        (held d (stores sets.entry entries.entry order.entry) (cells totals.entry extremes.entry counts.entry))
         values.now h }
 {
     if values.len() == 0 {
@@ -186,9 +186,9 @@ pub fn measure_all(
     filter: &[u32],
 ) -> Batch
     ensures { many result.taken result.no
-        (held result.dir (stores sets.new entries.new order.new) (cells totals.new extremes.new counts.new))
+        (held result.dir (stores sets.exit entries.exit order.exit) (cells totals.exit extremes.exit counts.exit))
         ≡ measured_all (explicit_store bounds.now) limit (filter_of present filter.now)
-        (held d (stores sets.old entries.old order.old) (cells totals.old extremes.old counts.old))
+        (held d (stores sets.entry entries.entry order.entry) (cells totals.entry extremes.entry counts.entry))
         values.now (given attrs.now) }
 {
     all(
@@ -212,9 +212,9 @@ pub fn measure_all_by(
     h: u64,
 ) -> Batch
     ensures { many result.taken result.no
-        (held result.dir (stores sets.new entries.new order.new) (cells totals.new extremes.new counts.new))
+        (held result.dir (stores sets.exit entries.exit order.exit) (cells totals.exit extremes.exit counts.exit))
         ≡ measured_all_by (explicit_store bounds.now) limit
-        (held d (stores sets.old entries.old order.old) (cells totals.old extremes.old counts.old))
+        (held d (stores sets.entry entries.entry order.entry) (cells totals.entry extremes.entry counts.entry))
         values.now h }
 {
     all_by(
@@ -241,9 +241,9 @@ pub fn measure_all_agreed(
     requires { AgreedFor (explicit_store bounds.now) (true, true) limit (filter_of present filter.now)
         (held d (stores sets entries order) (cells totals extremes counts)) (given attrs.now) }
     ensures { many result.taken result.no
-        (held result.dir (stores sets.new entries.new order.new) (cells totals.new extremes.new counts.new))
+        (held result.dir (stores sets.exit entries.exit order.exit) (cells totals.exit extremes.exit counts.exit))
         ≡ measured_all (explicit_store bounds.now) limit (filter_of present filter.now)
-        (held d (stores sets.old entries.old order.old) (cells totals.old extremes.old counts.old))
+        (held d (stores sets.entry entries.entry order.entry) (cells totals.entry extremes.entry counts.entry))
         values.now (given attrs.now) }
 {
     all(
@@ -269,9 +269,9 @@ pub fn measure_all_by_agreed(
     requires { AgreedBy (explicit_store bounds.now) (true, true) limit
         (held d (stores sets entries order) (cells totals extremes counts)) h }
     ensures { many result.taken result.no
-        (held result.dir (stores sets.new entries.new order.new) (cells totals.new extremes.new counts.new))
+        (held result.dir (stores sets.exit entries.exit order.exit) (cells totals.exit extremes.exit counts.exit))
         ≡ measured_all_by (explicit_store bounds.now) limit
-        (held d (stores sets.old entries.old order.old) (cells totals.old extremes.old counts.old))
+        (held d (stores sets.entry entries.entry order.entry) (cells totals.entry extremes.entry counts.entry))
         values.now h }
 {
     all_by(
@@ -297,9 +297,9 @@ pub fn measure_agreed(
 ) -> Reply
     requires { AgreedFor (explicit_store bounds.now) (true, true) limit (filter_of present filter.now)
         (held d (stores sets entries order) (cells totals extremes counts)) (given attrs.now) }
-    ensures { gave result (stores sets.new entries.new order.new) (cells totals.new extremes.new counts.new)
+    ensures { gave result (stores sets.exit entries.exit order.exit) (cells totals.exit extremes.exit counts.exit)
         ≡ measured (explicit_store bounds.now) limit (filter_of present filter.now)
-        (held d (stores sets.old entries.old order.old) (cells totals.old extremes.old counts.old))
+        (held d (stores sets.entry entries.entry order.entry) (cells totals.entry extremes.entry counts.entry))
         v (given attrs.now) }
 {
     let one: [f64; 1] = [v];
@@ -326,9 +326,9 @@ pub fn measure_by_agreed(
 ) -> Reply
     requires { AgreedBy (explicit_store bounds.now) (true, true) limit
         (held d (stores sets entries order) (cells totals extremes counts)) h }
-    ensures { gave result (stores sets.new entries.new order.new) (cells totals.new extremes.new counts.new)
+    ensures { gave result (stores sets.exit entries.exit order.exit) (cells totals.exit extremes.exit counts.exit)
         ≡ measured_by (explicit_store bounds.now) limit
-        (held d (stores sets.old entries.old order.old) (cells totals.old extremes.old counts.old))
+        (held d (stores sets.entry entries.entry order.entry) (cells totals.entry extremes.entry counts.entry))
         v h }
 {
     let one: [f64; 1] = [v];

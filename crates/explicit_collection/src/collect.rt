@@ -35,8 +35,8 @@ fn number(
     requires { known ≡ true → Owned (explicit_store bounds.now) (s.extremes, s.sums) s.limit none
         (held d (stores sets entries order) (cells totals extremes counts)) }
     ensures { result ≡ uncollected (explicit_lister bounds.now) (s.extremes, s.sums) cumulative s.limit
-        (held d (stores sets.old entries.old order.old) (cells totals.old extremes.old counts.old))
-        (output out_sets.old out_words.old out_pos.old out_neg.old) }
+        (held d (stores sets.entry entries.entry order.entry) (cells totals.entry extremes.entry counts.entry))
+        (output out_sets.entry out_words.entry out_pos.entry out_neg.entry) }
 {
     let limit = s.limit;
     let room = value_map::explicit_map::cells_suffice(
@@ -83,11 +83,11 @@ pub fn delta(
     requires { known ≡ true → Owned (explicit_store bounds.now) (s.extremes, s.sums) s.limit none
         (held d (stores sets entries order) (cells totals extremes counts)) }
     ensures { gave result.answer
-        (held result.dir (stores sets.new entries.new order.new) (cells totals.old extremes.old counts.old))
-        (output out_sets.new out_words.new out_pos.new out_neg.new)
+        (held result.dir (stores sets.exit entries.exit order.exit) (cells totals.entry extremes.entry counts.entry))
+        (output out_sets.exit out_words.exit out_pos.exit out_neg.exit)
         ≡ delta_collected (explicit_lister bounds.now) (s.extremes, s.sums) s.limit
-        (held d (stores sets.old entries.old order.old) (cells totals.old extremes.old counts.old))
-        (output out_sets.old out_words.old out_pos.old out_neg.old) }
+        (held d (stores sets.entry entries.entry order.entry) (cells totals.entry extremes.entry counts.entry))
+        (output out_sets.entry out_words.entry out_pos.entry out_neg.entry) }
 {
     let no = number(
         known, false, bounds, s, d, sets, entries, order, totals, extremes, counts, out_sets,
@@ -130,11 +130,11 @@ pub fn cumulative(
     requires { known ≡ true → Owned (explicit_store bounds.now) (s.extremes, s.sums) s.limit none
         (held d (stores sets entries order) (cells totals extremes counts)) }
     ensures { gave result
-        (held d (stores sets.old entries.old order.old) (cells totals.old extremes.old counts.old))
-        (output out_sets.new out_words.new out_pos.new out_neg.new)
+        (held d (stores sets.entry entries.entry order.entry) (cells totals.entry extremes.entry counts.entry))
+        (output out_sets.exit out_words.exit out_pos.exit out_neg.exit)
         ≡ cumulative_collected (explicit_lister bounds.now) (s.extremes, s.sums) s.limit
-        (held d (stores sets.old entries.old order.old) (cells totals.old extremes.old counts.old))
-        (output out_sets.old out_words.old out_pos.old out_neg.old) }
+        (held d (stores sets.entry entries.entry order.entry) (cells totals.entry extremes.entry counts.entry))
+        (output out_sets.entry out_words.entry out_pos.entry out_neg.entry) }
 {
     let no = number(
         known, true, bounds, s, d, sets, entries, order, totals, extremes, counts, out_sets,

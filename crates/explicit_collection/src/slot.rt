@@ -40,7 +40,7 @@ fn agrees_at(
 ) -> bool
     requires { Room bounds.now (cells totals extremes counts) x }
     ensures { result ≡ histograms.agrees ((explicit_store bounds.now).settings (true, true))
-        (series_at bounds.now (cells totals.old extremes.old counts.old) x) }
+        (series_at bounds.now (cells totals.entry extremes.entry counts.entry) x) }
 {
     let n = explicit::bucket_count(bounds);
     let a = x * n;
@@ -81,7 +81,7 @@ fn sound_at(
     requires room { Room bounds.now (cells totals extremes counts) x }
     requires known { Known (explicit_store bounds.now) (true, true) known x updated (cells totals extremes counts) }
     ensures { result ≡ (not updated || histograms.agrees ((explicit_store bounds.now).settings (true, true))
-        (series_at bounds.now (cells totals.old extremes.old counts.old) x)) }
+        (series_at bounds.now (cells totals.entry extremes.entry counts.entry) x)) }
 {
     if known {
         return true;
@@ -107,7 +107,7 @@ pub fn survey(
     requires bounds_value { (bounds_pass bounds.now ≡ true) × Room bounds.now (cells totals extremes counts) x }
     requires few { Few s × Known (explicit_store bounds.now) (true, true) known x updated (cells totals extremes counts) }
     ensures value { result ≡ surveyed_at (explicit_lister bounds.now) (true, true) updated due
-        (cells totals.old extremes.old counts.old) s x }
+        (cells totals.entry extremes.entry counts.entry) s x }
     ensures more { More s result }
 {
     if !sound_at(known, bounds, x, updated, totals, extremes, counts) {
@@ -140,9 +140,9 @@ fn put_point(
 ) -> Cursor
     requires bounds_value { (bounds_pass bounds.now ≡ true) × (bucket_count bounds.now ≤ length counts.now) }
     requires place { Place at (output out_sets out_words out_pos out_neg) (bucket_count bounds.now) 0 }
-    ensures { left result (output out_sets.new out_words.new out_pos.new out_neg.new)
+    ensures { left result (output out_sets.exit out_words.exit out_pos.exit out_neg.exit)
         ≡ point_put bounds.now (explicit_point head show sums) at row counts.now
-        (output out_sets.old out_words.old out_pos.old out_neg.old) }
+        (output out_sets.entry out_words.entry out_pos.entry out_neg.entry) }
 {
     let p = point::explicit_point(head, show, sums);
     let b = Span {
@@ -168,9 +168,9 @@ fn put_fresh(
 ) -> Cursor
     requires bounds_value { bounds_pass bounds.now ≡ true }
     requires place { Place at (output out_sets out_words out_pos out_neg) (bucket_count bounds.now) 0 }
-    ensures { left result (output out_sets.new out_words.new out_pos.new out_neg.new)
+    ensures { left result (output out_sets.exit out_words.exit out_pos.exit out_neg.exit)
         ≡ point_put bounds.now (explicit_point fresh_head show sums) at row (replicate (bucket_count bounds.now) 0)
-        (output out_sets.old out_words.old out_pos.old out_neg.old) }
+        (output out_sets.entry out_words.entry out_pos.entry out_neg.entry) }
 {
     let mut zeros: [u64; 160] = [0; 160];
     let empty = explicit::fresh(bounds, &mut zeros[..]);
@@ -213,9 +213,9 @@ pub fn put(
     requires sound { Sound (explicit_lister bounds.now) (show, sums) updated (cells totals extremes counts) x }
     requires free { due ≡ true → Free (explicit_lister bounds.now) (show, sums) updated (cells totals extremes counts) x at
         (output out_sets out_words out_pos out_neg) }
-    ensures { left result (output out_sets.new out_words.new out_pos.new out_neg.new)
-        ≡ put_slot (explicit_lister bounds.now) (show, sums) updated due (cells totals.old extremes.old counts.old) x row at
-        (output out_sets.old out_words.old out_pos.old out_neg.old) }
+    ensures { left result (output out_sets.exit out_words.exit out_pos.exit out_neg.exit)
+        ≡ put_slot (explicit_lister bounds.now) (show, sums) updated due (cells totals.entry extremes.entry counts.entry) x row at
+        (output out_sets.entry out_words.entry out_pos.entry out_neg.entry) }
 {
     if !due {
         return at;

@@ -39,9 +39,9 @@ fn take_all(
     values: &[i64],
 ) -> Taken
     requires { no ≡ 0 → Asked (explicit_wholes bounds.now sums) true (pos 0) known x updated (cells totals extremes counts) values.now }
-    ensures { many result.taken result.no (cells totals.new extremes.new counts.new)
-        ≡ unless_stopped no (cells totals.old extremes.old counts.old)
-        (recorded_all (explicit_wholes bounds.now sums) x updated (cells totals.old extremes.old counts.old) values.now) }
+    ensures { many result.taken result.no (cells totals.exit extremes.exit counts.exit)
+        ≡ unless_stopped no (cells totals.entry extremes.entry counts.entry)
+        (recorded_all (explicit_wholes bounds.now sums) x updated (cells totals.entry extremes.entry counts.entry) values.now) }
 {
     if no != 0 {
         return Taken { taken: 0, no: no };
@@ -72,9 +72,9 @@ fn all(
     requires { known ≡ true → AgreedFor (explicit_wholes bounds.now sums) true limit (filter_of present filter.now)
         (held d (stores sets entries order) (cells totals extremes counts)) (given attrs.now) }
     ensures { many result.taken result.no
-        (held result.dir (stores sets.new entries.new order.new) (cells totals.new extremes.new counts.new))
+        (held result.dir (stores sets.exit entries.exit order.exit) (cells totals.exit extremes.exit counts.exit))
         ≡ measured_all (explicit_wholes bounds.now sums) limit (filter_of present filter.now)
-        (held d (stores sets.old entries.old order.old) (cells totals.old extremes.old counts.old))
+        (held d (stores sets.entry entries.entry order.entry) (cells totals.entry extremes.entry counts.entry))
         values.now (given attrs.now) }
 {
     if values.len() == 0 {
@@ -129,9 +129,9 @@ fn all_by(
     requires { known ≡ true → AgreedBy (explicit_wholes bounds.now sums) true limit
         (held d (stores sets entries order) (cells totals extremes counts)) h }
     ensures { many result.taken result.no
-        (held result.dir (stores sets.new entries.new order.new) (cells totals.new extremes.new counts.new))
+        (held result.dir (stores sets.exit entries.exit order.exit) (cells totals.exit extremes.exit counts.exit))
         ≡ measured_all_by (explicit_wholes bounds.now sums) limit
-        (held d (stores sets.old entries.old order.old) (cells totals.old extremes.old counts.old))
+        (held d (stores sets.entry entries.entry order.entry) (cells totals.entry extremes.entry counts.entry))
         values.now h }
 {
     if values.len() == 0 {
@@ -183,9 +183,9 @@ pub fn measure_all(
     filter: &[u32],
 ) -> Batch
     ensures { many result.taken result.no
-        (held result.dir (stores sets.new entries.new order.new) (cells totals.new extremes.new counts.new))
+        (held result.dir (stores sets.exit entries.exit order.exit) (cells totals.exit extremes.exit counts.exit))
         ≡ measured_all (explicit_wholes bounds.now sums) limit (filter_of present filter.now)
-        (held d (stores sets.old entries.old order.old) (cells totals.old extremes.old counts.old))
+        (held d (stores sets.entry entries.entry order.entry) (cells totals.entry extremes.entry counts.entry))
         values.now (given attrs.now) }
 {
     all(
@@ -210,9 +210,9 @@ pub fn measure_all_by(
     h: u64,
 ) -> Batch
     ensures { many result.taken result.no
-        (held result.dir (stores sets.new entries.new order.new) (cells totals.new extremes.new counts.new))
+        (held result.dir (stores sets.exit entries.exit order.exit) (cells totals.exit extremes.exit counts.exit))
         ≡ measured_all_by (explicit_wholes bounds.now sums) limit
-        (held d (stores sets.old entries.old order.old) (cells totals.old extremes.old counts.old))
+        (held d (stores sets.entry entries.entry order.entry) (cells totals.entry extremes.entry counts.entry))
         values.now h }
 {
     all_by(
@@ -240,9 +240,9 @@ pub fn measure_all_agreed(
     requires { AgreedFor (explicit_wholes bounds.now sums) true limit (filter_of present filter.now)
         (held d (stores sets entries order) (cells totals extremes counts)) (given attrs.now) }
     ensures { many result.taken result.no
-        (held result.dir (stores sets.new entries.new order.new) (cells totals.new extremes.new counts.new))
+        (held result.dir (stores sets.exit entries.exit order.exit) (cells totals.exit extremes.exit counts.exit))
         ≡ measured_all (explicit_wholes bounds.now sums) limit (filter_of present filter.now)
-        (held d (stores sets.old entries.old order.old) (cells totals.old extremes.old counts.old))
+        (held d (stores sets.entry entries.entry order.entry) (cells totals.entry extremes.entry counts.entry))
         values.now (given attrs.now) }
 {
     all(
@@ -269,9 +269,9 @@ pub fn measure_all_by_agreed(
     requires { AgreedBy (explicit_wholes bounds.now sums) true limit
         (held d (stores sets entries order) (cells totals extremes counts)) h }
     ensures { many result.taken result.no
-        (held result.dir (stores sets.new entries.new order.new) (cells totals.new extremes.new counts.new))
+        (held result.dir (stores sets.exit entries.exit order.exit) (cells totals.exit extremes.exit counts.exit))
         ≡ measured_all_by (explicit_wholes bounds.now sums) limit
-        (held d (stores sets.old entries.old order.old) (cells totals.old extremes.old counts.old))
+        (held d (stores sets.entry entries.entry order.entry) (cells totals.entry extremes.entry counts.entry))
         values.now h }
 {
     all_by(
@@ -298,9 +298,9 @@ pub fn measure_agreed(
 ) -> Reply
     requires { AgreedFor (explicit_wholes bounds.now sums) true limit (filter_of present filter.now)
         (held d (stores sets entries order) (cells totals extremes counts)) (given attrs.now) }
-    ensures { gave result (stores sets.new entries.new order.new) (cells totals.new extremes.new counts.new)
+    ensures { gave result (stores sets.exit entries.exit order.exit) (cells totals.exit extremes.exit counts.exit)
         ≡ measured (explicit_wholes bounds.now sums) limit (filter_of present filter.now)
-        (held d (stores sets.old entries.old order.old) (cells totals.old extremes.old counts.old))
+        (held d (stores sets.entry entries.entry order.entry) (cells totals.entry extremes.entry counts.entry))
         v (given attrs.now) }
 {
     let one: [i64; 1] = [v];
@@ -328,9 +328,9 @@ pub fn measure_by_agreed(
 ) -> Reply
     requires { AgreedBy (explicit_wholes bounds.now sums) true limit
         (held d (stores sets entries order) (cells totals extremes counts)) h }
-    ensures { gave result (stores sets.new entries.new order.new) (cells totals.new extremes.new counts.new)
+    ensures { gave result (stores sets.exit entries.exit order.exit) (cells totals.exit extremes.exit counts.exit)
         ≡ measured_by (explicit_wholes bounds.now sums) limit
-        (held d (stores sets.old entries.old order.old) (cells totals.old extremes.old counts.old))
+        (held d (stores sets.entry entries.entry order.entry) (cells totals.entry extremes.entry counts.entry))
         v h }
 {
     let one: [i64; 1] = [v];

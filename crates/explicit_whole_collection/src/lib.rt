@@ -40,9 +40,9 @@ pub fn configure(
     extremes: &[[i64; 3]],
     counts: &[u64],
 ) -> Configured
-    ensures { configuring (said result) (stores sets.old entries.new order.old)
+    ensures { configuring (said result) (stores sets.entry entries.exit order.entry)
         ≡ configured bounds.now show sums limit (filter_of present filter.now)
-        (stores sets.old entries.old order.old) (cells totals.old extremes.old counts.old) }
+        (stores sets.entry entries.entry order.entry) (cells totals.entry extremes.entry counts.entry) }
 {
     let reply = whole_map::explicit_map::start(
         bounds, sums, limit, present, filter, sets, entries, order, totals, extremes, counts,
@@ -72,11 +72,11 @@ pub fn delta(
     out_neg: &mut [u64],
 ) -> Reply
     ensures { gave result.answer
-        (held result.dir (stores sets.new entries.new order.new) (cells totals.old extremes.old counts.old))
-        (output out_sets.new out_words.new out_pos.new out_neg.new)
+        (held result.dir (stores sets.exit entries.exit order.exit) (cells totals.entry extremes.entry counts.entry))
+        (output out_sets.exit out_words.exit out_pos.exit out_neg.exit)
         ≡ delta_collected (explicit_whole_lister bounds.now s.sums) s.extremes s.limit
-        (held d (stores sets.old entries.old order.old) (cells totals.old extremes.old counts.old))
-        (output out_sets.old out_words.old out_pos.old out_neg.old) }
+        (held d (stores sets.entry entries.entry order.entry) (cells totals.entry extremes.entry counts.entry))
+        (output out_sets.entry out_words.entry out_pos.entry out_neg.entry) }
 {
     crate::collect::delta(
         false, bounds, s, d, sets, entries, order, totals, extremes, counts, out_sets, out_words,
@@ -103,11 +103,11 @@ pub fn delta_agreed(
     requires { Owned (explicit_wholes bounds.now s.sums) s.extremes s.limit none
         (held d (stores sets entries order) (cells totals extremes counts)) }
     ensures { gave result.answer
-        (held result.dir (stores sets.new entries.new order.new) (cells totals.old extremes.old counts.old))
-        (output out_sets.new out_words.new out_pos.new out_neg.new)
+        (held result.dir (stores sets.exit entries.exit order.exit) (cells totals.entry extremes.entry counts.entry))
+        (output out_sets.exit out_words.exit out_pos.exit out_neg.exit)
         ≡ delta_collected (explicit_whole_lister bounds.now s.sums) s.extremes s.limit
-        (held d (stores sets.old entries.old order.old) (cells totals.old extremes.old counts.old))
-        (output out_sets.old out_words.old out_pos.old out_neg.old) }
+        (held d (stores sets.entry entries.entry order.entry) (cells totals.entry extremes.entry counts.entry))
+        (output out_sets.entry out_words.entry out_pos.entry out_neg.entry) }
 {
     crate::collect::delta(
         true, bounds, s, d, sets, entries, order, totals, extremes, counts, out_sets, out_words,
@@ -132,11 +132,11 @@ pub fn cumulative(
     out_neg: &mut [u64],
 ) -> Answer
     ensures { gave result
-        (held d (stores sets.old entries.old order.old) (cells totals.old extremes.old counts.old))
-        (output out_sets.new out_words.new out_pos.new out_neg.new)
+        (held d (stores sets.entry entries.entry order.entry) (cells totals.entry extremes.entry counts.entry))
+        (output out_sets.exit out_words.exit out_pos.exit out_neg.exit)
         ≡ cumulative_collected (explicit_whole_lister bounds.now s.sums) s.extremes s.limit
-        (held d (stores sets.old entries.old order.old) (cells totals.old extremes.old counts.old))
-        (output out_sets.old out_words.old out_pos.old out_neg.old) }
+        (held d (stores sets.entry entries.entry order.entry) (cells totals.entry extremes.entry counts.entry))
+        (output out_sets.entry out_words.entry out_pos.entry out_neg.entry) }
 {
     crate::collect::cumulative(
         false, bounds, s, d, sets, entries, order, totals, extremes, counts, out_sets, out_words,
@@ -163,11 +163,11 @@ pub fn cumulative_agreed(
     requires { Owned (explicit_wholes bounds.now s.sums) s.extremes s.limit none
         (held d (stores sets entries order) (cells totals extremes counts)) }
     ensures { gave result
-        (held d (stores sets.old entries.old order.old) (cells totals.old extremes.old counts.old))
-        (output out_sets.new out_words.new out_pos.new out_neg.new)
+        (held d (stores sets.entry entries.entry order.entry) (cells totals.entry extremes.entry counts.entry))
+        (output out_sets.exit out_words.exit out_pos.exit out_neg.exit)
         ≡ cumulative_collected (explicit_whole_lister bounds.now s.sums) s.extremes s.limit
-        (held d (stores sets.old entries.old order.old) (cells totals.old extremes.old counts.old))
-        (output out_sets.old out_words.old out_pos.old out_neg.old) }
+        (held d (stores sets.entry entries.entry order.entry) (cells totals.entry extremes.entry counts.entry))
+        (output out_sets.entry out_words.entry out_pos.entry out_neg.entry) }
 {
     crate::collect::cumulative(
         true, bounds, s, d, sets, entries, order, totals, extremes, counts, out_sets, out_words,

@@ -43,7 +43,7 @@ fn sound_at(
     requires room { Room bounds.now (counting totals counts) x }
     requires known { Known (explicit_wholes bounds.now true) true known x updated (counting totals counts) }
     ensures { result ≡ (not updated || wholes.agrees ((explicit_wholes bounds.now true).settings true)
-        (series_at bounds.now (counting totals.old counts.old) x)) }
+        (series_at bounds.now (counting totals.entry counts.entry) x)) }
 {
     if known {
         return true;
@@ -71,7 +71,7 @@ pub fn survey(
     requires bounds_value { (bounds_pass bounds.now ≡ true) × Room bounds.now (counting totals counts) x }
     requires few { Few s × Known (explicit_wholes bounds.now true) true known x updated (counting totals counts) }
     ensures value { result ≡ surveyed_at (explicit_whole_lister bounds.now true) true updated due
-        (counting totals.old counts.old) s x }
+        (counting totals.entry counts.entry) s x }
     ensures more { More s result }
 {
     if !sound_at(known, bounds, x, updated, totals, counts) {
@@ -104,9 +104,9 @@ fn put_point(
 ) -> Cursor
     requires bounds_value { (bounds_pass bounds.now ≡ true) × (bucket_count bounds.now ≤ length counts.now) }
     requires place { Place at (output out_sets out_words out_pos out_neg) (bucket_count bounds.now) 0 }
-    ensures { left result (output out_sets.new out_words.new out_pos.new out_neg.new)
+    ensures { left result (output out_sets.exit out_words.exit out_pos.exit out_neg.exit)
         ≡ point_put bounds.now (explicit_point head show sums) at row counts.now
-        (output out_sets.old out_words.old out_pos.old out_neg.old) }
+        (output out_sets.entry out_words.entry out_pos.entry out_neg.entry) }
 {
     let p = whole_point::explicit_point(head, show, sums);
     let b = Span {
@@ -132,9 +132,9 @@ fn put_fresh(
 ) -> Cursor
     requires bounds_value { bounds_pass bounds.now ≡ true }
     requires place { Place at (output out_sets out_words out_pos out_neg) (bucket_count bounds.now) 0 }
-    ensures { left result (output out_sets.new out_words.new out_pos.new out_neg.new)
+    ensures { left result (output out_sets.exit out_words.exit out_pos.exit out_neg.exit)
         ≡ point_put bounds.now (explicit_point fresh_head show sums) at row (replicate (bucket_count bounds.now) 0)
-        (output out_sets.old out_words.old out_pos.old out_neg.old) }
+        (output out_sets.entry out_words.entry out_pos.entry out_neg.entry) }
 {
     let zeros: [u64; 160] = [0; 160];
     let head = Head {
@@ -179,9 +179,9 @@ pub fn put(
     requires sound { Sound (explicit_whole_lister bounds.now sums) show updated (cells totals extremes counts) x }
     requires free { due ≡ true → Free (explicit_whole_lister bounds.now sums) show updated (cells totals extremes counts) x at
         (output out_sets out_words out_pos out_neg) }
-    ensures { left result (output out_sets.new out_words.new out_pos.new out_neg.new)
-        ≡ put_slot (explicit_whole_lister bounds.now sums) show updated due (cells totals.old extremes.old counts.old) x row at
-        (output out_sets.old out_words.old out_pos.old out_neg.old) }
+    ensures { left result (output out_sets.exit out_words.exit out_pos.exit out_neg.exit)
+        ≡ put_slot (explicit_whole_lister bounds.now sums) show updated due (cells totals.entry extremes.entry counts.entry) x row at
+        (output out_sets.entry out_words.entry out_pos.entry out_neg.entry) }
 {
     if !due {
         return at;

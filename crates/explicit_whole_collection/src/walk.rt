@@ -26,7 +26,7 @@ pub fn survey(
     requires all_known { AllKnown (explicit_wholes bounds.now true) true known
         (walked used [] entries.now order.now (counting totals counts)) }
     ensures { result ≡ surveyed (explicit_whole_lister bounds.now true) true cumulative
-        (walked used [] entries.now order.now (counting totals.old counts.old)) }
+        (walked used [] entries.now order.now (counting totals.entry counts.entry)) }
 {
     let mut found = Survey {
         sound: true,
@@ -69,10 +69,10 @@ pub fn list(
 ) -> Cursor
     requires { Listable (explicit_whole_lister bounds.now sums) show cumulative
         (walked used sets.now entries.now order.now (cells totals extremes counts)) (output out_sets out_words out_pos out_neg) }
-    ensures { left result (output out_sets.new out_words.new out_pos.new out_neg.new)
+    ensures { left result (output out_sets.exit out_words.exit out_pos.exit out_neg.exit)
         ≡ listed_to (explicit_whole_lister bounds.now sums) show cumulative
-        (walked used sets.now entries.now order.now (cells totals.old extremes.old counts.old))
-        (output out_sets.old out_words.old out_pos.old out_neg.old) }
+        (walked used sets.now entries.now order.now (cells totals.entry extremes.entry counts.entry))
+        (output out_sets.entry out_words.entry out_pos.entry out_neg.entry) }
 {
     let mut at = Cursor {
         place: 0,

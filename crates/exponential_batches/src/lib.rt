@@ -49,9 +49,9 @@ fn take(
     values: &[f64],
 ) -> Taken
     requires { no ≡ 0 → Asked (exponential_store size top) (true, true) nan known x updated (cells figures extremes pos neg) values.now }
-    ensures { many result.taken result.no (cells figures.new extremes.new pos.new neg.new)
-        ≡ unless_stopped no (cells figures.old extremes.old pos.old neg.old)
-        (recorded_all (exponential_store size top) x updated (cells figures.old extremes.old pos.old neg.old) values.now) }
+    ensures { many result.taken result.no (cells figures.exit extremes.exit pos.exit neg.exit)
+        ≡ unless_stopped no (cells figures.entry extremes.entry pos.entry neg.entry)
+        (recorded_all (exponential_store size top) x updated (cells figures.entry extremes.entry pos.entry neg.entry) values.now) }
 {
     if no != 0 {
         return Taken { taken: 0, no: no };
@@ -81,9 +81,9 @@ fn all_by(
     requires { known ≡ true → AgreedBy (exponential_store size top) (true, true) limit
         (held d (stores sets entries order) (cells figures extremes pos neg)) h }
     ensures { many result.taken result.no
-        (held result.dir (stores sets.new entries.new order.new) (cells figures.new extremes.new pos.new neg.new))
+        (held result.dir (stores sets.exit entries.exit order.exit) (cells figures.exit extremes.exit pos.exit neg.exit))
         ≡ measured_all_by (exponential_store size top) limit
-        (held d (stores sets.old entries.old order.old) (cells figures.old extremes.old pos.old neg.old))
+        (held d (stores sets.entry entries.entry order.entry) (cells figures.entry extremes.entry pos.entry neg.entry))
         values.now h }
 {
     if values.len() == 0 {
@@ -146,9 +146,9 @@ fn all(
     requires { known ≡ true → AgreedFor (exponential_store size top) (true, true) limit (filter_of present filter.now)
         (held d (stores sets entries order) (cells figures extremes pos neg)) (given attrs.now) }
     ensures { many result.taken result.no
-        (held result.dir (stores sets.new entries.new order.new) (cells figures.new extremes.new pos.new neg.new))
+        (held result.dir (stores sets.exit entries.exit order.exit) (cells figures.exit extremes.exit pos.exit neg.exit))
         ≡ measured_all (exponential_store size top) limit (filter_of present filter.now)
-        (held d (stores sets.old entries.old order.old) (cells figures.old extremes.old pos.old neg.old))
+        (held d (stores sets.entry entries.entry order.entry) (cells figures.entry extremes.entry pos.entry neg.entry))
         values.now (given attrs.now) }
 {
     if values.len() == 0 {
@@ -210,9 +210,9 @@ pub fn measure_all(
     filter: &[u32],
 ) -> Batch
     ensures { many result.taken result.no
-        (held result.dir (stores sets.new entries.new order.new) (cells figures.new extremes.new pos.new neg.new))
+        (held result.dir (stores sets.exit entries.exit order.exit) (cells figures.exit extremes.exit pos.exit neg.exit))
         ≡ measured_all (exponential_store size top) limit (filter_of present filter.now)
-        (held d (stores sets.old entries.old order.old) (cells figures.old extremes.old pos.old neg.old))
+        (held d (stores sets.entry entries.entry order.entry) (cells figures.entry extremes.entry pos.entry neg.entry))
         values.now (given attrs.now) }
 {
     all(
@@ -238,9 +238,9 @@ pub fn measure_all_by(
     h: u64,
 ) -> Batch
     ensures { many result.taken result.no
-        (held result.dir (stores sets.new entries.new order.new) (cells figures.new extremes.new pos.new neg.new))
+        (held result.dir (stores sets.exit entries.exit order.exit) (cells figures.exit extremes.exit pos.exit neg.exit))
         ≡ measured_all_by (exponential_store size top) limit
-        (held d (stores sets.old entries.old order.old) (cells figures.old extremes.old pos.old neg.old))
+        (held d (stores sets.entry entries.entry order.entry) (cells figures.entry extremes.entry pos.entry neg.entry))
         values.now h }
 {
     all_by(
@@ -269,9 +269,9 @@ pub fn measure_all_agreed(
     requires { AgreedFor (exponential_store size top) (true, true) limit (filter_of present filter.now)
         (held d (stores sets entries order) (cells figures extremes pos neg)) (given attrs.now) }
     ensures { many result.taken result.no
-        (held result.dir (stores sets.new entries.new order.new) (cells figures.new extremes.new pos.new neg.new))
+        (held result.dir (stores sets.exit entries.exit order.exit) (cells figures.exit extremes.exit pos.exit neg.exit))
         ≡ measured_all (exponential_store size top) limit (filter_of present filter.now)
-        (held d (stores sets.old entries.old order.old) (cells figures.old extremes.old pos.old neg.old))
+        (held d (stores sets.entry entries.entry order.entry) (cells figures.entry extremes.entry pos.entry neg.entry))
         values.now (given attrs.now) }
 {
     all(
@@ -299,9 +299,9 @@ pub fn measure_all_by_agreed(
     requires { AgreedBy (exponential_store size top) (true, true) limit
         (held d (stores sets entries order) (cells figures extremes pos neg)) h }
     ensures { many result.taken result.no
-        (held result.dir (stores sets.new entries.new order.new) (cells figures.new extremes.new pos.new neg.new))
+        (held result.dir (stores sets.exit entries.exit order.exit) (cells figures.exit extremes.exit pos.exit neg.exit))
         ≡ measured_all_by (exponential_store size top) limit
-        (held d (stores sets.old entries.old order.old) (cells figures.old extremes.old pos.old neg.old))
+        (held d (stores sets.entry entries.entry order.entry) (cells figures.entry extremes.entry pos.entry neg.entry))
         values.now h }
 {
     all_by(
@@ -329,9 +329,9 @@ pub fn measure_agreed(
 ) -> Reply
     requires { AgreedFor (exponential_store size top) (true, true) limit (filter_of present filter.now)
         (held d (stores sets entries order) (cells figures extremes pos neg)) (given attrs.now) }
-    ensures { gave result (stores sets.new entries.new order.new) (cells figures.new extremes.new pos.new neg.new)
+    ensures { gave result (stores sets.exit entries.exit order.exit) (cells figures.exit extremes.exit pos.exit neg.exit)
         ≡ measured (exponential_store size top) limit (filter_of present filter.now)
-        (held d (stores sets.old entries.old order.old) (cells figures.old extremes.old pos.old neg.old))
+        (held d (stores sets.entry entries.entry order.entry) (cells figures.entry extremes.entry pos.entry neg.entry))
         v (given attrs.now) }
 {
     let one: [f64; 1] = [v];
@@ -360,9 +360,9 @@ pub fn measure_by_agreed(
 ) -> Reply
     requires { AgreedBy (exponential_store size top) (true, true) limit
         (held d (stores sets entries order) (cells figures extremes pos neg)) h }
-    ensures { gave result (stores sets.new entries.new order.new) (cells figures.new extremes.new pos.new neg.new)
+    ensures { gave result (stores sets.exit entries.exit order.exit) (cells figures.exit extremes.exit pos.exit neg.exit)
         ≡ measured_by (exponential_store size top) limit
-        (held d (stores sets.old entries.old order.old) (cells figures.old extremes.old pos.old neg.old))
+        (held d (stores sets.entry entries.entry order.entry) (cells figures.entry extremes.entry pos.entry neg.entry))
         v h }
 {
     let one: [f64; 1] = [v];

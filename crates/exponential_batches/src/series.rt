@@ -18,7 +18,7 @@ pub struct Run {
 // One value more, where nothing refuses it: the head then.
 fn noted(size: u32, top: u32, head: Head, pos: &mut [u64], neg: &mut [u64], v: f64) -> Head
     requires { refusal_of size top head pos.old neg.old v ≡ 0 }
-    ensures { after 0 (series result pos.new neg.new) ≡ step size top (series head pos.old neg.old) v }
+    ensures { after 0 (series result pos.exit neg.exit) ≡ step size top (series head pos.entry neg.entry) v }
 {
     let next = exponential::count_in(size, top, head, pos, neg, v);
     let least = floats::lesser(head.min, v);
@@ -41,8 +41,8 @@ pub fn record_all(
     values: &[f64],
 ) -> Run
     requires { Sound size top (series head pos neg) }
-    ensures { many result.taken result.no (series result.head pos.new neg.new)
-        ≡ each (step size top) (series head pos.old neg.old) values.now }
+    ensures { many result.taken result.no (series result.head pos.exit neg.exit)
+        ≡ each (step size top) (series head pos.entry neg.entry) values.now }
 {
     let mut h = head;
     let mut i: usize = 0;

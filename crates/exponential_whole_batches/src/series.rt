@@ -47,7 +47,7 @@ fn next(
     v: i64,
 ) -> Step
     requires { Sound size top (series head pos neg) }
-    ensures { after result.no (series result.head pos.new neg.new) ≡ step size top sums (series head pos.old neg.old) v }
+    ensures { after result.no (series result.head pos.exit neg.exit) ≡ step size top sums (series head pos.entry neg.entry) v }
 {
     let c = head.counts;
     if c.count == u64::MAX {
@@ -86,8 +86,8 @@ pub fn record_all(
     values: &[i64],
 ) -> Run
     requires { Sound size top (series head pos neg) }
-    ensures { many result.taken result.no (series result.head pos.new neg.new)
-        ≡ each (step size top sums) (series head pos.old neg.old) values.now }
+    ensures { many result.taken result.no (series result.head pos.exit neg.exit)
+        ≡ each (step size top sums) (series head pos.entry neg.entry) values.now }
 {
     let mut h = head;
     let mut i: usize = 0;

@@ -35,8 +35,8 @@ fn number(
     requires { known ≡ true → Owned (exponential_wholes s.size s.top s.sums) s.extremes s.limit none
         (held d (stores sets entries order) (cells figures extremes pos neg)) }
     ensures { result ≡ uncollected (exponential_whole_lister s.size s.top s.sums) s.extremes cumulative s.limit
-        (held d (stores sets.old entries.old order.old) (cells figures.old extremes.old pos.old neg.old))
-        (output out_sets.old out_words.old out_pos.old out_neg.old) }
+        (held d (stores sets.entry entries.entry order.entry) (cells figures.entry extremes.entry pos.entry neg.entry))
+        (output out_sets.entry out_words.entry out_pos.entry out_neg.entry) }
 {
     let size = s.size;
     let limit = s.limit;
@@ -84,12 +84,12 @@ pub fn delta(
 ) -> Reply
     requires { known ≡ true → Owned (exponential_wholes s.size s.top s.sums) s.extremes s.limit none
         (held d (stores sets entries order) (cells figures extremes pos neg)) }
-    ensures { gave result.answer (held result.dir (stores sets.new entries.new order.new)
-        (cells figures.old extremes.old pos.old neg.old))
-        (output out_sets.new out_words.new out_pos.new out_neg.new)
+    ensures { gave result.answer (held result.dir (stores sets.exit entries.exit order.exit)
+        (cells figures.entry extremes.entry pos.entry neg.entry))
+        (output out_sets.exit out_words.exit out_pos.exit out_neg.exit)
         ≡ delta_collected (exponential_whole_lister s.size s.top s.sums) s.extremes s.limit
-        (held d (stores sets.old entries.old order.old) (cells figures.old extremes.old pos.old neg.old))
-        (output out_sets.old out_words.old out_pos.old out_neg.old) }
+        (held d (stores sets.entry entries.entry order.entry) (cells figures.entry extremes.entry pos.entry neg.entry))
+        (output out_sets.entry out_words.entry out_pos.entry out_neg.entry) }
 {
     let no = number(
         known, false, s, d, sets, entries, order, figures, extremes, pos, neg, out_sets, out_words,
@@ -132,11 +132,11 @@ pub fn cumulative(
     requires { known ≡ true → Owned (exponential_wholes s.size s.top s.sums) s.extremes s.limit none
         (held d (stores sets entries order) (cells figures extremes pos neg)) }
     ensures { gave result
-        (held d (stores sets.old entries.old order.old) (cells figures.old extremes.old pos.old neg.old))
-        (output out_sets.new out_words.new out_pos.new out_neg.new)
+        (held d (stores sets.entry entries.entry order.entry) (cells figures.entry extremes.entry pos.entry neg.entry))
+        (output out_sets.exit out_words.exit out_pos.exit out_neg.exit)
         ≡ cumulative_collected (exponential_whole_lister s.size s.top s.sums) s.extremes s.limit
-        (held d (stores sets.old entries.old order.old) (cells figures.old extremes.old pos.old neg.old))
-        (output out_sets.old out_words.old out_pos.old out_neg.old) }
+        (held d (stores sets.entry entries.entry order.entry) (cells figures.entry extremes.entry pos.entry neg.entry))
+        (output out_sets.entry out_words.entry out_pos.entry out_neg.entry) }
 {
     let no = number(
         known, true, s, d, sets, entries, order, figures, extremes, pos, neg, out_sets, out_words,

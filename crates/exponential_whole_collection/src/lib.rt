@@ -42,9 +42,9 @@ pub fn configure(
     pos: &[u64],
     neg: &[u64],
 ) -> Configured
-    ensures { configuring (said result) (stores sets.old entries.new order.old)
+    ensures { configuring (said result) (stores sets.entry entries.exit order.entry)
         ≡ configured size scale show sums limit (filter_of present filter.now)
-        (stores sets.old entries.old order.old) (cells figures.old extremes.old pos.old neg.old) }
+        (stores sets.entry entries.entry order.entry) (cells figures.entry extremes.entry pos.entry neg.entry) }
 {
     let found = index::signed::level_of(scale);
     let top = exponential_collection::level_or(found);
@@ -78,12 +78,12 @@ pub fn delta(
     out_pos: &mut [u64],
     out_neg: &mut [u64],
 ) -> Reply
-    ensures { gave result.answer (held result.dir (stores sets.new entries.new order.new)
-        (cells figures.old extremes.old pos.old neg.old))
-        (output out_sets.new out_words.new out_pos.new out_neg.new)
+    ensures { gave result.answer (held result.dir (stores sets.exit entries.exit order.exit)
+        (cells figures.entry extremes.entry pos.entry neg.entry))
+        (output out_sets.exit out_words.exit out_pos.exit out_neg.exit)
         ≡ delta_collected (exponential_whole_lister s.size s.top s.sums) s.extremes s.limit
-        (held d (stores sets.old entries.old order.old) (cells figures.old extremes.old pos.old neg.old))
-        (output out_sets.old out_words.old out_pos.old out_neg.old) }
+        (held d (stores sets.entry entries.entry order.entry) (cells figures.entry extremes.entry pos.entry neg.entry))
+        (output out_sets.entry out_words.entry out_pos.entry out_neg.entry) }
 {
     crate::collect::delta(
         false, s, d, sets, entries, order, figures, extremes, pos, neg, out_sets, out_words,
@@ -109,12 +109,12 @@ pub fn delta_agreed(
 ) -> Reply
     requires { Owned (exponential_wholes s.size s.top s.sums) s.extremes s.limit none
         (held d (stores sets entries order) (cells figures extremes pos neg)) }
-    ensures { gave result.answer (held result.dir (stores sets.new entries.new order.new)
-        (cells figures.old extremes.old pos.old neg.old))
-        (output out_sets.new out_words.new out_pos.new out_neg.new)
+    ensures { gave result.answer (held result.dir (stores sets.exit entries.exit order.exit)
+        (cells figures.entry extremes.entry pos.entry neg.entry))
+        (output out_sets.exit out_words.exit out_pos.exit out_neg.exit)
         ≡ delta_collected (exponential_whole_lister s.size s.top s.sums) s.extremes s.limit
-        (held d (stores sets.old entries.old order.old) (cells figures.old extremes.old pos.old neg.old))
-        (output out_sets.old out_words.old out_pos.old out_neg.old) }
+        (held d (stores sets.entry entries.entry order.entry) (cells figures.entry extremes.entry pos.entry neg.entry))
+        (output out_sets.entry out_words.entry out_pos.entry out_neg.entry) }
 {
     crate::collect::delta(
         true, s, d, sets, entries, order, figures, extremes, pos, neg, out_sets, out_words,
@@ -139,11 +139,11 @@ pub fn cumulative(
     out_neg: &mut [u64],
 ) -> Answer
     ensures { gave result
-        (held d (stores sets.old entries.old order.old) (cells figures.old extremes.old pos.old neg.old))
-        (output out_sets.new out_words.new out_pos.new out_neg.new)
+        (held d (stores sets.entry entries.entry order.entry) (cells figures.entry extremes.entry pos.entry neg.entry))
+        (output out_sets.exit out_words.exit out_pos.exit out_neg.exit)
         ≡ cumulative_collected (exponential_whole_lister s.size s.top s.sums) s.extremes s.limit
-        (held d (stores sets.old entries.old order.old) (cells figures.old extremes.old pos.old neg.old))
-        (output out_sets.old out_words.old out_pos.old out_neg.old) }
+        (held d (stores sets.entry entries.entry order.entry) (cells figures.entry extremes.entry pos.entry neg.entry))
+        (output out_sets.entry out_words.entry out_pos.entry out_neg.entry) }
 {
     crate::collect::cumulative(
         false, s, d, sets, entries, order, figures, extremes, pos, neg, out_sets, out_words,
@@ -170,11 +170,11 @@ pub fn cumulative_agreed(
     requires { Owned (exponential_wholes s.size s.top s.sums) s.extremes s.limit none
         (held d (stores sets entries order) (cells figures extremes pos neg)) }
     ensures { gave result
-        (held d (stores sets.old entries.old order.old) (cells figures.old extremes.old pos.old neg.old))
-        (output out_sets.new out_words.new out_pos.new out_neg.new)
+        (held d (stores sets.entry entries.entry order.entry) (cells figures.entry extremes.entry pos.entry neg.entry))
+        (output out_sets.exit out_words.exit out_pos.exit out_neg.exit)
         ≡ cumulative_collected (exponential_whole_lister s.size s.top s.sums) s.extremes s.limit
-        (held d (stores sets.old entries.old order.old) (cells figures.old extremes.old pos.old neg.old))
-        (output out_sets.old out_words.old out_pos.old out_neg.old) }
+        (held d (stores sets.entry entries.entry order.entry) (cells figures.entry extremes.entry pos.entry neg.entry))
+        (output out_sets.entry out_words.entry out_pos.entry out_neg.entry) }
 {
     crate::collect::cumulative(
         true, s, d, sets, entries, order, figures, extremes, pos, neg, out_sets, out_words,

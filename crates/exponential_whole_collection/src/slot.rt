@@ -25,7 +25,7 @@ fn agrees_at(
 ) -> bool
     requires { (unset size top ≡ 0) × Room size (cells figures extremes pos neg) x }
     ensures { result ≡ wholes.agrees (settings size top true true)
-        (series_at size (cells figures.old extremes.old pos.old neg.old) x) }
+        (series_at size (cells figures.entry extremes.entry pos.entry neg.entry) x) }
 {
     let f = figures[x];
     if !exponential_slots::can_read(true, f) {
@@ -54,7 +54,7 @@ fn is_sound(
     requires top_value { (unset size top ≡ 0) × Room size (cells figures extremes pos neg) x }
     requires known { Known (exponential_wholes size top true) true known x updated (cells figures extremes pos neg) }
     ensures { result ≡ (not updated || wholes.agrees (settings size top true true)
-        (series_at size (cells figures.old extremes.old pos.old neg.old) x)) }
+        (series_at size (cells figures.entry extremes.entry pos.entry neg.entry) x)) }
 {
     if known {
         return true;
@@ -82,7 +82,7 @@ pub fn survey(
     requires top_value { (unset size top ≡ 0) × Room size (cells figures extremes pos neg) x }
     requires few { Few s × Known (exponential_wholes size top true) true known x updated (cells figures extremes pos neg) }
     ensures value { result ≡ surveyed_at (exponential_whole_lister size top true) true updated due
-        (cells figures.old extremes.old pos.old neg.old) s x }
+        (cells figures.entry extremes.entry pos.entry neg.entry) s x }
     ensures more { More s result }
 {
     if !is_sound(known, size, top, x, updated, figures, extremes, pos, neg) {
@@ -122,9 +122,9 @@ pub fn put(
     requires sound { Sound (exponential_whole_lister size top sums) show updated (cells figures extremes pos neg) x }
     requires free { due ≡ true → Free (exponential_whole_lister size top sums) show updated (cells figures extremes pos neg) x at
         (output out_sets out_words out_pos out_neg) }
-    ensures { left result (output out_sets.new out_words.new out_pos.new out_neg.new)
-        ≡ put_slot (exponential_whole_lister size top sums) show updated due (cells figures.old extremes.old pos.old neg.old) x row at
-        (output out_sets.old out_words.old out_pos.old out_neg.old) }
+    ensures { left result (output out_sets.exit out_words.exit out_pos.exit out_neg.exit)
+        ≡ put_slot (exponential_whole_lister size top sums) show updated due (cells figures.entry extremes.entry pos.entry neg.entry) x row at
+        (output out_sets.entry out_words.entry out_pos.entry out_neg.entry) }
 {
     if !due {
         return at;

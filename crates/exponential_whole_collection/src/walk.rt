@@ -28,7 +28,7 @@ pub fn survey(
     requires all_known { AllKnown (exponential_wholes s.size s.top true) true known
         (walked used [] entries.now order.now (cells figures extremes pos neg)) }
     ensures { result ≡ surveyed (exponential_whole_lister s.size s.top true) true cumulative
-        (walked used [] entries.now order.now (cells figures.old extremes.old pos.old neg.old)) }
+        (walked used [] entries.now order.now (cells figures.entry extremes.entry pos.entry neg.entry)) }
 {
     let size = s.size;
     let top = s.top;
@@ -74,10 +74,10 @@ pub fn list(
 ) -> Cursor
     requires { Listable (exponential_whole_lister s.size s.top s.sums) s.extremes cumulative
         (walked used sets.now entries.now order.now (cells figures extremes pos neg)) (output out_sets out_words out_pos out_neg) }
-    ensures { left result (output out_sets.new out_words.new out_pos.new out_neg.new)
+    ensures { left result (output out_sets.exit out_words.exit out_pos.exit out_neg.exit)
         ≡ listed_to (exponential_whole_lister s.size s.top s.sums) s.extremes cumulative
-        (walked used sets.now entries.now order.now (cells figures.old extremes.old pos.old neg.old))
-        (output out_sets.old out_words.old out_pos.old out_neg.old) }
+        (walked used sets.now entries.now order.now (cells figures.entry extremes.entry pos.entry neg.entry))
+        (output out_sets.entry out_words.entry out_pos.entry out_neg.entry) }
 {
     let size = s.size;
     let top = s.top;

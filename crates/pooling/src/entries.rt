@@ -27,7 +27,7 @@ fn bounded_by(many: usize, found: Found) -> Found
 
 // The point at a cursor, if it is there with its counts and its bounds.
 pub fn whole_at(at: Cursor, words: &[[u64; 12]], pos: &[u64], neg: &[u64], bounds: &[f64]) -> Found
-    ensures { result ≡ whole_at at (nameless words.old pos.old neg.old bounds.old) }
+    ensures { result ≡ whole_at at (nameless words.entry pos.entry neg.entry bounds.entry) }
 {
     let found = listing::read::point_at(at, words, pos, neg);
     bounded_by(bounds.len(), found)
@@ -56,7 +56,7 @@ pub fn integer_at(
     neg: &[u64],
     bounds: &[f64],
 ) -> whole_listing::Found
-    ensures { result ≡ integer_at at (nameless words.old pos.old neg.old bounds.old) }
+    ensures { result ≡ integer_at at (nameless words.entry pos.entry neg.entry bounds.entry) }
 {
     let found = whole_listing::read::point_at(at, words, pos, neg);
     bounded_integer(bounds.len(), found)
@@ -92,8 +92,8 @@ pub fn refusal_entries(
     bneg: &[u64],
 ) -> u8
     requires { whole_in a e abounds apos aneg × whole_in b f bbounds bpos bneg }
-    ensures { result ≡ refusal_before size (stored_of a e abounds.old apos.old aneg.old)
-        (stored_of b f bbounds.old bpos.old bneg.old) }
+    ensures { result ≡ refusal_before size (stored_of a e abounds.entry apos.entry aneg.entry)
+        (stored_of b f bbounds.entry bpos.entry bneg.entry) }
 {
     let s = e.bounds;
     let t = f.bounds;
@@ -144,7 +144,7 @@ pub fn merge_entries(
 ) -> Answer
     requires { whole_in a e abounds apos aneg × whole_in b f bbounds bpos bneg }
     ensures { ended (Handing.said result) (bounds_at e.bounds abounds.now) pos.new neg.new
-        ≡ merging size (stored_of a e abounds.old apos.old aneg.old) (stored_of b f bbounds.old bpos.old bneg.old)
+        ≡ merging size (stored_of a e abounds.entry apos.entry aneg.entry) (stored_of b f bbounds.entry bpos.entry bneg.entry)
         pos.old neg.old }
 {
     let s = e.bounds;

@@ -39,10 +39,10 @@ fn merge_reals(
     pos: &mut [u64],
     neg: &mut [u64],
 ) -> Pooled
-    ensures { ends (said result) (output sets.new words.new pos.new neg.new)
-        ≡ pooled_reals size row a (nameless awords.old apos.old aneg.old abounds.old)
-        b (nameless bwords.old bpos.old bneg.old bbounds.old)
-        at (output sets.old words.old pos.old neg.old) }
+    ensures { ends (said result) (output sets.exit words.exit pos.exit neg.exit)
+        ≡ pooled_reals size row a (nameless awords.entry apos.entry aneg.entry abounds.entry)
+        b (nameless bwords.entry bpos.entry bneg.entry bbounds.entry)
+        at (output sets.entry words.entry pos.entry neg.entry) }
 {
     let first = entries::whole_at(a, awords, apos, aneg, abounds);
     let second = entries::whole_at(b, bwords, bpos, bneg, bbounds);
@@ -80,10 +80,10 @@ pub fn merge_at(
     pos: &mut [u64],
     neg: &mut [u64],
 ) -> Pooled
-    ensures { ends (said result) (output sets.new words.new pos.new neg.new)
-        ≡ pooled_at size a (source asets.old awords.old apos.old aneg.old abounds.old)
-        b (nameless bwords.old bpos.old bneg.old bbounds.old)
-        at (output sets.old words.old pos.old neg.old) }
+    ensures { ends (said result) (output sets.exit words.exit pos.exit neg.exit)
+        ≡ pooled_at size a (source asets.entry awords.entry apos.entry aneg.entry abounds.entry)
+        b (nameless bwords.entry bpos.entry bneg.entry bbounds.entry)
+        at (output sets.entry words.entry pos.entry neg.entry) }
 {
     let k = a.place;
     if asets.len() <= k {

@@ -56,9 +56,9 @@ pub fn pool(
     neg: &mut [u64],
 ) -> Pooled
     requires { whole_in a e abounds apos aneg × whole_in b f bbounds bpos bneg }
-    ensures { ends (said result) (output sets.new words.new pos.new neg.new)
-        ≡ pooled size row e.bounds (stored_of a e abounds.old apos.old aneg.old) (stored_of b f bbounds.old bpos.old bneg.old)
-        at (output sets.old words.old pos.old neg.old) }
+    ensures { ends (said result) (output sets.exit words.exit pos.exit neg.exit)
+        ≡ pooled size row e.bounds (stored_of a e abounds.entry apos.entry aneg.entry) (stored_of b f bbounds.entry bpos.entry bneg.entry)
+        at (output sets.entry words.entry pos.entry neg.entry) }
 {
     let ok = has_place(at, sets.len(), words.len(), pos.len(), neg.len());
     let i = start_of(ok, at.pos, pos.len());

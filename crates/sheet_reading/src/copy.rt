@@ -23,8 +23,8 @@ fn copy_entry(
     bounds: &mut [f64],
 )
     requires { EntryRoom s.now k i y z w (source sets words pos neg bounds) }
-    ensures { source sets.new words.new pos.new neg.new bounds.new
-        ≡ copied_entry s.now k i y (source sets.old words.old pos.old neg.old bounds.old) }
+    ensures { source sets.exit words.exit pos.exit neg.exit bounds.exit
+        ≡ copied_entry s.now k i y (source sets.entry words.entry pos.entry neg.entry bounds.entry) }
 {
     sets[i] = row_at(s, k);
     let b = y.bounds;
@@ -53,8 +53,8 @@ pub fn copy_points(
     bounds: &mut [f64],
 )
     requires { Copyable s.now n (source sets words pos neg bounds) }
-    ensures { source sets.new words.new pos.new neg.new bounds.new
-        ≡ copied n s.now 3 0 nothing (source sets.old words.old pos.old neg.old bounds.old) }
+    ensures { source sets.exit words.exit pos.exit neg.exit bounds.exit
+        ≡ copied n s.now 3 0 nothing (source sets.entry words.entry pos.entry neg.entry bounds.entry) }
 {
     let mut y = Sizes {
         bounds: 0,

@@ -67,7 +67,7 @@ fn put_point(
 )
     requires room { Room info n s.old }
     requires neg_bound { k + (21 + (width (length bounds.now) + width (length pos.now + length neg.now))) ≤ n * 3 }
-    ensures { s.new ≡ laid info n k (row.now ++ (head_of (stored p bounds.old pos.old neg.old)
+    ensures { s.new ≡ laid info n k (row.now ++ (head_of (stored p bounds.entry pos.entry neg.entry)
         ++ (padded (map bits_of bounds.now) ++ padded (pos.now ++ neg.now)))) s.old }
 {
     let span = Span {
@@ -97,7 +97,7 @@ fn put_found<'a>(
     requires room { Room info n s.old }
     requires whole_there { whole_there at e pos neg bounds }
     requires e_bound { k + width_at at e ≤ n * 3 }
-    ensures { s.new ≡ laid info n k (point_words at row.now (lent_beside pos.old neg.old bounds.old) e) s.old }
+    ensures { s.new ≡ laid info n k (point_words at row.now (lent_beside pos.entry neg.entry bounds.entry) e) s.old }
 {
     let p = e.point;
     let next = e.next;
@@ -142,7 +142,7 @@ pub fn put_sheet<'a>(
     s: &mut [u8],
 )
     requires { Judgement n records (source sets words pos neg bounds) s.old }
-    ensures { s.new ≡ put_sheet h n records (source sets.old words.old pos.old neg.old bounds.old) s.old }
+    ensures { s.new ≡ put_sheet h n records (source sets.entry words.entry pos.entry neg.entry bounds.entry) s.old }
 {
     let info = info_of(h, n);
     put_header(s, info, records, h);

@@ -27,8 +27,8 @@ fn number(
 ) -> u8
     requires { known ≡ true → Owned (single_store s.aggregation) tt s.limit none (held d (stores sets entries order) values.now) }
     ensures { result ≡ uncollected (single_lister s.aggregation) tt cumulative s.limit
-        (held d (stores sets.old entries.old order.old) values.now)
-        (output out_sets.old out_values.old) }
+        (held d (stores sets.entry entries.entry order.entry) values.now)
+        (output out_sets.entry out_values.entry) }
 {
     let limit = s.limit;
     let room = directory::suffices(limit, values.len());
@@ -62,11 +62,11 @@ pub fn delta(
     out_values: &mut [u64],
 ) -> Reply
     requires { known ≡ true → Owned (single_store s.aggregation) tt s.limit none (held d (stores sets entries order) values.now) }
-    ensures { gave result.answer (held result.dir (stores sets.new entries.new order.new) values.now)
-        (output out_sets.new out_values.new)
+    ensures { gave result.answer (held result.dir (stores sets.exit entries.exit order.exit) values.now)
+        (output out_sets.exit out_values.exit)
         ≡ delta_collected (single_lister s.aggregation) tt s.limit
-        (held d (stores sets.old entries.old order.old) values.now)
-        (output out_sets.old out_values.old) }
+        (held d (stores sets.entry entries.entry order.entry) values.now)
+        (output out_sets.entry out_values.entry) }
 {
     let no = number(
         known, false, s, d, sets, entries, order, values, out_sets, out_values,
@@ -100,11 +100,11 @@ pub fn cumulative(
     out_values: &mut [u64],
 ) -> Answer
     requires { known ≡ true → Owned (single_store s.aggregation) tt s.limit none (held d (stores sets entries order) values.now) }
-    ensures { gave result (held d (stores sets.old entries.old order.old) values.now)
-        (output out_sets.new out_values.new)
+    ensures { gave result (held d (stores sets.entry entries.entry order.entry) values.now)
+        (output out_sets.exit out_values.exit)
         ≡ cumulative_collected (single_lister s.aggregation) tt s.limit
-        (held d (stores sets.old entries.old order.old) values.now)
-        (output out_sets.old out_values.old) }
+        (held d (stores sets.entry entries.entry order.entry) values.now)
+        (output out_sets.entry out_values.entry) }
 {
     let no = number(
         known, true, s, d, sets, entries, order, values, out_sets, out_values,

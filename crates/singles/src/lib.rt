@@ -76,9 +76,9 @@ pub fn configure(
     order: &[u32],
     values: &[f64],
 ) -> Configured
-    ensures { configuring (said result) (stores sets.old entries.new order.old)
+    ensures { configuring (said result) (stores sets.entry entries.exit order.entry)
         ≡ configured aggregation limit (filter_of present filter.now)
-        (stores sets.old entries.old order.old) values.now }
+        (stores sets.entry entries.entry order.entry) values.now }
 {
     let room = directory::suffices(limit, values.len());
     let reply = value_map::first::begin(0, room, limit, present, filter, sets, entries, order);
@@ -98,11 +98,11 @@ pub fn delta(
     out_sets: &mut [[u64; 9]],
     out_values: &mut [u64],
 ) -> Reply
-    ensures { gave result.answer (held result.dir (stores sets.new entries.new order.new) values.now)
-        (output out_sets.new out_values.new)
+    ensures { gave result.answer (held result.dir (stores sets.exit entries.exit order.exit) values.now)
+        (output out_sets.exit out_values.exit)
         ≡ delta_collected (single_lister s.aggregation) tt s.limit
-        (held d (stores sets.old entries.old order.old) values.now)
-        (output out_sets.old out_values.old) }
+        (held d (stores sets.entry entries.entry order.entry) values.now)
+        (output out_sets.entry out_values.entry) }
 {
     crate::collect::delta(
         false, s, d, sets, entries, order, values, out_sets, out_values,
@@ -121,11 +121,11 @@ pub fn delta_agreed(
     out_values: &mut [u64],
 ) -> Reply
     requires { Owned (single_store s.aggregation) tt s.limit none (held d (stores sets entries order) values.now) }
-    ensures { gave result.answer (held result.dir (stores sets.new entries.new order.new) values.now)
-        (output out_sets.new out_values.new)
+    ensures { gave result.answer (held result.dir (stores sets.exit entries.exit order.exit) values.now)
+        (output out_sets.exit out_values.exit)
         ≡ delta_collected (single_lister s.aggregation) tt s.limit
-        (held d (stores sets.old entries.old order.old) values.now)
-        (output out_sets.old out_values.old) }
+        (held d (stores sets.entry entries.entry order.entry) values.now)
+        (output out_sets.entry out_values.entry) }
 {
     crate::collect::delta(
         true, s, d, sets, entries, order, values, out_sets, out_values,
@@ -144,11 +144,11 @@ pub fn cumulative(
     out_sets: &mut [[u64; 9]],
     out_values: &mut [u64],
 ) -> Answer
-    ensures { gave result (held d (stores sets.old entries.old order.old) values.now)
-        (output out_sets.new out_values.new)
+    ensures { gave result (held d (stores sets.entry entries.entry order.entry) values.now)
+        (output out_sets.exit out_values.exit)
         ≡ cumulative_collected (single_lister s.aggregation) tt s.limit
-        (held d (stores sets.old entries.old order.old) values.now)
-        (output out_sets.old out_values.old) }
+        (held d (stores sets.entry entries.entry order.entry) values.now)
+        (output out_sets.entry out_values.entry) }
 {
     crate::collect::cumulative(
         false, s, d, sets, entries, order, values, out_sets, out_values,
@@ -167,11 +167,11 @@ pub fn cumulative_agreed(
     out_values: &mut [u64],
 ) -> Answer
     requires { Owned (single_store s.aggregation) tt s.limit none (held d (stores sets entries order) values.now) }
-    ensures { gave result (held d (stores sets.old entries.old order.old) values.now)
-        (output out_sets.new out_values.new)
+    ensures { gave result (held d (stores sets.entry entries.entry order.entry) values.now)
+        (output out_sets.exit out_values.exit)
         ≡ cumulative_collected (single_lister s.aggregation) tt s.limit
-        (held d (stores sets.old entries.old order.old) values.now)
-        (output out_sets.old out_values.old) }
+        (held d (stores sets.entry entries.entry order.entry) values.now)
+        (output out_sets.entry out_values.entry) }
 {
     crate::collect::cumulative(
         true, s, d, sets, entries, order, values, out_sets, out_values,

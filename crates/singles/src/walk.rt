@@ -59,10 +59,10 @@ pub fn list(
 ) -> usize
     requires { Listable (single_lister Sum) tt cumulative (walked used sets.now entries.now order.now values.now)
         (output out_sets out_values) }
-    ensures { left (place result) (output out_sets.new out_values.new)
+    ensures { left (place result) (output out_sets.exit out_values.exit)
         ≡ listed_to (single_lister Sum) tt cumulative
         (walked used sets.now entries.now order.now values.now)
-        (output out_sets.old out_values.old) }
+        (output out_sets.entry out_values.entry) }
 {
     let mut at: usize = 0;
     let mut i: usize = 0;

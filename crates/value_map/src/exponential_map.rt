@@ -74,9 +74,9 @@ pub fn start(
     pos: &[u64],
     neg: &[u64],
 ) -> Reply
-    ensures { gave result (stores sets.old entries.new order.old) (cells figures.old extremes.old pos.old neg.old)
+    ensures { gave result (stores sets.entry entries.exit order.entry) (cells figures.entry extremes.entry pos.entry neg.entry)
         ≡ started (exponential_store size top) limit (filter_of present filter.now)
-        (stores sets.old entries.old order.old) (cells figures.old extremes.old pos.old neg.old) }
+        (stores sets.entry entries.entry order.entry) (cells figures.entry extremes.entry pos.entry neg.entry) }
 {
     let room = cells_suffice(
         size,
@@ -104,8 +104,8 @@ fn take(
     v: f64,
 ) -> u8
     requires { Takes (exponential_store size top) (cells figures extremes pos neg) v no x }
-    ensures { after result (cells figures.new extremes.new pos.new neg.new)
-        ≡ taken (exponential_store size top) (cells figures.old extremes.old pos.old neg.old) v no no x updated }
+    ensures { after result (cells figures.exit extremes.exit pos.exit neg.exit)
+        ≡ taken (exponential_store size top) (cells figures.entry extremes.entry pos.entry neg.entry) v no no x updated }
 {
     if no != 0 {
         return no;
@@ -131,9 +131,9 @@ pub fn measure(
     present: bool,
     filter: &[u32],
 ) -> Reply
-    ensures { gave result (stores sets.new entries.new order.new) (cells figures.new extremes.new pos.new neg.new)
+    ensures { gave result (stores sets.exit entries.exit order.exit) (cells figures.exit extremes.exit pos.exit neg.exit)
         ≡ measured (exponential_store size top) limit (filter_of present filter.now)
-        (held d (stores sets.old entries.old order.old) (cells figures.old extremes.old pos.old neg.old))
+        (held d (stores sets.entry entries.entry order.entry) (cells figures.entry extremes.entry pos.entry neg.entry))
         v (given attrs.now) }
 {
     let unset = unset_of(size, top);
@@ -175,9 +175,9 @@ pub fn measure_by(
     v: f64,
     h: u64,
 ) -> Reply
-    ensures { gave result (stores sets.new entries.new order.new) (cells figures.new extremes.new pos.new neg.new)
+    ensures { gave result (stores sets.exit entries.exit order.exit) (cells figures.exit extremes.exit pos.exit neg.exit)
         ≡ measured_by (exponential_store size top) limit
-        (held d (stores sets.old entries.old order.old) (cells figures.old extremes.old pos.old neg.old))
+        (held d (stores sets.entry entries.entry order.entry) (cells figures.entry extremes.entry pos.entry neg.entry))
         v h }
 {
     let unset = unset_of(size, top);

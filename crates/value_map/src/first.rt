@@ -29,8 +29,8 @@ pub fn finish(
     target: Target,
 ) -> Reply
     requires { no ≡ 0 → Fits d (stores sets entries order) target }
-    ensures { gave result (stores sets.new entries.new order.new)
-        ≡ finished no d (stores sets.old entries.old order.old) row.now target }
+    ensures { gave result (stores sets.exit entries.exit order.exit)
+        ≡ finished no d (stores sets.entry entries.entry order.entry) row.now target }
 {
     if no != 0 {
         return Reply {
@@ -56,8 +56,8 @@ pub fn begin(
     entries: &mut [[u64; 3]],
     order: &[u32],
 ) -> Reply
-    ensures { gave result (stores sets.old entries.new order.old)
-        ≡ begun unset cells limit (filter_of present filter.now) (stores sets.old entries.old order.old) }
+    ensures { gave result (stores sets.entry entries.exit order.entry)
+        ≡ begun unset cells limit (filter_of present filter.now) (stores sets.entry entries.entry order.entry) }
 {
     let d = Directory {
         used: 0,

@@ -16,8 +16,7 @@ pub by_birth-found-requires : goal.by_birth-found-requires
 by_birth-found-requires c =
     let stores : Stores = record { sets = c.args.sets.now; entries = c.args.entries.now; order = c.args.order.now } in
     let few-of : c.args.d.used ≤ c.args.limit + 1 = few c.args.limit c.args.d (stores) c.requires.agrees in
-    let room : Suffice c.args.limit (stores) = suffices c.args.limit (stores) c.requires.lent in
-    (
+    let room : Suffice c.args.limit (stores) = suffices c.args.limit (stores) c.requires.lent in (
       omega (arith, few-of, (room).entries),
       record { limit = c.args.limit; sets = c.args.sets.now; right = c.requires.agrees },
       agreed-rise c.args.limit c.args.d (stores) c.requires.agrees,

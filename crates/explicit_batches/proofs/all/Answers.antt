@@ -39,7 +39,7 @@ pub seat_if-seat-requires : goal.seat_if-seat-requires
 seat_if-seat-requires c k =
     let lent_map : Held Cells = let a = c.args in held a.d (stores a.sets a.entries a.order) (cells a.totals a.extremes a.counts) in
     let few : length c.args.totals.now ≤ 18446744073709551615 = omega (arith, c) in
-    let suffices : leb (c.args.limit + 2) c.slots_if-slots.result ≡ cells_suffice c.args.bounds.now c.args.limit (lent_map).cells = 
+    let suffices : leb (c.args.limit + 2) c.slots_if-slots.result ≡ cells_suffice c.args.bounds.now c.args.limit (lent_map).cells =
     let a = c.args in
     slots_suffice (bucket_count a.bounds.now) a.limit (length a.counts.now) (length a.totals.now) (length a.extremes.now) c.cells_suffice-suffice.result c.slots_if-slots.result (few)
     c.cells_suffice-suffice.ensures c.slots_if-slots.ensures in
@@ -55,7 +55,7 @@ take_all-got-requires c z =
     let attributes : Set = given c.args.attrs.now in
     let first : Float = get_or c.args.values.now 0 nan in
     let few : length c.args.totals.now ≤ 18446744073709551615 = omega (arith, c) in
-    let suffices : leb (c.args.limit + 2) c.slots_if-slots.result ≡ cells_suffice c.args.bounds.now c.args.limit (lent_map).cells = 
+    let suffices : leb (c.args.limit + 2) c.slots_if-slots.result ≡ cells_suffice c.args.bounds.now c.args.limit (lent_map).cells =
     let a = c.args in
     slots_suffice (bucket_count a.bounds.now) a.limit (length a.counts.now) (length a.totals.now) (length a.extremes.now) c.cells_suffice-suffice.result c.slots_if-slots.result (few)
     c.cells_suffice-suffice.ensures c.slots_if-slots.ensures in
@@ -77,7 +77,7 @@ finish_all-requires c k =
     let attributes : Set = given c.args.attrs.now in
     let first : Float = get_or c.args.values.now 0 nan in
     let few : length c.args.totals.now ≤ 18446744073709551615 = omega (arith, c) in
-    let suffices : leb (c.args.limit + 2) c.slots_if-slots.result ≡ cells_suffice c.args.bounds.now c.args.limit (lent_map).cells = 
+    let suffices : leb (c.args.limit + 2) c.slots_if-slots.result ≡ cells_suffice c.args.bounds.now c.args.limit (lent_map).cells =
     let a = c.args in
     slots_suffice (bucket_count a.bounds.now) a.limit (length a.counts.now) (length a.totals.now) (length a.extremes.now) c.cells_suffice-suffice.result c.slots_if-slots.result (few)
     c.cells_suffice-suffice.ensures c.slots_if-slots.ensures in
@@ -93,7 +93,7 @@ returns c =
     let attributes : Set = given c.args.attrs.now in
     let first : Float = get_or c.args.values.now 0 nan in
     let few : length c.args.totals.now ≤ 18446744073709551615 = omega (arith, c) in
-    let suffices : leb (c.args.limit + 2) c.slots_if-slots.result ≡ cells_suffice c.args.bounds.now c.args.limit (lent_map).cells = 
+    let suffices : leb (c.args.limit + 2) c.slots_if-slots.result ≡ cells_suffice c.args.bounds.now c.args.limit (lent_map).cells =
     let a = c.args in
     slots_suffice (bucket_count a.bounds.now) a.limit (length a.counts.now) (length a.totals.now) (length a.extremes.now) c.cells_suffice-suffice.result c.slots_if-slots.result (few)
     c.cells_suffice-suffice.ensures c.slots_if-slots.ensures in

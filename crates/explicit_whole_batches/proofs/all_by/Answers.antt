@@ -35,7 +35,7 @@ pub seat_by_if-seat-requires : goal.seat_by_if-seat-requires
 seat_by_if-seat-requires c k =
     let lent_map : Held Cells = let a = c.args in held a.d (stores a.sets a.entries a.order) (cells a.totals a.extremes a.counts) in
     let few : length c.args.totals.now ≤ 18446744073709551615 = omega (arith, c) in
-    let suffices : leb (c.args.limit + 2) c.slots_if-slots.result ≡ cells_suffice c.args.bounds.now c.args.limit (lent_map).cells = 
+    let suffices : leb (c.args.limit + 2) c.slots_if-slots.result ≡ cells_suffice c.args.bounds.now c.args.limit (lent_map).cells =
     let a = c.args in
     slots_suffice (bucket_count a.bounds.now) a.limit (length a.counts.now) (length a.totals.now) (length a.extremes.now) c.cells_suffice-suffice.result c.slots_if-slots.result (few)
     c.cells_suffice-suffice.ensures c.slots_if-slots.ensures in
@@ -47,7 +47,7 @@ take_all-got-requires c z =
     let lent_map : Held Cells = let a = c.args in held a.d (stores a.sets a.entries a.order) (cells a.totals a.extremes a.counts) in
     let first : ℤ = get_or c.args.values.now 0 (pos 0) in
     let few : length c.args.totals.now ≤ 18446744073709551615 = omega (arith, c) in
-    let suffices : leb (c.args.limit + 2) c.slots_if-slots.result ≡ cells_suffice c.args.bounds.now c.args.limit (lent_map).cells = 
+    let suffices : leb (c.args.limit + 2) c.slots_if-slots.result ≡ cells_suffice c.args.bounds.now c.args.limit (lent_map).cells =
     let a = c.args in
     slots_suffice (bucket_count a.bounds.now) a.limit (length a.counts.now) (length a.totals.now) (length a.extremes.now) c.cells_suffice-suffice.result c.slots_if-slots.result (few)
     c.cells_suffice-suffice.ensures c.slots_if-slots.ensures in
@@ -68,7 +68,7 @@ finish_all-requires c k =
     let lent_map : Held Cells = let a = c.args in held a.d (stores a.sets a.entries a.order) (cells a.totals a.extremes a.counts) in
     let first : ℤ = get_or c.args.values.now 0 (pos 0) in
     let few : length c.args.totals.now ≤ 18446744073709551615 = omega (arith, c) in
-    let suffices : leb (c.args.limit + 2) c.slots_if-slots.result ≡ cells_suffice c.args.bounds.now c.args.limit (lent_map).cells = 
+    let suffices : leb (c.args.limit + 2) c.slots_if-slots.result ≡ cells_suffice c.args.bounds.now c.args.limit (lent_map).cells =
     let a = c.args in
     slots_suffice (bucket_count a.bounds.now) a.limit (length a.counts.now) (length a.totals.now) (length a.extremes.now) c.cells_suffice-suffice.result c.slots_if-slots.result (few)
     c.cells_suffice-suffice.ensures c.slots_if-slots.ensures in
@@ -83,7 +83,7 @@ returns c =
     let lent_map : Held Cells = let a = c.args in held a.d (stores a.sets a.entries a.order) (cells a.totals a.extremes a.counts) in
     let first : ℤ = get_or c.args.values.now 0 (pos 0) in
     let few : length c.args.totals.now ≤ 18446744073709551615 = omega (arith, c) in
-    let suffices : leb (c.args.limit + 2) c.slots_if-slots.result ≡ cells_suffice c.args.bounds.now c.args.limit (lent_map).cells = 
+    let suffices : leb (c.args.limit + 2) c.slots_if-slots.result ≡ cells_suffice c.args.bounds.now c.args.limit (lent_map).cells =
     let a = c.args in
     slots_suffice (bucket_count a.bounds.now) a.limit (length a.counts.now) (length a.totals.now) (length a.extremes.now) c.cells_suffice-suffice.result c.slots_if-slots.result (few)
     c.cells_suffice-suffice.ensures c.slots_if-slots.ensures in

@@ -22,5 +22,9 @@ returns-in-Recorded c =
     let greatest : SFits w64 c.got-in-Recorded-1.given.0.0.max = search rules in
     let sum : SFits w64 c.got-in-Recorded-1.given.0.0.sum = search rules in
     let g = ap said c.got-in-Recorded-1.given.1 in
-    let a = c.args in record { value = sym (ap number g); totals_after = sym (ap (totals_after a.x a.totals.now) g); extremes_after = (λ j. set a.extremes.now a.x (held c.got-in-Recorded-1.given.0.0.min (least) j ∷ held c.got-in-Recorded-1.given.0.0.max (greatest) j ∷ held c.got-in-Recorded-1.given.0.0.sum (sum) j ∷ []))
-            ∙ sym (ap (extremes_after a.x a.extremes.now) g) }
+    let a = c.args in record {
+      value = sym (ap number g);
+      totals_after = sym (ap (totals_after a.x a.totals.now) g);
+      extremes_after = (λ j. set a.extremes.now a.x (held c.got-in-Recorded-1.given.0.0.min (least) j ∷ held c.got-in-Recorded-1.given.0.0.max (greatest) j ∷ held c.got-in-Recorded-1.given.0.0.sum (sum) j ∷ []))
+          ∙ sym (ap (extremes_after a.x a.extremes.now) g);
+    }

@@ -41,7 +41,7 @@ pub returns : goal.returns
 returns c =
     let lent : Cells = let a = c.args in record { totals = a.totals.now; extremes = a.extremes.now; counts = a.counts.now } in
     let end : c.args.x * c.bucket_count-n.result + c.bucket_count-n.result ≤ length c.args.counts.now = let a = c.args in subst (λ (k : ℕ). a.x * k + k ≤ length a.counts.now) (sym c.bucket_count-n.ensures) c.requires.2 in
-    let long : bucket_count c.args.bounds.now ≤ length (part_at c.bucket_count-n.result c.args.counts.now c.args.x) = 
+    let long : bucket_count c.args.bounds.now ≤ length (part_at c.bucket_count-n.result c.args.counts.now c.args.x) =
     let a = c.args in
     let i : c.bucket_count-n.result ≡ bucket_count a.bounds.now = c.bucket_count-n.ensures in
     omega (arith, i, part_length c.bucket_count-n.result a.counts.now a.x (end)) in

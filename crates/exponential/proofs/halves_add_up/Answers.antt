@@ -12,7 +12,7 @@ pub returns-then-count-s : goal.returns-then-count-s
 returns-then-count-s c =
     let together : c.sum_halves-s.result.low + c.sum_halves-s.result.high * 4294967296
     ≡ c.args.c.zeros
-    + (total (take c.args.c.pos.len c.args.pos.now) + total (take c.args.c.neg.len c.args.neg.now)) = 
+    + (total (take c.args.c.pos.len c.args.pos.now) + total (take c.args.c.neg.len c.args.neg.now)) =
     halves-sum c.args.c.zeros c.sum_halves-a.result.low c.sum_halves-a.result.high c.sum_halves-s.result.low c.sum_halves-s.result.high
     (total (take c.args.c.pos.len c.args.pos.now)) (total (take c.args.c.neg.len c.args.neg.now)) (halved-total _ _ _ c.sum_halves-a.ensures.value) (halved-total _ _ _ c.sum_halves-s.ensures.value) in
     adds-up-no c.args.c c.args.pos.now c.args.neg.now c.sum_halves-s.result.low c.sum_halves-s.result.high (together) c.if-count-s.true
@@ -28,7 +28,7 @@ pub returns : goal.returns
 returns c =
     let together : c.sum_halves-s.result.low + c.sum_halves-s.result.high * 4294967296
     ≡ c.args.c.zeros
-    + (total (take c.args.c.pos.len c.args.pos.now) + total (take c.args.c.neg.len c.args.neg.now)) = 
+    + (total (take c.args.c.pos.len c.args.pos.now) + total (take c.args.c.neg.len c.args.neg.now)) =
     halves-sum c.args.c.zeros c.sum_halves-a.result.low c.sum_halves-a.result.high c.sum_halves-s.result.low c.sum_halves-s.result.high
     (total (take c.args.c.pos.len c.args.pos.now)) (total (take c.args.c.neg.len c.args.neg.now)) (halved-total _ _ _ c.sum_halves-a.ensures.value) (halved-total _ _ _ c.sum_halves-s.ensures.value) in
     adds-up-by c.args.c c.args.pos.now c.args.neg.now c.sum_halves-s.result.low c.sum_halves-s.result.high (together) c.if-count-s.false

@@ -11,7 +11,7 @@ use Rattle.exponential_batches.proofs.slots_of.Goals as goal
 
 pub returns : goal.returns
 returns c =
-    let enough : c.cells_suffice-suffice.result ≡ true → c.args.limit + 2 ≤ 18446744073709551615 = 
+    let enough : c.cells_suffice-suffice.result ≡ true → c.args.limit + 2 ≤ 18446744073709551615 =
     λ t. let a = c.args in
     let i = entry_in a.size a.limit (a.limit + 1) (a.pos ∷ a.neg ∷ []) (a.figures ∷ a.extremes ∷ []) (sym c.cells_suffice-suffice.ensures ∙ t) (omega arith) 0 (omega arith) in
     omega (arith, c, i) in

@@ -29,7 +29,7 @@ returns c =
     let left : Outcome = record { answer = said c.«record».result; pos = c.«record».new.1.1.1.0; neg = c.«record».new.1.1.1.1.0 } in
     let can : readable c.args.updated (get_or (lent).figures c.args.x []) ≡ true = sym c.can_read.ensures ∙ not-false c.can_read.result c.if-not-can_read.false in
     let recorded : recorded_at c.args.size c.args.top c.args.x c.args.updated (lent) c.args.v
-    ≡ into c.args.size c.args.x (lent) (left) = 
+    ≡ into c.args.size c.args.x (lent) (left) =
     let a = c.args in
     let s = lent in
     called a.size a.top a.x a.updated s a.v (can)

@@ -31,13 +31,13 @@ returns c =
     let left : Outcome = record { answer = said c.«record».result; pos = c.«record».new.1.1.1.1.0; neg = c.«record».new.1.1.1.1.1.0 } in
     let series : left
     ≡ recording c.args.size c.args.top c.args.sums c.head_of-head.result
-    (part_at c.args.size (lent).pos c.args.x) (part_at c.args.size (lent).neg c.args.x) c.args.v = 
+    (part_at c.args.size (lent).pos c.args.x) (part_at c.args.size (lent).neg c.args.x) c.args.v =
     let a = c.args in
     c.«record».ensures
     ∙ ap (recording a.size a.top a.sums c.head_of-head.result (part_at a.size (lent).pos a.x) (part_at a.size (lent).neg a.x)) (held a.v c.fits.v) in
     let can : readable c.args.updated (get_or (lent).figures c.args.x []) ≡ true = sym c.can_read.ensures ∙ not-false c.can_read.result c.if-not-can_read.false in
     let recorded : recorded_at c.args.size c.args.top c.args.sums c.args.x c.args.updated (lent) c.args.v
-    ≡ into c.args.size c.args.x (lent) (left) = 
+    ≡ into c.args.size c.args.x (lent) (left) =
     let a = c.args in
     let s = lent in
     called a.size a.top a.sums a.x a.updated s a.v (can)

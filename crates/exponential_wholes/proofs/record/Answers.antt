@@ -20,7 +20,7 @@ pub returns-then-no-ne0 : goal.returns-then-no-ne0
 returns-then-no-ne0 c =
     let number : ℕ = let a = c.args in before a.size a.top a.sums a.head a.pos.now a.neg.now a.v in
     let near : c.nearest-x.result ≡ nearest_of c.args.v = c.nearest-x.ensures ∙ ap nearest_of (held c.args.v c.ranges.v) in
-    let told : c.refusal-no.result ≡ number = 
+    let told : c.refusal-no.result ≡ number =
     let a = c.args in
     c.refusal-no.ensures
     ∙ (λ j. E.refusal_of a.size a.top (c.under_counts-h.ensures j) a.pos.now a.neg.now (near j)) in
@@ -31,7 +31,7 @@ pub count_in-next-requires : goal.count_in-next-requires
 count_in-next-requires c =
     let near : c.nearest-x.result ≡ nearest_of c.args.v = c.nearest-x.ensures ∙ ap nearest_of (held c.args.v c.ranges.v) in
     let number : ℕ = let a = c.args in before a.size a.top a.sums a.head a.pos.now a.neg.now a.v in
-    let told : c.refusal-no.result ≡ number = 
+    let told : c.refusal-no.result ≡ number =
     let a = c.args in
     c.refusal-no.ensures
     ∙ (λ j. E.refusal_of a.size a.top (c.under_counts-h.ensures j) a.pos.now a.neg.now (near j)) in
@@ -44,12 +44,12 @@ pub returns-in-Outside : goal.returns-in-Outside
 returns-in-Outside c =
     let number : ℕ = let a = c.args in before a.size a.top a.sums a.head a.pos.now a.neg.now a.v in
     let near : c.nearest-x.result ≡ nearest_of c.args.v = c.nearest-x.ensures ∙ ap nearest_of (held c.args.v c.ranges.v) in
-    let told : c.refusal-no.result ≡ number = 
+    let told : c.refusal-no.result ≡ number =
     let a = c.args in
     c.refusal-no.ensures
     ∙ (λ j. E.refusal_of a.size a.top (c.under_counts-h.ensures j) a.pos.now a.neg.now (near j)) in
     let none : number ≡ 0 = sym (told) ∙ c.if-no-ne0.false in
-    let summed : (let a = c.args in c.kept_sum-total.result ≡ kept_sum a.sums a.head.sum a.v) = 
+    let summed : (let a = c.args in c.kept_sum-total.result ≡ kept_sum a.sums a.head.sum a.v) =
     let f : SFits w64 c.args.head.sum = search rules in
     c.kept_sum-total.ensures ∙ (λ j. kept_sum c.args.sums (held c.args.head.sum f j) (held c.args.v c.ranges.v j)) in
     let a = c.args in
@@ -60,20 +60,20 @@ pub returns-in-Is : goal.returns-in-Is
 returns-in-Is c =
     let number : ℕ = let a = c.args in before a.size a.top a.sums a.head a.pos.now a.neg.now a.v in
     let near : c.nearest-x.result ≡ nearest_of c.args.v = c.nearest-x.ensures ∙ ap nearest_of (held c.args.v c.ranges.v) in
-    let told : c.refusal-no.result ≡ number = 
+    let told : c.refusal-no.result ≡ number =
     let a = c.args in
     c.refusal-no.ensures
     ∙ (λ j. E.refusal_of a.size a.top (c.under_counts-h.ensures j) a.pos.now a.neg.now (near j)) in
     let none : number ≡ 0 = sym (told) ∙ c.if-no-ne0.false in
-    let summed : (let a = c.args in c.kept_sum-total.result ≡ kept_sum a.sums a.head.sum a.v) = 
+    let summed : (let a = c.args in c.kept_sum-total.result ≡ kept_sum a.sums a.head.sum a.v) =
     let f : SFits w64 c.args.head.sum = search rules in
     c.kept_sum-total.ensures ∙ (λ j. kept_sum c.args.sums (held c.args.head.sum f j) (held c.args.v c.ranges.v j)) in
     let whole_sum : SFits w64 c.total-1.given.0.0 = search rules in
-    let least : (let a = c.args in to_z w64 (of_z w64 c.lesser-least.result) ≡ lesser_of a.head.min a.v) = 
+    let least : (let a = c.args in to_z w64 (of_z w64 c.lesser-least.result) ≡ lesser_of a.head.min a.v) =
     let r : SFits w64 c.lesser-least.result = search rules in
     let m : SFits w64 c.args.head.min = search rules in
     held c.lesser-least.result r ∙ c.lesser-least.ensures ∙ (λ i. lesser_of (held c.args.head.min m i) (held c.args.v c.ranges.v i)) in
-    let greatest : (let a = c.args in to_z w64 (of_z w64 c.greater-greatest.result) ≡ greater_of a.head.max a.v) = 
+    let greatest : (let a = c.args in to_z w64 (of_z w64 c.greater-greatest.result) ≡ greater_of a.head.max a.v) =
     let r : SFits w64 c.greater-greatest.result = search rules in
     let m : SFits w64 c.args.head.max = search rules in
     held c.greater-greatest.result r ∙ c.greater-greatest.ensures ∙ (λ i. greater_of (held c.args.head.max m i) (held c.args.v c.ranges.v i)) in

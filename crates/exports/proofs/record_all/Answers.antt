@@ -44,8 +44,7 @@ pub loop-i-preserved : goal.loop-i-preserved
 loop-i-preserved c =
     let inside : c.loop-i.i < length c.args.values.now = omega (arith, c.loop-i-test.true, c.most-n.ensures) in
     let l = c.loop-i in
-    let a = c.args in
-    (
+    let a = c.args in (
       omega (arith, c.loop-i-test.true),
       c.«record».auto.1.1.1.0 ∙ l.invariant.1,
       c.«record».auto.1.1.1.1.0 ∙ l.invariant.2,

@@ -8,11 +8,10 @@ abbrev test : ℤ → Bool
 test z = between (negsuc 4611686018427387903) z (pos 4611686018427387904)
 
 pub returns-then-is_between : goal.returns-then-is_between
-returns-then-is_between c h =
-    (
-      middling 4611686018427387904 c.args.a (lit< tt) (sym (c.is_between.ensures ∙ ap test (held c.args.a c.ranges.a)) ∙ c.if-is_between.true),
-      middling 4611686018427387904 c.args.v (lit< tt) (sym (c.is_between-then-is_between.ensures ∙ ap test (held c.args.v c.ranges.v)) ∙ h),
-    )
+returns-then-is_between c h = (
+  middling 4611686018427387904 c.args.a (lit< tt) (sym (c.is_between.ensures ∙ ap test (held c.args.a c.ranges.a)) ∙ c.if-is_between.true),
+  middling 4611686018427387904 c.args.v (lit< tt) (sym (c.is_between-then-is_between.ensures ∙ ap test (held c.args.v c.ranges.v)) ∙ h),
+)
 
 pub returns : goal.returns
 returns c h = absurd (subst (λ (b : Bool). T (not b)) h tt)

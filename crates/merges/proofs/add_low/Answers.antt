@@ -24,12 +24,12 @@ overflow_sub-index c =
 
 pub add_at-len-requires : goal.add_at-len-requires
 add_at-len-requires c =
-    let at : c.loop-j.index / 2 ^ c.args.k - c.args.s < length c.args.counts.now = 
+    let at : c.loop-j.index / 2 ^ c.args.k - c.args.s < length c.args.counts.now =
     let l = c.loop-j in
     let a = c.args in
     let e : l.index ≤ a.t + (a.m - 1) = omega (arith, l.invariant.1, c.loop-j-test.true) in
     omega (arith, shr_mono {a = l.index} {b = a.t + (a.m - 1)} a.k e, c.requires.s_in_bounds) in
-    let in-turn : Turn c.args.counts.now c.args.other.now c.loop-j.counts c.args.k c.args.s c.args.t c.args.n c.loop-j.j c.loop-j.len = 
+    let in-turn : Turn c.args.counts.now c.args.other.now c.loop-j.counts c.args.k c.args.s c.args.t c.args.n c.loop-j.j c.loop-j.len =
     let l = c.loop-j in
     let a = c.args in
     turn a.counts.now a.other.now l.counts a.k a.s a.t a.n a.m l.j l.len c.loop-j-test.true c.requires.n_in_bounds.1
@@ -41,12 +41,12 @@ add_at-len-requires c =
 
 pub loop-j-preserved : goal.loop-j-preserved
 loop-j-preserved c =
-    let at : c.loop-j.index / 2 ^ c.args.k - c.args.s < length c.args.counts.now = 
+    let at : c.loop-j.index / 2 ^ c.args.k - c.args.s < length c.args.counts.now =
     let l = c.loop-j in
     let a = c.args in
     let e : l.index ≤ a.t + (a.m - 1) = omega (arith, l.invariant.1, c.loop-j-test.true) in
     omega (arith, shr_mono {a = l.index} {b = a.t + (a.m - 1)} a.k e, c.requires.s_in_bounds) in
-    let in-turn : Turn c.args.counts.now c.args.other.now c.loop-j.counts c.args.k c.args.s c.args.t c.args.n c.loop-j.j c.loop-j.len = 
+    let in-turn : Turn c.args.counts.now c.args.other.now c.loop-j.counts c.args.k c.args.s c.args.t c.args.n c.loop-j.j c.loop-j.len =
     let l = c.loop-j in
     let a = c.args in
     turn a.counts.now a.other.now l.counts a.k a.s a.t a.n a.m l.j l.len c.loop-j-test.true c.requires.n_in_bounds.1
@@ -67,7 +67,7 @@ shape_of-counts c = c.loop-j.invariant.4
 
 pub returns : goal.returns
 returns c =
-    let at : c.loop-j.index / 2 ^ c.args.k - c.args.s < length c.args.counts.now = 
+    let at : c.loop-j.index / 2 ^ c.args.k - c.args.s < length c.args.counts.now =
     let l = c.loop-j in
     let a = c.args in
     let e : l.index ≤ a.t + (a.m - 1) = omega (arith, l.invariant.1, c.loop-j-test.true) in

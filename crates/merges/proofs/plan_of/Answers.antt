@@ -25,7 +25,7 @@ span-n-requires c = record { size_nonzero = c.requires.size_nonzero.0; len_bound
 
 pub overflow_sub-level : goal.overflow_sub-level
 overflow_sub-level c =
-    let low : c.greater-low.result ≡ rows_low c.args.size c.args.a c.args.b = 
+    let low : c.greater-low.result ≡ rows_low c.args.size c.args.a c.args.b =
     let a = c.args in
     plan_law a.size a.a a.b c.lesser-l.result c.span-p.result c.span-n.result c.greater-low.result c.lesser-l.ensures c.span-p.ensures c.span-n.ensures c.greater-low.ensures in
     omega (arith, low, c.requires.b_bound, c.lesser-l.ensures)
@@ -38,7 +38,7 @@ overflow_sub-result-2 c = omega (arith, c.lesser-l.ensures)
 
 pub returns : goal.returns
 returns c =
-    let low : c.greater-low.result ≡ rows_low c.args.size c.args.a c.args.b = 
+    let low : c.greater-low.result ≡ rows_low c.args.size c.args.a c.args.b =
     let a = c.args in
     plan_law a.size a.a a.b c.lesser-l.result c.span-p.result c.span-n.result c.greater-low.result c.lesser-l.ensures c.span-p.ensures c.span-n.ensures c.greater-low.ensures in
     let a = c.args in

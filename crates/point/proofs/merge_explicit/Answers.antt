@@ -15,11 +15,10 @@ returns-then-pos-k c =
     no_one (bucket_count a.bounds.now) a.n a.apos.now a.m a.bpos.now a.pos.now (omega (arith, c.if-pos-k.true, c.bucket_count-k.ensures))
 
 pub add_counts-requires : goal.add_counts-requires
-add_counts-requires c =
-    (
-      subst (λ (n : ℕ). Addable n c.args.apos.now c.args.bpos.now) (sym c.bucket_count-k.ensures) c.requires.0,
-      omega (arith, c.if-pos-k.false),
-    )
+add_counts-requires c = (
+  subst (λ (n : ℕ). Addable n c.args.apos.now c.args.bpos.now) (sym c.bucket_count-k.ensures) c.requires.0,
+  omega (arith, c.if-pos-k.false),
+)
 
 pub overflow_add-result : goal.overflow_add-result
 overflow_add-result c = omega (arith, c.requires.1)

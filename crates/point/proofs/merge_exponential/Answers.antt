@@ -14,14 +14,14 @@ plan_of-to-requires c = let a = c.args in let all = merging.plannable a.size a.c
 
 pub joined_len-requires : goal.joined_len-requires
 joined_len-requires c =
-    let few : (c.plan_of-to.result.first < 32) × (c.plan_of-to.result.second < 32) = 
+    let few : (c.plan_of-to.result.first < 32) × (c.plan_of-to.result.second < 32) =
     let a = c.args in
     subst (λ (o : Plan). (o.first < 32) × (o.second < 32)) (sym c.plan_of-to.ensures) (merging.first-few a.size a.c a.apos.now a.aneg.now a.d a.bpos.now a.bneg.now c.requires, merging.second-few a.size a.c a.apos.now a.aneg.now a.d a.bpos.now a.bneg.now c.requires) in
     let a = c.args in record { len_bound = (merging.plannable a.size a.c a.apos.now a.aneg.now a.d a.bpos.now a.bneg.now c.requires).1.0; j_bound = few }
 
 pub returns-then-pos-joined_len : goal.returns-then-pos-joined_len
 returns-then-pos-joined_len c =
-    let pos-long : c.joined_len.result ≡ length (merged_point c.args.size c.args.c c.args.apos.now c.args.aneg.now c.args.d c.args.bpos.now c.args.bneg.now).pos.counts = 
+    let pos-long : c.joined_len.result ≡ length (merged_point c.args.size c.args.c c.args.apos.now c.args.aneg.now c.args.d c.args.bpos.now c.args.bneg.now).pos.counts =
     let a = c.args in
     c.joined_len.ensures ∙ ap (λ (o : Plan). joined_len a.c.pos o.first a.d.pos o.second) c.plan_of-to.ensures ∙ merging.pos-length a.size a.c a.apos.now a.aneg.now a.d a.bpos.now a.bneg.now c.requires in
     let a = c.args in
@@ -29,17 +29,17 @@ returns-then-pos-joined_len c =
 
 pub joined_len-requires-2 : goal.joined_len-requires-2
 joined_len-requires-2 c =
-    let few : (c.plan_of-to.result.first < 32) × (c.plan_of-to.result.second < 32) = 
+    let few : (c.plan_of-to.result.first < 32) × (c.plan_of-to.result.second < 32) =
     let a = c.args in
     subst (λ (o : Plan). (o.first < 32) × (o.second < 32)) (sym c.plan_of-to.ensures) (merging.first-few a.size a.c a.apos.now a.aneg.now a.d a.bpos.now a.bneg.now c.requires, merging.second-few a.size a.c a.apos.now a.aneg.now a.d a.bpos.now a.bneg.now c.requires) in
     let a = c.args in record { len_bound = (merging.plannable a.size a.c a.apos.now a.aneg.now a.d a.bpos.now a.bneg.now c.requires).1.1.0; j_bound = few }
 
 pub returns-then-neg-joined_len : goal.returns-then-neg-joined_len
 returns-then-neg-joined_len c =
-    let pos-long : c.joined_len.result ≡ length (merged_point c.args.size c.args.c c.args.apos.now c.args.aneg.now c.args.d c.args.bpos.now c.args.bneg.now).pos.counts = 
+    let pos-long : c.joined_len.result ≡ length (merged_point c.args.size c.args.c c.args.apos.now c.args.aneg.now c.args.d c.args.bpos.now c.args.bneg.now).pos.counts =
     let a = c.args in
     c.joined_len.ensures ∙ ap (λ (o : Plan). joined_len a.c.pos o.first a.d.pos o.second) c.plan_of-to.ensures ∙ merging.pos-length a.size a.c a.apos.now a.aneg.now a.d a.bpos.now a.bneg.now c.requires in
-    let neg-long : c.joined_len-2.result ≡ length (merged_point c.args.size c.args.c c.args.apos.now c.args.aneg.now c.args.d c.args.bpos.now c.args.bneg.now).neg.counts = 
+    let neg-long : c.joined_len-2.result ≡ length (merged_point c.args.size c.args.c c.args.apos.now c.args.aneg.now c.args.d c.args.bpos.now c.args.bneg.now).neg.counts =
     let a = c.args in
     c.joined_len-2.ensures ∙ ap (λ (o : Plan). joined_len a.c.neg o.first a.d.neg o.second) c.plan_of-to.ensures ∙ merging.neg-length a.size a.c a.apos.now a.aneg.now a.d a.bpos.now a.bneg.now c.requires in
     let a = c.args in
@@ -47,20 +47,20 @@ returns-then-neg-joined_len c =
 
 pub merge_to-r-requires : goal.merge_to-r-requires
 merge_to-r-requires c =
-    let pos-long : c.joined_len.result ≡ length (merged_point c.args.size c.args.c c.args.apos.now c.args.aneg.now c.args.d c.args.bpos.now c.args.bneg.now).pos.counts = 
+    let pos-long : c.joined_len.result ≡ length (merged_point c.args.size c.args.c c.args.apos.now c.args.aneg.now c.args.d c.args.bpos.now c.args.bneg.now).pos.counts =
     let a = c.args in
     c.joined_len.ensures ∙ ap (λ (o : Plan). joined_len a.c.pos o.first a.d.pos o.second) c.plan_of-to.ensures ∙ merging.pos-length a.size a.c a.apos.now a.aneg.now a.d a.bpos.now a.bneg.now c.requires in
-    let neg-long : c.joined_len-2.result ≡ length (merged_point c.args.size c.args.c c.args.apos.now c.args.aneg.now c.args.d c.args.bpos.now c.args.bneg.now).neg.counts = 
+    let neg-long : c.joined_len-2.result ≡ length (merged_point c.args.size c.args.c c.args.apos.now c.args.aneg.now c.args.d c.args.bpos.now c.args.bneg.now).neg.counts =
     let a = c.args in
     c.joined_len-2.ensures ∙ ap (λ (o : Plan). joined_len a.c.neg o.first a.d.neg o.second) c.plan_of-to.ensures ∙ merging.neg-length a.size a.c a.apos.now a.aneg.now a.d a.bpos.now a.bneg.now c.requires in
     record { agreeing = c.requires; to_value = c.plan_of-to.ensures; roomy = record { pos = omega (arith, c.if-pos-joined_len.false, pos-long); neg = omega (arith, c.if-neg-joined_len.false, neg-long) } }
 
 pub returns : goal.returns
 returns c =
-    let pos-long : c.joined_len.result ≡ length (merged_point c.args.size c.args.c c.args.apos.now c.args.aneg.now c.args.d c.args.bpos.now c.args.bneg.now).pos.counts = 
+    let pos-long : c.joined_len.result ≡ length (merged_point c.args.size c.args.c c.args.apos.now c.args.aneg.now c.args.d c.args.bpos.now c.args.bneg.now).pos.counts =
     let a = c.args in
     c.joined_len.ensures ∙ ap (λ (o : Plan). joined_len a.c.pos o.first a.d.pos o.second) c.plan_of-to.ensures ∙ merging.pos-length a.size a.c a.apos.now a.aneg.now a.d a.bpos.now a.bneg.now c.requires in
-    let neg-long : c.joined_len-2.result ≡ length (merged_point c.args.size c.args.c c.args.apos.now c.args.aneg.now c.args.d c.args.bpos.now c.args.bneg.now).neg.counts = 
+    let neg-long : c.joined_len-2.result ≡ length (merged_point c.args.size c.args.c c.args.apos.now c.args.aneg.now c.args.d c.args.bpos.now c.args.bneg.now).neg.counts =
     let a = c.args in
     c.joined_len-2.ensures ∙ ap (λ (o : Plan). joined_len a.c.neg o.first a.d.neg o.second) c.plan_of-to.ensures ∙ merging.neg-length a.size a.c a.apos.now a.aneg.now a.d a.bpos.now a.bneg.now c.requires in
     let a = c.args in

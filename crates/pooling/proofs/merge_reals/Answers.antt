@@ -10,8 +10,7 @@ use Rattle.pooling.proofs.merge_reals.Goals as goal
 pub pool-requires : goal.pool-requires
 pool-requires c =
     let first : Source = nameless c.args.awords c.args.apos c.args.aneg c.args.abounds in
-    let second : Source = nameless c.args.bwords c.args.bpos c.args.bneg c.args.bbounds in
-    (
+    let second : Source = nameless c.args.bwords c.args.bpos c.args.bneg c.args.bbounds in (
       whole-lies c.args.a (first) c.first-1.given.0.0 (sym c.whole_at-first.ensures ∙ c.first-1.given.1),
       whole-lies c.args.b (second) c.second-1.given.0.0 (sym c.whole_at-second.ensures ∙ c.second-1.given.1),
     )

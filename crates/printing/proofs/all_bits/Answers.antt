@@ -26,8 +26,7 @@ bits-m-requires c = tt
 pub loop-i-preserved : goal.loop-i-preserved
 unfolding float_field
 loop-i-preserved c =
-    let l = c.loop-i in
-    (
+    let l = c.loop-i in (
       omega arith,
       joined-turn float_field c.args.bounds.now 44 l.i _ _ c.loop-i-test.true c.comma-a.ensures
           (spelt (ap (hex_digits 16) c.bits_of.ensures) _ c.bits-m.ensures) ∙ l.invariant.1,

@@ -19,7 +19,7 @@ use Rattle.printing.proofs.point_line.Goals as goal
 
 pub returns-in-Exponential : goal.returns-in-Exponential
 returns-in-Exponential c =
-    let stored : Stored = 
+    let stored : Stored =
     let a = c.args in
     stored_in a.e.point (bounds_at a.e.bounds a.bounds.now) (row_at a.at a.e.next false a.pos.now a.neg.now)
     (row_at a.at a.e.next true a.pos.now a.neg.now) in
@@ -39,7 +39,7 @@ returns-in-Exponential c =
 
 pub returns-in-Explicit : goal.returns-in-Explicit
 returns-in-Explicit c =
-    let stored : Stored = 
+    let stored : Stored =
     let a = c.args in
     stored_in a.e.point (bounds_at a.e.bounds a.bounds.now) (row_at a.at a.e.next false a.pos.now a.neg.now)
     (row_at a.at a.e.next true a.pos.now a.neg.now) in

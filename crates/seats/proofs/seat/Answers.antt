@@ -27,7 +27,7 @@ returns-then-no-ne0 c =
     let attrs : List (ℕ × ℕ) = given c.args.attrs.now in
     let filter : Option (List ℕ) = filter_of c.args.present c.args.filter.now in
     let first : ℕ = let a = c.args in barred_at a.cells a.value a.unset a.limit (lent) (length (attrs)) (accepts a.limit (filter)) in
-    let number : c.barred-no.result ≡ first = 
+    let number : c.barred-no.result ≡ first =
     c.barred-no.ensures
     ∙ (λ j. barred_by (c.suffices-lent.ensures j) c.args.value (sym (length-map c.args.attrs.now attribute) j) (eqb c.args.unset 0 && c.accepted-ok.ensures j)) in
     let set_row : List ℕ = row_of (canonical (filter) (attrs)) in
@@ -41,7 +41,7 @@ sort_into-requires c =
     let attrs : List (ℕ × ℕ) = given c.args.attrs.now in
     let filter : Option (List ℕ) = filter_of c.args.present c.args.filter.now in
     let first : ℕ = let a = c.args in barred_at a.cells a.value a.unset a.limit (lent) (length (attrs)) (accepts a.limit (filter)) in
-    let number : c.barred-no.result ≡ first = 
+    let number : c.barred-no.result ≡ first =
     c.barred-no.ensures
     ∙ (λ j. barred_by (c.suffices-lent.ensures j) c.args.value (sym (length-map c.args.attrs.now attribute) j) (eqb c.args.unset 0 && c.accepted-ok.ensures j)) in
     let known : Clear (room) c.args.value (length (attrs)) (eqb c.args.unset 0 && accepts c.args.limit (filter)) = clear _ _ _ _ (sym (number) ∙ c.if-no-ne0.false) in
@@ -54,7 +54,7 @@ seat_in-requires c =
     let attrs : List (ℕ × ℕ) = given c.args.attrs.now in
     let filter : Option (List ℕ) = filter_of c.args.present c.args.filter.now in
     let first : ℕ = let a = c.args in barred_at a.cells a.value a.unset a.limit (lent) (length (attrs)) (accepts a.limit (filter)) in
-    let number : c.barred-no.result ≡ first = 
+    let number : c.barred-no.result ≡ first =
     c.barred-no.ensures
     ∙ (λ j. barred_by (c.suffices-lent.ensures j) c.args.value (sym (length-map c.args.attrs.now attribute) j) (eqb c.args.unset 0 && c.accepted-ok.ensures j)) in
     let known : Clear (room) c.args.value (length (attrs)) (eqb c.args.unset 0 && accepts c.args.limit (filter)) = clear _ _ _ _ (sym (number) ∙ c.if-no-ne0.false) in
@@ -67,7 +67,7 @@ returns c =
     let attrs : List (ℕ × ℕ) = given c.args.attrs.now in
     let filter : Option (List ℕ) = filter_of c.args.present c.args.filter.now in
     let first : ℕ = let a = c.args in barred_at a.cells a.value a.unset a.limit (lent) (length (attrs)) (accepts a.limit (filter)) in
-    let number : c.barred-no.result ≡ first = 
+    let number : c.barred-no.result ≡ first =
     c.barred-no.ensures
     ∙ (λ j. barred_by (c.suffices-lent.ensures j) c.args.value (sym (length-map c.args.attrs.now attribute) j) (eqb c.args.unset 0 && c.accepted-ok.ensures j)) in
     let set_row : List ℕ = row_of (canonical (filter) (attrs)) in

@@ -22,8 +22,7 @@ returns-then-no-ne0 c =
 
 pub by_birth-found-requires : goal.by_birth-found-requires
 by_birth-found-requires c =
-    let lent : Stores = stores c.args.sets c.args.entries c.args.order in
-    (
+    let lent : Stores = stores c.args.sets c.args.entries c.args.order in (
       omega (arith, few c.args.limit c.args.d (lent) c.requires.3, c.requires.1),
       record { limit = c.args.limit; sets = c.args.sets.now; right = c.requires.3 },
       agreed-rise c.args.limit c.args.d (lent) c.requires.3,

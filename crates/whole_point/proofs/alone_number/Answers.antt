@@ -10,7 +10,7 @@ use Rattle.whole_point.proofs.alone_number.Goals as goal
 
 pub returns-then-agrees_alone : goal.returns-then-agrees_alone
 returns-then-agrees_alone c =
-    let told : (let a = c.args in c.agrees_alone.result ≡ P.agrees_alone (shadow_stored (stored a.p a.bounds a.pos a.neg))) = 
+    let told : (let a = c.args in c.agrees_alone.result ≡ P.agrees_alone (shadow_stored (stored a.p a.bounds a.pos a.neg))) =
     let a = c.args in
     c.agrees_alone.ensures ∙ (λ j. P.agrees_alone (P.stored (c.shadow_of-x.ensures j) a.bounds a.pos a.neg)) in
     let a = c.args in
@@ -18,7 +18,7 @@ returns-then-agrees_alone c =
 
 pub returns : goal.returns
 returns c =
-    let told : (let a = c.args in c.agrees_alone.result ≡ P.agrees_alone (shadow_stored (stored a.p a.bounds a.pos a.neg))) = 
+    let told : (let a = c.args in c.agrees_alone.result ≡ P.agrees_alone (shadow_stored (stored a.p a.bounds a.pos a.neg))) =
     let a = c.args in
     c.agrees_alone.ensures ∙ (λ j. P.agrees_alone (P.stored (c.shadow_of-x.ensures j) a.bounds a.pos a.neg)) in
     let a = c.args in

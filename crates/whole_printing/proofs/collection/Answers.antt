@@ -30,8 +30,7 @@ loop-i-preserved c =
     let listed : Output = let a = c.args in output a.sets a.words a.pos a.neg in
     let printed : Cursor → List ℕ = λ at. line_at at (listed) c.args.bounds.now in
     let next : Cursor → Cursor = λ at. next_at at (listed) in
-    let l = c.loop-i in
-    (
+    let l = c.loop-i in (
       omega arith,
       lines-turn (printed) (next) c.args.many l.done.at _ l.i c.point-done.result.at c.loop-i-test.true c.point-done.ensures.text_value c.point-done.ensures.at_value
           ∙ l.invariant.1,

@@ -38,14 +38,14 @@ bounds-sets-first c =
 
 pub offset_bounds-sets-last : goal.offset_bounds-sets-last
 offset_bounds-sets-last c =
-    let in-last : get_or c.args.order.now (c.args.used - 1) 0 < length c.args.sets.now = 
+    let in-last : get_or c.args.order.now (c.args.used - 1) 0 < length c.args.sets.now =
     let r = in-range c.args.used (get_or c.args.order.now (c.args.used - 1) 0) c.named-2.result c.named-2.ensures (not-false _ c.if-not-named-2.false) in
     omega (arith, r.1, c.requires.0) in
     scaled_Fits _ _ 72 (in-last) c.well-formed.1.0.1
 
 pub bounds-sets-last : goal.bounds-sets-last
 bounds-sets-last c =
-    let in-last : get_or c.args.order.now (c.args.used - 1) 0 < length c.args.sets.now = 
+    let in-last : get_or c.args.order.now (c.args.used - 1) 0 < length c.args.sets.now =
     let r = in-range c.args.used (get_or c.args.order.now (c.args.used - 1) 0) c.named-2.result c.named-2.ensures (not-false _ c.if-not-named-2.false) in
     omega (arith, r.1, c.requires.0) in
     in-last

@@ -85,8 +85,7 @@ pub loop-i-preserved : goal.loop-i-preserved
 loop-i-preserved c =
     let firm : soundb (get_or c.args.sets.now (get_or c.args.order.now c.loop-i.i 0) []) ≡ true = (and-true (soundb _) _ (sym c.follows.ensures ∙ not-false _ c.if-not-follows.false)).0 in
     let q = get_or c.args.order.now c.loop-i.i 0 in
-    let d : c.loop-i.i ≡ c.loop-i.i + 1 - 1 = omega arith in
-    (
+    let d : c.loop-i.i ≡ c.loop-i.i + 1 - 1 = omega arith in (
       omega (arith, c.loop-i-test.true),
       c.if-q-used.false,
       (λ n. (ap (λ (k : ℕ). get_or c.args.order.now k 0) d, c.if-q-lt1.false)),

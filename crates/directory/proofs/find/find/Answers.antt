@@ -87,8 +87,7 @@ loop-low-preserved-in-Before c =
     let mid : ℕ = c.loop-low.low + (c.loop-low.high - c.loop-low.low) / 2 in
     let below-high : mid < c.loop-low.high = (half c.loop-low.low c.loop-low.high c.loop-low-test.true).1 in
     let inside : mid < c.args.used = omega (arith, below-high, c.loop-low.invariant.1) in
-    let lie : Ordering = cmp (set_of c.args.wanted.now) (set_of (get_or c.args.sets.now (get_or c.args.order.now (mid) 0) [])) in
-    (
+    let lie : Ordering = cmp (set_of c.args.wanted.now) (set_of (get_or c.args.sets.now (get_or c.args.order.now (mid) 0) [])) in (
       (half c.loop-low.low c.loop-low.high c.loop-low-test.true).0,
       omega (arith, inside),
       c.loop-low.invariant.2,
@@ -123,8 +122,7 @@ loop-low-preserved c =
     let mid : ℕ = c.loop-low.low + (c.loop-low.high - c.loop-low.low) / 2 in
     let below-high : mid < c.loop-low.high = (half c.loop-low.low c.loop-low.high c.loop-low-test.true).1 in
     let inside : mid < c.args.used = omega (arith, below-high, c.loop-low.invariant.1) in
-    let lie : Ordering = cmp (set_of c.args.wanted.now) (set_of (get_or c.args.sets.now (get_or c.args.order.now (mid) 0) [])) in
-    (
+    let lie : Ordering = cmp (set_of c.args.wanted.now) (set_of (get_or c.args.sets.now (get_or c.args.order.now (mid) 0) [])) in (
       omega (arith, below-high),
       c.loop-low.invariant.1,
       beneath (set_of c.args.wanted.now) c.args.used c.args.sets.now c.args.order.now c.requires.5 (mid) (inside) (way_gt (lie) (sym c.compare-w.ensures ∙ c.enum_told-in-After-1.given.1)),

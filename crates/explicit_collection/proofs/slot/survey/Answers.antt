@@ -24,8 +24,11 @@ returns-then-not-sound_at c =
 pub returns-then-not-due : goal.returns-then-not-due
 returns-then-not-due c =
     let lent : Cells = let a = c.args in cells a.totals a.extremes a.counts in
-    let a = c.args in record { value = survey-idle (explicit_lister a.bounds.now) (true, true) a.updated a.due (lent) a.s a.x c.sound_at.result c.sound_at.ensures (not-false c.sound_at.result c.if-not-sound_at.false)
-          (not-true a.due c.if-not-due.true); more = (omega arith, omega arith, omega arith) }
+    let a = c.args in record {
+      value = survey-idle (explicit_lister a.bounds.now) (true, true) a.updated a.due (lent) a.s a.x c.sound_at.result c.sound_at.ensures (not-false c.sound_at.result c.if-not-sound_at.false)
+          (not-true a.due c.if-not-due.true);
+      more = (omega arith, omega arith, omega arith);
+    }
 
 pub one_more-requires : goal.one_more-requires
 one_more-requires c =
@@ -36,7 +39,10 @@ pub returns : goal.returns
 returns c =
     let lent : Cells = let a = c.args in cells a.totals a.extremes a.counts in
     let few : c.bucket_count.result ≤ 160 = omega (arith, c.bucket_count.ensures, count-few c.args.bounds.now c.requires.bounds_value.0) in
-    let a = c.args in record { value = c.one_more.ensures
+    let a = c.args in record {
+      value = c.one_more.ensures
           ∙ survey-due (explicit_lister a.bounds.now) (true, true) a.updated a.due (lent) a.s a.x c.sound_at.result c.sound_at.ensures (not-false c.sound_at.result c.if-not-sound_at.false)
           (not-false a.due c.if-not-due.false) c.bucket_count.result
-          (c.bucket_count.ensures ∙ sym (counts-long a.bounds.now a.counts.now a.x c.requires.bounds_value.1.counts a.updated)) refl; more = subst (λ (r : Survey). More a.s r) (sym c.one_more.ensures) (omega arith, omega (arith, few), omega arith) }
+          (c.bucket_count.ensures ∙ sym (counts-long a.bounds.now a.counts.now a.x c.requires.bounds_value.1.counts a.updated)) refl;
+      more = subst (λ (r : Survey). More a.s r) (sym c.one_more.ensures) (omega arith, omega (arith, few), omega arith);
+    }

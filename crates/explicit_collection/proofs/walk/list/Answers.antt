@@ -46,7 +46,7 @@ row_at-row-requires c =
 pub put-next-requires : goal.put-next-requires
 put-next-requires c =
     let seen : Seen (L c) (c.args.show, c.args.sums) c.args.cumulative (map c)
-    c.loop-i.i c.slot_at-x.result c.is_updated-updated.result c.is_due-due.result = 
+    c.loop-i.i c.slot_at-x.result c.is_updated-updated.result c.is_due-due.result =
     record {
       place = c.loop-i-test.true;
       slot = c.slot_at-x.ensures;
@@ -66,7 +66,7 @@ loop-i-smaller c = omega (arith, c.loop-i-test.taken)
 pub loop-i-preserved : goal.loop-i-preserved
 loop-i-preserved c =
     let seen : Seen (L c) (c.args.show, c.args.sums) c.args.cumulative (map c)
-    c.loop-i.i c.slot_at-x.result c.is_updated-updated.result c.is_due-due.result = 
+    c.loop-i.i c.slot_at-x.result c.is_updated-updated.result c.is_due-due.result =
     record {
       place = c.loop-i-test.true;
       slot = c.slot_at-x.ensures;
@@ -82,7 +82,7 @@ loop-i-preserved c =
 pub shape_of-out_sets : goal.shape_of-out_sets
 shape_of-out_sets c =
     let out_now : Output = record { sets = c.loop-i.out-sets; words = c.loop-i.out-words; pos = c.loop-i.out-pos; neg = c.loop-i.out-neg } in
-    let long : Alike (out_now) (out c) = 
+    let long : Alike (out_now) (out c) =
     let a = c.args in
     let l = c.loop-i in
     list-alike (L c) (a.show, a.sums) a.cumulative (map c) (out c) c.requires l.i l.at (out_now) l.invariant in
@@ -91,7 +91,7 @@ shape_of-out_sets c =
 pub shape_of-out_words : goal.shape_of-out_words
 shape_of-out_words c =
     let out_now : Output = record { sets = c.loop-i.out-sets; words = c.loop-i.out-words; pos = c.loop-i.out-pos; neg = c.loop-i.out-neg } in
-    let long : Alike (out_now) (out c) = 
+    let long : Alike (out_now) (out c) =
     let a = c.args in
     let l = c.loop-i in
     list-alike (L c) (a.show, a.sums) a.cumulative (map c) (out c) c.requires l.i l.at (out_now) l.invariant in
@@ -100,7 +100,7 @@ shape_of-out_words c =
 pub shape_of-out_pos : goal.shape_of-out_pos
 shape_of-out_pos c =
     let out_now : Output = record { sets = c.loop-i.out-sets; words = c.loop-i.out-words; pos = c.loop-i.out-pos; neg = c.loop-i.out-neg } in
-    let long : Alike (out_now) (out c) = 
+    let long : Alike (out_now) (out c) =
     let a = c.args in
     let l = c.loop-i in
     list-alike (L c) (a.show, a.sums) a.cumulative (map c) (out c) c.requires l.i l.at (out_now) l.invariant in
@@ -109,7 +109,7 @@ shape_of-out_pos c =
 pub shape_of-out_neg : goal.shape_of-out_neg
 shape_of-out_neg c =
     let out_now : Output = record { sets = c.loop-i.out-sets; words = c.loop-i.out-words; pos = c.loop-i.out-pos; neg = c.loop-i.out-neg } in
-    let long : Alike (out_now) (out c) = 
+    let long : Alike (out_now) (out c) =
     let a = c.args in
     let l = c.loop-i in
     list-alike (L c) (a.show, a.sums) a.cumulative (map c) (out c) c.requires l.i l.at (out_now) l.invariant in

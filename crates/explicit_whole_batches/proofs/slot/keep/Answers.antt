@@ -20,5 +20,8 @@ returns c =
     let sum : SFits w64 c.args.run.head.sum = search rules in
     let a = c.args in
     let h = a.run.head in
-    let es = a.extremes.now in record { totals_after = sym (pick_second _ c.if-run-eq0.false _ _); extremes_after = (λ j. set es a.x (held h.min (least) j ∷ held h.max (greatest) j ∷ held h.sum (sum) j ∷ []))
-          ∙ sym (pick_second a.run.taken c.if-run-eq0.false es (set es a.x (extremes_of h))) }
+    let es = a.extremes.now in record {
+      totals_after = sym (pick_second _ c.if-run-eq0.false _ _);
+      extremes_after = (λ j. set es a.x (held h.min (least) j ∷ held h.max (greatest) j ∷ held h.sum (sum) j ∷ []))
+          ∙ sym (pick_second a.run.taken c.if-run-eq0.false es (set es a.x (extremes_of h)));
+    }

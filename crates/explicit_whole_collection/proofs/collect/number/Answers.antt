@@ -35,10 +35,13 @@ pub survey-found-requires : goal.survey-found-requires
 survey-found-requires c =
     let map : Held Cells = let a = c.args in held a.d (stores a.sets a.entries a.order) (cells a.totals a.extremes a.counts) in
     let out : Output = let a = c.args in output a.out-sets a.out-words a.out-pos a.out-neg in
-    let a = c.args in record { walk = walk-counts a.bounds.now a.s.sums a.d.used a.entries.now a.order.now a.totals a.extremes a.counts
+    let a = c.args in record {
+      walk = walk-counts a.bounds.now a.s.sums a.d.used a.entries.now a.order.now a.totals a.extremes a.counts
           (walk_here (explicit_whole_lister a.bounds.now a.s.sums) (owed a.bounds.now a.s.sums) a.s.extremes a.cumulative a.s.limit (map) (out)
           c.cells_suffice-room.result c.unset_of-unset.result c.barred-no.result
-          c.cells_suffice-room.ensures c.unset_of-unset.ensures c.barred-no.ensures c.if-no-ne0.false); all_known = walk-known (explicit_wholes a.bounds.now a.s.sums) a.s.extremes a.s.limit none (map) a.known c.requires true (λ x. refl) }
+          c.cells_suffice-room.ensures c.unset_of-unset.ensures c.barred-no.ensures c.if-no-ne0.false);
+      all_known = walk-known (explicit_wholes a.bounds.now a.s.sums) a.s.extremes a.s.limit none (map) a.known c.requires true (λ x. refl);
+    }
 
 pub returns : goal.returns
 returns c =

@@ -33,7 +33,7 @@ pub put_fresh-requires : goal.put_fresh-requires
 put_fresh-requires c =
     let passing : bounds_pass c.args.bounds.now ≡ true = (owed c.args.bounds.now c.args.sums).valid c.requires.sound.set c.args.show in
     let out : Output = let a = c.args in output a.out-sets a.out-words a.out-pos a.out-neg in
-    let place : Place c.args.at (out) (bucket_count c.args.bounds.now) 0 = 
+    let place : Place c.args.at (out) (bucket_count c.args.bounds.now) 0 =
     let a = c.args in
     place_of a.bounds.now a.counts.now a.x c.requires.sound.room.counts a.updated a.at (out) (c.requires.free (not-false a.due c.if-not-due.false)) in
     record { bounds_value = passing; place = place }
@@ -75,7 +75,7 @@ put_point-requires c =
     let passing : bounds_pass c.args.bounds.now ≡ true = (owed c.args.bounds.now c.args.sums).valid c.requires.sound.set c.args.show in
     let end : c.args.x * c.bucket_count-n.result + c.bucket_count-n.result ≤ length c.args.counts.now = let a = c.args in subst (λ (k : ℕ). a.x * k + k ≤ length a.counts.now) (sym c.bucket_count-n.ensures) c.requires.sound.room.counts in
     let out : Output = let a = c.args in output a.out-sets a.out-words a.out-pos a.out-neg in
-    let place : Place c.args.at (out) (bucket_count c.args.bounds.now) 0 = 
+    let place : Place c.args.at (out) (bucket_count c.args.bounds.now) 0 =
     let a = c.args in
     place_of a.bounds.now a.counts.now a.x c.requires.sound.room.counts a.updated a.at (out) (c.requires.free (not-false a.due c.if-not-due.false)) in
     let a = c.args in record { bounds_value = (passing, omega (arith, c.bucket_count-n.ensures, part_length c.bucket_count-n.result a.counts.now a.x (end))); place = place }

@@ -20,7 +20,7 @@ overflow_sub-pos c =
     let place : ℕ = c.args.bin - c.signed_row-row.result.start in
     let inside : place < c.signed_row-row.result.len = omega (arith, c.if-row-k.false) in
     let sums : (c.one_if-m.result ≤ 1) × ((get_or c.args.pos.now (place) 0 + (1 - c.one_if-m.result) < 2 ^ 64)
-    × (get_or c.args.neg.now (place) 0 + c.one_if-m.result < 2 ^ 64)) = 
+    × (get_or c.args.neg.now (place) 0 + c.one_if-m.result < 2 ^ 64)) =
     let a = c.args in
     let k = place in
     sums-fit a.p a.n c.signed_row-row.result a.bin k c.one_if-m.result a.pos.now a.neg.now c.requires a.negative c.signed_row-row.ensures (inside) c.one_if-m.ensures
@@ -31,7 +31,7 @@ pub bounds-pos-k : goal.bounds-pos-k
 bounds-pos-k c =
     let place : ℕ = c.args.bin - c.signed_row-row.result.start in
     let inside : place < c.signed_row-row.result.len = omega (arith, c.if-row-k.false) in
-    let both : (place < length c.args.pos.now) × (place < length c.args.neg.now) = 
+    let both : (place < length c.args.pos.now) × (place < length c.args.neg.now) =
     let a = c.args in
     within_both a.p a.n c.signed_row-row.result a.bin (place) 0 a.pos.now a.neg.now c.requires a.negative c.signed_row-row.ensures (inside) in
     omega (arith, both)
@@ -41,7 +41,7 @@ overflow_add-pos c =
     let place : ℕ = c.args.bin - c.signed_row-row.result.start in
     let inside : place < c.signed_row-row.result.len = omega (arith, c.if-row-k.false) in
     let sums : (c.one_if-m.result ≤ 1) × ((get_or c.args.pos.now (place) 0 + (1 - c.one_if-m.result) < 2 ^ 64)
-    × (get_or c.args.neg.now (place) 0 + c.one_if-m.result < 2 ^ 64)) = 
+    × (get_or c.args.neg.now (place) 0 + c.one_if-m.result < 2 ^ 64)) =
     let a = c.args in
     let k = place in
     sums-fit a.p a.n c.signed_row-row.result a.bin k c.one_if-m.result a.pos.now a.neg.now c.requires a.negative c.signed_row-row.ensures (inside) c.one_if-m.ensures
@@ -52,7 +52,7 @@ pub bounds-pos-k-2 : goal.bounds-pos-k-2
 bounds-pos-k-2 c =
     let place : ℕ = c.args.bin - c.signed_row-row.result.start in
     let inside : place < c.signed_row-row.result.len = omega (arith, c.if-row-k.false) in
-    let both : (place < length c.args.pos.now) × (place < length c.args.neg.now) = 
+    let both : (place < length c.args.pos.now) × (place < length c.args.neg.now) =
     let a = c.args in
     within_both a.p a.n c.signed_row-row.result a.bin (place) 0 a.pos.now a.neg.now c.requires a.negative c.signed_row-row.ensures (inside) in
     omega (arith, both)
@@ -61,7 +61,7 @@ pub bounds-neg-k : goal.bounds-neg-k
 bounds-neg-k c =
     let place : ℕ = c.args.bin - c.signed_row-row.result.start in
     let inside : place < c.signed_row-row.result.len = omega (arith, c.if-row-k.false) in
-    let both : (place < length c.args.pos.now) × (place < length c.args.neg.now) = 
+    let both : (place < length c.args.pos.now) × (place < length c.args.neg.now) =
     let a = c.args in
     within_both a.p a.n c.signed_row-row.result a.bin (place) 0 a.pos.now a.neg.now c.requires a.negative c.signed_row-row.ensures (inside) in
     omega (arith, both)
@@ -71,7 +71,7 @@ overflow_add-neg c =
     let place : ℕ = c.args.bin - c.signed_row-row.result.start in
     let inside : place < c.signed_row-row.result.len = omega (arith, c.if-row-k.false) in
     let sums : (c.one_if-m.result ≤ 1) × ((get_or c.args.pos.now (place) 0 + (1 - c.one_if-m.result) < 2 ^ 64)
-    × (get_or c.args.neg.now (place) 0 + c.one_if-m.result < 2 ^ 64)) = 
+    × (get_or c.args.neg.now (place) 0 + c.one_if-m.result < 2 ^ 64)) =
     let a = c.args in
     let k = place in
     sums-fit a.p a.n c.signed_row-row.result a.bin k c.one_if-m.result a.pos.now a.neg.now c.requires a.negative c.signed_row-row.ensures (inside) c.one_if-m.ensures
@@ -82,7 +82,7 @@ pub bounds-neg-k-2 : goal.bounds-neg-k-2
 bounds-neg-k-2 c =
     let place : ℕ = c.args.bin - c.signed_row-row.result.start in
     let inside : place < c.signed_row-row.result.len = omega (arith, c.if-row-k.false) in
-    let both : (place < length c.args.pos.now) × (place < length c.args.neg.now) = 
+    let both : (place < length c.args.pos.now) × (place < length c.args.neg.now) =
     let a = c.args in
     within_both a.p a.n c.signed_row-row.result a.bin (place) 0 a.pos.now a.neg.now c.requires a.negative c.signed_row-row.ensures (inside) in
     omega (arith, both)
@@ -92,7 +92,7 @@ returns c =
     let place : ℕ = c.args.bin - c.signed_row-row.result.start in
     let inside : place < c.signed_row-row.result.len = omega (arith, c.if-row-k.false) in
     let sums : (c.one_if-m.result ≤ 1) × ((get_or c.args.pos.now (place) 0 + (1 - c.one_if-m.result) < 2 ^ 64)
-    × (get_or c.args.neg.now (place) 0 + c.one_if-m.result < 2 ^ 64)) = 
+    × (get_or c.args.neg.now (place) 0 + c.one_if-m.result < 2 ^ 64)) =
     let a = c.args in
     let k = place in
     sums-fit a.p a.n c.signed_row-row.result a.bin k c.one_if-m.result a.pos.now a.neg.now c.requires a.negative c.signed_row-row.ensures (inside) c.one_if-m.ensures

@@ -49,7 +49,7 @@ returns-then-not-is_finite c =
     let inside : c.loop-i.i < length c.args.values.now = omega (arith, c.loop-i-test.true) in
     let stops : n ≡ left_to_ask (here).head (value) → (n ≡ 0 → ⊥) → let l = c.loop-i in let a = c.args in
     record { taken = l.i; no = n; left = here }
-    ≡ each (step a.size a.top) (series a.head a.pos a.neg) a.values.now = 
+    ≡ each (step a.size a.top) (series a.head a.pos a.neg) a.values.now =
     λ n e. let l = c.loop-i in
     let a = c.args in
     let r = refused-by a.size a.top (here) (value) l.invariant.3 n e d in
@@ -69,7 +69,7 @@ returns-then-c c =
     let inside : c.loop-i.i < length c.args.values.now = omega (arith, c.loop-i-test.true) in
     let stops : n ≡ left_to_ask (here).head (value) → (n ≡ 0 → ⊥) → let l = c.loop-i in let a = c.args in
     record { taken = l.i; no = n; left = here }
-    ≡ each (step a.size a.top) (series a.head a.pos a.neg) a.values.now = 
+    ≡ each (step a.size a.top) (series a.head a.pos a.neg) a.values.now =
     λ n e. let l = c.loop-i in
     let a = c.args in
     let r = refused-by a.size a.top (here) (value) l.invariant.3 n e d in
@@ -83,7 +83,7 @@ noted-next-requires c =
     let value : Float = get_or c.args.values.now c.loop-i.i nan in
     let finite-there : finite (value) ≡ true = sym c.is_finite.ensures ∙ not-false _ c.if-not-is_finite.false in
     let passed : let a = c.args in
-    refusal_of a.size a.top (here).head (here).pos (here).neg (value) ≡ 0 = 
+    refusal_of a.size a.top (here).head (here).pos (here).neg (value) ≡ 0 =
     let a = c.args in
     only a.size a.top (here) (value) c.loop-i.inv.3 ∙ asks_0 (here).head (value) (finite-there) c.if-c.false in
     passed
@@ -101,7 +101,7 @@ loop-i-preserved c =
     let gone : Series = record { head = c.noted-next.result; pos = c.noted-next.new.pos; neg = c.noted-next.new.neg } in
     let finite-there : finite (value) ≡ true = sym c.is_finite.ensures ∙ not-false _ c.if-not-is_finite.false in
     let passed : let a = c.args in
-    refusal_of a.size a.top (here).head (here).pos (here).neg (value) ≡ 0 = 
+    refusal_of a.size a.top (here).head (here).pos (here).neg (value) ≡ 0 =
     let a = c.args in
     only a.size a.top (here) (value) c.loop-i.inv.3 ∙ asks_0 (here).head (value) (finite-there) c.if-c.false in
     let inside : c.loop-i.i < length c.args.values.now = omega (arith, c.loop-i-test.true) in

@@ -33,8 +33,11 @@ pub survey-found-requires : goal.survey-found-requires
 survey-found-requires c =
     let map : Held Cells = let a = c.args in held a.d (stores a.sets a.entries a.order) (cells a.figures a.extremes a.pos a.neg) in
     let out : Output = let a = c.args in output a.out-sets a.out-words a.out-pos a.out-neg in
-    let a = c.args in record { walk = walk_here (exponential_lister a.s.size a.s.top) (owed a.s.size a.s.top) (a.s.extremes, a.s.sums) a.cumulative a.s.limit (map) (out)
-          c.cells_suffice-room.result c.unset_of-unset.result c.barred-bar.result c.cells_suffice-room.ensures c.unset_of-unset.ensures c.barred-bar.ensures c.if-bar-ne0.false; all_known = walk-known (exponential_store a.s.size a.s.top) (a.s.extremes, a.s.sums) a.s.limit none (map) a.known c.requires (true, true) (λ x. refl) }
+    let a = c.args in record {
+      walk = walk_here (exponential_lister a.s.size a.s.top) (owed a.s.size a.s.top) (a.s.extremes, a.s.sums) a.cumulative a.s.limit (map) (out)
+          c.cells_suffice-room.result c.unset_of-unset.result c.barred-bar.result c.cells_suffice-room.ensures c.unset_of-unset.ensures c.barred-bar.ensures c.if-bar-ne0.false;
+      all_known = walk-known (exponential_store a.s.size a.s.top) (a.s.extremes, a.s.sums) a.s.limit none (map) a.known c.requires (true, true) (λ x. refl);
+    }
 
 pub returns : goal.returns
 returns c =

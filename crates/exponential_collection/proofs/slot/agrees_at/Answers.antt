@@ -38,7 +38,7 @@ returns-then-not-counts_agree c =
     ≡ head_in (get_or (lent).figures c.args.x []) (get_or (lent).extremes c.args.x []) = c.head_of-head.ensures ∙ head-held _ true _ _ refl in
     let counts-are : c.counts_agree.result
     ≡ S.agrees c.args.size c.args.top (counts_in (get_or (lent).figures c.args.x []))
-    (part_at c.args.size (lent).pos c.args.x) (part_at c.args.size (lent).neg c.args.x) = 
+    (part_at c.args.size (lent).pos c.args.x) (part_at c.args.size (lent).neg c.args.x) =
     let a = c.args in
     c.counts_agree.ensures
     ∙ ap (λ (h : Head). S.agrees a.size a.top h.counts (part_at a.size (lent).pos a.x) (part_at a.size (lent).neg a.x)) (head-is) in
@@ -55,7 +55,7 @@ returns-then-not-is_finite c =
     ≡ head_in (get_or (lent).figures c.args.x []) (get_or (lent).extremes c.args.x []) = c.head_of-head.ensures ∙ head-held _ true _ _ refl in
     let counts-are : c.counts_agree.result
     ≡ S.agrees c.args.size c.args.top (counts_in (get_or (lent).figures c.args.x []))
-    (part_at c.args.size (lent).pos c.args.x) (part_at c.args.size (lent).neg c.args.x) = 
+    (part_at c.args.size (lent).pos c.args.x) (part_at c.args.size (lent).neg c.args.x) =
     let a = c.args in
     c.counts_agree.ensures
     ∙ ap (λ (h : Head). S.agrees a.size a.top h.counts (part_at a.size (lent).pos a.x) (part_at a.size (lent).neg a.x)) (head-is) in
@@ -74,7 +74,7 @@ returns c =
     let read : narrow (get_or (lent).figures c.args.x []) ≡ true = can in
     let counts-are : c.counts_agree.result
     ≡ S.agrees c.args.size c.args.top (counts_in (get_or (lent).figures c.args.x []))
-    (part_at c.args.size (lent).pos c.args.x) (part_at c.args.size (lent).neg c.args.x) = 
+    (part_at c.args.size (lent).pos c.args.x) (part_at c.args.size (lent).neg c.args.x) =
     let a = c.args in
     c.counts_agree.ensures
     ∙ ap (λ (h : Head). S.agrees a.size a.top h.counts (part_at a.size (lent).pos a.x) (part_at a.size (lent).neg a.x)) (head-is) in

@@ -32,7 +32,7 @@ count_in-more-requires c =
 pub returns-in-Outside : goal.returns-in-Outside
 returns-in-Outside c =
     let lent : Series = let a = c.args in series a.head a.pos a.neg in
-    let summed : (let a = c.args in c.kept_sum-total.result ≡ kept_sum a.sums a.head.sum a.v) = 
+    let summed : (let a = c.args in c.kept_sum-total.result ≡ kept_sum a.sums a.head.sum a.v) =
     let f : SFits w64 c.args.head.sum = search rules in
     c.kept_sum-total.ensures ∙ (λ j. kept_sum c.args.sums (held c.args.head.sum f j) (held c.args.v c.fits.v j)) in
     let a = c.args in
@@ -41,16 +41,16 @@ returns-in-Outside c =
 pub returns-in-Is : goal.returns-in-Is
 returns-in-Is c =
     let lent : Series = let a = c.args in series a.head a.pos a.neg in
-    let summed : (let a = c.args in c.kept_sum-total.result ≡ kept_sum a.sums a.head.sum a.v) = 
+    let summed : (let a = c.args in c.kept_sum-total.result ≡ kept_sum a.sums a.head.sum a.v) =
     let f : SFits w64 c.args.head.sum = search rules in
     c.kept_sum-total.ensures ∙ (λ j. kept_sum c.args.sums (held c.args.head.sum f j) (held c.args.v c.fits.v j)) in
     let whole_sum : SFits w64 c.total-1.given.0.0 = search rules in
     let near : c.nearest-x.result ≡ nearest_of c.args.v = c.nearest-x.ensures ∙ ap nearest_of (held c.args.v c.fits.v) in
-    let least : (let a = c.args in to_z w64 (of_z w64 c.lesser-least.result) ≡ lesser_of a.head.min a.v) = 
+    let least : (let a = c.args in to_z w64 (of_z w64 c.lesser-least.result) ≡ lesser_of a.head.min a.v) =
     let r : SFits w64 c.lesser-least.result = search rules in
     let m : SFits w64 c.args.head.min = search rules in
     held c.lesser-least.result r ∙ c.lesser-least.ensures ∙ (λ i. lesser_of (held c.args.head.min m i) (held c.args.v c.fits.v i)) in
-    let greatest : (let a = c.args in to_z w64 (of_z w64 c.greater-greatest.result) ≡ greater_of a.head.max a.v) = 
+    let greatest : (let a = c.args in to_z w64 (of_z w64 c.greater-greatest.result) ≡ greater_of a.head.max a.v) =
     let r : SFits w64 c.greater-greatest.result = search rules in
     let m : SFits w64 c.args.head.max = search rules in
     held c.greater-greatest.result r ∙ c.greater-greatest.ensures ∙ (λ i. greater_of (held c.args.head.max m i) (held c.args.v c.fits.v i)) in

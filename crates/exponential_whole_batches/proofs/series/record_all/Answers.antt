@@ -45,7 +45,7 @@ returns-then-no-ne0 c =
     let gone : Recording Series = after c.next-one.result.no (record { head = c.next-one.result.head; pos = c.next-one.new.pos; neg = c.next-one.new.neg }) in
     let value : Whole.ℤ = get_or c.args.values.now c.loop-i.i (Whole.pos 0) in
     let is_i64 : SFits w64 (value) = record { sfits = c.next-arg-in-loop-i-2-1.given } in
-    let went : (let a = c.args in gone ≡ step a.size a.top a.sums (there) (value)) = 
+    let went : (let a = c.args in gone ≡ step a.size a.top a.sums (there) (value)) =
     let a = c.args in
     c.next-one.ensures ∙ ap (step a.size a.top a.sums (there)) (held (value) (is_i64)) in
     let l = c.loop-i in
@@ -67,13 +67,12 @@ loop-i-preserved c =
     let there : Series = let l = c.loop-i in record { head = l.h; pos = l.pos; neg = l.neg } in
     let value : Whole.ℤ = get_or c.args.values.now c.loop-i.i (Whole.pos 0) in
     let is_i64 : SFits w64 (value) = record { sfits = c.next-arg-in-loop-i-2-1.given } in
-    let went : (let a = c.args in gone ≡ step a.size a.top a.sums (there) (value)) = 
+    let went : (let a = c.args in gone ≡ step a.size a.top a.sums (there) (value)) =
     let a = c.args in
     c.next-one.ensures ∙ ap (step a.size a.top a.sums (there)) (held (value) (is_i64)) in
     let inside : c.loop-i.i < length c.args.values.now = omega (arith, c.loop-i-test.true) in
     let l = c.loop-i in
-    let a = c.args in
-    (
+    let a = c.args in (
       omega (arith, c.loop-i-test.taken),
       c.next-one.auto.pos ∙ l.inv.1,
       c.next-one.auto.neg ∙ l.inv.2,

@@ -22,6 +22,9 @@ returns c =
     let greatest : SFits w64 c.args.run.head.max = search rules in
     let sum : SFits w64 c.args.run.head.sum = search rules in
     let a = c.args in
-    let h = a.run.head in record { figures_after = ap (set a.figures.now a.x) c.words_of.ensures
-          ∙ sym (pick_second a.run.taken c.if-run-eq0.false a.figures.now (set a.figures.now a.x (words_of h.counts))); extremes_after = (λ j. set a.extremes.now a.x (held h.min (least) j ∷ held h.max (greatest) j ∷ held h.sum (sum) j ∷ []))
-          ∙ sym (pick_second a.run.taken c.if-run-eq0.false a.extremes.now (set a.extremes.now a.x (extremes_of h))) }
+    let h = a.run.head in record {
+      figures_after = ap (set a.figures.now a.x) c.words_of.ensures
+          ∙ sym (pick_second a.run.taken c.if-run-eq0.false a.figures.now (set a.figures.now a.x (words_of h.counts)));
+      extremes_after = (λ j. set a.extremes.now a.x (held h.min (least) j ∷ held h.max (greatest) j ∷ held h.sum (sum) j ∷ []))
+          ∙ sym (pick_second a.run.taken c.if-run-eq0.false a.extremes.now (set a.extremes.now a.x (extremes_of h)));
+    }

@@ -41,8 +41,11 @@ survey-found-requires c =
     let W : Owed (exponential_wholes c.args.s.size c.args.s.top true) = owed c.args.s.size c.args.s.top true in
     let map : Held Cells = let a = c.args in held a.d (stores a.sets a.entries a.order) (cells a.figures a.extremes a.pos a.neg) in
     let out : Output = let a = c.args in output a.out-sets a.out-words a.out-pos a.out-neg in
-    let a = c.args in record { walk = walk_here (L) (W) a.s.extremes a.cumulative a.s.limit (map) (out)
-          c.cells_suffice-room.result c.unset_of-unset.result c.barred-bar.result c.cells_suffice-room.ensures c.unset_of-unset.ensures c.barred-bar.ensures c.if-bar-ne0.false; all_known = walk-known (exponential_wholes a.s.size a.s.top a.s.sums) a.s.extremes a.s.limit none (map) a.known c.requires true (λ x. refl) }
+    let a = c.args in record {
+      walk = walk_here (L) (W) a.s.extremes a.cumulative a.s.limit (map) (out)
+          c.cells_suffice-room.result c.unset_of-unset.result c.barred-bar.result c.cells_suffice-room.ensures c.unset_of-unset.ensures c.barred-bar.ensures c.if-bar-ne0.false;
+      all_known = walk-known (exponential_wholes a.s.size a.s.top a.s.sums) a.s.extremes a.s.limit none (map) a.known c.requires true (λ x. refl);
+    }
 
 pub returns : goal.returns
 returns c =

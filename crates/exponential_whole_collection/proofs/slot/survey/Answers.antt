@@ -17,8 +17,11 @@ is_sound-requires c = record { top_value = c.requires.top_value; known = c.requi
 pub returns-then-not-is_sound : goal.returns-then-not-is_sound
 returns-then-not-is_sound c =
     let lent : Cells = let a = c.args in cells a.figures a.extremes a.pos a.neg in
-    let a = c.args in record { value = survey_8 (exponential_whole_lister a.size a.top true) true a.updated a.due (lent) a.x a.s
-          (sym c.is_sound.ensures ∙ not-true c.is_sound.result c.if-not-is_sound.true); more = search rules }
+    let a = c.args in record {
+      value = survey_8 (exponential_whole_lister a.size a.top true) true a.updated a.due (lent) a.x a.s
+          (sym c.is_sound.ensures ∙ not-true c.is_sound.result c.if-not-is_sound.true);
+      more = search rules;
+    }
 
 pub returns-then-not-due : goal.returns-then-not-due
 returns-then-not-due c =

@@ -46,7 +46,7 @@ row_at-row-requires c =
 pub put-at-requires : goal.put-at-requires
 put-at-requires c =
     let seen : Seen (L c) c.args.s.extremes c.args.cumulative (map c)
-    c.loop-i.i c.slot_at-x.result c.is_updated-updated.result c.is_due-due.result = 
+    c.loop-i.i c.slot_at-x.result c.is_updated-updated.result c.is_due-due.result =
     record {
       place = c.loop-i-test.true;
       slot = c.slot_at-x.ensures;
@@ -55,8 +55,11 @@ put-at-requires c =
     } in
     let out_now : Output = record { sets = c.loop-i.out-sets; words = c.loop-i.out-words; pos = c.loop-i.out-pos; neg = c.loop-i.out-neg } in
     let a = c.args in
-    let l = c.loop-i in record { sound = slot-sound (L c) a.s.extremes a.cumulative (map c) (out c) c.requires l.i _ _ _ (seen); free = slot-free (L c) a.s.extremes a.cumulative (map c) (out c) c.requires l.i _ _ _ (seen)
-          l.at (out_now) l.invariant }
+    let l = c.loop-i in record {
+      sound = slot-sound (L c) a.s.extremes a.cumulative (map c) (out c) c.requires l.i _ _ _ (seen);
+      free = slot-free (L c) a.s.extremes a.cumulative (map c) (out c) c.requires l.i _ _ _ (seen)
+          l.at (out_now) l.invariant;
+    }
 
 pub overflow_add-i : goal.overflow_add-i
 overflow_add-i c = omega (arith, c.loop-i-test.taken, c.requires.walk.most)
@@ -67,7 +70,7 @@ loop-i-smaller c = omega (arith, c.loop-i-test.taken)
 pub loop-i-preserved : goal.loop-i-preserved
 loop-i-preserved c =
     let seen : Seen (L c) c.args.s.extremes c.args.cumulative (map c)
-    c.loop-i.i c.slot_at-x.result c.is_updated-updated.result c.is_due-due.result = 
+    c.loop-i.i c.slot_at-x.result c.is_updated-updated.result c.is_due-due.result =
     record {
       place = c.loop-i-test.true;
       slot = c.slot_at-x.ensures;
@@ -83,7 +86,7 @@ loop-i-preserved c =
 pub shape_of-out_sets : goal.shape_of-out_sets
 shape_of-out_sets c =
     let out_now : Output = record { sets = c.loop-i.out-sets; words = c.loop-i.out-words; pos = c.loop-i.out-pos; neg = c.loop-i.out-neg } in
-    let long : Alike (out_now) (out c) = 
+    let long : Alike (out_now) (out c) =
     let a = c.args in
     let l = c.loop-i in
     list-alike (L c) a.s.extremes a.cumulative (map c) (out c) c.requires l.i l.at (out_now) l.invariant in
@@ -92,7 +95,7 @@ shape_of-out_sets c =
 pub shape_of-out_words : goal.shape_of-out_words
 shape_of-out_words c =
     let out_now : Output = record { sets = c.loop-i.out-sets; words = c.loop-i.out-words; pos = c.loop-i.out-pos; neg = c.loop-i.out-neg } in
-    let long : Alike (out_now) (out c) = 
+    let long : Alike (out_now) (out c) =
     let a = c.args in
     let l = c.loop-i in
     list-alike (L c) a.s.extremes a.cumulative (map c) (out c) c.requires l.i l.at (out_now) l.invariant in
@@ -101,7 +104,7 @@ shape_of-out_words c =
 pub shape_of-out_pos : goal.shape_of-out_pos
 shape_of-out_pos c =
     let out_now : Output = record { sets = c.loop-i.out-sets; words = c.loop-i.out-words; pos = c.loop-i.out-pos; neg = c.loop-i.out-neg } in
-    let long : Alike (out_now) (out c) = 
+    let long : Alike (out_now) (out c) =
     let a = c.args in
     let l = c.loop-i in
     list-alike (L c) a.s.extremes a.cumulative (map c) (out c) c.requires l.i l.at (out_now) l.invariant in
@@ -110,7 +113,7 @@ shape_of-out_pos c =
 pub shape_of-out_neg : goal.shape_of-out_neg
 shape_of-out_neg c =
     let out_now : Output = record { sets = c.loop-i.out-sets; words = c.loop-i.out-words; pos = c.loop-i.out-pos; neg = c.loop-i.out-neg } in
-    let long : Alike (out_now) (out c) = 
+    let long : Alike (out_now) (out c) =
     let a = c.args in
     let l = c.loop-i in
     list-alike (L c) a.s.extremes a.cumulative (map c) (out c) c.requires l.i l.at (out_now) l.invariant in

@@ -42,22 +42,25 @@ pub survey-next-requires : goal.survey-next-requires
 survey-next-requires c =
     let in_use : c.slot_at-x.result ≤ c.args.used = found-used (exponential_wholes c.args.s.size c.args.s.top true) (map c) c.requires.walk c.loop-i.i c.slot_at-x.result c.loop-i-test.true c.slot_at-x.ensures in
     let seen : Seen (L c) true c.args.cumulative (map c)
-    c.loop-i.i c.slot_at-x.result c.is_updated-updated.result c.is_due-due.result = 
+    c.loop-i.i c.slot_at-x.result c.is_updated-updated.result c.is_due-due.result =
     record {
       place = c.loop-i-test.true;
       slot = c.slot_at-x.ensures;
       updated-is = c.is_updated-updated.ensures;
       asked_is = c.is_due-due.ensures;
     } in
-    let l = c.loop-i in record { top_value = (c.requires.walk.set, c.requires.walk.room c.slot_at-x.result (in_use)); few = (
+    let l = c.loop-i in record {
+      top_value = (c.requires.walk.set, c.requires.walk.room c.slot_at-x.result (in_use));
+      few = (
         survey-few (L c) on c.args.cumulative (map c) c.requires.walk l.i l.found l.inv c.loop-i-test.taken,
         survey-known (L c) on c.args.cumulative (map c) c.requires.walk c.args.known c.requires.all_known l.i _ _ _ (seen),
-      ) }
+      );
+    }
 
 pub returns-then-not-next : goal.returns-then-not-next
 returns-then-not-next c =
     let seen : Seen (L c) true c.args.cumulative (map c)
-    c.loop-i.i c.slot_at-x.result c.is_updated-updated.result c.is_due-due.result = 
+    c.loop-i.i c.slot_at-x.result c.is_updated-updated.result c.is_due-due.result =
     record {
       place = c.loop-i-test.true;
       slot = c.slot_at-x.ensures;
@@ -79,7 +82,7 @@ loop-i-smaller c =
 pub loop-i-preserved : goal.loop-i-preserved
 loop-i-preserved c =
     let seen : Seen (L c) true c.args.cumulative (map c)
-    c.loop-i.i c.slot_at-x.result c.is_updated-updated.result c.is_due-due.result = 
+    c.loop-i.i c.slot_at-x.result c.is_updated-updated.result c.is_due-due.result =
     record {
       place = c.loop-i-test.true;
       slot = c.slot_at-x.ensures;

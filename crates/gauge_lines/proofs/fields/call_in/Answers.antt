@@ -24,7 +24,7 @@ returns-then-n-gt255 c =
 
 pub returns-then-letter-eq101 : goal.returns-then-letter-eq101
 returns-then-letter-eq101 c =
-    let by : by_letter c.letter_in-letter.result c.args.running ≡ x → x ≡ call_of c.args.line.now c.args.running c.args.over = 
+    let by : by_letter c.letter_in-letter.result c.args.running ≡ x → x ≡ call_of c.args.line.now c.args.running c.args.over =
     let a = c.args in
     lettered a.line.now a.running a.over c.if-n-eq0.false c.if-n-gt255.false c.letter_in-letter.result
     c.letter_in-letter.ensures in
@@ -32,7 +32,7 @@ returns-then-letter-eq101 c =
 
 pub returns-then-not-running : goal.returns-then-not-running
 returns-then-not-running c =
-    let by : by_letter c.letter_in-letter.result c.args.running ≡ x → x ≡ call_of c.args.line.now c.args.running c.args.over = 
+    let by : by_letter c.letter_in-letter.result c.args.running ≡ x → x ≡ call_of c.args.line.now c.args.running c.args.over =
     let a = c.args in
     lettered a.line.now a.running a.over c.if-n-eq0.false c.if-n-gt255.false c.letter_in-letter.result
     c.letter_in-letter.ensures in
@@ -40,7 +40,7 @@ returns-then-not-running c =
 
 pub returns-then-letter-eq114 : goal.returns-then-letter-eq114
 returns-then-letter-eq114 c =
-    let by : by_letter c.letter_in-letter.result c.args.running ≡ x → x ≡ call_of c.args.line.now c.args.running c.args.over = 
+    let by : by_letter c.letter_in-letter.result c.args.running ≡ x → x ≡ call_of c.args.line.now c.args.running c.args.over =
     let a = c.args in
     lettered a.line.now a.running a.over c.if-n-eq0.false c.if-n-gt255.false c.letter_in-letter.result
     c.letter_in-letter.ensures in
@@ -48,7 +48,7 @@ returns-then-letter-eq114 c =
 
 pub returns-then-letter-eq99 : goal.returns-then-letter-eq99
 returns-then-letter-eq99 c =
-    let by : by_letter c.letter_in-letter.result c.args.running ≡ x → x ≡ call_of c.args.line.now c.args.running c.args.over = 
+    let by : by_letter c.letter_in-letter.result c.args.running ≡ x → x ≡ call_of c.args.line.now c.args.running c.args.over =
     let a = c.args in
     lettered a.line.now a.running a.over c.if-n-eq0.false c.if-n-gt255.false c.letter_in-letter.result
     c.letter_in-letter.ensures in
@@ -56,7 +56,7 @@ returns-then-letter-eq99 c =
 
 pub returns-else-letter-eq99 : goal.returns-else-letter-eq99
 returns-else-letter-eq99 c =
-    let by : by_letter c.letter_in-letter.result c.args.running ≡ x → x ≡ call_of c.args.line.now c.args.running c.args.over = 
+    let by : by_letter c.letter_in-letter.result c.args.running ≡ x → x ≡ call_of c.args.line.now c.args.running c.args.over =
     let a = c.args in
     lettered a.line.now a.running a.over c.if-n-eq0.false c.if-n-gt255.false c.letter_in-letter.result
     c.letter_in-letter.ensures in

@@ -54,7 +54,7 @@ returns-in_default-decimal_at-2 c =
     let scale : scale_in (signed_of (field_of c.args.line.now 2)) ≡ c.scale_of.result = sym (c.scale_of.ensures ∙ ap scale_in c.signed_at.ensures) in
     let last : c.decimal_at-3.result ≡ x → wanted_of (Z.Is c.size-1.given.0.0)
     (S.Is c.scale-1.given.0.0) (N.Is c.limit-1.given.0.0) x
-    ≡ settings_of c.args.line.now = 
+    ≡ settings_of c.args.line.now =
     λ x. settings-are c.args.line.now (four) _ _ _ _ (size ∙ c.size-1.given.1)
     (scale ∙ c.scale-1.given.1) (sym c.decimal_at-2.ensures ∙ c.limit-1.given.1)
     (sym c.decimal_at-3.ensures ∙ e) in
@@ -67,7 +67,7 @@ returns-then-limit-gt-MOST_LIMIT c =
     let scale : scale_in (signed_of (field_of c.args.line.now 2)) ≡ c.scale_of.result = sym (c.scale_of.ensures ∙ ap scale_in c.signed_at.ensures) in
     let last : c.decimal_at-3.result ≡ x → wanted_of (Z.Is c.size-1.given.0.0)
     (S.Is c.scale-1.given.0.0) (N.Is c.limit-1.given.0.0) x
-    ≡ settings_of c.args.line.now = 
+    ≡ settings_of c.args.line.now =
     λ x. settings-are c.args.line.now (four) _ _ _ _ (size ∙ c.size-1.given.1)
     (scale ∙ c.scale-1.given.1) (sym c.decimal_at-2.ensures ∙ c.limit-1.given.1)
     (sym c.decimal_at-3.ensures ∙ e) in
@@ -80,7 +80,7 @@ returns c =
     let four : spaces_of c.args.line.now ≡ 4 = sym c.spaces.ensures ∙ c.if-spaces-ne4.false in
     let last : c.decimal_at-3.result ≡ x → wanted_of (Z.Is c.size-1.given.0.0)
     (S.Is c.scale-1.given.0.0) (N.Is c.limit-1.given.0.0) x
-    ≡ settings_of c.args.line.now = 
+    ≡ settings_of c.args.line.now =
     λ x. settings-are c.args.line.now (four) _ _ _ _ (size ∙ c.size-1.given.1)
     (scale ∙ c.scale-1.given.1) (sym c.decimal_at-2.ensures ∙ c.limit-1.given.1)
     (sym c.decimal_at-3.ensures ∙ e) in

@@ -6,19 +6,17 @@ use Rattle.lines.proofs.Newlines.{taken-ended, taken_open, line-is}
 use Rattle.lines.proofs.input.take.Goals as goal
 
 pub returns-then-stop-end : goal.returns-then-stop-end
-returns-then-stop-end c =
-    (
-      (omega arith, omega arith, omega arith),
-      refl,
-      taken-ended c.args.p c.args.block.now c.lesser-end.result c.lesser-at.result c.lesser-len.result c.newline-stop.result c.lesser-n.result c.lesser-end.ensures c.lesser-at.ensures c.lesser-len.ensures c.newline-stop.ensures.2 c.lesser-n.ensures c.if-stop-end.true,
-      line-is c.args.p c.args.block.now c.lesser-end.result c.lesser-at.result c.lesser-len.result c.newline-stop.result c.lesser-n.result c.lesser-end.ensures c.lesser-at.ensures c.lesser-len.ensures c.newline-stop.ensures.2 c.lesser-n.ensures _ c.copy.ensures,
-    )
+returns-then-stop-end c = (
+  (omega arith, omega arith, omega arith),
+  refl,
+  taken-ended c.args.p c.args.block.now c.lesser-end.result c.lesser-at.result c.lesser-len.result c.newline-stop.result c.lesser-n.result c.lesser-end.ensures c.lesser-at.ensures c.lesser-len.ensures c.newline-stop.ensures.2 c.lesser-n.ensures c.if-stop-end.true,
+  line-is c.args.p c.args.block.now c.lesser-end.result c.lesser-at.result c.lesser-len.result c.newline-stop.result c.lesser-n.result c.lesser-end.ensures c.lesser-at.ensures c.lesser-len.ensures c.newline-stop.ensures.2 c.lesser-n.ensures _ c.copy.ensures,
+)
 
 pub returns : goal.returns
-returns c =
-    (
-      (omega arith, omega arith, omega arith),
-      refl,
-      taken_open c.args.p c.args.block.now c.lesser-end.result c.lesser-at.result c.lesser-len.result c.newline-stop.result c.lesser-n.result c.lesser-end.ensures c.lesser-at.ensures c.lesser-len.ensures c.newline-stop.ensures.2 c.lesser-n.ensures c.if-stop-end.false,
-      line-is c.args.p c.args.block.now c.lesser-end.result c.lesser-at.result c.lesser-len.result c.newline-stop.result c.lesser-n.result c.lesser-end.ensures c.lesser-at.ensures c.lesser-len.ensures c.newline-stop.ensures.2 c.lesser-n.ensures _ c.copy.ensures,
-    )
+returns c = (
+  (omega arith, omega arith, omega arith),
+  refl,
+  taken_open c.args.p c.args.block.now c.lesser-end.result c.lesser-at.result c.lesser-len.result c.newline-stop.result c.lesser-n.result c.lesser-end.ensures c.lesser-at.ensures c.lesser-len.ensures c.newline-stop.ensures.2 c.lesser-n.ensures c.if-stop-end.false,
+  line-is c.args.p c.args.block.now c.lesser-end.result c.lesser-at.result c.lesser-len.result c.newline-stop.result c.lesser-n.result c.lesser-end.ensures c.lesser-at.ensures c.lesser-len.ensures c.newline-stop.ensures.2 c.lesser-n.ensures _ c.copy.ensures,
+)

@@ -16,8 +16,7 @@ use Rattle.pooling.proofs.wholes.mixed.Goals as goal
 pub refusal_entries-no-requires : goal.refusal_entries-no-requires
 refusal_entries-no-requires c =
     let first : Source = nameless c.args.awords c.args.apos c.args.aneg c.args.abounds in
-    let second : Source = nameless c.args.bwords c.args.bpos c.args.bneg c.args.bbounds in
-    (
+    let second : Source = nameless c.args.bwords c.args.bpos c.args.bneg c.args.bbounds in (
       subst (λ (d : Entry). whole_in c.args.a d c.args.abounds c.args.apos c.args.aneg) (sym c.shadow_entry-x.ensures)
           (integer-lies c.args.a (first) c.first-1.given.0.0 (sym c.integer_at-first.ensures ∙ c.first-1.given.1)),
       whole-lies c.args.b (second) c.second-1.given.0.0 (sym c.whole_at-second.ensures ∙ c.second-1.given.1),

@@ -17,7 +17,7 @@ use Rattle.pooling.proofs.write.pool.Goals as goal
 pub offset_bounds-pos-i : goal.offset_bounds-pos-i
 offset_bounds-pos-i c =
     let place : c.has_place-ok.result ≡ true → (c.args.at.place < length c.args.sets.now) × (c.args.at.place < length c.args.words.now)
-    × (c.args.at.pos ≤ length c.args.pos.now) × (c.args.at.neg ≤ length c.args.neg.now) = 
+    × (c.args.at.pos ≤ length c.args.pos.now) × (c.args.at.neg ≤ length c.args.neg.now) =
     λ t. place-says c.args.at (length c.args.sets.now) (length c.args.words.now) (length c.args.pos.now) (length c.args.neg.now)
     (sym c.has_place-ok.ensures ∙ t) in
     let pos-in : c.start_of-i.result ≤ length c.args.pos.now = start-le c.has_place-ok.result c.args.at.pos (length c.args.pos.now) c.start_of-i.result (λ t. (place t).2) c.start_of-i.ensures in
@@ -26,7 +26,7 @@ offset_bounds-pos-i c =
 pub slice_bounds-merge_entries-count : goal.slice_bounds-merge_entries-count
 slice_bounds-merge_entries-count c =
     let place : c.has_place-ok.result ≡ true → (c.args.at.place < length c.args.sets.now) × (c.args.at.place < length c.args.words.now)
-    × (c.args.at.pos ≤ length c.args.pos.now) × (c.args.at.neg ≤ length c.args.neg.now) = 
+    × (c.args.at.pos ≤ length c.args.pos.now) × (c.args.at.neg ≤ length c.args.neg.now) =
     λ t. place-says c.args.at (length c.args.sets.now) (length c.args.words.now) (length c.args.pos.now) (length c.args.neg.now)
     (sym c.has_place-ok.ensures ∙ t) in
     let pos-in : c.start_of-i.result ≤ length c.args.pos.now = start-le c.has_place-ok.result c.args.at.pos (length c.args.pos.now) c.start_of-i.result (λ t. (place t).2) c.start_of-i.ensures in
@@ -35,7 +35,7 @@ slice_bounds-merge_entries-count c =
 pub slice_bounds-merge_entries-start : goal.slice_bounds-merge_entries-start
 slice_bounds-merge_entries-start c =
     let place : c.has_place-ok.result ≡ true → (c.args.at.place < length c.args.sets.now) × (c.args.at.place < length c.args.words.now)
-    × (c.args.at.pos ≤ length c.args.pos.now) × (c.args.at.neg ≤ length c.args.neg.now) = 
+    × (c.args.at.pos ≤ length c.args.pos.now) × (c.args.at.neg ≤ length c.args.neg.now) =
     λ t. place-says c.args.at (length c.args.sets.now) (length c.args.words.now) (length c.args.pos.now) (length c.args.neg.now)
     (sym c.has_place-ok.ensures ∙ t) in
     let pos-in : c.start_of-i.result ≤ length c.args.pos.now = start-le c.has_place-ok.result c.args.at.pos (length c.args.pos.now) c.start_of-i.result (λ t. (place t).2) c.start_of-i.ensures in
@@ -44,7 +44,7 @@ slice_bounds-merge_entries-start c =
 pub offset_bounds-neg-j : goal.offset_bounds-neg-j
 offset_bounds-neg-j c =
     let place : c.has_place-ok.result ≡ true → (c.args.at.place < length c.args.sets.now) × (c.args.at.place < length c.args.words.now)
-    × (c.args.at.pos ≤ length c.args.pos.now) × (c.args.at.neg ≤ length c.args.neg.now) = 
+    × (c.args.at.pos ≤ length c.args.pos.now) × (c.args.at.neg ≤ length c.args.neg.now) =
     λ t. place-says c.args.at (length c.args.sets.now) (length c.args.words.now) (length c.args.pos.now) (length c.args.neg.now)
     (sym c.has_place-ok.ensures ∙ t) in
     let neg-in : c.start_of-j.result ≤ length c.args.neg.now = start-le c.has_place-ok.result c.args.at.neg (length c.args.neg.now) c.start_of-j.result (λ t. (place t).3) c.start_of-j.ensures in
@@ -53,7 +53,7 @@ offset_bounds-neg-j c =
 pub slice_bounds-merge_entries-count-2 : goal.slice_bounds-merge_entries-count-2
 slice_bounds-merge_entries-count-2 c =
     let place : c.has_place-ok.result ≡ true → (c.args.at.place < length c.args.sets.now) × (c.args.at.place < length c.args.words.now)
-    × (c.args.at.pos ≤ length c.args.pos.now) × (c.args.at.neg ≤ length c.args.neg.now) = 
+    × (c.args.at.pos ≤ length c.args.pos.now) × (c.args.at.neg ≤ length c.args.neg.now) =
     λ t. place-says c.args.at (length c.args.sets.now) (length c.args.words.now) (length c.args.pos.now) (length c.args.neg.now)
     (sym c.has_place-ok.ensures ∙ t) in
     let neg-in : c.start_of-j.result ≤ length c.args.neg.now = start-le c.has_place-ok.result c.args.at.neg (length c.args.neg.now) c.start_of-j.result (λ t. (place t).3) c.start_of-j.ensures in
@@ -62,7 +62,7 @@ slice_bounds-merge_entries-count-2 c =
 pub slice_bounds-merge_entries-start-2 : goal.slice_bounds-merge_entries-start-2
 slice_bounds-merge_entries-start-2 c =
     let place : c.has_place-ok.result ≡ true → (c.args.at.place < length c.args.sets.now) × (c.args.at.place < length c.args.words.now)
-    × (c.args.at.pos ≤ length c.args.pos.now) × (c.args.at.neg ≤ length c.args.neg.now) = 
+    × (c.args.at.pos ≤ length c.args.pos.now) × (c.args.at.neg ≤ length c.args.neg.now) =
     λ t. place-says c.args.at (length c.args.sets.now) (length c.args.words.now) (length c.args.pos.now) (length c.args.neg.now)
     (sym c.has_place-ok.ensures ∙ t) in
     let neg-in : c.start_of-j.result ≤ length c.args.neg.now = start-le c.has_place-ok.result c.args.at.neg (length c.args.neg.now) c.start_of-j.result (λ t. (place t).3) c.start_of-j.ensures in
@@ -85,7 +85,7 @@ cursor_behind-next-requires c =
     let long : length (first).bounds ≡ c.args.e.bounds.len = bounds-long c.args.e.bounds c.args.abounds.now c.requires.0.bounds in
     let lent : Output = record { sets = c.args.sets.now; words = c.args.words.now; pos = c.args.pos.now; neg = c.args.neg.now } in
     let place : c.has_place-ok.result ≡ true → (c.args.at.place < length c.args.sets.now) × (c.args.at.place < length c.args.words.now)
-    × (c.args.at.pos ≤ length c.args.pos.now) × (c.args.at.neg ≤ length c.args.neg.now) = 
+    × (c.args.at.pos ≤ length c.args.pos.now) × (c.args.at.neg ≤ length c.args.neg.now) =
     λ t. place-says c.args.at (length c.args.sets.now) (length c.args.words.now) (length c.args.pos.now) (length c.args.neg.now)
     (sym c.has_place-ok.ensures ∙ t) in
     let pos-in : c.start_of-i.result ≤ length c.args.pos.now = start-le c.has_place-ok.result c.args.at.pos (length c.args.pos.now) c.start_of-i.result (λ t. (place t).2) c.start_of-i.ensures in
@@ -100,7 +100,7 @@ cursor_behind-next-requires c =
 pub offset_bounds-sets-k : goal.offset_bounds-sets-k
 offset_bounds-sets-k c =
     let place : c.has_place-ok.result ≡ true → (c.args.at.place < length c.args.sets.now) × (c.args.at.place < length c.args.words.now)
-    × (c.args.at.pos ≤ length c.args.pos.now) × (c.args.at.neg ≤ length c.args.neg.now) = 
+    × (c.args.at.pos ≤ length c.args.pos.now) × (c.args.at.neg ≤ length c.args.neg.now) =
     λ t. place-says c.args.at (length c.args.sets.now) (length c.args.words.now) (length c.args.pos.now) (length c.args.neg.now)
     (sym c.has_place-ok.ensures ∙ t) in
     let there : c.has_place-ok.result ≡ true = not-false c.has_place-ok.result c.if-not-ok.false in
@@ -109,7 +109,7 @@ offset_bounds-sets-k c =
 pub bounds-sets-k : goal.bounds-sets-k
 bounds-sets-k c =
     let place : c.has_place-ok.result ≡ true → (c.args.at.place < length c.args.sets.now) × (c.args.at.place < length c.args.words.now)
-    × (c.args.at.pos ≤ length c.args.pos.now) × (c.args.at.neg ≤ length c.args.neg.now) = 
+    × (c.args.at.pos ≤ length c.args.pos.now) × (c.args.at.neg ≤ length c.args.neg.now) =
     λ t. place-says c.args.at (length c.args.sets.now) (length c.args.words.now) (length c.args.pos.now) (length c.args.neg.now)
     (sym c.has_place-ok.ensures ∙ t) in
     let there : c.has_place-ok.result ≡ true = not-false c.has_place-ok.result c.if-not-ok.false in
@@ -118,7 +118,7 @@ bounds-sets-k c =
 pub offset_bounds-words-k : goal.offset_bounds-words-k
 offset_bounds-words-k c =
     let place : c.has_place-ok.result ≡ true → (c.args.at.place < length c.args.sets.now) × (c.args.at.place < length c.args.words.now)
-    × (c.args.at.pos ≤ length c.args.pos.now) × (c.args.at.neg ≤ length c.args.neg.now) = 
+    × (c.args.at.pos ≤ length c.args.pos.now) × (c.args.at.neg ≤ length c.args.neg.now) =
     λ t. place-says c.args.at (length c.args.sets.now) (length c.args.words.now) (length c.args.pos.now) (length c.args.neg.now)
     (sym c.has_place-ok.ensures ∙ t) in
     let there : c.has_place-ok.result ≡ true = not-false c.has_place-ok.result c.if-not-ok.false in
@@ -127,7 +127,7 @@ offset_bounds-words-k c =
 pub bounds-words-k : goal.bounds-words-k
 bounds-words-k c =
     let place : c.has_place-ok.result ≡ true → (c.args.at.place < length c.args.sets.now) × (c.args.at.place < length c.args.words.now)
-    × (c.args.at.pos ≤ length c.args.pos.now) × (c.args.at.neg ≤ length c.args.neg.now) = 
+    × (c.args.at.pos ≤ length c.args.pos.now) × (c.args.at.neg ≤ length c.args.neg.now) =
     λ t. place-says c.args.at (length c.args.sets.now) (length c.args.words.now) (length c.args.pos.now) (length c.args.neg.now)
     (sym c.has_place-ok.ensures ∙ t) in
     let there : c.has_place-ok.result ≡ true = not-false c.has_place-ok.result c.if-not-ok.false in

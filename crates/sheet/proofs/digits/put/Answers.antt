@@ -29,5 +29,8 @@ pub returns : goal.returns
 returns c =
     let l = c.loop-i in
     let a = c.args in
-    let bs = a.line.now in record { value = omega (arith, c.lesser-from.ensures); sheet_after = sym (put-end bs l.i c.lesser-from.result l.sheet (omega arith)) ∙ l.invariant.3
-          ∙ ap (λ k. sets a.sheet.now k (bytes_in bs)) c.lesser-from.ensures }
+    let bs = a.line.now in record {
+      value = omega (arith, c.lesser-from.ensures);
+      sheet_after = sym (put-end bs l.i c.lesser-from.result l.sheet (omega arith)) ∙ l.invariant.3
+          ∙ ap (λ k. sets a.sheet.now k (bytes_in bs)) c.lesser-from.ensures;
+    }

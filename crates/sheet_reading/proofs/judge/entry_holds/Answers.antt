@@ -55,13 +55,12 @@ returns-then-many-k c =
     (subst (λ (x : ℕ). length (cells c.args.s.now) - c.args.k < x) q (omega (arith, c.requires.0, c.if-many-k.true)))
 
 pub rest_holds-requires : goal.rest_holds-requires
-rest_holds-requires c =
-    (
-      subst Few (sym c.sizes_of-z.ensures) (head_few c.head_at-w.result (sym c.head_fine.ensures ∙ not-false _ c.if-not-head_fine.false)),
-      within-there c.args.s.now c.args.k (words_in c.sizes_of-z.result) (omega (arith, c.requires.0, c.requires.2))
-          (omega (arith, c.requires.0, c.requires.1, c.if-many-k.false, c.words_in.ensures)),
-      c.sizes_of-z.ensures,
-    )
+rest_holds-requires c = (
+  subst Few (sym c.sizes_of-z.ensures) (head_few c.head_at-w.result (sym c.head_fine.ensures ∙ not-false _ c.if-not-head_fine.false)),
+  within-there c.args.s.now c.args.k (words_in c.sizes_of-z.result) (omega (arith, c.requires.0, c.requires.2))
+      (omega (arith, c.requires.0, c.requires.1, c.if-many-k.false, c.words_in.ensures)),
+  c.sizes_of-z.ensures,
+)
 
 pub returns : goal.returns
 returns c =

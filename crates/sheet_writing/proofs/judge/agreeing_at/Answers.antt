@@ -12,7 +12,7 @@ pub returns-then-agrees_alone : goal.returns-then-agrees_alone
 returns-then-agrees_alone c =
     let beside : Source = let a = c.args in lent_beside a.pos a.neg a.bounds in
     let asked : c.agrees_alone.result
-    ≡ agrees_alone (stored_at c.args.at c.found-1.given.0.0 (beside).bounds (beside).list) = 
+    ≡ agrees_alone (stored_at c.args.at c.found-1.given.0.0 (beside).bounds (beside).list) =
     c.agrees_alone.ensures
     ∙ (λ j. agrees_alone (stored_in c.found-1.given.0.0.point (c.bounds_at-own.ensures j) (c.row_at-xs.ensures j) (c.row_at-ys.ensures j))) in
     let a = c.args in
@@ -22,7 +22,7 @@ pub returns-else-agrees_alone : goal.returns-else-agrees_alone
 returns-else-agrees_alone c =
     let beside : Source = let a = c.args in lent_beside a.pos a.neg a.bounds in
     let asked : c.agrees_alone.result
-    ≡ agrees_alone (stored_at c.args.at c.found-1.given.0.0 (beside).bounds (beside).list) = 
+    ≡ agrees_alone (stored_at c.args.at c.found-1.given.0.0 (beside).bounds (beside).list) =
     c.agrees_alone.ensures
     ∙ (λ j. agrees_alone (stored_in c.found-1.given.0.0.point (c.bounds_at-own.ensures j) (c.row_at-xs.ensures j) (c.row_at-ys.ensures j))) in
     let a = c.args in

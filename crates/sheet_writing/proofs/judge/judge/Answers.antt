@@ -32,28 +32,28 @@ width_at-cells-requires c =
 
 pub overflow_add-cells : goal.overflow_add-cells
 overflow_add-cells c =
-    let next : Going c.args.n (c.loop-i.i + 1) c.e-1.given.0.0.next (c.loop-i.cells + c.width_at-cells.result) (list c) = 
+    let next : Going c.args.n (c.loop-i.i + 1) c.e-1.given.0.0.next (c.loop-i.cells + c.width_at-cells.result) (list c) =
     going_next c.args.n c.loop-i.i c.loop-i.at c.loop-i.cells (list c) c.loop-i.inv c.loop-i-test.taken c.e-1.given.0.0
     (sym c.step_at.ensures ∙ c.e-1.given.1) c.width_at-cells.result c.width_at-cells.ensures in
     let g = next in omega (arith, g.few, g.left, g.most)
 
 pub overflow_add-i : goal.overflow_add-i
 overflow_add-i c =
-    let next : Going c.args.n (c.loop-i.i + 1) c.e-1.given.0.0.next (c.loop-i.cells + c.width_at-cells.result) (list c) = 
+    let next : Going c.args.n (c.loop-i.i + 1) c.e-1.given.0.0.next (c.loop-i.cells + c.width_at-cells.result) (list c) =
     going_next c.args.n c.loop-i.i c.loop-i.at c.loop-i.cells (list c) c.loop-i.inv c.loop-i-test.taken c.e-1.given.0.0
     (sym c.step_at.ensures ∙ c.e-1.given.1) c.width_at-cells.result c.width_at-cells.ensures in
     let g = next in omega (arith, g.left, g.most)
 
 pub loop-i-smaller : goal.loop-i-smaller
 loop-i-smaller c =
-    let next : Going c.args.n (c.loop-i.i + 1) c.e-1.given.0.0.next (c.loop-i.cells + c.width_at-cells.result) (list c) = 
+    let next : Going c.args.n (c.loop-i.i + 1) c.e-1.given.0.0.next (c.loop-i.cells + c.width_at-cells.result) (list c) =
     going_next c.args.n c.loop-i.i c.loop-i.at c.loop-i.cells (list c) c.loop-i.inv c.loop-i-test.taken c.e-1.given.0.0
     (sym c.step_at.ensures ∙ c.e-1.given.1) c.width_at-cells.result c.width_at-cells.ensures in
     omega (arith, (next).left)
 
 pub loop-i-preserved : goal.loop-i-preserved
 loop-i-preserved c =
-    let next : Going c.args.n (c.loop-i.i + 1) c.e-1.given.0.0.next (c.loop-i.cells + c.width_at-cells.result) (list c) = 
+    let next : Going c.args.n (c.loop-i.i + 1) c.e-1.given.0.0.next (c.loop-i.cells + c.width_at-cells.result) (list c) =
     going_next c.args.n c.loop-i.i c.loop-i.at c.loop-i.cells (list c) c.loop-i.inv c.loop-i-test.taken c.e-1.given.0.0
     (sym c.step_at.ensures ∙ c.e-1.given.1) c.width_at-cells.result c.width_at-cells.ensures in
     next

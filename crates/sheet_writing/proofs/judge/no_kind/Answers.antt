@@ -23,11 +23,10 @@ pub loop-i-smaller : goal.loop-i-smaller
 loop-i-smaller c = omega (arith, c.loop-i-test.true)
 
 pub loop-i-preserved : goal.loop-i-preserved
-loop-i-preserved c =
-    (
-      omega (arith, c.loop-i-test.true),
-      kinds-next c.args.words.now c.loop-i.i c.loop-i.invariant.1 (sym c.is_whole.ensures ∙ c.if-is_whole.false),
-    )
+loop-i-preserved c = (
+  omega (arith, c.loop-i-test.true),
+  kinds-next c.args.words.now c.loop-i.i c.loop-i.invariant.1 (sym c.is_whole.ensures ∙ c.if-is_whole.false),
+)
 
 pub returns : goal.returns
 returns c =

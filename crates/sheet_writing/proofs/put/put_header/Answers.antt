@@ -14,12 +14,11 @@ emit-requires-2 c =
     (c.requires.room.small, omega arith, place-room 1 c.args.n _ (omega (arith, c.requires.n_nonzero)) (omega (arith, c.requires.room.long, c.emit.auto.s)))
 
 pub emit-requires-3 : goal.emit-requires-3
-emit-requires-3 c =
-    (
-      c.requires.room.small,
-      omega arith,
-      place-room 2 c.args.n _ (omega (arith, c.requires.n_nonzero)) (omega (arith, c.requires.room.long, c.emit-2.auto.s, c.emit.auto.s)),
-    )
+emit-requires-3 c = (
+  c.requires.room.small,
+  omega arith,
+  place-room 2 c.args.n _ (omega (arith, c.requires.n_nonzero)) (omega (arith, c.requires.room.long, c.emit-2.auto.s, c.emit.auto.s)),
+)
 
 pub returns : goal.returns
 returns c =

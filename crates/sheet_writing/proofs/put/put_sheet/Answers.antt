@@ -56,11 +56,15 @@ bounds-sets-i c =
 pub put_found-requires : goal.put_found-requires
 put_found-requires c =
     let found : whole_at c.loop-i.at (list c) ≡ Is c.e-1.given.0.0 = sym c.whole_at.ensures ∙ c.e-1.given.1 in
-    record { room = record {
+    record {
+      room = record {
         small = c.info_of-info.ensures.1;
         few = omega (arith, c.loop-i.inv.0.few);
         long = omega (arith, c.requires.room, c.loop-i.inv.2, c.put_header.auto.s);
-      }; whole_there = whole-lies c.loop-i.at (list c) c.e-1.given.0.0 (found); e_bound = turn-room c.args.n c.loop-i.i c.args.records c.loop-i.at c.loop-i.k (list c) c.loop-i.inv.0 c.loop-i-test.taken c.e-1.given.0.0 (found) }
+      };
+      whole_there = whole-lies c.loop-i.at (list c) c.e-1.given.0.0 (found);
+      e_bound = turn-room c.args.n c.loop-i.i c.args.records c.loop-i.at c.loop-i.k (list c) c.loop-i.inv.0 c.loop-i-test.taken c.e-1.given.0.0 (found);
+    }
 
 pub width_at-k-requires : goal.width_at-k-requires
 width_at-k-requires c =
@@ -83,8 +87,7 @@ loop-i-smaller c = omega (arith, c.loop-i-test.taken)
 
 pub loop-i-preserved : goal.loop-i-preserved
 loop-i-preserved c =
-    let found : whole_at c.loop-i.at (list c) ≡ Is c.e-1.given.0.0 = sym c.whole_at.ensures ∙ c.e-1.given.1 in
-    (
+    let found : whole_at c.loop-i.at (list c) ≡ Is c.e-1.given.0.0 = sym c.whole_at.ensures ∙ c.e-1.given.1 in (
       turn-left c.args.n c.loop-i.i c.args.records c.loop-i.at c.loop-i.k (list c) c.loop-i.inv.0 c.loop-i-test.taken c.e-1.given.0.0 (found)
           c.width_at-k.result c.width_at-k.ensures,
       c.loop-i.inv.1

@@ -39,8 +39,11 @@ survey-found-requires c =
     let L : Lister (single_store c.args.s.aggregation) = single_lister c.args.s.aggregation in
     let map : Held (List Float) = let a = c.args in held a.d (stores a.sets a.entries a.order) a.values.now in
     let out : Output = output c.args.out-sets c.args.out-values in
-    let a = c.args in record { walk = walk_here (L) (owed a.s.aggregation) tt a.cumulative a.s.limit (map) (out)
-          c.suffices-room.result 0 c.barred-no.result c.suffices-room.ensures refl c.barred-no.ensures c.if-no-ne0.false; all_known = walk-known (single_store a.s.aggregation) tt a.s.limit none (map) a.known c.requires tt (λ x. refl) }
+    let a = c.args in record {
+      walk = walk_here (L) (owed a.s.aggregation) tt a.cumulative a.s.limit (map) (out)
+          c.suffices-room.result 0 c.barred-no.result c.suffices-room.ensures refl c.barred-no.ensures c.if-no-ne0.false;
+      all_known = walk-known (single_store a.s.aggregation) tt a.s.limit none (map) a.known c.requires tt (λ x. refl);
+    }
 
 pub returns : goal.returns
 returns c =

@@ -20,7 +20,7 @@ take-no-requires c =
     let kind : Store (singles c.args.aggregation) = single_store c.args.aggregation in
     let lent_map : Held (List Float) = let a = c.args in held a.d (stores a.sets a.entries a.order) a.values.now in
     let way : Way (kind) c.args.limit (lent_map) = let a = c.args in set-way (owed a.aggregation) a.limit (lent_map) (filter_of a.present a.filter.now) (given a.attrs.now) in
-    let known : Sits (kind) (lent_map) c.args.v c.seat-seat.result = 
+    let known : Sits (kind) (lent_map) c.args.v c.seat-seat.result =
     let a = c.args in
     allows (owed a.aggregation) a.limit (lent_map) a.v (way) 0 refl c.takes-value.ensures c.seat-seat.ensures.value in
     (known).takes
@@ -30,7 +30,7 @@ finish-requires c z =
     let kind : Store (singles c.args.aggregation) = single_store c.args.aggregation in
     let lent_map : Held (List Float) = let a = c.args in held a.d (stores a.sets a.entries a.order) a.values.now in
     let way : Way (kind) c.args.limit (lent_map) = let a = c.args in set-way (owed a.aggregation) a.limit (lent_map) (filter_of a.present a.filter.now) (given a.attrs.now) in
-    let known : Sits (kind) (lent_map) c.args.v c.seat-seat.result = 
+    let known : Sits (kind) (lent_map) c.args.v c.seat-seat.result =
     let a = c.args in
     allows (owed a.aggregation) a.limit (lent_map) a.v (way) 0 refl c.takes-value.ensures c.seat-seat.ensures.value in
     (known).ranges (took (kind) (lent_map).cells c.args.v c.seat-seat.result.no c.seat-seat.result.no c.seat-seat.result.slot c.seat-seat.result.updated (λ d. d) _ c.take-no.ensures z)

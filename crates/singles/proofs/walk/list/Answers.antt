@@ -38,14 +38,14 @@ slot_at-x-requires c = omega (arith, c.loop-i-test.true, c.requires.walk.order)
 
 pub is_updated-updated-requires : goal.is_updated-updated-requires
 is_updated-updated-requires c =
-    let in_use : c.slot_at-x.result ≤ c.args.used = 
+    let in_use : c.slot_at-x.result ≤ c.args.used =
     found-used (single_store Sum) (map c) c.requires.walk c.loop-i.i c.slot_at-x.result
     c.loop-i-test.true c.slot_at-x.ensures in
     c.requires.walk.entries c.slot_at-x.result (in_use)
 
 pub row_at-row-requires : goal.row_at-row-requires
 row_at-row-requires c =
-    let in_use : c.slot_at-x.result ≤ c.args.used = 
+    let in_use : c.slot_at-x.result ≤ c.args.used =
     found-used (single_store Sum) (map c) c.requires.walk c.loop-i.i c.slot_at-x.result
     c.loop-i-test.true c.slot_at-x.ensures in
     c.requires.sets c.slot_at-x.result (in_use)
@@ -54,14 +54,14 @@ pub put-next-requires : goal.put-next-requires
 put-next-requires c =
     let out_now : Output = record { sets = c.loop-i.out-sets; words = as_words c.loop-i.out-values; pos = []; neg = [] } in
     let seen : Seen L tt c.args.cumulative (map c)
-    c.loop-i.i c.slot_at-x.result c.is_updated-updated.result c.is_due-due.result = 
+    c.loop-i.i c.slot_at-x.result c.is_updated-updated.result c.is_due-due.result =
     record {
       place = c.loop-i-test.true;
       slot = c.slot_at-x.ensures;
       updated-is = c.is_updated-updated.ensures;
       asked_is = c.is_due-due.ensures;
     } in
-    let in_use : c.slot_at-x.result ≤ c.args.used = 
+    let in_use : c.slot_at-x.result ≤ c.args.used =
     found-used (single_store Sum) (map c) c.requires.walk c.loop-i.i c.slot_at-x.result
     c.loop-i-test.true c.slot_at-x.ensures in
     let l = c.loop-i in
@@ -77,7 +77,7 @@ loop-i-smaller c = omega (arith, c.loop-i-test.taken)
 pub loop-i-preserved : goal.loop-i-preserved
 loop-i-preserved c =
     let seen : Seen L tt c.args.cumulative (map c)
-    c.loop-i.i c.slot_at-x.result c.is_updated-updated.result c.is_due-due.result = 
+    c.loop-i.i c.slot_at-x.result c.is_updated-updated.result c.is_due-due.result =
     record {
       place = c.loop-i-test.true;
       slot = c.slot_at-x.ensures;
@@ -92,7 +92,7 @@ loop-i-preserved c =
 pub shape_of-out_sets : goal.shape_of-out_sets
 shape_of-out_sets c =
     let out_now : Output = record { sets = c.loop-i.out-sets; words = as_words c.loop-i.out-values; pos = []; neg = [] } in
-    let long : Alike (out_now) (out c) = 
+    let long : Alike (out_now) (out c) =
     let l = c.loop-i in
     list-alike L tt c.args.cumulative (map c) (out c) c.requires l.i (place l.at) (out_now) l.invariant in
     (long).sets
@@ -100,7 +100,7 @@ shape_of-out_sets c =
 pub shape_of-out_values : goal.shape_of-out_values
 shape_of-out_values c =
     let out_now : Output = record { sets = c.loop-i.out-sets; words = as_words c.loop-i.out-values; pos = []; neg = [] } in
-    let long : Alike (out_now) (out c) = 
+    let long : Alike (out_now) (out c) =
     let l = c.loop-i in
     list-alike L tt c.args.cumulative (map c) (out c) c.requires l.i (place l.at) (out_now) l.invariant in
     sym (words_long c.loop-i.out-values) ∙ (long).words ∙ words_long c.args.out-values.now

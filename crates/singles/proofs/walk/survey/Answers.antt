@@ -31,33 +31,36 @@ slot_at-x-requires c = omega (arith, c.loop-i-test.true, c.requires.walk.order)
 
 pub is_updated-updated-requires : goal.is_updated-updated-requires
 is_updated-updated-requires c =
-    let in_use : c.slot_at-x.result ≤ c.args.used = 
+    let in_use : c.slot_at-x.result ≤ c.args.used =
     found-used (single_store c.args.aggregation) (map c) c.requires.walk c.loop-i.i c.slot_at-x.result
     c.loop-i-test.true c.slot_at-x.ensures in
     c.requires.walk.entries c.slot_at-x.result (in_use)
 
 pub survey-next-requires : goal.survey-next-requires
 survey-next-requires c =
-    let in_use : c.slot_at-x.result ≤ c.args.used = 
+    let in_use : c.slot_at-x.result ≤ c.args.used =
     found-used (single_store c.args.aggregation) (map c) c.requires.walk c.loop-i.i c.slot_at-x.result
     c.loop-i-test.true c.slot_at-x.ensures in
     let seen : Seen (L c) tt c.args.cumulative (map c)
-    c.loop-i.i c.slot_at-x.result c.is_updated-updated.result c.is_due-due.result = 
+    c.loop-i.i c.slot_at-x.result c.is_updated-updated.result c.is_due-due.result =
     record {
       place = c.loop-i-test.true;
       slot = c.slot_at-x.ensures;
       updated-is = c.is_updated-updated.ensures;
       asked_is = c.is_due-due.ensures;
     } in
-    let l = c.loop-i in record { x_in_bounds = c.requires.walk.room c.slot_at-x.result (in_use); few = (
+    let l = c.loop-i in record {
+      x_in_bounds = c.requires.walk.room c.slot_at-x.result (in_use);
+      few = (
         survey-few (L c) tt c.args.cumulative (map c) c.requires.walk l.i l.found l.inv c.loop-i-test.taken,
         survey-known (L c) tt c.args.cumulative (map c) c.requires.walk c.args.known c.requires.all_known l.i _ _ _ (seen),
-      ) }
+      );
+    }
 
 pub returns-then-not-next : goal.returns-then-not-next
 returns-then-not-next c =
     let seen : Seen (L c) tt c.args.cumulative (map c)
-    c.loop-i.i c.slot_at-x.result c.is_updated-updated.result c.is_due-due.result = 
+    c.loop-i.i c.slot_at-x.result c.is_updated-updated.result c.is_due-due.result =
     record {
       place = c.loop-i-test.true;
       slot = c.slot_at-x.ensures;
@@ -79,7 +82,7 @@ loop-i-smaller c =
 pub loop-i-preserved : goal.loop-i-preserved
 loop-i-preserved c =
     let seen : Seen (L c) tt c.args.cumulative (map c)
-    c.loop-i.i c.slot_at-x.result c.is_updated-updated.result c.is_due-due.result = 
+    c.loop-i.i c.slot_at-x.result c.is_updated-updated.result c.is_due-due.result =
     record {
       place = c.loop-i-test.true;
       slot = c.slot_at-x.ensures;

@@ -15,8 +15,7 @@ overflow_sub-left c = omega (arith, c.is_space-left.ensures.upper_bound, ltb-tru
 
 pub loop-i-preserved : goal.loop-i-preserved
 loop-i-preserved c =
-    let l = c.loop-i in
-    (
+    let l = c.loop-i in (
       omega arith,
       omega (
         arith,

@@ -29,21 +29,21 @@ returns-then-d-x c =
 
 pub overflow_mul-x : goal.overflow_mul-x
 overflow_mul-x c =
-    let step : c.loop-i.x * 10 + c.digit-d.result < 2 ^ 64 = 
+    let step : c.loop-i.x * 10 + c.digit-d.result < 2 ^ 64 =
     let l = c.loop-i in
     omega (arith, step_fits 10 l.x c.digit-d.result 18446744073709551615 (lit< tt) (omega (arith, c.if-d-x.false)), c.if-d-gt9.false) in
     omega (arith, step)
 
 pub overflow_add-x : goal.overflow_add-x
 overflow_add-x c =
-    let step : c.loop-i.x * 10 + c.digit-d.result < 2 ^ 64 = 
+    let step : c.loop-i.x * 10 + c.digit-d.result < 2 ^ 64 =
     let l = c.loop-i in
     omega (arith, step_fits 10 l.x c.digit-d.result 18446744073709551615 (lit< tt) (omega (arith, c.if-d-x.false)), c.if-d-gt9.false) in
     omega (arith, step)
 
 pub loop-i-preserved : goal.loop-i-preserved
 loop-i-preserved c =
-    let step : c.loop-i.x * 10 + c.digit-d.result < 2 ^ 64 = 
+    let step : c.loop-i.x * 10 + c.digit-d.result < 2 ^ 64 =
     let l = c.loop-i in
     omega (arith, step_fits 10 l.x c.digit-d.result 18446744073709551615 (lit< tt) (omega (arith, c.if-d-x.false)), c.if-d-gt9.false) in
     let l = c.loop-i in

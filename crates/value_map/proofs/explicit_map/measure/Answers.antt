@@ -23,7 +23,7 @@ take-no-requires c =
     let kind : Store histograms = explicit_store c.args.bounds.now in
     let lent_map : Held Cells = let a = c.args in held a.d (stores a.sets a.entries a.order) (cells a.totals a.extremes a.counts) in
     let way : Way (kind) c.args.limit (lent_map) = let a = c.args in set-way (owed a.bounds.now) a.limit (lent_map) (filter_of a.present a.filter.now) (given a.attrs.now) in
-    let known : Sits (kind) (lent_map) c.args.v c.seat-seat.result = 
+    let known : Sits (kind) (lent_map) c.args.v c.seat-seat.result =
     let a = c.args in
     allows (owed a.bounds.now) a.limit (lent_map) a.v (way) 0 (c.slots_of-slots.ensures a.limit) c.takes-value.ensures c.seat-seat.ensures.value in
     (known).takes
@@ -33,7 +33,7 @@ finish-requires c z =
     let kind : Store histograms = explicit_store c.args.bounds.now in
     let lent_map : Held Cells = let a = c.args in held a.d (stores a.sets a.entries a.order) (cells a.totals a.extremes a.counts) in
     let way : Way (kind) c.args.limit (lent_map) = let a = c.args in set-way (owed a.bounds.now) a.limit (lent_map) (filter_of a.present a.filter.now) (given a.attrs.now) in
-    let known : Sits (kind) (lent_map) c.args.v c.seat-seat.result = 
+    let known : Sits (kind) (lent_map) c.args.v c.seat-seat.result =
     let a = c.args in
     allows (owed a.bounds.now) a.limit (lent_map) a.v (way) 0 (c.slots_of-slots.ensures a.limit) c.takes-value.ensures c.seat-seat.ensures.value in
     (known).ranges (took (kind) (lent_map).cells c.args.v c.seat-seat.result.no (turned (bounds_pass c.args.bounds.now) c.seat-seat.result.no) c.seat-seat.result.slot c.seat-seat.result.updated
@@ -44,7 +44,7 @@ returns c =
     let lent_map : Held Cells = let a = c.args in held a.d (stores a.sets a.entries a.order) (cells a.totals a.extremes a.counts) in
     let kind : Store histograms = explicit_store c.args.bounds.now in
     let way : Way (kind) c.args.limit (lent_map) = let a = c.args in set-way (owed a.bounds.now) a.limit (lent_map) (filter_of a.present a.filter.now) (given a.attrs.now) in
-    let known : Sits (kind) (lent_map) c.args.v c.seat-seat.result = 
+    let known : Sits (kind) (lent_map) c.args.v c.seat-seat.result =
     let a = c.args in
     allows (owed a.bounds.now) a.limit (lent_map) a.v (way) 0 (c.slots_of-slots.ensures a.limit) c.takes-value.ensures c.seat-seat.ensures.value in
     let a = c.args in

@@ -19,7 +19,7 @@ take-no-requires c =
     let kind : Store histograms = exponential_store c.args.size c.args.top in
     let lent_map : Held Cells = let a = c.args in held a.d (stores a.sets a.entries a.order) (cells a.figures a.extremes a.pos a.neg) in
     let way : Way (kind) c.args.limit (lent_map) = let a = c.args in set-way (owed a.size a.top) a.limit (lent_map) (filter_of a.present a.filter.now) (given a.attrs.now) in
-    let known : Sits (kind) (lent_map) c.args.v c.seat-seat.result = 
+    let known : Sits (kind) (lent_map) c.args.v c.seat-seat.result =
     let a = c.args in
     allows (owed a.size a.top) a.limit (lent_map) a.v (way) c.unset_of-unset.result (c.slots_of-slots.ensures a.limit) c.takes-value.ensures c.seat-seat.ensures.value in
     (known).takes
@@ -29,7 +29,7 @@ finish-requires c z =
     let kind : Store histograms = exponential_store c.args.size c.args.top in
     let lent_map : Held Cells = let a = c.args in held a.d (stores a.sets a.entries a.order) (cells a.figures a.extremes a.pos a.neg) in
     let way : Way (kind) c.args.limit (lent_map) = let a = c.args in set-way (owed a.size a.top) a.limit (lent_map) (filter_of a.present a.filter.now) (given a.attrs.now) in
-    let known : Sits (kind) (lent_map) c.args.v c.seat-seat.result = 
+    let known : Sits (kind) (lent_map) c.args.v c.seat-seat.result =
     let a = c.args in
     allows (owed a.size a.top) a.limit (lent_map) a.v (way) c.unset_of-unset.result (c.slots_of-slots.ensures a.limit) c.takes-value.ensures c.seat-seat.ensures.value in
     (known).ranges (took (kind) (lent_map).cells c.args.v c.seat-seat.result.no c.seat-seat.result.no c.seat-seat.result.slot c.seat-seat.result.updated (λ d. d) _ c.take-no.ensures z)

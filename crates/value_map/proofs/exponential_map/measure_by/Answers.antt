@@ -17,7 +17,7 @@ take-no-requires c =
     let kind : Store histograms = exponential_store c.args.size c.args.top in
     let lent_map : Held Cells = let a = c.args in held a.d (stores a.sets a.entries a.order) (cells a.figures a.extremes a.pos a.neg) in
     let way : Way (kind) c.args.limit (lent_map) = let a = c.args in by_way (owed a.size a.top) a.limit (lent_map) a.h in
-    let known : Sits (kind) (lent_map) c.args.v c.seat_by-seat.result = 
+    let known : Sits (kind) (lent_map) c.args.v c.seat_by-seat.result =
     let a = c.args in
     allows (owed a.size a.top) a.limit (lent_map) a.v (way) c.unset_of-unset.result (c.slots_of-slots.ensures a.limit) c.takes-value.ensures c.seat_by-seat.ensures in
     (known).takes
@@ -27,7 +27,7 @@ finish-requires c z =
     let kind : Store histograms = exponential_store c.args.size c.args.top in
     let lent_map : Held Cells = let a = c.args in held a.d (stores a.sets a.entries a.order) (cells a.figures a.extremes a.pos a.neg) in
     let way : Way (kind) c.args.limit (lent_map) = let a = c.args in by_way (owed a.size a.top) a.limit (lent_map) a.h in
-    let known : Sits (kind) (lent_map) c.args.v c.seat_by-seat.result = 
+    let known : Sits (kind) (lent_map) c.args.v c.seat_by-seat.result =
     let a = c.args in
     allows (owed a.size a.top) a.limit (lent_map) a.v (way) c.unset_of-unset.result (c.slots_of-slots.ensures a.limit) c.takes-value.ensures c.seat_by-seat.ensures in
     (known).ranges (took (kind) (lent_map).cells c.args.v c.seat_by-seat.result.no c.seat_by-seat.result.no c.seat_by-seat.result.slot c.seat_by-seat.result.updated (λ d. d) _ c.take-no.ensures z)

@@ -29,13 +29,13 @@ shadow_words-s-requires c =
 
 pub returns-in-NoPoint : goal.returns-in-NoPoint
 returns-in-NoPoint c =
-    let wide : Wide c.args.w = 
+    let wide : Wide c.args.w =
     let l : Fits w64 (get_or c.args.w 9 0) = search rules in
     let h : Fits w64 (get_or c.args.w 10 0) = search rules in
     let t : Fits w64 (get_or c.args.w 11 0) = search rules in
     (l.fits, h.fits, t.fits) in
     let own : own_words c.args.w ≡ true = sym c.own_words.ensures ∙ not-false c.own_words.result c.if-not-own_words.false in
-    let by-shadow : numbered_found c.args.w c.entry_in-found.result ≡ entry_in c.args.at c.args.w c.args.pos c.args.neg = 
+    let by-shadow : numbered_found c.args.w c.entry_in-found.result ≡ entry_in c.args.at c.args.w c.args.pos c.args.neg =
     let a = c.args in
     ap (numbered_found a.w) (c.entry_in-found.ensures ∙ ap (λ (x : List ℕ). L.entry_in a.at x a.pos a.neg) c.shadow_words-s.ensures)
     ∙ entry-by a.at a.w a.pos a.neg (wide) (own) in
@@ -44,13 +44,13 @@ returns-in-NoPoint c =
 
 pub returns-in-Is : goal.returns-in-Is
 returns-in-Is c =
-    let wide : Wide c.args.w = 
+    let wide : Wide c.args.w =
     let l : Fits w64 (get_or c.args.w 9 0) = search rules in
     let h : Fits w64 (get_or c.args.w 10 0) = search rules in
     let t : Fits w64 (get_or c.args.w 11 0) = search rules in
     (l.fits, h.fits, t.fits) in
     let own : own_words c.args.w ≡ true = sym c.own_words.ensures ∙ not-false c.own_words.result c.if-not-own_words.false in
-    let by-shadow : numbered_found c.args.w c.entry_in-found.result ≡ entry_in c.args.at c.args.w c.args.pos c.args.neg = 
+    let by-shadow : numbered_found c.args.w c.entry_in-found.result ≡ entry_in c.args.at c.args.w c.args.pos c.args.neg =
     let a = c.args in
     ap (numbered_found a.w) (c.entry_in-found.ensures ∙ ap (λ (x : List ℕ). L.entry_in a.at x a.pos a.neg) c.shadow_words-s.ensures)
     ∙ entry-by a.at a.w a.pos a.neg (wide) (own) in

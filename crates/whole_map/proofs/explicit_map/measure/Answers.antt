@@ -29,7 +29,7 @@ take-no-requires c =
     let same-value : to_z w64 (of_z w64 c.args.v) ≡ c.args.v = Range.held c.args.v c.ranges.v in
     let way : Way (kind) c.args.limit (lent_map) = let a = c.args in set-way (owed a.bounds.now a.sums) a.limit (lent_map) (filter_of a.present a.filter.now) (given a.attrs.now) in
     let all-taken : c.takes-value.result ≡ wholes.finite c.args.v = c.takes-value.ensures ∙ ap wholes.finite (same-value) in
-    let known : Sits (kind) (lent_map) c.args.v c.seat-seat.result = 
+    let known : Sits (kind) (lent_map) c.args.v c.seat-seat.result =
     let a = c.args in
     allows (owed a.bounds.now a.sums) a.limit (lent_map) a.v (way) 0 (c.slots_of-slots.ensures a.limit) (all-taken) c.seat-seat.ensures.value in
     subst (λ (z : ℤ). Takes (kind) (lent_map).cells z c.seat-seat.result.no c.seat-seat.result.slot) (sym (same-value)) (known).takes
@@ -41,7 +41,7 @@ finish-requires c z =
     let way : Way (kind) c.args.limit (lent_map) = let a = c.args in set-way (owed a.bounds.now a.sums) a.limit (lent_map) (filter_of a.present a.filter.now) (given a.attrs.now) in
     let same-value : to_z w64 (of_z w64 c.args.v) ≡ c.args.v = Range.held c.args.v c.ranges.v in
     let all-taken : c.takes-value.result ≡ wholes.finite c.args.v = c.takes-value.ensures ∙ ap wholes.finite (same-value) in
-    let known : Sits (kind) (lent_map) c.args.v c.seat-seat.result = 
+    let known : Sits (kind) (lent_map) c.args.v c.seat-seat.result =
     let a = c.args in
     allows (owed a.bounds.now a.sums) a.limit (lent_map) a.v (way) 0 (c.slots_of-slots.ensures a.limit) (all-taken) c.seat-seat.ensures.value in
     let took_it : (
@@ -60,7 +60,7 @@ returns c =
     after c.take-no.result (record { totals = c.take-no.new.totals; extremes = c.take-no.new.extremes; counts = c.take-no.new.counts })
     ≡ taken (kind) (lent_map).cells c.args.v c.seat-seat.result.no (turned (bounds_pass c.args.bounds.now) c.seat-seat.result.no) c.seat-seat.result.slot c.seat-seat.result.updated) = c.take-no.ensures ∙ ap (λ (z : ℤ). taken (kind) (lent_map).cells z c.seat-seat.result.no (turned (bounds_pass c.args.bounds.now) c.seat-seat.result.no) c.seat-seat.result.slot c.seat-seat.result.updated) (same-value) in
     let all-taken : c.takes-value.result ≡ wholes.finite c.args.v = c.takes-value.ensures ∙ ap wholes.finite (same-value) in
-    let known : Sits (kind) (lent_map) c.args.v c.seat-seat.result = 
+    let known : Sits (kind) (lent_map) c.args.v c.seat-seat.result =
     let a = c.args in
     allows (owed a.bounds.now a.sums) a.limit (lent_map) a.v (way) 0 (c.slots_of-slots.ensures a.limit) (all-taken) c.seat-seat.ensures.value in
     let a = c.args in

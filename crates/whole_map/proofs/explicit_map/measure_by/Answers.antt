@@ -27,7 +27,7 @@ take-no-requires c =
     let same-value : to_z w64 (of_z w64 c.args.v) ≡ c.args.v = Range.held c.args.v c.ranges.v in
     let way : Way (kind) c.args.limit (lent_map) = let a = c.args in by_way (owed a.bounds.now a.sums) a.limit (lent_map) a.h in
     let all-taken : c.takes-value.result ≡ wholes.finite c.args.v = c.takes-value.ensures ∙ ap wholes.finite (same-value) in
-    let known : Sits (kind) (lent_map) c.args.v c.seat_by-seat.result = 
+    let known : Sits (kind) (lent_map) c.args.v c.seat_by-seat.result =
     let a = c.args in
     allows (owed a.bounds.now a.sums) a.limit (lent_map) a.v (way) 0 (c.slots_of-slots.ensures a.limit) (all-taken) c.seat_by-seat.ensures in
     subst (λ (z : ℤ). Takes (kind) (lent_map).cells z c.seat_by-seat.result.no c.seat_by-seat.result.slot) (sym (same-value)) (known).takes
@@ -39,7 +39,7 @@ finish-requires c z =
     let way : Way (kind) c.args.limit (lent_map) = let a = c.args in by_way (owed a.bounds.now a.sums) a.limit (lent_map) a.h in
     let same-value : to_z w64 (of_z w64 c.args.v) ≡ c.args.v = Range.held c.args.v c.ranges.v in
     let all-taken : c.takes-value.result ≡ wholes.finite c.args.v = c.takes-value.ensures ∙ ap wholes.finite (same-value) in
-    let known : Sits (kind) (lent_map) c.args.v c.seat_by-seat.result = 
+    let known : Sits (kind) (lent_map) c.args.v c.seat_by-seat.result =
     let a = c.args in
     allows (owed a.bounds.now a.sums) a.limit (lent_map) a.v (way) 0 (c.slots_of-slots.ensures a.limit) (all-taken) c.seat_by-seat.ensures in
     let took_it : (
@@ -58,7 +58,7 @@ returns c =
     after c.take-no.result (record { totals = c.take-no.new.totals; extremes = c.take-no.new.extremes; counts = c.take-no.new.counts })
     ≡ taken (kind) (lent_map).cells c.args.v c.seat_by-seat.result.no (turned (bounds_pass c.args.bounds.now) c.seat_by-seat.result.no) c.seat_by-seat.result.slot c.seat_by-seat.result.updated) = c.take-no.ensures ∙ ap (λ (z : ℤ). taken (kind) (lent_map).cells z c.seat_by-seat.result.no (turned (bounds_pass c.args.bounds.now) c.seat_by-seat.result.no) c.seat_by-seat.result.slot c.seat_by-seat.result.updated) (same-value) in
     let all-taken : c.takes-value.result ≡ wholes.finite c.args.v = c.takes-value.ensures ∙ ap wholes.finite (same-value) in
-    let known : Sits (kind) (lent_map) c.args.v c.seat_by-seat.result = 
+    let known : Sits (kind) (lent_map) c.args.v c.seat_by-seat.result =
     let a = c.args in
     allows (owed a.bounds.now a.sums) a.limit (lent_map) a.v (way) 0 (c.slots_of-slots.ensures a.limit) (all-taken) c.seat_by-seat.ensures in
     let a = c.args in

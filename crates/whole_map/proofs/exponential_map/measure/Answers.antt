@@ -27,7 +27,7 @@ take-no-requires c =
     let same-value : to_z w64 (of_z w64 c.args.v) ≡ c.args.v = Range.held c.args.v c.ranges.v in
     let way : Way (kind) c.args.limit (lent_map) = let a = c.args in set-way (owed a.size a.top a.sums) a.limit (lent_map) (filter_of a.present a.filter.now) (given a.attrs.now) in
     let all-taken : c.takes-value.result ≡ wholes.finite c.args.v = c.takes-value.ensures ∙ ap wholes.finite (same-value) in
-    let known : Sits (kind) (lent_map) c.args.v c.seat-seat.result = 
+    let known : Sits (kind) (lent_map) c.args.v c.seat-seat.result =
     let a = c.args in
     allows (owed a.size a.top a.sums) a.limit (lent_map) a.v (way) c.unset_of-unset.result (c.slots_of-slots.ensures a.limit) (all-taken) c.seat-seat.ensures.value in
     subst (λ (z : ℤ). Takes (kind) (lent_map).cells z c.seat-seat.result.no c.seat-seat.result.slot) (sym (same-value)) (known).takes
@@ -39,7 +39,7 @@ finish-requires c z =
     let way : Way (kind) c.args.limit (lent_map) = let a = c.args in set-way (owed a.size a.top a.sums) a.limit (lent_map) (filter_of a.present a.filter.now) (given a.attrs.now) in
     let same-value : to_z w64 (of_z w64 c.args.v) ≡ c.args.v = Range.held c.args.v c.ranges.v in
     let all-taken : c.takes-value.result ≡ wholes.finite c.args.v = c.takes-value.ensures ∙ ap wholes.finite (same-value) in
-    let known : Sits (kind) (lent_map) c.args.v c.seat-seat.result = 
+    let known : Sits (kind) (lent_map) c.args.v c.seat-seat.result =
     let a = c.args in
     allows (owed a.size a.top a.sums) a.limit (lent_map) a.v (way) c.unset_of-unset.result (c.slots_of-slots.ensures a.limit) (all-taken) c.seat-seat.ensures.value in
     let took_it : (

@@ -4,7 +4,6 @@ use Prim.Native.Nat.{ℕ, ◌+◌, ◌-◌, ◌*◌, ◌/◌, ◌^◌, ◌≤◌
 use native.Mathlib.Omega.{arith}
 use Rattle.index.specs.Bins.{finest, bin_at}
 use Rattle.index.proofs.Laws.{coarser}
-use borrow.Author.Rules.{rules}
 use Rattle.index.proofs.bin_from.Goals as goal
 
 pub returns-then-level-le10 : goal.returns-then-level-le10

@@ -1,6 +1,5 @@
 -- `index::end_bin` meets its contract. Assumes nothing.
 use native.Mathlib.Omega.{arith}
-use borrow.Author.Rules.{rules}
 use lib.Pow.{shl_exact}
 use Rattle.index.proofs.end_bin.Goals as goal
 

@@ -1,8 +1,6 @@
 -- `index::finest_bin` meets its contract: the rank gives the bucket, and a magnitude has one bin. Assumes nothing.
 use mathlib.Core.Path.{sym}
-use Prim.Native.Nat.{◌-◌}
 use native.Mathlib.Omega.{arith}
-use borrow.Author.Rules.{rules}
 use Rattle.index.proofs.Ranks.{finest-from}
 use Rattle.index.proofs.finest_bin.Goals as goal
 

@@ -5,7 +5,7 @@ use native.Mathlib.Nat.{mod-lt, zero-mul}
 use native.Mathlib.Omega.{arith}
 use lib.Dec.{T}
 use lib.Pow.{pow_pos}
-use lib.Ieee.{Float, binary64, fits, to_bits}
+use lib.Ieee.{binary64, fits, to_bits}
 use lib.Ieee.Compare.{differs_from_itself}
 use lib.Count.{count_leading_zeros}
 use borrow.Author.Rules.{rules}
@@ -21,12 +21,12 @@ float_to_bits-bits c = not-nan c.args.x c.if-x.false
 
 pub returns-then-field-eq2047 : goal.returns-then-field-eq2047
 returns-then-field-eq2047 c =
-    let held : T (fits binary64 c.args.x) = subst T (sym c.well-formed.0.1) tt in
+    let held : T (fits binary64 c.args.x) = subst T (sym c.well_formed.0.1) tt in
     not_finite c.args.x (held) c.if-field-eq2047.true
 
 pub returns-then-digits-eq0 : goal.returns-then-digits-eq0
 returns-then-digits-eq0 c =
-    let held : T (fits binary64 c.args.x) = subst T (sym c.well-formed.0.1) tt in
+    let held : T (fits binary64 c.args.x) = subst T (sym c.well_formed.0.1) tt in
     let i = subnormal c.args.x (held) c.if-field-eq0.true in
     (i.finite, i.size ∙ ap (λ (k : ℕ). k * 2 ^ 974) c.if-digits-eq0.true ∙ zero-mul (2 ^ 974))
 
@@ -60,7 +60,7 @@ overflow_sub-exponent c =
 
 pub returns-then-field-eq0 : goal.returns-then-field-eq0
 returns-then-field-eq0 c =
-    let held : T (fits binary64 c.args.x) = subst T (sym c.well-formed.0.1) tt in
+    let held : T (fits binary64 c.args.x) = subst T (sym c.well_formed.0.1) tt in
     let digits : ℕ = to_bits binary64 c.args.x % 2 ^ 52 in
     let digits_lt : digits < 2 ^ 52 = mod-lt (to_bits binary64 c.args.x) (pow_pos 52) in
     let shift : (12 ≤ count_leading_zeros 64 (digits)) × Shifted (digits) (count_leading_zeros 64 (digits) - 11) = normalised (digits) (search rules) (digits_lt) in
@@ -69,7 +69,7 @@ returns-then-field-eq0 c =
 
 pub returns : goal.returns
 returns c =
-    let held : T (fits binary64 c.args.x) = subst T (sym c.well-formed.0.1) tt in
+    let held : T (fits binary64 c.args.x) = subst T (sym c.well_formed.0.1) tt in
     let digits : ℕ = to_bits binary64 c.args.x % 2 ^ 52 in
     let digits_lt : digits < 2 ^ 52 = mod-lt (to_bits binary64 c.args.x) (pow_pos 52) in
     let i = normal c.args.x (held) c.if-field-eq2047.false c.if-field-eq0.false in

@@ -4,7 +4,6 @@ use Prim.Native.Nat.{ℕ, ◌*◌, ◌^◌, ◌≤◌, ◌<◌}
 use native.Mathlib.Omega.{arith}
 use Rattle.index.specs.Bins.{bin_at}
 use Rattle.index.proofs.Whole.{whole-power, whole-other}
-use borrow.Author.Rules.{rules}
 use Rattle.index.proofs.whole_bin.Goals as goal
 
 pub returns-then-mantissa-eq4503599627370496 : goal.returns-then-mantissa-eq4503599627370496

@@ -1,6 +1,5 @@
 -- `index::rank::rank` meets its contract: the bound at the guess decides between the guess and one more. Assumes nothing.
 use native.Mathlib.Omega.{arith}
-use borrow.Author.Rules.{rules}
 use Rattle.index.proofs.Ranks.{ranked-up, ranked-down}
 use Rattle.index.proofs.rank.rank.Goals as goal
 

@@ -7,18 +7,17 @@ use lib.Ieee.{binary64, fits}
 use Rattle.index.specs.Signed.{level_answer}
 use Rattle.index.specs.Inner.{bin_index}
 use Rattle.index.proofs.Values.{no-scale, from-bin}
-use borrow.Author.Rules.{rules}
 use Rattle.index.proofs.signed.get_index.Goals as goal
 
 pub returns-in-OutOfRange : goal.returns-in-OutOfRange
 returns-in-OutOfRange c =
     let told : level_answer c.args.scale ≡ c.level_of-found.result = ap level_answer (sym (to_z-of_z w32 c.args.scale c.ranges.scale)) ∙ sym c.level_of-found.ensures in
-    sym (no-scale c.args.v c.args.scale (told ∙ c.enum_told-1.given.1))
+    sym (no-scale c.args.v c.args.scale (told ∙ c.in-OutOfRange.is))
 
 pub returns-in-Is : goal.returns-in-Is
 returns-in-Is c =
-    let held : T (fits binary64 c.args.v) = subst T (sym c.well-formed.0.1) tt in
+    let held : T (fits binary64 c.args.v) = subst T (sym c.well_formed.0.1) tt in
     let told : level_answer c.args.scale ≡ c.level_of-found.result = ap level_answer (sym (to_z-of_z w32 c.args.scale c.ranges.scale)) ∙ sym c.level_of-found.ensures in
     c.signed_bin.ensures
-    ∙ ap (bin_index c.found-1.given.0.0) c.get_bin.ensures
-    ∙ sym (from-bin c.args.v c.args.scale c.found-1.given.0.0 (held) (told ∙ c.found-1.given.1))
+    ∙ ap (bin_index c.in-Is.level) c.get_bin.ensures
+    ∙ sym (from-bin c.args.v c.args.scale c.in-Is.level held (told ∙ c.in-Is.is))

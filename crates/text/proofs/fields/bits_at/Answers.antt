@@ -1,5 +1,5 @@
 -- `text::fields::bits_at` meets its contract. Assumes nothing.
-use Rattle.std.proofs.Common.{ap, ◌∙◌, rules}
+use Rattle.std.proofs.Common.{ap, ◌∙◌}
 use Rattle.text.specs.Numbers.{bits_of}
 use Rattle.text.proofs.fields.bits_at.Goals as goal
 

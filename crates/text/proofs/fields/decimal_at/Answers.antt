@@ -1,5 +1,5 @@
 -- `text::fields::decimal_at` meets its contract. Assumes nothing.
-use Rattle.std.proofs.Common.{ap, ◌∙◌, rules}
+use Rattle.std.proofs.Common.{ap, ◌∙◌}
 use Rattle.text.specs.Numbers.{decimal_of}
 use Rattle.text.proofs.fields.decimal_at.Goals as goal
 

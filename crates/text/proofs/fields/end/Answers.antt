@@ -1,6 +1,5 @@
 -- `text::fields::end` meets its contract. Assumes nothing.
-use Rattle.std.proofs.Common.{◌≡◌, ◌+◌, ◌-◌, ◌≤◌, length, drop, refl, arith}
-use Rattle.text.specs.Fields.{until}
+use Rattle.std.proofs.Common.{refl, arith}
 use Rattle.text.proofs.Splitting.{until-turn, until_stop, until_none}
 use Rattle.text.proofs.fields.end.Goals as goal
 

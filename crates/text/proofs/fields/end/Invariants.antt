@@ -1,7 +1,6 @@
 -- `text::fields::end` meets its contract. Assumes nothing.
-use Rattle.std.proofs.Common.{◌≡◌, ◌+◌, ◌-◌, ◌≤◌, length, drop, refl, arith}
+use Rattle.std.proofs.Common.{◌≡◌, ◌+◌, ◌-◌, ◌≤◌, length, drop}
 use Rattle.text.specs.Fields.{until}
-use Rattle.text.proofs.Splitting.{until-turn, until_stop, until_none}
 use Rattle.text.proofs.fields.end.Given as goal
 
 abbrev pub invariant-loop-i : goal.invariant-loop-i

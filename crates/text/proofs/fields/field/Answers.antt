@@ -1,5 +1,5 @@
 -- `text::fields::field` meets its contract. Assumes nothing.
-use Rattle.std.proofs.Common.{◌≡◌, ℕ, ◌-◌, length, take, drop, ap, ◌∙◌, arith, rules}
+use Rattle.std.proofs.Common.{◌≡◌, ℕ, ◌-◌, length, take, drop, ap, ◌∙◌, arith}
 use Rattle.text.specs.Fields.{until, field_of}
 use Rattle.text.proofs.Splitting.{until-is}
 use Rattle.text.proofs.fields.field.Goals as goal

@@ -1,5 +1,5 @@
 -- `text::fields::signed_at` meets its contract. Assumes nothing.
-use Rattle.std.proofs.Common.{ap, ◌∙◌, rules}
+use Rattle.std.proofs.Common.{ap, ◌∙◌}
 use Rattle.text.specs.Numbers.{signed_of}
 use Rattle.text.proofs.fields.signed_at.Goals as goal
 

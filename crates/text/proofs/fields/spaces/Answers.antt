@@ -1,6 +1,5 @@
 -- `text::fields::spaces` meets its contract. Assumes nothing.
-use Rattle.std.proofs.Common.{◌≡◌, ◌+◌, ◌-◌, ◌≤◌, length, drop, arith}
-use Rattle.text.specs.Fields.{spaces_of}
+use Rattle.std.proofs.Common.{arith}
 use Rattle.text.proofs.Splitting.{spaces-turn, spaces-none}
 use Rattle.text.proofs.fields.spaces.Goals as goal
 

@@ -1,7 +1,6 @@
 -- `text::fields::spaces` meets its contract. Assumes nothing.
-use Rattle.std.proofs.Common.{◌≡◌, ◌+◌, ◌-◌, ◌≤◌, length, drop, arith}
+use Rattle.std.proofs.Common.{◌≡◌, ◌+◌, ◌-◌, ◌≤◌, length, drop}
 use Rattle.text.specs.Fields.{spaces_of}
-use Rattle.text.proofs.Splitting.{spaces-turn, spaces-none}
 use Rattle.text.proofs.fields.spaces.Given as goal
 
 abbrev pub invariant-loop-i : goal.invariant-loop-i

@@ -1,7 +1,6 @@
 -- `text::fields::start` meets its contract: where the field behind k spaces starts, counted from here on. Assumes nothing.
-use Rattle.std.proofs.Common.{◌≡◌, ℕ, suc, ◌+◌, ◌-◌, ◌≤◌, length, drop, sym, ap, ◌∙◌, arith, ltb-false, ltb-true}
+use Rattle.std.proofs.Common.{◌≡◌, ◌+◌, ◌-◌, ◌≤◌, length, drop}
 use Rattle.text.specs.Fields.{start_of}
-use Rattle.text.proofs.Splitting.{start-here, start_none, start-turn}
 use Rattle.text.proofs.fields.start.Given as goal
 
 abbrev pub invariant-loop-i : goal.invariant-loop-i

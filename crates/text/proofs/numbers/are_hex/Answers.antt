@@ -1,5 +1,5 @@
 -- `text::numbers::are_hex` meets its contract: those that are left decide what all do, where those before are. Assumes nothing.
-use Rattle.std.proofs.Common.{◌≡◌, ◌+◌, ◌-◌, ◌≤◌, Bool, false, get_or, drop, sym, refl, ap, ◌∙◌, arith}
+use Rattle.std.proofs.Common.{◌≡◌, ◌+◌, Bool, false, get_or, drop, sym, refl, ap, ◌∙◌, arith}
 use Rattle.laws.specs.Pick.{pick}
 use Rattle.text.specs.Pairs.{are_hex, is_decimal, is_letter}
 use Rattle.text.proofs.Pairing.{hex-turn, hex-end}

@@ -1,5 +1,5 @@
 -- `text::numbers::bits` meets its contract. Assumes nothing.
-use Rattle.std.proofs.Common.{length, sym, ap, ◌∙◌, rules, eq-eqb, ne_eqb}
+use Rattle.std.proofs.Common.{length, sym, ap, ◌∙◌, eq-eqb, ne_eqb}
 use Rattle.laws.proofs.Bools.{pick_true, pick-false}
 use Rattle.text.specs.Numbers.{bits_of}
 use Rattle.text.specs.declared.numbers.Natural.TheVariants as N

@@ -1,5 +1,5 @@
 -- `text::numbers::decimal` meets its contract. Assumes nothing.
-use Rattle.std.proofs.Common.{sym, ◌∙◌, rules}
+use Rattle.std.proofs.Common.{sym, ◌∙◌}
 use Rattle.laws.proofs.Bools.{pick_true, pick-false}
 use Rattle.text.specs.Numbers.{decimal_of}
 use Rattle.text.proofs.numbers.decimal.Goals as goal

@@ -1,5 +1,5 @@
 -- `text::numbers::digit` meets its contract. Assumes nothing.
-use Rattle.std.proofs.Common.{arith, rules}
+use Rattle.std.proofs.Common.{arith}
 use Rattle.text.proofs.Pairing.{below-digits, above_decimals, digit-none, digit-some}
 use Rattle.text.proofs.numbers.digit.Goals as goal
 

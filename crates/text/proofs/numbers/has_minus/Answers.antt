@@ -1,5 +1,5 @@
 -- `text::numbers::has_minus` meets its contract. Assumes nothing.
-use Rattle.std.proofs.Common.{length, refl, rules, eq-eqb, ne_eqb}
+use Rattle.std.proofs.Common.{length, refl, eq-eqb, ne_eqb}
 use Rattle.laws.specs.Pick.{pick}
 use Rattle.text.specs.Numbers.{has_minus}
 use Rattle.text.proofs.numbers.has_minus.Goals as goal

@@ -1,5 +1,5 @@
 -- `text::numbers::ill_led` meets its contract. Assumes nothing.
-use Rattle.std.proofs.Common.{length, refl, rules, eq-eqb, ne_eqb}
+use Rattle.std.proofs.Common.{length, refl, eq-eqb, ne_eqb}
 use Rattle.laws.specs.Pick.{pick}
 use Rattle.text.specs.Numbers.{ill_led}
 use Rattle.text.proofs.numbers.ill_led.Goals as goal

@@ -1,5 +1,5 @@
 -- `text::numbers::joined` meets its contract. Assumes nothing.
-use Rattle.std.proofs.Common.{◌≡◌, ℕ, ◌-◌, ◌^◌, ◌<◌, ◌≤◌, refl, ap, ◌∙◌, arith, lit<}
+use Rattle.std.proofs.Common.{◌≡◌, ℕ, refl, ap, ◌∙◌, arith, lit<}
 use Rattle.text.specs.Pairs.{joined_to}
 use Rattle.text.proofs.Pairing.{joined-fits, joined-turn}
 use Rattle.text.proofs.numbers.joined.Goals as goal
@@ -29,4 +29,4 @@ pub returns : goal.returns
 returns c =
     let l = c.loop-i in
     let e : l.i ≡ 8 = omega arith in
-    l.invariant.2 ∙ ap (λ (n : ℕ). joined_to n c.args.t1) e
+    l.invariant.2 ∙ ap (λ (n : ℕ). joined_to n c.args.bytes) e

@@ -1,7 +1,6 @@
 -- `text::numbers::joined` meets its contract. Assumes nothing.
-use Rattle.std.proofs.Common.{◌≡◌, ℕ, ◌-◌, ◌^◌, ◌<◌, ◌≤◌, refl, ap, ◌∙◌, arith, lit<}
+use Rattle.std.proofs.Common.{◌≡◌, ◌-◌, ◌^◌, ◌<◌, ◌≤◌}
 use Rattle.text.specs.Pairs.{joined_to}
-use Rattle.text.proofs.Pairing.{joined-fits, joined-turn}
 use Rattle.text.proofs.numbers.joined.Given as goal
 
 abbrev pub invariant-loop-i : goal.invariant-loop-i

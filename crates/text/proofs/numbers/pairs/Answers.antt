@@ -1,5 +1,5 @@
 -- `text::numbers::pairs` meets its contract. Assumes nothing.
-use Rattle.std.proofs.Common.{◌≡◌, ℕ, ◌+◌, ◌-◌, ◌*◌, ◌≤◌, length, refl, ◌∙◌, subst, arith, length-set}
+use Rattle.std.proofs.Common.{◌≡◌, ℕ, ◌+◌, ◌*◌, refl, ◌∙◌, subst, arith, length-set}
 use Rattle.text.specs.Pairs.{Paired}
 use Rattle.text.proofs.Pairing.{hex-at, pair_put}
 use Rattle.text.proofs.numbers.pairs.Goals as goal

@@ -1,7 +1,6 @@
 -- `text::numbers::pairs` meets its contract. Assumes nothing.
-use Rattle.std.proofs.Common.{◌≡◌, ℕ, ◌+◌, ◌-◌, ◌*◌, ◌≤◌, length, refl, ◌∙◌, subst, arith, length-set}
+use Rattle.std.proofs.Common.{◌≡◌, ◌-◌, ◌≤◌, length}
 use Rattle.text.specs.Pairs.{Paired}
-use Rattle.text.proofs.Pairing.{hex-at, pair_put}
 use Rattle.text.proofs.numbers.pairs.Given as goal
 
 abbrev pub invariant-loop-i : goal.invariant-loop-i

@@ -1,5 +1,5 @@
 -- `text::numbers::signed` meets its contract. Assumes nothing.
-use Rattle.std.proofs.Common.{◌-◌, ◌≤◌, length, drop, sym, ap, ◌∙◌, arith, length-drop, take_all, rules}
+use Rattle.std.proofs.Common.{◌-◌, ◌≤◌, length, drop, sym, ap, ◌∙◌, arith, length-drop, take_all}
 use Rattle.laws.proofs.Bools.{pick_true, pick-false}
 use Rattle.text.specs.Numbers.{decimal_of, with_minus, without_minus, signed_of}
 use Rattle.text.proofs.Spelling.{minus-length}

@@ -1,5 +1,5 @@
 -- `text::numbers::spelled` meets its contract: what is left says the same behind x as all of it behind 0. Assumes nothing.
-use Rattle.std.proofs.Common.{◌≡◌, ℕ, ◌+◌, ◌-◌, ◌*◌, ◌^◌, ◌<◌, ◌≤◌, length, get_or, drop, sym, refl, ap, ◌∙◌, subst, arith, lit<, drop_of_length-le}
+use Rattle.std.proofs.Common.{ℕ, ◌+◌, ◌*◌, ◌^◌, ◌<◌, ◌≤◌, get_or, drop, sym, refl, ap, ◌∙◌, subst, arith, lit<, drop_of_length-le}
 use Rattle.text.specs.Numbers.{spelled_from}
 use Rattle.text.proofs.Spelling.{no_digit, too_large, next_digit, step_fits, step-passes}
 use Rattle.text.proofs.Pairing.{digit_low, digit-high}

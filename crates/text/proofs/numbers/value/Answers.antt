@@ -1,5 +1,4 @@
 -- `text::numbers::value` meets its contract. Assumes nothing.
-use Rattle.std.proofs.Common.{rules}
 use Rattle.text.proofs.Pairing.{value-is}
 use Rattle.text.proofs.numbers.value.Goals as goal
 

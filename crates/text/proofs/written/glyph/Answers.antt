@@ -1,5 +1,5 @@
 -- `text::written::glyph` meets its contract. Assumes nothing.
-use Rattle.std.proofs.Common.{◌%◌, refl, arith, rules, le-ltb, lt-ltb}
+use Rattle.std.proofs.Common.{◌%◌, refl, arith, le-ltb, lt-ltb}
 use Rattle.laws.specs.Pick.{pick}
 use Rattle.text.specs.Numbers.{glyph_of}
 use Rattle.text.proofs.written.glyph.Goals as goal

@@ -1,7 +1,6 @@
 -- `text::written::hex_digits` meets its contract: the digits from place i on stand. Assumes nothing.
-use Rattle.std.proofs.Common.{◌≡◌, ℕ, suc, ◌+◌, ◌-◌, ◌/◌, ◌%◌, ◌^◌, ◌≤◌, List, length, drop, set, sym, refl, ap, ◌∙◌, subst, div-one, arith, length-set}
-use Rattle.text.specs.Numbers.{glyph_of, hex_digits}
-use Rattle.text.proofs.Spelling.{digit-put, digit-less}
+use Rattle.std.proofs.Common.{◌≡◌, ◌-◌, ◌/◌, ◌^◌, ◌≤◌, length, drop}
+use Rattle.text.specs.Numbers.{hex_digits}
 use Rattle.text.proofs.written.hex_digits.Given as goal
 
 abbrev pub invariant-loop-i : goal.invariant-loop-i

@@ -1,7 +1,6 @@
 -- BETWEEN OUR OWN CRATES: serves inner contracts and proofs; nobody needs it to believe the public calls or the theorems.
 -- What many values left, as it is handed to programs in other languages. Assumes nothing.
 use Rattle.std.specs.Prelude.{ℕ, List, set}
-use Rattle.std.specs.Borrow.{Bor}
 use Rattle.directory.specs.View.{Stores}
 use Rattle.value_map.specs.Calls.{Held}
 use Rattle.map_words.specs.Words.{words_of}
@@ -17,8 +16,8 @@ pub record Handed (Cells : Type 0) : Type 0 where
   pub cells : Cells
 
 -- as a contract writes it
-abbrev pub handed : {Cells : Type 0} → ℕ → Bor (List ℕ) → Bor (List (List ℕ)) → Stores → Cells → Handed Cells
-handed n taken state s x = record { number = n; taken = taken.now; state = state.now; stores = s; cells = x }
+abbrev pub handed : {Cells : Type 0} → ℕ → List ℕ → List (List ℕ) → Stores → Cells → Handed Cells
+handed n taken state s x = record { number = n; taken = taken; state = state; stores = s; cells = x }
 
 abbrev pub handed_out : {Cells : Type 0} → List ℕ → List (List ℕ) → Many (Held Cells) → Handed Cells
 handed_out taken state m =

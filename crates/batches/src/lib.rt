@@ -37,9 +37,9 @@ pub fn finish_all(
     row: &[u64; 9],
     target: Target,
 ) -> Batch
-    requires { (taken ≡ 0 → ⊥) → Fits d (stores sets entries order) target }
-    ensures { many result.taken result.no (kept result.dir (stores sets.exit entries.exit order.exit))
-        ≡ many taken no (finished_all taken d (stores sets.entry entries.entry order.entry) row.now target) }
+    requires { (taken ≡ 0 → ⊥) → Fits d (stores sets.old entries.old order.old) target }
+    ensures { many result.taken result.no (kept result.dir (stores sets.new entries.new order.new))
+        ≡ many taken no (finished_all taken d (stores sets.old entries.old order.old) row.now target) }
 {
     if taken == 0 {
         return Batch {

@@ -41,8 +41,8 @@ pub fn release_in(
     h: u64,
 ) -> crate::Reply
     requires { (limit + 2 ≤ length sets.now) × (limit + 2 ≤ length entries.old) × (limit + 2 ≤ length order.now) }
-    ensures { gave result (stores sets.entry entries.exit order.entry)
-        ≡ released_in limit d (stores sets.entry entries.entry order.entry) h }
+    ensures { gave result (stores sets.now entries.new order.now)
+        ≡ released_in limit d (stores sets.now entries.old order.now) h }
 {
     if !directory::check::agrees(limit, d, sets, entries, order) {
         return crate::Reply {
@@ -87,8 +87,8 @@ fn bind_new(
 ) -> crate::Reply
     requires { (d.used + 1 < length sets.old) × (d.used + 1 < length entries.old) × (d.used < length order.old)
         × (rank ≤ d.used) × (d.used + 1 < 2 ^ 32) × (d.count + more < 2 ^ 64) }
-    ensures { gave result (stores sets.exit entries.exit order.exit)
-        ≡ born_bound d (stores sets.entry entries.entry order.entry) row rank more }
+    ensures { gave result (stores sets.new entries.new order.new)
+        ≡ born_bound d (stores sets.old entries.old order.old) row rank more }
 {
     if d.last >= u64::MAX {
         return crate::Reply {
@@ -113,9 +113,9 @@ pub fn bind_right(
     row: [u64; 9],
 ) -> crate::Reply
     requires { (limit + 2 ≤ length sets.old) × (limit + 2 ≤ length entries.old) × (limit + 2 ≤ length order.old)
-        × (size row ≤ 8) × (limit + 2 < 2 ^ 32) × (agreesb limit d (stores sets entries order) ≡ true) }
-    ensures { gave result (stores sets.exit entries.exit order.exit)
-        ≡ bound_in limit d (stores sets.entry entries.entry order.entry) row }
+        × (size row ≤ 8) × (limit + 2 < 2 ^ 32) × (agreesb limit d (stores sets.old entries.old order.old) ≡ true) }
+    ensures { gave result (stores sets.new entries.new order.new)
+        ≡ bound_in limit d (stores sets.old entries.old order.old) row }
 {
     let t = directory::find::locate_agreed(limit, d, sets, entries, order, &row);
     match t {
@@ -143,8 +143,8 @@ pub fn bind_in(
 ) -> crate::Reply
     requires { (limit + 2 ≤ length sets.old) × (limit + 2 ≤ length entries.old) × (limit + 2 ≤ length order.old)
         × (size row ≤ 8) × (limit + 2 < 2 ^ 32) }
-    ensures { gave result (stores sets.exit entries.exit order.exit)
-        ≡ bound_in limit d (stores sets.entry entries.entry order.entry) row }
+    ensures { gave result (stores sets.new entries.new order.new)
+        ≡ bound_in limit d (stores sets.old entries.old order.old) row }
 {
     if !directory::check::agrees(limit, d, sets, entries, order) {
         return crate::Reply {

@@ -35,8 +35,8 @@ pub fn start(
     entries: &mut [[u64; 3]],
     order: &[u32],
 ) -> Reply
-    ensures { gave result (stores sets.entry entries.exit order.entry)
-        ≡ started limit (filter_of present filter.now) (stores sets.entry entries.entry order.entry) }
+    ensures { gave result (stores sets.now entries.new order.now)
+        ≡ started limit (filter_of present filter.now) (stores sets.now entries.old order.now) }
 {
     let dir = Directory {
         used: 0,
@@ -73,8 +73,8 @@ pub fn bind(
     present: bool,
     filter: &[u32],
 ) -> Reply
-    ensures { gave result (stores sets.exit entries.exit order.exit)
-        ≡ bound limit (filter_of present filter.now) d (stores sets.entry entries.entry order.entry) (given attrs.now) }
+    ensures { gave result (stores sets.new entries.new order.new)
+        ≡ bound limit (filter_of present filter.now) d (stores sets.old entries.old order.old) (given attrs.now) }
 {
     if !directory::stores_suffice(limit, sets.len(), entries.len(), order.len()) {
         return Reply {
@@ -108,8 +108,8 @@ pub fn release(
     order: &[u32],
     h: u64,
 ) -> Reply
-    ensures { gave result (stores sets.entry entries.exit order.entry)
-        ≡ released limit d (stores sets.entry entries.entry order.entry) h }
+    ensures { gave result (stores sets.now entries.new order.now)
+        ≡ released limit d (stores sets.now entries.old order.now) h }
 {
     if !directory::stores_suffice(limit, sets.len(), entries.len(), order.len()) {
         return Reply {
@@ -137,9 +137,9 @@ pub fn bind_agreed(
     present: bool,
     filter: &[u32],
 ) -> Reply
-    requires { Agreed limit (filter_of present filter.now) d (stores sets entries order) }
-    ensures { gave result (stores sets.exit entries.exit order.exit)
-        ≡ bound limit (filter_of present filter.now) d (stores sets.entry entries.entry order.entry) (given attrs.now) }
+    requires { Agreed limit (filter_of present filter.now) d (stores sets.old entries.old order.old) }
+    ensures { gave result (stores sets.new entries.new order.new)
+        ≡ bound limit (filter_of present filter.now) d (stores sets.old entries.old order.old) (given attrs.now) }
 {
     if !sets::canon::few(attrs) {
         return Reply {
@@ -161,9 +161,9 @@ pub fn release_agreed(
     order: &[u32],
     h: u64,
 ) -> Reply
-    requires { Agreed limit none d (stores sets entries order) }
-    ensures { gave result (stores sets.entry entries.exit order.entry)
-        ≡ released limit d (stores sets.entry entries.entry order.entry) h }
+    requires { Agreed limit none d (stores sets.now entries.old order.now) }
+    ensures { gave result (stores sets.now entries.new order.now)
+        ≡ released limit d (stores sets.now entries.old order.now) h }
 {
     let found = directory::find::by_birth(d, entries, order, h);
     calls::free(d, entries, found)

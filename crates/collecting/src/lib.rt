@@ -45,8 +45,8 @@ pub fn barred(
     entries: &[[u64; 3]],
     order: &[u32],
 ) -> u8
-    requires { known ≡ true → unsurveyed cells unset limit d (stores sets entries order) ≡ 0 }
-    ensures { result ≡ unsurveyed cells unset limit d (stores sets.entry entries.entry order.entry) }
+    requires { known ≡ true → unsurveyed cells unset limit d (stores sets.now entries.now order.now) ≡ 0 }
+    ensures { result ≡ unsurveyed cells unset limit d (stores sets.now entries.now order.now) }
 {
     if known {
         return 0;

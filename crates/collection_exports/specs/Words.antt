@@ -1,7 +1,6 @@
 -- BETWEEN OUR OWN CRATES: serves inner contracts and proofs; nobody needs it to believe the public calls or the theorems.
 -- A collection's outcome as it is handed to programs in other languages. Assumes nothing.
 use Rattle.std.specs.Prelude.{ℕ, List, set}
-use Rattle.std.specs.Borrow.{Bor}
 use Rattle.laws.specs.Said.{Said, refusal, success, number}
 use Rattle.directory.specs.View.{Stores}
 use Rattle.listing.specs.Listed.{Output}
@@ -26,11 +25,11 @@ pub record Handed : Type 0 where
   pub stores : Stores
 
 -- as a contract writes them
-abbrev pub listed : ℕ → Bor (List ℕ) → Output → Listed
-listed n points o = record { number = n; points = points.now; out = o }
+abbrev pub listed : ℕ → List ℕ → Output → Listed
+listed n points o = record { number = n; points = points; out = o }
 
-abbrev pub handed : ℕ → Bor (List (List ℕ)) → Bor (List ℕ) → Stores → Output → Handed
-handed n state points s o = record { listed = listed n points o; state = state.now; stores = s }
+abbrev pub handed : ℕ → List (List ℕ) → List ℕ → Stores → Output → Handed
+handed n state points s o = record { listed = listed n points o; state = state; stores = s }
 
 abbrev pub listed_out : {Cells : Type 0} → List ℕ → Collected Cells → Listed
 listed_out points c = record { number = number c.answer; points = set points 0 (points_in c.answer); out = c.out }

@@ -56,12 +56,12 @@ pub extern "C" fn map_delta(
     out_neg: &mut [u64],
     points: &mut [u64; 1],
 ) -> u64
-    ensures { handed result state.exit points.exit (stores sets.exit entries.exit order.exit)
-        (output out_sets.exit out_words.exit out_pos.exit out_neg.exit)
+    ensures { handed result state.new points.new (stores sets.new entries.new order.new)
+        (output out_sets.new out_words.new out_pos.new out_neg.new)
         ≡ handed_out state.old points.old (delta_collected (exponential_lister size top) (true, true) limit
-        (held (state_of (get_or state.old 0 [])) (stores sets.entry entries.entry order.entry)
-        (cells figures.entry extremes.entry pos.entry neg.entry))
-        (output out_sets.entry out_words.entry out_pos.entry out_neg.entry)) }
+        (held (state_of (get_or state.old 0 [])) (stores sets.old entries.old order.old)
+        (cells figures.now extremes.now pos.now neg.now))
+        (output out_sets.old out_words.old out_pos.old out_neg.old)) }
 {
     let d = map_words::state_of(state[0]);
     let s = Settings {
@@ -102,11 +102,11 @@ pub extern "C" fn map_cumulative(
     out_neg: &mut [u64],
     points: &mut [u64; 1],
 ) -> u64
-    ensures { listed result points.exit (output out_sets.exit out_words.exit out_pos.exit out_neg.exit)
+    ensures { listed result points.new (output out_sets.new out_words.new out_pos.new out_neg.new)
         ≡ listed_out points.old (cumulative_collected (exponential_lister size top) (true, true) limit
-        (held (state_of (get_or state.now 0 [])) (stores sets.entry entries.entry order.entry)
-        (cells figures.entry extremes.entry pos.entry neg.entry))
-        (output out_sets.entry out_words.entry out_pos.entry out_neg.entry)) }
+        (held (state_of (get_or state.now 0 [])) (stores sets.now entries.now order.now)
+        (cells figures.now extremes.now pos.now neg.now))
+        (output out_sets.old out_words.old out_pos.old out_neg.old)) }
 {
     let d = map_words::state_of(state[0]);
     let s = Settings {

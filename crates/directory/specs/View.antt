@@ -1,7 +1,6 @@
 -- The directory in its stores: when it agrees with itself, and what map it is. Assumes nothing.
 use Rattle.std.specs.Prelude.{◌≡◌, ℕ, zero, suc, ◌+◌, ◌-◌, ◌<◌, ◌≤◌, Bool, true, not, ◌&&◌, ◌||◌, List, [], ◌∷◌, map, ◌==◌, nat_le, nat_lt, slice_index, slice_index_or}
 use Rattle.std.proofs.Math.Option.{none, some}
-use Rattle.std.specs.Borrow.{Bor}
 use Rattle.laws.specs.Pick.{pick}
 use Rattle.tally.specs.Sets.{Set, three, cmp, same}
 use Rattle.tally.specs.Kind.{Kind}
@@ -18,8 +17,8 @@ pub record Stores : Type 0 where
   pub order : List ℕ
 
 -- as a contract writes them: the three lent slices, at entry or at exit
-abbrev pub stores : Bor (List (List ℕ)) → Bor (List (List ℕ)) → Bor (List ℕ) → Stores
-stores sets entries order = record { sets = sets.now; entries = entries.now; order = order.now }
+abbrev pub stores : List (List ℕ) → List (List ℕ) → List ℕ → Stores
+stores sets entries order = record { sets = sets; entries = entries; order = order }
 
 -- THE LAYOUT, our meaning of a set's "own place in the stores". Slot 0 is the empty set's, with the birth number 0; its set cell is
 -- never read, nor its birth cell but to write it back. The named slots, from 1 on, stand in the order of birth; `order` has their numbers ascending by set.

@@ -98,7 +98,7 @@ pub fn agrees(
     order: &[u32],
 ) -> bool
     requires { (limit + 2 ≤ length sets.now) × (limit + 2 ≤ length entries.now) × (limit + 2 ≤ length order.now) }
-    ensures { result ≡ agreesb limit d (stores sets.entry entries.entry order.entry) }
+    ensures { result ≡ agreesb limit d (stores sets.now entries.now order.now) }
 {
     let used = d.used;
     if used > limit as usize + 1 {

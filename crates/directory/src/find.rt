@@ -145,8 +145,8 @@ pub fn locate_agreed(
     row: &[u64; 9],
 ) -> crate::Target
     requires { (limit + 2 ≤ length sets.now) × (limit + 2 ≤ length entries.now) × (limit + 2 ≤ length order.now) × (size row.now ≤ 8)
-        × (agreesb limit d (stores sets entries order) ≡ true) }
-    ensures { result ≡ located limit d (stores sets.entry entries.entry order.entry) row.now }
+        × (agreesb limit d (stores sets.now entries.now order.now) ≡ true) }
+    ensures { result ≡ located limit d (stores sets.now entries.now order.now) row.now }
 {
     let used = d.used;
     match find(used, sets, order, row) {

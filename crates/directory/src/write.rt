@@ -30,8 +30,8 @@ pub fn admit(
 ) -> crate::Directory
     requires { (d.used + 1 < length sets.old) × (d.used + 1 < length entries.old) × (d.used < length order.old)
         × (rank ≤ d.used) × (d.used + 1 < 2 ^ 32) × (d.last + 1 < 2 ^ 64) × (d.count + more < 2 ^ 64) }
-    ensures { kept result (stores sets.exit entries.exit order.exit)
-        ≡ admitted d (stores sets.entry entries.entry order.entry) row rank more bound }
+    ensures { kept result (stores sets.new entries.new order.new)
+        ≡ admitted d (stores sets.old entries.old order.old) row rank more bound }
 {
     let used = d.used;
     let slot = used + 1;

@@ -2,7 +2,6 @@
 -- Values one after another into a series of the explicit kind, its head by value. Assumes nothing.
 use Rattle.std.specs.Prelude.{ℕ, ◌≤◌, ◌≡◌, true, List, leb, length, Float}
 use Rattle.std.specs.Float.Ieee.Scale.{finite}
-use Rattle.std.specs.Borrow.{Bor}
 use Rattle.laws.specs.Pick.{pick}
 use Rattle.laws.specs.Said.{Said, refusal, success, number}
 use Rattle.laws.specs.Counting.{most_count}
@@ -17,8 +16,8 @@ pub record Series : Type 0 where
   pub counts : List ℕ
 
 -- as a contract writes it
-abbrev pub series : Head → Bor (List ℕ) → Series
-series h counts = record { head = h; counts = counts.now }
+abbrev pub series : Head → List ℕ → Series
+series h counts = record { head = h; counts = counts }
 
 -- the head that a call leaves: a refused one leaves the old
 abbrev pub head_after : {Head : Type 0} → Said Head → Head → Head

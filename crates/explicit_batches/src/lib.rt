@@ -48,10 +48,10 @@ fn take_all(
     counts: &mut [u64],
     values: &[f64],
 ) -> Taken
-    requires { no ≡ 0 → Asked (explicit_store bounds.now) (true, true) nan known x updated (cells totals extremes counts) values.now }
-    ensures { many result.taken result.no (cells totals.exit extremes.exit counts.exit)
-        ≡ unless_stopped no (cells totals.entry extremes.entry counts.entry)
-        (recorded_all (explicit_store bounds.now) x updated (cells totals.entry extremes.entry counts.entry) values.now) }
+    requires { no ≡ 0 → Asked (explicit_store bounds.now) (true, true) nan known x updated (cells totals.old extremes.old counts.old) values.now }
+    ensures { many result.taken result.no (cells totals.new extremes.new counts.new)
+        ≡ unless_stopped no (cells totals.old extremes.old counts.old)
+        (recorded_all (explicit_store bounds.now) x updated (cells totals.old extremes.old counts.old) values.now) }
 {
     if no != 0 {
         return Taken { taken: 0, no: no };
@@ -77,11 +77,11 @@ fn all(
     filter: &[u32],
 ) -> Batch
     requires { known ≡ true → AgreedFor (explicit_store bounds.now) (true, true) limit (filter_of present filter.now)
-        (held d (stores sets entries order) (cells totals extremes counts)) (given attrs.now) }
+        (held d (stores sets.old entries.old order.old) (cells totals.old extremes.old counts.old)) (given attrs.now) }
     ensures { many result.taken result.no
-        (held result.dir (stores sets.exit entries.exit order.exit) (cells totals.exit extremes.exit counts.exit))
+        (held result.dir (stores sets.new entries.new order.new) (cells totals.new extremes.new counts.new))
         ≡ measured_all (explicit_store bounds.now) limit (filter_of present filter.now)
-        (held d (stores sets.entry entries.entry order.entry) (cells totals.entry extremes.entry counts.entry))
+        (held d (stores sets.old entries.old order.old) (cells totals.old extremes.old counts.old))
         values.now (given attrs.now) }
 {
     if values.len() == 0 {
@@ -132,11 +132,11 @@ fn all_by(
     h: u64,
 ) -> Batch
     requires { known ≡ true → AgreedBy (explicit_store bounds.now) (true, true) limit
-        (held d (stores sets entries order) (cells totals extremes counts)) h }
+        (held d (stores sets.old entries.old order.old) (cells totals.old extremes.old counts.old)) h }
     ensures { many result.taken result.no
-        (held result.dir (stores sets.exit entries.exit order.exit) (cells totals.exit extremes.exit counts.exit))
+        (held result.dir (stores sets.new entries.new order.new) (cells totals.new extremes.new counts.new))
         ≡ measured_all_by (explicit_store bounds.now) limit
-        (held d (stores sets.entry entries.entry order.entry) (cells totals.entry extremes.entry counts.entry))
+        (held d (stores sets.old entries.old order.old) (cells totals.old extremes.old counts.old))
         values.now h }
 {
     if values.len() == 0 {
@@ -186,9 +186,9 @@ pub fn measure_all(
     filter: &[u32],
 ) -> Batch
     ensures { many result.taken result.no
-        (held result.dir (stores sets.exit entries.exit order.exit) (cells totals.exit extremes.exit counts.exit))
+        (held result.dir (stores sets.new entries.new order.new) (cells totals.new extremes.new counts.new))
         ≡ measured_all (explicit_store bounds.now) limit (filter_of present filter.now)
-        (held d (stores sets.entry entries.entry order.entry) (cells totals.entry extremes.entry counts.entry))
+        (held d (stores sets.old entries.old order.old) (cells totals.old extremes.old counts.old))
         values.now (given attrs.now) }
 {
     all(
@@ -212,9 +212,9 @@ pub fn measure_all_by(
     h: u64,
 ) -> Batch
     ensures { many result.taken result.no
-        (held result.dir (stores sets.exit entries.exit order.exit) (cells totals.exit extremes.exit counts.exit))
+        (held result.dir (stores sets.new entries.new order.new) (cells totals.new extremes.new counts.new))
         ≡ measured_all_by (explicit_store bounds.now) limit
-        (held d (stores sets.entry entries.entry order.entry) (cells totals.entry extremes.entry counts.entry))
+        (held d (stores sets.old entries.old order.old) (cells totals.old extremes.old counts.old))
         values.now h }
 {
     all_by(
@@ -239,11 +239,11 @@ pub fn measure_all_agreed(
     filter: &[u32],
 ) -> Batch
     requires { AgreedFor (explicit_store bounds.now) (true, true) limit (filter_of present filter.now)
-        (held d (stores sets entries order) (cells totals extremes counts)) (given attrs.now) }
+        (held d (stores sets.old entries.old order.old) (cells totals.old extremes.old counts.old)) (given attrs.now) }
     ensures { many result.taken result.no
-        (held result.dir (stores sets.exit entries.exit order.exit) (cells totals.exit extremes.exit counts.exit))
+        (held result.dir (stores sets.new entries.new order.new) (cells totals.new extremes.new counts.new))
         ≡ measured_all (explicit_store bounds.now) limit (filter_of present filter.now)
-        (held d (stores sets.entry entries.entry order.entry) (cells totals.entry extremes.entry counts.entry))
+        (held d (stores sets.old entries.old order.old) (cells totals.old extremes.old counts.old))
         values.now (given attrs.now) }
 {
     all(
@@ -267,11 +267,11 @@ pub fn measure_all_by_agreed(
     h: u64,
 ) -> Batch
     requires { AgreedBy (explicit_store bounds.now) (true, true) limit
-        (held d (stores sets entries order) (cells totals extremes counts)) h }
+        (held d (stores sets.old entries.old order.old) (cells totals.old extremes.old counts.old)) h }
     ensures { many result.taken result.no
-        (held result.dir (stores sets.exit entries.exit order.exit) (cells totals.exit extremes.exit counts.exit))
+        (held result.dir (stores sets.new entries.new order.new) (cells totals.new extremes.new counts.new))
         ≡ measured_all_by (explicit_store bounds.now) limit
-        (held d (stores sets.entry entries.entry order.entry) (cells totals.entry extremes.entry counts.entry))
+        (held d (stores sets.old entries.old order.old) (cells totals.old extremes.old counts.old))
         values.now h }
 {
     all_by(
@@ -296,10 +296,10 @@ pub fn measure_agreed(
     filter: &[u32],
 ) -> Reply
     requires { AgreedFor (explicit_store bounds.now) (true, true) limit (filter_of present filter.now)
-        (held d (stores sets entries order) (cells totals extremes counts)) (given attrs.now) }
-    ensures { gave result (stores sets.exit entries.exit order.exit) (cells totals.exit extremes.exit counts.exit)
+        (held d (stores sets.old entries.old order.old) (cells totals.old extremes.old counts.old)) (given attrs.now) }
+    ensures { gave result (stores sets.new entries.new order.new) (cells totals.new extremes.new counts.new)
         ≡ measured (explicit_store bounds.now) limit (filter_of present filter.now)
-        (held d (stores sets.entry entries.entry order.entry) (cells totals.entry extremes.entry counts.entry))
+        (held d (stores sets.old entries.old order.old) (cells totals.old extremes.old counts.old))
         v (given attrs.now) }
 {
     let one: [f64; 1] = [v];
@@ -325,10 +325,10 @@ pub fn measure_by_agreed(
     h: u64,
 ) -> Reply
     requires { AgreedBy (explicit_store bounds.now) (true, true) limit
-        (held d (stores sets entries order) (cells totals extremes counts)) h }
-    ensures { gave result (stores sets.exit entries.exit order.exit) (cells totals.exit extremes.exit counts.exit)
+        (held d (stores sets.old entries.old order.old) (cells totals.old extremes.old counts.old)) h }
+    ensures { gave result (stores sets.new entries.new order.new) (cells totals.new extremes.new counts.new)
         ≡ measured_by (explicit_store bounds.now) limit
-        (held d (stores sets.entry entries.entry order.entry) (cells totals.entry extremes.entry counts.entry))
+        (held d (stores sets.old entries.old order.old) (cells totals.old extremes.old counts.old))
         v h }
 {
     let one: [f64; 1] = [v];

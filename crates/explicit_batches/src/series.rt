@@ -46,9 +46,9 @@ fn raised(h: Head, v: f64) -> Head
 
 // Records values into a series that agrees, one after another, up to the first that is refused: 6, 9.
 pub fn record_all(bounds: &[f64], head: Head, counts: &mut [u64], values: &[f64]) -> Run
-    requires { Sound bounds.now (series head counts) }
-    ensures { many result.taken result.no (series result.head counts.exit)
-        ≡ each (step bounds.now) (series head counts.entry) values.now }
+    requires { Sound bounds.now (series head counts.old) }
+    ensures { many result.taken result.no (series result.head counts.new)
+        ≡ each (step bounds.now) (series head counts.old) values.now }
 {
     let mut h = head;
     let mut i: usize = 0;

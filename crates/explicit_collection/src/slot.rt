@@ -38,9 +38,9 @@ fn agrees_at(
     extremes: &[[f64; 3]],
     counts: &[u64],
 ) -> bool
-    requires { Room bounds.now (cells totals extremes counts) x }
+    requires { Room bounds.now (cells totals.now extremes.now counts.now) x }
     ensures { result ≡ histograms.agrees ((explicit_store bounds.now).settings (true, true))
-        (series_at bounds.now (cells totals.entry extremes.entry counts.entry) x) }
+        (series_at bounds.now (cells totals.now extremes.now counts.now) x) }
 {
     let n = explicit::bucket_count(bounds);
     let a = x * n;
@@ -78,10 +78,10 @@ fn sound_at(
     extremes: &[[f64; 3]],
     counts: &[u64],
 ) -> bool
-    requires room { Room bounds.now (cells totals extremes counts) x }
-    requires known { Known (explicit_store bounds.now) (true, true) known x updated (cells totals extremes counts) }
+    requires room { Room bounds.now (cells totals.now extremes.now counts.now) x }
+    requires known { Known (explicit_store bounds.now) (true, true) known x updated (cells totals.now extremes.now counts.now) }
     ensures { result ≡ (not updated || histograms.agrees ((explicit_store bounds.now).settings (true, true))
-        (series_at bounds.now (cells totals.entry extremes.entry counts.entry) x)) }
+        (series_at bounds.now (cells totals.now extremes.now counts.now) x)) }
 {
     if known {
         return true;
@@ -104,10 +104,10 @@ pub fn survey(
     extremes: &[[f64; 3]],
     counts: &[u64],
 ) -> Survey
-    requires bounds_value { (bounds_pass bounds.now ≡ true) × Room bounds.now (cells totals extremes counts) x }
-    requires few { Few s × Known (explicit_store bounds.now) (true, true) known x updated (cells totals extremes counts) }
+    requires bounds_value { (bounds_pass bounds.now ≡ true) × Room bounds.now (cells totals.now extremes.now counts.now) x }
+    requires few { Few s × Known (explicit_store bounds.now) (true, true) known x updated (cells totals.now extremes.now counts.now) }
     ensures value { result ≡ surveyed_at (explicit_lister bounds.now) (true, true) updated due
-        (cells totals.entry extremes.entry counts.entry) s x }
+        (cells totals.now extremes.now counts.now) s x }
     ensures more { More s result }
 {
     if !sound_at(known, bounds, x, updated, totals, extremes, counts) {
@@ -139,10 +139,10 @@ fn put_point(
     out_neg: &mut [u64],
 ) -> Cursor
     requires bounds_value { (bounds_pass bounds.now ≡ true) × (bucket_count bounds.now ≤ length counts.now) }
-    requires place { Place at (output out_sets out_words out_pos out_neg) (bucket_count bounds.now) 0 }
-    ensures { left result (output out_sets.exit out_words.exit out_pos.exit out_neg.exit)
+    requires place { Place at (output out_sets.old out_words.old out_pos.old out_neg.old) (bucket_count bounds.now) 0 }
+    ensures { left result (output out_sets.new out_words.new out_pos.new out_neg.new)
         ≡ point_put bounds.now (explicit_point head show sums) at row counts.now
-        (output out_sets.entry out_words.entry out_pos.entry out_neg.entry) }
+        (output out_sets.old out_words.old out_pos.old out_neg.old) }
 {
     let p = point::explicit_point(head, show, sums);
     let b = Span {
@@ -167,10 +167,10 @@ fn put_fresh(
     out_neg: &mut [u64],
 ) -> Cursor
     requires bounds_value { bounds_pass bounds.now ≡ true }
-    requires place { Place at (output out_sets out_words out_pos out_neg) (bucket_count bounds.now) 0 }
-    ensures { left result (output out_sets.exit out_words.exit out_pos.exit out_neg.exit)
+    requires place { Place at (output out_sets.old out_words.old out_pos.old out_neg.old) (bucket_count bounds.now) 0 }
+    ensures { left result (output out_sets.new out_words.new out_pos.new out_neg.new)
         ≡ point_put bounds.now (explicit_point fresh_head show sums) at row (replicate (bucket_count bounds.now) 0)
-        (output out_sets.entry out_words.entry out_pos.entry out_neg.entry) }
+        (output out_sets.old out_words.old out_pos.old out_neg.old) }
 {
     let mut zeros: [u64; 160] = [0; 160];
     let empty = explicit::fresh(bounds, &mut zeros[..]);
@@ -210,12 +210,12 @@ pub fn put(
     out_pos: &mut [u64],
     out_neg: &mut [u64],
 ) -> Cursor
-    requires sound { Sound (explicit_lister bounds.now) (show, sums) updated (cells totals extremes counts) x }
-    requires free { due ≡ true → Free (explicit_lister bounds.now) (show, sums) updated (cells totals extremes counts) x at
-        (output out_sets out_words out_pos out_neg) }
-    ensures { left result (output out_sets.exit out_words.exit out_pos.exit out_neg.exit)
-        ≡ put_slot (explicit_lister bounds.now) (show, sums) updated due (cells totals.entry extremes.entry counts.entry) x row at
-        (output out_sets.entry out_words.entry out_pos.entry out_neg.entry) }
+    requires sound { Sound (explicit_lister bounds.now) (show, sums) updated (cells totals.now extremes.now counts.now) x }
+    requires free { due ≡ true → Free (explicit_lister bounds.now) (show, sums) updated (cells totals.now extremes.now counts.now) x at
+        (output out_sets.old out_words.old out_pos.old out_neg.old) }
+    ensures { left result (output out_sets.new out_words.new out_pos.new out_neg.new)
+        ≡ put_slot (explicit_lister bounds.now) (show, sums) updated due (cells totals.now extremes.now counts.now) x row at
+        (output out_sets.old out_words.old out_pos.old out_neg.old) }
 {
     if !due {
         return at;

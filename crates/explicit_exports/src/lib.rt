@@ -25,10 +25,10 @@ pub extern "C" fn explicit_measure(
     v: f64,
     attrs: &[[u32; 2]],
 ) -> u64
-    ensures { handed result state.exit (stores sets.exit entries.exit order.exit) (cells totals.exit extremes.exit counts.exit)
+    ensures { handed result state.new (stores sets.new entries.new order.new) (cells totals.new extremes.new counts.new)
         ≡ handed_out state.old (measured (explicit_store bounds.now) limit none
-        (held (state_of (get_or state.old 0 [])) (stores sets.entry entries.entry order.entry)
-        (cells totals.entry extremes.entry counts.entry)) v (given attrs.now)) }
+        (held (state_of (get_or state.old 0 [])) (stores sets.old entries.old order.old)
+        (cells totals.old extremes.old counts.old)) v (given attrs.now)) }
 {
     let d = map_words::state_of(state[0]);
     let no_keys = [0u32; 1];

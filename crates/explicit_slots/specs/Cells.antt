@@ -1,7 +1,6 @@
 -- The explicit kind's stores: a series in one slot of them, and what recording a value into it leaves. Assumes nothing.
 use Rattle.std.specs.Prelude.{ℕ, ◌+◌, ◌*◌, ◌≤◌, ◌<◌, Bool, List, [], ◌∷◌, length, get_or, set, replicate, Float}
 use Rattle.std.specs.Float.{nan}
-use Rattle.std.specs.Borrow.{Bor}
 use Rattle.laws.specs.Pick.{pick}
 use Rattle.laws.specs.Said.{Said, refusal, success}
 use Rattle.rows.specs.Parts.{part_at, put_at}
@@ -18,8 +17,8 @@ pub record Cells : Type 0 where
   pub counts : List ℕ
 
 -- as a contract writes them: the three lent slices, at entry or at exit
-abbrev pub cells : Bor (List ℕ) → Bor (List (List Float)) → Bor (List ℕ) → Cells
-cells totals extremes counts = record { totals = totals.now; extremes = extremes.now; counts = counts.now }
+abbrev pub cells : List ℕ → List (List Float) → List ℕ → Cells
+cells totals extremes counts = record { totals = totals; extremes = extremes; counts = counts }
 
 -- THE LAYOUT: with n buckets, slot x has the counts from x * n up to x * n + n
 abbrev pub row_at : List Float → List ℕ → ℕ → List ℕ

@@ -1,7 +1,6 @@
 -- BETWEEN OUR OWN CRATES: serves inner contracts and proofs; nobody needs it to believe the public calls or the theorems.
 -- Values one after another into a series of the explicit kind over i64, its head by value. Assumes nothing.
 use Rattle.std.specs.Prelude.{ℕ, ◌+◌, Bool, List, leb, ℤ, Float}
-use Rattle.std.specs.Borrow.{Bor}
 use Rattle.laws.specs.Pick.{pick}
 use Rattle.laws.specs.Said.{number}
 use Rattle.laws.specs.Counting.{most_count}
@@ -19,8 +18,8 @@ pub record Series : Type 0 where
   pub counts : List ℕ
 
 -- as a contract writes it
-abbrev pub series : Head → Bor (List ℕ) → Series
-series h counts = record { head = h; counts = counts.now }
+abbrev pub series : Head → List ℕ → Series
+series h counts = record { head = h; counts = counts }
 
 -- what a call's outcome leaves of a series
 abbrev pub leaving : Series → Outcome → Recording Series

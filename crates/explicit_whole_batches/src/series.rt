@@ -53,8 +53,8 @@ fn raised(sums: bool, head: Head, v: i64) -> Step
 // Records values into a series that agrees, one after another, up to the first that is refused: 9, 16.
 pub fn record_all(bounds: &[f64], sums: bool, head: Head, counts: &mut [u64], values: &[i64]) -> Run
     requires { Counted bounds.now head.count counts.old }
-    ensures { many result.taken result.no (series result.head counts.exit)
-        ≡ each (step bounds.now sums) (series head counts.entry) values.now }
+    ensures { many result.taken result.no (series result.head counts.new)
+        ≡ each (step bounds.now sums) (series head counts.old) values.now }
 {
     let mut h = head;
     let mut i: usize = 0;

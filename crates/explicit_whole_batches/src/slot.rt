@@ -31,7 +31,7 @@ fn agrees_if(known: bool, bounds: &[f64], updated: bool, count: u64, counts: &[u
 // The head to go on from: that of the series, or a fresh one with zeros in its row where none is held.
 fn begin(bounds: &[f64], updated: bool, head: Head, counts: &mut [u64]) -> Head
     requires { bucket_count bounds.now ≤ length counts.old }
-    ensures { series result counts.exit ≡ begun bounds.now updated head counts.old }
+    ensures { series result counts.new ≡ begun bounds.now updated head counts.old }
 {
     if updated {
         return head;
@@ -55,7 +55,7 @@ fn enter_all(
 ) -> Run
     requires { (bounds_pass bounds.now ≡ true) × (bucket_count bounds.now ≤ length counts.old)
         × (known ≡ true → agrees_if bounds.now updated head.count counts.old ≡ true) }
-    ensures { many result.taken result.no (series result.head counts.exit)
+    ensures { many result.taken result.no (series result.head counts.new)
         ≡ entering bounds.now sums updated head counts.old values.now }
 {
     if !agrees_if(known, bounds, updated, head.count, counts) {
@@ -108,9 +108,9 @@ pub fn record_all(
     counts: &mut [u64],
     values: &[i64],
 ) -> Taken
-    requires { Asked (explicit_wholes bounds.now sums) true (pos 0) known x updated (cells totals extremes counts) values.now }
-    ensures { many result.taken result.no (cells totals.exit extremes.exit counts.exit)
-        ≡ recorded_all (explicit_wholes bounds.now sums) x updated (cells totals.entry extremes.entry counts.entry) values.now }
+    requires { Asked (explicit_wholes bounds.now sums) true (pos 0) known x updated (cells totals.old extremes.old counts.old) values.now }
+    ensures { many result.taken result.no (cells totals.new extremes.new counts.new)
+        ≡ recorded_all (explicit_wholes bounds.now sums) x updated (cells totals.old extremes.old counts.old) values.now }
 {
     let n = explicit::bucket_count(bounds);
     let a = x * n;

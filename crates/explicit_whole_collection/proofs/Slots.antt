@@ -5,7 +5,6 @@ use mathlib.Core.Path.{◌≡◌, refl, ap, ◌∙◌}
 use mathlib.Core.Bool.{Bool, true, false, ◌&&◌}
 use mathlib.Core.List.{List, [], ◌∷◌, ◌++◌}
 use native.Mathlib.Omega.{arith}
-use denote.Ref.{Bor}
 use lib.IntN.{ℤ}
 use lib.ListN.{length, get_or, take, replicate, length-replicate}
 use lib.Ieee.{Float}
@@ -40,7 +39,7 @@ module _ (bounds : List Float) (c : Cells) (x : ℕ) where
 
 -- ---- the survey reads counts alone
 
-module _ (bounds : List Float) (sums : Bool) (used : ℕ) (entries : List (List ℕ)) (order : List ℕ) (totals : Bor (List ℕ)) (extremes : Bor (List (List ℤ))) (counts : Bor (List ℕ)) where
+module _ (bounds : List Float) (sums : Bool) (used : ℕ) (entries : List (List ℕ)) (order : List ℕ) (totals : List ℕ) (extremes : List (List ℤ)) (counts : List ℕ) where
   pub walk-counts : Walk (explicit_wholes bounds sums) (walked used [] entries order (cells totals extremes counts))
       → Walk (explicit_wholes bounds true) (walked used [] entries order (counting totals counts))
   walk-counts w =
@@ -52,7 +51,7 @@ module _ (bounds : List Float) (sums : Bool) (used : ℕ) (entries : List (List 
         slots = w.slots;
         room = λ x h.
             let r = w.room x h in
-            record { totals = r.totals; extremes = omega (arith, r.totals, length-replicate {A = List ℤ} (length totals.now) []); counts = r.counts };
+            record { totals = r.totals; extremes = omega (arith, r.totals, length-replicate {A = List ℤ} (length totals) []); counts = r.counts };
       }
 
   -- what is counted is the same of either

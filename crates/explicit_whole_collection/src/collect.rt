@@ -33,10 +33,10 @@ fn number(
     out_neg: &[u64],
 ) -> u8
     requires { known ≡ true → Owned (explicit_wholes bounds.now s.sums) s.extremes s.limit none
-        (held d (stores sets entries order) (cells totals extremes counts)) }
+        (held d (stores sets.now entries.now order.now) (cells totals.now extremes.now counts.now)) }
     ensures { result ≡ uncollected (explicit_whole_lister bounds.now s.sums) s.extremes cumulative s.limit
-        (held d (stores sets.entry entries.entry order.entry) (cells totals.entry extremes.entry counts.entry))
-        (output out_sets.entry out_words.entry out_pos.entry out_neg.entry) }
+        (held d (stores sets.now entries.now order.now) (cells totals.now extremes.now counts.now))
+        (output out_sets.now out_words.now out_pos.now out_neg.now) }
 {
     let limit = s.limit;
     let room = value_map::explicit_map::cells_suffice(
@@ -81,13 +81,13 @@ pub fn delta(
     out_neg: &mut [u64],
 ) -> Reply
     requires { known ≡ true → Owned (explicit_wholes bounds.now s.sums) s.extremes s.limit none
-        (held d (stores sets entries order) (cells totals extremes counts)) }
+        (held d (stores sets.old entries.old order.old) (cells totals.now extremes.now counts.now)) }
     ensures { gave result.answer
-        (held result.dir (stores sets.exit entries.exit order.exit) (cells totals.entry extremes.entry counts.entry))
-        (output out_sets.exit out_words.exit out_pos.exit out_neg.exit)
+        (held result.dir (stores sets.new entries.new order.new) (cells totals.now extremes.now counts.now))
+        (output out_sets.new out_words.new out_pos.new out_neg.new)
         ≡ delta_collected (explicit_whole_lister bounds.now s.sums) s.extremes s.limit
-        (held d (stores sets.entry entries.entry order.entry) (cells totals.entry extremes.entry counts.entry))
-        (output out_sets.entry out_words.entry out_pos.entry out_neg.entry) }
+        (held d (stores sets.old entries.old order.old) (cells totals.now extremes.now counts.now))
+        (output out_sets.old out_words.old out_pos.old out_neg.old) }
 {
     let no = number(
         known, false, bounds, s, d, sets, entries, order, totals, extremes, counts, out_sets,
@@ -128,13 +128,13 @@ pub fn cumulative(
     out_neg: &mut [u64],
 ) -> Answer
     requires { known ≡ true → Owned (explicit_wholes bounds.now s.sums) s.extremes s.limit none
-        (held d (stores sets entries order) (cells totals extremes counts)) }
+        (held d (stores sets.now entries.now order.now) (cells totals.now extremes.now counts.now)) }
     ensures { gave result
-        (held d (stores sets.entry entries.entry order.entry) (cells totals.entry extremes.entry counts.entry))
-        (output out_sets.exit out_words.exit out_pos.exit out_neg.exit)
+        (held d (stores sets.now entries.now order.now) (cells totals.now extremes.now counts.now))
+        (output out_sets.new out_words.new out_pos.new out_neg.new)
         ≡ cumulative_collected (explicit_whole_lister bounds.now s.sums) s.extremes s.limit
-        (held d (stores sets.entry entries.entry order.entry) (cells totals.entry extremes.entry counts.entry))
-        (output out_sets.entry out_words.entry out_pos.entry out_neg.entry) }
+        (held d (stores sets.now entries.now order.now) (cells totals.now extremes.now counts.now))
+        (output out_sets.old out_words.old out_pos.old out_neg.old) }
 {
     let no = number(
         known, true, bounds, s, d, sets, entries, order, totals, extremes, counts, out_sets,

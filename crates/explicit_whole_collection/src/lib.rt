@@ -40,9 +40,9 @@ pub fn configure(
     extremes: &[[i64; 3]],
     counts: &[u64],
 ) -> Configured
-    ensures { configuring (said result) (stores sets.entry entries.exit order.entry)
+    ensures { configuring (said result) (stores sets.now entries.new order.now)
         ≡ configured bounds.now show sums limit (filter_of present filter.now)
-        (stores sets.entry entries.entry order.entry) (cells totals.entry extremes.entry counts.entry) }
+        (stores sets.now entries.old order.now) (cells totals.now extremes.now counts.now) }
 {
     let reply = whole_map::explicit_map::start(
         bounds, sums, limit, present, filter, sets, entries, order, totals, extremes, counts,
@@ -72,11 +72,11 @@ pub fn delta(
     out_neg: &mut [u64],
 ) -> Reply
     ensures { gave result.answer
-        (held result.dir (stores sets.exit entries.exit order.exit) (cells totals.entry extremes.entry counts.entry))
-        (output out_sets.exit out_words.exit out_pos.exit out_neg.exit)
+        (held result.dir (stores sets.new entries.new order.new) (cells totals.now extremes.now counts.now))
+        (output out_sets.new out_words.new out_pos.new out_neg.new)
         ≡ delta_collected (explicit_whole_lister bounds.now s.sums) s.extremes s.limit
-        (held d (stores sets.entry entries.entry order.entry) (cells totals.entry extremes.entry counts.entry))
-        (output out_sets.entry out_words.entry out_pos.entry out_neg.entry) }
+        (held d (stores sets.old entries.old order.old) (cells totals.now extremes.now counts.now))
+        (output out_sets.old out_words.old out_pos.old out_neg.old) }
 {
     crate::collect::delta(
         false, bounds, s, d, sets, entries, order, totals, extremes, counts, out_sets, out_words,
@@ -101,13 +101,13 @@ pub fn delta_agreed(
     out_neg: &mut [u64],
 ) -> Reply
     requires { Owned (explicit_wholes bounds.now s.sums) s.extremes s.limit none
-        (held d (stores sets entries order) (cells totals extremes counts)) }
+        (held d (stores sets.old entries.old order.old) (cells totals.now extremes.now counts.now)) }
     ensures { gave result.answer
-        (held result.dir (stores sets.exit entries.exit order.exit) (cells totals.entry extremes.entry counts.entry))
-        (output out_sets.exit out_words.exit out_pos.exit out_neg.exit)
+        (held result.dir (stores sets.new entries.new order.new) (cells totals.now extremes.now counts.now))
+        (output out_sets.new out_words.new out_pos.new out_neg.new)
         ≡ delta_collected (explicit_whole_lister bounds.now s.sums) s.extremes s.limit
-        (held d (stores sets.entry entries.entry order.entry) (cells totals.entry extremes.entry counts.entry))
-        (output out_sets.entry out_words.entry out_pos.entry out_neg.entry) }
+        (held d (stores sets.old entries.old order.old) (cells totals.now extremes.now counts.now))
+        (output out_sets.old out_words.old out_pos.old out_neg.old) }
 {
     crate::collect::delta(
         true, bounds, s, d, sets, entries, order, totals, extremes, counts, out_sets, out_words,
@@ -132,11 +132,11 @@ pub fn cumulative(
     out_neg: &mut [u64],
 ) -> Answer
     ensures { gave result
-        (held d (stores sets.entry entries.entry order.entry) (cells totals.entry extremes.entry counts.entry))
-        (output out_sets.exit out_words.exit out_pos.exit out_neg.exit)
+        (held d (stores sets.now entries.now order.now) (cells totals.now extremes.now counts.now))
+        (output out_sets.new out_words.new out_pos.new out_neg.new)
         ≡ cumulative_collected (explicit_whole_lister bounds.now s.sums) s.extremes s.limit
-        (held d (stores sets.entry entries.entry order.entry) (cells totals.entry extremes.entry counts.entry))
-        (output out_sets.entry out_words.entry out_pos.entry out_neg.entry) }
+        (held d (stores sets.now entries.now order.now) (cells totals.now extremes.now counts.now))
+        (output out_sets.old out_words.old out_pos.old out_neg.old) }
 {
     crate::collect::cumulative(
         false, bounds, s, d, sets, entries, order, totals, extremes, counts, out_sets, out_words,
@@ -161,13 +161,13 @@ pub fn cumulative_agreed(
     out_neg: &mut [u64],
 ) -> Answer
     requires { Owned (explicit_wholes bounds.now s.sums) s.extremes s.limit none
-        (held d (stores sets entries order) (cells totals extremes counts)) }
+        (held d (stores sets.now entries.now order.now) (cells totals.now extremes.now counts.now)) }
     ensures { gave result
-        (held d (stores sets.entry entries.entry order.entry) (cells totals.entry extremes.entry counts.entry))
-        (output out_sets.exit out_words.exit out_pos.exit out_neg.exit)
+        (held d (stores sets.now entries.now order.now) (cells totals.now extremes.now counts.now))
+        (output out_sets.new out_words.new out_pos.new out_neg.new)
         ≡ cumulative_collected (explicit_whole_lister bounds.now s.sums) s.extremes s.limit
-        (held d (stores sets.entry entries.entry order.entry) (cells totals.entry extremes.entry counts.entry))
-        (output out_sets.entry out_words.entry out_pos.entry out_neg.entry) }
+        (held d (stores sets.now entries.now order.now) (cells totals.now extremes.now counts.now))
+        (output out_sets.old out_words.old out_pos.old out_neg.old) }
 {
     crate::collect::cumulative(
         true, bounds, s, d, sets, entries, order, totals, extremes, counts, out_sets, out_words,

@@ -40,10 +40,10 @@ fn sound_at(
     totals: &[u64],
     counts: &[u64],
 ) -> bool
-    requires room { Room bounds.now (counting totals counts) x }
-    requires known { Known (explicit_wholes bounds.now true) true known x updated (counting totals counts) }
+    requires room { Room bounds.now (counting totals.now counts.now) x }
+    requires known { Known (explicit_wholes bounds.now true) true known x updated (counting totals.now counts.now) }
     ensures { result ≡ (not updated || wholes.agrees ((explicit_wholes bounds.now true).settings true)
-        (series_at bounds.now (counting totals.entry counts.entry) x)) }
+        (series_at bounds.now (counting totals.now counts.now) x)) }
 {
     if known {
         return true;
@@ -68,10 +68,10 @@ pub fn survey(
     totals: &[u64],
     counts: &[u64],
 ) -> Survey
-    requires bounds_value { (bounds_pass bounds.now ≡ true) × Room bounds.now (counting totals counts) x }
-    requires few { Few s × Known (explicit_wholes bounds.now true) true known x updated (counting totals counts) }
+    requires bounds_value { (bounds_pass bounds.now ≡ true) × Room bounds.now (counting totals.now counts.now) x }
+    requires few { Few s × Known (explicit_wholes bounds.now true) true known x updated (counting totals.now counts.now) }
     ensures value { result ≡ surveyed_at (explicit_whole_lister bounds.now true) true updated due
-        (counting totals.entry counts.entry) s x }
+        (counting totals.now counts.now) s x }
     ensures more { More s result }
 {
     if !sound_at(known, bounds, x, updated, totals, counts) {
@@ -103,10 +103,10 @@ fn put_point(
     out_neg: &mut [u64],
 ) -> Cursor
     requires bounds_value { (bounds_pass bounds.now ≡ true) × (bucket_count bounds.now ≤ length counts.now) }
-    requires place { Place at (output out_sets out_words out_pos out_neg) (bucket_count bounds.now) 0 }
-    ensures { left result (output out_sets.exit out_words.exit out_pos.exit out_neg.exit)
+    requires place { Place at (output out_sets.old out_words.old out_pos.old out_neg.old) (bucket_count bounds.now) 0 }
+    ensures { left result (output out_sets.new out_words.new out_pos.new out_neg.new)
         ≡ point_put bounds.now (explicit_point head show sums) at row counts.now
-        (output out_sets.entry out_words.entry out_pos.entry out_neg.entry) }
+        (output out_sets.old out_words.old out_pos.old out_neg.old) }
 {
     let p = whole_point::explicit_point(head, show, sums);
     let b = Span {
@@ -131,10 +131,10 @@ fn put_fresh(
     out_neg: &mut [u64],
 ) -> Cursor
     requires bounds_value { bounds_pass bounds.now ≡ true }
-    requires place { Place at (output out_sets out_words out_pos out_neg) (bucket_count bounds.now) 0 }
-    ensures { left result (output out_sets.exit out_words.exit out_pos.exit out_neg.exit)
+    requires place { Place at (output out_sets.old out_words.old out_pos.old out_neg.old) (bucket_count bounds.now) 0 }
+    ensures { left result (output out_sets.new out_words.new out_pos.new out_neg.new)
         ≡ point_put bounds.now (explicit_point fresh_head show sums) at row (replicate (bucket_count bounds.now) 0)
-        (output out_sets.entry out_words.entry out_pos.entry out_neg.entry) }
+        (output out_sets.old out_words.old out_pos.old out_neg.old) }
 {
     let zeros: [u64; 160] = [0; 160];
     let head = Head {
@@ -176,12 +176,12 @@ pub fn put(
     out_pos: &mut [u64],
     out_neg: &mut [u64],
 ) -> Cursor
-    requires sound { Sound (explicit_whole_lister bounds.now sums) show updated (cells totals extremes counts) x }
-    requires free { due ≡ true → Free (explicit_whole_lister bounds.now sums) show updated (cells totals extremes counts) x at
-        (output out_sets out_words out_pos out_neg) }
-    ensures { left result (output out_sets.exit out_words.exit out_pos.exit out_neg.exit)
-        ≡ put_slot (explicit_whole_lister bounds.now sums) show updated due (cells totals.entry extremes.entry counts.entry) x row at
-        (output out_sets.entry out_words.entry out_pos.entry out_neg.entry) }
+    requires sound { Sound (explicit_whole_lister bounds.now sums) show updated (cells totals.now extremes.now counts.now) x }
+    requires free { due ≡ true → Free (explicit_whole_lister bounds.now sums) show updated (cells totals.now extremes.now counts.now) x at
+        (output out_sets.old out_words.old out_pos.old out_neg.old) }
+    ensures { left result (output out_sets.new out_words.new out_pos.new out_neg.new)
+        ≡ put_slot (explicit_whole_lister bounds.now sums) show updated due (cells totals.now extremes.now counts.now) x row at
+        (output out_sets.old out_words.old out_pos.old out_neg.old) }
 {
     if !due {
         return at;

@@ -22,11 +22,11 @@ pub fn survey(
     totals: &[u64],
     counts: &[u64],
 ) -> Survey
-    requires walk { Walk (explicit_wholes bounds.now true) (walked used [] entries.now order.now (counting totals counts)) }
+    requires walk { Walk (explicit_wholes bounds.now true) (walked used [] entries.now order.now (counting totals.now counts.now)) }
     requires all_known { AllKnown (explicit_wholes bounds.now true) true known
-        (walked used [] entries.now order.now (counting totals counts)) }
+        (walked used [] entries.now order.now (counting totals.now counts.now)) }
     ensures { result ≡ surveyed (explicit_whole_lister bounds.now true) true cumulative
-        (walked used [] entries.now order.now (counting totals.entry counts.entry)) }
+        (walked used [] entries.now order.now (counting totals.now counts.now)) }
 {
     let mut found = Survey {
         sound: true,
@@ -68,11 +68,11 @@ pub fn list(
     out_neg: &mut [u64],
 ) -> Cursor
     requires { Listable (explicit_whole_lister bounds.now sums) show cumulative
-        (walked used sets.now entries.now order.now (cells totals extremes counts)) (output out_sets out_words out_pos out_neg) }
-    ensures { left result (output out_sets.exit out_words.exit out_pos.exit out_neg.exit)
+        (walked used sets.now entries.now order.now (cells totals.now extremes.now counts.now)) (output out_sets.old out_words.old out_pos.old out_neg.old) }
+    ensures { left result (output out_sets.new out_words.new out_pos.new out_neg.new)
         ≡ listed_to (explicit_whole_lister bounds.now sums) show cumulative
-        (walked used sets.now entries.now order.now (cells totals.entry extremes.entry counts.entry))
-        (output out_sets.entry out_words.entry out_pos.entry out_neg.entry) }
+        (walked used sets.now entries.now order.now (cells totals.now extremes.now counts.now))
+        (output out_sets.old out_words.old out_pos.old out_neg.old) }
 {
     let mut at = Cursor {
         place: 0,

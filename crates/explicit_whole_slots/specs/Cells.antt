@@ -1,7 +1,6 @@
 -- The explicit kind's stores over i64: a series in one slot of them, and what recording a value into it leaves. As over f64 (explicit_slots),
 -- but for the store of the numbers. Assumes nothing.
 use Rattle.std.specs.Prelude.{ℕ, ◌+◌, ◌*◌, ◌≤◌, ◌<◌, Bool, List, [], ◌∷◌, ℤ, length, get_or, set, replicate, Float}
-use Rattle.std.specs.Borrow.{Bor}
 use Rattle.laws.specs.Pick.{pick}
 use Rattle.laws.specs.Over.{over}
 use Rattle.laws.specs.Said.{Said, refusal, success}
@@ -21,8 +20,8 @@ pub record Cells : Type 0 where
   pub extremes : List (List ℤ)
   pub counts : List ℕ
 
-abbrev pub cells : Bor (List ℕ) → Bor (List (List ℤ)) → Bor (List ℕ) → Cells
-cells totals extremes counts = record { totals = totals.now; extremes = extremes.now; counts = counts.now }
+abbrev pub cells : List ℕ → List (List ℤ) → List ℕ → Cells
+cells totals extremes counts = record { totals = totals; extremes = extremes; counts = counts }
 
 -- with n buckets, slot x has the counts from x * n up to x * n + n
 abbrev pub row_at : List Float → List ℕ → ℕ → List ℕ

@@ -86,8 +86,8 @@ pub fn record(
 ) -> u8
     requires { (x < length totals.old) × (x < length extremes.old)
         × (x * bucket_count bounds.now + bucket_count bounds.now ≤ length counts.old) }
-    ensures { after result (cells totals.exit extremes.exit counts.exit)
-        ≡ recorded_at bounds.now sums x updated (cells totals.entry extremes.entry counts.entry) v }
+    ensures { after result (cells totals.new extremes.new counts.new)
+        ≡ recorded_at bounds.now sums x updated (cells totals.old extremes.old counts.old) v }
 {
     let n = explicit::bucket_count(bounds);
     let a = x * n;

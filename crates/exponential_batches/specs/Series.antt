@@ -2,7 +2,6 @@
 -- A value recorded into a series that agrees, as the loop over many values sees it: a head by value and two lent rows. Assumes nothing.
 use Rattle.std.specs.Prelude.{ℕ, ◌≤◌, ◌≡◌, true, List, eqb, length, Float}
 use Rattle.std.specs.Float.Ieee.Scale.{finite}
-use Rattle.std.specs.Borrow.{Bor}
 use Rattle.laws.specs.Pick.{pick}
 use Rattle.laws.specs.Said.{number}
 use Rattle.laws.specs.Counting.{most_count}
@@ -13,8 +12,8 @@ use Rattle.exponential.specs.Series.{agrees, recording}
 use Rattle.exponential.specs.Inner.{Series, after}
 
 -- as a contract writes it: the head, and both lent rows
-abbrev pub series : Head → Bor (List ℕ) → Bor (List ℕ) → Series
-series h pos neg = record { head = h; pos = pos.now; neg = neg.now }
+abbrev pub series : Head → List ℕ → List ℕ → Series
+series h pos neg = record { head = h; pos = pos; neg = neg }
 
 -- a series that agrees, over rows that are long enough: neither 12 nor 8 comes up
 pub record Sound (size top : ℕ) (s : Series) : Type 0 where

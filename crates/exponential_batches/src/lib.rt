@@ -48,10 +48,10 @@ fn take(
     neg: &mut [u64],
     values: &[f64],
 ) -> Taken
-    requires { no ≡ 0 → Asked (exponential_store size top) (true, true) nan known x updated (cells figures extremes pos neg) values.now }
-    ensures { many result.taken result.no (cells figures.exit extremes.exit pos.exit neg.exit)
-        ≡ unless_stopped no (cells figures.entry extremes.entry pos.entry neg.entry)
-        (recorded_all (exponential_store size top) x updated (cells figures.entry extremes.entry pos.entry neg.entry) values.now) }
+    requires { no ≡ 0 → Asked (exponential_store size top) (true, true) nan known x updated (cells figures.old extremes.old pos.old neg.old) values.now }
+    ensures { many result.taken result.no (cells figures.new extremes.new pos.new neg.new)
+        ≡ unless_stopped no (cells figures.old extremes.old pos.old neg.old)
+        (recorded_all (exponential_store size top) x updated (cells figures.old extremes.old pos.old neg.old) values.now) }
 {
     if no != 0 {
         return Taken { taken: 0, no: no };
@@ -79,11 +79,11 @@ fn all_by(
     h: u64,
 ) -> Batch
     requires { known ≡ true → AgreedBy (exponential_store size top) (true, true) limit
-        (held d (stores sets entries order) (cells figures extremes pos neg)) h }
+        (held d (stores sets.old entries.old order.old) (cells figures.old extremes.old pos.old neg.old)) h }
     ensures { many result.taken result.no
-        (held result.dir (stores sets.exit entries.exit order.exit) (cells figures.exit extremes.exit pos.exit neg.exit))
+        (held result.dir (stores sets.new entries.new order.new) (cells figures.new extremes.new pos.new neg.new))
         ≡ measured_all_by (exponential_store size top) limit
-        (held d (stores sets.entry entries.entry order.entry) (cells figures.entry extremes.entry pos.entry neg.entry))
+        (held d (stores sets.old entries.old order.old) (cells figures.old extremes.old pos.old neg.old))
         values.now h }
 {
     if values.len() == 0 {
@@ -144,11 +144,11 @@ fn all(
     filter: &[u32],
 ) -> Batch
     requires { known ≡ true → AgreedFor (exponential_store size top) (true, true) limit (filter_of present filter.now)
-        (held d (stores sets entries order) (cells figures extremes pos neg)) (given attrs.now) }
+        (held d (stores sets.old entries.old order.old) (cells figures.old extremes.old pos.old neg.old)) (given attrs.now) }
     ensures { many result.taken result.no
-        (held result.dir (stores sets.exit entries.exit order.exit) (cells figures.exit extremes.exit pos.exit neg.exit))
+        (held result.dir (stores sets.new entries.new order.new) (cells figures.new extremes.new pos.new neg.new))
         ≡ measured_all (exponential_store size top) limit (filter_of present filter.now)
-        (held d (stores sets.entry entries.entry order.entry) (cells figures.entry extremes.entry pos.entry neg.entry))
+        (held d (stores sets.old entries.old order.old) (cells figures.old extremes.old pos.old neg.old))
         values.now (given attrs.now) }
 {
     if values.len() == 0 {
@@ -210,9 +210,9 @@ pub fn measure_all(
     filter: &[u32],
 ) -> Batch
     ensures { many result.taken result.no
-        (held result.dir (stores sets.exit entries.exit order.exit) (cells figures.exit extremes.exit pos.exit neg.exit))
+        (held result.dir (stores sets.new entries.new order.new) (cells figures.new extremes.new pos.new neg.new))
         ≡ measured_all (exponential_store size top) limit (filter_of present filter.now)
-        (held d (stores sets.entry entries.entry order.entry) (cells figures.entry extremes.entry pos.entry neg.entry))
+        (held d (stores sets.old entries.old order.old) (cells figures.old extremes.old pos.old neg.old))
         values.now (given attrs.now) }
 {
     all(
@@ -238,9 +238,9 @@ pub fn measure_all_by(
     h: u64,
 ) -> Batch
     ensures { many result.taken result.no
-        (held result.dir (stores sets.exit entries.exit order.exit) (cells figures.exit extremes.exit pos.exit neg.exit))
+        (held result.dir (stores sets.new entries.new order.new) (cells figures.new extremes.new pos.new neg.new))
         ≡ measured_all_by (exponential_store size top) limit
-        (held d (stores sets.entry entries.entry order.entry) (cells figures.entry extremes.entry pos.entry neg.entry))
+        (held d (stores sets.old entries.old order.old) (cells figures.old extremes.old pos.old neg.old))
         values.now h }
 {
     all_by(
@@ -267,11 +267,11 @@ pub fn measure_all_agreed(
     filter: &[u32],
 ) -> Batch
     requires { AgreedFor (exponential_store size top) (true, true) limit (filter_of present filter.now)
-        (held d (stores sets entries order) (cells figures extremes pos neg)) (given attrs.now) }
+        (held d (stores sets.old entries.old order.old) (cells figures.old extremes.old pos.old neg.old)) (given attrs.now) }
     ensures { many result.taken result.no
-        (held result.dir (stores sets.exit entries.exit order.exit) (cells figures.exit extremes.exit pos.exit neg.exit))
+        (held result.dir (stores sets.new entries.new order.new) (cells figures.new extremes.new pos.new neg.new))
         ≡ measured_all (exponential_store size top) limit (filter_of present filter.now)
-        (held d (stores sets.entry entries.entry order.entry) (cells figures.entry extremes.entry pos.entry neg.entry))
+        (held d (stores sets.old entries.old order.old) (cells figures.old extremes.old pos.old neg.old))
         values.now (given attrs.now) }
 {
     all(
@@ -297,11 +297,11 @@ pub fn measure_all_by_agreed(
     h: u64,
 ) -> Batch
     requires { AgreedBy (exponential_store size top) (true, true) limit
-        (held d (stores sets entries order) (cells figures extremes pos neg)) h }
+        (held d (stores sets.old entries.old order.old) (cells figures.old extremes.old pos.old neg.old)) h }
     ensures { many result.taken result.no
-        (held result.dir (stores sets.exit entries.exit order.exit) (cells figures.exit extremes.exit pos.exit neg.exit))
+        (held result.dir (stores sets.new entries.new order.new) (cells figures.new extremes.new pos.new neg.new))
         ≡ measured_all_by (exponential_store size top) limit
-        (held d (stores sets.entry entries.entry order.entry) (cells figures.entry extremes.entry pos.entry neg.entry))
+        (held d (stores sets.old entries.old order.old) (cells figures.old extremes.old pos.old neg.old))
         values.now h }
 {
     all_by(
@@ -328,10 +328,10 @@ pub fn measure_agreed(
     filter: &[u32],
 ) -> Reply
     requires { AgreedFor (exponential_store size top) (true, true) limit (filter_of present filter.now)
-        (held d (stores sets entries order) (cells figures extremes pos neg)) (given attrs.now) }
-    ensures { gave result (stores sets.exit entries.exit order.exit) (cells figures.exit extremes.exit pos.exit neg.exit)
+        (held d (stores sets.old entries.old order.old) (cells figures.old extremes.old pos.old neg.old)) (given attrs.now) }
+    ensures { gave result (stores sets.new entries.new order.new) (cells figures.new extremes.new pos.new neg.new)
         ≡ measured (exponential_store size top) limit (filter_of present filter.now)
-        (held d (stores sets.entry entries.entry order.entry) (cells figures.entry extremes.entry pos.entry neg.entry))
+        (held d (stores sets.old entries.old order.old) (cells figures.old extremes.old pos.old neg.old))
         v (given attrs.now) }
 {
     let one: [f64; 1] = [v];
@@ -359,10 +359,10 @@ pub fn measure_by_agreed(
     h: u64,
 ) -> Reply
     requires { AgreedBy (exponential_store size top) (true, true) limit
-        (held d (stores sets entries order) (cells figures extremes pos neg)) h }
-    ensures { gave result (stores sets.exit entries.exit order.exit) (cells figures.exit extremes.exit pos.exit neg.exit)
+        (held d (stores sets.old entries.old order.old) (cells figures.old extremes.old pos.old neg.old)) h }
+    ensures { gave result (stores sets.new entries.new order.new) (cells figures.new extremes.new pos.new neg.new)
         ≡ measured_by (exponential_store size top) limit
-        (held d (stores sets.entry entries.entry order.entry) (cells figures.entry extremes.entry pos.entry neg.entry))
+        (held d (stores sets.old entries.old order.old) (cells figures.old extremes.old pos.old neg.old))
         v h }
 {
     let one: [f64; 1] = [v];

@@ -18,7 +18,7 @@ pub struct Run {
 // One value more, where nothing refuses it: the head then.
 fn noted(size: u32, top: u32, head: Head, pos: &mut [u64], neg: &mut [u64], v: f64) -> Head
     requires { refusal_of size top head pos.old neg.old v ≡ 0 }
-    ensures { after 0 (series result pos.exit neg.exit) ≡ step size top (series head pos.entry neg.entry) v }
+    ensures { after 0 (series result pos.new neg.new) ≡ step size top (series head pos.old neg.old) v }
 {
     let next = exponential::count_in(size, top, head, pos, neg, v);
     let least = floats::lesser(head.min, v);
@@ -40,9 +40,9 @@ pub fn record_all(
     neg: &mut [u64],
     values: &[f64],
 ) -> Run
-    requires { Sound size top (series head pos neg) }
-    ensures { many result.taken result.no (series result.head pos.exit neg.exit)
-        ≡ each (step size top) (series head pos.entry neg.entry) values.now }
+    requires { Sound size top (series head pos.old neg.old) }
+    ensures { many result.taken result.no (series result.head pos.new neg.new)
+        ≡ each (step size top) (series head pos.old neg.old) values.now }
 {
     let mut h = head;
     let mut i: usize = 0;

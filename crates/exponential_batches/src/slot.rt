@@ -25,8 +25,8 @@ fn refusal(
     neg: &[u64],
     v: f64,
 ) -> u8
-    requires { Room size (cells figures extremes pos neg) x }
-    ensures { result ≡ pick known 0 (recorded_at size top x updated (cells figures.entry extremes.entry pos.entry neg.entry) v).no }
+    requires { Room size (cells figures.now extremes.now pos.now neg.now) x }
+    ensures { result ≡ pick known 0 (recorded_at size top x updated (cells figures.now extremes.now pos.now neg.now) v).no }
 {
     if known {
         return 0;
@@ -73,9 +73,9 @@ pub fn record_all(
     neg: &mut [u64],
     values: &[f64],
 ) -> Taken
-    requires { Asked (exponential_store size top) (true, true) nan known x updated (cells figures extremes pos neg) values.now }
-    ensures { many result.taken result.no (cells figures.exit extremes.exit pos.exit neg.exit)
-        ≡ recorded_all (exponential_store size top) x updated (cells figures.entry extremes.entry pos.entry neg.entry) values.now }
+    requires { Asked (exponential_store size top) (true, true) nan known x updated (cells figures.old extremes.old pos.old neg.old) values.now }
+    ensures { many result.taken result.no (cells figures.new extremes.new pos.new neg.new)
+        ≡ recorded_all (exponential_store size top) x updated (cells figures.old extremes.old pos.old neg.old) values.now }
 {
     let no = refusal(
         known, size, top, x, updated, figures, extremes, pos, neg, values[0],

@@ -24,11 +24,11 @@ pub fn survey(
     pos: &[u64],
     neg: &[u64],
 ) -> Survey
-    requires walk { Walk (exponential_store s.size s.top) (walked used [] entries.now order.now (cells figures extremes pos neg)) }
+    requires walk { Walk (exponential_store s.size s.top) (walked used [] entries.now order.now (cells figures.now extremes.now pos.now neg.now)) }
     requires all_known { AllKnown (exponential_store s.size s.top) (true, true) known
-        (walked used [] entries.now order.now (cells figures extremes pos neg)) }
+        (walked used [] entries.now order.now (cells figures.now extremes.now pos.now neg.now)) }
     ensures { result ≡ surveyed (exponential_lister s.size s.top) (true, true) cumulative
-        (walked used [] entries.now order.now (cells figures.entry extremes.entry pos.entry neg.entry)) }
+        (walked used [] entries.now order.now (cells figures.now extremes.now pos.now neg.now)) }
 {
     let size = s.size;
     let top = s.top;
@@ -73,11 +73,11 @@ pub fn list(
     out_neg: &mut [u64],
 ) -> Cursor
     requires { Listable (exponential_lister s.size s.top) (s.extremes, s.sums) cumulative
-        (walked used sets.now entries.now order.now (cells figures extremes pos neg)) (output out_sets out_words out_pos out_neg) }
-    ensures { left result (output out_sets.exit out_words.exit out_pos.exit out_neg.exit)
+        (walked used sets.now entries.now order.now (cells figures.now extremes.now pos.now neg.now)) (output out_sets.old out_words.old out_pos.old out_neg.old) }
+    ensures { left result (output out_sets.new out_words.new out_pos.new out_neg.new)
         ≡ listed_to (exponential_lister s.size s.top) (s.extremes, s.sums) cumulative
-        (walked used sets.now entries.now order.now (cells figures.entry extremes.entry pos.entry neg.entry))
-        (output out_sets.entry out_words.entry out_pos.entry out_neg.entry) }
+        (walked used sets.now entries.now order.now (cells figures.now extremes.now pos.now neg.now))
+        (output out_sets.old out_words.old out_pos.old out_neg.old) }
 {
     let size = s.size;
     let top = s.top;

@@ -1,7 +1,6 @@
 -- The exponential kind's stores: a series in one slot of them, and what recording a value into it leaves. Assumes nothing.
 use Rattle.std.specs.Prelude.{ℕ, ◌+◌, ◌*◌, ◌≤◌, ◌<◌, Bool, true, ◌&&◌, List, [], ◌∷◌, leb, length, get_or, set, Float}
 use Rattle.std.specs.Float.{nan}
-use Rattle.std.specs.Borrow.{Bor}
 use Rattle.laws.specs.Pick.{pick}
 use Rattle.laws.specs.Said.{Said, refusal, success}
 use Rattle.rows.specs.Parts.{part_at, put_at}
@@ -21,8 +20,8 @@ pub record Cells : Type 0 where
   pub neg : List ℕ
 
 -- as a contract writes them: the four lent slices, at entry or at exit
-abbrev pub cells : Bor (List (List ℕ)) → Bor (List (List Float)) → Bor (List ℕ) → Bor (List ℕ) → Cells
-cells figures extremes pos neg = record { figures = figures.now; extremes = extremes.now; pos = pos.now; neg = neg.now }
+abbrev pub cells : List (List ℕ) → List (List Float) → List ℕ → List ℕ → Cells
+cells figures extremes pos neg = record { figures = figures; extremes = extremes; pos = pos; neg = neg }
 
 -- slot x lies in the stores
 pub record Room (size : ℕ) (c : Cells) (x : ℕ) : Type 0 where

@@ -1,7 +1,6 @@
 -- BETWEEN OUR OWN CRATES: serves inner contracts and proofs; nobody needs it to believe the public calls or the theorems.
 -- A series over i64 as the code holds it, its head by value beside two lent rows, and one value more. Assumes nothing.
 use Rattle.std.specs.Prelude.{ℕ, ◌≤◌, ◌≡◌, Bool, true, List, ℤ, length}
-use Rattle.std.specs.Borrow.{Bor}
 use Rattle.laws.specs.Pick.{pick}
 use Rattle.laws.specs.Said.{Said, refusal, success, number}
 use Rattle.integers.specs.Answers.{in_range}
@@ -16,8 +15,8 @@ pub record Series : Type 0 where
   pub neg : List ℕ
 
 -- as a contract writes it
-abbrev pub series : Head → Bor (List ℕ) → Bor (List ℕ) → Series
-series h pos neg = record { head = h; pos = pos.now; neg = neg.now }
+abbrev pub series : Head → List ℕ → List ℕ → Series
+series h pos neg = record { head = h; pos = pos; neg = neg }
 
 -- a series that agrees, over rows that are long enough: 12 and 8 do not come up
 pub record Sound (size top : ℕ) (s : Series) : Type 0 where

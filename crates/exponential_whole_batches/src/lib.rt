@@ -39,10 +39,10 @@ fn take_all(
     neg: &mut [u64],
     values: &[i64],
 ) -> Taken
-    requires { no ≡ 0 → Asks known size top sums x updated (cells figures extremes pos neg) values.now }
-    ensures { many result.taken result.no (cells figures.exit extremes.exit pos.exit neg.exit)
-        ≡ unless_stopped no (cells figures.entry extremes.entry pos.entry neg.entry)
-        (recorded_all (exponential_wholes size top sums) x updated (cells figures.entry extremes.entry pos.entry neg.entry) values.now) }
+    requires { no ≡ 0 → Asks known size top sums x updated (cells figures.old extremes.old pos.old neg.old) values.now }
+    ensures { many result.taken result.no (cells figures.new extremes.new pos.new neg.new)
+        ≡ unless_stopped no (cells figures.old extremes.old pos.old neg.old)
+        (recorded_all (exponential_wholes size top sums) x updated (cells figures.old extremes.old pos.old neg.old) values.now) }
 {
     if no != 0 {
         return Taken { taken: 0, no };
@@ -73,10 +73,10 @@ fn all(
     filter: &[u32],
 ) -> Batch
     requires { known ≡ true → AgreedFor (exponential_wholes size top sums) true limit (filter_of present filter.now)
-        (held d (stores sets entries order) (cells figures extremes pos neg)) (given attrs.now) }
-    ensures { many result.taken result.no (held result.dir (stores sets.exit entries.exit order.exit) (cells figures.exit extremes.exit pos.exit neg.exit))
+        (held d (stores sets.old entries.old order.old) (cells figures.old extremes.old pos.old neg.old)) (given attrs.now) }
+    ensures { many result.taken result.no (held result.dir (stores sets.new entries.new order.new) (cells figures.new extremes.new pos.new neg.new))
         ≡ measured_all (exponential_wholes size top sums) limit (filter_of present filter.now)
-        (held d (stores sets.entry entries.entry order.entry) (cells figures.entry extremes.entry pos.entry neg.entry))
+        (held d (stores sets.old entries.old order.old) (cells figures.old extremes.old pos.old neg.old))
         values.now (given attrs.now) }
 {
     if values.len() == 0 {
@@ -131,10 +131,10 @@ fn all_by(
     values: &[i64],
     h: u64,
 ) -> Batch
-    requires { known ≡ true → AgreedBy (exponential_wholes size top sums) true limit (held d (stores sets entries order) (cells figures extremes pos neg)) h }
-    ensures { many result.taken result.no (held result.dir (stores sets.exit entries.exit order.exit) (cells figures.exit extremes.exit pos.exit neg.exit))
+    requires { known ≡ true → AgreedBy (exponential_wholes size top sums) true limit (held d (stores sets.old entries.old order.old) (cells figures.old extremes.old pos.old neg.old)) h }
+    ensures { many result.taken result.no (held result.dir (stores sets.new entries.new order.new) (cells figures.new extremes.new pos.new neg.new))
         ≡ measured_all_by (exponential_wholes size top sums) limit
-        (held d (stores sets.entry entries.entry order.entry) (cells figures.entry extremes.entry pos.entry neg.entry))
+        (held d (stores sets.old entries.old order.old) (cells figures.old extremes.old pos.old neg.old))
         values.now h }
 {
     if values.len() == 0 {
@@ -188,9 +188,9 @@ pub fn measure_all(
     present: bool,
     filter: &[u32],
 ) -> Batch
-    ensures { many result.taken result.no (held result.dir (stores sets.exit entries.exit order.exit) (cells figures.exit extremes.exit pos.exit neg.exit))
+    ensures { many result.taken result.no (held result.dir (stores sets.new entries.new order.new) (cells figures.new extremes.new pos.new neg.new))
         ≡ measured_all (exponential_wholes size top sums) limit (filter_of present filter.now)
-        (held d (stores sets.entry entries.entry order.entry) (cells figures.entry extremes.entry pos.entry neg.entry))
+        (held d (stores sets.old entries.old order.old) (cells figures.old extremes.old pos.old neg.old))
         values.now (given attrs.now) }
 {
     all(
@@ -216,9 +216,9 @@ pub fn measure_all_by(
     values: &[i64],
     h: u64,
 ) -> Batch
-    ensures { many result.taken result.no (held result.dir (stores sets.exit entries.exit order.exit) (cells figures.exit extremes.exit pos.exit neg.exit))
+    ensures { many result.taken result.no (held result.dir (stores sets.new entries.new order.new) (cells figures.new extremes.new pos.new neg.new))
         ≡ measured_all_by (exponential_wholes size top sums) limit
-        (held d (stores sets.entry entries.entry order.entry) (cells figures.entry extremes.entry pos.entry neg.entry))
+        (held d (stores sets.old entries.old order.old) (cells figures.old extremes.old pos.old neg.old))
         values.now h }
 {
     all_by(
@@ -247,10 +247,10 @@ pub fn measure_all_agreed(
     filter: &[u32],
 ) -> Batch
     requires { AgreedFor (exponential_wholes size top sums) true limit (filter_of present filter.now)
-        (held d (stores sets entries order) (cells figures extremes pos neg)) (given attrs.now) }
-    ensures { many result.taken result.no (held result.dir (stores sets.exit entries.exit order.exit) (cells figures.exit extremes.exit pos.exit neg.exit))
+        (held d (stores sets.old entries.old order.old) (cells figures.old extremes.old pos.old neg.old)) (given attrs.now) }
+    ensures { many result.taken result.no (held result.dir (stores sets.new entries.new order.new) (cells figures.new extremes.new pos.new neg.new))
         ≡ measured_all (exponential_wholes size top sums) limit (filter_of present filter.now)
-        (held d (stores sets.entry entries.entry order.entry) (cells figures.entry extremes.entry pos.entry neg.entry))
+        (held d (stores sets.old entries.old order.old) (cells figures.old extremes.old pos.old neg.old))
         values.now (given attrs.now) }
 {
     all(
@@ -276,10 +276,10 @@ pub fn measure_all_by_agreed(
     values: &[i64],
     h: u64,
 ) -> Batch
-    requires { AgreedBy (exponential_wholes size top sums) true limit (held d (stores sets entries order) (cells figures extremes pos neg)) h }
-    ensures { many result.taken result.no (held result.dir (stores sets.exit entries.exit order.exit) (cells figures.exit extremes.exit pos.exit neg.exit))
+    requires { AgreedBy (exponential_wholes size top sums) true limit (held d (stores sets.old entries.old order.old) (cells figures.old extremes.old pos.old neg.old)) h }
+    ensures { many result.taken result.no (held result.dir (stores sets.new entries.new order.new) (cells figures.new extremes.new pos.new neg.new))
         ≡ measured_all_by (exponential_wholes size top sums) limit
-        (held d (stores sets.entry entries.entry order.entry) (cells figures.entry extremes.entry pos.entry neg.entry))
+        (held d (stores sets.old entries.old order.old) (cells figures.old extremes.old pos.old neg.old))
         values.now h }
 {
     all_by(
@@ -308,10 +308,10 @@ pub fn measure_agreed(
     filter: &[u32],
 ) -> Reply
     requires { AgreedFor (exponential_wholes size top sums) true limit (filter_of present filter.now)
-        (held d (stores sets entries order) (cells figures extremes pos neg)) (given attrs.now) }
-    ensures { gave result (stores sets.exit entries.exit order.exit) (cells figures.exit extremes.exit pos.exit neg.exit)
+        (held d (stores sets.old entries.old order.old) (cells figures.old extremes.old pos.old neg.old)) (given attrs.now) }
+    ensures { gave result (stores sets.new entries.new order.new) (cells figures.new extremes.new pos.new neg.new)
         ≡ measured (exponential_wholes size top sums) limit (filter_of present filter.now)
-        (held d (stores sets.entry entries.entry order.entry) (cells figures.entry extremes.entry pos.entry neg.entry))
+        (held d (stores sets.old entries.old order.old) (cells figures.old extremes.old pos.old neg.old))
         v (given attrs.now) }
 {
     let one: [i64; 1] = [v];
@@ -339,10 +339,10 @@ pub fn measure_by_agreed(
     v: i64,
     h: u64,
 ) -> Reply
-    requires { AgreedBy (exponential_wholes size top sums) true limit (held d (stores sets entries order) (cells figures extremes pos neg)) h }
-    ensures { gave result (stores sets.exit entries.exit order.exit) (cells figures.exit extremes.exit pos.exit neg.exit)
+    requires { AgreedBy (exponential_wholes size top sums) true limit (held d (stores sets.old entries.old order.old) (cells figures.old extremes.old pos.old neg.old)) h }
+    ensures { gave result (stores sets.new entries.new order.new) (cells figures.new extremes.new pos.new neg.new)
         ≡ measured_by (exponential_wholes size top sums) limit
-        (held d (stores sets.entry entries.entry order.entry) (cells figures.entry extremes.entry pos.entry neg.entry))
+        (held d (stores sets.old entries.old order.old) (cells figures.old extremes.old pos.old neg.old))
         v h }
 {
     let one: [i64; 1] = [v];

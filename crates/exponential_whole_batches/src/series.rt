@@ -46,8 +46,8 @@ fn next(
     neg: &mut [u64],
     v: i64,
 ) -> Step
-    requires { Sound size top (series head pos neg) }
-    ensures { after result.no (series result.head pos.exit neg.exit) ≡ step size top sums (series head pos.entry neg.entry) v }
+    requires { Sound size top (series head pos.old neg.old) }
+    ensures { after result.no (series result.head pos.new neg.new) ≡ step size top sums (series head pos.old neg.old) v }
 {
     let c = head.counts;
     if c.count == u64::MAX {
@@ -85,9 +85,9 @@ pub fn record_all(
     neg: &mut [u64],
     values: &[i64],
 ) -> Run
-    requires { Sound size top (series head pos neg) }
-    ensures { many result.taken result.no (series result.head pos.exit neg.exit)
-        ≡ each (step size top sums) (series head pos.entry neg.entry) values.now }
+    requires { Sound size top (series head pos.old neg.old) }
+    ensures { many result.taken result.no (series result.head pos.new neg.new)
+        ≡ each (step size top sums) (series head pos.old neg.old) values.now }
 {
     let mut h = head;
     let mut i: usize = 0;

@@ -71,9 +71,9 @@ pub fn record_all(
     neg: &mut [u64],
     values: &[i64],
 ) -> Taken
-    requires { Asks known size top sums x updated (cells figures extremes pos neg) values.now }
-    ensures { many result.taken result.no (cells figures.exit extremes.exit pos.exit neg.exit)
-        ≡ recorded_all (exponential_wholes size top sums) x updated (cells figures.entry extremes.entry pos.entry neg.entry) values.now }
+    requires { Asks known size top sums x updated (cells figures.old extremes.old pos.old neg.old) values.now }
+    ensures { many result.taken result.no (cells figures.new extremes.new pos.new neg.new)
+        ≡ recorded_all (exponential_wholes size top sums) x updated (cells figures.old extremes.old pos.old neg.old) values.now }
 {
     let f = figures[x];
     let n = size as usize;

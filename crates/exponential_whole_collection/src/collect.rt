@@ -33,10 +33,10 @@ fn number(
     out_neg: &[u64],
 ) -> u8
     requires { known ≡ true → Owned (exponential_wholes s.size s.top s.sums) s.extremes s.limit none
-        (held d (stores sets entries order) (cells figures extremes pos neg)) }
+        (held d (stores sets.now entries.now order.now) (cells figures.now extremes.now pos.now neg.now)) }
     ensures { result ≡ uncollected (exponential_whole_lister s.size s.top s.sums) s.extremes cumulative s.limit
-        (held d (stores sets.entry entries.entry order.entry) (cells figures.entry extremes.entry pos.entry neg.entry))
-        (output out_sets.entry out_words.entry out_pos.entry out_neg.entry) }
+        (held d (stores sets.now entries.now order.now) (cells figures.now extremes.now pos.now neg.now))
+        (output out_sets.now out_words.now out_pos.now out_neg.now) }
 {
     let size = s.size;
     let limit = s.limit;
@@ -83,13 +83,13 @@ pub fn delta(
     out_neg: &mut [u64],
 ) -> Reply
     requires { known ≡ true → Owned (exponential_wholes s.size s.top s.sums) s.extremes s.limit none
-        (held d (stores sets entries order) (cells figures extremes pos neg)) }
-    ensures { gave result.answer (held result.dir (stores sets.exit entries.exit order.exit)
-        (cells figures.entry extremes.entry pos.entry neg.entry))
-        (output out_sets.exit out_words.exit out_pos.exit out_neg.exit)
+        (held d (stores sets.old entries.old order.old) (cells figures.now extremes.now pos.now neg.now)) }
+    ensures { gave result.answer (held result.dir (stores sets.new entries.new order.new)
+        (cells figures.now extremes.now pos.now neg.now))
+        (output out_sets.new out_words.new out_pos.new out_neg.new)
         ≡ delta_collected (exponential_whole_lister s.size s.top s.sums) s.extremes s.limit
-        (held d (stores sets.entry entries.entry order.entry) (cells figures.entry extremes.entry pos.entry neg.entry))
-        (output out_sets.entry out_words.entry out_pos.entry out_neg.entry) }
+        (held d (stores sets.old entries.old order.old) (cells figures.now extremes.now pos.now neg.now))
+        (output out_sets.old out_words.old out_pos.old out_neg.old) }
 {
     let no = number(
         known, false, s, d, sets, entries, order, figures, extremes, pos, neg, out_sets, out_words,
@@ -130,13 +130,13 @@ pub fn cumulative(
     out_neg: &mut [u64],
 ) -> Answer
     requires { known ≡ true → Owned (exponential_wholes s.size s.top s.sums) s.extremes s.limit none
-        (held d (stores sets entries order) (cells figures extremes pos neg)) }
+        (held d (stores sets.now entries.now order.now) (cells figures.now extremes.now pos.now neg.now)) }
     ensures { gave result
-        (held d (stores sets.entry entries.entry order.entry) (cells figures.entry extremes.entry pos.entry neg.entry))
-        (output out_sets.exit out_words.exit out_pos.exit out_neg.exit)
+        (held d (stores sets.now entries.now order.now) (cells figures.now extremes.now pos.now neg.now))
+        (output out_sets.new out_words.new out_pos.new out_neg.new)
         ≡ cumulative_collected (exponential_whole_lister s.size s.top s.sums) s.extremes s.limit
-        (held d (stores sets.entry entries.entry order.entry) (cells figures.entry extremes.entry pos.entry neg.entry))
-        (output out_sets.entry out_words.entry out_pos.entry out_neg.entry) }
+        (held d (stores sets.now entries.now order.now) (cells figures.now extremes.now pos.now neg.now))
+        (output out_sets.old out_words.old out_pos.old out_neg.old) }
 {
     let no = number(
         known, true, s, d, sets, entries, order, figures, extremes, pos, neg, out_sets, out_words,

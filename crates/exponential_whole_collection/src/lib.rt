@@ -42,9 +42,9 @@ pub fn configure(
     pos: &[u64],
     neg: &[u64],
 ) -> Configured
-    ensures { configuring (said result) (stores sets.entry entries.exit order.entry)
+    ensures { configuring (said result) (stores sets.now entries.new order.now)
         ≡ configured size scale show sums limit (filter_of present filter.now)
-        (stores sets.entry entries.entry order.entry) (cells figures.entry extremes.entry pos.entry neg.entry) }
+        (stores sets.now entries.old order.now) (cells figures.now extremes.now pos.now neg.now) }
 {
     let found = index::signed::level_of(scale);
     let top = exponential_collection::level_or(found);
@@ -78,12 +78,12 @@ pub fn delta(
     out_pos: &mut [u64],
     out_neg: &mut [u64],
 ) -> Reply
-    ensures { gave result.answer (held result.dir (stores sets.exit entries.exit order.exit)
-        (cells figures.entry extremes.entry pos.entry neg.entry))
-        (output out_sets.exit out_words.exit out_pos.exit out_neg.exit)
+    ensures { gave result.answer (held result.dir (stores sets.new entries.new order.new)
+        (cells figures.now extremes.now pos.now neg.now))
+        (output out_sets.new out_words.new out_pos.new out_neg.new)
         ≡ delta_collected (exponential_whole_lister s.size s.top s.sums) s.extremes s.limit
-        (held d (stores sets.entry entries.entry order.entry) (cells figures.entry extremes.entry pos.entry neg.entry))
-        (output out_sets.entry out_words.entry out_pos.entry out_neg.entry) }
+        (held d (stores sets.old entries.old order.old) (cells figures.now extremes.now pos.now neg.now))
+        (output out_sets.old out_words.old out_pos.old out_neg.old) }
 {
     crate::collect::delta(
         false, s, d, sets, entries, order, figures, extremes, pos, neg, out_sets, out_words,
@@ -108,13 +108,13 @@ pub fn delta_agreed(
     out_neg: &mut [u64],
 ) -> Reply
     requires { Owned (exponential_wholes s.size s.top s.sums) s.extremes s.limit none
-        (held d (stores sets entries order) (cells figures extremes pos neg)) }
-    ensures { gave result.answer (held result.dir (stores sets.exit entries.exit order.exit)
-        (cells figures.entry extremes.entry pos.entry neg.entry))
-        (output out_sets.exit out_words.exit out_pos.exit out_neg.exit)
+        (held d (stores sets.old entries.old order.old) (cells figures.now extremes.now pos.now neg.now)) }
+    ensures { gave result.answer (held result.dir (stores sets.new entries.new order.new)
+        (cells figures.now extremes.now pos.now neg.now))
+        (output out_sets.new out_words.new out_pos.new out_neg.new)
         ≡ delta_collected (exponential_whole_lister s.size s.top s.sums) s.extremes s.limit
-        (held d (stores sets.entry entries.entry order.entry) (cells figures.entry extremes.entry pos.entry neg.entry))
-        (output out_sets.entry out_words.entry out_pos.entry out_neg.entry) }
+        (held d (stores sets.old entries.old order.old) (cells figures.now extremes.now pos.now neg.now))
+        (output out_sets.old out_words.old out_pos.old out_neg.old) }
 {
     crate::collect::delta(
         true, s, d, sets, entries, order, figures, extremes, pos, neg, out_sets, out_words,
@@ -139,11 +139,11 @@ pub fn cumulative(
     out_neg: &mut [u64],
 ) -> Answer
     ensures { gave result
-        (held d (stores sets.entry entries.entry order.entry) (cells figures.entry extremes.entry pos.entry neg.entry))
-        (output out_sets.exit out_words.exit out_pos.exit out_neg.exit)
+        (held d (stores sets.now entries.now order.now) (cells figures.now extremes.now pos.now neg.now))
+        (output out_sets.new out_words.new out_pos.new out_neg.new)
         ≡ cumulative_collected (exponential_whole_lister s.size s.top s.sums) s.extremes s.limit
-        (held d (stores sets.entry entries.entry order.entry) (cells figures.entry extremes.entry pos.entry neg.entry))
-        (output out_sets.entry out_words.entry out_pos.entry out_neg.entry) }
+        (held d (stores sets.now entries.now order.now) (cells figures.now extremes.now pos.now neg.now))
+        (output out_sets.old out_words.old out_pos.old out_neg.old) }
 {
     crate::collect::cumulative(
         false, s, d, sets, entries, order, figures, extremes, pos, neg, out_sets, out_words,
@@ -168,13 +168,13 @@ pub fn cumulative_agreed(
     out_neg: &mut [u64],
 ) -> Answer
     requires { Owned (exponential_wholes s.size s.top s.sums) s.extremes s.limit none
-        (held d (stores sets entries order) (cells figures extremes pos neg)) }
+        (held d (stores sets.now entries.now order.now) (cells figures.now extremes.now pos.now neg.now)) }
     ensures { gave result
-        (held d (stores sets.entry entries.entry order.entry) (cells figures.entry extremes.entry pos.entry neg.entry))
-        (output out_sets.exit out_words.exit out_pos.exit out_neg.exit)
+        (held d (stores sets.now entries.now order.now) (cells figures.now extremes.now pos.now neg.now))
+        (output out_sets.new out_words.new out_pos.new out_neg.new)
         ≡ cumulative_collected (exponential_whole_lister s.size s.top s.sums) s.extremes s.limit
-        (held d (stores sets.entry entries.entry order.entry) (cells figures.entry extremes.entry pos.entry neg.entry))
-        (output out_sets.entry out_words.entry out_pos.entry out_neg.entry) }
+        (held d (stores sets.now entries.now order.now) (cells figures.now extremes.now pos.now neg.now))
+        (output out_sets.old out_words.old out_pos.old out_neg.old) }
 {
     crate::collect::cumulative(
         true, s, d, sets, entries, order, figures, extremes, pos, neg, out_sets, out_words,

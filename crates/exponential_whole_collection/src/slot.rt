@@ -23,9 +23,9 @@ fn agrees_at(
     pos: &[u64],
     neg: &[u64],
 ) -> bool
-    requires { (unset size top ≡ 0) × Room size (cells figures extremes pos neg) x }
+    requires { (unset size top ≡ 0) × Room size (cells figures.now extremes.now pos.now neg.now) x }
     ensures { result ≡ wholes.agrees (settings size top true true)
-        (series_at size (cells figures.entry extremes.entry pos.entry neg.entry) x) }
+        (series_at size (cells figures.now extremes.now pos.now neg.now) x) }
 {
     let f = figures[x];
     if !exponential_slots::can_read(true, f) {
@@ -51,10 +51,10 @@ fn is_sound(
     pos: &[u64],
     neg: &[u64],
 ) -> bool
-    requires top_value { (unset size top ≡ 0) × Room size (cells figures extremes pos neg) x }
-    requires known { Known (exponential_wholes size top true) true known x updated (cells figures extremes pos neg) }
+    requires top_value { (unset size top ≡ 0) × Room size (cells figures.now extremes.now pos.now neg.now) x }
+    requires known { Known (exponential_wholes size top true) true known x updated (cells figures.now extremes.now pos.now neg.now) }
     ensures { result ≡ (not updated || wholes.agrees (settings size top true true)
-        (series_at size (cells figures.entry extremes.entry pos.entry neg.entry) x)) }
+        (series_at size (cells figures.now extremes.now pos.now neg.now) x)) }
 {
     if known {
         return true;
@@ -79,10 +79,10 @@ pub fn survey(
     pos: &[u64],
     neg: &[u64],
 ) -> Survey
-    requires top_value { (unset size top ≡ 0) × Room size (cells figures extremes pos neg) x }
-    requires few { Few s × Known (exponential_wholes size top true) true known x updated (cells figures extremes pos neg) }
+    requires top_value { (unset size top ≡ 0) × Room size (cells figures.now extremes.now pos.now neg.now) x }
+    requires few { Few s × Known (exponential_wholes size top true) true known x updated (cells figures.now extremes.now pos.now neg.now) }
     ensures value { result ≡ surveyed_at (exponential_whole_lister size top true) true updated due
-        (cells figures.entry extremes.entry pos.entry neg.entry) s x }
+        (cells figures.now extremes.now pos.now neg.now) s x }
     ensures more { More s result }
 {
     if !is_sound(known, size, top, x, updated, figures, extremes, pos, neg) {
@@ -119,12 +119,12 @@ pub fn put(
     out_pos: &mut [u64],
     out_neg: &mut [u64],
 ) -> Cursor
-    requires sound { Sound (exponential_whole_lister size top sums) show updated (cells figures extremes pos neg) x }
-    requires free { due ≡ true → Free (exponential_whole_lister size top sums) show updated (cells figures extremes pos neg) x at
-        (output out_sets out_words out_pos out_neg) }
-    ensures { left result (output out_sets.exit out_words.exit out_pos.exit out_neg.exit)
-        ≡ put_slot (exponential_whole_lister size top sums) show updated due (cells figures.entry extremes.entry pos.entry neg.entry) x row at
-        (output out_sets.entry out_words.entry out_pos.entry out_neg.entry) }
+    requires sound { Sound (exponential_whole_lister size top sums) show updated (cells figures.now extremes.now pos.now neg.now) x }
+    requires free { due ≡ true → Free (exponential_whole_lister size top sums) show updated (cells figures.now extremes.now pos.now neg.now) x at
+        (output out_sets.old out_words.old out_pos.old out_neg.old) }
+    ensures { left result (output out_sets.new out_words.new out_pos.new out_neg.new)
+        ≡ put_slot (exponential_whole_lister size top sums) show updated due (cells figures.now extremes.now pos.now neg.now) x row at
+        (output out_sets.old out_words.old out_pos.old out_neg.old) }
 {
     if !due {
         return at;

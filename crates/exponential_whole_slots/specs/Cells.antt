@@ -1,7 +1,6 @@
 -- The exponential kind's stores over i64: a series in one slot of them, what it means, and what recording a value into it leaves. As over f64
 -- (exponential_slots), but for the store of the numbers. Assumes nothing.
 use Rattle.std.specs.Prelude.{ℕ, ◌+◌, ◌*◌, ◌≤◌, ◌<◌, Bool, List, [], ◌∷◌, ℤ, length, get_or, set}
-use Rattle.std.specs.Borrow.{Bor}
 use Rattle.laws.specs.Pick.{pick}
 use Rattle.laws.specs.Said.{Said, refusal, success}
 use Rattle.rows.specs.Parts.{part_at, put_at}
@@ -23,8 +22,8 @@ pub record Cells : Type 0 where
   pub neg : List ℕ
 
 -- as a contract writes them: the four lent slices, at entry or at exit
-abbrev pub cells : Bor (List (List ℕ)) → Bor (List (List ℤ)) → Bor (List ℕ) → Bor (List ℕ) → Cells
-cells figures extremes pos neg = record { figures = figures.now; extremes = extremes.now; pos = pos.now; neg = neg.now }
+abbrev pub cells : List (List ℕ) → List (List ℤ) → List ℕ → List ℕ → Cells
+cells figures extremes pos neg = record { figures = figures; extremes = extremes; pos = pos; neg = neg }
 
 -- slot x lies in the stores
 pub record Room (size : ℕ) (c : Cells) (x : ℕ) : Type 0 where

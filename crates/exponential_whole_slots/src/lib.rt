@@ -70,8 +70,8 @@ pub fn record(
 ) -> u8
     requires { (x < length figures.old) × (x < length extremes.old)
         × (x * size + size ≤ length pos.old) × (x * size + size ≤ length neg.old) }
-    ensures { after result (cells figures.exit extremes.exit pos.exit neg.exit)
-        ≡ recorded_at size top sums x updated (cells figures.entry extremes.entry pos.entry neg.entry) v }
+    ensures { after result (cells figures.new extremes.new pos.new neg.new)
+        ≡ recorded_at size top sums x updated (cells figures.old extremes.old pos.old neg.old) v }
 {
     let f = figures[x];
     if !exponential_slots::can_read(updated, f) {

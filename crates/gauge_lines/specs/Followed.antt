@@ -5,7 +5,6 @@ use Rattle.std.specs.Prelude.{ℕ, Bool, true, false, List, [], ◌∷◌, take,
 use Rattle.std.proofs.Math.Option.{Option, none}
 use Rattle.std.specs.Float.{binary64}
 use Rattle.std.specs.Float.Ieee.{of_bits}
-use Rattle.std.specs.Borrow.{Bor}
 use Rattle.laws.specs.Pick.{pick}
 use Rattle.laws.specs.Said.{Said, refusal, success}
 use Rattle.text.specs.declared.numbers.Natural.{Natural}
@@ -122,7 +121,7 @@ pub record Followed : Type 0 where
   pub out : Output
 
 -- as a contract writes it
-abbrev pub followed : Collected → Bor (List ℕ) → Stores → Cells → Output → Followed
+abbrev pub followed : Collected → List ℕ → Stores → Cells → Output → Followed
 followed r text s c o =
     record { taken = r.taken; gauge = r.gauge; text = waiting r.text text; stores = s; cells = c; out = o }
 

@@ -50,10 +50,10 @@ pub fn start(
     pos: &Counts,
     neg: &Counts,
 ) -> Outcome
-    ensures { after result (stores sets.entry entries.exit order.entry)
-        (cells figures.entry extremes.entry pos.entry neg.entry)
-        ≡ after_start g line.now (stores sets.entry entries.entry order.entry)
-        (cells figures.entry extremes.entry pos.entry neg.entry) }
+    ensures { after result (stores sets.now entries.new order.now)
+        (cells figures.now extremes.now pos.now neg.now)
+        ≡ after_start g line.now (stores sets.now entries.old order.now)
+        (cells figures.now extremes.now pos.now neg.now) }
 {
     let Asked::Is(w) = crate::fields::settings_in(line) else {
         return refused(g);
@@ -107,10 +107,10 @@ pub fn record(
     pos: &mut Counts,
     neg: &mut Counts,
 ) -> Outcome
-    ensures { after result (stores sets.exit entries.exit order.exit)
-        (cells figures.exit extremes.exit pos.exit neg.exit)
-        ≡ after_record g line.now (stores sets.entry entries.entry order.entry)
-        (cells figures.entry extremes.entry pos.entry neg.entry) }
+    ensures { after result (stores sets.new entries.new order.new)
+        (cells figures.new extremes.new pos.new neg.new)
+        ≡ after_record g line.now (stores sets.old entries.old order.old)
+        (cells figures.old extremes.old pos.old neg.old) }
 {
     let mut attrs = [[0u32; 2]; 9];
     let Board::Is(bits, n) = crate::fields::board_in(line, &mut attrs) else {

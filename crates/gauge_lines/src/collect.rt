@@ -78,12 +78,12 @@ pub fn collect(
     out_pos: &mut Counts,
     out_neg: &mut Counts,
 ) -> Collected
-    ensures { followed result text.exit (stores sets.exit entries.exit order.exit)
-        (cells figures.entry extremes.entry pos.entry neg.entry)
-        (output out_sets.exit out_words.exit out_pos.exit out_neg.exit)
-        ≡ after_collect form g line.now (waiting n text.entry) (stores sets.entry entries.entry order.entry)
-        (cells figures.entry extremes.entry pos.entry neg.entry)
-        (output out_sets.entry out_words.entry out_pos.entry out_neg.entry) }
+    ensures { followed result text.new (stores sets.new entries.new order.new)
+        (cells figures.now extremes.now pos.now neg.now)
+        (output out_sets.new out_words.new out_pos.new out_neg.new)
+        ≡ after_collect form g line.now (waiting n text.old) (stores sets.old entries.old order.old)
+        (cells figures.now extremes.now pos.now neg.now)
+        (output out_sets.old out_words.old out_pos.old out_neg.old) }
 {
     let Natural::Is(time) = crate::fields::time_in(line) else {
         return refused(g, n);

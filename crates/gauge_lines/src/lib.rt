@@ -26,7 +26,7 @@ use std::io::{Stdin, Stdout};
 
 // What is said of a line: nothing where it was accepted. How much text there is then.
 fn said(out: &Stdout, taken: bool, number: u64, text: &mut Block, n: usize) -> usize
-    ensures { waiting result text.exit ≡ pick taken [] (unread_line number) behind waiting n text.entry }
+    ensures { waiting result text.new ≡ pick taken [] (unread_line number) behind waiting n text.old }
 {
     if taken {
         return n;
@@ -67,12 +67,12 @@ fn make(
     out_pos: &mut Counts,
     out_neg: &mut Counts,
 ) -> Collected
-    ensures { followed result text.exit (stores sets.exit entries.exit order.exit)
-        (cells_in figures.exit extremes.exit pos.exit neg.exit)
-        (output out_sets.exit out_words.exit out_pos.exit out_neg.exit)
-        ≡ after_call form g line.now over (waiting n text.entry) (stores sets.entry entries.entry order.entry)
-        (cells_in figures.entry extremes.entry pos.entry neg.entry)
-        (output out_sets.entry out_words.entry out_pos.entry out_neg.entry) }
+    ensures { followed result text.new (stores sets.new entries.new order.new)
+        (cells_in figures.new extremes.new pos.new neg.new)
+        (output out_sets.new out_words.new out_pos.new out_neg.new)
+        ≡ after_call form g line.now over (waiting n text.old) (stores sets.old entries.old order.old)
+        (cells_in figures.old extremes.old pos.old neg.old)
+        (output out_sets.old out_words.old out_pos.old out_neg.old) }
 {
     let call = fields::call_in(line, g.running, over);
     match call {
@@ -119,12 +119,12 @@ fn follow(
     out_pos: &mut Counts,
     out_neg: &mut Counts,
 ) -> Collected
-    ensures { followed result text.exit (stores sets.exit entries.exit order.exit)
-        (cells_in figures.exit extremes.exit pos.exit neg.exit)
-        (output out_sets.exit out_words.exit out_pos.exit out_neg.exit)
-        ≡ after_line form number g line.now over (waiting n text.entry) (stores sets.entry entries.entry order.entry)
-        (cells_in figures.entry extremes.entry pos.entry neg.entry)
-        (output out_sets.entry out_words.entry out_pos.entry out_neg.entry) }
+    ensures { followed result text.new (stores sets.new entries.new order.new)
+        (cells_in figures.new extremes.new pos.new neg.new)
+        (output out_sets.new out_words.new out_pos.new out_neg.new)
+        ≡ after_line form number g line.now over (waiting n text.old) (stores sets.old entries.old order.old)
+        (cells_in figures.old extremes.old pos.old neg.old)
+        (output out_sets.old out_words.old out_pos.old out_neg.old) }
 {
     let made = make(
         out, form, g, line, over, text, n, sets, entries, order, figures, extremes, pos, neg,

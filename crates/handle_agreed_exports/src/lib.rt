@@ -29,12 +29,12 @@ pub extern "C" fn agreed_measure_by(
     handle: u64,
 ) -> u64
     requires { AgreedBy (exponential_store size top) (true, true) limit (held (state_of (get_or state.old 0 []))
-        (stores sets entries order) (cells figures extremes pos neg)) handle }
-    ensures { handed result state.exit (stores sets.exit entries.exit order.exit)
-        (cells figures.exit extremes.exit pos.exit neg.exit)
+        (stores sets.old entries.old order.old) (cells figures.old extremes.old pos.old neg.old)) handle }
+    ensures { handed result state.new (stores sets.new entries.new order.new)
+        (cells figures.new extremes.new pos.new neg.new)
         ≡ handed_out state.old (measured_by (exponential_store size top) limit
-        (held (state_of (get_or state.old 0 [])) (stores sets.entry entries.entry order.entry)
-        (cells figures.entry extremes.entry pos.entry neg.entry)) v handle) }
+        (held (state_of (get_or state.old 0 [])) (stores sets.old entries.old order.old)
+        (cells figures.old extremes.old pos.old neg.old)) v handle) }
 {
     let d = map_words::state_of(state[0]);
     let reply = exponential_batches::measure_by_agreed(

@@ -25,10 +25,10 @@ pub extern "C" fn map_measure_by(
     v: f64,
     handle: u64,
 ) -> u64
-    ensures { handed result state.exit (stores sets.exit entries.exit order.exit) (cells figures.exit extremes.exit pos.exit neg.exit)
+    ensures { handed result state.new (stores sets.new entries.new order.new) (cells figures.new extremes.new pos.new neg.new)
         ≡ handed_out state.old (measured_by (exponential_store size top) limit
-        (held (state_of (get_or state.old 0 [])) (stores sets.entry entries.entry order.entry)
-        (cells figures.entry extremes.entry pos.entry neg.entry)) v handle) }
+        (held (state_of (get_or state.old 0 [])) (stores sets.old entries.old order.old)
+        (cells figures.old extremes.old pos.old neg.old)) v handle) }
 {
     let d = map_words::state_of(state[0]);
     let reply = value_map::exponential_map::measure_by(

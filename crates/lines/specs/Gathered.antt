@@ -1,6 +1,5 @@
 -- Text gathered in a block of 65536 bytes, which is written when it is full, and then begun anew. Assumes nothing.
 use Rattle.std.specs.Prelude.{ℕ, ◌+◌, List, [], ◌∷◌, ltb, set}
-use Rattle.std.specs.Borrow.{Bor}
 use Rattle.laws.specs.Pick.{pick}
 
 -- text that waits to be written: how many of a block's bytes, and the block
@@ -9,8 +8,8 @@ pub record Text : Type 0 where
   pub block : List ℕ
 
 -- as a contract writes it: n bytes wait in a lent block, at entry or at exit
-abbrev pub waiting : ℕ → Bor (List ℕ) → Text
-waiting n block = record { count = n; block = block.now }
+abbrev pub waiting : ℕ → List ℕ → Text
+waiting n block = record { count = n; block = block }
 
 -- where the next byte goes behind n that wait
 unfoldable pub place : ℕ → ℕ

@@ -81,7 +81,7 @@ fn decimal_digits(x: u64, digits: &mut [u8; 20]) -> usize
 
 // A number in decimal.
 pub fn decimal(out: &Stdout, text: &mut Block, n: usize, x: u64) -> usize
-    ensures { waiting result text.exit ≡ Written.decimal x behind waiting n text.entry }
+    ensures { waiting result text.new ≡ Written.decimal x behind waiting n text.old }
 {
     let mut digits = [0u8; 20];
     let from = decimal_digits(x, &mut digits);
@@ -90,7 +90,7 @@ pub fn decimal(out: &Stdout, text: &mut Block, n: usize, x: u64) -> usize
 
 // A signed number in decimal. The least has no i64 of the other sign: the next above it has.
 pub fn signed(out: &Stdout, text: &mut Block, n: usize, x: i64) -> usize
-    ensures { waiting result text.exit ≡ Written.signed x behind waiting n text.entry }
+    ensures { waiting result text.new ≡ Written.signed x behind waiting n text.old }
 {
     if x < 0 {
         let m = byte(out, text, n, b'-');
@@ -100,14 +100,14 @@ pub fn signed(out: &Stdout, text: &mut Block, n: usize, x: i64) -> usize
 }
 
 fn sixteen(out: &Stdout, text: &mut Block, n: usize, digits: &[u8; 16]) -> usize
-    ensures { waiting result text.exit ≡ digits.now behind waiting n text.entry }
+    ensures { waiting result text.new ≡ digits.now behind waiting n text.old }
 {
     bytes(out, text, n, digits)
 }
 
 // Bits as 16 hexadecimal digits.
 pub fn bits(out: &Stdout, text: &mut Block, n: usize, x: u64) -> usize
-    ensures { waiting result text.exit ≡ hex_digits 16 x behind waiting n text.entry }
+    ensures { waiting result text.new ≡ hex_digits 16 x behind waiting n text.old }
 {
     let digits = text::hex_digits(x);
     sixteen(out, text, n, &digits)

@@ -2,7 +2,6 @@
 -- docs/LIST.md tells it in words: one form for collections, merges and sheets.
 use Rattle.std.specs.Prelude.{ℕ, zero, suc, ◌+◌, ◌-◌, Bool, true, false, ◌&&◌, List, [], ◌∷◌, ◌++◌, leb, length, get_or, set, take, drop, Float}
 use Rattle.std.proofs.Math.Option.{Option, none, some, map}
-use Rattle.std.specs.Borrow.{Bor}
 use Rattle.laws.specs.Over.{over}
 use Rattle.laws.specs.Pick.{pick}
 use Rattle.tally.specs.Sets.{Set}
@@ -25,8 +24,8 @@ pub record Output : Type 0 where
   pub neg : List ℕ
 
 -- as a contract writes it: the four lent slices, at entry or at exit
-abbrev pub output : Bor (List (List ℕ)) → Bor (List (List ℕ)) → Bor (List ℕ) → Bor (List ℕ) → Output
-output sets words pos neg = record { sets = sets.now; words = words.now; pos = pos.now; neg = neg.now }
+abbrev pub output : List (List ℕ) → List (List ℕ) → List ℕ → List ℕ → Output
+output sets words pos neg = record { sets = sets; words = words; pos = pos; neg = neg }
 
 -- "No bounds, no buckets": the buckets of n bounds
 abbrev pub buckets_of : ℕ → ℕ

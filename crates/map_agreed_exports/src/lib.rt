@@ -31,12 +31,12 @@ pub extern "C" fn agreed_measure(
     attrs: &[[u32; 2]],
 ) -> u64
     requires { AgreedFor (exponential_store size top) (true, true) limit none (held (state_of (get_or state.old 0 []))
-        (stores sets entries order) (cells figures extremes pos neg)) (given attrs.now) }
-    ensures { handed result state.exit (stores sets.exit entries.exit order.exit)
-        (cells figures.exit extremes.exit pos.exit neg.exit)
+        (stores sets.old entries.old order.old) (cells figures.old extremes.old pos.old neg.old)) (given attrs.now) }
+    ensures { handed result state.new (stores sets.new entries.new order.new)
+        (cells figures.new extremes.new pos.new neg.new)
         ≡ handed_out state.old (measured (exponential_store size top) limit none
-        (held (state_of (get_or state.old 0 [])) (stores sets.entry entries.entry order.entry)
-        (cells figures.entry extremes.entry pos.entry neg.entry)) v (given attrs.now)) }
+        (held (state_of (get_or state.old 0 [])) (stores sets.old entries.old order.old)
+        (cells figures.old extremes.old pos.old neg.old)) v (given attrs.now)) }
 {
     let d = map_words::state_of(state[0]);
     let no_keys = [0u32; 1];

@@ -27,10 +27,10 @@ pub extern "C" fn map_measure(
     v: f64,
     attrs: &[[u32; 2]],
 ) -> u64
-    ensures { handed result state.exit (stores sets.exit entries.exit order.exit) (cells figures.exit extremes.exit pos.exit neg.exit)
+    ensures { handed result state.new (stores sets.new entries.new order.new) (cells figures.new extremes.new pos.new neg.new)
         ≡ handed_out state.old (measured (exponential_store size top) limit none
-        (held (state_of (get_or state.old 0 [])) (stores sets.entry entries.entry order.entry)
-        (cells figures.entry extremes.entry pos.entry neg.entry)) v (given attrs.now)) }
+        (held (state_of (get_or state.old 0 [])) (stores sets.old entries.old order.old)
+        (cells figures.old extremes.old pos.old neg.old)) v (given attrs.now)) }
 {
     let d = map_words::state_of(state[0]);
     let no_keys = [0u32; 1];

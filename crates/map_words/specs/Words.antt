@@ -1,7 +1,6 @@
 -- BETWEEN OUR OWN CRATES: serves inner contracts and proofs; nobody needs it to believe the public calls or the theorems.
 -- A call's outcome as it is handed to programs in other languages. Assumes nothing.
 use Rattle.std.specs.Prelude.{ℕ, List, [], ◌∷◌, get_or, set}
-use Rattle.std.specs.Borrow.{Bor}
 use Rattle.laws.specs.Said.{number}
 use Rattle.directory.specs.declared.Directory.{Directory}
 use Rattle.directory.specs.View.{Stores}
@@ -22,8 +21,8 @@ pub record Handed (Cells : Type 0) : Type 0 where
   pub cells : Cells
 
 -- as a contract writes it
-abbrev pub handed : {Cells : Type 0} → ℕ → Bor (List (List ℕ)) → Stores → Cells → Handed Cells
-handed n state s x = record { number = n; state = state.now; stores = s; cells = x }
+abbrev pub handed : {Cells : Type 0} → ℕ → List (List ℕ) → Stores → Cells → Handed Cells
+handed n state s x = record { number = n; state = state; stores = s; cells = x }
 
 abbrev pub handed_out : {Cells : Type 0} → List (List ℕ) → Outcome Cells → Handed Cells
 handed_out state o =

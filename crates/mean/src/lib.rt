@@ -139,7 +139,7 @@ fn mean_of(count: u64, sum: f64) -> Answer
 
 // The mean of a point with its bounds and rows, of either kind, in whole hundredths; or 8, 13, 14. Nothing is changed.
 pub fn hundredths(p: Point, bounds: &[f64], pos: &[u64], neg: &[u64]) -> Answer
-    ensures { said result ≡ mean_in (stored p bounds.entry pos.entry neg.entry) }
+    ensures { said result ≡ mean_in (stored p bounds.now pos.now neg.now) }
 {
     let f = p.figures;
     if !point::agrees_alone(p, bounds, pos, neg) {
@@ -150,7 +150,7 @@ pub fn hundredths(p: Point, bounds: &[f64], pos: &[u64], neg: &[u64]) -> Answer
 
 // The same of a point of i64 values, which has no card (request L6): 8 where it disagrees with itself, else 11. Nothing is changed.
 pub fn whole_hundredths(p: whole_point::Point, bounds: &[f64], pos: &[u64], neg: &[u64]) -> Answer
-    ensures { said result ≡ whole_mean_in (W.stored p bounds.entry pos.entry neg.entry) }
+    ensures { said result ≡ whole_mean_in (W.stored p bounds.now pos.now neg.now) }
 {
     let no = whole_point::alone_number(p, bounds, pos, neg);
     Answer::Refused(no)

@@ -1,6 +1,5 @@
 -- Points as code holds them, read as the points of crate `points`; and what merging two of them answers. Assumes nothing.
 use Rattle.std.specs.Prelude.{ℕ, Bool, true, ◌&&◌, List, leb, eqb, length, Float}
-use Rattle.std.specs.Borrow.{Bor}
 use Rattle.laws.specs.Pick.{pick}
 use Rattle.laws.specs.Said.{Said, refusal, success}
 use Rattle.laws.specs.Over.{over}
@@ -33,8 +32,8 @@ abbrev pub stored_in : Point → List Float → List ℕ → List ℕ → Stored
 stored_in p bs xs ys = record { point = p; bounds = bs; pos = xs; neg = ys }
 
 -- as a contract writes it: a point and three lent slices, at entry or at exit
-abbrev pub stored : Point → Bor (List Float) → Bor (List ℕ) → Bor (List ℕ) → Stored
-stored p bounds pos neg = stored_in p bounds.now pos.now neg.now
+abbrev pub stored : Point → List Float → List ℕ → List ℕ → Stored
+stored p bounds pos neg = stored_in p bounds pos neg
 
 -- ---- a stored point as it reads
 
@@ -119,8 +118,8 @@ abbrev pub ended : Said Point → List Float → List ℕ → List ℕ → Outco
 ended r bs us vs = record { answer = elim r [ refusal n ↦ refusal n | success p ↦ success (stored_in p bs us vs) ]; pos = us; neg = vs }
 
 -- as a contract writes it: the answer, the first's bounds and the two lent rows
-abbrev pub outcome : Answer → Bor (List Float) → Bor (List ℕ) → Bor (List ℕ) → Outcome
-outcome r bounds pos neg = ended (said r) bounds.now pos.now neg.now
+abbrev pub outcome : Answer → List Float → List ℕ → List ℕ → Outcome
+outcome r bounds pos neg = ended (said r) bounds pos neg
 
 -- a point laid over lent rows, or 10 where they have no room for its counts
 unfoldable pub laid_over : Handed → List Float → List ℕ → List ℕ → Outcome

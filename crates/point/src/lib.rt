@@ -135,7 +135,7 @@ fn figures_agree(size: usize, f: Figures, bounds: &[f64], pos: &[u64], neg: &[u6
 
 // Whether a point agrees with itself under a max_size, as number 8 asks.
 fn point_agrees(size: usize, p: Point, bounds: &[f64], pos: &[u64], neg: &[u64]) -> bool
-    ensures { result ≡ point_agrees size (stored p bounds.entry pos.entry neg.entry) }
+    ensures { result ≡ point_agrees size (stored p bounds.now pos.now neg.now) }
 {
     let f = p.figures;
     let min = p.min;
@@ -149,7 +149,7 @@ fn point_agrees(size: usize, p: Point, bounds: &[f64], pos: &[u64], neg: &[u64])
 
 // Whether a point agrees with itself under max_size 160 and the greatest scale, as number 8 asks where there is no merge; never refused.
 pub fn agrees_alone(p: Point, bounds: &[f64], pos: &[u64], neg: &[u64]) -> bool
-    ensures { result ≡ agrees_alone (stored p bounds.entry pos.entry neg.entry) }
+    ensures { result ≡ agrees_alone (stored p bounds.now pos.now neg.now) }
 {
     point_agrees(exponential::MOST_SIZE, p, bounds, pos, neg)
 }
@@ -222,8 +222,8 @@ pub fn refusal(
     bpos: &[u64],
     bneg: &[u64],
 ) -> u8
-    ensures { result ≡ refusal_before size (stored a abounds.entry apos.entry aneg.entry)
-        (stored b bbounds.entry bpos.entry bneg.entry) }
+    ensures { result ≡ refusal_before size (stored a abounds.now apos.now aneg.now)
+        (stored b bbounds.now bpos.now bneg.now) }
 {
     let f = a.figures;
     let g = b.figures;
@@ -353,8 +353,8 @@ pub fn merge(
     pos: &mut [u64],
     neg: &mut [u64],
 ) -> Answer
-    ensures { outcome result abounds.entry pos.exit neg.exit
-        ≡ merging size (stored a abounds.entry apos.entry aneg.entry) (stored b bbounds.entry bpos.entry bneg.entry)
+    ensures { outcome result abounds.now pos.new neg.new
+        ≡ merging size (stored a abounds.now apos.now aneg.now) (stored b bbounds.now bpos.now bneg.now)
         pos.old neg.old }
 {
     let no = refusal(size, a, abounds, apos, aneg, b, bbounds, bpos, bneg);

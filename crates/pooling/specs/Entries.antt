@@ -1,7 +1,6 @@
 -- BETWEEN OUR OWN CRATES: serves inner contracts and proofs; nobody needs it to believe the public calls or the theorems.
 -- What the crate's own functions are given: found points that lie within what is lent. Assumes nothing.
 use Rattle.std.specs.Prelude.{ℕ, ◌+◌, ◌≤◌, ◌<◌, List, [], ℤ, length, get_or, set, Float}
-use Rattle.std.specs.Borrow.{Bor}
 use Rattle.laws.specs.Said.{Said, refusal, success}
 use Rattle.integers.specs.declared.Extreme.{Extreme}
 use Rattle.point.specs.Handing.{Stored}
@@ -27,17 +26,17 @@ pub record Whole (at : Cursor) (e : Entry) (many many_neg many_bounds : ℕ) : T
   pub neg_end : e.next.neg ≤ many_neg
   pub bounds : e.bounds.start + e.bounds.len ≤ many_bounds
 
-abbrev pub whole_in : Cursor → Entry → Bor (List Float) → Bor (List ℕ) → Bor (List ℕ) → Type 0
-whole_in at e bounds pos neg = Whole at e (length pos.now) (length neg.now) (length bounds.now)
+abbrev pub whole_in : Cursor → Entry → List Float → List ℕ → List ℕ → Type 0
+whole_in at e bounds pos neg = Whole at e (length pos) (length neg) (length bounds)
 
 -- as it is stored
-abbrev pub stored_of : Cursor → Entry → Bor (List Float) → Bor (List ℕ) → Bor (List ℕ) → Stored
-stored_of at e bounds pos neg = stored_at at e bounds.now (record { sets = []; words = []; pos = pos.now; neg = neg.now })
+abbrev pub stored_of : Cursor → Entry → List Float → List ℕ → List ℕ → Stored
+stored_of at e bounds pos neg = stored_at at e bounds (record { sets = []; words = []; pos = pos; neg = neg })
 
 -- ---- points of i64 values
 
-abbrev pub whole_of : Cursor → WE.Entry → Bor (List Float) → Bor (List ℕ) → Bor (List ℕ) → W.Stored
-whole_of at e bounds pos neg = WL.stored_at at e bounds.now (record { sets = []; words = []; pos = pos.now; neg = neg.now })
+abbrev pub whole_of : Cursor → WE.Entry → List Float → List ℕ → List ℕ → W.Stored
+whole_of at e bounds pos neg = WL.stored_at at e bounds (record { sets = []; words = []; pos = pos; neg = neg })
 
 -- the shadow: the entry of an f64 point with the same counts and bounds
 abbrev pub shadow_entry : WE.Entry → Entry

@@ -1,7 +1,6 @@
 -- Two points of lists merged into a third list (docs/LIST.md), of f64 values or of i64 values. Assumes nothing.
 -- Document 01: "Sets are not compared; the result has the first's."
 use Rattle.std.specs.Prelude.{ℕ, ◌+◌, ◌≡◌, Bool, ◌&&◌, List, [], leb, eqb, length, get_or, take, drop, Float}
-use Rattle.std.specs.Borrow.{Bor}
 use Rattle.laws.specs.Pick.{pick}
 use Rattle.laws.specs.Said.{Said, refusal, success}
 use Rattle.point.specs.Handing.{Stored, stored_in, handed_in, refusal_before, merging}
@@ -28,11 +27,11 @@ pub record Source : Type 0 where
   pub bounds : List Float
 
 -- as a contract writes it; of the second list no sets are lent: "Sets are not compared"
-abbrev pub source : Bor (List (List ℕ)) → Bor (List (List ℕ)) → Bor (List ℕ) → Bor (List ℕ) → Bor (List Float) → Source
-source sets words pos neg bounds = record { list = output sets words pos neg; bounds = bounds.now }
+abbrev pub source : List (List ℕ) → List (List ℕ) → List ℕ → List ℕ → List Float → Source
+source sets words pos neg bounds = record { list = output sets words pos neg; bounds = bounds }
 
-abbrev pub nameless : Bor (List (List ℕ)) → Bor (List ℕ) → Bor (List ℕ) → Bor (List Float) → Source
-nameless words pos neg bounds = record { list = record { sets = []; words = words.now; pos = pos.now; neg = neg.now }; bounds = bounds.now }
+abbrev pub nameless : List (List ℕ) → List ℕ → List ℕ → List Float → Source
+nameless words pos neg bounds = record { list = record { sets = []; words = words; pos = pos; neg = neg }; bounds = bounds }
 
 -- the point of f64 values at a cursor; none also where the bounds that it names are not all lent: its buckets would be judged by fewer bounds than
 -- it has

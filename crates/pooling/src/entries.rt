@@ -27,7 +27,7 @@ fn bounded_by(many: usize, found: Found) -> Found
 
 // The point at a cursor, if it is there with its counts and its bounds.
 pub fn whole_at(at: Cursor, words: &[[u64; 12]], pos: &[u64], neg: &[u64], bounds: &[f64]) -> Found
-    ensures { result ≡ whole_at at (nameless words.entry pos.entry neg.entry bounds.entry) }
+    ensures { result ≡ whole_at at (nameless words.now pos.now neg.now bounds.now) }
 {
     let found = listing::read::point_at(at, words, pos, neg);
     bounded_by(bounds.len(), found)
@@ -56,7 +56,7 @@ pub fn integer_at(
     neg: &[u64],
     bounds: &[f64],
 ) -> whole_listing::Found
-    ensures { result ≡ integer_at at (nameless words.entry pos.entry neg.entry bounds.entry) }
+    ensures { result ≡ integer_at at (nameless words.now pos.now neg.now bounds.now) }
 {
     let found = whole_listing::read::point_at(at, words, pos, neg);
     bounded_integer(bounds.len(), found)
@@ -91,9 +91,9 @@ pub fn refusal_entries(
     bpos: &[u64],
     bneg: &[u64],
 ) -> u8
-    requires { whole_in a e abounds apos aneg × whole_in b f bbounds bpos bneg }
-    ensures { result ≡ refusal_before size (stored_of a e abounds.entry apos.entry aneg.entry)
-        (stored_of b f bbounds.entry bpos.entry bneg.entry) }
+    requires { whole_in a e abounds.now apos.now aneg.now × whole_in b f bbounds.now bpos.now bneg.now }
+    ensures { result ≡ refusal_before size (stored_of a e abounds.now apos.now aneg.now)
+        (stored_of b f bbounds.now bpos.now bneg.now) }
 {
     let s = e.bounds;
     let t = f.bounds;
@@ -142,9 +142,9 @@ pub fn merge_entries(
     pos: &mut [u64],
     neg: &mut [u64],
 ) -> Answer
-    requires { whole_in a e abounds apos aneg × whole_in b f bbounds bpos bneg }
+    requires { whole_in a e abounds.now apos.now aneg.now × whole_in b f bbounds.now bpos.now bneg.now }
     ensures { ended (Handing.said result) (bounds_at e.bounds abounds.now) pos.new neg.new
-        ≡ merging size (stored_of a e abounds.entry apos.entry aneg.entry) (stored_of b f bbounds.entry bpos.entry bneg.entry)
+        ≡ merging size (stored_of a e abounds.now apos.now aneg.now) (stored_of b f bbounds.now bpos.now bneg.now)
         pos.old neg.old }
 {
     let s = e.bounds;

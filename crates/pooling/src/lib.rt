@@ -39,10 +39,10 @@ fn merge_reals(
     pos: &mut [u64],
     neg: &mut [u64],
 ) -> Pooled
-    ensures { ends (said result) (output sets.exit words.exit pos.exit neg.exit)
-        ≡ pooled_reals size row a (nameless awords.entry apos.entry aneg.entry abounds.entry)
-        b (nameless bwords.entry bpos.entry bneg.entry bbounds.entry)
-        at (output sets.entry words.entry pos.entry neg.entry) }
+    ensures { ends (said result) (output sets.new words.new pos.new neg.new)
+        ≡ pooled_reals size row a (nameless awords.now apos.now aneg.now abounds.now)
+        b (nameless bwords.now bpos.now bneg.now bbounds.now)
+        at (output sets.old words.old pos.old neg.old) }
 {
     let first = entries::whole_at(a, awords, apos, aneg, abounds);
     let second = entries::whole_at(b, bwords, bpos, bneg, bbounds);
@@ -80,10 +80,10 @@ pub fn merge_at(
     pos: &mut [u64],
     neg: &mut [u64],
 ) -> Pooled
-    ensures { ends (said result) (output sets.exit words.exit pos.exit neg.exit)
-        ≡ pooled_at size a (source asets.entry awords.entry apos.entry aneg.entry abounds.entry)
-        b (nameless bwords.entry bpos.entry bneg.entry bbounds.entry)
-        at (output sets.entry words.entry pos.entry neg.entry) }
+    ensures { ends (said result) (output sets.new words.new pos.new neg.new)
+        ≡ pooled_at size a (source asets.now awords.now apos.now aneg.now abounds.now)
+        b (nameless bwords.now bpos.now bneg.now bbounds.now)
+        at (output sets.old words.old pos.old neg.old) }
 {
     let k = a.place;
     if asets.len() <= k {

@@ -51,10 +51,10 @@ fn pool(
     pos: &mut [u64],
     neg: &mut [u64],
 ) -> Pooled
-    requires { whole_in a (shadow_entry e) abounds apos aneg × whole_in b (shadow_entry f) bbounds bpos bneg }
-    ensures { ends (said result) (output sets.exit words.exit pos.exit neg.exit)
-        ≡ pooled_wholes size row e.bounds (whole_of a e abounds.entry apos.entry aneg.entry)
-        (whole_of b f bbounds.entry bpos.entry bneg.entry) at (output sets.entry words.entry pos.entry neg.entry) }
+    requires { whole_in a (shadow_entry e) abounds.now apos.now aneg.now × whole_in b (shadow_entry f) bbounds.now bpos.now bneg.now }
+    ensures { ends (said result) (output sets.new words.new pos.new neg.new)
+        ≡ pooled_wholes size row e.bounds (whole_of a e abounds.now apos.now aneg.now)
+        (whole_of b f bbounds.now bpos.now bneg.now) at (output sets.old words.old pos.old neg.old) }
 {
     let p = e.point;
     let q = f.point;
@@ -105,10 +105,10 @@ pub fn merge(
     pos: &mut [u64],
     neg: &mut [u64],
 ) -> Pooled
-    ensures { ends (said result) (output sets.exit words.exit pos.exit neg.exit)
-        ≡ pooled_integers size row a (nameless awords.entry apos.entry aneg.entry abounds.entry)
-        b (nameless bwords.entry bpos.entry bneg.entry bbounds.entry)
-        at (output sets.entry words.entry pos.entry neg.entry) }
+    ensures { ends (said result) (output sets.new words.new pos.new neg.new)
+        ≡ pooled_integers size row a (nameless awords.now apos.now aneg.now abounds.now)
+        b (nameless bwords.now bpos.now bneg.now bbounds.now)
+        at (output sets.old words.old pos.old neg.old) }
 {
     let first = crate::entries::integer_at(a, awords, apos, aneg, abounds);
     let second = crate::entries::integer_at(b, bwords, bpos, bneg, bbounds);
@@ -138,8 +138,8 @@ pub fn mixed(
     bneg: &[u64],
     bbounds: &[f64],
 ) -> u8
-    ensures { result ≡ mixed_at size a (nameless awords.entry apos.entry aneg.entry abounds.entry)
-        b (nameless bwords.entry bpos.entry bneg.entry bbounds.entry) }
+    ensures { result ≡ mixed_at size a (nameless awords.now apos.now aneg.now abounds.now)
+        b (nameless bwords.now bpos.now bneg.now bbounds.now) }
 {
     let first = crate::entries::integer_at(a, awords, apos, aneg, abounds);
     let second = crate::entries::whole_at(b, bwords, bpos, bneg, bbounds);

@@ -55,10 +55,10 @@ pub fn pool(
     pos: &mut [u64],
     neg: &mut [u64],
 ) -> Pooled
-    requires { whole_in a e abounds apos aneg × whole_in b f bbounds bpos bneg }
-    ensures { ends (said result) (output sets.exit words.exit pos.exit neg.exit)
-        ≡ pooled size row e.bounds (stored_of a e abounds.entry apos.entry aneg.entry) (stored_of b f bbounds.entry bpos.entry bneg.entry)
-        at (output sets.entry words.entry pos.entry neg.entry) }
+    requires { whole_in a e abounds.now apos.now aneg.now × whole_in b f bbounds.now bpos.now bneg.now }
+    ensures { ends (said result) (output sets.new words.new pos.new neg.new)
+        ≡ pooled size row e.bounds (stored_of a e abounds.now apos.now aneg.now) (stored_of b f bbounds.now bpos.now bneg.now)
+        at (output sets.old words.old pos.old neg.old) }
 {
     let ok = has_place(at, sets.len(), words.len(), pos.len(), neg.len());
     let i = start_of(ok, at.pos, pos.len());

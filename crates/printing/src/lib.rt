@@ -46,7 +46,7 @@ pub struct Printed {
 
 // A number behind a space.
 pub fn number(out: &Stdout, text: &mut Block, n: usize, x: u64) -> usize
-    ensures { waiting result text.exit ≡ 32 ∷ decimal x behind waiting n text.entry }
+    ensures { waiting result text.new ≡ 32 ∷ decimal x behind waiting n text.old }
 {
     let m = output::byte(out, text, n, b' ');
     output::decimal(out, text, m, x)
@@ -54,7 +54,7 @@ pub fn number(out: &Stdout, text: &mut Block, n: usize, x: u64) -> usize
 
 // Bits behind a space.
 fn bits(out: &Stdout, text: &mut Block, n: usize, x: u64) -> usize
-    ensures { waiting result text.exit ≡ 32 ∷ hex_digits 16 x behind waiting n text.entry }
+    ensures { waiting result text.new ≡ 32 ∷ hex_digits 16 x behind waiting n text.old }
 {
     let m = output::byte(out, text, n, b' ');
     output::bits(out, text, m, x)
@@ -62,7 +62,7 @@ fn bits(out: &Stdout, text: &mut Block, n: usize, x: u64) -> usize
 
 // A comma before all but the first of several.
 fn comma(out: &Stdout, text: &mut Block, n: usize, i: usize) -> usize
-    ensures { waiting result text.exit ≡ pick (eqb i 0) [] (44 ∷ []) behind waiting n text.entry }
+    ensures { waiting result text.new ≡ pick (eqb i 0) [] (44 ∷ []) behind waiting n text.old }
 {
     if i == 0 {
         return n;
@@ -73,7 +73,7 @@ fn comma(out: &Stdout, text: &mut Block, n: usize, i: usize) -> usize
 // ---- sets
 
 fn attribute(out: &Stdout, text: &mut Block, n: usize, word: u64) -> usize
-    ensures { waiting result text.exit ≡ attribute_field (pair word) behind waiting n text.entry }
+    ensures { waiting result text.new ≡ attribute_field (pair word) behind waiting n text.old }
 {
     let a = output::decimal(out, text, n, word / 4294967296);
     let b = output::byte(out, text, a, b':');
@@ -81,7 +81,7 @@ fn attribute(out: &Stdout, text: &mut Block, n: usize, word: u64) -> usize
 }
 
 fn attributes(out: &Stdout, text: &mut Block, n: usize, row: [u64; 9]) -> usize
-    ensures { waiting result text.exit ≡ joined 44 (map attribute_field (take 8 (set_of row))) behind waiting n text.entry }
+    ensures { waiting result text.new ≡ joined 44 (map attribute_field (take 8 (set_of row))) behind waiting n text.old }
 {
     let many = row[8];
     let mut m = n;
@@ -96,7 +96,7 @@ fn attributes(out: &Stdout, text: &mut Block, n: usize, row: [u64; 9]) -> usize
 
 // A set, `-` the empty one.
 fn bare_set(out: &Stdout, text: &mut Block, n: usize, row: [u64; 9]) -> usize
-    ensures { waiting result text.exit ≡ set_field (take 8 (set_of row)) behind waiting n text.entry }
+    ensures { waiting result text.new ≡ set_field (take 8 (set_of row)) behind waiting n text.old }
 {
     if row[8] == 0 {
         return output::byte(out, text, n, b'-');
@@ -106,7 +106,7 @@ fn bare_set(out: &Stdout, text: &mut Block, n: usize, row: [u64; 9]) -> usize
 
 // A set behind a space.
 pub fn set(out: &Stdout, text: &mut Block, n: usize, row: [u64; 9]) -> usize
-    ensures { waiting result text.exit ≡ 32 ∷ set_field (take 8 (set_of row)) behind waiting n text.entry }
+    ensures { waiting result text.new ≡ 32 ∷ set_field (take 8 (set_of row)) behind waiting n text.old }
 {
     let m = output::byte(out, text, n, b' ');
     bare_set(out, text, m, row)
@@ -116,7 +116,7 @@ pub fn set(out: &Stdout, text: &mut Block, n: usize, row: [u64; 9]) -> usize
 
 // A scale or an offset behind a space.
 pub fn integer(out: &Stdout, text: &mut Block, n: usize, x: Integer) -> usize
-    ensures { waiting result text.exit ≡ 32 ∷ integer_field x behind waiting n text.entry }
+    ensures { waiting result text.new ≡ 32 ∷ integer_field x behind waiting n text.old }
 {
     let m = output::byte(out, text, n, b' ');
     match x {
@@ -127,7 +127,7 @@ pub fn integer(out: &Stdout, text: &mut Block, n: usize, x: Integer) -> usize
 
 // An extreme behind a space, `-` where it isn't kept.
 fn extreme(out: &Stdout, text: &mut Block, n: usize, x: Extreme) -> usize
-    ensures { waiting result text.exit ≡ 32 ∷ extreme_field x behind waiting n text.entry }
+    ensures { waiting result text.new ≡ 32 ∷ extreme_field x behind waiting n text.old }
 {
     match x {
         Extreme::None => output::bytes(out, text, n, b" -"),
@@ -136,7 +136,7 @@ fn extreme(out: &Stdout, text: &mut Block, n: usize, x: Extreme) -> usize
 }
 
 fn held(out: &Stdout, text: &mut Block, n: usize, p: Point) -> usize
-    ensures { waiting result text.exit ≡ each 32 (held_fields p []) behind waiting n text.entry }
+    ensures { waiting result text.new ≡ each 32 (held_fields p []) behind waiting n text.old }
 {
     let min = p.min;
     let max = p.max;
@@ -146,7 +146,7 @@ fn held(out: &Stdout, text: &mut Block, n: usize, p: Point) -> usize
 }
 
 pub fn counts(out: &Stdout, text: &mut Block, n: usize, row: &[u64]) -> usize
-    ensures { waiting result text.exit ≡ joined 44 (map decimal row.now) behind waiting n text.entry }
+    ensures { waiting result text.new ≡ joined 44 (map decimal row.now) behind waiting n text.old }
 {
     let mut m = n;
     let mut i: usize = 0;
@@ -160,7 +160,7 @@ pub fn counts(out: &Stdout, text: &mut Block, n: usize, row: &[u64]) -> usize
 
 // A row: its offset and its counts.
 pub fn row(out: &Stdout, text: &mut Block, n: usize, offset: Integer, row: &[u64]) -> usize
-    ensures { waiting result text.exit ≡ 32 ∷ row_field offset row.now behind waiting n text.entry }
+    ensures { waiting result text.new ≡ 32 ∷ row_field offset row.now behind waiting n text.old }
 {
     let a = integer(out, text, n, offset);
     let b = output::byte(out, text, a, b':');
@@ -169,7 +169,7 @@ pub fn row(out: &Stdout, text: &mut Block, n: usize, offset: Integer, row: &[u64
 
 // A space, and `-` if none of several follows.
 pub fn dash(out: &Stdout, text: &mut Block, n: usize, many: usize) -> usize
-    ensures { waiting result text.exit ≡ 32 ∷ pick (eqb many 0) (45 ∷ []) [] behind waiting n text.entry }
+    ensures { waiting result text.new ≡ 32 ∷ pick (eqb many 0) (45 ∷ []) [] behind waiting n text.old }
 {
     let m = output::byte(out, text, n, b' ');
     if many == 0 {
@@ -179,7 +179,7 @@ pub fn dash(out: &Stdout, text: &mut Block, n: usize, many: usize) -> usize
 }
 
 pub fn all_bits(out: &Stdout, text: &mut Block, n: usize, bounds: &[f64]) -> usize
-    ensures { waiting result text.exit ≡ joined 44 (map float_field bounds.now) behind waiting n text.entry }
+    ensures { waiting result text.new ≡ joined 44 (map float_field bounds.now) behind waiting n text.old }
 {
     let mut m = n;
     let mut i: usize = 0;
@@ -201,7 +201,7 @@ fn exponential(
     pos: &[u64],
     neg: &[u64],
 ) -> usize
-    ensures { waiting result text.exit ≡ each 32 (exponential_fields p pos.now neg.now) behind waiting n text.entry }
+    ensures { waiting result text.new ≡ each 32 (exponential_fields p pos.now neg.now) behind waiting n text.old }
 {
     let a = integer(out, text, n, point::signed::scale(p));
     let b = held(out, text, a, p);
@@ -217,7 +217,7 @@ fn explicit(
     buckets: &[u64],
     bounds: &[f64],
 ) -> usize
-    ensures { waiting result text.exit ≡ each 32 (explicit_fields p buckets.now bounds.now) behind waiting n text.entry }
+    ensures { waiting result text.new ≡ each 32 (explicit_fields p buckets.now bounds.now) behind waiting n text.old }
 {
     let a = held(out, text, n, p);
     let b = dash(out, text, a, buckets.len());
@@ -238,9 +238,9 @@ fn point_line<'a>(
     neg: &'a [u64],
     bounds: &[f64],
 ) -> usize
-    ensures { waiting result text.exit ≡ point_line (take 8 (set_of row)) (stored_in e.point (bounds_at e.bounds bounds.now)
+    ensures { waiting result text.new ≡ point_line (take 8 (set_of row)) (stored_in e.point (bounds_at e.bounds bounds.now)
         (row_at at e.next false pos.now neg.now) (row_at at e.next true pos.now neg.now))
-        behind waiting n text.entry }
+        behind waiting n text.old }
 {
     let p = e.point;
     let next = e.next;
@@ -269,7 +269,7 @@ fn point_line<'a>(
 
 // A mean behind a space, or the number that refuses it behind its mark.
 fn mean_fields(out: &Stdout, text: &mut Block, n: usize, x: Answer) -> usize
-    ensures { waiting result text.exit ≡ each 32 (mean_fields (said x)) behind waiting n text.entry }
+    ensures { waiting result text.new ≡ each 32 (mean_fields (said x)) behind waiting n text.old }
 {
     match x {
         Answer::Mean(z) => {
@@ -295,9 +295,9 @@ fn card_line<'a>(
     neg: &'a [u64],
     bounds: &[f64],
 ) -> usize
-    ensures { waiting result text.exit ≡ card_line (take 8 (set_of row)) (stored_in e.point (bounds_at e.bounds bounds.now)
+    ensures { waiting result text.new ≡ card_line (take 8 (set_of row)) (stored_in e.point (bounds_at e.bounds bounds.now)
         (row_at at e.next false pos.now neg.now) (row_at at e.next true pos.now neg.now))
-        behind waiting n text.entry }
+        behind waiting n text.old }
 {
     let p = e.point;
     let next = e.next;
@@ -323,9 +323,9 @@ fn line<'a>(
     neg: &'a [u64],
     bounds: &[f64],
 ) -> usize
-    ensures { waiting result text.exit ≡ line_of form (take 8 (set_of row)) (stored_in e.point (bounds_at e.bounds bounds.now)
+    ensures { waiting result text.new ≡ line_of form (take 8 (set_of row)) (stored_in e.point (bounds_at e.bounds bounds.now)
         (row_at at e.next false pos.now neg.now) (row_at at e.next true pos.now neg.now))
-        behind waiting n text.entry }
+        behind waiting n text.old }
 {
     match form {
         Form::Point => point_line(out, text, n, row, at, e, pos, neg, bounds),
@@ -346,9 +346,9 @@ pub fn point<'a>(
     neg: &'a [u64],
     bounds: &[f64],
 ) -> Printed
-    ensures text_value { waiting result.n text.exit ≡ line_at form at (listed_in sets.entry words.entry pos.entry neg.entry) bounds.now
-        behind waiting n text.entry }
-    ensures at_value { result.at ≡ next_at at (listed_in sets.entry words.entry pos.entry neg.entry) }
+    ensures text_value { waiting result.n text.new ≡ line_at form at (listed_in sets.now words.now pos.now neg.now) bounds.now
+        behind waiting n text.old }
+    ensures at_value { result.at ≡ next_at at (listed_in sets.now words.now pos.now neg.now) }
 {
     let k = at.place;
     let Found::Is(e) = listing::read::point_at(at, words, pos, neg) else {
@@ -379,8 +379,8 @@ pub fn collection<'a>(
     neg: &'a [u64],
     bounds: &[f64],
 ) -> usize
-    ensures { waiting result text.exit ≡ collection_lines form start time many (listed_in sets.entry words.entry pos.entry neg.entry)
-        bounds.now behind waiting n text.entry }
+    ensures { waiting result text.new ≡ collection_lines form start time many (listed_in sets.now words.now pos.now neg.now)
+        bounds.now behind waiting n text.old }
 {
     let m = head(out, text, n, start, time, many as u64);
     let at = Cursor {
@@ -400,7 +400,7 @@ pub fn collection<'a>(
 }
 
 pub fn head(out: &Stdout, text: &mut Block, n: usize, start: u64, time: u64, many: u64) -> usize
-    ensures { waiting result text.exit ≡ collection_head start time many behind waiting n text.entry }
+    ensures { waiting result text.new ≡ collection_head start time many behind waiting n text.old }
 {
     let a = output::byte(out, text, n, b'c');
     let b = number(out, text, a, start);
@@ -420,7 +420,7 @@ fn value(
     sets: &[[u64; 9]],
     values: &[u64],
 ) -> usize
-    ensures { waiting result text.exit ≡ value_at k sets.now values.now behind waiting n text.entry }
+    ensures { waiting result text.new ≡ value_at k sets.now values.now behind waiting n text.old }
 {
     if sets.len() <= k {
         return n;
@@ -445,7 +445,7 @@ pub fn values(
     sets: &[[u64; 9]],
     values: &[u64],
 ) -> usize
-    ensures { waiting result text.exit ≡ value_lines start time many sets.now values.now behind waiting n text.entry }
+    ensures { waiting result text.new ≡ value_lines start time many sets.now values.now behind waiting n text.old }
 {
     let mut m = head(out, text, n, start, time, many as u64);
     let mut i: usize = 0;
@@ -458,7 +458,7 @@ pub fn values(
 
 // Prints `?` and the number of a line of the input that can't be read.
 pub fn unread(out: &Stdout, text: &mut Block, n: usize, line: u64) -> usize
-    ensures { waiting result text.exit ≡ unread_line line behind waiting n text.entry }
+    ensures { waiting result text.new ≡ unread_line line behind waiting n text.old }
 {
     let a = output::byte(out, text, n, b'?');
     let b = number(out, text, a, line);

@@ -1,7 +1,6 @@
 -- BETWEEN OUR OWN CRATES: serves inner contracts and proofs; nobody needs it to believe the public calls or the theorems.
 -- The state after a line with many values, for any kind's store. Assumes nothing.
 use Rattle.std.specs.Prelude.{ℕ, Bool, List, eqb, take}
-use Rattle.std.specs.Borrow.{Bor}
 use Rattle.laws.specs.Pick.{pick}
 use Rattle.many.specs.Many.{Many}
 use Rattle.tally.specs.Kind.{Kind}
@@ -23,8 +22,8 @@ abbrev pub batched : {Cells : Type 0} → State → Many (Held Cells) → State
 batched s m = batched_in m.taken m.no m.left.kept.dir s
 
 -- the values of a line: field k says how many they are
-abbrev pub list_in : {A : Type 0} → State → ℕ → Bor (List A) → List A
-list_in s k values = take (field s k) values.now
+abbrev pub list_in : {A : Type 0} → State → ℕ → List A → List A
+list_in s k values = take (field s k) values
 
 -- by a line's letter, after `R` and `H`; any other, and a line that is not of the crate's kinds, leaves the state
 unfoldable pub batched_as : Bool → State → State → State → State
@@ -40,5 +39,5 @@ module _ {K : Kind} (S : Store K) where
   after_all_by s vs d c = batched s (measured_all_by S s.limit (held s.dir d c) vs (field s 1))
 
   -- any line, if it is of the crate's kinds
-  abbrev pub after_batch : Bool → State → Bor (List K.Value) → Set → Stores → S.Cells → State
+  abbrev pub after_batch : Bool → State → List K.Value → Set → Stores → S.Cells → State
   after_batch mine s values attrs d c = batched_as mine s (after_all s (list_in s 1 values) attrs d c) (after_all_by s (list_in s 2 values) d c)

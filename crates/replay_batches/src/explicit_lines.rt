@@ -19,8 +19,8 @@ fn measure_all(
     pos: &mut [u64],
     neg: &mut [u64],
 ) -> State
-    ensures { result ≡ after_all (explicit_store (bounds_in s bounds.now)) s (list_in s 1 floats.entry) (given_in s attrs.entry)
-        (lent_stores s sets.entry entries.entry order.entry) (cells_in s neg.entry extremes.entry pos.entry) }
+    ensures { result ≡ after_all (explicit_store (bounds_in s bounds.now)) s (list_in s 1 floats.now) (given_in s attrs.now)
+        (lent_stores s sets.old entries.old order.old) (cells_in s neg.old extremes.old pos.old) }
 {
     let n = s.entries;
     let filter = s.filter;
@@ -53,8 +53,8 @@ fn measure_all_by(
     pos: &mut [u64],
     neg: &mut [u64],
 ) -> State
-    ensures { result ≡ after_all_by (explicit_store (bounds_in s bounds.now)) s (list_in s 2 floats.entry)
-        (lent_stores s sets.entry entries.entry order.entry) (cells_in s neg.entry extremes.entry pos.entry) }
+    ensures { result ≡ after_all_by (explicit_store (bounds_in s bounds.now)) s (list_in s 2 floats.now)
+        (lent_stores s sets.old entries.old order.old) (cells_in s neg.old extremes.old pos.old) }
 {
     let n = s.entries;
     let reply = explicit_batches::measure_all_by(
@@ -86,8 +86,8 @@ pub fn follow(
     pos: &mut [u64],
     neg: &mut [u64],
 ) -> State
-    ensures { result ≡ after_batch (explicit_store (bounds_in s bounds.now)) (eqb s.of 120) s floats.entry (given_in s attrs.entry)
-        (lent_stores s sets.entry entries.entry order.entry) (cells_in s neg.entry extremes.entry pos.entry) }
+    ensures { result ≡ after_batch (explicit_store (bounds_in s bounds.now)) (eqb s.of 120) s floats.now (given_in s attrs.now)
+        (lent_stores s sets.old entries.old order.old) (cells_in s neg.old extremes.old pos.old) }
 {
     if s.of != b'x' {
         return s;

@@ -19,8 +19,8 @@ fn measure_all(
     pos: &mut [u64],
     neg: &mut [u64],
 ) -> State
-    ensures { result ≡ after_all (exponential_store s.size s.top) s (list_in s 1 floats.entry) (given_in s attrs.entry)
-        (lent_stores s sets.entry entries.entry order.entry) (cells_in s figures.entry extremes.entry pos.entry neg.entry) }
+    ensures { result ≡ after_all (exponential_store s.size s.top) s (list_in s 1 floats.now) (given_in s attrs.now)
+        (lent_stores s sets.old entries.old order.old) (cells_in s figures.old extremes.old pos.old neg.old) }
 {
     let n = s.entries;
     let m = s.counts;
@@ -56,8 +56,8 @@ fn measure_all_by(
     pos: &mut [u64],
     neg: &mut [u64],
 ) -> State
-    ensures { result ≡ after_all_by (exponential_store s.size s.top) s (list_in s 2 floats.entry)
-        (lent_stores s sets.entry entries.entry order.entry) (cells_in s figures.entry extremes.entry pos.entry neg.entry) }
+    ensures { result ≡ after_all_by (exponential_store s.size s.top) s (list_in s 2 floats.now)
+        (lent_stores s sets.old entries.old order.old) (cells_in s figures.old extremes.old pos.old neg.old) }
 {
     let n = s.entries;
     let m = s.counts;
@@ -92,8 +92,8 @@ pub fn follow(
     pos: &mut [u64],
     neg: &mut [u64],
 ) -> State
-    ensures { result ≡ after_batch (exponential_store s.size s.top) (eqb s.of 101) s floats.entry (given_in s attrs.entry)
-        (lent_stores s sets.entry entries.entry order.entry) (cells_in s figures.entry extremes.entry pos.entry neg.entry) }
+    ensures { result ≡ after_batch (exponential_store s.size s.top) (eqb s.of 101) s floats.now (given_in s attrs.now)
+        (lent_stores s sets.old entries.old order.old) (cells_in s figures.old extremes.old pos.old neg.old) }
 {
     if s.of != b'e' {
         return s;

@@ -17,8 +17,8 @@ fn measure_all(
     entries: &mut [[u64; 3]],
     order: &mut [u32],
 ) -> State
-    ensures { result ≡ after_all (single_store (kind_of s)) s (list_in s 1 floats.entry) (given_in s attrs.entry)
-        (lent_stores s sets.entry entries.entry order.entry) (values_in s bounds.entry) }
+    ensures { result ≡ after_all (single_store (kind_of s)) s (list_in s 1 floats.now) (given_in s attrs.now)
+        (lent_stores s sets.old entries.old order.old) (values_in s bounds.old) }
 {
     let n = s.entries;
     let filter = s.filter;
@@ -46,8 +46,8 @@ fn measure_all_by(
     entries: &mut [[u64; 3]],
     order: &mut [u32],
 ) -> State
-    ensures { result ≡ after_all_by (single_store (kind_of s)) s (list_in s 2 floats.entry)
-        (lent_stores s sets.entry entries.entry order.entry) (values_in s bounds.entry) }
+    ensures { result ≡ after_all_by (single_store (kind_of s)) s (list_in s 2 floats.now)
+        (lent_stores s sets.old entries.old order.old) (values_in s bounds.old) }
 {
     let n = s.entries;
     let reply = single_batches::measure_all_by(
@@ -74,8 +74,8 @@ pub fn follow(
     entries: &mut [[u64; 3]],
     order: &mut [u32],
 ) -> State
-    ensures { result ≡ after_batch (single_store (kind_of s)) (single s.of) s floats.entry (given_in s attrs.entry)
-        (lent_stores s sets.entry entries.entry order.entry) (values_in s bounds.entry) }
+    ensures { result ≡ after_batch (single_store (kind_of s)) (single s.of) s floats.now (given_in s attrs.now)
+        (lent_stores s sets.old entries.old order.old) (values_in s bounds.old) }
 {
     if !replay_state::is_single(s.of) {
         return s;

@@ -1,7 +1,6 @@
 -- BETWEEN OUR OWN CRATES: serves inner contracts and proofs; nobody needs it to believe the public calls or the theorems.
 -- The state after a line that collects from a map of the explicit kind. Assumes nothing.
 use Rattle.std.specs.Prelude.{ℕ, min, List, eqb, take, Float}
-use Rattle.std.specs.Borrow.{Bor}
 use Rattle.directory.specs.View.{Stores}
 use Rattle.explicit_slots.specs.Cells.{Cells}
 use Rattle.value_map.specs.Calls.{held}
@@ -14,13 +13,13 @@ use Rattle.replay_state.specs.Lines.{collected_as}
 use Rattle.replay_explicit.specs.Followed.{bounds_in}
 
 -- the output, as long as the line says, at most 66 points and 10560 counts
-abbrev pub output_in : State → Bor (List (List ℕ)) → Bor (List (List ℕ)) → Bor (List ℕ) → Bor (List ℕ) → Output
+abbrev pub output_in : State → List (List ℕ) → List (List ℕ) → List ℕ → List ℕ → Output
 output_in s sets words pos neg =
     record {
-      sets = take (min (field s 2) 66) sets.now;
-      words = take (min (field s 2) 66) words.now;
-      pos = take (min (field s 3) 10560) pos.now;
-      neg = take (min (field s 3) 10560) neg.now;
+      sets = take (min (field s 2) 66) sets;
+      words = take (min (field s 2) 66) words;
+      pos = take (min (field s 3) 10560) pos;
+      neg = take (min (field s 3) 10560) neg;
     }
 
 abbrev pub listed : State → Collected Cells → State

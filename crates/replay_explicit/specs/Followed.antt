@@ -3,7 +3,6 @@
 use Rattle.std.specs.Prelude.{ℕ, min, List, eqb, take, drop, Float}
 use Rattle.std.specs.Float.{binary64}
 use Rattle.std.specs.Float.Ieee.{of_bits}
-use Rattle.std.specs.Borrow.{Bor}
 use Rattle.laws.specs.Said.{Said, refusal, success}
 use Rattle.tally.specs.Sets.{Set}
 use Rattle.sets.specs.Sorted.{filter_of}
@@ -27,12 +26,12 @@ abbrev pub bounds_in : State → List Float → List Float
 bounds_in s bounds = take (min s.bounds 200) (drop 200 bounds)
 
 -- the series' stores, as long as a line `m` says; the totals lie behind the negative counts, which this kind has no use for
-abbrev pub cells_in : State → Bor (List ℕ) → Bor (List (List Float)) → Bor (List ℕ) → Cells
+abbrev pub cells_in : State → List ℕ → List (List Float) → List ℕ → Cells
 cells_in s neg extremes pos =
     record {
-      totals = take s.entries (drop 10560 neg.now);
-      extremes = take s.entries extremes.now;
-      counts = take s.counts pos.now;
+      totals = take s.entries (drop 10560 neg);
+      extremes = take s.entries extremes;
+      counts = take s.counts pos;
     }
 
 -- ---- configuring

@@ -39,8 +39,8 @@ fn configure(
     pos: &[u64],
     neg: &[u64],
 ) -> State
-    ensures { result ≡ after_configured s bounds.now (lent_stores s sets.entry entries.entry order.entry)
-        (cells_in s neg.entry extremes.entry pos.entry) }
+    ensures { result ≡ after_configured s bounds.now (lent_stores s sets.now entries.old order.now)
+        (cells_in s neg.now extremes.now pos.now) }
 {
     let n = s.entries;
     let waiting = s.next_filter;
@@ -72,8 +72,8 @@ fn measure(
     pos: &mut [u64],
     neg: &mut [u64],
 ) -> State
-    ensures { result ≡ after_measured s bounds.now (given_in s attrs.entry)
-        (lent_stores s sets.entry entries.entry order.entry) (cells_in s neg.entry extremes.entry pos.entry) }
+    ensures { result ≡ after_measured s bounds.now (given_in s attrs.now)
+        (lent_stores s sets.old entries.old order.old) (cells_in s neg.old extremes.old pos.old) }
 {
     let n = s.entries;
     let filter = s.filter;
@@ -105,8 +105,8 @@ fn measure_by(
     pos: &mut [u64],
     neg: &mut [u64],
 ) -> State
-    ensures { result ≡ after_measured_by s bounds.now (lent_stores s sets.entry entries.entry order.entry)
-        (cells_in s neg.entry extremes.entry pos.entry) }
+    ensures { result ≡ after_measured_by s bounds.now (lent_stores s sets.old entries.old order.old)
+        (cells_in s neg.old extremes.old pos.old) }
 {
     let n = s.entries;
     let reply = value_map::explicit_map::measure_by(
@@ -137,8 +137,8 @@ pub fn follow(
     pos: &mut [u64],
     neg: &mut [u64],
 ) -> State
-    ensures { result ≡ after_followed s bounds.now (given_in s attrs.entry)
-        (lent_stores s sets.entry entries.entry order.entry) (cells_in s neg.entry extremes.entry pos.entry) }
+    ensures { result ≡ after_followed s bounds.now (given_in s attrs.now)
+        (lent_stores s sets.old entries.old order.old) (cells_in s neg.old extremes.old pos.old) }
 {
     if s.of != b'x' {
         return s;
@@ -179,9 +179,9 @@ fn delta(
     out_pos: &mut [u64],
     out_neg: &mut [u64],
 ) -> State
-    ensures { result ≡ after_delta s bounds.now (lent_stores s sets.entry entries.entry order.entry)
-        (cells_in s neg.entry extremes.entry pos.entry)
-        (output_in s out_sets.entry out_words.entry out_pos.entry out_neg.entry) }
+    ensures { result ≡ after_delta s bounds.now (lent_stores s sets.old entries.old order.old)
+        (cells_in s neg.now extremes.now pos.now)
+        (output_in s out_sets.old out_words.old out_pos.old out_neg.old) }
 {
     let n = s.entries;
     let i = replay_state::within(s.f[2], 66) as u64;
@@ -220,9 +220,9 @@ fn cumulative(
     out_pos: &mut [u64],
     out_neg: &mut [u64],
 ) -> State
-    ensures { result ≡ after_cumulative s bounds.now (lent_stores s sets.entry entries.entry order.entry)
-        (cells_in s neg.entry extremes.entry pos.entry)
-        (output_in s out_sets.entry out_words.entry out_pos.entry out_neg.entry) }
+    ensures { result ≡ after_cumulative s bounds.now (lent_stores s sets.now entries.now order.now)
+        (cells_in s neg.now extremes.now pos.now)
+        (output_in s out_sets.old out_words.old out_pos.old out_neg.old) }
 {
     let n = s.entries;
     let i = replay_state::within(s.f[2], 66) as u64;
@@ -260,9 +260,9 @@ pub fn collect(
     out_pos: &mut [u64],
     out_neg: &mut [u64],
 ) -> State
-    ensures { result ≡ after_collected s bounds.now (lent_stores s sets.entry entries.entry order.entry)
-        (cells_in s neg.entry extremes.entry pos.entry)
-        (output_in s out_sets.entry out_words.entry out_pos.entry out_neg.entry) }
+    ensures { result ≡ after_collected s bounds.now (lent_stores s sets.old entries.old order.old)
+        (cells_in s neg.now extremes.now pos.now)
+        (output_in s out_sets.old out_words.old out_pos.old out_neg.old) }
 {
     if s.of != b'x' {
         return s;

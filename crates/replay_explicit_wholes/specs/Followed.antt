@@ -1,7 +1,6 @@
 -- BETWEEN OUR OWN CRATES: serves inner contracts and proofs; nobody needs it to believe the public calls or the theorems.
 -- The state after a line of a map of the explicit kind over i64 that configures, records, binds or releases. Assumes nothing.
 use Rattle.std.specs.Prelude.{ℕ, min, List, eqb, take, drop, ℤ, Float}
-use Rattle.std.specs.Borrow.{Bor}
 use Rattle.tally.specs.Sets.{Set}
 use Rattle.sets.specs.Sorted.{filter_of}
 use Rattle.directory.specs.View.{Stores}
@@ -17,12 +16,12 @@ use Rattle.replay_state.specs.Lines.{followed_by}
 use Rattle.replay_explicit.specs.Followed.{waiting_in, bounds_in, configured_by}
 
 -- the series' stores, as long as a line `m` says; the totals lie behind the negative counts, which this kind has no use for
-abbrev pub cells_in : State → Bor (List ℕ) → Bor (List (List ℤ)) → Bor (List ℕ) → Cells
+abbrev pub cells_in : State → List ℕ → List (List ℤ) → List ℕ → Cells
 cells_in s neg extremes pos =
     record {
-      totals = take s.entries (drop 10560 neg.now);
-      extremes = take s.entries extremes.now;
-      counts = take s.counts pos.now;
+      totals = take s.entries (drop 10560 neg);
+      extremes = take s.entries extremes;
+      counts = take s.counts pos;
     }
 
 -- ---- configuring

@@ -3,7 +3,6 @@
 use Rattle.std.specs.Prelude.{ℕ, ◌%◌, List, eqb, ℤ, pos, ◌-ℤ◌, take, Float}
 use Rattle.std.specs.Float.{binary64}
 use Rattle.std.specs.Float.Ieee.{of_bits}
-use Rattle.std.specs.Borrow.{Bor}
 use Rattle.laws.specs.Said.{Said, refusal, success}
 use Rattle.tally.specs.Sets.{Set}
 use Rattle.sets.specs.Sorted.{filter_of}
@@ -19,13 +18,13 @@ use Rattle.replay_state.specs.Bound.{filter_in, after_bound}
 use Rattle.replay_state.specs.Lines.{followed_by}
 
 -- the series' stores, as long as a line `m` says
-abbrev pub cells_in : State → Bor (List (List ℕ)) → Bor (List (List Float)) → Bor (List ℕ) → Bor (List ℕ) → Cells
+abbrev pub cells_in : State → List (List ℕ) → List (List Float) → List ℕ → List ℕ → Cells
 cells_in s figures extremes positive negative =
     record {
-      figures = take s.entries figures.now;
-      extremes = take s.entries extremes.now;
-      pos = take s.counts positive.now;
-      neg = take s.counts negative.now;
+      figures = take s.entries figures;
+      extremes = take s.entries extremes;
+      pos = take s.counts positive;
+      neg = take s.counts negative;
     }
 
 -- ---- configuring

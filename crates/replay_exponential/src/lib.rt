@@ -53,8 +53,8 @@ fn configure(
     pos: &[u64],
     neg: &[u64],
 ) -> State
-    ensures { result ≡ after_configured s (lent_stores s sets.entry entries.entry order.entry)
-        (cells_in s figures.entry extremes.entry pos.entry neg.entry) }
+    ensures { result ≡ after_configured s (lent_stores s sets.now entries.old order.now)
+        (cells_in s figures.now extremes.now pos.now neg.now) }
 {
     let n = s.entries;
     let m = s.counts;
@@ -89,8 +89,8 @@ fn measure(
     pos: &mut [u64],
     neg: &mut [u64],
 ) -> State
-    ensures { result ≡ after_measured s (given_in s attrs.entry) (lent_stores s sets.entry entries.entry order.entry)
-        (cells_in s figures.entry extremes.entry pos.entry neg.entry) }
+    ensures { result ≡ after_measured s (given_in s attrs.now) (lent_stores s sets.old entries.old order.old)
+        (cells_in s figures.old extremes.old pos.old neg.old) }
 {
     let n = s.entries;
     let m = s.counts;
@@ -125,8 +125,8 @@ fn measure_by(
     pos: &mut [u64],
     neg: &mut [u64],
 ) -> State
-    ensures { result ≡ after_measured_by s (lent_stores s sets.entry entries.entry order.entry)
-        (cells_in s figures.entry extremes.entry pos.entry neg.entry) }
+    ensures { result ≡ after_measured_by s (lent_stores s sets.old entries.old order.old)
+        (cells_in s figures.old extremes.old pos.old neg.old) }
 {
     let n = s.entries;
     let m = s.counts;
@@ -160,8 +160,8 @@ pub fn follow(
     pos: &mut [u64],
     neg: &mut [u64],
 ) -> State
-    ensures { result ≡ after_followed s (given_in s attrs.entry) (lent_stores s sets.entry entries.entry order.entry)
-        (cells_in s figures.entry extremes.entry pos.entry neg.entry) }
+    ensures { result ≡ after_followed s (given_in s attrs.now) (lent_stores s sets.old entries.old order.old)
+        (cells_in s figures.old extremes.old pos.old neg.old) }
 {
     if s.of != b'e' {
         return s;
@@ -204,9 +204,9 @@ fn delta(
     out_pos: &mut [u64],
     out_neg: &mut [u64],
 ) -> State
-    ensures { result ≡ after_delta s (lent_stores s sets.entry entries.entry order.entry)
-        (cells_in s figures.entry extremes.entry pos.entry neg.entry)
-        (output_in s out_sets.entry out_words.entry out_pos.entry out_neg.entry) }
+    ensures { result ≡ after_delta s (lent_stores s sets.old entries.old order.old)
+        (cells_in s figures.now extremes.now pos.now neg.now)
+        (output_in s out_sets.old out_words.old out_pos.old out_neg.old) }
 {
     let n = s.entries;
     let m = s.counts;
@@ -246,9 +246,9 @@ fn cumulative(
     out_pos: &mut [u64],
     out_neg: &mut [u64],
 ) -> State
-    ensures { result ≡ after_cumulative s (lent_stores s sets.entry entries.entry order.entry)
-        (cells_in s figures.entry extremes.entry pos.entry neg.entry)
-        (output_in s out_sets.entry out_words.entry out_pos.entry out_neg.entry) }
+    ensures { result ≡ after_cumulative s (lent_stores s sets.now entries.now order.now)
+        (cells_in s figures.now extremes.now pos.now neg.now)
+        (output_in s out_sets.old out_words.old out_pos.old out_neg.old) }
 {
     let n = s.entries;
     let m = s.counts;
@@ -287,9 +287,9 @@ pub fn collect(
     out_pos: &mut [u64],
     out_neg: &mut [u64],
 ) -> State
-    ensures { result ≡ after_collected s (lent_stores s sets.entry entries.entry order.entry)
-        (cells_in s figures.entry extremes.entry pos.entry neg.entry)
-        (output_in s out_sets.entry out_words.entry out_pos.entry out_neg.entry) }
+    ensures { result ≡ after_collected s (lent_stores s sets.old entries.old order.old)
+        (cells_in s figures.now extremes.now pos.now neg.now)
+        (output_in s out_sets.old out_words.old out_pos.old out_neg.old) }
 {
     if s.of != b'e' {
         return s;

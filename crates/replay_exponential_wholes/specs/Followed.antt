@@ -1,7 +1,6 @@
 -- BETWEEN OUR OWN CRATES: serves inner contracts and proofs; nobody needs it to believe the public calls or the theorems.
 -- The state after a line of a map of the exponential kind over i64 that configures, records, binds or releases. Assumes nothing.
 use Rattle.std.specs.Prelude.{ℕ, ◌%◌, List, eqb, ℤ, take}
-use Rattle.std.specs.Borrow.{Bor}
 use Rattle.tally.specs.Sets.{Set}
 use Rattle.sets.specs.Sorted.{filter_of}
 use Rattle.directory.specs.View.{Stores}
@@ -17,13 +16,13 @@ use Rattle.replay_state.specs.Lines.{followed_by}
 use Rattle.replay_exponential.specs.Followed.{scale_in, configured_by}
 
 -- the series' stores, as long as a line `m` says
-abbrev pub cells_in : State → Bor (List (List ℕ)) → Bor (List (List ℤ)) → Bor (List ℕ) → Bor (List ℕ) → Cells
+abbrev pub cells_in : State → List (List ℕ) → List (List ℤ) → List ℕ → List ℕ → Cells
 cells_in s figures extremes positive negative =
     record {
-      figures = take s.entries figures.now;
-      extremes = take s.entries extremes.now;
-      pos = take s.counts positive.now;
-      neg = take s.counts negative.now;
+      figures = take s.entries figures;
+      extremes = take s.entries extremes;
+      pos = take s.counts positive;
+      neg = take s.counts negative;
     }
 
 -- ---- configuring

@@ -1,7 +1,6 @@
 -- BETWEEN OUR OWN CRATES: serves inner contracts and proofs; nobody needs it to believe the public calls or the theorems.
 -- The state after a line that collects from a map of sums or last values. Assumes nothing.
 use Rattle.std.specs.Prelude.{ℕ, min, List, [], take, Float}
-use Rattle.std.specs.Borrow.{Bor}
 use Rattle.directory.specs.View.{Stores}
 use Rattle.value_map.specs.Calls.{held}
 use Rattle.listing.specs.Listed.{Output}
@@ -13,9 +12,9 @@ use Rattle.replay_state.specs.Lines.{collected_as}
 use Rattle.replay_singles.specs.Followed.{kind_of}
 
 -- the output, as long as the line says, at most 66 points, whose bits are the first of its counts
-abbrev pub output_in : State → Bor (List (List ℕ)) → Bor (List ℕ) → Output
+abbrev pub output_in : State → List (List ℕ) → List ℕ → Output
 output_in s sets counts =
-    record { sets = take (min (field s 2) 66) sets.now; words = as_words (take (min (field s 2) 66) counts.now); pos = []; neg = [] }
+    record { sets = take (min (field s 2) 66) sets; words = as_words (take (min (field s 2) 66) counts); pos = []; neg = [] }
 
 abbrev pub listed : State → Collected (List Float) → State
 listed s x = collected_by x.answer x.held.kept.dir s

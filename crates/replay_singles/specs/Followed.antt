@@ -3,7 +3,6 @@
 use Rattle.std.specs.Prelude.{List, eqb, take, drop, Float}
 use Rattle.std.specs.Float.{binary64}
 use Rattle.std.specs.Float.Ieee.{of_bits}
-use Rattle.std.specs.Borrow.{Bor}
 use Rattle.laws.specs.Pick.{pick}
 use Rattle.laws.specs.Said.{Said, refusal, success}
 use Rattle.tally.specs.Sets.{Set}
@@ -25,8 +24,8 @@ abbrev pub kind_of : State → Aggregation
 kind_of s = pick (eqb s.of 115) Sum LastValue
 
 -- the values, which lie behind the bounds, as long as a line `m` says
-abbrev pub values_in : State → Bor (List Float) → List Float
-values_in s bounds = take s.entries (drop 2200 bounds.now)
+abbrev pub values_in : State → List Float → List Float
+values_in s bounds = take s.entries (drop 2200 bounds)
 
 -- ---- configuring
 

@@ -45,7 +45,7 @@ fn configure(
     entries: &mut [[u64; 3]],
     order: &[u32],
 ) -> State
-    ensures { result ≡ after_configured s (lent_stores s sets.entry entries.entry order.entry) (values_in s bounds.entry) }
+    ensures { result ≡ after_configured s (lent_stores s sets.now entries.old order.now) (values_in s bounds.now) }
 {
     let n = s.entries;
     let waiting = s.next_filter;
@@ -70,8 +70,8 @@ fn measure(
     entries: &mut [[u64; 3]],
     order: &mut [u32],
 ) -> State
-    ensures { result ≡ after_measured s (given_in s attrs.entry)
-        (lent_stores s sets.entry entries.entry order.entry) (values_in s bounds.entry) }
+    ensures { result ≡ after_measured s (given_in s attrs.now)
+        (lent_stores s sets.old entries.old order.old) (values_in s bounds.old) }
 {
     let n = s.entries;
     let filter = s.filter;
@@ -98,7 +98,7 @@ fn measure_by(
     entries: &mut [[u64; 3]],
     order: &mut [u32],
 ) -> State
-    ensures { result ≡ after_measured_by s (lent_stores s sets.entry entries.entry order.entry) (values_in s bounds.entry) }
+    ensures { result ≡ after_measured_by s (lent_stores s sets.old entries.old order.old) (values_in s bounds.old) }
 {
     let n = s.entries;
     let reply = singles::map::measure_by(
@@ -124,8 +124,8 @@ pub fn follow(
     entries: &mut [[u64; 3]],
     order: &mut [u32],
 ) -> State
-    ensures { result ≡ after_followed s (given_in s attrs.entry)
-        (lent_stores s sets.entry entries.entry order.entry) (values_in s bounds.entry) }
+    ensures { result ≡ after_followed s (given_in s attrs.now)
+        (lent_stores s sets.old entries.old order.old) (values_in s bounds.old) }
 {
     if !replay_state::is_single(s.of) {
         return s;
@@ -160,8 +160,8 @@ fn delta(
     out_sets: &mut [[u64; 9]],
     out_counts: &mut [u64],
 ) -> State
-    ensures { result ≡ after_delta s (lent_stores s sets.entry entries.entry order.entry) (values_in s bounds.entry)
-        (output_in s out_sets.entry out_counts.entry) }
+    ensures { result ≡ after_delta s (lent_stores s sets.old entries.old order.old) (values_in s bounds.now)
+        (output_in s out_sets.old out_counts.old) }
 {
     let n = s.entries;
     let i = replay_state::within(s.f[2], 66) as u64;
@@ -189,8 +189,8 @@ fn cumulative(
     out_sets: &mut [[u64; 9]],
     out_counts: &mut [u64],
 ) -> State
-    ensures { result ≡ after_cumulative s (lent_stores s sets.entry entries.entry order.entry) (values_in s bounds.entry)
-        (output_in s out_sets.entry out_counts.entry) }
+    ensures { result ≡ after_cumulative s (lent_stores s sets.now entries.now order.now) (values_in s bounds.now)
+        (output_in s out_sets.old out_counts.old) }
 {
     let n = s.entries;
     let i = replay_state::within(s.f[2], 66) as u64;
@@ -217,8 +217,8 @@ pub fn collect(
     out_sets: &mut [[u64; 9]],
     out_counts: &mut [u64],
 ) -> State
-    ensures { result ≡ after_collected s (lent_stores s sets.entry entries.entry order.entry) (values_in s bounds.entry)
-        (output_in s out_sets.entry out_counts.entry) }
+    ensures { result ≡ after_collected s (lent_stores s sets.old entries.old order.old) (values_in s bounds.now)
+        (output_in s out_sets.old out_counts.old) }
 {
     if !replay_state::is_single(s.of) {
         return s;

@@ -11,7 +11,7 @@ pub fn bind(
     entries: &mut [[u64; 3]],
     order: &mut [u32],
 ) -> State
-    ensures { result ≡ after_bound s (given_in s attrs.entry) (lent_stores s sets.entry entries.entry order.entry) }
+    ensures { result ≡ after_bound s (given_in s attrs.now) (lent_stores s sets.old entries.old order.old) }
 {
     let n = s.entries;
     let filter = s.filter;

@@ -20,8 +20,8 @@ fn measure_all(
     pos: &mut [u64],
     neg: &mut [u64],
 ) -> State
-    ensures { result ≡ after_all (explicit_wholes (bounds_in s bounds.now) s.sums) s (list_in s 1 integers.entry) (given_in s attrs.entry)
-        (lent_stores s sets.entry entries.entry order.entry) (cells_in s neg.entry extremes.entry pos.entry) }
+    ensures { result ≡ after_all (explicit_wholes (bounds_in s bounds.now) s.sums) s (list_in s 1 integers.now) (given_in s attrs.now)
+        (lent_stores s sets.old entries.old order.old) (cells_in s neg.old extremes.old pos.old) }
 {
     let n = s.entries;
     let filter = s.filter;
@@ -55,8 +55,8 @@ fn measure_all_by(
     pos: &mut [u64],
     neg: &mut [u64],
 ) -> State
-    ensures { result ≡ after_all_by (explicit_wholes (bounds_in s bounds.now) s.sums) s (list_in s 2 integers.entry)
-        (lent_stores s sets.entry entries.entry order.entry) (cells_in s neg.entry extremes.entry pos.entry) }
+    ensures { result ≡ after_all_by (explicit_wholes (bounds_in s bounds.now) s.sums) s (list_in s 2 integers.now)
+        (lent_stores s sets.old entries.old order.old) (cells_in s neg.old extremes.old pos.old) }
 {
     let n = s.entries;
     let reply = explicit_whole_batches::measure_all_by(
@@ -89,8 +89,8 @@ pub fn follow(
     pos: &mut [u64],
     neg: &mut [u64],
 ) -> State
-    ensures { result ≡ after_batch (explicit_wholes (bounds_in s bounds.now) s.sums) (eqb s.of 88) s integers.entry (given_in s attrs.entry)
-        (lent_stores s sets.entry entries.entry order.entry) (cells_in s neg.entry extremes.entry pos.entry) }
+    ensures { result ≡ after_batch (explicit_wholes (bounds_in s bounds.now) s.sums) (eqb s.of 88) s integers.now (given_in s attrs.now)
+        (lent_stores s sets.old entries.old order.old) (cells_in s neg.old extremes.old pos.old) }
 {
     if s.of != b'X' {
         return s;

@@ -19,8 +19,8 @@ fn measure_all(
     pos: &mut [u64],
     neg: &mut [u64],
 ) -> State
-    ensures { result ≡ after_all (exponential_wholes s.size s.top s.sums) s (list_in s 1 integers.entry) (given_in s attrs.entry)
-        (lent_stores s sets.entry entries.entry order.entry) (cells_in s figures.entry extremes.entry pos.entry neg.entry) }
+    ensures { result ≡ after_all (exponential_wholes s.size s.top s.sums) s (list_in s 1 integers.now) (given_in s attrs.now)
+        (lent_stores s sets.old entries.old order.old) (cells_in s figures.old extremes.old pos.old neg.old) }
 {
     let n = s.entries;
     let m = s.counts;
@@ -57,8 +57,8 @@ fn measure_all_by(
     pos: &mut [u64],
     neg: &mut [u64],
 ) -> State
-    ensures { result ≡ after_all_by (exponential_wholes s.size s.top s.sums) s (list_in s 2 integers.entry)
-        (lent_stores s sets.entry entries.entry order.entry) (cells_in s figures.entry extremes.entry pos.entry neg.entry) }
+    ensures { result ≡ after_all_by (exponential_wholes s.size s.top s.sums) s (list_in s 2 integers.now)
+        (lent_stores s sets.old entries.old order.old) (cells_in s figures.old extremes.old pos.old neg.old) }
 {
     let n = s.entries;
     let m = s.counts;
@@ -94,8 +94,8 @@ pub fn follow(
     pos: &mut [u64],
     neg: &mut [u64],
 ) -> State
-    ensures { result ≡ after_batch (exponential_wholes s.size s.top s.sums) (eqb s.of 69) s integers.entry (given_in s attrs.entry)
-        (lent_stores s sets.entry entries.entry order.entry) (cells_in s figures.entry extremes.entry pos.entry neg.entry) }
+    ensures { result ≡ after_batch (exponential_wholes s.size s.top s.sums) (eqb s.of 69) s integers.now (given_in s attrs.now)
+        (lent_stores s sets.old entries.old order.old) (cells_in s figures.old extremes.old pos.old neg.old) }
 {
     if s.of != b'E' {
         return s;

@@ -78,8 +78,8 @@ fn seat_right(
     row: &[u64; 9],
 ) -> Seating
     requires { (limit + 2 ≤ length sets.now) × (limit + 2 ≤ length entries.now) × (limit + 2 ≤ length order.now) × (size row.now ≤ 8)
-        × (agreesb limit d (stores sets entries order) ≡ true) }
-    ensures { result ≡ seated limit d (stores sets.entry entries.entry order.entry) row.now }
+        × (agreesb limit d (stores sets.now entries.now order.now) ≡ true) }
+    ensures { result ≡ seated limit d (stores sets.now entries.now order.now) row.now }
 {
     let t = directory::find::locate_agreed(limit, d, sets, entries, order, row);
     match t {
@@ -100,7 +100,7 @@ fn seat_in(
     row: &[u64; 9],
 ) -> Seating
     requires { (limit + 2 ≤ length sets.now) × (limit + 2 ≤ length entries.now) × (limit + 2 ≤ length order.now) × (size row.now ≤ 8) }
-    ensures { result ≡ seated limit d (stores sets.entry entries.entry order.entry) row.now }
+    ensures { result ≡ seated limit d (stores sets.now entries.now order.now) row.now }
 {
     if !directory::check::agrees(limit, d, sets, entries, order) {
         return refused(8);
@@ -130,7 +130,7 @@ fn seat_by_in(
     h: u64,
 ) -> Seating
     requires { (limit + 2 ≤ length sets.now) × (limit + 2 ≤ length entries.now) × (limit + 2 ≤ length order.now) }
-    ensures { result ≡ seated_by limit d (stores sets.entry entries.entry order.entry) h }
+    ensures { result ≡ seated_by limit d (stores sets.now entries.now order.now) h }
 {
     if !directory::check::agrees(limit, d, sets, entries, order) {
         return refused(8);
@@ -155,11 +155,11 @@ pub fn seat(
     filter: &[u32],
     row: &mut [u64; 9],
 ) -> Seating
-    ensures value { result ≡ unless_barred (barred_at cells value unset limit (stores sets.entry entries.entry order.entry)
+    ensures value { result ≡ unless_barred (barred_at cells value unset limit (stores sets.now entries.now order.now)
         (length (given attrs.now)) (accepts limit (filter_of present filter.now)))
-        (seated limit d (stores sets.entry entries.entry order.entry)
+        (seated limit d (stores sets.now entries.now order.now)
         (row_of (canonical (filter_of present filter.now) (given attrs.now)))) }
-    ensures row_after { row.new ≡ row_unless_barred (barred_at cells value unset limit (stores sets.entry entries.entry order.entry)
+    ensures row_after { row.new ≡ row_unless_barred (barred_at cells value unset limit (stores sets.now entries.now order.now)
         (length (given attrs.now)) (accepts limit (filter_of present filter.now)))
         (row_of (canonical (filter_of present filter.now) (given attrs.now))) row.old }
 {
@@ -185,8 +185,8 @@ pub fn seat_by(
     order: &[u32],
     h: u64,
 ) -> Seating
-    ensures { result ≡ unless_barred (barred_at cells value unset limit (stores sets.entry entries.entry order.entry) 0 (leb limit most_sets))
-        (seated_by limit d (stores sets.entry entries.entry order.entry) h) }
+    ensures { result ≡ unless_barred (barred_at cells value unset limit (stores sets.now entries.now order.now) 0 (leb limit most_sets))
+        (seated_by limit d (stores sets.now entries.now order.now) h) }
 {
     let lent = room::suffices(limit, sets.len(), entries.len(), order.len(), cells);
     let no = first::barred(lent, value, 0, unset, limit <= directory::MOST_SETS);
@@ -210,9 +210,9 @@ fn seat_agreed(
     row: &mut [u64; 9],
 ) -> Seating
     requires { (limit + 2 ≤ length sets.now) × (limit + 2 ≤ length entries.now) × (limit + 2 ≤ length order.now)
-        × (agreesb limit d (stores sets entries order) ≡ true) }
+        × (agreesb limit d (stores sets.now entries.now order.now) ≡ true) }
     ensures value { result ≡ unless_barred (barred_by true value (length (given attrs.now)) true)
-        (seated limit d (stores sets.entry entries.entry order.entry)
+        (seated limit d (stores sets.now entries.now order.now)
         (row_of (canonical (filter_of present filter.now) (given attrs.now)))) }
     ensures row_after { row.new ≡ row_unless_barred (barred_by true value (length (given attrs.now)) true)
         (row_of (canonical (filter_of present filter.now) (given attrs.now))) row.old }
@@ -236,8 +236,8 @@ fn seat_by_agreed(
     h: u64,
 ) -> Seating
     requires { (limit + 2 ≤ length sets.now) × (limit + 2 ≤ length entries.now) × (limit + 2 ≤ length order.now)
-        × (agreesb limit d (stores sets entries order) ≡ true) }
-    ensures { result ≡ unless_barred (barred_by true value 0 true) (seated_by limit d (stores sets.entry entries.entry order.entry) h) }
+        × (agreesb limit d (stores sets.now entries.now order.now) ≡ true) }
+    ensures { result ≡ unless_barred (barred_by true value 0 true) (seated_by limit d (stores sets.now entries.now order.now) h) }
 {
     let no = first::barred(true, value, 0, 0, true);
     if no != 0 {
@@ -263,12 +263,12 @@ pub fn seat_if(
     filter: &[u32],
     row: &mut [u64; 9],
 ) -> Seating
-    requires { known ≡ true → Sure cells unset limit d (stores sets entries order) (accepts limit (filter_of present filter.now)) }
-    ensures value { result ≡ unless_barred (barred_at cells value unset limit (stores sets.entry entries.entry order.entry)
+    requires { known ≡ true → Sure cells unset limit d (stores sets.now entries.now order.now) (accepts limit (filter_of present filter.now)) }
+    ensures value { result ≡ unless_barred (barred_at cells value unset limit (stores sets.now entries.now order.now)
         (length (given attrs.now)) (accepts limit (filter_of present filter.now)))
-        (seated limit d (stores sets.entry entries.entry order.entry)
+        (seated limit d (stores sets.now entries.now order.now)
         (row_of (canonical (filter_of present filter.now) (given attrs.now)))) }
-    ensures row_after { row.new ≡ row_unless_barred (barred_at cells value unset limit (stores sets.entry entries.entry order.entry)
+    ensures row_after { row.new ≡ row_unless_barred (barred_at cells value unset limit (stores sets.now entries.now order.now)
         (length (given attrs.now)) (accepts limit (filter_of present filter.now)))
         (row_of (canonical (filter_of present filter.now) (given attrs.now))) row.old }
 {
@@ -295,9 +295,9 @@ pub fn seat_by_if(
     order: &[u32],
     h: u64,
 ) -> Seating
-    requires { known ≡ true → Sure cells unset limit d (stores sets entries order) (leb limit most_sets) }
-    ensures { result ≡ unless_barred (barred_at cells value unset limit (stores sets.entry entries.entry order.entry) 0 (leb limit most_sets))
-        (seated_by limit d (stores sets.entry entries.entry order.entry) h) }
+    requires { known ≡ true → Sure cells unset limit d (stores sets.now entries.now order.now) (leb limit most_sets) }
+    ensures { result ≡ unless_barred (barred_at cells value unset limit (stores sets.now entries.now order.now) 0 (leb limit most_sets))
+        (seated_by limit d (stores sets.now entries.now order.now) h) }
 {
     if known {
         return seat_by_agreed(value, limit, d, sets, entries, order, h);
@@ -324,9 +324,9 @@ pub fn commit(
     row: &[u64; 9],
     target: directory::Target,
 ) -> directory::Directory
-    requires { Fits d (stores sets entries order) target }
-    ensures { kept result (stores sets.exit entries.exit order.exit)
-        ≡ committed d (stores sets.entry entries.entry order.entry) row.now target }
+    requires { Fits d (stores sets.old entries.old order.old) target }
+    ensures { kept result (stores sets.new entries.new order.new)
+        ≡ committed d (stores sets.old entries.old order.old) row.now target }
 {
     match target {
         directory::Target::Disagrees => d,

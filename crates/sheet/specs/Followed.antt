@@ -1,7 +1,6 @@
 -- The program after a line, with every store. Assumes nothing.
 use Rattle.std.specs.Prelude.{ℕ, ◌+◌, ◌-◌, min, Bool, true, false, List, [], ltb, eqb, length, take, Float}
 use Rattle.std.proofs.lemmas.List.Edits.{sets}
-use Rattle.std.specs.Borrow.{Bor}
 use Rattle.laws.specs.Pick.{pick}
 use Rattle.laws.specs.Said.{Said, refusal, success}
 use Rattle.text.specs.declared.numbers.Natural.{Natural}
@@ -44,7 +43,7 @@ pub record Went : Type 0 where
   pub list : Source
 
 -- as a contract writes it
-abbrev pub went : Done → Bor (List ℕ) → Source → Went
+abbrev pub went : Done → List ℕ → Source → Went
 went r text x = record { taken = r.taken; state = r.state; text = waiting r.text text; list = x }
 
 abbrev pub read_by : State → Shown → Went
@@ -92,7 +91,7 @@ pub record Followed : Type 0 where
   pub bytes : List ℕ
 
 -- as a contract writes it
-abbrev pub followed : Done → Bor (List ℕ) → Stores → Cells → Source → List ℕ → Followed
+abbrev pub followed : Done → List ℕ → Stores → Cells → Source → List ℕ → Followed
 followed r text s c x b =
     record { taken = r.taken; state = r.state; text = waiting r.text text; stores = s; cells = c; list = x; bytes = b }
 

@@ -43,12 +43,12 @@ pub fn make(
     bounds: &ListedBounds,
     sheet: &mut Bytes,
 ) -> Done
-    ensures { followed result text.exit (stores sets.exit entries.exit order.exit)
-        (cells_in figures.exit extremes.exit pos.exit neg.exit)
-        (source out_sets.exit out_words.exit out_pos.exit out_neg.exit bounds.entry) sheet.new
-        ≡ after_call g line.now over (waiting n text.entry) (stores sets.entry entries.entry order.entry)
-        (cells_in figures.entry extremes.entry pos.entry neg.entry)
-        (source out_sets.entry out_words.entry out_pos.entry out_neg.entry bounds.entry) sheet.old }
+    ensures { followed result text.new (stores sets.new entries.new order.new)
+        (cells_in figures.new extremes.new pos.new neg.new)
+        (source out_sets.new out_words.new out_pos.new out_neg.new bounds.now) sheet.new
+        ≡ after_call g line.now over (waiting n text.old) (stores sets.old entries.old order.old)
+        (cells_in figures.old extremes.old pos.old neg.old)
+        (source out_sets.old out_words.old out_pos.old out_neg.old bounds.now) sheet.old }
 {
     let call = gauge_lines::fields::call_in(line, g.running, over);
     match call {

@@ -66,12 +66,12 @@ pub fn collect(
     bounds: &ListedBounds,
     sheet: &mut Bytes,
 ) -> Done
-    ensures { followed result text.exit (stores sets.exit entries.exit order.exit)
-        (cells figures.entry extremes.entry pos.entry neg.entry)
-        (source out_sets.exit out_words.exit out_pos.exit out_neg.exit bounds.entry) sheet.new
-        ≡ after_collect g line.now (waiting n text.entry) (stores sets.entry entries.entry order.entry)
-        (cells figures.entry extremes.entry pos.entry neg.entry)
-        (source out_sets.entry out_words.entry out_pos.entry out_neg.entry bounds.entry) sheet.old }
+    ensures { followed result text.new (stores sets.new entries.new order.new)
+        (cells figures.now extremes.now pos.now neg.now)
+        (source out_sets.new out_words.new out_pos.new out_neg.new bounds.now) sheet.new
+        ≡ after_collect g line.now (waiting n text.old) (stores sets.old entries.old order.old)
+        (cells figures.now extremes.now pos.now neg.now)
+        (source out_sets.old out_words.old out_pos.old out_neg.old bounds.now) sheet.old }
 {
     let Natural::Is(time) = gauge_lines::fields::time_in(line) else {
         return crate::state::ended(false, g, n);

@@ -24,7 +24,7 @@ fn glyph(d: u8) -> u8
 
 // Bytes behind n others; how many there are then.
 fn digits_of(out: &Stdout, text: &mut Block, n: usize, bytes: &[u8]) -> usize
-    ensures { waiting result text.exit ≡ hex_of bytes.now behind waiting n text.entry }
+    ensures { waiting result text.new ≡ hex_of bytes.now behind waiting n text.old }
 {
     let mut m = n;
     let mut i: usize = 0;
@@ -38,7 +38,7 @@ fn digits_of(out: &Stdout, text: &mut Block, n: usize, bytes: &[u8]) -> usize
 
 // The line of a record.
 fn record_line(out: &Stdout, text: &mut Block, n: usize, bytes: &[u8]) -> usize
-    ensures { waiting result text.exit ≡ record_line bytes.now behind waiting n text.entry }
+    ensures { waiting result text.new ≡ record_line bytes.now behind waiting n text.old }
 {
     let m = digits_of(out, text, n, bytes);
     output::byte(out, text, m, b'\n')
@@ -46,7 +46,7 @@ fn record_line(out: &Stdout, text: &mut Block, n: usize, bytes: &[u8]) -> usize
 
 // The lines of all records.
 pub fn record_lines(out: &Stdout, text: &mut Block, n: usize, bytes: &[u8]) -> usize
-    ensures { waiting result text.exit ≡ record_lines (length bytes.now / 32) bytes.now behind waiting n text.entry }
+    ensures { waiting result text.new ≡ record_lines (length bytes.now / 32) bytes.now behind waiting n text.old }
 {
     let many = bytes.len() / 32;
     let mut m = n;

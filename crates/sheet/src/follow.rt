@@ -37,12 +37,12 @@ fn step(
     bounds: &mut ListedBounds,
     sheet: &mut Bytes,
 ) -> Done
-    ensures { followed result text.exit (stores sets.exit entries.exit order.exit)
-        (cells_in figures.exit extremes.exit pos.exit neg.exit)
-        (source out_sets.exit out_words.exit out_pos.exit out_neg.exit bounds.exit) sheet.new
-        ≡ after_step st line.now over (waiting n text.entry) (stores sets.entry entries.entry order.entry)
-        (cells_in figures.entry extremes.entry pos.entry neg.entry)
-        (source out_sets.entry out_words.entry out_pos.entry out_neg.entry bounds.entry) sheet.old }
+    ensures { followed result text.new (stores sets.new entries.new order.new)
+        (cells_in figures.new extremes.new pos.new neg.new)
+        (source out_sets.new out_words.new out_pos.new out_neg.new bounds.new) sheet.new
+        ≡ after_step st line.now over (waiting n text.old) (stores sets.old entries.old order.old)
+        (cells_in figures.old extremes.old pos.old neg.old)
+        (source out_sets.old out_words.old out_pos.old out_neg.old bounds.old) sheet.old }
 {
     if st.left > 0 {
         return reading::follow(
@@ -64,7 +64,7 @@ fn step(
 
 // What is said of a line: nothing where it was followed. How much text there is then.
 fn said(out: &Stdout, taken: bool, number: u64, text: &mut Block, n: usize) -> usize
-    ensures { waiting result text.exit ≡ pick taken [] (unread_line number) behind waiting n text.entry }
+    ensures { waiting result text.new ≡ pick taken [] (unread_line number) behind waiting n text.old }
 {
     if taken {
         return n;
@@ -95,12 +95,12 @@ pub fn follow(
     bounds: &mut ListedBounds,
     sheet: &mut Bytes,
 ) -> Done
-    ensures { followed result text.exit (stores sets.exit entries.exit order.exit)
-        (cells_in figures.exit extremes.exit pos.exit neg.exit)
-        (source out_sets.exit out_words.exit out_pos.exit out_neg.exit bounds.exit) sheet.new
-        ≡ after_line number st line.now over (waiting n text.entry) (stores sets.entry entries.entry order.entry)
-        (cells_in figures.entry extremes.entry pos.entry neg.entry)
-        (source out_sets.entry out_words.entry out_pos.entry out_neg.entry bounds.entry) sheet.old }
+    ensures { followed result text.new (stores sets.new entries.new order.new)
+        (cells_in figures.new extremes.new pos.new neg.new)
+        (source out_sets.new out_words.new out_pos.new out_neg.new bounds.new) sheet.new
+        ≡ after_line number st line.now over (waiting n text.old) (stores sets.old entries.old order.old)
+        (cells_in figures.old extremes.old pos.old neg.old)
+        (source out_sets.old out_words.old out_pos.old out_neg.old bounds.old) sheet.old }
 {
     let made = step(
         out, st, line, over, text, n, sets, entries, order, figures, extremes, pos, neg, out_sets,

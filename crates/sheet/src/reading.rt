@@ -58,9 +58,9 @@ fn show(
     neg: &mut ListedCounts,
     bounds: &mut ListedBounds,
 ) -> usize
-    ensures { shown (waiting result text.exit) (source sets.exit words.exit pos.exit neg.exit bounds.exit)
-        ≡ shown_by (reading bytes.now (source sets.entry words.entry pos.entry neg.entry bounds.entry))
-        (waiting n text.entry) }
+    ensures { shown (waiting result text.new) (source sets.new words.new pos.new neg.new bounds.new)
+        ≡ shown_by (reading bytes.now (source sets.old words.old pos.old neg.old bounds.old))
+        (waiting n text.old) }
 {
     let answer = sheet_reading::read(bytes, sets, words, pos, neg, bounds);
     match answer {
@@ -99,8 +99,8 @@ fn go_on(
     bounds: &mut ListedBounds,
     sheet: &Bytes,
 ) -> Done
-    ensures { went result text.exit (source sets.exit words.exit pos.exit neg.exit bounds.exit)
-        ≡ went_on st (waiting n text.entry) (source sets.entry words.entry pos.entry neg.entry bounds.entry)
+    ensures { went result text.new (source sets.new words.new pos.new neg.new bounds.new)
+        ≡ went_on st (waiting n text.old) (source sets.old words.old pos.old neg.old bounds.old)
         sheet.now }
 {
     if st.left > 0 {
@@ -133,9 +133,9 @@ pub fn begin(
     bounds: &mut ListedBounds,
     sheet: &Bytes,
 ) -> Done
-    ensures { went result text.exit (source sets.exit words.exit pos.exit neg.exit bounds.exit)
-        ≡ went_on (opened gauge records) (waiting n text.entry)
-        (source sets.entry words.entry pos.entry neg.entry bounds.entry) sheet.now }
+    ensures { went result text.new (source sets.new words.new pos.new neg.new bounds.new)
+        ≡ went_on (opened gauge records) (waiting n text.old)
+        (source sets.old words.old pos.old neg.old bounds.old) sheet.now }
 {
     let st = State {
         gauge,
@@ -171,9 +171,9 @@ pub fn follow(
     sheet: &mut Bytes,
 ) -> Done
     requires { 0 < st.left }
-    ensures bounds_value { went result text.exit (source sets.exit words.exit pos.exit neg.exit bounds.exit)
-        ≡ in_sheet st line.now over (waiting n text.entry)
-        (source sets.entry words.entry pos.entry neg.entry bounds.entry) sheet.old }
+    ensures bounds_value { went result text.new (source sets.new words.new pos.new neg.new bounds.new)
+        ≡ in_sheet st line.now over (waiting n text.old)
+        (source sets.old words.old pos.old neg.old bounds.old) sheet.old }
     ensures sheet_after { sheet.new ≡ record_put st line.now over sheet.old }
 {
     let gauge = st.gauge;

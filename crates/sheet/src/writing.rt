@@ -13,7 +13,7 @@ use std::io::Stdout;
 
 // `! N` for a refusal, behind n bytes of text; how many there are then.
 pub fn refusal(out: &Stdout, text: &mut Block, n: usize, no: u8) -> usize
-    ensures { waiting result text.exit ≡ refusal_line no behind waiting n text.entry }
+    ensures { waiting result text.new ≡ refusal_line no behind waiting n text.old }
 {
     let a = output::byte(out, text, n, b'!');
     let b = printing::number(out, text, a, no as u64);
@@ -38,7 +38,7 @@ pub fn front<'a>(sheet: &'a Bytes, n: usize) -> &'a [u8]
 
 // The lines of a sheet.
 fn sheet_lines(out: &Stdout, text: &mut Block, n: usize, bytes: &[u8]) -> usize
-    ensures { waiting result text.exit ≡ sheet_lines bytes.now behind waiting n text.entry }
+    ensures { waiting result text.new ≡ sheet_lines bytes.now behind waiting n text.old }
 {
     let a = output::byte(out, text, n, b's');
     let b = printing::number(out, text, a, (bytes.len() / 32) as u64);
@@ -61,9 +61,9 @@ pub fn write<'a>(
     bounds: &ListedBounds,
     sheet: &mut Bytes,
 ) -> usize
-    ensures { wrote (waiting result text.exit) sheet.new
-        ≡ wrote_by (writing header many (source sets.entry words.entry pos.entry neg.entry bounds.entry) sheet.old)
-        (waiting n text.entry) }
+    ensures { wrote (waiting result text.new) sheet.new
+        ≡ wrote_by (writing header many (source sets.now words.now pos.now neg.now bounds.now) sheet.old)
+        (waiting n text.old) }
 {
     let answer = sheet_writing::write(header, many, sets, words, pos, neg, bounds, sheet);
     match answer {

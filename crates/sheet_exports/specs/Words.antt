@@ -1,7 +1,6 @@
 -- BETWEEN OUR OWN CRATES: serves inner contracts and proofs; nobody needs it to believe the public calls or the theorems.
 -- What writing and reading a sheet comes to, as it is handed to programs in other languages. Assumes nothing.
 use Rattle.std.specs.Prelude.{ℕ, List, [], ◌∷◌, set}
-use Rattle.std.specs.Borrow.{Bor}
 use Rattle.laws.specs.Counting.{bit}
 use Rattle.laws.specs.Said.{Said, refusal, success, number}
 use Rattle.pooling.specs.Lists.{Source}
@@ -21,8 +20,8 @@ pub record Put : Type 0 where
   pub bytes : List ℕ
 
 -- as a contract writes it
-abbrev pub put : ℕ → Bor (List ℕ) → Bor (List ℕ) → Put
-put n size out = record { number = n; size = size.now; bytes = out.now }
+abbrev pub put : ℕ → List ℕ → List ℕ → Put
+put n size out = record { number = n; size = size; bytes = out }
 
 abbrev pub put_out : List ℕ → Writing.Outcome → Put
 put_out size o = record { number = number o.answer; size = set size 0 (size_in o.answer); bytes = o.bytes }
@@ -38,8 +37,8 @@ pub record Got : Type 0 where
   pub header : List ℕ
   pub lent : Source
 
-abbrev pub got : ℕ → Bor (List ℕ) → Source → Got
-got n header o = record { number = n; header = header.now; lent = o }
+abbrev pub got : ℕ → List ℕ → Source → Got
+got n header o = record { number = n; header = header; lent = o }
 
 abbrev pub got_out : Reading.Outcome → Got
 got_out o = record { number = number o.answer; header = header_in o.answer; lent = o.lent }

@@ -46,9 +46,9 @@ pub extern "C" fn sheet_write<'a>(
     out: &mut [u8],
     size: &mut [u64; 1],
 ) -> u64
-    ensures { put result size.exit out.exit
+    ensures { put result size.new out.new
         ≡ put_out size.old (Writing.writing (record { start = start; time = time; delta = eqb delta 1 }) points
-        (source sets.entry words.entry pos.entry neg.entry bounds.entry) out.old) }
+        (source sets.now words.now pos.now neg.now bounds.now) out.old) }
 {
     let header = Header {
         start,
@@ -104,8 +104,8 @@ pub extern "C" fn sheet_read(
     bounds: &mut [f64],
     header: &mut [u64; 4],
 ) -> u64
-    ensures { got result header.exit (source sets.exit words.exit pos.exit neg.exit bounds.exit)
-        ≡ got_out (Reading.reading s.now (source sets.entry words.entry pos.entry neg.entry bounds.entry)) }
+    ensures { got result header.new (source sets.new words.new pos.new neg.new bounds.new)
+        ≡ got_out (Reading.reading s.now (source sets.old words.old pos.old neg.old bounds.old)) }
 {
     let answer = sheet_reading::read(s, sets, words, pos, neg, bounds);
     *header = header_of(answer);

@@ -22,9 +22,9 @@ fn copy_entry(
     neg: &mut [u64],
     bounds: &mut [f64],
 )
-    requires { EntryRoom s.now k i y z w (source sets words pos neg bounds) }
-    ensures { source sets.exit words.exit pos.exit neg.exit bounds.exit
-        ≡ copied_entry s.now k i y (source sets.entry words.entry pos.entry neg.entry bounds.entry) }
+    requires { EntryRoom s.now k i y z w (source sets.old words.old pos.old neg.old bounds.old) }
+    ensures { source sets.new words.new pos.new neg.new bounds.new
+        ≡ copied_entry s.now k i y (source sets.old words.old pos.old neg.old bounds.old) }
 {
     sets[i] = row_at(s, k);
     let b = y.bounds;
@@ -52,9 +52,9 @@ pub fn copy_points(
     neg: &mut [u64],
     bounds: &mut [f64],
 )
-    requires { Copyable s.now n (source sets words pos neg bounds) }
-    ensures { source sets.exit words.exit pos.exit neg.exit bounds.exit
-        ≡ copied n s.now 3 0 nothing (source sets.entry words.entry pos.entry neg.entry bounds.entry) }
+    requires { Copyable s.now n (source sets.old words.old pos.old neg.old bounds.old) }
+    ensures { source sets.new words.new pos.new neg.new bounds.new
+        ≡ copied n s.now 3 0 nothing (source sets.old words.old pos.old neg.old bounds.old) }
 {
     let mut y = Sizes {
         bounds: 0,

@@ -37,8 +37,8 @@ pub fn read(
     neg: &mut [u64],
     bounds: &mut [f64],
 ) -> Answer
-    ensures { ends (said result) (source sets.exit words.exit pos.exit neg.exit bounds.exit)
-        ≡ reading s.now (source sets.entry words.entry pos.entry neg.entry bounds.entry) }
+    ensures { ends (said result) (source sets.new words.new pos.new neg.new bounds.new)
+        ≡ reading s.now (source sets.old words.old pos.old neg.old bounds.old) }
 {
     records::words::know_bytes(s);
     if !frame::frame_holds(s) {

@@ -1,7 +1,6 @@
 -- BETWEEN OUR OWN CRATES: serves inner contracts and proofs; nobody needs it to believe the public calls or the theorems.
 -- A list walked point by point, as the code walks it: judged, and put into bytes. Assumes nothing.
 use Rattle.std.specs.Prelude.{ℕ, zero, suc, ◌+◌, ◌-◌, ◌*◌, ◌/◌, ◌≤◌, ◌≡◌, Bool, not, ◌&&◌, ◌||◌, List, [], ◌∷◌, ◌++◌, map, leb, ltb, eqb, length, get_or, Float}
-use Rattle.std.specs.Borrow.{Bor}
 use Rattle.laws.specs.Pick.{pick}
 use Rattle.sets.specs.All.{allb}
 use Rattle.sets.specs.Rows.{size, set_of, below}
@@ -50,8 +49,8 @@ agreeing at x NoPoint = NoPoint
 agreeing at x (Is e) = pick (agrees_alone (stored_at at e x.bounds x.list)) (Is e) NoPoint
 
 -- what the agreement of a point found is asked of: counts and bounds
-abbrev pub lent_beside : Bor (List ℕ) → Bor (List ℕ) → Bor (List Float) → Source
-lent_beside pos neg bounds = record { list = record { sets = []; words = []; pos = pos.now; neg = neg.now }; bounds = bounds.now }
+abbrev pub lent_beside : List ℕ → List ℕ → List Float → Source
+lent_beside pos neg bounds = record { list = record { sets = []; words = []; pos = pos; neg = neg }; bounds = bounds }
 
 -- the point at a cursor, if it can be written behind the one before it
 unfoldable pub step_at : Cursor → Source → Found
@@ -84,8 +83,8 @@ no_kind n words = allb n (λ i. not (leb 2 (get_or (get_or words i []) 0 0)))
 -- ---- put
 
 -- the point found lies within what is lent
-abbrev pub whole_there : Cursor → Listing.Entry → Bor (List ℕ) → Bor (List ℕ) → Bor (List Float) → Type 0
-whole_there at e pos neg bounds = Whole at e (length pos.now) (length neg.now) (length bounds.now)
+abbrev pub whole_there : Cursor → Listing.Entry → List ℕ → List ℕ → List Float → Type 0
+whole_there at e pos neg bounds = Whole at e (length pos) (length neg) (length bounds)
 
 -- the words of the point at a cursor: its row, its head, its bounds and its counts
 abbrev pub point_words : Cursor → List ℕ → Source → Listing.Entry → List ℕ

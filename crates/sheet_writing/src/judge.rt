@@ -79,7 +79,7 @@ fn shadow_found(many: usize, found: whole_listing::Found) -> Found
 
 // The point at a cursor, one of i64 values as its shadow, if it is there with its counts and its bounds.
 fn shadow_at(at: Cursor, words: &[[u64; 12]], pos: &[u64], neg: &[u64], bounds: &[f64]) -> Found
-    ensures { result ≡ whole_at at (shadowed (nameless words.entry pos.entry neg.entry bounds.entry)) }
+    ensures { result ≡ whole_at at (shadowed (nameless words.now pos.now neg.now bounds.now)) }
 {
     if !whole_listing::decode::is_whole(at, words) {
         return pooling::entries::whole_at(at, words, pos, neg, bounds);
@@ -96,7 +96,7 @@ fn agreeing_at<'a>(
     neg: &'a [u64],
     bounds: &[f64],
 ) -> Found
-    ensures { result ≡ agreeing at (lent_beside pos.entry neg.entry bounds.entry) found }
+    ensures { result ≡ agreeing at (lent_beside pos.now neg.now bounds.now) found }
 {
     match found {
         Found::NoPoint => Found::NoPoint,
@@ -123,7 +123,7 @@ fn step_at<'a>(
     neg: &'a [u64],
     bounds: &[f64],
 ) -> Found
-    ensures { result ≡ step_at at (shadowed (source sets.entry words.entry pos.entry neg.entry bounds.entry)) }
+    ensures { result ≡ step_at at (shadowed (source sets.now words.now pos.now neg.now bounds.now)) }
 {
     if !row_taken(at.place, sets) {
         return Found::NoPoint;
@@ -152,7 +152,7 @@ pub fn judge<'a>(
     neg: &'a [u64],
     bounds: &[f64],
 ) -> Judged
-    ensures { result ≡ judged n (shadowed (source sets.entry words.entry pos.entry neg.entry bounds.entry)) }
+    ensures { result ≡ judged n (shadowed (source sets.now words.now pos.now neg.now bounds.now)) }
 {
     if n > 64 {
         return Judged::Bad;

@@ -31,7 +31,7 @@ pub fn write<'a>(
     bounds: &[f64],
     out: &mut [u8],
 ) -> Answer
-    ensures { ends (said result) out.new ≡ writing header n (source sets.entry words.entry pos.entry neg.entry bounds.entry) out.old }
+    ensures { ends (said result) out.new ≡ writing header n (source sets.now words.now pos.now neg.now bounds.now) out.old }
 {
     let judged = judge::judge(n, sets, words, pos, neg, bounds);
     match judged {

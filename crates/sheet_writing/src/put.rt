@@ -67,7 +67,7 @@ fn put_point(
 )
     requires room { Room info n s.old }
     requires neg_bound { k + (21 + (width (length bounds.now) + width (length pos.now + length neg.now))) ≤ n * 3 }
-    ensures { s.new ≡ laid info n k (row.now ++ (head_of (stored p bounds.entry pos.entry neg.entry)
+    ensures { s.new ≡ laid info n k (row.now ++ (head_of (stored p bounds.now pos.now neg.now)
         ++ (padded (map bits_of bounds.now) ++ padded (pos.now ++ neg.now)))) s.old }
 {
     let span = Span {
@@ -95,9 +95,9 @@ fn put_found<'a>(
     bounds: &[f64],
 )
     requires room { Room info n s.old }
-    requires whole_there { whole_there at e pos neg bounds }
+    requires whole_there { whole_there at e pos.now neg.now bounds.now }
     requires e_bound { k + width_at at e ≤ n * 3 }
-    ensures { s.new ≡ laid info n k (point_words at row.now (lent_beside pos.entry neg.entry bounds.entry) e) s.old }
+    ensures { s.new ≡ laid info n k (point_words at row.now (lent_beside pos.now neg.now bounds.now) e) s.old }
 {
     let p = e.point;
     let next = e.next;
@@ -141,8 +141,8 @@ pub fn put_sheet<'a>(
     bounds: &[f64],
     s: &mut [u8],
 )
-    requires { Judgement n records (source sets words pos neg bounds) s.old }
-    ensures { s.new ≡ put_sheet h n records (source sets.entry words.entry pos.entry neg.entry bounds.entry) s.old }
+    requires { Judgement n records (source sets.now words.now pos.now neg.now bounds.now) s.old }
+    ensures { s.new ≡ put_sheet h n records (source sets.now words.now pos.now neg.now bounds.now) s.old }
 {
     let info = info_of(h, n);
     put_header(s, info, records, h);

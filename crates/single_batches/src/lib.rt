@@ -57,10 +57,10 @@ fn all(
     filter: &[u32],
 ) -> Batch
     requires { known ≡ true → AgreedFor (single_store aggregation) tt limit (filter_of present filter.now)
-        (held d (stores sets entries order) values.old) (given attrs.now) }
-    ensures { many result.taken result.no (held result.dir (stores sets.exit entries.exit order.exit) values.new)
+        (held d (stores sets.old entries.old order.old) values.old) (given attrs.now) }
+    ensures { many result.taken result.no (held result.dir (stores sets.new entries.new order.new) values.new)
         ≡ measured_all (single_store aggregation) limit (filter_of present filter.now)
-        (held d (stores sets.entry entries.entry order.entry) values.old) list.now (given attrs.now) }
+        (held d (stores sets.old entries.old order.old) values.old) list.now (given attrs.now) }
 {
     if list.len() == 0 {
         return Batch {
@@ -102,10 +102,10 @@ fn all_by(
     list: &[f64],
     h: u64,
 ) -> Batch
-    requires { known ≡ true → AgreedBy (single_store aggregation) tt limit (held d (stores sets entries order) values.old) h }
-    ensures { many result.taken result.no (held result.dir (stores sets.exit entries.exit order.exit) values.new)
+    requires { known ≡ true → AgreedBy (single_store aggregation) tt limit (held d (stores sets.old entries.old order.old) values.old) h }
+    ensures { many result.taken result.no (held result.dir (stores sets.new entries.new order.new) values.new)
         ≡ measured_all_by (single_store aggregation) limit
-        (held d (stores sets.entry entries.entry order.entry) values.old) list.now h }
+        (held d (stores sets.old entries.old order.old) values.old) list.now h }
 {
     if list.len() == 0 {
         return Batch {
@@ -145,9 +145,9 @@ pub fn measure_all(
     present: bool,
     filter: &[u32],
 ) -> Batch
-    ensures { many result.taken result.no (held result.dir (stores sets.exit entries.exit order.exit) values.new)
+    ensures { many result.taken result.no (held result.dir (stores sets.new entries.new order.new) values.new)
         ≡ measured_all (single_store aggregation) limit (filter_of present filter.now)
-        (held d (stores sets.entry entries.entry order.entry) values.old) list.now (given attrs.now) }
+        (held d (stores sets.old entries.old order.old) values.old) list.now (given attrs.now) }
 {
     all(
         false,
@@ -177,9 +177,9 @@ pub fn measure_all_by(
     list: &[f64],
     h: u64,
 ) -> Batch
-    ensures { many result.taken result.no (held result.dir (stores sets.exit entries.exit order.exit) values.new)
+    ensures { many result.taken result.no (held result.dir (stores sets.new entries.new order.new) values.new)
         ≡ measured_all_by (single_store aggregation) limit
-        (held d (stores sets.entry entries.entry order.entry) values.old) list.now h }
+        (held d (stores sets.old entries.old order.old) values.old) list.now h }
 {
     all_by(
         false,
@@ -210,10 +210,10 @@ pub fn measure_all_agreed(
     filter: &[u32],
 ) -> Batch
     requires { AgreedFor (single_store aggregation) tt limit (filter_of present filter.now)
-        (held d (stores sets entries order) values.old) (given attrs.now) }
-    ensures { many result.taken result.no (held result.dir (stores sets.exit entries.exit order.exit) values.new)
+        (held d (stores sets.old entries.old order.old) values.old) (given attrs.now) }
+    ensures { many result.taken result.no (held result.dir (stores sets.new entries.new order.new) values.new)
         ≡ measured_all (single_store aggregation) limit (filter_of present filter.now)
-        (held d (stores sets.entry entries.entry order.entry) values.old) list.now (given attrs.now) }
+        (held d (stores sets.old entries.old order.old) values.old) list.now (given attrs.now) }
 {
     all(
         true,
@@ -243,10 +243,10 @@ pub fn measure_all_by_agreed(
     list: &[f64],
     h: u64,
 ) -> Batch
-    requires { AgreedBy (single_store aggregation) tt limit (held d (stores sets entries order) values.old) h }
-    ensures { many result.taken result.no (held result.dir (stores sets.exit entries.exit order.exit) values.new)
+    requires { AgreedBy (single_store aggregation) tt limit (held d (stores sets.old entries.old order.old) values.old) h }
+    ensures { many result.taken result.no (held result.dir (stores sets.new entries.new order.new) values.new)
         ≡ measured_all_by (single_store aggregation) limit
-        (held d (stores sets.entry entries.entry order.entry) values.old) list.now h }
+        (held d (stores sets.old entries.old order.old) values.old) list.now h }
 {
     all_by(
         true,
@@ -277,10 +277,10 @@ pub fn measure_agreed(
     filter: &[u32],
 ) -> Reply
     requires { AgreedFor (single_store aggregation) tt limit (filter_of present filter.now)
-        (held d (stores sets entries order) values.old) (given attrs.now) }
-    ensures { gave result (stores sets.exit entries.exit order.exit) values.new
+        (held d (stores sets.old entries.old order.old) values.old) (given attrs.now) }
+    ensures { gave result (stores sets.new entries.new order.new) values.new
         ≡ measured (single_store aggregation) limit (filter_of present filter.now)
-        (held d (stores sets.entry entries.entry order.entry) values.old) v (given attrs.now) }
+        (held d (stores sets.old entries.old order.old) values.old) v (given attrs.now) }
 {
     let one: [f64; 1] = [v];
     let got = all(
@@ -312,10 +312,10 @@ pub fn measure_by_agreed(
     v: f64,
     h: u64,
 ) -> Reply
-    requires { AgreedBy (single_store aggregation) tt limit (held d (stores sets entries order) values.old) h }
-    ensures { gave result (stores sets.exit entries.exit order.exit) values.new
+    requires { AgreedBy (single_store aggregation) tt limit (held d (stores sets.old entries.old order.old) values.old) h }
+    ensures { gave result (stores sets.new entries.new order.new) values.new
         ≡ measured_by (single_store aggregation) limit
-        (held d (stores sets.entry entries.entry order.entry) values.old) v h }
+        (held d (stores sets.old entries.old order.old) values.old) v h }
 {
     let one: [f64; 1] = [v];
     let got = all_by(

@@ -24,9 +24,9 @@ pub extern "C" fn sum_measure(
     v: f64,
     attrs: &[[u32; 2]],
 ) -> u64
-    ensures { handed result state.exit (stores sets.exit entries.exit order.exit) values.new
+    ensures { handed result state.new (stores sets.new entries.new order.new) values.new
         ≡ handed_out state.old (measured (single_store Sum) limit none
-        (held (state_of (get_or state.old 0 [])) (stores sets.entry entries.entry order.entry) values.old)
+        (held (state_of (get_or state.old 0 [])) (stores sets.old entries.old order.old) values.old)
         v (given attrs.now)) }
 {
     let d = map_words::state_of(state[0]);

@@ -22,9 +22,9 @@ pub extern "C" fn sum_measure_by(
     v: f64,
     handle: u64,
 ) -> u64
-    ensures { handed result state.exit (stores sets.exit entries.exit order.exit) values.new
+    ensures { handed result state.new (stores sets.new entries.new order.new) values.new
         ≡ handed_out state.old (measured_by (single_store Sum) limit
-        (held (state_of (get_or state.old 0 [])) (stores sets.entry entries.entry order.entry) values.old)
+        (held (state_of (get_or state.old 0 [])) (stores sets.old entries.old order.old) values.old)
         v handle) }
 {
     let d = map_words::state_of(state[0]);

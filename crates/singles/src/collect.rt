@@ -25,10 +25,10 @@ fn number(
     out_sets: &[[u64; 9]],
     out_values: &[u64],
 ) -> u8
-    requires { known ≡ true → Owned (single_store s.aggregation) tt s.limit none (held d (stores sets entries order) values.now) }
+    requires { known ≡ true → Owned (single_store s.aggregation) tt s.limit none (held d (stores sets.now entries.now order.now) values.now) }
     ensures { result ≡ uncollected (single_lister s.aggregation) tt cumulative s.limit
-        (held d (stores sets.entry entries.entry order.entry) values.now)
-        (output out_sets.entry out_values.entry) }
+        (held d (stores sets.now entries.now order.now) values.now)
+        (output out_sets.now out_values.now) }
 {
     let limit = s.limit;
     let room = directory::suffices(limit, values.len());
@@ -61,12 +61,12 @@ pub fn delta(
     out_sets: &mut [[u64; 9]],
     out_values: &mut [u64],
 ) -> Reply
-    requires { known ≡ true → Owned (single_store s.aggregation) tt s.limit none (held d (stores sets entries order) values.now) }
-    ensures { gave result.answer (held result.dir (stores sets.exit entries.exit order.exit) values.now)
-        (output out_sets.exit out_values.exit)
+    requires { known ≡ true → Owned (single_store s.aggregation) tt s.limit none (held d (stores sets.old entries.old order.old) values.now) }
+    ensures { gave result.answer (held result.dir (stores sets.new entries.new order.new) values.now)
+        (output out_sets.new out_values.new)
         ≡ delta_collected (single_lister s.aggregation) tt s.limit
-        (held d (stores sets.entry entries.entry order.entry) values.now)
-        (output out_sets.entry out_values.entry) }
+        (held d (stores sets.old entries.old order.old) values.now)
+        (output out_sets.old out_values.old) }
 {
     let no = number(
         known, false, s, d, sets, entries, order, values, out_sets, out_values,
@@ -99,12 +99,12 @@ pub fn cumulative(
     out_sets: &mut [[u64; 9]],
     out_values: &mut [u64],
 ) -> Answer
-    requires { known ≡ true → Owned (single_store s.aggregation) tt s.limit none (held d (stores sets entries order) values.now) }
-    ensures { gave result (held d (stores sets.entry entries.entry order.entry) values.now)
-        (output out_sets.exit out_values.exit)
+    requires { known ≡ true → Owned (single_store s.aggregation) tt s.limit none (held d (stores sets.now entries.now order.now) values.now) }
+    ensures { gave result (held d (stores sets.now entries.now order.now) values.now)
+        (output out_sets.new out_values.new)
         ≡ cumulative_collected (single_lister s.aggregation) tt s.limit
-        (held d (stores sets.entry entries.entry order.entry) values.now)
-        (output out_sets.entry out_values.entry) }
+        (held d (stores sets.now entries.now order.now) values.now)
+        (output out_sets.old out_values.old) }
 {
     let no = number(
         known, true, s, d, sets, entries, order, values, out_sets, out_values,

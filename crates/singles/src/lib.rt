@@ -76,9 +76,9 @@ pub fn configure(
     order: &[u32],
     values: &[f64],
 ) -> Configured
-    ensures { configuring (said result) (stores sets.entry entries.exit order.entry)
+    ensures { configuring (said result) (stores sets.now entries.new order.now)
         ≡ configured aggregation limit (filter_of present filter.now)
-        (stores sets.entry entries.entry order.entry) values.now }
+        (stores sets.now entries.old order.now) values.now }
 {
     let room = directory::suffices(limit, values.len());
     let reply = value_map::first::begin(0, room, limit, present, filter, sets, entries, order);
@@ -98,11 +98,11 @@ pub fn delta(
     out_sets: &mut [[u64; 9]],
     out_values: &mut [u64],
 ) -> Reply
-    ensures { gave result.answer (held result.dir (stores sets.exit entries.exit order.exit) values.now)
-        (output out_sets.exit out_values.exit)
+    ensures { gave result.answer (held result.dir (stores sets.new entries.new order.new) values.now)
+        (output out_sets.new out_values.new)
         ≡ delta_collected (single_lister s.aggregation) tt s.limit
-        (held d (stores sets.entry entries.entry order.entry) values.now)
-        (output out_sets.entry out_values.entry) }
+        (held d (stores sets.old entries.old order.old) values.now)
+        (output out_sets.old out_values.old) }
 {
     crate::collect::delta(
         false, s, d, sets, entries, order, values, out_sets, out_values,
@@ -120,12 +120,12 @@ pub fn delta_agreed(
     out_sets: &mut [[u64; 9]],
     out_values: &mut [u64],
 ) -> Reply
-    requires { Owned (single_store s.aggregation) tt s.limit none (held d (stores sets entries order) values.now) }
-    ensures { gave result.answer (held result.dir (stores sets.exit entries.exit order.exit) values.now)
-        (output out_sets.exit out_values.exit)
+    requires { Owned (single_store s.aggregation) tt s.limit none (held d (stores sets.old entries.old order.old) values.now) }
+    ensures { gave result.answer (held result.dir (stores sets.new entries.new order.new) values.now)
+        (output out_sets.new out_values.new)
         ≡ delta_collected (single_lister s.aggregation) tt s.limit
-        (held d (stores sets.entry entries.entry order.entry) values.now)
-        (output out_sets.entry out_values.entry) }
+        (held d (stores sets.old entries.old order.old) values.now)
+        (output out_sets.old out_values.old) }
 {
     crate::collect::delta(
         true, s, d, sets, entries, order, values, out_sets, out_values,
@@ -144,11 +144,11 @@ pub fn cumulative(
     out_sets: &mut [[u64; 9]],
     out_values: &mut [u64],
 ) -> Answer
-    ensures { gave result (held d (stores sets.entry entries.entry order.entry) values.now)
-        (output out_sets.exit out_values.exit)
+    ensures { gave result (held d (stores sets.now entries.now order.now) values.now)
+        (output out_sets.new out_values.new)
         ≡ cumulative_collected (single_lister s.aggregation) tt s.limit
-        (held d (stores sets.entry entries.entry order.entry) values.now)
-        (output out_sets.entry out_values.entry) }
+        (held d (stores sets.now entries.now order.now) values.now)
+        (output out_sets.old out_values.old) }
 {
     crate::collect::cumulative(
         false, s, d, sets, entries, order, values, out_sets, out_values,
@@ -166,12 +166,12 @@ pub fn cumulative_agreed(
     out_sets: &mut [[u64; 9]],
     out_values: &mut [u64],
 ) -> Answer
-    requires { Owned (single_store s.aggregation) tt s.limit none (held d (stores sets entries order) values.now) }
-    ensures { gave result (held d (stores sets.entry entries.entry order.entry) values.now)
-        (output out_sets.exit out_values.exit)
+    requires { Owned (single_store s.aggregation) tt s.limit none (held d (stores sets.now entries.now order.now) values.now) }
+    ensures { gave result (held d (stores sets.now entries.now order.now) values.now)
+        (output out_sets.new out_values.new)
         ≡ cumulative_collected (single_lister s.aggregation) tt s.limit
-        (held d (stores sets.entry entries.entry order.entry) values.now)
-        (output out_sets.entry out_values.entry) }
+        (held d (stores sets.now entries.now order.now) values.now)
+        (output out_sets.old out_values.old) }
 {
     crate::collect::cumulative(
         true, s, d, sets, entries, order, values, out_sets, out_values,

@@ -37,9 +37,9 @@ pub fn measure(
     present: bool,
     filter: &[u32],
 ) -> Reply
-    ensures { gave result (stores sets.exit entries.exit order.exit) values.new
+    ensures { gave result (stores sets.new entries.new order.new) values.new
         ≡ measured (single_store aggregation) limit (filter_of present filter.now)
-        (held d (stores sets.entry entries.entry order.entry) values.old) v (given attrs.now) }
+        (held d (stores sets.old entries.old order.old) values.old) v (given attrs.now) }
 {
     let slots = values.len();
     let value = first::takes(v);
@@ -64,9 +64,9 @@ pub fn measure_by(
     v: f64,
     h: u64,
 ) -> Reply
-    ensures { gave result (stores sets.exit entries.exit order.exit) values.new
+    ensures { gave result (stores sets.new entries.new order.new) values.new
         ≡ measured_by (single_store aggregation) limit
-        (held d (stores sets.entry entries.entry order.entry) values.old) v h }
+        (held d (stores sets.old entries.old order.old) values.old) v h }
 {
     let slots = values.len();
     let value = first::takes(v);

@@ -116,9 +116,9 @@ pub fn put(
 ) -> usize
     requires x_in_bounds { x < length values.now }
     requires at_in_bounds { due ≡ true → (at < length out_sets.old) × (at < length out_values.old) }
-    ensures { left (place result) (output out_sets.exit out_values.exit)
+    ensures { left (place result) (output out_sets.new out_values.new)
         ≡ put_slot (single_lister Sum) tt updated due values.now x row (place at)
-        (output out_sets.entry out_values.entry) }
+        (output out_sets.old out_values.old) }
 {
     if !due {
         return at;

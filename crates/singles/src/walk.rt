@@ -58,11 +58,11 @@ pub fn list(
     out_values: &mut [u64],
 ) -> usize
     requires { Listable (single_lister Sum) tt cumulative (walked used sets.now entries.now order.now values.now)
-        (output out_sets out_values) }
-    ensures { left (place result) (output out_sets.exit out_values.exit)
+        (output out_sets.old out_values.old) }
+    ensures { left (place result) (output out_sets.new out_values.new)
         ≡ listed_to (single_lister Sum) tt cumulative
         (walked used sets.now entries.now order.now values.now)
-        (output out_sets.entry out_values.entry) }
+        (output out_sets.old out_values.old) }
 {
     let mut at: usize = 0;
     let mut i: usize = 0;

@@ -31,8 +31,8 @@ pub fn sweep(
 ) -> directory::Directory
     requires { (d.used < length sets.old) × (d.used < length entries.old) × (d.used ≤ length order.old) × (d.used < 65536)
         × ((k : ℕ) → k < d.used → (1 ≤ get_or order.old k 0) × (get_or order.old k 0 ≤ d.used)) }
-    ensures { kept result (stores sets.exit entries.exit order.exit)
-        ≡ swept_kept (kept d (stores sets.entry entries.entry order.entry)) }
+    ensures { kept result (stores sets.new entries.new order.new)
+        ≡ swept_kept (kept d (stores sets.old entries.old order.old)) }
 {
     let used = d.used;
     let kept = crate::passes::rank(used, sets, entries, order);

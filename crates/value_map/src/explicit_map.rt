@@ -65,9 +65,9 @@ pub fn start(
     extremes: &[[f64; 3]],
     counts: &[u64],
 ) -> Reply
-    ensures { gave result (stores sets.entry entries.exit order.entry) (cells totals.entry extremes.entry counts.entry)
+    ensures { gave result (stores sets.now entries.new order.now) (cells totals.now extremes.now counts.now)
         ≡ started (explicit_store bounds.now) limit (filter_of present filter.now)
-        (stores sets.entry entries.entry order.entry) (cells totals.entry extremes.entry counts.entry) }
+        (stores sets.now entries.old order.now) (cells totals.now extremes.now counts.now) }
 {
     let room = cells_suffice(bounds, limit, totals.len(), extremes.len(), counts.len());
     let no = unset_of(bounds);
@@ -102,9 +102,9 @@ fn take(
     counts: &mut [u64],
     v: f64,
 ) -> u8
-    requires { Takes (explicit_store bounds.now) (cells totals extremes counts) v no x }
-    ensures { after result (cells totals.exit extremes.exit counts.exit)
-        ≡ taken (explicit_store bounds.now) (cells totals.entry extremes.entry counts.entry) v no
+    requires { Takes (explicit_store bounds.now) (cells totals.old extremes.old counts.old) v no x }
+    ensures { after result (cells totals.new extremes.new counts.new)
+        ≡ taken (explicit_store bounds.now) (cells totals.old extremes.old counts.old) v no
         (turned (bounds_pass bounds.now) no) x updated }
 {
     if no != 0 {
@@ -129,9 +129,9 @@ pub fn measure(
     present: bool,
     filter: &[u32],
 ) -> Reply
-    ensures { gave result (stores sets.exit entries.exit order.exit) (cells totals.exit extremes.exit counts.exit)
+    ensures { gave result (stores sets.new entries.new order.new) (cells totals.new extremes.new counts.new)
         ≡ measured (explicit_store bounds.now) limit (filter_of present filter.now)
-        (held d (stores sets.entry entries.entry order.entry) (cells totals.entry extremes.entry counts.entry))
+        (held d (stores sets.old entries.old order.old) (cells totals.old extremes.old counts.old))
         v (given attrs.now) }
 {
     let slots = slots_of(bounds, totals.len(), extremes.len(), counts.len());
@@ -168,9 +168,9 @@ pub fn measure_by(
     v: f64,
     h: u64,
 ) -> Reply
-    ensures { gave result (stores sets.exit entries.exit order.exit) (cells totals.exit extremes.exit counts.exit)
+    ensures { gave result (stores sets.new entries.new order.new) (cells totals.new extremes.new counts.new)
         ≡ measured_by (explicit_store bounds.now) limit
-        (held d (stores sets.entry entries.entry order.entry) (cells totals.entry extremes.entry counts.entry))
+        (held d (stores sets.old entries.old order.old) (cells totals.old extremes.old counts.old))
         v h }
 {
     let slots = slots_of(bounds, totals.len(), extremes.len(), counts.len());

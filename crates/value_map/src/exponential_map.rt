@@ -74,9 +74,9 @@ pub fn start(
     pos: &[u64],
     neg: &[u64],
 ) -> Reply
-    ensures { gave result (stores sets.entry entries.exit order.entry) (cells figures.entry extremes.entry pos.entry neg.entry)
+    ensures { gave result (stores sets.now entries.new order.now) (cells figures.now extremes.now pos.now neg.now)
         ≡ started (exponential_store size top) limit (filter_of present filter.now)
-        (stores sets.entry entries.entry order.entry) (cells figures.entry extremes.entry pos.entry neg.entry) }
+        (stores sets.now entries.old order.now) (cells figures.now extremes.now pos.now neg.now) }
 {
     let room = cells_suffice(
         size,
@@ -103,9 +103,9 @@ fn take(
     neg: &mut [u64],
     v: f64,
 ) -> u8
-    requires { Takes (exponential_store size top) (cells figures extremes pos neg) v no x }
-    ensures { after result (cells figures.exit extremes.exit pos.exit neg.exit)
-        ≡ taken (exponential_store size top) (cells figures.entry extremes.entry pos.entry neg.entry) v no no x updated }
+    requires { Takes (exponential_store size top) (cells figures.old extremes.old pos.old neg.old) v no x }
+    ensures { after result (cells figures.new extremes.new pos.new neg.new)
+        ≡ taken (exponential_store size top) (cells figures.old extremes.old pos.old neg.old) v no no x updated }
 {
     if no != 0 {
         return no;
@@ -131,9 +131,9 @@ pub fn measure(
     present: bool,
     filter: &[u32],
 ) -> Reply
-    ensures { gave result (stores sets.exit entries.exit order.exit) (cells figures.exit extremes.exit pos.exit neg.exit)
+    ensures { gave result (stores sets.new entries.new order.new) (cells figures.new extremes.new pos.new neg.new)
         ≡ measured (exponential_store size top) limit (filter_of present filter.now)
-        (held d (stores sets.entry entries.entry order.entry) (cells figures.entry extremes.entry pos.entry neg.entry))
+        (held d (stores sets.old entries.old order.old) (cells figures.old extremes.old pos.old neg.old))
         v (given attrs.now) }
 {
     let unset = unset_of(size, top);
@@ -175,9 +175,9 @@ pub fn measure_by(
     v: f64,
     h: u64,
 ) -> Reply
-    ensures { gave result (stores sets.exit entries.exit order.exit) (cells figures.exit extremes.exit pos.exit neg.exit)
+    ensures { gave result (stores sets.new entries.new order.new) (cells figures.new extremes.new pos.new neg.new)
         ≡ measured_by (exponential_store size top) limit
-        (held d (stores sets.entry entries.entry order.entry) (cells figures.entry extremes.entry pos.entry neg.entry))
+        (held d (stores sets.old entries.old order.old) (cells figures.old extremes.old pos.old neg.old))
         v h }
 {
     let unset = unset_of(size, top);

@@ -28,9 +28,9 @@ pub fn finish(
     row: &[u64; 9],
     target: Target,
 ) -> Reply
-    requires { no ≡ 0 → Fits d (stores sets entries order) target }
-    ensures { gave result (stores sets.exit entries.exit order.exit)
-        ≡ finished no d (stores sets.entry entries.entry order.entry) row.now target }
+    requires { no ≡ 0 → Fits d (stores sets.old entries.old order.old) target }
+    ensures { gave result (stores sets.new entries.new order.new)
+        ≡ finished no d (stores sets.old entries.old order.old) row.now target }
 {
     if no != 0 {
         return Reply {
@@ -56,8 +56,8 @@ pub fn begin(
     entries: &mut [[u64; 3]],
     order: &[u32],
 ) -> Reply
-    ensures { gave result (stores sets.entry entries.exit order.entry)
-        ≡ begun unset cells limit (filter_of present filter.now) (stores sets.entry entries.entry order.entry) }
+    ensures { gave result (stores sets.now entries.new order.now)
+        ≡ begun unset cells limit (filter_of present filter.now) (stores sets.now entries.old order.now) }
 {
     let d = Directory {
         used: 0,

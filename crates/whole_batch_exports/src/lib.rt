@@ -29,10 +29,10 @@ pub extern "C" fn whole_measure_all_by(
     handle: u64,
     taken: &mut [u64; 1],
 ) -> u64
-    ensures { handed result taken.exit state.exit (stores sets.exit entries.exit order.exit) (cells figures.exit extremes.exit pos.exit neg.exit)
+    ensures { handed result taken.new state.new (stores sets.new entries.new order.new) (cells figures.new extremes.new pos.new neg.new)
         ≡ handed_out taken.old state.old (measured_all_by (exponential_wholes size top true) limit
-        (held (state_of (get_or state.old 0 [])) (stores sets.entry entries.entry order.entry)
-        (cells figures.entry extremes.entry pos.entry neg.entry)) values.now handle) }
+        (held (state_of (get_or state.old 0 [])) (stores sets.old entries.old order.old)
+        (cells figures.old extremes.old pos.old neg.old)) values.now handle) }
 {
     let d = map_words::state_of(state[0]);
     let got = exponential_whole_batches::measure_all_by(

@@ -21,9 +21,9 @@ pub fn put(
     pos: &mut [u64],
     neg: &mut [u64],
 ) -> Cursor
-    requires { Room at p.figures b cpos.now cneg.now (output sets words pos neg) }
-    ensures { left result (output sets.exit words.exit pos.exit neg.exit) ≡ left (behind at p.figures b)
-        (put_at at row p b cpos.now cneg.now (output sets.entry words.entry pos.entry neg.entry)) }
+    requires { Room at p.figures b cpos.now cneg.now (output sets.old words.old pos.old neg.old) }
+    ensures { left result (output sets.new words.new pos.new neg.new) ≡ left (behind at p.figures b)
+        (put_at at row p b cpos.now cneg.now (output sets.old words.old pos.old neg.old)) }
 {
     let shadow = whole_point::shadow_of(p);
     let w = crate::encode::words_of(p, b);

@@ -44,9 +44,9 @@ pub fn start(
     extremes: &[[i64; 3]],
     counts: &[u64],
 ) -> Reply
-    ensures { gave result (stores sets.entry entries.exit order.entry) (cells totals.entry extremes.entry counts.entry)
+    ensures { gave result (stores sets.now entries.new order.now) (cells totals.now extremes.now counts.now)
         ≡ started (explicit_wholes bounds.now sums) limit (filter_of present filter.now)
-        (stores sets.entry entries.entry order.entry) (cells totals.entry extremes.entry counts.entry) }
+        (stores sets.now entries.old order.now) (cells totals.now extremes.now counts.now) }
 {
     let room = cells_suffice(bounds, limit, totals.len(), extremes.len(), counts.len());
     let no = unset_of(bounds);
@@ -82,9 +82,9 @@ fn take(
     counts: &mut [u64],
     v: i64,
 ) -> u8
-    requires { Takes (explicit_wholes bounds.now sums) (cells totals extremes counts) v no x }
-    ensures { after result (cells totals.exit extremes.exit counts.exit)
-        ≡ taken (explicit_wholes bounds.now sums) (cells totals.entry extremes.entry counts.entry) v no
+    requires { Takes (explicit_wholes bounds.now sums) (cells totals.old extremes.old counts.old) v no x }
+    ensures { after result (cells totals.new extremes.new counts.new)
+        ≡ taken (explicit_wholes bounds.now sums) (cells totals.old extremes.old counts.old) v no
         (turned (bounds_pass bounds.now) no) x updated }
 {
     if no != 0 {
@@ -110,9 +110,9 @@ pub fn measure(
     present: bool,
     filter: &[u32],
 ) -> Reply
-    ensures { gave result (stores sets.exit entries.exit order.exit) (cells totals.exit extremes.exit counts.exit)
+    ensures { gave result (stores sets.new entries.new order.new) (cells totals.new extremes.new counts.new)
         ≡ measured (explicit_wholes bounds.now sums) limit (filter_of present filter.now)
-        (held d (stores sets.entry entries.entry order.entry) (cells totals.entry extremes.entry counts.entry))
+        (held d (stores sets.old entries.old order.old) (cells totals.old extremes.old counts.old))
         v (given attrs.now) }
 {
     let slots = slots_of(bounds, totals.len(), extremes.len(), counts.len());
@@ -151,9 +151,9 @@ pub fn measure_by(
     v: i64,
     h: u64,
 ) -> Reply
-    ensures { gave result (stores sets.exit entries.exit order.exit) (cells totals.exit extremes.exit counts.exit)
+    ensures { gave result (stores sets.new entries.new order.new) (cells totals.new extremes.new counts.new)
         ≡ measured_by (explicit_wholes bounds.now sums) limit
-        (held d (stores sets.entry entries.entry order.entry) (cells totals.entry extremes.entry counts.entry))
+        (held d (stores sets.old entries.old order.old) (cells totals.old extremes.old counts.old))
         v h }
 {
     let slots = slots_of(bounds, totals.len(), extremes.len(), counts.len());

@@ -1,6 +1,5 @@
 -- Points of i64 values as code holds them, read as those of crate `points`; and what merging two of them answers. Assumes nothing.
 use Rattle.std.specs.Prelude.{ℕ, Bool, true, ◌&&◌, List, leb, eqb, ℤ, length, Float}
-use Rattle.std.specs.Borrow.{Bor}
 use Rattle.laws.specs.Pick.{pick}
 use Rattle.laws.specs.Said.{Said, refusal, success}
 use Rattle.laws.specs.Over.{over}
@@ -38,8 +37,8 @@ abbrev pub stored_in : Point → List Float → List ℕ → List ℕ → Stored
 stored_in p bs xs ys = record { point = p; bounds = bs; pos = xs; neg = ys }
 
 -- as a contract writes it: a point and three lent slices, at entry or at exit
-abbrev pub stored : Point → Bor (List Float) → Bor (List ℕ) → Bor (List ℕ) → Stored
-stored p bounds pos neg = stored_in p bounds.now pos.now neg.now
+abbrev pub stored : Point → List Float → List ℕ → List ℕ → Stored
+stored p bounds pos neg = stored_in p bounds pos neg
 
 -- ---- as it reads; a point holds no zero threshold: it is 0.0
 abbrev pub handed_in : Stored → Handed whole
@@ -96,8 +95,8 @@ pub record Outcome : Type 0 where
 abbrev pub ended : Said Point → List Float → List ℕ → List ℕ → Outcome
 ended r bs us vs = record { answer = elim r [ refusal n ↦ refusal n | success p ↦ success (stored_in p bs us vs) ]; pos = us; neg = vs }
 
-abbrev pub outcome : Answer → Bor (List Float) → Bor (List ℕ) → Bor (List ℕ) → Outcome
-outcome r bounds pos neg = ended (said r) bounds.now pos.now neg.now
+abbrev pub outcome : Answer → List Float → List ℕ → List ℕ → Outcome
+outcome r bounds pos neg = ended (said r) bounds pos neg
 
 abbrev pub point_for : Handed whole → Point
 point_for p = record { figures = figures_for p.counts; extremes = p.extremes; min = p.min; max = p.max; sum = p.sum }

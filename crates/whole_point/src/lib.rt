@@ -146,8 +146,8 @@ pub fn merge(
     pos: &mut [u64],
     neg: &mut [u64],
 ) -> Answer
-    ensures { outcome result abounds.entry pos.exit neg.exit
-        ≡ merging size (stored a abounds.entry apos.entry aneg.entry) (stored b bbounds.entry bpos.entry bneg.entry)
+    ensures { outcome result abounds.now pos.new neg.new
+        ≡ merging size (stored a abounds.now apos.now aneg.now) (stored b bbounds.now bpos.now bneg.now)
         pos.old neg.old }
 {
     let x = shadow_of(a);
@@ -195,8 +195,8 @@ pub fn mixed_number(
     bpos: &[u64],
     bneg: &[u64],
 ) -> u8
-    ensures { result ≡ mixed_number size (stored a abounds.entry apos.entry aneg.entry)
-        (P.stored b bbounds.entry bpos.entry bneg.entry) }
+    ensures { result ≡ mixed_number size (stored a abounds.now apos.now aneg.now)
+        (P.stored b bbounds.now bpos.now bneg.now) }
 {
     let x = shadow_of(a);
     let no = point::refusal(size, x, abounds, apos, aneg, b, bbounds, bpos, bneg);
@@ -206,7 +206,7 @@ pub fn mixed_number(
 // The number with which an i64 point is refused where only f64 points are taken, in a card or a sheet: 8 where it disagrees with itself under
 // max_size 160 and the greatest scale, else 11.
 pub fn alone_number(p: Point, bounds: &[f64], pos: &[u64], neg: &[u64]) -> u8
-    ensures { result ≡ alone_number (stored p bounds.entry pos.entry neg.entry) }
+    ensures { result ≡ alone_number (stored p bounds.now pos.now neg.now) }
 {
     let x = shadow_of(p);
     if point::agrees_alone(x, bounds, pos, neg) {

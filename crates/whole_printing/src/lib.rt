@@ -25,7 +25,7 @@ use whole_point::Point;
 
 // A whole number behind a space.
 fn integer(out: &Stdout, text: &mut Block, n: usize, x: i64) -> usize
-    ensures { waiting result text.exit ≡ 32 ∷ signed x behind waiting n text.entry }
+    ensures { waiting result text.new ≡ 32 ∷ signed x behind waiting n text.old }
 {
     let m = output::byte(out, text, n, b' ');
     output::signed(out, text, m, x)
@@ -33,7 +33,7 @@ fn integer(out: &Stdout, text: &mut Block, n: usize, x: i64) -> usize
 
 // An extreme behind a space, `-` where it isn't kept.
 fn extreme(out: &Stdout, text: &mut Block, n: usize, x: Extreme) -> usize
-    ensures { waiting result text.exit ≡ 32 ∷ extreme_field x behind waiting n text.entry }
+    ensures { waiting result text.new ≡ 32 ∷ extreme_field x behind waiting n text.old }
 {
     match x {
         Extreme::None => output::bytes(out, text, n, b" -"),
@@ -42,7 +42,7 @@ fn extreme(out: &Stdout, text: &mut Block, n: usize, x: Extreme) -> usize
 }
 
 fn held(out: &Stdout, text: &mut Block, n: usize, p: Point) -> usize
-    ensures { waiting result text.exit ≡ each 32 (held_fields p []) behind waiting n text.entry }
+    ensures { waiting result text.new ≡ each 32 (held_fields p []) behind waiting n text.old }
 {
     let min = p.min;
     let max = p.max;
@@ -61,7 +61,7 @@ fn exponential(
     pos: &[u64],
     neg: &[u64],
 ) -> usize
-    ensures { waiting result text.exit ≡ each 32 (exponential_fields p pos.now neg.now) behind waiting n text.entry }
+    ensures { waiting result text.new ≡ each 32 (exponential_fields p pos.now neg.now) behind waiting n text.old }
 {
     let q = whole_point::shadow_of(p);
     let a = printing::integer(out, text, n, point::signed::scale(q));
@@ -78,7 +78,7 @@ fn explicit(
     buckets: &[u64],
     bounds: &[f64],
 ) -> usize
-    ensures { waiting result text.exit ≡ each 32 (explicit_fields p buckets.now bounds.now) behind waiting n text.entry }
+    ensures { waiting result text.new ≡ each 32 (explicit_fields p buckets.now bounds.now) behind waiting n text.old }
 {
     let a = held(out, text, n, p);
     let b = printing::dash(out, text, a, buckets.len());
@@ -99,9 +99,9 @@ fn point_line<'a>(
     neg: &'a [u64],
     bounds: &[f64],
 ) -> usize
-    ensures { waiting result text.exit ≡ point_line (take 8 (set_of row)) (stored_in e.point (bounds_at e.bounds bounds.now)
+    ensures { waiting result text.new ≡ point_line (take 8 (set_of row)) (stored_in e.point (bounds_at e.bounds bounds.now)
         (row_at at e.next false pos.now neg.now) (row_at at e.next true pos.now neg.now))
-        behind waiting n text.entry }
+        behind waiting n text.old }
 {
     let p = e.point;
     let next = e.next;
@@ -140,9 +140,9 @@ pub fn point<'a>(
     neg: &'a [u64],
     bounds: &[f64],
 ) -> Printed
-    ensures text_value { waiting result.n text.exit ≡ line_at at (listed_in sets.entry words.entry pos.entry neg.entry) bounds.now
-        behind waiting n text.entry }
-    ensures at_value { result.at ≡ next_at at (listed_in sets.entry words.entry pos.entry neg.entry) }
+    ensures text_value { waiting result.n text.new ≡ line_at at (listed_in sets.now words.now pos.now neg.now) bounds.now
+        behind waiting n text.old }
+    ensures at_value { result.at ≡ next_at at (listed_in sets.now words.now pos.now neg.now) }
 {
     let k = at.place;
     let Found::Is(e) = whole_listing::read::point_at(at, words, pos, neg) else {
@@ -183,8 +183,8 @@ pub fn collection<'a>(
     neg: &'a [u64],
     bounds: &[f64],
 ) -> usize
-    ensures { waiting result text.exit ≡ collection_lines start time many (listed_in sets.entry words.entry pos.entry neg.entry)
-        bounds.now behind waiting n text.entry }
+    ensures { waiting result text.new ≡ collection_lines start time many (listed_in sets.now words.now pos.now neg.now)
+        bounds.now behind waiting n text.old }
 {
     let m = printing::head(out, text, n, start, time, many as u64);
     let at = Cursor {

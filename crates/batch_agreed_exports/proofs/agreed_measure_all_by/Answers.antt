@@ -16,14 +16,14 @@ use Rattle.batch_agreed_exports.proofs.agreed_measure_all_by.Goals as goal
 pub measure_all_by_agreed-got-requires : goal.measure_all_by_agreed-got-requires
 measure_all_by_agreed-got-requires c =
     let a = c.args in
-    let h : Directory → Held Cells = λ d. held d (stores a.sets a.entries a.order) (cells a.figures a.extremes a.pos a.neg) in
+    let h : Directory → Held Cells = λ d. held d (stores a.sets.now a.entries.now a.order.now) (cells a.figures.now a.extremes.now a.pos.now a.neg.now) in
     subst (λ d. AgreedBy (exponential_store a.size a.top) (true, true) a.limit (h d) a.handle) (sym c.state_of-d.ensures) c.requires
 
 pub returns : goal.returns
 returns c =
     let a = c.args in
-    let s = stores a.sets a.entries a.order in
-    let x = cells a.figures a.extremes a.pos a.neg in
+    let s = stores a.sets.now a.entries.now a.order.now in
+    let x = cells a.figures.now a.extremes.now a.pos.now a.neg.now in
     let by : Directory → Many (Held Cells) = λ d. measured_all_by (exponential_store a.size a.top) a.limit (held d s x) a.values.now a.handle in
     let e = c.measure_all_by_agreed-got.ensures ∙ ap by c.state_of-d.ensures in
     handed a.taken.now a.state.now _ _ c.measure_all_by_agreed-got.result _ _ e c.words_of.ensures

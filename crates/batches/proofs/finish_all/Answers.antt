@@ -9,7 +9,7 @@ use Rattle.batches.proofs.finish_all.Goals as goal
 
 pub returns-then-taken-eq0 : goal.returns-then-taken-eq0
 returns-then-taken-eq0 c =
-    let lent : Stores = stores c.args.sets c.args.entries c.args.order in
+    let lent : Stores = stores c.args.sets.now c.args.entries.now c.args.order.now in
     let a = c.args in
     ap (λ (k : Kept). many a.taken a.no k) (finish-none a.taken a.d (lent) a.row.now a.target c.if-taken-eq0.true)
 
@@ -18,6 +18,6 @@ commit-e-requires c = c.requires c.if-taken-eq0.false
 
 pub returns : goal.returns
 returns c =
-    let lent : Stores = stores c.args.sets c.args.entries c.args.order in
+    let lent : Stores = stores c.args.sets.now c.args.entries.now c.args.order.now in
     let a = c.args in
     ap (λ (x : Kept). many a.taken a.no x) (c.commit-e.ensures ∙ finish-some a.taken a.d (lent) a.row.now a.target c.if-taken-eq0.false)

@@ -15,9 +15,9 @@ use Rattle.collection_exports.proofs.map_delta.Goals as goal
 pub returns : goal.returns
 returns c =
     let a = c.args in
-    let s = stores a.sets a.entries a.order in
-    let x = cells a.figures a.extremes a.pos a.neg in
-    let o = output a.out-sets a.out-words a.out-pos a.out-neg in
+    let s = stores a.sets.now a.entries.now a.order.now in
+    let x = cells a.figures.now a.extremes.now a.pos.now a.neg.now in
+    let o = output a.out-sets.now a.out-words.now a.out-pos.now a.out-neg.now in
     let by : Directory → Collected Cells = λ d. delta_collected (exponential_lister a.size a.top) (true, true) a.limit (held d s x) o in
     let e = c.delta-reply.ensures ∙ ap by c.state_of-d.ensures in
     handed a.state.now a.points.now _ x _ c.delta-reply.result _ c.number_of.result _ _ e

@@ -22,7 +22,7 @@ use Rattle.explicit_batches.proofs.all_by.Goals as goal
 
 pub returns-then-values-eq0 : goal.returns-then-values-eq0
 returns-then-values-eq0 c =
-    let lent_map : Held Cells = let a = c.args in held a.d (stores a.sets a.entries a.order) (cells a.totals a.extremes a.counts) in
+    let lent_map : Held Cells = let a = c.args in held a.d (stores a.sets.now a.entries.now a.order.now) (cells a.totals.now a.extremes.now a.counts.now) in
     let a = c.args in
     by-none (owed a.bounds.now) (true, true) a.limit (lent_map) a.h c.args.values.now c.if-values-eq0.true
 
@@ -31,7 +31,7 @@ unset_if-unset-requires c k = (c.requires k).0.set
 
 pub seat_by_if-seat-requires : goal.seat_by_if-seat-requires
 seat_by_if-seat-requires c k =
-    let lent_map : Held Cells = let a = c.args in held a.d (stores a.sets a.entries a.order) (cells a.totals a.extremes a.counts) in
+    let lent_map : Held Cells = let a = c.args in held a.d (stores a.sets.now a.entries.now a.order.now) (cells a.totals.now a.extremes.now a.counts.now) in
     let few : length c.args.totals.now ≤ 18446744073709551615 = omega (arith, c) in
     let suffices : leb (c.args.limit + 2) c.slots_if-slots.result ≡ cells_suffice c.args.bounds.now c.args.limit (lent_map).cells =
     let a = c.args in
@@ -42,7 +42,7 @@ seat_by_if-seat-requires c k =
 
 pub take_all-got-requires : goal.take_all-got-requires
 take_all-got-requires c z =
-    let lent_map : Held Cells = let a = c.args in held a.d (stores a.sets a.entries a.order) (cells a.totals a.extremes a.counts) in
+    let lent_map : Held Cells = let a = c.args in held a.d (stores a.sets.now a.entries.now a.order.now) (cells a.totals.now a.extremes.now a.counts.now) in
     let first : Float = get_or c.args.values.now 0 nan in
     let few : length c.args.totals.now ≤ 18446744073709551615 = omega (arith, c) in
     let suffices : leb (c.args.limit + 2) c.slots_if-slots.result ≡ cells_suffice c.args.bounds.now c.args.limit (lent_map).cells =
@@ -62,7 +62,7 @@ take_all-got-requires c z =
 
 pub finish_all-requires : goal.finish_all-requires
 finish_all-requires c k =
-    let lent_map : Held Cells = let a = c.args in held a.d (stores a.sets a.entries a.order) (cells a.totals a.extremes a.counts) in
+    let lent_map : Held Cells = let a = c.args in held a.d (stores a.sets.now a.entries.now a.order.now) (cells a.totals.now a.extremes.now a.counts.now) in
     let first : Float = get_or c.args.values.now 0 nan in
     let few : length c.args.totals.now ≤ 18446744073709551615 = omega (arith, c) in
     let suffices : leb (c.args.limit + 2) c.slots_if-slots.result ≡ cells_suffice c.args.bounds.now c.args.limit (lent_map).cells =
@@ -76,7 +76,7 @@ finish_all-requires c k =
 
 pub returns : goal.returns
 returns c =
-    let lent_map : Held Cells = let a = c.args in held a.d (stores a.sets a.entries a.order) (cells a.totals a.extremes a.counts) in
+    let lent_map : Held Cells = let a = c.args in held a.d (stores a.sets.now a.entries.now a.order.now) (cells a.totals.now a.extremes.now a.counts.now) in
     let first : Float = get_or c.args.values.now 0 nan in
     let few : length c.args.totals.now ≤ 18446744073709551615 = omega (arith, c) in
     let suffices : leb (c.args.limit + 2) c.slots_if-slots.result ≡ cells_suffice c.args.bounds.now c.args.limit (lent_map).cells =

@@ -40,13 +40,13 @@ returns-in-Refused c =
     let a = c.args in
     let i : c.bucket_count-n.result ≡ bucket_count a.bounds.now = c.bucket_count-n.ensures in
     omega (arith, i, part_length c.bucket_count-n.result a.counts.now a.x (end)) in
-    let room : Room c.args.bounds.now (cells c.args.totals c.args.extremes c.args.counts) c.args.x = record { totals = c.requires.0; extremes = c.requires.1; counts = c.requires.2 } in
+    let room : Room c.args.bounds.now (cells c.args.totals.now c.args.extremes.now c.args.counts.now) c.args.x = record { totals = c.requires.0; extremes = c.requires.1; counts = c.requires.2 } in
     let a = c.args in
     call-refused a.bounds.now a.x a.updated (lent) a.v c.bucket_count-n.result c.bucket_count-n.ensures (said c.enter-got.result) c.enter-got.new.counts c.enter-got.ensures _ (ap said c.got-1.given.1) (long) (room) c.requires.3
 
 pub returns-in-Recorded : goal.returns-in-Recorded
 returns-in-Recorded c =
     let lent : Cells = let a = c.args in record { totals = a.totals.now; extremes = a.extremes.now; counts = a.counts.now } in
-    let room : Room c.args.bounds.now (cells c.args.totals c.args.extremes c.args.counts) c.args.x = record { totals = c.requires.0; extremes = c.requires.1; counts = c.requires.2 } in
+    let room : Room c.args.bounds.now (cells c.args.totals.now c.args.extremes.now c.args.counts.now) c.args.x = record { totals = c.requires.0; extremes = c.requires.1; counts = c.requires.2 } in
     let a = c.args in
     call-recorded a.bounds.now a.x a.updated (lent) a.v c.bucket_count-n.result c.bucket_count-n.ensures (said c.enter-got.result) c.enter-got.new.counts c.enter-got.ensures _ (ap said c.got-in-Recorded-1.given.1) (room) c.requires.3

@@ -29,7 +29,7 @@ use Rattle.explicit_whole_batches.proofs.all.Goals as goal
 pub returns-then-values-eq0 : goal.returns-then-values-eq0
 returns-then-values-eq0 c =
     let filter : Option (List ℕ) = filter_of c.args.present c.args.filter.now in
-    let lent_map : Held Cells = let a = c.args in held a.d (stores a.sets a.entries a.order) (cells a.totals a.extremes a.counts) in
+    let lent_map : Held Cells = let a = c.args in held a.d (stores a.sets.now a.entries.now a.order.now) (cells a.totals.now a.extremes.now a.counts.now) in
     let attributes : Set = given c.args.attrs.now in
     let a = c.args in
     for-none (owed a.bounds.now a.sums) true a.limit (filter) (lent_map) (attributes) c.args.values.now c.if-values-eq0.true
@@ -39,7 +39,7 @@ unset_if-unset-requires c k = (c.requires k).0.set
 
 pub seat_if-seat-requires : goal.seat_if-seat-requires
 seat_if-seat-requires c k =
-    let lent_map : Held Cells = let a = c.args in held a.d (stores a.sets a.entries a.order) (cells a.totals a.extremes a.counts) in
+    let lent_map : Held Cells = let a = c.args in held a.d (stores a.sets.now a.entries.now a.order.now) (cells a.totals.now a.extremes.now a.counts.now) in
     let few : length c.args.totals.now ≤ 18446744073709551615 = omega (arith, c) in
     let suffices : leb (c.args.limit + 2) c.slots_if-slots.result ≡ cells_suffice c.args.bounds.now c.args.limit (lent_map).cells =
     let a = c.args in
@@ -53,7 +53,7 @@ seat_if-seat-requires c k =
 pub take_all-got-requires : goal.take_all-got-requires
 take_all-got-requires c z =
     let filter : Option (List ℕ) = filter_of c.args.present c.args.filter.now in
-    let lent_map : Held Cells = let a = c.args in held a.d (stores a.sets a.entries a.order) (cells a.totals a.extremes a.counts) in
+    let lent_map : Held Cells = let a = c.args in held a.d (stores a.sets.now a.entries.now a.order.now) (cells a.totals.now a.extremes.now a.counts.now) in
     let attributes : Set = given c.args.attrs.now in
     let first : ℤ = get_or c.args.values.now 0 (pos 0) in
     let few : length c.args.totals.now ≤ 18446744073709551615 = omega (arith, c) in
@@ -76,7 +76,7 @@ take_all-got-requires c z =
 pub finish_all-requires : goal.finish_all-requires
 finish_all-requires c k =
     let filter : Option (List ℕ) = filter_of c.args.present c.args.filter.now in
-    let lent_map : Held Cells = let a = c.args in held a.d (stores a.sets a.entries a.order) (cells a.totals a.extremes a.counts) in
+    let lent_map : Held Cells = let a = c.args in held a.d (stores a.sets.now a.entries.now a.order.now) (cells a.totals.now a.extremes.now a.counts.now) in
     let attributes : Set = given c.args.attrs.now in
     let first : ℤ = get_or c.args.values.now 0 (pos 0) in
     let few : length c.args.totals.now ≤ 18446744073709551615 = omega (arith, c) in
@@ -93,7 +93,7 @@ finish_all-requires c k =
 pub returns : goal.returns
 returns c =
     let filter : Option (List ℕ) = filter_of c.args.present c.args.filter.now in
-    let lent_map : Held Cells = let a = c.args in held a.d (stores a.sets a.entries a.order) (cells a.totals a.extremes a.counts) in
+    let lent_map : Held Cells = let a = c.args in held a.d (stores a.sets.now a.entries.now a.order.now) (cells a.totals.now a.extremes.now a.counts.now) in
     let attributes : Set = given c.args.attrs.now in
     let first : ℤ = get_or c.args.values.now 0 (pos 0) in
     let few : length c.args.totals.now ≤ 18446744073709551615 = omega (arith, c) in

@@ -15,7 +15,7 @@ use Rattle.explicit_whole_batches.proofs.measure_agreed.Goals as goal
 
 pub returns : goal.returns
 returns c =
-    let lent_map : Held Cells = let a = c.args in held a.d (stores a.sets a.entries a.order) (cells a.totals a.extremes a.counts) in
+    let lent_map : Held Cells = let a = c.args in held a.d (stores a.sets.now a.entries.now a.order.now) (cells a.totals.now a.extremes.now a.counts.now) in
     let a = c.args in
     one_for (explicit_wholes a.bounds.now a.sums) a.limit (lent_map) a.v c.all-got.result c.single.result c.single.ensures _ _ (filter_of a.present a.filter.now) (given a.attrs.now)
     (c.all-got.ensures ∙ ap (λ (z : ℤ). measured_all (explicit_wholes a.bounds.now a.sums) a.limit (filter_of a.present a.filter.now) (lent_map) (z ∷ []) (given a.attrs.now)) (Range.held a.v c.ranges.v))

@@ -14,5 +14,5 @@ unfolding configured
 returns c =
     let a = c.args in
     configured-is (explicit_wholes a.bounds.now a.sums) (λ d. record { settings = record { extremes = a.show; sums = a.sums; limit = a.limit }; dir = d }) a.limit
-    (filter_of a.present a.filter.now) (stores a.sets a.entries a.order) (cells a.totals a.extremes a.counts) c.start-reply.result _ (said c.set_up.result)
+    (filter_of a.present a.filter.now) (stores a.sets.now a.entries.now a.order.now) (cells a.totals.now a.extremes.now a.counts.now) c.start-reply.result _ (said c.set_up.result)
     c.start-reply.ensures c.set_up.ensures

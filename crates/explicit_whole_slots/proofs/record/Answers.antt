@@ -45,7 +45,7 @@ returns c =
     let a = c.args in
     let i : c.bucket_count-n.result ≡ bucket_count a.bounds.now = c.bucket_count-n.ensures in
     omega (arith, i, part_length c.bucket_count-n.result a.counts.now a.x (end)) in
-    let room : Room c.args.bounds.now (cells c.args.totals c.args.extremes c.args.counts) c.args.x = record { totals = c.requires.0; extremes = c.requires.1; counts = c.requires.2 } in
+    let room : Room c.args.bounds.now (cells c.args.totals.now c.args.extremes.now c.args.counts.now) c.args.x = record { totals = c.requires.0; extremes = c.requires.1; counts = c.requires.2 } in
     let finite : wholes.finite c.args.v ≡ true = lt-ltb (mag c.args.v) (2 ^ 63) c.ranges.v.sfits in
     let a = c.args in
     call_kept a.bounds.now a.sums a.x a.updated (lent) a.v c.bucket_count-n.result c.bucket_count-n.ensures (said c.enter-got.result) c.enter-got.new.counts

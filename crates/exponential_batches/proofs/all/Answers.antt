@@ -22,14 +22,14 @@ use Rattle.exponential_batches.proofs.all.Goals as goal
 pub returns-then-values-eq0 : goal.returns-then-values-eq0
 returns-then-values-eq0 c =
     let filter : Option (List ℕ) = filter_of c.args.present c.args.filter.now in
-    let lent_map : Held Cells = let a = c.args in held a.d (stores a.sets a.entries a.order) (cells a.figures a.extremes a.pos a.neg) in
+    let lent_map : Held Cells = let a = c.args in held a.d (stores a.sets.now a.entries.now a.order.now) (cells a.figures.now a.extremes.now a.pos.now a.neg.now) in
     let attributes : Set = given c.args.attrs.now in
     let a = c.args in
     for-none (owed a.size a.top) (true, true) a.limit (filter) (lent_map) (attributes) c.args.values.now c.if-values-eq0.true
 
 pub seat_if-seat-requires : goal.seat_if-seat-requires
 seat_if-seat-requires c k =
-    let lent_map : Held Cells = let a = c.args in held a.d (stores a.sets a.entries a.order) (cells a.figures a.extremes a.pos a.neg) in
+    let lent_map : Held Cells = let a = c.args in held a.d (stores a.sets.now a.entries.now a.order.now) (cells a.figures.now a.extremes.now a.pos.now a.neg.now) in
     let filter : Option (List ℕ) = filter_of c.args.present c.args.filter.now in
     let attributes : Set = given c.args.attrs.now in
     let a = c.args in
@@ -38,7 +38,7 @@ seat_if-seat-requires c k =
 pub take-got-requires : goal.take-got-requires
 take-got-requires c z =
     let filter : Option (List ℕ) = filter_of c.args.present c.args.filter.now in
-    let lent_map : Held Cells = let a = c.args in held a.d (stores a.sets a.entries a.order) (cells a.figures a.extremes a.pos a.neg) in
+    let lent_map : Held Cells = let a = c.args in held a.d (stores a.sets.now a.entries.now a.order.now) (cells a.figures.now a.extremes.now a.pos.now a.neg.now) in
     let attributes : Set = given c.args.attrs.now in
     let first : Float = get_or c.args.values.now 0 nan in
     let some : 0 < length c.args.values.now = omega (arith, c.if-values-eq0.false) in
@@ -55,7 +55,7 @@ take-got-requires c z =
 pub finish_all-requires : goal.finish_all-requires
 finish_all-requires c k =
     let filter : Option (List ℕ) = filter_of c.args.present c.args.filter.now in
-    let lent_map : Held Cells = let a = c.args in held a.d (stores a.sets a.entries a.order) (cells a.figures a.extremes a.pos a.neg) in
+    let lent_map : Held Cells = let a = c.args in held a.d (stores a.sets.now a.entries.now a.order.now) (cells a.figures.now a.extremes.now a.pos.now a.neg.now) in
     let attributes : Set = given c.args.attrs.now in
     let first : Float = get_or c.args.values.now 0 nan in
     let some : 0 < length c.args.values.now = omega (arith, c.if-values-eq0.false) in
@@ -66,7 +66,7 @@ finish_all-requires c k =
 pub returns : goal.returns
 returns c =
     let filter : Option (List ℕ) = filter_of c.args.present c.args.filter.now in
-    let lent_map : Held Cells = let a = c.args in held a.d (stores a.sets a.entries a.order) (cells a.figures a.extremes a.pos a.neg) in
+    let lent_map : Held Cells = let a = c.args in held a.d (stores a.sets.now a.entries.now a.order.now) (cells a.figures.now a.extremes.now a.pos.now a.neg.now) in
     let attributes : Set = given c.args.attrs.now in
     let first : Float = get_or c.args.values.now 0 nan in
     let some : 0 < length c.args.values.now = omega (arith, c.if-values-eq0.false) in

@@ -17,19 +17,19 @@ use Rattle.exponential_batches.proofs.all_by.Goals as goal
 
 pub returns-then-values-eq0 : goal.returns-then-values-eq0
 returns-then-values-eq0 c =
-    let lent_map : Held Cells = let a = c.args in held a.d (stores a.sets a.entries a.order) (cells a.figures a.extremes a.pos a.neg) in
+    let lent_map : Held Cells = let a = c.args in held a.d (stores a.sets.now a.entries.now a.order.now) (cells a.figures.now a.extremes.now a.pos.now a.neg.now) in
     let a = c.args in
     by-none (owed a.size a.top) (true, true) a.limit (lent_map) a.h c.args.values.now c.if-values-eq0.true
 
 pub seat_by_if-seat-requires : goal.seat_by_if-seat-requires
 seat_by_if-seat-requires c k =
-    let lent_map : Held Cells = let a = c.args in held a.d (stores a.sets a.entries a.order) (cells a.figures a.extremes a.pos a.neg) in
+    let lent_map : Held Cells = let a = c.args in held a.d (stores a.sets.now a.entries.now a.order.now) (cells a.figures.now a.extremes.now a.pos.now a.neg.now) in
     let a = c.args in
     sure-by (owed a.size a.top) (true, true) a.limit (lent_map) c.slots_of-slots.result c.unset_of-unset.result c.slots_of-slots.ensures c.unset_of-unset.ensures a.h (c.requires k)
 
 pub take-got-requires : goal.take-got-requires
 take-got-requires c z =
-    let lent_map : Held Cells = let a = c.args in held a.d (stores a.sets a.entries a.order) (cells a.figures a.extremes a.pos a.neg) in
+    let lent_map : Held Cells = let a = c.args in held a.d (stores a.sets.now a.entries.now a.order.now) (cells a.figures.now a.extremes.now a.pos.now a.neg.now) in
     let first : Float = get_or c.args.values.now 0 nan in
     let some : 0 < length c.args.values.now = omega (arith, c.if-values-eq0.false) in
     let a = c.args in
@@ -44,7 +44,7 @@ take-got-requires c z =
 
 pub finish_all-requires : goal.finish_all-requires
 finish_all-requires c k =
-    let lent_map : Held Cells = let a = c.args in held a.d (stores a.sets a.entries a.order) (cells a.figures a.extremes a.pos a.neg) in
+    let lent_map : Held Cells = let a = c.args in held a.d (stores a.sets.now a.entries.now a.order.now) (cells a.figures.now a.extremes.now a.pos.now a.neg.now) in
     let first : Float = get_or c.args.values.now 0 nan in
     let some : 0 < length c.args.values.now = omega (arith, c.if-values-eq0.false) in
     let a = c.args in
@@ -53,7 +53,7 @@ finish_all-requires c k =
 
 pub returns : goal.returns
 returns c =
-    let lent_map : Held Cells = let a = c.args in held a.d (stores a.sets a.entries a.order) (cells a.figures a.extremes a.pos a.neg) in
+    let lent_map : Held Cells = let a = c.args in held a.d (stores a.sets.now a.entries.now a.order.now) (cells a.figures.now a.extremes.now a.pos.now a.neg.now) in
     let first : Float = get_or c.args.values.now 0 nan in
     let some : 0 < length c.args.values.now = omega (arith, c.if-values-eq0.false) in
     let last : c.args.d.last < 2 ^ 64 = omega (arith, c) in

@@ -9,7 +9,7 @@ use Rattle.exponential_batches.proofs.take.Goals as goal
 
 pub returns-then-no-ne0 : goal.returns-then-no-ne0
 returns-then-no-ne0 c =
-    let lent : Cells = let a = c.args in cells a.figures a.extremes a.pos a.neg in
+    let lent : Cells = let a = c.args in cells a.figures.now a.extremes.now a.pos.now a.neg.now in
     let a = c.args in
     sym (stop-off a.no (lent) (recorded_all (exponential_store a.size a.top) a.x a.updated (lent) a.values.now) c.if-no-ne0.true)
 
@@ -18,7 +18,7 @@ record_all-requires c = c.requires c.if-no-ne0.false
 
 pub returns : goal.returns
 returns c =
-    let lent : Cells = let a = c.args in cells a.figures a.extremes a.pos a.neg in
+    let lent : Cells = let a = c.args in cells a.figures.now a.extremes.now a.pos.now a.neg.now in
     let a = c.args in
     c.record_all.ensures
     ∙ sym (stop-on a.no (lent) (recorded_all (exponential_store a.size a.top) a.x a.updated (lent) a.values.now) c.if-no-ne0.false)

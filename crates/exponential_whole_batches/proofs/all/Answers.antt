@@ -24,14 +24,14 @@ use Rattle.exponential_whole_batches.proofs.all.Goals as goal
 pub returns-then-values-eq0 : goal.returns-then-values-eq0
 returns-then-values-eq0 c =
     let filter : Option (List ℕ) = let a = c.args in filter_of a.present a.filter.now in
-    let lent_map : Held Cells = let a = c.args in held a.d (stores a.sets a.entries a.order) (cells a.figures a.extremes a.pos a.neg) in
+    let lent_map : Held Cells = let a = c.args in held a.d (stores a.sets.now a.entries.now a.order.now) (cells a.figures.now a.extremes.now a.pos.now a.neg.now) in
     let attrs : Set = given c.args.attrs.now in
     let a = c.args in
     for-none (owed a.size a.top a.sums) true a.limit (filter) (lent_map) (attrs) a.values.now c.if-values-eq0.true
 
 pub seat_if-seat-requires : goal.seat_if-seat-requires
 seat_if-seat-requires c k =
-    let lent_map : Held Cells = let a = c.args in held a.d (stores a.sets a.entries a.order) (cells a.figures a.extremes a.pos a.neg) in
+    let lent_map : Held Cells = let a = c.args in held a.d (stores a.sets.now a.entries.now a.order.now) (cells a.figures.now a.extremes.now a.pos.now a.neg.now) in
     let filter : Option (List ℕ) = let a = c.args in filter_of a.present a.filter.now in
     let attrs : Set = given c.args.attrs.now in
     let a = c.args in
@@ -39,7 +39,7 @@ seat_if-seat-requires c k =
 
 pub take_all-got-requires : goal.take_all-got-requires
 take_all-got-requires c =
-    let lent_map : Held Cells = let a = c.args in held a.d (stores a.sets a.entries a.order) (cells a.figures a.extremes a.pos a.neg) in
+    let lent_map : Held Cells = let a = c.args in held a.d (stores a.sets.now a.entries.now a.order.now) (cells a.figures.now a.extremes.now a.pos.now a.neg.now) in
     let filter : Option (List ℕ) = let a = c.args in filter_of a.present a.filter.now in
     let attrs : Set = given c.args.attrs.now in
     let one : Whole.ℤ = get_or c.args.values.now 0 (Whole.pos 0) in
@@ -61,7 +61,7 @@ take_all-got-requires c =
 pub finish_all-requires : goal.finish_all-requires
 finish_all-requires c =
     let filter : Option (List ℕ) = let a = c.args in filter_of a.present a.filter.now in
-    let lent_map : Held Cells = let a = c.args in held a.d (stores a.sets a.entries a.order) (cells a.figures a.extremes a.pos a.neg) in
+    let lent_map : Held Cells = let a = c.args in held a.d (stores a.sets.now a.entries.now a.order.now) (cells a.figures.now a.extremes.now a.pos.now a.neg.now) in
     let attrs : Set = given c.args.attrs.now in
     let one : Whole.ℤ = get_or c.args.values.now 0 (Whole.pos 0) in
     let first_taken : c.takes-value.result ≡ wholes.finite (one) = c.takes-value.ensures ∙ ap wholes.finite (Range.held (one) (record { sfits = c.takes-arg-1.given })) in
@@ -74,7 +74,7 @@ finish_all-requires c =
 pub returns : goal.returns
 returns c =
     let filter : Option (List ℕ) = let a = c.args in filter_of a.present a.filter.now in
-    let lent_map : Held Cells = let a = c.args in held a.d (stores a.sets a.entries a.order) (cells a.figures a.extremes a.pos a.neg) in
+    let lent_map : Held Cells = let a = c.args in held a.d (stores a.sets.now a.entries.now a.order.now) (cells a.figures.now a.extremes.now a.pos.now a.neg.now) in
     let attrs : Set = given c.args.attrs.now in
     let one : Whole.ℤ = get_or c.args.values.now 0 (Whole.pos 0) in
     let first_taken : c.takes-value.result ≡ wholes.finite (one) = c.takes-value.ensures ∙ ap wholes.finite (Range.held (one) (record { sfits = c.takes-arg-1.given })) in

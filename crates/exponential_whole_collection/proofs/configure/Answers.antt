@@ -21,8 +21,8 @@ pub returns : goal.returns
 unfolding configured
 returns c =
     let handed : ℕ → Directory → Setup = λ top d. let a = c.args in setup_of a.size top a.show a.sums a.limit d in
-    let dirs : Stores = let a = c.args in stores a.sets a.entries a.order in
-    let lent : Cells = let a = c.args in cells a.figures a.extremes a.pos a.neg in
+    let dirs : Stores = let a = c.args in stores a.sets.now a.entries.now a.order.now in
+    let lent : Cells = let a = c.args in cells a.figures.now a.extremes.now a.pos.now a.neg.now in
     let a = c.args in
     let f = filter_of a.present a.filter.now in
     let level = c.level_or-top.ensures ∙ ap level_or (c.level_of-found.ensures ∙ ap level_answer (to_z-of_z w32 a.scale c.ranges.scale)) in

@@ -11,9 +11,9 @@ pub returns-then-taken : goal.returns-then-taken
 unfolding ◌behind◌
 returns-then-taken c =
     let a = c.args in
-    sym (ap (λ (x : List ℕ). x behind waiting a.n a.text) (pick_true _ _ _ c.if-taken.true))
+    sym (ap (λ (x : List ℕ). x behind waiting a.n a.text.now) (pick_true _ _ _ c.if-taken.true))
 
 pub returns : goal.returns
 returns c =
     let a = c.args in
-    c.unread.ensures ∙ sym (ap (λ (x : List ℕ). x behind waiting a.n a.text) (pick-false _ _ _ c.if-taken.false))
+    c.unread.ensures ∙ sym (ap (λ (x : List ℕ). x behind waiting a.n a.text.now) (pick-false _ _ _ c.if-taken.false))

@@ -12,8 +12,8 @@ use Rattle.handle_exports.proofs.map_measure_by.Goals as goal
 pub returns : goal.returns
 returns c =
     let a = c.args in
-    let s = stores a.sets a.entries a.order in
-    let x = cells a.figures a.extremes a.pos a.neg in
+    let s = stores a.sets.now a.entries.now a.order.now in
+    let x = cells a.figures.now a.extremes.now a.pos.now a.neg.now in
     let by : Directory → Outcome Cells = λ d. measured_by (exponential_store a.size a.top) a.limit (held d s x) a.v a.handle in
     let e = c.measure_by-reply.ensures ∙ ap by c.state_of-d.ensures in
     handed a.state.now _ _ c.measure_by-reply.result _ c.number_of.result _ e c.number_of.ensures c.words_of.ensures

@@ -16,14 +16,14 @@ use Rattle.map_agreed_exports.proofs.agreed_measure.Goals as goal
 pub measure_agreed-reply-requires : goal.measure_agreed-reply-requires
 measure_agreed-reply-requires c =
     let a = c.args in
-    let h : Directory → Held Cells = λ d. held d (stores a.sets a.entries a.order) (cells a.figures a.extremes a.pos a.neg) in
+    let h : Directory → Held Cells = λ d. held d (stores a.sets.now a.entries.now a.order.now) (cells a.figures.now a.extremes.now a.pos.now a.neg.now) in
     subst (λ d. AgreedFor (exponential_store a.size a.top) (true, true) a.limit none (h d) (given a.attrs.now)) (sym c.state_of-d.ensures) c.requires
 
 pub returns : goal.returns
 returns c =
     let a = c.args in
-    let s = stores a.sets a.entries a.order in
-    let x = cells a.figures a.extremes a.pos a.neg in
+    let s = stores a.sets.now a.entries.now a.order.now in
+    let x = cells a.figures.now a.extremes.now a.pos.now a.neg.now in
     let by : Directory → Outcome Cells = λ d. measured (exponential_store a.size a.top) a.limit none (held d s x) a.v (given a.attrs.now) in
     let e = c.measure_agreed-reply.ensures ∙ ap by c.state_of-d.ensures in
     handed a.state.now _ _ c.measure_agreed-reply.result _ c.number_of.result _ e c.number_of.ensures c.words_of.ensures

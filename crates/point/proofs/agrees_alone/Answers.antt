@@ -8,4 +8,4 @@ use Rattle.point.proofs.agrees_alone.Goals as goal
 pub returns : goal.returns
 returns c =
     let a = c.args in
-    c.point_agrees.ensures ∙ agrees-alone (stored a.p a.bounds a.pos a.neg)
+    c.point_agrees.ensures ∙ agrees-alone (stored a.p a.bounds.now a.pos.now a.neg.now)

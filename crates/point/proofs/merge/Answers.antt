@@ -6,29 +6,29 @@ use Rattle.point.proofs.merge.Goals as goal
 
 pub returns-then-no-ne0 : goal.returns-then-no-ne0
 returns-then-no-ne0 c =
-    let first : Stored = stored c.args.a c.args.abounds c.args.apos c.args.aneg in
-    let second : Stored = stored c.args.b c.args.bbounds c.args.bpos c.args.bneg in
+    let first : Stored = stored c.args.a c.args.abounds.now c.args.apos.now c.args.aneg.now in
+    let second : Stored = stored c.args.b c.args.bbounds.now c.args.bpos.now c.args.bneg.now in
     let a = c.args in
     calls.refused-law a.size (first) (second) a.pos.now a.neg.now c.refusal-no.result c.refusal-no.ensures c.if-no-ne0.true
 
 pub merge_exponential-made-requires : goal.merge_exponential-made-requires
 merge_exponential-made-requires c =
-    let first : Stored = stored c.args.a c.args.abounds c.args.apos c.args.aneg in
-    let second : Stored = stored c.args.b c.args.bbounds c.args.bpos c.args.bneg in
+    let first : Stored = stored c.args.a c.args.abounds.now c.args.apos.now c.args.aneg.now in
+    let second : Stored = stored c.args.b c.args.bbounds.now c.args.bpos.now c.args.bneg.now in
     let free : refusal_before c.args.size (first) (second) ≡ 0 = sym c.refusal-no.ensures ∙ c.if-no-ne0.false in
     calls.agreeing c.args.size (first) (second) (free) c.f-1.given.0.0 c.g-1.given.0.0 c.f-1.given.1 c.g-1.given.1
 
 pub merge_explicit-made-requires : goal.merge_explicit-made-requires
 merge_explicit-made-requires c =
-    let first : Stored = stored c.args.a c.args.abounds c.args.apos c.args.aneg in
-    let second : Stored = stored c.args.b c.args.bbounds c.args.bpos c.args.bneg in
+    let first : Stored = stored c.args.a c.args.abounds.now c.args.apos.now c.args.aneg.now in
+    let second : Stored = stored c.args.b c.args.bbounds.now c.args.bpos.now c.args.bneg.now in
     let free : refusal_before c.args.size (first) (second) ≡ 0 = sym c.refusal-no.ensures ∙ c.if-no-ne0.false in
     calls.can-add c.args.size (first) (second) (free) c.f-in-Explicit-f-1.given.0.0 c.g-in-Explicit-2-1.given.0.0 c.f-in-Explicit-f-1.given.1 c.g-in-Explicit-2-1.given.1
 
 pub returns-in-Exponential-g : goal.returns-in-Exponential-g
 returns-in-Exponential-g c =
-    let first : Stored = stored c.args.a c.args.abounds c.args.apos c.args.aneg in
-    let second : Stored = stored c.args.b c.args.bbounds c.args.bpos c.args.bneg in
+    let first : Stored = stored c.args.a c.args.abounds.now c.args.apos.now c.args.aneg.now in
+    let second : Stored = stored c.args.b c.args.bbounds.now c.args.bpos.now c.args.bneg.now in
     let free : refusal_before c.args.size (first) (second) ≡ 0 = sym c.refusal-no.ensures ∙ c.if-no-ne0.false in
     let a = c.args in
     calls.exponential-law a.size (first) (second) a.pos.now a.neg.now c.f-1.given.0.0 c.g-1.given.0.0 c.merge_exponential-made.result (said c.finish.result) c.merge_exponential-made.new.pos c.merge_exponential-made.new.neg
@@ -36,22 +36,22 @@ returns-in-Exponential-g c =
 
 pub returns-in-Explicit-g : goal.returns-in-Explicit-g
 returns-in-Explicit-g c =
-    let first : Stored = stored c.args.a c.args.abounds c.args.apos c.args.aneg in
-    let second : Stored = stored c.args.b c.args.bbounds c.args.bpos c.args.bneg in
+    let first : Stored = stored c.args.a c.args.abounds.now c.args.apos.now c.args.aneg.now in
+    let second : Stored = stored c.args.b c.args.bbounds.now c.args.bpos.now c.args.bneg.now in
     let free : refusal_before c.args.size (first) (second) ≡ 0 = sym c.refusal-no.ensures ∙ c.if-no-ne0.false in
     absurd (calls.not-mixed c.args.size (first) (second) (free) c.f-1.given.0.0 c.g-in-Exponential-1.given.0.0 c.f-1.given.1 c.g-in-Exponential-1.given.1)
 
 pub returns-in-Exponential-g-2 : goal.returns-in-Exponential-g-2
 returns-in-Exponential-g-2 c =
-    let first : Stored = stored c.args.a c.args.abounds c.args.apos c.args.aneg in
-    let second : Stored = stored c.args.b c.args.bbounds c.args.bpos c.args.bneg in
+    let first : Stored = stored c.args.a c.args.abounds.now c.args.apos.now c.args.aneg.now in
+    let second : Stored = stored c.args.b c.args.bbounds.now c.args.bpos.now c.args.bneg.now in
     let free : refusal_before c.args.size (first) (second) ≡ 0 = sym c.refusal-no.ensures ∙ c.if-no-ne0.false in
     absurd (calls.not-mixed-2 c.args.size (first) (second) (free) c.f-in-Explicit-f-1.given.0.0 c.g-in-Explicit-1.given.0.0 c.f-in-Explicit-f-1.given.1 c.g-in-Explicit-1.given.1)
 
 pub returns-in-Explicit-g-2 : goal.returns-in-Explicit-g-2
 returns-in-Explicit-g-2 c =
-    let first : Stored = stored c.args.a c.args.abounds c.args.apos c.args.aneg in
-    let second : Stored = stored c.args.b c.args.bbounds c.args.bpos c.args.bneg in
+    let first : Stored = stored c.args.a c.args.abounds.now c.args.apos.now c.args.aneg.now in
+    let second : Stored = stored c.args.b c.args.bbounds.now c.args.bpos.now c.args.bneg.now in
     let free : refusal_before c.args.size (first) (second) ≡ 0 = sym c.refusal-no.ensures ∙ c.if-no-ne0.false in
     let a = c.args in
     calls.explicit-law a.size (first) (second) a.pos.now a.neg.now c.f-in-Explicit-f-1.given.0.0 c.g-in-Explicit-2-1.given.0.0 c.merge_explicit-made.result (said c.finish-in-Explicit-g-2.result) c.merge_explicit-made.new.pos

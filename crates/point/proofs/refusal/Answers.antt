@@ -9,22 +9,22 @@ use Rattle.point.proofs.refusal.Goals as goal
 
 pub returns-then-not-size_fits : goal.returns-then-not-size_fits
 returns-then-not-size_fits c =
-    let first : Stored = stored c.args.a c.args.abounds c.args.apos c.args.aneg in
-    let second : Stored = stored c.args.b c.args.bbounds c.args.bpos c.args.bneg in
+    let first : Stored = stored c.args.a c.args.abounds.now c.args.apos.now c.args.aneg.now in
+    let second : Stored = stored c.args.b c.args.bbounds.now c.args.bpos.now c.args.bneg.now in
     calls.bad-size c.args.size (first) (second) (sym c.size_fits.ensures ∙ not-true _ c.if-not-size_fits.true)
 
 pub returns-then-not-point_agrees : goal.returns-then-not-point_agrees
 returns-then-not-point_agrees c =
-    let first : Stored = stored c.args.a c.args.abounds c.args.apos c.args.aneg in
-    let second : Stored = stored c.args.b c.args.bbounds c.args.bpos c.args.bneg in
+    let first : Stored = stored c.args.a c.args.abounds.now c.args.apos.now c.args.aneg.now in
+    let second : Stored = stored c.args.b c.args.bbounds.now c.args.bpos.now c.args.bneg.now in
     let Passed : (ℕ → Stored → Stored → Bool) → Type 0 = λ test. test c.args.size (first) (second) ≡ true in
     let sized : Passed calls.size_ok = sym c.size_fits.ensures ∙ not-false _ c.if-not-size_fits.false in
     calls.bad-first c.args.size (first) (second) (sized) (sym c.point_agrees.ensures ∙ not-true _ c.if-not-point_agrees.true)
 
 pub returns-then-not-point_agrees-2 : goal.returns-then-not-point_agrees-2
 returns-then-not-point_agrees-2 c =
-    let first : Stored = stored c.args.a c.args.abounds c.args.apos c.args.aneg in
-    let second : Stored = stored c.args.b c.args.bbounds c.args.bpos c.args.bneg in
+    let first : Stored = stored c.args.a c.args.abounds.now c.args.apos.now c.args.aneg.now in
+    let second : Stored = stored c.args.b c.args.bbounds.now c.args.bpos.now c.args.bneg.now in
     let Passed : (ℕ → Stored → Stored → Bool) → Type 0 = λ test. test c.args.size (first) (second) ≡ true in
     let sized : Passed calls.size_ok = sym c.size_fits.ensures ∙ not-false _ c.if-not-size_fits.false in
     let first-agrees : Passed calls.first_ok = sym c.point_agrees.ensures ∙ not-false _ c.if-not-point_agrees.false in
@@ -32,8 +32,8 @@ returns-then-not-point_agrees-2 c =
 
 pub returns-then-not-same_kind : goal.returns-then-not-same_kind
 returns-then-not-same_kind c =
-    let first : Stored = stored c.args.a c.args.abounds c.args.apos c.args.aneg in
-    let second : Stored = stored c.args.b c.args.bbounds c.args.bpos c.args.bneg in
+    let first : Stored = stored c.args.a c.args.abounds.now c.args.apos.now c.args.aneg.now in
+    let second : Stored = stored c.args.b c.args.bbounds.now c.args.bpos.now c.args.bneg.now in
     let Passed : (ℕ → Stored → Stored → Bool) → Type 0 = λ test. test c.args.size (first) (second) ≡ true in
     let sized : Passed calls.size_ok = sym c.size_fits.ensures ∙ not-false _ c.if-not-size_fits.false in
     let first-agrees : Passed calls.first_ok = sym c.point_agrees.ensures ∙ not-false _ c.if-not-point_agrees.false in
@@ -42,8 +42,8 @@ returns-then-not-same_kind c =
 
 pub returns-then-not-same_switch : goal.returns-then-not-same_switch
 returns-then-not-same_switch c =
-    let first : Stored = stored c.args.a c.args.abounds c.args.apos c.args.aneg in
-    let second : Stored = stored c.args.b c.args.bbounds c.args.bpos c.args.bneg in
+    let first : Stored = stored c.args.a c.args.abounds.now c.args.apos.now c.args.aneg.now in
+    let second : Stored = stored c.args.b c.args.bbounds.now c.args.bpos.now c.args.bneg.now in
     let Passed : (ℕ → Stored → Stored → Bool) → Type 0 = λ test. test c.args.size (first) (second) ≡ true in
     let sized : Passed calls.size_ok = sym c.size_fits.ensures ∙ not-false _ c.if-not-size_fits.false in
     let first-agrees : Passed calls.first_ok = sym c.point_agrees.ensures ∙ not-false _ c.if-not-point_agrees.false in
@@ -53,8 +53,8 @@ returns-then-not-same_switch c =
 
 pub returns-then-not-counts_fit : goal.returns-then-not-counts_fit
 returns-then-not-counts_fit c =
-    let first : Stored = stored c.args.a c.args.abounds c.args.apos c.args.aneg in
-    let second : Stored = stored c.args.b c.args.bbounds c.args.bpos c.args.bneg in
+    let first : Stored = stored c.args.a c.args.abounds.now c.args.apos.now c.args.aneg.now in
+    let second : Stored = stored c.args.b c.args.bbounds.now c.args.bpos.now c.args.bneg.now in
     let Passed : (ℕ → Stored → Stored → Bool) → Type 0 = λ test. test c.args.size (first) (second) ≡ true in
     let sized : Passed calls.size_ok = sym c.size_fits.ensures ∙ not-false _ c.if-not-size_fits.false in
     let first-agrees : Passed calls.first_ok = sym c.point_agrees.ensures ∙ not-false _ c.if-not-point_agrees.false in
@@ -65,8 +65,8 @@ returns-then-not-counts_fit c =
 
 pub returns : goal.returns
 returns c =
-    let first : Stored = stored c.args.a c.args.abounds c.args.apos c.args.aneg in
-    let second : Stored = stored c.args.b c.args.bbounds c.args.bpos c.args.bneg in
+    let first : Stored = stored c.args.a c.args.abounds.now c.args.apos.now c.args.aneg.now in
+    let second : Stored = stored c.args.b c.args.bbounds.now c.args.bpos.now c.args.bneg.now in
     let Passed : (ℕ → Stored → Stored → Bool) → Type 0 = λ test. test c.args.size (first) (second) ≡ true in
     let sized : Passed calls.size_ok = sym c.size_fits.ensures ∙ not-false _ c.if-not-size_fits.false in
     let first-agrees : Passed calls.first_ok = sym c.point_agrees.ensures ∙ not-false _ c.if-not-point_agrees.false in

@@ -9,32 +9,32 @@ use Rattle.pooling.proofs.merge_reals.Goals as goal
 
 pub pool-requires : goal.pool-requires
 pool-requires c =
-    let first : Source = nameless c.args.awords c.args.apos c.args.aneg c.args.abounds in
-    let second : Source = nameless c.args.bwords c.args.bpos c.args.bneg c.args.bbounds in (
+    let first : Source = nameless c.args.awords.now c.args.apos.now c.args.aneg.now c.args.abounds.now in
+    let second : Source = nameless c.args.bwords.now c.args.bpos.now c.args.bneg.now c.args.bbounds.now in (
       whole-lies c.args.a (first) c.first-1.given.0.0 (sym c.whole_at-first.ensures ∙ c.first-1.given.1),
       whole-lies c.args.b (second) c.second-1.given.0.0 (sym c.whole_at-second.ensures ∙ c.second-1.given.1),
     )
 
 pub returns-in-NoPoint : goal.returns-in-NoPoint
 returns-in-NoPoint c =
-    let first : Source = nameless c.args.awords c.args.apos c.args.aneg c.args.abounds in
-    let second : Source = nameless c.args.bwords c.args.bpos c.args.bneg c.args.bbounds in
+    let first : Source = nameless c.args.awords.now c.args.apos.now c.args.aneg.now c.args.abounds.now in
+    let second : Source = nameless c.args.bwords.now c.args.bpos.now c.args.bneg.now c.args.bbounds.now in
     let lent : Output = record { sets = c.args.sets.now; words = c.args.words.now; pos = c.args.pos.now; neg = c.args.neg.now } in
     reals_law c.args.size c.args.row c.args.a (first) c.args.b (second) c.args.at (lent) _ _
     (sym c.enum_told-1.given.1 ∙ c.whole_at-first.ensures) refl
 
 pub returns-in-NoPoint-second : goal.returns-in-NoPoint-second
 returns-in-NoPoint-second c =
-    let first : Source = nameless c.args.awords c.args.apos c.args.aneg c.args.abounds in
-    let second : Source = nameless c.args.bwords c.args.bpos c.args.bneg c.args.bbounds in
+    let first : Source = nameless c.args.awords.now c.args.apos.now c.args.aneg.now c.args.abounds.now in
+    let second : Source = nameless c.args.bwords.now c.args.bpos.now c.args.bneg.now c.args.bbounds.now in
     let lent : Output = record { sets = c.args.sets.now; words = c.args.words.now; pos = c.args.pos.now; neg = c.args.neg.now } in
     reals_law c.args.size c.args.row c.args.a (first) c.args.b (second) c.args.at (lent) _ _
     (sym c.first-1.given.1 ∙ c.whole_at-first.ensures) (sym c.enum_told-in-NoPoint-second-1.given.1 ∙ c.whole_at-second.ensures)
 
 pub returns-in-Is-second : goal.returns-in-Is-second
 returns-in-Is-second c =
-    let first : Source = nameless c.args.awords c.args.apos c.args.aneg c.args.abounds in
-    let second : Source = nameless c.args.bwords c.args.bpos c.args.bneg c.args.bbounds in
+    let first : Source = nameless c.args.awords.now c.args.apos.now c.args.aneg.now c.args.abounds.now in
+    let second : Source = nameless c.args.bwords.now c.args.bpos.now c.args.bneg.now c.args.bbounds.now in
     let lent : Output = record { sets = c.args.sets.now; words = c.args.words.now; pos = c.args.pos.now; neg = c.args.neg.now } in
     c.pool.ensures
     ∙ reals_law c.args.size c.args.row c.args.a (first) c.args.b (second) c.args.at (lent) _ _

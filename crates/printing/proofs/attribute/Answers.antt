@@ -13,5 +13,5 @@ unfolding attribute_field
 returns c =
     let a = c.args in
     let value = decimal (a.word % 4294967296) in
-    then (decimal (a.word / 4294967296)) (58 ∷ value) (waiting a.n a.text) c.decimal-a.ensures
+    then (decimal (a.word / 4294967296)) (58 ∷ value) (waiting a.n a.text.now) c.decimal-a.ensures
     (then (58 ∷ []) value _ c.byte-b.ensures c.decimal.ensures)

@@ -9,4 +9,4 @@ use Rattle.printing.proofs.bits.Goals as goal
 pub returns : goal.returns
 returns c =
     let a = c.args in
-    then (32 ∷ []) (hex_digits 16 a.x) (waiting a.n a.text) c.byte-m.ensures c.bits.ensures
+    then (32 ∷ []) (hex_digits 16 a.x) (waiting a.n a.text.now) c.byte-m.ensures c.bits.ensures

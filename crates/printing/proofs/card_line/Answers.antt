@@ -31,5 +31,5 @@ returns c =
     ∙ ap (λ (l : List Float). mean_in (stored_in p l c.row_at-above.result.now c.row_at-below.result.now)) c.bounds_at-own.ensures
     ∙ ap (λ (l : List ℕ). mean_in (stored_in p bs l c.row_at-below.result.now)) c.row_at-above.ensures
     ∙ ap (λ (l : List ℕ). mean_in (stored_in p bs xs l)) c.row_at-below.ensures in
-    a-line (set_field (eight a.row)) (mean_fields (mean_in (stored_in p bs xs ys))) (waiting a.n a.text) c.bare_set-a.ensures
+    a-line (set_field (eight a.row)) (mean_fields (mean_in (stored_in p bs xs ys))) (waiting a.n a.text.now) c.bare_set-a.ensures
     (spelt (ap (λ (x : Said ℤ). each 32 (mean_fields x)) is) _ c.mean_fields-b.ensures) c.byte.ensures

@@ -18,7 +18,7 @@ returns c =
     let p = a.p in
     let above = row_field (offset_shown false p.figures) a.pos.now in
     let below = row_field (offset_shown true p.figures) a.neg.now in
-    a-field 32 (waiting a.n a.text) (integer_field (scale_shown p.figures)) (held_fields p (above ∷ below ∷ []))
+    a-field 32 (waiting a.n a.text.now) (integer_field (scale_shown p.figures)) (held_fields p (above ∷ below ∷ []))
     (spelt (ap (λ (x : Integer). 32 ∷ integer_field x) c.scale.ensures) _ c.integer-a.ensures)
     (fields 32 _ (held_fields p []) (above ∷ below ∷ []) c.held-b.ensures
     (a-field 32 _ above (below ∷ []) (spelt (ap (λ (x : Integer). 32 ∷ row_field x a.pos.now) c.offset.ensures) _ c.row-c.ensures)

@@ -14,7 +14,7 @@ returns c =
     let x = decimal a.start in
     let y = decimal a.time in
     let z = decimal a.many in
-    a-line (99 ∷ []) (x ∷ y ∷ z ∷ []) (waiting a.n a.text) c.byte-a.ensures
+    a-line (99 ∷ []) (x ∷ y ∷ z ∷ []) (waiting a.n a.text.now) c.byte-a.ensures
     (a-field 32 _ x (y ∷ z ∷ []) c.number-b.ensures
     (a-field 32 _ y (z ∷ []) c.number-c.ensures (a-field 32 _ z [] c.number-d.ensures (no_field 32 _))))
     c.byte.ensures

@@ -22,14 +22,14 @@ overflow_cast-i c =
 pub returns-in-OutOfRange : goal.returns-in-OutOfRange
 returns-in-OutOfRange c =
     let a = c.args in
-    let t = waiting a.n a.text in
+    let t = waiting a.n a.text.now in
     spelt (ap (λ (i : Integer). 32 ∷ integer_field i) (sym c.enum_told-1.given.1)) t
     (then (32 ∷ []) (45 ∷ []) t c.byte-m.ensures c.byte.ensures)
 
 pub returns-in-Is : goal.returns-in-Is
 returns-in-Is c =
     let a = c.args in
-    let t = waiting a.n a.text in
+    let t = waiting a.n a.text.now in
     let f : SFits w32 c.x-1.given.0.0 = search rules in
     spelt (ap (λ (z : ℤ). 32 ∷ signed z) (wide_is c.x-1.given.0.0 f) ∙ ap (λ (i : Integer). 32 ∷ integer_field i) (sym c.x-1.given.1)) t
     (then (32 ∷ []) _ t c.byte-m.ensures c.signed.ensures)

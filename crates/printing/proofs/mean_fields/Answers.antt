@@ -19,7 +19,7 @@ use Rattle.printing.proofs.mean_fields.Goals as goal
 pub returns-in-Mean : goal.returns-in-Mean
 returns-in-Mean c =
     let a = c.args in
-    let t = waiting a.n a.text in
+    let t = waiting a.n a.text.now in
     let f : SFits w64 c.x-1.given.0.0 = search rules in
     spelt (ap (λ (y : Answer). each 32 (mean_fields (said y))) (sym c.x-1.given.1)) t
     (a-field 32 t (signed c.x-1.given.0.0) []
@@ -28,7 +28,7 @@ returns-in-Mean c =
 pub returns-in-Refused : goal.returns-in-Refused
 returns-in-Refused c =
     let a = c.args in
-    let t = waiting a.n a.text in
+    let t = waiting a.n a.text.now in
     let no = decimal c.x-in-Refused-1.given.0.0 in
     spelt (ap (λ (y : Answer). each 32 (mean_fields (said y))) (sym c.x-in-Refused-1.given.1)) t
     (a-field 32 t (33 ∷ []) (no ∷ []) c.bytes-a.ensures (a-field 32 _ no [] c.number.ensures (no_field 32 _)))

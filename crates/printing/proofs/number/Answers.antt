@@ -9,4 +9,4 @@ use Rattle.printing.proofs.number.Goals as goal
 pub returns : goal.returns
 returns c =
     let a = c.args in
-    then (32 ∷ []) (decimal a.x) (waiting a.n a.text) c.byte-m.ensures c.decimal.ensures
+    then (32 ∷ []) (decimal a.x) (waiting a.n a.text.now) c.byte-m.ensures c.decimal.ensures

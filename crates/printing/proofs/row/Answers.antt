@@ -10,5 +10,5 @@ pub returns : goal.returns
 unfolding row_field
 returns c =
     let a = c.args in
-    then (32 ∷ integer_field a.offset) _ (waiting a.n a.text) c.integer-a.ensures
+    then (32 ∷ integer_field a.offset) _ (waiting a.n a.text.now) c.integer-a.ensures
     (then (58 ∷ []) _ _ c.byte-b.ensures c.counts.ensures)

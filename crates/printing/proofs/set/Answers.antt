@@ -8,4 +8,4 @@ use Rattle.printing.proofs.set.Goals as goal
 pub returns : goal.returns
 returns c =
     let a = c.args in
-    then (32 ∷ []) _ (waiting a.n a.text) c.byte-m.ensures c.bare_set.ensures
+    then (32 ∷ []) _ (waiting a.n a.text.now) c.byte-m.ensures c.bare_set.ensures

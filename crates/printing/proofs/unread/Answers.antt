@@ -11,5 +11,5 @@ pub returns : goal.returns
 unfolding unread_line
 returns c =
     let a = c.args in
-    a-line (63 ∷ []) (decimal a.line ∷ []) (waiting a.n a.text) c.byte-a.ensures
+    a-line (63 ∷ []) (decimal a.line ∷ []) (waiting a.n a.text.now) c.byte-a.ensures
     (a-field 32 _ (decimal a.line) [] c.number-b.ensures (no_field 32 _)) c.byte.ensures

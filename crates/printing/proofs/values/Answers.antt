@@ -32,5 +32,5 @@ unfolding value_lines
 returns c =
     let l = c.loop-i in
     let a = c.args in
-    then (collection_head a.start a.time a.many) _ (waiting a.n a.text) c.head-m.ensures
+    then (collection_head a.start a.time a.many) _ (waiting a.n a.text.now) c.head-m.ensures
     (sym (values-end a.many l.i a.sets.now a.values.now _ c.loop-i-test.false) ∙ l.invariant.1)

@@ -23,7 +23,7 @@ use Rattle.seats.proofs.seat.Goals as goal
 
 pub returns-then-no-ne0 : goal.returns-then-no-ne0
 returns-then-no-ne0 c =
-    let lent : Stores = stores c.args.sets c.args.entries c.args.order in
+    let lent : Stores = stores c.args.sets.now c.args.entries.now c.args.order.now in
     let attrs : List (ℕ × ℕ) = given c.args.attrs.now in
     let filter : Option (List ℕ) = filter_of c.args.present c.args.filter.now in
     let first : ℕ = let a = c.args in barred_at a.cells a.value a.unset a.limit (lent) (length (attrs)) (accepts a.limit (filter)) in
@@ -36,7 +36,7 @@ returns-then-no-ne0 c =
 
 pub sort_into-requires : goal.sort_into-requires
 sort_into-requires c =
-    let lent : Stores = stores c.args.sets c.args.entries c.args.order in
+    let lent : Stores = stores c.args.sets.now c.args.entries.now c.args.order.now in
     let room : Bool = stores_suffice c.args.limit (lent) && leb (c.args.limit + 2) c.args.cells in
     let attrs : List (ℕ × ℕ) = given c.args.attrs.now in
     let filter : Option (List ℕ) = filter_of c.args.present c.args.filter.now in
@@ -49,7 +49,7 @@ sort_into-requires c =
 
 pub seat_in-requires : goal.seat_in-requires
 seat_in-requires c =
-    let lent : Stores = stores c.args.sets c.args.entries c.args.order in
+    let lent : Stores = stores c.args.sets.now c.args.entries.now c.args.order.now in
     let room : Bool = stores_suffice c.args.limit (lent) && leb (c.args.limit + 2) c.args.cells in
     let attrs : List (ℕ × ℕ) = given c.args.attrs.now in
     let filter : Option (List ℕ) = filter_of c.args.present c.args.filter.now in
@@ -63,7 +63,7 @@ seat_in-requires c =
 
 pub returns : goal.returns
 returns c =
-    let lent : Stores = stores c.args.sets c.args.entries c.args.order in
+    let lent : Stores = stores c.args.sets.now c.args.entries.now c.args.order.now in
     let attrs : List (ℕ × ℕ) = given c.args.attrs.now in
     let filter : Option (List ℕ) = filter_of c.args.present c.args.filter.now in
     let first : ℕ = let a = c.args in barred_at a.cells a.value a.unset a.limit (lent) (length (attrs)) (accepts a.limit (filter)) in

@@ -20,7 +20,7 @@ returns-then-no-ne0 c =
     let attrs : List (ℕ × ℕ) = given c.args.attrs.now in
     let first : ℕ = barred_by true c.args.value (length (attrs)) true in
     let number : c.barred-no.result ≡ first = c.barred-no.ensures ∙ (λ j. barred_by true c.args.value (sym (length-map c.args.attrs.now attribute) j) true) in
-    let lent : Stores = stores c.args.sets c.args.entries c.args.order in
+    let lent : Stores = stores c.args.sets.now c.args.entries.now c.args.order.now in
     let set_row : List ℕ = row_of (canonical (filter_of c.args.present c.args.filter.now) (attrs)) in
     let goes : Seating = seated c.args.limit c.args.d (lent) (set_row) in
     let d : first ≡ 0 → ⊥ = λ z. c.if-no-ne0.true (number ∙ z) in record { value = c.refused.ensures ∙ ap away (number) ∙ sym (barred-away (first) (goes) d); row_after = row_kept (first) (set_row) c.args.row.now d }
@@ -42,7 +42,7 @@ returns c =
     let attrs : List (ℕ × ℕ) = given c.args.attrs.now in
     let first : ℕ = barred_by true c.args.value (length (attrs)) true in
     let number : c.barred-no.result ≡ first = c.barred-no.ensures ∙ (λ j. barred_by true c.args.value (sym (length-map c.args.attrs.now attribute) j) true) in
-    let lent : Stores = stores c.args.sets c.args.entries c.args.order in
+    let lent : Stores = stores c.args.sets.now c.args.entries.now c.args.order.now in
     let set_row : List ℕ = row_of (canonical (filter_of c.args.present c.args.filter.now) (attrs)) in
     let goes : Seating = seated c.args.limit c.args.d (lent) (set_row) in
     let z : first ≡ 0 = sym (number) ∙ c.if-no-ne0.false in record { value = c.seat_right.ensures ∙ ap (seated c.args.limit c.args.d (lent)) c.sort_into.ensures.0 ∙ sym (barred-on (first) (goes) z); row_after = c.sort_into.ensures.0 ∙ row_written (first) (set_row) c.args.row.now z }

@@ -16,7 +16,7 @@ use Rattle.seats.proofs.seat_by.Goals as goal
 
 pub returns-then-no-ne0 : goal.returns-then-no-ne0
 returns-then-no-ne0 c =
-    let lent : Stores = stores c.args.sets c.args.entries c.args.order in
+    let lent : Stores = stores c.args.sets.now c.args.entries.now c.args.order.now in
     let first : ℕ = let a = c.args in barred_at a.cells a.value a.unset a.limit (lent) 0 (leb a.limit most_sets) in
     let number : c.barred-no.result ≡ first = c.barred-no.ensures ∙ (λ j. barred_by (c.suffices-lent.ensures j) c.args.value 0 (eqb c.args.unset 0 && leb c.args.limit most_sets)) in
     let goes : Seating = seated_by c.args.limit c.args.d (lent) c.args.h in
@@ -24,7 +24,7 @@ returns-then-no-ne0 c =
 
 pub seat_by_in-requires : goal.seat_by_in-requires
 seat_by_in-requires c =
-    let lent : Stores = stores c.args.sets c.args.entries c.args.order in
+    let lent : Stores = stores c.args.sets.now c.args.entries.now c.args.order.now in
     let first : ℕ = let a = c.args in barred_at a.cells a.value a.unset a.limit (lent) 0 (leb a.limit most_sets) in
     let number : c.barred-no.result ≡ first = c.barred-no.ensures ∙ (λ j. barred_by (c.suffices-lent.ensures j) c.args.value 0 (eqb c.args.unset 0 && leb c.args.limit most_sets)) in
     let k = clear (stores_suffice c.args.limit (lent) && leb (c.args.limit + 2) c.args.cells) c.args.value 0 (eqb c.args.unset 0 && leb c.args.limit most_sets) (sym (number) ∙ c.if-no-ne0.false) in
@@ -33,7 +33,7 @@ seat_by_in-requires c =
 
 pub returns : goal.returns
 returns c =
-    let lent : Stores = stores c.args.sets c.args.entries c.args.order in
+    let lent : Stores = stores c.args.sets.now c.args.entries.now c.args.order.now in
     let first : ℕ = let a = c.args in barred_at a.cells a.value a.unset a.limit (lent) 0 (leb a.limit most_sets) in
     let goes : Seating = seated_by c.args.limit c.args.d (lent) c.args.h in
     let number : c.barred-no.result ≡ first = c.barred-no.ensures ∙ (λ j. barred_by (c.suffices-lent.ensures j) c.args.value 0 (eqb c.args.unset 0 && leb c.args.limit most_sets)) in

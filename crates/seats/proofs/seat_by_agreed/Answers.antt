@@ -16,13 +16,13 @@ use Rattle.seats.proofs.seat_by_agreed.Goals as goal
 pub returns-then-no-ne0 : goal.returns-then-no-ne0
 returns-then-no-ne0 c =
     let first : ℕ = barred_by true c.args.value 0 true in
-    let lent : Stores = stores c.args.sets c.args.entries c.args.order in
+    let lent : Stores = stores c.args.sets.now c.args.entries.now c.args.order.now in
     let goes : Seating = seated_by c.args.limit c.args.d (lent) c.args.h in
     c.refused.ensures ∙ ap away c.barred-no.ensures ∙ sym (barred-away (first) (goes) (λ z. c.if-no-ne0.true (c.barred-no.ensures ∙ z)))
 
 pub by_birth-found-requires : goal.by_birth-found-requires
 by_birth-found-requires c =
-    let lent : Stores = stores c.args.sets c.args.entries c.args.order in (
+    let lent : Stores = stores c.args.sets.now c.args.entries.now c.args.order.now in (
       omega (arith, few c.args.limit c.args.d (lent) c.requires.3, c.requires.1),
       record { limit = c.args.limit; sets = c.args.sets.now; right = c.requires.3 },
       agreed-rise c.args.limit c.args.d (lent) c.requires.3,
@@ -30,12 +30,12 @@ by_birth-found-requires c =
 
 pub found_seat-requires : goal.found_seat-requires
 found_seat-requires c x e =
-    let lent : Stores = stores c.args.sets c.args.entries c.args.order in
+    let lent : Stores = stores c.args.sets.now c.args.entries.now c.args.order.now in
     (by-there c.args.limit c.args.d (lent) c.args.h c.requires.1 c.requires.3 x (sym c.by_birth-found.ensures ∙ e)).1
 
 pub returns : goal.returns
 returns c =
-    let lent : Stores = stores c.args.sets c.args.entries c.args.order in
+    let lent : Stores = stores c.args.sets.now c.args.entries.now c.args.order.now in
     let first : ℕ = barred_by true c.args.value 0 true in
     let goes : Seating = seated_by c.args.limit c.args.d (lent) c.args.h in
     c.found_seat.ensures c.args.sets.now c.args.order.now

@@ -12,13 +12,13 @@ use Rattle.seats.proofs.seat_by_if.Goals as goal
 
 pub seat_by_agreed-requires : goal.seat_by_agreed-requires
 seat_by_agreed-requires c =
-    let lent : Stores = stores c.args.sets c.args.entries c.args.order in
+    let lent : Stores = stores c.args.sets.now c.args.entries.now c.args.order.now in
     let sure : let a = c.args in Sure a.cells a.unset a.limit a.d (lent) (leb a.limit most_sets) = c.requires c.if-known.true in
     let k = sure in (k.sets, k.entries, k.order, k.agrees)
 
 pub returns-then-known : goal.returns-then-known
 returns-then-known c =
-    let lent : Stores = stores c.args.sets c.args.entries c.args.order in
+    let lent : Stores = stores c.args.sets.now c.args.entries.now c.args.order.now in
     let sure : let a = c.args in Sure a.cells a.unset a.limit a.d (lent) (leb a.limit most_sets) = c.requires c.if-known.true in
     let goes : Seating = seated_by c.args.limit c.args.d (lent) c.args.h in
     let a = c.args in

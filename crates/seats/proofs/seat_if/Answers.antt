@@ -19,14 +19,14 @@ use Rattle.seats.proofs.seat_if.Goals as goal
 
 pub seat_agreed-requires : goal.seat_agreed-requires
 seat_agreed-requires c =
-    let lent : Stores = stores c.args.sets c.args.entries c.args.order in
+    let lent : Stores = stores c.args.sets.now c.args.entries.now c.args.order.now in
     let filter : Option (List ℕ) = filter_of c.args.present c.args.filter.now in
     let sure : let a = c.args in Sure a.cells a.unset a.limit a.d (lent) (accepts a.limit (filter)) = c.requires c.if-known.true in
     let k = sure in (k.sets, k.entries, k.order, k.agrees)
 
 pub returns-then-known : goal.returns-then-known
 returns-then-known c =
-    let lent : Stores = stores c.args.sets c.args.entries c.args.order in
+    let lent : Stores = stores c.args.sets.now c.args.entries.now c.args.order.now in
     let attrs : List (ℕ × ℕ) = given c.args.attrs.now in
     let filter : Option (List ℕ) = filter_of c.args.present c.args.filter.now in
     let sure : let a = c.args in Sure a.cells a.unset a.limit a.d (lent) (accepts a.limit (filter)) = c.requires c.if-known.true in

@@ -16,8 +16,8 @@ use Rattle.set_batch_exports.proofs.map_measure_all.Goals as goal
 pub returns : goal.returns
 returns c =
     let a = c.args in
-    let s = stores a.sets a.entries a.order in
-    let x = cells a.figures a.extremes a.pos a.neg in
+    let s = stores a.sets.now a.entries.now a.order.now in
+    let x = cells a.figures.now a.extremes.now a.pos.now a.neg.now in
     let by : Directory → Many (Held Cells) = λ d. measured_all (exponential_store a.size a.top) a.limit none (held d s x) a.values.now (given a.attrs.now) in
     let e = c.measure_all-got.ensures ∙ ap by c.state_of-d.ensures in
     handed a.taken.now a.state.now _ _ c.measure_all-got.result _ _ e c.words_of.ensures

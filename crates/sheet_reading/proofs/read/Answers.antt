@@ -10,7 +10,7 @@ use Rattle.sheet_reading.proofs.read.Goals as goal
 
 pub returns-then-not-frame_holds : goal.returns-then-not-frame_holds
 returns-then-not-frame_holds c =
-    let lent : Source = source c.args.sets c.args.words c.args.pos c.args.neg c.args.bounds in
+    let lent : Source = source c.args.sets.now c.args.words.now c.args.pos.now c.args.neg.now c.args.bounds.now in
     bad-frame c.args.s.now c.know_bytes.ensures (lent) (sym c.frame_holds.ensures ∙ not-true _ c.if-not-frame_holds.true)
 
 pub points_in-n-requires : goal.points_in-n-requires
@@ -22,7 +22,7 @@ judge-verdict-requires c =
 
 pub returns-then-not-fits : goal.returns-then-not-fits
 returns-then-not-fits c =
-    let lent : Source = source c.args.sets c.args.words c.args.pos c.args.neg c.args.bounds in
+    let lent : Source = source c.args.sets.now c.args.words.now c.args.pos.now c.args.neg.now c.args.bounds.now in
     no_room c.args.s.now c.know_bytes.ensures (lent) (sym c.frame_holds.ensures ∙ not-false _ c.if-not-frame_holds.false) c.verdict-1.given.0.0
     (sym c.judge-verdict.ensures ∙ c.verdict-1.given.1)
     (ap (λ (n : ℕ). fits_in n c.verdict-1.given.0.0.pos c.verdict-1.given.0.0.neg c.verdict-1.given.0.0.bounds (lent)) (sym c.points_in-n.ensures) ∙ sym c.fits2.ensures ∙ not-true _ c.if-not-fits.true)
@@ -43,13 +43,13 @@ copy_points-requires c =
 
 pub returns-in-Bad : goal.returns-in-Bad
 returns-in-Bad c =
-    let lent : Source = source c.args.sets c.args.words c.args.pos c.args.neg c.args.bounds in
+    let lent : Source = source c.args.sets.now c.args.words.now c.args.pos.now c.args.neg.now c.args.bounds.now in
     bad-points c.args.s.now c.know_bytes.ensures (lent) (sym c.frame_holds.ensures ∙ not-false _ c.if-not-frame_holds.false)
     (sym c.judge-verdict.ensures ∙ c.enum_told-1.given.1)
 
 pub returns-else-not-fits : goal.returns-else-not-fits
 returns-else-not-fits c =
-    let lent : Source = source c.args.sets c.args.words c.args.pos c.args.neg c.args.bounds in
+    let lent : Source = source c.args.sets.now c.args.words.now c.args.pos.now c.args.neg.now c.args.bounds.now in
     was_read c.args.s.now c.know_bytes.ensures (lent) (sym c.frame_holds.ensures ∙ not-false _ c.if-not-frame_holds.false) c.verdict-1.given.0.0
     (sym c.judge-verdict.ensures ∙ c.verdict-1.given.1)
     (ap (λ (n : ℕ). fits_in n c.verdict-1.given.0.0.pos c.verdict-1.given.0.0.neg c.verdict-1.given.0.0.bounds (lent)) (sym c.points_in-n.ensures) ∙ sym c.fits2.ensures ∙ not-false _ c.if-not-fits.false)

@@ -19,14 +19,14 @@ use Rattle.single_batches.proofs.all.Goals as goal
 pub returns-then-list-eq0 : goal.returns-then-list-eq0
 returns-then-list-eq0 c =
     let filter : Option (List ℕ) = let a = c.args in filter_of a.present a.filter.now in
-    let lent_map : Held (List Float) = let a = c.args in held a.d (stores a.sets a.entries a.order) a.values.now in
+    let lent_map : Held (List Float) = let a = c.args in held a.d (stores a.sets.now a.entries.now a.order.now) a.values.now in
     let attrs : Set = given c.args.attrs.now in
     let a = c.args in
     for-none (owed a.aggregation) tt a.limit (filter) (lent_map) (attrs) a.list.now c.if-list-eq0.true
 
 pub seat_if-seat-requires : goal.seat_if-seat-requires
 seat_if-seat-requires c k =
-    let lent_map : Held (List Float) = let a = c.args in held a.d (stores a.sets a.entries a.order) a.values.now in
+    let lent_map : Held (List Float) = let a = c.args in held a.d (stores a.sets.now a.entries.now a.order.now) a.values.now in
     let filter : Option (List ℕ) = let a = c.args in filter_of a.present a.filter.now in
     let attrs : Set = given c.args.attrs.now in
     let a = c.args in
@@ -35,7 +35,7 @@ seat_if-seat-requires c k =
 pub take_all-got-requires : goal.take_all-got-requires
 take_all-got-requires c =
     let filter : Option (List ℕ) = let a = c.args in filter_of a.present a.filter.now in
-    let lent_map : Held (List Float) = let a = c.args in held a.d (stores a.sets a.entries a.order) a.values.now in
+    let lent_map : Held (List Float) = let a = c.args in held a.d (stores a.sets.now a.entries.now a.order.now) a.values.now in
     let attrs : Set = given c.args.attrs.now in
     let one : Float = get_or c.args.list.now 0 nan in
     let a = c.args in
@@ -45,7 +45,7 @@ take_all-got-requires c =
 pub finish_all-requires : goal.finish_all-requires
 finish_all-requires c =
     let filter : Option (List ℕ) = let a = c.args in filter_of a.present a.filter.now in
-    let lent_map : Held (List Float) = let a = c.args in held a.d (stores a.sets a.entries a.order) a.values.now in
+    let lent_map : Held (List Float) = let a = c.args in held a.d (stores a.sets.now a.entries.now a.order.now) a.values.now in
     let attrs : Set = given c.args.attrs.now in
     let one : Float = get_or c.args.list.now 0 nan in
     let cut : c.args.list.now ≡ one ∷ drop 1 c.args.list.now = cut-first c.args.list.now nan (omega (arith, c.if-list-eq0.false)) in
@@ -56,7 +56,7 @@ finish_all-requires c =
 pub returns : goal.returns
 returns c =
     let filter : Option (List ℕ) = let a = c.args in filter_of a.present a.filter.now in
-    let lent_map : Held (List Float) = let a = c.args in held a.d (stores a.sets a.entries a.order) a.values.now in
+    let lent_map : Held (List Float) = let a = c.args in held a.d (stores a.sets.now a.entries.now a.order.now) a.values.now in
     let attrs : Set = given c.args.attrs.now in
     let one : Float = get_or c.args.list.now 0 nan in
     let cut : c.args.list.now ≡ one ∷ drop 1 c.args.list.now = cut-first c.args.list.now nan (omega (arith, c.if-list-eq0.false)) in

@@ -10,5 +10,5 @@ use Rattle.single_batches.proofs.measure_agreed.Goals as goal
 pub returns : goal.returns
 returns c =
     let a = c.args in
-    one_for (single_store a.aggregation) a.limit (held a.d (stores a.sets a.entries a.order) a.values.now) a.v
+    one_for (single_store a.aggregation) a.limit (held a.d (stores a.sets.now a.entries.now a.order.now) a.values.now) a.v
     c.all-got.result c.single.result c.single.ensures _ _ (filter_of a.present a.filter.now) (given a.attrs.now) c.all-got.ensures

@@ -9,5 +9,5 @@ use Rattle.single_batches.proofs.measure_by_agreed.Goals as goal
 pub returns : goal.returns
 returns c =
     let a = c.args in
-    one-by (single_store a.aggregation) a.limit (held a.d (stores a.sets a.entries a.order) a.values.now) a.v
+    one-by (single_store a.aggregation) a.limit (held a.d (stores a.sets.now a.entries.now a.order.now) a.values.now) a.v
     c.all_by-got.result c.single.result c.single.ensures _ _ a.h c.all_by-got.ensures

@@ -16,7 +16,7 @@ use Rattle.single_exports.proofs.sum_measure.Goals as goal
 pub returns : goal.returns
 returns c =
     let a = c.args in
-    let s = stores a.sets a.entries a.order in
+    let s = stores a.sets.now a.entries.now a.order.now in
     let by : Directory → Outcome (List Float) =
     λ d. measured (single_store Sum) a.limit none (held d s a.values.now) a.v (given a.attrs.now) in
     let e = c.measure-reply.ensures ∙ ap by c.state_of-d.ensures in

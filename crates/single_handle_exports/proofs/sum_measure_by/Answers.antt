@@ -14,7 +14,7 @@ use Rattle.single_handle_exports.proofs.sum_measure_by.Goals as goal
 pub returns : goal.returns
 returns c =
     let a = c.args in
-    let s = stores a.sets a.entries a.order in
+    let s = stores a.sets.now a.entries.now a.order.now in
     let by : Directory → Outcome (List Float) = λ d. measured_by (single_store Sum) a.limit (held d s a.values.now) a.v a.handle in
     let e = c.measure_by-reply.ensures ∙ ap by c.state_of-d.ensures in
     handed a.state.now _ _ c.measure_by-reply.result _ c.number_of.result _ e c.number_of.ensures c.words_of.ensures

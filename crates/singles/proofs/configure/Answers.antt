@@ -15,7 +15,7 @@ returns c =
     let a = c.args in
     let S = single_store a.aggregation in
     let filter = filter_of a.present a.filter.now in
-    let s = stores a.sets a.entries a.order in
+    let s = stores a.sets.now a.entries.now a.order.now in
     configured-is S (λ d. record { settings = record { aggregation = a.aggregation; limit = a.limit }; dir = d }) a.limit filter s
     a.values.now c.begin-reply.result _ (said c.set_up.result)
     (start_is S a.limit filter s a.values.now _ refl c.suffices-room.ensures c.begin-reply.ensures) c.set_up.ensures

@@ -17,8 +17,8 @@ use Rattle.whole_exports.proofs.whole_measure.Goals as goal
 pub returns : goal.returns
 returns c =
     let a = c.args in
-    let s = stores a.sets a.entries a.order in
-    let x = cells a.figures a.extremes a.pos a.neg in
+    let s = stores a.sets.now a.entries.now a.order.now in
+    let x = cells a.figures.now a.extremes.now a.pos.now a.neg.now in
     let by : Directory → ℤ → Outcome Cells = λ d v. measured (exponential_wholes a.size a.top true) a.limit none (held d s x) v (given a.attrs.now) in
     let e = c.measure-reply.ensures ∙ (λ j. by (c.state_of-d.ensures j) (Range.held a.v c.ranges.v j)) in
     handed a.state.now _ _ c.measure-reply.result _ c.number_of.result _ e c.number_of.ensures c.words_of.ensures

@@ -16,14 +16,14 @@ use Rattle.whole_handle_agreed_exports.proofs.agreed_whole_measure_by.Goals as g
 pub measure_by_agreed-reply-requires : goal.measure_by_agreed-reply-requires
 measure_by_agreed-reply-requires c =
     let a = c.args in
-    let h : Directory → Held Cells = λ d. held d (stores a.sets a.entries a.order) (cells a.figures a.extremes a.pos a.neg) in
+    let h : Directory → Held Cells = λ d. held d (stores a.sets.now a.entries.now a.order.now) (cells a.figures.now a.extremes.now a.pos.now a.neg.now) in
     subst (λ d. AgreedBy (exponential_wholes a.size a.top true) true a.limit (h d) a.handle) (sym c.state_of-d.ensures) c.requires
 
 pub returns : goal.returns
 returns c =
     let a = c.args in
-    let s = stores a.sets a.entries a.order in
-    let x = cells a.figures a.extremes a.pos a.neg in
+    let s = stores a.sets.now a.entries.now a.order.now in
+    let x = cells a.figures.now a.extremes.now a.pos.now a.neg.now in
     let by : Directory → ℤ → Outcome Cells = λ d v. measured_by (exponential_wholes a.size a.top true) a.limit (held d s x) v a.handle in
     let e = c.measure_by_agreed-reply.ensures ∙ (λ j. by (c.state_of-d.ensures j) (Range.held a.v c.ranges.v j)) in
     handed a.state.now _ _ c.measure_by_agreed-reply.result _ c.number_of.result _ e c.number_of.ensures c.words_of.ensures

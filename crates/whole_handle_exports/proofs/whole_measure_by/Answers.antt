@@ -15,8 +15,8 @@ use Rattle.whole_handle_exports.proofs.whole_measure_by.Goals as goal
 pub returns : goal.returns
 returns c =
     let a = c.args in
-    let s = stores a.sets a.entries a.order in
-    let x = cells a.figures a.extremes a.pos a.neg in
+    let s = stores a.sets.now a.entries.now a.order.now in
+    let x = cells a.figures.now a.extremes.now a.pos.now a.neg.now in
     let by : Directory → ℤ → Outcome Cells = λ d v. measured_by (exponential_wholes a.size a.top true) a.limit (held d s x) v a.handle in
     let e = c.measure_by-reply.ensures ∙ (λ j. by (c.state_of-d.ensures j) (Range.held a.v c.ranges.v j)) in
     handed a.state.now _ _ c.measure_by-reply.result _ c.number_of.result _ e c.number_of.ensures c.words_of.ensures

@@ -12,8 +12,8 @@ use Rattle.whole_point.proofs.merge.Goals as goal
 
 pub returns-in-Outside : goal.returns-in-Outside
 returns-in-Outside c =
-    let first : Stored = stored c.args.a c.args.abounds c.args.apos c.args.aneg in
-    let second : Stored = stored c.args.b c.args.bbounds c.args.bpos c.args.bneg in
+    let first : Stored = stored c.args.a c.args.abounds.now c.args.apos.now c.args.aneg.now in
+    let second : Stored = stored c.args.b c.args.bbounds.now c.args.bpos.now c.args.bneg.now in
     let first-sum : SFits w64 c.args.a.sum = search rules in
     let second-sum : SFits w64 c.args.b.sum = search rules in
     let told : c.sum-total.result ≡ sum_of c.args.a.sum c.args.b.sum = c.sum-total.ensures ∙ (λ j. sum_of (held c.args.a.sum (first-sum) j) (held c.args.b.sum (second-sum) j)) in
@@ -22,13 +22,13 @@ returns-in-Outside c =
     (sym (told) ∙ c.enum_told-1.given.1)
     c.refusal-no.result c.last_number-n.result
     (c.refusal-no.ensures
-    ∙ (λ j. P.refusal_before a.size (P.stored (c.shadow_of-x.ensures j) a.abounds a.apos a.aneg) (P.stored (c.shadow_of-y.ensures j) a.bbounds a.bpos a.bneg)))
+    ∙ (λ j. P.refusal_before a.size (P.stored (c.shadow_of-x.ensures j) a.abounds.now a.apos.now a.aneg.now) (P.stored (c.shadow_of-y.ensures j) a.bbounds.now a.bpos.now a.bneg.now)))
     c.last_number-n.ensures
 
 pub returns-in-Is : goal.returns-in-Is
 returns-in-Is c =
-    let first : Stored = stored c.args.a c.args.abounds c.args.apos c.args.aneg in
-    let second : Stored = stored c.args.b c.args.bbounds c.args.bpos c.args.bneg in
+    let first : Stored = stored c.args.a c.args.abounds.now c.args.apos.now c.args.aneg.now in
+    let second : Stored = stored c.args.b c.args.bbounds.now c.args.bpos.now c.args.bneg.now in
     let first-sum : SFits w64 c.args.a.sum = search rules in
     let second-sum : SFits w64 c.args.b.sum = search rules in
     let told : c.sum-total.result ≡ sum_of c.args.a.sum c.args.b.sum = c.sum-total.ensures ∙ (λ j. sum_of (held c.args.a.sum (first-sum) j) (held c.args.b.sum (second-sum) j)) in
@@ -37,5 +37,5 @@ returns-in-Is c =
     inside_law a.size (first) (second) a.pos.now a.neg.now c.total-1.given.0.0 (sym (told) ∙ c.total-1.given.1)
     (P.said c.merge-r.result) (said c.finish.result) c.merge-r.new.pos c.merge-r.new.neg
     (c.merge-r.ensures
-    ∙ (λ j. P.merging a.size (P.stored (c.shadow_of-x.ensures j) a.abounds a.apos a.aneg) (P.stored (c.shadow_of-y.ensures j) a.bbounds a.bpos a.bneg) a.pos.now a.neg.now))
+    ∙ (λ j. P.merging a.size (P.stored (c.shadow_of-x.ensures j) a.abounds.now a.apos.now a.aneg.now) (P.stored (c.shadow_of-y.ensures j) a.bbounds.now a.bpos.now a.bneg.now) a.pos.now a.neg.now))
     (c.finish.ensures ∙ ap (λ y. finished a.a a.b y (P.said c.merge-r.result)) (held c.total-1.given.0.0 (whole_sum)))

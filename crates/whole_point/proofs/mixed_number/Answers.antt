@@ -10,6 +10,6 @@ pub returns : goal.returns
 returns c =
     let a = c.args in
     c.beside.ensures
-    ∙ mixed_law a.size (stored a.a a.abounds a.apos a.aneg) (P.stored a.b a.bbounds a.bpos a.bneg) c.refusal-no.result
+    ∙ mixed_law a.size (stored a.a a.abounds.now a.apos.now a.aneg.now) (P.stored a.b a.bbounds.now a.bpos.now a.bneg.now) c.refusal-no.result
     (c.refusal-no.ensures
-    ∙ (λ j. P.refusal_before a.size (P.stored (c.shadow_of-x.ensures j) a.abounds a.apos a.aneg) (P.stored a.b a.bbounds a.bpos a.bneg)))
+    ∙ (λ j. P.refusal_before a.size (P.stored (c.shadow_of-x.ensures j) a.abounds.now a.apos.now a.aneg.now) (P.stored a.b a.bbounds.now a.bpos.now a.bneg.now)))

@@ -17,7 +17,7 @@ head-m-requires c = tt
 
 pub loop-i-init : goal.loop-i-init
 loop-i-init c =
-    let listed : Output = let a = c.args in output a.sets a.words a.pos a.neg in
+    let listed : Output = let a = c.args in output a.sets.now a.words.now a.pos.now a.neg.now in
     let printed : Cursor → List ℕ = λ at. line_at at (listed) c.args.bounds.now in
     let next : Cursor → Cursor = λ at. next_at at (listed) in
     (omega arith, lines_start (printed) (next) c.args.many _ _)
@@ -27,7 +27,7 @@ point-done-requires c = tt
 
 pub loop-i-preserved : goal.loop-i-preserved
 loop-i-preserved c =
-    let listed : Output = let a = c.args in output a.sets a.words a.pos a.neg in
+    let listed : Output = let a = c.args in output a.sets.now a.words.now a.pos.now a.neg.now in
     let printed : Cursor → List ℕ = λ at. line_at at (listed) c.args.bounds.now in
     let next : Cursor → Cursor = λ at. next_at at (listed) in
     let l = c.loop-i in (
@@ -39,10 +39,10 @@ loop-i-preserved c =
 pub returns : goal.returns
 unfolding collection_lines
 returns c =
-    let listed : Output = let a = c.args in output a.sets a.words a.pos a.neg in
+    let listed : Output = let a = c.args in output a.sets.now a.words.now a.pos.now a.neg.now in
     let printed : Cursor → List ℕ = λ at. line_at at (listed) c.args.bounds.now in
     let next : Cursor → Cursor = λ at. next_at at (listed) in
     let l = c.loop-i in
     let a = c.args in
-    then (collection_head a.start a.time a.many) _ (waiting a.n a.text) c.head-m.ensures
+    then (collection_head a.start a.time a.many) _ (waiting a.n a.text.now) c.head-m.ensures
     (sym (lines_end (printed) (next) a.many l.done.at _ l.i c.loop-i-test.false) ∙ l.invariant.1)

@@ -16,7 +16,7 @@ returns c =
     let a = c.args in
     let xs = a.buckets.now in
     let ys = a.bounds.now in
-    fields 32 (waiting a.n a.text) (held_fields a.p []) (listed (map decimal xs) ∷ listed (map float_field ys) ∷ []) c.held-a.ensures
+    fields 32 (waiting a.n a.text.now) (held_fields a.p []) (listed (map decimal xs) ∷ listed (map float_field ys) ∷ []) c.held-a.ensures
     (a-field 32 _ (listed (map decimal xs)) (listed (map float_field ys) ∷ [])
     (spelt (ap (λ (r : List ℕ). 32 ∷ r) (listed-is decimal xs)) _ (then _ (joined 44 (map decimal xs)) _ c.dash-b.ensures c.counts-c.ensures))
     (a-field 32 _ (listed (map float_field ys)) []

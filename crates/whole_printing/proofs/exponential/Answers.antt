@@ -20,7 +20,7 @@ returns c =
     let above = row_field (offset_shown false p.figures) a.pos.now in
     let below = row_field (offset_shown true p.figures) a.neg.now in
     let f = ap (λ (x : P.Point). x.figures) c.shadow_of-q.ensures in
-    a-field 32 (waiting a.n a.text) (integer_field (scale_shown p.figures)) (held_fields p (above ∷ below ∷ []))
+    a-field 32 (waiting a.n a.text.now) (integer_field (scale_shown p.figures)) (held_fields p (above ∷ below ∷ []))
     (spelt (ap (λ (x : Integer). 32 ∷ integer_field x) (c.scale.ensures ∙ ap scale_shown f)) _ c.integer-a.ensures)
     (fields 32 _ (held_fields p []) (above ∷ below ∷ []) c.held-b.ensures
     (a-field 32 _ above (below ∷ [])

@@ -19,6 +19,6 @@ returns c =
     let a = c.args in
     let total = signed a.p.sum in
     let max = extreme_field a.p.max in
-    a-field 32 (waiting a.n a.text) (extreme_field a.p.min) (max ∷ total ∷ []) c.extreme-a.ensures
+    a-field 32 (waiting a.n a.text.now) (extreme_field a.p.min) (max ∷ total ∷ []) c.extreme-a.ensures
     (a-field 32 _ max (total ∷ []) c.extreme-b.ensures
     (a-field 32 _ total [] (spelt (ap (λ (z : ℤ). 32 ∷ signed z) (held a.p.sum (sum_fits))) _ c.integer.ensures) (no_field 32 _)))

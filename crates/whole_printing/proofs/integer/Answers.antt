@@ -11,5 +11,5 @@ use Rattle.whole_printing.proofs.integer.Goals as goal
 pub returns : goal.returns
 returns c =
     let a = c.args in
-    then (32 ∷ []) (signed a.x) (waiting a.n a.text) c.byte-m.ensures
+    then (32 ∷ []) (signed a.x) (waiting a.n a.text.now) c.byte-m.ensures
     (spelt (ap signed (held a.x c.ranges.x)) _ c.signed.ensures)

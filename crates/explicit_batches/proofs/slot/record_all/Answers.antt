@@ -39,7 +39,7 @@ slice_bounds-enter_all-end c =
 
 pub enter_all-run-requires : goal.enter_all-run-requires
 enter_all-run-requires c =
-    let lent : Cells = let a = c.args in cells a.totals a.extremes a.counts in
+    let lent : Cells = let a = c.args in cells a.totals.now a.extremes.now a.counts.now in
     let end : c.args.x * c.bucket_count-n.result + c.bucket_count-n.result ≤ length c.args.counts.now = let a = c.args in subst (λ (k : ℕ). a.x * k + k ≤ length a.counts.now) (sym c.bucket_count-n.ensures) c.requires.room.counts in
     let a = c.args in
     let bs = a.bounds.now in
@@ -56,7 +56,7 @@ keep-requires c = (c.requires.room.totals, c.requires.room.extremes)
 
 pub returns : goal.returns
 returns c =
-    let lent : Cells = let a = c.args in cells a.totals a.extremes a.counts in
+    let lent : Cells = let a = c.args in cells a.totals.now a.extremes.now a.counts.now in
     let a = c.args in
     let m : Many Series = record { taken = c.enter_all-run.result.taken; no = c.enter_all-run.result.no; left = record { head = c.enter_all-run.result.head; counts = c.enter_all-run.new.counts } } in
     kept_law a.known a.bounds.now a.x a.updated (lent) a.values.now c.requires c.bucket_count-n.result c.bucket_count-n.ensures

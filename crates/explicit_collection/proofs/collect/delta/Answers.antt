@@ -17,29 +17,29 @@ number-no-requires c = c.requires
 
 pub returns-then-no-ne0 : goal.returns-then-no-ne0
 returns-then-no-ne0 c =
-    let map : Held Cells = let a = c.args in held a.d (stores a.sets a.entries a.order) (cells a.totals a.extremes a.counts) in
-    let out : Output = let a = c.args in output a.out-sets a.out-words a.out-pos a.out-neg in
+    let map : Held Cells = let a = c.args in held a.d (stores a.sets.now a.entries.now a.order.now) (cells a.totals.now a.extremes.now a.counts.now) in
+    let out : Output = let a = c.args in output a.out-sets.now a.out-words.now a.out-pos.now a.out-neg.now in
     let a = c.args in
     delta-refused (explicit_lister a.bounds.now) (a.s.extremes, a.s.sums) a.s.limit (map) (out) c.number-no.result c.number-no.ensures c.if-no-ne0.true
 
 pub list-end-requires : goal.list-end-requires
 list-end-requires c =
-    let map : Held Cells = let a = c.args in held a.d (stores a.sets a.entries a.order) (cells a.totals a.extremes a.counts) in
-    let out : Output = let a = c.args in output a.out-sets a.out-words a.out-pos a.out-neg in
+    let map : Held Cells = let a = c.args in held a.d (stores a.sets.now a.entries.now a.order.now) (cells a.totals.now a.extremes.now a.counts.now) in
+    let out : Output = let a = c.args in output a.out-sets.now a.out-words.now a.out-pos.now a.out-neg.now in
     let a = c.args in
     listable (explicit_lister a.bounds.now) (owed a.bounds.now) (a.s.extremes, a.s.sums) false a.s.limit (map) (out) c.number-no.result c.number-no.ensures c.if-no-ne0.false
 
 pub sweep-dir-requires : goal.sweep-dir-requires
 sweep-dir-requires c =
-    let map : Held Cells = let a = c.args in held a.d (stores a.sets a.entries a.order) (cells a.totals a.extremes a.counts) in
-    let out : Output = let a = c.args in output a.out-sets a.out-words a.out-pos a.out-neg in
+    let map : Held Cells = let a = c.args in held a.d (stores a.sets.now a.entries.now a.order.now) (cells a.totals.now a.extremes.now a.counts.now) in
+    let out : Output = let a = c.args in output a.out-sets.now a.out-words.now a.out-pos.now a.out-neg.now in
     let a = c.args in
     sweeps (explicit_lister a.bounds.now) (owed a.bounds.now) (a.s.extremes, a.s.sums) false a.s.limit (map) (out) c.number-no.result c.number-no.ensures c.if-no-ne0.left
 
 pub returns : goal.returns
 returns c =
-    let map : Held Cells = let a = c.args in held a.d (stores a.sets a.entries a.order) (cells a.totals a.extremes a.counts) in
-    let out : Output = let a = c.args in output a.out-sets a.out-words a.out-pos a.out-neg in
+    let map : Held Cells = let a = c.args in held a.d (stores a.sets.now a.entries.now a.order.now) (cells a.totals.now a.extremes.now a.counts.now) in
+    let out : Output = let a = c.args in output a.out-sets.now a.out-words.now a.out-pos.now a.out-neg.now in
     let a = c.args in
     delta-done (explicit_lister a.bounds.now) (a.s.extremes, a.s.sums) a.s.limit (map) (out) _ _ (sym c.number-no.ensures ∙ c.if-no-ne0.left)
     (listed-is (explicit_lister a.bounds.now) (owed a.bounds.now) (a.s.extremes, a.s.sums) false a.s.limit (map) (out) _ c.list-end.ensures) c.sweep-dir.ensures

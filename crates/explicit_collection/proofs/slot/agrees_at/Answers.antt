@@ -31,14 +31,14 @@ slice_bounds-buckets_agree-end c =
 
 pub returns-then-not-buckets_agree : goal.returns-then-not-buckets_agree
 returns-then-not-buckets_agree c =
-    let lent : Cells = let a = c.args in cells a.totals a.extremes a.counts in
+    let lent : Cells = let a = c.args in cells a.totals.now a.extremes.now a.counts.now in
     let a = c.args in
     uncounted a.bounds.now (lent) a.x c.bucket_count-n.result c.bucket_count-n.ensures c.head_at-head.result c.head_at-head.ensures
     c.buckets_agree.result c.buckets_agree.ensures (not-true c.buckets_agree.result c.if-not-buckets_agree.true)
 
 pub returns-then-not-is_finite : goal.returns-then-not-is_finite
 returns-then-not-is_finite c =
-    let lent : Cells = let a = c.args in cells a.totals a.extremes a.counts in
+    let lent : Cells = let a = c.args in cells a.totals.now a.extremes.now a.counts.now in
     let a = c.args in
     low_lost a.bounds.now (lent) a.x c.bucket_count-n.result c.bucket_count-n.ensures c.head_at-head.result c.head_at-head.ensures
     c.buckets_agree.result c.buckets_agree.ensures (not-false c.buckets_agree.result c.if-not-buckets_agree.false)
@@ -46,7 +46,7 @@ returns-then-not-is_finite c =
 
 pub returns : goal.returns
 returns c =
-    let lent : Cells = let a = c.args in cells a.totals a.extremes a.counts in
+    let lent : Cells = let a = c.args in cells a.totals.now a.extremes.now a.counts.now in
     let a = c.args in
     c.is_finite-2.ensures
     ∙ by_high a.bounds.now (lent) a.x c.bucket_count-n.result c.bucket_count-n.ensures c.head_at-head.result c.head_at-head.ensures

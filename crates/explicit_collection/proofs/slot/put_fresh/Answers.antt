@@ -24,7 +24,7 @@ returns-in-Refused c =
 pub returns-in-Recorded : goal.returns-in-Recorded
 returns-in-Recorded c =
     let enough : bucket_count c.args.bounds.now ≤ length (replicate {A = ℕ} 160 0) = omega (arith, count-few c.args.bounds.now c.requires.bounds_value, length-replicate {A = ℕ} 160 0) in
-    let lent : Output = let a = c.args in output a.out-sets a.out-words a.out-pos a.out-neg in
+    let lent : Output = let a = c.args in output a.out-sets.now a.out-words.now a.out-pos.now a.out-neg.now in
     let a = c.args in
     c.put_point.ensures
     ∙ fresh-put a.bounds.now _ (enough) (said c.fresh-empty.result) _ c.fresh-empty.ensures _ (ap said c.empty-in-Recorded-1.given.1) a.show a.sums a.at a.row (lent)

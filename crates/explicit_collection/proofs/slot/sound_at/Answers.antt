@@ -15,4 +15,4 @@ pub returns : goal.returns
 returns c =
     let a = c.args in
     c.agrees_at.ensures
-    ∙ ap (λ (b : Bool). not b || agrees_at a.bounds.now (cells a.totals a.extremes a.counts) a.x) (sym (not-false a.updated c.if-not-updated.false))
+    ∙ ap (λ (b : Bool). not b || agrees_at a.bounds.now (cells a.totals.now a.extremes.now a.counts.now) a.x) (sym (not-false a.updated c.if-not-updated.false))

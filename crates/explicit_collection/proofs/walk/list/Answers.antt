@@ -20,10 +20,10 @@ abbrev L : (s : Start) → Lister (explicit_store s.args.bounds.now)
 L s = explicit_lister s.args.bounds.now
 
 abbrev map : Start → Held Cells
-map s = let a = s.args in walked a.used a.sets.now a.entries.now a.order.now (cells a.totals a.extremes a.counts)
+map s = let a = s.args in walked a.used a.sets.now a.entries.now a.order.now (cells a.totals.now a.extremes.now a.counts.now)
 
 abbrev out : Start → Output
-out s = let a = s.args in output a.out-sets a.out-words a.out-pos a.out-neg
+out s = let a = s.args in output a.out-sets.now a.out-words.now a.out-pos.now a.out-neg.now
 
 pub loop-i-init : goal.loop-i-init
 loop-i-init c =

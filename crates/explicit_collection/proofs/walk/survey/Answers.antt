@@ -26,7 +26,7 @@ abbrev on : Bool × Bool
 on = (true, true)
 
 abbrev map : Start → Held Cells
-map s = let a = s.args in walked a.used [] a.entries.now a.order.now (cells a.totals a.extremes a.counts)
+map s = let a = s.args in walked a.used [] a.entries.now a.order.now (cells a.totals.now a.extremes.now a.counts.now)
 
 pub loop-i-init : goal.loop-i-init
 loop-i-init c = survey-start (L c) on c.args.cumulative (map c)

@@ -17,15 +17,15 @@ use Rattle.explicit_whole_collection.proofs.collect.number.Goals as goal
 
 pub barred-no-requires : goal.barred-no-requires
 barred-no-requires c k =
-    let map : Held Cells = let a = c.args in held a.d (stores a.sets a.entries a.order) (cells a.totals a.extremes a.counts) in
+    let map : Held Cells = let a = c.args in held a.d (stores a.sets.now a.entries.now a.order.now) (cells a.totals.now a.extremes.now a.counts.now) in
     let a = c.args in
     unbarred (explicit_wholes a.bounds.now a.s.sums) a.s.extremes a.s.limit none (map) (c.requires k)
     c.cells_suffice-room.result c.unset_of-unset.result c.cells_suffice-room.ensures c.unset_of-unset.ensures
 
 pub returns-then-no-ne0 : goal.returns-then-no-ne0
 returns-then-no-ne0 c =
-    let map : Held Cells = let a = c.args in held a.d (stores a.sets a.entries a.order) (cells a.totals a.extremes a.counts) in
-    let out : Output = let a = c.args in output a.out-sets a.out-words a.out-pos a.out-neg in
+    let map : Held Cells = let a = c.args in held a.d (stores a.sets.now a.entries.now a.order.now) (cells a.totals.now a.extremes.now a.counts.now) in
+    let out : Output = let a = c.args in output a.out-sets.now a.out-words.now a.out-pos.now a.out-neg.now in
     let a = c.args in
     number-first (explicit_whole_lister a.bounds.now a.s.sums) (owed a.bounds.now a.s.sums) a.s.extremes a.cumulative a.s.limit (map) (out)
     c.cells_suffice-room.result c.unset_of-unset.result c.barred-no.result
@@ -33,8 +33,8 @@ returns-then-no-ne0 c =
 
 pub survey-found-requires : goal.survey-found-requires
 survey-found-requires c =
-    let map : Held Cells = let a = c.args in held a.d (stores a.sets a.entries a.order) (cells a.totals a.extremes a.counts) in
-    let out : Output = let a = c.args in output a.out-sets a.out-words a.out-pos a.out-neg in
+    let map : Held Cells = let a = c.args in held a.d (stores a.sets.now a.entries.now a.order.now) (cells a.totals.now a.extremes.now a.counts.now) in
+    let out : Output = let a = c.args in output a.out-sets.now a.out-words.now a.out-pos.now a.out-neg.now in
     let a = c.args in record {
       walk = walk-counts a.bounds.now a.s.sums a.d.used a.entries.now a.order.now a.totals a.extremes a.counts
           (walk_here (explicit_whole_lister a.bounds.now a.s.sums) (owed a.bounds.now a.s.sums) a.s.extremes a.cumulative a.s.limit (map) (out)
@@ -45,8 +45,8 @@ survey-found-requires c =
 
 pub returns : goal.returns
 returns c =
-    let map : Held Cells = let a = c.args in held a.d (stores a.sets a.entries a.order) (cells a.totals a.extremes a.counts) in
-    let out : Output = let a = c.args in output a.out-sets a.out-words a.out-pos a.out-neg in
+    let map : Held Cells = let a = c.args in held a.d (stores a.sets.now a.entries.now a.order.now) (cells a.totals.now a.extremes.now a.counts.now) in
+    let out : Output = let a = c.args in output a.out-sets.now a.out-words.now a.out-pos.now a.out-neg.now in
     let a = c.args in
     number-then (explicit_whole_lister a.bounds.now a.s.sums) (owed a.bounds.now a.s.sums) a.s.extremes a.cumulative a.s.limit (map) (out)
     c.cells_suffice-room.result c.unset_of-unset.result c.barred-no.result

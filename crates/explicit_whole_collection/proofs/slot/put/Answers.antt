@@ -24,15 +24,15 @@ use Rattle.explicit_whole_collection.proofs.slot.put.Goals as goal
 
 pub returns-then-not-due : goal.returns-then-not-due
 returns-then-not-due c =
-    let lent : Cells = let a = c.args in cells a.totals a.extremes a.counts in
-    let out : Output = let a = c.args in output a.out-sets a.out-words a.out-pos a.out-neg in
+    let lent : Cells = let a = c.args in cells a.totals.now a.extremes.now a.counts.now in
+    let out : Output = let a = c.args in output a.out-sets.now a.out-words.now a.out-pos.now a.out-neg.now in
     let a = c.args in
     put-none (explicit_whole_lister a.bounds.now a.sums) a.show a.updated a.due (lent) a.x a.row a.at (out) (not-true a.due c.if-not-due.true)
 
 pub put_fresh-requires : goal.put_fresh-requires
 put_fresh-requires c =
     let passing : bounds_pass c.args.bounds.now ≡ true = (owed c.args.bounds.now c.args.sums).valid c.requires.sound.set c.args.show in
-    let out : Output = let a = c.args in output a.out-sets a.out-words a.out-pos a.out-neg in
+    let out : Output = let a = c.args in output a.out-sets.now a.out-words.now a.out-pos.now a.out-neg.now in
     let place : Place c.args.at (out) (bucket_count c.args.bounds.now) 0 =
     let a = c.args in
     place_of a.bounds.now a.counts.now a.x c.requires.sound.room.counts a.updated a.at (out) (c.requires.free (not-false a.due c.if-not-due.false)) in
@@ -40,8 +40,8 @@ put_fresh-requires c =
 
 pub returns-then-not-updated : goal.returns-then-not-updated
 returns-then-not-updated c =
-    let lent : Cells = let a = c.args in cells a.totals a.extremes a.counts in
-    let out : Output = let a = c.args in output a.out-sets a.out-words a.out-pos a.out-neg in
+    let lent : Cells = let a = c.args in cells a.totals.now a.extremes.now a.counts.now in
+    let out : Output = let a = c.args in output a.out-sets.now a.out-words.now a.out-pos.now a.out-neg.now in
     let words-of : h ≡ head_at (lent) c.args.x c.args.updated → words_of (explicit_point h c.args.show c.args.sums) (span_of c.args.bounds.now)
     ≡ (explicit_whole_lister c.args.bounds.now c.args.sums).words c.args.show (lent) c.args.x c.args.updated = λ h. let a = c.args in ap (λ (h : Head). words_of (explicit_point h a.show a.sums) (span_of a.bounds.now)) e in
     let a = c.args in
@@ -74,7 +74,7 @@ pub put_point-requires : goal.put_point-requires
 put_point-requires c =
     let passing : bounds_pass c.args.bounds.now ≡ true = (owed c.args.bounds.now c.args.sums).valid c.requires.sound.set c.args.show in
     let end : c.args.x * c.bucket_count-n.result + c.bucket_count-n.result ≤ length c.args.counts.now = let a = c.args in subst (λ (k : ℕ). a.x * k + k ≤ length a.counts.now) (sym c.bucket_count-n.ensures) c.requires.sound.room.counts in
-    let out : Output = let a = c.args in output a.out-sets a.out-words a.out-pos a.out-neg in
+    let out : Output = let a = c.args in output a.out-sets.now a.out-words.now a.out-pos.now a.out-neg.now in
     let place : Place c.args.at (out) (bucket_count c.args.bounds.now) 0 =
     let a = c.args in
     place_of a.bounds.now a.counts.now a.x c.requires.sound.room.counts a.updated a.at (out) (c.requires.free (not-false a.due c.if-not-due.false)) in
@@ -82,8 +82,8 @@ put_point-requires c =
 
 pub returns : goal.returns
 returns c =
-    let lent : Cells = let a = c.args in cells a.totals a.extremes a.counts in
-    let out : Output = let a = c.args in output a.out-sets a.out-words a.out-pos a.out-neg in
+    let lent : Cells = let a = c.args in cells a.totals.now a.extremes.now a.counts.now in
+    let out : Output = let a = c.args in output a.out-sets.now a.out-words.now a.out-pos.now a.out-neg.now in
     let words-of : h ≡ head_at (lent) c.args.x c.args.updated → words_of (explicit_point h c.args.show c.args.sums) (span_of c.args.bounds.now)
     ≡ (explicit_whole_lister c.args.bounds.now c.args.sums).words c.args.show (lent) c.args.x c.args.updated = λ h. let a = c.args in ap (λ (h : Head). words_of (explicit_point h a.show a.sums) (span_of a.bounds.now)) e in
     let a = c.args in

@@ -24,7 +24,7 @@ put_point-requires c =
 
 pub returns : goal.returns
 returns c =
-    let lent : Output = let a = c.args in output a.out-sets a.out-words a.out-pos a.out-neg in
+    let lent : Output = let a = c.args in output a.out-sets.now a.out-words.now a.out-pos.now a.out-neg.now in
     let few : bucket_count c.args.bounds.now ≤ 160 = count-few c.args.bounds.now c.requires.bounds_value in
     let a = c.args in
     let n = bucket_count a.bounds.now in

@@ -37,7 +37,7 @@ slice_bounds-buckets_agree-end c =
 
 pub returns : goal.returns
 returns c =
-    let lent : Cells = counting c.args.totals c.args.counts in
+    let lent : Cells = counting c.args.totals.now c.args.counts.now in
     let a = c.args in
     tested a.bounds.now (lent) a.x c.bucket_count-n.result c.bucket_count-n.ensures c.buckets_agree.result c.buckets_agree.ensures
     ∙ ap (λ (u : Bool). not u || agrees_at a.bounds.now (lent) a.x) (sym (not-false a.updated c.if-not-updated.false))

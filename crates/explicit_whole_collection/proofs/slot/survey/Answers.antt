@@ -19,12 +19,12 @@ sound_at-requires c = record { room = c.requires.bounds_value.1; known = c.requi
 
 pub returns-then-not-sound_at : goal.returns-then-not-sound_at
 returns-then-not-sound_at c =
-    let lent : Cells = let a = c.args in counting a.totals a.counts in
+    let lent : Cells = let a = c.args in counting a.totals.now a.counts.now in
     let a = c.args in record { value = survey-none (explicit_whole_lister a.bounds.now true) true a.updated a.due (lent) a.s a.x c.sound_at.result c.sound_at.ensures (not-true c.sound_at.result c.if-not-sound_at.true); more = (omega arith, omega arith, omega arith) }
 
 pub returns-then-not-due : goal.returns-then-not-due
 returns-then-not-due c =
-    let lent : Cells = let a = c.args in counting a.totals a.counts in
+    let lent : Cells = let a = c.args in counting a.totals.now a.counts.now in
     let a = c.args in record {
       value = survey-idle (explicit_whole_lister a.bounds.now true) true a.updated a.due (lent) a.s a.x c.sound_at.result c.sound_at.ensures (not-false c.sound_at.result c.if-not-sound_at.false)
           (not-true a.due c.if-not-due.true);
@@ -38,7 +38,7 @@ one_more-requires c =
 
 pub returns : goal.returns
 returns c =
-    let lent : Cells = let a = c.args in counting a.totals a.counts in
+    let lent : Cells = let a = c.args in counting a.totals.now a.counts.now in
     let few : c.bucket_count.result ≤ 160 = omega (arith, c.bucket_count.ensures, count-few c.args.bounds.now c.requires.bounds_value.0) in
     let a = c.args in record {
       value = c.one_more.ensures

@@ -25,7 +25,7 @@ abbrev L : (s : Start) → Lister (explicit_wholes s.args.bounds.now true)
 L s = explicit_whole_lister s.args.bounds.now true
 
 abbrev map : Start → Held Cells
-map s = let a = s.args in walked a.used [] a.entries.now a.order.now (counting a.totals a.counts)
+map s = let a = s.args in walked a.used [] a.entries.now a.order.now (counting a.totals.now a.counts.now)
 
 pub loop-i-init : goal.loop-i-init
 loop-i-init c = survey-start (L c) true c.args.cumulative (map c)

@@ -24,7 +24,7 @@ use Rattle.exponential_batches.proofs.series.record_all.Goals as goal
 pub loop-i-init : goal.loop-i-init
 loop-i-init c =
     let a = c.args in
-    (omega arith, refl, refl, c.requires, begins (step a.size a.top) (series a.head a.pos a.neg) a.values.now)
+    (omega arith, refl, refl, c.requires, begins (step a.size a.top) (series a.head a.pos.now a.neg.now) a.values.now)
 
 pub offset_bounds-values-i : goal.offset_bounds-values-i
 offset_bounds-values-i t =
@@ -49,7 +49,7 @@ returns-then-not-is_finite c =
     let inside : c.loop-i.i < length c.args.values.now = omega (arith, c.loop-i-test.true) in
     let stops : n ≡ left_to_ask (here).head (value) → (n ≡ 0 → ⊥) → let l = c.loop-i in let a = c.args in
     record { taken = l.i; no = n; left = here }
-    ≡ each (step a.size a.top) (series a.head a.pos a.neg) a.values.now =
+    ≡ each (step a.size a.top) (series a.head a.pos.now a.neg.now) a.values.now =
     λ n e. let l = c.loop-i in
     let a = c.args in
     let r = refused-by a.size a.top (here) (value) l.invariant.3 n e d in
@@ -69,7 +69,7 @@ returns-then-c c =
     let inside : c.loop-i.i < length c.args.values.now = omega (arith, c.loop-i-test.true) in
     let stops : n ≡ left_to_ask (here).head (value) → (n ≡ 0 → ⊥) → let l = c.loop-i in let a = c.args in
     record { taken = l.i; no = n; left = here }
-    ≡ each (step a.size a.top) (series a.head a.pos a.neg) a.values.now =
+    ≡ each (step a.size a.top) (series a.head a.pos.now a.neg.now) a.values.now =
     λ n e. let l = c.loop-i in
     let a = c.args in
     let r = refused-by a.size a.top (here) (value) l.invariant.3 n e d in

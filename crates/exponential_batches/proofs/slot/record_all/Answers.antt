@@ -26,13 +26,13 @@ use Rattle.exponential_batches.proofs.slot.record_all.Goals as goal
 
 pub returns-then-no-ne0 : goal.returns-then-no-ne0
 returns-then-no-ne0 c =
-    let lent : Cells = let a = c.args in cells a.figures a.extremes a.pos a.neg in
+    let lent : Cells = let a = c.args in cells a.figures.now a.extremes.now a.pos.now a.neg.now in
     let a = c.args in
     asked-stops (owed a.size a.top) (true, true) nan a.known a.x a.updated (lent) a.values.now c.requires c.refusal-no.result c.refusal-no.ensures c.if-no-ne0.true
 
 pub head_of-head-requires : goal.head_of-head-requires
 head_of-head-requires c =
-    let lent : Cells = let a = c.args in cells a.figures a.extremes a.pos a.neg in
+    let lent : Cells = let a = c.args in cells a.figures.now a.extremes.now a.pos.now a.neg.now in
     let ready : let a = c.args in Ready (exponential_store a.size a.top) (true, true) a.x a.updated (lent) = 
     let a = c.args in
     asked-ready (owed a.size a.top) (true, true) nan a.known a.x a.updated (lent) a.values.now c.requires c.refusal-no.result c.refusal-no.ensures c.if-no-ne0.false in
@@ -61,7 +61,7 @@ offset_bounds-neg-a c =
 
 pub record_all-run-requires : goal.record_all-run-requires
 record_all-run-requires c =
-    let lent : Cells = let a = c.args in cells a.figures a.extremes a.pos a.neg in
+    let lent : Cells = let a = c.args in cells a.figures.now a.extremes.now a.pos.now a.neg.now in
     let under : Head → Series = λ y. let a = c.args in let l = load a.size a.top (lent) a.x a.updated in record { = y; pos = l.pos; neg = l.neg } in
     let ready : let a = c.args in Ready (exponential_store a.size a.top) (true, true) a.x a.updated (lent) = 
     let a = c.args in
@@ -75,7 +75,7 @@ keep-requires c =
 
 pub returns : goal.returns
 returns c =
-    let lent : Cells = let a = c.args in cells a.figures a.extremes a.pos a.neg in
+    let lent : Cells = let a = c.args in cells a.figures.now a.extremes.now a.pos.now a.neg.now in
     let ready : let a = c.args in Ready (exponential_store a.size a.top) (true, true) a.x a.updated (lent) = 
     let a = c.args in
     asked-ready (owed a.size a.top) (true, true) nan a.known a.x a.updated (lent) a.values.now c.requires c.refusal-no.result c.refusal-no.ensures c.if-no-ne0.false in

@@ -18,19 +18,19 @@ returns-then-known c = sym (pick_true c.args.known 0 _ c.if-known.true)
 
 pub returns-then-not-can_read : goal.returns-then-not-can_read
 returns-then-not-can_read c =
-    let lent : Cells = let a = c.args in cells a.figures a.extremes a.pos a.neg in
+    let lent : Cells = let a = c.args in cells a.figures.now a.extremes.now a.pos.now a.neg.now in
     let a = c.args in
     asked-unread a.size a.top (lent) a.x a.updated a.v a.known c.if-known.false (sym c.can_read.ensures ∙ not-true _ c.if-not-can_read.true)
 
 pub head_of-head-requires : goal.head_of-head-requires
 head_of-head-requires c =
-    let lent : Cells = let a = c.args in cells a.figures a.extremes a.pos a.neg in
+    let lent : Cells = let a = c.args in cells a.figures.now a.extremes.now a.pos.now a.neg.now in
     let can : readable c.args.updated (get_or (lent).figures c.args.x []) ≡ true = sym c.can_read.ensures ∙ not-false _ c.if-not-can_read.false in
     can
 
 pub returns : goal.returns
 returns c =
-    let lent : Cells = let a = c.args in cells a.figures a.extremes a.pos a.neg in
+    let lent : Cells = let a = c.args in cells a.figures.now a.extremes.now a.pos.now a.neg.now in
     let can : readable c.args.updated (get_or (lent).figures c.args.x []) ≡ true = sym c.can_read.ensures ∙ not-false _ c.if-not-can_read.false in
     let a = c.args in
     c.refusal.ensures

@@ -17,21 +17,21 @@ use Rattle.exponential_collection.proofs.slot.agrees_at.Goals as goal
 
 pub returns-then-not-can_read : goal.returns-then-not-can_read
 returns-then-not-can_read c =
-    let lent : Cells = let a = c.args in cells a.figures a.extremes a.pos a.neg in
+    let lent : Cells = let a = c.args in cells a.figures.now a.extremes.now a.pos.now a.neg.now in
     let a = c.args in
     unread a.size a.top c.requires.0 (lent) a.x c.requires.1
     (sym (reads_held true _ refl) ∙ sym c.can_read.ensures ∙ not-true c.can_read.result c.if-not-can_read.true)
 
 pub head_of-head-requires : goal.head_of-head-requires
 head_of-head-requires c =
-    let lent : Cells = let a = c.args in cells a.figures a.extremes a.pos a.neg in
+    let lent : Cells = let a = c.args in cells a.figures.now a.extremes.now a.pos.now a.neg.now in
     let can : narrow (get_or (lent).figures c.args.x []) ≡ true = sym (reads_held true _ refl) ∙ sym c.can_read.ensures ∙ not-false c.can_read.result c.if-not-can_read.false in
     reads_held true _ refl ∙ can
 
 pub returns-then-not-counts_agree : goal.returns-then-not-counts_agree
 unfolding head_in
 returns-then-not-counts_agree c =
-    let lent : Cells = let a = c.args in cells a.figures a.extremes a.pos a.neg in
+    let lent : Cells = let a = c.args in cells a.figures.now a.extremes.now a.pos.now a.neg.now in
     let can : narrow (get_or (lent).figures c.args.x []) ≡ true = sym (reads_held true _ refl) ∙ sym c.can_read.ensures ∙ not-false c.can_read.result c.if-not-can_read.false in
     let read : narrow (get_or (lent).figures c.args.x []) ≡ true = can in
     let head-is : c.head_of-head.result
@@ -48,7 +48,7 @@ returns-then-not-counts_agree c =
 pub returns-then-not-is_finite : goal.returns-then-not-is_finite
 unfolding head_in
 returns-then-not-is_finite c =
-    let lent : Cells = let a = c.args in cells a.figures a.extremes a.pos a.neg in
+    let lent : Cells = let a = c.args in cells a.figures.now a.extremes.now a.pos.now a.neg.now in
     let can : narrow (get_or (lent).figures c.args.x []) ≡ true = sym (reads_held true _ refl) ∙ sym c.can_read.ensures ∙ not-false c.can_read.result c.if-not-can_read.false in
     let read : narrow (get_or (lent).figures c.args.x []) ≡ true = can in
     let head-is : c.head_of-head.result
@@ -67,7 +67,7 @@ returns-then-not-is_finite c =
 pub returns : goal.returns
 unfolding head_in
 returns c =
-    let lent : Cells = let a = c.args in cells a.figures a.extremes a.pos a.neg in
+    let lent : Cells = let a = c.args in cells a.figures.now a.extremes.now a.pos.now a.neg.now in
     let head-is : c.head_of-head.result
     ≡ head_in (get_or (lent).figures c.args.x []) (get_or (lent).extremes c.args.x []) = c.head_of-head.ensures ∙ head-held _ true _ _ refl in
     let can : narrow (get_or (lent).figures c.args.x []) ≡ true = sym (reads_held true _ refl) ∙ sym c.can_read.ensures ∙ not-false c.can_read.result c.if-not-can_read.false in

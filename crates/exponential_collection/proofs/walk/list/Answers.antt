@@ -20,10 +20,10 @@ abbrev L : (s : Start) → Lister (exponential_store s.args.s.size s.args.s.top)
 L s = exponential_lister s.args.s.size s.args.s.top
 
 abbrev map : Start → Held Cells
-map s = let a = s.args in walked a.used a.sets.now a.entries.now a.order.now (cells a.figures a.extremes a.pos a.neg)
+map s = let a = s.args in walked a.used a.sets.now a.entries.now a.order.now (cells a.figures.now a.extremes.now a.pos.now a.neg.now)
 
 abbrev out : Start → Output
-out s = let a = s.args in output a.out-sets a.out-words a.out-pos a.out-neg
+out s = let a = s.args in output a.out-sets.now a.out-words.now a.out-pos.now a.out-neg.now
 
 pub loop-i-init : goal.loop-i-init
 loop-i-init c =

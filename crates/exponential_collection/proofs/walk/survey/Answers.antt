@@ -25,7 +25,7 @@ abbrev on : Bool × Bool
 on = (true, true)
 
 abbrev map : Start → Held Cells
-map s = let a = s.args in walked a.used [] a.entries.now a.order.now (cells a.figures a.extremes a.pos a.neg)
+map s = let a = s.args in walked a.used [] a.entries.now a.order.now (cells a.figures.now a.extremes.now a.pos.now a.neg.now)
 
 pub loop-i-init : goal.loop-i-init
 loop-i-init c = survey-start (L c) on c.args.cumulative (map c)

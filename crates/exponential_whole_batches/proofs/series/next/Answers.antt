@@ -17,21 +17,21 @@ use Rattle.exponential_whole_batches.proofs.series.next.Goals as goal
 
 pub returns-then-c : goal.returns-then-c
 returns-then-c c =
-    let lent : Series = let a = c.args in series a.head a.pos a.neg in
+    let lent : Series = let a = c.args in series a.head a.pos.now a.neg.now in
     let a = c.args in
     full a.size a.top a.sums (lent) a.v c.ranges.v c.requires c.if-c.true
 
 pub count_in-more-requires : goal.count_in-more-requires
 count_in-more-requires c =
     let near : c.nearest-x.result ≡ nearest_of c.args.v = c.nearest-x.ensures ∙ ap nearest_of (held c.args.v c.fits.v) in
-    let lent : Series = let a = c.args in series a.head a.pos a.neg in
+    let lent : Series = let a = c.args in series a.head a.pos.now a.neg.now in
     let a = c.args in
     (λ j. E.refusal_of a.size a.top (c.under_counts-h.ensures j) a.pos.now a.neg.now (near j))
     ∙ free a.size a.top a.sums (lent) a.v c.fits.v c.requires c.if-c.false
 
 pub returns-in-Outside : goal.returns-in-Outside
 returns-in-Outside c =
-    let lent : Series = let a = c.args in series a.head a.pos a.neg in
+    let lent : Series = let a = c.args in series a.head a.pos.now a.neg.now in
     let summed : (let a = c.args in c.kept_sum-total.result ≡ kept_sum a.sums a.head.sum a.v) =
     let f : SFits w64 c.args.head.sum = search rules in
     c.kept_sum-total.ensures ∙ (λ j. kept_sum c.args.sums (held c.args.head.sum f j) (held c.args.v c.fits.v j)) in
@@ -40,7 +40,7 @@ returns-in-Outside c =
 
 pub returns-in-Is : goal.returns-in-Is
 returns-in-Is c =
-    let lent : Series = let a = c.args in series a.head a.pos a.neg in
+    let lent : Series = let a = c.args in series a.head a.pos.now a.neg.now in
     let summed : (let a = c.args in c.kept_sum-total.result ≡ kept_sum a.sums a.head.sum a.v) =
     let f : SFits w64 c.args.head.sum = search rules in
     c.kept_sum-total.ensures ∙ (λ j. kept_sum c.args.sums (held c.args.head.sum f j) (held c.args.v c.fits.v j)) in

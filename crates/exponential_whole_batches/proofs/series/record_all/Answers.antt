@@ -17,7 +17,7 @@ use Rattle.exponential_whole_batches.proofs.series.record_all.Goals as goal
 pub loop-i-init : goal.loop-i-init
 loop-i-init c =
     let a = c.args in
-    (omega arith, refl, refl, c.requires, begins (step a.size a.top a.sums) (series a.head a.pos a.neg) a.values.now)
+    (omega arith, refl, refl, c.requires, begins (step a.size a.top a.sums) (series a.head a.pos.now a.neg.now) a.values.now)
 
 pub offset_bounds-values-i : goal.offset_bounds-values-i
 offset_bounds-values-i c =

@@ -19,7 +19,7 @@ use Rattle.exponential_whole_collection.proofs.collect.number.Goals as goal
 
 pub barred-bar-requires : goal.barred-bar-requires
 barred-bar-requires c k =
-    let map : Held Cells = let a = c.args in held a.d (stores a.sets a.entries a.order) (cells a.figures a.extremes a.pos a.neg) in
+    let map : Held Cells = let a = c.args in held a.d (stores a.sets.now a.entries.now a.order.now) (cells a.figures.now a.extremes.now a.pos.now a.neg.now) in
     let a = c.args in
     unbarred (exponential_wholes a.s.size a.s.top a.s.sums) a.s.extremes a.s.limit none (map) (c.requires k)
     c.cells_suffice-room.result c.unset_of-unset.result c.cells_suffice-room.ensures c.unset_of-unset.ensures
@@ -28,8 +28,8 @@ pub returns-then-bar-ne0 : goal.returns-then-bar-ne0
 returns-then-bar-ne0 c =
     let L : Lister (exponential_wholes c.args.s.size c.args.s.top true) = exponential_whole_lister c.args.s.size c.args.s.top true in
     let W : Owed (exponential_wholes c.args.s.size c.args.s.top true) = owed c.args.s.size c.args.s.top true in
-    let map : Held Cells = let a = c.args in held a.d (stores a.sets a.entries a.order) (cells a.figures a.extremes a.pos a.neg) in
-    let out : Output = let a = c.args in output a.out-sets a.out-words a.out-pos a.out-neg in
+    let map : Held Cells = let a = c.args in held a.d (stores a.sets.now a.entries.now a.order.now) (cells a.figures.now a.extremes.now a.pos.now a.neg.now) in
+    let out : Output = let a = c.args in output a.out-sets.now a.out-words.now a.out-pos.now a.out-neg.now in
     let a = c.args in
     number-first (L) (W) a.s.extremes a.cumulative a.s.limit (map) (out)
     c.cells_suffice-room.result c.unset_of-unset.result c.barred-bar.result c.cells_suffice-room.ensures c.unset_of-unset.ensures c.barred-bar.ensures c.if-bar-ne0.true
@@ -39,8 +39,8 @@ pub survey-found-requires : goal.survey-found-requires
 survey-found-requires c =
     let L : Lister (exponential_wholes c.args.s.size c.args.s.top true) = exponential_whole_lister c.args.s.size c.args.s.top true in
     let W : Owed (exponential_wholes c.args.s.size c.args.s.top true) = owed c.args.s.size c.args.s.top true in
-    let map : Held Cells = let a = c.args in held a.d (stores a.sets a.entries a.order) (cells a.figures a.extremes a.pos a.neg) in
-    let out : Output = let a = c.args in output a.out-sets a.out-words a.out-pos a.out-neg in
+    let map : Held Cells = let a = c.args in held a.d (stores a.sets.now a.entries.now a.order.now) (cells a.figures.now a.extremes.now a.pos.now a.neg.now) in
+    let out : Output = let a = c.args in output a.out-sets.now a.out-words.now a.out-pos.now a.out-neg.now in
     let a = c.args in record {
       walk = walk_here (L) (W) a.s.extremes a.cumulative a.s.limit (map) (out)
           c.cells_suffice-room.result c.unset_of-unset.result c.barred-bar.result c.cells_suffice-room.ensures c.unset_of-unset.ensures c.barred-bar.ensures c.if-bar-ne0.false;
@@ -51,8 +51,8 @@ pub returns : goal.returns
 returns c =
     let L : Lister (exponential_wholes c.args.s.size c.args.s.top true) = exponential_whole_lister c.args.s.size c.args.s.top true in
     let W : Owed (exponential_wholes c.args.s.size c.args.s.top true) = owed c.args.s.size c.args.s.top true in
-    let map : Held Cells = let a = c.args in held a.d (stores a.sets a.entries a.order) (cells a.figures a.extremes a.pos a.neg) in
-    let out : Output = let a = c.args in output a.out-sets a.out-words a.out-pos a.out-neg in
+    let map : Held Cells = let a = c.args in held a.d (stores a.sets.now a.entries.now a.order.now) (cells a.figures.now a.extremes.now a.pos.now a.neg.now) in
+    let out : Output = let a = c.args in output a.out-sets.now a.out-words.now a.out-pos.now a.out-neg.now in
     let a = c.args in
     number-then (L) (W) a.s.extremes a.cumulative a.s.limit (map) (out)
     c.cells_suffice-room.result c.unset_of-unset.result c.barred-bar.result c.cells_suffice-room.ensures c.unset_of-unset.ensures c.barred-bar.ensures c.if-bar-ne0.false

@@ -17,20 +17,20 @@ use Rattle.exponential_whole_collection.proofs.slot.agrees_at.Goals as goal
 
 pub returns-then-not-can_read : goal.returns-then-not-can_read
 returns-then-not-can_read c =
-    let lent : Cells = let a = c.args in cells a.figures a.extremes a.pos a.neg in
+    let lent : Cells = let a = c.args in cells a.figures.now a.extremes.now a.pos.now a.neg.now in
     let a = c.args in
     unread a.size a.top c.requires.0 (lent) a.x c.requires.1
     (sym (reads_held true _ refl) ∙ sym c.can_read.ensures ∙ not-true c.can_read.result c.if-not-can_read.true)
 
 pub head_of-head-requires : goal.head_of-head-requires
 head_of-head-requires c =
-    let lent : Cells = let a = c.args in cells a.figures a.extremes a.pos a.neg in
+    let lent : Cells = let a = c.args in cells a.figures.now a.extremes.now a.pos.now a.neg.now in
     let can : narrow (get_or (lent).figures c.args.x []) ≡ true = sym (reads_held true _ refl) ∙ sym c.can_read.ensures ∙ not-false c.can_read.result c.if-not-can_read.false in
     reads_held true _ refl ∙ can
 
 pub returns : goal.returns
 returns c =
-    let lent : Cells = let a = c.args in cells a.figures a.extremes a.pos a.neg in
+    let lent : Cells = let a = c.args in cells a.figures.now a.extremes.now a.pos.now a.neg.now in
     let head-is : c.head_of-head.result
     ≡ head_in (counts_in (get_or (lent).figures c.args.x [])) (get_or (lent).extremes c.args.x []) = c.head_of-head.ensures ∙ head-held _ true _ _ refl in
     let counts-are : c.counts_agree.result

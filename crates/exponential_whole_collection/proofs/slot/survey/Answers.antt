@@ -16,7 +16,7 @@ is_sound-requires c = record { top_value = c.requires.top_value; known = c.requi
 
 pub returns-then-not-is_sound : goal.returns-then-not-is_sound
 returns-then-not-is_sound c =
-    let lent : Cells = let a = c.args in cells a.figures a.extremes a.pos a.neg in
+    let lent : Cells = let a = c.args in cells a.figures.now a.extremes.now a.pos.now a.neg.now in
     let a = c.args in record {
       value = survey_8 (exponential_whole_lister a.size a.top true) true a.updated a.due (lent) a.x a.s
           (sym c.is_sound.ensures ∙ not-true c.is_sound.result c.if-not-is_sound.true);
@@ -25,21 +25,21 @@ returns-then-not-is_sound c =
 
 pub returns-then-not-due : goal.returns-then-not-due
 returns-then-not-due c =
-    let lent : Cells = let a = c.args in cells a.figures a.extremes a.pos a.neg in
+    let lent : Cells = let a = c.args in cells a.figures.now a.extremes.now a.pos.now a.neg.now in
     let sound : (not c.args.updated
     || agrees_at c.args.size c.args.top c.requires.top_value.0 (lent) c.args.x c.requires.top_value.1) ≡ true = sym c.is_sound.ensures ∙ not-false c.is_sound.result c.if-not-is_sound.false in
     let a = c.args in record { value = survey-same (exponential_whole_lister a.size a.top true) true a.updated a.due (lent) a.x a.s (sound) (not-true a.due c.if-not-due.true); more = search rules }
 
 pub counted-requires : goal.counted-requires
 counted-requires c =
-    let lent : Cells = let a = c.args in cells a.figures a.extremes a.pos a.neg in
+    let lent : Cells = let a = c.args in cells a.figures.now a.extremes.now a.pos.now a.neg.now in
     let sound : (not c.args.updated
     || agrees_at c.args.size c.args.top c.requires.top_value.0 (lent) c.args.x c.requires.top_value.1) ≡ true = sym c.is_sound.ensures ∙ not-false c.is_sound.result c.if-not-is_sound.false in
     let a = c.args in record { few = c.requires.few.0; f_bound = words-few a.size a.top c.requires.top_value.0 (lent) a.x c.requires.top_value.1 a.updated (sound) }
 
 pub returns : goal.returns
 returns c =
-    let lent : Cells = let a = c.args in cells a.figures a.extremes a.pos a.neg in
+    let lent : Cells = let a = c.args in cells a.figures.now a.extremes.now a.pos.now a.neg.now in
     let sound : (not c.args.updated
     || agrees_at c.args.size c.args.top c.requires.top_value.0 (lent) c.args.x c.requires.top_value.1) ≡ true = sym c.is_sound.ensures ∙ not-false c.is_sound.result c.if-not-is_sound.false in
     let a = c.args in

@@ -9,18 +9,18 @@ use Rattle.gauge_lines.proofs.collect.collect.Goals as goal
 
 pub returns-in_default : goal.returns-in_default
 returns-in_default c =
-    let dirs : Stores = let a = c.args in stores a.sets a.entries a.order in
-    let lent : Cells = let a = c.args in cells a.figures a.extremes a.pos a.neg in
-    let outs : Output = let a = c.args in output a.out-sets a.out-words a.out-pos a.out-neg in
+    let dirs : Stores = let a = c.args in stores a.sets.now a.entries.now a.order.now in
+    let lent : Cells = let a = c.args in cells a.figures.now a.extremes.now a.pos.now a.neg.now in
+    let outs : Output = let a = c.args in output a.out-sets.now a.out-words.now a.out-pos.now a.out-neg.now in
     let a = c.args in
     collect-refused a.form a.g a.line.now a.n a.text.now (dirs) (lent) (outs)
     (sym c.time_in.ensures ∙ c.enum_told-1.given.1) c.refused.result c.refused.ensures
 
 pub returns-in-Refused : goal.returns-in-Refused
 returns-in-Refused c =
-    let dirs : Stores = let a = c.args in stores a.sets a.entries a.order in
-    let lent : Cells = let a = c.args in cells a.figures a.extremes a.pos a.neg in
-    let outs : Output = let a = c.args in output a.out-sets a.out-words a.out-pos a.out-neg in
+    let dirs : Stores = let a = c.args in stores a.sets.now a.entries.now a.order.now in
+    let lent : Cells = let a = c.args in cells a.figures.now a.extremes.now a.pos.now a.neg.now in
+    let outs : Output = let a = c.args in output a.out-sets.now a.out-words.now a.out-pos.now a.out-neg.now in
     let a = c.args in
     collect-none a.form a.g a.line.now a.n a.text.now (dirs) (lent) (outs) c.time-1.given.0.0
     (sym c.time_in.ensures ∙ c.time-1.given.1) c.delta-reply.result.answer c.delta-reply.result.dir _ _ c.delta-reply.ensures
@@ -28,9 +28,9 @@ returns-in-Refused c =
 
 pub returns-in-Listed : goal.returns-in-Listed
 returns-in-Listed c =
-    let dirs : Stores = let a = c.args in stores a.sets a.entries a.order in
-    let lent : Cells = let a = c.args in cells a.figures a.extremes a.pos a.neg in
-    let outs : Output = let a = c.args in output a.out-sets a.out-words a.out-pos a.out-neg in
+    let dirs : Stores = let a = c.args in stores a.sets.now a.entries.now a.order.now in
+    let lent : Cells = let a = c.args in cells a.figures.now a.extremes.now a.pos.now a.neg.now in
+    let outs : Output = let a = c.args in output a.out-sets.now a.out-words.now a.out-pos.now a.out-neg.now in
     let a = c.args in
     collect-made a.form a.g a.line.now a.n a.text.now (dirs) (lent) (outs) c.time-1.given.0.0
     (sym c.time_in.ensures ∙ c.time-1.given.1) c.delta-reply.result.answer c.delta-reply.result.dir _ _ c.delta-reply.ensures

@@ -9,4 +9,4 @@ use Rattle.lines.proofs.output.bits.Goals as goal
 pub returns : goal.returns
 returns c =
     let a = c.args in
-    c.sixteen.ensures ∙ ap (λ (ds : List ℕ). ds behind waiting a.n a.text) c.hex_digits-digits.ensures
+    c.sixteen.ensures ∙ ap (λ (ds : List ℕ). ds behind waiting a.n a.text.now) c.hex_digits-digits.ensures

@@ -11,4 +11,4 @@ pub returns : goal.returns
 returns c =
     let a = c.args in
     c.bytes.ensures
-    ∙ ap (λ (ds : List ℕ). ds behind waiting a.n a.text) ((c.decimal-k.ensures.digits, c.decimal-k.ensures.rest) ∙ decimal-is c.decimal-k.result a.x c.ranges.x.fits c.decimal-k.ensures.len)
+    ∙ ap (λ (ds : List ℕ). ds behind waiting a.n a.text.now) ((c.decimal-k.ensures.digits, c.decimal-k.ensures.rest) ∙ decimal-is c.decimal-k.result a.x c.ranges.x.fits c.decimal-k.ensures.len)

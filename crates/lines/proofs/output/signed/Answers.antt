@@ -22,8 +22,8 @@ overflow_add-x-then-x-lt0 c = size_fits c.args.x c.ranges.x c.if-x-lt0.true
 
 pub returns-then-x-lt0 : goal.returns-then-x-lt0
 returns-then-x-lt0 c =
-    then (45 ∷ []) _ (waiting c.args.n c.args.text) c.byte-m.ensures c.decimal.ensures
-    ∙ ap (λ (ds : List ℕ). ds behind waiting c.args.n c.args.text) (minus-text c.args.x c.ranges.x c.if-x-lt0.true)
+    then (45 ∷ []) _ (waiting c.args.n c.args.text.now) c.byte-m.ensures c.decimal.ensures
+    ∙ ap (λ (ds : List ℕ). ds behind waiting c.args.n c.args.text.now) (minus-text c.args.x c.ranges.x c.if-x-lt0.true)
 
 pub overflow_cast-x-2 : goal.overflow_cast-x-2
 overflow_cast-x-2 c = natural c.args.x c.ranges.x c.if-x-lt0.false
@@ -31,4 +31,4 @@ overflow_cast-x-2 c = natural c.args.x c.ranges.x c.if-x-lt0.false
 pub returns : goal.returns
 returns c =
     c.decimal-2.ensures
-    ∙ ap (λ (ds : List ℕ). ds behind waiting c.args.n c.args.text) (natural-text c.args.x c.ranges.x c.if-x-lt0.false)
+    ∙ ap (λ (ds : List ℕ). ds behind waiting c.args.n c.args.text.now) (natural-text c.args.x c.ranges.x c.if-x-lt0.false)

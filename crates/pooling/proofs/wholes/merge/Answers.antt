@@ -9,32 +9,32 @@ use Rattle.pooling.proofs.wholes.merge.Goals as goal
 
 pub pool-requires : goal.pool-requires
 pool-requires c =
-    let first : Source = nameless c.args.awords c.args.apos c.args.aneg c.args.abounds in
-    let second : Source = nameless c.args.bwords c.args.bpos c.args.bneg c.args.bbounds in (
+    let first : Source = nameless c.args.awords.now c.args.apos.now c.args.aneg.now c.args.abounds.now in
+    let second : Source = nameless c.args.bwords.now c.args.bpos.now c.args.bneg.now c.args.bbounds.now in (
       integer-lies c.args.a (first) c.first-1.given.0.0 (sym c.integer_at-first.ensures ∙ c.first-1.given.1),
       integer-lies c.args.b (second) c.second-1.given.0.0 (sym c.integer_at-second.ensures ∙ c.second-1.given.1),
     )
 
 pub returns-in-NoPoint : goal.returns-in-NoPoint
 returns-in-NoPoint c =
-    let first : Source = nameless c.args.awords c.args.apos c.args.aneg c.args.abounds in
-    let second : Source = nameless c.args.bwords c.args.bpos c.args.bneg c.args.bbounds in
+    let first : Source = nameless c.args.awords.now c.args.apos.now c.args.aneg.now c.args.abounds.now in
+    let second : Source = nameless c.args.bwords.now c.args.bpos.now c.args.bneg.now c.args.bbounds.now in
     let lent : Output = record { sets = c.args.sets.now; words = c.args.words.now; pos = c.args.pos.now; neg = c.args.neg.now } in
     integers_law c.args.size c.args.row c.args.a (first) c.args.b (second) c.args.at (lent) _ _
     (sym c.enum_told-1.given.1 ∙ c.integer_at-first.ensures) refl
 
 pub returns-in-NoPoint-second : goal.returns-in-NoPoint-second
 returns-in-NoPoint-second c =
-    let first : Source = nameless c.args.awords c.args.apos c.args.aneg c.args.abounds in
-    let second : Source = nameless c.args.bwords c.args.bpos c.args.bneg c.args.bbounds in
+    let first : Source = nameless c.args.awords.now c.args.apos.now c.args.aneg.now c.args.abounds.now in
+    let second : Source = nameless c.args.bwords.now c.args.bpos.now c.args.bneg.now c.args.bbounds.now in
     let lent : Output = record { sets = c.args.sets.now; words = c.args.words.now; pos = c.args.pos.now; neg = c.args.neg.now } in
     integers_law c.args.size c.args.row c.args.a (first) c.args.b (second) c.args.at (lent) _ _
     (sym c.first-1.given.1 ∙ c.integer_at-first.ensures) (sym c.enum_told-in-NoPoint-second-1.given.1 ∙ c.integer_at-second.ensures)
 
 pub returns-in-Is-second : goal.returns-in-Is-second
 returns-in-Is-second c =
-    let first : Source = nameless c.args.awords c.args.apos c.args.aneg c.args.abounds in
-    let second : Source = nameless c.args.bwords c.args.bpos c.args.bneg c.args.bbounds in
+    let first : Source = nameless c.args.awords.now c.args.apos.now c.args.aneg.now c.args.abounds.now in
+    let second : Source = nameless c.args.bwords.now c.args.bpos.now c.args.bneg.now c.args.bbounds.now in
     let lent : Output = record { sets = c.args.sets.now; words = c.args.words.now; pos = c.args.pos.now; neg = c.args.neg.now } in
     c.pool.ensures
     ∙ integers_law c.args.size c.args.row c.args.a (first) c.args.b (second) c.args.at (lent) _ _

@@ -15,35 +15,35 @@ use Rattle.pooling.proofs.wholes.mixed.Goals as goal
 
 pub refusal_entries-no-requires : goal.refusal_entries-no-requires
 refusal_entries-no-requires c =
-    let first : Source = nameless c.args.awords c.args.apos c.args.aneg c.args.abounds in
-    let second : Source = nameless c.args.bwords c.args.bpos c.args.bneg c.args.bbounds in (
-      subst (λ (d : Entry). whole_in c.args.a d c.args.abounds c.args.apos c.args.aneg) (sym c.shadow_entry-x.ensures)
+    let first : Source = nameless c.args.awords.now c.args.apos.now c.args.aneg.now c.args.abounds.now in
+    let second : Source = nameless c.args.bwords.now c.args.bpos.now c.args.bneg.now c.args.bbounds.now in (
+      subst (λ (d : Entry). whole_in c.args.a d c.args.abounds.now c.args.apos.now c.args.aneg.now) (sym c.shadow_entry-x.ensures)
           (integer-lies c.args.a (first) c.first-1.given.0.0 (sym c.integer_at-first.ensures ∙ c.first-1.given.1)),
       whole-lies c.args.b (second) c.second-1.given.0.0 (sym c.whole_at-second.ensures ∙ c.second-1.given.1),
     )
 
 pub returns-in-NoPoint : goal.returns-in-NoPoint
 returns-in-NoPoint c =
-    let first : Source = nameless c.args.awords c.args.apos c.args.aneg c.args.abounds in
-    let second : Source = nameless c.args.bwords c.args.bpos c.args.bneg c.args.bbounds in
+    let first : Source = nameless c.args.awords.now c.args.apos.now c.args.aneg.now c.args.abounds.now in
+    let second : Source = nameless c.args.bwords.now c.args.bpos.now c.args.bneg.now c.args.bbounds.now in
     mixed-found c.args.size c.args.a (first) c.args.b (second) _ _ (sym c.enum_told-1.given.1 ∙ c.integer_at-first.ensures) refl
 
 pub returns-in-NoPoint-second : goal.returns-in-NoPoint-second
 returns-in-NoPoint-second c =
-    let first : Source = nameless c.args.awords c.args.apos c.args.aneg c.args.abounds in
-    let second : Source = nameless c.args.bwords c.args.bpos c.args.bneg c.args.bbounds in
+    let first : Source = nameless c.args.awords.now c.args.apos.now c.args.aneg.now c.args.abounds.now in
+    let second : Source = nameless c.args.bwords.now c.args.bpos.now c.args.bneg.now c.args.bbounds.now in
     mixed-found c.args.size c.args.a (first) c.args.b (second) _ _
     (sym c.first-1.given.1 ∙ c.integer_at-first.ensures) (sym c.enum_told-in-NoPoint-second-1.given.1 ∙ c.whole_at-second.ensures)
 
 pub returns-in-Is-second : goal.returns-in-Is-second
 returns-in-Is-second c =
-    let first : Source = nameless c.args.awords c.args.apos c.args.aneg c.args.abounds in
-    let second : Source = nameless c.args.bwords c.args.bpos c.args.bneg c.args.bbounds in
+    let first : Source = nameless c.args.awords.now c.args.apos.now c.args.aneg.now c.args.abounds.now in
+    let second : Source = nameless c.args.bwords.now c.args.bpos.now c.args.bneg.now c.args.bbounds.now in
     let a = c.args in
-    let y = stored_of a.b c.second-1.given.0.0 a.bbounds a.bpos a.bneg in
+    let y = stored_of a.b c.second-1.given.0.0 a.bbounds.now a.bpos.now a.bneg.now in
     c.beside.ensures
     ∙ mixed_law a.size (WL.stored_at a.a c.first-1.given.0.0 (first).bounds (first).list) y c.refusal_entries-no.result
     (c.refusal_entries-no.ensures
-    ∙ (λ i. refusal_before a.size (stored_of a.a (c.shadow_entry-x.ensures i) a.abounds a.apos a.aneg) y))
+    ∙ (λ i. refusal_before a.size (stored_of a.a (c.shadow_entry-x.ensures i) a.abounds.now a.apos.now a.aneg.now) y))
     ∙ mixed-found a.size a.a (first) a.b (second) _ _
     (sym c.first-1.given.1 ∙ c.integer_at-first.ensures) (sym c.second-1.given.1 ∙ c.whole_at-second.ensures)

@@ -19,7 +19,7 @@ use Rattle.pooling.proofs.wholes.pool.Goals as goal
 
 pub refusal_entries-no-requires : goal.refusal_entries-no-requires
 refusal_entries-no-requires c =
-    let Wholes : Entry → Entry → Type 0 = λ d g. whole_in c.args.a d c.args.abounds c.args.apos c.args.aneg × whole_in c.args.b g c.args.bbounds c.args.bpos c.args.bneg in
+    let Wholes : Entry → Entry → Type 0 = λ d g. whole_in c.args.a d c.args.abounds.now c.args.apos.now c.args.aneg.now × whole_in c.args.b g c.args.bbounds.now c.args.bpos.now c.args.bneg.now in
     let both-whole : Wholes c.shadow_entry-x.result c.shadow_entry-y.result = 
     subst (λ (d : Entry). Wholes d c.shadow_entry-y.result) (sym c.shadow_entry-x.ensures)
     (subst (Wholes (shadow_entry c.args.e)) (sym c.shadow_entry-y.ensures) c.requires) in
@@ -27,7 +27,7 @@ refusal_entries-no-requires c =
 
 pub pool-r-requires : goal.pool-r-requires
 pool-r-requires c =
-    let Wholes : Entry → Entry → Type 0 = λ d g. whole_in c.args.a d c.args.abounds c.args.apos c.args.aneg × whole_in c.args.b g c.args.bbounds c.args.bpos c.args.bneg in
+    let Wholes : Entry → Entry → Type 0 = λ d g. whole_in c.args.a d c.args.abounds.now c.args.apos.now c.args.aneg.now × whole_in c.args.b g c.args.bbounds.now c.args.bpos.now c.args.bneg.now in
     let both-whole : Wholes c.shadow_entry-x.result c.shadow_entry-y.result = 
     subst (λ (d : Entry). Wholes d c.shadow_entry-y.result) (sym c.shadow_entry-x.ensures)
     (subst (Wholes (shadow_entry c.args.e)) (sym c.shadow_entry-y.ensures) c.requires) in
@@ -35,8 +35,8 @@ pool-r-requires c =
 
 pub renumber-requires : goal.renumber-requires
 renumber-requires c =
-    let first : Stored = whole_of c.args.a c.args.e c.args.abounds c.args.apos c.args.aneg in
-    let second : Stored = whole_of c.args.b c.args.f c.args.bbounds c.args.bpos c.args.bneg in
+    let first : Stored = whole_of c.args.a c.args.e c.args.abounds.now c.args.apos.now c.args.aneg.now in
+    let second : Stored = whole_of c.args.b c.args.f c.args.bbounds.now c.args.bpos.now c.args.bneg.now in
     let lent : Output = record { sets = c.args.sets.now; words = c.args.words.now; pos = c.args.pos.now; neg = c.args.neg.now } in
     let long : length (first).bounds ≡ c.args.e.bounds.len = bounds-long c.args.e.bounds c.args.abounds.now c.requires.0.bounds in
     let left : Output = record { sets = c.pool-r.new.sets; words = c.pool-r.new.words; pos = c.pool-r.new.pos; neg = c.pool-r.new.neg } in
@@ -44,15 +44,15 @@ renumber-requires c =
     ends (said c.pool-r.result) (left) ≡ pooled a.size a.row a.e.bounds (shadow_stored (first)) (shadow_stored (second)) a.at (lent)) = 
     let a = c.args in
     c.pool-r.ensures
-    ∙ (λ i. pooled a.size a.row (c.shadow_entry-x.ensures i).bounds (stored_of a.a (c.shadow_entry-x.ensures i) a.abounds a.apos a.aneg)
-    (stored_of a.b (c.shadow_entry-y.ensures i) a.bbounds a.bpos a.bneg) a.at (lent)) in
+    ∙ (λ i. pooled a.size a.row (c.shadow_entry-x.ensures i).bounds (stored_of a.a (c.shadow_entry-x.ensures i) a.abounds.now a.apos.now a.aneg.now)
+    (stored_of a.b (c.shadow_entry-y.ensures i) a.bbounds.now a.bpos.now a.bneg.now) a.at (lent)) in
     let a = c.args in
     numberable a.size a.row a.e.bounds (first) (second) a.at (lent) (long) (said c.pool-r.result) (left) (pooled-shadows)
 
 pub returns-in-Outside : goal.returns-in-Outside
 returns-in-Outside c =
-    let first : Stored = whole_of c.args.a c.args.e c.args.abounds c.args.apos c.args.aneg in
-    let second : Stored = whole_of c.args.b c.args.f c.args.bbounds c.args.bpos c.args.bneg in
+    let first : Stored = whole_of c.args.a c.args.e c.args.abounds.now c.args.apos.now c.args.aneg.now in
+    let second : Stored = whole_of c.args.b c.args.f c.args.bbounds.now c.args.bpos.now c.args.bneg.now in
     let lent : Output = record { sets = c.args.sets.now; words = c.args.words.now; pos = c.args.pos.now; neg = c.args.neg.now } in
     let first-sum : SFits w64 c.args.e.point.sum = search (rules, c.struct_told-1.given) in
     let second-sum : SFits w64 c.args.f.point.sum = search (rules, c.struct_told-2-1.given) in
@@ -61,15 +61,15 @@ returns-in-Outside c =
     outside-pooled a.size a.row a.e.bounds (first) (second) a.at (lent) (sym (told) ∙ c.enum_told-1.given.1)
     c.refusal_entries-no.result c.last_number-n.result
     (c.refusal_entries-no.ensures
-    ∙ (λ i. refusal_before a.size (stored_of a.a (c.shadow_entry-x.ensures i) a.abounds a.apos a.aneg)
-    (stored_of a.b (c.shadow_entry-y.ensures i) a.bbounds a.bpos a.bneg)))
+    ∙ (λ i. refusal_before a.size (stored_of a.a (c.shadow_entry-x.ensures i) a.abounds.now a.apos.now a.aneg.now)
+    (stored_of a.b (c.shadow_entry-y.ensures i) a.bbounds.now a.bpos.now a.bneg.now)))
     c.last_number-n.ensures
 
 pub returns-in-Is : goal.returns-in-Is
 returns-in-Is c =
     let left : Output = record { sets = c.pool-r.new.sets; words = c.pool-r.new.words; pos = c.pool-r.new.pos; neg = c.pool-r.new.neg } in
-    let first : Stored = whole_of c.args.a c.args.e c.args.abounds c.args.apos c.args.aneg in
-    let second : Stored = whole_of c.args.b c.args.f c.args.bbounds c.args.bpos c.args.bneg in
+    let first : Stored = whole_of c.args.a c.args.e c.args.abounds.now c.args.apos.now c.args.aneg.now in
+    let second : Stored = whole_of c.args.b c.args.f c.args.bbounds.now c.args.bpos.now c.args.bneg.now in
     let lent : Output = record { sets = c.args.sets.now; words = c.args.words.now; pos = c.args.pos.now; neg = c.args.neg.now } in
     let long : length (first).bounds ≡ c.args.e.bounds.len = bounds-long c.args.e.bounds c.args.abounds.now c.requires.0.bounds in
     let first-sum : SFits w64 c.args.e.point.sum = search (rules, c.struct_told-1.given) in
@@ -79,8 +79,8 @@ returns-in-Is c =
     ends (said c.pool-r.result) (left) ≡ pooled a.size a.row a.e.bounds (shadow_stored (first)) (shadow_stored (second)) a.at (lent)) = 
     let a = c.args in
     c.pool-r.ensures
-    ∙ (λ i. pooled a.size a.row (c.shadow_entry-x.ensures i).bounds (stored_of a.a (c.shadow_entry-x.ensures i) a.abounds a.apos a.aneg)
-    (stored_of a.b (c.shadow_entry-y.ensures i) a.bbounds a.bpos a.bneg) a.at (lent)) in
+    ∙ (λ i. pooled a.size a.row (c.shadow_entry-x.ensures i).bounds (stored_of a.a (c.shadow_entry-x.ensures i) a.abounds.now a.apos.now a.aneg.now)
+    (stored_of a.b (c.shadow_entry-y.ensures i) a.bbounds.now a.bpos.now a.bneg.now) a.at (lent)) in
     let whole_sum : SFits w64 c.total-1.given.0.0 = search rules in
     let a = c.args in
     let o = left in

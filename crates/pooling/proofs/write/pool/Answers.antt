@@ -70,8 +70,8 @@ slice_bounds-merge_entries-start-2 c =
 
 pub returns-then-not-ok : goal.returns-then-not-ok
 returns-then-not-ok c =
-    let first : Stored = stored_of c.args.a c.args.e c.args.abounds c.args.apos c.args.aneg in
-    let second : Stored = stored_of c.args.b c.args.f c.args.bbounds c.args.bpos c.args.bneg in
+    let first : Stored = stored_of c.args.a c.args.e c.args.abounds.now c.args.apos.now c.args.aneg.now in
+    let second : Stored = stored_of c.args.b c.args.f c.args.bbounds.now c.args.bpos.now c.args.bneg.now in
     let long : length (first).bounds ≡ c.args.e.bounds.len = bounds-long c.args.e.bounds c.args.abounds.now c.requires.0.bounds in
     let lent : Output = record { sets = c.args.sets.now; words = c.args.words.now; pos = c.args.pos.now; neg = c.args.neg.now } in
     placeless_law c.args.size (first) (second) c.args.at c.args.row c.args.e.bounds (long) (lent) c.start_of-i.result c.start_of-j.result
@@ -80,8 +80,8 @@ returns-then-not-ok c =
 
 pub cursor_behind-next-requires : goal.cursor_behind-next-requires
 cursor_behind-next-requires c =
-    let first : Stored = stored_of c.args.a c.args.e c.args.abounds c.args.apos c.args.aneg in
-    let second : Stored = stored_of c.args.b c.args.f c.args.bbounds c.args.bpos c.args.bneg in
+    let first : Stored = stored_of c.args.a c.args.e c.args.abounds.now c.args.apos.now c.args.aneg.now in
+    let second : Stored = stored_of c.args.b c.args.f c.args.bbounds.now c.args.bpos.now c.args.bneg.now in
     let long : length (first).bounds ≡ c.args.e.bounds.len = bounds-long c.args.e.bounds c.args.abounds.now c.requires.0.bounds in
     let lent : Output = record { sets = c.args.sets.now; words = c.args.words.now; pos = c.args.pos.now; neg = c.args.neg.now } in
     let place : c.has_place-ok.result ≡ true → (c.args.at.place < length c.args.sets.now) × (c.args.at.place < length c.args.words.now)
@@ -135,8 +135,8 @@ bounds-words-k c =
 
 pub returns-in-Refused : goal.returns-in-Refused
 returns-in-Refused c =
-    let first : Stored = stored_of c.args.a c.args.e c.args.abounds c.args.apos c.args.aneg in
-    let second : Stored = stored_of c.args.b c.args.f c.args.bbounds c.args.bpos c.args.bneg in
+    let first : Stored = stored_of c.args.a c.args.e c.args.abounds.now c.args.apos.now c.args.aneg.now in
+    let second : Stored = stored_of c.args.b c.args.f c.args.bbounds.now c.args.bpos.now c.args.bneg.now in
     let long : length (first).bounds ≡ c.args.e.bounds.len = bounds-long c.args.e.bounds c.args.abounds.now c.requires.0.bounds in
     let lent : Output = record { sets = c.args.sets.now; words = c.args.words.now; pos = c.args.pos.now; neg = c.args.neg.now } in
     refused_law c.args.size (first) (second) c.args.at c.args.row c.args.e.bounds (long) (lent) c.start_of-i.result c.start_of-j.result
@@ -145,8 +145,8 @@ returns-in-Refused c =
 
 pub returns-else-not-ok : goal.returns-else-not-ok
 returns-else-not-ok c =
-    let first : Stored = stored_of c.args.a c.args.e c.args.abounds c.args.apos c.args.aneg in
-    let second : Stored = stored_of c.args.b c.args.f c.args.bbounds c.args.bpos c.args.bneg in
+    let first : Stored = stored_of c.args.a c.args.e c.args.abounds.now c.args.apos.now c.args.aneg.now in
+    let second : Stored = stored_of c.args.b c.args.f c.args.bbounds.now c.args.bpos.now c.args.bneg.now in
     let long : length (first).bounds ≡ c.args.e.bounds.len = bounds-long c.args.e.bounds c.args.abounds.now c.requires.0.bounds in
     let lent : Output = record { sets = c.args.sets.now; words = c.args.words.now; pos = c.args.pos.now; neg = c.args.neg.now } in
     let there : c.has_place-ok.result ≡ true = not-false c.has_place-ok.result c.if-not-ok.false in

@@ -9,4 +9,4 @@ use Rattle.sheet.proofs.digits.record_line.Goals as goal
 pub returns : goal.returns
 returns c =
     let a = c.args in
-    then (hex_of a.bytes.now) (10 ∷ []) (waiting a.n a.text) c.digits_of-m.ensures c.byte.ensures
+    then (hex_of a.bytes.now) (10 ∷ []) (waiting a.n a.text.now) c.digits_of-m.ensures c.byte.ensures

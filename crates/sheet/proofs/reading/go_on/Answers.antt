@@ -7,12 +7,12 @@ use Rattle.sheet.proofs.reading.go_on.Goals as goal
 
 pub returns-then-st-gt0 : goal.returns-then-st-gt0
 returns-then-st-gt0 c =
-    let listed : Source = let a = c.args in source a.sets a.words a.pos a.neg a.bounds in
+    let listed : Source = let a = c.args in source a.sets.now a.words.now a.pos.now a.neg.now a.bounds.now in
     let a = c.args in
-    goes_on a.st (waiting a.n a.text) (listed) a.sheet.now c.if-st-gt0.true
+    goes_on a.st (waiting a.n a.text.now) (listed) a.sheet.now c.if-st-gt0.true
 
 pub returns : goal.returns
 returns c =
-    let listed : Source = let a = c.args in source a.sets a.words a.pos a.neg a.bounds in
+    let listed : Source = let a = c.args in source a.sets.now a.words.now a.pos.now a.neg.now a.bounds.now in
     let a = c.args in
-    is_read a.st (waiting a.n a.text) (listed) a.sheet.now c.if-st-gt0.false _ c.front-bytes.ensures _ c.show-end.ensures
+    is_read a.st (waiting a.n a.text.now) (listed) a.sheet.now c.if-st-gt0.false _ c.front-bytes.ensures _ c.show-end.ensures

@@ -11,5 +11,5 @@ pub returns : goal.returns
 unfolding refusal_line
 returns c =
     let a = c.args in
-    a-line (33 ∷ []) (decimal a.no ∷ []) (waiting a.n a.text) c.byte-a.ensures
+    a-line (33 ∷ []) (decimal a.no ∷ []) (waiting a.n a.text.now) c.byte-a.ensures
     (a-field 32 _ (decimal a.no) [] c.number-b.ensures (no_field 32 _)) c.byte.ensures

@@ -18,7 +18,7 @@ returns c =
     let a = c.args in
     let bs = a.bytes.now in
     let n = length bs / 32 in
-    then (line ((115 ∷ []) ∷ decimal n ∷ [])) (record_lines n bs) (waiting a.n a.text)
-    (a-line (115 ∷ []) (decimal n ∷ []) (waiting a.n a.text) c.byte-a.ensures
+    then (line ((115 ∷ []) ∷ decimal n ∷ [])) (record_lines n bs) (waiting a.n a.text.now)
+    (a-line (115 ∷ []) (decimal n ∷ []) (waiting a.n a.text.now) c.byte-a.ensures
     (a-field 32 _ (decimal n) [] c.number-b.ensures (no_field 32 _)) c.byte-c.ensures)
     c.record_lines.ensures

@@ -10,7 +10,7 @@ use Rattle.sheet_writing.proofs.judge.agreeing_at.Goals as goal
 
 pub returns-then-agrees_alone : goal.returns-then-agrees_alone
 returns-then-agrees_alone c =
-    let beside : Source = let a = c.args in lent_beside a.pos a.neg a.bounds in
+    let beside : Source = let a = c.args in lent_beside a.pos.now a.neg.now a.bounds.now in
     let asked : c.agrees_alone.result
     ≡ agrees_alone (stored_at c.args.at c.found-1.given.0.0 (beside).bounds (beside).list) =
     c.agrees_alone.ensures
@@ -20,7 +20,7 @@ returns-then-agrees_alone c =
 
 pub returns-else-agrees_alone : goal.returns-else-agrees_alone
 returns-else-agrees_alone c =
-    let beside : Source = let a = c.args in lent_beside a.pos a.neg a.bounds in
+    let beside : Source = let a = c.args in lent_beside a.pos.now a.neg.now a.bounds.now in
     let asked : c.agrees_alone.result
     ≡ agrees_alone (stored_at c.args.at c.found-1.given.0.0 (beside).bounds (beside).list) =
     c.agrees_alone.ensures

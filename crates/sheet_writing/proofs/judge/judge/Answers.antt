@@ -13,7 +13,7 @@ abbrev Start : Type 0
 Start = tie.Start invariant-loop decreases-loop
 
 abbrev list : Start → Source
-list s = let a = s.args in shadowed (source a.sets a.words a.pos a.neg a.bounds)
+list s = let a = s.args in shadowed (source a.sets.now a.words.now a.pos.now a.neg.now a.bounds.now)
 
 pub returns-then-n-gt64 : goal.returns-then-n-gt64
 returns-then-n-gt64 c = judged-over c.args.n (list c) c.if-n-gt64.true

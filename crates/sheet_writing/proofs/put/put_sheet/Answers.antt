@@ -19,7 +19,7 @@ abbrev Start : Type 0
 Start = tie.Start invariant-loop decreases-loop
 
 abbrev list : Start → Source
-list s = let a = s.args in source a.sets a.words a.pos a.neg a.bounds
+list s = let a = s.args in source a.sets.now a.words.now a.pos.now a.neg.now a.bounds.now
 
 -- before the loop
 first : (s : Start) → Left s.args.n 0 s.args.records origin 3 (list s)

@@ -19,7 +19,7 @@ abbrev Start : Type 0
 Start = tie.Start invariant-loop decreases-loop
 
 abbrev list : Start → Source
-list s = let a = s.args in source a.sets a.words a.pos a.neg a.bounds
+list s = let a = s.args in source a.sets.now a.words.now a.pos.now a.neg.now a.bounds.now
 
 abbrev pub invariant-loop-i : goal.invariant-loop-i
 invariant-loop-i l =

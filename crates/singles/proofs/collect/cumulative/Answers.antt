@@ -23,15 +23,15 @@ number-no-requires c = c.requires
 pub returns-then-no-ne0 : goal.returns-then-no-ne0
 returns-then-no-ne0 c =
     let L : Lister (single_store c.args.s.aggregation) = single_lister c.args.s.aggregation in
-    let map : Held (List Float) = let a = c.args in held a.d (stores a.sets a.entries a.order) a.values.now in
-    let out : Output = output c.args.out-sets c.args.out-values in
+    let map : Held (List Float) = let a = c.args in held a.d (stores a.sets.now a.entries.now a.order.now) a.values.now in
+    let out : Output = output c.args.out-sets.now c.args.out-values.now in
     cumulative-refused (L) tt c.args.s.limit (map) (out) c.number-no.result c.number-no.ensures c.if-no-ne0.true
 
 pub list-end-requires : goal.list-end-requires
 list-end-requires c =
-    let out : Output = output c.args.out-sets c.args.out-values in
+    let out : Output = output c.args.out-sets.now c.args.out-values.now in
     let L : Lister (single_store c.args.s.aggregation) = single_lister c.args.s.aggregation in
-    let map : Held (List Float) = let a = c.args in held a.d (stores a.sets a.entries a.order) a.values.now in
+    let map : Held (List Float) = let a = c.args in held a.d (stores a.sets.now a.entries.now a.order.now) a.values.now in
     let a = c.args in
     let m = walked a.d.used a.sets.now a.entries.now a.order.now a.values.now in
     listable-sums a.s.aggregation true m (out)
@@ -41,8 +41,8 @@ list-end-requires c =
 pub returns : goal.returns
 returns c =
     let L : Lister (single_store c.args.s.aggregation) = single_lister c.args.s.aggregation in
-    let map : Held (List Float) = let a = c.args in held a.d (stores a.sets a.entries a.order) a.values.now in
-    let out : Output = output c.args.out-sets c.args.out-values in
+    let map : Held (List Float) = let a = c.args in held a.d (stores a.sets.now a.entries.now a.order.now) a.values.now in
+    let out : Output = output c.args.out-sets.now c.args.out-values.now in
     let a = c.args in
     cumulative-done (L) tt a.s.limit (map) (out) _ (sym c.number-no.ensures ∙ c.if-no-ne0.false)
     (listed-is (L) (owed a.s.aggregation) tt true a.s.limit (map) (out) _ c.list-end.ensures)

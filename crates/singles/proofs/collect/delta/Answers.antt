@@ -23,15 +23,15 @@ number-no-requires c = c.requires
 pub returns-then-no-ne0 : goal.returns-then-no-ne0
 returns-then-no-ne0 c =
     let L : Lister (single_store c.args.s.aggregation) = single_lister c.args.s.aggregation in
-    let map : Held (List Float) = let a = c.args in held a.d (stores a.sets a.entries a.order) a.values.now in
-    let out : Output = output c.args.out-sets c.args.out-values in
+    let map : Held (List Float) = let a = c.args in held a.d (stores a.sets.now a.entries.now a.order.now) a.values.now in
+    let out : Output = output c.args.out-sets.now c.args.out-values.now in
     delta-refused (L) tt c.args.s.limit (map) (out) c.number-no.result c.number-no.ensures c.if-no-ne0.true
 
 pub list-end-requires : goal.list-end-requires
 list-end-requires c =
-    let out : Output = output c.args.out-sets c.args.out-values in
+    let out : Output = output c.args.out-sets.now c.args.out-values.now in
     let L : Lister (single_store c.args.s.aggregation) = single_lister c.args.s.aggregation in
-    let map : Held (List Float) = let a = c.args in held a.d (stores a.sets a.entries a.order) a.values.now in
+    let map : Held (List Float) = let a = c.args in held a.d (stores a.sets.now a.entries.now a.order.now) a.values.now in
     let a = c.args in
     let m = walked a.d.used a.sets.now a.entries.now a.order.now a.values.now in
     listable-sums a.s.aggregation false m (out)
@@ -41,16 +41,16 @@ list-end-requires c =
 pub sweep-dir-requires : goal.sweep-dir-requires
 sweep-dir-requires c =
     let L : Lister (single_store c.args.s.aggregation) = single_lister c.args.s.aggregation in
-    let map : Held (List Float) = let a = c.args in held a.d (stores a.sets a.entries a.order) a.values.now in
-    let out : Output = output c.args.out-sets c.args.out-values in
+    let map : Held (List Float) = let a = c.args in held a.d (stores a.sets.now a.entries.now a.order.now) a.values.now in
+    let out : Output = output c.args.out-sets.now c.args.out-values.now in
     let a = c.args in
     sweeps (L) (owed a.s.aggregation) tt false a.s.limit (map) (out) c.number-no.result c.number-no.ensures c.if-no-ne0.left
 
 pub returns : goal.returns
 returns c =
     let L : Lister (single_store c.args.s.aggregation) = single_lister c.args.s.aggregation in
-    let map : Held (List Float) = let a = c.args in held a.d (stores a.sets a.entries a.order) a.values.now in
-    let out : Output = output c.args.out-sets c.args.out-values in
+    let map : Held (List Float) = let a = c.args in held a.d (stores a.sets.now a.entries.now a.order.now) a.values.now in
+    let out : Output = output c.args.out-sets.now c.args.out-values.now in
     let a = c.args in
     delta-done (L) tt a.s.limit (map) (out) _ _ (sym c.number-no.ensures ∙ c.if-no-ne0.left)
     (listed-is (L) (owed a.s.aggregation) tt false a.s.limit (map) (out) _ c.list-end.ensures) c.sweep-dir.ensures

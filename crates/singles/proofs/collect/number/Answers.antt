@@ -21,15 +21,15 @@ use Rattle.singles.proofs.collect.number.Goals as goal
 
 pub barred-no-requires : goal.barred-no-requires
 barred-no-requires c k =
-    let map : Held (List Float) = let a = c.args in held a.d (stores a.sets a.entries a.order) a.values.now in
+    let map : Held (List Float) = let a = c.args in held a.d (stores a.sets.now a.entries.now a.order.now) a.values.now in
     let a = c.args in
     unbarred (single_store a.s.aggregation) tt a.s.limit none (map) (c.requires k) c.suffices-room.result 0 c.suffices-room.ensures refl
 
 pub returns-then-no-ne0 : goal.returns-then-no-ne0
 returns-then-no-ne0 c =
     let L : Lister (single_store c.args.s.aggregation) = single_lister c.args.s.aggregation in
-    let map : Held (List Float) = let a = c.args in held a.d (stores a.sets a.entries a.order) a.values.now in
-    let out : Output = output c.args.out-sets c.args.out-values in
+    let map : Held (List Float) = let a = c.args in held a.d (stores a.sets.now a.entries.now a.order.now) a.values.now in
+    let out : Output = output c.args.out-sets.now c.args.out-values.now in
     let a = c.args in
     number-first (L) (owed a.s.aggregation) tt a.cumulative a.s.limit (map) (out)
     c.suffices-room.result 0 c.barred-no.result c.suffices-room.ensures refl c.barred-no.ensures c.if-no-ne0.true
@@ -37,8 +37,8 @@ returns-then-no-ne0 c =
 pub survey-found-requires : goal.survey-found-requires
 survey-found-requires c =
     let L : Lister (single_store c.args.s.aggregation) = single_lister c.args.s.aggregation in
-    let map : Held (List Float) = let a = c.args in held a.d (stores a.sets a.entries a.order) a.values.now in
-    let out : Output = output c.args.out-sets c.args.out-values in
+    let map : Held (List Float) = let a = c.args in held a.d (stores a.sets.now a.entries.now a.order.now) a.values.now in
+    let out : Output = output c.args.out-sets.now c.args.out-values.now in
     let a = c.args in record {
       walk = walk_here (L) (owed a.s.aggregation) tt a.cumulative a.s.limit (map) (out)
           c.suffices-room.result 0 c.barred-no.result c.suffices-room.ensures refl c.barred-no.ensures c.if-no-ne0.false;
@@ -48,8 +48,8 @@ survey-found-requires c =
 pub returns : goal.returns
 returns c =
     let L : Lister (single_store c.args.s.aggregation) = single_lister c.args.s.aggregation in
-    let map : Held (List Float) = let a = c.args in held a.d (stores a.sets a.entries a.order) a.values.now in
-    let out : Output = output c.args.out-sets c.args.out-values in
+    let map : Held (List Float) = let a = c.args in held a.d (stores a.sets.now a.entries.now a.order.now) a.values.now in
+    let out : Output = output c.args.out-sets.now c.args.out-values.now in
     let a = c.args in
     number-then (L) (owed a.s.aggregation) tt a.cumulative a.s.limit (map) (out)
     c.suffices-room.result 0 c.barred-no.result c.suffices-room.ensures refl c.barred-no.ensures c.if-no-ne0.false

@@ -16,7 +16,7 @@ use Rattle.singles.proofs.map.measure_by.Goals as goal
 pub take-no-requires : goal.take-no-requires
 take-no-requires c =
     let kind : Store (singles c.args.aggregation) = single_store c.args.aggregation in
-    let lent_map : Held (List Float) = let a = c.args in held a.d (stores a.sets a.entries a.order) a.values.now in
+    let lent_map : Held (List Float) = let a = c.args in held a.d (stores a.sets.now a.entries.now a.order.now) a.values.now in
     let way : Way (kind) c.args.limit (lent_map) = let a = c.args in by_way (owed a.aggregation) a.limit (lent_map) a.h in
     let known : Sits (kind) (lent_map) c.args.v c.seat_by-seat.result =
     let a = c.args in
@@ -26,7 +26,7 @@ take-no-requires c =
 pub finish-requires : goal.finish-requires
 finish-requires c z =
     let kind : Store (singles c.args.aggregation) = single_store c.args.aggregation in
-    let lent_map : Held (List Float) = let a = c.args in held a.d (stores a.sets a.entries a.order) a.values.now in
+    let lent_map : Held (List Float) = let a = c.args in held a.d (stores a.sets.now a.entries.now a.order.now) a.values.now in
     let way : Way (kind) c.args.limit (lent_map) = let a = c.args in by_way (owed a.aggregation) a.limit (lent_map) a.h in
     let known : Sits (kind) (lent_map) c.args.v c.seat_by-seat.result =
     let a = c.args in
@@ -35,7 +35,7 @@ finish-requires c z =
 
 pub returns : goal.returns
 returns c =
-    let lent_map : Held (List Float) = let a = c.args in held a.d (stores a.sets a.entries a.order) a.values.now in
+    let lent_map : Held (List Float) = let a = c.args in held a.d (stores a.sets.now a.entries.now a.order.now) a.values.now in
     let kind : Store (singles c.args.aggregation) = single_store c.args.aggregation in
     let way : Way (kind) c.args.limit (lent_map) = let a = c.args in by_way (owed a.aggregation) a.limit (lent_map) a.h in
     let a = c.args in

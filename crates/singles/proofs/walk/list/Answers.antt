@@ -28,7 +28,7 @@ abbrev map : Start → Held (List Float)
 map s = let a = s.args in walked a.used a.sets.now a.entries.now a.order.now a.values.now
 
 abbrev out : Start → Output
-out s = output s.args.out-sets s.args.out-values
+out s = output s.args.out-sets.now s.args.out-values.now
 
 pub loop-i-init : goal.loop-i-init
 loop-i-init c = list-start L tt c.args.cumulative (map c) (out c)

@@ -19,7 +19,7 @@ use Rattle.value_map.proofs.explicit_map.measure_by.Goals as goal
 pub take-no-requires : goal.take-no-requires
 take-no-requires c =
     let kind : Store histograms = explicit_store c.args.bounds.now in
-    let lent_map : Held Cells = let a = c.args in held a.d (stores a.sets a.entries a.order) (cells a.totals a.extremes a.counts) in
+    let lent_map : Held Cells = let a = c.args in held a.d (stores a.sets.now a.entries.now a.order.now) (cells a.totals.now a.extremes.now a.counts.now) in
     let way : Way (kind) c.args.limit (lent_map) = let a = c.args in by_way (owed a.bounds.now) a.limit (lent_map) a.h in
     let known : Sits (kind) (lent_map) c.args.v c.seat_by-seat.result =
     let a = c.args in
@@ -29,7 +29,7 @@ take-no-requires c =
 pub finish-requires : goal.finish-requires
 finish-requires c z =
     let kind : Store histograms = explicit_store c.args.bounds.now in
-    let lent_map : Held Cells = let a = c.args in held a.d (stores a.sets a.entries a.order) (cells a.totals a.extremes a.counts) in
+    let lent_map : Held Cells = let a = c.args in held a.d (stores a.sets.now a.entries.now a.order.now) (cells a.totals.now a.extremes.now a.counts.now) in
     let way : Way (kind) c.args.limit (lent_map) = let a = c.args in by_way (owed a.bounds.now) a.limit (lent_map) a.h in
     let known : Sits (kind) (lent_map) c.args.v c.seat_by-seat.result =
     let a = c.args in
@@ -39,7 +39,7 @@ finish-requires c z =
 
 pub returns : goal.returns
 returns c =
-    let lent_map : Held Cells = let a = c.args in held a.d (stores a.sets a.entries a.order) (cells a.totals a.extremes a.counts) in
+    let lent_map : Held Cells = let a = c.args in held a.d (stores a.sets.now a.entries.now a.order.now) (cells a.totals.now a.extremes.now a.counts.now) in
     let kind : Store histograms = explicit_store c.args.bounds.now in
     let way : Way (kind) c.args.limit (lent_map) = let a = c.args in by_way (owed a.bounds.now) a.limit (lent_map) a.h in
     let known : Sits (kind) (lent_map) c.args.v c.seat_by-seat.result =

@@ -13,7 +13,7 @@ use Rattle.value_map.proofs.explicit_map.take.Goals as goal
 
 pub returns-then-no-ne0 : goal.returns-then-no-ne0
 returns-then-no-ne0 c =
-    let lent : Cells = let a = c.args in cells a.totals a.extremes a.counts in
+    let lent : Cells = let a = c.args in cells a.totals.now a.extremes.now a.counts.now in
     let number : ℕ = turned (bounds_pass c.args.bounds.now) c.args.no in
     let a = c.args in
     ap (λ (n : ℕ). after n (lent)) c.turned_by.ensures
@@ -27,7 +27,7 @@ record-requires c =
 
 pub returns : goal.returns
 returns c =
-    let lent : Cells = let a = c.args in cells a.totals a.extremes a.counts in
+    let lent : Cells = let a = c.args in cells a.totals.now a.extremes.now a.counts.now in
     let number : ℕ = turned (bounds_pass c.args.bounds.now) c.args.no in
     let a = c.args in
     c.«record».ensures ∙ take_on (explicit_store a.bounds.now) (lent) a.v a.no (number) a.x a.updated c.if-no-ne0.false

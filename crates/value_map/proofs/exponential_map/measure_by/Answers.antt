@@ -15,7 +15,7 @@ use Rattle.value_map.proofs.exponential_map.measure_by.Goals as goal
 pub take-no-requires : goal.take-no-requires
 take-no-requires c =
     let kind : Store histograms = exponential_store c.args.size c.args.top in
-    let lent_map : Held Cells = let a = c.args in held a.d (stores a.sets a.entries a.order) (cells a.figures a.extremes a.pos a.neg) in
+    let lent_map : Held Cells = let a = c.args in held a.d (stores a.sets.now a.entries.now a.order.now) (cells a.figures.now a.extremes.now a.pos.now a.neg.now) in
     let way : Way (kind) c.args.limit (lent_map) = let a = c.args in by_way (owed a.size a.top) a.limit (lent_map) a.h in
     let known : Sits (kind) (lent_map) c.args.v c.seat_by-seat.result =
     let a = c.args in
@@ -25,7 +25,7 @@ take-no-requires c =
 pub finish-requires : goal.finish-requires
 finish-requires c z =
     let kind : Store histograms = exponential_store c.args.size c.args.top in
-    let lent_map : Held Cells = let a = c.args in held a.d (stores a.sets a.entries a.order) (cells a.figures a.extremes a.pos a.neg) in
+    let lent_map : Held Cells = let a = c.args in held a.d (stores a.sets.now a.entries.now a.order.now) (cells a.figures.now a.extremes.now a.pos.now a.neg.now) in
     let way : Way (kind) c.args.limit (lent_map) = let a = c.args in by_way (owed a.size a.top) a.limit (lent_map) a.h in
     let known : Sits (kind) (lent_map) c.args.v c.seat_by-seat.result =
     let a = c.args in
@@ -34,7 +34,7 @@ finish-requires c z =
 
 pub returns : goal.returns
 returns c =
-    let lent_map : Held Cells = let a = c.args in held a.d (stores a.sets a.entries a.order) (cells a.figures a.extremes a.pos a.neg) in
+    let lent_map : Held Cells = let a = c.args in held a.d (stores a.sets.now a.entries.now a.order.now) (cells a.figures.now a.extremes.now a.pos.now a.neg.now) in
     let kind : Store histograms = exponential_store c.args.size c.args.top in
     let way : Way (kind) c.args.limit (lent_map) = let a = c.args in by_way (owed a.size a.top) a.limit (lent_map) a.h in
     let a = c.args in

@@ -10,5 +10,5 @@ use Rattle.value_map.proofs.exponential_map.start.Goals as goal
 pub returns : goal.returns
 returns c =
     let a = c.args in
-    start_is (exponential_store a.size a.top) a.limit (filter_of a.present a.filter.now) (stores a.sets a.entries a.order)
-    (cells a.figures a.extremes a.pos a.neg) _ c.unset_of-no.ensures c.cells_suffice-room.ensures c.begin.ensures
+    start_is (exponential_store a.size a.top) a.limit (filter_of a.present a.filter.now) (stores a.sets.now a.entries.now a.order.now)
+    (cells a.figures.now a.extremes.now a.pos.now a.neg.now) _ c.unset_of-no.ensures c.cells_suffice-room.ensures c.begin.ensures

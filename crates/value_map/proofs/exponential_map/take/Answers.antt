@@ -9,7 +9,7 @@ use Rattle.value_map.proofs.exponential_map.take.Goals as goal
 
 pub returns-then-no-ne0 : goal.returns-then-no-ne0
 returns-then-no-ne0 c =
-    let lent : Cells = let a = c.args in cells a.figures a.extremes a.pos a.neg in
+    let lent : Cells = let a = c.args in cells a.figures.now a.extremes.now a.pos.now a.neg.now in
     let a = c.args in take_no (exponential_store a.size a.top) (lent) a.v a.no a.no a.x a.updated c.if-no-ne0.true
 
 pub record-requires : goal.record-requires
@@ -20,6 +20,6 @@ record-requires c =
 
 pub returns : goal.returns
 returns c =
-    let lent : Cells = let a = c.args in cells a.figures a.extremes a.pos a.neg in
+    let lent : Cells = let a = c.args in cells a.figures.now a.extremes.now a.pos.now a.neg.now in
     let a = c.args in
     c.«record».ensures ∙ take_on (exponential_store a.size a.top) (lent) a.v a.no a.no a.x a.updated c.if-no-ne0.false

@@ -15,25 +15,25 @@ use Rattle.value_map.proofs.first.begin.Goals as goal
 pub returns-then-unset-ne0 : goal.returns-then-unset-ne0
 returns-then-unset-ne0 c =
     let filter : Option (List ℕ) = filter_of c.args.present c.args.filter.now in
-    let lent : Stores = stores c.args.sets c.args.entries c.args.order in
+    let lent : Stores = stores c.args.sets.now c.args.entries.now c.args.order.now in
     begin-unset c.args.unset c.args.cells c.args.limit (filter) (lent) c.if-unset-ne0.true
 
 pub returns-then-not-accepted : goal.returns-then-not-accepted
 returns-then-not-accepted c =
     let filter : Option (List ℕ) = filter_of c.args.present c.args.filter.now in
-    let lent : Stores = stores c.args.sets c.args.entries c.args.order in
+    let lent : Stores = stores c.args.sets.now c.args.entries.now c.args.order.now in
     begin_4 c.args.unset c.args.cells c.args.limit (filter) (lent) c.if-unset-ne0.false (sym c.accepted.ensures ∙ not-true _ c.if-not-accepted.true)
 
 pub returns-then-not-cells : goal.returns-then-not-cells
 returns-then-not-cells c =
     let filter : Option (List ℕ) = filter_of c.args.present c.args.filter.now in
-    let lent : Stores = stores c.args.sets c.args.entries c.args.order in
+    let lent : Stores = stores c.args.sets.now c.args.entries.now c.args.order.now in
     let accept : accepts c.args.limit (filter) ≡ true = sym c.accepted.ensures ∙ not-false _ c.if-not-accepted.false in
     begin_12 c.args.unset c.args.cells c.args.limit (filter) (lent) c.if-unset-ne0.false (accept) (not-true _ c.if-not-cells.true)
 
 pub returns : goal.returns
 returns c =
     let filter : Option (List ℕ) = filter_of c.args.present c.args.filter.now in
-    let lent : Stores = stores c.args.sets c.args.entries c.args.order in
+    let lent : Stores = stores c.args.sets.now c.args.entries.now c.args.order.now in
     let accept : accepts c.args.limit (filter) ≡ true = sym c.accepted.ensures ∙ not-false _ c.if-not-accepted.false in
     c.start.ensures ∙ begin-on c.args.unset c.args.cells c.args.limit (filter) (lent) c.if-unset-ne0.false (accept) (not-false _ c.if-not-cells.false)

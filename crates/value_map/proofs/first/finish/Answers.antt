@@ -11,7 +11,7 @@ use Rattle.value_map.proofs.first.finish.Goals as goal
 
 pub returns-then-no-ne0 : goal.returns-then-no-ne0
 returns-then-no-ne0 c =
-    let lent : Stores = stores c.args.sets c.args.entries c.args.order in
+    let lent : Stores = stores c.args.sets.now c.args.entries.now c.args.order.now in
     finish-no c.args.no c.args.d (lent) c.args.row.now c.args.target c.if-no-ne0.true
 
 pub commit-e-requires : goal.commit-e-requires
@@ -19,6 +19,6 @@ commit-e-requires c = c.requires c.if-no-ne0.false
 
 pub returns : goal.returns
 returns c =
-    let lent : Stores = stores c.args.sets c.args.entries c.args.order in
+    let lent : Stores = stores c.args.sets.now c.args.entries.now c.args.order.now in
     ap {B = Outcome} (λ (x : Kept). record { answer = success none; kept = x }) c.commit-e.ensures
     ∙ finish-done c.args.no c.args.d (lent) c.args.row.now c.args.target c.if-no-ne0.false

@@ -25,7 +25,7 @@ use Rattle.whole_map.proofs.explicit_map.measure.Goals as goal
 pub take-no-requires : goal.take-no-requires
 take-no-requires c =
     let kind : Store wholes = explicit_wholes c.args.bounds.now c.args.sums in
-    let lent_map : Held Cells = let a = c.args in held a.d (stores a.sets a.entries a.order) (cells a.totals a.extremes a.counts) in
+    let lent_map : Held Cells = let a = c.args in held a.d (stores a.sets.now a.entries.now a.order.now) (cells a.totals.now a.extremes.now a.counts.now) in
     let same-value : to_z w64 (of_z w64 c.args.v) ≡ c.args.v = Range.held c.args.v c.ranges.v in
     let way : Way (kind) c.args.limit (lent_map) = let a = c.args in set-way (owed a.bounds.now a.sums) a.limit (lent_map) (filter_of a.present a.filter.now) (given a.attrs.now) in
     let all-taken : c.takes-value.result ≡ wholes.finite c.args.v = c.takes-value.ensures ∙ ap wholes.finite (same-value) in
@@ -37,7 +37,7 @@ take-no-requires c =
 pub finish-requires : goal.finish-requires
 finish-requires c z =
     let kind : Store wholes = explicit_wholes c.args.bounds.now c.args.sums in
-    let lent_map : Held Cells = let a = c.args in held a.d (stores a.sets a.entries a.order) (cells a.totals a.extremes a.counts) in
+    let lent_map : Held Cells = let a = c.args in held a.d (stores a.sets.now a.entries.now a.order.now) (cells a.totals.now a.extremes.now a.counts.now) in
     let way : Way (kind) c.args.limit (lent_map) = let a = c.args in set-way (owed a.bounds.now a.sums) a.limit (lent_map) (filter_of a.present a.filter.now) (given a.attrs.now) in
     let same-value : to_z w64 (of_z w64 c.args.v) ≡ c.args.v = Range.held c.args.v c.ranges.v in
     let all-taken : c.takes-value.result ≡ wholes.finite c.args.v = c.takes-value.ensures ∙ ap wholes.finite (same-value) in
@@ -52,7 +52,7 @@ finish-requires c z =
 
 pub returns : goal.returns
 returns c =
-    let lent_map : Held Cells = let a = c.args in held a.d (stores a.sets a.entries a.order) (cells a.totals a.extremes a.counts) in
+    let lent_map : Held Cells = let a = c.args in held a.d (stores a.sets.now a.entries.now a.order.now) (cells a.totals.now a.extremes.now a.counts.now) in
     let kind : Store wholes = explicit_wholes c.args.bounds.now c.args.sums in
     let way : Way (kind) c.args.limit (lent_map) = let a = c.args in set-way (owed a.bounds.now a.sums) a.limit (lent_map) (filter_of a.present a.filter.now) (given a.attrs.now) in
     let same-value : to_z w64 (of_z w64 c.args.v) ≡ c.args.v = Range.held c.args.v c.ranges.v in

@@ -21,7 +21,7 @@ use Rattle.whole_map.proofs.exponential_map.measure_by.Goals as goal
 pub take-no-requires : goal.take-no-requires
 take-no-requires c =
     let kind : Store wholes = exponential_wholes c.args.size c.args.top c.args.sums in
-    let lent_map : Held Cells = let a = c.args in held a.d (stores a.sets a.entries a.order) (cells a.figures a.extremes a.pos a.neg) in
+    let lent_map : Held Cells = let a = c.args in held a.d (stores a.sets.now a.entries.now a.order.now) (cells a.figures.now a.extremes.now a.pos.now a.neg.now) in
     let same-value : to_z w64 (of_z w64 c.args.v) ≡ c.args.v = Range.held c.args.v c.ranges.v in
     let way : Way (kind) c.args.limit (lent_map) = let a = c.args in by_way (owed a.size a.top a.sums) a.limit (lent_map) a.h in
     let all-taken : c.takes-value.result ≡ wholes.finite c.args.v = c.takes-value.ensures ∙ ap wholes.finite (same-value) in
@@ -33,7 +33,7 @@ take-no-requires c =
 pub finish-requires : goal.finish-requires
 finish-requires c z =
     let kind : Store wholes = exponential_wholes c.args.size c.args.top c.args.sums in
-    let lent_map : Held Cells = let a = c.args in held a.d (stores a.sets a.entries a.order) (cells a.figures a.extremes a.pos a.neg) in
+    let lent_map : Held Cells = let a = c.args in held a.d (stores a.sets.now a.entries.now a.order.now) (cells a.figures.now a.extremes.now a.pos.now a.neg.now) in
     let way : Way (kind) c.args.limit (lent_map) = let a = c.args in by_way (owed a.size a.top a.sums) a.limit (lent_map) a.h in
     let same-value : to_z w64 (of_z w64 c.args.v) ≡ c.args.v = Range.held c.args.v c.ranges.v in
     let all-taken : c.takes-value.result ≡ wholes.finite c.args.v = c.takes-value.ensures ∙ ap wholes.finite (same-value) in
@@ -46,7 +46,7 @@ finish-requires c z =
 
 pub returns : goal.returns
 returns c =
-    let lent_map : Held Cells = let a = c.args in held a.d (stores a.sets a.entries a.order) (cells a.figures a.extremes a.pos a.neg) in
+    let lent_map : Held Cells = let a = c.args in held a.d (stores a.sets.now a.entries.now a.order.now) (cells a.figures.now a.extremes.now a.pos.now a.neg.now) in
     let kind : Store wholes = exponential_wholes c.args.size c.args.top c.args.sums in
     let way : Way (kind) c.args.limit (lent_map) = let a = c.args in by_way (owed a.size a.top a.sums) a.limit (lent_map) a.h in
     let same-value : to_z w64 (of_z w64 c.args.v) ≡ c.args.v = Range.held c.args.v c.ranges.v in

@@ -9,7 +9,7 @@ use Rattle.whole_map.proofs.exponential_map.take.Goals as goal
 
 pub returns-then-no-ne0 : goal.returns-then-no-ne0
 returns-then-no-ne0 c =
-    let lent : Cells = let a = c.args in cells a.figures a.extremes a.pos a.neg in
+    let lent : Cells = let a = c.args in cells a.figures.now a.extremes.now a.pos.now a.neg.now in
     let a = c.args in take_no (exponential_wholes a.size a.top a.sums) (lent) a.v a.no a.no a.x a.updated c.if-no-ne0.true
 
 pub record-requires : goal.record-requires
@@ -20,7 +20,7 @@ record-requires c =
 
 pub returns : goal.returns
 returns c =
-    let lent : Cells = let a = c.args in cells a.figures a.extremes a.pos a.neg in
+    let lent : Cells = let a = c.args in cells a.figures.now a.extremes.now a.pos.now a.neg.now in
     let a = c.args in
     c.«record».ensures
     ∙ ap (recorded_at a.size a.top a.sums a.x a.updated (lent)) (held a.v c.fits.v)

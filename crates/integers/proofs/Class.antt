@@ -1,5 +1,5 @@
 -- The magnitude of the f64 nearest to a whole number: only 0 gives a zero, and below 2 ^ 53 nothing is rounded. Assumes nothing.
-use Rattle.std.proofs.Common.{◌≡◌, ℕ, zero, suc, ◌+◌, ◌*◌, ◌/◌, ◌^◌, ◌<◌, ◌≤◌, Bool, true, false, ℤ, pos, negsuc, nat_abs, sym, refl, ap, ◌∙◌, subst, inl, inr, lt_of_lt_of_le, lt_of_le_of_lt, zero-lt-suc, add_comm, mul-pos, mul-one, mul_right_comm, mul-div_cancel, arith, lit<, lit≤, pow_pos, pow_mono, shl_lt}
+use Rattle.std.proofs.Common.{◌≡◌, ℕ, zero, suc, ◌+◌, ◌*◌, ◌/◌, ◌^◌, ◌<◌, Bool, true, false, ℤ, pos, negsuc, nat_abs, sym, refl, ap, ◌∙◌, subst, inl, inr, lt_of_lt_of_le, lt_of_le_of_lt, zero-lt-suc, add_comm, mul-pos, mul-one, mul_right_comm, mul-div_cancel, arith, lit<, lit≤, pow_pos, pow_mono, shl_lt}
 use lib.Signed.{mag}
 use lib.Ieee.{Float, nan, inf, fin, binary64, up, down, round, of_int}
 use lib.Ieee.Fits.{down_pos}

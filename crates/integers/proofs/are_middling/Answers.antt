@@ -1,5 +1,5 @@
 -- `are_middling` meets its contract. Assumes nothing.
-use Rattle.std.proofs.Common.{Bool, not, T, ℤ, pos, negsuc, sym, ap, ◌∙◌, subst, lit<, rules}
+use Rattle.std.proofs.Common.{Bool, not, T, ℤ, pos, negsuc, sym, ap, ◌∙◌, subst, lit<}
 use Rattle.integers.specs.Answers.{between}
 use Rattle.integers.proofs.Range.{held, middling}
 use Rattle.integers.proofs.are_middling.Goals as goal

@@ -1,5 +1,5 @@
 -- `kept_sum` meets its contract. Assumes nothing.
-use Rattle.std.proofs.Common.{sym, ap, ◌∙◌, rules}
+use Rattle.std.proofs.Common.{sym, ap, ◌∙◌}
 use Rattle.laws.proofs.Bools.{pick_true, pick-false}
 use Rattle.integers.specs.Answers.{sum_of}
 use Rattle.integers.specs.declared.Total.TheVariants.{Is}

@@ -1,5 +1,5 @@
 -- `nearest` meets its contract. Assumes nothing.
-use Rattle.std.proofs.Common.{T, ℤ, pos, negsuc, sym, ap, ◌∙◌, subst, lit<, rules}
+use Rattle.std.proofs.Common.{T, ℤ, pos, negsuc, sym, ap, ◌∙◌, subst, lit<}
 use lib.Ieee.{binary64, in_float}
 use Rattle.integers.specs.Answers.{between, nearest_of}
 use Rattle.integers.proofs.Range.{held, middling, exact}

@@ -1,5 +1,5 @@
 -- `of_bits` meets its contract. Assumes nothing.
-use Rattle.std.proofs.Common.{◌^◌, ◌<◌, ◌≤◌, arith, rules}
+use Rattle.std.proofs.Common.{arith}
 use Rattle.integers.proofs.Range.{low_bits, back_fits, back-bits}
 use Rattle.integers.proofs.of_bits.Goals as goal
 

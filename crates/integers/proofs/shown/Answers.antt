@@ -1,5 +1,5 @@
 -- `shown` meets its contract. Assumes nothing.
-use Rattle.std.proofs.Common.{sym, ap, ◌∙◌, rules}
+use Rattle.std.proofs.Common.{sym, ap, ◌∙◌}
 use Rattle.laws.proofs.Bools.{pick_true, pick-false}
 use Rattle.integers.specs.declared.Extreme.TheVariants.{Value}
 use Rattle.integers.proofs.Range.{held}

@@ -1,5 +1,5 @@
 -- `sum` meets its contract. Assumes nothing.
-use Rattle.std.proofs.Common.{◌^◌, ◌<◌, ℤ, ◌∙◌, subst, rules}
+use Rattle.std.proofs.Common.{◌^◌, ◌<◌, ℤ, ◌∙◌, subst}
 use lib.Signed.{mag}
 use Rattle.integers.specs.Answers.{sum_of}
 use Rattle.integers.proofs.Range.{held, middle-fine, middle-inside}

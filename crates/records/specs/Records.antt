@@ -1,5 +1,5 @@
 -- Words in linked records of four: a link, and three words. Assumes nothing.
-use Rattle.std.specs.Prelude.{ℕ, zero, suc, ◌+◌, ◌*◌, ◌/◌, List, [], ◌∷◌}
+use Rattle.std.specs.Prelude.{ℕ, suc, ◌+◌, ◌*◌, ◌/◌, List, [], ◌∷◌}
 use Rattle.records.specs.Words.{words_of}
 
 -- the index of the record behind record k: "zero ends the chain"

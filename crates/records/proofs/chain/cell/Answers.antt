@@ -1,6 +1,5 @@
 -- `records::chain::cell` meets its contract. Assumes nothing.
 use Rattle.records.specs.Inner.{cell_at}
-use borrow.Author.Rules.{rules}
 use Rattle.records.proofs.chain.cell.Goals as goal
 
 pub returns : goal.returns

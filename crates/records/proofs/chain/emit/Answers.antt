@@ -3,7 +3,6 @@ use Prim.Native.Nat.{◌%◌}
 use native.Mathlib.Omega.{arith}
 use mathlib.Core.Path.{◌≡◌}
 use Rattle.records.proofs.Links.{emit-first, emit-later, link-room}
-use borrow.Author.Rules.{rules}
 use Rattle.records.proofs.chain.emit.Goals as goal
 
 pub put_word-requires : goal.put_word-requires

@@ -1,12 +1,8 @@
 -- `records::chain::emit_run` meets its contract. Assumes nothing.
-use borrow.Author.Rules.{rules}
-use mathlib.Core.Path.{◌≡◌, refl, ap, ◌∙◌}
-use Prim.Native.Nat.{ℕ, ◌+◌, ◌-◌, ◌≤◌}
-use native.Mathlib.Omega.{arith}
-use lib.ListN.{length, get_or, take}
-use lib.Seq.{take-length}
+use mathlib.Core.Path.{◌≡◌}
+use Prim.Native.Nat.{◌-◌, ◌≤◌}
+use lib.ListN.{length, take}
 use Rattle.records.specs.Inner.{laid}
-use Rattle.records.proofs.Laid.{length-emitted, place-room, turn-run}
 use Rattle.records.proofs.chain.emit_run.Given as goal
 
 abbrev pub invariant-loop-i : goal.invariant-loop-i

@@ -1,10 +1,8 @@
 -- `records::chain::emit_zeros` meets its contract. Assumes nothing.
-use mathlib.Core.Path.{◌≡◌, refl, ap, ◌∙◌}
-use Prim.Native.Nat.{ℕ, ◌+◌, ◌-◌, ◌≤◌}
-use native.Mathlib.Omega.{arith}
+use mathlib.Core.Path.{◌≡◌}
+use Prim.Native.Nat.{◌-◌, ◌≤◌}
 use lib.ListN.{length, replicate}
 use Rattle.records.specs.Inner.{laid}
-use Rattle.records.proofs.Laid.{length-emitted, place-room, turn-zeros}
 use Rattle.records.proofs.chain.emit_zeros.Given as goal
 
 abbrev pub invariant-loop-i : goal.invariant-loop-i

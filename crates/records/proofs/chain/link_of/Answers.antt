@@ -3,7 +3,6 @@ use native.Mathlib.Omega.{arith}
 use Prim.Native.Nat.{◌+◌}
 use mathlib.Core.Path.{◌≡◌}
 use Rattle.records.proofs.Links.{link-alone, link-first, link-last, link-next}
-use borrow.Author.Rules.{rules}
 use Rattle.records.proofs.chain.link_of.Goals as goal
 
 pub returns-then-n-eq1 : goal.returns-then-n-eq1

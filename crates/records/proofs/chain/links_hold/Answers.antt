@@ -1,7 +1,7 @@
 -- `records::chain::links_hold` meets its contract. Assumes nothing.
 use mathlib.Core.Path.{◌≡◌, sym, subst}
 use mathlib.Core.Bool.{true}
-use Prim.Native.Nat.{ℕ, ◌-◌, ◌*◌, ◌≤◌}
+use Prim.Native.Nat.{ℕ, ◌*◌}
 use native.Mathlib.Omega.{arith}
 use Rattle.sets.specs.All.{allb}
 use Rattle.sets.proofs.Alls.{allb-none, allb-more, allb-no}

@@ -1,13 +1,9 @@
 -- `records::chain::links_hold` meets its contract. Assumes nothing.
-use mathlib.Core.Path.{◌≡◌, sym, subst}
+use mathlib.Core.Path.{◌≡◌}
 use mathlib.Core.Bool.{true}
-use Prim.Native.Nat.{ℕ, ◌-◌, ◌*◌, ◌≤◌}
-use native.Mathlib.Omega.{arith}
+use Prim.Native.Nat.{◌-◌, ◌≤◌}
 use Rattle.sets.specs.All.{allb}
-use Rattle.sets.proofs.Alls.{allb-none, allb-more, allb-no}
-use Rattle.records.specs.Inner.{link_holds, link_of}
-use Rattle.records.specs.Words.{word_at}
-use borrow.Author.Tests.{eq-eqb, ne_eqb}
+use Rattle.records.specs.Inner.{link_holds}
 use Rattle.records.proofs.chain.links_hold.Given as goal
 
 abbrev pub invariant-loop-r : goal.invariant-loop-r

@@ -1,12 +1,8 @@
 -- `records::chain::read_run` meets its contract. Assumes nothing.
-use borrow.Author.Rules.{rules}
-use mathlib.Core.Path.{◌≡◌, refl, sym, ap, ◌∙◌}
-use Prim.Native.Nat.{ℕ, ◌+◌, ◌-◌, ◌≤◌}
-use native.Mathlib.Omega.{arith}
-use lib.ListN.{length, take, length-set}
-use lib.Seq.{take-length}
-use Rattle.records.specs.Inner.{run, cell_at}
-use Rattle.records.proofs.Laid.{cell_room, turn-read}
+use mathlib.Core.Path.{◌≡◌}
+use Prim.Native.Nat.{◌-◌, ◌≤◌}
+use lib.ListN.{length, take}
+use Rattle.records.specs.Inner.{run}
 use Rattle.records.proofs.chain.read_run.Given as goal
 
 abbrev pub invariant-loop-i : goal.invariant-loop-i

@@ -1,10 +1,6 @@
 -- `records::words::know_bytes` meets its contract. Assumes nothing.
-use borrow.Author.Rules.{rules}
-use mathlib.Core.Path.{subst}
-use Prim.Native.Nat.{ℕ, ◌+◌, ◌-◌, ◌≤◌, ◌<◌}
-use native.Mathlib.Omega.{arith}
+use Prim.Native.Nat.{ℕ, ◌-◌, ◌≤◌, ◌<◌}
 use lib.ListN.{length, get_or}
-use Rattle.records.proofs.Bytes.{known_more, known-all}
 use Rattle.records.proofs.words.know_bytes.Given as goal
 
 abbrev pub invariant-loop-i : goal.invariant-loop-i

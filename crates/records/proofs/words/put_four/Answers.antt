@@ -5,7 +5,6 @@ use Prim.Native.Nat.{ℕ, ◌+◌, ◌/◌}
 use Rattle.records.proofs.Bytes.{put_four}
 use mathlib.Core.Path.{ap, ◌∙◌}
 use Rattle.records.specs.Words.{bytes2}
-use borrow.Author.Rules.{rules}
 use Rattle.records.proofs.words.put_four.Goals as goal
 
 pub returns : goal.returns

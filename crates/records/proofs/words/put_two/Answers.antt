@@ -3,7 +3,6 @@ use lib.ListN.{length-set}
 use native.Mathlib.Numerals.{add-one}
 use native.Mathlib.Omega.{arith}
 use Rattle.records.specs.Words.{bytes2}
-use borrow.Author.Rules.{rules}
 use Rattle.records.proofs.words.put_two.Goals as goal
 
 pub bounds-s-i-2 : goal.bounds-s-i-2

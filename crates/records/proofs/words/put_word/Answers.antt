@@ -5,7 +5,6 @@ use Prim.Native.Nat.{ℕ, ◌+◌, ◌/◌}
 use Rattle.records.proofs.Bytes.{put-eight}
 use mathlib.Core.Path.{ap, ◌∙◌}
 use Rattle.records.specs.Words.{bytes4}
-use borrow.Author.Rules.{rules}
 use Rattle.records.proofs.words.put_word.Goals as goal
 
 pub returns : goal.returns

@@ -97,8 +97,8 @@ module _ (size : ℕ) (a b : Stored) (e : refusal_before size a b ≡ 0) (us vs 
 
   back : (f g : Figures) → a.point.figures ≡ f → b.point.figures ≡ g → Back f g
   back (Exponential c) (Exponential d) f g = exponential-back c d f g
-  back (Exponential c) (Explicit m) f g = absurd (calls.not-mixed size a b e c m f g)
-  back (Explicit n) (Exponential d) f g = absurd (calls.not-mixed-2 size a b e n d f g)
+  back (Exponential c) (Explicit m) f g = absurd (calls.not_mixed size a b e c m f g)
+  back (Explicit n) (Exponential d) f g = absurd (calls.not_mixed_2 size a b e n d f g)
   back (Explicit n) (Explicit m) f g = explicit-back n m f g
 
   pub laid-back : counts_as (figures_for counts_made) a.bounds (over (pos_of counts_made) us) (over (neg_of counts_made) vs) ≡ counts_made

@@ -7,7 +7,6 @@ use borrow.Author.Rules.{rules}
 use lib.Dec.{eqb}
 use Rattle.laws.specs.Counting.{total}
 use Rattle.laws.proofs.Bools.{not-both}
-use Rattle.exponential.proofs.Facts.{not-true, not-false}
 use Rattle.points.specs.Explicit.{bounds_pass}
 use Rattle.explicit.proofs.Cases.{refuse, too_short, no-buckets, by_total, count-few}
 use Rattle.explicit.proofs.buckets_agree.Goals as goal
@@ -15,7 +14,7 @@ use Rattle.explicit.proofs.buckets_agree.Goals as goal
 pub returns-then-not-bounds_pass : goal.returns-then-not-bounds_pass
 returns-then-not-bounds_pass c =
     let a = c.args in
-    refuse a.bounds.now a.count a.counts.now (λ k. not-both _ (c.bounds_pass.ensures ∙ k.passes) (not-true _ c.if-not-bounds_pass.true))
+    refuse a.bounds.now a.count a.counts.now (λ k. not-both _ (c.bounds_pass.ensures ∙ k.passes) (c.if-not-bounds_pass.true))
 
 pub returns-then-counts-n : goal.returns-then-counts-n
 returns-then-counts-n c =
@@ -24,19 +23,19 @@ returns-then-counts-n c =
 
 pub returns-then-n-eq0 : goal.returns-then-n-eq0
 returns-then-n-eq0 c =
-    let passed : bounds_pass c.args.bounds.now ≡ true = sym c.bounds_pass.ensures ∙ not-false _ c.if-not-bounds_pass.false in
+    let passed : bounds_pass c.args.bounds.now ≡ true = sym c.bounds_pass.ensures ∙ c.if-not-bounds_pass.false in
     let a = c.args in
     no-buckets a.bounds.now a.count a.counts.now (passed) (omega (arith, c.if-counts-n.false, c.bucket_count-n.ensures)) (sym c.bucket_count-n.ensures ∙ c.if-n-eq0.true)
 
 pub adds_up-requires : goal.adds_up-requires
 adds_up-requires c =
-    let passed : bounds_pass c.args.bounds.now ≡ true = sym c.bounds_pass.ensures ∙ not-false _ c.if-not-bounds_pass.false in
+    let passed : bounds_pass c.args.bounds.now ≡ true = sym c.bounds_pass.ensures ∙ c.if-not-bounds_pass.false in
     let a = c.args in
     (omega (arith, c.if-counts-n.false), omega (arith, c.bucket_count-n.ensures, count-few a.bounds.now (passed)))
 
 pub returns : goal.returns
 returns c =
-    let passed : bounds_pass c.args.bounds.now ≡ true = sym c.bounds_pass.ensures ∙ not-false _ c.if-not-bounds_pass.false in
+    let passed : bounds_pass c.args.bounds.now ≡ true = sym c.bounds_pass.ensures ∙ c.if-not-bounds_pass.false in
     let a = c.args in
     c.adds_up.ensures
     ∙ ap (λ (m : ℕ). eqb (total (take m a.counts.now)) a.count) c.bucket_count-n.ensures

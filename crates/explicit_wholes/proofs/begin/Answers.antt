@@ -6,7 +6,7 @@ use Rattle.explicit_wholes.specs.Series.{begun}
 use Rattle.explicit_wholes.proofs.begin.Goals as goal
 
 pub returns-in-Refused : goal.returns-in-Refused
-returns-in-Refused c = sym (ap (λ q. begun (E.said q)) c.r-1.given.1)
+returns-in-Refused c = sym (ap (λ q. begun (E.said q)) c.in-Refused.is)
 
 pub returns-in-Recorded : goal.returns-in-Recorded
-returns-in-Recorded c = sym (ap (λ q. begun (E.said q)) c.r-in-Recorded-1.given.1)
+returns-in-Recorded c = sym (ap (λ q. begun (E.said q)) c.in-Recorded.is)

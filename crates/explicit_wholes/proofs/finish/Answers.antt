@@ -12,7 +12,7 @@ use Rattle.explicit_wholes.proofs.finish.Goals as goal
 
 pub returns-in-Refused : goal.returns-in-Refused
 returns-in-Refused c =
-    sym (ap (λ q. finished c.args.head c.args.v c.args.s (E.said q)) c.r-1.given.1)
+    sym (ap (λ q. finished c.args.head c.args.v c.args.s (E.said q)) c.in-Refused.is)
 
 pub returns-in-Recorded : goal.returns-in-Recorded
 returns-in-Recorded c =
@@ -21,9 +21,9 @@ returns-in-Recorded c =
     let m : SFits w64 c.args.head.min = search rules in
     let n : SFits w64 c.args.head.max = search rules in
     (λ j. success (record {
-      count = c.r-in-Recorded-1.given.0.0.count;
+      count = c.in-Recorded.g.count;
       min = (held c.lesser-least.result l ∙ c.lesser-least.ensures ∙ (λ i. lesser_of (held c.args.head.min m i) (held c.args.v c.ranges.v i))) j;
       max = (held c.greater-greatest.result g ∙ c.greater-greatest.ensures ∙ (λ i. greater_of (held c.args.head.max n i) (held c.args.v c.ranges.v i))) j;
       sum = held c.args.s c.ranges.s j;
     }))
-    ∙ sym (ap (λ q. finished c.args.head c.args.v c.args.s (E.said q)) c.r-in-Recorded-1.given.1)
+    ∙ sym (ap (λ q. finished c.args.head c.args.v c.args.s (E.said q)) c.in-Recorded.is)

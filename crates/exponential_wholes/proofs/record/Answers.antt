@@ -54,7 +54,7 @@ returns-in-Outside c =
     c.kept_sum-total.ensures ∙ (λ j. kept_sum c.args.sums (held c.args.head.sum f j) (held c.args.v c.ranges.v j)) in
     let a = c.args in
     outside_law a.size a.top a.sums a.head a.pos.now a.neg.now a.v (none)
-    (sym (summed) ∙ c.enum_told-1.given.1)
+    (sym (summed) ∙ c.in-Outside.is)
 
 pub returns-in-Is : goal.returns-in-Is
 returns-in-Is c =
@@ -68,7 +68,7 @@ returns-in-Is c =
     let summed : (let a = c.args in c.kept_sum-total.result ≡ kept_sum a.sums a.head.sum a.v) =
     let f : SFits w64 c.args.head.sum = search rules in
     c.kept_sum-total.ensures ∙ (λ j. kept_sum c.args.sums (held c.args.head.sum f j) (held c.args.v c.ranges.v j)) in
-    let whole_sum : SFits w64 c.total-1.given.0.0 = search rules in
+    let whole_sum : SFits w64 c.in-Is.s = search rules in
     let least : (let a = c.args in to_z w64 (of_z w64 c.lesser-least.result) ≡ lesser_of a.head.min a.v) =
     let r : SFits w64 c.lesser-least.result = search rules in
     let m : SFits w64 c.args.head.min = search rules in
@@ -81,7 +81,7 @@ returns-in-Is c =
     let xs = a.pos.now in
     let ys = a.neg.now in
     inside_law a.size a.top a.sums a.head xs ys a.v _ _ _ c.count_in-next.result c.count_in-next.new.pos c.count_in-next.new.neg
-    (none) (sym (summed) ∙ c.total-1.given.1 ∙ ap Is (sym (held c.total-1.given.0.0 (whole_sum))))
+    (none) (sym (summed) ∙ c.in-Is.is ∙ ap Is (sym (held c.in-Is.s (whole_sum))))
     (subst (λ (p : Point). Written p xs ys c.count_in-next.result c.count_in-next.new.pos c.count_in-next.new.neg)
     (λ j. record1 a.size (E.read (c.under_counts-h.ensures j).counts xs ys) (class_of zero_float (near j))) c.count_in-next.ensures)
     (least) (greatest)

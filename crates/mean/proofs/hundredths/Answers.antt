@@ -1,7 +1,6 @@
 -- `mean::hundredths` meets its contract. Assumes nothing.
 use Prim.Native.Nat.{ℕ}
 use mathlib.Core.Path.{sym, ap, ◌∙◌}
-use borrow.Author.Tests.{not-true, not-false}
 use Rattle.point.specs.Handing.{stored}
 use Rattle.point.proofs.Means.{count-is}
 use Rattle.mean.specs.Mean.{mean_of}
@@ -12,11 +11,11 @@ use Rattle.mean.proofs.hundredths.Goals as goal
 pub returns-then-not-agrees_alone : goal.returns-then-not-agrees_alone
 returns-then-not-agrees_alone c =
     let a = c.args in
-    sym (mean-disagrees (stored a.p a.bounds.now a.pos.now a.neg.now) (sym c.agrees_alone.ensures ∙ not-true _ c.if-not-agrees_alone.true))
+    sym (mean-disagrees (stored a.p a.bounds.now a.pos.now a.neg.now) (sym c.agrees_alone.ensures ∙ c.if-not-agrees_alone.true))
 
 pub returns : goal.returns
 returns c =
     let a = c.args in
     c.mean_of.ensures
     ∙ ap (λ (n : ℕ). mean_of n a.p.sum) (c.count_in.ensures ∙ count-is a.p.figures a.bounds.now a.pos.now a.neg.now)
-    ∙ sym (mean-agrees (stored a.p a.bounds.now a.pos.now a.neg.now) (sym c.agrees_alone.ensures ∙ not-false _ c.if-not-agrees_alone.false))
+    ∙ sym (mean-agrees (stored a.p a.bounds.now a.pos.now a.neg.now) (sym c.agrees_alone.ensures ∙ c.if-not-agrees_alone.false))

@@ -21,18 +21,18 @@ returns-then-count-eq0 c =
 
 pub nearest-requires : goal.nearest-requires
 nearest-requires c =
-    let told : sum_of c.args.sum ≡ Steps c.found-1.given.0.0 c.found-1.given.0.1.0 = sym c.sum_of-found.ensures ∙ c.found-1.given.1 in
+    let told : sum_of c.args.sum ≡ Steps c.in-Steps.negative c.in-Steps.steps = sym c.sum_of-found.ensures ∙ c.in-Steps.is in
     (steps-le _ _ _ (told), omega (arith, c.if-count-eq0.false))
 
 pub returns-in-OffGrid : goal.returns-in-OffGrid
 returns-in-OffGrid c =
     let a = c.args in
-    sym (mean-some a.count a.sum c.if-count-eq0.false ∙ ap (mean_by a.count) (sym c.sum_of-found.ensures ∙ c.enum_told-1.given.1))
+    sym (mean-some a.count a.sum c.if-count-eq0.false ∙ ap (mean_by a.count) (sym c.sum_of-found.ensures ∙ c.in-OffGrid.is))
 
 pub returns-in-Steps : goal.returns-in-Steps
 returns-in-Steps c =
-    let told : sum_of c.args.sum ≡ Steps c.found-1.given.0.0 c.found-1.given.0.1.0 = sym c.sum_of-found.ensures ∙ c.found-1.given.1 in
+    let told : sum_of c.args.sum ≡ Steps c.in-Steps.negative c.in-Steps.steps = sym c.sum_of-found.ensures ∙ c.in-Steps.is in
     let a = c.args in
     let held : SFits w64 c.signed.result = search rules in
-    ap success (to_z-of_z w64 c.signed.result held ∙ c.signed.ensures ∙ ap (λ (n : ℕ). signed c.found-1.given.0.0 n) c.nearest.ensures.0)
+    ap success (to_z-of_z w64 c.signed.result held ∙ c.signed.ensures ∙ ap (λ (n : ℕ). signed c.in-Steps.negative n) c.nearest.ensures.0)
     ∙ sym (mean-some a.count a.sum c.if-count-eq0.false ∙ ap (mean_by a.count) (told))

@@ -3,4 +3,4 @@ use Rattle.point.proofs.explicit_point.Goals as goal
 
 -- the point that is handed out is that of the head's own counts
 pub returns : goal.returns
-returns c = c.Handed-out.ensures
+returns c = c.handed_out.ensures

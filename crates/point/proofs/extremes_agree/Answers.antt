@@ -11,7 +11,7 @@ neither false = refl
 
 pub returns-in-None-max : goal.returns-in-None-max
 returns-in-None-max c =
-    neither c.args.due ∙ sym (λ j. extremes_agree c.args.due (c.enum_told-1.given.1 j) (c.enum_told-in-None-max-1.given.1 j))
+    neither c.args.due ∙ sym (λ j. extremes_agree c.args.due (c.in-None.is j) (c.in-None-max.is j))
 
 pub returns-in-Value-max-2 : goal.returns-in-Value-max-2
-returns-in-Value-max-2 c = c.values_Agree.ensures ∙ sym (λ j. extremes_agree c.args.due (c.min-1.given.1 j) (c.max-in-Value-1.given.1 j))
+returns-in-Value-max-2 c = c.values_agree.ensures ∙ sym (λ j. extremes_agree c.args.due (c.in-Value.is j) (c.in-Value-max-2.is j))

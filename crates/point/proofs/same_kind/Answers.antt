@@ -5,16 +5,16 @@ use Rattle.point.proofs.same_kind.Goals as goal
 
 pub returns-in-Exponential-g : goal.returns-in-Exponential-g
 returns-in-Exponential-g c =
-    sym (λ j. same_figures (c.f-1.given.1 j) c.args.bounds.now (c.g-1.given.1 j) c.args.others.now)
+    sym (λ j. same_figures (c.in-Exponential.is j) c.args.bounds.now (c.in-Exponential-g.is j) c.args.others.now)
 
 pub returns-in-Explicit-g : goal.returns-in-Explicit-g
 returns-in-Explicit-g c =
-    sym (λ j. same_figures (c.f-1.given.1 j) c.args.bounds.now (c.g-in-Exponential-1.given.1 j) c.args.others.now)
+    sym (λ j. same_figures (c.in-Exponential.is j) c.args.bounds.now (c.in-Explicit-g.is j) c.args.others.now)
 
 pub returns-in-Exponential-g-2 : goal.returns-in-Exponential-g-2
 returns-in-Exponential-g-2 c =
-    sym (λ j. same_figures (c.f-in-Explicit-f-1.given.1 j) c.args.bounds.now (c.g-in-Explicit-1.given.1 j) c.args.others.now)
+    sym (λ j. same_figures (c.in-Explicit.is j) c.args.bounds.now (c.in-Exponential-g-2.is j) c.args.others.now)
 
 pub returns-in-Explicit-g-2 : goal.returns-in-Explicit-g-2
 returns-in-Explicit-g-2 c =
-    c.same_bounds.ensures ∙ sym (λ j. same_figures (c.f-in-Explicit-f-1.given.1 j) c.args.bounds.now (c.g-in-Explicit-2-1.given.1 j) c.args.others.now)
+    c.same_bounds.ensures ∙ sym (λ j. same_figures (c.in-Explicit.is j) c.args.bounds.now (c.in-Explicit-g-2.is j) c.args.others.now)

@@ -9,15 +9,15 @@ use Rattle.whole_point.proofs.finish.Goals as goal
 
 pub returns-in-Refused : goal.returns-in-Refused
 returns-in-Refused c =
-    sym (ap (λ q. finished c.args.a c.args.b c.args.s (P.said q)) c.r-1.given.1)
+    sym (ap (λ q. finished c.args.a c.args.b c.args.s (P.said q)) c.in-Refused.is)
 
 pub returns-in-Merged : goal.returns-in-Merged
 returns-in-Merged c =
     (λ j. success (record {
-      figures = c.r-in-Merged-1.given.0.0.figures;
+      figures = c.in-Merged.p.figures;
       extremes = c.args.a.extremes;
       min = c.smaller-min.ensures j;
       max = c.larger-max.ensures j;
       sum = held c.args.s c.ranges.s j;
     }))
-    ∙ sym (ap (λ q. finished c.args.a c.args.b c.args.s (P.said q)) c.r-in-Merged-1.given.1)
+    ∙ sym (ap (λ q. finished c.args.a c.args.b c.args.s (P.said q)) c.in-Merged.is)

@@ -19,7 +19,7 @@ returns-in-Outside c =
     let told : c.sum-total.result ≡ sum_of c.args.a.sum c.args.b.sum = c.sum-total.ensures ∙ (λ j. sum_of (held c.args.a.sum (first-sum) j) (held c.args.b.sum (second-sum) j)) in
     let a = c.args in
     outside_law a.size (first) (second) a.pos.now a.neg.now
-    (sym (told) ∙ c.enum_told-1.given.1)
+    (sym (told) ∙ c.in-Outside.is)
     c.refusal-no.result c.last_number-n.result
     (c.refusal-no.ensures
     ∙ (λ j. P.refusal_before a.size (P.stored (c.shadow_of-x.ensures j) a.abounds.now a.apos.now a.aneg.now) (P.stored (c.shadow_of-y.ensures j) a.bbounds.now a.bpos.now a.bneg.now)))
@@ -32,10 +32,10 @@ returns-in-Is c =
     let first-sum : SFits w64 c.args.a.sum = search rules in
     let second-sum : SFits w64 c.args.b.sum = search rules in
     let told : c.sum-total.result ≡ sum_of c.args.a.sum c.args.b.sum = c.sum-total.ensures ∙ (λ j. sum_of (held c.args.a.sum (first-sum) j) (held c.args.b.sum (second-sum) j)) in
-    let whole_sum : SFits w64 c.total-1.given.0.0 = search rules in
+    let whole_sum : SFits w64 c.in-Is.s = search rules in
     let a = c.args in
-    inside_law a.size (first) (second) a.pos.now a.neg.now c.total-1.given.0.0 (sym (told) ∙ c.total-1.given.1)
+    inside_law a.size (first) (second) a.pos.now a.neg.now c.in-Is.s (sym (told) ∙ c.in-Is.is)
     (P.said c.merge-r.result) (said c.finish.result) c.merge-r.new.pos c.merge-r.new.neg
     (c.merge-r.ensures
     ∙ (λ j. P.merging a.size (P.stored (c.shadow_of-x.ensures j) a.abounds.now a.apos.now a.aneg.now) (P.stored (c.shadow_of-y.ensures j) a.bbounds.now a.bpos.now a.bneg.now) a.pos.now a.neg.now))
-    (c.finish.ensures ∙ ap (λ y. finished a.a a.b y (P.said c.merge-r.result)) (held c.total-1.given.0.0 (whole_sum)))
+    (c.finish.ensures ∙ ap (λ y. finished a.a a.b y (P.said c.merge-r.result)) (held c.in-Is.s (whole_sum)))

@@ -5,7 +5,7 @@ use Rattle.points.specs.Shadow.{shadow_of}
 use Rattle.whole_point.proofs.shadow_extreme.Goals as goal
 
 pub returns-in-None : goal.returns-in-None
-returns-in-None c = sym (ap shadow_of c.enum_told-1.given.1)
+returns-in-None c = sym (ap shadow_of c.in-None.is)
 
 pub returns-in-Value : goal.returns-in-Value
-returns-in-Value c = sym (ap shadow_of c.e-1.given.1)
+returns-in-Value c = sym (ap shadow_of c.in-Value.is)

@@ -8,5 +8,5 @@ pub returns-in-Exponential : goal.returns-in-Exponential
 returns-in-Exponential c =
     let a = c.args in
     c.row_offset.ensures
-    ∙ ap (offset_answer c.f-1.given.0.0.level) c.row_of-row.ensures
-    ∙ sym (ap (offset_shown a.negative) c.f-1.given.1)
+    ∙ ap (offset_answer c.in-Exponential.c.level) c.row_of-row.ensures
+    ∙ sym (ap (offset_shown a.negative) c.in-Exponential.is)

@@ -5,4 +5,4 @@ use borrow.Author.Rules.{rules}
 use Rattle.point.proofs.signed.scale.Goals as goal
 
 pub returns-in-Exponential : goal.returns-in-Exponential
-returns-in-Exponential c = c.scale_of.ensures ∙ sym (ap scale_shown c.f-1.given.1)
+returns-in-Exponential c = c.scale_of.ensures ∙ sym (ap scale_shown c.in-Exponential.is)

@@ -1,15 +1,13 @@
 -- Runs over i64, computed: 16 and the points of an explicit kind; and why a call refused with 16 counts in demand 3's premise. Assumes nothing.
-use Prim.Native.Nat.{ℕ}
 use mathlib.Core.Path.{◌≡◌, refl}
-use mathlib.Core.Bool.{true, false}
+use mathlib.Core.Bool.{true}
 use mathlib.Core.List.{List, [], ◌∷◌}
-use mathlib.Core.Logic.{inl, inr}
 use mathlib.Core.Option.{none}
 use lib.IntN.{ℤ, pos, negsuc}
 use lib.Ieee.{Float, binary64, of_bits, of_int, lt, is_nan, round}
 use Rattle.laws.specs.Pick.{pick}
 use Rattle.floats.specs.Starts.{zero_float}
-use Rattle.integers.specs.declared.Extreme.TheVariants.{None, Value}
+use Rattle.integers.specs.declared.Extreme.TheVariants.{Value}
 use Rattle.points.specs.Explicit.{bucket_of, buckets_of, record_bucket, buckets_agree, bounds_pass, no_nan, rising}
 use Rattle.points.specs.Counts.{explicit, explicit_counts}
 use Rattle.tally.specs.Sets.{Set, overflow}
@@ -19,7 +17,7 @@ use Rattle.tally.specs.Tally.{empty, tell, after}
 use Rattle.tally.specs.Demand.{ran}
 use Rattle.tally.proofs.MapSteps.{upfront, act, place, measure_at}
 use Rattle.tally.proofs.Example.{model}
-use Rattle.kinds.specs.Wholes.{Handed, handed, wholes}
+use Rattle.kinds.specs.Wholes.{Handed, wholes}
 
 -- the bounds 0.0 and 5.0
 abbrev bounds : List Float

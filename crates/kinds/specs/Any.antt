@@ -1,5 +1,5 @@
 -- The two histogram kinds over any number as one kind of series. Assumes nothing.
-use Rattle.std.specs.Prelude.{Bool, true, false, ◌&&◌, List, [], leb, length}
+use Rattle.std.specs.Prelude.{Bool, false, ◌&&◌, List, [], leb, length}
 use Rattle.index.specs.Bins.{finest, lowest_bin}
 use Rattle.points.specs.Agreement.{agrees}
 use Rattle.points.specs.Explicit.{bounds_pass, buckets_agree}

@@ -18,7 +18,7 @@ use Rattle.laws.proofs.Counting.{map-count, count-map-pos, many, many-replicate}
 use Rattle.laws.proofs.Search.{least_spec}
 use Rattle.index.specs.Bins.{finest, end_bin}
 use Rattle.points.specs.Points.{Row, row, row_of, expand, indices, fits, fits_both, scale, Bag, ◌⊕◌, one, bag_of, Point, build, point_of, bag, merge, record1, Value, naught, plus, minus}
-use Rattle.points.proofs.Rows.{Canonical, row_of-canonical, at-row_of, at_in, at-pos, count-expand, expand-row_of, at}
+use Rattle.points.proofs.Rows.{Canonical, row_of-canonical, at-row_of, at_in, at-pos, count-expand, expand-row_of}
 use Rattle.points.proofs.Agreement.{RowOk, Agreed}
 
 -- ---- bins in range d steps below the finest level: from that of low to the last of the level

@@ -12,8 +12,8 @@ use Rattle.floats.specs.Answers.{shows}
 use Rattle.integers.specs.Answers.{is_shown}
 use Rattle.integers.specs.declared.Extreme.{Extreme}
 use Rattle.integers.specs.declared.Extreme.TheVariants.{None, Value}
-use Rattle.points.specs.Counts.{count_of, counts_agree, size_asked, same_kind, merge_number}
-use Rattle.points.specs.Any.{Handed, shown_as_due, extremes_agree, shown_agrees, handed_agrees, mergeable, merge_handed, unmergeable}
+use Rattle.points.specs.Counts.{count_of, counts_agree, size_asked, merge_number}
+use Rattle.points.specs.Any.{Handed, extremes_agree, handed_agrees, mergeable, merge_handed, unmergeable}
 use Rattle.points.specs.Real.{finite_or_none, real}
 use Rattle.points.specs.Whole.{both_or_none, whole}
 use Rattle.points.specs.Shadow.{shadow_of, shadow}

@@ -1,5 +1,5 @@
 -- The numbers of document 01: f64. Assumes nothing.
-use Rattle.std.specs.Prelude.{ℕ, ◌≡◌, Bool, true, false, ◌&&◌, List, Float}
+use Rattle.std.specs.Prelude.{◌≡◌, Bool, true, false, ◌&&◌, List, Float}
 use Rattle.std.specs.Float.{binary64}
 use Rattle.std.specs.Float.Ieee.{add, eq, fits}
 use Rattle.std.specs.Float.Ieee.Scale.{finite}

@@ -8,12 +8,12 @@ returns-then-limit-gt-MOST_SETS c = over-limit c.args.limit c.args.present c.arg
 
 pub returns-then-not-present : goal.returns-then-not-present
 returns-then-not-present c =
-    no-filter c.args.limit c.args.present c.args.filter.now c.if-limit-gt-MOST_SETS.false (not-true _ c.if-not-present.true)
+    no-filter c.args.limit c.args.present c.args.filter.now c.if-limit-gt-MOST_SETS.false c.if-not-present.true
 
 pub returns-then-filter-gt-MOST_KEYS : goal.returns-then-filter-gt-MOST_KEYS
 returns-then-filter-gt-MOST_KEYS c =
-    many-keys c.args.limit c.args.present c.args.filter.now c.if-limit-gt-MOST_SETS.false (not-false _ c.if-not-present.false) c.if-filter-gt-MOST_KEYS.true
+    many-keys c.args.limit c.args.present c.args.filter.now c.if-limit-gt-MOST_SETS.false c.if-not-present.false c.if-filter-gt-MOST_KEYS.true
 
 pub returns : goal.returns
 returns c =
-    few-keys c.args.limit c.args.present c.args.filter.now c.if-limit-gt-MOST_SETS.false (not-false _ c.if-not-present.false) c.if-filter-gt-MOST_KEYS.false
+    few-keys c.args.limit c.args.present c.args.filter.now c.if-limit-gt-MOST_SETS.false c.if-not-present.false c.if-filter-gt-MOST_KEYS.false

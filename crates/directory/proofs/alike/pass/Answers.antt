@@ -8,78 +8,28 @@ use Rattle.directory.specs.Inner.{row_at}
 use Rattle.directory.proofs.Likes.{in-range, Passed, passed-more, alike_is}
 use Rattle.directory.proofs.alike.pass.Goals as goal
 
-pub overflow_cast-first : goal.overflow_cast-first
-overflow_cast-first c = omega (arith, c.shared_slice_known-2-1.given 0)
-
-pub offset_bounds-sets-first : goal.offset_bounds-sets-first
-offset_bounds-sets-first c =
-    let in-first : get_or c.args.order.now 0 0 < length c.args.sets.now = omega (arith, c.requires.5, c.requires.1) in
-    scaled_Fits _ _ 72 (in-first) c.well-formed.1.0.1
-
-pub bounds-sets-first : goal.bounds-sets-first
-bounds-sets-first c =
-    let in-first : get_or c.args.order.now 0 0 < length c.args.sets.now = omega (arith, c.requires.5, c.requires.1) in
-    in-first
-
-pub offset_bounds-sets-first-2 : goal.offset_bounds-sets-first-2
-offset_bounds-sets-first-2 c =
-    let in-first : get_or c.args.order.now 0 0 < length c.args.sets.now = omega (arith, c.requires.5, c.requires.1) in
-    scaled_Fits _ _ 72 (in-first) c.well-formed.1.0.1
-
-pub bounds-sets-first-2 : goal.bounds-sets-first-2
-bounds-sets-first-2 c =
-    let in-first : get_or c.args.order.now 0 0 < length c.args.sets.now = omega (arith, c.requires.5, c.requires.1) in
-    in-first
-
 pub loop-i-init : goal.loop-i-init
 loop-i-init c =
     (omega arith, c.requires.0, refl, (λ k h. passed-more c.args.used c.args.sets.now c.args.order.now c.args.from c.args.bits c.differing-d.result 0 c.differing-d.ensures (λ j u. absurd (omega arith)) c.requires.4 c.requires.5 (λ u. absurd (omega arith)) k (omega arith)))
 
-pub overflow_cast-q : goal.overflow_cast-q
-overflow_cast-q c = omega (arith, c.shared_slice_known-in-loop-i-1.given c.loop-i.i)
-
 pub returns-then-not-named : goal.returns-then-not-named
 returns-then-not-named c = λ e. true-not-false (sym e)
 
-pub offset_bounds-sets-q : goal.offset_bounds-sets-q
-offset_bounds-sets-q c =
-    let named : (1 ≤ get_or c.args.order.now c.loop-i.i 0) × (get_or c.args.order.now c.loop-i.i 0 ≤ c.args.used) = in-range c.args.used _ c.named.result c.named.ensures (not-false _ c.if-not-named.false) in
-    let in-q : get_or c.args.order.now c.loop-i.i 0 < length c.args.sets.now = omega (arith, c.requires.1, (named).1) in
-    scaled_Fits _ _ 72 (in-q) c.good.1.0.1
-
-pub bounds-sets-q : goal.bounds-sets-q
-bounds-sets-q c =
-    let named : (1 ≤ get_or c.args.order.now c.loop-i.i 0) × (get_or c.args.order.now c.loop-i.i 0 ≤ c.args.used) = in-range c.args.used _ c.named.result c.named.ensures (not-false _ c.if-not-named.false) in
-    let in-q : get_or c.args.order.now c.loop-i.i 0 < length c.args.sets.now = omega (arith, c.requires.1, (named).1) in
-    in-q
-
-pub offset_bounds-sets-q-in-loop-i : goal.offset_bounds-sets-q-in-loop-i
-offset_bounds-sets-q-in-loop-i c =
-    let named : (1 ≤ get_or c.args.order.now c.loop-i.i 0) × (get_or c.args.order.now c.loop-i.i 0 ≤ c.args.used) = in-range c.args.used _ c.named.result c.named.ensures (not-false _ c.if-not-named.false) in
-    let in-q : get_or c.args.order.now c.loop-i.i 0 < length c.args.sets.now = omega (arith, c.requires.1, (named).1) in
-    scaled_Fits _ _ 72 (in-q) c.good.1.0.1
-
-pub bounds-sets-q-else-not-named : goal.bounds-sets-q-else-not-named
-bounds-sets-q-else-not-named c =
-    let named : (1 ≤ get_or c.args.order.now c.loop-i.i 0) × (get_or c.args.order.now c.loop-i.i 0 ≤ c.args.used) = in-range c.args.used _ c.named.result c.named.ensures (not-false _ c.if-not-named.false) in
-    let in-q : get_or c.args.order.now c.loop-i.i 0 < length c.args.sets.now = omega (arith, c.requires.1, (named).1) in
-    in-q
-
 pub later-requires : goal.later-requires
 later-requires c =
-    let named : (1 ≤ get_or c.args.order.now c.loop-i.i 0) × (get_or c.args.order.now c.loop-i.i 0 ≤ c.args.used) = in-range c.args.used _ c.named.result c.named.ensures (not-false _ c.if-not-named.false) in
+    let named : (1 ≤ get_or c.args.order.now c.loop-i.i 0) × (get_or c.args.order.now c.loop-i.i 0 ≤ c.args.used) = in-range c.args.used _ c.named.result c.named.ensures c.if-not-named.false in
     let in-q : get_or c.args.order.now c.loop-i.i 0 < length c.args.sets.now = omega (arith, c.requires.1, (named).1) in
-    let p = c.loop-i.inv.3 (c.loop-i.i - 1) (omega (arith, c.loop-i.inv.0)) in
-    (c.loop-i.inv.0, omega (arith, c.loop-i-test.true, c.requires.2), omega (arith, p.1, c.requires.1), in-q, c.requires.3, c.loop-i.inv.2, refl)
+    let p = c.loop-i.invariant.3 (c.loop-i.i - 1) (omega (arith, c.loop-i.invariant.0)) in
+    (c.loop-i.invariant.0, omega (arith, c.loop-i-test.true, c.requires.2), omega (arith, p.1, c.requires.1), in-q, c.requires.3, c.loop-i.invariant.2, refl)
 
 pub returns-then-not-later : goal.returns-then-not-later
 returns-then-not-later c = λ e. true-not-false (sym e)
 
 pub loop-i-preserved : goal.loop-i-preserved
 loop-i-preserved c =
-    let named : (1 ≤ get_or c.args.order.now c.loop-i.i 0) × (get_or c.args.order.now c.loop-i.i 0 ≤ c.args.used) = in-range c.args.used _ c.named.result c.named.ensures (not-false _ c.if-not-named.false) in
+    let named : (1 ≤ get_or c.args.order.now c.loop-i.i 0) × (get_or c.args.order.now c.loop-i.i 0 ≤ c.args.used) = in-range c.args.used _ c.named.result c.named.ensures c.if-not-named.false in
     let n : c.loop-i.i ≡ c.loop-i.i + 1 - 1 = omega arith in
-    (omega (arith, c.loop-i.inv.0), omega (arith, c.loop-i-test.true), ap (λ (k : ℕ). get_or (row_at c.args.sets.now c.args.order.now k) c.args.from 0) n, passed-more c.args.used c.args.sets.now c.args.order.now c.args.from c.loop-i.d c.differing-e.result c.loop-i.i c.differing-e.ensures c.loop-i.inv.3 (named).0 (named).1 (λ u. c.later.ensures (not-false _ c.if-not-later.false)))
+    (omega (arith, c.loop-i.invariant.0), omega (arith, c.loop-i-test.true), ap (λ (k : ℕ). get_or (row_at c.args.sets.now c.args.order.now k) c.args.from 0) n, passed-more c.args.used c.args.sets.now c.args.order.now c.args.from c.loop-i.d c.differing-e.result c.loop-i.i c.differing-e.ensures c.loop-i.invariant.3 (named).0 (named).1 (λ u. c.later.ensures c.if-not-later.false))
 
 pub returns-then-not-same_keys : goal.returns-then-not-same_keys
 returns-then-not-same_keys c = λ e. true-not-false (sym e)
@@ -97,5 +47,5 @@ pub returns : goal.returns
 returns c =
     λ z. alike_is c.args.used c.args.sets.now c.args.order.now c.args.from c.loop-i.d
     (λ x h. c.loop-i.invariant.3 x (omega (arith, h, c.loop-i-test.false)))
-    (c.same_keys.ensures (not-false _ c.if-not-same_keys.false)) (sym c.sound.ensures ∙ not-false _ c.if-not-sound.false) c.requires.3
+    (c.same_keys.ensures c.if-not-same_keys.false) (sym c.sound.ensures ∙ c.if-not-sound.false) c.requires.3
     (λ j u. c.parting.ensures.alike j (omega arith) (omega (arith, c.if-parting-from.false, u)) ∙ get_or-replicate 9 j 0 0 (omega (arith, c.requires.3, u)))

@@ -9,46 +9,14 @@ use Rattle.directory.proofs.alike.quick.Goals as goal
 pub returns-then-used-lt6 : goal.returns-then-used-lt6
 returns-then-used-lt6 c = λ e. true-not-false (sym e)
 
-pub overflow_cast-first : goal.overflow_cast-first
-overflow_cast-first c = omega (arith, c.shared_slice_known-2-1.given 0)
-
 pub returns-then-not-named : goal.returns-then-not-named
 returns-then-not-named c = λ e. true-not-false (sym e)
-
-pub overflow_cast-last : goal.overflow_cast-last
-overflow_cast-last c = omega (arith, c.shared_slice_known-3-1.given (c.args.used - 1))
 
 pub returns-then-not-named-2 : goal.returns-then-not-named-2
 returns-then-not-named-2 c = λ e. true-not-false (sym e)
 
 pub returns-then-not-same_keys : goal.returns-then-not-same_keys
 returns-then-not-same_keys c = λ e. true-not-false (sym e)
-
-pub offset_bounds-sets-first : goal.offset_bounds-sets-first
-offset_bounds-sets-first c =
-    let first : (1 ≤ get_or c.args.order.now 0 0) × (get_or c.args.order.now 0 0 ≤ c.args.used) = in-range c.args.used _ c.named.result c.named.ensures (not-false _ c.if-not-named.false) in
-    let in-first : get_or c.args.order.now 0 0 < length c.args.sets.now = omega (arith, (first).1, c.requires.0) in
-    scaled_Fits _ _ 72 (in-first) c.well-formed.1.0.1
-
-pub bounds-sets-first : goal.bounds-sets-first
-bounds-sets-first c =
-    let first : (1 ≤ get_or c.args.order.now 0 0) × (get_or c.args.order.now 0 0 ≤ c.args.used) = in-range c.args.used _ c.named.result c.named.ensures (not-false _ c.if-not-named.false) in
-    let in-first : get_or c.args.order.now 0 0 < length c.args.sets.now = omega (arith, (first).1, c.requires.0) in
-    in-first
-
-pub offset_bounds-sets-last : goal.offset_bounds-sets-last
-offset_bounds-sets-last c =
-    let in-last : get_or c.args.order.now (c.args.used - 1) 0 < length c.args.sets.now =
-    let r = in-range c.args.used (get_or c.args.order.now (c.args.used - 1) 0) c.named-2.result c.named-2.ensures (not-false _ c.if-not-named-2.false) in
-    omega (arith, r.1, c.requires.0) in
-    scaled_Fits _ _ 72 (in-last) c.well-formed.1.0.1
-
-pub bounds-sets-last : goal.bounds-sets-last
-bounds-sets-last c =
-    let in-last : get_or c.args.order.now (c.args.used - 1) 0 < length c.args.sets.now =
-    let r = in-range c.args.used (get_or c.args.order.now (c.args.used - 1) 0) c.named-2.result c.named-2.ensures (not-false _ c.if-not-named-2.false) in
-    omega (arith, r.1, c.requires.0) in
-    in-last
 
 pub parting-from-requires : goal.parting-from-requires
 parting-from-requires c = omega arith
@@ -58,10 +26,10 @@ returns-then-not-pays c = λ e. true-not-false (sym e)
 
 pub pass-requires : goal.pass-requires
 pass-requires c =
-    let first : (1 ≤ get_or c.args.order.now 0 0) × (get_or c.args.order.now 0 0 ≤ c.args.used) = in-range c.args.used _ c.named.result c.named.ensures (not-false _ c.if-not-named.false) in
-    (omega (arith, c.if-used-lt6.left), c.requires.0, c.requires.1, c.parting-from.ensures.most, (first).0, (first).1)
+    let first : (1 ≤ get_or c.args.order.now 0 0) × (get_or c.args.order.now 0 0 ≤ c.args.used) = in-range c.args.used _ c.named.result c.named.ensures c.if-not-named.false in
+    (omega (arith, c.if-used-lt6.false), c.requires.0, c.requires.1, c.parting-from.ensures.most, (first).0, (first).1)
 
 pub returns : goal.returns
 returns c =
-    let p = c.pays.ensures (not-false _ c.if-not-pays.false) in
+    let p = c.pays.ensures c.if-not-pays.false in
     λ z. placed_alike c.args.used c.args.sets.now c.args.order.now _ (c.pass.ensures z) p.0 p.1

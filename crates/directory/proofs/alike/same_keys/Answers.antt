@@ -8,4 +8,4 @@ pub returns-then-d-ne0 : goal.returns-then-d-ne0
 returns-then-d-ne0 c = λ e. true-not-false (sym e)
 
 pub returns : goal.returns
-returns c = λ e. record { long = c.if-d-ne0.false; keys = all-below c.args.t1 4294967296 (ltb-true _ _ e) }
+returns c = λ e. record { long = c.if-d-ne0.false; keys = all-below c.args.d 4294967296 (ltb-true _ _ e) }

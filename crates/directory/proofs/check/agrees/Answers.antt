@@ -15,16 +15,16 @@ returns-then-used-limit c =
 pub returns-then-not-births : goal.returns-then-not-births
 returns-then-not-births c =
     let stores : Stores = record { sets = c.args.sets.now; entries = c.args.entries.now; order = c.args.order.now } in
-    sym (agree_births c.args.limit c.args.d (stores) (sym c.births.ensures ∙ not-true _ c.if-not-births.true))
+    sym (agree_births c.args.limit c.args.d (stores) (sym c.births.ensures ∙ c.if-not-births.true))
 
 pub returns-in-Broken : goal.returns-in-Broken
 returns-in-Broken c =
     let stores : Stores = record { sets = c.args.sets.now; entries = c.args.entries.now; order = c.args.order.now } in
-    sym (agree-places c.args.limit c.args.d (stores) (placed_broken c.args.d.used c.args.sets.now c.args.order.now (sym c.places.ensures ∙ c.enum_told-1.given.1)))
+    sym (agree-places c.args.limit c.args.d (stores) (placed_broken c.args.d.used c.args.sets.now c.args.order.now (sym c.places.ensures ∙ c.in-Broken.is)))
 
 pub returns-in-Plain : goal.returns-in-Plain
 returns-in-Plain c =
     let stores : Stores = record { sets = c.args.sets.now; entries = c.args.entries.now; order = c.args.order.now } in
-    let right : bornb c.args.d.used c.args.d.last c.args.entries.now ≡ true = sym c.births.ensures ∙ not-false _ c.if-not-births.false in
+    let right : bornb c.args.d.used c.args.d.last c.args.entries.now ≡ true = sym c.births.ensures ∙ c.if-not-births.false in
     c.counts.ensures
-    ∙ sym (agree-counts c.args.limit c.args.d (stores) c.if-used-limit.false (right) _ (placed-plain c.args.d.used c.args.sets.now c.args.order.now _ (sym c.places.ensures ∙ c.n-1.given.1)))
+    ∙ sym (agree-counts c.args.limit c.args.d (stores) c.if-used-limit.false (right) _ (placed-plain c.args.d.used c.args.sets.now c.args.order.now _ (sym c.places.ensures ∙ c.in-Plain.is)))

@@ -9,38 +9,11 @@ use Rattle.directory.proofs.find.born_by.Goals as goal
 half : (l h : ℕ) → l + 1 < h → (l < l + (h - l) / 2) × (l + (h - l) / 2 < h)
 half l h u = (omega arith, omega arith)
 
-pub overflow_add-high : goal.overflow_add-high
-overflow_add-high c = omega (arith, c.requires.0, c.well-formed.1.0.1)
-
 pub loop-low-init : goal.loop-low-init
 loop-low-init c = (omega arith, omega arith, omega arith, λ y a b. absurd (omega (arith, a, b)))
 
-pub overflow_add-low : goal.overflow_add-low
-overflow_add-low c = omega (arith, c.loop-low.invariant.0, c.loop-low.invariant.1, c.requires.0, c.well-formed.1.0.1)
-
 pub overflow_sub-mid : goal.overflow_sub-mid
 overflow_sub-mid c = omega (arith, c.loop-low.invariant.0)
-
-pub overflow_add-mid : goal.overflow_add-mid
-overflow_add-mid c =
-    let mid : ℕ = c.loop-low.low + (c.loop-low.high - c.loop-low.low) / 2 in
-    let between : (c.loop-low.low < mid) × (mid < c.loop-low.high) = half c.loop-low.low c.loop-low.high c.loop-low-test.true in
-    let inside : mid < length c.args.entries.now = omega (arith, (between).1, c.loop-low.invariant.1, c.requires.0) in
-    omega (arith, inside, c.well-formed.1.0.1)
-
-pub offset_bounds-entries-mid : goal.offset_bounds-entries-mid
-offset_bounds-entries-mid c =
-    let mid : ℕ = c.loop-low.low + (c.loop-low.high - c.loop-low.low) / 2 in
-    let between : (c.loop-low.low < mid) × (mid < c.loop-low.high) = half c.loop-low.low c.loop-low.high c.loop-low-test.true in
-    let inside : mid < length c.args.entries.now = omega (arith, (between).1, c.loop-low.invariant.1, c.requires.0) in
-    scaled_Fits _ _ 24 (inside) c.well-formed.1.0.1
-
-pub bounds-entries-mid : goal.bounds-entries-mid
-bounds-entries-mid c =
-    let mid : ℕ = c.loop-low.low + (c.loop-low.high - c.loop-low.low) / 2 in
-    let between : (c.loop-low.low < mid) × (mid < c.loop-low.high) = half c.loop-low.low c.loop-low.high c.loop-low-test.true in
-    let inside : mid < length c.args.entries.now = omega (arith, (between).1, c.loop-low.invariant.1, c.requires.0) in
-    inside
 
 pub loop-low-smaller-then-entries-mid : goal.loop-low-smaller-then-entries-mid
 loop-low-smaller-then-entries-mid c =

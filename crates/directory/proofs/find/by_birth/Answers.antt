@@ -19,16 +19,6 @@ birth_of-b-requires c =
     let there : c.born_by-y.result < length c.args.entries.now = omega (arith, c.born_by-y.ensures.there, c.requires.0) in
     there
 
-pub offset_bounds-entries-y : goal.offset_bounds-entries-y
-offset_bounds-entries-y c =
-    let there : c.born_by-y.result < length c.args.entries.now = omega (arith, c.born_by-y.ensures.there, c.requires.0) in
-    scaled_Fits _ _ 24 (there) c.well-formed.1.0.1
-
-pub bounds-entries-y : goal.bounds-entries-y
-bounds-entries-y c =
-    let there : c.born_by-y.result < length c.args.entries.now = omega (arith, c.born_by-y.ensures.there, c.requires.0) in
-    there
-
 pub returns-then-names : goal.returns-then-names
 returns-then-names c =
     let stores : Stores = record { sets = c.requires.1.sets; entries = c.args.entries.now; order = c.args.order.now } in

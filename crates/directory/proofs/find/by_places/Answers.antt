@@ -14,33 +14,6 @@ pub loop-i-init : goal.loop-i-init
 loop-i-init c =
     (omega arith, scan-skip c.args.h c.args.entries.now c.args.order.now c.args.used (sym c.names.ensures ∙ c.if-names.false))
 
-pub overflow_cast-q : goal.overflow_cast-q
-overflow_cast-q c = omega (arith, c.shared_slice_known-in-loop-i-1.given c.loop-i.i)
-
-pub offset_bounds-entries-q : goal.offset_bounds-entries-q
-offset_bounds-entries-q c =
-    let slot_of : (1 ≤ get_or c.args.order.now c.loop-i.i 0) × (get_or c.args.order.now c.loop-i.i 0 ≤ c.args.used) = c.requires.2 c.loop-i.i c.loop-i-test.true in
-    let in-q : get_or c.args.order.now c.loop-i.i 0 < length c.args.entries.now = omega (arith, c.requires.0, (slot_of).1) in
-    scaled_Fits _ _ 24 (in-q) c.good.1.0.1
-
-pub bounds-entries-q : goal.bounds-entries-q
-bounds-entries-q c =
-    let slot_of : (1 ≤ get_or c.args.order.now c.loop-i.i 0) × (get_or c.args.order.now c.loop-i.i 0 ≤ c.args.used) = c.requires.2 c.loop-i.i c.loop-i-test.true in
-    let in-q : get_or c.args.order.now c.loop-i.i 0 < length c.args.entries.now = omega (arith, c.requires.0, (slot_of).1) in
-    in-q
-
-pub offset_bounds-entries-q-in-loop-i : goal.offset_bounds-entries-q-in-loop-i
-offset_bounds-entries-q-in-loop-i c =
-    let slot_of : (1 ≤ get_or c.args.order.now c.loop-i.i 0) × (get_or c.args.order.now c.loop-i.i 0 ≤ c.args.used) = c.requires.2 c.loop-i.i c.loop-i-test.true in
-    let in-q : get_or c.args.order.now c.loop-i.i 0 < length c.args.entries.now = omega (arith, c.requires.0, (slot_of).1) in
-    scaled_Fits _ _ 24 (in-q) c.good.1.0.1
-
-pub bounds-entries-q-in-loop-i : goal.bounds-entries-q-in-loop-i
-bounds-entries-q-in-loop-i c =
-    let slot_of : (1 ≤ get_or c.args.order.now c.loop-i.i 0) × (get_or c.args.order.now c.loop-i.i 0 ≤ c.args.used) = c.requires.2 c.loop-i.i c.loop-i-test.true in
-    let in-q : get_or c.args.order.now c.loop-i.i 0 < length c.args.entries.now = omega (arith, c.requires.0, (slot_of).1) in
-    in-q
-
 pub returns-then-names-2 : goal.returns-then-names-2
 returns-then-names-2 c =
     let slot_of : (1 ≤ get_or c.args.order.now c.loop-i.i 0) × (get_or c.args.order.now c.loop-i.i 0 ≤ c.args.used) = c.requires.2 c.loop-i.i c.loop-i-test.true in

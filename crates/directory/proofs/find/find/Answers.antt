@@ -21,53 +21,6 @@ pub loop-low-init : goal.loop-low-init
 loop-low-init c =
     (omega arith, omega arith, (λ k h. absurd (omega arith)), (λ k h l. absurd (omega arith)), sought-named _ _ _ _ (named-row c.args.wanted.now c.if-wanted-eq0.false))
 
-pub overflow_add-mid : goal.overflow_add-mid
-overflow_add-mid c =
-    let mid : ℕ = c.loop-low.low + (c.loop-low.high - c.loop-low.low) / 2 in
-    let below-high : mid < c.loop-low.high = (half c.loop-low.low c.loop-low.high c.loop-low-test.true).1 in
-    let inside : mid < c.args.used = omega (arith, below-high, c.loop-low.invariant.1) in
-    let in_order : mid < length c.args.order.now = omega (arith, c.requires.1, inside) in
-    omega (arith, in_order, c.well-formed.1.1.0.1)
-
-pub offset_bounds-order-mid : goal.offset_bounds-order-mid
-offset_bounds-order-mid c =
-    let mid : ℕ = c.loop-low.low + (c.loop-low.high - c.loop-low.low) / 2 in
-    let below-high : mid < c.loop-low.high = (half c.loop-low.low c.loop-low.high c.loop-low-test.true).1 in
-    let inside : mid < c.args.used = omega (arith, below-high, c.loop-low.invariant.1) in
-    let in_order : mid < length c.args.order.now = omega (arith, c.requires.1, inside) in
-    scaled_Fits _ _ 4 (in_order) c.well-formed.1.1.0.1
-
-pub bounds-order-mid : goal.bounds-order-mid
-bounds-order-mid c =
-    let mid : ℕ = c.loop-low.low + (c.loop-low.high - c.loop-low.low) / 2 in
-    let below-high : mid < c.loop-low.high = (half c.loop-low.low c.loop-low.high c.loop-low-test.true).1 in
-    let inside : mid < c.args.used = omega (arith, below-high, c.loop-low.invariant.1) in
-    let in_order : mid < length c.args.order.now = omega (arith, c.requires.1, inside) in
-    in_order
-
-pub overflow_cast-q : goal.overflow_cast-q
-overflow_cast-q c =
-    let mid : ℕ = c.loop-low.low + (c.loop-low.high - c.loop-low.low) / 2 in
-    omega (arith, c.shared_slice_known-in-loop-low-1.given (mid))
-
-pub offset_bounds-sets-q : goal.offset_bounds-sets-q
-offset_bounds-sets-q c =
-    let mid : ℕ = c.loop-low.low + (c.loop-low.high - c.loop-low.low) / 2 in
-    let below-high : mid < c.loop-low.high = (half c.loop-low.low c.loop-low.high c.loop-low-test.true).1 in
-    let inside : mid < c.args.used = omega (arith, below-high, c.loop-low.invariant.1) in
-    let slot_of : (1 ≤ get_or c.args.order.now (mid) 0) × (get_or c.args.order.now (mid) 0 ≤ c.args.used) = c.requires.3 (mid) (inside) in
-    let in-q : get_or c.args.order.now (mid) 0 < length c.args.sets.now = omega (arith, c.requires.0, (slot_of).1) in
-    scaled_Fits _ _ 72 (in-q) c.good.1.0.1
-
-pub bounds-sets-q : goal.bounds-sets-q
-bounds-sets-q c =
-    let mid : ℕ = c.loop-low.low + (c.loop-low.high - c.loop-low.low) / 2 in
-    let below-high : mid < c.loop-low.high = (half c.loop-low.low c.loop-low.high c.loop-low-test.true).1 in
-    let inside : mid < c.args.used = omega (arith, below-high, c.loop-low.invariant.1) in
-    let slot_of : (1 ≤ get_or c.args.order.now (mid) 0) × (get_or c.args.order.now (mid) 0 ≤ c.args.used) = c.requires.3 (mid) (inside) in
-    let in-q : get_or c.args.order.now (mid) 0 < length c.args.sets.now = omega (arith, c.requires.0, (slot_of).1) in
-    in-q
-
 pub compare-w-requires : goal.compare-w-requires
 compare-w-requires c =
     let mid : ℕ = c.loop-low.low + (c.loop-low.high - c.loop-low.low) / 2 in
@@ -91,7 +44,7 @@ loop-low-preserved-in-Before c =
       (half c.loop-low.low c.loop-low.high c.loop-low-test.true).0,
       omega (arith, inside),
       c.loop-low.invariant.2,
-      beyond (set_of c.args.wanted.now) c.args.used c.args.sets.now c.args.order.now c.requires.5 (mid) (way-lt (lie) (sym c.compare-w.ensures ∙ c.enum_told-1.given.1)),
+      beyond (set_of c.args.wanted.now) c.args.used c.args.sets.now c.args.order.now c.requires.5 (mid) (way-lt (lie) (sym c.compare-w.ensures ∙ c.in-Before.is)),
       c.loop-low.invariant.4,
     )
 
@@ -101,15 +54,7 @@ returns-in-Same c =
     let below-high : mid < c.loop-low.high = (half c.loop-low.low c.loop-low.high c.loop-low-test.true).1 in
     let inside : mid < c.args.used = omega (arith, below-high, c.loop-low.invariant.1) in
     let lie : Ordering = cmp (set_of c.args.wanted.now) (set_of (get_or c.args.sets.now (get_or c.args.order.now (mid) 0) [])) in
-    sym (c.loop-low.invariant.4 ∙ held-at (set_of c.args.wanted.now) c.args.used c.args.sets.now c.args.order.now c.requires.5 c.requires.3 (mid) (inside) (way-eq (lie) (sym c.compare-w.ensures ∙ c.enum_told-in-Same-1.given.1)))
-
-pub overflow_add-low : goal.overflow_add-low
-overflow_add-low c =
-    let mid : ℕ = c.loop-low.low + (c.loop-low.high - c.loop-low.low) / 2 in
-    let below-high : mid < c.loop-low.high = (half c.loop-low.low c.loop-low.high c.loop-low-test.true).1 in
-    let inside : mid < c.args.used = omega (arith, below-high, c.loop-low.invariant.1) in
-    let in_order : mid < length c.args.order.now = omega (arith, c.requires.1, inside) in
-    omega (arith, in_order, c.well-formed.1.1.0.1)
+    sym (c.loop-low.invariant.4 ∙ held-at (set_of c.args.wanted.now) c.args.used c.args.sets.now c.args.order.now c.requires.5 c.requires.3 (mid) (inside) (way-eq (lie) (sym c.compare-w.ensures ∙ c.in-Same.is)))
 
 pub loop-low-smaller : goal.loop-low-smaller
 loop-low-smaller c =
@@ -125,7 +70,7 @@ loop-low-preserved c =
     let lie : Ordering = cmp (set_of c.args.wanted.now) (set_of (get_or c.args.sets.now (get_or c.args.order.now (mid) 0) [])) in (
       omega (arith, below-high),
       c.loop-low.invariant.1,
-      beneath (set_of c.args.wanted.now) c.args.used c.args.sets.now c.args.order.now c.requires.5 (mid) (inside) (way_gt (lie) (sym c.compare-w.ensures ∙ c.enum_told-in-After-1.given.1)),
+      beneath (set_of c.args.wanted.now) c.args.used c.args.sets.now c.args.order.now c.requires.5 (mid) (inside) (way_gt (lie) (sym c.compare-w.ensures ∙ c.in-After.is)),
       c.loop-low.invariant.3,
       c.loop-low.invariant.4,
     )

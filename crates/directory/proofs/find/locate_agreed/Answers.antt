@@ -22,7 +22,7 @@ find-requires c =
 pub returns-then-d-limit : goal.returns-then-d-limit
 returns-then-d-limit c =
     let stores : Stores = record { sets = c.args.sets.now; entries = c.args.entries.now; order = c.args.order.now } in
-    sym (located-new c.args.limit c.args.d (stores) c.args.row.now c.requires.4 _ (sym c.find.ensures ∙ c.r-1.given.1) c.if-d-limit.true)
+    sym (located-new c.args.limit c.args.d (stores) c.args.row.now c.requires.4 _ (sym c.find.ensures ∙ c.in-Room.is) c.if-d-limit.true)
 
 pub find-requires-in-Room : goal.find-requires-in-Room
 find-requires-in-Room c =
@@ -37,14 +37,14 @@ find-requires-in-Room c =
 pub returns-in-Held : goal.returns-in-Held
 returns-in-Held c =
     let stores : Stores = record { sets = c.args.sets.now; entries = c.args.entries.now; order = c.args.order.now } in
-    sym (located-old c.args.limit c.args.d (stores) c.args.row.now c.requires.4 _ (sym c.find.ensures ∙ c.x-1.given.1))
+    sym (located-old c.args.limit c.args.d (stores) c.args.row.now c.requires.4 _ (sym c.find.ensures ∙ c.in-Held.is))
 
 pub returns-in-Held-find : goal.returns-in-Held-find
 returns-in-Held-find c =
     let stores : Stores = record { sets = c.args.sets.now; entries = c.args.entries.now; order = c.args.order.now } in
-    sym (located-over-old c.args.limit c.args.d (stores) c.args.row.now c.requires.4 _ (sym c.find.ensures ∙ c.r-1.given.1) c.if-d-limit.false _ (sym c.find-in-Room.ensures ∙ c.x-in-Held-find-2-1.given.1))
+    sym (located-over-old c.args.limit c.args.d (stores) c.args.row.now c.requires.4 _ (sym c.find.ensures ∙ c.in-Room.is) c.if-d-limit.false _ (sym c.find-in-Room.ensures ∙ c.in-Held-find.is))
 
 pub returns-in-Room-find : goal.returns-in-Room-find
 returns-in-Room-find c =
     let stores : Stores = record { sets = c.args.sets.now; entries = c.args.entries.now; order = c.args.order.now } in
-    sym (located-over c.args.limit c.args.d (stores) c.args.row.now c.requires.4 _ (sym c.find.ensures ∙ c.r-1.given.1) c.if-d-limit.false _ (sym c.find-in-Room.ensures ∙ c.q-1.given.1))
+    sym (located-over c.args.limit c.args.d (stores) c.args.row.now c.requires.4 _ (sym c.find.ensures ∙ c.in-Room.is) c.if-d-limit.false _ (sym c.find-in-Room.ensures ∙ c.in-Room-find.is))

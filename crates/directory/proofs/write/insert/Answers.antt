@@ -9,46 +9,19 @@ loop-i-init c =
     (omega arith, omega arith, refl, start c.args.order.now c.args.used c.requires.1)
 
 -- src/lib.rt:13:26
-pub overflow_sub-order : goal.overflow_sub-order
-overflow_sub-order c = search rules
-
 -- src/lib.rt:13:20
-pub offset_bounds-order-i : goal.offset_bounds-order-i
-offset_bounds-order-i c = search rules
-
 -- src/lib.rt:13:20
-pub bounds-order-i : goal.bounds-order-i
-bounds-order-i c = search rules
-
 -- src/lib.rt:13:9
-pub offset_bounds-order-i-in-loop-i : goal.offset_bounds-order-i-in-loop-i
-offset_bounds-order-i-in-loop-i c = search rules
-
 -- src/lib.rt:13:9
-pub bounds-order-i-in-loop-i : goal.bounds-order-i-in-loop-i
-bounds-order-i-in-loop-i c = search rules
-
 -- src/lib.rt:14:9
-pub overflow_sub-i : goal.overflow_sub-i
-overflow_sub-i c = search rules
-
 -- src/lib.rt:12:5
-pub loop-i-smaller : goal.loop-i-smaller
-loop-i-smaller c = search rules
-
 -- src/lib.rt:12:5
 pub loop-i-preserved : goal.loop-i-preserved
 loop-i-preserved c =
     (omega arith, omega arith, length-set c.loop-i.order c.loop-i.i _ ∙ c.loop-i.invariant.2, ap (λ (o : List ℕ). set o c.loop-i.i (get_or o (c.loop-i.i - 1) 0)) c.loop-i.invariant.3 ∙ turn c.args.order.now c.args.used c.requires.1 c.loop-i.i (omega arith) c.loop-i.invariant.1)
 
 -- src/lib.rt:16:5
-pub offset_bounds-order-at : goal.offset_bounds-order-at
-offset_bounds-order-at c = search rules
-
 -- src/lib.rt:16:5
-pub bounds-order-at : goal.bounds-order-at
-bounds-order-at c = search rules
-
 -- src/lib.rt:7:1
 pub shape_of-order : goal.shape_of-order
 shape_of-order c =

@@ -1,5 +1,5 @@
 -- `directory::is_updated` meets its contract. Assumes nothing.
-use Rattle.std.proofs.Common.{not, sym, ap, rules, eq-eqb, ne_eqb}
+use Rattle.std.proofs.Common.{not, sym, ap, eq-eqb, ne_eqb}
 use Rattle.directory.proofs.is_updated.Goals as goal
 
 pub returns-then-entries-x-eq0 : goal.returns-then-entries-x-eq0

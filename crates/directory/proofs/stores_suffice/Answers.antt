@@ -1,5 +1,5 @@
 -- `directory::stores_suffice` meets its contract. Assumes nothing.
-use Rattle.std.proofs.Common.{◌+◌, ap, not, false, leb, rules}
+use Rattle.std.proofs.Common.{◌+◌, ap, not, false, leb}
 use Rattle.directory.proofs.Refusals.{first-no, second-no, third}
 use Rattle.directory.proofs.stores_suffice.Goals as goal
 

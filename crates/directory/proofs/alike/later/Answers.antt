@@ -1,5 +1,5 @@
 -- `directory::alike::later` meets its contract. Assumes nothing.
-use Rattle.std.proofs.Common.{◌-◌, ◌<◌, get_or, arith, rules}
+use Rattle.std.proofs.Common.{◌-◌, ◌<◌, get_or, arith}
 use Rattle.sets.proofs.Partings.{part-first}
 use Rattle.directory.specs.Inner.{row_at}
 use Rattle.directory.proofs.alike.later.Goals as goal

@@ -1,5 +1,5 @@
 -- `directory::alike::lower` meets its contract. Assumes nothing.
-use Rattle.std.proofs.Common.{sym, rules, ltb-true}
+use Rattle.std.proofs.Common.{sym, ltb-true}
 use Rattle.laws.proofs.Cases.{true-not-false}
 use Rattle.sets.proofs.Partings.{part_low, parted-whole}
 use Rattle.directory.proofs.alike.lower.Goals as goal

@@ -1,5 +1,5 @@
 -- `directory::alike::named` meets its contract. Assumes nothing.
-use Rattle.std.proofs.Common.{arith, rules}
+use Rattle.std.proofs.Common.{arith}
 use Rattle.directory.proofs.Likes.{named-is}
 use Rattle.directory.proofs.alike.named.Goals as goal
 

@@ -1,11 +1,9 @@
 -- `directory::alike::pass` meets its contract. Assumes nothing.
-use Rattle.std.proofs.Common.{◌≡◌, ℕ, ◌+◌, ◌-◌, ◌<◌, ◌≤◌, [], length, get_or, sym, refl, ap, ◌∙◌, arith, rules}
-use borrow.Author.Rules.{scaled_Fits}
-use borrow.Author.Tests.{not-false}
+use Rattle.std.proofs.Common.{◌≡◌, ℕ, ◌+◌, ◌-◌, ◌<◌, ◌≤◌, length, get_or, sym, refl, ap, ◌∙◌, arith}
 use lib.ListN.{get_or-replicate}
 use Rattle.laws.proofs.Cases.{true-not-false}
 use Rattle.directory.specs.Inner.{row_at}
-use Rattle.directory.proofs.Likes.{in-range, Passed, passed-more, alike_is}
+use Rattle.directory.proofs.Likes.{in-range, passed-more, alike_is}
 use Rattle.directory.proofs.alike.pass.Goals as goal
 
 pub loop-i-init : goal.loop-i-init

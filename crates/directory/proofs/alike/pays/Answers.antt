@@ -1,5 +1,5 @@
 -- `directory::alike::pays` meets its contract. Assumes nothing.
-use Rattle.std.proofs.Common.{◌+◌, sym, arith, rules, ltb-true}
+use Rattle.std.proofs.Common.{◌+◌, sym, arith, ltb-true}
 use Rattle.laws.proofs.Cases.{true-not-false}
 use Rattle.directory.proofs.alike.pays.Goals as goal
 

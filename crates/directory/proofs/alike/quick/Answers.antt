@@ -1,7 +1,5 @@
 -- `directory::alike::quick` meets its contract. Assumes nothing.
-use Rattle.std.proofs.Common.{◌-◌, ◌<◌, ◌≤◌, length, get_or, sym, arith, rules}
-use borrow.Author.Rules.{scaled_Fits}
-use borrow.Author.Tests.{not-false}
+use Rattle.std.proofs.Common.{◌≤◌, get_or, sym, arith}
 use Rattle.laws.proofs.Cases.{true-not-false}
 use Rattle.directory.proofs.Likes.{in-range, placed_alike}
 use Rattle.directory.proofs.alike.quick.Goals as goal

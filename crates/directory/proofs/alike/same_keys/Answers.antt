@@ -1,5 +1,5 @@
 -- `directory::alike::same_keys` meets its contract. Assumes nothing.
-use Rattle.std.proofs.Common.{sym, rules, ltb-true}
+use Rattle.std.proofs.Common.{sym, ltb-true}
 use Rattle.laws.proofs.Cases.{true-not-false}
 use Rattle.directory.proofs.Bitwise.{all-below}
 use Rattle.directory.proofs.alike.same_keys.Goals as goal

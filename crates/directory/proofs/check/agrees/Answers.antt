@@ -1,6 +1,5 @@
 -- `directory::check::agrees` meets its contract. Assumes nothing.
-use Rattle.std.proofs.Common.{◌≡◌, true, sym, ◌∙◌, rules}
-use borrow.Author.Tests.{not-true, not-false}
+use Rattle.std.proofs.Common.{◌≡◌, true, sym, ◌∙◌}
 use Rattle.directory.specs.View.{Stores}
 use Rattle.directory.specs.Inner.{bornb}
 use Rattle.directory.proofs.Agreed.{placed_broken, placed-plain}

@@ -1,5 +1,5 @@
 -- `directory::check::births` meets its contract. Assumes nothing.
-use Rattle.std.proofs.Common.{◌≡◌, ℕ, ◌+◌, ◌-◌, ◌<◌, ◌≤◌, true, [], get_or, sym, refl, ap, ◌∙◌, subst, arith, rules}
+use Rattle.std.proofs.Common.{◌≡◌, ℕ, ◌+◌, true, [], get_or, sym, refl, ap, ◌∙◌, subst, arith}
 use Rattle.sets.specs.All.{allb}
 use Rattle.sets.proofs.Alls.{allb-none, allb-more, allb-no}
 use Rattle.directory.specs.View.{born_at, birth_at}

@@ -1,9 +1,7 @@
 -- `directory::check::births` meets its contract. Assumes nothing.
-use Rattle.std.proofs.Common.{◌≡◌, ℕ, ◌+◌, ◌-◌, ◌<◌, ◌≤◌, true, [], get_or, sym, refl, ap, ◌∙◌, subst, arith, rules}
+use Rattle.std.proofs.Common.{◌≡◌, ◌-◌, ◌≤◌, true}
 use Rattle.sets.specs.All.{allb}
-use Rattle.sets.proofs.Alls.{allb-none, allb-more, allb-no}
 use Rattle.directory.specs.View.{born_at, birth_at}
-use Rattle.directory.proofs.Checks.{birth-named, born-late, born-yes, births-no, births-end}
 use Rattle.directory.proofs.check.births.Given as goal
 
 abbrev pub invariant-loop-i : goal.invariant-loop-i

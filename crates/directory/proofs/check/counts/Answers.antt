@@ -1,5 +1,5 @@
 -- `directory::check::counts` meets its contract. Assumes nothing.
-use Rattle.std.proofs.Common.{sym, rules}
+use Rattle.std.proofs.Common.{sym}
 use Rattle.directory.proofs.Agreed.{count-over, count-plain, count_none, count-more, count_wrong}
 use Rattle.directory.proofs.check.counts.Goals as goal
 

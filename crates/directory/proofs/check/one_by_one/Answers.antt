@@ -1,7 +1,5 @@
 -- `directory::check::one_by_one` meets its contract. Assumes nothing.
-use Rattle.std.proofs.Common.{◌≡◌, ℕ, ◌+◌, ◌-◌, ◌<◌, ◌≤◌, true, false, [], length, get_or, sym, refl, ap, ◌∙◌, subst, arith, rules}
-use borrow.Author.Tests.{not-true, not-false}
-use borrow.Author.Rules.{scaled_Fits}
+use Rattle.std.proofs.Common.{◌≡◌, ℕ, ◌+◌, ◌-◌, true, false, [], get_or, sym, refl, ap, ◌∙◌, subst, arith}
 use Rattle.tally.specs.Map.{plain}
 use Rattle.sets.specs.All.{allb}
 use Rattle.sets.specs.Rows.{set_of, soundb}

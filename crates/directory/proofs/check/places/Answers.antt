@@ -1,5 +1,5 @@
 -- `directory::check::places` meets its contract. Assumes nothing.
-use Rattle.std.proofs.Common.{sym, rules}
+use Rattle.std.proofs.Common.{sym}
 use Rattle.directory.proofs.check.places.Goals as goal
 
 pub returns-then-quick : goal.returns-then-quick

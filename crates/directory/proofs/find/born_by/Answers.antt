@@ -1,7 +1,5 @@
 -- `directory::find::born_by` meets its contract: the last slot that was born by a number, found by halving. Assumes nothing.
-use Rattle.std.proofs.Common.{ℕ, ◌+◌, ◌-◌, ◌/◌, ◌<◌, ◌≤◌, length, arith, rules}
-use borrow.Author.Rules.{scaled_Fits}
-use Rattle.directory.specs.View.{birth_at}
+use Rattle.std.proofs.Common.{ℕ, ◌+◌, ◌-◌, ◌/◌, ◌<◌, ◌≤◌, arith}
 use Rattle.directory.proofs.Births.{behind}
 use Rattle.directory.proofs.Checks.{birth-named}
 use Rattle.directory.proofs.find.born_by.Goals as goal

@@ -1,9 +1,6 @@
 -- `directory::find::born_by` meets its contract: the last slot that was born by a number, found by halving. Assumes nothing.
-use Rattle.std.proofs.Common.{ℕ, ◌+◌, ◌-◌, ◌/◌, ◌<◌, ◌≤◌, length, arith, rules}
-use borrow.Author.Rules.{scaled_Fits}
+use Rattle.std.proofs.Common.{ℕ, ◌+◌, ◌-◌, ◌<◌, ◌≤◌}
 use Rattle.directory.specs.View.{birth_at}
-use Rattle.directory.proofs.Births.{behind}
-use Rattle.directory.proofs.Checks.{birth-named}
 use Rattle.directory.proofs.find.born_by.Given as goal
 
 -- slot `low` was born by h, those from `high` on were not

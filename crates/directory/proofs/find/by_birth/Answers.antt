@@ -1,6 +1,5 @@
 -- `directory::find::by_birth` meets its contract. Assumes nothing.
-use Rattle.std.proofs.Common.{◌≡◌, ℕ, ◌<◌, Bool, ◌&&◌, eqb, ltb, [], length, get_or, sym, ap, ◌∙◌, arith, rules}
-use borrow.Author.Rules.{scaled_Fits}
+use Rattle.std.proofs.Common.{◌≡◌, ℕ, ◌<◌, Bool, ◌&&◌, eqb, ltb, [], length, get_or, sym, ap, ◌∙◌, arith}
 use Rattle.directory.specs.View.{Stores, birth_at}
 use Rattle.directory.proofs.Handles.{scan-own, scan-last}
 use Rattle.directory.proofs.find.by_birth.Goals as goal

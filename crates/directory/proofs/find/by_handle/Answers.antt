@@ -1,5 +1,5 @@
 -- `directory::find::by_handle` meets its contract. Assumes nothing.
-use Rattle.std.proofs.Common.{sym, rules}
+use Rattle.std.proofs.Common.{sym}
 use Rattle.directory.specs.View.{Stores}
 use Rattle.directory.proofs.Agreed.{place-slot}
 use Rattle.directory.proofs.Handles.{scan-own}

@@ -1,8 +1,6 @@
 -- `directory::find::by_places` meets its contract. Assumes nothing.
-use Rattle.std.proofs.Common.{◌≡◌, ◌-◌, ◌<◌, ◌≤◌, ◌∷◌, length, get_or, sym, ◌∙◌, arith, rules}
-use borrow.Author.Rules.{scaled_Fits}
+use Rattle.std.proofs.Common.{◌≤◌, get_or, sym, ◌∙◌, arith}
 use Rattle.sets.specs.Rows.{span}
-use Rattle.directory.specs.Calls.{scan}
 use Rattle.directory.proofs.Finds.{scan-first, scan-skip, scan-over, scan-here, scan-on}
 use Rattle.directory.proofs.find.by_places.Goals as goal
 

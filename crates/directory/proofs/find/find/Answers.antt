@@ -1,12 +1,10 @@
 -- `directory::find::find` meets its contract: the scan's answer, found by halving. Assumes nothing.
-use Rattle.std.proofs.Common.{◌≡◌, ℕ, ◌+◌, ◌-◌, ◌/◌, ◌<◌, ◌≤◌, [], length, get_or, sym, ◌∙◌, arith, rules}
-use borrow.Author.Rules.{scaled_Fits}
+use Rattle.std.proofs.Common.{ℕ, ◌+◌, ◌-◌, ◌/◌, ◌<◌, ◌≤◌, [], get_or, sym, ◌∙◌, arith}
 use Prim.Native.Nat.{Ordering}
 use Rattle.tally.specs.Sets.{cmp}
-use Rattle.sets.specs.Rows.{span, set_of}
+use Rattle.sets.specs.Rows.{set_of}
 use Rattle.sets.proofs.Keyed.{empty-row, named-row}
 use Rattle.sets.proofs.Ways.{way-lt, way-eq, way_gt}
-use Rattle.directory.specs.View.{seek, sought}
 use Rattle.directory.proofs.Checks.{sought-empty, sought-named}
 use Rattle.directory.proofs.Halves.{beneath, beyond, held-at, seek-room-at}
 use Rattle.directory.proofs.find.find.Goals as goal

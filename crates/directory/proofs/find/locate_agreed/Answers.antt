@@ -1,8 +1,8 @@
 -- `directory::find::locate_agreed` meets its contract. Assumes nothing.
-use Rattle.std.proofs.Common.{◌≡◌, ℕ, suc, ◌<◌, ◌≤◌, true, [], length, get_or, sym, ◌∙◌, arith, rules}
+use Rattle.std.proofs.Common.{◌≡◌, ℕ, suc, ◌<◌, ◌≤◌, [], length, get_or, sym, ◌∙◌, arith, rules}
 use Prim.Native.Nat.{Ordering}
 use Rattle.sets.specs.Rows.{size, set_of}
-use Rattle.directory.specs.View.{Stores, agreesb}
+use Rattle.directory.specs.View.{Stores}
 use Rattle.directory.proofs.Agreed.{slot-sizes, place-slot}
 use Rattle.directory.proofs.Finds.{located-old, located-new, located-over-old, located-over}
 use Rattle.directory.proofs.Laws.{place-climb, few, slots-right, places-right}

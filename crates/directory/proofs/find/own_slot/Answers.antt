@@ -1,5 +1,5 @@
 -- `directory::find::own_slot` meets its contract. Assumes nothing.
-use Rattle.std.proofs.Common.{ℕ, ◌&&◌, eqb, ltb, [], get_or, sym, ap, ◌∙◌, arith, rules}
+use Rattle.std.proofs.Common.{ℕ, ◌&&◌, eqb, ltb, [], get_or, sym, ap, ◌∙◌, arith}
 use Rattle.directory.proofs.Checks.{birth-named}
 use Rattle.directory.proofs.find.own_slot.Goals as goal
 

@@ -1,5 +1,5 @@
 -- `directory::write::admit` meets its contract. Assumes nothing.
-use Rattle.std.proofs.Common.{ℕ, ◌+◌, List, [], ◌∷◌, set, ap, rules}
+use Rattle.std.proofs.Common.{ℕ, ◌+◌, List, [], ◌∷◌, set, ap}
 use Rattle.directory.specs.Calls.{admitted}
 use Rattle.directory.proofs.write.admit.Goals as goal
 

@@ -1,5 +1,5 @@
 -- `directory::write::birth_of` meets its contract. Assumes nothing.
-use Rattle.std.proofs.Common.{sym, rules}
+use Rattle.std.proofs.Common.{sym}
 use Rattle.directory.proofs.Checks.{birth-named, some}
 use Rattle.directory.proofs.write.birth_of.Goals as goal
 

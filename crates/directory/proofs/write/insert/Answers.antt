@@ -1,5 +1,5 @@
 -- `directory::write::insert` meets its contract. Assumes nothing.
-use Rattle.std.proofs.Common.{◌≡◌, ℕ, ◌-◌, ◌≤◌, List, length, get_or, set, refl, ap, ◌∙◌, arith, length-set, rules}
+use Rattle.std.proofs.Common.{◌≡◌, ℕ, ◌-◌, List, get_or, set, refl, ap, ◌∙◌, arith, length-set}
 use Rattle.sets.proofs.Moved.{moved, start, turn, finish}
 use Rattle.directory.proofs.write.insert.Goals as goal
 

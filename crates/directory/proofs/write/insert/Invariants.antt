@@ -1,6 +1,6 @@
 -- `directory::write::insert` meets its contract. Assumes nothing.
-use Rattle.std.proofs.Common.{◌≡◌, ℕ, ◌-◌, ◌≤◌, List, length, get_or, set, refl, ap, ◌∙◌, arith, length-set, rules}
-use Rattle.sets.proofs.Moved.{moved, start, turn, finish}
+use Rattle.std.proofs.Common.{◌≡◌, ◌≤◌, length}
+use Rattle.sets.proofs.Moved.{moved}
 use Rattle.directory.proofs.write.insert.Given as goal
 
 abbrev pub invariant-loop-i : goal.invariant-loop-i

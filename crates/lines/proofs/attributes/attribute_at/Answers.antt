@@ -21,16 +21,16 @@ returns-in_default c =
     let a = c.args in
     let xs = drop a.from a.bytes.now in
     parted-none (until 44 xs) a.from c.no_attribute.result.attribute c.no_attribute.result.to c.no_attribute.ensures.0 c.no_attribute.ensures.1
-    (no_key xs (sym c.word_at-k.ensures.0 ∙ c.enum_told-1.given.1))
+    (no_key xs (sym c.word_at-k.ensures.0 ∙ c.in_default.is))
 
 pub returns-then-bytes-colon : goal.returns-then-bytes-colon
 returns-then-bytes-colon c =
     let a = c.args in
     let bs = a.bytes.now in
     let xs = drop a.from bs in
-    let q = c.word_at-k.ensures.1 ∙ ap (λ (x : Word). behind x (a.from + length (until 58 xs))) c.key-1.given.1 in
+    let q = c.word_at-k.ensures.1 ∙ ap (λ (x : Word). behind x (a.from + length (until 58 xs))) c.in-Is.is in
     parted-none (until 44 xs) a.from c.no_attribute-then-bytes-colon.result.attribute c.no_attribute-then-bytes-colon.result.to c.no_attribute-then-bytes-colon.ensures.0 c.no_attribute-then-bytes-colon.ensures.1
-    (at-end bs a.from c.word_at-k.result.to _ (sym c.word_at-k.ensures.0 ∙ c.key-1.given.1) q c.requires c.if-bytes-colon.true)
+    (at-end bs a.from c.word_at-k.result.to _ (sym c.word_at-k.ensures.0 ∙ c.in-Is.is) q c.requires c.if-bytes-colon.true)
 
 pub word_at-v-requires : goal.word_at-v-requires
 word_at-v-requires c = (omega arith, comma-mark)
@@ -40,18 +40,18 @@ returns-in_default-value c =
     let a = c.args in
     let bs = a.bytes.now in
     let xs = drop a.from bs in
-    let q = c.word_at-k.ensures.1 ∙ ap (λ (x : Word). behind x (a.from + length (until 58 xs))) c.key-1.given.1 in
-    let f = at_value bs a.from c.word_at-k.result.to _ (sym c.word_at-k.ensures.0 ∙ c.key-1.given.1) q (omega (arith, c.if-bytes-colon.false)) in
+    let q = c.word_at-k.ensures.1 ∙ ap (λ (x : Word). behind x (a.from + length (until 58 xs))) c.in-Is.is in
+    let f = at_value bs a.from c.word_at-k.result.to _ (sym c.word_at-k.ensures.0 ∙ c.in-Is.is) q (omega (arith, c.if-bytes-colon.false)) in
     parted-none (until 44 xs) a.from c.no_attribute-in_default-value.result.attribute c.no_attribute-in_default-value.result.to c.no_attribute-in_default-value.ensures.0 c.no_attribute-in_default-value.ensures.1
-    (f.0 ∙ ap (both_of (W.Is _)) (sym c.word_at-v.ensures.0 ∙ c.enum_told-in_default-value-1.given.1))
+    (f.0 ∙ ap (both_of (W.Is _)) (sym c.word_at-v.ensures.0 ∙ c.in_default-value.is))
 
 pub returns : goal.returns
 returns c =
     let a = c.args in
     let bs = a.bytes.now in
     let xs = drop a.from bs in
-    let q = c.word_at-k.ensures.1 ∙ ap (λ (x : Word). behind x (a.from + length (until 58 xs))) c.key-1.given.1 in
-    let f = at_value bs a.from c.word_at-k.result.to _ (sym c.word_at-k.ensures.0 ∙ c.key-1.given.1) q (omega (arith, c.if-bytes-colon.false)) in (
-      sym (f.0 ∙ ap (both_of (W.Is _)) (sym c.word_at-v.ensures.0 ∙ c.value-1.given.1)),
-      c.word_at-v.ensures.1 ∙ ap (λ (x : Word). behind x (c.word_at-k.result.to + 1 + length (until 44 (drop (c.word_at-k.result.to + 1) bs)))) c.value-1.given.1 ∙ sym f.1,
+    let q = c.word_at-k.ensures.1 ∙ ap (λ (x : Word). behind x (a.from + length (until 58 xs))) c.in-Is.is in
+    let f = at_value bs a.from c.word_at-k.result.to _ (sym c.word_at-k.ensures.0 ∙ c.in-Is.is) q (omega (arith, c.if-bytes-colon.false)) in (
+      sym (f.0 ∙ ap (both_of (W.Is _)) (sym c.word_at-v.ensures.0 ∙ c.in-Is-value.is)),
+      c.word_at-v.ensures.1 ∙ ap (λ (x : Word). behind x (c.word_at-k.result.to + 1 + length (until 44 (drop (c.word_at-k.result.to + 1) bs)))) c.in-Is-value.is ∙ sym f.1,
     )

@@ -13,5 +13,5 @@ pub loop-i-preserved : goal.loop-i-preserved
 loop-i-preserved c =
     let l = c.loop-i in
     let a = c.args in
-    let f = sym c.in_eight.ensures ∙ not-true _ c.if-not-in_eight.true in
+    let f = sym c.in_eight.ensures ∙ c.if-not-in_eight.true in
     (omega arith, omega arith, of-clear a.block.now a.end l.i 8 (omega arith) f ∙ l.invariant.2)

@@ -3,7 +3,6 @@ use Prim.Native.Nat.{◌+◌}
 use mathlib.Core.Path.{sym, ap, ◌∙◌}
 use native.Mathlib.Omega.{arith}
 use lib.ListN.{length, drop}
-use borrow.Author.Rules.{rules}
 use Rattle.text.specs.Fields.{until}
 use Rattle.lines.specs.declared.attributes.Word.{Word}
 use Rattle.lines.specs.declared.attributes.Word.TheVariants as W

@@ -3,7 +3,6 @@ use Prim.Native.Nat.{ℕ, min, ◌+◌, ◌-◌}
 use mathlib.Core.Path.{◌≡◌, subst}
 use native.Mathlib.Omega.{arith}
 use lib.ListN.{length}
-use borrow.Author.Rules.{rules}
 use Rattle.lines.specs.Scanned.{Read}
 use Rattle.lines.proofs.attributes.digits.Goals as goal
 

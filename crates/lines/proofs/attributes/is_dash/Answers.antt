@@ -3,7 +3,6 @@ use mathlib.Core.Path.{refl}
 use lib.ListN.{length}
 use borrow.Author.Tests.{eq-eqb, ne_eqb}
 use Rattle.lines.specs.Spelled.{is_dash}
-use borrow.Author.Rules.{rules}
 use Rattle.lines.proofs.attributes.is_dash.Goals as goal
 
 pub returns-then-bytes-ne1 : goal.returns-then-bytes-ne1

@@ -3,7 +3,6 @@ use mathlib.Core.Path.{sym}
 use borrow.Author.Tests.{lt-ltb, le-ltb}
 use Rattle.laws.proofs.Bools.{pick_true, pick-false}
 use Rattle.lines.specs.Spelled.{next, put}
-use borrow.Author.Rules.{rules}
 use Rattle.lines.proofs.attributes.keep.Goals as goal
 
 pub returns-then-n-lt9 : goal.returns-then-n-lt9

@@ -4,7 +4,6 @@ use mathlib.Core.List.{List, []}
 use Rattle.laws.proofs.Bools.{pick_true, pick-false}
 use Rattle.lines.specs.Spelled.{parts, attributes_of, spelled, told, kept}
 use Rattle.lines.specs.declared.attributes.Attribute.{Attribute}
-use borrow.Author.Rules.{rules}
 use Rattle.lines.proofs.attributes.read.Goals as goal
 
 pub returns-then-is_dash : goal.returns-then-is_dash

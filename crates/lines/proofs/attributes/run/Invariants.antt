@@ -1,12 +1,6 @@
 -- `lines::attributes::run` meets its contract: the digits up to here say x. Assumes nothing.
-use Prim.Native.Nat.{ℕ, ◌+◌, ◌-◌, ◌*◌, ◌^◌, ◌≤◌, ◌<◌}
-use mathlib.Core.Path.{◌≡◌, subst}
-use mathlib.Core.Logic.{inl, inr}
-use native.Mathlib.Omega.{arith}
-use lib.Dec.{lit<}
+use Prim.Native.Nat.{◌+◌, ◌-◌, ◌^◌, ◌≤◌, ◌<◌}
 use Rattle.lines.specs.Scanned.{Says}
-use Rattle.text.proofs.Pairing.{digit_low, digit-high}
-use Rattle.lines.proofs.Scanning.{says_none, says-more, run_fits}
 use Rattle.lines.proofs.attributes.run.Given as goal
 
 abbrev pub invariant-loop-i : goal.invariant-loop-i

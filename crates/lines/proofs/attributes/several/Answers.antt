@@ -1,11 +1,10 @@
 -- `lines::attributes::several` meets its contract. Assumes nothing.
-use Prim.Native.Nat.{ℕ, ◌+◌, ◌-◌, ◌≤◌}
-use mathlib.Core.Path.{◌≡◌, refl, sym, ap, ◌∙◌}
+use Prim.Native.Nat.{ℕ, ◌+◌}
+use mathlib.Core.Path.{refl, sym, ap, ◌∙◌}
 use native.Mathlib.Omega.{arith}
 use lib.ListN.{length, drop}
-use borrow.Author.Rules.{rules}
 use Rattle.text.specs.Fields.{until}
-use Rattle.lines.specs.Spelled.{told, kept}
+use Rattle.lines.specs.Spelled.{told}
 use Rattle.lines.specs.Scanned.{after}
 use Rattle.lines.specs.declared.attributes.Attribute.{Attribute}
 use Rattle.lines.specs.declared.attributes.Given.TheVariants as G

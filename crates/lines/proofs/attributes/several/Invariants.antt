@@ -1,15 +1,9 @@
 -- `lines::attributes::several` meets its contract. Assumes nothing.
-use Prim.Native.Nat.{ℕ, ◌+◌, ◌-◌, ◌≤◌}
-use mathlib.Core.Path.{◌≡◌, refl, sym, ap, ◌∙◌}
-use native.Mathlib.Omega.{arith}
-use lib.ListN.{length, drop}
-use borrow.Author.Rules.{rules}
-use Rattle.text.specs.Fields.{until}
+use Prim.Native.Nat.{◌-◌, ◌≤◌}
+use mathlib.Core.Path.{◌≡◌}
+use lib.ListN.{length}
 use Rattle.lines.specs.Spelled.{told, kept}
-use Rattle.lines.specs.Scanned.{after}
-use Rattle.lines.specs.declared.attributes.Attribute.{Attribute}
-use Rattle.lines.specs.declared.attributes.Given.TheVariants as G
-use Rattle.lines.proofs.Parting.{from, kept_same, none_here, last-here, more-here, none_left}
+use Rattle.lines.proofs.Parting.{from}
 use Rattle.lines.proofs.attributes.several.Given as goal
 
 abbrev pub invariant-loop-i : goal.invariant-loop-i

@@ -1,11 +1,7 @@
 -- `lines::input::copy` meets its contract. Assumes nothing.
-use native.Mathlib.Omega.{arith}
-use Prim.Native.Nat.{ℕ, ◌+◌, ◌-◌, ◌≤◌}
-use mathlib.Core.Path.{◌≡◌, ap, ◌∙◌}
-use mathlib.Core.List.{List}
-use lib.ListN.{get_or, set}
+use Prim.Native.Nat.{◌-◌, ◌≤◌}
+use mathlib.Core.Path.{◌≡◌}
 use Rattle.lines.specs.Reading.{copied}
-use Rattle.lines.proofs.Newlines.{copied_none, copied-turn}
 use Rattle.lines.proofs.input.copy.Given as goal
 
 abbrev pub invariant-loop-i : goal.invariant-loop-i

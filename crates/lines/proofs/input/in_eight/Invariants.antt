@@ -1,13 +1,7 @@
 -- `lines::input::in_eight` meets its contract. Assumes nothing.
-use native.Mathlib.Omega.{arith}
-use Prim.Native.Nat.{◌+◌, ◌-◌, ◌≤◌}
-use mathlib.Core.Path.{◌≡◌, sym, ap, ◌∙◌}
-use mathlib.Core.Bool.{true}
-use lib.Dec.{eqb}
-use lib.ListN.{get_or}
-use Rattle.laws.specs.Pick.{pick}
+use Prim.Native.Nat.{◌-◌, ◌≤◌}
+use mathlib.Core.Path.{◌≡◌}
 use Rattle.lines.specs.Reading.{newline_in}
-use Rattle.lines.proofs.Newlines.{in-none, in-turn}
 use Rattle.lines.proofs.input.in_eight.Given as goal
 
 abbrev pub invariant-loop-i : goal.invariant-loop-i

@@ -1,9 +1,7 @@
 -- `lines::input::newline` meets its contract. Assumes nothing.
-use native.Mathlib.Omega.{arith}
 use Prim.Native.Nat.{◌-◌, ◌≤◌}
-use mathlib.Core.Path.{◌≡◌, ◌∙◌}
+use mathlib.Core.Path.{◌≡◌}
 use Rattle.lines.specs.Reading.{newline_of}
-use Rattle.lines.proofs.Newlines.{of-turn, of-stop, of_none}
 use Rattle.lines.proofs.input.newline.Given as goal
 
 abbrev pub invariant-loop-i : goal.invariant-loop-i

@@ -1,11 +1,8 @@
 -- `lines::input::next` meets its contract, and ends: the measure is the number of turns left. Assumes nothing.
-use mathlib.Core.Path.{◌≡◌, refl, ap, ◌∙◌}
-use mathlib.Core.Bool.{true}
-use mathlib.Core.Logic.{◌⊎◌, inl, inr, ⊎_elim}
-use native.Mathlib.Omega.{arith}
+use mathlib.Core.Path.{refl, ap, ◌∙◌}
+use mathlib.Core.Logic.{inl, inr, ⊎_elim}
 use Rattle.laws.proofs.Bools.{not-both}
 use Rattle.lines.specs.declared.input.Ports.{Ports}
-use Rattle.lines.specs.Reading.{Within}
 use Rattle.lines.proofs.Newlines.{not-true, next-line}
 use Rattle.lines.proofs.input.next.Goals as goal
 

@@ -1,9 +1,7 @@
 -- `lines::input::skipped` meets its contract. Assumes nothing.
 use native.Mathlib.Omega.{arith}
-use Prim.Native.Nat.{◌-◌, ◌≤◌}
-use mathlib.Core.Path.{◌≡◌, sym, ◌∙◌}
-use Rattle.lines.specs.Reading.{newline_of}
-use Rattle.lines.proofs.Newlines.{not-true, of-clear}
+use mathlib.Core.Path.{sym, ◌∙◌}
+use Rattle.lines.proofs.Newlines.{of-clear}
 use Rattle.lines.proofs.input.skipped.Goals as goal
 
 pub in_eight-requires : goal.in_eight-requires

@@ -1,9 +1,7 @@
 -- `lines::input::skipped` meets its contract. Assumes nothing.
-use native.Mathlib.Omega.{arith}
 use Prim.Native.Nat.{◌-◌, ◌≤◌}
-use mathlib.Core.Path.{◌≡◌, sym, ◌∙◌}
+use mathlib.Core.Path.{◌≡◌}
 use Rattle.lines.specs.Reading.{newline_of}
-use Rattle.lines.proofs.Newlines.{not-true, of-clear}
 use Rattle.lines.proofs.input.skipped.Given as goal
 
 abbrev pub invariant-loop-i : goal.invariant-loop-i

@@ -1,7 +1,6 @@
 -- `lines::input::take` meets its contract. Assumes nothing.
 use mathlib.Core.Path.{refl}
 use native.Mathlib.Omega.{arith}
-use borrow.Author.Rules.{rules}
 use Rattle.lines.proofs.Newlines.{taken-ended, taken_open, line-is}
 use Rattle.lines.proofs.input.take.Goals as goal
 

@@ -3,7 +3,6 @@ use Prim.Native.Nat.{ℕ}
 use mathlib.Core.Path.{ap, ◌∙◌}
 use mathlib.Core.List.{List}
 use Rattle.lines.specs.Gathered.{waiting, ◌behind◌}
-use borrow.Author.Rules.{rules}
 use Rattle.lines.proofs.output.bits.Goals as goal
 
 pub returns : goal.returns

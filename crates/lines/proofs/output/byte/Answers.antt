@@ -2,7 +2,6 @@
 use Prim.Native.Nat.{ℕ, ◌+◌}
 use mathlib.Core.Path.{ap}
 use lib.ListN.{set}
-use borrow.Author.Rules.{rules}
 use Rattle.lines.specs.Gathered.{Text, ◌behind◌}
 use Rattle.lines.proofs.output.byte.Goals as goal
 

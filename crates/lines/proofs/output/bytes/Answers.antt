@@ -1,8 +1,8 @@
 -- `lines::output::bytes` meets its contract: what waits in the end is what the bytes left give from here. Assumes nothing.
 use native.Mathlib.Omega.{arith}
-use Prim.Native.Nat.{◌+◌, ◌-◌, ◌≤◌}
-use mathlib.Core.Path.{◌≡◌, refl, sym, ap, ◌∙◌}
-use lib.ListN.{length, drop}
+use Prim.Native.Nat.{◌+◌}
+use mathlib.Core.Path.{refl, sym, ap, ◌∙◌}
+use lib.ListN.{drop}
 use Rattle.lines.specs.Gathered.{Text, ◌behind◌}
 use Rattle.lines.proofs.Gathering.{behind-turn, behind-none}
 use Rattle.lines.proofs.output.bytes.Goals as goal

@@ -1,5 +1,5 @@
 -- `lines::output::decimal_digits` meets its contract. Assumes nothing.
-use Rattle.std.proofs.Common.{◌≡◌, ℕ, suc, ◌+◌, ◌-◌, ◌/◌, ◌%◌, ◌^◌, ◌<◌, ◌≤◌, ◌++◌, drop, length, set, ◌∙◌, sym, subst, lit<, arith}
+use Rattle.std.proofs.Common.{◌≡◌, ℕ, suc, ◌+◌, ◌-◌, ◌/◌, ◌%◌, ◌^◌, ◌<◌, ◌++◌, drop, length, set, ◌∙◌, sym, subst, arith}
 use Rattle.lines.specs.Written.{digits_within, decimal}
 use Rattle.lines.proofs.Digits.{more_room, tenth-fits, begun, digit-turn, digit-first}
 use Rattle.lines.proofs.output.decimal_digits.Goals as goal
@@ -15,7 +15,7 @@ loop-rest-preserved c =
       omega arith,
       subst (λ (n : ℕ). l.rest / 10 < 10 ^ n) (sym e) (tenth-fits l.i l.rest l.invariant.1),
       subst (λ (n : ℕ). digits_within n (l.rest / 10) ++ drop n (set l.digits l.i (48 + l.rest % 10)) ≡ decimal c.args.x) (sym e)
-      (digit-turn l.digits l.i l.rest h c.loop-rest-test.true ∙ l.invariant.2),
+          (digit-turn l.digits l.i l.rest h c.loop-rest-test.true ∙ l.invariant.2),
     )
 
 pub returns-clause-value : goal.returns-clause-value

@@ -4,7 +4,6 @@ use native.Mathlib.Omega.{arith}
 use borrow.Author.Tests.{lt-ltb, le-ltb}
 use Rattle.laws.proofs.Bools.{pick_true, pick-false}
 use Rattle.lines.specs.Gathered.{place}
-use borrow.Author.Rules.{rules}
 use Rattle.lines.proofs.output.room.Goals as goal
 
 pub returns-then-n-lt65536 : goal.returns-then-n-lt65536

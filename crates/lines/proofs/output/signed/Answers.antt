@@ -2,7 +2,6 @@
 use Prim.Native.Nat.{ℕ}
 use mathlib.Core.Path.{ap, ◌∙◌}
 use mathlib.Core.List.{List, [], ◌∷◌}
-use borrow.Author.Rules.{rules}
 use Rattle.lines.specs.Gathered.{waiting, ◌behind◌}
 use Rattle.lines.proofs.Gathering.{then}
 use Rattle.lines.proofs.Signs.{above-fits, minus-fits, minus-natural, size_fits, minus-text, natural, natural-text}

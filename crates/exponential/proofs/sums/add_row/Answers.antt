@@ -23,7 +23,7 @@ loop-i-preserved c =
     let x = get_or xs l.i 0 in
     let t = total-step l.i xs (omega arith) in (
       omega arith,
-      wraps-next l.sum a.from.sum (total (take l.i xs)) (total (take (l.i + 1) xs)) x c.wrapping_add_u64-sum.result l.invariant.1 t c.wrapping_add_u64-sum.ensures,
+      wraps-next l.sum a.from.sum (total (take l.i xs)) (total (take (l.i + 1) xs)) x c.wrapping_add_u64-sum.result l.invariant.1 t c.wrapping_add_u64-sum.ensures.value,
       le_trans l.invariant.2 (or_left l.most x),
       most-next l.i (total (take l.i xs)) (total (take (l.i + 1) xs)) x l.most l.invariant.3 t,
     )

@@ -24,24 +24,24 @@ raise-requires c =
 
 pub returns-then-raise : goal.returns-then-raise
 returns-then-raise c =
-    let ready : Ready c.args.size c.args.top c.args.c c.args.pos.now c.args.neg.now (At c.class-1.given.0.0 c.class-1.given.0.1.0) =
+    let ready : Ready c.args.size c.args.top c.args.c c.args.pos.now c.args.neg.now (At c.in-At.negative c.in-At.bin) = 
     let a = c.args in
-    subst (Ready a.size a.top a.c a.pos.now a.neg.now) c.class-1.given.1 c.requires in
+    subst (Ready a.size a.top a.c a.pos.now a.neg.now) c.in-At.is c.requires in
     let a = c.args in
     let xs = a.pos.now in
     let ys = a.neg.now in
-    subst (λ (k : Class). Written (placed a.size (read a.c xs ys) (value_of k)) xs ys c.one_more.result c.raise.new.pos c.raise.new.neg) (sym c.class-1.given.1)
-    (subst (λ (q : Counts). Written (placed a.size (read a.c xs ys) (signed c.class-1.given.0.0 c.class-1.given.0.1.0)) xs ys q c.raise.new.pos c.raise.new.neg) (sym c.one_more.ensures)
-    (tried_in a.size a.top a.c xs ys c.class-1.given.0.1.0 c.raise.result c.raise.new.pos c.raise.new.neg c.class-1.given.0.0 (ready) c.raise.ensures c.if-raise.true))
+    subst (λ (k : Class). Written (placed a.size (read a.c xs ys) (value_of k)) xs ys c.one_more.result c.raise.new.pos c.raise.new.neg) (sym c.in-At.is)
+    (subst (λ (q : Counts). Written (placed a.size (read a.c xs ys) (signed c.in-At.negative c.in-At.bin)) xs ys q c.raise.new.pos c.raise.new.neg) (sym c.one_more.ensures)
+    (tried_in a.size a.top a.c xs ys c.in-At.bin c.raise.result c.raise.new.pos c.raise.new.neg c.in-At.negative (ready) c.raise.ensures c.if-raise.true))
 
 pub place_at-requires : goal.place_at-requires
 place_at-requires c =
-    let ready : Ready c.args.size c.args.top c.args.c c.args.pos.now c.args.neg.now (At c.class-1.given.0.0 c.class-1.given.0.1.0) =
+    let ready : Ready c.args.size c.args.top c.args.c c.args.pos.now c.args.neg.now (At c.in-At.negative c.in-At.bin) = 
     let a = c.args in
-    subst (Ready a.size a.top a.c a.pos.now a.neg.now) c.class-1.given.1 c.requires in
+    subst (Ready a.size a.top a.c a.pos.now a.neg.now) c.in-At.is c.requires in
     let a = c.args in
-    still-ready a.size a.top a.c a.pos.now a.neg.now c.class-1.given.0.1.0 c.raise.result c.raise.new.pos c.raise.new.neg
-    c.class-1.given.0.0 c.raise.ensures c.if-raise.false (ready)
+    still-ready a.size a.top a.c a.pos.now a.neg.now c.in-At.bin c.raise.result c.raise.new.pos c.raise.new.neg
+    c.in-At.negative c.raise.ensures c.if-raise.false (ready)
 
 pub returns-in-Naught : goal.returns-in-Naught
 returns-in-Naught c =
@@ -51,7 +51,7 @@ returns-in-Naught c =
     let xs = a.pos.now in
     let ys = a.neg.now in
     subst (λ (k : Class). Written (placed a.size (read a.c xs ys) (value_of k)) xs ys (record { count = a.c.count + 1; zeros = a.c.zeros + 1; level = a.c.level; pos = a.c.pos; neg = a.c.neg }) xs ys)
-    (sym c.enum_told-1.given.1)
+    (sym c.in-Naught.is)
     (written-zero a.size a.c xs ys (level_in a.size a.top a.c xs ys f) f.pos_there f.neg_there)
 
 pub returns-else-raise : goal.returns-else-raise
@@ -59,6 +59,6 @@ returns-else-raise c =
     let a = c.args in
     let xs = a.pos.now in
     let ys = a.neg.now in
-    subst (λ (k : Class). Written (placed a.size (read a.c xs ys) (value_of k)) xs ys c.place_at.result c.place_at.new.pos c.place_at.new.neg) (sym c.class-1.given.1)
-    (still-written a.size a.top a.c xs ys c.class-1.given.0.1.0 c.raise.result c.raise.new.pos c.raise.new.neg
-    c.class-1.given.0.0 c.raise.ensures c.if-raise.false c.place_at.result c.place_at.new.pos c.place_at.new.neg c.place_at.ensures)
+    subst (λ (k : Class). Written (placed a.size (read a.c xs ys) (value_of k)) xs ys c.place_at.result c.place_at.new.pos c.place_at.new.neg) (sym c.in-At.is)
+    (still-written a.size a.top a.c xs ys c.in-At.bin c.raise.result c.raise.new.pos c.raise.new.neg
+    c.in-At.negative c.raise.ensures c.if-raise.false c.place_at.result c.place_at.new.pos c.place_at.new.neg c.place_at.ensures)

@@ -18,5 +18,5 @@ returns c =
     let D : List ℕ = downscaled c.args.k c.args.row.start (take c.args.row.len c.args.counts.now) in
     let q = adds.done c.args.counts.now (D) (c.args.row.start / 2 ^ c.args.k) c.args.bin c.lower-low.result.start c.lower-low.result.len c.lower-low.new.counts
     c.lower-low.ensures.start c.lower-low.ensures.len c.lower-low.ensures.now
-    c.«record».result.start c.«record».result.len c.«record».new.counts (c.«record».ensures.start_value, c.«record».ensures.len_value, c.«record».ensures.counts_after) in
+    c.«record».result.start c.«record».result.len c.«record».new.counts (c.«record».ensures.start_value, (c.«record».ensures.len_value, c.«record».ensures.counts_after)) in
     record { start = q.0; len = q.1.0; now = q.1.1 }

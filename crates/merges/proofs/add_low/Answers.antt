@@ -67,10 +67,5 @@ shape_of-counts c = c.loop-j.invariant.4
 
 pub returns : goal.returns
 returns c =
-    let at : c.loop-j.index / 2 ^ c.args.k - c.args.s < length c.args.counts.now =
     let l = c.loop-j in
-    let a = c.args in
-    let e : l.index ≤ a.t + (a.m - 1) = omega (arith, l.invariant.1, c.loop-j-test.true) in
-    omega (arith, shr_mono {a = l.index} {b = a.t + (a.m - 1)} a.k e, c.requires.s_in_bounds) in
-    let l = c.loop-j in
-    let e : l.j ≡ c.args.m = omega arith in record { value = rw e at; counts_after = rw e at }
+    let e : l.j ≡ c.args.m = omega arith in record { value = rw e at l.invariant.2; counts_after = rw e at l.invariant.3 }

@@ -14,21 +14,21 @@ use Rattle.merges.proofs.Wide as wide
 use borrow.Author.Rules.{rules}
 use Rattle.merges.proofs.join.Goals as goal
 
-none_other : (a : P.Row) (k s m : ℕ) (ys : List ℕ) → m ≡ 0 → joined a (record { = s / 2 ^ k; counts = downscaled k s (take m ys) }) ≡ a
+none_other : (a : P.Row) (k s m : ℕ) (ys : List ℕ) → m ≡ 0 → joined a (record { start = s / 2 ^ k; counts = downscaled k s (take m ys) }) ≡ a
 unfolding downscaled
-none_other a k s m ys e = rw e (wide.join-none a (record { = s / 2 ^ k; counts = downscaled k s (take 0 ys) }) refl)
+none_other a k s m ys e = rw e (wide.join-none a (record { start = s / 2 ^ k; counts = downscaled k s (take 0 ys) }) refl)
 
 pub returns-then-m-eq0 : goal.returns-then-m-eq0
 returns-then-m-eq0 c =
     let a = c.args in
     let n = a.row.len in
     subst (λ (q : P.Row). Laid q a.a.now a.row a.a.now) (sym (none_other (row_in a.row a.a.now) a.k a.other.start a.other.len a.b.now c.if-m-eq0.true))
-    (record { = refl; len = sym (length-take-le n a.a.now c.requires.short); now = sym (over-self n a.a.now c.requires.short) })
+    (record { start = refl; len = sym (length-take-le n a.a.now c.requires.short); now = sym (over-self n a.a.now c.requires.short) })
 
 pub add_low-len-requires : goal.add_low-len-requires
 add_low-len-requires c =
     let some : 0 < c.args.other.len = omega (arith, c.if-m-eq0.false) in
-    let a = c.args in let all = wide.first-requires a.a.now a.b.now a.row.len a.row.start a.other.start a.other.len a.k c.requires.short c.requires.other c.requires.few c.requires.sums c.requires.room (some) c.if-n-eq0.true in record { n_in_bounds = all.0; k_bound = all.1.0; s_in_bounds = all.1.1.0; other_bound = all.1.1.1 }
+    let a = c.args in let all = wide.first_requires a.a.now a.b.now a.row.len a.row.start a.other.start a.other.len a.k c.requires.short c.requires.other c.requires.few c.requires.sums c.requires.room (some) c.if-n-eq0.true in record { n_in_bounds = all.0; k_bound = all.1.0; s_in_bounds = all.1.1.0; other_bound = all.1.1.1 }
 
 pub returns-then-n-eq0 : goal.returns-then-n-eq0
 returns-then-n-eq0 c =
@@ -53,13 +53,13 @@ overflow_add-n c =
     let room : c.args.row.len + (c.args.row.start - c.args.other.start / 2 ^ c.args.k) ≤ length c.args.a.now = 
     let a = c.args in
     wide.room-before a.a.now a.b.now a.row.len a.row.start a.other.start a.other.len a.k c.requires.short c.requires.other c.requires.few c.requires.sums c.requires.room (some) (held) c.if-first-s.true in
-    omega (arith, room, c.well-formed.0.1)
+    omega (arith, room, c.well_formed.0.1)
 
 pub add_low-len-requires-then-first-s : goal.add_low-len-requires-then-first-s
 add_low-len-requires-then-first-s c =
     let some : 0 < c.args.other.len = omega (arith, c.if-m-eq0.false) in
     let held : 0 < c.args.row.len = omega (arith, c.if-n-eq0.false) in
-    let a = c.args in let all = wide.before-requires a.a.now a.b.now a.row.len a.row.start a.other.start a.other.len a.k c.requires.short c.requires.other c.requires.few c.requires.sums c.requires.room (some) (held) c.if-first-s.true
+    let a = c.args in let all = wide.before_requires a.a.now a.b.now a.row.len a.row.start a.other.start a.other.len a.k c.requires.short c.requires.other c.requires.few c.requires.sums c.requires.room (some) (held) c.if-first-s.true
     c.widen.new.counts c.widen.ensures in record { n_in_bounds = all.0; k_bound = all.1.0; s_in_bounds = all.1.1.0; other_bound = all.1.1.1 }
 
 pub returns-then-first-s : goal.returns-then-first-s
@@ -74,7 +74,7 @@ pub add_low-len-requires-2 : goal.add_low-len-requires-2
 add_low-len-requires-2 c =
     let some : 0 < c.args.other.len = omega (arith, c.if-m-eq0.false) in
     let held : 0 < c.args.row.len = omega (arith, c.if-n-eq0.false) in
-    let a = c.args in let all = wide.after-requires a.a.now a.b.now a.row.len a.row.start a.other.start a.other.len a.k c.requires.short c.requires.other c.requires.few c.requires.sums c.requires.room (some) (held) (omega (arith, c.if-first-s.false)) in record { n_in_bounds = all.0; k_bound = all.1.0; s_in_bounds = all.1.1.0; other_bound = all.1.1.1 }
+    let a = c.args in let all = wide.after_requires a.a.now a.b.now a.row.len a.row.start a.other.start a.other.len a.k c.requires.short c.requires.other c.requires.few c.requires.sums c.requires.room (some) (held) (omega (arith, c.if-first-s.false)) in record { n_in_bounds = all.0; k_bound = all.1.0; s_in_bounds = all.1.1.0; other_bound = all.1.1.1 }
 
 pub returns : goal.returns
 returns c =

@@ -5,7 +5,7 @@ use Rattle.merges.proofs.join_to.Goals as goal
 pub lay-first-requires : goal.lay-first-requires
 lay-first-requires c =
     let a = c.args in
-    laying.first-lay a.row a.j a.a.now a.other a.k a.b.now a.out.now c.requires
+    laying.first_lay a.row a.j a.a.now a.other a.k a.b.now a.out.now c.requires
 
 pub join-requires : goal.join-requires
 join-requires c =

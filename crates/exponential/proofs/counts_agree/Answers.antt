@@ -43,7 +43,7 @@ returns-then-not-row_agrees-2 c =
 pub adds_up-requires : goal.adds_up-requires
 adds_up-requires c =
     let sized : size_passes c.args.size ≡ true = sym c.size_passes.ensures ∙ c.if-not-size_passes.false in
-    let pos-said : c.row_agrees.result ≡ row_agrees c.args.size (lowest_bin c.args.c.level) (end_bin c.args.c.level) c.args.c.pos c.args.pos.now = 
+    let pos-said : c.row_agrees.result ≡ row_agrees c.args.size (lowest_bin c.args.c.level) (end_bin c.args.c.level) c.args.c.pos c.args.pos.now =
     let a = c.args in
     c.row_agrees.ensures ∙ (λ j. row_agrees a.size (c.lowest_bin-low.ensures j) (c.end_bin-end.ensures j) a.c.pos a.pos.now) in
     let neg_said : c.row_agrees-2.result ≡ row_agrees c.args.size (lowest_bin c.args.c.level) (end_bin c.args.c.level) c.args.c.neg c.args.neg.now =
@@ -58,7 +58,7 @@ adds_up-requires c =
 pub returns : goal.returns
 returns c =
     let sized : size_passes c.args.size ≡ true = sym c.size_passes.ensures ∙ c.if-not-size_passes.false in
-    let pos-said : c.row_agrees.result ≡ row_agrees c.args.size (lowest_bin c.args.c.level) (end_bin c.args.c.level) c.args.c.pos c.args.pos.now = 
+    let pos-said : c.row_agrees.result ≡ row_agrees c.args.size (lowest_bin c.args.c.level) (end_bin c.args.c.level) c.args.c.pos c.args.pos.now =
     let a = c.args in
     c.row_agrees.ensures ∙ (λ j. row_agrees a.size (c.lowest_bin-low.ensures j) (c.end_bin-end.ensures j) a.c.pos a.pos.now) in
     let neg_said : c.row_agrees-2.result ≡ row_agrees c.args.size (lowest_bin c.args.c.level) (end_bin c.args.c.level) c.args.c.neg c.args.neg.now =

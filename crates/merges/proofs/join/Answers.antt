@@ -41,7 +41,7 @@ pub widen-requires : goal.widen-requires
 widen-requires c =
     let some : 0 < c.args.other.len = omega (arith, c.if-m-eq0.false) in
     let held : 0 < c.args.row.len = omega (arith, c.if-n-eq0.false) in
-    let room : c.args.row.len + (c.args.row.start - c.args.other.start / 2 ^ c.args.k) ≤ length c.args.a.now = 
+    let room : c.args.row.len + (c.args.row.start - c.args.other.start / 2 ^ c.args.k) ≤ length c.args.a.now =
     let a = c.args in
     wide.room-before a.a.now a.b.now a.row.len a.row.start a.other.start a.other.len a.k c.requires.short c.requires.other c.requires.few c.requires.sums c.requires.room (some) (held) c.if-first-s.true in
     room
@@ -50,7 +50,7 @@ pub overflow_add-n : goal.overflow_add-n
 overflow_add-n c =
     let some : 0 < c.args.other.len = omega (arith, c.if-m-eq0.false) in
     let held : 0 < c.args.row.len = omega (arith, c.if-n-eq0.false) in
-    let room : c.args.row.len + (c.args.row.start - c.args.other.start / 2 ^ c.args.k) ≤ length c.args.a.now = 
+    let room : c.args.row.len + (c.args.row.start - c.args.other.start / 2 ^ c.args.k) ≤ length c.args.a.now =
     let a = c.args in
     wide.room-before a.a.now a.b.now a.row.len a.row.start a.other.start a.other.len a.k c.requires.short c.requires.other c.requires.few c.requires.sums c.requires.room (some) (held) c.if-first-s.true in
     omega (arith, room, c.well_formed.0.1)

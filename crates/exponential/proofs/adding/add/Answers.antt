@@ -24,7 +24,7 @@ raise-requires c =
 
 pub returns-then-raise : goal.returns-then-raise
 returns-then-raise c =
-    let ready : Ready c.args.size c.args.top c.args.c c.args.pos.now c.args.neg.now (At c.in-At.negative c.in-At.bin) = 
+    let ready : Ready c.args.size c.args.top c.args.c c.args.pos.now c.args.neg.now (At c.in-At.negative c.in-At.bin) =
     let a = c.args in
     subst (Ready a.size a.top a.c a.pos.now a.neg.now) c.in-At.is c.requires in
     let a = c.args in
@@ -36,7 +36,7 @@ returns-then-raise c =
 
 pub place_at-requires : goal.place_at-requires
 place_at-requires c =
-    let ready : Ready c.args.size c.args.top c.args.c c.args.pos.now c.args.neg.now (At c.in-At.negative c.in-At.bin) = 
+    let ready : Ready c.args.size c.args.top c.args.c c.args.pos.now c.args.neg.now (At c.in-At.negative c.in-At.bin) =
     let a = c.args in
     subst (Ready a.size a.top a.c a.pos.now a.neg.now) c.in-At.is c.requires in
     let a = c.args in

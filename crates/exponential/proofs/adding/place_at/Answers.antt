@@ -12,7 +12,7 @@ use Rattle.exponential.proofs.adding.place_at.Goals as goal
 
 pub put-w-requires : goal.put-w-requires
 put-w-requires c =
-    let ready : (b : Bool) → c.args.negative ≡ b → Ready c.args.size c.args.top c.args.c c.args.pos.now c.args.neg.now (At b c.args.bin) = 
+    let ready : (b : Bool) → c.args.negative ≡ b → Ready c.args.size c.args.top c.args.c c.args.pos.now c.args.neg.now (At b c.args.bin) =
     λ b e. let a = c.args in
     subst (λ (b : Bool). Ready a.size a.top a.c a.pos.now a.neg.now (At b a.bin)) e c.requires in
     let below : Ready c.args.size c.args.top (swapped c.args.c) c.args.neg.now c.args.pos.now (At false c.args.bin) =
@@ -23,7 +23,7 @@ put-w-requires c =
 
 pub one_more-requires : goal.one_more-requires
 one_more-requires c =
-    let ready : (b : Bool) → c.args.negative ≡ b → Ready c.args.size c.args.top c.args.c c.args.pos.now c.args.neg.now (At b c.args.bin) = 
+    let ready : (b : Bool) → c.args.negative ≡ b → Ready c.args.size c.args.top c.args.c c.args.pos.now c.args.neg.now (At b c.args.bin) =
     λ b e. let a = c.args in
     subst (λ (b : Bool). Ready a.size a.top a.c a.pos.now a.neg.now (At b a.bin)) e c.requires in
     let below : Ready c.args.size c.args.top (swapped c.args.c) c.args.neg.now c.args.pos.now (At false c.args.bin) =
@@ -34,7 +34,7 @@ one_more-requires c =
 
 pub returns-then-negative : goal.returns-then-negative
 returns-then-negative c =
-    let ready : (b : Bool) → c.args.negative ≡ b → Ready c.args.size c.args.top c.args.c c.args.pos.now c.args.neg.now (At b c.args.bin) = 
+    let ready : (b : Bool) → c.args.negative ≡ b → Ready c.args.size c.args.top c.args.c c.args.pos.now c.args.neg.now (At b c.args.bin) =
     λ b e. let a = c.args in
     subst (λ (b : Bool). Ready a.size a.top a.c a.pos.now a.neg.now (At b a.bin)) e c.requires in
     let below : Ready c.args.size c.args.top (swapped c.args.c) c.args.neg.now c.args.pos.now (At false c.args.bin) =
@@ -50,7 +50,7 @@ returns-then-negative c =
 
 pub put-w-requires-2 : goal.put-w-requires-2
 put-w-requires-2 c =
-    let ready : (b : Bool) → c.args.negative ≡ b → Ready c.args.size c.args.top c.args.c c.args.pos.now c.args.neg.now (At b c.args.bin) = 
+    let ready : (b : Bool) → c.args.negative ≡ b → Ready c.args.size c.args.top c.args.c c.args.pos.now c.args.neg.now (At b c.args.bin) =
     λ b e. let a = c.args in
     subst (λ (b : Bool). Ready a.size a.top a.c a.pos.now a.neg.now (At b a.bin)) e c.requires in
     let above : Ready c.args.size c.args.top c.args.c c.args.pos.now c.args.neg.now (At false c.args.bin) = ready false c.if-negative.false in
@@ -59,7 +59,7 @@ put-w-requires-2 c =
 
 pub one_more-requires-2 : goal.one_more-requires-2
 one_more-requires-2 c =
-    let ready : (b : Bool) → c.args.negative ≡ b → Ready c.args.size c.args.top c.args.c c.args.pos.now c.args.neg.now (At b c.args.bin) = 
+    let ready : (b : Bool) → c.args.negative ≡ b → Ready c.args.size c.args.top c.args.c c.args.pos.now c.args.neg.now (At b c.args.bin) =
     λ b e. let a = c.args in
     subst (λ (b : Bool). Ready a.size a.top a.c a.pos.now a.neg.now (At b a.bin)) e c.requires in
     let above : Ready c.args.size c.args.top c.args.c c.args.pos.now c.args.neg.now (At false c.args.bin) = ready false c.if-negative.false in
@@ -68,7 +68,7 @@ one_more-requires-2 c =
 
 pub returns : goal.returns
 returns c =
-    let ready : (b : Bool) → c.args.negative ≡ b → Ready c.args.size c.args.top c.args.c c.args.pos.now c.args.neg.now (At b c.args.bin) = 
+    let ready : (b : Bool) → c.args.negative ≡ b → Ready c.args.size c.args.top c.args.c c.args.pos.now c.args.neg.now (At b c.args.bin) =
     λ b e. let a = c.args in
     subst (λ (b : Bool). Ready a.size a.top a.c a.pos.now a.neg.now (At b a.bin)) e c.requires in
     let above : Ready c.args.size c.args.top c.args.c c.args.pos.now c.args.neg.now (At false c.args.bin) = ready false c.if-negative.false in

@@ -14,7 +14,7 @@ use Rattle.laws.specs.Pick.{pick}
 use Rattle.laws.specs.Lists.{All}
 use Rattle.laws.specs.Said.{Said, refusal, success}
 use Rattle.exponential.specs.Runs.{next}
-use Rattle.laws.specs.Counting.{count, table}
+use Rattle.laws.specs.Counting.{table}
 use Rattle.floats.specs.Starts.{FiniteF64}
 use Rattle.floats.proofs.Choices.{finite-chosen}
 use Rattle.points.specs.Explicit.{Buckets, bucket_count, bounds_pass, buckets_of, record_bucket, buckets_agree}

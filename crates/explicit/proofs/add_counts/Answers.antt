@@ -1,10 +1,6 @@
-use Prim.Native.Nat.{◌-◌, ◌≤◌}
 use mathlib.Core.Path.{◌≡◌, refl}
 use native.Mathlib.Omega.{arith}
-use lib.ListN.{length, take}
 use lib.ListN.{length-set}
-use Rattle.points.specs.Explicit.{added}
-use Rattle.rows.specs.Rows.{over}
 use Rattle.explicit.proofs.Writes.{added-turn, added-fits, added_none}
 use Rattle.explicit.proofs.add_counts.Goals as goal
 

@@ -1,11 +1,8 @@
 use Prim.Native.Nat.{◌-◌, ◌≤◌}
-use mathlib.Core.Path.{◌≡◌, refl}
-use native.Mathlib.Omega.{arith}
+use mathlib.Core.Path.{◌≡◌}
 use lib.ListN.{length, take}
-use lib.ListN.{length-set}
 use Rattle.points.specs.Explicit.{added}
 use Rattle.rows.specs.Rows.{over}
-use Rattle.explicit.proofs.Writes.{added-turn, added-fits, added_none}
 use Rattle.explicit.proofs.add_counts.Given as goal
 
 abbrev pub invariant-loop-i : goal.invariant-loop-i

@@ -1,6 +1,5 @@
 use mathlib.Core.Path.{sym, ◌∙◌}
 use native.Mathlib.Omega.{arith}
-use borrow.Author.Rules.{rules}
 use Rattle.floats.proofs.Finite.{nan-test}
 use Rattle.explicit.proofs.Cases.{too_many, no-bounds, nan-first, by-rising}
 use Rattle.explicit.proofs.bounds_pass.Goals as goal

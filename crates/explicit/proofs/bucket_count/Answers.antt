@@ -1,4 +1,3 @@
-use borrow.Author.Rules.{rules}
 use Rattle.explicit.proofs.Turns.{count_none, count-some}
 use Rattle.explicit.proofs.bucket_count.Goals as goal
 

@@ -1,10 +1,8 @@
-use Prim.Native.Nat.{◌-◌, ◌≤◌}
-use mathlib.Core.Path.{◌≡◌, refl, ap, ◌∙◌}
+use mathlib.Core.Path.{refl, ap, ◌∙◌}
 use native.Mathlib.Omega.{arith}
-use lib.ListN.{length, take, get_or}
+use lib.ListN.{get_or}
 use lib.Seq.{take_all}
 use lib.Ieee.{nan, lt}
-use borrow.Author.Rules.{rules}
 use Rattle.points.specs.Explicit.{bucket_of}
 use Rattle.laws.proofs.Counting.{bit_le}
 use Rattle.explicit.proofs.Turns.{bucket-turn}

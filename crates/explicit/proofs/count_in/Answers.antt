@@ -1,7 +1,6 @@
 use Prim.Native.Nat.{◌<◌}
 use native.Mathlib.Omega.{arith}
 use lib.ListN.{length}
-use borrow.Author.Rules.{rules}
 use Rattle.explicit.proofs.Writes.{no-bucket, bucket_in, one_more, one-fits}
 use Rattle.explicit.proofs.count_in.Goals as goal
 

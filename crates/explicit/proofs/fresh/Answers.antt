@@ -1,6 +1,5 @@
 use native.Mathlib.Omega.{arith}
 use lib.Ieee.{of_bits, neg}
-use borrow.Author.Rules.{rules}
 use Rattle.explicit.proofs.Writes.{fresh-short, fresh-made}
 use Rattle.explicit.proofs.fresh.Goals as goal
 

@@ -1,6 +1,5 @@
 use mathlib.Core.Path.{sym, ◌∙◌}
 use native.Mathlib.Omega.{arith}
-use borrow.Author.Rules.{rules}
 use Rattle.explicit.proofs.Writes.{Ready, ready, total-below, refused_law, accepted_law}
 use Rattle.explicit.proofs.record.Goals as goal
 

@@ -1,6 +1,5 @@
 use mathlib.Core.Path.{sym, ◌∙◌}
 use native.Mathlib.Omega.{arith}
-use borrow.Author.Rules.{rules}
 use Rattle.explicit.proofs.Cases.{short_row, not_finite, disagrees, bad-min, bad-max, full, none}
 use Rattle.explicit.proofs.refusal.Goals as goal
 

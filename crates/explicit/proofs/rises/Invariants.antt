@@ -1,11 +1,7 @@
 use Prim.Native.Nat.{◌+◌, ◌-◌, ◌≤◌}
-use mathlib.Core.Path.{◌≡◌, ap, ◌∙◌}
-use native.Mathlib.Omega.{arith}
+use mathlib.Core.Path.{◌≡◌}
 use lib.ListN.{length, take}
-use lib.Seq.{take_all}
-use borrow.Author.Rules.{rules}
 use Rattle.points.specs.Explicit.{rising}
-use Rattle.explicit.proofs.Turns.{rising-turn, rising-one}
 use Rattle.explicit.proofs.rises.Given as goal
 
 abbrev pub invariant-loop-i : goal.invariant-loop-i

@@ -1,9 +1,6 @@
-use Prim.Native.Nat.{◌-◌, ◌≤◌}
-use mathlib.Core.Path.{◌≡◌, ◌∙◌}
+use mathlib.Core.Path.{◌∙◌}
 use native.Mathlib.Omega.{arith}
-use lib.ListN.{take}
 use lib.Seq.{take_all}
-use borrow.Author.Rules.{rules}
 use Rattle.points.specs.Explicit.{same_bounds}
 use Rattle.explicit.proofs.Turns.{same_turn, same-other, same_none}
 use Rattle.explicit.proofs.same_bounds.Goals as goal

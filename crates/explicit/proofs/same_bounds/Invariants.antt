@@ -1,11 +1,7 @@
 use Prim.Native.Nat.{◌-◌, ◌≤◌}
-use mathlib.Core.Path.{◌≡◌, ◌∙◌}
-use native.Mathlib.Omega.{arith}
+use mathlib.Core.Path.{◌≡◌}
 use lib.ListN.{take}
-use lib.Seq.{take_all}
-use borrow.Author.Rules.{rules}
 use Rattle.points.specs.Explicit.{same_bounds}
-use Rattle.explicit.proofs.Turns.{same_turn, same-other, same_none}
 use Rattle.explicit.proofs.same_bounds.Given as goal
 
 abbrev pub invariant-loop-i : goal.invariant-loop-i

@@ -1,5 +1,5 @@
 -- The call: its refusals in order, and that an accepted value makes the point that the definition says. Assumes nothing.
-use Rattle.std.proofs.Common.{◌≡◌, ℕ, ◌-◌, ◌^◌, ◌<◌, ◌≤◌, true, false, eqb, leb, List, length, ap, ◌∙◌, arith, eq-eqb, ne_eqb, le-leb, leb-true}
+use Rattle.std.proofs.Common.{◌≡◌, ℕ, ◌^◌, ◌<◌, ◌≤◌, true, false, eqb, leb, List, length, ap, ◌∙◌, arith, eq-eqb, ne_eqb, le-leb, leb-true}
 use lib.Ieee.{Float, binary64, add, fits}
 use lib.Ieee.Scale.{finite}
 use borrow.Author.Tests.{lt-leb, eqb-false}
@@ -7,9 +7,8 @@ use Rattle.points.specs.Points.{record1}
 use Rattle.exponential.specs.declared.Counts.{Counts}
 use Rattle.exponential.specs.declared.Head.{Head}
 use Rattle.index.specs.Answers.{bin_of}
-use Rattle.exponential.specs.declared.Class.{Class}
 use Rattle.exponential.specs.Steps.{placed}
-use Rattle.exponential.specs.Series.{agrees, read, refusal_of, outcome, accepted, recording}
+use Rattle.exponential.specs.Series.{agrees, read, refusal_of, outcome, recording}
 use Rattle.exponential.specs.Inner.{class_at, value_of, Written, Ready}
 use Rattle.laws.specs.Pick.{pick}
 use Rattle.laws.specs.Said.{refusal, success}

@@ -1,5 +1,5 @@
 -- What each bin of a row counts, and that lowering and adding one are what the definition of a row says. Assumes nothing.
-use Rattle.std.proofs.Common.{◌≡◌, ℕ, zero, suc, ◌+◌, ◌-◌, ◌/◌, ◌^◌, ◌<◌, ◌≤◌, min, max, Bool, true, false, eqb, ◌⊎◌, List, [], ◌∷◌, ◌++◌, map, length, replicate, sym, refl, ap, ◌∙◌, ⊎_elim, add-zero, arith, length-append, ext_get_or}
+use Rattle.std.proofs.Common.{◌≡◌, ℕ, zero, suc, ◌+◌, ◌-◌, ◌/◌, ◌^◌, ◌<◌, ◌≤◌, min, max, Bool, true, false, eqb, List, [], ◌∷◌, ◌++◌, map, length, replicate, sym, refl, ap, ◌∙◌, ⊎_elim, add-zero, arith, length-append, ext_get_or}
 use native.Mathlib.Nat.{zero-div, min-eq_left, min-eq_right}
 use lib.Dec.{eqb-suc-zero}
 use lib.Pow.{shr_mono}

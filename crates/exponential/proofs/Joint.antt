@@ -1,5 +1,5 @@
 -- One value recorded, as the code does it, is what the definition of a point says. Assumes nothing.
-use Rattle.std.proofs.Common.{◌≡◌, ℕ, zero, suc, pred, ◌+◌, ◌-◌, ◌*◌, ◌/◌, ◌^◌, ◌<◌, ◌≤◌, max, Bool, true, false, eqb, leb, ◌⊎◌, List, [], ◌∷◌, ◌++◌, map, length, sym, refl, ap, ◌∙◌, subst, inl, ⊎_elim, append-nil, add-zero, mul_assoc, div-lt_iff_lt-mul, arith, pow_pos, pow-add, shr-shr, le-leb, leb-true}
+use Rattle.std.proofs.Common.{◌≡◌, ℕ, zero, suc, pred, ◌+◌, ◌-◌, ◌*◌, ◌/◌, ◌^◌, ◌<◌, ◌≤◌, max, Bool, true, false, eqb, leb, List, [], ◌∷◌, ◌++◌, map, length, sym, refl, ap, ◌∙◌, subst, inl, ⊎_elim, append-nil, add-zero, mul_assoc, div-lt_iff_lt-mul, arith, pow_pos, pow-add, shr-shr, le-leb, leb-true}
 use Rattle.index.specs.Bins.{finest, end_bin}
 use mathlib.Core.List.{map-append}
 use lib.Pow.{shr_mono}

@@ -1,5 +1,5 @@
 -- What the functions on one row need. Assumes nothing.
-use Rattle.std.proofs.Common.{◌≡◌, ℕ, suc, pred, ◌+◌, ◌-◌, ◌*◌, ◌/◌, ◌%◌, ◌^◌, ◌<◌, ◌≤◌, min, max, Bool, true, false, not, eqb, leb, ◌⊎◌, List, [], ◌∷◌, length, get_or, take, sym, refl, ap, ◌∙◌, subst, ⊎_elim, eq-zero-or-pos, div-one, arith, length-take-le, get_or-take, eq-eqb, ne_eqb, le-leb, leb-true}
+use Rattle.std.proofs.Common.{◌≡◌, ℕ, suc, pred, ◌+◌, ◌-◌, ◌*◌, ◌/◌, ◌%◌, ◌^◌, ◌<◌, ◌≤◌, min, max, Bool, true, false, not, eqb, leb, List, [], ◌∷◌, length, get_or, take, sym, refl, ap, ◌∙◌, subst, ⊎_elim, eq-zero-or-pos, div-one, arith, length-take-le, get_or-take, eq-eqb, ne_eqb, le-leb, leb-true}
 use Rattle.laws.proofs.Bools.{flag, and_left, and_right, and_intro}
 use Rattle.points.specs.Agreement as A
 use Rattle.points.proofs.Agreement.{RowOk, row-says, row-agrees}

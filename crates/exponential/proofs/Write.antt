@@ -1,5 +1,5 @@
 -- What adding a value needs and leaves. Assumes nothing.
-use Rattle.std.proofs.Common.{◌≡◌, ℕ, ◌+◌, ◌-◌, ◌*◌, ◌/◌, ◌^◌, ◌<◌, ◌≤◌, ◌⊎◌, List, length, take, sym, ap, ◌∙◌, subst, ⊎_elim, mul_assoc, eq-or-lt_of_le, mul-lt-mul_of_pos_right, arith, length-take-le, pow_pos, pow-add}
+use Rattle.std.proofs.Common.{◌≡◌, ℕ, ◌+◌, ◌-◌, ◌*◌, ◌/◌, ◌^◌, ◌<◌, ◌≤◌, List, length, take, sym, ap, ◌∙◌, subst, ⊎_elim, mul_assoc, eq-or-lt_of_le, mul-lt-mul_of_pos_right, arith, length-take-le, pow_pos, pow-add}
 use Rattle.index.specs.Bins.{finest, end_bin}
 use lib.Pow.{pow-lt, shl-shr}
 use Rattle.points.specs.Points.{naught, plus, minus}

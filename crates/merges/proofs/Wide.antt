@@ -9,7 +9,6 @@ use borrow.Author.Tests.{eq-eqb, ne_eqb}
 use Rattle.points.specs.Points as P
 use Rattle.rows.specs.Rows.{over, add_at, add_all, shifted, zeroed, downscaled}
 use Rattle.laws.specs.Counting.{total}
-use Rattle.rows.specs.declared.Row.{Row}
 use Rattle.rows.proofs.Laws.{take-over, over-over, length_over}
 use Rattle.exponential.specs.Inner.{Laid}
 use Rattle.laws.specs.Pick.{pick}

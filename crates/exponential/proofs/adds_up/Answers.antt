@@ -1,5 +1,5 @@
 -- `exponential::adds_up` meets its contract. Assumes nothing.
-use Rattle.std.proofs.Common.{take, arith, rules}
+use Rattle.std.proofs.Common.{take, arith}
 use Rattle.laws.specs.Counting.{total}
 use Rattle.exponential.proofs.Wraps.{sums-exact, adds-up_if}
 use Rattle.exponential.proofs.adds_up.Goals as goal

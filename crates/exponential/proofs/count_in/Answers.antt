@@ -1,4 +1,4 @@
-use Rattle.std.proofs.Common.{◌≡◌, true, sym, ap, ◌∙◌, subst, arith, rules}
+use Rattle.std.proofs.Common.{◌≡◌, true, sym, ap, ◌∙◌, subst, arith}
 use lib.Ieee.{binary64, fits}
 use Rattle.index.specs.Answers.{bin_of}
 use Rattle.points.specs.Points.{Point}

@@ -1,8 +1,8 @@
-use Rattle.std.proofs.Common.{◌≡◌, ◌-◌, true, sym, ◌∙◌, arith, rules}
+use Rattle.std.proofs.Common.{◌≡◌, true, sym, ◌∙◌, arith}
 use Rattle.index.specs.Bins.{lowest_bin, end_bin}
 use Rattle.exponential.specs.Series.{size_passes}
 use Rattle.exponential.specs.Inner.{row_agrees}
-use Rattle.exponential.proofs.Facts.{not-true, not-false, size_in, size-passes_in, refuse, pos-facts, neg-facts, by-sum}
+use Rattle.exponential.proofs.Facts.{size_in, size-passes_in, refuse, pos-facts, neg-facts, by-sum}
 use Rattle.exponential.proofs.Rowed.{row-facts, facts-row, short}
 use Rattle.laws.proofs.Bools.{not-both}
 use Rattle.exponential.proofs.counts_agree.Goals as goal

@@ -1,5 +1,5 @@
 -- `exponential::halves_add_up` meets its contract. Assumes nothing.
-use Rattle.std.proofs.Common.{◌≡◌, ◌+◌, ◌-◌, ◌*◌, take, arith, rules}
+use Rattle.std.proofs.Common.{◌≡◌, ◌+◌, ◌*◌, take, arith}
 use Rattle.laws.specs.Counting.{total}
 use Rattle.exponential.proofs.Facts.{halves-sum, low-bound, high-bound, last_fits, adds-up-no, adds-up-by}
 use Rattle.exponential.proofs.Rowed.{halved-total}

@@ -1,4 +1,4 @@
-use Rattle.std.proofs.Common.{◌-◌, arith, rules}
+use Rattle.std.proofs.Common.{arith}
 use Rattle.exponential.proofs.Rowed.{laid_same}
 use Rattle.exponential.proofs.lower.Goals as goal
 

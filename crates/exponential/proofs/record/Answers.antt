@@ -1,4 +1,4 @@
-use Rattle.std.proofs.Common.{◌≡◌, ◌-◌, arith, rules}
+use Rattle.std.proofs.Common.{◌≡◌, arith}
 use Rattle.exponential.specs.Series.{refusal_of}
 use Rattle.exponential.proofs.Call.{refused_law, accepted_law}
 use Rattle.exponential.proofs.record.Goals as goal

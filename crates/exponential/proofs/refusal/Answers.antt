@@ -1,5 +1,4 @@
-use Rattle.std.proofs.Common.{◌-◌, sym, ◌∙◌, arith, rules}
-use Rattle.exponential.proofs.Facts.{not-true, not-false}
+use Rattle.std.proofs.Common.{sym, ◌∙◌, arith}
 use Rattle.exponential.proofs.Call.{short-pos, short-neg, not_finite, disagrees, bad-min, bad-max, full, none}
 use Rattle.exponential.proofs.refusal.Goals as goal
 

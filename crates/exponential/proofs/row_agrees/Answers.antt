@@ -1,4 +1,4 @@
-use Rattle.std.proofs.Common.{◌-◌, arith, rules}
+use Rattle.std.proofs.Common.{arith}
 use Rattle.exponential.proofs.Rowed.{refuse, short, low, range, first, empty-row, by_last}
 use Rattle.exponential.proofs.row_agrees.Goals as goal
 

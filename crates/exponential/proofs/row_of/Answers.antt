@@ -1,4 +1,4 @@
-use Rattle.std.proofs.Common.{◌≡◌, ℕ, ◌-◌, ◌<◌, ◌≤◌, min, Bool, List, length, take, drop, sym, ap, ◌∙◌, ⊎_elim, arith, take_all, rules}
+use Rattle.std.proofs.Common.{◌≡◌, ℕ, ◌-◌, ◌<◌, ◌≤◌, min, Bool, List, length, take, drop, sym, ap, ◌∙◌, ⊎_elim, arith, take_all}
 use Rattle.laws.specs.Pick.{pick}
 use Rattle.rows.proofs.Algebra.{le_or-lt}
 use Rattle.exponential.proofs.row_of.Goals as goal

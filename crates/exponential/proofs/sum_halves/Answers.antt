@@ -1,4 +1,4 @@
-use Rattle.std.proofs.Common.{◌≡◌, ℕ, ◌+◌, ◌-◌, ◌*◌, ◌/◌, ◌%◌, ◌≤◌, get_or, take, ap, ◌∙◌, arith}
+use Rattle.std.proofs.Common.{◌≡◌, ℕ, ◌+◌, ◌/◌, ◌%◌, get_or, take, ap, ◌∙◌, arith}
 use Rattle.laws.specs.Counting.{sum}
 use Rattle.rows.proofs.Laws.{sum_step}
 use Rattle.exponential.specs.Inner.{halved}

@@ -1,8 +1,5 @@
-use Rattle.std.proofs.Common.{◌≡◌, ℕ, ◌+◌, ◌-◌, ◌*◌, ◌/◌, ◌%◌, ◌≤◌, get_or, take, ap, ◌∙◌, arith}
+use Rattle.std.proofs.Common.{◌≡◌, ◌+◌, ◌-◌, ◌*◌, ◌/◌, ◌%◌, ◌≤◌, take}
 use Rattle.laws.specs.Counting.{sum}
-use Rattle.rows.proofs.Laws.{sum_step}
-use Rattle.exponential.specs.Inner.{halved}
-use Rattle.exponential.proofs.Rowed.{times8, one-fits, half-fits, half-next, low_small, high_small, half-more}
 use Rattle.exponential.proofs.sum_halves.Given as goal
 
 abbrev pub invariant-loop-i : goal.invariant-loop-i

@@ -1,13 +1,8 @@
-use Prim.Native.Nat.{ℕ, ◌+◌, ◌-◌, ◌/◌, ◌^◌, ◌≤◌, ◌<◌}
-use mathlib.Core.Path.{◌≡◌, refl, sym, ◌∙◌, subst}
-use native.Mathlib.Omega.{arith}
-use lib.ListN.{length, take, get_or}
-use lib.Seq.{length-take-le}
-use lib.Pow.{shr_mono}
-use Rattle.rows.specs.Rows.{over, add_at}
-use Rattle.rows.proofs.Adds.{over-self}
+use Prim.Native.Nat.{◌+◌, ◌-◌, ◌≤◌}
+use mathlib.Core.Path.{◌≡◌}
+use lib.ListN.{length, take}
+use Rattle.rows.specs.Rows.{over}
 use Rattle.merges.specs.Merges.{add_low}
-use Rattle.merges.proofs.Lowly.{Turn, turn}
 use Rattle.merges.proofs.add_low.Given as goal
 
 abbrev pub invariant-loop-j : goal.invariant-loop-j

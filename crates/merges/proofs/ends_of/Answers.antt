@@ -1,7 +1,6 @@
 use Prim.Native.Nat.{ℕ, ◌/◌, ◌^◌, max}
 use mathlib.Core.Path.{sym, ap, ◌∙◌}
 use native.Mathlib.Omega.{arith}
-use borrow.Author.Rules.{rules}
 use Rattle.merges.proofs.Spans.{ends-first, ends-second, ends-both}
 use Rattle.merges.proofs.ends_of.Goals as goal
 

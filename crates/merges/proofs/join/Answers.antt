@@ -11,7 +11,6 @@ use Rattle.exponential.specs.Series.{row_in}
 use Rattle.exponential.specs.Inner.{Laid}
 use Rattle.merges.specs.Merges.{joined}
 use Rattle.merges.proofs.Wide as wide
-use borrow.Author.Rules.{rules}
 use Rattle.merges.proofs.join.Goals as goal
 
 none_other : (a : P.Row) (k s m : ℕ) (ys : List ℕ) → m ≡ 0 → joined a (record { start = s / 2 ^ k; counts = downscaled k s (take m ys) }) ≡ a

@@ -1,4 +1,3 @@
-use borrow.Author.Rules.{rules}
 use Rattle.merges.proofs.Laying as laying
 use Rattle.merges.proofs.join_to.Goals as goal
 

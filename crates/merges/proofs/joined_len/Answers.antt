@@ -1,7 +1,6 @@
 use Prim.Native.Nat.{suc, ◌-◌}
 use mathlib.Core.Path.{◌∙◌}
 use native.Mathlib.Omega.{arith}
-use borrow.Author.Rules.{rules}
 use native.Mathlib.Numerals.{add-one}
 use Rattle.merges.proofs.Spans.{ends-le, len-none, len-some}
 use Rattle.merges.proofs.joined_len.Goals as goal

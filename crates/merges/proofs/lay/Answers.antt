@@ -1,4 +1,3 @@
-use borrow.Author.Rules.{rules}
 use Rattle.merges.proofs.Laying as laying
 use Rattle.merges.proofs.lay.Goals as goal
 

@@ -1,6 +1,5 @@
 use mathlib.Core.Path.{sym, subst}
 use native.Mathlib.Omega.{arith}
-use borrow.Author.Rules.{rules}
 use Rattle.merges.specs.declared.Plan.{Plan}
 use Rattle.merges.specs.Merges.{Lendable}
 use Rattle.merges.proofs.Merging as merging

@@ -1,6 +1,5 @@
 use mathlib.Core.Path.{◌≡◌}
 use native.Mathlib.Omega.{arith}
-use borrow.Author.Rules.{rules}
 use Rattle.merges.specs.Merges.{rows_low}
 use Rattle.merges.proofs.Merging.{plan_law, plan-made}
 use Rattle.merges.proofs.plan_of.Goals as goal

@@ -1,6 +1,5 @@
 use mathlib.Core.Path.{◌∙◌}
 use native.Mathlib.Omega.{arith}
-use borrow.Author.Rules.{rules}
 use Rattle.exponential.specs.Steps.{lowering}
 use Rattle.merges.proofs.Spans.{ends-le}
 use Rattle.merges.proofs.span.Goals as goal

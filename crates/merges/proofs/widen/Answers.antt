@@ -1,7 +1,6 @@
 use mathlib.Core.Path.{ap, ◌∙◌}
 use Rattle.rows.specs.Rows.{zeroed}
 use Rattle.merges.proofs.Wide.{widened}
-use borrow.Author.Rules.{rules}
 use Rattle.merges.proofs.widen.Goals as goal
 
 pub returns : goal.returns

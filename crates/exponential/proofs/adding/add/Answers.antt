@@ -1,12 +1,12 @@
 -- ---- zero
 -- ---- a value above or below it
-use Rattle.std.proofs.Common.{◌≡◌, ℕ, ◌+◌, List, sym, subst, arith, rules}
+use Rattle.std.proofs.Common.{◌+◌, sym, subst, arith}
 use Rattle.exponential.specs.declared.Class.{Class}
 use Rattle.exponential.specs.declared.Class.TheVariants.{At}
 use Rattle.exponential.specs.declared.Counts.{Counts}
 use Rattle.exponential.specs.Steps.{placed}
 use Rattle.exponential.specs.Series.{read}
-use Rattle.exponential.specs.Inner.{Ready, Written, value_of, one_more, signed}
+use Rattle.exponential.specs.Inner.{Ready, Written, value_of, signed}
 use Rattle.exponential.proofs.Facts.{Agreed, agreed, level_in}
 use Rattle.exponential.proofs.Write.{written-zero}
 use Rattle.exponential.proofs.Warm.{beside-of, tried_in, still-ready, still-written}

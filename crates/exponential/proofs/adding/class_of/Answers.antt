@@ -1,4 +1,4 @@
-use Rattle.std.proofs.Common.{sym, ap, ◌∙◌, rules}
+use Rattle.std.proofs.Common.{sym, ap, ◌∙◌}
 use Rattle.exponential.specs.Inner.{class_at}
 use Rattle.exponential.proofs.adding.class_of.Goals as goal
 

@@ -1,4 +1,4 @@
-use Rattle.std.proofs.Common.{◌-◌, arith, rules}
+use Rattle.std.proofs.Common.{arith}
 use Rattle.exponential.proofs.Rowed.{bins-empty, bins-some}
 use Rattle.exponential.proofs.adding.needed.Goals as goal
 

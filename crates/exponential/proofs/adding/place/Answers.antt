@@ -1,4 +1,4 @@
-use Rattle.std.proofs.Common.{ℕ, ◌-◌, ◌/◌, ◌^◌, List, take, arith, length-take-le, rules}
+use Rattle.std.proofs.Common.{ℕ, ◌/◌, ◌^◌, List, take, arith, length-take-le}
 use Rattle.rows.specs.Rows.{downscaled}
 use Rattle.rows.proofs.Laws.{length-downscaled, total-downscaled}
 use Rattle.rows.proofs.Adds as adds

@@ -1,6 +1,6 @@
 -- ---- below zero: the law above zero, the rows in each other's place
 -- ---- above zero
-use Rattle.std.proofs.Common.{◌≡◌, ℕ, Bool, true, false, sym, subst, arith, rules}
+use Rattle.std.proofs.Common.{◌≡◌, Bool, true, false, sym, subst, arith}
 use Rattle.exponential.specs.declared.Class.TheVariants.{At}
 use Rattle.exponential.specs.declared.Counts.{Counts}
 use Rattle.exponential.specs.Steps.{placed}

@@ -1,4 +1,4 @@
-use Rattle.std.proofs.Common.{◌≡◌, ℕ, ◌-◌, ◌/◌, ◌^◌, ◌≤◌, length, sym, ◌∙◌, subst, arith, rules}
+use Rattle.std.proofs.Common.{◌≡◌, ℕ, ◌/◌, ◌^◌, ◌≤◌, length, sym, ◌∙◌, subst, arith}
 use Rattle.exponential.specs.Steps.{lowered, with1}
 use Rattle.exponential.specs.Series.{row_in}
 use Rattle.exponential.specs.Inner.{Laid, lower_by}

@@ -1,5 +1,4 @@
-use Rattle.std.proofs.Common.{ℕ, ◌+◌, ◌-◌, ◌^◌, ◌<◌, ◌≤◌, length, get_or, refl, arith, rules}
-use Rattle.rows.specs.declared.Row.{Row}
+use Rattle.std.proofs.Common.{ℕ, ◌+◌, ◌-◌, ◌^◌, ◌<◌, ◌≤◌, length, get_or, refl, arith}
 use Rattle.rows.proofs.Adds.{holds-below, holds-above}
 use Rattle.exponential.proofs.Raises.{within_both, sums-fit, tried-yes, tried-no}
 use Rattle.exponential.proofs.adding.raise.Goals as goal

@@ -1,5 +1,5 @@
 -- `exponential::sums::add_row` meets its contract. Assumes nothing.
-use Rattle.std.proofs.Common.{◌≡◌, ◌+◌, ◌-◌, ◌*◌, ◌%◌, ◌≤◌, get_or, take, le_trans, arith, rules}
+use Rattle.std.proofs.Common.{◌≡◌, ◌+◌, get_or, take, le_trans, arith}
 use Rattle.laws.specs.Counting.{total}
 use Rattle.rows.proofs.Laws.{total-step}
 use Rattle.exponential.proofs.Rowed.{times8, one-fits}

@@ -1,9 +1,6 @@
 -- `exponential::sums::add_row` meets its contract. Assumes nothing.
-use Rattle.std.proofs.Common.{◌≡◌, ◌+◌, ◌-◌, ◌*◌, ◌%◌, ◌≤◌, get_or, take, le_trans, arith, rules}
+use Rattle.std.proofs.Common.{◌≡◌, ◌+◌, ◌-◌, ◌*◌, ◌%◌, ◌≤◌, take}
 use Rattle.laws.specs.Counting.{total}
-use Rattle.rows.proofs.Laws.{total-step}
-use Rattle.exponential.proofs.Rowed.{times8, one-fits}
-use Rattle.exponential.proofs.Wraps.{or_left, wraps-start, wraps-next, most-next}
 use Rattle.exponential.proofs.sums.add_row.Given as goal
 
 abbrev pub invariant-loop-i : goal.invariant-loop-i

@@ -1,5 +1,5 @@
 -- A series of the exponential kind over i64 in a head and two lent rows: what it holds, and what recording does. Assumes nothing.
-use Rattle.std.specs.Prelude.{ℕ, Bool, true, List, eqb, ℤ}
+use Rattle.std.specs.Prelude.{ℕ, Bool, List, eqb, ℤ}
 use Rattle.laws.specs.Pick.{pick}
 use Rattle.laws.specs.Said.{Said, refusal, success}
 use Rattle.laws.specs.Over.{over}

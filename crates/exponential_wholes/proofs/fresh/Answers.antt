@@ -1,7 +1,6 @@
 -- `fresh` meets its contract. Assumes nothing.
 use mathlib.Core.Path.{ap}
 use lib.IntN.{pos, negsuc}
-use borrow.Author.Rules.{rules}
 use Rattle.exponential.specs.declared.Head as F
 use Rattle.exponential_wholes.specs.declared.Head.{Head}
 use Rattle.exponential_wholes.proofs.fresh.Goals as goal

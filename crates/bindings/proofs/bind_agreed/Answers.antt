@@ -20,11 +20,11 @@ pub returns-then-not-few : goal.returns-then-not-few
 returns-then-not-few c =
     let filter : Option (List ℕ) = filter_of c.args.present c.args.filter.now in
     let stores : Stores = record { sets = c.args.sets.now; entries = c.args.entries.now; order = c.args.order.now } in
-    sym (bound_5 c.args.limit (filter) c.args.d (stores) c.args.attrs.now c.requires.lent (sym c.few.ensures ∙ not-true _ c.if-not-few.true))
+    sym (bound_5 c.args.limit (filter) c.args.d (stores) c.args.attrs.now c.requires.lent (sym c.few.ensures ∙ c.if-not-few.true))
 
 pub sort_into-requires : goal.sort_into-requires
 sort_into-requires c =
-    let short : leb (length c.args.attrs.now) most_attributes ≡ true = sym c.few.ensures ∙ not-false _ c.if-not-few.false in
+    let short : leb (length c.args.attrs.now) most_attributes ≡ true = sym c.few.ensures ∙ c.if-not-few.false in
     leb-true _ _ (short)
 
 pub bind_right-requires : goal.bind_right-requires
@@ -38,7 +38,7 @@ pub returns : goal.returns
 returns c =
     let stores : Stores = record { sets = c.args.sets.now; entries = c.args.entries.now; order = c.args.order.now } in
     let filter : Option (List ℕ) = filter_of c.args.present c.args.filter.now in
-    let short : leb (length c.args.attrs.now) most_attributes ≡ true = sym c.few.ensures ∙ not-false _ c.if-not-few.false in
+    let short : leb (length c.args.attrs.now) most_attributes ≡ true = sym c.few.ensures ∙ c.if-not-few.false in
     c.bind_right.ensures
     ∙ ap (λ (l : List ℕ). bound_in c.args.limit c.args.d (stores) l) c.sort_into.ensures.0
     ∙ sym (bound-on c.args.limit (filter) c.args.d (stores) c.args.attrs.now c.requires.lent (short) c.requires.accepted)

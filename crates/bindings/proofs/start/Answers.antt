@@ -18,25 +18,19 @@ pub returns-then-not-accepted : goal.returns-then-not-accepted
 returns-then-not-accepted c =
     let filter : Option (List ℕ) = filter_of c.args.present c.args.filter.now in
     let stores : Stores = record { sets = c.args.sets.now; entries = c.args.entries.now; order = c.args.order.now } in
-    sym (start_4 c.args.limit (filter) (stores) (sym c.accepted.ensures ∙ not-true _ c.if-not-accepted.true))
+    sym (start_4 c.args.limit (filter) (stores) (sym c.accepted.ensures ∙ c.if-not-accepted.true))
 
 pub returns-then-not-stores_suffice : goal.returns-then-not-stores_suffice
 returns-then-not-stores_suffice c =
     let filter : Option (List ℕ) = filter_of c.args.present c.args.filter.now in
     let stores : Stores = record { sets = c.args.sets.now; entries = c.args.entries.now; order = c.args.order.now } in
-    let accept : accepts c.args.limit (filter) ≡ true = sym c.accepted.ensures ∙ not-false _ c.if-not-accepted.false in
-    sym (start_12 c.args.limit (filter) (stores) (accept) (sym c.stores_suffice.ensures ∙ not-true _ c.if-not-stores_suffice.true))
-
-pub bounds-entries-0 : goal.bounds-entries-0
-bounds-entries-0 c =
-    let stores : Stores = record { sets = c.args.sets.now; entries = c.args.entries.now; order = c.args.order.now } in
-    let lent : stores_suffice c.args.limit (stores) ≡ true = sym c.stores_suffice.ensures ∙ not-false _ c.if-not-stores_suffice.false in
-    omega (arith, (suffices c.args.limit (stores) (lent)).entries)
+    let accept : accepts c.args.limit (filter) ≡ true = sym c.accepted.ensures ∙ c.if-not-accepted.false in
+    sym (start_12 c.args.limit (filter) (stores) (accept) (sym c.stores_suffice.ensures ∙ c.if-not-stores_suffice.true))
 
 pub returns : goal.returns
 returns c =
     let filter : Option (List ℕ) = filter_of c.args.present c.args.filter.now in
     let stores : Stores = record { sets = c.args.sets.now; entries = c.args.entries.now; order = c.args.order.now } in
-    let accept : accepts c.args.limit (filter) ≡ true = sym c.accepted.ensures ∙ not-false _ c.if-not-accepted.false in
-    let lent : stores_suffice c.args.limit (stores) ≡ true = sym c.stores_suffice.ensures ∙ not-false _ c.if-not-stores_suffice.false in
+    let accept : accepts c.args.limit (filter) ≡ true = sym c.accepted.ensures ∙ c.if-not-accepted.false in
+    let lent : stores_suffice c.args.limit (stores) ≡ true = sym c.stores_suffice.ensures ∙ c.if-not-stores_suffice.false in
     sym (start_0 c.args.limit (filter) (stores) (accept) (lent))

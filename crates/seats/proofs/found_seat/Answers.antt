@@ -8,14 +8,14 @@ use Rattle.seats.specs.Seats.{seat_by}
 use Rattle.seats.proofs.found_seat.Goals as goal
 
 pub held_seat-requires : goal.held_seat-requires
-held_seat-requires c = c.requires c.found-1.given.0.0 c.found-1.given.1
+held_seat-requires c = c.requires c.in-Held.x c.in-Held.is
 
 pub returns-in-Room : goal.returns-in-Room
 returns-in-Room c sets order =
     let stores : List (List ℕ) → List ℕ → Stores = λ sets order. record { sets = sets; entries = c.args.entries.now; order = order } in
-    c.refused.ensures ∙ sym (ap (seat_by (stores sets order)) c.enum_told-1.given.1)
+    c.refused.ensures ∙ sym (ap (seat_by (stores sets order)) c.in-Room.is)
 
 pub returns-in-Held : goal.returns-in-Held
 returns-in-Held c sets order =
     let stores : List (List ℕ) → List ℕ → Stores = λ sets order. record { sets = sets; entries = c.args.entries.now; order = order } in
-    c.held_seat.ensures ∙ sym (ap (seat_by (stores sets order)) c.found-1.given.1)
+    c.held_seat.ensures ∙ sym (ap (seat_by (stores sets order)) c.in-Held.is)

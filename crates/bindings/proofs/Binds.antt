@@ -12,8 +12,8 @@ use lib.Dec.{ltb, leb}
 use lib.ListN.{length, get_or}
 use Rattle.tally.specs.Sets.{Set, overflow, canonical}
 use Rattle.tally.specs.Kind.{Kind}
-use Rattle.tally.specs.Map.{Config, Map, bind, handle, Out, find}
-use Rattle.tally.proofs.MapSteps.{Place, put, rebound, new, held, place, bind_at, upfront, act}
+use Rattle.tally.specs.Map.{Config, Map, bind, handle, refuse, Out, find}
+use Rattle.tally.proofs.MapSteps.{Place, put, write, rebound, new, held, place, bind_at, upfront, act}
 use Rattle.laws.proofs.Cases.{true-not-false}
 use Rattle.sets.specs.Rows.{set_of}
 use Rattle.directory.specs.Calls.{over_row, located, bound_to, admitted}
@@ -37,6 +37,9 @@ module _ (K : Kind) (f : ℕ → K.Series) (z : K.Settings) where
   abbrev Is : Outcome → Out K → Type 0
   Is o p = (map_answer K o.answer ≡ p.answer) × (view K f z o.kept.dir o.kept.stores ≡ p.map)
 
+  both : {o q : Outcome} {p w : Out K} → o ≡ q → p ≡ w → Is o p → Is q w
+  both {o} {q} {p} {w} e h i = subst (λ (t : Outcome). Is t w) e (subst (λ (t : Out K). Is o t) h i)
+
   module _ (limit : ℕ) (d : Directory) (s : Stores) (row : List ℕ) (g : agreesb limit d s ≡ true) (small : d.last < 2 ^ 64) where
     old-full : (x : ℕ) → 18446744073709551615 ≤ get_or (get_or s.entries x []) 1 0 → Is (bound_at d s row (Old x)) (bind_at K (view K f z d s) (held K (view K f z d s) (entry_at K f s x)))
     unfolding bind_at pick
@@ -44,7 +47,9 @@ module _ (K : Kind) (f : ℕ → K.Series) (z : K.Settings) where
         let a : leb 18446744073709551615 (get_or (get_or s.entries x []) 1 0) ≡ true = le-leb _ _ h in
         let b : ltb (suc (get_or (get_or s.entries x []) 1 0)) (2 ^ 64) ≡ false = le-ltb (suc (get_or (get_or s.entries x []) 1 0)) (2 ^ 64) (omega arith) in
         let l : ltb d.last (2 ^ 64) ≡ true = lt-ltb _ _ small in
-        rw (a, l, b) (refl, refl)
+        let o : bound_at d s row (Old x) ≡ refused 9 d s = rw a in
+        let q : bind_at K (view K f z d s) (held K (view K f z d s) (entry_at K f s x)) ≡ record { answer = refuse 9; map = view K f z d s } = rw (l, b) in
+        both (sym o) (sym q) (refl, refl)
 
     old-more : (x : ℕ) → In x (slots_of d s) → limit + 2 ≤ length s.entries → get_or (get_or s.entries x []) 1 0 < 18446744073709551615 → Is (bound_at d s row (Old x)) (bind_at K (view K f z d s) (held K (view K f z d s) (entry_at K f s x)))
     unfolding bind_at pick
@@ -56,7 +61,12 @@ module _ (K : Kind) (f : ℕ → K.Series) (z : K.Settings) where
         let v = few limit d s g in
         let p = rebind-put K f s x (get_or (get_or s.entries x []) 1 0 + 1) (slots_of d s) (ascends limit d s g) m (omega arith) in
         let q = ap (λ (k : ℕ). put K (rebound K (entry_at K f s x) k) (map (entry_at K f s) (slots_of d s))) (add-one (get_or (get_or s.entries x []) 1 0)) in
-        rw (a, l, b) (refl, ap (λ t. record { settings = z; count = d.count; last = d.last; entries = t }) (p ∙ q))
+        let n : ℕ = get_or (get_or s.entries x []) 1 0 in
+        let o : bound_at d s row (Old x)
+            ≡ record { answer = success (some (birth_at s.entries x)); kept = record { dir = d; stores = record { sets = s.sets; entries = bound_to s.entries x (n + 1); order = s.order } } } = rw a in
+        let w : bind_at K (view K f z d s) (held K (view K f z d s) (entry_at K f s x))
+            ≡ record { answer = handle (birth_at s.entries x); map = write K (view K f z d s) (held K (view K f z d s) (entry_at K f s x)) (rebound K (entry_at K f s x) (suc n)) } = rw (l, b) in
+        both (sym o) (sym w) (refl, ap (λ t. record { settings = z; count = d.count; last = d.last; entries = t }) (p ∙ q))
 
     -- a new entry, for the set of a row, with the count then
     module _ (new_row : List ℕ) (r more count : ℕ) (c : d.count + more ≡ count) where
@@ -68,7 +78,9 @@ module _ (K : Kind) (f : ℕ → K.Series) (z : K.Settings) where
       born-spent h =
           let a : leb 18446744073709551615 d.last ≡ true = le-leb _ _ h in
           let b : ltb (suc d.last) (2 ^ 64) ≡ false = le-ltb (suc d.last) (2 ^ 64) (omega arith) in
-          rw (a, b) (refl, refl)
+          let o : born_bound d s new_row r more ≡ refused 9 d s = rw a in
+          let q : bind_at K (view K f z d s) newly ≡ record { answer = refuse 9; map = view K f z d s } = rw b in
+          both (sym o) (sym q) (refl, refl)
 
       born-made : sought (set_of new_row) d.used s.sets s.order ≡ Room r → d.used + 1 < length s.sets → d.used + 1 < length s.entries → d.used < length s.order
           → d.last < 18446744073709551615 → Is (born_bound d s new_row r more) (bind_at K (view K f z d s) newly)
@@ -78,7 +90,9 @@ module _ (K : Kind) (f : ℕ → K.Series) (z : K.Settings) where
           let b : ltb (suc d.last) (2 ^ 64) ≡ true = lt-ltb (suc d.last) (2 ^ 64) (omega arith) in
           let p = admit-put K f z limit d s g new_row r more 1 ls le lo e in
           let F : ℕ → ℕ → Map K = λ k l. record { settings = z; count = k; last = l; entries = put K (rebound K (new K (set_of new_row) l) 1) (view K f z d s).entries } in
-          rw (a, b) (ap handle (add-one d.last), p ∙ ap (λ k. F k (d.last + 1)) c ∙ ap (λ l. F count l) (add-one d.last))
+          let o : born_bound d s new_row r more ≡ record { answer = success (some (d.last + 1)); kept = admitted d s new_row r more 1 } = rw a in
+          let q : bind_at K (view K f z d s) newly ≡ record { answer = handle (suc d.last); map = write K (view K f z d s) newly (rebound K newly.entry 1) } = rw b in
+          both (sym o) (sym q) (ap handle (add-one d.last), p ∙ ap (λ k. F k (d.last + 1)) c ∙ ap (λ l. F count l) (add-one d.last))
 
   at_least : (a b : ℕ) → (a ≤ b) ⊎ (b < a)
   at_least a b = go (leb a b) refl

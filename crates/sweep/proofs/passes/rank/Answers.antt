@@ -22,9 +22,6 @@ overflow_add-r c =
     let y = c.loop-x.x + 1 in
     omega (arith, c.stays-k.ensures, bit_le (not (goes (get_or c.args.sets.now y []) (get_or c.args.entries.now y []))), rank-le (staying c.args.sets.now c.args.entries.now) c.loop-x.x, c.loop-x.invariant.1, c.loop-x-test.true)
 
-pub overflow_cast-q : goal.overflow_cast-q
-overflow_cast-q c = omega (arith, c.slice_known-in-loop-x-1.given c.loop-x.x)
-
 pub pack-requires : goal.pack-requires
 pack-requires c =
     let p = staying c.args.sets.now c.args.entries.now in

@@ -20,12 +20,6 @@ overflow_sub-q c =
     let slot : (1 ≤ c.low-q.result) × (c.low-q.result ≤ c.args.used) = word-slot c.args.used c.args.order.now c.requires.0 c.requires.1 c.requires.2 c.requires.3 c.loop-i.order c.loop-i.w c.loop-i.i c.loop-i.invariant.3 c.loop-i.invariant.1 c.loop-i-test.true c.low-q.result c.low-q.ensures in
     (slot).0
 
-pub offset_bounds-order-q : goal.offset_bounds-order-q
-offset_bounds-order-q c =
-    let slot : (1 ≤ c.low-q.result) × (c.low-q.result ≤ c.args.used) = word-slot c.args.used c.args.order.now c.requires.0 c.requires.1 c.requires.2 c.requires.3 c.loop-i.order c.loop-i.w c.loop-i.i c.loop-i.invariant.3 c.loop-i.invariant.1 c.loop-i-test.true c.low-q.result c.low-q.ensures in
-    let in-high : c.low-q.result - 1 < length c.loop-i.order = omega (arith, (slot).0, (slot).1, c.requires.0, word-long c.args.used c.args.order.now c.requires.0 c.requires.1 c.requires.2 c.requires.3 c.loop-i.order c.loop-i.w c.loop-i.i c.loop-i.invariant.3 c.loop-i.invariant.1 c.loop-i-test.true) in
-    scaled_Fits _ _ 4 (in-high) (omega (arith, word-long c.args.used c.args.order.now c.requires.0 c.requires.1 c.requires.2 c.requires.3 c.loop-i.order c.loop-i.w c.loop-i.i c.loop-i.invariant.3 c.loop-i.invariant.1 c.loop-i-test.true, c.well-formed.1.0.1))
-
 pub bounds-order-q : goal.bounds-order-q
 bounds-order-q c =
     let slot : (1 ≤ c.low-q.result) × (c.low-q.result ≤ c.args.used) = word-slot c.args.used c.args.order.now c.requires.0 c.requires.1 c.requires.2 c.requires.3 c.loop-i.order c.loop-i.w c.loop-i.i c.loop-i.invariant.3 c.loop-i.invariant.1 c.loop-i-test.true c.low-q.result c.low-q.ensures in

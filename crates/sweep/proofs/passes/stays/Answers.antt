@@ -25,9 +25,9 @@ returns-then-row-eq0 c =
     empty-other a.row.now c.if-row-eq0.true ∙ stays-other a.updated a.bindings (plain (set_of a.row.now)) c.if-updated-ne0.false c.if-bindings-ne0.false
 
 pub overflow_sub-result : goal.overflow_sub-result
-overflow_sub-result c = omega (arith, c.plain-Row.ensures, bit_le (plain (set_of c.args.row.now)))
+overflow_sub-result c = omega (arith, c.plain_row-n.ensures, bit_le (plain (set_of c.args.row.now)))
 
 pub returns : goal.returns
 returns c =
     let a = c.args in
-    ap (λ (n : ℕ). 1 - n) c.plain-Row.ensures ∙ less-bit (plain (set_of a.row.now)) ∙ stays-other a.updated a.bindings (plain (set_of a.row.now)) c.if-updated-ne0.false c.if-bindings-ne0.false
+    ap (λ (n : ℕ). 1 - n) c.plain_row-n.ensures ∙ less-bit (plain (set_of a.row.now)) ∙ stays-other a.updated a.bindings (plain (set_of a.row.now)) c.if-updated-ne0.false c.if-bindings-ne0.false

@@ -63,9 +63,9 @@ module _ (K : Kind) (f : ℕ → K.Series) (z : K.Settings) where
         let q = ap (λ (k : ℕ). put K (rebound K (entry_at K f s x) k) (map (entry_at K f s) (slots_of d s))) (add-one (get_or (get_or s.entries x []) 1 0)) in
         let n : ℕ = get_or (get_or s.entries x []) 1 0 in
         let o : bound_at d s row (Old x)
-            ≡ record { answer = success (some (birth_at s.entries x)); kept = record { dir = d; stores = record { sets = s.sets; entries = bound_to s.entries x (n + 1); order = s.order } } } = rw a in
+        ≡ record { answer = success (some (birth_at s.entries x)); kept = record { dir = d; stores = record { sets = s.sets; entries = bound_to s.entries x (n + 1); order = s.order } } } = rw a in
         let w : bind_at K (view K f z d s) (held K (view K f z d s) (entry_at K f s x))
-            ≡ record { answer = handle (birth_at s.entries x); map = write K (view K f z d s) (held K (view K f z d s) (entry_at K f s x)) (rebound K (entry_at K f s x) (suc n)) } = rw (l, b) in
+        ≡ record { answer = handle (birth_at s.entries x); map = write K (view K f z d s) (held K (view K f z d s) (entry_at K f s x)) (rebound K (entry_at K f s x) (suc n)) } = rw (l, b) in
         both (sym o) (sym w) (refl, ap (λ t. record { settings = z; count = d.count; last = d.last; entries = t }) (p ∙ q))
 
     -- a new entry, for the set of a row, with the count then

@@ -11,7 +11,7 @@ use lib.Dec.{leb}
 use lib.ListN.{length, get_or, set}
 use lib.Seq.{get_or-set_same}
 use Rattle.laws.specs.Pick.{pick}
-use Rattle.tally.specs.Sets.{Set, kept, canonical, Keyed, Lendable}
+use Rattle.tally.specs.Sets.{Set, canonical, Keyed, Lendable}
 use Rattle.tally.specs.Kind.{Kind}
 use Rattle.tally.specs.Map.{Config, bind, release, Agrees}
 use Rattle.tally.proofs.MapSteps.{start, upfront, act}

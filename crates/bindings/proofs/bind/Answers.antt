@@ -2,7 +2,7 @@
 use Prim.Native.Nat.{ℕ}
 use mathlib.Core.Path.{◌≡◌, ap, sym, ◌∙◌}
 use mathlib.Core.Bool.{true}
-use borrow.Author.Tests.{leb-true, not-true, not-false}
+use borrow.Author.Tests.{leb-true}
 use lib.Dec.{leb}
 use lib.ListN.{length}
 use native.Mathlib.Omega.{arith}
@@ -14,7 +14,6 @@ use Rattle.directory.specs.View.{Stores}
 use Rattle.directory.proofs.Refusals.{suffices, within}
 use Rattle.bindings.specs.Calls.{bound_in}
 use Rattle.bindings.proofs.Refusals.{bound_12, bound_5, bound_8, bound-on}
-use borrow.Author.Rules.{rules}
 use Rattle.bindings.proofs.bind.Goals as goal
 
 pub returns-then-not-stores_suffice : goal.returns-then-not-stores_suffice

@@ -1,12 +1,10 @@
 -- `bindings::release` meets its contract. Assumes nothing.
 use mathlib.Core.Path.{◌≡◌, sym, ◌∙◌}
 use mathlib.Core.Bool.{true}
-use borrow.Author.Tests.{not-true, not-false}
 use Rattle.directory.specs.Calls.{stores_suffice}
 use Rattle.directory.specs.View.{Stores}
 use Rattle.directory.proofs.Refusals.{suffices}
 use Rattle.bindings.proofs.Refusals.{released_12, released_8, released-on}
-use borrow.Author.Rules.{rules}
 use Rattle.bindings.proofs.release.Goals as goal
 
 pub returns-then-not-stores_suffice : goal.returns-then-not-stores_suffice

@@ -2,16 +2,12 @@
 use Prim.Native.Nat.{ℕ}
 use mathlib.Core.Path.{◌≡◌, sym, ◌∙◌}
 use mathlib.Core.Bool.{true}
-use borrow.Author.Tests.{not-true, not-false}
-use native.Mathlib.Omega.{arith}
 use Rattle.sets.specs.Sorted.{filter_of}
 use Rattle.directory.specs.Calls.{accepts, stores_suffice}
 use Rattle.directory.specs.View.{Stores}
-use Rattle.directory.proofs.Refusals.{suffices}
 use Rattle.bindings.proofs.Refusals.{start_4, start_12, start_0}
 use mathlib.Core.List.{List}
 use mathlib.Core.Option.{Option}
-use borrow.Author.Rules.{rules}
 use Rattle.bindings.proofs.start.Goals as goal
 
 pub returns-then-not-accepted : goal.returns-then-not-accepted

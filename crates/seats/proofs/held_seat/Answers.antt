@@ -1,5 +1,4 @@
 -- `seats::held_seat` meets its contract. Assumes nothing.
-use borrow.Author.Rules.{rules}
 use mathlib.Core.Path.{ap}
 use Rattle.directory.specs.declared.Target.TheVariants.{Old}
 use Rattle.seats.proofs.held_seat.Goals as goal

@@ -1,5 +1,4 @@
 -- `seats::new_seat` meets its contract. Assumes nothing.
-use borrow.Author.Rules.{rules}
 use mathlib.Core.Path.{sym, ◌∙◌}
 use Rattle.seats.proofs.Seatings.{new-spent, new-made}
 use Rattle.seats.proofs.new_seat.Goals as goal

@@ -1,5 +1,4 @@
 -- `seats::seat_by_if` meets its contract. Assumes nothing.
-use borrow.Author.Rules.{rules}
 use mathlib.Core.Path.{sym, ◌∙◌}
 use lib.Dec.{leb}
 use Rattle.directory.specs.View.{Stores, stores}

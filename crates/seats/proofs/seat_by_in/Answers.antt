@@ -1,10 +1,8 @@
 -- `seats::seat_by_in` meets its contract. Assumes nothing.
-use borrow.Author.Rules.{rules}
 use Prim.Native.Nat.{◌+◌, ◌≤◌}
 use mathlib.Core.Path.{◌≡◌, sym, ◌∙◌}
 use mathlib.Core.Bool.{true}
 use native.Mathlib.Omega.{arith}
-use borrow.Author.Tests.{not-true, not-false}
 use Rattle.directory.specs.View.{Stores, agreesb}
 use Rattle.directory.proofs.Laws.{few}
 use Rattle.seats.proofs.Seatings.{by-no, by-is, by-there}

@@ -1,7 +1,5 @@
 -- `seats::seat_in` meets its contract. Assumes nothing.
-use borrow.Author.Rules.{rules}
 use mathlib.Core.Path.{sym, ◌∙◌}
-use borrow.Author.Tests.{not-true, not-false}
 use Rattle.directory.specs.View.{Stores}
 use Rattle.seats.proofs.Seatings.{seat-no}
 use Rattle.seats.proofs.seat_in.Goals as goal

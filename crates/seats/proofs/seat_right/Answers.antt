@@ -1,5 +1,4 @@
 -- `seats::seat_right` meets its contract. Assumes nothing.
-use borrow.Author.Rules.{rules}
 use mathlib.Core.Path.{◌≡◌, sym, ◌∙◌}
 use native.Mathlib.Omega.{arith}
 use Rattle.directory.specs.View.{Stores}

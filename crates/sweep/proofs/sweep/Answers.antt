@@ -1,5 +1,4 @@
 -- `sweep::sweep` meets its contract. Assumes nothing.
-use borrow.Author.Rules.{rules}
 use native.Mathlib.Omega.{arith}
 use Rattle.sweep.specs.Swept.{staying}
 use Rattle.sweep.proofs.Marks.{rank-le}

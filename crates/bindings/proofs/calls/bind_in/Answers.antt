@@ -1,7 +1,5 @@
 -- `bindings::calls::bind_in` meets its contract. Assumes nothing.
-use borrow.Author.Rules.{rules}
 use mathlib.Core.Path.{sym, ◌∙◌}
-use borrow.Author.Tests.{not-true, not-false}
 use Rattle.directory.specs.View.{Stores}
 use Rattle.bindings.proofs.Binds.{bind-no}
 use Rattle.bindings.proofs.calls.bind_in.Goals as goal

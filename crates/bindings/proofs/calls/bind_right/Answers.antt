@@ -1,10 +1,8 @@
 -- `bindings::calls::bind_right` meets its contract. Assumes nothing.
 use borrow.Author.Rules.{rules}
-use mathlib.Core.Path.{◌≡◌, sym, ◌∙◌}
+use mathlib.Core.Path.{sym, ◌∙◌}
 use native.Mathlib.Omega.{arith}
-use Rattle.directory.specs.Calls.{located}
 use Rattle.directory.specs.View.{Stores}
-use Rattle.directory.specs.declared.Target.{Target}
 use Rattle.directory.specs.declared.Target.TheVariants.{Disagrees, Old, New, Over}
 use Rattle.directory.proofs.Located.{old-there, new-there, over-there}
 use Rattle.bindings.proofs.Binds.{bound-at}

@@ -1,5 +1,4 @@
 -- `bindings::calls::free` meets its contract. Assumes nothing.
-use borrow.Author.Rules.{rules, scaled_Fits}
 use Prim.Native.Nat.{ℕ, ◌<◌}
 use mathlib.Core.Path.{ap, sym, subst, ◌∙◌}
 use mathlib.Core.List.{List, []}

@@ -1,9 +1,7 @@
 -- `bindings::calls::release_in` meets its contract. Assumes nothing.
-use borrow.Author.Rules.{rules}
 use Prim.Native.Nat.{◌+◌, ◌≤◌}
 use mathlib.Core.Path.{◌≡◌, sym, ◌∙◌}
 use mathlib.Core.Bool.{true}
-use borrow.Author.Tests.{not-true, not-false}
 use native.Mathlib.Omega.{arith}
 use Rattle.directory.specs.View.{Stores, agreesb}
 use Rattle.directory.proofs.Laws.{few}

@@ -2,7 +2,7 @@
 use mathlib.Core.Path.{◌≡◌, sym}
 use mathlib.Core.Bool.{Bool, true, ◌&&◌}
 use lib.Dec.{eqb}
-use borrow.Author.Tests.{not-true, not-false, eq-eqb, ne_eqb}
+use borrow.Author.Tests.{eq-eqb, ne_eqb}
 use Rattle.seats.proofs.Bars.{first-not, second-not, both-are, bar_12, bar_6, bar_5, bar_8, bar_0}
 use Rattle.seats.proofs.first.barred.Goals as goal
 

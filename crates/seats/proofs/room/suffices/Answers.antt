@@ -1,5 +1,4 @@
 -- `seats::room::suffices` meets its contract. Assumes nothing.
-use borrow.Author.Rules.{rules}
 use Prim.Native.Nat.{◌+◌, min}
 use mathlib.Core.Path.{ap, ◌∙◌}
 use lib.Dec.{leb}

@@ -1,14 +1,9 @@
 -- `sweep::moves::move_entries` meets its contract. Assumes nothing.
-use borrow.Author.Rules.{rules}
-use native.Mathlib.Omega.{arith}
-use mathlib.Core.Path.{◌≡◌, refl, ap, sym, ◌∙◌}
-use Prim.Native.Nat.{ℕ, suc, ◌+◌, ◌-◌, ◌≤◌}
-use mathlib.Core.List.{[]}
-use lib.ListN.{length, get_or, set, length-set}
+use mathlib.Core.Path.{◌≡◌}
+use Prim.Native.Nat.{◌-◌, ◌≤◌}
+use lib.ListN.{length}
 use Rattle.sweep.specs.Swept.{clear}
 use Rattle.sweep.specs.Passes.{mark_in, settled}
-use Rattle.sweep.proofs.Marks.{moved_length, settled_root}
-use Rattle.sweep.proofs.Turns.{settles}
 use Rattle.sweep.proofs.moves.move_entries.Given as goal
 
 abbrev pub invariant-loop-x : goal.invariant-loop-x

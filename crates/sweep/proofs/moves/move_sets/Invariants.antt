@@ -1,14 +1,8 @@
 -- `sweep::moves::move_sets` meets its contract. Assumes nothing.
-use borrow.Author.Rules.{rules}
-use native.Mathlib.Omega.{arith}
-use mathlib.Core.Path.{◌≡◌, refl, ap, sym, ◌∙◌}
-use Prim.Native.Nat.{ℕ, suc, ◌+◌, ◌-◌, ◌≤◌}
-use mathlib.Core.List.{[]}
-use lib.ListN.{length, get_or}
-use lib.Seq.{set-get_or}
+use mathlib.Core.Path.{◌≡◌}
+use Prim.Native.Nat.{◌-◌, ◌≤◌}
+use lib.ListN.{length}
 use Rattle.sweep.specs.Passes.{mark_in, settled}
-use Rattle.sweep.proofs.Marks.{moved_length}
-use Rattle.sweep.proofs.Turns.{settles}
 use Rattle.sweep.proofs.moves.move_sets.Given as goal
 
 abbrev pub invariant-loop-x : goal.invariant-loop-x

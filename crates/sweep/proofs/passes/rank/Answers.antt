@@ -1,11 +1,10 @@
 -- `sweep::passes::rank` meets its contract. Assumes nothing.
-use borrow.Author.Rules.{rules}
 use native.Mathlib.Omega.{arith}
 use mathlib.Core.Path.{◌≡◌, refl, ap, ◌∙◌}
-use Prim.Native.Nat.{ℕ, suc, ◌+◌, ◌*◌, ◌-◌, ◌≤◌}
+use Prim.Native.Nat.{ℕ, suc, ◌+◌, ◌*◌}
 use mathlib.Core.List.{List, []}
 use mathlib.Core.Bool.{not}
-use lib.ListN.{length, get_or, length-set}
+use lib.ListN.{get_or, length-set}
 use Rattle.sweep.specs.Swept.{goes, staying, rank}
 use Rattle.sweep.specs.Passes.{mark_of, packed}
 use Rattle.laws.proofs.Counting.{bit_le}

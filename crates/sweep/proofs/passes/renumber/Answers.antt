@@ -1,9 +1,7 @@
 -- `sweep::passes::renumber` meets its contract. Assumes nothing.
-use borrow.Author.Rules.{rules}
 use native.Mathlib.Omega.{arith}
 use mathlib.Core.Path.{◌≡◌, refl, ap, ◌∙◌}
 use Prim.Native.Nat.{ℕ, ◌+◌, ◌-◌, ◌≤◌, ◌<◌}
-use borrow.Author.Rules.{scaled_Fits}
 use lib.ListN.{length}
 use Rattle.laws.specs.Over.{over}
 use Rattle.sets.specs.Rows.{span}

@@ -1,14 +1,10 @@
 -- `sweep::passes::renumber` meets its contract. Assumes nothing.
-use borrow.Author.Rules.{rules}
-use native.Mathlib.Omega.{arith}
-use mathlib.Core.Path.{◌≡◌, refl, ap, ◌∙◌}
-use Prim.Native.Nat.{ℕ, ◌+◌, ◌-◌, ◌≤◌, ◌<◌}
-use borrow.Author.Rules.{scaled_Fits}
+use mathlib.Core.Path.{◌≡◌}
+use Prim.Native.Nat.{◌-◌, ◌≤◌}
 use lib.ListN.{length}
 use Rattle.laws.specs.Over.{over}
 use Rattle.sets.specs.Rows.{span}
 use Rattle.sweep.specs.Passes.{mark_in, packed, lows, renumbered}
-use Rattle.sweep.proofs.Turns.{first, words_long, word-long, word-few, word-slot, words}
 use Rattle.sweep.proofs.passes.renumber.Given as goal
 
 abbrev pub invariant-loop-i : goal.invariant-loop-i

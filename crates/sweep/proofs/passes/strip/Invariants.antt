@@ -1,11 +1,8 @@
 -- `sweep::passes::strip` meets its contract. Assumes nothing.
-use borrow.Author.Rules.{rules}
-use native.Mathlib.Omega.{arith}
-use mathlib.Core.Path.{◌≡◌, refl, ap, ◌∙◌}
-use Prim.Native.Nat.{ℕ, ◌%◌, ◌-◌, ◌≤◌}
-use lib.ListN.{length, get_or, length-set}
+use mathlib.Core.Path.{◌≡◌}
+use Prim.Native.Nat.{◌-◌, ◌≤◌}
+use lib.ListN.{length}
 use Rattle.sweep.specs.Passes.{lows}
-use Rattle.sweep.proofs.Packs.{edits}
 use Rattle.sweep.proofs.passes.strip.Given as goal
 
 abbrev pub invariant-loop-i : goal.invariant-loop-i

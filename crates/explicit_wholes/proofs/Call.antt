@@ -3,24 +3,20 @@ use Prim.Native.Nat.{ℕ}
 use mathlib.Core.Path.{◌≡◌, refl, sym, ap, subst, ◌∙◌}
 use mathlib.Core.Bool.{Bool, true, false}
 use mathlib.Core.List.{List}
-use native.Mathlib.Omega.{arith}
 use borrow.Author.Tests.{eqb-true, eqb-false, eq-eqb, ne_eqb}
 use lib.Dec.{T, leb, eqb}
 use lib.ListN.{length, replicate}
-use lib.IntN.{ℤ, pos, ◌+ℤ◌}
+use lib.IntN.{ℤ}
 use lib.Ieee.{Float}
 use Rattle.laws.specs.Pick.{pick}
 use Rattle.laws.specs.Said.{Said, refusal, success}
 use Rattle.laws.specs.Over.{over}
 use Rattle.laws.proofs.Bools.{pick_true, pick-false}
-use Rattle.floats.specs.Starts.{zero_float}
 use Rattle.integers.specs.Answers.{nearest_of, kept_sum, last_number}
-use Rattle.integers.specs.declared.Total.{Total}
 use Rattle.integers.specs.declared.Total.TheVariants.{Outside, Is}
 use Rattle.points.specs.Explicit.{Buckets, bucket_count, record_bucket}
-use Rattle.points.specs.Any.{noted}
 use Rattle.points.specs.Whole.{whole}
-use Rattle.points.proofs.WholeSums.{Takes, sum-takes, sum-leaves, last_some}
+use Rattle.points.proofs.WholeSums.{sum-takes, sum-leaves, last_some}
 use Rattle.explicit.specs.declared.Head as F
 use Rattle.explicit.specs.Series as E
 use Rattle.explicit.specs.Series.{buckets_in}

@@ -1,6 +1,5 @@
 -- `begin` meets its contract. Assumes nothing.
 use mathlib.Core.Path.{sym, ap}
-use borrow.Author.Rules.{rules}
 use Rattle.explicit.specs.Series as E
 use Rattle.explicit_wholes.specs.Series.{begun}
 use Rattle.explicit_wholes.proofs.begin.Goals as goal

@@ -1,5 +1,4 @@
 -- `fresh` meets its contract. Assumes nothing.
-use borrow.Author.Rules.{rules}
 use Rattle.explicit.specs.Series as E
 use Rattle.explicit_wholes.specs.Series.{said}
 use Rattle.explicit_wholes.proofs.Call.{fresh_law}

@@ -10,15 +10,15 @@ use Rattle.exponential_slots.proofs.are_narrow.Goals as goal
 
 pub returns-then-f-gt-MOST : goal.returns-then-f-gt-MOST
 returns-then-f-gt-MOST c =
-    let fit : Fits w64 (get_or c.args.t1 0 0) = search rules in
-    sym (wide-level c.args.t1 (omega (arith, fit)) c.if-f-gt-MOST.true)
+    let fit : Fits w64 (get_or c.args.f 0 0) = search rules in
+    sym (wide-level c.args.f (omega (arith, fit)) c.if-f-gt-MOST.true)
 
 pub returns-then-f-gt-MOST-2 : goal.returns-then-f-gt-MOST-2
 returns-then-f-gt-MOST-2 c =
-    let fit : Fits w64 (get_or c.args.t1 0 0) = search rules in
-    sym (wide-pos c.args.t1 (omega (arith, fit)) c.if-f-gt-MOST.false c.if-f-gt-MOST-2.true)
+    let fit : Fits w64 (get_or c.args.f 0 0) = search rules in
+    sym (wide-pos c.args.f (omega (arith, fit)) c.if-f-gt-MOST.false c.if-f-gt-MOST-2.true)
 
 pub returns : goal.returns
 returns c =
-    let fit : Fits w64 (get_or c.args.t1 0 0) = search rules in
-    sym (by-neg c.args.t1 (omega (arith, fit)) c.if-f-gt-MOST.false c.if-f-gt-MOST-2.false)
+    let fit : Fits w64 (get_or c.args.f 0 0) = search rules in
+    sym (by-neg c.args.f (omega (arith, fit)) c.if-f-gt-MOST.false c.if-f-gt-MOST-2.false)

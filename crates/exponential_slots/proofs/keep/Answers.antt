@@ -12,10 +12,10 @@ use Rattle.exponential_slots.proofs.keep.Goals as goal
 
 pub returns-in-Refused : goal.returns-in-Refused
 returns-in-Refused c =
-    let g = ap said c.got-1.given.1 in
+    let g = ap said c.in-Refused.is in
     let a = c.args in record { value = sym (ap number g); figures_after = sym (ap (figures_after a.x a.figures.now) g); extremes_after = sym (ap (extremes_after a.x a.extremes.now) g) }
 
 pub returns-in-Recorded : goal.returns-in-Recorded
 returns-in-Recorded c =
-    let g = ap said c.got-in-Recorded-1.given.1 in
+    let g = ap said c.in-Recorded.is in
     let a = c.args in record { value = sym (ap number g); figures_after = ap (λ (r : List ℕ). set a.figures.now a.x r) c.words_of.ensures ∙ sym (ap (figures_after a.x a.figures.now) g); extremes_after = sym (ap (extremes_after a.x a.extremes.now) g) }

@@ -27,7 +27,7 @@ use Rattle.exponential.specs.Series.{refusal_of, recording}
 use Rattle.exponential.specs.Series as S
 use Rattle.exponential.specs.Runs.{fresh_head}
 use Rattle.exponential.proofs.Call as Call
-use Rattle.exponential.proofs.Lists.{fresh_holds, summary}
+use Rattle.exponential.proofs.Lists.{fresh_holds}
 use Rattle.tally.specs.Map.{sound}
 use Rattle.tally.proofs.MapSteps.{fits}
 use Rattle.kinds.specs.Histograms.{counts_hold, histograms}

@@ -1,5 +1,4 @@
 -- `exponential_slots::can_read` meets its contract. Assumes nothing.
-use borrow.Author.Rules.{rules}
 use mathlib.Core.Path.{sym, ◌∙◌}
 use Rattle.exponential_slots.proofs.Cases.{reads_held, reads-fresh}
 use Rattle.exponential_slots.proofs.can_read.Goals as goal

@@ -1,5 +1,4 @@
 -- `exponential_slots::head_in` meets its contract. Assumes nothing.
-use borrow.Author.Rules.{rules}
 use mathlib.Core.Path.{refl}
 use native.Mathlib.Omega.{arith}
 use Rattle.exponential_slots.specs.Cells.{head_in}

@@ -1,5 +1,4 @@
 -- `exponential_slots::head_of` meets its contract. Assumes nothing.
-use borrow.Author.Rules.{rules}
 use mathlib.Core.Path.{sym, ◌∙◌}
 use Rattle.exponential_slots.proofs.Cases.{reads_held, head-held, head-fresh}
 use Rattle.exponential_slots.proofs.head_of.Goals as goal

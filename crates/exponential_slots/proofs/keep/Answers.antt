@@ -1,5 +1,4 @@
 -- `exponential_slots::keep` meets its contract. Assumes nothing.
-use borrow.Author.Rules.{rules}
 use mathlib.Core.Path.{sym, ap}
 use Rattle.laws.specs.Said.{number}
 use Rattle.exponential.specs.Series.{said}

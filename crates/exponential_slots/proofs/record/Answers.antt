@@ -1,9 +1,7 @@
 -- `exponential_slots::record` meets its contract. Assumes nothing.
-use borrow.Author.Rules.{rules}
 use mathlib.Core.Path.{◌≡◌, sym, ap, ◌∙◌}
 use mathlib.Core.Bool.{true}
 use mathlib.Core.List.{[]}
-use borrow.Author.Tests.{not-true, not-false}
 use lib.ListN.{get_or}
 use Rattle.rows.specs.Parts.{part_at}
 use Rattle.exponential.specs.Series.{said, Outcome, recording}
@@ -15,27 +13,27 @@ pub returns-then-not-can_read : goal.returns-then-not-can_read
 returns-then-not-can_read c =
     let lent : Cells = record { figures = c.args.figures.now; extremes = c.args.extremes.now; pos = c.args.pos.now; neg = c.args.neg.now } in
     let a = c.args in
-    sym (unread a.size a.top a.x a.updated (lent) a.v (sym c.can_read.ensures ∙ not-true c.can_read.result c.if-not-can_read.true))
+    sym (unread a.size a.top a.x a.updated (lent) a.v (sym c.can_read.ensures ∙ c.if-not-can_read.true))
 
 pub head_of-head-requires : goal.head_of-head-requires
 head_of-head-requires c =
     let lent : Cells = record { figures = c.args.figures.now; extremes = c.args.extremes.now; pos = c.args.pos.now; neg = c.args.neg.now } in
-    let can : readable c.args.updated (get_or (lent).figures c.args.x []) ≡ true = sym c.can_read.ensures ∙ not-false c.can_read.result c.if-not-can_read.false in
+    let can : readable c.args.updated (get_or (lent).figures c.args.x []) ≡ true = sym c.can_read.ensures ∙ c.if-not-can_read.false in
     can
 
 pub returns : goal.returns
 returns c =
     let lent : Cells = record { figures = c.args.figures.now; extremes = c.args.extremes.now; pos = c.args.pos.now; neg = c.args.neg.now } in
-    let left : Outcome = record { answer = said c.«record».result; pos = c.«record».new.1.1.1.0; neg = c.«record».new.1.1.1.1.0 } in
-    let can : readable c.args.updated (get_or (lent).figures c.args.x []) ≡ true = sym c.can_read.ensures ∙ not-false c.can_read.result c.if-not-can_read.false in
+    let left : Outcome = record { answer = said c.record-got.result; pos = c.record-got.new.pos; neg = c.record-got.new.neg } in
+    let can : readable c.args.updated (get_or (lent).figures c.args.x []) ≡ true = sym c.can_read.ensures ∙ c.if-not-can_read.false in
     let recorded : recorded_at c.args.size c.args.top c.args.x c.args.updated (lent) c.args.v
     ≡ into c.args.size c.args.x (lent) (left) =
     let a = c.args in
     let s = lent in
     called a.size a.top a.x a.updated s a.v (can)
     ∙ ap (λ h. into a.size a.x s (recording a.size a.top h (part_at a.size s.pos a.x) (part_at a.size s.neg a.x) a.v)) (sym c.head_of-head.ensures)
-    ∙ ap (into a.size a.x s) (sym c.«record».ensures) in
+    ∙ ap (into a.size a.x s) (sym c.record-got.ensures) in
     let a = c.args in
-    written-by a.size a.x (lent) c.keep.result c.keep.new.figures c.keep.new.extremes a.top c.head_of-head.result a.v (left) c.«record».ensures
+    written-by a.size a.x (lent) c.keep.result c.keep.new.figures c.keep.new.extremes a.top c.head_of-head.result a.v (left) c.record-got.ensures
     c.keep.ensures.value c.keep.ensures.figures_after c.keep.ensures.extremes_after
     ∙ sym (recorded)

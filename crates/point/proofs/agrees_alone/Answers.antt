@@ -2,7 +2,6 @@
 use mathlib.Core.Path.{◌∙◌}
 use Rattle.point.specs.Handing.{stored}
 use Rattle.point.proofs.Means.{agrees-alone}
-use borrow.Author.Rules.{rules}
 use Rattle.point.proofs.agrees_alone.Goals as goal
 
 pub returns : goal.returns

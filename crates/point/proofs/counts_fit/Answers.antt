@@ -6,7 +6,6 @@ use lib.Dec.{leb}
 use mathlib.Core.Logic.{⊎_elim}
 use borrow.Author.Tests.{leb-true, leb-false, le-leb, lt-leb}
 use Rattle.laws.proofs.Bools.{flag}
-use borrow.Author.Rules.{rules}
 use Rattle.point.proofs.counts_fit.Goals as goal
 
 by-diff : (x y : ℕ) → x < 2 ^ 64 → leb y (18446744073709551615 - x) ≡ leb (x + y) 18446744073709551615

@@ -1,4 +1,3 @@
-use borrow.Author.Rules.{rules}
 use Rattle.point.proofs.exponential_point.Goals as goal
 
 -- the point that is handed out is that of the head's own counts

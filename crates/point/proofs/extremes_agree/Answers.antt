@@ -2,7 +2,6 @@ use mathlib.Core.Path.{◌≡◌, refl, sym, ◌∙◌}
 use mathlib.Core.Bool.{Bool, true, false, not}
 use Rattle.floats.specs.declared.Extreme.TheVariants.{None}
 use Rattle.points.specs.Handed.{extremes_agree}
-use borrow.Author.Rules.{rules}
 use Rattle.point.proofs.extremes_agree.Goals as goal
 
 neither : (due : Bool) → not due ≡ extremes_agree due None None

@@ -1,7 +1,6 @@
 use mathlib.Core.Path.{sym, ap, ◌∙◌}
 use Rattle.point.specs.declared.Figures.{Figures}
 use Rattle.point.specs.Inner.{figures_agree}
-use borrow.Author.Rules.{rules}
 use Rattle.point.proofs.figures_agree.Goals as goal
 
 pub returns-in-Exponential : goal.returns-in-Exponential

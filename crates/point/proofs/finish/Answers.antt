@@ -2,7 +2,6 @@ use mathlib.Core.Path.{sym, ap, ◌∙◌}
 use lib.Ieee.{binary64, add}
 use Rattle.laws.specs.Said.{success}
 use Rattle.point.specs.Inner.{finished}
-use borrow.Author.Rules.{rules}
 use Rattle.point.proofs.finish.Goals as goal
 
 pub returns-in-Of : goal.returns-in-Of

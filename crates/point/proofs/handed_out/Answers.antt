@@ -1,7 +1,6 @@
 use mathlib.Core.Path.{ap, ◌∙◌}
 use Prim.Native.Nat.{ℕ}
 use Rattle.floats.specs.Answers.{shown_of}
-use borrow.Author.Rules.{rules}
 use Rattle.point.proofs.handed_out.Goals as goal
 
 pub returns : goal.returns

@@ -1,7 +1,6 @@
 use mathlib.Core.Path.{◌≡◌, sym, ◌∙◌}
 use Rattle.point.specs.Handing.{Stored, stored, refusal_before, said}
 use Rattle.point.proofs.Calls as calls
-use borrow.Author.Rules.{rules}
 use Rattle.point.proofs.merge.Goals as goal
 
 pub returns-then-no-ne0 : goal.returns-then-no-ne0

@@ -6,7 +6,6 @@ use Rattle.points.specs.Explicit.{bucket_count, added}
 use Rattle.rows.specs.Rows.{over}
 use Rattle.explicit.specs.Inner.{Addable}
 use Rattle.point.proofs.Laid.{no_one, laid_one_lem}
-use borrow.Author.Rules.{rules}
 use Rattle.point.proofs.merge_explicit.Goals as goal
 
 pub returns-then-pos-k : goal.returns-then-pos-k

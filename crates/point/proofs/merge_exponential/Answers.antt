@@ -6,7 +6,6 @@ use Rattle.merges.specs.declared.Plan.{Plan}
 use Rattle.merges.specs.Merges.{merged_point, joined_len}
 use Rattle.merges.proofs.Merging as merging
 use Rattle.point.proofs.Laid.{no-pos, no-neg, laid}
-use borrow.Author.Rules.{rules}
 use Rattle.point.proofs.merge_exponential.Goals as goal
 
 pub plan_of-to-requires : goal.plan_of-to-requires

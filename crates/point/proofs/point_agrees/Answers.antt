@@ -3,7 +3,6 @@ use mathlib.Core.Bool.{Bool, ◌&&◌}
 use Rattle.floats.specs.Answers.{shows}
 use Rattle.points.specs.Handed.{extremes_agree}
 use Rattle.point.specs.Inner.{extremes_ok, point_agrees}
-use borrow.Author.Rules.{rules}
 use Rattle.point.proofs.point_agrees.Goals as goal
 
 pub returns-then-not-figures_agree : goal.returns-then-not-figures_agree

@@ -3,7 +3,6 @@ use mathlib.Core.Path.{◌≡◌, sym, ◌∙◌}
 use mathlib.Core.Bool.{Bool, true}
 use Rattle.point.specs.Handing.{Stored, stored}
 use Rattle.point.proofs.Calls as calls
-use borrow.Author.Rules.{rules}
 use Rattle.point.proofs.refusal.Goals as goal
 
 pub returns-then-not-size_fits : goal.returns-then-not-size_fits

@@ -1,6 +1,5 @@
 use mathlib.Core.Path.{sym, ◌∙◌}
 use Rattle.point.specs.Inner.{same_figures}
-use borrow.Author.Rules.{rules}
 use Rattle.point.proofs.same_kind.Goals as goal
 
 pub returns-in-Exponential-g : goal.returns-in-Exponential-g

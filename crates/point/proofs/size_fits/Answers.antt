@@ -1,6 +1,5 @@
 use mathlib.Core.Path.{refl, sym, ◌∙◌}
 use Rattle.laws.specs.Pick.{pick}
-use borrow.Author.Rules.{rules}
 use Rattle.point.proofs.size_fits.Goals as goal
 
 pub returns-then-is_explicit-2 : goal.returns-then-is_explicit-2

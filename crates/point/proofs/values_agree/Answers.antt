@@ -3,7 +3,6 @@ use mathlib.Core.Bool.{Bool, ◌&&◌, and-false, and-true}
 use lib.Ieee.Scale.{finite}
 use Rattle.floats.specs.declared.Extreme.TheVariants.{Value}
 use Rattle.points.specs.Handed.{extremes_agree}
-use borrow.Author.Rules.{rules}
 use Rattle.point.proofs.values_agree.Goals as goal
 
 pub returns-then-not-due : goal.returns-then-not-due

@@ -1,7 +1,6 @@
 -- `point::signed::offset` meets its contract. Assumes nothing.
 use mathlib.Core.Path.{sym, ap, ◌∙◌}
 use Rattle.point.specs.Signed.{offset_answer, offset_shown}
-use borrow.Author.Rules.{rules}
 use Rattle.point.proofs.signed.offset.Goals as goal
 
 pub returns-in-Exponential : goal.returns-in-Exponential

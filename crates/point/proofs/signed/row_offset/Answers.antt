@@ -1,7 +1,6 @@
 -- `point::signed::row_offset` meets its contract. Assumes nothing.
 use mathlib.Core.Path.{sym, ◌∙◌}
 use Rattle.point.proofs.Offsets.{offset-empty, offset-there}
-use borrow.Author.Rules.{rules}
 use Rattle.point.proofs.signed.row_offset.Goals as goal
 
 pub returns-then-row-eq0 : goal.returns-then-row-eq0

@@ -1,7 +1,6 @@
 -- `point::signed::scale` meets its contract. Assumes nothing.
 use mathlib.Core.Path.{sym, ap, ◌∙◌}
 use Rattle.point.specs.Signed.{scale_shown}
-use borrow.Author.Rules.{rules}
 use Rattle.point.proofs.signed.scale.Goals as goal
 
 pub returns-in-Exponential : goal.returns-in-Exponential

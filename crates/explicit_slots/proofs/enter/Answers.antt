@@ -1,7 +1,5 @@
 -- `explicit_slots::enter` meets its contract. Assumes nothing.
 use mathlib.Core.Path.{sym, ◌∙◌}
-use borrow.Author.Tests.{not-true, not-false}
-use borrow.Author.Rules.{rules}
 use Rattle.explicit_slots.proofs.Enters.{enters-held, enters_bad, enters-first}
 use Rattle.explicit_slots.proofs.enter.Goals as goal
 
@@ -13,10 +11,10 @@ returns-then-updated c =
 pub returns-then-not-bounds_pass : goal.returns-then-not-bounds_pass
 returns-then-not-bounds_pass c =
     let a = c.args in
-    sym (enters_bad a.bounds.now a.updated a.head a.counts.now a.v c.if-updated.false (sym c.bounds_pass.ensures ∙ not-true _ c.if-not-bounds_pass.true))
+    sym (enters_bad a.bounds.now a.updated a.head a.counts.now a.v c.if-updated.false (sym c.bounds_pass.ensures ∙ c.if-not-bounds_pass.true))
 
 pub returns : goal.returns
 returns c =
     let a = c.args in
     c.first.ensures
-    ∙ sym (enters-first a.bounds.now a.updated a.head a.counts.now a.v c.if-updated.false (sym c.bounds_pass.ensures ∙ not-false _ c.if-not-bounds_pass.false))
+    ∙ sym (enters-first a.bounds.now a.updated a.head a.counts.now a.v c.if-updated.false (sym c.bounds_pass.ensures ∙ c.if-not-bounds_pass.false))

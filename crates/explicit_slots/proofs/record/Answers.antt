@@ -1,9 +1,8 @@
 -- `explicit_slots::record` meets its contract. Assumes nothing.
-use Prim.Native.Nat.{ℕ, ◌+◌, ◌-◌, ◌*◌, ◌≤◌}
+use Prim.Native.Nat.{ℕ, ◌+◌, ◌*◌, ◌≤◌}
 use mathlib.Core.Path.{◌≡◌, ap, sym, subst}
 use native.Mathlib.Omega.{arith}
 use lib.ListN.{length}
-use borrow.Author.Rules.{rules}
 use Rattle.rows.specs.Parts.{part_at}
 use Rattle.rows.proofs.Parts.{part_length}
 use Rattle.points.specs.Explicit.{bucket_count}
@@ -15,17 +14,17 @@ use Rattle.explicit_slots.proofs.record.Goals as goal
 pub overflow_mul-a : goal.overflow_mul-a
 overflow_mul-a c =
     let end : c.args.x * c.bucket_count-n.result + c.bucket_count-n.result ≤ length c.args.counts.now = let a = c.args in subst (λ (k : ℕ). a.x * k + k ≤ length a.counts.now) (sym c.bucket_count-n.ensures) c.requires.2 in
-    omega (arith, end, c.well-formed.1.1.1.1.1.0.0)
+    omega (arith, end)
 
 pub overflow_add-e : goal.overflow_add-e
 overflow_add-e c =
     let end : c.args.x * c.bucket_count-n.result + c.bucket_count-n.result ≤ length c.args.counts.now = let a = c.args in subst (λ (k : ℕ). a.x * k + k ≤ length a.counts.now) (sym c.bucket_count-n.ensures) c.requires.2 in
-    omega (arith, end, c.well-formed.1.1.1.1.1.0.0)
+    omega (arith, end)
 
 pub offset_bounds-counts-a : goal.offset_bounds-counts-a
 offset_bounds-counts-a c =
     let end : c.args.x * c.bucket_count-n.result + c.bucket_count-n.result ≤ length c.args.counts.now = let a = c.args in subst (λ (k : ℕ). a.x * k + k ≤ length a.counts.now) (sym c.bucket_count-n.ensures) c.requires.2 in
-    omega (arith, end, c.well-formed.1.1.1.1.1.0.1)
+    omega (arith, end)
 
 pub slice_bounds-enter-end : goal.slice_bounds-enter-end
 slice_bounds-enter-end c =
@@ -42,11 +41,11 @@ returns-in-Refused c =
     omega (arith, i, part_length c.bucket_count-n.result a.counts.now a.x (end)) in
     let room : Room c.args.bounds.now (cells c.args.totals.now c.args.extremes.now c.args.counts.now) c.args.x = record { totals = c.requires.0; extremes = c.requires.1; counts = c.requires.2 } in
     let a = c.args in
-    call-refused a.bounds.now a.x a.updated (lent) a.v c.bucket_count-n.result c.bucket_count-n.ensures (said c.enter-got.result) c.enter-got.new.counts c.enter-got.ensures _ (ap said c.got-1.given.1) (long) (room) c.requires.3
+    call-refused a.bounds.now a.x a.updated (lent) a.v c.bucket_count-n.result c.bucket_count-n.ensures (said c.enter-got.result) c.enter-got.new.counts c.enter-got.ensures _ (ap said c.in-Refused.is) (long) (room) c.requires.3
 
 pub returns-in-Recorded : goal.returns-in-Recorded
 returns-in-Recorded c =
     let lent : Cells = let a = c.args in record { totals = a.totals.now; extremes = a.extremes.now; counts = a.counts.now } in
     let room : Room c.args.bounds.now (cells c.args.totals.now c.args.extremes.now c.args.counts.now) c.args.x = record { totals = c.requires.0; extremes = c.requires.1; counts = c.requires.2 } in
     let a = c.args in
-    call-recorded a.bounds.now a.x a.updated (lent) a.v c.bucket_count-n.result c.bucket_count-n.ensures (said c.enter-got.result) c.enter-got.new.counts c.enter-got.ensures _ (ap said c.got-in-Recorded-1.given.1) (room) c.requires.3
+    call-recorded a.bounds.now a.x a.updated (lent) a.v c.bucket_count-n.result c.bucket_count-n.ensures (said c.enter-got.result) c.enter-got.new.counts c.enter-got.ensures _ (ap said c.in-Recorded.is) (room) c.requires.3

@@ -8,7 +8,7 @@ use Rattle.laws.specs.Pick.{pick}
 use Rattle.points.specs.Handed as H
 use Rattle.points.specs.Handed.{Handed, handed, merge_handed, handed_agrees, unmergeable}
 use Rattle.points.specs.Stands.{Stands}
-use Rattle.points.specs.Any as Any
+use Rattle.points.specs.Any
 use Rattle.points.specs.Real.{real}
 use Rattle.points.proofs.Real.{owed}
 use Rattle.points.proofs.Counts.{size_of}

@@ -8,7 +8,7 @@ use Rattle.laws.specs.Tests.{all}
 use Rattle.floats.specs.Starts.{FiniteF64}
 use Rattle.points.specs.Figures.{Settings}
 use Rattle.points.specs.Handed.{handed}
-use Rattle.points.specs.Any as Any
+use Rattle.points.specs.Any
 use Rattle.points.specs.Real.{real}
 use Rattle.points.proofs.Real.{owed}
 use Rattle.tally.specs.Map.{Config}

@@ -6,7 +6,7 @@ use mathlib.Core.Bool.{Bool}
 use mathlib.Core.List.{List}
 use lib.IntN.{ℤ}
 use Rattle.points.specs.Counts.{Settings}
-use Rattle.points.specs.Any as Any
+use Rattle.points.specs.Any
 use Rattle.points.specs.Whole.{whole}
 use Rattle.points.proofs.Whole.{owed}
 use Rattle.tally.proofs.Faithful.{Merging}

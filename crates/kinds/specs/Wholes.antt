@@ -1,7 +1,7 @@
 -- The two histogram kinds over i64 (document 02, L6) as one kind of series. Assumes nothing.
 use Rattle.std.specs.Prelude.{ℕ, Bool, List, ℤ}
 use Rattle.points.specs.Counts.{Settings}
-use Rattle.points.specs.Any as Any
+use Rattle.points.specs.Any
 use Rattle.points.specs.Whole.{whole}
 use Rattle.tally.specs.Kind as Tally
 use Rattle.kinds.specs.Any.{histograms_of}

@@ -19,7 +19,7 @@ use Rattle.points.specs.Figures as F
 use Rattle.points.specs.Figures.{Kind, exponential, explicit, most_size, Settings, exponential_counts, explicit_counts}
 use Rattle.points.specs.Handed.{Handed, merge_counts, merge_handed, pos_of, neg_of}
 use Rattle.points.specs.Number.{Number}
-use Rattle.points.specs.Any as Any
+use Rattle.points.specs.Any
 use Rattle.points.proofs.Kept.{merge-agrees}
 use Rattle.points.proofs.Explicit.{buckets-say, merge-buckets-ok}
 use Rattle.points.proofs.Counts.{size_of, Sound}

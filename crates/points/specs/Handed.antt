@@ -8,7 +8,7 @@ pub use Rattle.points.specs.Counts.{count_of, same_kind, merge_counts, counts_ag
 pub use Rattle.points.specs.Real.{finite_or_none}
 use Rattle.points.specs.Figures.{Settings, Figures}
 use Rattle.points.specs.Counts.{merge_number}
-use Rattle.points.specs.Any as Any
+use Rattle.points.specs.Any
 use Rattle.points.specs.Real.{real}
 
 abbrev pub Handed : Type 0

@@ -2,7 +2,7 @@
 use Rattle.std.specs.Prelude.{true, List, Float}
 unfoldable pub use Rattle.points.specs.Classes.{class_of}
 pub use Rattle.points.specs.Classes.{counts_of}
-use Rattle.points.specs.Any as Any
+use Rattle.points.specs.Any
 use Rattle.points.specs.Real.{real}
 
 abbrev pub Summary : Type 0

@@ -17,9 +17,9 @@ use Rattle.index.specs.Bins.{finest, lowest_bin}
 use Rattle.integers.specs.Answers.{in_range, sum_of, last_number}
 use Rattle.integers.specs.declared.Total.{Total}
 use Rattle.integers.specs.declared.Total.TheVariants.{Outside, Is}
-use Rattle.points.specs.Counts.{Counts, most_size, size_asked, pos_of, neg_of, merge_number}
+use Rattle.points.specs.Counts.{most_size, size_asked, pos_of, neg_of, merge_number}
 use Rattle.points.specs.Handed as R
-use Rattle.points.specs.Any.{Handed, handed_agrees, merge_handed, unmergeable}
+use Rattle.points.specs.Any.{Handed, handed_agrees, merge_handed}
 use Rattle.points.specs.Real.{real}
 use Rattle.points.specs.Whole.{whole}
 use Rattle.points.specs.Shadow.{shadow}
@@ -28,7 +28,7 @@ use Rattle.points.proofs.Shadow.{shadow-agrees, shadow-number}
 use Rattle.point.specs.declared.Point as P
 use Rattle.point.specs.Handing as Q
 use Rattle.whole_point.specs.declared.Point.{Point}
-use Rattle.whole_point.specs.Handing.{Stored, stored_in, handed_in, in_shape, shadow_point, shadow_stored, ended, point_for, laid_over, refusal_before, merging, mixed_number, alone_number, finished, beside_number}
+use Rattle.whole_point.specs.Handing.{Stored, handed_in, in_shape, shadow_stored, ended, point_for, laid_over, refusal_before, merging, mixed_number, alone_number, finished, beside_number}
 
 no : {A : Type 0} → true ≡ false → A
 no h = absurd (subst T h tt)

@@ -1,5 +1,5 @@
 -- Points of i64 values as code holds them, read as those of crate `points`; and what merging two of them answers. Assumes nothing.
-use Rattle.std.specs.Prelude.{ℕ, Bool, true, ◌&&◌, List, leb, eqb, ℤ, length, Float}
+use Rattle.std.specs.Prelude.{ℕ, Bool, ◌&&◌, List, leb, eqb, ℤ, length, Float}
 use Rattle.laws.specs.Pick.{pick}
 use Rattle.laws.specs.Said.{Said, refusal, success}
 use Rattle.laws.specs.Over.{over}

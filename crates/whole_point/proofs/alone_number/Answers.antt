@@ -1,7 +1,5 @@
 -- `alone_number` meets its contract. Assumes nothing.
-use mathlib.Core.Path.{◌≡◌, sym, ap, ◌∙◌}
-use mathlib.Core.Bool.{Bool, true, false}
-use borrow.Author.Rules.{rules}
+use mathlib.Core.Path.{◌≡◌, sym, ◌∙◌}
 use Rattle.laws.proofs.Bools.{pick_true, pick-false}
 use Rattle.point.specs.Handing as P
 use Rattle.whole_point.specs.Handing.{stored, shadow_stored}

@@ -1,6 +1,5 @@
 -- `finish` meets its contract. Assumes nothing.
 use mathlib.Core.Path.{sym, ap, ◌∙◌}
-use borrow.Author.Rules.{rules}
 use Rattle.laws.specs.Said.{success}
 use Rattle.integers.proofs.Range.{held}
 use Rattle.point.specs.Handing as P

@@ -1,6 +1,5 @@
 -- `mixed_number` meets its contract. Assumes nothing.
 use mathlib.Core.Path.{◌∙◌}
-use borrow.Author.Rules.{rules}
 use Rattle.point.specs.Handing as P
 use Rattle.whole_point.specs.Handing.{stored}
 use Rattle.whole_point.proofs.Call.{mixed_law}

@@ -1,6 +1,5 @@
 -- `shadow_extreme` meets its contract. Assumes nothing.
 use mathlib.Core.Path.{sym, ap}
-use borrow.Author.Rules.{rules}
 use Rattle.points.specs.Shadow.{shadow_of}
 use Rattle.whole_point.proofs.shadow_extreme.Goals as goal
 

@@ -1,5 +1,4 @@
 -- `shadow_of` meets its contract. Assumes nothing.
-use borrow.Author.Rules.{rules}
 use Rattle.floats.specs.Starts.{zero_float}
 use Rattle.whole_point.proofs.shadow_of.Goals as goal
 

@@ -1,7 +1,6 @@
 -- `mean::half` meets its contract. Assumes nothing.
 use mathlib.Core.Path.{refl}
 use Rattle.mean.specs.Rule as Rule
-use borrow.Author.Rules.{rules}
 use Rattle.mean.proofs.half.Goals as goal
 
 pub returns : goal.returns

@@ -5,7 +5,6 @@ use Rattle.point.specs.Handing.{stored}
 use Rattle.point.proofs.Means.{count-is}
 use Rattle.mean.specs.Mean.{mean_of}
 use Rattle.mean.proofs.Cases.{mean-disagrees, mean-agrees}
-use borrow.Author.Rules.{rules}
 use Rattle.mean.proofs.hundredths.Goals as goal
 
 pub returns-then-not-agrees_alone : goal.returns-then-not-agrees_alone

@@ -5,7 +5,6 @@ use native.Mathlib.Nat.{le_trans}
 use native.Mathlib.Omega.{arith}
 use Rattle.mean.specs.Rounding.{nearest}
 use Rattle.mean.proofs.Rounding.{near-zero, far, quotient_le, remainder-le, rounded-le}
-use borrow.Author.Rules.{rules}
 use Rattle.mean.proofs.nearest.Goals as goal
 
 pub returns-then-count-gt4503599627370496 : goal.returns-then-count-gt4503599627370496

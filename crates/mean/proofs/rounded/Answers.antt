@@ -2,7 +2,6 @@
 use mathlib.Core.Path.{sym, ◌∙◌}
 use native.Mathlib.Omega.{arith}
 use Rattle.mean.proofs.Rounding.{rounded-down, rounded-up, rounded-half}
-use borrow.Author.Rules.{rules}
 use Rattle.mean.proofs.rounded.Goals as goal
 
 pub returns-then-r-d : goal.returns-then-r-d

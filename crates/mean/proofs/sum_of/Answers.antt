@@ -1,9 +1,8 @@
 -- `mean::sum_of` meets its contract. Assumes nothing.
-use mathlib.Core.Path.{sym, subst, ◌∙◌}
+use mathlib.Core.Path.{sym, ◌∙◌}
 use lib.Dec.{T}
 use lib.Ieee.{binary64, fits}
-use Rattle.index.specs.Frexp.{PartsOf, Split}
-use Rattle.index.specs.declared.Parts.{Parts}
+use Rattle.index.specs.Frexp.{Split}
 use Rattle.mean.proofs.Sums.{not_finite, is_zero, split-is}
 use borrow.Author.Rules.{rules}
 use Rattle.mean.proofs.sum_of.Goals as goal

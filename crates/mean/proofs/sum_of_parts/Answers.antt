@@ -3,7 +3,6 @@ use mathlib.Core.Path.{sym, ◌∙◌}
 use Prim.Native.Nat.{◌-◌, ◌<◌, ◌^◌}
 use native.Mathlib.Omega.{arith}
 use Rattle.mean.proofs.Sums.{parts-top, parts-over, parts-far, parts_low, parts_shift, shifted-whole, shifted_none}
-use borrow.Author.Rules.{rules}
 use Rattle.mean.proofs.sum_of_parts.Goals as goal
 
 pub returns-then-mantissa-eq4503599627370496 : goal.returns-then-mantissa-eq4503599627370496

@@ -1,5 +1,4 @@
 -- `listing::decode::bounds_of` meets its contract. Assumes nothing.
-use borrow.Author.Rules.{rules}
 use mathlib.Core.Path.{sym}
 use borrow.Author.Tests.{eq-eqb, ne_eqb}
 use lib.Dec.{eqb}
@@ -10,8 +9,8 @@ use Rattle.listing.proofs.decode.bounds_of.Goals as goal
 
 pub returns-then-w-eq0 : goal.returns-then-w-eq0
 unfolding bounds_in
-returns-then-w-eq0 c = sym (pick_true (eqb (get_or c.args.t1 0 0) 0) _ _ (eq-eqb (get_or c.args.t1 0 0) 0 c.if-w-eq0.true))
+returns-then-w-eq0 c = sym (pick_true (eqb (get_or c.args.w 0 0) 0) _ _ (eq-eqb (get_or c.args.w 0 0) 0 c.if-w-eq0.true))
 
 pub returns : goal.returns
 unfolding bounds_in
-returns c = sym (pick-false (eqb (get_or c.args.t1 0 0) 0) _ _ (ne_eqb (get_or c.args.t1 0 0) 0 c.if-w-eq0.false))
+returns c = sym (pick-false (eqb (get_or c.args.w 0 0) 0) _ _ (ne_eqb (get_or c.args.w 0 0) 0 c.if-w-eq0.false))

@@ -1,5 +1,4 @@
 -- `listing::decode::extreme_of` meets its contract. Assumes nothing.
-use borrow.Author.Rules.{rules}
 use mathlib.Core.Path.{sym, ap, ◌∙◌}
 use mathlib.Core.Bool.{Bool}
 use Rattle.laws.specs.Pick.{pick}

@@ -1,5 +1,4 @@
 -- `listing::decode::is_point` meets its contract. Assumes nothing.
-use borrow.Author.Rules.{rules}
 use Prim.Native.Nat.{ℕ}
 use mathlib.Core.Path.{ap, ap₂, ◌∙◌}
 use mathlib.Core.List.{List}
@@ -13,5 +12,5 @@ pub returns : goal.returns
 unfolding is_point
 returns c =
     c.same.ensures
-    ∙ ap (λ (t : List ℕ). allb 12 (λ i. eqb (get_or t i 0) (get_or c.args.t1 i 0)))
+    ∙ ap (λ (t : List ℕ). allb 12 (λ i. eqb (get_or t i 0) (get_or c.args.w i 0)))
     (c.words_of-again.ensures ∙ ap₂ words_of c.point_of-p.ensures c.bounds_of-b.ensures)

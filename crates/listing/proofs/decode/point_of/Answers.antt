@@ -1,5 +1,4 @@
 -- `listing::decode::point_of` meets its contract. Assumes nothing.
-use borrow.Author.Rules.{rules}
 use Rattle.listing.specs.Words.{point_in}
 use Rattle.listing.proofs.decode.point_of.Goals as goal
 

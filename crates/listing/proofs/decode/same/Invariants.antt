@@ -1,15 +1,11 @@
 -- `listing::decode::same` meets its contract. Assumes nothing.
-use borrow.Author.Rules.{rules}
 use Prim.Native.Nat.{ℕ, ◌-◌, ◌≤◌}
-use mathlib.Core.Path.{◌≡◌, sym, subst}
+use mathlib.Core.Path.{◌≡◌}
 use mathlib.Core.Bool.{Bool, true}
 use mathlib.Core.List.{List}
-use native.Mathlib.Omega.{arith}
-use borrow.Author.Tests.{eq-eqb, ne_eqb}
 use lib.Dec.{eqb}
 use lib.ListN.{get_or}
 use Rattle.sets.specs.All.{allb}
-use Rattle.sets.proofs.Alls.{allb-none, allb-more, allb-no}
 use Rattle.listing.proofs.decode.same.Given as goal
 
 abbrev alike : List ℕ → List ℕ → ℕ → Bool

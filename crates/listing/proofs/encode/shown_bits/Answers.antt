@@ -1,8 +1,7 @@
 -- `listing::encode::shown_bits` meets its contract. Assumes nothing.
-use borrow.Author.Rules.{rules}
 use mathlib.Core.Path.{sym, ap, ◌∙◌}
 use Rattle.listing.specs.Words.{shown_bits}
 use Rattle.listing.proofs.encode.shown_bits.Goals as goal
 
 pub returns-in-Value : goal.returns-in-Value
-returns-in-Value c = c.bits_of.ensures ∙ sym (ap shown_bits c.x-1.given.1)
+returns-in-Value c = c.bits_of.ensures ∙ sym (ap shown_bits c.in-Value.is)

@@ -1,5 +1,4 @@
 -- `listing::encode::words_of` meets its contract. Assumes nothing.
-use borrow.Author.Rules.{rules}
 use Prim.Native.Nat.{ℕ, ◌+◌, ◌*◌}
 use mathlib.Core.Path.{ap, ap₂, ◌∙◌}
 use Rattle.point.specs.declared.Figures.TheVariants.{Exponential, Explicit}
@@ -11,10 +10,10 @@ pub returns-in-Exponential : goal.returns-in-Exponential
 returns-in-Exponential c =
     words-by c.args.p c.args.b _ _ _ _
     (ap₂ (λ (x y : ℕ). x + 2 * y) c.flag_of.ensures.0 (c.flag_of-2.ensures.0 ∙ ap bit c.is_shown.ensures))
-    c.shown_bits-low.ensures c.shown_bits-high.ensures c.bits_of-sum.ensures (Exponential _) c.f-1.given.1
+    c.shown_bits-low.ensures c.shown_bits-high.ensures c.bits_of-sum.ensures (Exponential _) c.in-Exponential.is
 
 pub returns-in-Explicit : goal.returns-in-Explicit
 returns-in-Explicit c =
     words-by c.args.p c.args.b _ _ _ _
     (ap₂ (λ (x y : ℕ). x + 2 * y) c.flag_of.ensures.0 (c.flag_of-2.ensures.0 ∙ ap bit c.is_shown.ensures))
-    c.shown_bits-low.ensures c.shown_bits-high.ensures c.bits_of-sum.ensures (Explicit _) c.f-in-Explicit-1.given.1
+    c.shown_bits-low.ensures c.shown_bits-high.ensures c.bits_of-sum.ensures (Explicit _) c.in-Explicit.is

@@ -1,9 +1,7 @@
 -- `listing::put::copy` meets its contract. Assumes nothing.
-use Prim.Native.Nat.{◌-◌, ◌≤◌}
 use mathlib.Core.Path.{◌≡◌, refl, sym}
 use native.Mathlib.Omega.{arith}
-use lib.ListN.{length, take, length-set}
-use Rattle.laws.specs.Over.{over}
+use lib.ListN.{length-set}
 use Rattle.laws.proofs.Over.{over_none}
 use Rattle.listing.proofs.Cases.{copy-turn}
 use Rattle.listing.proofs.put.copy.Goals as goal

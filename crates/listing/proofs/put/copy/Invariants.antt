@@ -1,11 +1,8 @@
 -- `listing::put::copy` meets its contract. Assumes nothing.
 use Prim.Native.Nat.{◌-◌, ◌≤◌}
-use mathlib.Core.Path.{◌≡◌, refl, sym}
-use native.Mathlib.Omega.{arith}
-use lib.ListN.{length, take, length-set}
+use mathlib.Core.Path.{◌≡◌}
+use lib.ListN.{length, take}
 use Rattle.laws.specs.Over.{over}
-use Rattle.laws.proofs.Over.{over_none}
-use Rattle.listing.proofs.Cases.{copy-turn}
 use Rattle.listing.proofs.put.copy.Given as goal
 
 abbrev pub invariant-loop-i : goal.invariant-loop-i

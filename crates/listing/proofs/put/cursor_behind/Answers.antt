@@ -1,6 +1,5 @@
 -- `listing::put::cursor_behind` meets its contract. Assumes nothing.
 use Prim.Native.Nat.{◌+◌}
-use borrow.Author.Rules.{rules}
 use Rattle.listing.proofs.put.cursor_behind.Goals as goal
 
 pub returns : goal.returns

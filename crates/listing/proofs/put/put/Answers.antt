@@ -1,12 +1,11 @@
 -- `listing::put::put` meets its contract. Assumes nothing.
-use borrow.Author.Rules.{rules}
 use native.Mathlib.Omega.{arith}
 use Rattle.listing.proofs.Calls.{put-made}
 use Rattle.listing.proofs.put.put.Goals as goal
 
 pub overflow_add-result : goal.overflow_add-result
 overflow_add-result c =
-    omega (arith, c.requires.sets, c.well-formed.1.1.1.1.1.1.0.1)
+    omega (arith, c.requires.sets)
 
 pub returns : goal.returns
 returns c =

@@ -1,5 +1,4 @@
 -- `listing::read::bounds_at` meets its contract. Assumes nothing.
-use borrow.Author.Rules.{rules}
 use Rattle.listing.proofs.Cases.{some_is}
 use Rattle.listing.proofs.read.bounds_at.Goals as goal
 

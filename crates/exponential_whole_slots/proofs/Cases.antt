@@ -7,7 +7,6 @@ use mathlib.Core.List.{List, []}
 use lib.Dec.{eqb}
 use lib.IntN.{ℤ}
 use lib.ListN.{get_or}
-use Rattle.laws.specs.Pick.{pick}
 use Rattle.laws.specs.Said.{Said, refusal, success, number}
 use Rattle.laws.proofs.Bools.{flag, pick_true, pick-false}
 use Rattle.laws.proofs.Answers.{not-refused}

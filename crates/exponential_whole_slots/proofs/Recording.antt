@@ -13,7 +13,7 @@ use lib.IntN.{ℤ}
 use lib.ListN.{length, get_or, set, length-set}
 use lib.Seq.{get_or-set_same, get_or-set_other}
 use lib.Signed.{mag}
-use lib.Ieee.{Float, binary64, of_bits, fits as fits_float}
+use lib.Ieee.{binary64, of_bits, fits as fits_float}
 use lib.Ieee.Bits.{is_true}
 use lib.Ieee.Scale.{finite}
 use borrow.Author.Tests.{ltb-true, ltb-false}
@@ -42,7 +42,7 @@ use Rattle.exponential.proofs.Classes.{ranged-of}
 use Rattle.exponential.proofs.Stays.{next-ok, reads}
 use Rattle.exponential.proofs.Lists.{fresh_holds, total-one}
 use Rattle.exponential_wholes.specs.declared.Head.{Head}
-use Rattle.exponential_wholes.specs.Series.{head_of, summary, fresh_head, under, refusal_of, recording}
+use Rattle.exponential_wholes.specs.Series.{summary, fresh_head, under, refusal_of, recording}
 use Rattle.exponential_wholes.proofs.Call as W
 use Rattle.exponential_slots.specs.Cells.{counts_in, words_of, narrow, readable}
 use Rattle.exponential_slots.specs.Meaning.{shaped, counts_at}

@@ -1,5 +1,4 @@
 -- `head_of` meets its contract. Assumes nothing.
-use borrow.Author.Rules.{rules}
 use mathlib.Core.Path.{sym, ap, ◌∙◌}
 use mathlib.Core.List.{List, [], ◌∷◌}
 use lib.Ieee.{Float}
@@ -7,7 +6,6 @@ use Rattle.floats.specs.Starts.{zero_float}
 use Rattle.exponential_slots.specs.Cells.{head_in as words_head}
 use Rattle.exponential_slots.proofs.Cases as P
 use Rattle.exponential.specs.declared.Head as F
-use Rattle.exponential.specs.declared.Counts.{Counts}
 use Rattle.exponential_whole_slots.specs.Cells.{head_in}
 use Rattle.exponential_whole_slots.proofs.Cases.{head-held, head-fresh}
 use Rattle.exponential_whole_slots.proofs.head_of.Goals as goal

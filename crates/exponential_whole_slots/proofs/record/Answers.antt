@@ -1,9 +1,7 @@
 -- `record` meets its contract. Assumes nothing.
-use borrow.Author.Rules.{rules}
 use mathlib.Core.Path.{◌≡◌, sym, ap, ◌∙◌}
 use mathlib.Core.Bool.{true}
 use mathlib.Core.List.{[]}
-use borrow.Author.Tests.{not-true, not-false}
 use lib.ListN.{get_or}
 use Rattle.rows.specs.Parts.{part_at}
 use Rattle.integers.proofs.Range.{held}
@@ -17,25 +15,25 @@ pub returns-then-not-can_read : goal.returns-then-not-can_read
 returns-then-not-can_read c =
     let lent : Cells = record { figures = c.args.figures.now; extremes = c.args.extremes.now; pos = c.args.pos.now; neg = c.args.neg.now } in
     let a = c.args in
-    sym (unread a.size a.top a.sums a.x a.updated (lent) a.v (sym c.can_read.ensures ∙ not-true c.can_read.result c.if-not-can_read.true))
+    sym (unread a.size a.top a.sums a.x a.updated (lent) a.v (sym c.can_read.ensures ∙ c.if-not-can_read.true))
 
 pub head_of-head-requires : goal.head_of-head-requires
 head_of-head-requires c =
     let lent : Cells = record { figures = c.args.figures.now; extremes = c.args.extremes.now; pos = c.args.pos.now; neg = c.args.neg.now } in
-    let can : readable c.args.updated (get_or (lent).figures c.args.x []) ≡ true = sym c.can_read.ensures ∙ not-false c.can_read.result c.if-not-can_read.false in
+    let can : readable c.args.updated (get_or (lent).figures c.args.x []) ≡ true = sym c.can_read.ensures ∙ c.if-not-can_read.false in
     can
 
 pub returns : goal.returns
 returns c =
     let lent : Cells = record { figures = c.args.figures.now; extremes = c.args.extremes.now; pos = c.args.pos.now; neg = c.args.neg.now } in
-    let left : Outcome = record { answer = said c.«record».result; pos = c.«record».new.1.1.1.1.0; neg = c.«record».new.1.1.1.1.1.0 } in
+    let left : Outcome = record { answer = said c.record-got.result; pos = c.record-got.new.pos; neg = c.record-got.new.neg } in
     let series : left
     ≡ recording c.args.size c.args.top c.args.sums c.head_of-head.result
     (part_at c.args.size (lent).pos c.args.x) (part_at c.args.size (lent).neg c.args.x) c.args.v =
     let a = c.args in
-    c.«record».ensures
-    ∙ ap (recording a.size a.top a.sums c.head_of-head.result (part_at a.size (lent).pos a.x) (part_at a.size (lent).neg a.x)) (held a.v c.fits.v) in
-    let can : readable c.args.updated (get_or (lent).figures c.args.x []) ≡ true = sym c.can_read.ensures ∙ not-false c.can_read.result c.if-not-can_read.false in
+    c.record-got.ensures
+    ∙ ap (recording a.size a.top a.sums c.head_of-head.result (part_at a.size (lent).pos a.x) (part_at a.size (lent).neg a.x)) (held a.v c.ranges.v) in
+    let can : readable c.args.updated (get_or (lent).figures c.args.x []) ≡ true = sym c.can_read.ensures ∙ c.if-not-can_read.false in
     let recorded : recorded_at c.args.size c.args.top c.args.sums c.args.x c.args.updated (lent) c.args.v
     ≡ into c.args.size c.args.x (lent) (left) =
     let a = c.args in

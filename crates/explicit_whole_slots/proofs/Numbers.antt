@@ -5,7 +5,6 @@ use mathlib.Core.Bool.{Bool, true, false}
 use mathlib.Core.List.{List}
 use native.Mathlib.Omega.{arith}
 use borrow.Author.Tests.{ltb-true}
-use lib.Dec.{eqb}
 use lib.IntN.{ℤ, pos, +ℤ_idl}
 use lib.ListN.{length}
 use lib.Signed.{mag}

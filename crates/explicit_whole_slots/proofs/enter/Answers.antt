@@ -1,7 +1,5 @@
 -- `enter` meets its contract. Assumes nothing.
 use mathlib.Core.Path.{sym, ap, ◌∙◌}
-use borrow.Author.Tests.{not-true, not-false}
-use borrow.Author.Rules.{rules}
 use Rattle.integers.proofs.Range.{held}
 use Rattle.explicit_wholes.specs.Series.{recording}
 use Rattle.explicit_whole_slots.specs.Cells.{begun}
@@ -18,11 +16,11 @@ returns-then-updated c =
 pub returns-then-not-bounds_pass : goal.returns-then-not-bounds_pass
 returns-then-not-bounds_pass c =
     let a = c.args in
-    sym (enters_bad a.bounds.now a.sums a.updated a.head a.counts.now a.v c.if-updated.false (sym c.bounds_pass.ensures ∙ not-true _ c.if-not-bounds_pass.true))
+    sym (enters_bad a.bounds.now a.sums a.updated a.head a.counts.now a.v c.if-updated.false (sym c.bounds_pass.ensures ∙ c.if-not-bounds_pass.true))
 
 pub returns : goal.returns
 returns c =
     let a = c.args in
     c.first.ensures
     ∙ ap (begun a.bounds.now a.sums a.counts.now) (held a.v c.ranges.v)
-    ∙ sym (enters-first a.bounds.now a.sums a.updated a.head a.counts.now a.v c.if-updated.false (sym c.bounds_pass.ensures ∙ not-false _ c.if-not-bounds_pass.false))
+    ∙ sym (enters-first a.bounds.now a.sums a.updated a.head a.counts.now a.v c.if-updated.false (sym c.bounds_pass.ensures ∙ c.if-not-bounds_pass.false))

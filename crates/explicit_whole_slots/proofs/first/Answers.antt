@@ -1,6 +1,5 @@
 -- `first` meets its contract. Assumes nothing.
 use mathlib.Core.Path.{ap, ◌∙◌}
-use borrow.Author.Rules.{rules}
 use Rattle.integers.proofs.Range.{held}
 use Rattle.explicit_wholes.specs.Series.{said, recording}
 use Rattle.explicit_whole_slots.proofs.Enters.{first-never, first_law}
@@ -9,11 +8,11 @@ use Rattle.explicit_whole_slots.proofs.first.Goals as goal
 pub returns-in-Refused : goal.returns-in-Refused
 returns-in-Refused c =
     let a = c.args in
-    absurd (first-never a.bounds.now a.sums a.counts.now c.requires (said c.fresh-empty.result) c.fresh-empty.new.counts c.fresh-empty.ensures _ (ap said c.empty-1.given.1))
+    absurd (first-never a.bounds.now a.sums a.counts.now c.requires (said c.fresh-empty.result) c.fresh-empty.new.counts c.fresh-empty.ensures _ (ap said c.in-Refused.is))
 
 pub returns-in-Recorded : goal.returns-in-Recorded
 returns-in-Recorded c =
     let a = c.args in
     c.«record».ensures
-    ∙ ap (recording a.bounds.now a.sums c.empty-in-Recorded-1.given.0.0 c.fresh-empty.new.counts) (held a.v c.ranges.v)
-    ∙ first_law a.bounds.now a.sums a.counts.now c.requires (said c.fresh-empty.result) c.fresh-empty.new.counts c.fresh-empty.ensures _ a.v (ap said c.empty-in-Recorded-1.given.1)
+    ∙ ap (recording a.bounds.now a.sums c.in-Recorded.head c.fresh-empty.new.counts) (held a.v c.ranges.v)
+    ∙ first_law a.bounds.now a.sums a.counts.now c.requires (said c.fresh-empty.result) c.fresh-empty.new.counts c.fresh-empty.ensures _ a.v (ap said c.in-Recorded.is)

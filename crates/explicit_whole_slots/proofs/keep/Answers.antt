@@ -13,18 +13,18 @@ use Rattle.explicit_whole_slots.proofs.keep.Goals as goal
 
 pub returns-in-Refused : goal.returns-in-Refused
 returns-in-Refused c =
-    let g = ap said c.got-1.given.1 in
+    let g = ap said c.in-Refused.is in
     let a = c.args in record { value = sym (ap number g); totals_after = sym (ap (totals_after a.x a.totals.now) g); extremes_after = sym (ap (extremes_after a.x a.extremes.now) g) }
 
 pub returns-in-Recorded : goal.returns-in-Recorded
 returns-in-Recorded c =
-    let least : SFits w64 c.got-in-Recorded-1.given.0.0.min = search rules in
-    let greatest : SFits w64 c.got-in-Recorded-1.given.0.0.max = search rules in
-    let sum : SFits w64 c.got-in-Recorded-1.given.0.0.sum = search rules in
-    let g = ap said c.got-in-Recorded-1.given.1 in
+    let least : SFits w64 c.in-Recorded.h.min = search rules in
+    let greatest : SFits w64 c.in-Recorded.h.max = search rules in
+    let sum : SFits w64 c.in-Recorded.h.sum = search rules in
+    let g = ap said c.in-Recorded.is in
     let a = c.args in record {
       value = sym (ap number g);
       totals_after = sym (ap (totals_after a.x a.totals.now) g);
-      extremes_after = (λ j. set a.extremes.now a.x (held c.got-in-Recorded-1.given.0.0.min (least) j ∷ held c.got-in-Recorded-1.given.0.0.max (greatest) j ∷ held c.got-in-Recorded-1.given.0.0.sum (sum) j ∷ []))
+      extremes_after = (λ j. set a.extremes.now a.x (held c.in-Recorded.h.min (least) j ∷ held c.in-Recorded.h.max (greatest) j ∷ held c.in-Recorded.h.sum (sum) j ∷ []))
           ∙ sym (ap (extremes_after a.x a.extremes.now) g);
     }

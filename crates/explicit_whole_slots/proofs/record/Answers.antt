@@ -1,12 +1,11 @@
 -- `record` meets its contract. Assumes nothing.
-use Prim.Native.Nat.{ℕ, ◌+◌, ◌-◌, ◌*◌, ◌^◌, ◌≤◌}
-use mathlib.Core.Path.{◌≡◌, ap, sym, subst, ◌∙◌}
+use Prim.Native.Nat.{ℕ, ◌+◌, ◌*◌, ◌^◌, ◌≤◌}
+use mathlib.Core.Path.{◌≡◌, sym, subst, ◌∙◌}
 use mathlib.Core.Bool.{true}
 use native.Mathlib.Omega.{arith}
 use borrow.Author.Tests.{lt-ltb}
 use lib.ListN.{length}
 use lib.Signed.{mag}
-use borrow.Author.Rules.{rules}
 use Rattle.rows.specs.Parts.{part_at}
 use Rattle.rows.proofs.Parts.{part_length}
 use Rattle.integers.proofs.Range.{held}
@@ -20,17 +19,17 @@ use Rattle.explicit_whole_slots.proofs.record.Goals as goal
 pub overflow_mul-a : goal.overflow_mul-a
 overflow_mul-a c =
     let end : c.args.x * c.bucket_count-n.result + c.bucket_count-n.result ≤ length c.args.counts.now = let a = c.args in subst (λ (k : ℕ). a.x * k + k ≤ length a.counts.now) (sym c.bucket_count-n.ensures) c.requires.2 in
-    omega (arith, end, c.well-formed.1.1.1.1.1.1.0.0)
+    omega (arith, end)
 
 pub overflow_add-e : goal.overflow_add-e
 overflow_add-e c =
     let end : c.args.x * c.bucket_count-n.result + c.bucket_count-n.result ≤ length c.args.counts.now = let a = c.args in subst (λ (k : ℕ). a.x * k + k ≤ length a.counts.now) (sym c.bucket_count-n.ensures) c.requires.2 in
-    omega (arith, end, c.well-formed.1.1.1.1.1.1.0.0)
+    omega (arith, end)
 
 pub offset_bounds-counts-a : goal.offset_bounds-counts-a
 offset_bounds-counts-a c =
     let end : c.args.x * c.bucket_count-n.result + c.bucket_count-n.result ≤ length c.args.counts.now = let a = c.args in subst (λ (k : ℕ). a.x * k + k ≤ length a.counts.now) (sym c.bucket_count-n.ensures) c.requires.2 in
-    omega (arith, end, c.well-formed.1.1.1.1.1.1.0.1)
+    omega (arith, end)
 
 pub slice_bounds-enter-end : goal.slice_bounds-enter-end
 slice_bounds-enter-end c =
@@ -49,5 +48,5 @@ returns c =
     let finite : wholes.finite c.args.v ≡ true = lt-ltb (mag c.args.v) (2 ^ 63) c.ranges.v.sfits in
     let a = c.args in
     call_kept a.bounds.now a.sums a.x a.updated (lent) a.v c.bucket_count-n.result c.bucket_count-n.ensures (said c.enter-got.result) c.enter-got.new.counts
-    (c.enter-got.ensures ∙ (λ j. entering a.bounds.now a.sums a.updated (c.head_with-held.ensures j) (part_at c.bucket_count-n.result a.counts.now a.x) (held a.v c.fits.v j)))
+    (c.enter-got.ensures ∙ (λ j. entering a.bounds.now a.sums a.updated (c.head_with-held.ensures j) (part_at c.bucket_count-n.result a.counts.now a.x) (held a.v c.ranges.v j)))
     c.keep.result c.keep.new.totals c.keep.new.extremes c.keep.ensures.value c.keep.ensures.totals_after c.keep.ensures.extremes_after (long) (room) (finite)

@@ -16,7 +16,7 @@ use Rattle.laws.proofs.Cases.{and-true, true-not-false}
 use Rattle.tally.specs.Kind.{Kind}
 use Rattle.tally.specs.Sets.{Set, canonical, Lendable}
 use Rattle.tally.proofs.MapSteps as MapMapSteps
-use Rattle.tally.specs.Map.{Config, Map, Out, measure, measure_by, refuse, done, sound}
+use Rattle.tally.specs.Map.{Config, Out, measure, measure_by, refuse, done, sound}
 use Rattle.tally.proofs.MapSteps.{upfront, act, step}
 use Rattle.sets.specs.Rows.{row_of}
 use Rattle.sets.proofs.CallRow.{row-set}

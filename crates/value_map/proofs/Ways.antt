@@ -1,6 +1,6 @@
 -- THE CODE'S WAY through a recording, for any kind: what a seating that the code came by allows, and that the kind's part and the end make
 -- the call's outcome. Assumes nothing.
-use Prim.Native.Nat.{ℕ, ◌≤◌}
+use Prim.Native.Nat.{ℕ}
 use mathlib.Core.Path.{◌≡◌, refl, ap, sym, subst, ◌∙◌}
 use mathlib.Core.Bool.{Bool, true, false, ◌&&◌}
 use mathlib.Core.List.{List}
@@ -25,7 +25,7 @@ use Rattle.seats.specs.Inner.{Fits}
 use Rattle.seats.proofs.Bars.{Clear, clear, barred-on, not-barred}
 use Rattle.seats.proofs.Seatings.{Late, seat-late, by-late}
 use Rattle.value_map.specs.Store.{Store, Recording}
-use Rattle.value_map.specs.Calls.{Held, Outcome, refused, beside, passes, lent, entered, called}
+use Rattle.value_map.specs.Calls.{Held, refused, beside, lent, entered, called}
 use Rattle.value_map.specs.Inner.{finished, Takes, taken}
 use Rattle.value_map.proofs.Owed.{Owed}
 use Rattle.value_map.proofs.Cases.{Seatable, set-seatable, by-seatable, entered-away, entered-refused, entered-done}

@@ -6,7 +6,6 @@ use Rattle.laws.specs.Pick.{pick}
 use Rattle.laws.specs.Said.{success}
 use Rattle.tally.specs.Kind.{Kind}
 use Rattle.directory.specs.View.{Stores}
-use Rattle.directory.specs.Calls.{kept}
 use Rattle.directory.specs.declared.Directory.{Directory}
 use Rattle.directory.specs.declared.Target.{Target}
 use Rattle.bindings.specs.Calls as Bindings

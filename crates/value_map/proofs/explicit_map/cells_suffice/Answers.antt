@@ -1,5 +1,4 @@
 -- `value_map::explicit_map::cells_suffice` meets its contract. Assumes nothing.
-use borrow.Author.Rules.{rules}
 use mathlib.Core.Path.{◌∙◌}
 use Rattle.value_map.proofs.explicit_map.cells_suffice.Goals as goal
 

@@ -1,5 +1,4 @@
 -- `value_map::explicit_map::measure` meets its contract. Assumes nothing.
-use borrow.Author.Rules.{rules}
 use mathlib.Core.Path.{◌∙◌}
 use Rattle.kinds.specs.Histograms.{histograms}
 use Rattle.sets.specs.Sorted.{given, filter_of}
@@ -36,7 +35,7 @@ finish-requires c z =
     let known : Sits (kind) (lent_map) c.args.v c.seat-seat.result =
     let a = c.args in
     allows (owed a.bounds.now) a.limit (lent_map) a.v (way) 0 (c.slots_of-slots.ensures a.limit) c.takes-value.ensures c.seat-seat.ensures.value in
-    (known).ranges (took (kind) (lent_map).cells c.args.v c.seat-seat.result.no (turned (bounds_pass c.args.bounds.now) c.seat-seat.result.no) c.seat-seat.result.slot c.seat-seat.result.updated
+    (known).fits (took (kind) (lent_map).cells c.args.v c.seat-seat.result.no (turned (bounds_pass c.args.bounds.now) c.seat-seat.result.no) c.seat-seat.result.slot c.seat-seat.result.updated
     (turned-some (bounds_pass c.args.bounds.now) c.seat-seat.result.no) _ c.take-no.ensures z)
 
 pub returns : goal.returns

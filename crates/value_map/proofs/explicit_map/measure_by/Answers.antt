@@ -1,5 +1,4 @@
 -- `value_map::explicit_map::measure_by` meets its contract. Assumes nothing.
-use borrow.Author.Rules.{rules}
 use mathlib.Core.Path.{refl, ◌∙◌}
 use Rattle.kinds.specs.Histograms.{histograms}
 use Rattle.directory.specs.View.{stores}
@@ -34,7 +33,7 @@ finish-requires c z =
     let known : Sits (kind) (lent_map) c.args.v c.seat_by-seat.result =
     let a = c.args in
     allows (owed a.bounds.now) a.limit (lent_map) a.v (way) 0 (c.slots_of-slots.ensures a.limit) c.takes-value.ensures c.seat_by-seat.ensures in
-    (known).ranges (took (kind) (lent_map).cells c.args.v c.seat_by-seat.result.no (turned (bounds_pass c.args.bounds.now) c.seat_by-seat.result.no) c.seat_by-seat.result.slot c.seat_by-seat.result.updated
+    (known).fits (took (kind) (lent_map).cells c.args.v c.seat_by-seat.result.no (turned (bounds_pass c.args.bounds.now) c.seat_by-seat.result.no) c.seat_by-seat.result.slot c.seat_by-seat.result.updated
     (turned-some (bounds_pass c.args.bounds.now) c.seat_by-seat.result.no) _ c.take-no.ensures z)
 
 pub returns : goal.returns

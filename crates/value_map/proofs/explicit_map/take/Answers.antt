@@ -1,5 +1,4 @@
 -- `value_map::explicit_map::take` meets its contract. Assumes nothing.
-use borrow.Author.Rules.{rules}
 use Prim.Native.Nat.{ℕ}
 use mathlib.Core.Path.{ap, ◌∙◌}
 use Rattle.points.specs.Explicit.{bounds_pass}

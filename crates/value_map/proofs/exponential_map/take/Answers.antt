@@ -1,5 +1,4 @@
 -- `value_map::exponential_map::take` meets its contract. Assumes nothing.
-use borrow.Author.Rules.{rules}
 use mathlib.Core.Path.{◌∙◌}
 use Rattle.exponential_slots.specs.Cells.{Cells, cells}
 use Rattle.value_map.specs.Exponential.{exponential_store}

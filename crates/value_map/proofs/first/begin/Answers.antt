@@ -1,11 +1,9 @@
 -- `value_map::first::begin` meets its contract. Assumes nothing.
-use borrow.Author.Rules.{rules}
 use Prim.Native.Nat.{ℕ}
 use mathlib.Core.Path.{◌≡◌, sym, ◌∙◌}
 use mathlib.Core.Bool.{true}
 use mathlib.Core.List.{List}
 use mathlib.Core.Option.{Option}
-use borrow.Author.Tests.{not-true, not-false}
 use Rattle.sets.specs.Sorted.{filter_of}
 use Rattle.directory.specs.View.{Stores, stores}
 use Rattle.directory.specs.Calls.{accepts}
@@ -22,18 +20,18 @@ pub returns-then-not-accepted : goal.returns-then-not-accepted
 returns-then-not-accepted c =
     let filter : Option (List ℕ) = filter_of c.args.present c.args.filter.now in
     let lent : Stores = stores c.args.sets.now c.args.entries.now c.args.order.now in
-    begin_4 c.args.unset c.args.cells c.args.limit (filter) (lent) c.if-unset-ne0.false (sym c.accepted.ensures ∙ not-true _ c.if-not-accepted.true)
+    begin_4 c.args.unset c.args.cells c.args.limit (filter) (lent) c.if-unset-ne0.false (sym c.accepted.ensures ∙ c.if-not-accepted.true)
 
 pub returns-then-not-cells : goal.returns-then-not-cells
 returns-then-not-cells c =
     let filter : Option (List ℕ) = filter_of c.args.present c.args.filter.now in
     let lent : Stores = stores c.args.sets.now c.args.entries.now c.args.order.now in
-    let accept : accepts c.args.limit (filter) ≡ true = sym c.accepted.ensures ∙ not-false _ c.if-not-accepted.false in
-    begin_12 c.args.unset c.args.cells c.args.limit (filter) (lent) c.if-unset-ne0.false (accept) (not-true _ c.if-not-cells.true)
+    let accept : accepts c.args.limit (filter) ≡ true = sym c.accepted.ensures ∙ c.if-not-accepted.false in
+    begin_12 c.args.unset c.args.cells c.args.limit (filter) (lent) c.if-unset-ne0.false (accept) (c.if-not-cells.true)
 
 pub returns : goal.returns
 returns c =
     let filter : Option (List ℕ) = filter_of c.args.present c.args.filter.now in
     let lent : Stores = stores c.args.sets.now c.args.entries.now c.args.order.now in
-    let accept : accepts c.args.limit (filter) ≡ true = sym c.accepted.ensures ∙ not-false _ c.if-not-accepted.false in
-    c.start.ensures ∙ begin-on c.args.unset c.args.cells c.args.limit (filter) (lent) c.if-unset-ne0.false (accept) (not-false _ c.if-not-cells.false)
+    let accept : accepts c.args.limit (filter) ≡ true = sym c.accepted.ensures ∙ c.if-not-accepted.false in
+    c.start.ensures ∙ begin-on c.args.unset c.args.cells c.args.limit (filter) (lent) c.if-unset-ne0.false (accept) (c.if-not-cells.false)

@@ -1,5 +1,4 @@
 -- `value_map::first::finish` meets its contract. Assumes nothing.
-use borrow.Author.Rules.{rules}
 use mathlib.Core.Path.{ap, ◌∙◌}
 use mathlib.Core.Option.{none}
 use Rattle.laws.specs.Said.{success}

@@ -1,5 +1,4 @@
 -- `whole_map::explicit_map::measure` meets its contract. Assumes nothing.
-use borrow.Author.Rules.{rules}
 use mathlib.Core.Path.{◌≡◌, sym, ap, subst, ◌∙◌}
 use Rattle.kinds.specs.Wholes.{wholes}
 use Rattle.sets.specs.Sorted.{given, filter_of}
@@ -11,7 +10,7 @@ use Rattle.value_map.specs.Store.{Store}
 use lib.IntN.{ℤ}
 use mir.Syntax.{w64}
 use mir.Val.{to_z, of_z}
-use Rattle.rows.specs.Recording.{Recording, after}
+use Rattle.rows.specs.Recording.{after}
 use Rattle.integers.proofs.Range as Range
 use Rattle.value_map.specs.Calls.{Held, held}
 use Rattle.whole_map.specs.Explicit.{explicit_wholes}
@@ -47,7 +46,7 @@ finish-requires c z =
     let took_it : (
     after c.take-no.result (record { totals = c.take-no.new.totals; extremes = c.take-no.new.extremes; counts = c.take-no.new.counts })
     ≡ taken (kind) (lent_map).cells c.args.v c.seat-seat.result.no (turned (bounds_pass c.args.bounds.now) c.seat-seat.result.no) c.seat-seat.result.slot c.seat-seat.result.updated) = c.take-no.ensures ∙ ap (λ (z : ℤ). taken (kind) (lent_map).cells z c.seat-seat.result.no (turned (bounds_pass c.args.bounds.now) c.seat-seat.result.no) c.seat-seat.result.slot c.seat-seat.result.updated) (same-value) in
-    (known).ranges (took (kind) (lent_map).cells c.args.v c.seat-seat.result.no (turned (bounds_pass c.args.bounds.now) c.seat-seat.result.no) c.seat-seat.result.slot c.seat-seat.result.updated
+    (known).fits (took (kind) (lent_map).cells c.args.v c.seat-seat.result.no (turned (bounds_pass c.args.bounds.now) c.seat-seat.result.no) c.seat-seat.result.slot c.seat-seat.result.updated
     (turned-some (bounds_pass c.args.bounds.now) c.seat-seat.result.no) _ (took_it) z)
 
 pub returns : goal.returns

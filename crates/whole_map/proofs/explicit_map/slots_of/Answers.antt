@@ -1,5 +1,4 @@
 -- `whole_map::explicit_map::slots_of` meets its contract. Assumes nothing.
-use borrow.Author.Rules.{rules}
 use Prim.Native.Nat.{ℕ, ◌+◌, ◌*◌, ◌/◌, min}
 use mathlib.Core.Path.{ap, ◌∙◌}
 use lib.Dec.{leb}

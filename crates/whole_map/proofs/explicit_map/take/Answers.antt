@@ -1,5 +1,4 @@
 -- `whole_map::explicit_map::take` meets its contract. Assumes nothing.
-use borrow.Author.Rules.{rules}
 use Prim.Native.Nat.{ℕ}
 use mathlib.Core.Path.{ap, ◌∙◌}
 use Rattle.points.specs.Explicit.{bounds_pass}
@@ -31,5 +30,5 @@ returns c =
     let number : ℕ = turned (bounds_pass c.args.bounds.now) c.args.no in
     let a = c.args in
     c.«record».ensures
-    ∙ ap (recorded_at a.bounds.now a.sums a.x a.updated (lent)) (held a.v c.fits.v)
+    ∙ ap (recorded_at a.bounds.now a.sums a.x a.updated (lent)) (held a.v c.ranges.v)
     ∙ take_on (explicit_wholes a.bounds.now a.sums) (lent) a.v a.no (number) a.x a.updated c.if-no-ne0.false

@@ -1,7 +1,5 @@
 -- `whole_map::explicit_map::turned_by` meets its contract. Assumes nothing.
-use borrow.Author.Rules.{rules}
 use mathlib.Core.Path.{sym, ◌∙◌}
-use borrow.Author.Tests.{not-true, not-false}
 use Rattle.value_map.proofs.Late.{turned-low, turned-high, turned_same, turned_8}
 use Rattle.whole_map.proofs.explicit_map.turned_by.Goals as goal
 
@@ -13,7 +11,7 @@ returns-then-no-gt9 c = turned-high _ _ c.if-no-gt9.true
 
 pub returns-then-not-bounds_pass : goal.returns-then-not-bounds_pass
 returns-then-not-bounds_pass c =
-    turned_8 _ _ c.if-no-lt7.false c.if-no-gt9.false (sym c.bounds_pass.ensures ∙ not-true _ c.if-not-bounds_pass.true)
+    turned_8 _ _ c.if-no-lt7.false c.if-no-gt9.false (sym c.bounds_pass.ensures ∙ c.if-not-bounds_pass.true)
 
 pub returns : goal.returns
-returns c = turned_same _ _ (sym c.bounds_pass.ensures ∙ not-false _ c.if-not-bounds_pass.false)
+returns c = turned_same _ _ (sym c.bounds_pass.ensures ∙ c.if-not-bounds_pass.false)

@@ -1,5 +1,4 @@
 -- `whole_map::exponential_map::measure` meets its contract. Assumes nothing.
-use borrow.Author.Rules.{rules}
 use mathlib.Core.Path.{◌≡◌, sym, ap, subst, ◌∙◌}
 use Rattle.kinds.specs.Wholes.{wholes}
 use Rattle.sets.specs.Sorted.{given, filter_of}
@@ -10,7 +9,7 @@ use Rattle.value_map.specs.Store.{Store}
 use lib.IntN.{ℤ}
 use mir.Syntax.{w64}
 use mir.Val.{to_z, of_z}
-use Rattle.rows.specs.Recording.{Recording, after}
+use Rattle.rows.specs.Recording.{after}
 use Rattle.integers.proofs.Range as Range
 use Rattle.value_map.specs.Inner.{Takes, taken}
 use Rattle.value_map.specs.Calls.{Held, held}
@@ -44,7 +43,7 @@ finish-requires c z =
     allows (owed a.size a.top a.sums) a.limit (lent_map) a.v (way) c.unset_of-unset.result (c.slots_of-slots.ensures a.limit) (all-taken) c.seat-seat.ensures.value in
     let took_it : (
     after c.take-no.result (record { figures = c.take-no.new.figures; extremes = c.take-no.new.extremes; pos = c.take-no.new.pos; neg = c.take-no.new.neg }) ≡ taken (kind) (lent_map).cells c.args.v c.seat-seat.result.no c.seat-seat.result.no c.seat-seat.result.slot c.seat-seat.result.updated) = c.take-no.ensures ∙ ap (λ (z : ℤ). taken (kind) (lent_map).cells z c.seat-seat.result.no c.seat-seat.result.no c.seat-seat.result.slot c.seat-seat.result.updated) (same-value) in
-    (known).ranges (took (kind) (lent_map).cells c.args.v c.seat-seat.result.no c.seat-seat.result.no c.seat-seat.result.slot c.seat-seat.result.updated (λ d. d) _ (took_it) z)
+    (known).fits (took (kind) (lent_map).cells c.args.v c.seat-seat.result.no c.seat-seat.result.no c.seat-seat.result.slot c.seat-seat.result.updated (λ d. d) _ (took_it) z)
 
 pub returns : goal.returns
 returns c =

@@ -1,5 +1,4 @@
 -- `whole_map::exponential_map::slots_of` meets its contract. Assumes nothing.
-use borrow.Author.Rules.{rules}
 use Prim.Native.Nat.{◌+◌, ◌*◌, ◌/◌, min}
 use mathlib.Core.Path.{ap, ◌∙◌}
 use mathlib.Core.Bool.{true, ◌&&◌}

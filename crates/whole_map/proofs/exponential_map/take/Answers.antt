@@ -1,5 +1,4 @@
 -- `whole_map::exponential_map::take` meets its contract. Assumes nothing.
-use borrow.Author.Rules.{rules}
 use mathlib.Core.Path.{ap, ◌∙◌}
 use Rattle.exponential_whole_slots.specs.Cells.{Cells, cells, recorded_at}
 use Rattle.whole_map.specs.Exponential.{exponential_wholes}
@@ -23,5 +22,5 @@ returns c =
     let lent : Cells = let a = c.args in cells a.figures.now a.extremes.now a.pos.now a.neg.now in
     let a = c.args in
     c.«record».ensures
-    ∙ ap (recorded_at a.size a.top a.sums a.x a.updated (lent)) (held a.v c.fits.v)
+    ∙ ap (recorded_at a.size a.top a.sums a.x a.updated (lent)) (held a.v c.ranges.v)
     ∙ take_on (exponential_wholes a.size a.top a.sums) (lent) a.v a.no a.no a.x a.updated c.if-no-ne0.false

@@ -20,7 +20,6 @@ use Rattle.directory.specs.View.{Stores, updated_in, entry_at}
 use Rattle.directory.specs.Calls.{located, scan, most_sets, few_keys, accepts}
 use Rattle.directory.specs.declared.Directory.{Directory}
 use Rattle.directory.specs.declared.Found.{Found}
-use Rattle.directory.specs.declared.Found.TheVariants as Found
 use Rattle.directory.specs.declared.Target.{Target}
 use Rattle.directory.specs.declared.Target.TheVariants.{Disagrees, Old, New, Over}
 use Rattle.directory.proofs.Laws.{slots_of, slot-used, scan_in}

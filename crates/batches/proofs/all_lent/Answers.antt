@@ -1,9 +1,8 @@
 -- `batches::all_lent` meets its contract. Assumes nothing.
-use borrow.Author.Rules.{rules}
-use Prim.Native.Nat.{ℕ, ◌≤◌}
+use Prim.Native.Nat.{ℕ}
 use mathlib.Core.Path.{◌≡◌, subst}
 use native.Mathlib.Omega.{arith}
-use lib.ListN.{length, drop}
+use lib.ListN.{drop}
 use Rattle.tally.specs.Sets.{Lendable}
 use Rattle.sets.specs.Sorted.{given}
 use Rattle.batches.proofs.Ends.{lent_none, lent-turn}

@@ -1,12 +1,8 @@
 -- `batches::all_lent` meets its contract. Assumes nothing.
-use borrow.Author.Rules.{rules}
-use Prim.Native.Nat.{ℕ, ◌≤◌}
-use mathlib.Core.Path.{◌≡◌, subst}
-use native.Mathlib.Omega.{arith}
+use Prim.Native.Nat.{◌≤◌}
 use lib.ListN.{length, drop}
 use Rattle.tally.specs.Sets.{Lendable}
 use Rattle.sets.specs.Sorted.{given}
-use Rattle.batches.proofs.Ends.{lent_none, lent-turn}
 use Rattle.batches.proofs.all_lent.Given as goal
 
 abbrev pub invariant-loop-i : goal.invariant-loop-i

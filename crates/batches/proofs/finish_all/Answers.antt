@@ -1,5 +1,4 @@
 -- `batches::finish_all` meets its contract. Assumes nothing.
-use borrow.Author.Rules.{rules}
 use mathlib.Core.Path.{ap, ◌∙◌}
 use Rattle.many.specs.Many.{many}
 use Rattle.directory.specs.View.{Stores, stores}

@@ -1,5 +1,4 @@
 -- `index_run::main` is safe and ends: the measure is the number of turns left. Assumes nothing.
-use native.Mathlib.Omega.{arith}
 use Rattle.index_run.proofs.main.Goals as goal
 
 pub first-ports-requires : goal.first-ports-requires

@@ -3,7 +3,6 @@ use Prim.Native.Nat.{◌%◌}
 use native.Mathlib.Omega.{arith}
 use lib.Dec.{lit<}
 use Rattle.index.proofs.Casts.{difference-fits}
-use borrow.Author.Rules.{rules}
 use Rattle.index_run.proofs.scale_of.Goals as goal
 
 pub overflow_sub-result : goal.overflow_sub-result

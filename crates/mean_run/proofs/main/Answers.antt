@@ -1,5 +1,4 @@
 -- `mean_run::main` is safe and ends: the measure is the number of turns left. Assumes nothing.
-use native.Mathlib.Omega.{arith}
 use Rattle.mean_run.proofs.main.Goals as goal
 
 pub first-ports-requires : goal.first-ports-requires

@@ -1,5 +1,4 @@
 -- `mean_run::main` is safe and ends: the measure is the number of turns left. Assumes nothing.
-use native.Mathlib.Omega.{arith}
 use Rattle.mean_run.proofs.main.Given as goal
 
 abbrev pub invariant-loop-turns : goal.invariant-loop-turns

@@ -1,8 +1,6 @@
 -- `collecting::barred` meets its contract. Assumes nothing.
-use borrow.Author.Rules.{rules}
 use mathlib.Core.Path.{◌≡◌, sym, ◌∙◌}
 use mathlib.Core.Bool.{true}
-use borrow.Author.Tests.{not-true, not-false}
 use Rattle.directory.specs.View.{Stores, stores}
 use Rattle.directory.specs.Calls.{stores_suffice}
 use Rattle.directory.proofs.Refusals.{suffices}
@@ -15,45 +13,45 @@ returns-then-known c = sym (c.requires c.if-known.true)
 pub returns-then-not-stores_suffice : goal.returns-then-not-stores_suffice
 returns-then-not-stores_suffice c =
     let lent : Stores = stores c.args.sets.now c.args.entries.now c.args.order.now in
-    sym (bar-stores c.args.cells c.args.unset c.args.limit c.args.d (lent) (sym c.stores_suffice.ensures ∙ not-true _ c.if-not-stores_suffice.true))
+    sym (bar-stores c.args.cells c.args.unset c.args.limit c.args.d (lent) (sym c.stores_suffice.ensures ∙ c.if-not-stores_suffice.true))
 
 pub returns-then-not-cells : goal.returns-then-not-cells
 returns-then-not-cells c =
     let lent : Stores = stores c.args.sets.now c.args.entries.now c.args.order.now in
-    let room : stores_suffice c.args.limit (lent) ≡ true = sym c.stores_suffice.ensures ∙ not-false _ c.if-not-stores_suffice.false in
-    sym (bar-cells c.args.cells c.args.unset c.args.limit c.args.d (lent) (room) (not-true _ c.if-not-cells.true))
+    let room : stores_suffice c.args.limit (lent) ≡ true = sym c.stores_suffice.ensures ∙ c.if-not-stores_suffice.false in
+    sym (bar-cells c.args.cells c.args.unset c.args.limit c.args.d (lent) (room) c.if-not-cells.true)
 
 pub returns-then-unset-ne0 : goal.returns-then-unset-ne0
 returns-then-unset-ne0 c =
     let lent : Stores = stores c.args.sets.now c.args.entries.now c.args.order.now in
-    let room : stores_suffice c.args.limit (lent) ≡ true = sym c.stores_suffice.ensures ∙ not-false _ c.if-not-stores_suffice.false in
-    let cells : c.args.cells ≡ true = not-false _ c.if-not-cells.false in
+    let room : stores_suffice c.args.limit (lent) ≡ true = sym c.stores_suffice.ensures ∙ c.if-not-stores_suffice.false in
+    let cells : c.args.cells ≡ true = c.if-not-cells.false in
     sym (bar-unset c.args.cells c.args.unset c.args.limit c.args.d (lent) (room) (cells) c.if-unset-ne0.true)
 
 pub returns-then-limit-gt-MOST_SETS : goal.returns-then-limit-gt-MOST_SETS
 returns-then-limit-gt-MOST_SETS c =
     let lent : Stores = stores c.args.sets.now c.args.entries.now c.args.order.now in
-    let room : stores_suffice c.args.limit (lent) ≡ true = sym c.stores_suffice.ensures ∙ not-false _ c.if-not-stores_suffice.false in
-    let cells : c.args.cells ≡ true = not-false _ c.if-not-cells.false in
+    let room : stores_suffice c.args.limit (lent) ≡ true = sym c.stores_suffice.ensures ∙ c.if-not-stores_suffice.false in
+    let cells : c.args.cells ≡ true = c.if-not-cells.false in
     sym (bar-limit c.args.cells c.args.unset c.args.limit c.args.d (lent) (room) (cells) c.if-unset-ne0.false c.if-limit-gt-MOST_SETS.true)
 
 pub agrees-requires : goal.agrees-requires
 agrees-requires c =
     let lent : Stores = stores c.args.sets.now c.args.entries.now c.args.order.now in
-    let room : stores_suffice c.args.limit (lent) ≡ true = sym c.stores_suffice.ensures ∙ not-false _ c.if-not-stores_suffice.false in
+    let room : stores_suffice c.args.limit (lent) ≡ true = sym c.stores_suffice.ensures ∙ c.if-not-stores_suffice.false in
     let r = suffices c.args.limit (lent) (room) in
     (r.sets, r.entries, r.order)
 
 pub returns-then-not-agrees : goal.returns-then-not-agrees
 returns-then-not-agrees c =
     let lent : Stores = stores c.args.sets.now c.args.entries.now c.args.order.now in
-    let room : stores_suffice c.args.limit (lent) ≡ true = sym c.stores_suffice.ensures ∙ not-false _ c.if-not-stores_suffice.false in
-    let cells : c.args.cells ≡ true = not-false _ c.if-not-cells.false in
-    sym (bar_directory c.args.cells c.args.unset c.args.limit c.args.d (lent) (room) (cells) c.if-unset-ne0.false c.if-limit-gt-MOST_SETS.false (sym c.agrees.ensures ∙ not-true _ c.if-not-agrees.true))
+    let room : stores_suffice c.args.limit (lent) ≡ true = sym c.stores_suffice.ensures ∙ c.if-not-stores_suffice.false in
+    let cells : c.args.cells ≡ true = c.if-not-cells.false in
+    sym (bar_directory c.args.cells c.args.unset c.args.limit c.args.d (lent) (room) (cells) c.if-unset-ne0.false c.if-limit-gt-MOST_SETS.false (sym c.agrees.ensures ∙ c.if-not-agrees.true))
 
 pub returns : goal.returns
 returns c =
     let lent : Stores = stores c.args.sets.now c.args.entries.now c.args.order.now in
-    let room : stores_suffice c.args.limit (lent) ≡ true = sym c.stores_suffice.ensures ∙ not-false _ c.if-not-stores_suffice.false in
-    let cells : c.args.cells ≡ true = not-false _ c.if-not-cells.false in
-    sym (bar-none c.args.cells c.args.unset c.args.limit c.args.d (lent) (room) (cells) c.if-unset-ne0.false c.if-limit-gt-MOST_SETS.false (sym c.agrees.ensures ∙ not-false _ c.if-not-agrees.false))
+    let room : stores_suffice c.args.limit (lent) ≡ true = sym c.stores_suffice.ensures ∙ c.if-not-stores_suffice.false in
+    let cells : c.args.cells ≡ true = c.if-not-cells.false in
+    sym (bar-none c.args.cells c.args.unset c.args.limit c.args.d (lent) (room) (cells) c.if-unset-ne0.false c.if-limit-gt-MOST_SETS.false (sym c.agrees.ensures ∙ c.if-not-agrees.false))

@@ -1,5 +1,4 @@
 -- `collecting::clean` meets its contract. Assumes nothing.
-use borrow.Author.Rules.{rules}
 use mathlib.Core.Path.{◌∙◌}
 use mathlib.Core.List.{[], ◌∷◌}
 use lib.ListN.{get_or}
@@ -17,6 +16,6 @@ returns c =
     ∷ c.word_of-6.ensures j
     ∷ c.word_of-7.ensures j
     ∷ c.word_of-8.ensures j
-    ∷ get_or c.args.t1 8 0
+    ∷ get_or c.args.row 8 0
     ∷ [])
-    ∙ row_words c.args.t1 c.requires
+    ∙ row_words c.args.row c.requires

@@ -9,9 +9,9 @@ use Rattle.printing.proofs.bare_set.Goals as goal
 pub returns-then-row-eq0 : goal.returns-then-row-eq0
 returns-then-row-eq0 c =
     let a = c.args in
-    spelt (sym (field-none a.t3 c.if-row-eq0.true)) (waiting a.n a.text.now) c.byte.ensures
+    spelt (sym (field-none a.row c.if-row-eq0.true)) (waiting a.n a.text.now) c.byte.ensures
 
 pub returns : goal.returns
 returns c =
     let a = c.args in
-    spelt (field-some a.t3 c.if-row-eq0.false) (waiting a.n a.text.now) c.attributes.ensures
+    spelt (field-some a.row c.if-row-eq0.false) (waiting a.n a.text.now) c.attributes.ensures

@@ -13,7 +13,7 @@ use Rattle.printing.proofs.extreme.Goals as goal
 pub returns-in-None : goal.returns-in-None
 returns-in-None c =
     let a = c.args in
-    spelt (ap (λ (x : Extreme). 32 ∷ extreme_field x) (sym c.enum_told-1.given.1)) (waiting a.n a.text.now) c.bytes.ensures
+    spelt (ap (λ (x : Extreme). 32 ∷ extreme_field x) (sym c.in-None.is)) (waiting a.n a.text.now) c.bytes.ensures
 
 pub returns-in-Value : goal.returns-in-Value
 unfolding float_field
@@ -21,5 +21,5 @@ returns-in-Value c =
     let a = c.args in
     spelt
     (ap (λ (k : ℕ). 32 ∷ hex_digits 16 k) c.bits_of.ensures
-    ∙ ap (λ (x : Extreme). 32 ∷ extreme_field x) (sym c.x-1.given.1))
+    ∙ ap (λ (x : Extreme). 32 ∷ extreme_field x) (sym c.in-Value.is))
     (waiting a.n a.text.now) c.bits.ensures

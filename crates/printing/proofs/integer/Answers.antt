@@ -15,7 +15,7 @@ use Rattle.printing.proofs.integer.Goals as goal
 
 pub overflow_cast-i : goal.overflow_cast-i
 overflow_cast-i c =
-    let z : ℤ = c.x-1.given.0.0 in
+    let z : ℤ = c.in-Is.i in
     let f : SFits w32 z = search rules in
     wide_fits z f
 
@@ -23,13 +23,13 @@ pub returns-in-OutOfRange : goal.returns-in-OutOfRange
 returns-in-OutOfRange c =
     let a = c.args in
     let t = waiting a.n a.text.now in
-    spelt (ap (λ (i : Integer). 32 ∷ integer_field i) (sym c.enum_told-1.given.1)) t
+    spelt (ap (λ (i : Integer). 32 ∷ integer_field i) (sym c.in-OutOfRange.is)) t
     (then (32 ∷ []) (45 ∷ []) t c.byte-m.ensures c.byte.ensures)
 
 pub returns-in-Is : goal.returns-in-Is
 returns-in-Is c =
     let a = c.args in
     let t = waiting a.n a.text.now in
-    let f : SFits w32 c.x-1.given.0.0 = search rules in
-    spelt (ap (λ (z : ℤ). 32 ∷ signed z) (wide_is c.x-1.given.0.0 f) ∙ ap (λ (i : Integer). 32 ∷ integer_field i) (sym c.x-1.given.1)) t
+    let f : SFits w32 c.in-Is.i = search rules in
+    spelt (ap (λ (z : ℤ). 32 ∷ signed z) (wide_is c.in-Is.i f) ∙ ap (λ (i : Integer). 32 ∷ integer_field i) (sym c.in-Is.is)) t
     (then (32 ∷ []) _ t c.byte-m.ensures c.signed.ensures)

@@ -8,9 +8,9 @@ use Rattle.printing.proofs.line.Goals as goal
 pub returns-in-Point : goal.returns-in-Point
 returns-in-Point c =
     let a = c.args in
-    spelt (in_form c.enum_told-1.given.1 _ _) (waiting a.n a.text.now) c.point_line.ensures
+    spelt (in_form c.in-Point.is _ _) (waiting a.n a.text.now) c.point_line.ensures
 
 pub returns-in-Card : goal.returns-in-Card
 returns-in-Card c =
     let a = c.args in
-    spelt (in_form c.enum_told-in-Card-1.given.1 _ _) (waiting a.n a.text.now) c.card_line.ensures
+    spelt (in_form c.in-Card.is _ _) (waiting a.n a.text.now) c.card_line.ensures

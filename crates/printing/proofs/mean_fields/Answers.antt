@@ -20,15 +20,15 @@ pub returns-in-Mean : goal.returns-in-Mean
 returns-in-Mean c =
     let a = c.args in
     let t = waiting a.n a.text.now in
-    let f : SFits w64 c.x-1.given.0.0 = search rules in
-    spelt (ap (λ (y : Answer). each 32 (mean_fields (said y))) (sym c.x-1.given.1)) t
-    (a-field 32 t (signed c.x-1.given.0.0) []
-    (spelt (ap (λ (y : ℤ). 32 ∷ signed y) (to_z-of_z w64 c.x-1.given.0.0 f)) t (then (32 ∷ []) _ t c.byte-a.ensures c.signed.ensures)) (no_field 32 _))
+    let f : SFits w64 c.in-Mean.z = search rules in
+    spelt (ap (λ (y : Answer). each 32 (mean_fields (said y))) (sym c.in-Mean.is)) t
+    (a-field 32 t (signed c.in-Mean.z) []
+    (spelt (ap (λ (y : ℤ). 32 ∷ signed y) (to_z-of_z w64 c.in-Mean.z f)) t (then (32 ∷ []) _ t c.byte-a.ensures c.signed.ensures)) (no_field 32 _))
 
 pub returns-in-Refused : goal.returns-in-Refused
 returns-in-Refused c =
     let a = c.args in
     let t = waiting a.n a.text.now in
-    let no = decimal c.x-in-Refused-1.given.0.0 in
-    spelt (ap (λ (y : Answer). each 32 (mean_fields (said y))) (sym c.x-in-Refused-1.given.1)) t
+    let no = decimal c.in-Refused.no in
+    spelt (ap (λ (y : Answer). each 32 (mean_fields (said y))) (sym c.in-Refused.is)) t
     (a-field 32 t (33 ∷ []) (no ∷ []) c.bytes-a.ensures (a-field 32 _ no [] c.number.ensures (no_field 32 _)))

@@ -12,16 +12,16 @@ pub returns-in_default : goal.returns-in_default
 returns-in_default c =
     let listed : Output = let a = c.args in output a.sets.now a.words.now a.pos.now a.neg.now in
     let a = c.args in
-    let p = none_found a.form a.at (listed) a.bounds.now (sym c.point_at.ensures ∙ c.enum_told-1.given.1) in record { text_value = spelt p.0 (waiting a.n a.text.now) (nothing _); at_value = p.1 }
+    let p = none_found a.form a.at (listed) a.bounds.now (sym c.point_at.ensures ∙ c.in_default.is) in record { text_value = spelt p.0 (waiting a.n a.text.now) (nothing _); at_value = p.1 }
 
 pub returns-then-sets-k : goal.returns-then-sets-k
 returns-then-sets-k c =
     let listed : Output = let a = c.args in output a.sets.now a.words.now a.pos.now a.neg.now in
     let a = c.args in
-    let p = no-set a.form a.at (listed) a.bounds.now c.e-1.given.0.0 (sym c.point_at.ensures ∙ c.e-1.given.1) c.if-sets-k.true in record { text_value = spelt p.0 (waiting a.n a.text.now) (nothing _); at_value = p.1 }
+    let p = no-set a.form a.at (listed) a.bounds.now c.in-Is.e (sym c.point_at.ensures ∙ c.in-Is.is) c.if-sets-k.true in record { text_value = spelt p.0 (waiting a.n a.text.now) (nothing _); at_value = p.1 }
 
 pub returns : goal.returns
 returns c =
     let listed : Output = let a = c.args in output a.sets.now a.words.now a.pos.now a.neg.now in
     let a = c.args in
-    let p = point-found a.form a.at (listed) a.bounds.now c.e-1.given.0.0 (sym c.point_at.ensures ∙ c.e-1.given.1) c.if-sets-k.false in record { text_value = spelt p.0 (waiting a.n a.text.now) c.line.ensures; at_value = p.1 }
+    let p = point-found a.form a.at (listed) a.bounds.now c.in-Is.e (sym c.point_at.ensures ∙ c.in-Is.is) c.if-sets-k.false in record { text_value = spelt p.0 (waiting a.n a.text.now) c.line.ensures; at_value = p.1 }

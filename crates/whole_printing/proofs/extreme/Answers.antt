@@ -16,10 +16,10 @@ use Rattle.whole_printing.proofs.extreme.Goals as goal
 pub returns-in-None : goal.returns-in-None
 returns-in-None c =
     let a = c.args in
-    spelt (ap (λ (x : Extreme). 32 ∷ extreme_field x) (sym c.enum_told-1.given.1)) (waiting a.n a.text.now) c.bytes.ensures
+    spelt (ap (λ (x : Extreme). 32 ∷ extreme_field x) (sym c.in-None.is)) (waiting a.n a.text.now) c.bytes.ensures
 
 pub returns-in-Value : goal.returns-in-Value
 returns-in-Value c =
     let a = c.args in
-    let f : SFits w64 c.x-1.given.0.0 = search rules in
-    spelt (ap (λ (z : ℤ). 32 ∷ signed z) (held c.x-1.given.0.0 f) ∙ ap (λ (e : Extreme). 32 ∷ extreme_field e) (sym c.x-1.given.1)) (waiting a.n a.text.now) c.integer.ensures
+    let f : SFits w64 c.in-Value.v = search rules in
+    spelt (ap (λ (z : ℤ). 32 ∷ signed z) (held c.in-Value.v f) ∙ ap (λ (e : Extreme). 32 ∷ extreme_field e) (sym c.in-Value.is)) (waiting a.n a.text.now) c.integer.ensures

@@ -30,11 +30,11 @@ returns-in-Exponential c =
     let rows =
     ap (λ (l : List ℕ). each 32 (exponential_fields p l c.row_at-below.result.now)) c.row_at-above.ensures
     ∙ ap (λ (l : List ℕ). each 32 (exponential_fields p x.pos l)) c.row_at-below.ensures in
-    spelt (exponential-line (eight a.row) x c.f-1.given.0.0 c.f-1.given.1) (waiting a.n a.text.now)
-    (a-line (112 ∷ []) (set_field (eight a.row) ∷ decimal c.f-1.given.0.0.count ∷ decimal c.f-1.given.0.0.zeros ∷ rest) _ c.byte-a.ensures
-    (a-field 32 _ (set_field (eight a.row)) (decimal c.f-1.given.0.0.count ∷ decimal c.f-1.given.0.0.zeros ∷ rest) c.set-b.ensures
-    (a-field 32 _ (decimal c.f-1.given.0.0.count) (decimal c.f-1.given.0.0.zeros ∷ rest) c.number-d.ensures
-    (a-field 32 _ (decimal c.f-1.given.0.0.zeros) rest c.number-g.ensures (spelt rows _ c.exponential-h.ensures))))
+    spelt (exponential-line (eight a.row) x c.in-Exponential.c c.in-Exponential.is) (waiting a.n a.text.now)
+    (a-line (112 ∷ []) (set_field (eight a.row) ∷ decimal c.in-Exponential.c.count ∷ decimal c.in-Exponential.c.zeros ∷ rest) _ c.byte-a.ensures
+    (a-field 32 _ (set_field (eight a.row)) (decimal c.in-Exponential.c.count ∷ decimal c.in-Exponential.c.zeros ∷ rest) c.set-b.ensures
+    (a-field 32 _ (decimal c.in-Exponential.c.count) (decimal c.in-Exponential.c.zeros ∷ rest) c.number-d.ensures
+    (a-field 32 _ (decimal c.in-Exponential.c.zeros) rest c.number-g.ensures (spelt rows _ c.exponential-h.ensures))))
     c.byte.ensures)
 
 pub returns-in-Explicit : goal.returns-in-Explicit
@@ -50,8 +50,8 @@ returns-in-Explicit c =
     let rows =
     ap (λ (l : List ℕ). each 32 (explicit_fields p l c.bounds_at-own.result.now)) c.row_at-above.ensures
     ∙ ap (λ (l : List Float). each 32 (explicit_fields p x.pos l)) c.bounds_at-own.ensures in
-    spelt (explicit-line (eight a.row) x c.f-in-Explicit-1.given.0.0 c.f-in-Explicit-1.given.1) (waiting a.n a.text.now)
-    (a-line (113 ∷ []) (set_field (eight a.row) ∷ decimal c.f-in-Explicit-1.given.0.0 ∷ rest) _ c.byte-a-in-Explicit.ensures
-    (a-field 32 _ (set_field (eight a.row)) (decimal c.f-in-Explicit-1.given.0.0 ∷ rest) c.set-b-in-Explicit.ensures
-    (a-field 32 _ (decimal c.f-in-Explicit-1.given.0.0) rest c.number-d-in-Explicit.ensures (spelt rows _ c.explicit-g.ensures)))
+    spelt (explicit-line (eight a.row) x c.in-Explicit.count c.in-Explicit.is) (waiting a.n a.text.now)
+    (a-line (113 ∷ []) (set_field (eight a.row) ∷ decimal c.in-Explicit.count ∷ rest) _ c.byte-a-in-Explicit.ensures
+    (a-field 32 _ (set_field (eight a.row)) (decimal c.in-Explicit.count ∷ rest) c.set-b-in-Explicit.ensures
+    (a-field 32 _ (decimal c.in-Explicit.count) rest c.number-d-in-Explicit.ensures (spelt rows _ c.explicit-g.ensures)))
     c.byte-in-Explicit.ensures)

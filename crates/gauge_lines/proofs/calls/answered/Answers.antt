@@ -9,14 +9,14 @@ use Rattle.gauge_lines.proofs.calls.answered.Goals as goal
 pub returns-in-Refused : goal.returns-in-Refused
 returns-in-Refused c =
     let a = c.args in
-    c.refused.ensures ∙ sym (ap (λ (x : Answer). answered_by a.g (said x) a.reply.dir) c.answer-1.given.1)
+    c.refused.ensures ∙ sym (ap (λ (x : Answer). answered_by a.g (said x) a.reply.dir) c.in-Refused.is)
 
 pub returns-in-Done : goal.returns-in-Done
 returns-in-Done c =
     let a = c.args in
-    c.with.ensures ∙ sym (ap (λ (x : Answer). answered_by a.g (said x) a.reply.dir) c.enum_told-1.given.1)
+    c.with.ensures ∙ sym (ap (λ (x : Answer). answered_by a.g (said x) a.reply.dir) c.in-Done.is)
 
 pub returns-in-Handle : goal.returns-in-Handle
 returns-in-Handle c =
     let a = c.args in
-    c.with-in-Handle.ensures ∙ sym (ap (λ (x : Answer). answered_by a.g (said x) a.reply.dir) c.answer-in-Handle-1.given.1)
+    c.with-in-Handle.ensures ∙ sym (ap (λ (x : Answer). answered_by a.g (said x) a.reply.dir) c.in-Handle.is)

@@ -9,9 +9,9 @@ use Rattle.gauge_lines.proofs.calls.begun.Goals as goal
 pub returns-in-Refused : goal.returns-in-Refused
 returns-in-Refused c =
     let a = c.args in
-    c.refused.ensures ∙ sym (ap (λ (x : Configured). begun_by a.g a.start (said x)) c.c-1.given.1)
+    c.refused.ensures ∙ sym (ap (λ (x : Configured). begun_by a.g a.start (said x)) c.in-Refused.is)
 
 pub returns-in-Accepted : goal.returns-in-Accepted
 returns-in-Accepted c =
     let a = c.args in
-    sym (ap (λ (x : Configured). begun_by a.g a.start (said x)) c.c-in-Accepted-1.given.1)
+    sym (ap (λ (x : Configured). begun_by a.g a.start (said x)) c.in-Accepted.is)

@@ -11,12 +11,12 @@ pub returns-in_default : goal.returns-in_default
 returns-in_default c =
     let a = c.args in
     record-refused a.g a.line.now _ _ c.refused.result
-    (sym c.board_in.ensures.value ∙ c.enum_told-1.given.1) c.refused.ensures
+    (sym c.board_in.ensures.value ∙ c.in_default.is) c.refused.ensures
 
 pub returns : goal.returns
 returns c =
     let a = c.args in
-    record-made a.g a.line.now _ _ c.answered.result c.bits-1.given.0.0 c.bits-1.given.0.1.0 (sym c.board_in.ensures.value ∙ c.bits-1.given.1)
+    record-made a.g a.line.now _ _ c.answered.result c.in-Is.bits c.in-Is.n (sym c.board_in.ensures.value ∙ c.in-Is.is)
     c.of_bits.result c.of_bits.ensures c.given.result.now
-    (c.given.ensures ∙ ap (λ (x : List (List ℕ)). take c.bits-1.given.0.1.0 x) c.board_in.ensures.attrs_after)
+    (c.given.ensures ∙ ap (λ (x : List (List ℕ)). take c.in-Is.n x) c.board_in.ensures.attrs_after)
     c.measure-reply.result _ _ c.measure-reply.ensures c.answered.ensures

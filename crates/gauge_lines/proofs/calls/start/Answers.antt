@@ -11,11 +11,11 @@ pub returns-in_default : goal.returns-in_default
 returns-in_default c =
     let a = c.args in
     start-refused a.g a.line.now _ _ c.refused.result
-    (sym c.settings_in.ensures ∙ c.enum_told-1.given.1) c.refused.ensures
+    (sym c.settings_in.ensures ∙ c.in_default.is) c.refused.ensures
 
 pub returns : goal.returns
 returns c =
     let a = c.args in
-    let f : SFits w32 c.w-1.given.0.0.scale = search rules in
-    start-made a.g a.line.now _ _ c.begun.result c.w-1.given.0.0 (sym c.settings_in.ensures ∙ c.w-1.given.1)
-    _ (to_z-of_z w32 c.w-1.given.0.0.scale f) c.configure-c.result _ c.configure-c.ensures c.begun.ensures
+    let f : SFits w32 c.in-Is.w.scale = search rules in
+    start-made a.g a.line.now _ _ c.begun.result c.in-Is.w (sym c.settings_in.ensures ∙ c.in-Is.is)
+    _ (to_z-of_z w32 c.in-Is.w.scale f) c.configure-c.result _ c.configure-c.ensures c.begun.ensures

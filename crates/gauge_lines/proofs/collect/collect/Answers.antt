@@ -11,28 +11,28 @@ pub returns-in_default : goal.returns-in_default
 returns-in_default c =
     let dirs : Stores = let a = c.args in stores a.sets.now a.entries.now a.order.now in
     let lent : Cells = let a = c.args in cells a.figures.now a.extremes.now a.pos.now a.neg.now in
-    let outs : Output = let a = c.args in output a.out-sets.now a.out-words.now a.out-pos.now a.out-neg.now in
+    let outs : Output = let a = c.args in output a.out_sets.now a.out_words.now a.out_pos.now a.out_neg.now in
     let a = c.args in
     collect-refused a.form a.g a.line.now a.n a.text.now (dirs) (lent) (outs)
-    (sym c.time_in.ensures ∙ c.enum_told-1.given.1) c.refused.result c.refused.ensures
+    (sym c.time_in.ensures ∙ c.in_default.is) c.refused.result c.refused.ensures
 
 pub returns-in-Refused : goal.returns-in-Refused
 returns-in-Refused c =
     let dirs : Stores = let a = c.args in stores a.sets.now a.entries.now a.order.now in
     let lent : Cells = let a = c.args in cells a.figures.now a.extremes.now a.pos.now a.neg.now in
-    let outs : Output = let a = c.args in output a.out-sets.now a.out-words.now a.out-pos.now a.out-neg.now in
+    let outs : Output = let a = c.args in output a.out_sets.now a.out_words.now a.out_pos.now a.out_neg.now in
     let a = c.args in
-    collect-none a.form a.g a.line.now a.n a.text.now (dirs) (lent) (outs) c.time-1.given.0.0
-    (sym c.time_in.ensures ∙ c.time-1.given.1) c.delta-reply.result.answer c.delta-reply.result.dir _ _ c.delta-reply.ensures
-    _ c.answer-1.given.1 c.refused-in-Refused.result c.refused-in-Refused.ensures
+    collect-none a.form a.g a.line.now a.n a.text.now (dirs) (lent) (outs) c.in-Is.time
+    (sym c.time_in.ensures ∙ c.in-Is.is) c.delta-reply.result.answer c.delta-reply.result.dir _ _ c.delta-reply.ensures
+    _ c.in-Refused.is c.refused-in-Refused.result c.refused-in-Refused.ensures
 
 pub returns-in-Listed : goal.returns-in-Listed
 returns-in-Listed c =
     let dirs : Stores = let a = c.args in stores a.sets.now a.entries.now a.order.now in
     let lent : Cells = let a = c.args in cells a.figures.now a.extremes.now a.pos.now a.neg.now in
-    let outs : Output = let a = c.args in output a.out-sets.now a.out-words.now a.out-pos.now a.out-neg.now in
+    let outs : Output = let a = c.args in output a.out_sets.now a.out_words.now a.out_pos.now a.out_neg.now in
     let a = c.args in
-    collect-made a.form a.g a.line.now a.n a.text.now (dirs) (lent) (outs) c.time-1.given.0.0
-    (sym c.time_in.ensures ∙ c.time-1.given.1) c.delta-reply.result.answer c.delta-reply.result.dir _ _ c.delta-reply.ensures
-    c.answer-in-Listed-1.given.0.0 c.answer-in-Listed-1.given.1 c.turned-t.result c.turned-t.ensures
+    collect-made a.form a.g a.line.now a.n a.text.now (dirs) (lent) (outs) c.in-Is.time
+    (sym c.time_in.ensures ∙ c.in-Is.is) c.delta-reply.result.answer c.delta-reply.result.dir _ _ c.delta-reply.ensures
+    c.in-Listed.many c.in-Listed.is c.turned-t.result c.turned-t.ensures
     c.collection-end.result _ c.collection-end.ensures

@@ -24,18 +24,18 @@ returns-in_default c =
     let parts : parted c.args.line.now ≡ true = apart c.args.line.now c.if-n-lt20.false c.if-line-ne32.false in
     let set : set_in c.args.line.now ≡ c.read.result = sym (c.read.ensures.value ∙ ap (λ (u : List ℕ). told 0 (spelled u)) (rest-is c.args.line.now)) in
     let attributes : c.read.new.attrs ≡ attributes_in c.args.line.now c.args.attrs.now = c.read.ensures.attrs_after ∙ kept-are c.args.line.now c.args.attrs.now (parts) in
-    record { value = board-is c.args.line.now (parts) _ _ (set ∙ c.enum_told-1.given.1) refl; attrs_after = attributes }
+    record { value = board-is c.args.line.now (parts) _ _ (set ∙ c.in_default.is) refl; attrs_after = attributes }
 
 pub returns-in_default-bits : goal.returns-in_default-bits
 returns-in_default-bits c =
     let parts : parted c.args.line.now ≡ true = apart c.args.line.now c.if-n-lt20.false c.if-line-ne32.false in
     let set : set_in c.args.line.now ≡ c.read.result = sym (c.read.ensures.value ∙ ap (λ (u : List ℕ). told 0 (spelled u)) (rest-is c.args.line.now)) in
     let attributes : c.read.new.attrs ≡ attributes_in c.args.line.now c.args.attrs.now = c.read.ensures.attrs_after ∙ kept-are c.args.line.now c.args.attrs.now (parts) in
-    record { value = board-is c.args.line.now (parts) _ _ (set ∙ c.many-1.given.1) (sym c.bits.ensures ∙ c.enum_told-in_default-bits-1.given.1); attrs_after = attributes }
+    record { value = board-is c.args.line.now (parts) _ _ (set ∙ c.in-Are.is) (sym c.bits.ensures ∙ c.in_default-bits.is); attrs_after = attributes }
 
 pub returns : goal.returns
 returns c =
     let parts : parted c.args.line.now ≡ true = apart c.args.line.now c.if-n-lt20.false c.if-line-ne32.false in
     let set : set_in c.args.line.now ≡ c.read.result = sym (c.read.ensures.value ∙ ap (λ (u : List ℕ). told 0 (spelled u)) (rest-is c.args.line.now)) in
     let attributes : c.read.new.attrs ≡ attributes_in c.args.line.now c.args.attrs.now = c.read.ensures.attrs_after ∙ kept-are c.args.line.now c.args.attrs.now (parts) in
-    record { value = board-is c.args.line.now (parts) _ _ (set ∙ c.many-1.given.1) (sym c.bits.ensures ∙ c.bits-1.given.1); attrs_after = attributes }
+    record { value = board-is c.args.line.now (parts) _ _ (set ∙ c.in-Are.is) (sym c.bits.ensures ∙ c.in-Is.is); attrs_after = attributes }

@@ -29,66 +29,66 @@ pub returns-in_default : goal.returns-in_default
 returns-in_default c =
     let four : spaces_of c.args.line.now ≡ 4 = sym c.spaces.ensures ∙ c.if-spaces-ne4.false in
     let size : size_in (decimal_of (field_of c.args.line.now 1)) ≡ c.size_of.result = sym (c.size_of.ensures ∙ ap size_in c.decimal_at.ensures) in
-    settings-are c.args.line.now (four) _ _ _ _ (size ∙ c.enum_told-1.given.1) refl refl refl
+    settings-are c.args.line.now (four) _ _ _ _ (size ∙ c.in_default.is) refl refl refl
 
 pub returns-in_default-scale_of : goal.returns-in_default-scale_of
 returns-in_default-scale_of c =
     let four : spaces_of c.args.line.now ≡ 4 = sym c.spaces.ensures ∙ c.if-spaces-ne4.false in
     let size : size_in (decimal_of (field_of c.args.line.now 1)) ≡ c.size_of.result = sym (c.size_of.ensures ∙ ap size_in c.decimal_at.ensures) in
     let scale : scale_in (signed_of (field_of c.args.line.now 2)) ≡ c.scale_of.result = sym (c.scale_of.ensures ∙ ap scale_in c.signed_at.ensures) in
-    settings-are c.args.line.now (four) _ _ _ _ (size ∙ c.size-1.given.1)
-    (scale ∙ c.enum_told-in_default-scale_of-1.given.1) refl refl
+    settings-are c.args.line.now (four) _ _ _ _ (size ∙ c.in-Is.is)
+    (scale ∙ c.in_default-scale_of.is) refl refl
 
 pub returns-in_default-decimal_at : goal.returns-in_default-decimal_at
 returns-in_default-decimal_at c =
     let four : spaces_of c.args.line.now ≡ 4 = sym c.spaces.ensures ∙ c.if-spaces-ne4.false in
     let size : size_in (decimal_of (field_of c.args.line.now 1)) ≡ c.size_of.result = sym (c.size_of.ensures ∙ ap size_in c.decimal_at.ensures) in
     let scale : scale_in (signed_of (field_of c.args.line.now 2)) ≡ c.scale_of.result = sym (c.scale_of.ensures ∙ ap scale_in c.signed_at.ensures) in
-    settings-are c.args.line.now (four) _ _ _ _ (size ∙ c.size-1.given.1)
-    (scale ∙ c.scale-1.given.1) (sym c.decimal_at-2.ensures ∙ c.enum_told-in_default-decimal_at-1.given.1) refl
+    settings-are c.args.line.now (four) _ _ _ _ (size ∙ c.in-Is.is)
+    (scale ∙ c.in-Is-scale_of.is) (sym c.decimal_at-2.ensures ∙ c.in_default-decimal_at.is) refl
 
 pub returns-in_default-decimal_at-2 : goal.returns-in_default-decimal_at-2
 returns-in_default-decimal_at-2 c =
     let four : spaces_of c.args.line.now ≡ 4 = sym c.spaces.ensures ∙ c.if-spaces-ne4.false in
     let size : size_in (decimal_of (field_of c.args.line.now 1)) ≡ c.size_of.result = sym (c.size_of.ensures ∙ ap size_in c.decimal_at.ensures) in
     let scale : scale_in (signed_of (field_of c.args.line.now 2)) ≡ c.scale_of.result = sym (c.scale_of.ensures ∙ ap scale_in c.signed_at.ensures) in
-    let last : c.decimal_at-3.result ≡ x → wanted_of (Z.Is c.size-1.given.0.0)
-    (S.Is c.scale-1.given.0.0) (N.Is c.limit-1.given.0.0) x
-    ≡ settings_of c.args.line.now =
-    λ x. settings-are c.args.line.now (four) _ _ _ _ (size ∙ c.size-1.given.1)
-    (scale ∙ c.scale-1.given.1) (sym c.decimal_at-2.ensures ∙ c.limit-1.given.1)
-    (sym c.decimal_at-3.ensures ∙ e) in
-    last _ c.enum_told-in_default-decimal_at-2-1.given.1
+    let last : (x : Natural) → c.decimal_at-3.result ≡ x → wanted_of (Z.Is c.in-Is.size)
+        (S.Is c.in-Is-scale_of.scale) (N.Is c.in-Is-decimal_at.limit) x
+        ≡ settings_of c.args.line.now =
+        λ x e. settings-are c.args.line.now (four) _ _ _ _ (size ∙ c.in-Is.is)
+        (scale ∙ c.in-Is-scale_of.is) (sym c.decimal_at-2.ensures ∙ c.in-Is-decimal_at.is)
+        (sym c.decimal_at-3.ensures ∙ e) in
+    last _ c.in_default-decimal_at-2.is
 
 pub returns-then-limit-gt-MOST_LIMIT : goal.returns-then-limit-gt-MOST_LIMIT
 returns-then-limit-gt-MOST_LIMIT c =
     let four : spaces_of c.args.line.now ≡ 4 = sym c.spaces.ensures ∙ c.if-spaces-ne4.false in
     let size : size_in (decimal_of (field_of c.args.line.now 1)) ≡ c.size_of.result = sym (c.size_of.ensures ∙ ap size_in c.decimal_at.ensures) in
     let scale : scale_in (signed_of (field_of c.args.line.now 2)) ≡ c.scale_of.result = sym (c.scale_of.ensures ∙ ap scale_in c.signed_at.ensures) in
-    let last : c.decimal_at-3.result ≡ x → wanted_of (Z.Is c.size-1.given.0.0)
-    (S.Is c.scale-1.given.0.0) (N.Is c.limit-1.given.0.0) x
-    ≡ settings_of c.args.line.now =
-    λ x. settings-are c.args.line.now (four) _ _ _ _ (size ∙ c.size-1.given.1)
-    (scale ∙ c.scale-1.given.1) (sym c.decimal_at-2.ensures ∙ c.limit-1.given.1)
-    (sym c.decimal_at-3.ensures ∙ e) in
-    sym (pick-false _ _ _ (lt-leb _ 30 c.if-limit-gt-MOST_LIMIT.true)) ∙ last _ c.start-1.given.1
+    let last : (x : Natural) → c.decimal_at-3.result ≡ x → wanted_of (Z.Is c.in-Is.size)
+        (S.Is c.in-Is-scale_of.scale) (N.Is c.in-Is-decimal_at.limit) x
+        ≡ settings_of c.args.line.now =
+        λ x e. settings-are c.args.line.now (four) _ _ _ _ (size ∙ c.in-Is.is)
+        (scale ∙ c.in-Is-scale_of.is) (sym c.decimal_at-2.ensures ∙ c.in-Is-decimal_at.is)
+        (sym c.decimal_at-3.ensures ∙ e) in
+    sym (pick-false _ _ _ (lt-leb _ 30 c.if-limit-gt-MOST_LIMIT.true)) ∙ last _ c.in-Is-decimal_at-2.is
 
 pub returns : goal.returns
 returns c =
     let size : size_in (decimal_of (field_of c.args.line.now 1)) ≡ c.size_of.result = sym (c.size_of.ensures ∙ ap size_in c.decimal_at.ensures) in
     let scale : scale_in (signed_of (field_of c.args.line.now 2)) ≡ c.scale_of.result = sym (c.scale_of.ensures ∙ ap scale_in c.signed_at.ensures) in
     let four : spaces_of c.args.line.now ≡ 4 = sym c.spaces.ensures ∙ c.if-spaces-ne4.false in
-    let last : c.decimal_at-3.result ≡ x → wanted_of (Z.Is c.size-1.given.0.0)
-    (S.Is c.scale-1.given.0.0) (N.Is c.limit-1.given.0.0) x
-    ≡ settings_of c.args.line.now =
-    λ x. settings-are c.args.line.now (four) _ _ _ _ (size ∙ c.size-1.given.1)
-    (scale ∙ c.scale-1.given.1) (sym c.decimal_at-2.ensures ∙ c.limit-1.given.1)
-    (sym c.decimal_at-3.ensures ∙ e) in
-    let f : SFits w32 c.scale-1.given.0.0 = search rules in
+    let last : (x : Natural) → c.decimal_at-3.result ≡ x → wanted_of (Z.Is c.in-Is.size)
+        (S.Is c.in-Is-scale_of.scale) (N.Is c.in-Is-decimal_at.limit) x
+        ≡ settings_of c.args.line.now =
+        λ x e. settings-are c.args.line.now (four) _ _ _ _ (size ∙ c.in-Is.is)
+        (scale ∙ c.in-Is-scale_of.is) (sym c.decimal_at-2.ensures ∙ c.in-Is-decimal_at.is)
+        (sym c.decimal_at-3.ensures ∙ e) in
+    let f : SFits w32 c.in-Is-scale_of.scale = search rules in
     let w : ℤ → Asked = λ x. A.Is (record {
-      size = c.size-1.given.0.0;
+      size = c.in-Is.size;
       scale = x;
-      limit = c.limit-1.given.0.0;
-      start = c.start-1.given.0.0;
+      limit = c.in-Is-decimal_at.limit;
+      start = c.in-Is-decimal_at-2.start;
     }) in
-    ap w (to_z-of_z w32 c.scale-1.given.0.0 f) ∙ sym (pick_true _ _ _ (le-leb _ 30 c.if-limit-gt-MOST_LIMIT.false)) ∙ last _ c.start-1.given.1
+    ap w (to_z-of_z w32 c.in-Is-scale_of.scale f) ∙ sym (pick_true _ _ _ (le-leb _ 30 c.if-limit-gt-MOST_LIMIT.false)) ∙ last _ c.in-Is-decimal_at-2.is

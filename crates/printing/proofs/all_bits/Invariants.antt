@@ -1,14 +1,11 @@
 -- `printing::all_bits` meets its contract: what waits in the end is what the bounds left give from here. Assumes nothing.
 use Prim.Native.Nat.{◌-◌, ◌≤◌}
-use mathlib.Core.Path.{◌≡◌, sym, ap, ◌∙◌}
+use mathlib.Core.Path.{◌≡◌}
 use mathlib.Core.List.{map}
-use native.Mathlib.Omega.{arith}
 use lib.ListN.{length}
-use Rattle.text.specs.Numbers.{hex_digits}
 use Rattle.lines.specs.Gathered.{◌behind◌}
-use Rattle.lines.proofs.Gathering.{spelt}
 use Rattle.printing.specs.Fields.{joined, float_field}
-use Rattle.printing.proofs.Putting.{from, from_start, joined-turn, joined_end}
+use Rattle.printing.proofs.Putting.{from}
 use Rattle.printing.proofs.all_bits.Given as goal
 
 abbrev pub invariant-loop-i : goal.invariant-loop-i

@@ -5,7 +5,6 @@ use Rattle.lines.specs.Gathered.{waiting}
 use Rattle.lines.specs.Written.{decimal}
 use Rattle.lines.proofs.Gathering.{then}
 use Rattle.printing.specs.Fields.{attribute_field}
-use borrow.Author.Rules.{rules}
 use Rattle.printing.proofs.attribute.Goals as goal
 
 pub returns : goal.returns

@@ -1,16 +1,11 @@
 -- `printing::attributes` meets its contract: what waits in the end is what the attributes left give from here. Assumes nothing.
-use Prim.Native.Nat.{◌-◌, ◌≤◌, ◌<◌}
-use mathlib.Core.Path.{◌≡◌, sym, ap, ◌∙◌}
+use Prim.Native.Nat.{◌-◌, ◌≤◌}
+use mathlib.Core.Path.{◌≡◌}
 use mathlib.Core.List.{map}
-use native.Mathlib.Omega.{arith}
-use borrow.Author.Rules.{rules}
-use borrow.Author.Tests.{ltb-true, ltb-false}
-use Rattle.sets.specs.Rows.{pair, size}
 use Rattle.lines.specs.Gathered.{◌behind◌}
-use Rattle.lines.proofs.Gathering.{spelt}
 use Rattle.printing.specs.Fields.{joined, attribute_field}
-use Rattle.printing.proofs.Putting.{from, from_start, joined-turn, joined_end}
-use Rattle.printing.proofs.Sets.{eight, eight-length, eight-at}
+use Rattle.printing.proofs.Putting.{from}
+use Rattle.printing.proofs.Sets.{eight}
 use Rattle.printing.proofs.attributes.Given as goal
 
 abbrev pub invariant-loop-i : goal.invariant-loop-i

@@ -3,7 +3,6 @@ use mathlib.Core.Path.{sym}
 use Rattle.lines.specs.Gathered.{waiting}
 use Rattle.lines.proofs.Gathering.{spelt}
 use Rattle.printing.proofs.Sets.{field-none, field-some}
-use borrow.Author.Rules.{rules}
 use Rattle.printing.proofs.bare_set.Goals as goal
 
 pub returns-then-row-eq0 : goal.returns-then-row-eq0

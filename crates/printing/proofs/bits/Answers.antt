@@ -3,7 +3,6 @@ use mathlib.Core.List.{[], ◌∷◌}
 use Rattle.text.specs.Numbers.{hex_digits}
 use Rattle.lines.specs.Gathered.{waiting}
 use Rattle.lines.proofs.Gathering.{then}
-use borrow.Author.Rules.{rules}
 use Rattle.printing.proofs.bits.Goals as goal
 
 pub returns : goal.returns

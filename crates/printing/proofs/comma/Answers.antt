@@ -6,7 +6,6 @@ use Rattle.laws.proofs.Bools.{pick_true, pick-false}
 use Rattle.lines.specs.Gathered.{waiting}
 use Rattle.lines.proofs.Gathering.{spelt}
 use Rattle.printing.proofs.Putting.{nothing}
-use borrow.Author.Rules.{rules}
 use Rattle.printing.proofs.comma.Goals as goal
 
 pub returns-then-i-eq0 : goal.returns-then-i-eq0

@@ -1,13 +1,9 @@
 -- `printing::counts` meets its contract: what waits in the end is what the counts left give from here. Assumes nothing.
-use Prim.Native.Nat.{◌-◌, ◌≤◌}
-use mathlib.Core.Path.{◌≡◌, sym, ◌∙◌}
+use mathlib.Core.Path.{sym, ◌∙◌}
 use mathlib.Core.List.{map}
 use native.Mathlib.Omega.{arith}
-use lib.ListN.{length}
-use Rattle.lines.specs.Gathered.{◌behind◌}
 use Rattle.lines.specs.Written.{decimal}
-use Rattle.printing.specs.Fields.{joined}
-use Rattle.printing.proofs.Putting.{from, from_start, joined-turn, joined_end}
+use Rattle.printing.proofs.Putting.{from_start, joined-turn, joined_end}
 use Rattle.printing.proofs.counts.Goals as goal
 
 pub loop-i-init : goal.loop-i-init

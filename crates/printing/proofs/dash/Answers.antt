@@ -6,7 +6,6 @@ use borrow.Author.Tests.{eq-eqb, ne_eqb}
 use Rattle.laws.proofs.Bools.{pick_true, pick-false}
 use Rattle.lines.specs.Gathered.{waiting}
 use Rattle.lines.proofs.Gathering.{then, spelt}
-use borrow.Author.Rules.{rules}
 use Rattle.printing.proofs.dash.Goals as goal
 
 pub returns-then-many-eq0 : goal.returns-then-many-eq0

@@ -9,7 +9,6 @@ use Rattle.lines.proofs.Gathering.{spelt}
 use Rattle.printing.specs.Fields.{integer_field, row_field}
 use Rattle.printing.specs.Printed.{held_fields}
 use Rattle.printing.proofs.Putting.{a-field, fields, no_field}
-use borrow.Author.Rules.{rules}
 use Rattle.printing.proofs.exponential.Goals as goal
 
 pub returns : goal.returns

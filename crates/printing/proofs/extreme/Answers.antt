@@ -7,7 +7,6 @@ use Rattle.floats.specs.declared.Extreme.{Extreme}
 use Rattle.lines.specs.Gathered.{waiting}
 use Rattle.lines.proofs.Gathering.{spelt}
 use Rattle.printing.specs.Fields.{float_field, extreme_field}
-use borrow.Author.Rules.{rules}
 use Rattle.printing.proofs.extreme.Goals as goal
 
 pub returns-in-None : goal.returns-in-None

@@ -7,7 +7,6 @@ use Rattle.lines.specs.Gathered.{waiting}
 use Rattle.lines.proofs.Gathering.{spelt}
 use Rattle.printing.specs.Fields.{float_field, extreme_field}
 use Rattle.printing.proofs.Putting.{a-field, no_field}
-use borrow.Author.Rules.{rules}
 use Rattle.printing.proofs.held.Goals as goal
 
 pub returns : goal.returns

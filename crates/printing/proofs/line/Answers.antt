@@ -2,7 +2,6 @@
 use Rattle.lines.specs.Gathered.{waiting}
 use Rattle.lines.proofs.Gathering.{spelt}
 use Rattle.printing.proofs.Points.{in_form}
-use borrow.Author.Rules.{rules}
 use Rattle.printing.proofs.line.Goals as goal
 
 pub returns-in-Point : goal.returns-in-Point

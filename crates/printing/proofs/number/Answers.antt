@@ -3,7 +3,6 @@ use mathlib.Core.List.{[], ◌∷◌}
 use Rattle.lines.specs.Gathered.{waiting}
 use Rattle.lines.specs.Written.{decimal}
 use Rattle.lines.proofs.Gathering.{then}
-use borrow.Author.Rules.{rules}
 use Rattle.printing.proofs.number.Goals as goal
 
 pub returns : goal.returns

@@ -3,7 +3,6 @@ use mathlib.Core.List.{[], ◌∷◌}
 use Rattle.lines.specs.Gathered.{waiting}
 use Rattle.lines.proofs.Gathering.{then}
 use Rattle.printing.specs.Fields.{integer_field, row_field}
-use borrow.Author.Rules.{rules}
 use Rattle.printing.proofs.row.Goals as goal
 
 pub returns : goal.returns

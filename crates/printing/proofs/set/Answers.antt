@@ -2,7 +2,6 @@
 use mathlib.Core.List.{[], ◌∷◌}
 use Rattle.lines.specs.Gathered.{waiting}
 use Rattle.lines.proofs.Gathering.{then}
-use borrow.Author.Rules.{rules}
 use Rattle.printing.proofs.set.Goals as goal
 
 pub returns : goal.returns

@@ -4,7 +4,6 @@ use Rattle.lines.specs.Gathered.{waiting}
 use Rattle.lines.specs.Written.{decimal}
 use Rattle.printing.specs.Printed.{unread_line}
 use Rattle.printing.proofs.Putting.{a-line, a-field, no_field}
-use borrow.Author.Rules.{rules}
 use Rattle.printing.proofs.unread.Goals as goal
 
 pub returns : goal.returns

@@ -9,7 +9,6 @@ use Rattle.printing.specs.Printed.{value_line}
 use Rattle.printing.proofs.Putting.{nothing, a-line, a-field, no_field}
 use Rattle.printing.proofs.Sets.{eight}
 use Rattle.printing.proofs.Singles.{no_row, no_value, value_there}
-use borrow.Author.Rules.{rules}
 use Rattle.printing.proofs.value.Goals as goal
 
 pub returns-then-sets-k : goal.returns-then-sets-k

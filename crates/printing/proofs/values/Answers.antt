@@ -1,10 +1,9 @@
 -- `printing::values` meets its contract: what waits in the end is what the points left give from here. Assumes nothing.
-use Prim.Native.Nat.{◌-◌, ◌≤◌}
-use mathlib.Core.Path.{◌≡◌, sym, ◌∙◌}
+use mathlib.Core.Path.{sym, ◌∙◌}
 use native.Mathlib.Omega.{arith}
-use Rattle.lines.specs.Gathered.{waiting, ◌behind◌}
+use Rattle.lines.specs.Gathered.{waiting}
 use Rattle.lines.proofs.Gathering.{then}
-use Rattle.printing.specs.Printed.{values_from, collection_head, value_lines}
+use Rattle.printing.specs.Printed.{collection_head, value_lines}
 use Rattle.printing.proofs.Singles.{values-start, values-turn, values-end}
 use Rattle.printing.proofs.values.Goals as goal
 

@@ -1,11 +1,8 @@
 -- `printing::values` meets its contract: what waits in the end is what the points left give from here. Assumes nothing.
 use Prim.Native.Nat.{◌-◌, ◌≤◌}
-use mathlib.Core.Path.{◌≡◌, sym, ◌∙◌}
-use native.Mathlib.Omega.{arith}
-use Rattle.lines.specs.Gathered.{waiting, ◌behind◌}
-use Rattle.lines.proofs.Gathering.{then}
-use Rattle.printing.specs.Printed.{values_from, collection_head, value_lines}
-use Rattle.printing.proofs.Singles.{values-start, values-turn, values-end}
+use mathlib.Core.Path.{◌≡◌}
+use Rattle.lines.specs.Gathered.{◌behind◌}
+use Rattle.printing.specs.Printed.{values_from}
 use Rattle.printing.proofs.values.Given as goal
 
 abbrev pub invariant-loop-i : goal.invariant-loop-i

@@ -11,7 +11,7 @@ use lib.Ieee.{Float, binary64, add, fits}
 use lib.Ieee.Scale.{finite}
 use borrow.Author.Tests.{eq-eqb, ne_eqb}
 use Rattle.laws.specs.Pick.{pick}
-use Rattle.laws.specs.Said.{refusal, number}
+use Rattle.laws.specs.Said.{number}
 use Rattle.laws.specs.Counting.{most_count}
 use Rattle.laws.proofs.Bools.{flag}
 use Rattle.floats.specs.Starts.{zero_float}

@@ -8,7 +8,6 @@ use mathlib.Core.Option.{Option}
 use native.Mathlib.Omega.{arith}
 use lib.ListN.{length, get_or, drop}
 use lib.Ieee.{Float, nan}
-use borrow.Author.Rules.{rules}
 use Rattle.tally.specs.Sets.{Set}
 use Rattle.sets.specs.Sorted.{given, filter_of}
 use Rattle.seats.proofs.Bars.{row-seated}

@@ -1,5 +1,4 @@
 -- `exponential_batches::measure_agreed` meets its contract. Assumes nothing.
-use borrow.Author.Rules.{rules}
 use Rattle.sets.specs.Sorted.{given, filter_of}
 use Rattle.directory.specs.View.{stores}
 use Rattle.exponential_slots.specs.Cells.{Cells, cells}

@@ -1,5 +1,4 @@
 -- `exponential_batches::measure_all` meets its contract. Assumes nothing.
-use borrow.Author.Rules.{rules}
 use Rattle.laws.proofs.Cases.{true-not-false}
 use mathlib.Core.Path.{sym}
 use Rattle.exponential_batches.proofs.measure_all.Goals as goal

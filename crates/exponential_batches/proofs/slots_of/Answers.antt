@@ -4,7 +4,6 @@ use mathlib.Core.Path.{◌≡◌, sym, ◌∙◌}
 use mathlib.Core.Bool.{true}
 use mathlib.Core.List.{[], ◌∷◌}
 use native.Mathlib.Omega.{arith}
-use borrow.Author.Rules.{rules}
 use Rattle.value_map.proofs.Products.{entry_in}
 use Rattle.batches.proofs.Rooms.{room_for}
 use Rattle.exponential_batches.proofs.slots_of.Goals as goal

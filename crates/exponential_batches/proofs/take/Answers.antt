@@ -1,6 +1,5 @@
 -- `exponential_batches::take` meets its contract. Assumes nothing.
 use mathlib.Core.Path.{sym, ◌∙◌}
-use borrow.Author.Rules.{rules}
 use Rattle.exponential_slots.specs.Cells.{Cells, cells}
 use Rattle.value_map.specs.Exponential.{exponential_store}
 use Rattle.batches.specs.Inner.{recorded_all}

@@ -1,5 +1,4 @@
 -- `exponential_batches::series::noted` meets its contract. Assumes nothing.
-use borrow.Author.Rules.{rules}
 use Rattle.exponential_batches.specs.Series.{series}
 use Rattle.exponential_batches.proofs.Steps.{noted_law}
 use Rattle.exponential_batches.proofs.series.noted.Goals as goal

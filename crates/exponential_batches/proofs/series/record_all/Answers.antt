@@ -3,21 +3,20 @@
 -- ---- refused
 -- ---- taken
 -- ---- the end
-use Prim.Native.Nat.{ℕ, ◌+◌, ◌-◌, ◌≤◌, ◌<◌}
+use Prim.Native.Nat.{ℕ, ◌+◌, ◌<◌}
 use mathlib.Core.Path.{◌≡◌, refl, sym, ◌∙◌}
 use mathlib.Core.Bool.{true}
-use lib.ListN.{length, get_or, drop}
+use lib.ListN.{length, get_or}
 use lib.Ieee.{Float, nan, binary64, fits}
 use lib.Ieee.Bits.{is_true}
 use lib.Ieee.Scale.{finite}
-use borrow.Author.Tests.{not-true, not-false}
 use native.Mathlib.Omega.{arith}
 use Rattle.rows.specs.Recording.{after}
 use Rattle.many.specs.Many.{each}
-use Rattle.many.proofs.Turns.{later, begins, turn, halt, ended}
+use Rattle.many.proofs.Turns.{begins, turn, halt, ended}
 use Rattle.exponential.specs.Series.{refusal_of}
 use Rattle.exponential.specs.Inner.{Series}
-use Rattle.exponential_batches.specs.Series.{Sound, series, left_to_ask, step}
+use Rattle.exponential_batches.specs.Series.{series, left_to_ask, step}
 use Rattle.exponential_batches.proofs.Steps.{asks_6, asks_9, asks_0, only, refused-by, sound-after}
 use Rattle.exponential_batches.proofs.series.record_all.Goals as goal
 
@@ -25,16 +24,6 @@ pub loop-i-init : goal.loop-i-init
 loop-i-init c =
     let a = c.args in
     (omega arith, refl, refl, c.requires, begins (step a.size a.top) (series a.head a.pos.now a.neg.now) a.values.now)
-
-pub offset_bounds-values-i : goal.offset_bounds-values-i
-offset_bounds-values-i t =
-    let inside : t.loop-i.i < length t.args.values.now = omega (arith, t.loop-i-test.true) in
-    omega (arith, inside)
-
-pub bounds-values-i : goal.bounds-values-i
-bounds-values-i c =
-    let inside : c.loop-i.i < length c.args.values.now = omega (arith, c.loop-i-test.true) in
-    inside
 
 pub shape_of-pos-then-not-is_finite : goal.shape_of-pos-then-not-is_finite
 shape_of-pos-then-not-is_finite c = c.loop-i.invariant.1
@@ -47,45 +36,45 @@ returns-then-not-is_finite c =
     let here : Series = let l = c.loop-i in record { head = l.h; pos = l.pos; neg = l.neg } in
     let value : Float = get_or c.args.values.now c.loop-i.i nan in
     let inside : c.loop-i.i < length c.args.values.now = omega (arith, c.loop-i-test.true) in
-    let stops : n ≡ left_to_ask (here).head (value) → (n ≡ 0 → ⊥) → let l = c.loop-i in let a = c.args in
+    let stops : (n : ℕ) → n ≡ left_to_ask (here).head (value) → (n ≡ 0 → ⊥) → let l = c.loop-i in let a = c.args in
     record { taken = l.i; no = n; left = here }
     ≡ each (step a.size a.top) (series a.head a.pos.now a.neg.now) a.values.now =
-    λ n e. let l = c.loop-i in
+    λ n e d. let l = c.loop-i in
     let a = c.args in
     let r = refused-by a.size a.top (here) (value) l.invariant.3 n e d in
     sym (l.invariant.4 ∙ halt (step a.size a.top) (here) a.values.now l.i nan (inside) (after n (here)) r d) in
-    stops 6 (sym (asks_6 (here).head (value) (sym c.is_finite.ensures ∙ not-true _ c.if-not-is_finite.true))) (λ z. omega (arith, z))
+    stops 6 (sym (asks_6 (here).head (value) (sym c.is_finite.ensures ∙ c.if-not-is_finite.true))) (λ z. omega (arith, z))
 
 pub shape_of-pos-then-c : goal.shape_of-pos-then-c
-shape_of-pos-then-c c = c.loop-i.inv.1
+shape_of-pos-then-c c = c.loop-i.invariant.1
 
 pub shape_of-neg-then-c : goal.shape_of-neg-then-c
-shape_of-neg-then-c c = c.loop-i.inv.2
+shape_of-neg-then-c c = c.loop-i.invariant.2
 
 pub returns-then-c : goal.returns-then-c
 returns-then-c c =
     let here : Series = let l = c.loop-i in record { head = l.h; pos = l.pos; neg = l.neg } in
     let value : Float = get_or c.args.values.now c.loop-i.i nan in
     let inside : c.loop-i.i < length c.args.values.now = omega (arith, c.loop-i-test.true) in
-    let stops : n ≡ left_to_ask (here).head (value) → (n ≡ 0 → ⊥) → let l = c.loop-i in let a = c.args in
+    let stops : (n : ℕ) → n ≡ left_to_ask (here).head (value) → (n ≡ 0 → ⊥) → let l = c.loop-i in let a = c.args in
     record { taken = l.i; no = n; left = here }
     ≡ each (step a.size a.top) (series a.head a.pos.now a.neg.now) a.values.now =
-    λ n e. let l = c.loop-i in
+    λ n e d. let l = c.loop-i in
     let a = c.args in
     let r = refused-by a.size a.top (here) (value) l.invariant.3 n e d in
     sym (l.invariant.4 ∙ halt (step a.size a.top) (here) a.values.now l.i nan (inside) (after n (here)) r d) in
-    let finite-there : finite (value) ≡ true = sym c.is_finite.ensures ∙ not-false _ c.if-not-is_finite.false in
+    let finite-there : finite (value) ≡ true = sym c.is_finite.ensures ∙ c.if-not-is_finite.false in
     stops 9 (sym (asks_9 (here).head (value) (finite-there) c.if-c.true)) (λ z. omega (arith, z))
 
 pub noted-next-requires : goal.noted-next-requires
 noted-next-requires c =
     let here : Series = let l = c.loop-i in record { head = l.h; pos = l.pos; neg = l.neg } in
     let value : Float = get_or c.args.values.now c.loop-i.i nan in
-    let finite-there : finite (value) ≡ true = sym c.is_finite.ensures ∙ not-false _ c.if-not-is_finite.false in
+    let finite-there : finite (value) ≡ true = sym c.is_finite.ensures ∙ c.if-not-is_finite.false in
     let passed : let a = c.args in
     refusal_of a.size a.top (here).head (here).pos (here).neg (value) ≡ 0 =
     let a = c.args in
-    only a.size a.top (here) (value) c.loop-i.inv.3 ∙ asks_0 (here).head (value) (finite-there) c.if-c.false in
+    only a.size a.top (here) (value) c.loop-i.invariant.3 ∙ asks_0 (here).head (value) (finite-there) c.if-c.false in
     passed
 
 pub overflow_add-i : goal.overflow_add-i
@@ -99,20 +88,20 @@ loop-i-preserved c =
     let value : Float = get_or c.args.values.now c.loop-i.i nan in
     let here : Series = let l = c.loop-i in record { head = l.h; pos = l.pos; neg = l.neg } in
     let gone : Series = record { head = c.noted-next.result; pos = c.noted-next.new.pos; neg = c.noted-next.new.neg } in
-    let finite-there : finite (value) ≡ true = sym c.is_finite.ensures ∙ not-false _ c.if-not-is_finite.false in
+    let finite-there : finite (value) ≡ true = sym c.is_finite.ensures ∙ c.if-not-is_finite.false in
     let passed : let a = c.args in
     refusal_of a.size a.top (here).head (here).pos (here).neg (value) ≡ 0 =
     let a = c.args in
-    only a.size a.top (here) (value) c.loop-i.inv.3 ∙ asks_0 (here).head (value) (finite-there) c.if-c.false in
+    only a.size a.top (here) (value) c.loop-i.invariant.3 ∙ asks_0 (here).head (value) (finite-there) c.if-c.false in
     let inside : c.loop-i.i < length c.args.values.now = omega (arith, c.loop-i-test.true) in
     let l = c.loop-i in
     let a = c.args in
     let f : fits binary64 (value) ≡ true = is_true (fits binary64 (value)) (c.shared_slice_known-in-loop-i-1.given l.i) in (
-      omega (arith, c.loop-i-test.taken),
-      c.noted-next.auto.pos ∙ l.inv.1,
-      c.noted-next.auto.neg ∙ l.inv.2,
-      sound-after a.size a.top (here) (value) l.inv.3 (after 0 (gone)) c.noted-next.ensures f (passed),
-      l.inv.4 ∙ turn (step a.size a.top) (here) a.values.now l.i nan (inside) (after 0 (gone)) c.noted-next.ensures refl,
+      omega (arith, c.loop-i-test.true),
+      c.noted-next.auto.pos ∙ l.invariant.1,
+      c.noted-next.auto.neg ∙ l.invariant.2,
+      sound-after a.size a.top (here) (value) l.invariant.3 (after 0 (gone)) c.noted-next.ensures f (passed),
+      l.invariant.4 ∙ turn (step a.size a.top) (here) a.values.now l.i nan (inside) (after 0 (gone)) c.noted-next.ensures refl,
     )
 
 pub shape_of-pos : goal.shape_of-pos

@@ -1,7 +1,6 @@
 -- `exponential_batches::slot::keep` meets its contract. Assumes nothing.
 use mathlib.Core.Path.{sym, ap, ◌∙◌}
 use lib.ListN.{set}
-use borrow.Author.Rules.{rules}
 use Rattle.many.proofs.Alike.{pick_first, pick_second}
 use Rattle.exponential_slots.specs.Cells.{words_of}
 use Rattle.exponential_batches.specs.Slot.{extremes_of}

@@ -9,11 +9,10 @@ use native.Mathlib.Omega.{arith}
 use lib.ListN.{get_or}
 use lib.Ieee.{nan, binary64, fits}
 use lib.Ieee.Bits.{is_true}
-use borrow.Author.Rules.{rules}
 use Rattle.many.specs.Many.{Many, each}
 use Rattle.exponential.specs.declared.Head.{Head}
 use Rattle.exponential.specs.Inner.{Series}
-use Rattle.exponential_slots.specs.Cells.{Cells, Room, cells}
+use Rattle.exponential_slots.specs.Cells.{Cells, cells}
 use Rattle.value_map.proofs.ExponentialOwes.{owed}
 use Rattle.kinds.proofs.Recorded.{histograms-steady}
 use Rattle.value_map.specs.Exponential.{exponential_store}
@@ -33,7 +32,7 @@ returns-then-no-ne0 c =
 pub head_of-head-requires : goal.head_of-head-requires
 head_of-head-requires c =
     let lent : Cells = let a = c.args in cells a.figures.now a.extremes.now a.pos.now a.neg.now in
-    let ready : let a = c.args in Ready (exponential_store a.size a.top) (true, true) a.x a.updated (lent) = 
+    let ready : let a = c.args in Ready (exponential_store a.size a.top) (true, true) a.x a.updated (lent) =
     let a = c.args in
     asked-ready (owed a.size a.top) (true, true) nan a.known a.x a.updated (lent) a.values.now c.requires c.refusal-no.result c.refusal-no.ensures c.if-no-ne0.false in
     let a = c.args in
@@ -49,21 +48,11 @@ overflow_add-e h =
     let part-fits : h.args.x * h.args.size * 8 + h.args.size * 8 < 18446744073709551616 = omega (arith, h, h.requires.room.pos) in
     omega (arith, part-fits)
 
-pub offset_bounds-pos-a : goal.offset_bounds-pos-a
-offset_bounds-pos-a h =
-    let part-fits : h.args.x * h.args.size * 8 + h.args.size * 8 < 18446744073709551616 = omega (arith, h, h.requires.room.pos) in
-    omega (arith, part-fits)
-
-pub offset_bounds-neg-a : goal.offset_bounds-neg-a
-offset_bounds-neg-a c =
-    let part-fits : c.args.x * c.args.size * 8 + c.args.size * 8 < 18446744073709551616 = omega (arith, c, c.requires.room.pos) in
-    omega (arith, part-fits)
-
 pub record_all-run-requires : goal.record_all-run-requires
 record_all-run-requires c =
     let lent : Cells = let a = c.args in cells a.figures.now a.extremes.now a.pos.now a.neg.now in
-    let under : Head → Series = λ y. let a = c.args in let l = load a.size a.top (lent) a.x a.updated in record { = y; pos = l.pos; neg = l.neg } in
-    let ready : let a = c.args in Ready (exponential_store a.size a.top) (true, true) a.x a.updated (lent) = 
+    let under : Head → Series = λ y. let a = c.args in let l = load a.size a.top (lent) a.x a.updated in record { head = y; pos = l.pos; neg = l.neg } in
+    let ready : let a = c.args in Ready (exponential_store a.size a.top) (true, true) a.x a.updated (lent) =
     let a = c.args in
     asked-ready (owed a.size a.top) (true, true) nan a.known a.x a.updated (lent) a.values.now c.requires c.refusal-no.result c.refusal-no.ensures c.if-no-ne0.false in
     let a = c.args in
@@ -76,14 +65,14 @@ keep-requires c =
 pub returns : goal.returns
 returns c =
     let lent : Cells = let a = c.args in cells a.figures.now a.extremes.now a.pos.now a.neg.now in
-    let ready : let a = c.args in Ready (exponential_store a.size a.top) (true, true) a.x a.updated (lent) = 
+    let ready : let a = c.args in Ready (exponential_store a.size a.top) (true, true) a.x a.updated (lent) =
     let a = c.args in
     asked-ready (owed a.size a.top) (true, true) nan a.known a.x a.updated (lent) a.values.now c.requires c.refusal-no.result c.refusal-no.ensures c.if-no-ne0.false in
-    let known : fits binary64 (get_or c.args.values.now i nan) ≡ true = is_true (fits binary64 (get_or c.args.values.now i nan)) (c.shared_slice_known-1.given i) in
-    let gone : Many Series = record { taken = c.record_all-run.result.taken; no = c.record_all-run.result.no; left = record { = c.record_all-run.result.head; pos = c.record_all-run.new.pos; neg = c.record_all-run.new.neg } } in
-    let under : Head → Series = λ y. let a = c.args in let l = load a.size a.top (lent) a.x a.updated in record { = y; pos = l.pos; neg = l.neg } in
+    let known : (i : ℕ) → fits binary64 (get_or c.args.values.now i nan) ≡ true = λ i. is_true (fits binary64 (get_or c.args.values.now i nan)) (c.shared_slice_known-1.given i) in
+    let gone : Many Series = record { taken = c.record_all-run.result.taken; no = c.record_all-run.result.no; left = record { head = c.record_all-run.result.head; pos = c.record_all-run.new.pos; neg = c.record_all-run.new.neg } } in
+    let under : Head → Series = λ y. let a = c.args in let l = load a.size a.top (lent) a.x a.updated in record { head = y; pos = l.pos; neg = l.neg } in
     let all : let a = c.args in
-    gone ≡ each (step a.size a.top) (load a.size a.top (lent) a.x a.updated) a.values.now = 
+    gone ≡ each (step a.size a.top) (load a.size a.top (lent) a.x a.updated) a.values.now =
     let a = c.args in
     c.record_all-run.ensures ∙ ap (λ (y : Head). each (step a.size a.top) (under y) a.values.now) c.head_of-head.ensures in
     let a = c.args in

@@ -8,13 +8,11 @@ use native.Mathlib.Omega.{arith}
 use lib.Dec.{eqb}
 use lib.ListN.{get_or, take}
 use lib.Ieee.{Float}
-use lib.Ieee.Scale.{finite}
 use Rattle.laws.specs.Pick.{pick}
 use Rattle.laws.proofs.Bools.{flag, pick_true, pick-false}
 use Rattle.rows.specs.Parts.{part_at}
 use Rattle.rows.specs.Recording.{Recording}
 use Rattle.points.specs.Points.{Point}
-use Rattle.points.specs.Values.{start}
 use Rattle.points.specs.Figures.{exponential_counts, Figures}
 use Rattle.points.specs.Handed.{handed_out}
 use Rattle.exponential.specs.declared.Head.{Head}

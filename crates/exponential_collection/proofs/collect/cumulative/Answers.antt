@@ -1,5 +1,4 @@
 -- `exponential_collection::collect::cumulative` meets its contract. Assumes nothing.
-use borrow.Author.Rules.{rules}
 use mathlib.Core.Path.{sym, ◌∙◌}
 use mathlib.Core.Bool.{true}
 use Rattle.directory.specs.View.{stores}
@@ -18,21 +17,21 @@ number-no-requires c = c.requires
 pub returns-then-no-ne0 : goal.returns-then-no-ne0
 returns-then-no-ne0 c =
     let map : Held Cells = let a = c.args in held a.d (stores a.sets.now a.entries.now a.order.now) (cells a.figures.now a.extremes.now a.pos.now a.neg.now) in
-    let out : Output = let a = c.args in output a.out-sets.now a.out-words.now a.out-pos.now a.out-neg.now in
+    let out : Output = let a = c.args in output a.out_sets.now a.out_words.now a.out_pos.now a.out_neg.now in
     let a = c.args in
     cumulative-refused (exponential_lister a.s.size a.s.top) (a.s.extremes, a.s.sums) a.s.limit (map) (out) c.number-no.result c.number-no.ensures c.if-no-ne0.true
 
 pub list-at-requires : goal.list-at-requires
 list-at-requires c =
     let map : Held Cells = let a = c.args in held a.d (stores a.sets.now a.entries.now a.order.now) (cells a.figures.now a.extremes.now a.pos.now a.neg.now) in
-    let out : Output = let a = c.args in output a.out-sets.now a.out-words.now a.out-pos.now a.out-neg.now in
+    let out : Output = let a = c.args in output a.out_sets.now a.out_words.now a.out_pos.now a.out_neg.now in
     let a = c.args in
     listable (exponential_lister a.s.size a.s.top) (owed a.s.size a.s.top) (a.s.extremes, a.s.sums) true a.s.limit (map) (out) c.number-no.result c.number-no.ensures c.if-no-ne0.false
 
 pub returns : goal.returns
 returns c =
     let map : Held Cells = let a = c.args in held a.d (stores a.sets.now a.entries.now a.order.now) (cells a.figures.now a.extremes.now a.pos.now a.neg.now) in
-    let out : Output = let a = c.args in output a.out-sets.now a.out-words.now a.out-pos.now a.out-neg.now in
+    let out : Output = let a = c.args in output a.out_sets.now a.out_words.now a.out_pos.now a.out_neg.now in
     let a = c.args in
     cumulative-done (exponential_lister a.s.size a.s.top) (a.s.extremes, a.s.sums) a.s.limit (map) (out) _ (sym c.number-no.ensures ∙ c.if-no-ne0.false)
     (listed-is (exponential_lister a.s.size a.s.top) (owed a.s.size a.s.top) (a.s.extremes, a.s.sums) true a.s.limit (map) (out) _ c.list-at.ensures)

@@ -1,9 +1,7 @@
 -- `exponential_collection::slot::agrees_at` meets its contract. Assumes nothing.
-use borrow.Author.Rules.{rules}
 use mathlib.Core.Path.{◌≡◌, refl, sym, ap, ◌∙◌}
 use mathlib.Core.Bool.{true}
 use mathlib.Core.List.{[]}
-use borrow.Author.Tests.{not-true, not-false}
 use lib.ListN.{get_or}
 use lib.Ieee.{nan}
 use lib.Ieee.Scale.{finite}
@@ -20,19 +18,19 @@ returns-then-not-can_read c =
     let lent : Cells = let a = c.args in cells a.figures.now a.extremes.now a.pos.now a.neg.now in
     let a = c.args in
     unread a.size a.top c.requires.0 (lent) a.x c.requires.1
-    (sym (reads_held true _ refl) ∙ sym c.can_read.ensures ∙ not-true c.can_read.result c.if-not-can_read.true)
+    (sym (reads_held true _ refl) ∙ sym c.can_read.ensures ∙ c.if-not-can_read.true)
 
 pub head_of-head-requires : goal.head_of-head-requires
 head_of-head-requires c =
     let lent : Cells = let a = c.args in cells a.figures.now a.extremes.now a.pos.now a.neg.now in
-    let can : narrow (get_or (lent).figures c.args.x []) ≡ true = sym (reads_held true _ refl) ∙ sym c.can_read.ensures ∙ not-false c.can_read.result c.if-not-can_read.false in
+    let can : narrow (get_or (lent).figures c.args.x []) ≡ true = sym (reads_held true _ refl) ∙ sym c.can_read.ensures ∙ c.if-not-can_read.false in
     reads_held true _ refl ∙ can
 
 pub returns-then-not-counts_agree : goal.returns-then-not-counts_agree
 unfolding head_in
 returns-then-not-counts_agree c =
     let lent : Cells = let a = c.args in cells a.figures.now a.extremes.now a.pos.now a.neg.now in
-    let can : narrow (get_or (lent).figures c.args.x []) ≡ true = sym (reads_held true _ refl) ∙ sym c.can_read.ensures ∙ not-false c.can_read.result c.if-not-can_read.false in
+    let can : narrow (get_or (lent).figures c.args.x []) ≡ true = sym (reads_held true _ refl) ∙ sym c.can_read.ensures ∙ c.if-not-can_read.false in
     let read : narrow (get_or (lent).figures c.args.x []) ≡ true = can in
     let head-is : c.head_of-head.result
     ≡ head_in (get_or (lent).figures c.args.x []) (get_or (lent).extremes c.args.x []) = c.head_of-head.ensures ∙ head-held _ true _ _ refl in
@@ -43,13 +41,13 @@ returns-then-not-counts_agree c =
     c.counts_agree.ensures
     ∙ ap (λ (h : Head). S.agrees a.size a.top h.counts (part_at a.size (lent).pos a.x) (part_at a.size (lent).neg a.x)) (head-is) in
     let a = c.args in
-    uncounted a.size a.top c.requires.0 (lent) a.x c.requires.1 (read) (sym (counts-are) ∙ not-true c.counts_agree.result c.if-not-counts_agree.true)
+    uncounted a.size a.top c.requires.0 (lent) a.x c.requires.1 (read) (sym (counts-are) ∙ c.if-not-counts_agree.true)
 
 pub returns-then-not-is_finite : goal.returns-then-not-is_finite
 unfolding head_in
 returns-then-not-is_finite c =
     let lent : Cells = let a = c.args in cells a.figures.now a.extremes.now a.pos.now a.neg.now in
-    let can : narrow (get_or (lent).figures c.args.x []) ≡ true = sym (reads_held true _ refl) ∙ sym c.can_read.ensures ∙ not-false c.can_read.result c.if-not-can_read.false in
+    let can : narrow (get_or (lent).figures c.args.x []) ≡ true = sym (reads_held true _ refl) ∙ sym c.can_read.ensures ∙ c.if-not-can_read.false in
     let read : narrow (get_or (lent).figures c.args.x []) ≡ true = can in
     let head-is : c.head_of-head.result
     ≡ head_in (get_or (lent).figures c.args.x []) (get_or (lent).extremes c.args.x []) = c.head_of-head.ensures ∙ head-held _ true _ _ refl in
@@ -61,8 +59,8 @@ returns-then-not-is_finite c =
     ∙ ap (λ (h : Head). S.agrees a.size a.top h.counts (part_at a.size (lent).pos a.x) (part_at a.size (lent).neg a.x)) (head-is) in
     let low-is : c.is_finite.result ≡ finite (get_or (get_or (lent).extremes c.args.x []) 0 nan) = c.is_finite.ensures ∙ ap (λ (h : Head). finite h.min) (head-is) in
     let a = c.args in
-    low_lost a.size a.top c.requires.0 (lent) a.x c.requires.1 (read) (sym (counts-are) ∙ not-false c.counts_agree.result c.if-not-counts_agree.false)
-    (sym (low-is) ∙ not-true c.is_finite.result c.if-not-is_finite.true)
+    low_lost a.size a.top c.requires.0 (lent) a.x c.requires.1 (read) (sym (counts-are) ∙ c.if-not-counts_agree.false)
+    (sym (low-is) ∙ c.if-not-is_finite.true)
 
 pub returns : goal.returns
 unfolding head_in
@@ -70,7 +68,7 @@ returns c =
     let lent : Cells = let a = c.args in cells a.figures.now a.extremes.now a.pos.now a.neg.now in
     let head-is : c.head_of-head.result
     ≡ head_in (get_or (lent).figures c.args.x []) (get_or (lent).extremes c.args.x []) = c.head_of-head.ensures ∙ head-held _ true _ _ refl in
-    let can : narrow (get_or (lent).figures c.args.x []) ≡ true = sym (reads_held true _ refl) ∙ sym c.can_read.ensures ∙ not-false c.can_read.result c.if-not-can_read.false in
+    let can : narrow (get_or (lent).figures c.args.x []) ≡ true = sym (reads_held true _ refl) ∙ sym c.can_read.ensures ∙ c.if-not-can_read.false in
     let read : narrow (get_or (lent).figures c.args.x []) ≡ true = can in
     let counts-are : c.counts_agree.result
     ≡ S.agrees c.args.size c.args.top (counts_in (get_or (lent).figures c.args.x []))
@@ -83,5 +81,5 @@ returns c =
     c.is_finite-2.ensures
     ∙ ap (λ (h : Head). finite h.max) (head-is)
     ∙ by_high a.size a.top c.requires.0 (lent) a.x c.requires.1 (read)
-    (sym (counts-are) ∙ not-false c.counts_agree.result c.if-not-counts_agree.false)
-    (sym (low-is) ∙ not-false c.is_finite.result c.if-not-is_finite.false)
+    (sym (counts-are) ∙ c.if-not-counts_agree.false)
+    (sym (low-is) ∙ c.if-not-is_finite.false)

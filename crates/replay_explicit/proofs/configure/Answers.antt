@@ -9,7 +9,7 @@ pub returns : goal.returns
 returns c =
     let a = c.args in
     c.configured.ensures
-    ∙ configures a.t1 _ c.bounds_in.result.now _ _ _ _
+    ∙ configures a.s _ c.bounds_in.result.now _ _ _ _
     (stores-are c.sets_in.ensures c.entries.ensures c.order_in.ensures)
     (series-are c.totals_in.ensures c.extremes_in.ensures c.counts_in.ensures)
     c.keys.result.now c.bounds_in.ensures c.keys.ensures _ c.configure-reply.ensures

@@ -11,13 +11,13 @@ pub returns : goal.returns
 returns c =
     let a = c.args in
     c.collected.ensures
-    ∙ lists_delta a.t1 _ c.bounds_in.result.now _ _ _ _
+    ∙ lists_delta a.s _ c.bounds_in.result.now _ _ _ _
     (stores-are c.sets.ensures c.entries.ensures c.order.ensures)
     (series-are c.totals_in.ensures c.extremes_in.ensures c.counts_in.ensures)
     c.bounds_in.ensures c.settings.result _ _ c.settings.ensures
     (output-is
-    (c.sets-2.ensures ∙ ap (λ (k : ℕ). take k a.out-sets.now) c.within-i.ensures)
-    (c.words.ensures ∙ ap (λ (k : ℕ). take k a.out-words.now) c.within-i.ensures)
-    (c.counts.ensures ∙ ap (λ (k : ℕ). take k a.out-pos.now) c.within-j.ensures)
-    (c.counts-2.ensures ∙ ap (λ (k : ℕ). take k a.out-neg.now) c.within-j.ensures))
+    (c.sets-2.ensures ∙ ap (λ (k : ℕ). take k a.out_sets.now) c.within-i.ensures)
+    (c.words.ensures ∙ ap (λ (k : ℕ). take k a.out_words.now) c.within-i.ensures)
+    (c.counts.ensures ∙ ap (λ (k : ℕ). take k a.out_pos.now) c.within-j.ensures)
+    (c.counts-2.ensures ∙ ap (λ (k : ℕ). take k a.out_neg.now) c.within-j.ensures))
     _ c.delta-reply.ensures

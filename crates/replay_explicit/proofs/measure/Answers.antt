@@ -9,7 +9,7 @@ pub returns : goal.returns
 returns c =
     let a = c.args in
     c.done.ensures
-    ∙ measures a.t1 _ c.bounds_in.result.now _ _ _ _
+    ∙ measures a.s _ c.bounds_in.result.now _ _ _ _
     (stores-are c.sets.ensures c.entries.ensures c.order.ensures)
     (series-are c.totals.ensures c.extremes.ensures c.counts.ensures)
     c.bounds_in.ensures c.of_bits.result c.given.result.now _ c.keys.result.now

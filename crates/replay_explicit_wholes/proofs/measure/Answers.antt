@@ -13,7 +13,7 @@ returns c =
     let value-fits : SFits w64 c.of_bits.result = search rules in
     let a = c.args in
     c.done.ensures
-    ∙ measures a.t1 _ c.bounds_in.result.now _ _ _ _
+    ∙ measures a.s _ c.bounds_in.result.now _ _ _ _
     (stores-are c.sets.ensures c.entries.ensures c.order.ensures)
     (series-are c.totals.ensures c.wholes.ensures c.counts.ensures)
     c.bounds_in.ensures _ c.given.result.now _ c.keys.result.now

@@ -13,7 +13,7 @@ returns c =
     let value-fits : SFits w64 c.of_bits.result = search rules in
     let a = c.args in
     c.done.ensures
-    ∙ measures-by a.t1 _ c.bounds_in.result.now _ _ _ _
+    ∙ measures-by a.s _ c.bounds_in.result.now _ _ _ _
     (stores-are c.sets.ensures c.entries.ensures c.order.ensures)
     (series-are c.totals.ensures c.wholes.ensures c.counts.ensures)
     c.bounds_in.ensures _ (held c.of_bits.result (value-fits) ∙ c.of_bits.ensures) _ c.measure_by-reply.ensures

@@ -9,9 +9,9 @@ use Rattle.replay_exponential.proofs.configured.Goals as goal
 pub returns-in-Refused : goal.returns-in-Refused
 returns-in-Refused c =
     let a = c.args in
-    c.unbegun.ensures ∙ sym (ap (λ (x : Configured). configured_by (said x) a.s) c.reply-1.given.1)
+    c.unbegun.ensures ∙ sym (ap (λ (x : Configured). configured_by (said x) a.s) c.in-Refused.is)
 
 pub returns-in-Accepted : goal.returns-in-Accepted
 returns-in-Accepted c =
     let a = c.args in
-    c.begun.ensures ∙ sym (ap (λ (x : Configured). configured_by (said x) a.s) c.reply-in-Accepted-1.given.1)
+    c.begun.ensures ∙ sym (ap (λ (x : Configured). configured_by (said x) a.s) c.in-Accepted.is)

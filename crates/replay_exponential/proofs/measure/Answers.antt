@@ -9,7 +9,7 @@ pub returns : goal.returns
 returns c =
     let a = c.args in
     c.done.ensures
-    ∙ measures a.t1 _ _ _ _ (stores-are c.sets.ensures c.entries.ensures c.order.ensures)
+    ∙ measures a.s _ _ _ _ (stores-are c.sets.ensures c.entries.ensures c.order.ensures)
     (same-cells c.figures.ensures c.extremes.ensures c.counts.ensures c.counts-2.ensures)
     c.of_bits.result c.given.result.now _ c.keys.result.now c.of_bits.ensures c.given.ensures c.keys.ensures _
     c.measure-reply.ensures

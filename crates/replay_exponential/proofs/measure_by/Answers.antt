@@ -9,6 +9,6 @@ pub returns : goal.returns
 returns c =
     let a = c.args in
     c.done.ensures
-    ∙ measures-by a.t1 _ _ _ _ (stores-are c.sets.ensures c.entries.ensures c.order.ensures)
+    ∙ measures-by a.s _ _ _ _ (stores-are c.sets.ensures c.entries.ensures c.order.ensures)
     (same-cells c.figures.ensures c.extremes.ensures c.counts.ensures c.counts-2.ensures)
     c.of_bits.result c.of_bits.ensures _ c.measure_by-reply.ensures

@@ -9,10 +9,10 @@ use Rattle.replay_exponential.proofs.scale_of.Goals as goal
 
 pub returns-in-OutOfRange : goal.returns-in-OutOfRange
 returns-in-OutOfRange c =
-    scale-found c.args.n _ _ c.cut-bin.ensures (sym c.enum_told-1.given.1 ∙ c.index_of-found.ensures)
+    scale-found c.args.n _ _ c.cut-bin.ensures (sym c.in-OutOfRange.is ∙ c.index_of-found.ensures)
 
 pub returns-in-Is : goal.returns-in-Is
 returns-in-Is c =
-    let h : SFits w32 c.found-1.given.0.0 = search rules in
-    to_z-of_z w32 c.found-1.given.0.0 h
-    ∙ scale-found c.args.n _ _ c.cut-bin.ensures (sym c.found-1.given.1 ∙ c.index_of-found.ensures)
+    let h : SFits w32 c.in-Is.x = search rules in
+    to_z-of_z w32 c.in-Is.x h
+    ∙ scale-found c.args.n _ _ c.cut-bin.ensures (sym c.in-Is.is ∙ c.index_of-found.ensures)

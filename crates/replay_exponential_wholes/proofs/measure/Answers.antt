@@ -13,7 +13,7 @@ returns c =
     let value-fits : SFits w64 c.of_bits.result = search rules in
     let a = c.args in
     c.done.ensures
-    ∙ measures a.t1 _ _ _ _ (stores-are c.sets.ensures c.entries.ensures c.order.ensures)
+    ∙ measures a.s _ _ _ _ (stores-are c.sets.ensures c.entries.ensures c.order.ensures)
     (same-cells c.figures.ensures c.wholes.ensures c.counts.ensures c.counts-2.ensures)
     _ c.given.result.now _ c.keys.result.now (held c.of_bits.result (value-fits) ∙ c.of_bits.ensures) c.given.ensures c.keys.ensures _
     c.measure-reply.ensures

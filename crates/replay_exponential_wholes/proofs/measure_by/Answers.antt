@@ -13,6 +13,6 @@ returns c =
     let value-fits : SFits w64 c.of_bits.result = search rules in
     let a = c.args in
     c.done.ensures
-    ∙ measures-by a.t1 _ _ _ _ (stores-are c.sets.ensures c.entries.ensures c.order.ensures)
+    ∙ measures-by a.s _ _ _ _ (stores-are c.sets.ensures c.entries.ensures c.order.ensures)
     (same-cells c.figures.ensures c.wholes.ensures c.counts.ensures c.counts-2.ensures)
     _ (held c.of_bits.result (value-fits) ∙ c.of_bits.ensures) _ c.measure_by-reply.ensures

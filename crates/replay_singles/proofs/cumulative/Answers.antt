@@ -10,8 +10,8 @@ pub returns : goal.returns
 returns c =
     let a = c.args in
     c.collected.ensures
-    ∙ lists-cumulative a.t1 c.sets_in.result.now _ c.entries_in.result.now _ c.order_in.result.now _ c.values_in.result.now _
+    ∙ lists-cumulative a.s c.sets_in.result.now _ c.entries_in.result.now _ c.order_in.result.now _ c.values_in.result.now _
     c.sets_in.ensures c.entries_in.ensures c.order_in.ensures c.values_in.ensures
     c.settings.result c.sets.result.now _ c.counts.result.now _ c.settings.ensures
-    (c.sets.ensures ∙ ap (λ (k : ℕ). take k a.out-sets.now) c.within-i.ensures)
-    (c.counts.ensures ∙ ap (λ (k : ℕ). take k a.out-counts.now) c.within-i.ensures) _ c.cumulative-answer.ensures
+    (c.sets.ensures ∙ ap (λ (k : ℕ). take k a.out_sets.now) c.within-i.ensures)
+    (c.counts.ensures ∙ ap (λ (k : ℕ). take k a.out_counts.now) c.within-i.ensures) _ c.cumulative-answer.ensures

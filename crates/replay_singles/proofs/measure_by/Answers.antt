@@ -8,6 +8,6 @@ pub returns : goal.returns
 returns c =
     let a = c.args in
     c.done.ensures
-    ∙ measures-by a.t1 c.sets.result.now _ c.entries.result.now _ c.order.result.now _ c.values.result.now _
+    ∙ measures-by a.s c.sets.result.now _ c.entries.result.now _ c.order.result.now _ c.values.result.now _
     c.sets.ensures c.entries.ensures c.order.ensures c.values.ensures
     c.aggregation.result c.of_bits.result c.aggregation.ensures c.of_bits.ensures _ c.measure_by-reply.ensures

@@ -12,6 +12,6 @@ pub returns : goal.returns
 returns c =
     let a = c.args in
     c.batched.ensures
-    ∙ takes_all (explicit_store (bounds_in a.t1 a.bounds.now)) a.t1 _ _ _ _ _ _ (stores-are c.sets.ensures c.entries.ensures c.order.ensures)
+    ∙ takes_all (explicit_store (bounds_in a.s a.bounds.now)) a.s _ _ _ _ _ _ (stores-are c.sets.ensures c.entries.ensures c.order.ensures)
     (series-are c.totals.ensures c.extremes.ensures c.counts.ensures) c.floats_in.ensures
     c.given.result.now _ c.keys.result.now c.given.ensures c.keys.ensures _ (c.measure_all-reply.ensures ∙ of-bounds c.bounds_in.ensures _ _ _ _ _)

@@ -11,6 +11,6 @@ pub returns : goal.returns
 returns c =
     let a = c.args in
     c.batched.ensures
-    ∙ takes-all-by (exponential_store a.t1.size a.t1.top) a.t1 _ _ _ _ _ _ (stores-are c.sets.ensures c.entries.ensures c.order.ensures)
+    ∙ takes-all-by (exponential_store a.s.size a.s.top) a.s _ _ _ _ _ _ (stores-are c.sets.ensures c.entries.ensures c.order.ensures)
     (same-cells c.figures.ensures c.extremes.ensures c.counts.ensures c.counts-2.ensures) c.floats_in.ensures
     _ c.measure_all_by-reply.ensures

@@ -11,6 +11,6 @@ pub returns : goal.returns
 returns c =
     let a = c.args in
     c.batched.ensures
-    ∙ takes_all (single_store (kind_of a.t1)) a.t1 _ _ _ _ _ _ (stores-are c.sets.ensures c.entries.ensures c.order.ensures)
+    ∙ takes_all (single_store (kind_of a.s)) a.s _ _ _ _ _ _ (stores-are c.sets.ensures c.entries.ensures c.order.ensures)
     c.values.ensures c.floats_in.ensures
     c.given.result.now _ c.keys.result.now c.given.ensures c.keys.ensures _ (c.measure_all-reply.ensures ∙ of_aggregation c.aggregation.ensures _ _ _ _ _)

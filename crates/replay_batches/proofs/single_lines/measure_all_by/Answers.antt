@@ -11,6 +11,6 @@ pub returns : goal.returns
 returns c =
     let a = c.args in
     c.batched.ensures
-    ∙ takes-all-by (single_store (kind_of a.t1)) a.t1 _ _ _ _ _ _ (stores-are c.sets.ensures c.entries.ensures c.order.ensures)
+    ∙ takes-all-by (single_store (kind_of a.s)) a.s _ _ _ _ _ _ (stores-are c.sets.ensures c.entries.ensures c.order.ensures)
     c.values.ensures c.floats_in.ensures
     _ (c.measure_all_by-reply.ensures ∙ of_aggregation-by c.aggregation.ensures _ _ _ _)

@@ -11,5 +11,5 @@ pub returns : goal.returns
 returns c =
     let a = c.args in
     ap (λ (t : State). answered t t.no t.told t.dir (set t.handles c.within-i.result a.birth) t.start t.listed t.collected) c.accepted-next.ensures
-    ∙ ap (λ (k : ℕ). answered a.t1 0 a.birth a.dir (set a.t1.handles k a.birth) a.t1.start a.t1.listed
-    a.t1.collected) c.within-i.ensures
+    ∙ ap (λ (k : ℕ). answered a.s 0 a.birth a.dir (set a.s.handles k a.birth) a.s.start a.s.listed
+    a.s.collected) c.within-i.ensures

@@ -9,9 +9,9 @@ use Rattle.replay_state.proofs.after.collected.Goals as goal
 pub returns-in-Refused : goal.returns-in-Refused
 returns-in-Refused c =
     let a = c.args in
-    c.refused.ensures ∙ sym (ap (λ (x : Answer). collected_by (said x) a.dir a.s) c.answer-1.given.1)
+    c.refused.ensures ∙ sym (ap (λ (x : Answer). collected_by (said x) a.dir a.s) c.in-Refused.is)
 
 pub returns-in-Listed : goal.returns-in-Listed
 returns-in-Listed c =
     let a = c.args in
-    c.turned.ensures ∙ sym (ap (λ (x : Answer). collected_by (said x) a.dir a.s) c.answer-in-Listed-1.given.1)
+    c.turned.ensures ∙ sym (ap (λ (x : Answer). collected_by (said x) a.dir a.s) c.in-Listed.is)

@@ -9,14 +9,14 @@ use Rattle.replay_state.proofs.after.done.Goals as goal
 pub returns-in-Refused : goal.returns-in-Refused
 returns-in-Refused c =
     let a = c.args in
-    c.refused.ensures ∙ sym (ap (λ (x : Answer). done_by (said x) a.reply.dir a.s) c.answer-1.given.1)
+    c.refused.ensures ∙ sym (ap (λ (x : Answer). done_by (said x) a.reply.dir a.s) c.in-Refused.is)
 
 pub returns-in-Done : goal.returns-in-Done
 returns-in-Done c =
     let a = c.args in
-    c.accepted.ensures ∙ sym (ap (λ (x : Answer). done_by (said x) a.reply.dir a.s) c.enum_told-1.given.1)
+    c.accepted.ensures ∙ sym (ap (λ (x : Answer). done_by (said x) a.reply.dir a.s) c.in-Done.is)
 
 pub returns-in-Handle : goal.returns-in-Handle
 returns-in-Handle c =
     let a = c.args in
-    c.bound.ensures ∙ sym (ap (λ (x : Answer). done_by (said x) a.reply.dir a.s) c.answer-in-Handle-1.given.1)
+    c.bound.ensures ∙ sym (ap (λ (x : Answer). done_by (said x) a.reply.dir a.s) c.in-Handle.is)

@@ -12,7 +12,7 @@ pub returns-then-s : goal.returns-then-s
 unfolding pick
 returns-then-s c =
     let a = c.args in
-    let s = a.t1 in
+    let s = a.s in
     c.listed.ensures
     ∙ ap (λ (t : Turned). answered s 0 t.start a.dir s.handles t.clock.start a.many s.kind) c.after_delta-t.ensures
     ∙ sym (ap (λ (b : Bool). answered s 0 s.start a.dir s.handles (pick b (field s 1) s.start) a.many s.kind) c.if-s.true)
@@ -21,7 +21,7 @@ pub returns : goal.returns
 unfolding pick
 returns c =
     let a = c.args in
-    let s = a.t1 in
+    let s = a.s in
     c.listed-2.ensures
     ∙ ap (λ (t : ℕ). answered s 0 t a.dir s.handles s.start a.many s.kind) c.at_cumulative.ensures
     ∙ sym (ap (λ (b : Bool). answered s 0 s.start a.dir s.handles (pick b (field s 1) s.start) a.many s.kind) c.if-s.false)

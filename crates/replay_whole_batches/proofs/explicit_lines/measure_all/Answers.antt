@@ -13,6 +13,6 @@ pub returns : goal.returns
 returns c =
     let a = c.args in
     c.batched.ensures
-    ∙ takes_all (explicit_wholes (bounds_in a.t1 a.bounds.now) a.t1.sums) a.t1 _ _ _ _ _ _ (stores-are c.sets.ensures c.entries.ensures c.order.ensures)
+    ∙ takes_all (explicit_wholes (bounds_in a.s a.bounds.now) a.s.sums) a.s _ _ _ _ _ _ (stores-are c.sets.ensures c.entries.ensures c.order.ensures)
     (series-are c.totals.ensures c.wholes.ensures c.counts.ensures) c.integers_in.ensures
     c.given.result.now _ c.keys.result.now c.given.ensures c.keys.ensures _ (c.measure_all-reply.ensures ∙ of-bounds c.bounds_in.ensures _ _ _ _ _ _)

@@ -11,6 +11,6 @@ pub returns : goal.returns
 returns c =
     let a = c.args in
     c.batched.ensures
-    ∙ takes_all (exponential_wholes a.t1.size a.t1.top a.t1.sums) a.t1 _ _ _ _ _ _ (stores-are c.sets.ensures c.entries.ensures c.order.ensures)
+    ∙ takes_all (exponential_wholes a.s.size a.s.top a.s.sums) a.s _ _ _ _ _ _ (stores-are c.sets.ensures c.entries.ensures c.order.ensures)
     (same-cells c.figures.ensures c.wholes.ensures c.counts.ensures c.counts-2.ensures) c.integers_in.ensures
     c.given.result.now _ c.keys.result.now c.given.ensures c.keys.ensures _ c.measure_all-reply.ensures

@@ -2,7 +2,6 @@
 use Prim.Native.Nat.{ℕ, ◌%◌}
 use mathlib.Core.Path.{ap, ◌∙◌}
 use Rattle.replay_state.specs.After.{field, begun_as}
-use borrow.Author.Rules.{rules}
 use Rattle.replay_state.proofs.after.begun.Goals as goal
 
 pub returns : goal.returns

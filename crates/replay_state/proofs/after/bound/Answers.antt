@@ -4,7 +4,6 @@ use mathlib.Core.Path.{ap, ◌∙◌}
 use lib.ListN.{set}
 use Rattle.replay_state.specs.After.{answered}
 use Rattle.replay_state.specs.declared.State.{State}
-use borrow.Author.Rules.{rules}
 use Rattle.replay_state.proofs.after.bound.Goals as goal
 
 pub returns : goal.returns

@@ -3,7 +3,6 @@ use mathlib.Core.Path.{sym, ap, ◌∙◌}
 use Rattle.collecting.specs.Collected.{said}
 use Rattle.collecting.specs.declared.Answer.{Answer}
 use Rattle.replay_state.specs.After.{collected_by}
-use borrow.Author.Rules.{rules}
 use Rattle.replay_state.proofs.after.collected.Goals as goal
 
 pub returns-in-Refused : goal.returns-in-Refused

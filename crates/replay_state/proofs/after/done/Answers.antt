@@ -3,7 +3,6 @@ use mathlib.Core.Path.{sym, ap, ◌∙◌}
 use Rattle.bindings.specs.Calls.{said}
 use Rattle.bindings.specs.declared.Answer.{Answer}
 use Rattle.replay_state.specs.After.{done_by}
-use borrow.Author.Rules.{rules}
 use Rattle.replay_state.proofs.after.done.Goals as goal
 
 pub returns-in-Refused : goal.returns-in-Refused

@@ -5,7 +5,6 @@ use mathlib.Core.Bool.{Bool}
 use Rattle.laws.specs.Pick.{pick}
 use Rattle.clock.specs.declared.Turned.{Turned}
 use Rattle.replay_state.specs.After.{field, answered}
-use borrow.Author.Rules.{rules}
 use Rattle.replay_state.proofs.after.turned.Goals as goal
 
 pub returns-then-s : goal.returns-then-s

@@ -1,6 +1,5 @@
 -- `replay_state::binding::bind` meets its contract. Assumes nothing.
 use mathlib.Core.Path.{◌∙◌}
-use borrow.Author.Rules.{rules}
 use borrow.Author.Tests.{eq-eqb, ne_eqb}
 use Rattle.replay_state.proofs.Binds.{binds, releases}
 use Rattle.replay_state.proofs.binding.bind.Goals as goal

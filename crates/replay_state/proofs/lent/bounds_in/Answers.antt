@@ -2,7 +2,6 @@
 use Prim.Native.Nat.{ℕ, min, ◌*◌}
 use mathlib.Core.Path.{ap, ◌∙◌}
 use lib.ListN.{take, drop}
-use borrow.Author.Rules.{rules}
 use Rattle.listing.proofs.Cases.{some_is}
 use Rattle.replay_state.proofs.lent.bounds_in.Goals as goal
 

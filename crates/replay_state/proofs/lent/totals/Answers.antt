@@ -1,5 +1,4 @@
 -- `replay_state::lent::totals` meets its contract. Assumes nothing.
-use borrow.Author.Rules.{rules}
 use Rattle.listing.proofs.Cases.{some_is}
 use Rattle.replay_state.proofs.lent.totals.Goals as goal
 

@@ -1,5 +1,4 @@
 -- `replay_state::lent::values` meets its contract. Assumes nothing.
-use borrow.Author.Rules.{rules}
 use Rattle.listing.proofs.Cases.{some_is}
 use Rattle.replay_state.proofs.lent.values.Goals as goal
 

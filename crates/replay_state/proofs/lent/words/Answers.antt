@@ -1,5 +1,4 @@
 -- `replay_state::lent::words` meets its contract. Assumes nothing.
-use borrow.Author.Rules.{rules}
 use Rattle.replay_state.proofs.Front.{front-is}
 use Rattle.replay_state.proofs.lent.words.Goals as goal
 

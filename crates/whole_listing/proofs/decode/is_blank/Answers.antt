@@ -1,7 +1,6 @@
 -- `whole_listing::decode::is_blank` meets its contract. Assumes nothing.
 use mathlib.Core.Path.{sym, ap}
 use mathlib.Core.Bool.{Bool}
-use borrow.Author.Rules.{rules}
 use Rattle.whole_listing.specs.Inner.{blank}
 use Rattle.whole_listing.proofs.decode.is_blank.Goals as goal
 

@@ -1,6 +1,5 @@
 -- `whole_listing::decode::is_whole` meets its contract. Assumes nothing.
 use mathlib.Core.Path.{refl}
-use borrow.Author.Rules.{rules}
 use Rattle.whole_listing.specs.Listed.{is_whole}
 use Rattle.whole_listing.proofs.Calls.{no_kind}
 use Rattle.whole_listing.proofs.decode.is_whole.Goals as goal

@@ -10,5 +10,5 @@ use Rattle.whole_listing.proofs.encode.shown_bits.Goals as goal
 
 pub returns-in-Value : goal.returns-in-Value
 returns-in-Value c =
-    let number : SFits w64 c.x-1.given.0.0 = search rules in
-    c.bits_of.ensures ∙ ap bits_of (held c.x-1.given.0.0 (number)) ∙ sym (ap shown_bits c.x-1.given.1)
+    let number : SFits w64 c.in-Value.v = search rules in
+    c.bits_of.ensures ∙ ap bits_of (held c.in-Value.v (number)) ∙ sym (ap shown_bits c.in-Value.is)

@@ -1,7 +1,5 @@
 -- `whole_listing::put::put` meets its contract. Assumes nothing.
 use mathlib.Core.Path.{sym, subst}
-use borrow.Author.Rules.{rules}
-use native.Mathlib.Omega.{arith}
 use Rattle.point.specs.declared.Point as P
 use Rattle.listing.specs.Listed.{Output}
 use Rattle.listing.specs.Inner.{Room}
@@ -13,10 +11,6 @@ put-next-requires c =
     let lent : Output = record { sets = c.args.sets.now; words = c.args.words.now; pos = c.args.pos.now; neg = c.args.neg.now } in
     let a = c.args in
     subst (λ (q : P.Point). Room a.at q.figures a.b a.cpos.now a.cneg.now (lent)) (sym c.shadow_of-shadow.ensures) c.requires
-
-pub offset_bounds-words-place : goal.offset_bounds-words-place
-offset_bounds-words-place c =
-    record { fits = omega (arith, c.requires.words, c.well-formed.1.1.1.1.1.1.1.0.1) }
 
 pub returns : goal.returns
 returns c =

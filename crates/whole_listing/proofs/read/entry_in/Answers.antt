@@ -4,12 +4,12 @@ use mathlib.Core.Path.{◌≡◌, sym, ap, ◌∙◌}
 use mathlib.Core.Bool.{true}
 use mathlib.Core.List.{List}
 use borrow.Author.Rules.{rules}
-use borrow.Author.Tests.{not-true, not-false}
 use lib.ListN.{get_or}
 use mir.Syntax.{w64}
 use mir.Val.{Fits}
 use Rattle.whole_point.specs.declared.Point.{Point}
 use Rattle.listing.specs.Listed as L
+use Rattle.listing.specs.declared.Found.TheVariants as LF
 use Rattle.whole_listing.specs.Listed.{entry_in}
 use Rattle.whole_listing.specs.Inner.{own_words, numbered_found}
 use Rattle.whole_listing.specs.declared.Found.TheVariants.{Is}
@@ -20,11 +20,11 @@ use Rattle.whole_listing.proofs.read.entry_in.Goals as goal
 pub returns-then-not-own_words : goal.returns-then-not-own_words
 returns-then-not-own_words c =
     let a = c.args in
-    entry-no a.at a.w a.pos a.neg (sym c.own_words.ensures ∙ not-true c.own_words.result c.if-not-own_words.true)
+    entry-no a.at a.w a.pos a.neg (sym c.own_words.ensures ∙ c.if-not-own_words.true)
 
 pub shadow_words-s-requires : goal.shadow_words-s-requires
 shadow_words-s-requires c =
-    let own : own_words c.args.w ≡ true = sym c.own_words.ensures ∙ not-false c.own_words.result c.if-not-own_words.false in
+    let own : own_words c.args.w ≡ true = sym c.own_words.ensures ∙ c.if-not-own_words.false in
     kind-own c.args.w (own)
 
 pub returns-in-NoPoint : goal.returns-in-NoPoint
@@ -34,13 +34,12 @@ returns-in-NoPoint c =
     let h : Fits w64 (get_or c.args.w 10 0) = search rules in
     let t : Fits w64 (get_or c.args.w 11 0) = search rules in
     (l.fits, h.fits, t.fits) in
-    let own : own_words c.args.w ≡ true = sym c.own_words.ensures ∙ not-false c.own_words.result c.if-not-own_words.false in
-    let by-shadow : numbered_found c.args.w c.entry_in-found.result ≡ entry_in c.args.at c.args.w c.args.pos c.args.neg =
+    let own : own_words c.args.w ≡ true = sym c.own_words.ensures ∙ c.if-not-own_words.false in
+    let by-shadow : numbered_found c.args.w LF.NoPoint ≡ entry_in c.args.at c.args.w c.args.pos c.args.neg =
     let a = c.args in
-    ap (numbered_found a.w) (c.entry_in-found.ensures ∙ ap (λ (x : List ℕ). L.entry_in a.at x a.pos a.neg) c.shadow_words-s.ensures)
+    ap (numbered_found a.w) (c.in-NoPoint.ensures ∙ ap (λ (x : List ℕ). L.entry_in a.at x a.pos a.neg) c.shadow_words-s.ensures)
     ∙ entry-by a.at a.w a.pos a.neg (wide) (own) in
-    let a = c.args in
-    sym (ap (numbered_found a.w) c.enum_told-1.given.1) ∙ by-shadow
+    by-shadow
 
 pub returns-in-Is : goal.returns-in-Is
 returns-in-Is c =
@@ -49,12 +48,11 @@ returns-in-Is c =
     let h : Fits w64 (get_or c.args.w 10 0) = search rules in
     let t : Fits w64 (get_or c.args.w 11 0) = search rules in
     (l.fits, h.fits, t.fits) in
-    let own : own_words c.args.w ≡ true = sym c.own_words.ensures ∙ not-false c.own_words.result c.if-not-own_words.false in
-    let by-shadow : numbered_found c.args.w c.entry_in-found.result ≡ entry_in c.args.at c.args.w c.args.pos c.args.neg =
+    let own : own_words c.args.w ≡ true = sym c.own_words.ensures ∙ c.if-not-own_words.false in
+    let by-shadow : numbered_found c.args.w (LF.Is c.in-Is.e) ≡ entry_in c.args.at c.args.w c.args.pos c.args.neg =
     let a = c.args in
-    ap (numbered_found a.w) (c.entry_in-found.ensures ∙ ap (λ (x : List ℕ). L.entry_in a.at x a.pos a.neg) c.shadow_words-s.ensures)
+    ap (numbered_found a.w) (c.in-Is.ensures ∙ ap (λ (x : List ℕ). L.entry_in a.at x a.pos a.neg) c.shadow_words-s.ensures)
     ∙ entry-by a.at a.w a.pos a.neg (wide) (own) in
     let a = c.args in
-    ap (λ (q : Point). Is (record { point = q; bounds = c.found-1.given.0.0.bounds; next = c.found-1.given.0.0.next })) c.point_of-p.ensures
-    ∙ sym (ap (numbered_found a.w) c.found-1.given.1)
+    ap (λ (q : Point). Is (record { point = q; bounds = c.in-Is.e.bounds; next = c.in-Is.e.next })) c.point_of-p.ensures
     ∙ by-shadow

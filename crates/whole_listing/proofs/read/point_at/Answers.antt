@@ -1,6 +1,5 @@
 -- `whole_listing::read::point_at` meets its contract. Assumes nothing.
 use mathlib.Core.Path.{◌∙◌}
-use borrow.Author.Rules.{rules}
 use native.Mathlib.Omega.{arith}
 use lib.ListN.{length}
 use Rattle.whole_listing.proofs.Calls.{nothing-there, words-there}

@@ -10,7 +10,6 @@ use native.Mathlib.Omega.{arith}
 use lib.Dec.{leb}
 use lib.ListN.{length, get_or, drop}
 use lib.Ieee.{Float, nan}
-use borrow.Author.Rules.{rules}
 use Rattle.points.specs.Explicit.{bucket_count}
 use Rattle.tally.specs.Sets.{Set}
 use Rattle.sets.specs.Sorted.{given, filter_of}

@@ -1,5 +1,4 @@
 -- `explicit_batches::measure_agreed` meets its contract. Assumes nothing.
-use borrow.Author.Rules.{rules}
 use Rattle.sets.specs.Sorted.{given, filter_of}
 use Rattle.directory.specs.View.{stores}
 use Rattle.explicit_slots.specs.Cells.{Cells, cells}

@@ -1,5 +1,4 @@
 -- `explicit_batches::measure_by_agreed` meets its contract. Assumes nothing.
-use borrow.Author.Rules.{rules}
 use Rattle.directory.specs.View.{stores}
 use Rattle.explicit_slots.specs.Cells.{Cells, cells}
 use Rattle.value_map.specs.Calls.{Held, held}

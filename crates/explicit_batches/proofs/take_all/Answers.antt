@@ -1,6 +1,5 @@
 -- `explicit_batches::take_all` meets its contract. Assumes nothing.
 use mathlib.Core.Path.{sym, ◌∙◌}
-use borrow.Author.Rules.{rules}
 use Rattle.explicit_slots.specs.Cells.{Cells, cells}
 use Rattle.value_map.specs.Explicit.{explicit_store}
 use Rattle.batches.specs.Inner.{recorded_all}

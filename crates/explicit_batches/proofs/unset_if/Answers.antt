@@ -1,6 +1,5 @@
 -- `explicit_batches::unset_if` meets its contract. Assumes nothing.
 use mathlib.Core.Path.{sym}
-use borrow.Author.Rules.{rules}
 use Rattle.explicit_batches.proofs.unset_if.Goals as goal
 
 pub returns-then-known : goal.returns-then-known

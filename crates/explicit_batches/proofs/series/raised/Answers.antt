@@ -1,7 +1,6 @@
 -- `series::raised` meets its contract. Assumes nothing.
 use Prim.Native.Nat.{◌+◌}
 use lib.Ieee.{binary64, add}
-use borrow.Author.Rules.{rules}
 use Rattle.explicit_batches.proofs.series.raised.Goals as goal
 
 pub returns : goal.returns

@@ -1,13 +1,12 @@
 -- `series::record_all` meets its contract: what is recorded so far, and the values left, make the whole. Assumes nothing.
-use Prim.Native.Nat.{◌-◌, ◌≤◌, ◌<◌}
+use Prim.Native.Nat.{◌<◌}
 use mathlib.Core.Path.{◌≡◌, refl, sym, subst, ◌∙◌}
 use native.Mathlib.Omega.{arith}
-use lib.ListN.{length, get_or, drop}
+use lib.ListN.{length, get_or}
 use lib.Ieee.{Float, nan}
 use Rattle.laws.specs.Counting.{most_count}
 use Rattle.rows.specs.Recording.{Recording, after}
-use Rattle.many.specs.Many.{each}
-use Rattle.many.proofs.Turns.{later, begins, turn, halt, ended}
+use Rattle.many.proofs.Turns.{begins, turn, halt, ended}
 use Rattle.explicit_batches.specs.Values.{Series, step, Sound, barring}
 use Rattle.explicit_batches.proofs.Values.{free, room-more, step-refused, step-taken, sound-next}
 use Rattle.explicit_batches.proofs.series.record_all.Goals as goal
@@ -16,16 +15,6 @@ pub loop-i-init : goal.loop-i-init
 loop-i-init c =
     let a = c.args in
     (omega arith, refl, c.requires, begins (step a.bounds.now) (record { head = a.head; counts = a.counts.now }) a.values.now)
-
-pub offset_bounds-values-i : goal.offset_bounds-values-i
-offset_bounds-values-i c =
-    let inside : c.loop-i.i < length c.args.values.now = omega (arith, c.loop-i-test.true) in
-    omega (arith, inside)
-
-pub bounds-values-i : goal.bounds-values-i
-bounds-values-i c =
-    let inside : c.loop-i.i < length c.args.values.now = omega (arith, c.loop-i-test.true) in
-    inside
 
 pub shape_of-counts-then-no-ne0 : goal.shape_of-counts-then-no-ne0
 shape_of-counts-then-no-ne0 c = c.loop-i.invariant.1
@@ -47,7 +36,7 @@ count_in-requires c =
     let one : Float = get_or c.args.values.now c.loop-i.i nan in
     let unbarred : 0 ≡ barring c.loop-i.h.count (one) = sym c.if-no-ne0.false ∙ c.barred-no.ensures in
     let found : c.loop-i.h.count < most_count = free c.loop-i.h.count (one) (sym (unbarred)) in
-    let l = c.loop-i in record { bounds_in_bounds = l.inv.2.counted.long; counts_bound = room-more c.args.bounds.now (held) (one) l.inv.2 (found) }
+    let l = c.loop-i in record { bounds_in_bounds = l.invariant.2.counted.long; counts_bound = room-more c.args.bounds.now (held) (one) l.invariant.2 (found) }
 
 pub raised-h-requires : goal.raised-h-requires
 raised-h-requires c =
@@ -71,11 +60,11 @@ loop-i-preserved c =
     let a = c.args in
     let bs = a.bounds.now in
     let x : Recording Series = after 0 (record { head = c.raised-h.result; counts = c.count_in.new.counts }) in
-    let is : x ≡ step bs (held) (one) = step-taken bs (held) (one) l.inv.2 (unbarred) c.raised-h.result c.count_in.new.counts c.raised-h.ensures c.count_in.ensures in (
+    let is : x ≡ step bs (held) (one) = step-taken bs (held) (one) l.invariant.2 (unbarred) c.raised-h.result c.count_in.new.counts c.raised-h.ensures c.count_in.ensures in (
       omega (arith, inside),
-      c.count_in.auto.counts ∙ l.inv.1,
-      subst (λ (r : Recording Series). Sound bs r.cells) (sym is) (sound-next bs (held) (one) l.inv.2 (unbarred)),
-      l.inv.3 ∙ turn (step bs) (held) a.values.now l.i nan (inside) x is refl,
+      c.count_in.auto.counts ∙ l.invariant.1,
+      subst (λ (r : Recording Series). Sound bs r.cells) (sym is) (sound-next bs (held) (one) l.invariant.2 (unbarred)),
+      l.invariant.3 ∙ turn (step bs) (held) a.values.now l.i nan (inside) x is refl,
     )
 
 pub shape_of-counts : goal.shape_of-counts

@@ -1,6 +1,5 @@
 -- `slot::keep` meets its contract. Assumes nothing.
 use mathlib.Core.Path.{sym}
-use borrow.Author.Rules.{rules}
 use Rattle.many.proofs.Alike.{pick_first, pick_second}
 use Rattle.explicit_batches.proofs.slot.keep.Goals as goal
 

@@ -6,7 +6,6 @@ use native.Mathlib.Omega.{arith}
 use lib.ListN.{length, get_or}
 use lib.Ieee.{nan, binary64, fits}
 use lib.Ieee.Bits.{is_true}
-use borrow.Author.Rules.{rules}
 use Rattle.rows.specs.Parts.{part_at}
 use Rattle.rows.proofs.Parts.{part_length}
 use Rattle.many.specs.Many.{Many}
@@ -20,17 +19,12 @@ use Rattle.explicit_batches.proofs.slot.record_all.Goals as goal
 pub overflow_mul-a : goal.overflow_mul-a
 overflow_mul-a c =
     let end : c.args.x * c.bucket_count-n.result + c.bucket_count-n.result ≤ length c.args.counts.now = let a = c.args in subst (λ (k : ℕ). a.x * k + k ≤ length a.counts.now) (sym c.bucket_count-n.ensures) c.requires.room.counts in
-    omega (arith, end, c.well-formed.1.1.1.1.1.1.0.0)
+    omega (arith, end)
 
 pub overflow_add-e : goal.overflow_add-e
 overflow_add-e c =
     let end : c.args.x * c.bucket_count-n.result + c.bucket_count-n.result ≤ length c.args.counts.now = let a = c.args in subst (λ (k : ℕ). a.x * k + k ≤ length a.counts.now) (sym c.bucket_count-n.ensures) c.requires.room.counts in
-    omega (arith, end, c.well-formed.1.1.1.1.1.1.0.0)
-
-pub offset_bounds-counts-a : goal.offset_bounds-counts-a
-offset_bounds-counts-a c =
-    let end : c.args.x * c.bucket_count-n.result + c.bucket_count-n.result ≤ length c.args.counts.now = let a = c.args in subst (λ (k : ℕ). a.x * k + k ≤ length a.counts.now) (sym c.bucket_count-n.ensures) c.requires.room.counts in
-    omega (arith, end, c.good.1.1.1.1.1.1.0.1)
+    omega (arith, end)
 
 pub slice_bounds-enter_all-end : goal.slice_bounds-enter_all-end
 slice_bounds-enter_all-end c =

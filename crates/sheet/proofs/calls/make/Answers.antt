@@ -11,43 +11,43 @@ pub returns-in-None : goal.returns-in-None
 returns-in-None c =
     let dirs : Stores = let a = c.args in stores a.sets.now a.entries.now a.order.now in
     let lent : Cells = let a = c.args in cells a.figures.now a.extremes.now a.pos.now a.neg.now in
-    let outs : Source = let a = c.args in source a.out-sets.now a.out-words.now a.out-pos.now a.out-neg.now a.bounds.now in
+    let outs : Source = let a = c.args in source a.out_sets.now a.out_words.now a.out_pos.now a.out_neg.now a.bounds.now in
     let a = c.args in
     line-none a.g a.line.now a.over a.n a.text.now (dirs) (lent) (outs) a.sheet.now
-    (sym c.call_in-call.ensures ∙ c.enum_told-1.given.1) c.ended.result c.ended.ensures
+    (sym c.call_in-call.ensures ∙ c.in-None.is) c.ended.result c.ended.ensures
 
 pub returns-in-Unread : goal.returns-in-Unread
 returns-in-Unread c =
     let dirs : Stores = let a = c.args in stores a.sets.now a.entries.now a.order.now in
     let lent : Cells = let a = c.args in cells a.figures.now a.extremes.now a.pos.now a.neg.now in
-    let outs : Source = let a = c.args in source a.out-sets.now a.out-words.now a.out-pos.now a.out-neg.now a.bounds.now in
+    let outs : Source = let a = c.args in source a.out_sets.now a.out_words.now a.out_pos.now a.out_neg.now a.bounds.now in
     let a = c.args in
     line-unread a.g a.line.now a.over a.n a.text.now (dirs) (lent) (outs) a.sheet.now
-    (sym c.call_in-call.ensures ∙ c.enum_told-in-Unread-1.given.1) c.ended-in-Unread.result c.ended-in-Unread.ensures
+    (sym c.call_in-call.ensures ∙ c.in-Unread.is) c.ended-in-Unread.result c.ended-in-Unread.ensures
 
 pub returns-in-Record : goal.returns-in-Record
 returns-in-Record c =
     let dirs : Stores = let a = c.args in stores a.sets.now a.entries.now a.order.now in
     let lent : Cells = let a = c.args in cells a.figures.now a.extremes.now a.pos.now a.neg.now in
-    let outs : Source = let a = c.args in source a.out-sets.now a.out-words.now a.out-pos.now a.out-neg.now a.bounds.now in
+    let outs : Source = let a = c.args in source a.out_sets.now a.out_words.now a.out_pos.now a.out_neg.now a.bounds.now in
     let a = c.args in
     line_record a.g a.line.now a.over a.n a.text.now (dirs) (lent) (outs) a.sheet.now c.«record».result
-    c.silent.result c.silent.ensures _ _ (sym c.call_in-call.ensures ∙ c.enum_told-in-Record-1.given.1) c.«record».ensures
+    c.silent.result c.silent.ensures _ _ (sym c.call_in-call.ensures ∙ c.in-Record.is) c.«record».ensures
 
 pub returns-in-Start : goal.returns-in-Start
 returns-in-Start c =
     let dirs : Stores = let a = c.args in stores a.sets.now a.entries.now a.order.now in
     let lent : Cells = let a = c.args in cells a.figures.now a.extremes.now a.pos.now a.neg.now in
-    let outs : Source = let a = c.args in source a.out-sets.now a.out-words.now a.out-pos.now a.out-neg.now a.bounds.now in
+    let outs : Source = let a = c.args in source a.out_sets.now a.out_words.now a.out_pos.now a.out_neg.now a.bounds.now in
     let a = c.args in
     line-start a.g a.line.now a.over a.n a.text.now (dirs) (lent) (outs) a.sheet.now c.start-o.result
-    c.silent-in-Start.result c.silent-in-Start.ensures _ _ (sym c.call_in-call.ensures ∙ c.enum_told-in-Start-1.given.1) c.start-o.ensures
+    c.silent-in-Start.result c.silent-in-Start.ensures _ _ (sym c.call_in-call.ensures ∙ c.in-Start.is) c.start-o.ensures
 
 pub returns-in-Collect : goal.returns-in-Collect
 returns-in-Collect c =
     let dirs : Stores = let a = c.args in stores a.sets.now a.entries.now a.order.now in
     let lent : Cells = let a = c.args in cells a.figures.now a.extremes.now a.pos.now a.neg.now in
-    let outs : Source = let a = c.args in source a.out-sets.now a.out-words.now a.out-pos.now a.out-neg.now a.bounds.now in
+    let outs : Source = let a = c.args in source a.out_sets.now a.out_words.now a.out_pos.now a.out_neg.now a.bounds.now in
     let a = c.args in
     line-collect a.g a.line.now a.over a.n a.text.now (dirs) (lent) (outs) a.sheet.now
-    (sym c.call_in-call.ensures ∙ c.enum_told-in-Collect-1.given.1) _ c.collect.ensures
+    (sym c.call_in-call.ensures ∙ c.in-Collect.is) _ c.collect.ensures

@@ -11,28 +11,28 @@ pub returns-in_default : goal.returns-in_default
 returns-in_default c =
     let dirs : Stores = let a = c.args in stores a.sets.now a.entries.now a.order.now in
     let lent : Cells = let a = c.args in cells a.figures.now a.extremes.now a.pos.now a.neg.now in
-    let outs : Source = let a = c.args in source a.out-sets.now a.out-words.now a.out-pos.now a.out-neg.now a.bounds.now in
+    let outs : Source = let a = c.args in source a.out_sets.now a.out_words.now a.out_pos.now a.out_neg.now a.bounds.now in
     let a = c.args in
     collect-refused a.g a.line.now a.n a.text.now (dirs) (lent) (outs) a.sheet.now
-    (sym c.time_in.ensures ∙ c.enum_told-1.given.1) c.ended.result c.ended.ensures
+    (sym c.time_in.ensures ∙ c.in_default.is) c.ended.result c.ended.ensures
 
 pub returns-in-Refused : goal.returns-in-Refused
 returns-in-Refused c =
     let dirs : Stores = let a = c.args in stores a.sets.now a.entries.now a.order.now in
     let lent : Cells = let a = c.args in cells a.figures.now a.extremes.now a.pos.now a.neg.now in
-    let outs : Source = let a = c.args in source a.out-sets.now a.out-words.now a.out-pos.now a.out-neg.now a.bounds.now in
+    let outs : Source = let a = c.args in source a.out_sets.now a.out_words.now a.out_pos.now a.out_neg.now a.bounds.now in
     let a = c.args in
-    collect-none a.g a.line.now a.n a.text.now (dirs) (lent) (outs) a.sheet.now c.time-1.given.0.0
-    (sym c.time_in.ensures ∙ c.time-1.given.1) c.delta-reply.result.answer c.delta-reply.result.dir _ _ c.delta-reply.ensures
-    _ c.answer-1.given.1 c.ended-in-Refused.result c.ended-in-Refused.ensures
+    collect-none a.g a.line.now a.n a.text.now (dirs) (lent) (outs) a.sheet.now c.in-Is.time
+    (sym c.time_in.ensures ∙ c.in-Is.is) c.delta-reply.result.answer c.delta-reply.result.dir _ _ c.delta-reply.ensures
+    _ c.in-Refused.is c.ended-in-Refused.result c.ended-in-Refused.ensures
 
 pub returns-in-Listed : goal.returns-in-Listed
 returns-in-Listed c =
     let dirs : Stores = let a = c.args in stores a.sets.now a.entries.now a.order.now in
     let lent : Cells = let a = c.args in cells a.figures.now a.extremes.now a.pos.now a.neg.now in
-    let outs : Source = let a = c.args in source a.out-sets.now a.out-words.now a.out-pos.now a.out-neg.now a.bounds.now in
+    let outs : Source = let a = c.args in source a.out_sets.now a.out_words.now a.out_pos.now a.out_neg.now a.bounds.now in
     let a = c.args in
-    collect-made a.g a.line.now a.n a.text.now (dirs) (lent) (outs) a.sheet.now c.time-1.given.0.0
-    (sym c.time_in.ensures ∙ c.time-1.given.1) c.delta-reply.result.answer c.delta-reply.result.dir _ _ c.delta-reply.ensures
-    c.answer-in-Listed-1.given.0.0 c.answer-in-Listed-1.given.1 c.turned-t.result c.turned-t.ensures
+    collect-made a.g a.line.now a.n a.text.now (dirs) (lent) (outs) a.sheet.now c.in-Is.time
+    (sym c.time_in.ensures ∙ c.in-Is.is) c.delta-reply.result.answer c.delta-reply.result.dir _ _ c.delta-reply.ensures
+    c.in-Listed.many c.in-Listed.is c.turned-t.result c.turned-t.ensures
     c.write-end.result _ _ c.write-end.ensures c.ended-in-Listed.result c.ended-in-Listed.ensures

@@ -12,7 +12,7 @@ pub loop-i-init : goal.loop-i-init
 loop-i-init c = (omega arith, refl)
 
 pub glyph-requires : goal.glyph-requires
-glyph-requires c = omega (arith, c.shared_slice_known-in-loop-i-1.given c.loop-i.i)
+glyph-requires c = omega (arith, c.type_inv.bytes c.loop-i.i)
 
 pub byte-a-requires : goal.byte-a-requires
 byte-a-requires c = tt

@@ -11,7 +11,7 @@ pub returns-then-st-gt0 : goal.returns-then-st-gt0
 returns-then-st-gt0 c =
     let dirs : Stores = let a = c.args in stores a.sets.now a.entries.now a.order.now in
     let lent : Cells = let a = c.args in cells a.figures.now a.extremes.now a.pos.now a.neg.now in
-    let outs : Source = let a = c.args in source a.out-sets.now a.out-words.now a.out-pos.now a.out-neg.now a.bounds.now in
+    let outs : Source = let a = c.args in source a.out_sets.now a.out_words.now a.out_pos.now a.out_neg.now a.bounds.now in
     let a = c.args in
     step-inside a.st a.line.now a.over a.n a.text.now (dirs) (lent) (outs) a.sheet.now c.if-st-gt0.true
     c.follow.result _ _ _ (c.follow.ensures.bounds_value, c.follow.ensures.sheet_after)
@@ -20,16 +20,16 @@ pub returns-in-Is : goal.returns-in-Is
 returns-in-Is c =
     let dirs : Stores = let a = c.args in stores a.sets.now a.entries.now a.order.now in
     let lent : Cells = let a = c.args in cells a.figures.now a.extremes.now a.pos.now a.neg.now in
-    let outs : Source = let a = c.args in source a.out-sets.now a.out-words.now a.out-pos.now a.out-neg.now a.bounds.now in
+    let outs : Source = let a = c.args in source a.out_sets.now a.out_words.now a.out_pos.now a.out_neg.now a.bounds.now in
     let a = c.args in
     step-begins a.st a.line.now a.over a.n a.text.now (dirs) (lent) (outs) a.sheet.now c.if-st-gt0.false
-    c.asked-1.given.0.0 (sym c.records_in-asked.ensures ∙ c.asked-1.given.1) c.begin.result _ _ c.begin.ensures
+    c.in-Is.records (sym c.records_in-asked.ensures ∙ c.in-Is.is) c.begin.result _ _ c.begin.ensures
 
 pub returns-in-None : goal.returns-in-None
 returns-in-None c =
     let dirs : Stores = let a = c.args in stores a.sets.now a.entries.now a.order.now in
     let lent : Cells = let a = c.args in cells a.figures.now a.extremes.now a.pos.now a.neg.now in
-    let outs : Source = let a = c.args in source a.out-sets.now a.out-words.now a.out-pos.now a.out-neg.now a.bounds.now in
+    let outs : Source = let a = c.args in source a.out_sets.now a.out_words.now a.out_pos.now a.out_neg.now a.bounds.now in
     let a = c.args in
     step-calls a.st a.line.now a.over a.n a.text.now (dirs) (lent) (outs) a.sheet.now c.if-st-gt0.false
-    (sym c.records_in-asked.ensures ∙ c.enum_told-1.given.1) _ c.make.ensures
+    (sym c.records_in-asked.ensures ∙ c.in-None.is) _ c.make.ensures

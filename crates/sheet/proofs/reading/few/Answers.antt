@@ -6,7 +6,7 @@ use Rattle.sheet.proofs.Sheets.{few-none, few-is}
 use Rattle.sheet.proofs.reading.few.Goals as goal
 
 pub returns-then-records-gt-MOST_RECORDS : goal.returns-then-records-gt-MOST_RECORDS
-returns-then-records-gt-MOST_RECORDS c = few-none _ c.if-records-gt-MOST_RECORDS.true ∙ sym (ap few_in c.n-1.given.1)
+returns-then-records-gt-MOST_RECORDS c = few-none _ c.if-records-gt-MOST_RECORDS.true ∙ sym (ap few_in c.in-Is.is)
 
 pub returns : goal.returns
-returns c = few-is _ c.if-records-gt-MOST_RECORDS.false ∙ sym (ap few_in c.n-1.given.1)
+returns c = few-is _ c.if-records-gt-MOST_RECORDS.false ∙ sym (ap few_in c.in-Is.is)

@@ -9,12 +9,12 @@ pub returns-in-Refused : goal.returns-in-Refused
 returns-in-Refused c =
     let listed : Source = let a = c.args in source a.sets.now a.words.now a.pos.now a.neg.now a.bounds.now in
     let a = c.args in
-    show-refused a.bytes.now (listed) (waiting a.n a.text.now) c.read-answer.result _ c.read-answer.ensures _ c.answer-1.given.1 _
+    show-refused a.bytes.now (listed) (waiting a.n a.text.now) c.read-answer.result _ c.read-answer.ensures _ c.in-Refused.is _
     c.refusal.ensures
 
 pub returns-in-Is : goal.returns-in-Is
 returns-in-Is c =
     let listed : Source = let a = c.args in source a.sets.now a.words.now a.pos.now a.neg.now a.bounds.now in
     let a = c.args in
-    show-made a.bytes.now (listed) (waiting a.n a.text.now) c.read-answer.result _ c.read-answer.ensures c.answer-in-Is-1.given.0.0
-    c.answer-in-Is-1.given.1 _ c.collection.ensures
+    show-made a.bytes.now (listed) (waiting a.n a.text.now) c.read-answer.result _ c.read-answer.ensures c.in-Is.listed
+    c.in-Is.is _ c.collection.ensures

@@ -10,11 +10,11 @@ returns-in-Refused c =
     let listed : Source = let a = c.args in source a.sets.now a.words.now a.pos.now a.neg.now a.bounds.now in
     let a = c.args in
     write-refused a.header a.many (listed) a.sheet.now (waiting a.n a.text.now) c.write-answer.result _ c.write-answer.ensures
-    _ c.answer-1.given.1 _ c.refusal.ensures
+    _ c.in-Refused.is _ c.refusal.ensures
 
 pub returns-in-Written : goal.returns-in-Written
 returns-in-Written c =
     let listed : Source = let a = c.args in source a.sets.now a.words.now a.pos.now a.neg.now a.bounds.now in
     let a = c.args in
     write-made a.header a.many (listed) a.sheet.now (waiting a.n a.text.now) c.write-answer.result _ c.write-answer.ensures
-    _ c.answer-in-Written-1.given.1 _ c.front.ensures _ c.sheet_lines.ensures
+    _ c.in-Written.is _ c.front.ensures _ c.sheet_lines.ensures

@@ -1,13 +1,13 @@
 -- `whole_printing::collection` meets its contract: what waits in the end is what the points left give from here. Assumes nothing.
-use Prim.Native.Nat.{ℕ, ◌-◌, ◌≤◌}
-use mathlib.Core.Path.{◌≡◌, sym, ◌∙◌}
+use Prim.Native.Nat.{ℕ}
+use mathlib.Core.Path.{sym, ◌∙◌}
 use mathlib.Core.List.{List}
 use native.Mathlib.Omega.{arith}
 use Rattle.listing.specs.Listed.{Output, output}
 use Rattle.listing.specs.declared.Cursor.{Cursor}
-use Rattle.lines.specs.Gathered.{waiting, ◌behind◌}
+use Rattle.lines.specs.Gathered.{waiting}
 use Rattle.lines.proofs.Gathering.{then}
-use Rattle.printing.specs.Printed.{lines_by, collection_head}
+use Rattle.printing.specs.Printed.{collection_head}
 use Rattle.whole_printing.specs.Printed.{line_at, next_at, collection_lines}
 use Rattle.printing.proofs.Points.{lines_start, lines-turn, lines_end}
 use Rattle.whole_printing.proofs.collection.Goals as goal

@@ -8,7 +8,6 @@ use Rattle.lines.proofs.Gathering.{then, spelt}
 use Rattle.printing.specs.Fields.{joined, listed, float_field}
 use Rattle.whole_printing.specs.Printed.{held_fields}
 use Rattle.printing.proofs.Putting.{a-field, fields, no_field, listed-is}
-use borrow.Author.Rules.{rules}
 use Rattle.whole_printing.proofs.explicit.Goals as goal
 
 pub returns : goal.returns

@@ -10,7 +10,6 @@ use Rattle.lines.proofs.Gathering.{spelt}
 use Rattle.printing.specs.Fields.{integer_field, row_field}
 use Rattle.whole_printing.specs.Printed.{held_fields}
 use Rattle.printing.proofs.Putting.{a-field, fields, no_field}
-use borrow.Author.Rules.{rules}
 use Rattle.whole_printing.proofs.exponential.Goals as goal
 
 pub returns : goal.returns

@@ -5,7 +5,6 @@ use Rattle.lines.specs.Gathered.{waiting}
 use Rattle.lines.specs.Written.{signed}
 use Rattle.lines.proofs.Gathering.{then, spelt}
 use Rattle.integers.proofs.Range.{held}
-use borrow.Author.Rules.{rules}
 use Rattle.whole_printing.proofs.integer.Goals as goal
 
 pub returns : goal.returns

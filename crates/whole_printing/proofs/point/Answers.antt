@@ -5,7 +5,6 @@ use Rattle.lines.specs.Gathered.{waiting}
 use Rattle.lines.proofs.Gathering.{spelt}
 use Rattle.printing.proofs.Putting.{nothing}
 use Rattle.whole_printing.proofs.Points.{none_found, no-set, point-found}
-use borrow.Author.Rules.{rules}
 use Rattle.whole_printing.proofs.point.Goals as goal
 
 pub returns-in_default : goal.returns-in_default

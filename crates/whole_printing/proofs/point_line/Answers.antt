@@ -14,7 +14,6 @@ use Rattle.whole_printing.specs.Printed.{exponential_fields, explicit_fields}
 use Rattle.printing.proofs.Putting.{a-line, a-field}
 use Rattle.whole_printing.proofs.Points.{exponential-line, explicit-line}
 use Rattle.printing.proofs.Sets.{eight}
-use borrow.Author.Rules.{rules}
 use Rattle.whole_printing.proofs.point_line.Goals as goal
 
 pub returns-in-Exponential : goal.returns-in-Exponential

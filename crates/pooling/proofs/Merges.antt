@@ -28,7 +28,7 @@ use Rattle.listing.proofs.Back.{Held}
 use Rattle.pooling.specs.Lists as Lists
 use Rattle.pooling.specs.Lists.{Source, whole_at, has_place, put_merged, pooled_at, Holds}
 use Rattle.pooling.proofs.Whole.{whole-told, whole-lies, bounds-long}
-use Rattle.pooling.proofs.Verdicts.{buckets-are, point, Turned, Taken, verdict, enough}
+use Rattle.pooling.proofs.Verdicts.{buckets-are, Turned, Taken, verdict, enough}
 use Rattle.pooling.proofs.Placed.{Took, is_success, place-says, with-place}
 use Rattle.pooling.proofs.Calls.{both}
 use Rattle.pooling.proofs.PutBack.{set_back, point-there, stored_there}

@@ -31,7 +31,6 @@ use Rattle.listing.specs.Listed as L
 use Rattle.listing.specs.Listed.{Output, pos_len, neg_len, behind, over_at}
 use Rattle.listing.specs.declared.Cursor.{Cursor}
 use Rattle.listing.specs.declared.Span.{Span}
-use Rattle.whole_listing.specs.Words.{words_of}
 use Rattle.whole_listing.specs.Listed.{put_at}
 use Rattle.whole_listing.specs.Inner.{with_numbers}
 use Rattle.whole_listing.proofs.Cases.{kind-least, words-made}

@@ -5,7 +5,6 @@ use Rattle.laws.specs.Said.{refusal}
 use Rattle.listing.specs.Listed.{Output}
 use Rattle.pooling.specs.Lists.{Source, source, nameless, ends}
 use Rattle.pooling.proofs.Calls.{no-set, by-reals, by-wholes, by_mixed, by_mixed_2}
-use borrow.Author.Rules.{rules}
 use Rattle.pooling.proofs.merge_at.Goals as goal
 
 pub returns-then-asets-k : goal.returns-then-asets-k

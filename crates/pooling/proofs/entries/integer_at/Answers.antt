@@ -2,7 +2,6 @@
 use mathlib.Core.Path.{ap, ◌∙◌}
 use lib.ListN.{length}
 use Rattle.pooling.specs.Lists.{bounded_integer}
-use borrow.Author.Rules.{rules}
 use Rattle.pooling.proofs.entries.integer_at.Goals as goal
 
 pub returns : goal.returns

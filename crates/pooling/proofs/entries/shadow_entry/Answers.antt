@@ -1,5 +1,4 @@
 -- `pooling::entries::shadow_entry` meets its contract. Assumes nothing.
-use borrow.Author.Rules.{rules}
 use Rattle.pooling.proofs.entries.shadow_entry.Goals as goal
 
 pub returns : goal.returns

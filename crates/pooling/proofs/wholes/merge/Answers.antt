@@ -4,15 +4,14 @@ use Rattle.listing.specs.Listed.{Output}
 use Rattle.pooling.specs.Lists.{Source, nameless}
 use Rattle.pooling.proofs.Integers.{integer-lies}
 use Rattle.pooling.proofs.Calls.{integers_law}
-use borrow.Author.Rules.{rules}
 use Rattle.pooling.proofs.wholes.merge.Goals as goal
 
 pub pool-requires : goal.pool-requires
 pool-requires c =
     let first : Source = nameless c.args.awords.now c.args.apos.now c.args.aneg.now c.args.abounds.now in
     let second : Source = nameless c.args.bwords.now c.args.bpos.now c.args.bneg.now c.args.bbounds.now in (
-      integer-lies c.args.a (first) c.first-1.given.0.0 (sym c.integer_at-first.ensures ∙ c.first-1.given.1),
-      integer-lies c.args.b (second) c.second-1.given.0.0 (sym c.integer_at-second.ensures ∙ c.second-1.given.1),
+      integer-lies c.args.a (first) c.in-Is.e (sym c.in-Is.ensures),
+      integer-lies c.args.b (second) c.in-Is-second.f (sym c.in-Is-second.ensures),
     )
 
 pub returns-in-NoPoint : goal.returns-in-NoPoint
@@ -21,7 +20,7 @@ returns-in-NoPoint c =
     let second : Source = nameless c.args.bwords.now c.args.bpos.now c.args.bneg.now c.args.bbounds.now in
     let lent : Output = record { sets = c.args.sets.now; words = c.args.words.now; pos = c.args.pos.now; neg = c.args.neg.now } in
     integers_law c.args.size c.args.row c.args.a (first) c.args.b (second) c.args.at (lent) _ _
-    (sym c.enum_told-1.given.1 ∙ c.integer_at-first.ensures) refl
+    c.in-NoPoint.ensures refl
 
 pub returns-in-NoPoint-second : goal.returns-in-NoPoint-second
 returns-in-NoPoint-second c =
@@ -29,7 +28,7 @@ returns-in-NoPoint-second c =
     let second : Source = nameless c.args.bwords.now c.args.bpos.now c.args.bneg.now c.args.bbounds.now in
     let lent : Output = record { sets = c.args.sets.now; words = c.args.words.now; pos = c.args.pos.now; neg = c.args.neg.now } in
     integers_law c.args.size c.args.row c.args.a (first) c.args.b (second) c.args.at (lent) _ _
-    (sym c.first-1.given.1 ∙ c.integer_at-first.ensures) (sym c.enum_told-in-NoPoint-second-1.given.1 ∙ c.integer_at-second.ensures)
+    c.in-Is.ensures c.in-NoPoint-second.ensures
 
 pub returns-in-Is-second : goal.returns-in-Is-second
 returns-in-Is-second c =
@@ -38,4 +37,4 @@ returns-in-Is-second c =
     let lent : Output = record { sets = c.args.sets.now; words = c.args.words.now; pos = c.args.pos.now; neg = c.args.neg.now } in
     c.pool.ensures
     ∙ integers_law c.args.size c.args.row c.args.a (first) c.args.b (second) c.args.at (lent) _ _
-    (sym c.first-1.given.1 ∙ c.integer_at-first.ensures) (sym c.second-1.given.1 ∙ c.integer_at-second.ensures)
+    c.in-Is.ensures c.in-Is-second.ensures

@@ -4,13 +4,11 @@ use Rattle.listing.specs.declared.Entry.{Entry}
 use Rattle.whole_point.proofs.Call.{mixed_law}
 use Rattle.point.specs.Handing.{refusal_before}
 use Rattle.whole_listing.specs.Listed as WL
-use Rattle.listing.specs.Listed.{stored_at}
 use Rattle.pooling.specs.Lists.{Source, nameless}
 use Rattle.pooling.specs.Entries.{whole_in, stored_of}
 use Rattle.pooling.proofs.Whole.{whole-lies}
 use Rattle.pooling.proofs.Integers.{integer-lies}
 use Rattle.pooling.proofs.Calls.{mixed-found}
-use borrow.Author.Rules.{rules}
 use Rattle.pooling.proofs.wholes.mixed.Goals as goal
 
 pub refusal_entries-no-requires : goal.refusal_entries-no-requires
@@ -18,32 +16,32 @@ refusal_entries-no-requires c =
     let first : Source = nameless c.args.awords.now c.args.apos.now c.args.aneg.now c.args.abounds.now in
     let second : Source = nameless c.args.bwords.now c.args.bpos.now c.args.bneg.now c.args.bbounds.now in (
       subst (λ (d : Entry). whole_in c.args.a d c.args.abounds.now c.args.apos.now c.args.aneg.now) (sym c.shadow_entry-x.ensures)
-          (integer-lies c.args.a (first) c.first-1.given.0.0 (sym c.integer_at-first.ensures ∙ c.first-1.given.1)),
-      whole-lies c.args.b (second) c.second-1.given.0.0 (sym c.whole_at-second.ensures ∙ c.second-1.given.1),
+          (integer-lies c.args.a (first) c.in-Is.e (sym c.in-Is.ensures)),
+      whole-lies c.args.b (second) c.in-Is-second.f (sym c.in-Is-second.ensures),
     )
 
 pub returns-in-NoPoint : goal.returns-in-NoPoint
 returns-in-NoPoint c =
     let first : Source = nameless c.args.awords.now c.args.apos.now c.args.aneg.now c.args.abounds.now in
     let second : Source = nameless c.args.bwords.now c.args.bpos.now c.args.bneg.now c.args.bbounds.now in
-    mixed-found c.args.size c.args.a (first) c.args.b (second) _ _ (sym c.enum_told-1.given.1 ∙ c.integer_at-first.ensures) refl
+    mixed-found c.args.size c.args.a (first) c.args.b (second) _ _ c.in-NoPoint.ensures refl
 
 pub returns-in-NoPoint-second : goal.returns-in-NoPoint-second
 returns-in-NoPoint-second c =
     let first : Source = nameless c.args.awords.now c.args.apos.now c.args.aneg.now c.args.abounds.now in
     let second : Source = nameless c.args.bwords.now c.args.bpos.now c.args.bneg.now c.args.bbounds.now in
     mixed-found c.args.size c.args.a (first) c.args.b (second) _ _
-    (sym c.first-1.given.1 ∙ c.integer_at-first.ensures) (sym c.enum_told-in-NoPoint-second-1.given.1 ∙ c.whole_at-second.ensures)
+    c.in-Is.ensures c.in-NoPoint-second.ensures
 
 pub returns-in-Is-second : goal.returns-in-Is-second
 returns-in-Is-second c =
     let first : Source = nameless c.args.awords.now c.args.apos.now c.args.aneg.now c.args.abounds.now in
     let second : Source = nameless c.args.bwords.now c.args.bpos.now c.args.bneg.now c.args.bbounds.now in
     let a = c.args in
-    let y = stored_of a.b c.second-1.given.0.0 a.bbounds.now a.bpos.now a.bneg.now in
+    let y = stored_of a.b c.in-Is-second.f a.bbounds.now a.bpos.now a.bneg.now in
     c.beside.ensures
-    ∙ mixed_law a.size (WL.stored_at a.a c.first-1.given.0.0 (first).bounds (first).list) y c.refusal_entries-no.result
+    ∙ mixed_law a.size (WL.stored_at a.a c.in-Is.e (first).bounds (first).list) y c.refusal_entries-no.result
     (c.refusal_entries-no.ensures
     ∙ (λ i. refusal_before a.size (stored_of a.a (c.shadow_entry-x.ensures i) a.abounds.now a.apos.now a.aneg.now) y))
     ∙ mixed-found a.size a.a (first) a.b (second) _ _
-    (sym c.first-1.given.1 ∙ c.integer_at-first.ensures) (sym c.second-1.given.1 ∙ c.whole_at-second.ensures)
+    c.in-Is.ensures c.in-Is-second.ensures

@@ -20,7 +20,7 @@ use Rattle.pooling.proofs.wholes.pool.Goals as goal
 pub refusal_entries-no-requires : goal.refusal_entries-no-requires
 refusal_entries-no-requires c =
     let Wholes : Entry → Entry → Type 0 = λ d g. whole_in c.args.a d c.args.abounds.now c.args.apos.now c.args.aneg.now × whole_in c.args.b g c.args.bbounds.now c.args.bpos.now c.args.bneg.now in
-    let both-whole : Wholes c.shadow_entry-x.result c.shadow_entry-y.result = 
+    let both-whole : Wholes c.shadow_entry-x.result c.shadow_entry-y.result =
     subst (λ (d : Entry). Wholes d c.shadow_entry-y.result) (sym c.shadow_entry-x.ensures)
     (subst (Wholes (shadow_entry c.args.e)) (sym c.shadow_entry-y.ensures) c.requires) in
     both-whole
@@ -28,7 +28,7 @@ refusal_entries-no-requires c =
 pub pool-r-requires : goal.pool-r-requires
 pool-r-requires c =
     let Wholes : Entry → Entry → Type 0 = λ d g. whole_in c.args.a d c.args.abounds.now c.args.apos.now c.args.aneg.now × whole_in c.args.b g c.args.bbounds.now c.args.bpos.now c.args.bneg.now in
-    let both-whole : Wholes c.shadow_entry-x.result c.shadow_entry-y.result = 
+    let both-whole : Wholes c.shadow_entry-x.result c.shadow_entry-y.result =
     subst (λ (d : Entry). Wholes d c.shadow_entry-y.result) (sym c.shadow_entry-x.ensures)
     (subst (Wholes (shadow_entry c.args.e)) (sym c.shadow_entry-y.ensures) c.requires) in
     both-whole
@@ -41,7 +41,7 @@ renumber-requires c =
     let long : length (first).bounds ≡ c.args.e.bounds.len = bounds-long c.args.e.bounds c.args.abounds.now c.requires.0.bounds in
     let left : Output = record { sets = c.pool-r.new.sets; words = c.pool-r.new.words; pos = c.pool-r.new.pos; neg = c.pool-r.new.neg } in
     let pooled-shadows : (let a = c.args in
-    ends (said c.pool-r.result) (left) ≡ pooled a.size a.row a.e.bounds (shadow_stored (first)) (shadow_stored (second)) a.at (lent)) = 
+    ends (said c.pool-r.result) (left) ≡ pooled a.size a.row a.e.bounds (shadow_stored (first)) (shadow_stored (second)) a.at (lent)) =
     let a = c.args in
     c.pool-r.ensures
     ∙ (λ i. pooled a.size a.row (c.shadow_entry-x.ensures i).bounds (stored_of a.a (c.shadow_entry-x.ensures i) a.abounds.now a.apos.now a.aneg.now)
@@ -54,11 +54,11 @@ returns-in-Outside c =
     let first : Stored = whole_of c.args.a c.args.e c.args.abounds.now c.args.apos.now c.args.aneg.now in
     let second : Stored = whole_of c.args.b c.args.f c.args.bbounds.now c.args.bpos.now c.args.bneg.now in
     let lent : Output = record { sets = c.args.sets.now; words = c.args.words.now; pos = c.args.pos.now; neg = c.args.neg.now } in
-    let first-sum : SFits w64 c.args.e.point.sum = search (rules, c.struct_told-1.given) in
-    let second-sum : SFits w64 c.args.f.point.sum = search (rules, c.struct_told-2-1.given) in
+    let first-sum : SFits w64 c.args.e.point.sum = search rules in
+    let second-sum : SFits w64 c.args.f.point.sum = search rules in
     let told : c.sum-total.result ≡ sum_of (first).point.sum (second).point.sum = c.sum-total.ensures ∙ (λ j. sum_of (held c.args.e.point.sum (first-sum) j) (held c.args.f.point.sum (second-sum) j)) in
     let a = c.args in
-    outside-pooled a.size a.row a.e.bounds (first) (second) a.at (lent) (sym (told) ∙ c.enum_told-1.given.1)
+    outside-pooled a.size a.row a.e.bounds (first) (second) a.at (lent) (sym (told) ∙ c.in-Outside.is)
     c.refusal_entries-no.result c.last_number-n.result
     (c.refusal_entries-no.ensures
     ∙ (λ i. refusal_before a.size (stored_of a.a (c.shadow_entry-x.ensures i) a.abounds.now a.apos.now a.aneg.now)
@@ -72,20 +72,20 @@ returns-in-Is c =
     let second : Stored = whole_of c.args.b c.args.f c.args.bbounds.now c.args.bpos.now c.args.bneg.now in
     let lent : Output = record { sets = c.args.sets.now; words = c.args.words.now; pos = c.args.pos.now; neg = c.args.neg.now } in
     let long : length (first).bounds ≡ c.args.e.bounds.len = bounds-long c.args.e.bounds c.args.abounds.now c.requires.0.bounds in
-    let first-sum : SFits w64 c.args.e.point.sum = search (rules, c.struct_told-1.given) in
-    let second-sum : SFits w64 c.args.f.point.sum = search (rules, c.struct_told-2-1.given) in
+    let first-sum : SFits w64 c.args.e.point.sum = search rules in
+    let second-sum : SFits w64 c.args.f.point.sum = search rules in
     let told : c.sum-total.result ≡ sum_of (first).point.sum (second).point.sum = c.sum-total.ensures ∙ (λ j. sum_of (held c.args.e.point.sum (first-sum) j) (held c.args.f.point.sum (second-sum) j)) in
     let pooled-shadows : (let a = c.args in
-    ends (said c.pool-r.result) (left) ≡ pooled a.size a.row a.e.bounds (shadow_stored (first)) (shadow_stored (second)) a.at (lent)) = 
+    ends (said c.pool-r.result) (left) ≡ pooled a.size a.row a.e.bounds (shadow_stored (first)) (shadow_stored (second)) a.at (lent)) =
     let a = c.args in
     c.pool-r.ensures
     ∙ (λ i. pooled a.size a.row (c.shadow_entry-x.ensures i).bounds (stored_of a.a (c.shadow_entry-x.ensures i) a.abounds.now a.apos.now a.aneg.now)
     (stored_of a.b (c.shadow_entry-y.ensures i) a.bbounds.now a.bpos.now a.bneg.now) a.at (lent)) in
-    let whole_sum : SFits w64 c.total-1.given.0.0 = search rules in
+    let whole_sum : SFits w64 c.in-Is.s = search rules in
     let a = c.args in
     let o = left in
-    ap (λ (q : Pooled). ends (said q) (record { sets = o.sets; c.renumber.new.words = c.renumber.new.words; pos = o.pos; neg = o.neg })) c.renumber.ensures.0
-    ∙ inside-pooled a.size a.row a.e.bounds (first) (second) a.at (lent) (long) c.total-1.given.0.0 (sym (told) ∙ c.total-1.given.1)
+    ap (λ (q : Pooled). ends (said q) (record { sets = o.sets; words = c.renumber.new.words; pos = o.pos; neg = o.neg })) c.renumber.ensures.0
+    ∙ inside-pooled a.size a.row a.e.bounds (first) (second) a.at (lent) (long) c.in-Is.s (sym (told) ∙ c.in-Is.is)
     (said c.pool-r.result) o c.renumber.new.words (pooled-shadows)
     (c.renumber.ensures.1
-    ∙ (λ i. renumbered a.at.place (c.smaller-min.ensures i) (c.larger-max.ensures i) (held c.total-1.given.0.0 (whole_sum) i) (said c.pool-r.result) o.words))
+    ∙ (λ i. renumbered a.at.place (c.smaller-min.ensures i) (c.larger-max.ensures i) (held c.in-Is.s (whole_sum) i) (said c.pool-r.result) o.words))

@@ -1,13 +1,11 @@
 -- `pooling::write::pool` meets its contract. Assumes nothing.
 use Prim.Native.Nat.{◌≤◌, ◌<◌}
-use mathlib.Core.Path.{◌≡◌, sym, ap, ◌∙◌}
+use mathlib.Core.Path.{◌≡◌, sym, ◌∙◌}
 use mathlib.Core.Bool.{true}
 use native.Mathlib.Omega.{arith}
-use borrow.Author.Tests.{not-true, not-false}
 use borrow.Author.Rules.{rules}
 use lib.ListN.{length}
-use Rattle.point.specs.declared.Answer.{Answer}
-use Rattle.point.specs.Handing.{Stored, said, ended}
+use Rattle.point.specs.Handing.{Stored}
 use Rattle.listing.specs.Listed.{Output}
 use Rattle.pooling.specs.Entries.{stored_of}
 use Rattle.pooling.proofs.Whole.{bounds-long}
@@ -21,7 +19,16 @@ offset_bounds-pos-i c =
     λ t. place-says c.args.at (length c.args.sets.now) (length c.args.words.now) (length c.args.pos.now) (length c.args.neg.now)
     (sym c.has_place-ok.ensures ∙ t) in
     let pos-in : c.start_of-i.result ≤ length c.args.pos.now = start-le c.has_place-ok.result c.args.at.pos (length c.args.pos.now) c.start_of-i.result (λ t. (place t).2) c.start_of-i.ensures in
-    omega (arith, pos-in, c.well-formed.1.1.1.1.1.1.1.1.1.1.1.1.1.1.1.0.1)
+    search rules
+
+pub offset_bounds-neg-j : goal.offset_bounds-neg-j
+offset_bounds-neg-j c =
+    let place : c.has_place-ok.result ≡ true → (c.args.at.place < length c.args.sets.now) × (c.args.at.place < length c.args.words.now)
+    × (c.args.at.pos ≤ length c.args.pos.now) × (c.args.at.neg ≤ length c.args.neg.now) =
+    λ t. place-says c.args.at (length c.args.sets.now) (length c.args.words.now) (length c.args.pos.now) (length c.args.neg.now)
+    (sym c.has_place-ok.ensures ∙ t) in
+    let neg-in : c.start_of-j.result ≤ length c.args.neg.now = start-le c.has_place-ok.result c.args.at.neg (length c.args.neg.now) c.start_of-j.result (λ t. (place t).3) c.start_of-j.ensures in
+    search rules
 
 pub slice_bounds-merge_entries-count : goal.slice_bounds-merge_entries-count
 slice_bounds-merge_entries-count c =
@@ -40,15 +47,6 @@ slice_bounds-merge_entries-start c =
     (sym c.has_place-ok.ensures ∙ t) in
     let pos-in : c.start_of-i.result ≤ length c.args.pos.now = start-le c.has_place-ok.result c.args.at.pos (length c.args.pos.now) c.start_of-i.result (λ t. (place t).2) c.start_of-i.ensures in
     pos-in
-
-pub offset_bounds-neg-j : goal.offset_bounds-neg-j
-offset_bounds-neg-j c =
-    let place : c.has_place-ok.result ≡ true → (c.args.at.place < length c.args.sets.now) × (c.args.at.place < length c.args.words.now)
-    × (c.args.at.pos ≤ length c.args.pos.now) × (c.args.at.neg ≤ length c.args.neg.now) =
-    λ t. place-says c.args.at (length c.args.sets.now) (length c.args.words.now) (length c.args.pos.now) (length c.args.neg.now)
-    (sym c.has_place-ok.ensures ∙ t) in
-    let neg-in : c.start_of-j.result ≤ length c.args.neg.now = start-le c.has_place-ok.result c.args.at.neg (length c.args.neg.now) c.start_of-j.result (λ t. (place t).3) c.start_of-j.ensures in
-    omega (arith, neg-in, c.well-formed.1.1.1.1.1.1.1.1.1.1.1.1.1.1.1.1.0.1)
 
 pub slice_bounds-merge_entries-count-2 : goal.slice_bounds-merge_entries-count-2
 slice_bounds-merge_entries-count-2 c =
@@ -75,8 +73,8 @@ returns-then-not-ok c =
     let long : length (first).bounds ≡ c.args.e.bounds.len = bounds-long c.args.e.bounds c.args.abounds.now c.requires.0.bounds in
     let lent : Output = record { sets = c.args.sets.now; words = c.args.words.now; pos = c.args.pos.now; neg = c.args.neg.now } in
     placeless_law c.args.size (first) (second) c.args.at c.args.row c.args.e.bounds (long) (lent) c.start_of-i.result c.start_of-j.result
-    c.has_place-ok.result c.has_place-ok.ensures c.start_of-i.ensures c.start_of-j.ensures c.merge_entries-r.new.pos c.merge_entries-r.new.neg c.r-in-Merged-1.given.0.0
-    (ap (λ (k : Answer). ended (said k) (first).bounds c.merge_entries-r.new.pos c.merge_entries-r.new.neg) (sym c.r-in-Merged-1.given.1) ∙ c.merge_entries-r.ensures) (not-true c.has_place-ok.result c.if-not-ok.true)
+    c.has_place-ok.result c.has_place-ok.ensures c.start_of-i.ensures c.start_of-j.ensures c.merge_entries-r.new.pos c.merge_entries-r.new.neg c.in-Merged.p
+    c.in-Merged.ensures (c.if-not-ok.true)
 
 pub cursor_behind-next-requires : goal.cursor_behind-next-requires
 cursor_behind-next-requires c =
@@ -90,48 +88,12 @@ cursor_behind-next-requires c =
     (sym c.has_place-ok.ensures ∙ t) in
     let pos-in : c.start_of-i.result ≤ length c.args.pos.now = start-le c.has_place-ok.result c.args.at.pos (length c.args.pos.now) c.start_of-i.result (λ t. (place t).2) c.start_of-i.ensures in
     let neg-in : c.start_of-j.result ≤ length c.args.neg.now = start-le c.has_place-ok.result c.args.at.neg (length c.args.neg.now) c.start_of-j.result (λ t. (place t).3) c.start_of-j.ensures in
-    let t = not-false c.has_place-ok.result c.if-not-ok.false in
+    let t = c.if-not-ok.false in
     goes c.args.size (first) (second) c.args.at c.args.row c.args.e.bounds (long) (lent) c.start_of-i.result c.start_of-j.result
-    c.has_place-ok.result c.has_place-ok.ensures c.start_of-i.ensures c.start_of-j.ensures c.merge_entries-r.new.pos c.merge_entries-r.new.neg c.r-in-Merged-1.given.0.0
-    (ap (λ (k : Answer). ended (said k) (first).bounds c.merge_entries-r.new.pos c.merge_entries-r.new.neg) (sym c.r-in-Merged-1.given.1) ∙ c.merge_entries-r.ensures) t
-    (omega (arith, (place t).0, c.good.1.1.1.1.1.1.1.1.1.1.1.1.1.0.1)) (pos-in) (neg-in)
-    (omega (arith, c.good.1.1.1.1.1.1.1.1.1.1.1.1.1.1.1.0.1)) (omega (arith, c.good.1.1.1.1.1.1.1.1.1.1.1.1.1.1.1.1.0.1))
-
-pub offset_bounds-sets-k : goal.offset_bounds-sets-k
-offset_bounds-sets-k c =
-    let place : c.has_place-ok.result ≡ true → (c.args.at.place < length c.args.sets.now) × (c.args.at.place < length c.args.words.now)
-    × (c.args.at.pos ≤ length c.args.pos.now) × (c.args.at.neg ≤ length c.args.neg.now) =
-    λ t. place-says c.args.at (length c.args.sets.now) (length c.args.words.now) (length c.args.pos.now) (length c.args.neg.now)
-    (sym c.has_place-ok.ensures ∙ t) in
-    let there : c.has_place-ok.result ≡ true = not-false c.has_place-ok.result c.if-not-ok.false in
-    omega (arith, (place (there)).0, c.well-formed.1.1.1.1.1.1.1.1.1.1.1.1.1.0.1)
-
-pub bounds-sets-k : goal.bounds-sets-k
-bounds-sets-k c =
-    let place : c.has_place-ok.result ≡ true → (c.args.at.place < length c.args.sets.now) × (c.args.at.place < length c.args.words.now)
-    × (c.args.at.pos ≤ length c.args.pos.now) × (c.args.at.neg ≤ length c.args.neg.now) =
-    λ t. place-says c.args.at (length c.args.sets.now) (length c.args.words.now) (length c.args.pos.now) (length c.args.neg.now)
-    (sym c.has_place-ok.ensures ∙ t) in
-    let there : c.has_place-ok.result ≡ true = not-false c.has_place-ok.result c.if-not-ok.false in
-    (place (there)).0
-
-pub offset_bounds-words-k : goal.offset_bounds-words-k
-offset_bounds-words-k c =
-    let place : c.has_place-ok.result ≡ true → (c.args.at.place < length c.args.sets.now) × (c.args.at.place < length c.args.words.now)
-    × (c.args.at.pos ≤ length c.args.pos.now) × (c.args.at.neg ≤ length c.args.neg.now) =
-    λ t. place-says c.args.at (length c.args.sets.now) (length c.args.words.now) (length c.args.pos.now) (length c.args.neg.now)
-    (sym c.has_place-ok.ensures ∙ t) in
-    let there : c.has_place-ok.result ≡ true = not-false c.has_place-ok.result c.if-not-ok.false in
-    omega (arith, (place (there)).1, c.well-formed.1.1.1.1.1.1.1.1.1.1.1.1.1.1.0.1)
-
-pub bounds-words-k : goal.bounds-words-k
-bounds-words-k c =
-    let place : c.has_place-ok.result ≡ true → (c.args.at.place < length c.args.sets.now) × (c.args.at.place < length c.args.words.now)
-    × (c.args.at.pos ≤ length c.args.pos.now) × (c.args.at.neg ≤ length c.args.neg.now) =
-    λ t. place-says c.args.at (length c.args.sets.now) (length c.args.words.now) (length c.args.pos.now) (length c.args.neg.now)
-    (sym c.has_place-ok.ensures ∙ t) in
-    let there : c.has_place-ok.result ≡ true = not-false c.has_place-ok.result c.if-not-ok.false in
-    (place (there)).1
+    c.has_place-ok.result c.has_place-ok.ensures c.start_of-i.ensures c.start_of-j.ensures c.merge_entries-r.new.pos c.merge_entries-r.new.neg c.in-Merged.p
+    c.in-Merged.ensures t
+    (omega (arith, (place t).0)) (pos-in) (neg-in)
+    (omega (arith)) (omega (arith))
 
 pub returns-in-Refused : goal.returns-in-Refused
 returns-in-Refused c =
@@ -140,8 +102,8 @@ returns-in-Refused c =
     let long : length (first).bounds ≡ c.args.e.bounds.len = bounds-long c.args.e.bounds c.args.abounds.now c.requires.0.bounds in
     let lent : Output = record { sets = c.args.sets.now; words = c.args.words.now; pos = c.args.pos.now; neg = c.args.neg.now } in
     refused_law c.args.size (first) (second) c.args.at c.args.row c.args.e.bounds (long) (lent) c.start_of-i.result c.start_of-j.result
-    c.has_place-ok.result c.has_place-ok.ensures c.start_of-i.ensures c.start_of-j.ensures c.merge_entries-r.new.pos c.merge_entries-r.new.neg c.r-1.given.0.0
-    (ap (λ (k : Answer). ended (said k) (first).bounds c.merge_entries-r.new.pos c.merge_entries-r.new.neg) (sym c.r-1.given.1) ∙ c.merge_entries-r.ensures)
+    c.has_place-ok.result c.has_place-ok.ensures c.start_of-i.ensures c.start_of-j.ensures c.merge_entries-r.new.pos c.merge_entries-r.new.neg c.in-Refused.n
+    c.in-Refused.ensures
 
 pub returns-else-not-ok : goal.returns-else-not-ok
 returns-else-not-ok c =
@@ -149,8 +111,8 @@ returns-else-not-ok c =
     let second : Stored = stored_of c.args.b c.args.f c.args.bbounds.now c.args.bpos.now c.args.bneg.now in
     let long : length (first).bounds ≡ c.args.e.bounds.len = bounds-long c.args.e.bounds c.args.abounds.now c.requires.0.bounds in
     let lent : Output = record { sets = c.args.sets.now; words = c.args.words.now; pos = c.args.pos.now; neg = c.args.neg.now } in
-    let there : c.has_place-ok.result ≡ true = not-false c.has_place-ok.result c.if-not-ok.false in
+    let there : c.has_place-ok.result ≡ true = c.if-not-ok.false in
     accepted_law c.args.size (first) (second) c.args.at c.args.row c.args.e.bounds (long) (lent) c.start_of-i.result c.start_of-j.result
-    c.has_place-ok.result c.has_place-ok.ensures c.start_of-i.ensures c.start_of-j.ensures c.merge_entries-r.new.pos c.merge_entries-r.new.neg c.r-in-Merged-1.given.0.0
-    (ap (λ (k : Answer). ended (said k) (first).bounds c.merge_entries-r.new.pos c.merge_entries-r.new.neg) (sym c.r-in-Merged-1.given.1) ∙ c.merge_entries-r.ensures) (there)
+    c.has_place-ok.result c.has_place-ok.ensures c.start_of-i.ensures c.start_of-j.ensures c.merge_entries-r.new.pos c.merge_entries-r.new.neg c.in-Merged.p
+    c.in-Merged.ensures (there)
     c.words_of.result c.cursor_behind-next.result c.words_of.ensures c.cursor_behind-next.ensures

@@ -10,20 +10,20 @@ returns-then-s-ne120 c = follows-none _ _ _ _ _ _ (ne_eqb _ _ c.if-s-ne120.true)
 
 pub returns-in-110 : goal.returns-in-110
 returns-in-110 c =
-    c.configure.ensures ∙ follows-n _ _ _ _ _ _ (eq-eqb _ _ c.if-s-ne120.false) c.in-110.keys1
+    c.configure.ensures ∙ follows-n _ _ _ _ _ _ (eq-eqb _ _ c.if-s-ne120.false) c.in-110.is
 
 pub returns-in-114 : goal.returns-in-114
 returns-in-114 c =
-    c.measure.ensures ∙ follows-r _ _ _ _ _ _ (eq-eqb _ _ c.if-s-ne120.false) c.in-114.keys2
+    c.measure.ensures ∙ follows-r _ _ _ _ _ _ (eq-eqb _ _ c.if-s-ne120.false) c.in-114.is
 
 pub returns-in-104 : goal.returns-in-104
 returns-in-104 c =
-    c.measure_by.ensures ∙ follows-h _ _ _ _ _ _ (eq-eqb _ _ c.if-s-ne120.false) c.in-104.keys3
+    c.measure_by.ensures ∙ follows-h _ _ _ _ _ _ (eq-eqb _ _ c.if-s-ne120.false) c.in-104.is
 
 pub returns-in-98 : goal.returns-in-98
 returns-in-98 c =
-    c.bind.ensures ∙ follows-b-u _ _ _ _ _ _ (eq-eqb _ _ c.if-s-ne120.false) c.in-98.keys4
+    c.bind.ensures ∙ follows-b-u _ _ _ _ _ _ (eq-eqb _ _ c.if-s-ne120.false) c.in-98.is
 
 pub returns-in_default : goal.returns-in_default
 returns-in_default c =
-    follows-other _ _ _ _ _ _ (eq-eqb _ _ c.if-s-ne120.false) c.in_default.rest.0.0.0.1 c.in_default.rest.0.0.1 c.in_default.rest.0.1 c.in_default.rest.1
+    follows-other _ _ _ _ _ _ (eq-eqb _ _ c.if-s-ne120.false) c.in_default.in_default-own.rest.0.0.0.1 c.in_default.in_default-own.rest.0.0.1 c.in_default.in_default-own.rest.0.1 c.in_default.in_default-own.rest.1

@@ -15,24 +15,24 @@ returns-then-not-is_single c =
 pub returns-in-110 : goal.returns-in-110
 returns-in-110 c =
     let of-these : single c.args.s.of ≡ true = sym c.is_single.ensures ∙ c.if-not-is_single.false in
-    c.configure.ensures ∙ follows-n _ _ _ _ _ _ (of-these) c.in-110.keys1
+    c.configure.ensures ∙ follows-n _ _ _ _ _ _ (of-these) c.in-110.is
 
 pub returns-in-114 : goal.returns-in-114
 returns-in-114 c =
     let of-these : single c.args.s.of ≡ true = sym c.is_single.ensures ∙ c.if-not-is_single.false in
-    c.measure.ensures ∙ follows-r _ _ _ _ _ _ (of-these) c.in-114.keys2
+    c.measure.ensures ∙ follows-r _ _ _ _ _ _ (of-these) c.in-114.is
 
 pub returns-in-104 : goal.returns-in-104
 returns-in-104 c =
     let of-these : single c.args.s.of ≡ true = sym c.is_single.ensures ∙ c.if-not-is_single.false in
-    c.measure_by.ensures ∙ follows-h _ _ _ _ _ _ (of-these) c.in-104.keys3
+    c.measure_by.ensures ∙ follows-h _ _ _ _ _ _ (of-these) c.in-104.is
 
 pub returns-in-98 : goal.returns-in-98
 returns-in-98 c =
     let of-these : single c.args.s.of ≡ true = sym c.is_single.ensures ∙ c.if-not-is_single.false in
-    c.bind.ensures ∙ follows-b-u _ _ _ _ _ _ (of-these) c.in-98.keys4
+    c.bind.ensures ∙ follows-b-u _ _ _ _ _ _ (of-these) c.in-98.is
 
 pub returns-in_default : goal.returns-in_default
 returns-in_default c =
     let of-these : single c.args.s.of ≡ true = sym c.is_single.ensures ∙ c.if-not-is_single.false in
-    follows-other _ _ _ _ _ _ (of-these) c.in_default.rest.0.0.0.1 c.in_default.rest.0.0.1 c.in_default.rest.0.1 c.in_default.rest.1
+    follows-other _ _ _ _ _ _ (of-these) c.in_default.in_default-own.rest.0.0.0.1 c.in_default.in_default-own.rest.0.0.1 c.in_default.in_default-own.rest.0.1 c.in_default.in_default-own.rest.1

@@ -10,12 +10,12 @@ returns-then-s-ne120 c = batches-none _ _ _ (ne_eqb _ _ c.if-s-ne120.true)
 
 pub returns-in-82 : goal.returns-in-82
 returns-in-82 c =
-    c.measure_all.ensures ∙ batches-set _ _ _ (eq-eqb _ _ c.if-s-ne120.false) c.in-82.keys1
+    c.measure_all.ensures ∙ batches-set _ _ _ (eq-eqb _ _ c.if-s-ne120.false) c.in-82.is
 
 pub returns-in-72 : goal.returns-in-72
 returns-in-72 c =
-    c.measure_all_by.ensures ∙ batches-handle _ _ _ (eq-eqb _ _ c.if-s-ne120.false) c.in-72.keys2
+    c.measure_all_by.ensures ∙ batches-handle _ _ _ (eq-eqb _ _ c.if-s-ne120.false) c.in-72.is
 
 pub returns-in_default : goal.returns-in_default
 returns-in_default c =
-    batches-other _ _ _ (eq-eqb _ _ c.if-s-ne120.false) c.in_default.rest.0.1 c.in_default.rest.1
+    batches-other _ _ _ (eq-eqb _ _ c.if-s-ne120.false) c.in_default.in_default-own.rest.0.1 c.in_default.in_default-own.rest.1

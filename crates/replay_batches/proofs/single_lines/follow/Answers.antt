@@ -15,14 +15,14 @@ returns-then-not-is_single c =
 pub returns-in-82 : goal.returns-in-82
 returns-in-82 c =
     let of-these : single c.args.s.of ≡ true = sym c.is_single.ensures ∙ c.if-not-is_single.false in
-    c.measure_all.ensures ∙ batches-set _ _ _ (of-these) c.in-82.keys1
+    c.measure_all.ensures ∙ batches-set _ _ _ (of-these) c.in-82.is
 
 pub returns-in-72 : goal.returns-in-72
 returns-in-72 c =
     let of-these : single c.args.s.of ≡ true = sym c.is_single.ensures ∙ c.if-not-is_single.false in
-    c.measure_all_by.ensures ∙ batches-handle _ _ _ (of-these) c.in-72.keys2
+    c.measure_all_by.ensures ∙ batches-handle _ _ _ (of-these) c.in-72.is
 
 pub returns-in_default : goal.returns-in_default
 returns-in_default c =
     let of-these : single c.args.s.of ≡ true = sym c.is_single.ensures ∙ c.if-not-is_single.false in
-    batches-other _ _ _ (of-these) c.in_default.rest.0.1 c.in_default.rest.1
+    batches-other _ _ _ (of-these) c.in_default.in_default-own.rest.0.1 c.in_default.in_default-own.rest.1

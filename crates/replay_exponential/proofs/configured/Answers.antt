@@ -1,6 +1,5 @@
 -- `replay_exponential::configured` meets its contract. Assumes nothing.
 use mathlib.Core.Path.{sym, ap, ◌∙◌}
-use borrow.Author.Rules.{rules}
 use Rattle.exponential_collection.specs.Configured.{said}
 use Rattle.exponential_collection.specs.declared.Configured.{Configured}
 use Rattle.replay_exponential.specs.Followed.{configured_by}

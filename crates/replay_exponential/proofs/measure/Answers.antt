@@ -1,6 +1,5 @@
 -- `replay_exponential::measure` meets its contract. Assumes nothing.
 use mathlib.Core.Path.{◌∙◌}
-use borrow.Author.Rules.{rules}
 use Rattle.replay_state.proofs.Same.{stores-are}
 use Rattle.replay_exponential.proofs.Calls.{same-cells, measures}
 use Rattle.replay_exponential.proofs.measure.Goals as goal

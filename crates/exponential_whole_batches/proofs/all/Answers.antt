@@ -1,5 +1,4 @@
 -- `exponential_whole_batches::all` meets its contract. Assumes nothing.
-use borrow.Author.Rules.{rules}
 use Prim.Native.Nat.{ℕ, ◌^◌, ◌<◌}
 use mathlib.Core.Path.{◌≡◌, ap, ◌∙◌}
 use mathlib.Core.Bool.{true}
@@ -47,7 +46,7 @@ take_all-got-requires c =
     let some : 0 < length c.args.values.now = omega (arith, c.if-values-eq0.false) in
     let asked : (let a = c.args in c.seat_if-seat.result.no ≡ 0
     → Asks a.known a.size a.top a.sums c.seat_if-seat.result.slot c.seat_if-seat.result.updated (lent_map).cells a.values.now) =
-    let a = c.args in
+    λ z. let a = c.args in
     let t = for-takes (owed a.size a.top a.sums) true a.limit (filter) (lent_map) (attrs) c.all_lent.ensures (one) (c.slots_of-slots.ensures a.limit) (first_taken) c.unset_of-unset.ensures c.seat_if-seat.ensures.value a.known c.requires z in
     record {
       room = t.1;

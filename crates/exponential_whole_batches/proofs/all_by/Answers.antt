@@ -1,5 +1,4 @@
 -- `exponential_whole_batches::all_by` meets its contract. Assumes nothing.
-use borrow.Author.Rules.{rules}
 use Prim.Native.Nat.{◌^◌, ◌<◌}
 use mathlib.Core.Path.{◌≡◌, ap, ◌∙◌}
 use mathlib.Core.Bool.{true}
@@ -37,7 +36,7 @@ take_all-got-requires c =
     let some : 0 < length c.args.values.now = omega (arith, c.if-values-eq0.false) in
     let asked : (let a = c.args in c.seat_by_if-seat.result.no ≡ 0
     → Asks a.known a.size a.top a.sums c.seat_by_if-seat.result.slot c.seat_by_if-seat.result.updated (lent_map).cells a.values.now) =
-    let a = c.args in
+    λ z. let a = c.args in
     let t = by-takes (owed a.size a.top a.sums) true a.limit (lent_map) a.h (one) (c.slots_of-slots.ensures a.limit) (first_taken) c.unset_of-unset.ensures c.seat_by_if-seat.ensures a.known c.requires z in
     record {
       room = t.1;

@@ -1,5 +1,4 @@
 -- `exponential_whole_batches::measure_agreed` meets its contract: a list of one value is the single call. Assumes nothing.
-use borrow.Author.Rules.{rules}
 use mathlib.Core.Path.{ap, ◌∙◌}
 use mathlib.Core.List.{[], ◌∷◌}
 use lib.IntN.{ℤ}
@@ -19,4 +18,4 @@ returns c =
     let a = c.args in
     let S = exponential_wholes a.size a.top a.sums in
     one_for S a.limit (lent_map) a.v c.all-got.result c.single.result c.single.ensures _ _ (filter_of a.present a.filter.now) (given a.attrs.now)
-    (c.all-got.ensures ∙ ap (λ (z : ℤ). measured_all S a.limit (filter_of a.present a.filter.now) (lent_map) (z ∷ []) (given a.attrs.now)) (Range.held a.v c.fits.v))
+    (c.all-got.ensures ∙ ap (λ (z : ℤ). measured_all S a.limit (filter_of a.present a.filter.now) (lent_map) (z ∷ []) (given a.attrs.now)) (Range.held a.v c.ranges.v))

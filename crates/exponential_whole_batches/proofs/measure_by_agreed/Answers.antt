@@ -1,5 +1,4 @@
 -- `exponential_whole_batches::measure_by_agreed` meets its contract: a list of one value is the single call. Assumes nothing.
-use borrow.Author.Rules.{rules}
 use mathlib.Core.Path.{ap, ◌∙◌}
 use mathlib.Core.List.{[], ◌∷◌}
 use lib.IntN.{ℤ}
@@ -18,4 +17,4 @@ returns c =
     let a = c.args in
     let S = exponential_wholes a.size a.top a.sums in
     one-by S a.limit (lent_map) a.v c.all_by-got.result c.single.result c.single.ensures _ _ a.h
-    (c.all_by-got.ensures ∙ ap (λ (z : ℤ). measured_all_by S a.limit (lent_map) (z ∷ []) a.h) (Range.held a.v c.fits.v))
+    (c.all_by-got.ensures ∙ ap (λ (z : ℤ). measured_all_by S a.limit (lent_map) (z ∷ []) a.h) (Range.held a.v c.ranges.v))

@@ -1,5 +1,4 @@
 -- `exponential_whole_batches::take_all` meets its contract. Assumes nothing.
-use borrow.Author.Rules.{rules}
 use mathlib.Core.Path.{sym, ◌∙◌}
 use Rattle.exponential_whole_slots.specs.Cells.{Cells, cells}
 use Rattle.batches.proofs.Batches.{stop-on, stop-off}

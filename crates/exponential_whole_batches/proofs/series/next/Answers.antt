@@ -23,42 +23,42 @@ returns-then-c c =
 
 pub count_in-more-requires : goal.count_in-more-requires
 count_in-more-requires c =
-    let near : c.nearest-x.result ≡ nearest_of c.args.v = c.nearest-x.ensures ∙ ap nearest_of (held c.args.v c.fits.v) in
+    let near : c.nearest-x.result ≡ nearest_of c.args.v = c.nearest-x.ensures ∙ ap nearest_of (held c.args.v c.ranges.v) in
     let lent : Series = let a = c.args in series a.head a.pos.now a.neg.now in
     let a = c.args in
     (λ j. E.refusal_of a.size a.top (c.under_counts-h.ensures j) a.pos.now a.neg.now (near j))
-    ∙ free a.size a.top a.sums (lent) a.v c.fits.v c.requires c.if-c.false
+    ∙ free a.size a.top a.sums (lent) a.v c.ranges.v c.requires c.if-c.false
 
 pub returns-in-Outside : goal.returns-in-Outside
 returns-in-Outside c =
     let lent : Series = let a = c.args in series a.head a.pos.now a.neg.now in
     let summed : (let a = c.args in c.kept_sum-total.result ≡ kept_sum a.sums a.head.sum a.v) =
     let f : SFits w64 c.args.head.sum = search rules in
-    c.kept_sum-total.ensures ∙ (λ j. kept_sum c.args.sums (held c.args.head.sum f j) (held c.args.v c.fits.v j)) in
+    c.kept_sum-total.ensures ∙ (λ j. kept_sum c.args.sums (held c.args.head.sum f j) (held c.args.v c.ranges.v j)) in
     let a = c.args in
-    outside a.size a.top a.sums (lent) a.v c.fits.v c.requires c.if-c.false (sym (summed) ∙ c.enum_told-1.given.1)
+    outside a.size a.top a.sums (lent) a.v c.ranges.v c.requires c.if-c.false (sym (summed) ∙ c.in-Outside.is)
 
 pub returns-in-Is : goal.returns-in-Is
 returns-in-Is c =
     let lent : Series = let a = c.args in series a.head a.pos.now a.neg.now in
     let summed : (let a = c.args in c.kept_sum-total.result ≡ kept_sum a.sums a.head.sum a.v) =
     let f : SFits w64 c.args.head.sum = search rules in
-    c.kept_sum-total.ensures ∙ (λ j. kept_sum c.args.sums (held c.args.head.sum f j) (held c.args.v c.fits.v j)) in
-    let whole_sum : SFits w64 c.total-1.given.0.0 = search rules in
-    let near : c.nearest-x.result ≡ nearest_of c.args.v = c.nearest-x.ensures ∙ ap nearest_of (held c.args.v c.fits.v) in
+    c.kept_sum-total.ensures ∙ (λ j. kept_sum c.args.sums (held c.args.head.sum f j) (held c.args.v c.ranges.v j)) in
+    let whole_sum : SFits w64 c.in-Is.s = search rules in
+    let near : c.nearest-x.result ≡ nearest_of c.args.v = c.nearest-x.ensures ∙ ap nearest_of (held c.args.v c.ranges.v) in
     let least : (let a = c.args in to_z w64 (of_z w64 c.lesser-least.result) ≡ lesser_of a.head.min a.v) =
     let r : SFits w64 c.lesser-least.result = search rules in
     let m : SFits w64 c.args.head.min = search rules in
-    held c.lesser-least.result r ∙ c.lesser-least.ensures ∙ (λ i. lesser_of (held c.args.head.min m i) (held c.args.v c.fits.v i)) in
+    held c.lesser-least.result r ∙ c.lesser-least.ensures ∙ (λ i. lesser_of (held c.args.head.min m i) (held c.args.v c.ranges.v i)) in
     let greatest : (let a = c.args in to_z w64 (of_z w64 c.greater-greatest.result) ≡ greater_of a.head.max a.v) =
     let r : SFits w64 c.greater-greatest.result = search rules in
     let m : SFits w64 c.args.head.max = search rules in
-    held c.greater-greatest.result r ∙ c.greater-greatest.ensures ∙ (λ i. greater_of (held c.args.head.max m i) (held c.args.v c.fits.v i)) in
+    held c.greater-greatest.result r ∙ c.greater-greatest.ensures ∙ (λ i. greater_of (held c.args.head.max m i) (held c.args.v c.ranges.v i)) in
     let a = c.args in
     let xs = a.pos.now in
     let ys = a.neg.now in
-    inside a.size a.top a.sums (lent) a.v c.fits.v c.requires c.if-c.false _ _ _ c.count_in-more.result c.count_in-more.new.pos c.count_in-more.new.neg
-    (sym (summed) ∙ c.total-1.given.1 ∙ ap Is (sym (held c.total-1.given.0.0 (whole_sum))))
+    inside a.size a.top a.sums (lent) a.v c.ranges.v c.requires c.if-c.false _ _ _ c.count_in-more.result c.count_in-more.new.pos c.count_in-more.new.neg
+    (sym (summed) ∙ c.in-Is.is ∙ ap Is (sym (held c.in-Is.s (whole_sum))))
     (subst (λ (p : Point). Written p xs ys c.count_in-more.result c.count_in-more.new.pos c.count_in-more.new.neg)
     (λ j. record1 a.size (E.read (c.under_counts-h.ensures j).counts xs ys) (class_of zero_float (near j))) c.count_in-more.ensures)
     (least) (greatest)

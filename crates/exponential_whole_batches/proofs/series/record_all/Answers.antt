@@ -1,14 +1,13 @@
 -- `series::record_all` meets its contract: what is recorded so far, and the values left, make the whole. Assumes nothing.
-use Prim.Native.Nat.{◌+◌, ◌-◌, ◌≤◌, ◌<◌}
+use Prim.Native.Nat.{◌+◌, ◌<◌}
 use mathlib.Core.Path.{◌≡◌, refl, sym, ap, subst, ◌∙◌}
 use native.Mathlib.Omega.{arith}
 use lib.IntN as Whole
-use lib.ListN.{length, get_or, drop}
+use lib.ListN.{length, get_or}
 use mir.Syntax.{w64}
 use mir.Val.{SFits}
 use Rattle.rows.specs.Recording.{Recording, after}
-use Rattle.many.specs.Many.{each}
-use Rattle.many.proofs.Turns.{later, begins, turn, halt, ended}
+use Rattle.many.proofs.Turns.{begins, turn, halt, ended}
 use Rattle.integers.proofs.Range.{held}
 use Rattle.exponential_whole_batches.specs.Series.{Series, series, Sound, step}
 use Rattle.exponential_whole_batches.proofs.Turn.{sound}
@@ -18,16 +17,6 @@ pub loop-i-init : goal.loop-i-init
 loop-i-init c =
     let a = c.args in
     (omega arith, refl, refl, c.requires, begins (step a.size a.top a.sums) (series a.head a.pos.now a.neg.now) a.values.now)
-
-pub offset_bounds-values-i : goal.offset_bounds-values-i
-offset_bounds-values-i c =
-    let inside : c.loop-i.i < length c.args.values.now = omega (arith, c.loop-i-test.true) in
-    omega (arith, inside)
-
-pub bounds-values-i : goal.bounds-values-i
-bounds-values-i c =
-    let inside : c.loop-i.i < length c.args.values.now = omega (arith, c.loop-i-test.true) in
-    inside
 
 pub next-one-requires : goal.next-one-requires
 next-one-requires c = c.loop-i.invariant.3
@@ -50,7 +39,7 @@ returns-then-no-ne0 c =
     c.next-one.ensures ∙ ap (step a.size a.top a.sums (there)) (held (value) (is_i64)) in
     let l = c.loop-i in
     let a = c.args in
-    sym (l.inv.4 ∙ halt (step a.size a.top a.sums) (there) a.values.now l.i (Whole.pos 0) (inside) (gone) (went) c.if-no-ne0.true)
+    sym (l.invariant.4 ∙ halt (step a.size a.top a.sums) (there) a.values.now l.i (Whole.pos 0) (inside) (gone) (went) c.if-no-ne0.true)
 
 pub overflow_add-i : goal.overflow_add-i
 overflow_add-i c =
@@ -73,12 +62,12 @@ loop-i-preserved c =
     let inside : c.loop-i.i < length c.args.values.now = omega (arith, c.loop-i-test.true) in
     let l = c.loop-i in
     let a = c.args in (
-      omega (arith, c.loop-i-test.taken),
-      c.next-one.auto.pos ∙ l.inv.1,
-      c.next-one.auto.neg ∙ l.inv.2,
+      omega (arith, c.loop-i-test.true),
+      c.next-one.auto.pos ∙ l.invariant.1,
+      c.next-one.auto.neg ∙ l.invariant.2,
       subst (λ (x : Recording Series). Sound a.size a.top x.cells) (sym (went))
-          (sound a.size a.top a.sums (there) (value) (is_i64) l.inv.3 (ap (λ (x : Recording Series). x.no) (sym (went)) ∙ c.if-no-ne0.false)),
-      l.inv.4 ∙ turn (step a.size a.top a.sums) (there) a.values.now l.i (Whole.pos 0) (inside) (gone) (went) c.if-no-ne0.false,
+          (sound a.size a.top a.sums (there) (value) (is_i64) l.invariant.3 (ap (λ (x : Recording Series). x.no) (sym (went)) ∙ c.if-no-ne0.false)),
+      l.invariant.4 ∙ turn (step a.size a.top a.sums) (there) a.values.now l.i (Whole.pos 0) (inside) (gone) (went) c.if-no-ne0.false,
     )
 
 pub shape_of-pos : goal.shape_of-pos

@@ -1,6 +1,4 @@
 -- `slot::agrees` meets its contract. Assumes nothing.
-use borrow.Author.Rules.{rules}
-use borrow.Author.Tests.{not-true, not-false}
 use mathlib.Core.Path.{◌≡◌, sym, ap, ◌∙◌}
 use mathlib.Core.Bool.{true}
 use mathlib.Core.List.{List, [], ◌∷◌}
@@ -24,27 +22,27 @@ returns-then-known c = sym (c.requires.neg_value c.if-known.true)
 pub returns-then-not-updated : goal.returns-then-not-updated
 returns-then-not-updated c =
     let a = c.args in
-    there-none a.size a.top a.f a.pos.now a.neg.now a.updated (not-true a.updated c.if-not-updated.true)
+    there-none a.size a.top a.f a.pos.now a.neg.now a.updated (c.if-not-updated.true)
 
 pub returns-then-not-can_read : goal.returns-then-not-can_read
 returns-then-not-can_read c =
     let ok : Accepted c.args.size c.args.top = accepted-of c.args.size c.args.top (unset-valid c.args.size c.args.top c.requires.top_value.0) in
-    let held : c.args.updated ≡ true = not-false c.args.updated c.if-not-updated.false in
+    let held : c.args.updated ≡ true = c.if-not-updated.false in
     let a = c.args in
     there-not a.size a.top (ok) a.f a.pos.now a.neg.now c.requires.top_value.1 c.requires.top_value.2 a.updated (held)
-    (sym (reads_held a.updated a.f (held)) ∙ sym c.can_read.ensures ∙ not-true c.can_read.result c.if-not-can_read.true)
+    (sym (reads_held a.updated a.f (held)) ∙ sym c.can_read.ensures ∙ c.if-not-can_read.true)
 
 pub head_of-h-requires : goal.head_of-h-requires
 head_of-h-requires c =
-    let can : (let a = c.args in readable a.updated a.f ≡ true) = sym c.can_read.ensures ∙ not-false c.can_read.result c.if-not-can_read.false in
+    let can : (let a = c.args in readable a.updated a.f ≡ true) = sym c.can_read.ensures ∙ c.if-not-can_read.false in
     can
 
 pub returns : goal.returns
 unfolding head_in
 returns c =
-    let held : c.args.updated ≡ true = not-false c.args.updated c.if-not-updated.false in
+    let held : c.args.updated ≡ true = c.if-not-updated.false in
     let ok : Accepted c.args.size c.args.top = accepted-of c.args.size c.args.top (unset-valid c.args.size c.args.top c.requires.top_value.0) in
-    let can : (let a = c.args in readable a.updated a.f ≡ true) = sym c.can_read.ensures ∙ not-false c.can_read.result c.if-not-can_read.false in
+    let can : (let a = c.args in readable a.updated a.f ≡ true) = sym c.can_read.ensures ∙ c.if-not-can_read.false in
     let a = c.args in
     c.counts_agree.ensures
     ∙ ap (λ (g : Head). Series.agrees a.size a.top g.counts a.pos.now a.neg.now)

@@ -1,6 +1,4 @@
 -- `slot::record_all` meets its contract. Assumes nothing.
-use borrow.Author.Rules.{rules}
-use borrow.Author.Tests.{not-true, not-false}
 use mathlib.Core.Path.{◌≡◌, sym, ap, subst, ◌∙◌}
 use mathlib.Core.Bool.{true}
 use Rattle.rows.specs.Parts.{part_at}
@@ -14,9 +12,6 @@ use Rattle.exponential_whole_batches.specs.Slot.{load}
 use Rattle.exponential_whole_batches.proofs.AtSlot.{reads, sound-there, rows_long, known-agrees, ready, stops, ends}
 use Rattle.exponential_whole_batches.proofs.slot.record_all.Goals as goal
 
-pub offset_bounds-pos-a : goal.offset_bounds-pos-a
-offset_bounds-pos-a c = search rules
-
 pub agrees-requires : goal.agrees-requires
 agrees-requires c =
     let lent : Cells = record { figures = c.args.figures.now; extremes = c.args.extremes.now; pos = c.args.pos.now; neg = c.args.neg.now } in
@@ -28,32 +23,26 @@ returns-then-not-agrees c =
     let lent : Cells = record { figures = c.args.figures.now; extremes = c.args.extremes.now; pos = c.args.pos.now; neg = c.args.neg.now } in
     let a = c.args in
     stops a.known a.size a.top a.sums a.x a.updated (lent) a.values.now c.requires
-    (sym c.agrees.ensures ∙ not-true c.agrees.result c.if-not-agrees.true)
+    (sym c.agrees.ensures ∙ c.if-not-agrees.true)
 
 pub head_of-head-requires : goal.head_of-head-requires
 head_of-head-requires c =
     let lent : Cells = record { figures = c.args.figures.now; extremes = c.args.extremes.now; pos = c.args.pos.now; neg = c.args.neg.now } in
-    let agreed : (let a = c.args in Ready (exponential_wholes a.size a.top a.sums) true a.x a.updated (lent)) = 
+    let agreed : (let a = c.args in Ready (exponential_wholes a.size a.top a.sums) true a.x a.updated (lent)) =
     let a = c.args in
     ready a.known a.size a.top a.sums a.x a.updated (lent) a.values.now c.requires
-    (sym c.agrees.ensures ∙ not-false c.agrees.result c.if-not-agrees.false) in
+    (sym c.agrees.ensures ∙ c.if-not-agrees.false) in
     let a = c.args in
     reads a.size a.top a.sums true a.x a.updated (lent) (agreed)
-
-pub offset_bounds-pos-a-2 : goal.offset_bounds-pos-a-2
-offset_bounds-pos-a-2 c = offset_bounds-pos-a c
-
-pub offset_bounds-neg-a-2 : goal.offset_bounds-neg-a-2
-offset_bounds-neg-a-2 c = offset_bounds-pos-a c
 
 pub record_all-run-requires : goal.record_all-run-requires
 record_all-run-requires c =
     let lent : Cells = record { figures = c.args.figures.now; extremes = c.args.extremes.now; pos = c.args.pos.now; neg = c.args.neg.now } in
-    let under : Head → Series = λ y. let a = c.args in record { = y; pos = part_at a.size (lent).pos a.x; neg = part_at a.size (lent).neg a.x } in
-    let agreed : (let a = c.args in Ready (exponential_wholes a.size a.top a.sums) true a.x a.updated (lent)) = 
+    let under : Head → Series = λ y. let a = c.args in record { head = y; pos = part_at a.size (lent).pos a.x; neg = part_at a.size (lent).neg a.x } in
+    let agreed : (let a = c.args in Ready (exponential_wholes a.size a.top a.sums) true a.x a.updated (lent)) =
     let a = c.args in
     ready a.known a.size a.top a.sums a.x a.updated (lent) a.values.now c.requires
-    (sym c.agrees.ensures ∙ not-false c.agrees.result c.if-not-agrees.false) in
+    (sym c.agrees.ensures ∙ c.if-not-agrees.false) in
     let a = c.args in
     subst (λ (y : Head). Sound a.size a.top (under y)) (sym c.head_of-head.ensures)
     (sound-there a.size a.top a.sums true a.x a.updated (lent) (agreed))
@@ -65,13 +54,13 @@ keep-requires c =
 pub returns : goal.returns
 returns c =
     let lent : Cells = record { figures = c.args.figures.now; extremes = c.args.extremes.now; pos = c.args.pos.now; neg = c.args.neg.now } in
-    let agreed : (let a = c.args in Ready (exponential_wholes a.size a.top a.sums) true a.x a.updated (lent)) = 
+    let agreed : (let a = c.args in Ready (exponential_wholes a.size a.top a.sums) true a.x a.updated (lent)) =
     let a = c.args in
     ready a.known a.size a.top a.sums a.x a.updated (lent) a.values.now c.requires
-    (sym c.agrees.ensures ∙ not-false c.agrees.result c.if-not-agrees.false) in
-    let gone : Many Series = record { taken = c.record_all-run.result.taken; no = c.record_all-run.result.no; left = record { = c.record_all-run.result.head; pos = c.record_all-run.new.pos; neg = c.record_all-run.new.neg } } in
-    let under : Head → Series = λ y. let a = c.args in record { = y; pos = part_at a.size (lent).pos a.x; neg = part_at a.size (lent).neg a.x } in
-    let all : (let a = c.args in gone ≡ each (step a.size a.top a.sums) (load a.size a.top (lent) a.x a.updated) a.values.now) = 
+    (sym c.agrees.ensures ∙ c.if-not-agrees.false) in
+    let gone : Many Series = record { taken = c.record_all-run.result.taken; no = c.record_all-run.result.no; left = record { head = c.record_all-run.result.head; pos = c.record_all-run.new.pos; neg = c.record_all-run.new.neg } } in
+    let under : Head → Series = λ y. let a = c.args in record { head = y; pos = part_at a.size (lent).pos a.x; neg = part_at a.size (lent).neg a.x } in
+    let all : (let a = c.args in gone ≡ each (step a.size a.top a.sums) (load a.size a.top (lent) a.x a.updated) a.values.now) =
     let a = c.args in
     c.record_all-run.ensures ∙ ap (λ (y : Head). each (step a.size a.top a.sums) (under y) a.values.now) c.head_of-head.ensures in
     let a = c.args in

@@ -3,8 +3,6 @@ use Prim.Native.Nat.{ℕ, ◌+◌, ◌*◌, ◌≤◌}
 use mathlib.Core.Path.{sym, subst, ◌∙◌}
 use native.Mathlib.Omega.{arith}
 use lib.ListN.{length}
-use borrow.Author.Rules.{rules}
-use borrow.Author.Tests.{not-true, not-false}
 use Rattle.explicit_slots.specs.Cells.{Cells, cells}
 use Rattle.explicit_collection.proofs.Slots.{uncounted, low_lost, by_high}
 use Rattle.explicit_collection.proofs.slot.agrees_at.Goals as goal
@@ -12,17 +10,12 @@ use Rattle.explicit_collection.proofs.slot.agrees_at.Goals as goal
 pub overflow_mul-a : goal.overflow_mul-a
 overflow_mul-a c =
     let end : c.args.x * c.bucket_count-n.result + c.bucket_count-n.result ≤ length c.args.counts.now = let a = c.args in subst (λ (k : ℕ). a.x * k + k ≤ length a.counts.now) (sym c.bucket_count-n.ensures) c.requires.counts in
-    omega (arith, end, c.well-formed.1.1.1.1.0.0)
+    omega (arith, end)
 
 pub overflow_add-e : goal.overflow_add-e
 overflow_add-e c =
     let end : c.args.x * c.bucket_count-n.result + c.bucket_count-n.result ≤ length c.args.counts.now = let a = c.args in subst (λ (k : ℕ). a.x * k + k ≤ length a.counts.now) (sym c.bucket_count-n.ensures) c.requires.counts in
-    omega (arith, end, c.well-formed.1.1.1.1.0.0)
-
-pub offset_bounds-counts-a : goal.offset_bounds-counts-a
-offset_bounds-counts-a c =
-    let end : c.args.x * c.bucket_count-n.result + c.bucket_count-n.result ≤ length c.args.counts.now = let a = c.args in subst (λ (k : ℕ). a.x * k + k ≤ length a.counts.now) (sym c.bucket_count-n.ensures) c.requires.counts in
-    omega (arith, end, c.well-formed.1.1.1.1.0.1)
+    omega (arith, end)
 
 pub slice_bounds-buckets_agree-end : goal.slice_bounds-buckets_agree-end
 slice_bounds-buckets_agree-end c =
@@ -34,15 +27,15 @@ returns-then-not-buckets_agree c =
     let lent : Cells = let a = c.args in cells a.totals.now a.extremes.now a.counts.now in
     let a = c.args in
     uncounted a.bounds.now (lent) a.x c.bucket_count-n.result c.bucket_count-n.ensures c.head_at-head.result c.head_at-head.ensures
-    c.buckets_agree.result c.buckets_agree.ensures (not-true c.buckets_agree.result c.if-not-buckets_agree.true)
+    c.buckets_agree.result c.buckets_agree.ensures c.if-not-buckets_agree.true
 
 pub returns-then-not-is_finite : goal.returns-then-not-is_finite
 returns-then-not-is_finite c =
     let lent : Cells = let a = c.args in cells a.totals.now a.extremes.now a.counts.now in
     let a = c.args in
     low_lost a.bounds.now (lent) a.x c.bucket_count-n.result c.bucket_count-n.ensures c.head_at-head.result c.head_at-head.ensures
-    c.buckets_agree.result c.buckets_agree.ensures (not-false c.buckets_agree.result c.if-not-buckets_agree.false)
-    (sym c.is_finite.ensures ∙ not-true c.is_finite.result c.if-not-is_finite.true)
+    c.buckets_agree.result c.buckets_agree.ensures c.if-not-buckets_agree.false
+    (sym c.is_finite.ensures ∙ c.if-not-is_finite.true)
 
 pub returns : goal.returns
 returns c =
@@ -50,5 +43,5 @@ returns c =
     let a = c.args in
     c.is_finite-2.ensures
     ∙ by_high a.bounds.now (lent) a.x c.bucket_count-n.result c.bucket_count-n.ensures c.head_at-head.result c.head_at-head.ensures
-    c.buckets_agree.result c.buckets_agree.ensures (not-false c.buckets_agree.result c.if-not-buckets_agree.false)
-    (sym c.is_finite.ensures ∙ not-false c.is_finite.result c.if-not-is_finite.false)
+    c.buckets_agree.result c.buckets_agree.ensures c.if-not-buckets_agree.false
+    (sym c.is_finite.ensures ∙ c.if-not-is_finite.false)

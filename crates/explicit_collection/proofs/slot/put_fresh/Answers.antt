@@ -3,7 +3,6 @@ use Prim.Native.Nat.{ℕ, ◌≤◌}
 use mathlib.Core.Path.{ap, ◌∙◌}
 use native.Mathlib.Omega.{arith}
 use lib.ListN.{length, replicate, length-replicate}
-use borrow.Author.Rules.{rules}
 use Rattle.points.specs.Explicit.{bucket_count}
 use Rattle.explicit.proofs.Cases.{count-few}
 use Rattle.explicit.specs.Series.{said}
@@ -19,12 +18,12 @@ put_point-requires c =
 pub returns-in-Refused : goal.returns-in-Refused
 returns-in-Refused c =
     let enough : bucket_count c.args.bounds.now ≤ length (replicate {A = ℕ} 160 0) = omega (arith, count-few c.args.bounds.now c.requires.bounds_value, length-replicate {A = ℕ} 160 0) in
-    absurd (fresh-never c.args.bounds.now _ (enough) (said c.fresh-empty.result) _ c.fresh-empty.ensures _ (ap said c.empty-1.given.1))
+    absurd (fresh-never c.args.bounds.now _ (enough) (said c.fresh-empty.result) _ c.fresh-empty.ensures _ (ap said c.in-Refused.is))
 
 pub returns-in-Recorded : goal.returns-in-Recorded
 returns-in-Recorded c =
     let enough : bucket_count c.args.bounds.now ≤ length (replicate {A = ℕ} 160 0) = omega (arith, count-few c.args.bounds.now c.requires.bounds_value, length-replicate {A = ℕ} 160 0) in
-    let lent : Output = let a = c.args in output a.out-sets.now a.out-words.now a.out-pos.now a.out-neg.now in
+    let lent : Output = let a = c.args in output a.out_sets.now a.out_words.now a.out_pos.now a.out_neg.now in
     let a = c.args in
     c.put_point.ensures
-    ∙ fresh-put a.bounds.now _ (enough) (said c.fresh-empty.result) _ c.fresh-empty.ensures _ (ap said c.empty-in-Recorded-1.given.1) a.show a.sums a.at a.row (lent)
+    ∙ fresh-put a.bounds.now _ (enough) (said c.fresh-empty.result) _ c.fresh-empty.ensures _ (ap said c.in-Recorded.is) a.show a.sums a.at a.row (lent)

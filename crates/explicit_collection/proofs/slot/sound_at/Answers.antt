@@ -1,8 +1,6 @@
 -- `explicit_collection::slot::sound_at` meets its contract. Assumes nothing.
 use mathlib.Core.Path.{sym, ap, ◌∙◌}
 use mathlib.Core.Bool.{Bool, not, ◌||◌}
-use borrow.Author.Rules.{rules}
-use borrow.Author.Tests.{not-false}
 use Rattle.explicit_slots.specs.Cells.{cells}
 use Rattle.collecting.proofs.Sure.{sound-known}
 use Rattle.explicit_collection.proofs.Slots.{agrees_at}
@@ -15,4 +13,4 @@ pub returns : goal.returns
 returns c =
     let a = c.args in
     c.agrees_at.ensures
-    ∙ ap (λ (b : Bool). not b || agrees_at a.bounds.now (cells a.totals.now a.extremes.now a.counts.now) a.x) (sym (not-false a.updated c.if-not-updated.false))
+    ∙ ap (λ (b : Bool). not b || agrees_at a.bounds.now (cells a.totals.now a.extremes.now a.counts.now) a.x) (sym c.if-not-updated.false)

@@ -1,5 +1,4 @@
 -- `gauge_lines::follow` meets its contract. Assumes nothing.
-use borrow.Author.Rules.{rules}
 use Rattle.gauge_lines.proofs.Following.{line-numbered}
 use Rattle.gauge_lines.proofs.follow.Goals as goal
 

@@ -1,6 +1,5 @@
 -- `gauge_lines::make` meets its contract. Assumes nothing.
 use mathlib.Core.Path.{sym, ◌∙◌}
-use borrow.Author.Rules.{rules}
 use Rattle.directory.specs.View.{Stores, stores}
 use Rattle.exponential_slots.specs.Cells.{Cells, cells}
 use Rattle.listing.specs.Listed.{Output, output}
@@ -31,8 +30,8 @@ returns-in-Record c =
     let lent : Cells = let a = c.args in cells a.figures.now a.extremes.now a.pos.now a.neg.now in
     let outs : Output = let a = c.args in output a.out_sets.now a.out_words.now a.out_pos.now a.out_neg.now in
     let a = c.args in
-    line_record a.form a.g a.line.now a.over a.n a.text.now (dirs) (lent) (outs) c.«record».result
-    c.silent-in-Record.result c.silent-in-Record.ensures _ _ (sym c.call_in-call.ensures ∙ c.in-Record.is) c.«record».ensures
+    line_record a.form a.g a.line.now a.over a.n a.text.now (dirs) (lent) (outs) c.record-o.result
+    c.silent-in-Record.result c.silent-in-Record.ensures _ _ (sym c.call_in-call.ensures ∙ c.in-Record.is) c.record-o.ensures
 
 pub returns-in-Start : goal.returns-in-Start
 returns-in-Start c =

@@ -1,6 +1,5 @@
 -- `gauge_lines::run` is safe and ends: the measure is how many line numbers are left. Assumes nothing.
 use native.Mathlib.Omega.{arith}
-use Prim.Native.Nat.{◌-◌}
 use Rattle.gauge_lines.proofs.run.Goals as goal
 
 pub first-ports-requires : goal.first-ports-requires

@@ -1,5 +1,4 @@
 -- `gauge_lines::run` is safe and ends: the measure is how many line numbers are left. Assumes nothing.
-use native.Mathlib.Omega.{arith}
 use Prim.Native.Nat.{◌-◌}
 use Rattle.gauge_lines.proofs.run.Given as goal
 

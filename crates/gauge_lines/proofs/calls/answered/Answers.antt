@@ -1,6 +1,5 @@
 -- `gauge_lines::calls::answered` meets its contract. Assumes nothing.
 use mathlib.Core.Path.{sym, ap, ◌∙◌}
-use borrow.Author.Rules.{rules}
 use Rattle.bindings.specs.Calls.{said}
 use Rattle.bindings.specs.declared.Answer.{Answer}
 use Rattle.gauge_lines.specs.Followed.{answered_by}

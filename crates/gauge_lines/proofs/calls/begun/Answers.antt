@@ -1,6 +1,5 @@
 -- `gauge_lines::calls::begun` meets its contract. Assumes nothing.
 use mathlib.Core.Path.{sym, ap, ◌∙◌}
-use borrow.Author.Rules.{rules}
 use Rattle.exponential_collection.specs.Configured.{said}
 use Rattle.exponential_collection.specs.declared.Configured.{Configured}
 use Rattle.gauge_lines.specs.Followed.{begun_by}

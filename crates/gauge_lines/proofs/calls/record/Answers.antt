@@ -3,7 +3,6 @@ use Prim.Native.Nat.{ℕ}
 use mathlib.Core.Path.{sym, ap, ◌∙◌}
 use mathlib.Core.List.{List}
 use lib.ListN.{take}
-use borrow.Author.Rules.{rules}
 use Rattle.gauge_lines.proofs.Following.{record-refused, record-made}
 use Rattle.gauge_lines.proofs.calls.record.Goals as goal
 

@@ -1,7 +1,6 @@
 -- `gauge_lines::collect::turned` meets its contract. Assumes nothing.
 use mathlib.Core.Path.{ap}
 use mathlib.Core.Bool.{true}
-use borrow.Author.Rules.{rules}
 use Rattle.clock.specs.declared.Turned.{Turned}
 use Rattle.gauge_lines.specs.declared.collect.Turn.{Turn}
 use Rattle.gauge_lines.proofs.collect.turned.Goals as goal

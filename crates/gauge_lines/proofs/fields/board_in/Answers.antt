@@ -3,7 +3,6 @@ use Prim.Native.Nat.{ℕ}
 use mathlib.Core.Path.{◌≡◌, refl, sym, ap, ◌∙◌}
 use mathlib.Core.List.{List}
 use mathlib.Core.Bool.{true}
-use borrow.Author.Rules.{rules}
 use Rattle.lines.specs.Spelled.{spelled, told}
 use Rattle.gauge_lines.specs.Lines.{parted, set_in, attributes_in}
 use Rattle.gauge_lines.proofs.Asking.{short, joined, apart, rest-is, board-none, kept-none, board-is, kept-are}

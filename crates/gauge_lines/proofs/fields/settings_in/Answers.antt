@@ -1,7 +1,5 @@
 -- `gauge_lines::fields::settings_in` meets its contract. Assumes nothing.
-use Prim.Native.Nat.{ℕ}
 use mathlib.Core.Path.{◌≡◌, refl, sym, ap, ◌∙◌}
-use mathlib.Core.List.{List}
 use borrow.Author.Rules.{rules}
 use borrow.Author.Tests.{le-leb, lt-leb}
 use Rattle.laws.proofs.Bools.{pick_true, pick-false}
@@ -53,11 +51,11 @@ returns-in_default-decimal_at-2 c =
     let size : size_in (decimal_of (field_of c.args.line.now 1)) ≡ c.size_of.result = sym (c.size_of.ensures ∙ ap size_in c.decimal_at.ensures) in
     let scale : scale_in (signed_of (field_of c.args.line.now 2)) ≡ c.scale_of.result = sym (c.scale_of.ensures ∙ ap scale_in c.signed_at.ensures) in
     let last : (x : Natural) → c.decimal_at-3.result ≡ x → wanted_of (Z.Is c.in-Is.size)
-        (S.Is c.in-Is-scale_of.scale) (N.Is c.in-Is-decimal_at.limit) x
-        ≡ settings_of c.args.line.now =
-        λ x e. settings-are c.args.line.now (four) _ _ _ _ (size ∙ c.in-Is.is)
-        (scale ∙ c.in-Is-scale_of.is) (sym c.decimal_at-2.ensures ∙ c.in-Is-decimal_at.is)
-        (sym c.decimal_at-3.ensures ∙ e) in
+    (S.Is c.in-Is-scale_of.scale) (N.Is c.in-Is-decimal_at.limit) x
+    ≡ settings_of c.args.line.now =
+    λ x e. settings-are c.args.line.now (four) _ _ _ _ (size ∙ c.in-Is.is)
+    (scale ∙ c.in-Is-scale_of.is) (sym c.decimal_at-2.ensures ∙ c.in-Is-decimal_at.is)
+    (sym c.decimal_at-3.ensures ∙ e) in
     last _ c.in_default-decimal_at-2.is
 
 pub returns-then-limit-gt-MOST_LIMIT : goal.returns-then-limit-gt-MOST_LIMIT
@@ -66,11 +64,11 @@ returns-then-limit-gt-MOST_LIMIT c =
     let size : size_in (decimal_of (field_of c.args.line.now 1)) ≡ c.size_of.result = sym (c.size_of.ensures ∙ ap size_in c.decimal_at.ensures) in
     let scale : scale_in (signed_of (field_of c.args.line.now 2)) ≡ c.scale_of.result = sym (c.scale_of.ensures ∙ ap scale_in c.signed_at.ensures) in
     let last : (x : Natural) → c.decimal_at-3.result ≡ x → wanted_of (Z.Is c.in-Is.size)
-        (S.Is c.in-Is-scale_of.scale) (N.Is c.in-Is-decimal_at.limit) x
-        ≡ settings_of c.args.line.now =
-        λ x e. settings-are c.args.line.now (four) _ _ _ _ (size ∙ c.in-Is.is)
-        (scale ∙ c.in-Is-scale_of.is) (sym c.decimal_at-2.ensures ∙ c.in-Is-decimal_at.is)
-        (sym c.decimal_at-3.ensures ∙ e) in
+    (S.Is c.in-Is-scale_of.scale) (N.Is c.in-Is-decimal_at.limit) x
+    ≡ settings_of c.args.line.now =
+    λ x e. settings-are c.args.line.now (four) _ _ _ _ (size ∙ c.in-Is.is)
+    (scale ∙ c.in-Is-scale_of.is) (sym c.decimal_at-2.ensures ∙ c.in-Is-decimal_at.is)
+    (sym c.decimal_at-3.ensures ∙ e) in
     sym (pick-false _ _ _ (lt-leb _ 30 c.if-limit-gt-MOST_LIMIT.true)) ∙ last _ c.in-Is-decimal_at-2.is
 
 pub returns : goal.returns
@@ -79,11 +77,11 @@ returns c =
     let scale : scale_in (signed_of (field_of c.args.line.now 2)) ≡ c.scale_of.result = sym (c.scale_of.ensures ∙ ap scale_in c.signed_at.ensures) in
     let four : spaces_of c.args.line.now ≡ 4 = sym c.spaces.ensures ∙ c.if-spaces-ne4.false in
     let last : (x : Natural) → c.decimal_at-3.result ≡ x → wanted_of (Z.Is c.in-Is.size)
-        (S.Is c.in-Is-scale_of.scale) (N.Is c.in-Is-decimal_at.limit) x
-        ≡ settings_of c.args.line.now =
-        λ x e. settings-are c.args.line.now (four) _ _ _ _ (size ∙ c.in-Is.is)
-        (scale ∙ c.in-Is-scale_of.is) (sym c.decimal_at-2.ensures ∙ c.in-Is-decimal_at.is)
-        (sym c.decimal_at-3.ensures ∙ e) in
+    (S.Is c.in-Is-scale_of.scale) (N.Is c.in-Is-decimal_at.limit) x
+    ≡ settings_of c.args.line.now =
+    λ x e. settings-are c.args.line.now (four) _ _ _ _ (size ∙ c.in-Is.is)
+    (scale ∙ c.in-Is-scale_of.is) (sym c.decimal_at-2.ensures ∙ c.in-Is-decimal_at.is)
+    (sym c.decimal_at-3.ensures ∙ e) in
     let f : SFits w32 c.in-Is-scale_of.scale = search rules in
     let w : ℤ → Asked = λ x. A.Is (record {
       size = c.in-Is.size;

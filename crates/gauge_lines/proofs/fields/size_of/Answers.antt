@@ -1,6 +1,5 @@
 -- `gauge_lines::fields::size_of` meets its contract. Assumes nothing.
 use mathlib.Core.Path.{sym, ap, ◌∙◌}
-use borrow.Author.Rules.{rules}
 use borrow.Author.Tests.{le-leb, lt-leb}
 use Rattle.laws.proofs.Bools.{pick_true, pick-false}
 use Rattle.gauge_lines.specs.Lines.{size_in}

@@ -8,7 +8,6 @@ use mir.Syntax.{w32}
 use mir.ValLaws.{to_z_pos}
 use Rattle.laws.proofs.Bools.{pick_true, pick-false}
 use Rattle.index.proofs.Casts.{difference-fits, difference-is}
-use borrow.Author.Rules.{rules}
 use Rattle.gauge_lines.specs.Lines.{with_sign}
 use Rattle.gauge_lines.proofs.fields.with_sign.Goals as goal
 

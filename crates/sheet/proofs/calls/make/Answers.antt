@@ -31,8 +31,8 @@ returns-in-Record c =
     let lent : Cells = let a = c.args in cells a.figures.now a.extremes.now a.pos.now a.neg.now in
     let outs : Source = let a = c.args in source a.out_sets.now a.out_words.now a.out_pos.now a.out_neg.now a.bounds.now in
     let a = c.args in
-    line_record a.g a.line.now a.over a.n a.text.now (dirs) (lent) (outs) a.sheet.now c.«record».result
-    c.silent.result c.silent.ensures _ _ (sym c.call_in-call.ensures ∙ c.in-Record.is) c.«record».ensures
+    line_record a.g a.line.now a.over a.n a.text.now (dirs) (lent) (outs) a.sheet.now c.record-o.result
+    c.silent.result c.silent.ensures _ _ (sym c.call_in-call.ensures ∙ c.in-Record.is) c.record-o.ensures
 
 pub returns-in-Start : goal.returns-in-Start
 returns-in-Start c =

@@ -1,6 +1,5 @@
 -- `explicit_whole_batches::measure_all` meets its contract. Assumes nothing.
 use mathlib.Core.Path.{sym}
-use borrow.Author.Rules.{rules}
 use Rattle.laws.proofs.Cases.{true-not-false}
 use Rattle.explicit_whole_batches.proofs.measure_all.Goals as goal
 

@@ -1,6 +1,5 @@
 -- `explicit_whole_batches::take_all` meets its contract. Assumes nothing.
 use mathlib.Core.Path.{sym, ◌∙◌}
-use borrow.Author.Rules.{rules}
 use Rattle.explicit_whole_slots.specs.Cells.{Cells, cells}
 use Rattle.whole_map.specs.Explicit.{explicit_wholes}
 use Rattle.batches.specs.Inner.{recorded_all}

@@ -14,22 +14,22 @@ returns-then-head-ge18446744073709551615 c = let a = c.args in raise_9 a.sums a.
 pub returns-in-Outside : goal.returns-in-Outside
 returns-in-Outside c =
     let held-sum : SFits w64 c.args.head.sum = search rules in
-    let told : (let a = c.args in c.kept_sum-total.result ≡ kept_sum a.sums a.head.sum a.v) = c.kept_sum-total.ensures ∙ (λ j. kept_sum c.args.sums (held c.args.head.sum (held-sum) j) (held c.args.v c.fits.v j)) in
+    let told : (let a = c.args in c.kept_sum-total.result ≡ kept_sum a.sums a.head.sum a.v) = c.kept_sum-total.ensures ∙ (λ j. kept_sum c.args.sums (held c.args.head.sum (held-sum) j) (held c.args.v c.ranges.v j)) in
     let a = c.args in
-    raise-outside a.sums a.head a.v c.if-head-ge18446744073709551615.false (sym (told) ∙ c.enum_told-1.given.1)
+    raise-outside a.sums a.head a.v c.if-head-ge18446744073709551615.false (sym (told) ∙ c.in-Outside.is)
 
 pub returns-in-Is : goal.returns-in-Is
 returns-in-Is c =
     let held-min : SFits w64 c.args.head.min = search rules in
     let held-max : SFits w64 c.args.head.max = search rules in
     let held-sum : SFits w64 c.args.head.sum = search rules in
-    let told : (let a = c.args in c.kept_sum-total.result ≡ kept_sum a.sums a.head.sum a.v) = c.kept_sum-total.ensures ∙ (λ j. kept_sum c.args.sums (held c.args.head.sum (held-sum) j) (held c.args.v c.fits.v j)) in
+    let told : (let a = c.args in c.kept_sum-total.result ≡ kept_sum a.sums a.head.sum a.v) = c.kept_sum-total.ensures ∙ (λ j. kept_sum c.args.sums (held c.args.head.sum (held-sum) j) (held c.args.v c.ranges.v j)) in
     let a = c.args in
     let least : SFits w64 c.lesser-least.result = search rules in
     let most : SFits w64 c.greater-greatest.result = search rules in
-    let whole : SFits w64 c.total-1.given.0.0 = search rules in
+    let whole : SFits w64 c.in-Is.s = search rules in
     raise-inside a.sums a.head a.v c.if-head-ge18446744073709551615.false _ _ _ _
-    (held c.lesser-least.result least ∙ c.lesser-least.ensures ∙ (λ j. lesser_of (held a.head.min (held-min) j) (held a.v c.fits.v j)))
-    (held c.greater-greatest.result most ∙ c.greater-greatest.ensures ∙ (λ j. greater_of (held a.head.max (held-max) j) (held a.v c.fits.v j)))
-    (held c.total-1.given.0.0 whole)
-    (sym (told) ∙ c.total-1.given.1)
+    (held c.lesser-least.result least ∙ c.lesser-least.ensures ∙ (λ j. lesser_of (held a.head.min (held-min) j) (held a.v c.ranges.v j)))
+    (held c.greater-greatest.result most ∙ c.greater-greatest.ensures ∙ (λ j. greater_of (held a.head.max (held-max) j) (held a.v c.ranges.v j)))
+    (held c.in-Is.s whole)
+    (sym (told) ∙ c.in-Is.is)

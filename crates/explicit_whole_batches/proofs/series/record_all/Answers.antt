@@ -1,10 +1,10 @@
 -- `series::record_all` meets its contract: what is recorded so far, and the values left, make the whole. Assumes nothing.
-use Prim.Native.Nat.{◌-◌, ◌^◌, ◌≤◌, ◌<◌}
+use Prim.Native.Nat.{◌^◌, ◌<◌}
 use mathlib.Core.Path.{◌≡◌, refl, sym, ap, subst, ◌∙◌}
 use mathlib.Core.Bool.{true}
 use native.Mathlib.Omega.{arith}
 use lib.IntN.{ℤ, pos}
-use lib.ListN.{length, get_or, drop}
+use lib.ListN.{length, get_or}
 use lib.Ieee.{Float}
 use lib.Signed.{mag}
 use borrow.Author.Tests.{lt-ltb}
@@ -15,8 +15,7 @@ use Rattle.integers.proofs.Range.{held}
 use Rattle.kinds.specs.Wholes.{wholes}
 use Rattle.rows.specs.Recording.{Recording, after}
 use Rattle.rows.specs.Rows.{over}
-use Rattle.many.specs.Many.{each}
-use Rattle.many.proofs.Turns.{later, begins, turn, halt, ended}
+use Rattle.many.proofs.Turns.{begins, turn, halt, ended}
 use Rattle.points.specs.Explicit.{record_bucket}
 use Rattle.explicit.specs.Series.{buckets_in}
 use Rattle.explicit_wholes.specs.declared.Head.{Head}
@@ -29,16 +28,6 @@ pub loop-i-init : goal.loop-i-init
 loop-i-init c =
     let a = c.args in
     (omega arith, refl, c.requires, begins (step a.bounds.now a.sums) (record { head = a.head; counts = a.counts.now }) a.values.now)
-
-pub offset_bounds-values-i : goal.offset_bounds-values-i
-offset_bounds-values-i c =
-    let inside : c.loop-i.i < length c.args.values.now = omega (arith, c.loop-i-test.true) in
-    omega (arith, inside)
-
-pub bounds-values-i : goal.bounds-values-i
-bounds-values-i c =
-    let inside : c.loop-i.i < length c.args.values.now = omega (arith, c.loop-i-test.true) in
-    inside
 
 pub shape_of-counts-then-no-ne0 : goal.shape_of-counts-then-no-ne0
 shape_of-counts-then-no-ne0 c = c.loop-i.invariant.1
@@ -66,7 +55,7 @@ count_in-requires c =
     let lifted : (after c.raised-one.result.no c.raised-one.result.head ≡ raising c.args.sums c.loop-i.h (one)) = c.raised-one.ensures ∙ ap (raising c.args.sums c.loop-i.h) (held (one) (fits)) in
     let none : ((raising c.args.sums c.loop-i.h (one)).no ≡ 0) = ap (λ (o : Recording Head). o.no) (sym (lifted)) ∙ c.if-no-ne0.false in
     let l = c.loop-i in
-    let a = c.args in record { bounds_in_bounds = l.inv.2.long; counts_bound = room-more a.bounds.now a.sums (there) (one) l.inv.2 (whole) (raised_is a.sums l.h (one) (none)).free }
+    let a = c.args in record { bounds_in_bounds = l.invariant.2.long; counts_bound = room-more a.bounds.now a.sums (there) (one) l.invariant.2 (whole) (raised_is a.sums l.h (one) (none)).free }
 
 pub overflow_add-i : goal.overflow_add-i
 overflow_add-i c =
@@ -89,12 +78,12 @@ loop-i-preserved c =
     let f = whole in
     let x : Recording Series = after 0 (record { head = c.raised-one.result.head; counts = c.count_in.new.counts }) in
     let is : x ≡ step bs a.sums (there) (one) =
-    step-taken bs a.sums (there) (one) l.inv.2 f (none) c.raised-one.result.head c.count_in.new.counts (ap (λ (o : Recording Head). o.cells) (lifted))
+    step-taken bs a.sums (there) (one) l.invariant.2 f (none) c.raised-one.result.head c.count_in.new.counts (ap (λ (o : Recording Head). o.cells) (lifted))
     (c.count_in.ensures ∙ ap (λ (y : Float). over (record_bucket bs (buckets_in bs 0 l.counts) y).counts l.counts) (near)) in (
       omega (arith, inside),
-      c.count_in.auto.counts ∙ l.inv.1,
-      subst (λ (o : Recording Series). Counted bs o.cells.head.count o.cells.counts) (sym is) (counted_step bs a.sums (there) (one) l.inv.2 f (none)),
-      l.inv.3 ∙ turn (step bs a.sums) (there) a.values.now l.i (pos 0) (inside) x is refl,
+      c.count_in.auto.counts ∙ l.invariant.1,
+      subst (λ (o : Recording Series). Counted bs o.cells.head.count o.cells.counts) (sym is) (counted_step bs a.sums (there) (one) l.invariant.2 f (none)),
+      l.invariant.3 ∙ turn (step bs a.sums) (there) a.values.now l.i (pos 0) (inside) x is refl,
     )
 
 pub shape_of-counts : goal.shape_of-counts

@@ -1,6 +1,5 @@
 -- `slot::agrees_if` meets its contract. Assumes nothing.
 use mathlib.Core.Path.{sym, ◌∙◌}
-use borrow.Author.Rules.{rules}
 use Rattle.explicit_whole_batches.proofs.Entered.{if-held, if_none}
 use Rattle.explicit_whole_batches.proofs.slot.agrees_if.Goals as goal
 

@@ -4,7 +4,6 @@ use mathlib.Core.Path.{◌≡◌, sym, ap, subst, ◌∙◌}
 use mathlib.Core.Bool.{true}
 use native.Mathlib.Omega.{arith}
 use lib.ListN.{length}
-use borrow.Author.Rules.{rules}
 use Rattle.rows.specs.Parts.{part_at}
 use Rattle.rows.proofs.Parts.{part_length}
 use Rattle.many.specs.Many.{Many}
@@ -19,17 +18,12 @@ use Rattle.explicit_whole_batches.proofs.slot.record_all.Goals as goal
 pub overflow_mul-a : goal.overflow_mul-a
 overflow_mul-a c =
     let end : c.args.x * c.bucket_count-n.result + c.bucket_count-n.result ≤ length c.args.counts.now = let a = c.args in subst (λ (k : ℕ). a.x * k + k ≤ length a.counts.now) (sym c.bucket_count-n.ensures) c.requires.room.counts in
-    omega (arith, end, c.well-formed.1.1.1.1.1.1.1.0.0)
+    omega (arith, end)
 
 pub overflow_add-e : goal.overflow_add-e
 overflow_add-e c =
     let end : c.args.x * c.bucket_count-n.result + c.bucket_count-n.result ≤ length c.args.counts.now = let a = c.args in subst (λ (k : ℕ). a.x * k + k ≤ length a.counts.now) (sym c.bucket_count-n.ensures) c.requires.room.counts in
-    omega (arith, end, c.well-formed.1.1.1.1.1.1.1.0.0)
-
-pub offset_bounds-counts-a : goal.offset_bounds-counts-a
-offset_bounds-counts-a c =
-    let end : c.args.x * c.bucket_count-n.result + c.bucket_count-n.result ≤ length c.args.counts.now = let a = c.args in subst (λ (k : ℕ). a.x * k + k ≤ length a.counts.now) (sym c.bucket_count-n.ensures) c.requires.room.counts in
-    omega (arith, end, c.good.1.1.1.1.1.1.1.0.1)
+    omega (arith, end)
 
 pub slice_bounds-enter_all-end : goal.slice_bounds-enter_all-end
 slice_bounds-enter_all-end c =
@@ -60,4 +54,4 @@ returns c =
     let a = c.args in
     let m : Many Series = record { taken = c.enter_all-run.result.taken; no = c.enter_all-run.result.no; left = record { head = c.enter_all-run.result.head; counts = c.enter_all-run.new.counts } } in
     kept_law a.known a.bounds.now a.sums a.x a.updated (lent) a.values.now c.requires c.bucket_count-n.result c.bucket_count-n.ensures
-    m (c.enter_all-run.ensures ∙ ap (λ (c.enter_all-run.result : Head). entering a.bounds.now a.sums a.updated c.enter_all-run.result (part_at c.bucket_count-n.result a.counts.now a.x) a.values.now) c.head_with-head.ensures) c.keep.new.totals c.keep.ensures.totals_after c.keep.new.extremes c.keep.ensures.extremes_after
+    m (c.enter_all-run.ensures ∙ ap (λ (y : Head). entering a.bounds.now a.sums a.updated y (part_at c.bucket_count-n.result a.counts.now a.x) a.values.now) c.head_with-head.ensures) c.keep.new.totals c.keep.ensures.totals_after c.keep.new.extremes c.keep.ensures.extremes_after

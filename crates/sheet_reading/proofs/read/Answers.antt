@@ -1,8 +1,6 @@
 -- `sheet_reading::read` meets its contract. Assumes nothing.
-use borrow.Author.Rules.{rules}
 use Prim.Native.Nat.{ℕ}
 use mathlib.Core.Path.{sym, ap, ◌∙◌}
-use borrow.Author.Tests.{not-true, not-false}
 use Rattle.pooling.specs.Lists.{Source, source}
 use Rattle.sheets.specs.Lists.{fits_in}
 use Rattle.sheet_reading.proofs.Answered.{bad-frame, bad-points, no_room, was_read}
@@ -11,46 +9,46 @@ use Rattle.sheet_reading.proofs.read.Goals as goal
 pub returns-then-not-frame_holds : goal.returns-then-not-frame_holds
 returns-then-not-frame_holds c =
     let lent : Source = source c.args.sets.now c.args.words.now c.args.pos.now c.args.neg.now c.args.bounds.now in
-    bad-frame c.args.s.now c.know_bytes.ensures (lent) (sym c.frame_holds.ensures ∙ not-true _ c.if-not-frame_holds.true)
+    bad-frame c.args.s.now c.know_bytes.ensures (lent) (sym c.frame_holds.ensures ∙ c.if-not-frame_holds.true)
 
 pub points_in-n-requires : goal.points_in-n-requires
-points_in-n-requires c = sym c.frame_holds.ensures ∙ not-false _ c.if-not-frame_holds.false
+points_in-n-requires c = sym c.frame_holds.ensures ∙ c.if-not-frame_holds.false
 
 pub judge-verdict-requires : goal.judge-verdict-requires
 judge-verdict-requires c =
-    (sym c.frame_holds.ensures ∙ not-false _ c.if-not-frame_holds.false, c.points_in-n.ensures)
+    (sym c.frame_holds.ensures ∙ c.if-not-frame_holds.false, c.points_in-n.ensures)
 
 pub returns-then-not-fits : goal.returns-then-not-fits
 returns-then-not-fits c =
     let lent : Source = source c.args.sets.now c.args.words.now c.args.pos.now c.args.neg.now c.args.bounds.now in
-    no_room c.args.s.now c.know_bytes.ensures (lent) (sym c.frame_holds.ensures ∙ not-false _ c.if-not-frame_holds.false) c.verdict-1.given.0.0
-    (sym c.judge-verdict.ensures ∙ c.verdict-1.given.1)
-    (ap (λ (n : ℕ). fits_in n c.verdict-1.given.0.0.pos c.verdict-1.given.0.0.neg c.verdict-1.given.0.0.bounds (lent)) (sym c.points_in-n.ensures) ∙ sym c.fits2.ensures ∙ not-true _ c.if-not-fits.true)
+    no_room c.args.s.now c.know_bytes.ensures (lent) (sym c.frame_holds.ensures ∙ c.if-not-frame_holds.false) c.in-Fine.z
+    (sym c.in-Fine.ensures)
+    (ap (λ (n : ℕ). fits_in n c.in-Fine.z.pos c.in-Fine.z.neg c.in-Fine.z.bounds (lent)) (sym c.points_in-n.ensures) ∙ sym c.fits.ensures ∙ c.if-not-fits.true)
 
 pub header_in-header-requires : goal.header_in-header-requires
 header_in-header-requires c =
-    sym c.frame_holds.ensures ∙ not-false _ c.if-not-frame_holds.false
+    sym c.frame_holds.ensures ∙ c.if-not-frame_holds.false
 
 pub copy_points-requires : goal.copy_points-requires
 copy_points-requires c =
     record {
-      sizes = c.verdict-1.given.0.0;
-      framed = sym c.frame_holds.ensures ∙ not-false _ c.if-not-frame_holds.false;
+      sizes = c.in-Fine.z;
+      framed = sym c.frame_holds.ensures ∙ c.if-not-frame_holds.false;
       many = c.points_in-n.ensures;
-      fine = sym c.judge-verdict.ensures ∙ c.verdict-1.given.1;
-      room = sym c.fits2.ensures ∙ not-false _ c.if-not-fits.false;
+      fine = sym c.in-Fine.ensures;
+      room = sym c.fits.ensures ∙ c.if-not-fits.false;
     }
 
 pub returns-in-Bad : goal.returns-in-Bad
 returns-in-Bad c =
     let lent : Source = source c.args.sets.now c.args.words.now c.args.pos.now c.args.neg.now c.args.bounds.now in
-    bad-points c.args.s.now c.know_bytes.ensures (lent) (sym c.frame_holds.ensures ∙ not-false _ c.if-not-frame_holds.false)
-    (sym c.judge-verdict.ensures ∙ c.enum_told-1.given.1)
+    bad-points c.args.s.now c.know_bytes.ensures (lent) (sym c.frame_holds.ensures ∙ c.if-not-frame_holds.false)
+    (sym c.in-Bad.ensures)
 
 pub returns-else-not-fits : goal.returns-else-not-fits
 returns-else-not-fits c =
     let lent : Source = source c.args.sets.now c.args.words.now c.args.pos.now c.args.neg.now c.args.bounds.now in
-    was_read c.args.s.now c.know_bytes.ensures (lent) (sym c.frame_holds.ensures ∙ not-false _ c.if-not-frame_holds.false) c.verdict-1.given.0.0
-    (sym c.judge-verdict.ensures ∙ c.verdict-1.given.1)
-    (ap (λ (n : ℕ). fits_in n c.verdict-1.given.0.0.pos c.verdict-1.given.0.0.neg c.verdict-1.given.0.0.bounds (lent)) (sym c.points_in-n.ensures) ∙ sym c.fits2.ensures ∙ not-false _ c.if-not-fits.false)
+    was_read c.args.s.now c.know_bytes.ensures (lent) (sym c.frame_holds.ensures ∙ c.if-not-frame_holds.false) c.in-Fine.z
+    (sym c.in-Fine.ensures)
+    (ap (λ (n : ℕ). fits_in n c.in-Fine.z.pos c.in-Fine.z.neg c.in-Fine.z.bounds (lent)) (sym c.points_in-n.ensures) ∙ sym c.fits.ensures ∙ c.if-not-fits.false)
     _ _ _ c.header_in-header.ensures c.points_in-n.ensures c.copy_points.ensures

@@ -1,5 +1,4 @@
 -- `sheet_reading::copy::copy_entry` meets its contract. Assumes nothing.
-use borrow.Author.Rules.{rules}
 use native.Mathlib.Omega.{arith}
 use Rattle.sheet_reading.proofs.CopyLaws.{floats-there, pos-there, neg-there, copy-made}
 use Rattle.sheet_reading.proofs.copy.copy_entry.Goals as goal
@@ -10,11 +9,7 @@ read_floats-requires c =
 
 pub overflow_add-q : goal.overflow_add-q
 overflow_add-q c =
-    omega (arith, c.requires.pos, c.well-formed.1.1.1.1.1.1.1.1.0.1)
-
-pub offset_bounds-pos-p : goal.offset_bounds-pos-p
-offset_bounds-pos-p c =
-    omega (arith, c.requires.pos, c.well-formed.1.1.1.1.1.1.1.1.0.1)
+    omega (arith, c.requires.pos)
 
 pub read_run-requires : goal.read_run-requires
 read_run-requires c =
@@ -22,15 +17,11 @@ read_run-requires c =
 
 pub overflow_add-v : goal.overflow_add-v
 overflow_add-v c =
-    omega (arith, c.requires.neg, c.well-formed.1.1.1.1.1.1.1.1.1.0.1)
+    omega (arith, c.requires.neg)
 
 pub overflow_add-c-3 : goal.overflow_add-c-3
 overflow_add-c-3 c =
     omega (arith, c.requires.there.0, c.width_of.ensures, c.requires.few.pos)
-
-pub offset_bounds-neg-u : goal.offset_bounds-neg-u
-offset_bounds-neg-u c =
-    omega (arith, c.requires.neg, c.well-formed.1.1.1.1.1.1.1.1.1.0.1)
 
 pub read_run-requires-2 : goal.read_run-requires-2
 read_run-requires-2 c =

@@ -1,10 +1,10 @@
 -- `sheet_reading::copy::copy_points` meets its contract. Assumes nothing.
-use Prim.Native.Nat.{ℕ, ◌-◌, ◌≤◌}
+use Prim.Native.Nat.{ℕ, ◌≤◌}
 use mathlib.Core.List.{List}
 use native.Mathlib.Omega.{arith}
 use lib.Ieee.{Float}
 use Rattle.pooling.specs.Lists.{Source}
-use Rattle.sheet_reading.proofs.WalkLaws.{Left, left-start, left-done, left-next}
+use Rattle.sheet_reading.proofs.WalkLaws.{left-start, left-done, left-next}
 use Rattle.sheet_reading.proofs.WalkLaws.{next_small, head-there, head-passes, sizes-few, entry-room, addable, words_small}
 use Rattle.sheet_reading.proofs.copy.copy_points.Goals as goal
 

@@ -1,5 +1,4 @@
 -- `sheet_reading::frame::points_in` meets its contract. Assumes nothing.
-use borrow.Author.Rules.{rules}
 use native.Mathlib.Omega.{arith}
 use Rattle.sheet_reading.proofs.FrameLaws.{framed-long}
 use Rattle.sheet_reading.proofs.frame.points_in.Goals as goal

@@ -1,6 +1,4 @@
 -- `sheet_reading::judge::entry_holds` meets its contract. Assumes nothing.
-use borrow.Author.Rules.{rules}
-use borrow.Author.Tests.{not-true, not-false}
 use Prim.Native.Nat.{ℕ, ◌+◌, ◌-◌, ◌≤◌, ◌<◌}
 use mathlib.Core.Path.{◌≡◌, sym, ap, subst, ◌∙◌}
 use mathlib.Core.List.{List}
@@ -26,7 +24,7 @@ row_at-row-requires c =
 pub returns-then-not-row_fine : goal.returns-then-not-row_fine
 returns-then-not-row_fine c =
     bad-row c.args.s.now c.args.k (omega (arith, c.requires.0, c.requires.1, c.if-many-k-lt21.false))
-    (ap row_fine (sym c.row_at-row.ensures) ∙ sym c.row_fine.ensures ∙ not-true _ c.if-not-row_fine.true)
+    (ap row_fine (sym c.row_at-row.ensures) ∙ sym c.row_fine.ensures ∙ c.if-not-row_fine.true)
 
 pub head_at-w-requires : goal.head_at-w-requires
 head_at-w-requires c =
@@ -35,28 +33,28 @@ head_at-w-requires c =
 pub returns-then-not-head_fine : goal.returns-then-not-head_fine
 returns-then-not-head_fine c =
     bad-head c.args.s.now c.args.k (omega (arith, c.requires.0, c.requires.1, c.if-many-k-lt21.false))
-    (ap row_fine (sym c.row_at-row.ensures) ∙ sym c.row_fine.ensures ∙ not-false _ c.if-not-row_fine.false)
-    (ap head_fine (sym c.head_at-w.ensures) ∙ sym c.head_fine.ensures ∙ not-true _ c.if-not-head_fine.true)
+    (ap row_fine (sym c.row_at-row.ensures) ∙ sym c.row_fine.ensures ∙ c.if-not-row_fine.false)
+    (ap head_fine (sym c.head_at-w.ensures) ∙ sym c.head_fine.ensures ∙ c.if-not-head_fine.true)
 
 pub sizes_of-z-requires : goal.sizes_of-z-requires
-sizes_of-z-requires c = sym c.head_fine.ensures ∙ not-false _ c.if-not-head_fine.false
+sizes_of-z-requires c = sym c.head_fine.ensures ∙ c.if-not-head_fine.false
 
 pub words_in-requires : goal.words_in-requires
 words_in-requires c =
-    subst Few (sym c.sizes_of-z.ensures) (head_few c.head_at-w.result (sym c.head_fine.ensures ∙ not-false _ c.if-not-head_fine.false))
+    subst Few (sym c.sizes_of-z.ensures) (head_few c.head_at-w.result (sym c.head_fine.ensures ∙ c.if-not-head_fine.false))
 
 pub returns-then-many-k : goal.returns-then-many-k
 returns-then-many-k c =
     let q : c.words_in.result ≡ words_in (sizes_of (run c.args.s.now (c.args.k + 9) 12)) =
     c.words_in.ensures ∙ ap words_in (c.sizes_of-z.ensures ∙ ap sizes_of c.head_at-w.ensures) in
     bad-long c.args.s.now c.args.k (omega (arith, c.requires.0, c.requires.1, c.if-many-k-lt21.false))
-    (ap row_fine (sym c.row_at-row.ensures) ∙ sym c.row_fine.ensures ∙ not-false _ c.if-not-row_fine.false)
-    (ap head_fine (sym c.head_at-w.ensures) ∙ sym c.head_fine.ensures ∙ not-false _ c.if-not-head_fine.false)
+    (ap row_fine (sym c.row_at-row.ensures) ∙ sym c.row_fine.ensures ∙ c.if-not-row_fine.false)
+    (ap head_fine (sym c.head_at-w.ensures) ∙ sym c.head_fine.ensures ∙ c.if-not-head_fine.false)
     (subst (λ (x : ℕ). length (cells c.args.s.now) - c.args.k < x) q (omega (arith, c.requires.0, c.if-many-k.true)))
 
 pub rest_holds-requires : goal.rest_holds-requires
 rest_holds-requires c = (
-  subst Few (sym c.sizes_of-z.ensures) (head_few c.head_at-w.result (sym c.head_fine.ensures ∙ not-false _ c.if-not-head_fine.false)),
+  subst Few (sym c.sizes_of-z.ensures) (head_few c.head_at-w.result (sym c.head_fine.ensures ∙ c.if-not-head_fine.false)),
   within-there c.args.s.now c.args.k (words_in c.sizes_of-z.result) (omega (arith, c.requires.0, c.requires.2))
       (omega (arith, c.requires.0, c.requires.1, c.if-many-k.false, c.words_in.ensures)),
   c.sizes_of-z.ensures,
@@ -69,6 +67,6 @@ returns c =
     c.rest_holds.ensures
     ∙ ap (λ (w : List ℕ). rest_holds c.args.s.now w c.args.k) c.head_at-w.ensures
     ∙ entry-is-rest c.args.s.now c.args.k (omega (arith, c.requires.0, c.requires.1, c.if-many-k-lt21.false))
-    (ap row_fine (sym c.row_at-row.ensures) ∙ sym c.row_fine.ensures ∙ not-false _ c.if-not-row_fine.false)
-    (ap head_fine (sym c.head_at-w.ensures) ∙ sym c.head_fine.ensures ∙ not-false _ c.if-not-head_fine.false)
+    (ap row_fine (sym c.row_at-row.ensures) ∙ sym c.row_fine.ensures ∙ c.if-not-row_fine.false)
+    (ap head_fine (sym c.head_at-w.ensures) ∙ sym c.head_fine.ensures ∙ c.if-not-head_fine.false)
     (subst (λ (x : ℕ). c.args.k + x ≤ length (cells c.args.s.now)) q (omega (arith, c.requires.0, c.requires.1, c.if-many-k.false)))

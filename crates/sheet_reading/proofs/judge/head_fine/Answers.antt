@@ -1,6 +1,5 @@
 -- `sheet_reading::judge::head_fine` meets its contract. Assumes nothing.
 use borrow.Author.Rules.{rules}
-use borrow.Author.Tests.{not-true, not-false}
 use Prim.Native.Nat.{ℕ, ◌^◌, ◌≤◌, ◌<◌}
 use mathlib.Core.Path.{◌≡◌, sym, ap, ap₂, subst, ◌∙◌}
 use mir.Syntax.{w64}
@@ -16,16 +15,16 @@ use Rattle.sheet_reading.proofs.JudgeLaws.{head-no, head-start, head-bounds, hea
 use Rattle.sheet_reading.proofs.judge.head_fine.Goals as goal
 
 pub returns-then-not-is_point : goal.returns-then-not-is_point
-returns-then-not-is_point c = head-no c.args.w (sym c.is_point.ensures ∙ not-true _ c.if-not-is_point.true)
+returns-then-not-is_point c = head-no c.args.w (sym c.is_point.ensures ∙ c.if-not-is_point.true)
 
 pub returns-then-b-ne0 : goal.returns-then-b-ne0
 returns-then-b-ne0 c =
-    head-start c.args.w (sym c.is_point.ensures ∙ not-false _ c.if-not-is_point.false)
+    head-start c.args.w (sym c.is_point.ensures ∙ c.if-not-is_point.false)
     (λ e. c.if-b-ne0.true (ap (λ (x : Span). x.start) c.bounds_of-b.ensures ∙ e))
 
 pub returns-then-b-gt159 : goal.returns-then-b-gt159
 returns-then-b-gt159 c =
-    head-bounds c.args.w (sym c.is_point.ensures ∙ not-false _ c.if-not-is_point.false)
+    head-bounds c.args.w (sym c.is_point.ensures ∙ c.if-not-is_point.false)
     (ap (λ (x : Span). x.start) (sym c.bounds_of-b.ensures) ∙ c.if-b-ne0.false)
     (subst (λ (x : Span). 159 < x.len) c.bounds_of-b.ensures c.if-b-gt159.true)
 
@@ -40,7 +39,7 @@ pub returns-then-pos_len-gt160 : goal.returns-then-pos_len-gt160
 returns-then-pos_len-gt160 c =
     let n : c.pos_len.result ≡ pos_in c.args.w =
     c.pos_len.ensures ∙ ap₂ (λ (x : Point) (y : Span). pos_len x.figures y) c.point_of-p.ensures c.bounds_of-b.ensures in
-    head-pos c.args.w (sym c.is_point.ensures ∙ not-false _ c.if-not-is_point.false)
+    head-pos c.args.w (sym c.is_point.ensures ∙ c.if-not-is_point.false)
     (ap (λ (x : Span). x.start) (sym c.bounds_of-b.ensures) ∙ c.if-b-ne0.false)
     (subst (λ (x : Span). x.len ≤ 159) c.bounds_of-b.ensures c.if-b-gt159.false)
     (subst (λ (x : ℕ). 160 < x) n c.if-pos_len-gt160.true)
@@ -51,7 +50,7 @@ returns c =
     c.pos_len.ensures ∙ ap₂ (λ (x : Point) (y : Span). pos_len x.figures y) c.point_of-p.ensures c.bounds_of-b.ensures in
     let m : c.neg_len.result ≡ neg_in c.args.w = c.neg_len.ensures ∙ ap (λ (x : Point). neg_len x.figures) c.point_of-p.ensures in
     ap (λ (x : ℕ). leb x 160) m
-    ∙ head-rest c.args.w (sym c.is_point.ensures ∙ not-false _ c.if-not-is_point.false)
+    ∙ head-rest c.args.w (sym c.is_point.ensures ∙ c.if-not-is_point.false)
     (ap (λ (x : Span). x.start) (sym c.bounds_of-b.ensures) ∙ c.if-b-ne0.false)
     (subst (λ (x : Span). x.len ≤ 159) c.bounds_of-b.ensures c.if-b-gt159.false)
     (subst (λ (x : ℕ). x ≤ 160) n c.if-pos_len-gt160.false)

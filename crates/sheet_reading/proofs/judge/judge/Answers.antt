@@ -1,12 +1,9 @@
 -- `sheet_reading::judge::judge` meets its contract. Assumes nothing.
-use borrow.Author.Rules.{rules}
-use borrow.Author.Tests.{not-true, not-false}
-use Prim.Native.Nat.{◌-◌}
 use mathlib.Core.Path.{sym, ◌∙◌}
 use native.Mathlib.Omega.{arith}
 use lib.ListN.{replicate}
 use Rattle.records.proofs.Found.{cells-length}
-use Rattle.sheet_reading.proofs.TurnLaws.{Unjudged, first-turn, end_bad, end-fine, entry_bad, row-there, head-there, next_small}
+use Rattle.sheet_reading.proofs.TurnLaws.{first-turn, end_bad, end-fine, entry_bad, row-there, head-there, next_small}
 use Rattle.sheet_reading.proofs.TurnLaws.{row_small, order_bad, head-passes, sizes-few, addable, words_small, next-turn}
 use Rattle.sheet_reading.proofs.judge.judge.Goals as goal
 
@@ -22,14 +19,14 @@ returns-then-not-entry_holds c =
     let m = c.args in
     let l = c.loop-i in
     entry_bad m.s.now m.n l.all l.last l.k l.i l.invariant c.loop-i-test.true
-    (sym c.entry_holds.ensures ∙ not-true _ c.if-not-entry_holds.true)
+    (sym c.entry_holds.ensures ∙ c.if-not-entry_holds.true)
 
 pub row_at-row-requires : goal.row_at-row-requires
 row_at-row-requires c =
     let m = c.args in
     let l = c.loop-i in
     row-there m.s.now m.n l.all l.last l.k l.i l.invariant c.loop-i-test.true
-    (sym c.entry_holds.ensures ∙ not-false _ c.if-not-entry_holds.false)
+    (sym c.entry_holds.ensures ∙ c.if-not-entry_holds.false)
 
 pub may_follow-requires : goal.may_follow-requires
 may_follow-requires c =
@@ -37,7 +34,7 @@ may_follow-requires c =
     let l = c.loop-i in (
       l.invariant.small,
       row_small m.s.now m.n l.all l.last l.k l.i l.invariant c.loop-i-test.true
-          (sym c.entry_holds.ensures ∙ not-false _ c.if-not-entry_holds.false) c.row_at-row.result c.row_at-row.ensures,
+          (sym c.entry_holds.ensures ∙ c.if-not-entry_holds.false) c.row_at-row.result c.row_at-row.ensures,
     )
 
 pub returns-then-not-may_follow : goal.returns-then-not-may_follow
@@ -45,8 +42,8 @@ returns-then-not-may_follow c =
     let m = c.args in
     let l = c.loop-i in
     order_bad m.s.now m.n l.all l.last l.k l.i l.invariant c.loop-i-test.true
-    (sym c.entry_holds.ensures ∙ not-false _ c.if-not-entry_holds.false) c.row_at-row.result c.row_at-row.ensures
-    (sym c.may_follow.ensures ∙ not-true _ c.if-not-may_follow.true)
+    (sym c.entry_holds.ensures ∙ c.if-not-entry_holds.false) c.row_at-row.result c.row_at-row.ensures
+    (sym c.may_follow.ensures ∙ c.if-not-may_follow.true)
 
 pub overflow_add-k : goal.overflow_add-k
 overflow_add-k c =
@@ -55,7 +52,7 @@ overflow_add-k c =
     omega (
       arith,
       next_small m.s.now m.n l.all l.last l.k l.i l.invariant c.loop-i-test.true
-          (sym c.entry_holds.ensures ∙ not-false _ c.if-not-entry_holds.false),
+          (sym c.entry_holds.ensures ∙ c.if-not-entry_holds.false),
     )
 
 pub head_at-requires : goal.head_at-requires
@@ -63,21 +60,21 @@ head_at-requires c =
     let m = c.args in
     let l = c.loop-i in
     head-there m.s.now m.n l.all l.last l.k l.i l.invariant c.loop-i-test.true
-    (sym c.entry_holds.ensures ∙ not-false _ c.if-not-entry_holds.false)
+    (sym c.entry_holds.ensures ∙ c.if-not-entry_holds.false)
 
 pub sizes_of-z-requires : goal.sizes_of-z-requires
 sizes_of-z-requires c =
     let m = c.args in
     let l = c.loop-i in
     head-passes m.s.now m.n l.all l.last l.k l.i l.invariant c.loop-i-test.true
-    (sym c.entry_holds.ensures ∙ not-false _ c.if-not-entry_holds.false) c.row_at-row.result c.row_at-row.ensures c.head_at.result c.head_at.ensures
+    (sym c.entry_holds.ensures ∙ c.if-not-entry_holds.false) c.row_at-row.result c.row_at-row.ensures c.head_at.result c.head_at.ensures
 
 pub added-all-requires : goal.added-all-requires
 added-all-requires c =
     let m = c.args in
     let l = c.loop-i in
     addable m.s.now m.n l.all l.last l.k l.i l.invariant c.loop-i-test.true
-    (sym c.entry_holds.ensures ∙ not-false _ c.if-not-entry_holds.false) c.row_at-row.result c.row_at-row.ensures c.head_at.result c.head_at.ensures
+    (sym c.entry_holds.ensures ∙ c.if-not-entry_holds.false) c.row_at-row.result c.row_at-row.ensures c.head_at.result c.head_at.ensures
     c.sizes_of-z.result c.sizes_of-z.ensures
 
 pub words_in-k-requires : goal.words_in-k-requires
@@ -85,7 +82,7 @@ words_in-k-requires c =
     let m = c.args in
     let l = c.loop-i in
     sizes-few m.s.now m.n l.all l.last l.k l.i l.invariant c.loop-i-test.true
-    (sym c.entry_holds.ensures ∙ not-false _ c.if-not-entry_holds.false) c.row_at-row.result c.row_at-row.ensures c.head_at.result c.head_at.ensures
+    (sym c.entry_holds.ensures ∙ c.if-not-entry_holds.false) c.row_at-row.result c.row_at-row.ensures c.head_at.result c.head_at.ensures
     c.sizes_of-z.result c.sizes_of-z.ensures
 
 pub overflow_add-k-in-loop-i : goal.overflow_add-k-in-loop-i
@@ -95,7 +92,7 @@ overflow_add-k-in-loop-i c =
     omega (
       arith,
       words_small m.s.now m.n l.all l.last l.k l.i l.invariant c.loop-i-test.true
-          (sym c.entry_holds.ensures ∙ not-false _ c.if-not-entry_holds.false) c.row_at-row.result c.row_at-row.ensures c.head_at.result c.head_at.ensures
+          (sym c.entry_holds.ensures ∙ c.if-not-entry_holds.false) c.row_at-row.result c.row_at-row.ensures c.head_at.result c.head_at.ensures
           c.sizes_of-z.result c.sizes_of-z.ensures c.words_in-k.result c.words_in-k.ensures,
     )
 
@@ -104,9 +101,9 @@ loop-i-preserved c =
     let m = c.args in
     let l = c.loop-i in
     next-turn m.s.now m.n l.all l.last l.k l.i l.invariant c.loop-i-test.true
-    (sym c.entry_holds.ensures ∙ not-false _ c.if-not-entry_holds.false) c.row_at-row.result c.row_at-row.ensures c.head_at.result c.head_at.ensures
+    (sym c.entry_holds.ensures ∙ c.if-not-entry_holds.false) c.row_at-row.result c.row_at-row.ensures c.head_at.result c.head_at.ensures
     c.sizes_of-z.result c.sizes_of-z.ensures c.added-all.result c.words_in-k.result
-    (sym c.may_follow.ensures ∙ not-false _ c.if-not-may_follow.false) c.added-all.ensures c.words_in-k.ensures
+    (sym c.may_follow.ensures ∙ c.if-not-may_follow.false) c.added-all.ensures c.words_in-k.ensures
 
 pub returns-then-k-many : goal.returns-then-k-many
 returns-then-k-many c =

@@ -1,5 +1,4 @@
 -- `sheet_reading::judge::point_agrees` meets its contract. Assumes nothing.
-use borrow.Author.Rules.{rules}
 use Prim.Native.Nat.{◌+◌}
 use mathlib.Core.Path.{◌∙◌}
 use lib.ListN.{replicate}

@@ -1,6 +1,4 @@
 -- `sheet_reading::judge::rest_holds` meets its contract. Assumes nothing.
-use borrow.Author.Rules.{rules}
-use borrow.Author.Tests.{not-true, not-false}
 use Prim.Native.Nat.{◌+◌, ◌-◌}
 use mathlib.Core.Path.{sym, ◌∙◌}
 use native.Mathlib.Omega.{arith}
@@ -22,7 +20,7 @@ are_zeros-requires c =
 pub returns-then-not-are_zeros : goal.returns-then-not-are_zeros
 returns-then-not-are_zeros c =
     rest-bounds c.args.s.now c.args.w c.args.z c.args.k c.requires.2 c.width_of-2.result c.width_of-2.ensures
-    (sym c.are_zeros.ensures ∙ not-true _ c.if-not-are_zeros.true)
+    (sym c.are_zeros.ensures ∙ c.if-not-are_zeros.true)
 
 pub overflow_sub-width_of-2 : goal.overflow_sub-width_of-2
 overflow_sub-width_of-2 c =
@@ -39,7 +37,7 @@ pub returns-then-not-are_zeros-2 : goal.returns-then-not-are_zeros-2
 returns-then-not-are_zeros-2 c =
     rest-counts c.args.s.now c.args.w c.args.z c.args.k c.requires.2 c.width_of-2.result c.width_of-2.ensures
     c.width_of.result c.width_of-3.result c.width_of.ensures c.width_of-3.ensures
-    (sym c.are_zeros.ensures ∙ not-false _ c.if-not-are_zeros.false) (sym c.are_zeros-2.ensures ∙ not-true _ c.if-not-are_zeros-2.true)
+    (sym c.are_zeros.ensures ∙ c.if-not-are_zeros.false) (sym c.are_zeros-2.ensures ∙ c.if-not-are_zeros-2.true)
 
 pub point_agrees-requires : goal.point_agrees-requires
 point_agrees-requires c =
@@ -55,4 +53,4 @@ returns c =
     c.point_agrees.ensures
     ∙ rest-point c.args.s.now c.args.w c.args.z c.args.k c.requires.2 c.width_of-2.result c.width_of-2.ensures
     c.width_of.result c.width_of-3.result c.width_of.ensures c.width_of-3.ensures
-    (sym c.are_zeros.ensures ∙ not-false _ c.if-not-are_zeros.false) (sym c.are_zeros-2.ensures ∙ not-false _ c.if-not-are_zeros-2.false)
+    (sym c.are_zeros.ensures ∙ c.if-not-are_zeros.false) (sym c.are_zeros-2.ensures ∙ c.if-not-are_zeros-2.false)

@@ -1,5 +1,4 @@
 -- `sheet_reading::judge::sizes_of` meets its contract. Assumes nothing.
-use borrow.Author.Rules.{rules}
 use Rattle.sheet_reading.proofs.SizeLaws.{found-small, found-sizes}
 use Rattle.sheet_reading.proofs.judge.sizes_of.Goals as goal
 

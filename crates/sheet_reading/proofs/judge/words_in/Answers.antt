@@ -1,5 +1,4 @@
 -- `sheet_reading::judge::words_in` meets its contract. Assumes nothing.
-use borrow.Author.Rules.{rules}
 use Prim.Native.Nat.{◌+◌}
 use native.Mathlib.Omega.{arith}
 use Rattle.sheet_reading.proofs.SizeLaws.{width-most}

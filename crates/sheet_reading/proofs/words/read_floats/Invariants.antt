@@ -1,14 +1,8 @@
 -- `sheet_reading::words::read_floats` meets its contract. Assumes nothing.
-use borrow.Author.Rules.{rules}
-use Prim.Native.Nat.{ℕ, ◌+◌, ◌-◌, ◌≤◌}
-use mathlib.Core.Path.{◌≡◌, refl, sym, ap, ◌∙◌}
-use native.Mathlib.Omega.{arith}
-use lib.ListN.{length, take, length-set}
-use lib.Seq.{take-length}
-use Rattle.records.specs.Inner.{cell_at}
-use Rattle.records.proofs.Laid.{cell_room}
+use Prim.Native.Nat.{◌-◌, ◌≤◌}
+use mathlib.Core.Path.{◌≡◌}
+use lib.ListN.{length, take}
 use Rattle.sheet_reading.specs.Inner.{floats_at}
-use Rattle.sheet_reading.proofs.FloatLaws.{turn_floats}
 use Rattle.sheet_reading.proofs.words.read_floats.Given as goal
 
 abbrev pub invariant-loop-i : goal.invariant-loop-i

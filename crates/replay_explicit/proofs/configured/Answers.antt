@@ -1,6 +1,5 @@
 -- `replay_explicit::configured` meets its contract. Assumes nothing.
 use mathlib.Core.Path.{sym, ap, ◌∙◌}
-use borrow.Author.Rules.{rules}
 use Rattle.explicit_collection.specs.Configured.{said}
 use Rattle.explicit_collection.specs.declared.Configured.{Configured}
 use Rattle.replay_explicit.specs.Followed.{configured_by}

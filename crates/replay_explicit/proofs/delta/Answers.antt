@@ -2,7 +2,6 @@
 use Prim.Native.Nat.{ℕ}
 use mathlib.Core.Path.{ap, ◌∙◌}
 use lib.ListN.{take}
-use borrow.Author.Rules.{rules}
 use Rattle.replay_state.proofs.Same.{stores-are}
 use Rattle.replay_explicit.proofs.Calls.{series-are, output-is, lists_delta}
 use Rattle.replay_explicit.proofs.delta.Goals as goal

@@ -1,6 +1,5 @@
 -- `replay_explicit::measure_by` meets its contract. Assumes nothing.
 use mathlib.Core.Path.{◌∙◌}
-use borrow.Author.Rules.{rules}
 use Rattle.replay_state.proofs.Same.{stores-are}
 use Rattle.replay_explicit.proofs.Calls.{series-are, measures-by}
 use Rattle.replay_explicit.proofs.measure_by.Goals as goal

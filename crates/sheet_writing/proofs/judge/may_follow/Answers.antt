@@ -1,5 +1,4 @@
 -- `sheet_writing::judge::may_follow` meets its contract. Assumes nothing.
-use borrow.Author.Rules.{rules}
 use mathlib.Core.Path.{◌∙◌}
 use Rattle.sheet_writing.proofs.Steps.{follow-first, follow-long, follow-long_2, follow-is}
 use Rattle.sheet_writing.proofs.judge.may_follow.Goals as goal

@@ -1,10 +1,6 @@
 -- `sheet_writing::judge::no_kind` meets its contract. Assumes nothing.
-use borrow.Author.Rules.{rules}
-use Prim.Native.Nat.{◌-◌, ◌≤◌}
-use mathlib.Core.Path.{◌≡◌, sym, ◌∙◌}
-use mathlib.Core.Bool.{true}
+use mathlib.Core.Path.{sym, ◌∙◌}
 use native.Mathlib.Omega.{arith}
-use Rattle.sheet_writing.specs.Inner.{no_kind}
 use Rattle.sheet_writing.proofs.Wholes.{kinds-start, kinds-next, kinds-stop, kinds-end}
 use Rattle.sheet_writing.proofs.judge.no_kind.Goals as goal
 

@@ -1,6 +1,4 @@
 -- `sheet_writing::judge::shadow_found` meets its contract. Assumes nothing.
-use borrow.Author.Rules.{rules}
-use borrow.Author.Tests.{not-true, not-false}
 use mathlib.Core.Path.{sym, ap, ◌∙◌}
 use Rattle.point.specs.declared.Point.{Point}
 use Rattle.listing.specs.declared.Found.TheVariants.{Is}
@@ -12,11 +10,11 @@ use Rattle.sheet_writing.proofs.judge.shadow_found.Goals as goal
 pub returns-then-not-lie : goal.returns-then-not-lie
 returns-then-not-lie c =
     let a = c.args in
-    bounded-out a.many (shadow_found a.found) (shadow_entry c.found-1.given.0.0) (ap shadow_found c.found-1.given.1)
-    (sym c.lie.ensures ∙ not-true _ c.if-not-lie.true)
+    bounded-out a.many (shadow_found a.found) (shadow_entry c.in-Is.e) (ap shadow_found c.in-Is.is)
+    (sym c.lie.ensures ∙ c.if-not-lie.true)
 
 pub returns-else-not-lie : goal.returns-else-not-lie
 returns-else-not-lie c =
     let a = c.args in
-    ap (λ (q : Point). Is (record { point = q; bounds = c.found-1.given.0.0.bounds; next = c.found-1.given.0.0.next })) c.shadow_of-shadow.ensures
-    ∙ bounded_in a.many (shadow_found a.found) (shadow_entry c.found-1.given.0.0) (ap shadow_found c.found-1.given.1) (sym c.lie.ensures ∙ not-false _ c.if-not-lie.false)
+    ap (λ (q : Point). Is (record { point = q; bounds = c.in-Is.e.bounds; next = c.in-Is.e.next })) c.shadow_of-shadow.ensures
+    ∙ bounded_in a.many (shadow_found a.found) (shadow_entry c.in-Is.e) (ap shadow_found c.in-Is.is) (sym c.lie.ensures ∙ c.if-not-lie.false)

@@ -1,6 +1,4 @@
 -- `sheet_writing::judge::step_at` meets its contract. Assumes nothing.
-use borrow.Author.Rules.{rules}
-use borrow.Author.Tests.{not-true, not-false}
 use mathlib.Core.Path.{refl, sym, ap, ◌∙◌}
 use Rattle.pooling.specs.Lists.{Source, source, whole_at}
 use Rattle.sheet_writing.specs.Writing.{shadowed}
@@ -11,7 +9,7 @@ use Rattle.sheet_writing.proofs.judge.step_at.Goals as goal
 pub returns-then-not-row_taken : goal.returns-then-not-row_taken
 returns-then-not-row_taken c =
     let list : Source = let a = c.args in shadowed (source a.sets.now a.words.now a.pos.now a.neg.now a.bounds.now) in
-    step-no c.args.at (list) (sym c.row_taken.ensures ∙ not-true _ c.if-not-row_taken.true)
+    step-no c.args.at (list) (sym c.row_taken.ensures ∙ c.if-not-row_taken.true)
 
 pub returns : goal.returns
 returns c =
@@ -20,4 +18,4 @@ returns c =
     c.agreeing_at.ensures
     ∙ ap (agreeing a.at (lent_beside a.pos.now a.neg.now a.bounds.now)) c.shadow_at-found.ensures
     ∙ agreeing-alike a.at (lent_beside a.pos.now a.neg.now a.bounds.now) (list) refl refl refl (whole_at a.at (list))
-    ∙ step_is a.at (list) (sym c.row_taken.ensures ∙ not-false _ c.if-not-row_taken.false)
+    ∙ step_is a.at (list) (sym c.row_taken.ensures ∙ c.if-not-row_taken.false)

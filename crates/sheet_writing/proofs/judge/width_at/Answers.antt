@@ -1,5 +1,4 @@
 -- `sheet_writing::judge::width_at` meets its contract. Assumes nothing.
-use borrow.Author.Rules.{rules}
 use native.Mathlib.Omega.{arith}
 use Rattle.sheet_writing.proofs.Steps.{width_few}
 use Rattle.sheet_writing.proofs.judge.width_at.Goals as goal

@@ -1,15 +1,10 @@
 -- `sheet_writing::put::emit_floats` meets its contract. Assumes nothing.
-use borrow.Author.Rules.{rules}
-use mathlib.Core.Path.{◌≡◌, refl, ap, ◌∙◌}
+use mathlib.Core.Path.{◌≡◌}
 use mathlib.Core.List.{map}
-use Prim.Native.Nat.{ℕ, ◌+◌, ◌-◌, ◌≤◌}
-use native.Mathlib.Omega.{arith}
-use lib.ListN.{length, take, length-map}
-use lib.Seq.{take-length}
+use Prim.Native.Nat.{◌-◌, ◌≤◌}
+use lib.ListN.{length, take}
 use Rattle.floats.specs.Answers.{bits_of}
-use Rattle.records.specs.Inner.{laid, emitted}
-use Rattle.records.proofs.Laid.{length-emitted, place-room}
-use Rattle.sheet_writing.proofs.Putting.{turn_floats}
+use Rattle.records.specs.Inner.{laid}
 use Rattle.sheet_writing.proofs.put.emit_floats.Given as goal
 
 abbrev pub invariant-loop-i : goal.invariant-loop-i

@@ -1,5 +1,4 @@
 -- `sheet_writing::put::info_of` meets its contract. Assumes nothing.
-use borrow.Author.Rules.{rules}
 use mathlib.Core.Path.{◌≡◌, ap}
 use native.Mathlib.Omega.{arith}
 use Rattle.laws.specs.Counting.{bit}

@@ -1,5 +1,4 @@
 -- `sheet_writing::put::put_found` meets its contract. Assumes nothing.
-use borrow.Author.Rules.{rules}
 use native.Mathlib.Omega.{arith}
 use Rattle.sheet_writing.proofs.Putting.{found-laid, found-width}
 use Rattle.sheet_writing.proofs.put.put_found.Goals as goal

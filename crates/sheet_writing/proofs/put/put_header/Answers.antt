@@ -1,5 +1,4 @@
 -- `sheet_writing::put::put_header` meets its contract. Assumes nothing.
-use borrow.Author.Rules.{rules}
 use native.Mathlib.Omega.{arith}
 use Rattle.records.proofs.Laid.{place-room}
 use Rattle.records.proofs.Padded.{header-laid}

@@ -21,9 +21,9 @@ width_of-requires c =
 pub returns : goal.returns
 returns c =
     let a = c.args in
-    let nine : length a.row.now ≡ 9 = search in
+    let nine : length a.row.now ≡ 9 = search rules in
     let counts = a.pos.now ++ a.neg.now in
-    point-laid a.info a.n a.k (length a.bounds.now) a.row.now (words_of a.p (record { = 0; len = length a.bounds.now }))
+    point-laid a.info a.n a.k (length a.bounds.now) a.row.now (words_of a.p (record { start = 0; len = length a.bounds.now }))
     (map bits_of a.bounds.now) a.pos.now a.neg.now a.s.now _ _ _ _ nine (head-twelve a.p _) (length-map a.bounds.now bits_of)
     c.emit_run.ensures
     (c.emit_run-2.ensures ∙ ap (λ (u : List ℕ). laid a.info a.n (a.k + 9) u c.emit_run.new.s) c.words_of-head.ensures)

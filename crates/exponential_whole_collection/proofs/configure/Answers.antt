@@ -1,5 +1,4 @@
 -- `exponential_whole_collection::configure` meets its contract. Assumes nothing.
-use borrow.Author.Rules.{rules}
 use Prim.Native.Nat.{ℕ}
 use mathlib.Core.Path.{ap, ◌∙◌}
 use mir.Syntax.{w32}

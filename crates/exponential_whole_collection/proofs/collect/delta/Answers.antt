@@ -1,5 +1,4 @@
 -- `exponential_whole_collection::collect::delta` meets its contract. Assumes nothing.
-use borrow.Author.Rules.{rules}
 use mathlib.Core.Path.{sym, ◌∙◌}
 use mathlib.Core.Bool.{false}
 use Rattle.directory.specs.View.{stores}
@@ -22,7 +21,7 @@ pub returns-then-no-ne0 : goal.returns-then-no-ne0
 returns-then-no-ne0 c =
     let L : Lister (exponential_wholes c.args.s.size c.args.s.top c.args.s.sums) = exponential_whole_lister c.args.s.size c.args.s.top c.args.s.sums in
     let map : Held Cells = let a = c.args in held a.d (stores a.sets.now a.entries.now a.order.now) (cells a.figures.now a.extremes.now a.pos.now a.neg.now) in
-    let out : Output = let a = c.args in output a.out-sets.now a.out-words.now a.out-pos.now a.out-neg.now in
+    let out : Output = let a = c.args in output a.out_sets.now a.out_words.now a.out_pos.now a.out_neg.now in
     let a = c.args in
     delta-refused (L) a.s.extremes a.s.limit (map) (out) c.number-no.result c.number-no.ensures c.if-no-ne0.true
 
@@ -31,7 +30,7 @@ list-at-requires c =
     let L : Lister (exponential_wholes c.args.s.size c.args.s.top c.args.s.sums) = exponential_whole_lister c.args.s.size c.args.s.top c.args.s.sums in
     let W : Owed (exponential_wholes c.args.s.size c.args.s.top c.args.s.sums) = owed c.args.s.size c.args.s.top c.args.s.sums in
     let map : Held Cells = let a = c.args in held a.d (stores a.sets.now a.entries.now a.order.now) (cells a.figures.now a.extremes.now a.pos.now a.neg.now) in
-    let out : Output = let a = c.args in output a.out-sets.now a.out-words.now a.out-pos.now a.out-neg.now in
+    let out : Output = let a = c.args in output a.out_sets.now a.out_words.now a.out_pos.now a.out_neg.now in
     let a = c.args in
     listable (L) (W) a.s.extremes false a.s.limit (map) (out) c.number-no.result c.number-no.ensures c.if-no-ne0.false
 
@@ -40,7 +39,7 @@ sweep-dir-requires c =
     let L : Lister (exponential_wholes c.args.s.size c.args.s.top c.args.s.sums) = exponential_whole_lister c.args.s.size c.args.s.top c.args.s.sums in
     let W : Owed (exponential_wholes c.args.s.size c.args.s.top c.args.s.sums) = owed c.args.s.size c.args.s.top c.args.s.sums in
     let map : Held Cells = let a = c.args in held a.d (stores a.sets.now a.entries.now a.order.now) (cells a.figures.now a.extremes.now a.pos.now a.neg.now) in
-    let out : Output = let a = c.args in output a.out-sets.now a.out-words.now a.out-pos.now a.out-neg.now in
+    let out : Output = let a = c.args in output a.out_sets.now a.out_words.now a.out_pos.now a.out_neg.now in
     let a = c.args in
     sweeps (L) (W) a.s.extremes false a.s.limit (map) (out) c.number-no.result c.number-no.ensures c.if-no-ne0.false
 
@@ -48,7 +47,7 @@ pub returns : goal.returns
 returns c =
     let L : Lister (exponential_wholes c.args.s.size c.args.s.top c.args.s.sums) = exponential_whole_lister c.args.s.size c.args.s.top c.args.s.sums in
     let map : Held Cells = let a = c.args in held a.d (stores a.sets.now a.entries.now a.order.now) (cells a.figures.now a.extremes.now a.pos.now a.neg.now) in
-    let out : Output = let a = c.args in output a.out-sets.now a.out-words.now a.out-pos.now a.out-neg.now in
+    let out : Output = let a = c.args in output a.out_sets.now a.out_words.now a.out_pos.now a.out_neg.now in
     let W : Owed (exponential_wholes c.args.s.size c.args.s.top c.args.s.sums) = owed c.args.s.size c.args.s.top c.args.s.sums in
     let a = c.args in
     delta-done (L) a.s.extremes a.s.limit (map) (out) _ _ (sym c.number-no.ensures ∙ c.if-no-ne0.false)

@@ -1,5 +1,4 @@
 -- `exponential_whole_collection::collect::number` meets its contract. Assumes nothing.
-use borrow.Author.Rules.{rules}
 use mathlib.Core.Path.{refl, ◌∙◌}
 use mathlib.Core.Bool.{true}
 use mathlib.Core.Option.{none}
@@ -29,7 +28,7 @@ returns-then-bar-ne0 c =
     let L : Lister (exponential_wholes c.args.s.size c.args.s.top true) = exponential_whole_lister c.args.s.size c.args.s.top true in
     let W : Owed (exponential_wholes c.args.s.size c.args.s.top true) = owed c.args.s.size c.args.s.top true in
     let map : Held Cells = let a = c.args in held a.d (stores a.sets.now a.entries.now a.order.now) (cells a.figures.now a.extremes.now a.pos.now a.neg.now) in
-    let out : Output = let a = c.args in output a.out-sets.now a.out-words.now a.out-pos.now a.out-neg.now in
+    let out : Output = let a = c.args in output a.out_sets.now a.out_words.now a.out_pos.now a.out_neg.now in
     let a = c.args in
     number-first (L) (W) a.s.extremes a.cumulative a.s.limit (map) (out)
     c.cells_suffice-room.result c.unset_of-unset.result c.barred-bar.result c.cells_suffice-room.ensures c.unset_of-unset.ensures c.barred-bar.ensures c.if-bar-ne0.true
@@ -40,7 +39,7 @@ survey-found-requires c =
     let L : Lister (exponential_wholes c.args.s.size c.args.s.top true) = exponential_whole_lister c.args.s.size c.args.s.top true in
     let W : Owed (exponential_wholes c.args.s.size c.args.s.top true) = owed c.args.s.size c.args.s.top true in
     let map : Held Cells = let a = c.args in held a.d (stores a.sets.now a.entries.now a.order.now) (cells a.figures.now a.extremes.now a.pos.now a.neg.now) in
-    let out : Output = let a = c.args in output a.out-sets.now a.out-words.now a.out-pos.now a.out-neg.now in
+    let out : Output = let a = c.args in output a.out_sets.now a.out_words.now a.out_pos.now a.out_neg.now in
     let a = c.args in record {
       walk = walk_here (L) (W) a.s.extremes a.cumulative a.s.limit (map) (out)
           c.cells_suffice-room.result c.unset_of-unset.result c.barred-bar.result c.cells_suffice-room.ensures c.unset_of-unset.ensures c.barred-bar.ensures c.if-bar-ne0.false;
@@ -52,7 +51,7 @@ returns c =
     let L : Lister (exponential_wholes c.args.s.size c.args.s.top true) = exponential_whole_lister c.args.s.size c.args.s.top true in
     let W : Owed (exponential_wholes c.args.s.size c.args.s.top true) = owed c.args.s.size c.args.s.top true in
     let map : Held Cells = let a = c.args in held a.d (stores a.sets.now a.entries.now a.order.now) (cells a.figures.now a.extremes.now a.pos.now a.neg.now) in
-    let out : Output = let a = c.args in output a.out-sets.now a.out-words.now a.out-pos.now a.out-neg.now in
+    let out : Output = let a = c.args in output a.out_sets.now a.out_words.now a.out_pos.now a.out_neg.now in
     let a = c.args in
     number-then (L) (W) a.s.extremes a.cumulative a.s.limit (map) (out)
     c.cells_suffice-room.result c.unset_of-unset.result c.barred-bar.result c.cells_suffice-room.ensures c.unset_of-unset.ensures c.barred-bar.ensures c.if-bar-ne0.false

@@ -1,9 +1,7 @@
 -- `exponential_whole_collection::slot::agrees_at` meets its contract. Assumes nothing.
-use borrow.Author.Rules.{rules}
 use mathlib.Core.Path.{◌≡◌, refl, sym, ap, ◌∙◌}
 use mathlib.Core.Bool.{true}
 use mathlib.Core.List.{[]}
-use borrow.Author.Tests.{not-true, not-false}
 use lib.ListN.{get_or}
 use Rattle.rows.specs.Parts.{part_at}
 use Rattle.exponential_wholes.specs.declared.Head.{Head}
@@ -20,12 +18,12 @@ returns-then-not-can_read c =
     let lent : Cells = let a = c.args in cells a.figures.now a.extremes.now a.pos.now a.neg.now in
     let a = c.args in
     unread a.size a.top c.requires.0 (lent) a.x c.requires.1
-    (sym (reads_held true _ refl) ∙ sym c.can_read.ensures ∙ not-true c.can_read.result c.if-not-can_read.true)
+    (sym (reads_held true _ refl) ∙ sym c.can_read.ensures ∙ c.if-not-can_read.true)
 
 pub head_of-head-requires : goal.head_of-head-requires
 head_of-head-requires c =
     let lent : Cells = let a = c.args in cells a.figures.now a.extremes.now a.pos.now a.neg.now in
-    let can : narrow (get_or (lent).figures c.args.x []) ≡ true = sym (reads_held true _ refl) ∙ sym c.can_read.ensures ∙ not-false c.can_read.result c.if-not-can_read.false in
+    let can : narrow (get_or (lent).figures c.args.x []) ≡ true = sym (reads_held true _ refl) ∙ sym c.can_read.ensures ∙ c.if-not-can_read.false in
     reads_held true _ refl ∙ can
 
 pub returns : goal.returns
@@ -39,7 +37,7 @@ returns c =
     let a = c.args in
     c.counts_agree.ensures
     ∙ ap (λ (h : Head). S.agrees a.size a.top h.counts (part_at a.size (lent).pos a.x) (part_at a.size (lent).neg a.x)) (head-is) in
-    let can : narrow (get_or (lent).figures c.args.x []) ≡ true = sym (reads_held true _ refl) ∙ sym c.can_read.ensures ∙ not-false c.can_read.result c.if-not-can_read.false in
+    let can : narrow (get_or (lent).figures c.args.x []) ≡ true = sym (reads_held true _ refl) ∙ sym c.can_read.ensures ∙ c.if-not-can_read.false in
     let read : narrow (get_or (lent).figures c.args.x []) ≡ true = can in
     let a = c.args in
     counts-are ∙ by-counts a.size a.top c.requires.0 (lent) a.x c.requires.1 (read)

@@ -1,5 +1,4 @@
 -- `exponential_whole_collection::slot::is_sound` meets its contract. Assumes nothing.
-use borrow.Author.Rules.{rules}
 use mathlib.Core.Path.{◌∙◌}
 use Rattle.collecting.proofs.Sure.{sound-known}
 use Rattle.exponential_collection.proofs.Slots.{sound-held, sound-fresh}

@@ -1,8 +1,5 @@
 -- `exponential_whole_collection::slot::put` meets its contract. Assumes nothing.
-use borrow.Author.Rules.{rules}
 use mathlib.Core.Path.{◌≡◌, ap, ◌∙◌}
-use native.Mathlib.Omega.{arith}
-use borrow.Author.Tests.{not-true, not-false}
 use Rattle.exponential_wholes.specs.declared.Head.{Head}
 use Rattle.exponential_whole_slots.specs.Cells.{Cells, cells, head_at}
 use Rattle.whole_point.specs.Handing.{exponential_point}
@@ -15,9 +12,9 @@ use Rattle.exponential_whole_collection.proofs.slot.put.Goals as goal
 pub returns-then-not-due : goal.returns-then-not-due
 returns-then-not-due c =
     let lent : Cells = let a = c.args in cells a.figures.now a.extremes.now a.pos.now a.neg.now in
-    let out : Output = let a = c.args in output a.out-sets.now a.out-words.now a.out-pos.now a.out-neg.now in
+    let out : Output = let a = c.args in output a.out_sets.now a.out_words.now a.out_pos.now a.out_neg.now in
     let a = c.args in
-    put-not (exponential_whole_lister a.size a.top a.sums) a.show a.updated a.due (lent) a.x a.row a.at (out) (not-true a.due c.if-not-due.true)
+    put-not (exponential_whole_lister a.size a.top a.sums) a.show a.updated a.due (lent) a.x a.row a.at (out) c.if-not-due.true
 
 pub head_of-head-requires : goal.head_of-head-requires
 head_of-head-requires c =
@@ -25,35 +22,23 @@ head_of-head-requires c =
     let a = c.args in
     (laid a.size a.top c.requires.sound.set (lent) a.x c.requires.sound.room a.updated c.requires.sound.agrees).reads
 
-pub overflow_mul-a : goal.overflow_mul-a
-overflow_mul-a c = omega (arith, c.requires.sound.room.pos, c.requires.sound.room.neg, c.good.1.1.1.1.1.1.1.1.1.1.1.0.1, c.good.1.1.1.1.1.1.1.1.1.1.1.1.0.1)
-
-pub overflow_add-e : goal.overflow_add-e
-overflow_add-e c = omega (arith, c.requires.sound.room.pos, c.requires.sound.room.neg, c.good.1.1.1.1.1.1.1.1.1.1.1.0.1, c.good.1.1.1.1.1.1.1.1.1.1.1.1.0.1)
-
-pub offset_bounds-pos-a : goal.offset_bounds-pos-a
-offset_bounds-pos-a c = omega (arith, c.requires.sound.room.pos, c.requires.sound.room.neg, c.good.1.1.1.1.1.1.1.1.1.1.1.0.1, c.good.1.1.1.1.1.1.1.1.1.1.1.1.0.1)
-
-pub offset_bounds-neg-a : goal.offset_bounds-neg-a
-offset_bounds-neg-a c = omega (arith, c.requires.sound.room.pos, c.requires.sound.room.neg, c.good.1.1.1.1.1.1.1.1.1.1.1.0.1, c.good.1.1.1.1.1.1.1.1.1.1.1.1.0.1)
-
 pub put-requires : goal.put-requires
 put-requires c =
     let lent : Cells = let a = c.args in cells a.figures.now a.extremes.now a.pos.now a.neg.now in
     let point-is : c.exponential_point-p.result
     ≡ exponential_point (head_at c.args.top (lent) c.args.x c.args.updated) c.args.show c.args.sums = c.exponential_point-p.ensures ∙ ap (λ (h : Head). exponential_point h c.args.show c.args.sums) c.head_of-head.ensures in
-    let out : Output = let a = c.args in output a.out-sets.now a.out-words.now a.out-pos.now a.out-neg.now in
+    let out : Output = let a = c.args in output a.out_sets.now a.out_words.now a.out_pos.now a.out_neg.now in
     let a = c.args in
     put-room a.size a.top c.requires.sound.set (lent) a.x c.requires.sound.room a.updated c.requires.sound.agrees a.show a.sums
-    c.exponential_point-p.result (point-is) a.row a.at (out) (c.requires.free (not-false a.due c.if-not-due.false))
+    c.exponential_point-p.result (point-is) a.row a.at (out) (c.requires.free c.if-not-due.false)
 
 pub returns : goal.returns
 returns c =
     let lent : Cells = let a = c.args in cells a.figures.now a.extremes.now a.pos.now a.neg.now in
     let point-is : c.exponential_point-p.result
     ≡ exponential_point (head_at c.args.top (lent) c.args.x c.args.updated) c.args.show c.args.sums = c.exponential_point-p.ensures ∙ ap (λ (h : Head). exponential_point h c.args.show c.args.sums) c.head_of-head.ensures in
-    let out : Output = let a = c.args in output a.out-sets.now a.out-words.now a.out-pos.now a.out-neg.now in
+    let out : Output = let a = c.args in output a.out_sets.now a.out_words.now a.out_pos.now a.out_neg.now in
     let a = c.args in
     c.put.ensures
     ∙ put_on a.size a.top c.requires.sound.set (lent) a.x c.requires.sound.room a.updated c.requires.sound.agrees a.show a.sums
-    c.exponential_point-p.result (point-is) a.row a.at (out) a.due (not-false a.due c.if-not-due.false)
+    c.exponential_point-p.result (point-is) a.row a.at (out) a.due c.if-not-due.false

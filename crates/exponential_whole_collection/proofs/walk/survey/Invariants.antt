@@ -1,23 +1,15 @@
 -- `exponential_whole_collection::walk::survey` meets its contract. Assumes nothing.
-use Prim.Native.Nat.{◌+◌, ◌-◌, ◌≤◌}
-use mathlib.Core.Bool.{Bool, true}
+use Prim.Native.Nat.{◌+◌, ◌-◌}
+use mathlib.Core.Bool.{true}
 use mathlib.Core.List.{[]}
-use native.Mathlib.Omega.{arith}
-use borrow.Author.Rules.{rules}
-use borrow.Author.Tests.{not-true, not-false}
-use Rattle.exponential_whole_slots.specs.Cells.{Cells, cells}
-use Rattle.value_map.specs.Calls.{Held}
-use Rattle.whole_map.specs.Exponential.{exponential_wholes}
-use Rattle.collecting.specs.Lister.{Lister}
 use Rattle.collecting.specs.Slots.{walked}
-use Rattle.collecting.proofs.Turns.{Seen}
-use Rattle.collecting.proofs.Loops.{found-used, Surveyed, survey-start, survey-few, survey-known, survey-next, survey-stop, survey-end}
+use Rattle.collecting.proofs.Loops.{Surveyed}
 use Rattle.exponential_whole_collection.specs.Points.{exponential_whole_lister}
 use Rattle.exponential_whole_collection.proofs.walk.survey.Given as goal
 
 abbrev pub invariant-loop-i : goal.invariant-loop-i
 invariant-loop-i l =
-    Surveyed (exponential_whole_lister l.size l.top true) true l.cumulative (walked l.used [] l.entries l.order (record { l.figures = l.figures; l.extremes = l.extremes; l.pos = l.pos; l.neg = l.neg })) l.i l.found
+    Surveyed (exponential_whole_lister l.size l.top true) true l.cumulative (walked l.used [] l.entries l.order (record { figures = l.figures; extremes = l.extremes; pos = l.pos; neg = l.neg })) l.i l.found
 
 abbrev pub decreases-loop-i : goal.decreases-loop-i
 decreases-loop-i l = l.used + 1 - l.i

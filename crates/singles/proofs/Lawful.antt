@@ -5,7 +5,7 @@ use mathlib.Core.List.{List, [], ◌∷◌, ◌++◌, foldl}
 use native.Mathlib.Omega.{arith}
 use lib.Ieee.{Float, binary64, fits, add}
 use lib.Ieee.Scale.{finite}
-use Rattle.laws.proofs.Cases.{and-true, true-not-false}
+use Rattle.laws.proofs.Cases.{and-true}
 use Rattle.floats.specs.Starts.{zero_float}
 use Rattle.floats.specs.Answers.{bits_of}
 use Rattle.tally.proofs.Lawful.{Lawful}

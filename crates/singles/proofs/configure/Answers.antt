@@ -1,6 +1,5 @@
 -- `singles::configure` meets its contract. Assumes nothing.
 use mathlib.Core.Path.{refl}
-use borrow.Author.Rules.{rules}
 use Rattle.sets.specs.Sorted.{filter_of}
 use Rattle.directory.specs.View.{stores}
 use Rattle.value_map.proofs.Cases.{start_is}

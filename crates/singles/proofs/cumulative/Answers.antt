@@ -1,5 +1,4 @@
 -- `singles::cumulative` meets its contract. Assumes nothing.
-use borrow.Author.Rules.{rules}
 use mathlib.Core.Path.{sym}
 use Rattle.laws.proofs.Cases.{true-not-false}
 use Rattle.singles.proofs.cumulative.Goals as goal

@@ -1,5 +1,4 @@
 -- `singles::delta` meets its contract. Assumes nothing.
-use borrow.Author.Rules.{rules}
 use mathlib.Core.Path.{sym}
 use Rattle.laws.proofs.Cases.{true-not-false}
 use Rattle.singles.proofs.delta.Goals as goal

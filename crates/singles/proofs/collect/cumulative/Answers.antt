@@ -3,7 +3,6 @@ use mathlib.Core.Path.{sym, ◌∙◌}
 use mathlib.Core.Bool.{true}
 use mathlib.Core.List.{List}
 use lib.Ieee.{Float}
-use borrow.Author.Rules.{rules}
 use Rattle.directory.specs.View.{stores}
 use Rattle.value_map.specs.Calls.{Held, held}
 use Rattle.listing.specs.Listed.{Output}
@@ -24,12 +23,12 @@ pub returns-then-no-ne0 : goal.returns-then-no-ne0
 returns-then-no-ne0 c =
     let L : Lister (single_store c.args.s.aggregation) = single_lister c.args.s.aggregation in
     let map : Held (List Float) = let a = c.args in held a.d (stores a.sets.now a.entries.now a.order.now) a.values.now in
-    let out : Output = output c.args.out-sets.now c.args.out-values.now in
+    let out : Output = output c.args.out_sets.now c.args.out_values.now in
     cumulative-refused (L) tt c.args.s.limit (map) (out) c.number-no.result c.number-no.ensures c.if-no-ne0.true
 
 pub list-end-requires : goal.list-end-requires
 list-end-requires c =
-    let out : Output = output c.args.out-sets.now c.args.out-values.now in
+    let out : Output = output c.args.out_sets.now c.args.out_values.now in
     let L : Lister (single_store c.args.s.aggregation) = single_lister c.args.s.aggregation in
     let map : Held (List Float) = let a = c.args in held a.d (stores a.sets.now a.entries.now a.order.now) a.values.now in
     let a = c.args in
@@ -42,7 +41,7 @@ pub returns : goal.returns
 returns c =
     let L : Lister (single_store c.args.s.aggregation) = single_lister c.args.s.aggregation in
     let map : Held (List Float) = let a = c.args in held a.d (stores a.sets.now a.entries.now a.order.now) a.values.now in
-    let out : Output = output c.args.out-sets.now c.args.out-values.now in
+    let out : Output = output c.args.out_sets.now c.args.out_values.now in
     let a = c.args in
     cumulative-done (L) tt a.s.limit (map) (out) _ (sym c.number-no.ensures ∙ c.if-no-ne0.false)
     (listed-is (L) (owed a.s.aggregation) tt true a.s.limit (map) (out) _ c.list-end.ensures)

@@ -5,7 +5,6 @@ use mathlib.Core.List.{List}
 use mathlib.Core.Option.{none}
 use lib.Ieee.{Float}
 use lib.ListN.{length}
-use borrow.Author.Rules.{rules}
 use Rattle.directory.specs.View.{stores}
 use Rattle.value_map.specs.Calls.{Held, held}
 use Rattle.listing.specs.Listed.{Output}
@@ -29,7 +28,7 @@ pub returns-then-no-ne0 : goal.returns-then-no-ne0
 returns-then-no-ne0 c =
     let L : Lister (single_store c.args.s.aggregation) = single_lister c.args.s.aggregation in
     let map : Held (List Float) = let a = c.args in held a.d (stores a.sets.now a.entries.now a.order.now) a.values.now in
-    let out : Output = output c.args.out-sets.now c.args.out-values.now in
+    let out : Output = output c.args.out_sets.now c.args.out_values.now in
     let a = c.args in
     number-first (L) (owed a.s.aggregation) tt a.cumulative a.s.limit (map) (out)
     c.suffices-room.result 0 c.barred-no.result c.suffices-room.ensures refl c.barred-no.ensures c.if-no-ne0.true
@@ -38,7 +37,7 @@ pub survey-found-requires : goal.survey-found-requires
 survey-found-requires c =
     let L : Lister (single_store c.args.s.aggregation) = single_lister c.args.s.aggregation in
     let map : Held (List Float) = let a = c.args in held a.d (stores a.sets.now a.entries.now a.order.now) a.values.now in
-    let out : Output = output c.args.out-sets.now c.args.out-values.now in
+    let out : Output = output c.args.out_sets.now c.args.out_values.now in
     let a = c.args in record {
       walk = walk_here (L) (owed a.s.aggregation) tt a.cumulative a.s.limit (map) (out)
           c.suffices-room.result 0 c.barred-no.result c.suffices-room.ensures refl c.barred-no.ensures c.if-no-ne0.false;
@@ -49,10 +48,10 @@ pub returns : goal.returns
 returns c =
     let L : Lister (single_store c.args.s.aggregation) = single_lister c.args.s.aggregation in
     let map : Held (List Float) = let a = c.args in held a.d (stores a.sets.now a.entries.now a.order.now) a.values.now in
-    let out : Output = output c.args.out-sets.now c.args.out-values.now in
+    let out : Output = output c.args.out_sets.now c.args.out_values.now in
     let a = c.args in
     number-then (L) (owed a.s.aggregation) tt a.cumulative a.s.limit (map) (out)
     c.suffices-room.result 0 c.barred-no.result c.suffices-room.ensures refl c.barred-no.ensures c.if-no-ne0.false
     tt (λ x. refl) c.survey-found.result c.number_of.result c.survey-found.ensures
     (c.number_of.ensures
-    ∙ ap (λ (n : ℕ). surveyed_by c.survey-found.result (length a.out-sets.now) n 0 0) (sym (words_long a.out-values.now)))
+    ∙ ap (λ (n : ℕ). surveyed_by c.survey-found.result (length a.out_sets.now) n 0 0) (sym (words_long a.out_values.now)))

@@ -1,5 +1,4 @@
 -- `singles::map::measure_by` meets its contract. Assumes nothing.
-use borrow.Author.Rules.{rules}
 use mathlib.Core.Path.{refl, ◌∙◌}
 use mathlib.Core.List.{List}
 use lib.Ieee.{Float}
@@ -31,7 +30,7 @@ finish-requires c z =
     let known : Sits (kind) (lent_map) c.args.v c.seat_by-seat.result =
     let a = c.args in
     allows (owed a.aggregation) a.limit (lent_map) a.v (way) 0 refl c.takes-value.ensures c.seat_by-seat.ensures in
-    (known).ranges (took (kind) (lent_map).cells c.args.v c.seat_by-seat.result.no c.seat_by-seat.result.no c.seat_by-seat.result.slot c.seat_by-seat.result.updated (λ d. d) _ c.take-no.ensures z)
+    (known).fits (took (kind) (lent_map).cells c.args.v c.seat_by-seat.result.no c.seat_by-seat.result.no c.seat_by-seat.result.slot c.seat_by-seat.result.updated (λ d. d) _ c.take-no.ensures z)
 
 pub returns : goal.returns
 returns c =

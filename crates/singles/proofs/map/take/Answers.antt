@@ -1,5 +1,4 @@
 -- `singles::map::take` meets its contract. Assumes nothing.
-use borrow.Author.Rules.{rules}
 use mathlib.Core.Path.{◌∙◌}
 use Rattle.value_map.proofs.Ways.{take_no, take_on}
 use Rattle.singles.specs.Stores.{single_store}

@@ -1,5 +1,4 @@
 -- `singles::slot::held_at` meets its contract. Assumes nothing.
-use borrow.Author.Rules.{rules}
 use mathlib.Core.Path.{sym}
 use Rattle.laws.proofs.Bools.{pick_true, pick-false}
 use Rattle.singles.proofs.slot.held_at.Goals as goal

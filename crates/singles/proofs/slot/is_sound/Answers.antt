@@ -2,7 +2,6 @@
 use mathlib.Core.Path.{sym, ap, ◌∙◌}
 use lib.ListN.{get_or}
 use lib.Ieee.{nan}
-use borrow.Author.Rules.{rules}
 use Rattle.collecting.proofs.Sure.{sound-known}
 use Rattle.singles.specs.Kinds.{holds}
 use Rattle.singles.proofs.Owes.{holds-is}

@@ -1,6 +1,4 @@
 -- `singles::slot::record` meets its contract. Assumes nothing.
-use borrow.Author.Rules.{rules}
-use borrow.Author.Tests.{not-true, not-false}
 use mathlib.Core.Path.{◌≡◌, sym, ap, ◌∙◌}
 use lib.ListN.{set}
 use lib.Ieee.{Float}
@@ -14,11 +12,11 @@ pub returns-then-not-holds : goal.returns-then-not-holds
 returns-then-not-holds c =
     let tested : holds c.args.aggregation (held_at c.args.values.now c.args.x c.args.updated) ≡ c.holds.result = sym (c.holds.ensures ∙ ap (holds c.args.aggregation) c.held_at-held.ensures) in
     let a = c.args in
-    held_bad a.aggregation a.values.now a.x a.updated a.v (tested ∙ not-true c.holds.result c.if-not-holds.true)
+    held_bad a.aggregation a.values.now a.x a.updated a.v (tested ∙ c.if-not-holds.true)
 
 pub returns : goal.returns
 returns c =
     let tested : holds c.args.aggregation (held_at c.args.values.now c.args.x c.args.updated) ≡ c.holds.result = sym (c.holds.ensures ∙ ap (holds c.args.aggregation) c.held_at-held.ensures) in
     let a = c.args in
     ap (λ (y : Float). after 0 (set a.values.now a.x y)) (c.stepped.ensures ∙ ap (λ (y : Float). step a.aggregation y a.v) c.held_at-held.ensures)
-    ∙ held-good a.aggregation a.values.now a.x a.updated a.v (tested ∙ not-false c.holds.result c.if-not-holds.false)
+    ∙ held-good a.aggregation a.values.now a.x a.updated a.v (tested ∙ c.if-not-holds.false)

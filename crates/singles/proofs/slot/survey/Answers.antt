@@ -1,6 +1,4 @@
 -- `singles::slot::survey` meets its contract. Assumes nothing.
-use borrow.Author.Rules.{rules}
-use borrow.Author.Tests.{not-true, not-false}
 use mathlib.Core.Path.{◌≡◌, sym, ◌∙◌}
 use native.Mathlib.Omega.{arith}
 use Rattle.singles.specs.Kinds.{holds}
@@ -14,14 +12,14 @@ is_sound-requires c = record { x_in_bounds = c.requires.x_in_bounds; known = c.r
 pub returns-then-not-is_sound : goal.returns-then-not-is_sound
 returns-then-not-is_sound c =
     let tested : holds c.args.aggregation (held_at c.args.values.now c.args.x c.args.updated) ≡ c.is_sound.result = sym c.is_sound.ensures in
-    let a = c.args in record { value = survey-none a.aggregation a.updated a.due a.values.now a.s a.x (tested ∙ not-true c.is_sound.result c.if-not-is_sound.true); more = (omega arith, omega arith, omega arith) }
+    let a = c.args in record { value = survey-none a.aggregation a.updated a.due a.values.now a.s a.x (tested ∙ c.if-not-is_sound.true); more = (omega arith, omega arith, omega arith) }
 
 pub returns-then-not-due : goal.returns-then-not-due
 returns-then-not-due c =
     let tested : holds c.args.aggregation (held_at c.args.values.now c.args.x c.args.updated) ≡ c.is_sound.result = sym c.is_sound.ensures in
-    let a = c.args in record { value = survey-idle a.aggregation a.updated a.due a.values.now a.s a.x (tested ∙ not-false c.is_sound.result c.if-not-is_sound.false) (not-true a.due c.if-not-due.true); more = (omega arith, omega arith, omega arith) }
+    let a = c.args in record { value = survey-idle a.aggregation a.updated a.due a.values.now a.s a.x (tested ∙ c.if-not-is_sound.false) c.if-not-due.true; more = (omega arith, omega arith, omega arith) }
 
 pub returns : goal.returns
 returns c =
     let tested : holds c.args.aggregation (held_at c.args.values.now c.args.x c.args.updated) ≡ c.is_sound.result = sym c.is_sound.ensures in
-    let a = c.args in record { value = survey-due a.aggregation a.updated a.due a.values.now a.s a.x (tested ∙ not-false c.is_sound.result c.if-not-is_sound.false) (not-false a.due c.if-not-due.false); more = (omega arith, omega arith, omega arith) }
+    let a = c.args in record { value = survey-due a.aggregation a.updated a.due a.values.now a.s a.x (tested ∙ c.if-not-is_sound.false) c.if-not-due.false; more = (omega arith, omega arith, omega arith) }

@@ -1,16 +1,8 @@
 -- `singles::walk::survey` meets its contract. Assumes nothing.
-use Prim.Native.Nat.{◌+◌, ◌-◌, ◌≤◌}
-use mathlib.Core.List.{List, []}
-use native.Mathlib.Omega.{arith}
-use lib.Ieee.{Float}
-use borrow.Author.Rules.{rules}
-use borrow.Author.Tests.{not-true, not-false}
-use Rattle.value_map.specs.Calls.{Held}
-use Rattle.collecting.specs.Lister.{Lister}
+use Prim.Native.Nat.{◌+◌, ◌-◌}
+use mathlib.Core.List.{[]}
 use Rattle.collecting.specs.Slots.{walked}
-use Rattle.collecting.proofs.Turns.{Seen}
-use Rattle.collecting.proofs.Loops.{found-used, Surveyed, survey-start, survey-few, survey-known, survey-next, survey-stop, survey-end}
-use Rattle.singles.specs.Stores.{single_store}
+use Rattle.collecting.proofs.Loops.{Surveyed}
 use Rattle.singles.specs.Points.{single_lister}
 use Rattle.singles.proofs.walk.survey.Given as goal
 

@@ -1,5 +1,4 @@
 -- `explicit_whole_collection::configure` meets its contract. Assumes nothing.
-use borrow.Author.Rules.{rules}
 use Rattle.sets.specs.Sorted.{filter_of}
 use Rattle.directory.specs.View.{stores}
 use Rattle.explicit_whole_slots.specs.Cells.{cells}

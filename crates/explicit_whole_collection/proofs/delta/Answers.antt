@@ -1,5 +1,4 @@
 -- `explicit_whole_collection::delta` meets its contract. Assumes nothing.
-use borrow.Author.Rules.{rules}
 use mathlib.Core.Path.{sym}
 use Rattle.laws.proofs.Cases.{true-not-false}
 use Rattle.explicit_whole_collection.proofs.delta.Goals as goal

@@ -1,7 +1,6 @@
 -- `explicit_whole_collection::collect::delta` meets its contract. Assumes nothing.
 use mathlib.Core.Path.{sym, ◌∙◌}
 use mathlib.Core.Bool.{false}
-use borrow.Author.Rules.{rules}
 use Rattle.directory.specs.View.{stores}
 use Rattle.explicit_whole_slots.specs.Cells.{Cells, cells}
 use Rattle.value_map.specs.Calls.{Held, held}
@@ -18,28 +17,28 @@ number-no-requires c = c.requires
 pub returns-then-no-ne0 : goal.returns-then-no-ne0
 returns-then-no-ne0 c =
     let map : Held Cells = let a = c.args in held a.d (stores a.sets.now a.entries.now a.order.now) (cells a.totals.now a.extremes.now a.counts.now) in
-    let out : Output = let a = c.args in output a.out-sets.now a.out-words.now a.out-pos.now a.out-neg.now in
+    let out : Output = let a = c.args in output a.out_sets.now a.out_words.now a.out_pos.now a.out_neg.now in
     let a = c.args in
     delta-refused (explicit_whole_lister a.bounds.now a.s.sums) a.s.extremes a.s.limit (map) (out) c.number-no.result c.number-no.ensures c.if-no-ne0.true
 
 pub list-end-requires : goal.list-end-requires
 list-end-requires c =
     let map : Held Cells = let a = c.args in held a.d (stores a.sets.now a.entries.now a.order.now) (cells a.totals.now a.extremes.now a.counts.now) in
-    let out : Output = let a = c.args in output a.out-sets.now a.out-words.now a.out-pos.now a.out-neg.now in
+    let out : Output = let a = c.args in output a.out_sets.now a.out_words.now a.out_pos.now a.out_neg.now in
     let a = c.args in
     listable (explicit_whole_lister a.bounds.now a.s.sums) (owed a.bounds.now a.s.sums) a.s.extremes false a.s.limit (map) (out) c.number-no.result c.number-no.ensures c.if-no-ne0.false
 
 pub sweep-dir-requires : goal.sweep-dir-requires
 sweep-dir-requires c =
     let map : Held Cells = let a = c.args in held a.d (stores a.sets.now a.entries.now a.order.now) (cells a.totals.now a.extremes.now a.counts.now) in
-    let out : Output = let a = c.args in output a.out-sets.now a.out-words.now a.out-pos.now a.out-neg.now in
+    let out : Output = let a = c.args in output a.out_sets.now a.out_words.now a.out_pos.now a.out_neg.now in
     let a = c.args in
-    sweeps (explicit_whole_lister a.bounds.now a.s.sums) (owed a.bounds.now a.s.sums) a.s.extremes false a.s.limit (map) (out) c.number-no.result c.number-no.ensures c.if-no-ne0.left
+    sweeps (explicit_whole_lister a.bounds.now a.s.sums) (owed a.bounds.now a.s.sums) a.s.extremes false a.s.limit (map) (out) c.number-no.result c.number-no.ensures c.if-no-ne0.false
 
 pub returns : goal.returns
 returns c =
     let map : Held Cells = let a = c.args in held a.d (stores a.sets.now a.entries.now a.order.now) (cells a.totals.now a.extremes.now a.counts.now) in
-    let out : Output = let a = c.args in output a.out-sets.now a.out-words.now a.out-pos.now a.out-neg.now in
+    let out : Output = let a = c.args in output a.out_sets.now a.out_words.now a.out_pos.now a.out_neg.now in
     let a = c.args in
-    delta-done (explicit_whole_lister a.bounds.now a.s.sums) a.s.extremes a.s.limit (map) (out) _ _ (sym c.number-no.ensures ∙ c.if-no-ne0.left)
+    delta-done (explicit_whole_lister a.bounds.now a.s.sums) a.s.extremes a.s.limit (map) (out) _ _ (sym c.number-no.ensures ∙ c.if-no-ne0.false)
     (listed-is (explicit_whole_lister a.bounds.now a.s.sums) (owed a.bounds.now a.s.sums) a.s.extremes false a.s.limit (map) (out) _ c.list-end.ensures) c.sweep-dir.ensures

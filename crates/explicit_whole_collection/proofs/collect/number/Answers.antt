@@ -1,5 +1,4 @@
 -- `explicit_whole_collection::collect::number` meets its contract. Assumes nothing.
-use borrow.Author.Rules.{rules}
 use mathlib.Core.Path.{refl, ◌∙◌}
 use mathlib.Core.Bool.{true}
 use mathlib.Core.Option.{none}
@@ -25,7 +24,7 @@ barred-no-requires c k =
 pub returns-then-no-ne0 : goal.returns-then-no-ne0
 returns-then-no-ne0 c =
     let map : Held Cells = let a = c.args in held a.d (stores a.sets.now a.entries.now a.order.now) (cells a.totals.now a.extremes.now a.counts.now) in
-    let out : Output = let a = c.args in output a.out-sets.now a.out-words.now a.out-pos.now a.out-neg.now in
+    let out : Output = let a = c.args in output a.out_sets.now a.out_words.now a.out_pos.now a.out_neg.now in
     let a = c.args in
     number-first (explicit_whole_lister a.bounds.now a.s.sums) (owed a.bounds.now a.s.sums) a.s.extremes a.cumulative a.s.limit (map) (out)
     c.cells_suffice-room.result c.unset_of-unset.result c.barred-no.result
@@ -34,9 +33,9 @@ returns-then-no-ne0 c =
 pub survey-found-requires : goal.survey-found-requires
 survey-found-requires c =
     let map : Held Cells = let a = c.args in held a.d (stores a.sets.now a.entries.now a.order.now) (cells a.totals.now a.extremes.now a.counts.now) in
-    let out : Output = let a = c.args in output a.out-sets.now a.out-words.now a.out-pos.now a.out-neg.now in
+    let out : Output = let a = c.args in output a.out_sets.now a.out_words.now a.out_pos.now a.out_neg.now in
     let a = c.args in record {
-      walk = walk-counts a.bounds.now a.s.sums a.d.used a.entries.now a.order.now a.totals a.extremes a.counts
+      walk = walk-counts a.bounds.now a.s.sums a.d.used a.entries.now a.order.now a.totals.now a.extremes.now a.counts.now
           (walk_here (explicit_whole_lister a.bounds.now a.s.sums) (owed a.bounds.now a.s.sums) a.s.extremes a.cumulative a.s.limit (map) (out)
           c.cells_suffice-room.result c.unset_of-unset.result c.barred-no.result
           c.cells_suffice-room.ensures c.unset_of-unset.ensures c.barred-no.ensures c.if-no-ne0.false);
@@ -46,11 +45,11 @@ survey-found-requires c =
 pub returns : goal.returns
 returns c =
     let map : Held Cells = let a = c.args in held a.d (stores a.sets.now a.entries.now a.order.now) (cells a.totals.now a.extremes.now a.counts.now) in
-    let out : Output = let a = c.args in output a.out-sets.now a.out-words.now a.out-pos.now a.out-neg.now in
+    let out : Output = let a = c.args in output a.out_sets.now a.out_words.now a.out_pos.now a.out_neg.now in
     let a = c.args in
     number-then (explicit_whole_lister a.bounds.now a.s.sums) (owed a.bounds.now a.s.sums) a.s.extremes a.cumulative a.s.limit (map) (out)
     c.cells_suffice-room.result c.unset_of-unset.result c.barred-no.result
     c.cells_suffice-room.ensures c.unset_of-unset.ensures c.barred-no.ensures c.if-no-ne0.false
     true (λ x. refl) c.survey-found.result c.number_of.result
-    (c.survey-found.ensures ∙ survey-counts a.bounds.now a.s.sums a.d.used a.entries.now a.order.now a.totals a.extremes a.counts a.cumulative)
+    (c.survey-found.ensures ∙ survey-counts a.bounds.now a.s.sums a.d.used a.entries.now a.order.now a.totals.now a.extremes.now a.counts.now a.cumulative)
     c.number_of.ensures

@@ -4,7 +4,6 @@ use mathlib.Core.Path.{ap, ◌∙◌}
 use mathlib.Core.List.{List, []}
 use native.Mathlib.Omega.{arith}
 use lib.ListN.{length-replicate}
-use borrow.Author.Rules.{rules}
 use Rattle.points.specs.Explicit.{bucket_count}
 use Rattle.explicit.proofs.Cases.{count-few}
 use Rattle.explicit_wholes.specs.Series.{fresh_head}
@@ -24,7 +23,7 @@ put_point-requires c =
 
 pub returns : goal.returns
 returns c =
-    let lent : Output = let a = c.args in output a.out-sets.now a.out-words.now a.out-pos.now a.out-neg.now in
+    let lent : Output = let a = c.args in output a.out_sets.now a.out_words.now a.out_pos.now a.out_neg.now in
     let few : bucket_count c.args.bounds.now ≤ 160 = count-few c.args.bounds.now c.requires.bounds_value in
     let a = c.args in
     let n = bucket_count a.bounds.now in

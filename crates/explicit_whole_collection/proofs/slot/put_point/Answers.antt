@@ -1,6 +1,5 @@
 -- `explicit_whole_collection::slot::put_point` meets its contract. Assumes nothing.
 use mathlib.Core.Path.{◌≡◌, ap, ◌∙◌}
-use borrow.Author.Rules.{rules}
 use Rattle.whole_point.specs.declared.Point.{Point}
 use Rattle.point.specs.declared.Figures.TheVariants.{Explicit}
 use Rattle.whole_listing.specs.Words.{words_of}
@@ -15,7 +14,7 @@ use Rattle.explicit_whole_collection.proofs.slot.put_point.Goals as goal
 pub put-requires : goal.put-requires
 put-requires c =
     let figures : c.explicit_point-p.result.figures ≡ Explicit c.args.head.count = ap (λ (q : Point). q.figures) c.explicit_point-p.ensures in
-    let lent : Output = let a = c.args in output a.out-sets.now a.out-words.now a.out-pos.now a.out-neg.now in
+    let lent : Output = let a = c.args in output a.out_sets.now a.out_words.now a.out_pos.now a.out_neg.now in
     let a = c.args in
     room_of a.bounds.now a.at c.explicit_point-p.result.figures a.head.count (figures) a.counts.now (lent) c.requires.bounds_value.1 c.requires.place
 
@@ -23,7 +22,7 @@ pub returns : goal.returns
 unfolding put_at laid_at
 returns c =
     let figures : c.explicit_point-p.result.figures ≡ Explicit c.args.head.count = ap (λ (q : Point). q.figures) c.explicit_point-p.ensures in
-    let lent : Output = let a = c.args in output a.out-sets.now a.out-words.now a.out-pos.now a.out-neg.now in
+    let lent : Output = let a = c.args in output a.out_sets.now a.out_words.now a.out_pos.now a.out_neg.now in
     let a = c.args in
     c.put.ensures
     ∙ point-laid a.bounds.now a.at c.explicit_point-p.result.figures a.head.count (figures) a.counts.now (lent) a.row (words_of c.explicit_point-p.result (span_of a.bounds.now))

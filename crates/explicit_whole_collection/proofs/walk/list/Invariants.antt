@@ -1,23 +1,15 @@
 -- `explicit_whole_collection::walk::list` meets its contract. Assumes nothing.
-use Prim.Native.Nat.{◌+◌, ◌-◌, ◌≤◌}
-use native.Mathlib.Omega.{arith}
-use borrow.Author.Rules.{rules}
-use Rattle.explicit_whole_slots.specs.Cells.{Cells, cells}
-use Rattle.value_map.specs.Calls.{Held}
-use Rattle.whole_map.specs.Explicit.{explicit_wholes}
-use Rattle.listing.specs.Listed.{Output, output}
-use Rattle.collecting.specs.Lister.{Lister}
+use Prim.Native.Nat.{◌+◌, ◌-◌}
 use Rattle.collecting.specs.Slots.{walked}
-use Rattle.collecting.proofs.Turns.{Seen}
-use Rattle.collecting.proofs.Loops.{found-used, Alike, Listing, list-start, list-end, list-alike, slot-sound, slot-free, list-next}
+use Rattle.collecting.proofs.Loops.{Listing}
 use Rattle.explicit_whole_collection.specs.Points.{explicit_whole_lister}
 use Rattle.explicit_whole_collection.proofs.walk.list.Given as goal
 
 abbrev pub invariant-loop-i : goal.invariant-loop-i
 invariant-loop-i l =
-    Listing (explicit_whole_lister l.bounds l.sums) l.show l.cumulative (walked l.used l.sets l.entries l.order (record { l.totals = l.totals; l.extremes = l.extremes; l.counts = l.counts }))
-    (record { l.sets = l.initial.out_sets; words = l.initial.out_words; pos = l.initial.out_pos; neg = l.initial.out_neg }) l.i l.at
-    (record { l.sets = l.out_sets; words = l.out_words; pos = l.out_pos; neg = l.out_neg })
+    Listing (explicit_whole_lister l.bounds l.sums) l.show l.cumulative (walked l.used l.sets l.entries l.order (record { totals = l.totals; extremes = l.extremes; counts = l.counts }))
+    (record { sets = l.initial.out_sets; words = l.initial.out_words; pos = l.initial.out_pos; neg = l.initial.out_neg }) l.i l.at
+    (record { sets = l.out_sets; words = l.out_words; pos = l.out_pos; neg = l.out_neg })
 
 abbrev pub decreases-loop-i : goal.decreases-loop-i
 decreases-loop-i l =

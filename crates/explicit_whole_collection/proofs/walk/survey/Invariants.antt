@@ -1,26 +1,16 @@
 -- `explicit_whole_collection::walk::survey` meets its contract. Assumes nothing.
-use Prim.Native.Nat.{◌+◌, ◌-◌, ◌≤◌}
+use Prim.Native.Nat.{◌+◌, ◌-◌}
 use mathlib.Core.Bool.{true}
 use mathlib.Core.List.{[]}
-use native.Mathlib.Omega.{arith}
 use lib.ListN.{length, replicate}
-use borrow.Author.Rules.{rules}
-use borrow.Author.Tests.{not-true, not-false}
-use Rattle.explicit_whole_slots.specs.Cells.{Cells}
-use Rattle.value_map.specs.Calls.{Held}
-use Rattle.whole_map.specs.Explicit.{explicit_wholes}
-use Rattle.whole_map.proofs.ExplicitOwes.{owed}
-use Rattle.collecting.specs.Lister.{Lister}
 use Rattle.collecting.specs.Slots.{walked}
-use Rattle.collecting.proofs.Turns.{Seen}
-use Rattle.collecting.proofs.Loops.{found-used, Surveyed, survey-start, survey-few, survey-known, survey-next, survey-stop, survey-end}
+use Rattle.collecting.proofs.Loops.{Surveyed}
 use Rattle.explicit_whole_collection.specs.Points.{explicit_whole_lister}
-use Rattle.explicit_whole_collection.specs.Ready.{counting}
 use Rattle.explicit_whole_collection.proofs.walk.survey.Given as goal
 
 abbrev pub invariant-loop-i : goal.invariant-loop-i
 invariant-loop-i l =
-    Surveyed (explicit_whole_lister l.bounds true) true l.cumulative (walked l.used [] l.entries l.order (record { l.totals = l.totals; extremes = replicate (length l.totals) []; l.counts = l.counts })) l.i l.found
+    Surveyed (explicit_whole_lister l.bounds true) true l.cumulative (walked l.used [] l.entries l.order (record { totals = l.totals; extremes = replicate (length l.totals) []; counts = l.counts })) l.i l.found
 
 abbrev pub decreases-loop-i : goal.decreases-loop-i
 decreases-loop-i l = l.used + 1 - l.i

@@ -1,5 +1,4 @@
 -- `replay_batches::integers_in` meets its contract. Assumes nothing.
-use borrow.Author.Rules.{rules}
 use Rattle.replay_state.proofs.Front.{front-is}
 use Rattle.replay_batches.proofs.integers_in.Goals as goal
 

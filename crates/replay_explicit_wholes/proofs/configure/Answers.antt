@@ -1,6 +1,5 @@
 -- `replay_explicit_wholes::configure` meets its contract. Assumes nothing.
 use mathlib.Core.Path.{◌∙◌}
-use borrow.Author.Rules.{rules}
 use Rattle.replay_state.proofs.Same.{stores-are}
 use Rattle.replay_explicit_wholes.proofs.Calls.{series-are, configures}
 use Rattle.replay_explicit_wholes.proofs.configure.Goals as goal

@@ -2,7 +2,6 @@
 use Prim.Native.Nat.{ℕ}
 use mathlib.Core.Path.{ap, ◌∙◌}
 use lib.ListN.{take}
-use borrow.Author.Rules.{rules}
 use Rattle.replay_state.proofs.Same.{stores-are}
 use Rattle.replay_explicit.proofs.Calls.{output-is}
 use Rattle.replay_explicit_wholes.proofs.Calls.{series-are, lists-cumulative}

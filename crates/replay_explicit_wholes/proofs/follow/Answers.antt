@@ -1,6 +1,5 @@
 -- `replay_explicit_wholes::follow` meets its contract. Assumes nothing.
 use mathlib.Core.Path.{◌∙◌}
-use borrow.Author.Rules.{rules}
 use borrow.Author.Tests.{eq-eqb, ne_eqb}
 use Rattle.replay_state.proofs.Lines.{follows-none, follows-n, follows-r, follows-h, follows-b-u, follows-other}
 use Rattle.replay_explicit_wholes.proofs.follow.Goals as goal

@@ -1,6 +1,5 @@
 -- `replay_exponential_wholes::collect` meets its contract. Assumes nothing.
 use mathlib.Core.Path.{◌∙◌}
-use borrow.Author.Rules.{rules}
 use borrow.Author.Tests.{eq-eqb, ne_eqb}
 use Rattle.replay_state.proofs.Lines.{collects-none, collects-other, collects_delta, collects-cumulative}
 use Rattle.replay_exponential_wholes.proofs.collect.Goals as goal

@@ -2,7 +2,6 @@
 use Prim.Native.Nat.{ℕ}
 use mathlib.Core.Path.{ap, ◌∙◌}
 use lib.ListN.{take}
-use borrow.Author.Rules.{rules}
 use Rattle.replay_state.proofs.Same.{stores-are}
 use Rattle.replay_exponential.proofs.Calls.{same-output}
 use Rattle.replay_exponential_wholes.proofs.Calls.{same-cells, lists-cumulative}

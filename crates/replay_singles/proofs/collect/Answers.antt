@@ -1,8 +1,7 @@
 -- `replay_singles::collect` meets its contract. Assumes nothing.
 use mathlib.Core.Path.{◌≡◌, sym, ◌∙◌}
 use mathlib.Core.Bool.{true, false}
-use borrow.Author.Rules.{rules}
-use borrow.Author.Tests.{eq-eqb, ne_eqb, not-true, not-false}
+use borrow.Author.Tests.{eq-eqb, ne_eqb}
 use Rattle.replay_state.specs.After.{single}
 use Rattle.replay_state.proofs.Lines.{collects-none, collects-other, collects_delta, collects-cumulative}
 use Rattle.replay_singles.proofs.collect.Goals as goal

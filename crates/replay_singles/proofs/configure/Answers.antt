@@ -1,6 +1,5 @@
 -- `replay_singles::configure` meets its contract. Assumes nothing.
 use mathlib.Core.Path.{◌∙◌}
-use borrow.Author.Rules.{rules}
 use Rattle.replay_singles.proofs.Calls.{configures}
 use Rattle.replay_singles.proofs.configure.Goals as goal
 

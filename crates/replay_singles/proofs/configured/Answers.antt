@@ -1,6 +1,5 @@
 -- `replay_singles::configured` meets its contract. Assumes nothing.
 use mathlib.Core.Path.{sym, ap, ◌∙◌}
-use borrow.Author.Rules.{rules}
 use Rattle.singles.specs.Configured.{said}
 use Rattle.singles.specs.declared.Configured.{Configured}
 use Rattle.replay_singles.specs.Followed.{configured_by}

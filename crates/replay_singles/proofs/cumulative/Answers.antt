@@ -2,7 +2,6 @@
 use Prim.Native.Nat.{ℕ}
 use mathlib.Core.Path.{ap, ◌∙◌}
 use lib.ListN.{take}
-use borrow.Author.Rules.{rules}
 use Rattle.replay_singles.proofs.Calls.{lists-cumulative}
 use Rattle.replay_singles.proofs.cumulative.Goals as goal
 

@@ -1,8 +1,6 @@
 -- `replay_singles::follow` meets its contract. Assumes nothing.
 use mathlib.Core.Path.{◌≡◌, sym, ◌∙◌}
 use mathlib.Core.Bool.{true, false}
-use borrow.Author.Rules.{rules}
-use borrow.Author.Tests.{not-true, not-false}
 use Rattle.replay_state.specs.After.{single}
 use Rattle.replay_state.proofs.Lines.{follows-none, follows-n, follows-r, follows-h, follows-b-u, follows-other}
 use Rattle.replay_singles.proofs.follow.Goals as goal

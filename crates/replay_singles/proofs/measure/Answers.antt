@@ -1,6 +1,5 @@
 -- `replay_singles::measure` meets its contract. Assumes nothing.
 use mathlib.Core.Path.{◌∙◌}
-use borrow.Author.Rules.{rules}
 use Rattle.replay_singles.proofs.Calls.{measures}
 use Rattle.replay_singles.proofs.measure.Goals as goal
 

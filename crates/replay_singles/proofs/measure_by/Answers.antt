@@ -1,6 +1,5 @@
 -- `replay_singles::measure_by` meets its contract. Assumes nothing.
 use mathlib.Core.Path.{◌∙◌}
-use borrow.Author.Rules.{rules}
 use Rattle.replay_singles.proofs.Calls.{measures-by}
 use Rattle.replay_singles.proofs.measure_by.Goals as goal
 

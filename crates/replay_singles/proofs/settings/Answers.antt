@@ -1,6 +1,5 @@
 -- `replay_singles::settings` meets its contract. Assumes nothing.
 use mathlib.Core.Path.{ap}
-use borrow.Author.Rules.{rules}
 use Rattle.singles.specs.declared.Aggregation.{Aggregation}
 use Rattle.singles.specs.declared.Settings.{Settings}
 use Rattle.replay_singles.proofs.settings.Goals as goal

@@ -1,6 +1,5 @@
 -- `replay_batches::explicit_lines::follow` meets its contract. Assumes nothing.
 use mathlib.Core.Path.{◌∙◌}
-use borrow.Author.Rules.{rules}
 use borrow.Author.Tests.{eq-eqb, ne_eqb}
 use Rattle.replay_batches.proofs.Calls.{batches-none, batches-set, batches-handle, batches-other}
 use Rattle.replay_batches.proofs.explicit_lines.follow.Goals as goal

@@ -1,6 +1,5 @@
 -- `replay_batches::explicit_lines::measure_all` meets its contract. Assumes nothing.
 use mathlib.Core.Path.{◌∙◌}
-use borrow.Author.Rules.{rules}
 use Rattle.value_map.specs.Explicit.{explicit_store}
 use Rattle.replay_state.proofs.Same.{stores-are}
 use Rattle.replay_explicit.specs.Followed.{bounds_in}

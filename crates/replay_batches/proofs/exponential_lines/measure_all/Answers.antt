@@ -1,6 +1,5 @@
 -- `replay_batches::exponential_lines::measure_all` meets its contract. Assumes nothing.
 use mathlib.Core.Path.{◌∙◌}
-use borrow.Author.Rules.{rules}
 use Rattle.value_map.specs.Exponential.{exponential_store}
 use Rattle.replay_state.proofs.Same.{stores-are}
 use Rattle.replay_exponential.proofs.Calls.{same-cells}

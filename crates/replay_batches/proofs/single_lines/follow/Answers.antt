@@ -1,8 +1,6 @@
 -- `replay_batches::single_lines::follow` meets its contract. Assumes nothing.
 use mathlib.Core.Path.{◌≡◌, sym, ◌∙◌}
 use mathlib.Core.Bool.{true, false}
-use borrow.Author.Rules.{rules}
-use borrow.Author.Tests.{not-true, not-false}
 use Rattle.replay_state.specs.After.{single}
 use Rattle.replay_batches.proofs.Calls.{batches-none, batches-set, batches-handle, batches-other}
 use Rattle.replay_batches.proofs.single_lines.follow.Goals as goal

@@ -1,6 +1,5 @@
 -- `replay_batches::single_lines::measure_all_by` meets its contract. Assumes nothing.
 use mathlib.Core.Path.{◌∙◌}
-use borrow.Author.Rules.{rules}
 use Rattle.singles.specs.Stores.{single_store}
 use Rattle.replay_state.proofs.Same.{stores-are}
 use Rattle.replay_singles.specs.Followed.{kind_of}

@@ -1,6 +1,5 @@
 -- `replay_whole_batches::exponential_lines::measure_all` meets its contract. Assumes nothing.
 use mathlib.Core.Path.{◌∙◌}
-use borrow.Author.Rules.{rules}
 use Rattle.whole_map.specs.Exponential.{exponential_wholes}
 use Rattle.replay_state.proofs.Same.{stores-are}
 use Rattle.replay_exponential_wholes.proofs.Calls.{same-cells}

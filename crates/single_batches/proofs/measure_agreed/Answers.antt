@@ -1,5 +1,4 @@
 -- `single_batches::measure_agreed` meets its contract: a list of one value is the single call. Assumes nothing.
-use borrow.Author.Rules.{rules}
 use Rattle.sets.specs.Sorted.{given, filter_of}
 use Rattle.directory.specs.View.{stores}
 use Rattle.value_map.specs.Calls.{held}

@@ -1,5 +1,4 @@
 -- `single_batches::measure_all` meets its contract: it knows nothing. Assumes nothing.
-use borrow.Author.Rules.{rules}
 use mathlib.Core.Path.{sym}
 use Rattle.laws.proofs.Cases.{true-not-false}
 use Rattle.single_batches.proofs.measure_all.Goals as goal

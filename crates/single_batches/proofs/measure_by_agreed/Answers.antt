@@ -1,5 +1,4 @@
 -- `single_batches::measure_by_agreed` meets its contract: a list of one value is the single call. Assumes nothing.
-use borrow.Author.Rules.{rules}
 use Rattle.directory.specs.View.{stores}
 use Rattle.value_map.specs.Calls.{held}
 use Rattle.batches.proofs.Ends.{one-by}

@@ -1,5 +1,4 @@
 -- `single_batches::take_all` meets its contract. Assumes nothing.
-use borrow.Author.Rules.{rules}
 use mathlib.Core.Path.{sym, ◌∙◌}
 use Rattle.batches.proofs.Batches.{stop-on, stop-off}
 use Rattle.single_batches.proofs.take_all.Goals as goal

@@ -1,16 +1,10 @@
 -- `single_batches::slot::fold` meets its contract: what is held so far, and the values left, make the whole. Assumes nothing.
-use Prim.Native.Nat.{◌-◌, ◌≤◌, ◌<◌}
-use mathlib.Core.Path.{◌≡◌, refl, sym, ap, ◌∙◌}
-use native.Mathlib.Omega.{arith}
-use borrow.Author.Rules.{rules}
-use borrow.Author.Tests.{not-true, not-false}
-use lib.ListN.{length, get_or, drop}
-use lib.Ieee.{Float, nan}
-use Rattle.rows.specs.Recording.{after}
+use Prim.Native.Nat.{◌-◌, ◌≤◌}
+use mathlib.Core.Path.{◌≡◌}
+use lib.ListN.{length, drop}
 use Rattle.many.specs.Many.{each}
-use Rattle.many.proofs.Turns.{later, begins, turn, halt, ended}
+use Rattle.many.proofs.Turns.{later}
 use Rattle.single_batches.specs.Inner.{stepped}
-use Rattle.single_batches.proofs.Slots.{step-on, step-off}
 use Rattle.single_batches.proofs.slot.fold.Given as goal
 
 abbrev pub invariant-loop-i : goal.invariant-loop-i

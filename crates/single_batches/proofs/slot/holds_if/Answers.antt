@@ -1,5 +1,4 @@
 -- `single_batches::slot::holds_if` meets its contract. Assumes nothing.
-use borrow.Author.Rules.{rules}
 use mathlib.Core.Path.{sym}
 use Rattle.single_batches.proofs.slot.holds_if.Goals as goal
 

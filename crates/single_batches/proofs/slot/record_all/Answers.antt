@@ -1,6 +1,4 @@
 -- `single_batches::slot::record_all` meets its contract. Assumes nothing.
-use borrow.Author.Rules.{rules}
-use borrow.Author.Tests.{not-true, not-false}
 use mathlib.Core.Path.{◌≡◌, sym, ap, ◌∙◌}
 use lib.Ieee.{Float}
 use Rattle.many.specs.Many.{Many, many, each}
@@ -31,7 +29,7 @@ returns-then-not-holds_if c =
     let tested : holds c.args.aggregation (there) ≡ c.holds_if.result = sym (c.holds_if.ensures ∙ ap (holds c.args.aggregation) c.held_at-held.ensures) in
     let a = c.args in
     ends-unsound a.aggregation a.x a.updated a.values.now a.list.now (λ t. c.if-run-eq0.false (ap (λ (m : Many Float). m.taken) (left_is) ∙ t))
-    (tested ∙ not-true c.holds_if.result c.if-not-holds_if.true)
+    (tested ∙ c.if-not-holds_if.true)
 
 pub returns : goal.returns
 returns c =
@@ -40,5 +38,5 @@ returns c =
     let left : Many Float = many c.fold-run.result.taken c.fold-run.result.no c.fold-run.result.held in
     let left_is : left ≡ each (stepped c.args.aggregation) (there) c.args.list.now = c.fold-run.ensures ∙ ap (λ (y : Float). each (stepped c.args.aggregation) y c.args.list.now) c.held_at-held.ensures in
     let a = c.args in
-    ends-put a.aggregation a.x a.updated a.values.now c.requires.x_in_bounds (tested ∙ not-false c.holds_if.result c.if-not-holds_if.false)
+    ends-put a.aggregation a.x a.updated a.values.now c.requires.x_in_bounds (tested ∙ c.if-not-holds_if.false)
     a.list.now (left) (left_is) c.if-run-eq0.false

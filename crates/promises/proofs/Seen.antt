@@ -21,7 +21,6 @@ use Rattle.points.specs.Values.{counts_of}
 use Rattle.points.specs.Figures as F
 use Rattle.points.specs.Figures.{Kind, exponential, explicit, exponential_counts, explicit_counts, kind_counts}
 use Rattle.rows.specs.declared.Row.{Row}
-use Rattle.exponential.specs.declared.Counts.{Counts}
 use Rattle.exponential.specs.Series.{row_in, read}
 use Rattle.point.specs.declared.Figures.{Figures}
 use Rattle.point.specs.declared.Figures.TheVariants.{Exponential, Explicit}

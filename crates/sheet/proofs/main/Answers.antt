@@ -1,6 +1,5 @@
 -- `sheet::main` is safe and ends: the measure is how many line numbers are left. Assumes nothing.
 use native.Mathlib.Omega.{arith}
-use Prim.Native.Nat.{◌-◌}
 use Rattle.sheet.proofs.main.Goals as goal
 
 -- the loop's own test lies too far back for omega

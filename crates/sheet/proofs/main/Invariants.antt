@@ -1,5 +1,4 @@
 -- `sheet::main` is safe and ends: the measure is how many line numbers are left. Assumes nothing.
-use native.Mathlib.Omega.{arith}
 use Prim.Native.Nat.{◌-◌}
 use Rattle.sheet.proofs.main.Given as goal
 

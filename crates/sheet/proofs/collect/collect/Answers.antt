@@ -1,6 +1,5 @@
 -- `sheet::collect::collect` meets its contract. Assumes nothing.
 use mathlib.Core.Path.{sym, ◌∙◌}
-use borrow.Author.Rules.{rules}
 use Rattle.directory.specs.View.{Stores, stores}
 use Rattle.exponential_slots.specs.Cells.{Cells, cells}
 use Rattle.pooling.specs.Lists.{Source, source}

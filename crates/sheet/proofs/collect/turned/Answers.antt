@@ -1,7 +1,6 @@
 -- `sheet::collect::turned` meets its contract. Assumes nothing.
 use mathlib.Core.Path.{ap}
 use mathlib.Core.Bool.{true}
-use borrow.Author.Rules.{rules}
 use Rattle.clock.specs.declared.Turned.{Turned}
 use Rattle.sheet.specs.declared.collect.Turn.{Turn}
 use Rattle.sheet.proofs.collect.turned.Goals as goal

@@ -1,10 +1,6 @@
 -- `sheet::digits::are_digits` meets its contract: those that are left decide. Assumes nothing.
-use Prim.Native.Nat.{◌-◌, ◌≤◌}
-use mathlib.Core.Path.{◌≡◌, refl, sym, ◌∙◌}
+use mathlib.Core.Path.{refl, sym, ◌∙◌}
 use native.Mathlib.Omega.{arith}
-use lib.ListN.{length, drop}
-use Rattle.laws.specs.Tests.{all}
-use Rattle.sheet.specs.Digits.{is_digit}
 use Rattle.sheet.proofs.Hex.{all-turn, all-no, all_end}
 use Rattle.sheet.proofs.digits.are_digits.Goals as goal
 

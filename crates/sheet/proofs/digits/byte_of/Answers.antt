@@ -1,6 +1,5 @@
 -- `sheet::digits::byte_of` meets its contract. Assumes nothing.
 use native.Mathlib.Omega.{arith}
-use borrow.Author.Rules.{rules}
 use Rattle.sheet.proofs.digits.byte_of.Goals as goal
 
 pub overflow_mul-result : goal.overflow_mul-result

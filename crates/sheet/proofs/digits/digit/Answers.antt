@@ -1,5 +1,4 @@
 -- `sheet::digits::digit` meets its contract. Assumes nothing.
-use borrow.Author.Rules.{rules}
 use Rattle.sheet.proofs.Hex.{below-digits, a-decimal, between-digits, a-letter, above-digits}
 use Rattle.sheet.proofs.digits.digit.Goals as goal
 

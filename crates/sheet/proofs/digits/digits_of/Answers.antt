@@ -1,10 +1,6 @@
 -- `sheet::digits::digits_of` meets its contract: what waits in the end is what the bytes left give from here. Assumes nothing.
-use Prim.Native.Nat.{◌-◌, ◌≤◌}
-use mathlib.Core.Path.{◌≡◌, refl, sym, ◌∙◌}
+use mathlib.Core.Path.{refl, sym, ◌∙◌}
 use native.Mathlib.Omega.{arith}
-use lib.ListN.{length, drop}
-use Rattle.lines.specs.Gathered.{◌behind◌}
-use Rattle.sheet.specs.Digits.{hex_of}
 use Rattle.sheet.proofs.Hex.{hex-turn, hex-end}
 use Rattle.sheet.proofs.digits.digits_of.Goals as goal
 

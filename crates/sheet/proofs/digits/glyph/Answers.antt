@@ -3,7 +3,6 @@ use mathlib.Core.Path.{refl}
 use borrow.Author.Tests.{lt-ltb, le-ltb}
 use Rattle.laws.specs.Pick.{pick}
 use Rattle.text.specs.Numbers.{glyph_of}
-use borrow.Author.Rules.{rules}
 use Rattle.sheet.proofs.digits.glyph.Goals as goal
 
 pub returns-then-d-lt10 : goal.returns-then-d-lt10

@@ -1,11 +1,9 @@
 -- `sheet::digits::put` meets its contract: what the digits left put from here on is what all put. Assumes nothing.
 use Prim.Native.Nat.{◌+◌, ◌-◌, ◌*◌, ◌≤◌}
-use mathlib.Core.Path.{◌≡◌, sym, ap, ◌∙◌}
-use native.Mathlib.Omega.{arith}
+use mathlib.Core.Path.{◌≡◌}
 use lib.ListN.{length, drop}
 use lib.Seq.{sets}
 use Rattle.sheet.specs.Digits.{bytes_in}
-use Rattle.sheet.proofs.Hex.{record-length, record_digit, put-start, put-turn, put-end}
 use Rattle.sheet.proofs.digits.put.Given as goal
 
 abbrev pub invariant-loop-i : goal.invariant-loop-i

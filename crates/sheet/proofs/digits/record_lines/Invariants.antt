@@ -1,12 +1,9 @@
 -- `sheet::digits::record_lines` meets its contract: what waits in the end is what the records left give from here. Assumes nothing.
-use Prim.Native.Nat.{ℕ, ◌+◌, ◌-◌, ◌*◌, ◌≤◌}
-use mathlib.Core.Path.{◌≡◌, sym, ap, ◌∙◌}
-use native.Mathlib.Omega.{arith}
-use lib.ListN.{take, drop}
+use Prim.Native.Nat.{◌-◌, ◌≤◌}
+use mathlib.Core.Path.{◌≡◌}
 use Rattle.lines.specs.Gathered.{◌behind◌}
-use Rattle.lines.proofs.Gathering.{spelt}
-use Rattle.sheet.specs.Digits.{record_line, record_lines}
-use Rattle.sheet.proofs.Hex.{lines_from, lines_start, lines-turn, lines_end}
+use Rattle.sheet.specs.Digits.{record_lines}
+use Rattle.sheet.proofs.Hex.{lines_from}
 use Rattle.sheet.proofs.digits.record_lines.Given as goal
 
 abbrev pub invariant-loop-k : goal.invariant-loop-k

@@ -1,5 +1,4 @@
 -- `sheet::follow::follow` meets its contract. Assumes nothing.
-use borrow.Author.Rules.{rules}
 use Rattle.sheet.proofs.Following.{line-numbered}
 use Rattle.sheet.proofs.follow.follow.Goals as goal
 

@@ -2,7 +2,6 @@
 use Prim.Native.Nat.{ℕ}
 use mathlib.Core.Path.{sym, ap, ◌∙◌}
 use mathlib.Core.List.{List}
-use borrow.Author.Rules.{rules}
 use Rattle.laws.proofs.Bools.{pick_true, pick-false}
 use Rattle.lines.specs.Gathered.{waiting, ◌behind◌}
 use Rattle.sheet.proofs.follow.said.Goals as goal

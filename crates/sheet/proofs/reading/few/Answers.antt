@@ -1,6 +1,5 @@
 -- `sheet::reading::few` meets its contract. Assumes nothing.
 use mathlib.Core.Path.{sym, ap, ◌∙◌}
-use borrow.Author.Rules.{rules}
 use Rattle.sheet.specs.Shown.{few_in}
 use Rattle.sheet.proofs.Sheets.{few-none, few-is}
 use Rattle.sheet.proofs.reading.few.Goals as goal

@@ -1,6 +1,5 @@
 -- `sheet::reading::follow` meets its contract. Assumes nothing.
 use mathlib.Core.Path.{sym, ◌∙◌}
-use borrow.Author.Rules.{rules}
 use Rattle.pooling.specs.Lists.{Source, source}
 use Rattle.sheet.proofs.Sheets.{input-ends, no_record, a_record}
 use Rattle.sheet.proofs.reading.follow.Goals as goal

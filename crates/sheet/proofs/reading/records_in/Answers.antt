@@ -1,6 +1,5 @@
 -- `sheet::reading::records_in` meets its contract. Assumes nothing.
 use mathlib.Core.Path.{sym, ◌∙◌}
-use borrow.Author.Rules.{rules}
 use Rattle.sheet.proofs.Sheets.{other-letter, no-space, more-fields, records-are}
 use Rattle.sheet.proofs.reading.records_in.Goals as goal
 

@@ -1,5 +1,4 @@
 -- `sheet::reading::show` meets its contract. Assumes nothing.
-use borrow.Author.Rules.{rules}
 use Rattle.lines.specs.Gathered.{waiting}
 use Rattle.pooling.specs.Lists.{Source, source}
 use Rattle.sheet.proofs.Sheets.{show-refused, show-made}

@@ -1,6 +1,5 @@
 -- `sheet::state::ended` meets its contract. Assumes nothing.
 use mathlib.Core.Path.{ap}
-use borrow.Author.Rules.{rules}
 use Rattle.sheet.specs.declared.state.State.{State}
 use Rattle.sheet.specs.declared.state.Done.{Done}
 use Rattle.sheet.proofs.state.ended.Goals as goal

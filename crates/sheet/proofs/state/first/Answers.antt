@@ -1,6 +1,5 @@
 -- `sheet::state::first` meets its contract. Assumes nothing.
 use mathlib.Core.Path.{ap, ◌∙◌}
-use borrow.Author.Rules.{rules}
 use Rattle.sheet.specs.Followed.{outside_of}
 use Rattle.sheet.proofs.state.first.Goals as goal
 

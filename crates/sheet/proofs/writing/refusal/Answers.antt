@@ -1,6 +1,5 @@
 -- `sheet::writing::refusal` meets its contract. Assumes nothing.
 use mathlib.Core.List.{[], ◌∷◌}
-use borrow.Author.Rules.{rules}
 use Rattle.lines.specs.Gathered.{waiting}
 use Rattle.lines.specs.Written.{decimal}
 use Rattle.printing.proofs.Putting.{a-line, a-field, no_field}

@@ -1,6 +1,5 @@
 -- `replay_cells::kept::copy_bounds` is safe and ends. Assumes nothing.
 use Prim.Native.Nat.{◌-◌, ◌≤◌}
-use native.Mathlib.Omega.{arith}
 use Rattle.replay_cells.proofs.kept.copy_bounds.Given as goal
 
 abbrev pub invariant-loop-i : goal.invariant-loop-i

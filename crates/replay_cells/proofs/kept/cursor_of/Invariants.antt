@@ -1,6 +1,5 @@
 -- `replay_cells::kept::cursor_of` is safe and ends. Assumes nothing.
 use Prim.Native.Nat.{◌-◌, ◌≤◌}
-use native.Mathlib.Omega.{arith}
 use Rattle.replay_cells.proofs.kept.cursor_of.Given as goal
 
 abbrev pub invariant-loop-i : goal.invariant-loop-i

@@ -1,6 +1,5 @@
 -- `replay_cells::kept::move_counts` is safe and ends. Assumes nothing.
 use Prim.Native.Nat.{◌-◌, ◌≤◌}
-use native.Mathlib.Omega.{arith}
 use Rattle.replay_cells.proofs.kept.move_counts.Given as goal
 
 abbrev pub invariant-loop-i : goal.invariant-loop-i

@@ -1,6 +1,6 @@
 -- BETWEEN OUR OWN CRATES: serves inner contracts and proofs; nobody needs it to believe the public calls or the theorems.
 -- The state after a line that collects from a map of the explicit kind over i64. Assumes nothing.
-use Rattle.std.specs.Prelude.{ℕ, min, List, eqb, take, Float}
+use Rattle.std.specs.Prelude.{List, eqb, Float}
 use Rattle.directory.specs.View.{Stores}
 use Rattle.explicit_whole_slots.specs.Cells.{Cells}
 use Rattle.value_map.specs.Calls.{held}
@@ -8,7 +8,7 @@ use Rattle.listing.specs.Listed.{Output}
 use Rattle.collecting.specs.Collected.{Collected, delta_collected, cumulative_collected}
 use Rattle.explicit_whole_collection.specs.Points.{explicit_whole_lister}
 use Rattle.replay_state.specs.declared.State.{State}
-use Rattle.replay_state.specs.After.{field, collected_by}
+use Rattle.replay_state.specs.After.{collected_by}
 use Rattle.replay_state.specs.Lines.{collected_as}
 use Rattle.replay_explicit.specs.Followed.{bounds_in}
 

@@ -1,6 +1,6 @@
 -- BETWEEN OUR OWN CRATES: serves inner contracts and proofs; nobody needs it to believe the public calls or the theorems.
 -- The state after a line of a map of the explicit kind over i64 that configures, records, binds or releases. Assumes nothing.
-use Rattle.std.specs.Prelude.{ℕ, min, List, eqb, take, drop, ℤ, Float}
+use Rattle.std.specs.Prelude.{ℕ, List, eqb, take, drop, ℤ, Float}
 use Rattle.tally.specs.Sets.{Set}
 use Rattle.sets.specs.Sorted.{filter_of}
 use Rattle.directory.specs.View.{Stores}

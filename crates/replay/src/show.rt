@@ -1,0 +1,85 @@
+// Answers printed behind n bytes of text; how many bytes there are then.
+use lines::{Block, Line, output};
+use replay_state::{State, UNREAD, lent, stores};
+use std::io::Stdout;
+
+// A letter and two numbers.
+fn pair(out: &Stdout, text: &mut Block, n: usize, letter: u8, first: u64, second: u64) -> usize {
+    let a = output::byte(out, text, n, letter);
+    let b = printing::number(out, text, a, first);
+    let c = printing::number(out, text, b, second);
+    output::byte(out, text, c, b'\n')
+}
+
+fn name(out: &Stdout, text: &mut Block, n: usize, line: &Line, len: usize) -> usize {
+    let a = output::bytes(out, text, n, lines::input::front(line, len));
+    output::byte(out, text, a, b'\n')
+}
+
+// Whether a line of a letter has many values: it says how many were taken, refused or not.
+fn is_batch(letter: u8) -> bool {
+    letter == b'R' || letter == b'H'
+}
+
+// The lowest place that holds the birth number that a binding told.
+fn first_of(s: State) -> u64 {
+    let mut i: usize = 0;
+    while i < 99 && s.handles[i] != s.told {
+        i += 1;
+    }
+    i as u64
+}
+
+fn listed<'a>(
+    out: &Stdout,
+    text: &mut Block,
+    n: usize,
+    s: State,
+    bounds: &stores::Bounds,
+    sets: &stores::ListedSets,
+    words: &stores::ListedWords,
+    pos: &'a stores::ListedCounts,
+    neg: &'a stores::ListedCounts,
+) -> usize {
+    if replay_state::is_single(s.collected) {
+        return printing::values(out, text, n, s.told, s.f[1], s.listed, sets, pos);
+    }
+    let own = lent::bounds_in(bounds, 2, 200);
+    whole_printing::collection(
+        out, text, n, s.told, s.f[1], s.listed, sets, words, pos, neg, own,
+    )
+}
+
+// Prints what the line of a number came to; the map's own line is another's.
+pub fn answer<'a>(
+    out: &Stdout,
+    text: &mut Block,
+    n: usize,
+    number: u64,
+    s: State,
+    line: &Line,
+    len: usize,
+    bounds: &stores::Bounds,
+    sets: &stores::ListedSets,
+    words: &stores::ListedWords,
+    pos: &'a stores::ListedCounts,
+    neg: &'a stores::ListedCounts,
+) -> usize {
+    if s.no == UNREAD {
+        return printing::unread(out, text, n, number);
+    }
+    let letter = s.letter;
+    if is_batch(letter) {
+        return pair(out, text, n, b'a', s.told, s.no as u64);
+    }
+    if s.no != 0 {
+        return pair(out, text, n, b'!', number, s.no as u64);
+    }
+    match letter {
+        b'=' => name(out, text, n, line, len),
+        b'b' => pair(out, text, n, letter, s.f[1], first_of(s)),
+        b'c' => listed(out, text, n, s, bounds, sets, words, pos, neg),
+        b'j' => replay_cells::kept::printed(out, text, n, s.f[1], bounds, sets, words, pos, neg),
+        _ => n,
+    }
+}

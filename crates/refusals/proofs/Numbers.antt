@@ -1,0 +1,28 @@
+-- A refusal's number is never 0; an answer with the number 0 is no refusal, and any other number is a refusal's. Assumes nothing.
+use Rattle.std.specs.Prelude.{◌≡◌, ◌≢◌, ℕ, Result, Ok, Err}
+use mathlib.Core.Path.{sym, ap, ◌∙◌}
+use Rattle.std.proofs.Math.Nat.{suc-ne-zero}
+use Rattle.refusals.specs.declared.Refusal.{Refusal}
+use Rattle.refusals.specs.declared.Refusal.TheVariants as R
+use Rattle.refusals.specs.Refusals.{number, code}
+
+pub number-nonzero : (e : Refusal) → number e ≢ 0
+number-nonzero R.MaxSize = suc-ne-zero 0
+number-nonzero R.MaxScale = suc-ne-zero 1
+number-nonzero R.Bounds = suc-ne-zero 2
+number-nonzero R.Limit = suc-ne-zero 3
+number-nonzero R.Attributes = suc-ne-zero 4
+number-nonzero R.NotFinite = suc-ne-zero 5
+number-nonzero R.NoHandle = suc-ne-zero 6
+number-nonzero R.Disagrees = suc-ne-zero 7
+number-nonzero R.Full = suc-ne-zero 8
+number-nonzero R.NoRoom = suc-ne-zero 9
+number-nonzero R.Unlike = suc-ne-zero 10
+number-nonzero R.LentShort = suc-ne-zero 11
+number-nonzero R.NoValues = suc-ne-zero 12
+number-nonzero R.OffGrid = suc-ne-zero 13
+number-nonzero R.NotASheet = suc-ne-zero 14
+number-nonzero R.SumOutside = suc-ne-zero 15
+
+pub refused-nonzero : {A : Type 0} → (r : Result A Refusal) → (e : Refusal) → r ≡ Err e → code r ≢ 0
+refused-nonzero r e i z = number-nonzero e (sym (ap code i) ∙ z)

@@ -1,0 +1,2 @@
+-- The definitions that every contract of a call that may refuse cites.
+pub mod Refusals

@@ -8,8 +8,6 @@ use Rattle.exponential.specs.Series.{refusal_by}
 use Rattle.points.specs.Explicit.{Buckets, bucket_count, record_bucket, buckets_agree}
 use Rattle.points.specs.Values.{Summary, start, noted}
 use Rattle.explicit.specs.declared.Head.{Head}
-use Rattle.explicit.specs.declared.Answer.{Answer}
-use Rattle.explicit.specs.declared.Answer.TheVariants.{Recorded, Refused}
 use Rattle.laws.specs.Counting.{most_count}
 
 -- what a count and the front of a row hold
@@ -31,11 +29,6 @@ unfoldable pub refusal_of : List Float → Head → List ℕ → Float → ℕ
 refusal_of bounds h xs v =
     refusal_by (leb (bucket_count bounds) (length xs)) (finite v)
     (buckets_agree bounds (buckets_in bounds h.count xs) && (finite h.min && finite h.max)) (leb most_count h.count)
-
--- "When an answer is an enum, a definition gives this paper's number and values for each case of that enum."
-abbrev pub said : Answer → Said Head
-said (Recorded h) = success h
-said (Refused n) = refusal n
 
 -- the answer in document 01's words, and the row afterwards
 pub record Outcome : Type 0 where

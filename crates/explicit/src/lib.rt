@@ -4,13 +4,15 @@
 ghost use Rattle.std.specs.Prelude.{◌≡◌, ◌&&◌, ◌+◌, ◌-◌, ◌/◌, ◌<◌, ◌≤◌, length, take, eqb};
 ghost use Rattle.std.specs.Float.Ieee.{lt};
 ghost use Rattle.laws.specs.Counting.{bit, total, most_count};
+ghost use Rattle.refusals.specs.Refusals.{code, said};
 ghost use Rattle.rows.specs.Rows.{over};
 ghost use Rattle.points.specs.Explicit.{rising, bounds_pass, same_bounds, bucket_of, bucket_count, record_bucket, added, buckets_agree};
 ghost use Rattle.points.specs.Figures.{most_size};
-ghost use Rattle.explicit.specs.Series.{buckets_in, freshening, refusal_of, said, outcome, recording};
+ghost use Rattle.explicit.specs.Series.{buckets_in, freshening, refusal_of, outcome, recording};
 ghost use Rattle.explicit.specs.Inner.{Addable};
 
 use exponential::Halves;
+use refusals::Refusal;
 
 #[derive(Clone, Copy)]
 pub struct Head {
@@ -18,12 +20,6 @@ pub struct Head {
     pub min: f64,
     pub max: f64,
     pub sum: f64,
-}
-
-#[derive(Clone, Copy)]
-pub enum Answer {
-    Recorded(Head),
-    Refused(u8),
 }
 
 // ---- bounds
@@ -126,15 +122,15 @@ pub fn bucket_of(bounds: &[f64], v: f64) -> usize
 
 // A series that has counted nothing: zeros in its row, or 12 where the row lent is too short. It writes, where the exponential kind's does not:
 // an explicit series agrees only with counts in its row.
-pub fn fresh(bounds: &[f64], counts: &mut [u64]) -> Answer
+pub fn fresh(bounds: &[f64], counts: &mut [u64]) -> Result<Head, Refusal>
     ensures { outcome (said result) counts.new ≡ freshening bounds.now counts.old }
 {
     let n = bucket_count(bounds);
     if counts.len() < n {
-        return Answer::Refused(12);
+        return Err(Refusal::LentShort);
     }
     rows::zero(counts, 0, n);
-    Answer::Recorded(Head {
+    Ok(Head {
         count: 0,
         min: 1.7976931348623157e308,
         max: -1.7976931348623157e308,
@@ -190,44 +186,41 @@ pub fn count_in(bounds: &[f64], counts: &mut [u64], v: f64)
     counts[k] += 1;
 }
 
-// The number with which a recording is refused, 0 if none.
-pub fn refusal(bounds: &[f64], head: Head, counts: &[u64], v: f64) -> u8
-    ensures { result ≡ refusal_of bounds.now head counts.now v }
+// Whether a value can be recorded, or why not.
+pub fn refusal(bounds: &[f64], head: Head, counts: &[u64], v: f64) -> Result<(), Refusal>
+    ensures { code result ≡ refusal_of bounds.now head counts.now v }
 {
     if counts.len() < bucket_count(bounds) {
-        return 12;
+        return Err(Refusal::LentShort);
     }
     if !floats::is_finite(v) {
-        return 6;
+        return Err(Refusal::NotFinite);
     }
     if !buckets_agree(bounds, head.count, counts) {
-        return 8;
+        return Err(Refusal::Disagrees);
     }
     if !floats::is_finite(head.min) {
-        return 8;
+        return Err(Refusal::Disagrees);
     }
     if !floats::is_finite(head.max) {
-        return 8;
+        return Err(Refusal::Disagrees);
     }
     if head.count >= u64::MAX {
-        return 9;
+        return Err(Refusal::Full);
     }
-    0
+    Ok(())
 }
 
 // Records a value into the series and returns its head then, or refuses it: 12 where the row lent is too short, 6 where the value is not
 // finite, 8 where the series or its bounds disagree, 9 where its count is full.
-pub fn record(bounds: &[f64], head: Head, counts: &mut [u64], v: f64) -> Answer
+pub fn record(bounds: &[f64], head: Head, counts: &mut [u64], v: f64) -> Result<Head, Refusal>
     ensures { outcome (said result) counts.new ≡ recording bounds.now head counts.old v }
 {
-    let no = refusal(bounds, head, counts, v);
-    if no != 0 {
-        return Answer::Refused(no);
-    }
+    refusal(bounds, head, counts, v)?;
     count_in(bounds, counts, v);
     let least = floats::lesser(head.min, v);
     let greatest = floats::greater(head.max, v);
-    Answer::Recorded(Head {
+    Ok(Head {
         count: head.count + 1,
         min: least,
         max: greatest,

@@ -12,8 +12,6 @@ use Rattle.explicit.specs.declared.Head as F
 use Rattle.explicit.specs.Series as E
 use Rattle.explicit.specs.Series.{buckets_in}
 use Rattle.explicit_wholes.specs.declared.Head.{Head}
-use Rattle.explicit_wholes.specs.declared.Answer.{Answer}
-use Rattle.explicit_wholes.specs.declared.Answer.TheVariants.{Recorded, Refused}
 
 -- a head of a count and of a minimum, a maximum and a sum
 abbrev pub head_of : ℕ → Summary whole → Head
@@ -34,10 +32,6 @@ unfoldable pub refusal_of : List Float → Bool → Head → List ℕ → ℤ �
 refusal_of bounds sums h xs v =
     let n = E.refusal_of bounds (under h.count) xs (nearest_of v) in
     pick (eqb n 0) (pick (whole.takes sums h.sum v) 0 16) n
-
-abbrev pub said : Answer → Said Head
-said (Recorded h) = success h
-said (Refused n) = refusal n
 
 -- the answer in document 01's words, and the row afterwards
 pub record Outcome : Type 0 where

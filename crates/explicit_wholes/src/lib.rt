@@ -3,10 +3,11 @@
 #![tactic(auto)]
 
 ghost use Rattle.std.specs.Prelude.{◌≡◌};
-ghost use Rattle.explicit.specs.Series as E;
-ghost use Rattle.explicit_wholes.specs.Series.{under, begun, said, finished, outcome, freshening, recording};
+ghost use Rattle.explicit_wholes.specs.Series.{under, begun, finished, outcome, freshening, recording};
+ghost use Rattle.refusals.specs.Refusals.{said};
 
 use integers::Total;
+use refusals::Refusal;
 
 #[derive(Clone, Copy)]
 pub struct Head {
@@ -16,19 +17,13 @@ pub struct Head {
     pub sum: i64,
 }
 
-#[derive(Clone, Copy)]
-pub enum Answer {
-    Recorded(Head),
-    Refused(u8),
-}
-
 // The head of a series whose row was zeroed or refused.
-fn begin(r: explicit::Answer) -> Answer
-    ensures { said result ≡ begun (E.said r) }
+fn begin(r: Result<explicit::Head, Refusal>) -> Result<Head, Refusal>
+    ensures { said result ≡ begun (said r) }
 {
     match r {
-        explicit::Answer::Refused(n) => Answer::Refused(n),
-        explicit::Answer::Recorded(g) => Answer::Recorded(Head {
+        Err(e) => Err(e),
+        Ok(g) => Ok(Head {
             count: g.count,
             min: 9223372036854775807,
             max: -9223372036854775808,
@@ -38,7 +33,7 @@ fn begin(r: explicit::Answer) -> Answer
 }
 
 // A series that has counted nothing: zeros in its row, or 12 where the row lent is too short.
-pub fn fresh(bounds: &[f64], counts: &mut [u64]) -> Answer
+pub fn fresh(bounds: &[f64], counts: &mut [u64]) -> Result<Head, Refusal>
     ensures { outcome (said result) counts.new ≡ freshening bounds.now counts.old }
 {
     let r = explicit::fresh(bounds, counts);
@@ -58,15 +53,15 @@ fn under_count(count: u64) -> explicit::Head
 }
 
 // The head after a value whose counts were recorded or refused, the sum being s.
-fn finish(head: Head, v: i64, s: i64, r: explicit::Answer) -> Answer
-    ensures { said result ≡ finished head v s (E.said r) }
+fn finish(head: Head, v: i64, s: i64, r: Result<explicit::Head, Refusal>) -> Result<Head, Refusal>
+    ensures { said result ≡ finished head v s (said r) }
 {
     match r {
-        explicit::Answer::Refused(n) => Answer::Refused(n),
-        explicit::Answer::Recorded(g) => {
+        Err(e) => Err(e),
+        Ok(g) => {
             let least = integers::lesser(head.min, v);
             let greatest = integers::greater(head.max, v);
-            Answer::Recorded(Head {
+            Ok(Head {
                 count: g.count,
                 min: least,
                 max: greatest,
@@ -78,7 +73,13 @@ fn finish(head: Head, v: i64, s: i64, r: explicit::Answer) -> Answer
 
 // Records a value into the series and returns its head then, or refuses it: 12 where the row lent is too short, 8 where the series or its bounds
 // disagree, 9 where its count is full, 16 where its sum would leave i64.
-pub fn record(bounds: &[f64], sums: bool, head: Head, counts: &mut [u64], v: i64) -> Answer
+pub fn record(
+    bounds: &[f64],
+    sums: bool,
+    head: Head,
+    counts: &mut [u64],
+    v: i64,
+) -> Result<Head, Refusal>
     ensures { outcome (said result) counts.new ≡ recording bounds.now sums head counts.old v }
 {
     let h = under_count(head.count);
@@ -86,9 +87,8 @@ pub fn record(bounds: &[f64], sums: bool, head: Head, counts: &mut [u64], v: i64
     let total = integers::kept_sum(sums, head.sum, v);
     match total {
         Total::Outside => {
-            let no = explicit::refusal(bounds, h, counts, x);
-            let n = integers::last_number(no);
-            Answer::Refused(n)
+            explicit::refusal(bounds, h, counts, x)?;
+            Err(Refusal::SumOutside)
         }
         Total::Is(s) => {
             let r = explicit::record(bounds, h, counts, x);

@@ -15,8 +15,6 @@ use Rattle.laws.specs.Over.{over}
 use Rattle.rows.specs.declared.Row.{Row}
 use Rattle.exponential.specs.declared.Counts.{Counts}
 use Rattle.exponential.specs.declared.Head.{Head}
-use Rattle.exponential.specs.declared.Answer.{Answer}
-use Rattle.exponential.specs.declared.Answer.TheVariants.{Recorded, Refused}
 
 -- the row that lies at the front of xs
 abbrev pub row_in : Row → List ℕ → P.Row
@@ -68,11 +66,6 @@ unfoldable pub refusal_of : ℕ → ℕ → Head → List ℕ → List ℕ → F
 refusal_of size top h xs ys v =
     refusal_by (nat_le size (length xs) && nat_le size (length ys)) (finite v)
     (agrees size top h.counts xs ys && (finite h.min && finite h.max)) (h.counts.count == most_count)
-
--- "When an answer is an enum, a definition gives this paper's number and values for each case of that enum."
-abbrev pub said : Answer → Said Head
-said (Recorded h) = success h
-said (Refused n) = refusal n
 
 -- the answer in document 01's words, and both rows afterwards
 pub record Outcome : Type 0 where

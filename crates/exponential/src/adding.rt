@@ -21,8 +21,8 @@ fn needed(size: usize, row: Row, bin: u32) -> u32
         return rows::scale_change(bin, bin, size);
     }
     let last = start + (n - 1) as u32;
-    let lo = crate::lesser(start, bin);
-    let hi = crate::greater(last, bin);
+    let lo = start.min(bin);
+    let hi = last.max(bin);
     rows::scale_change(lo, hi, size)
 }
 

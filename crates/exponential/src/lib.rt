@@ -5,7 +5,7 @@
 mod adding;
 mod sums;
 
-ghost use Rattle.std.specs.Prelude.{◌≡◌, ◌+◌, ◌*◌, ◌^◌, ◌<◌, ◌≤◌, min, max, length, take};
+ghost use Rattle.std.specs.Prelude.{◌≡◌, ◌+◌, ◌*◌, ◌^◌, ◌<◌, ◌≤◌, length, take};
 ghost use Rattle.laws.specs.Counting.{total};
 ghost use Rattle.exponential.specs.Steps.{lowered};
 ghost use Rattle.laws.specs.Pick.{pick};
@@ -15,8 +15,10 @@ ghost use Rattle.points.specs.Values.{class_of};
 ghost use Rattle.exponential.specs.Runs.{fresh_head};
 ghost use Rattle.exponential.specs.Series.{most_size, size_passes, row_in, read, agrees};
 ghost use Rattle.exponential.specs.Inner.{Laid, Written, row_agrees, halved, adds_up};
-ghost use Rattle.exponential.specs.Series.{refusal_of, said, outcome, recording};
+ghost use Rattle.exponential.specs.Series.{refusal_of, outcome, recording};
+ghost use Rattle.refusals.specs.Refusals.{code, said};
 
+use refusals::Refusal;
 use rows::Row;
 
 // The least and the greatest max_size that can be configured.
@@ -41,12 +43,6 @@ pub struct Head {
     pub sum: f64,
 }
 
-#[derive(Clone, Copy)]
-pub enum Answer {
-    Recorded(Head),
-    Refused(u8),
-}
-
 // The head of a series that has counted nothing.
 pub fn fresh(top: u32) -> Head
     ensures { result ≡ fresh_head top }
@@ -65,20 +61,14 @@ pub fn fresh(top: u32) -> Head
     }
 }
 
-fn shorter(a: usize, b: usize) -> usize
-    ensures { result ≡ min a b }
-{
-    if a < b { a } else { b }
-}
-
 // The row of a sign: a part of the one lent slice or of the other, as much of it as is lent.
 pub fn row_of<'a>(c: Counts, negative: bool, pos: &'a [u64], neg: &'a [u64]) -> &'a [u64]
     ensures { result.now ≡ pick negative (take c.neg.len neg.now) (take c.pos.len pos.now) }
 {
     let p = c.pos;
     let n = c.neg;
-    let i = shorter(p.len, pos.len());
-    let j = shorter(n.len, neg.len());
+    let i = p.len.min(pos.len());
+    let j = n.len.min(neg.len());
     if negative { &neg[0..j] } else { &pos[0..i] }
 }
 
@@ -220,22 +210,6 @@ pub fn counts_agree(size: usize, top: u32, c: Counts, pos: &[u64], neg: &[u64]) 
 
 // ---- the change of level
 
-// The lesser of two.
-pub fn lesser(a: u32, b: u32) -> u32
-    ensures { result ≡ min a b }
-{
-    if a < b { a } else { b }
-}
-
-// The greater of two.
-pub fn greater(a: u32, b: u32) -> u32
-    ensures { result ≡ max a b }
-{
-    if a < b { b } else { a }
-}
-
-// ---- rows
-
 // A row k levels lower, in place, and the row then.
 pub fn lower(counts: &mut [u64], row: Row, k: u32) -> Row
     requires len_in_bounds { (row.len ≤ length counts.old) × (k < 32) }
@@ -266,37 +240,44 @@ pub enum Class {
 
 // ---- the call
 
-// The number with which a recording is refused, 0 if none.
-pub fn refusal(size: u32, top: u32, head: Head, pos: &[u64], neg: &[u64], v: f64) -> u8
-    ensures { result ≡ refusal_of size top head pos.now neg.now v }
+// Whether a value can be recorded, or why not.
+pub fn refusal(
+    size: u32,
+    top: u32,
+    head: Head,
+    pos: &[u64],
+    neg: &[u64],
+    v: f64,
+) -> Result<(), Refusal>
+    ensures { code result ≡ refusal_of size top head pos.now neg.now v }
 {
     let n = size as usize;
     if pos.len() < n {
-        return 12;
+        return Err(Refusal::LentShort);
     }
     if neg.len() < n {
-        return 12;
+        return Err(Refusal::LentShort);
     }
     if !floats::is_finite(v) {
-        return 6;
+        return Err(Refusal::NotFinite);
     }
     let c = head.counts;
     if !counts_agree(n, top, c, pos, neg) {
-        return 8;
+        return Err(Refusal::Disagrees);
     }
     if !floats::is_finite(head.min) {
-        return 8;
+        return Err(Refusal::Disagrees);
     }
     if !floats::is_finite(head.max) {
-        return 8;
+        return Err(Refusal::Disagrees);
     }
     if c.count == u64::MAX {
-        return 9;
+        return Err(Refusal::Full);
     }
-    0
+    Ok(())
 }
 
-// One value more, where `refusal` says 0: what is counted then.
+// One value more, where `refusal` is none: what is counted then.
 pub fn count_in(size: u32, top: u32, head: Head, pos: &mut [u64], neg: &mut [u64], v: f64) -> Counts
     requires { refusal_of size top head pos.old neg.old v ≡ 0 }
     ensures { Written (record1 size (read head.counts pos.old neg.old) (class_of zero_float v))
@@ -310,17 +291,21 @@ pub fn count_in(size: u32, top: u32, head: Head, pos: &mut [u64], neg: &mut [u64
 
 // Records a value into the series and returns its head then, or refuses it: 12 where a row lent is too short, 6 where the value is not
 // finite, 8 where the series disagrees with itself or its settings, 9 where its count is full.
-pub fn record(size: u32, top: u32, head: Head, pos: &mut [u64], neg: &mut [u64], v: f64) -> Answer
+pub fn record(
+    size: u32,
+    top: u32,
+    head: Head,
+    pos: &mut [u64],
+    neg: &mut [u64],
+    v: f64,
+) -> Result<Head, Refusal>
     ensures { outcome (said result) pos.new neg.new ≡ recording size top head pos.old neg.old v }
 {
-    let no = refusal(size, top, head, pos, neg, v);
-    if no != 0 {
-        return Answer::Refused(no);
-    }
+    refusal(size, top, head, pos, neg, v)?;
     let next = count_in(size, top, head, pos, neg, v);
     let least = floats::lesser(head.min, v);
     let greatest = floats::greater(head.max, v);
-    Answer::Recorded(Head {
+    Ok(Head {
         counts: next,
         min: least,
         max: greatest,

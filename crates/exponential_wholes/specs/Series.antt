@@ -14,8 +14,6 @@ use Rattle.exponential.specs.declared.Head as F
 use Rattle.exponential.specs.Series as E
 use Rattle.exponential.specs.Series.{read, counts_for}
 use Rattle.exponential_wholes.specs.declared.Head.{Head}
-use Rattle.exponential_wholes.specs.declared.Answer.{Answer}
-use Rattle.exponential_wholes.specs.declared.Answer.TheVariants.{Recorded, Refused}
 
 -- a head of counts and of a minimum, a maximum and a sum
 abbrev pub head_of : Counts → Summary whole → Head
@@ -40,10 +38,6 @@ unfoldable pub refusal_of : ℕ → ℕ → Bool → Head → List ℕ → List 
 refusal_of size top sums h xs ys v =
     let n = E.refusal_of size top (under h.counts) xs ys (nearest_of v) in
     pick (eqb n 0) (pick (whole.takes sums h.sum v) 0 16) n
-
-abbrev pub said : Answer → Said Head
-said (Recorded h) = success h
-said (Refused n) = refusal n
 
 -- the answer in document 01's words, and both rows afterwards
 pub record Outcome : Type 0 where

@@ -3,10 +3,12 @@
 #![tactic(auto)]
 
 ghost use Rattle.std.specs.Prelude.{◌≡◌};
-ghost use Rattle.exponential_wholes.specs.Series.{fresh_head, under, said, outcome, recording};
+ghost use Rattle.exponential_wholes.specs.Series.{fresh_head, under, outcome, recording};
+ghost use Rattle.refusals.specs.Refusals.{said};
 
 use exponential::Counts;
 use integers::Total;
+use refusals::Refusal;
 
 #[derive(Clone, Copy)]
 pub struct Head {
@@ -14,12 +16,6 @@ pub struct Head {
     pub min: i64,
     pub max: i64,
     pub sum: i64,
-}
-
-#[derive(Clone, Copy)]
-pub enum Answer {
-    Recorded(Head),
-    Refused(u8),
 }
 
 // The head of a series that has counted nothing.
@@ -58,25 +54,22 @@ pub fn record(
     pos: &mut [u64],
     neg: &mut [u64],
     v: i64,
-) -> Answer
+) -> Result<Head, Refusal>
     ensures { outcome (said result) pos.new neg.new
         ≡ recording size top sums head pos.old neg.old v }
 {
     let c = head.counts;
     let h = under_counts(c);
     let x = integers::nearest(v);
-    let no = exponential::refusal(size, top, h, pos, neg, x);
-    if no != 0 {
-        return Answer::Refused(no);
-    }
+    exponential::refusal(size, top, h, pos, neg, x)?;
     let total = integers::kept_sum(sums, head.sum, v);
     match total {
-        Total::Outside => Answer::Refused(16),
+        Total::Outside => Err(Refusal::SumOutside),
         Total::Is(s) => {
             let least = integers::lesser(head.min, v);
             let greatest = integers::greater(head.max, v);
             let next = exponential::count_in(size, top, h, pos, neg, x);
-            Answer::Recorded(Head {
+            Ok(Head {
                 counts: next,
                 min: least,
                 max: greatest,

@@ -56,8 +56,8 @@ fn ends_of(a: Row, j: u32, b: Row, k: u32) -> Ends
             hi: most,
         };
     }
-    let low = exponential::lesser(lo, least);
-    let high = exponential::greater(hi, most);
+    let low = lo.min(least);
+    let high = hi.max(most);
     Ends { lo: low, hi: high }
 }
 
@@ -105,14 +105,14 @@ pub fn plan_of(size: usize, a: Counts, b: Counts) -> Plan
 {
     let la = a.level;
     let lb = b.level;
-    let l = exponential::lesser(la, lb);
+    let l = la.min(lb);
     let ap = a.pos;
     let an = a.neg;
     let bp = b.pos;
     let bn = b.neg;
     let p = span(size, ap, la - l, bp, lb - l);
     let n = span(size, an, la - l, bn, lb - l);
-    let low = exponential::greater(p, n);
+    let low = p.max(n);
     let level = l - low;
     Plan {
         level,

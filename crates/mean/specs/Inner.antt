@@ -1,11 +1,20 @@
 -- BETWEEN OUR OWN CRATES: serves inner contracts and proofs; nobody needs it to believe the public calls or the theorems.
 -- A sum as a sign and so many 1/1024ths, and the same by a mantissa and an exponent, as the code finds it. Assumes nothing.
-use Rattle.std.specs.Prelude.{ℕ, suc, ◌-◌, ◌*◌, ◌/◌, ◌^◌, Bool, true, false, ◌&&◌, leb, eqb, ℤ, pos, negsuc, Float}
+use Rattle.std.specs.Prelude.{ℕ, suc, ◌-◌, ◌*◌, ◌/◌, ◌^◌, Bool, true, false, ◌&&◌, leb, eqb, ℤ, pos, negsuc, Float, Option, Some, None}
 use Rattle.laws.specs.Pick.{pick}
 use Rattle.floats.specs.Grid.{steps}
-use Rattle.mean.specs.declared.Sum.{Sum}
-use Rattle.mean.specs.declared.Sum.TheVariants.{OffGrid, Steps}
+use Rattle.mean.specs.declared.Steps as S
 use Rattle.mean.specs.Mean.{on_grid}
+
+-- so many 1/1024ths, or none off the grid
+abbrev pub Sum : Type 0
+Sum = Option S.Steps
+
+abbrev pub OffGrid : Sum
+OffGrid = None
+
+abbrev pub Steps : Bool → ℕ → Sum
+Steps s n = Some (record { negative = s; steps = n })
 
 -- a whole number by its sign and its size; 0 has no sign, so -0.0 is as 0.0
 abbrev pub as_sum : ℤ → Sum

@@ -6,8 +6,6 @@ use Rattle.floats.specs.Grid.{steps, is_whole, most_steps}
 use Rattle.points.specs.Handed.{count_of}
 use Rattle.point.specs.Handing.{Stored, counts_in, agrees_alone}
 use Rattle.whole_point.specs.Handing as W
-use Rattle.mean.specs.declared.Answer.{Answer}
-use Rattle.mean.specs.declared.Answer.TheVariants.{Refused, Mean}
 use Rattle.mean.specs.Rounding.{hundredths}
 
 -- "14 when the sum is not a whole number of 1/1024 or its magnitude is above 2^43"
@@ -25,8 +23,3 @@ mean_in x = pick (agrees_alone x) (mean_of (count_of (counts_in x)) x.point.sum)
 -- of one of i64 values. Document 02, L6: "An i64 point gives 11 .. right after 8, in a card or sheet"
 abbrev pub whole_mean_in : W.Stored → Said ℤ
 whole_mean_in x = refusal (W.alone_number x)
-
--- an answer in the documents' words: its number, or the mean
-abbrev pub said : Answer → Said ℤ
-said (Refused n) = refusal n
-said (Mean z) = success z

@@ -7,67 +7,61 @@ ghost use Rattle.point.specs.Handing.{stored};
 ghost use Rattle.whole_point.specs.Handing as W;
 ghost use Rattle.mean.specs.Rule as Rule;
 ghost use Rattle.mean.specs.Rounding as Rounding;
-ghost use Rattle.mean.specs.Mean.{said, mean_of, mean_in, whole_mean_in};
+ghost use Rattle.refusals.specs.Refusals.{said};
+ghost use Rattle.mean.specs.Mean.{mean_of, mean_in, whole_mean_in};
 ghost use Rattle.mean.specs.Inner.{sum_of, sum_of_parts};
 
 use index::Parts;
 use point::Point;
+use refusals::Refusal;
 
-// The mean in hundredths, or a number: 8 the point disagrees, 11 it is of i64 values, 13 it has no values, 14 its sum is no whole number of
-// 1/1024 or its magnitude is above 2^43.
+// A sum as so many 1/1024ths.
 #[derive(Clone, Copy)]
-pub enum Answer {
-    Refused(u8),
-    Mean(i64),
+struct Steps {
+    negative: bool,
+    steps: u64,
 }
 
-// A sum as so many 1/1024ths; off the grid where it is no whole number of them, or its magnitude is above 2^43.
-#[derive(Clone, Copy)]
-enum Sum {
-    OffGrid,
-    Steps { negative: bool, steps: u64 },
-}
-
-// ---- the sum
+// ---- the sum; none off the grid, where it is no whole number of 1/1024, or its magnitude is above 2^43
 
 // Of mantissa * 2^exponent units of 2^-2048: 1/1024 is 2^2038 of them.
-fn sum_of_parts(negative: bool, mantissa: u64, exponent: u64) -> Sum
+fn sum_of_parts(negative: bool, mantissa: u64, exponent: u64) -> Option<Steps>
     requires { (2 ^ 52 ≤ mantissa) × (mantissa < 2 ^ 53) }
     ensures { result ≡ sum_of_parts negative mantissa exponent }
 {
     if exponent > 2038 {
         if exponent == 2039 {
             if mantissa == 0x10_0000_0000_0000 {
-                return Sum::Steps {
+                return Some(Steps {
                     negative,
                     steps: 0x20_0000_0000_0000,
-                };
+                });
             }
-            return Sum::OffGrid;
+            return None;
         }
-        return Sum::OffGrid;
+        return None;
     }
     let down = 2038 - exponent;
     if down > 52 {
-        return Sum::OffGrid;
+        return None;
     }
     let steps = mantissa >> down;
     if steps << down == mantissa {
-        return Sum::Steps { negative, steps };
+        return Some(Steps { negative, steps });
     }
-    Sum::OffGrid
+    None
 }
 
-fn sum_of(x: f64) -> Sum
+fn sum_of(x: f64) -> Option<Steps>
     ensures { result ≡ sum_of x }
 {
     let parts = index::frexp(x);
     match parts {
-        Parts::NotFinite => Sum::OffGrid,
-        Parts::Zero => Sum::Steps {
+        Parts::NotFinite => None,
+        Parts::Zero => Some(Steps {
             negative: false,
             steps: 0,
-        },
+        }),
         Parts::Number {
             negative,
             mantissa,
@@ -122,36 +116,37 @@ fn signed(negative: bool, size: u64) -> i64
     if negative { 0 - n } else { n }
 }
 
-fn mean_of(count: u64, sum: f64) -> Answer
+fn mean_of(count: u64, sum: f64) -> Result<i64, Refusal>
     ensures { said result ≡ mean_of count sum }
 {
     if count == 0 {
-        return Answer::Refused(13);
+        return Err(Refusal::NoValues);
     }
-    let found = sum_of(sum);
-    match found {
-        Sum::OffGrid => Answer::Refused(14),
-        Sum::Steps { negative, steps } => Answer::Mean(signed(negative, nearest(steps, count))),
-    }
+    let total = sum_of(sum).ok_or(Refusal::OffGrid)?;
+    Ok(signed(total.negative, nearest(total.steps, count)))
 }
 
 // ---- the call
 
 // The mean of a point with its bounds and rows, of either kind, in whole hundredths; or 8, 13, 14. Nothing is changed.
-pub fn hundredths(p: Point, bounds: &[f64], pos: &[u64], neg: &[u64]) -> Answer
+pub fn hundredths(p: Point, bounds: &[f64], pos: &[u64], neg: &[u64]) -> Result<i64, Refusal>
     ensures { said result ≡ mean_in (stored p bounds.now pos.now neg.now) }
 {
     let f = p.figures;
     if !point::agrees_alone(p, bounds, pos, neg) {
-        return Answer::Refused(8);
+        return Err(Refusal::Disagrees);
     }
     mean_of(point::count_in(f), p.sum)
 }
 
 // The same of a point of i64 values, which has no card (request L6): 8 where it disagrees with itself, else 11. Nothing is changed.
-pub fn whole_hundredths(p: whole_point::Point, bounds: &[f64], pos: &[u64], neg: &[u64]) -> Answer
+pub fn whole_hundredths(
+    p: whole_point::Point,
+    bounds: &[f64],
+    pos: &[u64],
+    neg: &[u64],
+) -> Result<i64, Refusal>
     ensures { said result ≡ whole_mean_in (W.stored p bounds.now pos.now neg.now) }
 {
-    let no = whole_point::alone_number(p, bounds, pos, neg);
-    Answer::Refused(no)
+    Err(whole_point::alone_number(p, bounds, pos, neg))
 }

@@ -1,5 +1,5 @@
 -- Points as code holds them, read as the points of crate `points`; and what merging two of them answers. Assumes nothing.
-use Rattle.std.specs.Prelude.{ℕ, Bool, true, ◌&&◌, List, leb, eqb, length, Float}
+use Rattle.std.specs.Prelude.{ℕ, Bool, true, ◌&&◌, List, leb, eqb, length, Float, Result}
 use Rattle.laws.specs.Pick.{pick}
 use Rattle.laws.specs.Said.{Said, refusal, success}
 use Rattle.laws.specs.Over.{over}
@@ -16,8 +16,8 @@ use Rattle.explicit.specs.Series.{buckets_in}
 use Rattle.point.specs.declared.Point.{Point}
 use Rattle.point.specs.declared.Figures.{Figures}
 use Rattle.point.specs.declared.Figures.TheVariants.{Exponential, Explicit}
-use Rattle.point.specs.declared.Answer.{Answer}
-use Rattle.point.specs.declared.Answer.TheVariants.{Merged, Refused}
+use Rattle.refusals.specs.declared.Refusal.{Refusal}
+use Rattle.refusals.specs.Refusals.{said}
 
 -- ---- a point as it is stored
 
@@ -102,11 +102,6 @@ point_for p = record { figures = figures_for p.counts; extremes = p.extremes; mi
 
 -- ---- merging
 
--- a merge's answer in document 01's words
-abbrev pub said : Answer → Said Point
-said (Refused n) = refusal n
-said (Merged p) = success p
-
 -- the answer, and both lent rows afterwards
 pub record Outcome : Type 0 where
   pub answer : Said Stored
@@ -118,7 +113,7 @@ abbrev pub ended : Said Point → List Float → List ℕ → List ℕ → Outco
 ended r bs us vs = record { answer = elim r [ refusal n ↦ refusal n | success p ↦ success (stored_in p bs us vs) ]; pos = us; neg = vs }
 
 -- as a contract writes it: the answer, the first's bounds and the two lent rows
-abbrev pub outcome : Answer → List Float → List ℕ → List ℕ → Outcome
+abbrev pub outcome : Result Point Refusal → List Float → List ℕ → List ℕ → Outcome
 outcome r bounds pos neg = ended (said r) bounds pos neg
 
 -- a point laid over lent rows, or 10 where they have no room for its counts

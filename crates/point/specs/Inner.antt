@@ -1,6 +1,6 @@
 -- BETWEEN OUR OWN CRATES: serves inner contracts and proofs; nobody needs it to believe the public calls or the theorems.
 -- A merge as code does it, over points as they are stored: its tests one by one, and merged counts over lent rows. Assumes nothing.
-use Rattle.std.specs.Prelude.{ℕ, ◌+◌, Bool, true, false, ◌&&◌, List, leb, length, take, Float}
+use Rattle.std.specs.Prelude.{ℕ, ◌+◌, Bool, true, false, ◌&&◌, List, leb, length, take, Float, Result, Ok, Err}
 use Rattle.std.specs.Float.{binary64}
 use Rattle.std.specs.Float.Ieee.{add}
 use Rattle.laws.specs.Pick.{pick}
@@ -17,8 +17,9 @@ use Rattle.explicit.specs.Series.{buckets_in}
 use Rattle.point.specs.declared.Point.{Point}
 use Rattle.point.specs.declared.Figures.{Figures}
 use Rattle.point.specs.declared.Figures.TheVariants.{Exponential, Explicit}
-use Rattle.point.specs.declared.Made.{Made}
-use Rattle.point.specs.declared.Made.TheVariants.{Of, NoRoom}
+use Rattle.refusals.specs.declared.Refusal.{Refusal}
+use Rattle.refusals.specs.declared.Refusal.TheVariants.{NoRoom}
+use Rattle.refusals.specs.Refusals.{number}
 use Rattle.point.specs.Handing.{Stored, count_in, figures_for}
 
 -- ---- the tests; that they make up `refusal_before` is the law `refusal_is`
@@ -49,6 +50,10 @@ size_fits size f g = pick (is_explicit f) (pick (is_explicit g) true (size_passe
 
 -- ---- counts laid over lent rows, where there is room for them
 
+-- what a merge makes: figures, or a refusal for want of room
+abbrev pub Made : Type 0
+Made = Result Figures Refusal
+
 pub record Over : Type 0 where
   pub made : Made
   pub pos : List ℕ
@@ -60,8 +65,8 @@ made_over m us vs = record { made = m; pos = us; neg = vs }
 unfoldable pub counts_over : F.Counts → List ℕ → List ℕ → Over
 counts_over c us vs =
     pick (leb (length (pos_of c)) (length us) && leb (length (neg_of c)) (length vs))
-    (made_over (Of (figures_for c)) (over (pos_of c) us) (over (neg_of c) vs))
-    (made_over NoRoom us vs)
+    (made_over (Ok (figures_for c)) (over (pos_of c) us) (over (neg_of c) vs))
+    (made_over (Err NoRoom) us vs)
 
 -- the explicit kind, whose counts need one row
 pub record One : Type 0 where
@@ -73,17 +78,20 @@ made_one m us = record { made = m; counts = us }
 
 unfoldable pub laid_one : ℕ → ℕ → List ℕ → ℕ → List ℕ → List ℕ → One
 laid_one k n xs m zs us =
-    pick (leb k (length us)) (made_one (Of (Explicit (n + m))) (over (added (take k xs) (take k zs)) us)) (made_one NoRoom us)
+    pick (leb k (length us)) (made_one (Ok (Explicit (n + m))) (over (added (take k xs) (take k zs)) us)) (made_one (Err NoRoom) us)
 
 -- ---- the merged point of the counts that were made; 10 where there is no room
 
-abbrev pub finished : Point → Point → Made → Said Point
-finished a b NoRoom = refusal 10
-finished a b (Of f) =
-    success (record {
+abbrev pub merged_of : Point → Point → Figures → Point
+merged_of a b f =
+    record {
       figures = f;
       extremes = a.extremes;
       min = smaller_of a.min b.min;
       max = larger_of a.max b.max;
       sum = add binary64 a.sum b.sum;
-    })
+    }
+
+abbrev pub finished : Point → Point → Made → Said Point
+finished a b (Err e) = refusal (number e)
+finished a b (Ok f) = success (merged_of a b f)

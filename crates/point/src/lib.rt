@@ -8,9 +8,10 @@ ghost use Rattle.floats.specs.Starts.{zero_float};
 ghost use Rattle.points.specs.Handed.{extremes_agree};
 ghost use Rattle.laws.specs.Pick.{pick};
 ghost use Rattle.floats.specs.declared.Extreme.TheVariants.{Value};
-ghost use Rattle.point.specs.Handing.{stored, count_in, agrees_alone, shown_point, exponential_point, explicit_point, refusal_before, said, outcome, merging};
+ghost use Rattle.refusals.specs.Refusals.{code};
+ghost use Rattle.point.specs.Handing.{stored, count_in, agrees_alone, shown_point, exponential_point, explicit_point, refusal_before, outcome, merging};
 ghost use Rattle.point.specs.Inner.{figures_agree, point_agrees, is_explicit, same_figures, size_fits};
-ghost use Rattle.point.specs.Inner.{made_over, counts_over, made_one, laid_one, finished};
+ghost use Rattle.point.specs.Inner.{made_over, counts_over, made_one, laid_one, merged_of};
 ghost use Rattle.std.specs.Bool.{beq};
 ghost use Rattle.points.specs.Explicit.{bucket_count};
 ghost use Rattle.points.specs.Figures.{exponential_counts};
@@ -20,6 +21,7 @@ ghost use Rattle.laws.specs.Counting.{most_count};
 
 use exponential::Counts;
 use floats::Extreme;
+use refusals::Refusal;
 
 // The counts of either kind; the case is the kind's tag.
 #[derive(Clone, Copy)]
@@ -210,7 +212,7 @@ fn counts_fit(f: Figures, g: Figures) -> bool
     y <= u64::MAX - x
 }
 
-// The number with which a merge is refused but for 10, 0 if none.
+// What refuses a merge but for the room.
 pub fn refusal(
     size: u32,
     a: Point,
@@ -221,48 +223,34 @@ pub fn refusal(
     bbounds: &[f64],
     bpos: &[u64],
     bneg: &[u64],
-) -> u8
-    ensures { result ≡ refusal_before size (stored a abounds.now apos.now aneg.now)
+) -> Result<(), Refusal>
+    ensures { code result ≡ refusal_before size (stored a abounds.now apos.now aneg.now)
         (stored b bbounds.now bpos.now bneg.now) }
 {
     let f = a.figures;
     let g = b.figures;
     if !size_fits(size as usize, f, g) {
-        return 1;
+        return Err(Refusal::MaxSize);
     }
     if !point_agrees(size as usize, a, abounds, apos, aneg) {
-        return 8;
+        return Err(Refusal::Disagrees);
     }
     if !point_agrees(size as usize, b, bbounds, bpos, bneg) {
-        return 8;
+        return Err(Refusal::Disagrees);
     }
     if !same_kind(f, abounds, g, bbounds) {
-        return 11;
+        return Err(Refusal::Unlike);
     }
     if !same_switch(a.extremes, b.extremes) {
-        return 11;
+        return Err(Refusal::Unlike);
     }
     if !counts_fit(f, g) {
-        return 9;
+        return Err(Refusal::Full);
     }
-    0
+    Ok(())
 }
 
 // ---- merging
-
-// What a merge makes: figures, or none for want of room.
-#[derive(Clone, Copy)]
-pub enum Made {
-    Of(Figures),
-    NoRoom,
-}
-
-// What a merge answers: the merged point, or document 01's number.
-#[derive(Clone, Copy)]
-pub enum Answer {
-    Merged(Point),
-    Refused(u8),
-}
 
 fn merge_exponential(
     size: usize,
@@ -274,7 +262,7 @@ fn merge_exponential(
     bneg: &[u64],
     pos: &mut [u64],
     neg: &mut [u64],
-) -> Made
+) -> Result<Figures, Refusal>
     requires { Agreeing size c apos.now aneg.now d bpos.now bneg.now }
     ensures { made_over result pos.new neg.new
         ≡ counts_over (exponential_counts (merged_point size c apos.now aneg.now d bpos.now bneg.now))
@@ -286,13 +274,13 @@ fn merge_exponential(
     let dp = d.pos;
     let dn = d.neg;
     if pos.len() < merges::joined_len(cp, to.first, dp, to.second) {
-        return Made::NoRoom;
+        return Err(Refusal::NoRoom);
     }
     if neg.len() < merges::joined_len(cn, to.first, dn, to.second) {
-        return Made::NoRoom;
+        return Err(Refusal::NoRoom);
     }
     let r = merges::merge_to(size, to, c, apos, aneg, d, bpos, bneg, pos, neg);
-    Made::Of(Figures::Exponential(r))
+    Ok(Figures::Exponential(r))
 }
 
 fn merge_explicit(
@@ -302,43 +290,35 @@ fn merge_explicit(
     m: u64,
     bpos: &[u64],
     pos: &mut [u64],
-) -> Made
+) -> Result<Figures, Refusal>
     requires { Addable (bucket_count bounds.now) apos.now bpos.now × (n + m < 2 ^ 64) }
     ensures { made_one result pos.new
         ≡ laid_one (bucket_count bounds.now) n apos.now m bpos.now pos.old }
 {
     let k = explicit::bucket_count(bounds);
     if pos.len() < k {
-        return Made::NoRoom;
+        return Err(Refusal::NoRoom);
     }
     explicit::add_counts(apos, bpos, k, pos);
-    Made::Of(Figures::Explicit(n + m))
+    Ok(Figures::Explicit(n + m))
 }
 
-fn finish(a: Point, b: Point, made: Made) -> Answer
-    ensures { said result ≡ finished a b made }
+// The merged point of the figures that were made.
+fn finish(a: Point, b: Point, figures: Figures) -> Point
+    ensures { result ≡ merged_of a b figures }
 {
-    match made {
-        Made::NoRoom => Answer::Refused(10),
-        Made::Of(f) => {
-            let low = a.min;
-            let lower = b.min;
-            let high = a.max;
-            let higher = b.max;
-            let min = floats::smaller(low, lower);
-            let max = floats::larger(high, higher);
-            Answer::Merged(Point {
-                figures: f,
-                extremes: a.extremes,
-                min,
-                max,
-                sum: a.sum + b.sum,
-            })
-        }
+    let min = floats::smaller(a.min, b.min);
+    let max = floats::larger(a.max, b.max);
+    Point {
+        figures,
+        extremes: a.extremes,
+        min,
+        max,
+        sum: a.sum + b.sum,
     }
 }
 
-// Two points merged into lent rows: the merged point, which has the first's bounds, or document 01's number with nothing changed: 1 max_size,
+// Two points merged into lent rows: the merged point, which has the first's bounds, or a refusal with nothing changed: 1 max_size,
 // 8 a point disagrees, 11 unlike kind, bounds or switch, 9 the count would pass 2^64 - 1, 10 the lent rows are too short.
 pub fn merge(
     size: u32,
@@ -352,30 +332,37 @@ pub fn merge(
     bneg: &[u64],
     pos: &mut [u64],
     neg: &mut [u64],
-) -> Answer
+) -> Result<Point, Refusal>
     ensures { outcome result abounds.now pos.new neg.new
         ≡ merging size (stored a abounds.now apos.now aneg.now) (stored b bbounds.now bpos.now bneg.now)
         pos.old neg.old }
 {
-    let no = refusal(size, a, abounds, apos, aneg, b, bbounds, bpos, bneg);
-    if no != 0 {
-        return Answer::Refused(no);
-    }
+    refusal(size, a, abounds, apos, aneg, b, bbounds, bpos, bneg)?;
     let f = a.figures;
     let g = b.figures;
     match f {
         Figures::Exponential(c) => match g {
             Figures::Exponential(d) => {
-                let made = merge_exponential(size as usize, c, apos, aneg, d, bpos, bneg, pos, neg);
-                finish(a, b, made)
+                let made = merge_exponential(
+                    size as usize,
+                    c,
+                    apos,
+                    aneg,
+                    d,
+                    bpos,
+                    bneg,
+                    pos,
+                    neg,
+                )?;
+                Ok(finish(a, b, made))
             }
-            Figures::Explicit(m) => Answer::Refused(11),
+            Figures::Explicit(m) => Err(Refusal::Unlike),
         },
         Figures::Explicit(n) => match g {
-            Figures::Exponential(d) => Answer::Refused(11),
+            Figures::Exponential(d) => Err(Refusal::Unlike),
             Figures::Explicit(m) => {
-                let made = merge_explicit(abounds, n, apos, m, bpos, pos);
-                finish(a, b, made)
+                let made = merge_explicit(abounds, n, apos, m, bpos, pos)?;
+                Ok(finish(a, b, made))
             }
         },
     }

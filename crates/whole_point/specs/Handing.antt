@@ -1,5 +1,5 @@
 -- Points of i64 values as code holds them, read as those of crate `points`; and what merging two of them answers. Assumes nothing.
-use Rattle.std.specs.Prelude.{ℕ, Bool, ◌&&◌, List, leb, eqb, ℤ, length, Float}
+use Rattle.std.specs.Prelude.{ℕ, Bool, ◌&&◌, List, leb, eqb, ℤ, length, Float, Result}
 use Rattle.laws.specs.Pick.{pick}
 use Rattle.laws.specs.Said.{Said, refusal, success}
 use Rattle.laws.specs.Over.{over}
@@ -11,6 +11,8 @@ use Rattle.points.specs.Any.{Summary, Handed, handed_agrees, merge_handed, unmer
 use Rattle.points.specs.Real.{real}
 use Rattle.points.specs.Whole.{whole}
 use Rattle.points.specs.Shadow.{shadow_of}
+use Rattle.refusals.specs.declared.Refusal.{Refusal}
+use Rattle.refusals.specs.Refusals.{said}
 use Rattle.exponential_wholes.specs.declared.Head as H
 use Rattle.exponential_wholes.specs.Series as Exponentials
 use Rattle.explicit_wholes.specs.declared.Head as B
@@ -21,8 +23,6 @@ use Rattle.point.specs.declared.Figures.TheVariants.{Exponential, Explicit}
 use Rattle.point.specs.Handing as Q
 use Rattle.point.specs.Handing.{count_in, counts_as, figures_shaped, figures_for}
 use Rattle.whole_point.specs.declared.Point.{Point}
-use Rattle.whole_point.specs.declared.Answer.{Answer}
-use Rattle.whole_point.specs.declared.Answer.TheVariants.{Merged, Refused}
 
 -- ---- a point as it is stored
 
@@ -81,10 +81,6 @@ shadow_stored x = Q.stored_in (shadow_point x.point) x.bounds x.pos x.neg
 
 -- ---- merging
 
-abbrev pub said : Answer → Said Point
-said (Refused n) = refusal n
-said (Merged p) = success p
-
 -- the answer, and both lent rows afterwards
 pub record Outcome : Type 0 where
   pub answer : Said Stored
@@ -95,7 +91,7 @@ pub record Outcome : Type 0 where
 abbrev pub ended : Said Point → List Float → List ℕ → List ℕ → Outcome
 ended r bs us vs = record { answer = elim r [ refusal n ↦ refusal n | success p ↦ success (stored_in p bs us vs) ]; pos = us; neg = vs }
 
-abbrev pub outcome : Answer → List Float → List ℕ → List ℕ → Outcome
+abbrev pub outcome : Result Point Refusal → List Float → List ℕ → List ℕ → Outcome
 outcome r bounds pos neg = ended (said r) bounds pos neg
 
 abbrev pub point_for : Handed whole → Point
@@ -135,10 +131,13 @@ alone_number x = pick (in_shape x && handed_agrees whole most_size finest (lowes
 -- ---- between functions
 
 -- the merged point of counts that were merged
+abbrev pub merged_of : Point → Point → ℤ → P.Point → Point
+merged_of a b s p =
+    record { figures = p.figures; extremes = a.extremes; min = smaller_of a.min b.min; max = larger_of a.max b.max; sum = s }
+
 abbrev pub finished : Point → Point → ℤ → Said P.Point → Said Point
 finished a b s (refusal n) = refusal n
-finished a b s (success p) =
-    success (record { figures = p.figures; extremes = a.extremes; min = smaller_of a.min b.min; max = larger_of a.max b.max; sum = s })
+finished a b s (success p) = success (merged_of a b s p)
 
 -- the number beside an f64 point, of that of the shadow
 abbrev pub beside_number : ℕ → ℕ

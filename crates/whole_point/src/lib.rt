@@ -6,10 +6,12 @@ ghost use Rattle.std.specs.Prelude.{◌≡◌, pos as whole};
 ghost use Rattle.laws.specs.Pick.{pick};
 ghost use Rattle.points.specs.Shadow.{shadow_of};
 ghost use Rattle.point.specs.Handing as P;
-ghost use Rattle.whole_point.specs.Handing.{stored, shadow_point, exponential_point, explicit_point, said, outcome, finished, merging, beside_number, mixed_number, alone_number};
+ghost use Rattle.whole_point.specs.Handing.{stored, shadow_point, exponential_point, explicit_point, merged_of, outcome, merging, beside_number, mixed_number, alone_number};
+ghost use Rattle.refusals.specs.Refusals.{number, code};
 
 use integers::{Extreme, Total};
 use point::Figures;
+use refusals::Refusal;
 
 // A point; its bounds and its rows of counts lie beside it.
 #[derive(Clone, Copy)]
@@ -19,13 +21,6 @@ pub struct Point {
     pub min: Extreme,
     pub max: Extreme,
     pub sum: i64,
-}
-
-// What a merge answers: the merged point, or document 01's number.
-#[derive(Clone, Copy)]
-pub enum Answer {
-    Merged(Point),
-    Refused(u8),
 }
 
 // ---- the point of a series, by its two switches
@@ -105,32 +100,22 @@ pub fn shadow_of(p: Point) -> point::Point
 
 // ---- merging
 
-// The merged point of counts that were merged, the sum being s; or the number that refused them.
-fn finish(a: Point, b: Point, s: i64, r: point::Answer) -> Answer
-    ensures { said result ≡ finished a b s (P.said r) }
+// The merged point of counts that were merged, the sum being s.
+fn finish(a: Point, b: Point, s: i64, counted: point::Point) -> Point
+    ensures { result ≡ merged_of a b s counted }
 {
-    match r {
-        point::Answer::Refused(n) => Answer::Refused(n),
-        point::Answer::Merged(p) => {
-            let f = p.figures;
-            let low = a.min;
-            let lower = b.min;
-            let high = a.max;
-            let higher = b.max;
-            let min = integers::smaller(low, lower);
-            let max = integers::larger(high, higher);
-            Answer::Merged(Point {
-                figures: f,
-                extremes: a.extremes,
-                min,
-                max,
-                sum: s,
-            })
-        }
+    let min = integers::smaller(a.min, b.min);
+    let max = integers::larger(a.max, b.max);
+    Point {
+        figures: counted.figures,
+        extremes: a.extremes,
+        min,
+        max,
+        sum: s,
     }
 }
 
-// Two points merged into lent rows: the merged point, which has the first's bounds, or document 01's number with nothing changed: 1 max_size,
+// Two points merged into lent rows: the merged point, which has the first's bounds, or a refusal with nothing changed: 1 max_size,
 // 8 a point disagrees, 11 unlike kind, bounds or switch, 9 the count would pass 2^64 - 1, 16 the sum would leave i64, 10 the lent rows are too
 // short.
 pub fn merge(
@@ -145,7 +130,7 @@ pub fn merge(
     bneg: &[u64],
     pos: &mut [u64],
     neg: &mut [u64],
-) -> Answer
+) -> Result<Point, Refusal>
     ensures { outcome result abounds.now pos.new neg.new
         ≡ merging size (stored a abounds.now apos.now aneg.now) (stored b bbounds.now bpos.now bneg.now)
         pos.old neg.old }
@@ -155,35 +140,32 @@ pub fn merge(
     let total = integers::sum(a.sum, b.sum);
     match total {
         Total::Outside => {
-            let no = point::refusal(size, x, abounds, apos, aneg, y, bbounds, bpos, bneg);
-            let n = integers::last_number(no);
-            Answer::Refused(n)
+            point::refusal(size, x, abounds, apos, aneg, y, bbounds, bpos, bneg)?;
+            Err(Refusal::SumOutside)
         }
         Total::Is(s) => {
-            let r = point::merge(
+            let counted = point::merge(
                 size, x, abounds, apos, aneg, y, bbounds, bpos, bneg, pos, neg,
-            );
-            finish(a, b, s, r)
+            )?;
+            Ok(finish(a, b, s, counted))
         }
     }
 }
 
 // ---- beside f64
 
-// The number of an i64 point beside an f64 point, of that of its shadow: 1 and 8 come first, else it is 11.
-pub fn beside(no: u8) -> u8
-    ensures { result ≡ beside_number no }
+// What refuses an i64 point beside an f64 point, of what refuses its shadow: 1 and 8 come first, else it is 11.
+pub fn beside(no: Result<(), Refusal>) -> Refusal
+    ensures { number result ≡ beside_number (code no) }
 {
-    if no == 1 {
-        return 1;
+    match no {
+        Err(Refusal::MaxSize) => Refusal::MaxSize,
+        Err(Refusal::Disagrees) => Refusal::Disagrees,
+        _ => Refusal::Unlike,
     }
-    if no == 8 {
-        return 8;
-    }
-    11
 }
 
-// The number with which an i64 point and an f64 point are refused, never 0: 1 max_size, 8 a point disagrees, else 11.
+// What refuses an i64 point and an f64 point: 1 max_size, 8 a point disagrees, else 11.
 pub fn mixed_number(
     size: u32,
     a: Point,
@@ -194,8 +176,8 @@ pub fn mixed_number(
     bbounds: &[f64],
     bpos: &[u64],
     bneg: &[u64],
-) -> u8
-    ensures { result ≡ mixed_number size (stored a abounds.now apos.now aneg.now)
+) -> Refusal
+    ensures { number result ≡ mixed_number size (stored a abounds.now apos.now aneg.now)
         (P.stored b bbounds.now bpos.now bneg.now) }
 {
     let x = shadow_of(a);
@@ -203,14 +185,14 @@ pub fn mixed_number(
     beside(no)
 }
 
-// The number with which an i64 point is refused where only f64 points are taken, in a card or a sheet: 8 where it disagrees with itself under
+// What refuses an i64 point where only f64 points are taken, in a card or a sheet: 8 where it disagrees with itself under
 // max_size 160 and the greatest scale, else 11.
-pub fn alone_number(p: Point, bounds: &[f64], pos: &[u64], neg: &[u64]) -> u8
-    ensures { result ≡ alone_number (stored p bounds.now pos.now neg.now) }
+pub fn alone_number(p: Point, bounds: &[f64], pos: &[u64], neg: &[u64]) -> Refusal
+    ensures { number result ≡ alone_number (stored p bounds.now pos.now neg.now) }
 {
     let x = shadow_of(p);
     if point::agrees_alone(x, bounds, pos, neg) {
-        return 11;
+        return Refusal::Unlike;
     }
-    8
+    Refusal::Disagrees
 }

@@ -1,5 +1,6 @@
 -- AGAIN. Where a recording was taken, the next one by the same handle, or with the same set, goes to the same slot, which then holds a series;
 -- what it commits is there already. Assumes nothing.
+use Rattle.std.specs.Prelude.{Ok, Err, Result, ℕ}
 use Prim.Native.Nat.{ℕ, ◌+◌, ◌≤◌, ◌<◌}
 use mathlib.Core.Path.{◌≡◌, refl, ap, sym, subst, ◌∙◌}
 use mathlib.Core.Logic.{◌⊎◌, inl, inr, ⊎_elim}
@@ -22,8 +23,6 @@ use Rattle.sets.proofs.CallRow.{row-set, row-short}
 use Rattle.directory.specs.View.{Stores, set_at, agreesb, sought, updated_in, entry_at, view}
 use Rattle.directory.specs.Calls.{Kept, over_row, located, admitted}
 use Rattle.directory.specs.declared.Directory.{Directory}
-use Rattle.directory.specs.declared.Found.{Found}
-use Rattle.directory.specs.declared.Found.TheVariants.{Held, Room}
 use Rattle.directory.specs.declared.Target.{Target}
 use Rattle.directory.specs.declared.Target.TheVariants.{Disagrees, Old, New, Over}
 use Rattle.directory.proofs.Laws.{slots_of, slot-used, ascends, above_in}
@@ -33,8 +32,7 @@ use Rattle.directory.proofs.Laid.{in_around}
 use Rattle.directory.proofs.Located.{blank, told, sought-held, new-there, over-there}
 use Rattle.directory.proofs.Leaves.{Good, admit-leaves}
 use Rattle.directory.proofs.Refusals.{suffices}
-use Rattle.seats.specs.declared.Seating.{Seating}
-use Rattle.seats.specs.Seats.{seat_at, seated, seated_by, marked, marked_in, committed}
+use Rattle.seats.specs.Seats.{seat_at, seated, seated_by, marked, marked_in, committed, Seating}
 use Rattle.seats.proofs.Commits.{commit-old, commit-new, commit-over}
 use Rattle.seats.proofs.Seatings.{new-either, seat-is, old-safe}
 use Rattle.seats.proofs.Owns.{new-set}
@@ -90,25 +88,25 @@ module _ (s : Stores) (w : Set) where
       go false p (inl j) q ih = no (sym p ∙ ap (λ (v : Set). same v w) (ap (set_at s.sets) (sym j) ∙ e) ∙ same_self w)
 
 module _ (limit : ℕ) (d : Directory) (s : Stores) (g : agreesb limit d s ≡ true) (w : Set) where
-  pub sought-own : (x : ℕ) → In x (slots_of d s) → set_at s.sets x ≡ w → sought w d.used s.sets s.order ≡ Held x
+  pub sought-own : (x : ℕ) → In x (slots_of d s) → set_at s.sets x ≡ w → sought w d.used s.sets s.order ≡ Ok x
   sought-own x i e = go (sought w d.used s.sets s.order) refl
     where
-      go : (o : Found) → sought w d.used s.sets s.order ≡ o → sought w d.used s.sets s.order ≡ Held x
-      go (Room r) p = absurd (not_missing s w (slots_of d s) x i e (room-rank blank (λ k. tt) tt limit d s g w r p).0)
-      go (Held y) p =
+      go : (o : Result ℕ ℕ) → sought w d.used s.sets s.order ≡ o → sought w d.used s.sets s.order ≡ Ok x
+      go (Err r) p = absurd (not_missing s w (slots_of d s) x i e (room-rank blank (λ k. tt) tt limit d s g w r p).0)
+      go (Ok y) p =
           let h = sought-held blank (λ k. tt) tt d s w y p in
           let t = find-set blank w (view blank (λ k. tt) tt d s).entries (entry_at blank (λ k. tt) s y) h.1 in
-          p ∙ ap (λ (k : ℕ). Held k) (sym (alone (set_at s.sets) (slots_of d s) x y (ascends limit d s g) i h.0 (e ∙ sym t)))
+          p ∙ ap (λ (k : ℕ). Ok k) (sym (alone (set_at s.sets) (slots_of d s) x y (ascends limit d s g) i h.0 (e ∙ sym t)))
 
 -- ---- where a call goes, by what is found
 
 module _ (limit : ℕ) (d : Directory) (s : Stores) (g : agreesb limit d s ≡ true) (row : List ℕ) where
-  located-held : (x : ℕ) → sought (set_of row) d.used s.sets s.order ≡ Held x → located limit d s row ≡ Old x
+  located-held : (x : ℕ) → sought (set_of row) d.used s.sets s.order ≡ Ok x → located limit d s row ≡ Old x
   unfolding located pick
   located-held x e = rw (g, e)
 
-  located-over : (r x : ℕ) → sought (set_of row) d.used s.sets s.order ≡ Room r → ltb d.count limit ≡ false
-      → sought (set_of over_row) d.used s.sets s.order ≡ Held x → located limit d s row ≡ Old x
+  located-over : (r x : ℕ) → sought (set_of row) d.used s.sets s.order ≡ Err r → ltb d.count limit ≡ false
+      → sought (set_of over_row) d.used s.sets s.order ≡ Ok x → located limit d s row ≡ Old x
   unfolding located pick
   located-over r x e c o = rw (g, e, c, o)
 
@@ -147,11 +145,11 @@ module _ (limit : ℕ) (d : Directory) (s : Stores) (g : agreesb limit d s ≡ t
 
   module _ (q : agreesb limit (marked_in k x).dir (marked_in k x).stores ≡ true) where
     -- its set is found there
-    made_found : sought (set_of row) k.dir.used k.stores.sets k.stores.order ≡ Held x
+    made_found : sought (set_of row) k.dir.used k.stores.sets k.stores.order ≡ Ok x
     made_found = sought-own limit (marked_in k x).dir (marked_in k x).stores q (set_of row) x made_in made-set
 
     -- and a set that was not held is found there or nowhere
-    none_else : (w : Set) (p y : ℕ) → sought w d.used s.sets s.order ≡ Room p → sought w k.dir.used k.stores.sets k.stores.order ≡ Held y → y ≡ x
+    none_else : (w : Set) (p y : ℕ) → sought w d.used s.sets s.order ≡ Err p → sought w k.dir.used k.stores.sets k.stores.order ≡ Ok y → y ≡ x
     none_else w p y e f =
         let h = sought-held blank (λ i. tt) tt k.dir k.stores w y f in
         let t = find-set blank w (view blank (λ i. tt) tt k.dir k.stores).entries (entry_at blank (λ i. tt) k.stores y) h.1 in
@@ -168,11 +166,11 @@ module _ (limit : ℕ) (d : Directory) (s : Stores) (row : List ℕ) (p : ℕ) (
   unfolding admitted
   still_full = let e : d.count + 0 ≡ d.count = omega arith in ap (λ (n : ℕ). ltb n limit) e ∙ full
 
-  over-located : agreesb limit over.dir over.stores ≡ true → sought (set_of over_row) over.dir.used over.stores.sets over.stores.order ≡ Held (d.used + 1)
-      → ((y : ℕ) → sought (set_of row) over.dir.used over.stores.sets over.stores.order ≡ Held y → y ≡ d.used + 1)
-      → (o : Found) → sought (set_of row) over.dir.used over.stores.sets over.stores.order ≡ o → located limit over.dir over.stores row ≡ Old (d.used + 1)
-  over-located g h f (Held y) e = located-held limit over.dir over.stores g row y e ∙ ap (λ (x : ℕ). Old x) (f y e)
-  over-located g h f (Room r) e = located-over limit over.dir over.stores g row r (d.used + 1) e still_full h
+  over-located : agreesb limit over.dir over.stores ≡ true → sought (set_of over_row) over.dir.used over.stores.sets over.stores.order ≡ Ok (d.used + 1)
+      → ((y : ℕ) → sought (set_of row) over.dir.used over.stores.sets over.stores.order ≡ Ok y → y ≡ d.used + 1)
+      → (o : Result ℕ ℕ) → sought (set_of row) over.dir.used over.stores.sets over.stores.order ≡ o → located limit over.dir over.stores row ≡ Old (d.used + 1)
+  over-located g h f (Ok y) e = located-held limit over.dir over.stores g row y e ∙ ap (λ (x : ℕ). Old x) (f y e)
+  over-located g h f (Err r) e = located-over limit over.dir over.stores g row r (d.used + 1) e still_full h
 
 -- ---- BY SET
 

@@ -21,8 +21,7 @@ use Rattle.directory.specs.Calls.{Kept, kept, stores_suffice}
 use Rattle.directory.specs.declared.Directory.{Directory}
 use Rattle.directory.proofs.Leaves.{Good}
 use Rattle.directory.specs.declared.Target.{Target}
-use Rattle.seats.specs.declared.Seating.{Seating}
-use Rattle.seats.specs.Seats.{barred_by, unless_barred, committed}
+use Rattle.seats.specs.Seats.{barred_by, unless_barred, committed, Seating}
 use Rattle.seats.specs.Inner.{Fits}
 use Rattle.seats.proofs.Bars.{bar_6, bar_0, Clear, clear, barred-on, not-barred}
 use Rattle.value_map.specs.Store.{Store}

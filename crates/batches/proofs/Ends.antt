@@ -27,8 +27,7 @@ use Rattle.directory.specs.View.{Stores, agreesb}
 use Rattle.directory.specs.Calls.{Kept, most_sets, few_keys, accepts, stores_suffice}
 use Rattle.bindings.specs.Calls.{said}
 use Rattle.bindings.specs.declared.Reply.{Reply}
-use Rattle.seats.specs.declared.Seating.{Seating}
-use Rattle.seats.specs.Seats.{away, seated, seated_by, barred_by, unless_barred, committed}
+use Rattle.seats.specs.Seats.{away, seated, seated_by, barred_by, unless_barred, committed, Seating}
 use Rattle.seats.specs.Inner.{Sure, Fits}
 use Rattle.seats.proofs.Seatings.{seat-no, by-no}
 use Rattle.value_map.specs.Store.{Store}

@@ -1,5 +1,6 @@
 -- OWNED. A map whose directory and every series agree meets what the calls `.._agreed` require, whatever is asked. That every call keeps it so is
 -- promises/proofs/Owned.antt. Assumes nothing.
+use Rattle.std.specs.Prelude.{Result, Err, Ok, ℕ}
 use Prim.Native.Nat.{ℕ, zero, suc, ◌≤◌}
 use mathlib.Core.Path.{◌≡◌, refl, sym, subst}
 use mathlib.Core.Logic.{inl, inr}
@@ -19,7 +20,6 @@ use Rattle.tally.proofs.Sound.{Sound}
 use Rattle.directory.specs.View.{Stores, updated_in, entry_at}
 use Rattle.directory.specs.Calls.{located, scan, most_sets, few_keys, accepts}
 use Rattle.directory.specs.declared.Directory.{Directory}
-use Rattle.directory.specs.declared.Found.{Found}
 use Rattle.directory.specs.declared.Target.{Target}
 use Rattle.directory.specs.declared.Target.TheVariants.{Disagrees, Old, New, Over}
 use Rattle.directory.proofs.Laws.{slots_of, slot-used, scan_in}
@@ -108,9 +108,9 @@ module _ {K : Kind} {S : Store K} (w : S.Switches) (limit : ℕ) (filter : Optio
             (found (scan b k.stores.entries (slots_of k.dir k.stores)) refl),
       )
     where
-      found : (t : Found) → scan b h.kept.stores.entries (slots_of h.kept.dir h.kept.stores) ≡ t → SoundAt S w h (seat_by h.kept.stores t)
-      found (Found.Room r) e u = true-not-false (sym u)
-      found (Found.Held x) e u = at_slot x (scan_in b h.kept.stores.entries x (slots_of h.kept.dir h.kept.stores) e) u
+      found : (t : Result ℕ ℕ) → scan b h.kept.stores.entries (slots_of h.kept.dir h.kept.stores) ≡ t → SoundAt S w h (seat_by h.kept.stores t)
+      found (Err r) e u = true-not-false (sym u)
+      found (Ok x) e u = at_slot x (scan_in b h.kept.stores.entries x (slots_of h.kept.dir h.kept.stores) e) u
 
   pub owned_for : (attrs : Set) → AgreedFor S w limit filter h attrs
   unfolding seated

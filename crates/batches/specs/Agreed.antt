@@ -7,8 +7,7 @@ use Rattle.tally.specs.Sets.{Set, canonical}
 use Rattle.sets.specs.Rows.{row_of}
 use Rattle.directory.specs.View.{agreesb}
 use Rattle.directory.specs.Calls.{accepts}
-use Rattle.seats.specs.declared.Seating.{Seating}
-use Rattle.seats.specs.Seats.{seated, seated_by}
+use Rattle.seats.specs.Seats.{seated, seated_by, Seating}
 use Rattle.value_map.specs.Store.{Store}
 use Rattle.value_map.specs.Calls.{Held, lent}
 

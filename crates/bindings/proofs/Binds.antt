@@ -1,4 +1,5 @@
 -- Binding is the map's step, for any kind of series. Assumes nothing.
+use Rattle.std.specs.Prelude.{Ok, Err}
 use Prim.Native.Nat.{ℕ, suc, ◌+◌, ◌^◌, ◌≤◌, ◌<◌}
 use mathlib.Core.Path.{◌≡◌, refl, ap, sym, subst, ◌∙◌}
 use mathlib.Core.Logic.{◌⊎◌, inl, inr, ⊎_elim}
@@ -19,7 +20,6 @@ use Rattle.sets.specs.Rows.{set_of}
 use Rattle.directory.specs.Calls.{over_row, located, bound_to, admitted}
 use Rattle.directory.specs.View.{Stores, birth_at, agreesb, sought, entry_at, view}
 use Rattle.directory.specs.declared.Directory.{Directory}
-use Rattle.directory.specs.declared.Found.TheVariants.{Held, Room}
 use Rattle.directory.specs.declared.Target.{Target}
 use Rattle.directory.specs.declared.Target.TheVariants.{Disagrees, Old, New, Over}
 use Rattle.directory.proofs.Admits.{room-rank, admit-put}
@@ -82,7 +82,7 @@ module _ (K : Kind) (f : ℕ → K.Series) (z : K.Settings) where
           let q : bind_at K (view K f z d s) newly ≡ record { answer = refuse 9; map = view K f z d s } = rw b in
           both (sym o) (sym q) (refl, refl)
 
-      born-made : sought (set_of new_row) d.used s.sets s.order ≡ Room r → d.used + 1 < length s.sets → d.used + 1 < length s.entries → d.used < length s.order
+      born-made : sought (set_of new_row) d.used s.sets s.order ≡ Err r → d.used + 1 < length s.sets → d.used + 1 < length s.entries → d.used < length s.order
           → d.last < 18446744073709551615 → Is (born_bound d s new_row r more) (bind_at K (view K f z d s) newly)
       unfolding bind_at pick
       born-made e ls le lo h =
@@ -111,28 +111,28 @@ module _ (K : Kind) (f : ℕ → K.Series) (z : K.Settings) where
     old-is x g i =
         ⊎_elim (λ h. old-full c.limit d s row g small x h) (λ h. old-more c.limit d s row g small x i le h) (at_least 18446744073709551615 (get_or (get_or s.entries x []) 1 0))
 
-    born-is : agreesb c.limit d s ≡ true → (new_row : List ℕ) (r more count : ℕ) → d.count + more ≡ count → sought (set_of new_row) d.used s.sets s.order ≡ Room r → d.used ≤ c.limit
+    born-is : agreesb c.limit d s ≡ true → (new_row : List ℕ) (r more count : ℕ) → d.count + more ≡ count → sought (set_of new_row) d.used s.sets s.order ≡ Err r → d.used ≤ c.limit
         → Is (born_bound d s new_row r more) (bind_at K m (record { entry = new K (set_of new_row) (suc d.last); count = count; last = suc d.last }))
     born-is g new_row r more count e q u =
         ⊎_elim (λ h. born-spent c.limit d s row g small new_row r more count e h)
         (λ h. born-made c.limit d s row g small new_row r more count e q (omega arith) (omega arith) (omega arith) h) (at_least 18446744073709551615 d.last)
 
-    over-find : (x : ℕ) → sought (set_of over_row) d.used s.sets s.order ≡ Held x → find K overflow m.entries ≡ some (entry_at K f s x)
+    over-find : (x : ℕ) → sought (set_of over_row) d.used s.sets s.order ≡ Ok x → find K overflow m.entries ≡ some (entry_at K f s x)
     over-find x e = (sought-held K f z d s overflow x (ap (λ w. sought w d.used s.sets s.order) (sym over-set) ∙ e)).1
 
-    over_none : (q : ℕ) → agreesb c.limit d s ≡ true → sought (set_of over_row) d.used s.sets s.order ≡ Room q → find K overflow m.entries ≡ none
+    over_none : (q : ℕ) → agreesb c.limit d s ≡ true → sought (set_of over_row) d.used s.sets s.order ≡ Err q → find K overflow m.entries ≡ none
     over_none q g e = (room-rank K f z c.limit d s g overflow q (ap (λ w. sought w d.used s.sets s.order) (sym over-set) ∙ e)).0
 
     target_is : agreesb c.limit d s ≡ true → (t : Target) → Facts c.limit d s row t → Is (bound_at d s row t) (bind_at K m (place K c.limit m (set_of row)))
     target_is g Disagrees y = true-not-false (sym g ∙ y)
     target_is g (Old x) y = ⊎_elim own over y.1
       where
-        own : sought (set_of row) d.used s.sets s.order ≡ Held x → Is (bound_at d s row (Old x)) (bind_at K m (place K c.limit m (set_of row)))
+        own : sought (set_of row) d.used s.sets s.order ≡ Ok x → Is (bound_at d s row (Old x)) (bind_at K m (place K c.limit m (set_of row)))
         own e =
             let h = sought-held K f z d s (set_of row) x e in
             rw (place-held K c.limit m (set_of row) (entry_at K f s x) h.1) (old-is x g h.0)
 
-        over : (r : ℕ) × (sought (set_of row) d.used s.sets s.order ≡ Room r) × (ltb d.count c.limit ≡ false) × (sought (set_of over_row) d.used s.sets s.order ≡ Held x) → Is (bound_at d s row (Old x)) (bind_at K m (place K c.limit m (set_of row)))
+        over : (r : ℕ) × (sought (set_of row) d.used s.sets s.order ≡ Err r) × (ltb d.count c.limit ≡ false) × (sought (set_of over_row) d.used s.sets s.order ≡ Ok x) → Is (bound_at d s row (Old x)) (bind_at K m (place K c.limit m (set_of row)))
         over e =
             let h = sought-held K f z d s (set_of over_row) x e.3 in
             rw (place-over-held K c.limit m (set_of row) (entry_at K f s x) (room-rank K f z c.limit d s g (set_of row) e.0 e.1).0 e.2 (over-find x e.3)) (old-is x g h.0)

@@ -1,5 +1,6 @@
 -- The public calls are the map's steps and keep the directory's agreement, from every agreeing state and from a fresh start.
 -- Assumes nothing.
+use Rattle.std.specs.Prelude.{Ok, Err, Result, ℕ}
 use Prim.Native.Nat.{ℕ, ◌+◌, ◌-◌, ◌^◌, ◌≤◌, ◌<◌}
 use mathlib.Core.Path.{◌≡◌, refl, ap, sym, subst, ◌∙◌}
 use mathlib.Core.Bool.{Bool, true, false}
@@ -24,8 +25,6 @@ use Rattle.sets.proofs.Keyed.{keyed-sound}
 use Rattle.directory.specs.Calls.{Kept, over_row, located, scan, most_sets, accepts, stores_suffice}
 use Rattle.directory.specs.View.{Stores, Laid, slotsb, agreesb, view}
 use Rattle.directory.specs.declared.Directory.{Directory}
-use Rattle.directory.specs.declared.Found.{Found}
-use Rattle.directory.specs.declared.Found.TheVariants.{Held, Room}
 use Rattle.directory.specs.declared.Target.{Target}
 use Rattle.directory.specs.declared.Target.TheVariants.{Disagrees, Old, New, Over}
 use Rattle.directory.proofs.Laid.{laid, laid-agrees, laid_rebind, laid_admit}
@@ -75,9 +74,9 @@ module _ (limit : ℕ) (d : Directory) (s : Stores) (row : List ℕ) (g : agrees
 
 -- releasing keeps it
 module _ (limit : ℕ) (d : Directory) (s : Stores) (h : ℕ) (g : agreesb limit d s ≡ true) (le : limit + 2 ≤ length s.entries) where
-  freed-laid : (o : Found) → scan h s.entries (slots_of d s) ≡ o → LaidIn (released_at d s o)
-  freed-laid (Room r) e = laid limit d s g
-  freed-laid (Held x) e =
+  freed-laid : (o : Result ℕ ℕ) → scan h s.entries (slots_of d s) ≡ o → LaidIn (released_at d s o)
+  freed-laid (Err r) e = laid limit d s g
+  freed-laid (Ok x) e =
       let u = slot-used limit d s g x (scan_in h s.entries x (slots_of d s) e) in
       laid_rebind d s x (get_or (get_or s.entries x []) 1 0 - 1) (omega (arith, few limit d s g)) (laid limit d s g)
 

@@ -1,4 +1,5 @@
 -- Releasing is the map's step, for any kind of series. Assumes nothing.
+use Rattle.std.specs.Prelude.{Ok, Err, Result, ℕ}
 use Prim.Native.Nat.{ℕ, ◌+◌, ◌-◌, ◌≤◌}
 use mathlib.Core.Path.{◌≡◌, refl, ap, sym, subst, ◌∙◌}
 use mathlib.Core.Bool.{true, false}
@@ -12,8 +13,6 @@ use Rattle.tally.proofs.MapSteps.{step, upfront, act, release_at}
 use Rattle.directory.specs.Calls.{scan}
 use Rattle.directory.specs.View.{Stores, agreesb, entry_at, view}
 use Rattle.directory.specs.declared.Directory.{Directory}
-use Rattle.directory.specs.declared.Found.{Found}
-use Rattle.directory.specs.declared.Found.TheVariants.{Held, Room}
 use Rattle.directory.proofs.Finds.{scan-bound}
 use Rattle.directory.proofs.Laws.{slots_of, named-scan, entry_of, rebind-put, ascends, few, scan_in, slot-used}
 use Rattle.bindings.specs.Calls.{map_answer, released_in, released_at, refused, Outcome}
@@ -26,30 +25,30 @@ module _ (limit : ℕ) (d : Directory) (s : Stores) (h : ℕ) where
   unfolding released_in pick
   release-no g = rw g
 
-  module _ (g : agreesb limit d s ≡ true) (o : Found) (e : scan h s.entries (slots_of d s) ≡ o) where
+  module _ (g : agreesb limit d s ≡ true) (o : Result ℕ ℕ) (e : scan h s.entries (slots_of d s) ≡ o) where
     pub release-at : released_in limit d s h ≡ released_at d s o
     unfolding released_in pick
     release-at = rw (g, e)
 
 -- what a handle is found to name is there and has a binding
 pub bound-there : (limit : ℕ) (d : Directory) (s : Stores) (h : ℕ) → agreesb limit d s ≡ true → limit + 2 ≤ length s.entries
-    → (o : Found) → scan h s.entries (slots_of d s) ≡ o → Bound s.entries o
-bound-there limit d s h g l (Room r) e = tt
-bound-there limit d s h g l (Held x) e = (
+    → (o : Result ℕ ℕ) → scan h s.entries (slots_of d s) ≡ o → Bound s.entries o
+bound-there limit d s h g l (Err r) e = tt
+bound-there limit d s h g l (Ok x) e = (
   omega (arith, l, few limit d s g, slot-used limit d s g x (scan_in h s.entries x (slots_of d s) e)),
   scan-bound h s.entries x (slots_of d s) e,
 )
 
 module _ (K : Kind) (f : ℕ → K.Series) (z : K.Settings) where
   release-step : (c : Config K) (d : Directory) (s : Stores) (h : ℕ) → agreesb c.limit d s ≡ true → c.limit + 2 ≤ length s.entries
-      → (o : Found) → scan h s.entries (slots_of d s) ≡ o
+      → (o : Result ℕ ℕ) → scan h s.entries (slots_of d s) ≡ o
       → (map_answer K (released_at d s o).answer ≡ (step K c (view K f z d s) (release h)).answer)
       × (view K f z (released_at d s o).kept.dir (released_at d s o).kept.stores ≡ (step K c (view K f z d s) (release h)).map)
   unfolding upfront act release_at
-  release-step c d s h g r (Room i) e =
+  release-step c d s h g r (Err i) e =
       let n : named K h (map (entry_at K f s) (slots_of d s)) ≡ none = named-scan K f s h (slots_of d s) ∙ ap (entry_of K f s h) e in
       rw n (refl, refl)
-  release-step c d s h g r (Held x) e =
+  release-step c d s h g r (Ok x) e =
       let n : named K h (map (entry_at K f s) (slots_of d s)) ≡ some (entry_at K f s x) = named-scan K f s h (slots_of d s) ∙ ap (entry_of K f s h) e in
       let m = scan_in h s.entries x (slots_of d s) e in
       let u = slot-used c.limit d s g x m in

@@ -1,5 +1,6 @@
 -- Bindings and releases from a fresh start on: the directory agrees after each, and birth numbers keep their sets.
 -- Assumes nothing.
+use Rattle.std.specs.Prelude.{Ok, Err, Result, ℕ}
 use Prim.Native.Nat.{ℕ, ◌+◌, ◌-◌, ◌^◌, ◌<◌}
 use mathlib.Core.Path.{◌≡◌, refl, sym, subst, ◌∙◌}
 use mathlib.Core.Bool.{true}
@@ -17,8 +18,6 @@ use Rattle.sets.specs.Sorted.{most_attributes}
 use Rattle.directory.specs.Calls.{Kept, over_row, located, scan, most_sets, accepts, few_keys, stores_suffice}
 use Rattle.directory.specs.View.{Stores, agreesb}
 use Rattle.directory.specs.declared.Directory.{Directory}
-use Rattle.directory.specs.declared.Found.{Found}
-use Rattle.directory.specs.declared.Found.TheVariants.{Held, Room}
 use Rattle.directory.specs.declared.Target.{Target}
 use Rattle.directory.specs.declared.Target.TheVariants.{Disagrees, Old, New, Over}
 use Rattle.directory.proofs.Laws.{slots_of, few, slot-used, scan_in}
@@ -57,9 +56,9 @@ module _ (limit : ℕ) (d : Directory) (s : Stores) (g : agreesb limit d s ≡ t
       either (Leaves d s) (leb 18446744073709551615 d.last) _ _ (λ b. other-number d s small 9 (λ q. omega arith) (λ q. omega arith))
       (λ b. (((λ q. omega arith), (λ q. omega arith)), admit-leaves d s over_row r 0 1 (omega (arith, n.1, e.sets)) (omega (arith, n.1, e.entries)) (omega (arith, n.1, e.order)) n.0 (leb-false 18446744073709551615 d.last b)))
 
-  freed-leaves : (h : ℕ) (o : Found) → scan h s.entries (slots_of d s) ≡ o → Leaves d s (released_at d s o)
-  freed-leaves h (Room r) p = other-number d s small 7 (λ q. omega arith) (λ q. omega arith)
-  freed-leaves h (Held x) p =
+  freed-leaves : (h : ℕ) (o : Result ℕ ℕ) → scan h s.entries (slots_of d s) ≡ o → Leaves d s (released_at d s o)
+  freed-leaves h (Err r) p = other-number d s small 7 (λ q. omega arith) (λ q. omega arith)
+  freed-leaves h (Ok x) p =
       let u = slot-used limit d s g x (scan_in h s.entries x (slots_of d s) p) in
       (((λ q. omega arith), (λ q. omega arith)), rebind-leaves d s small x (get_or (get_or s.entries x []) 1 0 - 1) (omega (arith, few limit d s g, e.entries)))
 

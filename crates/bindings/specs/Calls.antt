@@ -1,5 +1,6 @@
 -- What binding and releasing make of the directory: exactly, in its stores. Assumes nothing.
-use Rattle.std.specs.Prelude.{ℕ, ◌+◌, ◌-◌, List, [], ◌∷◌, leb, length, get_or, set}
+use Rattle.std.specs.Prelude.{ℕ, ◌+◌, ◌-◌, List, [], ◌∷◌, leb, length, get_or, set, Ok, Err, Result}
+use Rattle.std.specs.Prelude as Std
 use Rattle.std.proofs.Math.Option.{Option, none, some}
 use Rattle.laws.specs.Pick.{pick}
 use Rattle.laws.specs.Said.{Said, refusal, success}
@@ -10,21 +11,19 @@ use Rattle.sets.specs.Sorted.{most_attributes}
 use Rattle.directory.specs.Calls.{Kept, kept, over_row, located, admitted, bound_to, scan, most_sets, accepts, stores_suffice}
 use Rattle.directory.specs.View.{Stores, birth_at, agreesb}
 use Rattle.directory.specs.declared.Directory.{Directory}
-use Rattle.directory.specs.declared.Found.{Found}
-use Rattle.directory.specs.declared.Found.TheVariants.{Held, Room}
 use Rattle.directory.specs.declared.Target.{Target}
 use Rattle.directory.specs.declared.Target.TheVariants.{Disagrees, Old, New, Over}
-use Rattle.bindings.specs.declared.Answer.{Answer}
-use Rattle.bindings.specs.declared.Answer.TheVariants.{Refused, Done, Handle}
+use Rattle.refusals.specs.Refusals.{number}
+use Rattle.refusals.specs.declared.Refusal.{Refusal}
 use Rattle.bindings.specs.declared.Reply.{Reply}
 use Rattle.laws.specs.Counting.{most_count}
 
 -- "a definition gives this paper's number and values for each case of that enum": success has no value, or a binding's birth number, which a
 -- handle holds
-abbrev pub said : Answer → Said (Option ℕ)
-said (Refused n) = refusal n
-said Done = success none
-said (Handle b) = success (some b)
+abbrev pub said : Result (Std.Option ℕ) Refusal → Said (Option ℕ)
+said (Err e) = refusal (number e)
+said (Ok Std.None) = success none
+said (Ok (Std.Some b)) = success (some b)
 
 -- what a call says, with the directory's state and stores after it
 pub record Outcome : Type 0 where
@@ -44,9 +43,9 @@ map_answer K (success (some b)) = Map.handle b
 abbrev pub refused : ℕ → Directory → Stores → Outcome
 refused n d s = record { answer = refusal n; kept = record { dir = d; stores = s } }
 
-abbrev pub released_at : Directory → Stores → Found → Outcome
-released_at d s (Room r) = refused 7 d s
-released_at d s (Held x) =
+abbrev pub released_at : Directory → Stores → Result ℕ ℕ → Outcome
+released_at d s (Err r) = refused 7 d s
+released_at d s (Ok x) =
     record {
       answer = success none;
       kept = record {

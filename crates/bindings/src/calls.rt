@@ -5,26 +5,28 @@ ghost use Rattle.bindings.specs.Calls.{gave, released_at, released_in, held_boun
 ghost use Rattle.bindings.specs.Inner.{Bound};
 ghost use Rattle.directory.specs.View.{stores, agreesb};
 
+use refusals::Refusal;
+
 // Takes one binding off the entry that a handle was found to name. The other stores play no part.
 pub fn free(
     d: directory::Directory,
     entries: &mut [[u64; 3]],
-    found: directory::Found,
+    found: Result<usize, usize>,
 ) -> crate::Reply
     requires { Bound entries.old found }
     ensures { (sets : List (List ℕ)) → ((order : List ℕ) → gave result (record { sets = sets; entries = entries.new; order = order })
         ≡ released_at d (record { sets = sets; entries = entries.old; order = order }) found) }
 {
     match found {
-        directory::Found::Room(_) => crate::Reply {
-            answer: crate::Answer::Refused(7),
+        Err(_) => crate::Reply {
+            answer: Err(Refusal::NoHandle),
             dir: d,
         },
-        directory::Found::Held(x) => {
+        Ok(x) => {
             let n = entries[x][1];
             directory::write::rebind(entries, x, n - 1);
             crate::Reply {
-                answer: crate::Answer::Done,
+                answer: Ok(None),
                 dir: d,
             }
         }
@@ -46,7 +48,7 @@ pub fn release_in(
 {
     if !directory::check::agrees(limit, d, sets, entries, order) {
         return crate::Reply {
-            answer: crate::Answer::Refused(8),
+            answer: Err(Refusal::Disagrees),
             dir: d,
         };
     }
@@ -63,14 +65,14 @@ fn bind_held(d: directory::Directory, entries: &mut [[u64; 3]], x: usize) -> cra
     let n = entries[x][1];
     if n >= u64::MAX {
         return crate::Reply {
-            answer: crate::Answer::Refused(9),
+            answer: Err(Refusal::Full),
             dir: d,
         };
     }
     let b = directory::write::birth_of(entries, x);
     directory::write::rebind(entries, x, n + 1);
     crate::Reply {
-        answer: crate::Answer::Handle(b),
+        answer: Ok(Some(b)),
         dir: d,
     }
 }
@@ -92,13 +94,13 @@ fn bind_new(
 {
     if d.last >= u64::MAX {
         return crate::Reply {
-            answer: crate::Answer::Refused(9),
+            answer: Err(Refusal::Full),
             dir: d,
         };
     }
     let e = directory::write::admit(d, sets, entries, order, row, rank, more, 1);
     crate::Reply {
-        answer: crate::Answer::Handle(e.last),
+        answer: Ok(Some(e.last)),
         dir: e,
     }
 }
@@ -120,7 +122,7 @@ pub fn bind_right(
     let t = directory::find::locate_agreed(limit, d, sets, entries, order, &row);
     match t {
         directory::Target::Disagrees => crate::Reply {
-            answer: crate::Answer::Refused(8),
+            answer: Err(Refusal::Disagrees),
             dir: d,
         },
         directory::Target::Old(x) => bind_held(d, entries, x),
@@ -148,7 +150,7 @@ pub fn bind_in(
 {
     if !directory::check::agrees(limit, d, sets, entries, order) {
         return crate::Reply {
-            answer: crate::Answer::Refused(8),
+            answer: Err(Refusal::Disagrees),
             dir: d,
         };
     }

@@ -11,18 +11,12 @@ ghost use Rattle.bindings.specs.Agreed.{Agreed};
 ghost use Rattle.directory.specs.View.{stores};
 
 use directory::Directory;
+use refusals::Refusal;
 
-// A refusal's number, or success.
-#[derive(Clone, Copy)]
-pub enum Answer {
-    Refused(u8),
-    Done,
-    Handle(u64),
-}
-
+// What a call answers, and the directory after it, which a refusal leaves as it was. answer: done, or a bound handle.
 #[derive(Clone, Copy)]
 pub struct Reply {
-    pub answer: Answer,
+    pub answer: Result<Option<u64>, Refusal>,
     pub dir: Directory,
 }
 
@@ -45,19 +39,19 @@ pub fn start(
     };
     if !directory::accepted(limit, present, filter) {
         return Reply {
-            answer: Answer::Refused(4),
+            answer: Err(Refusal::Limit),
             dir: dir,
         };
     }
     if !directory::stores_suffice(limit, sets.len(), entries.len(), order.len()) {
         return Reply {
-            answer: Answer::Refused(12),
+            answer: Err(Refusal::LentShort),
             dir: dir,
         };
     }
     entries[0] = [0, 0, 0];
     Reply {
-        answer: Answer::Done,
+        answer: Ok(None),
         dir: dir,
     }
 }
@@ -78,19 +72,19 @@ pub fn bind(
 {
     if !directory::stores_suffice(limit, sets.len(), entries.len(), order.len()) {
         return Reply {
-            answer: Answer::Refused(12),
+            answer: Err(Refusal::LentShort),
             dir: d,
         };
     }
     if !sets::canon::few(attrs) {
         return Reply {
-            answer: Answer::Refused(5),
+            answer: Err(Refusal::Attributes),
             dir: d,
         };
     }
     if !directory::accepted(limit, present, filter) {
         return Reply {
-            answer: Answer::Refused(8),
+            answer: Err(Refusal::Disagrees),
             dir: d,
         };
     }
@@ -113,13 +107,13 @@ pub fn release(
 {
     if !directory::stores_suffice(limit, sets.len(), entries.len(), order.len()) {
         return Reply {
-            answer: Answer::Refused(12),
+            answer: Err(Refusal::LentShort),
             dir: d,
         };
     }
     if limit > directory::MOST_SETS {
         return Reply {
-            answer: Answer::Refused(8),
+            answer: Err(Refusal::Disagrees),
             dir: d,
         };
     }
@@ -143,7 +137,7 @@ pub fn bind_agreed(
 {
     if !sets::canon::few(attrs) {
         return Reply {
-            answer: Answer::Refused(5),
+            answer: Err(Refusal::Attributes),
             dir: d,
         };
     }

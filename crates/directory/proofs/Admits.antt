@@ -1,4 +1,5 @@
 -- A new entry in the next slot is the map with that entry put. Assumes nothing.
+use Rattle.std.specs.Prelude.{Ok, Err, Result, ℕ}
 use Rattle.std.proofs.Common.{◌≡◌, ℕ, zero, suc, ◌+◌, ◌<◌, ◌≤◌, Bool, true, false, List, [], ◌∷◌, ◌++◌, map, length, take, drop, set, sym, refl, ap, ◌∙◌, subst, inl, inr, arith, get_or-set_other, get_or-set_same}
 use Prim.Native.Nat.{Ordering}
 use mathlib.Core.Option.{none}
@@ -16,8 +17,6 @@ use Rattle.sets.proofs.Spans.{span-inserted}
 use Rattle.directory.specs.Calls.{admitted, Kept}
 use Rattle.directory.specs.View.{Stores, set_at, agreesb, seek, sought, entry_at, view}
 use Rattle.directory.specs.declared.Directory.{Directory}
-use Rattle.directory.specs.declared.Found.{Found}
-use Rattle.directory.specs.declared.Found.TheVariants.{Held, Room}
 use Rattle.directory.proofs.Laws.{slot-used, ascends}
 use Rattle.directory.proofs.Rises.{In, keys-map, seek-room}
 
@@ -36,12 +35,12 @@ map_same g h [] e = refl
 map_same g h (y ∷ l) e = rw (e y (inl refl), map_same g h l (λ z m. e z (inr m)))
 
 -- what a search without success says
-split-room : (b : Bool) (o : Found) (r : ℕ) → pick b (Held 0) o ≡ Room r → (b ≡ false) × (o ≡ Room r)
+split-room : (b : Bool) (o : Result ℕ ℕ) (r : ℕ) → pick b (Ok 0) o ≡ Err r → (b ≡ false) × (o ≡ Err r)
 unfolding pick
 split-room true o r e = let z : ◌≡◌ {A = ℕ} 0 1 = cc in absurd (omega arith)
 split-room false o r e = (refl, e)
 
-pub sought-room : (s : Set) (used : ℕ) (sets : List (List ℕ)) (order : List ℕ) (r : ℕ) → sought s used sets order ≡ Room r → (same s [] ≡ false) × (seek s sets (span order 0 used) 0 ≡ Room r)
+pub sought-room : (s : Set) (used : ℕ) (sets : List (List ℕ)) (order : List ℕ) (r : ℕ) → sought s used sets order ≡ Err r → (same s [] ≡ false) × (seek s sets (span order 0 used) 0 ≡ Err r)
 unfolding sought
 sought-room s used sets order r e = split-room (same s []) (seek s sets (span order 0 used) 0) r e
 
@@ -51,7 +50,7 @@ not-empty (x ∷ k) e = refl
 
 module _ (K : Kind) (f : ℕ → K.Series) (z : K.Settings) (limit : ℕ) (d : Directory) (s : Stores) (g : agreesb limit d s ≡ true) where
   -- where the set would stand among the entries
-  pub room-rank : (w : Set) (r : ℕ) → sought w d.used s.sets s.order ≡ Room r
+  pub room-rank : (w : Set) (r : ℕ) → sought w d.used s.sets s.order ≡ Err r
       → (find K w (view K f z d s).entries ≡ none) × (rank w (keys K (view K f z d s).entries) ≡ suc r) × (r ≤ d.used)
   unfolding pick
   room-rank w r e =
@@ -89,7 +88,7 @@ module _ (K : Kind) (f : ℕ → K.Series) (z : K.Settings) (limit : ℕ) (d : D
         rw (← e, get_or-set_same s.entries (suc y) ((d.last + 1) ∷ b ∷ 0 ∷ []) [] (rw (← e) at le), get_or-set_same s.sets (suc y) row [] (rw (← e) at ls))
 
     -- the map then: the entry put, the count raised by `more`, the birth number spent
-    pub admit-put : sought (set_of row) d.used s.sets s.order ≡ Room r
+    pub admit-put : sought (set_of row) d.used s.sets s.order ≡ Err r
         → view K f z (admitted d s row r more b).dir (admitted d s row r more b).stores
         ≡ record { settings = z; count = d.count + more; last = d.last + 1; entries = put K made (view K f z d s).entries }
     unfolding admitted

@@ -1,4 +1,5 @@
 -- Turns of the loops that check the directory and search in it. Assumes nothing.
+use Rattle.std.specs.Prelude.{Ok, Err, Result, ℕ}
 use Rattle.std.proofs.Common.{◌≡◌, ℕ, zero, suc, ◌+◌, ◌-◌, ◌<◌, ◌≤◌, Bool, true, false, ◌&&◌, ◌||◌, eqb, ltb, leb, List, [], ◌∷◌, ◌++◌, map, get_or, sym, refl, ap, ◌∙◌, add-one, arith, le-ltb, lt-ltb, le-leb}
 use Prim.Native.Nat.{Ordering}
 use borrow.Author.Tests.{lt-leb, eqb-false}
@@ -10,8 +11,6 @@ use Rattle.sets.specs.Rows.{span, set_of, soundb, below}
 use Rattle.sets.proofs.Spans.{span_more, span_none, span-all, span-snoc}
 use Rattle.directory.specs.View.{set_at, birth_at, place_at, plainly, seek, sought, born_at}
 use Rattle.directory.specs.Inner.{placed, bornb, step_at}
-use Rattle.directory.specs.declared.Found.{Found}
-use Rattle.directory.specs.declared.Found.TheVariants.{Held, Room}
 use Rattle.directory.specs.declared.Placed.TheVariants.{Broken, Plain}
 
 pub some : (k : ℕ) → (k ≡ 0 → ⊥) → 1 ≤ k
@@ -103,7 +102,7 @@ module _ (used : ℕ) (sets : List (List ℕ)) (order : List ℕ) where
 
 -- search
 module _ (s : Set) (used : ℕ) (sets : List (List ℕ)) (order : List ℕ) where
-  pub sought-empty : same s [] ≡ true → sought s used sets order ≡ Held 0
+  pub sought-empty : same s [] ≡ true → sought s used sets order ≡ Ok 0
   unfolding sought pick
   sought-empty e = rw e
 
@@ -112,17 +111,17 @@ module _ (s : Set) (used : ℕ) (sets : List (List ℕ)) (order : List ℕ) wher
   sought-named e = rw (e, span-all order used)
 
   module _ (i : ℕ) where
-    abbrev rest : Found
+    abbrev rest : Result ℕ ℕ
     rest = seek s sets (span order i (used - i)) i
 
-    pub seek-over : used ≤ i → rest ≡ Room i
+    pub seek-over : used ≤ i → rest ≡ Err i
     seek-over h = rw (span_none order i used h)
 
     module _ (h : i < used) (k : 1 ≤ get_or order i 0) where
-      pub seek-low : cmp s (set_of (get_or sets (get_or order i 0) [])) ≡ Ordering.lt → rest ≡ Room i
+      pub seek-low : cmp s (set_of (get_or sets (get_or order i 0) [])) ≡ Ordering.lt → rest ≡ Err i
       seek-low e = rw (span_more order i used h, set-named sets (get_or order i 0) k, e)
 
-      pub seek-here : cmp s (set_of (get_or sets (get_or order i 0) [])) ≡ Ordering.eq → rest ≡ Held (get_or order i 0)
+      pub seek-here : cmp s (set_of (get_or sets (get_or order i 0) [])) ≡ Ordering.eq → rest ≡ Ok (get_or order i 0)
       seek-here e = rw (span_more order i used h, set-named sets (get_or order i 0) k, e)
 
       pub seek-on : cmp s (set_of (get_or sets (get_or order i 0) [])) ≡ Ordering.gt → rest ≡ seek s sets (span order (i + 1) (used - (i + 1))) (i + 1)

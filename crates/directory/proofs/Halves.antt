@@ -1,11 +1,11 @@
 -- Halving the places between which a set stands. Assumes nothing.
+use Rattle.std.specs.Prelude.{Ok, Err}
 use Rattle.std.proofs.Common.{◌≡◌, ℕ, zero, suc, ◌+◌, ◌-◌, ◌<◌, ◌≤◌, List, [], get_or, sym, refl, ap, ◌∙◌, subst, ⊎_elim, eq-or-lt_of_le, add-one, arith}
 use Prim.Native.Nat.{Ordering}
 use Rattle.tally.specs.Sets.{Set, cmp}
 use Rattle.tally.proofs.Order.{cmp-trans, cmp-eq, gt-lt, lt_gt}
 use Rattle.sets.specs.Rows.{span, set_of}
 use Rattle.directory.specs.View.{seek}
-use Rattle.directory.specs.declared.Found.TheVariants.{Held, Room}
 use Rattle.directory.proofs.Checks.{seek-over, seek-low, seek-here, seek-on}
 
 module _ (w : Set) (used : ℕ) (sets : List (List ℕ)) (order : List ℕ) where
@@ -49,14 +49,14 @@ module _ (w : Set) (used : ℕ) (sets : List (List ℕ)) (order : List ℕ) wher
         ∙ seek-on w used sets order m (omega arith) (slots m (omega arith)).0 (g m (omega arith))
         ∙ ap (λ (n : ℕ). seek w sets (span order n (used - n)) n) (add-one m)
 
-    pub seek-held-at : (m : ℕ) → m < used → ((k : ℕ) → k < m → cmp w (at k) ≡ Ordering.gt) → cmp w (at m) ≡ Ordering.eq → seek w sets (span order 0 (used - 0)) 0 ≡ Held (get_or order m 0)
+    pub seek-held-at : (m : ℕ) → m < used → ((k : ℕ) → k < m → cmp w (at k) ≡ Ordering.gt) → cmp w (at m) ≡ Ordering.eq → seek w sets (span order 0 (used - 0)) 0 ≡ Ok (get_or order m 0)
     seek-held-at m u g e = skip m (omega arith) g ∙ seek-here w used sets order m u (slots m u).0 e
 
-    pub seek-room-at : (m : ℕ) → m ≤ used → ((k : ℕ) → k < m → cmp w (at k) ≡ Ordering.gt) → ((k : ℕ) → m ≤ k → k < used → cmp w (at k) ≡ Ordering.lt) → seek w sets (span order 0 (used - 0)) 0 ≡ Room m
+    pub seek-room-at : (m : ℕ) → m ≤ used → ((k : ℕ) → k < m → cmp w (at k) ≡ Ordering.gt) → ((k : ℕ) → m ≤ k → k < used → cmp w (at k) ≡ Ordering.lt) → seek w sets (span order 0 (used - 0)) 0 ≡ Err m
     seek-room-at m h g l =
         skip m h g
         ∙ ⊎_elim (λ e. seek-over w used sets order m (omega arith)) (λ u. seek-low w used sets order m u (slots m u).0 (l m (omega arith) u)) (eq-or-lt_of_le h)
 
-  pub held-at : (rise : (k : ℕ) → suc k < used → cmp (at k) (at (suc k)) ≡ Ordering.lt) (slots : (k : ℕ) → k < used → (1 ≤ get_or order k 0) × (get_or order k 0 ≤ used)) (m : ℕ) → m < used → cmp w (at m) ≡ Ordering.eq → seek w sets (span order 0 (used - 0)) 0 ≡ Held (get_or order m 0)
+  pub held-at : (rise : (k : ℕ) → suc k < used → cmp (at k) (at (suc k)) ≡ Ordering.lt) (slots : (k : ℕ) → k < used → (1 ≤ get_or order k 0) × (get_or order k 0 ≤ used)) (m : ℕ) → m < used → cmp w (at m) ≡ Ordering.eq → seek w sets (span order 0 (used - 0)) 0 ≡ Ok (get_or order m 0)
   held-at rise slots m u e =
       seek-held-at slots m u (λ k l. lt_gt (at k) w (subst (λ r. cmp (at k) r ≡ Ordering.lt) (sym (cmp-eq w (at m) e)) (rises rise k m l u))) e

@@ -1,4 +1,5 @@
 -- The directory's calls are the map's steps, for any kind of series. Assumes nothing.
+use Rattle.std.specs.Prelude.{Ok, Err, Result, ℕ}
 use Rattle.std.proofs.Common.{◌≡◌, ℕ, zero, suc, ◌+◌, ◌<◌, ◌≤◌, Bool, true, false, ◌&&◌, eqb, ltb, leb, List, [], ◌∷◌, map, length, get_or, sym, refl, ap, ◌∙◌, inl, inr, ⊎_elim, arith, get_or-set_other, get_or-set_same, leb-true}
 use Prim.Native.Nat.{Ordering}
 use mathlib.Core.Option.{Option, none, some}
@@ -15,8 +16,6 @@ use Rattle.sets.proofs.Keyed.{after-empty}
 use Rattle.directory.specs.Calls.{bound_to, scan}
 use Rattle.directory.specs.View.{Stores, set_at, birth_at, place_at, slotsb, agreesb, entry_at}
 use Rattle.directory.specs.declared.Directory.{Directory}
-use Rattle.directory.specs.declared.Found.{Found}
-use Rattle.directory.specs.declared.Found.TheVariants.{Held, Room}
 use Rattle.directory.proofs.Agreed.{slot-sizes, place-slot, place-rise}
 use Rattle.directory.proofs.Checks.{set-named}
 use Rattle.directory.proofs.Rises.{In, rising-span, above-span, span_in}
@@ -116,12 +115,12 @@ module _ (K : Kind) (f : ℕ → K.Series) (s : Stores) (x n : ℕ) where
 
 -- the scan for a handle
 module _ (K : Kind) (f : ℕ → K.Series) (s : Stores) (h : ℕ) where
-  abbrev pub entry_of : Found → Option (Entry K)
-  entry_of (Held x) = some (entry_at K f s x)
-  entry_of (Room r) = none
+  abbrev pub entry_of : Result ℕ ℕ → Option (Entry K)
+  entry_of (Ok x) = some (entry_at K f s x)
+  entry_of (Err r) = none
 
   named_step : (b : Bool) (y : ℕ) (l : List ℕ) → named K h (map (entry_at K f s) l) ≡ entry_of (scan h s.entries l)
-      → pick b (some (entry_at K f s y)) (named K h (map (entry_at K f s) l)) ≡ entry_of (pick b (Held y) (scan h s.entries l))
+      → pick b (some (entry_at K f s y)) (named K h (map (entry_at K f s) l)) ≡ entry_of (pick b (Ok y) (scan h s.entries l))
   unfolding pick
   named_step true y l e = refl
   named_step false y l e = e
@@ -130,19 +129,19 @@ module _ (K : Kind) (f : ℕ → K.Series) (s : Stores) (h : ℕ) where
   named-scan [] = refl
   named-scan (y ∷ l) = named_step (eqb (birth_at s.entries y) h && ltb 0 (get_or (get_or s.entries y []) 1 0)) y l (named-scan l)
 
-held-is : (x y : ℕ) → Held x ≡ Held y → x ≡ y
+held-is : (x y : ℕ) → Ok x ≡ Ok y → x ≡ y
 held-is x y e = cc
 
-room-no : {A : Type 0} (r x : ℕ) → Room r ≡ Held x → A
+room-no : {A : Type 0} (r x : ℕ) → Err r ≡ Ok x → A
 room-no r x e = let z : ◌≡◌ {A = ℕ} 0 1 = cc in absurd (omega arith)
 
 module _ (h : ℕ) (entries : List (List ℕ)) (x : ℕ) where
-  in_step : (b : Bool) (y : ℕ) (l : List ℕ) → (scan h entries l ≡ Held x → In x l) → pick b (Held y) (scan h entries l) ≡ Held x → In x (y ∷ l)
+  in_step : (b : Bool) (y : ℕ) (l : List ℕ) → (scan h entries l ≡ Ok x → In x l) → pick b (Ok y) (scan h entries l) ≡ Ok x → In x (y ∷ l)
   unfolding pick
   in_step true y l k e = inl (sym (held-is y x e))
   in_step false y l k e = inr (k e)
 
-  pub scan_in : (l : List ℕ) → scan h entries l ≡ Held x → In x l
+  pub scan_in : (l : List ℕ) → scan h entries l ≡ Ok x → In x l
   scan_in [] e = room-no 0 x e
   scan_in (y ∷ l) e = in_step (eqb (birth_at entries y) h && ltb 0 (get_or (get_or entries y []) 1 0)) y l (scan_in l) e
 

@@ -1,4 +1,5 @@
 -- Where a call with a set goes: what each target says, and that there is room for what is made. Assumes nothing.
+use Rattle.std.specs.Prelude.{Ok, Err, Result, ℕ}
 use Rattle.std.proofs.Common.{◌≡◌, ℕ, zero, suc, ◌+◌, ◌<◌, ◌≤◌, Bool, true, false, not, ◌||◌, eqb, ltb, leb, ◌⊎◌, List, [], ◌∷◌, map, length, sym, refl, ap, ◌∙◌, subst, inl, inr, ⊎_elim, arith, ltb-true, eqb-true, leb-true}
 use Prim.Native.Nat.{Ordering}
 use mathlib.Core.Option.{none, some}
@@ -17,8 +18,6 @@ use Rattle.sets.proofs.Keyed.{empty-row}
 use Rattle.directory.specs.Calls.{over_row, target_of, located}
 use Rattle.directory.specs.View.{Stores, set_at, place_at, slotsb, agreesb, countsb, plainly, seek, sought, entry_at, view}
 use Rattle.directory.specs.declared.Directory.{Directory}
-use Rattle.directory.specs.declared.Found.{Found}
-use Rattle.directory.specs.declared.Found.TheVariants.{Held, Room}
 use Rattle.directory.specs.declared.Target.{Target}
 use Rattle.directory.specs.declared.Target.TheVariants.{Disagrees, Old, New, Over}
 use Rattle.directory.proofs.Admits.{sought-room, room-rank, length-span}
@@ -35,22 +34,22 @@ abbrev pub Facts : ℕ → Directory → Stores → List ℕ → Target → Type
 Facts limit d s row Disagrees = agreesb limit d s ≡ false
 Facts limit d s row (Old x) =
     (agreesb limit d s ≡ true)
-    × ((sought (set_of row) d.used s.sets s.order ≡ Held x)
-    ⊎ ((r : ℕ) × (sought (set_of row) d.used s.sets s.order ≡ Room r) × (ltb d.count limit ≡ false) × (sought (set_of over_row) d.used s.sets s.order ≡ Held x)))
+    × ((sought (set_of row) d.used s.sets s.order ≡ Ok x)
+    ⊎ ((r : ℕ) × (sought (set_of row) d.used s.sets s.order ≡ Err r) × (ltb d.count limit ≡ false) × (sought (set_of over_row) d.used s.sets s.order ≡ Ok x)))
 Facts limit d s row (New r) =
-    (agreesb limit d s ≡ true) × (sought (set_of row) d.used s.sets s.order ≡ Room r) × (ltb d.count limit ≡ true)
+    (agreesb limit d s ≡ true) × (sought (set_of row) d.used s.sets s.order ≡ Err r) × (ltb d.count limit ≡ true)
 Facts limit d s row (Over q) =
-    (agreesb limit d s ≡ true) × ((r : ℕ) × (sought (set_of row) d.used s.sets s.order ≡ Room r) × (ltb d.count limit ≡ false) × (sought (set_of over_row) d.used s.sets s.order ≡ Room q))
+    (agreesb limit d s ≡ true) × ((r : ℕ) × (sought (set_of row) d.used s.sets s.order ≡ Err r) × (ltb d.count limit ≡ false) × (sought (set_of over_row) d.used s.sets s.order ≡ Err q))
 
 module _ (limit : ℕ) (d : Directory) (s : Stores) (row : List ℕ) where
-  facts-of : (g : Bool) → agreesb limit d s ≡ g → (o : Found) → sought (set_of row) d.used s.sets s.order ≡ o → (b : Bool) → ltb d.count limit ≡ b
-      → (v : Found) → sought (set_of over_row) d.used s.sets s.order ≡ v → Facts limit d s row (pick g (target_of o b v) Disagrees)
+  facts-of : (g : Bool) → agreesb limit d s ≡ g → (o : Result ℕ ℕ) → sought (set_of row) d.used s.sets s.order ≡ o → (b : Bool) → ltb d.count limit ≡ b
+      → (v : Result ℕ ℕ) → sought (set_of over_row) d.used s.sets s.order ≡ v → Facts limit d s row (pick g (target_of o b v) Disagrees)
   unfolding pick
   facts-of false g o e b h v k = g
-  facts-of true g (Held x) e b h v k = (g, inl e)
-  facts-of true g (Room r) e true h v k = (g, e, h)
-  facts-of true g (Room r) e false h (Held x) k = (g, inr (r, e, h, k))
-  facts-of true g (Room r) e false h (Room q) k = (g, (r, e, h, k))
+  facts-of true g (Ok x) e b h v k = (g, inl e)
+  facts-of true g (Err r) e true h v k = (g, e, h)
+  facts-of true g (Err r) e false h (Ok x) k = (g, inr (r, e, h, k))
+  facts-of true g (Err r) e false h (Err q) k = (g, (r, e, h, k))
 
   pub facts : Facts limit d s row (located limit d s row)
   unfolding located
@@ -88,11 +87,11 @@ plains-near (x ∷ l) r a = go (plain x) refl (plains-near l r.1 a.1)
         let o = not_plain x a.0 e in
         omega (arith, plains_all l a.1 (subst (λ (y : Set). mem y l ≡ false) o (above-mem x l r.0)))
 
-seek-none : (s : Set) (sets : List (List ℕ)) (l : List ℕ) (i r : ℕ) → Rising (map (set_at sets) l) → seek s sets l i ≡ Room r → mem s (map (set_at sets) l) ≡ false
+seek-none : (s : Set) (sets : List (List ℕ)) (l : List ℕ) (i r : ℕ) → Rising (map (set_at sets) l) → seek s sets l i ≡ Err r → mem s (map (set_at sets) l) ≡ false
 seek-none s sets [] i r g e = refl
 seek-none s sets (y ∷ l) i r g e = go (cmp s (set_at sets y)) refl e (seek-none s sets l (suc i) r g.1)
   where
-    go : (o : Ordering) → cmp s (set_at sets y) ≡ o → three o (Room i) (Held y) (seek s sets l (suc i)) ≡ Room r → (seek s sets l (suc i) ≡ Room r → mem s (map (set_at sets) l) ≡ false) → (same (set_at sets y) s || mem s (map (set_at sets) l)) ≡ false
+    go : (o : Ordering) → cmp s (set_at sets y) ≡ o → three o (Err i) (Ok y) (seek s sets l (suc i)) ≡ Err r → (seek s sets l (suc i) ≡ Err r → mem s (map (set_at sets) l) ≡ false) → (same (set_at sets y) s || mem s (map (set_at sets) l)) ≡ false
     go Ordering.lt d q ih = rw (ap compare_is_eq (lt_gt s (set_at sets y) d)) (above-mem s (map (set_at sets) l) (above-trans s (set_at sets y) (map (set_at sets) l) d g.0))
     go Ordering.eq d q ih = let z : ◌≡◌ {A = ℕ} 0 1 = cc in absurd (omega arith)
     go Ordering.gt d q ih = rw (ap compare_is_eq (gt-lt s (set_at sets y) d)) (ih q)
@@ -122,7 +121,7 @@ module _ (limit : ℕ) (d : Directory) (s : Stores) (g : agreesb limit d s ≡ t
   pub room-new : d.count < limit → d.used ≤ limit
   room-new h = ⊎_elim (λ e. omega (arith, near)) (λ e. omega (arith, near, e.0)) counted.1
 
-  pub room-over : (q : ℕ) → sought (set_of over_row) d.used s.sets s.order ≡ Room q → d.used ≤ limit
+  pub room-over : (q : ℕ) → sought (set_of over_row) d.used s.sets s.order ≡ Err q → d.used ≤ limit
   room-over q e =
       let m = seek-none (set_of over_row) s.sets (span s.order 0 d.used) 0 q (ascends limit d s g).1 (sought-room (set_of over_row) d.used s.sets s.order q e).1 in
       let n : mem overflow (map (set_at s.sets) (span s.order 0 d.used)) ≡ false = subst (λ (w : Set). mem w (map (set_at s.sets) (span s.order 0 d.used)) ≡ false) over-set m in
@@ -131,18 +130,18 @@ module _ (limit : ℕ) (d : Directory) (s : Stores) (g : agreesb limit d s ≡ t
       ⊎_elim (λ c. omega (arith, p, l, counted.0, c)) (λ c. omega (arith, p, l, c.1)) counted.1
 
 -- what a search finds of the whole map
-split-held : (b : Bool) (o : Found) (x : ℕ) → pick b (Held 0) o ≡ Held x → ((b ≡ true) × (0 ≡ x)) ⊎ ((b ≡ false) × (o ≡ Held x))
+split-held : (b : Bool) (o : Result ℕ ℕ) (x : ℕ) → pick b (Ok 0) o ≡ Ok x → ((b ≡ true) × (0 ≡ x)) ⊎ ((b ≡ false) × (o ≡ Ok x))
 unfolding pick
 split-held true o x e = inl (refl, cc)
 split-held false o x e = inr (refl, e)
 
 module _ (w : Set) (used : ℕ) (sets : List (List ℕ)) (order : List ℕ) (x : ℕ) where
-  sought-split : sought w used sets order ≡ Held x → ((same w [] ≡ true) × (0 ≡ x)) ⊎ ((same w [] ≡ false) × (seek w sets (span order 0 used) 0 ≡ Held x))
+  sought-split : sought w used sets order ≡ Ok x → ((same w [] ≡ true) × (0 ≡ x)) ⊎ ((same w [] ≡ false) × (seek w sets (span order 0 used) 0 ≡ Ok x))
   unfolding sought
   sought-split e = split-held (same w []) (seek w sets (span order 0 used) 0) x e
 
 module _ (K : Kind) (f : ℕ → K.Series) (z : K.Settings) (d : Directory) (s : Stores) (w : Set) (x : ℕ) where
-  pub sought-held : sought w d.used s.sets s.order ≡ Held x → (In x (slots_of d s)) × (find K w (view K f z d s).entries ≡ some (entry_at K f s x))
+  pub sought-held : sought w d.used s.sets s.order ≡ Ok x → (In x (slots_of d s)) × (find K w (view K f z d s).entries ≡ some (entry_at K f s x))
   unfolding pick
   sought-held e = ⊎_elim first later (sought-split w d.used s.sets s.order x e)
     where
@@ -151,7 +150,7 @@ module _ (K : Kind) (f : ℕ → K.Series) (z : K.Settings) (d : Directory) (s :
           let n : same [] w ≡ true = same-flip w [] ∙ p.0 in
           (inl (sym p.1), rw n (ap (λ k. some (entry_at K f s k)) p.1))
 
-      later : (same w [] ≡ false) × (seek w s.sets (span s.order 0 d.used) 0 ≡ Held x) → (In x (slots_of d s)) × (find K w (view K f z d s).entries ≡ some (entry_at K f s x))
+      later : (same w [] ≡ false) × (seek w s.sets (span s.order 0 d.used) 0 ≡ Ok x) → (In x (slots_of d s)) × (find K w (view K f z d s).entries ≡ some (entry_at K f s x))
       later p =
           let n : same [] w ≡ false = same-flip w [] ∙ p.0 in
           let q = seek-held K f s w (span s.order 0 d.used) 0 x p.1 in
@@ -226,7 +225,7 @@ module _ (limit : ℕ) (d : Directory) (s : Stores) (row : List ℕ) where
       ((room-rank blank (λ k. tt) tt limit d s z.0 (set_of over_row) q z.1.3).2, room-over limit d s z.0 q z.1.3)
 
 -- a new set has an attribute
-pub some_words : (row : List ℕ) (used : ℕ) (sets : List (List ℕ)) (order : List ℕ) (r : ℕ) → sought (set_of row) used sets order ≡ Room r → 1 ≤ size row
+pub some_words : (row : List ℕ) (used : ℕ) (sets : List (List ℕ)) (order : List ℕ) (r : ℕ) → sought (set_of row) used sets order ≡ Err r → 1 ≤ size row
 some_words row used sets order r e = go (size row) refl
   where
     go : (n : ℕ) → size row ≡ n → 1 ≤ n

@@ -1,12 +1,12 @@
 -- A call comes to its own set's entry while the named sets, its own among them, are at most the limit: demand 3's premise, read off the
 -- directory. Assumes nothing.
+use Rattle.std.specs.Prelude.{Ok}
 use Rattle.std.proofs.Common.{◌≡◌, ℕ, ◌<◌, ◌≤◌, true, false, ltb, List, map, ⊎_elim, arith, ltb-false}
 use Rattle.tally.proofs.Entries.{find-set}
 use Rattle.sets.specs.Rows.{span, set_of}
 use Rattle.directory.specs.Calls.{located}
 use Rattle.directory.specs.View.{Stores, set_at, agreesb, sought, entry_at, view}
 use Rattle.directory.specs.declared.Directory.{Directory}
-use Rattle.directory.specs.declared.Found.TheVariants.{Held}
 use Rattle.directory.specs.declared.Target.TheVariants.{Old, Over}
 use Rattle.directory.proofs.Admits.{length-span}
 use Rattle.directory.proofs.Laid.{plains-le}
@@ -21,7 +21,7 @@ module _ (limit : ℕ) (d : Directory) (s : Stores) (g : agreesb limit d s ≡ t
       ⊎_elim (λ e. omega (arith, e, n, l)) (λ e. omega (arith, e.0, e.1)) (counted limit d s g).1
 
   -- the slot that is found holds the set
-  pub held-set : (row : List ℕ) (x : ℕ) → sought (set_of row) d.used s.sets s.order ≡ Held x → set_at s.sets x ≡ set_of row
+  pub held-set : (row : List ℕ) (x : ℕ) → sought (set_of row) d.used s.sets s.order ≡ Ok x → set_at s.sets x ≡ set_of row
   held-set row x e =
       find-set blank (set_of row) (view blank (λ k. tt) tt d s).entries (entry_at blank (λ k. tt) s x) (sought-held blank (λ k. tt) tt d s (set_of row) x e).1
 

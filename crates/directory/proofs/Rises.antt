@@ -1,4 +1,5 @@
 -- A directory that agrees is a map whose sets ascend. Assumes nothing.
+use Rattle.std.specs.Prelude.{Ok, Err}
 use Rattle.std.proofs.Common.{◌≡◌, ℕ, zero, suc, ◌+◌, ◌<◌, ◌≤◌, true, false, ◌⊎◌, List, [], ◌∷◌, map, get_or, sym, refl, ap, ◌∙◌, subst, inl, inr, ⊎_elim, arith}
 use Prim.Native.Nat.{Ordering}
 use mathlib.Core.Option.{none, some}
@@ -13,7 +14,6 @@ use Rattle.tally.proofs.Entries.{find_none}
 use Rattle.tally.proofs.Ranks.{rank}
 use Rattle.sets.specs.Rows.{span}
 use Rattle.directory.specs.View.{Stores, set_at, seek, entry_at}
-use Rattle.directory.specs.declared.Found.TheVariants.{Held, Room}
 
 -- sets that rise from each place to the next, rise
 pub rising-span : (f : ℕ → Set) (l : List ℕ) (i k : ℕ) → ((j : ℕ) → i ≤ j → suc j < i + k → cmp (f (get_or l j 0)) (f (get_or l (suc j) 0)) ≡ Ordering.lt) → Rising (map f (span l i k))
@@ -48,26 +48,26 @@ module _ (K : Kind) (f : ℕ → K.Series) (st : Stores) where
   keys-map (x ∷ l) = ap (λ r. set_at st.sets x ∷ r) (keys-map l)
 
 -- what a search finds is there
-held_inj : (x y : ℕ) → Held x ≡ Held y → x ≡ y
+held_inj : (x y : ℕ) → Ok x ≡ Ok y → x ≡ y
 held_inj x y e = cc
 
-room_inj : (x y : ℕ) → Room x ≡ Room y → x ≡ y
+room_inj : (x y : ℕ) → Err x ≡ Err y → x ≡ y
 room_inj x y e = cc
 
-room-not-held : {A : Type 0} (x y : ℕ) → Room x ≡ Held y → A
+room-not-held : {A : Type 0} (x y : ℕ) → Err x ≡ Ok y → A
 room-not-held x y e = let z : ◌≡◌ {A = ℕ} 0 1 = cc in absurd (omega arith)
 
-held-not-room : {A : Type 0} (x y : ℕ) → Held x ≡ Room y → A
+held-not-room : {A : Type 0} (x y : ℕ) → Ok x ≡ Err y → A
 held-not-room x y e = let z : ◌≡◌ {A = ℕ} 0 1 = cc in absurd (omega arith)
 
 module _ (K : Kind) (f : ℕ → K.Series) (st : Stores) (s : Set) where
-  pub seek-held : (l : List ℕ) (i x : ℕ) → seek s st.sets l i ≡ Held x → (In x l) × (find K s (map (entry_at K f st) l) ≡ some (entry_at K f st x))
+  pub seek-held : (l : List ℕ) (i x : ℕ) → seek s st.sets l i ≡ Ok x → (In x l) × (find K s (map (entry_at K f st) l) ≡ some (entry_at K f st x))
   unfolding pick
   seek-held [] i x e = room-not-held i x e
   seek-held (y ∷ l) i x e = go (cmp s (set_at st.sets y)) refl e (seek-held l (suc i) x)
     where
-      go : (o : Ordering) → cmp s (set_at st.sets y) ≡ o → three o (Room i) (Held y) (seek s st.sets l (suc i)) ≡ Held x
-          → (seek s st.sets l (suc i) ≡ Held x → (In x l) × (find K s (map (entry_at K f st) l) ≡ some (entry_at K f st x)))
+      go : (o : Ordering) → cmp s (set_at st.sets y) ≡ o → three o (Err i) (Ok y) (seek s st.sets l (suc i)) ≡ Ok x
+          → (seek s st.sets l (suc i) ≡ Ok x → (In x l) × (find K s (map (entry_at K f st) l) ≡ some (entry_at K f st x)))
           → (In x (y ∷ l)) × (find K s (map (entry_at K f st) (y ∷ l)) ≡ some (entry_at K f st x))
       go Ordering.lt d q ih = room-not-held i x q
       go Ordering.eq d q ih =
@@ -80,13 +80,13 @@ module _ (K : Kind) (f : ℕ → K.Series) (st : Stores) (s : Set) where
           (inr r.0, rw n r.1)
 
   -- and what it does not find is not, and would stand at that place
-  pub seek-room : (l : List ℕ) (i r : ℕ) → Rising (map (set_at st.sets) l) → seek s st.sets l i ≡ Room r → (find K s (map (entry_at K f st) l) ≡ none) × (i + rank s (map (set_at st.sets) l) ≡ r)
+  pub seek-room : (l : List ℕ) (i r : ℕ) → Rising (map (set_at st.sets) l) → seek s st.sets l i ≡ Err r → (find K s (map (entry_at K f st) l) ≡ none) × (i + rank s (map (set_at st.sets) l) ≡ r)
   unfolding pick
   seek-room [] i r g e = (refl, let z : i ≡ r = room_inj i r e in omega arith)
   seek-room (y ∷ l) i r g e = go (cmp s (set_at st.sets y)) refl e (seek-room l (suc i) r g.1)
     where
-      go : (o : Ordering) → cmp s (set_at st.sets y) ≡ o → three o (Room i) (Held y) (seek s st.sets l (suc i)) ≡ Room r
-          → (seek s st.sets l (suc i) ≡ Room r → (find K s (map (entry_at K f st) l) ≡ none) × (suc i + rank s (map (set_at st.sets) l) ≡ r))
+      go : (o : Ordering) → cmp s (set_at st.sets y) ≡ o → three o (Err i) (Ok y) (seek s st.sets l (suc i)) ≡ Err r
+          → (seek s st.sets l (suc i) ≡ Err r → (find K s (map (entry_at K f st) l) ≡ none) × (suc i + rank s (map (set_at st.sets) l) ≡ r))
           → (find K s (map (entry_at K f st) (y ∷ l)) ≡ none) × (i + three o 0 0 (suc (rank s (map (set_at st.sets) l))) ≡ r)
       go Ordering.lt d q ih =
           let n : same (set_at st.sets y) s ≡ false = ap compare_is_eq (lt_gt s (set_at st.sets y) d) in

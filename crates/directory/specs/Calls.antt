@@ -1,13 +1,11 @@
 -- What the calls make of the directory: exactly, in its stores. Assumes nothing.
-use Rattle.std.specs.Prelude.{ℕ, ◌+◌, Bool, true, ◌&&◌, List, [], ◌∷◌, length, ◌==◌, nat_le, nat_lt, slice_index, slice_index_or, slice_set}
+use Rattle.std.specs.Prelude.{ℕ, ◌+◌, Bool, true, ◌&&◌, List, [], ◌∷◌, length, ◌==◌, nat_le, nat_lt, slice_index, slice_index_or, slice_set, Ok, Err, Result}
 use Rattle.std.proofs.Math.Option.{Option, none, some}
 use Rattle.laws.specs.Pick.{pick}
 use Rattle.sets.specs.Inserted.{inserted}
 use Rattle.sets.specs.Rows.{set_of}
 use Rattle.directory.specs.View.{Stores, birth_at, agreesb, sought}
 use Rattle.directory.specs.declared.Directory.{Directory}
-use Rattle.directory.specs.declared.Found.{Found}
-use Rattle.directory.specs.declared.Found.TheVariants.{Held, Room}
 use Rattle.directory.specs.declared.Target.{Target}
 use Rattle.directory.specs.declared.Target.TheVariants.{Disagrees, Old, New, Over}
 
@@ -15,14 +13,14 @@ use Rattle.directory.specs.declared.Target.TheVariants.{Disagrees, Old, New, Ove
 abbrev pub over_row : List ℕ
 over_row = 18446744069414584321 ∷ 0 ∷ 0 ∷ 0 ∷ 0 ∷ 0 ∷ 0 ∷ 0 ∷ 1 ∷ []
 
-abbrev pub or_over : Found → Target
-or_over (Held x) = Old x
-or_over (Room r) = Over r
+abbrev pub or_over : Result ℕ ℕ → Target
+or_over (Ok x) = Old x
+or_over (Err r) = Over r
 
 -- what is found of the set, whether there is room under the limit, what is found of overflow
-abbrev pub target_of : Found → Bool → Found → Target
-target_of (Held x) roomy over = Old x
-target_of (Room r) roomy over = pick roomy (New r) (or_over over)
+abbrev pub target_of : Result ℕ ℕ → Bool → Result ℕ ℕ → Target
+target_of (Ok x) roomy over = Old x
+target_of (Err r) roomy over = pick roomy (New r) (or_over over)
 
 -- "A new set is made while the map's count is below the limit; otherwise the value goes to the overflow series": the slot that holds it; a
 -- new one at a place, under the limit; else that of overflow, held or new
@@ -57,9 +55,9 @@ unfoldable pub bound_to : List (List ℕ) → ℕ → ℕ → List (List ℕ)
 bound_to entries x n = slice_set entries x (slice_index (slice_index_or entries x []) 0 ∷ n ∷ slice_index (slice_index_or entries x []) 2 ∷ [])
 
 -- "7: handle names no entry, or one without bindings": the slot that the handle names, if it has bindings
-abbrev pub scan : ℕ → List (List ℕ) → List ℕ → Found
-scan h entries [] = Room 0
-scan h entries (x ∷ l) = pick (birth_at entries x == h && nat_lt 0 (slice_index (slice_index_or entries x []) 1)) (Held x) (scan h entries l)
+abbrev pub scan : ℕ → List (List ℕ) → List ℕ → Result ℕ ℕ
+scan h entries [] = Err 0
+scan h entries (x ∷ l) = pick (birth_at entries x == h && nat_lt 0 (slice_index (slice_index_or entries x []) 1)) (Ok x) (scan h entries l)
 
 -- "4: cardinality limit over 62, or filter over 16 keys" (L12: 2000)
 abbrev pub most_sets : ℕ

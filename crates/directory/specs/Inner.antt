@@ -1,13 +1,11 @@
 -- BETWEEN OUR OWN CRATES: serves inner contracts and proofs; nobody needs it to believe the public calls or the theorems.
 -- The definitions of the crate's own functions. Assumes nothing.
-use Rattle.std.specs.Prelude.{◌≡◌, ℕ, ◌+◌, ◌-◌, ◌<◌, ◌≤◌, Bool, true, ◌&&◌, List, [], ◌∷◌, get_or, bit_or, bit_xor, nat_le, slice_index, slice_index_or}
+use Rattle.std.specs.Prelude.{◌≡◌, ℕ, ◌+◌, ◌-◌, ◌<◌, ◌≤◌, Bool, true, ◌&&◌, List, [], ◌∷◌, get_or, bit_or, bit_xor, nat_le, slice_index, slice_index_or, Option, Some, None}
 use Prim.Native.Nat.{Ordering}
 use Rattle.laws.specs.Pick.{pick}
 use Rattle.tally.specs.Sets.{cmp}
 use Rattle.sets.specs.All.{allb}
 use Rattle.sets.specs.Rows.{set_of, soundb, size}
-use Rattle.directory.specs.declared.Placed.{Placed}
-use Rattle.directory.specs.declared.Placed.TheVariants.{Broken, Plain}
 use Rattle.directory.specs.declared.Directory.{Directory}
 use Rattle.directory.specs.View.{birth_at, born_at, place_at, plainly, agreesb}
 
@@ -18,8 +16,8 @@ bornb used last entries = allb used (born_at entries) && nat_le (birth_at entrie
 abbrev pub step_at : List (List ℕ) → List ℕ → ℕ → ℕ → Bool
 step_at sets order used k = place_at sets order used k && soundb (slice_index_or sets (slice_index order k) [])
 
-unfoldable pub placed : ℕ → List (List ℕ) → List ℕ → Placed
-placed used sets order = pick (allb used (step_at sets order used)) (Plain (plainly sets order used)) Broken
+unfoldable pub placed : ℕ → List (List ℕ) → List ℕ → Option ℕ
+placed used sets order = pick (allb used (step_at sets order used)) (Some (plainly sets order used)) None
 
 -- the bits of d, and those in which the words of two rows differ
 abbrev pub join_at : List ℕ → List ℕ → List ℕ → ℕ → ℕ

@@ -1,5 +1,5 @@
 -- The directory in its stores: when it agrees with itself, and what map it is. Assumes nothing.
-use Rattle.std.specs.Prelude.{◌≡◌, ℕ, zero, suc, ◌+◌, ◌-◌, ◌<◌, ◌≤◌, Bool, true, not, ◌&&◌, ◌||◌, List, [], ◌∷◌, map, ◌==◌, nat_le, nat_lt, slice_index, slice_index_or}
+use Rattle.std.specs.Prelude.{◌≡◌, ℕ, zero, suc, ◌+◌, ◌-◌, ◌<◌, ◌≤◌, Bool, true, not, ◌&&◌, ◌||◌, List, [], ◌∷◌, map, ◌==◌, nat_le, nat_lt, slice_index, slice_index_or, Ok, Err, Result}
 use Rattle.std.proofs.Math.Option.{none, some}
 use Rattle.laws.specs.Pick.{pick}
 use Rattle.tally.specs.Sets.{Set, three, cmp, same}
@@ -8,8 +8,6 @@ use Rattle.tally.specs.Map.{Config, Entry, Map, plains, Agrees}
 use Rattle.sets.specs.All.{allb}
 use Rattle.sets.specs.Rows.{span, set_of, soundb, below}
 use Rattle.directory.specs.declared.Directory.{Directory}
-use Rattle.directory.specs.declared.Found.{Found}
-use Rattle.directory.specs.declared.Found.TheVariants.{Held, Room}
 
 pub record Stores : Type 0 where
   pub sets : List (List ℕ)
@@ -73,13 +71,13 @@ agreesb limit d s =
     && countsb limit d.count d.used (plainly s.sets s.order d.used)))
 
 -- a scan of slots that ascend by set, from place i
-abbrev pub seek : Set → List (List ℕ) → List ℕ → ℕ → Found
-seek s sets [] i = Room i
-seek s sets (x ∷ l) i = three (cmp s (set_at sets x)) (Room i) (Held x) (seek s sets l (suc i))
+abbrev pub seek : Set → List (List ℕ) → List ℕ → ℕ → Result ℕ ℕ
+seek s sets [] i = Err i
+seek s sets (x ∷ l) i = three (cmp s (set_at sets x)) (Err i) (Ok x) (seek s sets l (suc i))
 
 -- the slot that holds the set, or the place where it would stand among those named
-unfoldable pub sought : Set → ℕ → List (List ℕ) → List ℕ → Found
-sought s used sets order = pick (same s []) (Held 0) (seek s sets (span order 0 used) 0)
+unfoldable pub sought : Set → ℕ → List (List ℕ) → List ℕ → Result ℕ ℕ
+sought s used sets order = pick (same s []) (Ok 0) (seek s sets (span order 0 used) 0)
 
 -- a slot holds a series: its third word is not 0
 abbrev pub updated_in : List (List ℕ) → ℕ → Bool

@@ -1,7 +1,6 @@
 // Whether the places are right where the sets have the same keys, in one pass over them. A yes is sure; after a no the sets are compared one
 // by one.
-ghost use Rattle.std.specs.Prelude.{◌≡◌, ◌-◌, ◌<◌, ◌≤◌, true, ◌&&◌, length, nat_le, slice_index};
-ghost use Rattle.directory.specs.declared.Placed.TheVariants.{Plain};
+ghost use Rattle.std.specs.Prelude.{◌≡◌, ◌-◌, ◌<◌, ◌≤◌, true, ◌&&◌, Some, length, nat_le, slice_index};
 ghost use Rattle.directory.specs.Inner.{placed, joined, SameKeys, row_at, Told, Alike};
 
 // Whether a number is that of a named slot: one comparison, for 0 wraps.
@@ -129,7 +128,7 @@ fn pays(size: u64, from: usize) -> bool
 // and the last of them differ is the first in which any two do. Sets of unlike keys mostly show in the last slot, before any pass.
 pub fn quick(used: usize, sets: &[[u64; 9]], order: &[u32]) -> bool
     requires { (used < length sets.now) × (used ≤ length order.now) }
-    ensures { result ≡ true → placed used sets.now order.now ≡ Plain used }
+    ensures { result ≡ true → placed used sets.now order.now ≡ Some used }
 {
     if used < 6 {
         return false;

@@ -32,8 +32,8 @@ fn births(used: usize, last: u64, entries: &[[u64; 3]]) -> bool
     prev <= last
 }
 
-// Whether the places name sound slots ascending by set, and how many of these are plain: one by one.
-fn one_by_one(used: usize, sets: &[[u64; 9]], order: &[u32]) -> crate::Placed
+// How many of the slots that the places name are plain, if these are sound and ascend by set: one by one.
+fn one_by_one(used: usize, sets: &[[u64; 9]], order: &[u32]) -> Option<usize>
     requires { (used < length sets.now) × (used ≤ length order.now) }
     ensures { result ≡ placed used sets.now order.now }
 {
@@ -43,28 +43,28 @@ fn one_by_one(used: usize, sets: &[[u64; 9]], order: &[u32]) -> crate::Placed
     while i < used {
         let q = order[i] as usize;
         if q < 1 {
-            return crate::Placed::Broken;
+            return None;
         }
         if q > used {
-            return crate::Placed::Broken;
+            return None;
         }
         if !sets::set_row::follows(i, &sets[p], &sets[q]) {
-            return crate::Placed::Broken;
+            return None;
         }
         plain += sets::set_row::plain_row(&sets[q]);
         p = q;
         i += 1;
     }
-    crate::Placed::Plain(plain)
+    Some(plain)
 }
 
-// Whether the places name sound slots ascending by set, and how many of these are plain.
-fn places(used: usize, sets: &[[u64; 9]], order: &[u32]) -> crate::Placed
+// How many of the slots that the places name are plain, if these are sound and ascend by set.
+fn places(used: usize, sets: &[[u64; 9]], order: &[u32]) -> Option<usize>
     requires { (used < length sets.now) × (used ≤ length order.now) }
     ensures { result ≡ placed used sets.now order.now }
 {
     if crate::alike::quick(used, sets, order) {
-        return crate::Placed::Plain(used);
+        return Some(used);
     }
     one_by_one(used, sets, order)
 }
@@ -108,7 +108,7 @@ pub fn agrees(
         return false;
     }
     match places(used, sets, order) {
-        crate::Placed::Broken => false,
-        crate::Placed::Plain(n) => counts(limit, d.count, used, n),
+        None => false,
+        Some(n) => counts(limit, d.count, used, n),
     }
 }

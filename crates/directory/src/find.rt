@@ -1,23 +1,25 @@
 // Where a set, or a handle, stands in the directory.
 ghost use Rattle.std.specs.Prelude.{◌≡◌, ℕ, suc, ◌+◌, ◌<◌, ◌≤◌, true, ◌&&◌, [], ◌∷◌, length, ◌==◌, nat_lt, slice_index, slice_index_or};
-ghost use Prim.Native.Nat.{Ordering};
+ghost use Prim.Native.Nat.{Ordering as Compared};
 ghost use Rattle.tally.specs.Sets.{cmp};
 ghost use Rattle.sets.specs.Rows.{span, size, set_of};
 ghost use Rattle.directory.specs.Calls.{located, scan};
 ghost use Rattle.directory.specs.View.{stores, birth_at, sought, agreesb};
 ghost use Rattle.directory.specs.Inner.{Agreeing, BirthsRise, LastBorn};
 
-// Where a set stands in a directory whose places are right, by halving.
-fn find(used: usize, sets: &[[u64; 9]], order: &[u32], wanted: &[u64; 9]) -> crate::Found
+use std::cmp::Ordering;
+
+// The slot that holds a set, or the place where it would stand, in a directory whose places are right: by halving.
+fn find(used: usize, sets: &[[u64; 9]], order: &[u32], wanted: &[u64; 9]) -> Result<usize, usize>
     requires { (used < length sets.now) × (used ≤ length order.now) × (size wanted.now ≤ 8)
         × ((k : ℕ) → k < used → (1 ≤ slice_index order.now k) × (slice_index order.now k ≤ used))
         × ((x : ℕ) → 1 ≤ x → x ≤ used → size (slice_index_or sets.now x []) ≤ 8)
         × ((k : ℕ) → suc k < used → cmp (set_of (slice_index_or sets.now (slice_index order.now k) []))
-        (set_of (slice_index_or sets.now (slice_index order.now (suc k)) [])) ≡ Ordering.lt) }
+        (set_of (slice_index_or sets.now (slice_index order.now (suc k)) [])) ≡ Compared.lt) }
     ensures { result ≡ sought (set_of wanted.now) used sets.now order.now }
 {
     if wanted[8] == 0 {
-        return crate::Found::Held(0);
+        return Ok(0);
     }
     let mut low: usize = 0;
     let mut high: usize = used;
@@ -26,12 +28,12 @@ fn find(used: usize, sets: &[[u64; 9]], order: &[u32], wanted: &[u64; 9]) -> cra
         let q = order[mid] as usize;
         let w = sets::set_row::compare(wanted, &sets[q]);
         match w {
-            sets::Way::Before => high = mid,
-            sets::Way::Same => return crate::Found::Held(q),
-            sets::Way::After => low = mid + 1,
+            Ordering::Less => high = mid,
+            Ordering::Equal => return Ok(q),
+            Ordering::Greater => low = mid + 1,
         }
     }
-    crate::Found::Room(low)
+    Err(low)
 }
 
 // Whether an entry is the one that a handle names, with bindings.
@@ -47,24 +49,24 @@ fn names(birth: u64, bindings: u64, h: u64) -> bool
     false
 }
 
-// The slot that a handle names, if it has bindings; else `Room`: along the places.
-fn by_places(used: usize, entries: &[[u64; 3]], order: &[u32], h: u64) -> crate::Found
+// The slot that a handle names, if it has bindings; else `Err`: along the places.
+fn by_places(used: usize, entries: &[[u64; 3]], order: &[u32], h: u64) -> Result<usize, usize>
     requires { (used < length entries.now) × (used ≤ length order.now)
         × ((k : ℕ) → k < used → (1 ≤ slice_index order.now k) × (slice_index order.now k ≤ used)) }
     ensures { result ≡ scan h entries.now (0 ∷ span order.now 0 used) }
 {
     if names(0, entries[0][1], h) {
-        return crate::Found::Held(0);
+        return Ok(0);
     }
     let mut i: usize = 0;
     while i < used {
         let q = order[i] as usize;
         if names(entries[q][0], entries[q][1], h) {
-            return crate::Found::Held(q);
+            return Ok(q);
         }
         i += 1;
     }
-    crate::Found::Room(0)
+    Err(0)
 }
 
 // The slot that has the handle's number, if the handle names it; else 0. Until a set is removed each slot's number is its birth number.
@@ -85,16 +87,21 @@ fn own_slot(used: usize, entries: &[[u64; 3]], h: u64) -> usize
     0
 }
 
-// The slot that a handle names, if it has bindings; else `Room`, which number 7 refuses. In a directory that agrees a named slot with its birth
+// The slot that a handle names, if it has bindings; else `Err`, which number 7 refuses. In a directory that agrees a named slot with its birth
 // number is the one that a scan finds.
-pub fn by_handle(d: crate::Directory, entries: &[[u64; 3]], order: &[u32], h: u64) -> crate::Found
+pub fn by_handle(
+    d: crate::Directory,
+    entries: &[[u64; 3]],
+    order: &[u32],
+    h: u64,
+) -> Result<usize, usize>
     requires { (d.used < length entries.now) × (d.used ≤ length order.now) × Agreeing d entries.now order.now }
     ensures { result ≡ scan h entries.now (0 ∷ span order.now 0 d.used) }
 {
     let used = d.used;
     let x = own_slot(used, entries, h);
     if x > 0 {
-        return crate::Found::Held(x);
+        return Ok(x);
     }
     by_places(used, entries, order, h)
 }
@@ -118,21 +125,26 @@ fn born_by(used: usize, entries: &[[u64; 3]], h: u64) -> usize
 }
 
 // Requires a directory known to agree, whose birth numbers rise along the slots. `by_handle` there: a slot that has moved is found by halving.
-pub fn by_birth(d: crate::Directory, entries: &[[u64; 3]], order: &[u32], h: u64) -> crate::Found
+pub fn by_birth(
+    d: crate::Directory,
+    entries: &[[u64; 3]],
+    order: &[u32],
+    h: u64,
+) -> Result<usize, usize>
     requires { (d.used < length entries.now) × Agreeing d entries.now order.now × BirthsRise d.used entries.now }
     ensures { result ≡ scan h entries.now (0 ∷ span order.now 0 d.used) }
 {
     let used = d.used;
     let x = own_slot(used, entries, h);
     if x > 0 {
-        return crate::Found::Held(x);
+        return Ok(x);
     }
     let y = born_by(used, entries, h);
     let b = crate::write::birth_of(entries, y);
     if names(b, entries[y][1], h) {
-        return crate::Found::Held(y);
+        return Ok(y);
     }
-    crate::Found::Room(0)
+    Err(0)
 }
 
 // Where a call with a set goes in a directory that agrees: its own slot or a new one, that of overflow held or new.
@@ -150,15 +162,15 @@ pub fn locate_agreed(
 {
     let used = d.used;
     match find(used, sets, order, row) {
-        crate::Found::Held(x) => crate::Target::Old(x),
-        crate::Found::Room(r) => {
+        Ok(x) => crate::Target::Old(x),
+        Err(r) => {
             if d.count < limit {
                 return crate::Target::New(r);
             }
             let over: [u64; 9] = sets::OVERFLOW_ROW;
             match find(used, sets, order, &over) {
-                crate::Found::Held(x) => crate::Target::Old(x),
-                crate::Found::Room(q) => crate::Target::Over(q),
+                Ok(x) => crate::Target::Old(x),
+                Err(q) => crate::Target::Over(q),
             }
         }
     }

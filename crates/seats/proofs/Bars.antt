@@ -12,9 +12,8 @@ use Rattle.sets.specs.Sorted.{most_attributes}
 use Rattle.directory.specs.View.{Stores}
 use Rattle.directory.specs.Calls.{stores_suffice}
 use Rattle.directory.specs.declared.Directory.{Directory}
-use Rattle.seats.specs.Seats.{away, barred_by, unless_barred}
+use Rattle.seats.specs.Seats.{away, barred_by, unless_barred, Seating}
 use Rattle.seats.specs.Inner.{barred_at, row_unless_barred, Sure}
-use Rattle.seats.specs.declared.Seating.{Seating}
 
 -- ---- two tests, one after another
 

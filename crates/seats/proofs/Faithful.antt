@@ -1,5 +1,6 @@
 -- Recording is the map's step, for any kind of series, by set and by handle: a kind owes its series' refusal and the series with the
 -- value added, and nothing of the directory. Assumes nothing.
+use Rattle.std.specs.Prelude.{Ok, Err, Result, ℕ}
 use Prim.Native.Nat.{ℕ, suc, ◌+◌, ◌^◌, ◌≤◌, ◌<◌}
 use mathlib.Core.Path.{◌≡◌, refl, ap, sym, subst, ◌∙◌}
 use mathlib.Core.Bool.{Bool, true, false, ◌&&◌}
@@ -15,12 +16,9 @@ use Rattle.sets.specs.Rows.{set_of}
 use Rattle.directory.specs.View.{Stores, agreesb, entry_at, view}
 use Rattle.directory.specs.Calls.{Kept, scan}
 use Rattle.directory.specs.declared.Directory.{Directory}
-use Rattle.directory.specs.declared.Found.{Found}
-use Rattle.directory.specs.declared.Found.TheVariants.{Held, Room}
 use Rattle.directory.proofs.Laws.{slots_of, named-scan, scan_in}
-use Rattle.seats.specs.Seats.{held_seat, seated, seat_by, seated_by, committed}
+use Rattle.seats.specs.Seats.{held_seat, seated, seat_by, seated_by, committed, Seating}
 use Rattle.seats.proofs.Recording.{held_at, or_fresh, refusal, Others, served}
-use Rattle.seats.specs.declared.Seating.{Seating}
 use Rattle.seats.proofs.Commits.{commit-old}
 use Rattle.seats.proofs.Seatings.{by-is}
 use Rattle.seats.proofs.Sits.{Sits, Spent, old-sits, seat-sits, seat-spent}
@@ -105,10 +103,10 @@ module _ (K : Kind) (f : ℕ → K.Series) (z : K.Settings) (c : Config K) (d : 
     there = seated_by c.limit d s b
 
     -- what the handle names
-    none_named : (r : ℕ) → scan b s.entries (slots_of d s) ≡ Room r → named K b m.entries ≡ none
+    none_named : (r : ℕ) → scan b s.entries (slots_of d s) ≡ Err r → named K b m.entries ≡ none
     none_named r e = rw e at (named-scan K f s b (slots_of d s))
 
-    one-named : (x : ℕ) → scan b s.entries (slots_of d s) ≡ Held x → named K b m.entries ≡ some (entry_at K f s x)
+    one-named : (x : ℕ) → scan b s.entries (slots_of d s) ≡ Ok x → named K b m.entries ≡ some (entry_at K f s x)
     one-named x e = rw e at (named-scan K f s b (slots_of d s))
 
     by-none : named K b m.entries ≡ none → act K c m (measure_by b v) ≡ record { answer = refuse 7; map = m }
@@ -126,9 +124,9 @@ module _ (K : Kind) (f : ℕ → K.Series) (z : K.Settings) (c : Config K) (d : 
     pub by-away : AwayBy there
     by-away = subst AwayBy (sym (by-is c.limit d s b g _ refl)) (go (scan b s.entries (slots_of d s)) refl)
       where
-        go : (o : Found) → scan b s.entries (slots_of d s) ≡ o → AwayBy (seat_by s o)
-        go (Room r) e = λ n. by-none (none_named r e)
-        go (Held x) e = λ n. absurd (n refl)
+        go : (o : Result ℕ ℕ) → scan b s.entries (slots_of d s) ≡ o → AwayBy (seat_by s o)
+        go (Err r) e = λ n. by-none (none_named r e)
+        go (Ok x) e = λ n. absurd (n refl)
 
     -- unless it is refused, the seating is the entry that the handle names
     abbrev SatBy : Seating → Type 0
@@ -137,9 +135,9 @@ module _ (K : Kind) (f : ℕ → K.Series) (z : K.Settings) (c : Config K) (d : 
     by-sits : SatBy there
     by-sits = subst SatBy (sym (by-is c.limit d s b g _ refl)) (go (scan b s.entries (slots_of d s)) refl)
       where
-        go : (o : Found) → scan b s.entries (slots_of d s) ≡ o → SatBy (seat_by s o)
-        go (Room r) e = λ n. absurd (omega arith)
-        go (Held x) e =
+        go : (o : Result ℕ ℕ) → scan b s.entries (slots_of d s) ≡ o → SatBy (seat_by s o)
+        go (Err r) e = λ n. absurd (omega arith)
+        go (Ok x) e =
             let i = old-sits K f z c.limit d s g ls le lo small x (scan_in b s.entries x (slots_of d s) e) in
             λ n. (entry_at K f s x, one-named x e, subst (λ k. Sits K f z d s (held_seat s.entries x) k (held K m (entry_at K f s x))) (sym (commit-old d s row x)) i)
 

@@ -1,5 +1,6 @@
 -- What is committed leaves the directory agreeing with itself, each slot its set and its birth number, and a new slot a number that was
 -- not spent: the promises of bindings' runs hold of recordings too. Assumes nothing.
+use Rattle.std.specs.Prelude.{Ok, Err, Result, ℕ}
 use Prim.Native.Nat.{ℕ, ◌+◌, ◌^◌, ◌≤◌, ◌<◌}
 use mathlib.Core.Path.{◌≡◌, refl, ap, sym, subst, ◌∙◌}
 use mathlib.Core.Bool.{Bool, true, false}
@@ -20,8 +21,6 @@ use Rattle.sets.proofs.Keyed.{keyed-sound}
 use Rattle.directory.specs.View.{Stores, Laid, birth_at, agreesb, view}
 use Rattle.directory.specs.Calls.{Kept, over_row, located, scan, admitted}
 use Rattle.directory.specs.declared.Directory.{Directory}
-use Rattle.directory.specs.declared.Found.{Found}
-use Rattle.directory.specs.declared.Found.TheVariants.{Held, Room}
 use Rattle.directory.specs.declared.Target.{Target}
 use Rattle.directory.specs.declared.Target.TheVariants.{Disagrees, Old, New, Over}
 use Rattle.directory.proofs.Laws.{slots_of}
@@ -30,9 +29,8 @@ use Rattle.directory.proofs.Tied.{agreed}
 use Rattle.directory.proofs.Laid.{laid, laid-agrees, birth-set, laid_births, laid_admit}
 use Rattle.directory.proofs.Refusals.{suffices}
 use Rattle.directory.proofs.Leaves.{Leaves, births_leave, same-leaves, admit-leaves, Good, lasts}
-use Rattle.seats.specs.Seats.{seat_at, seated, seat_by, seated_by, marked, marked_in, committed}
+use Rattle.seats.specs.Seats.{seat_at, seated, seat_by, seated_by, marked, marked_in, committed, Seating}
 use Rattle.seats.proofs.Recording.{held_at, refusal}
-use Rattle.seats.specs.declared.Seating.{Seating}
 use Rattle.seats.proofs.Commits.{commit-old, commit-new, commit-over}
 use Rattle.seats.proofs.Seatings.{new-either, old-safe, by-is, by-there}
 use Rattle.seats.proofs.Faithful.{measure-done, by-done}
@@ -132,9 +130,9 @@ module _ (limit : ℕ) (d : Directory) (s : Stores) (g : agreesb limit d s ≡ t
     pub by-stays : (seated_by limit d s b).no ≡ 0 → Stays d s (committed d s row (seated_by limit d s b).target)
     by-stays = subst StayBy (sym (by-is limit d s b g _ refl)) (go (scan b s.entries (slots_of d s)) refl)
       where
-        go : (o : Found) → scan b s.entries (slots_of d s) ≡ o → StayBy (seat_by s o)
-        go (Room r) e = λ n. absurd (omega arith)
-        go (Held x) e = λ n. old-stays d s row x small (by-there limit d s b le g x e).1 (laid limit d s g)
+        go : (o : Result ℕ ℕ) → scan b s.entries (slots_of d s) ≡ o → StayBy (seat_by s o)
+        go (Err r) e = λ n. absurd (omega arith)
+        go (Ok x) e = λ n. old-stays d s row x small (by-there limit d s b le g x e).1 (laid limit d s g)
 
   -- AGREEMENT, as the map's
   abbrev config : Option (List ℕ) → Config blank

@@ -1,4 +1,5 @@
 -- A recording goes to its own set's slot while the named sets, its own among them, are at most the limit: demand 3's premise. Assumes nothing.
+use Rattle.std.specs.Prelude.{Ok}
 use Prim.Native.Nat.{ℕ, suc, ◌+◌, ◌≤◌, ◌<◌}
 use mathlib.Core.Path.{◌≡◌, refl, ap, sym, subst, ◌∙◌}
 use mathlib.Core.Logic.{◌⊎◌, ⊎_elim}
@@ -12,12 +13,10 @@ use Rattle.sets.specs.Rows.{set_of}
 use Rattle.directory.specs.View.{Stores, set_at, agreesb, sought}
 use Rattle.directory.specs.Calls.{Kept, located, admitted}
 use Rattle.directory.specs.declared.Directory.{Directory}
-use Rattle.directory.specs.declared.Found.TheVariants.{Held}
 use Rattle.directory.specs.declared.Target.{Target}
 use Rattle.directory.specs.declared.Target.TheVariants.{Disagrees, Old, New, Over}
 use Rattle.directory.proofs.Own.{held-set, own_old, no-over}
-use Rattle.seats.specs.Seats.{seat_at, seated, committed}
-use Rattle.seats.specs.declared.Seating.{Seating}
+use Rattle.seats.specs.Seats.{seat_at, seated, committed, Seating}
 use Rattle.seats.proofs.Commits.{commit-old}
 use Rattle.seats.proofs.Seatings.{new-either}
 
@@ -47,12 +46,12 @@ module _ (limit : ℕ) (d : Directory) (s : Stores) (g : agreesb limit d s ≡ t
   room-owns u (Over q) e = absurd (no-over limit d s g row u q e)
 
   -- and where the set is held
-  held-at : (x : ℕ) → sought (set_of row) d.used s.sets s.order ≡ Held x → located limit d s row ≡ Old x
+  held-at : (x : ℕ) → sought (set_of row) d.used s.sets s.order ≡ Ok x → located limit d s row ≡ Old x
   unfolding located pick
   held-at x e = rw (g, e)
 
   -- "the accepted ones on no more unlike named sets than the limit": the set is held, or the named sets held are fewer
-  pub seat-owns : ((x : ℕ) × (sought (set_of row) d.used s.sets s.order ≡ Held x)) ⊎ (d.used < limit) → Owns (seated limit d s row)
+  pub seat-owns : ((x : ℕ) × (sought (set_of row) d.used s.sets s.order ≡ Ok x)) ⊎ (d.used < limit) → Owns (seated limit d s row)
   unfolding seated
   seat-owns p =
       ⊎_elim (λ h. subst (λ t. Owns (seat_at d s t)) (sym (held-at h.0 h.1)) (λ n. old-owns h.0 (held-set limit d s g row h.0 h.1)))

@@ -1,4 +1,5 @@
 -- A recording at a seating, for any kind of series: what its slot holds, when the series refuses the value, and what else stays. Assumes nothing.
+use Rattle.seats.specs.Seats.{Seating}
 use Prim.Native.Nat.{ℕ, suc, ◌≤◌}
 use mathlib.Core.Path.{◌≡◌}
 use mathlib.Core.List.{[], ◌∷◌}
@@ -8,7 +9,6 @@ use Rattle.tally.specs.Kind.{Kind, unless, first_of}
 use Rattle.tally.specs.Map.{Entry, sound}
 use Rattle.tally.proofs.MapSteps.{fits}
 use Rattle.directory.specs.declared.Directory.{Directory}
-use Rattle.seats.specs.declared.Seating.{Seating}
 
 module _ (K : Kind) where
   -- the series that the seating's slot holds, where f gives each slot's

@@ -1,4 +1,5 @@
 -- Seatings by cases, and what one that is not refused guarantees. Assumes nothing.
+use Rattle.std.specs.Prelude.{Ok, Err, Result, ℕ}
 use Prim.Native.Nat.{ℕ, ◌+◌, ◌^◌, ◌≤◌, ◌<◌}
 use mathlib.Core.Path.{◌≡◌, refl, ap, sym, subst}
 use mathlib.Core.Logic.{⊎_elim}
@@ -13,16 +14,13 @@ use Rattle.sets.specs.Rows.{set_of}
 use Rattle.directory.specs.View.{Stores, agreesb}
 use Rattle.directory.specs.Calls.{over_row, located, scan}
 use Rattle.directory.specs.declared.Directory.{Directory}
-use Rattle.directory.specs.declared.Found.{Found}
-use Rattle.directory.specs.declared.Found.TheVariants.{Held, Room}
 use Rattle.directory.specs.declared.Target.{Target}
 use Rattle.directory.specs.declared.Target.TheVariants.{Disagrees, Old, New, Over}
 use Rattle.directory.proofs.Laws.{slots_of, few, slot-used, scan_in}
 use Rattle.directory.proofs.Rises.{In}
 use Rattle.directory.proofs.Located.{located-no, blank, counted, sought-held, told, new-there, over-there}
-use Rattle.seats.specs.Seats.{away, new_seat, seat_at, seated, seat_by, seated_by}
+use Rattle.seats.specs.Seats.{away, new_seat, seat_at, seated, seat_by, seated_by, Seating}
 use Rattle.seats.specs.Inner.{Roomy, Fits}
-use Rattle.seats.specs.declared.Seating.{Seating}
 
 -- a new slot
 module _ (d : Directory) (t : Target) where
@@ -106,13 +104,13 @@ module _ (limit : ℕ) (d : Directory) (s : Stores) (h : ℕ) where
   unfolding seated_by pick
   by-no g = rw g
 
-  pub by-is : agreesb limit d s ≡ true → (o : Found) → scan h s.entries (slots_of d s) ≡ o → seated_by limit d s h ≡ seat_by s o
+  pub by-is : agreesb limit d s ≡ true → (o : Result ℕ ℕ) → scan h s.entries (slots_of d s) ≡ o → seated_by limit d s h ≡ seat_by s o
   unfolding seated_by pick
   by-is g o e = rw (g, e)
 
   -- what holds of each case holds of the seating
   pub by-either : (P : Seating → Type 0) → (agreesb limit d s ≡ false → P (away 8))
-      → (agreesb limit d s ≡ true → (o : Found) → scan h s.entries (slots_of d s) ≡ o → P (seat_by s o)) → P (seated_by limit d s h)
+      → (agreesb limit d s ≡ true → (o : Result ℕ ℕ) → scan h s.entries (slots_of d s) ≡ o → P (seat_by s o)) → P (seated_by limit d s h)
   by-either P away-is found-is = go (agreesb limit d s) refl
     where
       go : (b : Bool) → agreesb limit d s ≡ b → P (seated_by limit d s h)
@@ -120,7 +118,7 @@ module _ (limit : ℕ) (d : Directory) (s : Stores) (h : ℕ) where
       go true g = subst P (sym (by-is g (scan h s.entries (slots_of d s)) refl)) (found-is g (scan h s.entries (slots_of d s)) refl)
 
   module _ (le : limit + 2 ≤ length s.entries) where
-    pub by-there : agreesb limit d s ≡ true → (x : ℕ) → scan h s.entries (slots_of d s) ≡ Held x → (x ≤ limit + 1) × (x < length s.entries)
+    pub by-there : agreesb limit d s ≡ true → (x : ℕ) → scan h s.entries (slots_of d s) ≡ Ok x → (x ≤ limit + 1) × (x < length s.entries)
     by-there g x e =
         let u = slot-used limit d s g x (scan_in h s.entries x (slots_of d s) e) in
         (omega (arith, few limit d s g), omega (arith, few limit d s g))
@@ -128,13 +126,13 @@ module _ (limit : ℕ) (d : Directory) (s : Stores) (h : ℕ) where
     pub by-safe : Safe limit d s (seated_by limit d s h)
     by-safe = by-either (Safe limit d s) (λ g n. absurd (omega arith)) found
       where
-        found : agreesb limit d s ≡ true → (o : Found) → scan h s.entries (slots_of d s) ≡ o → Safe limit d s (seat_by s o)
-        found g (Room r) e = λ n. absurd (omega arith)
-        found g (Held x) e = λ n. by-there g x e
+        found : agreesb limit d s ≡ true → (o : Result ℕ ℕ) → scan h s.entries (slots_of d s) ≡ o → Safe limit d s (seat_by s o)
+        found g (Err r) e = λ n. absurd (omega arith)
+        found g (Ok x) e = λ n. by-there g x e
 
   pub by-late : Late (seated_by limit d s h)
   by-late = by-either Late (λ g n. (omega arith, omega arith)) (λ g o e. found o)
     where
-      found : (o : Found) → Late (seat_by s o)
-      found (Room r) = λ n. (omega arith, omega arith)
-      found (Held x) = λ n. absurd (n refl)
+      found : (o : Result ℕ ℕ) → Late (seat_by s o)
+      found (Err r) = λ n. (omega arith, omega arith)
+      found (Ok x) = λ n. absurd (n refl)

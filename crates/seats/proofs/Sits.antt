@@ -1,5 +1,6 @@
 -- A seating is the place that the map's recording comes to, and what is committed there is the map with the new series written, for any
 -- kind of series. Assumes nothing.
+use Rattle.std.specs.Prelude.{Ok, Err}
 use Prim.Native.Nat.{ℕ, suc, ◌+◌, ◌^◌, ◌≤◌, ◌<◌}
 use mathlib.Core.Path.{◌≡◌, refl, ap, sym, subst, ◌∙◌}
 use mathlib.Core.Logic.{inl, inr, ⊎_elim}
@@ -23,7 +24,6 @@ use Rattle.sets.specs.Inserted.{inserted}
 use Rattle.directory.specs.View.{Stores, set_at, agreesb, sought, entry_at, view}
 use Rattle.directory.specs.Calls.{Kept, over_row, located, admitted}
 use Rattle.directory.specs.declared.Directory.{Directory}
-use Rattle.directory.specs.declared.Found.TheVariants.{Held, Room}
 use Rattle.directory.specs.declared.Target.{Target}
 use Rattle.directory.specs.declared.Target.TheVariants.{Disagrees, Old, New, Over}
 use Rattle.directory.proofs.Rises.{In, keys-map}
@@ -32,9 +32,8 @@ use Rattle.sets.proofs.Spans.{span-inserted}
 use Rattle.directory.proofs.Admits.{room-rank, new-entry, admit-put}
 use Rattle.directory.proofs.Located.{Facts, facts, over-set, sought-held, room-new, room-over, place-held, place-over-held, place-new, place-over}
 use Rattle.directory.proofs.Laid.{in_around}
-use Rattle.seats.specs.Seats.{away, held_seat, new_seat, seat_at, seated, marked_in, committed}
+use Rattle.seats.specs.Seats.{away, held_seat, new_seat, seat_at, seated, marked_in, committed, Seating}
 use Rattle.seats.proofs.Recording.{held_at, Others, served}
-use Rattle.seats.specs.declared.Seating.{Seating}
 use Rattle.seats.proofs.Commits.{commit-old, commit-new, commit-over}
 use Rattle.seats.proofs.Marked.{mark-put}
 use Rattle.seats.proofs.Seatings.{new-either, old_in}
@@ -76,7 +75,7 @@ module _ (K : Kind) (f : ℕ → K.Series) (z : K.Settings) (limit : ℕ) (d : D
       }
 
   -- at a new one
-  module _ (row : List ℕ) (r more count : ℕ) (c : d.count + more ≡ count) (e : sought (set_of row) d.used s.sets s.order ≡ Room r) (u : d.used ≤ limit) where
+  module _ (row : List ℕ) (r more count : ℕ) (c : d.count + more ≡ count) (e : sought (set_of row) d.used s.sets s.order ≡ Err r) (u : d.used ≤ limit) where
     abbrev x : ℕ
     x = d.used + 1
 
@@ -163,19 +162,19 @@ module _ (K : Kind) (f : ℕ → K.Series) (z : K.Settings) (limit : ℕ) (d : D
     known a k w i j h = subst (λ o. Sits K f z d s a o p) (sym i) (subst (λ v. Sits K f z d s a k v) (sym j) h)
 
     new_sat : (q : Target) (new_row : List ℕ) (r more count : ℕ) → committed d s row q ≡ marked_in (admitted d s new_row r more 0) (d.used + 1) → d.count + more ≡ count
-        → sought (set_of new_row) d.used s.sets s.order ≡ Room r → d.used ≤ limit
+        → sought (set_of new_row) d.used s.sets s.order ≡ Err r → d.used ≤ limit
         → p ≡ record { entry = new K (set_of new_row) (suc d.last); count = count; last = suc d.last } → Sat (new_seat d q)
     new_sat q new_row r more count i c e u j =
         new-either d q Sat (λ h n. absurd (omega arith))
         (λ h n. known (record { no = 0; slot = d.used + 1; updated = false; target = q }) _ _ i j (new-sits new_row r more count c e u q h))
 
-    over-is : (x : ℕ) → sought (set_of over_row) d.used s.sets s.order ≡ Held x → find K overflow m.entries ≡ some (entry_at K f s x)
+    over-is : (x : ℕ) → sought (set_of over_row) d.used s.sets s.order ≡ Ok x → find K overflow m.entries ≡ some (entry_at K f s x)
     over-is x e = subst (λ w. find K w m.entries ≡ some (entry_at K f s x)) over-set (sought-held K f z d s (set_of over_row) x e).1
 
-    over_none : (q : ℕ) → sought (set_of over_row) d.used s.sets s.order ≡ Room q → find K overflow m.entries ≡ none
+    over_none : (q : ℕ) → sought (set_of over_row) d.used s.sets s.order ≡ Err q → find K overflow m.entries ≡ none
     over_none q e = subst (λ w. find K w m.entries ≡ none) over-set (room-rank K f z limit d s g (set_of over_row) q e).0
 
-    none_of : (r : ℕ) → sought (set_of row) d.used s.sets s.order ≡ Room r → find K (set_of row) m.entries ≡ none
+    none_of : (r : ℕ) → sought (set_of row) d.used s.sets s.order ≡ Err r → find K (set_of row) m.entries ≡ none
     none_of r e = (room-rank K f z limit d s g (set_of row) r e).0
 
     -- the place, by where the call goes

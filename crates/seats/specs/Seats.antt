@@ -1,21 +1,34 @@
 -- What a recording asks of the directory, and what it leaves of it: exactly, in its stores. Assumes nothing.
-use Rattle.std.specs.Prelude.{ℕ, ◌+◌, Bool, false, List, [], ◌∷◌, eqb, leb, get_or, set}
+use Rattle.std.specs.Prelude.{ℕ, ◌+◌, Bool, false, List, [], ◌∷◌, eqb, leb, get_or, set, Ok, Err, Result}
 use Rattle.laws.specs.Pick.{pick}
 use Rattle.sets.specs.Rows.{span}
 use Rattle.sets.specs.Sorted.{most_attributes}
 use Rattle.directory.specs.View.{Stores, agreesb, updated_in}
 use Rattle.directory.specs.Calls.{Kept, over_row, located, scan, admitted}
 use Rattle.directory.specs.declared.Directory.{Directory}
-use Rattle.directory.specs.declared.Found.{Found}
-use Rattle.directory.specs.declared.Found.TheVariants.{Held, Room}
 use Rattle.directory.specs.declared.Target.{Target}
 use Rattle.directory.specs.declared.Target.TheVariants.{Disagrees, Old, New, Over}
-use Rattle.seats.specs.declared.Seating.{Seating}
+use Rattle.refusals.specs.Refusals.{number}
+use Rattle.refusals.specs.declared.Refusal.{Refusal}
+use Rattle.seats.specs.declared.Seated.{Seated}
 use Rattle.laws.specs.Counting.{most_count}
+
+-- where a recording goes. no: document 01's number of the refusal, 0 if none; slot: the slot that it goes to; updated: whether that slot
+-- holds a series; target: what the directory is to write
+pub record Seating : Type 0 where
+  pub no : ℕ
+  pub slot : ℕ
+  pub updated : Bool
+  pub target : Target
 
 -- refused with the number n: nothing is to be written
 abbrev pub away : ℕ → Seating
 away n = record { no = n; slot = 0; updated = false; target = Disagrees }
+
+-- as a contract writes it: a seat that the code found, or its refusal
+abbrev pub seating : Result Seated Refusal → Seating
+seating (Ok a) = record { no = 0; slot = a.slot; updated = a.updated; target = a.target }
+seating (Err e) = away (number e)
 
 abbrev pub held_seat : List (List ℕ) → ℕ → Seating
 held_seat entries x = record { no = 0; slot = x; updated = updated_in entries x; target = Old x }
@@ -36,9 +49,9 @@ unfoldable pub seated : ℕ → Directory → Stores → List ℕ → Seating
 seated limit d s row = seat_at d s (located limit d s row)
 
 -- "7: handle names no entry, or one without bindings"
-abbrev pub seat_by : Stores → Found → Seating
-seat_by s (Room r) = away 7
-seat_by s (Held x) = held_seat s.entries x
+abbrev pub seat_by : Stores → Result ℕ ℕ → Seating
+seat_by s (Err r) = away 7
+seat_by s (Ok x) = held_seat s.entries x
 
 -- where a recording by a handle goes. "Recording by handle: .. 8, 7, 9", as far as the directory decides
 unfoldable pub seated_by : ℕ → Directory → Stores → ℕ → Seating

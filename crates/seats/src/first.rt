@@ -1,25 +1,34 @@
 // The refusals of a recording that come before the directory is read, the same for every kind.
 ghost use Rattle.std.specs.Prelude.{◌≡◌, ◌&&◌, eqb};
 ghost use Rattle.seats.specs.Seats.{barred_by};
+ghost use Rattle.refusals.specs.Refusals.{code};
 
-// The number of the refusal, 0 if none: 12, 6, 5, and 8 by the settings and by the rest of the configuration.
-pub fn barred(lent: bool, value: bool, attributes: usize, unset: u8, accepted: bool) -> u8
-    ensures { result ≡ barred_by lent value attributes (eqb unset 0 && accepted) }
+use refusals::Refusal;
+
+// The first refusal: 12, 6, 5, and 8 by the settings and by the rest of the configuration.
+pub fn barred(
+    lent: bool,
+    value: bool,
+    attributes: usize,
+    unset: Result<(), Refusal>,
+    accepted: bool,
+) -> Result<(), Refusal>
+    ensures { code result ≡ barred_by lent value attributes (eqb (code unset) 0 && accepted) }
 {
     if !lent {
-        return 12;
+        return Err(Refusal::LentShort);
     }
     if !value {
-        return 6;
+        return Err(Refusal::NotFinite);
     }
     if attributes > sets::canon::MOST_ATTRIBUTES {
-        return 5;
+        return Err(Refusal::Attributes);
     }
-    if unset != 0 {
-        return 8;
+    if unset.is_err() {
+        return Err(Refusal::Disagrees);
     }
     if !accepted {
-        return 8;
+        return Err(Refusal::Disagrees);
     }
-    0
+    Ok(())
 }

@@ -5,47 +5,35 @@
 mod first;
 pub mod room;
 
-ghost use Rattle.std.specs.Prelude.{◌≡◌, true, List, ℕ, ◌+◌, ◌<◌, ◌≤◌, leb, length};
+ghost use Rattle.std.specs.Prelude.{◌≡◌, true, List, ℕ, Ok, ◌+◌, ◌<◌, ◌≤◌, leb, length};
 ghost use Rattle.tally.specs.Sets.{canonical};
 ghost use Rattle.sets.specs.Rows.{size, row_of};
 ghost use Rattle.sets.specs.Sorted.{given, filter_of};
-ghost use Rattle.seats.specs.Seats.{away, held_seat, new_seat, seated, seat_by, seated_by, barred_by};
+ghost use Rattle.seats.specs.Seats.{seating, held_seat, new_seat, seated, seat_by, seated_by, barred_by};
 ghost use Rattle.seats.specs.Seats.{unless_barred, marked, committed};
 ghost use Rattle.seats.specs.Inner.{barred_at, row_unless_barred, Sure, Fits};
 ghost use Rattle.directory.specs.View.{stores, agreesb};
 ghost use Rattle.directory.specs.Calls.{kept, most_sets, accepts};
-ghost use Rattle.directory.specs.declared.Found.TheVariants.{Held};
+ghost use Rattle.refusals.specs.Refusals.{code};
 
-// Where a recording goes. no: document 01's number of the refusal, 0 if none; slot: the slot that it goes to; updated: whether that slot
-// holds a series; target: what the directory is to write.
+use refusals::Refusal;
+
+// Where a recording goes. slot: the slot that it goes to; updated: whether that slot holds a series; target: what the directory is to
+// write.
 #[derive(Clone, Copy)]
-pub struct Seating {
-    pub no: u8,
+pub struct Seated {
     pub slot: usize,
     pub updated: bool,
     pub target: directory::Target,
 }
 
-// Refused with a number: nothing is to be written.
-fn refused(no: u8) -> Seating
-    ensures { result ≡ away no }
-{
-    Seating {
-        no: no,
-        slot: 0,
-        updated: false,
-        target: directory::Target::Disagrees,
-    }
-}
-
 // The seat at a slot that is held.
-fn held_seat(entries: &[[u64; 3]], x: usize) -> Seating
+fn held_seat(entries: &[[u64; 3]], x: usize) -> Seated
     requires { x < length entries.now }
-    ensures { result ≡ held_seat entries.now x }
+    ensures { seating (Ok result) ≡ held_seat entries.now x }
 {
     let u = directory::is_updated(entries, x);
-    Seating {
-        no: 0,
+    Seated {
         slot: x,
         updated: u,
         target: directory::Target::Old(x),
@@ -53,19 +41,18 @@ fn held_seat(entries: &[[u64; 3]], x: usize) -> Seating
 }
 
 // The seat at the next slot, unless the birth numbers are spent.
-fn new_seat(d: directory::Directory, target: directory::Target) -> Seating
+fn new_seat(d: directory::Directory, target: directory::Target) -> Result<Seated, Refusal>
     requires { d.used + 1 < 18446744073709551616 }
-    ensures { result ≡ new_seat d target }
+    ensures { seating result ≡ new_seat d target }
 {
     if d.last >= u64::MAX {
-        return refused(9);
+        return Err(Refusal::Full);
     }
-    Seating {
-        no: 0,
+    Ok(Seated {
         slot: d.used + 1,
         updated: false,
         target: target,
-    }
+    })
 }
 
 // Where a recording with a set goes, in stores that suffice and agree.
@@ -76,15 +63,15 @@ fn seat_right(
     entries: &[[u64; 3]],
     order: &[u32],
     row: &[u64; 9],
-) -> Seating
+) -> Result<Seated, Refusal>
     requires { (limit + 2 ≤ length sets.now) × (limit + 2 ≤ length entries.now) × (limit + 2 ≤ length order.now) × (size row.now ≤ 8)
         × (agreesb limit d (stores sets.now entries.now order.now) ≡ true) }
-    ensures { result ≡ seated limit d (stores sets.now entries.now order.now) row.now }
+    ensures { seating result ≡ seated limit d (stores sets.now entries.now order.now) row.now }
 {
     let t = directory::find::locate_agreed(limit, d, sets, entries, order, row);
     match t {
-        directory::Target::Disagrees => refused(8),
-        directory::Target::Old(x) => held_seat(entries, x),
+        directory::Target::Disagrees => Err(Refusal::Disagrees),
+        directory::Target::Old(x) => Ok(held_seat(entries, x)),
         directory::Target::New(r) => new_seat(d, directory::Target::New(r)),
         directory::Target::Over(r) => new_seat(d, directory::Target::Over(r)),
     }
@@ -98,25 +85,25 @@ fn seat_in(
     entries: &[[u64; 3]],
     order: &[u32],
     row: &[u64; 9],
-) -> Seating
+) -> Result<Seated, Refusal>
     requires { (limit + 2 ≤ length sets.now) × (limit + 2 ≤ length entries.now) × (limit + 2 ≤ length order.now) × (size row.now ≤ 8) }
-    ensures { result ≡ seated limit d (stores sets.now entries.now order.now) row.now }
+    ensures { seating result ≡ seated limit d (stores sets.now entries.now order.now) row.now }
 {
     if !directory::check::agrees(limit, d, sets, entries, order) {
-        return refused(8);
+        return Err(Refusal::Disagrees);
     }
     seat_right(limit, d, sets, entries, order, row)
 }
 
 // The seat at the slot that a handle was found to name; 7 where it names none. The other stores play no part.
-fn found_seat(entries: &[[u64; 3]], found: directory::Found) -> Seating
-    requires { (x : ℕ) → found ≡ Held x → x < length entries.now }
+fn found_seat(entries: &[[u64; 3]], found: Result<usize, usize>) -> Result<Seated, Refusal>
+    requires { (x : ℕ) → found ≡ Ok x → x < length entries.now }
     ensures { (sets : List (List ℕ)) → ((order : List ℕ)
-        → result ≡ seat_by (record { sets = sets; entries = entries.now; order = order }) found) }
+        → seating result ≡ seat_by (record { sets = sets; entries = entries.now; order = order }) found) }
 {
     match found {
-        directory::Found::Room(_) => refused(7),
-        directory::Found::Held(x) => held_seat(entries, x),
+        Err(_) => Err(Refusal::NoHandle),
+        Ok(x) => Ok(held_seat(entries, x)),
     }
 }
 
@@ -128,23 +115,23 @@ fn seat_by_in(
     entries: &[[u64; 3]],
     order: &[u32],
     h: u64,
-) -> Seating
+) -> Result<Seated, Refusal>
     requires { (limit + 2 ≤ length sets.now) × (limit + 2 ≤ length entries.now) × (limit + 2 ≤ length order.now) }
-    ensures { result ≡ seated_by limit d (stores sets.now entries.now order.now) h }
+    ensures { seating result ≡ seated_by limit d (stores sets.now entries.now order.now) h }
 {
     if !directory::check::agrees(limit, d, sets, entries, order) {
-        return refused(8);
+        return Err(Refusal::Disagrees);
     }
     let found = directory::find::by_handle(d, entries, order, h);
     found_seat(entries, found)
 }
 
-// Where a recording with attributes goes, and their set's row; or the number that refuses it: 12, 6, 5, 8, 9. Of the kind: how many slots
-// its cells have room for, whether it takes the value, and the number with which configuring refuses its settings, 0 if none.
+// Where a recording with attributes goes, and their set's row; or the refusal: 12, 6, 5, 8, 9. Of the kind: how many slots
+// its cells have room for, whether it takes the value, and how configuring refuses its settings, if it does.
 pub fn seat(
     cells: usize,
     value: bool,
-    unset: u8,
+    unset: Result<(), Refusal>,
     limit: u64,
     d: directory::Directory,
     sets: &[[u64; 9]],
@@ -154,45 +141,39 @@ pub fn seat(
     present: bool,
     filter: &[u32],
     row: &mut [u64; 9],
-) -> Seating
-    ensures value { result ≡ unless_barred (barred_at cells value unset limit (stores sets.now entries.now order.now)
+) -> Result<Seated, Refusal>
+    ensures value { seating result ≡ unless_barred (barred_at cells value (code unset) limit (stores sets.now entries.now order.now)
         (length (given attrs.now)) (accepts limit (filter_of present filter.now)))
         (seated limit d (stores sets.now entries.now order.now)
         (row_of (canonical (filter_of present filter.now) (given attrs.now)))) }
-    ensures row_after { row.new ≡ row_unless_barred (barred_at cells value unset limit (stores sets.now entries.now order.now)
+    ensures row_after { row.new ≡ row_unless_barred (barred_at cells value (code unset) limit (stores sets.now entries.now order.now)
         (length (given attrs.now)) (accepts limit (filter_of present filter.now)))
         (row_of (canonical (filter_of present filter.now) (given attrs.now))) row.old }
 {
     let lent = room::suffices(limit, sets.len(), entries.len(), order.len(), cells);
     let ok = directory::accepted(limit, present, filter);
-    let no = first::barred(lent, value, attrs.len(), unset, ok);
-    if no != 0 {
-        return refused(no);
-    }
+    first::barred(lent, value, attrs.len(), unset, ok)?;
     sets::canon::sort_into(attrs, present, filter, row);
     seat_in(limit, d, sets, entries, order, row)
 }
 
-// Where a recording by a handle goes; or the number that refuses it: 12, 6, 8, 7. The kind's answers are those of `seat`.
+// Where a recording by a handle goes; or the refusal: 12, 6, 8, 7. The kind's answers are those of `seat`.
 pub fn seat_by(
     cells: usize,
     value: bool,
-    unset: u8,
+    unset: Result<(), Refusal>,
     limit: u64,
     d: directory::Directory,
     sets: &[[u64; 9]],
     entries: &[[u64; 3]],
     order: &[u32],
     h: u64,
-) -> Seating
-    ensures { result ≡ unless_barred (barred_at cells value unset limit (stores sets.now entries.now order.now) 0 (leb limit most_sets))
+) -> Result<Seated, Refusal>
+    ensures { seating result ≡ unless_barred (barred_at cells value (code unset) limit (stores sets.now entries.now order.now) 0 (leb limit most_sets))
         (seated_by limit d (stores sets.now entries.now order.now) h) }
 {
     let lent = room::suffices(limit, sets.len(), entries.len(), order.len(), cells);
-    let no = first::barred(lent, value, 0, unset, limit <= directory::MOST_SETS);
-    if no != 0 {
-        return refused(no);
-    }
+    first::barred(lent, value, 0, unset, limit <= directory::MOST_SETS)?;
     seat_by_in(limit, d, sets, entries, order, h)
 }
 
@@ -208,19 +189,16 @@ fn seat_agreed(
     present: bool,
     filter: &[u32],
     row: &mut [u64; 9],
-) -> Seating
+) -> Result<Seated, Refusal>
     requires { (limit + 2 ≤ length sets.now) × (limit + 2 ≤ length entries.now) × (limit + 2 ≤ length order.now)
         × (agreesb limit d (stores sets.now entries.now order.now) ≡ true) }
-    ensures value { result ≡ unless_barred (barred_by true value (length (given attrs.now)) true)
+    ensures value { seating result ≡ unless_barred (barred_by true value (length (given attrs.now)) true)
         (seated limit d (stores sets.now entries.now order.now)
         (row_of (canonical (filter_of present filter.now) (given attrs.now)))) }
     ensures row_after { row.new ≡ row_unless_barred (barred_by true value (length (given attrs.now)) true)
         (row_of (canonical (filter_of present filter.now) (given attrs.now))) row.old }
 {
-    let no = first::barred(true, value, attrs.len(), 0, true);
-    if no != 0 {
-        return refused(no);
-    }
+    first::barred(true, value, attrs.len(), Ok(()), true)?;
     sets::canon::sort_into(attrs, present, filter, row);
     seat_right(limit, d, sets, entries, order, row)
 }
@@ -234,15 +212,12 @@ fn seat_by_agreed(
     entries: &[[u64; 3]],
     order: &[u32],
     h: u64,
-) -> Seating
+) -> Result<Seated, Refusal>
     requires { (limit + 2 ≤ length sets.now) × (limit + 2 ≤ length entries.now) × (limit + 2 ≤ length order.now)
         × (agreesb limit d (stores sets.now entries.now order.now) ≡ true) }
-    ensures { result ≡ unless_barred (barred_by true value 0 true) (seated_by limit d (stores sets.now entries.now order.now) h) }
+    ensures { seating result ≡ unless_barred (barred_by true value 0 true) (seated_by limit d (stores sets.now entries.now order.now) h) }
 {
-    let no = first::barred(true, value, 0, 0, true);
-    if no != 0 {
-        return refused(no);
-    }
+    first::barred(true, value, 0, Ok(()), true)?;
     let found = directory::find::by_birth(d, entries, order, h);
     found_seat(entries, found)
 }
@@ -252,7 +227,7 @@ pub fn seat_if(
     known: bool,
     cells: usize,
     value: bool,
-    unset: u8,
+    unset: Result<(), Refusal>,
     limit: u64,
     d: directory::Directory,
     sets: &[[u64; 9]],
@@ -262,13 +237,13 @@ pub fn seat_if(
     present: bool,
     filter: &[u32],
     row: &mut [u64; 9],
-) -> Seating
-    requires { known ≡ true → Sure cells unset limit d (stores sets.now entries.now order.now) (accepts limit (filter_of present filter.now)) }
-    ensures value { result ≡ unless_barred (barred_at cells value unset limit (stores sets.now entries.now order.now)
+) -> Result<Seated, Refusal>
+    requires { known ≡ true → Sure cells (code unset) limit d (stores sets.now entries.now order.now) (accepts limit (filter_of present filter.now)) }
+    ensures value { seating result ≡ unless_barred (barred_at cells value (code unset) limit (stores sets.now entries.now order.now)
         (length (given attrs.now)) (accepts limit (filter_of present filter.now)))
         (seated limit d (stores sets.now entries.now order.now)
         (row_of (canonical (filter_of present filter.now) (given attrs.now)))) }
-    ensures row_after { row.new ≡ row_unless_barred (barred_at cells value unset limit (stores sets.now entries.now order.now)
+    ensures row_after { row.new ≡ row_unless_barred (barred_at cells value (code unset) limit (stores sets.now entries.now order.now)
         (length (given attrs.now)) (accepts limit (filter_of present filter.now)))
         (row_of (canonical (filter_of present filter.now) (given attrs.now))) row.old }
 {
@@ -287,16 +262,16 @@ pub fn seat_by_if(
     known: bool,
     cells: usize,
     value: bool,
-    unset: u8,
+    unset: Result<(), Refusal>,
     limit: u64,
     d: directory::Directory,
     sets: &[[u64; 9]],
     entries: &[[u64; 3]],
     order: &[u32],
     h: u64,
-) -> Seating
-    requires { known ≡ true → Sure cells unset limit d (stores sets.now entries.now order.now) (leb limit most_sets) }
-    ensures { result ≡ unless_barred (barred_at cells value unset limit (stores sets.now entries.now order.now) 0 (leb limit most_sets))
+) -> Result<Seated, Refusal>
+    requires { known ≡ true → Sure cells (code unset) limit d (stores sets.now entries.now order.now) (leb limit most_sets) }
+    ensures { seating result ≡ unless_barred (barred_at cells value (code unset) limit (stores sets.now entries.now order.now) 0 (leb limit most_sets))
         (seated_by limit d (stores sets.now entries.now order.now) h) }
 {
     if known {

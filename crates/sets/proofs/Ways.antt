@@ -6,19 +6,19 @@ use borrow.Author.Tests.{eq-eqb, ne_eqb}
 use lib.Dec.{eqb}
 use Rattle.sets.specs.Rows.{below}
 use Rattle.sets.specs.Inner.{way}
-use Rattle.sets.specs.declared.Way.TheVariants.{Before, Same, After}
+use Rattle.core.specs.declared.cmp.Ordering.TheVariants.{Less, Equal, Greater}
 
-pub way-lt : (o : Ordering) → way o ≡ Before → o ≡ Ordering.lt
+pub way-lt : (o : Ordering) → way o ≡ Less → o ≡ Ordering.lt
 way-lt Ordering.lt e = refl
 way-lt Ordering.eq e = cc
 way-lt Ordering.gt e = cc
 
-pub way-eq : (o : Ordering) → way o ≡ Same → o ≡ Ordering.eq
+pub way-eq : (o : Ordering) → way o ≡ Equal → o ≡ Ordering.eq
 way-eq Ordering.lt e = cc
 way-eq Ordering.eq e = refl
 way-eq Ordering.gt e = cc
 
-pub way_gt : (o : Ordering) → way o ≡ After → o ≡ Ordering.gt
+pub way_gt : (o : Ordering) → way o ≡ Greater → o ≡ Ordering.gt
 way_gt Ordering.lt e = cc
 way_gt Ordering.eq e = cc
 way_gt Ordering.gt e = refl

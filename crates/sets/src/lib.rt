@@ -8,11 +8,3 @@ pub mod set_row;
 pub const OVERFLOW: u64 = 18446744069414584321;
 
 pub const OVERFLOW_ROW: [u64; 9] = [OVERFLOW, 0, 0, 0, 0, 0, 0, 0, 1];
-
-// How one set lies to another.
-#[derive(Clone, Copy)]
-pub enum Way {
-    Before,
-    Same,
-    After,
-}

@@ -6,6 +6,8 @@ ghost use Rattle.sets.specs.All.{allb};
 ghost use Rattle.sets.specs.Rows.{size, set_of, below, key_at, soundb};
 ghost use Rattle.sets.specs.Inner.{way, Parted};
 
+use std::cmp::Ordering;
+
 // The first word from `from` on in which two rows differ, 8 if none does.
 pub fn parting(a: &[u64; 9], b: &[u64; 9], from: usize) -> usize
     requires { from ≤ 8 }
@@ -22,7 +24,7 @@ pub fn parting(a: &[u64; 9], b: &[u64; 9], from: usize) -> usize
 }
 
 // Whether the first set comes before the second, after it, or is the same: by key, value, then the shorter first.
-pub fn compare(a: &[u64; 9], b: &[u64; 9]) -> crate::Way
+pub fn compare(a: &[u64; 9], b: &[u64; 9]) -> Ordering
     requires { (size a.now ≤ 8) × (size b.now ≤ 8) }
     ensures { result ≡ way (cmp (set_of a.now) (set_of b.now)) }
 {
@@ -31,20 +33,20 @@ pub fn compare(a: &[u64; 9], b: &[u64; 9]) -> crate::Way
     let i = parting(a, b, 0);
     if i < n {
         if i >= m {
-            return crate::Way::After;
+            return Ordering::Greater;
         }
         if a[i] < b[i] {
-            return crate::Way::Before;
+            return Ordering::Less;
         }
-        return crate::Way::After;
+        return Ordering::Greater;
     }
     if n < m {
-        return crate::Way::Before;
+        return Ordering::Less;
     }
     if m < n {
-        return crate::Way::After;
+        return Ordering::Greater;
     }
-    crate::Way::Same
+    Ordering::Equal
 }
 
 // Whether the keys of n words rise, where those up to word `from` do.

@@ -5,7 +5,7 @@ ghost use Rattle.sets.specs.Rows.{size, set_of, below};
 ghost use Rattle.tally.specs.Sets.{cmp};
 ghost use Rattle.sheets.specs.Inner.{row_fine};
 
-use sets::Way;
+use std::cmp::Ordering;
 
 // Whether the words from n on, before the last, are zeros.
 fn zeros_from(row: &[u64; 9], n: usize) -> bool
@@ -47,8 +47,8 @@ pub fn ascends(a: &[u64; 9], b: &[u64; 9]) -> bool
 {
     let way = sets::set_row::compare(a, b);
     match way {
-        Way::Before => true,
-        Way::Same => false,
-        Way::After => false,
+        Ordering::Less => true,
+        Ordering::Equal => false,
+        Ordering::Greater => false,
     }
 }

@@ -19,8 +19,7 @@ use Rattle.directory.specs.Calls.{Kept, most_sets, accepts, stores_suffice}
 use Rattle.directory.proofs.Refusals.{Suffice, suffices, within}
 use Rattle.bindings.specs.Calls as Bindings
 use Rattle.bindings.specs.Calls.{fresh}
-use Rattle.seats.specs.declared.Seating.{Seating}
-use Rattle.seats.specs.Seats.{away, seated, seated_by, barred_by, committed}
+use Rattle.seats.specs.Seats.{away, seated, seated_by, barred_by, committed, Seating}
 use Rattle.seats.specs.Inner.{Fits}
 use Rattle.seats.proofs.Bars.{barred-away, barred-on}
 use Rattle.seats.proofs.Seatings.{Safe, seat-safe, by-safe}

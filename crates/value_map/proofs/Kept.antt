@@ -1,5 +1,6 @@
 -- KEPT. A recording, of any kind that pays what it owes, leaves the map agreeing as it found it, goes to its own set's slot while there is
 -- room, and leaves every other series, set and birth number as it was. Assumes nothing.
+use Rattle.std.specs.Prelude.{Ok}
 use Prim.Native.Nat.{ℕ, ◌<◌}
 use mathlib.Core.Path.{◌≡◌, refl, ◌∙◌}
 use mathlib.Core.Logic.{◌⊎◌}
@@ -14,7 +15,6 @@ use Rattle.tally.specs.Sets.{Set, canonical, Lendable}
 use Rattle.sets.specs.Rows.{set_of}
 use Rattle.sets.proofs.CallRow.{row-set, row-short, row_keyed}
 use Rattle.directory.specs.View.{set_at, sought}
-use Rattle.directory.specs.declared.Found.TheVariants as Found
 use Rattle.directory.specs.Calls.{Kept, stores_suffice}
 use Rattle.directory.proofs.Leaves.{Good, Leaves, same-leaves}
 use Rattle.seats.proofs.Keeps.{seat-good, by-good, seat-stays, by-stays}
@@ -60,7 +60,7 @@ module _ {K : Kind} {S : Store K} (W : Owed S) (w : S.Switches) (limit : ℕ) (f
     -- OWN. An accepted recording goes to its own set's slot, never to overflow, where the set is held or the named sets are fewer than the
     -- limit (under demand 3's premise, over a run: `Tells`' own, in tally/specs/Runs.antt)
     pub measure-owns : (attrs : Set) → Lendable attrs
-        → ((x : ℕ) × (sought (set_of (row_in filter attrs)) h.kept.dir.used h.kept.stores.sets h.kept.stores.order ≡ Found.Held x)) ⊎ (h.kept.dir.used < limit)
+        → ((x : ℕ) × (sought (set_of (row_in filter attrs)) h.kept.dir.used h.kept.stores.sets h.kept.stores.order ≡ Ok x)) ⊎ (h.kept.dir.used < limit)
         → (measured S limit filter h v attrs).answer ≡ success none
         → set_at (measured S limit filter h v attrs).held.kept.stores.sets (seat_of limit filter h attrs).slot ≡ canonical filter attrs
     measure-owns attrs small own =

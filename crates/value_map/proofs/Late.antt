@@ -14,8 +14,7 @@ use Rattle.tally.specs.Kind.{Kind}
 use Rattle.sets.specs.Sorted.{most_attributes}
 use Rattle.directory.specs.Calls.{stores_suffice}
 use Rattle.bindings.specs.Calls as Bindings
-use Rattle.seats.specs.declared.Seating.{Seating}
-use Rattle.seats.specs.Seats.{barred_by, unless_barred}
+use Rattle.seats.specs.Seats.{barred_by, unless_barred, Seating}
 use Rattle.seats.proofs.Bars.{barred-away, barred-on}
 use Rattle.seats.proofs.Seatings.{Late}
 use Rattle.value_map.specs.Store.{Store, Recording}

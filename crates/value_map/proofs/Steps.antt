@@ -22,8 +22,7 @@ use Rattle.sets.specs.Rows.{row_of}
 use Rattle.sets.proofs.CallRow.{row-set}
 use Rattle.directory.specs.View.{agreesb, view}
 use Rattle.directory.specs.Calls.{Kept, most_sets, few_keys, accepts}
-use Rattle.seats.specs.declared.Seating.{Seating}
-use Rattle.seats.specs.Seats.{seated, seated_by, committed}
+use Rattle.seats.specs.Seats.{seated, seated_by, committed, Seating}
 use Rattle.seats.proofs.Recording.{held_at, or_fresh, refusal, Others}
 use Rattle.seats.proofs.Faithful.{measure-away, measure-refused, measure-done, by-away, by-refused, by-done}
 use Rattle.value_map.specs.Store.{Store, Recording}

@@ -19,8 +19,7 @@ use Rattle.directory.specs.Calls.{most_sets, accepts, stores_suffice}
 use Rattle.directory.specs.declared.Directory.{Directory}
 use Rattle.directory.specs.declared.Target.{Target}
 use Rattle.bindings.specs.Calls as Bindings
-use Rattle.seats.specs.declared.Seating.{Seating}
-use Rattle.seats.specs.Seats.{seated, seated_by, barred_by, unless_barred, committed}
+use Rattle.seats.specs.Seats.{seated, seated_by, barred_by, unless_barred, committed, Seating}
 use Rattle.seats.specs.Inner.{Fits}
 use Rattle.seats.proofs.Bars.{Clear, clear, barred-on, not-barred}
 use Rattle.seats.proofs.Seatings.{Late, seat-late, by-late}

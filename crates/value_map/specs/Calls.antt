@@ -12,8 +12,7 @@ use Rattle.directory.specs.declared.Directory.{Directory}
 use Rattle.bindings.specs.Calls as Bindings
 use Rattle.bindings.specs.Calls.{said, fresh}
 use Rattle.bindings.specs.declared.Reply.{Reply}
-use Rattle.seats.specs.declared.Seating.{Seating}
-use Rattle.seats.specs.Seats.{seated, seated_by, barred_by, unless_barred, committed}
+use Rattle.seats.specs.Seats.{seated, seated_by, barred_by, unless_barred, committed, Seating}
 use Rattle.value_map.specs.Store.{Store}
 
 -- the map as it is lent: the directory with its stores, and the series' stores

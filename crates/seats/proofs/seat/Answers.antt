@@ -14,9 +14,8 @@ use Rattle.sets.specs.Sorted.{attribute, given, filter_of}
 use Rattle.directory.specs.View.{Stores, stores}
 use Rattle.directory.specs.Calls.{accepts, stores_suffice}
 use Rattle.directory.proofs.Refusals.{suffices}
-use Rattle.seats.specs.Seats.{away, barred_by, seated}
+use Rattle.seats.specs.Seats.{away, barred_by, seated, Seating}
 use Rattle.seats.specs.Inner.{barred_at}
-use Rattle.seats.specs.declared.Seating.{Seating}
 use Rattle.seats.proofs.Bars.{Clear, clear, barred-away, barred-on, row_kept, row_written}
 use Rattle.seats.proofs.seat.Goals as goal
 

@@ -9,8 +9,7 @@ use Rattle.tally.specs.Sets.{canonical}
 use Rattle.sets.specs.Rows.{row_of}
 use Rattle.sets.specs.Sorted.{attribute, given, filter_of}
 use Rattle.directory.specs.View.{Stores, stores}
-use Rattle.seats.specs.Seats.{away, barred_by, seated}
-use Rattle.seats.specs.declared.Seating.{Seating}
+use Rattle.seats.specs.Seats.{away, barred_by, seated, Seating}
 use Rattle.seats.proofs.Bars.{Clear, clear, barred-away, barred-on, row_kept, row_written}
 use Rattle.seats.proofs.seat_agreed.Goals as goal
 

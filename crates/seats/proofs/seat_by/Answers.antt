@@ -7,9 +7,8 @@ use Rattle.laws.proofs.Cases.{and-true}
 use Rattle.directory.specs.View.{Stores, stores}
 use Rattle.directory.specs.Calls.{most_sets, stores_suffice}
 use Rattle.directory.proofs.Refusals.{suffices}
-use Rattle.seats.specs.Seats.{away, barred_by, seated_by}
+use Rattle.seats.specs.Seats.{away, barred_by, seated_by, Seating}
 use Rattle.seats.specs.Inner.{barred_at}
-use Rattle.seats.specs.declared.Seating.{Seating}
 use Rattle.seats.proofs.Bars.{clear, barred-away, barred-on}
 use Rattle.seats.proofs.seat_by.Goals as goal
 

@@ -6,8 +6,7 @@ use native.Mathlib.Omega.{arith}
 use Rattle.directory.specs.View.{Stores, stores}
 use Rattle.directory.proofs.Births.{agreed-rise}
 use Rattle.directory.proofs.Laws.{few}
-use Rattle.seats.specs.Seats.{away, barred_by, seated_by}
-use Rattle.seats.specs.declared.Seating.{Seating}
+use Rattle.seats.specs.Seats.{away, barred_by, seated_by, Seating}
 use Rattle.seats.proofs.Bars.{barred-away, barred-on}
 use Rattle.seats.proofs.Seatings.{by-is, by-there}
 use Rattle.seats.proofs.seat_by_agreed.Goals as goal

@@ -3,9 +3,8 @@ use mathlib.Core.Path.{sym, ◌∙◌}
 use lib.Dec.{leb}
 use Rattle.directory.specs.View.{Stores, stores}
 use Rattle.directory.specs.Calls.{most_sets}
-use Rattle.seats.specs.Seats.{seated_by, unless_barred}
+use Rattle.seats.specs.Seats.{seated_by, unless_barred, Seating}
 use Rattle.seats.specs.Inner.{Sure}
-use Rattle.seats.specs.declared.Seating.{Seating}
 use Rattle.seats.proofs.Bars.{sure-bar}
 use Rattle.seats.proofs.seat_by_if.Goals as goal
 

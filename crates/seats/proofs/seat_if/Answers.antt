@@ -10,9 +10,8 @@ use Rattle.sets.specs.Rows.{row_of}
 use Rattle.sets.specs.Sorted.{given, filter_of}
 use Rattle.directory.specs.View.{Stores, stores}
 use Rattle.directory.specs.Calls.{accepts}
-use Rattle.seats.specs.Seats.{barred_by, seated, unless_barred}
+use Rattle.seats.specs.Seats.{barred_by, seated, unless_barred, Seating}
 use Rattle.seats.specs.Inner.{barred_at, row_unless_barred, Sure}
-use Rattle.seats.specs.declared.Seating.{Seating}
 use Rattle.seats.proofs.Bars.{sure-bar}
 use Rattle.seats.proofs.seat_if.Goals as goal
 

@@ -18,7 +18,7 @@ use Rattle.sheets.specs.declared.Header.{Header}
 use Rattle.sheets.proofs.Sheets.{read_is}
 use Rattle.sheet_reading.specs.Reading.{Outcome, ends, reading_of, reading}
 use Rattle.sheet_reading.specs.Inner.{nothing, judged, copied, Copyable}
-use Rattle.sheet_reading.specs.declared.judge.Judged.TheVariants.{Bad, Fine}
+use Rattle.std.specs.Prelude.{None, Some}
 use Rattle.sheet_reading.specs.declared.judge.Sizes.{Sizes}
 use Rattle.sheet_reading.proofs.JudgedLaws.{judged_bad, judged-fine}
 use Rattle.sheet_reading.proofs.CopiedLaws.{copied_is}
@@ -46,11 +46,11 @@ module _ (s : List ℕ) (bytes : AllBytes s) (o : Source) where
   bad-frame h = refused (ap (λ (b : Bool). b && told) h)
 
   module _ (f : framed s ≡ true) where
-    pub bad-points : judged s ≡ Bad → ends (refusal 15) o ≡ reading s o
+    pub bad-points : judged s ≡ None → ends (refusal 15) o ≡ reading s o
     unfolding good_sheet
     bad-points h = refused (ap (λ (b : Bool). b && told) f ∙ judged_bad s h)
 
-    module _ (z : Sizes) (j : judged s ≡ Fine z) where
+    module _ (z : Sizes) (j : judged s ≡ Some z) where
       good : good_sheet s ≡ true
       unfolding good_sheet
       good = and_intro (framed s) told f (judged-fine s z j).0

@@ -21,7 +21,7 @@ use Rattle.sheets.specs.Entries.{Entry, head_in, stored_from, entry_of, entry_le
 use Rattle.sheets.specs.Inner.{entry_at}
 use Rattle.sheets.specs.Lists.{joined, words_from, laid_out}
 use Rattle.sheet_reading.specs.Inner.{floats_at, sizes_of, words_in, more, judged_from, nothing, judged, copied_entry, copied, Copyable}
-use Rattle.sheet_reading.specs.declared.judge.Judged.TheVariants.{Fine}
+use Rattle.std.specs.Prelude.{Some}
 use Rattle.sheet_reading.specs.declared.judge.Sizes.{Sizes}
 use Rattle.sheet_reading.proofs.CopyLaws.{length_run, length_floats}
 use Rattle.sheet_reading.proofs.EntryLaws.{entry_row, entry-within}
@@ -207,7 +207,7 @@ put-behind f i y e o t h g =
 -- ---- all entries
 
 copied_behind : (n : ℕ) (s : List ℕ) (k i : ℕ) (row : List ℕ) (y all : Sizes) (f : Front) (o : Source) → Takes f i y
-    → judged_from n s k i row y ≡ Fine all → i + n ≤ length o.list.sets → i + n ≤ length o.list.words
+    → judged_from n s k i row y ≡ Some all → i + n ≤ length o.list.sets → i + n ≤ length o.list.words
     → copied n s k i y (laid f o) ≡ laid (longer f (entries_of n (drop k (cells s)))) o
 unfolding entry_len
 copied_behind zero s k i row y all f o t h a b = ap (λ (g : Front). laid g o) (longer-none f)

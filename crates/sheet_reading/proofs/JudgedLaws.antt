@@ -21,8 +21,7 @@ use Rattle.sheets.specs.Entries.{Entry, head_in, pos_in, neg_in, stored_from, en
 use Rattle.sheets.specs.Sheet.{points_in}
 use Rattle.sheets.specs.Inner.{entry_at, entries_at}
 use Rattle.sheet_reading.specs.Inner.{sizes_of, words_in, more, judged_from, nothing, judged}
-use Rattle.sheet_reading.specs.declared.judge.Judged.{Judged}
-use Rattle.sheet_reading.specs.declared.judge.Judged.TheVariants.{Bad, Fine}
+use Rattle.std.specs.Prelude.{Option, None, Some}
 use Rattle.sheet_reading.specs.declared.judge.Sizes.{Sizes}
 use Rattle.sheet_reading.proofs.EntryLaws.{entry-within}
 use Rattle.sheet_reading.proofs.SizeLaws.{width-least}
@@ -100,25 +99,25 @@ module _ (s : List ℕ) (k : ℕ) (h : entry_at s k ≡ true) where
 
 -- ---- judged
 
-none_left : (b c : Bool) (y : Sizes) → c ≡ true → pick b (Fine y) Bad ≡ pick (b && c) (Fine (with y [])) Bad
+none_left : (b c : Bool) (y : Sizes) → c ≡ true → pick b (Some y) None ≡ pick (b && c) (Some (with y [])) None
 unfolding pick
 none_left false c y e = refl
 none_left true c y e =
     let z : y ≡ with y [] = λ i. record { bounds = sym (add-zero y.bounds) i; pos = sym (add-zero y.pos) i; neg = sym (add-zero y.neg) i } in
-    ap Fine z ∙ sym (ap (λ (b : Bool). pick b (Fine (with y [])) Bad) e)
+    ap Some z ∙ sym (ap (λ (b : Bool). pick b (Some (with y [])) None) e)
 
-one_left : (a f b c : Bool) (x z : Sizes) (r : Judged) → r ≡ pick (b && c) (Fine x) Bad → (a ≡ true → x ≡ z)
-    → pick (a && f) r Bad ≡ pick ((a && b) && (f && c)) (Fine z) Bad
+one_left : (a f b c : Bool) (x z : Sizes) (r : Option Sizes) → r ≡ pick (b && c) (Some x) None → (a ≡ true → x ≡ z)
+    → pick (a && f) r None ≡ pick ((a && b) && (f && c)) (Some z) None
 unfolding pick
 one_left false f b c x z r h g = refl
-one_left true false b c x z r h g = sym (pick-false (b && false) (Fine z) Bad (and-false b))
-one_left true true b c x z r h g = h ∙ ap (λ (y : Sizes). pick (b && c) (Fine y) Bad) (g refl)
+one_left true false b c x z r h g = sym (pick-false (b && false) (Some z) None (and-false b))
+one_left true true b c x z r h g = h ∙ ap (λ (y : Sizes). pick (b && c) (Some y) None) (g refl)
 
 abbrev passes : ℕ → List ℕ → ℕ → ℕ → List ℕ → Bool
 passes n s k i row = entries_at n s k && behind i (set_of row) (entries_of n (drop k (cells s)))
 
 pub judged-is : (n : ℕ) (s : List ℕ) (k i : ℕ) (row : List ℕ) (y : Sizes)
-    → judged_from n s k i row y ≡ pick (passes n s k i row) (Fine (with y (entries_of n (drop k (cells s))))) Bad
+    → judged_from n s k i row y ≡ pick (passes n s k i row) (Some (with y (entries_of n (drop k (cells s))))) None
 unfolding entries_at entry_of entry_len
 judged-is zero s k i row y = none_left (eqb (length (drop k (cells s))) 0) (behind i (set_of row) []) y (behind-none i (set_of row))
 judged-is (suc n) s k i row y =
@@ -129,10 +128,10 @@ judged-is (suc n) s k i row y =
     let d : entries_of n (drop (k + m) (cells s)) ≡ es = ap (entries_of n) (sym (drop-drop m k (cells s))) in
     let f : Bool = eqb i 0 || below (cmp (set_of row) (set_of (take 9 l))) in
     let ih = judged-is n s (k + m) (suc i) (take 9 l) (more y z)
-    ∙ ap (λ (x : List Entry). pick (entries_at n s (k + m) && behind (suc i) (set_of (take 9 l)) x) (Fine (with (more y z) x)) Bad) d in
+    ∙ ap (λ (x : List Entry). pick (entries_at n s (k + m) && behind (suc i) (set_of (take 9 l)) x) (Some (with (more y z) x)) None) d in
     one_left (entry_at s k) f (entries_at n s (k + m)) (behind (suc i) (set_of (take 9 l)) es) (with (more y z) es) (with y (entry_of l ∷ es))
     (judged_from n s (k + m) (suc i) (take 9 l) (more y z)) ih (λ h. taken s k h y es)
-    ∙ ap (λ (b : Bool). pick ((entry_at s k && entries_at n s (k + m)) && b) (Fine (with y (entry_of l ∷ es))) Bad)
+    ∙ ap (λ (b : Bool). pick ((entry_at s k && entries_at n s (k + m)) && b) (Some (with y (entry_of l ∷ es))) None)
     (sym (behind-first i (set_of row) (entry_of l) es ∙ ap (λ (b : Bool). f && b) (behind-next i (entry_of l) es)))
 
 -- ---- a whole sheet
@@ -141,20 +140,20 @@ length-entries : (n : ℕ) (l : List ℕ) → length (entries_of n l) ≡ n
 length-entries zero l = refl
 length-entries (suc n) l = ap suc (length-entries n (drop (entry_len (head_in l)) l))
 
-abbrev sizes_in : Judged → Sizes
-sizes_in Bad = nothing
-sizes_in (Fine z) = z
+abbrev sizes_in : Option Sizes → Sizes
+sizes_in None = nothing
+sizes_in (Some z) = z
 
-abbrev fine? : Judged → Bool
-fine? Bad = false
-fine? (Fine z) = true
+abbrev fine? : Option Sizes → Bool
+fine? None = false
+fine? (Some z) = true
 
-picked_bad : (b : Bool) (z : Sizes) → pick b (Fine z) Bad ≡ Bad → b ≡ false
+picked_bad : (b : Bool) (z : Sizes) → pick b (Some z) None ≡ None → b ≡ false
 unfolding pick
 picked_bad true z h = ap fine? h
 picked_bad false z h = refl
 
-picked-fine : (b : Bool) (x z : Sizes) → pick b (Fine x) Bad ≡ Fine z → (b ≡ true) × (x ≡ z)
+picked-fine : (b : Bool) (x z : Sizes) → pick b (Some x) None ≡ Some z → (b ≡ true) × (x ≡ z)
 unfolding pick
 picked-fine true x z h = (refl, ap sizes_in h)
 picked-fine false x z h = true-not-false (sym (ap fine? h))
@@ -166,14 +165,14 @@ module _ (s : List ℕ) where
   abbrev entries : List Entry
   entries = entries_of (points_in s) (drop 3 (cells s))
 
-  judged-all : judged s ≡ pick (entries_at n s 3 && ascending entries) (Fine (with nothing entries)) Bad
+  judged-all : judged s ≡ pick (entries_at n s 3 && ascending entries) (Some (with nothing entries)) None
   unfolding judged
   judged-all = judged-is n s 3 0 [] nothing
 
-  pub judged_bad : judged s ≡ Bad → (entries_at n s 3 && ascending entries) ≡ false
+  pub judged_bad : judged s ≡ None → (entries_at n s 3 && ascending entries) ≡ false
   judged_bad h = picked_bad (entries_at n s 3 && ascending entries) (with nothing entries) (sym judged-all ∙ h)
 
-  pub judged-fine : (z : Sizes) → judged s ≡ Fine z
+  pub judged-fine : (z : Sizes) → judged s ≡ Some z
       → ((entries_at n s 3 && ascending entries) ≡ true)
       × (z.pos ≡ sum (λ e. length e.1.pos) entries)
       × (z.neg ≡ sum (λ e. length e.1.neg) entries)

@@ -22,8 +22,7 @@ use Rattle.sheets.specs.Sheet.{points_in}
 use Rattle.sheets.specs.Inner.{framed, head_fine, entry_at}
 use Rattle.sheets.proofs.SetLaws.{length-row}
 use Rattle.sheet_reading.specs.Inner.{There, sizes_of, words_in, more, Few, judged_from, Addable, nothing, judged}
-use Rattle.sheet_reading.specs.declared.judge.Judged.{Judged}
-use Rattle.sheet_reading.specs.declared.judge.Judged.TheVariants.{Bad, Fine}
+use Rattle.std.specs.Prelude.{Option, None, Some}
 use Rattle.sheet_reading.specs.declared.judge.Sizes.{Sizes}
 use Rattle.sheet_reading.proofs.EntryLaws.{within-there, head-run, entry_row, entry-head, entry-within}
 use Rattle.sheet_reading.proofs.FrameLaws.{framed-long, framed-few, framed-points}
@@ -68,31 +67,31 @@ module _ (s : List ℕ) (n : ℕ) (y : Sizes) (row : List ℕ) (k i : ℕ) (t : 
 
   -- ---- the ends
 
-  done : n ≤ i → judged s ≡ pick (eqb (length l) 0) (Fine y) Bad
+  done : n ≤ i → judged s ≡ pick (eqb (length l) 0) (Some y) None
   done h = let e : n - i ≡ 0 = omega arith in t.work ∙ ap (λ (j : ℕ). judged_from j s k i row y) e
 
   -- words are left
-  pub end_bad : n ≤ i → k < length (cells s) → Bad ≡ judged s
-  end_bad h g = sym (done h ∙ pick-false (eqb (length l) 0) (Fine y) Bad (ne_eqb (length l) 0 (λ e. omega (arith, e, g, length-drop k (cells s)))))
+  pub end_bad : n ≤ i → k < length (cells s) → None ≡ judged s
+  end_bad h g = sym (done h ∙ pick-false (eqb (length l) 0) (Some y) None (ne_eqb (length l) 0 (λ e. omega (arith, e, g, length-drop k (cells s)))))
 
-  pub end-fine : n ≤ i → length (cells s) ≤ k → Fine y ≡ judged s
+  pub end-fine : n ≤ i → length (cells s) ≤ k → Some y ≡ judged s
   end-fine h g =
       let e : length l ≡ 0 = omega (arith, g, length-drop k (cells s)) in
-      sym (done h ∙ pick_true (eqb (length l) 0) (Fine y) Bad (eq-eqb (length l) 0 e))
+      sym (done h ∙ pick_true (eqb (length l) 0) (Some y) None (eq-eqb (length l) 0 e))
 
   -- ---- a turn
   module _ (less : i < n) where
     abbrev follows : List ℕ → Bool
     follows r = eqb i 0 || below (cmp (set_of row) (set_of r))
 
-    abbrev rest : Judged
+    abbrev rest : Option Sizes
     rest = judged_from (n - suc i) s (k + words_in (sizes_of (head_in l))) (suc i) (take 9 l) (more y (sizes_of (head_in l)))
 
-    turn : judged s ≡ pick (entry_at s k && follows (take 9 l)) rest Bad
+    turn : judged s ≡ pick (entry_at s k && follows (take 9 l)) rest None
     turn = let e : n - i ≡ suc (n - suc i) = omega (arith, less) in t.work ∙ ap (λ (j : ℕ). judged_from j s k i row y) e
 
-    pub entry_bad : entry_at s k ≡ false → Bad ≡ judged s
-    entry_bad h = sym (turn ∙ pick-false (entry_at s k && follows (take 9 l)) rest Bad (ap (λ (b : Bool). b && follows (take 9 l)) h))
+    pub entry_bad : entry_at s k ≡ false → None ≡ judged s
+    entry_bad h = sym (turn ∙ pick-false (entry_at s k && follows (take 9 l)) rest None (ap (λ (b : Bool). b && follows (take 9 l)) h))
 
     -- ---- the entry passes
     module _ (h : entry_at s k ≡ true) where
@@ -130,7 +129,7 @@ module _ (s : List ℕ) (n : ℕ) (y : Sizes) (row : List ℕ) (k i : ℕ) (t : 
             bounds = omega (arith, t.bounds, f.bounds);
             pos = omega (arith, t.pos, f.pos);
             neg = omega (arith, t.neg, f.neg);
-            work = turn ∙ pick_true (entry_at s k && follows (take 9 l)) rest Bad (and_intro (entry_at s k) (follows (take 9 l)) h g);
+            work = turn ∙ pick_true (entry_at s k && follows (take 9 l)) rest None (and_intro (entry_at s k) (follows (take 9 l)) h g);
           }
 
       -- by the rows that the code has read
@@ -141,10 +140,10 @@ module _ (s : List ℕ) (n : ℕ) (y : Sizes) (row : List ℕ) (k i : ℕ) (t : 
         pub row_small : size r ≤ 8
         row_small = subst (λ (x : List ℕ). size x ≤ 8) (sym row_is) next-size
 
-        pub order_bad : follows r ≡ false → Bad ≡ judged s
+        pub order_bad : follows r ≡ false → None ≡ judged s
         order_bad g =
             sym (turn
-            ∙ pick-false (entry_at s k && follows (take 9 l)) rest Bad
+            ∙ pick-false (entry_at s k && follows (take 9 l)) rest None
             (ap (λ (b : Bool). entry_at s k && b) (ap follows (sym row_is) ∙ g) ∙ and-false (entry_at s k)))
 
         module _ (w : List ℕ) (ew : w ≡ run s (k + 9) 12) where

@@ -25,8 +25,7 @@ use Rattle.sheets.specs.Sheet.{info_in, points_in}
 use Rattle.sheets.specs.Inner.{records_in, good_shape, good_header, framed, head_fine, entry_at}
 use Rattle.sheets.specs.Lists.{fits_in}
 use Rattle.sheet_reading.specs.Inner.{There, sizes_of, words_in, more, Few, judged_from, Addable, nothing, judged, copied_entry, copied, EntryRoom, Copyable}
-use Rattle.sheet_reading.specs.declared.judge.Judged.{Judged}
-use Rattle.sheet_reading.specs.declared.judge.Judged.TheVariants.{Bad, Fine}
+use Rattle.std.specs.Prelude.{Option, None, Some}
 use Rattle.sheet_reading.specs.declared.judge.Sizes.{Sizes}
 use Rattle.sheet_reading.proofs.CopyLaws.{length_run, length_floats}
 use Rattle.sheet_reading.proofs.EntryLaws.{within-there, head-run, entry-head, entry-within}
@@ -34,34 +33,34 @@ use Rattle.sheet_reading.proofs.SizeLaws.{head_few}
 
 -- ---- judged fine
 
-abbrev fine? : Judged → Bool
-fine? Bad = false
-fine? (Fine z) = true
+abbrev fine? : Option Sizes → Bool
+fine? None = false
+fine? (Some z) = true
 
-abbrev sizes_in : Judged → Sizes
-sizes_in Bad = nothing
-sizes_in (Fine z) = z
+abbrev sizes_in : Option Sizes → Sizes
+sizes_in None = nothing
+sizes_in (Some z) = z
 
-pick-fine : (b : Bool) (x : Judged) (all : Sizes) → pick b x Bad ≡ Fine all → (b ≡ true) × (x ≡ Fine all)
+pick-fine : (b : Bool) (x : Option Sizes) (all : Sizes) → pick b x None ≡ Some all → (b ≡ true) × (x ≡ Some all)
 unfolding pick
 pick-fine true x all h = (refl, h)
 pick-fine false x all h = true-not-false (sym (ap fine? h))
 
 -- the next entry passes its tests, and so do those behind it
-module _ (n : ℕ) (s : List ℕ) (k i : ℕ) (row : List ℕ) (y all : Sizes) (h : judged_from (suc n) s k i row y ≡ Fine all) where
+module _ (n : ℕ) (s : List ℕ) (k i : ℕ) (row : List ℕ) (y all : Sizes) (h : judged_from (suc n) s k i row y ≡ Some all) where
   abbrev l : List ℕ
   l = drop k (cells s)
 
   abbrev test : Bool
   test = entry_at s k && (eqb i 0 || below (cmp (set_of row) (set_of (take 9 l))))
 
-  abbrev rest : Judged
+  abbrev rest : Option Sizes
   rest = judged_from n s (k + words_in (sizes_of (head_in l))) (suc i) (take 9 l) (more y (sizes_of (head_in l)))
 
   pub judged-entry : entry_at s k ≡ true
   judged-entry = and_left (entry_at s k) _ (pick-fine test rest all h).0
 
-  pub judged-rest : rest ≡ Fine all
+  pub judged-rest : rest ≡ Some all
   judged-rest = (pick-fine test rest all h).1
 
 -- no more than all entries take
@@ -70,9 +69,9 @@ pub record AtMost (y all : Sizes) : Type 0 where
   pub pos : y.pos ≤ all.pos
   pub neg : y.neg ≤ all.neg
 
-judged-adds : (n : ℕ) (s : List ℕ) (k i : ℕ) (row : List ℕ) (y all : Sizes) → judged_from n s k i row y ≡ Fine all → AtMost y all
+judged-adds : (n : ℕ) (s : List ℕ) (k i : ℕ) (row : List ℕ) (y all : Sizes) → judged_from n s k i row y ≡ Some all → AtMost y all
 judged-adds zero s k i row y all h =
-    let e : y ≡ all = ap sizes_in (pick-fine (eqb (length (drop k (cells s))) 0) (Fine y) all h).1 in
+    let e : y ≡ all = ap sizes_in (pick-fine (eqb (length (drop k (cells s))) 0) (Some y) all h).1 in
     record {
       bounds = omega (arith, ap (λ (z : Sizes). z.bounds) e);
       pos = omega (arith, ap (λ (z : Sizes). z.pos) e);
@@ -152,7 +151,7 @@ pub record Left (s : List ℕ) (n : ℕ) (o₀ : Source) (y : Sizes) (k i : ℕ)
   pub bounds : y.bounds ≤ i * 160
   pub pos : y.pos ≤ i * 160
   pub neg : y.neg ≤ i * 160
-  pub fine : judged_from (n - i) s k i row y ≡ Fine all
+  pub fine : judged_from (n - i) s k i row y ≡ Some all
   pub room : Roomy n all o₀
   pub long : AsLong o₀ o
   pub work : copied n s 3 0 nothing o₀ ≡ copied (n - i) s k i y o
@@ -193,7 +192,7 @@ module _ {s : List ℕ} {n : ℕ} {o₀ : Source} {y : Sizes} {k i : ℕ} {o : S
   one_less : n - i ≡ suc (n - suc i)
   one_less = omega arith
 
-  next-fine : judged_from (suc (n - suc i)) s k i t.row y ≡ Fine t.all
+  next-fine : judged_from (suc (n - suc i)) s k i t.row y ≡ Some t.all
   next-fine = ap (λ (j : ℕ). judged_from j s k i t.row y) (sym one_less) ∙ t.fine
 
   next-passes : entry_at s k ≡ true

@@ -16,8 +16,7 @@ use Rattle.sheets.specs.Sheet.{points_in}
 use Rattle.sheets.specs.Inner.{framed, filled, entry_at}
 use Rattle.point.specs.Handing.{stored_in, agrees_alone}
 use Rattle.sheets.specs.Lists.{fits_in}
-use Rattle.sheet_reading.specs.declared.judge.Judged.{Judged}
-use Rattle.sheet_reading.specs.declared.judge.Judged.TheVariants.{Bad, Fine}
+use Rattle.std.specs.Prelude.{Option, None, Some}
 use Rattle.sheet_reading.specs.declared.judge.Sizes.{Sizes}
 
 -- ---- words of the sheet
@@ -57,13 +56,13 @@ pub record Few (z : Sizes) : Type 0 where
   pub neg : z.neg ≤ 160
 
 -- n entries from word k on, the first at place i behind the set of a row, with what those before them take
-abbrev pub judged_from : ℕ → List ℕ → ℕ → ℕ → List ℕ → Sizes → Judged
-judged_from zero s k i row y = pick (eqb (length (drop k (cells s))) 0) (Fine y) Bad
+abbrev pub judged_from : ℕ → List ℕ → ℕ → ℕ → List ℕ → Sizes → Option Sizes
+judged_from zero s k i row y = pick (eqb (length (drop k (cells s))) 0) (Some y) None
 judged_from (suc n) s k i row y =
     let l = drop k (cells s) in
     pick (entry_at s k && (eqb i 0 || below (cmp (set_of row) (set_of (take 9 l)))))
     (judged_from n s (k + words_in (sizes_of (head_in l))) (suc i) (take 9 l) (more y (sizes_of (head_in l))))
-    Bad
+    None
 
 -- two that can be added
 pub record Addable (y z : Sizes) : Type 0 where
@@ -74,7 +73,7 @@ pub record Addable (y z : Sizes) : Type 0 where
 abbrev pub nothing : Sizes
 nothing = record { bounds = 0; pos = 0; neg = 0 }
 
-unfoldable pub judged : List ℕ → Judged
+unfoldable pub judged : List ℕ → Option Sizes
 judged s = judged_from (points_in s) s 3 0 [] nothing
 
 -- ---- copied
@@ -119,5 +118,5 @@ pub record Copyable (s : List ℕ) (n : ℕ) (o : Source) : Type 0 where
   pub sizes : Sizes
   pub framed : framed s ≡ true
   pub many : n ≡ points_in s
-  pub fine : judged s ≡ Fine sizes
+  pub fine : judged s ≡ Some sizes
   pub room : fits_in n sizes.pos sizes.neg sizes.bounds o ≡ true

@@ -7,18 +7,12 @@ use Rattle.laws.specs.Said.{Said, refusal, success}
 use Rattle.pooling.specs.Lists.{Source}
 use Rattle.sheets.specs.Sheet.{Sheet, read_sheet}
 use Rattle.sheets.specs.Lists.{laid_out, roomy}
-use Rattle.sheet_reading.specs.declared.Answer.{Answer}
-use Rattle.sheet_reading.specs.declared.Answer.TheVariants.{Refused, Is}
 use Rattle.sheet_reading.specs.declared.Listed.{Listed}
 
 -- the header and how many points, with the lent stores afterwards
 pub record Outcome : Type 0 where
   pub answer : Said Listed
   pub lent : Source
-
-abbrev pub said : Answer → Said Listed
-said (Refused n) = refusal n
-said (Is l) = success l
 
 abbrev pub ends : Said Listed → Source → Outcome
 ends r o = record { answer = r; lent = o }

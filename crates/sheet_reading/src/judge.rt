@@ -22,13 +22,6 @@ pub struct Sizes {
     pub neg: usize,
 }
 
-// What the points take together, if the entries are such.
-#[derive(Clone, Copy)]
-pub enum Judged {
-    Bad,
-    Fine(Sizes),
-}
-
 // Whether twelve words are a point's, in the form of a sheet, with no more bounds and counts than agreement allows.
 fn head_fine(w: [u64; 12]) -> bool
     ensures { result ≡ head_fine w }
@@ -160,7 +153,7 @@ pub fn added(y: Sizes, z: Sizes) -> Sizes
 }
 
 // What the n points of a sheet take together, if its entries are those of points that could have been written, and nothing else follows.
-pub fn judge(s: &[u8], n: usize) -> Judged
+pub fn judge(s: &[u8], n: usize) -> Option<Sizes>
     requires { (framed s.now ≡ true) × (n ≡ points_in s.now) }
     ensures { result ≡ judged s.now }
 {
@@ -175,11 +168,11 @@ pub fn judge(s: &[u8], n: usize) -> Judged
     let mut i: usize = 0;
     while i < n {
         if !entry_holds(s, many, k) {
-            return Judged::Bad;
+            return None;
         }
         let row = row_at(s, k);
         if !may_follow(i, &last, &row) {
-            return Judged::Bad;
+            return None;
         }
         let z = sizes_of(head_at(s, k + 9));
         all = added(all, z);
@@ -188,9 +181,9 @@ pub fn judge(s: &[u8], n: usize) -> Judged
         i += 1;
     }
     if k < many {
-        return Judged::Bad;
+        return None;
     }
-    Judged::Fine(all)
+    Some(all)
 }
 
 // Whether stores of so many have room for n points that take so much.

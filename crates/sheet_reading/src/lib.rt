@@ -8,9 +8,10 @@ mod words;
 
 ghost use Rattle.std.specs.Prelude.{◌≡◌};
 ghost use Rattle.pooling.specs.Lists.{source};
-ghost use Rattle.sheet_reading.specs.Reading.{said, ends, reading};
+ghost use Rattle.refusals.specs.Refusals.{said};
+ghost use Rattle.sheet_reading.specs.Reading.{ends, reading};
 
-use judge::Judged;
+use refusals::Refusal;
 use sheets::Header;
 
 // A sheet's header, and how many points of it lie in the list.
@@ -18,13 +19,6 @@ use sheets::Header;
 pub struct Listed {
     pub header: Header,
     pub points: usize,
-}
-
-// What was read, or document 02's number.
-#[derive(Clone, Copy)]
-pub enum Answer {
-    Refused(u8),
-    Is(Listed),
 }
 
 // Reads a sheet: its points over the front of the lent stores, the bounds of explicit ones among them; or refuses, with nothing changed: 15
@@ -36,33 +30,30 @@ pub fn read(
     pos: &mut [u64],
     neg: &mut [u64],
     bounds: &mut [f64],
-) -> Answer
+) -> Result<Listed, Refusal>
     ensures { ends (said result) (source sets.new words.new pos.new neg.new bounds.new)
         ≡ reading s.now (source sets.old words.old pos.old neg.old bounds.old) }
 {
     records::words::know_bytes(s);
     if !frame::frame_holds(s) {
-        return Answer::Refused(15);
+        return Err(Refusal::NotASheet);
     }
     let n = frame::points_in(s);
-    let verdict = judge::judge(s, n);
-    match verdict {
-        Judged::Bad => Answer::Refused(15),
-        Judged::Fine(z) => {
-            if !judge::fits(
-                n,
-                z,
-                sets.len(),
-                words.len(),
-                pos.len(),
-                neg.len(),
-                bounds.len(),
-            ) {
-                return Answer::Refused(10);
-            }
-            let header = frame::header_in(s);
-            copy::copy_points(s, n, sets, words, pos, neg, bounds);
-            Answer::Is(Listed { header, points: n })
-        }
+    let Some(z) = judge::judge(s, n) else {
+        return Err(Refusal::NotASheet);
+    };
+    if !judge::fits(
+        n,
+        z,
+        sets.len(),
+        words.len(),
+        pos.len(),
+        neg.len(),
+        bounds.len(),
+    ) {
+        return Err(Refusal::NoRoom);
     }
+    let header = frame::header_in(s);
+    copy::copy_points(s, n, sets, words, pos, neg, bounds);
+    Ok(Listed { header, points: n })
 }

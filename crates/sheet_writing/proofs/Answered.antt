@@ -16,14 +16,14 @@ use Rattle.pooling.specs.Lists.{Source}
 use Rattle.sheets.specs.Entries.{Entry}
 use Rattle.sheets.specs.Sheet.{Sheet, written, writable}
 use Rattle.sheets.specs.declared.Header.{Header}
-use Rattle.sheet_writing.specs.declared.judge.Judged.TheVariants.{Fine}
+use Rattle.std.specs.Prelude.{Some}
 use Rattle.sheet_writing.specs.Inner.{judged, no_kind, put_sheet}
 use Rattle.sheet_writing.specs.Writing.{ends, writing_of, shadowed, no_whole, writing}
 use Rattle.sheet_writing.proofs.Judged.{Sheeted, judged-fine}
 use Rattle.sheet_writing.proofs.PutLaws.{written-long, put_is}
 use Rattle.sheet_writing.proofs.Wholes.{of, kinds-whole, all-real, writing-reals}
 
-module _ (h : Header) (n : ℕ) (x : Source) (out : List ℕ) (c : ℕ) (fine : judged n x ≡ Fine c) where
+module _ (h : Header) (n : ℕ) (x : Source) (out : List ℕ) (c : ℕ) (fine : judged n x ≡ Some c) where
   s : Sheeted h n x c
   s = judged-fine h n x c fine
 
@@ -52,7 +52,7 @@ module _ (h : Header) (n : ℕ) (x : Source) (out : List ℕ) (c : ℕ) (fine : 
       ∙ sym (by-room ∙ pick_true (leb (length (written t)) (length out)) _ _ (le-leb (length (written t)) (length out) (omega (arith, long))))
 
 -- 11 of a list that was judged fine, where a point is of i64 values
-pub whole-refused : (h : Header) (n : ℕ) (x : Source) (out : List ℕ) (c : ℕ) → judged n (shadowed x) ≡ Fine c → no_kind n x.list.words ≡ false
+pub whole-refused : (h : Header) (n : ℕ) (x : Source) (out : List ℕ) (c : ℕ) → judged n (shadowed x) ≡ Some c → no_kind n x.list.words ≡ false
     → ends (refusal 11) out ≡ writing h n x out
 unfolding writing
 whole-refused h n x out c fine k =

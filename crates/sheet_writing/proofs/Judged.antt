@@ -36,8 +36,8 @@ use Rattle.sheets.specs.declared.Header.{Header}
 use Rattle.sheets.proofs.EntryParts.{head-twelve}
 use Rattle.sheets.proofs.SameLists.{no_test}
 use Rattle.sheets.proofs.SetLaws.{length-row, row-few}
-use Rattle.sheet_writing.specs.declared.judge.Judged.{Judged}
-use Rattle.sheet_writing.specs.declared.judge.Judged.TheVariants.{Bad, Fine}
+use Rattle.std.specs.Prelude.{None, Some}
+use Rattle.std.specs.Prelude as Std
 use Rattle.sheet_writing.specs.Inner.{origin, follows, row_taken, step_at, width_at, judged_from, judged}
 use Rattle.sheets.specs.Lists.{whole_found, listed}
 use Rattle.sheet_writing.specs.Writing.{Outcome, ends, writing_of, shadowed, no_whole, writing}
@@ -54,9 +54,9 @@ first_behind i sets (e ∷ es) = eqb i 0 || below (cmp (set_of (get_or sets (i -
 abbrev good_from : Cursor → Source → List Entry → Bool
 good_from at x es = first_behind at.place x.list.sets es && (ascending es && all entry_fine es)
 
-abbrev pub verdict : Cursor → ℕ → Source → Option (List Entry) → Judged
-verdict at k x none = Bad
-verdict at k x (some es) = pick (good_from at x es) (Fine (k + length (entries_words es))) Bad
+abbrev pub verdict : Cursor → ℕ → Source → Option (List Entry) → Std.Option ℕ
+verdict at k x none = None
+verdict at k x (some es) = pick (good_from at x es) (Some (k + length (entries_words es))) None
 
 -- the points from a cursor on
 abbrev pub from : ℕ → Cursor → Source → Option (List Entry)
@@ -188,7 +188,7 @@ module _ (at : Cursor) (x : Source) (e : Listing.Entry) (p : Passed at x e) wher
       let d = entry_here at x e in
       let w : k + width_at at e + length (entries_words es) ≡ k + length (entry_words d ++ entries_words es) =
       omega (arith, long-here, length-append (entry_words d) (entries_words es)) in
-      λ i. pick (sym (good-here es) i) (Fine (w i)) Bad
+      λ i. pick (sym (good-here es) i) (Some (w i)) None
 
 -- ---- and one that does not
 
@@ -226,15 +226,15 @@ module _ (n : ℕ) (at : Cursor) (k : ℕ) (x : Source) (prior : Prior at x) (h 
         let found : Is e ≡ step_at at x = agreeing_in at x (whole_at at x) e w (and_right (exact d.1) _ c.1) ∙ step_is at x taken in
         true-not-false (ap present (found ∙ h))
 
-    rest_bad : (y : Option (List Entry)) → verdict at k x (Option.map (λ l. entry_here at x e ∷ l) y) ≡ Bad
+    rest_bad : (y : Option (List Entry)) → verdict at k x (Option.map (λ l. entry_here at x e ∷ l) y) ≡ None
     rest_bad none = refl
-    rest_bad (some es) = pick-false (good_from at x (entry_here at x e ∷ es)) _ Bad (no_test _ (not_good es))
+    rest_bad (some es) = pick-false (good_from at x (entry_here at x e ∷ es)) _ None (no_test _ (not_good es))
 
-  by_whole : row_there at x ≡ true → (f : Found) → whole_at at x ≡ f → verdict at k x (from (suc n) at x) ≡ Bad
+  by_whole : row_there at x ≡ true → (f : Found) → whole_at at x ≡ f → verdict at k x (from (suc n) at x) ≡ None
   by_whole t NoPoint w = ap (verdict at k x) (pointless n at x t w)
   by_whole t (Is e) w = ap (verdict at k x) (read-on n at x t e w) ∙ rest_bad t e w (from n e.next x)
 
-  verdict_bad : verdict at k x (from (suc n) at x) ≡ Bad
+  verdict_bad : verdict at k x (from (suc n) at x) ≡ None
   verdict_bad =
       ⊎_elim (λ t. by_whole t (whole_at at x) refl) (λ t. ap (verdict at k x) (rowless n at x t)) (flag (row_there at x))
 
@@ -255,7 +255,7 @@ module _ (x : Source) where
 
   judged-is : (n : ℕ) (at : Cursor) (k : ℕ) → Prior at x → judged_from n at k x ≡ verdict at k x (from n at x)
   unfolding pick
-  judged-is zero at k prior = let z : k ≡ k + 0 = omega arith in ap Fine z
+  judged-is zero at k prior = let z : k ≡ k + 0 = omega arith in ap Some z
   judged-is (suc n) at k prior = step-is-verdict n (judged-is n) at k prior (step_at at x) refl
 
 -- ---- as many points as were asked for
@@ -277,20 +277,20 @@ module _ (x : Source) where
 
 -- ---- what a judgement says
 
-abbrev is_fine : Judged → Bool
-is_fine Bad = false
-is_fine (Fine c) = true
+abbrev is_fine : Std.Option ℕ → Bool
+is_fine None = false
+is_fine (Some c) = true
 
-abbrev cells_of : Judged → ℕ
-cells_of Bad = 0
-cells_of (Fine c) = c
+abbrev cells_of : Std.Option ℕ → ℕ
+cells_of None = 0
+cells_of (Some c) = c
 
-picked_bad : (t : Bool) (c : ℕ) → pick t (Fine c) Bad ≡ Bad → t ≡ false
+picked_bad : (t : Bool) (c : ℕ) → pick t (Some c) None ≡ None → t ≡ false
 unfolding pick
 picked_bad true c h = ap is_fine h
 picked_bad false c h = refl
 
-picked-fine : (t : Bool) (m c : ℕ) → pick t (Fine m) Bad ≡ Fine c → (t ≡ true) × (m ≡ c)
+picked-fine : (t : Bool) (m c : ℕ) → pick t (Some m) None ≡ Some c → (t ≡ true) × (m ≡ c)
 unfolding pick
 picked-fine true m c h = (refl, ap cells_of h)
 picked-fine false m c h = true-not-false (sym (ap is_fine h))
@@ -312,14 +312,14 @@ module _ (h : Header) (n : ℕ) (x : Source) where
   pub whole-verdict : n ≤ 64 → judged n x ≡ verdict origin 0 x (listed n x)
   whole-verdict l = sym (judged-most n x l) ∙ judged-is x n origin 0 (λ z. absurd (z refl))
 
-  unwritable : judged n x ≡ Bad → (es : List Entry) → listed n x ≡ some es → writable (record { header = h; points = es }) ≡ false
+  unwritable : judged n x ≡ None → (es : List Entry) → listed n x ≡ some es → writable (record { header = h; points = es }) ≡ false
   unfolding writable
   unwritable j es e =
       let t = leb (length es) most_points in
       let g = ascending es && all entry_fine es in
       ⊎_elim
       (λ l.
-      let v : verdict origin 0 x (some es) ≡ Bad = ap (verdict origin 0 x) (sym e) ∙ sym (whole-verdict l) ∙ j in
+      let v : verdict origin 0 x (some es) ≡ None = ap (verdict origin 0 x) (sym e) ∙ sym (whole-verdict l) ∙ j in
       let f : g ≡ false = sym (first_good x es) ∙ picked_bad (good_from origin x es) _ v in
       no_test (t && g) (λ w. not-both g (and_right t g w) f))
       (λ l.
@@ -327,7 +327,7 @@ module _ (h : Header) (n : ℕ) (x : Source) where
       ap (λ (b : Bool). b && g) f)
       (le_or-lt n 64)
 
-  of-fine : (c : ℕ) → n ≤ 64 → (y : Option (List Entry)) → listed n x ≡ y → verdict origin 0 x y ≡ Fine c → Sheeted h n x c
+  of-fine : (c : ℕ) → n ≤ 64 → (y : Option (List Entry)) → listed n x ≡ y → verdict origin 0 x y ≡ Some c → Sheeted h n x c
   unfolding writable
   of-fine c l none e v = true-not-false (sym (ap is_fine v))
   of-fine c l (some es) e v =
@@ -341,7 +341,7 @@ module _ (h : Header) (n : ℕ) (x : Source) where
         words = omega (arith, p.1);
       }
 
-  pub judged-fine : (c : ℕ) → judged n x ≡ Fine c → Sheeted h n x c
+  pub judged-fine : (c : ℕ) → judged n x ≡ Some c → Sheeted h n x c
   judged-fine c j =
       ⊎_elim
       (λ l. of-fine c l (listed n x) refl (sym (whole-verdict l) ∙ j))
@@ -353,25 +353,25 @@ module _ (h : Header) (n : ℕ) (x : Source) where
 pub record Turn (n : ℕ) (at : Cursor) (k : ℕ) (x : Source) (c : ℕ) : Type 0 where
   pub e : Listing.Entry
   pub step : step_at at x ≡ Is e
-  pub rest : judged_from n e.next (k + width_at at e) x ≡ Fine c
+  pub rest : judged_from n e.next (k + width_at at e) x ≡ Some c
 
 module _ (x : Source) (c : ℕ) where
-  turn_by : (n : ℕ) (at : Cursor) (k : ℕ) → judged_from (suc n) at k x ≡ Fine c → (f : Found) → step_at at x ≡ f → Turn n at k x c
+  turn_by : (n : ℕ) (at : Cursor) (k : ℕ) → judged_from (suc n) at k x ≡ Some c → (f : Found) → step_at at x ≡ f → Turn n at k x c
   turn_by n at k j NoPoint h = true-not-false (sym (ap is_fine (sym (from_bad n at k x h) ∙ j)))
   turn_by n at k j (Is e) h = record { e = e; step = h; rest = sym (from_more n at k x e h) ∙ j }
 
-  pub from-fine : (n : ℕ) (at : Cursor) (k : ℕ) → judged_from (suc n) at k x ≡ Fine c → Turn n at k x c
+  pub from-fine : (n : ℕ) (at : Cursor) (k : ℕ) → judged_from (suc n) at k x ≡ Some c → Turn n at k x c
   from-fine n at k j = turn_by n at k j (step_at at x) refl
 
   -- how many words there can be
-  pub from-few : (n : ℕ) (at : Cursor) (k : ℕ) → judged_from n at k x ≡ Fine c → (k ≤ c) × (c ≤ k + 342 * n)
+  pub from-few : (n : ℕ) (at : Cursor) (k : ℕ) → judged_from n at k x ≡ Some c → (k ≤ c) × (c ≤ k + 342 * n)
   from-few zero at k j = let e : k ≡ c = ap cells_of j in (omega arith, omega arith)
   from-few (suc n) at k j =
       let t = from-fine n at k j in
       let r = from-few n t.e.next (k + width_at at t.e) t.rest in
       (omega (arith, r.0), omega (arith, r.1, step-width at x t.e t.step))
 
-  pub judged-few : (n : ℕ) → judged n x ≡ Fine c → (n ≤ 64) × (judged_from n origin 0 x ≡ Fine c) × (c ≤ 21888)
+  pub judged-few : (n : ℕ) → judged n x ≡ Some c → (n ≤ 64) × (judged_from n origin 0 x ≡ Some c) × (c ≤ 21888)
   judged-few n j =
       ⊎_elim
       (λ (l : n ≤ 64). let f = judged-most n x l ∙ j in (l, f, omega (arith, l, (from-few n origin 0 f).1)))
@@ -400,6 +400,6 @@ module _ (h : Header) (n : ℕ) (x : Source) (out : List ℕ) where
       let t : Sheet = record { header = h; points = es } in
       eight (no_whole n x) (writable t) (writing_of t out) (f es refl) (pick-false (writable t) _ _ (f es refl))
 
-  pub judged_bad : judged n (shadowed x) ≡ Bad → writing h n x out ≡ ends (refusal 8) out
+  pub judged_bad : judged n (shadowed x) ≡ None → writing h n x out ≡ ends (refusal 8) out
   unfolding writing
   judged_bad j = refused (listed n (shadowed x)) (unwritable h n (shadowed x) j)

@@ -29,7 +29,7 @@ use Rattle.sheets.specs.Entries.{own_span, bounds_fine, exact}
 use Rattle.sheets.specs.Inner.{row_fine}
 use Rattle.sheets.specs.Sheet.{most_points}
 use Rattle.sheets.proofs.PointLaws.{Few, agreed-few, bounds-fit}
-use Rattle.sheet_writing.specs.declared.judge.Judged.TheVariants.{Bad, Fine}
+use Rattle.std.specs.Prelude.{None, Some}
 use Rattle.sheet_writing.specs.Inner.{origin, follows, row_taken, agreeing, step_at, Spanned, width_at, judged_from, judged}
 
 -- ---- the row of a set
@@ -227,11 +227,11 @@ width_few at e s = omega (arith, s.pos, s.neg, s.few_pos, s.few_neg, s.few_bound
 -- ---- the loop
 
 module _ (n : ℕ) (at : Cursor) (k : ℕ) (x : Source) where
-  pub from_bad : step_at at x ≡ NoPoint → judged_from (suc n) at k x ≡ Bad
-  from_bad h = ap (λ (f : Found). elim f [ NoPoint ↦ Bad | Is e ↦ judged_from n e.next (k + width_at at e) x ]) h
+  pub from_bad : step_at at x ≡ NoPoint → judged_from (suc n) at k x ≡ None
+  from_bad h = ap (λ (f : Found). elim f [ NoPoint ↦ None | Is e ↦ judged_from n e.next (k + width_at at e) x ]) h
 
   pub from_more : (e : Entry) → step_at at x ≡ Is e → judged_from (suc n) at k x ≡ judged_from n e.next (k + width_at at e) x
-  from_more d h = ap (λ (f : Found). elim f [ NoPoint ↦ Bad | Is e ↦ judged_from n e.next (k + width_at at e) x ]) h
+  from_more d h = ap (λ (f : Found). elim f [ NoPoint ↦ None | Is e ↦ judged_from n e.next (k + width_at at e) x ]) h
 
 -- before turn i of n: what is left is judged as the whole is
 pub record Going (n i : ℕ) (at : Cursor) (cells : ℕ) (x : Source) : Type 0 where
@@ -242,11 +242,11 @@ pub record Going (n i : ℕ) (at : Cursor) (cells : ℕ) (x : Source) : Type 0 w
 
 pub judged-most : (n : ℕ) (x : Source) → n ≤ 64 → judged_from n origin 0 x ≡ judged n x
 unfolding judged
-judged-most n x h = sym (pick_true (leb n most_points) (judged_from n origin 0 x) Bad (le-leb n most_points h))
+judged-most n x h = sym (pick_true (leb n most_points) (judged_from n origin 0 x) None (le-leb n most_points h))
 
-pub judged-over : (n : ℕ) (x : Source) → 64 < n → Bad ≡ judged n x
+pub judged-over : (n : ℕ) (x : Source) → 64 < n → None ≡ judged n x
 unfolding judged
-judged-over n x h = sym (pick-false (leb n most_points) (judged_from n origin 0 x) Bad (lt-leb n most_points h))
+judged-over n x h = sym (pick-false (leb n most_points) (judged_from n origin 0 x) None (lt-leb n most_points h))
 
 pub going_start : (n : ℕ) (x : Source) → n ≤ 64 → Going n 0 origin 0 x
 going_start n x h =
@@ -268,12 +268,12 @@ module _ (n i : ℕ) (at : Cursor) (cells : ℕ) (x : Source) (g : Going n i at 
             ∙ ap (λ (j : ℕ). judged_from (n - (i + 1)) e.next (cells + j) x) (sym v);
       }
 
-  pub going_bad : i < n → step_at at x ≡ NoPoint → Bad ≡ judged n x
+  pub going_bad : i < n → step_at at x ≡ NoPoint → None ≡ judged n x
   going_bad l h =
       let m : n - i ≡ suc (n - (i + 1)) = omega arith in
       sym (from_bad (n - (i + 1)) at cells x h) ∙ ap (λ (j : ℕ). judged_from j at cells x) (sym m) ∙ sym g.same ∙ judged-most n x g.most
 
-  pub going_end : n ≤ i → Fine cells ≡ judged n x
+  pub going_end : n ≤ i → Some cells ≡ judged n x
   going_end l =
       let m : n - i ≡ 0 = omega (arith, g.left) in
       ap (λ (j : ℕ). judged_from j at cells x) (sym m) ∙ sym g.same ∙ judged-most n x g.most

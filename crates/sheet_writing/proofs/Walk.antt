@@ -17,7 +17,7 @@ use Rattle.records.specs.Inner.{laid}
 use Rattle.sheets.specs.Sheet.{info_for}
 use Rattle.sheets.specs.declared.Header.{Header}
 use Rattle.sheets.proofs.Lengths.{payload-whole, whole_length}
-use Rattle.sheet_writing.specs.declared.judge.Judged.TheVariants.{Fine}
+use Rattle.std.specs.Prelude.{Some}
 use Rattle.sheet_writing.specs.Inner.{origin, step_at, width_at, judged_from, point_words, put_from, put_sheet, Judgement}
 use Rattle.sheet_writing.proofs.Steps.{present, step-passed, whole-next, from_more}
 use Rattle.sheet_writing.proofs.Judged.{judged-fine, from-fine, from-few, judged-few}
@@ -38,7 +38,7 @@ put-more m at info records k x s d h = ap (λ (f : Found). elim f [
 
 pub record Left (n i records : ℕ) (at : Cursor) (k : ℕ) (x : Source) : Type 0 where
   pub cells : ℕ
-  pub fine : judged_from (n - i) at (k - 3) x ≡ Fine cells
+  pub fine : judged_from (n - i) at (k - 3) x ≡ Some cells
   pub fits : records * 3 ≡ cells + 3
   pub few : records ≤ 7297
   pub most : n ≤ 64
@@ -63,7 +63,7 @@ left-start h n records x s j =
     }
 
 module _ (n i records : ℕ) (at : Cursor) (k : ℕ) (x : Source) (l : Left n i records at k x) (h : i < n) where
-  more : judged_from (suc (n - (i + 1))) at (k - 3) x ≡ Fine l.cells
+  more : judged_from (suc (n - (i + 1))) at (k - 3) x ≡ Some l.cells
   more = let m : suc (n - (i + 1)) ≡ n - i = omega arith in ap (λ (j : ℕ). judged_from j at (k - 3) x) m ∙ l.fine
 
   -- there is a point
@@ -78,7 +78,7 @@ module _ (n i records : ℕ) (at : Cursor) (k : ℕ) (x : Source) (l : Left n i 
         let t = from-fine x l.cells (n - (i + 1)) at (k - 3) more in
         t.step ∙ ap (λ (d : Entry). Is d) (same-entry (sym (step-passed at x t.e t.step).whole ∙ w))
 
-    rest : judged_from (n - (i + 1)) e.next (k - 3 + width_at at e) x ≡ Fine l.cells
+    rest : judged_from (n - (i + 1)) e.next (k - 3 + width_at at e) x ≡ Some l.cells
     rest = sym (from_more (n - (i + 1)) at (k - 3) x e turn_step) ∙ more
 
     -- its set's row is there

@@ -39,7 +39,7 @@ use Rattle.sheets.specs.Entries as S
 use Rattle.sheets.specs.Sheet.{Sheet, writable}
 use Rattle.sheets.specs.Lists.{listed}
 use Rattle.sheets.specs.declared.Header.{Header}
-use Rattle.sheet_writing.specs.declared.judge.Judged.TheVariants.{Fine}
+use Rattle.std.specs.Prelude.{Some}
 use Rattle.sheet_writing.specs.Inner.{origin, shadow_found, judged, no_kind}
 use Rattle.sheet_writing.specs.Writing.{Outcome, ends, writing_of, shadowed_row, shadowed, no_whole, writing}
 use Rattle.sheet_writing.proofs.Steps.{whole-next, judged-over}
@@ -230,8 +230,8 @@ module _ (n : ℕ) (x : Source) where
   all-real es h = kind-says (no_kinds es h)
 
   -- judged fine: then the kinds tell
-  module _ (h : Header) (c : ℕ) (fine : judged n (shadowed x) ≡ Fine c) where
-    pub kinds-real : no_kind n x.list.words ≡ true → judged n x ≡ Fine c
+  module _ (h : Header) (c : ℕ) (fine : judged n (shadowed x) ≡ Some c) where
+    pub kinds-real : no_kind n x.list.words ≡ true → judged n x ≡ Some c
     kinds-real k = sym (judged-reals n x (kind-says k) h) ∙ fine
 
     pub kinds-whole : no_kind n x.list.words ≡ false → no_whole n x ≡ false

@@ -23,8 +23,7 @@ use Rattle.sheets.specs.Entries.{head_of, words_for}
 use Rattle.sheets.specs.Sheet.{most_points, info_for}
 use Rattle.sheets.specs.Inner.{row_fine}
 use Rattle.sheets.specs.declared.Header.{Header}
-use Rattle.sheet_writing.specs.declared.judge.Judged.{Judged}
-use Rattle.sheet_writing.specs.declared.judge.Judged.TheVariants.{Bad, Fine}
+use Rattle.std.specs.Prelude.{Option, None, Some}
 
 abbrev pub origin : Cursor
 origin = record { place = 0; pos = 0; neg = 0 }
@@ -69,12 +68,12 @@ abbrev pub width_at : Cursor → Listing.Entry → ℕ
 width_at at e = words_for e.bounds.len (e.next.pos - at.pos + (e.next.neg - at.neg))
 
 -- n points from a cursor on, k words behind others; how many words there are then
-abbrev pub judged_from : ℕ → Cursor → ℕ → Source → Judged
-judged_from zero at k x = Fine k
-judged_from (suc n) at k x = elim (step_at at x) [ NoPoint ↦ Bad | Is e ↦ judged_from n e.next (k + width_at at e) x ]
+abbrev pub judged_from : ℕ → Cursor → ℕ → Source → Option ℕ
+judged_from zero at k x = Some k
+judged_from (suc n) at k x = elim (step_at at x) [ NoPoint ↦ None | Is e ↦ judged_from n e.next (k + width_at at e) x ]
 
-unfoldable pub judged : ℕ → Source → Judged
-judged n x = pick (leb n most_points) (judged_from n origin 0 x) Bad
+unfoldable pub judged : ℕ → Source → Option ℕ
+judged n x = pick (leb n most_points) (judged_from n origin 0 x) None
 
 -- no words of the first n have the kind of a point of i64 values, 2 or more
 unfoldable pub no_kind : ℕ → List (List ℕ) → Bool
@@ -105,6 +104,6 @@ put_sheet h n records x s =
 -- the points were judged fine, and there is room for their records
 pub record Judgement (n records : ℕ) (x : Source) (s : List ℕ) : Type 0 where
   pub cells : ℕ
-  pub fine : judged n x ≡ Fine cells
+  pub fine : judged n x ≡ Some cells
   pub counted : records ≡ cells / 3 + 1
   pub room : records * 32 ≤ length s

@@ -12,17 +12,11 @@ use Rattle.pooling.specs.Lists.{Source}
 use Rattle.sheets.specs.Sheet.{Sheet, written, writable}
 use Rattle.sheets.specs.Lists.{listed}
 use Rattle.sheets.specs.declared.Header.{Header}
-use Rattle.sheet_writing.specs.declared.Answer.{Answer}
-use Rattle.sheet_writing.specs.declared.Answer.TheVariants.{Refused, Written}
 
 -- the number of bytes that were written, with the lent bytes afterwards
 pub record Outcome : Type 0 where
   pub answer : Said ℕ
   pub bytes : List ℕ
-
-abbrev pub said : Answer → Said ℕ
-said (Refused n) = refusal n
-said (Written n) = success n
 
 abbrev pub ends : Said ℕ → List ℕ → Outcome
 ends r out = record { answer = r; bytes = out }

@@ -6,13 +6,6 @@ ghost use Rattle.sheet_writing.specs.Inner.{follows, row_taken, shadow_found, le
 
 use listing::{Cursor, Entry, Found};
 
-// How many words the points take, if they can be written.
-#[derive(Clone, Copy)]
-pub enum Judged {
-    Bad,
-    Fine(usize),
-}
-
 // Whether the set of row b may stand at place i, behind that of row a.
 fn may_follow(i: usize, a: &[u64; 9], b: &[u64; 9]) -> bool
     ensures { result ≡ follows i a.now b.now }
@@ -151,11 +144,11 @@ pub fn judge<'a>(
     pos: &'a [u64],
     neg: &'a [u64],
     bounds: &[f64],
-) -> Judged
+) -> Option<usize>
     ensures { result ≡ judged n (shadowed (source sets.now words.now pos.now neg.now bounds.now)) }
 {
     if n > 64 {
-        return Judged::Bad;
+        return None;
     }
     let mut at = Cursor {
         place: 0,
@@ -166,13 +159,13 @@ pub fn judge<'a>(
     let mut i: usize = 0;
     while i < n {
         let Found::Is(e) = step_at(at, sets, words, pos, neg, bounds) else {
-            return Judged::Bad;
+            return None;
         };
         cells += width_at(at, e);
         at = e.next;
         i += 1;
     }
-    Judged::Fine(cells)
+    Some(cells)
 }
 
 // Whether no words of the first n have the kind of a point of i64 values; of points that were judged fine: whether none is one.

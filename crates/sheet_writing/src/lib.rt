@@ -6,19 +6,13 @@ mod put;
 
 ghost use Rattle.std.specs.Prelude.{◌≡◌};
 ghost use Rattle.pooling.specs.Lists.{source};
-ghost use Rattle.sheet_writing.specs.Writing.{said, ends, writing};
+ghost use Rattle.refusals.specs.Refusals.{said};
+ghost use Rattle.sheet_writing.specs.Writing.{ends, writing};
 
-use judge::Judged;
+use refusals::Refusal;
 use sheets::Header;
 
-// How many bytes the sheet has, or document 02's number.
-#[derive(Clone, Copy)]
-pub enum Answer {
-    Refused(u8),
-    Written(usize),
-}
-
-// Writes the sheet of a header and the first n points of a list over the front of the lent bytes; or refuses, with nothing changed: 8 a
+// Writes the sheet of a header and the first n points of a list over the front of the lent bytes, and says how many it has; or refuses, with nothing changed: 8 a
 // point is not there, disagrees with itself under size 160 and scale 10, or has an ill-formed set, sets do not ascend strictly, or there
 // are over 64 points; 11 a point is of i64 values; 10 the bytes are too few.
 pub fn write<'a>(
@@ -30,23 +24,20 @@ pub fn write<'a>(
     neg: &'a [u64],
     bounds: &[f64],
     out: &mut [u8],
-) -> Answer
+) -> Result<usize, Refusal>
     ensures { ends (said result) out.new ≡ writing header n (source sets.now words.now pos.now neg.now bounds.now) out.old }
 {
-    let judged = judge::judge(n, sets, words, pos, neg, bounds);
-    match judged {
-        Judged::Bad => Answer::Refused(8),
-        Judged::Fine(cells) => {
-            if !judge::no_kind(n, words) {
-                return Answer::Refused(11);
-            }
-            let records = cells / 3 + 1;
-            let size = records * 32;
-            if out.len() < size {
-                return Answer::Refused(10);
-            }
-            put::put_sheet(header, n, records, sets, words, pos, neg, bounds, out);
-            Answer::Written(size)
-        }
+    let Some(cells) = judge::judge(n, sets, words, pos, neg, bounds) else {
+        return Err(Refusal::Disagrees);
+    };
+    if !judge::no_kind(n, words) {
+        return Err(Refusal::Unlike);
     }
+    let records = cells / 3 + 1;
+    let size = records * 32;
+    if out.len() < size {
+        return Err(Refusal::NoRoom);
+    }
+    put::put_sheet(header, n, records, sets, words, pos, neg, bounds, out);
+    Ok(size)
 }

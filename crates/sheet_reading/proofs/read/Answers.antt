@@ -21,9 +21,9 @@ judge-verdict-requires c =
 pub returns-then-not-fits : goal.returns-then-not-fits
 returns-then-not-fits c =
     let lent : Source = source c.args.sets.now c.args.words.now c.args.pos.now c.args.neg.now c.args.bounds.now in
-    no_room c.args.s.now c.know_bytes.ensures (lent) (sym c.frame_holds.ensures ∙ c.if-not-frame_holds.false) c.in-Fine.z
-    (sym c.in-Fine.ensures)
-    (ap (λ (n : ℕ). fits_in n c.in-Fine.z.pos c.in-Fine.z.neg c.in-Fine.z.bounds (lent)) (sym c.points_in-n.ensures) ∙ sym c.fits.ensures ∙ c.if-not-fits.true)
+    no_room c.args.s.now c.know_bytes.ensures (lent) (sym c.frame_holds.ensures ∙ c.if-not-frame_holds.false) c.in-Some.z
+    (sym c.in-Some.ensures)
+    (ap (λ (n : ℕ). fits_in n c.in-Some.z.pos c.in-Some.z.neg c.in-Some.z.bounds (lent)) (sym c.points_in-n.ensures) ∙ sym c.fits.ensures ∙ c.if-not-fits.true)
 
 pub header_in-header-requires : goal.header_in-header-requires
 header_in-header-requires c =
@@ -32,23 +32,23 @@ header_in-header-requires c =
 pub copy_points-requires : goal.copy_points-requires
 copy_points-requires c =
     record {
-      sizes = c.in-Fine.z;
+      sizes = c.in-Some.z;
       framed = sym c.frame_holds.ensures ∙ c.if-not-frame_holds.false;
       many = c.points_in-n.ensures;
-      fine = sym c.in-Fine.ensures;
+      fine = sym c.in-Some.ensures;
       room = sym c.fits.ensures ∙ c.if-not-fits.false;
     }
 
-pub returns-in-Bad : goal.returns-in-Bad
-returns-in-Bad c =
+pub returns-in_default : goal.returns-in_default
+returns-in_default c =
     let lent : Source = source c.args.sets.now c.args.words.now c.args.pos.now c.args.neg.now c.args.bounds.now in
     bad-points c.args.s.now c.know_bytes.ensures (lent) (sym c.frame_holds.ensures ∙ c.if-not-frame_holds.false)
-    (sym c.in-Bad.ensures)
+    (sym c.in_default.ensures)
 
 pub returns-else-not-fits : goal.returns-else-not-fits
 returns-else-not-fits c =
     let lent : Source = source c.args.sets.now c.args.words.now c.args.pos.now c.args.neg.now c.args.bounds.now in
-    was_read c.args.s.now c.know_bytes.ensures (lent) (sym c.frame_holds.ensures ∙ c.if-not-frame_holds.false) c.in-Fine.z
-    (sym c.in-Fine.ensures)
-    (ap (λ (n : ℕ). fits_in n c.in-Fine.z.pos c.in-Fine.z.neg c.in-Fine.z.bounds (lent)) (sym c.points_in-n.ensures) ∙ sym c.fits.ensures ∙ c.if-not-fits.false)
+    was_read c.args.s.now c.know_bytes.ensures (lent) (sym c.frame_holds.ensures ∙ c.if-not-frame_holds.false) c.in-Some.z
+    (sym c.in-Some.ensures)
+    (ap (λ (n : ℕ). fits_in n c.in-Some.z.pos c.in-Some.z.neg c.in-Some.z.bounds (lent)) (sym c.points_in-n.ensures) ∙ sym c.fits.ensures ∙ c.if-not-fits.false)
     _ _ _ c.header_in-header.ensures c.points_in-n.ensures c.copy_points.ensures

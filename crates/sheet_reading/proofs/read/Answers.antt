@@ -14,8 +14,8 @@ returns-then-not-frame_holds c =
 pub points_in-n-requires : goal.points_in-n-requires
 points_in-n-requires c = sym c.frame_holds.ensures ∙ c.if-not-frame_holds.false
 
-pub judge-verdict-requires : goal.judge-verdict-requires
-judge-verdict-requires c =
+pub judge-requires : goal.judge-requires
+judge-requires c =
     (sym c.frame_holds.ensures ∙ c.if-not-frame_holds.false, c.points_in-n.ensures)
 
 pub returns-then-not-fits : goal.returns-then-not-fits
@@ -45,8 +45,8 @@ returns-in_default c =
     bad-points c.args.s.now c.know_bytes.ensures (lent) (sym c.frame_holds.ensures ∙ c.if-not-frame_holds.false)
     (sym c.in_default.ensures)
 
-pub returns-else-not-fits : goal.returns-else-not-fits
-returns-else-not-fits c =
+pub returns : goal.returns
+returns c =
     let lent : Source = source c.args.sets.now c.args.words.now c.args.pos.now c.args.neg.now c.args.bounds.now in
     was_read c.args.s.now c.know_bytes.ensures (lent) (sym c.frame_holds.ensures ∙ c.if-not-frame_holds.false) c.in-Some.z
     (sym c.in-Some.ensures)

@@ -38,13 +38,13 @@ put_sheet-requires c =
     let fine : judged c.args.n (list) ≡ Some c.in-Some.cells = kinds-real c.args.n (list) c.args.header c.in-Some.cells (judged-so) (sym c.no_kind.ensures ∙ c.if-not-no_kind.false) in
     record { cells = c.in-Some.cells; fine = fine; counted = refl; room = c.if-out-size.false }
 
-pub returns-in-None : goal.returns-in-None
-returns-in-None c =
+pub returns-in_default : goal.returns-in_default
+returns-in_default c =
     let list : Source = let a = c.args in source a.sets.now a.words.now a.pos.now a.neg.now a.bounds.now in
-    sym (judged_bad c.args.header c.args.n (list) c.args.out.now (sym c.in-None.ensures))
+    sym (judged_bad c.args.header c.args.n (list) c.args.out.now (sym c.in_default.ensures))
 
-pub returns-else-out-size : goal.returns-else-out-size
-returns-else-out-size c =
+pub returns : goal.returns
+returns c =
     let list : Source = let a = c.args in source a.sets.now a.words.now a.pos.now a.neg.now a.bounds.now in
     let judged-so : judged c.args.n (shadowed (list)) ≡ Some c.in-Some.cells = sym c.in-Some.ensures in
     let fine : judged c.args.n (list) ≡ Some c.in-Some.cells = kinds-real c.args.n (list) c.args.header c.in-Some.cells (judged-so) (sym c.no_kind.ensures ∙ c.if-not-no_kind.false) in

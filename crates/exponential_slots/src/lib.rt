@@ -5,11 +5,12 @@ ghost use Rattle.std.specs.Prelude.{◌≡◌, true, ◌+◌, ◌*◌, ◌<◌, 
 ghost use Rattle.std.specs.Float.Ieee.Scale.{finite};
 ghost use Rattle.laws.specs.Said.{number};
 ghost use Rattle.rows.specs.Recording.{after};
-ghost use Rattle.exponential.specs.Series.{said};
+ghost use Rattle.refusals.specs.Refusals.{code, said};
 ghost use Rattle.exponential_slots.specs.Cells.{cells, narrow, readable, head_in, head_of, words_of, recorded_at};
 ghost use Rattle.exponential_slots.specs.Inner.{figures_after, extremes_after};
 
-use exponential::{Answer, Counts, Head};
+use exponential::{Counts, Head};
+use refusals::Refusal;
 use rows::Row;
 
 // The greatest u32.
@@ -92,25 +93,26 @@ pub fn words_of(c: Counts) -> [u64; 8]
     ]
 }
 
-// The new head written into the slot, or the refusal's number.
-fn keep(x: usize, figures: &mut [[u64; 8]], extremes: &mut [[f64; 3]], got: Answer) -> u8
+// The new head written into the slot, or the refusal.
+fn keep(
+    x: usize,
+    figures: &mut [[u64; 8]],
+    extremes: &mut [[f64; 3]],
+    got: Result<Head, Refusal>,
+) -> Result<(), Refusal>
     requires { (x < length figures.old) × (x < length extremes.old) }
-    ensures value { result ≡ number (said got) }
+    ensures value { code result ≡ number (said got) }
     ensures figures_after { figures.new ≡ figures_after x figures.old (said got) }
     ensures extremes_after { extremes.new ≡ extremes_after x extremes.old (said got) }
 {
-    match got {
-        Answer::Refused(no) => no,
-        Answer::Recorded(h) => {
-            let c = h.counts;
-            figures[x] = words_of(c);
-            extremes[x] = [h.min, h.max, h.sum];
-            0
-        }
-    }
+    let h = got?;
+    let c = h.counts;
+    figures[x] = words_of(c);
+    extremes[x] = [h.min, h.max, h.sum];
+    Ok(())
 }
 
-// Records a finite value into slot x, which holds a series where it was updated, and answers 0; or refuses it: 8 where the slot's words are
+// Records a finite value into slot x, which holds a series where it was updated; or refuses it: 8 where the slot's words are
 // no head or the series disagrees, 9 where its count is full.
 pub fn record(
     size: u32,
@@ -122,15 +124,15 @@ pub fn record(
     pos: &mut [u64],
     neg: &mut [u64],
     v: f64,
-) -> u8
+) -> Result<(), Refusal>
     requires { (x < length figures.old) × (x < length extremes.old)
         × (x * size + size ≤ length pos.old) × (x * size + size ≤ length neg.old) × (finite v ≡ true) }
-    ensures { after result (cells figures.new extremes.new pos.new neg.new)
+    ensures { after (code result) (cells figures.new extremes.new pos.new neg.new)
         ≡ recorded_at size top x updated (cells figures.old extremes.old pos.old neg.old) v }
 {
     let f = figures[x];
     if !can_read(updated, f) {
-        return 8;
+        return Err(Refusal::Disagrees);
     }
     let head = head_of(top, updated, f, extremes[x]);
     let n = size as usize;

@@ -1,6 +1,6 @@
 -- `explicit_slots::first` meets its contract. Assumes nothing.
 use mathlib.Core.Path.{ap, ◌∙◌}
-use Rattle.explicit.specs.Series.{said}
+use Rattle.refusals.specs.Refusals.{said}
 use Rattle.explicit_slots.proofs.Enters.{first-never, first_law}
 use Rattle.explicit_slots.proofs.first.Goals as goal
 

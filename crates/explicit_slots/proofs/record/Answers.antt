@@ -6,7 +6,7 @@ use lib.ListN.{length}
 use Rattle.rows.specs.Parts.{part_at}
 use Rattle.rows.proofs.Parts.{part_length}
 use Rattle.points.specs.Explicit.{bucket_count}
-use Rattle.explicit.specs.Series.{said}
+use Rattle.refusals.specs.Refusals.{said}
 use Rattle.explicit_slots.specs.Cells.{Cells, Room, cells}
 use Rattle.explicit_slots.proofs.Enters.{call-refused, call-recorded}
 use Rattle.explicit_slots.proofs.record.Goals as goal

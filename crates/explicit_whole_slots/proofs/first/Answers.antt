@@ -1,7 +1,8 @@
 -- `first` meets its contract. Assumes nothing.
 use mathlib.Core.Path.{ap, ◌∙◌}
 use Rattle.integers.proofs.Range.{held}
-use Rattle.explicit_wholes.specs.Series.{said, recording}
+use Rattle.refusals.specs.Refusals.{said}
+use Rattle.explicit_wholes.specs.Series.{recording}
 use Rattle.explicit_whole_slots.proofs.Enters.{first-never, first_law}
 use Rattle.explicit_whole_slots.proofs.first.Goals as goal
 

@@ -7,7 +7,7 @@ use mir.Syntax.{w64}
 use mir.Val.{SFits}
 use Rattle.laws.specs.Said.{number}
 use Rattle.integers.proofs.Range.{held}
-use Rattle.explicit_wholes.specs.Series.{said}
+use Rattle.refusals.specs.Refusals.{said}
 use Rattle.explicit_whole_slots.specs.Cells.{totals_after, extremes_after}
 use Rattle.explicit_whole_slots.proofs.keep.Goals as goal
 

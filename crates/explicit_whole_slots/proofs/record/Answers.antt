@@ -11,7 +11,7 @@ use Rattle.rows.proofs.Parts.{part_length}
 use Rattle.integers.proofs.Range.{held}
 use Rattle.points.specs.Explicit.{bucket_count}
 use Rattle.kinds.specs.Wholes.{wholes}
-use Rattle.explicit_wholes.specs.Series.{said}
+use Rattle.refusals.specs.Refusals.{code, said}
 use Rattle.explicit_whole_slots.specs.Cells.{Cells, Room, cells, entering}
 use Rattle.explicit_whole_slots.proofs.Enters.{call_kept}
 use Rattle.explicit_whole_slots.proofs.record.Goals as goal
@@ -49,4 +49,4 @@ returns c =
     let a = c.args in
     call_kept a.bounds.now a.sums a.x a.updated (lent) a.v c.bucket_count-n.result c.bucket_count-n.ensures (said c.enter-got.result) c.enter-got.new.counts
     (c.enter-got.ensures ∙ (λ j. entering a.bounds.now a.sums a.updated (c.head_with-held.ensures j) (part_at c.bucket_count-n.result a.counts.now a.x) (held a.v c.ranges.v j)))
-    c.keep.result c.keep.new.totals c.keep.new.extremes c.keep.ensures.value c.keep.ensures.totals_after c.keep.ensures.extremes_after (long) (room) (finite)
+    (code c.keep.result) c.keep.new.totals c.keep.new.extremes c.keep.ensures.value c.keep.ensures.totals_after c.keep.ensures.extremes_after (long) (room) (finite)

@@ -4,7 +4,8 @@ use mathlib.Core.Bool.{true}
 use mathlib.Core.List.{[]}
 use lib.ListN.{get_or}
 use Rattle.rows.specs.Parts.{part_at}
-use Rattle.exponential.specs.Series.{said, Outcome, recording}
+use Rattle.refusals.specs.Refusals.{code, said}
+use Rattle.exponential.specs.Series.{Outcome, recording}
 use Rattle.exponential_slots.specs.Cells.{Cells, readable, recorded_at}
 use Rattle.exponential_slots.proofs.Cases.{into, unread, called, written-by}
 use Rattle.exponential_slots.proofs.record.Goals as goal
@@ -34,6 +35,6 @@ returns c =
     ∙ ap (λ h. into a.size a.x s (recording a.size a.top h (part_at a.size s.pos a.x) (part_at a.size s.neg a.x) a.v)) (sym c.head_of-head.ensures)
     ∙ ap (into a.size a.x s) (sym c.record-got.ensures) in
     let a = c.args in
-    written-by a.size a.x (lent) c.keep.result c.keep.new.figures c.keep.new.extremes a.top c.head_of-head.result a.v (left) c.record-got.ensures
+    written-by a.size a.x (lent) (code c.keep.result) c.keep.new.figures c.keep.new.extremes a.top c.head_of-head.result a.v (left) c.record-got.ensures
     c.keep.ensures.value c.keep.ensures.figures_after c.keep.ensures.extremes_after
     ∙ sym (recorded)

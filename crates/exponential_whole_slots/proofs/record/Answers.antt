@@ -5,7 +5,8 @@ use mathlib.Core.List.{[]}
 use lib.ListN.{get_or}
 use Rattle.rows.specs.Parts.{part_at}
 use Rattle.integers.proofs.Range.{held}
-use Rattle.exponential_wholes.specs.Series.{said, Outcome, recording}
+use Rattle.refusals.specs.Refusals.{code, said}
+use Rattle.exponential_wholes.specs.Series.{Outcome, recording}
 use Rattle.exponential_slots.specs.Cells.{readable}
 use Rattle.exponential_whole_slots.specs.Cells.{Cells, recorded_at}
 use Rattle.exponential_whole_slots.proofs.Cases.{into, unread, called, written-by}
@@ -42,6 +43,6 @@ returns c =
     ∙ ap (λ h. into a.size a.x s (recording a.size a.top a.sums h (part_at a.size s.pos a.x) (part_at a.size s.neg a.x) a.v)) (sym c.head_of-head.ensures)
     ∙ ap (into a.size a.x s) (sym (series)) in
     let a = c.args in
-    written-by a.size a.x (lent) c.keep.result c.keep.new.figures c.keep.new.extremes a.top a.sums c.head_of-head.result a.v (left) (series)
+    written-by a.size a.x (lent) (code c.keep.result) c.keep.new.figures c.keep.new.extremes a.top a.sums c.head_of-head.result a.v (left) (series)
     c.keep.ensures.value c.keep.ensures.figures_after c.keep.ensures.extremes_after
     ∙ sym (recorded)

@@ -21,10 +21,10 @@ use Rattle.explicit.specs.Series.{buckets_in}
 use Rattle.explicit.specs.Inner.{Addable}
 use Rattle.point.specs.declared.Point.{Point}
 use Rattle.point.specs.declared.Figures.TheVariants.{Exponential, Explicit}
-use Rattle.point.specs.declared.Made.{Made}
-use Rattle.point.specs.declared.Made.TheVariants.{Of, NoRoom}
+use Rattle.std.specs.Prelude.{Ok, Err}
+use Rattle.refusals.specs.declared.Refusal.TheVariants.{NoRoom}
 use Rattle.point.specs.Handing.{Stored, counts_as, counts_in, handed_in, figures_for, Outcome, ended, laid_over, refusal_before, merging, count_in}
-use Rattle.point.specs.Inner.{size_fits, same_figures, figures_agree, extremes_ok, point_agrees, Over, made_over, counts_over, made_one, laid_one, finished}
+use Rattle.point.specs.Inner.{size_fits, same_figures, figures_agree, extremes_ok, point_agrees, Made, Over, made_over, counts_over, made_one, laid_one, finished}
 use Rattle.point.proofs.Laid.{addable, over-one}
 use Rattle.point.proofs.Means.{refusal_is}
 use Rattle.laws.specs.Counting.{most_count}
@@ -169,7 +169,7 @@ module _ (size : ℕ) (a b : Stored) where
     unfolding counts_over laid_over merge_handed
     laid-is =
         let c = merge_counts size (counts_in a) (counts_in b) in
-        through a b (leb (length (pos_of c)) (length us) && leb (length (neg_of c)) (length vs)) (made_over (Of (figures_for c)) (over (pos_of c) us) (over (neg_of c) vs)) (made_over NoRoom us vs)
+        through a b (leb (length (pos_of c)) (length us) && leb (length (neg_of c)) (length vs)) (made_over (Ok (figures_for c)) (over (pos_of c) us) (over (neg_of c) vs)) (made_over (Err NoRoom) us vs)
 
     pub accepted : refusal_before size a b ≡ 0
         → concluded a b (counts_over (merge_counts size (counts_in a) (counts_in b)) us vs) ≡ merging size a b us vs

@@ -24,39 +24,40 @@ use Rattle.exponential.specs.Inner.{Written}
 use Rattle.explicit.specs.Series.{buckets_in}
 use Rattle.explicit.specs.Inner.{Addable}
 use Rattle.point.specs.declared.Figures.TheVariants.{Exponential, Explicit}
-use Rattle.point.specs.declared.Made.TheVariants.{Of, NoRoom}
+use Rattle.std.specs.Prelude.{Ok, Err}
+use Rattle.refusals.specs.declared.Refusal.TheVariants.{NoRoom}
 use Rattle.point.specs.Inner.{made_over, counts_over, made_one, laid_one}
 
 -- ---- the exponential kind
 
 module _ (m : P.Point) (us vs : List ℕ) where
-  pub no-pos : length us < length m.pos.counts → made_over NoRoom us vs ≡ counts_over (exponential_counts m) us vs
+  pub no-pos : length us < length m.pos.counts → made_over (Err NoRoom) us vs ≡ counts_over (exponential_counts m) us vs
   unfolding counts_over pick
   no-pos h = rw (lt-leb (length m.pos.counts) (length us) h) refl
 
   module _ (p : length m.pos.counts ≤ length us) where
-    pub no-neg : length vs < length m.neg.counts → made_over NoRoom us vs ≡ counts_over (exponential_counts m) us vs
+    pub no-neg : length vs < length m.neg.counts → made_over (Err NoRoom) us vs ≡ counts_over (exponential_counts m) us vs
     unfolding counts_over pick
     no-neg h = rw (le-leb (length m.pos.counts) (length us) p, lt-leb (length m.neg.counts) (length vs) h) refl
 
     pub laid : length m.neg.counts ≤ length vs → (r : Counts) (us' vs' : List ℕ) → Written m us vs r us' vs'
-        → made_over (Of (Exponential r)) us' vs' ≡ counts_over (exponential_counts m) us vs
+        → made_over (Ok (Exponential r)) us' vs' ≡ counts_over (exponential_counts m) us vs
     unfolding counts_over pick
     laid n r us' vs' w =
-        (λ j. made_over (Of (Exponential (w.counts j))) (w.pos j) (w.neg j))
+        (λ j. made_over (Ok (Exponential (w.counts j))) (w.pos j) (w.neg j))
         ∙ rw (le-leb (length m.pos.counts) (length us) p, le-leb (length m.neg.counts) (length vs) n) refl
 
 -- ---- the explicit kind
 
 module _ (k n : ℕ) (xs : List ℕ) (m : ℕ) (zs us : List ℕ) where
-  pub no_one : length us < k → made_one NoRoom us ≡ laid_one k n xs m zs us
+  pub no_one : length us < k → made_one (Err NoRoom) us ≡ laid_one k n xs m zs us
   unfolding laid_one pick
   no_one h = rw (lt-leb k (length us) h) refl
 
   pub laid_one_lem : k ≤ length us → (us' : List ℕ) → us' ≡ over (added (take k xs) (take k zs)) us
-      → made_one (Of (Explicit (n + m))) us' ≡ laid_one k n xs m zs us
+      → made_one (Ok (Explicit (n + m))) us' ≡ laid_one k n xs m zs us
   unfolding laid_one pick
-  laid_one_lem h us' e = ap (made_one (Of (Explicit (n + m)))) e ∙ rw (le-leb k (length us) h) refl
+  laid_one_lem h us' e = ap (made_one (Ok (Explicit (n + m)))) e ∙ rw (le-leb k (length us) h) refl
 
 same_length : (bs cs : List Float) → same_bounds bs cs ≡ true → length bs ≡ length cs
 unfolding same_bounds

@@ -1,5 +1,6 @@
 -- A refusal's number is never 0; an answer with the number 0 is no refusal, and any other number is a refusal's. Assumes nothing.
 use Rattle.std.specs.Prelude.{◌≡◌, ◌≢◌, ℕ, Result, Ok, Err}
+use Rattle.std.specs.Result.{IsErrAnd}
 use mathlib.Core.Path.{sym, ap, ◌∙◌}
 use Rattle.std.proofs.Math.Nat.{suc-ne-zero}
 use Rattle.refusals.specs.declared.Refusal.{Refusal}
@@ -26,3 +27,8 @@ number-nonzero R.SumOutside = suc-ne-zero 15
 
 pub refused-nonzero : {A : Type 0} → (r : Result A Refusal) → (e : Refusal) → r ≡ Err e → code r ≢ 0
 refused-nonzero r e i z = number-nonzero e (sym (ap code i) ∙ z)
+
+-- what a `?` hands on is the refusal that it met
+pub passed-on : {A : Type 0} → (r : Result A Refusal) → (e : Refusal) → IsErrAnd r (λ y. y ≡ e) → r ≡ Err e
+passed-on (Ok a) e h = absurd h
+passed-on (Err y) e h = ap Err h

@@ -20,4 +20,4 @@ pub returns : goal.returns
 returns c =
     let a = c.args in
     let f = ends-both a.a a.b a.j a.k (omega (arith, c.if-m-eq0.false)) (omega (arith, c.if-n-eq0.false)) in
-    (c.lesser-low.ensures ∙ sym f.0, c.greater-high.ensures ∙ (λ i. max (c.last_bin.ensures i / 2 ^ a.j) (c.last_bin-2.ensures i / 2 ^ a.k)) ∙ sym f.1)
+    (c.min-low.ensures ∙ sym f.0, c.max-high.ensures ∙ (λ i. max (c.last_bin.ensures i / 2 ^ a.j) (c.last_bin-2.ensures i / 2 ^ a.k)) ∙ sym f.1)

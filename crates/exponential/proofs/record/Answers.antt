@@ -1,21 +1,25 @@
-use Rattle.std.proofs.Common.{◌≡◌, arith}
-use Rattle.exponential.specs.Series.{refusal_of}
+use Rattle.std.proofs.Common.{◌≡◌, sym, arith}
+use borrow.Author.Rules.{rules}
+use Rattle.std.specs.Prelude.{Err}
+use Rattle.exponential.specs.Series.{refusal_of, outcome}
+use Rattle.refusals.specs.Refusals.{said, number}
+use Rattle.laws.specs.Said.{refusal}
+use Rattle.refusals.proofs.Numbers.{number-nonzero}
 use Rattle.exponential.proofs.Call.{refused_law, accepted_law}
 use Rattle.exponential.proofs.record.Goals as goal
 
-pub returns-then-no-ne0 : goal.returns-then-no-ne0
-returns-then-no-ne0 c =
+pub returns-in_err-refusal : goal.returns-in_err-refusal
+returns-in_err-refusal c =
     let a = c.args in
-    refused_law a.size a.top a.head a.pos.now a.neg.now a.v c.refusal-no.result c.refusal-no.ensures (λ z. omega (arith, z, c.if-no-ne0.true))
+    let e = c.in_err-refusal.field-0.0 in
+    let k : c.from_residual.result ≡ Err e = search rules in
+    rw k (refused_law a.size a.top a.head a.pos.now a.neg.now a.v (number e) (c.in_err-refusal.ensures) (number-nonzero e))
 
 pub count_in-next-requires : goal.count_in-next-requires
-count_in-next-requires c =
-    let passed : refusal_of c.args.size c.args.top c.args.head c.args.pos.now c.args.neg.now c.args.v ≡ 0 = omega (arith, c.refusal-no.ensures, c.if-no-ne0.false) in
-    passed
+count_in-next-requires c = sym (c.in_ok-refusal.ensures)
 
 pub returns : goal.returns
 returns c =
-    let passed : refusal_of c.args.size c.args.top c.args.head c.args.pos.now c.args.neg.now c.args.v ≡ 0 = omega (arith, c.refusal-no.ensures, c.if-no-ne0.false) in
     let a = c.args in
     accepted_law a.size a.top a.head a.pos.now a.neg.now a.v c.count_in-next.result c.lesser-least.result c.greater-greatest.result c.count_in-next.new.pos c.count_in-next.new.neg
-    (passed) c.count_in-next.ensures c.lesser-least.ensures c.greater-greatest.ensures
+    (sym (c.in_ok-refusal.ensures)) c.count_in-next.ensures c.lesser-least.ensures c.greater-greatest.ensures

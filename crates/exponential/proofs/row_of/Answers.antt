@@ -17,12 +17,12 @@ pub returns-then-negative : goal.returns-then-negative
 unfolding pick
 returns-then-negative c =
     let a = c.args in
-    part-is a.c.neg.len c.shorter-j.result a.neg.now c.shorter-j.ensures
+    part-is a.c.neg.len c.min-j.result a.neg.now c.min-j.ensures
     ∙ sym (ap (λ (b : Bool). pick b (take a.c.neg.len a.neg.now) (take a.c.pos.len a.pos.now)) c.if-negative.true)
 
 pub returns-else-negative : goal.returns-else-negative
 unfolding pick
 returns-else-negative c =
     let a = c.args in
-    part-is a.c.pos.len c.shorter-i.result a.pos.now c.shorter-i.ensures
+    part-is a.c.pos.len c.min-i.result a.pos.now c.min-i.ensures
     ∙ sym (ap (λ (b : Bool). pick b (take a.c.neg.len a.neg.now) (take a.c.pos.len a.pos.now)) c.if-negative.false)

@@ -10,4 +10,4 @@ returns-then-n-eq0 c =
 pub returns : goal.returns
 returns c =
     let e = bins-some c.args.row.start c.args.row.len c.args.bin (omega (arith, c.if-n-eq0.false)) in
-    rw (e.0, e.1, ← c.lesser-lo.ensures, ← c.greater-hi.ensures) c.scale_change-2.ensures
+    rw (e.0, e.1, ← c.min-lo.ensures, ← c.max-hi.ensures) c.scale_change-2.ensures

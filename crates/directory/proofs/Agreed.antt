@@ -1,4 +1,5 @@
 -- The cases of the count and of the places, and what agreement says of each slot and place. Assumes nothing.
+use Rattle.std.specs.Prelude.{Some, None}
 use Rattle.std.proofs.Common.{◌≡◌, ℕ, suc, ◌+◌, ◌-◌, ◌<◌, ◌≤◌, Bool, true, false, ◌&&◌, ◌||◌, eqb, leb, List, [], get_or, sym, refl, ap, ◌∙◌, arith, ltb-true, le-ltb, lt-ltb, eq-eqb, ne_eqb, le-leb, leb-true}
 use Prim.Native.Nat.{Ordering}
 use mathlib.Core.Bool.{and-false}
@@ -13,7 +14,6 @@ use Rattle.sets.proofs.Keyed.{sound-some, sound-few}
 use Rattle.sets.proofs.Ways.{below-lt}
 use Rattle.directory.specs.View.{set_at, birth_at, slot_at, place_at, plainly, slotsb, countsb}
 use Rattle.directory.specs.Inner.{placed, step_at}
-use Rattle.directory.specs.declared.Placed.TheVariants.{Broken, Plain}
 
 -- the count
 module _ (limit count used plain : ℕ) where
@@ -33,22 +33,22 @@ module _ (limit count used plain : ℕ) where
   count_wrong h n e = rw (le-leb count limit h, ne_eqb count plain n, ne_eqb count (plain + 1) e)
 
 -- the places' answer
-broken_inv : (b : Bool) (n : ℕ) → pick b (Plain n) Broken ≡ Broken → b ≡ false
+broken_inv : (b : Bool) (n : ℕ) → pick b (Some n) None ≡ None → b ≡ false
 unfolding pick
 broken_inv true n e = cc
 broken_inv false n e = refl
 
-plain_inv : (b : Bool) (n m : ℕ) → pick b (Plain n) Broken ≡ Plain m → (b ≡ true) × (n ≡ m)
+plain_inv : (b : Bool) (n m : ℕ) → pick b (Some n) None ≡ Some m → (b ≡ true) × (n ≡ m)
 unfolding pick
 plain_inv true n m e = (refl, cc)
 plain_inv false n m e = (cc, cc)
 
 module _ (used : ℕ) (sets : List (List ℕ)) (order : List ℕ) where
-  pub placed_broken : placed used sets order ≡ Broken → allb used (step_at sets order used) ≡ false
+  pub placed_broken : placed used sets order ≡ None → allb used (step_at sets order used) ≡ false
   unfolding placed
   placed_broken e = broken_inv _ (plainly sets order used) e
 
-  pub placed-plain : (n : ℕ) → placed used sets order ≡ Plain n → (allb used (step_at sets order used) ≡ true) × (plainly sets order used ≡ n)
+  pub placed-plain : (n : ℕ) → placed used sets order ≡ Some n → (allb used (step_at sets order used) ≡ true) × (plainly sets order used ≡ n)
   unfolding placed
   placed-plain n e = plain_inv _ (plainly sets order used) n e
 

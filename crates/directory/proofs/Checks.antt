@@ -1,5 +1,5 @@
 -- Turns of the loops that check the directory and search in it. Assumes nothing.
-use Rattle.std.specs.Prelude.{Ok, Err, Result, ℕ}
+use Rattle.std.specs.Prelude.{Ok, Err, Result, ℕ, Some, None}
 use Rattle.std.proofs.Common.{◌≡◌, ℕ, zero, suc, ◌+◌, ◌-◌, ◌<◌, ◌≤◌, Bool, true, false, ◌&&◌, ◌||◌, eqb, ltb, leb, List, [], ◌∷◌, ◌++◌, map, get_or, sym, refl, ap, ◌∙◌, add-one, arith, le-ltb, lt-ltb, le-leb}
 use Prim.Native.Nat.{Ordering}
 use borrow.Author.Tests.{lt-leb, eqb-false}
@@ -11,7 +11,6 @@ use Rattle.sets.specs.Rows.{span, set_of, soundb, below}
 use Rattle.sets.proofs.Spans.{span_more, span_none, span-all, span-snoc}
 use Rattle.directory.specs.View.{set_at, birth_at, place_at, plainly, seek, sought, born_at}
 use Rattle.directory.specs.Inner.{placed, bornb, step_at}
-use Rattle.directory.specs.declared.Placed.TheVariants.{Broken, Plain}
 
 pub some : (k : ℕ) → (k ≡ 0 → ⊥) → 1 ≤ k
 some zero n = absurd (n refl)
@@ -92,11 +91,11 @@ plainly-more sets order i h =
     ∙ ap (λ (x : Set). plainly sets order i + bit (plain x)) (ap (λ (k : ℕ). set_at sets (get_or order k 0)) e ∙ set-named sets (get_or order i 0) h)
 
 module _ (used : ℕ) (sets : List (List ℕ)) (order : List ℕ) where
-  pub placed-no : allb used (step_at sets order used) ≡ false → placed used sets order ≡ Broken
+  pub placed-no : allb used (step_at sets order used) ≡ false → placed used sets order ≡ None
   unfolding placed pick
   placed-no e = rw e
 
-  pub placed-yes : allb used (step_at sets order used) ≡ true → placed used sets order ≡ Plain (plainly sets order used)
+  pub placed-yes : allb used (step_at sets order used) ≡ true → placed used sets order ≡ Some (plainly sets order used)
   unfolding placed pick
   placed-yes e = rw e
 

@@ -1,5 +1,5 @@
 -- Turns of the scan for a handle, and the cases of where a call goes. Assumes nothing.
-use Rattle.std.specs.Prelude.{Ok, Err}
+use Rattle.std.specs.Prelude.{Ok, Err, Result}
 use Rattle.std.proofs.Common.{◌≡◌, ℕ, ◌+◌, ◌-◌, ◌<◌, ◌≤◌, Bool, true, false, ◌&&◌, eqb, ltb, List, [], ◌∷◌, get_or, sym, refl, subst, arith, ltb-true, le-ltb, lt-ltb, eq-eqb, ne_eqb}
 use Rattle.laws.proofs.Cases.{and-true}
 use Rattle.sets.specs.Rows.{span, set_of}
@@ -44,10 +44,10 @@ module _ (h : ℕ) (entries : List (List ℕ)) where
       scan-on e = rw (span_more order i used l, birth-named entries (get_or order i 0) k, e)
 
 -- what a scan finds has bindings
-held-is : (x y : ℕ) → Ok x ≡ Ok y → x ≡ y
+held-is : (x y : ℕ) → ◌≡◌ {A = Result ℕ ℕ} (Ok x) (Ok y) → x ≡ y
 held-is x y e = cc
 
-room-no : {A : Type 0} (r x : ℕ) → Err r ≡ Ok x → A
+room-no : {A : Type 0} (r x : ℕ) → ◌≡◌ {A = Result ℕ ℕ} (Err r) (Ok x) → A
 room-no r x e = let z : ◌≡◌ {A = ℕ} 0 1 = cc in absurd (omega arith)
 
 module _ (h : ℕ) (entries : List (List ℕ)) (x : ℕ) where

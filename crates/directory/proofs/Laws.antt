@@ -129,10 +129,10 @@ module _ (K : Kind) (f : ℕ → K.Series) (s : Stores) (h : ℕ) where
   named-scan [] = refl
   named-scan (y ∷ l) = named_step (eqb (birth_at s.entries y) h && ltb 0 (get_or (get_or s.entries y []) 1 0)) y l (named-scan l)
 
-held-is : (x y : ℕ) → Ok x ≡ Ok y → x ≡ y
+held-is : (x y : ℕ) → ◌≡◌ {A = Result ℕ ℕ} (Ok x) (Ok y) → x ≡ y
 held-is x y e = cc
 
-room-no : {A : Type 0} (r x : ℕ) → Err r ≡ Ok x → A
+room-no : {A : Type 0} (r x : ℕ) → ◌≡◌ {A = Result ℕ ℕ} (Err r) (Ok x) → A
 room-no r x e = let z : ◌≡◌ {A = ℕ} 0 1 = cc in absurd (omega arith)
 
 module _ (h : ℕ) (entries : List (List ℕ)) (x : ℕ) where

@@ -1,4 +1,5 @@
 -- Places whose sets have the same keys: what one pass over them tells. Assumes nothing.
+use Rattle.std.specs.Prelude.{Some}
 use Rattle.std.proofs.Common.{◌≡◌, ℕ, zero, suc, ◌+◌, ◌-◌, ◌%◌, ◌<◌, ◌≤◌, Bool, true, false, ◌&&◌, ◌||◌, eqb, ltb, leb, List, [], get_or, sym, refl, ap, ◌∙◌, subst, ⊎_elim, eq-or-lt_of_le, add-one, arith, ltb-false, ltb-true, le-leb, leb-false, leb-true}
 use Prim.Native.Nat.{Ordering}
 use borrow.Author.Tests.{lt-leb, eqb-false}
@@ -12,7 +13,6 @@ use Rattle.sets.proofs.Keyed.{sound-few}
 use Rattle.sets.proofs.Plains.{plain-many}
 use Rattle.directory.specs.View.{plainly}
 use Rattle.directory.specs.Inner.{placed, step_at, joined, SameKeys, row_at, Told, Alike}
-use Rattle.directory.specs.declared.Placed.TheVariants.{Plain}
 use Rattle.directory.proofs.Checks.{some, plainly-more, placed-yes, step-test}
 
 -- a number from 1 on is at most `used` where the one before is below it, and 0 wraps
@@ -94,5 +94,5 @@ module _ (used : ℕ) (sets : List (List ℕ)) (order : List ℕ) (from : ℕ) (
       sum : (x y : ℕ) → x ≡ i → y ≡ 1 → x + y ≡ suc i
       sum x y p q = omega arith
 
-  pub placed_alike : placed used sets order ≡ Plain used
-  placed_alike = placed-yes used sets order (allb-yes (step_at sets order used) used step) ∙ ap Plain (all_plain used (omega arith))
+  pub placed_alike : placed used sets order ≡ Some used
+  placed_alike = placed-yes used sets order (allb-yes (step_at sets order used) used step) ∙ ap (λ (k : ℕ). Some k) (all_plain used (omega arith))

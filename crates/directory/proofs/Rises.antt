@@ -1,5 +1,5 @@
 -- A directory that agrees is a map whose sets ascend. Assumes nothing.
-use Rattle.std.specs.Prelude.{Ok, Err}
+use Rattle.std.specs.Prelude.{Ok, Err, Result}
 use Rattle.std.proofs.Common.{◌≡◌, ℕ, zero, suc, ◌+◌, ◌<◌, ◌≤◌, true, false, ◌⊎◌, List, [], ◌∷◌, map, get_or, sym, refl, ap, ◌∙◌, subst, inl, inr, ⊎_elim, arith}
 use Prim.Native.Nat.{Ordering}
 use mathlib.Core.Option.{none, some}
@@ -48,16 +48,16 @@ module _ (K : Kind) (f : ℕ → K.Series) (st : Stores) where
   keys-map (x ∷ l) = ap (λ r. set_at st.sets x ∷ r) (keys-map l)
 
 -- what a search finds is there
-held_inj : (x y : ℕ) → Ok x ≡ Ok y → x ≡ y
+held_inj : (x y : ℕ) → ◌≡◌ {A = Result ℕ ℕ} (Ok x) (Ok y) → x ≡ y
 held_inj x y e = cc
 
-room_inj : (x y : ℕ) → Err x ≡ Err y → x ≡ y
+room_inj : (x y : ℕ) → ◌≡◌ {A = Result ℕ ℕ} (Err x) (Err y) → x ≡ y
 room_inj x y e = cc
 
-room-not-held : {A : Type 0} (x y : ℕ) → Err x ≡ Ok y → A
+room-not-held : {A : Type 0} (x y : ℕ) → ◌≡◌ {A = Result ℕ ℕ} (Err x) (Ok y) → A
 room-not-held x y e = let z : ◌≡◌ {A = ℕ} 0 1 = cc in absurd (omega arith)
 
-held-not-room : {A : Type 0} (x y : ℕ) → Ok x ≡ Err y → A
+held-not-room : {A : Type 0} (x y : ℕ) → ◌≡◌ {A = Result ℕ ℕ} (Ok x) (Err y) → A
 held-not-room x y e = let z : ◌≡◌ {A = ℕ} 0 1 = cc in absurd (omega arith)
 
 module _ (K : Kind) (f : ℕ → K.Series) (st : Stores) (s : Set) where

@@ -16,14 +16,14 @@ returns-then-not-births c =
     let stores : Stores = record { sets = c.args.sets.now; entries = c.args.entries.now; order = c.args.order.now } in
     sym (agree_births c.args.limit c.args.d (stores) (sym c.births.ensures ∙ c.if-not-births.true))
 
-pub returns-in-Broken : goal.returns-in-Broken
-returns-in-Broken c =
+pub returns-in-None : goal.returns-in-None
+returns-in-None c =
     let stores : Stores = record { sets = c.args.sets.now; entries = c.args.entries.now; order = c.args.order.now } in
-    sym (agree-places c.args.limit c.args.d (stores) (placed_broken c.args.d.used c.args.sets.now c.args.order.now (sym c.places.ensures ∙ c.in-Broken.is)))
+    sym (agree-places c.args.limit c.args.d (stores) (placed_broken c.args.d.used c.args.sets.now c.args.order.now (sym c.places.ensures ∙ c.in-None.is)))
 
-pub returns-in-Plain : goal.returns-in-Plain
-returns-in-Plain c =
+pub returns-in-Some : goal.returns-in-Some
+returns-in-Some c =
     let stores : Stores = record { sets = c.args.sets.now; entries = c.args.entries.now; order = c.args.order.now } in
     let right : bornb c.args.d.used c.args.d.last c.args.entries.now ≡ true = sym c.births.ensures ∙ c.if-not-births.false in
     c.counts.ensures
-    ∙ sym (agree-counts c.args.limit c.args.d (stores) c.if-used-limit.false (right) _ (placed-plain c.args.d.used c.args.sets.now c.args.order.now _ (sym c.places.ensures ∙ c.in-Plain.is)))
+    ∙ sym (agree-counts c.args.limit c.args.d (stores) c.if-used-limit.false (right) _ (placed-plain c.args.d.used c.args.sets.now c.args.order.now _ (sym c.places.ensures ∙ c.in-Some.is)))

@@ -1,4 +1,5 @@
 -- `directory::check::one_by_one` meets its contract. Assumes nothing.
+use Rattle.std.specs.Prelude.{Some}
 use Rattle.std.proofs.Common.{◌≡◌, ℕ, ◌+◌, ◌-◌, true, false, [], get_or, sym, refl, ap, ◌∙◌, subst, arith}
 use Rattle.tally.specs.Map.{plain}
 use Rattle.sets.specs.All.{allb}
@@ -7,7 +8,6 @@ use Rattle.sets.proofs.Alls.{allb-none, allb-more, allb-no}
 use Rattle.sets.proofs.Keyed.{sound-some}
 use Rattle.directory.specs.View.{plainly}
 use Rattle.directory.specs.Inner.{step_at}
-use Rattle.directory.specs.declared.Placed.TheVariants.{Plain}
 use Rattle.directory.proofs.Checks.{step-low, step-high, step-test, plainly-more, placed-no, placed-yes, bit-one}
 use Rattle.laws.proofs.Cases.{and-true}
 use Rattle.directory.proofs.check.one_by_one.Goals as goal
@@ -63,5 +63,5 @@ loop-i-preserved c =
 pub returns : goal.returns
 returns c =
     let e : c.loop-i.i ≡ c.args.used = omega (arith, c.loop-i-test.false) in
-    ap Plain (c.loop-i.invariant.5 ∙ ap (plainly c.args.sets.now c.args.order.now) e)
+    ap (λ (k : ℕ). Some k) (c.loop-i.invariant.5 ∙ ap (plainly c.args.sets.now c.args.order.now) e)
     ∙ sym (placed-yes c.args.used c.args.sets.now c.args.order.now (subst (λ (k : ℕ). allb k (step_at c.args.sets.now c.args.order.now c.args.used) ≡ true) e c.loop-i.invariant.4))

@@ -27,14 +27,14 @@ compare-w-requires c =
     let slot_of : (1 ≤ get_or c.args.order.now (mid) 0) × (get_or c.args.order.now (mid) 0 ≤ c.args.used) = c.requires.3 (mid) (inside) in
     (c.requires.2, c.requires.4 _ (slot_of).0 (slot_of).1)
 
-pub loop-low-smaller-in-Before : goal.loop-low-smaller-in-Before
-loop-low-smaller-in-Before c =
+pub loop-low-smaller-in-Less : goal.loop-low-smaller-in-Less
+loop-low-smaller-in-Less c =
     let mid : ℕ = c.loop-low.low + (c.loop-low.high - c.loop-low.low) / 2 in
     let below-high : mid < c.loop-low.high = (half c.loop-low.low c.loop-low.high c.loop-low-test.true).1 in
     omega (arith, below-high, (half c.loop-low.low c.loop-low.high c.loop-low-test.true).0)
 
-pub loop-low-preserved-in-Before : goal.loop-low-preserved-in-Before
-loop-low-preserved-in-Before c =
+pub loop-low-preserved-in-Less : goal.loop-low-preserved-in-Less
+loop-low-preserved-in-Less c =
     let mid : ℕ = c.loop-low.low + (c.loop-low.high - c.loop-low.low) / 2 in
     let below-high : mid < c.loop-low.high = (half c.loop-low.low c.loop-low.high c.loop-low-test.true).1 in
     let inside : mid < c.args.used = omega (arith, below-high, c.loop-low.invariant.1) in
@@ -42,17 +42,17 @@ loop-low-preserved-in-Before c =
       (half c.loop-low.low c.loop-low.high c.loop-low-test.true).0,
       omega (arith, inside),
       c.loop-low.invariant.2,
-      beyond (set_of c.args.wanted.now) c.args.used c.args.sets.now c.args.order.now c.requires.5 (mid) (way-lt (lie) (sym c.compare-w.ensures ∙ c.in-Before.is)),
+      beyond (set_of c.args.wanted.now) c.args.used c.args.sets.now c.args.order.now c.requires.5 (mid) (way-lt (lie) (sym c.compare-w.ensures ∙ c.in-Less.is)),
       c.loop-low.invariant.4,
     )
 
-pub returns-in-Same : goal.returns-in-Same
-returns-in-Same c =
+pub returns-in-Equal : goal.returns-in-Equal
+returns-in-Equal c =
     let mid : ℕ = c.loop-low.low + (c.loop-low.high - c.loop-low.low) / 2 in
     let below-high : mid < c.loop-low.high = (half c.loop-low.low c.loop-low.high c.loop-low-test.true).1 in
     let inside : mid < c.args.used = omega (arith, below-high, c.loop-low.invariant.1) in
     let lie : Ordering = cmp (set_of c.args.wanted.now) (set_of (get_or c.args.sets.now (get_or c.args.order.now (mid) 0) [])) in
-    sym (c.loop-low.invariant.4 ∙ held-at (set_of c.args.wanted.now) c.args.used c.args.sets.now c.args.order.now c.requires.5 c.requires.3 (mid) (inside) (way-eq (lie) (sym c.compare-w.ensures ∙ c.in-Same.is)))
+    sym (c.loop-low.invariant.4 ∙ held-at (set_of c.args.wanted.now) c.args.used c.args.sets.now c.args.order.now c.requires.5 c.requires.3 (mid) (inside) (way-eq (lie) (sym c.compare-w.ensures ∙ c.in-Equal.is)))
 
 pub loop-low-smaller : goal.loop-low-smaller
 loop-low-smaller c =
@@ -68,7 +68,7 @@ loop-low-preserved c =
     let lie : Ordering = cmp (set_of c.args.wanted.now) (set_of (get_or c.args.sets.now (get_or c.args.order.now (mid) 0) [])) in (
       omega (arith, below-high),
       c.loop-low.invariant.1,
-      beneath (set_of c.args.wanted.now) c.args.used c.args.sets.now c.args.order.now c.requires.5 (mid) (inside) (way_gt (lie) (sym c.compare-w.ensures ∙ c.in-After.is)),
+      beneath (set_of c.args.wanted.now) c.args.used c.args.sets.now c.args.order.now c.requires.5 (mid) (inside) (way_gt (lie) (sym c.compare-w.ensures ∙ c.in-Greater.is)),
       c.loop-low.invariant.3,
       c.loop-low.invariant.4,
     )

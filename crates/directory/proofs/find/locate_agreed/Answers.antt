@@ -22,10 +22,10 @@ find-requires c =
 pub returns-then-d-limit : goal.returns-then-d-limit
 returns-then-d-limit c =
     let stores : Stores = record { sets = c.args.sets.now; entries = c.args.entries.now; order = c.args.order.now } in
-    sym (located-new c.args.limit c.args.d (stores) c.args.row.now c.requires.4 _ (sym c.find.ensures ∙ c.in-Room.is) c.if-d-limit.true)
+    sym (located-new c.args.limit c.args.d (stores) c.args.row.now c.requires.4 _ (sym c.find.ensures ∙ c.in-Err.is) c.if-d-limit.true)
 
-pub find-requires-in-Room : goal.find-requires-in-Room
-find-requires-in-Room c =
+pub find-requires-in-Err : goal.find-requires-in-Err
+find-requires-in-Err c =
     let stores : Stores = record { sets = c.args.sets.now; entries = c.args.entries.now; order = c.args.order.now } in
     let in-sets : c.args.d.used < length c.args.sets.now = omega (arith, few c.args.limit c.args.d (stores) c.requires.4, c.requires.0) in
     let in_order : c.args.d.used ≤ length c.args.order.now = omega (arith, few c.args.limit c.args.d (stores) c.requires.4, c.requires.2) in
@@ -34,17 +34,17 @@ find-requires-in-Room c =
     let rise-of : (k : ℕ) → suc k < c.args.d.used → cmp (set_of (get_or c.args.sets.now (get_or c.args.order.now k 0) [])) (set_of (get_or c.args.sets.now (get_or c.args.order.now (suc k) 0) [])) ≡ Ordering.lt = place-climb c.args.d.used c.args.sets.now c.args.order.now (places-right c.args.limit c.args.d (stores) c.requires.4) in
     (in-sets, in_order, search rules, slots-of, sizes-of, rise-of)
 
-pub returns-in-Held : goal.returns-in-Held
-returns-in-Held c =
+pub returns-in-Ok : goal.returns-in-Ok
+returns-in-Ok c =
     let stores : Stores = record { sets = c.args.sets.now; entries = c.args.entries.now; order = c.args.order.now } in
-    sym (located-old c.args.limit c.args.d (stores) c.args.row.now c.requires.4 _ (sym c.find.ensures ∙ c.in-Held.is))
+    sym (located-old c.args.limit c.args.d (stores) c.args.row.now c.requires.4 _ (sym c.find.ensures ∙ c.in-Ok.is))
 
-pub returns-in-Held-find : goal.returns-in-Held-find
-returns-in-Held-find c =
+pub returns-in-Ok-find : goal.returns-in-Ok-find
+returns-in-Ok-find c =
     let stores : Stores = record { sets = c.args.sets.now; entries = c.args.entries.now; order = c.args.order.now } in
-    sym (located-over-old c.args.limit c.args.d (stores) c.args.row.now c.requires.4 _ (sym c.find.ensures ∙ c.in-Room.is) c.if-d-limit.false _ (sym c.find-in-Room.ensures ∙ c.in-Held-find.is))
+    sym (located-over-old c.args.limit c.args.d (stores) c.args.row.now c.requires.4 _ (sym c.find.ensures ∙ c.in-Err.is) c.if-d-limit.false _ (sym c.find-in-Err.ensures ∙ c.in-Ok-find.is))
 
-pub returns-in-Room-find : goal.returns-in-Room-find
-returns-in-Room-find c =
+pub returns-in-Err-find : goal.returns-in-Err-find
+returns-in-Err-find c =
     let stores : Stores = record { sets = c.args.sets.now; entries = c.args.entries.now; order = c.args.order.now } in
-    sym (located-over c.args.limit c.args.d (stores) c.args.row.now c.requires.4 _ (sym c.find.ensures ∙ c.in-Room.is) c.if-d-limit.false _ (sym c.find-in-Room.ensures ∙ c.in-Room-find.is))
+    sym (located-over c.args.limit c.args.d (stores) c.args.row.now c.requires.4 _ (sym c.find.ensures ∙ c.in-Err.is) c.if-d-limit.false _ (sym c.find-in-Err.ensures ∙ c.in-Err-find.is))

@@ -56,10 +56,8 @@ pub fn emit_run(s: &mut [u8], info: u64, n: usize, k: usize, xs: &[u64])
     requires xs_bound { k + length xs.now ≤ n * 3 }
     ensures { s.new ≡ laid info n k xs.now s.old }
 {
-    let mut i: usize = 0;
-    while i < xs.len() {
-        emit(s, info, n, k + i, xs[i]);
-        i += 1;
+    for (i, x) in xs.iter().enumerate() {
+        emit(s, info, n, k + i, *x);
     }
 }
 
@@ -69,10 +67,8 @@ pub fn emit_zeros(s: &mut [u8], info: u64, n: usize, k: usize, m: usize)
     requires m_bound { k + m ≤ n * 3 }
     ensures { s.new ≡ laid info n k (replicate m 0) s.old }
 {
-    let mut i: usize = 0;
-    while i < m {
+    for i in 0..m {
         emit(s, info, n, k + i, 0);
-        i += 1;
     }
 }
 
@@ -81,10 +77,8 @@ pub fn read_run(s: &[u8], k: usize, out: &mut [u64])
     requires { (k + length out.old < 4294967296) × ((k + length out.old + 2) / 3 * 32 ≤ length s.now) }
     ensures { out.new ≡ run s.now k (length out.old) }
 {
-    let mut i: usize = 0;
-    while i < out.len() {
-        out[i] = cell(s, k + i);
-        i += 1;
+    for (i, x) in out.iter_mut().enumerate() {
+        *x = cell(s, k + i);
     }
 }
 
@@ -93,12 +87,10 @@ pub fn are_zeros(s: &[u8], k: usize, m: usize) -> bool
     requires { (k + m < 4294967296) × ((k + m + 2) / 3 * 32 ≤ length s.now) }
     ensures { result ≡ allb m (zero_at s.now k) }
 {
-    let mut i: usize = 0;
-    while i < m {
+    for i in 0..m {
         if cell(s, k + i) != 0 {
             return false;
         }
-        i += 1;
     }
     true
 }
@@ -108,12 +100,10 @@ pub fn links_hold(s: &[u8], info: u64, n: usize) -> bool
     requires { Room info n s.now }
     ensures { result ≡ allb n (link_holds info n s.now) }
 {
-    let mut r: usize = 0;
-    while r < n {
+    for r in 0..n {
         if crate::words::word_at(s, r * 32) != link_of(info, n, r) {
             return false;
         }
-        r += 1;
     }
     true
 }

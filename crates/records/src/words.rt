@@ -14,10 +14,8 @@ fn wide(x: u8) -> u64
 pub fn know_bytes(s: &[u8])
     ensures { AllBytes s.now }
 {
-    let mut i: usize = 0;
-    while i < s.len() {
-        wide(s[i]);
-        i += 1;
+    for x in s {
+        wide(*x);
     }
 }
 

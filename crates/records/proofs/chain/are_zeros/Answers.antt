@@ -12,10 +12,7 @@ use borrow.Author.Tests.{eq-eqb, ne_eqb}
 use Rattle.records.proofs.chain.are_zeros.Goals as goal
 
 pub loop-i-init : goal.loop-i-init
-loop-i-init c = (omega arith, allb-none _)
-
-pub overflow_add-k : goal.overflow_add-k
-overflow_add-k c = omega arith
+loop-i-init c = allb-none _
 
 pub cell-requires : goal.cell-requires
 cell-requires c =
@@ -25,18 +22,12 @@ pub returns-then-cell-ne0 : goal.returns-then-cell-ne0
 returns-then-cell-ne0 c =
     sym (allb-no (zero_at c.args.s.now c.args.k) c.args.m c.loop-i.i c.loop-i-test.true (ne_eqb (cell_at c.args.s.now (c.args.k + c.loop-i.i)) 0 (λ e. omega (arith, c.cell.ensures, c.if-cell-ne0.true))))
 
-pub overflow_add-i : goal.overflow_add-i
-overflow_add-i c = omega arith
-
-pub loop-i-smaller : goal.loop-i-smaller
-loop-i-smaller c = omega arith
-
 pub loop-i-preserved : goal.loop-i-preserved
 loop-i-preserved c =
     let z : cell_at c.args.s.now (c.args.k + c.loop-i.i) ≡ 0 = omega (arith, c.cell.ensures, c.if-cell-ne0.false) in
-    (omega (arith, c.loop-i-test.true), allb-more (zero_at c.args.s.now c.args.k) c.loop-i.i c.loop-i.invariant.1 (eq-eqb _ 0 z))
+    allb-more (zero_at c.args.s.now c.args.k) c.loop-i.i c.loop-i.invariant (eq-eqb _ 0 z)
 
 pub returns : goal.returns
 returns c =
-    let e : c.loop-i.i ≡ c.args.m = omega (arith, c.loop-i-test.false) in
-    sym (subst (λ (j : ℕ). allb j (zero_at c.args.s.now c.args.k) ≡ true) e c.loop-i.invariant.1)
+    let e : c.loop-i.i ≡ c.args.m = omega arith in
+    sym (subst (λ (j : ℕ). allb j (zero_at c.args.s.now c.args.k) ≡ true) e c.loop-i.invariant)

@@ -1,42 +1,26 @@
 -- `records::chain::emit_run` meets its contract. Assumes nothing.
 use mathlib.Core.Path.{◌≡◌, refl, ap, ◌∙◌}
-use Prim.Native.Nat.{ℕ, ◌+◌, ◌≤◌}
+use Prim.Native.Nat.{ℕ, ◌+◌}
 use native.Mathlib.Omega.{arith}
-use lib.ListN.{length, get_or, take}
+use lib.ListN.{length, take}
 use lib.Seq.{take-length}
 use Rattle.records.specs.Inner.{laid}
-use Rattle.records.proofs.Laid.{length-emitted, place-room, turn-run}
+use Rattle.records.proofs.Laid.{place-room, turn-run}
 use Rattle.records.proofs.chain.emit_run.Goals as goal
 
 pub loop-i-init : goal.loop-i-init
 unfolding laid
-loop-i-init c = (omega arith, refl, refl)
-
-pub overflow_add-k : goal.overflow_add-k
-overflow_add-k c = omega arith
+loop-i-init c = refl
 
 pub emit-requires : goal.emit-requires
 emit-requires c =
-    (c.requires.room.small, omega arith, place-room (c.args.k + c.loop-i.i) c.args.n _ (omega arith) (omega (arith, c.requires.room.long, c.loop-i.invariant.2)))
-
-pub overflow_add-i : goal.overflow_add-i
-overflow_add-i c = omega arith
-
-pub loop-i-smaller : goal.loop-i-smaller
-loop-i-smaller c = omega arith
+    (c.requires.room.small, omega arith, place-room (c.args.k + c.loop-i.i) c.args.n _ (omega arith) (omega (arith, c.requires.room.long)))
 
 pub loop-i-preserved : goal.loop-i-preserved
 loop-i-preserved c =
-    let h : c.loop-i.i + 1 ≤ length c.args.xs.now = omega (arith, c.loop-i-test.true) in (
-      h,
-      turn-run c.args.info c.args.n c.args.k c.args.xs.now c.args.s.now c.loop-i.s _ c.loop-i.i (omega arith) c.loop-i.invariant.1 c.emit.ensures,
-      ap length c.emit.ensures ∙ length-emitted c.args.info c.args.n (c.args.k + c.loop-i.i) (get_or c.args.xs.now c.loop-i.i 0) c.loop-i.s ∙ c.loop-i.invariant.2,
-    )
-
-pub shape_of-s : goal.shape_of-s
-shape_of-s c = c.loop-i.invariant.2
+    turn-run c.args.info c.args.n c.args.k c.args.xs.now c.args.s.now c.loop-i.s _ c.loop-i.i (omega arith) c.loop-i.invariant c.emit.ensures
 
 pub returns : goal.returns
 returns c =
-    let e : c.loop-i.i ≡ length c.args.xs.now = omega (arith, c.loop-i-test.false) in
-    c.loop-i.invariant.1 ∙ ap (λ u. laid c.args.info c.args.n c.args.k u c.args.s.now) (ap (λ (j : ℕ). take j c.args.xs.now) e ∙ take-length c.args.xs.now)
+    let e : c.loop-i.i ≡ length c.args.xs.now = omega arith in
+    c.loop-i.invariant ∙ ap (λ u. laid c.args.info c.args.n c.args.k u c.args.s.now) (ap (λ (j : ℕ). take j c.args.xs.now) e ∙ take-length c.args.xs.now)

@@ -11,7 +11,7 @@ use borrow.Author.Tests.{eq-eqb, ne_eqb}
 use Rattle.records.proofs.chain.links_hold.Goals as goal
 
 pub loop-r-init : goal.loop-r-init
-loop-r-init c = (omega arith, allb-none _)
+loop-r-init c = allb-none _
 
 pub overflow_mul-r : goal.overflow_mul-r
 overflow_mul-r c = omega (arith, c.requires.few, c.loop-r-test.true)
@@ -28,18 +28,12 @@ returns-then-word_at-link_of c =
     sym (allb-no (link_holds c.args.info c.args.n c.args.s.now) c.args.n c.loop-r.r c.loop-r-test.true
     (ne_eqb (word_at c.args.s.now (c.loop-r.r * 32)) (link_of c.args.info c.args.n c.loop-r.r) (λ e. omega (arith, c.word_at.ensures, c.link_of.ensures, c.if-word_at-link_of.true))))
 
-pub overflow_add-r : goal.overflow_add-r
-overflow_add-r c = omega arith
-
-pub loop-r-smaller : goal.loop-r-smaller
-loop-r-smaller c = omega arith
-
 pub loop-r-preserved : goal.loop-r-preserved
 loop-r-preserved c =
     let z : word_at c.args.s.now (c.loop-r.r * 32) ≡ link_of c.args.info c.args.n c.loop-r.r = omega (arith, c.word_at.ensures, c.link_of.ensures, c.if-word_at-link_of.false) in
-    (omega (arith, c.loop-r-test.true), allb-more (link_holds c.args.info c.args.n c.args.s.now) c.loop-r.r c.loop-r.invariant.1 (eq-eqb _ _ z))
+    allb-more (link_holds c.args.info c.args.n c.args.s.now) c.loop-r.r c.loop-r.invariant (eq-eqb _ _ z)
 
 pub returns : goal.returns
 returns c =
-    let e : c.loop-r.r ≡ c.args.n = omega (arith, c.loop-r-test.false) in
-    sym (subst (λ (j : ℕ). allb j (link_holds c.args.info c.args.n c.args.s.now) ≡ true) e c.loop-r.invariant.1)
+    let e : c.loop-r.r ≡ c.args.n = omega arith in
+    sym (subst (λ (j : ℕ). allb j (link_holds c.args.info c.args.n c.args.s.now) ≡ true) e c.loop-r.invariant)

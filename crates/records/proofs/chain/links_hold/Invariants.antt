@@ -1,13 +1,9 @@
 -- `records::chain::links_hold` meets its contract. Assumes nothing.
 use mathlib.Core.Path.{◌≡◌}
 use mathlib.Core.Bool.{true}
-use Prim.Native.Nat.{◌-◌, ◌≤◌}
 use Rattle.sets.specs.All.{allb}
 use Rattle.records.specs.Inner.{link_holds}
 use Rattle.records.proofs.chain.links_hold.Given as goal
 
 abbrev pub invariant-loop-r : goal.invariant-loop-r
-invariant-loop-r l = (l.r ≤ l.n) × (allb l.r (link_holds l.info l.n l.s) ≡ true)
-
-abbrev pub decreases-loop-r : goal.decreases-loop-r
-decreases-loop-r l = l.n - l.r
+invariant-loop-r l = allb l.r (link_holds l.info l.n l.s) ≡ true

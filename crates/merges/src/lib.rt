@@ -135,12 +135,9 @@ fn add_low(counts: &mut [u64], n: usize, s: u32, other: &[u64], t: u32, m: usize
     let first = s as u64;
     let mut index = t as u64;
     let mut len = n;
-    let mut j: usize = 0;
-    while j < m {
-        let x = other[j];
-        len = rows::add_at(counts, len, ((index >> k) - first) as usize, x);
+    for x in &other[..m] {
+        len = rows::add_at(counts, len, ((index >> k) - first) as usize, *x);
         index += 1;
-        j += 1;
     }
     len
 }

@@ -1,9 +1,7 @@
-use Rattle.std.proofs.Common.{◌≡◌, sym, arith}
+use Rattle.std.proofs.Common.{◌≡◌, sym}
 use borrow.Author.Rules.{rules}
 use Rattle.std.specs.Prelude.{Err}
-use Rattle.exponential.specs.Series.{refusal_of, outcome}
-use Rattle.refusals.specs.Refusals.{said, number}
-use Rattle.laws.specs.Said.{refusal}
+use Rattle.refusals.specs.Refusals.{number}
 use Rattle.refusals.proofs.Numbers.{number-nonzero}
 use Rattle.exponential.proofs.Call.{refused_law, accepted_law}
 use Rattle.exponential.proofs.record.Goals as goal

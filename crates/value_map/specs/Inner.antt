@@ -1,16 +1,23 @@
 -- BETWEEN OUR OWN CRATES: serves inner contracts and proofs; nobody needs it to believe the public calls or the theorems.
 -- One value taken by a kind's cells, and the directory's end of it: the definitions of the crate's own functions. Assumes nothing.
-use Rattle.std.specs.Prelude.{ℕ, ◌≡◌, Bool, true, ◌&&◌, List, eqb, leb}
+use Rattle.std.specs.Prelude.{ℕ, ◌≡◌, Bool, true, ◌&&◌, List, eqb, leb, Result, Ok, Err}
 use Rattle.std.proofs.Math.Option.{none}
 use Rattle.laws.specs.Pick.{pick}
 use Rattle.laws.specs.Said.{success}
+use Rattle.refusals.specs.declared.Refusal.{Refusal}
 use Rattle.tally.specs.Kind.{Kind}
 use Rattle.directory.specs.View.{Stores}
 use Rattle.directory.specs.declared.Directory.{Directory}
 use Rattle.directory.specs.declared.Target.{Target}
+use Rattle.directory.specs.declared.Target.TheVariants.{Disagrees}
 use Rattle.bindings.specs.Calls as Bindings
 use Rattle.seats.specs.Seats.{committed}
 use Rattle.value_map.specs.Store.{Store, Recording}
+
+-- what is to be written, as a seating has it: nothing where the recording was refused
+abbrev pub target_of : Result Target Refusal → Target
+target_of (Ok t) = t
+target_of (Err e) = Disagrees
 
 -- the end of a recording: refused with a number, or written to the directory
 unfoldable pub finished : ℕ → Directory → Stores → List ℕ → Target → Bindings.Outcome

@@ -1,11 +1,13 @@
 // The map of the explicit kind: configuring, and recording by set and by handle. Its stores: the directory's (sets, entries, order), and
 // each slot's count, its minimum, maximum and sum, and its bucket counts.
-ghost use Rattle.std.specs.Prelude.{◌≡◌, [], ◌∷◌, ℕ, ◌+◌, leb};
+ghost use Rattle.std.specs.Prelude.{◌≡◌, [], ◌∷◌, ℕ, ◌+◌, leb, IfOk};
+ghost use Rattle.refusals.specs.Refusals.{number, code};
 ghost use Rattle.laws.specs.Pick.{pick};
 ghost use Rattle.points.specs.Explicit.{bounds_pass, bucket_count};
 ghost use Rattle.rows.specs.Recording.{after};
 ghost use Rattle.sets.specs.Sorted.{given, filter_of};
 ghost use Rattle.directory.specs.View.{stores};
+ghost use Rattle.seats.specs.Seats.{seating};
 ghost use Rattle.explicit_slots.specs.Cells.{cells};
 ghost use Rattle.value_map.specs.Store.{lengths_suffice};
 ghost use Rattle.value_map.specs.Calls.{held, gave, started, measured, measured_by};
@@ -13,17 +15,19 @@ ghost use Rattle.value_map.specs.Inner.{Takes, taken, turned};
 ghost use Rattle.value_map.specs.Explicit.{explicit_store};
 
 use bindings::Reply;
-use directory::Directory;
+use directory::{Directory, Target};
+use refusals::Refusal;
+use seats::Seated;
 use seats::room::lesser;
 
-// The number with which configuring refuses the bounds, 3; 0 if it accepts them.
-pub fn unset_of(bounds: &[f64]) -> u8
-    ensures { result ≡ pick (bounds_pass bounds.now) 0 3 }
+// Whether configuring accepts the bounds; or 3.
+pub fn unset_of(bounds: &[f64]) -> Result<(), Refusal>
+    ensures { code result ≡ pick (bounds_pass bounds.now) 0 3 }
 {
     if !explicit::bounds_pass(bounds) {
-        return 3;
+        return Err(Refusal::Bounds);
     }
-    0
+    Ok(())
 }
 
 // How many slots the series' stores of these lengths have room for.
@@ -70,47 +74,49 @@ pub fn start(
         (stores sets.now entries.old order.now) (cells totals.now extremes.now counts.now) }
 {
     let room = cells_suffice(bounds, limit, totals.len(), extremes.len(), counts.len());
-    let no = unset_of(bounds);
-    crate::first::begin(no, room, limit, present, filter, sets, entries, order)
+    let unset = unset_of(bounds);
+    crate::first::begin(unset, room, limit, present, filter, sets, entries, order)
 }
 
-// The number of a seating that is refused: the bounds are asked last, for the series does it. 8 where configuring could not have accepted
-// them, unless a number stands that comes before: 12, 6, 5.
-fn turned_by(bounds: &[f64], no: u8) -> u8
-    ensures { result ≡ turned (bounds_pass bounds.now) no }
+// The refusal of a seat: the bounds are asked last, for the series does it. 8 where configuring could not have accepted them, unless a
+// refusal stands that comes before: 12, 6, 5.
+fn turned_by(bounds: &[f64], no: Refusal) -> Refusal
+    ensures { number result ≡ turned (bounds_pass bounds.now) (number no) }
 {
-    if no < 7 {
-        return no;
+    match no {
+        Refusal::NoHandle | Refusal::Disagrees | Refusal::Full => {
+            if explicit::bounds_pass(bounds) {
+                no
+            } else {
+                Refusal::Disagrees
+            }
+        }
+        _ => no,
     }
-    if no > 9 {
-        return no;
-    }
-    if !explicit::bounds_pass(bounds) {
-        return 8;
-    }
-    no
 }
 
-// Records a value at the slot of a seating, unless that is refused; the number, 0 if the value was taken.
+// Records a value at the slot of a seat, and what the directory is to write then; or the seat's refusal, or the series'.
 fn take(
     bounds: &[f64],
-    no: u8,
-    x: usize,
-    updated: bool,
+    seat: Result<Seated, Refusal>,
     totals: &mut [u64],
     extremes: &mut [[f64; 3]],
     counts: &mut [u64],
     v: f64,
-) -> u8
-    requires { Takes (explicit_store bounds.now) (cells totals.old extremes.old counts.old) v no x }
-    ensures { after result (cells totals.new extremes.new counts.new)
-        ≡ taken (explicit_store bounds.now) (cells totals.old extremes.old counts.old) v no
-        (turned (bounds_pass bounds.now) no) x updated }
+) -> Result<Target, Refusal>
+    requires { Takes (explicit_store bounds.now) (cells totals.old extremes.old counts.old) v (seating seat).no (seating seat).slot }
+    ensures value { after (code result) (cells totals.new extremes.new counts.new)
+        ≡ taken (explicit_store bounds.now) (cells totals.old extremes.old counts.old) v (seating seat).no
+        (turned (bounds_pass bounds.now) (seating seat).no) (seating seat).slot (seating seat).updated }
+    ensures target { IfOk result (λ t. t ≡ (seating seat).target) }
 {
-    if no != 0 {
-        return turned_by(bounds, no);
+    match seat {
+        Err(no) => Err(turned_by(bounds, no)),
+        Ok(s) => {
+            explicit_slots::record(bounds, s.slot, s.updated, totals, extremes, counts, v)?;
+            Ok(s.target)
+        }
     }
-    explicit_slots::record(bounds, x, updated, totals, extremes, counts, v)
 }
 
 // Records a value into the series of the attributes' set: its own entry, held or new, or that of overflow; or 12, 6, 5, 8, 9.
@@ -138,20 +144,21 @@ pub fn measure(
     let value = crate::first::takes(v);
     let mut row: [u64; 9] = [0; 9];
     let seat = seats::seat(
-        slots, value, 0, limit, d, sets, entries, order, attrs, present, filter, &mut row,
+        slots,
+        value,
+        Ok(()),
+        limit,
+        d,
+        sets,
+        entries,
+        order,
+        attrs,
+        present,
+        filter,
+        &mut row,
     );
-    let no = take(
-        bounds,
-        seat.no,
-        seat.slot,
-        seat.updated,
-        totals,
-        extremes,
-        counts,
-        v,
-    );
-    let target = seat.target;
-    crate::first::finish(no, d, sets, entries, order, &row, target)
+    let done = take(bounds, seat, totals, extremes, counts, v);
+    crate::first::finish(done, d, sets, entries, order, &row)
 }
 
 // Records a value into the series that the handle names; or 12, 6, 8, 7, 9.
@@ -176,17 +183,7 @@ pub fn measure_by(
     let slots = slots_of(bounds, totals.len(), extremes.len(), counts.len());
     let value = crate::first::takes(v);
     let row: [u64; 9] = [0; 9];
-    let seat = seats::seat_by(slots, value, 0, limit, d, sets, entries, order, h);
-    let no = take(
-        bounds,
-        seat.no,
-        seat.slot,
-        seat.updated,
-        totals,
-        extremes,
-        counts,
-        v,
-    );
-    let target = seat.target;
-    crate::first::finish(no, d, sets, entries, order, &row, target)
+    let seat = seats::seat_by(slots, value, Ok(()), limit, d, sets, entries, order, h);
+    let done = take(bounds, seat, totals, extremes, counts, v);
+    crate::first::finish(done, d, sets, entries, order, &row)
 }

@@ -1,9 +1,11 @@
 // The map of the exponential kind: configuring, and recording by set and by handle. Its stores: the directory's (sets, entries, order),
 // and each slot's figures, extremes and rows of counts.
-ghost use Rattle.std.specs.Prelude.{◌≡◌, [], ◌∷◌, ℕ, ◌+◌, leb};
+ghost use Rattle.std.specs.Prelude.{◌≡◌, [], ◌∷◌, ℕ, ◌+◌, leb, IfOk};
+ghost use Rattle.refusals.specs.Refusals.{code};
 ghost use Rattle.rows.specs.Recording.{after};
 ghost use Rattle.sets.specs.Sorted.{given, filter_of};
 ghost use Rattle.directory.specs.View.{stores};
+ghost use Rattle.seats.specs.Seats.{seating};
 ghost use Rattle.exponential_slots.specs.Cells.{cells};
 ghost use Rattle.value_map.specs.Store.{lengths_suffice};
 ghost use Rattle.value_map.specs.Calls.{held, gave, started, measured, measured_by};
@@ -11,24 +13,26 @@ ghost use Rattle.value_map.specs.Inner.{Takes, taken};
 ghost use Rattle.value_map.specs.Exponential.{unset, exponential_store};
 
 use bindings::Reply;
-use directory::Directory;
+use directory::{Directory, Target};
+use refusals::Refusal;
+use seats::Seated;
 use seats::room::lesser;
 
-// The number with which configuring refuses max_size, 1, or the greatest level, 2; 0 if it accepts both.
-pub fn unset_of(size: u32, top: u32) -> u8
-    ensures { result ≡ unset size top }
+// Whether configuring accepts max_size and the greatest level; or 1, 2.
+pub fn unset_of(size: u32, top: u32) -> Result<(), Refusal>
+    ensures { code result ≡ unset size top }
 {
     let n = size as usize;
     if n < exponential::LEAST_SIZE {
-        return 1;
+        return Err(Refusal::MaxSize);
     }
     if exponential::MOST_SIZE < n {
-        return 1;
+        return Err(Refusal::MaxSize);
     }
     if index::FINEST < top {
-        return 2;
+        return Err(Refusal::MaxScale);
     }
-    0
+    Ok(())
 }
 
 // How many slots the series' stores of these lengths have room for: by division, so that no product leaves its range.
@@ -86,31 +90,29 @@ pub fn start(
         pos.len(),
         neg.len(),
     );
-    let no = unset_of(size, top);
-    crate::first::begin(no, room, limit, present, filter, sets, entries, order)
+    let unset = unset_of(size, top);
+    crate::first::begin(unset, room, limit, present, filter, sets, entries, order)
 }
 
-// Records a value at the slot of a seating, unless that is refused; the number, 0 if the value was taken.
+// Records a value at the slot of a seat, and what the directory is to write then; or the seat's refusal, or the series'.
 fn take(
     size: u32,
     top: u32,
-    no: u8,
-    x: usize,
-    updated: bool,
+    seat: Result<Seated, Refusal>,
     figures: &mut [[u64; 8]],
     extremes: &mut [[f64; 3]],
     pos: &mut [u64],
     neg: &mut [u64],
     v: f64,
-) -> u8
-    requires { Takes (exponential_store size top) (cells figures.old extremes.old pos.old neg.old) v no x }
-    ensures { after result (cells figures.new extremes.new pos.new neg.new)
-        ≡ taken (exponential_store size top) (cells figures.old extremes.old pos.old neg.old) v no no x updated }
+) -> Result<Target, Refusal>
+    requires { Takes (exponential_store size top) (cells figures.old extremes.old pos.old neg.old) v (seating seat).no (seating seat).slot }
+    ensures value { after (code result) (cells figures.new extremes.new pos.new neg.new)
+        ≡ taken (exponential_store size top) (cells figures.old extremes.old pos.old neg.old) v (seating seat).no (seating seat).no (seating seat).slot (seating seat).updated }
+    ensures target { IfOk result (λ t. t ≡ (seating seat).target) }
 {
-    if no != 0 {
-        return no;
-    }
-    exponential_slots::record(size, top, x, updated, figures, extremes, pos, neg, v)
+    let s = seat?;
+    exponential_slots::record(size, top, s.slot, s.updated, figures, extremes, pos, neg, v)?;
+    Ok(s.target)
 }
 
 // Records a value into the series of the attributes' set: its own entry, held or new, or that of overflow; or 12, 6, 5, 8, 9.
@@ -143,20 +145,8 @@ pub fn measure(
     let seat = seats::seat(
         slots, value, unset, limit, d, sets, entries, order, attrs, present, filter, &mut row,
     );
-    let no = take(
-        size,
-        top,
-        seat.no,
-        seat.slot,
-        seat.updated,
-        figures,
-        extremes,
-        pos,
-        neg,
-        v,
-    );
-    let target = seat.target;
-    crate::first::finish(no, d, sets, entries, order, &row, target)
+    let done = take(size, top, seat, figures, extremes, pos, neg, v);
+    crate::first::finish(done, d, sets, entries, order, &row)
 }
 
 // Records a value into the series that the handle names; or 12, 6, 8, 7, 9.
@@ -185,18 +175,6 @@ pub fn measure_by(
     let value = crate::first::takes(v);
     let row: [u64; 9] = [0; 9];
     let seat = seats::seat_by(slots, value, unset, limit, d, sets, entries, order, h);
-    let no = take(
-        size,
-        top,
-        seat.no,
-        seat.slot,
-        seat.updated,
-        figures,
-        extremes,
-        pos,
-        neg,
-        v,
-    );
-    let target = seat.target;
-    crate::first::finish(no, d, sets, entries, order, &row, target)
+    let done = take(size, top, seat, figures, extremes, pos, neg, v);
+    crate::first::finish(done, d, sets, entries, order, &row)
 }

@@ -1,15 +1,17 @@
 // What the calls of every kind share, those of other crates too: whether a value is recorded at all, how a recording ends, configuring.
-ghost use Rattle.std.specs.Prelude.{◌≡◌};
+ghost use Rattle.std.specs.Prelude.{◌≡◌, IfOk};
+ghost use Rattle.refusals.specs.Refusals.{code};
 ghost use Rattle.kinds.specs.Histograms.{histograms};
 ghost use Rattle.sets.specs.Sorted.{filter_of};
 ghost use Rattle.directory.specs.View.{stores};
 ghost use Rattle.bindings.specs.Calls.{gave};
 ghost use Rattle.seats.specs.Inner.{Fits};
 ghost use Rattle.value_map.specs.Calls.{begun};
-ghost use Rattle.value_map.specs.Inner.{finished};
+ghost use Rattle.value_map.specs.Inner.{target_of, finished};
 
-use bindings::{Answer, Reply};
+use bindings::Reply;
 use directory::{Directory, Target};
+use refusals::Refusal;
 
 // Whether a map of f64s takes a value, a histogram's or another: number 6 refuses the others.
 pub fn takes(v: f64) -> bool
@@ -20,34 +22,36 @@ pub fn takes(v: f64) -> bool
 
 // The end of a recording: the refusal, or what the directory writes.
 pub fn finish(
-    no: u8,
+    done: Result<Target, Refusal>,
     d: Directory,
     sets: &mut [[u64; 9]],
     entries: &mut [[u64; 3]],
     order: &mut [u32],
     row: &[u64; 9],
-    target: Target,
 ) -> Reply
-    requires { no ≡ 0 → Fits d (stores sets.old entries.old order.old) target }
+    requires { IfOk done (λ t. Fits d (stores sets.old entries.old order.old) t) }
     ensures { gave result (stores sets.new entries.new order.new)
-        ≡ finished no d (stores sets.old entries.old order.old) row.now target }
+        ≡ finished (code done) d (stores sets.old entries.old order.old) row.now (target_of done) }
 {
-    if no != 0 {
-        return Reply {
-            answer: Answer::Refused(no),
-            dir: d,
-        };
-    }
+    let target = match done {
+        Ok(target) => target,
+        Err(no) => {
+            return Reply {
+                answer: Err(no),
+                dir: d,
+            };
+        }
+    };
     let e = seats::commit(d, sets, entries, order, row, target);
     Reply {
-        answer: Answer::Done,
+        answer: Ok(None),
         dir: e,
     }
 }
 
-// Configures a map, of a kind whose number for its settings and whose cells are given: a fresh start, or 1, 2, 3, 4, 12.
+// Configures a map, of a kind whose answer to its settings and whose cells are given: a fresh start, or 1, 2, 3, 4, 12.
 pub fn begin(
-    unset: u8,
+    unset: Result<(), Refusal>,
     cells: bool,
     limit: u64,
     present: bool,
@@ -57,28 +61,28 @@ pub fn begin(
     order: &[u32],
 ) -> Reply
     ensures { gave result (stores sets.now entries.new order.now)
-        ≡ begun unset cells limit (filter_of present filter.now) (stores sets.now entries.old order.now) }
+        ≡ begun (code unset) cells limit (filter_of present filter.now) (stores sets.now entries.old order.now) }
 {
     let d = Directory {
         used: 0,
         count: 0,
         last: 0,
     };
-    if unset != 0 {
+    if let Err(no) = unset {
         return Reply {
-            answer: Answer::Refused(unset),
+            answer: Err(no),
             dir: d,
         };
     }
     if !directory::accepted(limit, present, filter) {
         return Reply {
-            answer: Answer::Refused(4),
+            answer: Err(Refusal::Limit),
             dir: d,
         };
     }
     if !cells {
         return Reply {
-            answer: Answer::Refused(12),
+            answer: Err(Refusal::LentShort),
             dir: d,
         };
     }

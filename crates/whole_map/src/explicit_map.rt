@@ -1,10 +1,12 @@
 // The map of the explicit kind over i64: configuring, and recording by set and by handle. Its stores: the directory's (sets, entries, order),
 // and each slot's count, its minimum, maximum and sum, and its bucket counts.
-ghost use Rattle.std.specs.Prelude.{◌≡◌, [], ◌∷◌, ℕ, ◌+◌, leb};
+ghost use Rattle.std.specs.Prelude.{◌≡◌, [], ◌∷◌, ℕ, ◌+◌, leb, IfOk};
+ghost use Rattle.refusals.specs.Refusals.{number, code};
 ghost use Rattle.points.specs.Explicit.{bounds_pass, bucket_count};
 ghost use Rattle.rows.specs.Recording.{after};
 ghost use Rattle.sets.specs.Sorted.{given, filter_of};
 ghost use Rattle.directory.specs.View.{stores};
+ghost use Rattle.seats.specs.Seats.{seating};
 ghost use Rattle.explicit_whole_slots.specs.Cells.{cells};
 ghost use Rattle.value_map.specs.Store.{lengths_suffice};
 ghost use Rattle.value_map.specs.Calls.{held, gave, started, measured, measured_by};
@@ -13,8 +15,10 @@ ghost use Rattle.whole_map.specs.Explicit.{explicit_wholes};
 
 use crate::exponential_map::takes;
 use bindings::Reply;
-use directory::Directory;
+use directory::{Directory, Target};
+use refusals::Refusal;
 use seats::room::lesser;
+use seats::Seated;
 use value_map::explicit_map::{cells_suffice, unset_of};
 use value_map::first;
 
@@ -49,48 +53,46 @@ pub fn start(
         (stores sets.now entries.old order.now) (cells totals.now extremes.now counts.now) }
 {
     let room = cells_suffice(bounds, limit, totals.len(), extremes.len(), counts.len());
-    let no = unset_of(bounds);
-    first::begin(no, room, limit, present, filter, sets, entries, order)
+    let unset = unset_of(bounds);
+    first::begin(unset, room, limit, present, filter, sets, entries, order)
 }
 
-// The number of a seating that is refused: the bounds are asked last, for the series does it. 8 where configuring could not have accepted
-// them, unless a number stands that comes before: 12, 6, 5.
-fn turned_by(bounds: &[f64], no: u8) -> u8
-    ensures { result ≡ turned (bounds_pass bounds.now) no }
+// The refusal of a seat: the bounds are asked last, for the series does it. 8 where configuring could not have accepted them, unless a
+// refusal stands that comes before: 12, 6, 5.
+fn turned_by(bounds: &[f64], no: Refusal) -> Refusal
+    ensures { number result ≡ turned (bounds_pass bounds.now) (number no) }
 {
-    if no < 7 {
-        return no;
+    match no {
+        Refusal::NoHandle | Refusal::Disagrees | Refusal::Full => {
+            if explicit::bounds_pass(bounds) { no } else { Refusal::Disagrees }
+        }
+        _ => no,
     }
-    if no > 9 {
-        return no;
-    }
-    if !explicit::bounds_pass(bounds) {
-        return 8;
-    }
-    no
 }
 
-// Records a value at the slot of a seating, unless that is refused; the number, 0 if the value was taken.
+// Records a value at the slot of a seat, and what the directory is to write then; or the seat's refusal, or the series'.
 fn take(
     bounds: &[f64],
     sums: bool,
-    no: u8,
-    x: usize,
-    updated: bool,
+    seat: Result<Seated, Refusal>,
     totals: &mut [u64],
     extremes: &mut [[i64; 3]],
     counts: &mut [u64],
     v: i64,
-) -> u8
-    requires { Takes (explicit_wholes bounds.now sums) (cells totals.old extremes.old counts.old) v no x }
-    ensures { after result (cells totals.new extremes.new counts.new)
-        ≡ taken (explicit_wholes bounds.now sums) (cells totals.old extremes.old counts.old) v no
-        (turned (bounds_pass bounds.now) no) x updated }
+) -> Result<Target, Refusal>
+    requires { Takes (explicit_wholes bounds.now sums) (cells totals.old extremes.old counts.old) v (seating seat).no (seating seat).slot }
+    ensures value { after (code result) (cells totals.new extremes.new counts.new)
+        ≡ taken (explicit_wholes bounds.now sums) (cells totals.old extremes.old counts.old) v (seating seat).no
+        (turned (bounds_pass bounds.now) (seating seat).no) (seating seat).slot (seating seat).updated }
+    ensures target { IfOk result (λ t. t ≡ (seating seat).target) }
 {
-    if no != 0 {
-        return turned_by(bounds, no);
+    match seat {
+        Err(no) => Err(turned_by(bounds, no)),
+        Ok(s) => {
+            explicit_whole_slots::record(bounds, sums, s.slot, s.updated, totals, extremes, counts, v)?;
+            Ok(s.target)
+        }
     }
-    explicit_whole_slots::record(bounds, sums, x, updated, totals, extremes, counts, v)
 }
 
 // Records a value into the series of the attributes' set: its own entry, held or new, or that of overflow; or 12, 5, 8, 9, 16.
@@ -119,21 +121,18 @@ pub fn measure(
     let value = takes(v);
     let mut row: [u64; 9] = [0; 9];
     let seat = seats::seat(
-        slots, value, 0, limit, d, sets, entries, order, attrs, present, filter, &mut row,
+        slots, value, Ok(()), limit, d, sets, entries, order, attrs, present, filter, &mut row,
     );
-    let no = take(
+    let done = take(
         bounds,
         sums,
-        seat.no,
-        seat.slot,
-        seat.updated,
+        seat,
         totals,
         extremes,
         counts,
         v,
     );
-    let target = seat.target;
-    first::finish(no, d, sets, entries, order, &row, target)
+    first::finish(done, d, sets, entries, order, &row)
 }
 
 // Records a value into the series that the handle names; or 12, 8, 7, 9, 16.
@@ -159,18 +158,15 @@ pub fn measure_by(
     let slots = slots_of(bounds, totals.len(), extremes.len(), counts.len());
     let value = takes(v);
     let row: [u64; 9] = [0; 9];
-    let seat = seats::seat_by(slots, value, 0, limit, d, sets, entries, order, h);
-    let no = take(
+    let seat = seats::seat_by(slots, value, Ok(()), limit, d, sets, entries, order, h);
+    let done = take(
         bounds,
         sums,
-        seat.no,
-        seat.slot,
-        seat.updated,
+        seat,
         totals,
         extremes,
         counts,
         v,
     );
-    let target = seat.target;
-    first::finish(no, d, sets, entries, order, &row, target)
+    first::finish(done, d, sets, entries, order, &row)
 }

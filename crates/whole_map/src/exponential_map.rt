@@ -1,9 +1,11 @@
 // The map of the exponential kind over i64: configuring, and recording by set and by handle. Its stores: the directory's (sets, entries,
 // order), and each slot's figures, extremes and rows of counts.
-ghost use Rattle.std.specs.Prelude.{◌≡◌, [], ◌∷◌, ℕ, ◌+◌, leb};
+ghost use Rattle.std.specs.Prelude.{◌≡◌, [], ◌∷◌, ℕ, ◌+◌, leb, IfOk};
+ghost use Rattle.refusals.specs.Refusals.{code};
 ghost use Rattle.rows.specs.Recording.{after};
 ghost use Rattle.sets.specs.Sorted.{given, filter_of};
 ghost use Rattle.directory.specs.View.{stores};
+ghost use Rattle.seats.specs.Seats.{seating};
 ghost use Rattle.kinds.specs.Wholes.{wholes};
 ghost use Rattle.exponential_whole_slots.specs.Cells.{cells};
 ghost use Rattle.value_map.specs.Store.{lengths_suffice};
@@ -12,8 +14,10 @@ ghost use Rattle.value_map.specs.Inner.{Takes, taken};
 ghost use Rattle.whole_map.specs.Exponential.{exponential_wholes};
 
 use bindings::Reply;
-use directory::Directory;
+use directory::{Directory, Target};
+use refusals::Refusal;
 use seats::room::lesser;
+use seats::Seated;
 use value_map::exponential_map::{cells_suffice, unset_of};
 use value_map::first;
 
@@ -65,32 +69,30 @@ pub fn start(
         pos.len(),
         neg.len(),
     );
-    let no = unset_of(size, top);
-    first::begin(no, room, limit, present, filter, sets, entries, order)
+    let unset = unset_of(size, top);
+    first::begin(unset, room, limit, present, filter, sets, entries, order)
 }
 
-// Records a value at the slot of a seating, unless that is refused; the number, 0 if the value was taken.
+// Records a value at the slot of a seat, and what the directory is to write then; or the seat's refusal, or the series'.
 fn take(
     size: u32,
     top: u32,
     sums: bool,
-    no: u8,
-    x: usize,
-    updated: bool,
+    seat: Result<Seated, Refusal>,
     figures: &mut [[u64; 8]],
     extremes: &mut [[i64; 3]],
     pos: &mut [u64],
     neg: &mut [u64],
     v: i64,
-) -> u8
-    requires { Takes (exponential_wholes size top sums) (cells figures.old extremes.old pos.old neg.old) v no x }
-    ensures { after result (cells figures.new extremes.new pos.new neg.new)
-        ≡ taken (exponential_wholes size top sums) (cells figures.old extremes.old pos.old neg.old) v no no x updated }
+) -> Result<Target, Refusal>
+    requires { Takes (exponential_wholes size top sums) (cells figures.old extremes.old pos.old neg.old) v (seating seat).no (seating seat).slot }
+    ensures value { after (code result) (cells figures.new extremes.new pos.new neg.new)
+        ≡ taken (exponential_wholes size top sums) (cells figures.old extremes.old pos.old neg.old) v (seating seat).no (seating seat).no (seating seat).slot (seating seat).updated }
+    ensures target { IfOk result (λ t. t ≡ (seating seat).target) }
 {
-    if no != 0 {
-        return no;
-    }
-    exponential_whole_slots::record(size, top, sums, x, updated, figures, extremes, pos, neg, v)
+    let s = seat?;
+    exponential_whole_slots::record(size, top, sums, s.slot, s.updated, figures, extremes, pos, neg, v)?;
+    Ok(s.target)
 }
 
 // Records a value into the series of the attributes' set: its own entry, held or new, or that of overflow; or 12, 5, 8, 9, 16.
@@ -124,21 +126,18 @@ pub fn measure(
     let seat = seats::seat(
         slots, value, unset, limit, d, sets, entries, order, attrs, present, filter, &mut row,
     );
-    let no = take(
+    let done = take(
         size,
         top,
         sums,
-        seat.no,
-        seat.slot,
-        seat.updated,
+        seat,
         figures,
         extremes,
         pos,
         neg,
         v,
     );
-    let target = seat.target;
-    first::finish(no, d, sets, entries, order, &row, target)
+    first::finish(done, d, sets, entries, order, &row)
 }
 
 // Records a value into the series that the handle names; or 12, 8, 7, 9, 16.
@@ -168,19 +167,16 @@ pub fn measure_by(
     let value = takes(v);
     let row: [u64; 9] = [0; 9];
     let seat = seats::seat_by(slots, value, unset, limit, d, sets, entries, order, h);
-    let no = take(
+    let done = take(
         size,
         top,
         sums,
-        seat.no,
-        seat.slot,
-        seat.updated,
+        seat,
         figures,
         extremes,
         pos,
         neg,
         v,
     );
-    let target = seat.target;
-    first::finish(no, d, sets, entries, order, &row, target)
+    first::finish(done, d, sets, entries, order, &row)
 }

@@ -13,7 +13,7 @@ use Rattle.laws.specs.Counting.{total, most_count}
 use Rattle.laws.proofs.Bools.{flag, pick_true, pick-false}
 use Rattle.laws.proofs.Differences.{le_or-lt}
 use Rattle.integers.specs.Answers.{nearest_of, lesser_of, greater_of, kept_sum}
-use Rattle.integers.specs.declared.Total.TheVariants.{Outside, Is}
+use Rattle.std.specs.Prelude.{Some, None}
 use Rattle.rows.specs.Recording.{Recording, after}
 use Rattle.rows.specs.Rows.{over}
 use Rattle.points.specs.Explicit.{Buckets, bucket_count, record_bucket}
@@ -49,11 +49,11 @@ module _ (sums : Bool) (h : Head) (v : ℤ) where
     unfolding raising
     raise_0 t = sym (pick-false _ _ _ (lt-leb most_count h.count e) ∙ pick_true _ _ _ t)
 
-    pub raise-outside : kept_sum sums h.sum v ≡ Outside → after 16 h ≡ raising sums h v
+    pub raise-outside : kept_sum sums h.sum v ≡ None → after 16 h ≡ raising sums h v
     raise-outside t = raise_16 (sum-leaves sums h.sum v t)
 
     pub raise-inside : (mn mx sm s : ℤ) → mn ≡ lesser_of h.min v → mx ≡ greater_of h.max v → sm ≡ s
-        → kept_sum sums h.sum v ≡ Is s → after 0 (record { count = h.count + 1; min = mn; max = mx; sum = sm }) ≡ raising sums h v
+        → kept_sum sums h.sum v ≡ Some s → after 0 (record { count = h.count + 1; min = mn; max = mx; sum = sm }) ≡ raising sums h v
     raise-inside mn mx sm s a b c t =
         let w = sum-takes sums h.sum v s t in
         (λ j. after 0 (record { count = h.count + 1; min = a j; max = b j; sum = (c ∙ w.sum) j })) ∙ raise_0 w.takes

@@ -7,7 +7,6 @@ ghost use Rattle.explicit_batches.specs.Values.{Counted};
 ghost use Rattle.explicit_whole_batches.specs.Values.{series, step, raising};
 
 use explicit_wholes::Head;
-use integers::Total;
 
 // What a value left: the head, and the number that refused it, 0 if it was taken.
 #[derive(Clone, Copy)]
@@ -33,8 +32,8 @@ fn raised(sums: bool, head: Head, v: i64) -> Step
     }
     let total = integers::kept_sum(sums, head.sum, v);
     match total {
-        Total::Outside => Step { head, no: 16 },
-        Total::Is(s) => {
+        None => Step { head, no: 16 },
+        Some(s) => {
             let least = integers::lesser(head.min, v);
             let greatest = integers::greater(head.max, v);
             Step {

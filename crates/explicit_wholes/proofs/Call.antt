@@ -13,7 +13,7 @@ use Rattle.laws.specs.Said.{Said, refusal, success}
 use Rattle.laws.specs.Over.{over}
 use Rattle.laws.proofs.Bools.{pick_true, pick-false}
 use Rattle.integers.specs.Answers.{nearest_of, kept_sum, last_number}
-use Rattle.integers.specs.declared.Total.TheVariants.{Outside, Is}
+use Rattle.std.specs.Prelude.{Some, None}
 use Rattle.points.specs.Explicit.{Buckets, bucket_count, record_bucket}
 use Rattle.points.specs.Whole.{whole}
 use Rattle.points.proofs.WholeSums.{sum-takes, sum-leaves, last_some}
@@ -111,13 +111,13 @@ module _ (bounds : List Float) (sums : Bool) (h : Head) (xs : List ℕ) (v : ℤ
   goes_on e = pick_true _ _ _ (eq-eqb (refusal_of bounds sums h xs v) 0 e)
 
   -- where the sum would leave i64
-  pub outside_law : kept_sum sums h.sum v ≡ Outside → (n k : ℕ) → n ≡ before → k ≡ last_number n → outcome (refusal k) xs ≡ recording bounds sums h xs v
+  pub outside_law : kept_sum sums h.sum v ≡ None → (n k : ℕ) → n ≡ before → k ≡ last_number n → outcome (refusal k) xs ≡ recording bounds sums h xs v
   outside_law t n k e d =
       ap (λ m. outcome (refusal m) xs) (d ∙ ap last_number e)
       ∙ gives_up (last_number before) (number-last (sum-leaves sums h.sum v t)) (last_some before)
 
   -- where it does not
-  pub inside_law : (s : ℤ) (r : Said F.Head) (a : Said Head) (xs' : List ℕ) → kept_sum sums h.sum v ≡ Is s
+  pub inside_law : (s : ℤ) (r : Said F.Head) (a : Said Head) (xs' : List ℕ) → kept_sum sums h.sum v ≡ Some s
       → E.outcome r xs' ≡ E.recording bounds (under h.count) xs (nearest_of v) → a ≡ finished h v s r
       → outcome a xs' ≡ recording bounds sums h xs v
   inside_law s (refusal n) a xs' t e f =

@@ -6,7 +6,6 @@ ghost use Rattle.std.specs.Prelude.{◌≡◌};
 ghost use Rattle.explicit_wholes.specs.Series.{under, begun, finished, outcome, freshening, recording};
 ghost use Rattle.refusals.specs.Refusals.{said};
 
-use integers::Total;
 use refusals::Refusal;
 
 #[derive(Clone, Copy)]
@@ -86,11 +85,11 @@ pub fn record(
     let x = integers::nearest(v);
     let total = integers::kept_sum(sums, head.sum, v);
     match total {
-        Total::Outside => {
+        None => {
             explicit::refusal(bounds, h, counts, x)?;
             Err(Refusal::SumOutside)
         }
-        Total::Is(s) => {
+        Some(s) => {
             let r = explicit::record(bounds, h, counts, x);
             finish(head, v, s, r)
         }

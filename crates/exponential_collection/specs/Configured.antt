@@ -1,11 +1,9 @@
 -- Configuring a map of the exponential kind as its caller knows it, by a signed max_scale. Assumes nothing.
-use Rattle.std.specs.Prelude.{ℕ, suc, Bool, List, ℤ}
+use Rattle.std.specs.Prelude.{ℕ, suc, Bool, List, ℤ, Option, Some, None}
 use Rattle.std.proofs.Math.Option.{Option}
 use Rattle.laws.specs.Said.{Said, refusal, success}
 use Rattle.index.specs.Bins.{finest}
 use Rattle.index.specs.Signed.{level_answer}
-use Rattle.index.specs.declared.signed.Natural.{Natural}
-use Rattle.index.specs.declared.signed.Natural.TheVariants.{OutOfRange, Is}
 use Rattle.directory.specs.View.{Stores}
 use Rattle.directory.specs.declared.Directory.{Directory}
 use Rattle.exponential_slots.specs.Cells.{Cells}
@@ -16,9 +14,9 @@ use Rattle.exponential_collection.specs.declared.Configured.{Configured}
 use Rattle.exponential_collection.specs.declared.Configured.TheVariants.{Refused, Accepted}
 
 -- the greatest level of a max_scale; one above the finest, which number 2 refuses, where there is none
-abbrev pub level_or : Natural → ℕ
-level_or OutOfRange = suc finest
-level_or (Is n) = n
+abbrev pub level_or : Option ℕ → ℕ
+level_or None = suc finest
+level_or (Some n) = n
 
 abbrev pub top_of : ℤ → ℕ
 top_of scale = level_or (level_answer scale)

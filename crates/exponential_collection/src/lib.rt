@@ -23,7 +23,6 @@ ghost use Rattle.exponential_collection.specs.Configured.{level_or, said, config
 
 use collecting::{Answer, Reply};
 use directory::Directory;
-use index::signed::Natural;
 
 // What was configured: max_size, the greatest level, the two switches, the cardinality limit.
 #[derive(Clone, Copy)]
@@ -50,12 +49,12 @@ pub enum Configured {
 }
 
 // The greatest level of a max_scale; one above the finest where the scale is out of range, which number 2 refuses.
-pub fn level_or(found: Natural) -> u32
+pub fn level_or(found: Option<u32>) -> u32
     ensures { result ≡ level_or found }
 {
     match found {
-        Natural::OutOfRange => index::FINEST + 1,
-        Natural::Is(level) => level,
+        None => index::FINEST + 1,
+        Some(level) => level,
     }
 }
 

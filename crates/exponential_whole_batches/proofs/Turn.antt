@@ -19,7 +19,7 @@ use Rattle.laws.specs.Counting.{most_count}
 use Rattle.laws.proofs.Bools.{pick_true, pick-false}
 use Rattle.floats.specs.Starts.{zero_float}
 use Rattle.integers.specs.Answers.{in_range, nearest_of, kept_sum}
-use Rattle.integers.specs.declared.Total.TheVariants.{Outside, Is}
+use Rattle.std.specs.Prelude.{Some, None}
 use Rattle.integers.proofs.NoNearer.{nearest-is}
 use Rattle.points.specs.Points.{Point, record1}
 use Rattle.points.specs.Classes.{class_of}
@@ -115,10 +115,10 @@ module _ (size top : ℕ) (sums : Bool) (s : Series) (v : ℤ) where
       full e = refused 9 (W.refused_law size top sums s.head s.pos s.neg v 9 (sym (full-before e)) (λ z. omega (arith, z)))
 
       module _ (d : s.head.counts.count ≡ most_count → ⊥) where
-        pub outside : kept_sum sums s.head.sum v ≡ Outside → after 16 s ≡ step size top sums s v
+        pub outside : kept_sum sums s.head.sum v ≡ None → after 16 s ≡ step size top sums s v
         outside t = refused 16 (W.outside_law size top sums s.head s.pos s.neg v (free d) t)
 
-        pub inside : (x mn mx : ℤ) (c : Counts) (xs ys : List ℕ) → kept_sum sums s.head.sum v ≡ Is x → Written next s.pos s.neg c xs ys
+        pub inside : (x mn mx : ℤ) (c : Counts) (xs ys : List ℕ) → kept_sum sums s.head.sum v ≡ Some x → Written next s.pos s.neg c xs ys
             → mn ≡ whole.lesser s.head.min v → mx ≡ whole.greater s.head.max v
             → after 0 (record { head = record { counts = c; min = mn; max = mx; sum = x }; pos = xs; neg = ys }) ≡ step size top sums s v
         inside x mn mx c xs ys t w a b = ap (leaving s) (W.inside_law size top sums s.head s.pos s.neg v x mn mx c xs ys (free d) t w a b) ∙ sym step_is

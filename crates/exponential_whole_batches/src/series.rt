@@ -7,7 +7,6 @@ ghost use Rattle.exponential_whole_batches.specs.Series.{series, Sound, step};
 
 use exponential::Counts;
 use exponential_wholes::Head;
-use integers::Total;
 
 // The head that one value leaves, and the number that refused it, 0 if it was taken.
 #[derive(Clone, Copy)]
@@ -55,8 +54,8 @@ fn next(
     }
     let total = integers::kept_sum(sums, head.sum, v);
     match total {
-        Total::Outside => Step { head, no: 16 },
-        Total::Is(s) => {
+        None => Step { head, no: 16 },
+        Some(s) => {
             let h = under_counts(c);
             let x = integers::nearest(v);
             let least = integers::lesser(head.min, v);

@@ -18,7 +18,7 @@ use Rattle.laws.specs.Said.{refusal, success}
 use Rattle.laws.proofs.Bools.{pick_true, pick-false}
 use Rattle.floats.specs.Starts.{zero_float}
 use Rattle.integers.specs.Answers.{nearest_of, kept_sum, last_number}
-use Rattle.integers.specs.declared.Total.TheVariants.{Outside, Is}
+use Rattle.std.specs.Prelude.{Some, None}
 use Rattle.integers.proofs.NoNearer.{nearest-is}
 use Rattle.points.specs.Points.{record1}
 use Rattle.points.specs.Classes.{class_of}
@@ -78,11 +78,11 @@ module _ (size top : ℕ) (sums : Bool) (h : Head) (xs ys : List ℕ) (v : ℤ) 
   refused_law n e z = gives_up n (number-before (λ d. z (e ∙ d)) ∙ sym e) z
 
   -- where the sum would leave i64
-  pub outside_law : before ≡ 0 → kept_sum sums h.sum v ≡ Outside → outcome (refusal 16) xs ys ≡ recording size top sums h xs ys v
+  pub outside_law : before ≡ 0 → kept_sum sums h.sum v ≡ None → outcome (refusal 16) xs ys ≡ recording size top sums h xs ys v
   outside_law e t = gives_up 16 (number-last (sum-leaves sums h.sum v t) ∙ ap last_number e ∙ pick_true _ _ _ refl) (λ z. omega (arith, z))
 
   -- where it does not
-  pub inside_law : (s mn mx : ℤ) (c : Counts) (xs' ys' : List ℕ) → before ≡ 0 → kept_sum sums h.sum v ≡ Is s
+  pub inside_law : (s mn mx : ℤ) (c : Counts) (xs' ys' : List ℕ) → before ≡ 0 → kept_sum sums h.sum v ≡ Some s
       → Written (record1 size (read h.counts xs ys) (class_of zero_float (nearest_of v))) xs ys c xs' ys'
       → mn ≡ whole.lesser h.min v → mx ≡ whole.greater h.max v
       → outcome (success (record { counts = c; min = mn; max = mx; sum = s })) xs' ys' ≡ recording size top sums h xs ys v

@@ -7,7 +7,6 @@ ghost use Rattle.exponential_wholes.specs.Series.{fresh_head, under, outcome, re
 ghost use Rattle.refusals.specs.Refusals.{said};
 
 use exponential::Counts;
-use integers::Total;
 use refusals::Refusal;
 
 #[derive(Clone, Copy)]
@@ -64,8 +63,8 @@ pub fn record(
     exponential::refusal(size, top, h, pos, neg, x)?;
     let total = integers::kept_sum(sums, head.sum, v);
     match total {
-        Total::Outside => Err(Refusal::SumOutside),
-        Total::Is(s) => {
+        None => Err(Refusal::SumOutside),
+        Some(s) => {
             let least = integers::lesser(head.min, v);
             let greatest = integers::greater(head.max, v);
             let next = exponential::count_in(size, top, h, pos, neg, x);

@@ -1,10 +1,8 @@
 -- What the functions of this crate answer. Assumes nothing.
-use Rattle.std.specs.Prelude.{ℕ, Bool, true, false, not, ◌&&◌, eqb, Float}
+use Rattle.std.specs.Prelude.{ℕ, Bool, true, false, not, ◌&&◌, eqb, Float, Option, Some, None}
 use Rattle.std.specs.Float.{binary64}
 use Rattle.std.specs.Float.Ieee.{lt, is_nan, to_bits}
 use Rattle.laws.specs.Pick.{pick}
-use Rattle.floats.specs.declared.Extreme.{Extreme}
-use Rattle.floats.specs.declared.Extreme.TheVariants.{None, Value}
 
 -- "the smaller min and larger max (equal: the first's)"; zeros compare equal, so the zero held first stays
 abbrev pub lesser_of : Float → Float → Float
@@ -19,23 +17,23 @@ abbrev pub shows : Bool → ℕ → Bool
 shows switch count = switch && not (eqb count 0)
 
 -- the extreme that it then has, of the number that is held
-abbrev pub shown_of : Bool → ℕ → Float → Extreme
-shown_of switch count x = pick (shows switch count) (Value x) None
+abbrev pub shown_of : Bool → ℕ → Float → Option Float
+shown_of switch count x = pick (shows switch count) (Some x) None
 
-abbrev pub is_shown : Extreme → Bool
+abbrev pub is_shown : Option Float → Bool
 is_shown None = false
-is_shown (Value x) = true
+is_shown (Some x) = true
 
 -- the smaller of two minima, and the larger of two maxima; document 02, L4: "Merging with such a point keeps the other's extremes"
-abbrev pub smaller_of : Extreme → Extreme → Extreme
+abbrev pub smaller_of : Option Float → Option Float → Option Float
 smaller_of None b = b
-smaller_of (Value x) None = Value x
-smaller_of (Value x) (Value y) = Value (lesser_of x y)
+smaller_of (Some x) None = Some x
+smaller_of (Some x) (Some y) = Some (lesser_of x y)
 
-abbrev pub larger_of : Extreme → Extreme → Extreme
+abbrev pub larger_of : Option Float → Option Float → Option Float
 larger_of None b = b
-larger_of (Value x) None = Value x
-larger_of (Value x) (Value y) = Value (greater_of x y)
+larger_of (Some x) None = Some x
+larger_of (Some x) (Some y) = Some (greater_of x y)
 
 -- "A NaN sum is handed out as 7FF8000000000000"
 abbrev pub bits_of : Float → ℕ

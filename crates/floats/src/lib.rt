@@ -28,13 +28,6 @@ pub fn greater(a: f64, v: f64) -> f64
     if a < v { v } else { a }
 }
 
-// The minimum or the maximum of a point.
-#[derive(Clone, Copy)]
-pub enum Extreme {
-    None,
-    Value(f64),
-}
-
 // Whether a point shows its extremes: with the switch on and a value counted.
 pub fn shows_extremes(switch: bool, count: u64) -> bool
     ensures { result ≡ shows switch count }
@@ -46,37 +39,37 @@ pub fn shows_extremes(switch: bool, count: u64) -> bool
 }
 
 // An extreme as it is handed out: the number held, or none with the switch off or nothing counted.
-pub fn shown(switch: bool, count: u64, x: f64) -> Extreme
+pub fn shown(switch: bool, count: u64, x: f64) -> Option<f64>
     ensures { result ≡ shown_of switch count x }
 {
     if shows_extremes(switch, count) {
-        return Extreme::Value(x);
+        return Some(x);
     }
-    Extreme::None
+    None
 }
 
 // The smaller of two minima, the first where they compare equal; one that is there wins over none.
-pub fn smaller(low: Extreme, other: Extreme) -> Extreme
+pub fn smaller(low: Option<f64>, other: Option<f64>) -> Option<f64>
     ensures { result ≡ smaller_of low other }
 {
     match low {
-        Extreme::None => other,
-        Extreme::Value(x) => match other {
-            Extreme::None => low,
-            Extreme::Value(y) => Extreme::Value(lesser(x, y)),
+        None => other,
+        Some(x) => match other {
+            None => low,
+            Some(y) => Some(lesser(x, y)),
         },
     }
 }
 
 // The larger of two maxima, the first where they compare equal; one that is there wins over none.
-pub fn larger(high: Extreme, other: Extreme) -> Extreme
+pub fn larger(high: Option<f64>, other: Option<f64>) -> Option<f64>
     ensures { result ≡ larger_of high other }
 {
     match high {
-        Extreme::None => other,
-        Extreme::Value(x) => match other {
-            Extreme::None => high,
-            Extreme::Value(y) => Extreme::Value(greater(x, y)),
+        None => other,
+        Some(x) => match other {
+            None => high,
+            Some(y) => Some(greater(x, y)),
         },
     }
 }

@@ -11,7 +11,7 @@ use borrow.Author.Tests.{le-leb, lt-leb, eq-eqb, ne_eqb}
 use Rattle.laws.proofs.Bools.{pick_true, pick-false}
 use Rattle.text.specs.Numbers.{decimal_of, signed_of}
 use Rattle.text.specs.Fields.{spaces_of, field_of}
-use Rattle.text.specs.declared.numbers.Natural.{Natural}
+use Rattle.std.specs.Prelude.{Option}
 use Rattle.lines.specs.Spelled.{spelled, kept}
 use Rattle.lines.specs.declared.attributes.Given.{Given}
 use Rattle.gauge_lines.specs.declared.fields.Size.{Size}
@@ -30,7 +30,7 @@ module _ (bs : List ℕ) where
   unfolding settings_of
   settings-none h = sym (pick-false _ _ _ (ne_eqb (spaces_of bs) 4 h))
 
-  pub settings-are : spaces_of bs ≡ 4 → (z : Size) (s : Scale) (l t : Natural) → size_in (decimal_of (field_of bs 1)) ≡ z
+  pub settings-are : spaces_of bs ≡ 4 → (z : Size) (s : Scale) (l t : Option ℕ) → size_in (decimal_of (field_of bs 1)) ≡ z
       → scale_in (signed_of (field_of bs 2)) ≡ s → decimal_of (field_of bs 3) ≡ l → decimal_of (field_of bs 4) ≡ t
       → wanted_of z s l t ≡ settings_of bs
   unfolding settings_of
@@ -62,7 +62,7 @@ module _ (bs : List ℕ) where
   unfolding attributes_in
   kept-none store h = sym (pick-false (parted bs) _ _ h)
 
-  pub board-is : parted bs ≡ true → (g : Given) (x : Natural) → set_in bs ≡ g → bits_in bs ≡ x → both_of g x ≡ board_of bs
+  pub board-is : parted bs ≡ true → (g : Given) (x : Option ℕ) → set_in bs ≡ g → bits_in bs ≡ x → both_of g x ≡ board_of bs
   unfolding board_of
   board-is h g x p q = sym (pick_true (parted bs) _ _ h ∙ (λ i. both_of (p i) (q i)))
 

@@ -7,7 +7,7 @@ use lib.IntN.{pos}
 use Rattle.laws.specs.Pick.{pick}
 use Rattle.text.specs.Numbers.{digit_of, spelled_from, ill_led, decimal_of, bits_of, has_minus, signed_of}
 use Rattle.text.specs.Fields.{space, spaces_of, until, start_of, field_of}
-use Rattle.text.specs.declared.numbers.Natural.TheVariants as N
+use Rattle.std.specs.Prelude.{Some}
 use Rattle.lines.specs.Spelled.{word_of, attribute_of, parts, attributes_of, is_dash, spelled, next, put, told, kept}
 use Rattle.gauge_lines.specs.declared.fields.Asked.TheVariants as A
 use Rattle.gauge_lines.specs.declared.fields.Board.TheVariants as B
@@ -43,7 +43,7 @@ board = (refl, refl)
 abbrev collects : List ℕ
 collects = 99 ∷ 32 ∷ 50 ∷ 48 ∷ 48 ∷ []
 
-time : time_of collects ≡ N.Is 200
+time : time_of collects ≡ Some 200
 unfolding time_of spaces_of space field_of start_of until decimal_of ill_led spelled_from digit_of pick
 time = refl
 

@@ -8,8 +8,7 @@ use lib.IntN.{ℤ}
 use lib.ListN.{take, replicate}
 use lib.Ieee.{Float, binary64, of_bits}
 use Rattle.laws.specs.Pick.{pick}
-use Rattle.text.specs.declared.numbers.Natural.TheVariants as N
-use Rattle.text.specs.declared.numbers.Natural.{Natural}
+use Rattle.std.specs.Prelude.{Option, Some, None}
 use Rattle.lines.specs.Gathered.{Text, ◌behind◌}
 use Rattle.sets.specs.Sorted.{given}
 use Rattle.directory.specs.View.{Stores}
@@ -93,15 +92,15 @@ abbrev left : Collected → List ℕ → Stores → Cells → Output → Followe
 left r block s c o = record { taken = r.taken; gauge = r.gauge; text = text r.text block; stores = s; cells = c; out = o }
 
 module _ (form : Form) (g : Gauge) (bs : List ℕ) (n : ℕ) (block : List ℕ) (s : Stores) (c : Cells) (o : Output) where
-  abbrev asked : Natural → Followed
+  abbrev asked : Option ℕ → Followed
   asked x = collected_by form g x (text n block) s c o
 
-  pub collect-refused : time_of bs ≡ N.None → (r : Collected) → r ≡ record { taken = false; gauge = g; text = n }
+  pub collect-refused : time_of bs ≡ None → (r : Collected) → r ≡ record { taken = false; gauge = g; text = n }
       → left r block s c o ≡ after_collect form g bs (text n block) s c o
   unfolding after_collect
   collect-refused e r p = ap (λ (x : Collected). left x block s c o) p ∙ sym (ap asked e)
 
-  module _ (time : ℕ) (e : time_of bs ≡ N.Is time) (a : Answer) (d : Directory) (s' : Stores) (o' : Output)
+  module _ (time : ℕ) (e : time_of bs ≡ Some time) (a : Answer) (d : Directory) (s' : Stores) (o' : Output)
       (q : Collecting.gave a (held d s' c) o' ≡ delta_collected (exponential_lister g.settings.size g.settings.top)
       (g.settings.extremes, g.settings.sums) g.settings.limit (held g.dir s c) o) where
     collected : (x : Answer) → a ≡ x

@@ -1,14 +1,12 @@
 -- The gauge after a line, with every store. Document 01, "A run of the gauge program": 'It is delta, everything recorded, no filter. An
 -- accepted `e` starts anew', 'Accepted `e` and `r` lines print nothing', 'A line that it can't read, .. refused, before any accepted `e` ..
 -- prints `? N`'; and 'Every refusal changes nothing.' Assumes nothing.
-use Rattle.std.specs.Prelude.{ℕ, Bool, true, false, List, [], ◌∷◌, take, replicate, Float}
+use Rattle.std.specs.Prelude.{ℕ, Bool, true, false, List, [], ◌∷◌, take, replicate, Float, Option, Some, None}
 use Rattle.std.proofs.Math.Option.{Option, none}
 use Rattle.std.specs.Float.{binary64}
 use Rattle.std.specs.Float.Ieee.{of_bits}
 use Rattle.laws.specs.Pick.{pick}
 use Rattle.laws.specs.Said.{Said, refusal, success}
-use Rattle.text.specs.declared.numbers.Natural.{Natural}
-use Rattle.text.specs.declared.numbers.Natural.TheVariants as N
 use Rattle.lines.specs.Gathered.{Text, waiting, ◌behind◌}
 use Rattle.sets.specs.Sorted.{given}
 use Rattle.directory.specs.View.{Stores}
@@ -161,9 +159,9 @@ listed_by form g time t x =
 abbrev pub unfollowed : Gauge → Text → Stores → Cells → Output → Followed
 unfollowed g t s c o = record { taken = false; gauge = g; text = t; stores = s; cells = c; out = o }
 
-abbrev pub collected_by : Form → Gauge → Natural → Text → Stores → Cells → Output → Followed
-collected_by form g N.None t s c o = unfollowed g t s c o
-collected_by form g (N.Is time) t s c o =
+abbrev pub collected_by : Form → Gauge → Option ℕ → Text → Stores → Cells → Output → Followed
+collected_by form g None t s c o = unfollowed g t s c o
+collected_by form g (Some time) t s c o =
     listed_by form g time t (delta_collected (exponential_lister g.settings.size g.settings.top) (g.settings.extremes, g.settings.sums)
     g.settings.limit (held g.dir s c) o)
 

@@ -1,12 +1,10 @@
 -- What a line asks for. Document 01, "A run of the gauge program": 'Input `e SIZE SCALE LIMIT START`, then `r BITS SET` or `c TIME`', 'One
 -- space parts fields', 'A line that it can't read, that is over 255 bytes, refused, before any accepted `e`, or has LIMIT above 30 prints
 -- `? N`'. A line is its bytes without the newline; `e` is the byte 101, `r` 114, `c` 99, a space 32. Assumes nothing.
-use Rattle.std.specs.Prelude.{ℕ, Bool, ◌&&◌, List, leb, eqb, ℤ, pos, ◌-ℤ◌, length, get_or, take, drop}
+use Rattle.std.specs.Prelude.{ℕ, Bool, ◌&&◌, List, leb, eqb, ℤ, pos, ◌-ℤ◌, length, get_or, take, drop, Option, Some, None}
 use Rattle.laws.specs.Pick.{pick}
 use Rattle.text.specs.Numbers.{decimal_of, signed_of, bits_of}
 use Rattle.text.specs.Fields.{spaces_of, field_of}
-use Rattle.text.specs.declared.numbers.Natural.{Natural}
-use Rattle.text.specs.declared.numbers.Natural.TheVariants as N
 use Rattle.text.specs.declared.numbers.Integer.{Integer}
 use Rattle.text.specs.declared.numbers.Integer.TheVariants as I
 use Rattle.lines.specs.Spelled.{spelled, told, kept}
@@ -27,9 +25,9 @@ use Rattle.gauge_lines.specs.declared.fields.Call.TheVariants as C
 
 -- A SIZE above 999 can't be read, nor a SCALE above 999 or below -999. Configuring would refuse them (numbers 1 and 2): either way the line
 -- prints `? N` and changes nothing.
-abbrev pub size_in : Natural → Size
-size_in N.None = Z.Unread
-size_in (N.Is x) = pick (leb x 999) (Z.Is x) Z.Unread
+abbrev pub size_in : Option ℕ → Size
+size_in None = Z.Unread
+size_in (Some x) = pick (leb x 999) (Z.Is x) Z.Unread
 
 unfoldable pub with_sign : Bool → ℕ → ℤ
 with_sign negative x = pick negative (pos 0 -ℤ pos x) (pos x)
@@ -39,12 +37,12 @@ scale_in I.None = S.Unread
 scale_in (I.Is negative x) = pick (leb x 999) (S.Is (with_sign negative x)) S.Unread
 
 -- where all four can be read, and LIMIT is not above 30
-abbrev pub wanted_of : Size → Scale → Natural → Natural → Asked
+abbrev pub wanted_of : Size → Scale → Option ℕ → Option ℕ → Asked
 wanted_of Z.Unread scale limit start = A.Unread
 wanted_of (Z.Is n) S.Unread limit start = A.Unread
-wanted_of (Z.Is n) (S.Is z) N.None start = A.Unread
-wanted_of (Z.Is n) (S.Is z) (N.Is l) N.None = A.Unread
-wanted_of (Z.Is n) (S.Is z) (N.Is l) (N.Is t) = pick (leb l 30) (A.Is (record { size = n; scale = z; limit = l; start = t })) A.Unread
+wanted_of (Z.Is n) (S.Is z) None start = A.Unread
+wanted_of (Z.Is n) (S.Is z) (Some l) None = A.Unread
+wanted_of (Z.Is n) (S.Is z) (Some l) (Some t) = pick (leb l 30) (A.Is (record { size = n; scale = z; limit = l; start = t })) A.Unread
 
 unfoldable pub settings_of : List ℕ → Asked
 settings_of bs =
@@ -59,16 +57,16 @@ settings_of bs =
 unfoldable pub parted : List ℕ → Bool
 parted bs = leb 20 (length bs) && eqb (get_or bs 18 0) 32
 
-abbrev pub bits_in : List ℕ → Natural
+abbrev pub bits_in : List ℕ → Option ℕ
 bits_in bs = bits_of (take 16 (drop 2 bs))
 
 abbrev pub set_in : List ℕ → Given
 set_in bs = told 0 (spelled (drop 19 bs))
 
-abbrev pub both_of : Given → Natural → Board
+abbrev pub both_of : Given → Option ℕ → Board
 both_of G.Unread bits = B.Unread
-both_of (G.Are n) N.None = B.Unread
-both_of (G.Are n) (N.Is x) = B.Is x n
+both_of (G.Are n) None = B.Unread
+both_of (G.Are n) (Some x) = B.Is x n
 
 -- the bits, and how many attributes the set has
 unfoldable pub board_of : List ℕ → Board
@@ -80,8 +78,8 @@ attributes_in bs store = pick (parted bs) (kept 0 (spelled (drop 19 bs)) store) 
 
 -- ---- `c TIME`
 
-unfoldable pub time_of : List ℕ → Natural
-time_of bs = pick (eqb (spaces_of bs) 1) (decimal_of (field_of bs 1)) N.None
+unfoldable pub time_of : List ℕ → Option ℕ
+time_of bs = pick (eqb (spaces_of bs) 1) (decimal_of (field_of bs 1)) None
 
 -- ---- any line
 

@@ -13,7 +13,6 @@ use directory::Directory;
 use lines::Block;
 use printing::Form;
 use std::io::Stdout;
-use text::Natural;
 
 // Whether a line was accepted, the gauge after it, and how much text there is then.
 #[derive(Clone, Copy)]
@@ -85,7 +84,7 @@ pub fn collect(
         (cells figures.now extremes.now pos.now neg.now)
         (output out_sets.old out_words.old out_pos.old out_neg.old) }
 {
-    let Natural::Is(time) = crate::fields::time_in(line) else {
+    let Some(time) = crate::fields::time_in(line) else {
         return refused(g, n);
     };
     let settings = g.settings;

@@ -3,7 +3,7 @@ ghost use Rattle.std.specs.Prelude.{◌≡◌, ◌≤◌};
 ghost use Rattle.gauge_lines.specs.Lines.{size_in, with_sign, scale_in, settings_of, board_of, attributes_in, time_of, letter_of, call_of};
 
 use lines::attributes::{Attributes, Given};
-use text::{Integer, Natural};
+use text::Integer;
 
 // What a line asks for: there is no line; it can't be followed; a call.
 #[derive(Clone, Copy)]
@@ -50,10 +50,10 @@ enum Scale {
     Is(i32),
 }
 
-fn size_of(n: Natural) -> Size
+fn size_of(n: Option<u64>) -> Size
     ensures { result ≡ size_in n }
 {
-    let Natural::Is(x) = n else {
+    let Some(x) = n else {
         return Size::Unread;
     };
     if x > 999 {
@@ -96,10 +96,10 @@ pub fn settings_in(line: &[u8]) -> Asked
     let Scale::Is(scale) = scale_of(text::signed_at(line, 2)) else {
         return Asked::Unread;
     };
-    let Natural::Is(limit) = text::decimal_at(line, 3) else {
+    let Some(limit) = text::decimal_at(line, 3) else {
         return Asked::Unread;
     };
-    let Natural::Is(start) = text::decimal_at(line, 4) else {
+    let Some(start) = text::decimal_at(line, 4) else {
         return Asked::Unread;
     };
     if limit > crate::cells::MOST_LIMIT {
@@ -129,18 +129,18 @@ pub fn board_in(line: &[u8], attrs: &mut Attributes) -> Board
     let Given::Are(many) = lines::attributes::read(&line[19..n], attrs) else {
         return Board::Unread;
     };
-    let Natural::Is(bits) = text::bits(&line[2..18]) else {
+    let Some(bits) = text::bits(&line[2..18]) else {
         return Board::Unread;
     };
     Board::Is(bits, many)
 }
 
 // The time of a line `c`.
-pub fn time_in(line: &[u8]) -> Natural
+pub fn time_in(line: &[u8]) -> Option<u64>
     ensures { result ≡ time_of line.now }
 {
     if text::spaces(line) != 1 {
-        return Natural::None;
+        return None;
     }
     text::decimal_at(line, 1)
 }

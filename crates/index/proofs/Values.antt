@@ -16,8 +16,7 @@ use Rattle.index.specs.Bins.{finest, bin_at, index_of, scale_of}
 use Rattle.index.specs.Answers.{bin_of}
 use Rattle.index.specs.Signed.{level_answer, at_level, value_index}
 use Rattle.index.specs.Inner.{bin_index, signed_at}
-use Rattle.index.specs.declared.signed.Natural.{Natural}
-use Rattle.index.specs.declared.signed.Natural.TheVariants as N
+use Rattle.std.specs.Prelude.{Option, Some, None}
 use Rattle.index.specs.declared.signed.Index.TheVariants as X
 use Rattle.index.proofs.Cases.{not_finite, zero, at}
 use Rattle.index.proofs.SignedCases.{index_is}
@@ -25,13 +24,13 @@ use Rattle.index.proofs.Laws.{bin-range, held}
 use Rattle.index.proofs.Indices.{is-index}
 use Rattle.laws.proofs.Differences.{sub-add, sub_more}
 
-abbrev number : Natural → ℕ
-number N.OutOfRange = 0
-number (N.Is n) = n
+abbrev number : Option ℕ → ℕ
+number None = 0
+number (Some n) = n
 
-abbrev Found : Natural → Type 0
-Found N.OutOfRange = ⊥
-Found (N.Is n) = Unit
+abbrev Found : Option ℕ → Type 0
+Found None = ⊥
+Found (Some n) = Unit
 
 -- every level that is answered is a level
 level-le : (scale : ℤ) → number (level_answer scale) ≤ finest
@@ -51,22 +50,22 @@ level-le scale = go (lt_z scale (negsuc 9)) (lt_z (pos 10) scale) refl refl
         under : (n : ℕ) → 10 - suc n ≤ 20
         under n = omega arith
 
-    go : (a b : Bool) → lt_z scale (negsuc 9) ≡ a → lt_z (pos 10) scale ≡ b → number (pick a N.OutOfRange (pick b N.OutOfRange (N.Is (nat_abs (scale +ℤ pos 10))))) ≤ finest
+    go : (a b : Bool) → lt_z scale (negsuc 9) ≡ a → lt_z (pos 10) scale ≡ b → number (pick a None (pick b None (Some (nat_abs (scale +ℤ pos 10))))) ≤ finest
     go true b h g = omega arith
     go false true h g = omega arith
     go false false h g = small scale h g
 
-pub no-scale : (x : Float) (scale : ℤ) → level_answer scale ≡ N.OutOfRange → value_index x scale ≡ X.NoScale
+pub no-scale : (x : Float) (scale : ℤ) → level_answer scale ≡ None → value_index x scale ≡ X.NoScale
 unfolding value_index
 no-scale x scale e = ap (at_level x) e
 
 -- the bin's answer, with the index in place of the bin, is the index's answer
-pub from-bin : (x : Float) (scale : ℤ) (level : ℕ) → T (fits binary64 x) → level_answer scale ≡ N.Is level → value_index x scale ≡ bin_index level (bin_of x level)
+pub from-bin : (x : Float) (scale : ℤ) (level : ℕ) → T (fits binary64 x) → level_answer scale ≡ Some level → value_index x scale ≡ bin_index level (bin_of x level)
 unfolding value_index pick
 from-bin x scale level F e = ap (at_level x) e ∙ go (finite x) (eqb (magnitude x) 0) refl refl
   where
     h : level ≤ finest
-    h = subst (λ (a : Natural). number a ≤ finest) e (level-le scale)
+    h = subst (λ (a : Option ℕ). number a ≤ finest) e (level-le scale)
 
     go : (f z : Bool) → finite x ≡ f → eqb (magnitude x) 0 ≡ z
         → pick f (pick z X.Zero (X.At (is_negative x) (index_of level (bin_at level (magnitude x))))) X.NotFinite ≡ bin_index level (bin_of x level)
@@ -79,7 +78,7 @@ from-bin x scale level F e = ap (at_level x) e ∙ go (finite x) (eqb (magnitude
 
 -- ---- the index answered is the Data Model's
 
-level-scale : (scale : ℤ) (level : ℕ) → level_answer scale ≡ N.Is level → scale_of level ≡ scale
+level-scale : (scale : ℤ) (level : ℕ) → level_answer scale ≡ Some level → scale_of level ≡ scale
 unfolding level_answer pick
 level-scale scale level e = go (lt_z scale (negsuc 9)) (lt_z (pos 10) scale) refl refl e
   where
@@ -96,18 +95,18 @@ level-scale scale level e = go (lt_z scale (negsuc 9)) (lt_z (pos 10) scale) ref
         ten : (n : ℕ) → n ≤ 9 → suc n + (10 - suc n) ≡ 10
         ten n h = omega (arith, h)
 
-    absent : {A : Type 0} → N.OutOfRange ≡ N.Is level → A
+    absent : {A : Type 0} → None ≡ Some level → A
     absent e = absurd (subst Found (sym e) tt)
 
-    go : (a b : Bool) → lt_z scale (negsuc 9) ≡ a → lt_z (pos 10) scale ≡ b → pick a N.OutOfRange (pick b N.OutOfRange (N.Is (nat_abs (scale +ℤ pos 10)))) ≡ N.Is level → scale_of level ≡ scale
+    go : (a b : Bool) → lt_z scale (negsuc 9) ≡ a → lt_z (pos 10) scale ≡ b → pick a None (pick b None (Some (nat_abs (scale +ℤ pos 10)))) ≡ Some level → scale_of level ≡ scale
     go true b h g e = absent e
     go false true h g e = absent e
     go false false h g e = ap (λ (n : ℕ). scale_of n) (sym (ap number e)) ∙ back scale h
 
-pub value-is : (x : Float) (scale : ℤ) (level : ℕ) → T (fits binary64 x) → finite x ≡ true → (magnitude x ≡ 0 → ⊥) → level_answer scale ≡ N.Is level
+pub value-is : (x : Float) (scale : ℤ) (level : ℕ) → T (fits binary64 x) → finite x ≡ true → (magnitude x ≡ 0 → ⊥) → level_answer scale ≡ Some level
     → (value_index x scale ≡ X.At (is_negative x) (index_of level (bin_at level (magnitude x)))) × IsIndex scale (magnitude x) (index_of level (bin_at level (magnitude x)))
 value-is x scale level F f z e =
-    let h : level ≤ finest = subst (λ (a : Natural). number a ≤ finest) e (level-le scale) in (
+    let h : level ≤ finest = subst (λ (a : Option ℕ). number a ≤ finest) e (level-le scale) in (
       from-bin x scale level F e
           ∙ ap (bin_index level) (at x level h f z)
           ∙ ap (signed_at (is_negative x)) (index_is level (bin_at level (magnitude x)) h (bin-range level x h F f z).1),

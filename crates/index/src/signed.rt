@@ -3,19 +3,6 @@ ghost use Rattle.std.specs.Prelude.{◌≡◌};
 ghost use Rattle.index.specs.Signed.{level_answer, scale_answer, index_answer, value_index};
 ghost use Rattle.index.specs.Inner.{bin_index, signed_at};
 
-// A whole number, or none where what was asked for is out of range.
-#[derive(Clone, Copy)]
-pub enum Natural {
-    OutOfRange,
-    Is(u32),
-}
-
-#[derive(Clone, Copy)]
-pub enum Integer {
-    OutOfRange,
-    Is(i32),
-}
-
 // What an f64 has at a scale: no such scale, not a finite number, zero, or the Data Model's index.
 #[derive(Clone, Copy)]
 pub enum Index {
@@ -25,40 +12,40 @@ pub enum Index {
     At { negative: bool, index: i32 },
 }
 
-// The level of a scale, OutOfRange outside -10 to 10.
-pub fn level_of(scale: i32) -> Natural
+// The level of a scale, none outside -10 to 10.
+pub fn level_of(scale: i32) -> Option<u32>
     ensures { result ≡ level_answer scale }
 {
     if scale < -10 {
-        return Natural::OutOfRange;
+        return None;
     }
     if 10 < scale {
-        return Natural::OutOfRange;
+        return None;
     }
-    Natural::Is((scale + 10) as u32)
+    Some((scale + 10) as u32)
 }
 
-// The scale of a level, OutOfRange above the finest.
-pub fn scale_of(level: u32) -> Integer
+// The scale of a level, none above the finest.
+pub fn scale_of(level: u32) -> Option<i32>
     ensures { result ≡ scale_answer level }
 {
     if crate::FINEST < level {
-        return Integer::OutOfRange;
+        return None;
     }
-    Integer::Is((level as i32) - 10)
+    Some((level as i32) - 10)
 }
 
-// The index of a bin at a level, OutOfRange where the level has no such bin.
-pub fn index_of(level: u32, bin: u32) -> Integer
+// The index of a bin at a level, none where the level has no such bin.
+pub fn index_of(level: u32, bin: u32) -> Option<i32>
     ensures { result ≡ index_answer level bin }
 {
     if crate::FINEST < level {
-        return Integer::OutOfRange;
+        return None;
     }
     if 3u32 << level <= bin {
-        return Integer::OutOfRange;
+        return None;
     }
-    Integer::Is((bin as i32) - ((2u32 << level) as i32))
+    Some((bin as i32) - ((2u32 << level) as i32))
 }
 
 // The sign of v and its index at a scale, the Data Model's; NoScale outside -10 to 10, NotFinite, Zero.
@@ -67,8 +54,8 @@ pub fn get_index(v: f64, scale: i32) -> Index
 {
     let found = level_of(scale);
     match found {
-        Natural::OutOfRange => Index::NoScale,
-        Natural::Is(level) => signed_bin(level, crate::get_bin(v, level)),
+        None => Index::NoScale,
+        Some(level) => signed_bin(level, crate::get_bin(v, level)),
     }
 }
 
@@ -83,11 +70,11 @@ fn signed_bin(level: u32, bin: crate::Bin) -> Index
     }
 }
 
-fn signed_at(negative: bool, found: Integer) -> Index
+fn signed_at(negative: bool, found: Option<i32>) -> Index
     ensures { result ≡ signed_at negative found }
 {
     match found {
-        Integer::OutOfRange => Index::NoScale,
-        Integer::Is(index) => Index::At { negative, index },
+        None => Index::NoScale,
+        Some(index) => Index::At { negative, index },
     }
 }

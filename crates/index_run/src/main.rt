@@ -4,7 +4,7 @@
 use index::signed::Index;
 use lines::{Block, output};
 use std::io::Stdout;
-use text::{Integer, Natural};
+use text::Integer;
 
 // The scale that was read; no scale has more than three digits.
 fn scale_of(negative: bool, size: u64) -> i32 {
@@ -29,7 +29,7 @@ fn index_of(out: &Stdout, text: &mut Block, n: usize, line: &[u8]) -> usize {
     let Integer::Is(negative, size) = text::signed_at(line, 0) else {
         return output::byte(out, text, n, b'?');
     };
-    let Natural::Is(bits) = text::bits_at(line, 1) else {
+    let Some(bits) = text::bits_at(line, 1) else {
         return output::byte(out, text, n, b'?');
     };
     if 999 < size {

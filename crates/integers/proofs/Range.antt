@@ -7,7 +7,7 @@ use mir.ValLaws.{to_z-of_z, to_z_pos}
 use Rattle.laws.specs.Pick.{pick}
 use Rattle.laws.proofs.Bools.{pick_true, pick-false}
 use Rattle.integers.specs.Answers.{between, in_range, sum_of, bits_of, of_bits}
-use Rattle.integers.specs.declared.Total.TheVariants.{Outside, Is}
+use Rattle.std.specs.Prelude.{Some, None}
 
 -- a difference of whole numbers, either way
 pub sub_cases : (a b : ℕ) (P : ℤ → Type 0) → (a < b → P (negsuc (b - suc a))) → (b ≤ a → P (pos (a - b))) → P (sub_ℕ a b)
@@ -144,13 +144,13 @@ alike : (t : Bool) → not t ≡ false → t ≡ true
 alike true h = refl
 alike false h = sym h
 
-pub sum-outside : (a v : ℤ) → in_range (a +ℤ v) ≡ false → Outside ≡ sum_of a v
+pub sum-outside : (a v : ℤ) → in_range (a +ℤ v) ≡ false → None ≡ sum_of a v
 unfolding sum_of
-sum-outside a v h = sym (pick-false (in_range (a +ℤ v)) (Is (a +ℤ v)) Outside h)
+sum-outside a v h = sym (pick-false (in_range (a +ℤ v)) (Some (a +ℤ v)) None h)
 
-pub sum_inside : (a v : ℤ) → in_range (a +ℤ v) ≡ true → Is (a +ℤ v) ≡ sum_of a v
+pub sum_inside : (a v : ℤ) → in_range (a +ℤ v) ≡ true → Some (a +ℤ v) ≡ sum_of a v
 unfolding sum_of
-sum_inside a v h = sym (pick_true (in_range (a +ℤ v)) (Is (a +ℤ v)) Outside h)
+sum_inside a v h = sym (pick_true (in_range (a +ℤ v)) (Some (a +ℤ v)) None h)
 
 module _ (a v : ℤ) (f : SFits w64 a) (g : SFits w64 v) where
   low-sub : lt_z v (pos 0) ≡ true → mag (negsuc 9223372036854775807 -ℤ v) < 2 ^ 63
@@ -203,13 +203,13 @@ module _ (a v : ℤ) (f : SFits w64 a) (g : SFits w64 v) where
   pub high_need : (t : ℕ) → t < 2 ^ 63 → lt_z (to_z w64 (of_z w64 v)) (pos 0) ≡ false → SFits w64 (pos t -ℤ to_z w64 (of_z w64 v))
   high_need t l h = subst (λ (z : ℤ). SFits w64 (pos t -ℤ z)) (sym (held v g)) (record { sfits = high-sub t l (zero_held false h) })
 
-  outside : not (in_range (a +ℤ v)) ≡ true → Outside ≡ sum_of a v
+  outside : not (in_range (a +ℤ v)) ≡ true → None ≡ sum_of a v
   outside h = sum-outside a v (unlike (in_range (a +ℤ v)) h)
 
-  pub low-outside : lt_z (to_z w64 (of_z w64 v)) (pos 0) ≡ true → LowTest true → Outside ≡ sum_of a v
+  pub low-outside : lt_z (to_z w64 (of_z w64 v)) (pos 0) ≡ true → LowTest true → None ≡ sum_of a v
   low-outside h k = outside (low_told true h k)
 
-  pub high-outside : lt_z (to_z w64 (of_z w64 v)) (pos 0) ≡ false → HighTest true → Outside ≡ sum_of a v
+  pub high-outside : lt_z (to_z w64 (of_z w64 v)) (pos 0) ≡ false → HighTest true → None ≡ sum_of a v
   high-outside h k = outside (high-told true h k)
 
   sums : to_z w64 (of_z w64 a) +ℤ to_z w64 (of_z w64 v) ≡ a +ℤ v
@@ -218,8 +218,8 @@ module _ (a v : ℤ) (f : SFits w64 a) (g : SFits w64 v) where
   fine : not (in_range (a +ℤ v)) ≡ false → SFits w64 (to_z w64 (of_z w64 a) +ℤ to_z w64 (of_z w64 v))
   fine h = subst (λ (z : ℤ). SFits w64 z) (sym sums) (record { sfits = ltb-true (mag (a +ℤ v)) (2 ^ 63) (alike (in_range (a +ℤ v)) h) })
 
-  inside : not (in_range (a +ℤ v)) ≡ false → Is (to_z w64 (of_z w64 (to_z w64 (of_z w64 a) +ℤ to_z w64 (of_z w64 v)))) ≡ sum_of a v
-  inside h = ap Is (held (to_z w64 (of_z w64 a) +ℤ to_z w64 (of_z w64 v)) (fine h) ∙ sums) ∙ sum_inside a v (alike (in_range (a +ℤ v)) h)
+  inside : not (in_range (a +ℤ v)) ≡ false → Some (to_z w64 (of_z w64 (to_z w64 (of_z w64 a) +ℤ to_z w64 (of_z w64 v)))) ≡ sum_of a v
+  inside h = ap Some (held (to_z w64 (of_z w64 a) +ℤ to_z w64 (of_z w64 v)) (fine h) ∙ sums) ∙ sum_inside a v (alike (in_range (a +ℤ v)) h)
 
   pub low-fine : lt_z (to_z w64 (of_z w64 v)) (pos 0) ≡ true → LowTest false → SFits w64 (to_z w64 (of_z w64 a) +ℤ to_z w64 (of_z w64 v))
   low-fine h k = fine (low_told false h k)
@@ -227,10 +227,10 @@ module _ (a v : ℤ) (f : SFits w64 a) (g : SFits w64 v) where
   pub high-fine : lt_z (to_z w64 (of_z w64 v)) (pos 0) ≡ false → HighTest false → SFits w64 (to_z w64 (of_z w64 a) +ℤ to_z w64 (of_z w64 v))
   high-fine h k = fine (high-told false h k)
 
-  pub low-inside : lt_z (to_z w64 (of_z w64 v)) (pos 0) ≡ true → LowTest false → Is (to_z w64 (of_z w64 (to_z w64 (of_z w64 a) +ℤ to_z w64 (of_z w64 v)))) ≡ sum_of a v
+  pub low-inside : lt_z (to_z w64 (of_z w64 v)) (pos 0) ≡ true → LowTest false → Some (to_z w64 (of_z w64 (to_z w64 (of_z w64 a) +ℤ to_z w64 (of_z w64 v)))) ≡ sum_of a v
   low-inside h k = inside (low_told false h k)
 
-  pub high-inside : lt_z (to_z w64 (of_z w64 v)) (pos 0) ≡ false → HighTest false → Is (to_z w64 (of_z w64 (to_z w64 (of_z w64 a) +ℤ to_z w64 (of_z w64 v)))) ≡ sum_of a v
+  pub high-inside : lt_z (to_z w64 (of_z w64 v)) (pos 0) ≡ false → HighTest false → Some (to_z w64 (of_z w64 (to_z w64 (of_z w64 a) +ℤ to_z w64 (of_z w64 v)))) ≡ sum_of a v
   high-inside h k = inside (high-told false h k)
 
   in_middle : mag a < 2 ^ 62 → mag v < 2 ^ 62 → not (in_range (a +ℤ v)) ≡ false
@@ -239,7 +239,7 @@ module _ (a v : ℤ) (f : SFits w64 a) (g : SFits w64 v) where
   pub middle-fine : mag a < 2 ^ 62 → mag v < 2 ^ 62 → SFits w64 (to_z w64 (of_z w64 a) +ℤ to_z w64 (of_z w64 v))
   middle-fine p q = fine (in_middle p q)
 
-  pub middle-inside : mag a < 2 ^ 62 → mag v < 2 ^ 62 → Is (to_z w64 (of_z w64 (to_z w64 (of_z w64 a) +ℤ to_z w64 (of_z w64 v)))) ≡ sum_of a v
+  pub middle-inside : mag a < 2 ^ 62 → mag v < 2 ^ 62 → Some (to_z w64 (of_z w64 (to_z w64 (of_z w64 a) +ℤ to_z w64 (of_z w64 v)))) ≡ sum_of a v
   middle-inside p q = inside (in_middle p q)
 
 -- ---- bits

@@ -1,14 +1,10 @@
 -- What the functions of this crate answer. Assumes nothing.
-use Rattle.std.specs.Prelude.{ℕ, suc, ◌-◌, ◌^◌, Bool, true, false, ℤ, pos, negsuc, ◌+ℤ◌, ◌==◌, int_lt, nat_lt, Float}
+use Rattle.std.specs.Prelude.{ℕ, suc, ◌-◌, ◌^◌, Bool, true, false, ℤ, pos, negsuc, ◌+ℤ◌, ◌==◌, int_lt, nat_lt, Float, Option, Some, None}
 use Rattle.std.specs.Int.Signed.{mag}
 use Rattle.std.specs.Float.{binary64}
 use Rattle.std.specs.Float.Ieee.{of_int}
 use Rattle.laws.specs.Pick.{pick}
 use Rattle.floats.specs.Answers.{shows}
-use Rattle.integers.specs.declared.Extreme.{Extreme}
-use Rattle.integers.specs.declared.Extreme.TheVariants.{None, Value}
-use Rattle.integers.specs.declared.Total.{Total}
-use Rattle.integers.specs.declared.Total.TheVariants.{Outside, Is}
 
 -- document 02, L6: "the f64 nearest to the whole number, ties to the even mantissa" (the laws `nearest-is`, `one-nearest`)
 abbrev pub nearest_of : ℤ → Float
@@ -29,12 +25,12 @@ abbrev pub in_range : ℤ → Bool
 in_range z = nat_lt (mag z) (2 ^ 63)
 
 -- "16 when the sum would leave i64"
-unfoldable pub sum_of : ℤ → ℤ → Total
-sum_of a v = pick (in_range (a +ℤ v)) (Is (a +ℤ v)) Outside
+unfoldable pub sum_of : ℤ → ℤ → Option ℤ
+sum_of a v = pick (in_range (a +ℤ v)) (Some (a +ℤ v)) None
 
 -- "(with the sum off none is kept)"
-abbrev pub kept_sum : Bool → ℤ → ℤ → Total
-kept_sum on held v = pick on (sum_of held v) (Is held)
+abbrev pub kept_sum : Bool → ℤ → ℤ → Option ℤ
+kept_sum on held v = pick on (sum_of held v) (Some held)
 
 -- 16 comes last
 abbrev pub last_number : ℕ → ℕ
@@ -50,19 +46,19 @@ of_bits b = pick (nat_lt b (2 ^ 63)) (pos b) (negsuc (2 ^ 64 - suc b))
 
 -- ---- extremes, as those of f64 (crate floats)
 
-abbrev pub shown_of : Bool → ℕ → ℤ → Extreme
-shown_of switch count x = pick (shows switch count) (Value x) None
+abbrev pub shown_of : Bool → ℕ → ℤ → Option ℤ
+shown_of switch count x = pick (shows switch count) (Some x) None
 
-abbrev pub is_shown : Extreme → Bool
+abbrev pub is_shown : Option ℤ → Bool
 is_shown None = false
-is_shown (Value x) = true
+is_shown (Some x) = true
 
-abbrev pub smaller_of : Extreme → Extreme → Extreme
+abbrev pub smaller_of : Option ℤ → Option ℤ → Option ℤ
 smaller_of None b = b
-smaller_of (Value x) None = Value x
-smaller_of (Value x) (Value y) = Value (lesser_of x y)
+smaller_of (Some x) None = Some x
+smaller_of (Some x) (Some y) = Some (lesser_of x y)
 
-abbrev pub larger_of : Extreme → Extreme → Extreme
+abbrev pub larger_of : Option ℤ → Option ℤ → Option ℤ
 larger_of None b = b
-larger_of (Value x) None = Value x
-larger_of (Value x) (Value y) = Value (greater_of x y)
+larger_of (Some x) None = Some x
+larger_of (Some x) (Some y) = Some (greater_of x y)

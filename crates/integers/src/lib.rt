@@ -39,13 +39,6 @@ pub fn greater(a: i64, v: i64) -> i64
     if a < v { v } else { a }
 }
 
-// A sum: outside the range of i64, or it.
-#[derive(Clone, Copy)]
-pub enum Total {
-    Outside,
-    Is(i64),
-}
-
 // Whether both lie in the middle half of i64, where no sum leaves it.
 fn are_middling(a: i64, v: i64) -> bool
     ensures { result ≡ true → (mag a < 2 ^ 62) × (mag v < 2 ^ 62) }
@@ -57,39 +50,39 @@ fn are_middling(a: i64, v: i64) -> bool
 }
 
 // a + v, if that is an i64: asked of the ends.
-fn end_sum(a: i64, v: i64) -> Total
+fn end_sum(a: i64, v: i64) -> Option<i64>
     ensures { result ≡ sum_of a v }
 {
     if v < 0 {
         if a < -9223372036854775808 - v {
-            return Total::Outside;
+            return None;
         }
-        return Total::Is(a + v);
+        return Some(a + v);
     }
     if 9223372036854775807 - v < a {
-        return Total::Outside;
+        return None;
     }
-    Total::Is(a + v)
+    Some(a + v)
 }
 
 // a + v, if that is an i64. Most are middling: the ends, whose test reads the sign of v, are asked last.
-pub fn sum(a: i64, v: i64) -> Total
+pub fn sum(a: i64, v: i64) -> Option<i64>
     ensures { result ≡ sum_of a v }
 {
     if are_middling(a, v) {
-        return Total::Is(a + v);
+        return Some(a + v);
     }
     end_sum(a, v)
 }
 
 // The sum with a value more; with the sum off none is kept.
-pub fn kept_sum(on: bool, held: i64, v: i64) -> Total
+pub fn kept_sum(on: bool, held: i64, v: i64) -> Option<i64>
     ensures { result ≡ kept_sum on held v }
 {
     if on {
         return sum(held, v);
     }
-    Total::Is(held)
+    Some(held)
 }
 
 // The number of a value or a merge that the sum can't take: 16, unless another comes first.
@@ -122,45 +115,38 @@ pub fn of_bits(bits: u64) -> i64
     -1 - ((0xFFFF_FFFF_FFFF_FFFF - bits) as i64)
 }
 
-// The minimum or the maximum of a point.
-#[derive(Clone, Copy)]
-pub enum Extreme {
-    None,
-    Value(i64),
-}
-
 // An extreme as it is handed out: the number held, or none with the switch off or nothing counted.
-pub fn shown(switch: bool, count: u64, x: i64) -> Extreme
+pub fn shown(switch: bool, count: u64, x: i64) -> Option<i64>
     ensures { result ≡ shown_of switch count x }
 {
     if floats::shows_extremes(switch, count) {
-        return Extreme::Value(x);
+        return Some(x);
     }
-    Extreme::None
+    None
 }
 
 // The smaller of two minima; one that is there wins over none.
-pub fn smaller(low: Extreme, other: Extreme) -> Extreme
+pub fn smaller(low: Option<i64>, other: Option<i64>) -> Option<i64>
     ensures { result ≡ smaller_of low other }
 {
     match low {
-        Extreme::None => other,
-        Extreme::Value(x) => match other {
-            Extreme::None => low,
-            Extreme::Value(y) => Extreme::Value(lesser(x, y)),
+        None => other,
+        Some(x) => match other {
+            None => low,
+            Some(y) => Some(lesser(x, y)),
         },
     }
 }
 
 // The larger of two maxima; one that is there wins over none.
-pub fn larger(high: Extreme, other: Extreme) -> Extreme
+pub fn larger(high: Option<i64>, other: Option<i64>) -> Option<i64>
     ensures { result ≡ larger_of high other }
 {
     match high {
-        Extreme::None => other,
-        Extreme::Value(x) => match other {
-            Extreme::None => high,
-            Extreme::Value(y) => Extreme::Value(greater(x, y)),
+        None => other,
+        Some(x) => match other {
+            None => high,
+            Some(y) => Some(greater(x, y)),
         },
     }
 }

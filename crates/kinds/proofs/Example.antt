@@ -8,7 +8,7 @@ use mathlib.Core.Option.{none}
 use lib.Ieee.{Float, binary64, of_bits, lt, add, eq, is_nan, fits, round}
 use Rattle.laws.specs.Pick.{pick}
 use Rattle.floats.specs.Starts.{zero_float}
-use Rattle.floats.specs.declared.Extreme.TheVariants.{None, Value}
+use Rattle.std.specs.Prelude.{Some, None}
 use Rattle.points.specs.Explicit.{bucket_of, buckets_of, record_bucket, buckets_agree, bounds_pass, no_nan, rising, merge_buckets, added, same_bounds}
 use Rattle.points.specs.Figures.{explicit, explicit_counts}
 use Rattle.points.specs.Handed.{Handed, mergeable, merge_handed, handed_agrees, unmergeable}
@@ -50,7 +50,7 @@ room n = record { points = 1; pos = n; neg = 0 }
 -- a point with these counts, minimum, maximum and sum
 abbrev point : List ℕ → ℕ → Float → Float → Float → Handed
 point cs n low high sum =
-    record { counts = explicit_counts bounds (record { counts = cs; total = n }); extremes = true; threshold = zero_float; min = Value low; max = Value high; sum = sum }
+    record { counts = explicit_counts bounds (record { counts = cs; total = n }); extremes = true; threshold = zero_float; min = Some low; max = Some high; sum = sum }
 
 abbrev first : Handed
 first = point (0 ∷ 1 ∷ 1 ∷ []) 2 five seven (f 0x4028_0000_0000_0000)

@@ -9,7 +9,7 @@ use lib.Ieee.{Float, binary64, of_bits, lt, add, fits, round}
 use Rattle.laws.specs.Pick.{pick}
 use Rattle.index.specs.Magnitude.{magnitude}
 use Rattle.floats.specs.Starts.{zero_float}
-use Rattle.floats.specs.declared.Extreme.TheVariants.{Value}
+use Rattle.std.specs.Prelude.{Some}
 use Rattle.points.specs.Points as P
 use Rattle.points.specs.Points.{Point, Row, row, row_of, indices, fits_both, scale, build, point_of, bag, merge, record1}
 use Rattle.points.specs.Values.{class_of}
@@ -39,7 +39,7 @@ no_row = record { start = 0; counts = [] }
 
 abbrev point : Point → Float → Float → Float → Handed
 point p low high sum =
-    record { counts = exponential_counts p; extremes = true; threshold = zero_float; min = Value low; max = Value high; sum = sum }
+    record { counts = exponential_counts p; extremes = true; threshold = zero_float; min = Some low; max = Some high; sum = sum }
 
 -- max_size 4 and max_scale 10
 abbrev config : Config histograms

@@ -7,7 +7,7 @@ use lib.IntN.{ℤ, pos, negsuc}
 use lib.Ieee.{Float, binary64, of_bits, of_int, lt, is_nan, round}
 use Rattle.laws.specs.Pick.{pick}
 use Rattle.floats.specs.Starts.{zero_float}
-use Rattle.integers.specs.declared.Extreme.TheVariants.{Value}
+use Rattle.std.specs.Prelude.{Some}
 use Rattle.points.specs.Explicit.{bucket_of, buckets_of, record_bucket, buckets_agree, bounds_pass, no_nan, rising}
 use Rattle.points.specs.Counts.{explicit, explicit_counts}
 use Rattle.tally.specs.Sets.{Set, overflow}
@@ -43,8 +43,8 @@ first =
       counts = explicit_counts bounds (record { counts = 1 ∷ 1 ∷ 1 ∷ []; total = 3 });
       extremes = true;
       threshold = zero_float;
-      min = Value (negsuc 2);
-      max = Value (pos 7);
+      min = Some (negsuc 2);
+      max = Some (pos 7);
       sum = pos 9;
     }
 

@@ -14,7 +14,7 @@ use Rattle.laws.proofs.Bools.{flag, pick_true, pick-false}
 use Rattle.laws.proofs.Differences.{le_or-lt}
 use Rattle.text.specs.Fields.{until}
 use Rattle.text.specs.Numbers.{digit_of, spelled_from}
-use Rattle.text.specs.declared.numbers.Natural.TheVariants as N
+use Rattle.std.specs.Prelude.{None}
 use Rattle.text.proofs.Pairing.{pick-none}
 use Rattle.lines.specs.declared.attributes.Attribute.{Attribute}
 use Rattle.lines.specs.declared.attributes.Attribute.TheVariants as A
@@ -99,7 +99,7 @@ comma-first [] h = absurd (omega (arith, h, ap length (until_nil 58)))
 comma-first (b ∷ xs) h = first_step b xs (comma-first xs) h (eqb b 58) (eqb b 44) refl refl
 
 -- a text with a comma is no number
-comma_spells : (x : ℕ) (u : List ℕ) → length (until 44 u) < length u → spelled_from 10 x u ≡ N.None
+comma_spells : (x : ℕ) (u : List ℕ) → length (until 44 u) < length u → spelled_from 10 x u ≡ None
 unfolding spelled_from
 comma_spells x [] h = absurd (omega arith)
 comma_spells x (b ∷ u) h =

@@ -15,8 +15,7 @@ use Rattle.laws.proofs.Bools.{flag, not-both, pick_true, pick-false}
 use Rattle.laws.proofs.Differences.{le_or-lt}
 use Rattle.text.specs.Fields.{until}
 use Rattle.text.specs.Numbers.{digit_of, spelled_from, ill_led, decimal_of}
-use Rattle.text.specs.declared.numbers.Natural.{Natural}
-use Rattle.text.specs.declared.numbers.Natural.TheVariants as N
+use Rattle.std.specs.Prelude.{Option, Some, None}
 use Rattle.text.proofs.Spelling.{from-here}
 use Rattle.text.proofs.Splitting.{until-turn, until_stop, until_none, until-is}
 use Rattle.text.proofs.Pairing.{digit-zero, below-digits, above_decimals}
@@ -79,7 +78,7 @@ run_fits x i d h l s =
     (omega (arith, r, l), omega (arith, m, l))
 
 -- Numbers that are no words.
-word-pick : (t : Bool) (n : Natural) → word_in n ≡ W.None → word_in (pick t N.None n) ≡ W.None
+word-pick : (t : Bool) (n : Option ℕ) → word_in n ≡ W.None → word_in (pick t None n) ≡ W.None
 unfolding pick
 word-pick true n h = refl
 word-pick false n h = h
@@ -100,11 +99,11 @@ grown (suc m) x (b ∷ u) h l =
 
 pub led-none : (u : List ℕ) → ill_led u ≡ true → word_of u ≡ W.None
 unfolding word_of decimal_of
-led-none u h = ap word_in (pick_true (ill_led u) N.None (spelled_from 10 0 u) h)
+led-none u h = ap word_in (pick_true (ill_led u) None (spelled_from 10 0 u) h)
 
-pub word-is : (u : List ℕ) (n : Natural) → ill_led u ≡ false → spelled_from 10 0 u ≡ n → word_of u ≡ word_in n
+pub word-is : (u : List ℕ) (n : Option ℕ) → ill_led u ≡ false → spelled_from 10 0 u ≡ n → word_of u ≡ word_in n
 unfolding word_of decimal_of
-word-is u n h e = ap word_in (pick-false (ill_led u) N.None (spelled_from 10 0 u) h ∙ e)
+word-is u n h e = ap word_in (pick-false (ill_led u) None (spelled_from 10 0 u) h ∙ e)
 
 pub none-spelled : (u : List ℕ) → word_in (spelled_from 10 0 u) ≡ W.None → word_of u ≡ W.None
 unfolding word_of decimal_of
@@ -132,7 +131,7 @@ long-none (b ∷ u) h =
     (λ (e : eqb b 48 ≡ false). none-spelled (b ∷ u) (led-by b u (omega arith) (λ r. not-both (eqb b 48) (eq-eqb b 48 r) e)))
     (flag (eqb b 48))
 
-no_digit-first : (x b : ℕ) (u : List ℕ) → 10 ≤ digit_of b → spelled_from 10 x (b ∷ u) ≡ N.None
+no_digit-first : (x b : ℕ) (u : List ℕ) → 10 ≤ digit_of b → spelled_from 10 x (b ∷ u) ≡ None
 unfolding spelled_from
 no_digit-first x b u h = pick_true _ _ _ (le-leb 10 (digit_of b) h)
 
@@ -155,7 +154,7 @@ module _ (bs : List ℕ) (from m x to : ℕ) (q : 10 ≤ digit_of m) (r : Read b
       r.stop
 
   -- what was read up to the mark or the end
-  pub stops-there : length (until m (drop to bs)) ≡ 0 → (to ≡ from + length (until m (drop from bs))) × (spelled_from 10 0 (until m (drop from bs)) ≡ N.Is x) × (take (to - from) (drop from bs) ≡ until m (drop from bs))
+  pub stops-there : length (until m (drop to bs)) ≡ 0 → (to ≡ from + length (until m (drop from bs))) × (spelled_from 10 0 (until m (drop from bs)) ≡ Some x) × (take (to - from) (drop from bs) ≡ until m (drop from bs))
   unfolding Says spelled_from
   stops-there h =
       let s = r.says m q in

@@ -1,11 +1,9 @@
 -- What a set's text spells. Document 01: '`-` is the empty set. Other sets are KEY:VALUE joined by commas', 'decimals have no plus sign,
 -- leading zero or -0'. Keys and values are u32. Bytes are ASCII: `-` is 45, `,` 44, `:` 58. Assumes nothing.
-use Rattle.std.specs.Prelude.{ℕ, ◌+◌, ◌^◌, Bool, ◌&&◌, List, [], ◌∷◌, ltb, eqb, length, get_or, drop, set}
+use Rattle.std.specs.Prelude.{ℕ, ◌+◌, ◌^◌, Bool, ◌&&◌, List, [], ◌∷◌, ltb, eqb, length, get_or, drop, set, Option, Some, None}
 use Rattle.laws.specs.Pick.{pick}
 use Rattle.text.specs.Fields.{until}
 use Rattle.text.specs.Numbers.{decimal_of}
-use Rattle.text.specs.declared.numbers.Natural.{Natural}
-use Rattle.text.specs.declared.numbers.Natural.TheVariants as N
 use Rattle.lines.specs.declared.attributes.Word.{Word}
 use Rattle.lines.specs.declared.attributes.Word.TheVariants as W
 use Rattle.lines.specs.declared.attributes.Attribute.{Attribute}
@@ -14,9 +12,9 @@ use Rattle.lines.specs.declared.attributes.Given.{Given}
 use Rattle.lines.specs.declared.attributes.Given.TheVariants as G
 
 -- a decimal below 2^32
-abbrev pub word_in : Natural → Word
-word_in N.None = W.None
-word_in (N.Is x) = pick (ltb x (2 ^ 32)) (W.Is x) W.None
+abbrev pub word_in : Option ℕ → Word
+word_in None = W.None
+word_in (Some x) = pick (ltb x (2 ^ 32)) (W.Is x) W.None
 
 unfoldable pub word_of : List ℕ → Word
 word_of bs = word_in (decimal_of bs)

@@ -14,8 +14,7 @@ use Rattle.laws.specs.Pick.{pick}
 use Rattle.laws.proofs.Cases.{true-not-false}
 use Rattle.sets.proofs.Alls.{allb-yes}
 use Rattle.floats.specs.Answers.{is_shown, bits_of}
-use Rattle.floats.specs.declared.Extreme.{Extreme}
-use Rattle.floats.specs.declared.Extreme.TheVariants.{None, Value}
+use Rattle.std.specs.Prelude.{Option, Some, None}
 use Rattle.point.specs.declared.Point.{Point}
 use Rattle.point.specs.declared.Figures.{Figures}
 use Rattle.point.specs.declared.Figures.TheVariants.{Exponential, Explicit}
@@ -30,9 +29,9 @@ Narrow (Exponential c) b =
     (c.level < 4294967296) × (c.pos.start < 4294967296) × (c.neg.start < 4294967296) × (b ≡ record { start = 0; len = 0 })
 Narrow (Explicit n) b = Unit
 
-abbrev pub Fitting : Extreme → Type 0
+abbrev pub Fitting : Option Float → Type 0
 Fitting None = Unit
-Fitting (Value x) = fits binary64 x ≡ true
+Fitting (Some x) = fits binary64 x ≡ true
 
 -- and extremes are both shown or neither
 pub record Held (p : Point) (b : Span) : Type 0 where
@@ -54,12 +53,12 @@ bits_back nan h = refl
 bits_back (inf s) h = of_bits-to_bits binary64 (inf s) (to-t _ h)
 bits_back (fin s m e) h = of_bits-to_bits binary64 (fin s m e) (to-t _ h)
 
-extreme-back : (x : Extreme) (s : Bool) → is_shown x ≡ s → Fitting x → extreme_in s (shown_bits x) ≡ x
+extreme-back : (x : Option Float) (s : Bool) → is_shown x ≡ s → Fitting x → extreme_in s (shown_bits x) ≡ x
 unfolding extreme_in pick
 extreme-back None true e h = true-not-false (sym e)
 extreme-back None false e h = refl
-extreme-back (Value x) true e h = ap Value (bits_back x h)
-extreme-back (Value x) false e h = true-not-false e
+extreme-back (Some x) true e h = ap Some (bits_back x h)
+extreme-back (Some x) false e h = true-not-false e
 
 -- ---- the flags
 
@@ -127,7 +126,7 @@ module _ (p : Point) (b : Span) (h : Held p b) where
   abbrev w : List ℕ
   w = words_of p b
 
-  extreme-of : (x : Extreme) (k n : ℕ) → k ≡ bit p.extremes + 2 * bit (is_shown p.min) → n ≡ shown_bits x → is_shown x ≡ is_shown p.min → Fitting x
+  extreme-of : (x : Option Float) (k n : ℕ) → k ≡ bit p.extremes + 2 * bit (is_shown p.min) → n ≡ shown_bits x → is_shown x ≡ is_shown p.min → Fitting x
       → extreme_in (leb 2 k) n ≡ x
   extreme-of x k n e f s t =
       ap₂ (λ (i j : ℕ). extreme_in (leb 2 i) j) e f

@@ -16,7 +16,7 @@ use Rattle.listing.specs.Words.{words_of, point_in, bounds_in, is_point}
 use Rattle.listing.specs.Listed.{Output, pos_len, neg_len, behind, over_at, put_at, within, entry_in, point_at}
 use Rattle.listing.specs.Inner.{Room, left}
 use Rattle.listing.specs.declared.Cursor.{Cursor}
-use Rattle.listing.specs.declared.Found.TheVariants.{NoPoint, Is}
+use Rattle.std.specs.Prelude.{Some, None}
 use Rattle.listing.specs.declared.Span.{Span}
 use Rattle.listing.proofs.Cases.{part-laid}
 
@@ -31,7 +31,7 @@ module _ (at : Cursor) (w : List ℕ) (pos neg : ℕ) where
   abbrev lies : Bool
   lies = within at (point_in w).figures (bounds_in w) pos neg
 
-  pub entry-no : is_point w ≡ false → NoPoint ≡ entry_in at w pos neg
+  pub entry-no : is_point w ≡ false → None ≡ entry_in at w pos neg
   unfolding entry_in
   entry-no h = sym (pick-false (is_point w && lies) _ _ (ap (λ (t : Bool). t && lies) h))
 
@@ -39,20 +39,20 @@ module _ (at : Cursor) (w : List ℕ) (pos neg : ℕ) where
     same-room : within at p.figures b pos neg ≡ within at (point_in w).figures (bounds_in w) pos neg
     same-room = ap₂ (λ (q : Point) (s : Span). within at q.figures s pos neg) e g
 
-    pub entry-out : within at p.figures b pos neg ≡ false → NoPoint ≡ entry_in at w pos neg
+    pub entry-out : within at p.figures b pos neg ≡ false → None ≡ entry_in at w pos neg
     unfolding entry_in
     entry-out h = sym (pick-false (is_point w && lies) _ _ (ap (λ (t : Bool). t && lies) y ∙ sym same-room ∙ h))
 
     pub entry-is : within at p.figures b pos neg ≡ true → (next : Cursor) → next ≡ behind at p.figures b
-        → Is (record { point = p; bounds = b; next = next }) ≡ entry_in at w pos neg
+        → Some (record { point = p; bounds = b; next = next }) ≡ entry_in at w pos neg
     unfolding entry_in
     entry-is h next n =
-        ap (λ (c : Cursor). Is (record { point = p; bounds = b; next = c })) n
-        ∙ ap₂ (λ (q : Point) (s : Span). Is (record { point = q; bounds = s; next = behind at q.figures s })) e g
+        ap (λ (c : Cursor). Some (record { point = p; bounds = b; next = c })) n
+        ∙ ap₂ (λ (q : Point) (s : Span). Some (record { point = q; bounds = s; next = behind at q.figures s })) e g
         ∙ sym (pick_true (is_point w && lies) _ _ (and_intro (is_point w) lies y (sym same-room ∙ h)))
 
 module _ (at : Cursor) (words : List (List ℕ)) (pos neg : ℕ) where
-  pub nothing-there : length words ≤ at.place → NoPoint ≡ point_at at words pos neg
+  pub nothing-there : length words ≤ at.place → None ≡ point_at at words pos neg
   unfolding point_at
   nothing-there h = sym (pick_true (leb (length words) at.place) _ _ (le-leb (length words) at.place h))
 

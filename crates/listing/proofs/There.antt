@@ -16,7 +16,7 @@ use Rattle.listing.specs.Words.{words_of, point_in, bounds_in, is_point}
 use Rattle.listing.specs.Listed.{Output, pos_len, neg_len, behind, within, entry_in, point_at, bounds_at, stored_at}
 use Rattle.listing.specs.declared.Cursor.{Cursor}
 use Rattle.listing.specs.declared.Entry.{Entry}
-use Rattle.listing.specs.declared.Found.TheVariants.{Is}
+use Rattle.std.specs.Prelude.{Some}
 use Rattle.listing.specs.declared.Span.{Span}
 use Rattle.listing.proofs.Back.{Held, point-back, span-back, point-is}
 
@@ -45,7 +45,7 @@ module _ (at : Cursor) (p : Point) (b : Span) (ps ns : List ℕ) (o : Output) (h
       and_intro (leb i (length o.pos)) (leb j (length o.neg)) (le-leb i (length o.pos) (omega (arith, x, l.pos_end)))
       (le-leb j (length o.neg) (omega (arith, y, l.neg_end)))
 
-  entry-there : entry_in at (words_of p b) (length o.pos) (length o.neg) ≡ Is entry
+  entry-there : entry_in at (words_of p b) (length o.pos) (length o.neg) ≡ Some entry
   unfolding entry_in
   entry-there =
       let v = words_of p b in
@@ -55,9 +55,9 @@ module _ (at : Cursor) (p : Point) (b : Span) (ps ns : List ℕ) (o : Output) (h
       let n = length o.neg in
       let t : within at (point_in v).figures (bounds_in v) m n ≡ true = ap₂ (λ u s. within at u.figures s m n) q s ∙ within-here in
       pick_true (is_point v && within at (point_in v).figures (bounds_in v) m n) _ _ (and_intro (is_point v) _ (point-is p b h) t)
-      ∙ ap₂ (λ u s. Is (record { point = u; bounds = s; next = behind at u.figures s })) q s
+      ∙ ap₂ (λ u s. Some (record { point = u; bounds = s; next = behind at u.figures s })) q s
 
-  pub point-there : point_at at o.words (length o.pos) (length o.neg) ≡ Is entry
+  pub point-there : point_at at o.words (length o.pos) (length o.neg) ≡ Some entry
   unfolding point_at
   point-there =
       pick-false (leb (length o.words) at.place) _ _ (lt-leb (length o.words) at.place l.place)

@@ -1,6 +1,6 @@
 -- A list of points in lent output: sets' rows, points' words, and their counts packed one after another in two stores. Assumes nothing.
 -- docs/LIST.md tells it in words: one form for collections, merges and sheets.
-use Rattle.std.specs.Prelude.{ℕ, zero, suc, ◌+◌, ◌-◌, Bool, true, false, ◌&&◌, List, [], ◌∷◌, ◌++◌, leb, length, get_or, set, take, drop, Float}
+use Rattle.std.specs.Prelude.{ℕ, zero, suc, ◌+◌, ◌-◌, Bool, true, false, ◌&&◌, List, [], ◌∷◌, ◌++◌, leb, length, get_or, set, take, drop, Float, Option, Some, None}
 use Rattle.std.proofs.Math.Option.{Option, none, some, map}
 use Rattle.laws.specs.Over.{over}
 use Rattle.laws.specs.Pick.{pick}
@@ -13,8 +13,6 @@ use Rattle.point.specs.declared.Figures.TheVariants.{Exponential, Explicit}
 use Rattle.listing.specs.Words.{words_of, point_in, bounds_in, is_point}
 use Rattle.listing.specs.declared.Cursor.{Cursor}
 use Rattle.listing.specs.declared.Entry.{Entry}
-use Rattle.listing.specs.declared.Found.{Found}
-use Rattle.listing.specs.declared.Found.TheVariants.{NoPoint, Is}
 use Rattle.listing.specs.declared.Span.{Span}
 
 pub record Output : Type 0 where
@@ -68,15 +66,15 @@ abbrev pub within : Cursor → Figures → Span → ℕ → ℕ → Bool
 within at f b pos neg = leb (at.pos + pos_len f b) pos && leb (at.neg + neg_len f) neg
 
 -- that of twelve words: none where they are no point's, or where its counts are not there
-unfoldable pub entry_in : Cursor → List ℕ → ℕ → ℕ → Found
+unfoldable pub entry_in : Cursor → List ℕ → ℕ → ℕ → Option Entry
 entry_in at w pos neg =
     pick (is_point w && within at (point_in w).figures (bounds_in w) pos neg)
-    (Is (record { point = point_in w; bounds = bounds_in w; next = behind at (point_in w).figures (bounds_in w) }))
-    NoPoint
+    (Some (record { point = point_in w; bounds = bounds_in w; next = behind at (point_in w).figures (bounds_in w) }))
+    None
 
-unfoldable pub point_at : Cursor → List (List ℕ) → ℕ → ℕ → Found
+unfoldable pub point_at : Cursor → List (List ℕ) → ℕ → ℕ → Option Entry
 point_at at words pos neg =
-    pick (leb (length words) at.place) NoPoint (entry_in at (get_or words at.place []) pos neg)
+    pick (leb (length words) at.place) None (entry_in at (get_or words at.place []) pos neg)
 
 -- the counts of a sign between two cursors
 abbrev pub row_at : Cursor → Cursor → Bool → List ℕ → List ℕ → List ℕ
@@ -94,7 +92,7 @@ stored_at at e bounds o =
 -- and its counts (`row_at`); so it is handed to `point::merge`
 abbrev pub found_at : List Float → Cursor → Output → Option (Stored × Cursor)
 found_at bounds at o =
-    elim (point_at at o.words (length o.pos) (length o.neg)) [ NoPoint ↦ none | Is e ↦ some (stored_at at e bounds o, e.next) ]
+    elim (point_at at o.words (length o.pos) (length o.neg)) [ None ↦ none | Some e ↦ some (stored_at at e bounds o, e.next) ]
 
 -- THE READER: n points of a list from a cursor on, each with its set, the next one at the cursor that the one before gives; none unless all n are found
 abbrev pub read_from : {A : Type 0} → (Cursor → Output → Option (A × Cursor)) → ℕ → Cursor → Output → Option (List (Set × A))

@@ -1,13 +1,11 @@
 -- A point as twelve words, and back: docs/LIST.md says which word is what. Assumes nothing.
-use Rattle.std.specs.Prelude.{ℕ, ◌+◌, ◌*◌, ◌%◌, Bool, List, [], ◌∷◌, ◌++◌, leb, eqb, get_or}
+use Rattle.std.specs.Prelude.{ℕ, ◌+◌, ◌*◌, ◌%◌, Bool, List, [], ◌∷◌, ◌++◌, leb, eqb, get_or, Option, Some, None, Float}
 use Rattle.std.specs.Float.{binary64}
 use Rattle.std.specs.Float.Ieee.{of_bits}
 use Rattle.laws.specs.Pick.{pick}
 use Rattle.laws.specs.Counting.{bit}
 use Rattle.sets.specs.All.{allb}
 use Rattle.floats.specs.Answers.{is_shown, bits_of}
-use Rattle.floats.specs.declared.Extreme.{Extreme}
-use Rattle.floats.specs.declared.Extreme.TheVariants.{None, Value}
 use Rattle.point.specs.declared.Point.{Point}
 use Rattle.point.specs.declared.Figures.{Figures}
 use Rattle.point.specs.declared.Figures.TheVariants.{Exponential, Explicit}
@@ -16,9 +14,9 @@ use Rattle.listing.specs.declared.Span.{Span}
 -- ---- written
 
 -- the bits of an extreme, 0 where it is not shown
-abbrev pub shown_bits : Extreme → ℕ
+abbrev pub shown_bits : Option Float → ℕ
 shown_bits None = 0
-shown_bits (Value x) = bits_of x
+shown_bits (Some x) = bits_of x
 
 -- kind, count, zero count, level, start and length of the positive and of the negative row; of the explicit kind its count, and where its
 -- bounds lie: "Explicit points have bucket counts, no scale, rows or zero count"
@@ -52,8 +50,8 @@ figures_in w =
 unfoldable pub bounds_in : List ℕ → Span
 bounds_in w = pick (eqb (get_or w 0 0) 0) (record { start = 0; len = 0 }) (record { start = get_or w 4 0; len = get_or w 5 0 })
 
-unfoldable pub extreme_in : Bool → ℕ → Extreme
-extreme_in shown bits = pick shown (Value (of_bits binary64 bits)) None
+unfoldable pub extreme_in : Bool → ℕ → Option Float
+extreme_in shown bits = pick shown (Some (of_bits binary64 bits)) None
 
 unfoldable pub point_in : List ℕ → Point
 point_in w =

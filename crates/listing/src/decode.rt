@@ -5,19 +5,18 @@ ghost use Rattle.listing.specs.Words.{figures_in, bounds_in, extreme_in, point_i
 
 use crate::Span;
 use exponential::Counts;
-use floats::Extreme;
 use point::{Figures, Point};
 use rows::Row;
 
 // An extreme, if it is shown.
-fn extreme_of(shown: bool, bits: u64) -> Extreme
+fn extreme_of(shown: bool, bits: u64) -> Option<f64>
     ensures { result ≡ extreme_in shown bits }
 {
     if shown {
         let x = floats::of_bits(bits);
-        return Extreme::Value(x);
+        return Some(x);
     }
-    Extreme::None
+    None
 }
 
 // The figures by the kind that the words tell.

@@ -5,7 +5,6 @@ ghost use Rattle.floats.specs.Answers.{is_shown};
 ghost use Rattle.listing.specs.Words.{shown_bits, words_of};
 
 use crate::Span;
-use floats::Extreme;
 use point::{Figures, Point};
 
 // 1 where it holds, else 0.
@@ -19,22 +18,22 @@ fn flag_of(b: bool) -> u64
 }
 
 // Whether an extreme is shown.
-fn is_shown(x: Extreme) -> bool
+fn is_shown(x: Option<f64>) -> bool
     ensures { result ≡ is_shown x }
 {
     match x {
-        Extreme::None => false,
-        Extreme::Value(v) => true,
+        None => false,
+        Some(v) => true,
     }
 }
 
 // The bits of an extreme, 0 where it is not shown.
-fn shown_bits(x: Extreme) -> u64
+fn shown_bits(x: Option<f64>) -> u64
     ensures { result ≡ shown_bits x }
 {
     match x {
-        Extreme::None => 0,
-        Extreme::Value(v) => floats::bits_of(v),
+        None => 0,
+        Some(v) => floats::bits_of(v),
     }
 }
 

@@ -31,10 +31,3 @@ pub struct Entry {
     pub bounds: Span,
     pub next: Cursor,
 }
-
-// What lies at a cursor.
-#[derive(Clone, Copy)]
-pub enum Found {
-    NoPoint,
-    Is(Entry),
-}

@@ -2,7 +2,7 @@
 ghost use Rattle.std.specs.Prelude.{◌≡◌, ◌+◌, ◌-◌, ◌^◌, ◌<◌, min, leb, length};
 ghost use Rattle.listing.specs.Listed.{buckets_of, within, entry_in, point_at, row_at, bounds_at};
 
-use crate::{Cursor, Entry, Found, Span};
+use crate::{Cursor, Entry, Span};
 use exponential::Counts;
 use point::Figures;
 use rows::Row;
@@ -53,21 +53,21 @@ fn counts_lie(at: Cursor, f: Figures, b: Span, pos: usize, neg: usize) -> bool
 }
 
 // The point of twelve words, if they are one's and its counts are there.
-pub fn entry_in(at: Cursor, w: [u64; 12], pos: usize, neg: usize) -> Found
+pub fn entry_in(at: Cursor, w: [u64; 12], pos: usize, neg: usize) -> Option<Entry>
     requires { at.place + 1 < 2 ^ 64 }
     ensures { result ≡ entry_in at w pos neg }
 {
     if !crate::decode::is_point(w) {
-        return Found::NoPoint;
+        return None;
     }
     let p = crate::decode::point_of(w);
     let b = crate::decode::bounds_of(w);
     let f = p.figures;
     if !counts_lie(at, f, b, pos, neg) {
-        return Found::NoPoint;
+        return None;
     }
     let next = crate::put::cursor_behind(at, f, b);
-    Found::Is(Entry {
+    Some(Entry {
         point: p,
         bounds: b,
         next,
@@ -75,12 +75,12 @@ pub fn entry_in(at: Cursor, w: [u64; 12], pos: usize, neg: usize) -> Found
 }
 
 // The point at a cursor, with the cursor of the point behind it; none where the words are no point's.
-pub fn point_at(at: Cursor, words: &[[u64; 12]], pos: &[u64], neg: &[u64]) -> Found
+pub fn point_at(at: Cursor, words: &[[u64; 12]], pos: &[u64], neg: &[u64]) -> Option<Entry>
     ensures { result ≡ point_at at words.now (length pos.now) (length neg.now) }
 {
     let k = at.place;
     if k >= words.len() {
-        return Found::NoPoint;
+        return None;
     }
     entry_in(at, words[k], pos.len(), neg.len())
 }

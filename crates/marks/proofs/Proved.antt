@@ -16,8 +16,7 @@ use Rattle.index.specs.Magnitude.{magnitude, is_negative}
 use Rattle.index.specs.DataModel.{IsIndex}
 use Rattle.index.specs.Bins.{finest, finest_bin, bin_at, index_of}
 use Rattle.index.specs.Signed.{level_answer, value_index}
-use Rattle.index.specs.declared.signed.Natural.{Natural}
-use Rattle.index.specs.declared.signed.Natural.TheVariants.{Is, OutOfRange}
+use Rattle.std.specs.Prelude.{Option, Some, None}
 use Rattle.index.specs.declared.signed.Index.TheVariants.{At}
 use Rattle.index.proofs.Buckets.{Between}
 use Rattle.index.proofs.Finest.{Held}
@@ -25,7 +24,6 @@ use Rattle.index.proofs.Indices.{bin-from}
 use Rattle.index.proofs.Values.{value-is}
 use Rattle.floats.specs.Answers.{shows}
 use Rattle.floats.specs.Starts.{zero_float}
-use Rattle.floats.specs.declared.Extreme.TheVariants.{None, Value}
 use Rattle.points.specs.Points as P
 use Rattle.points.specs.Points.{naught, plus, minus, build, scale, fits_both, row, row_of}
 use Rattle.points.specs.Values.{class_of, summary_of}
@@ -109,17 +107,17 @@ guesses-are (b ∷ bs) t = λ j. guess-is b (both_left (known b) (all_known bs) 
 bin_of : ℕ → ℤ → ℕ
 bin_of level i = nat_abs (i +ℤ pos (2 ^ (level + 1)))
 
-right_index : ℕ → ℤ → Natural → Bool
-right_index bits i OutOfRange = false
-right_index bits i (Is level) =
+right_index : ℕ → ℤ → Option ℕ → Bool
+right_index bits i None = false
+right_index bits i (Some level) =
     not (is_negative (f64 bits))
     && (fits binary64 (f64 bits)
     && (finite (f64 bits) && (same (index_of level (bin_of level i)) i && in_bin level (magnitude (f64 bits)) (bin_of level i))))
 
-right_point : ℕ → List ℕ → Line → Natural → Bool
-right_point size values line OutOfRange = false
-right_point size [] line (Is top) = false
-right_point size (b ∷ bs) line (Is top) =
+right_point : ℕ → List ℕ → Line → Option ℕ → Bool
+right_point size values line None = false
+right_point size [] line (Some top) = false
+right_point size (b ∷ bs) line (Some top) =
     let values = b ∷ bs in
     let m = summary_of (map f64 values) in
     all_known values
@@ -141,10 +139,10 @@ is_false false t = refl
 held-some : (w : ℕ) → Held w → w ≡ 0 → ⊥
 held-some w h e = omega (arith, h.least)
 
-both-index : (bits : ℕ) (scale i : ℤ) (found : Natural) → level_answer scale ≡ found → T (right_index bits i found) → IsIndex scale (magnitude (f64 bits)) i × (value_index (f64 bits) scale ≡ At false i)
+both-index : (bits : ℕ) (scale i : ℤ) (found : Option ℕ) → level_answer scale ≡ found → T (right_index bits i found) → IsIndex scale (magnitude (f64 bits)) i × (value_index (f64 bits) scale ≡ At false i)
 unfolding right_index
-both-index bits scale i OutOfRange e t = absurd t
-both-index bits scale i (Is level) e t =
+both-index bits scale i None e t = absurd t
+both-index bits scale i (Some level) e t =
     let x = f64 bits in
     let b = bin_of level i in
     let p = not (is_negative x) in
@@ -162,11 +160,11 @@ both-index bits scale i (Is level) e t =
       v.0 ∙ (λ j. At (is_false (is_negative x) (both_left p (q && (r && (s && u))) t) j) (at j)),
     )
 
-point-holds : (size : ℕ) (scale : ℤ) (values : List ℕ) (line : Line) (found : Natural) → level_answer scale ≡ found → T (right_point size values line found) → Holds (point size scale values line)
+point-holds : (size : ℕ) (scale : ℤ) (values : List ℕ) (line : Line) (found : Option ℕ) → level_answer scale ≡ found → T (right_point size values line found) → Holds (point size scale values line)
 unfolding right_point handed pick
-point-holds size scale values line OutOfRange e t = absurd t
-point-holds size scale [] line (Is top) e t = absurd t
-point-holds size scale (b ∷ bs) line (Is top) e t =
+point-holds size scale values line None e t = absurd t
+point-holds size scale [] line (Some top) e t = absurd t
+point-holds size scale (b ∷ bs) line (Some top) e t =
     let values = b ∷ bs in
     let m = summary_of (map f64 values) in
     let c = P.point_of size (finest - top) (map (class_of zero_float) (map f64 values)) in
@@ -183,8 +181,8 @@ point-holds size scale (b ∷ bs) line (Is top) e t =
         counts = exponential_counts c;
         extremes = true;
         threshold = zero_float;
-        min = pick (due j) (Value m.min) None;
-        max = pick (due j) (Value m.max) None;
+        min = pick (due j) (Some m.min) None;
+        max = pick (due j) (Some m.max) None;
         sum = m.sum;
       }),
       (λ j. line_of (P.point_of size (finest - top) (guesses-are values (both_left a (same_line o line) t) j)) m.min m.max m.sum)

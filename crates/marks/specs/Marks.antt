@@ -1,15 +1,13 @@
 -- The worked examples of document 01, "Gauge marks", that are proved: one table, and what it is for an entry to hold. Assumes nothing.
-use Rattle.std.specs.Prelude.{◌≡◌, true, false, List, [], ◌∷◌, map, ℕ, ℤ, pos, negsuc, Float}
+use Rattle.std.specs.Prelude.{◌≡◌, true, false, List, [], ◌∷◌, map, ℕ, ℤ, pos, negsuc, Float, Some}
 use Rattle.std.specs.Float.{binary64}
 use Rattle.std.specs.Float.Ieee.{of_bits}
 use Rattle.index.specs.Magnitude.{magnitude}
 use Rattle.index.specs.DataModel.{IsIndex}
 use Rattle.index.specs.Signed.{level_answer, value_index}
-use Rattle.index.specs.declared.signed.Natural.TheVariants.{Is}
 use Rattle.index.specs.declared.signed.Index.TheVariants.{At}
 use Rattle.floats.specs.Answers.{bits_of}
 use Rattle.floats.specs.Starts.{zero_float}
-use Rattle.floats.specs.declared.Extreme.TheVariants.{Value}
 use Rattle.points.specs.Points.{Point}
 use Rattle.points.specs.Signed.{scale_in, offset_in}
 use Rattle.points.specs.Explicit.{bucket_of}
@@ -46,9 +44,9 @@ abbrev pub Holds : Mark → Type 0
 Holds (index bits scale i) = IsIndex scale (magnitude (f64 bits)) i × (value_index (f64 bits) scale ≡ At false i)
 Holds (bucket bounds bits k) = bucket_of (map f64 bounds) (f64 bits) ≡ k
 Holds (point size scale values line) =
-    (top : ℕ) × (p : Point) × (low : Float) × (high : Float) × (total : Float) × (level_answer scale ≡ Is top)
+    (top : ℕ) × (p : Point) × (low : Float) × (high : Float) × (total : Float) × (level_answer scale ≡ Some top)
     × (handed (settings_of (exponential size top) true true) (map f64 values)
-    ≡ record { counts = exponential_counts p; extremes = true; threshold = zero_float; min = Value low; max = Value high; sum = total })
+    ≡ record { counts = exponential_counts p; extremes = true; threshold = zero_float; min = Some low; max = Some high; sum = total })
     × (line_of p low high total ≡ line)
 
 abbrev pub marks : List Mark

@@ -8,8 +8,7 @@ use lib.Ieee.{binary64, of_bits}
 use Rattle.laws.specs.Pick.{pick}
 use Rattle.laws.specs.Said.{Said, refusal, success}
 use Rattle.floats.specs.Grid.{is_whole}
-use Rattle.floats.specs.declared.Extreme.{Extreme}
-use Rattle.floats.specs.declared.Extreme.TheVariants.{None, Value}
+use Rattle.std.specs.Prelude.{Option, Some, None, Float}
 use Rattle.points.specs.Explicit.{buckets_agree, bounds_pass, no_nan, rising}
 use Rattle.points.specs.Handed.{handed_agrees}
 use Rattle.point.specs.declared.Figures.TheVariants.{Explicit}
@@ -77,12 +76,12 @@ unfolding mean_of pick on_grid is_whole of_bits nearest rounded half
 computed = refl
 
 -- ---- "after 8 .. 13 .., then 14": an explicit point without bounds whose sum is a NaN, by its extremes and its count
-abbrev stored : Extreme → ℕ → Stored
+abbrev stored : Option Float → ℕ → Stored
 stored e n =
     stored_in (record { figures = Explicit n; extremes = true; min = e; max = e; sum = of_bits binary64 0x7ff8_0000_0000_0000 }) [] [] []
 
-abbrev naught : Extreme
-naught = Value (of_bits binary64 0)
+abbrev naught : Option Float
+naught = Some (of_bits binary64 0)
 
 -- request L4: extremes shown of no values are 8, and so is their lack where there is one
 order :

@@ -1,14 +1,13 @@
 // The fields of a line: those that the points of both kinds have, and numbers within limits.
-use floats::Extreme;
-use text::{Integer, Natural};
+use text::Integer;
 
 // What a point of either kind has.
 #[derive(Clone, Copy)]
 pub struct Held {
     pub count: u64,
     pub extremes: bool,
-    pub min: Extreme,
-    pub max: Extreme,
+    pub min: Option<f64>,
+    pub max: Option<f64>,
     pub sum: f64,
 }
 
@@ -22,7 +21,7 @@ pub enum Common {
 #[derive(Clone, Copy)]
 enum Spelled {
     Unread,
-    Is(Extreme),
+    Is(Option<f64>),
 }
 
 // A field of one byte; 0 where it is longer or empty.
@@ -40,49 +39,49 @@ pub fn letter_in(line: &[u8]) -> u8 {
 }
 
 // A field's decimal, at most so great.
-pub fn number_at(line: &[u8], k: usize, most: u64) -> Natural {
-    let Natural::Is(x) = text::decimal_at(line, k) else {
-        return Natural::None;
+pub fn number_at(line: &[u8], k: usize, most: u64) -> Option<u64> {
+    let Some(x) = text::decimal_at(line, k) else {
+        return None;
     };
     if most < x {
-        return Natural::None;
+        return None;
     }
-    Natural::Is(x)
+    Some(x)
 }
 
 // The level of a field's scale: 0 to 30, above 20 of a scale that no point has.
-pub fn level_at(line: &[u8], k: usize) -> Natural {
+pub fn level_at(line: &[u8], k: usize) -> Option<u64> {
     let Integer::Is(negative, size) = text::signed_at(line, k) else {
-        return Natural::None;
+        return None;
     };
     if 20 < size {
-        return Natural::None;
+        return None;
     }
     if !negative {
-        return Natural::Is(10 + size);
+        return Some(10 + size);
     }
     if 10 < size {
-        return Natural::None;
+        return None;
     }
-    Natural::Is(10 - size)
+    Some(10 - size)
 }
 
 fn extreme_at(line: &[u8], k: usize) -> Spelled {
     if byte_of(line, k) == b'-' {
-        return Spelled::Is(Extreme::None);
+        return Spelled::Is(None);
     }
-    let Natural::Is(bits) = text::bits_at(line, k) else {
+    let Some(bits) = text::bits_at(line, k) else {
         return Spelled::Unread;
     };
-    Spelled::Is(Extreme::Value(floats::of_bits(bits)))
+    Spelled::Is(Some(floats::of_bits(bits)))
 }
 
 // The fields COUNT SWITCH MIN MAX SUM behind the letter.
 pub fn held_in(line: &[u8]) -> Common {
-    let Natural::Is(count) = text::decimal_at(line, 1) else {
+    let Some(count) = text::decimal_at(line, 1) else {
         return Common::Unread;
     };
-    let Natural::Is(switch) = number_at(line, 2, 1) else {
+    let Some(switch) = number_at(line, 2, 1) else {
         return Common::Unread;
     };
     let Spelled::Is(min) = extreme_at(line, 3) else {
@@ -91,7 +90,7 @@ pub fn held_in(line: &[u8]) -> Common {
     let Spelled::Is(max) = extreme_at(line, 4) else {
         return Common::Unread;
     };
-    let Natural::Is(sum) = text::bits_at(line, 5) else {
+    let Some(sum) = text::bits_at(line, 5) else {
         return Common::Unread;
     };
     Common::Is(Held {

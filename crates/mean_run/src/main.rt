@@ -19,7 +19,6 @@ use mean::Answer;
 use point::{Figures, Point};
 use rows::Row;
 use std::io::Stdout;
-use text::Natural;
 
 fn point_of(held: Held, figures: Figures) -> Point {
     let min = held.min;
@@ -98,13 +97,13 @@ fn explicit_line(out: &Stdout, text: &mut Block, n: usize, line: &[u8]) -> usize
     let Common::Is(held) = fields::held_in(line) else {
         return unread(out, text, n);
     };
-    let Natural::Is(bound) = text::bits_at(line, 6) else {
+    let Some(bound) = text::bits_at(line, 6) else {
         return unread(out, text, n);
     };
-    let Natural::Is(first) = text::decimal_at(line, 7) else {
+    let Some(first) = text::decimal_at(line, 7) else {
         return unread(out, text, n);
     };
-    let Natural::Is(second) = text::decimal_at(line, 8) else {
+    let Some(second) = text::decimal_at(line, 8) else {
         return unread(out, text, n);
     };
     let bounds = [floats::of_bits(bound); 1];
@@ -132,19 +131,19 @@ fn exponential_line(out: &Stdout, text: &mut Block, n: usize, line: &[u8]) -> us
     let Common::Is(held) = fields::held_in(line) else {
         return unread(out, text, n);
     };
-    let Natural::Is(level) = fields::level_at(line, 6) else {
+    let Some(level) = fields::level_at(line, 6) else {
         return unread(out, text, n);
     };
-    let Natural::Is(zeros) = text::decimal_at(line, 7) else {
+    let Some(zeros) = text::decimal_at(line, 7) else {
         return unread(out, text, n);
     };
-    let Natural::Is(first) = text::decimal_at(line, 8) else {
+    let Some(first) = text::decimal_at(line, 8) else {
         return unread(out, text, n);
     };
-    let Natural::Is(len) = fields::number_at(line, 9, 200) else {
+    let Some(len) = fields::number_at(line, 9, 200) else {
         return unread(out, text, n);
     };
-    let Natural::Is(neg) = text::decimal_at(line, 10) else {
+    let Some(neg) = text::decimal_at(line, 10) else {
         return unread(out, text, n);
     };
     let counts = counts_of(held.count, level, zeros, first, len, neg);

@@ -14,7 +14,7 @@ use borrow.Author.Tests.{eq-eqb, ne_eqb}
 use Rattle.laws.specs.Pick.{pick}
 use Rattle.laws.proofs.Bools.{and_left}
 use Rattle.index.specs.Bins.{finest, end_bin, scale_of, index_of}
-use Rattle.index.specs.declared.signed.Integer.TheVariants.{Is}
+use Rattle.std.specs.Prelude.{Some}
 use Rattle.index.proofs.SignedCases.{scale-is, index_is}
 use Rattle.points.proofs.Agreement.{RowOk}
 use Rattle.rows.specs.declared.Row.{Row}
@@ -31,14 +31,14 @@ use Rattle.point.proofs.Offsets.{offset-empty, offset-there}
 abbrev pub offset_of : ℕ → Row → ℤ
 offset_of level r = pick (eqb r.len 0) (pos 0) (index_of level r.start)
 
-shown : (level : ℕ) (r : Row) → level ≤ finest → (0 < r.len → r.start < end_bin level) → offset_answer level r ≡ Is (offset_of level r)
+shown : (level : ℕ) (r : Row) → level ≤ finest → (0 < r.len → r.start < end_bin level) → offset_answer level r ≡ Some (offset_of level r)
 unfolding pick
 shown level r l b =
     ⊎_elim
-    (λ (z : r.len ≡ 0). offset-empty level r z ∙ (λ j. Is (pick (sym (eq-eqb r.len 0 z) j) (pos 0) (index_of level r.start))))
+    (λ (z : r.len ≡ 0). offset-empty level r z ∙ (λ j. Some (pick (sym (eq-eqb r.len 0 z) j) (pos 0) (index_of level r.start))))
     (λ (p : 0 < r.len).
     let n : (r.len ≡ 0 → ⊥) = λ z. omega (arith, z) in
-    offset-there level r n ∙ index_is level r.start l (b p) ∙ (λ j. Is (pick (sym (ne_eqb r.len 0 n) j) (pos 0) (index_of level r.start))))
+    offset-there level r n ∙ index_is level r.start l (b p) ∙ (λ j. Some (pick (sym (ne_eqb r.len 0 n) j) (pos 0) (index_of level r.start))))
     (eq-zero-or-pos r.len)
 
 -- a row that agrees starts at a bin of the level
@@ -57,18 +57,18 @@ module _ (size : ℕ) (x : Stored) (c : Counts) (f : x.point.figures ≡ Exponen
   level-is = omega (arith, known.level)
 
   -- THE SCALE, from -10 to 10
-  pub scale-there : scale_shown x.point.figures ≡ Is (scale_of c.level)
+  pub scale-there : scale_shown x.point.figures ≡ Some (scale_of c.level)
   scale-there = ap scale_shown f ∙ scale-is c.level known.level
 
   -- BOTH OFFSETS
-  pub pos-there : offset_shown false x.point.figures ≡ Is (offset_of c.level c.pos)
+  pub pos-there : offset_shown false x.point.figures ≡ Some (offset_of c.level c.pos)
   unfolding pick
   pos-there =
       ap (offset_shown false) f
       ∙ shown c.level c.pos known.level
       (λ h. subst (λ (l : ℕ). c.pos.start < end_bin l) level-is (starts size _ _ c.pos x.pos known.pos_there known.point.pos h))
 
-  pub neg-there : offset_shown true x.point.figures ≡ Is (offset_of c.level c.neg)
+  pub neg-there : offset_shown true x.point.figures ≡ Some (offset_of c.level c.neg)
   unfolding pick
   neg-there =
       ap (offset_shown true) f

@@ -7,7 +7,6 @@ ghost use Rattle.std.specs.Prelude.{◌≡◌, ◌+◌, ◌-◌, ◌^◌, ◌<�
 ghost use Rattle.floats.specs.Starts.{zero_float};
 ghost use Rattle.points.specs.Handed.{extremes_agree};
 ghost use Rattle.laws.specs.Pick.{pick};
-ghost use Rattle.floats.specs.declared.Extreme.TheVariants.{Value};
 ghost use Rattle.refusals.specs.Refusals.{code};
 ghost use Rattle.point.specs.Handing.{stored, count_in, agrees_alone, shown_point, exponential_point, explicit_point, refusal_before, outcome, merging};
 ghost use Rattle.point.specs.Inner.{figures_agree, point_agrees, is_explicit, same_figures, size_fits};
@@ -20,7 +19,6 @@ ghost use Rattle.explicit.specs.Inner.{Addable};
 ghost use Rattle.laws.specs.Counting.{most_count};
 
 use exponential::Counts;
-use floats::Extreme;
 use refusals::Refusal;
 
 // The counts of either kind; the case is the kind's tag.
@@ -35,8 +33,8 @@ pub enum Figures {
 pub struct Point {
     pub figures: Figures,
     pub extremes: bool,
-    pub min: Extreme,
-    pub max: Extreme,
+    pub min: Option<f64>,
+    pub max: Option<f64>,
     pub sum: f64,
 }
 
@@ -98,17 +96,17 @@ pub fn explicit_point(head: explicit::Head, extremes: bool, sums: bool) -> Point
 // ---- agreement
 
 // Whether both extremes are there and finite where they are due, and neither is elsewhere.
-fn extremes_agree(due: bool, min: Extreme, max: Extreme) -> bool
+fn extremes_agree(due: bool, min: Option<f64>, max: Option<f64>) -> bool
     ensures { result ≡ extremes_agree due min max }
 {
     match min {
-        Extreme::None => match max {
-            Extreme::None => !due,
-            Extreme::Value(y) => false,
+        None => match max {
+            None => !due,
+            Some(y) => false,
         },
-        Extreme::Value(x) => match max {
-            Extreme::None => false,
-            Extreme::Value(y) => values_agree(due, x, y),
+        Some(x) => match max {
+            None => false,
+            Some(y) => values_agree(due, x, y),
         },
     }
 }

@@ -5,26 +5,25 @@ ghost use Rattle.floats.specs.Answers.{bits_of};
 ghost use Rattle.point.specs.Signed.{scale_shown, offset_answer, offset_shown};
 
 use exponential::Counts;
-use index::signed::Integer;
 use rows::Row;
 
 // The scale; out of range for a point of the explicit kind, which has none.
-pub fn scale(p: crate::Point) -> Integer
+pub fn scale(p: crate::Point) -> Option<i32>
     ensures { result ≡ scale_shown p.figures }
 {
     let f = p.figures;
     match f {
         crate::Figures::Exponential(c) => index::signed::scale_of(c.level),
-        crate::Figures::Explicit(count) => Integer::OutOfRange,
+        crate::Figures::Explicit(count) => None,
     }
 }
 
 // The offset of a row that starts at a level's bin.
-fn row_offset(level: u32, row: Row) -> Integer
+fn row_offset(level: u32, row: Row) -> Option<i32>
     ensures { result ≡ offset_answer level row }
 {
     if row.len == 0 {
-        return Integer::Is(0);
+        return Some(0);
     }
     index::signed::index_of(level, row.start)
 }
@@ -39,7 +38,7 @@ fn row_of(c: Counts, negative: bool) -> Row
 }
 
 // The offset of the positive or the negative row, 0 of an empty one; out of range for a point of the explicit kind.
-pub fn offset(p: crate::Point, negative: bool) -> Integer
+pub fn offset(p: crate::Point, negative: bool) -> Option<i32>
     ensures { result ≡ offset_shown negative p.figures }
 {
     let f = p.figures;
@@ -48,7 +47,7 @@ pub fn offset(p: crate::Point, negative: bool) -> Integer
             let row = row_of(c, negative);
             row_offset(c.level, row)
         }
-        crate::Figures::Explicit(count) => Integer::OutOfRange,
+        crate::Figures::Explicit(count) => None,
     }
 }
 

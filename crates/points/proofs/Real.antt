@@ -11,8 +11,7 @@ use Rattle.laws.specs.Lists.{All}
 use Rattle.laws.proofs.Bools.{and_left, and_right, and_intro, not-both}
 use Rattle.laws.proofs.Cases.{and-true, true-not-false}
 use Rattle.laws.proofs.Lists.{all-perm}
-use Rattle.floats.specs.declared.Extreme.{Extreme}
-use Rattle.floats.specs.declared.Extreme.TheVariants.{None, Value}
+use Rattle.std.specs.Prelude.{Option, Some, None}
 use Rattle.floats.specs.Answers.{lesser_of, greater_of, is_shown, smaller_of, larger_of}
 use Rattle.floats.specs.Grid.{grid}
 use Rattle.floats.specs.Starts.{zero_float, FiniteF64}
@@ -42,34 +41,34 @@ sum-join true x y vs ws h k = λ g. rw (h (gridded-left vs ws g), k (gridded-rig
 sum-join false x y vs ws h k = rw (h, k) zeros-add
 
 -- ---- extremes
-not-shown : (e : Extreme) → SameExtreme e None → e ≡ None
+not-shown : (e : Option Float) → SameExtreme e None → e ≡ None
 not-shown None h = refl
-not-shown (Value y) h = absurd h
+not-shown (Some y) h = absurd h
 
-unshown : (e : Extreme) → is_shown e ≡ false → e ≡ None
+unshown : (e : Option Float) → is_shown e ≡ false → e ≡ None
 unshown None h = refl
-unshown (Value x) h = absurd (not-both true refl h)
+unshown (Some x) h = absurd (not-both true refl h)
 
-finite-merged : (a b c d : Extreme) → finite_or_none a b ≡ true → finite_or_none c d ≡ true → finite_or_none (smaller_of a c) (larger_of b d) ≡ true
+finite-merged : (a b c d : Option Float) → finite_or_none a b ≡ true → finite_or_none c d ≡ true → finite_or_none (smaller_of a c) (larger_of b d) ≡ true
 finite-merged None None c d h k = k
-finite-merged None (Value y) c d h k = true-not-false (sym h)
-finite-merged (Value x) None c d h k = true-not-false (sym h)
-finite-merged (Value x) (Value y) None None h k = h
-finite-merged (Value x) (Value y) None (Value w) h k = true-not-false (sym k)
-finite-merged (Value x) (Value y) (Value z) None h k = true-not-false (sym k)
-finite-merged (Value x) (Value y) (Value z) (Value w) h k =
+finite-merged None (Some y) c d h k = true-not-false (sym h)
+finite-merged (Some x) None c d h k = true-not-false (sym h)
+finite-merged (Some x) (Some y) None None h k = h
+finite-merged (Some x) (Some y) None (Some w) h k = true-not-false (sym k)
+finite-merged (Some x) (Some y) (Some z) None h k = true-not-false (sym k)
+finite-merged (Some x) (Some y) (Some z) (Some w) h k =
     and_intro (finite (lesser_of x z)) (finite (greater_of y w))
     (finite-chosen true x z (and_left (finite x) (finite y) h) (and_left (finite z) (finite w) k))
     (finite-chosen false y w (and_right (finite x) (finite y) h) (and_right (finite z) (finite w) k))
 
-extremes-agree : (due : Bool) (a b : Extreme) (x y : Float) → SameExtreme a (shown_if due x) → SameExtreme b (shown_if due y) → extremes_agree due a b ≡ true
+extremes-agree : (due : Bool) (a b : Option Float) (x y : Float) → SameExtreme a (shown_if due x) → SameExtreme b (shown_if due y) → extremes_agree due a b ≡ true
 unfolding pick
-extremes-agree true (Value a) (Value b) x y h k =
+extremes-agree true (Some a) (Some b) x y h k =
     and_intro (finite a && finite b) true (and_intro (finite a) (finite b) (is_true (finite a) h.left.known) (is_true (finite b) k.left.known)) refl
-extremes-agree true (Value a) None x y h k = absurd k
+extremes-agree true (Some a) None x y h k = absurd k
 extremes-agree true None b x y h k = absurd h
-extremes-agree false (Value a) b x y h k = absurd h
-extremes-agree false None (Value b) x y h k = absurd k
+extremes-agree false (Some a) b x y h k = absurd h
+extremes-agree false None (Some b) x y h k = absurd k
 extremes-agree false None None x y h k = refl
 
 -- the minimum or the maximum, as `Owed` has it

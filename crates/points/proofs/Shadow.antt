@@ -10,26 +10,25 @@ use Rattle.index.specs.Bins.{finest, lowest_bin}
 use Rattle.floats.specs.Answers as R
 use Rattle.floats.specs.Answers.{shows}
 use Rattle.integers.specs.Answers.{is_shown}
-use Rattle.integers.specs.declared.Extreme.{Extreme}
-use Rattle.integers.specs.declared.Extreme.TheVariants.{None, Value}
+use Rattle.std.specs.Prelude.{Option, Some, None, ℤ}
 use Rattle.points.specs.Counts.{count_of, counts_agree, size_asked, merge_number}
 use Rattle.points.specs.Any.{Handed, extremes_agree, handed_agrees, mergeable, merge_handed, unmergeable}
 use Rattle.points.specs.Real.{finite_or_none, real}
 use Rattle.points.specs.Whole.{both_or_none, whole}
 use Rattle.points.specs.Shadow.{shadow_of, shadow}
 
-shown : (e : Extreme) → R.is_shown (shadow_of e) ≡ is_shown e
+shown : (e : Option ℤ) → R.is_shown (shadow_of e) ≡ is_shown e
 shown None = refl
-shown (Value x) = refl
+shown (Some x) = refl
 
-both : (a b : Extreme) → finite_or_none (shadow_of a) (shadow_of b) ≡ both_or_none a b
+both : (a b : Option ℤ) → finite_or_none (shadow_of a) (shadow_of b) ≡ both_or_none a b
 unfolding of_bits
 both None None = refl
-both None (Value y) = refl
-both (Value x) None = refl
-both (Value x) (Value y) = refl
+both None (Some y) = refl
+both (Some x) None = refl
+both (Some x) (Some y) = refl
 
-extremes-alike : (due : Bool) (a b : Extreme) → extremes_agree real due (shadow_of a) (shadow_of b) ≡ extremes_agree whole due a b
+extremes-alike : (due : Bool) (a b : Option ℤ) → extremes_agree real due (shadow_of a) (shadow_of b) ≡ extremes_agree whole due a b
 extremes-alike due a b = λ j. both a b j && (beq (shown a j) due && beq (shown b j) due)
 
 -- IT AGREES WHERE THE POINT DOES

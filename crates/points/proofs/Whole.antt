@@ -16,8 +16,7 @@ use Rattle.laws.proofs.Lists.{map-perm}
 use Rattle.floats.specs.Starts.{FiniteF64}
 use Rattle.integers.specs.Answers.{nearest_of, in_range, is_shown, smaller_of, larger_of}
 use Rattle.integers.specs.Totals.{total, weight}
-use Rattle.integers.specs.declared.Extreme.{Extreme}
-use Rattle.integers.specs.declared.Extreme.TheVariants.{None, Value}
+use Rattle.std.specs.Prelude.{Option, Some, None}
 use Rattle.integers.proofs.Order as Z
 use Rattle.integers.proofs.NoNearer.{nearest-is}
 use Rattle.integers.proofs.Totals.{total-is, total-perm, total_append, weight-perm, weight_append, total-range}
@@ -95,18 +94,18 @@ perm : (up sums : Bool) {xs ys : List ℤ} → Permᴰ xs ys → extreme whole u
 perm up sums {xs} {ys} h = extreme-is sums up xs ∙ Z.fold-perm up (begin up) h ∙ sym (extreme-is sums up ys)
 
 -- ---- extremes as they are shown: the same where they are equal
-same-is : (a b : Extreme) → SameExtreme a b → a ≡ b
+same-is : (a b : Option ℤ) → SameExtreme a b → a ≡ b
 same-is None None h = refl
-same-is None (Value y) h = absurd h
-same-is (Value x) None h = absurd h
-same-is (Value x) (Value y) h = ap Value h
+same-is None (Some y) h = absurd h
+same-is (Some x) None h = absurd h
+same-is (Some x) (Some y) h = ap Some h
 
-is_same : (a b : Extreme) → a ≡ b → SameExtreme a b
+is_same : (a b : Option ℤ) → a ≡ b → SameExtreme a b
 is_same a b e = subst (SameExtreme a) e (self a)
   where
-    self : (a : Extreme) → SameExtreme a a
+    self : (a : Option ℤ) → SameExtreme a a
     self None = tt
-    self (Value x) = refl
+    self (Some x) = refl
 
 shown : (up due : Bool) (x y : ℤ) → nearer whole up (shown_if whole due x) (shown_if whole due y) ≡ shown_if whole due (chosen whole up x y)
 unfolding pick
@@ -115,11 +114,11 @@ shown true false x y = refl
 shown false true x y = refl
 shown false false x y = refl
 
-none : (up : Bool) (a : Extreme) → (nearer whole up None a ≡ a) × (nearer whole up a None ≡ a)
+none : (up : Bool) (a : Option ℤ) → (nearer whole up None a ≡ a) × (nearer whole up a None ≡ a)
 none true None = (refl, refl)
-none true (Value x) = (refl, refl)
+none true (Some x) = (refl, refl)
 none false None = (refl, refl)
-none false (Value x) = (refl, refl)
+none false (Some x) = (refl, refl)
 
 shown-is : (due : Bool) (x : ℤ) → is_shown (shown_if whole due x) ≡ due
 unfolding pick
@@ -131,50 +130,50 @@ unfolding pick
 agree true x y = refl
 agree false x y = refl
 
-both-merged : (a b c d : Extreme) → both_or_none a b ≡ true → both_or_none c d ≡ true → both_or_none (smaller_of a c) (larger_of b d) ≡ true
+both-merged : (a b c d : Option ℤ) → both_or_none a b ≡ true → both_or_none c d ≡ true → both_or_none (smaller_of a c) (larger_of b d) ≡ true
 both-merged None None c d h k = k
-both-merged None (Value y) c d h k = true-not-false (sym h)
-both-merged (Value x) None c d h k = true-not-false (sym h)
-both-merged (Value x) (Value y) None None h k = h
-both-merged (Value x) (Value y) None (Value w) h k = true-not-false (sym k)
-both-merged (Value x) (Value y) (Value z) None h k = true-not-false (sym k)
-both-merged (Value x) (Value y) (Value z) (Value w) h k = refl
+both-merged None (Some y) c d h k = true-not-false (sym h)
+both-merged (Some x) None c d h k = true-not-false (sym h)
+both-merged (Some x) (Some y) None None h k = h
+both-merged (Some x) (Some y) None (Some w) h k = true-not-false (sym k)
+both-merged (Some x) (Some y) (Some z) None h k = true-not-false (sym k)
+both-merged (Some x) (Some y) (Some z) (Some w) h k = refl
 
-abbrev number_in : Extreme → ℤ
+abbrev number_in : Option ℤ → ℤ
 number_in None = pos 0
-number_in (Value x) = x
+number_in (Some x) = x
 
-of-shown : (due : Bool) (e : Extreme) → is_shown e ≡ due → e ≡ shown_if whole due (number_in e)
+of-shown : (due : Bool) (e : Option ℤ) → is_shown e ≡ due → e ≡ shown_if whole due (number_in e)
 unfolding pick
-of-shown true (Value x) h = refl
+of-shown true (Some x) h = refl
 of-shown true None h = absurd (not-both true refl (sym h))
-of-shown false (Value x) h = absurd (not-both true refl h)
+of-shown false (Some x) h = absurd (not-both true refl h)
 of-shown false None h = refl
 
-unshown : (e : Extreme) → is_shown e ≡ false → e ≡ None
+unshown : (e : Option ℤ) → is_shown e ≡ false → e ≡ None
 unfolding pick
 unshown e h = of-shown false e h
 
-either : (up : Bool) (a b : Extreme) → is_shown (nearer whole up a b) ≡ is_shown a || is_shown b
+either : (up : Bool) (a b : Option ℤ) → is_shown (nearer whole up a b) ≡ is_shown a || is_shown b
 either true None b = refl
 either false None b = refl
-either true (Value x) None = refl
-either false (Value x) None = refl
-either true (Value x) (Value y) = refl
-either false (Value x) (Value y) = refl
+either true (Some x) None = refl
+either false (Some x) None = refl
+either true (Some x) (Some y) = refl
+either false (Some x) (Some y) = refl
 
-comm : (up : Bool) (a b : Extreme) → nearer whole up a b ≡ nearer whole up b a
+comm : (up : Bool) (a b : Option ℤ) → nearer whole up a b ≡ nearer whole up b a
 comm up None b = (none up b).0 ∙ sym (none up b).1
-comm up (Value x) None = (none up (Value x)).1 ∙ sym (none up (Value x)).0
-comm true (Value x) (Value y) = ap Value (Z.chosen-comm true x y)
-comm false (Value x) (Value y) = ap Value (Z.chosen-comm false x y)
+comm up (Some x) None = (none up (Some x)).1 ∙ sym (none up (Some x)).0
+comm true (Some x) (Some y) = ap Some (Z.chosen-comm true x y)
+comm false (Some x) (Some y) = ap Some (Z.chosen-comm false x y)
 
-assoc : (up : Bool) (a b c : Extreme) → nearer whole up (nearer whole up a b) c ≡ nearer whole up a (nearer whole up b c)
+assoc : (up : Bool) (a b c : Option ℤ) → nearer whole up (nearer whole up a b) c ≡ nearer whole up a (nearer whole up b c)
 assoc up None b c = ap (λ x. nearer whole up x c) (none up b).0 ∙ sym (none up (nearer whole up b c)).0
-assoc up (Value x) None c = ap (λ y. nearer whole up y c) (none up (Value x)).1 ∙ sym (ap (nearer whole up (Value x)) (none up c).0)
-assoc up (Value x) (Value y) None = (none up (nearer whole up (Value x) (Value y))).1 ∙ sym (ap (nearer whole up (Value x)) (none up (Value y)).1)
-assoc true (Value x) (Value y) (Value z) = ap Value (Z.chosen-assoc true x y z)
-assoc false (Value x) (Value y) (Value z) = ap Value (Z.chosen-assoc false x y z)
+assoc up (Some x) None c = ap (λ y. nearer whole up y c) (none up (Some x)).1 ∙ sym (ap (nearer whole up (Some x)) (none up c).0)
+assoc up (Some x) (Some y) None = (none up (nearer whole up (Some x) (Some y))).1 ∙ sym (ap (nearer whole up (Some x)) (none up (Some y)).1)
+assoc true (Some x) (Some y) (Some z) = ap Some (Z.chosen-assoc true x y z)
+assoc false (Some x) (Some y) (Some z) = ap Some (Z.chosen-assoc false x y z)
 
 -- ---- the sum: with the switch on the exact total, with it off 0
 kept : (x : ℤ) (vs : List ℤ) → foldl (λ y v. pick false (y +ℤ v) y) x vs ≡ x

@@ -9,41 +9,40 @@ use lib.IntN.{ℤ, ◌+ℤ◌}
 use Rattle.laws.specs.Pick.{pick}
 use Rattle.laws.proofs.Bools.{pick_true, pick-false}
 use Rattle.integers.specs.Answers.{in_range, sum_of, kept_sum, last_number}
-use Rattle.integers.specs.declared.Total.{Total}
-use Rattle.integers.specs.declared.Total.TheVariants.{Outside, Is}
+use Rattle.std.specs.Prelude.{Option, Some, None}
 use Rattle.points.specs.Whole.{whole}
 
 no : {A : Type 0} → true ≡ false → A
 no h = absurd (subst T h tt)
 
-abbrev total_in : ℤ → Total → ℤ
-total_in d Outside = d
-total_in d (Is s) = s
+abbrev total_in : ℤ → Option ℤ → ℤ
+total_in d None = d
+total_in d (Some s) = s
 
-abbrev is_in : Total → Bool
-is_in Outside = false
-is_in (Is s) = true
+abbrev is_in : Option ℤ → Bool
+is_in None = false
+is_in (Some s) = true
 
 -- it takes the value, or not
 pub record Takes (on : Bool) (x v s : ℤ) : Type 0 where
   pub takes : whole.takes on x v ≡ true
   pub sum : s ≡ whole.noted on x v
 
-pub sum-takes : (on : Bool) (x v s : ℤ) → kept_sum on x v ≡ Is s → Takes on x v s
+pub sum-takes : (on : Bool) (x v s : ℤ) → kept_sum on x v ≡ Some s → Takes on x v s
 unfolding pick sum_of
 sum-takes true x v s e = go (in_range (x +ℤ v)) refl
   where
     go : (b : Bool) → in_range (x +ℤ v) ≡ b → Takes true x v s
-    go true d = record { takes = d; sum = sym (ap (total_in s) (sym (pick_true (in_range (x +ℤ v)) (Is (x +ℤ v)) Outside d) ∙ e)) }
-    go false d = no (sym (ap is_in (sym (pick-false (in_range (x +ℤ v)) (Is (x +ℤ v)) Outside d) ∙ e)))
+    go true d = record { takes = d; sum = sym (ap (total_in s) (sym (pick_true (in_range (x +ℤ v)) (Some (x +ℤ v)) None d) ∙ e)) }
+    go false d = no (sym (ap is_in (sym (pick-false (in_range (x +ℤ v)) (Some (x +ℤ v)) None d) ∙ e)))
 sum-takes false x v s e = record { takes = refl; sum = sym (ap (total_in s) e) }
 
-pub sum-leaves : (on : Bool) (x v : ℤ) → kept_sum on x v ≡ Outside → whole.takes on x v ≡ false
+pub sum-leaves : (on : Bool) (x v : ℤ) → kept_sum on x v ≡ None → whole.takes on x v ≡ false
 unfolding pick sum_of
 sum-leaves true x v e = go (in_range (x +ℤ v)) refl
   where
     go : (b : Bool) → in_range (x +ℤ v) ≡ b → in_range (x +ℤ v) ≡ false
-    go true d = no (ap is_in (sym (pick_true (in_range (x +ℤ v)) (Is (x +ℤ v)) Outside d) ∙ e))
+    go true d = no (ap is_in (sym (pick_true (in_range (x +ℤ v)) (Some (x +ℤ v)) None d) ∙ e))
     go false d = d
 sum-leaves false x v e = no (ap is_in e)
 

@@ -1,9 +1,8 @@
 -- A point of f64 values as it is handed out: of either kind, with its switch and zero threshold, extremes that it has or has not, and its
 -- sum; and merging such points. Assumes nothing.
-use Rattle.std.specs.Prelude.{ℕ, ◌+◌, Bool, ◌&&◌, List, leb, Float}
+use Rattle.std.specs.Prelude.{ℕ, ◌+◌, Bool, ◌&&◌, List, leb, Float, Option}
 use Rattle.laws.specs.Counting.{most_count}
 use Rattle.index.specs.Bins.{finest, lowest_bin}
-use Rattle.floats.specs.declared.Extreme.{Extreme}
 pub use Rattle.points.specs.Counts.{count_of, same_kind, merge_counts, counts_agree, size_asked, pos_of, neg_of}
 pub use Rattle.points.specs.Real.{finite_or_none}
 use Rattle.points.specs.Figures.{Settings, Figures}
@@ -27,10 +26,10 @@ mergeable p q = Any.mergeable real p q
 unfoldable pub merge_handed : ℕ → Handed → Handed → Handed
 merge_handed size p q = Any.merge_handed real size p q
 
-abbrev pub shown_as_due : Bool → Extreme → Extreme → Bool
+abbrev pub shown_as_due : Bool → Option Float → Option Float → Bool
 shown_as_due = Any.shown_as_due real
 
-abbrev pub extremes_agree : Bool → Extreme → Extreme → Bool
+abbrev pub extremes_agree : Bool → Option Float → Option Float → Bool
 extremes_agree = Any.extremes_agree real
 
 abbrev pub shown_agrees : Handed → Bool

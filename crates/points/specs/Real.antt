@@ -1,21 +1,19 @@
 -- The numbers of document 01: f64. Assumes nothing.
-use Rattle.std.specs.Prelude.{◌≡◌, Bool, true, false, ◌&&◌, List, Float}
+use Rattle.std.specs.Prelude.{◌≡◌, Bool, true, false, ◌&&◌, List, Float, Option, Some, None}
 use Rattle.std.specs.Float.{binary64}
 use Rattle.std.specs.Float.Ieee.{add, eq, fits}
 use Rattle.std.specs.Float.Ieee.Scale.{finite}
 use Rattle.floats.specs.Answers.{lesser_of, greater_of, is_shown, smaller_of, larger_of}
 use Rattle.floats.specs.Grid.{grid, exact_total, Gridded}
 use Rattle.floats.specs.Starts.{greatest_finite, least_finite, zero_float, FiniteF64}
-use Rattle.floats.specs.declared.Extreme.{Extreme}
-use Rattle.floats.specs.declared.Extreme.TheVariants.{None, Value}
 use Rattle.points.specs.Number.{Number}
 
 -- "Held extremes are finite, both or neither"
-abbrev pub finite_or_none : Extreme → Extreme → Bool
+abbrev pub finite_or_none : Option Float → Option Float → Bool
 finite_or_none None None = true
-finite_or_none None (Value y) = false
-finite_or_none (Value x) None = false
-finite_or_none (Value x) (Value y) = finite x && finite y
+finite_or_none None (Some y) = false
+finite_or_none (Some x) None = false
+finite_or_none (Some x) (Some y) = finite x && finite y
 
 -- finite, and equal as numbers
 pub record SameNumber (x y : Float) : Type 0 where
@@ -24,11 +22,11 @@ pub record SameNumber (x y : Float) : Type 0 where
   pub same : eq x y ≡ true
 
 -- neither is there, or both are and are the same number
-abbrev pub SameExtreme : Extreme → Extreme → Type 0
+abbrev pub SameExtreme : Option Float → Option Float → Type 0
 SameExtreme None None = Unit {0}
-SameExtreme None (Value y) = ⊥
-SameExtreme (Value x) None = ⊥
-SameExtreme (Value x) (Value y) = SameNumber x y
+SameExtreme None (Some y) = ⊥
+SameExtreme (Some x) None = ⊥
+SameExtreme (Some x) (Some y) = SameNumber x y
 
 -- "The sum under demand 3's premise is the exact total (switched off: 0.0)": `grid z` is z / 1024. Switched off it is 0.0 whatever the
 -- values; switched on and off the grid it depends on the order of recording and merging, and nothing is said of it here
@@ -56,9 +54,9 @@ real =
       takes = λ sums x v. true;
       add = add binary64;
       beyond = λ x y. 0;
-      Extreme = Extreme;
+      Extreme = Option Float;
       none = None;
-      value = Value;
+      value = Some;
       is_shown = is_shown;
       smaller = smaller_of;
       larger = larger_of;

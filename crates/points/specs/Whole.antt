@@ -1,26 +1,24 @@
 -- Whole numbers: i64. Document 02, L6. Assumes nothing.
 -- A sum is one of the integers of the logic, which have no end: what would leave i64 is refused with 16 (`takes`, `beyond`).
-use Rattle.std.specs.Prelude.{◌^◌, ◌<◌, ◌≡◌, Bool, true, false, List, map, ℤ, pos, negsuc, ◌+ℤ◌}
+use Rattle.std.specs.Prelude.{◌^◌, ◌<◌, ◌≡◌, Bool, true, false, List, map, ℤ, pos, negsuc, ◌+ℤ◌, Option, Some, None}
 use Rattle.laws.specs.Pick.{pick}
 use Rattle.integers.specs.Answers.{nearest_of, lesser_of, greater_of, in_range, is_shown, smaller_of, larger_of}
 use Rattle.integers.specs.Totals.{total, weight}
-use Rattle.integers.specs.declared.Extreme.{Extreme}
-use Rattle.integers.specs.declared.Extreme.TheVariants.{None, Value}
 use Rattle.points.specs.Number.{Number}
 
 -- both or neither
-abbrev pub both_or_none : Extreme → Extreme → Bool
+abbrev pub both_or_none : Option ℤ → Option ℤ → Bool
 both_or_none None None = true
-both_or_none None (Value y) = false
-both_or_none (Value x) None = false
-both_or_none (Value x) (Value y) = true
+both_or_none None (Some y) = false
+both_or_none (Some x) None = false
+both_or_none (Some x) (Some y) = true
 
 -- neither is there, or both are and are the same number
-abbrev pub SameExtreme : Extreme → Extreme → Type 0
+abbrev pub SameExtreme : Option ℤ → Option ℤ → Type 0
 SameExtreme None None = Unit {0}
-SameExtreme None (Value y) = ⊥
-SameExtreme (Value x) None = ⊥
-SameExtreme (Value x) (Value y) = x ≡ y
+SameExtreme None (Some y) = ⊥
+SameExtreme (Some x) None = ⊥
+SameExtreme (Some x) (Some y) = x ≡ y
 
 -- the exact total, whatever the order and the cutting; switched off, 0
 abbrev pub SumStands : Bool → ℤ → List ℤ → Type 0
@@ -51,9 +49,9 @@ whole =
       takes = λ sums x v. pick sums (in_range (x +ℤ v)) true;
       add = λ x y. x +ℤ y;
       beyond = λ x y. pick (in_range (x +ℤ y)) 0 16;
-      Extreme = Extreme;
+      Extreme = Option ℤ;
       none = None;
-      value = Value;
+      value = Some;
       is_shown = is_shown;
       smaller = smaller_of;
       larger = larger_of;

@@ -15,8 +15,7 @@ use Rattle.laws.specs.Pick.{pick}
 use Rattle.laws.proofs.Cases.{true-not-false}
 use Rattle.index.specs.Bins.{finest, end_bin}
 use Rattle.floats.specs.Answers.{is_shown, smaller_of, larger_of}
-use Rattle.floats.specs.declared.Extreme.{Extreme}
-use Rattle.floats.specs.declared.Extreme.TheVariants.{None, Value}
+use Rattle.std.specs.Prelude.{Option, Some, None}
 use Rattle.points.specs.Handed.{merge_counts}
 use Rattle.points.proofs.Kept.{merge-agrees}
 use Rattle.points.proofs.Numbers.{either-shown}
@@ -75,15 +74,15 @@ unfolding pick
 fits-either true x y p q = p
 fits-either false x y p q = q
 
-fits-smaller : (u v : Extreme) → Fitting u → Fitting v → Fitting (smaller_of u v)
+fits-smaller : (u v : Option Float) → Fitting u → Fitting v → Fitting (smaller_of u v)
 fits-smaller None v p q = q
-fits-smaller (Value x) None p q = p
-fits-smaller (Value x) (Value y) p q = fits-either (lt y x) y x q p
+fits-smaller (Some x) None p q = p
+fits-smaller (Some x) (Some y) p q = fits-either (lt y x) y x q p
 
-fits-larger : (u v : Extreme) → Fitting u → Fitting v → Fitting (larger_of u v)
+fits-larger : (u v : Option Float) → Fitting u → Fitting v → Fitting (larger_of u v)
 fits-larger None v p q = q
-fits-larger (Value x) None p q = p
-fits-larger (Value x) (Value y) p q = fits-either (lt x y) y x q p
+fits-larger (Some x) None p q = p
+fits-larger (Some x) (Some y) p q = fits-either (lt x y) y x q p
 
 -- ---- levels and starts are numbers of 32 bits
 

@@ -10,13 +10,10 @@ use Rattle.laws.proofs.Bools.{not-both, pick_true, pick-false}
 use Rattle.laws.proofs.Cases.{true-not-false}
 use Rattle.listing.specs.Listed.{point_at}
 use Rattle.listing.specs.declared.Cursor.{Cursor}
-use Rattle.listing.specs.declared.Found.{Found}
-use Rattle.listing.specs.declared.Found.TheVariants.{NoPoint, Is}
+use Rattle.std.specs.Prelude.{Option, Some, None}
 use Rattle.whole_listing.specs.Listed as WL
 use Rattle.whole_listing.specs.Listed.{is_whole}
 use Rattle.whole_listing.specs.declared.Entry.{Entry}
-use Rattle.whole_listing.specs.declared.Found as WF
-use Rattle.whole_listing.specs.declared.Found.TheVariants as WV
 use Rattle.whole_listing.proofs.There.{shadow_output}
 use Rattle.whole_listing.proofs.Readers as Readers
 use Rattle.whole_listing.proofs.Readers.{Told, shadow-found, kind-real, whole-told}
@@ -24,31 +21,31 @@ use Rattle.pooling.specs.Lists.{Source, bounded, whole_at, bounded_integer, inte
 use Rattle.pooling.specs.Entries.{Whole, shadow_entry}
 use Rattle.pooling.proofs.Whole.{bounded_in, point-told, whole-lies}
 
-abbrev present : WF.Found → Bool
-present WV.NoPoint = false
-present (WV.Is e) = true
+abbrev present : Option Entry → Bool
+present None = false
+present (Some e) = true
 
-abbrev entry_or : Entry → WF.Found → Entry
-entry_or d WV.NoPoint = d
-entry_or d (WV.Is e) = e
+abbrev entry_or : Entry → Option Entry → Entry
+entry_or d None = d
+entry_or d (Some e) = e
 
-chosen : (t : Bool) (x e : Entry) → pick t (WV.Is x) WV.NoPoint ≡ WV.Is e → (t ≡ true) × (x ≡ e)
+chosen : (t : Bool) (x e : Entry) → pick t (Some x) None ≡ Some e → (t ≡ true) × (x ≡ e)
 unfolding pick
 chosen true x e h = (refl, ap (entry_or x) h)
 chosen false x e h = true-not-false (sym (ap present h))
 
-bounded-says : (n : ℕ) (f : WF.Found) (e : Entry) → bounded_integer n f ≡ WV.Is e → (f ≡ WV.Is e) × (leb (e.bounds.start + e.bounds.len) n ≡ true)
-bounded-says n WV.NoPoint e h = true-not-false (sym (ap present h))
-bounded-says n (WV.Is x) e h =
+bounded-says : (n : ℕ) (f : Option Entry) (e : Entry) → bounded_integer n f ≡ Some e → (f ≡ Some e) × (leb (e.bounds.start + e.bounds.len) n ≡ true)
+bounded-says n None e h = true-not-false (sym (ap present h))
+bounded-says n (Some x) e h =
     let c = chosen (leb (x.bounds.start + x.bounds.len) n) x e h in
-    (ap WV.Is c.1, subst (λ (y : Entry). leb (y.bounds.start + y.bounds.len) n ≡ true) c.1 c.0)
+    (ap Some c.1, subst (λ (y : Entry). leb (y.bounds.start + y.bounds.len) n ≡ true) c.1 c.0)
 
 -- as the code finds it
-pub integer_in : (n : ℕ) (f : WF.Found) (e : Entry) → f ≡ WV.Is e → leb (e.bounds.start + e.bounds.len) n ≡ true → WV.Is e ≡ bounded_integer n f
-integer_in n f e p t = sym (ap (bounded_integer n) p ∙ pick_true (leb (e.bounds.start + e.bounds.len) n) (WV.Is e) WV.NoPoint t)
+pub integer_in : (n : ℕ) (f : Option Entry) (e : Entry) → f ≡ Some e → leb (e.bounds.start + e.bounds.len) n ≡ true → Some e ≡ bounded_integer n f
+integer_in n f e p t = sym (ap (bounded_integer n) p ∙ pick_true (leb (e.bounds.start + e.bounds.len) n) (Some e) None t)
 
-pub integer-out : (n : ℕ) (f : WF.Found) (e : Entry) → f ≡ WV.Is e → leb (e.bounds.start + e.bounds.len) n ≡ false → WV.NoPoint ≡ bounded_integer n f
-integer-out n f e p t = sym (ap (bounded_integer n) p ∙ pick-false (leb (e.bounds.start + e.bounds.len) n) (WV.Is e) WV.NoPoint t)
+pub integer-out : (n : ℕ) (f : Option Entry) (e : Entry) → f ≡ Some e → leb (e.bounds.start + e.bounds.len) n ≡ false → None ≡ bounded_integer n f
+integer-out n f e p t = sym (ap (bounded_integer n) p ∙ pick-false (leb (e.bounds.start + e.bounds.len) n) (Some e) None t)
 
 -- ---- the list of the shadows
 
@@ -65,34 +62,34 @@ module _ (at : Cursor) (x : Source) where
   abbrev n : ℕ
   n = length x.list.neg
 
-  pub shadow-whole : (e : Entry) → integer_at at x ≡ WV.Is e → whole_at at (shadowed x) ≡ Is (shadow_entry e)
+  pub shadow-whole : (e : Entry) → integer_at at x ≡ Some e → whole_at at (shadowed x) ≡ Some (shadow_entry e)
   shadow-whole e h =
       let c = bounded-says (length x.bounds) (WL.point_at at words m n) e h in
       sym (bounded_in (length x.bounds) _ (shadow_entry e) (shadow-found at words m n e c.0) c.1)
 
-  pub integer-lies : (e : Entry) → integer_at at x ≡ WV.Is e → Whole at (shadow_entry e) (length x.list.pos) (length x.list.neg) (length x.bounds)
+  pub integer-lies : (e : Entry) → integer_at at x ≡ Some e → Whole at (shadow_entry e) (length x.list.pos) (length x.list.neg) (length x.bounds)
   integer-lies e h = whole-lies at (shadowed x) (shadow_entry e) (shadow-whole e h)
 
-  pub integer-told : (e : Entry) → integer_at at x ≡ WV.Is e → Told at x.list.words (length x.list.pos) (length x.list.neg) e
+  pub integer-told : (e : Entry) → integer_at at x ≡ Some e → Told at x.list.words (length x.list.pos) (length x.list.neg) e
   integer-told e h = Readers.point-told at words m n e (bounded-says (length x.bounds) (WL.point_at at words m n) e h).0
 
   -- ---- of either number: the kind tells which one may lie there
 
-  pub not-real : is_whole at x.list.words ≡ true → whole_at at x ≡ NoPoint
+  pub not-real : is_whole at x.list.words ≡ true → whole_at at x ≡ None
   unfolding is_whole
   not-real k = ap (bounded (length x.bounds)) (go (point_at at words m n) refl)
     where
-      go : (f : Found) → point_at at words m n ≡ f → f ≡ NoPoint
-      go NoPoint h = refl
-      go (Is e) h = absurd (not-both _ k (kind-real (get_or words at.place []) (point-told at words m n e h).is))
+      go : (f : Option Entry) → point_at at words m n ≡ f → f ≡ None
+      go None h = refl
+      go (Some e) h = absurd (not-both _ k (kind-real (get_or words at.place []) (point-told at words m n e h).is))
 
-  pub not-whole : is_whole at x.list.words ≡ false → integer_at at x ≡ WV.NoPoint
+  pub not-whole : is_whole at x.list.words ≡ false → integer_at at x ≡ None
   not-whole k = ap (bounded_integer (length x.bounds)) (go (WL.point_at at words m n) refl)
     where
-      go : (f : WF.Found) → WL.point_at at words m n ≡ f → f ≡ WV.NoPoint
-      go WV.NoPoint h = refl
-      go (WV.Is e) h = absurd (not-both _ (whole-told at words m n e h) k)
+      go : (f : Option Entry) → WL.point_at at words m n ≡ f → f ≡ None
+      go None h = refl
+      go (Some e) h = absurd (not-both _ (whole-told at words m n e h) k)
 
   -- so never both
-  pub never_both : (e : Entry) → integer_at at x ≡ WV.Is e → whole_at at x ≡ NoPoint
+  pub never_both : (e : Entry) → integer_at at x ≡ Some e → whole_at at x ≡ None
   never_both e h = not-real (whole-told at words m n e (bounded-says (length x.bounds) (WL.point_at at words m n) e h).0)

@@ -22,7 +22,7 @@ use Rattle.point.specs.Handing.{Stored, stored_in, counts_as, counts_in, handed_
 use Rattle.listing.specs.Listed.{Output, pos_len, neg_len, put_at, bounds_at, stored_at}
 use Rattle.listing.specs.declared.Cursor.{Cursor}
 use Rattle.listing.specs.declared.Entry.{Entry}
-use Rattle.listing.specs.declared.Found.TheVariants.{Is}
+use Rattle.std.specs.Prelude.{Some}
 use Rattle.listing.specs.declared.Span.{Span}
 use Rattle.listing.proofs.Back.{Held}
 use Rattle.pooling.specs.Lists as Lists
@@ -86,7 +86,7 @@ module _ (size : ℕ) (x y : Stored) (us vs : List ℕ) (b : Span) (l : length x
 -- ---- the laws
 
 module _ (size : ℕ) (a : Cursor) (x : Source) (b : Cursor) (y : Source) (at : Cursor) (o : Output) (e f : Entry)
-    (s : a.place < length x.list.sets) (p : whole_at a x ≡ Is e) (q : whole_at b y ≡ Is f) (h : has_place at o ≡ true) where
+    (s : a.place < length x.list.sets) (p : whole_at a x ≡ Some e) (q : whole_at b y ≡ Some f) (h : has_place at o ≡ true) where
   abbrev first : Stored
   first = stored_at a e x.bounds x.list
 

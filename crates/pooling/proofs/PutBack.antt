@@ -14,14 +14,13 @@ use Rattle.listing.specs.Words.{words_of}
 use Rattle.listing.specs.Listed.{Output, pos_len, neg_len, behind, over_at, put_at, point_at, bounds_at, stored_at}
 use Rattle.listing.specs.declared.Cursor.{Cursor}
 use Rattle.listing.specs.declared.Entry.{Entry}
-use Rattle.listing.specs.declared.Found.TheVariants.{Is}
+use Rattle.std.specs.Prelude.{Some}
 use Rattle.listing.specs.declared.Span.{Span}
 use Rattle.whole_point.specs.Handing as WH
 use Rattle.whole_point.specs.declared.Point as W
 use Rattle.whole_listing.specs.Words as WW
 use Rattle.whole_listing.specs.Listed as WL
 use Rattle.whole_listing.specs.declared.Entry as WE
-use Rattle.whole_listing.specs.declared.Found.TheVariants as WV
 use Rattle.whole_listing.proofs.Back as Wb
 use Rattle.whole_listing.proofs.There as WT
 use Rattle.listing.proofs.Back.{Held}
@@ -98,7 +97,7 @@ module _ (at : Cursor) (row : List ℕ) (p : Point) (b : Span) (xs ys : List ℕ
   unfolding put_at
   lies-there = lies at row (words_of p b) _ _ xs ys o x y w m n
 
-  pub point-there : point_at at (put_at at row p b xs ys o).words (length (put_at at row p b xs ys o).pos) (length (put_at at row p b xs ys o).neg) ≡ Is entry
+  pub point-there : point_at at (put_at at row p b xs ys o).words (length (put_at at row p b xs ys o).pos) (length (put_at at row p b xs ys o).neg) ≡ Some entry
   point-there = There.point-there at p b ps ns put h (length-take-le _ xs x) (length-take-le _ ys y) lies-there
 
   pub stored_there : (bounds : List Float) → stored_at at entry bounds put ≡ stored_in p (bounds_at b bounds) ps ns
@@ -129,7 +128,7 @@ module _ (at : Cursor) (row : List ℕ) (p : W.Point) (b : Span) (xs ys : List �
   unfolding WL.put_at
   whole-lies = lies at row (WW.words_of p b) _ _ xs ys o x y w m n
 
-  pub whole-there : WL.point_at at (WL.put_at at row p b xs ys o).words (length (WL.put_at at row p b xs ys o).pos) (length (WL.put_at at row p b xs ys o).neg) ≡ WV.Is whole-entry
+  pub whole-there : WL.point_at at (WL.put_at at row p b xs ys o).words (length (WL.put_at at row p b xs ys o).pos) (length (WL.put_at at row p b xs ys o).neg) ≡ Some whole-entry
   whole-there = WT.point-there at p b whole-ps whole-ns whole-put h (length-take-le _ xs x) (length-take-le _ ys y) whole-lies
 
   pub whole-stored : (bounds : List Float) → WL.stored_at at whole-entry bounds whole-put ≡ WH.stored_in p (bounds_at b bounds) whole-ps whole-ns

@@ -15,9 +15,7 @@ use Rattle.laws.specs.Over.{over}
 use Rattle.laws.proofs.Bools.{flag, pick_true, pick-false}
 use Rattle.floats.specs.Answers as Floats
 use Rattle.integers.specs.Answers.{is_shown, smaller_of, larger_of, sum_of, last_number}
-use Rattle.integers.specs.declared.Extreme.{Extreme}
-use Rattle.integers.specs.declared.Extreme.TheVariants.{None, Value}
-use Rattle.integers.specs.declared.Total.TheVariants.{Outside, Is}
+use Rattle.std.specs.Prelude.{Option, Some, None}
 use Rattle.points.specs.Counts.{pos_of, neg_of}
 use Rattle.points.specs.Handed.{merge_counts}
 use Rattle.points.specs.Shadow.{shadow_of}
@@ -88,25 +86,25 @@ module _ (size : ℕ) (row : List ℕ) (b : Span) (x y : Stored) (at : Cursor) (
       pick-false (has_place at o) _ _ h ∙ ap (λ (k : ℕ). ends (refusal k) o) (sym (number_of size x y us vs) ∙ ap (number_or 10) e)
 
   -- where the sum would leave i64
-  pub outside-pooled : sum_of x.point.sum y.point.sum ≡ Outside → (n k : ℕ) → n ≡ Q.refusal_before size (shadow_stored x) (shadow_stored y) → k ≡ last_number n
+  pub outside-pooled : sum_of x.point.sum y.point.sum ≡ None → (n k : ℕ) → n ≡ Q.refusal_before size (shadow_stored x) (shadow_stored y) → k ≡ last_number n
       → ends (refusal k) o ≡ pooled_wholes size row b x y at o
   outside-pooled t n k e d = sym (refused k (sym (ap (λ (m : Outcome). m.answer) (outside_law size x y us vs t n k e d))))
 
 -- an extreme of two is shown where that of the shadows is
-pub shown-smaller : (u v : Extreme) → Floats.is_shown (Floats.smaller_of (shadow_of u) (shadow_of v)) ≡ is_shown (smaller_of u v)
+pub shown-smaller : (u v : Option ℤ) → Floats.is_shown (Floats.smaller_of (shadow_of u) (shadow_of v)) ≡ is_shown (smaller_of u v)
 shown-smaller None None = refl
-shown-smaller None (Value y) = refl
-shown-smaller (Value x) None = refl
-shown-smaller (Value x) (Value y) = refl
+shown-smaller None (Some y) = refl
+shown-smaller (Some x) None = refl
+shown-smaller (Some x) (Some y) = refl
 
-pub shown-larger : (u v : Extreme) → Floats.is_shown (Floats.larger_of (shadow_of u) (shadow_of v)) ≡ is_shown (larger_of u v)
+pub shown-larger : (u v : Option ℤ) → Floats.is_shown (Floats.larger_of (shadow_of u) (shadow_of v)) ≡ is_shown (larger_of u v)
 shown-larger None None = refl
-shown-larger None (Value y) = refl
-shown-larger (Value x) None = refl
-shown-larger (Value x) (Value y) = refl
+shown-larger None (Some y) = refl
+shown-larger (Some x) None = refl
+shown-larger (Some x) (Some y) = refl
 
 -- ---- by the shadows
-module _ (size : ℕ) (x y : Stored) (us vs : List ℕ) (s : ℤ) (t : sum_of x.point.sum y.point.sum ≡ Is s) where
+module _ (size : ℕ) (x y : Stored) (us vs : List ℕ) (s : ℤ) (t : sum_of x.point.sum y.point.sum ≡ Some s) where
   abbrev shadows : P.Point
   shadows = point size (shadow_stored x) (shadow_stored y)
 
@@ -196,11 +194,11 @@ module _ (size : ℕ) (row : List ℕ) (b : Span) (x y : Stored) (at : Cursor) (
   numberable r k h = subst There (sym h) there
 
   -- the merged numbers over them
-  module _ (s : ℤ) (t : sum_of x.point.sum y.point.sum ≡ Is s) where
-    abbrev low : Extreme
+  module _ (s : ℤ) (t : sum_of x.point.sum y.point.sum ≡ Some s) where
+    abbrev low : Option ℤ
     low = smaller_of x.point.min y.point.min
 
-    abbrev high : Extreme
+    abbrev high : Option ℤ
     high = larger_of x.point.max y.point.max
 
     abbrev numbered : Said Cursor → Output → Output

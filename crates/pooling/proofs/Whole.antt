@@ -20,8 +20,7 @@ use Rattle.listing.specs.Listed.{Output, behind, within, entry_in, point_at, bou
 use Rattle.listing.proofs.There.{between}
 use Rattle.listing.specs.declared.Cursor.{Cursor}
 use Rattle.listing.specs.declared.Entry.{Entry}
-use Rattle.listing.specs.declared.Found.{Found}
-use Rattle.listing.specs.declared.Found.TheVariants.{NoPoint, Is}
+use Rattle.std.specs.Prelude.{Option, Some, None}
 use Rattle.listing.specs.declared.Span.{Span}
 use Rattle.listing.proofs.Calls.{within-says}
 use Rattle.pooling.specs.Lists.{Source, bounded, whole_at}
@@ -29,37 +28,37 @@ use Rattle.pooling.specs.Entries.{Whole}
 
 -- ---- what is found
 
-abbrev present : Found → Bool
-present NoPoint = false
-present (Is e) = true
+abbrev present : Option Entry → Bool
+present None = false
+present (Some e) = true
 
-abbrev entry_or : Entry → Found → Entry
-entry_or d NoPoint = d
-entry_or d (Is e) = e
+abbrev entry_or : Entry → Option Entry → Entry
+entry_or d None = d
+entry_or d (Some e) = e
 
 -- of two choices, the one that is there
-chosen : (t : Bool) (x e : Entry) → pick t (Is x) NoPoint ≡ Is e → (t ≡ true) × (x ≡ e)
+chosen : (t : Bool) (x e : Entry) → pick t (Some x) None ≡ Some e → (t ≡ true) × (x ≡ e)
 unfolding pick
 chosen true x e h = (refl, ap (entry_or x) h)
 chosen false x e h = true-not-false (sym (ap present h))
 
-other : (t : Bool) (f : Found) (e : Entry) → pick t NoPoint f ≡ Is e → (t ≡ false) × (f ≡ Is e)
+other : (t : Bool) (f : Option Entry) (e : Entry) → pick t None f ≡ Some e → (t ≡ false) × (f ≡ Some e)
 unfolding pick
 other true f e h = true-not-false (sym (ap present h))
 other false f e h = (refl, h)
 
-bounded-says : (n : ℕ) (f : Found) (e : Entry) → bounded n f ≡ Is e → (f ≡ Is e) × (e.bounds.start + e.bounds.len ≤ n)
-bounded-says n NoPoint e h = true-not-false (sym (ap present h))
-bounded-says n (Is x) e h =
+bounded-says : (n : ℕ) (f : Option Entry) (e : Entry) → bounded n f ≡ Some e → (f ≡ Some e) × (e.bounds.start + e.bounds.len ≤ n)
+bounded-says n None e h = true-not-false (sym (ap present h))
+bounded-says n (Some x) e h =
     let c = chosen (leb (x.bounds.start + x.bounds.len) n) x e h in
-    (ap Is c.1, subst (λ (y : Entry). y.bounds.start + y.bounds.len ≤ n) c.1 (leb-true _ _ c.0))
+    (ap Some c.1, subst (λ (y : Entry). y.bounds.start + y.bounds.len ≤ n) c.1 (leb-true _ _ c.0))
 
 -- as the code finds it
-pub bounded_in : (n : ℕ) (f : Found) (e : Entry) → f ≡ Is e → leb (e.bounds.start + e.bounds.len) n ≡ true → Is e ≡ bounded n f
-bounded_in n f e p t = sym (ap (bounded n) p ∙ pick_true (leb (e.bounds.start + e.bounds.len) n) (Is e) NoPoint t)
+pub bounded_in : (n : ℕ) (f : Option Entry) (e : Entry) → f ≡ Some e → leb (e.bounds.start + e.bounds.len) n ≡ true → Some e ≡ bounded n f
+bounded_in n f e p t = sym (ap (bounded n) p ∙ pick_true (leb (e.bounds.start + e.bounds.len) n) (Some e) None t)
 
-pub bounded-out : (n : ℕ) (f : Found) (e : Entry) → f ≡ Is e → leb (e.bounds.start + e.bounds.len) n ≡ false → NoPoint ≡ bounded n f
-bounded-out n f e p t = sym (ap (bounded n) p ∙ pick-false (leb (e.bounds.start + e.bounds.len) n) (Is e) NoPoint t)
+pub bounded-out : (n : ℕ) (f : Option Entry) (e : Entry) → f ≡ Some e → leb (e.bounds.start + e.bounds.len) n ≡ false → None ≡ bounded n f
+bounded-out n f e p t = sym (ap (bounded n) p ∙ pick-false (leb (e.bounds.start + e.bounds.len) n) (Some e) None t)
 
 abbrev read : Cursor → List ℕ → Entry
 read at w = record { point = point_in w; bounds = bounds_in w; next = behind at (point_in w).figures (bounds_in w) }
@@ -71,7 +70,7 @@ pub record Told (at : Cursor) (words : List (List ℕ)) (pos neg : ℕ) (e : Ent
   pub counts : within at (point_in (get_or words at.place [])).figures (bounds_in (get_or words at.place [])) pos neg ≡ true
   pub entry : record { point = point_in (get_or words at.place []); bounds = bounds_in (get_or words at.place []); next = behind at (point_in (get_or words at.place [])).figures (bounds_in (get_or words at.place [])) } ≡ e
 
-pub point-told : (at : Cursor) (words : List (List ℕ)) (pos neg : ℕ) (e : Entry) → point_at at words pos neg ≡ Is e → Told at words pos neg e
+pub point-told : (at : Cursor) (words : List (List ℕ)) (pos neg : ℕ) (e : Entry) → point_at at words pos neg ≡ Some e → Told at words pos neg e
 unfolding point_at entry_in
 point-told at words pos neg e h =
     let w = get_or words at.place [] in
@@ -84,8 +83,8 @@ point-told at words pos neg e h =
       entry = c.1;
     }
 
-module _ (at : Cursor) (x : Source) (e : Entry) (h : whole_at at x ≡ Is e) where
-  found : (point_at at x.list.words (length x.list.pos) (length x.list.neg) ≡ Is e) × (e.bounds.start + e.bounds.len ≤ length x.bounds)
+module _ (at : Cursor) (x : Source) (e : Entry) (h : whole_at at x ≡ Some e) where
+  found : (point_at at x.list.words (length x.list.pos) (length x.list.neg) ≡ Some e) × (e.bounds.start + e.bounds.len ≤ length x.bounds)
   found = bounded-says (length x.bounds) (point_at at x.list.words (length x.list.pos) (length x.list.neg)) e h
 
   pub whole-told : Told at x.list.words (length x.list.pos) (length x.list.neg) e

@@ -16,10 +16,7 @@ use Rattle.laws.specs.Over.{over}
 use Rattle.laws.proofs.Cases.{true-not-false}
 use Rattle.floats.specs.Starts.{zero_float}
 use Rattle.integers.specs.Answers.{in_range, of_bits, sum_of, smaller_of, larger_of}
-use Rattle.integers.specs.declared.Extreme.{Extreme}
-use Rattle.integers.specs.declared.Extreme.TheVariants.{None, Value}
-use Rattle.integers.specs.declared.Total.{Total}
-use Rattle.integers.specs.declared.Total.TheVariants as T
+use Rattle.std.specs.Prelude.{Option, Some, None}
 use Rattle.points.specs.Handed.{merge_counts, pos_of, neg_of}
 use Rattle.point.specs.Handing as Q
 use Rattle.whole_point.specs.Handing.{Stored, stored_in, handed_in, shadow_stored, Outcome, merging}
@@ -29,7 +26,6 @@ use Rattle.listing.specs.declared.Cursor.{Cursor}
 use Rattle.whole_listing.specs.Words.{extreme_in, point_in}
 use Rattle.whole_listing.specs.Listed.{put_at, stored_at}
 use Rattle.whole_listing.specs.declared.Entry.{Entry}
-use Rattle.whole_listing.specs.declared.Found.TheVariants.{Is}
 use Rattle.whole_listing.proofs.Back.{Ranged, Held}
 use Rattle.pooling.specs.Lists as Lists
 use Rattle.pooling.specs.Lists.{Source, integer_at, has_place, put_merged_whole, pooled_at, HoldsWhole}
@@ -65,30 +61,30 @@ unfolding pick
 either_ranged true x y p q = p
 either_ranged false x y p q = q
 
-ranged-smaller : (u v : Extreme) → Ranged u → Ranged v → Ranged (smaller_of u v)
+ranged-smaller : (u v : Option ℤ) → Ranged u → Ranged v → Ranged (smaller_of u v)
 ranged-smaller None v p q = q
-ranged-smaller (Value x) None p q = p
-ranged-smaller (Value x) (Value y) p q = either_ranged _ y x q p
+ranged-smaller (Some x) None p q = p
+ranged-smaller (Some x) (Some y) p q = either_ranged _ y x q p
 
-ranged-larger : (u v : Extreme) → Ranged u → Ranged v → Ranged (larger_of u v)
+ranged-larger : (u v : Option ℤ) → Ranged u → Ranged v → Ranged (larger_of u v)
 ranged-larger None v p q = q
-ranged-larger (Value x) None p q = p
-ranged-larger (Value x) (Value y) p q = either_ranged _ y x q p
+ranged-larger (Some x) None p q = p
+ranged-larger (Some x) (Some y) p q = either_ranged _ y x q p
 
-abbrev total_or : ℤ → Total → ℤ
-total_or d T.Outside = d
-total_or d (T.Is s) = s
+abbrev total_or : ℤ → Option ℤ → ℤ
+total_or d None = d
+total_or d (Some s) = s
 
-abbrev is_in : Total → Bool
-is_in T.Outside = false
-is_in (T.Is s) = true
+abbrev is_in : Option ℤ → Bool
+is_in None = false
+is_in (Some s) = true
 
-by-range : (t : Bool) (z s : ℤ) → in_range z ≡ t → pick t (T.Is z) T.Outside ≡ T.Is s → in_range s ≡ true
+by-range : (t : Bool) (z s : ℤ) → in_range z ≡ t → pick t (Some z) None ≡ Some s → in_range s ≡ true
 unfolding pick
 by-range true z s e h = subst (λ (k : ℤ). in_range k ≡ true) (ap (total_or z) h) e
 by-range false z s e h = true-not-false (sym (ap is_in h))
 
-sum-range : (x y s : ℤ) → sum_of x y ≡ T.Is s → in_range s ≡ true
+sum-range : (x y s : ℤ) → sum_of x y ≡ Some s → in_range s ≡ true
 unfolding sum_of
 sum-range x y s h = by-range (in_range (x +ℤ y)) (x +ℤ y) s refl h
 
@@ -101,7 +97,7 @@ stored_or d (success z) = z
 -- the sum is an i64, and the shadows were merged
 record Took (size : ℕ) (x y : Stored) (us vs : List ℕ) : Type 0 where
   sum : ℤ
-  total : sum_of x.point.sum y.point.sum ≡ T.Is sum
+  total : sum_of x.point.sum y.point.sum ≡ Some sum
   shadows : Taken size (shadow_stored x) (shadow_stored y) us vs
 
 module _ (size : ℕ) (x y : Stored) (us vs : List ℕ) (z : Stored) (g : (merging size x y us vs).answer ≡ success z) where
@@ -111,9 +107,9 @@ module _ (size : ℕ) (x y : Stored) (us vs : List ℕ) (z : Stored) (g : (mergi
   took : Took size x y us vs
   took = go (sum_of x.point.sum y.point.sum) refl
     where
-      go : (k : Total) → sum_of x.point.sum y.point.sum ≡ k → Took size x y us vs
-      go T.Outside t = not-refused _ (sym (ap (λ (m : Outcome). m.answer) (outside_law size x y us vs t _ _ refl refl)))
-      go (T.Is s) t =
+      go : (k : Option ℤ) → sum_of x.point.sum y.point.sum ≡ k → Took size x y us vs
+      go None t = not-refused _ (sym (ap (λ (m : Outcome). m.answer) (outside_law size x y us vs t _ _ refl refl)))
+      go (Some s) t =
           ⊎_elim (λ (k : (n : ℕ) × Turned size (shadow_stored x) (shadow_stored y) us vs n). not-refused k.0 (turned-whole size x y us vs s t k.0 k.1))
           (λ (k : Taken size (shadow_stored x) (shadow_stored y) us vs). record { sum = s; total = t; shadows = k })
           (verdict size (shadow_stored x) (shadow_stored y) us vs)
@@ -127,7 +123,7 @@ ranged-max : (w : List ℕ) → Ranged (point_in w).max
 unfolding point_in
 ranged-max w = ranged_in (leb 2 (get_or w 8 0)) (get_or w 10 0)
 
-module _ (at : Cursor) (x : Source) (e : Entry) (p : integer_at at x ≡ Is e) where
+module _ (at : Cursor) (x : Source) (e : Entry) (p : integer_at at x ≡ Some e) where
   min_in : Ranged e.point.min
   min_in = subst (λ (d : Entry). Ranged d.point.min) (integer-told at x e p).entry (ranged-min (get_or x.list.words at.place []))
 
@@ -137,7 +133,7 @@ module _ (at : Cursor) (x : Source) (e : Entry) (p : integer_at at x ≡ Is e) w
 -- ---- the laws
 
 module _ (size : ℕ) (a : Cursor) (x : Source) (b : Cursor) (y : Source) (at : Cursor) (o : Output) (e f : Entry)
-    (s : a.place < length x.list.sets) (p : integer_at a x ≡ Is e) (q : integer_at b y ≡ Is f) (h : has_place at o ≡ true) where
+    (s : a.place < length x.list.sets) (p : integer_at a x ≡ Some e) (q : integer_at b y ≡ Some f) (h : has_place at o ≡ true) where
   abbrev first : Stored
   first = stored_at a e x.bounds x.list
 

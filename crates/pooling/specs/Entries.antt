@@ -1,21 +1,16 @@
 -- BETWEEN OUR OWN CRATES: serves inner contracts and proofs; nobody needs it to believe the public calls or the theorems.
 -- What the crate's own functions are given: found points that lie within what is lent. Assumes nothing.
-use Rattle.std.specs.Prelude.{ℕ, ◌+◌, ◌≤◌, ◌<◌, List, [], ℤ, length, get_or, set, Float}
+use Rattle.std.specs.Prelude.{ℕ, ◌+◌, ◌≤◌, ◌<◌, List, [], ℤ, length, get_or, set, Float, Option, Some, None}
 use Rattle.laws.specs.Said.{Said, refusal, success}
-use Rattle.integers.specs.declared.Extreme.{Extreme}
 use Rattle.point.specs.Handing.{Stored}
 use Rattle.whole_point.specs.Handing as W
 use Rattle.whole_point.specs.Handing.{mixed_number, shadow_point}
 use Rattle.listing.specs.Listed.{Output, stored_at}
 use Rattle.listing.specs.declared.Cursor.{Cursor}
 use Rattle.listing.specs.declared.Entry.{Entry}
-use Rattle.listing.specs.declared.Found.{Found}
-use Rattle.listing.specs.declared.Found.TheVariants.{NoPoint, Is}
 use Rattle.whole_listing.specs.Listed as WL
 use Rattle.whole_listing.specs.Inner.{with_numbers}
 use Rattle.whole_listing.specs.declared.Entry as WE
-use Rattle.whole_listing.specs.declared.Found as WF
-use Rattle.whole_listing.specs.declared.Found.TheVariants as WV
 use Rattle.pooling.specs.Lists.{Source, whole_at, integer_at, Outcome, seen, pooled_seen}
 
 -- a found point lies within stores of so many
@@ -43,7 +38,7 @@ abbrev pub shadow_entry : WE.Entry → Entry
 shadow_entry e = record { point = shadow_point e.point; bounds = e.bounds; next = e.next }
 
 -- the words of lists after the shadows were merged: the merged numbers over those of the merged shadow
-abbrev pub renumbered : ℕ → Extreme → Extreme → ℤ → Said Cursor → List (List ℕ) → List (List ℕ)
+abbrev pub renumbered : ℕ → Option ℤ → Option ℤ → ℤ → Said Cursor → List (List ℕ) → List (List ℕ)
 renumbered k min max sum (refusal n) words = words
 renumbered k min max sum (success next) words = set words k (with_numbers (get_or words k []) min max sum)
 
@@ -56,16 +51,16 @@ Numberable k (success next) words = (k < length words) × (get_or (get_or words 
 
 -- two points of f64 values, two of i64 values; 8 where one is not there
 abbrev pub pooled_reals : ℕ → List ℕ → Cursor → Source → Cursor → Source → Cursor → Output → Outcome
-pooled_reals size row a x b y at o = pooled_seen size row a x b y at o (seen (whole_at a x) WV.NoPoint) (seen (whole_at b y) WV.NoPoint)
+pooled_reals size row a x b y at o = pooled_seen size row a x b y at o (seen (whole_at a x) None) (seen (whole_at b y) None)
 
 abbrev pub pooled_integers : ℕ → List ℕ → Cursor → Source → Cursor → Source → Cursor → Output → Outcome
-pooled_integers size row a x b y at o = pooled_seen size row a x b y at o (seen NoPoint (integer_at a x)) (seen NoPoint (integer_at b y))
+pooled_integers size row a x b y at o = pooled_seen size row a x b y at o (seen None (integer_at a x)) (seen None (integer_at b y))
 
 -- the number of a point of i64 values at a beside one of f64 values at b
-abbrev pub mixed_found : ℕ → Cursor → Source → Cursor → Source → WF.Found → Found → ℕ
-mixed_found size a x b y WV.NoPoint f = 8
-mixed_found size a x b y (WV.Is e) NoPoint = 8
-mixed_found size a x b y (WV.Is e) (Is f) = mixed_number size (WL.stored_at a e x.bounds x.list) (stored_at b f y.bounds y.list)
+abbrev pub mixed_found : ℕ → Cursor → Source → Cursor → Source → Option WE.Entry → Option Entry → ℕ
+mixed_found size a x b y None f = 8
+mixed_found size a x b y (Some e) None = 8
+mixed_found size a x b y (Some e) (Some f) = mixed_number size (WL.stored_at a e x.bounds x.list) (stored_at b f y.bounds y.list)
 
 abbrev pub mixed_at : ℕ → Cursor → Source → Cursor → Source → ℕ
 mixed_at size a x b y = mixed_found size a x b y (integer_at a x) (whole_at b y)

@@ -1,21 +1,17 @@
 -- Two points of lists merged into a third list (docs/LIST.md), of f64 values or of i64 values. Assumes nothing.
 -- Document 01: "Sets are not compared; the result has the first's."
-use Rattle.std.specs.Prelude.{ℕ, ◌+◌, ◌≡◌, Bool, ◌&&◌, List, [], leb, eqb, length, get_or, take, drop, Float}
+use Rattle.std.specs.Prelude.{ℕ, ◌+◌, ◌≡◌, Bool, ◌&&◌, List, [], leb, eqb, length, get_or, take, drop, Float, Option, Some, None}
 use Rattle.laws.specs.Pick.{pick}
 use Rattle.laws.specs.Said.{Said, refusal, success}
 use Rattle.point.specs.Handing.{Stored, stored_in, handed_in, refusal_before, merging}
 use Rattle.listing.specs.Listed.{Output, output, pos_len, neg_len, behind, put_at, point_at, stored_at}
 use Rattle.listing.specs.declared.Cursor.{Cursor}
 use Rattle.listing.specs.declared.Entry.{Entry}
-use Rattle.listing.specs.declared.Found.{Found}
-use Rattle.listing.specs.declared.Found.TheVariants.{NoPoint, Is}
 use Rattle.listing.specs.declared.Span.{Span}
 use Rattle.whole_point.specs.Handing as W
 use Rattle.whole_point.specs.Handing.{mixed_number}
 use Rattle.whole_listing.specs.Listed as WL
 use Rattle.whole_listing.specs.declared.Entry as WE
-use Rattle.whole_listing.specs.declared.Found as WF
-use Rattle.whole_listing.specs.declared.Found.TheVariants as WV
 use Rattle.pooling.specs.declared.Pooled.{Pooled}
 use Rattle.pooling.specs.declared.Pooled.TheVariants.{Refused, Merged}
 
@@ -35,19 +31,19 @@ nameless words pos neg bounds = record { list = record { sets = []; words = word
 
 -- the point of f64 values at a cursor; none also where the bounds that it names are not all lent: its buckets would be judged by fewer bounds than
 -- it has
-abbrev pub bounded : ℕ → Found → Found
-bounded n NoPoint = NoPoint
-bounded n (Is e) = pick (leb (e.bounds.start + e.bounds.len) n) (Is e) NoPoint
+abbrev pub bounded : ℕ → Option Entry → Option Entry
+bounded n None = None
+bounded n (Some e) = pick (leb (e.bounds.start + e.bounds.len) n) (Some e) None
 
-abbrev pub whole_at : Cursor → Source → Found
+abbrev pub whole_at : Cursor → Source → Option Entry
 whole_at at x = bounded (length x.bounds) (point_at at x.list.words (length x.list.pos) (length x.list.neg))
 
 -- the point of i64 values there, likewise
-abbrev pub bounded_integer : ℕ → WF.Found → WF.Found
-bounded_integer n WV.NoPoint = WV.NoPoint
-bounded_integer n (WV.Is e) = pick (leb (e.bounds.start + e.bounds.len) n) (WV.Is e) WV.NoPoint
+abbrev pub bounded_integer : ℕ → Option WE.Entry → Option WE.Entry
+bounded_integer n None = None
+bounded_integer n (Some e) = pick (leb (e.bounds.start + e.bounds.len) n) (Some e) None
 
-abbrev pub integer_at : Cursor → Source → WF.Found
+abbrev pub integer_at : Cursor → Source → Option WE.Entry
 integer_at at x = bounded_integer (length x.bounds) (WL.point_at at x.list.words (length x.list.pos) (length x.list.neg))
 
 -- what lies at a cursor: no point, a point of f64 values or one of i64 values; never both (the law `never_both`)
@@ -56,10 +52,10 @@ pub data Seen : Type 0 where
   real : Entry → Seen
   whole : WE.Entry → Seen
 
-abbrev pub seen : Found → WF.Found → Seen
-seen NoPoint WV.NoPoint = nothing
-seen NoPoint (WV.Is e) = whole e
-seen (Is e) f = real e
+abbrev pub seen : Option Entry → Option WE.Entry → Seen
+seen None None = nothing
+seen None (Some e) = whole e
+seen (Some e) f = real e
 
 -- ---- the call
 
@@ -138,7 +134,7 @@ entry_of at b z = record { point = z.point; bounds = b; next = behind at z.point
 -- the output holds z there: its set's row, its point, and it reads as z
 pub record Holds (at : Cursor) (row : List ℕ) (b : Span) (bounds : List Float) (z : Stored) (o : Output) : Type 0 where
   pub set : get_or o.sets at.place [] ≡ row
-  pub point : point_at at o.words (length o.pos) (length o.neg) ≡ Is (entry_of at b z)
+  pub point : point_at at o.words (length o.pos) (length o.neg) ≡ Some (entry_of at b z)
   pub stored : stored_at at (entry_of at b z) bounds o
       ≡ stored_in z.point z.bounds (take (pos_len z.point.figures b) z.pos) (take (neg_len z.point.figures) z.neg)
   pub reads : handed_in (stored_at at (entry_of at b z) bounds o) ≡ handed_in z
@@ -149,7 +145,7 @@ entry_of_whole at b z = record { point = z.point; bounds = b; next = behind at z
 
 pub record HoldsWhole (at : Cursor) (row : List ℕ) (b : Span) (bounds : List Float) (z : W.Stored) (o : Output) : Type 0 where
   pub set : get_or o.sets at.place [] ≡ row
-  pub point : WL.point_at at o.words (length o.pos) (length o.neg) ≡ WV.Is (entry_of_whole at b z)
+  pub point : WL.point_at at o.words (length o.pos) (length o.neg) ≡ Some (entry_of_whole at b z)
   pub stored : WL.stored_at at (entry_of_whole at b z) bounds o
       ≡ W.stored_in z.point z.bounds (take (pos_len z.point.figures b) z.pos) (take (neg_len z.point.figures) z.neg)
   pub reads : W.handed_in (WL.stored_at at (entry_of_whole at b z) bounds o) ≡ W.handed_in z

@@ -6,27 +6,33 @@ ghost use Rattle.listing.specs.Listed.{bounds_at};
 ghost use Rattle.pooling.specs.Lists.{nameless, bounded, whole_at, bounded_integer, integer_at};
 ghost use Rattle.pooling.specs.Entries.{whole_in, stored_of, shadow_entry};
 
-use listing::{Cursor, Entry, Found};
+use listing::{Cursor, Entry};
 use point::Answer;
 
 // The point found, if its bounds lie in a store of so many.
-fn bounded_by(many: usize, found: Found) -> Found
+fn bounded_by(many: usize, found: Option<Entry>) -> Option<Entry>
     ensures { result ≡ bounded many found }
 {
     match found {
-        Found::NoPoint => Found::NoPoint,
-        Found::Is(e) => {
+        None => None,
+        Some(e) => {
             let b = e.bounds;
             if listing::read::lie(b.start, b.len, many) {
-                return Found::Is(e);
+                return Some(e);
             }
-            Found::NoPoint
+            None
         }
     }
 }
 
 // The point at a cursor, if it is there with its counts and its bounds.
-pub fn whole_at(at: Cursor, words: &[[u64; 12]], pos: &[u64], neg: &[u64], bounds: &[f64]) -> Found
+pub fn whole_at(
+    at: Cursor,
+    words: &[[u64; 12]],
+    pos: &[u64],
+    neg: &[u64],
+    bounds: &[f64],
+) -> Option<Entry>
     ensures { result ≡ whole_at at (nameless words.now pos.now neg.now bounds.now) }
 {
     let found = listing::read::point_at(at, words, pos, neg);
@@ -34,17 +40,17 @@ pub fn whole_at(at: Cursor, words: &[[u64; 12]], pos: &[u64], neg: &[u64], bound
 }
 
 // The same of a point of i64 values.
-fn bounded_integer(many: usize, found: whole_listing::Found) -> whole_listing::Found
+fn bounded_integer(many: usize, found: Option<whole_listing::Entry>) -> Option<whole_listing::Entry>
     ensures { result ≡ bounded_integer many found }
 {
     match found {
-        whole_listing::Found::NoPoint => whole_listing::Found::NoPoint,
-        whole_listing::Found::Is(e) => {
+        None => None,
+        Some(e) => {
             let b = e.bounds;
             if listing::read::lie(b.start, b.len, many) {
-                return whole_listing::Found::Is(e);
+                return Some(e);
             }
-            whole_listing::Found::NoPoint
+            None
         }
     }
 }
@@ -55,7 +61,7 @@ pub fn integer_at(
     pos: &[u64],
     neg: &[u64],
     bounds: &[f64],
-) -> whole_listing::Found
+) -> Option<whole_listing::Entry>
     ensures { result ≡ integer_at at (nameless words.now pos.now neg.now bounds.now) }
 {
     let found = whole_listing::read::point_at(at, words, pos, neg);

@@ -10,7 +10,7 @@ ghost use Rattle.listing.specs.Listed.{output};
 ghost use Rattle.pooling.specs.Lists.{source, nameless, said, ends, pooled_at};
 ghost use Rattle.pooling.specs.Entries.{pooled_reals};
 
-use listing::{Cursor, Found};
+use listing::Cursor;
 
 // The cursor behind the merged point, or document 01's number.
 #[derive(Clone, Copy)]
@@ -47,10 +47,10 @@ fn merge_reals(
     let first = entries::whole_at(a, awords, apos, aneg, abounds);
     let second = entries::whole_at(b, bwords, bpos, bneg, bbounds);
     match first {
-        Found::NoPoint => Pooled::Refused(8),
-        Found::Is(e) => match second {
-            Found::NoPoint => Pooled::Refused(8),
-            Found::Is(f) => write::pool(
+        None => Pooled::Refused(8),
+        Some(e) => match second {
+            None => Pooled::Refused(8),
+            Some(f) => write::pool(
                 size, row, a, e, abounds, apos, aneg, b, f, bbounds, bpos, bneg, at, sets, words,
                 pos, neg,
             ),

@@ -5,16 +5,15 @@ ghost use Rattle.pooling.specs.Lists.{nameless, said, ends, pooled_wholes};
 ghost use Rattle.pooling.specs.Entries.{whole_in, whole_of, shadow_entry, renumbered, Numberable, pooled_integers, mixed_at};
 
 use crate::Pooled;
-use integers::{Extreme, Total};
 use listing::Cursor;
-use whole_listing::{Entry, Found};
+use whole_listing::Entry;
 
 // The merged numbers written over those of the merged shadow, if the shadows were merged.
 fn renumber(
     r: Pooled,
     k: usize,
-    min: Extreme,
-    max: Extreme,
+    min: Option<i64>,
+    max: Option<i64>,
     sum: i64,
     words: &mut [[u64; 12]],
 ) -> Pooled
@@ -62,14 +61,14 @@ fn pool(
     let y = crate::entries::shadow_entry(f);
     let total = integers::sum(p.sum, q.sum);
     match total {
-        Total::Outside => {
+        None => {
             let no = crate::entries::refusal_entries(
                 size, a, x, abounds, apos, aneg, b, y, bbounds, bpos, bneg,
             );
             let n = integers::last_number(no);
             Pooled::Refused(n)
         }
-        Total::Is(s) => {
+        Some(s) => {
             let low = p.min;
             let lower = q.min;
             let high = p.max;
@@ -113,10 +112,10 @@ pub fn merge(
     let first = crate::entries::integer_at(a, awords, apos, aneg, abounds);
     let second = crate::entries::integer_at(b, bwords, bpos, bneg, bbounds);
     match first {
-        Found::NoPoint => Pooled::Refused(8),
-        Found::Is(e) => match second {
-            Found::NoPoint => Pooled::Refused(8),
-            Found::Is(f) => pool(
+        None => Pooled::Refused(8),
+        Some(e) => match second {
+            None => Pooled::Refused(8),
+            Some(f) => pool(
                 size, row, a, e, abounds, apos, aneg, b, f, bbounds, bpos, bneg, at, sets, words,
                 pos, neg,
             ),
@@ -144,10 +143,10 @@ pub fn mixed(
     let first = crate::entries::integer_at(a, awords, apos, aneg, abounds);
     let second = crate::entries::whole_at(b, bwords, bpos, bneg, bbounds);
     match first {
-        Found::NoPoint => 8,
-        Found::Is(e) => match second {
-            listing::Found::NoPoint => 8,
-            listing::Found::Is(f) => {
+        None => 8,
+        Some(e) => match second {
+            None => 8,
+            Some(f) => {
                 let x = crate::entries::shadow_entry(e);
                 let no = crate::entries::refusal_entries(
                     size, a, x, abounds, apos, aneg, b, f, bbounds, bpos, bneg,

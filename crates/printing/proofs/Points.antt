@@ -19,8 +19,7 @@ use Rattle.point.specs.declared.Figures.TheVariants.{Exponential, Explicit}
 use Rattle.listing.specs.Listed.{Output, stored_at}
 use Rattle.listing.specs.declared.Cursor.{Cursor}
 use Rattle.listing.specs.declared.Entry.{Entry}
-use Rattle.listing.specs.declared.Found.{Found}
-use Rattle.listing.specs.declared.Found.TheVariants.{NoPoint, Is}
+use Rattle.std.specs.Prelude.{Option, Some, None}
 use Rattle.printing.specs.declared.Form.{Form}
 use Rattle.printing.specs.Fields.{line, set_field}
 use Rattle.printing.specs.Printed.{exponential_fields, explicit_fields, figures_fields, letter, point_line, line_of, found_line, found_next, found, line_at, next_at, lines_by}
@@ -49,23 +48,23 @@ module _ (form : Form) (at : Cursor) (o : Output) (bounds : List Float) where
   abbrev pub Prints : List ℕ → Cursor → Type 0
   Prints xs next = (xs ≡ line_at form at o bounds) × (next ≡ next_at at o)
 
-  pub none_found : found at o ≡ NoPoint → Prints [] at
+  pub none_found : found at o ≡ None → Prints [] at
   unfolding line_at next_at
-  none_found p = (ap (λ (f : Found). found_line form at f o bounds) (sym p), ap (λ (f : Found). found_next at f o) (sym p))
+  none_found p = (ap (λ (f : Option Entry). found_line form at f o bounds) (sym p), ap (λ (f : Option Entry). found_next at f o) (sym p))
 
-  module _ (e : Entry) (p : found at o ≡ Is e) where
+  module _ (e : Entry) (p : found at o ≡ Some e) where
     pub no-set : length o.sets ≤ at.place → Prints [] at
     unfolding line_at next_at
     no-set h = (
-      sym (ap (λ (f : Found). found_line form at f o bounds) p ∙ pick-false _ _ _ (le-ltb at.place (length o.sets) h)),
-      sym (ap (λ (f : Found). found_next at f o) p ∙ pick-false _ _ _ (le-ltb at.place (length o.sets) h)),
+      sym (ap (λ (f : Option Entry). found_line form at f o bounds) p ∙ pick-false _ _ _ (le-ltb at.place (length o.sets) h)),
+      sym (ap (λ (f : Option Entry). found_next at f o) p ∙ pick-false _ _ _ (le-ltb at.place (length o.sets) h)),
     )
 
     pub point-found : at.place < length o.sets → Prints (line_of form (take 8 (set_of (get_or o.sets at.place []))) (stored_at at e bounds o)) e.next
     unfolding line_at next_at
     point-found h = (
-      sym (ap (λ (f : Found). found_line form at f o bounds) p ∙ pick_true _ _ _ (lt-ltb at.place (length o.sets) h)),
-      sym (ap (λ (f : Found). found_next at f o) p ∙ pick_true _ _ _ (lt-ltb at.place (length o.sets) h)),
+      sym (ap (λ (f : Option Entry). found_line form at f o bounds) p ∙ pick_true _ _ _ (lt-ltb at.place (length o.sets) h)),
+      sym (ap (λ (f : Option Entry). found_next at f o) p ∙ pick_true _ _ _ (lt-ltb at.place (length o.sets) h)),
     )
 
 -- ---- one after another

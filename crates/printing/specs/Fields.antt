@@ -1,13 +1,9 @@
 -- The fields of the lines that are printed, each a list of bytes. Document 01: 'One space parts fields', '`-` is the empty set. Other sets are
 -- KEY:VALUE joined by commas', 'row as offset:counts'. Bytes are ASCII: newline 10, space 32, `,` 44, `-` 45, `:` 58. Assumes nothing.
-use Rattle.std.specs.Prelude.{ℕ, List, [], ◌∷◌, ◌++◌, map, Float}
+use Rattle.std.specs.Prelude.{ℕ, List, [], ◌∷◌, ◌++◌, map, Float, Option, Some, None, ℤ}
 use Rattle.text.specs.Numbers.{hex_digits}
 use Rattle.lines.specs.Written.{decimal, signed}
 use Rattle.floats.specs.Answers.{bits_of}
-use Rattle.floats.specs.declared.Extreme.{Extreme}
-use Rattle.floats.specs.declared.Extreme.TheVariants.{None, Value}
-use Rattle.index.specs.declared.signed.Integer.{Integer}
-use Rattle.index.specs.declared.signed.Integer.TheVariants.{OutOfRange, Is}
 use Rattle.tally.specs.Sets.{Set}
 
 -- ---- several texts
@@ -44,15 +40,15 @@ unfoldable pub float_field : Float → List ℕ
 float_field x = hex_digits 16 (bits_of x)
 
 -- docs/REPLAY.md: "an extreme that is not kept is `-`"
-abbrev pub extreme_field : Extreme → List ℕ
+abbrev pub extreme_field : Option Float → List ℕ
 extreme_field None = 45 ∷ []
-extreme_field (Value x) = float_field x
+extreme_field (Some x) = float_field x
 
 -- a scale or an offset, `-` where it is out of range
-abbrev pub integer_field : Integer → List ℕ
-integer_field OutOfRange = 45 ∷ []
-integer_field (Is z) = signed z
+abbrev pub integer_field : Option ℤ → List ℕ
+integer_field None = 45 ∷ []
+integer_field (Some z) = signed z
 
 -- "row as offset:counts. An empty row is `0:`"
-unfoldable pub row_field : Integer → List ℕ → List ℕ
+unfoldable pub row_field : Option ℤ → List ℕ → List ℕ
 row_field offset counts = integer_field offset ++ (58 ∷ joined 44 (map decimal counts))

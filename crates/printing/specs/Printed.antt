@@ -2,7 +2,7 @@
 -- points; `p` set, count, zero count, scale, min, max, sum, then positive and negative row'. The lines `q`, of an explicit point, and `v`, of a
 -- sum or last value, are those of docs/REPLAY.md: 'q SET COUNT MIN MAX SUM BUCKETS BOUNDS', 'v SET VALUE'; a card's line is 'SET MEAN' or
 -- 'SET ! N'. The letters are ASCII. Assumes nothing.
-use Rattle.std.specs.Prelude.{ℕ, zero, suc, ◌+◌, true, false, List, [], ◌∷◌, ◌++◌, map, ltb, length, get_or, take, ℤ, Float}
+use Rattle.std.specs.Prelude.{ℕ, zero, suc, ◌+◌, true, false, List, [], ◌∷◌, ◌++◌, map, ltb, length, get_or, take, ℤ, Float, Option, Some, None}
 use Rattle.laws.specs.Pick.{pick}
 use Rattle.laws.specs.Said.{Said, refusal, success}
 use Rattle.text.specs.Numbers.{hex_digits}
@@ -17,8 +17,7 @@ use Rattle.point.specs.declared.Point as P
 use Rattle.mean.specs.Mean.{mean_in}
 use Rattle.listing.specs.Listed.{Output, point_at, stored_at}
 use Rattle.listing.specs.declared.Cursor.{Cursor}
-use Rattle.listing.specs.declared.Found.{Found}
-use Rattle.listing.specs.declared.Found.TheVariants.{NoPoint, Is}
+use Rattle.listing.specs.declared.Entry.{Entry}
 use Rattle.printing.specs.declared.Form.{Form}
 use Rattle.printing.specs.declared.Form.TheVariants.{Point, Card}
 use Rattle.printing.specs.Fields.{listed, line, set_field, float_field, extreme_field, integer_field, row_field}
@@ -72,16 +71,16 @@ line_of Card = card_line
 
 -- The line of what was found at a cursor, and the cursor behind it. Nothing is printed where there is no point, or no row of its set. A row
 -- has words for eight attributes.
-abbrev pub found_line : Form → Cursor → Found → Output → List Float → List ℕ
-found_line form at NoPoint o bounds = []
-found_line form at (Is e) o bounds =
+abbrev pub found_line : Form → Cursor → Option Entry → Output → List Float → List ℕ
+found_line form at None o bounds = []
+found_line form at (Some e) o bounds =
     pick (ltb at.place (length o.sets)) (line_of form (take 8 (set_of (get_or o.sets at.place []))) (stored_at at e bounds o)) []
 
-abbrev pub found_next : Cursor → Found → Output → Cursor
-found_next at NoPoint o = at
-found_next at (Is e) o = pick (ltb at.place (length o.sets)) e.next at
+abbrev pub found_next : Cursor → Option Entry → Output → Cursor
+found_next at None o = at
+found_next at (Some e) o = pick (ltb at.place (length o.sets)) e.next at
 
-abbrev pub found : Cursor → Output → Found
+abbrev pub found : Cursor → Output → Option Entry
 found at o = point_at at o.words (length o.pos) (length o.neg)
 
 -- the same of the point at a cursor

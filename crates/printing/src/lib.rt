@@ -22,10 +22,8 @@ ghost use Rattle.printing.specs.Fields.{each, joined, attribute_field, set_field
 ghost use Rattle.printing.specs.Printed.{held_fields, exponential_fields, explicit_fields, point_line, mean_fields, card_line, line_of};
 ghost use Rattle.printing.specs.Printed.{line_at, next_at, collection_head, collection_lines, value_at, value_lines, unread_line};
 
-use floats::Extreme;
-use index::signed::Integer;
 use lines::{Block, output};
-use listing::{Cursor, Entry, Found};
+use listing::{Cursor, Entry};
 use mean::Answer;
 use point::{Figures, Point};
 use std::io::Stdout;
@@ -115,23 +113,23 @@ pub fn set(out: &Stdout, text: &mut Block, n: usize, row: [u64; 9]) -> usize
 // ---- what a point has
 
 // A scale or an offset behind a space.
-pub fn integer(out: &Stdout, text: &mut Block, n: usize, x: Integer) -> usize
+pub fn integer(out: &Stdout, text: &mut Block, n: usize, x: Option<i32>) -> usize
     ensures { waiting result text.new ≡ 32 ∷ integer_field x behind waiting n text.old }
 {
     let m = output::byte(out, text, n, b' ');
     match x {
-        Integer::OutOfRange => output::byte(out, text, m, b'-'),
-        Integer::Is(i) => output::signed(out, text, m, i as i64),
+        None => output::byte(out, text, m, b'-'),
+        Some(i) => output::signed(out, text, m, i as i64),
     }
 }
 
 // An extreme behind a space, `-` where it isn't kept.
-fn extreme(out: &Stdout, text: &mut Block, n: usize, x: Extreme) -> usize
+fn extreme(out: &Stdout, text: &mut Block, n: usize, x: Option<f64>) -> usize
     ensures { waiting result text.new ≡ 32 ∷ extreme_field x behind waiting n text.old }
 {
     match x {
-        Extreme::None => output::bytes(out, text, n, b" -"),
-        Extreme::Value(v) => bits(out, text, n, floats::bits_of(v)),
+        None => output::bytes(out, text, n, b" -"),
+        Some(v) => bits(out, text, n, floats::bits_of(v)),
     }
 }
 
@@ -159,7 +157,7 @@ pub fn counts(out: &Stdout, text: &mut Block, n: usize, row: &[u64]) -> usize
 }
 
 // A row: its offset and its counts.
-pub fn row(out: &Stdout, text: &mut Block, n: usize, offset: Integer, row: &[u64]) -> usize
+pub fn row(out: &Stdout, text: &mut Block, n: usize, offset: Option<i32>, row: &[u64]) -> usize
     ensures { waiting result text.new ≡ 32 ∷ row_field offset row.now behind waiting n text.old }
 {
     let a = integer(out, text, n, offset);
@@ -351,7 +349,7 @@ pub fn point<'a>(
     ensures at_value { result.at ≡ next_at at (listed_in sets.now words.now pos.now neg.now) }
 {
     let k = at.place;
-    let Found::Is(e) = listing::read::point_at(at, words, pos, neg) else {
+    let Some(e) = listing::read::point_at(at, words, pos, neg) else {
         return Printed { n, at };
     };
     if sets.len() <= k {

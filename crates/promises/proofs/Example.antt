@@ -16,7 +16,7 @@ use Rattle.laws.specs.Said.{success}
 use Rattle.laws.specs.Trees.{leaf, node}
 use Rattle.floats.specs.Grid.{is_whole, exact_total}
 use Rattle.floats.specs.Starts.{zero_float}
-use Rattle.floats.specs.declared.Extreme.TheVariants.{Value}
+use Rattle.std.specs.Prelude.{Some}
 use Rattle.points.specs.Explicit.{bucket_of, buckets_of, record_bucket, buckets_agree, bounds_pass, no_nan, rising, merge_buckets, added, same_bounds}
 use Rattle.points.specs.Figures.{explicit_counts}
 use Rattle.points.specs.Handed.{Handed, handed, mergeable, merge_handed, handed_agrees, unmergeable}
@@ -135,8 +135,8 @@ point cs n low high sum =
       counts = explicit_counts bounds (record { counts = cs; total = n });
       extremes = true;
       threshold = zero_float;
-      min = Value low;
-      max = Value high;
+      min = Some low;
+      max = Some high;
       sum = sum;
     }
 
@@ -179,7 +179,7 @@ demanded = (explicit-demand bounds true true 1 none stores cells setup all_fit a
 -- ---- THE SET'S POINTS, as they are stored, and merged
 abbrev stored : List ℕ → ℕ → Float → Float → Float → Stored
 stored cs n low high sum =
-    stored_in (record { figures = Explicit n; extremes = true; min = Value low; max = Value high; sum = sum }) bounds cs []
+    stored_in (record { figures = Explicit n; extremes = true; min = Some low; max = Some high; sum = sum }) bounds cs []
 
 abbrev s₁ : Stored
 s₁ = stored (1 ∷ 1 ∷ 0 ∷ []) 2 less five (f 0x4010_0000_0000_0000)

@@ -13,7 +13,7 @@ use lib.Ieee.{Float}
 use Rattle.laws.specs.Pick.{pick}
 use Rattle.laws.proofs.Bools.{and_left, and_right}
 use Rattle.index.specs.Bins.{finest, scale_of, index_of}
-use Rattle.index.specs.declared.signed.Integer.TheVariants.{Is}
+use Rattle.std.specs.Prelude.{Some}
 use Rattle.points.specs.Points as Points
 use Rattle.points.specs.Points.{Point}
 use Rattle.points.specs.Signed.{offset_in}
@@ -58,9 +58,9 @@ module _ (size : ℕ) (p : Point) (x : Stored) (a : point_agrees size x ≡ true
       let d : finest - c.level ≡ p.d = ap (λ (y : Point). y.d) q in
       let l : c.level ≡ finest - p.d = omega (arith, fine, d) in
       record {
-        scale = scale-there size x c f a ∙ ap (λ n. Is (scale_of n)) l;
-        pos = pos-there size x c f a ∙ ap Is (offset-is p p.pos c.level c.pos x.pos l i (ap (λ (y : Point). y.pos) q));
-        neg = neg-there size x c f a ∙ ap Is (offset-is p p.neg c.level c.neg x.neg l j (ap (λ (y : Point). y.neg) q));
+        scale = scale-there size x c f a ∙ ap (λ n. Some (scale_of n)) l;
+        pos = pos-there size x c f a ∙ ap Some (offset-is p p.pos c.level c.pos x.pos l i (ap (λ (y : Point). y.pos) q));
+        neg = neg-there size x c f a ∙ ap Some (offset-is p p.neg c.level c.neg x.neg l j (ap (λ (y : Point). y.neg) q));
       }
 
 no-scale : (f : Figures) (bs : List Float) (xs ys : List ℕ) (b : List Float) (t : Float) (v : List Float)

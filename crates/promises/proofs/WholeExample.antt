@@ -17,7 +17,7 @@ use Rattle.laws.specs.Trees.{leaf, node}
 use Rattle.floats.specs.Starts.{zero_float}
 use Rattle.integers.specs.Answers as Integers
 use Rattle.integers.specs.Totals.{weight}
-use Rattle.integers.specs.declared.Extreme.TheVariants.{Value}
+use Rattle.std.specs.Prelude.{Some}
 use Rattle.points.specs.Explicit.{bucket_of, buckets_of, record_bucket, buckets_agree, bounds_pass, no_nan, rising, merge_buckets, added, same_bounds}
 use Rattle.points.specs.Counts.{explicit_counts}
 use Rattle.points.specs.Any.{Handed, Stands}
@@ -111,8 +111,8 @@ point cs n low high sum =
       counts = explicit_counts bounds (record { counts = cs; total = n });
       extremes = true;
       threshold = zero_float;
-      min = Value low;
-      max = Value high;
+      min = Some low;
+      max = Some high;
       sum = sum;
     }
 
@@ -147,7 +147,7 @@ demanded = (explicit-wholes-demand bounds true true 1 none stores cells setup al
 -- ---- THE SET'S POINTS, as they are stored, and merged
 abbrev stored : List ℕ → ℕ → ℤ → ℤ → ℤ → Stored
 stored cs n low high sum =
-    stored_in (record { figures = Explicit n; extremes = true; min = Value low; max = Value high; sum = sum }) bounds cs []
+    stored_in (record { figures = Explicit n; extremes = true; min = Some low; max = Some high; sum = sum }) bounds cs []
 
 abbrev s₁ : Stored
 s₁ = stored (1 ∷ 1 ∷ 0 ∷ []) 2 (negsuc 2) (pos 5) (pos 2)

@@ -15,7 +15,7 @@ use Rattle.laws.specs.Said.{success}
 use Rattle.index.specs.Signed.{level_answer}
 use Rattle.index.specs.Magnitude.{magnitude}
 use Rattle.floats.specs.Starts.{zero_float}
-use Rattle.floats.specs.declared.Extreme.TheVariants.{Value}
+use Rattle.std.specs.Prelude.{Some}
 use Rattle.points.specs.Agreement as Agreement
 use Rattle.points.specs.Agreement.{row_agrees}
 use Rattle.points.specs.Figures.{exponential_counts}
@@ -91,8 +91,8 @@ point n =
       });
       extremes = true;
       threshold = zero_float;
-      min = Value zero_float;
-      max = Value zero_float;
+      min = Some zero_float;
+      max = Some zero_float;
       sum = zero_float;
     }
 
@@ -133,8 +133,8 @@ stored n =
         neg = record { start = 0; len = 0 };
       });
       extremes = true;
-      min = Value zero_float;
-      max = Value zero_float;
+      min = Some zero_float;
+      max = Some zero_float;
       sum = zero_float;
     })
     [] [] []

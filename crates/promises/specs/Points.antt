@@ -1,6 +1,6 @@
 -- POINTS OF LISTS, recorded and merged by code, and their means: each theorem as a type. A stored point is a point with its bounds and the
 -- lent rows that hold its counts (`Stored`); it reads as a point of document 01 (`handed_in`). Assumes nothing.
-use Rattle.std.specs.Prelude.{ℕ, ◌+◌, ◌*◌, ◌^◌, ◌≤◌, ◌<◌, ◌≡◌, Bool, true, ℤ, pos, nat_abs, ◌-ℤ◌, ◌*ℤ◌, length, get_or, drop, replicate, Float}
+use Rattle.std.specs.Prelude.{ℕ, ◌+◌, ◌*◌, ◌^◌, ◌≤◌, ◌<◌, ◌≡◌, Bool, true, ℤ, pos, nat_abs, ◌-ℤ◌, ◌*ℤ◌, length, get_or, drop, replicate, Float, Some}
 use mathlib.Core.List.{List, [], ◌++◌, map, foldl, Permᴰ}
 use Rattle.laws.specs.Lists.{All}
 use Rattle.laws.specs.Said.{success}
@@ -26,11 +26,9 @@ use Rattle.whole_point.specs.Lists.{whole_points}
 use Rattle.listing.specs.Listed.{Output, stored_at}
 use Rattle.listing.specs.declared.Cursor.{Cursor}
 use Rattle.listing.specs.declared.Entry.{Entry}
-use Rattle.listing.specs.declared.Found.TheVariants.{Is}
 use Rattle.whole_point.specs.Handing as W
 use Rattle.whole_listing.specs.Listed as WL
 use Rattle.whole_listing.specs.declared.Entry as WE
-use Rattle.whole_listing.specs.declared.Found.TheVariants as WV
 use Rattle.pooling.specs.Lists.{Source, whole_at, integer_at, has_place, put_merged, put_merged_whole, pooled_at, Holds, HoldsWhole}
 use Rattle.mean.specs.Rule.{half}
 use Rattle.mean.specs.Rounding.{hundredths}
@@ -125,7 +123,7 @@ WholeSums =
 abbrev pub ListedMerge : Type 0
 ListedMerge =
     (size : ℕ) (a : Cursor) (x : Source) (b : Cursor) (y : Source) (at : Cursor) (o : Output) (e f : Entry)
-    → a.place < length x.list.sets → whole_at a x ≡ Is e → whole_at b y ≡ Is f → has_place at o ≡ true
+    → a.place < length x.list.sets → whole_at a x ≡ Some e → whole_at b y ≡ Some f → has_place at o ≡ true
     → let m = (merging size (stored_at a e x.bounds x.list) (stored_at b f y.bounds y.list) (drop at.pos o.pos) (drop at.neg o.neg)).answer in
     let row = get_or x.list.sets a.place [] in
     (pooled_at size a x b y at o ≡ put_merged at row e.bounds o m)
@@ -135,7 +133,7 @@ ListedMerge =
 abbrev pub ListedWholesMerge : Type 0
 ListedWholesMerge =
     (size : ℕ) (a : Cursor) (x : Source) (b : Cursor) (y : Source) (at : Cursor) (o : Output) (e f : WE.Entry)
-    → a.place < length x.list.sets → integer_at a x ≡ WV.Is e → integer_at b y ≡ WV.Is f → has_place at o ≡ true
+    → a.place < length x.list.sets → integer_at a x ≡ Some e → integer_at b y ≡ Some f → has_place at o ≡ true
     → let m = (W.merging size (WL.stored_at a e x.bounds x.list) (WL.stored_at b f y.bounds y.list) (drop at.pos o.pos) (drop at.neg o.neg)).answer in
     let row = get_or x.list.sets a.place [] in
     (pooled_at size a x b y at o ≡ put_merged_whole at row e.bounds o m)

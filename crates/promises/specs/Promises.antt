@@ -1,6 +1,6 @@
 -- THE PROMISES: each theorem about the code as a type, beside the sentence that it answers. Their terms are in proofs/Promises.antt, under the
 -- same names in small letters; docs/PROMISES.md lists them. Assumes nothing.
-use Rattle.std.specs.Prelude.{ℕ, ◌-◌, ◌/◌, ◌^◌, ◌<◌, ◌≡◌, Bool, true, List, [], ℤ, Float}
+use Rattle.std.specs.Prelude.{ℕ, ◌-◌, ◌/◌, ◌^◌, ◌<◌, ◌≡◌, Bool, true, List, [], ℤ, Float, Some}
 use Rattle.std.proofs.Math.Option.{Option}
 use Rattle.std.specs.Int.Signed.{shr_z}
 use Rattle.laws.specs.Said.{success}
@@ -8,7 +8,6 @@ use Rattle.index.specs.Magnitude.{magnitude, is_negative}
 use Rattle.index.specs.DataModel.{IsIndex}
 use Rattle.index.specs.Bins.{index_of}
 use Rattle.index.specs.Signed.{level_answer, value_index}
-use Rattle.index.specs.declared.signed.Natural.TheVariants.{Is}
 use Rattle.index.specs.declared.signed.Index.TheVariants.{At}
 use Rattle.floats.specs.Starts.{FiniteF64}
 use Rattle.integers.specs.Answers.{in_range, nearest_of}
@@ -135,7 +134,7 @@ Reaches = (K : Kind) (x : Call K) → InRange K x → (i : Asked K) × (asks K i
 -- are those that have a level, `index::signed::get_index` answers that index, and there is no other
 abbrev pub OneIndex : Type 0
 OneIndex =
-    (x : Float) (scale : ℤ) (level : ℕ) → FiniteF64 x → (magnitude x ≡ 0 → ⊥) → level_answer scale ≡ Is level
+    (x : Float) (scale : ℤ) (level : ℕ) → FiniteF64 x → (magnitude x ≡ 0 → ⊥) → level_answer scale ≡ Some level
     → (i : ℤ) × (value_index x scale ≡ At (is_negative x) i) × IsIndex scale (magnitude x) i × ((j : ℤ) → IsIndex scale (magnitude x) j → j ≡ i)
 
 -- Request L6: "The bucket comes from the f64 nearest to the whole number, ties to the even mantissa": what `integers::nearest` answers of any i64 is

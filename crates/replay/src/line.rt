@@ -4,7 +4,7 @@ use lines::attributes::{Attributes, Given};
 use replay_batches::{Floats, Integers};
 use replay_state::stores::Bounds;
 use replay_state::{Fields, Keys, State, UNREAD, after, byte, within};
-use text::{Integer, Natural};
+use text::Integer;
 
 // What stands for a letter where a line can't be read, and behind the input's end.
 const NONE: u8 = 0;
@@ -38,17 +38,17 @@ fn kind_of(letter: u8, k: usize) -> u8 {
 
 // ---- fields
 
-fn at_most(x: u64, most: u64) -> Natural {
+fn at_most(x: u64, most: u64) -> Option<u64> {
     if most < x {
-        return Natural::None;
+        return None;
     }
-    Natural::Is(x)
+    Some(x)
 }
 
 // A field's decimal, at most so great.
-fn number(line: &[u8], k: usize, most: u64) -> Natural {
-    let Natural::Is(x) = text::decimal_at(line, k) else {
-        return Natural::None;
+fn number(line: &[u8], k: usize, most: u64) -> Option<u64> {
+    let Some(x) = text::decimal_at(line, k) else {
+        return None;
     };
     at_most(x, most)
 }
@@ -63,41 +63,41 @@ fn byte_of(line: &[u8], k: usize) -> u8 {
 }
 
 // A field of one byte that is among those given.
-fn one_of(line: &[u8], k: usize, all: &[u8]) -> Natural {
+fn one_of(line: &[u8], k: usize, all: &[u8]) -> Option<u64> {
     let byte = byte_of(line, k);
     if text::end(all, 0, byte) < all.len() {
-        return Natural::Is(byte as u64);
+        return Some(byte as u64);
     }
-    Natural::None
+    None
 }
 
 // A field's decimal, at most so great; the greatest number for `-`.
-fn optional(line: &[u8], k: usize, most: u64) -> Natural {
+fn optional(line: &[u8], k: usize, most: u64) -> Option<u64> {
     if byte_of(line, k) == b'-' {
-        return Natural::Is(u64::MAX);
+        return Some(u64::MAX);
     }
     number(line, k, most)
 }
 
 // A scale from -128 to 127 with 128 added; the greatest number for `-`.
-fn scale_of(line: &[u8], k: usize) -> Natural {
+fn scale_of(line: &[u8], k: usize) -> Option<u64> {
     if byte_of(line, k) == b'-' {
-        return Natural::Is(u64::MAX);
+        return Some(u64::MAX);
     }
     let Integer::Is(negative, size) = text::signed_at(line, k) else {
-        return Natural::None;
+        return None;
     };
     if 128 < size {
-        return Natural::None;
+        return None;
     }
     if negative {
-        return Natural::Is(128 - size);
+        return Some(128 - size);
     }
     at_most(128 + size, 255)
 }
 
 // What a cell is set to: bits where the store holds f64; the minimum, maximum and sum of a map over i64 are not.
-fn cell_of(line: &[u8], k: usize, kind: u8) -> Natural {
+fn cell_of(line: &[u8], k: usize, kind: u8) -> Option<u64> {
     let store = byte_of(line, 1);
     if store == b'm' && replay_state::is_whole(kind) {
         return text::decimal_at(line, k);
@@ -109,28 +109,28 @@ fn cell_of(line: &[u8], k: usize, kind: u8) -> Natural {
 }
 
 // The two's complement of a decimal i64.
-fn whole_at(line: &[u8], k: usize) -> Natural {
+fn whole_at(line: &[u8], k: usize) -> Option<u64> {
     let Integer::Is(negative, size) = text::signed_at(line, k) else {
-        return Natural::None;
+        return None;
     };
     if !negative {
         return at_most(size, 0x7FFF_FFFF_FFFF_FFFF);
     }
     if size == 0 || 0x8000_0000_0000_0000 < size {
-        return Natural::None;
+        return None;
     }
-    Natural::Is(u64::MAX - (size - 1))
+    Some(u64::MAX - (size - 1))
 }
 
 // A value, of the number kind that was configured.
-fn value_at(line: &[u8], k: usize, kind: u8) -> Natural {
+fn value_at(line: &[u8], k: usize, kind: u8) -> Option<u64> {
     if replay_state::is_whole(kind) {
         return whole_at(line, k);
     }
     text::bits_at(line, k)
 }
 
-fn plain(line: &[u8], k: usize, kind: u8) -> Natural {
+fn plain(line: &[u8], k: usize, kind: u8) -> Option<u64> {
     match kind {
         b'u' => text::decimal_at(line, k),
         b'w' => number(line, k, 0xFFFF_FFFF),
@@ -139,13 +139,13 @@ fn plain(line: &[u8], k: usize, kind: u8) -> Natural {
         b'U' => optional(line, k, u64::MAX),
         b'W' => optional(line, k, 0xFFFF_FFFF),
         b's' => scale_of(line, k),
-        b'D' => Natural::Is(byte_of(line, k) as u64),
+        b'D' => Some(byte_of(line, k) as u64),
         b'K' => one_of(line, k, b"exsl"),
         b'F' => one_of(line, k, b"fi"),
         b'-' => one_of(line, k, b"-"),
         b'T' => one_of(line, k, b"dcl"),
         b'S' => one_of(line, k, b"01"),
-        _ => Natural::Is(0),
+        _ => Some(0),
     }
 }
 
@@ -154,7 +154,7 @@ fn plain(line: &[u8], k: usize, kind: u8) -> Natural {
 // A bound or a key put behind n that wait: how many there are then, 0 if it can't be put.
 fn put(letter: u8, bytes: &[u8], n: usize, bounds: &mut Bounds, keys: &mut Keys) -> usize {
     if letter == b'g' {
-        let Natural::Is(x) = text::bits(bytes) else {
+        let Some(x) = text::bits(bytes) else {
             return 0;
         };
         if 200 <= n {
@@ -163,7 +163,7 @@ fn put(letter: u8, bytes: &[u8], n: usize, bounds: &mut Bounds, keys: &mut Keys)
         bounds[n] = floats::of_bits(x);
         return n + 1;
     }
-    let Natural::Is(x) = text::decimal(bytes) else {
+    let Some(x) = text::decimal(bytes) else {
         return 0;
     };
     if 32 <= n || 0xFFFF_FFFF < x {
@@ -174,32 +174,32 @@ fn put(letter: u8, bytes: &[u8], n: usize, bounds: &mut Bounds, keys: &mut Keys)
 }
 
 // The list of a line `g` or `f` put behind n that wait: how many there are then.
-fn list(letter: u8, line: &[u8], n: usize, bounds: &mut Bounds, keys: &mut Keys) -> Natural {
+fn list(letter: u8, line: &[u8], n: usize, bounds: &mut Bounds, keys: &mut Keys) -> Option<u64> {
     let mut many = n;
     let mut i: usize = 2;
     while i < line.len() {
         let e = text::end(line, i, b',');
         many = put(letter, &line[i..e], many, bounds, keys);
         if many == 0 {
-            return Natural::None;
+            return None;
         }
         if line.len() <= e {
-            return Natural::Is(many as u64);
+            return Some(many as u64);
         }
         i = e + 1;
     }
-    Natural::None
+    None
 }
 
 // A list put behind those that wait.
-fn waiting(letter: u8, line: &[u8], s: State, bounds: &mut Bounds, keys: &mut Keys) -> Natural {
+fn waiting(letter: u8, line: &[u8], s: State, bounds: &mut Bounds, keys: &mut Keys) -> Option<u64> {
     let n = if letter == b'g' {
         s.next_bounds
     } else {
         s.next_keys
     };
     if byte_of(line, 1) == b'-' {
-        return Natural::Is(n);
+        return Some(n);
     }
     list(letter, line, n as usize, bounds, keys)
 }
@@ -212,7 +212,7 @@ fn put_value(
     floats: &mut Floats,
     integers: &mut Integers,
 ) -> usize {
-    let Natural::Is(x) = value_at(bytes, 0, kind) else {
+    let Some(x) = value_at(bytes, 0, kind) else {
         return 0;
     };
     if 100 <= n {
@@ -227,21 +227,21 @@ fn put_value(
 }
 
 // The values of a list: how many they are.
-fn values(list: &[u8], kind: u8, floats: &mut Floats, integers: &mut Integers) -> Natural {
+fn values(list: &[u8], kind: u8, floats: &mut Floats, integers: &mut Integers) -> Option<u64> {
     let mut many: usize = 0;
     let mut i: usize = 0;
     while i < list.len() {
         let e = text::end(list, i, b',');
         many = put_value(&list[i..e], many, kind, floats, integers);
         if many == 0 {
-            return Natural::None;
+            return None;
         }
         if list.len() <= e {
-            return Natural::Is(many as u64);
+            return Some(many as u64);
         }
         i = e + 1;
     }
-    Natural::None
+    None
 }
 
 // The list of values of a field.
@@ -251,9 +251,9 @@ fn values_at(
     kind: u8,
     floats: &mut Floats,
     integers: &mut Integers,
-) -> Natural {
+) -> Option<u64> {
     if byte_of(line, k) == b'-' {
-        return Natural::Is(0);
+        return Some(0);
     }
     let p = text::field(line, k);
     let a = p.from;
@@ -262,23 +262,23 @@ fn values_at(
 }
 
 // The set of a line, its second field: how many attributes it has.
-fn set(line: &[u8], attrs: &mut Attributes) -> Natural {
+fn set(line: &[u8], attrs: &mut Attributes) -> Option<u64> {
     let p = text::field(line, 2);
     let from = p.from;
     let n = line.len();
     let Given::Are(many) = lines::attributes::read(&line[from..n], attrs) else {
-        return Natural::None;
+        return None;
     };
-    Natural::Is(many as u64)
+    Some(many as u64)
 }
 
 // The birth number in the place of a handle.
-fn birth(s: State, handle: Natural) -> Natural {
-    let Natural::Is(place) = handle else {
-        return Natural::None;
+fn birth(s: State, handle: Option<u64>) -> Option<u64> {
+    let Some(place) = handle else {
+        return None;
     };
     let i = within(place, 99);
-    Natural::Is(s.handles[i])
+    Some(s.handles[i])
 }
 
 // ---- lines
@@ -291,7 +291,7 @@ fn value(
     attrs: &mut Attributes,
     bounds: &mut Bounds,
     keys: &mut Keys,
-) -> Natural {
+) -> Option<u64> {
     match kind {
         b'a' => set(line, attrs),
         b'g' | b'f' => waiting(kind, line, s, bounds, keys),
@@ -315,7 +315,7 @@ fn take(
     let mut k: usize = 1;
     while k < 11 {
         let found = value(line, k, kind_of(letter, k), s, attrs, bounds, keys);
-        let Natural::Is(x) = found else {
+        let Some(x) = found else {
             return false;
         };
         f[k] = x;
@@ -436,7 +436,7 @@ fn with_values(line: &[u8], s: State, floats: &mut Floats, integers: &mut Intege
     if k == 0 {
         return s;
     }
-    let Natural::Is(many) = values_at(line, k, s.kind, floats, integers) else {
+    let Some(many) = values_at(line, k, s.kind, floats, integers) else {
         return unread(s);
     };
     let mut next = s;

@@ -2,7 +2,7 @@
 ghost use Rattle.std.specs.Prelude.{◌≡◌, ◌≤◌};
 
 use lines::Block;
-use listing::{Cursor, Found};
+use listing::Cursor;
 use pooling::Pooled;
 use replay_state::{State, UNREAD, after, lent, stores, within};
 use std::io::Stdout;
@@ -69,7 +69,7 @@ fn settled(s: State, bounds: &mut stores::Bounds, from: usize, to: usize) -> Sta
 
 // The cursor behind a point of i64 values.
 fn behind_whole(at: Cursor, words: &[[u64; 12]], pos: &[u64], neg: &[u64]) -> Cursor {
-    let whole_listing::Found::Is(e) = whole_listing::read::point_at(at, words, pos, neg) else {
+    let Some(e) = whole_listing::read::point_at(at, words, pos, neg) else {
         return at;
     };
     e.next
@@ -77,7 +77,7 @@ fn behind_whole(at: Cursor, words: &[[u64; 12]], pos: &[u64], neg: &[u64]) -> Cu
 
 // The cursor behind a point of either number; the same where there is none.
 fn behind(at: Cursor, words: &[[u64; 12]], pos: &[u64], neg: &[u64]) -> Cursor {
-    let Found::Is(e) = listing::read::point_at(at, words, pos, neg) else {
+    let Some(e) = listing::read::point_at(at, words, pos, neg) else {
         return behind_whole(at, words, pos, neg);
     };
     e.next

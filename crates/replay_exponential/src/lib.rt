@@ -25,8 +25,8 @@ pub fn scale_of(n: u64) -> i32
     let bin = replay_state::cut(2097152 - 128 + n % 256);
     let found = index::signed::index_of(index::FINEST, bin);
     match found {
-        index::signed::Integer::OutOfRange => 0,
-        index::signed::Integer::Is(x) => x,
+        None => 0,
+        Some(x) => x,
     }
 }
 

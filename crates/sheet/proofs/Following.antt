@@ -6,8 +6,7 @@ use mathlib.Core.List.{List, []}
 use borrow.Author.Tests.{lt-ltb, le-ltb}
 use Rattle.laws.specs.Pick.{pick}
 use Rattle.laws.proofs.Bools.{pick_true, pick-false}
-use Rattle.text.specs.declared.numbers.Natural.{Natural}
-use Rattle.text.specs.declared.numbers.Natural.TheVariants as N
+use Rattle.std.specs.Prelude.{Option, Some, None}
 use Rattle.lines.specs.Gathered.{Text, ◌behind◌}
 use Rattle.directory.specs.View.{Stores}
 use Rattle.directory.specs.declared.Directory.{Directory}
@@ -43,15 +42,15 @@ left r block s c x b = record { taken = r.taken; state = r.state; text = text r.
 -- ---- `c`
 
 module _ (g : Gauge) (bs : List ℕ) (n : ℕ) (block : List ℕ) (s : Stores) (c : Cells) (x : Source) (b : List ℕ) where
-  abbrev asked : Natural → Followed
+  abbrev asked : Option ℕ → Followed
   asked y = collected_by g y (text n block) s c x b
 
-  pub collect-refused : time_of bs ≡ N.None → (r : Done) → r ≡ record { taken = false; state = outside_of g; text = n }
+  pub collect-refused : time_of bs ≡ None → (r : Done) → r ≡ record { taken = false; state = outside_of g; text = n }
       → left r block s c x b ≡ after_collect g bs (text n block) s c x b
   unfolding after_collect
   collect-refused e r p = ap (λ (y : Done). left y block s c x b) p ∙ sym (ap asked e)
 
-  module _ (time : ℕ) (e : time_of bs ≡ N.Is time) (a : Answer) (d : Directory) (s' : Stores) (o' : Output)
+  module _ (time : ℕ) (e : time_of bs ≡ Some time) (a : Answer) (d : Directory) (s' : Stores) (o' : Output)
       (q : Collecting.gave a (held d s' c) o' ≡ delta_collected (exponential_lister g.settings.size g.settings.top)
       (g.settings.extremes, g.settings.sums) g.settings.limit (held g.dir s c) x.list) where
     abbrev listed : Source
@@ -119,19 +118,19 @@ module _ (st : State) (bs : List ℕ) (over : Bool) (n : ℕ) (block : List ℕ)
       (λ i. aside (q.0 i) s c (q.1 i)) ∙ sym (pick_true _ _ _ (lt-ltb 0 st.left h))
 
   module _ (h : st.left ≤ 0) where
-    outside : (y : Natural) → records_of bs ≡ y → by_records y st.gauge bs over (text n block) s c x b ≡ after_step st bs over (text n block) s c x b
+    outside : (y : Option ℕ) → records_of bs ≡ y → by_records y st.gauge bs over (text n block) s c x b ≡ after_step st bs over (text n block) s c x b
     unfolding after_step
     outside y e =
-        sym (pick-false _ _ _ (le-ltb 0 st.left h) ∙ ap (λ (z : Natural). by_records z st.gauge bs over (text n block) s c x b) e)
+        sym (pick-false _ _ _ (le-ltb 0 st.left h) ∙ ap (λ (z : Option ℕ). by_records z st.gauge bs over (text n block) s c x b) e)
 
-    pub step-begins : (k : ℕ) → records_of bs ≡ N.Is k → (r : Done) (block' : List ℕ) (x' : Source)
+    pub step-begins : (k : ℕ) → records_of bs ≡ Some k → (r : Done) (block' : List ℕ) (x' : Source)
         → gone_by r block' x' ≡ went_on (opened st.gauge k) (text n block) x b
         → left r block' s c x' b ≡ after_step st bs over (text n block) s c x b
-    step-begins k e r block' x' q = ap (λ (w : Went). aside w s c b) q ∙ outside (N.Is k) e
+    step-begins k e r block' x' q = ap (λ (w : Went). aside w s c b) q ∙ outside (Some k) e
 
-    pub step-calls : records_of bs ≡ N.None → (y : Followed) → y ≡ after_call st.gauge bs over (text n block) s c x b
+    pub step-calls : records_of bs ≡ None → (y : Followed) → y ≡ after_call st.gauge bs over (text n block) s c x b
         → y ≡ after_step st bs over (text n block) s c x b
-    step-calls e y q = q ∙ outside N.None e
+    step-calls e y q = q ∙ outside None e
 
 -- ---- and its number
 

@@ -9,8 +9,7 @@ use borrow.Author.Tests.{lt-ltb, le-ltb, le-leb, lt-leb, eq-eqb, ne_eqb}
 use Rattle.laws.proofs.Bools.{pick_true, pick-false}
 use Rattle.text.specs.Numbers.{decimal_of}
 use Rattle.text.specs.Fields.{spaces_of, field_of}
-use Rattle.text.specs.declared.numbers.Natural.{Natural}
-use Rattle.text.specs.declared.numbers.Natural.TheVariants as N
+use Rattle.std.specs.Prelude.{Option, Some, None}
 use Rattle.lines.specs.Gathered.{Text, ◌behind◌}
 use Rattle.pooling.specs.Lists.{Source}
 use Rattle.printing.specs.Printed.{collection_lines}
@@ -69,30 +68,30 @@ module _ (bs : List ℕ) (x : Source) (t : Text) (a : R.Answer) (x' : Source) (q
 -- ---- `s RECORDS`
 
 module _ (n : ℕ) where
-  pub few-none : 7297 < n → N.None ≡ few_in (N.Is n)
+  pub few-none : 7297 < n → None ≡ few_in (Some n)
   few-none h = sym (pick-false _ _ _ (lt-leb n 7297 h))
 
-  pub few-is : n ≤ 7297 → N.Is n ≡ few_in (N.Is n)
+  pub few-is : n ≤ 7297 → Some n ≡ few_in (Some n)
   few-is h = sym (pick_true _ _ _ (le-leb n 7297 h))
 
 module _ (bs : List ℕ) where
-  pub other-letter : (get_or bs 0 0 ≡ 115 → ⊥) → N.None ≡ records_of bs
+  pub other-letter : (get_or bs 0 0 ≡ 115 → ⊥) → None ≡ records_of bs
   unfolding records_of
   other-letter h = sym (pick-false _ _ _ (ne_eqb (get_or bs 0 0) 115 h))
 
   module _ (h : get_or bs 0 0 ≡ 115) where
-    pub no-space : (get_or bs 1 0 ≡ 32 → ⊥) → N.None ≡ records_of bs
+    pub no-space : (get_or bs 1 0 ≡ 32 → ⊥) → None ≡ records_of bs
     unfolding records_of
     no-space k = sym (pick_true _ _ _ (eq-eqb (get_or bs 0 0) 115 h) ∙ pick-false _ _ _ (ne_eqb (get_or bs 1 0) 32 k))
 
     module _ (k : get_or bs 1 0 ≡ 32) where
-      pub more-fields : (spaces_of bs ≡ 1 → ⊥) → N.None ≡ records_of bs
+      pub more-fields : (spaces_of bs ≡ 1 → ⊥) → None ≡ records_of bs
       unfolding records_of
       more-fields l =
           sym (pick_true _ _ _ (eq-eqb (get_or bs 0 0) 115 h) ∙ pick_true _ _ _ (eq-eqb (get_or bs 1 0) 32 k)
           ∙ pick-false _ _ _ (ne_eqb (spaces_of bs) 1 l))
 
-      pub records-are : spaces_of bs ≡ 1 → (d r : Natural) → d ≡ decimal_of (field_of bs 1) → r ≡ few_in d → r ≡ records_of bs
+      pub records-are : spaces_of bs ≡ 1 → (d r : Option ℕ) → d ≡ decimal_of (field_of bs 1) → r ≡ few_in d → r ≡ records_of bs
       unfolding records_of
       records-are l d r e f =
           f ∙ ap few_in e

@@ -1,10 +1,8 @@
 -- The program after a line, with every store. Assumes nothing.
-use Rattle.std.specs.Prelude.{ℕ, ◌+◌, ◌-◌, min, Bool, true, false, List, [], ltb, eqb, length, take, Float}
+use Rattle.std.specs.Prelude.{ℕ, ◌+◌, ◌-◌, min, Bool, true, false, List, [], ltb, eqb, length, take, Float, Option, Some, None}
 use Rattle.std.proofs.lemmas.List.Edits.{sets}
 use Rattle.laws.specs.Pick.{pick}
 use Rattle.laws.specs.Said.{Said, refusal, success}
-use Rattle.text.specs.declared.numbers.Natural.{Natural}
-use Rattle.text.specs.declared.numbers.Natural.TheVariants as N
 use Rattle.lines.specs.Gathered.{Text, waiting, ◌behind◌}
 use Rattle.directory.specs.View.{Stores}
 use Rattle.directory.specs.declared.Directory.{Directory}
@@ -117,9 +115,9 @@ abbrev pub listed_by : Gauge → ℕ → Text → List Float → List ℕ → Co
 listed_by g time t bounds b y =
     listed_as g time t y.answer y.held.kept.dir y.held.kept.stores y.held.cells (record { list = y.out; bounds = bounds }) b
 
-abbrev pub collected_by : Gauge → Natural → Text → Stores → Cells → Source → List ℕ → Followed
-collected_by g N.None t s c x b = standing false g t s c x b
-collected_by g (N.Is time) t s c x b =
+abbrev pub collected_by : Gauge → Option ℕ → Text → Stores → Cells → Source → List ℕ → Followed
+collected_by g None t s c x b = standing false g t s c x b
+collected_by g (Some time) t s c x b =
     listed_by g time t x.bounds b (delta_collected (exponential_lister g.settings.size g.settings.top)
     (g.settings.extremes, g.settings.sums) g.settings.limit (held g.dir s c) x.list)
 
@@ -147,9 +145,9 @@ after_call g bs over t s c x b = by_call (call_of bs g.running over) g bs t s c 
 abbrev pub aside : Went → Stores → Cells → List ℕ → Followed
 aside w s c b = record { taken = w.taken; state = w.state; text = w.text; stores = s; cells = c; list = w.list; bytes = b }
 
-abbrev pub by_records : Natural → Gauge → List ℕ → Bool → Text → Stores → Cells → Source → List ℕ → Followed
-by_records N.None g bs over t s c x b = after_call g bs over t s c x b
-by_records (N.Is n) g bs over t s c x b = aside (went_on (opened g n) t x b) s c b
+abbrev pub by_records : Option ℕ → Gauge → List ℕ → Bool → Text → Stores → Cells → Source → List ℕ → Followed
+by_records None g bs over t s c x b = after_call g bs over t s c x b
+by_records (Some n) g bs over t s c x b = aside (went_on (opened g n) t x b) s c b
 
 unfoldable pub after_step : State → List ℕ → Bool → Text → Stores → Cells → Source → List ℕ → Followed
 after_step st bs over t s c x b =

@@ -1,11 +1,9 @@
 -- What is printed of a sheet, and what a line `s` says. `s` is the byte 115, `!` 33, a space 32. Assumes nothing.
-use Rattle.std.specs.Prelude.{ℕ, ◌/◌, List, [], ◌∷◌, ◌++◌, leb, eqb, length, get_or, take}
+use Rattle.std.specs.Prelude.{ℕ, ◌/◌, List, [], ◌∷◌, ◌++◌, leb, eqb, length, get_or, take, Option, Some, None}
 use Rattle.laws.specs.Pick.{pick}
 use Rattle.laws.specs.Said.{Said, refusal, success}
 use Rattle.text.specs.Numbers.{decimal_of}
 use Rattle.text.specs.Fields.{spaces_of, field_of}
-use Rattle.text.specs.declared.numbers.Natural.{Natural}
-use Rattle.text.specs.declared.numbers.Natural.TheVariants.{None, Is}
 use Rattle.lines.specs.Gathered.{Text, ◌behind◌}
 use Rattle.lines.specs.Written.{decimal}
 use Rattle.pooling.specs.Lists.{Source}
@@ -46,12 +44,12 @@ wrote_by o t = wrote (written_lines o.answer o.bytes behind t) o.bytes
 -- ---- a sheet that is read
 
 -- no sheet has more than 7297 records
-abbrev pub few_in : Natural → Natural
+abbrev pub few_in : Option ℕ → Option ℕ
 few_in None = None
-few_in (Is n) = pick (leb n 7297) (Is n) None
+few_in (Some n) = pick (leb n 7297) (Some n) None
 
 -- the RECORDS of a line `s RECORDS`
-unfoldable pub records_of : List ℕ → Natural
+unfoldable pub records_of : List ℕ → Option ℕ
 records_of bs =
     pick (eqb (get_or bs 0 0) 115)
     (pick (eqb (get_or bs 1 0) 32) (pick (eqb (spaces_of bs) 1) (few_in (decimal_of (field_of bs 1))) None) None)

@@ -14,7 +14,6 @@ use gauge_lines::cells::{Counts, Entries, Extremes, Figures, Gauge, Order, Sets}
 use lines::Block;
 use sheets::Header;
 use std::io::Stdout;
-use text::Natural;
 
 // The gauge after a collection that left the directory so, and the header of its sheet.
 #[derive(Clone, Copy)]
@@ -73,7 +72,7 @@ pub fn collect(
         (cells figures.now extremes.now pos.now neg.now)
         (source out_sets.old out_words.old out_pos.old out_neg.old bounds.now) sheet.old }
 {
-    let Natural::Is(time) = gauge_lines::fields::time_in(line) else {
+    let Some(time) = gauge_lines::fields::time_in(line) else {
         return crate::state::ended(false, g, n);
     };
     let settings = g.settings;

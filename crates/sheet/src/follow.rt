@@ -13,7 +13,6 @@ use crate::state::{Bytes, Done, ListedBounds, ListedCounts, ListedSets, ListedWo
 use gauge_lines::cells::{Counts, Entries, Extremes, Figures, Order, Sets};
 use lines::Block;
 use std::io::Stdout;
-use text::Natural;
 
 // Makes what a line asks for.
 fn step(
@@ -52,10 +51,10 @@ fn step(
     let g = st.gauge;
     let asked = reading::records_in(line);
     match asked {
-        Natural::Is(records) => reading::begin(
+        Some(records) => reading::begin(
             out, g, records, text, n, out_sets, out_words, out_pos, out_neg, bounds, sheet,
         ),
-        Natural::None => crate::calls::make(
+        None => crate::calls::make(
             out, g, line, over, text, n, sets, entries, order, figures, extremes, pos, neg,
             out_sets, out_words, out_pos, out_neg, bounds, sheet,
         ),

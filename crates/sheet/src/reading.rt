@@ -12,36 +12,35 @@ use lines::Block;
 use printing::Form;
 use sheet_reading::Answer;
 use std::io::Stdout;
-use text::Natural;
 
 // The most records that a sheet has: the header, and 114 for each of 64 points.
 const MOST_RECORDS: u64 = 7297;
 
 // A number of records, if no sheet has more.
-fn few(n: Natural) -> Natural
+fn few(n: Option<u64>) -> Option<u64>
     ensures { result ≡ few_in n }
 {
-    let Natural::Is(records) = n else {
-        return Natural::None;
+    let Some(records) = n else {
+        return None;
     };
     if records > MOST_RECORDS {
-        return Natural::None;
+        return None;
     }
-    Natural::Is(records)
+    Some(records)
 }
 
 // The records of a line `s RECORDS`, if it is one.
-pub fn records_in(line: &[u8]) -> Natural
+pub fn records_in(line: &[u8]) -> Option<u64>
     ensures { result ≡ records_of line.now }
 {
     if text::byte_at(line, 0) != b's' {
-        return Natural::None;
+        return None;
     }
     if text::byte_at(line, 1) != b' ' {
-        return Natural::None;
+        return None;
     }
     if text::spaces(line) != 1 {
-        return Natural::None;
+        return None;
     }
     few(text::decimal_at(line, 1))
 }

@@ -24,8 +24,6 @@ use Rattle.point.specs.Handing.{Stored, agrees_alone}
 use Rattle.listing.specs.Listed.{stored_at, read_from}
 use Rattle.listing.specs.declared.Cursor.{Cursor}
 use Rattle.listing.specs.declared.Entry as Listing
-use Rattle.listing.specs.declared.Found.{Found}
-use Rattle.listing.specs.declared.Found.TheVariants.{NoPoint, Is}
 use Rattle.pooling.specs.Lists.{Source, whole_at}
 use Rattle.records.specs.Records.{padded, width}
 use Rattle.records.proofs.Records.{length-padded}
@@ -36,7 +34,7 @@ use Rattle.sheets.specs.declared.Header.{Header}
 use Rattle.sheets.proofs.EntryParts.{head-twelve}
 use Rattle.sheets.proofs.SameLists.{no_test}
 use Rattle.sheets.proofs.SetLaws.{length-row, row-few}
-use Rattle.std.specs.Prelude.{None, Some}
+use Rattle.std.specs.Prelude.{None, Some, Option}
 use Rattle.std.specs.Prelude as Std
 use Rattle.sheet_writing.specs.Inner.{origin, follows, row_taken, step_at, width_at, judged_from, judged}
 use Rattle.sheets.specs.Lists.{whole_found, listed}
@@ -82,13 +80,13 @@ module _ (n : ℕ) (at : Cursor) (x : Source) where
   rowless t = ap (reading n at x) (pick-false (row_there at x) _ none t)
 
   module _ (t : row_there at x ≡ true) where
-    abbrev whole : Found → Option (Stored × Cursor)
-    whole f = elim f [ NoPoint ↦ none | Is e ↦ some (stored_at at e x.bounds x.list, e.next) ]
+    abbrev whole : Option Entry → Option (Stored × Cursor)
+    whole f = elim f [ None ↦ none | Some e ↦ some (stored_at at e x.bounds x.list, e.next) ]
 
-    pub pointless : whole_at at x ≡ NoPoint → from (suc n) at x ≡ none
+    pub pointless : whole_at at x ≡ None → from (suc n) at x ≡ none
     pointless h = ap (reading n at x) (pick_true (row_there at x) (whole (whole_at at x)) none t ∙ ap whole h)
 
-    pub read-on : (e : Listing.Entry) → whole_at at x ≡ Is e → from (suc n) at x ≡ Option.map (λ l. entry_here at x e ∷ l) (from n e.next x)
+    pub read-on : (e : Listing.Entry) → whole_at at x ≡ Some e → from (suc n) at x ≡ Option.map (λ l. entry_here at x e ∷ l) (from n e.next x)
     read-on e h = ap (reading n at x) (pick_true (row_there at x) (whole (whole_at at x)) none t ∙ ap whole h)
 
 -- ---- a point that passes
@@ -206,8 +204,8 @@ follows_is i a b f g h =
     ∙ h)
     (flag (eqb i 0))
 
-module _ (n : ℕ) (at : Cursor) (k : ℕ) (x : Source) (prior : Prior at x) (h : step_at at x ≡ NoPoint) where
-  module _ (t : row_there at x ≡ true) (e : Listing.Entry) (w : whole_at at x ≡ Is e) where
+module _ (n : ℕ) (at : Cursor) (k : ℕ) (x : Source) (prior : Prior at x) (h : step_at at x ≡ None) where
+  module _ (t : row_there at x ≡ true) (e : Listing.Entry) (w : whole_at at x ≡ Some e) where
     -- it would have passed
     not_good : (es : List Entry) → good_from at x (entry_here at x e ∷ es) ≡ true → ⊥
     unfolding entry_fine row_fine
@@ -223,16 +221,16 @@ module _ (n : ℕ) (at : Cursor) (k : ℕ) (x : Source) (prior : Prior at x) (h 
         let fine : row_fine own ≡ true = and_intro _ _ l.1 c.0 in
         let taken : row_taken at.place s ≡ true =
         and_intro _ _ l.0 (and_intro _ _ fine (follows_is at.place prev own prior (row-few own c.0) a.0)) in
-        let found : Is e ≡ step_at at x = agreeing_in at x (whole_at at x) e w (and_right (exact d.1) _ c.1) ∙ step_is at x taken in
+        let found : Some e ≡ step_at at x = agreeing_in at x (whole_at at x) e w (and_right (exact d.1) _ c.1) ∙ step_is at x taken in
         true-not-false (ap present (found ∙ h))
 
     rest_bad : (y : Option (List Entry)) → verdict at k x (Option.map (λ l. entry_here at x e ∷ l) y) ≡ None
     rest_bad none = refl
     rest_bad (some es) = pick-false (good_from at x (entry_here at x e ∷ es)) _ None (no_test _ (not_good es))
 
-  by_whole : row_there at x ≡ true → (f : Found) → whole_at at x ≡ f → verdict at k x (from (suc n) at x) ≡ None
-  by_whole t NoPoint w = ap (verdict at k x) (pointless n at x t w)
-  by_whole t (Is e) w = ap (verdict at k x) (read-on n at x t e w) ∙ rest_bad t e w (from n e.next x)
+  by_whole : row_there at x ≡ true → (f : Option Entry) → whole_at at x ≡ f → verdict at k x (from (suc n) at x) ≡ None
+  by_whole t None w = ap (verdict at k x) (pointless n at x t w)
+  by_whole t (Some e) w = ap (verdict at k x) (read-on n at x t e w) ∙ rest_bad t e w (from n e.next x)
 
   verdict_bad : verdict at k x (from (suc n) at x) ≡ None
   verdict_bad =
@@ -242,9 +240,9 @@ module _ (n : ℕ) (at : Cursor) (k : ℕ) (x : Source) (prior : Prior at x) (h 
 
 module _ (x : Source) where
   step-is-verdict : (n : ℕ) → ((at : Cursor) (k : ℕ) → Prior at x → judged_from n at k x ≡ verdict at k x (from n at x))
-      → (at : Cursor) (k : ℕ) → Prior at x → (f : Found) → step_at at x ≡ f → judged_from (suc n) at k x ≡ verdict at k x (from (suc n) at x)
-  step-is-verdict n again at k prior NoPoint h = from_bad n at k x h ∙ sym (verdict_bad n at k x prior h)
-  step-is-verdict n again at k prior (Is e) h =
+      → (at : Cursor) (k : ℕ) → Prior at x → (f : Option Entry) → step_at at x ≡ f → judged_from (suc n) at k x ≡ verdict at k x (from (suc n) at x)
+  step-is-verdict n again at k prior None h = from_bad n at k x h ∙ sym (verdict_bad n at k x prior h)
+  step-is-verdict n again at k prior (Some e) h =
       let p = step-passed at x e h in
       let m : e.next.place ≡ at.place + 1 = ap (λ (c : Cursor). c.place) (whole-next at x e p.whole) in
       let i : at.place ≡ e.next.place - 1 = omega (arith, m) in
@@ -352,13 +350,13 @@ module _ (h : Header) (n : ℕ) (x : Source) where
 
 pub record Turn (n : ℕ) (at : Cursor) (k : ℕ) (x : Source) (c : ℕ) : Type 0 where
   pub e : Listing.Entry
-  pub step : step_at at x ≡ Is e
+  pub step : step_at at x ≡ Some e
   pub rest : judged_from n e.next (k + width_at at e) x ≡ Some c
 
 module _ (x : Source) (c : ℕ) where
-  turn_by : (n : ℕ) (at : Cursor) (k : ℕ) → judged_from (suc n) at k x ≡ Some c → (f : Found) → step_at at x ≡ f → Turn n at k x c
-  turn_by n at k j NoPoint h = true-not-false (sym (ap is_fine (sym (from_bad n at k x h) ∙ j)))
-  turn_by n at k j (Is e) h = record { e = e; step = h; rest = sym (from_more n at k x e h) ∙ j }
+  turn_by : (n : ℕ) (at : Cursor) (k : ℕ) → judged_from (suc n) at k x ≡ Some c → (f : Option Entry) → step_at at x ≡ f → Turn n at k x c
+  turn_by n at k j None h = true-not-false (sym (ap is_fine (sym (from_bad n at k x h) ∙ j)))
+  turn_by n at k j (Some e) h = record { e = e; step = h; rest = sym (from_more n at k x e h) ∙ j }
 
   pub from-fine : (n : ℕ) (at : Cursor) (k : ℕ) → judged_from (suc n) at k x ≡ Some c → Turn n at k x c
   from-fine n at k j = turn_by n at k j (step_at at x) refl

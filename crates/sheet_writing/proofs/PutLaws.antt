@@ -19,8 +19,7 @@ use Rattle.point.specs.Handing.{Stored}
 use Rattle.listing.specs.Listed.{stored_at, read_from}
 use Rattle.listing.specs.declared.Cursor.{Cursor}
 use Rattle.listing.specs.declared.Entry as Listing
-use Rattle.listing.specs.declared.Found.{Found}
-use Rattle.listing.specs.declared.Found.TheVariants.{NoPoint, Is}
+use Rattle.std.specs.Prelude.{Option, Some, None}
 use Rattle.pooling.specs.Lists.{Source, whole_at}
 use Rattle.records.specs.Words.{bytes_of}
 use Rattle.records.specs.Records.{width, padded, chained}
@@ -51,7 +50,7 @@ entry_here at x e = (set_of (row_here at x), stored_at at e x.bounds x.list)
 pub record Cut (n : ℕ) (at : Cursor) (x : Source) (es : List Entry) : Type 0 where
   pub e : Listing.Entry
   pub rest : List Entry
-  pub whole : whole_at at x ≡ Is e
+  pub whole : whole_at at x ≡ Some e
   own : row_of (set_of (row_here at x)) ≡ row_here at x
   pub read : from n e.next x ≡ some rest
   are : entry_here at x e ∷ rest ≡ es
@@ -64,15 +63,15 @@ module _ (n : ℕ) (at : Cursor) (x : Source) (es : List Entry) where
   abbrev test : Bool
   test = ltb at.place (length x.list.sets) && same_list (row_of (set_of (row_here at x))) (row_here at x)
 
-  abbrev found : Found → Option (Stored × Cursor)
-  found f = elim f [ NoPoint ↦ none | Is e ↦ some (stored_at at e x.bounds x.list, e.next) ]
+  abbrev found : Option Entry → Option (Stored × Cursor)
+  found f = elim f [ None ↦ none | Some e ↦ some (stored_at at e x.bounds x.list, e.next) ]
 
   abbrev reading : Option (Stored × Cursor) → Option (List Entry)
   reading y = elim y [ none ↦ none | some z ↦ Option.map (λ l. (set_of (row_here at x), z.0) ∷ l) (from n z.1 x) ]
 
-  by-found : test ≡ true → (f : Found) → whole_at at x ≡ f → reading (found f) ≡ some es → Cut n at x es
-  by-found t NoPoint w h = none-not-some h
-  by-found t (Is e) w h =
+  by-found : test ≡ true → (f : Option Entry) → whole_at at x ≡ f → reading (found f) ≡ some es → Cut n at x es
+  by-found t None w h = none-not-some h
+  by-found t (Some e) w h =
       let m = mapped (entry_here at x e) (from n e.next x) es h in
       record {
         e = e;
@@ -98,7 +97,7 @@ read-many (suc n) at x es h =
 
 -- ---- its words
 
-module _ (at : Cursor) (x : Source) (e : Listing.Entry) (w : whole_at at x ≡ Is e) where
+module _ (at : Cursor) (x : Source) (e : Listing.Entry) (w : whole_at at x ≡ Some e) where
   words_are : row_of (set_of (row_here at x)) ≡ row_here at x → point_words at (row_here at x) x e ≡ entry_words (entry_here at x e)
   unfolding entry_words
   words_are o =

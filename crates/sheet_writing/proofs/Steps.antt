@@ -19,8 +19,6 @@ use Rattle.point.specs.declared.Figures.TheVariants.{Exponential, Explicit}
 use Rattle.listing.specs.Listed.{buckets_of, pos_len, neg_len, behind, stored_at}
 use Rattle.listing.specs.declared.Cursor.{Cursor}
 use Rattle.listing.specs.declared.Entry.{Entry}
-use Rattle.listing.specs.declared.Found.{Found}
-use Rattle.listing.specs.declared.Found.TheVariants.{NoPoint, Is}
 use Rattle.listing.specs.declared.Span.{Span}
 use Rattle.pooling.specs.Lists.{Source, whole_at}
 use Rattle.pooling.proofs.Whole.{whole-told, whole-lies, bounds-long}
@@ -29,7 +27,7 @@ use Rattle.sheets.specs.Entries.{own_span, bounds_fine, exact}
 use Rattle.sheets.specs.Inner.{row_fine}
 use Rattle.sheets.specs.Sheet.{most_points}
 use Rattle.sheets.proofs.PointLaws.{Few, agreed-few, bounds-fit}
-use Rattle.std.specs.Prelude.{None, Some}
+use Rattle.std.specs.Prelude.{None, Some, Option}
 use Rattle.sheet_writing.specs.Inner.{origin, follows, row_taken, agreeing, step_at, Spanned, width_at, judged_from, judged}
 
 -- ---- the row of a set
@@ -69,56 +67,56 @@ module _ (i : ℕ) (sets : List (List ℕ)) where
 -- ---- the point at a cursor
 
 module _ (at : Cursor) (x : Source) where
-  pub agreeing_in : (f : Found) (e : Entry) → f ≡ Is e → agrees_alone (stored_at at e x.bounds x.list) ≡ true → Is e ≡ agreeing at x f
-  agreeing_in f e p t = sym (ap (agreeing at x) p ∙ pick_true (agrees_alone (stored_at at e x.bounds x.list)) (Is e) NoPoint t)
+  pub agreeing_in : (f : Option Entry) (e : Entry) → f ≡ Some e → agrees_alone (stored_at at e x.bounds x.list) ≡ true → Some e ≡ agreeing at x f
+  agreeing_in f e p t = sym (ap (agreeing at x) p ∙ pick_true (agrees_alone (stored_at at e x.bounds x.list)) (Some e) None t)
 
-  pub agreeing-out : (f : Found) (e : Entry) → f ≡ Is e → agrees_alone (stored_at at e x.bounds x.list) ≡ false → NoPoint ≡ agreeing at x f
-  agreeing-out f e p t = sym (ap (agreeing at x) p ∙ pick-false (agrees_alone (stored_at at e x.bounds x.list)) (Is e) NoPoint t)
+  pub agreeing-out : (f : Option Entry) (e : Entry) → f ≡ Some e → agrees_alone (stored_at at e x.bounds x.list) ≡ false → None ≡ agreeing at x f
+  agreeing-out f e p t = sym (ap (agreeing at x) p ∙ pick-false (agrees_alone (stored_at at e x.bounds x.list)) (Some e) None t)
 
-  pub step-no : row_taken at.place x.list.sets ≡ false → NoPoint ≡ step_at at x
+  pub step-no : row_taken at.place x.list.sets ≡ false → None ≡ step_at at x
   unfolding step_at
-  step-no h = sym (pick-false (row_taken at.place x.list.sets) (agreeing at x (whole_at at x)) NoPoint h)
+  step-no h = sym (pick-false (row_taken at.place x.list.sets) (agreeing at x (whole_at at x)) None h)
 
   pub step_is : row_taken at.place x.list.sets ≡ true → agreeing at x (whole_at at x) ≡ step_at at x
   unfolding step_at
-  step_is h = sym (pick_true (row_taken at.place x.list.sets) (agreeing at x (whole_at at x)) NoPoint h)
+  step_is h = sym (pick_true (row_taken at.place x.list.sets) (agreeing at x (whole_at at x)) None h)
 
 -- agreement is asked of counts and bounds alone
 pub agreeing-alike : (at : Cursor) (x y : Source) → x.list.pos ≡ y.list.pos → x.list.neg ≡ y.list.neg → x.bounds ≡ y.bounds
-    → (f : Found) → agreeing at x f ≡ agreeing at y f
-agreeing-alike at x y p q r NoPoint = refl
-agreeing-alike at x y p q r (Is e) =
-    λ j. agreeing at (record { list = record { sets = []; words = []; pos = p j; neg = q j }; bounds = r j }) (Is e)
+    → (f : Option Entry) → agreeing at x f ≡ agreeing at y f
+agreeing-alike at x y p q r None = refl
+agreeing-alike at x y p q r (Some e) =
+    λ j. agreeing at (record { list = record { sets = []; words = []; pos = p j; neg = q j }; bounds = r j }) (Some e)
 
 -- ---- what is found
 
-abbrev pub present : Found → Bool
-present NoPoint = false
-present (Is e) = true
+abbrev pub present : Option Entry → Bool
+present None = false
+present (Some e) = true
 
-abbrev entry_or : Entry → Found → Entry
-entry_or d NoPoint = d
-entry_or d (Is e) = e
+abbrev entry_or : Entry → Option Entry → Entry
+entry_or d None = d
+entry_or d (Some e) = e
 
-chosen : (t : Bool) (f : Found) (e : Entry) → pick t f NoPoint ≡ Is e → (t ≡ true) × (f ≡ Is e)
+chosen : (t : Bool) (f : Option Entry) (e : Entry) → pick t f None ≡ Some e → (t ≡ true) × (f ≡ Some e)
 unfolding pick
 chosen true f e h = (refl, h)
 chosen false f e h = true-not-false (sym (ap present h))
 
-agreeing-says : (at : Cursor) (x : Source) (f : Found) (e : Entry) → agreeing at x f ≡ Is e
-    → (f ≡ Is e) × (agrees_alone (stored_at at e x.bounds x.list) ≡ true)
-agreeing-says at x NoPoint e h = true-not-false (sym (ap present h))
-agreeing-says at x (Is d) e h =
-    let c = chosen (agrees_alone (stored_at at d x.bounds x.list)) (Is d) e h in
+agreeing-says : (at : Cursor) (x : Source) (f : Option Entry) (e : Entry) → agreeing at x f ≡ Some e
+    → (f ≡ Some e) × (agrees_alone (stored_at at e x.bounds x.list) ≡ true)
+agreeing-says at x None e h = true-not-false (sym (ap present h))
+agreeing-says at x (Some d) e h =
+    let c = chosen (agrees_alone (stored_at at d x.bounds x.list)) (Some d) e h in
     (c.1, subst (λ (y : Entry). agrees_alone (stored_at at y x.bounds x.list) ≡ true) (ap (entry_or d) c.1) c.0)
 
 -- a point that can be written
 pub record Passed (at : Cursor) (x : Source) (e : Entry) : Type 0 where
   pub taken : row_taken at.place x.list.sets ≡ true
-  pub whole : whole_at at x ≡ Is e
+  pub whole : whole_at at x ≡ Some e
   pub agrees : agrees_alone (stored_at at e x.bounds x.list) ≡ true
 
-pub step-passed : (at : Cursor) (x : Source) (e : Entry) → step_at at x ≡ Is e → Passed at x e
+pub step-passed : (at : Cursor) (x : Source) (e : Entry) → step_at at x ≡ Some e → Passed at x e
 unfolding step_at
 step-passed at x e h =
     let c = chosen (row_taken at.place x.list.sets) (agreeing at x (whole_at at x)) e h in
@@ -139,7 +137,7 @@ few_words (Exponential c) b z l m n = omega (arith, eqb-true b.len 0 z)
 few_words (Explicit k) b z l m n = omega arith
 
 -- a point that is there with all of its counts and bounds: how many they are, and where the next one lies
-module _ (at : Cursor) (x : Source) (e : Entry) (h : whole_at at x ≡ Is e) where
+module _ (at : Cursor) (x : Source) (e : Entry) (h : whole_at at x ≡ Some e) where
   abbrev f : Figures
   f = e.point.figures
 
@@ -212,7 +210,7 @@ module _ (at : Cursor) (x : Source) (e : Entry) (h : whole_at at x ≡ Is e) whe
         subst (λ (k : ℕ). 21 + (width e.bounds.len + width k) ≤ 342) (λ j. sym m j + sym n j)
         (few_words f e.bounds said-bounds (omega (arith, few.bounds, long-bounds)) (omega (arith, few.pos, own-pos)) few.neg)
 
-module _ (at : Cursor) (x : Source) (e : Entry) (h : step_at at x ≡ Is e) where
+module _ (at : Cursor) (x : Source) (e : Entry) (h : step_at at x ≡ Some e) where
   pub step_spanned : Spanned at e
   step_spanned = let p = step-passed at x e h in whole_spanned at x e p.whole p.agrees
 
@@ -227,11 +225,11 @@ width_few at e s = omega (arith, s.pos, s.neg, s.few_pos, s.few_neg, s.few_bound
 -- ---- the loop
 
 module _ (n : ℕ) (at : Cursor) (k : ℕ) (x : Source) where
-  pub from_bad : step_at at x ≡ NoPoint → judged_from (suc n) at k x ≡ None
-  from_bad h = ap (λ (f : Found). elim f [ NoPoint ↦ None | Is e ↦ judged_from n e.next (k + width_at at e) x ]) h
+  pub from_bad : step_at at x ≡ None → judged_from (suc n) at k x ≡ None
+  from_bad h = ap (λ (f : Option Entry). elim f [ None ↦ None | Some e ↦ judged_from n e.next (k + width_at at e) x ]) h
 
-  pub from_more : (e : Entry) → step_at at x ≡ Is e → judged_from (suc n) at k x ≡ judged_from n e.next (k + width_at at e) x
-  from_more d h = ap (λ (f : Found). elim f [ NoPoint ↦ None | Is e ↦ judged_from n e.next (k + width_at at e) x ]) h
+  pub from_more : (e : Entry) → step_at at x ≡ Some e → judged_from (suc n) at k x ≡ judged_from n e.next (k + width_at at e) x
+  from_more d h = ap (λ (f : Option Entry). elim f [ None ↦ None | Some e ↦ judged_from n e.next (k + width_at at e) x ]) h
 
 -- before turn i of n: what is left is judged as the whole is
 pub record Going (n i : ℕ) (at : Cursor) (cells : ℕ) (x : Source) : Type 0 where
@@ -254,7 +252,7 @@ going_start n x h =
     record { most = h; left = omega arith; few = omega arith; same = ap (λ (m : ℕ). judged_from m origin 0 x) e }
 
 module _ (n i : ℕ) (at : Cursor) (cells : ℕ) (x : Source) (g : Going n i at cells x) where
-  pub going_next : i < n → (e : Entry) → step_at at x ≡ Is e → (w : ℕ) → w ≡ width_at at e → Going n (i + 1) e.next (cells + w) x
+  pub going_next : i < n → (e : Entry) → step_at at x ≡ Some e → (w : ℕ) → w ≡ width_at at e → Going n (i + 1) e.next (cells + w) x
   going_next l e h w v =
       let m : n - i ≡ suc (n - (i + 1)) = omega arith in
       record {
@@ -268,7 +266,7 @@ module _ (n i : ℕ) (at : Cursor) (cells : ℕ) (x : Source) (g : Going n i at 
             ∙ ap (λ (j : ℕ). judged_from (n - (i + 1)) e.next (cells + j) x) (sym v);
       }
 
-  pub going_bad : i < n → step_at at x ≡ NoPoint → None ≡ judged n x
+  pub going_bad : i < n → step_at at x ≡ None → None ≡ judged n x
   going_bad l h =
       let m : n - i ≡ suc (n - (i + 1)) = omega arith in
       sym (from_bad (n - (i + 1)) at cells x h) ∙ ap (λ (j : ℕ). judged_from j at cells x) (sym m) ∙ sym g.same ∙ judged-most n x g.most

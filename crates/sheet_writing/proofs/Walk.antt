@@ -10,28 +10,26 @@ use Rattle.laws.proofs.Bools.{and_left}
 use Rattle.laws.proofs.Cases.{true-not-false}
 use Rattle.listing.specs.declared.Cursor.{Cursor}
 use Rattle.listing.specs.declared.Entry.{Entry}
-use Rattle.listing.specs.declared.Found.{Found}
-use Rattle.listing.specs.declared.Found.TheVariants.{NoPoint, Is}
 use Rattle.pooling.specs.Lists.{Source, whole_at}
 use Rattle.records.specs.Inner.{laid}
 use Rattle.sheets.specs.Sheet.{info_for}
 use Rattle.sheets.specs.declared.Header.{Header}
 use Rattle.sheets.proofs.Lengths.{payload-whole, whole_length}
-use Rattle.std.specs.Prelude.{Some}
+use Rattle.std.specs.Prelude.{Some, Option, None}
 use Rattle.sheet_writing.specs.Inner.{origin, step_at, width_at, judged_from, point_words, put_from, put_sheet, Judgement}
 use Rattle.sheet_writing.proofs.Steps.{present, step-passed, whole-next, from_more}
 use Rattle.sheet_writing.proofs.Judged.{judged-fine, from-fine, from-few, judged-few}
 
-same-entry : {d e : Entry} → Is d ≡ Is e → d ≡ e
+same-entry : {d e : Entry} → Some d ≡ Some e → d ≡ e
 same-entry h = cc
 
 -- one point more
-pub put-more : (m : ℕ) (at : Cursor) (info records k : ℕ) (x : Source) (s : List ℕ) (e : Entry) → whole_at at x ≡ Is e
+pub put-more : (m : ℕ) (at : Cursor) (info records k : ℕ) (x : Source) (s : List ℕ) (e : Entry) → whole_at at x ≡ Some e
     → put_from (suc m) at info records k x s
     ≡ put_from m e.next info records (k + width_at at e) x (laid info records k (point_words at (get_or x.list.sets at.place []) x e) s)
-put-more m at info records k x s d h = ap (λ (f : Found). elim f [
-  | NoPoint ↦ s
-  | Is e ↦ put_from m e.next info records (k + width_at at e) x (laid info records k (point_words at (get_or x.list.sets at.place []) x e) s)
+put-more m at info records k x s d h = ap (λ (f : Option Entry). elim f [
+  | None ↦ s
+  | Some e ↦ put_from m e.next info records (k + width_at at e) x (laid info records k (point_words at (get_or x.list.sets at.place []) x e) s)
 ]) h
 
 -- ---- before turn i of n, at word k of a sheet of so many records: what is left is fine too
@@ -67,16 +65,16 @@ module _ (n i records : ℕ) (at : Cursor) (k : ℕ) (x : Source) (l : Left n i 
   more = let m : suc (n - (i + 1)) ≡ n - i = omega arith in ap (λ (j : ℕ). judged_from j at (k - 3) x) m ∙ l.fine
 
   -- there is a point
-  pub turn-none : {A : Type 0} → whole_at at x ≡ NoPoint → A
+  pub turn-none : {A : Type 0} → whole_at at x ≡ None → A
   turn-none w =
       let t = from-fine x l.cells (n - (i + 1)) at (k - 3) more in
       true-not-false (sym (ap present (step-passed at x t.e t.step).whole) ∙ ap present w)
 
-  module _ (e : Entry) (w : whole_at at x ≡ Is e) where
-    pub turn_step : step_at at x ≡ Is e
+  module _ (e : Entry) (w : whole_at at x ≡ Some e) where
+    pub turn_step : step_at at x ≡ Some e
     turn_step =
         let t = from-fine x l.cells (n - (i + 1)) at (k - 3) more in
-        t.step ∙ ap (λ (d : Entry). Is d) (same-entry (sym (step-passed at x t.e t.step).whole ∙ w))
+        t.step ∙ ap (λ (d : Entry). Some d) (same-entry (sym (step-passed at x t.e t.step).whole ∙ w))
 
     rest : judged_from (n - (i + 1)) e.next (k - 3 + width_at at e) x ≡ Some l.cells
     rest = sym (from_more (n - (i + 1)) at (k - 3) x e turn_step) ∙ more

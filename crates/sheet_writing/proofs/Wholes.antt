@@ -24,13 +24,10 @@ use Rattle.whole_point.proofs.Call.{alone_law}
 use Rattle.listing.specs.Words as F
 use Rattle.listing.specs.Listed.{behind, within, entry_in, point_at, stored_at}
 use Rattle.listing.specs.declared.Cursor.{Cursor}
-use Rattle.listing.specs.declared.Found.{Found}
-use Rattle.listing.specs.declared.Found.TheVariants.{NoPoint, Is}
+use Rattle.listing.specs.declared.Entry.{Entry}
 use Rattle.whole_listing.specs.Words.{shadow_words, point_in, bounds_in, is_point}
 use Rattle.whole_listing.specs.Listed as W
 use Rattle.whole_listing.specs.declared.Entry as WE
-use Rattle.whole_listing.specs.declared.Found as WF
-use Rattle.whole_listing.specs.declared.Found.TheVariants as WV
 use Rattle.whole_listing.proofs.Reading.{shadow_in, shadow-is}
 use Rattle.whole_listing.proofs.Readers.{shadow_entry, kind-whole, kind-real}
 use Rattle.pooling.specs.Lists.{Source, bounded, whole_at}
@@ -39,7 +36,7 @@ use Rattle.sheets.specs.Entries as S
 use Rattle.sheets.specs.Sheet.{Sheet, writable}
 use Rattle.sheets.specs.Lists.{listed}
 use Rattle.sheets.specs.declared.Header.{Header}
-use Rattle.std.specs.Prelude.{Some}
+use Rattle.std.specs.Prelude.{Some, Option, None}
 use Rattle.sheet_writing.specs.Inner.{origin, shadow_found, judged, no_kind}
 use Rattle.sheet_writing.specs.Writing.{Outcome, ends, writing_of, shadowed_row, shadowed, no_whole, writing}
 use Rattle.sheet_writing.proofs.Steps.{whole-next, judged-over}
@@ -77,18 +74,18 @@ module _ (at : Cursor) (ws : List (List ℕ)) (pos neg : ℕ) where
   abbrev w : List ℕ
   w = get_or ws at.place []
 
-  by_row : point_at at (map shadowed_row ws) pos neg ≡ pick (leb (length ws) at.place) NoPoint (entry_in at (shadowed_row (get_or ws at.place [])) pos neg)
+  by_row : point_at at (map shadowed_row ws) pos neg ≡ pick (leb (length ws) at.place) None (entry_in at (shadowed_row (get_or ws at.place [])) pos neg)
   unfolding point_at
-  by_row = λ i. pick (leb (length-map ws shadowed_row i) at.place) NoPoint (entry_in at (shadowed-at ws at.place i) pos neg)
+  by_row = λ i. pick (leb (length-map ws shadowed_row i) at.place) None (entry_in at (shadowed-at ws at.place i) pos neg)
 
   -- where no i64 point lies it is as it was
   pub point-real : is_point (get_or ws at.place []) ≡ false → point_at at (map shadowed_row ws) pos neg ≡ point_at at ws pos neg
   unfolding point_at
-  point-real h = by_row ∙ ap (λ (v : List ℕ). pick (leb (length ws) at.place) NoPoint (entry_in at v pos neg)) (row-real w h)
+  point-real h = by_row ∙ ap (λ (v : List ℕ). pick (leb (length ws) at.place) None (entry_in at v pos neg)) (row-real w h)
 
 -- ---- A POINT OF I64 VALUES AND ITS SHADOW
 
-either-found : (t : Bool) (e : WE.Entry) → shadow_found (pick t (WV.Is e) WV.NoPoint) ≡ pick t (Is (shadow_entry e)) NoPoint
+either-found : (t : Bool) (e : WE.Entry) → shadow_found (pick t (Some e) None) ≡ pick t (Some (shadow_entry e)) None
 unfolding pick
 either-found true e = refl
 either-found false e = refl
@@ -100,17 +97,17 @@ module _ (at : Cursor) (w : List ℕ) (pos neg : ℕ) (k : leb 2 (get_or w 0 0) 
   abbrev own : WE.Entry
   own = record { point = point_in w; bounds = bounds_in w; next = behind at (point_in w).figures (bounds_in w) }
 
-  entry_found : shadow_found (W.entry_in at w pos neg) ≡ pick (is_point w && lies) (Is (shadow_entry own)) NoPoint
+  entry_found : shadow_found (W.entry_in at w pos neg) ≡ pick (is_point w && lies) (Some (shadow_entry own)) None
   unfolding W.entry_in
   entry_found = either-found (is_point w && lies) own
 
-  entry-shadow : is_point w ≡ true → entry_in at (shadow_words w) pos neg ≡ pick (is_point w && lies) (Is (shadow_entry own)) NoPoint
+  entry-shadow : is_point w ≡ true → entry_in at (shadow_words w) pos neg ≡ pick (is_point w && lies) (Some (shadow_entry own)) None
   unfolding entry_in F.point_in point_in bounds_in
   entry-shadow h =
       let v = shadow_words w in
       let b = F.bounds_in v in
-      (λ i. pick ((shadow-is w h ∙ sym h) i && lies) (Is (record { point = F.point_in v; bounds = b; next = behind at (F.point_in v).figures b })) NoPoint)
-      ∙ ap (λ (q : P.Point). pick (is_point w && lies) (Is (record { point = q; bounds = b; next = behind at q.figures b })) NoPoint) (shadow_in w)
+      (λ i. pick ((shadow-is w h ∙ sym h) i && lies) (Some (record { point = F.point_in v; bounds = b; next = behind at (F.point_in v).figures b })) None)
+      ∙ ap (λ (q : P.Point). pick (is_point w && lies) (Some (record { point = q; bounds = b; next = behind at q.figures b })) None) (shadow_in w)
 
   by-point : (t : Bool) → is_point w ≡ t → entry_in at (shadowed_row w) pos neg ≡ shadow_found (W.entry_in at w pos neg)
   unfolding entry_in
@@ -118,11 +115,11 @@ module _ (at : Cursor) (w : List ℕ) (pos neg : ℕ) (k : leb 2 (get_or w 0 0) 
       ap (λ (v : List ℕ). entry_in at v pos neg) (pick_true (is_point w) (shadow_words w) w h) ∙ entry-shadow h ∙ sym entry_found
   by-point false h =
       ap (λ (v : List ℕ). entry_in at v pos neg) (row-real w h)
-      ∙ pick-false (F.is_point w && within at (F.point_in w).figures (F.bounds_in w) pos neg) _ NoPoint
+      ∙ pick-false (F.is_point w && within at (F.point_in w).figures (F.bounds_in w) pos neg) _ None
       (ap (λ (t : Bool). t && within at (F.point_in w).figures (F.bounds_in w) pos neg) (not-real w k))
-      ∙ sym (entry_found ∙ pick-false (is_point w && lies) _ NoPoint (ap (λ (t : Bool). t && lies) h))
+      ∙ sym (entry_found ∙ pick-false (is_point w && lies) _ None (ap (λ (t : Bool). t && lies) h))
 
-if-there : (t : Bool) (f : WF.Found) → pick t NoPoint (shadow_found f) ≡ shadow_found (pick t WV.NoPoint f)
+if-there : (t : Bool) (f : Option WE.Entry) → pick t None (shadow_found f) ≡ shadow_found (pick t None f)
 unfolding pick
 if-there true f = refl
 if-there false f = refl
@@ -134,7 +131,7 @@ module _ (at : Cursor) (ws : List (List ℕ)) (pos neg : ℕ) where
   point-shadow k =
       let w = get_or ws at.place [] in
       by_row at ws pos neg
-      ∙ ap (pick (leb (length ws) at.place) NoPoint) (by-point at w pos neg k (is_point w) refl)
+      ∙ ap (pick (leb (length ws) at.place) None) (by-point at w pos neg k (is_point w) refl)
       ∙ if-there (leb (length ws) at.place) (W.entry_in at w pos neg)
 
 -- and it agrees, under size 160 and scale 10, where its shadow does: 8 where it does not, and 11 where it does. "An i64 point gives 11 .. right
@@ -165,10 +162,10 @@ whole-alike at x h =
 
 module _ (m : ℕ) (x : Source) (real : (i : ℕ) → i < m → is_point (get_or x.list.words i []) ≡ false) where
   by-found : (n : ℕ) → ((at : Cursor) → at.place + n ≤ m → from n at (shadowed x) ≡ from n at x) → (at : Cursor) → at.place + suc n ≤ m
-      → row_there at x ≡ true → (f : Found) → whole_at at x ≡ f → from (suc n) at (shadowed x) ≡ from (suc n) at x
-  by-found n again at l t NoPoint h =
+      → row_there at x ≡ true → (f : Option Entry) → whole_at at x ≡ f → from (suc n) at (shadowed x) ≡ from (suc n) at x
+  by-found n again at l t None h =
       pointless n at (shadowed x) t (whole-alike at x (real at.place (omega arith)) ∙ h) ∙ sym (pointless n at x t h)
-  by-found n again at l t (Is e) h =
+  by-found n again at l t (Some e) h =
       let p : e.next.place ≡ at.place + 1 = ap (λ (c : Cursor). c.place) (whole-next at x e h) in
       read-on n at (shadowed x) t e (whole-alike at x (real at.place (omega arith)) ∙ h)
       ∙ ap (Option.map (λ s. entry_here at x e ∷ s)) (again e.next (omega (arith, p)))

@@ -1,6 +1,6 @@
 -- BETWEEN OUR OWN CRATES: serves inner contracts and proofs; nobody needs it to believe the public calls or the theorems.
 -- A list walked point by point, as the code walks it: judged, and put into bytes. Assumes nothing.
-use Rattle.std.specs.Prelude.{ℕ, zero, suc, ◌+◌, ◌-◌, ◌*◌, ◌/◌, ◌≤◌, ◌≡◌, Bool, not, ◌&&◌, ◌||◌, List, [], ◌∷◌, ◌++◌, map, leb, ltb, eqb, length, get_or, Float}
+use Rattle.std.specs.Prelude.{ℕ, zero, suc, ◌+◌, ◌-◌, ◌*◌, ◌/◌, ◌≤◌, ◌≡◌, Bool, not, ◌&&◌, ◌||◌, List, [], ◌∷◌, ◌++◌, map, leb, ltb, eqb, length, get_or, Float, Option, Some, None}
 use Rattle.laws.specs.Pick.{pick}
 use Rattle.sets.specs.All.{allb}
 use Rattle.sets.specs.Rows.{size, set_of, below}
@@ -11,10 +11,8 @@ use Rattle.whole_point.specs.Handing.{shadow_point}
 use Rattle.listing.specs.Listed.{stored_at}
 use Rattle.listing.specs.declared.Cursor.{Cursor}
 use Rattle.listing.specs.declared.Entry as Listing
-use Rattle.listing.specs.declared.Found.{Found}
-use Rattle.listing.specs.declared.Found.TheVariants.{NoPoint, Is}
-use Rattle.whole_listing.specs.declared.Found as W
-use Rattle.whole_listing.specs.declared.Found.TheVariants as WF
+use Rattle.listing.specs.declared.Entry.{Entry}
+use Rattle.whole_listing.specs.declared.Entry as WE
 use Rattle.pooling.specs.Lists.{Source, whole_at}
 use Rattle.pooling.specs.Entries.{Whole}
 use Rattle.records.specs.Records.{padded}
@@ -39,21 +37,21 @@ abbrev pub row_taken : ℕ → List (List ℕ) → Bool
 row_taken i sets = ltb i (length sets) && (row_fine (get_or sets i []) && follows i (get_or sets (i - 1) []) (get_or sets i []))
 
 -- the shadow of a point of i64 values that was found
-abbrev pub shadow_found : W.Found → Found
-shadow_found WF.NoPoint = NoPoint
-shadow_found (WF.Is e) = Is (record { point = shadow_point e.point; bounds = e.bounds; next = e.next })
+abbrev pub shadow_found : Option WE.Entry → Option Entry
+shadow_found None = None
+shadow_found (Some e) = Some (record { point = shadow_point e.point; bounds = e.bounds; next = e.next })
 
-abbrev pub agreeing : Cursor → Source → Found → Found
-agreeing at x NoPoint = NoPoint
-agreeing at x (Is e) = pick (agrees_alone (stored_at at e x.bounds x.list)) (Is e) NoPoint
+abbrev pub agreeing : Cursor → Source → Option Entry → Option Entry
+agreeing at x None = None
+agreeing at x (Some e) = pick (agrees_alone (stored_at at e x.bounds x.list)) (Some e) None
 
 -- what the agreement of a point found is asked of: counts and bounds
 abbrev pub lent_beside : List ℕ → List ℕ → List Float → Source
 lent_beside pos neg bounds = record { list = record { sets = []; words = []; pos = pos; neg = neg }; bounds = bounds }
 
 -- the point at a cursor, if it can be written behind the one before it
-unfoldable pub step_at : Cursor → Source → Found
-step_at at x = pick (row_taken at.place x.list.sets) (agreeing at x (whole_at at x)) NoPoint
+unfoldable pub step_at : Cursor → Source → Option Entry
+step_at at x = pick (row_taken at.place x.list.sets) (agreeing at x (whole_at at x)) None
 
 -- a point's counts lie behind its cursor, and are few
 pub record Spanned (at : Cursor) (e : Listing.Entry) : Type 0 where
@@ -70,7 +68,7 @@ width_at at e = words_for e.bounds.len (e.next.pos - at.pos + (e.next.neg - at.n
 -- n points from a cursor on, k words behind others; how many words there are then
 abbrev pub judged_from : ℕ → Cursor → ℕ → Source → Option ℕ
 judged_from zero at k x = Some k
-judged_from (suc n) at k x = elim (step_at at x) [ NoPoint ↦ None | Is e ↦ judged_from n e.next (k + width_at at e) x ]
+judged_from (suc n) at k x = elim (step_at at x) [ None ↦ None | Some e ↦ judged_from n e.next (k + width_at at e) x ]
 
 unfoldable pub judged : ℕ → Source → Option ℕ
 judged n x = pick (leb n most_points) (judged_from n origin 0 x) None
@@ -95,7 +93,7 @@ point_words at row x e =
 abbrev pub put_from : ℕ → Cursor → ℕ → ℕ → ℕ → Source → List ℕ → List ℕ
 put_from zero at info records k x s = s
 put_from (suc n) at info records k x s =
-    elim (whole_at at x) [ NoPoint ↦ s | Is e ↦ put_from n e.next info records (k + width_at at e) x (laid info records k (point_words at (get_or x.list.sets at.place []) x e) s) ]
+    elim (whole_at at x) [ None ↦ s | Some e ↦ put_from n e.next info records (k + width_at at e) x (laid info records k (point_words at (get_or x.list.sets at.place []) x e) s) ]
 
 unfoldable pub put_sheet : Header → ℕ → ℕ → Source → List ℕ → List ℕ
 put_sheet h n records x s =

@@ -4,7 +4,7 @@ ghost use Rattle.pooling.specs.Lists.{source, nameless, bounded, whole_at};
 ghost use Rattle.sheet_writing.specs.Writing.{shadowed};
 ghost use Rattle.sheet_writing.specs.Inner.{follows, row_taken, shadow_found, lent_beside, agreeing, step_at, Spanned, width_at, judged, no_kind};
 
-use listing::{Cursor, Entry, Found};
+use listing::{Cursor, Entry};
 
 // Whether the set of row b may stand at place i, behind that of row a.
 fn may_follow(i: usize, a: &[u64; 9], b: &[u64; 9]) -> bool
@@ -48,20 +48,20 @@ fn row_taken(i: usize, sets: &[[u64; 9]]) -> bool
 }
 
 // The shadow of a point of i64 values that was found, if its bounds lie in a store of so many.
-fn shadow_found(many: usize, found: whole_listing::Found) -> Found
+fn shadow_found(many: usize, found: Option<whole_listing::Entry>) -> Option<Entry>
     ensures { result ≡ bounded many (shadow_found found) }
 {
     match found {
-        whole_listing::Found::NoPoint => Found::NoPoint,
-        whole_listing::Found::Is(e) => {
+        None => None,
+        Some(e) => {
             let b = e.bounds;
             if !listing::read::lie(b.start, b.len, many) {
-                return Found::NoPoint;
+                return None;
             }
             let p = e.point;
             let shadow = whole_point::shadow_of(p);
             let next = e.next;
-            Found::Is(Entry {
+            Some(Entry {
                 point: shadow,
                 bounds: b,
                 next,
@@ -71,7 +71,7 @@ fn shadow_found(many: usize, found: whole_listing::Found) -> Found
 }
 
 // The point at a cursor, one of i64 values as its shadow, if it is there with its counts and its bounds.
-fn shadow_at(at: Cursor, words: &[[u64; 12]], pos: &[u64], neg: &[u64], bounds: &[f64]) -> Found
+fn shadow_at(at: Cursor, words: &[[u64; 12]], pos: &[u64], neg: &[u64], bounds: &[f64]) -> Option<Entry>
     ensures { result ≡ whole_at at (shadowed (nameless words.now pos.now neg.now bounds.now)) }
 {
     if !whole_listing::decode::is_whole(at, words) {
@@ -84,25 +84,25 @@ fn shadow_at(at: Cursor, words: &[[u64; 12]], pos: &[u64], neg: &[u64], bounds: 
 // The point found at a cursor, if it agrees with itself.
 fn agreeing_at<'a>(
     at: Cursor,
-    found: Found,
+    found: Option<Entry>,
     pos: &'a [u64],
     neg: &'a [u64],
     bounds: &[f64],
-) -> Found
+) -> Option<Entry>
     ensures { result ≡ agreeing at (lent_beside pos.now neg.now bounds.now) found }
 {
     match found {
-        Found::NoPoint => Found::NoPoint,
-        Found::Is(e) => {
+        None => None,
+        Some(e) => {
             let p = e.point;
             let next = e.next;
             let xs = listing::read::row_at(at, next, false, pos, neg);
             let ys = listing::read::row_at(at, next, true, pos, neg);
             let own = listing::read::bounds_at(e.bounds, bounds);
             if point::agrees_alone(p, own, xs, ys) {
-                return Found::Is(e);
+                return Some(e);
             }
-            Found::NoPoint
+            None
         }
     }
 }
@@ -115,11 +115,11 @@ fn step_at<'a>(
     pos: &'a [u64],
     neg: &'a [u64],
     bounds: &[f64],
-) -> Found
+) -> Option<Entry>
     ensures { result ≡ step_at at (shadowed (source sets.now words.now pos.now neg.now bounds.now)) }
 {
     if !row_taken(at.place, sets) {
-        return Found::NoPoint;
+        return None;
     }
     let found = shadow_at(at, words, pos, neg, bounds);
     agreeing_at(at, found, pos, neg, bounds)
@@ -158,7 +158,7 @@ pub fn judge<'a>(
     let mut cells: usize = 0;
     let mut i: usize = 0;
     while i < n {
-        let Found::Is(e) = step_at(at, sets, words, pos, neg, bounds) else {
+        let Some(e) = step_at(at, sets, words, pos, neg, bounds) else {
             return None;
         };
         cells += width_at(at, e);

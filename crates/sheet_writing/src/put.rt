@@ -9,7 +9,7 @@ ghost use Rattle.pooling.specs.Lists.{source};
 ghost use Rattle.point.specs.Handing.{stored};
 ghost use Rattle.sheet_writing.specs.Inner.{lent_beside, width_at, point_words, whole_there, Judgement, put_sheet};
 
-use listing::{Cursor, Entry, Found, Span};
+use listing::{Cursor, Entry, Span};
 use point::Point;
 use records::chain::{emit, emit_run, emit_zeros, width_of};
 use sheets::Header;
@@ -154,7 +154,7 @@ pub fn put_sheet<'a>(
     let mut k: usize = 3;
     let mut i: usize = 0;
     while i < n {
-        let Found::Is(e) = pooling::entries::whole_at(at, words, pos, neg, bounds) else {
+        let Some(e) = pooling::entries::whole_at(at, words, pos, neg, bounds) else {
             return;
         };
         let row = sets[i];

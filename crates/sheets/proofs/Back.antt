@@ -20,7 +20,7 @@ use Rattle.laws.proofs.Bools.{flag, and_left, and_right, and_intro, beq-says, pi
 use Rattle.laws.proofs.Cases.{some_inj, none-not-some}
 use Rattle.index.specs.Bins.{finest, lowest_bin, end_bin}
 use Rattle.floats.specs.Answers.{is_shown, bits_of}
-use Rattle.floats.specs.declared.Extreme.{Extreme}
+use Rattle.std.specs.Prelude.{Option}
 use Rattle.points.specs.Figures.{most_size}
 use Rattle.points.specs.Handed.{counts_agree, finite_or_none, shown_as_due, extremes_agree}
 use Rattle.points.proofs.Agreement.{agrees-says}
@@ -84,7 +84,7 @@ narrow (Exponential c) bs xs ys b s h =
     )
 narrow (Explicit m) bs xs ys b s h = tt
 
-both-shown : (due : Bool) (x y : Extreme) → extremes_agree due x y ≡ true → is_shown y ≡ is_shown x
+both-shown : (due : Bool) (x y : Option Float) → extremes_agree due x y ≡ true → is_shown y ≡ is_shown x
 both-shown due x y h =
     let k : shown_as_due due x y ≡ true = and_right (finite_or_none x y) (shown_as_due due x y) h in
     let p = beq-says (is_shown x) due (and_left (beq (is_shown x) due) (beq (is_shown y) due) k) in

@@ -11,7 +11,7 @@ use Rattle.laws.specs.Lists.{All}
 use Rattle.laws.specs.Pick.{pick}
 use Rattle.sets.specs.All.{allb}
 use Rattle.sets.specs.Rows.{row_of, soundb}
-use Rattle.floats.specs.declared.Extreme.TheVariants.{Value}
+use Rattle.std.specs.Prelude.{Some}
 use Rattle.points.specs.Agreement.{agrees, row_agrees}
 use Rattle.points.specs.Explicit.{bounds_pass, no_nan, rising, buckets_agree}
 use Rattle.points.specs.Handed.{handed_agrees}
@@ -40,8 +40,8 @@ run =
               neg = record { start = 2047; len = 1 };
             });
             extremes = true;
-            min = Value (of_bits binary64 0xbff0_0000_0000_0000);
-            max = Value (of_bits binary64 0x4008_0000_0000_0000);
+            min = Some (of_bits binary64 0xbff0_0000_0000_0000);
+            max = Some (of_bits binary64 0x4008_0000_0000_0000);
             sum = of_bits binary64 0x4014_0000_0000_0000;
           };
           bounds = [];
@@ -91,8 +91,8 @@ buckets =
           point = record {
             figures = Explicit 4;
             extremes = true;
-            min = Value (of_bits binary64 0xbff0_0000_0000_0000);
-            max = Value (of_bits binary64 0x4000_0000_0000_0000);
+            min = Some (of_bits binary64 0xbff0_0000_0000_0000);
+            max = Some (of_bits binary64 0x4000_0000_0000_0000);
             sum = of_bits binary64 0x3ffc_0000_0000_0000;
           };
           bounds = of_bits binary64 0 ∷ of_bits binary64 0x3fe0_0000_0000_0000 ∷ of_bits binary64 0x3ff0_0000_0000_0000 ∷ [];

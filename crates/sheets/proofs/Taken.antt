@@ -22,8 +22,7 @@ use Rattle.listing.specs.Words.{point_in, bounds_in}
 use Rattle.listing.specs.Listed.{Output, behind, point_at, stored_at, found_at, read_from}
 use Rattle.listing.specs.declared.Cursor.{Cursor}
 use Rattle.listing.specs.declared.Entry as F
-use Rattle.listing.specs.declared.Found.{Found}
-use Rattle.listing.specs.declared.Found.TheVariants.{NoPoint, Is}
+use Rattle.std.specs.Prelude.{Option, Some, None}
 use Rattle.pooling.specs.Lists.{Source, bounded, whole_at}
 use Rattle.pooling.proofs.Whole.{whole-told}
 use Rattle.pooling.proofs.Held.{words-read}
@@ -62,18 +61,18 @@ module _ {A : Type 0} (found : Cursor → Output → Option (A × Cursor)) (n : 
 record Took (bounds : List Float) (at : Cursor) (o : Output) (z : Stored × Cursor) : Type 0 where
   place : at.place < length o.sets
   entry : F.Entry
-  whole : whole_at at (record { list = o; bounds = bounds }) ≡ Is entry
+  whole : whole_at at (record { list = o; bounds = bounds }) ≡ Some entry
   is : (stored_at at entry bounds o, entry.next) ≡ z
 
 module _ (bounds : List Float) (at : Cursor) (o : Output) (z : Stored × Cursor) where
   abbrev x : Source
   x = record { list = o; bounds = bounds }
 
-  by_whole : (t : Bool) (f : Found) → (t ≡ true → at.place < length o.sets) → whole_at at (record { list = o; bounds = bounds }) ≡ f
-      → pick t (elim f [ NoPoint ↦ none | Is e ↦ some (stored_at at e bounds o, e.next) ]) none ≡ some z → Took bounds at o z
+  by_whole : (t : Bool) (f : Option Entry) → (t ≡ true → at.place < length o.sets) → whole_at at (record { list = o; bounds = bounds }) ≡ f
+      → pick t (elim f [ None ↦ none | Some e ↦ some (stored_at at e bounds o, e.next) ]) none ≡ some z → Took bounds at o z
   unfolding pick
-  by_whole true NoPoint p e h = none-not-some h
-  by_whole true (Is y) p e h = record { place = p refl; entry = y; whole = e; is = some_inj h }
+  by_whole true None p e h = none-not-some h
+  by_whole true (Some y) p e h = record { place = p refl; entry = y; whole = e; is = some_inj h }
   by_whole false f p e h = none-not-some h
 
   took : whole_found bounds at o ≡ some z → Took bounds at o z
@@ -85,21 +84,21 @@ module _ (bounds : List Float) (at : Cursor) (o : Output) (z : Stored × Cursor)
 -- ---- listing finds it too
 
 by-room : {B : Type 0} (t : Bool) (y : F.Entry) (g : F.Entry → B) (b : B)
-    → elim (pick {A = Found} t (Is y) NoPoint) [ NoPoint ↦ none | Is e ↦ some (g e) ] ≡ some b → some (g y) ≡ some b
+    → elim (pick {A = (Option Entry)} t (Some y) None) [ None ↦ none | Some e ↦ some (g e) ] ≡ some b → some (g y) ≡ some b
 unfolding pick
 by-room true y g b h = h
 by-room false y g b h = none-not-some h
 
-bounded-found : {B : Type 0} (n : ℕ) (f : Found) (g : F.Entry → B) (b : B) → elim (bounded n f) [ NoPoint ↦ none | Is e ↦ some (g e) ] ≡ some b
-    → elim f [ NoPoint ↦ none | Is e ↦ some (g e) ] ≡ some b
-bounded-found n NoPoint g b h = h
-bounded-found n (Is y) g b h = by-room (leb (y.bounds.start + y.bounds.len) n) y g b h
+bounded-found : {B : Type 0} (n : ℕ) (f : Option Entry) (g : F.Entry → B) (b : B) → elim (bounded n f) [ None ↦ none | Some e ↦ some (g e) ] ≡ some b
+    → elim f [ None ↦ none | Some e ↦ some (g e) ] ≡ some b
+bounded-found n None g b h = h
+bounded-found n (Some y) g b h = by-room (leb (y.bounds.start + y.bounds.len) n) y g b h
 
 whole-found : (bounds : List Float) (at : Cursor) (o : Output) (z : Stored × Cursor) → whole_found bounds at o ≡ some z → found_at bounds at o ≡ some z
 whole-found bounds at o z h =
     let t = took bounds at o z h in
     bounded-found (length bounds) (point_at at o.words (length o.pos) (length o.neg)) (λ e. (stored_at at e bounds o, e.next)) z
-    (ap (λ (f : Found). elim f [ NoPoint ↦ none | Is e ↦ some (stored_at at e bounds o, e.next) ]) t.whole ∙ ap some t.is)
+    (ap (λ (f : Option Entry). elim f [ None ↦ none | Some e ↦ some (stored_at at e bounds o, e.next) ]) t.whole ∙ ap some t.is)
 
 found_from : (bounds : List Float) (o : Output) (n : ℕ) (at : Cursor) (es : List Entry)
     → read_from (whole_found bounds) n at o ≡ some es → read_from (found_at bounds) n at o ≡ some es

@@ -1,5 +1,5 @@
 -- A list of points in lent stores (docs/LIST.md) and the entries of a sheet: taken from a list, and laid into one. Assumes nothing.
-use Rattle.std.specs.Prelude.{ℕ, ◌+◌, ◌≤◌, ◌<◌, ◌≡◌, Bool, true, ◌&&◌, List, [], ◌∷◌, ◌++◌, map, leb, ltb, length, get_or, Float}
+use Rattle.std.specs.Prelude.{ℕ, ◌+◌, ◌≤◌, ◌<◌, ◌≡◌, Bool, true, ◌&&◌, List, [], ◌∷◌, ◌++◌, map, leb, ltb, length, get_or, Float, Some, None}
 use Rattle.std.proofs.Math.Option.{Option, none, some}
 use Rattle.std.specs.Float.{binary64}
 use Rattle.std.specs.Float.Ieee.{fits}
@@ -12,7 +12,6 @@ use Rattle.point.specs.Handing.{Stored}
 use Rattle.listing.specs.Words.{words_of}
 use Rattle.listing.specs.Listed.{Output, stored_at, read_from}
 use Rattle.listing.specs.declared.Cursor.{Cursor}
-use Rattle.listing.specs.declared.Found.TheVariants.{NoPoint, Is}
 use Rattle.pooling.specs.Lists.{Source, whole_at}
 use Rattle.sheets.specs.Entries.{Entry}
 use Rattle.sheets.specs.Sheet.{same_list}
@@ -24,7 +23,7 @@ abbrev pub whole_found : List Float → Cursor → Output → Option (Stored × 
 whole_found bounds at o =
     let row = get_or o.sets at.place [] in
     pick (ltb at.place (length o.sets) && same_list (row_of (set_of row)) row)
-    (elim (whole_at at (record { list = o; bounds = bounds })) [ NoPoint ↦ none | Is e ↦ some (stored_at at e bounds o, e.next) ])
+    (elim (whole_at at (record { list = o; bounds = bounds })) [ None ↦ none | Some e ↦ some (stored_at at e bounds o, e.next) ])
     none
 
 -- n points of a list, from its first place on; none unless all of them are there

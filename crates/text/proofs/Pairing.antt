@@ -8,8 +8,7 @@ use Rattle.laws.proofs.Bools.{not-both, and_left, and_right, and_intro, pick_tru
 use Rattle.laws.proofs.Differences.{le_or-lt}
 use Rattle.text.specs.Numbers.{digit_of, spelled_from}
 use Rattle.text.specs.Pairs.{is_decimal, is_letter, are_hex, pair_of, Paired, joined_to}
-use Rattle.text.specs.declared.numbers.Natural.{Natural}
-use Rattle.text.specs.declared.numbers.Natural.TheVariants as N
+use Rattle.std.specs.Prelude.{Option, Some, None}
 use Rattle.text.proofs.Spelling.{from-here, next_digit}
 
 -- the n numbers from a to m, tested by a difference that wraps
@@ -158,13 +157,13 @@ hex-both false true r h = (inr refl, h)
 hex-both false false r h = absurd (not-both false h refl)
 
 -- none by either choice
-pub pick-none : (t : Bool) (n : Natural) → n ≡ N.None → pick t N.None n ≡ N.None
+pub pick-none : (t : Bool) (n : Option ℕ) → n ≡ None → pick t None n ≡ None
 unfolding pick
 pick-none true n h = refl
 pick-none false n h = h
 
 -- one that is no digit makes all none
-pub hex-none : (x : ℕ) (bs : List ℕ) → are_hex bs ≡ false → spelled_from 16 x bs ≡ N.None
+pub hex-none : (x : ℕ) (bs : List ℕ) → are_hex bs ≡ false → spelled_from 16 x bs ≡ None
 unfolding are_hex spelled_from
 hex-none x [] h = absurd (not-both true refl h)
 hex-none x (b ∷ bs) h =
@@ -289,7 +288,7 @@ joined-turn x i y bs l e s q =
     (omega (arith, r, l), joined-more x i y bs e q)
 
 -- all eight
-pub bits-joined : (bs out : List ℕ) → are_hex bs ≡ true → length bs ≡ 16 → Paired bs 8 out → spelled_from 16 0 bs ≡ N.Is (joined_to 8 out)
+pub bits-joined : (bs out : List ℕ) → are_hex bs ≡ true → length bs ≡ 16 → Paired bs 8 out → spelled_from 16 0 bs ≡ Some (joined_to 8 out)
 unfolding spelled_from
 bits-joined bs out h l p =
     let g : length bs ≤ 2 * 8 = omega arith in

@@ -7,7 +7,7 @@ use Rattle.laws.specs.Pick.{pick}
 use Rattle.laws.proofs.Bools.{pick_true, pick-false}
 use Rattle.laws.proofs.Differences.{le_or-lt}
 use Rattle.text.specs.Numbers.{digit_of, spelled_from, bits_of, glyph_of, hex_digits}
-use Rattle.text.specs.declared.numbers.Natural.TheVariants as N
+use Rattle.std.specs.Prelude.{Some}
 
 glyph_digit : (d : ℕ) → d < 16 → digit_of (glyph_of d) ≡ d
 unfolding digit_of glyph_of pick
@@ -31,9 +31,9 @@ total k x n =
     let s : x * 16 ^ suc k ≡ x * 16 * q = ap (λ (m : ℕ). x * m) (pow-succ' 16 k) ∙ sym (mul_assoc x 16 q) in
     omega (arith, p, s, add-mul (x * 16) d q)
 
-spelled_hex : (k x n : ℕ) → x * 16 ^ k + n % 16 ^ k < 2 ^ 64 → spelled_from 16 x (hex_digits k n) ≡ N.Is (x * 16 ^ k + n % 16 ^ k)
+spelled_hex : (k x n : ℕ) → x * 16 ^ k + n % 16 ^ k < 2 ^ 64 → spelled_from 16 x (hex_digits k n) ≡ Some (x * 16 ^ k + n % 16 ^ k)
 unfolding spelled_from hex_digits
-spelled_hex zero x n h = let e : x ≡ x * 1 + n % 1 = omega arith in ap N.Is e
+spelled_hex zero x n h = let e : x ≡ x * 1 + n % 1 = omega arith in ap Some e
 spelled_hex (suc k) x n h =
     let d = n / 16 ^ k % 16 in
     let l : d < 16 = mod-lt (n / 16 ^ k) (lit< tt) in
@@ -45,18 +45,18 @@ spelled_hex (suc k) x n h =
     ∙ pick-false _ _ _ (lt-leb (2 ^ 64) (x * 16 + digit_of (glyph_of d)) (subst (λ (y : ℕ). x * 16 + y < 2 ^ 64) (sym e) m))
     ∙ ap (λ (y : ℕ). spelled_from 16 (x * 16 + y) (hex_digits k n)) e
     ∙ spelled_hex k (x * 16 + d) n b
-    ∙ ap N.Is (sym t)
+    ∙ ap Some (sym t)
 
 length_hex : (k n : ℕ) → length (hex_digits k n) ≡ k
 unfolding hex_digits
 length_hex zero n = refl
 length_hex (suc k) n = ap suc (length_hex k n)
 
-pub read_back : (n : ℕ) → n < 2 ^ 64 → bits_of (hex_digits 16 n) ≡ N.Is n
+pub read_back : (n : ℕ) → n < 2 ^ 64 → bits_of (hex_digits 16 n) ≡ Some n
 unfolding bits_of
 read_back n h =
     let e : n % 16 ^ 16 ≡ n = mod-eq_of_lt h in
     let t : 0 * 16 ^ 16 + n % 16 ^ 16 ≡ n = omega (arith, e) in
     pick_true _ _ _ (eq-eqb (length (hex_digits 16 n)) 16 (length_hex 16 n))
     ∙ spelled_hex 16 0 n (omega (arith, t, h))
-    ∙ ap N.Is t
+    ∙ ap Some t

@@ -5,18 +5,18 @@ use borrow.Author.Tests.{lt-leb}
 use Rattle.laws.specs.Pick.{pick}
 use Rattle.laws.proofs.Bools.{not-both, pick_true, pick-false}
 use Rattle.text.specs.Numbers.{digit_of, spelled_from, has_minus, glyph_of, hex_digits}
-use Rattle.text.specs.declared.numbers.Natural.TheVariants as N
+use Rattle.std.specs.Prelude.{None}
 
 -- the list from a place on, by the element there
 pub from-here : (i : ℕ) (bs : List ℕ) → i < length bs → drop i bs ≡ get_or bs i 0 ∷ drop (i + 1) bs
 from-here i bs h = drop-cons bs i 0 h ∙ ap (λ (k : ℕ). get_or bs i 0 ∷ drop k bs) (sym (add-one i))
 
 module _ (base x i : ℕ) (bs : List ℕ) (h : i < length bs) where
-  pub no_digit : base ≤ digit_of (get_or bs i 0) → spelled_from base x (drop i bs) ≡ N.None
+  pub no_digit : base ≤ digit_of (get_or bs i 0) → spelled_from base x (drop i bs) ≡ None
   unfolding spelled_from
   no_digit l = ap (spelled_from base x) (from-here i bs h) ∙ pick_true _ _ _ (le-leb base (digit_of (get_or bs i 0)) l)
 
-  pub too_large : digit_of (get_or bs i 0) < base → 2 ^ 64 ≤ x * base + digit_of (get_or bs i 0) → spelled_from base x (drop i bs) ≡ N.None
+  pub too_large : digit_of (get_or bs i 0) < base → 2 ^ 64 ≤ x * base + digit_of (get_or bs i 0) → spelled_from base x (drop i bs) ≡ None
   unfolding spelled_from
   too_large l g =
       ap (spelled_from base x) (from-here i bs h)

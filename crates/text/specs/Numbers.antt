@@ -1,9 +1,7 @@
 -- How numbers are spelled. Document 01: 'decimals have no plus sign, leading zero or -0; bits use 0-9 and A-F', and 'f64 bits are
 -- written as 16 hexadecimal digits'. Bytes are ASCII. Assumes nothing.
-use Rattle.std.specs.Prelude.{ℕ, zero, suc, ◌+◌, ◌-◌, ◌*◌, ◌/◌, ◌%◌, ◌^◌, Bool, true, false, List, [], ◌∷◌, length, drop, ◌==◌, nat_le, nat_lt, slice_index}
+use Rattle.std.specs.Prelude.{ℕ, zero, suc, ◌+◌, ◌-◌, ◌*◌, ◌/◌, ◌%◌, ◌^◌, Bool, true, false, List, [], ◌∷◌, length, drop, ◌==◌, nat_le, nat_lt, slice_index, Option, Some, None}
 use Rattle.laws.specs.Pick.{pick}
-use Rattle.text.specs.declared.numbers.Natural.{Natural}
-use Rattle.text.specs.declared.numbers.Natural.TheVariants as N
 use Rattle.text.specs.declared.numbers.Integer.{Integer}
 use Rattle.text.specs.declared.numbers.Integer.TheVariants as I
 
@@ -13,32 +11,32 @@ digit_of b = pick (nat_lt b 48) 16 (pick (nat_le b 57) (b - 48) (pick (nat_lt b 
 
 -- What digits say behind those that said x: a digit is worth base times the one behind it. None where a byte is no digit of the base, or
 -- where the number is above 2^64 - 1.
-unfoldable pub spelled_from : ℕ → ℕ → List ℕ → Natural
-spelled_from base x [] = N.Is x
+unfoldable pub spelled_from : ℕ → ℕ → List ℕ → Option ℕ
+spelled_from base x [] = Some x
 spelled_from base x (b ∷ bs) =
-    pick (nat_le base (digit_of b)) N.None (pick (nat_le (2 ^ 64) (x * base + digit_of b)) N.None (spelled_from base (x * base + digit_of b) bs))
+    pick (nat_le base (digit_of b)) None (pick (nat_le (2 ^ 64) (x * base + digit_of b)) None (spelled_from base (x * base + digit_of b) bs))
 
 -- no byte, or a zero before others
 unfoldable pub ill_led : List ℕ → Bool
 ill_led bs = pick (length bs == 0) true (pick (length bs == 1) false (slice_index bs 0 == 48))
 
-unfoldable pub decimal_of : List ℕ → Natural
-decimal_of bs = pick (ill_led bs) N.None (spelled_from 10 0 bs)
+unfoldable pub decimal_of : List ℕ → Option ℕ
+decimal_of bs = pick (ill_led bs) None (spelled_from 10 0 bs)
 
-unfoldable pub bits_of : List ℕ → Natural
-bits_of bs = pick (length bs == 16) (spelled_from 16 0 bs) N.None
+unfoldable pub bits_of : List ℕ → Option ℕ
+bits_of bs = pick (length bs == 16) (spelled_from 16 0 bs) None
 
 -- whether a minus sign, the byte 45, stands first
 unfoldable pub has_minus : List ℕ → Bool
 has_minus bs = pick (length bs == 0) false (slice_index bs 0 == 45)
 
-abbrev pub with_minus : Natural → Integer
-with_minus N.None = I.None
-with_minus (N.Is x) = pick (x == 0) I.None (I.Is true x)
+abbrev pub with_minus : Option ℕ → Integer
+with_minus None = I.None
+with_minus (Some x) = pick (x == 0) I.None (I.Is true x)
 
-abbrev pub without_minus : Natural → Integer
-without_minus N.None = I.None
-without_minus (N.Is x) = I.Is false x
+abbrev pub without_minus : Option ℕ → Integer
+without_minus None = I.None
+without_minus (Some x) = I.Is false x
 
 -- a decimal, or a minus sign and a decimal other than 0: whether there is a sign, and the decimal
 unfoldable pub signed_of : List ℕ → Integer

@@ -3,7 +3,7 @@ ghost use Rattle.std.specs.Prelude.{◌≡◌, ◌+◌, ◌-◌, ◌≤◌, leng
 ghost use Rattle.text.specs.Numbers.{decimal_of, bits_of, signed_of};
 ghost use Rattle.text.specs.Fields.{space, spaces_of, until, start_of, field_of};
 
-use crate::numbers::{Integer, Natural};
+use crate::numbers::Integer;
 
 // Where a field starts and ends.
 #[derive(Clone, Copy)]
@@ -81,7 +81,7 @@ pub fn field(line: &[u8], k: usize) -> Part
 }
 
 // The number that field k spells in decimal, or none.
-pub fn decimal_at(line: &[u8], k: usize) -> Natural
+pub fn decimal_at(line: &[u8], k: usize) -> Option<u64>
     ensures { result ≡ decimal_of (field_of line.now k) }
 {
     let p = field(line, k);
@@ -91,7 +91,7 @@ pub fn decimal_at(line: &[u8], k: usize) -> Natural
 }
 
 // The bits that field k spells in 16 hexadecimal digits, or none.
-pub fn bits_at(line: &[u8], k: usize) -> Natural
+pub fn bits_at(line: &[u8], k: usize) -> Option<u64>
     ensures { result ≡ bits_of (field_of line.now k) }
 {
     let p = field(line, k);

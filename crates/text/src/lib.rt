@@ -8,5 +8,5 @@ mod numbers;
 mod written;
 
 pub use fields::{Part, bits_at, byte_at, decimal_at, end, field, signed_at, spaces};
-pub use numbers::{Integer, Natural, bits, decimal, digit, ill_led};
+pub use numbers::{Integer, bits, decimal, digit, ill_led};
 pub use written::hex_digits;

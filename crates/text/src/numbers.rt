@@ -5,12 +5,6 @@ ghost use Rattle.text.specs.Numbers.{digit_of, spelled_from, ill_led, decimal_of
 ghost use Rattle.text.specs.Pairs.{is_decimal, is_letter, are_hex, pair_of, Paired, joined_to};
 
 #[derive(Clone, Copy)]
-pub enum Natural {
-    None,
-    Is(u64),
-}
-
-#[derive(Clone, Copy)]
 pub enum Integer {
     None,
     Is(bool, u64),
@@ -30,7 +24,7 @@ pub fn digit(byte: u8) -> u64
 }
 
 // The number that decimal digits spell.
-fn spelled(bytes: &[u8]) -> Natural
+fn spelled(bytes: &[u8]) -> Option<u64>
     ensures { result ≡ spelled_from 10 0 bytes.now }
 {
     let mut x: u64 = 0;
@@ -38,15 +32,15 @@ fn spelled(bytes: &[u8]) -> Natural
     while i < bytes.len() {
         let d = digit(bytes[i]);
         if 9 < d {
-            return Natural::None;
+            return None;
         }
         if (u64::MAX - d) / 10 < x {
-            return Natural::None;
+            return None;
         }
         x = x * 10 + d;
         i += 1;
     }
-    Natural::Is(x)
+    Some(x)
 }
 
 // Whether there is no byte, or a zero before others.
@@ -64,11 +58,11 @@ pub fn ill_led(bytes: &[u8]) -> bool
 }
 
 // A decimal up to 2^64 - 1.
-pub fn decimal(bytes: &[u8]) -> Natural
+pub fn decimal(bytes: &[u8]) -> Option<u64>
     ensures { result ≡ decimal_of bytes.now }
 {
     if ill_led(bytes) {
-        return Natural::None;
+        return None;
     }
     spelled(bytes)
 }
@@ -166,24 +160,24 @@ fn joined(bytes: [u8; 8]) -> u64
 }
 
 // 16 hexadecimal digits.
-pub fn bits(bytes: &[u8]) -> Natural
+pub fn bits(bytes: &[u8]) -> Option<u64>
     ensures { result ≡ bits_of bytes.now }
 {
     if bytes.len() != 16 {
-        return Natural::None;
+        return None;
     }
     if are_hex(bytes) {
-        return Natural::Is(joined(pairs(bytes)));
+        return Some(joined(pairs(bytes)));
     }
-    Natural::None
+    None
 }
 
-fn with_minus(n: Natural) -> Integer
+fn with_minus(n: Option<u64>) -> Integer
     ensures { result ≡ with_minus n }
 {
     match n {
-        Natural::None => Integer::None,
-        Natural::Is(x) => {
+        None => Integer::None,
+        Some(x) => {
             if x == 0 {
                 return Integer::None;
             }
@@ -192,12 +186,12 @@ fn with_minus(n: Natural) -> Integer
     }
 }
 
-fn without_minus(n: Natural) -> Integer
+fn without_minus(n: Option<u64>) -> Integer
     ensures { result ≡ without_minus n }
 {
     match n {
-        Natural::None => Integer::None,
-        Natural::Is(x) => Integer::Is(false, x),
+        None => Integer::None,
+        Some(x) => Integer::Is(false, x),
     }
 }
 

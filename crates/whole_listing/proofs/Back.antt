@@ -13,8 +13,7 @@ use Rattle.laws.proofs.Cases.{true-not-false}
 use Rattle.sets.proofs.Alls.{allb-yes}
 use Rattle.floats.specs.Answers as Floats
 use Rattle.integers.specs.Answers.{in_range, is_shown, bits_of, of_bits}
-use Rattle.integers.specs.declared.Extreme.{Extreme}
-use Rattle.integers.specs.declared.Extreme.TheVariants.{None, Value}
+use Rattle.std.specs.Prelude.{Option, Some, None}
 use Rattle.integers.proofs.Range.{of-bits-of}
 use Rattle.points.specs.Shadow.{shadow_of}
 use Rattle.point.specs.declared.Point as P
@@ -33,9 +32,9 @@ use Rattle.whole_listing.proofs.Shadow.{shown-alike, shadow-words}
 
 -- ---- what a point in code is
 
-abbrev pub Ranged : Extreme → Type 0
+abbrev pub Ranged : Option ℤ → Type 0
 Ranged None = Unit
-Ranged (Value x) = in_range x ≡ true
+Ranged (Some x) = in_range x ≡ true
 
 -- level and starts are u32, an exponential point has no bounds, extremes are both shown or neither, and the numbers are i64s
 pub record Held (p : Point) (b : Span) : Type 0 where
@@ -47,9 +46,9 @@ pub record Held (p : Point) (b : Span) : Type 0 where
 
 -- ---- its shadow is held as well
 
-shadow-fits : (x : Extreme) → L.Fitting (shadow_of x)
+shadow-fits : (x : Option ℤ) → L.Fitting (shadow_of x)
 shadow-fits None = tt
-shadow-fits (Value x) = literal-fits 0
+shadow-fits (Some x) = literal-fits 0
 
 pub shadow-held : (p : Point) (b : Span) → Held p b → L.Held (shadow_point p) b
 shadow-held p b h =
@@ -66,12 +65,12 @@ shadow-held p b h =
 number-back : (z : ℤ) → in_range z ≡ true → of_bits (bits_of z) ≡ z
 number-back z h = of-bits-of z (ltb-true (mag z) (2 ^ 63) h)
 
-extreme-back : (x : Extreme) (s : Bool) → is_shown x ≡ s → Ranged x → extreme_in s (shown_bits x) ≡ x
+extreme-back : (x : Option ℤ) (s : Bool) → is_shown x ≡ s → Ranged x → extreme_in s (shown_bits x) ≡ x
 unfolding extreme_in pick
 extreme-back None true e h = true-not-false (sym e)
 extreme-back None false e h = refl
-extreme-back (Value x) true e h = ap Value (number-back x h)
-extreme-back (Value x) false e h = true-not-false e
+extreme-back (Some x) true e h = ap Some (number-back x h)
+extreme-back (Some x) false e h = true-not-false e
 
 -- an extreme is shown where the flags say so
 flagged : (s : Bool) (n : ℕ) → Floats.is_shown (F.extreme_in s n) ≡ s
@@ -117,7 +116,7 @@ module _ (p : Point) (b : Span) (h : Held p b) where
   unfolding F.point_in
   shown-back = sym (flagged (leb 2 (get_or w 8 0)) 0) ∙ ap (λ (q : P.Point). Floats.is_shown q.min) shadow-back ∙ shown-alike p.min
 
-  extreme-of : (x : Extreme) (n : ℕ) → n ≡ shown_bits x → is_shown x ≡ is_shown p.min → Ranged x → extreme_in (leb 2 (get_or w 8 0)) n ≡ x
+  extreme-of : (x : Option ℤ) (n : ℕ) → n ≡ shown_bits x → is_shown x ≡ is_shown p.min → Ranged x → extreme_in (leb 2 (get_or w 8 0)) n ≡ x
   extreme-of x n e s t = ap₂ extreme_in shown-back e ∙ extreme-back x (is_shown p.min) s t
 
   pub point-back : point_in (words_of p b) ≡ p

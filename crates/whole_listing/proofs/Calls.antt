@@ -14,11 +14,10 @@ use Rattle.listing.specs.Listed as L
 use Rattle.listing.specs.Listed.{behind, within}
 use Rattle.listing.specs.declared.Cursor.{Cursor}
 use Rattle.listing.specs.declared.Entry as Le
-use Rattle.listing.specs.declared.Found.TheVariants as LF
+use Rattle.std.specs.Prelude.{Some, None}
 use Rattle.whole_listing.specs.Words.{shadow_words, bounds_in, point_in, is_point}
 use Rattle.whole_listing.specs.Listed.{entry_in, point_at, is_whole}
 use Rattle.whole_listing.specs.Inner.{blank, own_words, numbered_found}
-use Rattle.whole_listing.specs.declared.Found.TheVariants.{NoPoint, Is}
 use Rattle.whole_listing.proofs.Reading.{Wide, shadow-is, own_is, whole_is}
 
 module _ (at : Cursor) (w : List ℕ) (pos neg : ℕ) where
@@ -29,7 +28,7 @@ module _ (at : Cursor) (w : List ℕ) (pos neg : ℕ) where
   not_own true e h = absurd (not-both (own_words w) (own_is w e) h)
   not_own false e h = refl
 
-  pub entry-no : own_words w ≡ false → NoPoint ≡ entry_in at w pos neg
+  pub entry-no : own_words w ≡ false → None ≡ entry_in at w pos neg
   unfolding entry_in
   entry-no h = sym (pick-false (is_point w && lies) _ _ (ap (λ (t : Bool). t && lies) (not_own (is_point w) refl h)))
 
@@ -43,7 +42,7 @@ module _ (at : Cursor) (w : List ℕ) (pos neg : ℕ) where
         go false true p q = absurd (not-both (F.is_point (shadow_words w)) (shadow-is w q) p)
         go false false p q = refl
 
-    found-either : (t : Bool) (e : Le.Entry) → numbered_found w (pick t (LF.Is e) LF.NoPoint) ≡ pick t (numbered_found w (LF.Is e)) NoPoint
+    found-either : (t : Bool) (e : Le.Entry) → numbered_found w (pick t (Some e) None) ≡ pick t (numbered_found w (Some e)) None
     unfolding pick
     found-either true e = refl
     found-either false e = refl
@@ -55,10 +54,10 @@ module _ (at : Cursor) (w : List ℕ) (pos neg : ℕ) where
         let v = shadow_words w in
         found-either (F.is_point v && within at (F.point_in v).figures (F.bounds_in v) pos neg)
         (record { point = F.point_in v; bounds = F.bounds_in v; next = behind at (F.point_in v).figures (F.bounds_in v) })
-        ∙ ap (λ (t : Bool). pick (t && lies) (Is (record { point = point_in w; bounds = bounds_in w; next = behind at (point_in w).figures (bounds_in w) })) NoPoint) same_test
+        ∙ ap (λ (t : Bool). pick (t && lies) (Some (record { point = point_in w; bounds = bounds_in w; next = behind at (point_in w).figures (bounds_in w) })) None) same_test
 
 module _ (at : Cursor) (words : List (List ℕ)) (pos neg : ℕ) where
-  pub nothing-there : length words ≤ at.place → NoPoint ≡ point_at at words pos neg
+  pub nothing-there : length words ≤ at.place → None ≡ point_at at words pos neg
   unfolding point_at
   nothing-there h = sym (pick_true (leb (length words) at.place) _ _ (le-leb (length words) at.place h))
 

@@ -10,7 +10,7 @@ use lib.Seq.{set-set}
 use Rattle.laws.specs.Counting.{bit}
 use Rattle.floats.specs.Answers as Floats
 use Rattle.integers.specs.Answers.{is_shown, bits_of}
-use Rattle.integers.specs.declared.Extreme.{Extreme}
+use Rattle.std.specs.Prelude.{Option}
 use Rattle.point.specs.declared.Figures.{Figures}
 use Rattle.point.specs.declared.Figures.TheVariants.{Exponential, Explicit}
 use Rattle.whole_point.specs.Handing.{shadow_point}
@@ -32,13 +32,13 @@ pub kind-least : (f : Figures) (b : Span) (l : List ℕ) → get_or (figures_wor
 kind-least (Exponential c) b l = omega arith
 kind-least (Explicit n) b l = omega arith
 
-numbers-over : (f : Figures) (b : Span) (k x y z : ℕ) (min max : Extreme) (sum : ℤ)
+numbers-over : (f : Figures) (b : Span) (k x y z : ℕ) (min max : Option ℤ) (sum : ℤ)
     → with_numbers (figures_words f b ++ (k ∷ x ∷ y ∷ z ∷ [])) min max sum ≡ raised (figures_words f b) ++ (k ∷ shown_bits min ∷ shown_bits max ∷ bits_of sum ∷ [])
 numbers-over (Exponential c) b k x y z min max sum = refl
 numbers-over (Explicit n) b k x y z min max sum = refl
 
 -- numbers over the words of an f64 point that shows extremes where they do
-pub words-made : (q : P.Point) (b : Span) (min max : Extreme) (sum : ℤ) → Floats.is_shown q.min ≡ is_shown min
+pub words-made : (q : P.Point) (b : Span) (min max : Option ℤ) (sum : ℤ) → Floats.is_shown q.min ≡ is_shown min
     → with_numbers (F.words_of q b) min max sum ≡ words_of (record { figures = q.figures; extremes = q.extremes; min = min; max = max; sum = sum }) b
 words-made q b min max sum e =
     numbers-over q.figures b _ _ _ _ min max sum

@@ -15,15 +15,15 @@ use Rattle.collecting.specs.Slots.{behind_at}
 use Rattle.collecting.proofs.Owed.{Finds}
 use Rattle.whole_listing.specs.Words.{words_of}
 use Rattle.whole_listing.specs.Listed.{stored_at, found_at}
-use Rattle.whole_listing.specs.declared.Found.{Found}
-use Rattle.whole_listing.specs.declared.Found.TheVariants.{NoPoint, Is}
+use Rattle.whole_listing.specs.declared.Entry.{Entry}
+use Rattle.std.specs.Prelude.{Option, Some, None}
 use Rattle.whole_listing.proofs.Back.{Held}
 use Rattle.whole_listing.proofs.There.{point-there, stored_there}
 
 pub finds-stored : (bounds : List Float) (p : Point) (b : Span) (ps ns : List ℕ) → Held p b → length ps ≡ pos_len p.figures b → length ns ≡ neg_len p.figures
     → Finds (found_at bounds) (words_of p b) ps ns (stored_in p (bounds_at b bounds) ps ns)
 finds-stored bounds p b ps ns h x y at o l =
-    ap (λ (f : Found). elim f [ NoPoint ↦ none | Is e ↦ some (stored_at at e bounds o, e.next) ]) (point-there at p b ps ns o h x y l)
+    ap (λ (f : Option Entry). elim f [ None ↦ none | Some e ↦ some (stored_at at e bounds o, e.next) ]) (point-there at p b ps ns o h x y l)
     ∙ (λ i. some (stored_there at p b ps ns o h x y l bounds i, record { place = at.place + 1; pos = at.pos + sym x i; neg = at.neg + sym y i }))
 
 -- and as it is handed out

@@ -6,7 +6,7 @@ use lib.IntN.{ℤ}
 use Rattle.laws.specs.Pick.{pick}
 use Rattle.floats.specs.Answers.{shows}
 use Rattle.integers.specs.Answers.{in_range, is_shown}
-use Rattle.integers.specs.declared.Extreme.TheVariants.{None, Value}
+use Rattle.std.specs.Prelude.{Some, None}
 use Rattle.points.specs.Whole.{whole}
 use Rattle.exponential_wholes.specs.declared.Head as SH
 use Rattle.explicit_wholes.specs.declared.Head as BH
@@ -14,12 +14,12 @@ use Rattle.whole_point.specs.Handing.{exponential_point, explicit_point}
 use Rattle.listing.specs.declared.Span.{Span}
 use Rattle.whole_listing.proofs.Back.{Ranged, Held}
 
-shown_ranged : (due : Bool) (x : ℤ) → in_range x ≡ true → Ranged (pick due (Value x) None)
+shown_ranged : (due : Bool) (x : ℤ) → in_range x ≡ true → Ranged (pick due (Some x) None)
 unfolding pick
 shown_ranged true x h = h
 shown_ranged false x h = tt
 
-shown-both : (due : Bool) (x y : ℤ) → is_shown (pick due (Value x) None) ≡ is_shown (pick due (Value y) None)
+shown-both : (due : Bool) (x y : ℤ) → is_shown (pick due (Some x) None) ≡ is_shown (pick due (Some y) None)
 unfolding pick
 shown-both true x y = refl
 shown-both false x y = refl

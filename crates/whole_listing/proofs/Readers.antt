@@ -23,34 +23,32 @@ use Rattle.listing.specs.Listed as L
 use Rattle.listing.specs.Listed.{Output, behind, within}
 use Rattle.listing.specs.declared.Cursor.{Cursor}
 use Rattle.listing.specs.declared.Entry as Le
-use Rattle.listing.specs.declared.Found.TheVariants as LF
+use Rattle.std.specs.Prelude.{Option, Some, None}
 use Rattle.listing.specs.declared.Span.{Span}
 use Rattle.whole_listing.specs.Words.{shadow_words, point_in, bounds_in, is_point}
 use Rattle.whole_listing.specs.Listed.{entry_in, point_at, is_whole, stored_at}
 use Rattle.whole_listing.specs.Inner.{own_words}
 use Rattle.whole_listing.specs.declared.Entry.{Entry}
-use Rattle.whole_listing.specs.declared.Found.{Found}
-use Rattle.whole_listing.specs.declared.Found.TheVariants.{NoPoint, Is}
 use Rattle.whole_listing.proofs.Shadow.{get_or-shadow}
 use Rattle.whole_listing.proofs.There.{shadow_output}
 use Rattle.whole_listing.proofs.Reading.{shadow_in, shadow-is, own_is}
 
 -- ---- what is found
 
-abbrev present : Found → Bool
-present NoPoint = false
-present (Is e) = true
+abbrev present : Option Entry → Bool
+present None = false
+present (Some e) = true
 
-abbrev entry_or : Entry → Found → Entry
-entry_or d NoPoint = d
-entry_or d (Is e) = e
+abbrev entry_or : Entry → Option Entry → Entry
+entry_or d None = d
+entry_or d (Some e) = e
 
-chosen : (t : Bool) (x e : Entry) → pick t (Is x) NoPoint ≡ Is e → (t ≡ true) × (x ≡ e)
+chosen : (t : Bool) (x e : Entry) → pick t (Some x) None ≡ Some e → (t ≡ true) × (x ≡ e)
 unfolding pick
 chosen true x e h = (refl, ap (entry_or x) h)
 chosen false x e h = true-not-false (sym (ap present h))
 
-other : (t : Bool) (f : Found) (e : Entry) → pick t NoPoint f ≡ Is e → (t ≡ false) × (f ≡ Is e)
+other : (t : Bool) (f : Option Entry) (e : Entry) → pick t None f ≡ Some e → (t ≡ false) × (f ≡ Some e)
 unfolding pick
 other true f e h = true-not-false (sym (ap present h))
 other false f e h = (refl, h)
@@ -66,7 +64,7 @@ pub record Told (at : Cursor) (words : List (List ℕ)) (pos neg : ℕ) (e : Ent
   pub entry : entry_of at (get_or words at.place []) ≡ e
 
 module _ (at : Cursor) (words : List (List ℕ)) (pos neg : ℕ) where
-  pub point-told : (e : Entry) → point_at at words pos neg ≡ Is e → Told at words pos neg e
+  pub point-told : (e : Entry) → point_at at words pos neg ≡ Some e → Told at words pos neg e
   unfolding point_at entry_in
   point-told e h =
       let w = get_or words at.place [] in
@@ -86,16 +84,16 @@ shadow_entry e = record { point = shadow_point e.point; bounds = e.bounds; next 
 
 module _ (at : Cursor) (w : List ℕ) (pos neg : ℕ) where
   shadow-entry : is_point w ≡ true → within at (point_in w).figures (bounds_in w) pos neg ≡ true
-      → L.entry_in at (shadow_words w) pos neg ≡ LF.Is (shadow_entry (entry_of at w))
+      → L.entry_in at (shadow_words w) pos neg ≡ Some (shadow_entry (entry_of at w))
   unfolding L.entry_in F.point_in point_in bounds_in
   shadow-entry h k =
       let v = shadow_words w in
       let b = F.bounds_in v in
       pick_true (F.is_point v && within at (F.point_in v).figures b pos neg) _ _ (and_intro (F.is_point v) _ (shadow-is w h) k)
-      ∙ ap (λ (q : P.Point). LF.Is (record { point = q; bounds = b; next = behind at q.figures b })) (shadow_in w)
+      ∙ ap (λ (q : P.Point). Some (record { point = q; bounds = b; next = behind at q.figures b })) (shadow_in w)
 
 module _ (at : Cursor) (words : List (List ℕ)) (pos neg : ℕ) where
-  pub shadow-found : (e : Entry) → point_at at words pos neg ≡ Is e → L.point_at at (map shadow_words words) pos neg ≡ LF.Is (shadow_entry e)
+  pub shadow-found : (e : Entry) → point_at at words pos neg ≡ Some e → L.point_at at (map shadow_words words) pos neg ≡ Some (shadow_entry e)
   unfolding L.point_at
   shadow-found e h =
       let t = point-told at words pos neg e h in
@@ -104,7 +102,7 @@ module _ (at : Cursor) (words : List (List ℕ)) (pos neg : ℕ) where
       pick-false (leb (length (map shadow_words words)) at.place) _ _ (lt-leb (length (map shadow_words words)) at.place n)
       ∙ ap (λ (v : List ℕ). L.entry_in at v pos neg) (get_or-shadow words at.place t.there)
       ∙ shadow-entry at w pos neg t.is t.counts
-      ∙ ap (λ (x : Entry). LF.Is (shadow_entry x)) t.entry
+      ∙ ap (λ (x : Entry). Some (shadow_entry x)) t.entry
 
 pub shadow-stored : (at : Cursor) (e : Entry) (bounds : List Float) (o : Output)
     → shadow_stored (stored_at at e bounds o) ≡ L.stored_at at (shadow_entry e) bounds (shadow_output o)
@@ -137,6 +135,6 @@ no-real w h = go (F.is_point w) refl
     go false e = refl
 
 -- and a reader of either number sees which one lies there
-pub whole-told : (at : Cursor) (words : List (List ℕ)) (pos neg : ℕ) (e : Entry) → point_at at words pos neg ≡ Is e → is_whole at words ≡ true
+pub whole-told : (at : Cursor) (words : List (List ℕ)) (pos neg : ℕ) (e : Entry) → point_at at words pos neg ≡ Some e → is_whole at words ≡ true
 unfolding is_whole
 whole-told at words pos neg e h = kind-whole (get_or words at.place []) (point-told at words pos neg e h).is

@@ -10,8 +10,7 @@ use Rattle.laws.specs.Counting.{bit}
 use Rattle.floats.specs.Answers as Floats
 use Rattle.floats.specs.Starts.{zero_float}
 use Rattle.integers.specs.Answers.{is_shown}
-use Rattle.integers.specs.declared.Extreme.{Extreme}
-use Rattle.integers.specs.declared.Extreme.TheVariants.{None, Value}
+use Rattle.std.specs.Prelude.{Option, Some, None, ℤ}
 use Rattle.points.specs.Shadow.{shadow_of}
 use Rattle.point.specs.declared.Figures.{Figures}
 use Rattle.point.specs.declared.Figures.TheVariants.{Exponential, Explicit}
@@ -22,17 +21,17 @@ use Rattle.listing.specs.Words.{figures_words}
 use Rattle.listing.specs.declared.Span.{Span}
 use Rattle.whole_listing.specs.Words.{raised, words_of, shadow_words}
 
-pub shown-alike : (x : Extreme) → Floats.is_shown (shadow_of x) ≡ is_shown x
+pub shown-alike : (x : Option ℤ) → Floats.is_shown (shadow_of x) ≡ is_shown x
 shown-alike None = refl
-shown-alike (Value x) = refl
+shown-alike (Some x) = refl
 
 pub zero_bits : Floats.bits_of zero_float ≡ 0
 unfolding pick is_nan to_bits of_bits of_fields
 zero_bits = refl
 
-no_bits : (x : Extreme) → F.shown_bits (shadow_of x) ≡ 0
+no_bits : (x : Option ℤ) → F.shown_bits (shadow_of x) ≡ 0
 no_bits None = refl
-no_bits (Value x) = zero_bits
+no_bits (Some x) = zero_bits
 
 lowered : (f : Figures) (b : Span) (k x y z : ℕ)
     → shadow_words (raised (figures_words f b) ++ (k ∷ x ∷ y ∷ z ∷ [])) ≡ figures_words f b ++ (k ∷ 0 ∷ 0 ∷ 0 ∷ [])

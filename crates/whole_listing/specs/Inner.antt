@@ -1,18 +1,15 @@
 -- BETWEEN OUR OWN CRATES: serves inner contracts and proofs; nobody needs it to believe the public calls or the theorems.
 -- A point of i64 values written and read by its shadow: what the shadow's words do not tell. Assumes nothing.
-use Rattle.std.specs.Prelude.{ℕ, ◌+◌, Bool, ◌&&◌, ◌||◌, List, [], ◌∷◌, leb, eqb, ℤ, get_or}
+use Rattle.std.specs.Prelude.{ℕ, ◌+◌, Bool, ◌&&◌, ◌||◌, List, [], ◌∷◌, leb, eqb, ℤ, get_or, Option, Some, None}
 use Rattle.integers.specs.Answers.{bits_of, of_bits}
-use Rattle.integers.specs.declared.Extreme.{Extreme}
+use Rattle.whole_listing.specs.declared.Entry.{Entry}
 use Rattle.point.specs.declared.Point as P
 use Rattle.whole_point.specs.declared.Point.{Point}
-use Rattle.listing.specs.declared.Found as L
-use Rattle.listing.specs.declared.Found.TheVariants as F
+use Rattle.listing.specs.declared.Entry as LE
 use Rattle.whole_listing.specs.Words.{shown_bits, extreme_in}
-use Rattle.whole_listing.specs.declared.Found.{Found}
-use Rattle.whole_listing.specs.declared.Found.TheVariants.{NoPoint, Is}
 
 -- the words of a shadow with the kind 2 more and the bits of minimum, maximum and sum
-abbrev pub with_numbers : List ℕ → Extreme → Extreme → ℤ → List ℕ
+abbrev pub with_numbers : List ℕ → Option ℤ → Option ℤ → ℤ → List ℕ
 with_numbers w min max sum =
     (get_or w 0 0 + 2) ∷ get_or w 1 0 ∷ get_or w 2 0 ∷ get_or w 3 0 ∷ get_or w 4 0 ∷ get_or w 5 0 ∷ get_or w 6 0 ∷ get_or w 7 0 ∷ get_or w 8 0
     ∷ shown_bits min ∷ shown_bits max ∷ bits_of sum ∷ []
@@ -37,6 +34,6 @@ numbered q w =
     }
 
 -- what is found, of what is found of the shadow
-abbrev pub numbered_found : List ℕ → L.Found → Found
-numbered_found w F.NoPoint = NoPoint
-numbered_found w (F.Is e) = Is (record { point = numbered e.point w; bounds = e.bounds; next = e.next })
+abbrev pub numbered_found : List ℕ → Option LE.Entry → Option Entry
+numbered_found w None = None
+numbered_found w (Some e) = Some (record { point = numbered e.point w; bounds = e.bounds; next = e.next })

@@ -1,6 +1,6 @@
 -- Points of i64 values in a list in lent output. The list's form, its cursors and its counts are those of crate `listing`; only a point's words are
 -- its own. Assumes nothing.
-use Rattle.std.specs.Prelude.{ℕ, Bool, true, false, ◌&&◌, List, [], leb, length, get_or, set, take, Float}
+use Rattle.std.specs.Prelude.{ℕ, Bool, true, false, ◌&&◌, List, [], leb, length, get_or, set, take, Float, Option, Some, None}
 use Rattle.std.proofs.Math.Option.{Option, none, some}
 use Rattle.laws.specs.Pick.{pick}
 use Rattle.whole_point.specs.Handing.{Stored, stored_in}
@@ -10,8 +10,6 @@ use Rattle.listing.specs.declared.Cursor.{Cursor}
 use Rattle.listing.specs.declared.Span.{Span}
 use Rattle.whole_listing.specs.Words.{words_of, point_in, bounds_in, is_point}
 use Rattle.whole_listing.specs.declared.Entry.{Entry}
-use Rattle.whole_listing.specs.declared.Found.{Found}
-use Rattle.whole_listing.specs.declared.Found.TheVariants.{NoPoint, Is}
 
 -- ---- one point put at a cursor: a set's row, its point, where the point's bounds lie, and its counts, which are the first ones of two lists
 unfoldable pub put_at : Cursor → List ℕ → Point → Span → List ℕ → List ℕ → Output → Output
@@ -26,15 +24,15 @@ put_at at row p b xs ys o =
 -- ---- the point at a cursor
 
 -- that of twelve words: none where they are no i64 point's, or where its counts are not there
-unfoldable pub entry_in : Cursor → List ℕ → ℕ → ℕ → Found
+unfoldable pub entry_in : Cursor → List ℕ → ℕ → ℕ → Option Entry
 entry_in at w pos neg =
     pick (is_point w && within at (point_in w).figures (bounds_in w) pos neg)
-    (Is (record { point = point_in w; bounds = bounds_in w; next = behind at (point_in w).figures (bounds_in w) }))
-    NoPoint
+    (Some (record { point = point_in w; bounds = bounds_in w; next = behind at (point_in w).figures (bounds_in w) }))
+    None
 
-unfoldable pub point_at : Cursor → List (List ℕ) → ℕ → ℕ → Found
+unfoldable pub point_at : Cursor → List (List ℕ) → ℕ → ℕ → Option Entry
 point_at at words pos neg =
-    pick (leb (length words) at.place) NoPoint (entry_in at (get_or words at.place []) pos neg)
+    pick (leb (length words) at.place) None (entry_in at (get_or words at.place []) pos neg)
 
 -- whether the words at a cursor have a kind that no f64 point has, 2 or more: a reader of points of either number looks there first
 unfoldable pub is_whole : Cursor → List (List ℕ) → Bool
@@ -49,4 +47,4 @@ stored_at at e bounds o =
 -- `bounds_at` and `row_at`); so it is handed to `whole_point::merge`
 abbrev pub found_at : List Float → Cursor → Output → Option (Stored × Cursor)
 found_at bounds at o =
-    elim (point_at at o.words (length o.pos) (length o.neg)) [ NoPoint ↦ none | Is e ↦ some (stored_at at e bounds o, e.next) ]
+    elim (point_at at o.words (length o.pos) (length o.neg)) [ None ↦ none | Some e ↦ some (stored_at at e bounds o, e.next) ]

@@ -1,12 +1,10 @@
 -- A point of i64 values as twelve words, and back: docs/LIST.md says which word is what. Its figures are written as those of an f64 point.
 -- Assumes nothing.
-use Rattle.std.specs.Prelude.{ℕ, ◌+◌, ◌-◌, ◌*◌, ◌%◌, Bool, List, [], ◌∷◌, ◌++◌, leb, eqb, get_or}
+use Rattle.std.specs.Prelude.{ℕ, ◌+◌, ◌-◌, ◌*◌, ◌%◌, Bool, List, [], ◌∷◌, ◌++◌, leb, eqb, get_or, Option, Some, None, ℤ}
 use Rattle.laws.specs.Pick.{pick}
 use Rattle.laws.specs.Counting.{bit}
 use Rattle.sets.specs.All.{allb}
 use Rattle.integers.specs.Answers.{is_shown, bits_of, of_bits}
-use Rattle.integers.specs.declared.Extreme.{Extreme}
-use Rattle.integers.specs.declared.Extreme.TheVariants.{None, Value}
 use Rattle.whole_point.specs.declared.Point.{Point}
 use Rattle.listing.specs.Words as F
 use Rattle.listing.specs.Words.{figures_words, figures_in}
@@ -15,9 +13,9 @@ use Rattle.listing.specs.declared.Span.{Span}
 -- ---- written
 
 -- the bits of an extreme, two's complement; 0 where it is not shown
-abbrev pub shown_bits : Extreme → ℕ
+abbrev pub shown_bits : Option ℤ → ℕ
 shown_bits None = 0
-shown_bits (Value x) = bits_of x
+shown_bits (Some x) = bits_of x
 
 -- word 0 is the kind, 2 more than that of f64: 2 exponential, 3 explicit
 abbrev pub raised : List ℕ → List ℕ
@@ -41,8 +39,8 @@ shadow_words w =
 unfoldable pub bounds_in : List ℕ → Span
 bounds_in w = F.bounds_in (shadow_words w)
 
-unfoldable pub extreme_in : Bool → ℕ → Extreme
-extreme_in shown bits = pick shown (Value (of_bits bits)) None
+unfoldable pub extreme_in : Bool → ℕ → Option ℤ
+extreme_in shown bits = pick shown (Some (of_bits bits)) None
 
 unfoldable pub point_in : List ℕ → Point
 point_in w =

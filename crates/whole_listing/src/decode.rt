@@ -4,7 +4,6 @@ ghost use Rattle.whole_listing.specs.Words.{shadow_words, extreme_in};
 ghost use Rattle.whole_listing.specs.Listed.{is_whole};
 ghost use Rattle.whole_listing.specs.Inner.{blank, own_words, numbered};
 
-use integers::Extreme;
 use listing::Cursor;
 use whole_point::Point;
 
@@ -66,14 +65,14 @@ pub fn shadow_words(w: [u64; 12]) -> [u64; 12]
 }
 
 // An extreme, if it is shown.
-fn extreme_of(shown: bool, bits: u64) -> Extreme
+fn extreme_of(shown: bool, bits: u64) -> Option<i64>
     ensures { result ≡ extreme_in shown bits }
 {
     if shown {
         let x = integers::of_bits(bits);
-        return Extreme::Value(x);
+        return Some(x);
     }
-    Extreme::None
+    None
 }
 
 // The shadow with the numbers that the words tell.

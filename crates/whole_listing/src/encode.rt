@@ -3,22 +3,21 @@ ghost use Rattle.std.specs.Prelude.{◌≡◌, ◌≤◌, get_or};
 ghost use Rattle.whole_listing.specs.Words.{shown_bits, words_of};
 ghost use Rattle.whole_listing.specs.Inner.{with_numbers};
 
-use integers::Extreme;
 use listing::Span;
 use whole_point::Point;
 
 // The bits of an extreme, 0 where it is not shown.
-fn shown_bits(x: Extreme) -> u64
+fn shown_bits(x: Option<i64>) -> u64
     ensures { result ≡ shown_bits x }
 {
     match x {
-        Extreme::None => 0,
-        Extreme::Value(v) => integers::bits_of(v),
+        None => 0,
+        Some(v) => integers::bits_of(v),
     }
 }
 
 // The words of a shadow with the kind 2 more and the bits of minimum, maximum and sum.
-pub fn with_numbers(w: [u64; 12], min: Extreme, max: Extreme, sum: i64) -> [u64; 12]
+pub fn with_numbers(w: [u64; 12], min: Option<i64>, max: Option<i64>, sum: i64) -> [u64; 12]
     requires { get_or w 0 0 ≤ 1 }
     ensures { result ≡ with_numbers w min max sum }
 {

@@ -2,27 +2,27 @@
 ghost use Rattle.std.specs.Prelude.{◌≡◌, ◌+◌, ◌^◌, ◌<◌, length};
 ghost use Rattle.whole_listing.specs.Listed.{entry_in, point_at};
 
-use crate::{Entry, Found};
+use crate::Entry;
 use listing::Cursor;
 
 // The point of twelve words, if they are an i64 point's and its counts are there: what is found of its shadow, with its numbers.
-fn entry_in(at: Cursor, w: [u64; 12], pos: usize, neg: usize) -> Found
+fn entry_in(at: Cursor, w: [u64; 12], pos: usize, neg: usize) -> Option<Entry>
     requires { at.place + 1 < 2 ^ 64 }
     ensures { result ≡ entry_in at w pos neg }
 {
     if !crate::decode::own_words(w) {
-        return Found::NoPoint;
+        return None;
     }
     let s = crate::decode::shadow_words(w);
     let found = listing::read::entry_in(at, s, pos, neg);
     match found {
-        listing::Found::NoPoint => Found::NoPoint,
-        listing::Found::Is(e) => {
+        None => None,
+        Some(e) => {
             let shadow = e.point;
             let p = crate::decode::point_of(shadow, w);
             let b = e.bounds;
             let next = e.next;
-            Found::Is(Entry {
+            Some(Entry {
                 point: p,
                 bounds: b,
                 next,
@@ -32,12 +32,12 @@ fn entry_in(at: Cursor, w: [u64; 12], pos: usize, neg: usize) -> Found
 }
 
 // The point at a cursor, with the cursor of the point behind it; none where the words are no i64 point's.
-pub fn point_at(at: Cursor, words: &[[u64; 12]], pos: &[u64], neg: &[u64]) -> Found
+pub fn point_at(at: Cursor, words: &[[u64; 12]], pos: &[u64], neg: &[u64]) -> Option<Entry>
     ensures { result ≡ point_at at words.now (length pos.now) (length neg.now) }
 {
     let k = at.place;
     if k >= words.len() {
-        return Found::NoPoint;
+        return None;
     }
     entry_in(at, words[k], pos.len(), neg.len())
 }

@@ -15,8 +15,7 @@ use Rattle.laws.specs.Counting.{most_count}
 use Rattle.laws.proofs.Bools.{pick_true, pick-false}
 use Rattle.index.specs.Bins.{finest, lowest_bin}
 use Rattle.integers.specs.Answers.{in_range, sum_of, last_number}
-use Rattle.integers.specs.declared.Total.{Total}
-use Rattle.integers.specs.declared.Total.TheVariants.{Outside, Is}
+use Rattle.std.specs.Prelude.{Option, Some, None}
 use Rattle.points.specs.Counts.{most_size, size_asked, pos_of, neg_of, merge_number}
 use Rattle.points.specs.Handed as R
 use Rattle.points.specs.Any.{Handed, handed_agrees, merge_handed}
@@ -34,32 +33,32 @@ no : {A : Type 0} → true ≡ false → A
 no h = absurd (subst T h tt)
 
 -- ---- the sum
-abbrev total_in : ℤ → Total → ℤ
-total_in d Outside = d
-total_in d (Is s) = s
+abbrev total_in : ℤ → Option ℤ → ℤ
+total_in d None = d
+total_in d (Some s) = s
 
-abbrev is_in : Total → Bool
-is_in Outside = false
-is_in (Is s) = true
+abbrev is_in : Option ℤ → Bool
+is_in None = false
+is_in (Some s) = true
 
 record Stays (x y s : ℤ) : Type 0 where
   none : whole.beyond x y ≡ 0
   sum : s ≡ x +ℤ y
 
-stays : (x y s : ℤ) → sum_of x y ≡ Is s → Stays x y s
+stays : (x y s : ℤ) → sum_of x y ≡ Some s → Stays x y s
 unfolding sum_of
 stays x y s e = go (in_range (x +ℤ y)) refl
   where
     go : (b : Bool) → in_range (x +ℤ y) ≡ b → Stays x y s
-    go true d = record { none = pick_true _ 0 16 d; sum = sym (ap (total_in s) (sym (pick_true (in_range (x +ℤ y)) (Is (x +ℤ y)) Outside d) ∙ e)) }
-    go false d = no (sym (ap is_in (sym (pick-false (in_range (x +ℤ y)) (Is (x +ℤ y)) Outside d) ∙ e)))
+    go true d = record { none = pick_true _ 0 16 d; sum = sym (ap (total_in s) (sym (pick_true (in_range (x +ℤ y)) (Some (x +ℤ y)) None d) ∙ e)) }
+    go false d = no (sym (ap is_in (sym (pick-false (in_range (x +ℤ y)) (Some (x +ℤ y)) None d) ∙ e)))
 
-leaves : (x y : ℤ) → sum_of x y ≡ Outside → whole.beyond x y ≡ 16
+leaves : (x y : ℤ) → sum_of x y ≡ None → whole.beyond x y ≡ 16
 unfolding sum_of
 leaves x y e = go (in_range (x +ℤ y)) refl
   where
     go : (b : Bool) → in_range (x +ℤ y) ≡ b → whole.beyond x y ≡ 16
-    go true d = no (ap is_in (sym (pick_true (in_range (x +ℤ y)) (Is (x +ℤ y)) Outside d) ∙ e))
+    go true d = no (ap is_in (sym (pick_true (in_range (x +ℤ y)) (Some (x +ℤ y)) None d) ∙ e))
     go false d = pick-false _ 0 16 d
 
 -- ---- what an f64 outcome says
@@ -105,14 +104,14 @@ module _ (size : ℕ) (x y : Stored) (us vs : List ℕ) where
   goes_on e = pick_true _ _ _ (eq-eqb (refusal_before size x y) 0 e)
 
   -- where the sum would leave i64
-  pub outside_law : sum_of x.point.sum y.point.sum ≡ Outside → (n k : ℕ) → n ≡ before → k ≡ last_number n
+  pub outside_law : sum_of x.point.sum y.point.sum ≡ None → (n k : ℕ) → n ≡ before → k ≡ last_number n
       → ended (refusal k) x.bounds us vs ≡ merging size x y us vs
   outside_law t n k e d =
       ap (λ m. ended (refusal m) x.bounds us vs) (d ∙ ap last_number e)
       ∙ gives_up (last_number before) (number_is ∙ ap (λ m. pick (eqb before 0) m before) (leaves x.point.sum y.point.sum t)) (last_some before)
 
   -- where it does not
-  module _ (s : ℤ) (t : sum_of x.point.sum y.point.sum ≡ Is s) where
+  module _ (s : ℤ) (t : sum_of x.point.sum y.point.sum ≡ Some s) where
     abbrev done : Said P.Point → Said Point
     done r = finished x.point y.point s r
 

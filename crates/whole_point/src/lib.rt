@@ -9,7 +9,6 @@ ghost use Rattle.point.specs.Handing as P;
 ghost use Rattle.whole_point.specs.Handing.{stored, shadow_point, exponential_point, explicit_point, merged_of, outcome, merging, beside_number, mixed_number, alone_number};
 ghost use Rattle.refusals.specs.Refusals.{number, code};
 
-use integers::{Extreme, Total};
 use point::Figures;
 use refusals::Refusal;
 
@@ -18,8 +17,8 @@ use refusals::Refusal;
 pub struct Point {
     pub figures: Figures,
     pub extremes: bool,
-    pub min: Extreme,
-    pub max: Extreme,
+    pub min: Option<i64>,
+    pub max: Option<i64>,
     pub sum: i64,
 }
 
@@ -71,12 +70,12 @@ pub fn explicit_point(head: explicit_wholes::Head, extremes: bool, sums: bool) -
 
 // ---- the shadow
 
-fn shadow_extreme(e: Extreme) -> floats::Extreme
+fn shadow_extreme(e: Option<i64>) -> Option<f64>
     ensures { result ≡ shadow_of e }
 {
     match e {
-        Extreme::None => floats::Extreme::None,
-        Extreme::Value(x) => floats::Extreme::Value(0.0),
+        None => None,
+        Some(x) => Some(0.0),
     }
 }
 
@@ -139,11 +138,11 @@ pub fn merge(
     let y = shadow_of(b);
     let total = integers::sum(a.sum, b.sum);
     match total {
-        Total::Outside => {
+        None => {
             point::refusal(size, x, abounds, apos, aneg, y, bbounds, bpos, bneg)?;
             Err(Refusal::SumOutside)
         }
-        Total::Is(s) => {
+        Some(s) => {
             let counted = point::merge(
                 size, x, abounds, apos, aneg, y, bbounds, bpos, bneg, pos, neg,
             )?;

@@ -17,8 +17,7 @@ use Rattle.listing.specs.Listed.{Output}
 use Rattle.listing.specs.declared.Cursor.{Cursor}
 use Rattle.whole_listing.specs.Listed.{stored_at}
 use Rattle.whole_listing.specs.declared.Entry.{Entry}
-use Rattle.whole_listing.specs.declared.Found.{Found}
-use Rattle.whole_listing.specs.declared.Found.TheVariants.{NoPoint, Is}
+use Rattle.std.specs.Prelude.{Option, Some, None}
 use Rattle.printing.specs.declared.Form.TheVariants.{Point}
 use Rattle.printing.specs.Fields.{line, set_field}
 use Rattle.printing.specs.Printed as F
@@ -44,21 +43,21 @@ module _ (at : Cursor) (o : Output) (bounds : List Float) where
   Prints xs next = (xs ≡ line_at at o bounds) × (next ≡ next_at at o)
 
   -- by `printing`
-  pub none_found : found at o ≡ NoPoint → Prints (F.line_at Point at o bounds) (F.next_at at o)
+  pub none_found : found at o ≡ None → Prints (F.line_at Point at o bounds) (F.next_at at o)
   unfolding line_at next_at
-  none_found p = (ap (λ (f : Found). found_line at f o bounds) (sym p), ap (λ (f : Found). found_next at f o) (sym p))
+  none_found p = (ap (λ (f : Option Entry). found_line at f o bounds) (sym p), ap (λ (f : Option Entry). found_next at f o) (sym p))
 
-  module _ (e : Entry) (p : found at o ≡ Is e) where
+  module _ (e : Entry) (p : found at o ≡ Some e) where
     pub no-set : length o.sets ≤ at.place → Prints [] at
     unfolding line_at next_at
     no-set h = (
-      sym (ap (λ (f : Found). found_line at f o bounds) p ∙ pick-false _ _ _ (le-ltb at.place (length o.sets) h)),
-      sym (ap (λ (f : Found). found_next at f o) p ∙ pick-false _ _ _ (le-ltb at.place (length o.sets) h)),
+      sym (ap (λ (f : Option Entry). found_line at f o bounds) p ∙ pick-false _ _ _ (le-ltb at.place (length o.sets) h)),
+      sym (ap (λ (f : Option Entry). found_next at f o) p ∙ pick-false _ _ _ (le-ltb at.place (length o.sets) h)),
     )
 
     pub point-found : at.place < length o.sets → Prints (point_line (take 8 (set_of (get_or o.sets at.place []))) (stored_at at e bounds o)) e.next
     unfolding line_at next_at
     point-found h = (
-      sym (ap (λ (f : Found). found_line at f o bounds) p ∙ pick_true _ _ _ (lt-ltb at.place (length o.sets) h)),
-      sym (ap (λ (f : Found). found_next at f o) p ∙ pick_true _ _ _ (lt-ltb at.place (length o.sets) h)),
+      sym (ap (λ (f : Option Entry). found_line at f o bounds) p ∙ pick_true _ _ _ (lt-ltb at.place (length o.sets) h)),
+      sym (ap (λ (f : Option Entry). found_next at f o) p ∙ pick_true _ _ _ (lt-ltb at.place (length o.sets) h)),
     )

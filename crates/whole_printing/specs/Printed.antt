@@ -1,12 +1,11 @@
 -- The lines of points of a list, whichever number they are of. docs/REPLAY.md: 'MIN, MAX, SUM .. are bits (number kind `i`: decimals)'; all
 -- else is as crate `printing` has it for f64. Assumes nothing.
-use Rattle.std.specs.Prelude.{ℕ, true, false, List, [], ◌∷◌, ◌++◌, map, ltb, length, get_or, take, Float}
+use Rattle.std.specs.Prelude.{ℕ, true, false, List, [], ◌∷◌, ◌++◌, map, ltb, length, get_or, take, Float, Option, Some, None, ℤ}
 use Rattle.laws.specs.Pick.{pick}
 use Rattle.lines.specs.Written.{decimal, signed}
 use Rattle.tally.specs.Sets.{Set}
 use Rattle.sets.specs.Rows.{set_of}
-use Rattle.integers.specs.declared.Extreme.{Extreme}
-use Rattle.integers.specs.declared.Extreme.TheVariants.{None, Value}
+use Rattle.whole_listing.specs.declared.Entry.{Entry}
 use Rattle.point.specs.Signed.{scale_shown, offset_shown}
 use Rattle.point.specs.declared.Figures.{Figures}
 use Rattle.point.specs.declared.Figures.TheVariants.{Exponential, Explicit}
@@ -15,8 +14,6 @@ use Rattle.whole_point.specs.declared.Point as W
 use Rattle.listing.specs.Listed.{Output}
 use Rattle.listing.specs.declared.Cursor.{Cursor}
 use Rattle.whole_listing.specs.Listed.{point_at, stored_at}
-use Rattle.whole_listing.specs.declared.Found.{Found}
-use Rattle.whole_listing.specs.declared.Found.TheVariants.{NoPoint, Is}
 use Rattle.printing.specs.declared.Form.TheVariants.{Point}
 use Rattle.printing.specs.Fields.{listed, line, set_field, float_field, integer_field, row_field}
 use Rattle.printing.specs.Printed as F
@@ -25,9 +22,9 @@ use Rattle.printing.specs.Printed.{letter, lines_by, collection_head}
 -- ---- a point of i64 values
 
 -- docs/REPLAY.md: "an extreme that is not kept is `-`"
-abbrev pub extreme_field : Extreme → List ℕ
+abbrev pub extreme_field : Option ℤ → List ℕ
 extreme_field None = 45 ∷ []
-extreme_field (Value x) = signed x
+extreme_field (Some x) = signed x
 
 -- min, max, sum, and what follows
 abbrev pub held_fields : W.Point → List (List ℕ) → List (List ℕ)
@@ -55,16 +52,16 @@ point_line s x = line ((letter x.point.figures ∷ []) ∷ set_field s ∷ figur
 
 -- the line of what was found at a cursor, and the cursor behind it; where no point of i64 values lies there, by `printing`. Nothing is printed where
 -- there is no row of its set
-abbrev pub found_line : Cursor → Found → Output → List Float → List ℕ
-found_line at NoPoint o bounds = F.line_at Point at o bounds
-found_line at (Is e) o bounds =
+abbrev pub found_line : Cursor → Option Entry → Output → List Float → List ℕ
+found_line at None o bounds = F.line_at Point at o bounds
+found_line at (Some e) o bounds =
     pick (ltb at.place (length o.sets)) (point_line (take 8 (set_of (get_or o.sets at.place []))) (stored_at at e bounds o)) []
 
-abbrev pub found_next : Cursor → Found → Output → Cursor
-found_next at NoPoint o = F.next_at at o
-found_next at (Is e) o = pick (ltb at.place (length o.sets)) e.next at
+abbrev pub found_next : Cursor → Option Entry → Output → Cursor
+found_next at None o = F.next_at at o
+found_next at (Some e) o = pick (ltb at.place (length o.sets)) e.next at
 
-abbrev pub found : Cursor → Output → Found
+abbrev pub found : Cursor → Output → Option Entry
 found at o = point_at at o.words (length o.pos) (length o.neg)
 
 -- the same of the point at a cursor

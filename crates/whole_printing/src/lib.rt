@@ -14,13 +14,12 @@ ghost use Rattle.printing.specs.Fields.{each};
 ghost use Rattle.whole_printing.specs.Printed.{extreme_field, held_fields, exponential_fields, explicit_fields, point_line};
 ghost use Rattle.whole_printing.specs.Printed.{line_at, next_at, collection_lines};
 
-use integers::Extreme;
 use lines::{Block, output};
 use listing::Cursor;
 use point::Figures;
 use printing::Printed;
 use std::io::Stdout;
-use whole_listing::{Entry, Found};
+use whole_listing::Entry;
 use whole_point::Point;
 
 // A whole number behind a space.
@@ -32,12 +31,12 @@ fn integer(out: &Stdout, text: &mut Block, n: usize, x: i64) -> usize
 }
 
 // An extreme behind a space, `-` where it isn't kept.
-fn extreme(out: &Stdout, text: &mut Block, n: usize, x: Extreme) -> usize
+fn extreme(out: &Stdout, text: &mut Block, n: usize, x: Option<i64>) -> usize
     ensures { waiting result text.new ≡ 32 ∷ extreme_field x behind waiting n text.old }
 {
     match x {
-        Extreme::None => output::bytes(out, text, n, b" -"),
-        Extreme::Value(v) => integer(out, text, n, v),
+        None => output::bytes(out, text, n, b" -"),
+        Some(v) => integer(out, text, n, v),
     }
 }
 
@@ -145,7 +144,7 @@ pub fn point<'a>(
     ensures at_value { result.at ≡ next_at at (listed_in sets.now words.now pos.now neg.now) }
 {
     let k = at.place;
-    let Found::Is(e) = whole_listing::read::point_at(at, words, pos, neg) else {
+    let Some(e) = whole_listing::read::point_at(at, words, pos, neg) else {
         return printing::point(
             out,
             text,

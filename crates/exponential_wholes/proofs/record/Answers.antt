@@ -7,7 +7,7 @@ use mir.Syntax.{w64}
 use mir.Val.{SFits, to_z, of_z}
 use Rattle.floats.specs.Starts.{zero_float}
 use Rattle.integers.specs.Answers.{nearest_of, kept_sum, lesser_of, greater_of}
-use Rattle.integers.specs.declared.Total.TheVariants.{Is}
+use Rattle.std.specs.Prelude.{Some}
 use Rattle.integers.proofs.Range.{held}
 use Rattle.points.specs.Points.{Point, record1}
 use Rattle.points.specs.Classes.{class_of}
@@ -40,8 +40,8 @@ count_in-next-requires c =
     (λ j. E.refusal_of a.size a.top (c.under_counts-h.ensures j) a.pos.now a.neg.now (near j))
     ∙ none
 
-pub returns-in-Outside : goal.returns-in-Outside
-returns-in-Outside c =
+pub returns-in-None : goal.returns-in-None
+returns-in-None c =
     let number : ℕ = let a = c.args in before a.size a.top a.sums a.head a.pos.now a.neg.now a.v in
     let near : c.nearest-x.result ≡ nearest_of c.args.v = c.nearest-x.ensures ∙ ap nearest_of (held c.args.v c.ranges.v) in
     let told : c.refusal-no.result ≡ number =
@@ -54,10 +54,10 @@ returns-in-Outside c =
     c.kept_sum-total.ensures ∙ (λ j. kept_sum c.args.sums (held c.args.head.sum f j) (held c.args.v c.ranges.v j)) in
     let a = c.args in
     outside_law a.size a.top a.sums a.head a.pos.now a.neg.now a.v (none)
-    (sym (summed) ∙ c.in-Outside.is)
+    (sym (summed) ∙ c.in-None.is)
 
-pub returns-in-Is : goal.returns-in-Is
-returns-in-Is c =
+pub returns-in-Some : goal.returns-in-Some
+returns-in-Some c =
     let number : ℕ = let a = c.args in before a.size a.top a.sums a.head a.pos.now a.neg.now a.v in
     let near : c.nearest-x.result ≡ nearest_of c.args.v = c.nearest-x.ensures ∙ ap nearest_of (held c.args.v c.ranges.v) in
     let told : c.refusal-no.result ≡ number =
@@ -68,7 +68,7 @@ returns-in-Is c =
     let summed : (let a = c.args in c.kept_sum-total.result ≡ kept_sum a.sums a.head.sum a.v) =
     let f : SFits w64 c.args.head.sum = search rules in
     c.kept_sum-total.ensures ∙ (λ j. kept_sum c.args.sums (held c.args.head.sum f j) (held c.args.v c.ranges.v j)) in
-    let whole_sum : SFits w64 c.in-Is.s = search rules in
+    let whole_sum : SFits w64 c.in-Some.s = search rules in
     let least : (let a = c.args in to_z w64 (of_z w64 c.lesser-least.result) ≡ lesser_of a.head.min a.v) =
     let r : SFits w64 c.lesser-least.result = search rules in
     let m : SFits w64 c.args.head.min = search rules in
@@ -81,7 +81,7 @@ returns-in-Is c =
     let xs = a.pos.now in
     let ys = a.neg.now in
     inside_law a.size a.top a.sums a.head xs ys a.v _ _ _ c.count_in-next.result c.count_in-next.new.pos c.count_in-next.new.neg
-    (none) (sym (summed) ∙ c.in-Is.is ∙ ap Is (sym (held c.in-Is.s (whole_sum))))
+    (none) (sym (summed) ∙ c.in-Some.is ∙ ap Some (sym (held c.in-Some.s (whole_sum))))
     (subst (λ (p : Point). Written p xs ys c.count_in-next.result c.count_in-next.new.pos c.count_in-next.new.neg)
     (λ j. record1 a.size (E.read (c.under_counts-h.ensures j).counts xs ys) (class_of zero_float (near j))) c.count_in-next.ensures)
     (least) (greatest)

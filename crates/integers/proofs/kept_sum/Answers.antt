@@ -2,7 +2,7 @@
 use Rattle.std.proofs.Common.{sym, ap, ◌∙◌}
 use Rattle.laws.proofs.Bools.{pick_true, pick-false}
 use Rattle.integers.specs.Answers.{sum_of}
-use Rattle.integers.specs.declared.Total.TheVariants.{Is}
+use Rattle.std.specs.Prelude.{Some}
 use Rattle.integers.proofs.Range.{held}
 use Rattle.integers.proofs.kept_sum.Goals as goal
 
@@ -13,4 +13,4 @@ returns-then-on c =
     ∙ sym (pick_true _ _ _ c.if-on.true)
 
 pub returns : goal.returns
-returns c = ap Is (held c.args.held c.ranges.held) ∙ sym (pick-false _ _ _ c.if-on.false)
+returns c = ap Some (held c.args.held c.ranges.held) ∙ sym (pick-false _ _ _ c.if-on.false)

@@ -1,6 +1,6 @@
 use mathlib.Core.Path.{◌≡◌, refl, sym, ◌∙◌}
 use mathlib.Core.Bool.{Bool, true, false, not}
-use Rattle.floats.specs.declared.Extreme.TheVariants.{None}
+use Rattle.std.specs.Prelude.{None}
 use Rattle.points.specs.Handed.{extremes_agree}
 use Rattle.point.proofs.extremes_agree.Goals as goal
 
@@ -12,5 +12,5 @@ pub returns-in-None-max : goal.returns-in-None-max
 returns-in-None-max c =
     neither c.args.due ∙ sym (λ j. extremes_agree c.args.due (c.in-None.is j) (c.in-None-max.is j))
 
-pub returns-in-Value-max-2 : goal.returns-in-Value-max-2
-returns-in-Value-max-2 c = c.values_agree.ensures ∙ sym (λ j. extremes_agree c.args.due (c.in-Value.is j) (c.in-Value-max-2.is j))
+pub returns-in-Some-max-2 : goal.returns-in-Some-max-2
+returns-in-Some-max-2 c = c.values_agree.ensures ∙ sym (λ j. extremes_agree c.args.due (c.in-Some.is j) (c.in-Some-max-2.is j))

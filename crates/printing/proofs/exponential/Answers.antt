@@ -2,7 +2,7 @@
 use mathlib.Core.Path.{ap}
 use mathlib.Core.Bool.{true, false}
 use mathlib.Core.List.{[], ◌∷◌}
-use Rattle.index.specs.declared.signed.Integer.{Integer}
+use Rattle.std.specs.Prelude.{Option, ℤ}
 use Rattle.point.specs.Signed.{scale_shown, offset_shown}
 use Rattle.lines.specs.Gathered.{waiting}
 use Rattle.lines.proofs.Gathering.{spelt}
@@ -18,7 +18,7 @@ returns c =
     let above = row_field (offset_shown false p.figures) a.pos.now in
     let below = row_field (offset_shown true p.figures) a.neg.now in
     a-field 32 (waiting a.n a.text.now) (integer_field (scale_shown p.figures)) (held_fields p (above ∷ below ∷ []))
-    (spelt (ap (λ (x : Integer). 32 ∷ integer_field x) c.scale.ensures) _ c.integer-a.ensures)
+    (spelt (ap (λ (x : Option ℤ). 32 ∷ integer_field x) c.scale.ensures) _ c.integer-a.ensures)
     (fields 32 _ (held_fields p []) (above ∷ below ∷ []) c.held-b.ensures
-    (a-field 32 _ above (below ∷ []) (spelt (ap (λ (x : Integer). 32 ∷ row_field x a.pos.now) c.offset.ensures) _ c.row-c.ensures)
-    (a-field 32 _ below [] (spelt (ap (λ (x : Integer). 32 ∷ row_field x a.neg.now) c.offset-2.ensures) _ c.row.ensures) (no_field 32 _))))
+    (a-field 32 _ above (below ∷ []) (spelt (ap (λ (x : Option ℤ). 32 ∷ row_field x a.pos.now) c.offset.ensures) _ c.row-c.ensures)
+    (a-field 32 _ below [] (spelt (ap (λ (x : Option ℤ). 32 ∷ row_field x a.neg.now) c.offset-2.ensures) _ c.row.ensures) (no_field 32 _))))

@@ -7,12 +7,12 @@ use borrow.Author.Rules.{rules}
 use Rattle.replay_exponential.proofs.Scales.{scale-found}
 use Rattle.replay_exponential.proofs.scale_of.Goals as goal
 
-pub returns-in-OutOfRange : goal.returns-in-OutOfRange
-returns-in-OutOfRange c =
-    scale-found c.args.n _ _ c.cut-bin.ensures (sym c.in-OutOfRange.is ∙ c.index_of-found.ensures)
+pub returns-in-None : goal.returns-in-None
+returns-in-None c =
+    scale-found c.args.n _ _ c.cut-bin.ensures (sym c.in-None.is ∙ c.index_of-found.ensures)
 
-pub returns-in-Is : goal.returns-in-Is
-returns-in-Is c =
-    let h : SFits w32 c.in-Is.x = search rules in
-    to_z-of_z w32 c.in-Is.x h
-    ∙ scale-found c.args.n _ _ c.cut-bin.ensures (sym c.in-Is.is ∙ c.index_of-found.ensures)
+pub returns-in-Some : goal.returns-in-Some
+returns-in-Some c =
+    let h : SFits w32 c.in-Some.x = search rules in
+    to_z-of_z w32 c.in-Some.x h
+    ∙ scale-found c.args.n _ _ c.cut-bin.ensures (sym c.in-Some.is ∙ c.index_of-found.ensures)

@@ -6,5 +6,5 @@ use Rattle.whole_point.proofs.shadow_extreme.Goals as goal
 pub returns-in-None : goal.returns-in-None
 returns-in-None c = sym (ap shadow_of c.in-None.is)
 
-pub returns-in-Value : goal.returns-in-Value
-returns-in-Value c = sym (ap shadow_of c.in-Value.is)
+pub returns-in-Some : goal.returns-in-Some
+returns-in-Some c = sym (ap shadow_of c.in-Some.is)

@@ -2,7 +2,7 @@
 use mathlib.Core.Path.{ap, ◌∙◌}
 use mathlib.Core.Bool.{true, false}
 use mathlib.Core.List.{[], ◌∷◌}
-use Rattle.index.specs.declared.signed.Integer.{Integer}
+use Rattle.std.specs.Prelude.{Option, ℤ}
 use Rattle.point.specs.declared.Point as P
 use Rattle.point.specs.Signed.{scale_shown, offset_shown}
 use Rattle.lines.specs.Gathered.{waiting}
@@ -20,10 +20,10 @@ returns c =
     let below = row_field (offset_shown true p.figures) a.neg.now in
     let f = ap (λ (x : P.Point). x.figures) c.shadow_of-q.ensures in
     a-field 32 (waiting a.n a.text.now) (integer_field (scale_shown p.figures)) (held_fields p (above ∷ below ∷ []))
-    (spelt (ap (λ (x : Integer). 32 ∷ integer_field x) (c.scale.ensures ∙ ap scale_shown f)) _ c.integer-a.ensures)
+    (spelt (ap (λ (x : Option ℤ). 32 ∷ integer_field x) (c.scale.ensures ∙ ap scale_shown f)) _ c.integer-a.ensures)
     (fields 32 _ (held_fields p []) (above ∷ below ∷ []) c.held-b.ensures
     (a-field 32 _ above (below ∷ [])
-    (spelt (ap (λ (x : Integer). 32 ∷ row_field x a.pos.now) (c.offset.ensures ∙ ap (offset_shown false) f)) _ c.row-c.ensures)
+    (spelt (ap (λ (x : Option ℤ). 32 ∷ row_field x a.pos.now) (c.offset.ensures ∙ ap (offset_shown false) f)) _ c.row-c.ensures)
     (a-field 32 _ below []
-    (spelt (ap (λ (x : Integer). 32 ∷ row_field x a.neg.now) (c.offset-2.ensures ∙ ap (offset_shown true) f)) _ c.row.ensures)
+    (spelt (ap (λ (x : Option ℤ). 32 ∷ row_field x a.neg.now) (c.offset-2.ensures ∙ ap (offset_shown true) f)) _ c.row.ensures)
     (no_field 32 _))))

@@ -4,7 +4,7 @@ use mathlib.Core.List.{◌∷◌}
 use lib.IntN.{ℤ}
 use mir.Syntax.{w64}
 use mir.Val.{SFits}
-use Rattle.integers.specs.declared.Extreme.{Extreme}
+use Rattle.std.specs.Prelude.{Option}
 use Rattle.lines.specs.Gathered.{waiting}
 use Rattle.lines.specs.Written.{signed}
 use Rattle.lines.proofs.Gathering.{spelt}
@@ -16,10 +16,10 @@ use Rattle.whole_printing.proofs.extreme.Goals as goal
 pub returns-in-None : goal.returns-in-None
 returns-in-None c =
     let a = c.args in
-    spelt (ap (λ (x : Extreme). 32 ∷ extreme_field x) (sym c.in-None.is)) (waiting a.n a.text.now) c.bytes.ensures
+    spelt (ap (λ (x : Option ℤ). 32 ∷ extreme_field x) (sym c.in-None.is)) (waiting a.n a.text.now) c.bytes.ensures
 
-pub returns-in-Value : goal.returns-in-Value
-returns-in-Value c =
+pub returns-in-Some : goal.returns-in-Some
+returns-in-Some c =
     let a = c.args in
-    let f : SFits w64 c.in-Value.v = search rules in
-    spelt (ap (λ (z : ℤ). 32 ∷ signed z) (held c.in-Value.v f) ∙ ap (λ (e : Extreme). 32 ∷ extreme_field e) (sym c.in-Value.is)) (waiting a.n a.text.now) c.integer.ensures
+    let f : SFits w64 c.in-Some.v = search rules in
+    spelt (ap (λ (z : ℤ). 32 ∷ signed z) (held c.in-Some.v f) ∙ ap (λ (e : Option ℤ). 32 ∷ extreme_field e) (sym c.in-Some.is)) (waiting a.n a.text.now) c.integer.ensures

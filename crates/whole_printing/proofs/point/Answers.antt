@@ -17,10 +17,10 @@ pub returns-then-sets-k : goal.returns-then-sets-k
 returns-then-sets-k c =
     let listed : Output = let a = c.args in output a.sets.now a.words.now a.pos.now a.neg.now in
     let a = c.args in
-    let p = no-set a.at (listed) a.bounds.now c.in-Is.e (sym c.point_at.ensures ∙ c.in-Is.is) c.if-sets-k.true in record { text_value = spelt p.0 (waiting a.n a.text.now) (nothing _); at_value = p.1 }
+    let p = no-set a.at (listed) a.bounds.now c.in-Some.e (sym c.point_at.ensures ∙ c.in-Some.is) c.if-sets-k.true in record { text_value = spelt p.0 (waiting a.n a.text.now) (nothing _); at_value = p.1 }
 
 pub returns : goal.returns
 returns c =
     let listed : Output = let a = c.args in output a.sets.now a.words.now a.pos.now a.neg.now in
     let a = c.args in
-    let p = point-found a.at (listed) a.bounds.now c.in-Is.e (sym c.point_at.ensures ∙ c.in-Is.is) c.if-sets-k.false in record { text_value = spelt p.0 (waiting a.n a.text.now) c.point_line.ensures; at_value = p.1 }
+    let p = point-found a.at (listed) a.bounds.now c.in-Some.e (sym c.point_at.ensures ∙ c.in-Some.is) c.if-sets-k.false in record { text_value = spelt p.0 (waiting a.n a.text.now) c.point_line.ensures; at_value = p.1 }

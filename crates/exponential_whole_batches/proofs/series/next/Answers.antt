@@ -5,7 +5,7 @@ use mir.Syntax.{w64}
 use mir.Val.{SFits, to_z, of_z}
 use Rattle.floats.specs.Starts.{zero_float}
 use Rattle.integers.specs.Answers.{nearest_of, kept_sum, lesser_of, greater_of}
-use Rattle.integers.specs.declared.Total.TheVariants.{Is}
+use Rattle.std.specs.Prelude.{Some}
 use Rattle.integers.proofs.Range.{held}
 use Rattle.points.specs.Points.{Point, record1}
 use Rattle.points.specs.Classes.{class_of}
@@ -29,22 +29,22 @@ count_in-more-requires c =
     (λ j. E.refusal_of a.size a.top (c.under_counts-h.ensures j) a.pos.now a.neg.now (near j))
     ∙ free a.size a.top a.sums (lent) a.v c.ranges.v c.requires c.if-c.false
 
-pub returns-in-Outside : goal.returns-in-Outside
-returns-in-Outside c =
+pub returns-in-None : goal.returns-in-None
+returns-in-None c =
     let lent : Series = let a = c.args in series a.head a.pos.now a.neg.now in
     let summed : (let a = c.args in c.kept_sum-total.result ≡ kept_sum a.sums a.head.sum a.v) =
     let f : SFits w64 c.args.head.sum = search rules in
     c.kept_sum-total.ensures ∙ (λ j. kept_sum c.args.sums (held c.args.head.sum f j) (held c.args.v c.ranges.v j)) in
     let a = c.args in
-    outside a.size a.top a.sums (lent) a.v c.ranges.v c.requires c.if-c.false (sym (summed) ∙ c.in-Outside.is)
+    outside a.size a.top a.sums (lent) a.v c.ranges.v c.requires c.if-c.false (sym (summed) ∙ c.in-None.is)
 
-pub returns-in-Is : goal.returns-in-Is
-returns-in-Is c =
+pub returns-in-Some : goal.returns-in-Some
+returns-in-Some c =
     let lent : Series = let a = c.args in series a.head a.pos.now a.neg.now in
     let summed : (let a = c.args in c.kept_sum-total.result ≡ kept_sum a.sums a.head.sum a.v) =
     let f : SFits w64 c.args.head.sum = search rules in
     c.kept_sum-total.ensures ∙ (λ j. kept_sum c.args.sums (held c.args.head.sum f j) (held c.args.v c.ranges.v j)) in
-    let whole_sum : SFits w64 c.in-Is.s = search rules in
+    let whole_sum : SFits w64 c.in-Some.s = search rules in
     let near : c.nearest-x.result ≡ nearest_of c.args.v = c.nearest-x.ensures ∙ ap nearest_of (held c.args.v c.ranges.v) in
     let least : (let a = c.args in to_z w64 (of_z w64 c.lesser-least.result) ≡ lesser_of a.head.min a.v) =
     let r : SFits w64 c.lesser-least.result = search rules in
@@ -58,7 +58,7 @@ returns-in-Is c =
     let xs = a.pos.now in
     let ys = a.neg.now in
     inside a.size a.top a.sums (lent) a.v c.ranges.v c.requires c.if-c.false _ _ _ c.count_in-more.result c.count_in-more.new.pos c.count_in-more.new.neg
-    (sym (summed) ∙ c.in-Is.is ∙ ap Is (sym (held c.in-Is.s (whole_sum))))
+    (sym (summed) ∙ c.in-Some.is ∙ ap Some (sym (held c.in-Some.s (whole_sum))))
     (subst (λ (p : Point). Written p xs ys c.count_in-more.result c.count_in-more.new.pos c.count_in-more.new.neg)
     (λ j. record1 a.size (E.read (c.under_counts-h.ensures j).counts xs ys) (class_of zero_float (near j))) c.count_in-more.ensures)
     (least) (greatest)

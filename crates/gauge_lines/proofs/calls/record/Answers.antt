@@ -15,7 +15,7 @@ returns-in_default c =
 pub returns : goal.returns
 returns c =
     let a = c.args in
-    record-made a.g a.line.now _ _ c.answered.result c.in-Is.bits c.in-Is.n (sym c.board_in.ensures.value ∙ c.in-Is.is)
+    record-made a.g a.line.now _ _ c.answered.result c.in-Some.bits c.in-Some.n (sym c.board_in.ensures.value ∙ c.in-Some.is)
     c.of_bits.result c.of_bits.ensures c.given.result.now
-    (c.given.ensures ∙ ap (λ (x : List (List ℕ)). take c.in-Is.n x) c.board_in.ensures.attrs_after)
+    (c.given.ensures ∙ ap (λ (x : List (List ℕ)). take c.in-Some.n x) c.board_in.ensures.attrs_after)
     c.measure-reply.result _ _ c.measure-reply.ensures c.answered.ensures

@@ -16,6 +16,6 @@ returns-in_default c =
 pub returns : goal.returns
 returns c =
     let a = c.args in
-    let f : SFits w32 c.in-Is.w.scale = search rules in
-    start-made a.g a.line.now _ _ c.begun.result c.in-Is.w (sym c.settings_in.ensures ∙ c.in-Is.is)
-    _ (to_z-of_z w32 c.in-Is.w.scale f) c.configure-c.result _ c.configure-c.ensures c.begun.ensures
+    let f : SFits w32 c.in-Some.w.scale = search rules in
+    start-made a.g a.line.now _ _ c.begun.result c.in-Some.w (sym c.settings_in.ensures ∙ c.in-Some.is)
+    _ (to_z-of_z w32 c.in-Some.w.scale f) c.configure-c.result _ c.configure-c.ensures c.begun.ensures

@@ -37,4 +37,4 @@ returns c =
     let parts : parted c.args.line.now ≡ true = apart c.args.line.now c.if-n-lt20.false c.if-line-ne32.false in
     let set : set_in c.args.line.now ≡ c.read.result = sym (c.read.ensures.value ∙ ap (λ (u : List ℕ). told 0 (spelled u)) (rest-is c.args.line.now)) in
     let attributes : c.read.new.attrs ≡ attributes_in c.args.line.now c.args.attrs.now = c.read.ensures.attrs_after ∙ kept-are c.args.line.now c.args.attrs.now (parts) in
-    record { value = board-is c.args.line.now (parts) _ _ (set ∙ c.in-Are.is) (sym c.bits.ensures ∙ c.in-Is.is); attrs_after = attributes }
+    record { value = board-is c.args.line.now (parts) _ _ (set ∙ c.in-Are.is) (sym c.bits.ensures ∙ c.in-Some.is); attrs_after = attributes }

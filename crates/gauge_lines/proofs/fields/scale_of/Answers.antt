@@ -11,10 +11,10 @@ use mir.ValLaws.{to_z-of_z}
 use Rattle.gauge_lines.proofs.fields.scale_of.Goals as goal
 
 pub returns-then-size-gt999 : goal.returns-then-size-gt999
-returns-then-size-gt999 c = sym (ap scale_in c.in-Is.is ∙ pick-false _ _ _ (lt-leb _ 999 c.if-size-gt999.true))
+returns-then-size-gt999 c = sym (ap scale_in c.in-Some.is ∙ pick-false _ _ _ (lt-leb _ 999 c.if-size-gt999.true))
 
 pub returns : goal.returns
 returns c =
     let f : SFits w32 c.with_sign.result = search rules in
     ap S.Is (to_z-of_z w32 c.with_sign.result f ∙ c.with_sign.ensures)
-    ∙ sym (ap scale_in c.in-Is.is ∙ pick_true _ _ _ (le-leb _ 999 c.if-size-gt999.false))
+    ∙ sym (ap scale_in c.in-Some.is ∙ pick_true _ _ _ (le-leb _ 999 c.if-size-gt999.false))

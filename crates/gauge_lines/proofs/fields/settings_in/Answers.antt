@@ -11,8 +11,7 @@ use mir.Val.{SFits}
 use mir.ValLaws.{to_z-of_z}
 use Rattle.gauge_lines.specs.declared.fields.Asked.{Asked}
 use Rattle.gauge_lines.specs.declared.fields.Asked.TheVariants as A
-use Rattle.text.specs.declared.numbers.Natural.{Natural}
-use Rattle.text.specs.declared.numbers.Natural.TheVariants as N
+use Rattle.std.specs.Prelude.{Option, Some, ℕ}
 use Rattle.gauge_lines.specs.declared.fields.Size.TheVariants as Z
 use Rattle.gauge_lines.specs.declared.fields.Scale.TheVariants as S
 use Rattle.gauge_lines.specs.Lines.{size_in, scale_in, wanted_of, settings_of}
@@ -34,7 +33,7 @@ returns-in_default-scale_of c =
     let four : spaces_of c.args.line.now ≡ 4 = sym c.spaces.ensures ∙ c.if-spaces-ne4.false in
     let size : size_in (decimal_of (field_of c.args.line.now 1)) ≡ c.size_of.result = sym (c.size_of.ensures ∙ ap size_in c.decimal_at.ensures) in
     let scale : scale_in (signed_of (field_of c.args.line.now 2)) ≡ c.scale_of.result = sym (c.scale_of.ensures ∙ ap scale_in c.signed_at.ensures) in
-    settings-are c.args.line.now (four) _ _ _ _ (size ∙ c.in-Is.is)
+    settings-are c.args.line.now (four) _ _ _ _ (size ∙ c.in-Some.is)
     (scale ∙ c.in_default-scale_of.is) refl refl
 
 pub returns-in_default-decimal_at : goal.returns-in_default-decimal_at
@@ -42,19 +41,19 @@ returns-in_default-decimal_at c =
     let four : spaces_of c.args.line.now ≡ 4 = sym c.spaces.ensures ∙ c.if-spaces-ne4.false in
     let size : size_in (decimal_of (field_of c.args.line.now 1)) ≡ c.size_of.result = sym (c.size_of.ensures ∙ ap size_in c.decimal_at.ensures) in
     let scale : scale_in (signed_of (field_of c.args.line.now 2)) ≡ c.scale_of.result = sym (c.scale_of.ensures ∙ ap scale_in c.signed_at.ensures) in
-    settings-are c.args.line.now (four) _ _ _ _ (size ∙ c.in-Is.is)
-    (scale ∙ c.in-Is-scale_of.is) (sym c.decimal_at-2.ensures ∙ c.in_default-decimal_at.is) refl
+    settings-are c.args.line.now (four) _ _ _ _ (size ∙ c.in-Some.is)
+    (scale ∙ c.in-Some-scale_of.is) (sym c.decimal_at-2.ensures ∙ c.in_default-decimal_at.is) refl
 
 pub returns-in_default-decimal_at-2 : goal.returns-in_default-decimal_at-2
 returns-in_default-decimal_at-2 c =
     let four : spaces_of c.args.line.now ≡ 4 = sym c.spaces.ensures ∙ c.if-spaces-ne4.false in
     let size : size_in (decimal_of (field_of c.args.line.now 1)) ≡ c.size_of.result = sym (c.size_of.ensures ∙ ap size_in c.decimal_at.ensures) in
     let scale : scale_in (signed_of (field_of c.args.line.now 2)) ≡ c.scale_of.result = sym (c.scale_of.ensures ∙ ap scale_in c.signed_at.ensures) in
-    let last : (x : Natural) → c.decimal_at-3.result ≡ x → wanted_of (Z.Is c.in-Is.size)
-    (S.Is c.in-Is-scale_of.scale) (N.Is c.in-Is-decimal_at.limit) x
+    let last : (x : Option ℕ) → c.decimal_at-3.result ≡ x → wanted_of (Z.Is c.in-Some.size)
+    (S.Is c.in-Some-scale_of.scale) (Some c.in-Some-decimal_at.limit) x
     ≡ settings_of c.args.line.now =
-    λ x e. settings-are c.args.line.now (four) _ _ _ _ (size ∙ c.in-Is.is)
-    (scale ∙ c.in-Is-scale_of.is) (sym c.decimal_at-2.ensures ∙ c.in-Is-decimal_at.is)
+    λ x e. settings-are c.args.line.now (four) _ _ _ _ (size ∙ c.in-Some.is)
+    (scale ∙ c.in-Some-scale_of.is) (sym c.decimal_at-2.ensures ∙ c.in-Some-decimal_at.is)
     (sym c.decimal_at-3.ensures ∙ e) in
     last _ c.in_default-decimal_at-2.is
 
@@ -63,30 +62,30 @@ returns-then-limit-gt-MOST_LIMIT c =
     let four : spaces_of c.args.line.now ≡ 4 = sym c.spaces.ensures ∙ c.if-spaces-ne4.false in
     let size : size_in (decimal_of (field_of c.args.line.now 1)) ≡ c.size_of.result = sym (c.size_of.ensures ∙ ap size_in c.decimal_at.ensures) in
     let scale : scale_in (signed_of (field_of c.args.line.now 2)) ≡ c.scale_of.result = sym (c.scale_of.ensures ∙ ap scale_in c.signed_at.ensures) in
-    let last : (x : Natural) → c.decimal_at-3.result ≡ x → wanted_of (Z.Is c.in-Is.size)
-    (S.Is c.in-Is-scale_of.scale) (N.Is c.in-Is-decimal_at.limit) x
+    let last : (x : Option ℕ) → c.decimal_at-3.result ≡ x → wanted_of (Z.Is c.in-Some.size)
+    (S.Is c.in-Some-scale_of.scale) (Some c.in-Some-decimal_at.limit) x
     ≡ settings_of c.args.line.now =
-    λ x e. settings-are c.args.line.now (four) _ _ _ _ (size ∙ c.in-Is.is)
-    (scale ∙ c.in-Is-scale_of.is) (sym c.decimal_at-2.ensures ∙ c.in-Is-decimal_at.is)
+    λ x e. settings-are c.args.line.now (four) _ _ _ _ (size ∙ c.in-Some.is)
+    (scale ∙ c.in-Some-scale_of.is) (sym c.decimal_at-2.ensures ∙ c.in-Some-decimal_at.is)
     (sym c.decimal_at-3.ensures ∙ e) in
-    sym (pick-false _ _ _ (lt-leb _ 30 c.if-limit-gt-MOST_LIMIT.true)) ∙ last _ c.in-Is-decimal_at-2.is
+    sym (pick-false _ _ _ (lt-leb _ 30 c.if-limit-gt-MOST_LIMIT.true)) ∙ last _ c.in-Some-decimal_at-2.is
 
 pub returns : goal.returns
 returns c =
     let size : size_in (decimal_of (field_of c.args.line.now 1)) ≡ c.size_of.result = sym (c.size_of.ensures ∙ ap size_in c.decimal_at.ensures) in
     let scale : scale_in (signed_of (field_of c.args.line.now 2)) ≡ c.scale_of.result = sym (c.scale_of.ensures ∙ ap scale_in c.signed_at.ensures) in
     let four : spaces_of c.args.line.now ≡ 4 = sym c.spaces.ensures ∙ c.if-spaces-ne4.false in
-    let last : (x : Natural) → c.decimal_at-3.result ≡ x → wanted_of (Z.Is c.in-Is.size)
-    (S.Is c.in-Is-scale_of.scale) (N.Is c.in-Is-decimal_at.limit) x
+    let last : (x : Option ℕ) → c.decimal_at-3.result ≡ x → wanted_of (Z.Is c.in-Some.size)
+    (S.Is c.in-Some-scale_of.scale) (Some c.in-Some-decimal_at.limit) x
     ≡ settings_of c.args.line.now =
-    λ x e. settings-are c.args.line.now (four) _ _ _ _ (size ∙ c.in-Is.is)
-    (scale ∙ c.in-Is-scale_of.is) (sym c.decimal_at-2.ensures ∙ c.in-Is-decimal_at.is)
+    λ x e. settings-are c.args.line.now (four) _ _ _ _ (size ∙ c.in-Some.is)
+    (scale ∙ c.in-Some-scale_of.is) (sym c.decimal_at-2.ensures ∙ c.in-Some-decimal_at.is)
     (sym c.decimal_at-3.ensures ∙ e) in
-    let f : SFits w32 c.in-Is-scale_of.scale = search rules in
+    let f : SFits w32 c.in-Some-scale_of.scale = search rules in
     let w : ℤ → Asked = λ x. A.Is (record {
-      size = c.in-Is.size;
+      size = c.in-Some.size;
       scale = x;
-      limit = c.in-Is-decimal_at.limit;
-      start = c.in-Is-decimal_at-2.start;
+      limit = c.in-Some-decimal_at.limit;
+      start = c.in-Some-decimal_at-2.start;
     }) in
-    ap w (to_z-of_z w32 c.in-Is-scale_of.scale f) ∙ sym (pick_true _ _ _ (le-leb _ 30 c.if-limit-gt-MOST_LIMIT.false)) ∙ last _ c.in-Is-decimal_at-2.is
+    ap w (to_z-of_z w32 c.in-Some-scale_of.scale f) ∙ sym (pick_true _ _ _ (le-leb _ 30 c.if-limit-gt-MOST_LIMIT.false)) ∙ last _ c.in-Some-decimal_at-2.is

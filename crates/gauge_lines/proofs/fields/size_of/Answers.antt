@@ -6,7 +6,7 @@ use Rattle.gauge_lines.specs.Lines.{size_in}
 use Rattle.gauge_lines.proofs.fields.size_of.Goals as goal
 
 pub returns-then-x-gt999 : goal.returns-then-x-gt999
-returns-then-x-gt999 c = sym (ap size_in c.in-Is.is ∙ pick-false _ _ _ (lt-leb _ 999 c.if-x-gt999.true))
+returns-then-x-gt999 c = sym (ap size_in c.in-Some.is ∙ pick-false _ _ _ (lt-leb _ 999 c.if-x-gt999.true))
 
 pub returns : goal.returns
-returns c = sym (ap size_in c.in-Is.is ∙ pick_true _ _ _ (le-leb _ 999 c.if-x-gt999.false))
+returns c = sym (ap size_in c.in-Some.is ∙ pick_true _ _ _ (le-leb _ 999 c.if-x-gt999.false))

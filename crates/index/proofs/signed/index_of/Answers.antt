@@ -7,7 +7,7 @@ use lib.Dec.{lit≤}
 use lib.IntN.{pos, ◌-ℤ◌}
 use lib.Pow.{pow_mono}
 use Rattle.index.specs.Bins.{finest, end_bin}
-use Rattle.index.specs.declared.signed.Integer.TheVariants as I
+use Rattle.std.specs.Prelude.{Some}
 use Rattle.index.proofs.Casts.{shifted, doubled, bias-small, difference-fits, difference-is}
 use Rattle.index.proofs.SignedCases.{index-none, index-high, index_is}
 use Rattle.index.proofs.signed.index_of.Goals as goal
@@ -50,7 +50,7 @@ returns c =
     let held : c.args.level ≤ finest = omega arith in
     let below : c.args.bin < end_bin c.args.level = subst (λ (n : ℕ). c.args.bin < n) (shifted 3 c.args.level (lit≤ tt) (held)) (omega (arith, c.if-level-bin.false)) in
     let bin_small : c.args.bin < 2147483648 = lt_of_lt_of_le (below) (le_trans (mul-le-mul_left 3 (pow_mono (held))) (lit≤ tt)) in
-    ap I.Is
+    ap Some
     (difference-is c.args.bin (2 * 2 ^ c.args.level % 4294967296) (bin_small) (bias-lt c.args.level (held))
     ∙ ap (λ (n : ℕ). pos c.args.bin -ℤ pos n) (doubled c.args.level (held)))
     ∙ sym (index_is c.args.level c.args.bin (held) (below))

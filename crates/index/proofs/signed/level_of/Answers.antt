@@ -7,7 +7,7 @@ use lib.Signed.{lt_z, le_z}
 use mir.Syntax.{w32}
 use mir.Val.{to_z, of_z}
 use mir.ValLaws.{to_z-of_z}
-use Rattle.index.specs.declared.signed.Natural.TheVariants as N
+use Rattle.std.specs.Prelude.{Some}
 use Rattle.index.proofs.Casts.{sum_fits, sum_is, sum-natural, not-below, next}
 use Rattle.index.proofs.SignedCases.{level-low, level-high, level-is}
 use Rattle.index.proofs.signed.level_of.Goals as goal
@@ -43,4 +43,4 @@ returns c =
     let high : lt_z (pos 10) c.args.scale ≡ false = subst (λ (z : ℤ). lt_z (pos 10) z ≡ false) (held) c.if-scale-gt10.false in
     let under : le_z (pos 11) c.args.scale ≡ false = sym (next 10 c.args.scale) ∙ high in
     let low : lt_z c.args.scale (negsuc 9) ≡ false = subst (λ (z : ℤ). lt_z z (negsuc 9) ≡ false) (held) c.if-scale-ltminus10.false in
-    ap (λ (z : ℤ). N.Is (nat_abs z)) (sum_is c.args.scale 11 10 c.ranges.scale (under) (lit≤ tt) (lit< tt)) ∙ sym (level-is c.args.scale (low) (high))
+    ap (λ (z : ℤ). Some (nat_abs z)) (sum_is c.args.scale 11 10 c.ranges.scale (under) (lit≤ tt) (lit< tt)) ∙ sym (level-is c.args.scale (low) (high))

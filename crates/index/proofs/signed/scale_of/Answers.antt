@@ -3,7 +3,7 @@ use mathlib.Core.Path.{sym, ap, ◌∙◌}
 use Prim.Native.Nat.{◌<◌}
 use native.Mathlib.Omega.{arith}
 use lib.Dec.{lit<}
-use Rattle.index.specs.declared.signed.Integer.TheVariants as I
+use Rattle.std.specs.Prelude.{Some}
 use Rattle.index.proofs.Casts.{difference-fits, difference-is}
 use Rattle.index.proofs.SignedCases.{scale-none, scale-is}
 use Rattle.index.proofs.signed.scale_of.Goals as goal
@@ -19,4 +19,4 @@ overflow_sub-result c =
 pub returns : goal.returns
 returns c =
     let small : c.args.level < 2147483648 = omega arith in
-    ap I.Is (difference-is c.args.level 10 (small) (lit< tt)) ∙ sym (scale-is c.args.level (omega arith))
+    ap Some (difference-is c.args.level 10 (small) (lit< tt)) ∙ sym (scale-is c.args.level (omega arith))

@@ -27,9 +27,9 @@ returns-then-bytes-colon c =
     let a = c.args in
     let bs = a.bytes.now in
     let xs = drop a.from bs in
-    let q = c.word_at-k.ensures.1 ∙ ap (λ (x : Word). behind x (a.from + length (until 58 xs))) c.in-Is.is in
+    let q = c.word_at-k.ensures.1 ∙ ap (λ (x : Word). behind x (a.from + length (until 58 xs))) c.in-Some.is in
     parted-none (until 44 xs) a.from c.no_attribute-then-bytes-colon.result.attribute c.no_attribute-then-bytes-colon.result.to c.no_attribute-then-bytes-colon.ensures.0 c.no_attribute-then-bytes-colon.ensures.1
-    (at-end bs a.from c.word_at-k.result.to _ (sym c.word_at-k.ensures.0 ∙ c.in-Is.is) q c.requires c.if-bytes-colon.true)
+    (at-end bs a.from c.word_at-k.result.to _ (sym c.word_at-k.ensures.0 ∙ c.in-Some.is) q c.requires c.if-bytes-colon.true)
 
 pub word_at-v-requires : goal.word_at-v-requires
 word_at-v-requires c = (omega arith, comma-mark)
@@ -39,8 +39,8 @@ returns-in_default-value c =
     let a = c.args in
     let bs = a.bytes.now in
     let xs = drop a.from bs in
-    let q = c.word_at-k.ensures.1 ∙ ap (λ (x : Word). behind x (a.from + length (until 58 xs))) c.in-Is.is in
-    let f = at_value bs a.from c.word_at-k.result.to _ (sym c.word_at-k.ensures.0 ∙ c.in-Is.is) q (omega (arith, c.if-bytes-colon.false)) in
+    let q = c.word_at-k.ensures.1 ∙ ap (λ (x : Word). behind x (a.from + length (until 58 xs))) c.in-Some.is in
+    let f = at_value bs a.from c.word_at-k.result.to _ (sym c.word_at-k.ensures.0 ∙ c.in-Some.is) q (omega (arith, c.if-bytes-colon.false)) in
     parted-none (until 44 xs) a.from c.no_attribute-in_default-value.result.attribute c.no_attribute-in_default-value.result.to c.no_attribute-in_default-value.ensures.0 c.no_attribute-in_default-value.ensures.1
     (f.0 ∙ ap (both_of (W.Is _)) (sym c.word_at-v.ensures.0 ∙ c.in_default-value.is))
 
@@ -49,8 +49,8 @@ returns c =
     let a = c.args in
     let bs = a.bytes.now in
     let xs = drop a.from bs in
-    let q = c.word_at-k.ensures.1 ∙ ap (λ (x : Word). behind x (a.from + length (until 58 xs))) c.in-Is.is in
-    let f = at_value bs a.from c.word_at-k.result.to _ (sym c.word_at-k.ensures.0 ∙ c.in-Is.is) q (omega (arith, c.if-bytes-colon.false)) in (
-      sym (f.0 ∙ ap (both_of (W.Is _)) (sym c.word_at-v.ensures.0 ∙ c.in-Is-value.is)),
-      c.word_at-v.ensures.1 ∙ ap (λ (x : Word). behind x (c.word_at-k.result.to + 1 + length (until 44 (drop (c.word_at-k.result.to + 1) bs)))) c.in-Is-value.is ∙ sym f.1,
+    let q = c.word_at-k.ensures.1 ∙ ap (λ (x : Word). behind x (a.from + length (until 58 xs))) c.in-Some.is in
+    let f = at_value bs a.from c.word_at-k.result.to _ (sym c.word_at-k.ensures.0 ∙ c.in-Some.is) q (omega (arith, c.if-bytes-colon.false)) in (
+      sym (f.0 ∙ ap (both_of (W.Is _)) (sym c.word_at-v.ensures.0 ∙ c.in-Some-value.is)),
+      c.word_at-v.ensures.1 ∙ ap (λ (x : Word). behind x (c.word_at-k.result.to + 1 + length (until 44 (drop (c.word_at-k.result.to + 1) bs)))) c.in-Some-value.is ∙ sym f.1,
     )

@@ -30,19 +30,19 @@ pub returns-then-bytes-e : goal.returns-then-bytes-e
 unfolding from
 returns-then-bytes-e c =
     let l = c.loop-i in
-    let q = c.attribute_at-p.ensures.1 ∙ ap (λ (x : Attribute). after x (l.i + length (until 44 (drop l.i c.args.bytes.now)))) c.in-Is.is in
-    let f = last-here c.args.bytes.now l.i c.attribute_at-p.result.to l.n l.attrs q _ _ (sym c.attribute_at-p.ensures.0 ∙ c.in-Is.is) c.if-bytes-e.true in record { value = ap G.Are c.keep-n.ensures.value ∙ sym f.0 ∙ l.invariant.1; attrs_after = c.keep-n.ensures.attrs_after ∙ sym f.1 ∙ l.invariant.2 }
+    let q = c.attribute_at-p.ensures.1 ∙ ap (λ (x : Attribute). after x (l.i + length (until 44 (drop l.i c.args.bytes.now)))) c.in-Some.is in
+    let f = last-here c.args.bytes.now l.i c.attribute_at-p.result.to l.n l.attrs q _ _ (sym c.attribute_at-p.ensures.0 ∙ c.in-Some.is) c.if-bytes-e.true in record { value = ap G.Are c.keep-n.ensures.value ∙ sym f.0 ∙ l.invariant.1; attrs_after = c.keep-n.ensures.attrs_after ∙ sym f.1 ∙ l.invariant.2 }
 
 pub loop-i-smaller : goal.loop-i-smaller
 loop-i-smaller c =
     let l = c.loop-i in
-    omega (arith, c.attribute_at-p.ensures.1 ∙ ap (λ (x : Attribute). after x (l.i + length (until 44 (drop l.i c.args.bytes.now)))) c.in-Is.is)
+    omega (arith, c.attribute_at-p.ensures.1 ∙ ap (λ (x : Attribute). after x (l.i + length (until 44 (drop l.i c.args.bytes.now)))) c.in-Some.is)
 
 pub loop-i-preserved : goal.loop-i-preserved
 loop-i-preserved c =
     let l = c.loop-i in
-    let q = c.attribute_at-p.ensures.1 ∙ ap (λ (x : Attribute). after x (l.i + length (until 44 (drop l.i c.args.bytes.now)))) c.in-Is.is in
-    let f = more-here c.args.bytes.now l.i c.attribute_at-p.result.to l.n l.attrs q _ _ (sym c.attribute_at-p.ensures.0 ∙ c.in-Is.is) c.if-bytes-e.false in
+    let q = c.attribute_at-p.ensures.1 ∙ ap (λ (x : Attribute). after x (l.i + length (until 44 (drop l.i c.args.bytes.now)))) c.in-Some.is in
+    let f = more-here c.args.bytes.now l.i c.attribute_at-p.result.to l.n l.attrs q _ _ (sym c.attribute_at-p.ensures.0 ∙ c.in-Some.is) c.if-bytes-e.false in
     let r = from c.args.bytes.now (c.attribute_at-p.result.to + 1) in (
       omega arith,
       ap (λ (n : ℕ). told n r) c.keep-n.ensures.value ∙ sym f.0 ∙ l.invariant.1,

@@ -7,7 +7,7 @@ use borrow.Author.Tests.{lt-ltb, le-ltb, ltb-true, ltb-false}
 use Rattle.laws.proofs.Bools.{pick_true, pick-false}
 use Rattle.text.specs.Fields.{until}
 use Rattle.text.specs.Numbers.{ill_led}
-use Rattle.text.specs.declared.numbers.Natural.TheVariants as N
+use Rattle.std.specs.Prelude.{Some}
 use Rattle.lines.proofs.Scanning.{goes_none, stops-there, led-none, word-is, scanned-none}
 use Rattle.lines.proofs.attributes.word_at.Goals as goal
 
@@ -47,7 +47,7 @@ returns-then-r-ge4294967296 c =
     let z = ltb-false 0 (length (until a.mark (drop c.digits-r.result.to bs))) (sym c.goes_on.ensures ∙ c.if-goes_on.false) in
     let s = stops-there bs a.from a.mark c.digits-r.result.x c.digits-r.result.to c.requires.1 c.digits-r.ensures (omega arith) in
     scanned-none u a.from c.no_word-then-r-ge4294967296.result.word c.no_word-then-r-ge4294967296.result.to c.no_word-then-r-ge4294967296.ensures.0 c.no_word-then-r-ge4294967296.ensures.1
-    (word-is u (N.Is c.digits-r.result.x) (ap ill_led (sym s.2) ∙ sym c.ill_led.ensures ∙ c.if-ill_led.false) s.1 ∙ pick-false _ _ _ (le-ltb c.digits-r.result.x (2 ^ 32) c.if-r-ge4294967296.true))
+    (word-is u (Some c.digits-r.result.x) (ap ill_led (sym s.2) ∙ sym c.ill_led.ensures ∙ c.if-ill_led.false) s.1 ∙ pick-false _ _ _ (le-ltb c.digits-r.result.x (2 ^ 32) c.if-r-ge4294967296.true))
 
 pub returns : goal.returns
 returns c =
@@ -56,4 +56,4 @@ returns c =
     let u = until a.mark (drop a.from bs) in
     let z = ltb-false 0 (length (until a.mark (drop c.digits-r.result.to bs))) (sym c.goes_on.ensures ∙ c.if-goes_on.false) in
     let s = stops-there bs a.from a.mark c.digits-r.result.x c.digits-r.result.to c.requires.1 c.digits-r.ensures (omega arith) in
-    (sym (word-is u (N.Is c.digits-r.result.x) (ap ill_led (sym s.2) ∙ sym c.ill_led.ensures ∙ c.if-ill_led.false) s.1 ∙ pick_true _ _ _ (lt-ltb c.digits-r.result.x (2 ^ 32) c.if-r-ge4294967296.false)), s.0)
+    (sym (word-is u (Some c.digits-r.result.x) (ap ill_led (sym s.2) ∙ sym c.ill_led.ensures ∙ c.if-ill_led.false) s.1 ∙ pick_true _ _ _ (lt-ltb c.digits-r.result.x (2 ^ 32) c.if-r-ge4294967296.false)), s.0)

@@ -10,31 +10,31 @@ pub pool-requires : goal.pool-requires
 pool-requires c =
     let first : Source = nameless c.args.awords.now c.args.apos.now c.args.aneg.now c.args.abounds.now in
     let second : Source = nameless c.args.bwords.now c.args.bpos.now c.args.bneg.now c.args.bbounds.now in (
-      integer-lies c.args.a (first) c.in-Is.e (sym c.in-Is.ensures),
-      integer-lies c.args.b (second) c.in-Is-second.f (sym c.in-Is-second.ensures),
+      integer-lies c.args.a (first) c.in-Some.e (sym c.in-Some.ensures),
+      integer-lies c.args.b (second) c.in-Some-second.f (sym c.in-Some-second.ensures),
     )
 
-pub returns-in-NoPoint : goal.returns-in-NoPoint
-returns-in-NoPoint c =
+pub returns-in-None : goal.returns-in-None
+returns-in-None c =
     let first : Source = nameless c.args.awords.now c.args.apos.now c.args.aneg.now c.args.abounds.now in
     let second : Source = nameless c.args.bwords.now c.args.bpos.now c.args.bneg.now c.args.bbounds.now in
     let lent : Output = record { sets = c.args.sets.now; words = c.args.words.now; pos = c.args.pos.now; neg = c.args.neg.now } in
     integers_law c.args.size c.args.row c.args.a (first) c.args.b (second) c.args.at (lent) _ _
-    c.in-NoPoint.ensures refl
+    c.in-None.ensures refl
 
-pub returns-in-NoPoint-second : goal.returns-in-NoPoint-second
-returns-in-NoPoint-second c =
+pub returns-in-None-second : goal.returns-in-None-second
+returns-in-None-second c =
     let first : Source = nameless c.args.awords.now c.args.apos.now c.args.aneg.now c.args.abounds.now in
     let second : Source = nameless c.args.bwords.now c.args.bpos.now c.args.bneg.now c.args.bbounds.now in
     let lent : Output = record { sets = c.args.sets.now; words = c.args.words.now; pos = c.args.pos.now; neg = c.args.neg.now } in
     integers_law c.args.size c.args.row c.args.a (first) c.args.b (second) c.args.at (lent) _ _
-    c.in-Is.ensures c.in-NoPoint-second.ensures
+    c.in-Some.ensures c.in-None-second.ensures
 
-pub returns-in-Is-second : goal.returns-in-Is-second
-returns-in-Is-second c =
+pub returns-in-Some-second : goal.returns-in-Some-second
+returns-in-Some-second c =
     let first : Source = nameless c.args.awords.now c.args.apos.now c.args.aneg.now c.args.abounds.now in
     let second : Source = nameless c.args.bwords.now c.args.bpos.now c.args.bneg.now c.args.bbounds.now in
     let lent : Output = record { sets = c.args.sets.now; words = c.args.words.now; pos = c.args.pos.now; neg = c.args.neg.now } in
     c.pool.ensures
     ∙ integers_law c.args.size c.args.row c.args.a (first) c.args.b (second) c.args.at (lent) _ _
-    c.in-Is.ensures c.in-Is-second.ensures
+    c.in-Some.ensures c.in-Some-second.ensures

@@ -16,32 +16,32 @@ refusal_entries-no-requires c =
     let first : Source = nameless c.args.awords.now c.args.apos.now c.args.aneg.now c.args.abounds.now in
     let second : Source = nameless c.args.bwords.now c.args.bpos.now c.args.bneg.now c.args.bbounds.now in (
       subst (λ (d : Entry). whole_in c.args.a d c.args.abounds.now c.args.apos.now c.args.aneg.now) (sym c.shadow_entry-x.ensures)
-          (integer-lies c.args.a (first) c.in-Is.e (sym c.in-Is.ensures)),
-      whole-lies c.args.b (second) c.in-Is-second.f (sym c.in-Is-second.ensures),
+          (integer-lies c.args.a (first) c.in-Some.e (sym c.in-Some.ensures)),
+      whole-lies c.args.b (second) c.in-Some-second.f (sym c.in-Some-second.ensures),
     )
 
-pub returns-in-NoPoint : goal.returns-in-NoPoint
-returns-in-NoPoint c =
+pub returns-in-None : goal.returns-in-None
+returns-in-None c =
     let first : Source = nameless c.args.awords.now c.args.apos.now c.args.aneg.now c.args.abounds.now in
     let second : Source = nameless c.args.bwords.now c.args.bpos.now c.args.bneg.now c.args.bbounds.now in
-    mixed-found c.args.size c.args.a (first) c.args.b (second) _ _ c.in-NoPoint.ensures refl
+    mixed-found c.args.size c.args.a (first) c.args.b (second) _ _ c.in-None.ensures refl
 
-pub returns-in-NoPoint-second : goal.returns-in-NoPoint-second
-returns-in-NoPoint-second c =
+pub returns-in-None-second : goal.returns-in-None-second
+returns-in-None-second c =
     let first : Source = nameless c.args.awords.now c.args.apos.now c.args.aneg.now c.args.abounds.now in
     let second : Source = nameless c.args.bwords.now c.args.bpos.now c.args.bneg.now c.args.bbounds.now in
     mixed-found c.args.size c.args.a (first) c.args.b (second) _ _
-    c.in-Is.ensures c.in-NoPoint-second.ensures
+    c.in-Some.ensures c.in-None-second.ensures
 
-pub returns-in-Is-second : goal.returns-in-Is-second
-returns-in-Is-second c =
+pub returns-in-Some-second : goal.returns-in-Some-second
+returns-in-Some-second c =
     let first : Source = nameless c.args.awords.now c.args.apos.now c.args.aneg.now c.args.abounds.now in
     let second : Source = nameless c.args.bwords.now c.args.bpos.now c.args.bneg.now c.args.bbounds.now in
     let a = c.args in
-    let y = stored_of a.b c.in-Is-second.f a.bbounds.now a.bpos.now a.bneg.now in
+    let y = stored_of a.b c.in-Some-second.f a.bbounds.now a.bpos.now a.bneg.now in
     c.beside.ensures
-    ∙ mixed_law a.size (WL.stored_at a.a c.in-Is.e (first).bounds (first).list) y c.refusal_entries-no.result
+    ∙ mixed_law a.size (WL.stored_at a.a c.in-Some.e (first).bounds (first).list) y c.refusal_entries-no.result
     (c.refusal_entries-no.ensures
     ∙ (λ i. refusal_before a.size (stored_of a.a (c.shadow_entry-x.ensures i) a.abounds.now a.apos.now a.aneg.now) y))
     ∙ mixed-found a.size a.a (first) a.b (second) _ _
-    c.in-Is.ensures c.in-Is-second.ensures
+    c.in-Some.ensures c.in-Some-second.ensures

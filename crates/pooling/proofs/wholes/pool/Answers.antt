@@ -49,8 +49,8 @@ renumber-requires c =
     let a = c.args in
     numberable a.size a.row a.e.bounds (first) (second) a.at (lent) (long) (said c.pool-r.result) (left) (pooled-shadows)
 
-pub returns-in-Outside : goal.returns-in-Outside
-returns-in-Outside c =
+pub returns-in-None : goal.returns-in-None
+returns-in-None c =
     let first : Stored = whole_of c.args.a c.args.e c.args.abounds.now c.args.apos.now c.args.aneg.now in
     let second : Stored = whole_of c.args.b c.args.f c.args.bbounds.now c.args.bpos.now c.args.bneg.now in
     let lent : Output = record { sets = c.args.sets.now; words = c.args.words.now; pos = c.args.pos.now; neg = c.args.neg.now } in
@@ -58,15 +58,15 @@ returns-in-Outside c =
     let second-sum : SFits w64 c.args.f.point.sum = search rules in
     let told : c.sum-total.result ≡ sum_of (first).point.sum (second).point.sum = c.sum-total.ensures ∙ (λ j. sum_of (held c.args.e.point.sum (first-sum) j) (held c.args.f.point.sum (second-sum) j)) in
     let a = c.args in
-    outside-pooled a.size a.row a.e.bounds (first) (second) a.at (lent) (sym (told) ∙ c.in-Outside.is)
+    outside-pooled a.size a.row a.e.bounds (first) (second) a.at (lent) (sym (told) ∙ c.in-None.is)
     c.refusal_entries-no.result c.last_number-n.result
     (c.refusal_entries-no.ensures
     ∙ (λ i. refusal_before a.size (stored_of a.a (c.shadow_entry-x.ensures i) a.abounds.now a.apos.now a.aneg.now)
     (stored_of a.b (c.shadow_entry-y.ensures i) a.bbounds.now a.bpos.now a.bneg.now)))
     c.last_number-n.ensures
 
-pub returns-in-Is : goal.returns-in-Is
-returns-in-Is c =
+pub returns-in-Some : goal.returns-in-Some
+returns-in-Some c =
     let left : Output = record { sets = c.pool-r.new.sets; words = c.pool-r.new.words; pos = c.pool-r.new.pos; neg = c.pool-r.new.neg } in
     let first : Stored = whole_of c.args.a c.args.e c.args.abounds.now c.args.apos.now c.args.aneg.now in
     let second : Stored = whole_of c.args.b c.args.f c.args.bbounds.now c.args.bpos.now c.args.bneg.now in
@@ -81,11 +81,11 @@ returns-in-Is c =
     c.pool-r.ensures
     ∙ (λ i. pooled a.size a.row (c.shadow_entry-x.ensures i).bounds (stored_of a.a (c.shadow_entry-x.ensures i) a.abounds.now a.apos.now a.aneg.now)
     (stored_of a.b (c.shadow_entry-y.ensures i) a.bbounds.now a.bpos.now a.bneg.now) a.at (lent)) in
-    let whole_sum : SFits w64 c.in-Is.s = search rules in
+    let whole_sum : SFits w64 c.in-Some.s = search rules in
     let a = c.args in
     let o = left in
     ap (λ (q : Pooled). ends (said q) (record { sets = o.sets; words = c.renumber.new.words; pos = o.pos; neg = o.neg })) c.renumber.ensures.0
-    ∙ inside-pooled a.size a.row a.e.bounds (first) (second) a.at (lent) (long) c.in-Is.s (sym (told) ∙ c.in-Is.is)
+    ∙ inside-pooled a.size a.row a.e.bounds (first) (second) a.at (lent) (long) c.in-Some.s (sym (told) ∙ c.in-Some.is)
     (said c.pool-r.result) o c.renumber.new.words (pooled-shadows)
     (c.renumber.ensures.1
-    ∙ (λ i. renumbered a.at.place (c.smaller-min.ensures i) (c.larger-max.ensures i) (held c.in-Is.s (whole_sum) i) (said c.pool-r.result) o.words))
+    ∙ (λ i. renumbered a.at.place (c.smaller-min.ensures i) (c.larger-max.ensures i) (held c.in-Some.s (whole_sum) i) (said c.pool-r.result) o.words))

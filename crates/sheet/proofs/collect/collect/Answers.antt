@@ -21,8 +21,8 @@ returns-in-Refused c =
     let lent : Cells = let a = c.args in cells a.figures.now a.extremes.now a.pos.now a.neg.now in
     let outs : Source = let a = c.args in source a.out_sets.now a.out_words.now a.out_pos.now a.out_neg.now a.bounds.now in
     let a = c.args in
-    collect-none a.g a.line.now a.n a.text.now (dirs) (lent) (outs) a.sheet.now c.in-Is.time
-    (sym c.time_in.ensures ∙ c.in-Is.is) c.delta-reply.result.answer c.delta-reply.result.dir _ _ c.delta-reply.ensures
+    collect-none a.g a.line.now a.n a.text.now (dirs) (lent) (outs) a.sheet.now c.in-Some.time
+    (sym c.time_in.ensures ∙ c.in-Some.is) c.delta-reply.result.answer c.delta-reply.result.dir _ _ c.delta-reply.ensures
     _ c.in-Refused.is c.ended-in-Refused.result c.ended-in-Refused.ensures
 
 pub returns-in-Listed : goal.returns-in-Listed
@@ -31,7 +31,7 @@ returns-in-Listed c =
     let lent : Cells = let a = c.args in cells a.figures.now a.extremes.now a.pos.now a.neg.now in
     let outs : Source = let a = c.args in source a.out_sets.now a.out_words.now a.out_pos.now a.out_neg.now a.bounds.now in
     let a = c.args in
-    collect-made a.g a.line.now a.n a.text.now (dirs) (lent) (outs) a.sheet.now c.in-Is.time
-    (sym c.time_in.ensures ∙ c.in-Is.is) c.delta-reply.result.answer c.delta-reply.result.dir _ _ c.delta-reply.ensures
+    collect-made a.g a.line.now a.n a.text.now (dirs) (lent) (outs) a.sheet.now c.in-Some.time
+    (sym c.time_in.ensures ∙ c.in-Some.is) c.delta-reply.result.answer c.delta-reply.result.dir _ _ c.delta-reply.ensures
     c.in-Listed.many c.in-Listed.is c.turned-t.result c.turned-t.ensures
     c.write-end.result _ _ c.write-end.ensures c.ended-in-Listed.result c.ended-in-Listed.ensures

@@ -15,14 +15,14 @@ returns-then-st-gt0 c =
     step-inside a.st a.line.now a.over a.n a.text.now (dirs) (lent) (outs) a.sheet.now c.if-st-gt0.true
     c.follow.result _ _ _ (c.follow.ensures.bounds_value, c.follow.ensures.sheet_after)
 
-pub returns-in-Is : goal.returns-in-Is
-returns-in-Is c =
+pub returns-in-Some : goal.returns-in-Some
+returns-in-Some c =
     let dirs : Stores = let a = c.args in stores a.sets.now a.entries.now a.order.now in
     let lent : Cells = let a = c.args in cells a.figures.now a.extremes.now a.pos.now a.neg.now in
     let outs : Source = let a = c.args in source a.out_sets.now a.out_words.now a.out_pos.now a.out_neg.now a.bounds.now in
     let a = c.args in
     step-begins a.st a.line.now a.over a.n a.text.now (dirs) (lent) (outs) a.sheet.now c.if-st-gt0.false
-    c.in-Is.records (sym c.records_in-asked.ensures ∙ c.in-Is.is) c.begin.result _ _ c.begin.ensures
+    c.in-Some.records (sym c.records_in-asked.ensures ∙ c.in-Some.is) c.begin.result _ _ c.begin.ensures
 
 pub returns-in-None : goal.returns-in-None
 returns-in-None c =

@@ -11,9 +11,9 @@ returns-in-Refused c =
     show-refused a.bytes.now (listed) (waiting a.n a.text.now) c.read-answer.result _ c.read-answer.ensures _ c.in-Refused.is _
     c.refusal.ensures
 
-pub returns-in-Is : goal.returns-in-Is
-returns-in-Is c =
+pub returns-in-Some : goal.returns-in-Some
+returns-in-Some c =
     let listed : Source = let a = c.args in source a.sets.now a.words.now a.pos.now a.neg.now a.bounds.now in
     let a = c.args in
-    show-made a.bytes.now (listed) (waiting a.n a.text.now) c.read-answer.result _ c.read-answer.ensures c.in-Is.listed
-    c.in-Is.is _ c.collection.ensures
+    show-made a.bytes.now (listed) (waiting a.n a.text.now) c.read-answer.result _ c.read-answer.ensures c.in-Some.listed
+    c.in-Some.is _ c.collection.ensures

@@ -11,18 +11,18 @@ pub returns-then-agrees_alone : goal.returns-then-agrees_alone
 returns-then-agrees_alone c =
     let beside : Source = let a = c.args in lent_beside a.pos.now a.neg.now a.bounds.now in
     let asked : c.agrees_alone.result
-    ≡ agrees_alone (stored_at c.args.at c.in-Is.e (beside).bounds (beside).list) =
+    ≡ agrees_alone (stored_at c.args.at c.in-Some.e (beside).bounds (beside).list) =
     c.agrees_alone.ensures
-    ∙ (λ j. agrees_alone (stored_in c.in-Is.e.point (c.bounds_at-own.ensures j) (c.row_at-xs.ensures j) (c.row_at-ys.ensures j))) in
+    ∙ (λ j. agrees_alone (stored_in c.in-Some.e.point (c.bounds_at-own.ensures j) (c.row_at-xs.ensures j) (c.row_at-ys.ensures j))) in
     let a = c.args in
-    agreeing_in a.at (beside) a.found c.in-Is.e c.in-Is.is (sym (asked) ∙ c.if-agrees_alone.true)
+    agreeing_in a.at (beside) a.found c.in-Some.e c.in-Some.is (sym (asked) ∙ c.if-agrees_alone.true)
 
 pub returns-else-agrees_alone : goal.returns-else-agrees_alone
 returns-else-agrees_alone c =
     let beside : Source = let a = c.args in lent_beside a.pos.now a.neg.now a.bounds.now in
     let asked : c.agrees_alone.result
-    ≡ agrees_alone (stored_at c.args.at c.in-Is.e (beside).bounds (beside).list) =
+    ≡ agrees_alone (stored_at c.args.at c.in-Some.e (beside).bounds (beside).list) =
     c.agrees_alone.ensures
-    ∙ (λ j. agrees_alone (stored_in c.in-Is.e.point (c.bounds_at-own.ensures j) (c.row_at-xs.ensures j) (c.row_at-ys.ensures j))) in
+    ∙ (λ j. agrees_alone (stored_in c.in-Some.e.point (c.bounds_at-own.ensures j) (c.row_at-xs.ensures j) (c.row_at-ys.ensures j))) in
     let a = c.args in
-    agreeing-out a.at (beside) a.found c.in-Is.e c.in-Is.is (sym (asked) ∙ c.if-agrees_alone.false)
+    agreeing-out a.at (beside) a.found c.in-Some.e c.in-Some.is (sym (asked) ∙ c.if-agrees_alone.false)

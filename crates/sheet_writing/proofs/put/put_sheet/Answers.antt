@@ -1,7 +1,7 @@
 -- `sheet_writing::put::put_sheet` meets its contract. Assumes nothing.
 use mathlib.Core.Path.{◌≡◌, refl, sym, ◌∙◌}
 use native.Mathlib.Omega.{arith}
-use Rattle.listing.specs.declared.Found.TheVariants.{Is}
+use Rattle.std.specs.Prelude.{Some}
 use Rattle.pooling.specs.Lists.{Source, source, whole_at}
 use Rattle.pooling.proofs.Whole.{whole-lies}
 use Rattle.sheet_writing.specs.Inner.{origin}
@@ -42,36 +42,36 @@ returns-in_default c =
 pub bounds-sets-i : goal.bounds-sets-i
 bounds-sets-i c =
     let list : Source = let a = c.args in source a.sets.now a.words.now a.pos.now a.neg.now a.bounds.now in
-    let found : whole_at c.loop-i.at list ≡ Is c.in-Is.e = sym c.in-Is.ensures in
-    turn-row c.args.n c.loop-i.i c.args.records c.loop-i.at c.loop-i.k list c.loop-i.invariant.0 c.loop-i-test.true c.in-Is.e (found)
+    let found : whole_at c.loop-i.at list ≡ Some c.in-Some.e = sym c.in-Some.ensures in
+    turn-row c.args.n c.loop-i.i c.args.records c.loop-i.at c.loop-i.k list c.loop-i.invariant.0 c.loop-i-test.true c.in-Some.e (found)
 
 pub put_found-requires : goal.put_found-requires
 put_found-requires c =
     let list : Source = let a = c.args in source a.sets.now a.words.now a.pos.now a.neg.now a.bounds.now in
-    let found : whole_at c.loop-i.at list ≡ Is c.in-Is.e = sym c.in-Is.ensures in
+    let found : whole_at c.loop-i.at list ≡ Some c.in-Some.e = sym c.in-Some.ensures in
     record {
       room = record {
         small = c.info_of-info.ensures.1;
         few = omega (arith, c.loop-i.invariant.0.few);
         long = omega (arith, c.requires.room, c.loop-i.invariant.2, c.put_header.auto.s);
       };
-      whole_there = whole-lies c.loop-i.at list c.in-Is.e (found);
-      e_bound = turn-room c.args.n c.loop-i.i c.args.records c.loop-i.at c.loop-i.k list c.loop-i.invariant.0 c.loop-i-test.true c.in-Is.e (found);
+      whole_there = whole-lies c.loop-i.at list c.in-Some.e (found);
+      e_bound = turn-room c.args.n c.loop-i.i c.args.records c.loop-i.at c.loop-i.k list c.loop-i.invariant.0 c.loop-i-test.true c.in-Some.e (found);
     }
 
 pub width_at-k-requires : goal.width_at-k-requires
 width_at-k-requires c =
     let list : Source = let a = c.args in source a.sets.now a.words.now a.pos.now a.neg.now a.bounds.now in
-    let found : whole_at c.loop-i.at list ≡ Is c.in-Is.e = sym c.in-Is.ensures in
-    step_spanned c.loop-i.at list c.in-Is.e
-    (turn_step c.args.n c.loop-i.i c.args.records c.loop-i.at c.loop-i.k list c.loop-i.invariant.0 c.loop-i-test.true c.in-Is.e (found))
+    let found : whole_at c.loop-i.at list ≡ Some c.in-Some.e = sym c.in-Some.ensures in
+    step_spanned c.loop-i.at list c.in-Some.e
+    (turn_step c.args.n c.loop-i.i c.args.records c.loop-i.at c.loop-i.k list c.loop-i.invariant.0 c.loop-i-test.true c.in-Some.e (found))
 
 pub overflow_add-k : goal.overflow_add-k
 overflow_add-k c =
     let list : Source = let a = c.args in source a.sets.now a.words.now a.pos.now a.neg.now a.bounds.now in
-    let found : whole_at c.loop-i.at list ≡ Is c.in-Is.e = sym c.in-Is.ensures in
+    let found : whole_at c.loop-i.at list ≡ Some c.in-Some.e = sym c.in-Some.ensures in
     let r =
-    turn-room c.args.n c.loop-i.i c.args.records c.loop-i.at c.loop-i.k list c.loop-i.invariant.0 c.loop-i-test.true c.in-Is.e (found) in
+    turn-room c.args.n c.loop-i.i c.args.records c.loop-i.at c.loop-i.k list c.loop-i.invariant.0 c.loop-i-test.true c.in-Some.e (found) in
     omega (arith, r, c.width_at-k.ensures, c.loop-i.invariant.0.few)
 
 pub overflow_add-i : goal.overflow_add-i
@@ -83,11 +83,11 @@ loop-i-smaller c = omega (arith, c.loop-i-test.true)
 pub loop-i-preserved : goal.loop-i-preserved
 loop-i-preserved c =
     let list : Source = let a = c.args in source a.sets.now a.words.now a.pos.now a.neg.now a.bounds.now in
-    let found : whole_at c.loop-i.at list ≡ Is c.in-Is.e = sym c.in-Is.ensures in (
-      turn-left c.args.n c.loop-i.i c.args.records c.loop-i.at c.loop-i.k list c.loop-i.invariant.0 c.loop-i-test.true c.in-Is.e (found)
+    let found : whole_at c.loop-i.at list ≡ Some c.in-Some.e = sym c.in-Some.ensures in (
+      turn-left c.args.n c.loop-i.i c.args.records c.loop-i.at c.loop-i.k list c.loop-i.invariant.0 c.loop-i-test.true c.in-Some.e (found)
           c.width_at-k.result c.width_at-k.ensures,
       c.loop-i.invariant.1
-          ∙ turn-put c.args.n c.loop-i.i c.args.records c.loop-i.at c.loop-i.k list c.loop-i.invariant.0 c.loop-i-test.true c.in-Is.e (found)
+          ∙ turn-put c.args.n c.loop-i.i c.args.records c.loop-i.at c.loop-i.k list c.loop-i.invariant.0 c.loop-i-test.true c.in-Some.e (found)
           c.width_at-k.result c.width_at-k.ensures _ c.loop-i.s _ c.put_found.ensures,
       c.put_found.auto.s ∙ c.loop-i.invariant.2,
     )

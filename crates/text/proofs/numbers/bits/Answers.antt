@@ -2,7 +2,7 @@
 use Rattle.std.proofs.Common.{length, sym, ap, ◌∙◌, eq-eqb, ne_eqb}
 use Rattle.laws.proofs.Bools.{pick_true, pick-false}
 use Rattle.text.specs.Numbers.{bits_of}
-use Rattle.text.specs.declared.numbers.Natural.TheVariants as N
+use Rattle.std.specs.Prelude.{Some}
 use Rattle.text.proofs.Pairing.{hex-none, bits-joined}
 use Rattle.text.proofs.numbers.bits.Goals as goal
 
@@ -16,7 +16,7 @@ pairs-requires c = (c.if-bytes-ne16.false, sym c.are_hex.ensures ∙ c.if-are_he
 pub returns-then-are_hex : goal.returns-then-are_hex
 unfolding bits_of
 returns-then-are_hex c =
-    ap N.Is c.joined.ensures
+    ap Some c.joined.ensures
     ∙ sym (bits-joined c.args.bytes.now c.pairs.result (sym c.are_hex.ensures ∙ c.if-are_hex.true) c.if-bytes-ne16.false c.pairs.ensures)
     ∙ sym (pick_true _ _ _ (eq-eqb (length c.args.bytes.now) 16 c.if-bytes-ne16.false))
 

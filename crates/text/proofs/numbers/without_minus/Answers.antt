@@ -3,5 +3,5 @@ use Rattle.std.proofs.Common.{sym, ap}
 use Rattle.text.specs.Numbers.{without_minus}
 use Rattle.text.proofs.numbers.without_minus.Goals as goal
 
-pub returns-in-Is : goal.returns-in-Is
-returns-in-Is c = sym (ap without_minus c.in-Is.is)
+pub returns-in-Some : goal.returns-in-Some
+returns-in-Some c = sym (ap without_minus c.in-Some.is)

@@ -8,7 +8,7 @@ use Rattle.integers.proofs.Range.{held}
 use Rattle.whole_listing.specs.Words.{shown_bits}
 use Rattle.whole_listing.proofs.encode.shown_bits.Goals as goal
 
-pub returns-in-Value : goal.returns-in-Value
-returns-in-Value c =
-    let number : SFits w64 c.in-Value.v = search rules in
-    c.bits_of.ensures ∙ ap bits_of (held c.in-Value.v (number)) ∙ sym (ap shown_bits c.in-Value.is)
+pub returns-in-Some : goal.returns-in-Some
+returns-in-Some c =
+    let number : SFits w64 c.in-Some.v = search rules in
+    c.bits_of.ensures ∙ ap bits_of (held c.in-Some.v (number)) ∙ sym (ap shown_bits c.in-Some.is)

@@ -9,10 +9,9 @@ use mir.Syntax.{w64}
 use mir.Val.{Fits}
 use Rattle.whole_point.specs.declared.Point.{Point}
 use Rattle.listing.specs.Listed as L
-use Rattle.listing.specs.declared.Found.TheVariants as LF
+use Rattle.std.specs.Prelude.{Some, None}
 use Rattle.whole_listing.specs.Listed.{entry_in}
 use Rattle.whole_listing.specs.Inner.{own_words, numbered_found}
-use Rattle.whole_listing.specs.declared.Found.TheVariants.{Is}
 use Rattle.whole_listing.proofs.Reading.{Wide, kind-own}
 use Rattle.whole_listing.proofs.Calls.{entry-no, entry-by}
 use Rattle.whole_listing.proofs.read.entry_in.Goals as goal
@@ -27,32 +26,32 @@ shadow_words-s-requires c =
     let own : own_words c.args.w ≡ true = sym c.own_words.ensures ∙ c.if-not-own_words.false in
     kind-own c.args.w (own)
 
-pub returns-in-NoPoint : goal.returns-in-NoPoint
-returns-in-NoPoint c =
+pub returns-in-None : goal.returns-in-None
+returns-in-None c =
     let wide : Wide c.args.w =
     let l : Fits w64 (get_or c.args.w 9 0) = search rules in
     let h : Fits w64 (get_or c.args.w 10 0) = search rules in
     let t : Fits w64 (get_or c.args.w 11 0) = search rules in
     (l.fits, h.fits, t.fits) in
     let own : own_words c.args.w ≡ true = sym c.own_words.ensures ∙ c.if-not-own_words.false in
-    let by-shadow : numbered_found c.args.w LF.NoPoint ≡ entry_in c.args.at c.args.w c.args.pos c.args.neg =
+    let by-shadow : numbered_found c.args.w None ≡ entry_in c.args.at c.args.w c.args.pos c.args.neg =
     let a = c.args in
-    ap (numbered_found a.w) (c.in-NoPoint.ensures ∙ ap (λ (x : List ℕ). L.entry_in a.at x a.pos a.neg) c.shadow_words-s.ensures)
+    ap (numbered_found a.w) (c.in-None.ensures ∙ ap (λ (x : List ℕ). L.entry_in a.at x a.pos a.neg) c.shadow_words-s.ensures)
     ∙ entry-by a.at a.w a.pos a.neg (wide) (own) in
     by-shadow
 
-pub returns-in-Is : goal.returns-in-Is
-returns-in-Is c =
+pub returns-in-Some : goal.returns-in-Some
+returns-in-Some c =
     let wide : Wide c.args.w =
     let l : Fits w64 (get_or c.args.w 9 0) = search rules in
     let h : Fits w64 (get_or c.args.w 10 0) = search rules in
     let t : Fits w64 (get_or c.args.w 11 0) = search rules in
     (l.fits, h.fits, t.fits) in
     let own : own_words c.args.w ≡ true = sym c.own_words.ensures ∙ c.if-not-own_words.false in
-    let by-shadow : numbered_found c.args.w (LF.Is c.in-Is.e) ≡ entry_in c.args.at c.args.w c.args.pos c.args.neg =
+    let by-shadow : numbered_found c.args.w (Some c.in-Some.e) ≡ entry_in c.args.at c.args.w c.args.pos c.args.neg =
     let a = c.args in
-    ap (numbered_found a.w) (c.in-Is.ensures ∙ ap (λ (x : List ℕ). L.entry_in a.at x a.pos a.neg) c.shadow_words-s.ensures)
+    ap (numbered_found a.w) (c.in-Some.ensures ∙ ap (λ (x : List ℕ). L.entry_in a.at x a.pos a.neg) c.shadow_words-s.ensures)
     ∙ entry-by a.at a.w a.pos a.neg (wide) (own) in
     let a = c.args in
-    ap (λ (q : Point). Is (record { point = q; bounds = c.in-Is.e.bounds; next = c.in-Is.e.next })) c.point_of-p.ensures
+    ap (λ (q : Point). Some (record { point = q; bounds = c.in-Some.e.bounds; next = c.in-Some.e.next })) c.point_of-p.ensures
     ∙ by-shadow

@@ -7,14 +7,14 @@ use Rattle.seats.specs.Seats.{seat_by}
 use Rattle.seats.proofs.found_seat.Goals as goal
 
 pub held_seat-requires : goal.held_seat-requires
-held_seat-requires c = c.requires c.in-Held.x c.in-Held.is
+held_seat-requires c = c.requires c.in-Ok.x c.in-Ok.is
 
-pub returns-in-Room : goal.returns-in-Room
-returns-in-Room c sets order =
+pub returns-in-Err : goal.returns-in-Err
+returns-in-Err c sets order =
     let stores : List (List ℕ) → List ℕ → Stores = λ sets order. record { sets = sets; entries = c.args.entries.now; order = order } in
-    c.refused.ensures ∙ sym (ap (seat_by (stores sets order)) c.in-Room.is)
+    sym (ap (seat_by (stores sets order)) c.in-Err.is)
 
-pub returns-in-Held : goal.returns-in-Held
-returns-in-Held c sets order =
+pub returns-in-Ok : goal.returns-in-Ok
+returns-in-Ok c sets order =
     let stores : List (List ℕ) → List ℕ → Stores = λ sets order. record { sets = sets; entries = c.args.entries.now; order = order } in
-    c.held_seat.ensures ∙ sym (ap (seat_by (stores sets order)) c.in-Held.is)
+    c.held_seat.ensures ∙ sym (ap (seat_by (stores sets order)) c.in-Ok.is)

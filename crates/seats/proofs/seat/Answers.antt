@@ -30,7 +30,7 @@ returns-then-no-ne0 c =
     ∙ (λ j. barred_by (c.suffices-lent.ensures j) c.args.value (sym (length-map c.args.attrs.now attribute) j) (eqb c.args.unset 0 && c.accepted-ok.ensures j)) in
     let set_row : List ℕ = row_of (canonical (filter) (attrs)) in
     let goes : Seating = seated c.args.limit c.args.d (lent) (set_row) in
-    let d : first ≡ 0 → ⊥ = λ z. c.if-no-ne0.true (number ∙ z) in record { value = c.refused.ensures ∙ ap away (number) ∙ sym (barred-away (first) (goes) d); row_after = row_kept (first) (set_row) c.args.row.now d }
+    let d : first ≡ 0 → ⊥ = λ z. c.if-no-ne0.true (number ∙ z) in record { value = ap away (number) ∙ sym (barred-away (first) (goes) d); row_after = row_kept (first) (set_row) c.args.row.now d }
 
 pub sort_into-requires : goal.sort_into-requires
 sort_into-requires c =

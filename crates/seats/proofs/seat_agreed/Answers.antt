@@ -21,7 +21,7 @@ returns-then-no-ne0 c =
     let lent : Stores = stores c.args.sets.now c.args.entries.now c.args.order.now in
     let set_row : List ℕ = row_of (canonical (filter_of c.args.present c.args.filter.now) (attrs)) in
     let goes : Seating = seated c.args.limit c.args.d (lent) (set_row) in
-    let d : first ≡ 0 → ⊥ = λ z. c.if-no-ne0.true (number ∙ z) in record { value = c.refused.ensures ∙ ap away (number) ∙ sym (barred-away (first) (goes) d); row_after = row_kept (first) (set_row) c.args.row.now d }
+    let d : first ≡ 0 → ⊥ = λ z. c.if-no-ne0.true (number ∙ z) in record { value = ap away (number) ∙ sym (barred-away (first) (goes) d); row_after = row_kept (first) (set_row) c.args.row.now d }
 
 pub sort_into-requires : goal.sort_into-requires
 sort_into-requires c =

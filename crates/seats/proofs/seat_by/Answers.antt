@@ -18,7 +18,7 @@ returns-then-no-ne0 c =
     let first : ℕ = let a = c.args in barred_at a.cells a.value a.unset a.limit (lent) 0 (leb a.limit most_sets) in
     let number : c.barred-no.result ≡ first = c.barred-no.ensures ∙ (λ j. barred_by (c.suffices-lent.ensures j) c.args.value 0 (eqb c.args.unset 0 && leb c.args.limit most_sets)) in
     let goes : Seating = seated_by c.args.limit c.args.d (lent) c.args.h in
-    c.refused.ensures ∙ ap away (number) ∙ sym (barred-away (first) (goes) (λ z. c.if-no-ne0.true (number ∙ z)))
+    ap away (number) ∙ sym (barred-away (first) (goes) (λ z. c.if-no-ne0.true (number ∙ z)))
 
 pub seat_by_in-requires : goal.seat_by_in-requires
 seat_by_in-requires c =

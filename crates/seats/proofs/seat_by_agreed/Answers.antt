@@ -16,7 +16,7 @@ returns-then-no-ne0 c =
     let first : ℕ = barred_by true c.args.value 0 true in
     let lent : Stores = stores c.args.sets.now c.args.entries.now c.args.order.now in
     let goes : Seating = seated_by c.args.limit c.args.d (lent) c.args.h in
-    c.refused.ensures ∙ ap away c.barred-no.ensures ∙ sym (barred-away (first) (goes) (λ z. c.if-no-ne0.true (c.barred-no.ensures ∙ z)))
+    ap away c.barred-no.ensures ∙ sym (barred-away (first) (goes) (λ z. c.if-no-ne0.true (c.barred-no.ensures ∙ z)))
 
 pub by_birth-found-requires : goal.by_birth-found-requires
 by_birth-found-requires c =

@@ -11,7 +11,7 @@ use Rattle.seats.proofs.seat_by_in.Goals as goal
 pub returns-then-not-agrees : goal.returns-then-not-agrees
 returns-then-not-agrees c =
     let stores : Stores = record { sets = c.args.sets.now; entries = c.args.entries.now; order = c.args.order.now } in
-    c.refused.ensures ∙ sym (by-no c.args.limit c.args.d (stores) c.args.h (sym c.agrees.ensures ∙ c.if-not-agrees.true))
+    sym (by-no c.args.limit c.args.d (stores) c.args.h (sym c.agrees.ensures ∙ c.if-not-agrees.true))
 
 pub by_handle-found-requires : goal.by_handle-found-requires
 by_handle-found-requires c =

@@ -7,7 +7,7 @@ use Rattle.seats.proofs.seat_in.Goals as goal
 pub returns-then-not-agrees : goal.returns-then-not-agrees
 returns-then-not-agrees c =
     let stores : Stores = record { sets = c.args.sets.now; entries = c.args.entries.now; order = c.args.order.now } in
-    c.refused.ensures ∙ sym (seat-no c.args.limit c.args.d (stores) c.args.row.now (sym c.agrees.ensures ∙ c.if-not-agrees.true))
+    sym (seat-no c.args.limit c.args.d (stores) c.args.row.now (sym c.agrees.ensures ∙ c.if-not-agrees.true))
 
 pub seat_right-requires : goal.seat_right-requires
 seat_right-requires c =

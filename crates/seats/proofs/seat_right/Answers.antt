@@ -31,7 +31,7 @@ new_seat-requires-in-Over c =
 pub returns-in-Disagrees : goal.returns-in-Disagrees
 returns-in-Disagrees c =
     let stores : Stores = record { sets = c.args.sets.now; entries = c.args.entries.now; order = c.args.order.now } in
-    c.refused.ensures ∙ sym (seat-is c.args.limit c.args.d (stores) c.args.row.now Disagrees (sym c.locate_agreed-t.ensures ∙ c.in-Disagrees.is))
+    sym (seat-is c.args.limit c.args.d (stores) c.args.row.now Disagrees (sym c.locate_agreed-t.ensures ∙ c.in-Disagrees.is))
 
 pub returns-in-Old : goal.returns-in-Old
 returns-in-Old c =

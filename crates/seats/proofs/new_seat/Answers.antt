@@ -1,5 +1,5 @@
 -- `seats::new_seat` meets its contract. Assumes nothing.
-use mathlib.Core.Path.{sym, ◌∙◌}
+use mathlib.Core.Path.{sym}
 use Rattle.seats.proofs.Seatings.{new-spent, new-made}
 use Rattle.seats.proofs.new_seat.Goals as goal
 

@@ -6,17 +6,21 @@ use native.Mathlib.Omega.{arith}
 use Rattle.directory.specs.View.{Stores, stores}
 use Rattle.directory.proofs.Births.{agreed-rise}
 use Rattle.directory.proofs.Laws.{few}
-use Rattle.seats.specs.Seats.{away, barred_by, seated_by, Seating}
+use Rattle.seats.specs.Seats.{seating, away, barred_by, seated_by, Seating}
 use Rattle.seats.proofs.Bars.{barred-away, barred-on}
 use Rattle.seats.proofs.Seatings.{by-is, by-there}
+use Rattle.refusals.specs.Refusals.{number}
+use Rattle.refusals.specs.declared.Refusal.{Refusal}
+use Rattle.refusals.proofs.Numbers.{number-nonzero, passed-on}
 use Rattle.seats.proofs.seat_by_agreed.Goals as goal
 
-pub returns-then-no-ne0 : goal.returns-then-no-ne0
-returns-then-no-ne0 c =
+pub returns-in_err-barred : goal.returns-in_err-barred
+returns-in_err-barred c =
+    let e : Refusal = c.in_err-barred.field-0.0 in
     let first : ℕ = barred_by true c.args.value 0 true in
     let lent : Stores = stores c.args.sets.now c.args.entries.now c.args.order.now in
     let goes : Seating = seated_by c.args.limit c.args.d (lent) c.args.h in
-    ap away c.barred-no.ensures ∙ sym (barred-away (first) (goes) (λ z. c.if-no-ne0.true (c.barred-no.ensures ∙ z)))
+    ap seating (passed-on c.from_residual.result e c.from_residual.ensures.1) ∙ ap away c.in_err-barred.ensures ∙ sym (barred-away (first) (goes) (λ z. number-nonzero e (c.in_err-barred.ensures ∙ z)))
 
 pub by_birth-found-requires : goal.by_birth-found-requires
 by_birth-found-requires c =
@@ -38,4 +42,4 @@ returns c =
     let goes : Seating = seated_by c.args.limit c.args.d (lent) c.args.h in
     c.found_seat.ensures c.args.sets.now c.args.order.now
     ∙ sym (by-is c.args.limit c.args.d (lent) c.args.h c.requires.3 c.by_birth-found.result (sym c.by_birth-found.ensures))
-    ∙ sym (barred-on (first) (goes) (sym c.barred-no.ensures ∙ c.if-no-ne0.false))
+    ∙ sym (barred-on (first) (goes) (sym c.in_ok-barred.ensures))

@@ -19,8 +19,7 @@ use Rattle.listing.specs.Inner.{Put, left}
 use Rattle.listing.specs.declared.Cursor.{Cursor}
 use Rattle.collecting.specs.Lister.{Lister}
 use Rattle.collecting.specs.Collected.{slots_of, due}
-use Rattle.collecting.specs.Slots.{unsound, one_more, Walk, AllKnown, Few, More, surveyed_at, surveyed, Sound, Free, Listable, put_slot, listed_to}
-use Rattle.collecting.specs.declared.Survey.{Survey}
+use Rattle.collecting.specs.Slots.{Survey, unsound, one_more, Walk, AllKnown, Few, More, surveyed_at, surveyed, Sound, Free, Listable, put_slot, listed_to}
 use Rattle.collecting.proofs.Nexts.{slot_is, slot-most}
 use Rattle.collecting.proofs.Surveys.{agree_at}
 use Rattle.collecting.proofs.Puts.{laid-long, fit-first}

@@ -1,11 +1,13 @@
 -- What the collecting calls make of the map and of lent output: answer, state and every lent store, for any kind's store. Assumes nothing.
-use Rattle.std.specs.Prelude.{ℕ, min, Bool, true, false, not, ◌&&◌, ◌||◌, List, [], ◌∷◌, ◌++◌, map, leb, eqb, length}
+use Rattle.std.specs.Prelude.{ℕ, min, Bool, true, false, not, ◌&&◌, ◌||◌, List, [], ◌∷◌, ◌++◌, map, leb, eqb, length, Result}
 use Rattle.std.proofs.Math.Option.{Option, none, some}
 use Rattle.laws.specs.Lists.{only}
 use Rattle.laws.specs.Over.{over}
 use Rattle.laws.specs.Pick.{pick}
 use Rattle.laws.specs.Said.{Said, refusal, success}
 use Rattle.laws.specs.Tests.{all}
+use Rattle.refusals.specs.Refusals.{said}
+use Rattle.refusals.specs.declared.Refusal.{Refusal}
 use Rattle.tally.specs.Sets.{Set}
 use Rattle.tally.specs.Kind.{Kind, Room}
 use Rattle.tally.specs.Map.{Points, Answer, refuse, listed}
@@ -18,8 +20,6 @@ use Rattle.value_map.specs.Calls.{Held, passes, lent}
 use Rattle.listing.specs.Listed.{Output, read_from}
 use Rattle.listing.specs.declared.Cursor.{Cursor}
 use Rattle.collecting.specs.Lister.{Lister}
-use Rattle.collecting.specs.declared.Answer as Declared
-use Rattle.collecting.specs.declared.Answer.TheVariants.{Refused, Listed}
 
 -- success is the number of points, which lie in the output
 pub record Collected (Cells : Type 0) : Type 0 where
@@ -27,13 +27,8 @@ pub record Collected (Cells : Type 0) : Type 0 where
   pub held : Held Cells
   pub out : Output
 
--- "a definition gives this paper's number and values for each case of that enum"
-abbrev pub said : Declared.Answer → Said ℕ
-said (Refused n) = refusal n
-said (Listed n) = success n
-
 -- as a contract writes it: what a call said, with the map and the output that it left
-abbrev pub gave : {Cells : Type 0} → Declared.Answer → Held Cells → Output → Collected Cells
+abbrev pub gave : {Cells : Type 0} → Result ℕ Refusal → Held Cells → Output → Collected Cells
 gave a h o = record { answer = said a; held = h; out = o }
 
 -- "10: lent output too short for all points or counts": places for points are asked of both stores that take one row a point

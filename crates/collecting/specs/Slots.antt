@@ -1,6 +1,7 @@
 -- BETWEEN OUR OWN CRATES: serves inner contracts and proofs; nobody needs it to believe the public calls or the theorems.
 -- How a collection goes through the slots, one by one: the definitions of the contracts between our crates. Assumes nothing.
 use Rattle.std.specs.Prelude.{ℕ, ◌+◌, ◌*◌, ◌≤◌, ◌<◌, min, ◌≡◌, Bool, true, false, not, ◌&&◌, ◌||◌, List, [], leb, eqb, length, get_or, set}
+use Rattle.std.specs.Prelude as Std
 use Rattle.laws.specs.Lists.{only}
 use Rattle.laws.specs.Pick.{pick}
 use Rattle.tally.specs.Kind.{Kind}
@@ -16,9 +17,16 @@ use Rattle.listing.specs.Listed.{Output, over_at}
 use Rattle.listing.specs.Inner.{Put, left}
 use Rattle.collecting.specs.Lister.{Lister}
 use Rattle.collecting.specs.Collected.{room_of, slots_of, due, due_of, counts_of, agreeing, laid_out, roomy}
-use Rattle.collecting.specs.declared.Survey.{Survey}
+use Rattle.collecting.specs.declared.Sums.{Sums}
 
 -- ---- deciding by reading
+
+-- what the slots are found to be: whether each series that is held agrees; then how many points are due, and how many counts they have in either store
+pub record Survey : Type 0 where
+  pub sound : Bool
+  pub points : ℕ
+  pub pos : ℕ
+  pub neg : ℕ
 
 -- "12, 8", before any series is read: of the kind's cells, which suffice or not, and of the number with which configuring refuses its settings
 unfoldable pub unsurveyed : Bool → ℕ → ℕ → Directory → Stores → ℕ
@@ -28,6 +36,14 @@ unsurveyed cells unset limit d s =
 -- what a survey of the slots finds where a series disagrees
 abbrev pub unsound : Survey
 unsound = record { sound = false; points = 0; pos = 0; neg = 0 }
+
+-- as code hands it on: the sums of slots that agree; and none where a series disagrees
+abbrev pub sound_of : Sums → Survey
+sound_of s = record { sound = true; points = s.points; pos = s.pos; neg = s.neg }
+
+abbrev pub survey_of : Std.Option Sums → Survey
+survey_of Std.None = unsound
+survey_of (Std.Some s) = sound_of s
 
 -- "8, 10", after it: of the places that the lent output has
 unfoldable pub surveyed_by : Survey → ℕ → ℕ → ℕ → ℕ → ℕ

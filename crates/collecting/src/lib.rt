@@ -5,90 +5,84 @@ ghost use Rattle.std.specs.Prelude.{◌≡◌, true, not, ◌&&◌, ◌||◌, []
 ghost use Rattle.laws.specs.Pick.{pick};
 ghost use Rattle.sets.specs.Rows.{size, set_of, row_of};
 ghost use Rattle.directory.specs.View.{set_at, stores};
-ghost use Rattle.collecting.specs.Slots.{unsurveyed, surveyed_by};
+ghost use Rattle.refusals.specs.Refusals.{code};
+ghost use Rattle.collecting.specs.Slots.{unsurveyed, survey_of, surveyed_by};
 
 use directory::Directory;
+use refusals::Refusal;
 
-// What a collection says: a refusal's number, or how many points lie in the output.
-#[derive(Clone, Copy)]
-pub enum Answer {
-    Refused(u8),
-    Listed(usize),
-}
-
-// And the directory's state after it.
+// What a collection says, how many points lie in the output or why there are none; and the directory's state after it.
 #[derive(Clone, Copy)]
 pub struct Reply {
-    pub answer: Answer,
+    pub answer: Result<usize, Refusal>,
     pub dir: Directory,
 }
 
-// What the slots are found to be: whether each series that is held agrees; then how many points are due, and how many counts they have in
+// What slots whose series agree, where they hold one, take in the output: how many points are due, and how many counts they have in
 // either store.
 #[derive(Clone, Copy)]
-pub struct Survey {
-    pub sound: bool,
+pub struct Sums {
     pub points: usize,
     pub pos: usize,
     pub neg: usize,
 }
 
-// The number that refuses a collection before any series is read: 12, 8; 0 if none. Of the kind: whether its cells suffice, and the number
-// with which configuring refuses its settings, 0 if none. Nothing is asked where it is known that there is none.
+// What refuses a collection before any series is read: 12, 8. Of the kind: whether its cells suffice, and what configuring says of its
+// settings. Nothing is asked where it is known that nothing does.
 pub fn barred(
     known: bool,
     cells: bool,
-    unset: u8,
+    unset: Result<(), Refusal>,
     limit: u64,
     d: Directory,
     sets: &[[u64; 9]],
     entries: &[[u64; 3]],
     order: &[u32],
-) -> u8
-    requires { known ≡ true → unsurveyed cells unset limit d (stores sets.now entries.now order.now) ≡ 0 }
-    ensures { result ≡ unsurveyed cells unset limit d (stores sets.now entries.now order.now) }
+) -> Result<(), Refusal>
+    requires { known ≡ true → unsurveyed cells (code unset) limit d (stores sets.now entries.now order.now) ≡ 0 }
+    ensures { code result ≡ unsurveyed cells (code unset) limit d (stores sets.now entries.now order.now) }
 {
     if known {
-        return 0;
+        return Ok(());
     }
     if !directory::stores_suffice(limit, sets.len(), entries.len(), order.len()) {
-        return 12;
+        return Err(Refusal::LentShort);
     }
     if !cells {
-        return 12;
+        return Err(Refusal::LentShort);
     }
-    if unset != 0 {
-        return 8;
+    if unset.is_err() {
+        return Err(Refusal::Disagrees);
     }
     if limit > directory::MOST_SETS {
-        return 8;
+        return Err(Refusal::Disagrees);
     }
     if !directory::check::agrees(limit, d, sets, entries, order) {
-        return 8;
+        return Err(Refusal::Disagrees);
     }
-    0
+    Ok(())
 }
 
-// The number that refuses it then, by what a survey of the slots found, in output of so many places: 8, 10; 0 if none.
-pub fn number_of(s: Survey, sets: usize, words: usize, pos: usize, neg: usize) -> u8
-    ensures { result ≡ surveyed_by s sets words pos neg }
+// What refuses it then, by what a survey of the slots found, none where a series disagrees, in output of so many places: 8, 10.
+pub fn number_of(found: Option<Sums>, sets: usize, words: usize, pos: usize, neg: usize) -> Result<(), Refusal>
+    ensures { code result ≡ surveyed_by (survey_of found) sets words pos neg }
 {
-    if !s.sound {
-        return 8;
-    }
+    let Some(s) = found else {
+        return Err(Refusal::Disagrees);
+    };
     if s.points > sets {
-        return 10;
+        return Err(Refusal::NoRoom);
     }
     if s.points > words {
-        return 10;
+        return Err(Refusal::NoRoom);
     }
     if s.pos > pos {
-        return 10;
+        return Err(Refusal::NoRoom);
     }
     if s.neg > neg {
-        return 10;
+        return Err(Refusal::NoRoom);
     }
-    0
+    Ok(())
 }
 
 // The slot of place i among all, ascending by set: the empty set's is the first.

@@ -1,6 +1,7 @@
 // The collections, of lent memory or of a map that is known to agree: 12, 8 and 10 are decided first, by reading, then the points are put.
 ghost use Rattle.std.specs.Prelude.{◌≡◌, true};
 ghost use Rattle.std.proofs.Math.Option.{none};
+ghost use Rattle.refusals.specs.Refusals.{code};
 ghost use Rattle.directory.specs.View.{stores};
 ghost use Rattle.explicit_slots.specs.Cells.{cells};
 ghost use Rattle.value_map.specs.Calls.{held};
@@ -11,10 +12,11 @@ ghost use Rattle.collecting.specs.Collected.{gave, uncollected, delta_collected,
 ghost use Rattle.explicit_collection.specs.Points.{explicit_lister};
 
 use crate::Settings;
-use collecting::{Answer, Reply};
+use collecting::Reply;
 use directory::Directory;
+use refusals::Refusal;
 
-// The number that refuses a collection: 12, 8, 10; 0 if none. Everything is decided here, by reading; of a map that is known to agree, only 10.
+// What refuses a collection: 12, 8, 10. Everything is decided here, by reading; of a map that is known to agree, only 10.
 fn number(
     known: bool,
     cumulative: bool,
@@ -31,10 +33,10 @@ fn number(
     out_words: &[[u64; 12]],
     out_pos: &[u64],
     out_neg: &[u64],
-) -> u8
+) -> Result<(), Refusal>
     requires { known ≡ true → Owned (explicit_store bounds.now) (s.extremes, s.sums) s.limit none
         (held d (stores sets.now entries.now order.now) (cells totals.now extremes.now counts.now)) }
-    ensures { result ≡ uncollected (explicit_lister bounds.now) (s.extremes, s.sums) cumulative s.limit
+    ensures { code result ≡ uncollected (explicit_lister bounds.now) (s.extremes, s.sums) cumulative s.limit
         (held d (stores sets.now entries.now order.now) (cells totals.now extremes.now counts.now))
         (output out_sets.now out_words.now out_pos.now out_neg.now) }
 {
@@ -47,10 +49,7 @@ fn number(
         counts.len(),
     );
     let unset = value_map::explicit_map::unset_of(bounds);
-    let no = collecting::barred(known, room, unset, limit, d, sets, entries, order);
-    if no != 0 {
-        return no;
-    }
+    collecting::barred(known, room, unset, limit, d, sets, entries, order)?;
     let found = crate::walk::survey(
         known, cumulative, bounds, d.used, entries, order, totals, extremes, counts,
     );
@@ -93,9 +92,9 @@ pub fn delta(
         known, false, bounds, s, d, sets, entries, order, totals, extremes, counts, out_sets,
         out_words, out_pos, out_neg,
     );
-    if no != 0 {
+    if let Err(e) = no {
         return Reply {
-            answer: Answer::Refused(no),
+            answer: Err(e),
             dir: d,
         };
     }
@@ -105,7 +104,7 @@ pub fn delta(
     );
     let dir = sweep::sweep(d, sets, entries, order);
     Reply {
-        answer: Answer::Listed(end.place),
+        answer: Ok(end.place),
         dir,
     }
 }
@@ -126,7 +125,7 @@ pub fn cumulative(
     out_words: &mut [[u64; 12]],
     out_pos: &mut [u64],
     out_neg: &mut [u64],
-) -> Answer
+) -> Result<usize, Refusal>
     requires { known ≡ true → Owned (explicit_store bounds.now) (s.extremes, s.sums) s.limit none
         (held d (stores sets.now entries.now order.now) (cells totals.now extremes.now counts.now)) }
     ensures { gave result
@@ -136,16 +135,13 @@ pub fn cumulative(
         (held d (stores sets.now entries.now order.now) (cells totals.now extremes.now counts.now))
         (output out_sets.old out_words.old out_pos.old out_neg.old) }
 {
-    let no = number(
+    number(
         known, true, bounds, s, d, sets, entries, order, totals, extremes, counts, out_sets,
         out_words, out_pos, out_neg,
-    );
-    if no != 0 {
-        return Answer::Refused(no);
-    }
+    )?;
     let end = crate::walk::list(
         true, bounds, s.extremes, s.sums, d.used, sets, entries, order, totals, extremes, counts,
         out_sets, out_words, out_pos, out_neg,
     );
-    Answer::Listed(end.place)
+    Ok(end.place)
 }

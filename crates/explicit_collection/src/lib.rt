@@ -8,6 +8,7 @@ mod walk;
 
 ghost use Rattle.std.specs.Prelude.{◌≡◌};
 ghost use Rattle.std.proofs.Math.Option.{none};
+ghost use Rattle.refusals.specs.Refusals.{said};
 ghost use Rattle.sets.specs.Sorted.{filter_of};
 ghost use Rattle.directory.specs.View.{stores};
 ghost use Rattle.bindings.specs.Calls as Bindings;
@@ -19,10 +20,11 @@ ghost use Rattle.listing.specs.Listed.{output};
 ghost use Rattle.collecting.specs.Configured.{set_up, configuring};
 ghost use Rattle.collecting.specs.Collected.{gave, delta_collected, cumulative_collected};
 ghost use Rattle.explicit_collection.specs.Points.{explicit_lister};
-ghost use Rattle.explicit_collection.specs.Configured.{said, configured};
+ghost use Rattle.explicit_collection.specs.Configured.{configured};
 
-use collecting::{Answer, Reply};
+use collecting::Reply;
 use directory::Directory;
+use refusals::Refusal;
 
 // What was configured: the two switches and the cardinality limit; the bounds are lent at every call.
 #[derive(Clone, Copy)]
@@ -39,24 +41,15 @@ pub struct Setup {
     pub dir: Directory,
 }
 
-// What configuring says: a refusal's number, or a fresh map.
-#[derive(Clone, Copy)]
-pub enum Configured {
-    Refused(u8),
-    Accepted(Setup),
-}
-
 // What configuring says by what the start of the map replied.
-pub fn set_up(settings: Settings, reply: bindings::Reply) -> Configured
+pub fn set_up(settings: Settings, reply: bindings::Reply) -> Result<Setup, Refusal>
     ensures { said result ≡ set_up (record { settings = settings; dir = reply.dir }) (Bindings.said reply.answer) }
 {
-    let dir = reply.dir;
-    let answer = reply.answer;
-    match answer {
-        bindings::Answer::Refused(no) => Configured::Refused(no),
-        bindings::Answer::Done => Configured::Accepted(Setup { settings, dir }),
-        bindings::Answer::Handle(h) => Configured::Accepted(Setup { settings, dir }),
-    }
+    reply.answer?;
+    Ok(Setup {
+        settings,
+        dir: reply.dir,
+    })
 }
 
 // Configures a map: its settings and fresh state, or 3, 4, 12.
@@ -73,7 +66,7 @@ pub fn configure(
     totals: &[u64],
     extremes: &[[f64; 3]],
     counts: &[u64],
-) -> Configured
+) -> Result<Setup, Refusal>
     ensures { configuring (said result) (stores sets.now entries.new order.now)
         ≡ configured bounds.now show sums limit (filter_of present filter.now)
         (stores sets.now entries.old order.now) (cells totals.now extremes.now counts.now) }
@@ -164,7 +157,7 @@ pub fn cumulative(
     out_words: &mut [[u64; 12]],
     out_pos: &mut [u64],
     out_neg: &mut [u64],
-) -> Answer
+) -> Result<usize, Refusal>
     ensures { gave result
         (held d (stores sets.now entries.now order.now) (cells totals.now extremes.now counts.now))
         (output out_sets.new out_words.new out_pos.new out_neg.new)
@@ -193,7 +186,7 @@ pub fn cumulative_agreed(
     out_words: &mut [[u64; 12]],
     out_pos: &mut [u64],
     out_neg: &mut [u64],
-) -> Answer
+) -> Result<usize, Refusal>
     requires { Owned (explicit_store bounds.now) (s.extremes, s.sums) s.limit none
         (held d (stores sets.now entries.now order.now) (cells totals.now extremes.now counts.now)) }
     ensures { gave result

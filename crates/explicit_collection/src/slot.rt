@@ -9,12 +9,12 @@ ghost use Rattle.value_map.specs.Explicit.{explicit_store};
 ghost use Rattle.batches.specs.Inner.{Known};
 ghost use Rattle.listing.specs.Listed.{output};
 ghost use Rattle.listing.specs.Inner.{left};
-ghost use Rattle.collecting.specs.Slots.{one_more, Few, More, Place, surveyed_at, Sound, Free, put_slot};
+ghost use Rattle.collecting.specs.Slots.{one_more, sound_of, survey_of, Few, More, Place, surveyed_at, Sound, Free, put_slot};
 ghost use Rattle.explicit_collection.specs.Points.{explicit_lister};
 ghost use Rattle.explicit_collection.specs.Ready.{point_put};
 
-use collecting::Survey;
-use explicit::{Answer, Head};
+use collecting::Sums;
+use explicit::Head;
 use listing::{Cursor, Span};
 
 // The head of slot x.
@@ -56,12 +56,11 @@ fn agrees_at(
 }
 
 // A survey with a point of n counts more.
-pub fn one_more(s: Survey, n: usize) -> Survey
-    requires { Few s × (n ≤ 160) }
-    ensures { result ≡ one_more s n 0 }
+pub fn one_more(s: Sums, n: usize) -> Sums
+    requires { Few (sound_of s) × (n ≤ 160) }
+    ensures { sound_of result ≡ one_more (sound_of s) n 0 }
 {
-    Survey {
-        sound: true,
+    Sums {
         points: s.points + 1,
         pos: s.pos + n,
         neg: s.neg,
@@ -92,36 +91,31 @@ fn sound_at(
     agrees_at(bounds, x, totals, extremes, counts)
 }
 
-// The survey with slot x more, which was updated or not and is due or not.
+// The survey with slot x more, which was updated or not and is due or not; none where its series disagrees.
 pub fn survey(
     known: bool,
     bounds: &[f64],
-    s: Survey,
+    s: Sums,
     x: usize,
     updated: bool,
     due: bool,
     totals: &[u64],
     extremes: &[[f64; 3]],
     counts: &[u64],
-) -> Survey
+) -> Option<Sums>
     requires bounds_value { (bounds_pass bounds.now ≡ true) × Room bounds.now (cells totals.now extremes.now counts.now) x }
-    requires few { Few s × Known (explicit_store bounds.now) (true, true) known x updated (cells totals.now extremes.now counts.now) }
-    ensures value { result ≡ surveyed_at (explicit_lister bounds.now) (true, true) updated due
-        (cells totals.now extremes.now counts.now) s x }
-    ensures more { More s result }
+    requires few { Few (sound_of s) × Known (explicit_store bounds.now) (true, true) known x updated (cells totals.now extremes.now counts.now) }
+    ensures value { survey_of result ≡ surveyed_at (explicit_lister bounds.now) (true, true) updated due
+        (cells totals.now extremes.now counts.now) (sound_of s) x }
+    ensures more { More (sound_of s) (survey_of result) }
 {
     if !sound_at(known, bounds, x, updated, totals, extremes, counts) {
-        return Survey {
-            sound: false,
-            points: 0,
-            pos: 0,
-            neg: 0,
-        };
+        return None;
     }
     if !due {
-        return s;
+        return Some(s);
     }
-    one_more(s, explicit::bucket_count(bounds))
+    Some(one_more(s, explicit::bucket_count(bounds)))
 }
 
 // Puts the point of a head at the cursor, with its row of counts; the next cursor.
@@ -175,8 +169,8 @@ fn put_fresh(
     let mut zeros: [u64; 160] = [0; 160];
     let empty = explicit::fresh(bounds, &mut zeros[..]);
     match empty {
-        Answer::Refused(no) => at,
-        Answer::Recorded(head) => put_point(
+        Err(_) => at,
+        Ok(head) => put_point(
             bounds,
             show,
             sums,

@@ -4,13 +4,13 @@ ghost use Rattle.explicit_slots.specs.Cells.{cells};
 ghost use Rattle.value_map.specs.Explicit.{explicit_store};
 ghost use Rattle.listing.specs.Listed.{output};
 ghost use Rattle.listing.specs.Inner.{left};
-ghost use Rattle.collecting.specs.Slots.{walked, Walk, AllKnown, surveyed, Listable, listed_to};
+ghost use Rattle.collecting.specs.Slots.{walked, Walk, AllKnown, survey_of, surveyed, Listable, listed_to};
 ghost use Rattle.explicit_collection.specs.Points.{explicit_lister};
 
-use collecting::Survey;
+use collecting::Sums;
 use listing::Cursor;
 
-// What the slots are found to be.
+// What the slots are found to be; none where a series that is held disagrees.
 pub fn survey(
     known: bool,
     cumulative: bool,
@@ -21,34 +21,27 @@ pub fn survey(
     totals: &[u64],
     extremes: &[[f64; 3]],
     counts: &[u64],
-) -> Survey
+) -> Option<Sums>
     requires walk { Walk (explicit_store bounds.now) (walked used [] entries.now order.now (cells totals.now extremes.now counts.now)) }
     requires all_known { AllKnown (explicit_store bounds.now) (true, true) known
         (walked used [] entries.now order.now (cells totals.now extremes.now counts.now)) }
-    ensures { result ≡ surveyed (explicit_lister bounds.now) (true, true) cumulative
+    ensures { survey_of result ≡ surveyed (explicit_lister bounds.now) (true, true) cumulative
         (walked used [] entries.now order.now (cells totals.now extremes.now counts.now)) }
 {
-    let mut found = Survey {
-        sound: true,
+    let mut found = Sums {
         points: 0,
         pos: 0,
         neg: 0,
     };
-    let mut i: usize = 0;
-    while i <= used {
+    for i in 0..used + 1 {
         let x = collecting::slot_at(order, i);
         let updated = directory::is_updated(entries, x);
         let due = collecting::is_due(cumulative, updated, x);
-        let next = crate::slot::survey(
+        found = crate::slot::survey(
             known, bounds, found, x, updated, due, totals, extremes, counts,
-        );
-        if !next.sound {
-            return next;
-        }
-        found = next;
-        i += 1;
+        )?;
     }
-    found
+    Some(found)
 }
 
 // Puts the points of the slots that are due into the output; the cursor behind them.
@@ -81,18 +74,15 @@ pub fn list(
         pos: 0,
         neg: 0,
     };
-    let mut i: usize = 0;
-    while i <= used {
+    for i in 0..used + 1 {
         let x = collecting::slot_at(order, i);
         let updated = directory::is_updated(entries, x);
         let due = collecting::is_due(cumulative, updated, x);
         let row = collecting::row_at(sets, x);
-        let next = crate::slot::put(
+        at = crate::slot::put(
             bounds, show, sums, at, x, updated, due, row, totals, extremes, counts, out_sets,
             out_words, out_pos, out_neg,
         );
-        at = next;
-        i += 1;
     }
     at
 }

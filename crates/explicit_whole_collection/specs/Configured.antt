@@ -1,4 +1,4 @@
--- Configuring a map of the explicit kind over i64 as its caller knows it. What it says is `said` of explicit_collection. Assumes nothing.
+-- Configuring a map of the explicit kind over i64 as its caller knows it. Assumes nothing.
 use Rattle.std.specs.Prelude.{ℕ, Bool, List, Float}
 use Rattle.std.proofs.Math.Option.{Option}
 use Rattle.directory.specs.View.{Stores}

@@ -8,6 +8,7 @@ mod walk;
 
 ghost use Rattle.std.specs.Prelude.{◌≡◌};
 ghost use Rattle.std.proofs.Math.Option.{none};
+ghost use Rattle.refusals.specs.Refusals.{said};
 ghost use Rattle.sets.specs.Sorted.{filter_of};
 ghost use Rattle.directory.specs.View.{stores};
 ghost use Rattle.explicit_whole_slots.specs.Cells.{cells};
@@ -17,13 +18,13 @@ ghost use Rattle.whole_map.specs.Explicit.{explicit_wholes};
 ghost use Rattle.listing.specs.Listed.{output};
 ghost use Rattle.collecting.specs.Configured.{configuring};
 ghost use Rattle.collecting.specs.Collected.{gave, delta_collected, cumulative_collected};
-ghost use Rattle.explicit_collection.specs.Configured.{said};
 ghost use Rattle.explicit_whole_collection.specs.Points.{explicit_whole_lister};
 ghost use Rattle.explicit_whole_collection.specs.Configured.{configured};
 
-use collecting::{Answer, Reply};
+use collecting::Reply;
 use directory::Directory;
-use explicit_collection::{Configured, Settings};
+use explicit_collection::{Settings, Setup};
+use refusals::Refusal;
 
 // Configures a map: its settings and fresh state, or 3, 4, 12.
 pub fn configure(
@@ -39,7 +40,7 @@ pub fn configure(
     totals: &[u64],
     extremes: &[[i64; 3]],
     counts: &[u64],
-) -> Configured
+) -> Result<Setup, Refusal>
     ensures { configuring (said result) (stores sets.now entries.new order.now)
         ≡ configured bounds.now show sums limit (filter_of present filter.now)
         (stores sets.now entries.old order.now) (cells totals.now extremes.now counts.now) }
@@ -130,7 +131,7 @@ pub fn cumulative(
     out_words: &mut [[u64; 12]],
     out_pos: &mut [u64],
     out_neg: &mut [u64],
-) -> Answer
+) -> Result<usize, Refusal>
     ensures { gave result
         (held d (stores sets.now entries.now order.now) (cells totals.now extremes.now counts.now))
         (output out_sets.new out_words.new out_pos.new out_neg.new)
@@ -159,7 +160,7 @@ pub fn cumulative_agreed(
     out_words: &mut [[u64; 12]],
     out_pos: &mut [u64],
     out_neg: &mut [u64],
-) -> Answer
+) -> Result<usize, Refusal>
     requires { Owned (explicit_wholes bounds.now s.sums) s.extremes s.limit none
         (held d (stores sets.now entries.now order.now) (cells totals.now extremes.now counts.now)) }
     ensures { gave result

@@ -4,11 +4,11 @@ ghost use Rattle.explicit_whole_slots.specs.Cells.{cells};
 ghost use Rattle.whole_map.specs.Explicit.{explicit_wholes};
 ghost use Rattle.listing.specs.Listed.{output};
 ghost use Rattle.listing.specs.Inner.{left};
-ghost use Rattle.collecting.specs.Slots.{walked, Walk, AllKnown, surveyed, Listable, listed_to};
+ghost use Rattle.collecting.specs.Slots.{walked, Walk, AllKnown, survey_of, surveyed, Listable, listed_to};
 ghost use Rattle.explicit_whole_collection.specs.Points.{explicit_whole_lister};
 ghost use Rattle.explicit_whole_collection.specs.Ready.{counting};
 
-use collecting::Survey;
+use collecting::Sums;
 use listing::Cursor;
 
 // What the slots are found to be. Neither the sum's switch nor the extremes have a part in it.
@@ -21,32 +21,25 @@ pub fn survey(
     order: &[u32],
     totals: &[u64],
     counts: &[u64],
-) -> Survey
+) -> Option<Sums>
     requires walk { Walk (explicit_wholes bounds.now true) (walked used [] entries.now order.now (counting totals.now counts.now)) }
     requires all_known { AllKnown (explicit_wholes bounds.now true) true known
         (walked used [] entries.now order.now (counting totals.now counts.now)) }
-    ensures { result ≡ surveyed (explicit_whole_lister bounds.now true) true cumulative
+    ensures { survey_of result ≡ surveyed (explicit_whole_lister bounds.now true) true cumulative
         (walked used [] entries.now order.now (counting totals.now counts.now)) }
 {
-    let mut found = Survey {
-        sound: true,
+    let mut found = Sums {
         points: 0,
         pos: 0,
         neg: 0,
     };
-    let mut i: usize = 0;
-    while i <= used {
+    for i in 0..used + 1 {
         let x = collecting::slot_at(order, i);
         let updated = directory::is_updated(entries, x);
         let due = collecting::is_due(cumulative, updated, x);
-        let next = crate::slot::survey(known, bounds, found, x, updated, due, totals, counts);
-        if !next.sound {
-            return next;
-        }
-        found = next;
-        i += 1;
+        found = crate::slot::survey(known, bounds, found, x, updated, due, totals, counts)?;
     }
-    found
+    Some(found)
 }
 
 // Puts the points of the slots that are due into the output; the cursor behind them.
@@ -79,18 +72,15 @@ pub fn list(
         pos: 0,
         neg: 0,
     };
-    let mut i: usize = 0;
-    while i <= used {
+    for i in 0..used + 1 {
         let x = collecting::slot_at(order, i);
         let updated = directory::is_updated(entries, x);
         let due = collecting::is_due(cumulative, updated, x);
         let row = collecting::row_at(sets, x);
-        let next = crate::slot::put(
+        at = crate::slot::put(
             bounds, show, sums, at, x, updated, due, row, totals, extremes, counts, out_sets,
             out_words, out_pos, out_neg,
         );
-        at = next;
-        i += 1;
     }
     at
 }

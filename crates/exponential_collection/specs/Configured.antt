@@ -1,7 +1,6 @@
 -- Configuring a map of the exponential kind as its caller knows it, by a signed max_scale. Assumes nothing.
 use Rattle.std.specs.Prelude.{ℕ, suc, Bool, List, ℤ, Option, Some, None}
 use Rattle.std.proofs.Math.Option.{Option}
-use Rattle.laws.specs.Said.{Said, refusal, success}
 use Rattle.index.specs.Bins.{finest}
 use Rattle.index.specs.Signed.{level_answer}
 use Rattle.directory.specs.View.{Stores}
@@ -10,8 +9,6 @@ use Rattle.exponential_slots.specs.Cells.{Cells}
 use Rattle.value_map.specs.Exponential.{exponential_store}
 use Rattle.collecting.specs.Configured.{Configuring, configured_as}
 use Rattle.exponential_collection.specs.declared.Setup.{Setup}
-use Rattle.exponential_collection.specs.declared.Configured.{Configured}
-use Rattle.exponential_collection.specs.declared.Configured.TheVariants.{Refused, Accepted}
 
 -- the greatest level of a max_scale; one above the finest, which number 2 refuses, where there is none
 abbrev pub level_or : Option ℕ → ℕ
@@ -20,11 +17,6 @@ level_or (Some n) = n
 
 abbrev pub top_of : ℤ → ℕ
 top_of scale = level_or (level_answer scale)
-
--- "a definition gives this paper's number and values for each case of that enum": a refusal hands out no state
-abbrev pub said : Configured → Said Setup
-said (Refused n) = refusal n
-said (Accepted s) = success s
 
 -- what is handed out: the settings, with the map's state
 abbrev pub setup_of : ℕ → ℕ → Bool → Bool → ℕ → Directory → Setup

@@ -1,6 +1,7 @@
 // The collections, of lent memory or of a map that is known to agree: 12, 8 and 10 are decided first, by reading, then the points are put.
 ghost use Rattle.std.specs.Prelude.{◌≡◌, true};
 ghost use Rattle.std.proofs.Math.Option.{none};
+ghost use Rattle.refusals.specs.Refusals.{code};
 ghost use Rattle.directory.specs.View.{stores};
 ghost use Rattle.exponential_slots.specs.Cells.{cells};
 ghost use Rattle.value_map.specs.Calls.{held};
@@ -11,10 +12,11 @@ ghost use Rattle.collecting.specs.Collected.{gave, uncollected, delta_collected,
 ghost use Rattle.exponential_collection.specs.Points.{exponential_lister};
 
 use crate::Settings;
-use collecting::{Answer, Reply};
+use collecting::Reply;
 use directory::Directory;
+use refusals::Refusal;
 
-// The number that refuses a collection: 12, 8, 10; 0 if none. Everything is decided here, by reading; of a map that is known to agree, only 10.
+// What refuses a collection: 12, 8, 10. Everything is decided here, by reading; of a map that is known to agree, only 10.
 fn number(
     known: bool,
     cumulative: bool,
@@ -31,10 +33,10 @@ fn number(
     out_words: &[[u64; 12]],
     out_pos: &[u64],
     out_neg: &[u64],
-) -> u8
+) -> Result<(), Refusal>
     requires { known ≡ true → Owned (exponential_store s.size s.top) (s.extremes, s.sums) s.limit none
         (held d (stores sets.now entries.now order.now) (cells figures.now extremes.now pos.now neg.now)) }
-    ensures { result ≡ uncollected (exponential_lister s.size s.top) (s.extremes, s.sums) cumulative s.limit
+    ensures { code result ≡ uncollected (exponential_lister s.size s.top) (s.extremes, s.sums) cumulative s.limit
         (held d (stores sets.now entries.now order.now) (cells figures.now extremes.now pos.now neg.now))
         (output out_sets.now out_words.now out_pos.now out_neg.now) }
 {
@@ -49,10 +51,7 @@ fn number(
         neg.len(),
     );
     let unset = value_map::exponential_map::unset_of(size, s.top);
-    let bar = collecting::barred(known, room, unset, limit, d, sets, entries, order);
-    if bar != 0 {
-        return bar;
-    }
+    collecting::barred(known, room, unset, limit, d, sets, entries, order)?;
     let found = crate::walk::survey(
         known, cumulative, s, d.used, entries, order, figures, extremes, pos, neg,
     );
@@ -95,9 +94,9 @@ pub fn delta(
         known, false, s, d, sets, entries, order, figures, extremes, pos, neg, out_sets, out_words,
         out_pos, out_neg,
     );
-    if no != 0 {
+    if let Err(e) = no {
         return Reply {
-            answer: Answer::Refused(no),
+            answer: Err(e),
             dir: d,
         };
     }
@@ -107,7 +106,7 @@ pub fn delta(
     );
     let dir = sweep::sweep(d, sets, entries, order);
     Reply {
-        answer: Answer::Listed(at.place),
+        answer: Ok(at.place),
         dir,
     }
 }
@@ -128,7 +127,7 @@ pub fn cumulative(
     out_words: &mut [[u64; 12]],
     out_pos: &mut [u64],
     out_neg: &mut [u64],
-) -> Answer
+) -> Result<usize, Refusal>
     requires { known ≡ true → Owned (exponential_store s.size s.top) (s.extremes, s.sums) s.limit none
         (held d (stores sets.now entries.now order.now) (cells figures.now extremes.now pos.now neg.now)) }
     ensures { gave result
@@ -138,16 +137,13 @@ pub fn cumulative(
         (held d (stores sets.now entries.now order.now) (cells figures.now extremes.now pos.now neg.now))
         (output out_sets.old out_words.old out_pos.old out_neg.old) }
 {
-    let no = number(
+    number(
         known, true, s, d, sets, entries, order, figures, extremes, pos, neg, out_sets, out_words,
         out_pos, out_neg,
-    );
-    if no != 0 {
-        return Answer::Refused(no);
-    }
+    )?;
     let at = crate::walk::list(
         true, s, d.used, sets, entries, order, figures, extremes, pos, neg, out_sets, out_words,
         out_pos, out_neg,
     );
-    Answer::Listed(at.place)
+    Ok(at.place)
 }

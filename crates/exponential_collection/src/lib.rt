@@ -8,6 +8,7 @@ mod walk;
 
 ghost use Rattle.std.specs.Prelude.{◌≡◌};
 ghost use Rattle.std.proofs.Math.Option.{none};
+ghost use Rattle.refusals.specs.Refusals.{said};
 ghost use Rattle.sets.specs.Sorted.{filter_of};
 ghost use Rattle.directory.specs.View.{stores};
 ghost use Rattle.bindings.specs.Calls as bindings-calls;
@@ -19,10 +20,11 @@ ghost use Rattle.listing.specs.Listed.{output};
 ghost use Rattle.collecting.specs.Configured.{set_up, configuring};
 ghost use Rattle.collecting.specs.Collected.{gave, delta_collected, cumulative_collected};
 ghost use Rattle.exponential_collection.specs.Points.{exponential_lister};
-ghost use Rattle.exponential_collection.specs.Configured.{level_or, said, configured};
+ghost use Rattle.exponential_collection.specs.Configured.{level_or, configured};
 
-use collecting::{Answer, Reply};
+use collecting::Reply;
 use directory::Directory;
+use refusals::Refusal;
 
 // What was configured: max_size, the greatest level, the two switches, the cardinality limit.
 #[derive(Clone, Copy)]
@@ -41,13 +43,6 @@ pub struct Setup {
     pub dir: Directory,
 }
 
-// What configuring says: a refusal's number, or a fresh map.
-#[derive(Clone, Copy)]
-pub enum Configured {
-    Refused(u8),
-    Accepted(Setup),
-}
-
 // The greatest level of a max_scale; one above the finest where the scale is out of range, which number 2 refuses.
 pub fn level_or(found: Option<u32>) -> u32
     ensures { result ≡ level_or found }
@@ -59,16 +54,14 @@ pub fn level_or(found: Option<u32>) -> u32
 }
 
 // What configuring says by what the start said: a refusal hands out no state.
-pub fn set_up(z: Settings, r: bindings::Reply) -> Configured
+pub fn set_up(z: Settings, r: bindings::Reply) -> Result<Setup, Refusal>
     ensures { said result ≡ set_up (record { settings = z; dir = r.dir }) (bindings-calls.said r.answer) }
 {
-    let answer = r.answer;
-    let dir = r.dir;
-    match answer {
-        bindings::Answer::Refused(no) => Configured::Refused(no),
-        bindings::Answer::Done => Configured::Accepted(Setup { settings: z, dir }),
-        bindings::Answer::Handle(h) => Configured::Accepted(Setup { settings: z, dir }),
-    }
+    r.answer?;
+    Ok(Setup {
+        settings: z,
+        dir: r.dir,
+    })
 }
 
 // Configures a map: its settings and fresh state, or 1, 2, 4, 12.
@@ -87,7 +80,7 @@ pub fn configure(
     extremes: &[[f64; 3]],
     pos: &[u64],
     neg: &[u64],
-) -> Configured
+) -> Result<Setup, Refusal>
     ensures { configuring (said result) (stores sets.now entries.new order.now)
         ≡ configured size scale show sums limit (filter_of present filter.now)
         (stores sets.now entries.old order.now) (cells figures.now extremes.now pos.now neg.now) }
@@ -183,7 +176,7 @@ pub fn cumulative(
     out_words: &mut [[u64; 12]],
     out_pos: &mut [u64],
     out_neg: &mut [u64],
-) -> Answer
+) -> Result<usize, Refusal>
     ensures { gave result
         (held d (stores sets.now entries.now order.now) (cells figures.now extremes.now pos.now neg.now))
         (output out_sets.new out_words.new out_pos.new out_neg.new)
@@ -212,7 +205,7 @@ pub fn cumulative_agreed(
     out_words: &mut [[u64; 12]],
     out_pos: &mut [u64],
     out_neg: &mut [u64],
-) -> Answer
+) -> Result<usize, Refusal>
     requires { Owned (exponential_store s.size s.top) (s.extremes, s.sums) s.limit none
         (held d (stores sets.now entries.now order.now) (cells figures.now extremes.now pos.now neg.now)) }
     ensures { gave result

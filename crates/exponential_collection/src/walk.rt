@@ -4,14 +4,14 @@ ghost use Rattle.exponential_slots.specs.Cells.{cells};
 ghost use Rattle.value_map.specs.Exponential.{exponential_store};
 ghost use Rattle.listing.specs.Listed.{output};
 ghost use Rattle.listing.specs.Inner.{left};
-ghost use Rattle.collecting.specs.Slots.{walked, Walk, AllKnown, surveyed, Listable, listed_to};
+ghost use Rattle.collecting.specs.Slots.{walked, Walk, AllKnown, survey_of, surveyed, Listable, listed_to};
 ghost use Rattle.exponential_collection.specs.Points.{exponential_lister};
 
 use crate::Settings;
-use collecting::Survey;
+use collecting::Sums;
 use listing::Cursor;
 
-// What the slots are found to be.
+// What the slots are found to be; none where a series that is held disagrees.
 pub fn survey(
     known: bool,
     cumulative: bool,
@@ -23,36 +23,29 @@ pub fn survey(
     extremes: &[[f64; 3]],
     pos: &[u64],
     neg: &[u64],
-) -> Survey
+) -> Option<Sums>
     requires walk { Walk (exponential_store s.size s.top) (walked used [] entries.now order.now (cells figures.now extremes.now pos.now neg.now)) }
     requires all_known { AllKnown (exponential_store s.size s.top) (true, true) known
         (walked used [] entries.now order.now (cells figures.now extremes.now pos.now neg.now)) }
-    ensures { result ≡ surveyed (exponential_lister s.size s.top) (true, true) cumulative
+    ensures { survey_of result ≡ surveyed (exponential_lister s.size s.top) (true, true) cumulative
         (walked used [] entries.now order.now (cells figures.now extremes.now pos.now neg.now)) }
 {
     let size = s.size;
     let top = s.top;
-    let mut found = Survey {
-        sound: true,
+    let mut found = Sums {
         points: 0,
         pos: 0,
         neg: 0,
     };
-    let mut i: usize = 0;
-    while i <= used {
+    for i in 0..used + 1 {
         let x = collecting::slot_at(order, i);
         let updated = directory::is_updated(entries, x);
         let due = collecting::is_due(cumulative, updated, x);
-        let next = crate::slot::survey(
+        found = crate::slot::survey(
             known, size, top, found, x, updated, due, figures, extremes, pos, neg,
-        );
-        if !next.sound {
-            return next;
-        }
-        found = next;
-        i += 1;
+        )?;
     }
-    found
+    Some(found)
 }
 
 // Puts the points of all slots that are due, from the front of the output on; the cursor behind them.
@@ -88,8 +81,7 @@ pub fn list(
         pos: 0,
         neg: 0,
     };
-    let mut i: usize = 0;
-    while i <= used {
+    for i in 0..used + 1 {
         let x = collecting::slot_at(order, i);
         let updated = directory::is_updated(entries, x);
         let due = collecting::is_due(cumulative, updated, x);
@@ -98,7 +90,6 @@ pub fn list(
             size, top, show, sums, at, x, updated, due, row, figures, extremes, pos, neg, out_sets,
             out_words, out_pos, out_neg,
         );
-        i += 1;
     }
     at
 }

@@ -8,6 +8,7 @@ mod walk;
 
 ghost use Rattle.std.specs.Prelude.{◌≡◌};
 ghost use Rattle.std.proofs.Math.Option.{none};
+ghost use Rattle.refusals.specs.Refusals.{said};
 ghost use Rattle.sets.specs.Sorted.{filter_of};
 ghost use Rattle.directory.specs.View.{stores};
 ghost use Rattle.exponential_whole_slots.specs.Cells.{cells};
@@ -17,13 +18,13 @@ ghost use Rattle.whole_map.specs.Exponential.{exponential_wholes};
 ghost use Rattle.listing.specs.Listed.{output};
 ghost use Rattle.collecting.specs.Configured.{configuring};
 ghost use Rattle.collecting.specs.Collected.{gave, delta_collected, cumulative_collected};
-ghost use Rattle.exponential_collection.specs.Configured.{said};
 ghost use Rattle.exponential_whole_collection.specs.Points.{exponential_whole_lister};
 ghost use Rattle.exponential_whole_collection.specs.Configured.{configured};
 
-use collecting::{Answer, Reply};
+use collecting::Reply;
 use directory::Directory;
-use exponential_collection::{Configured, Settings};
+use exponential_collection::{Settings, Setup};
+use refusals::Refusal;
 
 // Configures a map: its settings and fresh state, or 1, 2, 4, 12.
 pub fn configure(
@@ -41,7 +42,7 @@ pub fn configure(
     extremes: &[[i64; 3]],
     pos: &[u64],
     neg: &[u64],
-) -> Configured
+) -> Result<Setup, Refusal>
     ensures { configuring (said result) (stores sets.now entries.new order.now)
         ≡ configured size scale show sums limit (filter_of present filter.now)
         (stores sets.now entries.old order.now) (cells figures.now extremes.now pos.now neg.now) }
@@ -137,7 +138,7 @@ pub fn cumulative(
     out_words: &mut [[u64; 12]],
     out_pos: &mut [u64],
     out_neg: &mut [u64],
-) -> Answer
+) -> Result<usize, Refusal>
     ensures { gave result
         (held d (stores sets.now entries.now order.now) (cells figures.now extremes.now pos.now neg.now))
         (output out_sets.new out_words.new out_pos.new out_neg.new)
@@ -166,7 +167,7 @@ pub fn cumulative_agreed(
     out_words: &mut [[u64; 12]],
     out_pos: &mut [u64],
     out_neg: &mut [u64],
-) -> Answer
+) -> Result<usize, Refusal>
     requires { Owned (exponential_wholes s.size s.top s.sums) s.extremes s.limit none
         (held d (stores sets.now entries.now order.now) (cells figures.now extremes.now pos.now neg.now)) }
     ensures { gave result

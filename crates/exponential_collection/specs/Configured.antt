@@ -1,5 +1,6 @@
 -- Configuring a map of the exponential kind as its caller knows it, by a signed max_scale. Assumes nothing.
-use Rattle.std.specs.Prelude.{ℕ, suc, Bool, List, ℤ, Option, Some, None}
+use Rattle.std.specs.Prelude.{ℕ, suc, Bool, List, ℤ, Some, None}
+use Rattle.std.specs.Prelude as Std
 use Rattle.std.proofs.Math.Option.{Option}
 use Rattle.index.specs.Bins.{finest}
 use Rattle.index.specs.Signed.{level_answer}
@@ -11,7 +12,7 @@ use Rattle.collecting.specs.Configured.{Configuring, configured_as}
 use Rattle.exponential_collection.specs.declared.Setup.{Setup}
 
 -- the greatest level of a max_scale; one above the finest, which number 2 refuses, where there is none
-abbrev pub level_or : Option ℕ → ℕ
+abbrev pub level_or : Std.Option ℕ → ℕ
 level_or None = suc finest
 level_or (Some n) = n
 

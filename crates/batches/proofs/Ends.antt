@@ -16,6 +16,7 @@ use Rattle.laws.specs.Said.{refusal, success, number}
 use Rattle.laws.proofs.Bools.{flag}
 use Rattle.laws.proofs.Cases.{and-true}
 use Rattle.rows.specs.Recording.{Recording}
+use Rattle.refusals.specs.Refusals.{code}
 use Rattle.many.specs.Many.{Many, many, one_more, each}
 use Rattle.many.proofs.Turns.{either, each_on, each-stop, each_none}
 use Rattle.many.proofs.Alike.{pick_first, pick_second}
@@ -193,10 +194,10 @@ module _ {Cells : Type 0} where
 
   -- the batch x of one value, what the single call r replies of it, and the call o
   replied : {A : Type 0} (f : Held Cells → A → Recording (Held Cells)) (h : Held Cells) (v : A) (o : Outcome Cells) → f h v ≡ one o → Told o
-      → (x : Batch) (r : Reply) → (said r.answer ≡ answer_of x.no) × (r.dir ≡ x.dir)
-      → (s : Stores) (c : Cells) → many x.taken x.no (held x.dir s c) ≡ each f h (v ∷ []) → gave r s c ≡ o
+      → (x : Batch) (r : Reply) → (said r.answer ≡ answer_of (code x.end)) × (r.dir ≡ x.dir)
+      → (s : Stores) (c : Cells) → many x.taken (code x.end) (held x.dir s c) ≡ each f h (v ∷ []) → gave r s c ≡ o
   replied f h v o e k x r g s c i =
-      let n : x.no ≡ number o.answer = ap (λ (m : Many (Held Cells)). m.no) i ∙ (one_left f h v).0 ∙ ap (λ (y : Recording (Held Cells)). y.no) e in
+      let n : code x.end ≡ number o.answer = ap (λ (m : Many (Held Cells)). m.no) i ∙ (one_left f h v).0 ∙ ap (λ (y : Recording (Held Cells)). y.no) e in
       let l : held x.dir s c ≡ o.held = ap (λ (m : Many (Held Cells)). m.left) i ∙ (one_left f h v).1 ∙ ap (λ (y : Recording (Held Cells)). y.cells) e in
       (λ j. record { answer = g.0 j; held = held (g.1 j) s c })
       ∙ (λ j. record { answer = answer_of (n j); held = l j })
@@ -219,14 +220,14 @@ module _ {K : Kind} (S : Store K) (limit : ℕ) (h : Held S.Cells) (v : K.Value)
   unfolding called
   called-told n ok row a = entered-told row (unless_barred (barred_by (lent S limit h) (K.finite v) n (passes S && ok)) a)
 
-  module _ (x : Batch) (r : Reply) (g : (said r.answer ≡ answer_of x.no) × (r.dir ≡ x.dir)) (s : Stores) (c : S.Cells) where
-    pub one-by : (b : ℕ) → many x.taken x.no (held x.dir s c) ≡ measured_all_by S limit h (v ∷ []) b → gave r s c ≡ measured_by S limit h v b
+  module _ (x : Batch) (r : Reply) (g : (said r.answer ≡ answer_of (code x.end)) × (r.dir ≡ x.dir)) (s : Stores) (c : S.Cells) where
+    pub one-by : (b : ℕ) → many x.taken (code x.end) (held x.dir s c) ≡ measured_all_by S limit h (v ∷ []) b → gave r s c ≡ measured_by S limit h v b
     unfolding measured_all_by measured_by
     one-by b e =
         replied (λ m y. one (measured_by S limit m y b)) h v (measured_by S limit h v b) refl
         (called-told 0 (leb limit most_sets) (replicate 9 0) (seated_by limit h.kept.dir h.kept.stores b)) x r g s c e
 
-    pub one_for : (filter : Option (List ℕ)) (attrs : Set) → many x.taken x.no (held x.dir s c) ≡ measured_all S limit filter h (v ∷ []) attrs
+    pub one_for : (filter : Option (List ℕ)) (attrs : Set) → many x.taken (code x.end) (held x.dir s c) ≡ measured_all S limit filter h (v ∷ []) attrs
         → gave r s c ≡ measured S limit filter h v attrs
     unfolding measured_all measured
     one_for filter attrs e =
@@ -245,14 +246,7 @@ module _ (n : ℕ) where
   unfolding answer_of
   answer-no d = sym (pick_second n d (success none) (refusal n))
 
--- of the attributes those behind the last are lent
-pub lent_none : (l : List (List ℕ)) → Lendable (given (drop (length l) l))
-lent_none l = let h : length l ≤ length l = omega arith in subst (λ (x : List (List ℕ)). Lendable (given x)) (sym (drop_of_length-le l h)) tt
-
--- one attribute more before those that are lent
-pub lent-turn : (l : List (List ℕ)) (i : ℕ) → 0 < i → i ≤ length l → Lendable (given (drop i l))
-    → (get_or (get_or l (i - 1) []) 0 0 < 4294967296) × (get_or (get_or l (i - 1) []) 1 0 < 4294967296) → Lendable (given (drop (i - 1) l))
-lent-turn l i h k m p =
-    let e : i ≡ suc (i - 1) = omega arith in
-    subst (λ (x : List (List ℕ)). Lendable (given x)) (sym (drop-cons l (i - 1) [] (omega arith)))
-    (p, subst (λ (x : ℕ). Lendable (given (drop x l))) e m)
+-- attributes each of which is lent
+pub each-lent : (l : List (List ℕ)) → ((k : ℕ) → k < length l → (get_or (get_or l k []) 0 0 < 4294967296) × (get_or (get_or l k []) 1 0 < 4294967296)) → Lendable (given l)
+each-lent [] h = tt
+each-lent (a ∷ l) h = (h 0 (omega arith), each-lent l (λ k i. h (suc k) (omega (arith, i))))

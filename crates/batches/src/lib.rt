@@ -5,6 +5,7 @@
 pub mod room;
 
 ghost use Rattle.std.specs.Prelude.{◌≡◌, ◌<◌, get_or};
+ghost use Rattle.refusals.specs.Refusals.{code};
 ghost use Rattle.many.specs.Many.{many};
 ghost use Rattle.tally.specs.Sets.{Lendable};
 ghost use Rattle.sets.specs.Sorted.{given};
@@ -14,22 +15,23 @@ ghost use Rattle.bindings.specs.Calls.{said};
 ghost use Rattle.seats.specs.Inner.{Fits};
 ghost use Rattle.batches.specs.Inner.{finished_all, answer_of};
 
-use bindings::{Answer, Reply};
+use bindings::Reply;
 use directory::{Directory, Target};
+use refusals::Refusal;
 
-// What a call with many values says: how many were taken, document 01's number that refused the next one (0 if none was refused), and the
+// What a call with many values says: how many were taken, how it ended (with what refused the next one, if one was refused), and the
 // directory's state.
 #[derive(Clone, Copy)]
 pub struct Batch {
     pub taken: usize,
-    pub no: u8,
+    pub end: Result<(), Refusal>,
     pub dir: Directory,
 }
 
 // The end of a batch: the directory is written if anything was taken.
 pub fn finish_all(
     taken: usize,
-    no: u8,
+    end: Result<(), Refusal>,
     d: Directory,
     sets: &mut [[u64; 9]],
     entries: &mut [[u64; 3]],
@@ -38,38 +40,23 @@ pub fn finish_all(
     target: Target,
 ) -> Batch
     requires { (taken ≡ 0 → ⊥) → Fits d (stores sets.old entries.old order.old) target }
-    ensures { many result.taken result.no (kept result.dir (stores sets.new entries.new order.new))
-        ≡ many taken no (finished_all taken d (stores sets.old entries.old order.old) row.now target) }
+    ensures { many result.taken (code result.end) (kept result.dir (stores sets.new entries.new order.new))
+        ≡ many taken (code end) (finished_all taken d (stores sets.old entries.old order.old) row.now target) }
 {
     if taken == 0 {
-        return Batch {
-            taken: taken,
-            no: no,
-            dir: d,
-        };
+        return Batch { taken, end, dir: d };
     }
     let e = seats::commit(d, sets, entries, order, row, target);
-    Batch {
-        taken: taken,
-        no: no,
-        dir: e,
-    }
+    Batch { taken, end, dir: e }
 }
 
 // What a single call replies, which was made as a batch of one value.
 pub fn single(b: Batch) -> Reply
-    ensures { (said result.answer ≡ answer_of b.no) × (result.dir ≡ b.dir) }
+    ensures { (said result.answer ≡ answer_of (code b.end)) × (result.dir ≡ b.dir) }
 {
-    let d = b.dir;
-    if b.no != 0 {
-        return Reply {
-            answer: Answer::Refused(b.no),
-            dir: d,
-        };
-    }
     Reply {
-        answer: Answer::Done,
-        dir: d,
+        answer: b.end.map(|_| None),
+        dir: b.dir,
     }
 }
 
@@ -84,9 +71,7 @@ fn pair_lent(a: [u32; 2]) -> bool
 pub fn all_lent(attrs: &[[u32; 2]])
     ensures { Lendable (given attrs.now) }
 {
-    let mut i = attrs.len();
-    while i > 0 {
-        i -= 1;
-        pair_lent(attrs[i]);
+    for a in attrs {
+        pair_lent(*a);
     }
 }

@@ -7,6 +7,7 @@ mod slot;
 
 ghost use Rattle.std.specs.Prelude.{◌≡◌, true};
 ghost use Rattle.std.specs.Float.{nan};
+ghost use Rattle.refusals.specs.Refusals.{code};
 ghost use Rattle.many.specs.Many.{many};
 ghost use Rattle.sets.specs.Sorted.{given, filter_of};
 ghost use Rattle.directory.specs.View.{stores};
@@ -15,48 +16,25 @@ ghost use Rattle.value_map.specs.Calls.{held, gave, measured, measured_by};
 ghost use Rattle.value_map.specs.Explicit.{explicit_store};
 ghost use Rattle.batches.specs.Agreed.{AgreedBy, AgreedFor};
 ghost use Rattle.batches.specs.Batch.{measured_all, measured_all_by};
-ghost use Rattle.batches.specs.Inner.{recorded_all, unless_stopped};
+ghost use Rattle.batches.specs.Inner.{recorded_all};
 ghost use Rattle.batches.specs.Asked.{Asked};
 
 use batches::Batch;
 use bindings::Reply;
 use directory::Directory;
-use many::Taken;
+use refusals::Refusal;
 use value_map::explicit_map::{cells_suffice, unset_of};
 use value_map::first::takes;
 
-// The number with which configuring refuses the bounds, asked once for a list: where it is known to accept them, not at all.
-pub fn unset_if(known: bool, bounds: &[f64]) -> u8
+// Why configuring refuses the bounds, if it does, asked once for a list: where it is known to accept them, not at all.
+pub fn unset_if(known: bool, bounds: &[f64]) -> Result<(), Refusal>
     requires { known ≡ true → (explicit_store bounds.now).unset ≡ 0 }
-    ensures { result ≡ (explicit_store bounds.now).unset }
+    ensures { code result ≡ (explicit_store bounds.now).unset }
 {
     if known {
-        return 0;
+        return Ok(());
     }
     unset_of(bounds)
-}
-
-// Records values at the slot of a seating, unless that is refused.
-fn take_all(
-    known: bool,
-    bounds: &[f64],
-    no: u8,
-    x: usize,
-    updated: bool,
-    totals: &mut [u64],
-    extremes: &mut [[f64; 3]],
-    counts: &mut [u64],
-    values: &[f64],
-) -> Taken
-    requires { no ≡ 0 → Asked (explicit_store bounds.now) (true, true) nan known x updated (cells totals.old extremes.old counts.old) values.now }
-    ensures { many result.taken result.no (cells totals.new extremes.new counts.new)
-        ≡ unless_stopped no (cells totals.old extremes.old counts.old)
-        (recorded_all (explicit_store bounds.now) x updated (cells totals.old extremes.old counts.old) values.now) }
-{
-    if no != 0 {
-        return Taken { taken: 0, no: no };
-    }
-    slot::record_all(known, bounds, x, updated, totals, extremes, counts, values)
 }
 
 // `measure_all`, where a caller may know already that the map agrees: what is known is not asked again.
@@ -78,7 +56,7 @@ fn all(
 ) -> Batch
     requires { known ≡ true → AgreedFor (explicit_store bounds.now) (true, true) limit (filter_of present filter.now)
         (held d (stores sets.old entries.old order.old) (cells totals.old extremes.old counts.old)) (given attrs.now) }
-    ensures { many result.taken result.no
+    ensures { many result.taken (code result.end)
         (held result.dir (stores sets.new entries.new order.new) (cells totals.new extremes.new counts.new))
         ≡ measured_all (explicit_store bounds.now) limit (filter_of present filter.now)
         (held d (stores sets.old entries.old order.old) (cells totals.old extremes.old counts.old))
@@ -87,7 +65,7 @@ fn all(
     if values.len() == 0 {
         return Batch {
             taken: 0,
-            no: 0,
+            end: Ok(()),
             dir: d,
         };
     }
@@ -97,14 +75,23 @@ fn all(
     let slots = batches::room::slots_if(suffice);
     let value = takes(values[0]);
     let mut row: [u64; 9] = [0; 9];
-    let seat = seats::seat_if(
+    let found = seats::seat_if(
         known, slots, value, unset, limit, d, sets, entries, order, attrs, present, filter,
         &mut row,
     );
-    let got = take_all(
+    let seat = match found {
+        Ok(seat) => seat,
+        Err(e) => {
+            return Batch {
+                taken: 0,
+                end: Err(e),
+                dir: d,
+            };
+        }
+    };
+    let got = slot::record_all(
         known,
         bounds,
-        seat.no,
         seat.slot,
         seat.updated,
         totals,
@@ -112,8 +99,16 @@ fn all(
         counts,
         values,
     );
-    let target = seat.target;
-    batches::finish_all(got.taken, got.no, d, sets, entries, order, &row, target)
+    batches::finish_all(
+        got.taken,
+        got.end,
+        d,
+        sets,
+        entries,
+        order,
+        &row,
+        seat.target,
+    )
 }
 
 // `measure_all_by`, likewise.
@@ -133,7 +128,7 @@ fn all_by(
 ) -> Batch
     requires { known ≡ true → AgreedBy (explicit_store bounds.now) (true, true) limit
         (held d (stores sets.old entries.old order.old) (cells totals.old extremes.old counts.old)) h }
-    ensures { many result.taken result.no
+    ensures { many result.taken (code result.end)
         (held result.dir (stores sets.new entries.new order.new) (cells totals.new extremes.new counts.new))
         ≡ measured_all_by (explicit_store bounds.now) limit
         (held d (stores sets.old entries.old order.old) (cells totals.old extremes.old counts.old))
@@ -142,7 +137,7 @@ fn all_by(
     if values.len() == 0 {
         return Batch {
             taken: 0,
-            no: 0,
+            end: Ok(()),
             dir: d,
         };
     }
@@ -151,13 +146,22 @@ fn all_by(
     let slots = batches::room::slots_if(suffice);
     let value = takes(values[0]);
     let row: [u64; 9] = [0; 9];
-    let seat = seats::seat_by_if(
+    let found = seats::seat_by_if(
         known, slots, value, unset, limit, d, sets, entries, order, h,
     );
-    let got = take_all(
+    let seat = match found {
+        Ok(seat) => seat,
+        Err(e) => {
+            return Batch {
+                taken: 0,
+                end: Err(e),
+                dir: d,
+            };
+        }
+    };
+    let got = slot::record_all(
         known,
         bounds,
-        seat.no,
         seat.slot,
         seat.updated,
         totals,
@@ -165,8 +169,16 @@ fn all_by(
         counts,
         values,
     );
-    let target = seat.target;
-    batches::finish_all(got.taken, got.no, d, sets, entries, order, &row, target)
+    batches::finish_all(
+        got.taken,
+        got.end,
+        d,
+        sets,
+        entries,
+        order,
+        &row,
+        seat.target,
+    )
 }
 
 // Records values one after another into the series of the attributes' set, up to the first that is refused: 12, 6, 5, 8, 9.
@@ -185,7 +197,7 @@ pub fn measure_all(
     present: bool,
     filter: &[u32],
 ) -> Batch
-    ensures { many result.taken result.no
+    ensures { many result.taken (code result.end)
         (held result.dir (stores sets.new entries.new order.new) (cells totals.new extremes.new counts.new))
         ≡ measured_all (explicit_store bounds.now) limit (filter_of present filter.now)
         (held d (stores sets.old entries.old order.old) (cells totals.old extremes.old counts.old))
@@ -211,7 +223,7 @@ pub fn measure_all_by(
     values: &[f64],
     h: u64,
 ) -> Batch
-    ensures { many result.taken result.no
+    ensures { many result.taken (code result.end)
         (held result.dir (stores sets.new entries.new order.new) (cells totals.new extremes.new counts.new))
         ≡ measured_all_by (explicit_store bounds.now) limit
         (held d (stores sets.old entries.old order.old) (cells totals.old extremes.old counts.old))
@@ -240,7 +252,7 @@ pub fn measure_all_agreed(
 ) -> Batch
     requires { AgreedFor (explicit_store bounds.now) (true, true) limit (filter_of present filter.now)
         (held d (stores sets.old entries.old order.old) (cells totals.old extremes.old counts.old)) (given attrs.now) }
-    ensures { many result.taken result.no
+    ensures { many result.taken (code result.end)
         (held result.dir (stores sets.new entries.new order.new) (cells totals.new extremes.new counts.new))
         ≡ measured_all (explicit_store bounds.now) limit (filter_of present filter.now)
         (held d (stores sets.old entries.old order.old) (cells totals.old extremes.old counts.old))
@@ -268,7 +280,7 @@ pub fn measure_all_by_agreed(
 ) -> Batch
     requires { AgreedBy (explicit_store bounds.now) (true, true) limit
         (held d (stores sets.old entries.old order.old) (cells totals.old extremes.old counts.old)) h }
-    ensures { many result.taken result.no
+    ensures { many result.taken (code result.end)
         (held result.dir (stores sets.new entries.new order.new) (cells totals.new extremes.new counts.new))
         ≡ measured_all_by (explicit_store bounds.now) limit
         (held d (stores sets.old entries.old order.old) (cells totals.old extremes.old counts.old))

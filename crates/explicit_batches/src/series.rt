@@ -1,32 +1,34 @@
 // Many values into one series of the explicit kind that agrees: its head by value, its counts at the front of a lent slice.
 ghost use Rattle.std.specs.Prelude.{◌≡◌, ◌+◌, ◌<◌};
 ghost use Rattle.laws.specs.Counting.{most_count};
+ghost use Rattle.refusals.specs.Refusals.{code};
 ghost use Rattle.many.specs.Many.{many, each};
 ghost use Rattle.points.specs.Values.{noted};
 ghost use Rattle.explicit.specs.Series.{head_of, summary};
 ghost use Rattle.explicit_batches.specs.Values.{series, step, Sound, barring};
 
 use explicit::Head;
+use refusals::Refusal;
 
-// What a list of values left: the head, how many were taken, and the number that refused the next one, 0 if none was refused.
+// What a list of values left: the head, how many were taken, and how it ended: with what refused the next one, if one was refused.
 #[derive(Clone, Copy)]
 pub struct Run {
     pub head: Head,
     pub taken: usize,
-    pub no: u8,
+    pub end: Result<(), Refusal>,
 }
 
-// The number that refuses a value in a series that agrees, 0 if none: 6, 9.
-fn barred(count: u64, v: f64) -> u8
-    ensures { result ≡ barring count v }
+// Why a value is refused in a series that agrees, if it is: 6, 9.
+fn barred(count: u64, v: f64) -> Result<(), Refusal>
+    ensures { code result ≡ barring count v }
 {
     if !floats::is_finite(v) {
-        return 6;
+        return Err(Refusal::NotFinite);
     }
     if count >= u64::MAX {
-        return 9;
+        return Err(Refusal::Full);
     }
-    0
+    Ok(())
 }
 
 // The head with a value more.
@@ -47,28 +49,24 @@ fn raised(h: Head, v: f64) -> Head
 // Records values into a series that agrees, one after another, up to the first that is refused: 6, 9.
 pub fn record_all(bounds: &[f64], head: Head, counts: &mut [u64], values: &[f64]) -> Run
     requires { Sound bounds.now (series head counts.old) }
-    ensures { many result.taken result.no (series result.head counts.new)
+    ensures { many result.taken (code result.end) (series result.head counts.new)
         ≡ each (step bounds.now) (series head counts.old) values.now }
 {
     let mut h = head;
-    let mut i: usize = 0;
-    while i < values.len() {
-        let v = values[i];
-        let no = barred(h.count, v);
-        if no != 0 {
+    for (i, &v) in values.iter().enumerate() {
+        if let Err(e) = barred(h.count, v) {
             return Run {
                 head: h,
                 taken: i,
-                no: no,
+                end: Err(e),
             };
         }
         explicit::count_in(bounds, counts, v);
         h = raised(h, v);
-        i += 1;
     }
     Run {
         head: h,
-        taken: i,
-        no: 0,
+        taken: values.len(),
+        end: Ok(()),
     }
 }

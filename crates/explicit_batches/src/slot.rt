@@ -2,6 +2,7 @@
 ghost use Rattle.std.specs.Prelude.{◌≡◌, true, ◌<◌, ◌≤◌, eqb, length, set};
 ghost use Rattle.std.specs.Float.{nan};
 ghost use Rattle.laws.specs.Pick.{pick};
+ghost use Rattle.refusals.specs.Refusals.{code};
 ghost use Rattle.many.specs.Many.{many};
 ghost use Rattle.points.specs.Explicit.{bounds_pass, bucket_count};
 ghost use Rattle.explicit_slots.specs.Cells.{cells};
@@ -12,8 +13,9 @@ ghost use Rattle.explicit_batches.specs.Values.{series};
 ghost use Rattle.explicit_batches.specs.Slot.{extremes_of, agreeing, agrees_if, begun, entering};
 
 use crate::series::Run;
-use explicit::{Answer, Head};
+use explicit::Head;
 use many::Taken;
+use refusals::Refusal;
 
 // Whether a series agrees: its counts and its bounds, and finite extremes.
 fn agrees(bounds: &[f64], head: Head, counts: &[u64]) -> bool
@@ -50,11 +52,7 @@ fn begin(bounds: &[f64], updated: bool, head: Head, counts: &mut [u64]) -> Head
     if updated {
         return head;
     }
-    let empty = explicit::fresh(bounds, counts);
-    match empty {
-        Answer::Refused(_) => head,
-        Answer::Recorded(h) => h,
-    }
+    explicit::fresh(bounds, counts).unwrap_or(head)
 }
 
 // Values recorded into the series of a row, or into a fresh one where the entry was not updated; 8 where the series disagrees.
@@ -68,14 +66,14 @@ fn enter_all(
 ) -> Run
     requires { (bounds_pass bounds.now ≡ true) × (bucket_count bounds.now ≤ length counts.old)
         × (known ≡ true → agrees_if bounds.now updated head counts.old ≡ true) }
-    ensures { many result.taken result.no (series result.head counts.new)
+    ensures { many result.taken (code result.end) (series result.head counts.new)
         ≡ entering bounds.now updated head counts.old values.now }
 {
     if !agrees_if(known, bounds, updated, head, counts) {
         return Run {
-            head: head,
+            head,
             taken: 0,
-            no: 8,
+            end: Err(Refusal::Disagrees),
         };
     }
     let from = begin(bounds, updated, head, counts);
@@ -109,7 +107,7 @@ pub fn record_all(
     values: &[f64],
 ) -> Taken
     requires { Asked (explicit_store bounds.now) (true, true) nan known x updated (cells totals.old extremes.old counts.old) values.now }
-    ensures { many result.taken result.no (cells totals.new extremes.new counts.new)
+    ensures { many result.taken (code result.end) (cells totals.new extremes.new counts.new)
         ≡ recorded_all (explicit_store bounds.now) x updated (cells totals.old extremes.old counts.old) values.now }
 {
     let n = explicit::bucket_count(bounds);
@@ -125,6 +123,6 @@ pub fn record_all(
     keep(x, totals, extremes, run);
     Taken {
         taken: run.taken,
-        no: run.no,
+        end: run.end,
     }
 }

@@ -6,6 +6,7 @@ mod series;
 mod slot;
 
 ghost use Rattle.std.specs.Prelude.{◌≡◌, true, pos};
+ghost use Rattle.refusals.specs.Refusals.{code};
 ghost use Rattle.many.specs.Many.{many};
 ghost use Rattle.sets.specs.Sorted.{given, filter_of};
 ghost use Rattle.directory.specs.View.{stores};
@@ -14,42 +15,15 @@ ghost use Rattle.value_map.specs.Calls.{held, gave, measured, measured_by};
 ghost use Rattle.whole_map.specs.Explicit.{explicit_wholes};
 ghost use Rattle.batches.specs.Agreed.{AgreedBy, AgreedFor};
 ghost use Rattle.batches.specs.Batch.{measured_all, measured_all_by};
-ghost use Rattle.batches.specs.Inner.{recorded_all, unless_stopped};
+ghost use Rattle.batches.specs.Inner.{recorded_all};
 ghost use Rattle.batches.specs.Asked.{Asked};
 
 use batches::Batch;
 use bindings::Reply;
 use directory::Directory;
 use explicit_batches::unset_if;
-use many::Taken;
 use value_map::explicit_map::cells_suffice;
 use whole_map::exponential_map::takes;
-
-// Records values at the slot of a seating, unless that is refused.
-fn take_all(
-    known: bool,
-    bounds: &[f64],
-    sums: bool,
-    no: u8,
-    x: usize,
-    updated: bool,
-    totals: &mut [u64],
-    extremes: &mut [[i64; 3]],
-    counts: &mut [u64],
-    values: &[i64],
-) -> Taken
-    requires { no ≡ 0 → Asked (explicit_wholes bounds.now sums) true (pos 0) known x updated (cells totals.old extremes.old counts.old) values.now }
-    ensures { many result.taken result.no (cells totals.new extremes.new counts.new)
-        ≡ unless_stopped no (cells totals.old extremes.old counts.old)
-        (recorded_all (explicit_wholes bounds.now sums) x updated (cells totals.old extremes.old counts.old) values.now) }
-{
-    if no != 0 {
-        return Taken { taken: 0, no: no };
-    }
-    slot::record_all(
-        known, bounds, sums, x, updated, totals, extremes, counts, values,
-    )
-}
 
 // `measure_all`, where a caller may know already that the map agrees: what is known is not asked again.
 fn all(
@@ -71,7 +45,7 @@ fn all(
 ) -> Batch
     requires { known ≡ true → AgreedFor (explicit_wholes bounds.now sums) true limit (filter_of present filter.now)
         (held d (stores sets.old entries.old order.old) (cells totals.old extremes.old counts.old)) (given attrs.now) }
-    ensures { many result.taken result.no
+    ensures { many result.taken (code result.end)
         (held result.dir (stores sets.new entries.new order.new) (cells totals.new extremes.new counts.new))
         ≡ measured_all (explicit_wholes bounds.now sums) limit (filter_of present filter.now)
         (held d (stores sets.old entries.old order.old) (cells totals.old extremes.old counts.old))
@@ -80,7 +54,7 @@ fn all(
     if values.len() == 0 {
         return Batch {
             taken: 0,
-            no: 0,
+            end: Ok(()),
             dir: d,
         };
     }
@@ -90,15 +64,24 @@ fn all(
     let slots = batches::room::slots_if(suffice);
     let value = takes(values[0]);
     let mut row: [u64; 9] = [0; 9];
-    let seat = seats::seat_if(
+    let found = seats::seat_if(
         known, slots, value, unset, limit, d, sets, entries, order, attrs, present, filter,
         &mut row,
     );
-    let got = take_all(
+    let seat = match found {
+        Ok(seat) => seat,
+        Err(e) => {
+            return Batch {
+                taken: 0,
+                end: Err(e),
+                dir: d,
+            };
+        }
+    };
+    let got = slot::record_all(
         known,
         bounds,
         sums,
-        seat.no,
         seat.slot,
         seat.updated,
         totals,
@@ -106,8 +89,16 @@ fn all(
         counts,
         values,
     );
-    let target = seat.target;
-    batches::finish_all(got.taken, got.no, d, sets, entries, order, &row, target)
+    batches::finish_all(
+        got.taken,
+        got.end,
+        d,
+        sets,
+        entries,
+        order,
+        &row,
+        seat.target,
+    )
 }
 
 // `measure_all_by`, likewise.
@@ -128,7 +119,7 @@ fn all_by(
 ) -> Batch
     requires { known ≡ true → AgreedBy (explicit_wholes bounds.now sums) true limit
         (held d (stores sets.old entries.old order.old) (cells totals.old extremes.old counts.old)) h }
-    ensures { many result.taken result.no
+    ensures { many result.taken (code result.end)
         (held result.dir (stores sets.new entries.new order.new) (cells totals.new extremes.new counts.new))
         ≡ measured_all_by (explicit_wholes bounds.now sums) limit
         (held d (stores sets.old entries.old order.old) (cells totals.old extremes.old counts.old))
@@ -137,7 +128,7 @@ fn all_by(
     if values.len() == 0 {
         return Batch {
             taken: 0,
-            no: 0,
+            end: Ok(()),
             dir: d,
         };
     }
@@ -146,14 +137,23 @@ fn all_by(
     let slots = batches::room::slots_if(suffice);
     let value = takes(values[0]);
     let row: [u64; 9] = [0; 9];
-    let seat = seats::seat_by_if(
+    let found = seats::seat_by_if(
         known, slots, value, unset, limit, d, sets, entries, order, h,
     );
-    let got = take_all(
+    let seat = match found {
+        Ok(seat) => seat,
+        Err(e) => {
+            return Batch {
+                taken: 0,
+                end: Err(e),
+                dir: d,
+            };
+        }
+    };
+    let got = slot::record_all(
         known,
         bounds,
         sums,
-        seat.no,
         seat.slot,
         seat.updated,
         totals,
@@ -161,8 +161,16 @@ fn all_by(
         counts,
         values,
     );
-    let target = seat.target;
-    batches::finish_all(got.taken, got.no, d, sets, entries, order, &row, target)
+    batches::finish_all(
+        got.taken,
+        got.end,
+        d,
+        sets,
+        entries,
+        order,
+        &row,
+        seat.target,
+    )
 }
 
 // Records values one after another into the series of the attributes' set, up to the first that is refused: 12, 5, 8, 9, 16.
@@ -182,7 +190,7 @@ pub fn measure_all(
     present: bool,
     filter: &[u32],
 ) -> Batch
-    ensures { many result.taken result.no
+    ensures { many result.taken (code result.end)
         (held result.dir (stores sets.new entries.new order.new) (cells totals.new extremes.new counts.new))
         ≡ measured_all (explicit_wholes bounds.now sums) limit (filter_of present filter.now)
         (held d (stores sets.old entries.old order.old) (cells totals.old extremes.old counts.old))
@@ -209,7 +217,7 @@ pub fn measure_all_by(
     values: &[i64],
     h: u64,
 ) -> Batch
-    ensures { many result.taken result.no
+    ensures { many result.taken (code result.end)
         (held result.dir (stores sets.new entries.new order.new) (cells totals.new extremes.new counts.new))
         ≡ measured_all_by (explicit_wholes bounds.now sums) limit
         (held d (stores sets.old entries.old order.old) (cells totals.old extremes.old counts.old))
@@ -239,7 +247,7 @@ pub fn measure_all_agreed(
 ) -> Batch
     requires { AgreedFor (explicit_wholes bounds.now sums) true limit (filter_of present filter.now)
         (held d (stores sets.old entries.old order.old) (cells totals.old extremes.old counts.old)) (given attrs.now) }
-    ensures { many result.taken result.no
+    ensures { many result.taken (code result.end)
         (held result.dir (stores sets.new entries.new order.new) (cells totals.new extremes.new counts.new))
         ≡ measured_all (explicit_wholes bounds.now sums) limit (filter_of present filter.now)
         (held d (stores sets.old entries.old order.old) (cells totals.old extremes.old counts.old))
@@ -268,7 +276,7 @@ pub fn measure_all_by_agreed(
 ) -> Batch
     requires { AgreedBy (explicit_wholes bounds.now sums) true limit
         (held d (stores sets.old entries.old order.old) (cells totals.old extremes.old counts.old)) h }
-    ensures { many result.taken result.no
+    ensures { many result.taken (code result.end)
         (held result.dir (stores sets.new entries.new order.new) (cells totals.new extremes.new counts.new))
         ≡ measured_all_by (explicit_wholes bounds.now sums) limit
         (held d (stores sets.old entries.old order.old) (cells totals.old extremes.old counts.old))

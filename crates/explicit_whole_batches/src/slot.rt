@@ -1,6 +1,7 @@
 // Many values recorded into one slot of the lent stores over i64: its series is read once, and its head written once.
 ghost use Rattle.std.specs.Prelude.{◌≡◌, true, ◌<◌, ◌≤◌, eqb, pos, length, set};
 ghost use Rattle.laws.specs.Pick.{pick};
+ghost use Rattle.refusals.specs.Refusals.{code};
 ghost use Rattle.many.specs.Many.{many};
 ghost use Rattle.points.specs.Explicit.{bounds_pass, bucket_count};
 ghost use Rattle.explicit_whole_slots.specs.Cells.{cells, head_with};
@@ -11,8 +12,9 @@ ghost use Rattle.explicit_whole_batches.specs.Values.{series};
 ghost use Rattle.explicit_whole_batches.specs.Slot.{extremes_of, agrees_if, begun, entering};
 
 use crate::series::Run;
-use explicit_wholes::{Answer, Head};
+use explicit_wholes::Head;
 use many::Taken;
+use refusals::Refusal;
 
 // Whether the series agrees, where one is held: not asked again where it is known. Every i64 is an extreme.
 fn agrees_if(known: bool, bounds: &[f64], updated: bool, count: u64, counts: &[u64]) -> bool
@@ -36,11 +38,7 @@ fn begin(bounds: &[f64], updated: bool, head: Head, counts: &mut [u64]) -> Head
     if updated {
         return head;
     }
-    let empty = explicit_wholes::fresh(bounds, counts);
-    match empty {
-        Answer::Refused(_) => head,
-        Answer::Recorded(h) => h,
-    }
+    explicit_wholes::fresh(bounds, counts).unwrap_or(head)
 }
 
 // Values recorded into the series of a row, or into a fresh one where the entry was not updated; 8 where the series disagrees.
@@ -55,14 +53,14 @@ fn enter_all(
 ) -> Run
     requires { (bounds_pass bounds.now ≡ true) × (bucket_count bounds.now ≤ length counts.old)
         × (known ≡ true → agrees_if bounds.now updated head.count counts.old ≡ true) }
-    ensures { many result.taken result.no (series result.head counts.new)
+    ensures { many result.taken (code result.end) (series result.head counts.new)
         ≡ entering bounds.now sums updated head counts.old values.now }
 {
     if !agrees_if(known, bounds, updated, head.count, counts) {
         return Run {
-            head: head,
+            head,
             taken: 0,
-            no: 8,
+            end: Err(Refusal::Disagrees),
         };
     }
     let from = begin(bounds, updated, head, counts);
@@ -109,7 +107,7 @@ pub fn record_all(
     values: &[i64],
 ) -> Taken
     requires { Asked (explicit_wholes bounds.now sums) true (pos 0) known x updated (cells totals.old extremes.old counts.old) values.now }
-    ensures { many result.taken result.no (cells totals.new extremes.new counts.new)
+    ensures { many result.taken (code result.end) (cells totals.new extremes.new counts.new)
         ≡ recorded_all (explicit_wholes bounds.now sums) x updated (cells totals.old extremes.old counts.old) values.now }
 {
     let n = explicit::bucket_count(bounds);
@@ -128,6 +126,6 @@ pub fn record_all(
     keep(x, totals, extremes, run);
     Taken {
         taken: run.taken,
-        no: run.no,
+        end: run.end,
     }
 }

@@ -13,16 +13,16 @@ ghost use Rattle.exponential_slots.specs.Cells.{cells};
 ghost use Rattle.value_map.specs.Store.{lengths_suffice};
 ghost use Rattle.value_map.specs.Calls.{held, gave, measured, measured_by};
 ghost use Rattle.value_map.specs.Exponential.{exponential_store};
+ghost use Rattle.refusals.specs.Refusals.{code};
 ghost use Rattle.many.specs.Many.{many};
 ghost use Rattle.batches.specs.Agreed.{AgreedBy, AgreedFor};
 ghost use Rattle.batches.specs.Batch.{measured_all, measured_all_by};
-ghost use Rattle.batches.specs.Inner.{recorded_all, unless_stopped};
+ghost use Rattle.batches.specs.Inner.{recorded_all};
 ghost use Rattle.batches.specs.Asked.{Asked};
 
 use batches::Batch;
 use bindings::Reply;
 use directory::Directory;
-use many::Taken;
 
 // How many slots the series' stores of these lengths have room for, as a seating asks for it.
 fn slots_of(size: u32, limit: u64, figures: usize, extremes: usize, pos: usize, neg: usize) -> usize
@@ -32,33 +32,6 @@ fn slots_of(size: u32, limit: u64, figures: usize, extremes: usize, pos: usize, 
         size, limit, figures, extremes, pos, neg,
     );
     batches::room::slots_if(suffice)
-}
-
-// Records values at the slot of a seating, unless that is refused.
-fn take(
-    known: bool,
-    size: u32,
-    top: u32,
-    no: u8,
-    x: usize,
-    updated: bool,
-    figures: &mut [[u64; 8]],
-    extremes: &mut [[f64; 3]],
-    pos: &mut [u64],
-    neg: &mut [u64],
-    values: &[f64],
-) -> Taken
-    requires { no ≡ 0 → Asked (exponential_store size top) (true, true) nan known x updated (cells figures.old extremes.old pos.old neg.old) values.now }
-    ensures { many result.taken result.no (cells figures.new extremes.new pos.new neg.new)
-        ≡ unless_stopped no (cells figures.old extremes.old pos.old neg.old)
-        (recorded_all (exponential_store size top) x updated (cells figures.old extremes.old pos.old neg.old) values.now) }
-{
-    if no != 0 {
-        return Taken { taken: 0, no: no };
-    }
-    slot::record_all(
-        known, size, top, x, updated, figures, extremes, pos, neg, values,
-    )
 }
 
 // Values by one handle, in a map that is known to agree or not: one seat, one slot, one end.
@@ -80,7 +53,7 @@ fn all_by(
 ) -> Batch
     requires { known ≡ true → AgreedBy (exponential_store size top) (true, true) limit
         (held d (stores sets.old entries.old order.old) (cells figures.old extremes.old pos.old neg.old)) h }
-    ensures { many result.taken result.no
+    ensures { many result.taken (code result.end)
         (held result.dir (stores sets.new entries.new order.new) (cells figures.new extremes.new pos.new neg.new))
         ≡ measured_all_by (exponential_store size top) limit
         (held d (stores sets.old entries.old order.old) (cells figures.old extremes.old pos.old neg.old))
@@ -89,7 +62,7 @@ fn all_by(
     if values.len() == 0 {
         return Batch {
             taken: 0,
-            no: 0,
+            end: Ok(()),
             dir: d,
         };
     }
@@ -104,14 +77,23 @@ fn all_by(
     );
     let value = value_map::first::takes(values[0]);
     let row: [u64; 9] = [0; 9];
-    let seat = seats::seat_by_if(
+    let found = seats::seat_by_if(
         known, slots, value, unset, limit, d, sets, entries, order, h,
     );
-    let got = take(
+    let seat = match found {
+        Ok(seat) => seat,
+        Err(e) => {
+            return Batch {
+                taken: 0,
+                end: Err(e),
+                dir: d,
+            };
+        }
+    };
+    let got = slot::record_all(
         known,
         size,
         top,
-        seat.no,
         seat.slot,
         seat.updated,
         figures,
@@ -120,8 +102,16 @@ fn all_by(
         neg,
         values,
     );
-    let target = seat.target;
-    batches::finish_all(got.taken, got.no, d, sets, entries, order, &row, target)
+    batches::finish_all(
+        got.taken,
+        got.end,
+        d,
+        sets,
+        entries,
+        order,
+        &row,
+        seat.target,
+    )
 }
 
 // Values into one set's series, likewise.
@@ -145,7 +135,7 @@ fn all(
 ) -> Batch
     requires { known ≡ true → AgreedFor (exponential_store size top) (true, true) limit (filter_of present filter.now)
         (held d (stores sets.old entries.old order.old) (cells figures.old extremes.old pos.old neg.old)) (given attrs.now) }
-    ensures { many result.taken result.no
+    ensures { many result.taken (code result.end)
         (held result.dir (stores sets.new entries.new order.new) (cells figures.new extremes.new pos.new neg.new))
         ≡ measured_all (exponential_store size top) limit (filter_of present filter.now)
         (held d (stores sets.old entries.old order.old) (cells figures.old extremes.old pos.old neg.old))
@@ -154,7 +144,7 @@ fn all(
     if values.len() == 0 {
         return Batch {
             taken: 0,
-            no: 0,
+            end: Ok(()),
             dir: d,
         };
     }
@@ -170,15 +160,24 @@ fn all(
     );
     let value = value_map::first::takes(values[0]);
     let mut row: [u64; 9] = [0; 9];
-    let seat = seats::seat_if(
+    let found = seats::seat_if(
         known, slots, value, unset, limit, d, sets, entries, order, attrs, present, filter,
         &mut row,
     );
-    let got = take(
+    let seat = match found {
+        Ok(seat) => seat,
+        Err(e) => {
+            return Batch {
+                taken: 0,
+                end: Err(e),
+                dir: d,
+            };
+        }
+    };
+    let got = slot::record_all(
         known,
         size,
         top,
-        seat.no,
         seat.slot,
         seat.updated,
         figures,
@@ -187,8 +186,16 @@ fn all(
         neg,
         values,
     );
-    let target = seat.target;
-    batches::finish_all(got.taken, got.no, d, sets, entries, order, &row, target)
+    batches::finish_all(
+        got.taken,
+        got.end,
+        d,
+        sets,
+        entries,
+        order,
+        &row,
+        seat.target,
+    )
 }
 
 // Records values one after another into the series of the attributes' set, up to the first that is refused: 12, 6, 5, 8, 9.
@@ -209,7 +216,7 @@ pub fn measure_all(
     present: bool,
     filter: &[u32],
 ) -> Batch
-    ensures { many result.taken result.no
+    ensures { many result.taken (code result.end)
         (held result.dir (stores sets.new entries.new order.new) (cells figures.new extremes.new pos.new neg.new))
         ≡ measured_all (exponential_store size top) limit (filter_of present filter.now)
         (held d (stores sets.old entries.old order.old) (cells figures.old extremes.old pos.old neg.old))
@@ -237,7 +244,7 @@ pub fn measure_all_by(
     values: &[f64],
     h: u64,
 ) -> Batch
-    ensures { many result.taken result.no
+    ensures { many result.taken (code result.end)
         (held result.dir (stores sets.new entries.new order.new) (cells figures.new extremes.new pos.new neg.new))
         ≡ measured_all_by (exponential_store size top) limit
         (held d (stores sets.old entries.old order.old) (cells figures.old extremes.old pos.old neg.old))
@@ -268,7 +275,7 @@ pub fn measure_all_agreed(
 ) -> Batch
     requires { AgreedFor (exponential_store size top) (true, true) limit (filter_of present filter.now)
         (held d (stores sets.old entries.old order.old) (cells figures.old extremes.old pos.old neg.old)) (given attrs.now) }
-    ensures { many result.taken result.no
+    ensures { many result.taken (code result.end)
         (held result.dir (stores sets.new entries.new order.new) (cells figures.new extremes.new pos.new neg.new))
         ≡ measured_all (exponential_store size top) limit (filter_of present filter.now)
         (held d (stores sets.old entries.old order.old) (cells figures.old extremes.old pos.old neg.old))
@@ -298,7 +305,7 @@ pub fn measure_all_by_agreed(
 ) -> Batch
     requires { AgreedBy (exponential_store size top) (true, true) limit
         (held d (stores sets.old entries.old order.old) (cells figures.old extremes.old pos.old neg.old)) h }
-    ensures { many result.taken result.no
+    ensures { many result.taken (code result.end)
         (held result.dir (stores sets.new entries.new order.new) (cells figures.new extremes.new pos.new neg.new))
         ≡ measured_all_by (exponential_store size top) limit
         (held d (stores sets.old entries.old order.old) (cells figures.old extremes.old pos.old neg.old))

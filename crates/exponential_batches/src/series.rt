@@ -1,18 +1,20 @@
 // Many values recorded into one series of the exponential kind that is known to agree: of its refusals only 6 and 9 are asked in each turn.
 ghost use Rattle.std.specs.Prelude.{◌≡◌};
+ghost use Rattle.refusals.specs.Refusals.{code};
 ghost use Rattle.exponential.specs.Series.{refusal_of};
 ghost use Rattle.rows.specs.Recording.{after};
 ghost use Rattle.many.specs.Many.{many, each};
 ghost use Rattle.exponential_batches.specs.Series.{series, Sound, step};
 
 use exponential::Head;
+use refusals::Refusal;
 
-// The head after many values, how many were taken, and the number that refused the next one, 0 if none was refused.
+// The head after many values, how many were taken, and how it ended: with what refused the next one, if one was refused.
 #[derive(Clone, Copy)]
 pub struct Run {
     pub head: Head,
     pub taken: usize,
-    pub no: u8,
+    pub end: Result<(), Refusal>,
 }
 
 // One value more, where nothing refuses it: the head then.
@@ -41,35 +43,30 @@ pub fn record_all(
     values: &[f64],
 ) -> Run
     requires { Sound size top (series head pos.old neg.old) }
-    ensures { many result.taken result.no (series result.head pos.new neg.new)
+    ensures { many result.taken (code result.end) (series result.head pos.new neg.new)
         ≡ each (step size top) (series head pos.old neg.old) values.now }
 {
     let mut h = head;
-    let mut i: usize = 0;
-    while i < values.len() {
-        let v = values[i];
+    for (i, &v) in values.iter().enumerate() {
         if !floats::is_finite(v) {
             return Run {
                 head: h,
                 taken: i,
-                no: 6,
+                end: Err(Refusal::NotFinite),
             };
         }
-        let c = h.counts;
-        if c.count == u64::MAX {
+        if h.counts.count == u64::MAX {
             return Run {
                 head: h,
                 taken: i,
-                no: 9,
+                end: Err(Refusal::Full),
             };
         }
-        let next = noted(size, top, h, pos, neg, v);
-        h = next;
-        i += 1;
+        h = noted(size, top, h, pos, neg, v);
     }
     Run {
         head: h,
-        taken: i,
-        no: 0,
+        taken: values.len(),
+        end: Ok(()),
     }
 }

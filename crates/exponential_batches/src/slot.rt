@@ -2,6 +2,7 @@
 ghost use Rattle.std.specs.Prelude.{◌≡◌, true, ◌<◌, eqb, length, set};
 ghost use Rattle.std.specs.Float.{nan};
 ghost use Rattle.laws.specs.Pick.{pick};
+ghost use Rattle.refusals.specs.Refusals.{code};
 ghost use Rattle.many.specs.Many.{many};
 ghost use Rattle.exponential_slots.specs.Cells.{cells, Room, words_of, recorded_at};
 ghost use Rattle.value_map.specs.Exponential.{exponential_store};
@@ -10,9 +11,9 @@ ghost use Rattle.batches.specs.Asked.{Asked};
 ghost use Rattle.exponential_batches.specs.Slot.{extremes_of};
 
 use many::Taken;
+use refusals::Refusal;
 
-// The number with which the slot refuses a finite value, 0 if none. Where its series is known to agree nothing is asked: the loop asks what
-// is left.
+// Why the slot refuses a finite value, if it does. Where its series is known to agree nothing is asked: the loop asks what is left.
 fn refusal(
     known: bool,
     size: u32,
@@ -24,16 +25,16 @@ fn refusal(
     pos: &[u64],
     neg: &[u64],
     v: f64,
-) -> u8
+) -> Result<(), Refusal>
     requires { Room size (cells figures.now extremes.now pos.now neg.now) x }
-    ensures { result ≡ pick known 0 (recorded_at size top x updated (cells figures.now extremes.now pos.now neg.now) v).no }
+    ensures { code result ≡ pick known 0 (recorded_at size top x updated (cells figures.now extremes.now pos.now neg.now) v).no }
 {
     if known {
-        return 0;
+        return Ok(());
     }
     let f = figures[x];
     if !exponential_slots::can_read(updated, f) {
-        return 8;
+        return Err(Refusal::Disagrees);
     }
     let head = exponential_slots::head_of(top, updated, f, extremes[x]);
     let n = size as usize;
@@ -74,14 +75,17 @@ pub fn record_all(
     values: &[f64],
 ) -> Taken
     requires { Asked (exponential_store size top) (true, true) nan known x updated (cells figures.old extremes.old pos.old neg.old) values.now }
-    ensures { many result.taken result.no (cells figures.new extremes.new pos.new neg.new)
+    ensures { many result.taken (code result.end) (cells figures.new extremes.new pos.new neg.new)
         ≡ recorded_all (exponential_store size top) x updated (cells figures.old extremes.old pos.old neg.old) values.now }
 {
-    let no = refusal(
+    let asked = refusal(
         known, size, top, x, updated, figures, extremes, pos, neg, values[0],
     );
-    if no != 0 {
-        return Taken { taken: 0, no: no };
+    if let Err(e) = asked {
+        return Taken {
+            taken: 0,
+            end: Err(e),
+        };
     }
     let head = exponential_slots::head_of(top, updated, figures[x], extremes[x]);
     let n = size as usize;
@@ -91,6 +95,6 @@ pub fn record_all(
     keep(x, figures, extremes, run);
     Taken {
         taken: run.taken,
-        no: run.no,
+        end: run.end,
     }
 }

@@ -6,6 +6,7 @@ mod series;
 mod slot;
 
 ghost use Rattle.std.specs.Prelude.{◌≡◌, true};
+ghost use Rattle.refusals.specs.Refusals.{code};
 ghost use Rattle.many.specs.Many.{many};
 ghost use Rattle.sets.specs.Sorted.{given, filter_of};
 ghost use Rattle.directory.specs.View.{stores};
@@ -14,43 +15,14 @@ ghost use Rattle.value_map.specs.Calls.{held, gave, measured, measured_by};
 ghost use Rattle.whole_map.specs.Exponential.{exponential_wholes};
 ghost use Rattle.batches.specs.Agreed.{AgreedBy, AgreedFor};
 ghost use Rattle.batches.specs.Batch.{measured_all, measured_all_by};
-ghost use Rattle.batches.specs.Inner.{recorded_all, unless_stopped};
+ghost use Rattle.batches.specs.Inner.{recorded_all};
 ghost use Rattle.exponential_whole_batches.specs.Slot.{Asks};
 
 use batches::Batch;
 use bindings::Reply;
 use directory::Directory;
-use many::Taken;
 use value_map::exponential_map::unset_of;
 use whole_map::exponential_map::{slots_of, takes};
-
-// Records values at the slot of a seating, unless that is refused.
-fn take_all(
-    known: bool,
-    size: u32,
-    top: u32,
-    sums: bool,
-    no: u8,
-    x: usize,
-    updated: bool,
-    figures: &mut [[u64; 8]],
-    extremes: &mut [[i64; 3]],
-    pos: &mut [u64],
-    neg: &mut [u64],
-    values: &[i64],
-) -> Taken
-    requires { no ≡ 0 → Asks known size top sums x updated (cells figures.old extremes.old pos.old neg.old) values.now }
-    ensures { many result.taken result.no (cells figures.new extremes.new pos.new neg.new)
-        ≡ unless_stopped no (cells figures.old extremes.old pos.old neg.old)
-        (recorded_all (exponential_wholes size top sums) x updated (cells figures.old extremes.old pos.old neg.old) values.now) }
-{
-    if no != 0 {
-        return Taken { taken: 0, no };
-    }
-    slot::record_all(
-        known, size, top, sums, x, updated, figures, extremes, pos, neg, values,
-    )
-}
 
 // `measure_all`, where a caller may know already that the map agrees: what is known is not asked again.
 fn all(
@@ -74,7 +46,7 @@ fn all(
 ) -> Batch
     requires { known ≡ true → AgreedFor (exponential_wholes size top sums) true limit (filter_of present filter.now)
         (held d (stores sets.old entries.old order.old) (cells figures.old extremes.old pos.old neg.old)) (given attrs.now) }
-    ensures { many result.taken result.no (held result.dir (stores sets.new entries.new order.new) (cells figures.new extremes.new pos.new neg.new))
+    ensures { many result.taken (code result.end) (held result.dir (stores sets.new entries.new order.new) (cells figures.new extremes.new pos.new neg.new))
         ≡ measured_all (exponential_wholes size top sums) limit (filter_of present filter.now)
         (held d (stores sets.old entries.old order.old) (cells figures.old extremes.old pos.old neg.old))
         values.now (given attrs.now) }
@@ -82,7 +54,7 @@ fn all(
     if values.len() == 0 {
         return Batch {
             taken: 0,
-            no: 0,
+            end: Ok(()),
             dir: d,
         };
     }
@@ -91,16 +63,25 @@ fn all(
     let slots = slots_of(size, figures.len(), extremes.len(), pos.len(), neg.len());
     let value = takes(values[0]);
     let mut row: [u64; 9] = [0; 9];
-    let seat = seats::seat_if(
+    let found = seats::seat_if(
         known, slots, value, unset, limit, d, sets, entries, order, attrs, present, filter,
         &mut row,
     );
-    let got = take_all(
+    let seat = match found {
+        Ok(seat) => seat,
+        Err(e) => {
+            return Batch {
+                taken: 0,
+                end: Err(e),
+                dir: d,
+            };
+        }
+    };
+    let got = slot::record_all(
         known,
         size,
         top,
         sums,
-        seat.no,
         seat.slot,
         seat.updated,
         figures,
@@ -109,8 +90,16 @@ fn all(
         neg,
         values,
     );
-    let target = seat.target;
-    batches::finish_all(got.taken, got.no, d, sets, entries, order, &row, target)
+    batches::finish_all(
+        got.taken,
+        got.end,
+        d,
+        sets,
+        entries,
+        order,
+        &row,
+        seat.target,
+    )
 }
 
 // `measure_all_by`, likewise.
@@ -132,7 +121,7 @@ fn all_by(
     h: u64,
 ) -> Batch
     requires { known ≡ true → AgreedBy (exponential_wholes size top sums) true limit (held d (stores sets.old entries.old order.old) (cells figures.old extremes.old pos.old neg.old)) h }
-    ensures { many result.taken result.no (held result.dir (stores sets.new entries.new order.new) (cells figures.new extremes.new pos.new neg.new))
+    ensures { many result.taken (code result.end) (held result.dir (stores sets.new entries.new order.new) (cells figures.new extremes.new pos.new neg.new))
         ≡ measured_all_by (exponential_wholes size top sums) limit
         (held d (stores sets.old entries.old order.old) (cells figures.old extremes.old pos.old neg.old))
         values.now h }
@@ -140,7 +129,7 @@ fn all_by(
     if values.len() == 0 {
         return Batch {
             taken: 0,
-            no: 0,
+            end: Ok(()),
             dir: d,
         };
     }
@@ -148,15 +137,24 @@ fn all_by(
     let slots = slots_of(size, figures.len(), extremes.len(), pos.len(), neg.len());
     let value = takes(values[0]);
     let row: [u64; 9] = [0; 9];
-    let seat = seats::seat_by_if(
+    let found = seats::seat_by_if(
         known, slots, value, unset, limit, d, sets, entries, order, h,
     );
-    let got = take_all(
+    let seat = match found {
+        Ok(seat) => seat,
+        Err(e) => {
+            return Batch {
+                taken: 0,
+                end: Err(e),
+                dir: d,
+            };
+        }
+    };
+    let got = slot::record_all(
         known,
         size,
         top,
         sums,
-        seat.no,
         seat.slot,
         seat.updated,
         figures,
@@ -165,8 +163,16 @@ fn all_by(
         neg,
         values,
     );
-    let target = seat.target;
-    batches::finish_all(got.taken, got.no, d, sets, entries, order, &row, target)
+    batches::finish_all(
+        got.taken,
+        got.end,
+        d,
+        sets,
+        entries,
+        order,
+        &row,
+        seat.target,
+    )
 }
 
 // Records values one after another into the series of the attributes' set, up to the first that is refused: 12, 5, 8, 9, 16.
@@ -188,7 +194,7 @@ pub fn measure_all(
     present: bool,
     filter: &[u32],
 ) -> Batch
-    ensures { many result.taken result.no (held result.dir (stores sets.new entries.new order.new) (cells figures.new extremes.new pos.new neg.new))
+    ensures { many result.taken (code result.end) (held result.dir (stores sets.new entries.new order.new) (cells figures.new extremes.new pos.new neg.new))
         ≡ measured_all (exponential_wholes size top sums) limit (filter_of present filter.now)
         (held d (stores sets.old entries.old order.old) (cells figures.old extremes.old pos.old neg.old))
         values.now (given attrs.now) }
@@ -216,7 +222,7 @@ pub fn measure_all_by(
     values: &[i64],
     h: u64,
 ) -> Batch
-    ensures { many result.taken result.no (held result.dir (stores sets.new entries.new order.new) (cells figures.new extremes.new pos.new neg.new))
+    ensures { many result.taken (code result.end) (held result.dir (stores sets.new entries.new order.new) (cells figures.new extremes.new pos.new neg.new))
         ≡ measured_all_by (exponential_wholes size top sums) limit
         (held d (stores sets.old entries.old order.old) (cells figures.old extremes.old pos.old neg.old))
         values.now h }
@@ -248,7 +254,7 @@ pub fn measure_all_agreed(
 ) -> Batch
     requires { AgreedFor (exponential_wholes size top sums) true limit (filter_of present filter.now)
         (held d (stores sets.old entries.old order.old) (cells figures.old extremes.old pos.old neg.old)) (given attrs.now) }
-    ensures { many result.taken result.no (held result.dir (stores sets.new entries.new order.new) (cells figures.new extremes.new pos.new neg.new))
+    ensures { many result.taken (code result.end) (held result.dir (stores sets.new entries.new order.new) (cells figures.new extremes.new pos.new neg.new))
         ≡ measured_all (exponential_wholes size top sums) limit (filter_of present filter.now)
         (held d (stores sets.old entries.old order.old) (cells figures.old extremes.old pos.old neg.old))
         values.now (given attrs.now) }
@@ -277,7 +283,7 @@ pub fn measure_all_by_agreed(
     h: u64,
 ) -> Batch
     requires { AgreedBy (exponential_wholes size top sums) true limit (held d (stores sets.old entries.old order.old) (cells figures.old extremes.old pos.old neg.old)) h }
-    ensures { many result.taken result.no (held result.dir (stores sets.new entries.new order.new) (cells figures.new extremes.new pos.new neg.new))
+    ensures { many result.taken (code result.end) (held result.dir (stores sets.new entries.new order.new) (cells figures.new extremes.new pos.new neg.new))
         ≡ measured_all_by (exponential_wholes size top sums) limit
         (held d (stores sets.old entries.old order.old) (cells figures.old extremes.old pos.old neg.old))
         values.now h }

@@ -1,26 +1,21 @@
 // Values recorded one after another into one series over i64, whose head goes along by value.
 ghost use Rattle.std.specs.Prelude.{◌≡◌};
 ghost use Rattle.rows.specs.Recording.{after};
+ghost use Rattle.refusals.specs.Refusals.{code, said};
 ghost use Rattle.many.specs.Many.{many, each};
 ghost use Rattle.exponential_wholes.specs.Series.{under};
-ghost use Rattle.exponential_whole_batches.specs.Series.{series, Sound, step};
+ghost use Rattle.exponential_whole_batches.specs.Series.{series, Sound, head_after, step};
 
 use exponential::Counts;
 use exponential_wholes::Head;
+use refusals::Refusal;
 
-// The head that one value leaves, and the number that refused it, 0 if it was taken.
-#[derive(Clone, Copy)]
-pub struct Step {
-    pub head: Head,
-    pub no: u8,
-}
-
-// What a list of values leaves: the head, how many were taken, and the number that refused the next one, 0 if none was refused.
+// What a list of values leaves: the head, how many were taken, and how it ended: with what refused the next one, if one was refused.
 #[derive(Clone, Copy)]
 pub struct Run {
     pub head: Head,
     pub taken: usize,
-    pub no: u8,
+    pub end: Result<(), Refusal>,
 }
 
 // The head under which crate `exponential` counts: its extremes and its sum are nobody's.
@@ -44,34 +39,26 @@ fn next(
     pos: &mut [u64],
     neg: &mut [u64],
     v: i64,
-) -> Step
+) -> Result<Head, Refusal>
     requires { Sound size top (series head pos.old neg.old) }
-    ensures { after result.no (series result.head pos.new neg.new) ≡ step size top sums (series head pos.old neg.old) v }
+    ensures { after (code result) (series (head_after (said result) head) pos.new neg.new) ≡ step size top sums (series head pos.old neg.old) v }
 {
     let c = head.counts;
     if c.count == u64::MAX {
-        return Step { head, no: 9 };
+        return Err(Refusal::Full);
     }
-    let total = integers::kept_sum(sums, head.sum, v);
-    match total {
-        None => Step { head, no: 16 },
-        Some(s) => {
-            let h = under_counts(c);
-            let x = integers::nearest(v);
-            let least = integers::lesser(head.min, v);
-            let greatest = integers::greater(head.max, v);
-            let more = exponential::count_in(size, top, h, pos, neg, x);
-            Step {
-                head: Head {
-                    counts: more,
-                    min: least,
-                    max: greatest,
-                    sum: s,
-                },
-                no: 0,
-            }
-        }
-    }
+    let s = integers::kept_sum(sums, head.sum, v).ok_or(Refusal::SumOutside)?;
+    let h = under_counts(c);
+    let x = integers::nearest(v);
+    let least = integers::lesser(head.min, v);
+    let greatest = integers::greater(head.max, v);
+    let more = exponential::count_in(size, top, h, pos, neg, x);
+    Ok(Head {
+        counts: more,
+        min: least,
+        max: greatest,
+        sum: s,
+    })
 }
 
 // Records values into a series that agrees, one after another, up to the first that is refused: 9, 16.
@@ -85,27 +72,25 @@ pub fn record_all(
     values: &[i64],
 ) -> Run
     requires { Sound size top (series head pos.old neg.old) }
-    ensures { many result.taken result.no (series result.head pos.new neg.new)
+    ensures { many result.taken (code result.end) (series result.head pos.new neg.new)
         ≡ each (step size top sums) (series head pos.old neg.old) values.now }
 {
     let mut h = head;
-    let mut i: usize = 0;
-    while i < values.len() {
-        let one = next(size, top, sums, h, pos, neg, values[i]);
-        let no = one.no;
-        h = one.head;
-        if no != 0 {
-            return Run {
-                head: h,
-                taken: i,
-                no,
-            };
+    for (i, &v) in values.iter().enumerate() {
+        match next(size, top, sums, h, pos, neg, v) {
+            Ok(one) => h = one,
+            Err(e) => {
+                return Run {
+                    head: h,
+                    taken: i,
+                    end: Err(e),
+                };
+            }
         }
-        i += 1;
     }
     Run {
         head: h,
-        taken: i,
-        no: 0,
+        taken: values.len(),
+        end: Ok(()),
     }
 }

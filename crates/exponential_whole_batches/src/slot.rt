@@ -1,6 +1,7 @@
 // Many values recorded into one slot of the lent stores over i64: its series is read once, and its head written once.
 ghost use Rattle.std.specs.Prelude.{◌≡◌, true, ◌<◌, eqb, length, set};
 ghost use Rattle.laws.specs.Pick.{pick};
+ghost use Rattle.refusals.specs.Refusals.{code};
 ghost use Rattle.many.specs.Many.{many};
 ghost use Rattle.exponential_slots.specs.Cells.{words_of};
 ghost use Rattle.exponential_whole_slots.specs.Cells.{cells};
@@ -12,6 +13,7 @@ ghost use Rattle.exponential_whole_batches.specs.Slot.{agrees_at, Asks, extremes
 use crate::series;
 use crate::series::Run;
 use many::Taken;
+use refusals::Refusal;
 
 // Whether the series of a slot's words and rows agrees, where one is held. What is known is not asked.
 fn agrees(
@@ -72,7 +74,7 @@ pub fn record_all(
     values: &[i64],
 ) -> Taken
     requires { Asks known size top sums x updated (cells figures.old extremes.old pos.old neg.old) values.now }
-    ensures { many result.taken result.no (cells figures.new extremes.new pos.new neg.new)
+    ensures { many result.taken (code result.end) (cells figures.new extremes.new pos.new neg.new)
         ≡ recorded_all (exponential_wholes size top sums) x updated (cells figures.old extremes.old pos.old neg.old) values.now }
 {
     let f = figures[x];
@@ -80,7 +82,10 @@ pub fn record_all(
     let a = x * n;
     let e = a + n;
     if !agrees(known, size, top, updated, f, &pos[a..e], &neg[a..e]) {
-        return Taken { taken: 0, no: 8 };
+        return Taken {
+            taken: 0,
+            end: Err(Refusal::Disagrees),
+        };
     }
     let head = exponential_whole_slots::head_of(top, updated, f, extremes[x]);
     let run = series::record_all(
@@ -95,6 +100,6 @@ pub fn record_all(
     keep(x, figures, extremes, run);
     Taken {
         taken: run.taken,
-        no: run.no,
+        end: run.end,
     }
 }

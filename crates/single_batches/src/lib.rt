@@ -5,41 +5,21 @@
 mod slot;
 
 ghost use Rattle.std.specs.Prelude.{◌≡◌, true};
+ghost use Rattle.refusals.specs.Refusals.{code};
 ghost use Rattle.many.specs.Many.{many};
 ghost use Rattle.sets.specs.Sorted.{given, filter_of};
 ghost use Rattle.directory.specs.View.{stores};
 ghost use Rattle.value_map.specs.Calls.{held, gave, measured, measured_by};
 ghost use Rattle.batches.specs.Agreed.{AgreedBy, AgreedFor};
 ghost use Rattle.batches.specs.Batch.{measured_all, measured_all_by};
-ghost use Rattle.batches.specs.Inner.{recorded_all, TakesAll, unless_stopped};
+ghost use Rattle.batches.specs.Inner.{recorded_all, TakesAll};
 ghost use Rattle.singles.specs.Stores.{single_store};
 
 use batches::Batch;
 use bindings::Reply;
 use directory::Directory;
-use many::Taken;
 use singles::Aggregation;
 use value_map::first;
-
-// Records values at the slot of a seating, unless that is refused.
-fn take_all(
-    known: bool,
-    aggregation: Aggregation,
-    no: u8,
-    x: usize,
-    updated: bool,
-    values: &mut [f64],
-    list: &[f64],
-) -> Taken
-    requires { TakesAll (single_store aggregation) tt known values.old no x updated }
-    ensures { many result.taken result.no values.new
-        ≡ unless_stopped no values.old (recorded_all (single_store aggregation) x updated values.old list.now) }
-{
-    if no != 0 {
-        return Taken { taken: 0, no: no };
-    }
-    slot::record_all(known, aggregation, x, updated, values, list)
-}
 
 // `measure_all`, where a caller may know already that the map agrees: what is known is not asked again.
 fn all(
@@ -58,14 +38,14 @@ fn all(
 ) -> Batch
     requires { known ≡ true → AgreedFor (single_store aggregation) tt limit (filter_of present filter.now)
         (held d (stores sets.old entries.old order.old) values.old) (given attrs.now) }
-    ensures { many result.taken result.no (held result.dir (stores sets.new entries.new order.new) values.new)
+    ensures { many result.taken (code result.end) (held result.dir (stores sets.new entries.new order.new) values.new)
         ≡ measured_all (single_store aggregation) limit (filter_of present filter.now)
         (held d (stores sets.old entries.old order.old) values.old) list.now (given attrs.now) }
 {
     if list.len() == 0 {
         return Batch {
             taken: 0,
-            no: 0,
+            end: Ok(()),
             dir: d,
         };
     }
@@ -73,20 +53,42 @@ fn all(
     let slots = values.len();
     let value = first::takes(list[0]);
     let mut row: [u64; 9] = [0; 9];
-    let seat = seats::seat_if(
-        known, slots, value, 0, limit, d, sets, entries, order, attrs, present, filter, &mut row,
-    );
-    let got = take_all(
+    let found = seats::seat_if(
         known,
-        aggregation,
-        seat.no,
-        seat.slot,
-        seat.updated,
-        values,
-        list,
+        slots,
+        value,
+        Ok(()),
+        limit,
+        d,
+        sets,
+        entries,
+        order,
+        attrs,
+        present,
+        filter,
+        &mut row,
     );
-    let target = seat.target;
-    batches::finish_all(got.taken, got.no, d, sets, entries, order, &row, target)
+    let seat = match found {
+        Ok(seat) => seat,
+        Err(e) => {
+            return Batch {
+                taken: 0,
+                end: Err(e),
+                dir: d,
+            };
+        }
+    };
+    let got = slot::record_all(known, aggregation, seat.slot, seat.updated, values, list);
+    batches::finish_all(
+        got.taken,
+        got.end,
+        d,
+        sets,
+        entries,
+        order,
+        &row,
+        seat.target,
+    )
 }
 
 // `measure_all_by`, likewise.
@@ -103,32 +105,53 @@ fn all_by(
     h: u64,
 ) -> Batch
     requires { known ≡ true → AgreedBy (single_store aggregation) tt limit (held d (stores sets.old entries.old order.old) values.old) h }
-    ensures { many result.taken result.no (held result.dir (stores sets.new entries.new order.new) values.new)
+    ensures { many result.taken (code result.end) (held result.dir (stores sets.new entries.new order.new) values.new)
         ≡ measured_all_by (single_store aggregation) limit
         (held d (stores sets.old entries.old order.old) values.old) list.now h }
 {
     if list.len() == 0 {
         return Batch {
             taken: 0,
-            no: 0,
+            end: Ok(()),
             dir: d,
         };
     }
     let slots = values.len();
     let value = first::takes(list[0]);
     let row: [u64; 9] = [0; 9];
-    let seat = seats::seat_by_if(known, slots, value, 0, limit, d, sets, entries, order, h);
-    let got = take_all(
+    let found = seats::seat_by_if(
         known,
-        aggregation,
-        seat.no,
-        seat.slot,
-        seat.updated,
-        values,
-        list,
+        slots,
+        value,
+        Ok(()),
+        limit,
+        d,
+        sets,
+        entries,
+        order,
+        h,
     );
-    let target = seat.target;
-    batches::finish_all(got.taken, got.no, d, sets, entries, order, &row, target)
+    let seat = match found {
+        Ok(seat) => seat,
+        Err(e) => {
+            return Batch {
+                taken: 0,
+                end: Err(e),
+                dir: d,
+            };
+        }
+    };
+    let got = slot::record_all(known, aggregation, seat.slot, seat.updated, values, list);
+    batches::finish_all(
+        got.taken,
+        got.end,
+        d,
+        sets,
+        entries,
+        order,
+        &row,
+        seat.target,
+    )
 }
 
 // Records values one after another into the series of the attributes' set, up to the first that is refused: 12, 6, 5, 8, 9.
@@ -145,7 +168,7 @@ pub fn measure_all(
     present: bool,
     filter: &[u32],
 ) -> Batch
-    ensures { many result.taken result.no (held result.dir (stores sets.new entries.new order.new) values.new)
+    ensures { many result.taken (code result.end) (held result.dir (stores sets.new entries.new order.new) values.new)
         ≡ measured_all (single_store aggregation) limit (filter_of present filter.now)
         (held d (stores sets.old entries.old order.old) values.old) list.now (given attrs.now) }
 {
@@ -177,7 +200,7 @@ pub fn measure_all_by(
     list: &[f64],
     h: u64,
 ) -> Batch
-    ensures { many result.taken result.no (held result.dir (stores sets.new entries.new order.new) values.new)
+    ensures { many result.taken (code result.end) (held result.dir (stores sets.new entries.new order.new) values.new)
         ≡ measured_all_by (single_store aggregation) limit
         (held d (stores sets.old entries.old order.old) values.old) list.now h }
 {
@@ -211,7 +234,7 @@ pub fn measure_all_agreed(
 ) -> Batch
     requires { AgreedFor (single_store aggregation) tt limit (filter_of present filter.now)
         (held d (stores sets.old entries.old order.old) values.old) (given attrs.now) }
-    ensures { many result.taken result.no (held result.dir (stores sets.new entries.new order.new) values.new)
+    ensures { many result.taken (code result.end) (held result.dir (stores sets.new entries.new order.new) values.new)
         ≡ measured_all (single_store aggregation) limit (filter_of present filter.now)
         (held d (stores sets.old entries.old order.old) values.old) list.now (given attrs.now) }
 {
@@ -244,7 +267,7 @@ pub fn measure_all_by_agreed(
     h: u64,
 ) -> Batch
     requires { AgreedBy (single_store aggregation) tt limit (held d (stores sets.old entries.old order.old) values.old) h }
-    ensures { many result.taken result.no (held result.dir (stores sets.new entries.new order.new) values.new)
+    ensures { many result.taken (code result.end) (held result.dir (stores sets.new entries.new order.new) values.new)
         ≡ measured_all_by (single_store aggregation) limit
         (held d (stores sets.old entries.old order.old) values.old) list.now h }
 {

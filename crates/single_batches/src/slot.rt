@@ -1,5 +1,6 @@
 // Many values at one slot of the store: what it holds is read once, kept by value through the list, and written once.
 ghost use Rattle.std.specs.Prelude.{◌≡◌, true, ◌<◌, length};
+ghost use Rattle.refusals.specs.Refusals.{code};
 ghost use Rattle.many.specs.Many.{many, each};
 ghost use Rattle.batches.specs.Inner.{recorded_all, Known};
 ghost use Rattle.singles.specs.Kinds.{holds};
@@ -7,40 +8,37 @@ ghost use Rattle.singles.specs.Stores.{single_store};
 ghost use Rattle.single_batches.specs.Inner.{stepped};
 
 use many::Taken;
+use refusals::Refusal;
 use singles::Aggregation;
 use value_map::first;
 
-// What a list of values left: what is held then, how many were taken, and the number that refused the next one, 0 if none was refused.
+// What a list of values left: what is held then, how many were taken, and how it ended: with what refused the next one, if one was refused.
 #[derive(Clone, Copy)]
 struct Run {
     held: f64,
     taken: usize,
-    no: u8,
+    end: Result<(), Refusal>,
 }
 
 // Values one after another on what is held, up to the first that is not finite: 6.
 fn fold(aggregation: Aggregation, held: f64, list: &[f64]) -> Run
-    ensures { many result.taken result.no result.held ≡ each (stepped aggregation) held list.now }
+    ensures { many result.taken (code result.end) result.held ≡ each (stepped aggregation) held list.now }
 {
     let mut y = held;
-    let mut i: usize = 0;
-    while i < list.len() {
-        let v = list[i];
+    for (i, &v) in list.iter().enumerate() {
         if !first::takes(v) {
             return Run {
                 held: y,
                 taken: i,
-                no: 6,
+                end: Err(Refusal::NotFinite),
             };
         }
-        let next = singles::slot::stepped(aggregation, y, v);
-        y = next;
-        i += 1;
+        y = singles::slot::stepped(aggregation, y, v);
     }
     Run {
         held: y,
-        taken: i,
-        no: 0,
+        taken: list.len(),
+        end: Ok(()),
     }
 }
 
@@ -66,7 +64,7 @@ pub fn record_all(
 ) -> Taken
     requires x_in_bounds { x < length values.old }
     requires known { Known (single_store aggregation) tt known x updated values.old }
-    ensures { many result.taken result.no values.new
+    ensures { many result.taken (code result.end) values.new
         ≡ recorded_all (single_store aggregation) x updated values.old list.now }
 {
     let held = singles::slot::held_at(x, updated, values);
@@ -74,15 +72,18 @@ pub fn record_all(
     if run.taken == 0 {
         return Taken {
             taken: 0,
-            no: run.no,
+            end: run.end,
         };
     }
     if !holds_if(known, aggregation, held) {
-        return Taken { taken: 0, no: 8 };
+        return Taken {
+            taken: 0,
+            end: Err(Refusal::Disagrees),
+        };
     }
     values[x] = run.held;
     Taken {
         taken: run.taken,
-        no: run.no,
+        end: run.end,
     }
 }

@@ -1,19 +1,11 @@
 -- Configuring a map of sums or last values as its caller knows it. Assumes nothing.
 use Rattle.std.specs.Prelude.{ℕ, List, Float}
 use Rattle.std.proofs.Math.Option.{Option}
-use Rattle.laws.specs.Said.{Said, refusal, success}
 use Rattle.directory.specs.View.{Stores}
 use Rattle.collecting.specs.Configured.{Configuring, configured_as}
 use Rattle.singles.specs.Stores.{single_store}
 use Rattle.singles.specs.declared.Aggregation.{Aggregation}
 use Rattle.singles.specs.declared.Setup.{Setup}
-use Rattle.singles.specs.declared.Configured.{Configured}
-use Rattle.singles.specs.declared.Configured.TheVariants.{Refused, Accepted}
-
--- "a definition gives this paper's number and values for each case of that enum": a refusal hands out no state
-abbrev pub said : Configured → Said Setup
-said (Refused n) = refusal n
-said (Accepted s) = success s
 
 -- "Configuring: 1, 2, 3, 4, 12", of which there are 4 and 12
 unfoldable pub configured : Aggregation → ℕ → Option (List ℕ) → Stores → List Float → Configuring Setup

@@ -3,16 +3,18 @@ ghost use Rattle.std.specs.Prelude.{◌≡◌, true};
 ghost use Rattle.std.proofs.Math.Option.{none};
 ghost use Rattle.directory.specs.View.{stores};
 ghost use Rattle.value_map.specs.Calls.{held};
+ghost use Rattle.refusals.specs.Refusals.{code};
 ghost use Rattle.batches.specs.Owned.{Owned};
 ghost use Rattle.collecting.specs.Collected.{gave, uncollected, delta_collected, cumulative_collected};
 ghost use Rattle.singles.specs.Stores.{single_store};
 ghost use Rattle.singles.specs.Points.{output, single_lister};
 
 use crate::Settings;
-use collecting::{Answer, Reply};
+use collecting::Reply;
 use directory::Directory;
+use refusals::Refusal;
 
-// The number that refuses a collection: 12, 8, 10; 0 if none. Everything is decided here, by reading; of a map that is known to agree, only 10.
+// What refuses a collection: 12, 8, 10. Everything is decided here, by reading; of a map that is known to agree, only 10.
 fn number(
     known: bool,
     cumulative: bool,
@@ -24,18 +26,15 @@ fn number(
     values: &[f64],
     out_sets: &[[u64; 9]],
     out_values: &[u64],
-) -> u8
+) -> Result<(), Refusal>
     requires { known ≡ true → Owned (single_store s.aggregation) tt s.limit none (held d (stores sets.now entries.now order.now) values.now) }
-    ensures { result ≡ uncollected (single_lister s.aggregation) tt cumulative s.limit
+    ensures { code result ≡ uncollected (single_lister s.aggregation) tt cumulative s.limit
         (held d (stores sets.now entries.now order.now) values.now)
         (output out_sets.now out_values.now) }
 {
     let limit = s.limit;
     let room = directory::suffices(limit, values.len());
-    let no = collecting::barred(known, room, 0, limit, d, sets, entries, order);
-    if no != 0 {
-        return no;
-    }
+    collecting::barred(known, room, Ok(()), limit, d, sets, entries, order)?;
     let aggregation = s.aggregation;
     let found = crate::walk::survey(
         known,
@@ -71,9 +70,9 @@ pub fn delta(
     let no = number(
         known, false, s, d, sets, entries, order, values, out_sets, out_values,
     );
-    if no != 0 {
+    if let Err(e) = no {
         return Reply {
-            answer: Answer::Refused(no),
+            answer: Err(e),
             dir: d,
         };
     }
@@ -82,7 +81,7 @@ pub fn delta(
     );
     let dir = sweep::sweep(d, sets, entries, order);
     Reply {
-        answer: Answer::Listed(end),
+        answer: Ok(end),
         dir,
     }
 }
@@ -98,7 +97,7 @@ pub fn cumulative(
     values: &[f64],
     out_sets: &mut [[u64; 9]],
     out_values: &mut [u64],
-) -> Answer
+) -> Result<usize, Refusal>
     requires { known ≡ true → Owned (single_store s.aggregation) tt s.limit none (held d (stores sets.now entries.now order.now) values.now) }
     ensures { gave result (held d (stores sets.now entries.now order.now) values.now)
         (output out_sets.new out_values.new)
@@ -106,14 +105,10 @@ pub fn cumulative(
         (held d (stores sets.now entries.now order.now) values.now)
         (output out_sets.old out_values.old) }
 {
-    let no = number(
+    number(
         known, true, s, d, sets, entries, order, values, out_sets, out_values,
-    );
-    if no != 0 {
-        return Answer::Refused(no);
-    }
-    let end = crate::walk::list(
+    )?;
+    Ok(crate::walk::list(
         true, d.used, sets, entries, order, values, out_sets, out_values,
-    );
-    Answer::Listed(end)
+    ))
 }

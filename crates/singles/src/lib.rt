@@ -19,10 +19,12 @@ ghost use Rattle.collecting.specs.Configured.{set_up, configuring};
 ghost use Rattle.collecting.specs.Collected.{gave, delta_collected, cumulative_collected};
 ghost use Rattle.singles.specs.Stores.{single_store};
 ghost use Rattle.singles.specs.Points.{output, single_lister};
-ghost use Rattle.singles.specs.Configured.{said, configured};
+ghost use Rattle.refusals.specs.Refusals.{said};
+ghost use Rattle.singles.specs.Configured.{configured};
 
-use collecting::{Answer, Reply};
+use collecting::Reply;
 use directory::Directory;
+use refusals::Refusal;
 
 // What a map keeps of the values of a set: their sum, or the last of them.
 #[derive(Clone, Copy)]
@@ -45,24 +47,15 @@ pub struct Setup {
     pub dir: Directory,
 }
 
-// What configuring says: a refusal's number, or a fresh map.
-#[derive(Clone, Copy)]
-pub enum Configured {
-    Refused(u8),
-    Accepted(Setup),
-}
-
-// What configuring says by what the start of the map replied.
-fn set_up(settings: Settings, reply: bindings::Reply) -> Configured
+// A fresh map of these settings, unless its start was refused.
+fn set_up(settings: Settings, reply: bindings::Reply) -> Result<Setup, Refusal>
     ensures { said result ≡ set_up (record { settings = settings; dir = reply.dir }) (Bindings.said reply.answer) }
 {
-    let dir = reply.dir;
-    let answer = reply.answer;
-    match answer {
-        bindings::Answer::Refused(no) => Configured::Refused(no),
-        bindings::Answer::Done => Configured::Accepted(Setup { settings, dir }),
-        bindings::Answer::Handle(h) => Configured::Accepted(Setup { settings, dir }),
-    }
+    reply.answer?;
+    Ok(Setup {
+        settings,
+        dir: reply.dir,
+    })
 }
 
 // Configures a map: its settings and fresh state, or 4, 12.
@@ -75,13 +68,13 @@ pub fn configure(
     entries: &mut [[u64; 3]],
     order: &[u32],
     values: &[f64],
-) -> Configured
+) -> Result<Setup, Refusal>
     ensures { configuring (said result) (stores sets.now entries.new order.now)
         ≡ configured aggregation limit (filter_of present filter.now)
         (stores sets.now entries.old order.now) values.now }
 {
     let room = directory::suffices(limit, values.len());
-    let reply = value_map::first::begin(0, room, limit, present, filter, sets, entries, order);
+    let reply = value_map::first::begin(Ok(()), room, limit, present, filter, sets, entries, order);
     let settings = Settings { aggregation, limit };
     set_up(settings, reply)
 }
@@ -143,7 +136,7 @@ pub fn cumulative(
     values: &[f64],
     out_sets: &mut [[u64; 9]],
     out_values: &mut [u64],
-) -> Answer
+) -> Result<usize, Refusal>
     ensures { gave result (held d (stores sets.now entries.now order.now) values.now)
         (output out_sets.new out_values.new)
         ≡ cumulative_collected (single_lister s.aggregation) tt s.limit
@@ -165,7 +158,7 @@ pub fn cumulative_agreed(
     values: &[f64],
     out_sets: &mut [[u64; 9]],
     out_values: &mut [u64],
-) -> Answer
+) -> Result<usize, Refusal>
     requires { Owned (single_store s.aggregation) tt s.limit none (held d (stores sets.now entries.now order.now) values.now) }
     ensures { gave result (held d (stores sets.now entries.now order.now) values.now)
         (output out_sets.new out_values.new)

@@ -1,26 +1,36 @@
 // The map of sums and last values: recording by set and by handle.
-ghost use Rattle.std.specs.Prelude.{◌≡◌};
+ghost use Rattle.std.specs.Prelude.{◌≡◌, IfOk};
+ghost use Rattle.refusals.specs.Refusals.{code};
 ghost use Rattle.rows.specs.Recording.{after};
 ghost use Rattle.sets.specs.Sorted.{given, filter_of};
 ghost use Rattle.directory.specs.View.{stores};
+ghost use Rattle.seats.specs.Seats.{seating};
 ghost use Rattle.value_map.specs.Calls.{held, gave, measured, measured_by};
 ghost use Rattle.value_map.specs.Inner.{Takes, taken};
 ghost use Rattle.singles.specs.Stores.{single_store};
 
 use crate::Aggregation;
 use bindings::Reply;
-use directory::Directory;
+use directory::{Directory, Target};
+use refusals::Refusal;
+use seats::Seated;
 use value_map::first;
 
-// Records a value at the slot of a seating, unless that is refused; the number, 0 if the value was taken.
-fn take(aggregation: Aggregation, no: u8, x: usize, updated: bool, values: &mut [f64], v: f64) -> u8
-    requires { Takes (single_store aggregation) values.old v no x }
-    ensures { after result values.new ≡ taken (single_store aggregation) values.old v no no x updated }
+// Records a value at the slot of a seat, and what the directory is to write then; or the seat's refusal, or the series'.
+fn take(
+    aggregation: Aggregation,
+    seat: Result<Seated, Refusal>,
+    values: &mut [f64],
+    v: f64,
+) -> Result<Target, Refusal>
+    requires { Takes (single_store aggregation) values.old v (seating seat).no (seating seat).slot }
+    ensures value { after (code result) values.new
+        ≡ taken (single_store aggregation) values.old v (seating seat).no (seating seat).no (seating seat).slot (seating seat).updated }
+    ensures target { IfOk result (λ t. t ≡ (seating seat).target) }
 {
-    if no != 0 {
-        return no;
-    }
-    crate::slot::record(aggregation, x, updated, values, v)
+    let s = seat?;
+    crate::slot::record(aggregation, s.slot, s.updated, values, v)?;
+    Ok(s.target)
 }
 
 // Records a value into the series of the attributes' set: its own entry, held or new, or that of overflow; or 12, 6, 5, 8, 9.
@@ -45,11 +55,21 @@ pub fn measure(
     let value = first::takes(v);
     let mut row: [u64; 9] = [0; 9];
     let seat = seats::seat(
-        slots, value, 0, limit, d, sets, entries, order, attrs, present, filter, &mut row,
+        slots,
+        value,
+        Ok(()),
+        limit,
+        d,
+        sets,
+        entries,
+        order,
+        attrs,
+        present,
+        filter,
+        &mut row,
     );
-    let no = take(aggregation, seat.no, seat.slot, seat.updated, values, v);
-    let target = seat.target;
-    first::finish(no, d, sets, entries, order, &row, target)
+    let done = take(aggregation, seat, values, v);
+    first::finish(done, d, sets, entries, order, &row)
 }
 
 // Records a value into the series that the handle names; or 12, 6, 8, 7, 9.
@@ -71,8 +91,7 @@ pub fn measure_by(
     let slots = values.len();
     let value = first::takes(v);
     let row: [u64; 9] = [0; 9];
-    let seat = seats::seat_by(slots, value, 0, limit, d, sets, entries, order, h);
-    let no = take(aggregation, seat.no, seat.slot, seat.updated, values, v);
-    let target = seat.target;
-    first::finish(no, d, sets, entries, order, &row, target)
+    let seat = seats::seat_by(slots, value, Ok(()), limit, d, sets, entries, order, h);
+    let done = take(aggregation, seat, values, v);
+    first::finish(done, d, sets, entries, order, &row)
 }

@@ -1,9 +1,10 @@
 // One slot of the store: a value recorded there, what a collection finds, and its point put into the output.
 ghost use Rattle.std.specs.Prelude.{◌≡◌, true, ◌<◌, length};
+ghost use Rattle.refusals.specs.Refusals.{code};
 ghost use Rattle.rows.specs.Recording.{after};
 ghost use Rattle.batches.specs.Inner.{Known};
 ghost use Rattle.listing.specs.Inner.{left};
-ghost use Rattle.collecting.specs.Slots.{Few, More, surveyed_at, put_slot};
+ghost use Rattle.collecting.specs.Slots.{Few, More, sound_of, survey_of, surveyed_at, put_slot};
 ghost use Rattle.singles.specs.Kinds.{step, holds};
 ghost use Rattle.singles.specs.Stores.{held_at, recorded_at, single_store};
 ghost use Rattle.singles.specs.Points.{output, single_lister};
@@ -11,7 +12,8 @@ ghost use Rattle.singles.specs.Inner.{place};
 ghost use Rattle.singles.specs.declared.Aggregation.TheVariants.{Sum};
 
 use crate::Aggregation;
-use collecting::Survey;
+use collecting::Sums;
+use refusals::Refusal;
 
 // What a value makes of what is held.
 pub fn stepped(aggregation: Aggregation, held: f64, v: f64) -> f64
@@ -44,17 +46,23 @@ pub fn held_at(x: usize, updated: bool, values: &[f64]) -> f64
     0.0
 }
 
-// Records a value at slot x: 8, or 0 and the slot holds what the value makes of it.
-pub fn record(aggregation: Aggregation, x: usize, updated: bool, values: &mut [f64], v: f64) -> u8
+// Records a value at slot x: 8, or the slot holds what the value makes of it.
+pub fn record(
+    aggregation: Aggregation,
+    x: usize,
+    updated: bool,
+    values: &mut [f64],
+    v: f64,
+) -> Result<(), Refusal>
     requires { x < length values.old }
-    ensures { after result values.new ≡ recorded_at aggregation x updated values.old v }
+    ensures { after (code result) values.new ≡ recorded_at aggregation x updated values.old v }
 {
     let held = held_at(x, updated, values);
     if !holds(aggregation, held) {
-        return 8;
+        return Err(Refusal::Disagrees);
     }
     values[x] = stepped(aggregation, held, v);
-    0
+    Ok(())
 }
 
 // Whether slot x may hold what it holds. Where that is known, it is not asked.
@@ -69,38 +77,32 @@ fn is_sound(known: bool, aggregation: Aggregation, x: usize, updated: bool, valu
     holds(aggregation, held_at(x, updated, values))
 }
 
-// The survey with slot x more, which was updated or not and is due or not.
+// The survey with slot x more, which was updated or not and is due or not; none where its series disagrees.
 pub fn survey(
     known: bool,
     aggregation: Aggregation,
-    s: Survey,
+    s: Sums,
     x: usize,
     updated: bool,
     due: bool,
     values: &[f64],
-) -> Survey
+) -> Option<Sums>
     requires x_in_bounds { x < length values.now }
-    requires few { Few s × Known (single_store aggregation) tt known x updated values.now }
-    ensures value { result ≡ surveyed_at (single_lister aggregation) tt updated due values.now s x }
-    ensures more { More s result }
+    requires few { Few (sound_of s) × Known (single_store aggregation) tt known x updated values.now }
+    ensures value { survey_of result ≡ surveyed_at (single_lister aggregation) tt updated due values.now (sound_of s) x }
+    ensures more { More (sound_of s) (survey_of result) }
 {
     if !is_sound(known, aggregation, x, updated, values) {
-        return Survey {
-            sound: false,
-            points: 0,
-            pos: 0,
-            neg: 0,
-        };
+        return None;
     }
     if !due {
-        return s;
+        return Some(s);
     }
-    Survey {
-        sound: true,
+    Some(Sums {
         points: s.points + 1,
         pos: s.pos,
         neg: s.neg,
-    }
+    })
 }
 
 // Puts the point of slot x at a place of the output, if it is due; the next place. What is put is the same for every aggregation.

@@ -1,16 +1,16 @@
 // All slots, ascending by set: what a collection finds, and the points that are due put into the output.
 ghost use Rattle.std.specs.Prelude.{◌≡◌, []};
 ghost use Rattle.listing.specs.Inner.{left};
-ghost use Rattle.collecting.specs.Slots.{walked, Walk, AllKnown, surveyed, Listable, listed_to};
+ghost use Rattle.collecting.specs.Slots.{walked, Walk, AllKnown, survey_of, surveyed, Listable, listed_to};
 ghost use Rattle.singles.specs.Stores.{single_store};
 ghost use Rattle.singles.specs.Points.{output, single_lister};
 ghost use Rattle.singles.specs.Inner.{place};
 ghost use Rattle.singles.specs.declared.Aggregation.TheVariants.{Sum};
 
 use crate::Aggregation;
-use collecting::Survey;
+use collecting::Sums;
 
-// What the slots are found to be.
+// What the slots are found to be; none where a series that is held disagrees.
 pub fn survey(
     known: bool,
     cumulative: bool,
@@ -19,31 +19,24 @@ pub fn survey(
     entries: &[[u64; 3]],
     order: &[u32],
     values: &[f64],
-) -> Survey
+) -> Option<Sums>
     requires walk { Walk (single_store aggregation) (walked used [] entries.now order.now values.now) }
     requires all_known { AllKnown (single_store aggregation) tt known (walked used [] entries.now order.now values.now) }
-    ensures { result ≡ surveyed (single_lister aggregation) tt cumulative
+    ensures { survey_of result ≡ surveyed (single_lister aggregation) tt cumulative
         (walked used [] entries.now order.now values.now) }
 {
-    let mut found = Survey {
-        sound: true,
+    let mut found = Sums {
         points: 0,
         pos: 0,
         neg: 0,
     };
-    let mut i: usize = 0;
-    while i <= used {
+    for i in 0..used + 1 {
         let x = collecting::slot_at(order, i);
         let updated = directory::is_updated(entries, x);
         let due = collecting::is_due(cumulative, updated, x);
-        let next = crate::slot::survey(known, aggregation, found, x, updated, due, values);
-        if !next.sound {
-            return next;
-        }
-        found = next;
-        i += 1;
+        found = crate::slot::survey(known, aggregation, found, x, updated, due, values)?;
     }
-    found
+    Some(found)
 }
 
 // Puts the points of the slots that are due into the output; the place behind them. What is put is the same for every aggregation.
@@ -65,15 +58,12 @@ pub fn list(
         (output out_sets.old out_values.old) }
 {
     let mut at: usize = 0;
-    let mut i: usize = 0;
-    while i <= used {
+    for i in 0..used + 1 {
         let x = collecting::slot_at(order, i);
         let updated = directory::is_updated(entries, x);
         let due = collecting::is_due(cumulative, updated, x);
         let row = collecting::row_at(sets, x);
-        let next = crate::slot::put(at, x, updated, due, row, values, out_sets, out_values);
-        at = next;
-        i += 1;
+        at = crate::slot::put(at, x, updated, due, row, values, out_sets, out_values);
     }
     at
 }

@@ -2,32 +2,34 @@
 #![tactic(auto)]
 
 ghost use Rattle.std.specs.Prelude.{◌≡◌, eqb};
-ghost use Rattle.laws.specs.Counting.{bit};
 ghost use Rattle.laws.specs.Said.{number};
 ghost use Rattle.pooling.specs.Lists.{source};
+ghost use Rattle.refusals.specs.Refusals.{said};
 ghost use Rattle.sheet_writing.specs.Writing as Writing;
 ghost use Rattle.sheet_reading.specs.Reading as Reading;
 ghost use Rattle.sheet_exports.specs.Words.{size_in, header_in, put, put_out, got, got_out};
 
+use refusals::Refusal;
+use sheet_reading::Listed;
 use sheets::Header;
 
 // Document 02's number of an answer of the writer.
-fn written_number(answer: sheet_writing::Answer) -> u64
-    ensures { result ≡ number (Writing.said answer) }
+fn written_number(answer: Result<usize, Refusal>) -> u64
+    ensures { result ≡ number (said answer) }
 {
     match answer {
-        sheet_writing::Answer::Refused(no) => no as u64,
-        sheet_writing::Answer::Written(_) => 0,
+        Err(e) => e.number() as u64,
+        Ok(_) => 0,
     }
 }
 
 // How many bytes were written.
-fn size_of(answer: sheet_writing::Answer) -> u64
-    ensures { result ≡ size_in (Writing.said answer) }
+fn size_of(answer: Result<usize, Refusal>) -> u64
+    ensures { result ≡ size_in (said answer) }
 {
     match answer {
-        sheet_writing::Answer::Refused(_) => 0,
-        sheet_writing::Answer::Written(n) => n as u64,
+        Err(_) => 0,
+        Ok(n) => n as u64,
     }
 }
 
@@ -61,34 +63,24 @@ pub extern "C" fn sheet_write<'a>(
 }
 
 // Document 02's number of an answer of the reader.
-fn read_number(answer: sheet_reading::Answer) -> u64
-    ensures { result ≡ number (Reading.said answer) }
+fn read_number(answer: Result<Listed, Refusal>) -> u64
+    ensures { result ≡ number (said answer) }
 {
     match answer {
-        sheet_reading::Answer::Refused(no) => no as u64,
-        sheet_reading::Answer::Is(_) => 0,
+        Err(e) => e.number() as u64,
+        Ok(_) => 0,
     }
-}
-
-// 1 where it holds, else 0.
-fn flag_of(b: bool) -> u64
-    ensures { result ≡ bit b }
-{
-    if b {
-        return 1;
-    }
-    0
 }
 
 // Start, time, temporality and how many points; zeros where nothing was read.
-fn header_of(answer: sheet_reading::Answer) -> [u64; 4]
-    ensures { result ≡ header_in (Reading.said answer) }
+fn header_of(answer: Result<Listed, Refusal>) -> [u64; 4]
+    ensures { result ≡ header_in (said answer) }
 {
     match answer {
-        sheet_reading::Answer::Refused(_) => [0; 4],
-        sheet_reading::Answer::Is(l) => {
+        Err(_) => [0; 4],
+        Ok(l) => {
             let h = l.header;
-            [h.start, h.time, flag_of(h.delta), l.points as u64]
+            [h.start, h.time, u64::from(h.delta), l.points as u64]
         }
     }
 }

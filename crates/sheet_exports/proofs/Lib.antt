@@ -1,2 +1,0 @@
--- Laws that the proofs of sheet_exports cite.
-pub mod Handed

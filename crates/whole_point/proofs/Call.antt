@@ -8,6 +8,11 @@ use lib.Dec.{T, leb, eqb}
 use lib.IntN.{ℤ, ◌+ℤ◌}
 use lib.ListN.{length}
 use lib.Ieee.{Float}
+use Rattle.std.specs.Prelude.{◌≢◌}
+use Rattle.refusals.specs.declared.Refusal.{Refusal}
+use Rattle.refusals.specs.declared.Refusal.TheVariants as V
+use Rattle.refusals.specs.Refusals.{number}
+use Rattle.refusals.proofs.Numbers.{number-nonzero}
 use Rattle.laws.specs.Pick.{pick}
 use Rattle.laws.specs.Said.{Said, refusal, success}
 use Rattle.laws.specs.Over.{over}
@@ -31,6 +36,13 @@ use Rattle.whole_point.specs.Handing.{Stored, handed_in, in_shape, shadow_stored
 
 no : {A : Type 0} → true ≡ false → A
 no h = absurd (subst T h tt)
+
+-- the number of what refuses, of whose sum leaves i64
+pub last-refused : (e : Refusal) → number e ≡ last_number (number e)
+last-refused e = sym (pick-false _ _ _ (ne_eqb (number e) 0 (number-nonzero e)))
+
+pub last-none : 16 ≡ last_number 0
+last-none = sym (pick_true _ _ _ (eq-eqb 0 0 refl))
 
 -- ---- the sum
 abbrev total_in : ℤ → Option ℤ → ℤ
@@ -192,6 +204,38 @@ module _ (size : ℕ) (x y : Stored) (us vs : List ℕ) where
             from (refusal 10) us vs r us' vs' (e ∙ f64-short z h) ∙ sym (goes_on (free z) ∙ short h)
 
 -- ---- BESIDE f64
+-- but for 1 and 8 it is 11
+pub beside-other : (e : Refusal) → e ≢ V.MaxSize → e ≢ V.Disagrees → 11 ≡ beside_number (number e)
+unfolding pick
+beside-other V.MaxSize h k = absurd (h refl)
+beside-other V.MaxScale h k = refl
+beside-other V.Bounds h k = refl
+beside-other V.Limit h k = refl
+beside-other V.Attributes h k = refl
+beside-other V.NotFinite h k = refl
+beside-other V.NoHandle h k = refl
+beside-other V.Disagrees h k = absurd (k refl)
+beside-other V.Full h k = refl
+beside-other V.NoRoom h k = refl
+beside-other V.Unlike h k = refl
+beside-other V.LentShort h k = refl
+beside-other V.NoValues h k = refl
+beside-other V.OffGrid h k = refl
+beside-other V.NotASheet h k = refl
+beside-other V.SumOutside h k = refl
+
+pub beside-none : 11 ≡ beside_number 0
+unfolding pick
+beside-none = refl
+
+pub beside-size : 1 ≡ beside_number 1
+unfolding pick
+beside-size = refl
+
+pub beside-agree : 8 ≡ beside_number 8
+unfolding pick
+beside-agree = refl
+
 -- the first two numbers of a merge
 abbrev firsts : Bool → Bool → ℕ
 firsts sized agreed = pick sized (pick agreed 11 8) 1

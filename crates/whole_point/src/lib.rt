@@ -136,19 +136,14 @@ pub fn merge(
 {
     let x = shadow_of(a);
     let y = shadow_of(b);
-    let total = integers::sum(a.sum, b.sum);
-    match total {
-        None => {
-            point::refusal(size, x, abounds, apos, aneg, y, bbounds, bpos, bneg)?;
-            Err(Refusal::SumOutside)
-        }
-        Some(s) => {
-            let counted = point::merge(
-                size, x, abounds, apos, aneg, y, bbounds, bpos, bneg, pos, neg,
-            )?;
-            Ok(finish(a, b, s, counted))
-        }
-    }
+    let Some(s) = integers::sum(a.sum, b.sum) else {
+        point::refusal(size, x, abounds, apos, aneg, y, bbounds, bpos, bneg)?;
+        return Err(Refusal::SumOutside);
+    };
+    let counted = point::merge(
+        size, x, abounds, apos, aneg, y, bbounds, bpos, bneg, pos, neg,
+    )?;
+    Ok(finish(a, b, s, counted))
 }
 
 // ---- beside f64
@@ -157,9 +152,12 @@ pub fn merge(
 pub fn beside(no: Result<(), Refusal>) -> Refusal
     ensures { number result ≡ beside_number (code no) }
 {
-    match no {
-        Err(Refusal::MaxSize) => Refusal::MaxSize,
-        Err(Refusal::Disagrees) => Refusal::Disagrees,
+    let Err(e) = no else {
+        return Refusal::Unlike;
+    };
+    match e {
+        Refusal::MaxSize => Refusal::MaxSize,
+        Refusal::Disagrees => Refusal::Disagrees,
         _ => Refusal::Unlike,
     }
 }

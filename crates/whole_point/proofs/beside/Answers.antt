@@ -1,18 +1,21 @@
 -- `beside` meets its contract. Assumes nothing.
-use mathlib.Core.Path.{sym, ◌∙◌}
-use borrow.Author.Tests.{eq-eqb, ne_eqb}
-use lib.Dec.{eqb}
-use Rattle.laws.proofs.Bools.{pick_true, pick-false}
-use native.Mathlib.Omega.{arith}
+use Rattle.std.specs.Prelude.{Err}
+use mathlib.Core.Path.{sym, ap, ◌∙◌}
+use Rattle.refusals.specs.Refusals.{code}
+use Rattle.whole_point.specs.Handing.{beside_number}
+use Rattle.whole_point.proofs.Call.{beside-none, beside-size, beside-agree, beside-other}
 use Rattle.whole_point.proofs.beside.Goals as goal
 
-pub returns-then-no-eq1 : goal.returns-then-no-eq1
-returns-then-no-eq1 c = sym (pick_true (eqb c.args.no 1) 1 _ (eq-eqb c.args.no 1 (omega (arith, c.if-no-eq1.true))))
+pub returns-in_default : goal.returns-in_default
+returns-in_default c = beside-none ∙ sym (ap (λ r. beside_number (code r)) c.in_default.is)
 
-pub returns-then-no-eq8 : goal.returns-then-no-eq8
-returns-then-no-eq8 c =
-    sym (pick-false (eqb c.args.no 1) 1 _ (ne_eqb c.args.no 1 (λ h. omega (arith, h, c.if-no-eq1.false))) ∙ pick_true (eqb c.args.no 8) 8 11 (eq-eqb c.args.no 8 (omega (arith, c.if-no-eq8.true))))
+pub returns-in-MaxSize : goal.returns-in-MaxSize
+returns-in-MaxSize c = beside-size ∙ sym (ap (λ r. beside_number (code r)) (c.in-Err.is ∙ ap Err c.in-MaxSize.is))
 
-pub returns : goal.returns
-returns c =
-    sym (pick-false (eqb c.args.no 1) 1 _ (ne_eqb c.args.no 1 (λ h. omega (arith, h, c.if-no-eq1.false))) ∙ pick-false (eqb c.args.no 8) 8 11 (ne_eqb c.args.no 8 (λ h. omega (arith, h, c.if-no-eq8.false))))
+pub returns-in-Disagrees : goal.returns-in-Disagrees
+returns-in-Disagrees c = beside-agree ∙ sym (ap (λ r. beside_number (code r)) (c.in-Err.is ∙ ap Err c.in-Disagrees.is))
+
+pub returns-in_default-e : goal.returns-in_default-e
+returns-in_default-e c =
+    beside-other c.in-Err.e c.in_default-e.not-MaxSize c.in_default-e.not-Disagrees
+    ∙ sym (ap (λ r. beside_number (code r)) c.in-Err.is)

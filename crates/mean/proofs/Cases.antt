@@ -11,16 +11,15 @@ use Rattle.laws.proofs.Bools.{pick_true, pick-false}
 use Rattle.floats.specs.Grid.{signed, steps}
 use Rattle.points.specs.Handed.{count_of}
 use Rattle.point.specs.Handing.{Stored, counts_in, agrees_alone}
-use Rattle.mean.specs.declared.Sum.{Sum}
-use Rattle.mean.specs.declared.Sum.TheVariants.{OffGrid, Steps}
+use Rattle.std.specs.Prelude.{Some, None}
 use Rattle.mean.specs.Rounding.{nearest, hundredths}
 use Rattle.mean.specs.Mean.{on_grid, mean_of, mean_in}
-use Rattle.mean.specs.Inner.{as_sum, sum_of}
+use Rattle.mean.specs.Inner.{Sum, OffGrid, as_sum, sum_of}
 
 -- by the sum as the code finds it
 abbrev pub mean_by : ℕ → Sum → Said ℤ
-mean_by count OffGrid = refusal 14
-mean_by count (Steps s n) = success (signed s (nearest (n * 100) (count * 1024)))
+mean_by count None = refusal 14
+mean_by count (Some s) = success (signed s.negative (nearest (s.steps * 100) (count * 1024)))
 
 by-steps : (count : ℕ) (z : ℤ) → mean_by count (as_sum z) ≡ success (hundredths z count)
 by-steps count (pos n) = refl

@@ -23,10 +23,9 @@ use Rattle.index.specs.Frexp.{Split}
 use Rattle.index.proofs.Floats.{exact}
 use Rattle.floats.specs.Grid.{signed, steps, is_whole, most_steps}
 use Rattle.floats.proofs.Whole.{abs-signed, none_left, left-none}
-use Rattle.mean.specs.declared.Sum.{Sum}
-use Rattle.mean.specs.declared.Sum.TheVariants.{OffGrid, Steps}
+use Rattle.std.specs.Prelude.{Some, None}
 use Rattle.mean.specs.Mean.{on_grid}
-use Rattle.mean.specs.Inner.{as_sum, sum_of, shifted, sum_of_parts}
+use Rattle.mean.specs.Inner.{Sum, OffGrid, Steps, as_sum, sum_of, shifted, sum_of_parts}
 
 as-sum : (s : Bool) (n : ℕ) → 0 < n → as_sum (signed s n) ≡ Steps s n
 as-sum true zero h = absurd (omega (arith, h))
@@ -42,8 +41,8 @@ eqb_iff p q r s h k = go (eqb p q) refl
 
 -- ---- what is answered is at most 2 ^ 53
 abbrev size : Sum → ℕ
-size OffGrid = 0
-size (Steps s n) = n
+size None = 0
+size (Some s) = s.steps
 
 size_as : (z : ℤ) → size (as_sum z) ≡ nat_abs z
 size_as (pos n) = refl

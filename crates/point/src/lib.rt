@@ -3,7 +3,7 @@
 
 pub mod signed;
 
-ghost use Rattle.std.specs.Prelude.{◌≡◌, ◌+◌, ◌-◌, ◌^◌, ◌<◌, leb};
+ghost use Rattle.std.specs.Prelude.{◌≡◌, ◌+◌, ◌-◌, ◌^◌, ◌<◌, leb, Some};
 ghost use Rattle.floats.specs.Starts.{zero_float};
 ghost use Rattle.points.specs.Handed.{extremes_agree};
 ghost use Rattle.laws.specs.Pick.{pick};
@@ -113,7 +113,7 @@ fn extremes_agree(due: bool, min: Option<f64>, max: Option<f64>) -> bool
 
 // Two that are there.
 fn values_agree(due: bool, x: f64, y: f64) -> bool
-    ensures { result ≡ extremes_agree due (Value x) (Value y) }
+    ensures { result ≡ extremes_agree due (Some x) (Some y) }
 {
     if !due {
         return false;

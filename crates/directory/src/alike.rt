@@ -77,8 +77,7 @@ fn pass(used: usize, sets: &[[u64; 9]], order: &[u32], bits: [u64; 9], from: usi
     let first = order[0] as usize;
     let mut d = differing(bits, &sets[first], &sets[1]);
     let mut prev = sets[first][from];
-    let mut i: usize = 1;
-    while i < used {
+    for i in 1..used {
         let q = order[i] as usize;
         if !named(used, q) {
             return false;
@@ -90,7 +89,6 @@ fn pass(used: usize, sets: &[[u64; 9]], order: &[u32], bits: [u64; 9], from: usi
             return false;
         }
         prev = w;
-        i += 1;
     }
     if !same_keys(d) {
         return false;

@@ -39,8 +39,7 @@ fn one_by_one(used: usize, sets: &[[u64; 9]], order: &[u32]) -> Option<usize>
 {
     let mut plain: usize = 0;
     let mut p: usize = 0;
-    let mut i: usize = 0;
-    while i < used {
+    for i in 0..used {
         let q = order[i] as usize;
         if q < 1 {
             return None;
@@ -53,7 +52,6 @@ fn one_by_one(used: usize, sets: &[[u64; 9]], order: &[u32]) -> Option<usize>
         }
         plain += sets::set_row::plain_row(&sets[q]);
         p = q;
-        i += 1;
     }
     Some(plain)
 }

@@ -13,12 +13,10 @@ pub fn parting(a: &[u64; 9], b: &[u64; 9], from: usize) -> usize
     requires { from ≤ 8 }
     ensures { Parted a.now b.now from result }
 {
-    let mut i: usize = from;
-    while i < 8 {
+    for i in from..8 {
         if a[i] != b[i] {
             return i;
         }
-        i += 1;
     }
     8
 }
@@ -54,12 +52,10 @@ fn rises(row: &[u64; 9], from: usize, n: usize) -> bool
     requires { (from < n) × (n ≤ 8) × ((k : ℕ) → k < from → key_at row.now k ≡ true) }
     ensures { result ≡ allb (n - 1) (key_at row.now) }
 {
-    let mut i: usize = from;
-    while i + 1 < n {
+    for i in from..n - 1 {
         if row[i] / 4294967296 >= row[i + 1] / 4294967296 {
             return false;
         }
-        i += 1;
     }
     true
 }

@@ -23,11 +23,9 @@ pub fn move_sets(used: usize, sets: &mut [[u64; 9]], order: &[u32])
         × ((x : ℕ) → 1 ≤ x → x ≤ used → mark_in order.now x ≤ x) }
     ensures { sets.new ≡ settled (λ row. row) (mark_in order.now) used sets.old }
 {
-    let mut x: usize = 0;
-    while x < used {
+    for x in 0..used {
         let m = crate::words::high(order[x]);
         move_set(sets, x + 1, m);
-        x += 1;
     }
 }
 
@@ -53,10 +51,8 @@ pub fn move_entries(used: usize, entries: &mut [[u64; 3]], order: &[u32])
     let b = entries[0][0];
     let n = entries[0][1];
     entries[0] = [b, n, 0];
-    let mut x: usize = 0;
-    while x < used {
+    for x in 0..used {
         let m = crate::words::high(order[x]);
         move_entry(entries, x + 1, m);
-        x += 1;
     }
 }

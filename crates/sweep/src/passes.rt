@@ -42,8 +42,7 @@ pub fn rank(used: usize, sets: &[[u64; 9]], entries: &[[u64; 3]], order: &mut [u
         × (order.new ≡ packed (mark_of (staying sets.now entries.now)) used order.old) }
 {
     let mut r: usize = 0;
-    let mut x: usize = 0;
-    while x < used {
+    for x in 0..used {
         let n = entries[x + 1][1];
         let u = entries[x + 1][2];
         let k = stays(n, u, &sets[x + 1]);
@@ -51,7 +50,6 @@ pub fn rank(used: usize, sets: &[[u64; 9]], entries: &[[u64; 3]], order: &mut [u
         let m = mark(k, r);
         let q = order[x] as usize;
         order[x] = crate::words::pack(q, m);
-        x += 1;
     }
     r
 }
@@ -79,12 +77,10 @@ pub fn renumber(used: usize, order: &mut [u32])
         (over (renumbered (mark_in order.old) (span (lows used order.old) 0 used)) (lows used order.old)) }
 {
     let mut w: usize = 0;
-    let mut i: usize = 0;
-    while i < used {
+    for i in 0..used {
         let q = crate::words::low(order[i]);
         let m = crate::words::high(order[q - 1]);
         w = put_place(order, w, m);
-        i += 1;
     }
 }
 
@@ -93,9 +89,7 @@ pub fn strip(used: usize, order: &mut [u32])
     requires { used ≤ length order.old }
     ensures { order.new ≡ lows used order.old }
 {
-    let mut i: usize = 0;
-    while i < used {
-        order[i] = order[i] % 65536;
-        i += 1;
+    for w in &mut order[..used] {
+        *w %= 65536;
     }
 }

@@ -40,12 +40,6 @@ pub overflow_add-plain : goal.overflow_add-plain
 overflow_add-plain c =
     omega (arith, bit-one (plain (set_of (get_or c.args.sets.now (get_or c.args.order.now c.loop-i.i 0) []))), c.plain_row-plain.ensures, c.loop-i.invariant.6, c.loop-i-test.true)
 
-pub overflow_add-i : goal.overflow_add-i
-overflow_add-i c = omega (arith, c.loop-i-test.true)
-
-pub loop-i-smaller : goal.loop-i-smaller
-loop-i-smaller c = omega (arith, c.loop-i-test.true)
-
 pub loop-i-preserved : goal.loop-i-preserved
 loop-i-preserved c =
     let firm : soundb (get_or c.args.sets.now (get_or c.args.order.now c.loop-i.i 0) []) ≡ true = (and-true (soundb _) _ (sym c.follows.ensures ∙ c.if-not-follows.false)).0 in

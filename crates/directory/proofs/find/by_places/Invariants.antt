@@ -6,6 +6,3 @@ use Rattle.directory.proofs.find.by_places.Given as goal
 
 abbrev pub invariant-loop-i : goal.invariant-loop-i
 invariant-loop-i l = (l.i ≤ l.used) × (scan l.h l.entries (0 ∷ span l.order 0 l.used) ≡ scan l.h l.entries (span l.order l.i (l.used - l.i)))
-
-abbrev pub decreases-loop-i : goal.decreases-loop-i
-decreases-loop-i l = l.used - l.i

@@ -6,6 +6,3 @@ use Rattle.sets.proofs.set_row.parting.Given as goal
 
 abbrev pub invariant-loop-i : goal.invariant-loop-i
 invariant-loop-i l = (l.from ≤ l.i) × (l.i ≤ 8) × ((j : ℕ) → l.from ≤ j → j < l.i → get_or l.a j 0 ≡ get_or l.b j 0)
-
-abbrev pub decreases-loop-i : goal.decreases-loop-i
-decreases-loop-i l = 8 - l.i

@@ -8,6 +8,3 @@ use Rattle.sets.proofs.set_row.rises.Given as goal
 
 abbrev pub invariant-loop-i : goal.invariant-loop-i
 invariant-loop-i l = (l.i ≤ l.n - 1) × (1 ≤ l.n) × (l.n ≤ 8) × (allb l.i (key_at l.row) ≡ true)
-
-abbrev pub decreases-loop-i : goal.decreases-loop-i
-decreases-loop-i l = l.n - l.i

@@ -9,6 +9,3 @@ use Rattle.sweep.proofs.moves.move_entries.Given as goal
 abbrev pub invariant-loop-x : goal.invariant-loop-x
 invariant-loop-x l =
     (l.x ≤ l.used) × (length l.entries ≡ length l.initial.entries) × (l.entries ≡ settled clear (mark_in l.order) l.x l.initial.entries)
-
-abbrev pub decreases-loop-x : goal.decreases-loop-x
-decreases-loop-x l = l.used - l.x

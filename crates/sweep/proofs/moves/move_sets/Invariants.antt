@@ -8,6 +8,3 @@ use Rattle.sweep.proofs.moves.move_sets.Given as goal
 abbrev pub invariant-loop-x : goal.invariant-loop-x
 invariant-loop-x l =
     (l.x ≤ l.used) × (length l.sets ≡ length l.initial.sets) × (l.sets ≡ settled (λ row. row) (mark_in l.order) l.x l.initial.sets)
-
-abbrev pub decreases-loop-x : goal.decreases-loop-x
-decreases-loop-x l = l.used - l.x

@@ -9,6 +9,3 @@ use Rattle.sweep.proofs.passes.rank.Given as goal
 abbrev pub invariant-loop-x : goal.invariant-loop-x
 invariant-loop-x l =
     (l.x ≤ l.used) × (l.r ≡ rank (staying l.sets l.entries) l.x) × (length l.order ≡ length l.initial.order) × (l.order ≡ packed (mark_of (staying l.sets l.entries)) l.x l.initial.order)
-
-abbrev pub decreases-loop-x : goal.decreases-loop-x
-decreases-loop-x l = l.used - l.x

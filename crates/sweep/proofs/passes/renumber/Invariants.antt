@@ -10,6 +10,3 @@ use Rattle.sweep.proofs.passes.renumber.Given as goal
 abbrev pub invariant-loop-i : goal.invariant-loop-i
 invariant-loop-i l =
     (l.i ≤ l.used) × (l.w ≡ length (renumbered (mark_in l.initial.order) (span (lows l.used l.initial.order) 0 l.i))) × (length l.order ≡ length l.initial.order) × (l.order ≡ packed (mark_in l.initial.order) l.used (over (renumbered (mark_in l.initial.order) (span (lows l.used l.initial.order) 0 l.i)) (lows l.used l.initial.order)))
-
-abbrev pub decreases-loop-i : goal.decreases-loop-i
-decreases-loop-i l = l.used - l.i

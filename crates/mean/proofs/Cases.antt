@@ -11,7 +11,12 @@ use Rattle.laws.proofs.Bools.{pick_true, pick-false}
 use Rattle.floats.specs.Grid.{signed, steps}
 use Rattle.points.specs.Handed.{count_of}
 use Rattle.point.specs.Handing.{Stored, counts_in, agrees_alone}
-use Rattle.std.specs.Prelude.{Some, None}
+use Rattle.std.specs.Prelude.{Some, None, Result, Ok, Err}
+use Rattle.std.specs.Option.{ok_or}
+use Rattle.refusals.specs.declared.Refusal.{Refusal}
+use Rattle.refusals.specs.declared.Refusal.TheVariants as V
+use Rattle.refusals.specs.Refusals.{number}
+use Rattle.mean.specs.declared.Steps as S
 use Rattle.mean.specs.Rounding.{nearest, hundredths}
 use Rattle.mean.specs.Mean.{on_grid, mean_of, mean_in}
 use Rattle.mean.specs.Inner.{Sum, OffGrid, as_sum, sum_of}
@@ -20,6 +25,15 @@ use Rattle.mean.specs.Inner.{Sum, OffGrid, as_sum, sum_of}
 abbrev pub mean_by : ℕ → Sum → Said ℤ
 mean_by count None = refusal 14
 mean_by count (Some s) = success (signed s.negative (nearest (s.steps * 100) (count * 1024)))
+
+-- by that sum, or what refuses it
+abbrev pub mean_from : ℕ → Result S.Steps Refusal → Said ℤ
+mean_from count (Err e) = refusal (number e)
+mean_from count (Ok s) = success (signed s.negative (nearest (s.steps * 100) (count * 1024)))
+
+pub mean-from : (count : ℕ) (o : Sum) → mean_from count (ok_or o V.OffGrid) ≡ mean_by count o
+mean-from count None = refl
+mean-from count (Some s) = refl
 
 by-steps : (count : ℕ) (z : ℤ) → mean_by count (as_sum z) ≡ success (hundredths z count)
 by-steps count (pos n) = refl

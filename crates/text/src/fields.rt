@@ -33,11 +33,9 @@ fn is_space(byte: u8) -> usize
 pub fn spaces(line: &[u8]) -> usize
     ensures { result ≡ spaces_of line.now }
 {
-    let mut n: usize = 0;
-    let mut i: usize = 0;
-    while i < line.len() {
-        n += is_space(line[i]);
-        i += 1;
+    let mut n = 0;
+    for byte in line {
+        n += is_space(*byte);
     }
     n
 }
@@ -47,12 +45,13 @@ fn start(line: &[u8], k: usize) -> usize
     ensures { (result ≤ length line.now) × (result ≡ start_of line.now k) }
 {
     let mut left = k;
-    let mut i: usize = 0;
-    while i < line.len() && 0 < left {
-        left -= is_space(line[i]);
-        i += 1;
+    for (i, byte) in line.iter().enumerate() {
+        if left == 0 {
+            return i;
+        }
+        left -= is_space(*byte);
     }
-    i
+    line.len()
 }
 
 // Where the next byte `mark` stands, from a place on; the end where there is none.
@@ -60,14 +59,12 @@ pub fn end(line: &[u8], from: usize, mark: u8) -> usize
     requires { from ≤ length line.now }
     ensures { (result ≤ length line.now) × (result ≡ from + length (until mark (drop from line.now))) }
 {
-    let mut i = from;
-    while i < line.len() {
+    for i in from..line.len() {
         if line[i] == mark {
             return i;
         }
-        i += 1;
     }
-    i
+    line.len()
 }
 
 // The field that comes after k spaces; an empty one where there is none.

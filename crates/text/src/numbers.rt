@@ -28,9 +28,8 @@ fn spelled(bytes: &[u8]) -> Option<u64>
     ensures { result ≡ spelled_from 10 0 bytes.now }
 {
     let mut x: u64 = 0;
-    let mut i: usize = 0;
-    while i < bytes.len() {
-        let d = digit(bytes[i]);
+    for byte in bytes {
+        let d = digit(*byte);
         if 9 < d {
             return None;
         }
@@ -38,7 +37,6 @@ fn spelled(bytes: &[u8]) -> Option<u64>
             return None;
         }
         x = x * 10 + d;
-        i += 1;
     }
     Some(x)
 }
@@ -101,10 +99,8 @@ fn are_hex(bytes: &[u8]) -> bool
     ensures { result ≡ are_hex bytes.now }
 {
     let mut all = true;
-    let mut i: usize = 0;
-    while i < 16 {
-        all = still(all, is_decimal(bytes[i]), is_letter(bytes[i]));
-        i += 1;
+    for byte in &bytes[..16] {
+        all = still(all, is_decimal(*byte), is_letter(*byte));
     }
     all
 }
@@ -131,32 +127,17 @@ fn pairs(bytes: &[u8]) -> [u8; 8]
     ensures { Paired bytes.now 8 result }
 {
     let mut out = [0u8; 8];
-    let mut i: usize = 0;
-    while i < 8 {
+    for i in 0..8 {
         out[i] = pair(bytes[2 * i], bytes[2 * i + 1]);
-        i += 1;
     }
     out
-}
-
-fn wide(byte: u8) -> u64
-    ensures value { result ≡ byte }
-    ensures upper_bound { result < 256 }
-{
-    byte as u64
 }
 
 // The number of eight bytes, the most significant first.
 fn joined(bytes: [u8; 8]) -> u64
     ensures { result ≡ joined_to 8 bytes }
 {
-    let mut x: u64 = 0;
-    let mut i: usize = 0;
-    while i < 8 {
-        x = x * 256 + wide(bytes[i]);
-        i += 1;
-    }
-    x
+    u64::from_be_bytes(bytes)
 }
 
 // 16 hexadecimal digits.

@@ -16,11 +16,9 @@ pub fn hex_digits(bits: u64) -> [u8; 16]
 {
     let mut out = [0u8; 16];
     let mut rest = bits;
-    let mut i: usize = 16;
-    while 0 < i {
-        i -= 1;
+    for i in (0..16).rev() {
         out[i] = glyph(rest);
-        rest = rest / 16;
+        rest /= 16;
     }
     out
 }

@@ -1,25 +1,22 @@
 -- `text::fields::end` meets its contract. Assumes nothing.
-use Rattle.std.proofs.Common.{refl, arith}
+use Rattle.std.proofs.Common.{arith}
 use Rattle.text.proofs.Splitting.{until-turn, until_stop, until_none}
 use Rattle.text.proofs.fields.end.Goals as goal
-
-pub loop-i-init : goal.loop-i-init
-loop-i-init c = (c.requires, refl)
 
 pub returns-then-line-i : goal.returns-then-line-i
 returns-then-line-i c =
     let l = c.loop-i in
-    let e = until_stop c.args.mark c.args.line.now l.i c.loop-i-test.true c.if-line-i.true in
-    (l.invariant.0, omega (arith, e, l.invariant.1))
+    let e = until_stop c.args.mark c.args.line.now l.i (omega arith) c.if-line-i.true in
+    (omega arith, omega (arith, e, l.invariant))
 
 pub loop-i-preserved : goal.loop-i-preserved
 loop-i-preserved c =
     let l = c.loop-i in
-    let e = until-turn c.args.mark c.args.line.now l.i c.loop-i-test.true c.if-line-i.false in
-    (omega arith, omega (arith, e, l.invariant.1))
+    let e = until-turn c.args.mark c.args.line.now l.i (omega arith) c.if-line-i.false in
+    omega (arith, e, l.invariant)
 
 pub returns : goal.returns
 returns c =
     let l = c.loop-i in
-    let e = until_none c.args.mark c.args.line.now l.i c.loop-i-test.false in
-    (l.invariant.0, omega (arith, e, l.invariant.1))
+    let e = until_none c.args.mark c.args.line.now l.i (omega arith) in
+    (omega arith, omega (arith, e, l.invariant))

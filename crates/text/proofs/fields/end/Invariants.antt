@@ -1,10 +1,7 @@
 -- `text::fields::end` meets its contract. Assumes nothing.
-use Rattle.std.proofs.Common.{◌≡◌, ◌+◌, ◌-◌, ◌≤◌, length, drop}
+use Rattle.std.proofs.Common.{◌≡◌, ◌+◌, length, drop}
 use Rattle.text.specs.Fields.{until}
 use Rattle.text.proofs.fields.end.Given as goal
 
 abbrev pub invariant-loop-i : goal.invariant-loop-i
-invariant-loop-i l = (l.i ≤ length l.line) × (l.i + length (until l.mark (drop l.i l.line)) ≡ l.from + length (until l.mark (drop l.from l.line)))
-
-abbrev pub decreases-loop-i : goal.decreases-loop-i
-decreases-loop-i l = length l.line - l.i
+invariant-loop-i l = l.i + length (until l.mark (drop l.i l.line)) ≡ l.from + length (until l.mark (drop l.from l.line))

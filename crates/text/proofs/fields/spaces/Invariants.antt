@@ -1,10 +1,7 @@
 -- `text::fields::spaces` meets its contract. Assumes nothing.
-use Rattle.std.proofs.Common.{◌≡◌, ◌+◌, ◌-◌, ◌≤◌, length, drop}
+use Rattle.std.proofs.Common.{◌≡◌, ◌+◌, ◌≤◌, drop}
 use Rattle.text.specs.Fields.{spaces_of}
 use Rattle.text.proofs.fields.spaces.Given as goal
 
-abbrev pub invariant-loop-i : goal.invariant-loop-i
-invariant-loop-i l = (l.i ≤ length l.line) × (l.n ≤ l.i) × (l.n + spaces_of (drop l.i l.line) ≡ spaces_of l.line)
-
-abbrev pub decreases-loop-i : goal.decreases-loop-i
-decreases-loop-i l = length l.line - l.i
+abbrev pub invariant-loop-byte : goal.invariant-loop-byte
+invariant-loop-byte l = (l.n ≤ l.byte-index) × (l.n + spaces_of (drop l.byte-index l.line) ≡ spaces_of l.line)

@@ -6,7 +6,7 @@ use Rattle.text.proofs.numbers.pairs.Goals as goal
 
 pub loop-i-init : goal.loop-i-init
 unfolding Paired
-loop-i-init c = (omega arith, refl, λ j h. absurd (omega (arith, h)))
+loop-i-init c = (refl, λ j h. absurd (omega (arith, h)))
 
 pub pair-requires : goal.pair-requires
 pair-requires c =
@@ -15,10 +15,10 @@ pair-requires c =
 pub loop-i-preserved : goal.loop-i-preserved
 loop-i-preserved c =
     let l = c.loop-i in
-    (omega arith, length-set l.out l.i c.pair.result ∙ l.invariant.1, pair_put c.args.bytes.now l.out l.i c.pair.result (omega arith) l.invariant.2 c.pair.ensures)
+    (length-set l.out l.i c.pair.result ∙ l.invariant.0, pair_put c.args.bytes.now l.out l.i c.pair.result (omega arith) l.invariant.1 c.pair.ensures)
 
 pub returns : goal.returns
 returns c =
     let l = c.loop-i in
     let e : l.i ≡ 8 = omega arith in
-    subst (λ (n : ℕ). Paired c.args.bytes.now n l.out) e l.invariant.2
+    subst (λ (n : ℕ). Paired c.args.bytes.now n l.out) e l.invariant.1

@@ -3,6 +3,7 @@ use Prim.Native.Nat.{ℕ, suc, ◌+◌, ◌*◌, ◌≤◌, ◌<◌}
 use mathlib.Core.Path.{◌≡◌, refl, sym, ap, ◌∙◌, subst}
 use mathlib.Core.Logic.{⊎_elim}
 use mathlib.Core.Bool.{Bool, true, false}
+use Rattle.std.specs.Prelude.{Option, Some, None}
 use mathlib.Core.List.{List, [], ◌∷◌}
 use native.Mathlib.Omega.{arith}
 use native.Mathlib.Numerals.{add-one}
@@ -14,14 +15,10 @@ use Rattle.laws.proofs.Bools.{flag, pick_true, pick-false}
 use Rattle.laws.proofs.Differences.{le_or-lt}
 use Rattle.text.specs.Fields.{until}
 use Rattle.text.specs.Numbers.{digit_of, spelled_from}
-use Rattle.std.specs.Prelude.{None}
 use Rattle.text.proofs.Pairing.{pick-none}
-use Rattle.lines.specs.declared.attributes.Attribute.{Attribute}
-use Rattle.lines.specs.declared.attributes.Attribute.TheVariants as A
-use Rattle.lines.specs.declared.attributes.Word.{Word}
-use Rattle.lines.specs.declared.attributes.Word.TheVariants as W
 use Rattle.lines.specs.Spelled.{word_in, word_of, both_of, attribute_of}
-use Rattle.lines.specs.Scanned.{after, Parted}
+use Rattle.lines.specs.declared.attributes.Part.{Part}
+use Rattle.lines.specs.Scanned.{after, attribute, part_end, Parted}
 use Rattle.lines.proofs.Scanning.{none-spelled, comma-mark}
 use Rattle.lines.proofs.Parting.{no_word}
 
@@ -108,29 +105,29 @@ comma_spells x (b ∷ u) h =
     (λ (e : eqb b 44 ≡ false). pick-none _ _ (pick-none _ _ (comma_spells (x * 10 + digit_of b) u (omega (arith, h, ap length (go_on 44 b u e))))))
     (flag (eqb b 44))
 
-comma-none : (u : List ℕ) → length (until 44 u) < length u → word_of u ≡ W.None
+comma-none : (u : List ℕ) → length (until 44 u) < length u → word_of u ≡ None
 comma-none u h = none-spelled u (ap word_in (comma_spells 0 u h))
 
-none-not-is : (w : Word) (x : ℕ) → w ≡ W.None → w ≡ W.Is x → ⊥
+none-not-is : (w : Option ℕ) (x : ℕ) → w ≡ None → w ≡ Some x → ⊥
 none-not-is w x p q = let z : ◌≡◌ {A = ℕ} 0 1 = cc in omega arith
 
-both-none : (w : Word) → both_of w W.None ≡ A.None
-both-none W.None = refl
-both-none (W.Is x) = refl
+both-none : (w : Option ℕ) → both_of w None ≡ None
+both-none None = refl
+both-none (Some x) = refl
 
 -- without a value there is no attribute
-valueless : (p : List ℕ) → length p ≤ length (until 58 p) + 1 → attribute_of p ≡ A.None
+valueless : (p : List ℕ) → length p ≤ length (until 58 p) + 1 → attribute_of p ≡ None
 unfolding attribute_of
 valueless p h =
     ap (λ (r : List ℕ). both_of (word_of (until 58 p)) (word_of r)) (drop_of_length-le p h)
     ∙ ap (both_of (word_of (until 58 p))) no_word
     ∙ both-none (word_of (until 58 p))
 
-keyless : (p u : List ℕ) → until 58 p ≡ u → word_of u ≡ W.None → attribute_of p ≡ A.None
+keyless : (p u : List ℕ) → until 58 p ≡ u → word_of u ≡ None → attribute_of p ≡ None
 unfolding attribute_of
-keyless p u e k = ap (λ (w : Word). both_of w (word_of (drop (length (until 58 p) + 1) p))) (ap word_of e ∙ k)
+keyless p u e k = ap (λ (w : Option ℕ). both_of w (word_of (drop (length (until 58 p) + 1) p))) (ap word_of e ∙ k)
 
-pub no_key : (xs : List ℕ) → word_of (until 58 xs) ≡ W.None → attribute_of (until 44 xs) ≡ A.None
+pub no_key : (xs : List ℕ) → word_of (until 58 xs) ≡ None → attribute_of (until 44 xs) ≡ None
 unfolding Clear Split
 no_key xs k =
     ⊎_elim
@@ -139,7 +136,7 @@ no_key xs k =
     (le_or-lt (length (until 58 xs)) (length (until 44 (until 58 xs))))
 
 -- a key has no comma
-clear : (u : List ℕ) (a : ℕ) → word_of u ≡ W.Is a → Clear u
+clear : (u : List ℕ) (a : ℕ) → word_of u ≡ Some a → Clear u
 unfolding Clear
 clear u a k =
     ⊎_elim
@@ -148,15 +145,15 @@ clear u a k =
     (le_or-lt (length u) (length (until 44 u)))
 
 -- A part from a place on whose key ends at a colon.
-module _ (bs : List ℕ) (from colon a : ℕ) (k : word_of (until 58 (drop from bs)) ≡ W.Is a) (q : colon ≡ from + length (until 58 (drop from bs))) where
-  pub at-end : from ≤ length bs → length bs ≤ colon → attribute_of (until 44 (drop from bs)) ≡ A.None
+module _ (bs : List ℕ) (from colon a : ℕ) (k : word_of (until 58 (drop from bs)) ≡ Some a) (q : colon ≡ from + length (until 58 (drop from bs))) where
+  pub at-end : from ≤ length bs → length bs ≤ colon → attribute_of (until 44 (drop from bs)) ≡ None
   unfolding Split
   at-end g h =
       let xs = drop from bs in
       let s = split xs (clear (until 58 xs) a k) in
       valueless (until 44 xs) (omega (arith, q, length-drop from bs, until-le 44 xs, ap length s.0))
 
-  pub at_value : colon < length bs → (attribute_of (until 44 (drop from bs)) ≡ both_of (W.Is a) (word_of (until 44 (drop (colon + 1) bs)))) × (from + length (until 44 (drop from bs)) ≡ colon + 1 + length (until 44 (drop (colon + 1) bs)))
+  pub at_value : colon < length bs → (attribute_of (until 44 (drop from bs)) ≡ both_of (Some a) (word_of (until 44 (drop (colon + 1) bs)))) × (from + length (until 44 (drop from bs)) ≡ colon + 1 + length (until 44 (drop (colon + 1) bs)))
   unfolding Split attribute_of
   at_value h =
       let xs = drop from bs in
@@ -167,9 +164,9 @@ module _ (bs : List ℕ) (from colon a : ℕ) (k : word_of (until 58 (drop from 
       let l : length u < length xs = omega (arith, q, length-drop from bs) in
       let v : drop (length (until 58 (until 44 xs)) + 1) (until 44 xs) ≡ until 44 (drop (colon + 1) bs) =
       ap (λ (x : List ℕ). drop (length x + 1) (until 44 xs)) s.0 ∙ ap (λ (i : ℕ). drop i (until 44 xs)) (add-one (length u)) ∙ s.1 ∙ ap (until 44) d in (
-        ap (λ (x : List ℕ). both_of (word_of (until 58 (until 44 xs))) (word_of x)) v ∙ ap (λ (w : Word). both_of w (word_of (until 44 (drop (colon + 1) bs)))) (ap word_of s.0 ∙ k),
+        ap (λ (x : List ℕ). both_of (word_of (until 58 (until 44 xs))) (word_of x)) v ∙ ap (λ (w : Option ℕ). both_of w (word_of (until 44 (drop (colon + 1) bs)))) (ap word_of s.0 ∙ k),
         omega (arith, q, s.2 l, ap (λ (x : List ℕ). length (until 44 x)) d),
       )
 
-pub parted-none : (u : List ℕ) (from : ℕ) (a : Attribute) (to : ℕ) → a ≡ A.None → to ≡ 0 → attribute_of u ≡ A.None → Parted u from a to
-parted-none u from a to p q k = (p ∙ sym k, q ∙ sym (ap (λ (x : Attribute). after x (from + length u)) p))
+pub parted-none : (u : List ℕ) (from : ℕ) (r : Option Part) → r ≡ None → attribute_of u ≡ None → Parted u from (attribute r) (part_end r)
+parted-none u from r p k = (ap attribute p ∙ sym k, ap part_end p ∙ sym (ap (λ (x : Option Part). after (attribute x) (from + length u)) p))

@@ -3,12 +3,15 @@ use Prim.Native.Nat.{ℕ, zero, suc, min, ◌+◌, ◌-◌, ◌≤◌, ◌<◌}
 use mathlib.Core.Path.{◌≡◌, refl, sym, ap, ◌∙◌}
 use mathlib.Core.Logic.{⊎_elim}
 use mathlib.Core.Bool.{Bool, true, false, not}
-use mathlib.Core.List.{List}
+use mathlib.Core.List.{List, ◌++◌}
 use native.Mathlib.Omega.{arith}
 use native.Mathlib.Nat.{add-zero}
 use native.Mathlib.Numerals.{add-one}
 use lib.Dec.{eqb}
-use lib.ListN.{get_or, set}
+use lib.ListN.{length, get_or, take, drop, set}
+use Rattle.std.proofs.lemmas.List.{length-take, length-drop, length-append, length-set, get_or-take, get_or-drop, get_or-append_right, get_or-set_same, get_or-set_other, ext_get_or}
+use Rattle.std.proofs.Math.ListN.{get_or-append}
+use Rattle.laws.proofs.Differences.{le_or-lt}
 use borrow.Author.Tests.{lt-ltb, le-ltb, eq-eqb, ne_eqb}
 use Rattle.laws.specs.Pick.{pick}
 use Rattle.laws.proofs.Bools.{flag, not-both, pick_true, pick-false}
@@ -26,6 +29,13 @@ in-none bs from = refl
 pub in-turn : (bs : List ℕ) (from i : ℕ) → newline_in bs from (i + 1) ≡ pick (eqb (get_or bs (from + i) 0) 10) true (newline_in bs from i)
 unfolding newline_in
 in-turn bs from i = ap (newline_in bs from) (add-one i)
+
+-- n bytes from a place on
+pub part-length : (bs : List ℕ) (from n : ℕ) → from + n ≤ length bs → length (take (from + n - from) (drop from bs)) ≡ n
+part-length bs from n h = omega (arith, length-take (from + n - from) (drop from bs), length-drop from bs)
+
+pub part-at : (bs : List ℕ) (from n i : ℕ) → i < n → get_or (take (from + n - from) (drop from bs)) i 0 ≡ get_or bs (from + i) 0
+part-at bs from n i h = get_or-take (from + n - from) (drop from bs) i 0 (omega arith) ∙ get_or-drop from bs i 0
 
 module _ (bs : List ℕ) (end : ℕ) where
   pub of-turn : (i : ℕ) → i < end → (get_or bs i 0 ≡ 10 → ⊥) → newline_of bs (i + 1) end ≡ newline_of bs i end
@@ -58,14 +68,74 @@ module _ (bs : List ℕ) (end : ℕ) where
       ∙ of-clear i n (omega arith) (sym (pick-false _ _ _ e) ∙ f))
       (flag (eqb (get_or bs (i + n) 0) 10))
 
+-- n bytes of the block in the line, as one copy puts them
 module _ (line : List ℕ) (len : ℕ) (bs : List ℕ) (from : ℕ) where
-  pub copied_none : line ≡ copied line len bs from 0
+  copied_length : (n : ℕ) → length (copied line len bs from n) ≡ length line
   unfolding copied
-  copied_none = refl
+  copied_length zero = refl
+  copied_length (suc n) = length-set (copied line len bs from n) (len + n) (get_or bs (from + n) 0) ∙ copied_length n
 
-  pub copied-turn : (i : ℕ) → set (copied line len bs from i) (len + i) (get_or bs (from + i) 0) ≡ copied line len bs from (i + 1)
+  copied_in : (n i : ℕ) → i < n → len + n ≤ length line → get_or (copied line len bs from n) (len + i) 0 ≡ get_or bs (from + i) 0
   unfolding copied
-  copied-turn i = ap (copied line len bs from) (sym (add-one i))
+  copied_in zero i h k = absurd (omega arith)
+  copied_in (suc n) i h k =
+      let v = get_or bs (from + n) 0 in
+      let l = copied_length n in
+      ⊎_elim
+      (λ (g : n ≤ i).
+      let e : i ≡ n = omega arith in
+      ap (λ (j : ℕ). get_or (set (copied line len bs from n) (len + n) v) (len + j) 0) e
+      ∙ get_or-set_same (copied line len bs from n) (len + n) v 0 (omega (arith, l))
+      ∙ ap (λ (j : ℕ). get_or bs (from + j) 0) (sym e))
+      (λ (g : i < n).
+      let e : len + i ≡ len + n → ⊥ = λ r. omega arith in
+      get_or-set_other (copied line len bs from n) (len + n) (len + i) v 0 e ∙ copied_in n i g (omega arith))
+      (le_or-lt n i)
+
+  copied_out : (n j : ℕ) → ((i : ℕ) → i < n → j ≡ len + i → ⊥) → get_or (copied line len bs from n) j 0 ≡ get_or line j 0
+  unfolding copied
+  copied_out zero j h = refl
+  copied_out (suc n) j h =
+      get_or-set_other (copied line len bs from n) (len + n) j (get_or bs (from + n) 0) 0 (h n (omega arith))
+      ∙ copied_out n j (λ i g. h i (omega arith))
+
+  pub copied-at_once : (n : ℕ) → len + n ≤ length line → from + n ≤ length bs
+      → take len line ++ (take (from + n - from) (drop from bs) ++ drop (len + n) line) ≡ copied line len bs from n
+  copied-at_once n h k =
+      let part = take (from + n - from) (drop from bs) in
+      let tail = drop (len + n) line in
+      let front = take len line in
+      let p = part-length bs from n k in
+      let q = copied_length n in
+      let f : length front ≡ len = omega (arith, length-take len line) in
+      let w = length-append front (part ++ tail) in
+      let x = length-append part tail in
+      let y = length-drop (len + n) line in
+      ext_get_or 0 _ _ (omega (arith, p, q, f, w, x, y))
+      (λ j l.
+      ⊎_elim
+      (λ (g : len ≤ j).
+      let i = j - len in
+      let e : len + i ≡ j = omega arith in
+      get_or-append_right front (part ++ tail) len j 0 f g
+      ∙ ⊎_elim
+      (λ (o : n ≤ i).
+      let v : len + n + (i - n) ≡ j = omega arith in
+      get_or-append_right part tail n i 0 p o
+      ∙ get_or-drop (len + n) line (i - n) 0
+      ∙ ap (λ (r : ℕ). get_or line r 0) v
+      ∙ sym (copied_out n j (λ a b t. omega arith)))
+      (λ (o : i < n).
+      get_or-append part tail 0 i (omega (arith, p))
+      ∙ part-at bs from n i o
+      ∙ sym (copied_in n i o h)
+      ∙ ap (λ (r : ℕ). get_or (copied line len bs from n) r 0) e)
+      (le_or-lt n i))
+      (λ (g : j < len).
+      get_or-append front (part ++ tail) 0 j (omega (arith, f))
+      ∙ get_or-take len line j 0 g
+      ∙ sym (copied_out n j (λ a b t. omega arith)))
+      (le_or-lt len j))
 
 -- What `take` computes, by the names of its code.
 module _ (p : Ports) (bs : List ℕ) (end at len stop n : ℕ) (e : end ≡ min p.end 65536) (a : at ≡ min p.at end) (l : len ≡ min p.len 256) (s : stop ≡ newline_of bs at end) (m : n ≡ min (stop - at) (256 - len)) where

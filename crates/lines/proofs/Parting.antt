@@ -3,6 +3,7 @@ use Prim.Native.Nat.{ℕ, suc, ◌+◌, ◌≤◌, ◌<◌}
 use mathlib.Core.Path.{◌≡◌, refl, sym, ap, ◌∙◌, subst}
 use mathlib.Core.Logic.{⊎_elim}
 use mathlib.Core.Bool.{Bool, true, false}
+use Rattle.std.specs.Prelude.{Option, Some, None}
 use mathlib.Core.List.{List, [], ◌∷◌}
 use native.Mathlib.Omega.{arith}
 use lib.Dec.{eqb}
@@ -12,12 +13,6 @@ use Rattle.laws.specs.Pick.{pick}
 use Rattle.laws.proofs.Differences.{le_or-lt}
 use Rattle.text.specs.Fields.{until}
 use Rattle.text.specs.Numbers.{decimal_of, ill_led}
-use Rattle.lines.specs.declared.attributes.Attribute.{Attribute}
-use Rattle.lines.specs.declared.attributes.Attribute.TheVariants as A
-use Rattle.lines.specs.declared.attributes.Word.{Word}
-use Rattle.lines.specs.declared.attributes.Word.TheVariants as W
-use Rattle.lines.specs.declared.attributes.Given.{Given}
-use Rattle.lines.specs.declared.attributes.Given.TheVariants as G
 use Rattle.lines.specs.Spelled.{both_of, attribute_of, first_more, parts, attributes_of, word_of, next, put, told, kept}
 
 last_step : (b : ℕ) (bs : List ℕ) → (length bs ≤ length (until 44 bs) → parts bs ≡ until 44 bs ∷ []) → (t : Bool) → suc (length bs) ≤ length (pick t [] (b ∷ until 44 bs)) → pick t ([] ∷ parts bs) (first_more b (parts bs)) ≡ pick t [] (b ∷ until 44 bs) ∷ []
@@ -46,7 +41,7 @@ parts_more [] h = absurd (omega arith)
 parts_more (b ∷ bs) h = more-step b bs (parts_more bs) (eqb b 44) h
 
 -- the attributes from a place on
-unfoldable pub from : List ℕ → ℕ → List Attribute
+unfoldable pub from : List ℕ → ℕ → List (Option (List ℕ))
 from bs i = attributes_of (parts (drop i bs))
 
 -- the part from i on ends at e
@@ -67,49 +62,49 @@ module _ (bs : List ℕ) (i e : ℕ) (q : e ≡ i + length (until 44 (drop i bs)
       ∙ ap (λ (r : List ℕ). attribute_of u ∷ attributes_of (parts r)) (drop-drop (suc (length u)) i bs ∙ ap (λ (n : ℕ). drop n bs) k)
 
 -- What is told, and what is kept, of attributes behind n others, given the first of them.
-abbrev pub Both : ℕ → List Attribute → List (List ℕ) → Given → List (List ℕ) → Type 0
+abbrev pub Both : ℕ → List (Option (List ℕ)) → List (List ℕ) → Option ℕ → List (List ℕ) → Type 0
 Both n more store g after = (told n more ≡ g) × (kept n more store ≡ after)
 
-first-none : (n : ℕ) (a : Attribute) (rest : List Attribute) (store : List (List ℕ)) → a ≡ A.None → Both n (a ∷ rest) store G.Unread store
+first-none : (n : ℕ) (a : Option (List ℕ)) (rest : List (Option (List ℕ))) (store : List (List ℕ)) → a ≡ None → Both n (a ∷ rest) store None store
 unfolding told kept
-first-none n a rest store p = (ap (λ (x : Attribute). told n (x ∷ rest)) p, ap (λ (x : Attribute). kept n (x ∷ rest) store) p)
+first-none n a rest store p = (ap (λ (x : Option (List ℕ)). told n (x ∷ rest)) p, ap (λ (x : Option (List ℕ)). kept n (x ∷ rest) store) p)
 
-first-is : (n : ℕ) (a : Attribute) (rest : List Attribute) (store : List (List ℕ)) (k v : ℕ) → a ≡ A.Is k v → Both n (a ∷ rest) store (told (next n) rest) (kept (next n) rest (put n (k ∷ v ∷ []) store))
+first-is : (n : ℕ) (a : Option (List ℕ)) (rest : List (Option (List ℕ))) (store : List (List ℕ)) (v : List ℕ) → a ≡ Some v → Both n (a ∷ rest) store (told (next n) rest) (kept (next n) rest (put n v store))
 unfolding told kept
-first-is n a rest store k v p = (ap (λ (x : Attribute). told n (x ∷ rest)) p, ap (λ (x : Attribute). kept n (x ∷ rest) store) p)
+first-is n a rest store v p = (ap (λ (x : Option (List ℕ)). told n (x ∷ rest)) p, ap (λ (x : Option (List ℕ)). kept n (x ∷ rest) store) p)
 
 -- the same of those from a place on
-pub none_here : (bs : List ℕ) (i n : ℕ) (store : List (List ℕ)) → attribute_of (until 44 (drop i bs)) ≡ A.None → Both n (from bs i) store G.Unread store
+pub none_here : (bs : List ℕ) (i n : ℕ) (store : List (List ℕ)) → attribute_of (until 44 (drop i bs)) ≡ None → Both n (from bs i) store None store
 none_here bs i n store p =
     let e = i + length (until 44 (drop i bs)) in
     ⊎_elim
-    (λ (l : length bs ≤ e). subst (λ (r : List Attribute). Both n r store G.Unread store) (sym (at_last bs i e refl l)) (first-none n _ [] store p))
-    (λ (l : e < length bs). subst (λ (r : List Attribute). Both n r store G.Unread store) (sym (at_more bs i e refl l)) (first-none n _ (from bs (e + 1)) store p))
+    (λ (l : length bs ≤ e). subst (λ (r : List (Option (List ℕ))). Both n r store None store) (sym (at_last bs i e refl l)) (first-none n _ [] store p))
+    (λ (l : e < length bs). subst (λ (r : List (Option (List ℕ))). Both n r store None store) (sym (at_more bs i e refl l)) (first-none n _ (from bs (e + 1)) store p))
     (le_or-lt (length bs) e)
 
-module _ (bs : List ℕ) (i e n : ℕ) (store : List (List ℕ)) (q : e ≡ i + length (until 44 (drop i bs))) (k v : ℕ) (p : attribute_of (until 44 (drop i bs)) ≡ A.Is k v) where
-  pub last-here : length bs ≤ e → Both n (from bs i) store (G.Are (next n)) (put n (k ∷ v ∷ []) store)
+module _ (bs : List ℕ) (i e n : ℕ) (store : List (List ℕ)) (q : e ≡ i + length (until 44 (drop i bs))) (v : List ℕ) (p : attribute_of (until 44 (drop i bs)) ≡ Some v) where
+  pub last-here : length bs ≤ e → Both n (from bs i) store (Some (next n)) (put n v store)
   unfolding told kept
   last-here l =
-      subst (λ (r : List Attribute). Both n r store (G.Are (next n)) (put n (k ∷ v ∷ []) store)) (sym (at_last bs i e q l)) (first-is n _ [] store k v p)
+      subst (λ (r : List (Option (List ℕ))). Both n r store (Some (next n)) (put n v store)) (sym (at_last bs i e q l)) (first-is n _ [] store v p)
 
-  pub more-here : e < length bs → Both n (from bs i) store (told (next n) (from bs (e + 1))) (kept (next n) (from bs (e + 1)) (put n (k ∷ v ∷ []) store))
+  pub more-here : e < length bs → Both n (from bs i) store (told (next n) (from bs (e + 1))) (kept (next n) (from bs (e + 1)) (put n v store))
   more-here l =
-      subst (λ (r : List Attribute). Both n r store (told (next n) (from bs (e + 1))) (kept (next n) (from bs (e + 1)) (put n (k ∷ v ∷ []) store))) (sym (at_more bs i e q l)) (first-is n _ (from bs (e + 1)) store k v p)
+      subst (λ (r : List (Option (List ℕ))). Both n r store (told (next n) (from bs (e + 1))) (kept (next n) (from bs (e + 1)) (put n v store))) (sym (at_more bs i e q l)) (first-is n _ (from bs (e + 1)) store v p)
 
-pub no_word : word_of [] ≡ W.None
+pub no_word : word_of [] ≡ None
 unfolding word_of decimal_of ill_led pick
 no_word = refl
 
-no_part : attribute_of [] ≡ A.None
+no_part : attribute_of [] ≡ None
 unfolding attribute_of until
-no_part = ap (λ (w : Word). both_of w (word_of [])) no_word
+no_part = ap (λ (w : Option ℕ). both_of w (word_of [])) no_word
 
 -- an empty part is no attribute
-pub none_left : (bs : List ℕ) (i n : ℕ) (store : List (List ℕ)) → length bs ≤ i → Both n (from bs i) store G.Unread store
+pub none_left : (bs : List ℕ) (i n : ℕ) (store : List (List ℕ)) → length bs ≤ i → Both n (from bs i) store None store
 unfolding from attributes_of parts
 none_left bs i n store h =
-    subst (λ (r : List ℕ). Both n (attributes_of (parts r)) store G.Unread store) (sym (drop_of_length-le bs h)) (first-none n (attribute_of []) [] store no_part)
+    subst (λ (r : List ℕ). Both n (attributes_of (parts r)) store None store) (sym (drop_of_length-le bs h)) (first-none n (attribute_of []) [] store no_part)
 
-pub kept_same : {m n : ℕ} {a b : List (List ℕ)} (rest : List Attribute) → m ≡ n → a ≡ b → kept m rest a ≡ kept n rest b
+pub kept_same : {m n : ℕ} {a b : List (List ℕ)} (rest : List (Option (List ℕ))) → m ≡ n → a ≡ b → kept m rest a ≡ kept n rest b
 kept_same {m} {n} {a} {b} rest p q = ap (λ (k : ℕ). kept k rest a) p ∙ ap (kept n rest) q

@@ -3,6 +3,7 @@ use Prim.Native.Nat.{ℕ, zero, suc, min, ◌+◌, ◌-◌, ◌*◌, ◌^◌, �
 use mathlib.Core.Path.{◌≡◌, refl, sym, ap, ◌∙◌}
 use mathlib.Core.Logic.{⊎_elim}
 use mathlib.Core.Bool.{Bool, true, false, not}
+use Rattle.std.specs.Prelude.{Option, Some, None}
 use mathlib.Core.List.{List, [], ◌∷◌}
 use native.Mathlib.Omega.{arith}
 use native.Mathlib.Nat.{pow-suc, pow-succ', pow-le-pow_right, mul_assoc, add-mul}
@@ -15,14 +16,12 @@ use Rattle.laws.proofs.Bools.{flag, not-both, pick_true, pick-false}
 use Rattle.laws.proofs.Differences.{le_or-lt}
 use Rattle.text.specs.Fields.{until}
 use Rattle.text.specs.Numbers.{digit_of, spelled_from, ill_led, decimal_of}
-use Rattle.std.specs.Prelude.{Option, Some, None}
 use Rattle.text.proofs.Spelling.{from-here}
 use Rattle.text.proofs.Splitting.{until-turn, until_stop, until_none, until-is}
 use Rattle.text.proofs.Pairing.{digit-zero, below-digits, above_decimals}
-use Rattle.lines.specs.declared.attributes.Word.{Word}
-use Rattle.lines.specs.declared.attributes.Word.TheVariants as W
 use Rattle.lines.specs.Spelled.{word_in, word_of}
-use Rattle.lines.specs.Scanned.{Says, Read, behind, Scanned}
+use Rattle.lines.specs.declared.attributes.Word.{Word}
+use Rattle.lines.specs.Scanned.{Says, Read, behind, word, word_end, Scanned}
 
 until-more : (m : ℕ) (bs : List ℕ) (i : ℕ) → i < length bs → (get_or bs i 0 ≡ m → ⊥) → until m (drop i bs) ≡ get_or bs i 0 ∷ until m (drop (i + 1) bs)
 unfolding until
@@ -33,11 +32,9 @@ unfolding spelled_from
 digit-says x b u h g = pick-false _ _ _ (lt-leb 10 (digit_of b) h) ∙ pick-false _ _ _ (lt-leb (2 ^ 64) (x * 10 + digit_of b) g)
 
 -- none yet
-pub says_none : (bs : List ℕ) (from : ℕ) → Says bs from 0 (from + 0)
+pub says_none : (bs : List ℕ) (from : ℕ) → Says bs from 0 from
 unfolding Says
-says_none bs from m q =
-    let e : from + 0 ≡ from = omega arith in
-    (ap (λ (n : ℕ). n + length (until m (drop n bs))) (sym e), ap (λ (n : ℕ). spelled_from 10 0 (until m (drop n bs))) (sym e))
+says_none bs from m q = (refl, refl)
 
 -- a digit more
 pub says-more : (bs : List ℕ) (from x j d : ℕ) → j < length bs → d ≡ digit_of (get_or bs j 0) → d < 10 → x * 10 + d < 2 ^ 64 → Says bs from x j → Says bs from (x * 10 + d) (j + 1)
@@ -78,17 +75,17 @@ run_fits x i d h l s =
     (omega (arith, r, l), omega (arith, m, l))
 
 -- Numbers that are no words.
-word-pick : (t : Bool) (n : Option ℕ) → word_in n ≡ W.None → word_in (pick t None n) ≡ W.None
+word-pick : (t : Bool) (n : Option ℕ) → word_in n ≡ None → word_in (pick t None n) ≡ None
 unfolding pick
 word-pick true n h = refl
 word-pick false n h = h
 
-large : (x : ℕ) (u : List ℕ) → 2 ^ 32 ≤ x → word_in (spelled_from 10 x u) ≡ W.None
+large : (x : ℕ) (u : List ℕ) → 2 ^ 32 ≤ x → word_in (spelled_from 10 x u) ≡ None
 unfolding spelled_from
 large x [] h = pick-false _ _ _ (le-ltb x (2 ^ 32) h)
 large x (b ∷ u) h = word-pick _ _ (word-pick _ _ (large (x * 10 + digit_of b) u (omega arith)))
 
-grown : (m x : ℕ) (u : List ℕ) → 10 ^ 10 ≤ x * 10 ^ m → m ≤ length u → word_in (spelled_from 10 x u) ≡ W.None
+grown : (m x : ℕ) (u : List ℕ) → 10 ^ 10 ≤ x * 10 ^ m → m ≤ length u → word_in (spelled_from 10 x u) ≡ None
 unfolding spelled_from
 grown zero x u h l = large x u (omega arith)
 grown (suc m) x [] h l = absurd (omega arith)
@@ -97,7 +94,7 @@ grown (suc m) x (b ∷ u) h l =
     let e : x * 10 ^ suc m ≡ x * 10 * p = ap (λ (n : ℕ). x * n) (pow-succ' 10 m) ∙ sym (mul_assoc x 10 p) in
     word-pick _ _ (word-pick _ _ (grown m (x * 10 + digit_of b) u (omega (arith, e, h, add-mul (x * 10) (digit_of b) p)) (omega arith)))
 
-pub led-none : (u : List ℕ) → ill_led u ≡ true → word_of u ≡ W.None
+pub led-none : (u : List ℕ) → ill_led u ≡ true → word_of u ≡ None
 unfolding word_of decimal_of
 led-none u h = ap word_in (pick_true (ill_led u) None (spelled_from 10 0 u) h)
 
@@ -105,7 +102,7 @@ pub word-is : (u : List ℕ) (n : Option ℕ) → ill_led u ≡ false → spelle
 unfolding word_of decimal_of
 word-is u n h e = ap word_in (pick-false (ill_led u) None (spelled_from 10 0 u) h ∙ e)
 
-pub none-spelled : (u : List ℕ) → word_in (spelled_from 10 0 u) ≡ W.None → word_of u ≡ W.None
+pub none-spelled : (u : List ℕ) → word_in (spelled_from 10 0 u) ≡ None → word_of u ≡ None
 unfolding word_of decimal_of
 none-spelled u h = word-pick (ill_led u) (spelled_from 10 0 u) h
 
@@ -116,14 +113,14 @@ zero_led b u h e =
     let z : suc (length u) ≡ 1 → ⊥ = λ r. omega arith in
     pick-false _ _ _ (ne_eqb (suc (length u)) 0 y) ∙ pick-false _ _ _ (ne_eqb (suc (length u)) 1 z) ∙ eq-eqb b 48 e
 
-led-by : (b : ℕ) (u : List ℕ) → 10 ≤ length u → (b ≡ 48 → ⊥) → word_in (spelled_from 10 0 (b ∷ u)) ≡ W.None
+led-by : (b : ℕ) (u : List ℕ) → 10 ≤ length u → (b ≡ 48 → ⊥) → word_in (spelled_from 10 0 (b ∷ u)) ≡ None
 unfolding spelled_from
 led-by b u h n =
     let d : 1 ≤ digit_of b = ⊎_elim (λ (l : 1 ≤ digit_of b). l) (λ (l : digit_of b < 1). let z : digit_of b ≡ 0 = omega arith in absurd (n (digit-zero b z))) (le_or-lt 1 (digit_of b)) in
     word-pick _ _ (word-pick _ _ (grown 10 (0 * 10 + digit_of b) u (omega arith) h))
 
 -- no number of eleven digits is a word
-long-none : (u : List ℕ) → 11 ≤ length u → word_of u ≡ W.None
+long-none : (u : List ℕ) → 11 ≤ length u → word_of u ≡ None
 long-none [] h = absurd (omega arith)
 long-none (b ∷ u) h =
     ⊎_elim
@@ -141,7 +138,7 @@ empty (b ∷ l) h = absurd (omega arith)
 
 -- What was read up to a place where a byte stands that is not the mark, is no word.
 module _ (bs : List ℕ) (from m x to : ℕ) (q : 10 ≤ digit_of m) (r : Read bs from (min (from + 10) (length bs)) x to) where
-  pub goes_none : 0 < length (until m (drop to bs)) → word_of (until m (drop from bs)) ≡ W.None
+  pub goes_none : 0 < length (until m (drop to bs)) → word_of (until m (drop from bs)) ≡ None
   unfolding Says
   goes_none h =
       let l : to < length bs = ⊎_elim (λ (g : length bs ≤ to). absurd (omega (arith, until_none m bs to g))) (λ (g : to < length bs). g) (le_or-lt (length bs) to) in
@@ -168,5 +165,6 @@ colon-mark = above_decimals 58 (lit< tt)
 pub comma-mark : 10 ≤ digit_of 44
 comma-mark = omega (arith, below-digits 44 (lit< tt))
 
-pub scanned-none : (u : List ℕ) (from : ℕ) (w : Word) (to : ℕ) → w ≡ W.None → to ≡ 0 → word_of u ≡ W.None → Scanned u from w to
-scanned-none u from w to p q k = (p ∙ sym k, q ∙ sym (ap (λ (x : Word). behind x (from + length u)) p))
+-- no number
+pub scanned-none : (u : List ℕ) (from : ℕ) (r : Option Word) → r ≡ None → word_of u ≡ None → Scanned u from (word r) (word_end r)
+scanned-none u from r p k = (ap word p ∙ sym k, ap word_end p ∙ sym (ap (λ (x : Option Word). behind (word x) (from + length u)) p))

@@ -1,54 +1,31 @@
 // Sets as they are spelled: KEY:VALUE joined by commas, `-` the empty one.
-ghost use Rattle.std.specs.Prelude.{◌≡◌, [], ◌∷◌, ◌+◌, ◌≤◌, min, ltb, length, drop};
+ghost use Rattle.std.specs.Prelude.{◌≡◌, ◌+◌, ◌≤◌, min, ltb, length, drop};
 ghost use Rattle.text.specs.Fields.{until};
 ghost use Rattle.text.specs.Numbers.{digit_of};
-ghost use Rattle.lines.specs.declared.attributes.Word.TheVariants as W;
-ghost use Rattle.lines.specs.declared.attributes.Attribute.TheVariants as Attr;
 ghost use Rattle.lines.specs.Spelled.{parts, attributes_of, is_dash, spelled, next, put, told, kept};
-ghost use Rattle.lines.specs.Scanned.{Read, Scanned, Parted};
+ghost use Rattle.lines.specs.Scanned.{Read, word, word_end, Scanned, attribute, part_end, Parted};
 
 // The attributes of a set, at most nine: one more than any call takes.
 pub type Attributes = [[u32; 2]; 9];
 
-// How many attributes a set has, 9 where there are more; or it can't be read.
-#[derive(Clone, Copy)]
-pub enum Given {
-    Unread,
-    Are(usize),
-}
-
-// A number below 2^32, or none.
-#[derive(Clone, Copy)]
-enum Word {
-    None,
-    Is(u32),
-}
-
-// A key and a value, or none.
-#[derive(Clone, Copy)]
-enum Attribute {
-    None,
-    Is(u32, u32),
-}
-
 // The digits from a place on: what they say, and where they end.
-#[derive(Clone, Copy)]
+#[derive(Clone, Copy, Debug, PartialEq, Eq)]
 struct Number {
     x: u64,
     to: usize,
 }
 
-// A number, and where the mark behind it stands.
-#[derive(Clone, Copy)]
-struct Scan {
-    word: Word,
+// A number below 2^32, and where the mark behind it stands.
+#[derive(Clone, Copy, Debug, PartialEq, Eq)]
+struct Word {
+    x: u32,
     to: usize,
 }
 
-// An attribute, and where its part ends.
-#[derive(Clone, Copy)]
+// A key and a value, and where their part ends.
+#[derive(Clone, Copy, Debug, PartialEq, Eq)]
 struct Part {
-    attribute: Attribute,
+    attribute: [u32; 2],
     to: usize,
 }
 
@@ -58,16 +35,13 @@ fn run(bytes: &[u8], from: usize, most: usize) -> Number
     ensures { Read bytes.now from (from + most) result.x result.to }
 {
     let mut x: u64 = 0;
-    let mut i: usize = 0;
-    while i < most {
-        let d = text::digit(bytes[from + i]);
-        if 9 < d {
-            return Number { x, to: from + i };
-        }
+    for i in from..from + most {
+        let Some(d) = text::digit(bytes[i]) else {
+            return Number { x, to: i };
+        };
         x = x * 10 + d;
-        i += 1;
     }
-    Number { x, to: from + i }
+    Number { x, to: from + most }
 }
 
 // The digits from a place on, ten of them where there are more: no number below 2^32 has eleven. Where ten bytes are left, how many turns
@@ -93,106 +67,68 @@ fn goes_on(bytes: &[u8], at: usize, mark: u8) -> bool
     false
 }
 
-// No number.
-fn no_word() -> Scan
-    ensures { (result.word ≡ W.None) × (result.to ≡ 0) }
-{
-    Scan {
-        word: Word::None,
-        to: 0,
-    }
-}
-
-// The number from a place up to a mark or the end.
-fn word_at(bytes: &[u8], from: usize, mark: u8) -> Scan
+// The number from a place up to a mark or the end, or none.
+fn word_at(bytes: &[u8], from: usize, mark: u8) -> Option<Word>
     requires { (from ≤ length bytes.now) × (10 ≤ digit_of mark) }
-    ensures { Scanned (until mark (drop from bytes.now)) from result.word result.to }
+    ensures { Scanned (until mark (drop from bytes.now)) from (word result) (word_end result) }
 {
-    let r = digits(bytes, from);
-    let to = r.to;
+    let Number { x, to } = digits(bytes, from);
     if goes_on(bytes, to, mark) {
-        return no_word();
+        return None;
     }
     if text::ill_led(&bytes[from..to]) {
-        return no_word();
+        return None;
     }
-    if 4294967296 <= r.x {
-        return no_word();
-    }
-    Scan {
-        word: Word::Is(r.x as u32),
-        to,
+    match u32::try_from(x) {
+        Ok(x) => Some(Word { x, to }),
+        Err(_) => None,
     }
 }
 
-// No attribute.
-fn no_attribute() -> Part
-    ensures { (result.attribute ≡ Attr.None) × (result.to ≡ 0) }
-{
-    Part {
-        attribute: Attribute::None,
-        to: 0,
-    }
-}
-
-// The attribute that the part from a place on spells.
-fn attribute_at(bytes: &[u8], from: usize) -> Part
+// The attribute that the part from a place on spells, or none.
+fn attribute_at(bytes: &[u8], from: usize) -> Option<Part>
     requires { from ≤ length bytes.now }
-    ensures { Parted (until 44 (drop from bytes.now)) from result.attribute result.to }
+    ensures { Parted (until 44 (drop from bytes.now)) from (attribute result) (part_end result) }
 {
-    let k = word_at(bytes, from, b':');
-    let key = k.word;
-    let colon = k.to;
-    let Word::Is(a) = key else {
-        return no_attribute();
-    };
-    if bytes.len() <= colon {
-        return no_attribute();
+    let key = word_at(bytes, from, b':')?;
+    if bytes.len() <= key.to {
+        return None;
     }
-    let v = word_at(bytes, colon + 1, b',');
-    let value = v.word;
-    let Word::Is(b) = value else {
-        return no_attribute();
-    };
-    Part {
-        attribute: Attribute::Is(a, b),
-        to: v.to,
-    }
+    let value = word_at(bytes, key.to + 1, b',')?;
+    Some(Part {
+        attribute: [key.x, value.x],
+        to: value.to,
+    })
 }
 
 // Keeps an attribute if there is a place for it; how many there are then.
-fn keep(attrs: &mut Attributes, n: usize, key: u32, value: u32) -> usize
+fn keep(attrs: &mut Attributes, n: usize, attribute: [u32; 2]) -> usize
     ensures value { result ≡ next n }
-    ensures attrs_after { attrs.new ≡ put n (key ∷ value ∷ []) attrs.old }
+    ensures attrs_after { attrs.new ≡ put n attribute attrs.old }
 {
     if n < 9 {
-        attrs[n] = [key, value];
+        attrs[n] = attribute;
         return n + 1;
     }
     n
 }
 
-// The attributes of a text that isn't `-`, one or more.
-fn several(bytes: &[u8], attrs: &mut Attributes) -> Given
+// The attributes of a text that isn't `-`, one or more: how many.
+fn several(bytes: &[u8], attrs: &mut Attributes) -> Option<usize>
     ensures value { result ≡ told 0 (attributes_of (parts bytes.now)) }
     ensures attrs_after { attrs.new ≡ kept 0 (attributes_of (parts bytes.now)) attrs.old }
 {
     let mut n: usize = 0;
     let mut i: usize = 0;
     while i < bytes.len() {
-        let p = attribute_at(bytes, i);
-        let a = p.attribute;
-        let e = p.to;
-        let Attribute::Is(key, value) = a else {
-            return Given::Unread;
-        };
-        n = keep(attrs, n, key, value);
-        if bytes.len() <= e {
-            return Given::Are(n);
+        let part = attribute_at(bytes, i)?;
+        n = keep(attrs, n, part.attribute);
+        if bytes.len() <= part.to {
+            return Some(n);
         }
-        i = e + 1;
+        i = part.to + 1;
     }
-    Given::Unread
+    None
 }
 
 fn is_dash(bytes: &[u8]) -> bool
@@ -204,13 +140,13 @@ fn is_dash(bytes: &[u8]) -> bool
     bytes[0] == b'-'
 }
 
-// The attributes that a text spells. Where a part is none, those before it are kept all the same.
-pub fn read(bytes: &[u8], attrs: &mut Attributes) -> Given
+// How many attributes a text spells, 9 where there are more; `None` where a part is none: those before it are kept all the same.
+pub fn read(bytes: &[u8], attrs: &mut Attributes) -> Option<usize>
     ensures value { result ≡ told 0 (spelled bytes.now) }
     ensures attrs_after { attrs.new ≡ kept 0 (spelled bytes.now) attrs.old }
 {
     if is_dash(bytes) {
-        return Given::Are(0);
+        return Some(0);
     }
     several(bytes, attrs)
 }

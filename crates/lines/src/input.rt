@@ -55,10 +55,8 @@ fn in_eight(block: &Block, from: usize) -> bool
     ensures { result ≡ newline_in block.now from 8 }
 {
     let mut found = false;
-    let mut i: usize = 0;
-    while i < 8 {
-        found = or_newline(found, block[from + i]);
-        i += 1;
+    for byte in &block[from..from + 8] {
+        found = or_newline(found, *byte);
     }
     found
 }
@@ -80,14 +78,12 @@ fn newline(block: &Block, from: usize, end: usize) -> usize
     requires { (from ≤ end) × (end ≤ 65536) }
     ensures { (from ≤ result) × (result ≤ end) × (result ≡ newline_of block.now from end) }
 {
-    let mut i = skipped(block, from, end);
-    while i < end {
+    for i in skipped(block, from, end)..end {
         if block[i] == b'\n' {
             return i;
         }
-        i += 1;
     }
-    i
+    end
 }
 
 // Copies n bytes of the block behind the first len of the line.
@@ -95,11 +91,7 @@ fn copy(block: &Block, from: usize, line: &mut Line, len: usize, n: usize)
     requires { (from + n ≤ 65536) × (len + n ≤ 256) }
     ensures { line.new ≡ copied line.old len block.now from n }
 {
-    let mut i: usize = 0;
-    while i < n {
-        line[len + i] = block[from + i];
-        i += 1;
-    }
+    line[len..len + n].copy_from_slice(&block[from..from + n]);
 }
 
 // Goes on with the line to its end or the block's. What a line has above 256 bytes is left out.

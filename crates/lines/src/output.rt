@@ -55,10 +55,8 @@ pub fn bytes(out: &Stdout, text: &mut Block, n: usize, all: &[u8]) -> usize
     ensures { waiting result text.new ≡ all.now behind waiting n text.old }
 {
     let mut m = n;
-    let mut i: usize = 0;
-    while i < all.len() {
-        m = byte(out, text, m, all[i]);
-        i += 1;
+    for b in all {
+        m = byte(out, text, m, *b);
     }
     m
 }

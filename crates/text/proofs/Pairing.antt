@@ -1,5 +1,6 @@
 -- Hexadecimal digits tested one by one, and taken two at a time. Assumes nothing.
-use Rattle.std.proofs.Common.{◌≡◌, ℕ, zero, suc, ◌+◌, ◌-◌, ◌*◌, ◌/◌, ◌%◌, ◌^◌, ◌<◌, ◌≤◌, Bool, true, false, ◌&&◌, ltb, leb, ◌⊎◌, List, [], ◌∷◌, length, get_or, drop, set, sym, refl, ap, ◌∙◌, subst, inl, inr, ⊎_elim, pow-suc, add-one, arith, lit<, drop_of_length-le, get_or-set_other, get_or-set_same, le-ltb, lt-ltb, le-leb, leb-true}
+use Rattle.std.proofs.Common.{Option, Some, None, ◌≡◌, ℕ, zero, suc, ◌+◌, ◌-◌, ◌*◌, ◌/◌, ◌%◌, ◌^◌, ◌<◌, ◌≤◌, Bool, true, false, ◌&&◌, ltb, leb, ◌⊎◌, List, [], ◌∷◌, length, get_or, drop, set, sym, refl, ap, ◌∙◌, subst, inl, inr, ⊎_elim, pow-suc, add-one, arith, lit<, drop_of_length-le, get_or-set_other, get_or-set_same, le-ltb, lt-ltb, le-leb, leb-true}
+use Rattle.std.proofs.lemmas.Option.{none-some}
 use mathlib.Core.Bool.{and-false}
 use native.Mathlib.Nat.{pow-le-pow_right}
 use borrow.Author.Tests.{lt-leb}
@@ -8,7 +9,6 @@ use Rattle.laws.proofs.Bools.{not-both, and_left, and_right, and_intro, pick_tru
 use Rattle.laws.proofs.Differences.{le_or-lt}
 use Rattle.text.specs.Numbers.{digit_of, spelled_from}
 use Rattle.text.specs.Pairs.{is_decimal, is_letter, are_hex, pair_of, Paired, joined_to}
-use Rattle.std.specs.Prelude.{Option, Some, None}
 use Rattle.text.proofs.Spelling.{from-here, next_digit}
 
 -- the n numbers from a to m, tested by a difference that wraps
@@ -92,27 +92,34 @@ digit-zero b h =
     (λ (k : b < 48). absurd (omega (arith, below-digits b k)))
     (le_or-lt 48 b)
 
+-- what stands in a `Some`
+abbrev pub got : Option ℕ → ℕ
+got None = 0
+got (Some x) = x
+
 -- what the code's digit is
-pub digit-none : (b : ℕ) → 10 ≤ digit_of b → 10 ≡ pick (ltb (digit_of b) 10) (digit_of b) 10
+pub digit-none : (b : ℕ) → 10 ≤ digit_of b → None ≡ pick (ltb (digit_of b) 10) (Some (digit_of b)) None
 digit-none b h = sym (pick-false _ _ _ (le-ltb (digit_of b) 10 h))
 
-pub digit-some : (b : ℕ) → 48 ≤ b → b ≤ 57 → b - 48 ≡ pick (ltb (digit_of b) 10) (digit_of b) 10
+pub digit-some : (b : ℕ) → 48 ≤ b → b ≤ 57 → Some (b - 48) ≡ pick (ltb (digit_of b) 10) (Some (digit_of b)) None
 digit-some b h g =
     let e = decimal_digit b h g in
-    sym (pick_true _ _ _ (lt-ltb (digit_of b) 10 (omega (arith, e))) ∙ e)
+    sym (pick_true _ _ _ (lt-ltb (digit_of b) 10 (omega (arith, e))) ∙ ap Some e)
 
-pub digit_low : (b d : ℕ) → d ≡ pick (ltb (digit_of b) 10) (digit_of b) 10 → d ≤ 9 → d ≡ digit_of b
-digit_low b d e h =
+pub digit_low : (b d : ℕ) → pick (ltb (digit_of b) 10) (Some (digit_of b)) None ≡ Some d → (d < 10) × (d ≡ digit_of b)
+digit_low b d e =
     ⊎_elim
-    (λ (l : 10 ≤ digit_of b). absurd (omega (arith, e ∙ pick-false _ _ _ (le-ltb (digit_of b) 10 l))))
-    (λ (l : digit_of b < 10). e ∙ pick_true _ _ _ (lt-ltb (digit_of b) 10 l))
+    (λ (l : 10 ≤ digit_of b). absurd (none-some d (digit-none b l ∙ e)))
+    (λ (l : digit_of b < 10).
+    let f = ap got (sym (pick_true _ _ _ (lt-ltb (digit_of b) 10 l)) ∙ e) in
+    (omega (arith, f), sym f))
     (le_or-lt 10 (digit_of b))
 
-pub digit-high : (b d : ℕ) → d ≡ pick (ltb (digit_of b) 10) (digit_of b) 10 → 9 < d → 10 ≤ digit_of b
-digit-high b d e h =
+pub digit-high : (b : ℕ) → pick (ltb (digit_of b) 10) (Some (digit_of b)) None ≡ None → 10 ≤ digit_of b
+digit-high b e =
     ⊎_elim
     (λ (l : 10 ≤ digit_of b). l)
-    (λ (l : digit_of b < 10). absurd (omega (arith, e ∙ pick_true _ _ _ (lt-ltb (digit_of b) 10 l))))
+    (λ (l : digit_of b < 10). absurd (none-some (digit_of b) (sym e ∙ pick_true _ _ _ (lt-ltb (digit_of b) 10 l))))
     (le_or-lt 10 (digit_of b))
 
 no-decimal : (b : ℕ) → is_decimal b ≡ false → 48 ≤ b → 57 < b

@@ -1,5 +1,5 @@
 -- Bits that are written are read back: the definitions of both ways agree. Assumes nothing.
-use Rattle.std.proofs.Common.{◌≡◌, ℕ, zero, suc, ◌+◌, ◌*◌, ◌/◌, ◌%◌, ◌^◌, ◌<◌, ◌≤◌, length, sym, refl, ap, ◌∙◌, subst, ⊎_elim, mod-lt, mod-eq_of_lt, mul_assoc, add-mul, le-mul_of_pos_right, arith, lit<, le-ltb, lt-ltb, eq-eqb, le-leb}
+use Rattle.std.proofs.Common.{Some, ◌≡◌, ℕ, zero, suc, ◌+◌, ◌*◌, ◌/◌, ◌%◌, ◌^◌, ◌<◌, ◌≤◌, length, sym, refl, ap, ◌∙◌, subst, ⊎_elim, mod-lt, mod-eq_of_lt, mul_assoc, add-mul, le-mul_of_pos_right, arith, lit<, le-ltb, lt-ltb, eq-eqb, le-leb}
 use native.Mathlib.Nat.{pow-succ', one-le-pow}
 use lib.Arith.{mod-mul}
 use borrow.Author.Tests.{lt-leb}
@@ -7,7 +7,6 @@ use Rattle.laws.specs.Pick.{pick}
 use Rattle.laws.proofs.Bools.{pick_true, pick-false}
 use Rattle.laws.proofs.Differences.{le_or-lt}
 use Rattle.text.specs.Numbers.{digit_of, spelled_from, bits_of, glyph_of, hex_digits}
-use Rattle.std.specs.Prelude.{Some}
 
 glyph_digit : (d : ℕ) → d < 16 → digit_of (glyph_of d) ≡ d
 unfolding digit_of glyph_of pick

@@ -1,11 +1,10 @@
 -- Digits read one after another, and written from the last on. Assumes nothing.
-use Rattle.std.proofs.Common.{◌≡◌, ℕ, suc, ◌+◌, ◌-◌, ◌*◌, ◌/◌, ◌%◌, ◌^◌, ◌<◌, ◌≤◌, true, false, List, [], ◌∷◌, length, get_or, drop, set, sym, refl, ap, ◌∙◌, div-lt_iff_lt-mul, pow-suc, le-div_iff_mul-le, add-one, arith, drop-cons, get_or-set_same, drop-set-lt, lt-length-set, le-leb}
+use Rattle.std.proofs.Common.{None, ◌≡◌, ℕ, suc, ◌+◌, ◌-◌, ◌*◌, ◌/◌, ◌%◌, ◌^◌, ◌<◌, ◌≤◌, true, false, List, [], ◌∷◌, length, get_or, drop, set, sym, refl, ap, ◌∙◌, div-lt_iff_lt-mul, pow-suc, le-div_iff_mul-le, add-one, arith, drop-cons, get_or-set_same, drop-set-lt, lt-length-set, le-leb}
 use native.Mathlib.Nat.{div-div-eq-div-mul}
 use borrow.Author.Tests.{lt-leb}
 use Rattle.laws.specs.Pick.{pick}
 use Rattle.laws.proofs.Bools.{not-both, pick_true, pick-false}
 use Rattle.text.specs.Numbers.{digit_of, spelled_from, has_minus, glyph_of, hex_digits}
-use Rattle.std.specs.Prelude.{None}
 
 -- the list from a place on, by the element there
 pub from-here : (i : ℕ) (bs : List ℕ) → i < length bs → drop i bs ≡ get_or bs i 0 ∷ drop (i + 1) bs

@@ -1,9 +1,8 @@
 -- How numbers are spelled. Document 01: 'decimals have no plus sign, leading zero or -0; bits use 0-9 and A-F', and 'f64 bits are
 -- written as 16 hexadecimal digits'. Bytes are ASCII. Assumes nothing.
-use Rattle.std.specs.Prelude.{ℕ, zero, suc, ◌+◌, ◌-◌, ◌*◌, ◌/◌, ◌%◌, ◌^◌, Bool, true, false, List, [], ◌∷◌, length, drop, ◌==◌, nat_le, nat_lt, slice_index, Option, Some, None}
+use Rattle.std.specs.Prelude.{ℕ, zero, suc, ◌+◌, ◌-◌, ◌*◌, ◌/◌, ◌%◌, ◌^◌, Bool, true, false, Option, Some, None, List, [], ◌∷◌, length, drop, ◌==◌, nat_le, nat_lt, slice_index}
 use Rattle.laws.specs.Pick.{pick}
 use Rattle.text.specs.declared.numbers.Integer.{Integer}
-use Rattle.text.specs.declared.numbers.Integer.TheVariants as I
 
 -- the digit that a byte is: 0-9 are the bytes 48 to 57, A-F are 65 to 70; 16 for every other byte
 unfoldable pub digit_of : ℕ → ℕ
@@ -30,16 +29,16 @@ bits_of bs = pick (length bs == 16) (spelled_from 16 0 bs) None
 unfoldable pub has_minus : List ℕ → Bool
 has_minus bs = pick (length bs == 0) false (slice_index bs 0 == 45)
 
-abbrev pub with_minus : Option ℕ → Integer
-with_minus None = I.None
-with_minus (Some x) = pick (x == 0) I.None (I.Is true x)
+abbrev pub with_minus : Option ℕ → Option Integer
+with_minus None = None
+with_minus (Some x) = pick (x == 0) None (Some (record { negative = true; size = x }))
 
-abbrev pub without_minus : Option ℕ → Integer
-without_minus None = I.None
-without_minus (Some x) = I.Is false x
+abbrev pub without_minus : Option ℕ → Option Integer
+without_minus None = None
+without_minus (Some x) = Some (record { negative = false; size = x })
 
 -- a decimal, or a minus sign and a decimal other than 0: whether there is a sign, and the decimal
-unfoldable pub signed_of : List ℕ → Integer
+unfoldable pub signed_of : List ℕ → Option Integer
 signed_of bs = pick (has_minus bs) (with_minus (decimal_of (drop 1 bs))) (without_minus (decimal_of bs))
 
 -- the byte of a digit below 16, and the last k hexadecimal digits of a number, the most significant first

@@ -6,7 +6,7 @@ ghost use Rattle.text.specs.Fields.{space, spaces_of, until, start_of, field_of}
 use crate::numbers::Integer;
 
 // Where a field starts and ends.
-#[derive(Clone, Copy)]
+#[derive(Clone, Copy, Debug, PartialEq, Eq)]
 pub struct Part {
     pub from: usize,
     pub to: usize,
@@ -82,9 +82,7 @@ pub fn decimal_at(line: &[u8], k: usize) -> Option<u64>
     ensures { result ≡ decimal_of (field_of line.now k) }
 {
     let p = field(line, k);
-    let a = p.from;
-    let e = p.to;
-    crate::numbers::decimal(&line[a..e])
+    crate::numbers::decimal(&line[p.from..p.to])
 }
 
 // The bits that field k spells in 16 hexadecimal digits, or none.
@@ -92,17 +90,13 @@ pub fn bits_at(line: &[u8], k: usize) -> Option<u64>
     ensures { result ≡ bits_of (field_of line.now k) }
 {
     let p = field(line, k);
-    let a = p.from;
-    let e = p.to;
-    crate::numbers::bits(&line[a..e])
+    crate::numbers::bits(&line[p.from..p.to])
 }
 
 // The signed number that field k spells in decimal, or none.
-pub fn signed_at(line: &[u8], k: usize) -> Integer
+pub fn signed_at(line: &[u8], k: usize) -> Option<Integer>
     ensures { result ≡ signed_of (field_of line.now k) }
 {
     let p = field(line, k);
-    let a = p.from;
-    let e = p.to;
-    crate::numbers::signed(&line[a..e])
+    crate::numbers::signed(&line[p.from..p.to])
 }

@@ -4,39 +4,31 @@ ghost use Rattle.laws.specs.Pick.{pick};
 ghost use Rattle.text.specs.Numbers.{digit_of, spelled_from, ill_led, decimal_of, bits_of, has_minus, with_minus, without_minus, signed_of};
 ghost use Rattle.text.specs.Pairs.{is_decimal, is_letter, are_hex, pair_of, Paired, joined_to};
 
-#[derive(Clone, Copy)]
-pub enum Integer {
-    None,
-    Is(bool, u64),
+// A number with its sign.
+#[derive(Clone, Copy, Debug, PartialEq, Eq)]
+pub struct Integer {
+    pub negative: bool,
+    pub size: u64,
 }
 
-// The value of a digit 0-9; 10 where the byte is none.
-pub fn digit(byte: u8) -> u64
-    ensures { result ≡ pick (nat_lt (digit_of byte) 10) (digit_of byte) 10 }
+// The value of a digit 0-9, or none.
+pub fn digit(byte: u8) -> Option<u64>
+    ensures { result ≡ pick (nat_lt (digit_of byte) 10) (Some (digit_of byte)) None }
 {
-    if byte < b'0' {
-        return 10;
+    match byte {
+        b'0'..=b'9' => Some((byte - b'0') as u64),
+        _ => None,
     }
-    if byte <= b'9' {
-        return (byte - b'0') as u64;
-    }
-    10
 }
 
-// The number that decimal digits spell.
+// The number that decimal digits spell, or none.
 fn spelled(bytes: &[u8]) -> Option<u64>
     ensures { result ≡ spelled_from 10 0 bytes.now }
 {
     let mut x: u64 = 0;
     for byte in bytes {
-        let d = digit(*byte);
-        if 9 < d {
-            return None;
-        }
-        if (u64::MAX - d) / 10 < x {
-            return None;
-        }
-        x = x * 10 + d;
+        let d = digit(*byte)?;
+        x = x.checked_mul(10)?.checked_add(d)?;
     }
     Some(x)
 }
@@ -55,7 +47,7 @@ pub fn ill_led(bytes: &[u8]) -> bool
     bytes[0] == b'0'
 }
 
-// A decimal up to 2^64 - 1.
+// A decimal up to 2^64 - 1, or none.
 pub fn decimal(bytes: &[u8]) -> Option<u64>
     ensures { result ≡ decimal_of bytes.now }
 {
@@ -140,7 +132,7 @@ fn joined(bytes: [u8; 8]) -> u64
     u64::from_be_bytes(bytes)
 }
 
-// 16 hexadecimal digits.
+// The number of 16 hexadecimal digits, or none.
 pub fn bits(bytes: &[u8]) -> Option<u64>
     ensures { result ≡ bits_of bytes.now }
 {
@@ -153,27 +145,27 @@ pub fn bits(bytes: &[u8]) -> Option<u64>
     None
 }
 
-fn with_minus(n: Option<u64>) -> Integer
+fn with_minus(n: Option<u64>) -> Option<Integer>
     ensures { result ≡ with_minus n }
 {
-    match n {
-        None => Integer::None,
-        Some(x) => {
-            if x == 0 {
-                return Integer::None;
-            }
-            Integer::Is(true, x)
-        }
+    let size = n?;
+    if size == 0 {
+        return None;
     }
+    Some(Integer {
+        negative: true,
+        size,
+    })
 }
 
-fn without_minus(n: Option<u64>) -> Integer
+fn without_minus(n: Option<u64>) -> Option<Integer>
     ensures { result ≡ without_minus n }
 {
-    match n {
-        None => Integer::None,
-        Some(x) => Integer::Is(false, x),
-    }
+    let size = n?;
+    Some(Integer {
+        negative: false,
+        size,
+    })
 }
 
 fn has_minus(bytes: &[u8]) -> bool
@@ -185,13 +177,12 @@ fn has_minus(bytes: &[u8]) -> bool
     bytes[0] == b'-'
 }
 
-// A decimal, or one other than 0 after a minus sign.
-pub fn signed(bytes: &[u8]) -> Integer
+// A decimal, or one other than 0 after a minus sign; or none.
+pub fn signed(bytes: &[u8]) -> Option<Integer>
     ensures { result ≡ signed_of bytes.now }
 {
     if has_minus(bytes) {
-        let n = bytes.len();
-        return with_minus(decimal(&bytes[1..n]));
+        return with_minus(decimal(&bytes[1..]));
     }
     without_minus(decimal(bytes))
 }

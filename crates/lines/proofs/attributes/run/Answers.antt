@@ -1,6 +1,6 @@
 -- `lines::attributes::run` meets its contract: the digits up to here say x. Assumes nothing.
-use Prim.Native.Nat.{ℕ, ◌+◌, ◌*◌, ◌<◌}
-use mathlib.Core.Path.{◌≡◌, subst}
+use Prim.Native.Nat.{ℕ, ◌+◌, ◌-◌, ◌*◌, ◌^◌, ◌<◌}
+use mathlib.Core.Path.{◌≡◌, sym, subst}
 use mathlib.Core.Logic.{inl, inr}
 use native.Mathlib.Omega.{arith}
 use lib.Dec.{lit<}
@@ -10,41 +10,34 @@ use Rattle.lines.proofs.Scanning.{says_none, says-more, run_fits}
 use Rattle.lines.proofs.attributes.run.Goals as goal
 
 pub loop-i-init : goal.loop-i-init
-loop-i-init c = (omega arith, lit< tt, says_none c.args.bytes.now c.args.from)
+loop-i-init c =
+    let z : c.args.from - c.args.from ≡ 0 = omega arith in
+    (subst (λ (n : ℕ). 0 < 10 ^ n) (sym z) (lit< tt), says_none c.args.bytes.now c.args.from)
 
-pub digit-d-requires : goal.digit-d-requires
-digit-d-requires c = tt
-
-pub returns-then-d-gt9 : goal.returns-then-d-gt9
-returns-then-d-gt9 c =
+pub returns-in_default : goal.returns-in_default
+returns-in_default c =
     let l = c.loop-i in
     record {
       low = omega arith;
       high = omega arith;
-      says = l.invariant.2;
-      stop = inl (digit-high _ _ c.digit-d.ensures c.if-d-gt9.true);
+      says = l.invariant.1;
+      stop = inl (digit-high _ (sym c.in_default.ensures));
     }
-
-pub overflow_mul-x : goal.overflow_mul-x
-overflow_mul-x c =
-    let l = c.loop-i in
-    omega (arith, (run_fits l.x l.i c.digit-d.result (omega arith) l.invariant.1 (omega (arith, c.if-d-gt9.false))).1)
 
 pub overflow_add-x : goal.overflow_add-x
 overflow_add-x c =
     let l = c.loop-i in
-    omega (arith, (run_fits l.x l.i c.digit-d.result (omega arith) l.invariant.1 (omega (arith, c.if-d-gt9.false))).1)
+    let d = digit_low _ c.in-Some.d (sym c.in-Some.ensures) in
+    omega (arith, (run_fits l.x (l.i - c.args.from) c.in-Some.d (omega arith) l.invariant.0 d.0).1)
 
 pub loop-i-preserved : goal.loop-i-preserved
 loop-i-preserved c =
     let l = c.loop-i in
     let a = c.args in
-    let bs = a.bytes.now in
-    let e : a.from + l.i + 1 ≡ a.from + (l.i + 1) = omega arith in
-    let h : c.digit-d.result < 10 = omega (arith, c.if-d-gt9.false) in
-    let s = digit_low _ c.digit-d.result c.digit-d.ensures (omega arith) in
-    let f = run_fits l.x l.i c.digit-d.result (omega arith) l.invariant.1 h in
-    (omega arith, f.0, subst (λ (n : ℕ). Says bs a.from (l.x * 10 + c.digit-d.result) n) e (says-more bs a.from l.x (a.from + l.i) c.digit-d.result (omega arith) s h f.1 l.invariant.2))
+    let d = digit_low _ c.in-Some.d (sym c.in-Some.ensures) in
+    let e : l.i - a.from + 1 ≡ l.i + 1 - a.from = omega arith in
+    let f = run_fits l.x (l.i - a.from) c.in-Some.d (omega arith) l.invariant.0 d.0 in
+    (subst (λ (n : ℕ). l.x * 10 + c.in-Some.d < 10 ^ n) e f.0, says-more a.bytes.now a.from l.x l.i c.in-Some.d (omega arith) d.1 d.0 f.1 l.invariant.1)
 
 pub returns : goal.returns
 returns c =
@@ -52,6 +45,6 @@ returns c =
     record {
       low = omega arith;
       high = omega arith;
-      says = l.invariant.2;
+      says = subst (λ (n : ℕ). Says c.args.bytes.now c.args.from l.x n) (omega arith) l.invariant.1;
       stop = inr (omega arith);
     }

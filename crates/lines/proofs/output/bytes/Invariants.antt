@@ -1,12 +1,8 @@
 -- `lines::output::bytes` meets its contract: what waits in the end is what the bytes left give from here. Assumes nothing.
-use Prim.Native.Nat.{◌-◌, ◌≤◌}
 use mathlib.Core.Path.{◌≡◌}
-use lib.ListN.{length, drop}
+use lib.ListN.{drop}
 use Rattle.lines.specs.Gathered.{◌behind◌}
 use Rattle.lines.proofs.output.bytes.Given as goal
 
-abbrev pub invariant-loop-i : goal.invariant-loop-i
-invariant-loop-i l = (l.i ≤ length l.all) × ((drop l.i l.all behind record { count = l.m; block = l.text }) ≡ (l.all behind record { count = l.n; block = l.initial.text }))
-
-abbrev pub decreases-loop-i : goal.decreases-loop-i
-decreases-loop-i l = length l.all - l.i
+abbrev pub invariant-loop-b : goal.invariant-loop-b
+invariant-loop-b l = (drop l.b-index l.all behind record { count = l.m; block = l.text }) ≡ (l.all behind record { count = l.n; block = l.initial.text })

@@ -1,8 +1,7 @@
 -- `text::numbers::bits` meets its contract. Assumes nothing.
-use Rattle.std.proofs.Common.{length, sym, ap, ◌∙◌, eq-eqb, ne_eqb}
+use Rattle.std.proofs.Common.{Some, length, sym, ap, ◌∙◌, eq-eqb, ne_eqb}
 use Rattle.laws.proofs.Bools.{pick_true, pick-false}
 use Rattle.text.specs.Numbers.{bits_of}
-use Rattle.std.specs.Prelude.{Some}
 use Rattle.text.proofs.Pairing.{hex-none, bits-joined}
 use Rattle.text.proofs.numbers.bits.Goals as goal
 

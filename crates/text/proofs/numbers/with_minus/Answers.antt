@@ -4,8 +4,11 @@ use Rattle.laws.proofs.Bools.{pick_true, pick-false}
 use Rattle.text.specs.Numbers.{with_minus}
 use Rattle.text.proofs.numbers.with_minus.Goals as goal
 
-pub returns-then-x-eq0 : goal.returns-then-x-eq0
-returns-then-x-eq0 c = sym (ap with_minus c.in-Some.is ∙ pick_true _ _ _ (eq-eqb _ 0 c.if-x-eq0.true))
+pub returns-in_err-size : goal.returns-in_err-size
+returns-in_err-size c = c.from_residual.ensures ∙ sym (ap with_minus c.in_err-size.was)
 
-pub returns-else-x-eq0 : goal.returns-else-x-eq0
-returns-else-x-eq0 c = sym (ap with_minus c.in-Some.is ∙ pick-false _ _ _ (ne_eqb _ 0 c.if-x-eq0.false))
+pub returns-then-size-eq0 : goal.returns-then-size-eq0
+returns-then-size-eq0 c = sym (ap with_minus c.in_ok-size.was ∙ pick_true _ _ _ (eq-eqb _ 0 c.if-size-eq0.true))
+
+pub returns : goal.returns
+returns c = sym (ap with_minus c.in_ok-size.was ∙ pick-false _ _ _ (ne_eqb _ 0 c.if-size-eq0.false))

@@ -1,7 +1,8 @@
 -- The gauge after a line, with every store. Document 01, "A run of the gauge program": 'It is delta, everything recorded, no filter. An
 -- accepted `e` starts anew', 'Accepted `e` and `r` lines print nothing', 'A line that it can't read, .. refused, before any accepted `e` ..
 -- prints `? N`'; and 'Every refusal changes nothing.' Assumes nothing.
-use Rattle.std.specs.Prelude.{ℕ, Bool, true, false, List, [], ◌∷◌, take, replicate, Float, Option, Some, None}
+use Rattle.std.specs.Prelude.{ℕ, Bool, true, false, List, [], ◌∷◌, take, replicate, Float, Some, None}
+use Rattle.std.specs.Prelude as Std
 use Rattle.std.proofs.Math.Option.{Option, none}
 use Rattle.std.specs.Float.{binary64}
 use Rattle.std.specs.Float.Ieee.{of_bits}
@@ -27,16 +28,23 @@ use Rattle.printing.specs.Printed.{collection_lines, unread_line}
 use Rattle.printing.specs.declared.Form.{Form}
 use Rattle.gauge_lines.specs.Lines.{settings_of, board_of, attributes_in, time_of, call_of}
 use Rattle.gauge_lines.specs.declared.cells.Gauge.{Gauge}
-use Rattle.gauge_lines.specs.declared.cells.Outcome.{Outcome}
-use Rattle.gauge_lines.specs.declared.collect.Collected.{Collected}
-use Rattle.gauge_lines.specs.declared.fields.Asked.{Asked}
-use Rattle.gauge_lines.specs.declared.fields.Asked.TheVariants as A
+use Rattle.gauge_lines.specs.declared.collect.Next.{Next}
 use Rattle.gauge_lines.specs.declared.fields.Board.{Board}
-use Rattle.gauge_lines.specs.declared.fields.Board.TheVariants as B
+use Rattle.gauge_lines.specs.declared.fields.Wanted.{Wanted}
 use Rattle.gauge_lines.specs.declared.fields.Call.{Call}
 use Rattle.gauge_lines.specs.declared.fields.Call.TheVariants as C
 
 -- ---- a line that prints nothing
+
+-- whether it was accepted, and the gauge after it, which a refusal leaves as it was
+pub record Outcome : Type 0 where
+  pub taken : Bool
+  pub gauge : Gauge
+
+-- as a call answers it that found the gauge g
+abbrev pub outcome : Gauge → Std.Option Gauge → Outcome
+outcome g None = record { taken = false; gauge = g }
+outcome g (Some h) = record { taken = true; gauge = h }
 
 -- what a line comes to, with the map's stores after it
 pub record After : Type 0 where
@@ -80,9 +88,9 @@ abbrev pub configured_by : Gauge → ℕ → Cells → Configuring Setup → Aft
 configured_by g start c x = after (begun_by g start x.answer) x.stores c
 
 -- 'everything recorded, no filter': with min, max and sum
-abbrev pub started_by : Gauge → Asked → Stores → Cells → After
-started_by g A.Unread s c = after (refused_of g) s c
-started_by g (A.Is w) s c = configured_by g w.start c (configured w.size w.scale true true w.limit none s c)
+abbrev pub started_by : Gauge → Std.Option Wanted → Stores → Cells → After
+started_by g None s c = after (refused_of g) s c
+started_by g (Some w) s c = configured_by g w.start c (configured w.size w.scale true true w.limit none s c)
 
 unfoldable pub after_start : Gauge → List ℕ → Stores → Cells → After
 after_start g bs s c = started_by g (settings_of bs) s c
@@ -97,11 +105,11 @@ abbrev pub measured_by : Gauge → Map.Outcome Cells → After
 measured_by g o = after (answered_by g o.answer o.held.kept.dir) o.held.kept.stores o.held.cells
 
 -- with the first n attributes of a store
-abbrev pub recorded_by : Gauge → Board → List (List ℕ) → Stores → Cells → After
-recorded_by g B.Unread attrs s c = after (refused_of g) s c
-recorded_by g (B.Is bits n) attrs s c =
+abbrev pub recorded_by : Gauge → Std.Option Board → List (List ℕ) → Stores → Cells → After
+recorded_by g None attrs s c = after (refused_of g) s c
+recorded_by g (Some b) attrs s c =
     measured_by g (measured (exponential_store g.settings.size g.settings.top) g.settings.limit none (held g.dir s c)
-    (of_bits binary64 bits) (given (take n attrs)))
+    (of_bits binary64 b.bits) (given (take b.many attrs)))
 
 -- nine attributes are kept of a set that has more: one more than any call takes
 unfoldable pub after_record : Gauge → List ℕ → Stores → Cells → After
@@ -117,6 +125,17 @@ pub record Followed : Type 0 where
   pub stores : Stores
   pub cells : Cells
   pub out : Output
+
+-- whether a line was accepted, the gauge after it, and how much text there is then
+pub record Collected : Type 0 where
+  pub taken : Bool
+  pub gauge : Gauge
+  pub text : ℕ
+
+-- as a call answers it that found the gauge g and n bytes of text
+abbrev pub collected : Gauge → ℕ → Std.Option Next → Collected
+collected g n None = record { taken = false; gauge = g; text = n }
+collected g n (Some r) = record { taken = true; gauge = r.gauge; text = r.text }
 
 -- as a contract writes it
 abbrev pub followed : Collected → List ℕ → Stores → Cells → Output → Followed
@@ -159,7 +178,7 @@ listed_by form g time t x =
 abbrev pub unfollowed : Gauge → Text → Stores → Cells → Output → Followed
 unfollowed g t s c o = record { taken = false; gauge = g; text = t; stores = s; cells = c; out = o }
 
-abbrev pub collected_by : Form → Gauge → Option ℕ → Text → Stores → Cells → Output → Followed
+abbrev pub collected_by : Form → Gauge → Std.Option ℕ → Text → Stores → Cells → Output → Followed
 collected_by form g None t s c o = unfollowed g t s c o
 collected_by form g (Some time) t s c o =
     listed_by form g time t (delta_collected (exponential_lister g.settings.size g.settings.top) (g.settings.extremes, g.settings.sums)
@@ -200,3 +219,7 @@ numbered number x =
 
 abbrev pub after_line : Form → ℕ → Gauge → List ℕ → Bool → Text → Stores → Cells → Output → Followed
 after_line form number g bs over t s c o = numbered number (after_call form g bs over t s c o)
+
+-- what is left of a line whose number was said, where it was refused
+abbrev pub told : Followed → Next → Collected
+told x r = record { taken = x.taken; gauge = r.gauge; text = r.text }

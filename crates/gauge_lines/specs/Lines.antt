@@ -6,18 +6,9 @@ use Rattle.laws.specs.Pick.{pick}
 use Rattle.text.specs.Numbers.{decimal_of, signed_of, bits_of}
 use Rattle.text.specs.Fields.{spaces_of, field_of}
 use Rattle.text.specs.declared.numbers.Integer.{Integer}
-use Rattle.text.specs.declared.numbers.Integer.TheVariants as I
 use Rattle.lines.specs.Spelled.{spelled, told, kept}
-use Rattle.lines.specs.declared.attributes.Given.{Given}
-use Rattle.lines.specs.declared.attributes.Given.TheVariants as G
-use Rattle.gauge_lines.specs.declared.fields.Size.{Size}
-use Rattle.gauge_lines.specs.declared.fields.Size.TheVariants as Z
-use Rattle.gauge_lines.specs.declared.fields.Scale.{Scale}
-use Rattle.gauge_lines.specs.declared.fields.Scale.TheVariants as S
-use Rattle.gauge_lines.specs.declared.fields.Asked.{Asked}
-use Rattle.gauge_lines.specs.declared.fields.Asked.TheVariants as A
 use Rattle.gauge_lines.specs.declared.fields.Board.{Board}
-use Rattle.gauge_lines.specs.declared.fields.Board.TheVariants as B
+use Rattle.gauge_lines.specs.declared.fields.Wanted.{Wanted}
 use Rattle.gauge_lines.specs.declared.fields.Call.{Call}
 use Rattle.gauge_lines.specs.declared.fields.Call.TheVariants as C
 
@@ -25,30 +16,30 @@ use Rattle.gauge_lines.specs.declared.fields.Call.TheVariants as C
 
 -- A SIZE above 999 can't be read, nor a SCALE above 999 or below -999. Configuring would refuse them (numbers 1 and 2): either way the line
 -- prints `? N` and changes nothing.
-abbrev pub size_in : Option ℕ → Size
-size_in None = Z.Unread
-size_in (Some x) = pick (leb x 999) (Z.Is x) Z.Unread
+abbrev pub size_in : Option ℕ → Option ℕ
+size_in None = None
+size_in (Some x) = pick (leb x 999) (Some x) None
 
 unfoldable pub with_sign : Bool → ℕ → ℤ
 with_sign negative x = pick negative (pos 0 -ℤ pos x) (pos x)
 
-abbrev pub scale_in : Integer → Scale
-scale_in I.None = S.Unread
-scale_in (I.Is negative x) = pick (leb x 999) (S.Is (with_sign negative x)) S.Unread
+abbrev pub scale_in : Option Integer → Option ℤ
+scale_in None = None
+scale_in (Some i) = pick (leb i.size 999) (Some (with_sign i.negative i.size)) None
 
 -- where all four can be read, and LIMIT is not above 30
-abbrev pub wanted_of : Size → Scale → Option ℕ → Option ℕ → Asked
-wanted_of Z.Unread scale limit start = A.Unread
-wanted_of (Z.Is n) S.Unread limit start = A.Unread
-wanted_of (Z.Is n) (S.Is z) None start = A.Unread
-wanted_of (Z.Is n) (S.Is z) (Some l) None = A.Unread
-wanted_of (Z.Is n) (S.Is z) (Some l) (Some t) = pick (leb l 30) (A.Is (record { size = n; scale = z; limit = l; start = t })) A.Unread
+abbrev pub wanted_of : Option ℕ → Option ℤ → Option ℕ → Option ℕ → Option Wanted
+wanted_of None scale limit start = None
+wanted_of (Some n) None limit start = None
+wanted_of (Some n) (Some z) None start = None
+wanted_of (Some n) (Some z) (Some l) None = None
+wanted_of (Some n) (Some z) (Some l) (Some t) = pick (leb l 30) (Some (record { size = n; scale = z; limit = l; start = t })) None
 
-unfoldable pub settings_of : List ℕ → Asked
+unfoldable pub settings_of : List ℕ → Option Wanted
 settings_of bs =
     pick (eqb (spaces_of bs) 4)
     (wanted_of (size_in (decimal_of (field_of bs 1))) (scale_in (signed_of (field_of bs 2))) (decimal_of (field_of bs 3)) (decimal_of (field_of bs 4)))
-    A.Unread
+    None
 
 -- ---- `r BITS SET`
 
@@ -60,17 +51,17 @@ parted bs = leb 20 (length bs) && eqb (get_or bs 18 0) 32
 abbrev pub bits_in : List ℕ → Option ℕ
 bits_in bs = bits_of (take 16 (drop 2 bs))
 
-abbrev pub set_in : List ℕ → Given
+abbrev pub set_in : List ℕ → Option ℕ
 set_in bs = told 0 (spelled (drop 19 bs))
 
-abbrev pub both_of : Given → Option ℕ → Board
-both_of G.Unread bits = B.Unread
-both_of (G.Are n) None = B.Unread
-both_of (G.Are n) (Some x) = B.Is x n
+abbrev pub both_of : Option ℕ → Option ℕ → Option Board
+both_of None bits = None
+both_of (Some n) None = None
+both_of (Some n) (Some x) = Some (record { bits = x; many = n })
 
 -- the bits, and how many attributes the set has
-unfoldable pub board_of : List ℕ → Board
-board_of bs = pick (parted bs) (both_of (set_in bs) (bits_in bs)) B.Unread
+unfoldable pub board_of : List ℕ → Option Board
+board_of bs = pick (parted bs) (both_of (set_in bs) (bits_in bs)) None
 
 -- the set's attributes in a store
 unfoldable pub attributes_in : List ℕ → List (List ℕ) → List (List ℕ)

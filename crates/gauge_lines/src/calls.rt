@@ -2,43 +2,33 @@
 ghost use Rattle.std.specs.Prelude.{◌≡◌, take};
 ghost use Rattle.directory.specs.View.{stores};
 ghost use Rattle.exponential_slots.specs.Cells.{cells};
-ghost use Rattle.bindings.specs.Calls as bindings-calls;
-ghost use Rattle.exponential_collection.specs.Configured.{said};
-ghost use Rattle.gauge_lines.specs.Followed.{after, begun_by, answered_by, after_start, after_record};
+ghost use Rattle.refusals.specs.Refusals.{said};
+ghost use Rattle.gauge_lines.specs.Followed.{outcome, after, begun_by, answered_by, after_start, after_record};
 
-use crate::cells::{
-    Counts, Entries, Extremes, Figures, Gauge, Order, Outcome, Sets, refused, with,
-};
-use crate::fields::{Asked, Board};
+use crate::cells::{Counts, Entries, Extremes, Figures, Gauge, Order, Sets, with};
+use crate::fields::Board;
 use bindings::Reply;
 use clock::Clock;
-use exponential_collection::Configured;
+use exponential_collection::Setup;
 use lines::attributes::Attributes;
+use refusals::Refusal;
 
-// A gauge with a map that was just configured; the one before where it was refused.
-fn begun(g: Gauge, c: Configured, start: u64) -> Outcome
-    ensures { result ≡ begun_by g start (said c) }
+// A gauge with a map that was just configured, or none where it was refused; g is the gauge before.
+fn begun(g: Gauge, c: Result<Setup, Refusal>, start: u64) -> Option<Gauge>
+    ensures { outcome g result ≡ begun_by g start (said c) }
 {
     match c {
-        Configured::Refused(no) => refused(g),
-        Configured::Accepted(setup) => {
-            let settings = setup.settings;
-            let dir = setup.dir;
-            let clock = Clock { start };
-            Outcome {
-                taken: true,
-                gauge: Gauge {
-                    running: true,
-                    settings,
-                    dir,
-                    clock,
-                },
-            }
-        }
+        Err(_) => None,
+        Ok(setup) => Some(Gauge {
+            running: true,
+            settings: setup.settings,
+            dir: setup.dir,
+            clock: Clock { start },
+        }),
     }
 }
 
-// Configures a map by a line `e`. A line that is refused leaves the map that is running.
+// Configures a map by a line `e`: the gauge with it. A line that is refused leaves the map that is running.
 pub fn start(
     g: Gauge,
     line: &[u8],
@@ -49,15 +39,13 @@ pub fn start(
     extremes: &Extremes,
     pos: &Counts,
     neg: &Counts,
-) -> Outcome
-    ensures { after result (stores sets.now entries.new order.now)
+) -> Option<Gauge>
+    ensures { after (outcome g result) (stores sets.now entries.new order.now)
         (cells figures.now extremes.now pos.now neg.now)
         ≡ after_start g line.now (stores sets.now entries.old order.now)
         (cells figures.now extremes.now pos.now neg.now) }
 {
-    let Asked::Is(w) = crate::fields::settings_in(line) else {
-        return refused(g);
-    };
+    let w = crate::fields::settings_in(line)?;
     let no_keys = [0u32; 1];
     let c = exponential_collection::configure(
         w.size, w.scale, true, true, w.limit, false, &no_keys, sets, entries, order, figures,
@@ -82,20 +70,17 @@ fn given<'a>(attrs: &'a Attributes, n: usize) -> &'a [[u32; 2]]
     given_of(attrs, n)
 }
 
-// The gauge after a recording.
-fn answered(g: Gauge, reply: Reply) -> Outcome
-    ensures { result ≡ answered_by g (bindings-calls.said reply.answer) reply.dir }
+// The gauge after a recording, or none where it was refused.
+fn answered(g: Gauge, reply: Reply) -> Option<Gauge>
+    ensures { outcome g result ≡ answered_by g (said reply.answer) reply.dir }
 {
-    let answer = reply.answer;
-    let dir = reply.dir;
-    match answer {
-        bindings::Answer::Refused(no) => refused(g),
-        bindings::Answer::Done => with(g, dir),
-        bindings::Answer::Handle(h) => with(g, dir),
+    match reply.answer {
+        Ok(_) => Some(with(g, reply.dir)),
+        Err(_) => None,
     }
 }
 
-// Records by a line `r`.
+// Records by a line `r`: the gauge after it, or none where it was refused.
 pub fn record(
     g: Gauge,
     line: &[u8],
@@ -106,16 +91,14 @@ pub fn record(
     extremes: &mut Extremes,
     pos: &mut Counts,
     neg: &mut Counts,
-) -> Outcome
-    ensures { after result (stores sets.new entries.new order.new)
+) -> Option<Gauge>
+    ensures { after (outcome g result) (stores sets.new entries.new order.new)
         (cells figures.new extremes.new pos.new neg.new)
         ≡ after_record g line.now (stores sets.old entries.old order.old)
         (cells figures.old extremes.old pos.old neg.old) }
 {
     let mut attrs = [[0u32; 2]; 9];
-    let Board::Is(bits, n) = crate::fields::board_in(line, &mut attrs) else {
-        return refused(g);
-    };
+    let Board { bits, many } = crate::fields::board_in(line, &mut attrs)?;
     let s = g.settings;
     let no_keys = [0u32; 1];
     let reply = value_map::exponential_map::measure(
@@ -131,7 +114,7 @@ pub fn record(
         pos,
         neg,
         floats::of_bits(bits),
-        given(&attrs, n),
+        given(&attrs, many),
         false,
         &no_keys,
     );

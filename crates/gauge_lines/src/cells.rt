@@ -1,7 +1,7 @@
 // The program's stores: 32 slots, for a limit of 30, and the empty and the overflow set; 160 counts of either sign a slot. The output has
 // as many places, so that no collection is refused for want of room.
 ghost use Rattle.std.specs.Prelude.{◌≡◌};
-ghost use Rattle.gauge_lines.specs.Followed.{unstarted, refused_of, taken_with};
+ghost use Rattle.gauge_lines.specs.Followed.{unstarted, running_with};
 
 use clock::Clock;
 use directory::Directory;
@@ -33,61 +33,35 @@ pub struct Gauge {
     pub clock: Clock,
 }
 
-// Whether a line was accepted, and the gauge after it.
-#[derive(Clone, Copy)]
-pub struct Outcome {
-    pub taken: bool,
-    pub gauge: Gauge,
-}
-
 // Before any line.
 pub fn idle() -> Gauge
     ensures { result ≡ unstarted }
 {
-    let settings = Settings {
-        size: 0,
-        top: 0,
-        extremes: false,
-        sums: false,
-        limit: 0,
-    };
-    let dir = Directory {
-        used: 0,
-        count: 0,
-        last: 0,
-    };
-    let clock = Clock { start: 0 };
     Gauge {
         running: false,
-        settings,
-        dir,
-        clock,
-    }
-}
-
-// The gauge after a line that was refused: as it was.
-pub fn refused(gauge: Gauge) -> Outcome
-    ensures { result ≡ refused_of gauge }
-{
-    Outcome {
-        taken: false,
-        gauge,
+        settings: Settings {
+            size: 0,
+            top: 0,
+            extremes: false,
+            sums: false,
+            limit: 0,
+        },
+        dir: Directory {
+            used: 0,
+            count: 0,
+            last: 0,
+        },
+        clock: Clock { start: 0 },
     }
 }
 
 // The gauge after a call that left the directory so.
-pub fn with(g: Gauge, dir: Directory) -> Outcome
-    ensures { result ≡ taken_with g dir }
+pub fn with(g: Gauge, dir: Directory) -> Gauge
+    ensures { result ≡ running_with g dir }
 {
-    let settings = g.settings;
-    let clock = g.clock;
-    Outcome {
-        taken: true,
-        gauge: Gauge {
-            running: true,
-            settings,
-            dir,
-            clock,
-        },
+    Gauge {
+        running: true,
+        dir,
+        ..g
     }
 }

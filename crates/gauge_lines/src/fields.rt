@@ -2,11 +2,11 @@
 ghost use Rattle.std.specs.Prelude.{◌≡◌, ◌≤◌};
 ghost use Rattle.gauge_lines.specs.Lines.{size_in, with_sign, scale_in, settings_of, board_of, attributes_in, time_of, letter_of, call_of};
 
-use lines::attributes::{Attributes, Given};
+use lines::attributes::Attributes;
 use text::Integer;
 
 // What a line asks for: there is no line; it can't be followed; a call.
-#[derive(Clone, Copy)]
+#[derive(Clone, Copy, Debug, PartialEq, Eq)]
 pub enum Call {
     None,
     Unread,
@@ -16,7 +16,7 @@ pub enum Call {
 }
 
 // What a line `e` asks for.
-#[derive(Clone, Copy)]
+#[derive(Clone, Copy, Debug, PartialEq, Eq)]
 pub struct Wanted {
     pub size: u32,
     pub scale: i32,
@@ -24,42 +24,22 @@ pub struct Wanted {
     pub start: u64,
 }
 
-#[derive(Clone, Copy)]
-pub enum Asked {
-    Unread,
-    Is(Wanted),
-}
-
 // What a line `r` brings: the value's bits, and how many attributes.
-#[derive(Clone, Copy)]
-pub enum Board {
-    Unread,
-    Is(u64, usize),
+#[derive(Clone, Copy, Debug, PartialEq, Eq)]
+pub struct Board {
+    pub bits: u64,
+    pub many: usize,
 }
 
 // A map's size; no size has more than three digits.
-#[derive(Clone, Copy)]
-enum Size {
-    Unread,
-    Is(u32),
-}
-
-#[derive(Clone, Copy)]
-enum Scale {
-    Unread,
-    Is(i32),
-}
-
-fn size_of(n: Option<u64>) -> Size
+fn size_of(n: Option<u64>) -> Option<u32>
     ensures { result ≡ size_in n }
 {
-    let Some(x) = n else {
-        return Size::Unread;
-    };
+    let x = n?;
     if x > 999 {
-        return Size::Unread;
+        return None;
     }
-    Size::Is(x as u32)
+    Some(x as u32)
 }
 
 // A number with its sign; no scale has more than three digits.
@@ -71,41 +51,31 @@ fn with_sign(negative: bool, size: u64) -> i32
     if negative { 0 - n } else { n }
 }
 
-fn scale_of(n: Integer) -> Scale
+fn scale_of(n: Option<Integer>) -> Option<i32>
     ensures { result ≡ scale_in n }
 {
-    let Integer::Is(negative, size) = n else {
-        return Scale::Unread;
-    };
+    let Integer { negative, size } = n?;
     if size > 999 {
-        return Scale::Unread;
+        return None;
     }
-    Scale::Is(with_sign(negative, size))
+    Some(with_sign(negative, size))
 }
 
 // The settings of a line `e`.
-pub fn settings_in(line: &[u8]) -> Asked
+pub fn settings_in(line: &[u8]) -> Option<Wanted>
     ensures { result ≡ settings_of line.now }
 {
     if text::spaces(line) != 4 {
-        return Asked::Unread;
+        return None;
     }
-    let Size::Is(size) = size_of(text::decimal_at(line, 1)) else {
-        return Asked::Unread;
-    };
-    let Scale::Is(scale) = scale_of(text::signed_at(line, 2)) else {
-        return Asked::Unread;
-    };
-    let Some(limit) = text::decimal_at(line, 3) else {
-        return Asked::Unread;
-    };
-    let Some(start) = text::decimal_at(line, 4) else {
-        return Asked::Unread;
-    };
+    let size = size_of(text::decimal_at(line, 1))?;
+    let scale = scale_of(text::signed_at(line, 2))?;
+    let limit = text::decimal_at(line, 3)?;
+    let start = text::decimal_at(line, 4)?;
     if limit > crate::cells::MOST_LIMIT {
-        return Asked::Unread;
+        return None;
     }
-    Asked::Is(Wanted {
+    Some(Wanted {
         size,
         scale,
         limit,
@@ -115,24 +85,19 @@ pub fn settings_in(line: &[u8]) -> Asked
 
 // The value and the set of a line `r`: bits have 16 digits, so both stand at their places. The set is read first, so that the bits need
 // not be kept while it is.
-pub fn board_in(line: &[u8], attrs: &mut Attributes) -> Board
+pub fn board_in(line: &[u8], attrs: &mut Attributes) -> Option<Board>
     ensures value { result ≡ board_of line.now }
     ensures attrs_after { attrs.new ≡ attributes_in line.now attrs.old }
 {
-    let n = line.len();
-    if n < 20 {
-        return Board::Unread;
+    if line.len() < 20 {
+        return None;
     }
     if line[18] != b' ' {
-        return Board::Unread;
+        return None;
     }
-    let Given::Are(many) = lines::attributes::read(&line[19..n], attrs) else {
-        return Board::Unread;
-    };
-    let Some(bits) = text::bits(&line[2..18]) else {
-        return Board::Unread;
-    };
-    Board::Is(bits, many)
+    let many = lines::attributes::read(&line[19..], attrs)?;
+    let bits = text::bits(&line[2..18])?;
+    Some(Board { bits, many })
 }
 
 // The time of a line `c`.

@@ -8,45 +8,21 @@ pub mod cells;
 mod collect;
 pub mod fields;
 
-ghost use Rattle.std.specs.Prelude.{◌≡◌, []};
-ghost use Rattle.laws.specs.Pick.{pick};
-ghost use Rattle.lines.specs.Gathered.{waiting, ◌behind◌};
+ghost use Rattle.std.specs.Prelude.{◌≡◌};
+ghost use Rattle.lines.specs.Gathered.{waiting};
 ghost use Rattle.directory.specs.View.{stores};
 ghost use Rattle.exponential_slots.specs.Cells.{cells as cells_in};
 ghost use Rattle.listing.specs.Listed.{output};
-ghost use Rattle.printing.specs.Printed.{unread_line};
-ghost use Rattle.gauge_lines.specs.Followed.{followed, after_call, after_line};
+ghost use Rattle.gauge_lines.specs.Followed.{collected, followed, told, after_call, after_line};
 
-use cells::{Counts, Entries, Extremes, Figures, Gauge, Order, Outcome, Sets, Words};
-use collect::Collected;
+use cells::{Counts, Entries, Extremes, Figures, Gauge, Order, Sets, Words};
+use collect::Next;
 use fields::Call;
 use lines::Block;
 use printing::Form;
 use std::io::{Stdin, Stdout};
 
-// What is said of a line: nothing where it was accepted. How much text there is then.
-fn said(out: &Stdout, taken: bool, number: u64, text: &mut Block, n: usize) -> usize
-    ensures { waiting result text.new ≡ pick taken [] (unread_line number) behind waiting n text.old }
-{
-    if taken {
-        return n;
-    }
-    printing::unread(out, text, n, number)
-}
-
-// What came of a line that printed nothing.
-fn silent(o: Outcome, text: usize) -> Collected
-    ensures { result ≡ record { taken = o.taken; gauge = o.gauge; text = text } }
-{
-    let gauge = o.gauge;
-    Collected {
-        taken: o.taken,
-        gauge,
-        text,
-    }
-}
-
-// Makes the call that a line asks for.
+// Makes the call that a line asks for; none where it can't be followed.
 fn make(
     out: &Stdout,
     form: Form,
@@ -66,29 +42,24 @@ fn make(
     out_words: &mut Words,
     out_pos: &mut Counts,
     out_neg: &mut Counts,
-) -> Collected
-    ensures { followed result text.new (stores sets.new entries.new order.new)
+) -> Option<Next>
+    ensures { followed (collected g n result) text.new (stores sets.new entries.new order.new)
         (cells_in figures.new extremes.new pos.new neg.new)
         (output out_sets.new out_words.new out_pos.new out_neg.new)
         ≡ after_call form g line.now over (waiting n text.old) (stores sets.old entries.old order.old)
         (cells_in figures.old extremes.old pos.old neg.old)
         (output out_sets.old out_words.old out_pos.old out_neg.old) }
 {
-    let call = fields::call_in(line, g.running, over);
-    match call {
-        Call::None => Collected {
-            taken: true,
-            gauge: g,
-            text: n,
-        },
-        Call::Unread => silent(cells::refused(g), n),
+    match fields::call_in(line, g.running, over) {
+        Call::None => Some(Next { gauge: g, text: n }),
+        Call::Unread => None,
         Call::Record => {
-            let o = calls::record(g, line, sets, entries, order, figures, extremes, pos, neg);
-            silent(o, n)
+            let gauge = calls::record(g, line, sets, entries, order, figures, extremes, pos, neg)?;
+            Some(Next { gauge, text: n })
         }
         Call::Start => {
-            let o = calls::start(g, line, sets, entries, order, figures, extremes, pos, neg);
-            silent(o, n)
+            let gauge = calls::start(g, line, sets, entries, order, figures, extremes, pos, neg)?;
+            Some(Next { gauge, text: n })
         }
         Call::Collect => collect::collect(
             out, form, g, line, text, n, sets, entries, order, figures, extremes, pos, neg,
@@ -118,8 +89,10 @@ fn follow(
     out_words: &mut Words,
     out_pos: &mut Counts,
     out_neg: &mut Counts,
-) -> Collected
-    ensures { followed result text.new (stores sets.new entries.new order.new)
+) -> Next
+    ensures { followed (told (after_line form number g line.now over (waiting n text.old) (stores sets.old entries.old order.old)
+        (cells_in figures.old extremes.old pos.old neg.old)
+        (output out_sets.old out_words.old out_pos.old out_neg.old)) result) text.new (stores sets.new entries.new order.new)
         (cells_in figures.new extremes.new pos.new neg.new)
         (output out_sets.new out_words.new out_pos.new out_neg.new)
         ≡ after_line form number g line.now over (waiting n text.old) (stores sets.old entries.old order.old)
@@ -130,11 +103,12 @@ fn follow(
         out, form, g, line, over, text, n, sets, entries, order, figures, extremes, pos, neg,
         out_sets, out_words, out_pos, out_neg,
     );
-    let gauge = made.gauge;
-    Collected {
-        taken: made.taken,
-        gauge,
-        text: said(out, made.taken, number, text, made.text),
+    match made {
+        Some(next) => next,
+        None => Next {
+            gauge: g,
+            text: printing::unread(out, text, n, number),
+        },
     }
 }
 
@@ -156,9 +130,10 @@ pub fn run(input: &Stdin, out: &Stdout, form: Form) {
     let mut out_neg = [0u64; 5120];
     let mut ports = lines::input::first();
     let mut gauge = cells::idle();
-    let mut number: u64 = 0;
-    while number < u64::MAX && !ports.over {
-        number += 1;
+    for number in 1..=u64::MAX {
+        if ports.over {
+            break;
+        }
         ports = lines::input::next(input, out, ports, &mut block, &mut line, &text);
         let done = follow(
             out,
@@ -181,8 +156,7 @@ pub fn run(input: &Stdin, out: &Stdout, form: Form) {
             &mut out_pos,
             &mut out_neg,
         );
-        let next = done.gauge;
-        gauge = next;
+        gauge = done.gauge;
         ports.waiting = done.text;
     }
     lines::output::write(out, &text, ports.waiting);

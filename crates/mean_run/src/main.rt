@@ -13,21 +13,19 @@
 mod fields;
 
 use exponential::Counts;
-use fields::{Common, Held};
+use fields::Held;
 use lines::{Block, output};
-use mean::Answer;
 use point::{Figures, Point};
+use refusals::Refusal;
 use rows::Row;
 use std::io::Stdout;
 
 fn point_of(held: Held, figures: Figures) -> Point {
-    let min = held.min;
-    let max = held.max;
     Point {
         figures,
         extremes: held.extremes,
-        min,
-        max,
+        min: held.min,
+        max: held.max,
         sum: held.sum,
     }
 }
@@ -72,50 +70,29 @@ fn counts_of(count: u64, level: u64, zeros: u64, first: u64, len: u64, neg: u64)
 
 // ---- answers
 
-fn unread(out: &Stdout, text: &mut Block, n: usize) -> usize {
-    output::byte(out, text, n, b'?')
-}
-
-fn refusal(out: &Stdout, text: &mut Block, n: usize, no: u8) -> usize {
+fn refusal(out: &Stdout, text: &mut Block, n: usize, no: Refusal) -> usize {
     let m = output::bytes(out, text, n, b"! ");
-    output::decimal(out, text, m, no as u64)
+    output::decimal(out, text, m, no.number() as u64)
 }
 
-// An answer behind n bytes of text; how many there are then.
-fn shown(out: &Stdout, text: &mut Block, n: usize, answer: Answer) -> usize {
-    match answer {
-        Answer::Refused(no) => refusal(out, text, n, no),
-        Answer::Mean(x) => output::signed(out, text, n, x),
-    }
-}
-
-// The answer to a line `x`.
-fn explicit_line(out: &Stdout, text: &mut Block, n: usize, line: &[u8]) -> usize {
+// The answer to a line `x`; none where it can't be read.
+fn explicit_line(line: &[u8]) -> Option<Result<i64, Refusal>> {
     if text::spaces(line) != 8 {
-        return unread(out, text, n);
+        return None;
     }
-    let Common::Is(held) = fields::held_in(line) else {
-        return unread(out, text, n);
-    };
-    let Some(bound) = text::bits_at(line, 6) else {
-        return unread(out, text, n);
-    };
-    let Some(first) = text::decimal_at(line, 7) else {
-        return unread(out, text, n);
-    };
-    let Some(second) = text::decimal_at(line, 8) else {
-        return unread(out, text, n);
-    };
+    let held = fields::held_in(line)?;
+    let bound = text::bits_at(line, 6)?;
+    let first = text::decimal_at(line, 7)?;
+    let second = text::decimal_at(line, 8)?;
     let bounds = [floats::of_bits(bound); 1];
     let pos = [first, second];
     let neg = [0u64; 1];
     let p = point_of(held, Figures::Explicit(held.count));
-    let answer = mean::hundredths(p, &bounds, &pos, &neg);
-    shown(out, text, n, answer)
+    Some(mean::hundredths(p, &bounds, &pos, &neg))
 }
 
 // The answer to a point whose positive row is `first` and then ones, and whose negative row is the count `below`.
-fn rows_answer(p: Point, first: u64, below: u64) -> Answer {
+fn rows_answer(p: Point, first: u64, below: u64) -> Result<i64, Refusal> {
     let bounds = [0.0f64; 1];
     let mut pos = [1u64; 200];
     pos[0] = first;
@@ -123,59 +100,51 @@ fn rows_answer(p: Point, first: u64, below: u64) -> Answer {
     mean::hundredths(p, &bounds, &pos, &neg)
 }
 
-// The answer to a line `e`.
-fn exponential_line(out: &Stdout, text: &mut Block, n: usize, line: &[u8]) -> usize {
+// The answer to a line `e`; none where it can't be read.
+fn exponential_line(line: &[u8]) -> Option<Result<i64, Refusal>> {
     if text::spaces(line) != 10 {
-        return unread(out, text, n);
+        return None;
     }
-    let Common::Is(held) = fields::held_in(line) else {
-        return unread(out, text, n);
-    };
-    let Some(level) = fields::level_at(line, 6) else {
-        return unread(out, text, n);
-    };
-    let Some(zeros) = text::decimal_at(line, 7) else {
-        return unread(out, text, n);
-    };
-    let Some(first) = text::decimal_at(line, 8) else {
-        return unread(out, text, n);
-    };
-    let Some(len) = fields::number_at(line, 9, 200) else {
-        return unread(out, text, n);
-    };
-    let Some(neg) = text::decimal_at(line, 10) else {
-        return unread(out, text, n);
-    };
+    let held = fields::held_in(line)?;
+    let level = fields::level_at(line, 6)?;
+    let zeros = text::decimal_at(line, 7)?;
+    let first = text::decimal_at(line, 8)?;
+    let len = fields::number_at(line, 9, 200)?;
+    let neg = text::decimal_at(line, 10)?;
     let counts = counts_of(held.count, level, zeros, first, len, neg);
     let p = point_of(held, Figures::Exponential(counts));
-    let answer = rows_answer(p, first, neg);
-    shown(out, text, n, answer)
+    Some(rows_answer(p, first, neg))
+}
+
+fn answer_to(line: &[u8]) -> Option<Result<i64, Refusal>> {
+    match fields::letter_in(line) {
+        b'x' => explicit_line(line),
+        b'e' => exponential_line(line),
+        _ => None,
+    }
 }
 
 // The answer to a line behind n bytes of text; how many there are then.
-fn answer_to(out: &Stdout, text: &mut Block, n: usize, line: &[u8]) -> usize {
-    let letter = fields::letter_in(line);
-    if letter == b'x' {
-        return explicit_line(out, text, n, line);
+fn answer(out: &Stdout, text: &mut Block, n: usize, line: &[u8]) -> usize {
+    match answer_to(line) {
+        Some(Ok(mean)) => output::signed(out, text, n, mean),
+        Some(Err(no)) => refusal(out, text, n, no),
+        None => output::byte(out, text, n, b'?'),
     }
-    if letter == b'e' {
-        return exponential_line(out, text, n, line);
-    }
-    unread(out, text, n)
 }
 
 // ---- the run
 
 // Whether there is no line: the input is over, and nothing stands behind its last newline.
 fn is_none(len: usize, over: bool) -> bool {
-    if len == 0 { over } else { false }
+    len == 0 && over
 }
 
 fn said(out: &Stdout, text: &mut Block, n: usize, line: &[u8], over: bool) -> usize {
     if is_none(line.len(), over) {
         return n;
     }
-    let m = answer_to(out, text, n, line);
+    let m = answer(out, text, n, line);
     output::byte(out, text, m, b'\n')
 }
 
@@ -187,8 +156,10 @@ fn main(rt: HostRuntime) {
     let mut text = [0u8; 65536];
     let mut line = [0u8; 256];
     let mut ports = lines::input::first();
-    let mut turns = u64::MAX;
-    while turns > 0 && !ports.over {
+    for _ in 0..u64::MAX {
+        if ports.over {
+            break;
+        }
         ports = lines::input::next(&input, &out, ports, &mut block, &mut line, &text);
         ports.waiting = said(
             &out,
@@ -197,7 +168,6 @@ fn main(rt: HostRuntime) {
             lines::input::front(&line, ports.len),
             ports.over,
         );
-        turns -= 1;
     }
     output::write(&out, &text, ports.waiting);
 }

@@ -16,7 +16,7 @@ ghost use Rattle.lines.specs.Gathered.{waiting, ◌behind◌};
 ghost use Rattle.lines.specs.Written.{decimal};
 ghost use Rattle.sets.specs.Rows.{pair, set_of};
 ghost use Rattle.point.specs.Handing.{stored_in};
-ghost use Rattle.mean.specs.Mean.{said};
+ghost use Rattle.refusals.specs.Refusals.{said};
 ghost use Rattle.listing.specs.Listed.{output as listed_in, row_at, bounds_at};
 ghost use Rattle.printing.specs.Fields.{each, joined, attribute_field, set_field, float_field, extreme_field, integer_field, row_field};
 ghost use Rattle.printing.specs.Printed.{held_fields, exponential_fields, explicit_fields, point_line, mean_fields, card_line, line_of};
@@ -24,12 +24,12 @@ ghost use Rattle.printing.specs.Printed.{line_at, next_at, collection_head, coll
 
 use lines::{Block, output};
 use listing::{Cursor, Entry};
-use mean::Answer;
 use point::{Figures, Point};
+use refusals::Refusal;
 use std::io::Stdout;
 
 // How a point is shown: by all that it has, or by its card.
-#[derive(Clone, Copy)]
+#[derive(Clone, Copy, Debug, PartialEq, Eq)]
 pub enum Form {
     Point,
     Card,
@@ -81,13 +81,11 @@ fn attribute(out: &Stdout, text: &mut Block, n: usize, word: u64) -> usize
 fn attributes(out: &Stdout, text: &mut Block, n: usize, row: [u64; 9]) -> usize
     ensures { waiting result text.new ≡ joined 44 (map attribute_field (take 8 (set_of row))) behind waiting n text.old }
 {
-    let many = row[8];
+    let many = row[8].min(8) as usize;
     let mut m = n;
-    let mut i: usize = 0;
-    while i < 8 && (i as u64) < many {
+    for (i, word) in row[..many].iter().enumerate() {
         let a = comma(out, text, m, i);
-        m = attribute(out, text, a, row[i]);
-        i += 1;
+        m = attribute(out, text, a, *word);
     }
     m
 }
@@ -136,10 +134,8 @@ fn extreme(out: &Stdout, text: &mut Block, n: usize, x: Option<f64>) -> usize
 fn held(out: &Stdout, text: &mut Block, n: usize, p: Point) -> usize
     ensures { waiting result text.new ≡ each 32 (held_fields p []) behind waiting n text.old }
 {
-    let min = p.min;
-    let max = p.max;
-    let a = extreme(out, text, n, min);
-    let b = extreme(out, text, a, max);
+    let a = extreme(out, text, n, p.min);
+    let b = extreme(out, text, a, p.max);
     bits(out, text, b, point::signed::sum_bits(p))
 }
 
@@ -147,11 +143,9 @@ pub fn counts(out: &Stdout, text: &mut Block, n: usize, row: &[u64]) -> usize
     ensures { waiting result text.new ≡ joined 44 (map decimal row.now) behind waiting n text.old }
 {
     let mut m = n;
-    let mut i: usize = 0;
-    while i < row.len() {
+    for (i, count) in row.iter().enumerate() {
         let a = comma(out, text, m, i);
-        m = output::decimal(out, text, a, row[i]);
-        i += 1;
+        m = output::decimal(out, text, a, *count);
     }
     m
 }
@@ -180,11 +174,9 @@ pub fn all_bits(out: &Stdout, text: &mut Block, n: usize, bounds: &[f64]) -> usi
     ensures { waiting result text.new ≡ joined 44 (map float_field bounds.now) behind waiting n text.old }
 {
     let mut m = n;
-    let mut i: usize = 0;
-    while i < bounds.len() {
+    for (i, bound) in bounds.iter().enumerate() {
         let a = comma(out, text, m, i);
-        m = output::bits(out, text, a, floats::bits_of(bounds[i]));
-        i += 1;
+        m = output::bits(out, text, a, floats::bits_of(*bound));
     }
     m
 }
@@ -266,17 +258,17 @@ fn point_line<'a>(
 }
 
 // A mean behind a space, or the number that refuses it behind its mark.
-fn mean_fields(out: &Stdout, text: &mut Block, n: usize, x: Answer) -> usize
+fn mean_fields(out: &Stdout, text: &mut Block, n: usize, x: Result<i64, Refusal>) -> usize
     ensures { waiting result text.new ≡ each 32 (mean_fields (said x)) behind waiting n text.old }
 {
     match x {
-        Answer::Mean(z) => {
+        Ok(z) => {
             let a = output::byte(out, text, n, b' ');
             output::signed(out, text, a, z)
         }
-        Answer::Refused(no) => {
+        Err(no) => {
             let a = output::bytes(out, text, n, b" !");
-            number(out, text, a, no as u64)
+            number(out, text, a, no.number() as u64)
         }
     }
 }
@@ -387,12 +379,10 @@ pub fn collection<'a>(
         neg: 0,
     };
     let mut done = Printed { n: m, at };
-    let mut i: usize = 0;
-    while i < many {
+    for _ in 0..many {
         done = point(
             out, text, done.n, form, done.at, sets, words, pos, neg, bounds,
         );
-        i += 1;
     }
     done.n
 }
@@ -446,10 +436,8 @@ pub fn values(
     ensures { waiting result text.new ≡ value_lines start time many sets.now values.now behind waiting n text.old }
 {
     let mut m = head(out, text, n, start, time, many as u64);
-    let mut i: usize = 0;
-    while i < many {
+    for i in 0..many {
         m = value(out, text, m, i, sets, values);
-        i += 1;
     }
     m
 }

@@ -1,6 +1,6 @@
 // A line read: its letter, and its fields as numbers. Lists of bounds and keys go to where they wait, attributes into their store.
 use lines::Line;
-use lines::attributes::{Attributes, Given};
+use lines::attributes::Attributes;
 use replay_batches::{Floats, Integers};
 use replay_state::stores::Bounds;
 use replay_state::{Fields, Keys, State, UNREAD, after, byte, within};
@@ -84,9 +84,7 @@ fn scale_of(line: &[u8], k: usize) -> Option<u64> {
     if byte_of(line, k) == b'-' {
         return Some(u64::MAX);
     }
-    let Integer::Is(negative, size) = text::signed_at(line, k) else {
-        return None;
-    };
+    let Integer { negative, size } = text::signed_at(line, k)?;
     if 128 < size {
         return None;
     }
@@ -110,9 +108,7 @@ fn cell_of(line: &[u8], k: usize, kind: u8) -> Option<u64> {
 
 // The two's complement of a decimal i64.
 fn whole_at(line: &[u8], k: usize) -> Option<u64> {
-    let Integer::Is(negative, size) = text::signed_at(line, k) else {
-        return None;
-    };
+    let Integer { negative, size } = text::signed_at(line, k)?;
     if !negative {
         return at_most(size, 0x7FFF_FFFF_FFFF_FFFF);
     }
@@ -266,9 +262,7 @@ fn set(line: &[u8], attrs: &mut Attributes) -> Option<u64> {
     let p = text::field(line, 2);
     let from = p.from;
     let n = line.len();
-    let Given::Are(many) = lines::attributes::read(&line[from..n], attrs) else {
-        return None;
-    };
+    let many = lines::attributes::read(&line[from..n], attrs)?;
     Some(many as u64)
 }
 

@@ -9,7 +9,7 @@ use Rattle.printing.proofs.Putting.{from_start, joined-turn, joined_end}
 use Rattle.printing.proofs.all_bits.Goals as goal
 
 pub loop-i-init : goal.loop-i-init
-loop-i-init c = (omega arith, from_start 44 (map float_field c.args.bounds.now) _)
+loop-i-init c = (from_start 44 (map float_field c.args.bounds.now) _)
 
 pub comma-a-requires : goal.comma-a-requires
 comma-a-requires c = tt
@@ -23,13 +23,11 @@ bits-m-requires c = tt
 pub loop-i-preserved : goal.loop-i-preserved
 unfolding float_field
 loop-i-preserved c =
-    let l = c.loop-i in (
-      omega arith,
-      joined-turn float_field c.args.bounds.now 44 l.i _ _ c.loop-i-test.true c.comma-a.ensures
-          (spelt (ap (hex_digits 16) c.bits_of.ensures) _ c.bits-m.ensures) ∙ l.invariant.1,
-    )
+    let l = c.loop-i in
+    joined-turn float_field c.args.bounds.now 44 l.i _ _ (omega arith) c.comma-a.ensures
+    (spelt (ap (hex_digits 16) c.bits_of.ensures) _ c.bits-m.ensures) ∙ l.invariant
 
 pub returns : goal.returns
 returns c =
     let l = c.loop-i in
-    sym (joined_end float_field c.args.bounds.now 44 l.i _ c.loop-i-test.false) ∙ l.invariant.1
+    sym (joined_end float_field c.args.bounds.now 44 l.i _ (omega arith)) ∙ l.invariant

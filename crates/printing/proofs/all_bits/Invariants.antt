@@ -10,8 +10,4 @@ use Rattle.printing.proofs.all_bits.Given as goal
 
 abbrev pub invariant-loop-i : goal.invariant-loop-i
 invariant-loop-i l =
-    (l.i ≤ length l.bounds)
-    × ((from 44 (map float_field l.bounds) l.i behind record { count = l.m; block = l.text }) ≡ (joined 44 (map float_field l.bounds) behind record { count = l.n; block = l.initial.text }))
-
-abbrev pub decreases-loop-i : goal.decreases-loop-i
-decreases-loop-i l = length l.bounds - l.i
+    ((from 44 (map float_field l.bounds) l.i behind record { count = l.m; block = l.text }) ≡ (joined 44 (map float_field l.bounds) behind record { count = l.n; block = l.initial.text }))

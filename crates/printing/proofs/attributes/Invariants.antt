@@ -10,9 +10,5 @@ use Rattle.printing.proofs.attributes.Given as goal
 
 abbrev pub invariant-loop-i : goal.invariant-loop-i
 invariant-loop-i l =
-    (l.i ≤ 8)
-    × ((from 44 (map attribute_field (eight l.row)) l.i behind record { count = l.m; block = l.text })
+    ((from 44 (map attribute_field (eight l.row)) l.i behind record { count = l.m; block = l.text })
     ≡ (joined 44 (map attribute_field (eight l.row)) behind record { count = l.n; block = l.initial.text }))
-
-abbrev pub decreases-loop-i : goal.decreases-loop-i
-decreases-loop-i l = 8 - l.i

@@ -19,7 +19,7 @@ loop-i-init c =
     let listed : Output = let a = c.args in output a.sets.now a.words.now a.pos.now a.neg.now in
     let printed : Cursor → List ℕ = λ at. line_at c.args.form at (listed) c.args.bounds.now in
     let next : Cursor → Cursor = λ at. next_at at (listed) in
-    (omega arith, lines_start (printed) (next) c.args.many _ _)
+    (lines_start (printed) (next) c.args.many _ _)
 
 pub point-done-requires : goal.point-done-requires
 point-done-requires c = tt
@@ -29,11 +29,9 @@ loop-i-preserved c =
     let listed : Output = let a = c.args in output a.sets.now a.words.now a.pos.now a.neg.now in
     let printed : Cursor → List ℕ = λ at. line_at c.args.form at (listed) c.args.bounds.now in
     let next : Cursor → Cursor = λ at. next_at at (listed) in
-    let l = c.loop-i in (
-      omega arith,
-      lines-turn (printed) (next) c.args.many l.done.at _ l.i c.point-done.result.at c.loop-i-test.true c.point-done.ensures.text_value c.point-done.ensures.at_value
-          ∙ l.invariant.1,
-    )
+    let l = c.loop-i in
+    lines-turn (printed) (next) c.args.many l.done.at _ l.i c.point-done.result.at (omega arith) c.point-done.ensures.text_value c.point-done.ensures.at_value
+    ∙ l.invariant
 
 pub returns : goal.returns
 unfolding collection_lines
@@ -44,4 +42,4 @@ returns c =
     let l = c.loop-i in
     let a = c.args in
     then (collection_head a.start a.time a.many) _ (waiting a.n a.text.now) c.head-m.ensures
-    (sym (lines_end (printed) (next) a.many l.done.at _ l.i c.loop-i-test.false) ∙ l.invariant.1)
+    (sym (lines_end (printed) (next) a.many l.done.at _ l.i (omega arith)) ∙ l.invariant)

@@ -7,7 +7,7 @@ use Rattle.printing.proofs.Putting.{from_start, joined-turn, joined_end}
 use Rattle.printing.proofs.counts.Goals as goal
 
 pub loop-i-init : goal.loop-i-init
-loop-i-init c = (omega arith, from_start 44 (map decimal c.args.row.now) _)
+loop-i-init c = (from_start 44 (map decimal c.args.row.now) _)
 
 pub comma-a-requires : goal.comma-a-requires
 comma-a-requires c = tt
@@ -18,9 +18,9 @@ decimal-m-requires c = tt
 pub loop-i-preserved : goal.loop-i-preserved
 loop-i-preserved c =
     let l = c.loop-i in
-    (omega arith, joined-turn decimal c.args.row.now 44 l.i _ 0 c.loop-i-test.true c.comma-a.ensures c.decimal-m.ensures ∙ l.invariant.1)
+    (joined-turn decimal c.args.row.now 44 l.i _ 0 (omega arith) c.comma-a.ensures c.decimal-m.ensures ∙ l.invariant)
 
 pub returns : goal.returns
 returns c =
     let l = c.loop-i in
-    sym (joined_end decimal c.args.row.now 44 l.i _ c.loop-i-test.false) ∙ l.invariant.1
+    sym (joined_end decimal c.args.row.now 44 l.i _ (omega arith)) ∙ l.invariant

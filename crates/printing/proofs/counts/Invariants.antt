@@ -11,8 +11,4 @@ use Rattle.printing.proofs.counts.Given as goal
 
 abbrev pub invariant-loop-i : goal.invariant-loop-i
 invariant-loop-i l =
-    (l.i ≤ length l.row)
-    × ((from 44 (map decimal l.row) l.i behind record { count = l.m; block = l.text }) ≡ (joined 44 (map decimal l.row) behind record { count = l.n; block = l.initial.text }))
-
-abbrev pub decreases-loop-i : goal.decreases-loop-i
-decreases-loop-i l = length l.row - l.i
+    ((from 44 (map decimal l.row) l.i behind record { count = l.m; block = l.text }) ≡ (joined 44 (map decimal l.row) behind record { count = l.n; block = l.initial.text }))

@@ -13,7 +13,7 @@ head-m-requires c = tt
 pub loop-i-init : goal.loop-i-init
 loop-i-init c =
     let a = c.args in
-    (omega arith, values-start a.many a.sets.now a.values.now _)
+    (values-start a.many a.sets.now a.values.now _)
 
 pub value-m-requires : goal.value-m-requires
 value-m-requires c = tt
@@ -21,10 +21,8 @@ value-m-requires c = tt
 pub loop-i-preserved : goal.loop-i-preserved
 loop-i-preserved c =
     let l = c.loop-i in
-    let a = c.args in (
-      omega arith,
-      values-turn a.many l.i a.sets.now a.values.now _ c.loop-i-test.true c.value-m.ensures ∙ l.invariant.1,
-    )
+    let a = c.args in
+    values-turn a.many l.i a.sets.now a.values.now _ (omega arith) c.value-m.ensures ∙ l.invariant
 
 pub returns : goal.returns
 unfolding value_lines
@@ -32,4 +30,4 @@ returns c =
     let l = c.loop-i in
     let a = c.args in
     then (collection_head a.start a.time a.many) _ (waiting a.n a.text.now) c.head-m.ensures
-    (sym (values-end a.many l.i a.sets.now a.values.now _ c.loop-i-test.false) ∙ l.invariant.1)
+    (sym (values-end a.many l.i a.sets.now a.values.now _ (omega arith)) ∙ l.invariant)

@@ -7,9 +7,5 @@ use Rattle.printing.proofs.values.Given as goal
 
 abbrev pub invariant-loop-i : goal.invariant-loop-i
 invariant-loop-i l =
-    (l.i ≤ l.many)
-    × ((values_from (l.many - l.i) l.i l.sets l.values behind record { count = l.m; block = l.text })
+    ((values_from (l.many - l.i) l.i l.sets l.values behind record { count = l.m; block = l.text })
     ≡ (values_from l.many 0 l.sets l.values behind record { count = l.initial.m; block = l.initial.text }))
-
-abbrev pub decreases-loop-i : goal.decreases-loop-i
-decreases-loop-i l = l.many - l.i

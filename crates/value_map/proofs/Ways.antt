@@ -1,6 +1,7 @@
 -- THE CODE'S WAY through a recording, for any kind: what a seating that the code came by allows, and that the kind's part and the end make
 -- the call's outcome. Assumes nothing.
 use Prim.Native.Nat.{ℕ}
+use Rattle.std.specs.Prelude.{Result, Ok, Err, IfOk}
 use mathlib.Core.Path.{◌≡◌, refl, ap, sym, subst, ◌∙◌}
 use mathlib.Core.Bool.{Bool, true, false, ◌&&◌}
 use mathlib.Core.List.{List}
@@ -18,6 +19,10 @@ use Rattle.directory.specs.View.{Stores}
 use Rattle.directory.specs.Calls.{most_sets, accepts, stores_suffice}
 use Rattle.directory.specs.declared.Directory.{Directory}
 use Rattle.directory.specs.declared.Target.{Target}
+use Rattle.directory.specs.declared.Target.TheVariants.{Disagrees}
+use Rattle.refusals.specs.declared.Refusal.{Refusal}
+use Rattle.refusals.specs.Refusals.{number, code}
+use Rattle.refusals.proofs.Numbers.{number-nonzero}
 use Rattle.bindings.specs.Calls as Bindings
 use Rattle.seats.specs.Seats.{seated, seated_by, barred_by, unless_barred, committed, Seating}
 use Rattle.seats.specs.Inner.{Fits}
@@ -25,7 +30,7 @@ use Rattle.seats.proofs.Bars.{Clear, clear, barred-on, not-barred}
 use Rattle.seats.proofs.Seatings.{Late, seat-late, by-late}
 use Rattle.value_map.specs.Store.{Store, Recording}
 use Rattle.value_map.specs.Calls.{Held, refused, beside, lent, entered, called}
-use Rattle.value_map.specs.Inner.{finished, Takes, taken}
+use Rattle.value_map.specs.Inner.{target_in, finished, Takes, taken}
 use Rattle.value_map.proofs.Owed.{Owed}
 use Rattle.value_map.proofs.Cases.{Seatable, set-seatable, by-seatable, entered-away, entered-refused, entered-done}
 
@@ -47,6 +52,17 @@ module _ (n : ℕ) (d : Directory) (s : Stores) (row : List ℕ) (t : Target) wh
   pub finish-done : n ≡ 0 → record { answer = success none; kept = committed d s row t } ≡ finished n d s row t
   unfolding finished pick
   finish-done e = rw (eq-eqb n 0 e)
+
+-- where the recording was refused, its target plays no part
+pub finish-at : (done : Result Target Refusal) (d : Directory) (s : Stores) (row : List ℕ) (t : Target) → IfOk done (λ (u : Target). u ≡ t)
+    → finished (code done) d s row (target_in done) ≡ finished (code done) d s row t
+finish-at (Ok u) d s row t i = ap (finished 0 d s row) i
+finish-at (Err e) d s row t i =
+    sym (finish-no (number e) d s row Disagrees (number-nonzero e)) ∙ finish-no (number e) d s row t (number-nonzero e)
+
+pub fits-done : (done : Result Target Refusal) (t : Target) (P : Target → Type 0) → IfOk done (λ (u : Target). u ≡ t) → (code done ≡ 0 → P t) → IfOk done P
+fits-done (Ok u) t P i f = subst P (sym i) (f refl)
+fits-done (Err e) t P i f = tt
 
 module _ {K : Kind} (S : Store K) (c : S.Cells) (v : K.Value) (n otherwise x : ℕ) (u : Bool) where
   pub take_no : (n ≡ 0 → ⊥) → record { no = otherwise; cells = c } ≡ taken S c v n otherwise x u

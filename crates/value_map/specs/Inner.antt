@@ -15,9 +15,9 @@ use Rattle.seats.specs.Seats.{committed}
 use Rattle.value_map.specs.Store.{Store, Recording}
 
 -- what is to be written, as a seating has it: nothing where the recording was refused
-abbrev pub target_of : Result Target Refusal → Target
-target_of (Ok t) = t
-target_of (Err e) = Disagrees
+abbrev pub target_in : Result Target Refusal → Target
+target_in (Ok t) = t
+target_in (Err e) = Disagrees
 
 -- the end of a recording: refused with a number, or written to the directory
 unfoldable pub finished : ℕ → Directory → Stores → List ℕ → Target → Bindings.Outcome

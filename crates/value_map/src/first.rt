@@ -7,7 +7,7 @@ ghost use Rattle.directory.specs.View.{stores};
 ghost use Rattle.bindings.specs.Calls.{gave};
 ghost use Rattle.seats.specs.Inner.{Fits};
 ghost use Rattle.value_map.specs.Calls.{begun};
-ghost use Rattle.value_map.specs.Inner.{target_of, finished};
+ghost use Rattle.value_map.specs.Inner.{target_in, finished};
 
 use bindings::Reply;
 use directory::{Directory, Target};
@@ -31,7 +31,7 @@ pub fn finish(
 ) -> Reply
     requires { IfOk done (λ t. Fits d (stores sets.old entries.old order.old) t) }
     ensures { gave result (stores sets.new entries.new order.new)
-        ≡ finished (code done) d (stores sets.old entries.old order.old) row.now (target_of done) }
+        ≡ finished (code done) d (stores sets.old entries.old order.old) row.now (target_in done) }
 {
     let target = match done {
         Ok(target) => target,

@@ -4,13 +4,13 @@ use Rattle.refusals.specs.Refusals.{said}
 use Rattle.explicit_slots.proofs.Enters.{first-never, first_law}
 use Rattle.explicit_slots.proofs.first.Goals as goal
 
-pub returns-in-Refused : goal.returns-in-Refused
-returns-in-Refused c =
+pub returns-in_err-head : goal.returns-in_err-head
+returns-in_err-head c =
     let a = c.args in
-    absurd (first-never a.bounds.now a.counts.now c.requires (said c.fresh-empty.result) c.fresh-empty.new.counts c.fresh-empty.ensures _ (ap said c.in-Refused.is))
+    absurd (first-never a.bounds.now a.counts.now c.requires (said c.fresh.result) c.fresh.new.counts c.fresh.ensures _ (ap said c.in_err-head.was))
 
-pub returns-in-Recorded : goal.returns-in-Recorded
-returns-in-Recorded c =
+pub returns : goal.returns
+returns c =
     let a = c.args in
     c.«record».ensures
-    ∙ first_law a.bounds.now a.counts.now c.requires (said c.fresh-empty.result) c.fresh-empty.new.counts c.fresh-empty.ensures _ a.v (ap said c.in-Recorded.is)
+    ∙ first_law a.bounds.now a.counts.now c.requires (said c.fresh.result) c.fresh.new.counts c.fresh.ensures _ a.v (ap said c.in_ok-head.was)

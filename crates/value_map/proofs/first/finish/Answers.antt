@@ -1,23 +1,36 @@
 -- `value_map::first::finish` meets its contract. Assumes nothing.
-use mathlib.Core.Path.{ap, ◌∙◌}
+use mathlib.Core.Path.{refl, ap, sym, ◌∙◌}
 use mathlib.Core.Option.{none}
+use Rattle.std.specs.Prelude.{Result}
+use Rattle.std.proofs.lemmas.Result.{IfOk-at_ok}
 use Rattle.laws.specs.Said.{success}
+use Rattle.refusals.specs.declared.Refusal.{Refusal}
+use Rattle.refusals.specs.Refusals.{number, code}
+use Rattle.refusals.proofs.Numbers.{number-nonzero}
 use Rattle.directory.specs.View.{Stores, stores}
 use Rattle.directory.specs.Calls.{Kept}
+use Rattle.directory.specs.declared.Target.{Target}
+use Rattle.directory.specs.declared.Target.TheVariants.{Disagrees}
+use Rattle.seats.specs.Inner.{Fits}
 use Rattle.bindings.specs.Calls.{Outcome}
+use Rattle.value_map.specs.Inner.{finished, target_in}
 use Rattle.value_map.proofs.Ways.{finish-no, finish-done}
 use Rattle.value_map.proofs.first.finish.Goals as goal
 
-pub returns-then-no-ne0 : goal.returns-then-no-ne0
-returns-then-no-ne0 c =
+pub returns-in-Err : goal.returns-in-Err
+returns-in-Err c =
     let lent : Stores = stores c.args.sets.now c.args.entries.now c.args.order.now in
-    finish-no c.args.no c.args.d (lent) c.args.row.now c.args.target c.if-no-ne0.true
+    finish-no (number c.in-Err.no) c.args.d (lent) c.args.row.now Disagrees (number-nonzero c.in-Err.no)
+    ∙ ap (λ (r : Result Target Refusal). finished (code r) c.args.d (lent) c.args.row.now (target_in r)) (sym c.in-Err.is)
 
 pub commit-e-requires : goal.commit-e-requires
-commit-e-requires c = c.requires c.if-no-ne0.false
+commit-e-requires c =
+    let lent : Stores = stores c.args.sets.now c.args.entries.now c.args.order.now in
+    IfOk-at_ok (Fits c.args.d (lent)) c.in-Ok.is c.requires
 
 pub returns : goal.returns
 returns c =
     let lent : Stores = stores c.args.sets.now c.args.entries.now c.args.order.now in
     ap {B = Outcome} (λ (x : Kept). record { answer = success none; kept = x }) c.commit-e.ensures
-    ∙ finish-done c.args.no c.args.d (lent) c.args.row.now c.args.target c.if-no-ne0.false
+    ∙ finish-done 0 c.args.d (lent) c.args.row.now c.in-Ok.target refl
+    ∙ ap (λ (r : Result Target Refusal). finished (code r) c.args.d (lent) c.args.row.now (target_in r)) (sym c.in-Ok.is)

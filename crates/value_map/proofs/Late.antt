@@ -2,7 +2,7 @@
 -- to a seating: the answers are those of `called`, which asks it with the limit and the filter. Assumes nothing.
 use Prim.Native.Nat.{ℕ, ◌≤◌, ◌<◌}
 use mathlib.Core.Path.{◌≡◌, refl, ap, sym, subst, ◌∙◌}
-use mathlib.Core.Logic.{⊎_elim}
+use mathlib.Core.Logic.{◌⊎◌, ⊎_elim}
 use mathlib.Core.Bool.{Bool, true, false, ◌&&◌}
 use mathlib.Core.List.{List}
 use native.Mathlib.Omega.{arith}
@@ -10,6 +10,9 @@ use lib.Dec.{leb, eqb}
 use borrow.Author.Tests.{eq-eqb, ne_eqb, le-leb, lt-leb}
 use Rattle.laws.specs.Pick.{pick}
 use Rattle.laws.proofs.Bools.{flag, pick_true, pick-false}
+use Rattle.refusals.specs.declared.Refusal.{Refusal}
+use Rattle.refusals.specs.declared.Refusal.TheVariants as R
+use Rattle.refusals.specs.Refusals.{number}
 use Rattle.tally.specs.Kind.{Kind}
 use Rattle.sets.specs.Sorted.{most_attributes}
 use Rattle.directory.specs.Calls.{stores_suffice}
@@ -87,6 +90,34 @@ module _ (p : Bool) (n : ℕ) where
   pub turned_8 : 7 ≤ n → n ≤ 9 → p ≡ false → 8 ≡ turned p n
   unfolding turned pick
   turned_8 a b e = rw (le-leb 7 n a, le-leb n 9 b, e)
+
+-- by the refusal itself
+module _ (p : Bool) where
+  pub turned-other : (e : Refusal) → (e ≡ R.NoHandle → ⊥) → (e ≡ R.Disagrees → ⊥) → (e ≡ R.Full → ⊥) → number e ≡ turned p (number e)
+  turned-other R.MaxSize a b c = turned-low p 1 (omega arith)
+  turned-other R.MaxScale a b c = turned-low p 2 (omega arith)
+  turned-other R.Bounds a b c = turned-low p 3 (omega arith)
+  turned-other R.Limit a b c = turned-low p 4 (omega arith)
+  turned-other R.Attributes a b c = turned-low p 5 (omega arith)
+  turned-other R.NotFinite a b c = turned-low p 6 (omega arith)
+  turned-other R.NoHandle a b c = absurd (a refl)
+  turned-other R.Disagrees a b c = absurd (b refl)
+  turned-other R.Full a b c = absurd (c refl)
+  turned-other R.NoRoom a b c = turned-high p 10 (omega arith)
+  turned-other R.Unlike a b c = turned-high p 11 (omega arith)
+  turned-other R.LentShort a b c = turned-high p 12 (omega arith)
+  turned-other R.NoValues a b c = turned-high p 13 (omega arith)
+  turned-other R.OffGrid a b c = turned-high p 14 (omega arith)
+  turned-other R.NotASheet a b c = turned-high p 15 (omega arith)
+  turned-other R.SumOutside a b c = turned-high p 16 (omega arith)
+
+  pub turned-late : (e : Refusal) → (e ≡ R.NoHandle) ⊎ ((e ≡ R.Disagrees) ⊎ (e ≡ R.Full)) → p ≡ false → 8 ≡ turned p (number e)
+  turned-late e i q =
+      ⊎_elim
+      (λ (i : e ≡ R.NoHandle). turned_8 p 7 (omega arith) (omega arith) q ∙ ap (λ (e : Refusal). turned p (number e)) (sym i))
+      (λ (i : (e ≡ R.Disagrees) ⊎ (e ≡ R.Full)). ⊎_elim
+      (λ (i : e ≡ R.Disagrees). turned_8 p 8 (omega arith) (omega arith) q ∙ ap (λ (e : Refusal). turned p (number e)) (sym i))
+      (λ (i : e ≡ R.Full). turned_8 p 9 (omega arith) (omega arith) q ∙ ap (λ (e : Refusal). turned p (number e)) (sym i)) i) i
 
 some_number : (n : ℕ) → (n ≡ 0 → ⊥) → (t q : Bool) → pick t (pick q n 8) n ≡ 0 → ⊥
 unfolding pick

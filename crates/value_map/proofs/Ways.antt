@@ -24,7 +24,9 @@ use Rattle.refusals.specs.declared.Refusal.{Refusal}
 use Rattle.refusals.specs.Refusals.{number, code}
 use Rattle.refusals.proofs.Numbers.{number-nonzero}
 use Rattle.bindings.specs.Calls as Bindings
-use Rattle.seats.specs.Seats.{seated, seated_by, barred_by, unless_barred, committed, Seating}
+use Rattle.seats.specs.declared.Seated.{Seated}
+use Rattle.rows.specs.Recording.{after}
+use Rattle.seats.specs.Seats.{seating, seated, seated_by, barred_by, unless_barred, committed, Seating}
 use Rattle.seats.specs.Inner.{Fits}
 use Rattle.seats.proofs.Bars.{Clear, clear, barred-on, not-barred}
 use Rattle.seats.proofs.Seatings.{Late, seat-late, by-late}
@@ -76,6 +78,21 @@ module _ {K : Kind} (S : Store K) (c : S.Cells) (v : K.Value) (n otherwise x : �
   -- a value that was taken was not refused before
   pub took : ((n ≡ 0 → ⊥) → otherwise ≡ 0 → ⊥) → (o : Recording S.Cells) → o ≡ taken S c v n otherwise x u → o.no ≡ 0 → n ≡ 0
   took f o e z = either n (λ (p : n ≡ 0). p) (λ d. absurd (f d (ap (λ (i : Recording S.Cells). i.no) (take_no d ∙ sym e) ∙ z)))
+
+module _ {K : Kind} (S : Store K) (c : S.Cells) (v : K.Value) where
+  -- by what the code found of the seat: n is what is said where it is refused
+  module _ (seat : Result Seated Refusal) (m : ℕ) where
+    pub seat-refused : (e : Refusal) (n : ℕ) → seat ≡ Err e → n ≡ m
+        → after n c ≡ taken S c v (seating seat).no m (seating seat).slot (seating seat).updated
+    seat-refused e n i p =
+        ap (λ (k : ℕ). after k c) p ∙ take_no S c v (number e) m 0 false (number-nonzero e)
+        ∙ ap (λ (r : Result Seated Refusal). taken S c v (seating r).no m (seating r).slot (seating r).updated) (sym i)
+
+    pub seat-held : (s : Seated) → seat ≡ Ok s
+        → S.recorded s.slot s.updated c v ≡ taken S c v (seating seat).no m (seating seat).slot (seating seat).updated
+    seat-held s i =
+        take_on S c v 0 m s.slot s.updated refl
+        ∙ ap (λ (r : Result Seated Refusal). taken S c v (seating r).no m (seating r).slot (seating r).updated) (sym i)
 
 -- ---- a call's way: how many attributes, whether configuring accepted the limit and the filter, the row, the seat
 

@@ -2,6 +2,9 @@
 use mathlib.Core.Path.{◌≡◌, refl, sym, ap, subst, ◌∙◌}
 use Rattle.kinds.specs.Wholes.{wholes}
 use Rattle.directory.specs.View.{stores}
+use Rattle.refusals.specs.Refusals.{code}
+use Rattle.seats.specs.Seats.{seating}
+use Rattle.seats.specs.Inner.{Fits}
 use Rattle.points.specs.Explicit.{bounds_pass}
 use Rattle.explicit_whole_slots.specs.Cells.{Cells, cells}
 use Rattle.value_map.specs.Store.{Store}
@@ -14,38 +17,39 @@ use Rattle.value_map.specs.Calls.{Held, held}
 use Rattle.whole_map.specs.Explicit.{explicit_wholes}
 use Rattle.value_map.specs.Inner.{Takes, taken, turned}
 use Rattle.value_map.proofs.Cases.{by-here}
-use Rattle.value_map.proofs.Ways.{took, Way, by_way, Sits, allows}
+use Rattle.value_map.proofs.Ways.{finish-at, fits-done, took, Way, by_way, Sits, allows}
 use Rattle.value_map.proofs.Late.{turned-some, late-ends}
 use Rattle.whole_map.proofs.ExplicitOwes.{passes-is, owed, bad_8}
 use Rattle.whole_map.proofs.explicit_map.measure_by.Goals as goal
 
-pub take-no-requires : goal.take-no-requires
-take-no-requires c =
+pub take-done-requires : goal.take-done-requires
+take-done-requires c =
     let kind : Store wholes = explicit_wholes c.args.bounds.now c.args.sums in
     let lent_map : Held Cells = let a = c.args in held a.d (stores a.sets.now a.entries.now a.order.now) (cells a.totals.now a.extremes.now a.counts.now) in
     let same-value : to_z w64 (of_z w64 c.args.v) ≡ c.args.v = Range.held c.args.v c.ranges.v in
     let way : Way (kind) c.args.limit (lent_map) = let a = c.args in by_way (owed a.bounds.now a.sums) a.limit (lent_map) a.h in
     let all-taken : c.takes-value.result ≡ wholes.finite c.args.v = c.takes-value.ensures ∙ ap wholes.finite (same-value) in
-    let known : Sits (kind) (lent_map) c.args.v c.seat_by-seat.result =
+    let known : Sits (kind) (lent_map) c.args.v (seating c.seat_by-seat.result) =
     let a = c.args in
     allows (owed a.bounds.now a.sums) a.limit (lent_map) a.v (way) 0 (c.slots_of-slots.ensures a.limit) (all-taken) c.seat_by-seat.ensures in
-    subst (λ (z : ℤ). Takes (kind) (lent_map).cells z c.seat_by-seat.result.no c.seat_by-seat.result.slot) (sym (same-value)) (known).takes
+    subst (λ (z : ℤ). Takes (kind) (lent_map).cells z (seating c.seat_by-seat.result).no (seating c.seat_by-seat.result).slot) (sym (same-value)) (known).takes
 
 pub finish-requires : goal.finish-requires
-finish-requires c z =
+finish-requires c =
     let kind : Store wholes = explicit_wholes c.args.bounds.now c.args.sums in
     let lent_map : Held Cells = let a = c.args in held a.d (stores a.sets.now a.entries.now a.order.now) (cells a.totals.now a.extremes.now a.counts.now) in
     let way : Way (kind) c.args.limit (lent_map) = let a = c.args in by_way (owed a.bounds.now a.sums) a.limit (lent_map) a.h in
     let same-value : to_z w64 (of_z w64 c.args.v) ≡ c.args.v = Range.held c.args.v c.ranges.v in
     let all-taken : c.takes-value.result ≡ wholes.finite c.args.v = c.takes-value.ensures ∙ ap wholes.finite (same-value) in
-    let known : Sits (kind) (lent_map) c.args.v c.seat_by-seat.result =
+    let known : Sits (kind) (lent_map) c.args.v (seating c.seat_by-seat.result) =
     let a = c.args in
     allows (owed a.bounds.now a.sums) a.limit (lent_map) a.v (way) 0 (c.slots_of-slots.ensures a.limit) (all-taken) c.seat_by-seat.ensures in
     let took_it : (
-    after c.take-no.result (record { totals = c.take-no.new.totals; extremes = c.take-no.new.extremes; counts = c.take-no.new.counts })
-    ≡ taken (kind) (lent_map).cells c.args.v c.seat_by-seat.result.no (turned (bounds_pass c.args.bounds.now) c.seat_by-seat.result.no) c.seat_by-seat.result.slot c.seat_by-seat.result.updated) = c.take-no.ensures ∙ ap (λ (z : ℤ). taken (kind) (lent_map).cells z c.seat_by-seat.result.no (turned (bounds_pass c.args.bounds.now) c.seat_by-seat.result.no) c.seat_by-seat.result.slot c.seat_by-seat.result.updated) (same-value) in
-    (known).fits (took (kind) (lent_map).cells c.args.v c.seat_by-seat.result.no (turned (bounds_pass c.args.bounds.now) c.seat_by-seat.result.no) c.seat_by-seat.result.slot c.seat_by-seat.result.updated
-    (turned-some (bounds_pass c.args.bounds.now) c.seat_by-seat.result.no) _ (took_it) z)
+    after (code c.take-done.result) (record { totals = c.take-done.new.totals; extremes = c.take-done.new.extremes; counts = c.take-done.new.counts })
+    ≡ taken (kind) (lent_map).cells c.args.v (seating c.seat_by-seat.result).no (turned (bounds_pass c.args.bounds.now) (seating c.seat_by-seat.result).no) (seating c.seat_by-seat.result).slot (seating c.seat_by-seat.result).updated) = c.take-done.ensures.value ∙ ap (λ (z : ℤ). taken (kind) (lent_map).cells z (seating c.seat_by-seat.result).no (turned (bounds_pass c.args.bounds.now) (seating c.seat_by-seat.result).no) (seating c.seat_by-seat.result).slot (seating c.seat_by-seat.result).updated) (same-value) in
+    fits-done c.take-done.result (seating c.seat_by-seat.result).target (Fits c.args.d (lent_map).kept.stores) c.take-done.ensures.target
+    (λ z. (known).fits (took (kind) (lent_map).cells c.args.v (seating c.seat_by-seat.result).no (turned (bounds_pass c.args.bounds.now) (seating c.seat_by-seat.result).no) (seating c.seat_by-seat.result).slot (seating c.seat_by-seat.result).updated
+    (turned-some (bounds_pass c.args.bounds.now) (seating c.seat_by-seat.result).no) _ (took_it) z))
 
 pub returns : goal.returns
 returns c =
@@ -54,15 +58,15 @@ returns c =
     let way : Way (kind) c.args.limit (lent_map) = let a = c.args in by_way (owed a.bounds.now a.sums) a.limit (lent_map) a.h in
     let same-value : to_z w64 (of_z w64 c.args.v) ≡ c.args.v = Range.held c.args.v c.ranges.v in
     let took_it : (
-    after c.take-no.result (record { totals = c.take-no.new.totals; extremes = c.take-no.new.extremes; counts = c.take-no.new.counts })
-    ≡ taken (kind) (lent_map).cells c.args.v c.seat_by-seat.result.no (turned (bounds_pass c.args.bounds.now) c.seat_by-seat.result.no) c.seat_by-seat.result.slot c.seat_by-seat.result.updated) = c.take-no.ensures ∙ ap (λ (z : ℤ). taken (kind) (lent_map).cells z c.seat_by-seat.result.no (turned (bounds_pass c.args.bounds.now) c.seat_by-seat.result.no) c.seat_by-seat.result.slot c.seat_by-seat.result.updated) (same-value) in
+    after (code c.take-done.result) (record { totals = c.take-done.new.totals; extremes = c.take-done.new.extremes; counts = c.take-done.new.counts })
+    ≡ taken (kind) (lent_map).cells c.args.v (seating c.seat_by-seat.result).no (turned (bounds_pass c.args.bounds.now) (seating c.seat_by-seat.result).no) (seating c.seat_by-seat.result).slot (seating c.seat_by-seat.result).updated) = c.take-done.ensures.value ∙ ap (λ (z : ℤ). taken (kind) (lent_map).cells z (seating c.seat_by-seat.result).no (turned (bounds_pass c.args.bounds.now) (seating c.seat_by-seat.result).no) (seating c.seat_by-seat.result).slot (seating c.seat_by-seat.result).updated) (same-value) in
     let all-taken : c.takes-value.result ≡ wholes.finite c.args.v = c.takes-value.ensures ∙ ap wholes.finite (same-value) in
-    let known : Sits (kind) (lent_map) c.args.v c.seat_by-seat.result =
+    let known : Sits (kind) (lent_map) c.args.v (seating c.seat_by-seat.result) =
     let a = c.args in
     allows (owed a.bounds.now a.sums) a.limit (lent_map) a.v (way) 0 (c.slots_of-slots.ensures a.limit) (all-taken) c.seat_by-seat.ensures in
     let a = c.args in
     let b = a.bounds.now in
-    late-ends (owed b a.sums) a.limit (lent_map) a.v (way) (bounds_pass b) (passes-is b a.sums) c.seat_by-seat.result _ _ _ c.finish.ensures (took_it)
+    late-ends (owed b a.sums) a.limit (lent_map) a.v (way) (bounds_pass b) (passes-is b a.sums) (seating c.seat_by-seat.result) _ _ _ (c.finish.ensures ∙ finish-at c.take-done.result _ _ _ _ c.take-done.ensures.target) (took_it)
     (c.slots_of-slots.ensures a.limit) (all-taken) c.seat_by-seat.ensures (λ z. refl)
-    (λ i z. let m = (known).takes z in bad_8 b a.sums (lent_map).cells c.seat_by-seat.result.slot c.seat_by-seat.result.updated a.v m.0 m.1 i)
+    (λ i z. let m = (known).takes z in bad_8 b a.sums (lent_map).cells (seating c.seat_by-seat.result).slot (seating c.seat_by-seat.result).updated a.v m.0 m.1 i)
     ∙ by-here (kind) a.limit (lent_map) a.v a.h

@@ -10,4 +10,4 @@ pub returns : goal.returns
 returns c =
     let a = c.args in
     start_is (explicit_wholes a.bounds.now a.sums) a.limit (filter_of a.present a.filter.now) (stores a.sets.now a.entries.now a.order.now)
-    (cells a.totals.now a.extremes.now a.counts.now) _ c.unset_of-no.ensures c.cells_suffice-room.ensures c.begin.ensures
+    (cells a.totals.now a.extremes.now a.counts.now) _ c.unset_of-unset.ensures c.cells_suffice-room.ensures c.begin.ensures

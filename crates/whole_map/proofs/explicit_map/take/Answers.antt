@@ -1,34 +1,39 @@
 -- `whole_map::explicit_map::take` meets its contract. Assumes nothing.
 use Prim.Native.Nat.{ℕ}
-use mathlib.Core.Path.{ap, ◌∙◌}
+use mathlib.Core.Path.{◌≡◌, sym, ap, ◌∙◌}
+use Rattle.std.specs.Prelude.{Result}
+use Rattle.std.proofs.Common.{rules}
 use Rattle.points.specs.Explicit.{bounds_pass}
-use Rattle.explicit_whole_slots.specs.Cells.{Cells, cells, recorded_at}
-use Rattle.rows.specs.Recording.{after}
+use Rattle.refusals.specs.declared.Refusal.{Refusal}
+use Rattle.refusals.specs.Refusals.{number, code}
 use Rattle.integers.proofs.Range.{held}
+use Rattle.rows.specs.Recording.{after}
+use Rattle.seats.specs.declared.Seated.{Seated}
+use Rattle.seats.specs.Seats.{seating}
+use Rattle.explicit_whole_slots.specs.Cells.{Cells, cells, recorded_at}
 use Rattle.whole_map.specs.Explicit.{explicit_wholes}
 use Rattle.value_map.specs.Inner.{turned}
-use Rattle.value_map.proofs.Ways.{take_no, take_on}
+use Rattle.value_map.proofs.Ways.{seat-refused, seat-held}
 use Rattle.whole_map.proofs.explicit_map.take.Goals as goal
 
-pub returns-then-no-ne0 : goal.returns-then-no-ne0
-returns-then-no-ne0 c =
-    let lent : Cells = let a = c.args in cells a.totals.now a.extremes.now a.counts.now in
-    let number : ℕ = turned (bounds_pass c.args.bounds.now) c.args.no in
+pub returns-in-Err-clause-value : goal.returns-in-Err-clause-value
+returns-in-Err-clause-value c =
     let a = c.args in
-    ap (λ (n : ℕ). after n (lent)) c.turned_by.ensures
-    ∙ take_no (explicit_wholes a.bounds.now a.sums) (lent) a.v a.no (number) a.x a.updated c.if-no-ne0.true
+    let lent : Cells = cells a.totals.now a.extremes.now a.counts.now in
+    seat-refused (explicit_wholes a.bounds.now a.sums) (lent) a.v a.seat (turned (bounds_pass a.bounds.now) (seating a.seat).no) c.in-Err.no (number c.turned_by.result) c.in-Err.is
+    (c.turned_by.ensures ∙ ap (λ (r : Result Seated Refusal). turned (bounds_pass a.bounds.now) (seating r).no) (sym c.in-Err.is))
 
-pub record-requires : goal.record-requires
-record-requires c =
-    let m = c.requires c.if-no-ne0.false in
-    let r = m.0 in
-    (r.totals, r.extremes, r.counts)
-
-pub returns : goal.returns
-returns c =
-    let lent : Cells = let a = c.args in cells a.totals.now a.extremes.now a.counts.now in
-    let number : ℕ = turned (bounds_pass c.args.bounds.now) c.args.no in
+pub returns-in_err-record-in-Ok-clause-value : goal.returns-in_err-record-in-Ok-clause-value
+returns-in_err-record-in-Ok-clause-value c =
     let a = c.args in
-    c.«record».ensures
-    ∙ ap (recorded_at a.bounds.now a.sums a.x a.updated (lent)) (held a.v c.ranges.v)
-    ∙ take_on (explicit_wholes a.bounds.now a.sums) (lent) a.v a.no (number) a.x a.updated c.if-no-ne0.false
+    let lent : Cells = cells a.totals.now a.extremes.now a.counts.now in
+    let no : code c.from_residual.result ≡ number c.in_err-record-in-Ok.field-0.0 = search rules in
+    ap (λ (n : ℕ). after n (cells c.«record».new.totals c.«record».new.extremes c.«record».new.counts)) (no)
+    ∙ c.in_err-record-in-Ok.ensures ∙ ap (recorded_at a.bounds.now a.sums c.in-Ok.s.slot c.in-Ok.s.updated (lent)) (held a.v c.ranges.v)
+    ∙ seat-held (explicit_wholes a.bounds.now a.sums) (lent) a.v a.seat (turned (bounds_pass a.bounds.now) (seating a.seat).no) c.in-Ok.s c.in-Ok.is
+
+pub returns-in_ok-record-in-Ok-clause-value : goal.returns-in_ok-record-in-Ok-clause-value
+returns-in_ok-record-in-Ok-clause-value c =
+    let a = c.args in
+    let lent : Cells = cells a.totals.now a.extremes.now a.counts.now in
+    c.in_ok-record-in-Ok.ensures ∙ ap (recorded_at a.bounds.now a.sums c.in-Ok.s.slot c.in-Ok.s.updated (lent)) (held a.v c.ranges.v) ∙ seat-held (explicit_wholes a.bounds.now a.sums) (lent) a.v a.seat (turned (bounds_pass a.bounds.now) (seating a.seat).no) c.in-Ok.s c.in-Ok.is

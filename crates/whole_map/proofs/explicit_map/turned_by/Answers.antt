@@ -1,17 +1,13 @@
--- `whole_map::explicit_map::turned_by` meets its contract. Assumes nothing.
+-- `explicit_map::turned_by` meets its contract. Assumes nothing.
 use mathlib.Core.Path.{sym, ◌∙◌}
-use Rattle.value_map.proofs.Late.{turned-low, turned-high, turned_same, turned_8}
+use Rattle.value_map.proofs.Late.{turned_same, turned-late, turned-other}
 use Rattle.whole_map.proofs.explicit_map.turned_by.Goals as goal
 
-pub returns-then-no-lt7 : goal.returns-then-no-lt7
-returns-then-no-lt7 c = turned-low _ _ c.if-no-lt7.true
+pub returns-then-bounds_pass : goal.returns-then-bounds_pass
+returns-then-bounds_pass c = turned_same _ _ (sym c.bounds_pass.ensures ∙ c.if-bounds_pass.true)
 
-pub returns-then-no-gt9 : goal.returns-then-no-gt9
-returns-then-no-gt9 c = turned-high _ _ c.if-no-gt9.true
+pub returns-else-bounds_pass : goal.returns-else-bounds_pass
+returns-else-bounds_pass c = turned-late _ c.args.no c.in-NoHandle.is (sym c.bounds_pass.ensures ∙ c.if-bounds_pass.false)
 
-pub returns-then-not-bounds_pass : goal.returns-then-not-bounds_pass
-returns-then-not-bounds_pass c =
-    turned_8 _ _ c.if-no-lt7.false c.if-no-gt9.false (sym c.bounds_pass.ensures ∙ c.if-not-bounds_pass.true)
-
-pub returns : goal.returns
-returns c = turned_same _ _ (sym c.bounds_pass.ensures ∙ c.if-not-bounds_pass.false)
+pub returns-in_default : goal.returns-in_default
+returns-in_default c = turned-other _ c.args.no c.in_default.not-NoHandle c.in_default.not-Disagrees c.in_default.not-Full

@@ -10,4 +10,4 @@ pub returns : goal.returns
 returns c =
     let a = c.args in
     start_is (exponential_wholes a.size a.top a.sums) a.limit (filter_of a.present a.filter.now) (stores a.sets.now a.entries.now a.order.now)
-    (cells a.figures.now a.extremes.now a.pos.now a.neg.now) _ c.unset_of-no.ensures c.cells_suffice-room.ensures c.begin.ensures
+    (cells a.figures.now a.extremes.now a.pos.now a.neg.now) _ c.unset_of-unset.ensures c.cells_suffice-room.ensures c.begin.ensures

@@ -1,26 +1,38 @@
 -- `whole_map::exponential_map::take` meets its contract. Assumes nothing.
-use mathlib.Core.Path.{ap, ◌∙◌}
+use Prim.Native.Nat.{ℕ}
+use mathlib.Core.Path.{◌≡◌, sym, ap, ◌∙◌}
+use Rattle.std.specs.Prelude.{Result}
+use Rattle.std.proofs.Common.{rules}
+use Rattle.refusals.specs.declared.Refusal.{Refusal}
+use Rattle.refusals.specs.Refusals.{number, code}
+use Rattle.integers.proofs.Range.{held}
+use Rattle.rows.specs.Recording.{after}
+use Rattle.seats.specs.declared.Seated.{Seated}
+use Rattle.seats.specs.Seats.{seating}
 use Rattle.exponential_whole_slots.specs.Cells.{Cells, cells, recorded_at}
 use Rattle.whole_map.specs.Exponential.{exponential_wholes}
-use Rattle.value_map.proofs.Ways.{take_no, take_on}
-use Rattle.integers.proofs.Range.{held}
+use Rattle.value_map.proofs.Ways.{seat-refused, seat-held}
 use Rattle.whole_map.proofs.exponential_map.take.Goals as goal
 
-pub returns-then-no-ne0 : goal.returns-then-no-ne0
-returns-then-no-ne0 c =
-    let lent : Cells = let a = c.args in cells a.figures.now a.extremes.now a.pos.now a.neg.now in
-    let a = c.args in take_no (exponential_wholes a.size a.top a.sums) (lent) a.v a.no a.no a.x a.updated c.if-no-ne0.true
-
-pub record-requires : goal.record-requires
-record-requires c =
-    let m = c.requires c.if-no-ne0.false in
-    let r = m.0 in
-    (r.figures, r.extremes, r.pos, r.neg)
-
-pub returns : goal.returns
-returns c =
-    let lent : Cells = let a = c.args in cells a.figures.now a.extremes.now a.pos.now a.neg.now in
+pub returns-in_err-s-clause-value : goal.returns-in_err-s-clause-value
+returns-in_err-s-clause-value c =
     let a = c.args in
-    c.«record».ensures
-    ∙ ap (recorded_at a.size a.top a.sums a.x a.updated (lent)) (held a.v c.ranges.v)
-    ∙ take_on (exponential_wholes a.size a.top a.sums) (lent) a.v a.no a.no a.x a.updated c.if-no-ne0.false
+    let lent : Cells = cells a.figures.now a.extremes.now a.pos.now a.neg.now in
+    let no : code c.from_residual.result ≡ number c.in_err-s.field-0.0 = search rules in
+    seat-refused (exponential_wholes a.size a.top a.sums) (lent) a.v a.seat (seating a.seat).no c.in_err-s.field-0.0 (code c.from_residual.result) c.in_err-s.was
+    ((no) ∙ ap (λ (r : Result Seated Refusal). (seating r).no) (sym c.in_err-s.was))
+
+pub returns-in_err-record-clause-value : goal.returns-in_err-record-clause-value
+returns-in_err-record-clause-value c =
+    let a = c.args in
+    let lent : Cells = cells a.figures.now a.extremes.now a.pos.now a.neg.now in
+    let no : code c.from_residual-in_err-record.result ≡ number c.in_err-record.field-0.0 = search rules in
+    ap (λ (n : ℕ). after n (cells c.«record».new.figures c.«record».new.extremes c.«record».new.pos c.«record».new.neg)) (no)
+    ∙ c.in_err-record.ensures ∙ ap (recorded_at a.size a.top a.sums c.in_ok-s.s.slot c.in_ok-s.s.updated (lent)) (held a.v c.ranges.v)
+    ∙ seat-held (exponential_wholes a.size a.top a.sums) (lent) a.v a.seat (seating a.seat).no c.in_ok-s.s c.in_ok-s.was
+
+pub returns-clause-value : goal.returns-clause-value
+returns-clause-value c =
+    let a = c.args in
+    let lent : Cells = cells a.figures.now a.extremes.now a.pos.now a.neg.now in
+    c.in_ok-record.ensures ∙ ap (recorded_at a.size a.top a.sums c.in_ok-s.s.slot c.in_ok-s.s.updated (lent)) (held a.v c.ranges.v) ∙ seat-held (exponential_wholes a.size a.top a.sums) (lent) a.v a.seat (seating a.seat).no c.in_ok-s.s c.in_ok-s.was

@@ -1,0 +1,38 @@
+-- `value_map::explicit_map::take` meets its contract. Assumes nothing.
+use Prim.Native.Nat.{ℕ}
+use mathlib.Core.Path.{◌≡◌, sym, ap, ◌∙◌}
+use Rattle.std.specs.Prelude.{Result}
+use Rattle.std.proofs.Common.{rules}
+use Rattle.points.specs.Explicit.{bounds_pass}
+use Rattle.refusals.specs.declared.Refusal.{Refusal}
+use Rattle.refusals.specs.Refusals.{number, code}
+use Rattle.rows.specs.Recording.{after}
+use Rattle.seats.specs.declared.Seated.{Seated}
+use Rattle.seats.specs.Seats.{seating}
+use Rattle.explicit_slots.specs.Cells.{Cells, cells}
+use Rattle.value_map.specs.Explicit.{explicit_store}
+use Rattle.value_map.specs.Inner.{turned}
+use Rattle.value_map.proofs.Ways.{seat-refused, seat-held}
+use Rattle.value_map.proofs.explicit_map.take.Goals as goal
+
+pub returns-in-Err-clause-value : goal.returns-in-Err-clause-value
+returns-in-Err-clause-value c =
+    let a = c.args in
+    let lent : Cells = cells a.totals.now a.extremes.now a.counts.now in
+    seat-refused (explicit_store a.bounds.now) (lent) a.v a.seat (turned (bounds_pass a.bounds.now) (seating a.seat).no) c.in-Err.no (number c.turned_by.result) c.in-Err.is
+    (c.turned_by.ensures ∙ ap (λ (r : Result Seated Refusal). turned (bounds_pass a.bounds.now) (seating r).no) (sym c.in-Err.is))
+
+pub returns-in_err-record-in-Ok-clause-value : goal.returns-in_err-record-in-Ok-clause-value
+returns-in_err-record-in-Ok-clause-value c =
+    let a = c.args in
+    let lent : Cells = cells a.totals.now a.extremes.now a.counts.now in
+    let no : code c.from_residual.result ≡ number c.in_err-record-in-Ok.field-0.0 = search rules in
+    ap (λ (n : ℕ). after n (cells c.«record».new.totals c.«record».new.extremes c.«record».new.counts)) (no)
+    ∙ c.in_err-record-in-Ok.ensures
+    ∙ seat-held (explicit_store a.bounds.now) (lent) a.v a.seat (turned (bounds_pass a.bounds.now) (seating a.seat).no) c.in-Ok.s c.in-Ok.is
+
+pub returns-in_ok-record-in-Ok-clause-value : goal.returns-in_ok-record-in-Ok-clause-value
+returns-in_ok-record-in-Ok-clause-value c =
+    let a = c.args in
+    let lent : Cells = cells a.totals.now a.extremes.now a.counts.now in
+    c.in_ok-record-in-Ok.ensures ∙ seat-held (explicit_store a.bounds.now) (lent) a.v a.seat (turned (bounds_pass a.bounds.now) (seating a.seat).no) c.in-Ok.s c.in-Ok.is

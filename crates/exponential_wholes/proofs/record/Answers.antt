@@ -1,54 +1,51 @@
 -- `record` meets its contract. Assumes nothing.
-use Prim.Native.Nat.{ℕ}
 use mathlib.Core.Path.{◌≡◌, sym, ap, subst, ◌∙◌}
-use native.Mathlib.Omega.{arith}
 use borrow.Author.Rules.{rules}
 use mir.Syntax.{w64}
 use mir.Val.{SFits, to_z, of_z}
 use Rattle.floats.specs.Starts.{zero_float}
 use Rattle.integers.specs.Answers.{nearest_of, kept_sum, lesser_of, greater_of}
-use Rattle.std.specs.Prelude.{Some}
+
 use Rattle.integers.proofs.Range.{held}
 use Rattle.points.specs.Points.{Point, record1}
 use Rattle.points.specs.Classes.{class_of}
 use Rattle.exponential.specs.Series as E
 use Rattle.exponential.specs.Inner.{Written}
+use Rattle.std.specs.Prelude.{Err, Some}
+use Rattle.refusals.specs.Refusals.{number, said}
+use Rattle.refusals.proofs.Numbers.{number-nonzero}
+use Rattle.exponential_wholes.specs.Series.{outcome}
 use Rattle.exponential_wholes.proofs.Call.{before, refused_law, outside_law, inside_law}
 use Rattle.exponential_wholes.proofs.record.Goals as goal
 
-pub returns-then-no-ne0 : goal.returns-then-no-ne0
-returns-then-no-ne0 c =
-    let number : ℕ = let a = c.args in before a.size a.top a.sums a.head a.pos.now a.neg.now a.v in
-    let near : c.nearest-x.result ≡ nearest_of c.args.v = c.nearest-x.ensures ∙ ap nearest_of (held c.args.v c.ranges.v) in
-    let told : c.refusal-no.result ≡ number =
+pub returns-in_err-refusal : goal.returns-in_err-refusal
+returns-in_err-refusal c =
     let a = c.args in
-    c.refusal-no.ensures
+    let e = c.in_err-refusal.field-0.0 in
+    let near : c.nearest-x.result ≡ nearest_of a.v = c.nearest-x.ensures ∙ ap nearest_of (held a.v c.ranges.v) in
+    let told : number e ≡ before a.size a.top a.sums a.head a.pos.now a.neg.now a.v =
+    c.in_err-refusal.ensures
     ∙ (λ j. E.refusal_of a.size a.top (c.under_counts-h.ensures j) a.pos.now a.neg.now (near j)) in
-    let a = c.args in
-    refused_law a.size a.top a.sums a.head a.pos.now a.neg.now a.v c.refusal-no.result (told) (λ z. omega (arith, z, c.if-no-ne0.true))
+    let k : c.from_residual.result ≡ Err e = search rules in
+    ap (λ r. outcome (said r) a.pos.now a.neg.now) k
+    ∙ refused_law a.size a.top a.sums a.head a.pos.now a.neg.now a.v (number e) told (number-nonzero e)
 
 pub count_in-next-requires : goal.count_in-next-requires
 count_in-next-requires c =
     let near : c.nearest-x.result ≡ nearest_of c.args.v = c.nearest-x.ensures ∙ ap nearest_of (held c.args.v c.ranges.v) in
-    let number : ℕ = let a = c.args in before a.size a.top a.sums a.head a.pos.now a.neg.now a.v in
-    let told : c.refusal-no.result ≡ number =
+    let none : (let a = c.args in before a.size a.top a.sums a.head a.pos.now a.neg.now a.v ≡ 0) =
     let a = c.args in
-    c.refusal-no.ensures
-    ∙ (λ j. E.refusal_of a.size a.top (c.under_counts-h.ensures j) a.pos.now a.neg.now (near j)) in
-    let none : number ≡ 0 = sym (told) ∙ c.if-no-ne0.false in
+    sym (c.in_ok-refusal.ensures ∙ (λ j. E.refusal_of a.size a.top (c.under_counts-h.ensures j) a.pos.now a.neg.now (near j))) in
     let a = c.args in
     (λ j. E.refusal_of a.size a.top (c.under_counts-h.ensures j) a.pos.now a.neg.now (near j))
     ∙ none
 
 pub returns-in-None : goal.returns-in-None
 returns-in-None c =
-    let number : ℕ = let a = c.args in before a.size a.top a.sums a.head a.pos.now a.neg.now a.v in
     let near : c.nearest-x.result ≡ nearest_of c.args.v = c.nearest-x.ensures ∙ ap nearest_of (held c.args.v c.ranges.v) in
-    let told : c.refusal-no.result ≡ number =
+    let none : (let a = c.args in before a.size a.top a.sums a.head a.pos.now a.neg.now a.v ≡ 0) =
     let a = c.args in
-    c.refusal-no.ensures
-    ∙ (λ j. E.refusal_of a.size a.top (c.under_counts-h.ensures j) a.pos.now a.neg.now (near j)) in
-    let none : number ≡ 0 = sym (told) ∙ c.if-no-ne0.false in
+    sym (c.in_ok-refusal.ensures ∙ (λ j. E.refusal_of a.size a.top (c.under_counts-h.ensures j) a.pos.now a.neg.now (near j))) in
     let summed : (let a = c.args in c.kept_sum-total.result ≡ kept_sum a.sums a.head.sum a.v) =
     let f : SFits w64 c.args.head.sum = search rules in
     c.kept_sum-total.ensures ∙ (λ j. kept_sum c.args.sums (held c.args.head.sum f j) (held c.args.v c.ranges.v j)) in
@@ -58,13 +55,10 @@ returns-in-None c =
 
 pub returns-in-Some : goal.returns-in-Some
 returns-in-Some c =
-    let number : ℕ = let a = c.args in before a.size a.top a.sums a.head a.pos.now a.neg.now a.v in
     let near : c.nearest-x.result ≡ nearest_of c.args.v = c.nearest-x.ensures ∙ ap nearest_of (held c.args.v c.ranges.v) in
-    let told : c.refusal-no.result ≡ number =
+    let none : (let a = c.args in before a.size a.top a.sums a.head a.pos.now a.neg.now a.v ≡ 0) =
     let a = c.args in
-    c.refusal-no.ensures
-    ∙ (λ j. E.refusal_of a.size a.top (c.under_counts-h.ensures j) a.pos.now a.neg.now (near j)) in
-    let none : number ≡ 0 = sym (told) ∙ c.if-no-ne0.false in
+    sym (c.in_ok-refusal.ensures ∙ (λ j. E.refusal_of a.size a.top (c.under_counts-h.ensures j) a.pos.now a.neg.now (near j))) in
     let summed : (let a = c.args in c.kept_sum-total.result ≡ kept_sum a.sums a.head.sum a.v) =
     let f : SFits w64 c.args.head.sum = search rules in
     c.kept_sum-total.ensures ∙ (λ j. kept_sum c.args.sums (held c.args.head.sum f j) (held c.args.v c.ranges.v j)) in

@@ -12,16 +12,17 @@ use Rattle.laws.specs.Pick.{pick}
 use Rattle.laws.specs.Said.{Said, refusal, success}
 use Rattle.laws.specs.Over.{over}
 use Rattle.laws.proofs.Bools.{pick_true, pick-false}
-use Rattle.integers.specs.Answers.{nearest_of, kept_sum, last_number}
+use Rattle.integers.specs.Answers.{nearest_of, lesser_of, greater_of, kept_sum, last_number}
 use Rattle.std.specs.Prelude.{Some, None}
 use Rattle.points.specs.Explicit.{Buckets, bucket_count, record_bucket}
+use Rattle.points.specs.Any.{start}
 use Rattle.points.specs.Whole.{whole}
 use Rattle.points.proofs.WholeSums.{sum-takes, sum-leaves, last_some}
 use Rattle.explicit.specs.declared.Head as F
 use Rattle.explicit.specs.Series as E
 use Rattle.explicit.specs.Series.{buckets_in}
 use Rattle.explicit_wholes.specs.declared.Head.{Head}
-use Rattle.explicit_wholes.specs.Series.{under, refusal_of, Outcome, outcome, accepted, recording, finished, begun, fresh_head, freshening}
+use Rattle.explicit_wholes.specs.Series.{under, refusal_of, Outcome, outcome, head_of, accepted, recording, fresh_head, freshening}
 
 -- ---- what an answer says
 abbrev number_in : {A : Type 0} → Said A → ℕ
@@ -83,6 +84,17 @@ module _ (bounds : List Float) (h : F.Head) (xs : List ℕ) (x : Float) where
           record { none = eqb-true number 0 d; count = ap (λ o. (head_in g o.answer).count) f; row = ap (λ o. o.counts) f }
       go false d = no (sym (ap (λ o. is_refused o.answer) (e ∙ left (eqb-false number 0 d))))
 
+-- ---- between functions
+-- a fresh head with the count that was written
+abbrev pub begun : Said F.Head → Said Head
+begun (refusal n) = refusal n
+begun (success g) = success (head_of g.count (start whole))
+
+-- the head with the count that was recorded, and the sum s
+abbrev pub finished : Head → ℤ → ℤ → Said F.Head → Said Head
+finished h v s (refusal n) = refusal n
+finished h v s (success g) = success (record { count = g.count; min = lesser_of h.min v; max = greater_of h.max v; sum = s })
+
 -- ---- THE CALL
 module _ (bounds : List Float) (sums : Bool) (h : Head) (xs : List ℕ) (v : ℤ) where
   abbrev pub before : ℕ
@@ -115,6 +127,10 @@ module _ (bounds : List Float) (sums : Bool) (h : Head) (xs : List ℕ) (v : ℤ
   outside_law t n k e d =
       ap (λ m. outcome (refusal m) xs) (d ∙ ap last_number e)
       ∙ gives_up (last_number before) (number-last (sum-leaves sums h.sum v t)) (last_some before)
+
+  -- where another refusal comes first
+  pub first_law : kept_sum sums h.sum v ≡ None → (n : ℕ) → n ≡ before → (n ≡ 0 → ⊥) → outcome (refusal n) xs ≡ recording bounds sums h xs v
+  first_law t n e z = outside_law t n n e (sym (pick-false _ _ _ (ne_eqb n 0 z)))
 
   -- where it does not
   pub inside_law : (s : ℤ) (r : Said F.Head) (a : Said Head) (xs' : List ℕ) → kept_sum sums h.sum v ≡ Some s

@@ -4,7 +4,7 @@ use Rattle.laws.specs.Pick.{pick}
 use Rattle.laws.specs.Said.{Said, refusal, success}
 use Rattle.laws.specs.Over.{over}
 use Rattle.floats.specs.Starts.{zero_float}
-use Rattle.integers.specs.Answers.{nearest_of, lesser_of, greater_of}
+use Rattle.integers.specs.Answers.{nearest_of}
 use Rattle.points.specs.Explicit.{Buckets, bucket_count, record_bucket}
 use Rattle.points.specs.Any.{Summary, start, noted}
 use Rattle.points.specs.Whole.{whole}
@@ -57,14 +57,3 @@ freshening bounds xs =
     pick (leb (bucket_count bounds) (length xs))
     (outcome (success fresh_head) (over (replicate (bucket_count bounds) 0) xs))
     (outcome (refusal 12) xs)
-
--- ---- between functions
--- a fresh head with the count that was written
-abbrev pub begun : Said F.Head → Said Head
-begun (refusal n) = refusal n
-begun (success g) = success (head_of g.count (start whole))
-
--- the head with the count that was recorded, and the sum s
-abbrev pub finished : Head → ℤ → ℤ → Said F.Head → Said Head
-finished h v s (refusal n) = refusal n
-finished h v s (success g) = success (record { count = g.count; min = lesser_of h.min v; max = greater_of h.max v; sum = s })

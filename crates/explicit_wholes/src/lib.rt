@@ -3,7 +3,7 @@
 #![tactic(auto)]
 
 ghost use Rattle.std.specs.Prelude.{◌≡◌};
-ghost use Rattle.explicit_wholes.specs.Series.{under, begun, finished, outcome, freshening, recording};
+ghost use Rattle.explicit_wholes.specs.Series.{under, outcome, freshening, recording};
 ghost use Rattle.refusals.specs.Refusals.{said};
 
 use refusals::Refusal;
@@ -16,27 +16,17 @@ pub struct Head {
     pub sum: i64,
 }
 
-// The head of a series whose row was zeroed or refused.
-fn begin(r: Result<explicit::Head, Refusal>) -> Result<Head, Refusal>
-    ensures { said result ≡ begun (said r) }
-{
-    match r {
-        Err(e) => Err(e),
-        Ok(g) => Ok(Head {
-            count: g.count,
-            min: 9223372036854775807,
-            max: -9223372036854775808,
-            sum: 0,
-        }),
-    }
-}
-
 // A series that has counted nothing: zeros in its row, or 12 where the row lent is too short.
 pub fn fresh(bounds: &[f64], counts: &mut [u64]) -> Result<Head, Refusal>
     ensures { outcome (said result) counts.new ≡ freshening bounds.now counts.old }
 {
-    let r = explicit::fresh(bounds, counts);
-    begin(r)
+    let g = explicit::fresh(bounds, counts)?;
+    Ok(Head {
+        count: g.count,
+        min: 9223372036854775807,
+        max: -9223372036854775808,
+        sum: 0,
+    })
 }
 
 // The head under which crate `explicit` records the counts: its extremes and its sum are nobody's.
@@ -48,25 +38,6 @@ fn under_count(count: u64) -> explicit::Head
         min: 0.0,
         max: 0.0,
         sum: 0.0,
-    }
-}
-
-// The head after a value whose counts were recorded or refused, the sum being s.
-fn finish(head: Head, v: i64, s: i64, r: Result<explicit::Head, Refusal>) -> Result<Head, Refusal>
-    ensures { said result ≡ finished head v s (said r) }
-{
-    match r {
-        Err(e) => Err(e),
-        Ok(g) => {
-            let least = integers::lesser(head.min, v);
-            let greatest = integers::greater(head.max, v);
-            Ok(Head {
-                count: g.count,
-                min: least,
-                max: greatest,
-                sum: s,
-            })
-        }
     }
 }
 
@@ -83,15 +54,15 @@ pub fn record(
 {
     let h = under_count(head.count);
     let x = integers::nearest(v);
-    let total = integers::kept_sum(sums, head.sum, v);
-    match total {
-        None => {
-            explicit::refusal(bounds, h, counts, x)?;
-            Err(Refusal::SumOutside)
-        }
-        Some(s) => {
-            let r = explicit::record(bounds, h, counts, x);
-            finish(head, v, s, r)
-        }
-    }
+    let Some(sum) = integers::kept_sum(sums, head.sum, v) else {
+        explicit::refusal(bounds, h, counts, x)?;
+        return Err(Refusal::SumOutside);
+    };
+    let g = explicit::record(bounds, h, counts, x)?;
+    Ok(Head {
+        count: g.count,
+        min: integers::lesser(head.min, v),
+        max: integers::greater(head.max, v),
+        sum,
+    })
 }

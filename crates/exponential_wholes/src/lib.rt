@@ -61,19 +61,12 @@ pub fn record(
     let h = under_counts(c);
     let x = integers::nearest(v);
     exponential::refusal(size, top, h, pos, neg, x)?;
-    let total = integers::kept_sum(sums, head.sum, v);
-    match total {
-        None => Err(Refusal::SumOutside),
-        Some(s) => {
-            let least = integers::lesser(head.min, v);
-            let greatest = integers::greater(head.max, v);
-            let next = exponential::count_in(size, top, h, pos, neg, x);
-            Ok(Head {
-                counts: next,
-                min: least,
-                max: greatest,
-                sum: s,
-            })
-        }
-    }
+    let sum = integers::kept_sum(sums, head.sum, v).ok_or(Refusal::SumOutside)?;
+    let counts = exponential::count_in(size, top, h, pos, neg, x);
+    Ok(Head {
+        counts,
+        min: integers::lesser(head.min, v),
+        max: integers::greater(head.max, v),
+        sum,
+    })
 }

@@ -1,36 +1,76 @@
 -- `record` meets its contract. Assumes nothing.
-use mathlib.Core.Path.{◌≡◌, sym, ap, ◌∙◌}
+use mathlib.Core.Path.{◌≡◌, refl, sym, ap, ◌∙◌}
 use borrow.Author.Rules.{rules}
 use mir.Syntax.{w64}
 use mir.Val.{SFits}
-use Rattle.integers.specs.Answers.{nearest_of, kept_sum}
+use Rattle.std.specs.Prelude.{Err}
+use Rattle.laws.specs.Pick.{pick}
+use Rattle.laws.specs.Said.{refusal, success}
+use Rattle.refusals.specs.Refusals.{number, said}
+use Rattle.refusals.proofs.Numbers.{number-nonzero}
+use Rattle.integers.specs.Answers.{nearest_of, kept_sum, lesser_of, greater_of}
 use Rattle.integers.proofs.Range.{held}
 use Rattle.explicit.specs.Series as E
-use Rattle.explicit_wholes.specs.Series.{said, finished}
-use Rattle.explicit_wholes.proofs.Call.{outside_law, inside_law}
+use Rattle.explicit_wholes.specs.Series.{outcome}
+use Rattle.explicit_wholes.proofs.Call.{first_law, outside_law, inside_law}
 use Rattle.explicit_wholes.proofs.record.Goals as goal
 
-pub returns-in-None : goal.returns-in-None
-returns-in-None c =
-    let held-sum : SFits w64 c.args.head.sum = search rules in
-    let told : (let a = c.args in c.kept_sum-total.result ≡ kept_sum a.sums a.head.sum a.v) = c.kept_sum-total.ensures ∙ (λ j. kept_sum c.args.sums (held c.args.head.sum (held-sum) j) (held c.args.v c.ranges.v j)) in
-    let near : c.nearest-x.result ≡ nearest_of c.args.v = c.nearest-x.ensures ∙ ap nearest_of (held c.args.v c.ranges.v) in
+pub returns-in_err-refusal : goal.returns-in_err-refusal
+returns-in_err-refusal c =
     let a = c.args in
-    outside_law a.bounds.now a.sums a.head a.counts.now a.v
-    (sym (told) ∙ c.in-None.is)
-    c.refusal-no.result c.last_number-n.result
-    (c.refusal-no.ensures ∙ (λ j. E.refusal_of a.bounds.now (c.under_count-h.ensures j) a.counts.now (near j)))
-    c.last_number-n.ensures
+    let near : c.nearest-x.result ≡ nearest_of a.v = c.nearest-x.ensures ∙ ap nearest_of (held a.v c.ranges.v) in
+    let f : SFits w64 a.head.sum = search rules in
+    let told : c.kept_sum.result ≡ kept_sum a.sums a.head.sum a.v =
+    c.kept_sum.ensures ∙ (λ j. kept_sum a.sums (held a.head.sum f j) (held a.v c.ranges.v j)) in
+    let e = c.in_err-refusal.field-0.0 in
+    let k : c.from_residual.result ≡ Err e = search rules in
+    ap (λ r. outcome (said r) a.counts.now) k
+    ∙ first_law a.bounds.now a.sums a.head a.counts.now a.v (sym told ∙ c.in_default.is) (number e)
+    (c.in_err-refusal.ensures ∙ (λ j. E.refusal_of a.bounds.now (c.under_count-h.ensures j) a.counts.now (near j))) (number-nonzero e)
 
-pub returns-in-Some : goal.returns-in-Some
-returns-in-Some c =
-    let held-sum : SFits w64 c.args.head.sum = search rules in
-    let told : (let a = c.args in c.kept_sum-total.result ≡ kept_sum a.sums a.head.sum a.v) = c.kept_sum-total.ensures ∙ (λ j. kept_sum c.args.sums (held c.args.head.sum (held-sum) j) (held c.args.v c.ranges.v j)) in
-    let near : c.nearest-x.result ≡ nearest_of c.args.v = c.nearest-x.ensures ∙ ap nearest_of (held c.args.v c.ranges.v) in
-    let whole_sum : SFits w64 c.in-Some.s = search rules in
+pub returns-in_default : goal.returns-in_default
+unfolding pick
+returns-in_default c =
     let a = c.args in
-    inside_law a.bounds.now a.sums a.head a.counts.now a.v
-    c.in-Some.s (E.said c.record-r.result) (said c.finish.result) c.record-r.new.counts
-    (sym (told) ∙ c.in-Some.is)
-    (c.record-r.ensures ∙ (λ j. E.recording a.bounds.now (c.under_count-h.ensures j) a.counts.now (near j)))
-    (c.finish.ensures ∙ (λ j. finished a.head (held a.v c.ranges.v j) (held c.in-Some.s (whole_sum) j) (E.said c.record-r.result)))
+    let near : c.nearest-x.result ≡ nearest_of a.v = c.nearest-x.ensures ∙ ap nearest_of (held a.v c.ranges.v) in
+    let f : SFits w64 a.head.sum = search rules in
+    let told : c.kept_sum.result ≡ kept_sum a.sums a.head.sum a.v =
+    c.kept_sum.ensures ∙ (λ j. kept_sum a.sums (held a.head.sum f j) (held a.v c.ranges.v j)) in
+    outside_law a.bounds.now a.sums a.head a.counts.now a.v (sym told ∙ c.in_default.is) 0 16
+    (c.in_ok-refusal.ensures ∙ (λ j. E.refusal_of a.bounds.now (c.under_count-h.ensures j) a.counts.now (near j))) refl
+
+pub returns-in_err-g : goal.returns-in_err-g
+returns-in_err-g c =
+    let a = c.args in
+    let near : c.nearest-x.result ≡ nearest_of a.v = c.nearest-x.ensures ∙ ap nearest_of (held a.v c.ranges.v) in
+    let f : SFits w64 a.head.sum = search rules in
+    let told : c.kept_sum.result ≡ kept_sum a.sums a.head.sum a.v =
+    c.kept_sum.ensures ∙ (λ j. kept_sum a.sums (held a.head.sum f j) (held a.v c.ranges.v j)) in
+    let e = c.in_err-g.field-0.0 in
+    let k : c.from_residual-in_err-g.result ≡ Err e = search rules in
+    ap (λ r. outcome (said r) c.record.new.counts) k
+    ∙ inside_law a.bounds.now a.sums a.head a.counts.now a.v c.in-Some.sum (refusal (number e)) (refusal (number e)) c.record.new.counts
+    (sym told ∙ c.in-Some.is)
+    (c.in_err-g.ensures ∙ (λ j. E.recording a.bounds.now (c.under_count-h.ensures j) a.counts.now (near j))) refl
+
+pub returns : goal.returns
+returns c =
+    let a = c.args in
+    let near : c.nearest-x.result ≡ nearest_of a.v = c.nearest-x.ensures ∙ ap nearest_of (held a.v c.ranges.v) in
+    let f : SFits w64 a.head.sum = search rules in
+    let told : c.kept_sum.result ≡ kept_sum a.sums a.head.sum a.v =
+    c.kept_sum.ensures ∙ (λ j. kept_sum a.sums (held a.head.sum f j) (held a.v c.ranges.v j)) in
+    let l : SFits w64 c.lesser.result = search rules in
+    let g : SFits w64 c.greater.result = search rules in
+    let m : SFits w64 a.head.min = search rules in
+    let n : SFits w64 a.head.max = search rules in
+    let s : SFits w64 c.in-Some.sum = search rules in
+    inside_law a.bounds.now a.sums a.head a.counts.now a.v c.in-Some.sum (success c.in_ok-g.g) _ c.record.new.counts
+    (sym told ∙ c.in-Some.is)
+    (c.in_ok-g.ensures ∙ (λ j. E.recording a.bounds.now (c.under_count-h.ensures j) a.counts.now (near j)))
+    (λ j. success (record {
+      count = c.in_ok-g.g.count;
+      min = (held c.lesser.result l ∙ c.lesser.ensures ∙ (λ i. lesser_of (held a.head.min m i) (held a.v c.ranges.v i))) j;
+      max = (held c.greater.result g ∙ c.greater.ensures ∙ (λ i. greater_of (held a.head.max n i) (held a.v c.ranges.v i))) j;
+      sum = held c.in-Some.sum s j;
+    }))

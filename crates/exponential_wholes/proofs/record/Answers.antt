@@ -12,6 +12,7 @@ use Rattle.points.specs.Classes.{class_of}
 use Rattle.exponential.specs.Series as E
 use Rattle.exponential.specs.Inner.{Written}
 use Rattle.std.specs.Prelude.{Err, Some}
+use Rattle.refusals.specs.declared.Refusal.TheVariants.{SumOutside}
 use Rattle.refusals.specs.Refusals.{number, said}
 use Rattle.refusals.proofs.Numbers.{number-nonzero}
 use Rattle.exponential_wholes.specs.Series.{outcome}
@@ -30,52 +31,44 @@ returns-in_err-refusal c =
     ap (λ r. outcome (said r) a.pos.now a.neg.now) k
     ∙ refused_law a.size a.top a.sums a.head a.pos.now a.neg.now a.v (number e) told (number-nonzero e)
 
-pub count_in-next-requires : goal.count_in-next-requires
-count_in-next-requires c =
-    let near : c.nearest-x.result ≡ nearest_of c.args.v = c.nearest-x.ensures ∙ ap nearest_of (held c.args.v c.ranges.v) in
-    let none : (let a = c.args in before a.size a.top a.sums a.head a.pos.now a.neg.now a.v ≡ 0) =
+pub returns-in_err-sum : goal.returns-in_err-sum
+returns-in_err-sum c =
     let a = c.args in
+    let near : c.nearest-x.result ≡ nearest_of a.v = c.nearest-x.ensures ∙ ap nearest_of (held a.v c.ranges.v) in
+    let none : before a.size a.top a.sums a.head a.pos.now a.neg.now a.v ≡ 0 =
     sym (c.in_ok-refusal.ensures ∙ (λ j. E.refusal_of a.size a.top (c.under_counts-h.ensures j) a.pos.now a.neg.now (near j))) in
-    let a = c.args in
-    (λ j. E.refusal_of a.size a.top (c.under_counts-h.ensures j) a.pos.now a.neg.now (near j))
-    ∙ none
+    let f : SFits w64 a.head.sum = search rules in
+    let summed : c.kept_sum.result ≡ kept_sum a.sums a.head.sum a.v =
+    c.kept_sum.ensures ∙ (λ j. kept_sum a.sums (held a.head.sum f j) (held a.v c.ranges.v j)) in
+    let k : c.from_residual-in_err-sum.result ≡ Err SumOutside = search rules in
+    ap (λ r. outcome (said r) a.pos.now a.neg.now) k
+    ∙ outside_law a.size a.top a.sums a.head a.pos.now a.neg.now a.v none (sym summed ∙ c.in_err-sum.ensures.ok_part)
 
-pub returns-in-None : goal.returns-in-None
-returns-in-None c =
-    let near : c.nearest-x.result ≡ nearest_of c.args.v = c.nearest-x.ensures ∙ ap nearest_of (held c.args.v c.ranges.v) in
-    let none : (let a = c.args in before a.size a.top a.sums a.head a.pos.now a.neg.now a.v ≡ 0) =
-    let a = c.args in
-    sym (c.in_ok-refusal.ensures ∙ (λ j. E.refusal_of a.size a.top (c.under_counts-h.ensures j) a.pos.now a.neg.now (near j))) in
-    let summed : (let a = c.args in c.kept_sum-total.result ≡ kept_sum a.sums a.head.sum a.v) =
-    let f : SFits w64 c.args.head.sum = search rules in
-    c.kept_sum-total.ensures ∙ (λ j. kept_sum c.args.sums (held c.args.head.sum f j) (held c.args.v c.ranges.v j)) in
-    let a = c.args in
-    outside_law a.size a.top a.sums a.head a.pos.now a.neg.now a.v (none)
-    (sym (summed) ∙ c.in-None.is)
+pub count_in-counts-requires : goal.count_in-counts-requires
+count_in-counts-requires c = sym c.in_ok-refusal.ensures
 
-pub returns-in-Some : goal.returns-in-Some
-returns-in-Some c =
-    let near : c.nearest-x.result ≡ nearest_of c.args.v = c.nearest-x.ensures ∙ ap nearest_of (held c.args.v c.ranges.v) in
-    let none : (let a = c.args in before a.size a.top a.sums a.head a.pos.now a.neg.now a.v ≡ 0) =
+pub returns : goal.returns
+returns c =
     let a = c.args in
+    let near : c.nearest-x.result ≡ nearest_of a.v = c.nearest-x.ensures ∙ ap nearest_of (held a.v c.ranges.v) in
+    let none : before a.size a.top a.sums a.head a.pos.now a.neg.now a.v ≡ 0 =
     sym (c.in_ok-refusal.ensures ∙ (λ j. E.refusal_of a.size a.top (c.under_counts-h.ensures j) a.pos.now a.neg.now (near j))) in
-    let summed : (let a = c.args in c.kept_sum-total.result ≡ kept_sum a.sums a.head.sum a.v) =
-    let f : SFits w64 c.args.head.sum = search rules in
-    c.kept_sum-total.ensures ∙ (λ j. kept_sum c.args.sums (held c.args.head.sum f j) (held c.args.v c.ranges.v j)) in
-    let whole_sum : SFits w64 c.in-Some.s = search rules in
-    let least : (let a = c.args in to_z w64 (of_z w64 c.lesser-least.result) ≡ lesser_of a.head.min a.v) =
-    let r : SFits w64 c.lesser-least.result = search rules in
-    let m : SFits w64 c.args.head.min = search rules in
-    held c.lesser-least.result r ∙ c.lesser-least.ensures ∙ (λ i. lesser_of (held c.args.head.min m i) (held c.args.v c.ranges.v i)) in
-    let greatest : (let a = c.args in to_z w64 (of_z w64 c.greater-greatest.result) ≡ greater_of a.head.max a.v) =
-    let r : SFits w64 c.greater-greatest.result = search rules in
-    let m : SFits w64 c.args.head.max = search rules in
-    held c.greater-greatest.result r ∙ c.greater-greatest.ensures ∙ (λ i. greater_of (held c.args.head.max m i) (held c.args.v c.ranges.v i)) in
-    let a = c.args in
+    let f : SFits w64 a.head.sum = search rules in
+    let summed : c.kept_sum.result ≡ kept_sum a.sums a.head.sum a.v =
+    c.kept_sum.ensures ∙ (λ j. kept_sum a.sums (held a.head.sum f j) (held a.v c.ranges.v j)) in
+    let whole_sum : SFits w64 c.in_ok-sum.sum = search rules in
+    let least : to_z w64 (of_z w64 c.lesser.result) ≡ lesser_of a.head.min a.v =
+    let r : SFits w64 c.lesser.result = search rules in
+    let m : SFits w64 a.head.min = search rules in
+    held c.lesser.result r ∙ c.lesser.ensures ∙ (λ i. lesser_of (held a.head.min m i) (held a.v c.ranges.v i)) in
+    let greatest : to_z w64 (of_z w64 c.greater.result) ≡ greater_of a.head.max a.v =
+    let r : SFits w64 c.greater.result = search rules in
+    let m : SFits w64 a.head.max = search rules in
+    held c.greater.result r ∙ c.greater.ensures ∙ (λ i. greater_of (held a.head.max m i) (held a.v c.ranges.v i)) in
     let xs = a.pos.now in
     let ys = a.neg.now in
-    inside_law a.size a.top a.sums a.head xs ys a.v _ _ _ c.count_in-next.result c.count_in-next.new.pos c.count_in-next.new.neg
-    (none) (sym (summed) ∙ c.in-Some.is ∙ ap Some (sym (held c.in-Some.s (whole_sum))))
-    (subst (λ (p : Point). Written p xs ys c.count_in-next.result c.count_in-next.new.pos c.count_in-next.new.neg)
-    (λ j. record1 a.size (E.read (c.under_counts-h.ensures j).counts xs ys) (class_of zero_float (near j))) c.count_in-next.ensures)
-    (least) (greatest)
+    inside_law a.size a.top a.sums a.head xs ys a.v _ _ _ c.count_in-counts.result c.count_in-counts.new.pos c.count_in-counts.new.neg
+    none (sym summed ∙ c.in_ok-sum.ensures.ok_part ∙ ap Some (sym (held c.in_ok-sum.sum whole_sum)))
+    (subst (λ (p : Point). Written p xs ys c.count_in-counts.result c.count_in-counts.new.pos c.count_in-counts.new.neg)
+    (λ j. record1 a.size (E.read (c.under_counts-h.ensures j).counts xs ys) (class_of zero_float (near j))) c.count_in-counts.ensures)
+    least greatest

@@ -12,8 +12,6 @@ use Rattle.whole_point.specs.Handing as W
 use Rattle.whole_point.specs.Handing.{mixed_number}
 use Rattle.whole_listing.specs.Listed as WL
 use Rattle.whole_listing.specs.declared.Entry as WE
-use Rattle.pooling.specs.declared.Pooled.{Pooled}
-use Rattle.pooling.specs.declared.Pooled.TheVariants.{Refused, Merged}
 
 -- ---- a list that is merged from
 
@@ -63,10 +61,6 @@ seen (Some e) f = real e
 pub record Outcome : Type 0 where
   pub answer : Said Cursor
   pub output : Output
-
-abbrev pub said : Pooled → Said Cursor
-said (Refused n) = refusal n
-said (Merged next) = success next
 
 abbrev pub ends : Said Cursor → Output → Outcome
 ends r o = record { answer = r; output = o }

@@ -1,13 +1,14 @@
 // The two points that are merged, read from their lists: of f64 values, or of i64 values and then merged by their shadows.
 ghost use Rattle.std.specs.Prelude.{◌≡◌};
+ghost use Rattle.refusals.specs.Refusals.{code, said};
 ghost use Rattle.point.specs.Handing.{ended, refusal_before, merging};
-ghost use Rattle.point.specs.Handing as Handing;
 ghost use Rattle.listing.specs.Listed.{bounds_at};
 ghost use Rattle.pooling.specs.Lists.{nameless, bounded, whole_at, bounded_integer, integer_at};
 ghost use Rattle.pooling.specs.Entries.{whole_in, stored_of, shadow_entry};
 
 use listing::{Cursor, Entry};
-use point::Answer;
+use point::Point;
+use refusals::Refusal;
 
 // The point found, if its bounds lie in a store of so many.
 fn bounded_by(many: usize, found: Option<Entry>) -> Option<Entry>
@@ -83,7 +84,7 @@ pub fn shadow_entry(e: whole_listing::Entry) -> Entry
     }
 }
 
-// The number of a merge of two entries' points, 0 for none, but for 10.
+// What refuses a merge of two entries' points, but for 10.
 pub fn refusal_entries(
     size: u32,
     a: Cursor,
@@ -96,9 +97,9 @@ pub fn refusal_entries(
     bbounds: &[f64],
     bpos: &[u64],
     bneg: &[u64],
-) -> u8
+) -> Result<(), Refusal>
     requires { whole_in a e abounds.now apos.now aneg.now × whole_in b f bbounds.now bpos.now bneg.now }
-    ensures { result ≡ refusal_before size (stored_of a e abounds.now apos.now aneg.now)
+    ensures { code result ≡ refusal_before size (stored_of a e abounds.now apos.now aneg.now)
         (stored_of b f bbounds.now bpos.now bneg.now) }
 {
     let s = e.bounds;
@@ -147,9 +148,9 @@ pub fn merge_entries(
     bneg: &[u64],
     pos: &mut [u64],
     neg: &mut [u64],
-) -> Answer
+) -> Result<Point, Refusal>
     requires { whole_in a e abounds.now apos.now aneg.now × whole_in b f bbounds.now bpos.now bneg.now }
-    ensures { ended (Handing.said result) (bounds_at e.bounds abounds.now) pos.new neg.new
+    ensures { ended (said result) (bounds_at e.bounds abounds.now) pos.new neg.new
         ≡ merging size (stored_of a e abounds.now apos.now aneg.now) (stored_of b f bbounds.now bpos.now bneg.now)
         pos.old neg.old }
 {

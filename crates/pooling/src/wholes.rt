@@ -1,32 +1,29 @@
 // Points of i64 values in the lists: two of them merged by their shadows, and one beside a point of f64 values.
 ghost use Rattle.std.specs.Prelude.{◌≡◌};
+ghost use Rattle.refusals.specs.Refusals.{number, said};
 ghost use Rattle.listing.specs.Listed.{output};
-ghost use Rattle.pooling.specs.Lists.{nameless, said, ends, pooled_wholes};
+ghost use Rattle.pooling.specs.Lists.{nameless, ends, pooled_wholes};
 ghost use Rattle.pooling.specs.Entries.{whole_in, whole_of, shadow_entry, renumbered, Numberable, pooled_integers, mixed_at};
 
-use crate::Pooled;
 use listing::Cursor;
+use refusals::Refusal;
 use whole_listing::Entry;
 
 // The merged numbers written over those of the merged shadow, if the shadows were merged.
 fn renumber(
-    r: Pooled,
+    r: Result<Cursor, Refusal>,
     k: usize,
     min: Option<i64>,
     max: Option<i64>,
     sum: i64,
     words: &mut [[u64; 12]],
-) -> Pooled
+) -> Result<Cursor, Refusal>
     requires { Numberable k (said r) words.old }
     ensures { (result ≡ r) × (words.new ≡ renumbered k min max sum (said r) words.old) }
 {
-    match r {
-        Pooled::Refused(n) => Pooled::Refused(n),
-        Pooled::Merged(next) => {
-            words[k] = whole_listing::encode::with_numbers(words[k], min, max, sum);
-            Pooled::Merged(next)
-        }
-    }
+    let next = r?;
+    words[k] = whole_listing::encode::with_numbers(words[k], min, max, sum);
+    Ok(next)
 }
 
 // The points of two entries merged to a point at the cursor, with a set's row and the first's bounds. Where the sum would leave i64, 16 comes
@@ -49,7 +46,7 @@ fn pool(
     words: &mut [[u64; 12]],
     pos: &mut [u64],
     neg: &mut [u64],
-) -> Pooled
+) -> Result<Cursor, Refusal>
     requires { whole_in a (shadow_entry e) abounds.now apos.now aneg.now × whole_in b (shadow_entry f) bbounds.now bpos.now bneg.now }
     ensures { ends (said result) (output sets.new words.new pos.new neg.new)
         ≡ pooled_wholes size row e.bounds (whole_of a e abounds.now apos.now aneg.now)
@@ -62,11 +59,10 @@ fn pool(
     let total = integers::sum(p.sum, q.sum);
     match total {
         None => {
-            let no = crate::entries::refusal_entries(
+            crate::entries::refusal_entries(
                 size, a, x, abounds, apos, aneg, b, y, bbounds, bpos, bneg,
-            );
-            let n = integers::last_number(no);
-            Pooled::Refused(n)
+            )?;
+            Err(Refusal::SumOutside)
         }
         Some(s) => {
             let low = p.min;
@@ -103,27 +99,24 @@ pub fn merge(
     words: &mut [[u64; 12]],
     pos: &mut [u64],
     neg: &mut [u64],
-) -> Pooled
+) -> Result<Cursor, Refusal>
     ensures { ends (said result) (output sets.new words.new pos.new neg.new)
         ≡ pooled_integers size row a (nameless awords.now apos.now aneg.now abounds.now)
         b (nameless bwords.now bpos.now bneg.now bbounds.now)
         at (output sets.old words.old pos.old neg.old) }
 {
-    let first = crate::entries::integer_at(a, awords, apos, aneg, abounds);
-    let second = crate::entries::integer_at(b, bwords, bpos, bneg, bbounds);
-    match first {
-        None => Pooled::Refused(8),
-        Some(e) => match second {
-            None => Pooled::Refused(8),
-            Some(f) => pool(
-                size, row, a, e, abounds, apos, aneg, b, f, bbounds, bpos, bneg, at, sets, words,
-                pos, neg,
-            ),
-        },
-    }
+    let Some(e) = crate::entries::integer_at(a, awords, apos, aneg, abounds) else {
+        return Err(Refusal::Disagrees);
+    };
+    let Some(f) = crate::entries::integer_at(b, bwords, bpos, bneg, bbounds) else {
+        return Err(Refusal::Disagrees);
+    };
+    pool(
+        size, row, a, e, abounds, apos, aneg, b, f, bbounds, bpos, bneg, at, sets, words, pos, neg,
+    )
 }
 
-// The number of a point of i64 values at a beside one of f64 values at b, never 0: 8 where one is not there, then 1, 8, 11.
+// What refuses a point of i64 values at a beside one of f64 values at b: 8 where one is not there, then 1, 8, 11.
 pub fn mixed(
     size: u32,
     a: Cursor,
@@ -136,23 +129,19 @@ pub fn mixed(
     bpos: &[u64],
     bneg: &[u64],
     bbounds: &[f64],
-) -> u8
-    ensures { result ≡ mixed_at size a (nameless awords.now apos.now aneg.now abounds.now)
+) -> Refusal
+    ensures { number result ≡ mixed_at size a (nameless awords.now apos.now aneg.now abounds.now)
         b (nameless bwords.now bpos.now bneg.now bbounds.now) }
 {
-    let first = crate::entries::integer_at(a, awords, apos, aneg, abounds);
-    let second = crate::entries::whole_at(b, bwords, bpos, bneg, bbounds);
-    match first {
-        None => 8,
-        Some(e) => match second {
-            None => 8,
-            Some(f) => {
-                let x = crate::entries::shadow_entry(e);
-                let no = crate::entries::refusal_entries(
-                    size, a, x, abounds, apos, aneg, b, f, bbounds, bpos, bneg,
-                );
-                whole_point::beside(no)
-            }
-        },
-    }
+    let Some(e) = crate::entries::integer_at(a, awords, apos, aneg, abounds) else {
+        return Refusal::Disagrees;
+    };
+    let Some(f) = crate::entries::whole_at(b, bwords, bpos, bneg, bbounds) else {
+        return Refusal::Disagrees;
+    };
+    let x = crate::entries::shadow_entry(e);
+    let no = crate::entries::refusal_entries(
+        size, a, x, abounds, apos, aneg, b, f, bbounds, bpos, bneg,
+    );
+    whole_point::beside(no)
 }

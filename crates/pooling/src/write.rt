@@ -1,13 +1,13 @@
 // The list that is merged into.
 ghost use Rattle.std.specs.Prelude.{◌≡◌};
 ghost use Rattle.laws.specs.Pick.{pick};
+ghost use Rattle.refusals.specs.Refusals.{said};
 ghost use Rattle.listing.specs.Listed.{output};
-ghost use Rattle.pooling.specs.Lists.{said, ends, placed, pooled};
+ghost use Rattle.pooling.specs.Lists.{ends, placed, pooled};
 ghost use Rattle.pooling.specs.Entries.{whole_in, stored_of};
 
-use crate::Pooled;
 use listing::{Cursor, Entry};
-use point::Answer;
+use refusals::Refusal;
 
 // Whether stores of so many have a place at the cursor.
 fn has_place(at: Cursor, sets: usize, words: usize, pos: usize, neg: usize) -> bool
@@ -54,7 +54,7 @@ pub fn pool(
     words: &mut [[u64; 12]],
     pos: &mut [u64],
     neg: &mut [u64],
-) -> Pooled
+) -> Result<Cursor, Refusal>
     requires { whole_in a e abounds.now apos.now aneg.now × whole_in b f bbounds.now bpos.now bneg.now }
     ensures { ends (said result) (output sets.new words.new pos.new neg.new)
         ≡ pooled size row e.bounds (stored_of a e abounds.now apos.now aneg.now) (stored_of b f bbounds.now bpos.now bneg.now)
@@ -63,7 +63,7 @@ pub fn pool(
     let ok = has_place(at, sets.len(), words.len(), pos.len(), neg.len());
     let i = start_of(ok, at.pos, pos.len());
     let j = start_of(ok, at.neg, neg.len());
-    let r = crate::entries::merge_entries(
+    let p = crate::entries::merge_entries(
         size,
         a,
         e,
@@ -77,20 +77,14 @@ pub fn pool(
         bneg,
         &mut pos[i..],
         &mut neg[j..],
-    );
-    let s = e.bounds;
-    match r {
-        Answer::Refused(n) => Pooled::Refused(n),
-        Answer::Merged(p) => {
-            if !ok {
-                return Pooled::Refused(10);
-            }
-            let k = at.place;
-            let g = p.figures;
-            let next = listing::put::cursor_behind(at, g, s);
-            sets[k] = row;
-            words[k] = listing::encode::words_of(p, s);
-            Pooled::Merged(next)
-        }
+    )?;
+    if !ok {
+        return Err(Refusal::NoRoom);
     }
+    let s = e.bounds;
+    let k = at.place;
+    let next = listing::put::cursor_behind(at, p.figures, s);
+    sets[k] = row;
+    words[k] = listing::encode::words_of(p, s);
+    Ok(next)
 }

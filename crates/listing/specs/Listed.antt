@@ -1,6 +1,7 @@
 -- A list of points in lent output: sets' rows, points' words, and their counts packed one after another in two stores. Assumes nothing.
 -- docs/LIST.md tells it in words: one form for collections, merges and sheets.
-use Rattle.std.specs.Prelude.{ℕ, zero, suc, ◌+◌, ◌-◌, Bool, true, false, ◌&&◌, List, [], ◌∷◌, ◌++◌, leb, length, get_or, set, take, drop, Float, Option, Some, None}
+use Rattle.std.specs.Prelude.{ℕ, zero, suc, ◌+◌, ◌-◌, Bool, true, false, ◌&&◌, List, [], ◌∷◌, ◌++◌, leb, length, get_or, set, take, drop, Float, Some, None}
+use Rattle.std.specs.Prelude as Std
 use Rattle.std.proofs.Math.Option.{Option, none, some, map}
 use Rattle.laws.specs.Over.{over}
 use Rattle.laws.specs.Pick.{pick}
@@ -66,13 +67,13 @@ abbrev pub within : Cursor → Figures → Span → ℕ → ℕ → Bool
 within at f b pos neg = leb (at.pos + pos_len f b) pos && leb (at.neg + neg_len f) neg
 
 -- that of twelve words: none where they are no point's, or where its counts are not there
-unfoldable pub entry_in : Cursor → List ℕ → ℕ → ℕ → Option Entry
+unfoldable pub entry_in : Cursor → List ℕ → ℕ → ℕ → Std.Option Entry
 entry_in at w pos neg =
     pick (is_point w && within at (point_in w).figures (bounds_in w) pos neg)
     (Some (record { point = point_in w; bounds = bounds_in w; next = behind at (point_in w).figures (bounds_in w) }))
     None
 
-unfoldable pub point_at : Cursor → List (List ℕ) → ℕ → ℕ → Option Entry
+unfoldable pub point_at : Cursor → List (List ℕ) → ℕ → ℕ → Std.Option Entry
 point_at at words pos neg =
     pick (leb (length words) at.place) None (entry_in at (get_or words at.place []) pos neg)
 

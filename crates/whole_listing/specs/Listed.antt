@@ -1,6 +1,7 @@
 -- Points of i64 values in a list in lent output. The list's form, its cursors and its counts are those of crate `listing`; only a point's words are
 -- its own. Assumes nothing.
-use Rattle.std.specs.Prelude.{ℕ, Bool, true, false, ◌&&◌, List, [], leb, length, get_or, set, take, Float, Option, Some, None}
+use Rattle.std.specs.Prelude.{ℕ, Bool, true, false, ◌&&◌, List, [], leb, length, get_or, set, take, Float, Some, None}
+use Rattle.std.specs.Prelude as Std
 use Rattle.std.proofs.Math.Option.{Option, none, some}
 use Rattle.laws.specs.Pick.{pick}
 use Rattle.whole_point.specs.Handing.{Stored, stored_in}
@@ -24,13 +25,13 @@ put_at at row p b xs ys o =
 -- ---- the point at a cursor
 
 -- that of twelve words: none where they are no i64 point's, or where its counts are not there
-unfoldable pub entry_in : Cursor → List ℕ → ℕ → ℕ → Option Entry
+unfoldable pub entry_in : Cursor → List ℕ → ℕ → ℕ → Std.Option Entry
 entry_in at w pos neg =
     pick (is_point w && within at (point_in w).figures (bounds_in w) pos neg)
     (Some (record { point = point_in w; bounds = bounds_in w; next = behind at (point_in w).figures (bounds_in w) }))
     None
 
-unfoldable pub point_at : Cursor → List (List ℕ) → ℕ → ℕ → Option Entry
+unfoldable pub point_at : Cursor → List (List ℕ) → ℕ → ℕ → Std.Option Entry
 point_at at words pos neg =
     pick (leb (length words) at.place) None (entry_in at (get_or words at.place []) pos neg)
 

@@ -16,24 +16,26 @@ greater_of a v = pick (lt a v) v a
 abbrev pub shows : Bool → ℕ → Bool
 shows switch count = switch && not (eqb count 0)
 
--- the extreme that it then has, of the number that is held
-abbrev pub shown_of : Bool → ℕ → Float → Option Float
+-- the extreme that it then has, of the number that is held, an f64 or an i64
+abbrev pub shown_of : {A : Type 0} → Bool → ℕ → A → Option A
 shown_of switch count x = pick (shows switch count) (Some x) None
 
-abbrev pub is_shown : Option Float → Bool
+abbrev pub is_shown : {A : Type 0} → Option A → Bool
 is_shown None = false
 is_shown (Some x) = true
 
--- the smaller of two minima, and the larger of two maxima; document 02, L4: "Merging with such a point keeps the other's extremes"
+-- of two extremes, the one that is chosen where both are there; document 02, L4: "Merging with such a point keeps the other's extremes"
+abbrev pub either_by : {A : Type 0} → (A → A → A) → Option A → Option A → Option A
+either_by choose None b = b
+either_by choose (Some x) None = Some x
+either_by choose (Some x) (Some y) = Some (choose x y)
+
+-- the smaller of two minima, and the larger of two maxima
 abbrev pub smaller_of : Option Float → Option Float → Option Float
-smaller_of None b = b
-smaller_of (Some x) None = Some x
-smaller_of (Some x) (Some y) = Some (lesser_of x y)
+smaller_of = either_by lesser_of
 
 abbrev pub larger_of : Option Float → Option Float → Option Float
-larger_of None b = b
-larger_of (Some x) None = Some x
-larger_of (Some x) (Some y) = Some (greater_of x y)
+larger_of = either_by greater_of
 
 -- "A NaN sum is handed out as 7FF8000000000000"
 abbrev pub bits_of : Float → ℕ

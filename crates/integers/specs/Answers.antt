@@ -4,7 +4,8 @@ use Rattle.std.specs.Int.Signed.{mag}
 use Rattle.std.specs.Float.{binary64}
 use Rattle.std.specs.Float.Ieee.{of_int}
 use Rattle.laws.specs.Pick.{pick}
-use Rattle.floats.specs.Answers.{shows}
+use Rattle.floats.specs.Answers.{either_by}
+pub use Rattle.floats.specs.Answers.{shown_of, is_shown}
 
 -- document 02, L6: "the f64 nearest to the whole number, ties to the even mantissa" (the laws `nearest-is`, `one-nearest`)
 abbrev pub nearest_of : ℤ → Float
@@ -46,19 +47,8 @@ of_bits b = pick (nat_lt b (2 ^ 63)) (pos b) (negsuc (2 ^ 64 - suc b))
 
 -- ---- extremes, as those of f64 (crate floats)
 
-abbrev pub shown_of : Bool → ℕ → ℤ → Option ℤ
-shown_of switch count x = pick (shows switch count) (Some x) None
-
-abbrev pub is_shown : Option ℤ → Bool
-is_shown None = false
-is_shown (Some x) = true
-
 abbrev pub smaller_of : Option ℤ → Option ℤ → Option ℤ
-smaller_of None b = b
-smaller_of (Some x) None = Some x
-smaller_of (Some x) (Some y) = Some (lesser_of x y)
+smaller_of = either_by lesser_of
 
 abbrev pub larger_of : Option ℤ → Option ℤ → Option ℤ
-larger_of None b = b
-larger_of (Some x) None = Some x
-larger_of (Some x) (Some y) = Some (greater_of x y)
+larger_of = either_by greater_of

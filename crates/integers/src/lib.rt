@@ -1,9 +1,9 @@
-// i64 as histograms use it: the nearest f64, the lesser and the greater of two, a sum that may leave the range, bits.
+// i64 as histograms use it: the nearest f64, a sum that may leave the range, bits.
 #![tactic(auto)]
 
 ghost use Rattle.std.specs.Prelude.{◌≡◌, ◌^◌, ◌<◌, true};
 ghost use Rattle.std.specs.Int.Signed.{mag};
-ghost use Rattle.integers.specs.Answers.{between, nearest_of, lesser_of, greater_of, sum_of, kept_sum, last_number, bits_of, of_bits, shown_of, smaller_of, larger_of};
+ghost use Rattle.integers.specs.Answers.{between, nearest_of, sum_of, kept_sum, last_number, bits_of, of_bits};
 
 // Whether low <= n < end.
 fn is_between(low: i64, n: i64, end: i64) -> bool
@@ -23,20 +23,6 @@ pub fn nearest(n: i64) -> f64
         return n as f64;
     }
     std::num::nearest_i64_to_f64(n)
-}
-
-// The lesser of two.
-pub fn lesser(a: i64, v: i64) -> i64
-    ensures { result ≡ lesser_of a v }
-{
-    if v < a { v } else { a }
-}
-
-// The greater of two.
-pub fn greater(a: i64, v: i64) -> i64
-    ensures { result ≡ greater_of a v }
-{
-    if a < v { v } else { a }
 }
 
 // Whether both lie in the middle half of i64, where no sum leaves it.
@@ -113,40 +99,4 @@ pub fn of_bits(bits: u64) -> i64
         return bits as i64;
     }
     -1 - ((0xFFFF_FFFF_FFFF_FFFF - bits) as i64)
-}
-
-// An extreme as it is handed out: the number held, or none with the switch off or nothing counted.
-pub fn shown(switch: bool, count: u64, x: i64) -> Option<i64>
-    ensures { result ≡ shown_of switch count x }
-{
-    if floats::shows_extremes(switch, count) {
-        return Some(x);
-    }
-    None
-}
-
-// The smaller of two minima; one that is there wins over none.
-pub fn smaller(low: Option<i64>, other: Option<i64>) -> Option<i64>
-    ensures { result ≡ smaller_of low other }
-{
-    match low {
-        None => other,
-        Some(x) => match other {
-            None => low,
-            Some(y) => Some(lesser(x, y)),
-        },
-    }
-}
-
-// The larger of two maxima; one that is there wins over none.
-pub fn larger(high: Option<i64>, other: Option<i64>) -> Option<i64>
-    ensures { result ≡ larger_of high other }
-{
-    match high {
-        None => other,
-        Some(x) => match other {
-            None => high,
-            Some(y) => Some(greater(x, y)),
-        },
-    }
 }

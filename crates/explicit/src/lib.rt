@@ -12,6 +12,7 @@ ghost use Rattle.explicit.specs.Series.{buckets_in, freshening, refusal_of, outc
 ghost use Rattle.explicit.specs.Inner.{Addable};
 
 use exponential::Halves;
+use numbers::Number;
 use refusals::Refusal;
 
 #[derive(Clone, Copy)]
@@ -218,8 +219,8 @@ pub fn record(bounds: &[f64], head: Head, counts: &mut [u64], v: f64) -> Result<
 {
     refusal(bounds, head, counts, v)?;
     count_in(bounds, counts, v);
-    let least = floats::lesser(head.min, v);
-    let greatest = floats::greater(head.max, v);
+    let least = head.min.lesser(v);
+    let greatest = head.max.greater(v);
     Ok(Head {
         count: head.count + 1,
         min: least,

@@ -8,6 +8,7 @@ ghost use Rattle.explicit.specs.Series.{head_of, summary};
 ghost use Rattle.explicit_batches.specs.Values.{series, step, Sound, barring};
 
 use explicit::Head;
+use numbers::Number;
 use refusals::Refusal;
 
 // What a list of values left: the head, how many were taken, and how it ended: with what refused the next one, if one was refused.
@@ -36,8 +37,8 @@ fn raised(h: Head, v: f64) -> Head
     requires { h.count < most_count }
     ensures { result ≡ head_of (h.count + 1) (noted (summary h) v) }
 {
-    let least = floats::lesser(h.min, v);
-    let greatest = floats::greater(h.max, v);
+    let least = h.min.lesser(v);
+    let greatest = h.max.greater(v);
     Head {
         count: h.count + 1,
         min: least,

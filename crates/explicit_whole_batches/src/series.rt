@@ -8,6 +8,7 @@ ghost use Rattle.explicit_batches.specs.Values.{Counted, head_after};
 ghost use Rattle.explicit_whole_batches.specs.Values.{series, step, raising};
 
 use explicit_wholes::Head;
+use numbers::Number;
 use refusals::Refusal;
 
 // What a list of values left: the head, how many were taken, and how it ended: with what refused the next one, if one was refused.
@@ -26,8 +27,8 @@ fn raised(sums: bool, head: Head, v: i64) -> Result<Head, Refusal>
         return Err(Refusal::Full);
     }
     let s = integers::kept_sum(sums, head.sum, v).ok_or(Refusal::SumOutside)?;
-    let least = integers::lesser(head.min, v);
-    let greatest = integers::greater(head.max, v);
+    let least = head.min.lesser(v);
+    let greatest = head.max.greater(v);
     Ok(Head {
         count: head.count + 1,
         min: least,

@@ -6,6 +6,7 @@ ghost use Rattle.std.specs.Prelude.{◌≡◌};
 ghost use Rattle.explicit_wholes.specs.Series.{under, outcome, freshening, recording};
 ghost use Rattle.refusals.specs.Refusals.{said};
 
+use numbers::Number;
 use refusals::Refusal;
 
 #[derive(Clone, Copy)]
@@ -61,8 +62,8 @@ pub fn record(
     let g = explicit::record(bounds, h, counts, x)?;
     Ok(Head {
         count: g.count,
-        min: integers::lesser(head.min, v),
-        max: integers::greater(head.max, v),
+        min: head.min.lesser(v),
+        max: head.max.greater(v),
         sum,
     })
 }

@@ -18,6 +18,7 @@ ghost use Rattle.exponential.specs.Inner.{Laid, Written, row_agrees, halved, add
 ghost use Rattle.exponential.specs.Series.{refusal_of, outcome, recording};
 ghost use Rattle.refusals.specs.Refusals.{code, said};
 
+use numbers::Number;
 use refusals::Refusal;
 use rows::Row;
 
@@ -303,8 +304,8 @@ pub fn record(
 {
     refusal(size, top, head, pos, neg, v)?;
     let next = count_in(size, top, head, pos, neg, v);
-    let least = floats::lesser(head.min, v);
-    let greatest = floats::greater(head.max, v);
+    let least = head.min.lesser(v);
+    let greatest = head.max.greater(v);
     Ok(Head {
         counts: next,
         min: least,

@@ -7,6 +7,7 @@ ghost use Rattle.many.specs.Many.{many, each};
 ghost use Rattle.exponential_batches.specs.Series.{series, Sound, step};
 
 use exponential::Head;
+use numbers::Number;
 use refusals::Refusal;
 
 // The head after many values, how many were taken, and how it ended: with what refused the next one, if one was refused.
@@ -23,8 +24,8 @@ fn noted(size: u32, top: u32, head: Head, pos: &mut [u64], neg: &mut [u64], v: f
     ensures { after 0 (series result pos.new neg.new) ≡ step size top (series head pos.old neg.old) v }
 {
     let next = exponential::count_in(size, top, head, pos, neg, v);
-    let least = floats::lesser(head.min, v);
-    let greatest = floats::greater(head.max, v);
+    let least = head.min.lesser(v);
+    let greatest = head.max.greater(v);
     Head {
         counts: next,
         min: least,

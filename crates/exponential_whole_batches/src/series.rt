@@ -8,6 +8,7 @@ ghost use Rattle.exponential_whole_batches.specs.Series.{series, Sound, head_aft
 
 use exponential::Counts;
 use exponential_wholes::Head;
+use numbers::Number;
 use refusals::Refusal;
 
 // What a list of values leaves: the head, how many were taken, and how it ended: with what refused the next one, if one was refused.
@@ -50,8 +51,8 @@ fn next(
     let s = integers::kept_sum(sums, head.sum, v).ok_or(Refusal::SumOutside)?;
     let h = under_counts(c);
     let x = integers::nearest(v);
-    let least = integers::lesser(head.min, v);
-    let greatest = integers::greater(head.max, v);
+    let least = head.min.lesser(v);
+    let greatest = head.max.greater(v);
     let more = exponential::count_in(size, top, h, pos, neg, x);
     Ok(Head {
         counts: more,

@@ -6,6 +6,7 @@ ghost use Rattle.std.specs.Prelude.{◌≡◌};
 ghost use Rattle.exponential_wholes.specs.Series.{fresh_head, under, outcome, recording};
 ghost use Rattle.refusals.specs.Refusals.{said};
 
+use numbers::Number;
 use exponential::Counts;
 use refusals::Refusal;
 
@@ -65,8 +66,8 @@ pub fn record(
     let counts = exponential::count_in(size, top, h, pos, neg, x);
     Ok(Head {
         counts,
-        min: integers::lesser(head.min, v),
-        max: integers::greater(head.max, v),
+        min: head.min.lesser(v),
+        max: head.max.greater(v),
         sum,
     })
 }

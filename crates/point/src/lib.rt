@@ -64,8 +64,8 @@ fn handed_out(figures: Figures, min: f64, max: f64, sum: f64, extremes: bool, su
     ensures { result ≡ shown_point figures min max sum extremes sums }
 {
     let count = count_in(figures);
-    let low = floats::shown(extremes, count, min);
-    let high = floats::shown(extremes, count, max);
+    let low = numbers::shown(extremes, count, min);
+    let high = numbers::shown(extremes, count, max);
     let total = shown_sum(sums, sum);
     Point {
         figures,
@@ -305,8 +305,8 @@ fn merge_explicit(
 fn finish(a: Point, b: Point, figures: Figures) -> Point
     ensures { result ≡ merged_of a b figures }
 {
-    let min = floats::smaller(a.min, b.min);
-    let max = floats::larger(a.max, b.max);
+    let min = numbers::smaller(a.min, b.min);
+    let max = numbers::larger(a.max, b.max);
     Point {
         figures,
         extremes: a.extremes,

@@ -69,8 +69,8 @@ fn pool(
             let lower = q.min;
             let high = p.max;
             let higher = q.max;
-            let min = integers::smaller(low, lower);
-            let max = integers::larger(high, higher);
+            let min = numbers::smaller(low, lower);
+            let max = numbers::larger(high, higher);
             let r = crate::write::pool(
                 size, row, a, x, abounds, apos, aneg, b, y, bbounds, bpos, bneg, at, sets, words,
                 pos, neg,

@@ -39,8 +39,8 @@ pub fn exponential_point(head: exponential_wholes::Head, extremes: bool, sums: b
 {
     let c = head.counts;
     let f = Figures::Exponential(c);
-    let low = integers::shown(extremes, c.count, head.min);
-    let high = integers::shown(extremes, c.count, head.max);
+    let low = numbers::shown(extremes, c.count, head.min);
+    let high = numbers::shown(extremes, c.count, head.max);
     let total = shown_sum(sums, head.sum);
     Point {
         figures: f,
@@ -56,8 +56,8 @@ pub fn explicit_point(head: explicit_wholes::Head, extremes: bool, sums: bool) -
     ensures { result ≡ explicit_point head extremes sums }
 {
     let f = Figures::Explicit(head.count);
-    let low = integers::shown(extremes, head.count, head.min);
-    let high = integers::shown(extremes, head.count, head.max);
+    let low = numbers::shown(extremes, head.count, head.min);
+    let high = numbers::shown(extremes, head.count, head.max);
     let total = shown_sum(sums, head.sum);
     Point {
         figures: f,
@@ -103,8 +103,8 @@ pub fn shadow_of(p: Point) -> point::Point
 fn finish(a: Point, b: Point, s: i64, counted: point::Point) -> Point
     ensures { result ≡ merged_of a b s counted }
 {
-    let min = integers::smaller(a.min, b.min);
-    let max = integers::larger(a.max, b.max);
+    let min = numbers::smaller(a.min, b.min);
+    let max = numbers::larger(a.max, b.max);
     Point {
         figures: counted.figures,
         extremes: a.extremes,

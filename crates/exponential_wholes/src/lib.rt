@@ -6,8 +6,8 @@ ghost use Rattle.std.specs.Prelude.{◌≡◌};
 ghost use Rattle.exponential_wholes.specs.Series.{fresh_head, under, outcome, recording};
 ghost use Rattle.refusals.specs.Refusals.{said};
 
-use numbers::Number;
 use exponential::Counts;
+use numbers::Number;
 use refusals::Refusal;
 
 #[derive(Clone, Copy)]

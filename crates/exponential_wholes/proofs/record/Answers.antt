@@ -5,7 +5,6 @@ use mir.Syntax.{w64}
 use mir.Val.{SFits, to_z, of_z}
 use Rattle.floats.specs.Starts.{zero_float}
 use Rattle.integers.specs.Answers.{nearest_of, kept_sum, lesser_of, greater_of}
-
 use Rattle.integers.proofs.Range.{held}
 use Rattle.points.specs.Points.{Point, record1}
 use Rattle.points.specs.Classes.{class_of}

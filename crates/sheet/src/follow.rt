@@ -1,20 +1,18 @@
 // A line followed, in a sheet or outside.
-ghost use Rattle.std.specs.Prelude.{◌≡◌, []};
-ghost use Rattle.laws.specs.Pick.{pick};
-ghost use Rattle.lines.specs.Gathered.{waiting, ◌behind◌};
+ghost use Rattle.std.specs.Prelude.{◌≡◌};
+ghost use Rattle.lines.specs.Gathered.{waiting};
 ghost use Rattle.directory.specs.View.{stores};
 ghost use Rattle.exponential_slots.specs.Cells.{cells as cells_in};
 ghost use Rattle.pooling.specs.Lists.{source};
-ghost use Rattle.printing.specs.Printed.{unread_line};
-ghost use Rattle.sheet.specs.Followed.{followed, after_step, after_line};
+ghost use Rattle.sheet.specs.Followed.{done, followed, told, after_step, after_line};
 
 use crate::reading;
-use crate::state::{Bytes, Done, ListedBounds, ListedCounts, ListedSets, ListedWords, State};
+use crate::state::{Bytes, ListedBounds, ListedCounts, ListedSets, ListedWords, Next, State};
 use gauge_lines::cells::{Counts, Entries, Extremes, Figures, Order, Sets};
 use lines::Block;
 use std::io::Stdout;
 
-// Makes what a line asks for.
+// Makes what a line asks for; none where it can't be followed.
 fn step(
     out: &Stdout,
     st: State,
@@ -35,8 +33,8 @@ fn step(
     out_neg: &mut ListedCounts,
     bounds: &mut ListedBounds,
     sheet: &mut Bytes,
-) -> Done
-    ensures { followed result text.new (stores sets.new entries.new order.new)
+) -> Option<Next>
+    ensures { followed (done st.gauge n result) text.new (stores sets.new entries.new order.new)
         (cells_in figures.new extremes.new pos.new neg.new)
         (source out_sets.new out_words.new out_pos.new out_neg.new bounds.new) sheet.new
         ≡ after_step st line.now over (waiting n text.old) (stores sets.old entries.old order.old)
@@ -48,27 +46,15 @@ fn step(
             out, st, line, over, text, n, out_sets, out_words, out_pos, out_neg, bounds, sheet,
         );
     }
-    let g = st.gauge;
-    let asked = reading::records_in(line);
-    match asked {
-        Some(records) => reading::begin(
-            out, g, records, text, n, out_sets, out_words, out_pos, out_neg, bounds, sheet,
-        ),
+    match reading::records_in(line) {
+        Some(records) => Some(reading::begin(
+            out, st.gauge, records, text, n, out_sets, out_words, out_pos, out_neg, bounds, sheet,
+        )),
         None => crate::calls::make(
-            out, g, line, over, text, n, sets, entries, order, figures, extremes, pos, neg,
+            out, st.gauge, line, over, text, n, sets, entries, order, figures, extremes, pos, neg,
             out_sets, out_words, out_pos, out_neg, bounds, sheet,
         ),
     }
-}
-
-// What is said of a line: nothing where it was followed. How much text there is then.
-fn said(out: &Stdout, taken: bool, number: u64, text: &mut Block, n: usize) -> usize
-    ensures { waiting result text.new ≡ pick taken [] (unread_line number) behind waiting n text.old }
-{
-    if taken {
-        return n;
-    }
-    printing::unread(out, text, n, number)
 }
 
 // Follows a line: makes what it asks for, and says `? N`, N its number, where it can't be followed.
@@ -93,8 +79,10 @@ pub fn follow(
     out_neg: &mut ListedCounts,
     bounds: &mut ListedBounds,
     sheet: &mut Bytes,
-) -> Done
-    ensures { followed result text.new (stores sets.new entries.new order.new)
+) -> Next
+    ensures { followed (told (after_line number st line.now over (waiting n text.old) (stores sets.old entries.old order.old)
+        (cells_in figures.old extremes.old pos.old neg.old)
+        (source out_sets.old out_words.old out_pos.old out_neg.old bounds.old) sheet.old) result) text.new (stores sets.new entries.new order.new)
         (cells_in figures.new extremes.new pos.new neg.new)
         (source out_sets.new out_words.new out_pos.new out_neg.new bounds.new) sheet.new
         ≡ after_line number st line.now over (waiting n text.old) (stores sets.old entries.old order.old)
@@ -105,10 +93,8 @@ pub fn follow(
         out, st, line, over, text, n, sets, entries, order, figures, extremes, pos, neg, out_sets,
         out_words, out_pos, out_neg, bounds, sheet,
     );
-    let state = made.state;
-    Done {
-        taken: made.taken,
-        state,
-        text: said(out, made.taken, number, text, made.text),
+    match made {
+        Some(next) => next,
+        None => crate::state::ended(st.gauge, printing::unread(out, text, n, number)),
     }
 }

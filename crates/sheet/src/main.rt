@@ -40,9 +40,10 @@ fn main(rt: HostRuntime) {
     let mut sheet = [0u8; 233504];
     let mut ports = lines::input::first();
     let mut state = state::first();
-    let mut number: u64 = 0;
-    while number < u64::MAX && !ports.over {
-        number += 1;
+    for number in 1..=u64::MAX {
+        if ports.over {
+            break;
+        }
         ports = lines::input::next(&input, &out, ports, &mut block, &mut line, &text);
         let done = follow::follow(
             &out,
@@ -66,8 +67,7 @@ fn main(rt: HostRuntime) {
             &mut bounds,
             &mut sheet,
         );
-        let next = done.state;
-        state = next;
+        state = done.state;
         ports.waiting = done.text;
     }
     lines::output::write(&out, &text, ports.waiting);

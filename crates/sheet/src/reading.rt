@@ -4,13 +4,12 @@ ghost use Rattle.lines.specs.Gathered.{waiting};
 ghost use Rattle.pooling.specs.Lists.{source};
 ghost use Rattle.sheet_reading.specs.Reading.{reading};
 ghost use Rattle.sheet.specs.Shown.{few_in, records_of, shown, shown_by};
-ghost use Rattle.sheet.specs.Followed.{went, went_on, opened, no_line, in_sheet, record_put};
+ghost use Rattle.sheet.specs.Followed.{taken_by, done, went, went_on, opened, no_line, in_sheet, record_put};
 
-use crate::state::{Bytes, Done, ListedBounds, ListedCounts, ListedSets, ListedWords, State};
+use crate::state::{Bytes, ListedBounds, ListedCounts, ListedSets, ListedWords, Next, State};
 use gauge_lines::cells::Gauge;
 use lines::Block;
 use printing::Form;
-use sheet_reading::Answer;
 use std::io::Stdout;
 
 // The most records that a sheet has: the header, and 114 for each of 64 points.
@@ -20,9 +19,7 @@ const MOST_RECORDS: u64 = 7297;
 fn few(n: Option<u64>) -> Option<u64>
     ensures { result ≡ few_in n }
 {
-    let Some(records) = n else {
-        return None;
-    };
+    let records = n?;
     if records > MOST_RECORDS {
         return None;
     }
@@ -61,12 +58,10 @@ fn show(
         ≡ shown_by (reading bytes.now (source sets.old words.old pos.old neg.old bounds.old))
         (waiting n text.old) }
 {
-    let answer = sheet_reading::read(bytes, sets, words, pos, neg, bounds);
-    match answer {
-        Answer::Refused(no) => crate::writing::refusal(out, text, n, no),
-        Answer::Is(listed) => {
+    match sheet_reading::read(bytes, sets, words, pos, neg, bounds) {
+        Err(no) => crate::writing::refusal(out, text, n, no),
+        Ok(listed) => {
             let h = listed.header;
-            let many = listed.points;
             printing::collection(
                 out,
                 text,
@@ -74,7 +69,7 @@ fn show(
                 Form::Point,
                 h.start,
                 h.time,
-                many,
+                listed.points,
                 sets,
                 words,
                 pos,
@@ -97,24 +92,18 @@ fn go_on(
     neg: &mut ListedCounts,
     bounds: &mut ListedBounds,
     sheet: &Bytes,
-) -> Done
-    ensures { went result text.new (source sets.new words.new pos.new neg.new bounds.new)
+) -> Next
+    ensures { went (taken_by result) text.new (source sets.new words.new pos.new neg.new bounds.new)
         ≡ went_on st (waiting n text.old) (source sets.old words.old pos.old neg.old bounds.old)
         sheet.now }
 {
     if st.left > 0 {
-        return Done {
-            taken: true,
-            state: st,
-            text: n,
-        };
+        return Next { state: st, text: n };
     }
     let bytes = crate::writing::front(sheet, st.at);
-    let end = show(out, text, n, bytes, sets, words, pos, neg, bounds);
-    Done {
-        taken: true,
+    Next {
         state: st,
-        text: end,
+        text: show(out, text, n, bytes, sets, words, pos, neg, bounds),
     }
 }
 
@@ -131,8 +120,8 @@ pub fn begin(
     neg: &mut ListedCounts,
     bounds: &mut ListedBounds,
     sheet: &Bytes,
-) -> Done
-    ensures { went result text.new (source sets.new words.new pos.new neg.new bounds.new)
+) -> Next
+    ensures { went (taken_by result) text.new (source sets.new words.new pos.new neg.new bounds.new)
         ≡ went_on (opened gauge records) (waiting n text.old)
         (source sets.old words.old pos.old neg.old bounds.old) sheet.now }
 {
@@ -148,10 +137,7 @@ pub fn begin(
 fn is_none(line: &[u8], over: bool) -> bool
     ensures { result ≡ no_line line.now over }
 {
-    if line.len() == 0 {
-        return over;
-    }
-    false
+    line.len() == 0 && over
 }
 
 // Follows a line in a sheet: one that is no record ends it.
@@ -168,25 +154,23 @@ pub fn follow(
     neg: &mut ListedCounts,
     bounds: &mut ListedBounds,
     sheet: &mut Bytes,
-) -> Done
+) -> Option<Next>
     requires { 0 < st.left }
-    ensures bounds_value { went result text.new (source sets.new words.new pos.new neg.new bounds.new)
+    ensures bounds_value { went (done st.gauge n result) text.new (source sets.new words.new pos.new neg.new bounds.new)
         ≡ in_sheet st line.now over (waiting n text.old)
         (source sets.old words.old pos.old neg.old bounds.old) sheet.old }
     ensures sheet_after { sheet.new ≡ record_put st line.now over sheet.old }
 {
-    let gauge = st.gauge;
     if is_none(line, over) {
-        return crate::state::ended(true, gauge, n);
+        return Some(crate::state::ended(st.gauge, n));
     }
     if !crate::digits::is_record(line) {
-        return crate::state::ended(false, gauge, n);
+        return None;
     }
-    let at = crate::digits::put(sheet, st.at, line);
     let next = State {
-        gauge,
+        gauge: st.gauge,
         left: st.left - 1,
-        at,
+        at: crate::digits::put(sheet, st.at, line),
     };
-    go_on(out, next, text, n, sets, words, pos, neg, bounds, sheet)
+    Some(go_on(out, next, text, n, sets, words, pos, neg, bounds, sheet))
 }

@@ -25,16 +25,15 @@ pub struct State {
     pub at: usize,
 }
 
-// What came of a line: whether it was followed, how the program stands, and how much text there is then.
+// How the program stands after a line that was followed, and how much text there is then.
 #[derive(Clone, Copy)]
-pub struct Done {
-    pub taken: bool,
+pub struct Next {
     pub state: State,
     pub text: usize,
 }
 
 // Outside a sheet.
-fn outside(gauge: Gauge) -> State
+pub fn outside(gauge: Gauge) -> State
     ensures { result ≡ outside_of gauge }
 {
     State {
@@ -51,10 +50,12 @@ pub fn first() -> State
     outside(gauge_lines::cells::idle())
 }
 
-// What came of a line behind which the program stands outside a sheet.
-pub fn ended(taken: bool, gauge: Gauge, text: usize) -> Done
-    ensures { result ≡ record { taken = taken; state = outside_of gauge; text = text } }
+// After a line that was followed, and behind which the program stands outside a sheet.
+pub fn ended(gauge: Gauge, text: usize) -> Next
+    ensures { result ≡ record { state = outside_of gauge; text = text } }
 {
-    let state = outside(gauge);
-    Done { taken, state, text }
+    Next {
+        state: outside(gauge),
+        text,
+    }
 }

@@ -1,22 +1,23 @@
 // The sheet of a list that was collected, as text: `s RECORDS`, and a line for each record.
 ghost use Rattle.std.specs.Prelude.{◌≡◌, take};
 ghost use Rattle.lines.specs.Gathered.{waiting, ◌behind◌};
+ghost use Rattle.refusals.specs.Refusals.{number as refusal_number};
 ghost use Rattle.pooling.specs.Lists.{source};
 ghost use Rattle.sheet_writing.specs.Writing.{writing};
 ghost use Rattle.sheet.specs.Shown.{refusal_line, sheet_lines, wrote, wrote_by};
 
 use crate::state::{Bytes, ListedBounds, ListedCounts, ListedSets, ListedWords};
 use lines::{Block, output};
-use sheet_writing::Answer;
+use refusals::Refusal;
 use sheets::Header;
 use std::io::Stdout;
 
 // `! N` for a refusal, behind n bytes of text; how many there are then.
-pub fn refusal(out: &Stdout, text: &mut Block, n: usize, no: u8) -> usize
-    ensures { waiting result text.new ≡ refusal_line no behind waiting n text.old }
+pub fn refusal(out: &Stdout, text: &mut Block, n: usize, no: Refusal) -> usize
+    ensures { waiting result text.new ≡ refusal_line (refusal_number no) behind waiting n text.old }
 {
     let a = output::byte(out, text, n, b'!');
-    let b = printing::number(out, text, a, no as u64);
+    let b = printing::number(out, text, a, no.number() as u64);
     output::byte(out, text, b, b'\n')
 }
 
@@ -65,9 +66,8 @@ pub fn write<'a>(
         ≡ wrote_by (writing header many (source sets.now words.now pos.now neg.now bounds.now) sheet.old)
         (waiting n text.old) }
 {
-    let answer = sheet_writing::write(header, many, sets, words, pos, neg, bounds, sheet);
-    match answer {
-        Answer::Refused(no) => refusal(out, text, n, no),
-        Answer::Written(size) => sheet_lines(out, text, n, front(sheet, size)),
+    match sheet_writing::write(header, many, sets, words, pos, neg, bounds, sheet) {
+        Err(no) => refusal(out, text, n, no),
+        Ok(size) => sheet_lines(out, text, n, front(sheet, size)),
     }
 }

@@ -379,7 +379,7 @@ pub fn collection<'a>(
         neg: 0,
     };
     let mut done = Printed { n: m, at };
-    for _ in 0..many {
+    for _i in 0..many {
         done = point(
             out, text, done.n, form, done.at, sets, words, pos, neg, bounds,
         );

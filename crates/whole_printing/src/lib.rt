@@ -43,10 +43,8 @@ fn extreme(out: &Stdout, text: &mut Block, n: usize, x: Option<i64>) -> usize
 fn held(out: &Stdout, text: &mut Block, n: usize, p: Point) -> usize
     ensures { waiting result text.new ≡ each 32 (held_fields p []) behind waiting n text.old }
 {
-    let min = p.min;
-    let max = p.max;
-    let a = extreme(out, text, n, min);
-    let b = extreme(out, text, a, max);
+    let a = extreme(out, text, n, p.min);
+    let b = extreme(out, text, a, p.max);
     integer(out, text, b, p.sum)
 }
 
@@ -192,10 +190,8 @@ pub fn collection<'a>(
         neg: 0,
     };
     let mut done = Printed { n: m, at };
-    let mut i: usize = 0;
-    while i < many {
+    for _i in 0..many {
         done = point(out, text, done.n, done.at, sets, words, pos, neg, bounds);
-        i += 1;
     }
     done.n
 }

@@ -10,5 +10,5 @@ use Rattle.printing.proofs.attributes.Given as goal
 
 abbrev pub invariant-loop-i : goal.invariant-loop-i
 invariant-loop-i l =
-    ((from 44 (map attribute_field (eight l.row)) l.i behind record { count = l.m; block = l.text })
-    ≡ (joined 44 (map attribute_field (eight l.row)) behind record { count = l.n; block = l.initial.text }))
+    ((from 44 (map attribute_field (eight l.fn.row)) l.i behind record { count = l.m; block = l.text })
+    ≡ (joined 44 (map attribute_field (eight l.fn.row)) behind record { count = l.n; block = l.initial.text }))

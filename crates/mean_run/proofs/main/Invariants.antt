@@ -1,8 +1,0 @@
--- `mean_run::main` is safe and ends: the measure is the number of turns left. Assumes nothing.
-use Rattle.mean_run.proofs.main.Given as goal
-
-abbrev pub invariant-loop-turns : goal.invariant-loop-turns
-invariant-loop-turns l = Unit {0}
-
-abbrev pub decreases-loop-turns : goal.decreases-loop-turns
-decreases-loop-turns l = l.turns
